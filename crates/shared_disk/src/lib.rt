@@ -1,0 +1,8 @@
+//! A disk that several nodes share: blocks, writes in flight, barriers and fences.
+#![tactic(auto)]
+
+mod disk;
+mod reads;
+
+pub use disk::{DiskError, Settle, SharedDisk};
+pub use reads::read_block;
