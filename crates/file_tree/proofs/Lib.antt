@@ -1,0 +1,4 @@
+pub mod Entries
+pub mod Texts
+pub mod PathLaws
+pub mod Rows

@@ -1,0 +1,143 @@
+ghost use Rattle.std.specs.Prelude.{◌≡◌, ◌≤◌, IfOk};
+ghost use Rattle.file_tree.specs.Names.{IsName, path_length};
+
+use crate::NoMemory;
+use std::alloc::Global;
+use std::marker::Model;
+
+/// A name in a directory: 1 to 255 bytes, none of them zero or a slash, and neither `.` nor `..`.
+#[derive(Drop)]
+pub struct Name {
+    bytes: Vec<u8>,
+}
+
+impl Model for Name {
+    ghost use Rattle.std.specs.Prelude.{List, ℕ};
+    ghost use Rattle.file_tree.specs.Names.{IsName};
+
+    ghost Value = { List ℕ };
+
+    ghost view = { λ n. n.bytes.items };
+
+    ghost invariant = { λ n. IsName n.bytes.items };
+}
+
+impl Name {
+    /// The name of these bytes.
+    pub fn new(bytes: Vec<u8>) -> Name
+        requires { IsName bytes.items }
+        ensures { result ≡ bytes.items }
+    {
+        Name { bytes }
+    }
+
+    /// The name's bytes.
+    pub fn bytes(&self) -> &[u8]
+        ensures bytes { result.now ≡ self.now }
+        ensures name { IsName self.now }
+    {
+        self.bytes.as_slice()
+    }
+
+    /// An equal name.
+    pub fn copy(&self) -> Result<Name, NoMemory>
+        ensures { IfOk result (λ n. n ≡ self.now) }
+    {
+        Ok(Name {
+            bytes: self.bytes.clone()?,
+        })
+    }
+}
+
+/// The names from the root to a file or directory, with a slash before each at most 1,024 bytes. The
+/// root's path has none.
+#[derive(Drop)]
+pub struct Path {
+    names: Vec<Name>,
+}
+
+impl Model for Path {
+    ghost use Rattle.std.specs.Prelude.{List, ℕ, ◌≤◌};
+    ghost use Rattle.file_tree.specs.Names.{path_length};
+
+    ghost Value = { List (List ℕ) };
+
+    ghost view = { λ p. p.names.items };
+
+    ghost invariant = { λ p. path_length p.names.items ≤ 1024 };
+}
+
+impl Path {
+    /// The path of these names.
+    pub fn new(names: Vec<Name>) -> Path
+        requires { path_length names.items ≤ 1024 }
+        ensures { result ≡ names.items }
+    {
+        Path { names }
+    }
+
+    /// An equal path.
+    pub fn copy(&self) -> Result<Path, NoMemory>
+        ensures { IfOk result (λ path. path ≡ self.now) }
+    {
+        Ok(Path {
+            names: copy_names(*self.names.allocator(), &self.names)?,
+        })
+    }
+
+    /// The names in order.
+    pub fn names(&self) -> &[Name]
+        ensures { result.now ≡ self.now }
+    {
+        self.names.as_slice()
+    }
+}
+
+fn copy_names(alloc: Global, names: &[Name]) -> Result<Vec<Name>, NoMemory>
+    ensures { IfOk result (λ all. all.items ≡ names.now) }
+{
+    let mut all = Vec::new(alloc);
+    for name in names {
+        all.push(name.copy()?)?;
+    }
+    Ok(all)
+}
+
+/// The names of a directory, in the order in which they are listed.
+#[derive(Drop)]
+pub struct NameList {
+    names: Vec<Name>,
+}
+
+impl Model for NameList {
+    ghost use Rattle.std.specs.Prelude.{List, ℕ};
+
+    ghost Value = { List (List ℕ) };
+
+    ghost view = { λ p. p.names.items };
+}
+
+impl NameList {
+    /// The list of these names.
+    pub fn new(names: Vec<Name>) -> NameList
+        ensures { result ≡ names.items }
+    {
+        NameList { names }
+    }
+
+    /// An equal list.
+    pub fn copy(&self) -> Result<NameList, NoMemory>
+        ensures { IfOk result (λ list. list ≡ self.now) }
+    {
+        Ok(NameList {
+            names: copy_names(*self.names.allocator(), &self.names)?,
+        })
+    }
+
+    /// The names in order.
+    pub fn names(&self) -> &[Name]
+        ensures { result.now ≡ self.now }
+    {
+        self.names.as_slice()
+    }
+}
