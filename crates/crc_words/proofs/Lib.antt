@@ -1,0 +1,5 @@
+pub mod StepLemmas
+pub mod TextLemmas
+pub mod TableTests
+pub mod LaneLemmas
+pub mod WordLemmas
