@@ -1,8 +1,9 @@
 -- The remainder after a text, by the number of the text.
-use Rattle.std.proofs.Common.{◌≡◌, ℕ, zero, suc, ◌+◌, ◌-◌, ◌*◌, ◌^◌, ◌<◌, ◌≤◌, List, [], ◌∷◌, ◌++◌, length, take, drop, refl, sym, ap, ◌∙◌, arith, bit_xor, length-append}
+use Rattle.std.proofs.Common.{◌≡◌, ℕ, zero, suc, ◌+◌, ◌-◌, ◌*◌, ◌^◌, ◌<◌, ◌≤◌, List, [], ◌∷◌, ◌++◌, length, get_or, take, drop, refl, sym, ap, ◌∙◌, arith, bit_xor, length-append}
 use Rattle.std.specs.Int.Bits.{xor_assoc, xor_zero_l, xor_zero_r}
 use Rattle.std.proofs.Math.Nat.{mul_assoc, mul-suc, zero-mul}
 use Rattle.std.proofs.lemmas.Nat.{pow-add}
+use Rattle.std.proofs.lemmas.List.{at_drop_more, at_drop_all}
 use Rattle.crc_words.specs.Remainder.{after_bit, after_bits, remainder}
 use Rattle.crc_words.specs.TextNumber.{text_number}
 use Rattle.crc_words.proofs.StepLemmas.{xor_pairs, xor_shifted_both, after_bits-add, after_bits-above}
@@ -68,3 +69,13 @@ remainder-pending polynomial state [] = sym (pending-nil polynomial state)
 remainder-pending polynomial state (byte ∷ bytes) =
     remainder-pending polynomial (after_bits polynomial 8 (bit_xor state byte)) bytes
     ∙ sym (pending-cons polynomial state byte bytes)
+
+-- ---- a loop over the bytes
+
+pub remainder-more : (polynomial state : ℕ) (bytes : List ℕ) (i : ℕ) → i < length bytes → remainder polynomial (after_bits polynomial 8 (bit_xor state (get_or bytes i 0))) (drop (i + 1) bytes) ≡ remainder polynomial state (drop i bytes)
+unfolding remainder
+remainder-more polynomial state bytes i h = sym (at_drop_more (remainder polynomial state) bytes i 0 h)
+
+pub remainder-all : (polynomial state : ℕ) (bytes : List ℕ) (i : ℕ) → length bytes ≤ i → state ≡ remainder polynomial state (drop i bytes)
+unfolding remainder
+remainder-all polynomial state bytes i h = sym (at_drop_all (remainder polynomial state) bytes i h)

@@ -15,10 +15,20 @@ unfoldable pub remainder : ℕ → ℕ → List ℕ → ℕ
 remainder polynomial state [] = state
 remainder polynomial state (byte ∷ bytes) = remainder polynomial (after_bits polynomial 8 (bit_xor state byte)) bytes
 
--- CRC-32, as in zlib, PNG and Ethernet
-unfoldable pub crc32_of : List ℕ → ℕ
-crc32_of bytes = bit_xor (remainder 0xEDB88320 0xFFFFFFFF bytes) 0xFFFFFFFF
+-- the polynomials of two codes, the coefficient of the 31st power in the lowest bit
+abbrev pub crc32_polynomial : ℕ
+crc32_polynomial = 0xEDB88320
 
--- CRC-32C (Castagnoli), as in iSCSI, but for the inversion at its end
+abbrev pub crc32c_polynomial : ℕ
+crc32c_polynomial = 0x82F63B78
+
+abbrev pub all_ones : ℕ
+all_ones = 0xFFFFFFFF
+
+-- CRC-32, as in zlib, PNG and Ethernet: from all ones, and inverted at the end
+unfoldable pub crc32_of : List ℕ → ℕ
+crc32_of bytes = bit_xor (remainder crc32_polynomial all_ones bytes) all_ones
+
+-- CRC-32C, as in iSCSI and ext4, but for the inversion at the end
 unfoldable pub crc32c_raw_of : List ℕ → ℕ
-crc32c_raw_of bytes = remainder 0x82F63B78 0xFFFFFFFF bytes
+crc32c_raw_of bytes = remainder crc32c_polynomial all_ones bytes

@@ -1,21 +1,30 @@
-//! Checksums of bytes: CRC-32 and CRC-32C.
+//! Checksums of bytes: CRC-32 and CRC-32C, by tables, and equal to the division bit by bit.
 #![tactic(auto)]
 
 ghost use Rattle.std.specs.Prelude.{◌≡◌};
 ghost use Rattle.crc_words.specs.Remainder.{crc32_of, crc32c_raw_of};
 
 mod divide;
+mod plain;
 mod tables;
+#[cfg(test)]
+mod tests;
 
 use tables::crc32::{CRC32_FAR, CRC32_NEAR};
 use tables::crc32c::{CRC32C_FAR, CRC32C_NEAR};
 
+pub use plain::remainder_bit_by_bit;
+
+/// The CRC-32 of the bytes, as zlib, gzip, PNG and Ethernet have it (ISO 3309, polynomial 0x04C11DB7): the least bit
+/// first, from all ones, inverted at the end. It takes no memory, and about one look-up a byte.
 pub fn crc32(bytes: &[u8]) -> u32
     ensures { result ≡ crc32_of bytes.now }
 {
     divide::advance::<0xEDB8_8320>(&CRC32_NEAR, &CRC32_FAR, u32::MAX, bytes) ^ u32::MAX
 }
 
+/// The CRC-32C of the bytes (Castagnoli, polynomial 0x1EDC6F41, as in RFC 3720) without the inversion at its end, as
+/// Linux's `crc32c(~0, ..)` gives it: the least bit first, from all ones. It costs what `crc32` costs.
 pub fn crc32c_raw(bytes: &[u8]) -> u32
     ensures { result ≡ crc32c_raw_of bytes.now }
 {
