@@ -3,3 +3,5 @@ pub mod TextLemmas
 pub mod TableTests
 pub mod LaneLemmas
 pub mod WordLemmas
+pub mod BurstLemmas
+pub mod DivisionLemmas

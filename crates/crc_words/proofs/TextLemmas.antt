@@ -70,6 +70,11 @@ remainder-pending polynomial state (byte ∷ bytes) =
     remainder-pending polynomial (after_bits polynomial 8 (bit_xor state byte)) bytes
     ∙ sym (pending-cons polynomial state byte bytes)
 
+pub remainder-append : (polynomial state : ℕ) (first second : List ℕ) → remainder polynomial state (first ++ second) ≡ remainder polynomial (remainder polynomial state first) second
+unfolding remainder
+remainder-append polynomial state [] second = refl
+remainder-append polynomial state (byte ∷ first) second = remainder-append polynomial (after_bits polynomial 8 (bit_xor state byte)) first second
+
 -- ---- a loop over the bytes
 
 pub remainder-more : (polynomial state : ℕ) (bytes : List ℕ) (i : ℕ) → i < length bytes → remainder polynomial (after_bits polynomial 8 (bit_xor state (get_or bytes i 0))) (drop (i + 1) bytes) ≡ remainder polynomial state (drop i bytes)

@@ -97,7 +97,7 @@ after_byte polynomial near known state byte h =
 
 -- ---- the word at a place
 
-text_number-cons : (byte : ℕ) (bytes : List ℕ) → byte < 256 → text_number (byte ∷ bytes) ≡ byte + text_number bytes * 256
+pub text_number-cons : (byte : ℕ) (bytes : List ℕ) → byte < 256 → text_number (byte ∷ bytes) ≡ byte + text_number bytes * 256
 unfolding text_number
 text_number-cons byte bytes h =
     let sum : text_number bytes * 256 + byte ≡ byte + text_number bytes * 256 = omega arith in

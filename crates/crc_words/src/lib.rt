@@ -5,6 +5,7 @@ ghost use Rattle.std.specs.Prelude.{◌≡◌};
 ghost use Rattle.crc_words.specs.Remainder.{crc32_of, crc32c_raw_of};
 
 mod divide;
+mod laws;
 mod plain;
 mod tables;
 #[cfg(test)]
@@ -13,6 +14,10 @@ mod tests;
 use tables::crc32::{CRC32_FAR, CRC32_NEAR};
 use tables::crc32c::{CRC32C_FAR, CRC32C_NEAR};
 
+pub use laws::{
+    bursts_change_checksums, changed_bytes_are_a_burst, checksums_go_on_over_pieces,
+    remainders_are_rests_of_division,
+};
 pub use plain::remainder_bit_by_bit;
 
 /// The CRC-32 of the bytes, as zlib, gzip, PNG and Ethernet have it (ISO 3309, polynomial 0x04C11DB7): the least bit
