@@ -1,6 +1,6 @@
 -- A burst of at most 32 bits changes the remainder.
 use Rattle.std.proofs.Common.{◌≡◌, ◌≢◌, ℕ, zero, suc, ◌+◌, ◌-◌, ◌*◌, ◌/◌, ◌%◌, ◌^◌, ◌<◌, ◌≤◌, List, [], ◌∷◌, ◌++◌, length, refl, sym, ap, ◌∙◌, arith, inl, inr, bit_xor, length-append}
-use Rattle.std.specs.Int.Bits.{xor_assoc, xor_self, xor_zero_l, xor_zero_r}
+use Rattle.std.specs.Int.Bits.{xor_assoc, xor_self, xor_zero_r}
 use Rattle.std.specs.List.{All, AllByRecursion}
 use Rattle.std.proofs.Math.Nat.{mul_assoc, mul-suc, mul-pos, pos_of_ne-zero}
 use Rattle.std.proofs.lemmas.Bool.{cases_lt}
@@ -62,19 +62,19 @@ module _ (polynomial : ℕ) (top : 2 ^ 31 ≤ polynomial) (fits : polynomial < 2
             let more : ℕ = count - place in
             let sum : place + more ≡ count = omega arith in
             let apart : after_bits polynomial count (pattern * 2 ^ place) ≡ after_bits polynomial more pattern =
-                ap (λ n. after_bits polynomial n (pattern * 2 ^ place)) (sym sum)
-                ∙ after_bits-add polynomial place more (pattern * 2 ^ place)
-                ∙ ap (after_bits polynomial more) (after_bits-shifted polynomial place pattern)
+            ap (λ n. after_bits polynomial n (pattern * 2 ^ place)) (sym sum)
+            ∙ after_bits-add polynomial place more (pattern * 2 ^ place)
+            ∙ ap (after_bits polynomial more) (after_bits-shifted polynomial place pattern)
             in
             after_bits-nonzero more pattern small (λ (none : pattern ≡ 0). absurd (omega arith)) (sym apart ∙ e)
         | inr above ↦ λ (e : after_bits polynomial count (pattern * 2 ^ place) ≡ 0).
             let more : ℕ = place - count in
             let sum : more + count ≡ place = omega arith in
             let apart : after_bits polynomial count (pattern * 2 ^ place) ≡ pattern * 2 ^ more =
-                ap (λ n. after_bits polynomial count (pattern * 2 ^ n)) (sym sum)
-                ∙ ap (λ n. after_bits polynomial count (pattern * n)) (pow-add 2 more count)
-                ∙ ap (after_bits polynomial count) (sym (mul_assoc pattern (2 ^ more) (2 ^ count)))
-                ∙ after_bits-shifted polynomial count (pattern * 2 ^ more)
+            ap (λ n. after_bits polynomial count (pattern * 2 ^ n)) (sym sum)
+            ∙ ap (λ n. after_bits polynomial count (pattern * n)) (pow-add 2 more count)
+            ∙ ap (after_bits polynomial count) (sym (mul_assoc pattern (2 ^ more) (2 ^ count)))
+            ∙ after_bits-shifted polynomial count (pattern * 2 ^ more)
             in
             let positive : 0 < pattern * 2 ^ more = mul-pos some (pow_pos more) in
             absurd (omega (arith, apart, e))
@@ -86,14 +86,14 @@ module _ (polynomial : ℕ) (top : 2 ^ 31 ≤ polynomial) (fits : polynomial < 2
       let count : ℕ = 8 * length sent in
       let of_sent : remainder polynomial state sent ≡ after_bits polynomial count (bit_xor state (text_number sent)) = remainder-pending polynomial state sent in
       let of_received : remainder polynomial state received ≡ after_bits polynomial count (bit_xor state (text_number received)) =
-          remainder-pending polynomial state received
-          ∙ ap (λ n. after_bits polynomial (8 * n) (bit_xor state (text_number received))) (sym differ.same_length)
+      remainder-pending polynomial state received
+      ∙ ap (λ n. after_bits polynomial (8 * n) (bit_xor state (text_number received))) (sym differ.same_length)
       in
       let lost : after_bits polynomial count (differ.pattern * 2 ^ differ.place) ≡ 0 =
-          ap (after_bits polynomial count) (sym differ.difference ∙ sym (xor-front state (text_number sent) (text_number received)))
-          ∙ after_bits-xor polynomial count (bit_xor state (text_number sent)) (bit_xor state (text_number received))
-          ∙ ap (λ n. bit_xor n (after_bits polynomial count (bit_xor state (text_number received)))) (sym of_sent ∙ e ∙ of_received)
-          ∙ xor_self (after_bits polynomial count (bit_xor state (text_number received)))
+      ap (after_bits polynomial count) (sym differ.difference ∙ sym (xor-front state (text_number sent) (text_number received)))
+      ∙ after_bits-xor polynomial count (bit_xor state (text_number sent)) (bit_xor state (text_number received))
+      ∙ ap (λ n. bit_xor n (after_bits polynomial count (bit_xor state (text_number received)))) (sym of_sent ∙ e ∙ of_received)
+      ∙ xor_self (after_bits polynomial count (bit_xor state (text_number received)))
       in
       shifted-nonzero count differ.place differ.pattern differ.some_bit differ.in_32_bits lost
 
@@ -103,7 +103,7 @@ crc32-burst sent received differ e =
     let sent_state : ℕ = remainder crc32_polynomial all_ones sent in
     let received_state : ℕ = remainder crc32_polynomial all_ones received in
     let same : sent_state ≡ received_state =
-        sym (xor_back sent_state all_ones) ∙ ap (λ n. bit_xor n all_ones) e ∙ xor_back received_state all_ones
+    sym (xor_back sent_state all_ones) ∙ ap (λ n. bit_xor n all_ones) e ∙ xor_back received_state all_ones
     in
     remainder-burst crc32_polynomial (omega arith) (omega arith) all_ones sent received differ same
 
@@ -148,15 +148,15 @@ DifferInBurst-changed before old new after level short small_old small_new diffe
     let bytes_old = recursion_from_All (λ byte. byte < 256) old small_old in
     let bytes_new = recursion_from_All (λ byte. byte < 256) new small_new in
     let inner : bit_xor (text_number (old ++ after)) (text_number (new ++ after)) ≡ bit_xor (text_number old) (text_number new) =
-        ap (λ n. bit_xor n (text_number (new ++ after))) (text_number-append old after)
-        ∙ ap (bit_xor (bit_xor (text_number old) (text_number after * 2 ^ (8 * length old)))) (text_number-append new after)
-        ∙ ap (λ n. bit_xor (bit_xor (text_number old) (text_number after * 2 ^ (8 * n))) (bit_xor (text_number new) (text_number after * 2 ^ (8 * length new)))) level
-        ∙ xor_pairs (text_number old) (text_number after * 2 ^ (8 * length new)) (text_number new) (text_number after * 2 ^ (8 * length new))
-        ∙ ap (bit_xor (bit_xor (text_number old) (text_number new))) (xor_self (text_number after * 2 ^ (8 * length new)))
-        ∙ xor_zero_r (bit_xor (text_number old) (text_number new))
+    ap (λ n. bit_xor n (text_number (new ++ after))) (text_number-append old after)
+    ∙ ap (bit_xor (bit_xor (text_number old) (text_number after * 2 ^ (8 * length old)))) (text_number-append new after)
+    ∙ ap (λ n. bit_xor (bit_xor (text_number old) (text_number after * 2 ^ (8 * n))) (bit_xor (text_number new) (text_number after * 2 ^ (8 * length new)))) level
+    ∙ xor_pairs (text_number old) (text_number after * 2 ^ (8 * length new)) (text_number new) (text_number after * 2 ^ (8 * length new))
+    ∙ ap (bit_xor (bit_xor (text_number old) (text_number new))) (xor_self (text_number after * 2 ^ (8 * length new)))
+    ∙ xor_zero_r (bit_xor (text_number old) (text_number new))
     in
     let some : bit_xor (text_number old) (text_number new) ≢ 0 =
-        λ (e : bit_xor (text_number old) (text_number new) ≡ 0). differ (text_number-same old new level bytes_old bytes_new (xor-same (text_number old) (text_number new) e))
+    λ (e : bit_xor (text_number old) (text_number new) ≡ 0). differ (text_number-same old new level bytes_old bytes_new (xor-same (text_number old) (text_number new) e))
     in
     record {
       place = place;

@@ -1,8 +1,8 @@
 -- The remainder is the rest of a division of polynomials, and the only one.
-use Rattle.std.proofs.Common.{◌≡◌, ◌↔◌, ℕ, zero, suc, ◌+◌, ◌-◌, ◌*◌, ◌/◌, ◌%◌, ◌^◌, ◌<◌, ◌≤◌, ◌==◌, Bool, true, false, cond, List, [], ◌∷◌, length, refl, sym, ap, ◌∙◌, arith, add-zero, bit_xor}
+use Rattle.std.proofs.Common.{◌≡◌, ◌↔◌, ℕ, zero, suc, ◌+◌, ◌*◌, ◌/◌, ◌%◌, ◌^◌, ◌<◌, ◌==◌, Bool, true, false, cond, List, [], ◌∷◌, length, refl, sym, ap, ◌∙◌, arith, add-zero, bit_xor}
 use Rattle.std.specs.Int.Bits.{xor_assoc, xor_zero_r, xor_block}
 use Rattle.std.proofs.Math.Nat.{mul_assoc, mul-one, pow-suc}
-use Rattle.std.proofs.lemmas.Nat.{xor_shr, xor_mod, pow_pos}
+use Rattle.std.proofs.lemmas.Nat.{xor_mod}
 use Rattle.crc_words.specs.Division.{product, divisor_of, LeavesRest}
 use Rattle.crc_words.specs.Remainder.{after_bit, after_bits, remainder}
 use Rattle.crc_words.specs.TextNumber.{text_number}
@@ -61,19 +61,19 @@ first-coefficient : (polynomial state later total : ℕ) (coefficient : Bool) �
 first-coefficient polynomial state later total coefficient h =
     let first : ℕ = cond coefficient (divisor_of polynomial) 0 in
     let parity : bit_xor (state % 2) (first % 2) ≡ 0 =
-        let even : later * 2 % 2 ≡ 0 = omega arith in
-        let even_total : total * 2 % 2 ≡ 0 = omega arith in
-        ap (bit_xor (state % 2)) (sym (xor_zero_r (first % 2)) ∙ ap (bit_xor (first % 2)) (sym even) ∙ sym (xor_mod first (later * 2) 1))
-        ∙ sym (xor_mod state (bit_xor first (later * 2)) 1)
-        ∙ ap (λ n. n % 2) h
-        ∙ even_total
+    let even : later * 2 % 2 ≡ 0 = omega arith in
+    let even_total : total * 2 % 2 ≡ 0 = omega arith in
+    ap (bit_xor (state % 2)) (sym (xor_zero_r (first % 2)) ∙ ap (bit_xor (first % 2)) (sym even) ∙ sym (xor_mod first (later * 2) 1))
+    ∙ sym (xor_mod state (bit_xor first (later * 2)) 1)
+    ∙ ap (λ n. n % 2) h
+    ∙ even_total
     in
     let bit : coefficient ≡ (state % 2 == 1) = coefficient-is polynomial (state % 2) coefficient (xor-same (state % 2) (first % 2) parity) in
     let twice : bit_xor (after_bit polynomial state) later * 2 ≡ total * 2 =
-        sym (xor_shifted_both (after_bit polynomial state) later 1)
-        ∙ ap (λ n. bit_xor n (later * 2)) (sym (after_bit-spent polynomial state) ∙ sym (ap (λ b. bit_xor state (cond b (divisor_of polynomial) 0)) bit))
-        ∙ xor_assoc state first (later * 2)
-        ∙ h
+    sym (xor_shifted_both (after_bit polynomial state) later 1)
+    ∙ ap (λ n. bit_xor n (later * 2)) (sym (after_bit-spent polynomial state) ∙ sym (ap (λ b. bit_xor state (cond b (divisor_of polynomial) 0)) bit))
+    ∙ xor_assoc state first (later * 2)
+    ∙ h
     in
     omega arith
 
@@ -91,11 +91,11 @@ pub LeavesRest-remainder : (polynomial state rest : ℕ) (bytes : List ℕ) → 
 unfolding pending
 LeavesRest-remainder polynomial state rest bytes =
     let count : ℕ = 8 * length bytes in
-    let whole : ℕ = bit_xor state (text_number bytes) in
-    ( λ left. rest-after_bits polynomial count whole rest left.quotient left.as_long left.exact ∙ sym (remainder-pending polynomial state bytes)
-    , λ is. record {
+    let whole : ℕ = bit_xor state (text_number bytes) in (
+      λ left. rest-after_bits polynomial count whole rest left.quotient left.as_long left.exact ∙ sym (remainder-pending polynomial state bytes),
+      λ is. record {
         quotient = quotient_of polynomial count whole;
         as_long = length-quotient_of polynomial count whole;
         exact = quotient_of-exact polynomial count whole ∙ ap (λ n. n * 2 ^ count) (sym (is ∙ remainder-pending polynomial state bytes));
-      }
+      },
     )

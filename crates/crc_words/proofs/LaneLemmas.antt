@@ -1,6 +1,6 @@
 -- Several states side by side, each 64 bits above the one before.
-use Rattle.std.proofs.Common.{◌≡◌, ℕ, zero, suc, ◌+◌, ◌-◌, ◌*◌, ◌^◌, ◌<◌, ◌≤◌, List, [], ◌∷◌, ◌++◌, length, take, drop, map, refl, sym, ap, ◌∙◌, arith, bit_xor, length-drop, drop-drop}
-use Rattle.std.specs.Int.Bits.{xor_assoc, xor_zero_l, xor_zero_r}
+use Rattle.std.proofs.Common.{◌≡◌, ℕ, zero, suc, ◌+◌, ◌-◌, ◌*◌, ◌^◌, ◌≤◌, List, [], ◌∷◌, ◌++◌, length, take, drop, map, refl, sym, ap, ◌∙◌, arith, bit_xor, length-drop, drop-drop}
+use Rattle.std.specs.Int.Bits.{xor_assoc, xor_zero_r}
 use Rattle.std.proofs.Math.Seq.{take-add, take-length}
 use Rattle.std.proofs.lemmas.List.{take-append-drop, length-take-le}
 use Rattle.crc_words.specs.Remainder.{after_bits, remainder}
@@ -41,9 +41,9 @@ row-words at zero bytes h = refl
 row-words at (suc count) bytes h =
     let bits : 8 * suc count ≡ 8 + 8 * count = omega arith in
     let split : take (8 * suc count) (drop at bytes) ≡ take 8 (drop at bytes) ++ take (8 * count) (drop (at + 8) bytes) =
-        ap (λ n. take n (drop at bytes)) bits
-        ∙ take-add 8 (8 * count) (drop at bytes)
-        ∙ ap (λ rest. take 8 (drop at bytes) ++ take (8 * count) rest) (drop-drop 8 at bytes)
+    ap (λ n. take n (drop at bytes)) bits
+    ∙ take-add 8 (8 * count) (drop at bytes)
+    ∙ ap (λ rest. take 8 (drop at bytes) ++ take (8 * count) rest) (drop-drop 8 at bytes)
     in
     let first : length (take 8 (drop at bytes)) ≡ 8 = length-take-le 8 (drop at bytes) (omega (arith, length-drop at bytes)) in
     ap text_number split
@@ -55,15 +55,15 @@ row-words at (suc count) bytes h =
 after_bits-lane : (polynomial low count this high high' : ℕ) → after_bits polynomial low (after_bits polynomial count high) ≡ after_bits polynomial low high' → after_bits polynomial (64 + low) (after_bits polynomial count (bit_xor this (high * 2 ^ 64))) ≡ after_bits polynomial (64 + low) (bit_xor (after_bits polynomial count this) (high' * 2 ^ 64))
 after_bits-lane polynomial low count this high high' same =
     let far : after_bits polynomial (64 + low) (after_bits polynomial count (high * 2 ^ 64)) ≡ after_bits polynomial (64 + low) (high' * 2 ^ 64) =
-        let order : count + (64 + low) ≡ 64 + (count + low) = omega arith in
-        sym (after_bits-add polynomial count (64 + low) (high * 2 ^ 64))
-        ∙ ap (λ n. after_bits polynomial n (high * 2 ^ 64)) order
-        ∙ after_bits-add polynomial 64 (count + low) (high * 2 ^ 64)
-        ∙ ap (after_bits polynomial (count + low)) (after_bits-shifted polynomial 64 high)
-        ∙ after_bits-add polynomial count low high
-        ∙ same
-        ∙ sym (ap (after_bits polynomial low) (after_bits-shifted polynomial 64 high'))
-        ∙ sym (after_bits-add polynomial 64 low (high' * 2 ^ 64))
+    let order : count + (64 + low) ≡ 64 + (count + low) = omega arith in
+    sym (after_bits-add polynomial count (64 + low) (high * 2 ^ 64))
+    ∙ ap (λ n. after_bits polynomial n (high * 2 ^ 64)) order
+    ∙ after_bits-add polynomial 64 (count + low) (high * 2 ^ 64)
+    ∙ ap (after_bits polynomial (count + low)) (after_bits-shifted polynomial 64 high)
+    ∙ after_bits-add polynomial count low high
+    ∙ same
+    ∙ sym (ap (after_bits polynomial low) (after_bits-shifted polynomial 64 high'))
+    ∙ sym (after_bits-add polynomial 64 low (high' * 2 ^ 64))
     in
     ap (after_bits polynomial (64 + low)) (after_bits-xor polynomial count this (high * 2 ^ 64))
     ∙ after_bits-xor polynomial (64 + low) (after_bits polynomial count this) (after_bits polynomial count (high * 2 ^ 64))
@@ -103,15 +103,15 @@ pending-row polynomial count states bytes same room fits =
     let length_block : length block ≡ 8 * count = length-take-le (8 * count) bytes fits in
     let bits : 8 * length block ≡ 64 * count = omega arith in
     let added : bit_xor (row states) (text_number block) ≡ row zs =
-        let level : length states ≡ length (words 0 count bytes) = same ∙ sym (length-words 0 count bytes) in
-        ap (bit_xor (row states)) (row-words 0 count bytes (omega arith)) ∙ sym (row-sums states (words 0 count bytes) level)
+    let level : length states ≡ length (words 0 count bytes) = same ∙ sym (length-words 0 count bytes) in
+    ap (bit_xor (row states)) (row-words 0 count bytes (omega arith)) ∙ sym (row-sums states (words 0 count bytes) level)
     in
     let enough : 64 * length zs ≤ 8 * length rest + 64 =
-        let level : length states ≡ length (words 0 count bytes) = same ∙ sym (length-words 0 count bytes) in
-        omega (arith, length-sums states (words 0 count bytes) level, length-drop (8 * count) bytes)
+    let level : length states ≡ length (words 0 count bytes) = same ∙ sym (length-words 0 count bytes) in
+    omega (arith, length-sums states (words 0 count bytes) level, length-drop (8 * count) bytes)
     in
     let divided : pending polynomial (row states) block ≡ after_bits polynomial (64 * count) (row zs) =
-        ap (λ n. after_bits polynomial n (bit_xor (row states) (text_number block))) bits ∙ ap (after_bits polynomial (64 * count)) added
+    ap (λ n. after_bits polynomial n (bit_xor (row states) (text_number block))) bits ∙ ap (after_bits polynomial (64 * count)) added
     in
     ap (pending polynomial (row states)) (sym (take-append-drop (8 * count) bytes))
     ∙ pending-split polynomial (row states) block rest
@@ -178,23 +178,23 @@ module _ (polynomial a b c d a' b' c' d' : ℕ) (bytes : List ℕ) where
   pub lanes-join : 32 ≤ length bytes → a' ≡ after_bits polynomial 64 (bit_xor a (text_number (take 8 (drop 0 bytes)))) → b' ≡ after_bits polynomial 64 (bit_xor (bit_xor a' b) (text_number (take 8 (drop 8 bytes)))) → c' ≡ after_bits polynomial 64 (bit_xor (bit_xor b' c) (text_number (take 8 (drop 16 bytes)))) → d' ≡ after_bits polynomial 64 (bit_xor (bit_xor c' d) (text_number (take 8 (drop 24 bytes)))) → remainder polynomial d' (drop 32 bytes) ≡ pending polynomial (row (a ∷ (b ∷ (c ∷ (d ∷ []))))) bytes
   lanes-join h ea eb ec ed =
       let first : pending polynomial (row (a ∷ (b ∷ (c ∷ (d ∷ []))))) bytes ≡ pending polynomial (row (bit_xor a' b ∷ (c ∷ (d ∷ [])))) (drop 8 bytes) =
-          pending-join polynomial a b (c ∷ (d ∷ [])) bytes (omega arith)
-          ∙ ap (λ n. pending polynomial (row (bit_xor n b ∷ (c ∷ (d ∷ [])))) (drop 8 bytes)) (sym ea)
+      pending-join polynomial a b (c ∷ (d ∷ [])) bytes (omega arith)
+      ∙ ap (λ n. pending polynomial (row (bit_xor n b ∷ (c ∷ (d ∷ [])))) (drop 8 bytes)) (sym ea)
       in
       let second : pending polynomial (row (bit_xor a' b ∷ (c ∷ (d ∷ [])))) (drop 8 bytes) ≡ pending polynomial (row (bit_xor b' c ∷ (d ∷ []))) (drop 16 bytes) =
-          pending-join polynomial (bit_xor a' b) c (d ∷ []) (drop 8 bytes) (omega (arith, length-drop 8 bytes))
-          ∙ ap (λ n. pending polynomial (row (bit_xor n c ∷ (d ∷ []))) (drop 8 (drop 8 bytes))) (sym eb)
-          ∙ ap (pending polynomial (row (bit_xor b' c ∷ (d ∷ [])))) (drop-drop 8 8 bytes)
+      pending-join polynomial (bit_xor a' b) c (d ∷ []) (drop 8 bytes) (omega (arith, length-drop 8 bytes))
+      ∙ ap (λ n. pending polynomial (row (bit_xor n c ∷ (d ∷ []))) (drop 8 (drop 8 bytes))) (sym eb)
+      ∙ ap (pending polynomial (row (bit_xor b' c ∷ (d ∷ [])))) (drop-drop 8 8 bytes)
       in
       let third : pending polynomial (row (bit_xor b' c ∷ (d ∷ []))) (drop 16 bytes) ≡ pending polynomial (row (bit_xor c' d ∷ [])) (drop 24 bytes) =
-          pending-join polynomial (bit_xor b' c) d [] (drop 16 bytes) (omega (arith, length-drop 16 bytes))
-          ∙ ap (λ n. pending polynomial (row (bit_xor n d ∷ [])) (drop 8 (drop 16 bytes))) (sym ec)
-          ∙ ap (pending polynomial (row (bit_xor c' d ∷ []))) (drop-drop 8 16 bytes)
+      pending-join polynomial (bit_xor b' c) d [] (drop 16 bytes) (omega (arith, length-drop 16 bytes))
+      ∙ ap (λ n. pending polynomial (row (bit_xor n d ∷ [])) (drop 8 (drop 16 bytes))) (sym ec)
+      ∙ ap (pending polynomial (row (bit_xor c' d ∷ []))) (drop-drop 8 16 bytes)
       in
       let last : pending polynomial (row (bit_xor c' d ∷ [])) (drop 24 bytes) ≡ pending polynomial d' (drop 32 bytes) =
-          ap (λ n. pending polynomial n (drop 24 bytes)) (row-one (bit_xor c' d))
-          ∙ pending-word polynomial (bit_xor c' d) (drop 24 bytes) (omega (arith, length-drop 24 bytes))
-          ∙ ap (λ n. pending polynomial n (drop 8 (drop 24 bytes))) (sym ed)
-          ∙ ap (pending polynomial d') (drop-drop 8 24 bytes)
+      ap (λ n. pending polynomial n (drop 24 bytes)) (row-one (bit_xor c' d))
+      ∙ pending-word polynomial (bit_xor c' d) (drop 24 bytes) (omega (arith, length-drop 24 bytes))
+      ∙ ap (λ n. pending polynomial n (drop 8 (drop 24 bytes))) (sym ed)
+      ∙ ap (pending polynomial d') (drop-drop 8 24 bytes)
       in
       remainder-pending polynomial d' (drop 32 bytes) ∙ sym (first ∙ second ∙ third ∙ last)

@@ -1,8 +1,8 @@
 -- The steps of the division are linear, and undo a shift.
-use Rattle.std.proofs.Common.{◌≡◌, ℕ, zero, suc, ◌+◌, ◌-◌, ◌*◌, ◌/◌, ◌%◌, ◌^◌, ◌<◌, ◌≤◌, ◌==◌, cond, refl, sym, ap, ◌∙◌, arith, add-zero, zero-add, bit_xor}
-use Rattle.std.specs.Int.Bits.{xor_assoc, xor_self, xor_zero_l, xor_zero_r, xor_block}
+use Rattle.std.proofs.Common.{◌≡◌, ℕ, zero, suc, ◌+◌, ◌*◌, ◌/◌, ◌%◌, ◌^◌, ◌<◌, ◌==◌, cond, refl, sym, ap, ◌∙◌, arith, add-zero, zero-add, bit_xor}
+use Rattle.std.specs.Int.Bits.{xor_assoc, xor_self, xor_zero_r, xor_block}
 use Rattle.std.proofs.Math.Nat.{mul_assoc, pow-suc}
-use Rattle.std.proofs.lemmas.Nat.{xor_comm, xor_shr, xor_mod, mod_below, pow_pos}
+use Rattle.std.proofs.lemmas.Nat.{xor_comm, xor_shr, xor_mod, pow_pos}
 use Rattle.crc_words.specs.Remainder.{after_bit, after_bits}
 
 xor_swap : (a b c : ℕ) → bit_xor a (bit_xor b c) ≡ bit_xor b (bit_xor a c)

@@ -1,10 +1,10 @@
 -- The remainder after a text, by the number of the text.
-use Rattle.std.proofs.Common.{◌≡◌, ℕ, zero, suc, ◌+◌, ◌-◌, ◌*◌, ◌^◌, ◌<◌, ◌≤◌, List, [], ◌∷◌, ◌++◌, length, get_or, take, drop, refl, sym, ap, ◌∙◌, arith, bit_xor, length-append}
+use Rattle.std.proofs.Common.{◌≡◌, ℕ, suc, ◌+◌, ◌*◌, ◌^◌, ◌<◌, ◌≤◌, List, [], ◌∷◌, ◌++◌, length, get_or, drop, refl, sym, ap, ◌∙◌, arith, bit_xor, length-append}
 use Rattle.std.specs.Int.Bits.{xor_assoc, xor_zero_l, xor_zero_r}
 use Rattle.std.proofs.Math.Nat.{mul_assoc, mul-suc, zero-mul}
 use Rattle.std.proofs.lemmas.Nat.{pow-add}
 use Rattle.std.proofs.lemmas.List.{at_drop_more, at_drop_all}
-use Rattle.crc_words.specs.Remainder.{after_bit, after_bits, remainder}
+use Rattle.crc_words.specs.Remainder.{after_bits, remainder}
 use Rattle.crc_words.specs.TextNumber.{text_number}
 use Rattle.crc_words.proofs.StepLemmas.{xor_pairs, xor_shifted_both, after_bits-add, after_bits-above}
 
@@ -36,9 +36,9 @@ pending-append polynomial state high xs ys =
     let front : ℕ = bit_xor state (text_number xs) in
     let count : 8 * length (xs ++ ys) ≡ first + second = omega (arith, length-append xs ys) in
     let number : bit_xor (bit_xor state (high * 2 ^ first)) (text_number (xs ++ ys)) ≡ bit_xor front (bit_xor high (text_number ys) * 2 ^ first) =
-        ap (bit_xor (bit_xor state (high * 2 ^ first))) (text_number-append xs ys)
-        ∙ xor_pairs state (high * 2 ^ first) (text_number xs) (text_number ys * 2 ^ first)
-        ∙ ap (bit_xor front) (xor_shifted_both high (text_number ys) first)
+    ap (bit_xor (bit_xor state (high * 2 ^ first))) (text_number-append xs ys)
+    ∙ xor_pairs state (high * 2 ^ first) (text_number xs) (text_number ys * 2 ^ first)
+    ∙ ap (bit_xor front) (xor_shifted_both high (text_number ys) first)
     in
     ap (λ n. after_bits polynomial n (bit_xor (bit_xor state (high * 2 ^ first)) (text_number (xs ++ ys)))) count
     ∙ ap (after_bits polynomial (first + second)) number

@@ -1,9 +1,9 @@
 -- A byte and a word are divided by a table.
-use Rattle.std.proofs.Common.{◌≡◌, ℕ, zero, suc, ◌+◌, ◌-◌, ◌*◌, ◌/◌, ◌%◌, ◌^◌, ◌<◌, ◌≤◌, List, [], ◌∷◌, length, get_or, take, drop, refl, sym, ap, ◌∙◌, arith, bit_xor, bit_and, drop-cons}
+use Rattle.std.proofs.Common.{◌≡◌, ℕ, suc, ◌+◌, ◌*◌, ◌/◌, ◌%◌, ◌^◌, ◌<◌, List, ◌∷◌, length, get_or, take, drop, refl, sym, ap, ◌∙◌, arith, bit_xor, bit_and, drop-cons}
 use Rattle.std.specs.Int.Bits.{xor_assoc, xor_shifted, xor_zero_r}
 use Rattle.std.proofs.lemmas.Nat.{xor_comm, xor_shr, xor_mod, xor_lt, and_mask, shr-shr}
 use Rattle.std.proofs.Math.Nat.{mod-eq_of_lt}
-use Rattle.crc_words.specs.Remainder.{after_bits, remainder}
+use Rattle.crc_words.specs.Remainder.{after_bits}
 use Rattle.crc_words.specs.Table.{IsTable}
 use Rattle.crc_words.specs.TextNumber.{text_number}
 use Rattle.crc_words.proofs.StepLemmas.{after_bits-xor, after_bits-add, after_bits-shifted}
@@ -13,8 +13,8 @@ after_bits-peel : (polynomial count state : ℕ) → after_bits polynomial (8 + 
 after_bits-peel polynomial count state =
     let low : state % 256 < 2 ^ 8 = omega arith in
     let whole : state ≡ bit_xor (state % 256) (state / 256 * 256) =
-        let sum : state ≡ state / 256 * 256 + state % 256 = omega arith in
-        sum ∙ sym (xor_shifted (state / 256) 8 (state % 256) low) ∙ xor_comm (state / 256 * 256) (state % 256)
+    let sum : state ≡ state / 256 * 256 + state % 256 = omega arith in
+    sum ∙ sym (xor_shifted (state / 256) 8 (state % 256) low) ∙ xor_comm (state / 256 * 256) (state % 256)
     in
     ap (after_bits polynomial (8 + count)) whole
     ∙ after_bits-xor polynomial (8 + count) (state % 256) (state / 256 * 256)
@@ -51,15 +51,15 @@ module _ (polynomial delay : ℕ) (table : List ℕ) (known : IsTable polynomial
       ∙ ap (λ n. bit_xor (bit_xor done (seek (suc row) shift number)) (after_bits polynomial (8 * row + 8 + delay) n)) (shr-shr number shift 8)
 
   pub eight_bytes : (number : ℕ) → number < 2 ^ 64 →
-    bit_xor (bit_xor (bit_xor (bit_xor (bit_xor (bit_xor (bit_xor (get_or table (1792 + bit_and number 255) 0) (get_or table (1536 + bit_and (number / 256) 255) 0)) (get_or table (1280 + bit_and (number / 65536) 255) 0)) (get_or table (1024 + bit_and (number / 16777216) 255) 0)) (get_or table (768 + bit_and (number / 4294967296) 255) 0)) (get_or table (512 + bit_and (number / 1099511627776) 255) 0)) (get_or table (256 + bit_and (number / 281474976710656) 255) 0)) (get_or table (number / 72057594037927936) 0)
-    ≡ after_bits polynomial (64 + delay) number
+      bit_xor (bit_xor (bit_xor (bit_xor (bit_xor (bit_xor (bit_xor (get_or table (1792 + bit_and number 255) 0) (get_or table (1536 + bit_and (number / 256) 255) 0)) (get_or table (1280 + bit_and (number / 65536) 255) 0)) (get_or table (1024 + bit_and (number / 16777216) 255) 0)) (get_or table (768 + bit_and (number / 4294967296) 255) 0)) (get_or table (512 + bit_and (number / 1099511627776) 255) 0)) (get_or table (256 + bit_and (number / 281474976710656) 255) 0)) (get_or table (number / 72057594037927936) 0)
+      ≡ after_bits polynomial (64 + delay) number
   unfolding seek
   eight_bytes number h =
       let top : ℕ = number / 72057594037927936 in
       let small : top < 256 = omega arith in
       let last : get_or table top 0 ≡ after_bits polynomial (8 + delay) top =
-          let place : top ≡ 0 + top = omega arith in
-          ap (λ i. get_or table i 0) place ∙ known.entries 0 top (omega arith) small
+      let place : top ≡ 0 + top = omega arith in
+      ap (λ i. get_or table i 0) place ∙ known.entries 0 top (omega arith) small
       in
       ap (bit_xor _) last
       ∙ sym (
@@ -81,13 +81,13 @@ after_byte polynomial near known state byte h =
     let low : ℕ = bit_xor (bit_and state 255) byte in
     let low_small : low < 256 = xor_lt 8 (bit_and state 255) byte (let masked = and_mask state 8 in omega arith) h in
     let low_is : bit_xor state byte % 256 ≡ low =
-        xor_mod state byte 8
-        ∙ ap (λ b. bit_xor (state % 256) b) (mod-eq_of_lt h)
-        ∙ ap (λ n. bit_xor n byte) (sym (and_mask state 8))
+    xor_mod state byte 8
+    ∙ ap (λ b. bit_xor (state % 256) b) (mod-eq_of_lt h)
+    ∙ ap (λ n. bit_xor n byte) (sym (and_mask state 8))
     in
     let none : byte / 256 ≡ 0 = omega arith in
     let high_is : bit_xor state byte / 256 ≡ state / 256 =
-        xor_shr state byte 8 ∙ ap (bit_xor (state / 256)) none ∙ xor_zero_r (state / 256)
+    xor_shr state byte 8 ∙ ap (bit_xor (state / 256)) none ∙ xor_zero_r (state / 256)
     in
     let place : low ≡ 0 + low = omega arith in
     after_bits-peel polynomial 0 (bit_xor state byte)

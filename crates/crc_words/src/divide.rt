@@ -77,9 +77,9 @@ fn advance_words<const POLYNOMIAL: u32>(near: &[u32; 2048], mut state: u32, byte
     advance_bytes::<POLYNOMIAL>(near, state, rest)
 }
 
-// The state after a text, from the state before it. A text of 64 bytes or more goes in four lanes, which take every
+// The state after a text, from the state before it. A text of 32 bytes or more goes in four lanes, which take every
 // fourth word and do not wait for one another; each lane stands 64 bits above the one before. The last 32 bytes that
-// fill the lanes join them.
+// fill the lanes join them into one state.
 pub(crate) fn advance<const POLYNOMIAL: u32>(
     near: &[u32; 2048],
     far: &[u32; 2048],

@@ -14,8 +14,7 @@ pub fn checksums_go_on_over_pieces()
         ≡ bit_xor (remainder crc32_polynomial (bit_xor (crc32_of first) all_ones) second) all_ones }
     ensures crc32c_raw { (first second : List ℕ) → crc32c_raw_of (first ++ second)
         ≡ remainder crc32c_polynomial (crc32c_raw_of first) second }
-{
-}
+{}
 
 /// A burst of at most 32 wrong bits is always found: the checksums differ. So it is with every polynomial of 32 bits
 /// whose lowest power has the coefficient 1.
@@ -25,19 +24,16 @@ pub fn bursts_change_checksums()
     ensures crc32 { (sent received : List ℕ) → DifferInBurst sent received → crc32_of sent ≢ crc32_of received }
     ensures crc32c_raw { (sent received : List ℕ) → DifferInBurst sent received
         → crc32c_raw_of sent ≢ crc32c_raw_of received }
-{
-}
+{}
 
 /// Up to four bytes in a row that were changed are such a burst.
 pub fn changed_bytes_are_a_burst()
     ensures { (before old new after : List ℕ) → length old ≡ length new → length old ≤ 4 → All (λ byte. byte < 256) old
         → All (λ byte. byte < 256) new → old ≢ new → DifferInBurst (before ++ (old ++ after)) (before ++ (new ++ after)) }
-{
-}
+{}
 
 /// The remainder is the rest of a division of polynomials, and no other number is.
 pub fn remainders_are_rests_of_division()
     ensures { (polynomial state rest : ℕ) (bytes : List ℕ) → LeavesRest polynomial state bytes rest
         ↔ (rest ≡ remainder polynomial state bytes) }
-{
-}
+{}

@@ -1,9 +1,9 @@
-use crate::{crc32, crc32c_raw, remainder_bit_by_bit};
+use crate::{CASTAGNOLI, ISO_3309, crc32, crc32c_raw, remainder_bit_by_bit};
 
 // The SCSI Read (10) command of RFC 3720, B.4.
 const READ_COMMAND: [u8; 48] = [
-    0x01, 0xc0, 0, 0, 0, 0, 0, 0, 0, 0, 0, 0, 0, 0, 0, 0, 0x14, 0, 0, 0, 0, 0, 0x04, 0, 0, 0, 0, 0x14,
-    0, 0, 0, 0x18, 0x28, 0, 0, 0, 0, 0, 0, 0, 0x02, 0, 0, 0, 0, 0, 0, 0,
+    0x01, 0xc0, 0, 0, 0, 0, 0, 0, 0, 0, 0, 0, 0, 0, 0, 0, 0x14, 0, 0, 0, 0, 0, 0x04, 0, 0, 0, 0,
+    0x14, 0, 0, 0, 0x18, 0x28, 0, 0, 0, 0, 0, 0, 0, 0x02, 0, 0, 0, 0, 0, 0, 0,
 ];
 
 #[test]
@@ -45,8 +45,8 @@ fn tables_agree_with_single_bits(rt: HostRuntime) {
     for at in 0..8usize {
         for length in 0..201usize {
             let piece = &text[at..at + length];
-            let usual = !remainder_bit_by_bit(0xedb8_8320, u32::MAX, piece);
-            let castagnoli = remainder_bit_by_bit(0x82f6_3b78, u32::MAX, piece);
+            let usual = !remainder_bit_by_bit(ISO_3309, u32::MAX, piece);
+            let castagnoli = remainder_bit_by_bit(CASTAGNOLI, u32::MAX, piece);
             assert_eq!(rt; crc32(piece), usual, "{length} bytes at {at}");
             assert_eq!(rt; crc32c_raw(piece), castagnoli, "{length} bytes at {at}");
         }

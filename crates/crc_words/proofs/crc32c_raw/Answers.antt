@@ -1,5 +1,4 @@
 -- The tables hold what the division asks of them.
-use Rattle.std.proofs.Common.{ap, bit_xor}
 use Rattle.crc_words.specs.Remainder.{crc32c_raw_of}
 use Rattle.crc_words.proofs.TableTests.{IsTable-CRC32C_NEAR, IsTable-CRC32C_FAR}
 use Rattle.crc_words.proofs.crc32c_raw.Goals as goal

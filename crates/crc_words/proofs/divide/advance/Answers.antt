@@ -1,5 +1,5 @@
 -- The lanes begin as the state, take words side by side, and are joined at the end.
-use Rattle.std.proofs.Common.{◌≡◌, ◌≤◌, [], ◌∷◌, length, ap, sym, ◌∙◌, drop, take, arith, bit_xor, length-drop}
+use Rattle.std.proofs.Common.{◌≤◌, [], ◌∷◌, length, ap, ◌∙◌, arith, length-drop}
 use Rattle.crc_words.specs.Remainder.{remainder}
 use Rattle.crc_words.proofs.TextLemmas.{pending}
 use Rattle.crc_words.proofs.LaneLemmas.{row, lanes-begin, lanes-step, lanes-join, take-rest}
@@ -21,7 +21,7 @@ loop-rest-preserved g c =
       value =
           ap (pending g.row.POLYNOMIAL lanes) (take-rest 32 rest)
           ∙ lanes-step g.row.POLYNOMIAL c.loop-rest.a c.loop-rest.b c.loop-rest.c c.loop-rest.d _ _ _ _ rest enough
-            c.after_word-a.ensures c.after_word-b.ensures c.after_word-c.ensures c.after_word-d.ensures
+          c.after_word-a.ensures c.after_word-b.ensures c.after_word-c.ensures c.after_word-d.ensures
           ∙ c.loop-rest.invariant.value;
     }
 
@@ -31,5 +31,5 @@ returns g c =
     c.advance_words-2.ensures
     ∙ ap (remainder g.row.POLYNOMIAL c.after_word-all.result) (take-rest 32 rest)
     ∙ lanes-join g.row.POLYNOMIAL c.loop-rest.a c.loop-rest.b c.loop-rest.c c.loop-rest.d _ _ _ _ rest c.loop-rest.invariant.room
-      c.after_word.ensures c.after_word-2.ensures c.after_word-3.ensures c.after_word-all.ensures
+    c.after_word.ensures c.after_word-2.ensures c.after_word-3.ensures c.after_word-all.ensures
     ∙ c.loop-rest.invariant.value

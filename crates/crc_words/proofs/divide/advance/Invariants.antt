@@ -1,4 +1,4 @@
-use Rattle.std.proofs.Common.{◌≡◌, ◌≤◌, List, [], ◌∷◌, length}
+use Rattle.std.proofs.Common.{◌≡◌, ◌≤◌, [], ◌∷◌, length}
 use Rattle.crc_words.specs.Remainder.{remainder}
 use Rattle.crc_words.proofs.TextLemmas.{pending}
 use Rattle.crc_words.proofs.LaneLemmas.{row}

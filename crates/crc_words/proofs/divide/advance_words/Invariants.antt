@@ -1,6 +1,5 @@
 use Rattle.std.proofs.Common.{◌≡◌, length}
 use Rattle.crc_words.specs.Remainder.{remainder}
-use Rattle.crc_words.proofs.TextLemmas.{pending}
 use Rattle.crc_words.proofs.divide.advance_words.Given as goal
 
 abbrev pub invariant-loop-rest : goal.invariant-loop-rest

@@ -1,6 +1,5 @@
 -- The eight bytes as one number, a byte at a time.
-use Rattle.std.proofs.Common.{◌≡◌, ℕ, ◌+◌, ◌*◌, ◌<◌, refl, arith, drop, take}
-use Rattle.crc_words.specs.TextNumber.{text_number}
+use Rattle.std.proofs.Common.{ℕ, ◌+◌, refl, arith}
 use Rattle.crc_words.proofs.WordLemmas.{text_number-at, text_number-none}
 use Rattle.crc_words.proofs.divide.word.Goals as goal
 
