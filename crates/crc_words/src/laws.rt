@@ -1,6 +1,6 @@
 //! What the definitions of the checksums mean, as laws of every text. The functions do nothing: their contracts are the
 //! laws.
-ghost use Rattle.std.specs.Prelude.{◌≡◌, ◌≢◌, ◌↔◌, ℕ, ◌^◌, ◌<◌, ◌≤◌, ◌++◌, List, length, bit_xor};
+ghost use Rattle.std.specs.Prelude.{◌≡◌, ◌≢◌, ◌↔◌, ℕ, ◌^◌, ◌<◌, ◌≤◌, ◌++◌, List, length, bit_xor, codes};
 ghost use Rattle.std.specs.List.{All};
 ghost use Rattle.crc_words.specs.Burst.{DifferInBurst};
 ghost use Rattle.crc_words.specs.Division.{LeavesRest};
@@ -36,4 +36,10 @@ pub fn changed_bytes_are_a_burst()
 pub fn remainders_are_rests_of_division()
     ensures { (polynomial state rest : ℕ) (bytes : List ℕ) → LeavesRest polynomial state bytes rest
         ↔ (rest ≡ remainder polynomial state bytes) }
+{}
+
+/// The definitions have the check values that are published of these codes (of CRC-32C with the inversion undone).
+pub fn checksums_have_known_values()
+    ensures crc32 { crc32_of (codes "123456789") ≡ 0xCBF4_3926 }
+    ensures crc32c_raw { bit_xor (crc32c_raw_of (codes "123456789")) all_ones ≡ 0xE306_9283 }
 {}
