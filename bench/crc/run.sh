@@ -5,10 +5,9 @@
 set -e
 here=$(cd "$(dirname "$0")" && pwd)
 top=$(cd "$here/../.." && pwd)
-work=${1:-$(mktemp -d)}
-mkdir -p "$work/crates/crc_export/src"
-rm -rf "$work/crates/crc_words"
-mkdir -p "$work/crates/crc_words"
+work=$(mktemp -d)
+trap 'rm -rf "$work"' EXIT
+mkdir -p "$work/crates/crc_export/src" "$work/crates/crc_words"
 for part in src specs proofs; do
     cp -R "$top/crates/crc_words/$part" "$work/crates/crc_words/"
 done
@@ -34,6 +33,6 @@ pub extern "C" fn crc_export_crc32c_raw(bytes: &[u8]) -> u32
     crc_words::crc32c_raw(bytes)
 }
 CRATE
-(cd "$work/crates/crc_export" && rt lib)
+(cd "$work/crates/crc_export" && rt lib > ../log 2>&1 || { cat ../log; exit 1; })
 ${CC:-cc} -O2 -o "$work/bench" "$here/bench.c" "$work/crates/crc_export/out/libcrc_export.a" -lz
 "$work/bench"
