@@ -48,7 +48,8 @@ fn after_word<const POLYNOMIAL: u32, const DELAY: usize>(
 ) -> u32
     requires table { IsTable POLYNOMIAL DELAY table.now }
     requires within { at + 8 ≤ length bytes.now }
-    ensures { result ≡ after_bits POLYNOMIAL (64 + DELAY) (bit_xor state (text_number (take 8 (drop at bytes.now)))) }
+    ensures { result ≡ after_bits POLYNOMIAL (64 + DELAY)
+        (bit_xor state (text_number (take 8 (drop at bytes.now)))) }
 {
     divided::<POLYNOMIAL, DELAY>(table, u64::from(state) ^ word(bytes, at))
 }
