@@ -1,0 +1,7 @@
+pub mod StepLemmas
+pub mod TextLemmas
+pub mod TableTests
+pub mod LaneLemmas
+pub mod WordLemmas
+pub mod BurstLemmas
+pub mod DivisionLemmas

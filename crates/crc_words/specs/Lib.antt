@@ -1,0 +1,5 @@
+pub mod Burst
+pub mod Division
+pub mod Remainder
+pub mod Table
+pub mod TextNumber

@@ -1,0 +1,2 @@
+pub(crate) mod crc32;
+pub(crate) mod crc32c;
