@@ -1,0 +1,4 @@
+pub mod Script
+pub mod Words
+pub mod Grammar
+pub mod Plain

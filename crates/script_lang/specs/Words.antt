@@ -1,0 +1,122 @@
+-- Lines, words, and what a word is read as.
+use Rattle.std.specs.Prelude.{ℕ, suc, zero, ◌≡◌, ◌≢◌, ◌+◌, ◌^◌, ◌<◌, ◌==◌, ◌&&◌, ◌||◌, not, nat_le, Bool, if◌then◌else◌, List, [], ◌∷◌, length, replicate, codes, slice_index, Option, Some, None, MatchOption, Result, Ok, Err}
+use Rattle.std.specs.List.{slice_split, onto_first, list_all}
+use Rattle.std.specs.Str.{bytes_eq}
+use Rattle.std.specs.Str.Parse.{digits_value}
+use Rattle.std.specs.Fmt.{decimal}
+use Rattle.hex.specs.Hex.{decode_of, encode_lower}
+use Rattle.file_tree.specs.PathText.{PathRead, Reads, Faulty, path_read}
+
+-- the lines of a text: each ends with a newline, which the last may lack
+abbrev pub lines_in : List ℕ → List (List ℕ)
+lines_in [] = []
+lines_in (b ∷ bs) = if b == 10 then [] ∷ lines_in bs else onto_first b (lines_in bs)
+
+-- the words of a line, parted by single spaces
+abbrev pub words_in : List ℕ → List (List ℕ)
+words_in line = slice_split (λ b. b == 32) line
+
+-- the column, from 1, of a word's first byte; past the last word it is one past the line's end
+abbrev pub column_of : ℕ → List (List ℕ) → ℕ
+column_of k [] = 0
+column_of zero (w ∷ ws) = 1
+column_of (suc k) (w ∷ ws) = length w + 1 + column_of k ws
+
+-- the number that a word writes in decimal, without a leading zero, if it is at least the one and at most the other
+abbrev pub number_in : ℕ → ℕ → List ℕ → Option ℕ
+number_in low high w =
+    let n = digits_value 10 w in
+    if bytes_eq w (decimal n) && nat_le low n && nat_le n high then Some n else None
+
+-- a word writes a number below 2 ^ 64 in decimal, or none
+abbrev pub IsNumber : List ℕ → Option ℕ → Type 0
+IsNumber w r = MatchOption r ((n : ℕ) → n < 2 ^ 64 → w ≢ decimal n) (λ n. w ≡ decimal n)
+
+-- the path that a word spells
+abbrev pub path_of : PathRead → Option (List (List ℕ))
+path_of (Reads path) = Some path
+path_of (Faulty fault) = None
+
+abbrev pub path_in : List ℕ → Option (List (List ℕ))
+path_in w = path_of (path_read w)
+
+-- the bytes that pairs of lower-case digits write
+abbrev pub bytes_of : {E : Type 0} → List ℕ → Result (List ℕ) E → Option (List ℕ)
+bytes_of w (Ok bytes) = if bytes_eq w (encode_lower bytes) then Some bytes else None
+bytes_of w (Err e) = None
+
+abbrev pub hex_in : List ℕ → Option (List ℕ)
+hex_in w = bytes_of w (decode_of w)
+
+-- how many bytes one read or write has at most
+abbrev pub transfer_limit : ℕ
+transfer_limit = 16384
+
+-- a byte so many times
+abbrev pub filled : Option (List ℕ) → Option ℕ → Option (List ℕ)
+filled (Some (byte ∷ [])) (Some n) = Some (replicate n byte)
+filled _ _ = None
+
+abbrev pub within_transfer : Option (List ℕ) → Option (List ℕ)
+within_transfer None = None
+within_transfer (Some bytes) = if nat_le 1 (length bytes) && nat_le (length bytes) transfer_limit then Some bytes else None
+
+-- `fill`, a byte and a count, parted by colons, or else the bytes themselves
+abbrev pub content_from : List ℕ → List (List ℕ) → Option (List ℕ)
+content_from w (fill ∷ byte ∷ count ∷ []) = if bytes_eq fill (codes "fill") then filled (hex_in byte) (number_in 1 transfer_limit count) else None
+content_from w _ = within_transfer (hex_in w)
+
+-- the content that a word writes
+abbrev pub content_in : List ℕ → Option (List ℕ)
+content_in w = content_from w (slice_split (λ b. b == 58) w)
+
+-- ---- a client's name: 1 to 16 lower-case letters and digits, the first a letter, and no word that begins a line
+
+abbrev pub is_lower : ℕ → Bool
+is_lower b = nat_le 97 b && nat_le b 122
+
+abbrev pub is_digit : ℕ → Bool
+is_digit b = nat_le 48 b && nat_le b 57
+
+abbrev pub is_letter_or_digit : ℕ → Bool
+is_letter_or_digit b = is_lower b || is_digit b
+
+-- the words that a line may begin with
+abbrev pub begins_line : List ℕ → Bool
+begins_line w = bytes_eq w (codes "wait") || bytes_eq w (codes "crash") || bytes_eq w (codes "join")
+
+abbrev pub is_client_name : List ℕ → Bool
+is_client_name w = nat_le 1 (length w) && nat_le (length w) 16 && is_lower (slice_index w 0) && list_all is_letter_or_digit w && not (begins_line w)
+
+abbrev pub client_in : List ℕ → Option (List ℕ)
+client_in w = if is_client_name w then Some w else None
+
+-- ---- what the words of a line are read as
+
+-- a value, or the number, from 0, of the first wrong word; the one after the last is wrong where a word is missing
+pub data LineRead (A : Type 0) : Type 0 where
+  Got : A → LineRead A
+  Wrong : ℕ → LineRead A
+
+-- what follows a word
+abbrev pub later : {A : Type 0} → LineRead A → LineRead A
+later (Got a) = Got a
+later (Wrong k) = Wrong (suc k)
+
+-- no further word
+abbrev pub ends : {A : Type 0} → A → List (List ℕ) → LineRead A
+ends a [] = Got a
+ends a (w ∷ ws) = Wrong 0
+
+abbrev pub if_word : {A B : Type 0} → Option A → (A → LineRead B) → LineRead B
+if_word None rest = Wrong 0
+if_word (Some a) rest = later (rest a)
+
+-- a word that is read as a value, and then the rest
+abbrev pub a_word : {A B : Type 0} → (List ℕ → Option A) → (A → List (List ℕ) → LineRead B) → List (List ℕ) → LineRead B
+a_word value rest [] = Wrong 0
+a_word value rest (w ∷ ws) = if_word (value w) (λ a. rest a ws)
+
+-- this very word
+abbrev pub the_word : List ℕ → List ℕ → Option (List ℕ)
+the_word wanted w = if bytes_eq w wanted then Some w else None

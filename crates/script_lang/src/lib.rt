@@ -1,0 +1,9 @@
+//! Scripts: what clients call, and when nodes crash and join.
+#![tactic(auto)]
+
+mod plain;
+mod script;
+mod words;
+
+pub use plain::PlainScript;
+pub use script::{Armed, Client, Fate, Line, Script};
