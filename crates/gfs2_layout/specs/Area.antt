@@ -1,0 +1,49 @@
+-- An area of records: what stands in a linear directory behind its dinode, or in a leaf.
+use Rattle.std.specs.Prelude.{ℕ, zero, suc, ◌≡◌, ◌+◌, ◌-◌, ◌≤◌, ◌||◌, ◌&&◌, Bool, nat_lt, if◌then◌else◌, List, [], ◌∷◌, length, take, drop, IsTrue, Option, sum_by}
+use Rattle.std.specs.List.{AllByRecursion, find}
+use Rattle.std.specs.Str.{bytes_eq}
+use Rattle.gfs2_layout.specs.Bytes.{u16_at, slice}
+use Rattle.gfs2_layout.specs.Structures.{dirent_of, is_in_use}
+use Rattle.gfs2_layout.specs.declared.dirent.Dirent.{Dirent}
+
+-- a record: its head of 40 bytes, and the bytes behind it, which begin with the name
+pub record Slot : Type 0 where
+  pub head : Dirent
+  pub body : List ℕ
+
+abbrev pub slot_at : List ℕ → Slot
+slot_at bytes = record { head = dirent_of bytes; body = slice 40 (u16_at 20 bytes - 40) bytes }
+
+abbrev pub slot_length : Slot → ℕ
+slot_length s = s.head.rec_len
+
+abbrev pub name_of : Slot → List ℕ
+name_of s = take s.head.name_len s.body
+
+-- no record begins here: there is no room for a head, or its length is too small or too large
+abbrev pub has_no_record : List ℕ → Bool
+has_no_record bytes = nat_lt (length bytes) 40 || nat_lt (u16_at 20 bytes) 40 || nat_lt (length bytes) (u16_at 20 bytes)
+
+-- the records from here on, each behind the one before, as far as they go; there are at most so many
+abbrev pub slots_within : ℕ → List ℕ → List Slot
+slots_within zero bytes = []
+slots_within (suc most) bytes = if has_no_record bytes then [] else slot_at bytes ∷ slots_within most (drop (u16_at 20 bytes) bytes)
+
+unfoldable pub slots_of : List ℕ → List Slot
+slots_of area = slots_within (length area) area
+
+-- a record that is in use has its name in it
+abbrev pub HasItsName : Slot → Type 0
+HasItsName s = IsTrue (is_in_use s.head) → 40 + s.head.name_len ≤ s.head.rec_len
+
+-- the records fill the area, and each that is in use has its name in it
+pub record IsArea (area : List ℕ) : Type 0 where
+  pub filled : sum_by slot_length (slots_of area) ≡ length area
+  pub named : AllByRecursion HasItsName (slots_of area)
+
+-- the first record in use of this name
+abbrev pub has_name : List ℕ → Slot → Bool
+has_name name s = is_in_use s.head && bytes_eq (name_of s) name
+
+abbrev pub first_named : List ℕ → List Slot → Option Slot
+first_named name slots = find (has_name name) slots

@@ -1,0 +1,20 @@
+-- Numbers in bytes, the highest byte first.
+use Rattle.std.specs.Prelude.{ℕ, List, take, drop}
+use Rattle.std.specs.Int.{Width, w16, w32, w64, byte_len, from_be_bytes}
+
+-- so many bytes from a place on
+abbrev pub slice : ℕ → ℕ → List ℕ → List ℕ
+slice at n bytes = take n (drop at bytes)
+
+-- the number of this width at this place
+unfoldable pub number_at : Width → ℕ → List ℕ → ℕ
+number_at w at bytes = from_be_bytes w (slice at (byte_len w) bytes)
+
+abbrev pub u16_at : ℕ → List ℕ → ℕ
+u16_at = number_at w16
+
+abbrev pub u32_at : ℕ → List ℕ → ℕ
+u32_at = number_at w32
+
+abbrev pub u64_at : ℕ → List ℕ → ℕ
+u64_at = number_at w64

@@ -1,0 +1,97 @@
+ghost use Rattle.std.specs.Prelude.{◌≡◌, ◌≤◌, length};
+
+use crate::header::fault_of_header;
+use crate::numbers::{u16_at, u32_at, u64_at};
+use crate::{Inum, LayoutFault};
+
+/// A dinode (`gfs2_dinode`), the first 232 bytes of its block. Sizes are in bytes, times in seconds.
+#[derive(Clone, Copy, Debug, PartialEq, Eq)]
+pub struct Dinode {
+    pub num: Inum,
+    pub mode: u32,
+    pub uid: u32,
+    pub gid: u32,
+    pub nlink: u32,
+    pub size: u64,
+    /// How many blocks the inode has, the dinode's own among them.
+    pub blocks: u64,
+    pub atime: u64,
+    pub mtime: u64,
+    pub ctime: u64,
+    pub major: u32,
+    pub minor: u32,
+    pub goal_meta: u64,
+    pub goal_data: u64,
+    pub generation: u64,
+    pub flags: u32,
+    pub payload_format: u32,
+    /// How many levels of pointers lead to the content; at 0 it follows the dinode.
+    pub height: u16,
+    pub depth: u16,
+    pub entries: u32,
+    pub eattr: u64,
+    pub atime_nsec: u32,
+    pub mtime_nsec: u32,
+    pub ctime_nsec: u32,
+}
+
+impl Dinode {
+    ghost use Rattle.gfs2_layout.specs.Structures.{dinode_of, dinode_read, is_directory, is_regular};
+
+    /// Reads a dinode. Faults: `Short` below 232 bytes, `Magic`, `Kind` other than 4, `Format` other than
+    /// 400.
+    pub fn read(bytes: &[u8]) -> Result<Dinode, LayoutFault>
+        ensures { result ≡ dinode_read bytes.now }
+    {
+        match fault_of_header(bytes, 232, 4, 400) {
+            Some(fault) => Err(fault),
+            None => Ok(Dinode::fields(bytes)),
+        }
+    }
+
+    fn fields(bytes: &[u8]) -> Dinode
+        requires { 232 ≤ length bytes.now }
+        ensures { result ≡ dinode_of bytes.now }
+    {
+        Dinode {
+            num: Inum::at(bytes, 24),
+            mode: u32_at(bytes, 40),
+            uid: u32_at(bytes, 44),
+            gid: u32_at(bytes, 48),
+            nlink: u32_at(bytes, 52),
+            size: u64_at(bytes, 56),
+            blocks: u64_at(bytes, 64),
+            atime: u64_at(bytes, 72),
+            mtime: u64_at(bytes, 80),
+            ctime: u64_at(bytes, 88),
+            major: u32_at(bytes, 96),
+            minor: u32_at(bytes, 100),
+            goal_meta: u64_at(bytes, 104),
+            goal_data: u64_at(bytes, 112),
+            generation: u64_at(bytes, 120),
+            flags: u32_at(bytes, 128),
+            payload_format: u32_at(bytes, 132),
+            height: u16_at(bytes, 138),
+            depth: u16_at(bytes, 146),
+            entries: u32_at(bytes, 148),
+            eattr: u64_at(bytes, 168),
+            atime_nsec: u32_at(bytes, 176),
+            mtime_nsec: u32_at(bytes, 180),
+            ctime_nsec: u32_at(bytes, 184),
+        }
+    }
+
+    /// Whether the mode is a directory's.
+    pub fn is_directory(&self) -> bool
+        ensures { result ≡ is_directory self.now }
+    {
+        self.mode / 4096 == 4
+    }
+
+    /// Whether the mode is a regular file's.
+    pub fn is_regular(&self) -> bool
+        ensures { result ≡ is_regular self.now }
+    {
+        self.mode / 4096 == 8
+    }
+}

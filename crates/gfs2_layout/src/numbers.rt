@@ -1,0 +1,40 @@
+ghost use Rattle.std.specs.Prelude.{◌≡◌, ◌+◌, ◌≤◌, length};
+ghost use Rattle.gfs2_layout.specs.Bytes.{u16_at as number_16, u32_at as number_32, u64_at as number_64, slice};
+
+#[tactic(auto, unfolding(crate::specs::Bytes::number_at))]
+pub(crate) fn u16_at(bytes: &[u8], at: usize) -> u16
+    requires { at + 2 ≤ length bytes.now }
+    ensures { result ≡ number_16 at bytes.now }
+{
+    let part = &bytes[at..at + 2];
+    u16::from_be_bytes([part[0], part[1]])
+}
+
+#[tactic(auto, unfolding(crate::specs::Bytes::number_at))]
+pub(crate) fn u32_at(bytes: &[u8], at: usize) -> u32
+    requires { at + 4 ≤ length bytes.now }
+    ensures { result ≡ number_32 at bytes.now }
+{
+    let part = &bytes[at..at + 4];
+    u32::from_be_bytes([part[0], part[1], part[2], part[3]])
+}
+
+#[tactic(auto, unfolding(crate::specs::Bytes::number_at))]
+pub(crate) fn u64_at(bytes: &[u8], at: usize) -> u64
+    requires { at + 8 ≤ length bytes.now }
+    ensures { result ≡ number_64 at bytes.now }
+{
+    let mut part = [0u8; 8];
+    part.copy_from_slice(&bytes[at..at + 8]);
+    u64::from_be_bytes(part)
+}
+
+/// The bytes from a place on.
+pub(crate) fn bytes_at<const N: usize>(bytes: &[u8], at: usize) -> [u8; N]
+    requires { at + N ≤ length bytes.now }
+    ensures { result ≡ slice at N bytes.now }
+{
+    let mut part = [0u8; N];
+    part.copy_from_slice(&bytes[at..at + N]);
+    part
+}
