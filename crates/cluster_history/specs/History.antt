@@ -67,6 +67,18 @@ KeepsSynced history = (p q node client number kept : ℕ) → p < q
     → slice_get history p ≡ Some (item.Call node client number calls.Sync replies.Ok)
     → slice_get history q ≡ Some (item.Lost node kept) → number ≤ kept
 
+-- ---- the numbers of calls
+
+abbrev pub calls_of : ℕ → List Item → ℕ
+calls_of node [] = 0
+calls_of node (item.Call i client n call reply ∷ is) = (if i == node then 1 else 0) + calls_of node is
+calls_of node (item.Lost i kept ∷ is) = calls_of node is
+
+-- the calls of each node are numbered one after the other, from 1 through the whole history
+abbrev pub IsNumbered : List Item → Type 0
+IsNumbered history = (p node client number : ℕ) (call : Call) (reply : Reply)
+    → slice_get history p ≡ Some (item.Call node client number call reply) → number ≡ calls_of node (take p history) + 1
+
 -- ---- histories without a loss
 
 abbrev pub NoneLost : List Item → Type 0

@@ -4,6 +4,7 @@
 mod call;
 mod call_text;
 mod content;
+mod laws;
 mod names;
 mod path;
 mod path_text;
@@ -13,6 +14,7 @@ mod tree;
 pub use call::Call;
 pub use call_text::{append_call, append_reply};
 pub use content::Content;
+pub use laws::names_stand_for_trees;
 pub use names::{Name, NameList, Path};
 pub use no_memory::NoMemory;
 pub use path::PathFault;
