@@ -126,3 +126,51 @@ tells-bad area rest some bad (most, few, same) is = not_rest most rest some bad 
 
 pub tells-unnamed : (area rest : List ℕ) → 1 ≤ length rest → (HasItsName (slot_at rest) → ⊥) → TellsArea area rest → IsArea area → ⊥
 tells-unnamed area rest some unnamed (most, few, same) is = unnamed (opens_well most rest (same.1 is) some).1
+
+-- ---- the records do not depend on how many there are at most, if that is enough
+
+short_has_none : (rest : List ℕ) → length rest ≡ 0 → has_no_record rest ≡ true
+short_has_none rest none = grind (arith, nat_tests)
+
+same_slots : (n m : ℕ) (rest : List ℕ) → length rest ≤ n → length rest ≤ m → slots_within n rest ≡ slots_within m rest
+same_slots zero m rest few enough = sym (none_here m rest (short_has_none rest (omega arith)))
+same_slots (suc n) zero rest few enough = none_here (suc n) rest (short_has_none rest (omega arith))
+same_slots (suc n) (suc m) rest few enough = by_test (has_no_record rest) refl (same_slots n m (behind rest))
+  where
+    by_test : (b : Bool) → has_no_record rest ≡ b → (length (behind rest) ≤ n → length (behind rest) ≤ m → slots_within n (behind rest) ≡ slots_within m (behind rest))
+        → slots_within (suc n) rest ≡ slots_within (suc m) rest
+    by_test true bad more = none_here (suc n) rest bad ∙ sym (none_here (suc m) rest bad)
+    by_test false good more =
+        let shorter = length_behind rest good in
+        let long = (record_length rest good).0 in
+        one_here n rest good ∙ ap (λ (ss : List Slot). slot_at rest ∷ ss) (more (omega (arith, few, shorter, long)) (omega (arith, enough, shorter, long))) ∙ sym (one_here m rest good)
+
+-- a nonempty area: its first record, and the area behind it
+pub record AreaOn (area : List ℕ) : Type 0 where
+  pub good : has_no_record area ≡ false
+  pub slots : slots_of area ≡ slot_at area ∷ slots_of (behind area)
+  pub here : HasItsName (slot_at area)
+  pub later : IsArea (behind area)
+
+pub area_on : (area : List ℕ) → 1 ≤ length area → IsArea area → AreaOn area
+unfolding slots_of
+area_on area some is = by_length (length area) refl
+  where
+    by_length : (n : ℕ) → length area ≡ n → AreaOn area
+    by_length zero none = absurd (omega arith)
+    by_length (suc n) long =
+        let o = opens (length area) area some (area_is_rest area is) in
+        let shorter : length (behind area) ≤ n = omega (arith, length_behind area o.good, (record_length area o.good).0) in
+        let same : slots_within n (behind area) ≡ slots_within (length (behind area)) (behind area) = same_slots n (length (behind area)) (behind area) shorter (omega arith) in
+        let rest : IsRest (suc n) area = subst (λ (k : ℕ). IsRest k area) long (area_is_rest area is) in
+        let on = rest_on n area o.good rest in
+        record {
+          good = o.good;
+          slots = ap (λ (k : ℕ). slots_within k area) long ∙ one_here n area o.good ∙ ap (λ (ss : List Slot). slot_at area ∷ ss) same;
+          here = on.0;
+          later = rest_is_area (behind area) (record { filled = ap (sum_by slot_length) (sym same) ∙ on.1.filled; named = subst (AllByRecursion HasItsName) same on.1.named });
+        }
+
+pub area_ends : (area : List ℕ) → length area ≡ 0 → slots_of area ≡ []
+unfolding slots_of
+area_ends area none = none_here (length area) area (short_has_none area none)

@@ -1,5 +1,5 @@
 -- An area of records: what stands in a linear directory behind its dinode, or in a leaf.
-use Rattle.std.specs.Prelude.{ℕ, zero, suc, ◌≡◌, ◌+◌, ◌-◌, ◌≤◌, ◌||◌, ◌&&◌, Bool, nat_lt, if◌then◌else◌, List, [], ◌∷◌, length, take, drop, IsTrue, Option, sum_by}
+use Rattle.std.specs.Prelude.{ℕ, zero, suc, ◌≡◌, ◌+◌, ◌-◌, ◌<◌, ◌≤◌, ◌||◌, ◌&&◌, Bool, nat_lt, if◌then◌else◌, List, [], ◌∷◌, length, take, drop, IsTrue, Option, sum_by}
 use Rattle.std.specs.List.{AllByRecursion, find}
 use Rattle.std.specs.Str.{bytes_eq}
 use Rattle.gfs2_layout.specs.Bytes.{u16_at, slice}
@@ -47,3 +47,15 @@ has_name name s = is_in_use s.head && bytes_eq (name_of s) name
 
 abbrev pub first_named : List ℕ → List Slot → Option Slot
 first_named name slots = find (has_name name) slots
+
+-- this head and, where the record is in use, this name are the record's
+pub record IsShown (head : Dirent) (name : List ℕ) (s : Slot) : Type 0 where
+  pub head_is : head ≡ s.head
+  pub name_is : IsTrue (is_in_use s.head) → name ≡ name_of s
+
+-- the area begins with the record of this head and name, and the rest of it is an area
+pub record IsFirstRecord (area : List ℕ) (head : Dirent) (name rest : List ℕ) : Type 0 where
+  pub slots : slots_of area ≡ slot_at area ∷ slots_of rest
+  pub shown : IsShown head name (slot_at area)
+  pub later : IsArea rest
+  pub shorter : length rest < length area

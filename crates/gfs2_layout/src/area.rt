@@ -1,6 +1,7 @@
-ghost use Rattle.std.specs.Prelude.{◌≡◌, ◌+◌, ◌^◌, ◌≤◌, ◌<◌, ◌↔◌, length, drop, Some, None, false, IsTrue, MatchOption};
+ghost use Rattle.std.specs.Prelude.{◌≡◌, ◌+◌, ◌^◌, ◌≤◌, ◌<◌, ◌↔◌, length, drop, [], Some, None, false, IsTrue, MatchOption};
+ghost use Rattle.gfs2_layout.specs.Structures.{is_in_use};
 ghost use Rattle.gfs2_layout.specs.Bytes.{u16_at as number_16};
-ghost use Rattle.gfs2_layout.specs.Area.{IsArea, HasItsName, has_no_record, has_name, slots_of, slot_at, first_named};
+ghost use Rattle.gfs2_layout.specs.Area.{IsArea, IsFirstRecord, HasItsName, name_of, has_no_record, has_name, slots_of, slot_at, first_named};
 
 use crate::Dirent;
 
@@ -85,4 +86,38 @@ pub fn find_record(area: &[u8], name: &[u8]) -> Option<u32>
         rest = behind;
     }
     None
+}
+
+/// A record of an area: its head, and its name where it is in use.
+#[derive(Clone, Copy, Debug)]
+pub struct Record<'a> {
+    pub head: Dirent,
+    pub name: &'a [u8],
+}
+
+fn name_in(bytes: &[u8], head: Dirent) -> &[u8]
+    requires record { has_no_record bytes.now ≡ false }
+    requires head { head ≡ (slot_at bytes.now).head }
+    requires named { HasItsName (slot_at bytes.now) }
+    ensures { IsTrue (is_in_use head) → result.now ≡ name_of (slot_at bytes.now) }
+{
+    if head.is_in_use() {
+        &bytes[40..40 + head.name_len as usize]
+    } else {
+        &bytes[..0]
+    }
+}
+
+/// The first record of an area and the area behind it; `None` where the area has ended. It costs no more
+/// than the head.
+pub fn next_record(area: &[u8]) -> Option<(Record<'_>, &[u8])>
+    requires { IsArea area.now }
+    ensures { MatchOption result (slots_of area.now ≡ []) (λ p. IsFirstRecord area.now p.0.head p.0.name.now p.1.now) }
+{
+    if area.is_empty() {
+        return None;
+    }
+    let head = Dirent::head(area);
+    let name = name_in(area, head);
+    Some((Record { head, name }, past_record(area).1))
 }

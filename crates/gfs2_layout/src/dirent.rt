@@ -38,7 +38,8 @@ impl Dirent {
         Ok(head)
     }
 
-    pub(crate) fn head(bytes: &[u8]) -> Dirent
+    /// The fields of a record's head as they stand, whatever its kind.
+    pub fn head(bytes: &[u8]) -> Dirent
         requires { 40 ≤ length bytes.now }
         ensures { result ≡ dirent_of bytes.now }
     {

@@ -10,7 +10,7 @@ mod inum;
 mod numbers;
 mod superblock;
 
-pub use area::{find_record, is_area};
+pub use area::{Record, find_record, is_area, next_record};
 pub use dinode::Dinode;
 pub use dirent::Dirent;
 pub use fault::LayoutFault;

@@ -1,4 +1,4 @@
-ghost use Rattle.std.specs.Prelude.{◌≡◌, ◌<◌, ◌≤◌, length, IsTrue, false, OnOk, IfErr};
+ghost use Rattle.std.specs.Prelude.{◌≡◌, ◌<◌, ◌≤◌, ℕ, length, IsTrue, false, OnOk, IfErr};
 ghost use Rattle.shared_disk.specs.Disk.{read_gives};
 ghost use Rattle.fault_counts.specs.Causes.{WentUp};
 
@@ -20,7 +20,7 @@ pub fn read_block<D: SharedDisk>(
     ensures same { D.state disk.new ≡ D.state disk.old }
     ensures list { D.list disk.new ≡ D.list disk.old }
     ensures cause { IfErr result (λ r. WentUp (D.faults disk.old node) (D.faults disk.new node) r.before r.after) }
-    ensures later { D.faults disk.old node ≤ D.faults disk.new node }
+    ensures later { (j : ℕ) → D.faults disk.old j ≤ D.faults disk.new j }
 {
     let before = disk.faults(node);
     match disk.read(node, block, into) {

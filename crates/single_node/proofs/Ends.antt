@@ -1,0 +1,10 @@
+-- Ends at a block that is not read.
+use Rattle.std.proofs.Common.{ℕ}
+use Rattle.single_node.specs.Ends.{IfNotRead}
+use Rattle.single_node.specs.declared.end.RunEnd.{RunEnd}
+use Rattle.single_node.specs.declared.end.RunEnd.TheVariants as end
+
+pub not_read_weaker : {P Q : ℕ → Type 0} (e : RunEnd) → ((b : ℕ) → P b → Q b) → IfNotRead e P → IfNotRead e Q
+not_read_weaker (end.NotRead block) f h = f block h
+not_read_weaker (end.DiskFailed node block rise) f h = tt
+not_read_weaker end.NoMemory f h = tt

@@ -1,0 +1,108 @@
+ghost use Rattle.std.specs.Prelude.{◌≡◌, ◌+◌, ◌<◌, ◌≤◌, ℕ, length, take, drop, IsTrue, IfOk, IfErr, IfSome, IfNone, MatchOption, None, Some, ◌^◌};
+ghost use Rattle.file_tree.specs.Tree.{Tree, names_in, Entries};
+ghost use Rattle.file_tree.specs.Apply.{read_reply, list_reply, walk, Walked};
+ghost use Rattle.gfs2_layout.specs.Structures.{dinode_of, is_in_use};
+ghost use Rattle.gfs2_layout.specs.Area.{Slot, slots_of, slot_at, first_named, IsArea};
+ghost use Rattle.shared_disk.specs.Disk.{IsIdle};
+ghost use Rattle.single_node.specs.Ends.{EndHasCause, IfNotRead};
+ghost use Rattle.single_node.specs.Flat.{IsFlat, IsStuffedFile, HasFlatRoot, IsBlockSize, file_bytes, stuffed_part};
+
+use crate::RunEnd;
+use crate::fetch::fetch;
+use crate::mount::stuffed_dinode;
+use file_tree::Content;
+use gfs2_layout::{Dirent, find_record};
+use shared_disk::SharedDisk;
+use std::alloc::{AllocError, Global};
+
+/// What stands behind the dinode of a block.
+pub(crate) fn behind_dinode(block: &[u8]) -> &[u8]
+    requires { 232 ≤ length block.now }
+    ensures part { result.now ≡ stuffed_part block.now }
+    ensures within { length result.now ≤ length block.now }
+{
+    &block[232..]
+}
+
+// The size of the stuffed file that a block holds in its own place.
+fn file_size(block: &[u8], address: u64) -> Option<usize>
+    requires { 512 ≤ length block.now }
+    ensures { MatchOption result (IsStuffedFile (length block.now) address block.now → ⊥)
+        (λ size. (size ≡ (dinode_of block.now).size) × IsStuffedFile (length block.now) address block.now) }
+{
+    let dinode = stuffed_dinode(block, address)?;
+    if !dinode.is_regular() || dinode.size > block.len() as u64 - 232 {
+        return None;
+    }
+    Some(dinode.size as usize)
+}
+
+// The bytes from a place on, at most so many.
+fn part_of(file: &[u8], at: u64, count: u32) -> &[u8]
+    ensures { result.now ≡ take count (drop at file.now) }
+{
+    let from = at.min(file.len() as u64) as usize;
+    let rest = &file[from..];
+    let count = (count as usize).min(rest.len());
+    &rest[..count]
+}
+
+// A part of a file of this size in its block.
+fn range_of(
+    alloc: Global,
+    block: &[u8],
+    size: usize,
+    at: u64,
+    count: u32,
+) -> Result<Content, AllocError>
+    requires { size + 232 ≤ length block.now }
+    ensures { IfOk result (λ content. content ≡ take count (drop at (take size (stuffed_part block.now)))) }
+{
+    let file = &block[232..232 + size];
+    let part = part_of(file, at, count);
+    Ok(Content::new(Vec::from_slice(alloc, part)?))
+}
+
+// Reads a part of the file whose dinode is at this address.
+pub(crate) fn read_file<D: SharedDisk>(
+    alloc: Global,
+    disk: &mut D,
+    block: &mut [u8],
+    address: u64,
+    at: u64,
+    count: u32,
+) -> Result<Content, RunEnd>
+    requires idle { IsIdle (D.state disk.old) }
+    requires size { length block.old ≡ (D.state disk.old).size }
+    requires some { IsBlockSize (D.state disk.old).size }
+    ensures content { IfOk result (λ content. IsTrue (D.state disk.old).tells
+        → content ≡ take count (drop at (file_bytes ((D.state disk.old).block_at address)))) }
+    ensures other { IfErr result (λ end. IfNotRead end (λ _. IsTrue (D.state disk.old).tells → address < (D.state disk.old).count
+        → IsStuffedFile (D.state disk.old).size address ((D.state disk.old).block_at address) → ⊥)) }
+    ensures same { D.state disk.new ≡ D.state disk.old }
+    ensures cause { IfErr result (EndHasCause (D.faults disk.old) (D.faults disk.new)) }
+    ensures later { (j : ℕ) → D.faults disk.old j ≤ D.faults disk.new j }
+{
+    match fetch(disk, 1, address, block) {
+        Ok(()) => {}
+        Err(end) => return Err(end),
+    }
+    let Some(size) = file_size(block, address) else {
+        return Err(RunEnd::NotRead { block: address });
+    };
+    match range_of(alloc, block, size, at, count) {
+        Ok(content) => Ok(content),
+        Err(_) => Err(RunEnd::NoMemory),
+    }
+}
+
+// The address that the first record of this name leads to.
+pub(crate) fn address_of(area: &[u8], name: &[u8]) -> Option<u64>
+    requires area { IsArea area.now }
+    requires short { length area.now < 2 ^ 32 }
+    ensures { MatchOption result (first_named name.now (slots_of area.now) ≡ None)
+        (λ address. (s : Slot) × (first_named name.now (slots_of area.now) ≡ Some s) × (address ≡ s.head.inum.address)) }
+{
+    let at = find_record(area, name)? as usize;
+    Some(Dirent::head(&area[at..]).inum.address)
+}

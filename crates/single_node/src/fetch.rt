@@ -1,0 +1,32 @@
+ghost use Rattle.std.specs.Prelude.{◌≡◌, ◌<◌, ◌≤◌, ℕ, length, IsTrue, OnOk, IfErr};
+ghost use Rattle.shared_disk.specs.Disk.{IsIdle};
+ghost use Rattle.single_node.specs.Ends.{EndHasCause, IfNotRead};
+
+use crate::RunEnd;
+use shared_disk::{SharedDisk, read_block};
+
+// Reads a block of an idle disk under a node's number.
+pub(crate) fn fetch<D: SharedDisk>(
+    disk: &mut D,
+    node: u8,
+    block: u64,
+    into: &mut [u8],
+) -> Result<(), RunEnd>
+    requires node { node ≤ 8 }
+    requires idle { IsIdle (D.state disk.old) }
+    requires size { length into.old ≡ (D.state disk.old).size }
+    ensures bytes { OnOk result (IsTrue (D.state disk.old).tells → into.new ≡ (D.state disk.old).block_at block) }
+    ensures inside { OnOk result (block < (D.state disk.old).count) }
+    ensures outside { IfErr result (λ end. IfNotRead end (λ b. (b ≡ block) × ((D.state disk.old).count ≤ block))) }
+    ensures same { D.state disk.new ≡ D.state disk.old }
+    ensures cause { IfErr result (EndHasCause (D.faults disk.old) (D.faults disk.new)) }
+    ensures later { (j : ℕ) → D.faults disk.old j ≤ D.faults disk.new j }
+{
+    if block >= disk.blocks() {
+        return Err(RunEnd::NotRead { block });
+    }
+    match read_block(disk, node, block, into) {
+        Ok(()) => Ok(()),
+        Err(rise) => Err(RunEnd::DiskFailed { node, block, rise }),
+    }
+}

@@ -1,0 +1,11 @@
+//! One node that reads a flat image: it mounts it, and answers the lines of a plain script one by one.
+#![tactic(auto)]
+
+mod answer;
+mod end;
+mod fetch;
+mod mount;
+mod read;
+
+pub use end::RunEnd;
+pub use mount::{Root, read_root};

@@ -1,0 +1,164 @@
+ghost use Rattle.std.specs.Prelude.{◌≡◌, ◌⊎◌, ◌+◌, ◌/◌, ◌%◌, ◌<◌, ◌≤◌, ◌↔◌, ℕ, length, IsTrue, OnOk, IfOk, IfErr, MatchOption};
+ghost use Rattle.std.specs.List.{AllByRecursion};
+ghost use Rattle.gfs2_layout.specs.Structures.{dinode_of};
+ghost use Rattle.gfs2_layout.specs.Area.{Slot, slots_of, IsShown, IsArea};
+ghost use Rattle.shared_disk.specs.Disk.{IsIdle};
+ghost use Rattle.single_node.specs.Ends.{EndHasCause, IfNotRead};
+ghost use Rattle.single_node.specs.Flat.{IsStuffed, IsFlatDirectory, HasSuperBlock, HasFlatRoot, LacksFlatRoot, IsOfFile, names_a_file, stuffed_part, superblock_place, root_of, is_dot, IsBlockSize};
+
+use crate::RunEnd;
+use crate::fetch::fetch;
+use gfs2_layout::{Dinode, Record, SuperBlock, is_area, next_record};
+use shared_disk::SharedDisk;
+use std::alloc::Global;
+use std::marker::Model;
+
+// The dinode that a block holds in its own place with its content behind it.
+pub(crate) fn stuffed_dinode(block: &[u8], address: u64) -> Option<Dinode>
+    ensures { MatchOption result (IsStuffed address block.now → ⊥)
+        (λ d. (d ≡ dinode_of block.now) × IsStuffed address block.now) }
+{
+    let Ok(dinode) = Dinode::read(block) else {
+        return None;
+    };
+    if dinode.num.address != address || dinode.height != 0 {
+        return None;
+    }
+    Some(dinode)
+}
+
+fn is_dot_name(name: &[u8]) -> bool
+    ensures { result ≡ is_dot name.now }
+{
+    name == b".".as_slice() || name == b"..".as_slice()
+}
+
+// Whether a record is in use and is not `.` or `..`.
+pub(crate) fn leads_on(record: &Record<'_>) -> bool
+    ensures { (s : Slot) → IsShown record.now.head record.now.name.now s → result ≡ names_a_file s }
+{
+    record.head.is_in_use() && !is_dot_name(record.name)
+}
+
+fn is_of_file(record: &Record<'_>) -> bool
+    ensures { (s : Slot) → IsShown record.now.head record.now.name.now s → IsTrue result ↔ IsOfFile s }
+{
+    !leads_on(record) || record.head.kind == 8
+}
+
+// Whether all records but `.` and `..` are those of regular files.
+fn has_only_files(area: &[u8]) -> bool
+    requires { IsArea area.now }
+    ensures { IsTrue result ↔ AllByRecursion IsOfFile (slots_of area.now) }
+{
+    let mut rest = area;
+    while let Some((record, behind)) = next_record(rest) {
+        if !is_of_file(&record) {
+            return false;
+        }
+        rest = behind;
+    }
+    true
+}
+
+// Whether a block holds a flat directory in its own place.
+fn is_flat_directory(block: &[u8], address: u64) -> bool
+    requires { 512 ≤ length block.now }
+    ensures { IsTrue result ↔ IsFlatDirectory (length block.now) address block.now }
+{
+    let Some(dinode) = stuffed_dinode(block, address) else {
+        return false;
+    };
+    let whole = dinode.size == block.len() as u64 - 232;
+    if !dinode.is_directory() || !whole || dinode.flags / 2 % 2 != 0 {
+        return false;
+    }
+    let area = &block[232..];
+    if !is_area(area) {
+        return false;
+    }
+    has_only_files(area)
+}
+
+// The root's address, where the superblock is one and is that of a disk with this block size.
+fn root_address<D: SharedDisk>(disk: &mut D, block: &mut [u8]) -> Result<u64, RunEnd>
+    requires idle { IsIdle (D.state disk.old) }
+    requires size { length block.old ≡ (D.state disk.old).size }
+    requires some { IsBlockSize (D.state disk.old).size }
+    ensures root { IfOk result (λ root. IsTrue (D.state disk.old).tells → HasSuperBlock (D.state disk.old) × (root ≡ root_of (D.state disk.old))) }
+    ensures other { IfErr result (λ end. IfNotRead end (λ _. IsTrue (D.state disk.old).tells → HasSuperBlock (D.state disk.old) → ⊥)) }
+    ensures same { D.state disk.new ≡ D.state disk.old }
+    ensures cause { IfErr result (EndHasCause (D.faults disk.old) (D.faults disk.new)) }
+    ensures later { (j : ℕ) → D.faults disk.old j ≤ D.faults disk.new j }
+{
+    let size = disk.block_size();
+    let place = 65_536 / u64::from(size);
+    fetch(disk, 0, place, block)?;
+    let Ok(superblock) = SuperBlock::read(block) else {
+        return Err(RunEnd::NotRead { block: place });
+    };
+    if superblock.bsize != size {
+        return Err(RunEnd::NotRead { block: place });
+    }
+    Ok(superblock.root.address)
+}
+
+/// The root directory of a flat image, which is read once and kept.
+#[derive(Drop)]
+pub struct Root {
+    block: Vec<u8>,
+}
+
+impl Model for Root {
+    ghost use Rattle.std.specs.Prelude.{List, ℕ};
+
+    ghost Value = { List ℕ };
+
+    ghost view = { λ r. r.block.items };
+}
+
+// Reads the root directory's block.
+fn fill_root<D: SharedDisk>(disk: &mut D, block: &mut [u8]) -> Result<(), RunEnd>
+    requires idle { IsIdle (D.state disk.old) }
+    requires size { length block.old ≡ (D.state disk.old).size }
+    requires some { IsBlockSize (D.state disk.old).size }
+    ensures root { OnOk result (IsTrue (D.state disk.old).tells → HasFlatRoot (D.state disk.old) block.new) }
+    ensures area { OnOk result (IsArea (stuffed_part block.new)) }
+    ensures other { IfErr result (λ end. IfNotRead end (λ _. IsTrue (D.state disk.old).tells → LacksFlatRoot (D.state disk.old))) }
+    ensures same { D.state disk.new ≡ D.state disk.old }
+    ensures cause { IfErr result (EndHasCause (D.faults disk.old) (D.faults disk.new)) }
+    ensures later { (j : ℕ) → D.faults disk.old j ≤ D.faults disk.new j }
+{
+    let address = match root_address(disk, block) {
+        Ok(address) => address,
+        Err(end) => return Err(end),
+    };
+    match fetch(disk, 0, address, block) {
+        Ok(()) => {}
+        Err(end) => return Err(end),
+    }
+    if !is_flat_directory(block, address) {
+        return Err(RunEnd::NotRead { block: address });
+    }
+    Ok(())
+}
+
+/// Reads the superblock and the root directory of an idle disk. `NotRead` comes only where one of these two
+/// blocks is not that of a flat image. It takes memory for one block.
+pub fn read_root<D: SharedDisk>(alloc: Global, disk: &mut D) -> Result<Root, RunEnd>
+    requires idle { IsIdle (D.state disk.old) }
+    requires size { IsBlockSize (D.state disk.old).size }
+    ensures root { IfOk result (λ block. IsTrue (D.state disk.old).tells → HasFlatRoot (D.state disk.old) block) }
+    ensures area { IfOk result (λ block. (length block ≡ (D.state disk.old).size) × IsArea (stuffed_part block)) }
+    ensures other { IfErr result (λ end. IfNotRead end (λ _. IsTrue (D.state disk.old).tells → LacksFlatRoot (D.state disk.old))) }
+    ensures same { D.state disk.new ≡ D.state disk.old }
+    ensures cause { IfErr result (EndHasCause (D.faults disk.old) (D.faults disk.new)) }
+    ensures later { (j : ℕ) → D.faults disk.old j ≤ D.faults disk.new j }
+{
+    let size = disk.block_size() as usize;
+    let mut block = vec![in alloc; 0u8; size]?;
+    match fill_root(disk, &mut block) {
+        Ok(()) => Ok(Root { block }),
+        Err(end) => Err(end),
+    }
+}

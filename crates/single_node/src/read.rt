@@ -1,0 +1,52 @@
+ghost use Rattle.std.specs.Prelude.{◌≡◌, ◌≤◌, ℕ, length, IfOk, IfErr};
+ghost use Rattle.file_tree.specs.Tree.{Tree};
+ghost use Rattle.file_tree.specs.Apply.{read_reply, walk};
+ghost use Rattle.gfs2_layout.specs.Area.{IsArea};
+ghost use Rattle.shared_disk.specs.Disk.{IsIdle};
+ghost use Rattle.single_node.specs.Ends.{EndHasCause, IfNotRead};
+ghost use Rattle.single_node.specs.Flat.{IsFlat, HasFlatRoot, IsBlockSize, stuffed_part};
+
+use crate::RunEnd;
+use crate::answer::{address_of, behind_dinode, read_file};
+use file_tree::{Path, Reply};
+use shared_disk::SharedDisk;
+use std::alloc::Global;
+
+/// Answers a read at the root or at a name in it. `root` is the root's block, and `block` has room for one
+/// more. It reads at most that one, and finds the record without copying.
+pub(crate) fn read_call<D: SharedDisk>(
+    alloc: Global,
+    disk: &mut D,
+    root: &[u8],
+    block: &mut [u8],
+    path: &Path,
+    at: u64,
+    count: u32,
+) -> Result<Reply, RunEnd>
+    requires idle { IsIdle (D.state disk.old) }
+    requires size { length block.old ≡ (D.state disk.old).size }
+    requires root_size { length root.now ≡ (D.state disk.old).size }
+    requires some { IsBlockSize (D.state disk.old).size }
+    requires area { IsArea (stuffed_part root.now) }
+    requires plain { length path.now ≤ 1 }
+    ensures reply { IfOk result (λ reply. (tree : Tree) → IsFlat (D.state disk.old) tree → HasFlatRoot (D.state disk.old) root.now
+        → reply ≡ read_reply (walk tree path.now) at count) }
+    ensures other { IfErr result (λ end. IfNotRead end (λ _. (tree : Tree) → IsFlat (D.state disk.old) tree
+        → HasFlatRoot (D.state disk.old) root.now → ⊥)) }
+    ensures same { D.state disk.new ≡ D.state disk.old }
+    ensures cause { IfErr result (EndHasCause (D.faults disk.old) (D.faults disk.new)) }
+    ensures later { (j : ℕ) → D.faults disk.old j ≤ D.faults disk.new j }
+{
+    let [name, ..] = path.names() else {
+        return Ok(Reply::IsDir);
+    };
+    let name = name.bytes();
+    let area = behind_dinode(root);
+    let Some(address) = address_of(area, name) else {
+        return Ok(Reply::NotFound);
+    };
+    match read_file(alloc, disk, block, address, at, count) {
+        Ok(content) => Ok(Reply::Bytes(content)),
+        Err(end) => Err(end),
+    }
+}
