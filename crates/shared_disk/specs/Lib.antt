@@ -1,2 +1,7 @@
 pub mod Disk
 pub mod Causes
+pub mod Flights
+pub mod Blocks
+pub mod Settling
+pub mod Outcomes
+pub mod Nodes

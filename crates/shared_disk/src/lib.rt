@@ -2,6 +2,9 @@
 #![tactic(auto)]
 
 mod disk;
+mod flights;
+mod nodes;
+mod outcomes;
 mod reads;
 
 pub use disk::{DiskError, Settle, SharedDisk};

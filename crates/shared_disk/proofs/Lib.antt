@@ -1,0 +1,4 @@
+pub mod FlightLaws
+pub mod BlockLaws
+pub mod SettleLaws
+pub mod NodeLaws
