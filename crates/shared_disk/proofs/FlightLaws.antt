@@ -143,12 +143,12 @@ not_below_from slots middle block e rising within high =
         subst P at (omega arith)
       ]
 
--- a slot that was filled, and has come to its place
-pub put_in_place : (slots : List Slot) (place used : ℕ) (x : Slot) (f : Flight) (d : Slot) → f ≡ flight_in x → used < length slots → place ≤ length (take used slots) → AreRising (flights_in (take used slots)) → AreBelow (take used slots) place f.block → AreNotBelow (take used slots) place f.block → flight_to (flights_in (take used slots)) f.block ≡ None → flights_in (take place (set slots used x) ++ get_or (set slots used x) used d ∷ drop place (take used (set slots used x))) ≡ with_flight (flights_in (take used slots)) f
-put_in_place slots place used x f d is room within rising below above free =
+-- the slot past the front was filled, and has come to its place
+pub put_in_place : (slots : List Slot) (place used : ℕ) (f : Flight) (d : Slot) → f ≡ flight_in (get_or slots used d) → place ≤ length (take used slots) → used < length slots → AreRising (flights_in (take used slots)) → AreBelow (take used slots) place f.block → AreNotBelow (take used slots) place f.block → flight_to (flights_in (take used slots)) f.block ≡ None → flights_in (take place slots ++ get_or slots used d ∷ drop place (take used slots)) ≡ with_flight (flights_in (take used slots)) f
+put_in_place slots place used f d is within room rising below above free =
     let front = take used slots in
     let size : length front ≡ used = length-take-le used slots (omega arith) in
-    let shorter : take place (set slots used x) ≡ take place front = take-set-le place slots used x (omega arith) ∙ sym (take-take place used slots (omega arith)) in
+    let shorter : take place slots ≡ take place front = sym (take-take place used slots (omega arith)) in
     let other : (k : ℕ) (e : Slot) → place ≤ k → k < length front → f.block < (get_or front k e).block =
     λ k e from h.
       let least = above place e (omega arith) (omega arith) in
@@ -160,7 +160,10 @@ put_in_place slots place used x f d is room within rising below above free =
         let P : ℕ → Type 0 = λ i. f.block < (get_or front i e).block in
         subst P at (strictly f.block (get_or front place e).block least apart)
       ] in
-    rw (shorter, get_or-set_same slots used x d room, take-set-le used slots used x (omega arith), map-append flight_in (take place front) (x ∷ drop place front), ← is) (sym (with_flight-at front place f below other))
+    ap (λ (l : List Slot). flights_in (l ++ get_or slots used d ∷ drop place front)) shorter
+    ∙ map-append flight_in (take place front) (get_or slots used d ∷ drop place front)
+    ∙ ap (λ (x : Flight). flights_in (take place front) ++ x ∷ flights_in (drop place front)) (sym is)
+    ∙ sym (with_flight-at front place f below other)
 
 pub other_block : (slots : List Slot) (place block : ℕ) (e d : Slot) → place < length slots → (get_or slots place e).block ≢ block → (get_or slots place d).block ≢ block
 other_block slots place block e d within other =
@@ -168,3 +171,8 @@ other_block slots place block e d within other =
 
 pub same_block : (slots : List Slot) (place block : ℕ) (e d : Slot) → place < length slots → (get_or slots place e).block ≡ block → (get_or slots place d).block ≡ block
 same_block slots place block e d within same = ap (λ (s : Slot). s.block) (get_or_default slots place d e within) ∙ same
+
+-- a slot, where there is one
+pub some_slot : (slots : List Slot) → 0 < length slots → Slot
+some_slot [] h = absurd (omega arith)
+some_slot (s ∷ ss) h = s

@@ -2,3 +2,4 @@ pub mod FlightLaws
 pub mod BlockLaws
 pub mod SettleLaws
 pub mod NodeLaws
+pub mod OperationLaws

@@ -5,3 +5,4 @@ pub mod Blocks
 pub mod Settling
 pub mod Outcomes
 pub mod Nodes
+pub mod Operations

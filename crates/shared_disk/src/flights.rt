@@ -1,6 +1,6 @@
-ghost use Rattle.std.specs.Prelude.{◌≡◌, ◌+◌, ◌-◌, ◌<◌, ◌≤◌, ℕ, ◌++◌, ◌∷◌, length, take, drop, slice_set, slice_index_or, IfOk, Option, None, is_some, unwrap_or};
+ghost use Rattle.std.specs.Prelude.{◌≡◌, ◌+◌, ◌-◌, ◌<◌, ◌≤◌, ℕ, [], ◌++◌, ◌∷◌, length, take, drop, slice_set, slice_index_or, IfOk, Option, None, is_some, unwrap_or};
 ghost use Rattle.shared_disk.specs.Disk.{flight_to, with_flight, AreRising};
-ghost use Rattle.shared_disk.specs.Flights.{flights_in, AreSized, AreBelow, AreNotBelow};
+ghost use Rattle.shared_disk.specs.Flights.{flight_in, flights_in, AreSized, AreBelow, AreNotBelow};
 
 use std::alloc::{AllocError, Global};
 
@@ -69,6 +69,20 @@ fn into_order(slots: &mut [Slot], place: usize, last: usize)
     slots[place..last + 1].rotate_right(1);
 }
 
+/// Fills the slot at a place, the last of those that are filled.
+pub fn fill_slot(slots: &mut [Slot], place: usize, block: u64, bytes: &[u8])
+    requires room { place < length slots.old }
+    requires sizes { AreSized (length bytes.now) slots.old }
+    ensures flights { flights_in (take (place + 1) slots.new) ≡ flights_in (take place slots.old) ++ record { block = block; bytes = bytes.now } ∷ [] }
+    ensures front { take place slots.new ≡ take place slots.old }
+    ensures last { (d : _) → flight_in (slice_index_or slots.new place d) ≡ record { block = block; bytes = bytes.now } }
+    ensures sizes { AreSized (length bytes.now) slots.new }
+{
+    let slot = &mut slots[place];
+    slot.block = block;
+    slot.bytes.copy_from_slice(bytes);
+}
+
 /// Puts a write in flight into the first spare slot, and this slot into its place.
 pub fn put_flight(slots: &mut [Slot], used: usize, block: u64, bytes: &[u8])
     requires room { used < length slots.old }
@@ -79,8 +93,6 @@ pub fn put_flight(slots: &mut [Slot], used: usize, block: u64, bytes: &[u8])
     ensures sizes { AreSized (length bytes.now) slots.new }
 {
     let place = place_of(&slots[..used], block);
-    let slot = &mut slots[used];
-    slot.block = block;
-    slot.bytes.copy_from_slice(bytes);
+    fill_slot(slots, used, block, bytes);
     into_order(slots, place, used);
 }

@@ -4,6 +4,7 @@
 mod disk;
 mod flights;
 mod nodes;
+mod operations;
 mod outcomes;
 mod reads;
 
