@@ -3,3 +3,4 @@ pub mod BlockLaws
 pub mod SettleLaws
 pub mod NodeLaws
 pub mod OperationLaws
+pub mod StateLaws

@@ -6,3 +6,5 @@ pub mod Settling
 pub mod Outcomes
 pub mod Nodes
 pub mod Operations
+pub mod Memory
+pub mod Files

@@ -1,6 +1,7 @@
 -- What a disk keeps for its nodes.
-use Rattle.std.specs.Prelude.{ℕ, ◌≡◌, ◌<◌, ◌≤◌, Bool, false, List, [], length, map, take, slice_index, slice_index_or, slice_set}
+use Rattle.std.specs.Prelude.{ℕ, ◌≡◌, ◌<◌, ◌≤◌, Bool, false, List, [], length, map, take, replicate, slice_index, slice_index_or, slice_set}
 use Rattle.std.specs.List.{AllByRecursion}
+use Rattle.fault_counts.specs.Causes.{raised_once}
 use Rattle.shared_disk.specs.Disk.{DiskState, Flight, AreFlights}
 use Rattle.shared_disk.specs.Flights.{flights_in, AreSized}
 use Rattle.shared_disk.specs.declared.nodes.Queue.{Queue}
@@ -30,6 +31,20 @@ disk_of tells block_at n = record {
   in_flight = λ node. flights_of n.flights node;
   is_fenced = λ node. slice_index_or n.fenced node false;
 }
+
+-- nothing is in flight, no node is fenced, and nothing has failed
+abbrev pub fresh : ℕ → ℕ → NodeStates
+fresh count size = record { count = count; size = size; flights = replicate 9 []; fenced = replicate 9 false; faults = replicate 9 0 }
+
+abbrev pub with_flights : NodeStates → ℕ → List Flight → NodeStates
+with_flights n node fs = record n { flights = slice_set n.flights node fs }
+
+abbrev pub with_fence : NodeStates → ℕ → Bool → NodeStates
+with_fence n node is_fenced = record n { fenced = slice_set n.fenced node is_fenced }
+
+-- one more call that is counted for the node has failed
+abbrev pub with_fault : NodeStates → ℕ → NodeStates
+with_fault n node = record n { faults = slice_set n.faults node (raised_once (faults_of n node)) }
 
 -- the writes in flight that a node's slots hold
 abbrev pub queued : Queue → List Flight

@@ -1,10 +1,8 @@
-ghost use Rattle.std.specs.Prelude.{◌≡◌, ◌+◌, ◌<◌, ◌≤◌, ℕ, [], false, length, replicate, slice_index, slice_index_or, slice_set, take, IfOk, Result, None, Bool, List, true, is_some, unwrap_or};
+ghost use Rattle.std.specs.Prelude.{◌≡◌, ◌<◌, ◌≤◌, [], false, length, slice_index_or, IfOk, None, is_some, unwrap_or};
 ghost use Rattle.std.specs.List.{AllByRecursion};
-ghost use Rattle.fault_counts.specs.Causes.{raised_once};
-ghost use Rattle.shared_disk.specs.Disk.{Flight, flight_to, with_flight, AreFlights, after_write, after_barrier, after_fence, after_admit, settled};
-ghost use Rattle.shared_disk.specs.Causes.{MayFail};
+ghost use Rattle.shared_disk.specs.Disk.{flight_to, with_flight};
 ghost use Rattle.shared_disk.specs.Flights.{flights_in, AreSized};
-ghost use Rattle.shared_disk.specs.Nodes.{NodeStates, AreNodes, IsQueue, queued, disk_of, flights_of, faults_of};
+ghost use Rattle.shared_disk.specs.Nodes.{NodeStates, AreNodes, IsQueue, queued, flights_of, faults_of, fresh, with_flights, with_fence, with_fault};
 
 use crate::DiskError;
 use crate::flights::{Slot, copy_flight, make_slots, put_flight};
@@ -70,7 +68,7 @@ impl Model for Nodes {
 
 impl Nodes {
     pub fn new(alloc: Global, count: u64, size: u32) -> Result<Nodes, AllocError>
-        ensures { IfOk result (λ n. n ≡ record { count = count; size = size; flights = replicate 9 []; fenced = replicate 9 false; faults = replicate 9 0 }) }
+        ensures { IfOk result (λ n. n ≡ fresh count size) }
     {
         Ok(Nodes {
             count,
@@ -128,7 +126,7 @@ impl Nodes {
         requires size { length bytes.now ≡ self.old.size }
         requires free { flight_to (flights_of self.old.flights node) block ≡ None }
         requires room { length (flights_of self.old.flights node) < 512 }
-        ensures { self.new ≡ record self.old { flights = slice_set self.old.flights node (with_flight (flights_of self.old.flights node) (record { block = block; bytes = bytes.now })) } }
+        ensures { self.new ≡ with_flights self.old node (with_flight (flights_of self.old.flights node) (record { block = block; bytes = bytes.now })) }
     {
         let queue = &mut self.queues[node as usize];
         put_flight(&mut queue.slots, queue.used, block, bytes);
@@ -140,6 +138,7 @@ impl Nodes {
         requires { node ≤ 8 }
         ensures flights { flights_in result.now ≡ flights_of self.now.flights node }
         ensures sizes { AreSized self.now.size result.now }
+        ensures few { length result.now ≤ 512 }
         ensures sound { AreNodes self.now }
     {
         let queue = &self.queues[node as usize];
@@ -149,7 +148,7 @@ impl Nodes {
     /// Lets go the node's writes in flight.
     pub fn clear(&mut self, node: u8)
         requires { node ≤ 8 }
-        ensures { self.new ≡ record self.old { flights = slice_set self.old.flights node [] } }
+        ensures { self.new ≡ with_flights self.old node [] }
     {
         self.queues[node as usize].used = 0;
     }
@@ -158,7 +157,7 @@ impl Nodes {
     pub fn set_fenced(&mut self, node: u8, fenced: bool)
         requires node { node ≤ 8 }
         requires not_zero { 1 ≤ node }
-        ensures { self.new ≡ record self.old { fenced = slice_set self.old.fenced node fenced } }
+        ensures { self.new ≡ with_fence self.old node fenced }
     {
         self.fenced[node as usize] = fenced;
     }
@@ -168,7 +167,8 @@ impl Nodes {
         requires { node ≤ 8 }
         ensures result { result ≡ DiskError.Failed }
         ensures sound { AreNodes self.old }
-        ensures value { self.new ≡ record self.old { faults = slice_set self.old.faults node (raised_once (faults_of self.old node)) } }
+        ensures later { faults_of self.old node ≤ faults_of self.new node }
+        ensures value { self.new ≡ with_fault self.old node }
     {
         self.faults[node as usize] = raised(self.faults[node as usize]);
         DiskError::Failed
