@@ -1,9 +1,9 @@
 -- One block that is put into a row of blocks.
-use Rattle.std.proofs.Common.{◌≡◌, ◌≢◌, ℕ, ◌+◌, ◌-◌, ◌*◌, ◌/◌, ◌<◌, ◌≤◌, List, ◌++◌, length, take, drop, refl, sym, ap, ◌∙◌, inl, inr, subst, arith, suc, add-one}
+use Rattle.std.proofs.Common.{◌≡◌, ◌≢◌, ℕ, ◌+◌, ◌-◌, ◌*◌, ◌/◌, ◌%◌, ◌<◌, ◌≤◌, List, ◌++◌, length, take, drop, refl, sym, ap, ◌∙◌, inl, inr, subst, arith, suc, add-one}
 use Rattle.std.proofs.lemmas.List.{take_at, drop_at, take-append-le, drop-append-le, take-append-drop, length-drop, length-take-le}
 use Rattle.std.proofs.lemmas.Slice.{drop-put_mid}
 use Rattle.std.proofs.lemmas.Bool.{cases_lt}
-use Rattle.std.proofs.Math.Nat.{mul-le-mul_right, div-mul-le_self}
+use Rattle.std.proofs.Math.Nat.{mul-le-mul_right, div-mul-le_self, mod-eq-sub-div-mul}
 use borrow.Rule.Slice.PartMut.{put_mid, post_of}
 use Rattle.shared_disk.specs.Blocks.{block_in}
 use Rattle.shared_disk.specs.Disk.{with_value}
@@ -62,3 +62,7 @@ pub block_length : (k size : ℕ) (row : List ℕ) → k < length row / size →
 block_length k size row below =
     let within = block_within k size (length row) below in
     length-take-le size (drop (k * size) row) (omega (arith, length-drop (k * size) row))
+
+-- whole blocks fill the row
+pub whole_blocks : (total size : ℕ) → 1 ≤ size → total % size ≡ 0 → total / size * size ≡ total
+whole_blocks total size some whole = omega (arith, mod-eq-sub-div-mul total size, div-mul-le_self total size)

@@ -63,6 +63,10 @@ pub rising_tail : (f : Flight) (fs : List Flight) → AreRising (f ∷ fs) → A
 rising_tail f [] h = tt
 rising_tail f (g ∷ gs) h = h.1
 
+pub rising_cons : (f : Flight) (fs : List Flight) → AllByRecursion (λ g. f.block < g.block) fs → AreRising fs → AreRising (f ∷ fs)
+rising_cons f [] above rising = tt
+rising_cons f (g ∷ gs) above rising = (above.0, rising)
+
 pub rises : (slots : List Slot) (i j : ℕ) (d : Slot) → AreRising (flights_in slots) → i < j → j < length slots → (get_or slots i d).block < (get_or slots j d).block
 rises [] i j d h order within = absurd (omega arith)
 rises (s ∷ ss) i zero d h order within = absurd (omega arith)

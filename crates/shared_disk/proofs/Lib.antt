@@ -4,3 +4,4 @@ pub mod SettleLaws
 pub mod NodeLaws
 pub mod OperationLaws
 pub mod StateLaws
+pub mod FileLaws

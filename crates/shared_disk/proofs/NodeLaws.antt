@@ -9,7 +9,7 @@ use Rattle.shared_disk.specs.Disk.{Flight, flight_to, with_flight, AreRising, Ar
 use Rattle.shared_disk.specs.Flights.{flight_in, flights_in}
 use Rattle.shared_disk.specs.Nodes.{NodeStates, AreNodes, IsQueue, queued, flights_of}
 use Rattle.shared_disk.specs.declared.nodes.Queue.{Queue}
-use Rattle.shared_disk.proofs.FlightLaws.{rising_head, rising_tail, strictly, all_weaken}
+use Rattle.shared_disk.proofs.FlightLaws.{rising_head, rising_tail, rising_cons, strictly, all_weaken}
 
 pub queues_empty : (size n : ℕ) (qs : List Queue) → length qs ≡ n → AllByRecursion (λ q. IsQueue size q × (queued q ≡ [])) qs → map queued qs ≡ replicate n []
 queues_empty size zero [] e h = refl
@@ -50,10 +50,6 @@ nodes_with n node fs sound within new = record {
 -- the flights that a node's queue holds
 pub queue_at : (qs : List Queue) (node : ℕ) (q : Queue) → node < length qs → q ≡ get_or qs node q → flights_of (map queued qs) node ≡ queued q
 queue_at qs node q within is = get_or-map queued qs node q [] within ∙ ap queued (sym is)
-
-pub rising_cons : (f : Flight) (fs : List Flight) → AllByRecursion (λ g. f.block < g.block) fs → AreRising fs → AreRising (f ∷ fs)
-rising_cons f [] above rising = tt
-rising_cons f (g ∷ gs) above rising = (above.0, rising)
 
 some_none : (bytes : List ℕ) → Some bytes ≡ None → ⊥
 some_none bytes e = cc

@@ -12,7 +12,13 @@ use Rattle.std.proofs.lemmas.List.{take_rest}
 use Rattle.shared_disk.specs.Flights.{flight_in, flights_in}
 use Rattle.shared_disk.specs.Outcomes.{AreOfSize}
 use Rattle.shared_disk.specs.declared.flights.Slot.{Slot}
-use Rattle.shared_disk.proofs.FlightLaws.{equal, not_equal, rising_head, rising_tail}
+use Rattle.shared_disk.specs.declared.disk.Settle.TheVariants.{Old as SettleOld, New as SettleNew, Torn}
+use Rattle.shared_disk.specs.declared.outcomes.Outcome.TheVariants.{Old, New, Bytes}
+use Rattle.shared_disk.specs.Disk.{DiskState, IsOutcome}
+use Rattle.shared_disk.specs.Operations.{as_in}
+use Rattle.std.proofs.Common.{◌+◌, ◌++◌}
+use Rattle.std.proofs.lemmas.List.{length-append, length-take, length-drop}
+use Rattle.shared_disk.proofs.FlightLaws.{equal, not_equal, rising_head, rising_tail, rising_cons, all_weaken}
 
 pub not_to : (block : ℕ) (fs : List Flight) → AllByRecursion (λ g. block < g.block) fs → flight_to fs block ≡ None
 not_to block [] h = refl
@@ -91,3 +97,55 @@ settle_loop order os os' g h end (x ∷ xs) first some rising is left put same k
 pub outcomes_rest : (size : ℕ) (os os' : List Outcome) → os' ≡ drop 1 os → AreOfSize size os → AreOfSize size os'
 outcomes_rest size [] os' is h = let P : List Outcome → Type 0 = λ l. AreOfSize size l in subst P (sym is) tt
 outcomes_rest size (o ∷ os) os' is h = let P : List Outcome → Type 0 = λ l. AreOfSize size l in subst P (sym is) h.1
+
+pub became_rising : (order : Settle) (os : List Outcome) (g : ℕ → List ℕ) (fs : List Flight) → AreRising fs → AreRising (became order os g fs)
+became_rising order os g [] h = tt
+became_rising order os g (f ∷ fs) h =
+    rising_cons (record { block = f.block; bytes = fate order os (g f.block) f.bytes }) (became order (drop 1 os) g fs) (became_above order (drop 1 os) g f.block fs (rising_head f fs h)) (became_rising order (drop 1 os) g fs (rising_tail f fs h))
+
+past_first : (g : ℕ → List ℕ) (f : Flight) (fs bs : List Flight) → AllByRecursion (λ b. f.block < b.block) bs → AllByRecursion (λ b. written g fs b.block ≡ b.bytes) bs → AllByRecursion (λ b. written g (f ∷ fs) b.block ≡ b.bytes) bs
+past_first g f fs [] above h = tt
+past_first g f fs (b ∷ bs) above h = (rw (not_equal f.block b.block (λ e. omega (arith, above.0, e))) h.0, past_first g f fs bs above.1 h.1)
+
+-- each write stands in its block
+pub written_each : (g : ℕ → List ℕ) (bs : List Flight) → AreRising bs → AllByRecursion (λ b. written g bs b.block ≡ b.bytes) bs
+written_each g [] h = tt
+written_each g (b ∷ bs) h =
+    (rw (equal b.block b.block refl) refl, past_first g b bs bs (rising_head b bs h) (written_each g bs (rising_tail b bs h)))
+
+as_in-became : (order : Settle) (os : List Outcome) (g h : ℕ → List ℕ) (fs : List Flight) → AllByRecursion (λ b. h b.block ≡ b.bytes) (became order os g fs) → map (as_in h) fs ≡ became order os g fs
+as_in-became order os g h [] each = refl
+as_in-became order os g h (f ∷ fs) each = rw (each.0, as_in-became order (drop 1 os) g h fs each.1) refl
+
+-- what the writes became is what stands in their blocks
+pub settled_flights : (order : Settle) (os : List Outcome) (g h : ℕ → List ℕ) (fs : List Flight) → AreRising fs → ((k : ℕ) → h k ≡ written g (became order os g fs) k) → map (as_in h) fs ≡ became order os g fs
+settled_flights order os g h fs rising is =
+    let bs = became order os g fs in
+    as_in-became order os g h fs (all_weaken (λ (b : Flight). written g bs b.block ≡ b.bytes) (λ (b : Flight). h b.block ≡ b.bytes) (λ b e. is b.block ∙ e) bs (written_each g bs (became_rising order os g fs rising)))
+
+torn_length : (count size : ℕ) (old new : List ℕ) → length old ≡ size → length new ≡ size → length (take count new ++ drop count old) ≡ size
+torn_length count size old new was is = omega (arith, length-append (take count new) (drop count old), length-take count new, length-drop count old)
+
+fate_length : (order : Settle) (os : List Outcome) (size : ℕ) (old new : List ℕ) → AreOfSize size os → length old ≡ size → length new ≡ size → length (fate order os old new) ≡ size
+fate_length SettleOld [] size old new sizes was is = was
+fate_length SettleNew [] size old new sizes was is = is
+fate_length (Torn count) [] size old new sizes was is = torn_length count size old new was is
+fate_length order (Old ∷ os) size old new sizes was is = was
+fate_length order (New ∷ os) size old new sizes was is = is
+fate_length order (Bytes bytes ∷ os) size old new sizes was is = sizes.0
+
+became_places : (order : Settle) (os : List Outcome) (g : ℕ → List ℕ) (fs : List Flight) → map (λ f. f.block) (became order os g fs) ≡ map (λ f. f.block) fs
+became_places order os g [] = refl
+became_places order os g (f ∷ fs) = ap (λ (l : List ℕ). f.block ∷ l) (became_places order (drop 1 os) g fs)
+
+became_sizes : (order : Settle) (os : List Outcome) (g : ℕ → List ℕ) (count size : ℕ) (fs : List Flight) → AreOfSize size os → ((k : ℕ) → k < count → length (g k) ≡ size) → AllByRecursion (λ f. f.block < count) fs → AllByRecursion (λ f. length f.bytes ≡ size) fs → AllByRecursion (λ f. length f.bytes ≡ size) (became order os g fs)
+became_sizes order os g count size [] outcomes blocks within sizes = tt
+became_sizes order os g count size (f ∷ fs) outcomes blocks within sizes =
+    (fate_length order os size (g f.block) f.bytes outcomes (blocks f.block within.0) sizes.0, became_sizes order (drop 1 os) g count size fs (outcomes_rest size os (drop 1 os) refl outcomes) blocks within.1 sizes.1)
+
+-- each write in flight becomes a whole block in its place
+pub became_outcome : (order : Settle) (os : List Outcome) (s : DiskState) (node : ℕ) → AreOfSize s.size os → ((k : ℕ) → k < s.count → length (s.block_at k) ≡ s.size) → AreFlights s.count s.size (s.in_flight node) → IsOutcome s node (became order os s.block_at (s.in_flight node))
+became_outcome order os s node outcomes blocks flights = record {
+  places = became_places order os s.block_at (s.in_flight node);
+  sizes = became_sizes order os s.block_at s.count s.size (s.in_flight node) outcomes blocks flights.within flights.sizes;
+}

@@ -3,8 +3,10 @@ use Rattle.std.specs.Prelude.{ℕ, ◌≡◌, ◌==◌, ◌*◌, ◌/◌, ◌<�
 use Rattle.std.specs.List.{list_any}
 use Rattle.fault_counts.specs.Causes.{raised_once}
 use Rattle.shared_disk.specs.Blocks.{block_in}
-use Rattle.shared_disk.specs.Disk.{DiskState, Operation}
-use Rattle.shared_disk.specs.Nodes.{NodeStates, disk_of}
+use Rattle.shared_disk.specs.Disk.{DiskState, Flight, Operation}
+use Rattle.shared_disk.specs.Nodes.{NodeStates, disk_of, flights_of}
+use Rattle.shared_disk.specs.Outcomes.{became}
+use Rattle.shared_disk.specs.declared.disk.Settle.{Settle}
 use Rattle.shared_disk.specs.declared.disk.DiskError.{DiskError}
 use Rattle.shared_disk.specs.declared.disk.DiskError.TheVariants.{Failed, Fenced}
 use Rattle.shared_disk.specs.declared.outcomes.Outcome.{Outcome}
@@ -22,6 +24,10 @@ pub record MemoryDisk : Type 0 where
 
 abbrev pub memory_state : MemoryDisk → DiskState
 memory_state d = disk_of true (block_in d.nodes.size d.bytes) d.nodes
+
+-- what the writes in flight of a node become at its fence
+abbrev pub fence_makes : MemoryDisk → ℕ → Settle → List Flight
+fence_makes d node order = became order d.outcomes (block_in d.nodes.size d.bytes) (flights_of d.nodes.flights node)
 
 -- the next call is one of those that fail
 abbrev pub fails_next : MemoryDisk → Bool

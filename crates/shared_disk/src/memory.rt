@@ -4,10 +4,10 @@ ghost use Rattle.fault_counts.specs.Causes.{raised_once};
 ghost use Rattle.shared_disk.specs.Disk.{Write, Barrier, Fence, IsIdle, with_flight, written, IsOutcome, Gains, read_gives, flight_to, after_write, after_barrier, after_fence, after_admit};
 ghost use Rattle.shared_disk.specs.Causes.{MayFail};
 ghost use Rattle.shared_disk.specs.Blocks.{block_in};
-ghost use Rattle.shared_disk.specs.Nodes.{AreNodes, faults_of, flights_of, fresh, with_flights, with_fence};
-ghost use Rattle.shared_disk.specs.Operations.{with_operation};
+ghost use Rattle.shared_disk.specs.Nodes.{AreNodes, disk_of, faults_of, flights_of, fresh, with_flights, with_fence};
+ghost use Rattle.shared_disk.specs.Operations.{IsKept, SameRoom, list_told, with_operation};
 ghost use Rattle.shared_disk.specs.Outcomes.{became, AreOfSize};
-ghost use Rattle.shared_disk.specs.Memory.{MemoryDisk, memory_state, answer, counted, CountsCall, TellsTheSame};
+ghost use Rattle.shared_disk.specs.Memory.{memory_state, fence_makes, answer, counted, CountsCall, TellsTheSame};
 
 use crate::nodes::Nodes;
 use crate::operations::{Operations, no_operations, note_barrier, note_fence, note_write};
@@ -98,6 +98,36 @@ fn copy_newest(nodes: &Nodes, row: &[u8], node: u8, block: u64, into: &mut [u8])
     if !nodes.copy(node, block, into) {
         copy_block(row, block, into);
     }
+}
+
+// Settles the node's writes in flight in the row, adds the fence to the list of operations, and
+// answers how many writes there were.
+fn settle_row(
+    nodes: &Nodes,
+    node: u8,
+    row: &mut [u8],
+    operations: &mut Operations,
+    outcomes: &[Outcome],
+    order: Settle,
+) -> usize
+    requires node { node ≤ 8 }
+    requires row { nodes.now.count ≡ length row.old / nodes.now.size }
+    requires kept { IsKept operations.old }
+    requires size { operations.old.size ≡ nodes.now.size }
+    requires outcomes { AreOfSize nodes.now.size outcomes.now }
+    ensures count { result ≡ length (flights_of nodes.now.flights node) }
+    ensures few { result ≤ 512 }
+    ensures blocks { (k : ℕ) → block_in nodes.now.size row.new k ≡ written (block_in nodes.now.size row.old) (became order outcomes.now (block_in nodes.now.size row.old) (flights_of nodes.now.flights node)) k }
+    ensures told { list_told operations.new ≡ with_operation operations.old.limit (list_told operations.old) (Fence node (became order outcomes.now (block_in nodes.now.size row.old) (flights_of nodes.now.flights node))) }
+    ensures room { SameRoom operations.old operations.new }
+    ensures kept { IsKept operations.new }
+    ensures outcome { IsOutcome (disk_of true (block_in nodes.now.size row.old) nodes.now) node (became order outcomes.now (block_in nodes.now.size row.old) (flights_of nodes.now.flights node)) }
+{
+    let size = nodes.block_size() as usize;
+    let slots = nodes.in_flight(node);
+    settle_blocks(row, size, slots, outcomes, order);
+    note_fence(operations, node, row, size, slots);
+    slots.len()
 }
 
 impl MemDisk {
@@ -196,22 +226,18 @@ impl MemDisk {
     fn settle(&mut self, node: u8, order: Settle)
         requires node { node ≤ 8 }
         requires not_zero { 1 ≤ node }
-        ensures blocks { (k : ℕ) → block_in self.old.nodes.size self.new.bytes k ≡ written (block_in self.old.nodes.size self.old.bytes) (became order self.old.outcomes (block_in self.old.nodes.size self.old.bytes) (flights_of self.old.nodes.flights node)) k }
+        ensures outcome { IsOutcome (memory_state self.old) node (fence_makes self.old node order) }
+        ensures blocks { (k : ℕ) → block_in self.old.nodes.size self.new.bytes k ≡ written (block_in self.old.nodes.size self.old.bytes) (fence_makes self.old node order) k }
         ensures value { self.new ≡ record self.old {
           nodes = with_fence (with_flights self.old.nodes node []) node true;
           bytes = self.new.bytes;
           outcomes = drop (length (flights_of self.old.nodes.flights node)) self.old.outcomes;
-          list = with_operation self.old.recorded self.old.list (Fence node (became order self.old.outcomes (block_in self.old.nodes.size self.old.bytes) (flights_of self.old.nodes.flights node)));
+          list = with_operation self.old.recorded self.old.list (Fence node (fence_makes self.old node order));
         } }
-        ensures outcomes { AreOfSize self.old.nodes.size self.old.outcomes }
-        ensures sizes { (k : ℕ) → k < self.old.nodes.count → length (block_in self.old.nodes.size self.old.bytes k) ≡ self.old.nodes.size }
     {
-        let size = self.nodes.block_size() as usize;
-        let slots = self.nodes.in_flight(node);
         let left = &self.outcomes[self.settled..];
-        settle_blocks(&mut self.bytes, size, slots, left, order);
-        note_fence(&mut self.operations, node, &self.bytes, size, slots);
-        self.settled += slots.len().min(left.len());
+        let count = settle_row(&self.nodes, node, &mut self.bytes, &mut self.operations, left, order);
+        self.settled = (self.settled + count).min(self.outcomes.len());
         self.nodes.clear(node);
         self.nodes.set_fenced(node, true);
     }
@@ -322,8 +348,8 @@ impl SharedDisk for MemDisk {
         ensures call { CountsCall self.old self.new }
         ensures outcomes { OnOk result (self.new.outcomes ≡ drop (length (flights_of self.old.nodes.flights node)) self.old.outcomes) }
         ensures same_outcomes { OnErr result (self.new.outcomes ≡ self.old.outcomes) }
-        ensures settled { OnOk result (memory_state self.new ≡ after_fence (memory_state self.old) node (became order self.old.outcomes (memory_state self.old).block_at (flights_of self.old.nodes.flights node))) }
-        ensures list { OnOk result (self.new.list ≡ with_operation self.old.recorded self.old.list (Fence node (became order self.old.outcomes (memory_state self.old).block_at (flights_of self.old.nodes.flights node)))) }
+        ensures settled { OnOk result (memory_state self.new ≡ after_fence (memory_state self.old) node (fence_makes self.old node order)) }
+        ensures list { OnOk result (self.new.list ≡ with_operation self.old.recorded self.old.list (Fence node (fence_makes self.old node order))) }
     {
         self.begin(0)?;
         self.settle(node, order);
