@@ -48,13 +48,13 @@ pub block_put : (block size e : ℕ) (row new : List ℕ) → block < length row
 block_put block size e row new below is same k =
     let within = block_within block size (length row) below in
     elim (cases_lt k block) [
-      inl before ↦ rw (not_equal k block (λ at. omega (arith, at))) (put_before k block size e row new before (omega arith))
-    | inr here_on ↦ elim (cases_lt block k) [
-        inl after ↦ rw (not_equal k block (λ at. omega (arith, at))) (put_after k block size e row new after (omega arith) (omega arith) same)
-      | inr here ↦
-        let at : block ≡ k = omega arith in
-        let P : ℕ → Type 0 = λ i. block_in size (put_mid (block * size) e row new) i ≡ with_value (block_in size row) block new i in
-        subst P at (rw (equal block block refl) (put_same block size e row new (omega arith) is))
+      | inl before ↦ rw (not_equal k block (λ at. omega (arith, at))) (put_before k block size e row new before (omega arith))
+      | inr here_on ↦ elim (cases_lt block k) [
+        | inl after ↦ rw (not_equal k block (λ at. omega (arith, at))) (put_after k block size e row new after (omega arith) (omega arith) same)
+        | inr here ↦
+            let at : block ≡ k = omega arith in
+            let P : ℕ → Type 0 = λ i. block_in size (put_mid (block * size) e row new) i ≡ with_value (block_in size row) block new i in
+            subst P at (rw (equal block block refl) (put_same block size e row new (omega arith) is))
       ]
     ]
 

@@ -101,16 +101,16 @@ flight_to-found (s ∷ ss) block (suc place) d below within same =
 pub flight_to-absent : (slots : List Slot) (block place : ℕ) → AreRising (flights_in slots) → AreBelow slots place block → AreNotBelow slots place block → ((d : Slot) → place < length slots → (get_or slots place d).block ≢ block) → flight_to (flights_in slots) block ≡ None
 flight_to-absent slots block place rising below above other =
     flight_to-none slots block (λ k d within same.
-      elim (cases_lt k place) [
-        inl before ↦ omega (arith, below k d before)
+    elim (cases_lt k place) [
+      | inl before ↦ omega (arith, below k d before)
       | inr after ↦ elim (cases_lt place k) [
-          inl past ↦ omega (arith, rises slots place k d rising past within, above place d (omega arith) (omega arith))
+        | inl past ↦ omega (arith, rises slots place k d rising past within, above place d (omega arith) (omega arith))
         | inr here ↦
-          let at : k ≡ place = omega arith in
-          let P : ℕ → Type 0 = λ i. (get_or slots i d).block ≡ block in
-          other d (omega arith) (subst P at same)
-        ]
-      ])
+            let at : k ≡ place = omega arith in
+            let P : ℕ → Type 0 = λ i. (get_or slots i d).block ≡ block in
+            other d (omega arith) (subst P at same)
+      ]
+    ])
 
 pub strictly : (a b : ℕ) → a ≤ b → b ≢ a → a < b
 strictly a b h other = grind arith
@@ -131,26 +131,26 @@ with_flight-at (s ∷ ss) (suc place) new below above =
 pub below_after : (slots : List Slot) (middle block : ℕ) (e : Slot) → AreRising (flights_in slots) → middle < length slots → (get_or slots middle e).block < block → AreBelow slots (middle + 1) block
 below_after slots middle block e rising within low =
     λ k d h.
-      let same : (get_or slots middle e).block ≡ (get_or slots middle d).block = ap (λ (s : Slot). s.block) (get_or_default slots middle e d within) in
-      elim (cases_lt k middle) [
-        inl before ↦ omega (arith, rises slots k middle d rising before within)
+    let same : (get_or slots middle e).block ≡ (get_or slots middle d).block = ap (λ (s : Slot). s.block) (get_or_default slots middle e d within) in
+    elim (cases_lt k middle) [
+      | inl before ↦ omega (arith, rises slots k middle d rising before within)
       | inr after ↦
-        let at : middle ≡ k = omega arith in
-        let P : ℕ → Type 0 = λ i. (get_or slots i d).block < block in
-        subst P at (omega arith)
-      ]
+          let at : middle ≡ k = omega arith in
+          let P : ℕ → Type 0 = λ i. (get_or slots i d).block < block in
+          subst P at (omega arith)
+    ]
 
 pub not_below_from : (slots : List Slot) (middle block : ℕ) (e : Slot) → AreRising (flights_in slots) → middle < length slots → block ≤ (get_or slots middle e).block → AreNotBelow slots middle block
 not_below_from slots middle block e rising within high =
     λ k d from h.
-      let same : (get_or slots middle e).block ≡ (get_or slots middle d).block = ap (λ (s : Slot). s.block) (get_or_default slots middle e d within) in
-      elim (cases_lt middle k) [
-        inl after ↦ omega (arith, rises slots middle k d rising after h)
+    let same : (get_or slots middle e).block ≡ (get_or slots middle d).block = ap (λ (s : Slot). s.block) (get_or_default slots middle e d within) in
+    elim (cases_lt middle k) [
+      | inl after ↦ omega (arith, rises slots middle k d rising after h)
       | inr before ↦
-        let at : middle ≡ k = omega arith in
-        let P : ℕ → Type 0 = λ i. block ≤ (get_or slots i d).block in
-        subst P at (omega arith)
-      ]
+          let at : middle ≡ k = omega arith in
+          let P : ℕ → Type 0 = λ i. block ≤ (get_or slots i d).block in
+          subst P at (omega arith)
+    ]
 
 -- the slot past the front was filled, and has come to its place
 pub put_in_place : (slots : List Slot) (place used : ℕ) (f : Flight) (d : Slot) → f ≡ flight_in (get_or slots used d) → place ≤ length (take used slots) → used < length slots → AreRising (flights_in (take used slots)) → AreBelow (take used slots) place f.block → AreNotBelow (take used slots) place f.block → flight_to (flights_in (take used slots)) f.block ≡ None → flights_in (take place slots ++ get_or slots used d ∷ drop place (take used slots)) ≡ with_flight (flights_in (take used slots)) f
@@ -160,15 +160,15 @@ put_in_place slots place used f d is within room rising below above free =
     let shorter : take place slots ≡ take place front = sym (take-take place used slots (omega arith)) in
     let other : (k : ℕ) (e : Slot) → place ≤ k → k < length front → f.block < (get_or front k e).block =
     λ k e from h.
-      let least = above place e (omega arith) (omega arith) in
-      let apart : (get_or front place e).block ≢ f.block = λ same. none_some (flight_to (flights_in front) f.block) (get_or front place e).bytes.items free (flight_to-found front f.block place e below (omega arith) same) in
-      elim (cases_lt place k) [
-        inl after ↦ omega (arith, rises front place k e rising after h)
+    let least = above place e (omega arith) (omega arith) in
+    let apart : (get_or front place e).block ≢ f.block = λ same. none_some (flight_to (flights_in front) f.block) (get_or front place e).bytes.items free (flight_to-found front f.block place e below (omega arith) same) in
+    elim (cases_lt place k) [
+      | inl after ↦ omega (arith, rises front place k e rising after h)
       | inr here ↦
-        let at : place ≡ k = omega arith in
-        let P : ℕ → Type 0 = λ i. f.block < (get_or front i e).block in
-        subst P at (strictly f.block (get_or front place e).block least apart)
-      ] in
+          let at : place ≡ k = omega arith in
+          let P : ℕ → Type 0 = λ i. f.block < (get_or front i e).block in
+          subst P at (strictly f.block (get_or front place e).block least apart)
+    ] in
     ap (λ (l : List Slot). flights_in (l ++ get_or slots used d ∷ drop place front)) shorter
     ∙ map-append flight_in (take place front) (get_or slots used d ∷ drop place front)
     ∙ ap (λ (x : Flight). flights_in (take place front) ++ x ∷ flights_in (drop place front)) (sym is)

@@ -32,10 +32,10 @@ no_flights count size = record { rise = tt; within = tt; sizes = tt }
 pub flights_of-set : (P : List Flight → Type 0) (flights : List (List Flight)) (node : ℕ) (fs : List Flight) → node < length flights → P fs → ((k : ℕ) → P (flights_of flights k)) → (k : ℕ) → P (flights_of (set flights node fs) k)
 flights_of-set P flights node fs within new old k =
     elim (eqb_tells k node) [
-      inl here ↦
-      let Q : ℕ → Type 0 = λ i. P (get_or (set flights node fs) i []) in
-      subst Q (sym here.1) (subst P (sym (get_or-set_same flights node fs [] within)) new)
-    | inr there ↦ subst P (sym (get_or-set_other flights node k fs [] there.1)) (old k)
+      | inl here ↦
+          let Q : ℕ → Type 0 = λ i. P (get_or (set flights node fs) i []) in
+          subst Q (sym here.1) (subst P (sym (get_or-set_same flights node fs [] within)) new)
+      | inr there ↦ subst P (sym (get_or-set_other flights node k fs [] there.1)) (old k)
     ]
 
 pub nodes_with : (n : NodeStates) (node : ℕ) (fs : List Flight) → AreNodes n → node ≤ 8 → AreFlights n.count n.size fs → AreNodes (record n { flights = set n.flights node fs })
@@ -57,15 +57,15 @@ some_none bytes e = cc
 pub free_first : (f : Flight) (fs : List Flight) (block : ℕ) → flight_to (f ∷ fs) block ≡ None → f.block ≢ block
 free_first f fs block free same =
     elim (eqb_tells f.block block) [
-      inl here ↦ some_none f.bytes (rw here.0 at free)
-    | inr there ↦ there.1 same
+      | inl here ↦ some_none f.bytes (rw here.0 at free)
+      | inr there ↦ there.1 same
     ]
 
 pub free_rest : (f : Flight) (fs : List Flight) (block : ℕ) → flight_to (f ∷ fs) block ≡ None → flight_to fs block ≡ None
 free_rest f fs block free =
     elim (eqb_tells f.block block) [
-      inl here ↦ absurd (some_none f.bytes (rw here.0 at free))
-    | inr there ↦ rw there.0 at free
+      | inl here ↦ absurd (some_none f.bytes (rw here.0 at free))
+      | inr there ↦ rw there.0 at free
     ]
 
 pub all_with : (P : Flight → Type 0) (fs : List Flight) (new : Flight) → AllByRecursion P fs → P new → AllByRecursion P (with_flight fs new)
@@ -82,7 +82,7 @@ pub rising_with : (fs : List Flight) (new : Flight) → AreRising fs → flight_
 rising_with [] new h free = tt
 rising_with (f ∷ fs) new h free =
     rising_choice (ltb new.block f.block) f fs (with_flight fs new) new refl h (free_first f fs new.block free) (λ below.
-      rising_cons f (with_flight fs new) (all_with (λ (g : Flight). f.block < g.block) fs new (rising_head f fs h) below) (rising_with fs new (rising_tail f fs h) (free_rest f fs new.block free)))
+    rising_cons f (with_flight fs new) (all_with (λ (g : Flight). f.block < g.block) fs new (rising_head f fs h) below) (rising_with fs new (rising_tail f fs h) (free_rest f fs new.block free)))
 
 pub flights_with : (count size : ℕ) (fs : List Flight) (new : Flight) → AreFlights count size fs → flight_to fs new.block ≡ None → new.block < count → length new.bytes ≡ size → AreFlights count size (with_flight fs new)
 flights_with count size fs new h free within same = record {

@@ -31,11 +31,11 @@ written_same g h fs k e = ap (λ (b : List ℕ). unwrap_or (flight_to fs k) b) e
 pub written_first : (g : ℕ → List ℕ) (f : Flight) (fs : List Flight) (k : ℕ) → flight_to fs f.block ≡ None → written g (f ∷ fs) k ≡ written (with_value g f.block f.bytes) fs k
 written_first g f fs k apart =
     elim (eqb_tells k f.block) [
-      inl here ↦
-      let same : k ≡ f.block = here.1 in
-      let none : flight_to fs k ≡ None = let P : ℕ → Type 0 = λ i. flight_to fs i ≡ None in subst P (sym same) apart in
-      rw (here.0, equal f.block k (sym same), none) refl
-    | inr there ↦ rw (there.0, not_equal f.block k (λ e. there.1 (sym e))) refl
+      | inl here ↦
+          let same : k ≡ f.block = here.1 in
+          let none : flight_to fs k ≡ None = let P : ℕ → Type 0 = λ i. flight_to fs i ≡ None in subst P (sym same) apart in
+          rw (here.0, equal f.block k (sym same), none) refl
+      | inr there ↦ rw (there.0, not_equal f.block k (λ e. there.1 (sym e))) refl
     ]
 
 pub flights_tail : (count size : ℕ) (f : Flight) (fs : List Flight) → AreFlights count size (f ∷ fs) → AreFlights count size fs

@@ -12,10 +12,10 @@ use Rattle.shared_disk.specs.declared.disk.DiskError.{DiskError}
 pub set_at : {A : Type 0} (xs : List A) (node : ℕ) (x d : A) → node < length xs → (k : ℕ) → get_or (set xs node x) k d ≡ with_value (λ i. get_or xs i d) node x k
 set_at xs node x d within k =
     elim (eqb_tells k node) [
-      inl here ↦
-      let P : ℕ → Type 0 = λ i. get_or (set xs node x) i d ≡ x in
-      rw here.0 (subst P (sym here.1) (get_or-set_same xs node x d within))
-    | inr there ↦ rw there.0 (get_or-set_other xs node k x d there.1)
+      | inl here ↦
+          let P : ℕ → Type 0 = λ i. get_or (set xs node x) i d ≡ x in
+          rw here.0 (subst P (sym here.1) (get_or-set_same xs node x d within))
+      | inr there ↦ rw there.0 (get_or-set_other xs node k x d there.1)
     ]
 
 pub disk_with_flights : (tells : Bool) (f : ℕ → List ℕ) (n : NodeStates) (node : ℕ) (fs : List Flight) → node < length n.flights → disk_of tells f (with_flights n node fs) ≡ record (disk_of tells f n) { in_flight = with_value (λ i. flights_of n.flights i) node fs }

@@ -73,7 +73,13 @@ fn tear(file: &File, at: u64, new: &[u8], count: usize, scratch: &mut [u8]) -> i
 }
 
 // Settles a write in flight in the file as the order says.
-fn settle_flight(file: &File, size: u32, slot: &Slot, order: Settle, scratch: &mut [u8]) -> io::Result<()>
+fn settle_flight(
+    file: &File,
+    size: u32,
+    slot: &Slot,
+    order: Settle,
+    scratch: &mut [u8],
+) -> io::Result<()>
     requires within { slot.now.block * size < 2 ^ 64 }
     requires size { length slot.now.bytes.items ≡ size }
     requires scratch { length scratch.old ≡ size }
@@ -89,7 +95,13 @@ fn settle_flight(file: &File, size: u32, slot: &Slot, order: Settle, scratch: &m
 }
 
 // Settles each write in flight in the file as the order says.
-fn settle_flights(file: &File, size: u32, slots: &[Slot], order: Settle, scratch: &mut [u8]) -> io::Result<()>
+fn settle_flights(
+    file: &File,
+    size: u32,
+    slots: &[Slot],
+    order: Settle,
+    scratch: &mut [u8],
+) -> io::Result<()>
     requires within { AllByRecursion (λ s. s.block * size < 2 ^ 64) slots.now }
     requires sizes { AreSized size slots.now }
     requires scratch { length scratch.old ≡ size }

@@ -9,6 +9,8 @@ mod nodes;
 mod operations;
 mod outcomes;
 mod reads;
+#[cfg(test)]
+mod tests;
 
 pub use disk::{DiskError, Settle, SharedDisk};
 pub use file::{FileDisk, OpenError};

@@ -62,11 +62,11 @@ impl Model for MemDisk {
     } };
 
     ghost invariant = { λ d. (d.nodes.count ≡ length d.bytes.items / d.nodes.size)
-      × (d.nodes.count * d.nodes.size ≡ length d.bytes.items)
-      × (d.settled ≤ length d.outcomes.items)
-      × AreOfSize d.nodes.size (drop d.settled d.outcomes.items)
-      × IsKept d.operations
-      × (d.operations.size ≡ d.nodes.size) };
+        × (d.nodes.count * d.nodes.size ≡ length d.bytes.items)
+        × (d.settled ≤ length d.outcomes.items)
+        × AreOfSize d.nodes.size (drop d.settled d.outcomes.items)
+        × IsKept d.operations
+        × (d.operations.size ≡ d.nodes.size) };
 }
 
 // Counts a call, and answers whether it fails.
@@ -236,7 +236,14 @@ impl MemDisk {
         } }
     {
         let left = &self.outcomes[self.settled..];
-        let count = settle_row(&self.nodes, node, &mut self.bytes, &mut self.operations, left, order);
+        let count = settle_row(
+            &self.nodes,
+            node,
+            &mut self.bytes,
+            &mut self.operations,
+            left,
+            order,
+        );
         self.settled = (self.settled + count).min(self.outcomes.len());
         self.nodes.clear(node);
         self.nodes.set_fenced(node, true);

@@ -63,7 +63,7 @@ impl Model for Nodes {
     } };
 
     ghost invariant = { λ n. AllByRecursion (IsQueue n.size) n.queues.items
-      × AreNodes (record { count = n.count; size = n.size; flights = map queued n.queues.items; fenced = n.fenced; faults = n.faults }) };
+        × AreNodes (record { count = n.count; size = n.size; flights = map queued n.queues.items; fenced = n.fenced; faults = n.faults }) };
 }
 
 impl Nodes {

@@ -123,6 +123,8 @@ pub fn note_fence(operations: &mut Operations, node: u8, row: &[u8], size: usize
     }
     keep_blocks(&mut operations.slots, operations.used, row, size, slots);
     operations.used += slots.len();
-    operations.kept.push_reserved(Kept::Settled(node, slots.len()));
+    operations
+        .kept
+        .push_reserved(Kept::Settled(node, slots.len()));
     operations.entries += entries;
 }

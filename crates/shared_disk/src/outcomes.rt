@@ -100,7 +100,13 @@ pub fn put_blocks(row: &mut [u8], size: usize, slots: &[Slot])
 }
 
 /// Settles each write in flight over its old block in the row. At most one copy per write.
-pub fn settle_blocks(row: &mut [u8], size: usize, slots: &[Slot], outcomes: &[Outcome], order: Settle)
+pub fn settle_blocks(
+    row: &mut [u8],
+    size: usize,
+    slots: &[Slot],
+    outcomes: &[Outcome],
+    order: Settle,
+)
     requires flights { AreFlights (length row.old / size) size (flights_in slots.now) }
     requires outcomes { AreOfSize size outcomes.now }
     ensures { (k : ℕ) → block_in size row.new k ≡ written (block_in size row.old) (became order outcomes.now (block_in size row.old) (flights_in slots.now)) k }

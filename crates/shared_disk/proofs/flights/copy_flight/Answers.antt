@@ -11,8 +11,8 @@ absent c =
     let p = c.place_of-place.ensures in
     let none = flight_to-absent c.args.slots.now c.args.block c.place_of-place.result c.requires.rising p.below p.above in
     elim c.then-place-slots.branch [
-      then-place-slots-via-then-place-slots w ↦ none (λ d within. absurd (omega arith))
-    | then-place-slots-via-else-place-slots+then-slots-place w ↦ none (λ d within. other_block c.args.slots.now c.place_of-place.result c.args.block w.index-slots-place.result d within w.if-slots-place.true)
+      | then-place-slots-via-then-place-slots w ↦ none (λ d within. absurd (omega arith))
+      | then-place-slots-via-else-place-slots+then-slots-place w ↦ none (λ d within. other_block c.args.slots.now c.place_of-place.result c.args.block w.index-slots-place.result d within w.if-slots-place.true)
     ]
 
 pub returns-then-place-slots-clause-found : goal.returns-then-place-slots-clause-found

@@ -6,7 +6,6 @@ use Rattle.shared_disk.specs.declared.flights.Slot.{Slot}
 use Rattle.shared_disk.proofs.FlightLaws.{put_in_place, some_slot}
 use Rattle.shared_disk.proofs.flights.put_flight.Goals as goal
 
-
 -- the same over a front that stayed
 put_over : (front slots : List Slot) (place used : ℕ) (f : Flight) (d : Slot) → take used slots ≡ front → f ≡ flight_in (get_or slots used d) → place ≤ length front → used < length slots → AreRising (flights_in front) → AreBelow front place f.block → AreNotBelow front place f.block → flight_to (flights_in front) f.block ≡ None → flights_in (take place slots ++ get_or slots used d ∷ drop place (take used slots)) ≡ with_flight (flights_in front) f
 put_over front slots place used f d same is within room =

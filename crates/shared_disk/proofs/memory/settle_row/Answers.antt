@@ -23,9 +23,9 @@ returns-clause-told c =
     let settled : P n.size flights = subst (P n.size) held (subst Q e c.settle_blocks.ensures) in
     c.note_fence.ensures.told
     ∙ ap (λ (l : List Flight). with_operation c.args.operations.now.limit (list_told c.args.operations.now) (Fence c.args.node l)) (
-      ap (λ (size : ℕ). map (as_in (block_in size row')) (flights_in slots)) e
-      ∙ ap (λ (l : List Flight). map (as_in (block_in n.size row')) l) held
-      ∙ settled_flights c.args.order c.args.outcomes.now old (block_in n.size row') flights (c.in_flight-slots.ensures.sound.flights c.args.node).rise settled
+    ap (λ (size : ℕ). map (as_in (block_in size row')) (flights_in slots)) e
+    ∙ ap (λ (l : List Flight). map (as_in (block_in n.size row')) l) held
+    ∙ settled_flights c.args.order c.args.outcomes.now old (block_in n.size row') flights (c.in_flight-slots.ensures.sound.flights c.args.node).rise settled
     )
 
 pub returns-clause-outcome : goal.returns-clause-outcome

@@ -39,8 +39,8 @@ adds c =
       room = c.push_reserved.ensures.capacity;
       kept = c.push_reserved.ensures.items;
       flights = ap (λ (l : List Slot). flights_in (take (o.used + length c.args.slots.now) l)) kept
-      ∙ c.keep_blocks.ensures.flights
-      ∙ ap (λ (l : List Slot). flights_in (take o.used l) ++ became) c.deref_mut.ensures.value;
+          ∙ c.keep_blocks.ensures.flights
+          ∙ ap (λ (l : List Slot). flights_in (take o.used l) ++ became) c.deref_mut.ensures.value;
       used = ap (λ (n : ℕ). o.used + n) (sym many);
       takes = sym many;
       means = ap (λ (l : List Flight). Fence c.args.node l ∷ []) (take_all (length c.args.slots.now) became (omega arith));

@@ -37,8 +37,8 @@ adds c =
       room = c.push_reserved.ensures.capacity;
       kept = c.push_reserved.ensures.items;
       flights = ap (λ (l : List Slot). flights_in (take (o.used + 1) l)) kept
-      ∙ c.fill_slot.ensures.flights
-      ∙ ap (λ (l : List Slot). flights_in (take o.used l) ++ record { block = c.args.block; bytes = c.args.bytes.now } ∷ []) c.deref_mut.ensures.value;
+          ∙ c.fill_slot.ensures.flights
+          ∙ ap (λ (l : List Slot). flights_in (take o.used l) ++ record { block = c.args.block; bytes = c.args.bytes.now } ∷ []) c.deref_mut.ensures.value;
       used = refl;
       takes = refl;
       means = refl;

@@ -19,8 +19,8 @@ write_flights-requires c =
 
 pub returns-clause-ok : goal.returns-clause-ok
 returns-clause-ok c = (
-    ap file_state c.clear.ensures
-    ∙ disk_with_flights false (λ block. []) c.self.inside.nodes c.args.node [] (omega (arith, c.in_flight.ensures.sound.queues, c.requires.node))
-    ∙ ap (λ (n : NodeStates). after_barrier (file_state n) c.args.node) c.self.view_is,
-    tt,
-  )
+  ap file_state c.clear.ensures
+      ∙ disk_with_flights false (λ block. []) c.self.inside.nodes c.args.node [] (omega (arith, c.in_flight.ensures.sound.queues, c.requires.node))
+      ∙ ap (λ (n : NodeStates). after_barrier (file_state n) c.args.node) c.self.view_is,
+  tt,
+)

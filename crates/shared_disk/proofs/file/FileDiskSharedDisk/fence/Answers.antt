@@ -29,7 +29,7 @@ returns-clause-ok c =
       fs,
       is,
       ap file_state (c.set_fenced.ensures ∙ ap (λ (m : NodeStates). with_fence m c.args.node true) c.clear.ensures)
-      ∙ fence_state n c.args.node sound c.requires.node
-      ∙ ap (λ (m : NodeStates). after_fence (file_state m) c.args.node (flights_of m.flights c.args.node)) c.self.view_is,
+          ∙ fence_state n c.args.node sound c.requires.node
+          ∙ ap (λ (m : NodeStates). after_fence (file_state m) c.args.node (flights_of m.flights c.args.node)) c.self.view_is,
       tt,
     )
