@@ -1,0 +1,13 @@
+use Rattle.std.proofs.Common.{ℕ, ◌≡◌, ◌<◌, List, [], ◌∷◌, length, sym, ap, ◌∙◌, subst, arith}
+use Rattle.shared_disk.specs.Disk.{DiskState, Flight, flight_to, with_flight}
+use Rattle.shared_disk.proofs.tests.check_file.Goals as goal
+
+pub put-requires-2-clause-free : goal.put-requires-2-clause-free
+put-requires-2-clause-free g c =
+    let held = ap (λ (s : DiskState). s.in_flight 3) c.flush.ensures ∙ ap (λ (s : DiskState). s.in_flight 3) c.read_four-2.ensures ∙ ap (λ (s : DiskState). s.in_flight 3) c.read_four.ensures ∙ ap (λ (s : DiskState). s.in_flight 3) c.put.ensures ∙ c.in_ok-disk.ensures.idle.none_in_flight 3 in
+    ap (λ (fs : List Flight). flight_to fs 1) held
+
+pub put-requires-2-clause-room : goal.put-requires-2-clause-room
+put-requires-2-clause-room g c =
+    let held = ap (λ (s : DiskState). s.in_flight 3) c.flush.ensures ∙ ap (λ (s : DiskState). s.in_flight 3) c.read_four-2.ensures ∙ ap (λ (s : DiskState). s.in_flight 3) c.read_four.ensures ∙ ap (λ (s : DiskState). s.in_flight 3) c.put.ensures ∙ c.in_ok-disk.ensures.idle.none_in_flight 3 in
+    omega (arith, ap (λ (fs : List Flight). length fs) held)
