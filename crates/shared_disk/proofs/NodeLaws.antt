@@ -2,13 +2,15 @@
 use Rattle.std.proofs.Common.{◌≡◌, ◌≢◌, ℕ, zero, suc, ◌+◌, ◌<◌, ◌≤◌, Bool, true, false, cond, List, [], ◌∷◌, length, map, take, set, get_or, replicate, eqb, ltb, refl, sym, ap, ◌∙◌, inl, inr, subst, arith}
 use Rattle.std.specs.Prelude.{Option, None, Some}
 use Rattle.std.specs.List.{AllByRecursion}
-use Rattle.std.proofs.lemmas.List.{get_or-map, get_or-set_same, get_or-set_other, length-map, length-set, map-set, length-take-le}
+use Rattle.std.proofs.lemmas.List.{get_or-map, get_or-set_same, get_or-set_other, length-map, length-set, map-set, length-take-le, with_items_is}
 use Rattle.std.proofs.lemmas.Bool.{ltb-true, ltb-false}
 use Rattle.std.proofs.lemmas.Bool.Decides.{eqb_tells}
 use Rattle.shared_disk.specs.Disk.{Flight, flight_to, with_flight, AreRising, AreFlights}
-use Rattle.shared_disk.specs.Flights.{flight_in, flights_in}
+use Rattle.shared_disk.specs.Flights.{flight_in, flights_in, AreSized}
 use Rattle.shared_disk.specs.Nodes.{NodeStates, AreNodes, IsQueue, queued, flights_of}
+use Rattle.std.specs.Vec.{with_items}
 use Rattle.shared_disk.specs.declared.nodes.Queue.{Queue}
+use Rattle.shared_disk.specs.declared.flights.Slot.{Slot}
 use Rattle.shared_disk.proofs.FlightLaws.{rising_head, rising_tail, rising_cons, strictly, all_weaken}
 
 pub queues_empty : (size n : ℕ) (qs : List Queue) → length qs ≡ n → AllByRecursion (λ q. IsQueue size q × (queued q ≡ [])) qs → map queued qs ≡ replicate n []
@@ -104,3 +106,34 @@ pub view_set : (n now : NodeStates) (qs : List Queue) (node : ℕ) (q : Queue) (
 view_set n now qs node q fs view is =
     ap (λ (l : List (List Flight)). record n { flights = l }) (map-set queued qs node q ∙ ap (λ (l : List Flight). set (map queued qs) node l) is)
     ∙ ap (λ (v : NodeStates). record v { flights = set v.flights node fs }) view
+
+-- a node's queue with one more write, in the slots that were filled and put in order
+pub record PutsIn (size : ℕ) (q q' : Queue) (new : Flight) : Type 0 where
+  pub slots : length q'.slots.items ≡ length q.slots.items
+  pub used : q'.used ≡ q.used + 1
+  pub sizes : AreSized size q'.slots.items
+  pub flights : queued q' ≡ with_flight (queued q) new
+
+pub queue_more : (size : ℕ) (q q' : Queue) (new : Flight) → IsQueue size q → PutsIn size q q' new → length (queued q) < 512 → IsQueue size q'
+queue_more size q q' new was puts room = record {
+  slots = puts.slots ∙ was.slots;
+  used = omega (arith, room, length_queued q size was, puts.used);
+  sizes = puts.sizes;
+}
+
+pub sound_more : (count size : ℕ) (q q' : Queue) (new : Flight) → PutsIn size q q' new → AreFlights count size (queued q) → flight_to (queued q) new.block ≡ None → new.block < count → length new.bytes ≡ size → AreFlights count size (queued q')
+sound_more count size q q' new puts was free within same =
+    let P : List Flight → Type 0 = AreFlights count size in
+    subst P (sym puts.flights) (flights_with count size (queued q) new was free within same)
+
+pub put_queue : (size : ℕ) (q : Queue) (was now : List Slot) (new : Flight) → was ≡ q.slots.items → length was ≡ q.slots.len → length now ≡ length was → length new.bytes ≡ size → AreSized (length new.bytes) now → flights_in (take (q.used + 1) now) ≡ with_flight (flights_in (take q.used was)) new → PutsIn size q (record { slots = with_items q.slots now; used = q.used + 1 }) new
+put_queue size q was now new is len same sized sizes flights =
+    let kept : (with_items q.slots now).items ≡ now = with_items_is q.slots now (same ∙ len) in
+    let P : List Slot → Type 0 = λ l. AreSized size l in
+    let Q : ℕ → Type 0 = λ n. AreSized n now in
+    record {
+      slots = ap (λ (l : List Slot). length l) kept ∙ same ∙ ap (λ (l : List Slot). length l) is;
+      used = refl;
+      sizes = subst P (sym kept) (subst Q sized sizes);
+      flights = ap (λ (l : List Slot). flights_in (take (q.used + 1) l)) kept ∙ flights ∙ ap (λ (l : List Slot). with_flight (flights_in (take q.used l)) new) is;
+    }

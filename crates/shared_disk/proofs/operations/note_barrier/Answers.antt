@@ -10,21 +10,15 @@ use Rattle.shared_disk.specs.declared.operations.Kept.TheVariants.{Written, Flus
 use Rattle.shared_disk.specs.declared.operations.Operations.{Operations}
 use Rattle.shared_disk.proofs.OperationLaws.{Adds, told_more, kept_more}
 use Rattle.shared_disk.proofs.operations.note_barrier.Goals as goal
-use Rattle.shared_disk.proofs.operations.note_barrier.Goals.{After-operations-2-1}
 
-now : After-operations-2-1 → Operations
-now c = record { limit = c.args.operations.now.limit; size = c.args.operations.now.size; told = c.args.operations.now.told; entries = c.args.operations.now.entries + 1; kept = c.push_reserved.new.self; slots = c.args.operations.now.slots; used = c.args.operations.now.used }
+pub returns : goal.returns
+returns c =
+    let o = c.args.operations.now in
+    let o' : Operations = record { limit = o.limit; size = o.size; told = o.told; entries = o.entries + 1; kept = c.push_reserved.new.self; slots = o.slots; used = o.used } in
+    let gs : List Flight = [] in
+    let op : Operation = Barrier c.args.node in
 
-flights : After-operations-2-1 → List Flight
-flights c = []
-
-operation : After-operations-2-1 → Operation
-operation c = Barrier c.args.node
-
-adds : (c : After-operations-2-1) → Adds c.args.operations.now (now c) (Flushed c.args.node) (flights c) (operation c)
-unfolding now flights operation
-adds c =
-    record {
+    let a : Adds o o' (Flushed c.args.node) gs op = record {
       was_told = c.if-not-operations.false;
       told = refl;
       limit = refl;
@@ -40,12 +34,9 @@ adds c =
       few = omega arith;
       entries = refl;
       fits = omega arith;
+    } in
+    record {
+      told = told_more o o' (Flushed c.args.node) gs op c.requires a;
+      room = record { limit = refl; size = refl };
+      kept = kept_more o o' (Flushed c.args.node) gs op c.requires a;
     }
-
-pub returns-clause-told : goal.returns-clause-told
-unfolding now flights operation
-returns-clause-told c = told_more c.args.operations.now (now c) (Flushed c.args.node) (flights c) (operation c) c.requires (adds c)
-
-pub returns-clause-kept : goal.returns-clause-kept
-unfolding now flights operation
-returns-clause-kept c = kept_more c.args.operations.now (now c) (Flushed c.args.node) (flights c) (operation c) c.requires (adds c)

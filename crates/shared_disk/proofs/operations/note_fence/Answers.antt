@@ -10,27 +10,19 @@ use Rattle.shared_disk.specs.declared.operations.Kept.TheVariants.{Written, Flus
 use Rattle.shared_disk.specs.declared.operations.Operations.{Operations}
 use Rattle.shared_disk.proofs.OperationLaws.{Adds, told_more, kept_more}
 use Rattle.shared_disk.proofs.operations.note_fence.Goals as goal
-use Rattle.shared_disk.proofs.operations.note_fence.Goals.{After-operations-4-1}
 
-now : After-operations-4-1 → Operations
-now c = record { limit = c.args.operations.now.limit; size = c.args.operations.now.size; told = c.args.operations.now.told; entries = c.args.operations.now.entries + (1 + length c.args.slots.now); kept = c.push_reserved.new.self; slots = with_items c.args.operations.now.slots c.keep_blocks.new.kept; used = c.args.operations.now.used + length c.args.slots.now }
-
-flights : After-operations-4-1 → List Flight
-flights c = map (as_in (block_in c.args.size c.args.row.now)) (flights_in c.args.slots.now)
-
-operation : After-operations-4-1 → Operation
-operation c = Fence c.args.node (map (as_in (block_in c.args.size c.args.row.now)) (flights_in c.args.slots.now))
-
-adds : (c : After-operations-4-1) → Adds c.args.operations.now (now c) (Settled c.args.node (length c.args.slots.now)) (flights c) (operation c)
-unfolding now flights operation
-adds c =
+pub returns : goal.returns
+returns c =
     let o = c.args.operations.now in
+    let o' : Operations = record { limit = o.limit; size = o.size; told = o.told; entries = o.entries + (1 + length c.args.slots.now); kept = c.push_reserved.new.self; slots = with_items o.slots c.keep_blocks.new.kept; used = o.used + length c.args.slots.now } in
+    let gs : List Flight = map (as_in (block_in c.args.size c.args.row.now)) (flights_in c.args.slots.now) in
+    let op : Operation = Fence c.args.node (map (as_in (block_in c.args.size c.args.row.now)) (flights_in c.args.slots.now)) in
     let kept : (with_items o.slots c.keep_blocks.new.kept).items ≡ c.keep_blocks.new.kept = with_items_is o.slots c.keep_blocks.new.kept (c.keep_blocks.auto.kept ∙ c.deref_mut.ensures.len) in
     let P : List Slot → Type 0 = λ l. AreSized o.size l in
     let Q : ℕ → Type 0 = λ n. AreSized n c.keep_blocks.new.kept in
     let became = map (as_in (block_in c.args.size c.args.row.now)) (flights_in c.args.slots.now) in
     let many : length became ≡ length c.args.slots.now = length-map (flights_in c.args.slots.now) (as_in (block_in c.args.size c.args.row.now)) ∙ length-map c.args.slots.now flight_in in
-    record {
+    let a : Adds o o' (Settled c.args.node (length c.args.slots.now)) gs op = record {
       was_told = c.if-not-operations.false;
       told = refl;
       limit = refl;
@@ -48,12 +40,9 @@ adds c =
       few = omega (arith, many);
       entries = ap (λ (n : ℕ). o.entries + (1 + n)) (sym many);
       fits = omega arith;
+    } in
+    record {
+      told = told_more o o' (Settled c.args.node (length c.args.slots.now)) gs op c.requires.kept a;
+      room = record { limit = refl; size = refl };
+      kept = kept_more o o' (Settled c.args.node (length c.args.slots.now)) gs op c.requires.kept a;
     }
-
-pub returns-clause-told : goal.returns-clause-told
-unfolding now flights operation
-returns-clause-told c = told_more c.args.operations.now (now c) (Settled c.args.node (length c.args.slots.now)) (flights c) (operation c) c.requires.kept (adds c)
-
-pub returns-clause-kept : goal.returns-clause-kept
-unfolding now flights operation
-returns-clause-kept c = kept_more c.args.operations.now (now c) (Settled c.args.node (length c.args.slots.now)) (flights c) (operation c) c.requires.kept (adds c)

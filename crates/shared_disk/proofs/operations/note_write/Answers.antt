@@ -10,25 +10,17 @@ use Rattle.shared_disk.specs.declared.operations.Kept.TheVariants.{Written, Flus
 use Rattle.shared_disk.specs.declared.operations.Operations.{Operations}
 use Rattle.shared_disk.proofs.OperationLaws.{Adds, told_more, kept_more}
 use Rattle.shared_disk.proofs.operations.note_write.Goals as goal
-use Rattle.shared_disk.proofs.operations.note_write.Goals.{After-operations-4-1}
 
-now : After-operations-4-1 → Operations
-now c = record { limit = c.args.operations.now.limit; size = c.args.operations.now.size; told = c.args.operations.now.told; entries = c.args.operations.now.entries + 1; kept = c.push_reserved.new.self; slots = with_items c.args.operations.now.slots c.fill_slot.new.slots; used = c.args.operations.now.used + 1 }
-
-flights : After-operations-4-1 → List Flight
-flights c = record { block = c.args.block; bytes = c.args.bytes.now } ∷ []
-
-operation : After-operations-4-1 → Operation
-operation c = Write c.args.node c.args.block c.args.bytes.now
-
-adds : (c : After-operations-4-1) → Adds c.args.operations.now (now c) (Written c.args.node) (flights c) (operation c)
-unfolding now flights operation
-adds c =
+pub returns : goal.returns
+returns c =
     let o = c.args.operations.now in
+    let o' : Operations = record { limit = o.limit; size = o.size; told = o.told; entries = o.entries + 1; kept = c.push_reserved.new.self; slots = with_items o.slots c.fill_slot.new.slots; used = o.used + 1 } in
+    let gs : List Flight = record { block = c.args.block; bytes = c.args.bytes.now } ∷ [] in
+    let op : Operation = Write c.args.node c.args.block c.args.bytes.now in
     let kept : (with_items o.slots c.fill_slot.new.slots).items ≡ c.fill_slot.new.slots = with_items_is o.slots c.fill_slot.new.slots (c.fill_slot.auto.slots ∙ c.deref_mut.ensures.len) in
     let P : List Slot → Type 0 = λ l. AreSized o.size l in
     let Q : ℕ → Type 0 = λ n. AreSized n c.fill_slot.new.slots in
-    record {
+    let a : Adds o o' (Written c.args.node) gs op = record {
       was_told = c.if-not-operations.false;
       told = refl;
       limit = refl;
@@ -46,12 +38,9 @@ adds c =
       few = omega arith;
       entries = refl;
       fits = omega arith;
+    } in
+    record {
+      told = told_more o o' (Written c.args.node) gs op c.requires.kept a;
+      room = record { limit = refl; size = refl };
+      kept = kept_more o o' (Written c.args.node) gs op c.requires.kept a;
     }
-
-pub returns-clause-told : goal.returns-clause-told
-unfolding now flights operation
-returns-clause-told c = told_more c.args.operations.now (now c) (Written c.args.node) (flights c) (operation c) c.requires.kept (adds c)
-
-pub returns-clause-kept : goal.returns-clause-kept
-unfolding now flights operation
-returns-clause-kept c = kept_more c.args.operations.now (now c) (Written c.args.node) (flights c) (operation c) c.requires.kept (adds c)
