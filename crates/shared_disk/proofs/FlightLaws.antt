@@ -1,13 +1,13 @@
 -- Writes in flight in rising order of their blocks, and the slots that hold them.
-use Rattle.std.proofs.Common.{◌≡◌, ◌≢◌, ℕ, zero, suc, ◌+◌, ◌-◌, ◌<◌, ◌≤◌, Bool, true, false, List, [], ◌∷◌, ◌++◌, length, take, drop, map, set, get_or, eqb, ltb, refl, sym, ap, ◌∙◌, subst, inl, inr, arith, rules}
+use Rattle.std.proofs.Common.{◌≡◌, ◌≢◌, ℕ, zero, suc, ◌+◌, ◌-◌, ◌<◌, ◌≤◌, true, false, List, [], ◌∷◌, ◌++◌, length, take, drop, map, set, get_or, eqb, refl, sym, ap, ◌∙◌, subst, inl, inr, arith}
 use Rattle.std.specs.Prelude.{Option, None, Some}
 use Rattle.std.specs.List.{AllByRecursion, between}
-use Rattle.std.proofs.lemmas.List.{take_at, drop_at, length_push, get_or_default, length-take-le, take-set-le, take-take, get_or-set_same, map-append}
-use Rattle.std.proofs.lemmas.List.Edits.{between_more, length-between}
+use Rattle.std.proofs.lemmas.List.{take_at, drop_at, length_push, get_or_default, length-take-le, take-take, map-append}
+use Rattle.std.proofs.lemmas.List.Edits.{between_more}
 use Rattle.std.proofs.lemmas.Slice.{between_is}
 use Rattle.std.proofs.lemmas.Bool.{lt-ltb, le-ltb, cases_lt}
 use Rattle.shared_disk.specs.Disk.{Flight, flight_to, with_flight, AreRising}
-use Rattle.shared_disk.specs.Flights.{flight_in, flights_in, AreSized, AreBelow, AreNotBelow}
+use Rattle.shared_disk.specs.Flights.{flight_in, flights_in, AreBelow, AreNotBelow}
 use Rattle.shared_disk.specs.declared.flights.Slot.{Slot}
 
 -- the last of some elements comes to their front

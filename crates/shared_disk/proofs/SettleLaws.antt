@@ -1,6 +1,6 @@
 -- Writes in flight that come to their places one by one.
-use Rattle.std.proofs.Common.{◌≡◌, ◌≢◌, ℕ, ◌<◌, ◌≤◌, ◌/◌, Bool, true, false, cond, List, [], ◌∷◌, length, map, drop, eqb, refl, sym, ap, ◌∙◌, inl, inr, subst, arith}
-use Rattle.std.specs.Prelude.{Option, None, Some, unwrap_or}
+use Rattle.std.proofs.Common.{◌≡◌, ◌≢◌, ℕ, ◌<◌, ◌≤◌, List, [], ◌∷◌, length, map, drop, refl, sym, ap, ◌∙◌, inl, inr, subst, arith}
+use Rattle.std.specs.Prelude.{None, unwrap_or}
 use Rattle.std.specs.List.{AllByRecursion}
 use Rattle.std.proofs.lemmas.Bool.Decides.{eqb_tells}
 use Rattle.shared_disk.specs.Disk.{Flight, flight_to, with_value, written, AreRising, AreFlights}
@@ -16,7 +16,7 @@ use Rattle.shared_disk.specs.declared.disk.Settle.TheVariants.{Old as SettleOld,
 use Rattle.shared_disk.specs.declared.outcomes.Outcome.TheVariants.{Old, New, Bytes}
 use Rattle.shared_disk.specs.Disk.{DiskState, IsOutcome}
 use Rattle.shared_disk.specs.Operations.{as_in}
-use Rattle.std.proofs.Common.{◌+◌, ◌++◌}
+use Rattle.std.proofs.Common.{◌++◌}
 use Rattle.std.proofs.lemmas.List.{length-append, length-take, length-drop}
 use Rattle.shared_disk.proofs.FlightLaws.{equal, not_equal, rising_head, rising_tail, rising_cons, all_weaken}
 

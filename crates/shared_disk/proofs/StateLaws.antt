@@ -1,11 +1,11 @@
 -- The state of a disk after a change of what there is for its nodes, or of its blocks.
-use Rattle.std.proofs.Common.{◌≡◌, ◌≢◌, ℕ, ◌+◌, ◌<◌, ◌≤◌, Bool, true, false, List, [], length, set, get_or, eqb, refl, sym, ap, ◌∙◌, inl, inr, subst, arith}
+use Rattle.std.proofs.Common.{◌≡◌, ℕ, ◌<◌, ◌≤◌, Bool, false, List, [], length, set, get_or, sym, ap, inl, inr, subst, arith}
 use Rattle.std.specs.Prelude.{Result}
 use Rattle.std.proofs.lemmas.List.{get_or-set_same, get_or-set_other}
 use Rattle.std.proofs.lemmas.Bool.Decides.{eqb_tells}
 use Rattle.fault_counts.specs.Causes.{raised_once}
 use Rattle.shared_disk.specs.Causes.{MayFail}
-use Rattle.shared_disk.specs.Disk.{DiskState, Flight, with_value}
+use Rattle.shared_disk.specs.Disk.{Flight, with_value}
 use Rattle.shared_disk.specs.Nodes.{NodeStates, disk_of, flights_of, faults_of, with_flights, with_fence, with_fault}
 use Rattle.shared_disk.specs.declared.disk.DiskError.{DiskError}
 

@@ -1,5 +1,5 @@
 -- The state of a disk over a file, which tells nothing of its blocks.
-use Rattle.std.specs.Prelude.{ℕ, false, []}
+use Rattle.std.specs.Prelude.{false, []}
 use Rattle.shared_disk.specs.Disk.{DiskState}
 use Rattle.shared_disk.specs.Nodes.{NodeStates, disk_of}
 

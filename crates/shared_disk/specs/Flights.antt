@@ -1,5 +1,5 @@
 -- The writes in flight that slots hold.
-use Rattle.std.specs.Prelude.{ℕ, ◌≡◌, ◌<◌, ◌≤◌, List, length, map, take, replicate, slice_index_or, Vec}
+use Rattle.std.specs.Prelude.{ℕ, ◌≡◌, ◌<◌, ◌≤◌, List, length, map, slice_index_or}
 use Rattle.std.specs.List.{AllByRecursion}
 use Rattle.shared_disk.specs.Disk.{Flight}
 use Rattle.shared_disk.specs.declared.flights.Slot.{Slot}

@@ -1,6 +1,5 @@
 -- What a disk keeps for its nodes.
-use Rattle.std.specs.Prelude.{ℕ, ◌≡◌, ◌<◌, ◌≤◌, Bool, false, List, [], length, map, take, replicate, slice_index, slice_index_or, slice_set}
-use Rattle.std.specs.List.{AllByRecursion}
+use Rattle.std.specs.Prelude.{ℕ, ◌≡◌, ◌≤◌, Bool, false, List, [], length, take, replicate, slice_index, slice_index_or, slice_set}
 use Rattle.fault_counts.specs.Causes.{raised_once}
 use Rattle.shared_disk.specs.Disk.{DiskState, Flight, AreFlights}
 use Rattle.shared_disk.specs.Flights.{flights_in, AreSized}

@@ -1,5 +1,5 @@
 -- The list of operations of a disk in memory, as far as it is told.
-use Rattle.std.specs.Prelude.{ℕ, ◌≡◌, ◌+◌, ◌<◌, ◌≤◌, List, [], ◌∷◌, ◌++◌, length, take, drop, Option, None, Some, nat_lt, if◌then◌else◌, vec_capacity}
+use Rattle.std.specs.Prelude.{ℕ, ◌≡◌, ◌+◌, ◌≤◌, List, [], ◌∷◌, ◌++◌, length, take, drop, Option, None, Some, nat_lt, if◌then◌else◌, vec_capacity}
 use Rattle.shared_disk.specs.Disk.{Flight, Operation, Write, Barrier, Fence}
 use Rattle.shared_disk.specs.Flights.{flights_in, AreSized}
 use Rattle.shared_disk.specs.declared.operations.Kept.{Kept}

@@ -1,5 +1,5 @@
-use Rattle.std.proofs.Common.{◌≡◌, length, sym, ap, ◌∙◌, arith, refl}
-use Rattle.std.specs.Prelude.{Option, None, Some, is_some, unwrap_or, List, ℕ}
+use Rattle.std.proofs.Common.{◌≡◌, sym, ap, ◌∙◌, arith}
+use Rattle.std.specs.Prelude.{Option, None, is_some, unwrap_or, List, ℕ}
 use Rattle.shared_disk.specs.Disk.{flight_to}
 use Rattle.shared_disk.specs.Flights.{flights_in}
 use Rattle.shared_disk.proofs.FlightLaws.{flight_to-found, flight_to-absent, other_block, same_block}

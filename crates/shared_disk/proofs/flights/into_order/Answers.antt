@@ -1,4 +1,4 @@
-use Rattle.std.proofs.Common.{◌≡◌, ◌++◌, ◌-◌, ◌+◌, length, take, sym, ap, ◌∙◌, arith, refl}
+use Rattle.std.proofs.Common.{◌≡◌, ◌++◌, ◌-◌, ◌+◌, length, take, ap, ◌∙◌, arith, refl}
 use Rattle.std.specs.List.{between}
 use Rattle.std.proofs.lemmas.Slice.{take-put_mid}
 use Rattle.shared_disk.proofs.FlightLaws.{rotated}

@@ -1,5 +1,5 @@
-use Rattle.std.proofs.Common.{ℕ, ◌≡◌, ◌<◌, ◌/◌, List, length, map, true, sym, ap, ◌∙◌, subst}
-use Rattle.shared_disk.specs.Disk.{Flight, AreRising, Fence, written}
+use Rattle.std.proofs.Common.{ℕ, ◌≡◌, ◌<◌, List, length, map, true, sym, ap, ◌∙◌, subst}
+use Rattle.shared_disk.specs.Disk.{Flight, Fence, written}
 use Rattle.shared_disk.specs.Blocks.{block_in}
 use Rattle.shared_disk.specs.Flights.{flights_in}
 use Rattle.shared_disk.specs.Nodes.{disk_of, flights_of}

@@ -1,4 +1,4 @@
-use Rattle.std.proofs.Common.{◌≡◌, ◌<◌, ◌/◌, List, length, ap, sym, subst, arith}
+use Rattle.std.proofs.Common.{◌<◌, ◌/◌, length, sym, subst, arith}
 use Rattle.shared_disk.specs.Disk.{Flight}
 use Rattle.shared_disk.specs.Flights.{flight_in}
 use Rattle.shared_disk.specs.declared.flights.Slot.{Slot}

@@ -1,12 +1,8 @@
-use Rattle.std.proofs.Common.{ℕ, ◌≡◌, ◌+◌, ◌<◌, ◌≤◌, List, [], ◌∷◌, ◌++◌, length, map, take, refl, sym, ap, ◌∙◌, subst, arith}
-use Rattle.std.specs.Vec.{with_items}
-use Rattle.std.proofs.lemmas.List.{append-nil, with_items_is, length-map, take_all}
-use Rattle.shared_disk.specs.Disk.{Flight, Operation, Write, Barrier, Fence}
-use Rattle.shared_disk.specs.Blocks.{block_in}
-use Rattle.shared_disk.specs.Flights.{flight_in, flights_in, AreSized}
-use Rattle.shared_disk.specs.Operations.{flights_kept, as_in}
-use Rattle.shared_disk.specs.declared.flights.Slot.{Slot}
-use Rattle.shared_disk.specs.declared.operations.Kept.TheVariants.{Written, Flushed, Settled}
+use Rattle.std.proofs.Common.{◌+◌, List, [], refl, sym, arith}
+use Rattle.std.proofs.lemmas.List.{append-nil}
+use Rattle.shared_disk.specs.Disk.{Flight, Operation, Barrier}
+use Rattle.shared_disk.specs.Operations.{flights_kept}
+use Rattle.shared_disk.specs.declared.operations.Kept.TheVariants.{Flushed}
 use Rattle.shared_disk.specs.declared.operations.Operations.{Operations}
 use Rattle.shared_disk.proofs.OperationLaws.{Adds, told_more, kept_more}
 use Rattle.shared_disk.proofs.operations.note_barrier.Goals as goal
@@ -17,7 +13,6 @@ returns c =
     let o' : Operations = record { limit = o.limit; size = o.size; told = o.told; entries = o.entries + 1; kept = c.push_reserved.new.self; slots = o.slots; used = o.used } in
     let gs : List Flight = [] in
     let op : Operation = Barrier c.args.node in
-
     let a : Adds o o' (Flushed c.args.node) gs op = record {
       was_told = c.if-not-operations.false;
       told = refl;

@@ -1,12 +1,12 @@
-use Rattle.std.proofs.Common.{ℕ, ◌≡◌, ◌+◌, ◌<◌, ◌≤◌, List, [], ◌∷◌, ◌++◌, length, map, take, refl, sym, ap, ◌∙◌, subst, arith}
+use Rattle.std.proofs.Common.{ℕ, ◌≡◌, ◌+◌, List, [], ◌∷◌, ◌++◌, length, map, take, refl, sym, ap, ◌∙◌, subst, arith}
 use Rattle.std.specs.Vec.{with_items}
-use Rattle.std.proofs.lemmas.List.{append-nil, with_items_is, length-map, take_all}
-use Rattle.shared_disk.specs.Disk.{Flight, Operation, Write, Barrier, Fence}
+use Rattle.std.proofs.lemmas.List.{with_items_is, length-map, take_all}
+use Rattle.shared_disk.specs.Disk.{Flight, Operation, Fence}
 use Rattle.shared_disk.specs.Blocks.{block_in}
 use Rattle.shared_disk.specs.Flights.{flight_in, flights_in, AreSized}
-use Rattle.shared_disk.specs.Operations.{flights_kept, as_in}
+use Rattle.shared_disk.specs.Operations.{as_in}
 use Rattle.shared_disk.specs.declared.flights.Slot.{Slot}
-use Rattle.shared_disk.specs.declared.operations.Kept.TheVariants.{Written, Flushed, Settled}
+use Rattle.shared_disk.specs.declared.operations.Kept.TheVariants.{Settled}
 use Rattle.shared_disk.specs.declared.operations.Operations.{Operations}
 use Rattle.shared_disk.proofs.OperationLaws.{Adds, told_more, kept_more}
 use Rattle.shared_disk.proofs.operations.note_fence.Goals as goal

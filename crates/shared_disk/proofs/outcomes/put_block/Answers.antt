@@ -1,7 +1,6 @@
-use Rattle.std.proofs.Common.{◌≡◌, List, ℕ, length, ap, ◌∙◌, subst, sym, arith}
+use Rattle.std.proofs.Common.{◌≡◌, List, ℕ, length, ap, ◌∙◌, arith}
 use Rattle.shared_disk.specs.Blocks.{block_in}
 use Rattle.shared_disk.specs.Disk.{with_value}
-use borrow.Rule.Slice.PartMut.{put_mid}
 use Rattle.shared_disk.proofs.BlockLaws.{block_put}
 use Rattle.shared_disk.proofs.outcomes.put_block.Goals as goal
 

@@ -1,4 +1,4 @@
-use Rattle.std.proofs.Common.{◌≡◌, ◌/◌, List, ℕ, length, ap, ◌∙◌, sym, subst, arith}
+use Rattle.std.proofs.Common.{◌≡◌, ◌/◌, ℕ, length, sym, subst, arith}
 use Rattle.shared_disk.specs.Blocks.{block_in}
 use Rattle.shared_disk.specs.Disk.{written, AreFlights}
 use Rattle.shared_disk.specs.Flights.{flights_in}

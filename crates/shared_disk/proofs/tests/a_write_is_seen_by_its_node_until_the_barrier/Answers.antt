@@ -1,5 +1,5 @@
-use Rattle.std.proofs.Common.{ℕ, ◌≡◌, ◌<◌, List, [], ◌∷◌, length, sym, ap, ◌∙◌, subst, arith}
-use Rattle.shared_disk.specs.Disk.{DiskState, Flight, flight_to, with_flight}
+use Rattle.std.proofs.Common.{List, length, ap, ◌∙◌, arith}
+use Rattle.shared_disk.specs.Disk.{DiskState, Flight, flight_to}
 use Rattle.shared_disk.proofs.tests.a_write_is_seen_by_its_node_until_the_barrier.Goals as goal
 
 pub put-requires-2-clause-free : goal.put-requires-2-clause-free

@@ -1,5 +1,5 @@
-use Rattle.std.proofs.Common.{ℕ, ◌≡◌, ◌<◌, List, [], ◌∷◌, length, sym, ap, ◌∙◌, subst, arith}
-use Rattle.shared_disk.specs.Disk.{DiskState, Flight, flight_to, with_flight}
+use Rattle.std.proofs.Common.{List, length, ap, ◌∙◌, arith}
+use Rattle.shared_disk.specs.Disk.{DiskState, Flight, flight_to}
 use Rattle.shared_disk.proofs.tests.calls_but.Goals as goal
 
 pub write-requires-clause-free : goal.write-requires-clause-free

@@ -1,4 +1,4 @@
-use Rattle.std.proofs.Common.{ℕ, ◌≡◌, ◌<◌, List, [], ◌∷◌, length, sym, ap, ◌∙◌, subst, arith}
+use Rattle.std.proofs.Common.{List, [], ◌∷◌, length, ap, ◌∙◌, arith}
 use Rattle.shared_disk.specs.Disk.{DiskState, Flight, flight_to, with_flight}
 use Rattle.shared_disk.proofs.tests.check_fence.Goals as goal
 

@@ -1,7 +1,6 @@
-use Rattle.std.proofs.Common.{ℕ, ◌≡◌, ◌<◌, ◌*◌, ◌^◌, [], false, List, sym, ap, ◌∙◌, subst, arith}
+use Rattle.std.proofs.Common.{ℕ, ◌<◌, ◌*◌, ◌^◌, [], false, List, sym, ap, ◌∙◌, subst, arith}
 use Rattle.shared_disk.specs.Disk.{Flight, AreFlights, after_barrier}
 use Rattle.shared_disk.specs.Files.{file_state}
-use Rattle.shared_disk.specs.Flights.{flights_in}
 use Rattle.shared_disk.specs.Nodes.{NodeStates}
 use Rattle.shared_disk.specs.declared.flights.Slot.{Slot}
 use Rattle.std.specs.List.{AllByRecursion}

@@ -1,12 +1,9 @@
-use Rattle.std.proofs.Common.{ℕ, ◌≡◌, ◌<◌, ◌*◌, ◌^◌, [], false, true, List, map, length, refl, sym, ap, ◌∙◌, subst, arith}
+use Rattle.std.proofs.Common.{ℕ, ◌<◌, ◌*◌, ◌^◌, true, List, refl, sym, ap, ◌∙◌, subst}
 use Rattle.std.specs.List.{AllByRecursion}
-use Rattle.std.proofs.lemmas.List.{length-set}
-use Rattle.shared_disk.specs.Disk.{Flight, AreFlights, IsOutcome, after_fence, with_value}
+use Rattle.shared_disk.specs.Disk.{Flight, AreFlights, IsOutcome, after_fence}
 use Rattle.shared_disk.specs.Files.{file_state}
-use Rattle.shared_disk.specs.Flights.{flights_in}
-use Rattle.shared_disk.specs.Nodes.{NodeStates, flights_of, with_flights, with_fence}
+use Rattle.shared_disk.specs.Nodes.{NodeStates, flights_of, with_fence}
 use Rattle.shared_disk.specs.declared.flights.Slot.{Slot}
-use Rattle.shared_disk.proofs.StateLaws.{disk_with_flights, disk_with_fence}
 use Rattle.shared_disk.proofs.FileLaws.{offsets_fit, fence_state}
 use Rattle.shared_disk.proofs.file.FileDiskSharedDisk.fence.Goals as goal
 

@@ -1,4 +1,4 @@
-use Rattle.std.proofs.Common.{ℕ, ◌≡◌, ◌*◌, ◌/◌, length, refl, sym, ap, ◌∙◌, subst, arith}
+use Rattle.std.proofs.Common.{ℕ, ◌≡◌, ◌*◌, ◌/◌, length, sym, ap, ◌∙◌, subst, arith}
 use Rattle.shared_disk.specs.Nodes.{NodeStates}
 use Rattle.shared_disk.specs.Outcomes.{AreOfSize}
 use Rattle.shared_disk.proofs.BlockLaws.{whole_blocks}

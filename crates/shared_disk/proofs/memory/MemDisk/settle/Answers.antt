@@ -1,6 +1,5 @@
 use Rattle.std.proofs.Common.{ℕ, ◌≡◌, ◌*◌, ◌/◌, ◌+◌, ◌++◌, List, length, take, drop, min, sym, ap, ◌∙◌, subst, arith}
-use Rattle.std.specs.List.{AllByRecursion}
-use Rattle.std.proofs.lemmas.List.{drop_min, drop-drop, length-append, length-take, length-drop, take_at}
+use Rattle.std.proofs.lemmas.List.{drop_min, drop-drop, length-append, length-take, length-drop}
 use Rattle.shared_disk.specs.Nodes.{NodeStates}
 use Rattle.shared_disk.specs.Outcomes.{AreOfSize, IsOfSize}
 use Rattle.shared_disk.specs.declared.outcomes.Outcome.{Outcome}

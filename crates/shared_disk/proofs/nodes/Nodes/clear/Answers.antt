@@ -1,6 +1,6 @@
-use Rattle.std.proofs.Common.{◌≡◌, List, [], set, refl, sym, ap, ◌∙◌, subst, arith}
+use Rattle.std.proofs.Common.{[], refl, sym, subst, arith}
 use Rattle.std.proofs.lemmas.List.{length-map}
-use Rattle.shared_disk.specs.Nodes.{queued, IsQueue, NodeStates}
+use Rattle.shared_disk.specs.Nodes.{queued, IsQueue}
 use Rattle.shared_disk.specs.declared.nodes.Queue.{Queue}
 use Rattle.shared_disk.proofs.FlightLaws.{all_set, all_at}
 use Rattle.shared_disk.proofs.NodeLaws.{queue_set, view_set, no_flights}

@@ -1,6 +1,6 @@
-use Rattle.std.proofs.Common.{ℕ, ◌≡◌, List, [], false, length, map, replicate, refl, sym, ap, ◌∙◌, subst}
+use Rattle.std.proofs.Common.{ℕ, List, [], false, replicate, refl, sym, ap, subst}
 use Rattle.shared_disk.specs.Disk.{Flight, AreFlights}
-use Rattle.shared_disk.specs.Nodes.{queued, IsQueue, NodeStates, AreNodes, flights_of}
+use Rattle.shared_disk.specs.Nodes.{AreNodes}
 use Rattle.shared_disk.proofs.NodeLaws.{queues_empty, queues_sound, none_at, no_flights}
 use Rattle.shared_disk.proofs.nodes.Nodes.new.Goals as goal
 

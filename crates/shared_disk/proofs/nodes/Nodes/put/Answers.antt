@@ -1,11 +1,9 @@
-use Rattle.std.proofs.Common.{ℕ, ◌≡◌, ◌+◌, ◌<◌, ◌≤◌, List, [], length, map, take, refl, sym, ap, ◌∙◌, subst, arith}
+use Rattle.std.proofs.Common.{◌≡◌, ◌+◌, ◌<◌, List, [], length, map, sym, ap, ◌∙◌, subst, arith}
 use Rattle.std.specs.Vec.{with_items}
-use Rattle.std.proofs.lemmas.List.{length-map, with_items_is}
+use Rattle.std.proofs.lemmas.List.{length-map}
 use Rattle.shared_disk.specs.Disk.{Flight, flight_to, with_flight, AreFlights}
-use Rattle.shared_disk.specs.Flights.{flights_in, AreSized}
 use Rattle.shared_disk.specs.Nodes.{queued, IsQueue, NodeStates, flights_of}
 use Rattle.shared_disk.specs.declared.nodes.Queue.{Queue}
-use Rattle.shared_disk.specs.declared.flights.Slot.{Slot}
 use Rattle.shared_disk.proofs.FlightLaws.{all_set, all_at}
 use Rattle.shared_disk.proofs.NodeLaws.{PutsIn, put_queue, queue_set, view_set, queue_more, sound_more, queue_at}
 use Rattle.shared_disk.proofs.nodes.Nodes.put.Goals as goal
