@@ -210,6 +210,23 @@ fn check_file<R: Files<File = File> + AllocGlobal + Abort>(
     Ok(())
 }
 
+// A file that has lost its blocks since it was opened: reads fail, and a fence that has to read does.
+fn check_lost_blocks<R: Files<File = File> + AllocGlobal + Abort>(
+    rt: &R,
+    path: &str,
+) -> Result<(), Fail> {
+    fs::write(rt, path, [1u8, 2, 3, 4, 5, 6, 7, 8].as_slice())?;
+    let mut disk = FileDisk::open(rt, rt.alloc(), path, 4)?;
+    assert_eq!(rt; disk.blocks(), 2);
+    put(rt, &mut disk, 2, 1, &[60; 4]);
+    fs::write(rt, path, [1u8, 2].as_slice())?;
+    assert_eq!(rt; read_four(&mut disk, 1, 1), Err(DiskError::Failed));
+    assert_eq!(rt; disk.fence(2, Settle::Torn(1)), Err(DiskError::Failed));
+    assert_eq!(rt; (disk.faults(0), disk.faults(1), disk.faults(2)), (1, 1, 0));
+    assert_eq!(rt; read_four(&mut disk, 2, 1), Ok([60; 4]));
+    Ok(())
+}
+
 #[test]
 fn a_file_keeps_what_was_settled(rt: HostRuntime) -> Result<(), Fail> {
     let name = format!(in rt.alloc(); "shared-disk-test-{}", process::id(rt.process()))?;
@@ -238,6 +255,7 @@ fn a_file_keeps_what_was_settled(rt: HostRuntime) -> Result<(), Fail> {
         Settle::Torn(7),
         &[50, 50, 50, 50, 60, 60, 60, 60, 9, 10],
     )?;
+    check_lost_blocks(&rt, text)?;
     fs::remove_file(&rt, text)?;
     Ok(())
 }
