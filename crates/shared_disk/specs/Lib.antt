@@ -1,2 +1,10 @@
 pub mod Disk
 pub mod Causes
+pub mod Flights
+pub mod Blocks
+pub mod Settling
+pub mod Outcomes
+pub mod Nodes
+pub mod Operations
+pub mod Memory
+pub mod Files

@@ -2,7 +2,18 @@
 #![tactic(auto)]
 
 mod disk;
+mod file;
+mod flights;
+mod memory;
+mod nodes;
+mod operations;
+mod outcomes;
 mod reads;
+#[cfg(test)]
+mod tests;
 
 pub use disk::{DiskError, Settle, SharedDisk};
+pub use file::{FileDisk, OpenError};
+pub use memory::{MemDisk, NoMemory};
+pub use outcomes::Outcome;
 pub use reads::read_block;

@@ -1,0 +1,14 @@
+use Rattle.std.proofs.Common.{◌≡◌, ◌/◌, ℕ, length}
+use Rattle.shared_disk.specs.Disk.{written, AreFlights}
+use Rattle.shared_disk.specs.Flights.{flights_in}
+use Rattle.shared_disk.specs.Blocks.{block_in}
+use Rattle.shared_disk.proofs.outcomes.put_blocks.Given as goal
+
+abbrev pub invariant-loop-rest : goal.invariant-loop-rest
+invariant-loop-rest l = record {
+  flights : AreFlights (length l.row / l.size) l.size (flights_in l.rest);
+  same_end : (k : ℕ) → written (block_in l.size l.row) (flights_in l.rest) k ≡ written (block_in l.size l.initial.row) (flights_in l.slots) k;
+}
+
+abbrev pub decreases-loop-rest : goal.decreases-loop-rest
+decreases-loop-rest l = length l.rest

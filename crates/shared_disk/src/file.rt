@@ -1,0 +1,219 @@
+ghost use Rattle.std.specs.Prelude.{◌≡◌, ◌*◌, ◌^◌, ◌<◌, ◌≤◌, ℕ, None, IfOk, length};
+ghost use Rattle.std.specs.List.{AllByRecursion};
+ghost use Rattle.shared_disk.specs.Disk.{IsIdle};
+ghost use Rattle.shared_disk.specs.Files.{file_state};
+ghost use Rattle.shared_disk.specs.Flights.{AreSized};
+ghost use Rattle.shared_disk.specs.Nodes.{NodeStates, faults_of, fresh};
+
+use crate::flights::Slot;
+use crate::nodes::Nodes;
+use crate::{DiskError, Settle, SharedDisk};
+use std::alloc::Global;
+use std::fs::{File, OpenFile, OpenOptions};
+use std::io;
+use std::marker::Model;
+use std::os::unix::fs::FileExt;
+use std::rt::Files;
+
+/// Why a file can't be a disk: the system refused to open or to measure it, or there was no memory.
+#[derive(Clone, Copy, Debug, PartialEq, Eq)]
+pub enum OpenError {
+    Failed,
+    NoMemory,
+}
+
+/// The whole blocks of a file; bytes past them are left alone. What is in flight is in memory, taken
+/// at opening, until a barrier or a fence writes it to the file. It tells nothing of its blocks.
+/// A read costs a binary search and one read of the system, a barrier or a fence one write of the
+/// system per write in flight, and a barrier one sync.
+#[derive(Drop)]
+pub struct FileDisk {
+    file: File,
+    nodes: Nodes,
+    scratch: Vec<u8>,
+}
+
+impl Model for FileDisk {
+    ghost use Rattle.std.specs.Prelude.{◌≡◌, ◌*◌, ◌^◌, ◌<◌, length};
+    ghost use Rattle.shared_disk.specs.Nodes.{NodeStates};
+
+    ghost Value = { NodeStates };
+
+    ghost view = { λ d. d.nodes };
+
+    ghost invariant = { λ d. (d.nodes.count * d.nodes.size < 2 ^ 64) × (length d.scratch.items ≡ d.nodes.size) };
+}
+
+// Where a block begins in the file.
+fn offset(block: u64, size: u32) -> u64
+    requires { block * size < 2 ^ 64 }
+    ensures { result ≡ block * size }
+{
+    block * u64::from(size)
+}
+
+// Writes each write in flight to its place in the file.
+fn write_flights(file: &File, size: u32, slots: &[Slot]) -> io::Result<()>
+    requires { AllByRecursion (λ s. s.block * size < 2 ^ 64) slots.now }
+{
+    for slot in slots {
+        file.write_all_at(&slot.bytes, offset(slot.block, size))?;
+    }
+    Ok(())
+}
+
+// Writes the first bytes over those of the old block.
+fn tear(file: &File, at: u64, new: &[u8], count: usize, scratch: &mut [u8]) -> io::Result<()>
+    requires size { length new.now ≡ length scratch.old }
+    requires count { count ≤ length new.now }
+{
+    file.read_exact_at(scratch, at)?;
+    scratch[..count].copy_from_slice(&new[..count]);
+    file.write_all_at(scratch, at)
+}
+
+// Settles a write in flight in the file as the order says.
+fn settle_flight(
+    file: &File,
+    size: u32,
+    slot: &Slot,
+    order: Settle,
+    scratch: &mut [u8],
+) -> io::Result<()>
+    requires within { slot.now.block * size < 2 ^ 64 }
+    requires size { length slot.now.bytes.items ≡ size }
+    requires scratch { length scratch.old ≡ size }
+{
+    let at = offset(slot.block, size);
+    match order {
+        Settle::Old => Ok(()),
+        Settle::Torn(count) if count < size => {
+            tear(file, at, &slot.bytes, count as usize, scratch)
+        }
+        _ => file.write_all_at(&slot.bytes, at),
+    }
+}
+
+// Settles each write in flight in the file as the order says.
+fn settle_flights(
+    file: &File,
+    size: u32,
+    slots: &[Slot],
+    order: Settle,
+    scratch: &mut [u8],
+) -> io::Result<()>
+    requires within { AllByRecursion (λ s. s.block * size < 2 ^ 64) slots.now }
+    requires sizes { AreSized size slots.now }
+    requires scratch { length scratch.old ≡ size }
+{
+    for slot in slots {
+        settle_flight(file, size, slot, order, scratch)?;
+    }
+    Ok(())
+}
+
+impl FileDisk {
+    /// A disk of the file's whole blocks of so many bytes, with nothing in flight and nobody fenced.
+    pub fn open<F: Files<File = File>>(
+        rt: &F,
+        alloc: Global,
+        path: &str,
+        block_size: u32,
+    ) -> Result<FileDisk, OpenError>
+        requires { 1 ≤ block_size }
+        ensures value { IfOk result (λ d. d ≡ fresh d.count block_size) }
+        ensures idle { IfOk result (λ d. IsIdle (file_state d)) }
+    {
+        let Ok(file) = OpenOptions::new().read(true).write(true).open(rt, path) else {
+            return Err(OpenError::Failed);
+        };
+        let Ok(about) = file.metadata() else {
+            return Err(OpenError::Failed);
+        };
+        let count = about.len() / u64::from(block_size);
+        let Ok(nodes) = Nodes::new(alloc, count, block_size) else {
+            return Err(OpenError::NoMemory);
+        };
+        let Ok(scratch) = vec![in alloc; 0; block_size as usize] else {
+            return Err(OpenError::NoMemory);
+        };
+        Ok(FileDisk {
+            file,
+            nodes,
+            scratch,
+        })
+    }
+}
+
+impl SharedDisk for FileDisk {
+    ghost state = { file_state };
+
+    ghost list = { λ d. None };
+
+    ghost faults = { λ d node. faults_of d node };
+
+    fn blocks(&self) -> u64 {
+        self.nodes.blocks()
+    }
+
+    fn block_size(&self) -> u32 {
+        self.nodes.block_size()
+    }
+
+    fn read(&mut self, node: u8, block: u64, into: &mut [u8]) -> Result<(), DiskError> {
+        if self.nodes.is_fenced(node) {
+            return Err(DiskError::Fenced);
+        }
+        if self.nodes.copy(node, block, into) {
+            return Ok(());
+        }
+        let at = offset(block, self.nodes.block_size());
+        if self.file.read_exact_at(into, at).is_err() {
+            return Err(self.nodes.fail(node));
+        }
+        Ok(())
+    }
+
+    fn write(&mut self, node: u8, block: u64, bytes: &[u8]) -> Result<(), DiskError> {
+        if self.nodes.is_fenced(node) {
+            return Err(DiskError::Fenced);
+        }
+        self.nodes.put(node, block, bytes);
+        Ok(())
+    }
+
+    fn barrier(&mut self, node: u8) -> Result<(), DiskError> {
+        if self.nodes.is_fenced(node) {
+            return Err(DiskError::Fenced);
+        }
+        let size = self.nodes.block_size();
+        if write_flights(&self.file, size, self.nodes.in_flight(node)).is_err() {
+            return Err(self.nodes.fail(node));
+        }
+        if self.file.sync_data().is_err() {
+            return Err(self.nodes.fail(node));
+        }
+        self.nodes.clear(node);
+        Ok(())
+    }
+
+    fn fence(&mut self, node: u8, order: Settle) -> Result<(), DiskError> {
+        let size = self.nodes.block_size();
+        let slots = self.nodes.in_flight(node);
+        if settle_flights(&self.file, size, slots, order, &mut self.scratch).is_err() {
+            return Err(self.nodes.fail(0));
+        }
+        self.nodes.clear(node);
+        self.nodes.set_fenced(node, true);
+        Ok(())
+    }
+
+    fn admit(&mut self, node: u8) -> Result<(), DiskError> {
+        self.nodes.set_fenced(node, false);
+        Ok(())
+    }
+
+    fn faults(&self, node: u8) -> u64 {
+        self.nodes.faults(node)
+    }
+}
