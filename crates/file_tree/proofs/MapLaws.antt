@@ -9,7 +9,7 @@ use Rattle.std.proofs.lemmas.Map.Text.{is_eq-slice_cmp}
 use Rattle.std.proofs.lemmas.Slice.Eq.{bytes_eq-Decides}
 use Rattle.file_tree.specs.Tree.{Tree, Entries, none, entry, name_order, if_equal, by_order, look, set}
 
-same_order : (n m : List ℕ) → name_order n m ≡ Equal → n ≡ m
+pub same_order : (n m : List ℕ) → name_order n m ≡ Equal → n ≡ m
 same_order n m is = (bytes_eq-Decides n m).0 (sym (is_eq-slice_cmp n m) ∙ ap is_eq is)
 
 order_same : (n m : List ℕ) → n ≡ m → is_eq (name_order n m) ≡ true

@@ -47,6 +47,11 @@ abbrev pub names_in : Entries → List (List ℕ)
 names_in none = []
 names_in (entry n t es) = n ∷ names_in es
 
+-- the name in its place among these, once
+abbrev pub with_name : List (List ℕ) → List ℕ → List (List ℕ)
+with_name [] m = m ∷ []
+with_name (n ∷ ns) m = by_order (name_order m n) (m ∷ n ∷ ns) (m ∷ ns) (n ∷ with_name ns m)
+
 abbrev pub count_in : Entries → ℕ
 count_in none = 0
 count_in (entry n t es) = 1 + count_in es

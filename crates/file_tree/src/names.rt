@@ -1,9 +1,29 @@
-ghost use Rattle.std.specs.Prelude.{◌≡◌, ◌≤◌, IfOk};
+ghost use Rattle.std.specs.Prelude.{◌≡◌, ◌≤◌, ◌↔◌, length, insert, IfOk, OnOk, OnErr, MatchOption, IsTrue};
 ghost use Rattle.file_tree.specs.Names.{IsName, path_length};
+ghost use Rattle.file_tree.specs.Tree.{with_name};
 
 use crate::NoMemory;
 use std::alloc::Global;
+use std::cmp::Ordering;
 use std::marker::Model;
+
+/// Whether these bytes are a name: 1 to 255 of them, none of them zero or a slash, and neither `.` nor `..`.
+pub fn is_name(bytes: &[u8]) -> bool
+    ensures { IsTrue result ↔ IsName bytes.now }
+{
+    if bytes.is_empty() || bytes.len() > 255 {
+        return false;
+    }
+    if bytes == b".".as_slice() || bytes == b"..".as_slice() {
+        return false;
+    }
+    for byte in bytes {
+        if *byte == 0 || *byte == b'/' {
+            return false;
+        }
+    }
+    true
+}
 
 /// A name in a directory: 1 to 255 bytes, none of them zero or a slash, and neither `.` nor `..`.
 #[derive(Drop)]
@@ -125,6 +145,15 @@ impl NameList {
         NameList { names }
     }
 
+    /// Adds a name in its place in byte order, unless it is there. It goes over the names below it, and moves
+    /// those above it.
+    pub fn put(&mut self, name: Name) -> Result<(), NoMemory>
+        ensures ok { OnOk result (self.new ≡ with_name self.old name) }
+        ensures err { OnErr result (self.new ≡ self.old) }
+    {
+        put_name(&mut self.names, name)
+    }
+
     /// An equal list.
     pub fn copy(&self) -> Result<NameList, NoMemory>
         ensures { IfOk result (λ list. list ≡ self.now) }
@@ -139,5 +168,34 @@ impl NameList {
         ensures { result.now ≡ self.now }
     {
         self.names.as_slice()
+    }
+}
+
+// Where a name belongs in byte order, or `None` where it is.
+fn place_among(names: &[Name], bytes: &[u8]) -> Option<usize>
+    ensures { MatchOption result (with_name names.now bytes.now ≡ names.now)
+        (λ place. (place ≤ length names.now) × (with_name names.now bytes.now ≡ insert names.now place bytes.now)) }
+{
+    let mut place = 0;
+    for name in names {
+        match bytes.cmp(name.bytes()) {
+            Ordering::Greater => place += 1,
+            Ordering::Equal => return None,
+            Ordering::Less => return Some(place),
+        }
+    }
+    Some(place)
+}
+
+fn put_name(names: &mut Vec<Name>, name: Name) -> Result<(), NoMemory>
+    ensures ok { OnOk result (names.new.items ≡ with_name names.old.items name) }
+    ensures err { OnErr result (names.new.items ≡ names.old.items) }
+{
+    match place_among(names, name.bytes()) {
+        Some(place) => {
+            names.insert(place, name)?;
+            Ok(())
+        }
+        None => Ok(()),
     }
 }

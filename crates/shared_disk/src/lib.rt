@@ -14,6 +14,6 @@ mod tests;
 
 pub use disk::{DiskError, Settle, SharedDisk};
 pub use file::{FileDisk, OpenError};
-pub use memory::{MemDisk, NoMemory};
+pub use memory::MemDisk;
 pub use outcomes::Outcome;
 pub use reads::read_block;

@@ -14,18 +14,8 @@ use crate::operations::{Operations, no_operations, note_barrier, note_fence, not
 use crate::outcomes::{Outcome, put_blocks, settle_blocks};
 use crate::{DiskError, Settle, SharedDisk};
 use fault_counts::raised;
-use std::alloc::AllocError;
+use no_memory::NoMemory;
 use std::marker::Model;
-
-/// There was no memory.
-#[derive(Clone, Copy, Debug, PartialEq, Eq)]
-pub struct NoMemory;
-
-impl From<AllocError> for NoMemory {
-    fn from(_error: AllocError) -> NoMemory {
-        NoMemory
-    }
-}
 
 /// A disk in memory, which tells its state. Its listed calls fail, counted from 1 over all nodes.
 /// All memory is taken when it is made. A read costs a binary search and one copy, a write that and

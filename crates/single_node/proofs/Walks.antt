@@ -1,13 +1,14 @@
 -- What a walk finds in a flat image.
 use Rattle.std.proofs.Common.{◌≡◌, ℕ, ◌<◌, ◌≤◌, inl, inr, List, [], ◌∷◌, length, take, drop, get_or, Option, Some, None, refl, sym, ap, ◌∙◌, subst, arith}
 use Rattle.std.specs.Prelude.{IsTrue}
-use Rattle.file_tree.specs.Tree.{Tree, file, dir}
+use Rattle.std.specs.List.{AllByRecursion}
+use Rattle.file_tree.specs.Tree.{Tree, file, dir, names_in}
 use Rattle.file_tree.specs.Names.{IsName}
-use Rattle.file_tree.specs.Apply.{walk, found_or, Walked, Found, Refused, read_reply}
+use Rattle.file_tree.specs.Apply.{walk, found_or, Walked, Found, Refused, read_reply, list_reply}
 use Rattle.file_tree.specs.declared.reply.Reply.TheVariants as reply
 use Rattle.gfs2_layout.specs.Area.{Slot, slots_of, first_named, has_name}
 use Rattle.shared_disk.specs.Disk.{DiskState}
-use Rattle.single_node.specs.Flat.{IsFlat, IsBlockSize, IsStuffedFile, HasFlatRoot, LeadsToFile, names_a_file, files_of, file_bytes, stuffed_part, root_slots}
+use Rattle.single_node.specs.Flat.{IsFlat, IsBlockSize, IsStuffedFile, HasFlatRoot, HasItsFileName, LeadsToFile, names_a_file, files_of, file_bytes, stuffed_part, root_slots}
 use Rattle.single_node.proofs.Files.{look-files_of, found_file, found_holds, named_is_file, name_is_no_dot}
 
 pub one_name : (path names : List (List ℕ)) (name other : List ℕ) → names ≡ path → 1 ≤ length names → length path ≤ 1 → name ≡ get_or names 0 other → path ≡ name ∷ []
@@ -77,3 +78,23 @@ module _ (d : DiskState) (tree : Tree) (root : List ℕ) (flat : IsFlat d tree) 
   file_is_there name s address is found there lacks =
       let lead = leads d tree root flat has name s is found in
       lacks flat.tells (subst (λ (a : ℕ). a < d.count) (sym there) lead.inside) (subst (λ (a : ℕ). IsStuffedFile d.size a (d.block_at a)) (sym there) lead.file)
+
+-- ---- the replies of a list
+
+module _ (d : DiskState) (tree : Tree) (root : List ℕ) (flat : IsFlat d tree) (has : HasFlatRoot d root) where
+  pub list_absent : (name : List ℕ) (path : List (List ℕ)) → IsName name → path ≡ name ∷ [] → first_named name (slots_of (stuffed_part root)) ≡ None → reply.NotFound ≡ list_reply (walk tree path)
+  list_absent name path is one absent = sym (ap list_reply (walk_absent d tree root flat has name path is one absent))
+
+  pub list_found : (name : List ℕ) (path : List (List ℕ)) (s : Slot) → IsName name → path ≡ name ∷ [] → first_named name (slots_of (stuffed_part root)) ≡ Some s → reply.NotDir ≡ list_reply (walk tree path)
+  list_found name path s is one found = sym (ap list_reply (walk_found d tree root flat has name path s is one found))
+
+  pub list_root : (path : List (List ℕ)) (names : List (List ℕ)) → path ≡ [] → names ≡ names_in (files_of d.block_at (slots_of (stuffed_part root))) → reply.Names names ≡ list_reply (walk tree path)
+  list_root path names none are = ap reply.Names are ∙ sym (ap list_reply (walk_root d tree root flat has path none))
+
+  -- each file has a name
+  all_named : (ss : List Slot) → AllByRecursion (λ s. IsTrue (names_a_file s) → LeadsToFile d s) ss → AllByRecursion HasItsFileName ss
+  all_named [] all = tt
+  all_named (s ∷ ss) all = ((λ yes. (all.0 yes).name), all_named ss all.1)
+
+  pub names_are_names : (AllByRecursion HasItsFileName (slots_of (stuffed_part root)) → ⊥) → ⊥
+  names_are_names lacks = lacks (subst (AllByRecursion HasItsFileName) (ap (λ (b : List ℕ). slots_of (stuffed_part b)) (sym has.block_is)) (all_named (root_slots d) flat.leads))

@@ -52,6 +52,10 @@ is_dot name = bytes_eq name (codes ".") || bytes_eq name (codes "..")
 abbrev pub names_a_file : Slot → Bool
 names_a_file s = is_in_use s.head && not (is_dot (name_of s))
 
+-- a record that names a file has a name
+abbrev pub HasItsFileName : Slot → Type 0
+HasItsFileName s = IsTrue (names_a_file s) → IsName (name_of s)
+
 -- a record that names a file is that of a regular file
 abbrev pub IsOfFile : Slot → Type 0
 IsOfFile s = IsTrue (names_a_file s) → s.head.kind ≡ 8

@@ -4,6 +4,7 @@
 mod answer;
 mod end;
 mod fetch;
+mod list;
 mod mount;
 mod read;
 

@@ -106,6 +106,7 @@ fn root_address<D: SharedDisk>(disk: &mut D, block: &mut [u8]) -> Result<u64, Ru
 /// The root directory of a flat image, which is read once and kept.
 #[derive(Drop)]
 pub struct Root {
+    address: u64,
     block: Vec<u8>,
 }
 
@@ -117,8 +118,22 @@ impl Model for Root {
     ghost view = { λ r. r.block.items };
 }
 
-// Reads the root directory's block.
-fn fill_root<D: SharedDisk>(disk: &mut D, block: &mut [u8]) -> Result<(), RunEnd>
+impl Root {
+    // The block's address.
+    pub(crate) fn address(&self) -> u64 {
+        self.address
+    }
+
+    // The block.
+    pub(crate) fn block(&self) -> &[u8]
+        ensures { result.now ≡ self.now }
+    {
+        self.block.as_slice()
+    }
+}
+
+// Reads the root directory's block, and gives its address.
+fn fill_root<D: SharedDisk>(disk: &mut D, block: &mut [u8]) -> Result<u64, RunEnd>
     requires idle { IsIdle (D.state disk.old) }
     requires size { length block.old ≡ (D.state disk.old).size }
     requires some { IsBlockSize (D.state disk.old).size }
@@ -140,7 +155,7 @@ fn fill_root<D: SharedDisk>(disk: &mut D, block: &mut [u8]) -> Result<(), RunEnd
     if !is_flat_directory(block, address) {
         return Err(RunEnd::NotRead { block: address });
     }
-    Ok(())
+    Ok(address)
 }
 
 /// Reads the superblock and the root directory of an idle disk. `NotRead` comes only where one of these two
@@ -158,7 +173,7 @@ pub fn read_root<D: SharedDisk>(alloc: Global, disk: &mut D) -> Result<Root, Run
     let size = disk.block_size() as usize;
     let mut block = vec![in alloc; 0u8; size]?;
     match fill_root(disk, &mut block) {
-        Ok(()) => Ok(Root { block }),
+        Ok(address) => Ok(Root { address, block }),
         Err(end) => Err(end),
     }
 }
