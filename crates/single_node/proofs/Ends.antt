@@ -1,5 +1,6 @@
 -- Ends at a block that is not read.
 use Rattle.std.proofs.Common.{ℕ}
+use Rattle.std.specs.Prelude.{Result, Ok, Err, IfErr}
 use Rattle.single_node.specs.Ends.{IfNotRead}
 use Rattle.single_node.specs.declared.end.RunEnd.{RunEnd}
 use Rattle.single_node.specs.declared.end.RunEnd.TheVariants as end
@@ -8,3 +9,7 @@ pub not_read_weaker : {P Q : ℕ → Type 0} (e : RunEnd) → ((b : ℕ) → P b
 not_read_weaker (end.NotRead block) f h = f block h
 not_read_weaker (end.DiskFailed node block rise) f h = tt
 not_read_weaker end.NoMemory f h = tt
+
+pub other_weaker : {T : Type 0} {P Q : ℕ → Type 0} (r : Result T RunEnd) → ((b : ℕ) → P b → Q b) → IfErr r (λ e. IfNotRead e P) → IfErr r (λ e. IfNotRead e Q)
+other_weaker (Ok x) f h = tt
+other_weaker {T} {P} {Q} (Err e) f h = not_read_weaker {P = P} {Q = Q} e f h

@@ -1,4 +1,5 @@
 pub mod Ends
 pub mod Files
 pub mod Lists
+pub mod PlainRuns
 pub mod Walks

@@ -7,6 +7,7 @@ mod fetch;
 mod list;
 mod mount;
 mod read;
+mod run;
 
 pub use end::RunEnd;
 pub use mount::{Root, read_root};
