@@ -1,8 +1,8 @@
 -- What the items of one node that answers a plain script owe to it.
-use Rattle.std.proofs.Common.{◌≡◌, ◌⊎◌, ℕ, zero, suc, ◌+◌, ◌<◌, ◌≤◌, true, false, List, [], ◌∷◌, ◌++◌, length, take, map, min, Some, None, inl, inr, refl, sym, ap, ◌∙◌, subst, arith, length-append}
+use Rattle.std.proofs.Common.{◌≡◌, ◌⊎◌, ℕ, zero, suc, ◌+◌, ◌<◌, ◌≤◌, Bool, true, false, List, [], ◌∷◌, ◌++◌, length, take, get_or, map, Option, Some, None, inl, inr, refl, sym, ap, ◌∙◌, subst, arith, length-append}
 use Rattle.std.proofs.Math.Dec.{eqb-zero-suc}
 use Rattle.std.proofs.lemmas.Slice.Eq.{bytes_eq-Decides}
-use Rattle.std.proofs.lemmas.Option.{slice_get_within}
+use Rattle.std.proofs.lemmas.List.{take_all}
 use Rattle.std.specs.Prelude.{slice_get, ◌==◌, if◌then◌else◌}
 use Rattle.std.specs.List.{AllByRecursion}
 use Rattle.std.specs.Str.{bytes_eq}
@@ -20,29 +20,22 @@ use Rattle.trace_text.specs.declared.item.TraceItem.TheVariants as trace
 use Rattle.script_lang.specs.declared.script.Client.{Client}
 use Rattle.script_lang.specs.declared.script.Line.{Line}
 use Rattle.script_lang.specs.declared.script.Line.TheVariants as line
-use Rattle.script_lang.specs.Script.{ScriptValue, calls_by}
+use Rattle.script_lang.specs.Script.{ScriptValue, call_by, calls_by}
 use Rattle.script_lang.specs.Plain.{IsPlain, IsPlainLine, one_client, line_of}
 use Rattle.run_rules.specs.Follows.{Follows, ByLine, history_of, call_items, above, IsBarrierLine, IsOrderLine, IsOnItsNode}
 use Rattle.run_rules.specs.History.{HoldsHistory, NoneStopped, AllAnswered}
+use Rattle.single_node.specs.Run.{items_from, IsReadOnly, IsRunUpTo, IsAnswer}
 
 -- ---- the items: node 1 joins, answers calls of the one client, and may unmount
 
 abbrev pub clients_of : List ℕ → List Client
 clients_of name = record { name = name; node = 1 } ∷ []
 
-abbrev pub items_from : List ℕ → ℕ → List Replied → List TraceItem
-items_from name n [] = []
-items_from name n (r ∷ rs) = trace.Call 1 name n r.call r.reply ∷ items_from name (n + 1) rs
-
 abbrev pub run_items : List ℕ → List Replied → List TraceItem → List TraceItem
 run_items name rs end = trace.Join 1 ∷ (items_from name 1 rs ++ end)
 
 abbrev pub IsEnd : List TraceItem → Type 0
 IsEnd end = (end ≡ []) ⊎ (end ≡ trace.Unmount 1 ∷ [])
-
--- a call that leaves the tree as it is
-abbrev pub IsReadOnly : Tree → Replied → Type 0
-IsReadOnly t r = apply r.call t ≡ record { reply = r.reply; tree = t }
 
 -- ---- the history
 
@@ -240,3 +233,114 @@ module _ (name : List ℕ) (rs : List Replied) (end : List TraceItem) (is_end : 
       synced = subst KeepsSynced (sym (history_is name rs end is_end)) (λ p q node client number kept before sync lost. absurd (no_loss_at 1 q rs node kept lost));
       follows = follows;
     }
+
+    pub tree_holds : (t : Tree) → AllByRecursion (IsReadOnly t) rs → tree_of (history_of (clients_of name) items) t ≡ t
+    tree_holds t all = ap (λ (h : List Item). tree_of h t) (history_is name rs end is_end) ∙ tree_is t rs all
+
+  none_stopped_from : (n : ℕ) (ss : List Replied) → NoneStopped (items_from name n ss ++ end)
+  none_stopped_from n [] = elim is_end [ inl is ↦ subst NoneStopped (sym is) tt | inr is ↦ subst NoneStopped (sym is) tt ]
+  none_stopped_from n (r ∷ ss) = none_stopped_from (n + 1) ss
+
+  pub none_stopped : NoneStopped items
+  none_stopped = none_stopped_from 1 rs
+
+-- ---- the lines of a plain script, one after another
+
+calls_first : (c : ℕ) (call : Call) (ls : List Line) → c ≡ 0 → calls_by 0 (line.Call c call ∷ ls) ≡ call ∷ calls_by 0 ls
+calls_first c call ls is = ap (λ (m : ℕ). calls_by 0 (line.Call m call ∷ ls)) is
+
+calls_more : (lines : List Line) (i : ℕ) (d : Line) (call : Call) → AllByRecursion IsPlainLine lines → i < length lines → get_or lines i d ≡ line_of call
+    → take (i + 1) (calls_by 0 lines) ≡ take i (calls_by 0 lines) ++ call ∷ []
+calls_more [] i d call plain below is = absurd (omega (arith, below))
+calls_more (l ∷ ls) zero d call plain below is = ap (λ (m : Line). take 1 (calls_by 0 (m ∷ ls))) is
+calls_more (line.Call c first ∷ ls) (suc i) d call plain below is =
+    let mine = calls_first c first ls plain.0.0 in
+    let count : suc i + 1 ≡ suc (i + 1) = omega arith in
+    ap (λ (n : ℕ). take n (calls_by 0 (line.Call c first ∷ ls))) count ∙ ap (take (suc (i + 1))) mine
+    ∙ ap (λ (cs : List Call). first ∷ cs) (calls_more ls i d call plain.1 (omega (arith, below)) is)
+    ∙ sym (ap (λ (cs : List Call). take (suc i) cs ++ call ∷ []) mine)
+calls_more (line.Wait ∷ ls) (suc i) d call plain below is = absurd plain.0
+calls_more (line.Crash nodes ∷ ls) (suc i) d call plain below is = absurd plain.0
+calls_more (line.Join node ∷ ls) (suc i) d call plain below is = absurd plain.0
+
+calls_count : (lines : List Line) → AllByRecursion IsPlainLine lines → length (calls_by 0 lines) ≡ length lines
+calls_count [] plain = refl
+calls_count (line.Call c first ∷ ls) plain = ap (λ (cs : List Call). length cs) (calls_first c first ls plain.0.0) ∙ ap suc (calls_count ls plain.1)
+calls_count (line.Wait ∷ ls) plain = absurd plain.0
+calls_count (line.Crash nodes ∷ ls) plain = absurd plain.0
+calls_count (line.Join node ∷ ls) plain = absurd plain.0
+
+other_call : (client c : ℕ) (call : Call) → c ≡ 0 → call_by (suc client) (line.Call c call) ≡ None
+other_call client c call is = ap (λ (b : Bool). if b then Some call else None) (ap (λ (m : ℕ). m == suc client) is ∙ eqb-zero-suc client)
+
+no_calls : (client : ℕ) (lines : List Line) → AllByRecursion IsPlainLine lines → calls_by (suc client) lines ≡ []
+no_calls client [] plain = refl
+no_calls client (line.Call c first ∷ ls) plain = ap (λ (o : Option Call). elim o [ None ↦ calls_by (suc client) ls | Some call ↦ call ∷ calls_by (suc client) ls ]) (other_call client c first plain.0.0) ∙ no_calls client ls plain.1
+no_calls client (line.Wait ∷ ls) plain = absurd plain.0
+no_calls client (line.Crash nodes ∷ ls) plain = absurd plain.0
+no_calls client (line.Join node ∷ ls) plain = absurd plain.0
+
+items_more : (name : List ℕ) (n : ℕ) (rs : List Replied) (r : Replied) → items_from name n (rs ++ r ∷ []) ≡ items_from name n rs ++ trace.Call 1 name (n + length rs) r.call r.reply ∷ []
+items_more name n [] r = let same : n ≡ n + 0 = omega arith in ap (λ (m : ℕ). trace.Call 1 name m r.call r.reply ∷ []) same
+items_more name n (s ∷ rs) r =
+    let same : n + 1 + length rs ≡ n + suc (length rs) = omega arith in
+    ap (λ (is : List TraceItem). trace.Call 1 name n s.call s.reply ∷ is) (items_more name (n + 1) rs r ∙ ap (λ (m : ℕ). items_from name (n + 1) rs ++ trace.Call 1 name m r.call r.reply ∷ []) same)
+
+all_more : {A : Type 0} (P : A → Type 0) (xs : List A) (x : A) → AllByRecursion P xs → P x → AllByRecursion P (xs ++ x ∷ [])
+all_more P [] x all one = (one, tt)
+all_more P (y ∷ ys) x all one = (all.0, all_more P ys x all.1 one)
+
+map_more : (rs : List Replied) (r : Replied) → map (λ (r : Replied). r.call) (rs ++ r ∷ []) ≡ map (λ (r : Replied). r.call) rs ++ r.call ∷ []
+map_more [] r = refl
+map_more (s ∷ rs) r = ap (λ (cs : List Call). s.call ∷ cs) (map_more rs r)
+
+-- node 1 has joined, and answered no line
+pub run_none : (name : List ℕ) (lines : List Line) (items : List TraceItem) (IsStart : Tree → Type 0) → items ≡ trace.Join 1 ∷ [] → IsRunUpTo name lines 0 items IsStart
+run_none name lines items IsStart is = record { replied = []; are = is; counted = refl; calls = refl; reads = λ t start. tt }
+
+-- one more line is answered
+pub run_more : (name : List ℕ) (lines : List Line) (i : ℕ) (items more : List TraceItem) (IsStart : Tree → Type 0) (d : Line) (l : Line) (it : TraceItem) → AllByRecursion IsPlainLine lines → i < length lines → l ≡ get_or lines i d
+    → IsRunUpTo name lines i items IsStart → IsAnswer name (i + 1) l it (λ call r. (t : Tree) → IsStart t → apply call t ≡ record { reply = r; tree = t })
+    → more ≡ items ++ it ∷ [] → IsRunUpTo name lines (i + 1) more IsStart
+run_more name lines i items more IsStart d l it plain below is so answer push =
+    let one : Replied = record { call = answer.call; reply = answer.reply } in
+    let number : 1 + length so.replied ≡ i + 1 = omega (arith, so.counted) in
+    record {
+      replied = so.replied ++ one ∷ [];
+      are =
+        push ∙ (λ k. so.are k ++ answer.item_is k ∷ [])
+        ∙ ap (λ (m : ℕ). trace.Join 1 ∷ (items_from name 1 so.replied ++ trace.Call 1 name m answer.call answer.reply ∷ [])) (sym number)
+        ∙ ap (λ (is : List TraceItem). trace.Join 1 ∷ is) (sym (items_more name 1 so.replied one));
+      counted = length-append so.replied (one ∷ []) ∙ ap (λ (m : ℕ). m + 1) so.counted;
+      calls =
+        map_more so.replied one ∙ ap (λ (cs : List Call). cs ++ answer.call ∷ []) so.calls
+        ∙ sym (calls_more lines i d answer.call plain below (sym is ∙ answer.line_is));
+      reads = λ t start. all_more (IsReadOnly t) so.replied one (so.reads t start) (answer.answers t start);
+    }
+
+-- ---- what a run of a plain script owes to it
+
+module _ (s : ScriptValue) (plain : IsPlain s) (count : ℕ) (before : List TraceItem) (end : List TraceItem) (IsStart : Tree → Type 0) (is_end : IsEnd end) (so : IsRunUpTo plain.client s.lines count before IsStart) where
+  items_are : before ++ end ≡ run_items plain.client so.replied end
+  items_are = ap (λ (is : List TraceItem). is ++ end) so.are
+
+  pub run_holds : (t : Tree) → IsStart t → HoldsHistory t s (before ++ end)
+  run_holds t start =
+      subst (HoldsHistory t s) (sym items_are) (subst (λ (u : ScriptValue). HoldsHistory t u (run_items plain.client so.replied end)) (sym plain.form)
+      (holds plain.client so.replied end is_end s.lines plain.lines count so.calls t (so.reads t start)))
+
+  pub run_keeps : (t : Tree) → IsStart t → tree_of (history_of s.clients (before ++ end)) t ≡ t
+  run_keeps t start =
+      (λ k. tree_of (history_of (plain.form k).clients (items_are k)) t) ∙ tree_holds plain.client so.replied end is_end s.lines plain.lines count so.calls t (so.reads t start)
+
+  pub run_goes_on : NoneStopped (before ++ end)
+  run_goes_on = subst NoneStopped (sym items_are) (none_stopped plain.client so.replied end is_end)
+
+  answered_by : count ≡ length s.lines → (client : ℕ) → call_items (clients_of plain.client) client (run_items plain.client so.replied end) ≡ calls_by client s.lines
+  answered_by all zero =
+      calls_in plain.client 1 so.replied end is_end ∙ so.calls
+      ∙ take_all count (calls_by 0 s.lines) (omega (arith, all, calls_count s.lines plain.lines))
+  answered_by all (suc client) = calls_of_others plain.client client 1 so.replied end is_end ∙ sym (no_calls client s.lines plain.lines)
+
+  pub run_answers : count ≡ length s.lines → AllAnswered (before ++ end) s
+  run_answers all client = (λ k. call_items (plain.form k).clients client (items_are k)) ∙ answered_by all client

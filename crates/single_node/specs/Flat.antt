@@ -112,3 +112,8 @@ pub record IsFlat (d : DiskState) (tree : Tree) : Type 0 where
   pub leads : AllByRecursion (λ s. IsTrue (names_a_file s) → LeadsToFile d s) (root_slots d)
   pub names : HaveOwnNames (root_slots d)
   pub is_tree : tree ≡ dir (files_of d.block_at (root_slots d))
+
+-- the tree of a flat image whose root is in this block
+pub record IsStart (d : DiskState) (root : List ℕ) (tree : Tree) : Type 0 where
+  pub flat : IsFlat d tree
+  pub root : HasFlatRoot d root

@@ -11,3 +11,4 @@ mod run;
 
 pub use end::RunEnd;
 pub use mount::{Root, read_root};
+pub use run::run_plain;

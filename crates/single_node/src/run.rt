@@ -1,13 +1,16 @@
 ghost use Rattle.std.specs.Prelude.{◌≡◌, ◌+◌, ◌≤◌, ◌^◌, ◌∷◌, [], ℕ, List, length, IfOk, IfErr, OnOk, OnErr};
+ghost use Rattle.std.specs.List.{AllByRecursion};
 ghost use Rattle.file_tree.specs.Tree.{Tree};
+ghost use Rattle.cluster_history.specs.History.{tree_of};
+ghost use Rattle.run_rules.specs.Follows.{history_of};
 ghost use Rattle.file_tree.specs.Apply.{apply};
 ghost use Rattle.gfs2_layout.specs.Area.{IsArea};
 ghost use Rattle.shared_disk.specs.Disk.{IsIdle};
 ghost use Rattle.script_lang.specs.Plain.{IsPlainCall, IsPlainLine, IsPlain};
 ghost use Rattle.run_rules.specs.History.{HoldsHistory, NoneStopped, AllAnswered};
 ghost use Rattle.single_node.specs.Ends.{EndHasCause, IfNotRead};
-ghost use Rattle.single_node.specs.Flat.{IsFlat, HasFlatRoot, IsBlockSize, stuffed_part};
-ghost use Rattle.single_node.specs.Run.{IsAnswer};
+ghost use Rattle.single_node.specs.Flat.{IsFlat, HasFlatRoot, IsStart, IsBlockSize, stuffed_part};
+ghost use Rattle.single_node.specs.Run.{IsAnswer, IsRunUpTo};
 
 use crate::RunEnd;
 use crate::list::list_call;
@@ -97,6 +100,91 @@ fn answer_line<D: SharedDisk>(
     };
     match call_item(name, number, call, reply) {
         Ok(item) => Ok(item),
+        Err(_) => Err(RunEnd::NoMemory),
+    }
+}
+
+// Answers the lines of a plain script one by one, behind the item by which node 1 joined.
+fn answer_lines<D: SharedDisk>(
+    alloc: Global,
+    disk: &mut D,
+    root: &Root,
+    block: &mut [u8],
+    name: &Name,
+    lines: &[Line],
+    items: &mut Vec<TraceItem>,
+) -> Result<(), RunEnd>
+    requires idle { IsIdle (D.state disk.old) }
+    requires size { length block.old ≡ (D.state disk.old).size }
+    requires root_size { length root.now ≡ (D.state disk.old).size }
+    requires some { IsBlockSize (D.state disk.old).size }
+    requires area { IsArea (stuffed_part root.now) }
+    requires plain { AllByRecursion IsPlainLine lines.now }
+    requires joined { items.old.items ≡ TraceItem.Join 1 ∷ [] }
+    ensures run { (count : ℕ) × IsRunUpTo name.now lines.now count items.new.items (IsStart (D.state disk.old) root.now) }
+    ensures whole { OnOk result (IsRunUpTo name.now lines.now (length lines.now) items.new.items (IsStart (D.state disk.old) root.now)) }
+    ensures other { IfErr result (λ end. IfNotRead end (λ _. (tree : Tree) → IsStart (D.state disk.old) root.now tree → ⊥)) }
+    ensures same { D.state disk.new ≡ D.state disk.old }
+    ensures cause { IfErr result (EndHasCause (D.faults disk.old) (D.faults disk.new)) }
+    ensures later { (j : ℕ) → D.faults disk.old j ≤ D.faults disk.new j }
+{
+    let mut number = 0u64;
+    for line in lines {
+        number += 1;
+        let item = match answer_line(alloc, disk, root, block, name, number, line) {
+            Ok(item) => item,
+            Err(end) => return Err(end),
+        };
+        match items.push(item) {
+            Ok(()) => {}
+            Err(_) => return Err(RunEnd::NoMemory),
+        }
+    }
+    Ok(())
+}
+
+/// Runs a plain script on a flat image whose root was read: node 1 joins, answers each line in order as the
+/// call of the next number, and unmounts. The items go behind `items`, which is empty. Where the run ends
+/// before the script, the items so far stay. It costs one block's read per `read`, a walk over the root's
+/// records per call, and memory for the items and one block.
+pub fn run_plain<D: SharedDisk>(
+    alloc: Global,
+    disk: &mut D,
+    root: &Root,
+    script: &Script,
+    items: &mut Vec<TraceItem>,
+) -> Result<(), RunEnd>
+    requires idle { IsIdle (D.state disk.old) }
+    requires size { IsBlockSize (D.state disk.old).size }
+    requires root { length root.now ≡ (D.state disk.old).size }
+    requires area { IsArea (stuffed_part root.now) }
+    requires plain { IsPlain script.now }
+    requires none { items.old.items ≡ [] }
+    ensures history { (tree : Tree) → IsStart (D.state disk.old) root.now tree → HoldsHistory tree script.now items.new.items }
+    ensures tree { (tree : Tree) → IsStart (D.state disk.old) root.now tree
+        → tree_of (history_of script.now.clients items.new.items) tree ≡ tree }
+    ensures members { NoneStopped items.new.items }
+    ensures answered { OnOk result (AllAnswered items.new.items script.now) }
+    ensures other { IfErr result (λ end. IfNotRead end (λ _. (tree : Tree) → IsStart (D.state disk.old) root.now tree → ⊥)) }
+    ensures same { D.state disk.new ≡ D.state disk.old }
+    ensures cause { IfErr result (EndHasCause (D.faults disk.old) (D.faults disk.new)) }
+    ensures later { (j : ℕ) → D.faults disk.old j ≤ D.faults disk.new j }
+{
+    let [client] = script.clients.as_slice() else {
+        unreachable!();
+    };
+    let size = disk.block_size() as usize;
+    let mut block = vec![in alloc; 0u8; size]?;
+    match items.push(TraceItem::Join { node: 1 }) {
+        Ok(()) => {}
+        Err(_) => return Err(RunEnd::NoMemory),
+    }
+    match answer_lines(alloc, disk, root, &mut block, &client.name, &script.lines, items) {
+        Ok(()) => {}
+        Err(end) => return Err(end),
+    }
+    match items.push(TraceItem::Unmount { node: 1 }) {
+        Ok(()) => Ok(()),
         Err(_) => Err(RunEnd::NoMemory),
     }
 }
