@@ -1,4 +1,5 @@
 pub mod Entries
 pub mod Texts
 pub mod PathLaws
+pub mod Letters
 pub mod Rows
