@@ -10,10 +10,10 @@ use Rattle.hex.proofs.HexLemmas.{IsDigits-lower_digits}
 use Rattle.file_tree.specs.Names.{IsNameByte}
 use Rattle.file_tree.specs.PathText.{is_escaped, byte_text, two_digits, escaped_byte}
 
-abbrev high : ℕ → ℕ
+abbrev pub high : ℕ → ℕ
 high b = slice_index lower_digits (b / 16)
 
-abbrev low : ℕ → ℕ
+abbrev pub low : ℕ → ℕ
 low b = slice_index lower_digits (b % 16)
 
 digit-not_slash : (d : ℕ) → d < 16 → slice_index lower_digits d ≢ 47
@@ -65,7 +65,7 @@ escaped_byte-some c d b h =
     let t = chosen (bytes_eq (byte_text n) (37 ∷ c ∷ d ∷ []) && not (n == 0)) n b h in
     let parts = and_parts (bytes_eq (byte_text n) (37 ∷ c ∷ d ∷ [])) (not (n == 0)) t.0 in
     let text : byte_text n ≡ 37 ∷ c ∷ d ∷ [] = (bytes_eq-Decides (byte_text n) (37 ∷ c ∷ d ∷ [])).0 parts.0 in
-    let some : (m : ℕ) → not (m == 0) ≡ true → m ≢ 0 = λ m is zero. let no : not (m == 0) ≡ false = rw zero refl in cc (is, no) in
+    let some : (m : ℕ) → not (m == 0) ≡ true → m ≢ 0 = λ m is zero. let lacks : not (m == 0) ≡ false = rw zero refl in cc (is, lacks) in
     let small : n < 256 = omega (arith, digit-small c, digit-small d) in
     record {
       text = subst (λ (m : ℕ). byte_text m ≡ 37 ∷ c ∷ d ∷ []) t.1 text;
@@ -77,11 +77,11 @@ escaped_byte-some c d b h =
 pub spelled_escape : (b : ℕ) (more tail : List ℕ) → 37 ∷ tail ≡ byte_text b ++ more → (is_escaped b ≡ true) × (tail ≡ high b ∷ low b ∷ more)
 spelled_escape b more tail h =
     let cases : (t : Bool) → is_escaped b ≡ t → (is_escaped b ≡ true) × (tail ≡ high b ∷ low b ∷ more) = λ t is. elim t as (λ v. is_escaped b ≡ v → (is_escaped b ≡ true) × (tail ≡ high b ∷ low b ∷ more)) [
-      | true ↦ λ yes. let text : 37 ∷ tail ≡ 37 ∷ high b ∷ low b ∷ more = h ∙ ap (λ (t : List ℕ). t ++ more) (byte_text-escaped b yes) in (yes, cc)
-      | false ↦ λ no.
-          let text : 37 ∷ tail ≡ b ∷ more = h ∙ ap (λ (t : List ℕ). t ++ more) (byte_text-plain b no) in
+      | true ↦ λ holds. let text : 37 ∷ tail ≡ 37 ∷ high b ∷ low b ∷ more = h ∙ ap (λ (t : List ℕ). t ++ more) (byte_text-escaped b holds) in (holds, cc)
+      | false ↦ λ lacks.
+          let text : 37 ∷ tail ≡ b ∷ more = h ∙ ap (λ (t : List ℕ). t ++ more) (byte_text-plain b lacks) in
           let is : 37 ≡ b = cc in
-          let yes : is_escaped b ≡ true = subst (λ (n : ℕ). is_escaped n ≡ true) is refl in
-          cc (yes, no)
+          let holds : is_escaped b ≡ true = subst (λ (n : ℕ). is_escaped n ≡ true) is refl in
+          cc (holds, lacks)
     ] is in
     cases (is_escaped b) refl

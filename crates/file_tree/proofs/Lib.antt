@@ -2,4 +2,6 @@ pub mod Entries
 pub mod Texts
 pub mod PathLaws
 pub mod Letters
+pub mod Heads
+pub mod Spelled
 pub mod Rows
