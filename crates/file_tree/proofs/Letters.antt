@@ -29,6 +29,13 @@ byte_text-escaped b h = rw h refl
 pub byte_text-plain : (b : ℕ) → is_escaped b ≡ false → byte_text b ≡ b ∷ []
 byte_text-plain b h = rw h refl
 
+pub byte_text-some : (b : ℕ) → 1 ≤ length (byte_text b)
+byte_text-some b =
+    elim (is_escaped b) as (λ v. is_escaped b ≡ v → 1 ≤ length (byte_text b)) [
+      | true ↦ λ holds. omega (arith, ap length (byte_text-escaped b holds))
+      | false ↦ λ plain. omega (arith, ap length (byte_text-plain b plain))
+    ] refl
+
 two_digits-back : (b : ℕ) → b < 256 → two_digits (high b) (low b) ≡ b
 two_digits-back b below =
     let first : hex_digit_value (high b) ≡ Some (b / 16) = IsDigits-lower_digits (b / 16) (omega arith) in

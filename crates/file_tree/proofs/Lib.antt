@@ -4,4 +4,5 @@ pub mod PathLaws
 pub mod Letters
 pub mod Heads
 pub mod Spelled
+pub mod Readings
 pub mod Rows
