@@ -16,7 +16,7 @@ high b = slice_index lower_digits (b / 16)
 abbrev pub low : ℕ → ℕ
 low b = slice_index lower_digits (b % 16)
 
-digit-not_slash : (d : ℕ) → d < 16 → slice_index lower_digits d ≢ 47
+pub digit-not_slash : (d : ℕ) → d < 16 → slice_index lower_digits d ≢ 47
 digit-not_slash d below is =
     let value : hex_digit_value (slice_index lower_digits d) ≡ Some d = IsDigits-lower_digits d below in
     let none : hex_digit_value 47 ≡ Some d = subst (λ (c : ℕ). hex_digit_value c ≡ Some d) is value in

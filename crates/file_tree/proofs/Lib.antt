@@ -5,4 +5,5 @@ pub mod Letters
 pub mod Heads
 pub mod Spelled
 pub mod Readings
+pub mod Faults
 pub mod Rows
