@@ -6,4 +6,5 @@ pub mod Heads
 pub mod Spelled
 pub mod Readings
 pub mod Faults
+pub mod Parsing
 pub mod Rows

@@ -16,7 +16,7 @@ use Rattle.file_tree.proofs.Heads.{Head, Ended, Slash, Letter, Bad, BadPercent, 
 
 -- ---- names and their parts
 
-bytes_eq-other : (xs ys : List ℕ) → xs ≢ ys → bytes_eq xs ys ≡ false
+pub bytes_eq-other : (xs ys : List ℕ) → xs ≢ ys → bytes_eq xs ys ≡ false
 bytes_eq-other xs ys other = false_from_ne_true (bytes_eq xs ys) (λ same. other ((bytes_eq-Decides xs ys).0 same))
 
 pub ended_name-name : (start at : ℕ) (name : List ℕ) → IsName name → ended_name start at name ≡ None

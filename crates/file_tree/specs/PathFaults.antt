@@ -1,5 +1,5 @@
 -- Why a text spells no path. Each fault has its place, where no path goes on as the text does.
-use Rattle.std.specs.Prelude.{ℕ, ◌≡◌, ◌≢◌, ◌⊎◌, ◌<◌, ◌≤◌, ⊤, IsTrue, List, [], ◌∷◌, ◌++◌, length, codes, Result, MatchResult}
+use Rattle.std.specs.Prelude.{ℕ, ◌≡◌, ◌≢◌, ◌⊎◌, ◌<◌, ◌≤◌, IsTrue, List, [], ◌∷◌, ◌++◌, length, codes, Result, MatchResult}
 use Rattle.std.specs.List.{AllByRecursion}
 use Rattle.file_tree.specs.Names.{IsNameByte, IsName, IsPath, path_length}
 use Rattle.file_tree.specs.PathText.{is_escaped, byte_text, name_text, names_text, path_text, told}
@@ -67,14 +67,22 @@ FaultStands text (Dots place) = (names : List (List ℕ)) × (name : List ℕ)
 -- it is spelled as a path is, of names that are too many or too long together
 FaultStands text (LongPath size) = (names : List (List ℕ))
     × AreNames names × (text ≡ path_text names) × (1024 < path_length names) × (size ≡ told (path_length names))
--- memory may run out at any text
-FaultStands text NoMemory = ⊤
+-- want of memory is no fault of a text
+FaultStands text NoMemory = ⊥
 
 -- ---- what parsing answers
 
 abbrev pub SpellsNoPath : List ℕ → Type 0
 SpellsNoPath text = (path : List (List ℕ)) → IsPath path → AllByRecursion IsBytes path → text ≢ path_text path
 
--- the answer is this path, unless memory ran out
+-- this path, unless memory ran out
 abbrev pub GivesPath : List (List ℕ) → Result (List (List ℕ)) PathFault → Type 0
 GivesPath path r = MatchResult r (λ found. found ≡ path) (λ fault. fault ≡ NoMemory)
+
+-- this fault, unless memory ran out
+abbrev pub GivesFault : PathFault → Result (List (List ℕ)) PathFault → Type 0
+GivesFault fault r = MatchResult r (λ path. ⊥) (λ found. (found ≡ NoMemory) ⊎ (found ≡ fault))
+
+-- a text has one fault at most, and with it no path
+abbrev pub GivesItsFault : List ℕ → Result (List (List ℕ)) PathFault → Type 0
+GivesItsFault text r = (fault : PathFault) → FaultStands text fault → GivesFault fault r
