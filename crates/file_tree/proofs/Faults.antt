@@ -16,13 +16,13 @@ use Rattle.file_tree.proofs.Spelled.{begins_none, begins_more, begins_none_from,
 
 -- ---- where the reader stands behind some names and the bytes of one more
 
-abbrev start_of : List (List ℕ) → ℕ
+abbrev pub start_of : List (List ℕ) → ℕ
 start_of names = length (names_text names) + 1
 
-abbrev place_of : List (List ℕ) → List ℕ → ℕ
+abbrev pub place_of : List (List ℕ) → List ℕ → ℕ
 place_of names name = length (front_text names name)
 
-place_of-none : (names : List (List ℕ)) → place_of names [] ≡ start_of names
+pub place_of-none : (names : List (List ℕ)) → place_of names [] ≡ start_of names
 place_of-none names = omega (arith, length-append (names_text names) (47 ∷ []))
 
 front_text-more : (names : List (List ℕ)) (name : List ℕ) (byte : ℕ) → front_text names (name ++ byte ∷ []) ≡ front_text names name ++ byte_text byte

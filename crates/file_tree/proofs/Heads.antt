@@ -31,7 +31,7 @@ no_escape c d rest none byte more plain below h =
     let same : escaped_byte c d ≡ Some byte = cc (e.1, some) in
     cc (same, none)
 
-escaped-not_slash : (byte : ℕ) → is_escaped byte ≡ true → byte ≢ 47
+pub escaped-not_slash : (byte : ℕ) → is_escaped byte ≡ true → byte ≢ 47
 escaped-not_slash byte holds is = let lacks : is_escaped byte ≡ false = rw is refl in cc (holds, lacks)
 
 plain-below : (byte : ℕ) → is_escaped byte ≡ false → (byte ≢ 0) × (byte < 256)

@@ -7,4 +7,5 @@ pub mod Spelled
 pub mod Readings
 pub mod Faults
 pub mod Parsing
+pub mod FaultsRead
 pub mod Rows
