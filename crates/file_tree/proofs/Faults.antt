@@ -64,9 +64,12 @@ completed name begun =
 
 begins_path : (names : List (List ℕ)) (name : List ℕ) → AreNames names → BeginsName name → BeginsPath (front_text names name)
 begins_path names name are begun =
-    let t = completed name begun in
-    (names ++ t.0 ∷ [], t.1, names_more names t.0 are t.2.is t.2.bytes,
-      names_text-more names t.0 ∙ ap (λ (s : List ℕ). names_text names ++ 47 ∷ s) t.2.text ∙ sym (append_assoc (names_text names) (47 ∷ name_text name) t.1))
+    let t = completed name begun in (
+      names ++ t.0 ∷ [],
+      t.1,
+      names_more names t.0 are t.2.is t.2.bytes,
+      names_text-more names t.0 ∙ ap (λ (s : List ℕ). names_text names ++ 47 ∷ s) t.2.text ∙ sym (append_assoc (names_text names) (47 ∷ name_text name) t.1),
+    )
 
 -- ---- one break
 
@@ -84,9 +87,12 @@ breaks text place names name next more fault are begun at stands stops = record 
 
 empty_stands : (text : List ℕ) (names : List (List ℕ)) (more : List ℕ) → AreNames names → text ≢ codes "/"
     → text ++ codes "/" ≡ front_text names [] ++ 47 ∷ more → FaultStands text (EmptyName (told (place_of names [])))
-empty_stands text names more are root stands =
-    (names, root, breaks text _ names [] (47 ∷ []) more (EmptyName (told (place_of names []))) are begins_none refl stands
-      (λ rest. names_read-slash (start_of names) [] (place_of names []) rest))
+empty_stands text names more are root stands = (
+  names,
+  root,
+  breaks text _ names [] (47 ∷ []) more (EmptyName (told (place_of names []))) are begins_none refl stands
+      (λ rest. names_read-slash (start_of names) [] (place_of names []) rest),
+)
 
 dots_stand : (text : List ℕ) (names : List (List ℕ)) (name more : List ℕ) → AreNames names → BeginsName name → IsDots name
     → text ++ codes "/" ≡ front_text names name ++ 47 ∷ more → FaultStands text (Dots (told (start_of names)))
@@ -96,8 +102,8 @@ dots_stand text names name more are begun dots stands =
     let after = at + length (name_text name) in
     let regroup : front_text names name ++ 47 ∷ more ≡ front_text names [] ++ ((name_text name ++ 47 ∷ []) ++ more) = simp append_assoc in
     let stops : (rest : List ℕ) → names_read start [] at ((name_text name ++ 47 ∷ []) ++ rest) ≡ Faulty (Dots (told start)) = λ rest.
-        ap (names_read start [] at) (append_assoc (name_text name) (47 ∷ []) rest) ∙ read-first start name at (47 ∷ rest) begun
-        ∙ names_read-slash start name after rest ∙ ap (λ (o : Option PathFault). unless o (after_names (name ∷ []) (names_read (after + 1) [] (after + 1) rest))) (ended-dots name dots start after) in
+    ap (names_read start [] at) (append_assoc (name_text name) (47 ∷ []) rest) ∙ read-first start name at (47 ∷ rest) begun
+    ∙ names_read-slash start name after rest ∙ ap (λ (o : Option PathFault). unless o (after_names (name ∷ []) (names_read (after + 1) [] (after + 1) rest))) (ended-dots name dots start after) in
     (names, name, dots, breaks text (told start) names [] (name_text name ++ 47 ∷ []) more (Dots (told start)) are begins_none (ap told (sym (place_of-none names))) (stands ∙ regroup) stops)
 
 -- a name that ends with a fault
@@ -149,7 +155,7 @@ fault_stands (suc fuel) whole names name text fault short are begun root parts h
     let front = front_text names name in
     let R : List ℕ → Type 0 = λ t. names_read start name at t ≡ Faulty fault in
     let closed : (t : List ℕ) → text ≡ t → whole ++ codes "/" ≡ front ++ (t ++ 47 ∷ []) = λ t is.
-        ap (λ (s : List ℕ). s ++ 47 ∷ []) (parts ∙ ap (λ (s : List ℕ). front ++ s) is) ∙ append_assoc front t (47 ∷ []) in
+    ap (λ (s : List ℕ). s ++ 47 ∷ []) (parts ∙ ap (λ (s : List ℕ). front ++ s) is) ∙ append_assoc front t (47 ∷ []) in
     elim (head_of text) [
       | Ended is ↦
           elim (faulty_unless (ended_name start at name) (Reads (name ∷ [])) fault (subst R is h)) [
@@ -186,7 +192,7 @@ fault_stands (suc fuel) whole names name text fault short are begun root parts h
                 let long : length name ≡ 255 = omega (arith, begun.short) in
                 let same : LongName (told at) ≡ fault = cc (sym (if_room-full name at read long) ∙ here) in
                 let stops : (more : List ℕ) → names_read start name at (byte_text byte ++ more) ≡ Faulty (LongName (told at)) = λ more.
-                    names_read-letter start name at byte more plain below ∙ if_room-full name at _ long in
+                names_read-letter start name at byte more plain below ∙ if_room-full name at _ long in
                 let stands = closed (byte_text byte ++ rest) is ∙ ap (λ (s : List ℕ). front ++ s) (append_assoc (byte_text byte) rest (47 ∷ [])) in
                 subst (FaultStands whole) same (names, name, byte, long, plain, below, breaks whole _ names name (byte_text byte) (rest ++ 47 ∷ []) (LongName (told at)) are begun refl stands stops)
           ]

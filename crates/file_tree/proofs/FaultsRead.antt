@@ -113,16 +113,16 @@ cut_escape next [] none ends = let e : ◌≡◌ {A = ℕ} 37 47 = cc (ends) in 
 cut_escape next (b ∷ rest) none ends =
     let first : b ≡ 37 = cc (ends) in
     let spells : SpellsNoByte (37 ∷ rest) = λ byte more plain below h.
-        none [] byte (more ++ 47 ∷ []) plain below
-          (append-nil (37 ∷ next) ∙ ends ∙ ap (λ (n : ℕ). n ∷ rest ++ 47 ∷ []) first ∙ ap (λ (t : List ℕ). t ++ 47 ∷ []) h ∙ append_assoc (byte_text byte) more (47 ∷ [])) in
+    none [] byte (more ++ 47 ∷ []) plain below
+    (append-nil (37 ∷ next) ∙ ends ∙ ap (λ (n : ℕ). n ∷ rest ++ 47 ∷ []) first ∙ ap (λ (t : List ℕ). t ++ 47 ∷ []) h ∙ append_assoc (byte_text byte) more (47 ∷ [])) in
     (rest, ap (λ (n : ℕ). n ∷ rest) first, spells)
 
 bad_escape_read : (text : List ℕ) (place : ℕ) (names : List (List ℕ)) (name next : List ℕ) → BeginsNoByte (37 ∷ next) → Breaks text place names name (37 ∷ next)
     → path_read text ≡ Faulty (BadEscape place)
 bad_escape_read text place names name next none b =
     let stop : (rest : List ℕ) → SpellsNoByte (37 ∷ rest) → text ≡ front_text names name ++ 37 ∷ rest → path_read text ≡ Faulty (BadEscape (told (place_of names name))) = λ rest spells is.
-        stops_there text names name (37 ∷ rest) _ b.whole b.begun (not_root text names name (37 ∷ rest) (omega arith) is) is
-          (names_read-bad_escape (start_of names) name (place_of names name) rest spells) in
+    stops_there text names name (37 ∷ rest) _ b.whole b.begun (not_root text names name (37 ∷ rest) (omega arith) is) is
+    (names_read-bad_escape (start_of names) name (place_of names name) rest spells) in
     let there : path_read text ≡ Faulty (BadEscape (told (place_of names name))) = elim (follows text (front_text names name) (37 ∷ next) b.stands.0 (omega arith) b.stands.1) [
       | Within more is ↦ stop (next ++ more) (none more) is
       | AtEnd tail ends is ↦ let t = cut_escape next tail none ends in stop t.0 t.2 (is ∙ ap (λ (s : List ℕ). front_text names name ++ s) t.1)
@@ -165,7 +165,7 @@ dots_read text place names name dots b =
     let at = place_of names [] in
     let after = at + length (name_text name) in
     let stop : (tail : List ℕ) → 1 ≤ length tail → text ≡ front_text names [] ++ tail → names_read start [] at tail ≡ Faulty (Dots (told start)) → path_read text ≡ Faulty (Dots (told start)) = λ tail more is read.
-        stops_there text names [] tail _ b.whole begins_none (not_root text names [] tail more is) is read in
+    stops_there text names [] tail _ b.whole begins_none (not_root text names [] tail more is) is read in
     let there : path_read text ≡ Faulty (Dots (told start)) =
     elim (follows text (front_text names []) (name_text name ++ codes "/") b.stands.0 (omega (arith, some.1, length-append (name_text name) (codes "/"))) b.stands.1) [
       | Within more is ↦

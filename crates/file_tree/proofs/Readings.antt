@@ -93,7 +93,7 @@ pub if_short-faulty : (read : PathRead) (fault : PathFault) → if_short read �
 if_short-faulty (Faulty other) fault h = inl h
 if_short-faulty (Reads path) fault h =
     elim (nat_lt 1024 (path_length path)) as (λ v. nat_lt 1024 (path_length path) ≡ v → cond v (Faulty (LongPath (told (path_length path)))) (Reads path) ≡ Faulty fault
-        → (Reads path ≡ Faulty fault) ⊎ ((p : List (List ℕ)) × (Reads path ≡ Reads p) × (1024 < path_length p) × (fault ≡ LongPath (told (path_length p))))) [
+    → (Reads path ≡ Faulty fault) ⊎ ((p : List (List ℕ)) × (Reads path ≡ Reads p) × (1024 < path_length p) × (fault ≡ LongPath (told (path_length p))))) [
       | true ↦ λ long e. let same : LongPath (told (path_length path)) ≡ fault = cc e in inr (path, refl, ltb-true 1024 (path_length path) long, sym same)
       | false ↦ λ short e. absurd (cc e)
     ] refl h
