@@ -77,51 +77,51 @@ fn good_paths(rt: HostRuntime) -> Result<(), Fail> {
     Ok(())
 }
 
+const BAD_PATHS: [(&[u8], PathFault); 37] = [
+    (b"", PathFault::NoSlash),
+    (b"a", PathFault::NoSlash),
+    (b"a/b", PathFault::NoSlash),
+    (b" /a", PathFault::NoSlash),
+    (b"%2f", PathFault::NoSlash),
+    (b"//", PathFault::EmptyName(1)),
+    (b"//a", PathFault::EmptyName(1)),
+    (b"/a//b", PathFault::EmptyName(3)),
+    (b"/a/", PathFault::EmptyName(3)),
+    (b"/a/b/", PathFault::EmptyName(5)),
+    (b"/a b", PathFault::BadByte(2)),
+    (b"/\t", PathFault::BadByte(1)),
+    (b"/a\x1f", PathFault::BadByte(2)),
+    (b"/\x7f", PathFault::BadByte(1)),
+    (b"/ab\xc8", PathFault::BadByte(3)),
+    (b"/\x00", PathFault::BadByte(1)),
+    (b"/%C8", PathFault::BadEscape(1)),
+    (b"/%cG", PathFault::BadEscape(1)),
+    (b"/a%61", PathFault::BadEscape(2)),
+    (b"/%7e", PathFault::BadEscape(1)),
+    (b"/%00", PathFault::BadEscape(1)),
+    (b"/%2f", PathFault::BadEscape(1)),
+    (b"/%2F", PathFault::BadEscape(1)),
+    (b"/a%", PathFault::BadEscape(2)),
+    (b"/a%2", PathFault::BadEscape(2)),
+    (b"/%2/", PathFault::BadEscape(1)),
+    (b"/%/", PathFault::BadEscape(1)),
+    (b"/.", PathFault::Dots(1)),
+    (b"/..", PathFault::Dots(1)),
+    (b"/./a", PathFault::Dots(1)),
+    (b"/a/../b", PathFault::Dots(3)),
+    (b"/a/..", PathFault::Dots(3)),
+    (b"/a/.", PathFault::Dots(3)),
+    (b"/%20/..", PathFault::Dots(5)),
+    (b"/a/..//%", PathFault::Dots(3)),
+    (b"/..%zz", PathFault::BadEscape(3)),
+    (b"/.. ", PathFault::BadByte(3)),
+];
+
 #[test]
-fn bad_paths(rt: HostRuntime) -> Result<(), Fail> {
-    let cases: [(&[u8], PathFault); 37] = [
-        (b"", PathFault::NoSlash),
-        (b"a", PathFault::NoSlash),
-        (b"a/b", PathFault::NoSlash),
-        (b" /a", PathFault::NoSlash),
-        (b"%2f", PathFault::NoSlash),
-        (b"//", PathFault::EmptyName(1)),
-        (b"//a", PathFault::EmptyName(1)),
-        (b"/a//b", PathFault::EmptyName(3)),
-        (b"/a/", PathFault::EmptyName(3)),
-        (b"/a/b/", PathFault::EmptyName(5)),
-        (b"/a b", PathFault::BadByte(2)),
-        (b"/\t", PathFault::BadByte(1)),
-        (b"/a\x1f", PathFault::BadByte(2)),
-        (b"/\x7f", PathFault::BadByte(1)),
-        (b"/ab\xc8", PathFault::BadByte(3)),
-        (b"/\x00", PathFault::BadByte(1)),
-        (b"/%C8", PathFault::BadEscape(1)),
-        (b"/%cG", PathFault::BadEscape(1)),
-        (b"/a%61", PathFault::BadEscape(2)),
-        (b"/%7e", PathFault::BadEscape(1)),
-        (b"/%00", PathFault::BadEscape(1)),
-        (b"/%2f", PathFault::BadEscape(1)),
-        (b"/%2F", PathFault::BadEscape(1)),
-        (b"/a%", PathFault::BadEscape(2)),
-        (b"/a%2", PathFault::BadEscape(2)),
-        (b"/%2/", PathFault::BadEscape(1)),
-        (b"/%/", PathFault::BadEscape(1)),
-        (b"/.", PathFault::Dots(1)),
-        (b"/..", PathFault::Dots(1)),
-        (b"/./a", PathFault::Dots(1)),
-        (b"/a/../b", PathFault::Dots(3)),
-        (b"/a/..", PathFault::Dots(3)),
-        (b"/a/.", PathFault::Dots(3)),
-        (b"/%20/..", PathFault::Dots(5)),
-        (b"/a/..//%", PathFault::Dots(3)),
-        (b"/..%zz", PathFault::BadEscape(3)),
-        (b"/.. ", PathFault::BadByte(3)),
-    ];
-    for (text, fault) in cases {
-        expect_fault(&rt, rt.alloc(), text, fault);
+fn bad_paths(rt: HostRuntime) {
+    for (text, fault) in &BAD_PATHS {
+        expect_fault(&rt, rt.alloc(), text, *fault);
     }
-    Ok(())
 }
 
 // A name of 256 bytes, a path of 1,025, and which fault comes first.

@@ -71,48 +71,50 @@ fn reply_text(alloc: Global, reply: &Reply) -> Result<Vec<u8>, Fail> {
     Ok(text)
 }
 
+const CALLS: [&[u8]; 12] = [
+    b"create /a",
+    b"mkdir /a/b",
+    b"unlink /a",
+    b"rmdir /a",
+    b"stat /a%20b",
+    b"list /",
+    b"read /a 3 4",
+    b"dread /a 0 5",
+    b"truncate /a 18446744073709551615",
+    b"write /a 7 00ff",
+    b"rename /a /b/c",
+    b"sync",
+];
+
 #[test]
 fn calls(rt: HostRuntime) -> Result<(), Fail> {
-    let wanted: [&[u8]; 12] = [
-        b"create /a",
-        b"mkdir /a/b",
-        b"unlink /a",
-        b"rmdir /a",
-        b"stat /a%20b",
-        b"list /",
-        b"read /a 3 4",
-        b"dread /a 0 5",
-        b"truncate /a 18446744073709551615",
-        b"write /a 7 00ff",
-        b"rename /a /b/c",
-        b"sync",
-    ];
-    for (i, want) in wanted.iter().enumerate() {
+    for (i, want) in CALLS.iter().enumerate() {
         let call = call_at(rt.alloc(), i)?;
         assert_eq!(rt; call_text(rt.alloc(), &call)?.as_slice(), *want);
     }
     Ok(())
 }
 
+const REPLIES: [&[u8]; 14] = [
+    b"ok",
+    b"data 68656c6c6f",
+    b"data -",
+    b"stat file 5",
+    b"stat dir 2",
+    b"names 2 a b%20c",
+    b"notfound",
+    b"notdir",
+    b"isdir",
+    b"exists",
+    b"notempty",
+    b"inside",
+    b"toobig",
+    b"nospace",
+];
+
 #[test]
 fn replies(rt: HostRuntime) -> Result<(), Fail> {
-    let wanted: [&[u8]; 14] = [
-        b"ok",
-        b"data 68656c6c6f",
-        b"data -",
-        b"stat file 5",
-        b"stat dir 2",
-        b"names 2 a b%20c",
-        b"notfound",
-        b"notdir",
-        b"isdir",
-        b"exists",
-        b"notempty",
-        b"inside",
-        b"toobig",
-        b"nospace",
-    ];
-    for (i, want) in wanted.iter().enumerate() {
+    for (i, want) in REPLIES.iter().enumerate() {
         let reply = reply_at(rt.alloc(), i)?;
         assert_eq!(rt; reply_text(rt.alloc(), &reply)?.as_slice(), *want);
     }
