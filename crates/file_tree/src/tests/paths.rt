@@ -1,12 +1,10 @@
-ghost use Rattle.std.specs.Prelude.{◌≢◌};
-
-use crate::{Name, NameList, Path, PathFault, append_name, append_path};
+use crate::{Path, PathFault, append_name, append_path};
 use std::alloc::Global;
 use std::process::Abort;
 use std::test::Fail;
 
-// A text that begins with a slash and has a slash before each name of so many letters.
-fn lettered(alloc: Global, lengths: &[u32]) -> Result<Vec<u8>, Fail> {
+// A slash before each name of so many letters, and more behind them.
+fn lettered(alloc: Global, lengths: &[u32], more: &[u8]) -> Result<Vec<u8>, Fail> {
     let mut text = Vec::new(alloc);
     for length in lengths {
         text.push(b'/')?;
@@ -14,28 +12,40 @@ fn lettered(alloc: Global, lengths: &[u32]) -> Result<Vec<u8>, Fail> {
             text.push(b'a')?;
         }
     }
-    Ok(text)
-}
-
-fn followed_by(alloc: Global, front: &[u8], back: &[u8]) -> Result<Vec<u8>, Fail> {
-    let mut text = front.to_vec(alloc)?;
-    for byte in back {
+    for byte in more {
         text.push(*byte)?;
     }
     Ok(text)
 }
 
-// Reads a path of these names, and writes it again.
-fn expect_path(rt: &impl Abort, alloc: Global, text: &[u8], names: &[&[u8]]) -> Result<(), Fail> {
-    let path = Path::parse(alloc, text)?;
-    assert_eq!(rt; path.names().len(), names.len(), "names of {text:?}");
-    for (i, name) in path.copy()?.names().iter().enumerate() {
-        assert!(rt; i < names.len());
-        assert_eq!(rt; name.bytes(), names[i], "name {i} of {text:?}");
+// The names of a path, each behind a slash.
+fn names_text(alloc: Global, path: &Path) -> Result<Vec<u8>, Fail> {
+    let mut text = Vec::new(alloc);
+    for name in path.names() {
+        text.push(b'/')?;
+        append_name(&mut text, name)?;
     }
+    Ok(text)
+}
+
+// A copy of the path that this spells is spelled so again.
+fn expect_again(rt: &impl Abort, alloc: Global, text: &[u8]) -> Result<(), Fail> {
+    let path = Path::parse(alloc, text)?.copy()?;
     let mut again = Vec::new(alloc);
     append_path(&mut again, &path)?;
     assert_eq!(rt; again.as_slice(), text);
+    if !path.names().is_empty() {
+        assert_eq!(rt; names_text(alloc, &path)?.as_slice(), text);
+    }
+    Ok(())
+}
+
+fn expect_names(rt: &impl Abort, alloc: Global, text: &[u8], names: &[&[u8]]) -> Result<(), Fail> {
+    let path = Path::parse(alloc, text)?;
+    assert_eq!(rt; path.names().len(), names.len(), "names of {text:?}");
+    for (name, want) in path.names().iter().zip(names) {
+        assert_eq!(rt; name.bytes(), *want, "in {text:?}");
+    }
     Ok(())
 }
 
@@ -43,38 +53,31 @@ fn expect_fault(rt: &impl Abort, alloc: Global, text: &[u8], fault: PathFault) {
     assert_eq!(rt; Path::parse(alloc, text).err(), Some(fault), "at {text:?}");
 }
 
+const GOOD_PATHS: [(&[u8], &[&[u8]]); 7] = [
+    (b"/", &[]),
+    (b"/d/a", &[b"d", b"a"]),
+    (b"/!~", &[b"!~"]),
+    (b"/...", &[b"..."]),
+    (b"/.a/..b", &[b".a", b"..b"]),
+    (b"/my%20file/%c8%25", &[b"my file", b"\xc8%"]),
+    (b"/%01%1f%7f%ff", &[b"\x01\x1f\x7f\xff"]),
+];
+
 #[test]
 fn good_paths(rt: HostRuntime) -> Result<(), Fail> {
-    let alloc = rt.alloc();
-    expect_path(&rt, alloc, b"/", &[])?;
-    expect_path(&rt, alloc, b"/d/a", &[b"d".as_slice(), b"a".as_slice()])?;
-    expect_path(&rt, alloc, b"/!~", &[b"!~".as_slice()])?;
-    expect_path(&rt, alloc, b"/...", &[b"...".as_slice()])?;
-    expect_path(
-        &rt,
-        alloc,
-        b"/.a/..b",
-        &[b".a".as_slice(), b"..b".as_slice()],
-    )?;
-    expect_path(
-        &rt,
-        alloc,
-        b"/my%20file/%c8%25",
-        &[b"my file".as_slice(), b"\xc8%".as_slice()],
-    )?;
-    expect_path(
-        &rt,
-        alloc,
-        b"/%01%1f%7f%ff",
-        &[b"\x01\x1f\x7f\xff".as_slice()],
-    )?;
-    // Four names of 255 bytes make a path of 1,024.
-    let longest = lettered(alloc, &[255, 255, 255, 255])?;
-    let full = lettered(alloc, &[255])?;
-    if let [b'/', name @ ..] = full.as_slice() {
-        expect_path(&rt, alloc, &longest, &[name, name, name, name])?;
+    for (text, names) in &GOOD_PATHS {
+        expect_names(&rt, rt.alloc(), text, names)?;
+        expect_again(&rt, rt.alloc(), text)?;
     }
     Ok(())
+}
+
+// Four names of 255 bytes make a path of 1,024.
+#[test]
+fn longest_path(rt: HostRuntime) -> Result<(), Fail> {
+    let longest = lettered(rt.alloc(), &[255, 255, 255, 255], b"")?;
+    assert_eq!(rt; longest.len(), 1024);
+    expect_again(&rt, rt.alloc(), &longest)
 }
 
 const BAD_PATHS: [(&[u8], PathFault); 37] = [
@@ -124,75 +127,22 @@ fn bad_paths(rt: HostRuntime) {
     }
 }
 
-// A name of 256 bytes, a path of 1,025, and which fault comes first.
+// A name of 256 bytes, a path of 1,025, and which of two faults is told.
+const LONG_PATHS: [(&[u32], &[u8], PathFault); 7] = [
+    (&[256], b"", PathFault::LongName(256)),
+    (&[9, 256], b"", PathFault::LongName(266)),
+    (&[255], b"%20", PathFault::LongName(256)),
+    (&[255], b"%zz", PathFault::BadEscape(256)),
+    (&[255], b" ", PathFault::BadByte(256)),
+    (&[255, 255, 255, 128, 127], b"", PathFault::LongPath(1025)),
+    (&[255, 255, 255, 128, 127], b"/", PathFault::EmptyName(1026)),
+];
+
 #[test]
 fn long_paths(rt: HostRuntime) -> Result<(), Fail> {
-    let alloc = rt.alloc();
-    let full = lettered(alloc, &[255])?;
-    expect_fault(
-        &rt,
-        alloc,
-        &lettered(alloc, &[256])?,
-        PathFault::LongName(256),
-    );
-    expect_fault(
-        &rt,
-        alloc,
-        &lettered(alloc, &[9, 256])?,
-        PathFault::LongName(266),
-    );
-    expect_fault(
-        &rt,
-        alloc,
-        &followed_by(alloc, &full, b"%20")?,
-        PathFault::LongName(256),
-    );
-    expect_fault(
-        &rt,
-        alloc,
-        &followed_by(alloc, &full, b"%zz")?,
-        PathFault::BadEscape(256),
-    );
-    expect_fault(
-        &rt,
-        alloc,
-        &followed_by(alloc, &full, b" ")?,
-        PathFault::BadByte(256),
-    );
-    let long = lettered(alloc, &[255, 255, 255, 128, 127])?;
-    expect_fault(&rt, alloc, &long, PathFault::LongPath(1025));
-    expect_fault(
-        &rt,
-        alloc,
-        &followed_by(alloc, &long, b"/")?,
-        PathFault::EmptyName(1026),
-    );
-    Ok(())
-}
-
-fn one_letter(alloc: Global, letter: u8) -> Result<Name, Fail>
-    requires not_zero { letter ≢ 0 }
-    requires not_slash { letter ≢ 47 }
-    requires not_dot { letter ≢ 46 }
-{
-    Ok(Name::new(vec![in alloc; letter]?))
-}
-
-#[test]
-fn names_and_copies(rt: HostRuntime) -> Result<(), Fail> {
-    let alloc = rt.alloc();
-    let name = one_letter(alloc, b' ')?;
-    assert_eq!(rt; name.copy()?.bytes(), b" ".as_slice());
-    let mut text = Vec::new(alloc);
-    append_name(&mut text, &name)?;
-    assert_eq!(rt; text.as_slice(), b"%20".as_slice());
-
-    let root = Path::new(Vec::new(alloc));
-    assert!(rt; root.copy()?.names().is_empty());
-
-    let list = NameList::new(vec![in alloc; name, one_letter(alloc, b'z')?]?).copy()?;
-    assert_eq!(rt; list.names().len(), 2);
-    assert_eq!(rt; list.names()[0].bytes(), b" ".as_slice());
-    assert_eq!(rt; list.names()[1].bytes(), b"z".as_slice());
+    for (lengths, more, fault) in &LONG_PATHS {
+        let text = lettered(rt.alloc(), lengths, more)?;
+        expect_fault(&rt, rt.alloc(), &text, *fault);
+    }
     Ok(())
 }
