@@ -2,10 +2,6 @@ use crate::{Call, Content, Kind, Name, NameList, Path, Reply, append_call, appen
 use std::alloc::Global;
 use std::test::Fail;
 
-fn path(alloc: Global, text: &[u8]) -> Result<Path, Fail> {
-    Ok(Path::parse(alloc, text)?)
-}
-
 fn content(alloc: Global, bytes: &[u8]) -> Result<Content, Fail> {
     Ok(Content::new(bytes.to_vec(alloc)?))
 }
@@ -22,40 +18,47 @@ fn names(alloc: Global, text: &[u8]) -> Result<NameList, Fail> {
 
 // A call of each kind.
 fn call_at(alloc: Global, place: usize) -> Result<Call, Fail> {
+    let path = Path::parse(alloc, b"/a%20b")?;
     Ok(match place {
-        0 => Call::Create(path(alloc, b"/a")?),
-        1 => Call::Mkdir(path(alloc, b"/a/b")?),
-        2 => Call::Unlink(path(alloc, b"/a")?),
-        3 => Call::Rmdir(path(alloc, b"/a")?),
-        4 => Call::Stat(path(alloc, b"/a%20b")?),
-        5 => Call::List(path(alloc, b"/")?),
-        6 => Call::Read(path(alloc, b"/a")?, 3, 4),
-        7 => Call::Dread(path(alloc, b"/a")?, 0, 5),
-        8 => Call::Truncate(path(alloc, b"/a")?, u64::MAX),
-        9 => Call::Write(path(alloc, b"/a")?, 7, content(alloc, b"\x00\xff")?),
-        10 => Call::Rename(path(alloc, b"/a")?, path(alloc, b"/b/c")?),
+        0 => Call::Create(path),
+        1 => Call::Mkdir(path),
+        2 => Call::Unlink(path),
+        3 => Call::Rmdir(path),
+        4 => Call::Stat(path),
+        5 => Call::List(path),
+        6 => Call::Read(path, 3, 4),
+        7 => Call::Dread(path, 0, 5),
+        8 => Call::Truncate(path, u64::MAX),
+        9 => Call::Write(path, 7, content(alloc, b"\x00\xff")?),
+        10 => Call::Rename(path, Path::parse(alloc, b"/c/d")?),
         _ => Call::Sync,
     })
 }
 
+fn plain_reply(place: usize) -> Reply {
+    match place {
+        0 => Reply::Ok,
+        1 => Reply::NotFound,
+        2 => Reply::NotDir,
+        3 => Reply::IsDir,
+        4 => Reply::Exists,
+        5 => Reply::NotEmpty,
+        6 => Reply::Inside,
+        7 => Reply::TooBig,
+        8 => Reply::NoSpace,
+        9 => Reply::Stat(Kind::File, 5),
+        _ => Reply::Stat(Kind::Dir, 2),
+    }
+}
+
 // A reply of each kind, of bytes and of a stat two.
 fn reply_at(alloc: Global, place: usize) -> Result<Reply, Fail> {
-    Ok(match place {
-        0 => Reply::Ok,
-        1 => Reply::Bytes(content(alloc, b"hello")?),
-        2 => Reply::Bytes(content(alloc, b"")?),
-        3 => Reply::Stat(Kind::File, 5),
-        4 => Reply::Stat(Kind::Dir, 2),
-        5 => Reply::Names(names(alloc, b"/a/b%20c")?),
-        6 => Reply::NotFound,
-        7 => Reply::NotDir,
-        8 => Reply::IsDir,
-        9 => Reply::Exists,
-        10 => Reply::NotEmpty,
-        11 => Reply::Inside,
-        12 => Reply::TooBig,
-        _ => Reply::NoSpace,
-    })
+    match place {
+        11 => Ok(Reply::Bytes(content(alloc, b"hello")?)),
+        12 => Ok(Reply::Bytes(content(alloc, b"")?)),
+        13 => Ok(Reply::Names(names(alloc, b"/a/b%20c")?)),
+        _ => Ok(plain_reply(place)),
+    }
 }
 
 // How a copy is written.
@@ -72,17 +75,17 @@ fn reply_text(alloc: Global, reply: &Reply) -> Result<Vec<u8>, Fail> {
 }
 
 const CALLS: [&[u8]; 12] = [
-    b"create /a",
-    b"mkdir /a/b",
-    b"unlink /a",
-    b"rmdir /a",
+    b"create /a%20b",
+    b"mkdir /a%20b",
+    b"unlink /a%20b",
+    b"rmdir /a%20b",
     b"stat /a%20b",
-    b"list /",
-    b"read /a 3 4",
-    b"dread /a 0 5",
-    b"truncate /a 18446744073709551615",
-    b"write /a 7 00ff",
-    b"rename /a /b/c",
+    b"list /a%20b",
+    b"read /a%20b 3 4",
+    b"dread /a%20b 0 5",
+    b"truncate /a%20b 18446744073709551615",
+    b"write /a%20b 7 00ff",
+    b"rename /a%20b /c/d",
     b"sync",
 ];
 
@@ -97,11 +100,6 @@ fn calls(rt: HostRuntime) -> Result<(), Fail> {
 
 const REPLIES: [&[u8]; 14] = [
     b"ok",
-    b"data 68656c6c6f",
-    b"data -",
-    b"stat file 5",
-    b"stat dir 2",
-    b"names 2 a b%20c",
     b"notfound",
     b"notdir",
     b"isdir",
@@ -110,6 +108,11 @@ const REPLIES: [&[u8]; 14] = [
     b"inside",
     b"toobig",
     b"nospace",
+    b"stat file 5",
+    b"stat dir 2",
+    b"data 68656c6c6f",
+    b"data -",
+    b"names 2 a b%20c",
 ];
 
 #[test]

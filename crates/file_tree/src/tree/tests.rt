@@ -3,8 +3,8 @@ ghost use Rattle.std.specs.Prelude.{◌≡◌, ◌≢◌, ◌∷◌, [], IfOk};
 use super::{Entry, Node, Tree};
 use crate::{Content, Name};
 use std::alloc::Global;
-use std::process::Abort;
 use std::test::Fail;
+use text_words::append;
 
 fn one_letter(alloc: Global, letter: u8) -> Result<Name, Fail>
     requires not_zero { letter ≢ 0 }
@@ -15,49 +15,42 @@ fn one_letter(alloc: Global, letter: u8) -> Result<Name, Fail>
     Ok(Name::new(vec![in alloc; letter]?))
 }
 
-fn file(alloc: Global, bytes: &[u8]) -> Result<Tree, Fail> {
-    Ok(Tree::file(Content::new(bytes.to_vec(alloc)?)))
-}
-
-// A directory into which four names were put in no order.
+// A directory into which three names were put in no order.
 fn directory(alloc: Global) -> Result<Tree, Fail> {
     let mut tree = Tree::dir(alloc);
-    tree.put(one_letter(alloc, b'd')?, file(alloc, b"4")?)?;
-    tree.put(one_letter(alloc, b'a')?, file(alloc, b"1")?)?;
+    let content = Content::new(vec![in alloc; b'5']?);
     tree.put(one_letter(alloc, b'c')?, Tree::dir(alloc))?;
-    tree.put(one_letter(alloc, b'b')?, file(alloc, b"2")?)?;
+    tree.put(one_letter(alloc, b'a')?, Tree::file(content))?;
+    tree.put(one_letter(alloc, b'b')?, Tree::dir(alloc))?;
     Ok(tree)
 }
 
-fn entries_of(tree: &Tree) -> &[Entry] {
-    match &tree.node {
-        Node::File(_) => &[],
-        Node::Dir(entries) => entries.as_slice(),
-    }
-}
-
-fn expect_file(rt: &impl Abort, entry: &Entry, name: &[u8], bytes: &[u8]) {
-    assert_eq!(rt; entry.name.bytes(), name);
+// A name, and behind it the bytes of its file, or a slash.
+fn append_entry(text: &mut Vec<u8>, entry: &Entry) -> Result<(), Fail> {
+    append(text, entry.name.bytes())?;
     match &entry.tree.node {
-        Node::File(content) => assert_eq!(rt; content.bytes(), bytes),
-        Node::Dir(_) => assert!(rt; false, "a directory"),
+        Node::File(content) => append(text, content.bytes())?,
+        Node::Dir(_) => text.push(b'/')?,
     }
+    Ok(())
 }
 
-fn expect_directory(rt: &impl Abort, tree: &Tree) {
-    let entries = entries_of(tree);
-    assert_eq!(rt; entries.len(), 4);
-    expect_file(rt, &entries[0], b"a", b"1");
-    expect_file(rt, &entries[1], b"b", b"2");
-    assert_eq!(rt; entries[2].name.bytes(), b"c".as_slice());
-    assert!(rt; entries_of(&entries[2].tree).is_empty());
-    expect_file(rt, &entries[3], b"d", b"4");
+fn listing(alloc: Global, tree: &Tree) -> Result<Vec<u8>, Fail> {
+    let mut text = Vec::new(alloc);
+    if let Node::Dir(entries) = &tree.node {
+        for entry in entries {
+            append_entry(&mut text, entry)?;
+        }
+    }
+    Ok(text)
 }
 
 #[test]
 fn names_go_to_their_places(rt: HostRuntime) -> Result<(), Fail> {
-    let tree = directory(rt.alloc())?;
-    expect_directory(&rt, &tree);
-    expect_directory(&rt, &tree.copy()?);
+    let tree = directory(rt.alloc())?.copy()?;
+    assert_eq!(rt;
+        listing(rt.alloc(), &tree)?.as_slice(),
+        b"a5b/c/".as_slice()
+    );
     Ok(())
 }
