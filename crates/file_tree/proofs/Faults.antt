@@ -1,15 +1,13 @@
 -- Each fault that is read stands at its place.
-use Rattle.std.proofs.Common.{◌≡◌, ◌≢◌, ◌⊎◌, inl, inr, ℕ, zero, suc, ◌+◌, ◌/◌, ◌%◌, ◌<◌, ◌≤◌, List, [], ◌∷◌, ◌++◌, length, Option, Some, None, refl, sym, ap, subst, ◌∙◌, arith, append_assoc, append-nil, length-append, slice_index}
+use Rattle.std.proofs.Common.{◌≡◌, ◌≢◌, inl, inr, ℕ, zero, suc, ◌+◌, ◌/◌, ◌%◌, ◌<◌, ◌≤◌, List, [], ◌∷◌, ◌++◌, length, Option, Some, refl, sym, ap, subst, ◌∙◌, arith, append_assoc, append-nil, length-append}
 use Rattle.std.specs.Prelude.{codes}
-use Rattle.std.specs.List.{AllByRecursion}
 use Rattle.std.proofs.lemmas.Bool.{cases_lt}
-use Rattle.hex.specs.Hex.{lower_digits}
 use Rattle.file_tree.specs.declared.path.PathFault.{PathFault}
 use Rattle.file_tree.specs.declared.path.PathFault.TheVariants.{EmptyName, BadByte, BadEscape, LongName, Dots}
-use Rattle.file_tree.specs.Names.{IsName, IsNameByte}
-use Rattle.file_tree.specs.PathText.{PathRead, Reads, Faulty, names_read, if_room, byte_text, name_text, names_text, unless, ended_name, after_names, told}
+use Rattle.file_tree.specs.Names.{IsName}
+use Rattle.file_tree.specs.PathText.{Reads, Faulty, names_read, byte_text, name_text, names_text, unless, ended_name, after_names, told}
 use Rattle.file_tree.specs.PathFaults.{IsBytes, AreNames, BeginsName, BeginsNoByte, BeginsPath, Breaks, FaultStands, front_text}
-use Rattle.file_tree.proofs.Heads.{Head, Ended, Slash, Letter, Bad, BadPercent, SpellsNoByte, head_of, names_read-slash, names_read-letter, names_read-bad_byte, names_read-bad_escape, if_room-short, if_room-full}
+use Rattle.file_tree.proofs.Heads.{Ended, Slash, Letter, Bad, BadPercent, SpellsNoByte, head_of, names_read-slash, names_read-letter, names_read-bad_byte, names_read-bad_escape, if_room-short, if_room-full}
 use Rattle.file_tree.proofs.Letters.{high, low, byte_text-some, byte_text-escaped, spelled_escape, digit-not_slash}
 use Rattle.file_tree.proofs.Readings.{IsDots, faulty_unless, after_faulty, ended_none, ended_some, ended-dots}
 use Rattle.file_tree.proofs.Spelled.{begins_none, begins_more, begins_none_from, names_more, name_text-more, names_text-more, read-first}

@@ -1,16 +1,16 @@
 -- Where a fault stands in a text, reading the text gives it.
-use Rattle.std.proofs.Common.{◌≡◌, ◌≢◌, ◌⊎◌, inl, inr, ℕ, zero, suc, ◌+◌, ◌/◌, ◌%◌, ◌<◌, ◌≤◌, Bool, true, false, List, [], ◌∷◌, ◌++◌, length, drop, Option, Some, Result, Ok, Err, refl, sym, ap, subst, ◌∙◌, arith, append_assoc, append-nil, length-append}
+use Rattle.std.proofs.Common.{◌≡◌, ◌≢◌, ◌⊎◌, inl, inr, ℕ, ◌+◌, ◌%◌, ◌<◌, ◌≤◌, true, false, List, [], ◌∷◌, ◌++◌, length, drop, Option, Result, Ok, Err, refl, sym, ap, subst, ◌∙◌, arith, append_assoc, append-nil, length-append}
 use Rattle.std.specs.Prelude.{codes, nat_lt}
 use Rattle.std.proofs.lemmas.Bool.{lt-ltb}
 use Rattle.file_tree.specs.declared.path.PathFault.{PathFault}
 use Rattle.file_tree.specs.declared.path.PathFault.TheVariants.{NoSlash, EmptyName, BadByte, BadEscape, LongName, Dots, LongPath, NoMemory}
 use Rattle.file_tree.specs.Names.{IsNameByte, path_length}
-use Rattle.file_tree.specs.PathText.{PathRead, Reads, Faulty, names_read, is_escaped, byte_text, name_text, names_text, path_text, path_read, unless, ended_name, after_names, told, if_short, ParsesPath}
-use Rattle.file_tree.specs.PathFaults.{AreNames, BeginsName, BeginsNoByte, Breaks, FaultStands, front_text, GivesFault, GivesItsFault}
+use Rattle.file_tree.specs.PathText.{Reads, Faulty, names_read, is_escaped, byte_text, name_text, names_text, path_text, path_read, unless, after_names, told, if_short, ParsesPath}
+use Rattle.file_tree.specs.PathFaults.{AreNames, BeginsName, BeginsNoByte, Breaks, FaultStands, front_text, GivesItsFault}
 use Rattle.file_tree.proofs.Faults.{start_of, place_of, place_of-none}
 use Rattle.file_tree.proofs.Heads.{SpellsNoByte, escaped-not_slash, names_read-slash, names_read-letter, names_read-bad_byte, names_read-bad_escape, if_room-full}
 use Rattle.file_tree.proofs.Letters.{high, low, byte_text-some, byte_text-escaped, byte_text-plain, digit-not_slash}
-use Rattle.file_tree.proofs.Parsing.{Opening, Elsewhere, Root, Names, opening_of, path_read-names}
+use Rattle.file_tree.proofs.Parsing.{Elsewhere, Root, Names, opening_of, path_read-names}
 use Rattle.file_tree.proofs.Readings.{IsDots, ended-dots}
 use Rattle.file_tree.proofs.Spelled.{begins_none, read-first, read-front}
 

@@ -1,9 +1,8 @@
 -- What a text begins with, and how the names of a path are read from there.
-use Rattle.std.proofs.Common.{◌≡◌, ◌≢◌, ◌⊎◌, inl, inr, ℕ, zero, suc, ◌+◌, ◌<◌, ◌≤◌, Bool, true, false, ◌==◌, List, [], ◌∷◌, ◌++◌, length, Option, Some, None, refl, sym, ap, subst, ◌∙◌, arith, append_assoc}
-use Rattle.std.specs.Prelude.{nat_lt, ◌||◌, IsTrue}
+use Rattle.std.proofs.Common.{◌≡◌, ◌≢◌, ℕ, ◌+◌, ◌<◌, true, false, ◌==◌, List, [], ◌∷◌, ◌++◌, length, Option, Some, None, refl, sym, ap, subst, arith}
 use Rattle.std.proofs.lemmas.Bool.Decides.{nat_tests}
 use Rattle.file_tree.specs.Names.{IsNameByte}
-use Rattle.file_tree.specs.PathText.{PathRead, Reads, Faulty, names_read, if_room, is_escaped, byte_text, escaped_byte, unless, ended_name, after_names, told}
+use Rattle.file_tree.specs.PathText.{PathRead, Faulty, names_read, if_room, is_escaped, byte_text, escaped_byte, unless, ended_name, after_names, told}
 use Rattle.file_tree.specs.declared.path.PathFault.TheVariants.{BadByte, BadEscape, LongName}
 use Rattle.file_tree.proofs.PathLaws.{read-slash, read-plain, read-escape}
 use Rattle.file_tree.proofs.Letters.{high, low, IsSpelled, byte_text-escaped, byte_text-plain, escaped_byte-spelled, escaped_byte-some, spelled_escape}

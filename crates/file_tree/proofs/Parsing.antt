@@ -1,14 +1,14 @@
 -- What the reading of a whole text tells of its spelling, and the other way round.
-use Rattle.std.proofs.Common.{◌≡◌, ◌≢◌, ◌⊎◌, inl, inr, ℕ, zero, suc, ◌+◌, ◌<◌, ◌≤◌, Bool, true, false, ◌==◌, List, [], ◌∷◌, ◌++◌, length, drop, Result, Ok, Err, refl, sym, ap, subst, ◌∙◌, arith}
-use Rattle.std.specs.Prelude.{codes, not, IfOk, IfErr}
+use Rattle.std.proofs.Common.{◌≡◌, ◌≢◌, ◌⊎◌, inl, inr, ℕ, ◌+◌, true, false, ◌==◌, List, [], ◌∷◌, length, drop, Result, Ok, Err, refl, sym, ap, subst, ◌∙◌, arith}
+use Rattle.std.specs.Prelude.{codes, IfOk, IfErr}
 use Rattle.std.specs.List.{AllByRecursion}
 use Rattle.std.specs.Str.{bytes_eq}
 use Rattle.std.proofs.lemmas.Bool.Decides.{nat_tests}
 use Rattle.file_tree.specs.declared.path.PathFault.{PathFault}
-use Rattle.file_tree.specs.declared.path.PathFault.TheVariants.{NoSlash, EmptyName, LongPath, NoMemory}
-use Rattle.file_tree.specs.Names.{IsName, IsPath, path_length}
-use Rattle.file_tree.specs.PathText.{PathRead, Reads, Faulty, names_read, name_text, names_text, path_text, path_read, told, if_short, ParsesPath}
-use Rattle.file_tree.specs.PathFaults.{IsBytes, AreNames, FaultStands, SpellsNoPath, GivesPath, GivesFault, GivesItsFault}
+use Rattle.file_tree.specs.declared.path.PathFault.TheVariants.{NoSlash, EmptyName, NoMemory}
+use Rattle.file_tree.specs.Names.{IsPath}
+use Rattle.file_tree.specs.PathText.{Reads, Faulty, names_read, names_text, path_text, path_read, if_short, ParsesPath}
+use Rattle.file_tree.specs.PathFaults.{IsBytes, AreNames, FaultStands, SpellsNoPath, GivesPath}
 use Rattle.file_tree.proofs.Faults.{fault_stands}
 use Rattle.file_tree.proofs.Readings.{if_short-reads, if_short-faulty, if_short-short, reads_spelled}
 use Rattle.file_tree.proofs.Spelled.{begins_none, bytes_eq-other, read-path}

@@ -1,16 +1,15 @@
 -- What the parts of a reading tell.
-use Rattle.std.proofs.Common.{◌≡◌, ◌≢◌, ◌⊎◌, inl, inr, ℕ, zero, suc, ◌+◌, ◌<◌, ◌≤◌, Bool, true, false, cond, ◌==◌, List, [], ◌∷◌, ◌++◌, length, Option, Some, None, refl, sym, ap, subst, ◌∙◌, arith, append_assoc, append-nil, length-append}
+use Rattle.std.proofs.Common.{◌≡◌, ◌≢◌, ◌⊎◌, inl, inr, ℕ, zero, suc, ◌+◌, ◌<◌, ◌≤◌, Bool, true, false, cond, List, [], ◌∷◌, ◌++◌, length, Option, Some, None, refl, sym, ap, subst, ◌∙◌, arith, append_assoc, length-append}
 use Rattle.std.specs.Prelude.{codes, nat_lt, ◌||◌}
-use Rattle.std.specs.List.{AllByRecursion}
 use Rattle.std.specs.Str.{bytes_eq}
 use Rattle.std.proofs.lemmas.Bool.{or_parts, or_cases, cases_lt, ltb-true, ltb-false, le-ltb}
 use Rattle.std.proofs.lemmas.Slice.Eq.{bytes_eq-Decides}
 use Rattle.file_tree.specs.declared.path.PathFault.{PathFault}
 use Rattle.file_tree.specs.declared.path.PathFault.TheVariants.{EmptyName, Dots, LongPath}
-use Rattle.file_tree.specs.Names.{IsName, IsNameByte, path_length}
-use Rattle.file_tree.specs.PathText.{PathRead, Reads, Faulty, names_read, name_text, names_text, path_text, byte_text, unless, ended_name, after_names, told, if_short}
-use Rattle.file_tree.specs.PathFaults.{IsBytes, AreNames, BeginsName}
-use Rattle.file_tree.proofs.Heads.{Head, Ended, Slash, Letter, Bad, BadPercent, head_of, names_read-slash, names_read-letter, names_read-bad_byte, names_read-bad_escape, if_room-short, if_room-full}
+use Rattle.file_tree.specs.Names.{IsName, path_length}
+use Rattle.file_tree.specs.PathText.{PathRead, Reads, Faulty, names_read, name_text, names_text, byte_text, unless, ended_name, after_names, told, if_short}
+use Rattle.file_tree.specs.PathFaults.{AreNames, BeginsName}
+use Rattle.file_tree.proofs.Heads.{Ended, Slash, Letter, Bad, BadPercent, head_of, names_read-slash, names_read-letter, names_read-bad_byte, names_read-bad_escape, if_room-short, if_room-full}
 use Rattle.file_tree.proofs.Letters.{byte_text-some}
 use Rattle.file_tree.proofs.Spelled.{begins_none, begins_more, name_text-more}
 

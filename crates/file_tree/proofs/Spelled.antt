@@ -1,18 +1,17 @@
 -- The spelling of names is read again, whatever follows it; and what is read is spelled so.
-use Rattle.std.proofs.Common.{◌≡◌, ◌≢◌, ◌⊎◌, inl, inr, ℕ, zero, suc, ◌+◌, ◌<◌, ◌≤◌, Bool, true, false, ◌==◌, List, [], ◌∷◌, ◌++◌, length, drop, Option, Some, None, refl, sym, ap, subst, ◌∙◌, arith, append_assoc, append-nil, add-zero, length-append}
+use Rattle.std.proofs.Common.{◌≡◌, ◌≢◌, ℕ, ◌+◌, ◌<◌, ◌≤◌, false, List, [], ◌∷◌, ◌++◌, length, drop, Option, None, refl, sym, ap, ◌∙◌, arith, append_assoc, append-nil, add-zero, length-append}
 use Rattle.std.specs.Prelude.{codes}
 use Rattle.std.specs.List.{AllByRecursion}
 use Rattle.std.specs.Str.{bytes_eq}
-use Rattle.std.proofs.lemmas.Bool.{false_from_ne_true, cases_lt}
+use Rattle.std.proofs.lemmas.Bool.{false_from_ne_true}
 use Rattle.std.proofs.lemmas.List.Concat.{flat_map-append}
 use Rattle.std.proofs.lemmas.Slice.Eq.{bytes_eq-Decides}
 use Rattle.file_tree.specs.declared.path.PathFault.{PathFault}
-use Rattle.file_tree.specs.declared.path.PathFault.TheVariants.{EmptyName, Dots}
 use Rattle.file_tree.specs.Names.{IsName, IsNameByte}
-use Rattle.file_tree.specs.PathText.{PathRead, Reads, Faulty, names_read, if_room, byte_text, name_text, names_text, unless, ended_name, after_names, told}
+use Rattle.file_tree.specs.PathText.{Reads, Faulty, names_read, byte_text, name_text, names_text, unless, ended_name, after_names}
 use Rattle.file_tree.specs.PathFaults.{IsBytes, AreNames, BeginsName, front_text, BeginsPath}
 use Rattle.file_tree.proofs.PathLaws.{after_names-after_names, after_names-none, plain_more}
-use Rattle.file_tree.proofs.Heads.{Head, Ended, Slash, Letter, Bad, BadPercent, head_of, names_read-slash, names_read-letter, names_read-bad_byte, names_read-bad_escape, if_room-short, if_room-full}
+use Rattle.file_tree.proofs.Heads.{names_read-slash, names_read-letter, if_room-short}
 
 -- ---- names and their parts
 
