@@ -1,10 +1,9 @@
 -- Entries in a row.
-use Rattle.std.proofs.Common.{◌≡◌, ℕ, zero, suc, ◌+◌, ◌<◌, ◌≤◌, List, [], ◌∷◌, ◌++◌, length, take, drop, get_or, Option, Some, None, refl, sym, ap, subst, ◌∙◌, arith}
+use Rattle.std.proofs.Common.{◌≡◌, ℕ, zero, suc, ◌+◌, ◌<◌, ◌≤◌, List, [], ◌∷◌, ◌++◌, length, take, drop, get_or, None, refl, sym, ap, subst, ◌∙◌, arith}
 use Rattle.std.proofs.lemmas.List.{take_more, drop_more, drop_all}
 use Rattle.std.specs.Prelude.{insert}
-use Rattle.std.specs.declared.cmp.Ordering.{Ordering}
-use Rattle.std.specs.declared.cmp.Ordering.TheVariants.{Less, Equal, Greater}
-use Rattle.file_tree.specs.Tree.{Tree, Entries, none, entry, name_order, if_equal, look, set, node_count, entry_count}
+use Rattle.std.specs.declared.cmp.Ordering.TheVariants.{Greater}
+use Rattle.file_tree.specs.Tree.{Entries, none, entry, name_order, look, set, node_count, entry_count}
 use Rattle.file_tree.specs.Held.{entries_held, IsPlace}
 use Rattle.file_tree.specs.declared.tree.Entry.{Entry}
 

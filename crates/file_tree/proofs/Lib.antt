@@ -3,4 +3,11 @@ pub mod MapLaws
 pub mod NameLists
 pub mod Texts
 pub mod PathLaws
+pub mod Letters
+pub mod Heads
+pub mod Spelled
+pub mod Readings
+pub mod Faults
+pub mod Parsing
+pub mod FaultsRead
 pub mod Rows

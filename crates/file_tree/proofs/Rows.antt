@@ -1,10 +1,10 @@
 -- Worked rows of the definitions, which the checker computes.
 use Rattle.std.proofs.Common.{◌≡◌, ℕ, List, [], ◌∷◌, ◌++◌, refl}
-use Rattle.std.specs.Prelude.{codes, length, replicate}
+use Rattle.std.specs.Prelude.{codes, replicate}
 use Rattle.std.specs.Fmt.{digits}
 use Rattle.hex.specs.Hex.{encode_with}
 use Rattle.file_tree.specs.Tree.{Tree, file, dir, none, entry}
-use Rattle.file_tree.specs.Apply.{apply, Answer}
+use Rattle.file_tree.specs.Apply.{apply}
 use Rattle.file_tree.specs.PathText.{path_read, path_text, Reads, Faulty}
 use Rattle.file_tree.specs.CallText.{call_text, reply_text}
 use Rattle.file_tree.specs.declared.path.PathFault.TheVariants as fault

@@ -1,5 +1,5 @@
 -- What a call does to a tree, and what it answers.
-use Rattle.std.specs.Prelude.{ℕ, ◌≡◌, ◌≢◌, ◌⊎◌, ◌+◌, ◌-◌, ◌*◌, ◌^◌, ◌≤◌, Bool, true, false, if◌then◌else◌, nat_lt, List, [], ◌∷◌, ◌++◌, length, take, drop, replicate, Option, None, Some}
+use Rattle.std.specs.Prelude.{ℕ, ◌≡◌, ◌⊎◌, ◌+◌, ◌-◌, if◌then◌else◌, nat_lt, List, [], ◌∷◌, ◌++◌, length, take, drop, replicate, Option, None, Some}
 use Rattle.file_tree.specs.Tree.{Tree, Entries, file, dir, none, entry, look, set, without, names_in, count_in}
 use Rattle.file_tree.specs.Names.{parent_of, last_of, leads_to, is_same_path}
 use Rattle.file_tree.specs.declared.call.Call.{Call}

@@ -6,3 +6,4 @@ pub mod Held
 pub mod TreeFalls
 pub mod PathText
 pub mod CallText
+pub mod PathFaults

@@ -1,8 +1,9 @@
 ghost use Rattle.std.specs.Prelude.{◌≡◌, ◌≢◌, ◌⊎◌, ◌+◌, ◌-◌, ◌*◌, ◌^◌, ◌<◌, ◌≤◌, ◌++◌, ◌∷◌, [], ℕ, List, Some, None, drop, length, IfOk, IfErr, IfSome, MatchResult, unwrap_or, slice_index, OnOk};
 ghost use Rattle.hex.specs.Hex.{hex_digit_value};
 ghost use Rattle.std.specs.List.{AllByRecursion};
-ghost use Rattle.file_tree.specs.Names.{IsNameByte, path_length};
-ghost use Rattle.file_tree.specs.PathText.{ParsesPath, ReadsNames, Faulty, names_read, if_room, ended_name, escaped_byte, told};
+ghost use Rattle.file_tree.specs.Names.{IsNameByte, IsPath, path_length};
+ghost use Rattle.file_tree.specs.PathText.{ParsesPath, ReadsNames, Faulty, names_read, if_room, ended_name, escaped_byte, path_text, told};
+ghost use Rattle.file_tree.specs.PathFaults.{IsBytes, FaultStands, SpellsNoPath, GivesPath, GivesItsFault};
 
 use crate::path_text::is_escaped_byte;
 use crate::{Name, Path};
@@ -199,23 +200,42 @@ fn length_of(names: &[Name]) -> u32
     total
 }
 
+// Reads a path as `path_read` says.
+fn read_path(alloc: Global, text: &[u8]) -> Result<Path, PathFault>
+    ensures { ParsesPath text.now result }
+{
+    let [b'/', rest @ ..] = text else {
+        return Err(PathFault::NoSlash);
+    };
+    if rest.is_empty() {
+        return Ok(Path::new(Vec::new(alloc)));
+    }
+    let names = names_of(alloc, rest)?;
+    let length = length_of(&names);
+    if length > 1024 {
+        return Err(PathFault::LongPath(length));
+    }
+    Ok(Path::new(names))
+}
+
 impl Path {
     /// Reads a path as scripts and traces spell it. It goes over the text once, and takes memory for the
     /// names alone.
     pub fn parse(alloc: Global, text: &[u8]) -> Result<Path, PathFault>
-        ensures { ParsesPath text.now result }
+        // The path or the fault that reading from the left gives.
+        ensures reads { ParsesPath text.now result }
+        // What is parsed is spelled so.
+        ensures spelled { IfOk result (λ path. IsPath path × (text.now ≡ path_text path)) }
+        // What is spelled so is parsed, unless memory runs out.
+        ensures parsed { (path : List (List ℕ)) → IsPath path → AllByRecursion IsBytes path
+            → text.now ≡ path_text path → GivesPath path result }
+
+        // A fault stands at its place, where no path goes on so; and then no path is spelled so.
+        ensures fault { IfErr result (λ fault. (fault ≡ PathFault.NoMemory) ⊎ FaultStands text.now fault) }
+        ensures none { IfErr result (λ fault. (fault ≡ PathFault.NoMemory) ⊎ SpellsNoPath text.now) }
+        // A text has one fault at most, and that is told, unless memory runs out.
+        ensures only { GivesItsFault text.now result }
     {
-        let [b'/', rest @ ..] = text else {
-            return Err(PathFault::NoSlash);
-        };
-        if rest.is_empty() {
-            return Ok(Path::new(Vec::new(alloc)));
-        }
-        let names = names_of(alloc, rest)?;
-        let length = length_of(&names);
-        if length > 1024 {
-            return Err(PathFault::LongPath(length));
-        }
-        Ok(Path::new(names))
+        read_path(alloc, text)
     }
 }

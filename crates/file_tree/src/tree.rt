@@ -138,3 +138,6 @@ fn copy_entries(entries: &Vec<Entry>) -> Result<Vec<Entry>, NoMemory>
     }
     Ok(all)
 }
+
+#[cfg(test)]
+mod tests;

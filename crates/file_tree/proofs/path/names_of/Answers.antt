@@ -1,7 +1,5 @@
-use Rattle.std.proofs.Common.{rules, ◌≡◌, ◌+◌, ◌-◌, length, take, drop, arith, ap, sym, subst}
+use Rattle.std.proofs.Common.{length, arith, ap}
 use Rattle.std.proofs.lemmas.List.{take_rest, length-drop}
-use Rattle.std.specs.List.{AllByRecursion}
-use Rattle.file_tree.specs.Names.{IsNameByte}
 use Rattle.file_tree.proofs.PathLaws.{past_slash}
 use Rattle.file_tree.proofs.path.names_of.Goals as goal
 

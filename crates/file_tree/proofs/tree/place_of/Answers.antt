@@ -1,4 +1,4 @@
-use Rattle.std.proofs.Common.{◌≡◌, ℕ, ◌+◌, List, sym, ap, ◌∙◌, arith}
+use Rattle.std.proofs.Common.{ℕ, List, sym, ap, ◌∙◌, arith}
 use Rattle.file_tree.specs.Tree.{name_order}
 use Rattle.file_tree.specs.declared.tree.Entry.{Entry}
 use Rattle.file_tree.proofs.Entries.{place_on, absent_on, place_at_end}

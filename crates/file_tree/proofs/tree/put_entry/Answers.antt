@@ -1,4 +1,4 @@
-use Rattle.std.proofs.Common.{◌≡◌, ℕ, List, ap, ◌∙◌, subst}
+use Rattle.std.proofs.Common.{ℕ, List, ap, ◌∙◌, subst}
 use Rattle.file_tree.specs.Held.{entries_held, IsPlace}
 use Rattle.file_tree.specs.declared.tree.Entry.{Entry}
 use Rattle.file_tree.proofs.Entries.{held_put}
