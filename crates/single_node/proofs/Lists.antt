@@ -1,5 +1,5 @@
 -- The names of the files in an area of records.
-use Rattle.std.proofs.Common.{◌≡◌, ℕ, true, false, List, [], ◌∷◌, refl, sym, ap, ◌∙◌, subst}
+use Rattle.std.proofs.Common.{◌≡◌, ℕ, true, false, List, ◌∷◌, sym, ap, ◌∙◌, subst}
 use Rattle.std.specs.Prelude.{Option, Some, MatchOption, not}
 use Rattle.std.specs.List.{AllByRecursion}
 use Rattle.file_tree.specs.Tree.{names_in, with_name, file}

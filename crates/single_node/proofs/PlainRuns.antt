@@ -1,8 +1,8 @@
 -- What the items of one node that answers a plain script owe to it.
-use Rattle.std.proofs.Common.{◌≡◌, ◌⊎◌, ℕ, zero, suc, ◌+◌, ◌<◌, ◌≤◌, Bool, true, false, List, [], ◌∷◌, ◌++◌, length, take, get_or, map, Option, Some, None, inl, inr, refl, sym, ap, ◌∙◌, subst, arith, length-append}
+use Rattle.std.proofs.Common.{◌≡◌, ◌⊎◌, ℕ, zero, suc, ◌+◌, ◌<◌, ◌≤◌, Bool, true, List, [], ◌∷◌, ◌++◌, length, take, get_or, map, Option, Some, None, inl, inr, refl, sym, ap, ◌∙◌, subst, arith, length-append}
 use Rattle.std.proofs.Math.Dec.{eqb-zero-suc}
 use Rattle.std.proofs.lemmas.Slice.Eq.{bytes_eq-Decides}
-use Rattle.std.proofs.lemmas.List.{take_all}
+use Rattle.std.proofs.lemmas.List.{take_all, append-nil}
 use Rattle.std.specs.Prelude.{slice_get, ◌==◌, if◌then◌else◌}
 use Rattle.std.specs.List.{AllByRecursion}
 use Rattle.std.specs.Str.{bytes_eq}
@@ -22,9 +22,12 @@ use Rattle.script_lang.specs.declared.script.Line.{Line}
 use Rattle.script_lang.specs.declared.script.Line.TheVariants as line
 use Rattle.script_lang.specs.Script.{ScriptValue, call_by, calls_by}
 use Rattle.script_lang.specs.Plain.{IsPlain, IsPlainLine, one_client, line_of}
-use Rattle.run_rules.specs.Follows.{Follows, ByLine, history_of, call_items, above, IsBarrierLine, IsOrderLine, IsOnItsNode}
+use Rattle.run_rules.specs.Follows.{Follows, ByLine, history_of, call_items, IsBarrierLine, IsOrderLine, IsOnItsNode}
 use Rattle.run_rules.specs.History.{HoldsHistory, NoneStopped, AllAnswered}
-use Rattle.single_node.specs.Run.{items_from, IsReadOnly, IsRunUpTo, IsAnswer}
+use Rattle.run_rules.proofs.Nothing.{nothing_follows}
+use Rattle.shared_disk.specs.Disk.{DiskState}
+use Rattle.single_node.specs.Flat.{IsFlat, HasFlatRoot, IsStart}
+use Rattle.single_node.specs.Run.{items_from, IsReadOnly, IsRunUpTo, IsAnswer, IsWholeRun, IsRunOf, NotJoined, Answered, Unmounted}
 
 -- ---- the items: node 1 joins, answers calls of the one client, and may unmount
 
@@ -308,17 +311,29 @@ run_more name lines i items more IsStart d l it plain below is so answer push =
     record {
       replied = so.replied ++ one ∷ [];
       are =
-        push ∙ (λ k. so.are k ++ answer.item_is k ∷ [])
-        ∙ ap (λ (m : ℕ). trace.Join 1 ∷ (items_from name 1 so.replied ++ trace.Call 1 name m answer.call answer.reply ∷ [])) (sym number)
-        ∙ ap (λ (is : List TraceItem). trace.Join 1 ∷ is) (sym (items_more name 1 so.replied one));
+          push ∙ (λ k. so.are k ++ answer.item_is k ∷ [])
+          ∙ ap (λ (m : ℕ). trace.Join 1 ∷ (items_from name 1 so.replied ++ trace.Call 1 name m answer.call answer.reply ∷ [])) (sym number)
+          ∙ ap (λ (is : List TraceItem). trace.Join 1 ∷ is) (sym (items_more name 1 so.replied one));
       counted = length-append so.replied (one ∷ []) ∙ ap (λ (m : ℕ). m + 1) so.counted;
       calls =
-        map_more so.replied one ∙ ap (λ (cs : List Call). cs ++ answer.call ∷ []) so.calls
-        ∙ sym (calls_more lines i d answer.call plain below (sym is ∙ answer.line_is));
+          map_more so.replied one ∙ ap (λ (cs : List Call). cs ++ answer.call ∷ []) so.calls
+          ∙ sym (calls_more lines i d answer.call plain below (sym is ∙ answer.line_is));
       reads = λ t start. all_more (IsReadOnly t) so.replied one (so.reads t start) (answer.answers t start);
     }
 
 -- ---- what a run of a plain script owes to it
+
+-- the answers that hold at the start of a run
+pub answer_starts : (now before : DiskState) (root name : List ℕ) (n m : ℕ) (l : Line) (it : TraceItem) → now ≡ before → n ≡ m
+    → IsAnswer name n l it (λ call r. (t : Tree) → IsFlat now t → HasFlatRoot now root → apply call t ≡ record { reply = r; tree = t })
+    → IsAnswer name m l it (λ call r. (t : Tree) → IsStart before root t → apply call t ≡ record { reply = r; tree = t })
+answer_starts now before root name n m l it same number answer = record {
+  call = answer.call;
+  reply = answer.reply;
+  line_is = answer.line_is;
+  item_is = answer.item_is ∙ ap (λ (k : ℕ). trace.Call 1 name k answer.call answer.reply) number;
+  answers = λ t start. answer.answers t (subst (λ (d : DiskState). IsFlat d t) (sym same) start.flat) (subst (λ (d : DiskState). HasFlatRoot d root) (sym same) start.begins);
+}
 
 module _ (s : ScriptValue) (plain : IsPlain s) (count : ℕ) (before : List TraceItem) (end : List TraceItem) (IsStart : Tree → Type 0) (is_end : IsEnd end) (so : IsRunUpTo plain.client s.lines count before IsStart) where
   items_are : before ++ end ≡ run_items plain.client so.replied end
@@ -344,3 +359,40 @@ module _ (s : ScriptValue) (plain : IsPlain s) (count : ℕ) (before : List Trac
 
   pub run_answers : count ≡ length s.lines → AllAnswered (before ++ end) s
   run_answers all client = (λ k. call_items (plain.form k).clients client (items_are k)) ∙ answered_by all client
+
+-- the client of a plain script
+pub client_is : (s : ScriptValue) (plain : IsPlain s) (d : Client) → (get_or s.clients 0 d).name ≡ plain.client
+client_is s plain d = ap (λ (u : ScriptValue). (get_or u.clients 0 d).name) plain.form
+
+-- what a run of its lines owes to a plain script
+pub record Owes (s : ScriptValue) (items : List TraceItem) (IsStart : Tree → Type 0) : Type 0 where
+  pub history : (t : Tree) → IsStart t → HoldsHistory t s items
+  pub tree : (t : Tree) → IsStart t → tree_of (history_of s.clients items) t ≡ t
+  pub members : NoneStopped items
+
+module _ (s : ScriptValue) (plain : IsPlain s) (items : List TraceItem) (IsStart : Tree → Type 0) where
+  pub owes_none : items ≡ [] → Owes s items IsStart
+  owes_none none = subst (λ (is : List TraceItem). Owes s is IsStart) (sym none) (record { history = λ t start. nothing_follows t s; tree = λ t start. refl; members = tt })
+
+  owes_from : (count : ℕ) (before end : List TraceItem) → IsEnd end → before ++ end ≡ items → IsRunUpTo plain.client s.lines count before IsStart → Owes s items IsStart
+  owes_from count before end is_end are so = subst (λ (is : List TraceItem). Owes s is IsStart) are (record {
+    history = run_holds s plain count before end IsStart is_end so;
+    tree = run_keeps s plain count before end IsStart is_end so;
+    members = run_goes_on s plain count before end IsStart is_end so;
+  })
+
+  pub owes : IsRunOf plain.client s.lines items IsStart → Owes s items IsStart
+  owes (NotJoined none) = owes_none none
+  owes (Answered count so) = owes_from count items [] (inl refl) (append-nil items) so
+  owes (Unmounted whole) = owes_from (length s.lines) whole.before (trace.Unmount 1 ∷ []) (inr refl) (sym whole.are) whole.answered
+
+  pub all_answered : IsWholeRun plain.client s.lines items IsStart → AllAnswered items s
+  all_answered whole =
+      subst (λ (is : List TraceItem). AllAnswered is s) (sym whole.are) (run_answers s plain (length s.lines) whole.before (trace.Unmount 1 ∷ []) IsStart (inr refl) whole.answered refl)
+
+-- a run of these lines, by equal names and lines
+pub run_of : {name named : List ℕ} {lines listed : List Line} {items : List TraceItem} {IsStart : Tree → Type 0} → name ≡ named → lines ≡ listed → IsRunOf name lines items IsStart → IsRunOf named listed items IsStart
+run_of {items = items} {IsStart = IsStart} same equal = subst (λ (p : List ℕ × List Line). IsRunOf p.0 p.1 items IsStart) (λ k. (same k, equal k))
+
+pub whole_of : {name named : List ℕ} {lines listed : List Line} {items : List TraceItem} {IsStart : Tree → Type 0} → name ≡ named → lines ≡ listed → IsWholeRun name lines items IsStart → IsWholeRun named listed items IsStart
+whole_of {items = items} {IsStart = IsStart} same equal = subst (λ (p : List ℕ × List Line). IsWholeRun p.0 p.1 items IsStart) (λ k. (same k, equal k))

@@ -114,6 +114,6 @@ pub record IsFlat (d : DiskState) (tree : Tree) : Type 0 where
   pub is_tree : tree ≡ dir (files_of d.block_at (root_slots d))
 
 -- the tree of a flat image whose root is in this block
-pub record IsStart (d : DiskState) (root : List ℕ) (tree : Tree) : Type 0 where
+pub record IsStart (d : DiskState) (block : List ℕ) (tree : Tree) : Type 0 where
   pub flat : IsFlat d tree
-  pub root : HasFlatRoot d root
+  pub begins : HasFlatRoot d block

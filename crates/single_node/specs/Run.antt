@@ -1,5 +1,5 @@
 -- The items of one node that answers a plain script.
-use Rattle.std.specs.Prelude.{ℕ, ◌≡◌, ◌+◌, List, [], ◌∷◌, length, map, take}
+use Rattle.std.specs.Prelude.{ℕ, ◌≡◌, ◌+◌, List, [], ◌∷◌, ◌++◌, length, map, take}
 use Rattle.std.specs.List.{AllByRecursion}
 use Rattle.file_tree.specs.Tree.{Tree}
 use Rattle.file_tree.specs.Apply.{apply}
@@ -36,3 +36,15 @@ pub record IsRunUpTo (name : List ℕ) (lines : List Line) (count : ℕ) (items 
   pub counted : length replied ≡ count
   pub calls : map (λ (r : Replied). r.call) replied ≡ take count (calls_by 0 lines)
   pub reads : (t : Tree) → IsStart t → AllByRecursion (IsReadOnly t) replied
+
+-- it has answered all of them, and unmounted
+pub record IsWholeRun (name : List ℕ) (lines : List Line) (items : List TraceItem) (IsStart : Tree → Type 0) : Type 0 where
+  pub before : List TraceItem
+  pub answered : IsRunUpTo name lines (length lines) before IsStart
+  pub are : items ≡ before ++ trace.Unmount 1 ∷ []
+
+-- how far a run of these lines has come
+pub data IsRunOf (name : List ℕ) (lines : List Line) (items : List TraceItem) (IsStart : Tree → Type 0) : Type 0 where
+  NotJoined : items ≡ [] → IsRunOf name lines items IsStart
+  Answered : (count : ℕ) → IsRunUpTo name lines count items IsStart → IsRunOf name lines items IsStart
+  Unmounted : IsWholeRun name lines items IsStart → IsRunOf name lines items IsStart

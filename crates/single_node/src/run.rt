@@ -1,4 +1,4 @@
-ghost use Rattle.std.specs.Prelude.{◌≡◌, ◌+◌, ◌≤◌, ◌^◌, ◌∷◌, [], ℕ, List, length, IfOk, IfErr, OnOk, OnErr};
+ghost use Rattle.std.specs.Prelude.{◌≡◌, ◌+◌, ◌≤◌, ◌++◌, ◌∷◌, [], ℕ, List, length, IfOk, IfErr, OnOk, OnErr};
 ghost use Rattle.std.specs.List.{AllByRecursion};
 ghost use Rattle.file_tree.specs.Tree.{Tree};
 ghost use Rattle.cluster_history.specs.History.{tree_of};
@@ -10,7 +10,7 @@ ghost use Rattle.script_lang.specs.Plain.{IsPlainCall, IsPlainLine, IsPlain};
 ghost use Rattle.run_rules.specs.History.{HoldsHistory, NoneStopped, AllAnswered};
 ghost use Rattle.single_node.specs.Ends.{EndHasCause, IfNotRead};
 ghost use Rattle.single_node.specs.Flat.{IsFlat, HasFlatRoot, IsStart, IsBlockSize, stuffed_part};
-ghost use Rattle.single_node.specs.Run.{IsAnswer, IsRunUpTo};
+ghost use Rattle.single_node.specs.Run.{IsAnswer, IsRunUpTo, IsRunOf, IsWholeRun};
 
 use crate::RunEnd;
 use crate::list::list_call;
@@ -104,6 +104,14 @@ fn answer_line<D: SharedDisk>(
     }
 }
 
+fn put_item(items: &mut Vec<TraceItem>, item: TraceItem) -> Result<(), NoMemory>
+    ensures ok { OnOk result (items.new.items ≡ items.old.items ++ item ∷ []) }
+    ensures err { OnErr result (items.new.items ≡ items.old.items) }
+{
+    items.push(item)?;
+    Ok(())
+}
+
 // Answers the lines of a plain script one by one, behind the item by which node 1 joined.
 fn answer_lines<D: SharedDisk>(
     alloc: Global,
@@ -135,12 +143,50 @@ fn answer_lines<D: SharedDisk>(
             Ok(item) => item,
             Err(end) => return Err(end),
         };
-        match items.push(item) {
+        match put_item(items, item) {
             Ok(()) => {}
             Err(_) => return Err(RunEnd::NoMemory),
         }
     }
     Ok(())
+}
+
+// Node 1 joins, answers the lines, and unmounts.
+fn run_lines<D: SharedDisk>(
+    alloc: Global,
+    disk: &mut D,
+    root: &Root,
+    block: &mut [u8],
+    name: &Name,
+    lines: &[Line],
+    items: &mut Vec<TraceItem>,
+) -> Result<(), RunEnd>
+    requires idle { IsIdle (D.state disk.old) }
+    requires size { length block.old ≡ (D.state disk.old).size }
+    requires root_size { length root.now ≡ (D.state disk.old).size }
+    requires some { IsBlockSize (D.state disk.old).size }
+    requires area { IsArea (stuffed_part root.now) }
+    requires plain { AllByRecursion IsPlainLine lines.now }
+    requires none { items.old.items ≡ [] }
+    ensures run { IsRunOf name.now lines.now items.new.items (IsStart (D.state disk.old) root.now) }
+    ensures whole { OnOk result (IsWholeRun name.now lines.now items.new.items (IsStart (D.state disk.old) root.now)) }
+    ensures other { IfErr result (λ end. IfNotRead end (λ _. (tree : Tree) → IsStart (D.state disk.old) root.now tree → ⊥)) }
+    ensures same { D.state disk.new ≡ D.state disk.old }
+    ensures cause { IfErr result (EndHasCause (D.faults disk.old) (D.faults disk.new)) }
+    ensures later { (j : ℕ) → D.faults disk.old j ≤ D.faults disk.new j }
+{
+    match put_item(items, TraceItem::Join { node: 1 }) {
+        Ok(()) => {}
+        Err(_) => return Err(RunEnd::NoMemory),
+    }
+    match answer_lines(alloc, disk, root, block, name, lines, items) {
+        Ok(()) => {}
+        Err(end) => return Err(end),
+    }
+    match put_item(items, TraceItem::Unmount { node: 1 }) {
+        Ok(()) => Ok(()),
+        Err(_) => Err(RunEnd::NoMemory),
+    }
 }
 
 /// Runs a plain script on a flat image whose root was read: node 1 joins, answers each line in order as the
@@ -175,16 +221,13 @@ pub fn run_plain<D: SharedDisk>(
     };
     let size = disk.block_size() as usize;
     let mut block = vec![in alloc; 0u8; size]?;
-    match items.push(TraceItem::Join { node: 1 }) {
-        Ok(()) => {}
-        Err(_) => return Err(RunEnd::NoMemory),
-    }
-    match answer_lines(alloc, disk, root, &mut block, &client.name, &script.lines, items) {
-        Ok(()) => {}
-        Err(end) => return Err(end),
-    }
-    match items.push(TraceItem::Unmount { node: 1 }) {
-        Ok(()) => Ok(()),
-        Err(_) => Err(RunEnd::NoMemory),
-    }
+    run_lines(
+        alloc,
+        disk,
+        root,
+        &mut block,
+        &client.name,
+        &script.lines,
+        items,
+    )
 }

@@ -1,8 +1,7 @@
-use Rattle.std.proofs.Common.{◌≡◌, ℕ, true, false, List, ◌∙◌, sym, ap, subst}
-use Rattle.gfs2_layout.specs.Area.{slot_at, slots_of, name_of}
+use Rattle.std.proofs.Common.{◌∙◌, sym, ap}
+use Rattle.gfs2_layout.specs.Area.{slot_at, slots_of}
 use Rattle.file_tree.specs.Tree.{with_name}
-use Rattle.single_node.specs.Flat.{names_a_file}
-use Rattle.single_node.proofs.Lists.{AreNamesOf, told_names, names_past, names_put, name_lacks}
+use Rattle.single_node.proofs.Lists.{told_names, names_past, names_put, name_lacks}
 use Rattle.single_node.proofs.list.+file_names.Goals as goal
 
 pub returns-then-not-leads_on : goal.returns-then-not-leads_on

@@ -1,6 +1,6 @@
-use Rattle.std.proofs.Common.{List, ℕ, Option, None, Some, sym, ap, ◌∙◌}
+use Rattle.std.proofs.Common.{List, ℕ, None, Some, ap, ◌∙◌}
 use Rattle.single_node.specs.Flat.{stuffed_part}
-use Rattle.single_node.proofs.Walks.{one_name, first_is, no_name, list_absent, list_found, list_root, names_are_names}
+use Rattle.single_node.proofs.Walks.{one_name, first_is, list_absent, list_found}
 use Rattle.single_node.proofs.list.list_call.Goals as goal
 
 pub returns-in-Some-clause-reply : goal.returns-in-Some-clause-reply

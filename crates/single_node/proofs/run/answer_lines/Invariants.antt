@@ -1,4 +1,4 @@
-use Rattle.std.proofs.Common.{◌≡◌, ◌≤◌, ℕ, length}
+use Rattle.std.proofs.Common.{◌≡◌, ◌≤◌, ℕ}
 use Rattle.single_node.specs.Flat.{IsStart}
 use Rattle.single_node.specs.Run.{IsRunUpTo}
 use Rattle.single_node.proofs.run.answer_lines.Given as goal
