@@ -1,0 +1,5 @@
+pub mod Noting
+pub mod Bringing
+pub mod Moving
+-- pub mod Stepping
+-- pub mod Opening

@@ -1,0 +1,4 @@
+pub mod Notes
+pub mod Sitting
+pub mod Keeping
+pub mod Playing
