@@ -1,5 +1,7 @@
 pub mod Noting
 pub mod Bringing
 pub mod Moving
--- pub mod Stepping
+pub mod Stepping
+pub mod Giving
+pub mod Seating
 -- pub mod Opening

@@ -12,7 +12,7 @@ use Rattle.turn_table.specs.Notes.{noted}
 use Rattle.turn_table.specs.Keeping.{Board, share_of, whole_share, Apart, Lies, Knows, Fits}
 use Rattle.turn_table.proofs.Bringing.{within}
 
-abbrev Holder : Type 0
+abbrev pub Holder : Type 0
 Holder = ℕ → maybe.Option ℕ
 
 abbrev pick : {P : Type 0} → Dec P → maybe.Option ℕ → maybe.Option ℕ → maybe.Option ℕ
@@ -39,7 +39,7 @@ put_else holder p h q m = go (ℕ_discrete q p)
     go (yes e) = absurd (m e)
     go (no n) = refl
 
-get_from_at : {A : Type 0} (l : List A) (i : ℕ) (a d : A) → get_elem? l i ≡ some a → get_or l i d ≡ a
+pub get_from_at : {A : Type 0} (l : List A) (i : ℕ) (a d : A) → get_elem? l i ≡ some a → get_or l i d ≡ a
 get_from_at [] i a d e = absurd (maybe.some-ne-none a (sym e))
 get_from_at (x ∷ xs) zero a d e = some-injective x a e
 get_from_at (x ∷ xs) (suc i) a d e = get_from_at xs i a d e
