@@ -1,7 +1,7 @@
 -- Lemmas on notes.
 use Rattle.std.proofs.Common.{◌≡◌, ◌≢◌, ℕ, zero, suc, ◌<◌, ◌==◌, eq-eqb, ne_eqb, List, [], ◌∷◌, ◌++◌, map, length, ◌⊎◌, inl, inr, ⊎_elim, Option, slice_index_or, refl, sym, ap, ◌∙◌, subst, arith, Some, None, Contains}
 use native.Mathlib.Decide.{ℕ_discrete}
-use Rattle.turn_table.specs.Notes.{noted, without, brought}
+use Rattle.turn_table.specs.Notes.{noted, without, brought, keys}
 use Rattle.turn_table.specs.Keeping.{Apart}
 
 module _ {X : Type 0} where
@@ -74,9 +74,6 @@ module _ {X : Type 0} where
       go : (o : Option X) → noted p ts ≡ o → Apart (brought p ts)
       go None e = rw (brought_none p ts e) a
       go (Some x) e = rw (brought_is p ts x e) (noted-without_same p ts a, Apart-without p ts a)
-
-  abbrev pub keys : List (ℕ × X) → List ℕ
-  keys ts = map (λ t. t.0) ts
 
   pub contains_front : (t : ℕ × X) (ts : List (ℕ × X)) → Contains (t ∷ ts) t
   contains_front t ts = (0, omega arith, refl)

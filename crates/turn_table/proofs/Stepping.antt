@@ -9,10 +9,10 @@ use lib.Seq.{set-set, set-get_or}
 use Rattle.atomic_table.specs.Table.{State, Me, Act, keeps, takes, gives, step, Valid, stepped, carried_after, homes_after, Allows}
 use Rattle.atomic_table.proofs.Lists.{at_set, set_here, set_else, set_again}
 use Rattle.turn_table.specs.declared.standing.Standing.{Standing}
-use Rattle.turn_table.specs.Notes.{noted, without, brought}
+use Rattle.turn_table.specs.Notes.{noted, brought, keys}
 use Rattle.turn_table.specs.Keeping.{Board, share_of, whole_share, Apart, Lies, Knows, Fits, Kept}
 use Rattle.turn_table.specs.Playing.{Sat, standing, entered, Takes, Brings, left, Gives, GivesSecond}
-use Rattle.turn_table.proofs.Noting.{noted_here, noted_else, noted_cases, noted-brought, Apart-brought, keys, contains_cases, apart_tied}
+use Rattle.turn_table.proofs.Noting.{noted_here, noted_else, noted_cases, noted-brought, Apart-brought, contains_cases, apart_tied}
 use Rattle.turn_table.proofs.Bringing.{within, Out, bringing, brings}
 use Rattle.turn_table.proofs.Moving.{Holder, put, put_here, put_else, reviewed, moved}
 

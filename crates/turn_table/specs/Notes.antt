@@ -1,5 +1,5 @@
 -- Notes are pairs of a part's number and something about that part, newest first.
-use Rattle.std.specs.Prelude.{ℕ, ◌==◌, List, [], ◌∷◌, map, Option, Some, None, if◌then◌else◌}
+use Rattle.std.specs.Prelude.{ℕ, ◌==◌, ◌<◌, List, [], ◌∷◌, map, Option, Some, None, if◌then◌else◌}
 
 module _ {X : Type 0} where
   -- what the newest note on the part says, if there is one
@@ -23,3 +23,12 @@ module _ {X : Type 0} where
 -- of each note the part alone, with no value
 abbrev pub emptied : {V : Type 0} → List (ℕ × V) → List (ℕ × Option V)
 emptied ts = map (λ t. (t.0, None)) ts
+
+-- the parts that the notes are on
+abbrev pub keys : {X : Type 0} → List (ℕ × X) → List ℕ
+keys ts = map (λ t. t.0) ts
+
+-- each note is on a part below n
+abbrev pub AllBelow : {X : Type 0} → ℕ → List (ℕ × X) → Type 0
+AllBelow n [] = Unit {0}
+AllBelow n (t ∷ ts) = (t.0 < n) × AllBelow n ts

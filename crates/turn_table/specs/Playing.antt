@@ -1,5 +1,5 @@
 -- What each step on the table tells the seat that makes it.
-use Rattle.std.specs.Prelude.{◌≡◌, ℕ, ◌+◌, ◌-◌, ◌==◌, ◌^◌, List, [], ◌∷◌, ◌++◌, Option, Some, None, Contains, MatchBool}
+use Rattle.std.specs.Prelude.{◌≡◌, ◌≢◌, ℕ, ◌+◌, ◌-◌, ◌==◌, ◌^◌, List, [], ◌∷◌, ◌++◌, Option, Some, None, Contains, MatchBool}
 use Rattle.std.specs.List.{enumerate_from}
 use mathlib.Core.Option.{some}
 use Rattle.atomic_table.specs.Table.{Me, Step, rest}
@@ -36,13 +36,27 @@ module _ {V : Type 0} where
   left p y turns w = standing w.share ((p, y) ∷ w.seen) turns
 
   -- the slot in front is given back with its value, and so is its turn
-  abbrev pub Gives : Step (Option V) → Sat V → ℕ → Sat V → Type 0
-  Gives s m found n = (p : ℕ) (v y : V) (turns : List (ℕ × V)) (more : List (ℕ × Option V)) → m.0.turns ≡ (p, v) ∷ turns → m.1 ≡ (p, Some y) ∷ more → n ≡ (left p y turns m.0, more)
+  abbrev pub Gave : Sat V → Sat V → Type 0
+  Gave m n = (p : ℕ) (v y : V) (turns : List (ℕ × V)) (more : List (ℕ × Option V)) → m.0.turns ≡ (p, v) ∷ turns → m.1 ≡ (p, Some y) ∷ more → n ≡ (left p y turns m.0, more)
 
   -- the same, and of the turn behind it the value in its slot is declared from now on
-  abbrev pub GivesSecond : Step (Option V) → Sat V → ℕ → Sat V → Type 0
-  GivesSecond s m found n = (p q : ℕ) (v w y x : V) (turns : List (ℕ × V)) (more : List (ℕ × Option V))
+  abbrev pub GaveSecond : Sat V → Sat V → Type 0
+  GaveSecond m n = (p q : ℕ) (v w y x : V) (turns : List (ℕ × V)) (more : List (ℕ × Option V))
       → m.0.turns ≡ (p, v) ∷ (q, w) ∷ turns → m.1 ≡ (p, Some y) ∷ (q, Some x) ∷ more → n ≡ (left p y ((q, x) ∷ turns) m.0, (q, Some x) ∷ more)
+
+  abbrev pub Gives : Step (Option V) → Sat V → ℕ → Sat V → Type 0
+  Gives s m found n = Gave m n
+
+  abbrev pub GivesSecond : Step (Option V) → Sat V → ℕ → Sat V → Type 0
+  GivesSecond s m found n = GaveSecond m n
+
+  -- the front slot may be given back: its turn is in front too, and the change of its value is allowed alone
+  abbrev pub MayGive : (V → V → Type 0) → ℕ → Sat V → Type 0
+  MayGive alone p m = (v y : V) × (turns : List (ℕ × V)) × (more : List (ℕ × Option V)) × (m.0.turns ≡ (p, v) ∷ turns) × (m.1 ≡ (p, Some y) ∷ more) × alone v y
+
+  -- the front slot may be given back together with a change of the slot behind it: the two changes are allowed paired
+  abbrev pub MayGiveSecond : (V → V → V → V → Type 0) → ℕ → Sat V → Type 0
+  MayGiveSecond paired p m = (q : ℕ) × (v w y x : V) × (turns : List (ℕ × V)) × (more : List (ℕ × Option V)) × (q ≢ p) × (m.0.turns ≡ (p, v) ∷ (q, w) ∷ turns) × (m.1 ≡ (p, Some y) ∷ (q, Some x) ∷ more) × paired w v x y
 
   -- a seat is split: its share falls by one, and the new seat has share 1 and has seen the same
   abbrev pub parting : Standing V → Standing V
