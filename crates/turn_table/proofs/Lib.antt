@@ -4,4 +4,5 @@ pub mod Moving
 pub mod Stepping
 pub mod Giving
 pub mod Seating
+pub mod Filling
 -- pub mod Opening

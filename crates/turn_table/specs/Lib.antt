@@ -2,3 +2,4 @@ pub mod Notes
 pub mod Sitting
 pub mod Keeping
 pub mod Playing
+pub mod Lending

@@ -1,9 +1,14 @@
 //! Values that threads hand one another by turns, under a rule of the caller's.
 #![tactic(auto)]
 
+mod hold;
+mod moves;
 mod plays;
 mod rule;
+mod seats;
 mod standing;
 mod steps;
 
+pub use hold::Held;
 pub use rule::TurnRule;
+pub use seats::Seat;

@@ -1,0 +1,23 @@
+//! What a thread knows of the turns.
+use crate::rule::TurnRule;
+use crate::steps::Place;
+use std::marker::{Model, PhantomData};
+
+/// What a thread steps with. It has no bytes.
+#[derive(Drop)]
+pub struct Seat<V, R: TurnRule<V>> {
+    pub(crate) place: Place<V>,
+    rule: PhantomData<R>,
+}
+
+impl<V, R: TurnRule<V>> Model for Seat<V, R> {
+    ghost use Rattle.std.specs.Prelude.{◌≡◌, ◌<◌};
+    ghost use Rattle.turn_table.specs.Notes.{emptied, AllBelow};
+    ghost use Rattle.turn_table.specs.Sitting.{Sitting};
+
+    ghost Value = { Sitting V };
+
+    ghost view = { λ s. record { table = s.place.table_id; share = s.place.me.0.share; seen = s.place.me.0.seen; turns = s.place.me.0.turns } };
+
+    ghost invariant = { λ s. (s.place.me.1 ≡ emptied s.place.me.0.turns) × (0 < s.place.me.0.share) × AllBelow s.place.table_id.words s.place.me.0.turns };
+}
