@@ -5,4 +5,4 @@ pub mod Stepping
 pub mod Giving
 pub mod Seating
 pub mod Filling
--- pub mod Opening
+pub mod Opening

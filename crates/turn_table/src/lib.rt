@@ -8,7 +8,9 @@ mod rule;
 mod seats;
 mod standing;
 mod steps;
+mod table;
 
 pub use hold::Held;
 pub use rule::TurnRule;
 pub use seats::Seat;
+pub use table::{NoMemory, Turns};

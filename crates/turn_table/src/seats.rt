@@ -1,4 +1,6 @@
 //! What a thread knows of the turns.
+ghost use Rattle.std.specs.Prelude.{◌≡◌, ◌<◌, []};
+
 use crate::rule::TurnRule;
 use crate::steps::Place;
 use std::marker::{Model, PhantomData};
@@ -20,4 +22,17 @@ impl<V, R: TurnRule<V>> Model for Seat<V, R> {
     ghost view = { λ s. record { table = s.place.table_id; share = s.place.me.0.share; seen = s.place.me.0.seen; turns = s.place.me.0.turns } };
 
     ghost invariant = { λ s. (s.place.me.1 ≡ emptied s.place.me.0.turns) × (0 < s.place.me.0.share) × AllBelow s.place.table_id.words s.place.me.0.turns };
+}
+
+impl<V, R: TurnRule<V>> Seat<V, R> {
+    // A seat that holds no turn.
+    pub(crate) fn new(place: Place<V>) -> Seat<V, R>
+        requires idle { (place.me.1 ≡ []) × (place.me.0.turns ≡ []) × (0 < place.me.0.share) }
+        ensures { result ≡ record { table = place.table_id; share = place.me.0.share; seen = place.me.0.seen; turns = [] } }
+    {
+        Seat {
+            place,
+            rule: PhantomData,
+        }
+    }
 }
