@@ -6,3 +6,4 @@ pub mod Giving
 pub mod Seating
 pub mod Filling
 pub mod Opening
+pub mod Leaving

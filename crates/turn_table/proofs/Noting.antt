@@ -1,7 +1,7 @@
 -- Lemmas on notes.
 use Rattle.std.proofs.Common.{◌≡◌, ◌≢◌, ℕ, zero, suc, ◌<◌, ◌==◌, eq-eqb, ne_eqb, List, [], ◌∷◌, ◌++◌, map, length, ◌⊎◌, inl, inr, ⊎_elim, Option, slice_index_or, refl, sym, ap, ◌∙◌, subst, arith, Some, None, Contains}
 use native.Mathlib.Decide.{ℕ_discrete}
-use Rattle.turn_table.specs.Notes.{noted, without, brought, keys}
+use Rattle.turn_table.specs.Notes.{noted, without, brought, keys, emptied, AllBelow}
 use Rattle.turn_table.specs.Keeping.{Apart}
 
 module _ {X : Type 0} where
@@ -108,3 +108,46 @@ apart_tied (y ∷ c) [] e a = absurd (cc)
 apart_tied {X} {Y} (y ∷ c) (t ∷ ts) e a =
     let here : t.0 ≡ y.0 = cc in let more : keys c ≡ keys ts = cc in let none : noted y.0 ts ≡ None = subst (λ (q : ℕ). noted q ts ≡ None) here a.0 in
     (⊎_elim (λ (h : (noted y.0 c ≡ None) × (noted y.0 ts ≡ None)). h.0) (λ (h : (z : Y) × (x : X) × (noted y.0 c ≡ Some z) × (noted y.0 ts ≡ Some x)). let k = h.3 in absurd (cc)) (tied y.0 c ts more), apart_tied c ts more a.1)
+
+module _ {X : Type 0} where
+  pub noted_below : (n p : ℕ) (ts : List (ℕ × X)) (x : X) → AllBelow n ts → noted p ts ≡ Some x → p < n
+  noted_below n p [] x b e = absurd (cc)
+  noted_below n p (t ∷ ts) x b e = ⊎_elim (λ (h : (t.0 ≡ p) × (t.1 ≡ x)). subst (λ (k : ℕ). k < n) h.0 b.0) (λ (h : (t.0 ≢ p) × (noted p ts ≡ Some x)). noted_below n p ts x b.1 h.1) (noted_cases p t ts x e)
+
+  pub AllBelow-without : (n p : ℕ) (ts : List (ℕ × X)) → AllBelow n ts → AllBelow n (without p ts)
+  AllBelow-without n p [] b = tt
+  AllBelow-without n p (t ∷ ts) b = go (AllBelow-without n p ts b.1) (ℕ_discrete t.0 p)
+    where
+      go : AllBelow n (without p ts) → Dec (t.0 ≡ p) → AllBelow n (without p (t ∷ ts))
+      go more (yes e) = rw (without_front p t ts e) b.1
+      go more (no m) = rw (without_else p t ts m) (b.0, more)
+
+  pub keys-without : {Y : Type 0} (p : ℕ) (c : List (ℕ × Y)) (ts : List (ℕ × X)) → keys c ≡ keys ts → keys (without p c) ≡ keys (without p ts)
+  keys-without p [] [] e = refl
+  keys-without p [] (t ∷ ts) e = absurd (cc)
+  keys-without p (y ∷ c) [] e = absurd (cc)
+  keys-without {Y} p (y ∷ c) (t ∷ ts) e = go (keys-without p c ts (cc)) (ℕ_discrete t.0 p)
+    where
+      go : keys (without p c) ≡ keys (without p ts) → Dec (t.0 ≡ p) → keys (without p (y ∷ c)) ≡ keys (without p (t ∷ ts))
+      go more (yes s) = let same : y.0 ≡ t.0 = cc in rw (without_front p y c (same ∙ s), without_front p t ts s) (cc)
+      go more (no n) = let same : y.0 ≡ t.0 = cc in rw (without_else p y c (λ s. n (sym same ∙ s)), without_else p t ts n) (λ i. same i ∷ more i)
+
+  pub keys-emptied : (ts : List (ℕ × X)) → keys (emptied ts) ≡ keys ts
+  keys-emptied [] = refl
+  keys-emptied (t ∷ ts) = ap (λ ks. t.0 ∷ ks) (keys-emptied ts)
+
+  pub noted-emptied : (p : ℕ) (ts : List (ℕ × X)) (x : X) → noted p ts ≡ Some x → noted p (emptied ts) ≡ Some None
+  noted-emptied p [] x e = absurd (cc)
+  noted-emptied p (t ∷ ts) x e = go (noted-emptied p ts x) (ℕ_discrete t.0 p)
+    where
+      go : (noted p ts ≡ Some x → noted p (emptied ts) ≡ Some None) → Dec (t.0 ≡ p) → noted p (emptied (t ∷ ts)) ≡ Some None
+      go more (yes s) = rw (eq-eqb t.0 p s)
+      go more (no n) = rw (ne_eqb t.0 p n) (more (rw (ne_eqb t.0 p n) at e))
+
+  pub without-emptied : (p : ℕ) (ts : List (ℕ × X)) → without p (emptied ts) ≡ emptied (without p ts)
+  without-emptied p [] = refl
+  without-emptied p (t ∷ ts) = go (without-emptied p ts) (ℕ_discrete t.0 p)
+    where
+      go : without p (emptied ts) ≡ emptied (without p ts) → Dec (t.0 ≡ p) → without p (emptied (t ∷ ts)) ≡ emptied (without p (t ∷ ts))
+      go more (yes s) = rw (eq-eqb t.0 p s)
+      go more (no n) = rw (ne_eqb t.0 p n) (ap (λ c. (t.0, None) ∷ c) more)

@@ -8,8 +8,8 @@ use std::snapshot::Snapshot;
 
 /// A value whose turn a seat holds. It is given back by `leave` or `leave_pair`, and can't be dropped.
 pub struct Held<V> {
-    pub(crate) part: usize,
-    pub(crate) value: V,
+    part: usize,
+    value: V,
     opening: Snapshot<V>,
 }
 
@@ -31,6 +31,17 @@ impl<V> Held<V> {
             value,
             opening,
         }
+    }
+
+    pub(crate) fn into_parts(self) -> (usize, V)
+        ensures { (result.0 ≡ self.part) × (result.1 ≡ self.value) }
+    {
+        let Held {
+            part,
+            value,
+            opening: _,
+        } = self;
+        (part, value)
     }
 
     /// The value. It takes constant time.

@@ -35,4 +35,12 @@ impl<V, R: TurnRule<V>> Seat<V, R> {
             rule: PhantomData,
         }
     }
+
+    pub(crate) fn into_place(self) -> Place<V>
+        ensures same { (result.table_id ≡ self.table) × (result.me.0.share ≡ self.share) × (result.me.0.seen ≡ self.seen) × (result.me.0.turns ≡ self.turns) }
+        ensures slots { self.turns ≡ [] → result.me.1 ≡ [] }
+    {
+        let Seat { place, rule: _ } = self;
+        place
+    }
 }

@@ -1,7 +1,7 @@
 //! The steps on the table, a function for each kind. No other code changes the table.
 ghost use Rattle.std.specs.Prelude.{◌≡◌, ℕ, ◌<◌, List, [], ◌∷◌, Option, Some, None, Contains, MatchBool};
 ghost use Rattle.atomic_table.specs.Table.{rest};
-ghost use Rattle.turn_table.specs.Notes.{brought, keys};
+ghost use Rattle.turn_table.specs.Notes.{noted, without, brought, keys};
 ghost use Rattle.turn_table.specs.Playing.{standing, entered, Gave, GaveSecond, MayGive, MayGiveSecond, parting, newcomer, joined};
 
 use crate::plays::{Bring, Give, GiveSecond, Halve, Take, Unite};
@@ -138,4 +138,22 @@ pub(crate) fn bring<V, R: TurnRule<V>>(board: &Board<V, R>, place: &mut Place<V>
     ensures brought { place.new.me ≡ (standing place.old.me.0.share place.old.me.0.seen (brought part place.old.me.0.turns), brought part place.old.me.1) }
 {
     board.load::<Bring>(place, part);
+}
+
+/// Moves a value back into the part's slot, which is brought to the front with its turn.
+pub(crate) fn put_back<V, R: TurnRule<V>>(
+    board: &Board<V, R>,
+    place: &mut Place<V>,
+    part: usize,
+    value: V,
+)
+    requires board { place.old.table_id ≡ board.now.table_id }
+    requires part { part < board.now.table_id.words }
+    requires tied { keys place.old.me.1 ≡ keys place.old.me.0.turns }
+    requires slot { noted part place.old.me.1 ≡ Some None }
+    ensures board { (place.new.table_id ≡ place.old.table_id) × (place.new.id ≡ place.old.id) }
+    ensures slot { (v : V) → noted part place.old.me.0.turns ≡ Some v → place.new.me ≡ (standing place.old.me.0.share place.old.me.0.seen ((part, v) ∷ without part place.old.me.0.turns), (part, Some value) ∷ without part place.old.me.1) }
+{
+    bring(board, place, part);
+    move_back(board, place, part, value);
 }

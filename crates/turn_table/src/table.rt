@@ -1,5 +1,5 @@
 //! The table of turns and its calls.
-ghost use Rattle.std.specs.Prelude.{◌≡◌, ℕ, ◌^◌, ◌<◌, [], ◌∷◌, ◌++◌, ◌+◌, ◌-◌, All, IfOk, IfErr, Some, slice_get, vec_len};
+ghost use Rattle.std.specs.Prelude.{◌≡◌, ℕ, ◌^◌, ◌<◌, ◌≤◌, [], ◌∷◌, ◌++◌, ◌+◌, ◌-◌, All, IfOk, IfErr, Some, slice_get, vec_len};
 ghost use Rattle.std.specs.List.{enumerate_from};
 ghost use Rattle.turn_table.specs.Notes.{without};
 ghost use Rattle.turn_table.specs.Sitting.{part_count, HasSeen, HoldsTurn, HoldsTurns};
@@ -12,7 +12,7 @@ use crate::standing::{Law, Standing};
 use crate::steps;
 use atomic_table::{Refused, Table};
 use std::alloc::Global;
-use std::marker::{Model, PhantomData};
+use std::marker::Model;
 use std::snapshot::Snapshot;
 use std::sync::Wait;
 use std::sync::atomic::{AtomicU64, Ordering};
@@ -82,5 +82,122 @@ impl<V, R: TurnRule<V>> Turns<V, R> {
                 Err((NoMemory, parts))
             }
         }
+    }
+
+    /// A seat for another thread, which has seen what `from` saw and has share 1. It takes constant time and no memory.
+    pub fn seat(&self, from: &mut Seat<V, R>) -> Seat<V, R>
+        requires table { from.old.table ≡ self.now }
+        requires share { 2 ≤ from.old.share }
+        ensures from { from.new ≡ record from.old { share = from.old.share - 1 } }
+        ensures seat { result ≡ record { table = self.now; share = 1; seen = from.old.seen; turns = [] } }
+    {
+        Seat::new(steps::split(&self.table.shared, &mut from.place))
+    }
+
+    /// Takes in a seat that holds no turn, with its share and with what it saw. It takes constant time.
+    pub fn join(&self, into: &mut Seat<V, R>, from: Seat<V, R>)
+        requires table { (into.old.table ≡ self.now) × (from.table ≡ self.now) }
+        requires idle { from.turns ≡ [] }
+        ensures into { into.new ≡ record into.old { share = into.old.share + from.share; seen = into.old.seen ++ from.seen } }
+    {
+        steps::join(&self.table.shared, &mut into.place, from.into_place());
+    }
+
+    /// Takes the turn of a part, and hands out its value. It waits while another seat holds the turn: it yields some times, and
+    /// then sleeps until a turn is given back. It takes no memory. Seats take turns in rising order of the parts, so that no two wait for each other.
+    pub fn enter<W: Wait>(&self, rt: &W, seat: &mut Seat<V, R>, part: usize) -> Held<V>
+        requires table { seat.old.table ≡ self.now }
+        requires part { part < part_count self.now }
+        requires order { All (λ t. t.0 < part) seat.old.turns }
+        ensures held { (result.part ≡ part) × (result.opening ≡ result.value) }
+        ensures grown { (x : V) → HasSeen seat.old part x → R.grows x result.value }
+        ensures seat { seat.new ≡ record seat.old { seen = (part, result.value) ∷ seat.old.seen; turns = (part, result.value) ∷ seat.old.turns } }
+    {
+        let board = &self.table.shared;
+        let place = &mut seat.place;
+        for _ in rt.forever() {
+            if steps::try_take(board, place, part) {
+                return Held::new(part, steps::move_out(board, place, part));
+            }
+            self.wait_for(rt, part);
+        }
+        unreachable!()
+    }
+
+    // Waits a while, or until a turn of the part is given back.
+    fn wait_for<W: Wait>(&self, rt: &W, part: usize)
+        requires part { part < part_count self.now }
+    {
+        for _ in 0..YIELDS {
+            if self.table.shared.peek(part) != steps::TAKEN {
+                return;
+            }
+            thread::yield_now();
+        }
+        self.sleepers.fetch_add(1, Ordering::SeqCst);
+        self.table.shared.park(rt, part, steps::TAKEN as u32);
+        self.sleepers.fetch_sub(1, Ordering::SeqCst);
+    }
+
+    // Wakes a thread that sleeps for the part, if one may.
+    fn wake(&self, part: usize)
+        requires part { part < part_count self.now }
+    {
+        if self.sleepers.load(Ordering::SeqCst) != 0 {
+            self.table.shared.wake_one(part);
+        }
+    }
+
+    /// Puts a value back, and gives its turn back. The change of the value since `enter` is allowed alone. It takes no memory, and time by the
+    /// number of turns that the seat holds at most.
+    pub fn leave(&self, seat: &mut Seat<V, R>, held: Held<V>)
+        requires table { seat.old.table ≡ self.now }
+        requires held { HoldsTurn seat.old held }
+        requires change { R.alone held.opening held.value }
+        ensures seat { seat.new ≡ record seat.old { seen = (held.part, held.value) ∷ seat.old.seen; turns = without held.part seat.old.turns } }
+    {
+        let (part, value) = held.into_parts();
+        let board = &self.table.shared;
+        let place = &mut seat.place;
+        steps::put_back(board, place, part, value);
+        steps::give_alone(board, place, part);
+        self.wake(part);
+    }
+
+    /// Puts two values back, and gives both turns back, the second one first. Their changes since `enter` are allowed paired. It takes no memory.
+    pub fn leave_pair(&self, seat: &mut Seat<V, R>, first: Held<V>, second: Held<V>)
+        requires table { seat.old.table ≡ self.now }
+        requires held { HoldsTurns seat.old first second }
+        requires change { R.paired first.opening second.opening first.value second.value }
+        ensures seat { seat.new ≡ record seat.old { seen = (first.part, first.value) ∷ (second.part, second.value) ∷ seat.old.seen; turns = without second.part (without first.part seat.old.turns) } }
+    {
+        let (a, first_value) = first.into_parts();
+        let (b, second_value) = second.into_parts();
+        let board = &self.table.shared;
+        let place = &mut seat.place;
+        steps::put_back(board, place, a, first_value);
+        steps::put_back(board, place, b, second_value);
+        steps::give_second(board, place, b);
+        steps::give_alone(board, place, a);
+        self.wake(b);
+        self.wake(a);
+    }
+
+    /// Ends the table, and gives the values back in order. The seat has the whole share, so no other is left. It takes no memory, and time linear in the number of parts.
+    pub fn close(self, seat: Seat<V, R>) -> Vec<V>
+        requires table { seat.table ≡ self }
+        requires share { seat.share ≡ 2 ^ 32 }
+        requires idle { seat.turns ≡ [] }
+        ensures count { vec_len result ≡ part_count self }
+        ensures legal { R.holds result.items }
+        ensures grown { (p : ℕ) (x v : V) → HasSeen seat p x → slice_get result.items p ≡ Some v → R.grows x v }
+    {
+        let Turns {
+            table,
+            mut room,
+            sleepers: _,
+        } = self;
+        empty_table(table.close_with(seat.into_place()), &mut room);
+        room
     }
 }
