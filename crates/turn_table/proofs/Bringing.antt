@@ -1,11 +1,11 @@
 -- A seat brings one of its slots to the front: it gives back those above it and the slot itself, and takes them again in another order, all in one step. No slot is other than before.
-use Rattle.std.proofs.Common.{◌≡◌, ◌≢◌, ℕ, zero, suc, ◌<◌, eq-eqb, ne_eqb, List, [], ◌∷◌, length, set, length-set, Option, Some, None, if◌then◌else◌, ◌==◌, refl, sym, ap, ◌∙◌, subst, arith, ⊎_elim}
+use Rattle.std.proofs.Common.{◌≡◌, ◌≢◌, ℕ, zero, suc, ◌<◌, eq-eqb, ne_eqb, List, [], ◌∷◌, length, set, Option, Some, None, if◌then◌else◌, ◌==◌, refl, sym, ap, ◌∙◌, subst, arith}
 use native.Mathlib.Decide.{ℕ_discrete}
 use mathlib.Core.Option.{none, some}
 use mathlib.Core.Option as maybe
 use lib.ListN.{get_elem?}
 use lib.Seq.{set-set, set_comm}
-use Rattle.atomic_table.specs.Table.{Act, keeps, takes, gives, chain, put_back, rest, carried_after, homes_after, Valid}
+use Rattle.atomic_table.specs.Table.{Act, keeps, takes, gives, chain, carried_after, homes_after, Valid}
 use Rattle.atomic_table.proofs.Lists.{set_here, set_else, set_again}
 use Rattle.turn_table.specs.Notes.{noted, without, brought}
 use Rattle.turn_table.specs.Keeping.{Apart}
@@ -53,29 +53,29 @@ module _ {S : Type 0} where
   -- the slot t.0 was given back, and is taken again below the slot p
   over_brings : (hs : List (maybe.Option S)) (t : ℕ × S) (p : ℕ) (ts : List (ℕ × S)) → get_elem? hs t.0 ≡ some none → t.0 ≢ p → Out hs ts → (o : Option S) → noted p ts ≡ o
       → let hs' = set hs t.0 (some t.1) in let c = brought p ts in let a = over t p o in
-        Valid hs' c a × (homes_after hs' c a ≡ hs) × (carried_after c a ≡ brought p (t ∷ ts))
+      Valid hs' c a × (homes_after hs' c a ≡ hs) × (carried_after c a ≡ brought p (t ∷ ts))
   over_brings hs t p ts at m out None e =
-    let near : t.0 < length hs = within hs t.0 none at in
-    let is : brought p (t ∷ ts) ≡ t ∷ ts = brought_none p (t ∷ ts) (rw (ne_eqb t.0 p m) e) in (
-      set_here hs t.0 (some t.1) near,
-      set-set hs t.0 (some t.1) none ∙ set_again hs t.0 none at,
-      ap (λ (c : List (ℕ × S)). t ∷ c) (brought_none p ts e) ∙ sym is,
-    )
+      let near : t.0 < length hs = within hs t.0 none at in
+      let is : brought p (t ∷ ts) ≡ t ∷ ts = brought_none p (t ∷ ts) (rw (ne_eqb t.0 p m) e) in (
+        set_here hs t.0 (some t.1) near,
+        set-set hs t.0 (some t.1) none ∙ set_again hs t.0 none at,
+        ap (λ (c : List (ℕ × S)). t ∷ c) (brought_none p ts e) ∙ sym is,
+      )
   over_brings hs t p ts at m out (Some y) e =
-    let near : t.0 < length hs = within hs t.0 none at in
-    let hs₁ : List (maybe.Option S) = set hs t.0 (some t.1) in
-    let at_p : get_elem? hs p ≡ some none = out_noted hs p ts y out e in
-    let near_p : p < length hs = within hs p none at_p in
-    let c : brought p ts ≡ (p, y) ∷ without p ts = brought_is p ts y e in
-    let is : brought p (t ∷ ts) ≡ (p, y) ∷ t ∷ without p ts = brought_is p (t ∷ ts) y (rw (ne_eqb t.0 p m) e) ∙ ap (λ (w : List (ℕ × S)). (p, y) ∷ w) (without_else p t ts m) in
-    let hs₂ : List (maybe.Option S) = set hs₁ p (some y) in
-    let hs₃ : List (maybe.Option S) = set hs₂ t.0 none in
-    let there : set hs₁ t.0 none ≡ hs = set-set hs t.0 (some t.1) none ∙ set_again hs t.0 none at in
-    let third : hs₃ ≡ set hs p (some y) = set_comm hs₁ p t.0 (some y) none (λ s. m (sym s)) ∙ ap (λ (l : List (maybe.Option S)). set l p (some y)) there in
-    let fourth : set hs₃ p none ≡ hs = ap (λ (l : List (maybe.Option S)). set l p none) third ∙ (set-set hs p (some y) none ∙ set_again hs p none at_p) in
-    let first : get_elem? hs₂ t.0 ≡ some (some t.1) = set_else hs₁ p t.0 (some y) m ∙ set_here hs t.0 (some t.1) near in
-    let second : get_elem? hs₃ p ≡ some (some y) = ap (λ (l : List (maybe.Option S)). get_elem? l p) third ∙ set_here hs p (some y) near_p in
-    rw (c, is) ((tt, (first, second)), fourth, refl)
+      let near : t.0 < length hs = within hs t.0 none at in
+      let hs₁ : List (maybe.Option S) = set hs t.0 (some t.1) in
+      let at_p : get_elem? hs p ≡ some none = out_noted hs p ts y out e in
+      let near_p : p < length hs = within hs p none at_p in
+      let c : brought p ts ≡ (p, y) ∷ without p ts = brought_is p ts y e in
+      let is : brought p (t ∷ ts) ≡ (p, y) ∷ t ∷ without p ts = brought_is p (t ∷ ts) y (rw (ne_eqb t.0 p m) e) ∙ ap (λ (w : List (ℕ × S)). (p, y) ∷ w) (without_else p t ts m) in
+      let hs₂ : List (maybe.Option S) = set hs₁ p (some y) in
+      let hs₃ : List (maybe.Option S) = set hs₂ t.0 none in
+      let there : set hs₁ t.0 none ≡ hs = set-set hs t.0 (some t.1) none ∙ set_again hs t.0 none at in
+      let third : hs₃ ≡ set hs p (some y) = set_comm hs₁ p t.0 (some y) none (λ s. m (sym s)) ∙ ap (λ (l : List (maybe.Option S)). set l p (some y)) there in
+      let fourth : set hs₃ p none ≡ hs = ap (λ (l : List (maybe.Option S)). set l p none) third ∙ (set-set hs p (some y) none ∙ set_again hs p none at_p) in
+      let first : get_elem? hs₂ t.0 ≡ some (some t.1) = set_else hs₁ p t.0 (some y) m ∙ set_here hs t.0 (some t.1) near in
+      let second : get_elem? hs₃ p ≡ some (some y) = ap (λ (l : List (maybe.Option S)). get_elem? l p) third ∙ set_here hs p (some y) near_p in
+      rw (c, is) ((tt, (first, second)), fourth, refl)
 
   pub brings : (hs : List (maybe.Option S)) (p : ℕ) (c : List (ℕ × S)) → Apart c → Out hs c → Brought hs c (bringing p c) (brought p c)
   brings hs p [] apart out = (tt, refl, refl)

@@ -1,16 +1,15 @@
 -- The steps that give a turn back keep the rule, and tell what they should.
-use Rattle.std.proofs.Common.{◌≡◌, ◌≢◌, ℕ, ◌<◌, ◌+◌, ◌≤◌, List, [], ◌∷◌, length, set, length-set, get_or-set_same, get_or-set_other, Option, Some, None, Contains, slice_index, slice_get, slice_set, refl, sym, ap, ◌∙◌, subst, arith, ⊎_elim}
+use Rattle.std.proofs.Common.{◌≡◌, ◌≢◌, ℕ, ◌<◌, List, ◌∷◌, length, set, length-set, get_or-set_same, get_or-set_other, Option, Some, None, Contains, slice_get, slice_set, refl, sym, ap, ◌∙◌, subst, arith, ⊎_elim}
 use mathlib.Core.Path.{Path}
 use mathlib.Core.Option.{none, some, some-injective}
-use mathlib.Core.Option as maybe
 use lib.ListN.{get_elem?}
 use lib.Seq.{set-set}
-use Rattle.atomic_table.specs.Table.{State, Act, gives, step, Allows}
+use Rattle.atomic_table.specs.Table.{gives, step, Allows}
 use Rattle.atomic_table.proofs.Lists.{at_set, set_here, set_else}
 use Rattle.turn_table.specs.declared.standing.Standing.{Standing}
 use Rattle.turn_table.specs.Notes.{noted}
-use Rattle.turn_table.specs.Keeping.{Board, Apart, Lies, Knows, Fits, Kept}
-use Rattle.turn_table.specs.Playing.{Sat, standing, left, Gives, GivesSecond}
+use Rattle.turn_table.specs.Keeping.{Board, Lies, Knows, Fits, Kept}
+use Rattle.turn_table.specs.Playing.{Sat, standing, Gives, GivesSecond}
 use Rattle.turn_table.proofs.Noting.{noted_here, noted_else, noted_cases, contains_cases}
 use Rattle.turn_table.proofs.Bringing.{within}
 use Rattle.turn_table.proofs.Moving.{Holder, put, put_here, put_else, moved}
@@ -61,15 +60,15 @@ module _ {V : Type 0} (grows : V → V → Type 0) (reflexive : (v : V) → grow
         apart = mine.apart.1;
         grown = λ q x z c e. ⊎_elim
             (λ (t : (p, y) ≡ (q, x)). let e' : get_elem? (set parts p y) p ≡ some z = ap (λ (r : ℕ × V). get_elem? (set parts p y) r.0) t ∙ e in
-              subst (λ (u : V). grows u z) (ap (λ (r : ℕ × V). r.1) t) (subst (grows y) (some-injective y z (sym (set_here parts p y in_parts) ∙ e')) (reflexive y)))
+            subst (λ (u : V). grows u z) (ap (λ (r : ℕ × V). r.1) t) (subst (grows y) (some-injective y z (sym (set_here parts p y in_parts) ∙ e')) (reflexive y)))
             (λ (c' : Contains seen (q, x)). ⊎_elim
-              (λ (t : (q ≡ p) × (y ≡ z)). subst (grows x) t.1 (trans x v y (mine.grown q x v c' (ap (get_elem? parts) t.0 ∙ here.1)) grew))
-              (λ (t : (q ≢ p) × (get_elem? parts q ≡ some z)). mine.grown q x z c' t.1) (at_set parts p q y z e))
+            (λ (t : (q ≡ p) × (y ≡ z)). subst (grows x) t.1 (trans x v y (mine.grown q x v c' (ap (get_elem? parts) t.0 ∙ here.1)) grew))
+            (λ (t : (q ≢ p) × (get_elem? parts q ≡ some z)). mine.grown q x z c' t.1) (at_set parts p q y z e))
             (contains_cases (p, y) (q, x) seen c);
       } in
       moved grows parts holder s id p was w v y none (set s.words p 0) (set s.homes p (some (Some y))) trans f at here.1 grew
-          (λ j other e. other (some-injective j id (sym e ∙ here.0))) (length-set s.words p 0) (length-set s.homes p (some (Some y))) (λ q m. get_or-set_other s.words p q 0 0 m) (λ q m. set_else s.homes p q (some (Some y)) m)
-          (get_or-set_same s.words p 0 0 (omega arith), set_here s.homes p (some (Some y)) (omega arith)) (λ q z m e. sym (noted_else q (p, v) turns m) ∙ e) knows refl
+      (λ j other e. other (some-injective j id (sym e ∙ here.0))) (length-set s.words p 0) (length-set s.homes p (some (Some y))) (λ q m. get_or-set_other s.words p q 0 0 m) (λ q m. set_else s.homes p q (some (Some y)) m)
+      (get_or-set_same s.words p 0 0 (omega arith), set_here s.homes p (some (Some y)) (omega arith)) (λ q z m e. sym (noted_else q (p, v) turns m) ∙ e) knows refl
 
   -- x is declared for the turn behind the front
   pub declared : (parts : List V) (holder : Holder) (s : Board V) (id a b share : ℕ) (va vb x : V) (seen turns : List (ℕ × V)) → grows va x → Fits grows parts holder s
@@ -89,9 +88,9 @@ module _ {V : Type 0} (grows : V → V → Type 0) (reflexive : (v : V) → grow
         held = λ q z e. ⊎_elim
             (λ (t : (b ≡ q) × (vb ≡ z)). let m : q ≢ a = λ is. two' (t.0 ∙ is) in let old = mine.held q z (other q m ∙ e) in (put_else holder a (some id) q m ∙ old.0, set_else parts a q x m ∙ old.1, old.2))
             (λ (t : (b ≢ q) × (noted q ((a, x) ∷ turns) ≡ Some z)). ⊎_elim
-              (λ (u : (a ≡ q) × (x ≡ z)). (ap (put holder a (some id)) (sym u.0) ∙ put_here holder a (some id), ap (get_elem? (set parts a x)) (sym u.0) ∙ (set_here parts a x in_parts ∙ ap some u.1), here.2))
-              (λ (u : (a ≢ q) × (noted q turns ≡ Some z)). let m : q ≢ a = λ is. u.0 (sym is) in let old = mine.held q z (other q m ∙ e) in (put_else holder a (some id) q m ∙ old.0, set_else parts a q x m ∙ old.1, old.2))
-              (noted_cases q (a, x) turns z t.1))
+            (λ (u : (a ≡ q) × (x ≡ z)). (ap (put holder a (some id)) (sym u.0) ∙ put_here holder a (some id), ap (get_elem? (set parts a x)) (sym u.0) ∙ (set_here parts a x in_parts ∙ ap some u.1), here.2))
+            (λ (u : (a ≢ q) × (noted q turns ≡ Some z)). let m : q ≢ a = λ is. u.0 (sym is) in let old = mine.held q z (other q m ∙ e) in (put_else holder a (some id) q m ∙ old.0, set_else parts a q x m ∙ old.1, old.2))
+            (noted_cases q (a, x) turns z t.1))
             (noted_cases q (b, vb) ((a, x) ∷ turns) z e);
         apart = (noted_else b (a, x) turns two' ∙ (sym (noted_else b (a, va) turns two') ∙ mine.apart.0), mine.apart.1);
         grown = λ q u z c e. ⊎_elim
@@ -99,7 +98,7 @@ module _ {V : Type 0} (grows : V → V → Type 0) (reflexive : (v : V) → grow
             (λ (t : (q ≢ a) × (get_elem? parts q ≡ some z)). mine.grown q u z c t.1) (at_set parts a q x z e);
       } in
       moved grows parts holder s id a was w va x (some id) s.words s.homes trans f at here.1 grew (λ j m e. m (some-injective j id (sym e ∙ here.0))) refl refl (λ _ _. refl) (λ _ _. refl)
-          (lies.0, lies.1, (w, set_here s.views id w (within s.views id was at), noted_else a (b, vb) ((a, x) ∷ turns) two ∙ noted_here a x turns)) (λ q z m e. sym (other q m) ∙ e) knows refl
+      (lies.0, lies.1, (w, set_here s.views id w (within s.views id was at), noted_else a (b, vb) ((a, x) ∷ turns) two ∙ noted_here a x turns)) (λ q z m e. sym (other q m) ∙ e) knows refl
     where
       ends : (q : ℕ) → q ≢ a → noted q ((b, vb) ∷ (a, va) ∷ turns) ≡ noted q ((b, vb) ∷ (a, x) ∷ turns)
       ends q m = rw (noted_else q (a, va) turns m, noted_else q (a, x) turns m)
@@ -109,7 +108,6 @@ module _ {V : Type 0} (grows : V → V → Type 0) (reflexive : (v : V) → grow
       (paired_keeps : (parts : List V) (a b : ℕ) (old_a old_b new_a new_b : V) → a ≢ b → holds parts → slice_get parts a ≡ Some old_a → slice_get parts b ≡ Some old_b → paired old_a old_b new_a new_b → holds (slice_set (slice_set parts a new_a) b new_b))
       (alone_grows : (old new : V) → alone old new → grows old new)
       (paired_grows : (old_a old_b new_a new_b : V) → paired old_a old_b new_a new_b → grows old_a new_a × grows old_b new_b) where
-
     abbrev front : Sat V → List (ℕ × V) → List (ℕ × Option V) → Sat V
     front me turns carried = (standing me.0.share me.0.seen turns, carried)
 

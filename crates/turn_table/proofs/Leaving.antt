@@ -1,6 +1,5 @@
 -- What a seat is after the steps of a leave.
-use Rattle.std.proofs.Common.{◌≡◌, ◌≢◌, ℕ, ◌<◌, List, [], ◌∷◌, Option, Some, None, refl, sym, ap, ◌∙◌, subst}
-use mathlib.Core.Path.{Path}
+use Rattle.std.proofs.Common.{◌≡◌, ◌≢◌, ℕ, ◌<◌, List, ◌∷◌, Option, Some, None, sym, ap, ◌∙◌, subst}
 use Rattle.atomic_table.specs.Table.{rest}
 use Rattle.atomic_table.specs.Seated.{TableId}
 use Rattle.turn_table.specs.Sitting.{Sitting}
@@ -104,7 +103,7 @@ module _ {V : Type 0} where
             let share₃ = ap (λ (s : Sat V). s.0.share) second ∙ share₂ in let seen₃ = ap (λ (s : Sat V). s.0.seen) second ∙ seen₂ in
             gave' a x x (without b (without a m.0.turns)) (without b (without a m.1)) (ap (λ (s : Sat V). s.0.turns) after_second) (ap (λ (s : Sat V). s.1) after_second)
             ∙ ((λ i. (left a x (without b (without a m.0.turns)) (after_second i).0, without b (without a m.1)))
-              ∙ (λ i. (standing (share₃ i) ((a, x) ∷ (b, y) ∷ seen₃ i) (without b (without a m.0.turns)), without b (without a m.1))))
+            ∙ (λ i. (standing (share₃ i) ((a, x) ∷ (b, y) ∷ seen₃ i) (without b (without a m.0.turns)), without b (without a m.1))))
 
   abbrev pub sitting : TableId → Sat V → Sitting V
   sitting z m = record { table = z; share = m.0.share; seen = m.0.seen; turns = m.0.turns }

@@ -1,15 +1,14 @@
 -- What stays of the rule when one part and one seat change.
-use Rattle.std.proofs.Common.{◌≡◌, ◌≢◌, ℕ, zero, suc, ◌<◌, ◌+◌, ◌≤◌, List, [], ◌∷◌, length, set, get_or, length-set, Option, Some, None, Contains, sum_by, slice_index, refl, sym, ap, ◌∙◌, subst, arith, ⊎_elim}
+use Rattle.std.proofs.Common.{◌≡◌, ◌≢◌, ℕ, zero, suc, ◌+◌, List, [], ◌∷◌, length, set, get_or, length-set, Option, Some, sum_by, slice_index, refl, sym, ap, ◌∙◌, subst, arith, ⊎_elim}
 use Rattle.std.proofs.lemmas.List.Sums.{sum_by-set}
 use native.Mathlib.Decide.{ℕ_discrete}
 use mathlib.Core.Option.{none, some, some-injective}
 use mathlib.Core.Option as maybe
 use lib.ListN.{get_elem?}
-use Rattle.atomic_table.specs.Table.{State}
-use Rattle.atomic_table.proofs.Lists.{at_set, set_here, set_else, set_again}
+use Rattle.atomic_table.proofs.Lists.{at_set, set_here, set_else}
 use Rattle.turn_table.specs.declared.standing.Standing.{Standing}
 use Rattle.turn_table.specs.Notes.{noted}
-use Rattle.turn_table.specs.Keeping.{Board, share_of, whole_share, Apart, Lies, Knows, Fits}
+use Rattle.turn_table.specs.Keeping.{Board, share_of, Lies, Knows, Fits}
 use Rattle.turn_table.proofs.Bringing.{within}
 
 abbrev pub Holder : Type 0
@@ -102,16 +101,16 @@ module _ {V : Type 0} where
         → ((q : ℕ) (z : V) → q ≢ p → noted q v.turns ≡ Some z → noted q w.turns ≡ Some z) → Knows grows (set parts p y) (put holder p h) id w → w.share ≡ v.share
         → Fits grows (set parts p y) (put holder p h) record { words = words'; homes = homes'; views = set s.views id w }
     moved parts holder s id p v w x y h words' homes' trans f at at_p grew loose same_wide same_deep word home lies keeps mine same =
-      let s' : Board V = record { words = words'; homes = homes'; views = set s.views id w } in record {
-        wide = same_wide ∙ (f.wide ∙ sym (length-set parts p y));
-        deep = same_deep ∙ (f.deep ∙ sym (length-set parts p y));
-        each_part = λ q z e. ⊎_elim (λ (t : (q ≡ p) × (y ≡ z)). subst (λ (r : ℕ × V). Lies s' r.0 r.1 (put holder p h r.0)) (λ i. (sym t.0 i, t.1 i)) (subst (Lies s' p y) (sym (put_here holder p h)) lies))
-            (λ (t : (q ≢ p) × (get_elem? parts q ≡ some z)). subst (Lies s' q z) (sym (put_else holder p h q t.0)) (lies_stay s s' q z (holder q) (word q t.0) (home q t.0) (seats q z t.0) (f.each_part q z t.1)))
-            (at_set parts p q y z e);
-        each_seat = λ j u e. ⊎_elim (λ (t : (j ≡ id) × (w ≡ u)). subst (λ (r : ℕ × Standing V). Knows grows (set parts p y) (put holder p h) r.0 r.1) (λ i. (sym t.0 i, t.1 i)) mine)
-            (λ (t : (j ≢ id) × (get_elem? s.views j ≡ some u)). others_know parts holder p x y h j u trans at_p grew (loose j t.0) (f.each_seat j u t.1)) (at_set s.views id j w u e);
-        whole = shares_stay s.views id v w at same ∙ f.whole;
-      }
+        let s' : Board V = record { words = words'; homes = homes'; views = set s.views id w } in record {
+          wide = same_wide ∙ (f.wide ∙ sym (length-set parts p y));
+          deep = same_deep ∙ (f.deep ∙ sym (length-set parts p y));
+          each_part = λ q z e. ⊎_elim (λ (t : (q ≡ p) × (y ≡ z)). subst (λ (r : ℕ × V). Lies s' r.0 r.1 (put holder p h r.0)) (λ i. (sym t.0 i, t.1 i)) (subst (Lies s' p y) (sym (put_here holder p h)) lies))
+              (λ (t : (q ≢ p) × (get_elem? parts q ≡ some z)). subst (Lies s' q z) (sym (put_else holder p h q t.0)) (lies_stay s s' q z (holder q) (word q t.0) (home q t.0) (seats q z t.0) (f.each_part q z t.1)))
+              (at_set parts p q y z e);
+          each_seat = λ j u e. ⊎_elim (λ (t : (j ≡ id) × (w ≡ u)). subst (λ (r : ℕ × Standing V). Knows grows (set parts p y) (put holder p h) r.0 r.1) (λ i. (sym t.0 i, t.1 i)) mine)
+              (λ (t : (j ≢ id) × (get_elem? s.views j ≡ some u)). others_know parts holder p x y h j u trans at_p grew (loose j t.0) (f.each_seat j u t.1)) (at_set s.views id j w u e);
+          whole = shares_stay s.views id v w at same ∙ f.whole;
+        }
       where
         seats : (q : ℕ) (z : V) → q ≢ p → (j : ℕ) (u : Standing V) → get_elem? s.views j ≡ some u → noted q u.turns ≡ Some z
             → (u' : Standing V) × (get_elem? (set s.views id w) j ≡ some u') × (noted q u'.turns ≡ Some z)

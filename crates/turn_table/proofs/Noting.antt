@@ -1,5 +1,5 @@
 -- Lemmas on notes.
-use Rattle.std.proofs.Common.{◌≡◌, ◌≢◌, ℕ, zero, suc, ◌<◌, ◌==◌, eq-eqb, ne_eqb, List, [], ◌∷◌, ◌++◌, map, length, ◌⊎◌, inl, inr, ⊎_elim, Option, slice_index_or, refl, sym, ap, ◌∙◌, subst, arith, Some, None, Contains}
+use Rattle.std.proofs.Common.{◌≡◌, ◌≢◌, ℕ, zero, suc, ◌<◌, eq-eqb, ne_eqb, List, [], ◌∷◌, length, ◌⊎◌, inl, inr, ⊎_elim, Option, slice_index_or, refl, sym, ap, ◌∙◌, subst, arith, Some, None, Contains}
 use native.Mathlib.Decide.{ℕ_discrete}
 use Rattle.turn_table.specs.Notes.{noted, without, brought, keys, emptied, AllBelow}
 use Rattle.turn_table.specs.Keeping.{Apart}

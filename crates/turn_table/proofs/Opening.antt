@@ -1,18 +1,17 @@
 -- How the table starts, and what is known when it is closed.
-use Rattle.std.proofs.Common.{◌≡◌, ◌≢◌, ℕ, zero, suc, ◌+◌, ◌<◌, ◌≤◌, List, [], ◌∷◌, map, length, set, get_or, replicate, Option, Some, None, Contains, slice_index, sum_by, refl, sym, ap, ◌∙◌, subst, arith, ⊎_elim}
+use Rattle.std.proofs.Common.{◌≡◌, ◌≢◌, ℕ, zero, suc, ◌+◌, ◌<◌, ◌≤◌, List, [], ◌∷◌, map, length, set, get_or, replicate, Option, Some, None, Contains, sum_by, refl, sym, ap, ◌∙◌, subst, arith, ⊎_elim}
 use Rattle.std.specs.List.{enumerate_from}
 use Rattle.std.proofs.lemmas.List.Sums.{sum_by-set}
 use native.Mathlib.Decide.{ℕ_discrete}
-use native.Mathlib.Nat.{suc-add}
 use mathlib.Core.Option.{none, some, some-injective}
 use mathlib.Core.Option as maybe
 use lib.ListN.{get_elem?, length-map, length-replicate}
-use Rattle.atomic_table.specs.Table.{State, opening, Final, Seen}
+use Rattle.atomic_table.specs.Table.{opening, Final, Seen}
 use Rattle.atomic_table.proofs.Lists.{at_map, at_snoc, set_else}
 use Rattle.turn_table.specs.declared.standing.Standing.{Standing}
 use Rattle.turn_table.specs.Notes.{noted}
-use Rattle.turn_table.specs.Keeping.{Board, share_of, whole_share, Lies, Knows, Fits, Kept}
-use Rattle.turn_table.specs.Playing.{standing, founder, spent}
+use Rattle.turn_table.specs.Keeping.{Board, share_of, whole_share, Lies, Knows, Kept}
+use Rattle.turn_table.specs.Playing.{founder, spent}
 use Rattle.turn_table.proofs.Noting.{contains_cases}
 use Rattle.turn_table.proofs.Bringing.{within}
 use Rattle.turn_table.proofs.Moving.{get_from_at}
@@ -64,8 +63,8 @@ module _ {V : Type 0} where
               held = λ p v n. absurd (cc);
               apart = tt;
               grown = λ p x v c at. let n = numbered parts 0 p x c in
-                let same : get_elem? parts p ≡ some x = subst (λ (q : ℕ). get_elem? parts q ≡ some x) (let k = n.1 in let k' : n.0 ≡ p = omega arith in k') n.2 in
-                subst (grows x) (some-injective x v (sym same ∙ at)) (reflexive x);
+                  let same : get_elem? parts p ≡ some x = subst (λ (q : ℕ). get_elem? parts q ≡ some x) (let k = n.1 in let k' : n.0 ≡ p = omega arith in k') n.2 in
+                  subst (grows x) (some-injective x v (sym same ∙ at)) (reflexive x);
             }) (at_snoc [] (founder parts) w id e);
         whole = refl;
       };

@@ -1,19 +1,18 @@
 -- A seat is split, and a seat joins another.
-use Rattle.std.proofs.Common.{◌≡◌, ◌≢◌, ℕ, ◌<◌, ◌+◌, ◌-◌, ◌≤◌, List, [], ◌∷◌, ◌++◌, length, set, get_or, Option, Some, None, Contains, sum_by, refl, sym, ap, ◌∙◌, subst, arith, ⊎_elim}
+use Rattle.std.proofs.Common.{◌≡◌, ◌≢◌, ℕ, ◌<◌, ◌+◌, List, [], ◌∷◌, ◌++◌, set, Some, None, Contains, sum_by, refl, sym, ap, ◌∙◌, subst, arith, ⊎_elim}
 use Rattle.std.proofs.lemmas.List.Sums.{sum_by-set, sum_by-append}
 use Rattle.std.proofs.lemmas.List.Elements.{Contains-append_cases}
 use native.Mathlib.Decide.{ℕ_discrete}
-use mathlib.Core.Option.{none, some, some-injective}
-use mathlib.Core.Option as maybe
+use mathlib.Core.Option.{some, some-injective}
 use lib.ListN.{get_elem?}
-use Rattle.atomic_table.specs.Table.{State, Splits, Joins}
+use Rattle.atomic_table.specs.Table.{Splits, Joins}
 use Rattle.atomic_table.proofs.Lists.{at_set, at_snoc, at_longer, set_here, set_else}
 use Rattle.turn_table.specs.declared.standing.Standing.{Standing}
 use Rattle.turn_table.specs.Notes.{noted}
-use Rattle.turn_table.specs.Keeping.{Board, share_of, whole_share, Lies, Knows, Fits, Kept}
+use Rattle.turn_table.specs.Keeping.{share_of, Knows, Kept}
 use Rattle.turn_table.specs.Playing.{parting, newcomer, joined, spent}
 use Rattle.turn_table.proofs.Bringing.{within}
-use Rattle.turn_table.proofs.Moving.{Holder, lies_stay, get_from_at}
+use Rattle.turn_table.proofs.Moving.{lies_stay, get_from_at}
 
 module _ {V : Type 0} (holds : List V → Type 0) (grows : V → V → Type 0) where
   -- the shares after one seat's changes
@@ -41,7 +40,7 @@ module _ {V : Type 0} (holds : List V → Type 0) (grows : V → V → Type 0) w
           each_part = λ p x e. lies_stay s record { words = s.words; homes = s.homes; views = views' } p x (k.holder p) refl refl (λ j u e n. seats p x j u e n (ℕ_discrete j id)) (f.each_part p x e);
           each_seat = λ j u e. ⊎_elim
               (λ (x : get_elem? (set s.views id left) j ≡ some u). ⊎_elim (λ (t : (j ≡ id) × (left ≡ u)). subst (λ (y : ℕ × Standing V). Knows grows k.parts k.holder y.0 y.1) (λ i. (sym t.0 i, t.1 i)) knows_left)
-                (λ (t : (j ≢ id) × (get_elem? s.views j ≡ some u)). f.each_seat j u t.1) (at_set s.views id j left u x))
+              (λ (t : (j ≢ id) × (get_elem? s.views j ≡ some u)). f.each_seat j u t.1) (at_set s.views id j left u x))
               (λ (x : right ≡ u). subst (Knows grows k.parts k.holder j) x (knows_right j)) (at_snoc (set s.views id left) right u j e);
           whole = total ∙ f.whole;
         };
@@ -49,9 +48,11 @@ module _ {V : Type 0} (holds : List V → Type 0) (grows : V → V → Type 0) w
     where
       seats : (p : ℕ) (x : V) (j : ℕ) (u : Standing V) → get_elem? s.views j ≡ some u → noted p u.turns ≡ Some x → Dec (j ≡ id)
           → (u' : Standing V) × (get_elem? (set s.views id (parting v) ++ newcomer v ∷ []) j ≡ some u') × (noted p u'.turns ≡ Some x)
-      seats p x j u e n (yes is) = let same : u ≡ v = some-injective u v (sym e ∙ (ap (get_elem? s.views) is ∙ at)) in
-          (parting v, at_longer (set s.views id (parting v)) (newcomer v ∷ []) j (parting v) (ap (get_elem? (set s.views id (parting v))) is ∙ set_here s.views id (parting v) (within s.views id v at)),
-            subst (λ (y : Standing V). noted p y.turns ≡ Some x) same n)
+      seats p x j u e n (yes is) = let same : u ≡ v = some-injective u v (sym e ∙ (ap (get_elem? s.views) is ∙ at)) in (
+        parting v,
+        at_longer (set s.views id (parting v)) (newcomer v ∷ []) j (parting v) (ap (get_elem? (set s.views id (parting v))) is ∙ set_here s.views id (parting v) (within s.views id v at)),
+        subst (λ (y : Standing V). noted p y.turns ≡ Some x) same n,
+      )
       seats p x j u e n (no m) = (u, at_longer (set s.views id (parting v)) (newcomer v ∷ []) j u (set_else s.views id j (parting v) m ∙ e), n)
 
   pub joins : (id : ℕ) (v : Standing V) (other : ℕ) (w : Standing V) → w.turns ≡ [] → Joins (Kept holds grows) id v other w (joined v w) spent
@@ -83,7 +84,7 @@ module _ {V : Type 0} (holds : List V → Type 0) (grows : V → V → Type 0) w
           each_seat = λ j u e. ⊎_elim
               (λ (t : (j ≡ other) × (spent ≡ u)). subst (λ (y : ℕ × Standing V). Knows grows k.parts k.holder y.0 y.1) (λ i. (sym t.0 i, t.1 i)) knows_none)
               (λ (t : (j ≢ other) × (get_elem? views₁ j ≡ some u)). ⊎_elim (λ (r : (j ≡ id) × (both ≡ u)). subst (λ (y : ℕ × Standing V). Knows grows k.parts k.holder y.0 y.1) (λ i. (sym r.0 i, r.1 i)) knows)
-                (λ (r : (j ≢ id) × (get_elem? s.views j ≡ some u)). f.each_seat j u r.1) (at_set s.views id j both u t.1))
+              (λ (r : (j ≢ id) × (get_elem? s.views j ≡ some u)). f.each_seat j u r.1) (at_set s.views id j both u t.1))
               (at_set views₁ other j spent u e);
           whole = total ∙ f.whole;
         };
@@ -93,7 +94,9 @@ module _ {V : Type 0} (holds : List V → Type 0) (grows : V → V → Type 0) w
           → (u' : Standing V) × (get_elem? (set (set s.views id (joined v w)) other spent) j ≡ some u') × (noted p u'.turns ≡ Some x)
       seats was p x j u e n (yes is) d = let same : u ≡ w = some-injective u w (sym e ∙ (ap (get_elem? s.views) is ∙ was)) in
           let none_there : noted p u.turns ≡ None = ap (λ (y : Standing V). noted p y.turns) same ∙ ap (noted p) idle in absurd (cc)
-      seats was p x j u e n (no m) (yes is) = let same : u ≡ v = some-injective u v (sym e ∙ (ap (get_elem? s.views) is ∙ at)) in
-          (joined v w, set_else (set s.views id (joined v w)) other j spent m ∙ (ap (get_elem? (set s.views id (joined v w))) is ∙ set_here s.views id (joined v w) (within s.views id v at)),
-            subst (λ (y : Standing V). noted p y.turns ≡ Some x) same n)
+      seats was p x j u e n (no m) (yes is) = let same : u ≡ v = some-injective u v (sym e ∙ (ap (get_elem? s.views) is ∙ at)) in (
+        joined v w,
+        set_else (set s.views id (joined v w)) other j spent m ∙ (ap (get_elem? (set s.views id (joined v w))) is ∙ set_here s.views id (joined v w) (within s.views id v at)),
+        subst (λ (y : Standing V). noted p y.turns ≡ Some x) same n,
+      )
       seats was p x j u e n (no m) (no l) = (u, set_else (set s.views id (joined v w)) other j spent m ∙ (set_else s.views id j (joined v w) l ∙ e), n)

@@ -1,25 +1,30 @@
 -- Each step on the table keeps the rule, and tells what it should.
-use Rattle.std.proofs.Common.{◌≡◌, ◌≢◌, ℕ, zero, suc, ◌<◌, ◌+◌, ◌≤◌, ◌==◌, List, [], ◌∷◌, length, set, get_or, length-set, get_or-set_same, get_or-set_other, Option, Some, None, Contains, slice_index, slice_get, slice_set, refl, sym, ap, ◌∙◌, subst, arith, ⊎_elim, inl, inr}
+use Rattle.std.proofs.Common.{◌≡◌, ◌≢◌, ℕ, zero, suc, ◌<◌, ◌==◌, List, [], ◌∷◌, length, set, length-set, get_or-set_same, get_or-set_other, Option, Some, None, Contains, slice_index, slice_get, refl, sym, ap, ◌∙◌, subst, arith, ⊎_elim}
 use native.Mathlib.Decide.{ℕ_discrete}
 use prog.Atomic.{either}
 use mathlib.Core.Option.{none, some, some-injective}
 use mathlib.Core.Option as maybe
 use lib.ListN.{get_elem?}
-use lib.Seq.{set-set, set-get_or}
-use Rattle.atomic_table.specs.Table.{State, Me, Act, keeps, takes, gives, step, Valid, stepped, carried_after, homes_after, Allows}
-use Rattle.atomic_table.proofs.Lists.{at_set, set_here, set_else, set_again}
+use lib.Seq.{set-get_or}
+use Rattle.atomic_table.specs.Table.{Act, keeps, takes, step, Valid, stepped, carried_after, Allows}
+use Rattle.atomic_table.proofs.Lists.{set_here, set_else, set_again}
 use Rattle.turn_table.specs.declared.standing.Standing.{Standing}
 use Rattle.turn_table.specs.Notes.{noted, brought, keys}
-use Rattle.turn_table.specs.Keeping.{Board, share_of, whole_share, Apart, Lies, Knows, Fits, Kept}
-use Rattle.turn_table.specs.Playing.{Sat, standing, entered, Takes, Brings, left, Gives, GivesSecond}
+use Rattle.turn_table.specs.Keeping.{Board, Apart, Lies, Knows, Kept}
+use Rattle.turn_table.specs.Playing.{Sat, standing, entered, Takes, Brings}
 use Rattle.turn_table.proofs.Noting.{noted_here, noted_else, noted_cases, noted-brought, Apart-brought, contains_cases, apart_tied}
 use Rattle.turn_table.proofs.Bringing.{within, Out, bringing, brings}
-use Rattle.turn_table.proofs.Moving.{Holder, put, put_here, put_else, reviewed, moved}
+use Rattle.turn_table.proofs.Moving.{put, put_here, put_else, reviewed, moved}
 
 pub shown_at : {V : Type 0} (parts : List V) (p : ℕ) (v : V) → get_elem? parts p ≡ some v → slice_get parts p ≡ Some v
 shown_at [] p v e = absurd (maybe.some-ne-none v (sym e))
 shown_at (x ∷ xs) zero v e = ap Some (some-injective x v e)
 shown_at (x ∷ xs) (suc p) v e = shown_at xs p v e
+
+pub at_shown : {V : Type 0} (parts : List V) (p : ℕ) (v : V) → slice_get parts p ≡ Some v → get_elem? parts p ≡ some v
+at_shown [] p v e = absurd (cc)
+at_shown (x ∷ xs) zero v e = let same : x ≡ v = cc in ap some same
+at_shown (x ∷ xs) (suc p) v e = at_shown xs p v e
 
 there_is : {A : Type 0} (l : List A) (k : ℕ) → k < length l → (a : A) × (get_elem? l k ≡ some a)
 there_is [] k h = absurd (omega arith)
@@ -36,9 +41,10 @@ module _ {V : Type 0} where
   out_of hs [] ts e a h = tt
   out_of hs (y ∷ c) [] e a h = absurd (cc)
   out_of hs (y ∷ c) (t ∷ ts) e a h =
-      let same : t.0 ≡ y.0 = cc in let more : keys c ≡ keys ts = cc in
-      (subst (λ (k : ℕ). get_elem? hs k ≡ some none) same (h t.0 t.1 (noted_here t.0 t.1 ts)),
-        out_of hs c ts more a.1 (λ q x n. behind q x n (ℕ_discrete q t.0)))
+      let same : t.0 ≡ y.0 = cc in let more : keys c ≡ keys ts = cc in (
+        subst (λ (k : ℕ). get_elem? hs k ≡ some none) same (h t.0 t.1 (noted_here t.0 t.1 ts)),
+        out_of hs c ts more a.1 (λ q x n. behind q x n (ℕ_discrete q t.0)),
+      )
     where
       behind : (q : ℕ) (x : V) → noted q ts ≡ Some x → Dec (q ≡ t.0) → get_elem? hs q ≡ some none
       behind q x n (yes e) = let no : noted q ts ≡ None = subst (λ (k : ℕ). noted k ts ≡ None) (sym e) a.0 in absurd (cc)
@@ -73,14 +79,14 @@ module _ {V : Type 0} where
             let knows : Knows grows (set k.parts p v) (put k.holder p (some id)) id w = record {
               held = λ q z e. ⊎_elim (λ (t : (p ≡ q) × (v ≡ z)). (ap (put k.holder p (some id)) (sym t.0) ∙ put_here k.holder p (some id), ap (get_elem? (set k.parts p v)) (sym t.0) ∙ (set_here k.parts p v in_parts ∙ ap some t.1), share))
                   (λ (t : (p ≢ q) × (noted q me.0.turns ≡ Some z)). let was = mine.held q z t.1 in
-                    (put_else k.holder p (some id) q (λ e. t.0 (sym e)) ∙ was.0, set_else k.parts p q v (λ e. t.0 (sym e)) ∙ was.1, share)) (noted_cases q (p, v) me.0.turns z e);
+                  (put_else k.holder p (some id) q (λ e. t.0 (sym e)) ∙ was.0, set_else k.parts p q v (λ e. t.0 (sym e)) ∙ was.1, share)) (noted_cases q (p, v) me.0.turns z e);
               apart = (alone, mine.apart);
               grown = λ q x z c e. ⊎_elim (λ (t : (p, v) ≡ (q, x)). let e' : get_elem? k.parts p ≡ some z = ap (λ (l : List V). get_elem? l p) (sym same) ∙ (ap (λ (r : ℕ × V). get_elem? (set k.parts p v) r.0) t ∙ e) in
-                    subst (λ (y : V). grows y z) (ap (λ (r : ℕ × V). r.1) t) (subst (grows v) (some-injective v z (sym at_p ∙ e')) (reflexive v)))
+                  subst (λ (y : V). grows y z) (ap (λ (r : ℕ × V). r.1) t) (subst (grows v) (some-injective v z (sym at_p ∙ e')) (reflexive v)))
                   (λ (t : Contains me.0.seen (q, x)). mine.grown q x z t (ap (λ (l : List V). get_elem? l q) (sym same) ∙ e)) (contains_cases (p, v) (q, x) me.0.seen c);
             } in
             let there : Lies record { words = set s.words p 1; homes = set s.homes p none; views = set s.views id w } p v (some id) =
-                (get_or-set_same s.words p 1 0 (omega arith), set_here s.homes p none (omega arith), (w, set_here s.views id w (within s.views id me.0 at), noted_here p v me.0.turns)) in
+            (get_or-set_same s.words p 1 0 (omega arith), set_here s.homes p none (omega arith), (w, set_here s.views id w (within s.views id me.0 at), noted_here p v me.0.turns)) in
             subst (Goes s id me p tried (Takes grows (step slots p 0 1 none) me)) (sym lies.0) (
               w,
               takes p (Some v),

@@ -75,11 +75,7 @@ pub(crate) fn move_back<V, R: TurnRule<V>>(
 }
 
 /// Gives the front turn back, with its slot. The change of its value is allowed alone.
-pub(crate) fn give_alone<V, R: TurnRule<V>>(
-    board: &Board<V, R>,
-    place: &mut Place<V>,
-    part: usize,
-)
+pub(crate) fn give_alone<V, R: TurnRule<V>>(board: &Board<V, R>, place: &mut Place<V>, part: usize)
     requires board { place.old.table_id ≡ board.now.table_id }
     requires part { part < board.now.table_id.words }
     requires change { MayGive R.alone part place.old.me }
@@ -90,11 +86,7 @@ pub(crate) fn give_alone<V, R: TurnRule<V>>(
 }
 
 /// Gives the front turn back, with its slot, while the value in the next slot is declared. The two changes are allowed paired.
-pub(crate) fn give_second<V, R: TurnRule<V>>(
-    board: &Board<V, R>,
-    place: &mut Place<V>,
-    part: usize,
-)
+pub(crate) fn give_second<V, R: TurnRule<V>>(board: &Board<V, R>, place: &mut Place<V>, part: usize)
     requires board { place.old.table_id ≡ board.now.table_id }
     requires part { part < board.now.table_id.words }
     requires change { MayGiveSecond R.paired part place.old.me }
@@ -116,11 +108,7 @@ pub(crate) fn split<V, R: TurnRule<V>>(board: &Board<V, R>, place: &mut Place<V>
 }
 
 /// Joins a seat, which holds no turn, into another.
-pub(crate) fn join<V, R: TurnRule<V>>(
-    board: &Board<V, R>,
-    place: &mut Place<V>,
-    other: Place<V>,
-)
+pub(crate) fn join<V, R: TurnRule<V>>(board: &Board<V, R>, place: &mut Place<V>, other: Place<V>)
     requires board { (place.old.table_id ≡ board.now.table_id) × (other.table_id ≡ board.now.table_id) × (0 < board.now.table_id.words) }
     requires idle { (other.me.0.turns ≡ []) × (other.me.1 ≡ []) }
     ensures board { (place.new.table_id ≡ place.old.table_id) × (place.new.id ≡ place.old.id) }

@@ -50,9 +50,7 @@ impl<V, R: TurnRule<V>> Model for Turns<V, R> {
 
 impl<V, R: TurnRule<V>> Turns<V, R> {
     /// Puts each value behind a turn: part p is the p-th. It takes memory and time linear in their number; at `Err` the values come back.
-    pub fn new(
-        mut parts: Vec<V>,
-    ) -> Result<(Turns<V, R>, Seat<V, R>), (NoMemory, Vec<V>)>
+    pub fn new(mut parts: Vec<V>) -> Result<(Turns<V, R>, Seat<V, R>), (NoMemory, Vec<V>)>
         requires some { 0 < vec_len parts }
         requires legal { R.holds parts.items }
         ensures count { IfOk result (λ t. part_count t.0 ≡ vec_len parts) }

@@ -1,4 +1,4 @@
-use Rattle.std.proofs.Common.{◌≡◌, ℕ, ◌+◌, ◌<◌, Some, map, sym, ap, ◌∙◌, subst, arith, length, get_or-set_other, take, false, get_or, true, ◌≤◌, ◌++◌, ◌∷◌, [], vec_capacity}
+use Rattle.std.proofs.Common.{◌≡◌, ℕ, ◌+◌, ◌<◌, Some, map, sym, ap, ◌∙◌, subst, arith, length, get_or-set_other, take, false, get_or, ◌≤◌, ◌++◌, ◌∷◌, [], vec_capacity}
 use lib.ListN.{get_elem?}
 use Rattle.std.proofs.lemmas.List.{map-append}
 use Rattle.std.specs.Mem.Slots.{slots_items, slots_filled, slots_len, slots_counts}

@@ -1,6 +1,6 @@
-use Rattle.std.proofs.Common.{◌≡◌, ℕ, ◌<◌, Some, sym, ap, ◌∙◌, subst}
+use Rattle.std.proofs.Common.{◌<◌, sym, ap, ◌∙◌, subst}
 use Rattle.turn_table.specs.Notes.{noted, AllBelow}
-use Rattle.turn_table.proofs.Noting.{noted_below, AllBelow-without, without-emptied}
+use Rattle.turn_table.proofs.Noting.{noted_below}
 use Rattle.turn_table.proofs.Leaving.{empty_slot, tied_slots, may_leave, leaves, settles}
 use Rattle.turn_table.proofs.table.Turns.leave.Goals as goal
 

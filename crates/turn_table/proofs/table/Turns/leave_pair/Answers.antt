@@ -1,4 +1,4 @@
-use Rattle.std.proofs.Common.{◌≡◌, ◌≢◌, ℕ, ◌<◌, Some, sym, ap, ◌∙◌, subst}
+use Rattle.std.proofs.Common.{◌≢◌, ◌<◌, sym, ap, ◌∙◌, subst}
 use Rattle.turn_table.specs.Notes.{noted, AllBelow}
 use Rattle.turn_table.proofs.Noting.{noted_below}
 use Rattle.turn_table.proofs.Leaving.{empty_slot, tied_slots, tied_again, turn_again, slot_again, may_leave_second, may_leave_first, leaves_both, settles_both, seen_after_both}
@@ -54,7 +54,7 @@ give_second-requires-clause-change g c =
     let second = c.put_back-2.ensures.slot _ (turn_again c.seat.inside.place.me c.put_back.new.place.me _ _ _ first _ two _ turn_b) in
     let r = g.R.TurnRule in
     let may = subst (λ x. r.paired c.args.first.opening c.args.second.opening x c.into_parts-b.result.1) (sym c.into_parts-a.ensures.1)
-        (subst (r.paired c.args.first.opening c.args.second.opening c.args.first.value) (sym c.into_parts-b.ensures.1) c.requires.change) in
+    (subst (r.paired c.args.first.opening c.args.second.opening c.args.first.value) (sym c.into_parts-b.ensures.1) c.requires.change) in
     may_leave_second c.seat.inside.place.me c.put_back.new.place.me _ _ _ first _ two c.put_back-2.new.place.me _ _ second r.paired may
 
 pub give_alone-requires-clause-part : goal.give_alone-requires-clause-part
@@ -106,5 +106,7 @@ returns g c =
     let second = c.put_back-2.ensures.slot _ (turn_again c.seat.inside.place.me c.put_back.new.place.me _ _ _ first _ two _ turn_b) in
     let after = leaves_both c.seat.inside.place.me c.put_back.new.place.me _ _ _ first _ two c.put_back-2.new.place.me _ _ second c.give_second.new.place.me c.give_second.ensures.given c.give_alone.new.place.me c.give_alone.ensures.given in
     let same = c.give_alone.ensures.board.0 ∙ (c.give_second.ensures.board.0 ∙ (c.put_back-2.ensures.board.0 ∙ c.put_back.ensures.board.0)) in
-    record { seat = seen_after_both c.seat.inside.place.table_id c.give_alone.new.place.table_id c.args.seat.now c.seat.inside.place.me c.give_alone.new.place.me _ _ _ _ _ _ _ _ _
-        same c.seat.view_is after c.into_parts-a.ensures.0 c.into_parts-b.ensures.0 c.into_parts-a.ensures.1 c.into_parts-b.ensures.1 }
+    record {
+      seat = seen_after_both c.seat.inside.place.table_id c.give_alone.new.place.table_id c.args.seat.now c.seat.inside.place.me c.give_alone.new.place.me _ _ _ _ _ _ _ _ _
+          same c.seat.view_is after c.into_parts-a.ensures.0 c.into_parts-b.ensures.0 c.into_parts-a.ensures.1 c.into_parts-b.ensures.1;
+    }

@@ -1,4 +1,4 @@
-use Rattle.std.proofs.Common.{rules, ◌≡◌, ℕ, List, length, replicate, sym, ap, ◌∙◌, subst}
+use Rattle.std.proofs.Common.{rules, ◌≡◌, length, replicate, sym, subst}
 use Rattle.atomic_table.specs.Table.{opening}
 use Rattle.turn_table.specs.Keeping.{Kept}
 use Rattle.turn_table.specs.Playing.{founder}
@@ -12,7 +12,7 @@ new-requires g c =
     let words : c.as_slice.result.now ≡ replicate (length c.args.parts.items) 0 = search rules in
     let same = c.of-opening.ensures in
     subst (λ v. Kept r.holds r.grows (opening c.as_slice.result.now c.fill_slots.new.slots.items (founder v.items))) (sym same)
-        (opens r.holds r.grows c.args.parts.items _ _ r.grows_reflexive c.requires.legal words c.fill_slots.ensures.slots)
+    (opens r.holds r.grows c.args.parts.items _ _ r.grows_reflexive c.requires.legal words c.fill_slots.ensures.slots)
 
 pub returns-clause-err : goal.returns-clause-err
 returns-clause-err g c = one_filling _ _ (search rules)
