@@ -9,6 +9,8 @@ mod seats;
 mod standing;
 mod steps;
 mod table;
+#[cfg(test)]
+mod tests;
 
 pub use hold::Held;
 pub use rule::TurnRule;
