@@ -3,3 +3,4 @@ pub mod Sitting
 pub mod Keeping
 pub mod Playing
 pub mod Lending
+pub mod Shelved

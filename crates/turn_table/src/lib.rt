@@ -6,6 +6,7 @@ mod moves;
 mod plays;
 mod rule;
 mod seats;
+mod shelf;
 mod standing;
 mod steps;
 mod table;

@@ -1,5 +1,5 @@
 //! The table of turns and its calls.
-ghost use Rattle.std.specs.Prelude.{◌≡◌, ℕ, ◌^◌, ◌<◌, ◌≤◌, [], ◌∷◌, ◌++◌, ◌+◌, ◌-◌, All, IfOk, IfErr, Some, slice_get, vec_len};
+ghost use Rattle.std.specs.Prelude.{◌≡◌, ℕ, ◌^◌, ◌<◌, ◌≤◌, [], ◌∷◌, ◌++◌, ◌+◌, ◌-◌, All, IfOk, IfErr, Some, slice_get, List, map, vec_len, vec_capacity};
 ghost use Rattle.std.specs.List.{enumerate_from};
 ghost use Rattle.turn_table.specs.Notes.{without};
 ghost use Rattle.turn_table.specs.Sitting.{part_count, HasSeen, HoldsTurn, HoldsTurns};
@@ -8,6 +8,7 @@ use crate::hold::Held;
 use crate::moves::{empty_slots, empty_table, fill_slots};
 use crate::rule::TurnRule;
 use crate::seats::Seat;
+use crate::shelf::Shelf;
 use crate::standing::{Law, Standing};
 use crate::steps;
 use atomic_table::{Refused, Table};
@@ -30,13 +31,13 @@ const YIELDS: u32 = 32;
 pub struct Turns<V, R: TurnRule<V>> {
     table: Table<Option<V>, Standing<V>, Snapshot<Vec<V>>, Law<R>, Global>,
     // The emptied `Vec` that the values came in, to which `close` gives them back.
-    room: Vec<V>,
+    shelf: Shelf<V>,
     // How many threads sleep, or are about to. It is no part of the rule: it spares `leave` a call of the system.
     sleepers: AtomicU64,
 }
 
 impl<V, R: TurnRule<V>> Model for Turns<V, R> {
-    ghost use Rattle.std.specs.Prelude.{◌≡◌, ◌<◌, ◌≤◌, [], vec_capacity};
+    ghost use Rattle.std.specs.Prelude.{◌≡◌, ◌<◌};
     ghost use Rattle.atomic_table.specs.Seated.{TableId, table_id_coded};
 
     ghost Value = { TableId };
@@ -45,7 +46,18 @@ impl<V, R: TurnRule<V>> Model for Turns<V, R> {
 
     ghost view = { λ t. t.table.shared.table_id };
 
-    ghost invariant = { λ t. (t.table.shared.table_id.slots ≡ t.table.shared.table_id.words) × (0 < t.table.shared.table_id.words) × (t.room.items ≡ []) × (t.table.shared.table_id.slots ≤ vec_capacity t.room) };
+    ghost invariant = { λ t. (t.table.shared.table_id.slots ≡ t.table.shared.table_id.words) × (0 < t.table.shared.table_id.words) × (t.table.shared.table_id.words ≡ t.shelf) };
+}
+
+// The values come back out of the slots.
+fn refused<V>(slots: Vec<Option<V>>, mut parts: Vec<V>) -> (NoMemory, Vec<V>)
+    requires full { (values : List V) × (slots.items ≡ map Some values) }
+    requires empty { parts.items ≡ [] }
+    requires room { vec_len slots ≤ vec_capacity parts }
+    ensures { map Some result.1.items ≡ slots.items }
+{
+    empty_slots(slots, &mut parts);
+    (NoMemory, parts)
 }
 
 impl<V, R: TurnRule<V>> Turns<V, R> {
@@ -58,27 +70,29 @@ impl<V, R: TurnRule<V>> Turns<V, R> {
         ensures err { IfErr result (λ e. e.1.items ≡ parts.items) }
     {
         let alloc = *parts.allocator();
+        let count = parts.len();
         let opening = Snapshot::of(&parts);
-        let Ok(words) = Vec::from_elem(alloc, 0u64, parts.len()) else {
+        let Ok(words) = Vec::from_elem(alloc, 0u64, count) else {
             return Err((NoMemory, parts));
         };
-        let Ok(mut slots) = Vec::with_capacity(alloc, parts.len()) else {
+        let Ok(mut slots) = Vec::with_capacity(alloc, count) else {
             return Err((NoMemory, parts));
         };
         fill_slots(&mut parts, &mut slots);
+        let shelf = match Shelf::new(alloc, parts, count) {
+            Ok(shelf) => shelf,
+            Err(parts) => return Err(refused(slots, parts)),
+        };
         match Table::new(alloc, words.as_slice(), slots, &opening) {
             Ok((table, place)) => {
                 let turns = Turns {
                     table,
-                    room: parts,
+                    shelf,
                     sleepers: AtomicU64::new(0),
                 };
                 Ok((turns, Seat::new(place)))
             }
-            Err(Refused { slots }) => {
-                empty_slots(slots, &mut parts);
-                Err((NoMemory, parts))
-            }
+            Err(Refused { slots }) => Err(refused(slots, shelf.take())),
         }
     }
 
@@ -192,10 +206,11 @@ impl<V, R: TurnRule<V>> Turns<V, R> {
     {
         let Turns {
             table,
-            mut room,
+            shelf,
             sleepers: _,
         } = self;
-        empty_table(table.close_with(seat.into_place()), &mut room);
-        room
+        let mut parts = shelf.take();
+        empty_table(table.close_with(seat.into_place()), &mut parts);
+        parts
     }
 }
