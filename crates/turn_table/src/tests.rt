@@ -3,6 +3,7 @@ ghost use Rattle.std.specs.Prelude.{◌≡◌, ℕ, ◌^◌, ◌<◌, ◌≤◌,
 ghost use Rattle.turn_table.specs.Sitting.{part_count, HasSeen, SameSeat};
 
 use crate::{Seat, TurnRule, Turns};
+use std::cell::Cell;
 use std::sync::Wait;
 use std::test::Fail;
 use std::thread::{Threads, join};
@@ -192,9 +193,10 @@ fn four_threads_add_in_pairs(rt: HostRuntime) -> Result<(), Fail> {
     Ok(())
 }
 
-// A value that is neither `Copy` nor `Clone`, and can't be dropped.
+// A value that is neither `Copy` nor `Clone`, can't be dropped, and may not be shared by reference between threads.
 struct Lines {
     numbers: Vec<u64>,
+    reads: Cell<u64>,
 }
 
 // Lines are only added.
@@ -229,37 +231,68 @@ impl TurnRule<Lines> for Longer {
     ghost grows_transitive = { λ u v w first second. le_trans first second };
 }
 
-// Writes a line, and ends the table.
-fn written<W: Wait>(rt: &W, turns: Turns<Lines, Longer>, mut seat: Seat<Lines, Longer>, line: u64) -> Vec<Lines>
-    requires table { seat.table ≡ turns }
-    requires part { 0 < part_count turns }
-    requires seat { (seat.turns ≡ []) × (seat.share ≡ 2 ^ 32) }
-    ensures one { vec_len result ≡ 1 }
+type Pages = Turns<Lines, Longer>;
+
+type Writer = Seat<Lines, Longer>;
+
+// Adds a line.
+fn write_line<W: Wait>(rt: &W, pages: &Pages, mut seat: Writer, line: u64) -> Writer
+    requires table { seat.table ≡ pages.now }
+    requires part { 0 < part_count pages.now }
+    requires idle { seat.turns ≡ [] }
+    ensures same { SameSeat seat result }
 {
-    let mut held = turns.enter(rt, &mut seat, 0);
-    let _ = held.value_mut().numbers.push(line);
-    turns.leave(&mut seat, held);
-    turns.close(seat)
+    let mut held = pages.enter(rt, &mut seat, 0);
+    let lines = held.value_mut();
+    lines.reads.set(lines.reads.get().wrapping_add(1));
+    let _ = lines.numbers.push(line);
+    pages.leave(&mut seat, held);
+    seat
+}
+
+// Two threads add a line each, and the table ends.
+fn written<R: Threads + Wait + Sync>(rt: &R, pages: Pages, mut seat: Writer) -> Vec<Lines>
+    requires table { seat.table ≡ pages }
+    requires part { 0 < part_count pages }
+    requires seat { (seat.turns ≡ []) × (seat.share ≡ 2 ^ 32) }
+    ensures one { vec_len result ≡ part_count pages }
+{
+    let other = pages.seat(&mut seat);
+    let shared = &pages;
+    let (mut seat, other) = join(
+        rt,
+        || -> Writer
+            requires { (seat.table ≡ shared.now) × (0 < part_count shared.now) × (seat.turns ≡ []) }
+            ensures { SameSeat seat result }
+        { write_line(rt, shared, seat, 2) },
+        || -> Writer
+            requires { (other.table ≡ shared.now) × (0 < part_count shared.now) × (other.turns ≡ []) }
+            ensures { SameSeat other result }
+        { write_line(rt, shared, other, 2) },
+    );
+    pages.join(&mut seat, other);
+    pages.close(seat)
 }
 
 #[test]
 fn a_value_that_can_not_be_copied(rt: HostRuntime) -> Result<(), Fail> {
     let lines = Lines {
         numbers: vec![in rt.alloc(); 1u64]?,
+        reads: Cell::new(0),
     };
     let mut parts = Vec::with_capacity(rt.alloc(), 1).expect(&rt, "memory is ample");
     parts.push_reserved(lines);
-    match Turns::<Lines, Longer>::new(parts) {
-        Ok((turns, seat)) => {
-            let mut parts = written(&rt, turns, seat, 2);
-            let last = parts.pop();
-            parts.destroy_empty();
-            let Some(Lines { numbers }) = last else {
-                panic!(rt; "there is one part")
-            };
-            assert_eq!(rt; numbers.as_slice(), [1, 2].as_slice());
-            Ok(())
-        }
+    let (pages, seat) = match Pages::new(parts) {
+        Ok(made) => made,
         Err(_) => panic!(rt; "memory is ample"),
-    }
+    };
+    let mut parts = written(&rt, pages, seat);
+    let last = parts.pop();
+    parts.destroy_empty();
+    let Some(Lines { numbers, reads }) = last else {
+        panic!(rt; "there is one part")
+    };
+    assert_eq!(rt; numbers.as_slice(), [1, 2, 2].as_slice());
+    assert_eq!(rt; reads.get(), 2);
+    Ok(())
 }
