@@ -12,7 +12,7 @@ use Rattle.turn_table.specs.Keeping.{Board, Lies, Knows, Fits, Kept}
 use Rattle.turn_table.specs.Playing.{Sat, standing, Gives, GivesSecond}
 use Rattle.turn_table.proofs.Noting.{noted_here, noted_else, noted_cases, contains_cases}
 use Rattle.turn_table.proofs.Bringing.{within}
-use Rattle.turn_table.proofs.Moving.{Holder, put, put_here, put_else, moved}
+use Rattle.turn_table.proofs.Moving.{Holder, put, put_here, put_else, seen_stays, seen_here, moved}
 use Rattle.turn_table.proofs.Stepping.{shown_at}
 
 front_is_one : {A : Type 0} (x y : A) (xs ys : List A) → x ∷ xs ≡ y ∷ ys → (x ≡ y) × (xs ≡ ys)
@@ -58,13 +58,7 @@ module _ {V : Type 0} (grows : V → V → Type 0) (reflexive : (v : V) → grow
       let knows : Knows grows (set parts p y) (put holder p none) id w = record {
         held = λ q z e. let old = mine.held q z (noted_else q (p, v) turns (apart q z e) ∙ e) in (put_else holder p none q (apart q z e) ∙ old.0, set_else parts p q y (apart q z e) ∙ old.1, old.2);
         apart = mine.apart.1;
-        grown = λ q x z c e. ⊎_elim
-            (λ (t : (p, y) ≡ (q, x)). let e' : get_elem? (set parts p y) p ≡ some z = ap (λ (r : ℕ × V). get_elem? (set parts p y) r.0) t ∙ e in
-            subst (λ (u : V). grows u z) (ap (λ (r : ℕ × V). r.1) t) (subst (grows y) (some-injective y z (sym (set_here parts p y in_parts) ∙ e')) (reflexive y)))
-            (λ (c' : Contains seen (q, x)). ⊎_elim
-            (λ (t : (q ≡ p) × (y ≡ z)). subst (grows x) t.1 (trans x v y (mine.grown q x v c' (ap (get_elem? parts) t.0 ∙ here.1)) grew))
-            (λ (t : (q ≢ p) × (get_elem? parts q ≡ some z)). mine.grown q x z c' t.1) (at_set parts p q y z e))
-            (contains_cases (p, y) (q, x) seen c);
+        grown = seen_here grows (set parts p y) p y seen reflexive (set_here parts p y in_parts) (seen_stays grows parts p v y seen trans here.1 grew mine.grown);
       } in
       moved grows parts holder s id p was w v y none (set s.words p 0) (set s.homes p (some (Some y))) trans f at here.1 grew
       (λ j other e. other (some-injective j id (sym e ∙ here.0))) (length-set s.words p 0) (length-set s.homes p (some (Some y))) (λ q m. get_or-set_other s.words p q 0 0 m) (λ q m. set_else s.homes p q (some (Some y)) m)
@@ -93,9 +87,7 @@ module _ {V : Type 0} (grows : V → V → Type 0) (reflexive : (v : V) → grow
             (noted_cases q (a, x) turns z t.1))
             (noted_cases q (b, vb) ((a, x) ∷ turns) z e);
         apart = (noted_else b (a, x) turns two' ∙ (sym (noted_else b (a, va) turns two') ∙ mine.apart.0), mine.apart.1);
-        grown = λ q u z c e. ⊎_elim
-            (λ (t : (q ≡ a) × (x ≡ z)). subst (grows u) t.1 (trans u va x (mine.grown q u va c (ap (get_elem? parts) t.0 ∙ here.1)) grew))
-            (λ (t : (q ≢ a) × (get_elem? parts q ≡ some z)). mine.grown q u z c t.1) (at_set parts a q x z e);
+        grown = seen_stays grows parts a va x seen trans here.1 grew mine.grown;
       } in
       moved grows parts holder s id a was w va x (some id) s.words s.homes trans f at here.1 grew (λ j m e. m (some-injective j id (sym e ∙ here.0))) refl refl (λ _ _. refl) (λ _ _. refl)
       (lies.0, lies.1, (w, set_here s.views id w (within s.views id was at), noted_else a (b, vb) ((a, x) ∷ turns) two ∙ noted_here a x turns)) (λ q z m e. sym (other q m) ∙ e) knows refl

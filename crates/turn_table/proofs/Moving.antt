@@ -1,5 +1,5 @@
 -- What stays of the rule when one part and one seat change.
-use Rattle.std.proofs.Common.{◌≡◌, ◌≢◌, ℕ, zero, suc, ◌+◌, List, [], ◌∷◌, length, set, get_or, length-set, Option, Some, sum_by, slice_index, refl, sym, ap, ◌∙◌, subst, arith, ⊎_elim}
+use Rattle.std.proofs.Common.{◌≡◌, ◌≢◌, ℕ, zero, suc, ◌+◌, List, [], ◌∷◌, length, set, get_or, length-set, Option, Some, Contains, sum_by, slice_index, refl, sym, ap, ◌∙◌, subst, arith, ⊎_elim}
 use Rattle.std.proofs.lemmas.List.Sums.{sum_by-set}
 use native.Mathlib.Decide.{ℕ_discrete}
 use mathlib.Core.Option.{none, some, some-injective}
@@ -8,7 +8,8 @@ use lib.ListN.{get_elem?}
 use Rattle.atomic_table.proofs.Lists.{at_set, set_here, set_else}
 use Rattle.turn_table.specs.declared.standing.Standing.{Standing}
 use Rattle.turn_table.specs.Notes.{noted}
-use Rattle.turn_table.specs.Keeping.{Board, share_of, Lies, Knows, Fits}
+use Rattle.turn_table.specs.Keeping.{Board, share_of, Lies, HasGrown, Knows, Fits}
+use Rattle.turn_table.proofs.Noting.{contains_cases}
 use Rattle.turn_table.proofs.Bringing.{within}
 
 abbrev pub Holder : Type 0
@@ -81,6 +82,18 @@ module _ {V : Type 0} where
                 (w, ap (get_elem? (set s.views id w)) is ∙ set_here s.views id w (within s.views id v at), keeps p x (subst (λ (y : Standing V). noted p y.turns ≡ Some x) same_seat n))
             go (no m) = (u, set_else s.views id j w m ∙ e, n)
 
+    -- what was seen stays true where the part p grows
+    pub seen_stays : (parts : List V) (p : ℕ) (v y : V) (seen : List (ℕ × V)) → ((a b c : V) → grows a b → grows b c → grows a c) → get_elem? parts p ≡ some v → grows v y → HasGrown grows parts seen → HasGrown grows (set parts p y) seen
+    seen_stays parts p v y seen trans at grew old q x z c e = ⊎_elim {A = (q ≡ p) × (y ≡ z)} {B = (q ≢ p) × (get_elem? parts q ≡ some z)}
+        (λ t. subst (grows x) t.1 (trans x v y (old q x v c (ap (get_elem? parts) t.0 ∙ at)) grew)) (λ t. old q x z c t.1) (at_set parts p q y z e)
+
+    -- and what was put there is seen too
+    pub seen_here : (parts : List V) (p : ℕ) (y : V) (seen : List (ℕ × V)) → ((v : V) → grows v v) → get_elem? parts p ≡ some y → HasGrown grows parts seen → HasGrown grows parts ((p, y) ∷ seen)
+    seen_here parts p y seen reflexive at old q x z c e = ⊎_elim {A = (p, y) ≡ (q, x)} {B = Contains seen (q, x)}
+        (λ t. let same : y ≡ z = some-injective y z (sym at ∙ (ap (λ (r : ℕ × V). get_elem? parts r.0) t ∙ e)) in
+          subst (λ (u : V). grows u z) (ap (λ (r : ℕ × V). r.1) t) (subst (grows y) same (reflexive y)))
+        (λ t. old q x z t e) (contains_cases (p, y) (q, x) seen c)
+
     -- another seat knows as much where a part that it does not hold grows
     others_know : (parts : List V) (holder : Holder) (p : ℕ) (v y : V) (h : maybe.Option ℕ) (j : ℕ) (u : Standing V) → ((a b c : V) → grows a b → grows b c → grows a c)
         → get_elem? parts p ≡ some v → grows v y → ¬ (holder p ≡ some j) → Knows grows parts holder j u → Knows grows (set parts p y) (put holder p h) j u
@@ -88,8 +101,7 @@ module _ {V : Type 0} where
       held = λ q x e. let was = k.held q x e in let apart : q ≢ p = λ is. other (ap holder (sym is) ∙ was.0) in
           (put_else holder p h q apart ∙ was.0, set_else parts p q y apart ∙ was.1, was.2);
       apart = k.apart;
-      grown = λ q x z c e. ⊎_elim (λ (t : (q ≡ p) × (y ≡ z)). subst (grows x) t.1 (trans x v y (k.grown q x v c (ap (get_elem? parts) t.0 ∙ at)) grew))
-          (λ (t : (q ≢ p) × (get_elem? parts q ≡ some z)). k.grown q x z c t.1) (at_set parts p q y z e);
+      grown = seen_stays parts p v y u.seen trans at grew k.grown;
     }
 
     -- the part p becomes y, and the seat id, which may have taken or dropped its turn, becomes w

@@ -14,7 +14,7 @@ use Rattle.turn_table.specs.Keeping.{Board, Apart, Lies, Knows, Kept}
 use Rattle.turn_table.specs.Playing.{Sat, standing, entered, Takes, Brings}
 use Rattle.turn_table.proofs.Noting.{noted_here, noted_else, noted_cases, noted-brought, Apart-brought, contains_cases, apart_tied}
 use Rattle.turn_table.proofs.Bringing.{within, Out, bringing, brings}
-use Rattle.turn_table.proofs.Moving.{put, put_here, put_else, reviewed, moved}
+use Rattle.turn_table.proofs.Moving.{put, put_here, put_else, seen_stays, seen_here, reviewed, moved}
 
 pub shown_at : {V : Type 0} (parts : List V) (p : ℕ) (v : V) → get_elem? parts p ≡ some v → slice_get parts p ≡ Some v
 shown_at [] p v e = absurd (maybe.some-ne-none v (sym e))
@@ -81,9 +81,7 @@ module _ {V : Type 0} where
                   (λ (t : (p ≢ q) × (noted q me.0.turns ≡ Some z)). let was = mine.held q z t.1 in
                   (put_else k.holder p (some id) q (λ e. t.0 (sym e)) ∙ was.0, set_else k.parts p q v (λ e. t.0 (sym e)) ∙ was.1, share)) (noted_cases q (p, v) me.0.turns z e);
               apart = (alone, mine.apart);
-              grown = λ q x z c e. ⊎_elim (λ (t : (p, v) ≡ (q, x)). let e' : get_elem? k.parts p ≡ some z = ap (λ (l : List V). get_elem? l p) (sym same) ∙ (ap (λ (r : ℕ × V). get_elem? (set k.parts p v) r.0) t ∙ e) in
-                  subst (λ (y : V). grows y z) (ap (λ (r : ℕ × V). r.1) t) (subst (grows v) (some-injective v z (sym at_p ∙ e')) (reflexive v)))
-                  (λ (t : Contains me.0.seen (q, x)). mine.grown q x z t (ap (λ (l : List V). get_elem? l q) (sym same) ∙ e)) (contains_cases (p, v) (q, x) me.0.seen c);
+                grown = seen_here grows (set k.parts p v) p v me.0.seen reflexive (set_here k.parts p v in_parts) (seen_stays grows k.parts p v v me.0.seen trans at_p (reflexive v) mine.grown);
             } in
             let there : Lies record { words = set s.words p 1; homes = set s.homes p none; views = set s.views id w } p v (some id) =
             (get_or-set_same s.words p 1 0 (omega arith), set_here s.homes p none (omega arith), (w, set_here s.views id w (within s.views id me.0 at), noted_here p v me.0.turns)) in

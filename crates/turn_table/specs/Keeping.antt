@@ -29,11 +29,15 @@ module _ {V : Type 0} where
   Lies s p v none = (slice_index s.words p ≡ 0) × (get_elem? s.homes p ≡ some (some (Some v)))
   Lies s p v (some id) = (slice_index s.words p ≡ 1) × (get_elem? s.homes p ≡ some none) × ((w : Standing V) × (get_elem? s.views id ≡ some w) × (noted p w.turns ≡ Some v))
 
+  -- each part has grown from all that was seen of it
+  abbrev pub HasGrown : (V → V → Type 0) → List V → List (ℕ × V) → Type 0
+  HasGrown grows parts seen = (p : ℕ) (x v : V) → Contains seen (p, x) → get_elem? parts p ≡ some v → grows x v
+
   -- what the seat with this number knows: it is the holder of the turns that it holds and declares what these parts are, it has a share while it holds one, and each part has grown from all that it has seen of it
   pub record Knows (grows : V → V → Type 0) (parts : List V) (holder : ℕ → maybe.Option ℕ) (id : ℕ) (w : Standing V) : Type 0 where
     pub held : (p : ℕ) (v : V) → noted p w.turns ≡ Some v → (holder p ≡ some id) × (get_elem? parts p ≡ some v) × (0 < w.share)
     pub apart : Apart w.turns
-    pub grown : (p : ℕ) (x v : V) → Contains w.seen (p, x) → get_elem? parts p ≡ some v → grows x v
+    pub grown : HasGrown grows parts w.seen
 
   pub record Fits (grows : V → V → Type 0) (parts : List V) (holder : ℕ → maybe.Option ℕ) (s : Board V) : Type 0 where
     pub wide : length s.words ≡ length parts

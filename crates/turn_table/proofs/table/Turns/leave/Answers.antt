@@ -28,7 +28,7 @@ pub give_alone-requires-clause-change : goal.give_alone-requires-clause-change
 give_alone-requires-clause-change g c =
     let turn = ap (λ k. noted k c.seat.inside.place.me.0.turns) c.into_parts-part.ensures.0 ∙ (ap (λ s. noted c.args.held.part s.turns) c.seat.view_is ∙ c.requires.held) in
     let may = subst (g.R.TurnRule.alone c.args.held.opening) (sym c.into_parts-part.ensures.1) c.requires.change in
-    may_leave g.R.TurnRule.alone c.seat.inside.place.me _ _ _ _ (c.put_back.ensures.slot _ turn) may
+    may_leave g.R.TurnRule.alone c.seat.inside.place.me c.put_back.new.place.me _ _ _ (c.put_back.ensures.slot _ turn) may
 
 pub wake-requires : goal.wake-requires
 wake-requires g c =
@@ -39,6 +39,6 @@ wake-requires g c =
 pub invariant_of-seat : goal.invariant_of-seat
 invariant_of-seat g c =
     let turn = ap (λ k. noted k c.seat.inside.place.me.0.turns) c.into_parts-part.ensures.0 ∙ (ap (λ s. noted c.args.held.part s.turns) c.seat.view_is ∙ c.requires.held) in
-    let after = leaves c.seat.inside.place.me _ _ _ _ _ (c.put_back.ensures.slot _ turn) c.give_alone.ensures.given in
-    let settled = settles c.seat.inside.place.table_id.words c.seat.inside.place.me _ _ _ after c.seat.invariant in
+    let after = leaves c.seat.inside.place.me c.put_back.new.place.me c.give_alone.new.place.me _ _ _ (c.put_back.ensures.slot _ turn) c.give_alone.ensures.given in
+    let settled = settles c.seat.inside.place.table_id.words c.seat.inside.place.me c.give_alone.new.place.me _ _ after c.seat.invariant in
     (settled.0, settled.1, subst (λ z. AllBelow z.words c.give_alone.new.place.me.0.turns) (sym (c.give_alone.ensures.board.0 ∙ c.put_back.ensures.board.0)) settled.2)
