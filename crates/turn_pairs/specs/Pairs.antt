@@ -24,7 +24,7 @@ pub together_keeps : (gap : ℕ) (parts : List ℕ) (a b old_a old_b new_a new_b
     → RiseTogether old_a old_b new_a new_b → AreApart gap (slice_set (slice_set parts a new_a) b new_b)
 together_keeps gap parts a b old_a old_b new_a new_b two apart at_a at_b rise =
     subst (λ xs. AreApart gap (slice_set (slice_set xs a new_a) b new_b)) (sym apart.1)
-        (go a b two (ap (λ xs. slice_get xs a) (sym apart.1) ∙ at_a) (ap (λ xs. slice_get xs b) (sym apart.1) ∙ at_b))
+    (go a b two (ap (λ xs. slice_get xs a) (sym apart.1) ∙ at_a) (ap (λ xs. slice_get xs b) (sym apart.1) ∙ at_b))
   where
     go : (a b : ℕ) → a ≢ b → slice_get ((apart.0 + gap) ∷ apart.0 ∷ []) a ≡ Some old_a → slice_get ((apart.0 + gap) ∷ apart.0 ∷ []) b ≡ Some old_b
         → AreApart gap (slice_set (slice_set ((apart.0 + gap) ∷ apart.0 ∷ []) a new_a) b new_b)

@@ -1,15 +1,15 @@
 //! Two numbers that threads raise in pairs. That their distance stays is proved from the rule of the turns alone.
 #![tactic(auto)]
-ghost use Rattle.std.specs.Prelude.{◌≡◌, ℕ, ◌+◌, ◌^◌, ◌≤◌, [], ◌∷◌, IfOk};
+
+ghost use Rattle.std.specs.Prelude.{◌≡◌, ℕ, ◌+◌, ◌^◌, ◌≤◌, [], ◌∷◌, Some, slice_get, IfOk};
 ghost use Rattle.turn_table.specs.Sitting.{part_count, SameSeat, HasSeen};
-ghost use Rattle.turn_pairs.specs.Pairs.{RiseTogether};
+ghost use Rattle.turn_pairs.specs.Pairs.{AreApart, RiseTogether};
 
 use std::alloc::Global;
 use std::marker::{Brand, PhantomData};
 use std::sync::Wait;
 use std::thread::{Threads, join};
 use turn_table::{Held, NoMemory, Seat, TurnRule, Turns};
-
 
 /// By how much the first number is above the second. Each call of a program picks it.
 pub trait Gap {
@@ -72,3 +72,108 @@ fn raise(first: &mut Held<u64>, second: &mut Held<u64>)
         *low += 1;
     }
 }
+
+// Enters both parts, raises them together and leaves both.
+fn raise_pair<G: Gap, W: Wait>(rt: &W, pair: &Pair<G>, chair: &mut Chair<G>)
+    requires table { chair.old.table ≡ pair.now }
+    requires parts { part_count pair.now ≡ 2 }
+    requires idle { chair.old.turns ≡ [] }
+    ensures same { SameSeat chair.old chair.new }
+    ensures kept { (p x : ℕ) → HasSeen chair.old p x → HasSeen chair.new p x }
+{
+    let mut first = pair.enter(rt, chair, 0);
+    let mut second = pair.enter(rt, chair, 1);
+    raise(&mut first, &mut second);
+    pair.leave_pair(chair, first, second);
+}
+
+/// Raises both numbers together, so many times.
+pub fn raise_pairs<G: Gap, W: Wait>(
+    rt: &W,
+    pair: &Pair<G>,
+    mut chair: Chair<G>,
+    times: usize,
+) -> Chair<G>
+    requires table { chair.table ≡ pair.now }
+    requires parts { part_count pair.now ≡ 2 }
+    requires idle { chair.turns ≡ [] }
+    ensures same { SameSeat chair result }
+    ensures kept { (p x : ℕ) → HasSeen chair p x → HasSeen result p x }
+{
+    for _ in 0..times {
+        raise_pair(rt, pair, &mut chair);
+    }
+    chair
+}
+
+/// Two threads raise both numbers together, so many times each. At the end the numbers are as far apart as ever, and no less than what the seat had seen.
+pub fn raise_by_two<G: Gap + Send + Sync, R: Threads + Wait + Sync>(
+    rt: &R,
+    pair: Pair<G>,
+    mut chair: Chair<G>,
+    times: usize,
+) -> Vec<u64>
+    requires table { chair.table ≡ pair }
+    requires parts { part_count pair ≡ 2 }
+    requires whole { (chair.turns ≡ []) × (chair.share ≡ 2 ^ 32) }
+    ensures apart { AreApart G.gap result.items }
+    ensures risen { (p x y : ℕ) → HasSeen chair p x → slice_get result.items p ≡ Some y → x ≤ y }
+{
+    let other = pair.seat(&mut chair);
+    let shared = &pair;
+    let (mut chair, other) = join(
+        rt,
+        || -> Chair<G>
+            requires { (chair.table ≡ shared.now) × (part_count shared.now ≡ 2) × (chair.turns ≡ []) }
+            ensures { SameSeat chair result × ((p x : ℕ) → HasSeen chair p x → HasSeen result p x) }
+        { raise_pairs(rt, shared, chair, times) },
+        || -> Chair<G>
+            requires { (other.table ≡ shared.now) × (part_count shared.now ≡ 2) × (other.turns ≡ []) }
+            ensures { SameSeat other result }
+        { raise_pairs(rt, shared, other, times) },
+    );
+    pair.join(&mut chair, other);
+    pair.close(chair)
+}
+
+/// Raises two numbers from two threads, and returns them. At `Err` there was no memory.
+pub fn raised<G: Gap + Send + Sync, R: Threads + Wait + Sync>(
+    rt: &R,
+    alloc: Global,
+    high: u64,
+    low: u64,
+    times: usize,
+) -> Result<(u64, u64), NoMemory>
+    requires { high ≡ low + G.gap }
+    ensures apart { IfOk result (λ r. r.0 ≡ r.1 + G.gap) }
+    ensures risen { IfOk result (λ r. (high ≤ r.0) × (low ≤ r.1)) }
+{
+    let Ok(mut numbers) = Vec::with_capacity(alloc, 2) else {
+        return Err(NoMemory);
+    };
+    numbers.push_reserved(high);
+    numbers.push_reserved(low);
+    let Ok((pair, chair)) = Pair::<G>::new(numbers) else {
+        return Err(NoMemory);
+    };
+    let ends = raise_by_two(rt, pair, chair, times);
+    Ok((ends[0], ends[1]))
+}
+
+/// Raises two numbers from two threads, so many times each. Their distance is what it was, whatever the threads do.
+pub fn raised_together<R: Threads + Wait + Sync>(
+    rt: &R,
+    alloc: Global,
+    high: u64,
+    low: u64,
+    times: usize,
+) -> Result<(u64, u64), NoMemory>
+    requires { low ≤ high }
+    ensures distance { IfOk result (λ r. r.0 + low ≡ r.1 + high) }
+    ensures risen { IfOk result (λ r. (high ≤ r.0) × (low ≤ r.1)) }
+{
+    raised::<Brand, R>(rt, alloc, high, low, times)
+}
+
+#[cfg(test)]
+mod tests;

@@ -1,16 +1,16 @@
 -- The steps that give a turn back keep the rule, and tell what they should.
-use Rattle.std.proofs.Common.{◌≡◌, ◌≢◌, ℕ, ◌<◌, List, ◌∷◌, length, set, length-set, get_or-set_same, get_or-set_other, Option, Some, None, Contains, slice_get, slice_set, refl, sym, ap, ◌∙◌, subst, arith, ⊎_elim}
+use Rattle.std.proofs.Common.{◌≡◌, ◌≢◌, ℕ, ◌<◌, List, ◌∷◌, length, set, length-set, get_or-set_same, get_or-set_other, Option, Some, None, slice_get, slice_set, refl, sym, ap, ◌∙◌, subst, arith, ⊎_elim}
 use mathlib.Core.Path.{Path}
 use mathlib.Core.Option.{none, some, some-injective}
 use lib.ListN.{get_elem?}
 use lib.Seq.{set-set}
 use Rattle.atomic_table.specs.Table.{gives, step, Allows}
-use Rattle.atomic_table.proofs.Lists.{at_set, set_here, set_else}
+use Rattle.atomic_table.proofs.Lists.{set_here, set_else}
 use Rattle.turn_table.specs.declared.standing.Standing.{Standing}
 use Rattle.turn_table.specs.Notes.{noted}
 use Rattle.turn_table.specs.Keeping.{Board, Lies, Knows, Fits, Kept}
 use Rattle.turn_table.specs.Playing.{Sat, standing, Gives, GivesSecond}
-use Rattle.turn_table.proofs.Noting.{noted_here, noted_else, noted_cases, contains_cases}
+use Rattle.turn_table.proofs.Noting.{noted_here, noted_else, noted_cases}
 use Rattle.turn_table.proofs.Bringing.{within}
 use Rattle.turn_table.proofs.Moving.{Holder, put, put_here, put_else, seen_stays, seen_here, moved}
 use Rattle.turn_table.proofs.Stepping.{shown_at}

@@ -91,7 +91,7 @@ module _ {V : Type 0} where
     pub seen_here : (parts : List V) (p : ℕ) (y : V) (seen : List (ℕ × V)) → ((v : V) → grows v v) → get_elem? parts p ≡ some y → HasGrown grows parts seen → HasGrown grows parts ((p, y) ∷ seen)
     seen_here parts p y seen reflexive at old q x z c e = ⊎_elim {A = (p, y) ≡ (q, x)} {B = Contains seen (q, x)}
         (λ t. let same : y ≡ z = some-injective y z (sym at ∙ (ap (λ (r : ℕ × V). get_elem? parts r.0) t ∙ e)) in
-          subst (λ (u : V). grows u z) (ap (λ (r : ℕ × V). r.1) t) (subst (grows y) same (reflexive y)))
+        subst (λ (u : V). grows u z) (ap (λ (r : ℕ × V). r.1) t) (subst (grows y) same (reflexive y)))
         (λ t. old q x z t e) (contains_cases (p, y) (q, x) seen c)
 
     -- another seat knows as much where a part that it does not hold grows

@@ -1,5 +1,5 @@
 -- Each step on the table keeps the rule, and tells what it should.
-use Rattle.std.proofs.Common.{◌≡◌, ◌≢◌, ℕ, zero, suc, ◌<◌, ◌==◌, List, [], ◌∷◌, length, set, length-set, get_or-set_same, get_or-set_other, Option, Some, None, Contains, slice_index, slice_get, refl, sym, ap, ◌∙◌, subst, arith, ⊎_elim}
+use Rattle.std.proofs.Common.{◌≡◌, ◌≢◌, ℕ, zero, suc, ◌<◌, ◌==◌, List, [], ◌∷◌, length, set, length-set, get_or-set_same, get_or-set_other, Option, Some, None, slice_index, slice_get, refl, sym, ap, ◌∙◌, subst, arith, ⊎_elim}
 use native.Mathlib.Decide.{ℕ_discrete}
 use prog.Atomic.{either}
 use mathlib.Core.Option.{none, some, some-injective}
@@ -12,7 +12,7 @@ use Rattle.turn_table.specs.declared.standing.Standing.{Standing}
 use Rattle.turn_table.specs.Notes.{noted, brought, keys}
 use Rattle.turn_table.specs.Keeping.{Board, Apart, Lies, Knows, Kept}
 use Rattle.turn_table.specs.Playing.{Sat, standing, entered, Takes, Brings}
-use Rattle.turn_table.proofs.Noting.{noted_here, noted_else, noted_cases, noted-brought, Apart-brought, contains_cases, apart_tied}
+use Rattle.turn_table.proofs.Noting.{noted_here, noted_else, noted_cases, noted-brought, Apart-brought, apart_tied}
 use Rattle.turn_table.proofs.Bringing.{within, Out, bringing, brings}
 use Rattle.turn_table.proofs.Moving.{put, put_here, put_else, seen_stays, seen_here, reviewed, moved}
 
@@ -81,7 +81,7 @@ module _ {V : Type 0} where
                   (λ (t : (p ≢ q) × (noted q me.0.turns ≡ Some z)). let was = mine.held q z t.1 in
                   (put_else k.holder p (some id) q (λ e. t.0 (sym e)) ∙ was.0, set_else k.parts p q v (λ e. t.0 (sym e)) ∙ was.1, share)) (noted_cases q (p, v) me.0.turns z e);
               apart = (alone, mine.apart);
-                grown = seen_here grows (set k.parts p v) p v me.0.seen reflexive (set_here k.parts p v in_parts) (seen_stays grows k.parts p v v me.0.seen trans at_p (reflexive v) mine.grown);
+              grown = seen_here grows (set k.parts p v) p v me.0.seen reflexive (set_here k.parts p v in_parts) (seen_stays grows k.parts p v v me.0.seen trans at_p (reflexive v) mine.grown);
             } in
             let there : Lies record { words = set s.words p 1; homes = set s.homes p none; views = set s.views id w } p v (some id) =
             (get_or-set_same s.words p 1 0 (omega arith), set_here s.homes p none (omega arith), (w, set_here s.views id w (within s.views id me.0 at), noted_here p v me.0.turns)) in

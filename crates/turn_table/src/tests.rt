@@ -189,7 +189,12 @@ fn four_threads_add_in_pairs(rt: HostRuntime) -> Result<(), Fail> {
         panic!(rt; "memory is ample")
     };
     let parts = add_by_four(&rt, turns, seat, 1000);
-    assert!(rt; parts.iter().fold(0u64, |sum, value| sum.wrapping_add(*value)) == 8000);
+    assert!(rt;
+        parts
+            .iter()
+            .fold(0u64, |sum, value| sum.wrapping_add(*value))
+            == 8000
+    );
     Ok(())
 }
 
