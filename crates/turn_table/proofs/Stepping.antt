@@ -60,13 +60,13 @@ module _ {V : Type 0} where
 
     -- a turn is taken where it is free, and nothing changes where it is taken
     pub takes_turn : ((v : V) → grows v v) → ((a b c : V) → grows a b → grows b c → grows a c) → (slots id p : ℕ) (me : Sat V) → p < slots → 0 < me.0.share
-        → Allows (Kept holds grows) slots id me p (λ n. either (n == 0) 1 n) (Takes grows (step slots p 0 1 none) me)
+        → Allows (Kept holds grows) slots id me p (λ n. either (n == 0) 1 n) (Takes holds grows (step slots p 0 1 none) me)
     takes_turn reflexive trans slots id p me near share s k deep at small =
         let size : length s.homes ≡ length k.parts = k.fits.deep in
         let part = there_is k.parts p (omega arith) in
         go (k.holder p) refl part.0 part.1
       where
-        go : (h : maybe.Option ℕ) → k.holder p ≡ h → (v : V) → get_elem? k.parts p ≡ some v → Goes s id me p tried (Takes grows (step slots p 0 1 none) me) (slice_index s.words p)
+        go : (h : maybe.Option ℕ) → k.holder p ≡ h → (v : V) → get_elem? k.parts p ≡ some v → Goes s id me p tried (Takes holds grows (step slots p 0 1 none) me) (slice_index s.words p)
         go none free v at_p =
             let lies : Lies s p v none = subst (Lies s p v) free (k.fits.each_part p v at_p) in
             let wide : length s.words ≡ length k.parts = k.fits.wide in
@@ -85,7 +85,7 @@ module _ {V : Type 0} where
             } in
             let there : Lies record { words = set s.words p 1; homes = set s.homes p none; views = set s.views id w } p v (some id) =
             (get_or-set_same s.words p 1 0 (omega arith), set_here s.homes p none (omega arith), (w, set_here s.views id w (within s.views id me.0 at), noted_here p v me.0.turns)) in
-            subst (Goes s id me p tried (Takes grows (step slots p 0 1 none) me)) (sym lies.0) (
+            subst (Goes s id me p tried (Takes holds grows (step slots p 0 1 none) me)) (sym lies.0) (
               w,
               takes p (Some v),
               lies.1,
@@ -97,15 +97,19 @@ module _ {V : Type 0} where
                     (λ j _ e. maybe.some-ne-none j (sym e ∙ free)) (length-set s.words p 1) (length-set s.homes p none) (λ q m. get_or-set_other s.words p q 1 0 m) (λ q m. set_else s.homes p q none m)
                     there (λ q z m e. noted_else q (p, v) me.0.turns m ∙ e) knows refl;
               },
-              (v, refl, λ x c. mine.grown p x v c at_p),
+              (v, (refl, (λ x c. mine.grown p x v c at_p), (k.parts, sym k.fits.deep ∙ deep, k.legal, legal_part))),
             )
           where
+            legal_part : (q : ℕ) (z : V) → noted q ((p, v) ∷ me.0.turns) ≡ Some z → slice_get k.parts q ≡ Some z
+            legal_part q z e = ⊎_elim (λ (t : (p ≡ q) × (v ≡ z)). ap (slice_get k.parts) (sym t.0) ∙ (shown_at k.parts p v at_p ∙ ap Some t.1))
+                (λ (t : (p ≢ q) × (noted q me.0.turns ≡ Some z)). shown_at k.parts q z ((k.fits.each_seat id me.0 at).held q z t.1).1) (noted_cases q (p, v) me.0.turns z e)
+
             nobody : (o : Option V) → noted p me.0.turns ≡ o → noted p me.0.turns ≡ None
             nobody None e = e
             nobody (Some z) e = absurd (maybe.some-ne-none id (sym ((k.fits.each_seat id me.0 at).held p z e).0 ∙ free))
         go (some j) taken v at_p =
             let lies : Lies s p v (some j) = subst (Lies s p v) taken (k.fits.each_part p v at_p) in
-            subst (Goes s id me p tried (Takes grows (step slots p 0 1 none) me)) (sym lies.0) (
+            subst (Goes s id me p tried (Takes holds grows (step slots p 0 1 none) me)) (sym lies.0) (
               me.0,
               keeps,
               tt,

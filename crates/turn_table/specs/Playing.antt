@@ -4,6 +4,7 @@ use Rattle.std.specs.List.{enumerate_from}
 use Rattle.atomic_table.specs.Table.{Me, Step}
 use Rattle.turn_table.specs.declared.standing.Standing.{Standing}
 use Rattle.turn_table.specs.Notes.{brought}
+use Rattle.turn_table.specs.Sitting.{AreLegal}
 
 abbrev pub Sat : Type 0 → Type 0
 Sat V = Me (Option V) (Standing V)
@@ -20,11 +21,13 @@ module _ {V : Type 0} where
   abbrev pub entered : ℕ → V → Standing V → Standing V
   entered p v w = standing w.share ((p, v) ∷ w.seen) ((p, v) ∷ w.turns)
 
-  -- A turn that was free is taken, with the slot and the value in it, which has grown from all that was seen of it. Nothing changes where it was taken
-  abbrev pub Takes : (V → V → Type 0) → Step (Option V) → Sat V → ℕ → Sat V → Type 0
-  Takes grows s m found n = MatchBool (found == 0)
-      ((v : V) × (n ≡ (entered s.word v m.0, (s.word, Some v) ∷ m.1)) × ((x : V) → Contains m.0.seen (s.word, x) → grows x v))
-      (n ≡ m)
+  -- the turn and the slot of p are taken, with the value v in the slot. It has grown from all that was seen of it, and is legal beside the values of the turns that the seat held
+  abbrev pub Took : (List V → Type 0) → (V → V → Type 0) → ℕ → ℕ → V → Sat V → Sat V → Type 0
+  Took holds grows count p v m n = (n ≡ (entered p v m.0, (p, Some v) ∷ m.1)) × ((x : V) → Contains m.0.seen (p, x) → grows x v) × AreLegal holds count ((p, v) ∷ m.0.turns)
+
+  -- a turn that was free is taken, and nothing changes where it was taken
+  abbrev pub Takes : (List V → Type 0) → (V → V → Type 0) → Step (Option V) → Sat V → ℕ → Sat V → Type 0
+  Takes holds grows s m found n = MatchBool (found == 0) ((v : V) × Took holds grows s.slots s.word v m n) (n ≡ m)
 
   -- the slot comes to the front of those that the seat has, and its turn to the front of the turns
   abbrev pub Brings : Step (Option V) → Sat V → ℕ → Sat V → Type 0

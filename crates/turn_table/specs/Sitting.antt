@@ -1,5 +1,5 @@
 -- What a contract sees of a table of turns, of a seat at it and of a value that was handed out.
-use Rattle.std.specs.Prelude.{◌≡◌, ◌≢◌, ℕ, List, [], Some, Contains}
+use Rattle.std.specs.Prelude.{◌≡◌, ◌≢◌, ℕ, List, [], length, Some, slice_get, Contains}
 use Rattle.atomic_table.specs.Seated.{TableId}
 use Rattle.turn_table.specs.Notes.{noted}
 
@@ -32,6 +32,10 @@ module _ {V : Type 0} where
   -- the seat holds both turns, which are those of two parts
   abbrev pub HoldsTurns : Sitting V → Handed V → Handed V → Type 0
   HoldsTurns s h k = HoldsTurn s h × HoldsTurn s k × (h.part ≢ k.part)
+
+  -- the values of these turns are parts of one list of this length, which meets the rule
+  abbrev pub AreLegal : (List V → Type 0) → ℕ → List (ℕ × V) → Type 0
+  AreLegal holds count turns = (parts : List V) × (length parts ≡ count) × holds parts × ((p : ℕ) (v : V) → noted p turns ≡ Some v → slice_get parts p ≡ Some v)
 
   -- a seat at the same table with the same share, which holds no turn
   abbrev pub SameSeat : Sitting V → Sitting V → Type 0

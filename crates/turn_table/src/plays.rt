@@ -11,7 +11,7 @@ pub(crate) struct Take<R> {
 }
 
 impl<V, R: TurnRule<V>> Play<Option<V>, Standing<V>> for Take<R> {
-    ghost then = { Takes R.grows };
+    ghost then = { Takes R.holds R.grows };
 }
 
 pub(crate) struct Bring;

@@ -1,8 +1,8 @@
 //! The steps on the table, a function for each kind. No other code changes the table.
-ghost use Rattle.std.specs.Prelude.{◌≡◌, ℕ, ◌<◌, List, [], ◌∷◌, Option, Some, None, Contains, MatchBool};
+ghost use Rattle.std.specs.Prelude.{◌≡◌, ℕ, ◌<◌, List, [], ◌∷◌, Option, Some, None, MatchBool};
 ghost use Rattle.atomic_table.specs.Table.{rest};
 ghost use Rattle.turn_table.specs.Notes.{noted, without, brought, keys};
-ghost use Rattle.turn_table.specs.Playing.{standing, entered, Gave, GaveSecond, MayGive, MayGiveSecond, parting, newcomer, joined};
+ghost use Rattle.turn_table.specs.Playing.{standing, Took, Gave, GaveSecond, MayGive, MayGiveSecond, parting, newcomer, joined};
 
 use crate::plays::{Bring, Give, GiveSecond, Halve, Take, Unite};
 use crate::rule::TurnRule;
@@ -31,9 +31,7 @@ pub(crate) fn try_take<V, R: TurnRule<V>>(
     requires part { (part < board.now.table_id.words) × (part < board.now.table_id.slots) }
     requires share { 0 < place.old.me.0.share }
     ensures board { (place.new.table_id ≡ place.old.table_id) × (place.new.id ≡ place.old.id) }
-    ensures taken { MatchBool result
-        ((v : V) × (place.new.me ≡ (entered part v place.old.me.0, (part, Some v) ∷ place.old.me.1)) × ((x : V) → Contains place.old.me.0.seen (part, x) → R.grows x v))
-        (place.new.me ≡ place.old.me) }
+    ensures taken { MatchBool result ((v : V) × Took R.holds R.grows board.now.table_id.slots part v place.old.me place.new.me) (place.new.me ≡ place.old.me) }
 {
     board.compare_exchange::<Take<R>>(place, part, FREE, TAKEN) == FREE
 }

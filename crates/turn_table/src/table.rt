@@ -2,7 +2,7 @@
 ghost use Rattle.std.specs.Prelude.{◌≡◌, ℕ, ◌^◌, ◌<◌, ◌≤◌, [], ◌∷◌, ◌++◌, ◌+◌, ◌-◌, All, IfOk, IfErr, Some, slice_get, List, map, vec_len, vec_capacity};
 ghost use Rattle.std.specs.List.{enumerate_from};
 ghost use Rattle.turn_table.specs.Notes.{without};
-ghost use Rattle.turn_table.specs.Sitting.{part_count, HasSeen, HoldsTurn, HoldsTurns};
+ghost use Rattle.turn_table.specs.Sitting.{part_count, AreLegal, HasSeen, HoldsTurn, HoldsTurns};
 
 use crate::hold::Held;
 use crate::moves::{empty_slots, empty_table, fill_slots};
@@ -123,6 +123,7 @@ impl<V, R: TurnRule<V>> Turns<V, R> {
         requires order { All (λ t. t.0 < part) seat.old.turns }
         ensures held { (result.part ≡ part) × (result.opening ≡ result.value) }
         ensures grown { (x : V) → HasSeen seat.old part x → R.grows x result.value }
+        ensures legal { AreLegal R.holds (part_count self.now) seat.new.turns }
         ensures seat { seat.new ≡ record seat.old { seen = (part, result.value) ∷ seat.old.seen; turns = (part, result.value) ∷ seat.old.turns } }
     {
         let board = &self.table.shared;
