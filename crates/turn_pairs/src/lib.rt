@@ -106,6 +106,22 @@ pub fn raise_pairs<G: Gap, W: Wait>(
     chair
 }
 
+/// Reads both numbers at one moment, in any thread: they are as far apart as ever.
+pub fn look<G: Gap, W: Wait>(rt: &W, pair: &Pair<G>, chair: &mut Chair<G>) -> (u64, u64)
+    requires table { chair.old.table ≡ pair.now }
+    requires parts { part_count pair.now ≡ 2 }
+    requires idle { chair.old.turns ≡ [] }
+    ensures same { SameSeat chair.old chair.new }
+    ensures apart { result.0 ≡ result.1 + G.gap }
+{
+    let first = pair.enter(rt, chair, 0);
+    let second = pair.enter(rt, chair, 1);
+    let found = (*first.value(), *second.value());
+    pair.leave(chair, first);
+    pair.leave(chair, second);
+    found
+}
+
 /// Two threads raise both numbers together, so many times each. At the end the numbers are as far apart as ever, and no less than what the seat had seen.
 pub fn raise_by_two<G: Gap + Send + Sync, R: Threads + Wait + Sync>(
     rt: &R,
