@@ -4,9 +4,12 @@ ghost use Rattle.turn_table.specs.Sitting.{part_count, HasSeen, SameSeat};
 
 use crate::{Seat, TurnRule, Turns};
 use std::cell::Cell;
-use std::sync::Wait;
+use std::rt::Clock;
+use std::sync::{Barrier, Wait};
 use std::test::Fail;
+use std::thread;
 use std::thread::{Threads, join};
+use std::time::Duration;
 
 // Each number may rise, alone or paired.
 struct Rises;
@@ -299,5 +302,67 @@ fn a_value_that_can_not_be_copied(rt: HostRuntime) -> Result<(), Fail> {
     };
     assert_eq!(rt; numbers.as_slice(), [1, 2, 2].as_slice());
     assert_eq!(rt; reads.get(), 2);
+    Ok(())
+}
+
+// Adds 1 to part 0, and holds the turn for a while after the barrier.
+fn add_slowly<R: Wait + Clock>(rt: &R, turns: &Numbers, mut seat: Place, taken: &Barrier)
+    requires table { seat.table ≡ turns.now }
+    requires part { 0 < part_count turns.now }
+    requires idle { seat.turns ≡ [] }
+{
+    let mut held = turns.enter(rt, &mut seat, 0);
+    taken.wait(rt);
+    let _ = thread::sleep(rt, Duration::from_millis(20));
+    let value = held.value_mut();
+    *value = value.saturating_add(1);
+    turns.leave(&mut seat, held);
+}
+
+// One thread holds the turn for a while, and another waits for it.
+fn wait_for_a_turn<R: Threads + Wait + Clock + Sync>(
+    rt: &R,
+    turns: &Numbers,
+    seat: Place,
+    mut other: Place,
+) -> u64
+    requires table { (seat.table ≡ turns.now) × (other.table ≡ turns.now) }
+    requires part { 0 < part_count turns.now }
+    requires idle { (seat.turns ≡ []) × (other.turns ≡ []) }
+{
+    let taken = Barrier::new(2);
+    let (_, found) = join(
+        rt,
+        ||
+            requires { (seat.table ≡ turns.now) × (0 < part_count turns.now) × (seat.turns ≡ []) }
+        { add_slowly(rt, turns, seat, &taken) },
+        || -> u64
+            requires { (other.table ≡ turns.now) × (0 < part_count turns.now) × (other.turns ≡ []) }
+        {
+            taken.wait(rt);
+            read(rt, turns, &mut other, 0)
+        },
+    );
+    found
+}
+
+#[test]
+fn a_seat_waits_until_the_turn_is_given_back(rt: HostRuntime) -> Result<(), Fail> {
+    let Ok((turns, mut seat)) = Numbers::new(vec![in rt.alloc(); 5u64]?) else {
+        panic!(rt; "memory is ample")
+    };
+    let other = turns.seat(&mut seat);
+    assert!(rt; wait_for_a_turn(&rt, &turns, seat, other) == 6);
+    Ok(())
+}
+
+// Where an allocation fails, the values are those that were given.
+#[test]
+fn want_of_memory_gives_the_values_back(rt: HostRuntime) -> Result<(), Fail> {
+    let values = match Numbers::new(vec![in rt.alloc(); 5u64, 6, 7]?) {
+        Ok((turns, seat)) => turns.close(seat),
+        Err((_, values)) => values,
+    };
+    assert_eq!(rt; values.as_slice(), [5, 6, 7].as_slice());
     Ok(())
 }
