@@ -1,5 +1,5 @@
 -- What two numbers that are apart tell of each other.
-use Rattle.std.proofs.Common.{◌≡◌, ℕ, ◌+◌, List, [], ◌∷◌, Some, slice_get, ap, sym, ◌∙◌, subst, arith}
+use Rattle.std.proofs.Common.{◌≡◌, ℕ, ◌+◌, List, Some, slice_get, ap, sym, ◌∙◌, arith}
 use Rattle.turn_pairs.specs.Pairs.{AreApart}
 
 pub apart_found : (gap : ℕ) (parts : List ℕ) (high low : ℕ) → AreApart gap parts → slice_get parts 0 ≡ Some high → slice_get parts 1 ≡ Some low → high ≡ low + gap

@@ -1,4 +1,4 @@
-use Rattle.std.proofs.Common.{◌≡◌, ℕ, ◌+◌, List, [], ◌∷◌, sym, ap, ◌∙◌}
+use Rattle.std.proofs.Common.{◌≡◌, ℕ, ◌+◌, [], ◌∷◌, sym, ap, ◌∙◌}
 use Rattle.turn_table.specs.Notes.{noted}
 use Rattle.turn_pairs.proofs.Apart.{apart_found}
 use Rattle.turn_pairs.proofs.look.Goals as goal
