@@ -1,5 +1,6 @@
 -- Two numbers, of which the first is above the second by a gap.
-use Rattle.std.specs.Prelude.{◌≡◌, ◌≢◌, ℕ, ◌+◌, ◌≤◌, List, [], ◌∷◌, Some, slice_get, slice_set}
+use Rattle.std.specs.Prelude.{◌≡◌, ◌≢◌, ℕ, ◌+◌, ◌-◌, ◌^◌, ◌≤◌, ◌⊎◌, List, [], ◌∷◌, Some, slice_get, slice_set}
+use Rattle.turn_table.specs.Sitting.{Sitting, HasSeen}
 use Rattle.std.proofs.Common.{zero, suc, sym, ap, ◌∙◌, subst, arith}
 
 -- there are two numbers, this far apart
@@ -9,6 +10,18 @@ AreApart gap parts = (low : ℕ) × (parts ≡ (low + gap) ∷ low ∷ [])
 -- two numbers rise by the same
 abbrev pub RiseTogether : ℕ → ℕ → ℕ → ℕ → Type 0
 RiseTogether a b x y = (by : ℕ) × (x ≡ a + by) × (y ≡ b + by)
+
+-- the greatest number of 64 bits
+abbrev pub greatest : ℕ
+greatest = 2 ^ 64 - 1
+
+-- of two numbers that were found, the low one is at least n, or the high one can't rise any more
+abbrev pub HaveReached : ℕ → ℕ → ℕ → Type 0
+HaveReached n high low = (greatest ≤ high) ⊎ (n ≤ low)
+
+-- the seat has seen the low number at n or above, or the high one where it can't rise any more
+abbrev pub HasReached : Sitting ℕ → ℕ → Type 0
+HasReached seat n = ((high : ℕ) × HasSeen seat 0 high × (greatest ≤ high)) ⊎ ((low : ℕ) × HasSeen seat 1 low × (n ≤ low))
 
 -- a number that didn't change leaves the parts as they are
 pub unchanged_keeps : (gap : ℕ) (parts : List ℕ) (p old new : ℕ) → AreApart gap parts → slice_get parts p ≡ Some old → new ≡ old → AreApart gap (slice_set parts p new)

@@ -1,9 +1,9 @@
 //! Two numbers that threads raise in pairs. That their distance stays is proved from the rule of the turns alone.
 #![tactic(auto)]
 
-ghost use Rattle.std.specs.Prelude.{◌≡◌, ℕ, ◌+◌, ◌^◌, ◌≤◌, [], ◌∷◌, Some, slice_get, IfOk};
+ghost use Rattle.std.specs.Prelude.{◌≡◌, ℕ, ◌+◌, ◌^◌, ◌<◌, ◌≤◌, [], ◌∷◌, Some, slice_get, IfOk};
 ghost use Rattle.turn_table.specs.Sitting.{part_count, SameSeat, HasSeen};
-ghost use Rattle.turn_pairs.specs.Pairs.{AreApart, RiseTogether};
+ghost use Rattle.turn_pairs.specs.Pairs.{AreApart, RiseTogether, HasReached, HaveReached, greatest};
 
 use std::alloc::Global;
 use std::marker::{Brand, PhantomData};
@@ -59,15 +59,18 @@ pub type Pair<G> = Turns<u64, Level<G>>;
 /// A seat at two numbers.
 pub type Chair<G> = Seat<u64, Level<G>>;
 
-// Raises both values by 1, unless one of them is the greatest number.
+// Raises both values by 1, unless the first is the greatest number.
 fn raise(first: &mut Held<u64>, second: &mut Held<u64>)
+    requires { second.old.value ≤ first.old.value }
     ensures first { (first.new.part ≡ first.old.part) × (first.new.opening ≡ first.old.opening) }
     ensures second { (second.new.part ≡ second.old.part) × (second.new.opening ≡ second.old.opening) }
     ensures together { RiseTogether first.old.value second.old.value first.new.value second.new.value }
+    ensures risen { first.old.value < greatest → second.new.value ≡ second.old.value + 1 }
+    ensures full { greatest ≤ first.old.value → greatest ≤ first.new.value }
 {
     let high = first.value_mut();
     let low = second.value_mut();
-    if *high < u64::MAX && *low < u64::MAX {
+    if *high < u64::MAX {
         *high += 1;
         *low += 1;
     }
@@ -80,6 +83,7 @@ fn raise_pair<G: Gap, W: Wait>(rt: &W, pair: &Pair<G>, chair: &mut Chair<G>)
     requires idle { chair.old.turns ≡ [] }
     ensures same { SameSeat chair.old chair.new }
     ensures kept { (p x : ℕ) → HasSeen chair.old p x → HasSeen chair.new p x }
+    ensures reached { (x : ℕ) → HasSeen chair.old 1 x → HasReached chair.new (x + 1) }
 {
     let mut first = pair.enter(rt, chair, 0);
     let mut second = pair.enter(rt, chair, 1);
@@ -99,8 +103,9 @@ pub fn raise_pairs<G: Gap, W: Wait>(
     requires idle { chair.turns ≡ [] }
     ensures same { SameSeat chair result }
     ensures kept { (p x : ℕ) → HasSeen chair p x → HasSeen result p x }
+    ensures reached { (x : ℕ) → HasSeen chair 1 x → HasReached result (x + times) }
 {
-    for _ in 0..times {
+    for _done in 0..times {
         raise_pair(rt, pair, &mut chair);
     }
     chair
@@ -134,6 +139,7 @@ pub fn raise_by_two<G: Gap + Send + Sync, R: Threads + Wait + Sync>(
     requires whole { (chair.turns ≡ []) × (chair.share ≡ 2 ^ 32) }
     ensures apart { AreApart G.gap result.items }
     ensures risen { (p x y : ℕ) → HasSeen chair p x → slice_get result.items p ≡ Some y → x ≤ y }
+    ensures reached { (x high low : ℕ) → HasSeen chair 1 x → slice_get result.items 0 ≡ Some high → slice_get result.items 1 ≡ Some low → HaveReached (x + times) high low }
 {
     let other = pair.seat(&mut chair);
     let shared = &pair;
@@ -141,7 +147,7 @@ pub fn raise_by_two<G: Gap + Send + Sync, R: Threads + Wait + Sync>(
         rt,
         || -> Chair<G>
             requires { (chair.table ≡ shared.now) × (part_count shared.now ≡ 2) × (chair.turns ≡ []) }
-            ensures { SameSeat chair result × ((p x : ℕ) → HasSeen chair p x → HasSeen result p x) }
+            ensures { SameSeat chair result × ((p x : ℕ) → HasSeen chair p x → HasSeen result p x) × ((x : ℕ) → HasSeen chair 1 x → HasReached result (x + times)) }
         { raise_pairs(rt, shared, chair, times) },
         || -> Chair<G>
             requires { (other.table ≡ shared.now) × (part_count shared.now ≡ 2) × (other.turns ≡ []) }
@@ -163,6 +169,7 @@ pub fn raised<G: Gap + Send + Sync, R: Threads + Wait + Sync>(
     requires { high ≡ low + G.gap }
     ensures apart { IfOk result (λ r. r.0 ≡ r.1 + G.gap) }
     ensures risen { IfOk result (λ r. (high ≤ r.0) × (low ≤ r.1)) }
+    ensures reached { IfOk result (λ r. HaveReached (low + times) r.0 r.1) }
 {
     let Ok(mut numbers) = Vec::with_capacity(alloc, 2) else {
         return Err(NoMemory);
@@ -176,7 +183,8 @@ pub fn raised<G: Gap + Send + Sync, R: Threads + Wait + Sync>(
     Ok((ends[0], ends[1]))
 }
 
-/// Raises two numbers from two threads, so many times each. Their distance is what it was, whatever the threads do.
+/// Raises two numbers from two threads, so many times each. Their distance is what it was, whatever the threads do, and the
+/// low one has risen at least as often as one thread raised it, unless the high one came to the greatest number.
 pub fn raised_together<R: Threads + Wait + Sync>(
     rt: &R,
     alloc: Global,
@@ -187,6 +195,7 @@ pub fn raised_together<R: Threads + Wait + Sync>(
     requires { low ≤ high }
     ensures distance { IfOk result (λ r. r.0 + low ≡ r.1 + high) }
     ensures risen { IfOk result (λ r. (high ≤ r.0) × (low ≤ r.1)) }
+    ensures reached { IfOk result (λ r. HaveReached (low + times) r.0 r.1) }
 {
     raised::<Brand, R>(rt, alloc, high, low, times)
 }
