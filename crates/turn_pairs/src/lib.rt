@@ -128,7 +128,7 @@ pub fn look<G: Gap, W: Wait>(rt: &W, pair: &Pair<G>, chair: &mut Chair<G>) -> (u
 }
 
 /// Two threads raise both numbers together, so many times each. At the end the numbers are as far apart as ever, and no less than what the seat had seen.
-pub fn raise_by_two<G: Gap + Send + Sync, R: Threads + Wait + Sync>(
+pub fn raise_by_two<G: Gap + Send, R: Threads + Wait + Sync>(
     rt: &R,
     pair: Pair<G>,
     mut chair: Chair<G>,
@@ -159,7 +159,7 @@ pub fn raise_by_two<G: Gap + Send + Sync, R: Threads + Wait + Sync>(
 }
 
 /// Raises two numbers from two threads, and returns them. At `Err` there was no memory.
-pub fn raised<G: Gap + Send + Sync, R: Threads + Wait + Sync>(
+pub fn raised<G: Gap + Send, R: Threads + Wait + Sync>(
     rt: &R,
     alloc: Global,
     high: u64,
