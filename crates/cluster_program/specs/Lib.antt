@@ -1,0 +1,3 @@
+pub mod Input
+pub mod Out
+pub mod Run

@@ -1,0 +1,8 @@
+//! The top call: what a command does to the disk, prints and answers.
+#![tactic(auto)]
+
+mod input;
+mod out;
+mod status;
+
+pub use status::{Field, Part, Status, Waits, Which};
