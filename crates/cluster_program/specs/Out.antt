@@ -23,11 +23,13 @@ use Rattle.cluster_program.specs.declared.status.Part.TheVariants as part
 abbrev pub answered_line : List ℕ → Call → Reply → List ℕ
 answered_line name call reply = name ++ codes ": " ++ call_text call ++ codes " = " ++ reply_text reply ++ 10 ∷ []
 
+-- the line of an item that is a call of this client
+abbrev pub item_line : List Client → ℕ → TraceItem → List ℕ
+item_line clients client (trace.Call node name n call reply) = if place_of clients name == client then answered_line name call reply else []
+item_line clients client _ = []
+
 abbrev pub answered_lines : List Client → ℕ → List TraceItem → List ℕ
-answered_lines clients client [] = []
-answered_lines clients client (trace.Call node name n call reply ∷ is) =
-    if place_of clients name == client then answered_line name call reply ++ answered_lines clients client is else answered_lines clients client is
-answered_lines clients client (_ ∷ is) = answered_lines clients client is
+answered_lines clients client items = flat_map (item_line clients client) items
 
 abbrev pub down_line : List ℕ → Call → List ℕ
 down_line name call = name ++ codes ": " ++ call_text call ++ codes " = down" ++ 10 ∷ []
@@ -81,8 +83,11 @@ part_text part.Words = codes "words"
 part_text (part.Script line) = codes "line" ++ number line
 part_text (part.Block block) = codes "block" ++ number block
 
+abbrev pub at_block_text : Option ℕ → ℕ → ℕ → List ℕ
+at_block_text block before now = codes " block" ++ block_text block ++ rise_text before now
+
 abbrev pub device_text : ℕ → Option ℕ → ℕ → ℕ → List ℕ
-device_text node block before now = codes "device fault: node" ++ number node ++ codes " block" ++ block_text block ++ rise_text before now
+device_text node block before now = codes "device fault: node" ++ number node ++ at_block_text block before now
 
 -- the status; an output that failed has none
 abbrev pub status_text : Status → List ℕ

@@ -3,6 +3,7 @@
 
 mod input;
 mod out;
+mod places;
 mod status;
 
 pub use status::{Field, Part, Status, Waits, Which};

@@ -1,9 +1,14 @@
-ghost use Rattle.std.specs.Prelude.{◌≡◌, ◌++◌, codes, IfOk};
-ghost use Rattle.cluster_program.specs.Out.{rise_text, block_text, part_text, device_text, status_text};
+ghost use Rattle.std.specs.Prelude.{◌≡◌, ◌++◌, IfOk};
+ghost use Rattle.cluster_program.specs.Out.{rise_text, block_text, part_text, at_block_text, device_text, status_text, answered_line, item_line, answered_lines};
 
+use crate::places::place_of;
 use crate::status::{Part, Status, Which};
+use file_tree::{Call, Name, Reply, append_call, append_reply};
 use no_memory::NoMemory;
+use script_lang::Client;
+use std::alloc::Global;
 use text_words::{append, append_number};
+use trace_text::TraceItem;
 
 fn append_rise(text: &mut Vec<u8>, before: u64, after: u64) -> Result<(), NoMemory>
     ensures { IfOk result (λ _. text.new.items ≡ text.old.items ++ rise_text before after) }
@@ -46,7 +51,7 @@ fn append_at_block(
     before: u64,
     after: u64,
 ) -> Result<(), NoMemory>
-    ensures { IfOk result (λ _. text.new.items ≡ text.old.items ++ (codes " block" ++ block_text block ++ rise_text before after)) }
+    ensures { IfOk result (λ _. text.new.items ≡ text.old.items ++ at_block_text block before after) }
 {
     append(text, b" block")?;
     append_block(text, block)?;
@@ -108,4 +113,63 @@ fn append_status(text: &mut Vec<u8>, status: &Status) -> Result<(), NoMemory>
         }
         _ => Ok(()),
     }
+}
+
+// An answered line of a client.
+fn append_answered(
+    alloc: Global,
+    text: &mut Vec<u8>,
+    name: &Name,
+    call: &Call,
+    reply: &Reply,
+) -> Result<(), NoMemory>
+    ensures { IfOk result (λ _. text.new.items ≡ text.old.items ++ answered_line name.now call.now reply.now) }
+{
+    append(text, name.bytes())?;
+    append(text, b": ")?;
+    append_call(alloc, text, call)?;
+    append(text, b" = ")?;
+    append_reply(alloc, text, reply)?;
+    append(text, b"\n")
+}
+
+// The line of an item that is a call of this client.
+fn append_item_line(
+    alloc: Global,
+    text: &mut Vec<u8>,
+    clients: &[Client],
+    client: usize,
+    item: &TraceItem,
+) -> Result<(), NoMemory>
+    ensures { IfOk result (λ _. text.new.items ≡ text.old.items ++ item_line clients.now client item.now) }
+{
+    let TraceItem::Call {
+        client: name,
+        call,
+        reply,
+        ..
+    } = item
+    else {
+        return Ok(());
+    };
+    if place_of(clients, name.bytes()) != client {
+        return Ok(());
+    }
+    append_answered(alloc, text, name, call, reply)
+}
+
+// The answered lines of a client.
+fn append_answered_lines(
+    alloc: Global,
+    text: &mut Vec<u8>,
+    clients: &[Client],
+    client: usize,
+    items: &[TraceItem],
+) -> Result<(), NoMemory>
+    ensures { IfOk result (λ _. text.new.items ≡ text.old.items ++ answered_lines clients.now client items.now) }
+{
+    for item in items {
+        append_item_line(alloc, text, clients, client, item)?;
+    }
+    Ok(())
 }
