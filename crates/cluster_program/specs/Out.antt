@@ -64,10 +64,13 @@ is_stop (trace.Withdraw node before now) = true
 is_stop _ = false
 
 -- calls, those that losses took out, commits, stops of nodes, and journals that are not clean
+abbrev pub counts_text : ℕ → ℕ → ℕ → ℕ → ℕ → List ℕ
+counts_text calls lost commits crashes dirty =
+    (codes "calls" ++ number calls) ++ (codes " lost" ++ number lost) ++ (codes " commits" ++ number commits) ++ (codes " crashes" ++ number crashes) ++ (codes " dirty" ++ number dirty)
+
 abbrev pub counts_line : ScriptValue → List TraceItem → ℕ → List ℕ
 counts_line s items dirty =
-    codes "calls" ++ number (count_by is_call items) ++ codes " lost" ++ number (lost_count (history_of s.clients items)) ++ codes " commits" ++ number (count_by is_commit items)
-    ++ codes " crashes" ++ number (count_by is_stop items) ++ codes " dirty" ++ number dirty ++ 10 ∷ []
+    counts_text (count_by is_call items) (lost_count (history_of s.clients items)) (count_by is_commit items) (count_by is_stop items) dirty ++ 10 ∷ []
 
 -- ---- the status
 

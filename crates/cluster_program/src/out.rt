@@ -1,5 +1,6 @@
-ghost use Rattle.std.specs.Prelude.{◌≡◌, ◌++◌, IfOk};
-ghost use Rattle.cluster_program.specs.Out.{rise_text, block_text, part_text, at_block_text, device_text, status_text, answered_line, item_line, answered_lines};
+ghost use Rattle.std.specs.Prelude.{◌≡◌, ◌++◌, IfOk, count_by};
+ghost use Rattle.text_words.specs.Words.{number};
+ghost use Rattle.cluster_program.specs.Out.{rise_text, block_text, part_text, at_block_text, device_text, status_text, counts_text, is_call as counts_as_call, is_commit as counts_as_commit, is_stop as counts_as_stop, answered_line, item_line, answered_lines};
 
 use crate::places::place_of;
 use crate::status::{Part, Status, Which};
@@ -172,4 +173,66 @@ fn append_answered_lines(
         append_item_line(alloc, text, clients, client, item)?;
     }
     Ok(())
+}
+
+fn append_count(text: &mut Vec<u8>, word: &[u8], count: u64) -> Result<(), NoMemory>
+    ensures { IfOk result (λ _. text.new.items ≡ text.old.items ++ (word.now ++ number count)) }
+{
+    append(text, word)?;
+    append_number(text, count)
+}
+
+/// What the items of a run come to.
+#[derive(Clone, Copy, Debug)]
+pub(crate) struct Tally {
+    pub calls: u64,
+    pub lost: u64,
+    pub commits: u64,
+    pub crashes: u64,
+    pub dirty: u64,
+}
+
+fn append_counts(text: &mut Vec<u8>, tally: Tally) -> Result<(), NoMemory>
+    ensures { IfOk result (λ _. text.new.items ≡ text.old.items ++ counts_text tally.calls tally.lost tally.commits tally.crashes tally.dirty) }
+{
+    append_count(text, b"calls", tally.calls)?;
+    append_count(text, b" lost", tally.lost)?;
+    append_count(text, b" commits", tally.commits)?;
+    append_count(text, b" crashes", tally.crashes)?;
+    append_count(text, b" dirty", tally.dirty)
+}
+
+fn is_call(item: &TraceItem) -> bool
+    ensures { result ≡ counts_as_call item.now }
+{
+    matches!(item, TraceItem::Call { .. })
+}
+
+fn is_commit(item: &TraceItem) -> bool
+    ensures { result ≡ counts_as_commit item.now }
+{
+    matches!(item, TraceItem::Commit { .. })
+}
+
+fn is_stop(item: &TraceItem) -> bool
+    ensures { result ≡ counts_as_stop item.now }
+{
+    matches!(item, TraceItem::Crash { .. } | TraceItem::Withdraw { .. })
+}
+
+// How many calls, commits and stops of nodes there are among the items.
+fn counts_of(items: &[TraceItem]) -> (u64, u64, u64)
+    ensures calls { result.0 ≡ count_by counts_as_call items.now }
+    ensures commits { result.1 ≡ count_by counts_as_commit items.now }
+    ensures stops { result.2 ≡ count_by counts_as_stop items.now }
+{
+    let mut calls = 0u64;
+    let mut commits = 0u64;
+    let mut stops = 0u64;
+    for item in items {
+        calls += u64::from(is_call(item));
+        commits += u64::from(is_commit(item));
+        stops += u64::from(is_stop(item));
+    }
+    (calls, commits, stops)
 }
