@@ -1,6 +1,6 @@
 -- Worked rows of the grammar, which the checker computes.
 use Rattle.std.proofs.Common.{◌≡◌, ℕ, List, [], ◌∷◌, ◌++◌, refl}
-use Rattle.std.specs.Prelude.{codes, replicate, Some, None, ◌^◌}
+use Rattle.std.specs.Prelude.{codes}
 use Rattle.std.specs.Fmt.{digits}
 use Rattle.hex.specs.Hex.{encode_with}
 use Rattle.hex.proofs.OnLiterals.{hex_on_literals}
@@ -8,7 +8,6 @@ use Rattle.file_tree.specs.declared.call.Call.TheVariants as calls
 use Rattle.script_lang.specs.declared.script.Line.{Line}
 use Rattle.script_lang.specs.declared.script.Line.TheVariants as line
 use Rattle.script_lang.specs.declared.script.Fate.TheVariants.{Old, New, Torn}
-use Rattle.script_lang.specs.Script.{ScriptValue}
 use Rattle.script_lang.specs.Grammar.{ScriptRead, script_read, Script, Bad}
 
 abbrev a : List (List ℕ)
