@@ -3,6 +3,8 @@
 
 mod plain;
 mod script;
+#[cfg(test)]
+mod tests;
 mod words;
 
 pub use plain::PlainScript;
