@@ -5,5 +5,5 @@ mod plain;
 mod script;
 mod words;
 
-pub use plain::PlainScript;
+pub use plain::{PlainScript, parse_plain};
 pub use script::{Armed, Client, Fate, Line, Script};
