@@ -1,6 +1,6 @@
 // Runs over an image that was laid out by hand: 140 blocks of 512 bytes, the superblock in block 128, the
 // root in block 130, and in it the files `b` and `a` in the blocks 132 and 133.
-ghost use Rattle.std.specs.Prelude.{◌≡◌, IfOk, length};
+ghost use Rattle.std.specs.Prelude.{◌≡◌, IfOk};
 ghost use Rattle.shared_disk.specs.Disk.{IsIdle};
 ghost use Rattle.shared_disk.specs.Memory.{memory_state};
 
@@ -83,9 +83,7 @@ const FILES: [Part; 10] = [
     (68_152, b"\x00\x00\x00\x00\x00\x00\x00\x0a"),
 ];
 
-fn put(rt: &impl Abort, bytes: &mut Vec<u8>, parts: &[Part])
-    ensures { length bytes.new.items ≡ length bytes.old.items }
-{
+fn put(rt: &impl Abort, bytes: &mut Vec<u8>, parts: &[Part]) {
     for (at, part) in parts {
         assert!(rt; *at <= bytes.len() && part.len() <= bytes.len() - *at);
         bytes[*at..*at + part.len()].copy_from_slice(part);
