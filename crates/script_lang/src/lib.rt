@@ -7,5 +7,5 @@ mod script;
 mod tests;
 mod words;
 
-pub use plain::PlainScript;
+pub use plain::{PlainScript, parse_plain};
 pub use script::{Armed, Client, Fate, Line, Script};
