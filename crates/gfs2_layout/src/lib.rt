@@ -17,3 +17,6 @@ pub use fault::LayoutFault;
 pub use header::MetaHeader;
 pub use inum::Inum;
 pub use superblock::SuperBlock;
+
+#[cfg(test)]
+mod tests;

@@ -1,10 +1,10 @@
 -- A client's name is a name.
-use Rattle.std.proofs.Common.{◌≡◌, ◌≢◌, ℕ, ◌+◌, ◌<◌, ◌≤◌, Bool, true, false, ◌&&◌, List, [], ◌∷◌, length, get_or, refl, sym, ap, ◌∙◌, subst, arith}
-use Rattle.std.specs.Prelude.{codes, nat_le, not}
+use Rattle.std.proofs.Common.{◌≡◌, ℕ, ◌≤◌, Bool, true, false, ◌&&◌, List, [], ◌∷◌, length, get_or, refl, ap, arith}
+use Rattle.std.specs.Prelude.{nat_le, not}
 use Rattle.std.specs.List.{AllByRecursion, list_all}
 use Rattle.std.proofs.lemmas.Bool.Decides.{nat_tests}
 use Rattle.file_tree.specs.Names.{IsName, IsNameByte}
-use Rattle.script_lang.specs.Words.{is_client_name, is_letter_or_digit, is_lower, is_digit, begins_line}
+use Rattle.script_lang.specs.Words.{is_client_name, is_letter_or_digit, is_lower, begins_line}
 
 name_byte : (b : ℕ) → is_letter_or_digit b ≡ true → IsNameByte b
 name_byte b h = (λ zero. grind (arith, nat_tests), λ slash. grind (arith, nat_tests))

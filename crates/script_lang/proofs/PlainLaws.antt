@@ -1,6 +1,6 @@
 -- Plain scripts are scripts.
-use Rattle.std.proofs.Common.{◌≡◌, ◌≢◌, ℕ, zero, suc, ◌+◌, ◌-◌, ◌<◌, ◌≤◌, Bool, true, false, ◌==◌, ◌&&◌, List, [], ◌∷◌, ◌++◌, length, take, get_or, Option, Some, None, Result, Ok, Err, refl, sym, ap, ◌∙◌, subst, arith, append_assoc}
-use Rattle.std.specs.Prelude.{codes, IfOk, IfSome, nat_lt, nat_le}
+use Rattle.std.proofs.Common.{◌≡◌, ℕ, ◌+◌, ◌-◌, ◌≤◌, Bool, true, false, List, [], ◌∷◌, ◌++◌, length, take, get_or, Option, Some, None, Result, Ok, Err, refl, sym, ap, ◌∙◌, arith}
+use Rattle.std.specs.Prelude.{codes, IfOk, IfSome, nat_lt}
 use Rattle.std.specs.Fmt.{digits}
 use Rattle.std.specs.List.{AllByRecursion}
 use Rattle.std.specs.Str.{bytes_eq}
@@ -10,8 +10,8 @@ use Rattle.std.proofs.lemmas.Slice.Eq.{bytes_eq-Decides}
 use Rattle.file_tree.specs.declared.call.Call.{Call}
 use Rattle.script_lang.specs.declared.script.Line.{Line}
 use Rattle.script_lang.specs.Script.{ScriptValue}
-use Rattle.script_lang.specs.Words.{lines_in, words_in, client_in, LineRead, Got, Wrong}
-use Rattle.script_lang.specs.Grammar.{script_limit, line_limit, line_read, call_read, script_from, script_read, has_byte_past_limit, nothing, Script, ScriptRead}
+use Rattle.script_lang.specs.Words.{lines_in, words_in, client_in, Got}
+use Rattle.script_lang.specs.Grammar.{script_limit, line_limit, line_read, call_read, script_from, script_read, nothing, Script}
 use Rattle.script_lang.specs.Plain.{IsPlainCall, IsPlainLine, ReadsLines, one_client, one_node, line_of}
 
 -- ---- what follows from what a call returned

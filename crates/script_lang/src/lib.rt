@@ -3,7 +3,9 @@
 
 mod plain;
 mod script;
+#[cfg(test)]
+mod tests;
 mod words;
 
-pub use plain::PlainScript;
+pub use plain::{PlainScript, parse_plain};
 pub use script::{Armed, Client, Fate, Line, Script};

@@ -12,3 +12,6 @@ mod run;
 pub use end::RunEnd;
 pub use mount::{Root, read_root};
 pub use run::run_plain;
+
+#[cfg(test)]
+mod tests;

@@ -2,6 +2,8 @@
 #![tactic(auto)]
 
 mod item;
+#[cfg(test)]
+mod tests;
 mod text;
 
 pub use item::TraceItem;

@@ -1,4 +1,4 @@
-use Rattle.std.proofs.Common.{◌≡◌, List, ℕ, [], refl}
+use Rattle.std.proofs.Common.{◌≡◌, []}
 use Rattle.script_lang.specs.Words.{words_in, client_in, Got}
 use Rattle.script_lang.specs.Grammar.{line_read}
 use Rattle.script_lang.specs.Plain.{one_node, one_client}

@@ -1,8 +1,4 @@
-use Rattle.std.proofs.Common.{◌≡◌, List, ℕ, ◌++◌, ◌∷◌, [], refl, ap, ◌∙◌}
-use Rattle.file_tree.specs.declared.call.Call.{Call}
-use Rattle.script_lang.specs.Words.{Got}
-use Rattle.script_lang.specs.Grammar.{call_read}
-use Rattle.script_lang.specs.Plain.{IsPlainCall}
+use Rattle.std.proofs.Common.{List, ℕ, ◌++◌, ◌∷◌, [], ap, ◌∙◌}
 use Rattle.script_lang.proofs.PlainLaws.{some_weaker, line_of_client, IsClientLine}
 use Rattle.script_lang.proofs.plain.plain_line.Goals as goal
 

@@ -1,6 +1,4 @@
-use Rattle.std.proofs.Common.{[], List, ℕ, subst, sym, arith, rules}
-use Rattle.std.specs.List.{AllByRecursion}
-use Rattle.script_lang.specs.Plain.{IsPlainLine}
+use Rattle.std.proofs.Common.{arith}
 use Rattle.script_lang.proofs.PlainLaws.{so_far-none, so_far-more, so_far-all, plain-push}
 use Rattle.script_lang.proofs.plain.plain_lines.Goals as goal
 

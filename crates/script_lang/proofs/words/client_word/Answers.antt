@@ -1,4 +1,4 @@
-use Rattle.std.proofs.Common.{sym, ◌∙◌, subst, List, ℕ}
+use Rattle.std.proofs.Common.{sym, subst}
 use Rattle.file_tree.specs.Names.{IsName}
 use Rattle.script_lang.proofs.Names.{is_name}
 use Rattle.script_lang.proofs.words.client_word.Goals as goal

@@ -1,4 +1,4 @@
-use Rattle.std.proofs.Common.{◌<◌, ◌^◌, arith, rules}
+use Rattle.std.proofs.Common.{arith}
 use Rattle.script_lang.proofs.Numbers.{number_within, number_outside}
 use Rattle.script_lang.proofs.words.number_word.Goals as goal
 
