@@ -48,13 +48,24 @@ pub enum Status {
     /// The input was read to its end, and every line answered.
     Done,
     /// The words are no command; the place is that of the first wrong word, from 1.
-    Usage { word: u32 },
+    Usage {
+        word: u32,
+    },
     /// The script is none; line and column are those of the first wrong word, from 1.
-    BadScript { line: u32, column: u32 },
+    BadScript {
+        line: u32,
+        column: u32,
+    },
     /// A field of the image is outside the profile.
-    NotProfile { field: Field, value: u64 },
+    NotProfile {
+        field: Field,
+        value: u64,
+    },
     /// A block breaks a rule.
-    Damaged { block: u64, rule: u16 },
+    Damaged {
+        block: u64,
+        rule: u16,
+    },
     /// The disk's count of faults for the run rose from `before` to `after`, at this block where there is one.
     DeviceFault {
         node: u8,
@@ -63,16 +74,32 @@ pub enum Status {
         after: u64,
     },
     /// The script's source failed: its count of faults rose from `before` to `after`.
-    ScriptFault { before: u64, after: u64 },
+    ScriptFault {
+        before: u64,
+        after: u64,
+    },
     /// A sink failed: its count of faults rose from `before` to `after`.
-    SinkFault { which: Which, before: u64, after: u64 },
+    SinkFault {
+        which: Which,
+        before: u64,
+        after: u64,
+    },
     NoMemory,
     /// All steps that were allowed are spent, and work is left.
-    StepsSpent { steps: u64 },
+    StepsSpent {
+        steps: u64,
+    },
     /// Work is left, and nothing can go on.
-    Stuck { waits: Vec<Waits> },
+    Stuck {
+        waits: Vec<Waits>,
+    },
     /// The image has fewer blocks than it needs.
-    TooSmall { needed: u64, found: u64 },
+    TooSmall {
+        needed: u64,
+        found: u64,
+    },
     /// This is not built yet.
-    NotBuilt { part: Part },
+    NotBuilt {
+        part: Part,
+    },
 }
