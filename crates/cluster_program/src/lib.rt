@@ -2,7 +2,7 @@
 #![tactic(auto)]
 
 mod input;
-mod out;
+mod output;
 mod places;
 mod status;
 
