@@ -209,6 +209,8 @@ pub fn run_plain<D: SharedDisk>(
     ensures history { (tree : Tree) → IsStart (D.state disk.old) root.now tree → HoldsHistory tree script.now items.new.items }
     ensures tree { (tree : Tree) → IsStart (D.state disk.old) root.now tree
         → tree_of (history_of script.now.clients items.new.items) tree ≡ tree }
+    ensures run { (client : List ℕ) × IsRunOf client script.now.lines items.new.items (IsStart (D.state disk.old) root.now) }
+    ensures whole { OnOk result ((client : List ℕ) × IsWholeRun client script.now.lines items.new.items (IsStart (D.state disk.old) root.now)) }
     ensures members { NoneStopped items.new.items }
     ensures answered { OnOk result (AllAnswered items.new.items script.now) }
     ensures other { IfErr result (λ end. IfNotRead end (λ _. (tree : Tree) → IsStart (D.state disk.old) root.now tree → ⊥)) }

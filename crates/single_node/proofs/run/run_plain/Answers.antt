@@ -4,6 +4,7 @@ use Rattle.script_lang.specs.Script.{ScriptValue}
 use Rattle.script_lang.specs.declared.script.Client.{Client}
 use Rattle.single_node.specs.Flat.{IsStart}
 use Rattle.single_node.specs.declared.end.RunEnd.{RunEnd}
+use Rattle.single_node.specs.Run.{NotJoined}
 use Rattle.single_node.proofs.PlainRuns.{client_is, run_of, whole_of, owes_none, Owes, owes, all_answered}
 use Rattle.single_node.proofs.run.run_plain.Given.{Over}
 use Rattle.single_node.proofs.run.run_plain.Goals as goal
@@ -38,3 +39,12 @@ on_ok (Err e) f h = tt
 
 pub returns-clause-answered : goal.returns-clause-answered
 returns-clause-answered g c = on_ok c.run_lines.result (λ whole. all_answered c.args.script.now c.requires.plain c.run_lines.new.items.items _ (whole_of (name g c) (lines g c) whole)) c.run_lines.ensures.whole
+
+pub returns-in_err-block-clause-run : goal.returns-in_err-block-clause-run
+returns-in_err-block-clause-run g c = (c.requires.plain.client, NotJoined c.requires.none)
+
+pub returns-clause-run : goal.returns-clause-run
+returns-clause-run g c = (c.requires.plain.client, run_of (name g c) (lines g c) c.run_lines.ensures.run)
+
+pub returns-clause-whole : goal.returns-clause-whole
+returns-clause-whole g c = on_ok c.run_lines.result (λ whole. (c.requires.plain.client, whole_of (name g c) (lines g c) whole)) c.run_lines.ensures.whole
