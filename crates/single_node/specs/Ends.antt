@@ -1,14 +1,14 @@
 -- When a run may end before its script does.
-use Rattle.std.specs.Prelude.{ℕ, ⊤}
+use Rattle.std.specs.Prelude.{ℕ, ◌≡◌, ⊤}
 use Rattle.fault_counts.specs.Causes.{WentUp}
 use Rattle.single_node.specs.declared.end.RunEnd.{RunEnd}
 use Rattle.single_node.specs.declared.end.RunEnd.TheVariants as end
 
--- a failing disk is told only where its count for that node rose so
-abbrev pub EndHasCause : (ℕ → ℕ) → (ℕ → ℕ) → RunEnd → Type 0
-EndHasCause before now (end.DiskFailed node block rise) = WentUp (before node) (now node) rise.before rise.after
-EndHasCause before now (end.NotRead block) = ⊤
-EndHasCause before now end.NoMemory = ⊤
+-- a failing disk is told only where this node reads, and the disk's count for it rose so
+abbrev pub EndHasCause : ℕ → (ℕ → ℕ) → (ℕ → ℕ) → RunEnd → Type 0
+EndHasCause reader before now (end.DiskFailed node block rise) = (node ≡ reader) × WentUp (before reader) (now reader) rise.before rise.after
+EndHasCause reader before now (end.NotRead block) = ⊤
+EndHasCause reader before now end.NoMemory = ⊤
 
 -- a fact for the end at a block that is not read
 abbrev pub IfNotRead : RunEnd → (ℕ → Type 0) → Type 0

@@ -80,7 +80,7 @@ pub(crate) fn read_file<D: SharedDisk>(
     ensures other { IfErr result (λ end. IfNotRead end (λ _. IsTrue (D.state disk.old).tells → address < (D.state disk.old).count
         → IsStuffedFile (D.state disk.old).size address ((D.state disk.old).block_at address) → ⊥)) }
     ensures same { D.state disk.new ≡ D.state disk.old }
-    ensures cause { IfErr result (EndHasCause (D.faults disk.old) (D.faults disk.new)) }
+    ensures cause { IfErr result (EndHasCause 1 (D.faults disk.old) (D.faults disk.new)) }
     ensures later { (j : ℕ) → D.faults disk.old j ≤ D.faults disk.new j }
 {
     match fetch(disk, 1, address, block) {

@@ -19,7 +19,7 @@ pub(crate) fn fetch<D: SharedDisk>(
     ensures inside { OnOk result (block < (D.state disk.old).count) }
     ensures outside { IfErr result (λ end. IfNotRead end (λ b. (b ≡ block) × ((D.state disk.old).count ≤ block))) }
     ensures same { D.state disk.new ≡ D.state disk.old }
-    ensures cause { IfErr result (EndHasCause (D.faults disk.old) (D.faults disk.new)) }
+    ensures cause { IfErr result (EndHasCause node (D.faults disk.old) (D.faults disk.new)) }
     ensures later { (j : ℕ) → D.faults disk.old j ≤ D.faults disk.new j }
 {
     if block >= disk.blocks() {

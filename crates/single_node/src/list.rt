@@ -49,7 +49,7 @@ pub(crate) fn list_call(alloc: Global, root: &Root, path: &Path) -> Result<Reply
         → reply ≡ list_reply (walk tree path.now)) }
     ensures other { IfErr result (λ end. IfNotRead end (λ _. (disk : DiskState) (tree : Tree) → IsFlat disk tree
         → HasFlatRoot disk root.now → ⊥)) }
-    ensures cause { IfErr result (λ end. (faults : ℕ → ℕ) → EndHasCause faults faults end) }
+    ensures cause { IfErr result (λ end. (faults : ℕ → ℕ) → EndHasCause 1 faults faults end) }
 {
     let area = behind_dinode(root.block());
     let [name, ..] = path.names() else {

@@ -88,7 +88,7 @@ fn root_address<D: SharedDisk>(disk: &mut D, block: &mut [u8]) -> Result<u64, Ru
     ensures root { IfOk result (λ root. IsTrue (D.state disk.old).tells → HasSuperBlock (D.state disk.old) × (root ≡ root_of (D.state disk.old))) }
     ensures other { IfErr result (λ end. IfNotRead end (λ _. IsTrue (D.state disk.old).tells → HasSuperBlock (D.state disk.old) → ⊥)) }
     ensures same { D.state disk.new ≡ D.state disk.old }
-    ensures cause { IfErr result (EndHasCause (D.faults disk.old) (D.faults disk.new)) }
+    ensures cause { IfErr result (EndHasCause 0 (D.faults disk.old) (D.faults disk.new)) }
     ensures later { (j : ℕ) → D.faults disk.old j ≤ D.faults disk.new j }
 {
     let size = disk.block_size();
@@ -141,7 +141,7 @@ fn fill_root<D: SharedDisk>(disk: &mut D, block: &mut [u8]) -> Result<u64, RunEn
     ensures area { OnOk result (IsArea (stuffed_part block.new)) }
     ensures other { IfErr result (λ end. IfNotRead end (λ _. IsTrue (D.state disk.old).tells → LacksFlatRoot (D.state disk.old))) }
     ensures same { D.state disk.new ≡ D.state disk.old }
-    ensures cause { IfErr result (EndHasCause (D.faults disk.old) (D.faults disk.new)) }
+    ensures cause { IfErr result (EndHasCause 0 (D.faults disk.old) (D.faults disk.new)) }
     ensures later { (j : ℕ) → D.faults disk.old j ≤ D.faults disk.new j }
 {
     let address = match root_address(disk, block) {
@@ -167,7 +167,7 @@ pub fn read_root<D: SharedDisk>(alloc: Global, disk: &mut D) -> Result<Root, Run
     ensures area { IfOk result (λ block. (length block ≡ (D.state disk.old).size) × IsArea (stuffed_part block)) }
     ensures other { IfErr result (λ end. IfNotRead end (λ _. IsTrue (D.state disk.old).tells → LacksFlatRoot (D.state disk.old))) }
     ensures same { D.state disk.new ≡ D.state disk.old }
-    ensures cause { IfErr result (EndHasCause (D.faults disk.old) (D.faults disk.new)) }
+    ensures cause { IfErr result (EndHasCause 0 (D.faults disk.old) (D.faults disk.new)) }
     ensures later { (j : ℕ) → D.faults disk.old j ≤ D.faults disk.new j }
 {
     let size = disk.block_size() as usize;

@@ -34,7 +34,7 @@ pub(crate) fn read_call<D: SharedDisk>(
     ensures other { IfErr result (λ end. IfNotRead end (λ _. (tree : Tree) → IsFlat (D.state disk.old) tree
         → HasFlatRoot (D.state disk.old) root.now → ⊥)) }
     ensures same { D.state disk.new ≡ D.state disk.old }
-    ensures cause { IfErr result (EndHasCause (D.faults disk.old) (D.faults disk.new)) }
+    ensures cause { IfErr result (EndHasCause 1 (D.faults disk.old) (D.faults disk.new)) }
     ensures later { (j : ℕ) → D.faults disk.old j ≤ D.faults disk.new j }
 {
     let [name, ..] = path.names() else {

@@ -42,7 +42,7 @@ fn reply_to<D: SharedDisk>(
     ensures other { IfErr result (λ end. IfNotRead end (λ _. (tree : Tree) → IsFlat (D.state disk.old) tree
         → HasFlatRoot (D.state disk.old) root.now → ⊥)) }
     ensures same { D.state disk.new ≡ D.state disk.old }
-    ensures cause { IfErr result (EndHasCause (D.faults disk.old) (D.faults disk.new)) }
+    ensures cause { IfErr result (EndHasCause 1 (D.faults disk.old) (D.faults disk.new)) }
     ensures later { (j : ℕ) → D.faults disk.old j ≤ D.faults disk.new j }
 {
     match call {
@@ -88,7 +88,7 @@ fn answer_line<D: SharedDisk>(
     ensures other { IfErr result (λ end. IfNotRead end (λ _. (tree : Tree) → IsFlat (D.state disk.old) tree
         → HasFlatRoot (D.state disk.old) root.now → ⊥)) }
     ensures same { D.state disk.new ≡ D.state disk.old }
-    ensures cause { IfErr result (EndHasCause (D.faults disk.old) (D.faults disk.new)) }
+    ensures cause { IfErr result (EndHasCause 1 (D.faults disk.old) (D.faults disk.new)) }
     ensures later { (j : ℕ) → D.faults disk.old j ≤ D.faults disk.new j }
 {
     let Line::Call { call, .. } = line else {
@@ -133,7 +133,7 @@ fn answer_lines<D: SharedDisk>(
     ensures whole { OnOk result (IsRunUpTo name.now lines.now (length lines.now) items.new.items (IsStart (D.state disk.old) root.now)) }
     ensures other { IfErr result (λ end. IfNotRead end (λ _. (tree : Tree) → IsStart (D.state disk.old) root.now tree → ⊥)) }
     ensures same { D.state disk.new ≡ D.state disk.old }
-    ensures cause { IfErr result (EndHasCause (D.faults disk.old) (D.faults disk.new)) }
+    ensures cause { IfErr result (EndHasCause 1 (D.faults disk.old) (D.faults disk.new)) }
     ensures later { (j : ℕ) → D.faults disk.old j ≤ D.faults disk.new j }
 {
     let mut number = 0u64;
@@ -172,7 +172,7 @@ fn run_lines<D: SharedDisk>(
     ensures whole { OnOk result (IsWholeRun name.now lines.now items.new.items (IsStart (D.state disk.old) root.now)) }
     ensures other { IfErr result (λ end. IfNotRead end (λ _. (tree : Tree) → IsStart (D.state disk.old) root.now tree → ⊥)) }
     ensures same { D.state disk.new ≡ D.state disk.old }
-    ensures cause { IfErr result (EndHasCause (D.faults disk.old) (D.faults disk.new)) }
+    ensures cause { IfErr result (EndHasCause 1 (D.faults disk.old) (D.faults disk.new)) }
     ensures later { (j : ℕ) → D.faults disk.old j ≤ D.faults disk.new j }
 {
     match put_item(items, TraceItem::Join { node: 1 }) {
@@ -215,7 +215,7 @@ pub fn run_plain<D: SharedDisk>(
     ensures answered { OnOk result (AllAnswered items.new.items script.now) }
     ensures other { IfErr result (λ end. IfNotRead end (λ _. (tree : Tree) → IsStart (D.state disk.old) root.now tree → ⊥)) }
     ensures same { D.state disk.new ≡ D.state disk.old }
-    ensures cause { IfErr result (EndHasCause (D.faults disk.old) (D.faults disk.new)) }
+    ensures cause { IfErr result (EndHasCause 1 (D.faults disk.old) (D.faults disk.new)) }
     ensures later { (j : ℕ) → D.faults disk.old j ≤ D.faults disk.new j }
 {
     let [client] = script.clients.as_slice() else {
