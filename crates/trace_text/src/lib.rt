@@ -7,4 +7,4 @@ mod tests;
 mod text;
 
 pub use item::TraceItem;
-pub use text::{append_item, print};
+pub use text::{append_item, append_lock, append_state, print};

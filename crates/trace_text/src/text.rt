@@ -9,7 +9,8 @@ use glock_names::{LockName, State};
 use std::alloc::Global;
 use text_words::{append, append_decimal, append_number, append_word};
 
-fn append_lock(text: &mut Vec<u8>, lock: &LockName) -> Result<(), NoMemory>
+/// Puts a space and a lock's name at the end: its kind, a slash, and its number.
+pub fn append_lock(text: &mut Vec<u8>, lock: &LockName) -> Result<(), NoMemory>
     ensures { IfOk result (λ _. text.new.items ≡ text.old.items ++ word (lock_text lock.now)) }
 {
     append_number(text, u64::from(lock.kind))?;
@@ -17,7 +18,8 @@ fn append_lock(text: &mut Vec<u8>, lock: &LockName) -> Result<(), NoMemory>
     append_decimal(text, lock.number)
 }
 
-fn append_state(text: &mut Vec<u8>, state: State) -> Result<(), NoMemory>
+/// Puts a space and a state's word at the end.
+pub fn append_state(text: &mut Vec<u8>, state: State) -> Result<(), NoMemory>
     ensures { IfOk result (λ _. text.new.items ≡ text.old.items ++ word (state_text state)) }
 {
     match state {

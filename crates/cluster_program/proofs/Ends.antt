@@ -1,0 +1,54 @@
+-- What a command's end comes from.
+use Rattle.std.proofs.Common.{◌≡◌, ℕ, List, refl, sym, ◌∙◌, subst}
+use Rattle.std.specs.Prelude.{Option}
+use Rattle.shared_disk.specs.Disk.{DiskState}
+use Rattle.trace_text.specs.declared.item.TraceItem.{TraceItem}
+use Rattle.script_lang.specs.Script.{ScriptValue}
+use Rattle.cluster_program.specs.declared.status.Status.{Status}
+use Rattle.cluster_program.specs.declared.status.Status.TheVariants as status
+use Rattle.cluster_program.specs.declared.status.Which.{Which}
+use Rattle.cluster_program.specs.declared.status.Which.TheVariants as which
+use Rattle.cluster_program.specs.World.{Inputs, Outputs}
+use Rattle.cluster_program.specs.Course.{Course, OtherWords, NoScript, RunsScript, LacksScript, SourceFailed, TooLong, OtherLine, RunEnds, IsDone, DiskFailed, NotFlat}
+use Rattle.cluster_program.specs.Course.{NoRoom}
+use Rattle.cluster_program.specs.Report.{Becomes, Stays, WithoutMemory, Fails, Reports}
+use Rattle.cluster_program.specs.Command.{Ends, FaultHasCause}
+
+-- a command that is told to be done is done
+pub done_before : (w : Which) (before now : ℕ) (own told : Status) → Becomes w before now own told → told ≡ status.Done → own ≡ status.Done
+done_before w before now own told (Stays same) is = sym same ∙ is
+done_before w before now own told (WithoutMemory without) is = let both : status.NoMemory ≡ status.Done = sym without ∙ is in cc
+done_before w before now own told (Fails x y not_told fails up) is = let both : status.SinkFault w x y ≡ status.Done = sym fails ∙ is in cc
+
+module _ (given left : Inputs) (sinks sinks_now : Outputs) where
+  script_fault : (own : Status) → LacksScript given.left left.left given.script_faults left.script_faults own → FaultHasCause given left sinks sinks_now own
+  script_fault own (SourceFailed x y up) = up
+  script_fault own (TooLong long) = tt
+  script_fault own (OtherLine text line read) = tt
+  script_fault own NoRoom = tt
+
+  run_fault : (s : ScriptValue) (items : List TraceItem) (own : Status) → RunEnds given.disk given.disk_faults left.disk_faults s items own → FaultHasCause given left sinks sinks_now own
+  run_fault s items own (IsDone all) = tt
+  run_fault s items own (DiskFailed node block x y few up) = up
+  run_fault s items own (NotFlat block other) = tt
+  run_fault s items own NoRoom = tt
+
+  course_fault : (words : List (List ℕ)) (s : ScriptValue) (items : List TraceItem) (own : Status) → Course words given left s items own → FaultHasCause given left sinks sinks_now own
+  course_fault words s items own (OtherWords other untouched) = tt
+  course_fault words s items own (NoScript told is lacks) = script_fault own lacks
+  course_fault words s items own (RunsScript text s' items' own' is read script runs) = run_fault s items own runs.ends
+
+  trace_fault : (own told : Status) → Becomes which.Trace sinks.trace_faults sinks_now.trace_faults own told → FaultHasCause given left sinks sinks_now own → FaultHasCause given left sinks sinks_now told
+  trace_fault own told (Stays same) cause = subst (FaultHasCause given left sinks sinks_now) (sym same) cause
+  trace_fault own told (WithoutMemory without) cause = subst (FaultHasCause given left sinks sinks_now) (sym without) tt
+  trace_fault own told (Fails x y not_told fails up) cause = subst (FaultHasCause given left sinks sinks_now) (sym fails) up
+
+  output_fault : (told answer : Status) → Becomes which.Out sinks.output_faults sinks_now.output_faults told answer → FaultHasCause given left sinks sinks_now told → FaultHasCause given left sinks sinks_now answer
+  output_fault told answer (Stays same) cause = subst (FaultHasCause given left sinks sinks_now) (sym same) cause
+  output_fault told answer (WithoutMemory without) cause = subst (FaultHasCause given left sinks sinks_now) (sym without) tt
+  output_fault told answer (Fails x y not_told fails up) cause = subst (FaultHasCause given left sinks sinks_now) (sym fails) up
+
+  pub fault_has_cause : (words : List (List ℕ)) (s : ScriptValue) (items : List TraceItem) (own answer : Status) → Course words given left s items own
+      → Reports sinks sinks_now s items own answer → FaultHasCause given left sinks sinks_now answer
+  fault_has_cause words s items own answer course report =
+      output_fault report.told answer report.answer_is (trace_fault own report.told report.told_is (course_fault words s items own course))

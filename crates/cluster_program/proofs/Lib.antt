@@ -1,0 +1,10 @@
+pub mod Lines
+pub mod Passing
+pub mod Quiet
+pub mod Runs
+pub mod Scripts
+pub mod Words
+pub mod Courses
+pub mod ClientLines
+pub mod Faults
+pub mod Ends

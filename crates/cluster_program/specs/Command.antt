@@ -1,0 +1,27 @@
+-- What the top call promises.
+use Rattle.std.specs.Prelude.{ℕ, ⊤, List}
+use Rattle.fault_counts.specs.Causes.{WentUp}
+use Rattle.trace_text.specs.declared.item.TraceItem.{TraceItem}
+use Rattle.script_lang.specs.Script.{ScriptValue}
+use Rattle.cluster_program.specs.World.{Inputs, Outputs}
+use Rattle.cluster_program.specs.Report.{Reports}
+use Rattle.cluster_program.specs.Course.{Course}
+use Rattle.cluster_program.specs.declared.status.Status.{Status}
+use Rattle.cluster_program.specs.declared.status.Status.TheVariants as status
+use Rattle.cluster_program.specs.declared.status.Which.TheVariants as which
+
+-- a fault is answered only where the count of what failed rose, from the first number to the second
+abbrev pub FaultHasCause : Inputs → Inputs → Outputs → Outputs → Status → Type 0
+FaultHasCause given left sinks sinks_now (status.DeviceFault node block x y) = WentUp (given.disk_faults node) (left.disk_faults node) x y
+FaultHasCause given left sinks sinks_now (status.ScriptFault x y) = WentUp given.script_faults left.script_faults x y
+FaultHasCause given left sinks sinks_now (status.SinkFault which.Trace x y) = WentUp sinks.trace_faults sinks_now.trace_faults x y
+FaultHasCause given left sinks sinks_now (status.SinkFault which.Out x y) = WentUp sinks.output_faults sinks_now.output_faults x y
+FaultHasCause given left sinks sinks_now _ = ⊤
+
+-- what the words and the script do to what was given, as the items of one run, is told in the trace, the output and the status
+pub record Ends (words : List (List ℕ)) (given left : Inputs) (sinks sinks_now : Outputs) (answer : Status) : Type 0 where
+  pub script : ScriptValue
+  pub items : List TraceItem
+  pub own : Status
+  pub course : Course words given left script items own
+  pub report : Reports sinks sinks_now script items own answer

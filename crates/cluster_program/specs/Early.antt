@@ -1,0 +1,21 @@
+-- What status an early end of a part has.
+use Rattle.std.specs.Prelude.{Some}
+use Rattle.single_node.specs.declared.end.RunEnd.{RunEnd}
+use Rattle.single_node.specs.declared.end.RunEnd.TheVariants as end
+use Rattle.cluster_program.specs.declared.input.InputFault.{InputFault}
+use Rattle.cluster_program.specs.declared.input.InputFault.TheVariants as input
+use Rattle.cluster_program.specs.declared.status.Status.{Status}
+use Rattle.cluster_program.specs.declared.status.Status.TheVariants as status
+use Rattle.cluster_program.specs.declared.status.Part.TheVariants as part
+
+-- of a run
+abbrev pub status_of_end : RunEnd → Status
+status_of_end (end.DiskFailed node block rise) = status.DeviceFault node (Some block) rise.before rise.after
+status_of_end (end.NotRead block) = status.NotBuilt (part.Block block)
+status_of_end end.NoMemory = status.NoMemory
+
+-- of the reading of a script
+abbrev pub status_of_input : InputFault → Status
+status_of_input (input.Fault rise) = status.ScriptFault rise.before rise.after
+status_of_input input.TooLong = status.NotBuilt (part.Script 1)
+status_of_input input.NoMemory = status.NoMemory

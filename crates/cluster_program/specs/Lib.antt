@@ -1,0 +1,11 @@
+pub mod Input
+pub mod World
+pub mod Orders
+pub mod StatusText
+pub mod Out
+pub mod Report
+pub mod Course
+pub mod Command
+pub mod Quiet
+pub mod Early
+pub mod Streams

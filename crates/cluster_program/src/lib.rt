@@ -1,0 +1,16 @@
+//! The top call: what a command does to the disk, prints and answers.
+#![tactic(auto)]
+
+mod input;
+mod output;
+mod places;
+mod report;
+mod run;
+mod script;
+mod status;
+mod status_text;
+mod streams;
+mod top;
+
+pub use status::{Field, Part, Status, Waits, Which};
+pub use top::{Ended, gfs2run, gfs2run_alone};

@@ -1,0 +1,295 @@
+ghost use Rattle.std.specs.Prelude.{◌≡◌, ◌++◌, [], IfOk, OnOk, count_by};
+ghost use Rattle.std.specs.Io.KnownBytes.{Appends};
+ghost use Rattle.stream_io.specs.Streams.{AppendsPrefix};
+ghost use Rattle.text_words.specs.Words.{number};
+ghost use Rattle.cluster_program.specs.StatusText.{ended, status_lines};
+ghost use Rattle.cluster_program.specs.Streams.{PassesOn, PutHasCause};
+ghost use Rattle.cluster_program.specs.Quiet.{IsQuiet};
+ghost use Rattle.cluster_program.specs.Out.{is_call as counts_as_call, is_commit as counts_as_commit, is_stop as counts_as_stop, counts_text, counts_line, answered_line, item_line, answered_lines, all_lines, out_of};
+
+use crate::places::place_of;
+use crate::status::Status;
+use crate::status_text::append_status;
+use crate::streams::{PutFault, pass_on, put_held};
+use file_tree::{Call, Name, Reply, append_call, append_reply};
+use no_memory::NoMemory;
+use script_lang::{Client, Script};
+use std::alloc::Global;
+use stream_io::Sink;
+use text_words::{append, append_number};
+use trace_text::TraceItem;
+
+// An answered line of a client.
+fn append_answered(
+    alloc: Global,
+    text: &mut Vec<u8>,
+    name: &Name,
+    call: &Call,
+    reply: &Reply,
+) -> Result<(), NoMemory>
+    ensures { IfOk result (λ _. text.new.items ≡ text.old.items ++ answered_line name.now call.now reply.now) }
+{
+    append(text, name.bytes())?;
+    append(text, b": ")?;
+    append_call(alloc, text, call)?;
+    append(text, b" = ")?;
+    append_reply(alloc, text, reply)?;
+    append(text, b"\n")
+}
+
+// The line of an item that is a call of this client.
+fn append_item_line(
+    alloc: Global,
+    text: &mut Vec<u8>,
+    clients: &[Client],
+    client: usize,
+    item: &TraceItem,
+) -> Result<(), NoMemory>
+    ensures { IfOk result (λ _. text.new.items ≡ text.old.items ++ item_line clients.now client item.now) }
+{
+    let TraceItem::Call {
+        client: name,
+        call,
+        reply,
+        ..
+    } = item
+    else {
+        return Ok(());
+    };
+    if place_of(clients, name.bytes()) != client {
+        return Ok(());
+    }
+    append_answered(alloc, text, name, call, reply)
+}
+
+// Puts the line of an item that is a call of this client.
+fn put_item_line<T: Sink>(
+    alloc: Global,
+    sink: &mut T,
+    held: &mut Vec<u8>,
+    clients: &[Client],
+    client: usize,
+    item: &TraceItem,
+) -> Result<(), PutFault>
+    ensures bytes { PassesOn (T.contents sink.old) (T.contents sink.new) held.old.items held.new.items result (item_line clients.now client item.now) }
+    ensures cause { PutHasCause (T.faults sink.old) (T.faults sink.new) result }
+{
+    match append_item_line(alloc, held, clients, client, item) {
+        Ok(()) => pass_on(sink, held),
+        Err(_) => Err(PutFault::NoMemory),
+    }
+}
+
+// Puts the answered lines of a client.
+fn put_answered_lines<T: Sink>(
+    alloc: Global,
+    sink: &mut T,
+    held: &mut Vec<u8>,
+    clients: &[Client],
+    client: usize,
+    items: &[TraceItem],
+) -> Result<(), PutFault>
+    ensures bytes { PassesOn (T.contents sink.old) (T.contents sink.new) held.old.items held.new.items result (answered_lines clients.now client items.now) }
+    ensures cause { PutHasCause (T.faults sink.old) (T.faults sink.new) result }
+{
+    let mut rest = items;
+    while let [item, behind @ ..] = rest {
+        match put_item_line(alloc, sink, held, clients, client, item) {
+            Ok(()) => rest = behind,
+            Err(fault) => return Err(fault),
+        }
+    }
+    Ok(())
+}
+
+// Puts the lines of all clients of a run in which no node stops.
+fn put_all_lines<T: Sink>(
+    alloc: Global,
+    sink: &mut T,
+    held: &mut Vec<u8>,
+    script: &Script,
+    items: &[TraceItem],
+    told: &Status,
+) -> Result<(), PutFault>
+    requires quiet { IsQuiet script.now items.now told.now }
+    ensures bytes { PassesOn (T.contents sink.old) (T.contents sink.new) held.old.items held.new.items result
+        (all_lines script.now items.now told.now 0 script.now.clients) }
+    ensures cause { PutHasCause (T.faults sink.old) (T.faults sink.new) result }
+{
+    let mut place = 0;
+    let mut rest = script.clients.as_slice();
+    while let [_, behind @ ..] = rest {
+        match put_answered_lines(alloc, sink, held, &script.clients, place, items) {
+            Ok(()) => {}
+            Err(fault) => return Err(fault),
+        }
+        place += 1;
+        rest = behind;
+    }
+    Ok(())
+}
+
+fn append_count(text: &mut Vec<u8>, word: &[u8], count: u64) -> Result<(), NoMemory>
+    ensures { IfOk result (λ _. text.new.items ≡ text.old.items ++ (word.now ++ number count)) }
+{
+    append(text, word)?;
+    append_number(text, count)
+}
+
+/// What the items of a run come to.
+#[derive(Clone, Copy, Debug)]
+struct Tally {
+    calls: u64,
+    lost: u64,
+    commits: u64,
+    crashes: u64,
+    dirty: u64,
+}
+
+fn append_tally(text: &mut Vec<u8>, tally: Tally) -> Result<(), NoMemory>
+    ensures { IfOk result (λ _. text.new.items ≡ text.old.items ++ counts_text tally.calls tally.lost tally.commits tally.crashes tally.dirty) }
+{
+    append_count(text, b"calls", tally.calls)?;
+    append_count(text, b" lost", tally.lost)?;
+    append_count(text, b" commits", tally.commits)?;
+    append_count(text, b" crashes", tally.crashes)?;
+    append_count(text, b" dirty", tally.dirty)
+}
+
+fn is_call(item: &TraceItem) -> bool
+    ensures { result ≡ counts_as_call item.now }
+{
+    matches!(item, TraceItem::Call { .. })
+}
+
+fn is_commit(item: &TraceItem) -> bool
+    ensures { result ≡ counts_as_commit item.now }
+{
+    matches!(item, TraceItem::Commit { .. })
+}
+
+fn is_stop(item: &TraceItem) -> bool
+    ensures { result ≡ counts_as_stop item.now }
+{
+    matches!(item, TraceItem::Crash { .. } | TraceItem::Withdraw { .. })
+}
+
+// How many calls, commits and stops of nodes there are among the items.
+fn counts_of(items: &[TraceItem]) -> (u64, u64, u64)
+    ensures calls { result.0 ≡ count_by counts_as_call items.now }
+    ensures commits { result.1 ≡ count_by counts_as_commit items.now }
+    ensures stops { result.2 ≡ count_by counts_as_stop items.now }
+{
+    let mut calls = 0u64;
+    let mut commits = 0u64;
+    let mut stops = 0u64;
+    for item in items {
+        calls += u64::from(is_call(item));
+        commits += u64::from(is_commit(item));
+        stops += u64::from(is_stop(item));
+    }
+    (calls, commits, stops)
+}
+
+// The counts of a run in which nothing is lost and no journal is written.
+fn append_counts(
+    text: &mut Vec<u8>,
+    script: &Script,
+    items: &[TraceItem],
+    told: &Status,
+) -> Result<(), NoMemory>
+    requires quiet { IsQuiet script.now items.now told.now }
+    ensures { IfOk result (λ _. text.new.items ≡ text.old.items ++ counts_line script.now items.now 0) }
+{
+    let (calls, commits, crashes) = counts_of(items);
+    let tally = Tally {
+        calls,
+        lost: 0,
+        commits,
+        crashes,
+        dirty: 0,
+    };
+    append_tally(text, tally)?;
+    append(text, b"\n")
+}
+
+// Puts the counts and the status at the end of what is held.
+fn append_end(
+    text: &mut Vec<u8>,
+    script: &Script,
+    items: &[TraceItem],
+    told: &Status,
+) -> Result<(), NoMemory>
+    requires quiet { IsQuiet script.now items.now told.now }
+    ensures { IfOk result (λ _. text.new.items ≡ text.old.items ++ (counts_line script.now items.now 0 ++ status_lines script.now.clients told.now)) }
+{
+    append_counts(text, script, items, told)?;
+    append_status(text, &script.clients, told)
+}
+
+// Puts the lines of a run that has items.
+fn put_run<T: Sink>(
+    alloc: Global,
+    sink: &mut T,
+    held: &mut Vec<u8>,
+    script: &Script,
+    items: &[TraceItem],
+    told: &Status,
+) -> Result<(), PutFault>
+    requires quiet { IsQuiet script.now items.now told.now }
+    ensures bytes { PassesOn (T.contents sink.old) (T.contents sink.new) held.old.items held.new.items result
+        (all_lines script.now items.now told.now 0 script.now.clients ++ (counts_line script.now items.now 0 ++ status_lines script.now.clients told.now)) }
+    ensures cause { PutHasCause (T.faults sink.old) (T.faults sink.new) result }
+{
+    match put_all_lines(alloc, sink, held, script, items, told) {
+        Ok(()) => {}
+        Err(fault) => return Err(fault),
+    }
+    match append_end(held, script, items, told) {
+        Ok(()) => Ok(()),
+        Err(_) => Err(PutFault::NoMemory),
+    }
+}
+
+// Puts the lines of a run; of one without items, the status alone.
+fn put_lines<T: Sink>(
+    alloc: Global,
+    sink: &mut T,
+    held: &mut Vec<u8>,
+    script: &Script,
+    items: &[TraceItem],
+    told: &Status,
+) -> Result<(), PutFault>
+    requires quiet { IsQuiet script.now items.now told.now }
+    ensures bytes { PassesOn (T.contents sink.old) (T.contents sink.new) held.old.items held.new.items result
+        (out_of script.now items.now told.now 0) }
+    ensures cause { PutHasCause (T.faults sink.old) (T.faults sink.new) result }
+{
+    if !items.is_empty() {
+        return put_run(alloc, sink, held, script, items, told);
+    }
+    match append_status(held, &script.clients, told) {
+        Ok(()) => Ok(()),
+        Err(_) => Err(PutFault::NoMemory),
+    }
+}
+
+/// Puts what a run prints for its clients. It holds a chunk of it, and goes over the items once for each client.
+pub(crate) fn put_out<T: Sink>(
+    alloc: Global,
+    sink: &mut T,
+    script: &Script,
+    items: &[TraceItem],
+    told: &Status,
+) -> Result<(), PutFault>
+    requires quiet { IsQuiet script.now items.now told.now }
+    ensures all { OnOk result (Appends (T.contents sink.old) (T.contents sink.new) (out_of script.now items.now told.now 0)) }
+    ensures front { AppendsPrefix (T.contents sink.old) (T.contents sink.new) (out_of script.now items.now told.now 0) }
+    ensures cause { PutHasCause (T.faults sink.old) (T.faults sink.new) result }
+{
+    let mut held = Vec::new(alloc);
+    match put_lines(alloc, sink, &mut held, script, items, told) {
+        Ok(()) => put_held(sink, &mut held),
+        Err(fault) => Err(fault),
+    }
+}

@@ -1,0 +1,58 @@
+ghost use Rattle.std.specs.Prelude.{◌≡◌, ◌≤◌, ℕ, []};
+ghost use Rattle.shared_disk.specs.Disk.{IsIdle};
+ghost use Rattle.single_node.specs.Flat.{IsBlockSize};
+ghost use Rattle.script_lang.specs.Plain.{IsPlain};
+ghost use Rattle.cluster_program.specs.Course.{Runs};
+ghost use Rattle.cluster_program.specs.Quiet.{IsQuiet};
+ghost use Rattle.cluster_program.specs.Early.{status_of_end};
+
+use crate::status::{Part, Status};
+use script_lang::Script;
+use shared_disk::SharedDisk;
+use single_node::{RunEnd, read_root, run_plain};
+use std::alloc::Global;
+use trace_text::TraceItem;
+
+// How a command ends whose run ended early.
+fn early(end: RunEnd) -> Status
+    ensures { result ≡ status_of_end end }
+{
+    match end {
+        RunEnd::DiskFailed { node, block, rise } => Status::DeviceFault {
+            node,
+            block: Some(block),
+            before: rise.before,
+            after: rise.after,
+        },
+        RunEnd::NotRead { block } => Status::NotBuilt {
+            part: Part::Block { block },
+        },
+        RunEnd::NoMemory => Status::NoMemory,
+    }
+}
+
+/// Mounts the image and runs a script on it. The items go behind `items`, which is empty.
+pub(crate) fn run_script<D: SharedDisk>(
+    alloc: Global,
+    disk: &mut D,
+    script: &Script,
+    items: &mut Vec<TraceItem>,
+) -> Status
+    requires idle { IsIdle (D.state disk.old) }
+    requires size { IsBlockSize (D.state disk.old).size }
+    requires plain { IsPlain script.now }
+    requires none { items.old.items ≡ [] }
+    ensures runs { Runs (D.state disk.old) (D.state disk.new) (D.faults disk.old) (D.faults disk.new) script.now items.new.items result }
+    ensures quiet { (told : Status) → (told ≡ Status.Done → result ≡ Status.Done) → IsQuiet script.now items.new.items told }
+    ensures same { D.state disk.new ≡ D.state disk.old }
+    ensures later { (j : ℕ) → D.faults disk.old j ≤ D.faults disk.new j }
+{
+    let root = match read_root(alloc, disk) {
+        Ok(root) => root,
+        Err(end) => return early(end),
+    };
+    match run_plain(alloc, disk, &root, script, items) {
+        Ok(()) => Status::Done,
+        Err(end) => early(end),
+    }
+}

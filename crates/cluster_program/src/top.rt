@@ -1,0 +1,159 @@
+ghost use Rattle.std.specs.Prelude.{◌≡◌, ◌≤◌, ◌↔◌, ℕ, [], IsTrue, map, string_bytes};
+ghost use Rattle.shared_disk.specs.Disk.{IsIdle};
+ghost use Rattle.script_lang.specs.Grammar.{nothing};
+ghost use Rattle.single_node.specs.Flat.{IsBlockSize};
+ghost use Rattle.cluster_program.specs.World.{inputs, outputs};
+ghost use Rattle.cluster_program.specs.Course.{IsRun, Course};
+ghost use Rattle.cluster_program.specs.Report.{IsSinkFault};
+ghost use Rattle.cluster_program.specs.Command.{Ends, FaultHasCause};
+ghost use Rattle.cluster_program.specs.Quiet.{IsQuiet};
+
+use crate::report::report;
+use crate::run::run_script;
+use crate::script::read_script;
+use crate::status::{Part, Status};
+use script_lang::Script;
+use shared_disk::SharedDisk;
+use std::alloc::Global;
+use std::sync::Wait;
+use std::thread::Threads;
+use stream_io::{Gate, Sink, Source};
+use trace_text::TraceItem;
+
+/// How a command ended, and the disk that it was given.
+pub struct Ended<D> {
+    pub status: Status,
+    pub disk: D,
+}
+
+// Whether the words are the one word `run`.
+fn is_run(words: &[String]) -> bool
+    ensures { IsTrue result ↔ IsRun (map string_bytes words.now) }
+{
+    words.len() == 1 && words[0].as_str() == "run"
+}
+
+// A command that was carried out: the script that it ran, without anything in it where it ran none, and its end.
+#[derive(Drop)]
+struct Carried {
+    script: Script,
+    own: Status,
+}
+
+// The end of a command that ran no script.
+fn without_script(alloc: Global, own: Status) -> Carried
+    ensures script { result.script ≡ nothing }
+    ensures own { result.own ≡ own }
+{
+    let script = Script {
+        nodes: 0,
+        clients: Vec::new(alloc),
+        armed: Vec::new(alloc),
+        lines: Vec::new(alloc),
+    };
+    Carried { script, own }
+}
+
+// Carries a command out. The items go behind `items`, which is empty.
+fn carry_out<D: SharedDisk, S: Source>(
+    alloc: Global,
+    words: &[String],
+    disk: &mut D,
+    source: &mut S,
+    items: &mut Vec<TraceItem>,
+) -> Carried
+    requires size { IsBlockSize (D.state disk.old).size }
+    requires idle { IsIdle (D.state disk.old) }
+    requires none { items.old.items ≡ [] }
+    ensures course { Course (map string_bytes words.now)
+        (inputs (D.state disk.old) (D.faults disk.old) (S.left source.old) (S.faults source.old))
+        (inputs (D.state disk.new) (D.faults disk.new) (S.left source.new) (S.faults source.new))
+        result.script items.new.items result.own }
+    ensures own { IsSinkFault result.own → ⊥ }
+    ensures quiet { (told : Status) → (told ≡ Status.Done → result.own ≡ Status.Done) → IsQuiet result.script items.new.items told }
+    ensures same { D.state disk.new ≡ D.state disk.old }
+    ensures later { ((j : ℕ) → D.faults disk.old j ≤ D.faults disk.new j) × (S.faults source.old ≤ S.faults source.new) }
+{
+    if !is_run(words) {
+        return without_script(alloc, Status::NotBuilt { part: Part::Words });
+    }
+    let script = match read_script(alloc, source) {
+        Ok(script) => script,
+        Err(own) => return without_script(alloc, own),
+    };
+    let own = run_script(alloc, disk, &script, items);
+    Carried { script, own }
+}
+
+/// Carries out the command that these words are, on this disk, and writes its trace and its output. Today it is the
+/// one word `run`: it reads a script from `script`, runs it on the image, and tells each client's replies. It waits
+/// for nobody. It costs memory for the script and the items, a read of a block for each line that reads a file, and
+/// a pass over the items for each client.
+pub fn gfs2run_alone<D: SharedDisk, S: Source, O: Sink, T: Sink>(
+    alloc: Global,
+    words: &[String],
+    disk: D,
+    script: &mut S,
+    out: &mut O,
+    trace: &mut T,
+) -> Ended<D>
+    requires size { IsBlockSize (D.state disk).size }
+    requires idle { IsIdle (D.state disk) }
+    ensures ends { Ends (map string_bytes words.now)
+        (inputs (D.state disk) (D.faults disk) (S.left script.old) (S.faults script.old))
+        (inputs (D.state result.disk) (D.faults result.disk) (S.left script.new) (S.faults script.new))
+        (outputs (T.contents trace.old) (T.faults trace.old) (O.contents out.old) (O.faults out.old))
+        (outputs (T.contents trace.new) (T.faults trace.new) (O.contents out.new) (O.faults out.new))
+        result.status }
+    ensures fault { FaultHasCause
+        (inputs (D.state disk) (D.faults disk) (S.left script.old) (S.faults script.old))
+        (inputs (D.state result.disk) (D.faults result.disk) (S.left script.new) (S.faults script.new))
+        (outputs (T.contents trace.old) (T.faults trace.old) (O.contents out.old) (O.faults out.old))
+        (outputs (T.contents trace.new) (T.faults trace.new) (O.contents out.new) (O.faults out.new))
+        result.status }
+    ensures same { D.state result.disk ≡ D.state disk }
+{
+    let mut disk = disk;
+    let mut items = Vec::new(alloc);
+    let Carried { script, own } = carry_out(alloc, words, &mut disk, script, &mut items);
+    let status = report(alloc, trace, out, &script, &items, own);
+    Ended { status, disk }
+}
+
+/// The same for every command, on threads where it has several workers. Today no command has: each is carried out
+/// as `gfs2run_alone` does it, and nobody waits at the gate.
+pub fn gfs2run<
+    R: Threads + Wait + Sync,
+    D: SharedDisk + Send,
+    S: Source,
+    O: Sink,
+    T: Sink,
+    G: Gate + Sync,
+>(
+    _rt: &R,
+    alloc: Global,
+    words: &[String],
+    disk: D,
+    script: &mut S,
+    out: &mut O,
+    trace: &mut T,
+    _gate: &G,
+) -> Ended<D>
+    requires size { IsBlockSize (D.state disk).size }
+    requires idle { IsIdle (D.state disk) }
+    ensures ends { Ends (map string_bytes words.now)
+        (inputs (D.state disk) (D.faults disk) (S.left script.old) (S.faults script.old))
+        (inputs (D.state result.disk) (D.faults result.disk) (S.left script.new) (S.faults script.new))
+        (outputs (T.contents trace.old) (T.faults trace.old) (O.contents out.old) (O.faults out.old))
+        (outputs (T.contents trace.new) (T.faults trace.new) (O.contents out.new) (O.faults out.new))
+        result.status }
+    ensures fault { FaultHasCause
+        (inputs (D.state disk) (D.faults disk) (S.left script.old) (S.faults script.old))
+        (inputs (D.state result.disk) (D.faults result.disk) (S.left script.new) (S.faults script.new))
+        (outputs (T.contents trace.old) (T.faults trace.old) (O.contents out.old) (O.faults out.old))
+        (outputs (T.contents trace.new) (T.faults trace.new) (O.contents out.new) (O.faults out.new))
+        result.status }
+    ensures same { D.state result.disk ≡ D.state disk }
+{
+    gfs2run_alone(alloc, words, disk, script, out, trace)
+}
