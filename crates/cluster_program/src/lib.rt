@@ -10,6 +10,8 @@ mod script;
 mod status;
 mod status_text;
 mod streams;
+#[cfg(test)]
+mod tests;
 mod top;
 
 pub use status::{Field, Part, Status, Waits, Which};

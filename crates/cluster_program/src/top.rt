@@ -21,6 +21,7 @@ use stream_io::{Gate, Sink, Source};
 use trace_text::TraceItem;
 
 /// How a command ended, and the disk that it was given.
+#[derive(Drop)]
 pub struct Ended<D> {
     pub status: Status,
     pub disk: D,
