@@ -72,13 +72,6 @@ module _ (d : DiskState) (tree : Tree) (root : List ℕ) (flat : IsFlat d tree) 
   pub read_whole : (path : List (List ℕ)) → path ≡ [] → reply.IsDir ≡ read_reply (walk tree path) at count
   read_whole path none = sym (ap (λ (w : Walked). read_reply w at count) (walk_root d tree root flat has path none))
 
-  -- the file that a name leads to is read
-  pub file_is_there : (name : List ℕ) (s : Slot) (address : ℕ) → IsName name → first_named name (slots_of (stuffed_part root)) ≡ Some s → address ≡ s.head.inum.address
-      → (IsTrue d.tells → address < d.count → IsStuffedFile d.size address (d.block_at address) → ⊥) → ⊥
-  file_is_there name s address is found there lacks =
-      let lead = leads d tree root flat has name s is found in
-      lacks flat.tells (subst (λ (a : ℕ). a < d.count) (sym there) lead.inside) (subst (λ (a : ℕ). IsStuffedFile d.size a (d.block_at a)) (sym there) lead.file)
-
 -- ---- the replies of a list
 
 module _ (d : DiskState) (tree : Tree) (root : List ℕ) (flat : IsFlat d tree) (has : HasFlatRoot d root) where
