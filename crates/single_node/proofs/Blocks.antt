@@ -1,6 +1,6 @@
 -- The blocks that calls read and refuse.
-use Rattle.std.proofs.Common.{◌≡◌, ℕ, zero, suc, ◌<◌, List, [], ◌∷◌, length, get_or, Some, refl, sym, ap, ◌∙◌, subst, arith}
-use Rattle.std.specs.Prelude.{IsTrue, slice_get}
+use Rattle.std.proofs.Common.{◌≡◌, ℕ, ◌<◌, List, [], ◌∷◌, length, get_or, Some, sym, ap, ◌∙◌, subst}
+use Rattle.std.specs.Prelude.{IsTrue}
 use Rattle.std.specs.List.{AllByRecursion}
 use Rattle.std.proofs.lemmas.Option.{slice_get-get_or}
 use Rattle.file_tree.specs.Tree.{Tree}
@@ -8,13 +8,12 @@ use Rattle.file_tree.specs.declared.call.Call.{Call}
 use Rattle.file_tree.specs.declared.call.Call.TheVariants as calls
 use Rattle.file_tree.specs.Names.{IsName}
 use Rattle.gfs2_layout.specs.Structures.{dinode_of}
-use Rattle.gfs2_layout.specs.Area.{Slot, slots_of, first_named, has_name}
+use Rattle.gfs2_layout.specs.Area.{Slot, slots_of, first_named}
 use Rattle.script_lang.specs.declared.script.Line.{Line}
 use Rattle.script_lang.specs.declared.script.Line.TheVariants as line
-use Rattle.script_lang.specs.Plain.{IsPlainCall}
 use Rattle.shared_disk.specs.Disk.{DiskState}
 use Rattle.single_node.specs.Blocks.{MountRefuses, BadSuperBlock, BadRoot, CallReads, CallRefuses, BadFile, BadName, IsCallThat, HasCallThat}
-use Rattle.single_node.specs.Flat.{IsFlat, HasFlatRoot, HasFile, HasItsFileName, HasSuperBlock, LacksFlatRoot, IsStart, LeadsToFile, names_a_file, stuffed_part, root_of, root_slots}
+use Rattle.single_node.specs.Flat.{HasFlatRoot, HasFile, HasItsFileName, LacksFlatRoot, IsStart, stuffed_part, root_of}
 use Rattle.single_node.specs.Ends.{IfNotRead, IfDiskFailed}
 use Rattle.single_node.specs.declared.end.RunEnd.{RunEnd}
 use Rattle.single_node.proofs.Ends.{not_read_weaker, disk_failed_weaker}

@@ -1,5 +1,5 @@
 -- The calls of a client among lines, and among the lines' fronts.
-use Rattle.std.proofs.Common.{◌≡◌, ◌⊎◌, ℕ, zero, suc, ◌+◌, ◌<◌, ◌≤◌, Bool, true, false, List, [], ◌∷◌, ◌++◌, length, take, drop, get_or, cond, map, Option, Some, None, inl, inr, refl, sym, ap, ◌∙◌, subst, arith, length-append, length-take}
+use Rattle.std.proofs.Common.{◌≡◌, ℕ, zero, suc, ◌<◌, ◌≤◌, Bool, true, false, List, [], ◌∷◌, ◌++◌, length, take, drop, cond, map, Option, Some, None, inl, inr, refl, sym, ap, ◌∙◌, subst, arith, length-take}
 use Rattle.std.specs.Prelude.{slice_get}
 use Rattle.std.specs.List.{AllByRecursion, filter}
 use Rattle.std.proofs.lemmas.Bool.{cases_lt}
@@ -57,11 +57,6 @@ pub all_at : {A : Type 0} (P : A → Type 0) (xs : List A) (p : ℕ) (x : A) →
 all_at P [] p x all at = cc
 all_at P (y ∷ ys) zero x all at = let same : y ≡ x = cc in subst P same all.0
 all_at P (y ∷ ys) (suc p) x all at = all_at P ys p x all.1 at
-
-pub all_index : {A : Type 0} (P : A → Type 0) (xs : List A) (i : ℕ) (d : A) → AllByRecursion P xs → i < length xs → P (get_or xs i d)
-all_index P [] i d all below = absurd (omega (arith, below))
-all_index P (x ∷ xs) zero d all below = all.0
-all_index P (x ∷ xs) (suc i) d all below = all_index P xs i d all.1 (omega (arith, below))
 
 -- ---- the calls of a client
 

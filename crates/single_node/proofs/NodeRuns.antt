@@ -1,5 +1,5 @@
 -- What the items of one node that takes a script's lines one by one owe to the script.
-use Rattle.std.proofs.Common.{◌≡◌, ◌⊎◌, ℕ, zero, suc, ◌+◌, ◌-◌, ◌<◌, ◌≤◌, min, Bool, true, false, List, [], ◌∷◌, ◌++◌, length, take, drop, get_or, map, Option, Some, None, inl, inr, refl, sym, ap, ◌∙◌, subst, arith, length-append}
+use Rattle.std.proofs.Common.{◌≡◌, ◌⊎◌, ℕ, zero, suc, ◌+◌, ◌<◌, ◌≤◌, Bool, true, false, List, [], ◌∷◌, ◌++◌, length, take, map, Some, None, inl, inr, refl, sym, ap, ◌∙◌, subst, arith, length-append}
 use Rattle.std.specs.Prelude.{slice_get, ◌==◌, if◌then◌else◌}
 use Rattle.std.specs.List.{AllByRecursion, filter}
 use Rattle.std.proofs.lemmas.Bool.{cases_lt}
@@ -20,12 +20,13 @@ use Rattle.script_lang.specs.declared.script.Line.{Line}
 use Rattle.script_lang.specs.declared.script.Line.TheVariants as line
 use Rattle.script_lang.specs.Script.{ScriptValue, call_by, calls_by}
 use Rattle.script_lang.specs.OneNode.{IsOneNode, IsOneNodeLine, HaveOwnClientNames}
-use Rattle.run_rules.specs.Follows.{Follows, ByLine, place_of, history_of, call_items, above, answered, IsAfterAbove, IsBarrierLine, IsOrderLine, IsOnItsNode}
+use Rattle.run_rules.specs.Follows.{Follows, ByLine, history_of, call_items, above, answered, IsAfterAbove, IsOrderLine, IsOnItsNode}
 use Rattle.run_rules.specs.History.{HoldsHistory, NoneStopped, AllAnswered}
 use Rattle.run_rules.proofs.Nothing.{nothing_follows}
-use Rattle.single_node.specs.Run.{AnsweredCall, its_line, is_call_line, name_at, items_from, IsLineOf, IsReadOnly, IsRunUpTo, IsWholeRun, IsRunOf, NotJoined, Taken, Unmounted}
-use Rattle.single_node.proofs.Calls.{take_front, take_past, filter_front, all_take, all_filter, all_map, all_at, calls_of_filter, calls_front, calls_rise, calls_within}
+use Rattle.single_node.specs.Run.{AnsweredCall, its_line, is_call_line, name_at, items_from, IsReadOnly, IsRunUpTo, IsWholeRun, IsRunOf, NotJoined, Taken, Unmounted}
+use Rattle.single_node.proofs.Calls.{take_front, filter_front, all_take, all_filter, all_map, all_at, calls_of_filter, calls_front, calls_rise, calls_within}
 use Rattle.single_node.proofs.Clients.{place_is, client_at}
+use Rattle.single_node.proofs.Steps.{as_many}
 
 -- ---- the items: node 1 joins, answers calls of its clients, and may unmount
 
@@ -95,11 +96,7 @@ module _ (clients : List Client) (own : HaveOwnClientNames clients) where
     calls_in rs end of is =
         let later = items_from clients 1 rs ++ end in
         ap (call_items clients client) (sym (take_all (length later) later (omega arith))) ∙ calls_up_to 1 (length later) rs end of is
-        ∙ ap (calls_by client) (take_all (length later) (map its_line rs) (omega (arith, length-append (items_from clients 1 rs) end, as_many 1 rs, length-map rs its_line)))
-      where
-        as_many : (n : ℕ) (rs : List AnsweredCall) → length (items_from clients n rs) ≡ length rs
-        as_many n [] = refl
-        as_many n (r ∷ rs) = ap suc (as_many (n + 1) rs)
+        ∙ ap (calls_by client) (take_all (length later) (map its_line rs) (omega (arith, length-append (items_from clients 1 rs) end, as_many clients 1 rs, length-map rs its_line)))
 
 none_lost : (n : ℕ) (rs : List AnsweredCall) → NoneLost (calls_from n rs)
 none_lost n [] = tt

@@ -1,6 +1,6 @@
 -- A script's lines, taken one after another.
-use Rattle.std.proofs.Common.{◌≡◌, ℕ, suc, ◌+◌, ◌<◌, Bool, true, List, [], ◌∷◌, ◌++◌, length, take, get_or, cond, map, refl, sym, ap, ◌∙◌, subst, arith}
-use Rattle.std.specs.List.{AllByRecursion, filter}
+use Rattle.std.proofs.Common.{◌≡◌, ℕ, suc, ◌+◌, ◌<◌, List, [], ◌∷◌, ◌++◌, length, take, get_or, cond, refl, sym, ap, ◌∙◌, subst, arith}
+use Rattle.std.specs.List.{filter}
 use Rattle.std.proofs.lemmas.List.{append-nil, map_push}
 use Rattle.std.proofs.lemmas.List.Elements.{filter_more}
 use Rattle.file_tree.specs.Tree.{Tree}
@@ -48,7 +48,7 @@ items_more clients n (s ∷ rs) r =
     ap (λ (is : List TraceItem). trace.Call 1 (name_at clients s.client) n s.call s.reply ∷ is)
     (items_more clients (n + 1) rs r ∙ ap (λ (m : ℕ). items_from clients (n + 1) rs ++ trace.Call 1 (name_at clients r.client) m r.call r.reply ∷ []) same)
 
-as_many : (clients : List Client) (n : ℕ) (rs : List AnsweredCall) → length (items_from clients n rs) ≡ length rs
+pub as_many : (clients : List Client) (n : ℕ) (rs : List AnsweredCall) → length (items_from clients n rs) ≡ length rs
 as_many clients n [] = refl
 as_many clients n (r ∷ rs) = ap suc (as_many clients (n + 1) rs)
 

@@ -1,10 +1,7 @@
-use Rattle.std.proofs.Common.{ℕ, List, ap, sym, ◌∙◌, subst}
+use Rattle.std.proofs.Common.{sym, subst}
 use Rattle.std.specs.Prelude.{IsTrue}
-use Rattle.script_lang.specs.declared.script.Client.{Client}
-use Rattle.script_lang.specs.declared.script.Line.{Line}
 use Rattle.single_node.specs.Blocks.{CallRefuses, IsCallThat}
 use Rattle.single_node.specs.Flat.{HasFlatRoot, IsStart}
-use Rattle.single_node.specs.Run.{IsTaken}
 use Rattle.single_node.proofs.Ends.{not_read_weaker}
 use Rattle.single_node.proofs.Steps.{Reads, call_taken}
 use Rattle.single_node.proofs.run.take_line.Goals as goal

@@ -1,4 +1,4 @@
-use Rattle.std.proofs.Common.{◌≡◌, ◌+◌, refl, sym, ap, ◌∙◌, List, subst, arith}
+use Rattle.std.proofs.Common.{refl, sym, ◌∙◌, List, subst, arith}
 use Rattle.trace_text.specs.declared.item.TraceItem.{TraceItem}
 use Rattle.single_node.specs.Flat.{IsStart}
 use Rattle.single_node.specs.Run.{IsRunUpTo}
