@@ -9,11 +9,14 @@ use Rattle.file_tree.specs.declared.call.Call.TheVariants as calls
 use Rattle.file_tree.specs.Names.{IsName}
 use Rattle.gfs2_layout.specs.Structures.{dinode_of}
 use Rattle.gfs2_layout.specs.Area.{Slot, slots_of, first_named}
+use Rattle.script_lang.specs.declared.script.Client.{Client}
 use Rattle.script_lang.specs.declared.script.Line.{Line}
 use Rattle.script_lang.specs.declared.script.Line.TheVariants as line
 use Rattle.shared_disk.specs.Disk.{DiskState}
-use Rattle.single_node.specs.Blocks.{MountRefuses, BadSuperBlock, BadRoot, CallReads, CallRefuses, BadFile, BadName, IsCallThat, HasCallThat}
+use Rattle.single_node.specs.Blocks.{MountRefuses, BadSuperBlock, BadRoot, CallReads, CallRefuses, BadFile, BadName, IsCallThat, EndsAtCall}
 use Rattle.single_node.specs.Flat.{HasFlatRoot, HasFile, HasItsFileName, LacksFlatRoot, IsStart, stuffed_part, root_of}
+use Rattle.trace_text.specs.declared.item.TraceItem.{TraceItem}
+use Rattle.single_node.specs.Run.{IsRunUpTo}
 use Rattle.single_node.specs.Ends.{IfNotRead, IfDiskFailed}
 use Rattle.single_node.specs.declared.end.RunEnd.{RunEnd}
 use Rattle.single_node.proofs.Ends.{not_read_weaker, disk_failed_weaker}
@@ -58,25 +61,31 @@ none_of_line d root block tree line.Wait start refuses = refuses
 none_of_line d root block tree (line.Crash nodes) start refuses = refuses
 none_of_line d root block tree (line.Join node) start refuses = refuses
 
-pub none_of_lines : (d : DiskState) (root : List ℕ) (lines : List Line) (block : ℕ)
-    → (IsTrue d.tells → HasFlatRoot d root → HasCallThat (λ call. CallRefuses d root call block) lines) → (tree : Tree) → IsStart d root tree → ⊥
-none_of_lines d root lines block refuses tree start =
-    let there = refuses start.flat.tells start.begins in none_of_line d root block tree there.at_place start there.holds
+pub none_of_lines : (d : DiskState) (root : List ℕ) (clients : List Client) (lines : List Line) (items : List TraceItem) (block : ℕ)
+    → (IsTrue d.tells → HasFlatRoot d root → EndsAtCall (λ call. CallRefuses d root call block) clients lines items (IsStart d root)) → (tree : Tree) → IsStart d root tree → ⊥
+none_of_lines d root clients lines items block refuses tree start =
+    let there = refuses start.flat.tells start.begins in none_of_line d root block tree there.next start there.holds
 
--- ---- calls among lines
+-- ---- a run that ends at a call
 
-pub call_at : (P : Call → Type 0) (lines : List Line) (i : ℕ) (l d : Line) → i < length lines → l ≡ get_or lines i d → IsCallThat P l → HasCallThat P lines
-call_at P lines i l d below is holds = record { place = i; at_place = l; is_there = slice_get-get_or lines i d below ∙ ap (λ (m : Line). Some m) (sym is); holds = holds }
+module _ (now before : DiskState) (root : List ℕ) (clients : List Client) (lines : List Line) (i : ℕ) (l d : Line) (items more : List TraceItem) (end : RunEnd) (same : now ≡ before) (below : i < length lines) (is : l ≡ get_or lines i d)
+    (so : IsRunUpTo clients lines i items (IsStart before root)) (kept : more ≡ items) where
+  ends_at : (P : Call → Type 0) → IsCallThat P l → EndsAtCall P clients lines more (IsStart before root)
+  ends_at P holds = record {
+    count = i;
+    taken = subst (λ (is : List TraceItem). IsRunUpTo clients lines i is (IsStart before root)) (sym kept) so;
+    next = l;
+    is_next = slice_get-get_or lines i d below ∙ ap (λ (m : Line). Some m) (sym is);
+    holds = holds;
+  }
 
--- what the end at a line says of the lines
-module _ (now before : DiskState) (root : List ℕ) (lines : List Line) (i : ℕ) (l d : Line) (same : now ≡ before) (below : i < length lines) (is : l ≡ get_or lines i d) (end : RunEnd) where
   pub refused_at : IfNotRead end (λ b. IsTrue now.tells → HasFlatRoot now root → IsCallThat (λ call. CallRefuses now root call b) l)
-      → IfNotRead end (λ b. IsTrue before.tells → HasFlatRoot before root → HasCallThat (λ call. CallRefuses before root call b) lines)
+      → IfNotRead end (λ b. IsTrue before.tells → HasFlatRoot before root → EndsAtCall (λ call. CallRefuses before root call b) clients lines more (IsStart before root))
   refused_at refused =
-      not_read_weaker {Q = λ b. IsTrue before.tells → HasFlatRoot before root → HasCallThat (λ call. CallRefuses before root call b) lines} end
-      (λ b here tells has. call_at (λ call. CallRefuses before root call b) lines i l d below is (here tells has))
+      not_read_weaker {Q = λ b. IsTrue before.tells → HasFlatRoot before root → EndsAtCall (λ call. CallRefuses before root call b) clients lines more (IsStart before root)} end
+      (λ b here tells has. ends_at (λ call. CallRefuses before root call b) (here tells has))
       (subst (λ (s : DiskState). IfNotRead end (λ b. IsTrue s.tells → HasFlatRoot s root → IsCallThat (λ call. CallRefuses s root call b) l)) same refused)
 
-  pub failed_at : IfDiskFailed end (λ b. IsCallThat (λ call. CallReads root call b) l) → IfDiskFailed end (λ b. HasCallThat (λ call. CallReads root call b) lines)
+  pub failed_at : IfDiskFailed end (λ b. IsCallThat (λ call. CallReads root call b) l) → IfDiskFailed end (λ b. EndsAtCall (λ call. CallReads root call b) clients lines more (IsStart before root))
   failed_at failed =
-      disk_failed_weaker {Q = λ b. HasCallThat (λ call. CallReads root call b) lines} end (λ b here. call_at (λ call. CallReads root call b) lines i l d below is here) failed
+      disk_failed_weaker {Q = λ b. EndsAtCall (λ call. CallReads root call b) clients lines more (IsStart before root)} end (λ b here. ends_at (λ call. CallReads root call b) here) failed

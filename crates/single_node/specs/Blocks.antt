@@ -1,13 +1,17 @@
 -- Which blocks mounting and a run read, and which of them they refuse.
 use Rattle.std.specs.Prelude.{ℕ, ◌≡◌, List, [], ◌∷◌, slice_get, Some}
 use Rattle.std.specs.List.{AllByRecursion}
+use Rattle.file_tree.specs.Tree.{Tree}
 use Rattle.file_tree.specs.declared.call.Call.{Call}
 use Rattle.file_tree.specs.declared.call.Call.TheVariants as calls
 use Rattle.file_tree.specs.Names.{IsName}
 use Rattle.gfs2_layout.specs.Area.{Slot, slots_of, first_named}
+use Rattle.script_lang.specs.declared.script.Client.{Client}
 use Rattle.script_lang.specs.declared.script.Line.{Line}
 use Rattle.script_lang.specs.declared.script.Line.TheVariants as line
 use Rattle.shared_disk.specs.Disk.{DiskState}
+use Rattle.trace_text.specs.declared.item.TraceItem.{TraceItem}
+use Rattle.single_node.specs.Run.{IsRunUpTo}
 use Rattle.single_node.specs.Flat.{HasSuperBlock, HasRoot, HasFile, HasItsFileName, stuffed_part, superblock_place, root_of}
 
 -- mounting reads the superblock's block, and where that is good the root's
@@ -41,9 +45,10 @@ abbrev pub IsCallThat : (Call → Type 0) → Line → Type 0
 IsCallThat P (line.Call client call) = P call
 IsCallThat P _ = ⊥
 
--- one of the lines is a call of which this holds
-pub record HasCallThat (P : Call → Type 0) (lines : List Line) : Type 0 where
-  pub place : ℕ
-  pub at_place : Line
-  pub is_there : slice_get lines place ≡ Some at_place
-  pub holds : IsCallThat P at_place
+-- a run that took the first lines ended at the next one: a call, of which this holds
+pub record EndsAtCall (P : Call → Type 0) (clients : List Client) (lines : List Line) (items : List TraceItem) (IsStart : Tree → Type 0) : Type 0 where
+  pub count : ℕ
+  pub taken : IsRunUpTo clients lines count items IsStart
+  pub next : Line
+  pub is_next : slice_get lines count ≡ Some next
+  pub holds : IsCallThat P next

@@ -9,7 +9,7 @@ ghost use Rattle.shared_disk.specs.Disk.{IsIdle};
 ghost use Rattle.script_lang.specs.Plain.{IsPlainCall};
 ghost use Rattle.script_lang.specs.OneNode.{IsOneNode};
 ghost use Rattle.run_rules.specs.History.{HoldsHistory, NoneStopped, AllAnswered};
-ghost use Rattle.single_node.specs.Blocks.{CallReads, CallRefuses, IsCallThat, HasCallThat};
+ghost use Rattle.single_node.specs.Blocks.{CallReads, CallRefuses, IsCallThat, EndsAtCall};
 ghost use Rattle.single_node.specs.Ends.{EndHasCause, IfNotRead, IfDiskFailed};
 ghost use Rattle.single_node.specs.Flat.{IsFlat, HasFlatRoot, IsStart, IsBlockSize, stuffed_part};
 ghost use Rattle.single_node.specs.Laws.{PlainIsOneNode};
@@ -152,8 +152,8 @@ fn take_lines<D: SharedDisk>(
     ensures run { (count : ℕ) × IsRunUpTo clients.now lines.now count items.new.items (IsStart (D.state disk.old) root.now) }
     ensures whole { OnOk result (IsRunUpTo clients.now lines.now (length lines.now) items.new.items (IsStart (D.state disk.old) root.now)) }
     ensures block { IfErr result (λ end. IfNotRead end (λ b. IsTrue (D.state disk.old).tells → HasFlatRoot (D.state disk.old) root.now
-        → HasCallThat (λ call. CallRefuses (D.state disk.old) root.now call b) lines.now)) }
-    ensures failed { IfErr result (λ end. IfDiskFailed end (λ b. HasCallThat (λ call. CallReads root.now call b) lines.now)) }
+        → EndsAtCall (λ call. CallRefuses (D.state disk.old) root.now call b) clients.now lines.now items.new.items (IsStart (D.state disk.old) root.now))) }
+    ensures failed { IfErr result (λ end. IfDiskFailed end (λ b. EndsAtCall (λ call. CallReads root.now call b) clients.now lines.now items.new.items (IsStart (D.state disk.old) root.now))) }
     ensures same { D.state disk.new ≡ D.state disk.old }
     ensures cause { IfErr result (EndHasCause 1 (D.faults disk.old) (D.faults disk.new)) }
     ensures later { (j : ℕ) → D.faults disk.old j ≤ D.faults disk.new j }
@@ -187,8 +187,8 @@ fn run_lines<D: SharedDisk>(
     ensures run { IsRunOf clients.now lines.now items.new.items (IsStart (D.state disk.old) root.now) }
     ensures whole { OnOk result (IsWholeRun clients.now lines.now items.new.items (IsStart (D.state disk.old) root.now)) }
     ensures block { IfErr result (λ end. IfNotRead end (λ b. IsTrue (D.state disk.old).tells → HasFlatRoot (D.state disk.old) root.now
-        → HasCallThat (λ call. CallRefuses (D.state disk.old) root.now call b) lines.now)) }
-    ensures failed { IfErr result (λ end. IfDiskFailed end (λ b. HasCallThat (λ call. CallReads root.now call b) lines.now)) }
+        → EndsAtCall (λ call. CallRefuses (D.state disk.old) root.now call b) clients.now lines.now items.new.items (IsStart (D.state disk.old) root.now))) }
+    ensures failed { IfErr result (λ end. IfDiskFailed end (λ b. EndsAtCall (λ call. CallReads root.now call b) clients.now lines.now items.new.items (IsStart (D.state disk.old) root.now))) }
     ensures same { D.state disk.new ≡ D.state disk.old }
     ensures cause { IfErr result (EndHasCause 1 (D.faults disk.old) (D.faults disk.new)) }
     ensures later { (j : ℕ) → D.faults disk.old j ≤ D.faults disk.new j }
@@ -234,8 +234,8 @@ pub fn run_script<D: SharedDisk>(
     ensures answered { OnOk result (AllAnswered items.new.items script.now) }
     ensures other { IfErr result (λ end. IfNotRead end (λ _. (tree : Tree) → IsStart (D.state disk.old) root.now tree → ⊥)) }
     ensures block { IfErr result (λ end. IfNotRead end (λ b. IsTrue (D.state disk.old).tells → HasFlatRoot (D.state disk.old) root.now
-        → HasCallThat (λ call. CallRefuses (D.state disk.old) root.now call b) script.now.lines)) }
-    ensures failed { IfErr result (λ end. IfDiskFailed end (λ b. HasCallThat (λ call. CallReads root.now call b) script.now.lines)) }
+        → EndsAtCall (λ call. CallRefuses (D.state disk.old) root.now call b) script.now.clients script.now.lines items.new.items (IsStart (D.state disk.old) root.now))) }
+    ensures failed { IfErr result (λ end. IfDiskFailed end (λ b. EndsAtCall (λ call. CallReads root.now call b) script.now.clients script.now.lines items.new.items (IsStart (D.state disk.old) root.now))) }
     ensures same { D.state disk.new ≡ D.state disk.old }
     ensures cause { IfErr result (EndHasCause 1 (D.faults disk.old) (D.faults disk.new)) }
     ensures later { (j : ℕ) → D.faults disk.old j ≤ D.faults disk.new j }

@@ -6,7 +6,7 @@ use Rattle.script_lang.specs.Script.{ScriptValue}
 use Rattle.script_lang.specs.declared.script.Client.{Client}
 use Rattle.script_lang.specs.declared.script.Line.{Line}
 use Rattle.shared_disk.specs.Disk.{DiskState}
-use Rattle.single_node.specs.Blocks.{CallReads, CallRefuses, HasCallThat}
+use Rattle.single_node.specs.Blocks.{CallReads, CallRefuses, EndsAtCall}
 use Rattle.single_node.specs.Ends.{IfNotRead, IfDiskFailed}
 use Rattle.single_node.specs.Flat.{HasFlatRoot, IsStart}
 use Rattle.single_node.specs.declared.end.RunEnd.{RunEnd}
@@ -69,13 +69,18 @@ returns-clause-answered g c =
 
 pub returns-clause-other : goal.returns-clause-other
 returns-clause-other g c =
-    other_weaker {Q = λ _. (tree : Tree) → IsStart (disk g c) (root g c) tree → ⊥} c.run_lines.result (none_of_lines (disk g c) (root g c) c.deref-2.result.now) c.run_lines.ensures.block
+    other_weaker {Q = λ _. (tree : Tree) → IsStart (disk g c) (root g c) tree → ⊥} c.run_lines.result
+    (none_of_lines (disk g c) (root g c) c.deref.result.now c.deref-2.result.now c.run_lines.new.items.items) c.run_lines.ensures.block
 
 pub returns-clause-block : goal.returns-clause-block
 returns-clause-block g c =
-    subst (λ (ls : List Line). IfErr c.run_lines.result (λ end. IfNotRead end (λ b. IsTrue (disk g c).tells → HasFlatRoot (disk g c) (root g c) → HasCallThat (λ call. CallRefuses (disk g c) (root g c) call b) ls)))
-    (lines g c) c.run_lines.ensures.block
+    at_script
+    (λ cs ls. IfErr c.run_lines.result (λ end. IfNotRead end (λ b. IsTrue (disk g c).tells → HasFlatRoot (disk g c) (root g c)
+    → EndsAtCall (λ call. CallRefuses (disk g c) (root g c) call b) cs ls c.run_lines.new.items.items (IsStart (disk g c) (root g c)))))
+    c.args.script.now.clients c.args.script.now.lines (clients g c) (lines g c) c.run_lines.ensures.block
 
 pub returns-clause-failed : goal.returns-clause-failed
 returns-clause-failed g c =
-    subst (λ (ls : List Line). IfErr c.run_lines.result (λ end. IfDiskFailed end (λ b. HasCallThat (λ call. CallReads (root g c) call b) ls))) (lines g c) c.run_lines.ensures.failed
+    at_script
+    (λ cs ls. IfErr c.run_lines.result (λ end. IfDiskFailed end (λ b. EndsAtCall (λ call. CallReads (root g c) call b) cs ls c.run_lines.new.items.items (IsStart (disk g c) (root g c)))))
+    c.args.script.now.clients c.args.script.now.lines (clients g c) (lines g c) c.run_lines.ensures.failed

@@ -21,11 +21,13 @@ returns-in-Err-clause-run g c = (
 
 pub returns-in-Err-clause-block : goal.returns-in-Err-clause-block
 returns-in-Err-clause-block g c =
-    refused_at _ (g.D.SharedDisk.state c.args.disk.now) c.args.root.now c.args.lines.now c.loop-line.line-index c.line-item.result c.line-item.result c.loop-line.invariant.same c.loop-line-test.true c.line-item.is c.in-Err.end c.in-Err.ensures.block
+    refused_at _ (g.D.SharedDisk.state c.args.disk.now) c.args.root.now c.args.clients.now c.args.lines.now c.loop-line.line-index c.line-item.result c.line-item.result c.loop-line.items.items _ c.in-Err.end
+    c.loop-line.invariant.same c.loop-line-test.true c.line-item.is c.loop-line.invariant.run c.in-Err.ensures.kept c.in-Err.ensures.block
 
 pub returns-in-Err-clause-failed : goal.returns-in-Err-clause-failed
 returns-in-Err-clause-failed g c =
-    failed_at _ (g.D.SharedDisk.state c.args.disk.now) c.args.root.now c.args.lines.now c.loop-line.line-index c.line-item.result c.line-item.result c.loop-line.invariant.same c.loop-line-test.true c.line-item.is c.in-Err.end c.in-Err.ensures.failed
+    failed_at _ (g.D.SharedDisk.state c.args.disk.now) c.args.root.now c.args.clients.now c.args.lines.now c.loop-line.line-index c.line-item.result c.line-item.result c.loop-line.items.items _ c.in-Err.end
+    c.loop-line.invariant.same c.loop-line-test.true c.line-item.is c.loop-line.invariant.run c.in-Err.ensures.kept c.in-Err.ensures.failed
 
 pub loop-line-preserved : goal.loop-line-preserved
 loop-line-preserved g c =
