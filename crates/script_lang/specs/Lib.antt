@@ -2,3 +2,4 @@ pub mod Script
 pub mod Words
 pub mod Grammar
 pub mod Plain
+pub mod OneNode

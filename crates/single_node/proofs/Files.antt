@@ -13,7 +13,7 @@ use Rattle.single_node.specs.Flat.{is_dot, names_a_file, files_of, file_bytes}
 
 -- ---- tests
 
-false_from : (b : Bool) → (b ≡ true → ⊥) → b ≡ false
+pub false_from : (b : Bool) → (b ≡ true → ⊥) → b ≡ false
 false_from true h = absurd (h refl)
 false_from false h = refl
 

@@ -1,5 +1,9 @@
+pub mod Blocks
+pub mod Calls
+pub mod Clients
 pub mod Ends
 pub mod Files
 pub mod Lists
-pub mod PlainRuns
+pub mod NodeRuns
+pub mod Steps
 pub mod Walks

@@ -1,5 +1,5 @@
 -- What a walk finds in a flat image.
-use Rattle.std.proofs.Common.{◌≡◌, ℕ, ◌<◌, ◌≤◌, inl, inr, List, [], ◌∷◌, length, take, drop, get_or, Option, Some, None, refl, sym, ap, ◌∙◌, subst, arith}
+use Rattle.std.proofs.Common.{◌≡◌, ℕ, ◌≤◌, inl, inr, List, [], ◌∷◌, length, take, drop, get_or, Option, Some, None, refl, sym, ap, ◌∙◌, subst, arith}
 use Rattle.std.specs.Prelude.{IsTrue}
 use Rattle.std.specs.List.{AllByRecursion}
 use Rattle.file_tree.specs.Tree.{Tree, file, dir, names_in}
@@ -8,7 +8,7 @@ use Rattle.file_tree.specs.Apply.{walk, found_or, Walked, Found, Refused, read_r
 use Rattle.file_tree.specs.declared.reply.Reply.TheVariants as reply
 use Rattle.gfs2_layout.specs.Area.{Slot, slots_of, first_named, has_name}
 use Rattle.shared_disk.specs.Disk.{DiskState}
-use Rattle.single_node.specs.Flat.{IsFlat, IsBlockSize, IsStuffedFile, HasFlatRoot, HasItsFileName, LeadsToFile, names_a_file, files_of, file_bytes, stuffed_part, root_slots}
+use Rattle.single_node.specs.Flat.{IsFlat, IsBlockSize, HasFlatRoot, HasItsFileName, LeadsToFile, names_a_file, files_of, file_bytes, stuffed_part, root_slots}
 use Rattle.single_node.proofs.Files.{look-files_of, found_file, found_holds, named_is_file, name_is_no_dot}
 
 pub one_name : (path names : List (List ℕ)) (name other : List ℕ) → names ≡ path → 1 ≤ length names → length path ≤ 1 → name ≡ get_or names 0 other → path ≡ name ∷ []
@@ -71,13 +71,6 @@ module _ (d : DiskState) (tree : Tree) (root : List ℕ) (flat : IsFlat d tree) 
 
   pub read_whole : (path : List (List ℕ)) → path ≡ [] → reply.IsDir ≡ read_reply (walk tree path) at count
   read_whole path none = sym (ap (λ (w : Walked). read_reply w at count) (walk_root d tree root flat has path none))
-
-  -- the file that a name leads to is read
-  pub file_is_there : (name : List ℕ) (s : Slot) (address : ℕ) → IsName name → first_named name (slots_of (stuffed_part root)) ≡ Some s → address ≡ s.head.inum.address
-      → (IsTrue d.tells → address < d.count → IsStuffedFile d.size address (d.block_at address) → ⊥) → ⊥
-  file_is_there name s address is found there lacks =
-      let lead = leads d tree root flat has name s is found in
-      lacks flat.tells (subst (λ (a : ℕ). a < d.count) (sym there) lead.inside) (subst (λ (a : ℕ). IsStuffedFile d.size a (d.block_at a)) (sym there) lead.file)
 
 -- ---- the replies of a list
 

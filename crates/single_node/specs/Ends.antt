@@ -15,3 +15,9 @@ abbrev pub IfNotRead : RunEnd → (ℕ → Type 0) → Type 0
 IfNotRead (end.NotRead block) P = P block
 IfNotRead (end.DiskFailed node block rise) P = ⊤
 IfNotRead end.NoMemory P = ⊤
+
+-- a fact for the block of a disk that failed
+abbrev pub IfDiskFailed : RunEnd → (ℕ → Type 0) → Type 0
+IfDiskFailed (end.DiskFailed node block rise) P = P block
+IfDiskFailed (end.NotRead block) P = ⊤
+IfDiskFailed end.NoMemory P = ⊤

@@ -83,11 +83,15 @@ pub record HasFlatRoot (d : DiskState) (block : List ℕ) : Type 0 where
 abbrev pub LacksFlatRoot : DiskState → Type 0
 LacksFlatRoot d = HasSuperBlock d → HasRoot d → ⊥
 
+-- a regular file is in this block
+pub record HasFile (d : DiskState) (block : ℕ) : Type 0 where
+  pub inside : block < d.count
+  pub stuffed : IsStuffedFile d.size block (d.block_at block)
+
 -- a record that has a name, and leads to a regular file in its block
 pub record LeadsToFile (d : DiskState) (s : Slot) : Type 0 where
   pub name : IsName (name_of s)
-  pub inside : s.head.inum.address < d.count
-  pub file : IsStuffedFile d.size s.head.inum.address (d.block_at s.head.inum.address)
+  pub file : HasFile d s.head.inum.address
 
 -- the names with the bytes of their files
 abbrev pub files_of : (ℕ → List ℕ) → List Slot → Entries

@@ -1,3 +1,5 @@
+pub mod Blocks
 pub mod Ends
 pub mod Flat
+pub mod Laws
 pub mod Run

@@ -4,8 +4,8 @@ ghost use Rattle.file_tree.specs.Apply.{read_reply, list_reply, walk, Walked};
 ghost use Rattle.gfs2_layout.specs.Structures.{dinode_of, is_in_use};
 ghost use Rattle.gfs2_layout.specs.Area.{Slot, slots_of, slot_at, first_named, IsArea};
 ghost use Rattle.shared_disk.specs.Disk.{IsIdle};
-ghost use Rattle.single_node.specs.Ends.{EndHasCause, IfNotRead};
-ghost use Rattle.single_node.specs.Flat.{IsFlat, IsStuffedFile, HasFlatRoot, IsBlockSize, file_bytes, stuffed_part};
+ghost use Rattle.single_node.specs.Ends.{EndHasCause, IfNotRead, IfDiskFailed};
+ghost use Rattle.single_node.specs.Flat.{IsFlat, IsStuffedFile, HasFile, HasFlatRoot, IsBlockSize, file_bytes, stuffed_part};
 
 use crate::RunEnd;
 use crate::fetch::fetch;
@@ -77,8 +77,9 @@ pub(crate) fn read_file<D: SharedDisk>(
     requires some { IsBlockSize (D.state disk.old).size }
     ensures content { IfOk result (λ content. IsTrue (D.state disk.old).tells
         → content ≡ take count (drop at (file_bytes ((D.state disk.old).block_at address)))) }
-    ensures other { IfErr result (λ end. IfNotRead end (λ _. IsTrue (D.state disk.old).tells → address < (D.state disk.old).count
-        → IsStuffedFile (D.state disk.old).size address ((D.state disk.old).block_at address) → ⊥)) }
+    ensures block { IfErr result (λ end. IfNotRead end (λ b. (b ≡ address)
+        × (IsTrue (D.state disk.old).tells → HasFile (D.state disk.old) address → ⊥))) }
+    ensures failed { IfErr result (λ end. IfDiskFailed end (λ b. b ≡ address)) }
     ensures same { D.state disk.new ≡ D.state disk.old }
     ensures cause { IfErr result (EndHasCause 1 (D.faults disk.old) (D.faults disk.new)) }
     ensures later { (j : ℕ) → D.faults disk.old j ≤ D.faults disk.new j }

@@ -1,6 +1,6 @@
 ghost use Rattle.std.specs.Prelude.{◌≡◌, ◌<◌, ◌≤◌, ℕ, length, IsTrue, OnOk, IfErr};
 ghost use Rattle.shared_disk.specs.Disk.{IsIdle};
-ghost use Rattle.single_node.specs.Ends.{EndHasCause, IfNotRead};
+ghost use Rattle.single_node.specs.Ends.{EndHasCause, IfNotRead, IfDiskFailed};
 
 use crate::RunEnd;
 use shared_disk::{SharedDisk, read_block};
@@ -18,6 +18,7 @@ pub(crate) fn fetch<D: SharedDisk>(
     ensures bytes { OnOk result (IsTrue (D.state disk.old).tells → into.new ≡ (D.state disk.old).block_at block) }
     ensures inside { OnOk result (block < (D.state disk.old).count) }
     ensures outside { IfErr result (λ end. IfNotRead end (λ b. (b ≡ block) × ((D.state disk.old).count ≤ block))) }
+    ensures failed { IfErr result (λ end. IfDiskFailed end (λ b. b ≡ block)) }
     ensures same { D.state disk.new ≡ D.state disk.old }
     ensures cause { IfErr result (EndHasCause node (D.faults disk.old) (D.faults disk.new)) }
     ensures later { (j : ℕ) → D.faults disk.old j ≤ D.faults disk.new j }

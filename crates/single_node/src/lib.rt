@@ -1,4 +1,4 @@
-//! One node that reads a flat image: it mounts it, and answers the lines of a plain script one by one.
+//! One node that reads a flat image: it mounts it, and takes the lines of its clients one by one.
 #![tactic(auto)]
 
 mod answer;
@@ -11,7 +11,7 @@ mod run;
 
 pub use end::RunEnd;
 pub use mount::{Root, read_root};
-pub use run::run_plain;
+pub use run::{plain_is_one_node, run_script};
 
 #[cfg(test)]
 mod tests;

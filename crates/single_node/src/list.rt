@@ -1,11 +1,12 @@
-ghost use Rattle.std.specs.Prelude.{◌≡◌, ◌≤◌, ℕ, List, length, IfOk, IfErr, MatchOption, IsTrue};
+ghost use Rattle.std.specs.Prelude.{◌≡◌, ◌≤◌, ℕ, List, [], length, IfOk, IfErr, MatchOption, IsTrue};
 ghost use Rattle.std.specs.List.{AllByRecursion};
 ghost use Rattle.file_tree.specs.Tree.{Tree, names_in};
 ghost use Rattle.file_tree.specs.Apply.{list_reply, walk};
 ghost use Rattle.file_tree.specs.Names.{IsName};
+ghost use Rattle.gfs2_layout.specs.Structures.{dinode_of};
 ghost use Rattle.gfs2_layout.specs.Area.{IsArea, slots_of, name_of};
 ghost use Rattle.shared_disk.specs.Disk.{DiskState};
-ghost use Rattle.single_node.specs.Ends.{EndHasCause, IfNotRead};
+ghost use Rattle.single_node.specs.Ends.{EndHasCause, IfNotRead, IfDiskFailed};
 ghost use Rattle.single_node.specs.Flat.{IsFlat, HasFlatRoot, IsBlockSize, stuffed_part, files_of, names_a_file, HasItsFileName};
 
 use crate::RunEnd;
@@ -47,8 +48,9 @@ pub(crate) fn list_call(alloc: Global, root: &Root, path: &Path) -> Result<Reply
     requires plain { length path.now ≤ 1 }
     ensures reply { IfOk result (λ reply. (disk : DiskState) (tree : Tree) → IsFlat disk tree → HasFlatRoot disk root.now
         → reply ≡ list_reply (walk tree path.now)) }
-    ensures other { IfErr result (λ end. IfNotRead end (λ _. (disk : DiskState) (tree : Tree) → IsFlat disk tree
-        → HasFlatRoot disk root.now → ⊥)) }
+    ensures block { IfErr result (λ end. IfNotRead end (λ b. (path.now ≡ []) × (b ≡ (dinode_of root.now).num.address)
+        × (AllByRecursion HasItsFileName (slots_of (stuffed_part root.now)) → ⊥))) }
+    ensures failed { IfErr result (λ end. IfDiskFailed end (λ _. ⊥)) }
     ensures cause { IfErr result (λ end. (faults : ℕ → ℕ) → EndHasCause 1 faults faults end) }
 {
     let area = behind_dinode(root.block());

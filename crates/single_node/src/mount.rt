@@ -3,7 +3,8 @@ ghost use Rattle.std.specs.List.{AllByRecursion};
 ghost use Rattle.gfs2_layout.specs.Structures.{dinode_of};
 ghost use Rattle.gfs2_layout.specs.Area.{Slot, slots_of, IsShown, IsArea};
 ghost use Rattle.shared_disk.specs.Disk.{IsIdle};
-ghost use Rattle.single_node.specs.Ends.{EndHasCause, IfNotRead};
+ghost use Rattle.single_node.specs.Ends.{EndHasCause, IfNotRead, IfDiskFailed};
+ghost use Rattle.single_node.specs.Blocks.{MountReads, MountRefuses};
 ghost use Rattle.single_node.specs.Flat.{IsStuffed, IsFlatDirectory, HasSuperBlock, HasFlatRoot, LacksFlatRoot, IsOfFile, names_a_file, stuffed_part, superblock_place, root_of, is_dot, IsBlockSize};
 
 use crate::RunEnd;
@@ -86,7 +87,9 @@ fn root_address<D: SharedDisk>(disk: &mut D, block: &mut [u8]) -> Result<u64, Ru
     requires size { length block.old ≡ (D.state disk.old).size }
     requires some { IsBlockSize (D.state disk.old).size }
     ensures root { IfOk result (λ root. IsTrue (D.state disk.old).tells → HasSuperBlock (D.state disk.old) × (root ≡ root_of (D.state disk.old))) }
-    ensures other { IfErr result (λ end. IfNotRead end (λ _. IsTrue (D.state disk.old).tells → HasSuperBlock (D.state disk.old) → ⊥)) }
+    ensures block { IfErr result (λ end. IfNotRead end (λ b. (b ≡ superblock_place (D.state disk.old).size)
+        × (IsTrue (D.state disk.old).tells → HasSuperBlock (D.state disk.old) → ⊥))) }
+    ensures failed { IfErr result (λ end. IfDiskFailed end (λ b. b ≡ superblock_place (D.state disk.old).size)) }
     ensures same { D.state disk.new ≡ D.state disk.old }
     ensures cause { IfErr result (EndHasCause 0 (D.faults disk.old) (D.faults disk.new)) }
     ensures later { (j : ℕ) → D.faults disk.old j ≤ D.faults disk.new j }
@@ -111,16 +114,21 @@ pub struct Root {
 }
 
 impl Model for Root {
-    ghost use Rattle.std.specs.Prelude.{List, ℕ};
+    ghost use Rattle.std.specs.Prelude.{◌≡◌, List, ℕ};
+    ghost use Rattle.gfs2_layout.specs.Structures.{dinode_of};
 
     ghost Value = { List ℕ };
 
     ghost view = { λ r. r.block.items };
+
+    ghost invariant = { λ r. r.address ≡ (dinode_of r.block.items).num.address };
 }
 
 impl Root {
-    // The block's address.
-    pub(crate) fn address(&self) -> u64 {
+    // The block's address, which its dinode tells too.
+    pub(crate) fn address(&self) -> u64
+        ensures { result ≡ (dinode_of self.now).num.address }
+    {
         self.address
     }
 
@@ -139,7 +147,9 @@ fn fill_root<D: SharedDisk>(disk: &mut D, block: &mut [u8]) -> Result<u64, RunEn
     requires some { IsBlockSize (D.state disk.old).size }
     ensures root { OnOk result (IsTrue (D.state disk.old).tells → HasFlatRoot (D.state disk.old) block.new) }
     ensures area { OnOk result (IsArea (stuffed_part block.new)) }
-    ensures other { IfErr result (λ end. IfNotRead end (λ _. IsTrue (D.state disk.old).tells → LacksFlatRoot (D.state disk.old))) }
+    ensures address { IfOk result (λ address. address ≡ (dinode_of block.new).num.address) }
+    ensures block { IfErr result (λ end. IfNotRead end (λ b. IsTrue (D.state disk.old).tells → MountRefuses (D.state disk.old) b)) }
+    ensures failed { IfErr result (λ end. IfDiskFailed end (λ b. IsTrue (D.state disk.old).tells → MountReads (D.state disk.old) b)) }
     ensures same { D.state disk.new ≡ D.state disk.old }
     ensures cause { IfErr result (EndHasCause 0 (D.faults disk.old) (D.faults disk.new)) }
     ensures later { (j : ℕ) → D.faults disk.old j ≤ D.faults disk.new j }
@@ -158,14 +168,16 @@ fn fill_root<D: SharedDisk>(disk: &mut D, block: &mut [u8]) -> Result<u64, RunEn
     Ok(address)
 }
 
-/// Reads the superblock and the root directory of an idle disk. `NotRead` comes only where one of these two
-/// blocks is not that of a flat image. It takes memory for one block.
+/// Reads the superblock and the root directory of an idle disk. `NotRead` has the block of the one that is
+/// not that of a flat image, and `DiskFailed` that of the one whose read failed. It takes memory for one block.
 pub fn read_root<D: SharedDisk>(alloc: Global, disk: &mut D) -> Result<Root, RunEnd>
     requires idle { IsIdle (D.state disk.old) }
     requires size { IsBlockSize (D.state disk.old).size }
     ensures root { IfOk result (λ block. IsTrue (D.state disk.old).tells → HasFlatRoot (D.state disk.old) block) }
     ensures area { IfOk result (λ block. (length block ≡ (D.state disk.old).size) × IsArea (stuffed_part block)) }
     ensures other { IfErr result (λ end. IfNotRead end (λ _. IsTrue (D.state disk.old).tells → LacksFlatRoot (D.state disk.old))) }
+    ensures block { IfErr result (λ end. IfNotRead end (λ b. IsTrue (D.state disk.old).tells → MountRefuses (D.state disk.old) b)) }
+    ensures failed { IfErr result (λ end. IfDiskFailed end (λ b. IsTrue (D.state disk.old).tells → MountReads (D.state disk.old) b)) }
     ensures same { D.state disk.new ≡ D.state disk.old }
     ensures cause { IfErr result (EndHasCause 0 (D.faults disk.old) (D.faults disk.new)) }
     ensures later { (j : ℕ) → D.faults disk.old j ≤ D.faults disk.new j }

@@ -1,9 +1,11 @@
-ghost use Rattle.std.specs.Prelude.{◌≡◌, ◌≤◌, ℕ, length, IfOk, IfErr};
+ghost use Rattle.std.specs.Prelude.{◌≡◌, ◌≤◌, ℕ, length, IsTrue, IfOk, IfErr};
 ghost use Rattle.file_tree.specs.Tree.{Tree};
 ghost use Rattle.file_tree.specs.Apply.{read_reply, walk};
 ghost use Rattle.gfs2_layout.specs.Area.{IsArea};
 ghost use Rattle.shared_disk.specs.Disk.{IsIdle};
-ghost use Rattle.single_node.specs.Ends.{EndHasCause, IfNotRead};
+ghost use Rattle.single_node.specs.Ends.{EndHasCause, IfNotRead, IfDiskFailed};
+ghost use Rattle.single_node.specs.Blocks.{CallReads, CallRefuses};
+ghost use Rattle.file_tree.specs.declared.call.Call.TheVariants as calls;
 ghost use Rattle.single_node.specs.Flat.{IsFlat, HasFlatRoot, IsBlockSize, stuffed_part};
 
 use crate::RunEnd;
@@ -31,8 +33,9 @@ pub(crate) fn read_call<D: SharedDisk>(
     requires plain { length path.now ≤ 1 }
     ensures reply { IfOk result (λ reply. (tree : Tree) → IsFlat (D.state disk.old) tree → HasFlatRoot (D.state disk.old) root.now
         → reply ≡ read_reply (walk tree path.now) at count) }
-    ensures other { IfErr result (λ end. IfNotRead end (λ _. (tree : Tree) → IsFlat (D.state disk.old) tree
-        → HasFlatRoot (D.state disk.old) root.now → ⊥)) }
+    ensures block { IfErr result (λ end. IfNotRead end (λ b. IsTrue (D.state disk.old).tells
+        → CallRefuses (D.state disk.old) root.now (calls.Read path.now at count) b)) }
+    ensures failed { IfErr result (λ end. IfDiskFailed end (λ b. CallReads root.now (calls.Read path.now at count) b)) }
     ensures same { D.state disk.new ≡ D.state disk.old }
     ensures cause { IfErr result (EndHasCause 1 (D.faults disk.old) (D.faults disk.new)) }
     ensures later { (j : ℕ) → D.faults disk.old j ≤ D.faults disk.new j }

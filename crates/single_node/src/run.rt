@@ -1,4 +1,4 @@
-ghost use Rattle.std.specs.Prelude.{◌≡◌, ◌+◌, ◌≤◌, ◌++◌, ◌∷◌, [], ℕ, List, length, IfOk, IfErr, OnOk, OnErr};
+ghost use Rattle.std.specs.Prelude.{◌≡◌, ◌+◌, ◌<◌, ◌≤◌, ◌++◌, ◌∷◌, [], ℕ, List, length, IsTrue, IfOk, IfErr, OnOk, OnErr};
 ghost use Rattle.std.specs.List.{AllByRecursion};
 ghost use Rattle.file_tree.specs.Tree.{Tree};
 ghost use Rattle.cluster_history.specs.History.{tree_of};
@@ -6,11 +6,14 @@ ghost use Rattle.run_rules.specs.Follows.{history_of};
 ghost use Rattle.file_tree.specs.Apply.{apply};
 ghost use Rattle.gfs2_layout.specs.Area.{IsArea};
 ghost use Rattle.shared_disk.specs.Disk.{IsIdle};
-ghost use Rattle.script_lang.specs.Plain.{IsPlainCall, IsPlainLine, IsPlain};
+ghost use Rattle.script_lang.specs.Plain.{IsPlainCall};
+ghost use Rattle.script_lang.specs.OneNode.{IsOneNode};
 ghost use Rattle.run_rules.specs.History.{HoldsHistory, NoneStopped, AllAnswered};
-ghost use Rattle.single_node.specs.Ends.{EndHasCause, IfNotRead};
+ghost use Rattle.single_node.specs.Blocks.{CallReads, CallRefuses, IsCallThat, EndsAtCall};
+ghost use Rattle.single_node.specs.Ends.{EndHasCause, IfNotRead, IfDiskFailed};
 ghost use Rattle.single_node.specs.Flat.{IsFlat, HasFlatRoot, IsStart, IsBlockSize, stuffed_part};
-ghost use Rattle.single_node.specs.Run.{IsAnswer, IsRunUpTo, IsRunOf, IsWholeRun};
+ghost use Rattle.single_node.specs.Laws.{PlainIsOneNode};
+ghost use Rattle.single_node.specs.Run.{IsLineOf, IsTaken, IsRunUpTo, IsRunOf, IsWholeRun};
 
 use crate::RunEnd;
 use crate::list::list_call;
@@ -18,12 +21,12 @@ use crate::mount::Root;
 use crate::read::read_call;
 use file_tree::{Call, Name, Reply};
 use no_memory::NoMemory;
-use script_lang::{Line, Script};
+use script_lang::{Client, Line, Script};
 use shared_disk::SharedDisk;
 use std::alloc::Global;
 use trace_text::TraceItem;
 
-// Answers a call of a plain script.
+// Answers a read or a list at the root.
 fn reply_to<D: SharedDisk>(
     alloc: Global,
     disk: &mut D,
@@ -37,10 +40,11 @@ fn reply_to<D: SharedDisk>(
     requires some { IsBlockSize (D.state disk.old).size }
     requires area { IsArea (stuffed_part root.now) }
     requires plain { IsPlainCall call.now }
-    ensures reply { IfOk result (λ reply. (tree : Tree) → IsFlat (D.state disk.old) tree → HasFlatRoot (D.state disk.old) root.now
+    ensures reply { IfOk result (λ reply. (tree : Tree) → IsStart (D.state disk.old) root.now tree
         → apply call.now tree ≡ record { reply = reply; tree = tree }) }
-    ensures other { IfErr result (λ end. IfNotRead end (λ _. (tree : Tree) → IsFlat (D.state disk.old) tree
-        → HasFlatRoot (D.state disk.old) root.now → ⊥)) }
+    ensures block { IfErr result (λ end. IfNotRead end (λ b. IsTrue (D.state disk.old).tells → HasFlatRoot (D.state disk.old) root.now
+        → CallRefuses (D.state disk.old) root.now call.now b)) }
+    ensures failed { IfErr result (λ end. IfDiskFailed end (λ b. CallReads root.now call.now b)) }
     ensures same { D.state disk.new ≡ D.state disk.old }
     ensures cause { IfErr result (EndHasCause 1 (D.faults disk.old) (D.faults disk.new)) }
     ensures later { (j : ℕ) → D.faults disk.old j ≤ D.faults disk.new j }
@@ -54,54 +58,18 @@ fn reply_to<D: SharedDisk>(
     }
 }
 
-// The item of an answered call.
-fn call_item(name: &Name, number: u64, call: &Call, reply: Reply) -> Result<TraceItem, NoMemory>
-    ensures { IfOk result (λ item. item ≡ TraceItem.Call 1 name.now number call.now reply) }
+// The item of node 1's next call, which was answered so. The first item is its join, so that the next
+// call's number is how many items there are.
+fn call_item(name: &Name, count: usize, call: &Call, reply: Reply) -> Result<TraceItem, NoMemory>
+    ensures { IfOk result (λ item. item ≡ TraceItem.Call 1 name.now count call.now reply) }
 {
     Ok(TraceItem::Call {
         node: 1,
         client: name.copy()?,
-        number,
+        number: count as u64,
         call: call.copy()?,
         reply,
     })
-}
-
-// Answers a line of a plain script.
-fn answer_line<D: SharedDisk>(
-    alloc: Global,
-    disk: &mut D,
-    root: &Root,
-    block: &mut [u8],
-    name: &Name,
-    number: u64,
-    line: &Line,
-) -> Result<TraceItem, RunEnd>
-    requires idle { IsIdle (D.state disk.old) }
-    requires size { length block.old ≡ (D.state disk.old).size }
-    requires root_size { length root.now ≡ (D.state disk.old).size }
-    requires some { IsBlockSize (D.state disk.old).size }
-    requires area { IsArea (stuffed_part root.now) }
-    requires plain { IsPlainLine line.now }
-    ensures item { IfOk result (λ item. IsAnswer name.now number line.now item (λ call reply. (tree : Tree) → IsFlat (D.state disk.old) tree
-        → HasFlatRoot (D.state disk.old) root.now → apply call tree ≡ record { reply = reply; tree = tree })) }
-    ensures other { IfErr result (λ end. IfNotRead end (λ _. (tree : Tree) → IsFlat (D.state disk.old) tree
-        → HasFlatRoot (D.state disk.old) root.now → ⊥)) }
-    ensures same { D.state disk.new ≡ D.state disk.old }
-    ensures cause { IfErr result (EndHasCause 1 (D.faults disk.old) (D.faults disk.new)) }
-    ensures later { (j : ℕ) → D.faults disk.old j ≤ D.faults disk.new j }
-{
-    let Line::Call { call, .. } = line else {
-        unreachable!();
-    };
-    let reply = match reply_to(alloc, disk, root, block, call) {
-        Ok(reply) => reply,
-        Err(end) => return Err(end),
-    };
-    match call_item(name, number, call, reply) {
-        Ok(item) => Ok(item),
-        Err(_) => Err(RunEnd::NoMemory),
-    }
 }
 
 fn put_item(items: &mut Vec<TraceItem>, item: TraceItem) -> Result<(), NoMemory>
@@ -112,13 +80,65 @@ fn put_item(items: &mut Vec<TraceItem>, item: TraceItem) -> Result<(), NoMemory>
     Ok(())
 }
 
-// Answers the lines of a plain script one by one, behind the item by which node 1 joined.
-fn answer_lines<D: SharedDisk>(
+fn put_call(
+    items: &mut Vec<TraceItem>,
+    name: &Name,
+    call: &Call,
+    reply: Reply,
+) -> Result<(), NoMemory>
+    ensures ok { OnOk result (items.new.items ≡ items.old.items ++ TraceItem.Call 1 name.now (length items.old.items) call.now reply ∷ []) }
+    ensures err { OnErr result (items.new.items ≡ items.old.items) }
+{
+    let item = call_item(name, items.len(), call, reply)?;
+    put_item(items, item)
+}
+
+// Takes a line: it answers a call, and goes on at a wait, since all lines above are answered already.
+fn take_line<D: SharedDisk>(
     alloc: Global,
     disk: &mut D,
     root: &Root,
     block: &mut [u8],
-    name: &Name,
+    clients: &[Client],
+    line: &Line,
+    items: &mut Vec<TraceItem>,
+) -> Result<(), RunEnd>
+    requires idle { IsIdle (D.state disk.old) }
+    requires size { length block.old ≡ (D.state disk.old).size }
+    requires root_size { length root.now ≡ (D.state disk.old).size }
+    requires some { IsBlockSize (D.state disk.old).size }
+    requires area { IsArea (stuffed_part root.now) }
+    requires form { IsLineOf (length clients.now) line.now }
+    ensures taken { OnOk result (IsTaken clients.now line.now items.old.items items.new.items (λ call reply. (tree : Tree) → IsStart (D.state disk.old) root.now tree
+        → apply call tree ≡ record { reply = reply; tree = tree })) }
+    ensures kept { OnErr result (items.new.items ≡ items.old.items) }
+    ensures block { IfErr result (λ end. IfNotRead end (λ b. IsTrue (D.state disk.old).tells → HasFlatRoot (D.state disk.old) root.now
+        → IsCallThat (λ call. CallRefuses (D.state disk.old) root.now call b) line.now)) }
+    ensures failed { IfErr result (λ end. IfDiskFailed end (λ b. IsCallThat (λ call. CallReads root.now call b) line.now)) }
+    ensures same { D.state disk.new ≡ D.state disk.old }
+    ensures cause { IfErr result (EndHasCause 1 (D.faults disk.old) (D.faults disk.new)) }
+    ensures later { (j : ℕ) → D.faults disk.old j ≤ D.faults disk.new j }
+{
+    let Line::Call { client, call } = line else {
+        return Ok(());
+    };
+    let reply = match reply_to(alloc, disk, root, block, call) {
+        Ok(reply) => reply,
+        Err(end) => return Err(end),
+    };
+    match put_call(items, &clients[*client as usize].name, call, reply) {
+        Ok(()) => Ok(()),
+        Err(_) => Err(RunEnd::NoMemory),
+    }
+}
+
+// Takes the lines one by one, behind the item by which node 1 joined.
+fn take_lines<D: SharedDisk>(
+    alloc: Global,
+    disk: &mut D,
+    root: &Root,
+    block: &mut [u8],
+    clients: &[Client],
     lines: &[Line],
     items: &mut Vec<TraceItem>,
 ) -> Result<(), RunEnd>
@@ -127,37 +147,33 @@ fn answer_lines<D: SharedDisk>(
     requires root_size { length root.now ≡ (D.state disk.old).size }
     requires some { IsBlockSize (D.state disk.old).size }
     requires area { IsArea (stuffed_part root.now) }
-    requires plain { AllByRecursion IsPlainLine lines.now }
+    requires form { AllByRecursion (IsLineOf (length clients.now)) lines.now }
     requires joined { items.old.items ≡ TraceItem.Join 1 ∷ [] }
-    ensures run { (count : ℕ) × IsRunUpTo name.now lines.now count items.new.items (IsStart (D.state disk.old) root.now) }
-    ensures whole { OnOk result (IsRunUpTo name.now lines.now (length lines.now) items.new.items (IsStart (D.state disk.old) root.now)) }
-    ensures other { IfErr result (λ end. IfNotRead end (λ _. (tree : Tree) → IsStart (D.state disk.old) root.now tree → ⊥)) }
+    ensures run { (count : ℕ) × IsRunUpTo clients.now lines.now count items.new.items (IsStart (D.state disk.old) root.now) }
+    ensures whole { OnOk result (IsRunUpTo clients.now lines.now (length lines.now) items.new.items (IsStart (D.state disk.old) root.now)) }
+    ensures block { IfErr result (λ end. IfNotRead end (λ b. IsTrue (D.state disk.old).tells → HasFlatRoot (D.state disk.old) root.now
+        → EndsAtCall (λ call. CallRefuses (D.state disk.old) root.now call b) clients.now lines.now items.new.items (IsStart (D.state disk.old) root.now))) }
+    ensures failed { IfErr result (λ end. IfDiskFailed end (λ b. EndsAtCall (λ call. CallReads root.now call b) clients.now lines.now items.new.items (IsStart (D.state disk.old) root.now))) }
     ensures same { D.state disk.new ≡ D.state disk.old }
     ensures cause { IfErr result (EndHasCause 1 (D.faults disk.old) (D.faults disk.new)) }
     ensures later { (j : ℕ) → D.faults disk.old j ≤ D.faults disk.new j }
 {
-    let mut number = 0u64;
     for line in lines {
-        number += 1;
-        let item = match answer_line(alloc, disk, root, block, name, number, line) {
-            Ok(item) => item,
-            Err(end) => return Err(end),
-        };
-        match put_item(items, item) {
+        match take_line(alloc, disk, root, block, clients, line, items) {
             Ok(()) => {}
-            Err(_) => return Err(RunEnd::NoMemory),
+            Err(end) => return Err(end),
         }
     }
     Ok(())
 }
 
-// Node 1 joins, answers the lines, and unmounts.
+// Node 1 joins, takes the lines, and unmounts.
 fn run_lines<D: SharedDisk>(
     alloc: Global,
     disk: &mut D,
     root: &Root,
     block: &mut [u8],
-    name: &Name,
+    clients: &[Client],
     lines: &[Line],
     items: &mut Vec<TraceItem>,
 ) -> Result<(), RunEnd>
@@ -166,11 +182,13 @@ fn run_lines<D: SharedDisk>(
     requires root_size { length root.now ≡ (D.state disk.old).size }
     requires some { IsBlockSize (D.state disk.old).size }
     requires area { IsArea (stuffed_part root.now) }
-    requires plain { AllByRecursion IsPlainLine lines.now }
+    requires form { AllByRecursion (IsLineOf (length clients.now)) lines.now }
     requires none { items.old.items ≡ [] }
-    ensures run { IsRunOf name.now lines.now items.new.items (IsStart (D.state disk.old) root.now) }
-    ensures whole { OnOk result (IsWholeRun name.now lines.now items.new.items (IsStart (D.state disk.old) root.now)) }
-    ensures other { IfErr result (λ end. IfNotRead end (λ _. (tree : Tree) → IsStart (D.state disk.old) root.now tree → ⊥)) }
+    ensures run { IsRunOf clients.now lines.now items.new.items (IsStart (D.state disk.old) root.now) }
+    ensures whole { OnOk result (IsWholeRun clients.now lines.now items.new.items (IsStart (D.state disk.old) root.now)) }
+    ensures block { IfErr result (λ end. IfNotRead end (λ b. IsTrue (D.state disk.old).tells → HasFlatRoot (D.state disk.old) root.now
+        → EndsAtCall (λ call. CallRefuses (D.state disk.old) root.now call b) clients.now lines.now items.new.items (IsStart (D.state disk.old) root.now))) }
+    ensures failed { IfErr result (λ end. IfDiskFailed end (λ b. EndsAtCall (λ call. CallReads root.now call b) clients.now lines.now items.new.items (IsStart (D.state disk.old) root.now))) }
     ensures same { D.state disk.new ≡ D.state disk.old }
     ensures cause { IfErr result (EndHasCause 1 (D.faults disk.old) (D.faults disk.new)) }
     ensures later { (j : ℕ) → D.faults disk.old j ≤ D.faults disk.new j }
@@ -179,7 +197,7 @@ fn run_lines<D: SharedDisk>(
         Ok(()) => {}
         Err(_) => return Err(RunEnd::NoMemory),
     }
-    match answer_lines(alloc, disk, root, block, name, lines, items) {
+    match take_lines(alloc, disk, root, block, clients, lines, items) {
         Ok(()) => {}
         Err(end) => return Err(end),
     }
@@ -189,11 +207,12 @@ fn run_lines<D: SharedDisk>(
     }
 }
 
-/// Runs a plain script on a flat image whose root was read: node 1 joins, answers each line in order as the
-/// call of the next number, and unmounts. The items go behind `items`, which is empty. Where the run ends
-/// before the script, the items so far stay. It costs one block's read per `read`, a walk over the root's
-/// records per call, and memory for the items and one block.
-pub fn run_plain<D: SharedDisk>(
+/// Runs a script that one node can run on a flat image whose root was read: node 1 joins, takes the lines in
+/// order, and unmounts. A call is answered as the call of the next number, from 1 on over all clients; a wait
+/// passes. The items go behind `items`, which is empty. Where the run ends before the script, the items so far
+/// stay. It costs one block's read per `read`, a walk over the root's records per call, and memory for the
+/// items and one block.
+pub fn run_script<D: SharedDisk>(
     alloc: Global,
     disk: &mut D,
     root: &Root,
@@ -204,23 +223,23 @@ pub fn run_plain<D: SharedDisk>(
     requires size { IsBlockSize (D.state disk.old).size }
     requires root { length root.now ≡ (D.state disk.old).size }
     requires area { IsArea (stuffed_part root.now) }
-    requires plain { IsPlain script.now }
+    requires form { IsOneNode script.now }
     requires none { items.old.items ≡ [] }
     ensures history { (tree : Tree) → IsStart (D.state disk.old) root.now tree → HoldsHistory tree script.now items.new.items }
     ensures tree { (tree : Tree) → IsStart (D.state disk.old) root.now tree
         → tree_of (history_of script.now.clients items.new.items) tree ≡ tree }
-    ensures run { (client : List ℕ) × IsRunOf client script.now.lines items.new.items (IsStart (D.state disk.old) root.now) }
-    ensures whole { OnOk result ((client : List ℕ) × IsWholeRun client script.now.lines items.new.items (IsStart (D.state disk.old) root.now)) }
+    ensures run { IsRunOf script.now.clients script.now.lines items.new.items (IsStart (D.state disk.old) root.now) }
+    ensures whole { OnOk result (IsWholeRun script.now.clients script.now.lines items.new.items (IsStart (D.state disk.old) root.now)) }
     ensures members { NoneStopped items.new.items }
     ensures answered { OnOk result (AllAnswered items.new.items script.now) }
     ensures other { IfErr result (λ end. IfNotRead end (λ _. (tree : Tree) → IsStart (D.state disk.old) root.now tree → ⊥)) }
+    ensures block { IfErr result (λ end. IfNotRead end (λ b. IsTrue (D.state disk.old).tells → HasFlatRoot (D.state disk.old) root.now
+        → EndsAtCall (λ call. CallRefuses (D.state disk.old) root.now call b) script.now.clients script.now.lines items.new.items (IsStart (D.state disk.old) root.now))) }
+    ensures failed { IfErr result (λ end. IfDiskFailed end (λ b. EndsAtCall (λ call. CallReads root.now call b) script.now.clients script.now.lines items.new.items (IsStart (D.state disk.old) root.now))) }
     ensures same { D.state disk.new ≡ D.state disk.old }
     ensures cause { IfErr result (EndHasCause 1 (D.faults disk.old) (D.faults disk.new)) }
     ensures later { (j : ℕ) → D.faults disk.old j ≤ D.faults disk.new j }
 {
-    let [client] = script.clients.as_slice() else {
-        unreachable!();
-    };
     let size = disk.block_size() as usize;
     let mut block = vec![in alloc; 0u8; size]?;
     run_lines(
@@ -228,8 +247,13 @@ pub fn run_plain<D: SharedDisk>(
         disk,
         root,
         &mut block,
-        &client.name,
+        &script.clients,
         &script.lines,
         items,
     )
 }
+
+/// A law: one node can run each plain script.
+pub fn plain_is_one_node()
+    ensures { PlainIsOneNode }
+{}

@@ -1,12 +1,16 @@
 // Runs over an image that was laid out by hand: 140 blocks of 512 bytes, the superblock in block 128, the
 // root in block 130, and in it the files `b` and `a` in the blocks 132 and 133.
-ghost use Rattle.std.specs.Prelude.{◌≡◌, IfOk};
+ghost use Rattle.std.specs.Prelude.{◌≡◌, ◌≤◌, ◌∷◌, [], IfOk, length, codes};
+ghost use Rattle.std.specs.List.{AllByRecursion};
+ghost use Rattle.script_lang.specs.OneNode.{IsOneNode};
 ghost use Rattle.shared_disk.specs.Disk.{IsIdle};
 ghost use Rattle.shared_disk.specs.Memory.{memory_state};
+ghost use Rattle.single_node.specs.Run.{IsLineOf};
 
-use crate::{RunEnd, read_root, run_plain};
+use crate::{RunEnd, plain_is_one_node, read_root, run_script};
 use fault_counts::Rise;
-use script_lang::{PlainScript, parse_plain};
+use file_tree::{Call, Name, Path, is_name};
+use script_lang::{Client, Line, PlainScript, Script, parse_plain};
 use shared_disk::MemDisk;
 use std::alloc::Global;
 use std::process::Abort;
@@ -108,10 +112,12 @@ fn check_run(
     rt: &(impl Abort + AllocGlobal),
     later: &[Part],
     fails: &[u64],
-    script: &[u8],
+    script: &Script,
     want: Option<RunEnd>,
     trace: &[u8],
-) -> Result<(), Fail> {
+) -> Result<(), Fail>
+    requires { IsOneNode script.now }
+{
     let a = rt.alloc();
     let mut disk = image(rt, a, later, fails)?;
     let root = match read_root(a, &mut disk) {
@@ -122,15 +128,28 @@ fn check_run(
             return Ok(());
         }
     };
-    assert!(rt; script.len() < 1_000);
-    let PlainScript::Script(script) = parse_plain(a, script)? else {
-        return Err(Fail::from("not a plain script"));
-    };
     let mut items = Vec::new(a);
-    let end = run_plain(a, &mut disk, &root, &script, &mut items).err();
+    let end = run_script(a, &mut disk, &root, script, &mut items).err();
     assert_eq!(rt; end, want);
     assert_eq!(rt; print(a, &items)?.as_slice(), trace);
     Ok(())
+}
+
+// The same for the text of a plain script.
+fn check_plain(
+    rt: &(impl Abort + AllocGlobal),
+    later: &[Part],
+    fails: &[u64],
+    script: &[u8],
+    want: Option<RunEnd>,
+    trace: &[u8],
+) -> Result<(), Fail> {
+    assert!(rt; script.len() < 1_000);
+    let PlainScript::Script(script) = parse_plain(rt.alloc(), script)? else {
+        return Err(Fail::from("not a plain script"));
+    };
+    plain_is_one_node();
+    check_run(rt, later, fails, &script, want, trace)
 }
 
 const SCRIPT: &[u8] = b"nodes 1
@@ -163,9 +182,9 @@ unmount 1
 
 #[test]
 fn a_script_is_answered(rt: HostRuntime) -> Result<(), Fail> {
-    check_run(&rt, &[], &[], SCRIPT, None, TRACE)?;
+    check_plain(&rt, &[], &[], SCRIPT, None, TRACE)?;
     let script = b"nodes 1\nclient ann on 1\n";
-    check_run(&rt, &[], &[], script, None, b"join 1\nunmount 1\n")
+    check_plain(&rt, &[], &[], script, None, b"join 1\nunmount 1\n")
 }
 
 const SHORT_SCRIPT: &[u8] = b"nodes 1
@@ -212,7 +231,7 @@ unmount 1
 #[test]
 fn other_flat_images_are_read(rt: HostRuntime) -> Result<(), Fail> {
     for (later, trace) in STILL_READ {
-        check_run(&rt, later, &[], SHORT_SCRIPT, None, trace)?;
+        check_plain(&rt, later, &[], SHORT_SCRIPT, None, trace)?;
     }
     Ok(())
 }
@@ -240,7 +259,7 @@ fn a_failing_disk_is_told(rt: HostRuntime) -> Result<(), Fail> {
     };
     for (call, node, block, trace) in FAILING {
         let end = RunEnd::DiskFailed { node, block, rise };
-        check_run(&rt, &[], &[call], SHORT_SCRIPT, Some(end), trace)?;
+        check_plain(&rt, &[], &[call], SHORT_SCRIPT, Some(end), trace)?;
     }
     Ok(())
 }
@@ -274,7 +293,193 @@ const NOT_READ: [(&[Part], u64, &[u8]); 17] = [
 fn a_block_of_another_form_is_told(rt: HostRuntime) -> Result<(), Fail> {
     for (later, block, trace) in NOT_READ {
         let end = RunEnd::NotRead { block };
-        check_run(&rt, later, &[], SHORT_SCRIPT, Some(end), trace)?;
+        check_plain(&rt, later, &[], SHORT_SCRIPT, Some(end), trace)?;
     }
     Ok(())
+}
+
+// A line of a script of the clients ann, bo and cy, by the place of its client.
+enum Step {
+    Read(u32, &'static [u8], u64, u32),
+    List(u32, &'static [u8]),
+    Wait,
+}
+
+fn path_of(rt: &impl Abort, alloc: Global, text: &[u8]) -> Result<Path, Fail>
+    ensures { IfOk result (λ path. length path ≤ 1) }
+{
+    let Ok(path) = Path::parse(alloc, text) else {
+        return Err(Fail::from("not a path"));
+    };
+    assert!(rt; path.names().len() <= 1);
+    Ok(path)
+}
+
+fn line_of(rt: &impl Abort, alloc: Global, step: &Step) -> Result<Line, Fail>
+    ensures { IfOk result (IsLineOf 3) }
+{
+    match step {
+        Step::Read(client, path, at, count) => {
+            assert!(rt; *client < 3);
+            let path = path_of(rt, alloc, path)?;
+            Ok(Line::Call {
+                client: *client,
+                call: Call::Read(path, *at, *count),
+            })
+        }
+        Step::List(client, path) => {
+            assert!(rt; *client < 3);
+            let path = path_of(rt, alloc, path)?;
+            Ok(Line::Call {
+                client: *client,
+                call: Call::List(path),
+            })
+        }
+        Step::Wait => Ok(Line::Wait),
+    }
+}
+
+fn lines_of(rt: &impl Abort, alloc: Global, steps: &[Step]) -> Result<Vec<Line>, Fail>
+    ensures { IfOk result (λ lines. AllByRecursion (IsLineOf 3) lines.items) }
+{
+    let mut lines = Vec::new(alloc);
+    for step in steps {
+        lines.push(line_of(rt, alloc, step)?)?;
+    }
+    Ok(lines)
+}
+
+fn client_of(rt: &impl Abort, alloc: Global, name: &[u8]) -> Result<Client, Fail>
+    ensures { IfOk result (λ client. client ≡ record { name = name.now; node = 1 }) }
+{
+    assert!(rt; is_name(name));
+    let name = Name::new(Vec::from_slice(alloc, name)?);
+    Ok(Client { name, node: 1 })
+}
+
+fn three_clients(rt: &impl Abort, alloc: Global) -> Result<Vec<Client>, Fail>
+    ensures { IfOk result (λ clients. clients.items ≡ record { name = codes "ann"; node = 1 }
+        ∷ record { name = codes "bo"; node = 1 } ∷ record { name = codes "cy"; node = 1 } ∷ []) }
+{
+    let mut clients = Vec::new(alloc);
+    clients.push(client_of(rt, alloc, b"ann")?)?;
+    clients.push(client_of(rt, alloc, b"bo")?)?;
+    clients.push(client_of(rt, alloc, b"cy")?)?;
+    Ok(clients)
+}
+
+fn script_of(rt: &impl Abort, alloc: Global, steps: &[Step]) -> Result<Script, Fail>
+    ensures { IfOk result IsOneNode }
+{
+    let clients = three_clients(rt, alloc)?;
+    let lines = lines_of(rt, alloc, steps)?;
+    Ok(Script {
+        nodes: 1,
+        clients,
+        armed: Vec::new(alloc),
+        lines,
+    })
+}
+
+use Step::{List, Read, Wait};
+
+const ANN: u32 = 0;
+
+const BO: u32 = 1;
+
+const CY: u32 = 2;
+
+// The lines of a script, and its trace.
+const NODE_SCRIPTS: [(&[Step], &[u8]); 5] = [
+    // Clients take turns, and wait.
+    (
+        &[
+            Read(ANN, b"/b", 0, 2),
+            Read(BO, b"/a", 3, 4),
+            Wait,
+            List(ANN, b"/"),
+            Read(CY, b"/c", 0, 1),
+            Wait,
+            Wait,
+            List(BO, b"/a"),
+            Read(CY, b"/", 0, 1),
+        ],
+        b"join 1
+call 1 ann 1 read /b 0 2 = data 6865
+call 1 bo 2 read /a 3 4 = data 33343536
+call 1 ann 3 list / = names 2 a b
+call 1 cy 4 read /c 0 1 = notfound
+call 1 bo 5 list /a = notdir
+call 1 cy 6 read / 0 1 = isdir
+unmount 1
+",
+    ),
+    // The last client calls first, and one does not call.
+    (
+        &[
+            Read(CY, b"/b", 0, 1),
+            Read(ANN, b"/b", 0, 1),
+            Read(CY, b"/b", 0, 1),
+        ],
+        b"join 1
+call 1 cy 1 read /b 0 1 = data 68
+call 1 ann 2 read /b 0 1 = data 68
+call 1 cy 3 read /b 0 1 = data 68
+unmount 1
+",
+    ),
+    // A wait first and last.
+    (
+        &[Wait, List(BO, b"/b"), Wait],
+        b"join 1\ncall 1 bo 1 list /b = notdir\nunmount 1\n",
+    ),
+    (&[Wait], b"join 1\nunmount 1\n"),
+    (&[], b"join 1\nunmount 1\n"),
+];
+
+#[test]
+fn the_lines_of_several_clients_are_taken_in_order(rt: HostRuntime) -> Result<(), Fail> {
+    let a = rt.alloc();
+    for (steps, trace) in NODE_SCRIPTS {
+        let script = script_of(&rt, a, steps)?;
+        check_run(&rt, &[], &[], &script, None, trace)?;
+    }
+    Ok(())
+}
+
+const FAILING_STEPS: &[Step] = &[
+    List(BO, b"/"),
+    Wait,
+    Read(CY, b"/b", 0, 1),
+    Read(ANN, b"/a", 0, 1),
+    Wait,
+];
+
+const TWO_CALLS: &[u8] = b"join 1
+call 1 bo 1 list / = names 2 a b
+call 1 cy 2 read /b 0 1 = data 68
+";
+
+#[test]
+fn a_run_of_several_clients_ends_at_its_block(rt: HostRuntime) -> Result<(), Fail> {
+    let script = script_of(&rt, rt.alloc(), FAILING_STEPS)?;
+    let other = RunEnd::NotRead { block: 133 };
+    check_run(
+        &rt,
+        &[(68_138, b"\x41")],
+        &[],
+        &script,
+        Some(other),
+        TWO_CALLS,
+    )?;
+    let rise = Rise {
+        before: 0,
+        after: 1,
+    };
+    let failed = RunEnd::DiskFailed {
+        node: 1,
+        block: 133,
+        rise,
+    };
+    check_run(&rt, &[], &[4], &script, Some(failed), TWO_CALLS)
 }

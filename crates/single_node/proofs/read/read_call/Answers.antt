@@ -1,8 +1,10 @@
 use Rattle.std.proofs.Common.{None, Some, arith}
-use Rattle.file_tree.specs.Tree.{Tree}
-use Rattle.single_node.specs.Flat.{IsFlat, HasFlatRoot}
-use Rattle.single_node.proofs.Ends.{not_read_weaker}
-use Rattle.single_node.proofs.Walks.{one_name, first_is, block_size_bounds, read_absent, read_found, file_is_there}
+use Rattle.std.specs.Prelude.{IsTrue}
+use Rattle.file_tree.specs.declared.call.Call.TheVariants as calls
+use Rattle.single_node.specs.Blocks.{CallReads, CallRefuses}
+use Rattle.single_node.proofs.Blocks.{reads_file, refuses_file}
+use Rattle.single_node.proofs.Ends.{not_read_weaker, disk_failed_weaker}
+use Rattle.single_node.proofs.Walks.{one_name, first_is, block_size_bounds, read_absent, read_found}
 use Rattle.single_node.proofs.read.read_call.Goals as goal
 
 pub behind_dinode-area-requires : goal.behind_dinode-area-requires
@@ -24,9 +26,18 @@ returns-in-Ok-clause-reply g c tree flat has =
     let first = first_is c.args.root.now c.behind_dinode-area.result.now c.name-item.result c.bytes-name.result.now (Some s) c.behind_dinode-area.ensures.part c.bytes-name.ensures.bytes found in
     read_found _ tree c.args.root.now flat has c.args.at c.args.count c.name-item.result c.args.path.now s c.in-Some.address c.in-Ok.content c.bytes-name.ensures.name one first there c.in-Ok.ensures.content
 
-pub returns-in-Err-clause-other : goal.returns-in-Err-clause-other
-returns-in-Err-clause-other g c =
+pub returns-in-Err-clause-block : goal.returns-in-Err-clause-block
+returns-in-Err-clause-block g c =
     let (s, found, there) = c.in-Some.ensures in
+    let one = one_name c.args.path.now c.names.result.now c.name-item.result c.name-item.result c.names.ensures c.in-len1-up.len_at_least c.requires.plain c.name-item.is in
     let first = first_is c.args.root.now c.behind_dinode-area.result.now c.name-item.result c.bytes-name.result.now (Some s) c.behind_dinode-area.ensures.part c.bytes-name.ensures.bytes found in
-    not_read_weaker {Q = λ _. (tree : Tree) → IsFlat _ tree → HasFlatRoot _ c.args.root.now → ⊥} c.in-Err.end
-    (λ _ lacks tree flat has. file_is_there _ tree c.args.root.now flat has c.args.at c.args.count c.name-item.result s c.in-Some.address c.bytes-name.ensures.name first there lacks) c.in-Err.ensures.other
+    not_read_weaker {Q = λ b. IsTrue (g.D.SharedDisk.state c.args.disk.now).tells → CallRefuses (g.D.SharedDisk.state c.args.disk.now) c.args.root.now (calls.Read c.args.path.now c.args.at c.args.count) b} c.in-Err.end
+    (λ b. refuses_file c.args.root.now c.args.path.now c.name-item.result c.args.at c.args.count s c.in-Some.address c.bytes-name.ensures.name one first there (g.D.SharedDisk.state c.args.disk.now) b) c.in-Err.ensures.block
+
+pub returns-in-Err-clause-failed : goal.returns-in-Err-clause-failed
+returns-in-Err-clause-failed g c =
+    let (s, found, there) = c.in-Some.ensures in
+    let one = one_name c.args.path.now c.names.result.now c.name-item.result c.name-item.result c.names.ensures c.in-len1-up.len_at_least c.requires.plain c.name-item.is in
+    let first = first_is c.args.root.now c.behind_dinode-area.result.now c.name-item.result c.bytes-name.result.now (Some s) c.behind_dinode-area.ensures.part c.bytes-name.ensures.bytes found in
+    disk_failed_weaker {Q = λ b. CallReads c.args.root.now (calls.Read c.args.path.now c.args.at c.args.count) b} c.in-Err.end
+    (λ b. reads_file c.args.root.now c.args.path.now c.name-item.result c.args.at c.args.count s c.in-Some.address c.bytes-name.ensures.name one first there b) c.in-Err.ensures.failed

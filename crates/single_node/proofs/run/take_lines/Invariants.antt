@@ -1,12 +1,11 @@
 use Rattle.std.proofs.Common.{◌≡◌, ◌≤◌, ℕ}
 use Rattle.single_node.specs.Flat.{IsStart}
 use Rattle.single_node.specs.Run.{IsRunUpTo}
-use Rattle.single_node.proofs.run.answer_lines.Given as goal
+use Rattle.single_node.proofs.run.take_lines.Given as goal
 
 abbrev pub invariant-loop-line : goal.invariant-loop-line
 invariant-loop-line g l = record {
-  count : l.number ≡ l.line-index;
-  run : IsRunUpTo l.name l.lines l.line-index l.items.items (IsStart (g.D.SharedDisk.state l.initial.disk) l.root);
+  run : IsRunUpTo l.clients l.lines l.line-index l.items.items (IsStart (g.D.SharedDisk.state l.initial.disk) l.root);
   same : g.D.SharedDisk.state l.disk ≡ g.D.SharedDisk.state l.initial.disk;
   later : (j : ℕ) → g.D.SharedDisk.faults l.initial.disk j ≤ g.D.SharedDisk.faults l.disk j;
 }
