@@ -1,3 +1,4 @@
+pub mod HexWords
 pub mod Lines
 pub mod Names
 pub mod Numbers

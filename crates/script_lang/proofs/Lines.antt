@@ -1,11 +1,11 @@
 -- The first line of a text, and the first word of a line.
-use Rattle.std.proofs.Common.{◌≡◌, ℕ, suc, ◌+◌, ◌-◌, ◌<◌, ◌≤◌, min, Bool, true, false, not, ◌==◌, ltb, List, [], ◌∷◌, length, take, drop, refl, sym, ap, ◌∙◌, arith, unwrap_or}
-use Rattle.std.specs.List.{position, position_or_len, onto_first}
-use Rattle.std.proofs.lemmas.Bool.{ltb-false}
-use Rattle.std.proofs.lemmas.List.{take_rest, drop_min, length-drop}
+use Rattle.std.proofs.Common.{◌≡◌, ℕ, suc, ◌+◌, ◌-◌, ◌<◌, ◌≤◌, min, Bool, true, false, not, ◌==◌, ltb, List, [], ◌∷◌, length, take, drop, get_or, inl, inr, refl, sym, ap, ◌∙◌, arith, unwrap_or}
+use Rattle.std.specs.List.{position, position_or_len, onto_first, slice_split}
+use Rattle.std.proofs.lemmas.Bool.{ltb-false, cases_lt}
+use Rattle.std.proofs.lemmas.List.{take_rest, take_all, drop_all, drop_min, drop_more, length-drop}
 use Rattle.std.proofs.lemmas.List.Sums.{prefix_len-le-length}
 use Rattle.std.proofs.lemmas.List.Splits.{slice_split_first}
-use Rattle.script_lang.specs.Words.{lines_in, words_in}
+use Rattle.script_lang.specs.Words.{lines_in, parts_behind}
 
 pub place_or_all : (p : ℕ → Bool) (xs : List ℕ) → unwrap_or (position p xs) (length xs) ≡ position_or_len p xs
 place_or_all p xs = by_test _ refl
@@ -47,20 +47,37 @@ first_line text e n some end next =
       omega (arith, ap length rest, length-drop n text),
     )
 
-abbrev space : ℕ → Bool
-space b = b == 32
+-- ---- the parts of a text between bytes of one kind
 
-pub first_word : (line : List ℕ) (e : ℕ) → e ≡ position_or_len space line → e < length line
-    → words_in line ≡ take e line ∷ words_in (take (length line - (e + 1)) (drop (e + 1) line))
-first_word line e end within =
-    let inside : position_or_len space line < length line = omega (arith, end) in
-    slice_split_first space line 0 inside
-    ∙ (λ i. take (sym end i) line ∷ words_in (drop (sym end i + 1) line)) ∙ ap (λ (l : List ℕ). take e line ∷ words_in l) (sym (take_rest line (e + 1)))
+module _ (separator : ℕ) where
+  abbrev here : ℕ → Bool
+  here b = b == separator
 
-pub last_word : (line : List ℕ) → length line ≤ position_or_len space line → words_in line ≡ line ∷ []
-last_word [] none = refl
-last_word (b ∷ bs) none = by_test (last_word bs) (space b) refl
-  where
-    by_test : (length bs ≤ position_or_len space bs → words_in bs ≡ bs ∷ []) → (t : Bool) → space b ≡ t → words_in (b ∷ bs) ≡ (b ∷ bs) ∷ []
-    by_test more true e = let zero_at : position_or_len space (b ∷ bs) ≡ 0 = rw e refl in absurd (omega (arith, zero_at))
-    by_test more false e = let one_on : position_or_len space (b ∷ bs) ≡ 1 + position_or_len space bs = rw e refl in rw e (ap (onto_first b) (more (omega (arith, one_on))))
+  pub first_part : (text : List ℕ) (e : ℕ) → e ≡ position_or_len here text → e < length text
+      → slice_split here text ≡ take e text ∷ slice_split here (take (length text - (e + 1)) (drop (e + 1) text))
+  first_part text e end within =
+      let inside : position_or_len here text < length text = omega (arith, end) in
+      slice_split_first here text 0 inside
+      ∙ (λ i. take (sym end i) text ∷ slice_split here (drop (sym end i + 1) text)) ∙ ap (λ (l : List ℕ). take e text ∷ slice_split here l) (sym (take_rest text (e + 1)))
+
+  pub last_part : (text : List ℕ) → length text ≤ position_or_len here text → slice_split here text ≡ text ∷ []
+  last_part [] none = refl
+  last_part (b ∷ bs) none = by_test (last_part bs) (here b) refl
+    where
+      by_test : (length bs ≤ position_or_len here bs → slice_split here bs ≡ bs ∷ []) → (t : Bool) → here b ≡ t → slice_split here (b ∷ bs) ≡ (b ∷ bs) ∷ []
+      by_test more true e = let zero_at : position_or_len here (b ∷ bs) ≡ 0 = rw e refl in absurd (omega (arith, zero_at))
+      by_test more false e = let one_on : position_or_len here (b ∷ bs) ≡ 1 + position_or_len here bs = rw e refl in rw e (ap (onto_first b) (more (omega (arith, one_on))))
+
+  -- the first part, and what stands behind it with its separator
+  pub part_and_rest : (text : List ℕ) (e : ℕ) → e ≡ position_or_len here text → e ≤ length text
+      → slice_split here text ≡ take e text ∷ parts_behind separator (take (length text - e) (drop e text))
+  part_and_rest text e end within = elim (cases_lt e (length text)) [
+    | inl inside ↦
+        let rest : take (length text - e) (drop e text) ≡ get_or text e 0 ∷ drop (e + 1) text = take_rest text e ∙ drop_more text e 0 inside in
+        first_part text e end inside
+        ∙ ap (λ (l : List ℕ). take e text ∷ slice_split here l) (take_rest text (e + 1)) ∙ ap (λ (l : List ℕ). take e text ∷ parts_behind separator l) (sym rest)
+    | inr past ↦
+        let none : drop e text ≡ [] = drop_all e text past in
+        let all : take e text ≡ text = take_all e text past in
+        last_part text (omega (arith, end)) ∙ ap (λ (l : List ℕ). l ∷ []) (sym all) ∙ ap (λ (l : List ℕ). take e text ∷ parts_behind separator l) (sym (take_rest text e ∙ none))
+  ]

@@ -38,6 +38,15 @@ on_path call ws = a_word path_in (λ p. ends (call p)) ws
 abbrev pub on_range : (List (List ℕ) → ℕ → ℕ → Call) → List (List ℕ) → LineRead Call
 on_range call ws = a_word path_in (λ p. a_word (number_in 0 offset_limit) (λ at. a_word (number_in 0 count_limit) (λ count. ends (call p at count)))) ws
 
+abbrev pub on_content : List (List ℕ) → LineRead Call
+on_content ws = a_word path_in (λ p. a_word (number_in 0 offset_limit) (λ at. a_word content_in (λ content. ends (calls.Write p at content)))) ws
+
+abbrev pub on_size : List (List ℕ) → LineRead Call
+on_size ws = a_word path_in (λ p. a_word (number_in 0 offset_limit) (λ size. ends (calls.Truncate p size))) ws
+
+abbrev pub on_paths : List (List ℕ) → LineRead Call
+on_paths ws = a_word path_in (λ p. a_word path_in (λ q. ends (calls.Rename p q))) ws
+
 abbrev pub call_after : List ℕ → List (List ℕ) → LineRead Call
 call_after verb ws =
     if bytes_eq verb (codes "create") then later (on_path calls.Create ws)
@@ -46,11 +55,11 @@ call_after verb ws =
     else if bytes_eq verb (codes "rmdir") then later (on_path calls.Rmdir ws)
     else if bytes_eq verb (codes "read") then later (on_range calls.Read ws)
     else if bytes_eq verb (codes "dread") then later (on_range calls.Dread ws)
-    else if bytes_eq verb (codes "write") then later (a_word path_in (λ p. a_word (number_in 0 offset_limit) (λ at. a_word content_in (λ content. ends (calls.Write p at content)))) ws)
-    else if bytes_eq verb (codes "truncate") then later (a_word path_in (λ p. a_word (number_in 0 offset_limit) (λ size. ends (calls.Truncate p size))) ws)
+    else if bytes_eq verb (codes "write") then later (on_content ws)
+    else if bytes_eq verb (codes "truncate") then later (on_size ws)
     else if bytes_eq verb (codes "stat") then later (on_path calls.Stat ws)
     else if bytes_eq verb (codes "list") then later (on_path calls.List ws)
-    else if bytes_eq verb (codes "rename") then later (a_word path_in (λ p. a_word path_in (λ q. ends (calls.Rename p q))) ws)
+    else if bytes_eq verb (codes "rename") then later (on_paths ws)
     else if bytes_eq verb (codes "sync") then later (ends calls.Sync ws)
     else Wrong 0
 

@@ -1,4 +1,5 @@
 pub mod Script
 pub mod Words
 pub mod Grammar
+pub mod Reading
 pub mod Plain

@@ -1,6 +1,9 @@
 //! Scripts: what clients call, and when nodes crash and join.
 #![tactic(auto)]
 
+mod calls;
+mod content;
+mod line_words;
 mod plain;
 mod script;
 #[cfg(test)]
