@@ -1,6 +1,7 @@
 pub mod HexWords
-pub mod Lines
+pub mod LineLaws
 pub mod Names
 pub mod Numbers
 pub mod PlainLaws
 pub mod Rows
+pub mod TextParts

@@ -1,13 +1,14 @@
 -- What the reading of a line answers.
-use Rattle.std.specs.Prelude.{ℕ, ◌≡◌, List, Result, MatchResult, ⊤}
+use Rattle.std.specs.Prelude.{ℕ, ◌≡◌, ◌≤◌, List, length, Result, MatchResult, ⊤}
 use Rattle.file_tree.specs.declared.call.Call.{Call}
 use Rattle.file_tree.specs.declared.call.Call.TheVariants as calls
 use Rattle.script_lang.specs.declared.calls.Verb.{Verb}
 use Rattle.script_lang.specs.declared.calls.Verb.TheVariants as verbs
 use Rattle.script_lang.specs.declared.line_words.LineFault.{LineFault}
 use Rattle.script_lang.specs.declared.line_words.LineFault.TheVariants as fault
+use Rattle.script_lang.specs.Script.{ScriptValue}
 use Rattle.script_lang.specs.Words.{LineRead, Got, Wrong, ends}
-use Rattle.script_lang.specs.Grammar.{on_path, on_range, on_content, on_size, on_paths}
+use Rattle.script_lang.specs.Grammar.{client_limit, on_path, on_range, on_content, on_size, on_paths}
 
 -- the word of this number is wrong, and this is why; or memory ran out
 abbrev pub IsWrongAt : ℕ → Type 0 → LineFault → Type 0
@@ -22,6 +23,15 @@ IsFault read fault.NoMemory = ⊤
 -- the value that is read, or its fault
 abbrev pub ReadsAs : {A : Type 0} → LineRead A → Result A LineFault → Type 0
 ReadsAs read r = MatchResult r (λ a. read ≡ Got a) (IsFault read)
+
+-- the script with its next line, or the line's fault
+abbrev pub ReadsInto : LineRead ScriptValue → ScriptValue → Result ⊤ LineFault → Type 0
+ReadsInto read s r = MatchResult r (λ _. read ≡ Got s) (IsFault read)
+
+-- the script so far has no more nodes and clients than a script may have
+pub record IsWithinLimits (s : ScriptValue) : Type 0 where
+  pub nodes : s.nodes ≤ 8
+  pub clients : length s.clients ≤ client_limit
 
 -- the arguments of a call by its verb
 abbrev pub arguments_read : Verb → List (List ℕ) → LineRead Call

@@ -4,6 +4,7 @@
 mod calls;
 mod content;
 mod line_words;
+mod lines;
 mod plain;
 mod script;
 #[cfg(test)]

@@ -88,6 +88,21 @@ pub(crate) fn path_at(alloc: Global, words: &[u8], number: u32) -> Result<(Path,
     Ok((path, behind))
 }
 
+/// What stands behind the next word, which is this very one.
+pub(crate) fn behind_word<'a>(words: &'a [u8], wanted: &[u8], number: u32) -> Result<&'a [u8], LineFault>
+    ensures { MatchResult result (λ p. first_as (the_word wanted.now) (words_behind words.now) ≡ Some (wanted.now, words_behind p.now))
+        (IsWrongAt number (first_as (the_word wanted.now) (words_behind words.now) ≡ None)) }
+{
+    let Some((word, behind)) = word_behind(words) else {
+        return Err(LineFault::Wrong { word: number });
+    };
+    if word == wanted {
+        Ok(behind)
+    } else {
+        Err(LineFault::Wrong { word: number })
+    }
+}
+
 /// No word is left.
 pub(crate) fn end_at(words: &[u8], number: u32) -> Result<(), LineFault>
     ensures { MatchResult result (λ _. words_behind words.now ≡ [])

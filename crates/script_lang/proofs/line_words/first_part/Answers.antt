@@ -1,4 +1,4 @@
-use Rattle.script_lang.proofs.Lines.{part_and_rest}
+use Rattle.script_lang.proofs.TextParts.{part_and_rest}
 use Rattle.script_lang.proofs.line_words.first_part.Goals as goal
 
 pub returns : goal.returns

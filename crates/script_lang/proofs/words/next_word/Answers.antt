@@ -1,5 +1,5 @@
 use Rattle.std.proofs.Common.{arith}
-use Rattle.script_lang.proofs.Lines.{first_part, last_part}
+use Rattle.script_lang.proofs.TextParts.{first_part, last_part}
 use Rattle.script_lang.proofs.words.next_word.Goals as goal
 
 pub returns-then-end-line : goal.returns-then-end-line

@@ -1,6 +1,6 @@
 use Rattle.std.proofs.Common.{◌<◌, length, arith}
 use Rattle.std.proofs.lemmas.Bool.Decides.{nat_tests}
-use Rattle.script_lang.proofs.Lines.{first_line}
+use Rattle.script_lang.proofs.TextParts.{first_line}
 use Rattle.script_lang.proofs.words.take_line.Goals as goal
 
 pub returns : goal.returns
