@@ -1,7 +1,11 @@
+pub mod Columns
+pub mod GotLaws
 pub mod HexWords
 pub mod LineLaws
 pub mod Names
 pub mod Numbers
 pub mod PlainLaws
 pub mod Rows
+pub mod ScriptLaws
 pub mod TextParts
+pub mod WellFormedLaws

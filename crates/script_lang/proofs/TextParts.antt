@@ -2,7 +2,7 @@
 use Rattle.std.proofs.Common.{◌≡◌, ℕ, suc, ◌+◌, ◌-◌, ◌<◌, ◌≤◌, min, Bool, true, false, not, ◌==◌, ltb, List, [], ◌∷◌, length, take, drop, get_or, inl, inr, refl, sym, ap, ◌∙◌, arith, unwrap_or}
 use Rattle.std.specs.List.{position, position_or_len, onto_first, slice_split}
 use Rattle.std.proofs.lemmas.Bool.{ltb-false, cases_lt}
-use Rattle.std.proofs.lemmas.List.{take_rest, take_all, drop_all, drop_min, drop_more, length-drop}
+use Rattle.std.proofs.lemmas.List.{take_rest, take_all, drop_all, drop_min, drop_more, length-drop, length-take}
 use Rattle.std.proofs.lemmas.List.Sums.{prefix_len-le-length}
 use Rattle.std.proofs.lemmas.List.Splits.{slice_split_first}
 use Rattle.script_lang.specs.Words.{lines_in, parts_behind}
@@ -39,13 +39,20 @@ lines_in-first (b ∷ c ∷ cs) some = by_test (lines_in-first (c ∷ cs) (omega
     by_test more false e = rw e (ap (onto_first b) more ∙ one_more b (c ∷ cs) (end_of (c ∷ cs)))
 
 pub first_line : (text : List ℕ) (e n : ℕ) → 0 < length text → e ≡ end_of text → n ≡ min (e + 1) (length text)
-    → (lines_in text ≡ take e text ∷ lines_in (take (length text - n) (drop n text))) × (length (take (length text - n) (drop n text)) < length text)
+    → lines_in text ≡ take e text ∷ lines_in (take (length text - n) (drop n text))
 first_line text e n some end next =
     let rest : take (length text - n) (drop n text) ≡ drop n text = take_rest text n in
-    let past : drop n text ≡ drop (e + 1) text = ap (λ (k : ℕ). drop k text) next ∙ drop_min (e + 1) text in (
-      lines_in-first text some ∙ (λ i. take (sym end i) text ∷ lines_in (drop (sym end i + 1) text)) ∙ ap (λ (l : List ℕ). take e text ∷ lines_in l) (sym past ∙ sym rest),
-      omega (arith, ap length rest, length-drop n text),
-    )
+    let past : drop n text ≡ drop (e + 1) text = ap (λ (k : ℕ). drop k text) next ∙ drop_min (e + 1) text in
+    lines_in-first text some ∙ (λ i. take (sym end i) text ∷ lines_in (drop (sym end i + 1) text)) ∙ ap (λ (l : List ℕ). take e text ∷ lines_in l) (sym past ∙ sym rest)
+
+-- how long the line and the lines behind it are
+pub line_place : (text : List ℕ) (e n : ℕ) → 0 < length text → e ≤ length text → n ≡ min (e + 1) (length text)
+    → (length (take e text) ≤ length text) × (length (take (length text - n) (drop n text)) < length text)
+    × (0 < length (take (length text - n) (drop n text)) → length (take e text) + 1 + length (take (length text - n) (drop n text)) ≡ length text)
+line_place text e n some within next =
+    let front : length (take e text) ≡ e = omega (arith, length-take e text) in
+    let rest : length (take (length text - n) (drop n text)) ≡ length text - n = ap length (take_rest text n) ∙ length-drop n text in
+    (omega (arith, front), omega (arith, rest, next), λ more. omega (arith, front, rest, next))
 
 -- ---- the parts of a text between bytes of one kind
 

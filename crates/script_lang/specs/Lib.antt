@@ -3,3 +3,5 @@ pub mod Words
 pub mod Grammar
 pub mod Reading
 pub mod Plain
+pub mod OneNode
+pub mod WellFormed

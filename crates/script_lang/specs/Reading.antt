@@ -6,9 +6,11 @@ use Rattle.script_lang.specs.declared.calls.Verb.{Verb}
 use Rattle.script_lang.specs.declared.calls.Verb.TheVariants as verbs
 use Rattle.script_lang.specs.declared.line_words.LineFault.{LineFault}
 use Rattle.script_lang.specs.declared.line_words.LineFault.TheVariants as fault
+use Rattle.script_lang.specs.declared.parser.ScriptRefusal.{ScriptRefusal}
+use Rattle.script_lang.specs.declared.parser.ScriptRefusal.TheVariants as refusal
 use Rattle.script_lang.specs.Script.{ScriptValue}
-use Rattle.script_lang.specs.Words.{LineRead, Got, Wrong, ends}
-use Rattle.script_lang.specs.Grammar.{client_limit, on_path, on_range, on_content, on_size, on_paths}
+use Rattle.script_lang.specs.Words.{LineRead, Got, Wrong, ends, column_of}
+use Rattle.script_lang.specs.Grammar.{ScriptRead, Bad, client_limit, on_path, on_range, on_content, on_size, on_paths}
 
 -- the word of this number is wrong, and this is why; or memory ran out
 abbrev pub IsWrongAt : ℕ → Type 0 → LineFault → Type 0
@@ -27,6 +29,16 @@ ReadsAs read r = MatchResult r (λ a. read ≡ Got a) (IsFault read)
 -- the script with its next line, or the line's fault
 abbrev pub ReadsInto : LineRead ScriptValue → ScriptValue → Result ⊤ LineFault → Type 0
 ReadsInto read s r = MatchResult r (λ _. read ≡ Got s) (IsFault read)
+
+-- the refusal of a line for its fault
+abbrev pub IsRefusalOf : ℕ → List (List ℕ) → LineFault → ScriptRefusal → Type 0
+IsRefusalOf number ws (fault.Wrong word) r = r ≡ refusal.Bad number (column_of word ws)
+IsRefusalOf number ws fault.NoMemory r = r ≡ refusal.NoMemory
+
+-- the text is refused at this line and column, or memory ran out
+abbrev pub IsRefusal : ScriptRead → ScriptRefusal → Type 0
+IsRefusal read (refusal.Bad line column) = read ≡ Bad line column
+IsRefusal read refusal.NoMemory = ⊤
 
 -- the script so far has no more nodes and clients than a script may have
 pub record IsWithinLimits (s : ScriptValue) : Type 0 where

@@ -5,11 +5,13 @@ mod calls;
 mod content;
 mod line_words;
 mod lines;
+mod parser;
 mod plain;
 mod script;
 #[cfg(test)]
 mod tests;
 mod words;
 
+pub use parser::{ScriptRefusal, parse};
 pub use plain::{PlainScript, parse_plain};
 pub use script::{Armed, Client, Fate, Line, Script};

@@ -24,8 +24,9 @@ pub(crate) fn length_before(text: &[u8], separator: u8) -> usize
 
 /// The first line of a text without its newline, and the lines behind it; `None` where there is none.
 pub(crate) fn take_line(text: &[u8]) -> Option<(&[u8], &[u8])>
-    ensures { MatchOption result (lines_in text.now ≡ [])
-        (λ p. (lines_in text.now ≡ p.0.now ∷ lines_in p.1.now) × (length p.1.now < length text.now)) }
+    ensures line { MatchOption result (lines_in text.now ≡ []) (λ p. lines_in text.now ≡ p.0.now ∷ lines_in p.1.now) }
+    ensures place { IfSome result (λ p. (length p.0.now ≤ length text.now) × (length p.1.now < length text.now)
+        × (0 < length p.1.now → length p.0.now + 1 + length p.1.now ≡ length text.now)) }
 {
     if text.is_empty() {
         return None;
