@@ -1,4 +1,5 @@
 pub mod Columns
+pub mod ForeignLaws
 pub mod GotLaws
 pub mod HexWords
 pub mod LineLaws

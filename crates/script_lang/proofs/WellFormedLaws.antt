@@ -20,6 +20,7 @@ use Rattle.script_lang.specs.Words.{LineRead, Got, Wrong, later, ends, a_word, t
 use Rattle.script_lang.specs.Grammar.{client_limit, nothing, has_client, new_client, client_before_colon, with_line, with_armed, nodes_line, client_line, fate_read, is_armed, may_arm, armed_line, after_node, crash_line, called, call_line, call_read, may_have_client, later_line, line_read}
 use Rattle.script_lang.specs.OneNode.{HaveOwnClientNames}
 use Rattle.script_lang.specs.WellFormed.{IsNode, IsAllowedCall, IsClient, IsFate, IsArmed, IsLine, HaveOwnNodes}
+use Rattle.script_lang.proofs.ForeignLaws.{no_items}
 use Rattle.script_lang.proofs.GotLaws.{AllGot, got-wrong, got-got, got-ends, got-later, got-if, got-a_word, number_limits, allowed_read}
 
 -- ---- one more element
@@ -27,10 +28,6 @@ use Rattle.script_lang.proofs.GotLaws.{AllGot, got-wrong, got-got, got-ends, got
 all_push : {A : Type 0} (P : A → Type 0) (xs : List A) (x : A) → AllByRecursion P xs → P x → AllByRecursion P (xs ++ x ∷ [])
 all_push P [] x all here = (here, tt)
 all_push P (y ∷ ys) x all here = (all.0, all_push P ys x all.1 here)
-
-no_length : {A : Type 0} (xs : List A) → length xs ≡ 0 → xs ≡ []
-no_length [] none = refl
-no_length (x ∷ xs) none = absurd (omega (arith, none))
 
 names_push : (cs : List Client) (c : Client) → HaveOwnClientNames cs → has_client cs c.name ≡ false → HaveOwnClientNames (cs ++ c ∷ [])
 names_push [] c own none = (tt, tt)
@@ -149,7 +146,7 @@ module _ (n : ℕ) (s : ScriptValue) (so : IsSoFar n s) where
     next_client ws may =
         let front = and_parts ((length s.armed == 0) && (length s.lines == 0)) (nat_lt (length s.clients) client_limit) may in
         let empty = and_parts (length s.armed == 0) (length s.lines == 0) front.0 in
-        let none : s.lines ≡ [] = no_length s.lines (eqb-true (length s.lines) 0 empty.1) in
+        let none : s.lines ≡ [] = no_items s.lines (eqb-true (length s.lines) 0 empty.1) in
         let room : nat_lt (length s.clients) client_limit ≡ true = front.1 in
         let few : length s.clients < client_limit = grind (arith, nat_tests) in
         let put : List ℕ → ℕ → ScriptValue = λ name node. record s { clients = s.clients ++ record { name = name; node = node } ∷ [] } in

@@ -5,3 +5,4 @@ pub mod Reading
 pub mod Plain
 pub mod OneNode
 pub mod WellFormed
+pub mod Foreign

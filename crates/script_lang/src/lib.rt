@@ -5,6 +5,7 @@ mod calls;
 mod content;
 mod line_words;
 mod lines;
+mod one_node;
 mod parser;
 mod plain;
 mod script;
@@ -12,6 +13,7 @@ mod script;
 mod tests;
 mod words;
 
+pub use one_node::first_foreign_line;
 pub use parser::{ScriptRefusal, parse};
 pub use plain::{PlainScript, parse_plain};
 pub use script::{Armed, Client, Fate, Line, Script};
