@@ -53,6 +53,7 @@ number_limits low high w n is = by_tests (bytes_eq w (decimal v)) (nat_le low v)
   where
     v : ℕ
     v = digits_value 10 w
+
     by_tests : (a b c : Bool) → nat_le low (digits_value 10 w) ≡ b → nat_le (digits_value 10 w) high ≡ c → (if a && b && c then Some (digits_value 10 w) else None) ≡ Some n → (low ≤ n) × (n ≤ high)
     by_tests true true true above below e = let same : digits_value 10 w ≡ n = cc in subst (λ (k : ℕ). (low ≤ k) × (k ≤ high)) same (grind (arith, nat_tests), grind (arith, nat_tests))
     by_tests true true false above below e = cc
@@ -90,6 +91,7 @@ content_limits w bytes is = by_parts (slice_split (λ b. b == 58) w) is
     by_fill : (fill : Bool) (byte count : List ℕ) → (if fill then filled (hex_in byte) (number_in 1 transfer_limit count) else None) ≡ Some bytes → IsTransfer bytes
     by_fill true byte count e = filled_limits (hex_in byte) count bytes e
     by_fill false byte count e = cc
+
     by_parts : (parts : List (List ℕ)) → content_from w parts ≡ Some bytes → IsTransfer bytes
     by_parts [] e = within_limits (hex_in w) bytes e
     by_parts (a ∷ []) e = within_limits (hex_in w) bytes e

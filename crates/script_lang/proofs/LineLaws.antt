@@ -40,6 +40,7 @@ before_colon w name some = same_test _ _ to from
         let is_colon : get_or w (length w - 1) 0 ≡ 58 = eqb-true _ _ parts.0 in
         let is_name : take (length w - 1) w ≡ name = (bytes_eq-Decides _ _).0 parts.1 in
         (bytes_eq-Decides w (name ++ codes ":")).1 (front_and_last w some ∙ (λ i. is_name i ++ is_colon i ∷ []))
+
     from : bytes_eq w (name ++ codes ":") ≡ true → ((get_or w (length w - 1) 0 == 58) && bytes_eq (take (length w - 1) w) name) ≡ true
     from whole =
         let parts = same_from_push name (take (length w - 1) w) 58 (get_or w (length w - 1) 0) (sym ((bytes_eq-Decides w (name ++ codes ":")).0 whole) ∙ front_and_last w some) in

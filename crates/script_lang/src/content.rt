@@ -101,7 +101,11 @@ fn content_word(alloc: Global, word: &[u8]) -> Result<Option<Content>, NoMemory>
 }
 
 /// The next word as the content of a write; `number` is the word's own in its line.
-pub(crate) fn content_at(alloc: Global, words: &[u8], number: u32) -> Result<(Content, &[u8]), LineFault>
+pub(crate) fn content_at(
+    alloc: Global,
+    words: &[u8],
+    number: u32,
+) -> Result<(Content, &[u8]), LineFault>
     ensures { MatchResult result (λ p. first_as content_in (words_behind words.now) ≡ Some (p.0, words_behind p.1.now))
         (IsWrongAt number (first_as content_in (words_behind words.now) ≡ None)) }
 {

@@ -3,7 +3,7 @@ ghost use Rattle.std.specs.List.{slice_split};
 ghost use Rattle.script_lang.specs.Words.{words_in, words_behind, parts_behind, first_as, number_in, path_in, client_in, the_word};
 ghost use Rattle.script_lang.specs.Reading.{IsWrongAt};
 
-use crate::words::{number_word, path_word, length_before};
+use crate::words::{length_before, number_word, path_word};
 use file_tree::{NoMemory, Path};
 use std::alloc::Global;
 
@@ -61,7 +61,12 @@ pub(crate) fn word_behind(words: &[u8]) -> Option<(&[u8], &[u8])>
 }
 
 /// The next word as a number within limits; `number` is the word's own in its line.
-pub(crate) fn number_at(words: &[u8], number: u32, low: u64, high: u64) -> Result<(u64, &[u8]), LineFault>
+pub(crate) fn number_at(
+    words: &[u8],
+    number: u32,
+    low: u64,
+    high: u64,
+) -> Result<(u64, &[u8]), LineFault>
     ensures { MatchResult result (λ p. first_as (number_in low high) (words_behind words.now) ≡ Some (p.0, words_behind p.1.now))
         (IsWrongAt number (first_as (number_in low high) (words_behind words.now) ≡ None)) }
 {
@@ -89,7 +94,11 @@ pub(crate) fn path_at(alloc: Global, words: &[u8], number: u32) -> Result<(Path,
 }
 
 /// What stands behind the next word, which is this very one.
-pub(crate) fn behind_word<'a>(words: &'a [u8], wanted: &[u8], number: u32) -> Result<&'a [u8], LineFault>
+pub(crate) fn behind_word<'a>(
+    words: &'a [u8],
+    wanted: &[u8],
+    number: u32,
+) -> Result<&'a [u8], LineFault>
     ensures { MatchResult result (λ p. first_as (the_word wanted.now) (words_behind words.now) ≡ Some (wanted.now, words_behind p.now))
         (IsWrongAt number (first_as (the_word wanted.now) (words_behind words.now) ≡ None)) }
 {

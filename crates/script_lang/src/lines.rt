@@ -74,7 +74,11 @@ fn new_client(alloc: Global, clients: &[Client], word: &[u8]) -> Result<Option<N
 }
 
 // The next word as a name that no client has yet.
-fn new_client_at<'a>(alloc: Global, clients: &[Client], words: &'a [u8]) -> Result<(Name, &'a [u8]), LineFault>
+fn new_client_at<'a>(
+    alloc: Global,
+    clients: &[Client],
+    words: &'a [u8],
+) -> Result<(Name, &'a [u8]), LineFault>
     ensures { MatchResult result (λ p. first_as (grammar.new_client clients.now) (words_behind words.now) ≡ Some (p.0, words_behind p.1.now))
         (IsWrongAt 1 (first_as (grammar.new_client clients.now) (words_behind words.now) ≡ None)) }
 {
@@ -95,7 +99,13 @@ fn client_line(alloc: Global, script: &mut Script, words: &[u8]) -> Result<(), L
     let words = behind_word(words, b"on", 2)?;
     let (node, words) = number_at(words, 3, 1, u64::from(script.nodes))?;
     end_at(words, 4)?;
-    put_client(script, Client { name, node: node as u8 })?;
+    put_client(
+        script,
+        Client {
+            name,
+            node: node as u8,
+        },
+    )?;
     Ok(())
 }
 
@@ -252,7 +262,9 @@ fn is_before_colon(name: &[u8], word: &[u8]) -> bool
 fn client_of(clients: &[Client], word: &[u8]) -> Option<usize>
     ensures { result ≡ grammar.client_before_colon clients.now word.now }
 {
-    clients.iter().position(|client| is_before_colon(client.name.bytes(), word))
+    clients
+        .iter()
+        .position(|client| is_before_colon(client.name.bytes(), word))
 }
 
 fn call_line(alloc: Global, script: &mut Script, word: &[u8], words: &[u8]) -> Result<(), LineFault>
@@ -263,12 +275,23 @@ fn call_line(alloc: Global, script: &mut Script, word: &[u8], words: &[u8]) -> R
         return Err(LineFault::Wrong { word: 0 });
     };
     let call = call_behind(alloc, words)?;
-    put_line(script, Line::Call { client: client as u32, call })?;
+    put_line(
+        script,
+        Line::Call {
+            client: client as u32,
+            call,
+        },
+    )?;
     Ok(())
 }
 
 // A line behind the first.
-fn later_line(alloc: Global, script: &mut Script, word: &[u8], words: &[u8]) -> Result<(), LineFault>
+fn later_line(
+    alloc: Global,
+    script: &mut Script,
+    word: &[u8],
+    words: &[u8],
+) -> Result<(), LineFault>
     requires { IsWithinLimits script.old }
     ensures { ReadsInto (grammar.later_line script.old word.now (words_behind words.now)) script.new result }
 {

@@ -83,12 +83,15 @@ fn next_line(
     requires within { before + length line.now ≤ total }
     ensures { MatchResult result
         (λ _. (number ≤ line_limit) × (line_read script.old (words_in line.now) ≡ Got script.new)
-            × ((ls : List (List ℕ)) → script_from total script.old number before (line.now ∷ ls)
-                ≡ script_from total script.new (number + 1) (before + length line.now + 1) ls))
+        × ((ls : List (List ℕ)) → script_from total script.old number before (line.now ∷ ls)
+        ≡ script_from total script.new (number + 1) (before + length line.now + 1) ls))
         (λ r. (ls : List (List ℕ)) → IsRefusal (script_from total script.old number before (line.now ∷ ls)) r) }
 {
     if number > LINE_LIMIT || passes_limit(total, before, line) {
-        return Err(ScriptRefusal::Bad { line: number, column: 1 });
+        return Err(ScriptRefusal::Bad {
+            line: number,
+            column: 1,
+        });
     }
     match read_line(alloc, script, line) {
         Ok(()) => Ok(()),
@@ -126,7 +129,10 @@ pub fn parse(alloc: Global, text: &[u8]) -> Result<Script, ScriptRefusal>
         rest = after;
     }
     if script.clients.as_slice().is_empty() {
-        Err(ScriptRefusal::Bad { line: number, column: 1 })
+        Err(ScriptRefusal::Bad {
+            line: number,
+            column: 1,
+        })
     } else {
         Ok(script)
     }
