@@ -1,14 +1,16 @@
 -- Words of pairs of digits: a word is what its bytes are written as exactly where its digits are in lower case.
 use Rattle.std.proofs.Common.{◌≡◌, ℕ, ◌+◌, ◌*◌, ◌/◌, ◌%◌, ◌<◌, ◌≤◌, ◌==◌, Bool, true, false, ◌&&◌, not, if◌then◌else◌, List, [], ◌∷◌, length, Option, Some, None, Result, Ok, Err, refl, sym, ap, ◌∙◌, inl, inr, arith}
-use Rattle.std.specs.Prelude.{nat_lt, nat_le, slice_index}
+use Rattle.std.specs.Prelude.{nat_lt, nat_le, slice_index, ⊤}
 use Rattle.std.specs.List.{list_all}
 use Rattle.std.specs.Str.{bytes_eq}
 use Rattle.std.proofs.lemmas.Bool.{agree_below, agree_below_at, and_parts, cases_lt}
 use Rattle.std.proofs.lemmas.Bool.Decides.{nat_tests}
+use Rattle.std.proofs.lemmas.Slice.Eq.{bytes_eq-Decides}
+use Rattle.hex.proofs.HexLemmas.{length-encode_with}
 use Rattle.hex.specs.Hex.{lower_digits, encode_with, encode_lower, hex_digit_value, pair_value, value_at, digit_or_error, decode_pairs, decode_of, ◌>>=◌}
 use Rattle.hex.specs.declared.error.FromHexError.{FromHexError}
 use Rattle.hex.specs.declared.error.FromHexError.TheVariants.{OddLength}
-use Rattle.script_lang.specs.Words.{is_lower_digit, hex_in, bytes_of}
+use Rattle.script_lang.specs.Words.{is_lower_digit, hex_in, bytes_of, filled, within_transfer, transfer_limit}
 
 -- ---- one digit
 
@@ -93,3 +95,40 @@ hex_other w other = by_case (decode_of w) refl
     by_case : (r : Result (List ℕ) FromHexError) → decode_of w ≡ r → None ≡ bytes_of w r
     by_case (Err e) is = refl
     by_case (Ok bytes) is = let differs : bytes_eq w (encode_lower bytes) ≡ false = decoded w bytes is ∙ sym other in rw differs refl
+
+-- ---- how long a word is
+
+abbrev TwoDigits : List ℕ → Option (List ℕ) → Type 0
+TwoDigits w None = ⊤
+TwoDigits w (Some bytes) = length w ≡ 2 * length bytes
+
+two_digits : (w : List ℕ) → TwoDigits w (hex_in w)
+two_digits w = by_case (decode_of w)
+  where
+    by_test : (bytes : List ℕ) (same : Bool) → bytes_eq w (encode_lower bytes) ≡ same → TwoDigits w (if same then Some bytes else None)
+    by_test bytes true is = ap length ((bytes_eq-Decides w (encode_lower bytes)).0 is) ∙ length-encode_with lower_digits bytes
+    by_test bytes false is = tt
+
+    by_case : (r : Result (List ℕ) FromHexError) → TwoDigits w (bytes_of w r)
+    by_case (Err e) = tt
+    by_case (Ok bytes) = by_test bytes (bytes_eq w (encode_lower bytes)) refl
+
+pub too_long : (w : List ℕ) → 32768 < length w → None ≡ within_transfer (hex_in w)
+too_long w long = by_value (hex_in w) (two_digits w)
+  where
+    by_value : (o : Option (List ℕ)) → TwoDigits w o → None ≡ within_transfer o
+    by_value None two = refl
+    by_value (Some bytes) two = let past : nat_le (length bytes) transfer_limit ≡ false = (let more : transfer_limit < length bytes = omega (arith, two) in grind (arith, nat_tests)) in rw past (neither (nat_le 1 (length bytes)))
+      where
+        neither : (b : Bool) → None ≡ (if b && false then Some bytes else None)
+        neither true = refl
+        neither false = refl
+
+pub no_byte : (w : List ℕ) (count : Option ℕ) → (length w ≡ 2 → ⊥) → None ≡ filled (hex_in w) count
+no_byte w count other = by_value (hex_in w) count (two_digits w)
+  where
+    by_value : (o : Option (List ℕ)) (n : Option ℕ) → TwoDigits w o → None ≡ filled o n
+    by_value None n two = refl
+    by_value (Some []) n two = refl
+    by_value (Some (b ∷ [])) n two = absurd (other two)
+    by_value (Some (b ∷ c ∷ cs)) n two = refl

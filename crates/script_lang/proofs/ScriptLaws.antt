@@ -39,20 +39,3 @@ module _ (text : List ℕ) where
       place = λ more. omega (arith, whole more, so.place (omega (arith, some)));
       same = here ∙ step (lines_in after);
     }
-
-  -- the script at the text's end
-  pub whole_form : (n : ℕ) (s : ScriptValue) → IsSoFar n s → n ≤ 10001 → (length s.clients ≡ 0 → ⊥) → IsWellFormed s
-  whole_form n s so few some =
-      let one : 1 ≤ length s.clients = omega (arith, some) in
-      let one_node : 1 ≤ s.nodes = elim (cases_lt 0 s.nodes) [ inl more ↦ omega (arith, more) | inr none ↦ absurd (some (ap length (so.no_lines (omega (arith, none))).0)) ] in record {
-        one_node = one_node;
-        few_nodes = so.few_nodes;
-        one_client = one;
-        few_clients = so.few_clients;
-        clients = so.clients;
-        names = so.names;
-        armed = so.armed;
-        armed_nodes = so.armed_nodes;
-        lines = so.lines;
-        few_lines = omega (arith, so.counted one_node, few);
-      }

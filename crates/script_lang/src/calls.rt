@@ -7,7 +7,7 @@ ghost use Rattle.script_lang.specs.Reading.{ReadsAs, IsFault, arguments_read};
 
 use crate::content::content_at;
 use crate::line_words::{LineFault, end_at, number_at, path_at, word_behind};
-use crate::words::is_same;
+use crate::words::is_word;
 use file_tree::{Call, Content, Path};
 use std::alloc::Global;
 
@@ -39,40 +39,40 @@ fn verb_of(word: &[u8]) -> Option<Verb>
     ensures { MatchOption result ((ws : List (List ℕ)) → call_after word.now ws ≡ Wrong 0)
         (λ verb. (ws : List (List ℕ)) → call_after word.now ws ≡ later (arguments_read verb ws)) }
 {
-    if is_same(word, b"create") {
+    if is_word(word, b"create") {
         return Some(Verb::Create);
     }
-    if is_same(word, b"mkdir") {
+    if is_word(word, b"mkdir") {
         return Some(Verb::Mkdir);
     }
-    if is_same(word, b"unlink") {
+    if is_word(word, b"unlink") {
         return Some(Verb::Unlink);
     }
-    if is_same(word, b"rmdir") {
+    if is_word(word, b"rmdir") {
         return Some(Verb::Rmdir);
     }
-    if is_same(word, b"read") {
+    if is_word(word, b"read") {
         return Some(Verb::Read);
     }
-    if is_same(word, b"dread") {
+    if is_word(word, b"dread") {
         return Some(Verb::Dread);
     }
-    if is_same(word, b"write") {
+    if is_word(word, b"write") {
         return Some(Verb::Write);
     }
-    if is_same(word, b"truncate") {
+    if is_word(word, b"truncate") {
         return Some(Verb::Truncate);
     }
-    if is_same(word, b"stat") {
+    if is_word(word, b"stat") {
         return Some(Verb::Stat);
     }
-    if is_same(word, b"list") {
+    if is_word(word, b"list") {
         return Some(Verb::List);
     }
-    if is_same(word, b"rename") {
+    if is_word(word, b"rename") {
         return Some(Verb::Rename);
     }
-    if is_same(word, b"sync") {
+    if is_word(word, b"sync") {
         return Some(Verb::Sync);
     }
     None

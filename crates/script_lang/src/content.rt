@@ -4,13 +4,16 @@ ghost use Rattle.script_lang.specs.Words.{words_behind, first_as, content_in, co
 ghost use Rattle.script_lang.specs.Reading.{IsWrongAt};
 
 use crate::line_words::{LineFault, first_part, part_behind, word_behind};
-use crate::words::{is_same, number_word};
+use crate::words::{is_word, number_word};
 use file_tree::{Content, NoMemory};
 use hex::FromHexError;
 use std::alloc::Global;
 
 /// How many bytes one call writes at most.
 const TRANSFER_LIMIT: u64 = 16_384;
+
+// Two digits a byte. A longer word is refused before it takes memory.
+const LONGEST_BYTES: usize = 32_768;
 
 fn is_lower_case_digit(byte: u8) -> bool
     ensures { result ≡ is_lower_digit byte }
@@ -42,6 +45,9 @@ fn hex_word(alloc: Global, word: &[u8]) -> Result<Option<Vec<u8>>, NoMemory>
 fn fill_word(alloc: Global, byte: &[u8], count: &[u8]) -> Result<Option<Content>, NoMemory>
     ensures { IfOk result (λ content. content ≡ filled (hex_in byte.now) (number_in 1 transfer_limit count.now)) }
 {
+    if byte.len() != 2 {
+        return Ok(None);
+    }
     let Some(bytes) = hex_word(alloc, byte)? else {
         return Ok(None);
     };
@@ -58,6 +64,9 @@ fn fill_word(alloc: Global, byte: &[u8], count: &[u8]) -> Result<Option<Content>
 fn bytes_word(alloc: Global, word: &[u8]) -> Result<Option<Content>, NoMemory>
     ensures { IfOk result (λ content. content ≡ within_transfer (hex_in word.now)) }
 {
+    if word.len() > LONGEST_BYTES {
+        return Ok(None);
+    }
     let Some(bytes) = hex_word(alloc, word)? else {
         return Ok(None);
     };
@@ -93,7 +102,7 @@ fn content_word(alloc: Global, word: &[u8]) -> Result<Option<Content>, NoMemory>
     let Some((fill, byte, count)) = three_parts(word) else {
         return bytes_word(alloc, word);
     };
-    if is_same(fill, b"fill") {
+    if is_word(fill, b"fill") {
         fill_word(alloc, byte, count)
     } else {
         Ok(None)

@@ -3,7 +3,7 @@ ghost use Rattle.std.specs.List.{slice_split};
 ghost use Rattle.script_lang.specs.Words.{words_in, words_behind, parts_behind, first_as, number_in, path_in, client_in, the_word};
 ghost use Rattle.script_lang.specs.Reading.{IsWrongAt};
 
-use crate::words::{length_before, number_word, path_word};
+use crate::words::{is_word, length_before, number_word, path_word};
 use file_tree::{NoMemory, Path};
 use std::alloc::Global;
 
@@ -105,7 +105,7 @@ pub(crate) fn behind_word<'a>(
     let Some((word, behind)) = word_behind(words) else {
         return Err(LineFault::Wrong { word: number });
     };
-    if word == wanted {
+    if is_word(word, wanted) {
         Ok(behind)
     } else {
         Err(LineFault::Wrong { word: number })

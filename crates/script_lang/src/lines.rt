@@ -10,7 +10,7 @@ ghost use Rattle.script_lang.specs.Reading.{IsWrongAt, IsFault, ReadsInto, IsWit
 
 use crate::calls::call_behind;
 use crate::line_words::{LineFault, behind_word, end_at, first_word, number_at, word_behind};
-use crate::words::{client_word, is_same};
+use crate::words::{client_word, is_word};
 use crate::{Armed, Client, Fate, Line, Script};
 use file_tree::{Name, NoMemory};
 use std::alloc::Global;
@@ -45,7 +45,7 @@ fn put_line(script: &mut Script, line: Line) -> Result<(), NoMemory>
 fn nodes_line(script: &mut Script, word: &[u8], words: &[u8]) -> Result<(), LineFault>
     ensures { ReadsInto (grammar.nodes_line script.old (word.now ∷ words_behind words.now)) script.new result }
 {
-    if !is_same(word, b"nodes") {
+    if !is_word(word, b"nodes") {
         return Err(LineFault::Wrong { word: 0 });
     }
     let (nodes, words) = number_at(words, 1, 1, 8)?;
@@ -92,7 +92,6 @@ fn new_client_at<'a>(
 }
 
 fn client_line(alloc: Global, script: &mut Script, words: &[u8]) -> Result<(), LineFault>
-    requires { IsWithinLimits script.old }
     ensures { ReadsInto (later (grammar.client_line script.old (words_behind words.now))) script.new result }
 {
     let (name, words) = new_client_at(alloc, script.clients.as_slice(), words)?;
@@ -113,7 +112,7 @@ fn client_line(alloc: Global, script: &mut Script, words: &[u8]) -> Result<(), L
 fn begins_client(script: &Script, word: &[u8]) -> bool
     ensures { result ≡ (bytes_eq word.now (codes "client") && grammar.may_have_client script.now) }
 {
-    is_same(word, b"client")
+    is_word(word, b"client")
         && script.armed.is_empty()
         && script.lines.is_empty()
         && script.clients.len() < CLIENT_LIMIT
@@ -138,15 +137,15 @@ fn fate_at(words: &[u8]) -> Result<Fate, LineFault>
     let Some((word, words)) = word_behind(words) else {
         return Err(LineFault::Wrong { word: 4 });
     };
-    if is_same(word, b"old") {
+    if is_word(word, b"old") {
         end_at(words, 5)?;
         return Ok(Fate::Old);
     }
-    if is_same(word, b"new") {
+    if is_word(word, b"new") {
         end_at(words, 5)?;
         return Ok(Fate::New);
     }
-    if is_same(word, b"torn") {
+    if is_word(word, b"torn") {
         let (bytes, words) = number_at(words, 5, 1, 4095)?;
         end_at(words, 6)?;
         return Ok(Fate::Torn(bytes as u32));
@@ -174,7 +173,7 @@ fn is_armed(armed: &[Armed], node: u8) -> bool
 fn goes_on_to_write(script: &Script, node: u8, word: &[u8]) -> bool
     ensures { result ≡ (bytes_eq word.now (codes "at") && grammar.may_arm script.now node) }
 {
-    is_same(word, b"at") && script.lines.is_empty() && !is_armed(script.armed.as_slice(), node)
+    is_word(word, b"at") && script.lines.is_empty() && !is_armed(script.armed.as_slice(), node)
 }
 
 // What stands behind a crash's node.
@@ -220,7 +219,7 @@ fn crash_line(script: &mut Script, words: &[u8]) -> Result<(), LineFault>
     let Some((word, behind)) = word_behind(words) else {
         return Err(LineFault::Wrong { word: 1 });
     };
-    if is_same(word, b"all") {
+    if is_word(word, b"all") {
         crash_all(script, behind)
     } else {
         crash_one(script, words)
@@ -238,7 +237,6 @@ fn wait_line(script: &mut Script, words: &[u8]) -> Result<(), LineFault>
 }
 
 fn join_line(script: &mut Script, words: &[u8]) -> Result<(), LineFault>
-    requires { IsWithinLimits script.old }
     ensures { ReadsInto (later (a_word (number_in 1 script.old.nodes) (λ node. ends (grammar.with_line script.old (line.Join node))) (words_behind words.now))) script.new result }
 {
     let (node, words) = number_at(words, 1, 1, u64::from(script.nodes))?;
@@ -255,7 +253,7 @@ fn is_before_colon(name: &[u8], word: &[u8]) -> bool
         return false;
     }
     let end = word.len() - 1;
-    word[end] == b':' && is_same(&word[..end], name)
+    word[end] == b':' && is_word(&word[..end], name)
 }
 
 // The place of the client whose name and a colon a word is.
@@ -301,13 +299,13 @@ fn later_line(
     if script.clients.as_slice().is_empty() {
         return Err(LineFault::Wrong { word: 0 });
     }
-    if is_same(word, b"crash") {
+    if is_word(word, b"crash") {
         return crash_line(script, words);
     }
-    if is_same(word, b"wait") {
+    if is_word(word, b"wait") {
         return wait_line(script, words);
     }
-    if is_same(word, b"join") {
+    if is_word(word, b"join") {
         return join_line(script, words);
     }
     call_line(alloc, script, word, words)

@@ -61,14 +61,8 @@ pub(crate) fn last_word(line: &[u8]) -> Option<&[u8]>
 
 /// Whether a word is this one.
 pub(crate) fn is_word(word: &[u8], wanted: &[u8]) -> bool
-    ensures { IsTrue result ↔ (word.now ≡ wanted.now) }
-{
-    word == wanted
-}
-
-/// The same as a value of a test.
-pub(crate) fn is_same(word: &[u8], wanted: &[u8]) -> bool
-    ensures { result ≡ bytes_eq word.now wanted.now }
+    ensures test { result ≡ bytes_eq word.now wanted.now }
+    ensures same { IsTrue result ↔ (word.now ≡ wanted.now) }
 {
     word == wanted
 }

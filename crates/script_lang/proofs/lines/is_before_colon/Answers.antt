@@ -8,7 +8,7 @@ returns-then-word-end-eq58 c =
     let w = c.args.word.now in
     let some : 1 ≤ length w = grind (arith, nat_tests) in
     let colon : (get_or w (length w - 1) 0 == 58) ≡ true = eq-eqb _ _ c.if-word-end-eq58.true in
-    c.is_same.ensures ∙ (rw colon at (before_colon w c.args.name.now some))
+    c.is_word.ensures.test ∙ (rw colon at (before_colon w c.args.name.now some))
 
 pub returns-else-word-end-eq58 : goal.returns-else-word-end-eq58
 returns-else-word-end-eq58 c =
