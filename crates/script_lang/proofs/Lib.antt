@@ -1,5 +1,12 @@
-pub mod Lines
+pub mod Columns
+pub mod ForeignLaws
+pub mod GotLaws
+pub mod HexWords
+pub mod LineLaws
 pub mod Names
 pub mod Numbers
 pub mod PlainLaws
 pub mod Rows
+pub mod ScriptLaws
+pub mod TextParts
+pub mod WellFormedLaws

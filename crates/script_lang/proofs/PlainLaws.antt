@@ -28,11 +28,6 @@ some_of_equal (Err e) o f h = tt
 
 -- ---- the words of a line
 
-pub front_and_last : (w : List ℕ) → 1 ≤ length w → w ≡ take (length w - 1) w ++ get_or w (length w - 1) 0 ∷ []
-front_and_last w some =
-    let whole : take (length w - 1 + 1) w ≡ w = take_all (length w - 1 + 1) w (omega arith) in
-    sym whole ∙ take_more w (length w - 1) 0 (omega arith)
-
 -- a name and a colon is no word that begins a line otherwise
 no_keyword : (name front : List ℕ) (last : ℕ) → (58 ≡ last → ⊥) → bytes_eq (name ++ 58 ∷ []) (front ++ last ∷ []) ≡ false
 no_keyword name front last other = by_test _ refl

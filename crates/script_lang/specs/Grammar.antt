@@ -1,5 +1,6 @@
 -- The grammar of scripts, by cases on lines and words.
 use Rattle.std.specs.Prelude.{ℕ, suc, ◌+◌, ◌-◌, ◌^◌, ◌==◌, ◌&&◌, ◌||◌, Bool, false, not, nat_le, nat_lt, if◌then◌else◌, List, [], ◌∷◌, ◌++◌, length, codes, Option, Some, None}
+use Rattle.std.specs.List.{list_any, position}
 use Rattle.std.specs.Str.{bytes_eq}
 use Rattle.file_tree.specs.declared.call.Call.{Call}
 use Rattle.file_tree.specs.declared.call.Call.TheVariants as calls
@@ -38,6 +39,15 @@ on_path call ws = a_word path_in (λ p. ends (call p)) ws
 abbrev pub on_range : (List (List ℕ) → ℕ → ℕ → Call) → List (List ℕ) → LineRead Call
 on_range call ws = a_word path_in (λ p. a_word (number_in 0 offset_limit) (λ at. a_word (number_in 0 count_limit) (λ count. ends (call p at count)))) ws
 
+abbrev pub on_content : List (List ℕ) → LineRead Call
+on_content ws = a_word path_in (λ p. a_word (number_in 0 offset_limit) (λ at. a_word content_in (λ content. ends (calls.Write p at content)))) ws
+
+abbrev pub on_size : List (List ℕ) → LineRead Call
+on_size ws = a_word path_in (λ p. a_word (number_in 0 offset_limit) (λ size. ends (calls.Truncate p size))) ws
+
+abbrev pub on_paths : List (List ℕ) → LineRead Call
+on_paths ws = a_word path_in (λ p. a_word path_in (λ q. ends (calls.Rename p q))) ws
+
 abbrev pub call_after : List ℕ → List (List ℕ) → LineRead Call
 call_after verb ws =
     if bytes_eq verb (codes "create") then later (on_path calls.Create ws)
@@ -46,11 +56,11 @@ call_after verb ws =
     else if bytes_eq verb (codes "rmdir") then later (on_path calls.Rmdir ws)
     else if bytes_eq verb (codes "read") then later (on_range calls.Read ws)
     else if bytes_eq verb (codes "dread") then later (on_range calls.Dread ws)
-    else if bytes_eq verb (codes "write") then later (a_word path_in (λ p. a_word (number_in 0 offset_limit) (λ at. a_word content_in (λ content. ends (calls.Write p at content)))) ws)
-    else if bytes_eq verb (codes "truncate") then later (a_word path_in (λ p. a_word (number_in 0 offset_limit) (λ size. ends (calls.Truncate p size))) ws)
+    else if bytes_eq verb (codes "write") then later (on_content ws)
+    else if bytes_eq verb (codes "truncate") then later (on_size ws)
     else if bytes_eq verb (codes "stat") then later (on_path calls.Stat ws)
     else if bytes_eq verb (codes "list") then later (on_path calls.List ws)
-    else if bytes_eq verb (codes "rename") then later (a_word path_in (λ p. a_word path_in (λ q. ends (calls.Rename p q))) ws)
+    else if bytes_eq verb (codes "rename") then later (on_paths ws)
     else if bytes_eq verb (codes "sync") then later (ends calls.Sync ws)
     else Wrong 0
 
@@ -61,13 +71,11 @@ call_read (verb ∷ ws) = call_after verb ws
 -- ---- lines, each with the script that it belongs to so far
 
 abbrev pub has_client : List Client → List ℕ → Bool
-has_client [] name = false
-has_client (c ∷ cs) name = bytes_eq c.name name || has_client cs name
+has_client cs name = list_any (λ c. bytes_eq c.name name) cs
 
 -- the number of the client whose name and a colon this word is
-abbrev pub client_before_colon : ℕ → List Client → List ℕ → Option ℕ
-client_before_colon k [] w = None
-client_before_colon k (c ∷ cs) w = if bytes_eq w (c.name ++ codes ":") then Some k else client_before_colon (suc k) cs w
+abbrev pub client_before_colon : List Client → List ℕ → Option ℕ
+client_before_colon cs w = position (λ c. bytes_eq w (c.name ++ codes ":")) cs
 
 abbrev pub with_line : ScriptValue → Line → ScriptValue
 with_line s l = record s { lines = s.lines ++ l ∷ [] }
@@ -94,15 +102,17 @@ fate_read armed (w ∷ ws) =
     else Wrong 0
 
 abbrev pub is_armed : List Armed → ℕ → Bool
-is_armed [] node = false
-is_armed (a ∷ as') node = (a.node == node) || is_armed as' node
+is_armed armed node = list_any (λ a. a.node == node) armed
 
 -- a crash at a node's write may be ordered before the first line, once for each node
 abbrev pub may_arm : ScriptValue → ℕ → Bool
 may_arm s node = (length s.lines == 0) && not (is_armed s.armed node)
 
+abbrev pub with_armed : ScriptValue → ℕ → ℕ → Fate → ScriptValue
+with_armed s node write fate = record s { armed = s.armed ++ record { node = node; write = write; fate = fate } ∷ [] }
+
 abbrev pub armed_line : ScriptValue → ℕ → List (List ℕ) → LineRead ScriptValue
-armed_line s node ws = a_word (number_in 1 (2 ^ 64 - 1)) (λ write. fate_read (λ fate. record s { armed = s.armed ++ record { node = node; write = write; fate = fate } ∷ [] })) ws
+armed_line s node ws = a_word (number_in 1 (2 ^ 64 - 1)) (λ write. fate_read (with_armed s node write)) ws
 
 -- `crash N` alone, or with the write at which it comes
 abbrev pub after_node : ScriptValue → ℕ → List (List ℕ) → LineRead ScriptValue
@@ -121,7 +131,7 @@ called s client (Got call) = Got (with_line s (line.Call client call))
 called s client (Wrong k) = Wrong k
 
 abbrev pub call_line : ScriptValue → List (List ℕ) → LineRead ScriptValue
-call_line s ws = a_word (client_before_colon 0 s.clients) (λ client rest. called s client (call_read rest)) ws
+call_line s ws = a_word (client_before_colon s.clients) (λ client rest. called s client (call_read rest)) ws
 
 -- clients come before all else, and at least one
 abbrev pub may_have_client : ScriptValue → Bool

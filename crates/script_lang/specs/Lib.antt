@@ -1,5 +1,8 @@
 pub mod Script
 pub mod Words
 pub mod Grammar
+pub mod Reading
 pub mod Plain
 pub mod OneNode
+pub mod WellFormed
+pub mod Foreign

@@ -1,5 +1,5 @@
 -- Lines, words, and what a word is read as.
-use Rattle.std.specs.Prelude.{ℕ, suc, zero, ◌≡◌, ◌≢◌, ◌+◌, ◌^◌, ◌<◌, ◌==◌, ◌&&◌, ◌||◌, not, nat_le, Bool, if◌then◌else◌, List, [], ◌∷◌, length, replicate, codes, slice_index, Option, Some, None, MatchOption, Result, Ok, Err}
+use Rattle.std.specs.Prelude.{ℕ, suc, zero, ◌≡◌, ◌≢◌, ◌+◌, ◌^◌, ◌<◌, ◌==◌, ◌&&◌, ◌||◌, not, nat_le, Bool, if◌then◌else◌, List, [], ◌∷◌, length, replicate, codes, slice_index, Option, Some, None, option_map, MatchOption, Result, Ok, Err}
 use Rattle.std.specs.List.{slice_split, onto_first, list_all}
 use Rattle.std.specs.Str.{bytes_eq}
 use Rattle.std.specs.Str.Parse.{digits_value}
@@ -47,6 +47,10 @@ bytes_of w (Err e) = None
 
 abbrev pub hex_in : List ℕ → Option (List ℕ)
 hex_in w = bytes_of w (decode_of w)
+
+-- a hexadecimal digit in lower case
+abbrev pub is_lower_digit : ℕ → Bool
+is_lower_digit b = (nat_le 48 b && nat_le b 57) || (nat_le 97 b && nat_le b 102)
 
 -- how many bytes one read or write has at most
 abbrev pub transfer_limit : ℕ
@@ -108,15 +112,30 @@ abbrev pub ends : {A : Type 0} → A → List (List ℕ) → LineRead A
 ends a [] = Got a
 ends a (w ∷ ws) = Wrong 0
 
-abbrev pub if_word : {A B : Type 0} → Option A → (A → LineRead B) → LineRead B
+abbrev pub if_word : {A B : Type 0} → Option (A × List (List ℕ)) → (A → List (List ℕ) → LineRead B) → LineRead B
 if_word None rest = Wrong 0
-if_word (Some a) rest = later (rest a)
+if_word (Some p) rest = later (rest p.0 p.1)
+
+-- the first word, read as a value, and the words behind it
+abbrev pub first_as : {A : Type 0} → (List ℕ → Option A) → List (List ℕ) → Option (A × List (List ℕ))
+first_as value [] = None
+first_as value (w ∷ ws) = option_map (λ a. (a, ws)) (value w)
 
 -- a word that is read as a value, and then the rest
 abbrev pub a_word : {A B : Type 0} → (List ℕ → Option A) → (A → List (List ℕ) → LineRead B) → List (List ℕ) → LineRead B
-a_word value rest [] = Wrong 0
-a_word value rest (w ∷ ws) = if_word (value w) (λ a. rest a ws)
+a_word value rest ws = if_word (first_as value ws) rest
 
 -- this very word
 abbrev pub the_word : List ℕ → List ℕ → Option (List ℕ)
 the_word wanted w = if bytes_eq w wanted then Some w else None
+
+-- ---- a line's words as they are taken from it
+
+-- the parts that stand behind a part of a text: nothing is left, or a separator and then these
+abbrev pub parts_behind : ℕ → List ℕ → List (List ℕ)
+parts_behind separator [] = []
+parts_behind separator (b ∷ bs) = slice_split (λ b'. b' == separator) bs
+
+-- the words that stand behind a word of a line
+abbrev pub words_behind : List ℕ → List (List ℕ)
+words_behind bs = parts_behind 32 bs

@@ -1,4 +1,7 @@
 // Which scripts are plain and what they are read as, worked out by hand from the rules of scripts.
+mod readings;
+mod refusals;
+
 use crate::plain::parse_plain;
 use crate::{Line, PlainScript, Script};
 use file_tree::{Call, Path};

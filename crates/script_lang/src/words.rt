@@ -2,6 +2,7 @@ ghost use Rattle.std.specs.Prelude.{◌≡◌, ◌+◌, ◌*◌, ◌^◌, ◌<�
 ghost use Rattle.std.specs.List.{list_all, position, position_or_len};
 ghost use Rattle.std.specs.Char.{digit_value};
 ghost use Rattle.std.specs.Option.{SomeIff};
+ghost use Rattle.std.specs.Str.{bytes_eq};
 ghost use Rattle.script_lang.specs.Words.{lines_in, words_in, IsNumber, number_in, path_in, client_in, is_lower, is_letter_or_digit, begins_line, is_client_name};
 
 use file_tree::{Name, NoMemory, Path, PathFault};
@@ -14,7 +15,7 @@ fn place_of(text: &[u8], separator: u8) -> Option<usize>
 }
 
 // How many bytes stand before the first separator, or all.
-fn length_before(text: &[u8], separator: u8) -> usize
+pub(crate) fn length_before(text: &[u8], separator: u8) -> usize
     ensures length { result ≡ position_or_len (λ b. b == separator) text.now }
     ensures within { result ≤ length text.now }
 {
@@ -23,8 +24,9 @@ fn length_before(text: &[u8], separator: u8) -> usize
 
 /// The first line of a text without its newline, and the lines behind it; `None` where there is none.
 pub(crate) fn take_line(text: &[u8]) -> Option<(&[u8], &[u8])>
-    ensures { MatchOption result (lines_in text.now ≡ [])
-        (λ p. (lines_in text.now ≡ p.0.now ∷ lines_in p.1.now) × (length p.1.now < length text.now)) }
+    ensures line { MatchOption result (lines_in text.now ≡ []) (λ p. lines_in text.now ≡ p.0.now ∷ lines_in p.1.now) }
+    ensures place { IfSome result (λ p. (length p.0.now ≤ length text.now) × (length p.1.now < length text.now)
+        × (0 < length p.1.now → length p.0.now + 1 + length p.1.now ≡ length text.now)) }
 {
     if text.is_empty() {
         return None;
@@ -59,7 +61,8 @@ pub(crate) fn last_word(line: &[u8]) -> Option<&[u8]>
 
 /// Whether a word is this one.
 pub(crate) fn is_word(word: &[u8], wanted: &[u8]) -> bool
-    ensures { IsTrue result ↔ (word.now ≡ wanted.now) }
+    ensures test { result ≡ bytes_eq word.now wanted.now }
+    ensures same { IsTrue result ↔ (word.now ≡ wanted.now) }
 {
     word == wanted
 }

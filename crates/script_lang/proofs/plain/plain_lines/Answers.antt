@@ -16,9 +16,9 @@ loop-line-preserved c =
     record {
       plain = rw c.in_ok-push.ensures.items (plain-push c.loop-line.lines.items c.in-Some-2.call so.plain line.0);
       read = so_far-more c.args.name.now c.args.text.now c.loop-line.lines.items c.push.new.self.items c.loop-line.number c.loop-line.rest.now c.in-Some.line.now c.in-Some.after.now c.in-Some-2.call
-          so.read c.if-number-gt-LINE_LIMIT.false c.in-Some.ensures.0 line c.in_ok-push.ensures.items;
+          so.read c.if-number-gt-LINE_LIMIT.false c.in-Some.ensures.line line c.in_ok-push.ensures.items;
       few = omega (arith, c.if-number-gt-LINE_LIMIT.false);
     }
 
 pub returns : goal.returns
-returns c = (c.loop-line.invariant.plain, so_far-all c.args.name.now c.args.text.now c.loop-line.lines.items c.loop-line.number c.loop-line.rest.now c.loop-line.invariant.read c.in_default.ensures)
+returns c = (c.loop-line.invariant.plain, so_far-all c.args.name.now c.args.text.now c.loop-line.lines.items c.loop-line.number c.loop-line.rest.now c.loop-line.invariant.read c.in_default.ensures.line)

@@ -1,5 +1,5 @@
 use Rattle.std.proofs.Common.{◌∙◌, ap, unwrap_or, length, Option, ℕ, ◌==◌}
-use Rattle.script_lang.proofs.Lines.{place_or_all}
+use Rattle.script_lang.proofs.TextParts.{place_or_all}
 use Rattle.script_lang.proofs.words.length_before.Goals as goal
 
 pub returns-clause-length : goal.returns-clause-length
