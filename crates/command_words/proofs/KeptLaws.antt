@@ -1,7 +1,6 @@
 -- What the reader keeps is what was given.
-use Rattle.std.proofs.Common.{◌≡◌, ◌≢◌, ℕ, ◌+◌, ◌≤◌, if◌then◌else◌, List, [], ◌∷◌, Option, Some, None, refl, sym, ap, ◌∙◌, arith}
-use Rattle.std.specs.Prelude.{option_map, unwrap_or, replicate, codes}
-use Rattle.std.specs.Str.{bytes_eq}
+use Rattle.std.proofs.Common.{◌≡◌, ℕ, ◌+◌, ◌≤◌, List, ◌∷◌, Option, Some, None, refl, sym, ap, ◌∙◌, arith}
+use Rattle.std.specs.Prelude.{option_map, is_some}
 use Rattle.command_words.specs.declared.options.Opt.{Opt}
 use Rattle.command_words.specs.declared.options.Opt.TheVariants.{Bsize, Journals, JournalBlocks, Groups, Uuid, Time, Schedule, Steps, Frames}
 use Rattle.command_words.specs.declared.options.Options.{Options}
@@ -48,6 +47,11 @@ kept_same block_size Time w s = refl
 kept_same block_size Schedule w s = refl
 kept_same block_size Steps w s = refl
 kept_same block_size Frames w s = refl
+
+-- an option is kept exactly if it was given
+pub given_if_kept : (s : Options) (given : List Given) → Keeps s given → (o : Opt) (name : List ℕ) → name ≡ (row_of o).name
+    → is_some (kept o s) ≡ is_some (value_of name given)
+given_if_kept s given keeps o name named = ap is_some (keeps.values o) ∙ ap (λ (n : List ℕ). is_some (value_of n given)) (sym named)
 
 -- ---- how many are kept
 

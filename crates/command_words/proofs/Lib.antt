@@ -1,3 +1,5 @@
 pub mod OptionLaws
 pub mod KeptLaws
 pub mod Reading
+pub mod Rows
+pub mod OrderLaws

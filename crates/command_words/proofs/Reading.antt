@@ -1,11 +1,11 @@
 -- The reader of options, word by word.
-use Rattle.std.proofs.Common.{◌≡◌, ℕ, ◌+◌, ◌*◌, ◌≤◌, Bool, true, false, List, [], ◌∷◌, Option, Some, None, Result, Ok, Err, refl, sym, ap, ◌∙◌, subst, arith}
-use Rattle.std.specs.Prelude.{is_some, option_map}
+use Rattle.std.proofs.Common.{◌≡◌, ℕ, ◌+◌, ◌*◌, ◌≤◌, true, List, [], ◌∷◌, Option, Some, None, refl, sym, ap, ◌∙◌, subst, arith}
+use Rattle.std.specs.Prelude.{is_some}
 use Rattle.std.proofs.lemmas.Bool.{false≢true}
 use Rattle.command_words.specs.declared.options.Opt.{Opt}
 use Rattle.command_words.specs.declared.options.Kind.{Kind}
 use Rattle.command_words.specs.declared.options.Options.{Options}
-use Rattle.command_words.specs.Options.{Value, value_in, Row, row_left, Given, wrong, options_read}
+use Rattle.command_words.specs.Options.{Value, value_in, row_left, Given, options_read}
 use Rattle.command_words.specs.Kept.{row_of, options_of, kept, kept_put, Keeps, count_of}
 use Rattle.command_words.proofs.OptionLaws.{one_more}
 use Rattle.command_words.proofs.KeptLaws.{keeps_more, kept_same, few, counts_more}

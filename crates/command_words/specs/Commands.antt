@@ -8,7 +8,7 @@ use Rattle.command_words.specs.declared.command.RunWords.{RunWords}
 use Rattle.command_words.specs.declared.command.LoadWords.{LoadWords}
 use Rattle.command_words.specs.declared.command.Command.{Command}
 use Rattle.command_words.specs.declared.command.Command.TheVariants.{Make, Run, Replay, Show, Load}
-use Rattle.command_words.specs.Options.{Takes, Number, BlockSize, Identifier, Value, Whole, Bytes, Row, row, Given, value_of, wrong, at_place, options_read}
+use Rattle.command_words.specs.Options.{Number, BlockSize, Identifier, Value, Whole, Bytes, Row, row, Given, value_of, wrong, at_place, options_read}
 
 -- ---- the options of each command
 

@@ -1,5 +1,5 @@
 -- How the reader keeps the options that were given.
-use Rattle.std.specs.Prelude.{ℕ, ◌≡◌, ◌+◌, Bool, if◌then◌else◌, List, [], ◌∷◌, codes, Option, Some, None, is_some, option_map}
+use Rattle.std.specs.Prelude.{ℕ, ◌≡◌, ◌+◌, List, [], codes, Option, Some, None, option_map}
 use Rattle.text_words.specs.Numbers.{number_in}
 use Rattle.uuid.specs.Text.{parsed}
 use Rattle.command_words.specs.declared.options.Opt.{Opt}

@@ -1,3 +1,4 @@
 pub mod Options
 pub mod Commands
 pub mod Kept
+pub mod Order

@@ -2,9 +2,13 @@
 #![tactic(auto)]
 
 mod command;
+mod laws;
 mod options;
 mod read;
+#[cfg(test)]
+mod tests;
 mod words;
 
 pub use command::{Command, DEFAULT_FRAMES, DEFAULT_STEPS, LoadWords, MakeWords, RunWords, Usage};
+pub use laws::options_may_change_places;
 pub use read::read_words;

@@ -1,7 +1,6 @@
 use Rattle.std.proofs.Common.{ap, ◌∙◌}
 use Rattle.std.specs.Prelude.{unwrap_or, replicate}
 use Rattle.command_words.specs.declared.options.Opt.TheVariants.{Journals, JournalBlocks, Groups, Uuid, Time}
-use Rattle.command_words.specs.Commands.{make_of}
 use Rattle.command_words.proofs.KeptLaws.{number_kept, bytes_kept}
 use Rattle.command_words.proofs.options.make_words.Goals as goal
 

@@ -1,4 +1,4 @@
-use Rattle.std.proofs.Common.{◌≡◌, ap, ◌∙◌}
+use Rattle.std.proofs.Common.{ap, ◌∙◌}
 use Rattle.std.specs.Prelude.{unwrap_or}
 use Rattle.command_words.specs.declared.options.Opt.TheVariants.{Time, Schedule, Steps, Frames}
 use Rattle.command_words.proofs.KeptLaws.{number_kept}

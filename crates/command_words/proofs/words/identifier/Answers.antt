@@ -1,4 +1,4 @@
-use Rattle.std.proofs.Common.{◌≡◌, ℕ, List, Bool, true, false, Option, Some, None, refl}
+use Rattle.std.proofs.Common.{◌≡◌, ℕ, List, true, false, Option, Some, None, refl}
 use Rattle.std.proofs.lemmas.Bool.{false≢true}
 use Rattle.uuid.specs.Text.{parsed}
 use Rattle.command_words.proofs.words.identifier.Goals as goal
