@@ -3,3 +3,4 @@ pub mod KeptLaws
 pub mod Reading
 pub mod Rows
 pub mod OrderLaws
+pub mod PlaceLaws

@@ -1,9 +1,12 @@
 -- One step of reading options.
-use Rattle.std.proofs.Common.{◌≡◌, ℕ, ◌+◌, Bool, true, false, if◌then◌else◌, List, [], ◌∷◌, Some, None, refl, ap, ◌∙◌}
+use Rattle.std.proofs.Common.{◌≡◌, ℕ, ◌+◌, Bool, true, false, if◌then◌else◌, List, [], ◌∷◌, Option, Some, None, Result, Ok, Err, refl, ap, ◌∙◌}
 use Rattle.std.specs.Prelude.{is_some}
 use Rattle.std.specs.Str.{bytes_eq}
 use Rattle.std.proofs.lemmas.Slice.Eq.{bytes_eq-Decides}
-use Rattle.command_words.specs.Options.{Value, value_in, value_of, Row, row_named, row_left, Given, options_read}
+use Rattle.command_words.specs.declared.command.Usage.{Usage}
+use Rattle.command_words.specs.declared.command.Command.{Command}
+use Rattle.command_words.specs.Options.{Value, value_in, value_of, Row, row_named, row_left, Given, at_place, options_read}
+use Rattle.command_words.specs.Commands.{command_of}
 
 -- the option that is found under a name has this name
 pub has_name : (name : List ℕ) (table : List Row) (r : Row) → row_named name table ≡ Some r → name ≡ r.name
@@ -23,7 +26,22 @@ module _ (table : List Row) (given : List Given) (name : List ℕ) where
   not_given fresh = rw fresh refl
 
 -- a name that may be given, and a word that is its value
-pub one_more : (block_size : ℕ) (table : List Row) (given : List Given) (place : ℕ) (name : List ℕ) (r : Row) → row_left table given name ≡ Some r
-    → (w : List ℕ) (ws : List (List ℕ)) (v : Value) → value_in block_size r.takes w ≡ Some v
+pub one_more : (block_size : ℕ) (table : List Row) (given : List Given) (place : ℕ) (name w : List ℕ) (ws : List (List ℕ)) (r : Row) → row_left table given name ≡ Some r
+    → (v : Value) → value_in block_size r.takes w ≡ Some v
     → options_read block_size table given place (name ∷ w ∷ ws) ≡ options_read block_size table (record { name = name; value = v } ∷ given) (place + 2) ws
-one_more block_size table given place name r left w ws v some = rw (left, some) refl
+one_more block_size table given place name w ws r left v some = rw (left, some) refl
+
+-- ---- what was read, if all was well
+
+module _ {A B : Type 0} where
+  pub not_both : {r : Result A Usage} {a : A} {u : Usage} → r ≡ Ok a → r ≡ Err u → B
+  not_both good bad = absurd (cc)
+
+  pub was_read : (place : ℕ) (o : Option A) (rest : A → Result B Usage) (b : B) → at_place place o rest ≡ Ok b → (a : A) × ((o ≡ Some a) × (rest a ≡ Ok b))
+  was_read place None rest b good = absurd (cc)
+  was_read place (Some a) rest b good = (a, (refl, good))
+
+-- what was read of the options of a command
+pub options_of_command : (command : List Given → Command) (read : Result (List Given) Usage) (c : Command) → command_of command read ≡ Ok c → (g : List Given) × ((read ≡ Ok g) × (command g ≡ c))
+options_of_command command (Ok g) c good = (g, (refl, cc))
+options_of_command command (Err u) c good = absurd (cc)

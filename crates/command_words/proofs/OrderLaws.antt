@@ -1,5 +1,5 @@
 -- The order of options does not matter.
-use Rattle.std.proofs.Common.{◌≡◌, ℕ, ◌+◌, Bool, true, false, if◌then◌else◌, List, [], ◌∷◌, ◌++◌, Option, Some, None, Result, Ok, Err, refl, sym, ap, ◌∙◌, subst}
+use Rattle.std.proofs.Common.{◌≡◌, ℕ, ◌+◌, Bool, true, false, if◌then◌else◌, List, [], ◌∷◌, ◌++◌, Option, Some, None, Result, Ok, refl, sym, ap, ◌∙◌, subst}
 use Rattle.std.specs.Prelude.{is_some, unwrap_or, replicate, codes}
 use Rattle.std.specs.Str.{bytes_eq}
 use Rattle.std.proofs.lemmas.Bool.{false≢true}
@@ -8,24 +8,10 @@ use Rattle.text_words.specs.Numbers.{number_in}
 use Rattle.command_words.specs.declared.command.Usage.{Usage}
 use Rattle.command_words.specs.declared.command.Command.{Command}
 use Rattle.command_words.specs.declared.command.Command.TheVariants.{Make, Run, Replay, Show, Load}
-use Rattle.command_words.specs.Options.{Value, value_in, value_of, Row, row_named, row_left, Given, at_place, options_read}
+use Rattle.command_words.specs.Options.{Value, value_in, value_of, Row, row_named, row_left, Given, options_read}
 use Rattle.command_words.specs.Commands.{largest, make_options, run_options, load_options, as_number, as_bytes, make_of, run_of, load_of, command_of, load_read}
 use Rattle.command_words.specs.Order.{Written, words_of, MayChangePlaces}
-use Rattle.command_words.proofs.OptionLaws.{not_given, one_more}
-
--- ---- what was read, if all was well
-
-module _ {A B : Type 0} where
-  not_both : {r : Result A Usage} {a : A} {u : Usage} → r ≡ Ok a → r ≡ Err u → B
-  not_both good bad = absurd (cc)
-
-  was_read : (place : ℕ) (o : Option A) (rest : A → Result B Usage) (b : B) → at_place place o rest ≡ Ok b → (a : A) × ((o ≡ Some a) × (rest a ≡ Ok b))
-  was_read place None rest b good = absurd (cc)
-  was_read place (Some a) rest b good = (a, (refl, good))
-
-is_none : (o : Option Value) → is_some o ≡ false → o ≡ None
-is_none None e = refl
-is_none (Some v) e = absurd (false≢true (sym e))
+use Rattle.command_words.proofs.OptionLaws.{not_given, one_more, not_both, was_read, options_of_command}
 
 -- two names that differ
 other_way : (a b : List ℕ) → bytes_eq a b ≡ false → bytes_eq b a ≡ false
@@ -67,11 +53,6 @@ module _ (block_size : ℕ) (table : List Row) where
       let value = was_read (place + 1) (value_in block_size option.0.takes w) _ r option.1.1 in
       record { option = option.0; left = option.1.0; value = value.0; reads = value.1.0; rest = value.1.1 }
 
-  -- where one name and value more stand at the head
-  head_read : (given : List Given) (place : ℕ) (name w : List ℕ) (ws : List (List ℕ)) (option : Row) → row_left table given name ≡ Some option
-      → (v : Value) → value_in block_size option.takes w ≡ Some v → gives given place (name ∷ w ∷ ws) ≡ gives (given_as name v given) (place + 2) ws
-  head_read given place name w ws option left v reads = one_more block_size table given place name option left w ws v reads
-
   same_left : (g h : List Given) (name : List ℕ) → Alike g h → row_left table g name ≡ row_left table h name
   same_left g h name alike = ap (λ (v : Option Value). if is_some v then None else row_named name table) (alike.same name)
 
@@ -92,7 +73,7 @@ module _ (block_size : ℕ) (table : List Row) where
       let first = head g place name w ws r good in
       let left : row_left table h name ≡ Some first.option = sym (same_left g h name alike) ∙ first.left in
       let behind = alike_read ws (given_as name first.value g) (given_as name first.value h) (place + 2) r (alike_more g h name first.value alike) first.rest in
-      record { given = behind.given; reads = head_read h place name w ws first.option left first.value first.reads ∙ behind.reads; alike = behind.alike }
+      record { given = behind.given; reads = one_more block_size table h place name w ws first.option left first.value first.reads ∙ behind.reads; alike = behind.alike }
 
   -- ---- two options side by side
 
@@ -146,8 +127,8 @@ module _ (block_size : ℕ) (table : List Row) where
       record {
         given = behind.given;
         reads =
-            head_read given place y.name y.word (x.name ∷ x.word ∷ ws) two.option y_left two.value two.reads
-            ∙ head_read (given_as y.name two.value given) (place + 2) x.name x.word ws one.option x_left one.value one.reads
+            one_more block_size table given place y.name y.word (x.name ∷ x.word ∷ ws) two.option y_left two.value two.reads
+            ∙ one_more block_size table (given_as y.name two.value given) (place + 2) x.name x.word ws one.option x_left one.value one.reads
             ∙ behind.reads;
         alike = behind.alike;
       }
@@ -160,7 +141,7 @@ module _ (block_size : ℕ) (table : List Row) where
       let behind = order_read os (given_as o.name one.value given) (place + 2) x y back r one.rest in
       record {
         given = behind.given;
-        reads = head_read given place o.name o.word (words_of (os ++ y ∷ x ∷ back)) one.option one.left one.value one.reads ∙ behind.reads;
+        reads = one_more block_size table given place o.name o.word (words_of (os ++ y ∷ x ∷ back)) one.option one.left one.value one.reads ∙ behind.reads;
         alike = behind.alike;
       }
 
@@ -175,16 +156,12 @@ module _ (block_size : ℕ) (table : List Row) where
 
 -- ---- commands
 
-command_read : (command : List Given → Command) (read : Result (List Given) Usage) (c : Command) → command_of command read ≡ Ok c → (g : List Given) × ((read ≡ Ok g) × (command g ≡ c))
-command_read command (Ok g) c good = (g, (refl, cc))
-command_read command (Err u) c good = absurd (cc)
-
 command_kept : (command : List Given → Command) → ((g h : List Given) → Alike g h → command g ≡ command h) → (block_size : ℕ) (table : List Row)
     (front : List Written) (x y : Written) (back : List Written) (c : Command)
     → command_of command (options_read block_size table [] 2 (words_of (front ++ x ∷ y ∷ back))) ≡ Ok c
     → command_of command (options_read block_size table [] 2 (words_of (front ++ y ∷ x ∷ back))) ≡ Ok c
 command_kept command respects block_size table front x y back c good =
-    let was = command_read command (options_read block_size table [] 2 (words_of (front ++ x ∷ y ∷ back))) c good in
+    let was = options_of_command command (options_read block_size table [] 2 (words_of (front ++ x ∷ y ∷ back))) c good in
     let now = order_read block_size table front [] 2 x y back was.0 was.1.0 in
     ap (command_of command) now.reads ∙ ap (λ (d : Command). Ok d) (sym (respects was.0 now.given now.alike) ∙ was.1.1)
 
@@ -211,7 +188,7 @@ load_wrong : {A : Type 0} (block_size : ℕ) (os : List Written) (c : Command) �
 load_wrong block_size [] c good = not_both good refl
 load_wrong block_size (o ∷ os) c good =
     let number = was_read 2 (number_in 0 largest o.name) _ c good in
-    let options = command_read (λ given. Load (load_of number.0 given)) (options_read block_size load_options [] 3 (o.word ∷ words_of os)) c number.1.1 in
+    let options = options_of_command (λ given. Load (load_of number.0 given)) (options_read block_size load_options [] 3 (o.word ∷ words_of os)) c number.1.1 in
     odd_wrong block_size load_options os [] 3 o.word options.0 options.1.0
 
 -- one choice on both sides

@@ -42,6 +42,6 @@ module _ (block_size : ℕ) (kind : Kind) (first : ℕ) (words : List (List ℕ)
         keeps = subst (λ (n : List ℕ). Keeps s' (record { name = n; value = v.0 } ∷ so.given)) (sym named) kept_there;
         reads =
             so.reads ∙ ap (options_read block_size (options_of kind) so.given place) (is ∙ ap (λ (ws : List (List ℕ)). name ∷ ws) has_word)
-            ∙ one_more block_size (options_of kind) so.given place name (row_of o) left w later v.0 value;
+            ∙ one_more block_size (options_of kind) so.given place name w later (row_of o) left v.0 value;
         counted = omega (arith, so.counted, counts, ap count_of put);
       }

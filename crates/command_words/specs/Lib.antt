@@ -2,3 +2,4 @@ pub mod Options
 pub mod Commands
 pub mod Kept
 pub mod Order
+pub mod Places

@@ -10,5 +10,5 @@ mod tests;
 mod words;
 
 pub use command::{Command, DEFAULT_FRAMES, DEFAULT_STEPS, LoadWords, MakeWords, RunWords, Usage};
-pub use laws::options_may_change_places;
+pub use laws::{first_wrong_word_is_told, options_may_change_places};
 pub use read::read_words;

@@ -10,10 +10,9 @@ mod numbers;
 #[cfg(test)]
 mod tests;
 
-pub use numbers::number_word;
-
 use itoa::Buffer;
 use no_memory::NoMemory;
+pub use numbers::number_word;
 use std::alloc::Global;
 
 /// Puts these bytes at the end.
