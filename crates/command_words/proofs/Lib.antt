@@ -4,3 +4,4 @@ pub mod Reading
 pub mod Rows
 pub mod OrderLaws
 pub mod PlaceLaws
+pub mod LimitLaws

@@ -1,5 +1,5 @@
 -- One step of reading options.
-use Rattle.std.proofs.Common.{◌≡◌, ℕ, ◌+◌, Bool, true, false, if◌then◌else◌, List, [], ◌∷◌, Option, Some, None, Result, Ok, Err, refl, ap, ◌∙◌}
+use Rattle.std.proofs.Common.{◌≡◌, ℕ, ◌+◌, Bool, true, false, if◌then◌else◌, List, [], ◌∷◌, Option, Some, None, Result, Ok, Err, refl, sym, ap, ◌∙◌}
 use Rattle.std.specs.Prelude.{is_some}
 use Rattle.std.specs.Str.{bytes_eq}
 use Rattle.std.proofs.lemmas.Slice.Eq.{bytes_eq-Decides}
@@ -45,3 +45,37 @@ module _ {A B : Type 0} where
 pub options_of_command : (command : List Given → Command) (read : Result (List Given) Usage) (c : Command) → command_of command read ≡ Ok c → (g : List Given) × ((read ≡ Ok g) × (command g ≡ c))
 options_of_command command (Ok g) c good = (g, (refl, cc))
 options_of_command command (Err u) c good = absurd (cc)
+
+-- ---- an option at the head of the words
+
+-- what was given, and one option more
+abbrev pub given_as : List ℕ → Value → List Given → List Given
+given_as name v given = record { name = name; value = v } ∷ given
+
+-- a name and its value stood at the head
+pub record Head (block_size : ℕ) (table : List Row) (given : List Given) (place : ℕ) (name w : List ℕ) (ws : List (List ℕ)) (r : List Given) : Type 0 where
+  pub option : Row
+  pub left : row_left table given name ≡ Some option
+  pub value : Value
+  pub reads : value_in block_size option.takes w ≡ Some value
+  pub rest : options_read block_size table (given_as name value given) (place + 2) ws ≡ Ok r
+
+pub head : (block_size : ℕ) (table : List Row) (given : List Given) (place : ℕ) (name w : List ℕ) (ws : List (List ℕ)) (r : List Given)
+    → options_read block_size table given place (name ∷ w ∷ ws) ≡ Ok r → Head block_size table given place name w ws r
+head block_size table given place name w ws r good =
+    let option = was_read place (row_left table given name) _ r good in
+    let value = was_read (place + 1) (value_in block_size option.0.takes w) _ r option.1.1 in
+    record { option = option.0; left = option.1.0; value = value.0; reads = value.1.0; rest = value.1.1 }
+
+module _ (table : List Row) (given : List Given) (name : List ℕ) (option : Row) (left : row_left table given name ≡ Some option) where
+  -- an option that may be given was not given yet
+  pub fresh : value_of name given ≡ None
+  fresh = by_test (value_of name given) left
+    where
+      by_test : (v : Option Value) → (if is_some v then None else row_named name table) ≡ Some option → v ≡ None
+      by_test None e = refl
+      by_test (Some v) e = absurd (cc)
+
+  -- and is one of the table
+  pub named_if_left : row_named name table ≡ Some option
+  named_if_left = sym (not_given table given name (ap is_some fresh)) ∙ left

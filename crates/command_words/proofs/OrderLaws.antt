@@ -8,10 +8,10 @@ use Rattle.text_words.specs.Numbers.{number_in}
 use Rattle.command_words.specs.declared.command.Usage.{Usage}
 use Rattle.command_words.specs.declared.command.Command.{Command}
 use Rattle.command_words.specs.declared.command.Command.TheVariants.{Make, Run, Replay, Show, Load}
-use Rattle.command_words.specs.Options.{Value, value_in, value_of, Row, row_named, row_left, Given, options_read}
+use Rattle.command_words.specs.Options.{Value, value_of, Row, row_named, row_left, Given, options_read}
 use Rattle.command_words.specs.Commands.{largest, make_options, run_options, load_options, as_number, as_bytes, make_of, run_of, load_of, command_of, load_read}
 use Rattle.command_words.specs.Order.{Written, words_of, MayChangePlaces}
-use Rattle.command_words.proofs.OptionLaws.{not_given, one_more, not_both, was_read, options_of_command}
+use Rattle.command_words.proofs.OptionLaws.{not_given, one_more, not_both, was_read, options_of_command, given_as, head, fresh, named_if_left}
 
 -- two names that differ
 other_way : (a b : List ℕ) → bytes_eq a b ≡ false → bytes_eq b a ≡ false
@@ -20,10 +20,6 @@ other_way a b e = by_test (bytes_eq b a) refl
     by_test : (t : Bool) → bytes_eq b a ≡ t → t ≡ false
     by_test false f = refl
     by_test true f = absurd (false≢true (sym e ∙ (bytes_eq-Decides a b).1 (sym ((bytes_eq-Decides b a).0 f))))
-
--- what was given, and one option more
-abbrev given_as : List ℕ → Value → List Given → List Given
-given_as name v given = record { name = name; value = v } ∷ given
 
 -- ---- what was given matters by what stands for each name alone
 
@@ -38,20 +34,6 @@ alike_more g h name v alike = record { same = λ n. ap (λ (o : Option Value). i
 module _ (block_size : ℕ) (table : List Row) where
   abbrev gives : List Given → ℕ → List (List ℕ) → Result (List Given) Usage
   gives = options_read block_size table
-
-  -- a name and its value stood at the head
-  pub record Head (given : List Given) (place : ℕ) (name w : List ℕ) (ws : List (List ℕ)) (r : List Given) : Type 0 where
-    pub option : Row
-    pub left : row_left table given name ≡ Some option
-    pub value : Value
-    pub reads : value_in block_size option.takes w ≡ Some value
-    pub rest : options_read block_size table (record { name = name; value = value } ∷ given) (place + 2) ws ≡ Ok r
-
-  head : (given : List Given) (place : ℕ) (name w : List ℕ) (ws : List (List ℕ)) (r : List Given) → gives given place (name ∷ w ∷ ws) ≡ Ok r → Head given place name w ws r
-  head given place name w ws r good =
-      let option = was_read place (row_left table given name) _ r good in
-      let value = was_read (place + 1) (value_in block_size option.0.takes w) _ r option.1.1 in
-      record { option = option.0; left = option.1.0; value = value.0; reads = value.1.0; rest = value.1.1 }
 
   same_left : (g h : List Given) (name : List ℕ) → Alike g h → row_left table g name ≡ row_left table h name
   same_left g h name alike = ap (λ (v : Option Value). if is_some v then None else row_named name table) (alike.same name)
@@ -70,26 +52,15 @@ module _ (block_size : ℕ) (table : List Row) where
       let option = was_read place (row_left table g name) _ r good in
       not_both option.1.1 refl
   alike_read (name ∷ w ∷ ws) g h place r alike good =
-      let first = head g place name w ws r good in
+      let first = head block_size table g place name w ws r good in
       let left : row_left table h name ≡ Some first.option = sym (same_left g h name alike) ∙ first.left in
       let behind = alike_read ws (given_as name first.value g) (given_as name first.value h) (place + 2) r (alike_more g h name first.value alike) first.rest in
       record { given = behind.given; reads = one_more block_size table h place name w ws first.option left first.value first.reads ∙ behind.reads; alike = behind.alike }
 
   -- ---- two options side by side
 
-  -- an option that may be given was not given yet
-  fresh : (given : List Given) (name : List ℕ) (option : Row) → row_left table given name ≡ Some option → value_of name given ≡ None
-  fresh given name option left = by_test (value_of name given) left
-    where
-      by_test : (v : Option Value) → (if is_some v then None else row_named name table) ≡ Some option → v ≡ None
-      by_test None e = refl
-      by_test (Some v) e = absurd (cc)
-
   left_if_fresh : (given : List Given) (name : List ℕ) (option : Row) → value_of name given ≡ None → row_named name table ≡ Some option → row_left table given name ≡ Some option
   left_if_fresh given name option none named = not_given table given name (ap is_some none) ∙ named
-
-  named_if_left : (given : List Given) (name : List ℕ) (option : Row) → row_left table given name ≡ Some option → row_named name table ≡ Some option
-  named_if_left given name option left = sym (not_given table given name (ap is_some (fresh given name option left))) ∙ left
 
   -- a name that is fresh behind another is another, and was fresh before
   apart : (given : List Given) (name other : List ℕ) (v : Value) → value_of other (given_as name v given) ≡ None → (bytes_eq other name ≡ false) × (value_of other given ≡ None)
@@ -114,14 +85,14 @@ module _ (block_size : ℕ) (table : List Row) where
   pair_read : (given : List Given) (place : ℕ) (x y : Written) (ws : List (List ℕ)) (r : List Given) → gives given place (x.name ∷ x.word ∷ y.name ∷ y.word ∷ ws) ≡ Ok r
       → BothGive r given place (y.name ∷ y.word ∷ x.name ∷ x.word ∷ ws)
   pair_read given place x y ws r good =
-      let one = head given place x.name x.word (y.name ∷ y.word ∷ ws) r good in
-      let two = head (given_as x.name one.value given) (place + 2) y.name y.word ws r one.rest in
-      let others = apart given x.name y.name one.value (fresh (given_as x.name one.value given) y.name two.option two.left) in
-      let y_named = named_if_left (given_as x.name one.value given) y.name two.option two.left in
+      let one = head block_size table given place x.name x.word (y.name ∷ y.word ∷ ws) r good in
+      let two = head block_size table (given_as x.name one.value given) (place + 2) y.name y.word ws r one.rest in
+      let others = apart given x.name y.name one.value (fresh table (given_as x.name one.value given) y.name two.option two.left) in
+      let y_named = named_if_left table (given_as x.name one.value given) y.name two.option two.left in
       let y_left = left_if_fresh given y.name two.option others.1 y_named in
       let differ = other_way y.name x.name others.0 in
-      let x_fresh : value_of x.name (given_as y.name two.value given) ≡ None = rw differ (fresh given x.name one.option one.left) in
-      let x_left = left_if_fresh (given_as y.name two.value given) x.name one.option x_fresh (named_if_left given x.name one.option one.left) in
+      let x_fresh : value_of x.name (given_as y.name two.value given) ≡ None = rw differ (fresh table given x.name one.option one.left) in
+      let x_left = left_if_fresh (given_as y.name two.value given) x.name one.option x_fresh (named_if_left table given x.name one.option one.left) in
       let behind = alike_read ws (given_as y.name two.value (given_as x.name one.value given)) (given_as x.name one.value (given_as y.name two.value given)) (place + 2 + 2) r
       (two_alike given x.name y.name one.value two.value others.0) two.rest in
       record {
@@ -137,7 +108,7 @@ module _ (block_size : ℕ) (table : List Row) where
       → gives given place (words_of (front ++ x ∷ y ∷ back)) ≡ Ok r → BothGive r given place (words_of (front ++ y ∷ x ∷ back))
   order_read [] given place x y back r good = pair_read given place x y (words_of back) r good
   order_read (o ∷ os) given place x y back r good =
-      let one = head given place o.name o.word (words_of (os ++ x ∷ y ∷ back)) r good in
+      let one = head block_size table given place o.name o.word (words_of (os ++ x ∷ y ∷ back)) r good in
       let behind = order_read os (given_as o.name one.value given) (place + 2) x y back r one.rest in
       record {
         given = behind.given;
@@ -151,7 +122,7 @@ module _ (block_size : ℕ) (table : List Row) where
       let option = was_read place (row_left table given w) _ r good in
       not_both option.1.1 refl
   odd_wrong (o ∷ os) given place w r good =
-      let one = head given place w o.name (o.word ∷ words_of os) r good in
+      let one = head block_size table given place w o.name (o.word ∷ words_of os) r good in
       odd_wrong os (given_as w one.value given) (place + 2) o.word r one.rest
 
 -- ---- commands

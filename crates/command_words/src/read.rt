@@ -1,7 +1,8 @@
-ghost use Rattle.std.specs.Prelude.{◌≡◌, [], List, map};
+ghost use Rattle.std.specs.Prelude.{◌≡◌, [], List, map, IfOk};
 ghost use Rattle.std.specs.String.{string_bytes};
 ghost use Rattle.command_words.specs.declared.command.Command.TheVariants as command;
 ghost use Rattle.command_words.specs.Options.{Given, options_read};
+ghost use Rattle.command_words.specs.Limits.{IsWithinLimits};
 ghost use Rattle.command_words.specs.Commands.{make_options, run_options, make_of, run_of, command_of, load_read, words_read};
 
 use crate::command::{Command, Usage};
@@ -52,8 +53,7 @@ fn read_load(words: &[String], block_size: u32) -> Result<Command, Usage>
     }
 }
 
-/// Reads the words from the command on, for a disk with blocks of this many bytes. It goes over the words once.
-pub fn read_words(words: &[String], block_size: u32) -> Result<Command, Usage>
+fn read_command(words: &[String], block_size: u32) -> Result<Command, Usage>
     ensures { result ≡ words_read block_size (map string_bytes words.now) }
 {
     let Some((command, rest)) = first_word(words) else {
@@ -72,4 +72,12 @@ pub fn read_words(words: &[String], block_size: u32) -> Result<Command, Usage>
     } else {
         Err(Usage { word: 1 })
     }
+}
+
+/// Reads the words from the command on, for a disk with blocks of this many bytes. It goes over the words once.
+pub fn read_words(words: &[String], block_size: u32) -> Result<Command, Usage>
+    ensures read { result ≡ words_read block_size (map string_bytes words.now) }
+    ensures limits { IfOk result IsWithinLimits }
+{
+    read_command(words, block_size)
 }
