@@ -1,0 +1,34 @@
+-- What a command asks for is within limits.
+use Rattle.std.specs.Prelude.{ℕ, ◌≤◌, ⊤, IfSome}
+use Rattle.command_words.specs.declared.command.MakeWords.{MakeWords}
+use Rattle.command_words.specs.declared.command.RunWords.{RunWords}
+use Rattle.command_words.specs.declared.command.LoadWords.{LoadWords}
+use Rattle.command_words.specs.declared.command.Command.{Command}
+use Rattle.command_words.specs.declared.command.Command.TheVariants.{Make, Run, Replay, Show, Load}
+use Rattle.command_words.specs.Commands.{largest, steps_of, frames_of}
+
+abbrev pub IsBetween : ℕ → ℕ → ℕ → Type 0
+IsBetween low high n = (low ≤ n) × (n ≤ high)
+
+pub record IsMakeWithin (make : MakeWords) : Type 0 where
+  pub journals : IsBetween 1 8 make.journals
+  pub journal_blocks : IsBetween 512 65536 make.journal_blocks
+  pub groups : IsBetween 1 64 make.groups
+  pub time : IsBetween 0 largest make.time
+
+pub record IsRunWithin (run : RunWords) : Type 0 where
+  pub schedule : IfSome run.schedule (IsBetween 0 largest)
+  pub steps : IsBetween 1 10000000 (steps_of run.steps)
+  pub time : IsBetween 0 largest run.time
+  pub frames : IsBetween 512 4096 (frames_of run.frames)
+
+pub record IsLoadWithin (load : LoadWords) : Type 0 where
+  pub number : IsBetween 0 largest load.number
+  pub steps : IsBetween 1 10000000 (steps_of load.steps)
+
+abbrev pub IsWithinLimits : Command → Type 0
+IsWithinLimits (Make make) = IsMakeWithin make
+IsWithinLimits (Run run) = IsRunWithin run
+IsWithinLimits Replay = ⊤
+IsWithinLimits Show = ⊤
+IsWithinLimits (Load load) = IsLoadWithin load

@@ -1,0 +1,45 @@
+use Rattle.std.proofs.Common.{◌≡◌, ◌+◌, ◌^◌, ◌<◌, ◌≤◌, length, take, get_or, ap, ◌∙◌, subst, arith}
+use Rattle.std.proofs.lemmas.List.{take_all}
+use Rattle.std.proofs.lemmas.Bool.Decides.{nat_tests}
+use Rattle.std.proofs.lemmas.Int.Digits.{digits_value_more, digits_more}
+use Rattle.std.specs.Str.Parse.{digits_value, AllDigits}
+use Rattle.text_words.proofs.Decimals.{is_number, not_empty, no_leading_zero, no_other_byte, too_large, digit_small}
+use Rattle.text_words.proofs.numbers.decimal_value.Goals as goal
+use Rattle.text_words.proofs.numbers.decimal_value.Goals.{else-word-gt1-via-then-word-gt1+else-word-eq48, else-word-gt1-via-else-word-gt1}
+
+pub returns-then-is_empty : goal.returns-then-is_empty
+returns-then-is_empty c = not_empty c.args.word.now (grind (arith, nat_tests))
+
+pub returns-then-word-eq48 : goal.returns-then-word-eq48
+returns-then-word-eq48 c = no_leading_zero c.args.word.now c.if-word-eq48.true c.if-word-gt1.true
+
+pub returns-in_default : goal.returns-in_default
+returns-in_default c = no_other_byte c.args.word.now c.loop-byte.byte-index c.loop-byte-test.true c.in_default.ensures.other
+
+pub returns-in_default-with_digit : goal.returns-in_default-with_digit
+returns-in_default-with_digit c =
+    too_large c.args.word.now (c.loop-byte.byte-index + 1)
+    (omega (arith, digits_value_more 10 c.args.word.now c.loop-byte.byte-index c.loop-byte-test.true, c.loop-byte.invariant.value, c.in-Some.ensures.digit.2, c.in_default-with_digit.ensures))
+
+pub loop-byte-preserved : goal.loop-byte-preserved
+loop-byte-preserved c =
+    let digit = c.in-Some.ensures.digit in
+    record {
+      digits = digits_more 10 c.args.word.now c.loop-byte.byte-index c.loop-byte-test.true c.loop-byte.invariant.digits (digit_small _ digit.0 digit.1);
+      value = omega (arith, digits_value_more 10 c.args.word.now c.loop-byte.byte-index c.loop-byte-test.true, c.loop-byte.invariant.value, digit.2, c.in-Some-with_digit.ensures.1);
+      small = omega (arith, c.in-Some-with_digit.ensures.0, c.in-Some-with_digit.ensures.1);
+    }
+
+pub returns : goal.returns
+returns c =
+    let w = c.args.word.now in
+    let whole : take c.loop-byte.byte-index w ≡ w = take_all c.loop-byte.byte-index w c.loop-byte-test.false in
+    let value : c.loop-byte.value ≡ digits_value 10 w = c.loop-byte.invariant.value ∙ ap (digits_value 10) whole in
+    let digits : AllDigits 10 w = subst (AllDigits 10) whole c.loop-byte.invariant.digits in
+    let some : 1 ≤ length w = grind (arith, nat_tests) in
+    let plain : get_or w 0 0 ≡ 48 → length w ≡ 1 = λ zero_first. elim c.else-word-gt1.branch [
+      | else-word-gt1-via-then-word-gt1+else-word-eq48 v ↦ absurd (v.if-word-eq48.false zero_first)
+      | else-word-gt1-via-else-word-gt1 v ↦ omega (arith, v.if-word-gt1.false, some)
+    ] in
+    let small : digits_value 10 w < 2 ^ 64 = omega (arith, c.loop-byte.invariant.small, value) in
+    rw value (is_number w digits some plain small)
