@@ -1,6 +1,10 @@
 -- What a command's end comes from.
-use Rattle.std.proofs.Common.{◌≡◌, ℕ, List, refl, sym, ◌∙◌, subst}
-use Rattle.std.specs.Prelude.{Option}
+use Rattle.std.proofs.Common.{◌≡◌, ℕ, Bool, true, false, List, refl, sym, ◌∙◌, subst}
+use Rattle.std.specs.Prelude.{Option, Some, None, Result, Ok, Err, if◌then◌else◌}
+use Rattle.command_words.specs.Commands.{words_read}
+use Rattle.command_words.specs.declared.command.Command.{Command}
+use Rattle.command_words.specs.declared.command.Usage.{Usage}
+use Rattle.cluster_program.specs.declared.status.Part.TheVariants as part
 use Rattle.shared_disk.specs.Disk.{DiskState}
 use Rattle.trace_text.specs.declared.item.TraceItem.{TraceItem}
 use Rattle.script_lang.specs.Script.{ScriptValue}
@@ -9,8 +13,7 @@ use Rattle.cluster_program.specs.declared.status.Status.TheVariants as status
 use Rattle.cluster_program.specs.declared.status.Which.{Which}
 use Rattle.cluster_program.specs.declared.status.Which.TheVariants as which
 use Rattle.cluster_program.specs.World.{Inputs, Outputs}
-use Rattle.cluster_program.specs.Course.{Course, OtherWords, NoScript, RunsScript, LacksScript, SourceFailed, TooLong, OtherLine, RunEnds, IsDone, DiskFailed, NotFlat}
-use Rattle.cluster_program.specs.Course.{NoRoom}
+use Rattle.cluster_program.specs.Course.{Course, RefusesWords, NoScript, RunsScript, LacksScript, SourceFailed, Refused, RefusedEarly, NotBuiltYet, RunEnds, IsDone, MountFailed, CallFailed, MountRefused, CallRefused, NoRoom, words_refusal, refusal_of, is_built}
 use Rattle.cluster_program.specs.Report.{Becomes, Stays, WithoutMemory, Fails, Reports}
 use Rattle.cluster_program.specs.Command.{Ends, FaultHasCause}
 
@@ -21,22 +24,36 @@ done_before w before now own told (WithoutMemory without) is = let both : status
 done_before w before now own told (Fails x y not_told fails up) is = let both : status.SinkFault w x y ≡ status.Done = sym fails ∙ is in cc
 
 module _ (given left : Inputs) (sinks sinks_now : Outputs) where
+  words_fault : (block_size : ℕ) (words : List (List ℕ)) (own : Status) → words_refusal block_size words ≡ Some own → FaultHasCause given left sinks sinks_now own
+  words_fault block_size words own refused = by_read (words_read block_size words) own refused
+    where
+      by_read : (read : Result Command Usage) (own : Status) → refusal_of read ≡ Some own → FaultHasCause given left sinks sinks_now own
+      by_read (Err usage) own is = let same : status.Usage usage.word ≡ own = cc in subst (FaultHasCause given left sinks sinks_now) same tt
+      by_read (Ok c) own is = by_test (is_built c) own is
+        where
+          by_test : (b : Bool) (own : Status) → (if b then None else Some (status.NotBuilt part.Words)) ≡ Some own → FaultHasCause given left sinks sinks_now own
+          by_test true own is = cc
+          by_test false own is = let same : status.NotBuilt part.Words ≡ own = cc in subst (FaultHasCause given left sinks sinks_now) same tt
+
   script_fault : (own : Status) → LacksScript given.left left.left given.script_faults left.script_faults own → FaultHasCause given left sinks sinks_now own
   script_fault own (SourceFailed x y up) = up
-  script_fault own (TooLong long) = tt
-  script_fault own (OtherLine text line read) = tt
+  script_fault own (Refused text line column read is) = tt
+  script_fault own (RefusedEarly front line column consumed is) = tt
+  script_fault own (NotBuiltYet text s line read is foreign) = tt
   script_fault own NoRoom = tt
 
   run_fault : (s : ScriptValue) (items : List TraceItem) (own : Status) → RunEnds given.disk given.disk_faults left.disk_faults s items own → FaultHasCause given left sinks sinks_now own
   run_fault s items own (IsDone all) = tt
-  run_fault s items own (DiskFailed node block x y few up) = up
-  run_fault s items own (NotFlat block other) = tt
+  run_fault s items own (MountFailed block x y up reads) = up
+  run_fault s items own (CallFailed root block x y up begins reads) = up
+  run_fault s items own (MountRefused block other refuses) = tt
+  run_fault s items own (CallRefused root block other begins refuses) = tt
   run_fault s items own NoRoom = tt
 
   course_fault : (words : List (List ℕ)) (s : ScriptValue) (items : List TraceItem) (own : Status) → Course words given left s items own → FaultHasCause given left sinks sinks_now own
-  course_fault words s items own (OtherWords other untouched) = tt
-  course_fault words s items own (NoScript told is lacks) = script_fault own lacks
-  course_fault words s items own (RunsScript text s' items' own' is read script runs) = run_fault s items own runs.ends
+  course_fault words s items own (RefusesWords told refused untouched) = words_fault given.disk.size words own refused
+  course_fault words s items own (NoScript told fine lacks) = script_fault own lacks
+  course_fault words s items own (RunsScript text s' items' own' fine read script built runs) = run_fault s items own runs.ends
 
   trace_fault : (own told : Status) → Becomes which.Trace sinks.trace_faults sinks_now.trace_faults own told → FaultHasCause given left sinks sinks_now own → FaultHasCause given left sinks sinks_now told
   trace_fault own told (Stays same) cause = subst (FaultHasCause given left sinks sinks_now) (sym same) cause

@@ -3,8 +3,8 @@ pub mod Passing
 pub mod Quiet
 pub mod Runs
 pub mod Scripts
-pub mod Words
 pub mod Courses
 pub mod ClientLines
 pub mod Faults
 pub mod Ends
+pub mod Complete

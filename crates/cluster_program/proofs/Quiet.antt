@@ -1,5 +1,5 @@
 -- Nothing is down or lost in a run of one node that answers and unmounts.
-use Rattle.std.proofs.Common.{◌≡◌, ◌⊎◌, inl, inr, ℕ, ◌+◌, ◌≤◌, zero, suc, List, [], ◌∷◌, ◌++◌, length, drop, Bool, true, false, refl, sym, ap, ◌∙◌, subst, arith}
+use Rattle.std.proofs.Common.{◌≡◌, ◌⊎◌, inl, inr, ℕ, ◌+◌, ◌≤◌, zero, suc, List, [], ◌∷◌, ◌++◌, length, drop, Bool, true, false, refl, sym, ap, ◌∙◌, subst, arith, append-nil}
 use Rattle.std.specs.Prelude.{Option, None, Some, ◌||◌, ◌&&◌, ◌==◌, nat_le, if◌then◌else◌}
 use Rattle.std.specs.List.{flat_map}
 use Rattle.std.proofs.lemmas.List.{drop_all}
@@ -16,7 +16,7 @@ use Rattle.script_lang.specs.declared.script.Line.TheVariants as line
 use Rattle.script_lang.specs.Script.{ScriptValue, calls_by}
 use Rattle.run_rules.specs.Follows.{history_of, call_items}
 use Rattle.run_rules.specs.History.{AllAnswered}
-use Rattle.single_node.specs.Run.{items_from, IsRunOf, NotJoined, Answered, Unmounted}
+use Rattle.single_node.specs.Run.{AnsweredCall, items_from, IsRunOf, NotJoined, Taken, Unmounted}
 use Rattle.cluster_program.specs.declared.status.Status.{Status}
 use Rattle.cluster_program.specs.declared.status.Status.TheVariants as status
 use Rattle.cluster_program.specs.Orders.{orders, line_for, with_line_for, Use, uses_from, uses, has_use_below}
@@ -25,67 +25,40 @@ use Rattle.cluster_program.specs.Quiet.{IsQuiet}
 
 -- ---- the items of such a run: node 1 joins, answers calls, and may unmount
 
-pub record AnsweredCall : Type 0 where
-  pub name : List ℕ
-  pub number : ℕ
-  pub call : Call
-  pub reply : Reply
-
-abbrev pub answer_items : List AnsweredCall → List TraceItem → List TraceItem
-answer_items [] end = end
-answer_items (a ∷ as') end = trace.Call 1 a.name a.number a.call a.reply ∷ answer_items as' end
-
 abbrev pub IsEnd : List TraceItem → Type 0
 IsEnd end = (end ≡ []) ⊎ (end ≡ trace.Unmount 1 ∷ [])
 
-pub data IsAnswers (items : List TraceItem) : Type 0 where
-  NoItems : items ≡ [] → IsAnswers items
-  Joined : (calls : List AnsweredCall) (end : List TraceItem) → IsEnd end → items ≡ trace.Join 1 ∷ answer_items calls end → IsAnswers items
+pub data IsAnswers (clients : List Client) (items : List TraceItem) : Type 0 where
+  NoItems : items ≡ [] → IsAnswers clients items
+  Joined : (calls : List AnsweredCall) (end : List TraceItem) → IsEnd end → items ≡ trace.Join 1 ∷ (items_from clients 1 calls ++ end) → IsAnswers clients items
 
-abbrev calls_in : List ℕ → ℕ → List Replied → List AnsweredCall
-calls_in name n [] = []
-calls_in name n (r ∷ rs) = record { name = name; number = n; call = r.call; reply = r.reply } ∷ calls_in name (n + 1) rs
-
-items_are : (name : List ℕ) (n : ℕ) (rs : List Replied) (end : List TraceItem) → items_from name n rs ++ end ≡ answer_items (calls_in name n rs) end
-items_are name n [] end = refl
-items_are name n (r ∷ rs) end = ap (λ (l : List TraceItem). trace.Call 1 name n r.call r.reply ∷ l) (items_are name (n + 1) rs end)
-
-items_are_all : (name : List ℕ) (n : ℕ) (rs : List Replied) → items_from name n rs ≡ answer_items (calls_in name n rs) []
-items_are_all name n [] = refl
-items_are_all name n (r ∷ rs) = ap (λ (l : List TraceItem). trace.Call 1 name n r.call r.reply ∷ l) (items_are_all name (n + 1) rs)
-
-pub answers_of_run : (name : List ℕ) (lines : List Line) (items : List TraceItem) (IsStart : Tree → Type 0) → IsRunOf name lines items IsStart → IsAnswers items
-answers_of_run name lines items start (NotJoined none) = NoItems none
-answers_of_run name lines items start (Answered count run) =
-    Joined (calls_in name 1 run.replied) [] (inl refl) (run.are ∙ ap (λ (l : List TraceItem). trace.Join 1 ∷ l) (items_are_all name 1 run.replied))
-answers_of_run name lines items start (Unmounted whole) =
-    let end : List TraceItem = trace.Unmount 1 ∷ [] in
-    Joined (calls_in name 1 whole.answered.replied) end (inr refl)
-    (whole.are ∙ ap (λ (l : List TraceItem). l ++ end) whole.answered.are ∙ ap (λ (l : List TraceItem). trace.Join 1 ∷ l) (items_are name 1 whole.answered.replied end))
+pub answers_of_run : (clients : List Client) (lines : List Line) (items : List TraceItem) (IsStart : Tree → Type 0) → IsRunOf clients lines items IsStart → IsAnswers clients items
+answers_of_run clients lines items start (NotJoined none) = NoItems none
+answers_of_run clients lines items start (Taken count run) =
+    Joined run.answered [] (inl refl) (run.are ∙ ap (λ (l : List TraceItem). trace.Join 1 ∷ l) (sym (append-nil (items_from clients 1 run.answered))))
+answers_of_run clients lines items start (Unmounted whole) =
+    Joined whole.taken.answered (trace.Unmount 1 ∷ []) (inr refl) (whole.are ∙ ap (λ (l : List TraceItem). l ++ trace.Unmount 1 ∷ []) whole.taken.are)
 
 -- ---- nothing stops, is lost, or carries a line out
 
-stopped_rest : (node : ℕ) (calls : List AnsweredCall) (end : List TraceItem) → IsEnd end → is_stopped node false (answer_items calls end) ≡ false
-stopped_rest node [] end (inl is) = ap (is_stopped node false) is
-stopped_rest node [] end (inr is) = ap (is_stopped node false) is
-stopped_rest node (a ∷ as') end is = stopped_rest node as' end is
+module _ (clients : List Client) (end : List TraceItem) (is : IsEnd end) where
+  stopped_rest : (node n : ℕ) (calls : List AnsweredCall) → is_stopped node false (items_from clients n calls ++ end) ≡ false
+  stopped_rest node n [] = elim is [ inl none ↦ ap (is_stopped node false) none | inr one ↦ ap (is_stopped node false) one ]
+  stopped_rest node n (a ∷ as') = stopped_rest node (n + 1) as'
 
--- no item of such a history takes a call out
-drops_rest : (node number : ℕ) (clients : List Client) (calls : List AnsweredCall) (end : List TraceItem) → IsEnd end
-    → any_drops node number (history_of clients (answer_items calls end)) ≡ false
-drops_rest node number clients [] end (inl is) = ap (λ (l : List TraceItem). any_drops node number (history_of clients l)) is
-drops_rest node number clients [] end (inr is) = ap (λ (l : List TraceItem). any_drops node number (history_of clients l)) is
-drops_rest node number clients (a ∷ as') end is = drops_rest node number clients as' end is
+  -- no item of such a history takes a call out
+  drops_rest : (others : List Client) (node number n : ℕ) (calls : List AnsweredCall) → any_drops node number (history_of others (items_from clients n calls ++ end)) ≡ false
+  drops_rest others node number n [] =
+      elim is [ inl none ↦ ap (λ (l : List TraceItem). any_drops node number (history_of others l)) none | inr one ↦ ap (λ (l : List TraceItem). any_drops node number (history_of others l)) one ]
+  drops_rest others node number n (a ∷ as') = drops_rest others node number (n + 1) as'
 
-lost_rest : (clients : List Client) (calls : List AnsweredCall) (end : List TraceItem) → IsEnd end → lost_count (history_of clients (answer_items calls end)) ≡ 0
-lost_rest clients [] end (inl is) = ap (λ (l : List TraceItem). lost_count (history_of clients l)) is
-lost_rest clients [] end (inr is) = ap (λ (l : List TraceItem). lost_count (history_of clients l)) is
-lost_rest clients (a ∷ as') end is = rw (drops_rest 1 a.number clients as' end is) (ap (λ (n : ℕ). 0 + n) (lost_rest clients as' end is))
+  lost_rest : (others : List Client) (n : ℕ) (calls : List AnsweredCall) → lost_count (history_of others (items_from clients n calls ++ end)) ≡ 0
+  lost_rest others n [] = elim is [ inl none ↦ ap (λ (l : List TraceItem). lost_count (history_of others l)) none | inr one ↦ ap (λ (l : List TraceItem). lost_count (history_of others l)) one ]
+  lost_rest others n (a ∷ as') = rw (drops_rest others 1 n (n + 1) as') (ap (λ (k : ℕ). 0 + k) (lost_rest others (n + 1) as'))
 
-uses_rest : (s : ScriptValue) (items : List TraceItem) (p : ℕ) (calls : List AnsweredCall) (end : List TraceItem) → IsEnd end → uses_from s items p (answer_items calls end) [] ≡ []
-uses_rest s items p [] end (inl is) = ap (λ (l : List TraceItem). uses_from s items p l []) is
-uses_rest s items p [] end (inr is) = ap (λ (l : List TraceItem). uses_from s items p l []) is
-uses_rest s items p (a ∷ as') end is = uses_rest s items (suc p) as' end is
+  uses_rest : (s : ScriptValue) (items : List TraceItem) (p n : ℕ) (calls : List AnsweredCall) → uses_from s items p (items_from clients n calls ++ end) [] ≡ []
+  uses_rest s items p n [] = elim is [ inl none ↦ ap (λ (l : List TraceItem). uses_from s items p l []) none | inr one ↦ ap (λ (l : List TraceItem). uses_from s items p l []) one ]
+  uses_rest s items p n (a ∷ as') = uses_rest s items (suc p) (n + 1) as'
 
 -- no line orders the first join, which is one of the start
 no_order : (s : ScriptValue) (x : Line) → s.nodes ≡ 1 → orders s 0 (trace.Join 1) x ≡ false
@@ -102,26 +75,25 @@ no_line : (s : ScriptValue) (items : List TraceItem) (l : ℕ) (lines : List Lin
 no_line s items l [] one = refl
 no_line s items l (x ∷ xs) one = rw (no_order s x one) (no_line s items (suc l) xs one)
 
-uses_none : (s : ScriptValue) (items : List TraceItem) → s.nodes ≡ 1 → IsAnswers items → uses s items ≡ []
-uses_none s items one (NoItems none) = ap (uses s) none
-uses_none s items one (Joined calls end is are) =
-    let joined : List TraceItem = trace.Join 1 ∷ answer_items calls end in
-    ap (uses s) are ∙ ap (λ (l : Option ℕ). uses_from s joined 1 (answer_items calls end) (with_line_for 1 l [])) (no_line s joined 0 s.lines one) ∙ uses_rest s joined 1 calls end is
+module _ (clients : List Client) (items : List TraceItem) where
+  uses_none : (s : ScriptValue) → s.nodes ≡ 1 → IsAnswers clients items → uses s items ≡ []
+  uses_none s one (NoItems none) = ap (uses s) none
+  uses_none s one (Joined calls end is are) =
+      let joined : List TraceItem = trace.Join 1 ∷ (items_from clients 1 calls ++ end) in
+      ap (uses s) are ∙ ap (λ (l : Option ℕ). uses_from s joined 1 (items_from clients 1 calls ++ end) (with_line_for 1 l [])) (no_line s joined 0 s.lines one)
+      ∙ uses_rest clients end is s joined 1 1 calls
 
-stopped_none : (node : ℕ) (items : List TraceItem) → IsAnswers items → is_stopped node false items ≡ false
-stopped_none node items (NoItems none) = ap (is_stopped node false) none
-stopped_none node items (Joined calls end is are) = ap (is_stopped node false) are ∙ first node
-  where
-    first : (node : ℕ) → is_stopped node false (trace.Join 1 ∷ answer_items calls end) ≡ false
-    first node = same (1 == node) ∙ stopped_rest node calls end is
-      where
-        same : (b : Bool) → is_stopped node (if b then false else false) (answer_items calls end) ≡ is_stopped node false (answer_items calls end)
-        same true = refl
-        same false = refl
+  stopped_none : (node : ℕ) → IsAnswers clients items → is_stopped node false items ≡ false
+  stopped_none node (NoItems none) = ap (is_stopped node false) none
+  stopped_none node (Joined calls end is are) = ap (is_stopped node false) are ∙ same (1 == node) ∙ stopped_rest clients end is node 1 calls
+    where
+      same : (b : Bool) → is_stopped node (if b then false else false) (items_from clients 1 calls ++ end) ≡ is_stopped node false (items_from clients 1 calls ++ end)
+      same true = refl
+      same false = refl
 
-lost_none : (clients : List Client) (items : List TraceItem) → IsAnswers items → lost_count (history_of clients items) ≡ 0
-lost_none clients items (NoItems none) = ap (λ (l : List TraceItem). lost_count (history_of clients l)) none
-lost_none clients items (Joined calls end is are) = ap (λ (l : List TraceItem). lost_count (history_of clients l)) are ∙ lost_rest clients calls end is
+  lost_none : (others : List Client) → IsAnswers clients items → lost_count (history_of others items) ≡ 0
+  lost_none others (NoItems none) = ap (λ (l : List TraceItem). lost_count (history_of others l)) none
+  lost_none others (Joined calls end is are) = ap (λ (l : List TraceItem). lost_count (history_of others l)) are ∙ lost_rest clients end is others 1 calls
 
 -- ---- no line is down
 
@@ -134,8 +106,8 @@ down_none : (s : ScriptValue) (items : List TraceItem) (told : Status) (client :
 down_none s items status.Done client c stopped used all = ap (flat_map (down_line c.name)) (no_more s items client (all refl))
 down_none s items _ client c stopped used all = rw stopped (rw used refl)
 
-pub quiet : (s : ScriptValue) (items : List TraceItem) (told : Status) → s.nodes ≡ 1 → IsAnswers items → (told ≡ status.Done → AllAnswered items s) → IsQuiet s items told
+pub quiet : (s : ScriptValue) (items : List TraceItem) (told : Status) → s.nodes ≡ 1 → IsAnswers s.clients items → (told ≡ status.Done → AllAnswered items s) → IsQuiet s items told
 quiet s items told one are all = record {
-  none_down = λ client c. down_none s items told client c (stopped_none c.node items are) (uses_none s items one are) all;
-  none_lost = lost_none s.clients items are;
+  none_down = λ client c. down_none s items told client c (stopped_none s.clients items c.node are) (uses_none s.clients items s one are) all;
+  none_lost = lost_none s.clients items s.clients are;
 }

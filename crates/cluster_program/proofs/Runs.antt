@@ -1,5 +1,5 @@
 -- How a run of a script ends.
-use Rattle.std.proofs.Common.{◌≡◌, ℕ, ◌≤◌, List, [], IsTrue, refl, sym, ap, ◌∙◌, subst, arith}
+use Rattle.std.proofs.Common.{◌≡◌, ℕ, ◌≤◌, List, [], IsTrue, Some, refl, sym, ap, ◌∙◌, subst, arith}
 use Rattle.fault_counts.specs.Causes.{WentUp}
 use Rattle.file_tree.specs.Tree.{Tree}
 use Rattle.cluster_history.specs.History.{tree_of}
@@ -10,27 +10,47 @@ use Rattle.run_rules.specs.History.{HoldsHistory, NoneStopped, AllAnswered}
 use Rattle.run_rules.proofs.Nothing.{nothing_follows}
 use Rattle.shared_disk.specs.Disk.{DiskState}
 use Rattle.single_node.specs.Flat.{IsFlat, HasFlatRoot, LacksFlatRoot, IsStart}
-use Rattle.single_node.specs.Ends.{EndHasCause, IfNotRead}
+use Rattle.single_node.specs.Ends.{EndHasCause, IfNotRead, IfDiskFailed}
 use Rattle.single_node.specs.declared.end.RunEnd.{RunEnd}
 use Rattle.single_node.specs.declared.end.RunEnd.TheVariants as end
 use Rattle.cluster_program.specs.declared.status.Status.{Status}
 use Rattle.cluster_program.specs.declared.status.Status.TheVariants as status
-use Rattle.cluster_program.specs.Course.{Runs, RunEnds, IsDone, DiskFailed, NotFlat, NoRoom}
+use Rattle.cluster_program.specs.Course.{Runs, RunEnds, MountFailed, MountRefused, CallFailed, CallRefused, NoRoom, AtCall}
+use Rattle.single_node.specs.Blocks.{MountReads, MountRefuses, CallReads, CallRefuses}
 use Rattle.cluster_program.specs.Early.{status_of_end}
 
 -- a count went up within a longer time too
 pub longer : (first before now x y : ℕ) → first ≤ before → WentUp before now x y → WentUp first now x y
 longer first before now x y earlier up = record { from = omega (arith, earlier, up.from); rose = up.rose; to = up.to }
 
-pub early_end : (disk : DiskState) (first before now : ℕ → ℕ) (s : ScriptValue) (items : List TraceItem) (reader : ℕ) (e : RunEnd) → reader ≤ 1
-    → ((j : ℕ) → first j ≤ before j) → EndHasCause reader before now e → IfNotRead e (λ _. (tree : Tree) → IsFlat disk tree → ⊥)
-    → RunEnds disk first now s items (status_of_end e)
-early_end disk first before now s items reader (end.DiskFailed node block rise) few earlier cause other =
-    let here = longer (first reader) (before reader) (now reader) rise.before rise.after (earlier reader) cause.1 in
-    DiskFailed node block rise.before rise.after (subst (λ (n : ℕ). n ≤ 1) (sym cause.0) few)
-    (subst (λ (n : ℕ). WentUp (first n) (now n) rise.before rise.after) (sym cause.0) here)
-early_end disk first before now s items reader (end.NotRead block) few earlier cause other = NotFlat block other
-early_end disk first before now s items reader end.NoMemory few earlier cause other = NoRoom
+-- an end in mounting
+pub mount_end : (disk : DiskState) (first now : ℕ → ℕ) (s : ScriptValue) (items : List TraceItem) (e : RunEnd) → EndHasCause 0 first now e
+    → IfNotRead e (λ _. IsTrue disk.tells → LacksFlatRoot disk) → IfNotRead e (λ b. IsTrue disk.tells → MountRefuses disk b)
+    → IfDiskFailed e (λ b. IsTrue disk.tells → MountReads disk b) → RunEnds disk first now s items (status_of_end e)
+mount_end disk first now s items (end.DiskFailed node block rise) cause other refused failed =
+    let here = MountFailed block rise.before rise.after cause.1 failed in
+    subst (λ (n : ℕ). RunEnds disk first now s items (status.DeviceFault n (Some block) rise.before rise.after)) (sym cause.0) here
+mount_end disk first now s items (end.NotRead block) cause other refused failed = MountRefused block (λ tree flat. other flat.tells flat.superblock flat.root) refused
+mount_end disk first now s items end.NoMemory cause other refused failed = NoRoom
+
+-- a tree that the run may start from
+pub may_start : (disk mid : DiskState) (root : List ℕ) (tree : Tree) → mid ≡ disk → (IsTrue disk.tells → HasFlatRoot disk root) → IsFlat disk tree → IsStart mid root tree
+may_start disk mid root tree same begins flat = subst (λ (d : DiskState). IsStart d root tree) (sym same) (record { flat = flat; begins = begins flat.tells })
+
+-- an end in a call, of a run on the same disk
+pub call_end : (disk mid : DiskState) (first before now : ℕ → ℕ) (s : ScriptValue) (items : List TraceItem) (root : List ℕ) (e : RunEnd) → mid ≡ disk
+    → (IsTrue disk.tells → HasFlatRoot disk root) → ((j : ℕ) → first j ≤ before j) → EndHasCause 1 before now e
+    → IfNotRead e (λ _. (tree : Tree) → IsStart mid root tree → ⊥)
+    → IfNotRead e (λ b. IsTrue mid.tells → HasFlatRoot mid root → AtCall mid root s items (λ call. CallRefuses mid root call b))
+    → IfDiskFailed e (λ b. AtCall mid root s items (λ call. CallReads root call b)) → RunEnds disk first now s items (status_of_end e)
+call_end disk mid first before now s items root (end.DiskFailed node block rise) same begins earlier cause other refused failed =
+    let here = CallFailed root block rise.before rise.after (longer (first 1) (before 1) (now 1) rise.before rise.after (earlier 1) cause.1) begins
+    (subst (λ (d : DiskState). AtCall d root s items (λ call. CallReads root call block)) same failed) in
+    subst (λ (n : ℕ). RunEnds disk first now s items (status.DeviceFault n (Some block) rise.before rise.after)) (sym cause.0) here
+call_end disk mid first before now s items root (end.NotRead block) same begins earlier cause other refused failed =
+    let here = subst (λ (d : DiskState). IsTrue d.tells → HasFlatRoot d root → AtCall d root s items (λ call. CallRefuses d root call block)) same refused in
+    CallRefused root block (λ tree flat. other tree (may_start disk mid root tree same begins flat)) begins (λ tells. here tells (begins tells))
+call_end disk mid first before now s items root end.NoMemory same begins earlier cause other refused failed = NoRoom
 
 -- nothing has happened
 pub no_items : (disk disk_now : DiskState) (faults faults_now : ℕ → ℕ) (s : ScriptValue) (items : List TraceItem) (own : Status) → disk_now ≡ disk → items ≡ []
@@ -41,22 +61,6 @@ no_items disk disk_now faults faults_now s items own same none ends = record {
   members = subst NoneStopped (sym none) tt;
   ends = ends;
 }
-
-pub not_mounted : (disk : DiskState) (e : RunEnd) → IfNotRead e (λ _. IsTrue disk.tells → LacksFlatRoot disk) → IfNotRead e (λ _. (tree : Tree) → IsFlat disk tree → ⊥)
-not_mounted disk (end.DiskFailed node block rise) other = tt
-not_mounted disk (end.NotRead block) other = λ tree flat. other flat.tells flat.superblock flat.root
-not_mounted disk end.NoMemory other = tt
-
--- a tree that the run may start from
-pub may_start : (disk mid : DiskState) (root : List ℕ) (tree : Tree) → mid ≡ disk → (IsTrue disk.tells → HasFlatRoot disk root) → IsFlat disk tree → IsStart mid root tree
-may_start disk mid root tree same begins flat = subst (λ (d : DiskState). IsStart d root tree) (sym same) (record { flat = flat; begins = begins flat.tells })
-
--- where nothing may start, no image is flat
-pub not_started : (disk mid : DiskState) (root : List ℕ) (e : RunEnd) → mid ≡ disk → (IsTrue disk.tells → HasFlatRoot disk root)
-    → IfNotRead e (λ _. (tree : Tree) → IsStart mid root tree → ⊥) → IfNotRead e (λ _. (tree : Tree) → IsFlat disk tree → ⊥)
-not_started disk mid root (end.DiskFailed node block rise) same begins other = tt
-not_started disk mid root (end.NotRead block) same begins other = λ tree flat. other tree (may_start disk mid root tree same begins flat)
-not_started disk mid root end.NoMemory same begins other = tt
 
 pub ran : (disk mid disk_now : DiskState) (faults faults_now : ℕ → ℕ) (s : ScriptValue) (items : List TraceItem) (own : Status) (root : List ℕ)
     → mid ≡ disk → disk_now ≡ mid → (IsTrue disk.tells → HasFlatRoot disk root)

@@ -1,11 +1,15 @@
 -- What the top call promises.
-use Rattle.std.specs.Prelude.{ℕ, ⊤, List}
-use Rattle.fault_counts.specs.Causes.{WentUp}
+use Rattle.std.specs.Prelude.{ℕ, ◌≡◌, ◌⊎◌, ⊤, List, Some, None}
+use Rattle.fault_counts.specs.Causes.{Rose, WentUp}
+use Rattle.file_tree.specs.Tree.{Tree}
+use Rattle.single_node.specs.Flat.{IsFlat}
+use Rattle.script_lang.specs.Grammar.{script_read, Script}
+use Rattle.script_lang.specs.Foreign.{first_foreign}
 use Rattle.trace_text.specs.declared.item.TraceItem.{TraceItem}
 use Rattle.script_lang.specs.Script.{ScriptValue}
 use Rattle.cluster_program.specs.World.{Inputs, Outputs}
 use Rattle.cluster_program.specs.Report.{Reports}
-use Rattle.cluster_program.specs.Course.{Course}
+use Rattle.cluster_program.specs.Course.{Course, words_refusal}
 use Rattle.cluster_program.specs.declared.status.Status.{Status}
 use Rattle.cluster_program.specs.declared.status.Status.TheVariants as status
 use Rattle.cluster_program.specs.declared.status.Which.TheVariants as which
@@ -25,3 +29,27 @@ pub record Ends (words : List (List ℕ)) (given left : Inputs) (sinks sinks_now
   pub own : Status
   pub course : Course words given left script items own
   pub report : Reports sinks sinks_now script items own answer
+
+-- ---- when a command is carried out whole
+
+-- no count of faults rose
+pub record NoneRose (given left : Inputs) (sinks sinks_now : Outputs) : Type 0 where
+  pub disk : (node : ℕ) → Rose (given.disk_faults node) (left.disk_faults node) → ⊥
+  pub script : Rose given.script_faults left.script_faults → ⊥
+  pub trace : Rose sinks.trace_faults sinks_now.trace_faults → ⊥
+  pub output : Rose sinks.output_faults sinks_now.output_faults → ⊥
+
+-- the words are a run, the source tells its text, which is a script without a line that is not built, and the image is flat
+pub record IsRunnable (words : List (List ℕ)) (given : Inputs) : Type 0 where
+  pub run : words_refusal given.disk.size words ≡ None
+  pub text : List ℕ
+  pub tells : given.left ≡ Some text
+  pub script : ScriptValue
+  pub is_script : script_read text ≡ Script script
+  pub built : first_foreign script ≡ None
+  pub tree : Tree
+  pub flat : IsFlat given.disk tree
+
+-- then nothing but want of memory keeps it from being done
+abbrev pub IsComplete : List (List ℕ) → Inputs → Inputs → Outputs → Outputs → Status → Type 0
+IsComplete words given left sinks sinks_now answer = NoneRose given left sinks sinks_now → IsRunnable words given → (answer ≡ status.Done) ⊎ (answer ≡ status.NoMemory)

@@ -1,24 +1,46 @@
 -- What a command does, from its words and its script to the items of its run and its own end.
-use Rattle.std.specs.Prelude.{ℕ, ◌≡◌, ◌<◌, ◌≤◌, List, [], ◌∷◌, length, codes, Option, Some, IfSome}
+use Rattle.std.specs.Prelude.{ℕ, ◌≡◌, ◌⊎◌, ◌<◌, ◌≤◌, ◌++◌, ◌&&◌, Bool, true, false, IsTrue, if◌then◌else◌, List, [], ◌∷◌, length, Option, Some, None, Result, Ok, Err}
 use Rattle.std.specs.Io.KnownBytes.{Consumes, IsAtEnd}
 use Rattle.fault_counts.specs.Causes.{WentUp}
 use Rattle.file_tree.specs.Tree.{Tree}
+use Rattle.file_tree.specs.declared.call.Call.{Call}
 use Rattle.cluster_history.specs.History.{tree_of}
 use Rattle.trace_text.specs.declared.item.TraceItem.{TraceItem}
 use Rattle.script_lang.specs.Script.{ScriptValue}
-use Rattle.script_lang.specs.Grammar.{script_read, Script, script_limit, nothing}
+use Rattle.script_lang.specs.Grammar.{script_read, Script, Bad, nothing}
+use Rattle.script_lang.specs.Foreign.{first_foreign}
+use Rattle.command_words.specs.Commands.{words_read}
+use Rattle.command_words.specs.declared.command.Command.{Command}
+use Rattle.command_words.specs.declared.command.Command.TheVariants as command
+use Rattle.command_words.specs.declared.command.Usage.{Usage}
 use Rattle.run_rules.specs.Follows.{history_of}
 use Rattle.run_rules.specs.History.{HoldsHistory, NoneStopped, AllAnswered}
 use Rattle.shared_disk.specs.Disk.{DiskState}
-use Rattle.single_node.specs.Flat.{IsFlat}
+use Rattle.single_node.specs.Flat.{IsFlat, HasFlatRoot, IsStart}
+use Rattle.single_node.specs.Blocks.{MountReads, MountRefuses, CallReads, CallRefuses, EndsAtCall}
 use Rattle.cluster_program.specs.World.{Inputs}
 use Rattle.cluster_program.specs.declared.status.Status.{Status}
 use Rattle.cluster_program.specs.declared.status.Status.TheVariants as status
 use Rattle.cluster_program.specs.declared.status.Part.TheVariants as part
 
--- the one word `run`
-abbrev pub IsRun : List (List ℕ) → Type 0
-IsRun words = words ≡ codes "run" ∷ []
+-- ---- the words
+
+abbrev pub is_none : {A : Type 0} → Option A → Bool
+is_none None = true
+is_none (Some a) = false
+
+-- today a run is built, but not its schedules, steps and frames
+abbrev pub is_built : Command → Bool
+is_built (command.Run words) = is_none words.schedule && is_none words.steps && is_none words.frames
+is_built _ = false
+
+abbrev pub refusal_of : Result Command Usage → Option Status
+refusal_of (Err usage) = Some (status.Usage usage.word)
+refusal_of (Ok c) = if is_built c then None else Some (status.NotBuilt part.Words)
+
+-- why a disk of this block size is given no run by these words
+abbrev pub words_refusal : ℕ → List (List ℕ) → Option Status
+words_refusal block_size words = refusal_of (words_read block_size words)
 
 -- ---- the script
 
@@ -26,23 +48,38 @@ IsRun words = words ≡ codes "run" ∷ []
 pub record HasRead (before now : Option (List ℕ)) (text : List ℕ) : Type 0 where
   pub consumed : Consumes before now text
   pub whole : IsAtEnd now
-  pub short : length text ≤ script_limit
 
--- why there is no script to run: its source failed, it is too long, this line is of no form that is built, or there was no memory
+-- Why there is no script to run: its source failed; the grammar refuses it at this place, maybe before its end, and then
+-- whatever follows; this line of it is not built; or there was no memory.
 pub data LacksScript (before now : Option (List ℕ)) (faults faults_now : ℕ) : Status → Type 0 where
   SourceFailed : (x y : ℕ) → WentUp faults faults_now x y → LacksScript before now faults faults_now (status.ScriptFault x y)
-  TooLong : IfSome before (λ text. script_limit < length text) → LacksScript before now faults faults_now (status.NotBuilt (part.Script 1))
-  OtherLine : (text : List ℕ) (line : ℕ) → HasRead before now text → LacksScript before now faults faults_now (status.NotBuilt (part.Script line))
+  Refused : (text : List ℕ) (line column : ℕ) → HasRead before now text → script_read text ≡ Bad line column
+      → LacksScript before now faults faults_now (status.BadScript line column)
+  RefusedEarly : (front : List ℕ) (line column : ℕ) → Consumes before now front → ((rest : List ℕ) → script_read (front ++ rest) ≡ Bad line column)
+      → LacksScript before now faults faults_now (status.BadScript line column)
+  NotBuiltYet : (text : List ℕ) (s : ScriptValue) (line : ℕ) → HasRead before now text → script_read text ≡ Script s → first_foreign s ≡ Some line
+      → LacksScript before now faults faults_now (status.NotBuilt (part.Script line))
   NoRoom : LacksScript before now faults faults_now status.NoMemory
 
 -- ---- the run
 
--- how a run ends: each line is answered, the disk failed, a block is not of a form that is built, or there was no memory
+-- the next line of the script is a call of which this holds
+abbrev pub AtCall : DiskState → List ℕ → ScriptValue → List TraceItem → (Call → Type 0) → Type 0
+AtCall disk root s items P = EndsAtCall P s.clients s.lines items (IsStart disk root)
+
+-- How a run ends: each line is answered; the disk failed in mounting, or in a call; mounting or a call met a block that is
+-- not of a form that is built, so that the image is not flat; or there was no memory.
 pub data RunEnds (disk : DiskState) (faults faults_now : ℕ → ℕ) (s : ScriptValue) (items : List TraceItem) : Status → Type 0 where
   IsDone : AllAnswered items s → RunEnds disk faults faults_now s items status.Done
-  DiskFailed : (node block x y : ℕ) → node ≤ 1 → WentUp (faults node) (faults_now node) x y
-      → RunEnds disk faults faults_now s items (status.DeviceFault node (Some block) x y)
-  NotFlat : (block : ℕ) → ((tree : Tree) → IsFlat disk tree → ⊥) → RunEnds disk faults faults_now s items (status.NotBuilt (part.Block block))
+  MountFailed : (block x y : ℕ) → WentUp (faults 0) (faults_now 0) x y → (IsTrue disk.tells → MountReads disk block)
+      → RunEnds disk faults faults_now s items (status.DeviceFault 0 (Some block) x y)
+  CallFailed : (root : List ℕ) (block x y : ℕ) → WentUp (faults 1) (faults_now 1) x y → (IsTrue disk.tells → HasFlatRoot disk root)
+      → AtCall disk root s items (λ call. CallReads root call block) → RunEnds disk faults faults_now s items (status.DeviceFault 1 (Some block) x y)
+  MountRefused : (block : ℕ) → ((tree : Tree) → IsFlat disk tree → ⊥) → (IsTrue disk.tells → MountRefuses disk block)
+      → RunEnds disk faults faults_now s items (status.NotBuilt (part.Block block))
+  CallRefused : (root : List ℕ) (block : ℕ) → ((tree : Tree) → IsFlat disk tree → ⊥) → (IsTrue disk.tells → HasFlatRoot disk root)
+      → (IsTrue disk.tells → AtCall disk root s items (λ call. CallRefuses disk root call block))
+      → RunEnds disk faults faults_now s items (status.NotBuilt (part.Block block))
   NoRoom : RunEnds disk faults faults_now s items status.NoMemory
 
 pub record Runs (disk disk_now : DiskState) (faults faults_now : ℕ → ℕ) (s : ScriptValue) (items : List TraceItem) (own : Status) : Type 0 where
@@ -55,9 +92,9 @@ pub record Runs (disk disk_now : DiskState) (faults faults_now : ℕ → ℕ) (s
 -- ---- the command: refusals come in this order, each before anything that follows it is touched
 
 pub data Course (words : List (List ℕ)) (before now : Inputs) : ScriptValue → List TraceItem → Status → Type 0 where
-  OtherWords : (IsRun words → ⊥) → now.left ≡ before.left → Course words before now nothing [] (status.NotBuilt part.Words)
-  NoScript : (own : Status) → IsRun words → LacksScript before.left now.left before.script_faults now.script_faults own
+  RefusesWords : (own : Status) → words_refusal before.disk.size words ≡ Some own → now.left ≡ before.left → Course words before now nothing [] own
+  NoScript : (own : Status) → words_refusal before.disk.size words ≡ None → LacksScript before.left now.left before.script_faults now.script_faults own
       → Course words before now nothing [] own
-  RunsScript : (text : List ℕ) (s : ScriptValue) (items : List TraceItem) (own : Status) → IsRun words
-      → HasRead before.left now.left text → script_read text ≡ Script s
+  RunsScript : (text : List ℕ) (s : ScriptValue) (items : List TraceItem) (own : Status) → words_refusal before.disk.size words ≡ None
+      → HasRead before.left now.left text → script_read text ≡ Script s → first_foreign s ≡ None
       → Runs before.disk now.disk before.disk_faults now.disk_faults s items own → Course words before now s items own

@@ -1,19 +1,19 @@
-ghost use Rattle.std.specs.Prelude.{◌≡◌, ◌≤◌, length, IfOk, IfErr};
+ghost use Rattle.std.specs.Prelude.{◌≡◌, ◌≤◌, ◌<◌, ◌⊎◌, length, IfOk, IfErr};
 ghost use Rattle.std.specs.Io.KnownBytes.{Consumes, IsAtEnd};
+ghost use Rattle.script_lang.specs.Grammar.{script_limit};
 ghost use Rattle.cluster_program.specs.Input.{InputHasCause};
 
 use fault_counts::Rise;
 use std::alloc::{AllocError, Global};
 use stream_io::Source;
 
-/// How many bytes a script has at most.
-pub const SCRIPT_LIMIT: usize = 1_048_576;
+// How many bytes a script has at most. Once one more was read, what follows decides nothing.
+const SCRIPT_LIMIT: usize = 1_048_576;
 
-/// Why the script was not read to its end.
+/// Why the text of a script was not read.
 #[derive(Clone, Copy, Debug, PartialEq, Eq)]
 pub(crate) enum InputFault {
     Fault(Rise),
-    TooLong,
     NoMemory,
 }
 
@@ -28,12 +28,11 @@ impl From<AllocError> for InputFault {
     }
 }
 
-/// Reads to the end of a source of at most `SCRIPT_LIMIT` bytes.
-pub(crate) fn read_all<S: Source>(alloc: Global, source: &mut S) -> Result<Vec<u8>, InputFault>
+/// Reads a source to its end, or until it gave more than a script may have.
+pub(crate) fn read_text<S: Source>(alloc: Global, source: &mut S) -> Result<Vec<u8>, InputFault>
     ensures bytes { IfOk result (λ v. Consumes (S.left source.old) (S.left source.new) v.items) }
-    ensures end { IfOk result (λ _. IsAtEnd (S.left source.new)) }
-    ensures short { IfOk result (λ v. length v.items ≤ 1048576) }
-    ensures cause { IfErr result (InputHasCause (S.faults source.old) (S.faults source.new) (S.left source.old)) }
+    ensures end { IfOk result (λ v. IsAtEnd (S.left source.new) ⊎ (script_limit < length v.items)) }
+    ensures cause { IfErr result (InputHasCause (S.faults source.old) (S.faults source.new)) }
     ensures later { S.faults source.old ≤ S.faults source.new }
 {
     let mut bytes = Vec::new(alloc);
@@ -51,8 +50,8 @@ pub(crate) fn read_all<S: Source>(alloc: Global, source: &mut S) -> Result<Vec<u
         }
         bytes.extend_from_slice(&chunk[..count])?;
         if bytes.len() > SCRIPT_LIMIT {
-            return Err(InputFault::TooLong);
+            return Ok(bytes);
         }
     }
-    Err(InputFault::TooLong)
+    Ok(bytes)
 }

@@ -13,6 +13,7 @@ mod streams;
 #[cfg(test)]
 mod tests;
 mod top;
+mod words;
 
 pub use status::{Field, Part, Status, Waits, Which};
 pub use top::{Ended, gfs2run, gfs2run_alone};

@@ -1,7 +1,7 @@
 ghost use Rattle.std.specs.Prelude.{◌≡◌, ◌≤◌, ℕ, []};
 ghost use Rattle.shared_disk.specs.Disk.{IsIdle};
 ghost use Rattle.single_node.specs.Flat.{IsBlockSize};
-ghost use Rattle.script_lang.specs.Plain.{IsPlain};
+ghost use Rattle.script_lang.specs.OneNode.{IsOneNode};
 ghost use Rattle.cluster_program.specs.Course.{Runs};
 ghost use Rattle.cluster_program.specs.Quiet.{IsQuiet};
 ghost use Rattle.cluster_program.specs.Early.{status_of_end};
@@ -9,7 +9,7 @@ ghost use Rattle.cluster_program.specs.Early.{status_of_end};
 use crate::status::{Part, Status};
 use script_lang::Script;
 use shared_disk::SharedDisk;
-use single_node::{RunEnd, read_root, run_plain};
+use single_node::{RunEnd, read_root, run_script};
 use std::alloc::Global;
 use trace_text::TraceItem;
 
@@ -32,7 +32,7 @@ fn early(end: RunEnd) -> Status
 }
 
 /// Mounts the image and runs a script on it. The items go behind `items`, which is empty.
-pub(crate) fn run_script<D: SharedDisk>(
+pub(crate) fn mount_and_run<D: SharedDisk>(
     alloc: Global,
     disk: &mut D,
     script: &Script,
@@ -40,7 +40,7 @@ pub(crate) fn run_script<D: SharedDisk>(
 ) -> Status
     requires idle { IsIdle (D.state disk.old) }
     requires size { IsBlockSize (D.state disk.old).size }
-    requires plain { IsPlain script.now }
+    requires form { IsOneNode script.now }
     requires none { items.old.items ≡ [] }
     ensures runs { Runs (D.state disk.old) (D.state disk.new) (D.faults disk.old) (D.faults disk.new) script.now items.new.items result }
     ensures quiet { (told : Status) → (told ≡ Status.Done → result ≡ Status.Done) → IsQuiet script.now items.new.items told }
@@ -51,7 +51,7 @@ pub(crate) fn run_script<D: SharedDisk>(
         Ok(root) => root,
         Err(end) => return early(end),
     };
-    match run_plain(alloc, disk, &root, script, items) {
+    match run_script(alloc, disk, &root, script, items) {
         Ok(()) => Status::Done,
         Err(end) => early(end),
     }

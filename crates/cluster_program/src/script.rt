@@ -1,12 +1,13 @@
-ghost use Rattle.std.specs.Prelude.{◌≡◌, ◌≤◌, ℕ, List, IfOk, IfErr};
+ghost use Rattle.std.specs.Prelude.{◌≡◌, ◌≤◌, ℕ, List, IfOk, IfErr, None};
 ghost use Rattle.script_lang.specs.Grammar.{script_read, Script as TheScript};
-ghost use Rattle.script_lang.specs.Plain.{IsPlain};
+ghost use Rattle.script_lang.specs.OneNode.{IsOneNode};
+ghost use Rattle.script_lang.specs.Foreign.{first_foreign};
 ghost use Rattle.cluster_program.specs.Course.{HasRead, LacksScript};
-ghost use Rattle.cluster_program.specs.Early.{status_of_input};
+ghost use Rattle.cluster_program.specs.Early.{status_of_input, status_of_refusal};
 
-use crate::input::{InputFault, read_all};
+use crate::input::{InputFault, read_text};
 use crate::status::{Part, Status};
-use script_lang::{PlainScript, Script, parse_plain};
+use script_lang::{Script, ScriptRefusal, first_foreign_line, limit_decides, parse};
 use std::alloc::Global;
 use stream_io::Source;
 
@@ -27,25 +28,39 @@ fn unread(fault: InputFault) -> Status
             before: rise.before,
             after: rise.after,
         },
-        InputFault::TooLong => not_built(1),
         InputFault::NoMemory => Status::NoMemory,
+    }
+}
+
+// How a command ends whose script is none.
+fn refused(refusal: ScriptRefusal) -> Status
+    ensures { result ≡ status_of_refusal refusal }
+{
+    match refusal {
+        ScriptRefusal::Bad { line, column } => Status::BadScript { line, column },
+        ScriptRefusal::NoMemory => Status::NoMemory,
     }
 }
 
 /// Reads a script to its end, or says how the command ends without one.
 pub(crate) fn read_script<S: Source>(alloc: Global, source: &mut S) -> Result<Script, Status>
     ensures script { IfOk result (λ s. (text : List ℕ) × HasRead (S.left source.old) (S.left source.new) text
-        × (script_read text ≡ TheScript s) × IsPlain s) }
+        × (script_read text ≡ TheScript s)) }
+    ensures built { IfOk result (λ s. (first_foreign s ≡ None) × IsOneNode s) }
     ensures none { IfErr result (LacksScript (S.left source.old) (S.left source.new) (S.faults source.old) (S.faults source.new)) }
     ensures later { S.faults source.old ≤ S.faults source.new }
 {
-    let text = match read_all(alloc, source) {
+    limit_decides();
+    let text = match read_text(alloc, source) {
         Ok(text) => text,
         Err(fault) => return Err(unread(fault)),
     };
-    match parse_plain(alloc, &text) {
-        Ok(PlainScript::Script(script)) => Ok(script),
-        Ok(PlainScript::Other { line }) => Err(not_built(line)),
-        Err(_) => Err(Status::NoMemory),
+    let script = match parse(alloc, &text) {
+        Ok(script) => script,
+        Err(refusal) => return Err(refused(refusal)),
+    };
+    match first_foreign_line(&script) {
+        None => Ok(script),
+        Some(line) => Err(not_built(line)),
     }
 }

@@ -1,17 +1,18 @@
-ghost use Rattle.std.specs.Prelude.{◌≡◌, ◌≤◌, ◌↔◌, ℕ, [], IsTrue, map, string_bytes};
+ghost use Rattle.std.specs.Prelude.{◌≡◌, ◌≤◌, ℕ, [], map, string_bytes};
 ghost use Rattle.shared_disk.specs.Disk.{IsIdle};
 ghost use Rattle.script_lang.specs.Grammar.{nothing};
 ghost use Rattle.single_node.specs.Flat.{IsBlockSize};
 ghost use Rattle.cluster_program.specs.World.{inputs, outputs};
-ghost use Rattle.cluster_program.specs.Course.{IsRun, Course};
+ghost use Rattle.cluster_program.specs.Course.{Course};
 ghost use Rattle.cluster_program.specs.Report.{IsSinkFault};
-ghost use Rattle.cluster_program.specs.Command.{Ends, FaultHasCause};
+ghost use Rattle.cluster_program.specs.Command.{Ends, FaultHasCause, IsComplete};
 ghost use Rattle.cluster_program.specs.Quiet.{IsQuiet};
 
 use crate::report::report;
-use crate::run::run_script;
+use crate::run::mount_and_run;
 use crate::script::read_script;
-use crate::status::{Part, Status};
+use crate::status::Status;
+use crate::words::check_words;
 use script_lang::Script;
 use shared_disk::SharedDisk;
 use std::alloc::Global;
@@ -25,13 +26,6 @@ use trace_text::TraceItem;
 pub struct Ended<D> {
     pub status: Status,
     pub disk: D,
-}
-
-// Whether the words are the one word `run`.
-fn is_run(words: &[String]) -> bool
-    ensures { IsTrue result ↔ IsRun (map string_bytes words.now) }
-{
-    words.len() == 1 && words[0].as_str() == "run"
 }
 
 // A command that was carried out: the script that it ran, without anything in it where it ran none, and its end.
@@ -75,20 +69,20 @@ fn carry_out<D: SharedDisk, S: Source>(
     ensures same { D.state disk.new ≡ D.state disk.old }
     ensures later { ((j : ℕ) → D.faults disk.old j ≤ D.faults disk.new j) × (S.faults source.old ≤ S.faults source.new) }
 {
-    if !is_run(words) {
-        return without_script(alloc, Status::NotBuilt { part: Part::Words });
+    match check_words(words, disk.block_size()) {
+        Ok(()) => {}
+        Err(own) => return without_script(alloc, own),
     }
     let script = match read_script(alloc, source) {
         Ok(script) => script,
         Err(own) => return without_script(alloc, own),
     };
-    let own = run_script(alloc, disk, &script, items);
+    let own = mount_and_run(alloc, disk, &script, items);
     Carried { script, own }
 }
 
-/// Carries out the command that these words are, on this disk, and writes its trace and its output. Today it is the
-/// one word `run`: it reads a script from `script`, runs it on the image, and tells each client's replies. It waits
-/// for nobody. It costs memory for the script and the items, a read of a block for each line that reads a file, and
+/// Carries out the command that these words are, on this disk, and writes its trace and its output. Today `run` is
+/// built: it reads a script from `script`, runs it on the image, and tells each client's replies. It waits for nobody. It costs memory for the script and the items, a read of a block for each line that reads a file, and
 /// a pass over the items for each client.
 pub fn gfs2run_alone<D: SharedDisk, S: Source, O: Sink, T: Sink>(
     alloc: Global,
@@ -107,6 +101,12 @@ pub fn gfs2run_alone<D: SharedDisk, S: Source, O: Sink, T: Sink>(
         (outputs (T.contents trace.new) (T.faults trace.new) (O.contents out.new) (O.faults out.new))
         result.status }
     ensures fault { FaultHasCause
+        (inputs (D.state disk) (D.faults disk) (S.left script.old) (S.faults script.old))
+        (inputs (D.state result.disk) (D.faults result.disk) (S.left script.new) (S.faults script.new))
+        (outputs (T.contents trace.old) (T.faults trace.old) (O.contents out.old) (O.faults out.old))
+        (outputs (T.contents trace.new) (T.faults trace.new) (O.contents out.new) (O.faults out.new))
+        result.status }
+    ensures complete { IsComplete (map string_bytes words.now)
         (inputs (D.state disk) (D.faults disk) (S.left script.old) (S.faults script.old))
         (inputs (D.state result.disk) (D.faults result.disk) (S.left script.new) (S.faults script.new))
         (outputs (T.contents trace.old) (T.faults trace.old) (O.contents out.old) (O.faults out.old))
@@ -149,6 +149,12 @@ pub fn gfs2run<
         (outputs (T.contents trace.new) (T.faults trace.new) (O.contents out.new) (O.faults out.new))
         result.status }
     ensures fault { FaultHasCause
+        (inputs (D.state disk) (D.faults disk) (S.left script.old) (S.faults script.old))
+        (inputs (D.state result.disk) (D.faults result.disk) (S.left script.new) (S.faults script.new))
+        (outputs (T.contents trace.old) (T.faults trace.old) (O.contents out.old) (O.faults out.old))
+        (outputs (T.contents trace.new) (T.faults trace.new) (O.contents out.new) (O.faults out.new))
+        result.status }
+    ensures complete { IsComplete (map string_bytes words.now)
         (inputs (D.state disk) (D.faults disk) (S.left script.old) (S.faults script.old))
         (inputs (D.state result.disk) (D.faults result.disk) (S.left script.new) (S.faults script.new))
         (outputs (T.contents trace.old) (T.faults trace.old) (O.contents out.old) (O.faults out.old))

@@ -4,7 +4,7 @@ use Rattle.std.specs.Prelude.{is_some, unwrap_or, replicate, codes}
 use Rattle.std.specs.Str.{bytes_eq}
 use Rattle.std.proofs.lemmas.Bool.{false≢true}
 use Rattle.std.proofs.lemmas.Slice.Eq.{bytes_eq-Decides}
-use Rattle.text_words.specs.Numbers.{number_in}
+use Rattle.number_words.specs.Numbers.{number_in}
 use Rattle.command_words.specs.declared.command.Usage.{Usage}
 use Rattle.command_words.specs.declared.command.Command.{Command}
 use Rattle.command_words.specs.declared.command.Command.TheVariants.{Make, Run, Replay, Show, Load}

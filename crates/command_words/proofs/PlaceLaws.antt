@@ -6,7 +6,7 @@ use Rattle.std.specs.Str.{bytes_eq}
 use Rattle.std.specs.List.{AllByRecursion}
 use Rattle.std.proofs.lemmas.Bool.{false≢true}
 use Rattle.std.proofs.lemmas.Bool.Decides.{Decides-eqb}
-use Rattle.text_words.specs.Numbers.{number_in}
+use Rattle.number_words.specs.Numbers.{number_in}
 use Rattle.uuid.specs.Text.{by_index}
 use Rattle.command_words.specs.declared.command.Usage.{Usage}
 use Rattle.command_words.specs.declared.command.Command.{Command}

@@ -1,6 +1,6 @@
 -- How the reader keeps the options that were given.
 use Rattle.std.specs.Prelude.{ℕ, ◌≡◌, ◌+◌, List, [], codes, Option, Some, None, option_map}
-use Rattle.text_words.specs.Numbers.{number_in}
+use Rattle.number_words.specs.Numbers.{number_in}
 use Rattle.uuid.specs.Text.{parsed}
 use Rattle.command_words.specs.declared.options.Opt.{Opt}
 use Rattle.command_words.specs.declared.options.Opt.TheVariants.{Bsize, Journals, JournalBlocks, Groups, Uuid, Time, Schedule, Steps, Frames}

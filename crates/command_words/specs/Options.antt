@@ -1,7 +1,7 @@
 -- Options: a name and a value, each a word of its own.
 use Rattle.std.specs.Prelude.{ℕ, ◌+◌, ◌==◌, ◌||◌, Bool, if◌then◌else◌, List, [], ◌∷◌, Option, Some, None, is_some, option_map, Result, Ok, Err}
 use Rattle.std.specs.Str.{bytes_eq}
-use Rattle.text_words.specs.Numbers.{number_in}
+use Rattle.number_words.specs.Numbers.{number_in}
 use Rattle.uuid.specs.Text.{parsed}
 use Rattle.command_words.specs.declared.command.Usage.{Usage}
 

@@ -6,7 +6,7 @@ ghost use Rattle.command_words.specs.Kept.{row_of, options_of, kept, kept_put, K
 
 use crate::command::{LoadWords, MakeWords, RunWords, Usage};
 use crate::words::{first_word, identifier, size_number, small_number};
-use text_words::number_word;
+use number_words::number_word;
 
 pub(crate) const LARGEST: u64 = 9_223_372_036_854_775_807;
 

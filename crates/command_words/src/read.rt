@@ -8,7 +8,7 @@ ghost use Rattle.command_words.specs.Commands.{make_options, run_options, make_o
 use crate::command::{Command, Usage};
 use crate::options::{Kind, LARGEST, load_words, make_words, read_options, run_words};
 use crate::words::first_word;
-use text_words::number_word;
+use number_words::number_word;
 
 fn read_make(words: &[String], block_size: u32) -> Result<Command, Usage>
     ensures { result ≡ command_of (λ given. command.Make (make_of given)) (options_read block_size make_options [] 2 (map string_bytes words.now)) }

@@ -1,10 +1,10 @@
 ghost use Rattle.std.specs.Prelude.{◌≡◌, ◌∷◌, ◌<◌, ◌↔◌, [], map, length, MatchOption, IsTrue};
 ghost use Rattle.std.specs.String.{string_bytes};
-ghost use Rattle.text_words.specs.Numbers.{number_in};
+ghost use Rattle.number_words.specs.Numbers.{number_in};
 ghost use Rattle.uuid.specs.Text.{parsed};
 ghost use Rattle.command_words.specs.Options.{size_in};
 
-use text_words::number_word;
+use number_words::number_word;
 use uuid::Uuid;
 
 /// The bytes of the first word, and the words behind it.

@@ -40,12 +40,7 @@ fn cannot_open(rt: &impl Print, name: &str) -> io::Result<ExitCode> {
 }
 
 // Carries out a command on these files.
-fn carry_out<R>(
-    rt: &R,
-    image: &str,
-    trace: &str,
-    command: &[String],
-) -> io::Result<ExitCode>
+fn carry_out<R>(rt: &R, image: &str, trace: &str, command: &[String]) -> io::Result<ExitCode>
 where
     R: Threads + Wait + Sync + AllocGlobal + Files<File = fs::File> + Input + Print,
 {

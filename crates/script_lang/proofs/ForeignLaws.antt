@@ -12,7 +12,7 @@ use Rattle.script_lang.specs.declared.script.Armed.{Armed}
 use Rattle.script_lang.specs.declared.script.Line.{Line}
 use Rattle.script_lang.specs.declared.script.Line.TheVariants as line
 use Rattle.script_lang.specs.Script.{ScriptValue}
-use Rattle.script_lang.specs.Plain.{IsPlainCall}
+use Rattle.script_lang.specs.OneNode.{IsRootCall}
 use Rattle.script_lang.specs.OneNode.{IsOneNode, IsOneNodeLine}
 use Rattle.script_lang.specs.WellFormed.{IsClient, IsLine, IsWellFormed}
 use Rattle.script_lang.specs.Foreign.{is_own_call, is_own_line, own_lines, first_not, first_foreign}
@@ -42,21 +42,21 @@ first_not-none {A} f n (x ∷ xs) rest is = by_test (first_not-none f (n + 1) xs
 
 -- ---- one line
 
-pub plain_call : (call : Call) → is_own_call call ≡ true → IsPlainCall call
-plain_call (calls.Read path at count) is = grind (arith, nat_tests)
-plain_call (calls.List path) is = grind (arith, nat_tests)
-plain_call (calls.Create path) is = cc
-plain_call (calls.Mkdir path) is = cc
-plain_call (calls.Unlink path) is = cc
-plain_call (calls.Rmdir path) is = cc
-plain_call (calls.Dread path at count) is = cc
-plain_call (calls.Write path at content) is = cc
-plain_call (calls.Truncate path size) is = cc
-plain_call (calls.Stat path) is = cc
-plain_call (calls.Rename from to) is = cc
-plain_call calls.Sync is = cc
+pub root_call : (call : Call) → is_own_call call ≡ true → IsRootCall call
+root_call (calls.Read path at count) is = grind (arith, nat_tests)
+root_call (calls.List path) is = grind (arith, nat_tests)
+root_call (calls.Create path) is = cc
+root_call (calls.Mkdir path) is = cc
+root_call (calls.Unlink path) is = cc
+root_call (calls.Rmdir path) is = cc
+root_call (calls.Dread path at count) is = cc
+root_call (calls.Write path at content) is = cc
+root_call (calls.Truncate path size) is = cc
+root_call (calls.Stat path) is = cc
+root_call (calls.Rename from to) is = cc
+root_call calls.Sync is = cc
 
-own_call : (call : Call) → IsPlainCall call → is_own_call call ≡ true
+own_call : (call : Call) → IsRootCall call → is_own_call call ≡ true
 own_call (calls.Read path at count) is = grind (arith, nat_tests)
 own_call (calls.List path) is = grind (arith, nat_tests)
 own_call (calls.Create path) is = absurd is
@@ -71,7 +71,7 @@ own_call (calls.Rename from to) is = absurd is
 own_call calls.Sync is = absurd is
 
 one_node_line : (s : ScriptValue) (l : Line) → IsLine s l → is_own_line l ≡ true → IsOneNodeLine s l
-one_node_line s (line.Call client call) is own = (is.0, plain_call call own)
+one_node_line s (line.Call client call) is own = (is.0, root_call call own)
 one_node_line s line.Wait is own = tt
 one_node_line s (line.Crash nodes) is own = cc
 one_node_line s (line.Join node) is own = cc

@@ -10,7 +10,8 @@ use Rattle.std.proofs.lemmas.Bool.Decides.{nat_tests}
 use Rattle.std.proofs.lemmas.List.{length-replicate}
 use Rattle.file_tree.specs.declared.call.Call.{Call}
 use Rattle.file_tree.specs.declared.call.Call.TheVariants as calls
-use Rattle.script_lang.specs.Words.{LineRead, Got, Wrong, later, ends, if_word, a_word, number_in, path_in, content_in, hex_in, filled, within_transfer, content_from, transfer_limit}
+use Rattle.number_words.specs.Numbers.{number_in}
+use Rattle.script_lang.specs.Words.{LineRead, Got, Wrong, later, ends, if_word, a_word, path_in, content_in, hex_in, filled, within_transfer, content_from, transfer_limit}
 use Rattle.script_lang.specs.Grammar.{offset_limit, count_limit, on_path, on_range, on_content, on_size, on_paths, call_after, call_read}
 use Rattle.script_lang.specs.WellFormed.{IsAllowedCall}
 

@@ -2,10 +2,9 @@ pub mod Columns
 pub mod ForeignLaws
 pub mod GotLaws
 pub mod HexWords
+pub mod LimitLaws
 pub mod LineLaws
 pub mod Names
-pub mod Numbers
-pub mod PlainLaws
 pub mod Rows
 pub mod ScriptLaws
 pub mod TextParts

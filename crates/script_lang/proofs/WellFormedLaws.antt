@@ -16,7 +16,8 @@ use Rattle.script_lang.specs.declared.script.Fate.TheVariants.{Old, New, Torn}
 use Rattle.script_lang.specs.declared.script.Line.{Line}
 use Rattle.script_lang.specs.declared.script.Line.TheVariants as line
 use Rattle.script_lang.specs.Script.{ScriptValue}
-use Rattle.script_lang.specs.Words.{LineRead, Got, Wrong, later, ends, a_word, the_word, number_in, client_in, is_client_name}
+use Rattle.number_words.specs.Numbers.{number_in}
+use Rattle.script_lang.specs.Words.{LineRead, Got, Wrong, later, ends, a_word, the_word, client_in, is_client_name}
 use Rattle.script_lang.specs.Grammar.{client_limit, nothing, has_client, new_client, client_before_colon, with_line, with_armed, nodes_line, client_line, fate_read, is_armed, may_arm, armed_line, after_node, crash_line, called, call_line, call_read, may_have_client, later_line, line_read}
 use Rattle.script_lang.specs.OneNode.{HaveOwnClientNames}
 use Rattle.script_lang.specs.WellFormed.{IsNode, IsAllowedCall, IsClient, IsFate, IsArmed, IsLine, HaveOwnNodes}

@@ -11,7 +11,8 @@ use Rattle.script_lang.specs.declared.script.Fate.TheVariants.{Old, New, Torn}
 use Rattle.script_lang.specs.declared.script.Line.{Line}
 use Rattle.script_lang.specs.declared.script.Line.TheVariants as line
 use Rattle.script_lang.specs.Script.{ScriptValue}
-use Rattle.script_lang.specs.Words.{lines_in, words_in, column_of, number_in, path_in, content_in, client_in, LineRead, Got, Wrong, later, ends, a_word, the_word}
+use Rattle.number_words.specs.Numbers.{number_in}
+use Rattle.script_lang.specs.Words.{lines_in, words_in, column_of, path_in, content_in, client_in, LineRead, Got, Wrong, later, ends, a_word, the_word}
 
 -- ---- limits
 

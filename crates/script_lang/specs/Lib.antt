@@ -2,7 +2,7 @@ pub mod Script
 pub mod Words
 pub mod Grammar
 pub mod Reading
-pub mod Plain
 pub mod OneNode
 pub mod WellFormed
+pub mod Laws
 pub mod Foreign

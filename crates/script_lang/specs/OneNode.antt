@@ -1,15 +1,22 @@
 -- Scripts that one node can run: clients of node 1, which read and list at the root, and wait.
-use Rattle.std.specs.Prelude.{◌≡◌, ◌≢◌, ◌<◌, List, [], ◌∷◌, length, ⊤}
+use Rattle.std.specs.Prelude.{◌≡◌, ◌≢◌, ◌<◌, ◌≤◌, List, [], ◌∷◌, length, ⊤}
 use Rattle.std.specs.List.{AllByRecursion}
 use Rattle.script_lang.specs.declared.script.Client.{Client}
 use Rattle.script_lang.specs.declared.script.Line.{Line}
 use Rattle.script_lang.specs.declared.script.Line.TheVariants as line
 use Rattle.script_lang.specs.Script.{ScriptValue}
-use Rattle.script_lang.specs.Plain.{IsPlainCall}
+use Rattle.file_tree.specs.declared.call.Call.{Call}
+use Rattle.file_tree.specs.declared.call.Call.TheVariants as calls
+
+-- a read or a list of the root or of a name in it
+abbrev pub IsRootCall : Call → Type 0
+IsRootCall (calls.Read path at count) = length path ≤ 1
+IsRootCall (calls.List path) = length path ≤ 1
+IsRootCall _ = ⊥
 
 -- a call of one of the clients, which reads or lists at the root, or a wait
 abbrev pub IsOneNodeLine : ScriptValue → Line → Type 0
-IsOneNodeLine s (line.Call client call) = (client < length s.clients) × IsPlainCall call
+IsOneNodeLine s (line.Call client call) = (client < length s.clients) × IsRootCall call
 IsOneNodeLine s line.Wait = ⊤
 IsOneNodeLine s _ = ⊥
 

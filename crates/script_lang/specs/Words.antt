@@ -4,6 +4,7 @@ use Rattle.std.specs.List.{slice_split, onto_first, list_all}
 use Rattle.std.specs.Str.{bytes_eq}
 use Rattle.std.specs.Str.Parse.{digits_value}
 use Rattle.std.specs.Fmt.{decimal}
+use Rattle.number_words.specs.Numbers.{number_in}
 use Rattle.hex.specs.Hex.{decode_of, encode_lower}
 use Rattle.file_tree.specs.PathText.{PathRead, Reads, Faulty, path_read}
 
@@ -21,16 +22,6 @@ abbrev pub column_of : ℕ → List (List ℕ) → ℕ
 column_of k [] = 0
 column_of zero (w ∷ ws) = 1
 column_of (suc k) (w ∷ ws) = length w + 1 + column_of k ws
-
--- the number that a word writes in decimal, without a leading zero, if it is at least the one and at most the other
-abbrev pub number_in : ℕ → ℕ → List ℕ → Option ℕ
-number_in low high w =
-    let n = digits_value 10 w in
-    if bytes_eq w (decimal n) && nat_le low n && nat_le n high then Some n else None
-
--- a word writes a number below 2 ^ 64 in decimal, or none
-abbrev pub IsNumber : List ℕ → Option ℕ → Type 0
-IsNumber w r = MatchOption r ((n : ℕ) → n < 2 ^ 64 → w ≢ decimal n) (λ n. w ≡ decimal n)
 
 -- the path that a word spells
 abbrev pub path_of : PathRead → Option (List (List ℕ))

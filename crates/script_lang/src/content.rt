@@ -1,12 +1,14 @@
 ghost use Rattle.std.specs.Prelude.{◌≡◌, ◌==◌, ◌∷◌, [], ℕ, List, IfOk, MatchResult, MatchOption, Option, Some, None, option_map};
 ghost use Rattle.std.specs.List.{slice_split, list_all};
-ghost use Rattle.script_lang.specs.Words.{words_behind, first_as, content_in, content_from, within_transfer, hex_in, filled, number_in, transfer_limit, is_lower_digit};
+ghost use Rattle.number_words.specs.Numbers.{number_in};
+ghost use Rattle.script_lang.specs.Words.{words_behind, first_as, content_in, content_from, within_transfer, hex_in, filled, transfer_limit, is_lower_digit};
 ghost use Rattle.script_lang.specs.Reading.{IsWrongAt};
 
 use crate::line_words::{LineFault, first_part, part_behind, word_behind};
-use crate::words::{is_word, number_word};
+use crate::words::is_word;
 use file_tree::{Content, NoMemory};
 use hex::FromHexError;
+use number_words::number_word;
 use std::alloc::Global;
 
 /// How many bytes one call writes at most.

@@ -3,17 +3,17 @@
 
 mod calls;
 mod content;
+mod laws;
 mod line_words;
 mod lines;
 mod one_node;
 mod parser;
-mod plain;
 mod script;
 #[cfg(test)]
 mod tests;
 mod words;
 
+pub use laws::limit_decides;
 pub use one_node::first_foreign_line;
 pub use parser::{ScriptRefusal, parse};
-pub use plain::{PlainScript, parse_plain};
 pub use script::{Armed, Client, Fate, Line, Script};

@@ -1,10 +1,12 @@
 ghost use Rattle.std.specs.Prelude.{◌≡◌, ◌==◌, ◌∷◌, [], IfOk, MatchResult, MatchOption, Some, None, List, ℕ};
 ghost use Rattle.std.specs.List.{slice_split};
-ghost use Rattle.script_lang.specs.Words.{words_in, words_behind, parts_behind, first_as, number_in, path_in, client_in, the_word};
+ghost use Rattle.number_words.specs.Numbers.{number_in};
+ghost use Rattle.script_lang.specs.Words.{words_in, words_behind, parts_behind, first_as, path_in, client_in, the_word};
 ghost use Rattle.script_lang.specs.Reading.{IsWrongAt};
 
-use crate::words::{is_word, length_before, number_word, path_word};
+use crate::words::{is_word, length_before, path_word};
 use file_tree::{NoMemory, Path};
+use number_words::number_word;
 use std::alloc::Global;
 
 /// Why a line is refused. Words are numbered from 0; the one after the last is wrong where a word is missing.

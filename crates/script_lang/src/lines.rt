@@ -4,7 +4,8 @@ ghost use Rattle.std.specs.Str.{bytes_eq};
 ghost use Rattle.script_lang.specs.declared.script.Fate.{Fate as TheFate};
 ghost use Rattle.script_lang.specs.declared.script.Line.TheVariants as line;
 ghost use Rattle.script_lang.specs.Script.{ScriptValue};
-ghost use Rattle.script_lang.specs.Words.{words_in, words_behind, first_as, later, ends, Got, number_in, a_word};
+ghost use Rattle.number_words.specs.Numbers.{number_in};
+ghost use Rattle.script_lang.specs.Words.{words_in, words_behind, first_as, later, ends, Got, a_word};
 ghost use Rattle.script_lang.specs.Grammar as grammar;
 ghost use Rattle.script_lang.specs.Reading.{IsWrongAt, IsFault, ReadsInto, IsWithinLimits};
 

@@ -1,5 +1,4 @@
 pub mod Blocks
 pub mod Ends
 pub mod Flat
-pub mod Laws
 pub mod Run

@@ -5,7 +5,7 @@ use Rattle.file_tree.specs.Tree.{Tree}
 use Rattle.file_tree.specs.Apply.{apply}
 use Rattle.file_tree.specs.declared.call.Call.{Call}
 use Rattle.file_tree.specs.declared.reply.Reply.{Reply}
-use Rattle.script_lang.specs.Plain.{IsPlainCall}
+use Rattle.script_lang.specs.OneNode.{IsRootCall}
 use Rattle.script_lang.specs.declared.script.Client.{Client}
 use Rattle.script_lang.specs.declared.script.Line.{Line}
 use Rattle.script_lang.specs.declared.script.Line.TheVariants as line
@@ -14,7 +14,7 @@ use Rattle.trace_text.specs.declared.item.TraceItem.TheVariants as trace
 
 -- a line that one node can take, where there are so many clients
 abbrev pub IsLineOf : ℕ → Line → Type 0
-IsLineOf clients (line.Call client call) = (client < clients) × IsPlainCall call
+IsLineOf clients (line.Call client call) = (client < clients) × IsRootCall call
 IsLineOf clients line.Wait = ⊤
 IsLineOf clients _ = ⊥
 

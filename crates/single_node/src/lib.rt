@@ -11,7 +11,7 @@ mod run;
 
 pub use end::RunEnd;
 pub use mount::{Root, read_root};
-pub use run::{plain_is_one_node, run_script};
+pub use run::run_script;
 
 #[cfg(test)]
 mod tests;

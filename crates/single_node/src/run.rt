@@ -6,13 +6,12 @@ ghost use Rattle.run_rules.specs.Follows.{history_of};
 ghost use Rattle.file_tree.specs.Apply.{apply};
 ghost use Rattle.gfs2_layout.specs.Area.{IsArea};
 ghost use Rattle.shared_disk.specs.Disk.{IsIdle};
-ghost use Rattle.script_lang.specs.Plain.{IsPlainCall};
+ghost use Rattle.script_lang.specs.OneNode.{IsRootCall};
 ghost use Rattle.script_lang.specs.OneNode.{IsOneNode};
 ghost use Rattle.run_rules.specs.History.{HoldsHistory, NoneStopped, AllAnswered};
 ghost use Rattle.single_node.specs.Blocks.{CallReads, CallRefuses, IsCallThat, EndsAtCall};
 ghost use Rattle.single_node.specs.Ends.{EndHasCause, IfNotRead, IfDiskFailed};
 ghost use Rattle.single_node.specs.Flat.{IsFlat, HasFlatRoot, IsStart, IsBlockSize, stuffed_part};
-ghost use Rattle.single_node.specs.Laws.{PlainIsOneNode};
 ghost use Rattle.single_node.specs.Run.{IsLineOf, IsTaken, IsRunUpTo, IsRunOf, IsWholeRun};
 
 use crate::RunEnd;
@@ -39,7 +38,7 @@ fn reply_to<D: SharedDisk>(
     requires root_size { length root.now ≡ (D.state disk.old).size }
     requires some { IsBlockSize (D.state disk.old).size }
     requires area { IsArea (stuffed_part root.now) }
-    requires plain { IsPlainCall call.now }
+    requires plain { IsRootCall call.now }
     ensures reply { IfOk result (λ reply. (tree : Tree) → IsStart (D.state disk.old) root.now tree
         → apply call.now tree ≡ record { reply = reply; tree = tree }) }
     ensures block { IfErr result (λ end. IfNotRead end (λ b. IsTrue (D.state disk.old).tells → HasFlatRoot (D.state disk.old) root.now
@@ -252,8 +251,3 @@ pub fn run_script<D: SharedDisk>(
         items,
     )
 }
-
-/// A law: one node can run each plain script.
-pub fn plain_is_one_node()
-    ensures { PlainIsOneNode }
-{}

@@ -7,10 +7,10 @@ ghost use Rattle.shared_disk.specs.Disk.{IsIdle};
 ghost use Rattle.shared_disk.specs.Memory.{memory_state};
 ghost use Rattle.single_node.specs.Run.{IsLineOf};
 
-use crate::{RunEnd, plain_is_one_node, read_root, run_script};
+use crate::{RunEnd, read_root, run_script};
 use fault_counts::Rise;
 use file_tree::{Call, Name, Path, is_name};
-use script_lang::{Client, Line, PlainScript, Script, parse_plain};
+use script_lang::{Client, Line, Script, first_foreign_line, parse};
 use shared_disk::MemDisk;
 use std::alloc::Global;
 use std::process::Abort;
@@ -135,8 +135,8 @@ fn check_run(
     Ok(())
 }
 
-// The same for the text of a plain script.
-fn check_plain(
+// The same for the text of a script.
+fn check_text(
     rt: &(impl Abort + AllocGlobal),
     later: &[Part],
     fails: &[u64],
@@ -144,11 +144,12 @@ fn check_plain(
     want: Option<RunEnd>,
     trace: &[u8],
 ) -> Result<(), Fail> {
-    assert!(rt; script.len() < 1_000);
-    let PlainScript::Script(script) = parse_plain(rt.alloc(), script)? else {
-        return Err(Fail::from("not a plain script"));
+    let Ok(script) = parse(rt.alloc(), script) else {
+        return Err(Fail::from("no script"));
     };
-    plain_is_one_node();
+    if first_foreign_line(&script).is_some() {
+        return Err(Fail::from("one node cannot run it"));
+    }
     check_run(rt, later, fails, &script, want, trace)
 }
 
@@ -182,9 +183,9 @@ unmount 1
 
 #[test]
 fn a_script_is_answered(rt: HostRuntime) -> Result<(), Fail> {
-    check_plain(&rt, &[], &[], SCRIPT, None, TRACE)?;
+    check_text(&rt, &[], &[], SCRIPT, None, TRACE)?;
     let script = b"nodes 1\nclient ann on 1\n";
-    check_plain(&rt, &[], &[], script, None, b"join 1\nunmount 1\n")
+    check_text(&rt, &[], &[], script, None, b"join 1\nunmount 1\n")
 }
 
 const SHORT_SCRIPT: &[u8] = b"nodes 1
@@ -231,7 +232,7 @@ unmount 1
 #[test]
 fn other_flat_images_are_read(rt: HostRuntime) -> Result<(), Fail> {
     for (later, trace) in STILL_READ {
-        check_plain(&rt, later, &[], SHORT_SCRIPT, None, trace)?;
+        check_text(&rt, later, &[], SHORT_SCRIPT, None, trace)?;
     }
     Ok(())
 }
@@ -259,7 +260,7 @@ fn a_failing_disk_is_told(rt: HostRuntime) -> Result<(), Fail> {
     };
     for (call, node, block, trace) in FAILING {
         let end = RunEnd::DiskFailed { node, block, rise };
-        check_plain(&rt, &[], &[call], SHORT_SCRIPT, Some(end), trace)?;
+        check_text(&rt, &[], &[call], SHORT_SCRIPT, Some(end), trace)?;
     }
     Ok(())
 }
@@ -293,7 +294,7 @@ const NOT_READ: [(&[Part], u64, &[u8]); 17] = [
 fn a_block_of_another_form_is_told(rt: HostRuntime) -> Result<(), Fail> {
     for (later, block, trace) in NOT_READ {
         let end = RunEnd::NotRead { block };
-        check_plain(&rt, later, &[], SHORT_SCRIPT, Some(end), trace)?;
+        check_text(&rt, later, &[], SHORT_SCRIPT, Some(end), trace)?;
     }
     Ok(())
 }

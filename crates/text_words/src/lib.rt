@@ -1,18 +1,15 @@
-//! The parts of a printed line: bytes, words, numbers and hexadecimal content, each put at a text's end; and the number that a
-//! word writes.
+//! The parts of a printed line: bytes, words, numbers and hexadecimal content, each put at a text's end.
 #![tactic(auto)]
 
 ghost use Rattle.std.specs.Prelude.{◌≡◌, ◌++◌, ◌<◌, ◌^◌, IfOk, decimal};
 ghost use Rattle.text_words.specs.Words.{word, number};
 ghost use Rattle.hex.specs.Hex.{encode_lower};
 
-mod numbers;
 #[cfg(test)]
 mod tests;
 
 use itoa::Buffer;
 use no_memory::NoMemory;
-pub use numbers::number_word;
 use std::alloc::Global;
 
 /// Puts these bytes at the end.

@@ -1,15 +1,20 @@
-use Rattle.std.proofs.Common.{◌≡◌, subst, sym}
-use Rattle.cluster_program.specs.Course.{LacksScript, HasRead, OtherLine, NoRoom}
-use Rattle.cluster_program.proofs.Scripts.{lacks}
+use Rattle.std.proofs.Common.{◌≡◌, ℕ, List, subst, sym}
+use Rattle.script_lang.specs.Grammar.{script_read, Script}
+use Rattle.script_lang.specs.Reading.{IsRefusal}
+use Rattle.cluster_program.specs.Course.{LacksScript, HasRead, NotBuiltYet, NoRoom}
+use Rattle.cluster_program.proofs.Scripts.{unread, refused, read_whole}
 use Rattle.cluster_program.proofs.script.read_script.Goals as goal
 
 pub returns-in-Err-clause-none : goal.returns-in-Err-clause-none
-returns-in-Err-clause-none g c = subst (LacksScript _ _ _ _) (sym c.unread.ensures) (lacks _ _ _ _ c.in-Err.fault c.in-Err.ensures.cause)
+returns-in-Err-clause-none g c = subst (LacksScript _ _ _ _) (sym c.unread.ensures) (unread _ _ _ _ c.in-Err.fault c.in-Err.ensures.cause)
 
-pub returns-in-Ok-Other-clause-none : goal.returns-in-Ok-Other-clause-none
-returns-in-Ok-Other-clause-none g c =
-    let text : HasRead _ _ c.in-Ok.text.items = record { consumed = c.in-Ok.ensures.bytes; whole = c.in-Ok.ensures.end; short = c.in-Ok.ensures.short } in
-    subst (LacksScript _ _ _ _) (sym c.not_built.ensures) (OtherLine c.in-Ok.text.items c.in-Ok-Other.line text)
+pub returns-in-Err-parse-clause-none : goal.returns-in-Err-parse-clause-none
+returns-in-Err-parse-clause-none g c =
+    let bad = subst (λ (t : List ℕ). IsRefusal (script_read t) c.in-Err-parse.refusal) c.deref.ensures.value c.in-Err-parse.ensures.bad in
+    subst (LacksScript _ _ _ _) (sym c.refused.ensures) (refused _ _ _ _ c.in-Ok.text.items c.in-Err-parse.refusal c.limit_decides.ensures c.in-Ok.ensures.bytes c.in-Ok.ensures.end bad)
 
 pub returns-clause-none : goal.returns-clause-none
-returns-clause-none g c = NoRoom
+returns-clause-none g c =
+    let is = subst (λ (t : List ℕ). script_read t ≡ Script c.in-Ok-parse.script) c.deref.ensures.value c.in-Ok-parse.ensures.read in
+    let whole = read_whole _ _ c.in-Ok.text.items c.in-Ok-parse.script c.limit_decides.ensures c.in-Ok.ensures.bytes c.in-Ok.ensures.end is in
+    subst (LacksScript _ _ _ _) (sym c.not_built.ensures) (NotBuiltYet c.in-Ok.text.items c.in-Ok-parse.script c.in-Some.line whole is (sym c.in-Some.ensures.first))

@@ -1,20 +1,23 @@
-use Rattle.std.proofs.Common.{◌≡◌, ℕ, List, [], refl, subst, sym, ap, ◌∙◌, map, true, false}
-use Rattle.std.specs.Prelude.{string_bytes}
-use Rattle.cluster_program.specs.Course.{OtherWords, NoScript, RunsScript}
-use Rattle.cluster_program.proofs.Courses.{course_of, never_both}
+use Rattle.std.proofs.Common.{◌≡◌, ℕ, List, [], refl, subst, sym, ap, ◌∙◌, map}
+use Rattle.std.specs.Prelude.{string_bytes, None, Some}
+use Rattle.cluster_program.specs.Course.{RefusesWords, NoScript, RunsScript, words_refusal}
+use Rattle.cluster_program.proofs.Courses.{course_of}
 use Rattle.cluster_program.proofs.top.carry_out.Goals as goal
-
-pub returns-then-not-is_run-clause-course : goal.returns-then-not-is_run-clause-course
-returns-then-not-is_run-clause-course g c =
-    course_of (map string_bytes c.args.words.now) _ _ c.without_script.ensures.script c.requires.none c.without_script.ensures.own
-    (OtherWords (λ is. never_both c.is_run.result c.if-not-is_run.true (c.is_run.ensures.1 is)) refl)
 
 pub returns-in-Err-clause-course : goal.returns-in-Err-clause-course
 returns-in-Err-clause-course g c =
-    course_of (map string_bytes c.args.words.now) _ _ c.without_script-in-Err.ensures.script c.requires.none c.without_script-in-Err.ensures.own
-    (NoScript c.in-Err.own (c.is_run.ensures.0 c.if-not-is_run.false) c.in-Err.ensures.none)
+    let refused = subst (λ (size : ℕ). words_refusal size (map string_bytes c.args.words.now) ≡ Some c.in-Err.own) c.block_size.ensures c.in-Err.ensures.refused in
+    course_of (map string_bytes c.args.words.now) _ _ c.without_script.ensures.script c.requires.none c.without_script.ensures.own
+    (RefusesWords c.in-Err.own refused refl)
+
+pub returns-in-Err-read_script-clause-course : goal.returns-in-Err-read_script-clause-course
+returns-in-Err-read_script-clause-course g c =
+    let fine = subst (λ (size : ℕ). words_refusal size (map string_bytes c.args.words.now) ≡ None) c.block_size.ensures c.in-Ok.ensures.fine in
+    course_of (map string_bytes c.args.words.now) _ _ c.without_script-in-Err-read_script.ensures.script c.requires.none c.without_script-in-Err-read_script.ensures.own
+    (NoScript c.in-Err-read_script.own fine c.in-Err-read_script.ensures.none)
 
 pub returns-clause-course : goal.returns-clause-course
 returns-clause-course g c =
-    let read = c.in-Ok.ensures.script in
-    RunsScript read.0 c.in-Ok.script c.run_script-own.new.items.items c.run_script-own.result (c.is_run.ensures.0 c.if-not-is_run.false) read.1 read.2 c.run_script-own.ensures.runs
+    let fine = subst (λ (size : ℕ). words_refusal size (map string_bytes c.args.words.now) ≡ None) c.block_size.ensures c.in-Ok.ensures.fine in
+    let read = c.in-Ok-read_script.ensures.script in
+    RunsScript read.0 c.in-Ok-read_script.script c.mount_and_run-own.new.items.items c.mount_and_run-own.result fine read.1 read.2 c.in-Ok-read_script.ensures.built.0 c.mount_and_run-own.ensures.runs

@@ -5,15 +5,30 @@ use Rattle.cluster_program.specs.Quiet.{IsQuiet}
 use Rattle.cluster_program.specs.Report.{Reports}
 use Rattle.cluster_program.specs.World.{Outputs}
 use Rattle.cluster_program.proofs.Ends.{fault_has_cause}
+use Rattle.cluster_program.proofs.Complete.{complete}
+use Rattle.cluster_program.proofs.top.gfs2run_alone.Given.{Over}
 use Rattle.cluster_program.proofs.top.gfs2run_alone.Goals as goal
 
 pub report-status-requires-clause-quiet : goal.report-status-requires-clause-quiet
 report-status-requires-clause-quiet g c told done =
     subst (λ (items : List TraceItem). IsQuiet c.carry_out-script.result.script items told) (sym c.deref.ensures.value) (c.carry_out-script.ensures.quiet told done)
 
+module _ (g : Over) (c : goal.After-drop-items g) where
+  abbrev sinks : Outputs
+  sinks = record { trace = g.T.Sink.contents c.args.trace.now; trace_faults = g.T.Sink.faults c.args.trace.now; output = g.O.Sink.contents c.args.out.now; output_faults = g.O.Sink.faults c.args.out.now }
+
+  abbrev sinks_now : Outputs
+  sinks_now = record { trace = g.T.Sink.contents c.report-status.new.trace; trace_faults = g.T.Sink.faults c.report-status.new.trace; output = g.O.Sink.contents c.report-status.new.out; output_faults = g.O.Sink.faults c.report-status.new.out }
+
+  reports : Reports sinks sinks_now c.carry_out-script.result.script c.carry_out-script.new.items.items c.carry_out-script.result.own c.report-status.result
+  reports = subst (λ (items : List TraceItem). Reports sinks sinks_now c.carry_out-script.result.script items c.carry_out-script.result.own c.report-status.result) c.deref.ensures.value c.report-status.ensures.reports
+
 pub returns-clause-fault : goal.returns-clause-fault
 returns-clause-fault g c =
-    let sinks : Outputs = record { trace = g.T.Sink.contents c.args.trace.now; trace_faults = g.T.Sink.faults c.args.trace.now; output = g.O.Sink.contents c.args.out.now; output_faults = g.O.Sink.faults c.args.out.now } in
-    let sinks_now : Outputs = record { trace = g.T.Sink.contents c.report-status.new.trace; trace_faults = g.T.Sink.faults c.report-status.new.trace; output = g.O.Sink.contents c.report-status.new.out; output_faults = g.O.Sink.faults c.report-status.new.out } in
-    fault_has_cause _ _ sinks sinks_now (map string_bytes c.args.words.now) c.carry_out-script.result.script c.carry_out-script.new.items.items c.carry_out-script.result.own c.report-status.result c.carry_out-script.ensures.course
-    (subst (λ (items : List TraceItem). Reports sinks sinks_now c.carry_out-script.result.script items c.carry_out-script.result.own c.report-status.result) c.deref.ensures.value c.report-status.ensures.reports)
+    fault_has_cause _ _ (sinks g c) (sinks_now g c) (map string_bytes c.args.words.now) c.carry_out-script.result.script c.carry_out-script.new.items.items c.carry_out-script.result.own c.report-status.result
+    c.carry_out-script.ensures.course (reports g c)
+
+pub returns-clause-complete : goal.returns-clause-complete
+returns-clause-complete g c =
+    complete _ _ (sinks g c) (sinks_now g c) (map string_bytes c.args.words.now) c.carry_out-script.result.script c.carry_out-script.new.items.items c.carry_out-script.result.own c.report-status.result
+    c.carry_out-script.ensures.course (reports g c)

@@ -1,4 +1,5 @@
-use Rattle.script_lang.specs.Words.{number_in, transfer_limit}
+use Rattle.number_words.specs.Numbers.{number_in}
+use Rattle.script_lang.specs.Words.{transfer_limit}
 use Rattle.script_lang.proofs.HexWords.{no_byte}
 use Rattle.script_lang.proofs.content.fill_word.Goals as goal
 

@@ -1,6 +1,6 @@
 use Rattle.std.proofs.Common.{arith}
-use Rattle.script_lang.proofs.Numbers.{number_within, number_outside}
-use Rattle.script_lang.proofs.words.number_word.Goals as goal
+use Rattle.number_words.proofs.Decimals.{number_within, number_outside}
+use Rattle.number_words.proofs.number_word.Goals as goal
 
 pub returns-then-value-high : goal.returns-then-value-high
 returns-then-value-high c =

@@ -3,9 +3,9 @@ use Rattle.std.proofs.lemmas.List.{take_all}
 use Rattle.std.proofs.lemmas.Bool.Decides.{nat_tests}
 use Rattle.std.proofs.lemmas.Int.Digits.{digits_value_more, digits_more}
 use Rattle.std.specs.Str.Parse.{digits_value, AllDigits}
-use Rattle.text_words.proofs.Decimals.{is_number, not_empty, no_leading_zero, no_other_byte, too_large, digit_small}
-use Rattle.text_words.proofs.numbers.decimal_value.Goals as goal
-use Rattle.text_words.proofs.numbers.decimal_value.Goals.{else-word-gt1-via-then-word-gt1+else-word-eq48, else-word-gt1-via-else-word-gt1}
+use Rattle.number_words.proofs.Decimals.{is_number, not_empty, no_leading_zero, no_other_byte, too_large, digit_small}
+use Rattle.number_words.proofs.decimal_value.Goals as goal
+use Rattle.number_words.proofs.decimal_value.Goals.{else-word-gt1-via-then-word-gt1+else-word-eq48, else-word-gt1-via-else-word-gt1}
 
 pub returns-then-is_empty : goal.returns-then-is_empty
 returns-then-is_empty c = not_empty c.args.word.now (grind (arith, nat_tests))

@@ -1,7 +1,13 @@
+//! The number that a word writes.
+#![tactic(auto)]
+
 ghost use Rattle.std.specs.Prelude.{◌≡◌, ◌+◌, ◌*◌, ◌^◌, ◌<◌, ◌≤◌, IfSome, IfNone};
 ghost use Rattle.std.specs.Char.{digit_value};
 ghost use Rattle.std.specs.Option.{SomeIff};
-ghost use Rattle.text_words.specs.Numbers.{IsNumber, number_in};
+ghost use Rattle.number_words.specs.Numbers.{IsNumber, number_in};
+
+#[cfg(test)]
+mod tests;
 
 // The value of a decimal digit.
 fn digit_of(byte: u8) -> Option<u8>
