@@ -128,7 +128,7 @@ const OUT: &[u8] =
 
 const NONE: [&[u64]; 4] = [&[], &[], &[], &[]];
 
-const ROWS: [Row; 14] = [
+const ROWS: [Row; 23] = [
     Row {
         words: &["run"],
         script: SCRIPT,
@@ -171,9 +171,45 @@ unmount 1
         out: b"calls 0 lost 0 commits 0 crashes 0 dirty 0\ndone\n",
         trace: b"join 1\nunmount 1\n",
     },
-    // What is not built.
+    // Words that are no command, and commands that are not built.
     Row {
         words: &[],
+        script: SCRIPT,
+        over: &[],
+        fails: NONE,
+        status: 1,
+        out: b"usage: word 1\n",
+        trace: b"",
+    },
+    Row {
+        words: &["run", "run"],
+        script: SCRIPT,
+        over: &[],
+        fails: NONE,
+        status: 1,
+        out: b"usage: word 2\n",
+        trace: b"",
+    },
+    Row {
+        words: &["run", "--schedule", "0", "--schedule", "1"],
+        script: SCRIPT,
+        over: &[],
+        fails: NONE,
+        status: 1,
+        out: b"usage: word 4\n",
+        trace: b"",
+    },
+    Row {
+        words: &["mkfs", "--bsize", "512"],
+        script: SCRIPT,
+        over: &[],
+        fails: NONE,
+        status: 1,
+        out: b"usage: word 3\n",
+        trace: b"",
+    },
+    Row {
+        words: &["replay"],
         script: SCRIPT,
         over: &[],
         fails: NONE,
@@ -182,12 +218,41 @@ unmount 1
         trace: b"",
     },
     Row {
-        words: &["run", "run"],
+        words: &["run", "--steps", "3"],
         script: SCRIPT,
         over: &[],
         fails: NONE,
         status: 20,
         out: b"not built: words\n",
+        trace: b"",
+    },
+    // The time of new files changes nothing for a reader.
+    Row {
+        words: &["run", "--time", "7"],
+        script: SCRIPT,
+        over: &[],
+        fails: NONE,
+        status: 0,
+        out: OUT,
+        trace: TRACE,
+    },
+    // Texts that are no script, and a line that is not built.
+    Row {
+        words: &["run"],
+        script: b"",
+        over: &[],
+        fails: NONE,
+        status: 2,
+        out: b"script: line 1 column 1\n",
+        trace: b"",
+    },
+    Row {
+        words: &["run"],
+        script: b"nodes 1\nclient c o\n",
+        over: &[],
+        fails: NONE,
+        status: 2,
+        out: b"script: line 2 column 10\n",
         trace: b"",
     },
     Row {
@@ -198,6 +263,25 @@ unmount 1
         status: 20,
         out: b"not built: line 3\n",
         trace: b"",
+    },
+    Row {
+        words: &["run"],
+        script: b"nodes 1\nclient c on 1\nc: read /my%20file 0 1\n",
+        over: &[],
+        fails: NONE,
+        status: 0,
+        out: b"c: read /my%20file 0 1 = notfound\ncalls 1 lost 0 commits 0 crashes 0 dirty 0\ndone\n",
+        trace: b"join 1\ncall 1 c 1 read /my%20file 0 1 = notfound\nunmount 1\n",
+    },
+    // Each client's lines stand together, in the order of the clients.
+    Row {
+        words: &["run"],
+        script: b"nodes 1\nclient d on 1\nclient c on 1\nc: read /a 4 1\nwait\nd: list /\nc: read /a 5 1\n",
+        over: &[],
+        fails: NONE,
+        status: 0,
+        out: b"d: list / = names 1 a\nc: read /a 4 1 = data 6f\nc: read /a 5 1 = data -\ncalls 3 lost 0 commits 0 crashes 0 dirty 0\ndone\n",
+        trace: b"join 1\ncall 1 c 1 read /a 4 1 = data 6f\ncall 1 d 2 list / = names 1 a\ncall 1 c 3 read /a 5 1 = data -\nunmount 1\n",
     },
     // The superblock's magic is gone.
     Row {

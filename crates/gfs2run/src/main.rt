@@ -21,7 +21,7 @@ Standard input is the script; standard output gets each client's replies, the co
 and the status, whose number is the exit status.
 
 commands:
-  run    runs the script
+  run [--time N]    runs the script
 
 options, as the only word:
   --help       prints this
@@ -45,7 +45,7 @@ where
     R: Threads + Wait + Sync + AllocGlobal + Files<File = fs::File> + Input + Print,
 {
     let alloc = rt.alloc();
-    let Ok(block_size) = block_size_of(rt, image) else {
+    let Ok(block_size) = block_size_of(rt, image, command) else {
         return cannot_open(rt, image);
     };
     let disk = match FileDisk::open(rt, alloc, image, block_size) {

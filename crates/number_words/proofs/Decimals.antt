@@ -1,11 +1,12 @@
 -- Numbers as words.
 use Rattle.std.proofs.Common.{◌≡◌, ◌≢◌, ◌⊎◌, inl, inr, ℕ, zero, suc, ◌^◌, ◌<◌, ◌≤◌, Bool, true, false, ◌&&◌, if◌then◌else◌, List, length, take, get_or, Some, None, refl, sym, ap, ◌∙◌, subst, arith}
-use Rattle.std.specs.Prelude.{nat_le}
+use Rattle.std.specs.Prelude.{◌↔◌, nat_le}
 use Rattle.std.specs.Char.{digit_value}
 use Rattle.std.specs.Int.{IsInRange}
 use Rattle.std.specs.Str.{bytes_eq}
 use Rattle.std.specs.Str.Parse.{digits_value, AllDigits}
 use Rattle.std.specs.Fmt.{decimal}
+use Rattle.std.proofs.lemmas.Bool.{false≢true}
 use Rattle.std.proofs.lemmas.Bool.Decides.{nat_tests}
 use Rattle.std.proofs.lemmas.Str.Parse.{IsNumeralModel, numerals_by_value, tells_digits, digit_at, digits_value-take-le}
 use Rattle.std.proofs.lemmas.Fmt.{digits_decimal, digits_value-decimal, decimal-digits_value, decimal_nonempty, first_decimal, decimal_digit}
@@ -30,6 +31,12 @@ no_leading_zero w zero_first long zero small is = let one = ap length (is ∙ de
 no_leading_zero w zero_first long (suc n) small is =
     let first = first_decimal (suc n) (omega arith) small in
     absurd (omega (arith, first, ap (λ (v : List ℕ). get_or v 0 0) is))
+
+-- a word that begins with a zero and has no leading zero is that zero
+pub lone_zero : (b : Bool) (n : ℕ) (Z : Type 0) → (b ≡ true ↔ ((1 < n) × Z)) → b ≡ false → 1 ≤ n → Z → n ≡ 1
+lone_zero b zero Z is other some z = absurd (omega arith)
+lone_zero b (suc zero) Z is other some z = refl
+lone_zero b (suc (suc m)) Z is other some z = absurd (false≢true (sym other ∙ is.1 (omega arith, z)))
 
 pub no_other_byte : (w : List ℕ) (i : ℕ) → i < length w → (IsInRange 48 57 (get_or w i 0) → ⊥) → (n : ℕ) → n < 2 ^ 64 → w ≢ decimal n
 no_other_byte w i within other n small is =

@@ -1,7 +1,7 @@
 //! The number that a word writes.
 #![tactic(auto)]
 
-ghost use Rattle.std.specs.Prelude.{◌≡◌, ◌+◌, ◌*◌, ◌^◌, ◌<◌, ◌≤◌, IfSome, IfNone};
+ghost use Rattle.std.specs.Prelude.{◌≡◌, ◌+◌, ◌*◌, ◌^◌, ◌<◌, ◌≤◌, ◌↔◌, IsTrue, IfSome, IfNone, length, slice_index};
 ghost use Rattle.std.specs.Char.{digit_value};
 ghost use Rattle.std.specs.Option.{SomeIff};
 ghost use Rattle.number_words.specs.Numbers.{IsNumber, number_in};
@@ -27,6 +27,13 @@ fn with_digit(value: u64, digit: u8) -> Option<u64>
     value.checked_mul(10)?.checked_add(u64::from(digit))
 }
 
+// Whether a zero stands before further bytes.
+fn has_leading_zero(word: &[u8]) -> bool
+    ensures { IsTrue result ↔ ((1 < length word.now) × (slice_index word.now 0 ≡ 48)) }
+{
+    word.len() > 1 && word[0] == b'0'
+}
+
 // The number that a word writes in decimal, without a leading zero, if it is below 2^64.
 fn decimal_value(word: &[u8]) -> Option<u64>
     ensures { IsNumber word.now result }
@@ -34,7 +41,7 @@ fn decimal_value(word: &[u8]) -> Option<u64>
     if word.is_empty() {
         return None;
     }
-    if word.len() > 1 && word[0] == b'0' {
+    if has_leading_zero(word) {
         return None;
     }
     let mut value = 0u64;

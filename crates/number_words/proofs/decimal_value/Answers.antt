@@ -3,15 +3,15 @@ use Rattle.std.proofs.lemmas.List.{take_all}
 use Rattle.std.proofs.lemmas.Bool.Decides.{nat_tests}
 use Rattle.std.proofs.lemmas.Int.Digits.{digits_value_more, digits_more}
 use Rattle.std.specs.Str.Parse.{digits_value, AllDigits}
-use Rattle.number_words.proofs.Decimals.{is_number, not_empty, no_leading_zero, no_other_byte, too_large, digit_small}
+use Rattle.number_words.proofs.Decimals.{is_number, not_empty, no_leading_zero, lone_zero, no_other_byte, too_large, digit_small}
 use Rattle.number_words.proofs.decimal_value.Goals as goal
-use Rattle.number_words.proofs.decimal_value.Goals.{else-word-gt1-via-then-word-gt1+else-word-eq48, else-word-gt1-via-else-word-gt1}
 
 pub returns-then-is_empty : goal.returns-then-is_empty
 returns-then-is_empty c = not_empty c.args.word.now (grind (arith, nat_tests))
 
-pub returns-then-word-eq48 : goal.returns-then-word-eq48
-returns-then-word-eq48 c = no_leading_zero c.args.word.now c.if-word-eq48.true c.if-word-gt1.true
+pub returns-then-has_leading_zero : goal.returns-then-has_leading_zero
+returns-then-has_leading_zero c =
+    let zero = c.has_leading_zero.ensures.0 c.if-has_leading_zero.true in no_leading_zero c.args.word.now zero.1 zero.0
 
 pub returns-in_default : goal.returns-in_default
 returns-in_default c = no_other_byte c.args.word.now c.loop-byte.byte-index c.loop-byte-test.true c.in_default.ensures.other
@@ -37,9 +37,6 @@ returns c =
     let value : c.loop-byte.value ≡ digits_value 10 w = c.loop-byte.invariant.value ∙ ap (digits_value 10) whole in
     let digits : AllDigits 10 w = subst (AllDigits 10) whole c.loop-byte.invariant.digits in
     let some : 1 ≤ length w = grind (arith, nat_tests) in
-    let plain : get_or w 0 0 ≡ 48 → length w ≡ 1 = λ zero_first. elim c.else-word-gt1.branch [
-      | else-word-gt1-via-then-word-gt1+else-word-eq48 v ↦ absurd (v.if-word-eq48.false zero_first)
-      | else-word-gt1-via-else-word-gt1 v ↦ omega (arith, v.if-word-gt1.false, some)
-    ] in
+    let plain : get_or w 0 0 ≡ 48 → length w ≡ 1 = lone_zero _ (length w) (get_or w 0 0 ≡ 48) c.has_leading_zero.ensures c.if-has_leading_zero.false some in
     let small : digits_value 10 w < 2 ^ 64 = omega (arith, c.loop-byte.invariant.small, value) in
     rw value (is_number w digits some plain small)
