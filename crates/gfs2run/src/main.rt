@@ -72,7 +72,14 @@ where
     Ok(ExitCode::from(status.number()))
 }
 
+// What stands in for a standard stream that is closed. Its number would go to the next file that is opened, and what
+// is meant for the stream would then be read from the image, or written to it.
+const NOTHING: &str = "/dev/null";
+
 fn main(rt: HostRuntime) -> io::Result<ExitCode> {
+    let _input = fs::File::open(&rt, NOTHING).ok();
+    let _output = fs::File::open(&rt, NOTHING).ok();
+    let _faults = fs::File::open(&rt, NOTHING).ok();
     let words: Vec<String> = env::args(&rt)?.collect(rt.alloc())?;
     match words.as_slice() {
         [_, word] if word.as_str() == "--help" => {

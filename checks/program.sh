@@ -1,0 +1,103 @@
+#!/bin/sh
+# Runs the built program on real files in the cases that no proof reaches: what the system refuses, cuts off or closes.
+# Ends with status 0 where each case ends as it should. Needs Python 3 for the image; says so and skips without it.
+set -eu
+cd "$(dirname "$0")/.."
+
+if ! command -v python3 >/dev/null; then
+    echo "checks/program.sh: skipped, no python3"
+    exit 0
+fi
+(cd crates/gfs2run && rt run >/dev/null 2>&1) || true
+program=$PWD/crates/gfs2run/out/gfs2run
+if ! [ -x "$program" ]; then
+    echo "checks/program.sh: the program is not built" >&2
+    exit 1
+fi
+
+folder=$(mktemp -d)
+trap 'rm -rf "$folder"' EXIT
+python3 checks/image.py "$folder/image"
+cd "$folder"
+cp image before
+printf 'nodes 1\nclient c on 1\nc: read /a 0 5\n' >script
+failed=0
+
+# check NAME STATUS LAST-LINE: the case that was run left its status in `status` and its output in `out`
+check() {
+    last=$(tail -n 1 out)
+    if [ "$status" != "$2" ] || [ "$last" != "$3" ]; then
+        echo "checks/program.sh: $1: status $status, last line '$last'; wanted $2, '$3'" >&2
+        failed=1
+    fi
+}
+
+run() {
+    status=0
+    "$program" "$@" >out 2>/dev/null || status=$?
+}
+
+run image trace run <script
+check "a run" 0 "done"
+[ "$(cat trace)" = "$(printf 'join 1\ncall 1 c 1 read /a 0 5 = data 68656c6c6f\nunmount 1')" ] || {
+    echo "checks/program.sh: the trace of a run" >&2
+    failed=1
+}
+run --help
+check "help" 0 "  --version    prints the version"
+run --version
+check "version" 0 "gfs2run 0.1.0"
+run
+check "no words" 1 "usage: word 1"
+run image
+check "no trace" 1 "usage: word 1"
+run image trace
+check "no command" 1 "usage: word 1"
+run image trace walk <script
+check "no such command" 1 "usage: word 1"
+run absent trace run <script
+check "no image" 12 "cannot open absent"
+mkdir dir
+run dir trace run <script
+check "an image that is a folder" 12 "cannot open dir"
+run image none/trace run <script
+check "a trace that cannot be made" 12 "cannot open none/trace"
+run absent none/trace run <script
+check "the image is tried first" 12 "cannot open absent"
+: >empty
+run empty trace run <script
+check "an empty image" 20 "not built: block 16"
+head -c 100000 image >short
+run short trace run <script
+check "an image cut off behind its root" 20 "not built: block 537"
+head -c 70000 image >part
+run part trace run <script
+check "an image that ends within a block" 20 "not built: block 19"
+run image trace run --bsize 512 <script
+check "an option of another command" 1 "usage: word 2"
+run image trace run <&-
+check "a closed standard input" 2 "script: line 1 column 1"
+"$program" image trace run <script >&- 2>/dev/null && status=0 || status=$?
+echo >out
+check "a closed standard output" 7 ""
+{ cat script; sleep 1; printf 'c: list /\n'; } | "$program" image trace run >out && status=0 || status=$?
+check "a script that comes in pieces" 0 "done"
+{ "$program" image trace run <script || echo $? >code; } | sh -c 'exec <&-; sleep 1'
+echo >out
+status=$(cat code 2>/dev/null || echo 0)
+check "a closed pipe as standard output" 7 ""
+"$program" image trace run <script >/dev/full 2>/dev/null && status=0 || status=$?
+echo >out
+check "an output that is full" 7 ""
+run image /dev/full run <script
+check "a trace that is full" 7 "trace fault: count 0 to 1"
+
+cmp -s image before || {
+    echo "checks/program.sh: the image was changed" >&2
+    failed=1
+}
+
+if [ "$failed" = 0 ]; then
+    echo "checks/program.sh: all cases ended as they should"
+fi
+exit "$failed"
