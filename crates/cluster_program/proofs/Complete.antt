@@ -67,7 +67,7 @@ module _ (words : List (List ℕ)) (given left : Inputs) (sinks sinks_now : Outp
 
   of_course : (s : ScriptValue) (items : List TraceItem) (own : Status) → Course words given left s items own → IsWhole own
   of_course s items own (RefusesWords told refused untouched) = let both : None ≡ Some own = sym may.run ∙ refused in cc
-  of_course s items own (NoScript told fine lacks) = of_script own lacks
+  of_course s items own (NoScript told fine lacks untouched) = of_script own lacks
   of_course s items own (RunsScript text s' items' own' fine read script built runs) = of_run s items own runs.ends
 
   of_sink : (which : Which) (before now : ℕ) (old new : Status) → (Rose before now → ⊥) → Becomes which before now old new → IsWhole old → IsWhole new

@@ -52,7 +52,7 @@ module _ (given left : Inputs) (sinks sinks_now : Outputs) where
 
   course_fault : (words : List (List ℕ)) (s : ScriptValue) (items : List TraceItem) (own : Status) → Course words given left s items own → FaultHasCause given left sinks sinks_now own
   course_fault words s items own (RefusesWords told refused untouched) = words_fault given.disk.size words own refused
-  course_fault words s items own (NoScript told fine lacks) = script_fault own lacks
+  course_fault words s items own (NoScript told fine lacks untouched) = script_fault own lacks
   course_fault words s items own (RunsScript text s' items' own' fine read script built runs) = run_fault s items own runs.ends
 
   trace_fault : (own told : Status) → Becomes which.Trace sinks.trace_faults sinks_now.trace_faults own told → FaultHasCause given left sinks sinks_now own → FaultHasCause given left sinks sinks_now told

@@ -92,9 +92,9 @@ pub record Runs (disk disk_now : DiskState) (faults faults_now : ℕ → ℕ) (s
 -- ---- the command: refusals come in this order, each before anything that follows it is touched
 
 pub data Course (words : List (List ℕ)) (before now : Inputs) : ScriptValue → List TraceItem → Status → Type 0 where
-  RefusesWords : (own : Status) → words_refusal before.disk.size words ≡ Some own → now.left ≡ before.left → Course words before now nothing [] own
+  RefusesWords : (own : Status) → words_refusal before.disk.size words ≡ Some own → now ≡ before → Course words before now nothing [] own
   NoScript : (own : Status) → words_refusal before.disk.size words ≡ None → LacksScript before.left now.left before.script_faults now.script_faults own
-      → Course words before now nothing [] own
+      → now.disk_faults ≡ before.disk_faults → Course words before now nothing [] own
   RunsScript : (text : List ℕ) (s : ScriptValue) (items : List TraceItem) (own : Status) → words_refusal before.disk.size words ≡ None
       → HasRead before.left now.left text → script_read text ≡ Script s → first_foreign s ≡ None
       → Runs before.disk now.disk before.disk_faults now.disk_faults s items own → Course words before now s items own

@@ -35,16 +35,16 @@ fn is_dot_name(name: &[u8]) -> bool
 }
 
 // Whether a record is in use and is not `.` or `..`.
-pub(crate) fn leads_on(record: &Record<'_>) -> bool
-    ensures { (s : Slot) → IsShown record.now.head record.now.name.now s → result ≡ names_a_file s }
+pub(crate) fn leads_on(found: &Record<'_>) -> bool
+    ensures { (s : Slot) → IsShown found.now.head found.now.name.now s → result ≡ names_a_file s }
 {
-    record.head.is_in_use() && !is_dot_name(record.name)
+    found.head.is_in_use() && !is_dot_name(found.name)
 }
 
-fn is_of_file(record: &Record<'_>) -> bool
-    ensures { (s : Slot) → IsShown record.now.head record.now.name.now s → IsTrue result ↔ IsOfFile s }
+fn is_of_file(found: &Record<'_>) -> bool
+    ensures { (s : Slot) → IsShown found.now.head found.now.name.now s → IsTrue result ↔ IsOfFile s }
 {
-    !leads_on(record) || record.head.kind == 8
+    !leads_on(found) || found.head.kind == 8
 }
 
 // Whether all records but `.` and `..` are those of regular files.

@@ -2,7 +2,7 @@ ghost use Rattle.script_lang.specs.WellFormed.{IsWellFormed};
 
 // What scripts are read as, and which one node can run, worked out by hand from the grammar.
 use crate::{Armed, Fate, Line, Script, first_foreign_line, parse};
-use file_tree::{Call, Path};
+use file_tree::{Call, Path, append_call};
 use std::alloc::Global;
 use std::process::Abort;
 use std::test::Fail;
@@ -288,17 +288,39 @@ fn script_of(rt: &impl Abort, alloc: Global, text: &[u8]) -> Script
     }
 }
 
+const HEAD: &[u8] = b"nodes 1\nclient c on 1\n";
+
+// The script has one line, which is this call.
+fn expect_only_call(rt: &impl Abort, script: &Script, want: &Want) {
+    assert_eq!(rt; script.lines.len(), 1);
+    match &script.lines[0] {
+        Line::Call { client: 0, call } => expect_call(rt, call, want),
+        _ => assert!(rt; false, "a line of another kind"),
+    }
+}
+
+// The script of the client with its calls as they are printed.
+fn printed(alloc: Global, script: &Script) -> Result<Vec<u8>, Fail> {
+    let mut text = HEAD.to_vec(alloc)?;
+    for line in script.lines.as_slice() {
+        if let Line::Call { call, .. } = line {
+            text.extend_from_slice(b"c: ")?;
+            append_call(alloc, &mut text, call)?;
+            text.push(b'\n')?;
+        }
+    }
+    Ok(text)
+}
+
 #[test]
 fn calls(rt: HostRuntime) -> Result<(), Fail> {
     for want in &CALLS {
-        let mut text = b"nodes 1\nclient c on 1\n".as_slice().to_vec(rt.alloc())?;
+        let mut text = HEAD.to_vec(rt.alloc())?;
         text.extend_from_slice(want.line)?;
         let script = script_of(&rt, rt.alloc(), &text);
-        assert_eq!(&rt; script.lines.len(), 1);
-        match &script.lines[0] {
-            Line::Call { client: 0, call } => expect_call(&rt, call, want),
-            _ => assert!(&rt; false, "a line of another kind"),
-        }
+        expect_only_call(&rt, &script, want);
+        let again = printed(rt.alloc(), &script)?;
+        expect_only_call(&rt, &script_of(&rt, rt.alloc(), &again), want);
     }
     Ok(())
 }

@@ -14,7 +14,7 @@ pub returns-in-Err-read_script-clause-course : goal.returns-in-Err-read_script-c
 returns-in-Err-read_script-clause-course g c =
     let fine = subst (λ (size : ℕ). words_refusal size (map string_bytes c.args.words.now) ≡ None) c.block_size.ensures c.in-Ok.ensures.fine in
     course_of (map string_bytes c.args.words.now) _ _ c.without_script-in-Err-read_script.ensures.script c.requires.none c.without_script-in-Err-read_script.ensures.own
-    (NoScript c.in-Err-read_script.own fine c.in-Err-read_script.ensures.none)
+    (NoScript c.in-Err-read_script.own fine c.in-Err-read_script.ensures.none refl)
 
 pub returns-clause-course : goal.returns-clause-course
 returns-clause-course g c =
