@@ -1,11 +1,11 @@
 -- The lines of the clients, one client after the other.
-use Rattle.std.proofs.Common.{◌≡◌, ℕ, suc, ◌+◌, ◌-◌, ◌≤◌, List, [], ◌∷◌, ◌++◌, length, take, drop, sym, ap, ◌∙◌, append_assoc, append-nil, arith}
+use Rattle.std.proofs.Common.{◌≡◌, ℕ, suc, ◌+◌, ◌-◌, ◌≤◌, List, [], ◌∷◌, ◌++◌, length, take, drop, sym, ap, ◌∙◌, append-nil, arith}
 use Rattle.std.proofs.lemmas.List.{take_all}
 use Rattle.trace_text.specs.declared.item.TraceItem.{TraceItem}
 use Rattle.script_lang.specs.declared.script.Client.{Client}
 use Rattle.script_lang.specs.Script.{ScriptValue}
 use Rattle.cluster_program.specs.declared.status.Status.{Status}
-use Rattle.cluster_program.specs.Out.{answered_lines, down_lines, client_lines, all_lines}
+use Rattle.cluster_program.specs.Out.{answered_lines, client_lines, all_lines}
 use Rattle.cluster_program.specs.Quiet.{IsQuiet}
 
 -- the next client's answered lines are all of its lines

@@ -1,19 +1,17 @@
 -- A command that may be carried out is, but for want of memory.
-use Rattle.std.proofs.Common.{◌≡◌, ◌⊎◌, inl, inr, ℕ, ◌≤◌, List, [], ◌++◌, refl, sym, ap, ◌∙◌, subst, arith, append-nil}
+use Rattle.std.proofs.Common.{◌≡◌, ◌⊎◌, inl, inr, ℕ, List, ◌++◌, refl, sym, ap, ◌∙◌, subst, arith, append-nil}
 use Rattle.std.specs.Prelude.{Option, Some, None}
 use Rattle.std.specs.Io.KnownBytes.{Consumes, IsAtEnd}
 use Rattle.fault_counts.specs.Causes.{Rose, WentUp}
-use Rattle.file_tree.specs.Tree.{Tree}
 use Rattle.trace_text.specs.declared.item.TraceItem.{TraceItem}
 use Rattle.script_lang.specs.Script.{ScriptValue}
-use Rattle.script_lang.specs.Grammar.{script_read, ScriptRead, Script, Bad}
+use Rattle.script_lang.specs.Grammar.{script_read, Script, Bad}
 use Rattle.script_lang.specs.Foreign.{first_foreign}
-use Rattle.single_node.specs.Flat.{IsFlat}
 use Rattle.cluster_program.specs.declared.status.Status.{Status}
 use Rattle.cluster_program.specs.declared.status.Status.TheVariants as status
 use Rattle.cluster_program.specs.declared.status.Which.{Which}
 use Rattle.cluster_program.specs.World.{Inputs, Outputs}
-use Rattle.cluster_program.specs.Course.{Course, RefusesWords, NoScript, RunsScript, HasRead, LacksScript, SourceFailed, Refused, RefusedEarly, NotBuiltYet, RunEnds, IsDone, MountFailed, CallFailed, MountRefused, CallRefused, NoRoom, words_refusal}
+use Rattle.cluster_program.specs.Course.{Course, RefusesWords, NoScript, RunsScript, LacksScript, SourceFailed, Refused, RefusedEarly, NotBuiltYet, RunEnds, IsDone, MountFailed, CallFailed, MountRefused, CallRefused, NoRoom}
 use Rattle.cluster_program.specs.Report.{Becomes, Stays, WithoutMemory, Fails, Reports}
 use Rattle.cluster_program.specs.Command.{NoneRose, IsRunnable, IsComplete}
 

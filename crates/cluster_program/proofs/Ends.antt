@@ -1,11 +1,10 @@
 -- What a command's end comes from.
-use Rattle.std.proofs.Common.{◌≡◌, ℕ, Bool, true, false, List, refl, sym, ◌∙◌, subst}
-use Rattle.std.specs.Prelude.{Option, Some, None, Result, Ok, Err, if◌then◌else◌}
+use Rattle.std.proofs.Common.{◌≡◌, ℕ, Bool, true, false, List, sym, ◌∙◌, subst}
+use Rattle.std.specs.Prelude.{Some, None, Result, Ok, Err, if◌then◌else◌}
 use Rattle.command_words.specs.Commands.{words_read}
 use Rattle.command_words.specs.declared.command.Command.{Command}
 use Rattle.command_words.specs.declared.command.Usage.{Usage}
 use Rattle.cluster_program.specs.declared.status.Part.TheVariants as part
-use Rattle.shared_disk.specs.Disk.{DiskState}
 use Rattle.trace_text.specs.declared.item.TraceItem.{TraceItem}
 use Rattle.script_lang.specs.Script.{ScriptValue}
 use Rattle.cluster_program.specs.declared.status.Status.{Status}
@@ -15,7 +14,7 @@ use Rattle.cluster_program.specs.declared.status.Which.TheVariants as which
 use Rattle.cluster_program.specs.World.{Inputs, Outputs}
 use Rattle.cluster_program.specs.Course.{Course, RefusesWords, NoScript, RunsScript, LacksScript, SourceFailed, Refused, RefusedEarly, NotBuiltYet, RunEnds, IsDone, MountFailed, CallFailed, MountRefused, CallRefused, NoRoom, words_refusal, refusal_of, is_built}
 use Rattle.cluster_program.specs.Report.{Becomes, Stays, WithoutMemory, Fails, Reports}
-use Rattle.cluster_program.specs.Command.{Ends, FaultHasCause}
+use Rattle.cluster_program.specs.Command.{FaultHasCause}
 
 -- a command that is told to be done is done
 pub done_before : (w : Which) (before now : ℕ) (own told : Status) → Becomes w before now own told → told ≡ status.Done → own ≡ status.Done

@@ -1,5 +1,5 @@
 -- Lines of a text in pieces.
-use Rattle.std.proofs.Common.{◌≡◌, ℕ, List, ◌++◌, refl, sym, ap, ◌∙◌, append_assoc}
+use Rattle.std.proofs.Common.{◌≡◌, ℕ, List, ◌++◌, ap, ◌∙◌, append_assoc}
 
 -- a piece behind two pieces that stand behind an old text
 pub behind_two : (old now one two three : List ℕ) → now ≡ old ++ (one ++ two) → now ++ three ≡ old ++ (one ++ two ++ three)

@@ -1,13 +1,11 @@
 -- Nothing is down or lost in a run of one node that answers and unmounts.
-use Rattle.std.proofs.Common.{◌≡◌, ◌⊎◌, inl, inr, ℕ, ◌+◌, ◌≤◌, zero, suc, List, [], ◌∷◌, ◌++◌, length, drop, Bool, true, false, refl, sym, ap, ◌∙◌, subst, arith, append-nil}
-use Rattle.std.specs.Prelude.{Option, None, Some, ◌||◌, ◌&&◌, ◌==◌, nat_le, if◌then◌else◌}
+use Rattle.std.proofs.Common.{◌≡◌, ◌⊎◌, inl, inr, ℕ, ◌+◌, suc, List, [], ◌∷◌, ◌++◌, drop, Bool, true, false, refl, sym, ap, ◌∙◌, arith, append-nil}
+use Rattle.std.specs.Prelude.{Option, None, ◌&&◌, ◌==◌, if◌then◌else◌}
 use Rattle.std.specs.List.{flat_map}
 use Rattle.std.proofs.lemmas.List.{drop_all}
 use Rattle.file_tree.specs.Tree.{Tree}
 use Rattle.file_tree.specs.declared.call.Call.{Call}
-use Rattle.file_tree.specs.declared.reply.Reply.{Reply}
-use Rattle.cluster_history.specs.History.{Replied, lost_count, any_drops}
-use Rattle.cluster_history.specs.declared.Item.{Item}
+use Rattle.cluster_history.specs.History.{lost_count, any_drops}
 use Rattle.trace_text.specs.declared.item.TraceItem.{TraceItem}
 use Rattle.trace_text.specs.declared.item.TraceItem.TheVariants as trace
 use Rattle.script_lang.specs.declared.script.Client.{Client}
@@ -19,8 +17,8 @@ use Rattle.run_rules.specs.History.{AllAnswered}
 use Rattle.single_node.specs.Run.{AnsweredCall, items_from, IsRunOf, NotJoined, Taken, Unmounted}
 use Rattle.cluster_program.specs.declared.status.Status.{Status}
 use Rattle.cluster_program.specs.declared.status.Status.TheVariants as status
-use Rattle.cluster_program.specs.Orders.{orders, line_for, with_line_for, Use, uses_from, uses, has_use_below}
-use Rattle.cluster_program.specs.Out.{is_stopped, is_done, answers, tells_down, down_line, down_lines, place_of_line}
+use Rattle.cluster_program.specs.Orders.{orders, line_for, with_line_for, uses_from, uses}
+use Rattle.cluster_program.specs.Out.{is_stopped, answers, down_line, down_lines}
 use Rattle.cluster_program.specs.Quiet.{IsQuiet}
 
 -- ---- the items of such a run: node 1 joins, answers calls, and may unmount

@@ -1,12 +1,12 @@
 -- How a run of a script ends.
-use Rattle.std.proofs.Common.{◌≡◌, ℕ, ◌≤◌, List, [], IsTrue, Some, refl, sym, ap, ◌∙◌, subst, arith}
+use Rattle.std.proofs.Common.{◌≡◌, ℕ, ◌≤◌, List, [], IsTrue, Some, sym, ◌∙◌, subst, arith}
 use Rattle.fault_counts.specs.Causes.{WentUp}
 use Rattle.file_tree.specs.Tree.{Tree}
 use Rattle.cluster_history.specs.History.{tree_of}
 use Rattle.trace_text.specs.declared.item.TraceItem.{TraceItem}
 use Rattle.script_lang.specs.Script.{ScriptValue}
 use Rattle.run_rules.specs.Follows.{history_of}
-use Rattle.run_rules.specs.History.{HoldsHistory, NoneStopped, AllAnswered}
+use Rattle.run_rules.specs.History.{HoldsHistory, NoneStopped}
 use Rattle.run_rules.proofs.Nothing.{nothing_follows}
 use Rattle.shared_disk.specs.Disk.{DiskState}
 use Rattle.single_node.specs.Flat.{IsFlat, HasFlatRoot, LacksFlatRoot, IsStart}

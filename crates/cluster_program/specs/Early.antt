@@ -1,5 +1,5 @@
 -- What status an early end of a part has.
-use Rattle.std.specs.Prelude.{Some, Option}
+use Rattle.std.specs.Prelude.{Some}
 use Rattle.script_lang.specs.declared.parser.ScriptRefusal.{ScriptRefusal}
 use Rattle.script_lang.specs.declared.parser.ScriptRefusal.TheVariants as refusal
 use Rattle.single_node.specs.declared.end.RunEnd.{RunEnd}

@@ -1,5 +1,5 @@
 -- What a run prints for its clients.
-use Rattle.std.specs.Prelude.{ℕ, zero, suc, ◌+◌, ◌==◌, ◌||◌, Bool, true, false, List, [], ◌∷◌, ◌++◌, length, drop, codes, count_by, if◌then◌else◌}
+use Rattle.std.specs.Prelude.{ℕ, zero, suc, ◌==◌, ◌||◌, Bool, true, false, List, [], ◌∷◌, ◌++◌, length, drop, codes, count_by, if◌then◌else◌}
 use Rattle.std.specs.List.{flat_map}
 use Rattle.text_words.specs.Words.{number}
 use Rattle.file_tree.specs.CallText.{call_text, reply_text}
@@ -7,7 +7,7 @@ use Rattle.file_tree.specs.declared.call.Call.{Call}
 use Rattle.file_tree.specs.declared.reply.Reply.{Reply}
 use Rattle.trace_text.specs.declared.item.TraceItem.{TraceItem}
 use Rattle.trace_text.specs.declared.item.TraceItem.TheVariants as trace
-use Rattle.script_lang.specs.Script.{ScriptValue, call_by, calls_by}
+use Rattle.script_lang.specs.Script.{ScriptValue, calls_by}
 use Rattle.script_lang.specs.declared.script.Client.{Client}
 use Rattle.script_lang.specs.declared.script.Line.{Line}
 use Rattle.script_lang.specs.declared.script.Line.TheVariants as line

@@ -1,8 +1,8 @@
-use Rattle.std.proofs.Common.{rules, ◌≡◌, ℕ, ◌≤◌, ◌+◌, List, [], ◌++◌, length, take, drop, ◌-◌, subst, sym, ap, ◌∙◌, arith, length-drop, length-take}
+use Rattle.std.proofs.Common.{◌≡◌, ℕ, List, length, drop, ◌-◌, subst, ap, ◌∙◌, arith, length-drop, length-take}
 use Rattle.script_lang.specs.Script.{ScriptValue}
 use Rattle.script_lang.specs.declared.script.Client.{Client}
 use Rattle.cluster_program.specs.Out.{answered_lines, all_lines}
-use Rattle.cluster_program.specs.Streams.{PassesOn, Passes}
+use Rattle.cluster_program.specs.Streams.{Passes}
 use Rattle.cluster_program.proofs.Passing.{step_more, step_cut}
 use Rattle.cluster_program.proofs.ClientLines.{next_client}
 use Rattle.cluster_program.proofs.output.put_all_lines.Goals as goal

@@ -1,4 +1,4 @@
-use Rattle.std.proofs.Common.{rules, ◌≡◌, ℕ, ◌≤◌, List, [], ◌∷◌, ◌++◌, length, take, drop, ◌-◌, arith}
+use Rattle.std.proofs.Common.{arith}
 use Rattle.cluster_program.specs.Out.{item_line, answered_lines}
 use Rattle.cluster_program.proofs.Passing.{step_more, step_cut, pieces}
 use Rattle.cluster_program.proofs.output.put_answered_lines.Goals as goal

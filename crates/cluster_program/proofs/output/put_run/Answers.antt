@@ -1,4 +1,4 @@
-use Rattle.std.proofs.Common.{◌≡◌, ℕ, List, [], ◌++◌}
+use Rattle.std.proofs.Common.{◌++◌}
 use Rattle.cluster_program.specs.Out.{all_lines, counts_line}
 use Rattle.cluster_program.specs.StatusText.{status_lines}
 use Rattle.cluster_program.proofs.Passing.{cut_short, only_held, then_passes}

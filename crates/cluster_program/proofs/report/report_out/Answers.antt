@@ -1,6 +1,6 @@
 use Rattle.std.proofs.Common.{refl, subst}
 use Rattle.cluster_program.specs.Streams.{FaultRose}
-use Rattle.cluster_program.specs.Report.{Becomes, Fails}
+use Rattle.cluster_program.specs.Report.{Fails}
 use Rattle.cluster_program.proofs.Courses.{never_both}
 use Rattle.cluster_program.proofs.Faults.{went_up}
 use Rattle.cluster_program.proofs.report.report_out.Goals as goal

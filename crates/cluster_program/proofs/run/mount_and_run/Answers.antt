@@ -1,8 +1,6 @@
-use Rattle.std.proofs.Common.{◌≡◌, ℕ, ◌≤◌, List, [], refl, subst, sym, ap, ◌∙◌, arith}
-use Rattle.trace_text.specs.declared.item.TraceItem.{TraceItem}
-use Rattle.cluster_program.specs.declared.status.Status.{Status}
+use Rattle.std.proofs.Common.{subst, sym, ◌∙◌}
 use Rattle.cluster_program.specs.declared.status.Status.TheVariants as status
-use Rattle.cluster_program.specs.Course.{Runs, RunEnds, IsDone}
+use Rattle.cluster_program.specs.Course.{RunEnds, IsDone}
 use Rattle.cluster_program.proofs.Runs.{mount_end, call_end, no_items, ran, never_done}
 use Rattle.cluster_program.proofs.Quiet.{quiet, NoItems, answers_of_run}
 use Rattle.cluster_program.proofs.run.mount_and_run.Goals as goal

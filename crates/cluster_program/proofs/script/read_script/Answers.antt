@@ -1,7 +1,7 @@
 use Rattle.std.proofs.Common.{◌≡◌, ℕ, List, subst, sym}
 use Rattle.script_lang.specs.Grammar.{script_read, Script}
 use Rattle.script_lang.specs.Reading.{IsRefusal}
-use Rattle.cluster_program.specs.Course.{LacksScript, HasRead, NotBuiltYet, NoRoom}
+use Rattle.cluster_program.specs.Course.{LacksScript, NotBuiltYet}
 use Rattle.cluster_program.proofs.Scripts.{unread, refused, read_whole}
 use Rattle.cluster_program.proofs.script.read_script.Goals as goal
 

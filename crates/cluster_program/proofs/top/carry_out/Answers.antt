@@ -1,4 +1,4 @@
-use Rattle.std.proofs.Common.{◌≡◌, ℕ, List, [], refl, subst, sym, ap, ◌∙◌, map}
+use Rattle.std.proofs.Common.{◌≡◌, ℕ, refl, subst, map}
 use Rattle.std.specs.Prelude.{string_bytes, None, Some}
 use Rattle.cluster_program.specs.Course.{RefusesWords, NoScript, RunsScript, words_refusal}
 use Rattle.cluster_program.proofs.Courses.{course_of}

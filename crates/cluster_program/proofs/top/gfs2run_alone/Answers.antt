@@ -1,4 +1,4 @@
-use Rattle.std.proofs.Common.{◌≡◌, List, sym, subst, map}
+use Rattle.std.proofs.Common.{List, sym, subst, map}
 use Rattle.std.specs.Prelude.{string_bytes}
 use Rattle.trace_text.specs.declared.item.TraceItem.{TraceItem}
 use Rattle.cluster_program.specs.Quiet.{IsQuiet}
