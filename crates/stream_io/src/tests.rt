@@ -1,9 +1,11 @@
 // What sources and sinks give and take call by call, worked out by hand.
 ghost use Rattle.std.specs.Prelude.{◌≡◌, ◌+◌, Some};
 
-use crate::{Failed, MemSink, MemSource, Sink, Source, put_all};
+use crate::{Failed, MemSink, MemSource, Sink, Source, StdSink, StdSource, put_all};
 use std::alloc::Global;
+use std::fs::File;
 use std::test::Fail;
+use std::{env, fs, process};
 
 // What each of six calls gives with room for four bytes, and the faults so far.
 const TAKES: [(Result<&[u8], Failed>, u64); 6] = [
@@ -102,4 +104,27 @@ fn all_is_put_byte_by_byte(rt: HostRuntime) {
         assert_eq!(rt; bytes.as_slice(), want);
         assert_eq!(rt; (failed, put), (faults, all));
     }
+}
+
+// What is put into a file's sink is taken from its source; a file that is open for the other way fails.
+#[test]
+fn files_are_put_and_taken(rt: HostRuntime) -> Result<(), Fail> {
+    let name = format!(in rt.alloc(); "stream_io-{}", process::id(rt.process()))?;
+    let path = env::temp_dir(&rt)?.join(rt.alloc(), name.as_str())?;
+    let path = path.as_str();
+    let mut sink = StdSink::new(File::create(&rt, path)?);
+    assert_eq!(rt; put_all(&mut sink, b"hello"), Ok(()));
+    let mut taken = [0; 8];
+    let mut source = StdSource::new(File::open(&rt, path)?);
+    assert_eq!(rt; source.take(&mut taken), Ok(5));
+    assert_eq!(rt; &taken[..5], b"hello".as_slice());
+    assert_eq!(rt; source.take(&mut taken), Ok(0));
+    let mut wrong_sink = StdSink::new(File::open(&rt, path)?);
+    assert_eq!(rt; wrong_sink.put(b"x"), Err(Failed));
+    let mut wrong_source = StdSource::new(File::create(&rt, path)?);
+    assert_eq!(rt; wrong_source.take(&mut taken), Err(Failed));
+    assert_eq!(rt; (sink.faults(), source.faults()), (0, 0));
+    assert_eq!(rt; (wrong_sink.faults(), wrong_source.faults()), (1, 1));
+    fs::remove_file(&rt, path)?;
+    Ok(())
 }
