@@ -1,2 +1,4 @@
 pub mod Faults
 pub mod Records
+pub mod InPlace
+pub mod FieldsInPlace

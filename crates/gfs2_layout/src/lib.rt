@@ -5,6 +5,7 @@ mod area;
 mod dinode;
 mod dirent;
 mod fault;
+mod fields;
 mod header;
 mod inum;
 mod numbers;

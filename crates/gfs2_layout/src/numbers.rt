@@ -1,5 +1,6 @@
 ghost use Rattle.std.specs.Prelude.{◌≡◌, ◌+◌, ◌≤◌, length};
-ghost use Rattle.gfs2_layout.specs.Bytes.{u16_at as number_16, u32_at as number_32, u64_at as number_64, slice};
+ghost use Rattle.gfs2_layout.specs.Bytes.{u16_at as number_16, u32_at as number_32, u64_at as number_64, slice, with_number};
+ghost use Rattle.std.specs.Int.{w16, w32, w64};
 
 #[tactic(auto, unfolding(crate::specs::Bytes::number_at))]
 pub(crate) fn u16_at(bytes: &[u8], at: usize) -> u16
@@ -37,4 +38,28 @@ pub(crate) fn bytes_at<const N: usize>(bytes: &[u8], at: usize) -> [u8; N]
     let mut part = [0u8; N];
     part.copy_from_slice(&bytes[at..at + N]);
     part
+}
+
+#[tactic(auto, unfolding(crate::specs::Bytes::with_number))]
+pub(crate) fn put_u16(bytes: &mut [u8], at: usize, number: u16)
+    requires { at + 2 ≤ length bytes.old }
+    ensures { bytes.new ≡ with_number w16 at number bytes.old }
+{
+    bytes[at..at + 2].copy_from_slice(&number.to_be_bytes());
+}
+
+#[tactic(auto, unfolding(crate::specs::Bytes::with_number))]
+pub(crate) fn put_u32(bytes: &mut [u8], at: usize, number: u32)
+    requires { at + 4 ≤ length bytes.old }
+    ensures { bytes.new ≡ with_number w32 at number bytes.old }
+{
+    bytes[at..at + 4].copy_from_slice(&number.to_be_bytes());
+}
+
+#[tactic(auto, unfolding(crate::specs::Bytes::with_number))]
+pub(crate) fn put_u64(bytes: &mut [u8], at: usize, number: u64)
+    requires { at + 8 ≤ length bytes.old }
+    ensures { bytes.new ≡ with_number w64 at number bytes.old }
+{
+    bytes[at..at + 8].copy_from_slice(&number.to_be_bytes());
 }
