@@ -3,16 +3,13 @@ use Rattle.std.proofs.Common.{◌≡◌, ℕ, zero, suc, ◌+◌, ◌*◌, ◌^�
 use Rattle.std.specs.Prelude.{◌&&◌, ◌||◌, nat_le}
 use Rattle.std.proofs.lemmas.Bool.Decides.{nat_tests}
 use Rattle.std.proofs.lemmas.List.{drop_more, drop_all}
+use Rattle.std.specs.List.{AllByRecursion}
 use Rattle.std.specs.Int.{Width, byte_len}
 use Rattle.gfs2_layout.specs.Bytes.{slice, number_at}
-use Rattle.gfs2_layout.specs.Fields.{Field, width_of, value_of, end_of, with_field, with_fields}
+use Rattle.gfs2_layout.specs.Fields.{Field, HasItsWidth, width_of, value_of, end_of, with_field, with_fields}
 use Rattle.gfs2_layout.specs.declared.fields.Number.{Number}
 use Rattle.gfs2_layout.specs.declared.fields.Number.TheVariants.{U16, U32, U64}
 use Rattle.gfs2_layout.proofs.InPlace.{IsWidth, is_width_16, is_width_32, is_width_64, length-with, number-with_same, slice-with_other, number-with_other, drop-with}
-
--- a number below the bound of its width
-abbrev pub Fits : Number → Type 0
-Fits number = value_of number < 2 ^ (8 * byte_len (width_of number))
 
 pub is_width : (number : Number) → IsWidth (width_of number)
 is_width (U16 n) = is_width_16
@@ -75,14 +72,14 @@ drop-fields (f ∷ fs) bytes fits k h =
     ∙ drop-with (width_of f.1) f.0 (value_of f.1) bytes (is_width f.1) (here_ends f fs (length bytes) fits).0 k (here_ends f fs k h).0
 
 -- each field is read where it stands
-pub field-read : (fs : List Field) (i : ℕ) (d : Field) (bytes : List ℕ) → end_of fs ≤ length bytes → is_last_word i fs ≡ true → Fits (get_or fs i d).1
+pub field-read : (fs : List Field) (i : ℕ) (d : Field) (bytes : List ℕ) → end_of fs ≤ length bytes → AllByRecursion HasItsWidth fs → is_last_word i fs ≡ true
     → number_at (width_of (get_or fs i d).1) (get_or fs i d).0 (with_fields fs bytes) ≡ value_of (get_or fs i d).1
 unfolding with_fields
-field-read [] i d bytes fits alone low = absurd cc
-field-read (f ∷ fs) zero d bytes fits alone low =
-    number-fields_other fs (with_field f bytes) (room_on f fs bytes fits) (width_of f.1) f.0 alone
-    ∙ number-with_same (width_of f.1) f.0 (value_of f.1) bytes (is_width f.1) (here_ends f fs (length bytes) fits).0 low
-field-read (f ∷ fs) (suc i) d bytes fits alone low = field-read fs i d (with_field f bytes) (room_on f fs bytes fits) alone low
+field-read [] i d bytes room low alone = absurd cc
+field-read (f ∷ fs) zero d bytes room low alone =
+    number-fields_other fs (with_field f bytes) (room_on f fs bytes room) (width_of f.1) f.0 alone
+    ∙ number-with_same (width_of f.1) f.0 (value_of f.1) bytes (is_width f.1) (here_ends f fs (length bytes) room).0 low.0
+field-read (f ∷ fs) (suc i) d bytes room low alone = field-read fs i d (with_field f bytes) (room_on f fs bytes room) low.1 alone
 
 -- a loop over the fields, one field on
 pub fields_on : (all : List Field) (i : ℕ) (d : Field) (before after first : List ℕ) → i < length all → after ≡ with_field (get_or all i d) before
@@ -99,3 +96,10 @@ room_for all i d n h room =
 pub no_fields : (all : List Field) (i : ℕ) (bytes : List ℕ) → length all ≤ i → with_fields (drop i all) bytes ≡ bytes
 unfolding with_fields
 no_fields all i bytes h = ap (λ (fs : List Field). with_fields fs bytes) (drop_all i all h)
+
+pub widths_on : (all : List Field) (i : ℕ) (d : Field) → i < length all → HasItsWidth (get_or all i d) → (AllByRecursion HasItsWidth (drop i all) → AllByRecursion HasItsWidth all)
+    → AllByRecursion HasItsWidth (drop (i + 1) all) → AllByRecursion HasItsWidth all
+widths_on all i d h here so later = so (subst (AllByRecursion HasItsWidth) (sym (drop_more all i d h)) (here, later))
+
+pub widths_end : (all : List Field) (i : ℕ) → length all ≤ i → (AllByRecursion HasItsWidth (drop i all) → AllByRecursion HasItsWidth all) → AllByRecursion HasItsWidth all
+widths_end all i h so = so (subst (AllByRecursion HasItsWidth) (sym (drop_all i all h)) tt)

@@ -2,3 +2,4 @@ pub mod Faults
 pub mod Records
 pub mod InPlace
 pub mod FieldsInPlace
+pub mod ReadBack

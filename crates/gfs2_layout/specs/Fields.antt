@@ -1,5 +1,5 @@
 -- A structure as its fields: each is a place and a number, whose width is told with it.
-use Rattle.std.specs.Prelude.{ℕ, ◌+◌, max, List, [], ◌∷◌}
+use Rattle.std.specs.Prelude.{ℕ, ◌+◌, ◌*◌, ◌^◌, ◌<◌, max, List, [], ◌∷◌}
 use Rattle.std.specs.Int.{Width, w16, w32, w64, byte_len}
 use Rattle.gfs2_layout.specs.Bytes.{with_number}
 use Rattle.gfs2_layout.specs.declared.fields.Number.{Number}
@@ -17,6 +17,10 @@ abbrev pub value_of : Number → ℕ
 value_of (U16 n) = n
 value_of (U32 n) = n
 value_of (U64 n) = n
+
+-- the number is below the bound of its width
+abbrev pub HasItsWidth : Field → Type 0
+HasItsWidth f = value_of f.1 < 2 ^ (8 * byte_len (width_of f.1))
 
 -- the place behind the last of the fields
 abbrev pub end_of : List Field → ℕ

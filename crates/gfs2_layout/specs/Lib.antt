@@ -1,4 +1,5 @@
 pub mod Bytes
 pub mod Fields
 pub mod Structures
+pub mod Writing
 pub mod Area

@@ -1,5 +1,6 @@
 ghost use Rattle.std.specs.Prelude.{◌≡◌, ◌≤◌, length, ◌∷◌, []};
-ghost use Rattle.gfs2_layout.specs.Fields.{end_of, with_field, with_fields};
+ghost use Rattle.gfs2_layout.specs.Fields.{HasItsWidth, end_of, with_field, with_fields};
+ghost use Rattle.std.specs.List.{AllByRecursion};
 
 use crate::numbers::{put_u16, put_u32, put_u64};
 
@@ -13,7 +14,8 @@ pub(crate) enum Number {
 
 fn put_field(bytes: &mut [u8], field: (usize, Number))
     requires { end_of (field ∷ []) ≤ length bytes.old }
-    ensures { bytes.new ≡ with_field field bytes.old }
+    ensures bytes { bytes.new ≡ with_field field bytes.old }
+    ensures width { HasItsWidth field }
 {
     let (at, number) = field;
     match number {
@@ -26,7 +28,8 @@ fn put_field(bytes: &mut [u8], field: (usize, Number))
 /// Writes the fields of a structure, each at its place.
 pub(crate) fn put_fields(bytes: &mut [u8], fields: &[(usize, Number)])
     requires { end_of fields.now ≤ length bytes.old }
-    ensures { bytes.new ≡ with_fields fields.now bytes.old }
+    ensures bytes { bytes.new ≡ with_fields fields.now bytes.old }
+    ensures widths { AllByRecursion HasItsWidth fields.now }
 {
     for field in fields {
         put_field(bytes, *field);
