@@ -1,11 +1,11 @@
 -- The fields of a structure in place: each is read again, and what is beside them all stays.
-use Rattle.std.proofs.Common.{◌≡◌, ℕ, zero, suc, ◌+◌, ◌*◌, ◌^◌, ◌≤◌, ◌<◌, ◌⊎◌, Bool, true, false, List, [], ◌∷◌, length, drop, get_or, refl, sym, ap, subst, ◌∙◌, arith}
+use Rattle.std.proofs.Common.{◌≡◌, ℕ, zero, suc, ◌+◌, ◌*◌, ◌^◌, ◌≤◌, ◌<◌, ◌⊎◌, inr, Bool, true, false, List, [], ◌∷◌, length, drop, get_or, refl, sym, ap, subst, ◌∙◌, arith}
 use Rattle.std.specs.Prelude.{◌&&◌, ◌||◌, nat_le}
 use Rattle.std.proofs.lemmas.Bool.Decides.{nat_tests}
 use Rattle.std.proofs.lemmas.List.{drop_more, drop_all}
 use Rattle.std.specs.List.{AllByRecursion}
-use Rattle.std.specs.Int.{Width, byte_len}
-use Rattle.gfs2_layout.specs.Bytes.{slice, number_at}
+use Rattle.std.specs.Int.{Width, w32, byte_len}
+use Rattle.gfs2_layout.specs.Bytes.{slice, number_at, with_number}
 use Rattle.gfs2_layout.specs.Fields.{Field, HasItsWidth, width_of, value_of, end_of, with_field, with_fields}
 use Rattle.gfs2_layout.specs.declared.fields.Number.{Number}
 use Rattle.gfs2_layout.specs.declared.fields.Number.TheVariants.{U16, U32, U64}
@@ -80,6 +80,20 @@ field-read (f ∷ fs) zero d bytes room low alone =
     number-fields_other fs (with_field f bytes) (room_on f fs bytes room) (width_of f.1) f.0 alone
     ∙ number-with_same (width_of f.1) f.0 (value_of f.1) bytes (is_width f.1) (here_ends f fs (length bytes) room).0 low.0
 field-read (f ∷ fs) (suc i) d bytes room low alone = field-read fs i d (with_field f bytes) (room_on f fs bytes room) low.1 alone
+
+field_before_end : (fs : List Field) (i : ℕ) (d : Field) → is_last_word i fs ≡ true → field_end (get_or fs i d) ≤ end_of fs
+field_before_end [] i d alone = absurd cc
+field_before_end (f ∷ fs) zero d alone = omega arith
+field_before_end (f ∷ fs) (suc i) d alone = omega (arith, field_before_end fs i d alone)
+
+-- and also under a number that is put behind them all
+pub field-under : (fs : List Field) (i : ℕ) (d : Field) (at n : ℕ) (bytes : List ℕ) → end_of fs ≤ at → at + 4 ≤ length bytes → AllByRecursion HasItsWidth fs → is_last_word i fs ≡ true
+    → number_at (width_of (get_or fs i d).1) (get_or fs i d).0 (with_number w32 at n (with_fields fs bytes)) ≡ value_of (get_or fs i d).1
+field-under fs i d at n bytes before room widths alone =
+    let room_for_all : end_of fs ≤ length bytes = omega (arith, before, room) in
+    let room_behind : at + 4 ≤ length (with_fields fs bytes) = omega (arith, room, length-fields fs bytes room_for_all) in
+    number-with_other w32 at n (with_fields fs bytes) is_width_32 room_behind (width_of (get_or fs i d).1) (get_or fs i d).0 (inr (omega (arith, before, field_before_end fs i d alone)))
+    ∙ field-read fs i d bytes room_for_all widths alone
 
 -- a loop over the fields, one field on
 pub fields_on : (all : List Field) (i : ℕ) (d : Field) (before after first : List ℕ) → i < length all → after ≡ with_field (get_or all i d) before

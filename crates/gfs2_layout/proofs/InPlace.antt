@@ -77,3 +77,19 @@ module _ (w : Width) (at n : ℕ) (bytes : List ℕ) (is : IsWidth w) (fits : at
   pub drop-with : (k : ℕ) → at + byte_len w ≤ k → drop k (with_number w at n bytes) ≡ drop k bytes
   unfolding with_number
   drop-with k h = drop-put at (to_be_bytes w n) bytes room k (omega (arith, is.long n, h))
+
+  -- a number put at one place twice, in the first `k` bytes: the first time is forgotten
+  pub with-again : (m k : ℕ) → at + byte_len w ≤ k → k ≤ length bytes → with_number w at m (take k (with_number w at n bytes)) ≡ with_number w at m (take k bytes)
+  unfolding with_number
+  with-again m k within long =
+      let q = to_be_bytes w n in
+      let p = to_be_bytes w m in
+      let d : ℕ = k - (at + length p) in
+      let e : k ≡ (at + length p) + d = omega (arith, within, is.long m) in
+      let before : take at (take k (put_at at q bytes)) ≡ take at (take k bytes) =
+      take-take at k (put_at at q bytes) (omega (arith, within)) ∙ take_at (take at bytes) (q ++ drop (at + length q) bytes) at (front at q bytes room) ∙ sym (take-take at k bytes (omega (arith, within))) in
+      let behind : drop (at + length p) (take k (put_at at q bytes)) ≡ drop (at + length p) (take k bytes) =
+      ap (λ z. drop (at + length p) (take z (put_at at q bytes))) e ∙ drop-take (at + length p) d (put_at at q bytes)
+      ∙ ap (take d) (drop-put at q bytes room (at + length p) (omega (arith, is.long m, is.long n)))
+      ∙ sym (drop-take (at + length p) d bytes) ∙ ap (λ z. drop (at + length p) (take z bytes)) (sym e) in
+      (λ i. before i ++ (p ++ behind i))

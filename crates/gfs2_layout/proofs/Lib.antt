@@ -3,3 +3,4 @@ pub mod Records
 pub mod InPlace
 pub mod FieldsInPlace
 pub mod ReadBack
+pub mod ReadBackMore

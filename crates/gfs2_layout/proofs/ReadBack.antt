@@ -15,7 +15,7 @@ use Rattle.gfs2_layout.proofs.FieldsInPlace.{field-read, length-fields, slice-fi
 use Rattle.gfs2_layout.proofs.InPlace.{slice-put_same, slice-put_before, drop-put, length-put}
 use Rattle.gfs2_layout.specs.declared.superblock.SuperBlock.{SuperBlock}
 
-no_length_fault : (needed : ℕ) (bytes : List ℕ) → needed ≤ length bytes → length_fault needed bytes ≡ None
+pub no_length_fault : (needed : ℕ) (bytes : List ℕ) → needed ≤ length bytes → length_fault needed bytes ≡ None
 no_length_fault needed bytes long = grind (arith, nat_tests)
 
 no_magic_fault : (bytes : List ℕ) → u32_at 0 bytes ≡ magic → magic_fault bytes ≡ None

@@ -1,5 +1,6 @@
 ghost use Rattle.std.specs.Prelude.{◌≡◌, ◌+◌, ◌^◌, ◌<◌, ◌≤◌, length};
 ghost use Rattle.gfs2_layout.specs.Bytes.{u16_at as number_16, u32_at as number_32, u64_at as number_64, put_at, slice, with_number};
+ghost use Rattle.gfs2_layout.specs.Writing.{zeros_from};
 ghost use Rattle.std.specs.Int.{w16, w32, w64};
 
 #[tactic(auto, unfolding(crate::specs::Bytes::number_at))]
@@ -73,4 +74,12 @@ pub(crate) fn put_bytes(bytes: &mut [u8], at: usize, part: &[u8])
     ensures { bytes.new ≡ put_at at part.now bytes.old }
 {
     bytes[at..at + part.len()].copy_from_slice(part);
+}
+
+/// Zeros from a place on.
+pub(crate) fn put_zeros(bytes: &mut [u8], at: usize)
+    requires { at ≤ length bytes.old }
+    ensures { bytes.new ≡ zeros_from at bytes.old }
+{
+    bytes[at..].fill(0);
 }
