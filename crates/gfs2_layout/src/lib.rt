@@ -30,3 +30,5 @@ pub use superblock::SuperBlock;
 
 #[cfg(test)]
 mod tests;
+#[cfg(test)]
+mod write_tests;
