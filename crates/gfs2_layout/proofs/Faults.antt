@@ -1,5 +1,5 @@
 -- A structure is answered where no check fails.
-use Rattle.std.proofs.Common.{◌≡◌, Option, None, Result, Ok, refl, sym, ap, ◌∙◌}
+use Rattle.std.proofs.Common.{◌≡◌, Option, None, Ok, ap, ◌∙◌}
 use Rattle.gfs2_layout.specs.declared.fault.LayoutFault.{LayoutFault}
 use Rattle.gfs2_layout.specs.Structures.{answer}
 

@@ -1,2 +1,6 @@
 pub mod Faults
 pub mod Records
+pub mod InPlace
+pub mod FieldsInPlace
+pub mod ReadBack
+pub mod ReadBackMore

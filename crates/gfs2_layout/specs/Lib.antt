@@ -1,3 +1,6 @@
 pub mod Bytes
+pub mod Fields
+pub mod Checksum
 pub mod Structures
+pub mod Writing
 pub mod Area

@@ -1,13 +1,18 @@
 -- The structures on a block, by their bytes, and the faults of reading them. Places are in bytes from the structure's start.
-use Rattle.std.specs.Prelude.{ℕ, ◌+◌, ◌/◌, ◌==◌, ◌&&◌, not, nat_lt, Bool, if◌then◌else◌, List, length, Option, None, Some, Result, Ok, Err}
+use Rattle.std.specs.Prelude.{ℕ, ◌+◌, ◌/◌, ◌%◌, ◌==◌, ◌&&◌, not, nat_lt, Bool, if◌then◌else◌, List, length, Option, None, Some, Result, Ok, Err}
 use Rattle.gfs2_layout.specs.Bytes.{slice, u16_at, u32_at, u64_at}
+use Rattle.gfs2_layout.specs.Checksum.{checksum_of}
 use Rattle.gfs2_layout.specs.declared.fault.LayoutFault.{LayoutFault}
-use Rattle.gfs2_layout.specs.declared.fault.LayoutFault.TheVariants.{Short, Magic, Kind, Format, Value}
+use Rattle.gfs2_layout.specs.declared.fault.LayoutFault.TheVariants.{Short, Magic, Kind, Format, Value, Hash}
 use Rattle.gfs2_layout.specs.declared.header.MetaHeader.{MetaHeader}
 use Rattle.gfs2_layout.specs.declared.inum.Inum.{Inum}
 use Rattle.gfs2_layout.specs.declared.superblock.SuperBlock.{SuperBlock}
 use Rattle.gfs2_layout.specs.declared.dinode.Dinode.{Dinode}
 use Rattle.gfs2_layout.specs.declared.dirent.Dirent.{Dirent}
+use Rattle.gfs2_layout.specs.declared.rindex.Rindex.{Rindex}
+use Rattle.gfs2_layout.specs.declared.group_header.GroupHeader.{GroupHeader}
+use Rattle.gfs2_layout.specs.declared.leaf.Leaf.{Leaf}
+use Rattle.gfs2_layout.specs.declared.log_header.LogHeader.{LogHeader}
 
 -- ---- faults: that of the first check that fails
 
@@ -127,3 +132,62 @@ kind_fault d = if is_in_use d && not (d.kind == 4) && not (d.kind == 8) then Som
 
 abbrev pub dirent_read : List ℕ → Result Dirent LayoutFault
 dirent_read bytes = answer (or_else (length_fault 40 bytes) (kind_fault (dirent_of bytes))) (dirent_of bytes)
+
+-- an entry of the list of groups has no header
+abbrev pub rindex_of : List ℕ → Rindex
+rindex_of bytes = record {
+  address = u64_at 0 bytes;
+  length = u32_at 8 bytes;
+  data0 = u64_at 16 bytes;
+  data_blocks = u32_at 24 bytes;
+  bitbytes = u32_at 28 bytes;
+}
+
+abbrev pub rindex_read : List ℕ → Result Rindex LayoutFault
+rindex_read bytes = answer (length_fault 96 bytes) (rindex_of bytes)
+
+abbrev pub group_of : List ℕ → GroupHeader
+group_of bytes = record {
+  flags = u32_at 24 bytes;
+  free = u32_at 28 bytes;
+  dinodes = u32_at 32 bytes;
+  skip = u32_at 36 bytes;
+  igeneration = u64_at 40 bytes;
+  data0 = u64_at 48 bytes;
+  data_blocks = u32_at 56 bytes;
+  bitbytes = u32_at 60 bytes;
+}
+
+-- its checksum is not looked at
+abbrev pub group_read : List ℕ → Result GroupHeader LayoutFault
+group_read bytes = answer (header_fault 128 2 200 bytes) (group_of bytes)
+
+abbrev pub leaf_of : List ℕ → Leaf
+leaf_of bytes = record {
+  depth = u16_at 24 bytes;
+  entries = u16_at 26 bytes;
+  next = u64_at 32 bytes;
+}
+
+-- a leaf says of which format its records are
+abbrev pub records_fault : List ℕ → Option LayoutFault
+records_fault bytes = if u32_at 28 bytes == 1200 then None else Some (Value 28 (u32_at 28 bytes))
+
+abbrev pub leaf_read : List ℕ → Result Leaf LayoutFault
+leaf_read bytes = answer (or_else (header_fault 104 6 600 bytes) (records_fault bytes)) (leaf_of bytes)
+
+-- the lowest flag of a log header is that of a clean journal
+abbrev pub log_of : List ℕ → LogHeader
+log_of bytes = record {
+  jid = u32_at 20 bytes;
+  sequence = u64_at 24 bytes;
+  clean = u32_at 32 bytes % 2 == 1;
+  tail = u32_at 36 bytes;
+  blkno = u32_at 40 bytes;
+}
+
+abbrev pub hash_fault : List ℕ → Option LayoutFault
+hash_fault bytes = if u32_at 44 bytes == checksum_of 48 44 bytes then None else Some (Hash (u32_at 44 bytes) (checksum_of 48 44 bytes))
+
+abbrev pub log_read : List ℕ → Result LogHeader LayoutFault
+log_read bytes = answer (or_else (header_fault 48 8 800 bytes) (hash_fault bytes)) (log_of bytes)

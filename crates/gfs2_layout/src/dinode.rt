@@ -1,6 +1,8 @@
-ghost use Rattle.std.specs.Prelude.{◌≡◌, ◌≤◌, length};
+ghost use Rattle.std.specs.Prelude.{◌≡◌, ◌≤◌, length, drop, Ok};
 
-use crate::header::fault_of_header;
+use crate::fields::Number::{U16, U32, U64};
+use crate::fields::put_fields;
+use crate::header::{MAGIC, fault_of_header};
 use crate::numbers::{u16_at, u32_at, u64_at};
 use crate::{Inum, LayoutFault};
 
@@ -37,6 +39,7 @@ pub struct Dinode {
 
 impl Dinode {
     ghost use Rattle.gfs2_layout.specs.Structures.{dinode_of, dinode_read, is_directory, is_regular};
+    ghost use Rattle.gfs2_layout.specs.Writing.{dinode_put};
 
     /// Reads a dinode. Faults: `Short` below 232 bytes, `Magic`, `Kind` other than 4, `Format` other than
     /// 400.
@@ -79,6 +82,47 @@ impl Dinode {
             mtime_nsec: u32_at(bytes, 180),
             ctime_nsec: u32_at(bytes, 184),
         }
+    }
+
+    /// Writes the dinode. Pads and the reserved bytes keep theirs.
+    pub fn write(&self, bytes: &mut [u8])
+        requires { 232 ≤ length bytes.old }
+        ensures bytes { bytes.new ≡ dinode_put self.now bytes.old }
+        ensures read { dinode_read bytes.new ≡ Ok self.now }
+        ensures behind { drop 232 bytes.new ≡ drop 232 bytes.old }
+    {
+        let fields = [
+            (0, U32(MAGIC)),
+            (4, U32(4)),
+            (16, U32(400)),
+            (20, U32(0)),
+            (24, U64(self.num.number)),
+            (32, U64(self.num.address)),
+            (40, U32(self.mode)),
+            (44, U32(self.uid)),
+            (48, U32(self.gid)),
+            (52, U32(self.nlink)),
+            (56, U64(self.size)),
+            (64, U64(self.blocks)),
+            (72, U64(self.atime)),
+            (80, U64(self.mtime)),
+            (88, U64(self.ctime)),
+            (96, U32(self.major)),
+            (100, U32(self.minor)),
+            (104, U64(self.goal_meta)),
+            (112, U64(self.goal_data)),
+            (120, U64(self.generation)),
+            (128, U32(self.flags)),
+            (132, U32(self.payload_format)),
+            (138, U16(self.height)),
+            (146, U16(self.depth)),
+            (148, U32(self.entries)),
+            (168, U64(self.eattr)),
+            (176, U32(self.atime_nsec)),
+            (180, U32(self.mtime_nsec)),
+            (184, U32(self.ctime_nsec)),
+        ];
+        put_fields(bytes, &fields);
     }
 
     /// Whether the mode is a directory's.

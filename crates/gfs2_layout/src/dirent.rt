@@ -1,5 +1,7 @@
-ghost use Rattle.std.specs.Prelude.{◌≡◌, ◌≤◌, length};
+ghost use Rattle.std.specs.Prelude.{◌≡◌, ◌≤◌, length, drop};
 
+use crate::fields::Number::{U16, U32, U64};
+use crate::fields::put_fields;
 use crate::numbers::{u16_at, u32_at};
 use crate::{Inum, LayoutFault};
 
@@ -18,7 +20,8 @@ pub struct Dirent {
 }
 
 impl Dirent {
-    ghost use Rattle.gfs2_layout.specs.Structures.{dirent_of, dirent_read, is_in_use};
+    ghost use Rattle.gfs2_layout.specs.Structures.{answer, dirent_of, dirent_read, is_in_use, kind_fault};
+    ghost use Rattle.gfs2_layout.specs.Writing.{dirent_put};
 
     /// Reads the head of a record. Faults: `Short` below 40 bytes, `Value` at place 24 where a record in
     /// use has another kind than 4 and 8.
@@ -51,6 +54,25 @@ impl Dirent {
             kind: u16_at(bytes, 24),
             rahead: u16_at(bytes, 26),
         }
+    }
+
+    /// Writes the head of a record. The pad keeps its bytes.
+    pub fn write(&self, bytes: &mut [u8])
+        requires { 40 ≤ length bytes.old }
+        ensures bytes { bytes.new ≡ dirent_put self.now bytes.old }
+        ensures read { dirent_read bytes.new ≡ answer (kind_fault self.now) self.now }
+        ensures behind { drop 40 bytes.new ≡ drop 40 bytes.old }
+    {
+        let fields = [
+            (0, U64(self.inum.number)),
+            (8, U64(self.inum.address)),
+            (16, U32(self.hash)),
+            (20, U16(self.rec_len)),
+            (22, U16(self.name_len)),
+            (24, U16(self.kind)),
+            (26, U16(self.rahead)),
+        ];
+        put_fields(bytes, &fields);
     }
 
     /// Whether the record is in use: neither number of its inum is zero.

@@ -1,7 +1,9 @@
-ghost use Rattle.std.specs.Prelude.{◌≡◌, ◌≤◌, length, IfNone};
+ghost use Rattle.std.specs.Prelude.{◌≡◌, ◌≤◌, length, drop, Ok, IfNone};
 ghost use Rattle.gfs2_layout.specs.Structures.{header_fault};
 
 use crate::LayoutFault;
+use crate::fields::Number::U32;
+use crate::fields::put_fields;
 use crate::numbers::u32_at;
 
 pub(crate) const MAGIC: u32 = 0x0116_1970;
@@ -17,6 +19,7 @@ pub struct MetaHeader {
 
 impl MetaHeader {
     ghost use Rattle.gfs2_layout.specs.Structures.{header_read};
+    ghost use Rattle.gfs2_layout.specs.Writing.{header_put};
 
     /// Reads the header of any kind. Faults: `Short` below 24 bytes, `Magic`.
     pub fn read(bytes: &[u8]) -> Result<MetaHeader, LayoutFault>
@@ -33,6 +36,22 @@ impl MetaHeader {
             format: u32_at(bytes, 16),
             jid: u32_at(bytes, 20),
         })
+    }
+
+    /// Writes the header. The pad keeps its bytes.
+    pub fn write(&self, bytes: &mut [u8])
+        requires { 24 ≤ length bytes.old }
+        ensures bytes { bytes.new ≡ header_put self.now bytes.old }
+        ensures read { header_read bytes.new ≡ Ok self.now }
+        ensures behind { drop 24 bytes.new ≡ drop 24 bytes.old }
+    {
+        let fields = [
+            (0, U32(MAGIC)),
+            (4, U32(self.kind)),
+            (16, U32(self.format)),
+            (20, U32(self.jid)),
+        ];
+        put_fields(bytes, &fields);
     }
 }
 

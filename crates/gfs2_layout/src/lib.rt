@@ -2,21 +2,33 @@
 #![tactic(auto)]
 
 mod area;
+mod checksum;
 mod dinode;
 mod dirent;
 mod fault;
+mod fields;
+mod group_header;
 mod header;
 mod inum;
+mod leaf;
+mod log_header;
 mod numbers;
+mod rindex;
 mod superblock;
 
 pub use area::{Record, find_record, is_area, next_record};
 pub use dinode::Dinode;
 pub use dirent::Dirent;
 pub use fault::LayoutFault;
+pub use group_header::GroupHeader;
 pub use header::MetaHeader;
 pub use inum::Inum;
+pub use leaf::Leaf;
+pub use log_header::LogHeader;
+pub use rindex::Rindex;
 pub use superblock::SuperBlock;
 
 #[cfg(test)]
 mod tests;
+#[cfg(test)]
+mod write_tests;

@@ -1,5 +1,7 @@
-ghost use Rattle.std.specs.Prelude.{◌≡◌, ◌+◌, ◌≤◌, length};
-ghost use Rattle.gfs2_layout.specs.Bytes.{u16_at as number_16, u32_at as number_32, u64_at as number_64, slice};
+ghost use Rattle.std.specs.Prelude.{◌≡◌, ◌+◌, ◌^◌, ◌<◌, ◌≤◌, length};
+ghost use Rattle.gfs2_layout.specs.Bytes.{u16_at as number_16, u32_at as number_32, u64_at as number_64, put_at, slice, with_number};
+ghost use Rattle.gfs2_layout.specs.Writing.{zeros_from};
+ghost use Rattle.std.specs.Int.{w16, w32, w64};
 
 #[tactic(auto, unfolding(crate::specs::Bytes::number_at))]
 pub(crate) fn u16_at(bytes: &[u8], at: usize) -> u16
@@ -37,4 +39,47 @@ pub(crate) fn bytes_at<const N: usize>(bytes: &[u8], at: usize) -> [u8; N]
     let mut part = [0u8; N];
     part.copy_from_slice(&bytes[at..at + N]);
     part
+}
+
+#[tactic(auto, unfolding(crate::specs::Bytes::with_number))]
+pub(crate) fn put_u16(bytes: &mut [u8], at: usize, number: u16)
+    requires { at + 2 ≤ length bytes.old }
+    ensures bytes { bytes.new ≡ with_number w16 at number bytes.old }
+    ensures width { number < 2 ^ 16 }
+{
+    bytes[at..at + 2].copy_from_slice(&number.to_be_bytes());
+}
+
+#[tactic(auto, unfolding(crate::specs::Bytes::with_number))]
+pub(crate) fn put_u32(bytes: &mut [u8], at: usize, number: u32)
+    requires { at + 4 ≤ length bytes.old }
+    ensures bytes { bytes.new ≡ with_number w32 at number bytes.old }
+    ensures width { number < 2 ^ 32 }
+{
+    bytes[at..at + 4].copy_from_slice(&number.to_be_bytes());
+}
+
+#[tactic(auto, unfolding(crate::specs::Bytes::with_number))]
+pub(crate) fn put_u64(bytes: &mut [u8], at: usize, number: u64)
+    requires { at + 8 ≤ length bytes.old }
+    ensures bytes { bytes.new ≡ with_number w64 at number bytes.old }
+    ensures width { number < 2 ^ 64 }
+{
+    bytes[at..at + 8].copy_from_slice(&number.to_be_bytes());
+}
+
+/// Bytes over those from a place on.
+pub(crate) fn put_bytes(bytes: &mut [u8], at: usize, part: &[u8])
+    requires { at + length part.now ≤ length bytes.old }
+    ensures { bytes.new ≡ put_at at part.now bytes.old }
+{
+    bytes[at..at + part.len()].copy_from_slice(part);
+}
+
+/// Zeros from a place on.
+pub(crate) fn put_zeros(bytes: &mut [u8], at: usize)
+    requires { at ≤ length bytes.old }
+    ensures { bytes.new ≡ zeros_from at bytes.old }
+{
+    bytes[at..].fill(0);
 }

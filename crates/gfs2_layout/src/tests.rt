@@ -8,9 +8,9 @@ use std::process::Abort;
 use std::test::Fail;
 
 // Bytes at a place.
-type Part = (usize, &'static [u8]);
+pub(crate) type Part = (usize, &'static [u8]);
 
-const SUPERBLOCK: [Part; 9] = [
+pub(crate) const SUPERBLOCK: [Part; 9] = [
     (0, b"\x01\x16\x19\x70\x00\x00\x00\x01"),
     (16, b"\x00\x00\x00\x64"),
     (24, b"\x00\x00\x07\x09\x00\x00\x07\x6c"),
@@ -28,7 +28,7 @@ const SUPERBLOCK: [Part; 9] = [
     (256, b"0123456789abcdef"),
 ];
 
-const DINODE: [Part; 12] = [
+pub(crate) const DINODE: [Part; 12] = [
     (0, b"\x01\x16\x19\x70\x00\x00\x00\x04"),
     (16, b"\x00\x00\x01\x90\x00\x00\x00\x03"),
     (
@@ -70,7 +70,7 @@ const DINODE: [Part; 12] = [
     (184, b"\x00\x00\x00\x16\xff\xff"),
 ];
 
-const DINODE_READ: Dinode = Dinode {
+pub(crate) const DINODE_READ: Dinode = Dinode {
     num: Inum {
         number: 5,
         address: 16_409,
@@ -101,7 +101,7 @@ const DINODE_READ: Dinode = Dinode {
 };
 
 // Two records of 48 bytes: `b`, which leads to block 9, and `ab`, which leads to block 10.
-const RECORDS: [Part; 6] = [
+pub(crate) const RECORDS: [Part; 6] = [
     (
         0,
         b"\x00\x00\x00\x00\x00\x00\x00\x02\x00\x00\x00\x00\x00\x00\x00\x09",
@@ -116,7 +116,7 @@ const RECORDS: [Part; 6] = [
     (88, b"ab"),
 ];
 
-const FIRST_HEAD: Dirent = Dirent {
+pub(crate) const FIRST_HEAD: Dirent = Dirent {
     inum: Inum {
         number: 2,
         address: 9,
@@ -148,8 +148,18 @@ fn put(rt: &impl Abort, bytes: &mut [u8], at: usize, part: &[u8])
 }
 
 // Zeros, and the parts at their places, the later ones over the earlier.
-fn laid_out<const N: usize>(rt: &impl Abort, parts: &[Part], later: &[Part]) -> [u8; N] {
-    let mut bytes = [0u8; N];
+pub(crate) fn laid_out<const N: usize>(rt: &impl Abort, parts: &[Part], later: &[Part]) -> [u8; N] {
+    laid_over(rt, 0, parts, later)
+}
+
+// The same over bytes of one value.
+pub(crate) fn laid_over<const N: usize>(
+    rt: &impl Abort,
+    below: u8,
+    parts: &[Part],
+    later: &[Part],
+) -> [u8; N] {
+    let mut bytes = [below; N];
     for (at, part) in parts {
         put(rt, &mut bytes, *at, part);
     }
@@ -159,10 +169,9 @@ fn laid_out<const N: usize>(rt: &impl Abort, parts: &[Part], later: &[Part]) -> 
     bytes
 }
 
-#[test]
-fn each_field_is_at_its_place(rt: HostRuntime) {
-    let bytes: [u8; 272] = laid_out(&rt, &SUPERBLOCK, &[]);
-    let want = SuperBlock {
+// What stands in SUPERBLOCK.
+pub(crate) fn superblock(rt: &impl Abort) -> SuperBlock {
+    SuperBlock {
         fs_format: 1_801,
         multihost_format: 1_900,
         bsize: 4_096,
@@ -175,11 +184,16 @@ fn each_field_is_at_its_place(rt: HostRuntime) {
             number: 1,
             address: 16_406,
         },
-        lock_protocol: laid_out(&rt, &[(0, b"lock_dlm")], &[]),
-        lock_table: laid_out(&rt, &[(0, b"cluster:disk")], &[]),
+        lock_protocol: laid_out(rt, &[(0, b"lock_dlm")], &[]),
+        lock_table: laid_out(rt, &[(0, b"cluster:disk")], &[]),
         uuid: *b"0123456789abcdef",
-    };
-    assert_eq!(rt; SuperBlock::read(&bytes), Ok(want));
+    }
+}
+
+#[test]
+fn each_field_is_at_its_place(rt: HostRuntime) {
+    let bytes: [u8; 272] = laid_out(&rt, &SUPERBLOCK, &[]);
+    assert_eq!(rt; SuperBlock::read(&bytes), Ok(superblock(&rt)));
     let bytes: [u8; 232] = laid_out(&rt, &DINODE, &[]);
     assert_eq!(rt; Dinode::read(&bytes), Ok(DINODE_READ));
     assert!(rt; DINODE_READ.is_regular() && !DINODE_READ.is_directory());

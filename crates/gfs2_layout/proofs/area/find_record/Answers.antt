@@ -1,4 +1,4 @@
-use Rattle.std.proofs.Common.{◌≡◌, ◌+◌, ◌≤◌, List, ℕ, Some, length, drop, arith, ap, ◌∙◌, subst, sym, refl}
+use Rattle.std.proofs.Common.{◌≤◌, List, ℕ, Some, length, drop, arith, ap, ◌∙◌, subst, sym, refl}
 use Rattle.std.proofs.lemmas.Bool.Decides.{nat_tests}
 use Rattle.std.proofs.lemmas.List.{drop-drop}
 use Rattle.gfs2_layout.specs.Area.{slot_at, slots_within, first_named}

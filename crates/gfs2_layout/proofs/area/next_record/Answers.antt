@@ -1,10 +1,10 @@
-use Rattle.std.proofs.Common.{◌≡◌, ◌≤◌, ◌∷◌, List, ℕ, length, arith, ap, ◌∙◌, sym, subst}
+use Rattle.std.proofs.Common.{◌≤◌, ◌∷◌, List, ℕ, length, arith, ap, ◌∙◌, sym, subst}
 use Rattle.std.proofs.lemmas.Bool.Decides.{nat_tests}
-use Rattle.gfs2_layout.specs.Area.{Slot, IsArea, slot_at, slots_of}
+use Rattle.gfs2_layout.specs.Area.{IsArea, slot_at, slots_of}
 use Rattle.std.specs.Prelude.{IsTrue}
 use Rattle.gfs2_layout.specs.declared.dirent.Dirent.{Dirent}
 use Rattle.gfs2_layout.specs.Structures.{is_in_use}
-use Rattle.gfs2_layout.proofs.Records.{AreaOn, area_on, area_ends, record_length}
+use Rattle.gfs2_layout.proofs.Records.{area_on, area_ends, record_length}
 use Rattle.gfs2_layout.proofs.area.next_record.Goals as goal
 
 pub returns-then-is_empty : goal.returns-then-is_empty

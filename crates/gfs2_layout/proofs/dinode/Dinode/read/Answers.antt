@@ -1,4 +1,3 @@
-use Rattle.std.proofs.Common.{sym, ◌∙◌}
 use Rattle.gfs2_layout.proofs.Faults.{no_fault}
 use Rattle.gfs2_layout.proofs.dinode.Dinode.read.Goals as goal
 
