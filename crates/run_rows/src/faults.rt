@@ -1,0 +1,171 @@
+// A disk and sinks that fail at each of their calls in turn. The root has the files `b` and `a`, in this order.
+use crate::image::{File, SIZES, block_number, disk, image};
+use crate::runs::{Fails, Left, NONE, Told, expect_told, run};
+use std::alloc::Global;
+use std::process::Abort;
+use std::test::Fail;
+
+const FILES: [File<'static>; 2] = [
+    File {
+        name: b"b",
+        content: b"hello",
+    },
+    File {
+        name: b"a",
+        content: b"0123456789",
+    },
+];
+
+static CALLS: [(&str, &str); 6] = [
+    ("read /a 0 5", "data 3031323334"),
+    ("list /", "names 2 a b"),
+    ("read /b 0 5", "data 68656c6c6f"),
+    ("read /c 0 5", "notfound"),
+    ("list /a", "notdir"),
+    ("read /a 9 5", "data 39"),
+];
+
+// Where the disk's calls are: the node, the block, counted from the superblock's, and how many lines are answered before.
+// A list reads nothing, nor does the read of a file that is not there.
+static READS: [(u8, u64, usize); 5] = [(0, 0, 0), (0, 2, 0), (1, 4, 0), (1, 3, 2), (1, 4, 5)];
+
+// What the run is to leave, of which so many lines are answered.
+fn told_of(alloc: Global, answered: usize) -> Result<Told, Fail> {
+    let mut told = Told::joined(alloc)?;
+    for (i, (call, reply)) in CALLS.iter().enumerate() {
+        told.ask(call)?;
+        if i < answered {
+            told.answer(call, reply)?;
+        }
+    }
+    Ok(told)
+}
+
+// Runs all calls on a disk whose calls of these numbers fail.
+fn check(
+    rt: &(impl Abort + AllocGlobal),
+    size: u32,
+    fails: &[u64],
+    told: &Told,
+    row: usize,
+) -> Result<(), Fail> {
+    let a = rt.alloc();
+    let image = image(rt, a, size, &FILES)?;
+    let left = run(
+        a,
+        disk(rt, a, size, image, fails)?,
+        told.script.as_bytes(),
+        NONE,
+    )?;
+    expect_told(rt, &left, told, size, row);
+    Ok(())
+}
+
+fn check_reads(rt: &(impl Abort + AllocGlobal), size: u32) -> Result<(), Fail> {
+    let a = rt.alloc();
+    let mut call = 1u64;
+    for (row, (node, block, answered)) in READS.iter().enumerate() {
+        let block = block_number(rt, size, *block);
+        let line = format!(in a; "device fault: node {node} block {block} count 0 to 1")?;
+        let mut told = told_of(a, *answered)?;
+        if *node == 0 {
+            told.refuse(5, line.as_str())?;
+        } else {
+            told.end(5, line.as_str())?;
+        }
+        // A call that is not reached may fail as well.
+        check(rt, size, &[call], &told, row)?;
+        check(rt, size, &[call.saturating_add(1), call], &told, row)?;
+        call = call.saturating_add(1);
+    }
+    let mut told = told_of(a, CALLS.len())?;
+    told.done()?;
+    check(rt, size, &[call], &told, 100)
+}
+
+#[test]
+fn a_disk_fails_at_each_call_in_turn(rt: HostRuntime) -> Result<(), Fail> {
+    for size in SIZES {
+        check_reads(&rt, size)?;
+    }
+    Ok(())
+}
+
+// Twenty reads of a file of 3,864 bytes, whose lines fill three chunks of each sink.
+fn long_run(alloc: Global) -> Result<Told, Fail> {
+    let mut reply = "data ".to_string(alloc)?;
+    for _ in 0..3_864 {
+        reply.push_str("66")?;
+    }
+    let mut told = Told::joined(alloc)?;
+    for _ in 0..20 {
+        told.tell("read /f 0 16384", reply.as_str())?;
+    }
+    Ok(told)
+}
+
+static FULL: [u8; 3864] = [b'f'; 3864];
+
+fn run_long(
+    rt: &(impl Abort + AllocGlobal),
+    script: &[u8],
+    fails: Fails<'_>,
+) -> Result<Left, Fail> {
+    let a = rt.alloc();
+    let files = [File {
+        name: b"f",
+        content: &FULL,
+    }];
+    let image = image(rt, a, 4096, &files)?;
+    run(a, disk(rt, a, 4096, image, &[])?, script, fails)
+}
+
+// What has come is a front of all, and not all.
+fn expect_front(rt: &impl Abort, come: &[u8], all: &[u8]) {
+    assert!(rt; come.len() < all.len());
+    assert!(rt; all.starts_with(come));
+}
+
+// How many chunks of the long run go to a sink: each has at least 65,536 bytes, nine lines, but for the last.
+const CHUNKS: u64 = 3;
+
+#[test]
+fn a_trace_fails_at_each_call_in_turn(rt: HostRuntime) -> Result<(), Fail> {
+    let mut told = long_run(rt.alloc())?;
+    told.end(7, "trace fault: count 0 to 1")?;
+    told.trace.push_str("unmount 1\n")?;
+    let mut before = 0usize;
+    for call in 1..=CHUNKS {
+        let fails = [call, call + 1];
+        let left = run_long(&rt, told.script.as_bytes(), [&[], &fails, &[]])?;
+        expect_front(&rt, left.trace.bytes(), told.trace.as_bytes());
+        let come = left.trace.bytes().len();
+        assert!(rt; call == 1 || come.saturating_sub(before) >= 65_536);
+        before = come;
+        assert_eq!(rt; left.out.bytes(), told.out.as_bytes());
+        assert_eq!(rt; left.status, 7);
+    }
+    Ok(())
+}
+
+#[test]
+fn an_output_fails_at_each_call_in_turn(rt: HostRuntime) -> Result<(), Fail> {
+    let mut told = long_run(rt.alloc())?;
+    told.done()?;
+    for call in 1..=CHUNKS {
+        let fails = [call];
+        let left = run_long(&rt, told.script.as_bytes(), [&[], &[], &fails])?;
+        expect_front(&rt, left.out.bytes(), told.out.as_bytes());
+        assert_eq!(rt; left.trace.bytes(), told.trace.as_bytes());
+        assert_eq!(rt; left.status, 7);
+    }
+    // No sink has a call past these.
+    let left = run_long(&rt, told.script.as_bytes(), [&[], &[4], &[4]])?;
+    expect_told(&rt, &left, &told, 4096, 100);
+    // Where both fail, the trace's fault is told.
+    let left = run_long(&rt, told.script.as_bytes(), [&[], &[3], &[1]])?;
+    expect_front(&rt, left.trace.bytes(), told.trace.as_bytes());
+    assert!(rt; left.out.bytes().is_empty());
+    assert_eq!(rt; left.status, 7);
+    Ok(())
+}
