@@ -1,0 +1,6 @@
+pub mod Groups
+pub mod Files
+pub mod Order
+pub mod Directories
+pub mod Blocks
+pub mod Making

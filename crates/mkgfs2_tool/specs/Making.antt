@@ -1,0 +1,31 @@
+-- When an image is made, and when not.
+use Rattle.std.specs.Prelude.{ℕ, ◌≡◌, ◌+◌, ◌^◌, ◌<◌, ◌≤◌, ◌&&◌, ◌==◌, ◌⊎◌, Bool, true, false, nat_le, if◌then◌else◌, List, length, Option, None, Some, Result, Ok, Err, IsTrue}
+use Rattle.mkgfs2_tool.specs.declared.options.MakeOptions.{MakeOptions}
+use Rattle.mkgfs2_tool.specs.declared.options.Opt.{Opt}
+use Rattle.mkgfs2_tool.specs.declared.options.Opt.TheVariants as opt
+use Rattle.mkgfs2_tool.specs.declared.plan.Plan.{Plan}
+
+abbrev pub is_between : ℕ → ℕ → ℕ → Bool
+is_between low high n = nat_le low n && nat_le n high
+
+-- the first of the numbers that is outside its limits
+abbrev pub bad_option : MakeOptions → Option Opt
+bad_option o =
+    if is_between 1 8 o.journals then
+      (if is_between 512 65536 o.journal_blocks then (if is_between 1 64 o.groups then None else Some opt.Groups) else Some opt.JournalBlocks)
+    else Some opt.Journals
+
+-- what a device of so many blocks of this size is to become
+abbrev pub plan_of : ℕ → ℕ → MakeOptions → Plan
+plan_of size count o = record { size = size; count = count; journals = o.journals; journal_blocks = o.journal_blocks; groups = o.groups; uuid = o.uuid; time = o.time }
+
+-- a plan is of one of the four block sizes, and its numbers are within their limits
+pub record IsPlan (p : Plan) : Type 0 where
+  pub size : (p.size ≡ 512) ⊎ ((p.size ≡ 1024) ⊎ ((p.size ≡ 2048) ⊎ (p.size ≡ 4096)))
+  pub count : p.count < 2 ^ 48
+  pub some_journals : 1 ≤ p.journals
+  pub journals : p.journals ≤ 8
+  pub some_journal_blocks : 512 ≤ p.journal_blocks
+  pub journal_blocks : p.journal_blocks ≤ 65536
+  pub some_groups : 1 ≤ p.groups
+  pub groups : p.groups ≤ 64

@@ -1,0 +1,139 @@
+ghost use Rattle.std.specs.Prelude.{◌≡◌, ◌+◌, ◌^◌, ◌<◌, ◌≤◌};
+ghost use Rattle.mkgfs2_tool.specs.Files.{IsShape};
+ghost use Rattle.mkgfs2_tool.specs.Making.{IsPlan};
+
+use crate::files::{Part, Shape};
+use crate::plan::Plan;
+
+/// What a block that is taken is for.
+#[derive(Clone, Copy, Debug, PartialEq, Eq)]
+pub(crate) enum Use {
+    Master,
+    Root,
+    GroupList(Part),
+    Journals,
+    Journal { number: u64, part: Part },
+}
+
+impl Plan {
+    ghost use Rattle.mkgfs2_tool.specs.Order.{group_list, journal, journals_place, journal_place, taken, journal_use, use_of, dinodes, fits, IsNeeded};
+
+    /// The list of groups, at 96 bytes for each.
+    pub(crate) fn group_list(&self) -> Shape
+        requires { IsPlan self.now }
+        ensures value { result ≡ group_list self.now }
+        ensures shape { IsShape result }
+        ensures bound { result.bytes ≤ 6144 }
+    {
+        Shape {
+            size: self.size,
+            bytes: 96 * self.groups,
+        }
+    }
+
+    pub(crate) fn journal(&self) -> Shape
+        requires { IsPlan self.now }
+        ensures value { result ≡ journal self.now }
+        ensures shape { IsShape result }
+    {
+        Shape {
+            size: self.size,
+            bytes: self.journal_blocks * self.size,
+        }
+    }
+
+    /// The place of the directory of the journals, in the order in which blocks are taken.
+    pub(crate) fn journals_place(&self) -> u64
+        requires { IsPlan self.now }
+        ensures value { result ≡ journals_place self.now }
+        ensures bound { result < 2 ^ 16 }
+    {
+        2 + self.group_list().file_blocks()
+    }
+
+    pub(crate) fn journal_place(&self, number: u64) -> u64
+        requires plan { IsPlan self.now }
+        requires number { number ≤ 8 }
+        ensures value { result ≡ journal_place self.now number }
+        ensures bound { result < 2 ^ 36 }
+    {
+        self.journals_place() + 1 + number * self.journal().file_blocks()
+    }
+
+    /// How many blocks are taken.
+    pub(crate) fn taken(&self) -> u64
+        requires { IsPlan self.now }
+        ensures value { result ≡ taken self.now }
+        ensures bound { result < 2 ^ 36 }
+    {
+        self.journal_place(self.journals)
+    }
+
+    fn journal_use(&self, n: u64) -> Use
+        requires { IsPlan self.now }
+        ensures { result ≡ journal_use self.now n }
+    {
+        let journal = self.journal();
+        let blocks = journal.file_blocks();
+        Use::Journal {
+            number: n / blocks,
+            part: journal.part(n % blocks),
+        }
+    }
+
+    /// What taken block `k` is for.
+    pub(crate) fn use_of(&self, k: u64) -> Use
+        requires { IsPlan self.now }
+        ensures { result ≡ use_of self.now k }
+    {
+        let journals = self.journals_place();
+        match k {
+            0 => Use::Master,
+            1 => Use::Root,
+            _ if k < journals => Use::GroupList(self.group_list().part(k - 2)),
+            _ if k == journals => Use::Journals,
+            _ => self.journal_use(k.saturating_sub(self.journal_place(0))),
+        }
+    }
+
+    /// How many dinodes there are: four, and one for each journal.
+    pub(crate) fn dinodes(&self) -> u64
+        requires { IsPlan self.now }
+        ensures { result ≡ dinodes self.now }
+    {
+        4 + self.journals
+    }
+
+    /// Whether all of it fits, with four data blocks at least in every group.
+    pub(crate) fn fits(&self) -> bool
+        requires { IsPlan self.now }
+        ensures { result ≡ fits self.now }
+    {
+        self.data_blocks(0) >= 4
+            && self.data_blocks(self.groups - 1) >= 4
+            && self.taken() <= self.all_data()
+    }
+
+    // Whether it fits on a device of so many blocks.
+    fn fits_in(&self, count: u64) -> bool
+        requires plan { IsPlan self.now }
+        requires count { count < 2 ^ 48 }
+        ensures { result ≡ fits (record self.now { count = count }) }
+    {
+        Plan { count, ..*self }.fits()
+    }
+
+    /// How many blocks the device needs: the least number, from its own on, at which all of it fits. It tries them one by
+    /// one, and they are about as many as are taken.
+    pub(crate) fn needed(&self) -> u64
+        requires plan { IsPlan self.now }
+        requires small { self.now.count ≤ 131072 }
+        ensures { IsNeeded self.now result }
+    {
+        let mut count = self.count;
+        while !self.fits_in(count) {
+            count += 1;
+        }
+        count
+    }
+}
