@@ -4,3 +4,4 @@ pub mod Checksum
 pub mod Structures
 pub mod Writing
 pub mod Area
+pub mod Bitmap

@@ -2,6 +2,7 @@
 #![tactic(auto)]
 
 mod area;
+mod bitmap;
 mod checksum;
 mod dinode;
 mod dirent;
@@ -10,6 +11,7 @@ mod fields;
 mod group_header;
 mod header;
 mod inum;
+mod laws;
 mod leaf;
 mod log_header;
 mod numbers;
@@ -17,12 +19,14 @@ mod rindex;
 mod superblock;
 
 pub use area::{Record, find_record, is_area, next_record};
+pub use bitmap::{pack, put_state, state_at};
 pub use dinode::Dinode;
 pub use dirent::Dirent;
 pub use fault::LayoutFault;
 pub use group_header::GroupHeader;
 pub use header::MetaHeader;
 pub use inum::Inum;
+pub use laws::{packed_states_are_read, states_are_put_and_read};
 pub use leaf::Leaf;
 pub use log_header::LogHeader;
 pub use rindex::Rindex;
