@@ -1,1 +1,4 @@
 pub mod Enough
+pub mod RecordLaws
+pub mod PutLaws
+pub mod PointerLaws

@@ -3,6 +3,7 @@ use Rattle.std.specs.Prelude.{ℕ, ◌≡◌, ◌+◌, ◌-◌, ◌*◌, ◌/◌
 use Rattle.std.specs.List.{range_with_len, flat_map}
 use Rattle.std.specs.Int.{w64, to_be_bytes}
 use Rattle.gfs2_layout.specs.Bytes.{put_at, slice}
+use Rattle.gfs2_layout.specs.Bitmap.{byte_of}
 use Rattle.gfs2_layout.specs.Writing.{header_put, superblock_put, dinode_put, rindex_put, group_put, log_put}
 use Rattle.gfs2_layout.specs.declared.superblock.SuperBlock.{SuperBlock}
 use Rattle.gfs2_layout.specs.declared.dinode.Dinode.{Dinode}
@@ -19,6 +20,7 @@ use Rattle.mkgfs2_tool.specs.declared.order.Use.TheVariants.{Master, Root, Group
 use Rattle.mkgfs2_tool.specs.Order.{master_place, root_place, group_list_place, journals_place, journal_place, group_list, journal, taken, use_of, dinodes, dinode_places}
 use Rattle.mkgfs2_tool.specs.Directories.{records, master_entries, root_entries, journals_entries}
 use Rattle.mkgfs2_tool.specs.declared.plan.Plan.{Plan}
+use Rattle.mkgfs2_tool.specs.declared.inodes.Inode.{Inode}
 
 abbrev pub zeros : Plan → List ℕ
 zeros p = replicate p.size 0
@@ -78,10 +80,10 @@ state p k = if nat_lt k (taken p) then (if is_dinode (use_of p k) then dinode_st
 abbrev pub state_in : Plan → ℕ → ℕ → ℕ
 state_in p group n = if nat_lt n (data_blocks p group) then state p (data_before p group + n) else 0
 
--- byte n of a group's bitmap has four states, the first in its lowest bits
+-- byte n of a group's bitmap has four states
 abbrev pub bitmap_byte : Plan → ℕ → ℕ → ℕ
 bitmap_byte p group n =
-    state_in p group (4 * n) + 4 * state_in p group (4 * n + 1) + 16 * state_in p group (4 * n + 2) + 64 * state_in p group (4 * n + 3)
+    byte_of (state_in p group (4 * n)) (state_in p group (4 * n + 1)) (state_in p group (4 * n + 2)) (state_in p group (4 * n + 3))
 
 abbrev pub bitmap : Plan → ℕ → ℕ → ℕ → List ℕ
 bitmap p group start count = map (bitmap_byte p group) (range_with_len start count)
@@ -127,17 +129,6 @@ group_entries p = flat_map (λ group. rindex_put (group_entry p group) (replicat
 
 -- ---- dinodes
 
--- what a new inode is, but for its number, its address and its times
-pub record Inode : Type 0 where
-  pub mode : ℕ
-  pub nlink : ℕ
-  pub size : ℕ
-  pub blocks : ℕ
-  pub flags : ℕ
-  pub payload_format : ℕ
-  pub height : ℕ
-  pub entries : ℕ
-
 abbrev pub journaled : ℕ
 journaled = 0x1
 
@@ -170,7 +161,7 @@ system_file f = record {
 }
 
 -- the dinode in the block at this place, with its formal number, which is its generation too
-abbrev pub dinode : Plan → ℕ → ℕ → Inode → Dinode
+unfoldable pub dinode : Plan → ℕ → ℕ → Inode → Dinode
 dinode p number place i = record {
   num = record { number = number; address = data_address p place };
   mode = i.mode;
@@ -199,7 +190,7 @@ dinode p number place i = record {
 }
 
 -- a dinode's block, with these bytes behind the dinode
-abbrev pub dinode_block : Plan → Dinode → List ℕ → List ℕ
+unfoldable pub dinode_block : Plan → Dinode → List ℕ → List ℕ
 dinode_block p d behind = put_at 232 behind (dinode_put d (zeros p))
 
 -- ---- blocks of files
@@ -237,13 +228,13 @@ journal_block p j (Content n) = if n == 0 then log_put (clean_header j) (zeros p
 abbrev pub area_length : Plan → ℕ
 area_length p = p.size - 232
 
-abbrev pub master_block : Plan → List ℕ
+unfoldable pub master_block : Plan → List ℕ
 master_block p = dinode_block p (dinode p 1 master_place (directory p 4 3)) (records (area_length p) (master_entries p))
 
-abbrev pub root_block : Plan → List ℕ
+unfoldable pub root_block : Plan → List ℕ
 root_block p = dinode_block p (dinode p 2 root_place (directory p 2 2)) (records (area_length p) (root_entries p))
 
-abbrev pub journals_block : Plan → List ℕ
+unfoldable pub journals_block : Plan → List ℕ
 journals_block p = dinode_block p (dinode p 4 (journals_place p) (directory p (2 + p.journals) 2)) (records (area_length p) (journals_entries p))
 
 -- ---- the image

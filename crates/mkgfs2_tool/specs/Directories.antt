@@ -1,6 +1,6 @@
 -- The records of a new directory, which lie one after another in its dinode's block.
-use Rattle.std.specs.Prelude.{ℕ, ◌+◌, ◌-◌, ◌*◌, ◌/◌, List, [], ◌∷◌, ◌++◌, length, map, replicate, codes}
-use Rattle.std.specs.List.{range_with_len}
+use Rattle.std.specs.Prelude.{ℕ, ◌<◌, ◌≤◌, ⊤, ◌+◌, ◌-◌, ◌*◌, ◌/◌, List, [], ◌∷◌, ◌++◌, length, map, replicate, codes}
+use Rattle.std.specs.List.{range_with_len, AllByRecursion}
 use Rattle.crc_words.specs.Remainder.{crc32_of}
 use Rattle.gfs2_layout.specs.Bytes.{put_at}
 use Rattle.gfs2_layout.specs.Writing.{dirent_put}
@@ -49,10 +49,27 @@ abbrev pub record_bytes : Entry → ℕ → List ℕ
 record_bytes e room = put_at 40 (name_of e) (dirent_put (head_of e room) (replicate room 0))
 
 -- each record has its least length, and the last takes the rest
-abbrev pub records : ℕ → List Entry → List ℕ
+unfoldable pub records : ℕ → List Entry → List ℕ
 records room [] = []
 records room (e ∷ []) = record_bytes e room
 records room (e ∷ f ∷ es) = record_bytes e (least_length (length (name_of e))) ++ records (room - least_length (length (name_of e))) (f ∷ es)
+
+-- a journal's number has one digit
+abbrev pub HasName : Name → Type 0
+HasName (name.Journal j) = j < 8
+HasName _ = ⊤
+
+abbrev pub IsNamed : Entry → Type 0
+IsNamed e = HasName e.name
+
+abbrev pub AreNamed : List Entry → Type 0
+AreNamed entries = AllByRecursion IsNamed entries
+
+-- there is a record, and the records have room for their least lengths
+abbrev pub Fit : ℕ → List Entry → Type 0
+Fit room [] = ⊥
+Fit room (e ∷ []) = least_length (length (name_of e)) ≤ room
+Fit room (e ∷ f ∷ es) = (least_length (length (name_of e)) ≤ room) × Fit (room - least_length (length (name_of e))) (f ∷ es)
 
 -- ---- the entries of the three directories, in the order in which they are put in
 
@@ -78,3 +95,11 @@ journals_entries p =
     entry p name.This 4 (journals_place p) directory_kind
     ∷ entry p name.Parent 1 master_place directory_kind
     ∷ map (journal_entry p) (range_with_len 0 p.journals)
+
+-- these entries, if there were eight journals
+abbrev pub most_entries : Plan → List Entry
+most_entries p =
+    entry p name.This 4 (journals_place p) directory_kind
+    ∷ entry p name.Parent 1 master_place directory_kind
+    ∷ journal_entry p 0 ∷ journal_entry p 1 ∷ journal_entry p 2 ∷ journal_entry p 3
+    ∷ journal_entry p 4 ∷ journal_entry p 5 ∷ journal_entry p 6 ∷ journal_entry p 7 ∷ []

@@ -60,5 +60,5 @@ abbrev pub group_of_data : Plan → ℕ → ℕ
 group_of_data p k = min (k / data_blocks p 0) (last_group p)
 
 -- the address of data block k
-abbrev pub data_address : Plan → ℕ → ℕ
+unfoldable pub data_address : Plan → ℕ → ℕ
 data_address p k = let group = group_of_data p k in first_data p group + (k - data_before p group)

@@ -1,5 +1,7 @@
 -- When an image is made, and when not.
 use Rattle.std.specs.Prelude.{ℕ, ◌≡◌, ◌+◌, ◌^◌, ◌<◌, ◌≤◌, ◌&&◌, ◌==◌, ◌⊎◌, Bool, true, false, nat_le, if◌then◌else◌, List, length, Option, None, Some, Result, Ok, Err, IsTrue}
+use Rattle.mkgfs2_tool.specs.Groups.{data_blocks, last_group, all_data}
+use Rattle.mkgfs2_tool.specs.Order.{taken}
 use Rattle.mkgfs2_tool.specs.declared.options.MakeOptions.{MakeOptions}
 use Rattle.mkgfs2_tool.specs.declared.options.Opt.{Opt}
 use Rattle.mkgfs2_tool.specs.declared.options.Opt.TheVariants as opt
@@ -29,3 +31,16 @@ pub record IsPlan (p : Plan) : Type 0 where
   pub journal_blocks : p.journal_blocks ≤ 65536
   pub some_groups : 1 ≤ p.groups
   pub groups : p.groups ≤ 64
+
+-- with at most three journals, or in blocks of more than 512 bytes, the directory of the journals is a linear one
+abbrev pub HasLinearJournals : Plan → Type 0
+HasLinearJournals p = (p.journals ≤ 3) ⊎ (1024 ≤ p.size)
+
+-- a plan of an image that fits its device
+pub record IsFitting (p : Plan) : Type 0 where
+  pub plan : IsPlan p
+  pub count : p.count ≤ 131072
+  pub first : 4 ≤ data_blocks p 0
+  pub last : 4 ≤ data_blocks p (last_group p)
+  pub room : taken p ≤ all_data p
+  pub linear : HasLinearJournals p

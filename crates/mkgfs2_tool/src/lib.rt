@@ -1,10 +1,13 @@
 //! Makes the images of the cluster: one layout, block by block.
 #![tactic(auto)]
 
+mod bytes;
 mod directory;
 mod files;
+mod inodes;
 mod options;
 mod order;
 mod plan;
+mod pointers;
 
 pub use options::{MakeFault, MakeOptions, Opt};

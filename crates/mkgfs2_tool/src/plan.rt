@@ -1,4 +1,4 @@
-ghost use Rattle.std.specs.Prelude.{◌≡◌, ◌≢◌, ◌+◌, ◌-◌, ◌*◌, ◌/◌, ◌^◌, ◌<◌, ◌≤◌};
+ghost use Rattle.std.specs.Prelude.{◌≡◌, ◌≢◌, ◌+◌, ◌-◌, ◌*◌, ◌/◌, ◌^◌, ◌<◌, ◌≤◌, length};
 ghost use Rattle.mkgfs2_tool.specs.Groups.{parts as parts_of, header_blocks as header_blocks_of};
 ghost use Rattle.mkgfs2_tool.specs.Making.{IsPlan};
 
@@ -49,6 +49,7 @@ fn header_blocks(size: u64, blocks: u64) -> u64
 
 impl Plan {
     ghost use Rattle.mkgfs2_tool.specs.Groups.{super_block, share, last_group, group_address, group_blocks, headers_of, first_data, data_blocks, data_before, all_data, group_of_data, data_address};
+    ghost use Rattle.mkgfs2_tool.specs.Blocks.{zeros};
 
     pub(crate) fn super_block(&self) -> u64
         requires { IsPlan self.now }
@@ -135,6 +136,7 @@ impl Plan {
     }
 
     /// The address of data block `k`.
+    #[tactic(auto, unfolding(crate::specs::Groups::data_address))]
     pub(crate) fn data_address(&self, k: u64) -> u64
         requires plan { IsPlan self.now }
         requires some { data_blocks self.now 0 ≢ 0 }
@@ -143,5 +145,13 @@ impl Plan {
     {
         let group = (k / self.data_blocks(0)).min(self.groups - 1);
         self.first_data(group) + k.saturating_sub(self.data_before(group))
+    }
+
+    /// Makes a block all zeros.
+    pub(crate) fn clear(&self, block: &mut [u8])
+        requires { length block.old ≡ self.now.size }
+        ensures { block.new ≡ zeros self.now }
+    {
+        block.fill(0);
     }
 }

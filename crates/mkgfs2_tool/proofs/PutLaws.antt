@@ -1,0 +1,31 @@
+-- Bytes that are put over others.
+use Rattle.std.proofs.Common.{ℕ, zero, suc, ◌≡◌, ◌≤◌, ◌+◌, ◌-◌, List, [], ◌∷◌, ◌++◌, length, take, drop, refl, ap, sym, ◌∙◌, arith, append_assoc, length-append}
+use Rattle.std.proofs.lemmas.List.{drop-drop, length-take-le, take-append-drop}
+use Rattle.std.proofs.Math.Seq.{take-append_seam, drop-append-add}
+use borrow.Rule.Slice.PartMut.{put_mid, post_of}
+use Rattle.gfs2_layout.specs.Bytes.{put_at}
+
+-- a part of a slice that was written as a whole
+pub put_part : (at k : ℕ) (bytes part : List ℕ) → length part ≡ k → put_mid at k bytes part ≡ put_at at part bytes
+put_part at k bytes part is = ap (λ xs. take at bytes ++ (part ++ xs)) (drop-drop k at bytes ∙ ap (λ n. drop (at + n) bytes) (sym is))
+
+-- one part behind another is both parts at once
+pub put_more : (at : ℕ) (xs ys zs : List ℕ) → at ≤ length zs → put_at (at + length xs) ys (put_at at xs zs) ≡ put_at at (xs ++ ys) zs
+put_more at xs ys zs within =
+    let front : List ℕ = take at zs ++ xs in
+    let back : List ℕ = drop (at + length xs) zs in
+    let long : length front ≡ at + length xs = length-append (take at zs) xs ∙ ap (λ n. n + length xs) (length-take-le at zs within) in
+    let whole : put_at at xs zs ≡ front ++ back = sym (append_assoc (take at zs) xs back) in
+    let before : take (at + length xs) (front ++ back) ≡ front = ap (λ n. take n (front ++ back)) (sym long) ∙ take-append_seam front back in
+    let behind : drop (at + length xs + length ys) (front ++ back) ≡ drop (at + length (xs ++ ys)) zs =
+      ap (λ n. drop (n + length ys) (front ++ back)) (sym long) ∙ drop-append-add front back (length ys) ∙ drop-drop (length ys) (at + length xs) zs
+        ∙ ap (λ n. drop n zs) (let sum : at + length xs + length ys ≡ at + (length xs + length ys) = omega arith in sum ∙ ap (λ n. at + n) (sym (length-append xs ys))) in
+    ap (put_at (at + length xs) ys) whole
+      ∙ ap (λ f. f ++ (ys ++ drop (at + length xs + length ys) (front ++ back))) before
+      ∙ ap (λ b. front ++ (ys ++ b)) behind
+      ∙ append_assoc (take at zs) xs (ys ++ drop (at + length (xs ++ ys)) zs)
+      ∙ ap (λ b. take at zs ++ b) (sym (append_assoc xs ys (drop (at + length (xs ++ ys)) zs)))
+
+-- nothing put over bytes leaves them
+pub put_none : (at : ℕ) (zs : List ℕ) → put_at at [] zs ≡ zs
+put_none at zs = ap (λ n. take at zs ++ drop n zs) (let none : at + 0 ≡ at = omega arith in none) ∙ take-append-drop at zs
