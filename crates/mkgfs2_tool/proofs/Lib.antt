@@ -2,3 +2,5 @@ pub mod Enough
 pub mod RecordLaws
 pub mod PutLaws
 pub mod PointerLaws
+pub mod CountLaws
+pub mod BitmapLaws

@@ -1,9 +1,9 @@
 -- Bytes that are put over others.
-use Rattle.std.proofs.Common.{ℕ, zero, suc, ◌≡◌, ◌≤◌, ◌+◌, ◌-◌, List, [], ◌∷◌, ◌++◌, length, take, drop, refl, ap, sym, ◌∙◌, arith, append_assoc, length-append}
-use Rattle.std.proofs.lemmas.List.{drop-drop, length-take-le, take-append-drop}
+use Rattle.std.proofs.Common.{ℕ, zero, suc, ◌≡◌, ◌≤◌, ◌+◌, ◌-◌, List, [], ◌∷◌, ◌++◌, length, take, drop, min, replicate, refl, ap, sym, ◌∙◌, arith, append_assoc, length-append}
+use Rattle.std.proofs.lemmas.List.{drop-drop, length-take-le, take-append-drop, drop-replicate}
 use Rattle.std.proofs.Math.Seq.{take-append_seam, drop-append-add}
 use borrow.Rule.Slice.PartMut.{put_mid, post_of}
-use Rattle.gfs2_layout.specs.Bytes.{put_at}
+use Rattle.gfs2_layout.specs.Bytes.{put_at, slice}
 
 -- a part of a slice that was written as a whole
 pub put_part : (at k : ℕ) (bytes part : List ℕ) → length part ≡ k → put_mid at k bytes part ≡ put_at at part bytes
@@ -29,3 +29,15 @@ put_more at xs ys zs within =
 -- nothing put over bytes leaves them
 pub put_none : (at : ℕ) (zs : List ℕ) → put_at at [] zs ≡ zs
 put_none at zs = ap (λ n. take at zs ++ drop n zs) (let none : at + 0 ≡ at = omega arith in none) ∙ take-append-drop at zs
+
+-- a part of a slice that was written as a whole, over what stood there
+pub put_over : (at k : ℕ) (bytes base part made : List ℕ) → length part ≡ k → bytes ≡ base → part ≡ made → put_mid at k bytes part ≡ put_at at made base
+put_over at k bytes base part made long bytes_are part_is = put_part at k bytes part long ∙ ap (put_at at part) bytes_are ∙ ap (λ p. put_at at p base) part_is
+
+-- bytes put over the beginning of zeros
+pub put_first : (n : ℕ) (xs : List ℕ) → put_at 0 xs (replicate n 0) ≡ xs ++ replicate (n - length xs) 0
+put_first n xs = ap (λ k. xs ++ drop k (replicate n 0)) (let same : 0 + length xs ≡ length xs = omega arith in same) ∙ ap (λ zs. xs ++ zs) (drop-replicate (length xs) n 0)
+
+-- so many bytes from a place on, as far as there are any
+pub piece : (xs : List ℕ) (at n : ℕ) → take (min (length xs) (min (length xs) at + n) - min (length xs) at) (drop (min (length xs) at) xs) ≡ slice at n xs
+piece xs at n = ?

@@ -73,7 +73,7 @@ is_dinode (Journal j part) = is_dinode_part part
 is_dinode _ = true
 
 -- the state of data block k
-abbrev pub state : Plan → ℕ → ℕ
+unfoldable pub state : Plan → ℕ → ℕ
 state p k = if nat_lt k (taken p) then (if is_dinode (use_of p k) then dinode_state else used_state) else free_state
 
 -- the state of a block of a group, counted from its first data block; behind its data blocks the bitmap has zeros
@@ -81,7 +81,7 @@ abbrev pub state_in : Plan → ℕ → ℕ → ℕ
 state_in p group n = if nat_lt n (data_blocks p group) then state p (data_before p group + n) else 0
 
 -- byte n of a group's bitmap has four states
-abbrev pub bitmap_byte : Plan → ℕ → ℕ → ℕ
+unfoldable pub bitmap_byte : Plan → ℕ → ℕ → ℕ
 bitmap_byte p group n =
     byte_of (state_in p group (4 * n)) (state_in p group (4 * n + 1)) (state_in p group (4 * n + 2)) (state_in p group (4 * n + 3))
 
@@ -109,11 +109,16 @@ group_header p group = record {
   bitbytes = data_blocks p group / 4;
 }
 
--- block n of a group's header: its first has the numbers, and each a part of the bitmap
+-- the first block of a group has its numbers and the beginning of its bitmap, and each further one of its header a further part
+unfoldable pub first_header_block : Plan → ℕ → List ℕ
+first_header_block p group = put_at 128 (bitmap p group 0 (p.size - 128)) (group_put (group_header p group) (zeros p))
+
+unfoldable pub further_header_block : Plan → ℕ → ℕ → List ℕ
+further_header_block p group n =
+    put_at 24 (bitmap p group (p.size - 128 + (n - 1) * (p.size - 24)) (p.size - 24)) (header_put (record { kind = 3; format = 300; jid = 0 }) (zeros p))
+
 abbrev pub header_block : Plan → ℕ → ℕ → List ℕ
-header_block p group n =
-    if n == 0 then put_at 128 (bitmap p group 0 (p.size - 128)) (group_put (group_header p group) (zeros p))
-    else put_at 24 (bitmap p group (p.size - 128 + (n - 1) * (p.size - 24)) (p.size - 24)) (header_put (record { kind = 3; format = 300; jid = 0 }) (zeros p))
+header_block p group n = if n == 0 then first_header_block p group else further_header_block p group n
 
 abbrev pub group_entry : Plan → ℕ → Rindex
 group_entry p group = record {
@@ -126,6 +131,11 @@ group_entry p group = record {
 
 abbrev pub group_entries : Plan → List ℕ
 group_entries p = flat_map (λ group. rindex_put (group_entry p group) (replicate 96 0)) (range_with_len 0 p.groups)
+
+-- these bytes are the list of groups
+pub record IsGroupList (p : Plan) (bytes : List ℕ) : Type 0 where
+  pub are : bytes ≡ group_entries p
+  pub long : length bytes ≡ 96 * p.groups
 
 -- ---- dinodes
 
@@ -200,14 +210,14 @@ abbrev pub addresses : Plan → ℕ → List ℕ → List ℕ
 addresses p place blocks = flat_map (λ n. to_be_bytes w64 (data_address p (place + n))) blocks
 
 -- a dinode's block whose pointers lead to the content
-abbrev pub pointing_dinode : Plan → ℕ → ℕ → Shape → List ℕ
+unfoldable pub pointing_dinode : Plan → ℕ → ℕ → Shape → List ℕ
 pointing_dinode p number place f = dinode_block p (dinode p number place (system_file f)) (addresses p place (children f 0 0))
 
-abbrev pub pointer_block : Plan → ℕ → Shape → ℕ → ℕ → List ℕ
+unfoldable pub pointer_block : Plan → ℕ → Shape → ℕ → ℕ → List ℕ
 pointer_block p place f level index = put_at 24 (addresses p place (children f level index)) (header_put (record { kind = 5; format = 500; jid = 0 }) (zeros p))
 
 -- the list of groups stands in its dinode where it fits, else in blocks of its own, and behind its end there are zeros
-abbrev pub group_list_block : Plan → Part → List ℕ
+unfoldable pub group_list_block : Plan → Part → List ℕ
 group_list_block p Top =
     if height (group_list p) == 0 then dinode_block p (dinode p 3 group_list_place (system_file (group_list p))) (group_entries p)
     else pointing_dinode p 3 group_list_place (group_list p)
@@ -218,7 +228,7 @@ group_list_block p (Content n) = padded p (slice (n * p.size) p.size (group_entr
 abbrev pub clean_header : ℕ → LogHeader
 clean_header j = record { jid = j; sequence = 1; clean = true; tail = 0; blkno = 0 }
 
-abbrev pub journal_block : Plan → ℕ → Part → List ℕ
+unfoldable pub journal_block : Plan → ℕ → Part → List ℕ
 journal_block p j Top = pointing_dinode p (5 + j) (journal_place p j) (journal p)
 journal_block p j (Pointers level index) = pointer_block p (journal_place p j) (journal p) level index
 journal_block p j (Content n) = if n == 0 then log_put (clean_header j) (zeros p) else zeros p

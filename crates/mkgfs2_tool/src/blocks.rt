@@ -1,0 +1,161 @@
+ghost use Rattle.std.specs.Prelude.{◌≡◌, ◌+◌, ◌-◌, ◌*◌, ◌/◌, ◌^◌, ◌<◌, ◌≤◌, length, replicate};
+ghost use Rattle.gfs2_layout.specs.Bytes.{slice};
+ghost use Rattle.gfs2_layout.specs.Writing.{superblock_put, log_put};
+ghost use Rattle.mkgfs2_tool.specs.Blocks.{system_file as system_file_of, text_field as text_field_of, shift_of as shift_of_size};
+ghost use Rattle.mkgfs2_tool.specs.Making.{IsFitting};
+
+use crate::bytes::put_bytes;
+use crate::files::Part;
+use crate::inodes::system_file;
+use crate::order::Use;
+use crate::plan::Plan;
+use gfs2_layout::{Inum, LogHeader, SuperBlock};
+
+// A name, and zeros behind it.
+fn text_field(text: &[u8]) -> [u8; 64]
+    requires { length text.now ≤ 64 }
+    ensures { result ≡ text_field_of text.now }
+{
+    let mut field = [0u8; 64];
+    put_bytes(&mut field, 0, text);
+    field
+}
+
+// The exponent of one of the four block sizes.
+fn shift_of(size: u64) -> u32
+    ensures { result ≡ shift_of_size size }
+{
+    match size {
+        512 => 9,
+        1024 => 10,
+        2048 => 11,
+        _ => 12,
+    }
+}
+
+impl Plan {
+    ghost use Rattle.mkgfs2_tool.specs.Groups.{group_address, group_blocks, headers_of};
+    ghost use Rattle.mkgfs2_tool.specs.Order.{taken, group_list, journal};
+    ghost use Rattle.mkgfs2_tool.specs.Making.{IsPartOf, IsUseOf};
+    ghost use Rattle.mkgfs2_tool.specs.Blocks.{superblock, clean_header, group_list_block, journal_block, used_block, data_block, group_block, group_at, new_block, IsGroupList, padded, zeros, dinode_block, dinode};
+
+    fn superblock(&self) -> SuperBlock
+        requires { IsFitting self.now }
+        ensures { result ≡ superblock self.now }
+    {
+        SuperBlock {
+            fs_format: 1801,
+            multihost_format: 1900,
+            bsize: self.size as u32,
+            bsize_shift: shift_of(self.size),
+            master: Inum {
+                number: 1,
+                address: self.data_address(0),
+            },
+            root: Inum {
+                number: 2,
+                address: self.data_address(1),
+            },
+            lock_protocol: text_field(b"lock_dlm"),
+            lock_table: text_field(b"gfs2run:image"),
+            uuid: self.uuid,
+        }
+    }
+
+    /// A block of the list of groups, whose bytes are given.
+    #[tactic(auto, unfolding(crate::specs::Blocks::group_list_block, crate::specs::Blocks::dinode_block))]
+    fn put_group_list(&self, block: &mut [u8], part: Part, entries: &[u8])
+        requires plan { IsFitting self.now }
+        requires size { length block.old ≡ self.now.size }
+        requires entries { IsGroupList self.now entries.now }
+        requires part { IsPartOf (group_list self.now) part }
+        ensures { block.new ≡ group_list_block self.now part }
+    {
+        let shape = self.group_list();
+        match part {
+            Part::Top if shape.height() == 0 => self.put_stuffed(block, entries),
+            Part::Top => self.put_pointing_dinode(block, 3, 2, shape),
+            Part::Pointers { level, index } => self.put_pointers(block, 2, shape, level, index),
+            Part::Content(n) => self.put_piece(block, entries, n),
+        }
+    }
+
+    // The list of groups in its dinode.
+    fn put_stuffed(&self, block: &mut [u8], entries: &[u8])
+        requires plan { IsFitting self.now }
+        requires size { length block.old ≡ self.now.size }
+        requires room { 232 + length entries.now ≤ self.now.size }
+        ensures { block.new ≡ dinode_block self.now (dinode self.now 3 2 (system_file_of (group_list self.now))) entries.now }
+    {
+        let dinode = self.dinode(3, 2, system_file(self.group_list()));
+        self.put_dinode(block, dinode);
+        put_bytes(block, 232, entries);
+    }
+
+    // Block `n` of some content, and zeros behind its end.
+    fn put_piece(&self, block: &mut [u8], content: &[u8], n: u64)
+        requires plan { IsFitting self.now }
+        requires size { length block.old ≡ self.now.size }
+        requires n { n < 2 ^ 40 }
+        ensures { block.new ≡ padded self.now (slice (n * self.now.size) self.now.size content.now) }
+    {
+        let start = content.len().min((n * self.size) as usize);
+        let end = content.len().min(start + self.size as usize);
+        self.clear(block);
+        put_bytes(block, 0, &content[start..end]);
+    }
+
+    // The first block of a journal.
+    fn put_clean_header(&self, block: &mut [u8], number: u64)
+        requires plan { IsFitting self.now }
+        requires size { length block.old ≡ self.now.size }
+        requires number { number < 8 }
+        ensures { block.new ≡ log_put (clean_header number) (zeros self.now) }
+    {
+        self.clear(block);
+        let header = LogHeader {
+            jid: number as u32,
+            sequence: 1,
+            clean: true,
+            tail: 0,
+            blkno: 0,
+        };
+        header.write(block);
+    }
+
+    /// A block of a journal.
+    #[tactic(auto, unfolding(crate::specs::Blocks::journal_block))]
+    fn put_journal(&self, block: &mut [u8], number: u64, part: Part)
+        requires plan { IsFitting self.now }
+        requires size { length block.old ≡ self.now.size }
+        requires number { number < 8 }
+        requires part { IsPartOf (journal self.now) part }
+        ensures { block.new ≡ journal_block self.now number part }
+    {
+        let place = self.journal_place(number);
+        let shape = self.journal();
+        match part {
+            Part::Top => self.put_pointing_dinode(block, 5 + number, place, shape),
+            Part::Pointers { level, index } => self.put_pointers(block, place, shape, level, index),
+            Part::Content(0) => self.put_clean_header(block, number),
+            Part::Content(_) => self.clear(block),
+        }
+    }
+
+    // A block that is taken.
+    fn put_used(&self, block: &mut [u8], used: Use, entries: &[u8])
+        requires plan { IsFitting self.now }
+        requires size { length block.old ≡ self.now.size }
+        requires entries { IsGroupList self.now entries.now }
+        requires used { IsUseOf self.now used }
+        ensures { block.new ≡ used_block self.now used }
+    {
+        match used {
+            Use::Master => self.put_master(block),
+            Use::Root => self.put_root(block),
+            Use::GroupList(part) => self.put_group_list(block, part, entries),
+            Use::Journals => self.put_journals(block),
+            Use::Journal { number, part } => self.put_journal(block, number, part),
+        }
+    }
+}
