@@ -1,0 +1,3 @@
+//! What a disk image stands for: the owner of every block, what each inode says, the file tree that reads from the
+//! root, and which block breaks which rule.
+#![tactic(auto)]
