@@ -1,10 +1,10 @@
 -- Who claims a block: whatever is reached from the superblock and names it, in any image, right or wrong, and without a table of owners.
-use Rattle.std.specs.Prelude.{ℕ, suc, ◌≡◌, ◌≢◌, ◌+◌, ◌*◌, ◌/◌, ◌<◌, ◌==◌, Bool, true, false, if◌then◌else◌, List, slice_get, codes, Contains, Some}
-use Rattle.gfs2_layout.specs.Structures.{dinode_length, is_regular}
+use Rattle.std.specs.Prelude.{ℕ, suc, ◌≡◌, ◌≢◌, ◌+◌, ◌*◌, ◌/◌, ◌<◌, ◌==◌, true, false, if◌then◌else◌, List, codes, Contains, Some}
+use Rattle.gfs2_layout.specs.Structures.{dinode_length}
 use Rattle.gfs2_layout.specs.declared.rindex.Rindex.{Rindex}
 use Rattle.image_model.specs.Groups.{groups_in, IsListed}
 use Rattle.image_model.specs.Image.{Image, superblock_place, superblock_in}
-use Rattle.image_model.specs.Inode.{dinode_in, height_in, is_directory_in, is_hashed_in, header_length, fan, pointer, span, unit, content_block, content_of, linear_area, leaf_area, leaf_in, table_count, entry, first_hash}
+use Rattle.image_model.specs.Inode.{height_in, is_directory_in, is_hashed_in, header_length, fan, pointer, span, unit, content_block, content_of, linear_area, leaf_area, leaf_in, table_count, entry, first_hash}
 use Rattle.image_model.specs.Journals.{journal_name}
 use Rattle.image_model.specs.Owners.{Owner, Root, Master, Named, Below, Chained, is_dinode, Holding, Itself}
 use Rattle.image_model.specs.Records.{Record, records_in, is_dots}

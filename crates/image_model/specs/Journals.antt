@@ -1,5 +1,5 @@
 -- A journal: a ring of blocks, and the head among the log headers in it.
-use Rattle.std.specs.Prelude.{ℕ, zero, suc, ◌≡◌, ◌≢◌, ◌+◌, ◌/◌, ◌%◌, ◌<◌, ◌==◌, Bool, true, nat_lt, if◌then◌else◌, List, ◌++◌, codes, decimal, Option, None, Some, Result, Ok, Err}
+use Rattle.std.specs.Prelude.{ℕ, zero, suc, ◌≡◌, ◌≢◌, ◌+◌, ◌/◌, ◌%◌, ◌<◌, ◌==◌, true, nat_lt, if◌then◌else◌, List, ◌++◌, codes, decimal, Option, None, Some, Result, Ok, Err}
 use Rattle.gfs2_layout.specs.Structures.{log_read, is_regular}
 use Rattle.gfs2_layout.specs.declared.fault.LayoutFault.{LayoutFault}
 use Rattle.gfs2_layout.specs.declared.log_header.LogHeader.{LogHeader}

@@ -1,6 +1,6 @@
 -- Who owns each block, and what an inode has.
 use Rattle.std.specs.Prelude.{ℕ, ◌≡◌, ◌==◌, Bool, true, false, if◌then◌else◌, List, [], Option, None, Some}
-use Rattle.image_model.specs.Image.{Image, Blocks}
+use Rattle.image_model.specs.Image.{Image}
 
 -- the owner of a block, and the block's part in it
 pub data Owner : Type 0 where

@@ -1,5 +1,5 @@
 -- The images that are mounted, among those that stand: what else they have.
-use Rattle.std.specs.Prelude.{ℕ, ◌≡◌, ◌⊎◌, ◌/◌, ◌^◌, ◌<◌, ◌≤◌, List, length, sum_by, codes, Some}
+use Rattle.std.specs.Prelude.{ℕ, ◌≡◌, ◌⊎◌, ◌^◌, ◌<◌, ◌≤◌, List, length, sum_by, codes, Some}
 use Rattle.gfs2_layout.specs.declared.log_header.LogHeader.{LogHeader}
 use Rattle.gfs2_layout.specs.declared.rindex.Rindex.{Rindex}
 use Rattle.image_model.specs.Claims.{every, LeadsTo}

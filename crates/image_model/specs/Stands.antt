@@ -1,5 +1,5 @@
 -- An image stands for a tree.
-use Rattle.std.specs.Prelude.{ℕ, ◌≡◌, ◌⊎◌, ◌+◌, ◌*◌, ◌%◌, ◌<◌, ◌≤◌, ◌==◌, ◌&&◌, not, true, false, if◌then◌else◌, List, length, count_by, codes, slice_get, Contains, None, Some}
+use Rattle.std.specs.Prelude.{ℕ, ◌≡◌, ◌⊎◌, ◌+◌, ◌%◌, ◌<◌, ◌≤◌, ◌==◌, ◌&&◌, not, true, false, if◌then◌else◌, List, length, count_by, codes, slice_get, Contains, Some}
 use Rattle.std.specs.Str.{bytes_eq}
 use Rattle.file_tree.specs.Tree.{Tree}
 use Rattle.file_tree.specs.Names.{IsName}
@@ -13,7 +13,7 @@ use Rattle.image_model.specs.Headers.{HasHeader}
 use Rattle.image_model.specs.Image.{Image, IsImage, superblock_place, superblock_in}
 use Rattle.image_model.specs.Inode.{Head, head_of, dinode_in, is_directory_in, node_of, records_of, IsInode}
 use Rattle.image_model.specs.Journals.{journal_name, IsJournal}
-use Rattle.image_model.specs.Owners.{Owner, Owners, Super, InGroup, Free, Nobody, Root, Master, Named, Up, up_of, parent_of, is_dinode, IsUsed, IsWithin, Holding, holding}
+use Rattle.image_model.specs.Owners.{Owners, Super, InGroup, Free, Nobody, Root, Master, Named, Up, up_of, parent_of, is_dinode, IsUsed, IsWithin, Holding, holding}
 use Rattle.image_model.specs.Records.{Record, is_dots}
 
 -- what a mount finds: the two top directories, the two system files in the master directory, the groups, the journals' dinodes in order
