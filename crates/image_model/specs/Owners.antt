@@ -87,9 +87,12 @@ abbrev pub cell_of : Option Part → List ℕ → Option Cell
 cell_of None bytes = None
 cell_of (Some part) bytes = Some (record { part = part; bytes = bytes })
 
--- what the inode in block a has
-unfoldable pub holding : Image → Owners → ℕ → Holding
-holding im owners a = record { size = im.size; count = im.count; own = a; cell = λ b. cell_of (part_in a b (owners b)) (im.at b) }
+-- what the inode in block a has of a block
+unfoldable pub cell_in : Image → Owners → ℕ → ℕ → Option Cell
+cell_in im owners a b = cell_of (part_in a b (owners b)) (im.at b)
+
+abbrev pub holding : Image → Owners → ℕ → Holding
+holding im owners a = record { size = im.size; count = im.count; own = a; cell = cell_in im owners a }
 
 abbrev pub cell_bytes : Option Cell → List ℕ
 cell_bytes None = []
