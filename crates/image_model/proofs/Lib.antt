@@ -2,3 +2,4 @@ pub mod Members
 pub mod Held
 pub mod Same
 pub mod Rows
+pub mod Reach
