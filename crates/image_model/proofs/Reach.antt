@@ -182,3 +182,46 @@ module _ (im : Image) (owners : Owners) (l : Layout) (laid : IsLaid im owners l)
         let child = named_child (holding im owners a) name b (ap (λ (n : Node). n.child name) (sym (cond-true _ (node_of (holding im owners a)) no_node dinode)) ∙ e) in
         let c = record_claim child.directory child.leads.entry child.leads.there (ap is_dots child.leads.named ∙ child.name_is) in
         (c.0, subst (λ z. Claims im c.0 z (Named a name)) child.leads.address (subst (λ z. Claims im c.0 child.leads.entry.address (Named a z)) child.leads.named c.1))
+
+  dinode_of_name : (a : ℕ) (name : List ℕ) (b : ℕ) → owners b ≡ Named a name → is_dinode (owners b) ≡ true
+  dinode_of_name a name b row = ap is_dinode row
+
+  -- only an inode leads to a child
+  child_dinode : (a : ℕ) (name : List ℕ) (b : ℕ) → (flat_of im owners a).child name ≡ Some b → is_dinode (owners a) ≡ true
+  child_dinode a name b e = elim (cases_Bool (is_dinode (owners a))) [
+    | inl so ↦ so
+    | inr non ↦ absurd (none_some (ap (λ (n : Node). n.child name) (sym (cond-false _ (node_of (holding im owners a)) no_node non)) ∙ e))
+  ]
+
+  path_claim : (path : Path) (x a : ℕ) → IsClaimed im x (owners x) → follow (flat_of im owners) x path ≡ Some a → IsClaimed im a (owners a)
+  path_claim [] x a claim e = subst (λ z. IsClaimed im z (owners z)) (some_same e) claim
+  path_claim (n ∷ path) x a claim e = step ((flat_of im owners x).child n) refl (λ b. path_claim path b a) e
+    where
+      step : (o : Option ℕ) → (flat_of im owners x).child n ≡ o → ((b : ℕ) → IsClaimed im b (owners b) → follow (flat_of im owners) b path ≡ Some a → IsClaimed im a (owners a))
+          → option_and_then (λ b. follow (flat_of im owners) b path) o ≡ Some a → IsClaimed im a (owners a)
+      step None f more g = absurd (none_some g)
+      step (Some b) f more g =
+          let c = child_claim x (child_dinode x n b f) claim n b f in
+          more b (c.0, subst (Claims im c.0 b) (sym (claim_row im owners l laid c.0 b (Named x n) c.1)) c.1) g
+
+  pub inode_claim : (a : ℕ) → is_dinode (owners a) ≡ true → IsClaimed im a (owners a)
+  inode_claim a dinode = elim (laid.found a dinode) [
+    | inl way ↦ path_claim way.0 l.root a (superblock_place im.size, subst (Claims im (superblock_place im.size) l.root) (sym laid.root.0) (subst (λ z. Claims im (superblock_place im.size) z Root) laid.super.root root)) way.1
+    | inr way ↦ path_claim way.0 l.master a (superblock_place im.size, subst (Claims im (superblock_place im.size) l.master) (sym laid.master) (subst (λ z. Claims im (superblock_place im.size) z Master) laid.super.master master)) way.1
+  ]
+
+  -- each block in use is claimed by its owner
+  pub used_claim : (c : ℕ) (o : Owner) → owners c ≡ o → IsUsed o → IsClaimed im c o
+  used_claim c Super row used = elim used [ ]
+  used_claim c (InGroup g) row used = elim used [ ]
+  used_claim c (Free g) row used = elim used [ ]
+  used_claim c Nobody row used = elim used [ ]
+  used_claim c Root row used = subst (IsClaimed im c) row (inode_claim c (ap is_dinode row))
+  used_claim c Master row used = subst (IsClaimed im c) row (inode_claim c (ap is_dinode row))
+  used_claim c (Named a name) row used = subst (IsClaimed im c) row (inode_claim c (ap is_dinode row))
+  used_claim c (Below a b k level first) row used =
+      let d = laid.within c a (subst (IsWithin a) (sym row) refl) in
+      below_claim a d (inode_claim a d) c b k level first row
+  used_claim c (Chained a hash place) row used =
+      let d = laid.within c a (subst (IsWithin a) (sym row) refl) in
+      leaf_claim a d (inode_claim a d) place hash c row
