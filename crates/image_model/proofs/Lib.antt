@@ -3,3 +3,5 @@ pub mod Held
 pub mod Same
 pub mod Rows
 pub mod Reach
+pub mod Trees
+pub mod Unique

@@ -1,3 +1,7 @@
 //! What a disk image stands for: the owner of every block, what each inode says, the file tree that reads from the
 //! root, and which block breaks which rule.
 #![tactic(auto)]
+
+mod laws;
+
+pub use laws::images_stand_for_one_tree;
