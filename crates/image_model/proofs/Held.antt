@@ -5,10 +5,10 @@ use Rattle.std.proofs.lemmas.Bool.{cases_eq, cond-true, cond-false, eq-eqb, ne_e
 use Rattle.image_model.specs.Image.{Image}
 use Rattle.image_model.specs.Owners.{Owner, Owners, Super, InGroup, Free, Nobody, Root, Master, Named, Below, Chained, is_dinode, Part, Itself, Pointed, InChain, part_in, cell_of, cell_bytes, cell_part, cell_in, holding, bytes_at, part_at}
 
-none_some : {X : Type 0} {x : X} → ◌≡◌ {A = Option X} None (Some x) → ⊥
+pub none_some : {X : Type 0} {x : X} → ◌≡◌ {A = Option X} None (Some x) → ⊥
 none_some e = cc
 
-some_same : {X : Type 0} {x y : X} → Some x ≡ Some y → x ≡ y
+pub some_same : {X : Type 0} {x y : X} → Some x ≡ Some y → x ≡ y
 some_same e = cc
 
 -- an inode has its own dinode

@@ -5,3 +5,4 @@ pub mod Rows
 pub mod Reach
 pub mod Trees
 pub mod Unique
+pub mod Facts

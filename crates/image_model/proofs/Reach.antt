@@ -16,21 +16,15 @@ use Rattle.image_model.specs.Records.{Record, records_in, is_dots, record_named,
 use Rattle.image_model.specs.Flat.{Path, Node, no_node, follow}
 use Rattle.image_model.specs.Inode.{height_in, is_directory_in, is_hashed_in, header_length, fan, span, pointer, linear_area, leaf_area, is_leaf_part, leaves_of, records_of, child_of, node_of, IsPointed, by_dinode, by_block, table_count, entry, leaf_in, first_hash}
 use Rattle.image_model.specs.Stands.{Layout, IsLaid, flat_of}
-use Rattle.image_model.specs.Claims.{every, Leads, from_dinode, from_block, Claims, root, master, below, leaf, next_leaf, in_dinode, in_leaf, entry_block}
+use Rattle.image_model.specs.Claims.{every, Leads, from_dinode, from_block, Claims, root, master, below, first_leaf, next_leaf, in_dinode, in_leaf, entry_block}
 use Rattle.image_model.proofs.Members.{IsIn, contained, is_in, from_flat_map, from_filter}
-use Rattle.image_model.proofs.Held.{own_block, block_same, pointed_owner, chained_owner, pointed_part, chained_part}
+use Rattle.image_model.proofs.Held.{none_some, some_same, own_block, block_same, pointed_owner, chained_owner, pointed_part, chained_part}
 use Rattle.image_model.proofs.Same.{entry_same, leaf_same}
 use Rattle.image_model.proofs.Rows.{sound, dinode_is, directory_is, hashed_is, count_is, entry_part, first_hash_is, claim_row, leaf_row, leaf_hashed}
 
 -- a block is claimed by this owner
 abbrev pub IsClaimed : Image → ℕ → Owner → Type 0
 IsClaimed im c o = (by : ℕ) × Claims im by c o
-
-some_same : {X : Type 0} {x y : X} → Some x ≡ Some y → x ≡ y
-some_same e = cc
-
-none_some : {X : Type 0} {x : X} → ◌≡◌ {A = Option X} None (Some x) → ⊥
-none_some e = cc
 
 -- what is found in a list is in it, and passes the test
 found_in : {X : Type 0} (test : X → Bool) (x : X) (xs : List X) → find test xs ≡ Some x → IsIn x xs × (test x ≡ true)
@@ -141,7 +135,7 @@ module _ (im : Image) (owners : Owners) (l : Layout) (laid : IsLaid im owners l)
           entry_block (every im a) at.0,
           subst (λ z. Claims im (entry_block (every im a) at.0) z (Chained a hash 0)) same
           (subst (λ z. Claims im (entry_block (every im a) at.0) (entry (every im a) at.0) (Chained a z 0)) begins
-          (leaf claim.0 a (owners a) at.0 claim.1 dinode (sym (hashed_is im owners l laid a dinode) ∙ hashed) low)),
+          (first_leaf claim.0 a (owners a) at.0 claim.1 dinode (sym (hashed_is im owners l laid a dinode) ∙ hashed) low)),
         )
     leaf_claim (suc place) hash x row =
         let part = chained_part im owners a x hash (suc place) row in
@@ -187,7 +181,7 @@ module _ (im : Image) (owners : Owners) (l : Layout) (laid : IsLaid im owners l)
   dinode_of_name a name b row = ap is_dinode row
 
   -- only an inode leads to a child
-  child_dinode : (a : ℕ) (name : List ℕ) (b : ℕ) → (flat_of im owners a).child name ≡ Some b → is_dinode (owners a) ≡ true
+  pub child_dinode : (a : ℕ) (name : List ℕ) (b : ℕ) → (flat_of im owners a).child name ≡ Some b → is_dinode (owners a) ≡ true
   child_dinode a name b e = elim (cases_Bool (is_dinode (owners a))) [
     | inl so ↦ so
     | inr non ↦ absurd (none_some (ap (λ (n : Node). n.child name) (sym (cond-false _ (node_of (holding im owners a)) no_node non)) ∙ e))

@@ -10,9 +10,9 @@ use Rattle.gfs2_layout.specs.declared.leaf.Leaf.{Leaf}
 use Rattle.image_model.specs.Image.{Image}
 use Rattle.image_model.specs.Owners.{Owner, Owners, Root, Master, Named, Below, Chained, is_dinode, IsUsed, IsWithin, Pointed, InChain, Holding, holding, bytes_at, part_at}
 use Rattle.image_model.specs.Records.{Record, records_in, is_dots}
-use Rattle.image_model.specs.Inode.{dinode_in, height_in, has_hash_flag, is_directory_in, is_hashed_in, header_length, fan, span, pointer, linear_area, leaf_area, is_leaf_part, leaves_of, records_of, IsInode, depth_in, table_count, entry, leaf_in, first_hash, index_bits}
+use Rattle.image_model.specs.Inode.{dinode_in, height_in, has_hash_flag, is_directory_in, is_hashed_in, header_length, fan, span, pointer, linear_area, leaf_area, is_leaf_part, leaves_of, records_of, IsChild, IsInode, depth_in, table_count, entry, leaf_in, first_hash, index_bits}
 use Rattle.image_model.specs.Stands.{Layout, IsLaid}
-use Rattle.image_model.specs.Claims.{every, Leads, from_dinode, from_block, Claims, root, master, below, leaf, next_leaf, in_dinode, in_leaf}
+use Rattle.image_model.specs.Claims.{every, Leads, from_dinode, from_block, Claims, root, master, below, first_leaf, next_leaf, in_dinode, in_leaf}
 use Rattle.image_model.proofs.Members.{IsIn, contained, is_in, in_flat_map, from_flat_map, in_filter, from_filter, in_range}
 use Rattle.image_model.proofs.Held.{own_block, block_same, pointed_owner, chained_owner, pointed_part, chained_part}
 use Rattle.image_model.proofs.Same.{dinode_same, entry_same, leaf_same}
@@ -31,18 +31,18 @@ module _ (im : Image) (owners : Owners) (l : Layout) (laid : IsLaid im owners l)
     pub hashed_is : is_hashed_in (holding im owners a) ≡ is_hashed_in (every im a)
     hashed_is = ap (λ d. is_directory d && has_hash_flag d) dinode_is
 
-    -- a pointer that is reached leads to a block whose part it is
-    pub leads_part : (b k level first c : ℕ) → Leads (every im a) b k level first c → part_at (holding im owners a) c ≡ Some (Pointed b k level first)
-    leads_part _ _ _ _ _ (from_dinode k level high low some) =
+    -- a pointer that is reached leads to a block whose part it is, and to content before the inode's end
+    pub leads_child : (b k level first c : ℕ) → Leads (every im a) b k level first c → IsChild (holding im owners a) b k level first c
+    leads_child _ _ _ _ _ (from_dinode k level high low some) =
         let same : pointer (holding im owners a) dinode_length a k ≡ pointer (every im a) dinode_length a k = ap (u64_at (dinode_length + 8 * k)) (own_block im owners a dinode) in
-        subst (λ z. part_at (holding im owners a) z ≡ Some (Pointed a k level (k * span im.size level))) same
-        (sound.tree.top level (ap (λ (d : Dinode). d.height) dinode_is ∙ high) k low (λ e. some (sym same ∙ e))).part
-    leads_part _ _ _ _ _ (from_block b k level first c j way low some) =
-        let g = leads_part b k (suc level) first c way in
+        subst (IsChild (holding im owners a) a k level (k * span im.size level)) same
+        (sound.tree.top level (ap (λ (d : Dinode). d.height) dinode_is ∙ high) k low (λ e. some (sym same ∙ e)))
+    leads_child _ _ _ _ _ (from_block b k level first c j way low some) =
+        let g = (leads_child b k (suc level) first c way).part in
         let same : pointer (holding im owners a) header_length c j ≡ pointer (every im a) header_length c j
         = ap (u64_at (header_length + 8 * j)) (block_same im owners a c (Pointed b k (suc level) first) g) in
-        subst (λ z. part_at (holding im owners a) z ≡ Some (Pointed c j level (first + j * span im.size level))) same
-        (sound.tree.inner c b k level first g j low (λ e. some (sym same ∙ e))).part
+        subst (IsChild (holding im owners a) c j level (first + j * span im.size level)) same
+        (sound.tree.inner c b k level first g j low (λ e. some (sym same ∙ e)))
 
     -- what a linear directory's block has as a record is one of its records
     pub linear_record : is_hashed_in (holding im owners a) ≡ false → (r : Record) → Contains (records_in (linear_area (every im a))) r → Contains (records_of (holding im owners a)) r
@@ -106,8 +106,8 @@ module _ (im : Image) (owners : Owners) (l : Layout) (laid : IsLaid im owners l)
   claim_row _ _ _ master = ap owners laid.super.master ∙ laid.master
   claim_row _ _ _ (below by a o b k level first c claim dinode leads) =
       let d : is_dinode (owners a) ≡ true = ap is_dinode (claim_row by a o claim) ∙ dinode in
-      pointed_owner im owners a c b k level first (leads_part a d b k level first c leads)
-  claim_row _ _ _ (leaf by a o i claim dinode hashed low) =
+      pointed_owner im owners a c b k level first (leads_child a d b k level first c leads).part
+  claim_row _ _ _ (first_leaf by a o i claim dinode hashed low) =
       let d : is_dinode (owners a) ≡ true = ap is_dinode (claim_row by a o claim) ∙ dinode in
       let so : is_hashed_in (holding im owners a) ≡ true = hashed_is a d ∙ hashed in
       ap owners (sym (entry_same im owners a d (sound a d) i))

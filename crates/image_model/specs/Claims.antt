@@ -32,7 +32,7 @@ pub data Claims (im : Image) : ℕ → ℕ → Owner → Type 0 where
   master : Claims im (superblock_place im.size) (superblock_in im).master.address Master
   below : (by a : ℕ) (o : Owner) (b k level first c : ℕ) → Claims im by a o → is_dinode o ≡ true → Leads (every im a) b k level first c
       → Claims im b c (Below a b k level first)
-  leaf : (by a : ℕ) (o : Owner) (i : ℕ) → Claims im by a o → is_dinode o ≡ true → is_hashed_in (every im a) ≡ true → i < table_count (every im a)
+  first_leaf : (by a : ℕ) (o : Owner) (i : ℕ) → Claims im by a o → is_dinode o ≡ true → is_hashed_in (every im a) ≡ true → i < table_count (every im a)
       → Claims im (entry_block (every im a) i) (entry (every im a) i) (Chained a (first_hash (every im a) i) 0)
   next_leaf : (by x a hash place : ℕ) → Claims im by x (Chained a hash place) → (leaf_in (every im a) x).next ≢ 0
       → Claims im x (leaf_in (every im a) x).next (Chained a hash (place + 1))
@@ -60,8 +60,8 @@ HasLeaf im a x = (by hash place : ℕ) × Claims im by x (Chained a hash place)
 
 -- an area of records of the directory in block a: behind its dinode, or in a leaf, each with the block that it stands in
 pub data HasArea (im : Image) (a : ℕ) : ℕ → List ℕ → Type 0 where
-  linear : HasDirectory im a → is_hashed_in (every im a) ≡ false → HasArea im a a (linear_area (every im a))
-  leaf : (x : ℕ) → HasLeaf im a x → HasArea im a x (leaf_area (every im a) x)
+  behind_dinode : HasDirectory im a → is_hashed_in (every im a) ≡ false → HasArea im a a (linear_area (every im a))
+  of_leaf : (x : ℕ) → HasLeaf im a x → HasArea im a x (leaf_area (every im a) x)
 
 -- ---- the system files
 
@@ -88,4 +88,4 @@ HasJournal im j d = (jindex : ℕ) × IsJindex im jindex × LeadsTo im jindex (j
 -- the inode in block a is that of a directory's tree: the directory, or one to which names lead from it
 pub data IsUnder (im : Image) (top : ℕ) : ℕ → Type 0 where
   itself : IsUnder im top top
-  named : (a b : ℕ) (name : List ℕ) → IsUnder im top a → LeadsTo im a name b → IsUnder im top b
+  by_name : (a b : ℕ) (name : List ℕ) → IsUnder im top a → LeadsTo im a name b → IsUnder im top b

@@ -22,13 +22,13 @@ use Rattle.image_model.specs.Stands.{kind_of, directory_count}
 
 -- the header that a place needs
 pub data Needs (im : Image) : ℕ → ℕ → ℕ → Type 0 where
-  superblock : Needs im (superblock_place im.size) 1 100
-  group : (g : Rindex) → HasGroup im g → Needs im g.address 2 200
-  bitmap : (g : Rindex) (k : ℕ) → HasGroup im g → 0 < k → k < g.length → Needs im (g.address + k) 3 300
-  dinode : (a : ℕ) → HasInode im a → Needs im a 4 400
-  indirect : (by a x b k level first : ℕ) → Claims im by x (Below a b k (suc level) first) → Needs im x 5 500
-  table : (by a x b k first : ℕ) → Claims im by x (Below a b k 0 first) → is_directory_in (every im a) ≡ true → Needs im x 7 700
-  leaf : (a x : ℕ) → HasLeaf im a x → Needs im x 6 600
+  of_superblock : Needs im (superblock_place im.size) 1 100
+  of_group : (g : Rindex) → HasGroup im g → Needs im g.address 2 200
+  of_bitmap : (g : Rindex) (k : ℕ) → HasGroup im g → 0 < k → k < g.length → Needs im (g.address + k) 3 300
+  of_dinode : (a : ℕ) → HasInode im a → Needs im a 4 400
+  of_indirect : (by a x b k level first : ℕ) → Claims im by x (Below a b k (suc level) first) → Needs im x 5 500
+  of_table : (by a x b k first : ℕ) → Claims im by x (Below a b k 0 first) → is_directory_in (every im a) ≡ true → Needs im x 7 700
+  of_leaf : (a x : ℕ) → HasLeaf im a x → Needs im x 6 600
 
 -- the block lies in no group's data blocks
 abbrev pub IsOutside : Image → ℕ → Type 0
@@ -68,8 +68,8 @@ pub record AreLeaves (im : Image) (a : ℕ) (leaves : List ℕ) : Type 0 where
 
 -- all records of a directory
 pub data HasRecords (im : Image) (a : ℕ) : List Record → Type 0 where
-  linear : HasDirectory im a → is_hashed_in (every im a) ≡ false → HasRecords im a (records_in (linear_area (every im a)))
-  hashed : (leaves : List ℕ) → HasDirectory im a → is_hashed_in (every im a) ≡ true → AreLeaves im a leaves
+  from_dinode_block : HasDirectory im a → is_hashed_in (every im a) ≡ false → HasRecords im a (records_in (linear_area (every im a)))
+  from_leaves : (leaves : List ℕ) → HasDirectory im a → is_hashed_in (every im a) ≡ true → AreLeaves im a leaves
       → HasRecords im a (flat_map (λ x. records_in (leaf_area (every im a) x)) leaves)
 
 -- a record of a directory, and the block that it stands in
@@ -172,4 +172,4 @@ pub data Breaks (im : Image) : ℕ → ℕ → Type 0 where
       → i < j → h.address < end_of g → Breaks im 18 d
   bare : (b : ℕ) → superblock_place im.size < b → b < im.count → ((g : Rindex) → HasGroup im g → ¬ (IsNear g b)) → Breaks im 18 b
   -- 19: a dinode's `blocks` isn't the count
-  block_count : (a : ℕ) (blocks : List ℕ) → HasInode im a → AreWithin im a blocks → (dinode_in (every im a)).blocks ≢ 1 + length blocks → Breaks im 19 a
+  blocks_count : (a : ℕ) (blocks : List ℕ) → HasInode im a → AreWithin im a blocks → (dinode_in (every im a)).blocks ≢ 1 + length blocks → Breaks im 19 a
