@@ -6,3 +6,5 @@ pub mod Reach
 pub mod Trees
 pub mod Unique
 pub mod Facts
+pub mod AreaFacts
+pub mod Unbroken

@@ -67,7 +67,7 @@ named_child h name b e = elim (cases_Bool (is_directory_in h)) [
   ]
 ]
 
-leaf_part : (o : Option Part) → is_leaf_part o ≡ true → (hash place : ℕ) × (o ≡ Some (InChain hash place))
+pub leaf_part : (o : Option Part) → is_leaf_part o ≡ true → (hash place : ℕ) × (o ≡ Some (InChain hash place))
 leaf_part None e = absurd (true≢false (sym e))
 leaf_part (Some Itself) e = absurd (true≢false (sym e))
 leaf_part (Some (Pointed b k level first)) e = absurd (true≢false (sym e))

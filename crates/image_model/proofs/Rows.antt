@@ -17,6 +17,10 @@ use Rattle.image_model.proofs.Members.{IsIn, contained, is_in, in_flat_map, from
 use Rattle.image_model.proofs.Held.{own_block, block_same, pointed_owner, chained_owner, pointed_part, chained_part}
 use Rattle.image_model.proofs.Same.{dinode_same, entry_same, leaf_same}
 
+pub and_left : (p q : Bool) → (p && q) ≡ true → p ≡ true
+and_left true q e = refl
+and_left false q e = absurd (true≢false (sym e))
+
 module _ (im : Image) (owners : Owners) (l : Layout) (laid : IsLaid im owners l) where
   module _ (a : ℕ) (dinode : is_dinode (owners a) ≡ true) where
     pub sound : IsInode (holding im owners a)
@@ -96,10 +100,6 @@ module _ (im : Image) (owners : Owners) (l : Layout) (laid : IsLaid im owners l)
     | inl so ↦ so
     | inr non ↦ absurd ((laid.inodes a (leaf_row x a hash place row)).leafless non x hash place (chained_part im owners a x hash place row))
   ]
-
-  and_left : (p q : Bool) → (p && q) ≡ true → p ≡ true
-  and_left true q e = refl
-  and_left false q e = absurd (true≢false (sym e))
 
   pub claim_row : (by c : ℕ) (o : Owner) → Claims im by c o → owners c ≡ o
   claim_row _ _ _ root = ap owners laid.super.root ∙ laid.root.0
