@@ -8,3 +8,4 @@ pub mod Unique
 pub mod Facts
 pub mod AreaFacts
 pub mod Unbroken
+pub mod UnbrokenInodes
