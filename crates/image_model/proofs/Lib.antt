@@ -9,3 +9,5 @@ pub mod Facts
 pub mod AreaFacts
 pub mod Unbroken
 pub mod UnbrokenInodes
+pub mod Counts
+pub mod UnbrokenRecords
