@@ -21,7 +21,7 @@ use Rattle.image_model.specs.Rules.{HasRecordIn}
 use Rattle.image_model.proofs.Members.{IsIn, contained, is_in, in_filter, in_range}
 use Rattle.image_model.proofs.Counts.{all_in, at_in, count_some, count_two, one_passes, count_part, count_parts}
 use Rattle.image_model.proofs.Held.{own_block, block_same, chained_part}
-use Rattle.image_model.proofs.Rows.{sound, dinode_is, directory_is, hashed_is, leaf_row, leaf_hashed}
+use Rattle.image_model.proofs.Rows.{sound, dinode_is, directory_is, hashed_is, leaf_row, leaf_hashed, and_left}
 use Rattle.image_model.proofs.Reach.{used_low, child_dinode}
 use Rattle.image_model.proofs.Facts.{has_dinode, has_directory, has_leaf_row, inode_row, claims_used}
 use Rattle.image_model.proofs.AreaFacts.{IsAreaOf, area_of, record_there}
@@ -54,7 +54,6 @@ module _ (im : Image) (owners : Owners) (l : Layout) (laid : IsLaid im owners l)
       omega (arith, ap (count_by test) same, ap (λ area. count_by test (records_in area)) (leaf_area_is a x has),
       count_part test (λ y. records_in (leaf_area (holding im owners a) y)) x (leaves_of (holding im owners a)) (leaf_listed a x has))
 
-module _ (im : Image) (owners : Owners) (l : Layout) (laid : IsLaid im owners l) where
   module _ (a x : ℕ) (area : List ℕ) (has : HasArea im a x area) where
     of : IsAreaOf im owners a area
     of = area_of im owners l laid a x area has
@@ -138,4 +137,45 @@ module _ (im : Image) (owners : Owners) (l : Layout) (laid : IsLaid im owners l)
           two = count_two (λ t. bytes_eq r.name t.name) r s (records_in area) i j at at' d ((bytes_eq-Decides r.name r.name).1 refl) ((bytes_eq-Decides r.name s.name).1 e)
 
           part : count_by (λ t. bytes_eq r.name t.name) (records_in area) ≤ name_count (records_of (holding im owners a)) r.name
-          part = count_area im owners l laid a x area has (λ t. bytes_eq r.name t.name)
+          part = count_area a x area has (λ t. bytes_eq r.name t.name)
+
+  pub once_in_two : (a x y : ℕ) (area other : List ℕ) (r s : Record) → HasArea im a x area → HasArea im a y other → Contains (records_in area) r → Contains (records_in other) s
+      → x ≢ y → r.name ≡ s.name → ⊥
+  unfolding records_of
+  once_in_two a _ _ _ _ r s (behind_dinode has plain) (behind_dinode has' plain') there there' d e = absurd (d refl)
+  once_in_two a _ _ _ _ r s (behind_dinode has plain) (of_leaf y leaf) there there' d e =
+      both_ways _ (hashed_is im owners l laid a (has_dinode im owners l laid a has.inode) ∙ plain) (leaf_directory_hashed a y leaf)
+  once_in_two a _ _ _ _ r s (of_leaf x leaf) (behind_dinode has plain) there there' d e =
+      both_ways _ (hashed_is im owners l laid a (has_dinode im owners l laid a has.inode) ∙ plain) (leaf_directory_hashed a x leaf)
+  once_in_two a _ _ _ _ r s (of_leaf x leaf) (of_leaf y leaf') there there' d e =
+      absurd (omega (arith, one, other, parts, ap (count_by (λ t. bytes_eq r.name t.name)) same, dir.once r.name))
+    where
+      dir : IsDirectory (heads_of im owners) owners a (records_of (holding im owners a)) (dinode_in (holding im owners a))
+      dir = laid.directories a (leaf_row im owners l laid x a leaf.1 leaf.2 (has_leaf_row im owners l laid a x leaf)) (and_left _ _ (leaf_directory_hashed a x leaf))
+
+      same : records_of (holding im owners a) ≡ flat_map (λ z. records_in (leaf_area (holding im owners a) z)) (leaves_of (holding im owners a))
+      same = cond-true _ _ _ (leaf_directory_hashed a x leaf)
+
+      one : 1 ≤ count_by (λ t. bytes_eq r.name t.name) (records_in (leaf_area (holding im owners a) x))
+      one = count_some (λ t. bytes_eq r.name t.name) r (records_in (leaf_area (holding im owners a) x)) (subst (λ area. IsIn r (records_in area)) (sym (leaf_area_is a x leaf)) (is_in r _ there)) ((bytes_eq-Decides r.name r.name).1 refl)
+
+      other : 1 ≤ count_by (λ t. bytes_eq r.name t.name) (records_in (leaf_area (holding im owners a) y))
+      other = count_some (λ t. bytes_eq r.name t.name) s (records_in (leaf_area (holding im owners a) y)) (subst (λ area. IsIn s (records_in area)) (sym (leaf_area_is a y leaf')) (is_in s _ there')) ((bytes_eq-Decides r.name s.name).1 e)
+
+      parts : count_by (λ t. bytes_eq r.name t.name) (records_in (leaf_area (holding im owners a) x)) + count_by (λ t. bytes_eq r.name t.name) (records_in (leaf_area (holding im owners a) y))
+          ≤ count_by (λ t. bytes_eq r.name t.name) (flat_map (λ z. records_in (leaf_area (holding im owners a) z)) (leaves_of (holding im owners a)))
+      parts = count_parts (λ t. bytes_eq r.name t.name) (λ z. records_in (leaf_area (holding im owners a) z)) x y (leaves_of (holding im owners a)) (leaf_listed a x leaf) (leaf_listed a y leaf') d
+
+  -- `.` and `..` are there
+  module _ (a : ℕ) (has : HasDirectory im a) where
+    found_in_area : (name : List ℕ) (b : ℕ) → HasRecord (heads_of im owners) (records_of (holding im owners a)) name b
+        → ((x : ℕ) (r : Record) → HasRecordIn im a x r → r.name ≢ name) → ⊥
+    found_in_area name b has' none =
+        let at = record_there im owners l laid a (has_dinode im owners l laid a has.inode) (has_directory im owners l laid a has) has'.entry has'.there in
+        none at.0 has'.entry at.1 has'.named
+
+    pub has_dot : ((x : ℕ) (r : Record) → HasRecordIn im a x r → r.name ≢ codes ".") → ⊥
+    has_dot = found_in_area (codes ".") a (laid.directories a (has_dinode im owners l laid a has.inode) (has_directory im owners l laid a has)).dot
+
+    pub has_dots : ((x : ℕ) (r : Record) → HasRecordIn im a x r → r.name ≢ codes "..") → ⊥
+    has_dots = found_in_area (codes "..") (parent_of a (owners a)) (laid.directories a (has_dinode im owners l laid a has.inode) (has_directory im owners l laid a has)).dots
