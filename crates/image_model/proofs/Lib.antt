@@ -11,3 +11,5 @@ pub mod Unbroken
 pub mod UnbrokenInodes
 pub mod Counts
 pub mod UnbrokenRecords
+pub mod Rising
+pub mod UnbrokenCounts

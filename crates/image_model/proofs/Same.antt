@@ -21,7 +21,7 @@ positive i m k h = elim (cases_eq k 0) [
   | inr d ↦ omega (arith, d)
 ]
 
-flat_map_same : {X Y : Type 0} (f g : X → List Y) (xs : List X) → ((x : X) → IsIn x xs → f x ≡ g x) → flat_map f xs ≡ flat_map g xs
+pub flat_map_same : {X Y : Type 0} (f g : X → List Y) (xs : List X) → ((x : X) → IsIn x xs → f x ≡ g x) → flat_map f xs ≡ flat_map g xs
 flat_map_same f g [] each = refl
 flat_map_same f g (x ∷ xs) each = ap₂ ◌++◌ (each x (inl refl)) (flat_map_same f g xs (λ y h. each y (inr h)))
 
