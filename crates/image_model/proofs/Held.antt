@@ -30,10 +30,10 @@ other_part x a p q e = elim (cases_eq x a) [
   | inr d ↦ absurd (none_some (sym (cond-false _ (Some p) None (ne_eqb x a d)) ∙ e))
 ]
 
-not_pointed : (b k level first : ℕ) → Itself ≡ Pointed b k level first → ⊥
+pub not_pointed : (b k level first : ℕ) → Itself ≡ Pointed b k level first → ⊥
 not_pointed b k level first e = cc
 
-not_in_chain : (hash place : ℕ) → Itself ≡ InChain hash place → ⊥
+pub not_in_chain : (hash place : ℕ) → Itself ≡ InChain hash place → ⊥
 not_in_chain hash place e = cc
 
 pointed_in : (a c b k level first : ℕ) (o : Owner) → part_in a c o ≡ Some (Pointed b k level first) → o ≡ Below a b k level first
@@ -74,6 +74,17 @@ chained_in a c hash place (Chained d s n) e =
     same : InChain s n ≡ InChain hash place → Chained a s n ≡ Chained a hash place
     same e = cc
 
+itself_in : (a c : ℕ) (o : Owner) → part_in a c o ≡ Some Itself → c ≡ a
+itself_in a c Super e = cc
+itself_in a c (InGroup g) e = cc
+itself_in a c (Free g) e = cc
+itself_in a c Nobody e = cc
+itself_in a c Root e = (other_part c a Itself Itself e).0
+itself_in a c Master e = (other_part c a Itself Itself e).0
+itself_in a c (Named parent name) e = (other_part c a Itself Itself e).0
+itself_in a c (Below d b k level first) e = absurd (not_pointed b k level first (sym (other_part d a (Pointed b k level first) Itself e).1))
+itself_in a c (Chained d hash place) e = absurd (not_in_chain hash place (sym (other_part d a (InChain hash place) Itself e).1))
+
 module _ (im : Image) (owners : Owners) where
   cell_part_in : (a b : ℕ) → part_at (holding im owners a) b ≡ part_in a b (owners b)
   unfolding cell_in
@@ -85,6 +96,9 @@ module _ (im : Image) (owners : Owners) where
 
   pub own_part : (a : ℕ) → is_dinode (owners a) ≡ true → part_at (holding im owners a) a ≡ Some Itself
   own_part a e = cell_part_in a a ∙ own_part_in a (owners a) e
+
+  pub itself_own : (a c : ℕ) → part_at (holding im owners a) c ≡ Some Itself → c ≡ a
+  itself_own a c e = itself_in a c (owners c) (sym (cell_part_in a c) ∙ e)
 
   pub pointed_owner : (a c b k level first : ℕ) → part_at (holding im owners a) c ≡ Some (Pointed b k level first) → owners c ≡ Below a b k level first
   pointed_owner a c b k level first e = pointed_in a c b k level first (owners c) (sym (cell_part_in a c) ∙ e)
