@@ -13,3 +13,5 @@ pub mod Counts
 pub mod UnbrokenRecords
 pub mod Rising
 pub mod UnbrokenCounts
+pub mod Lengths
+pub mod UnbrokenSystem

@@ -68,7 +68,7 @@ module _ (im : Image) (owners : Owners) (a : ℕ) (dinode : is_dinode (owners a)
       ]
 
   module _ (level : ℕ) (high : height_in (holding im owners a) ≡ suc level) where
-    content_block_is : (i : ℕ) → i < fan im.size dinode_length * span im.size level
+    pub content_block_is : (i : ℕ) → i < fan im.size dinode_length * span im.size level
         → IsReached (holding im owners a) 0 (content_block (holding im owners a) i) × (content_block (holding im owners a) i ≡ content_block (every im a) i)
     unfolding content_block
     content_block_is i low =
