@@ -15,3 +15,4 @@ pub mod Rising
 pub mod UnbrokenCounts
 pub mod Lengths
 pub mod UnbrokenSystem
+pub mod Nothing

@@ -1,7 +1,12 @@
 //! What the definitions of images mean. The functions do nothing: their contracts are the laws.
-ghost use Rattle.image_model.specs.Laws.{OneTree};
+ghost use Rattle.image_model.specs.Laws.{NothingBreaks, OneTree};
 
 /// A law: an image stands for at most one tree.
 pub fn images_stand_for_one_tree()
     ensures { OneTree }
+{}
+
+/// A law: in an image that stands for a tree, no block breaks a rule.
+pub fn what_stands_breaks_nothing()
+    ensures { NothingBreaks }
 {}

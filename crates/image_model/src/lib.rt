@@ -4,4 +4,4 @@
 
 mod laws;
 
-pub use laws::images_stand_for_one_tree;
+pub use laws::{images_stand_for_one_tree, what_stands_breaks_nothing};
