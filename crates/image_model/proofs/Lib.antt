@@ -16,3 +16,4 @@ pub mod UnbrokenCounts
 pub mod Lengths
 pub mod UnbrokenSystem
 pub mod Nothing
+pub mod Table
