@@ -1,19 +1,19 @@
 -- The areas of records of the directories of an image that stands.
-use Rattle.std.proofs.Common.{◌≡◌, ℕ, ◌+◌, inl, inr, true, false, List, drop, Option, Some, refl, sym, ap, ap₂, ◌∙◌, subst, arith}
+use Rattle.std.proofs.Common.{◌≡◌, ℕ, inl, inr, true, List, drop, sym, ap, ◌∙◌, subst}
 use Rattle.std.proofs.lemmas.Bool.{cases_Bool, cond-true, cond-false}
-use Rattle.std.specs.Prelude.{Contains, codes, if◌then◌else◌}
+use Rattle.std.specs.Prelude.{Contains}
 use Rattle.std.specs.List.{range_with_len}
 use Rattle.gfs2_layout.specs.Structures.{dinode_length}
 use Rattle.image_model.specs.Image.{Image}
-use Rattle.image_model.specs.Owners.{Owner, Owners, Root, Named, Chained, is_dinode, parent_of, InChain, Holding, holding, part_at}
-use Rattle.image_model.specs.Records.{Record, records_in, IsRecordArea, is_dots}
-use Rattle.image_model.specs.Inode.{Head, head_of, dinode_in, is_directory_in, is_hashed_in, linear_area, leaf_area, is_leaf_part, leaves_of, records_of}
-use Rattle.image_model.specs.Stands.{Layout, IsLaid, IsDirectory, heads_of, kind_of, IsRecordOf, HasRecord}
-use Rattle.image_model.specs.Claims.{every, HasInode, HasDirectory, HasLeaf, HasArea, behind_dinode, of_leaf}
+use Rattle.image_model.specs.Owners.{Owners, is_dinode, InChain, holding, part_at}
+use Rattle.image_model.specs.Records.{Record, records_in, IsRecordArea}
+use Rattle.image_model.specs.Inode.{dinode_in, is_directory_in, is_hashed_in, linear_area, leaf_area, is_leaf_part, leaves_of, records_of}
+use Rattle.image_model.specs.Stands.{Layout, IsLaid, IsDirectory, heads_of}
+use Rattle.image_model.specs.Claims.{every, HasInode, HasDirectory, HasArea, behind_dinode, of_leaf}
 use Rattle.image_model.specs.Rules.{HasRecordIn}
 use Rattle.image_model.proofs.Members.{IsIn, contained, is_in, from_flat_map, from_filter}
 use Rattle.image_model.proofs.Held.{own_block, block_same, chained_owner, chained_part}
-use Rattle.image_model.proofs.Rows.{sound, dinode_is, directory_is, hashed_is, linear_record, leaf_record, leaf_row, leaf_hashed, and_left}
+use Rattle.image_model.proofs.Rows.{sound, directory_is, hashed_is, linear_record, leaf_record, leaf_row, leaf_hashed, and_left}
 use Rattle.image_model.proofs.Reach.{leaf_part, leaf_claim, inode_claim}
 use Rattle.image_model.proofs.Facts.{has_dinode, has_directory, has_leaf_row}
 

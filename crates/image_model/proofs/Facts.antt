@@ -1,24 +1,20 @@
 -- What claims say of an image that stands, in the words of its table.
-use Rattle.std.proofs.Common.{◌≡◌, ◌≢◌, ℕ, zero, suc, ◌+◌, ◌<◌, ◌≤◌, ◌⊎◌, inl, inr, Bool, true, false, List, [], ◌∷◌, ◌++◌, drop, Option, None, Some, refl, sym, ap, ap₂, ◌∙◌, subst, arith}
-use Rattle.std.proofs.lemmas.Bool.{cases_Bool, cond-true, cond-false, true≢false}
-use Rattle.std.specs.Prelude.{Contains, codes, ◌&&◌, option_and_then}
-use Rattle.std.specs.List.{range_with_len}
-use Rattle.gfs2_layout.specs.Structures.{dinode_length}
+use Rattle.std.proofs.Common.{◌≡◌, ℕ, inl, inr, true, false, List, [], ◌∷◌, ◌++◌, Option, None, Some, refl, sym, ap, ◌∙◌, subst}
+use Rattle.std.proofs.lemmas.Bool.{cases_Bool, cond-true, cond-false}
+use Rattle.std.specs.Prelude.{codes, option_and_then}
 use Rattle.gfs2_layout.specs.declared.rindex.Rindex.{Rindex}
-use Rattle.image_model.specs.Image.{Image, superblock_in}
-use Rattle.image_model.specs.Owners.{Owner, Owners, Root, Master, Named, Up, Below, Chained, is_dinode, IsUsed, Part, InChain, Holding, holding, part_at}
-use Rattle.image_model.specs.Records.{Record, records_in, IsRecordArea, is_dots}
-use Rattle.image_model.specs.Flat.{Path, Thing, AFile, ADir, Flat, Node, no_node, follow}
+use Rattle.image_model.specs.Image.{Image}
+use Rattle.image_model.specs.Owners.{Owner, Owners, Named, Up, Chained, is_dinode, IsUsed, Holding, holding}
+use Rattle.image_model.specs.Flat.{Path, AFile, ADir, Node, no_node, follow}
 use Rattle.image_model.specs.Groups.{groups_in, IsListed}
 use Rattle.image_model.specs.Journals.{journal_name, IsJournal}
-use Rattle.image_model.specs.Inode.{is_directory_in, is_hashed_in, content_of, thing_of, node_of, linear_area, leaf_area, is_leaf_part, leaves_of, records_of, IsInode}
+use Rattle.image_model.specs.Inode.{is_directory_in, content_of, thing_of, node_of}
 use Rattle.image_model.specs.Stands.{Layout, IsLaid, flat_of}
-use Rattle.image_model.specs.Claims.{every, Claims, root, master, below, first_leaf, next_leaf, in_dinode, in_leaf, IsInodeAt, HasInode, HasDirectory, HasLeaf, HasArea, behind_dinode, of_leaf, master_of, LeadsTo, IsRindex, IsJindex, HasGroup, HasJournal, IsUnder, itself, by_name}
-use Rattle.image_model.proofs.Members.{IsIn, contained, is_in, from_flat_map, from_filter}
-use Rattle.image_model.proofs.Held.{none_some, some_same, own_block, block_same, chained_owner, chained_part}
+use Rattle.image_model.specs.Claims.{every, Claims, root, master, below, first_leaf, next_leaf, in_dinode, in_leaf, IsInodeAt, HasInode, HasDirectory, HasLeaf, master_of, LeadsTo, IsRindex, IsJindex, HasGroup, HasJournal, IsUnder, itself, by_name}
+use Rattle.image_model.proofs.Held.{none_some, some_same}
 use Rattle.image_model.proofs.Same.{content_same}
-use Rattle.image_model.proofs.Rows.{sound, directory_is, hashed_is, linear_record, leaf_record, leaf_row, leaf_hashed, claim_row}
-use Rattle.image_model.proofs.Reach.{used_claim, child_claim, child_dinode, inode_claim}
+use Rattle.image_model.proofs.Rows.{sound, directory_is, claim_row}
+use Rattle.image_model.proofs.Reach.{child_claim, child_dinode, inode_claim}
 
 -- only owners of blocks in use claim
 pub claims_used : (im : Image) (by c : ℕ) (o : Owner) → Claims im by c o → IsUsed o

@@ -1,5 +1,5 @@
 -- The content of a sound inode is as long as its size says, and a journal's ring reads the same from its own blocks and block after block.
-use Rattle.std.proofs.Common.{◌≡◌, ◌≢◌, ℕ, zero, suc, ◌+◌, ◌-◌, ◌*◌, ◌/◌, ◌%◌, ◌<◌, ◌≤◌, ◌==◌, min, inl, inr, true, false, List, [], ◌∷◌, ◌++◌, length, drop, take, replicate, Option, None, Some, refl, sym, ap, ap₂, ◌∙◌, subst, arith, length-append}
+use Rattle.std.proofs.Common.{◌≡◌, ◌≢◌, ℕ, zero, suc, ◌+◌, ◌-◌, ◌*◌, ◌/◌, ◌%◌, ◌<◌, ◌≤◌, inl, inr, true, false, List, [], ◌∷◌, length, drop, take, refl, sym, ap, ap₂, ◌∙◌, subst, arith, length-append}
 use Rattle.std.proofs.lemmas.Bool.{cases_Bool, cases_eq, cond-true, cond-false, eq-eqb, ne_eqb, eqb-true}
 use Rattle.std.proofs.lemmas.List.{length-take, length-drop, length-replicate}
 use Rattle.std.proofs.lemmas.List.FromFn.{length-range_with_len}
@@ -10,8 +10,8 @@ use Rattle.std.specs.List.{range_with_len}
 use Rattle.gfs2_layout.specs.Structures.{dinode_length, is_directory, is_regular}
 use Rattle.gfs2_layout.specs.declared.dinode.Dinode.{Dinode}
 use Rattle.image_model.specs.Image.{Image, IsBlockSize}
-use Rattle.image_model.specs.Owners.{Owners, is_dinode, Part, Itself, Pointed, Holding, holding, bytes_at, part_at}
-use Rattle.image_model.specs.Inode.{dinode_in, height_in, is_directory_in, header_length, fan, span, unit, pieces, carried, content_block, content_count, content_of, IsInode}
+use Rattle.image_model.specs.Owners.{Owners, is_dinode, Itself, Pointed, holding, bytes_at}
+use Rattle.image_model.specs.Inode.{dinode_in, height_in, is_directory_in, header_length, unit, pieces, carried, content_block, content_count, content_of, IsInode}
 use Rattle.image_model.specs.Journals.{Ring, ring_of, accepted, better, best_from, head_in, IsJournal}
 use Rattle.image_model.specs.Claims.{every}
 use Rattle.image_model.proofs.Members.{IsIn, from_range}
@@ -75,12 +75,14 @@ module _ (im : Image) (owners : Owners) (large : 512 ≤ im.size) (a : ℕ) (din
       each (suc level) e =
           ap (λ bytes. length (take (dinode_in (holding im owners a)).size bytes)) (cond-false _ stuffed in_blocks (ne_eqb (height_in (holding im owners a)) 0 (λ z. absurd (omega (arith, e, z)))))
           ∙ length-take (dinode_in (holding im owners a)).size (flat_map (λ i. carried (holding im owners a) (content_block (holding im owners a) i)) (range_with_len 0 (content_count (holding im owners a))))
-          ∙ omega (arith,
+          ∙ omega (
+            arith,
             length_pieces (λ i. carried (holding im owners a) (content_block (holding im owners a) i)) (unit (holding im owners a)) (range_with_len 0 (content_count (holding im owners a)))
-            (λ i h. length_carried (content_block (holding im owners a) i)
-              (content_block_is im owners a dinode sound level e i (omega (arith, (from_range 0 (content_count (holding im owners a)) i h).1, sound.fits.under level e))).0),
+                (λ i h. length_carried (content_block (holding im owners a) i)
+                (content_block_is im owners a dinode sound level e i (omega (arith, (from_range 0 (content_count (holding im owners a)) i h).1, sound.fits.under level e))).0),
             ap (λ n. n * unit (holding im owners a)) (length-range_with_len 0 (content_count (holding im owners a))),
-            pieces_cover (dinode_in (holding im owners a)).size (unit (holding im owners a)) unit_low.1)
+            pieces_cover (dinode_in (holding im owners a)).size (unit (holding im owners a)) unit_low.1,
+          )
 
   -- a journal's places, read from its own blocks and block after block
   module _ (journal : IsJournal (holding im owners a)) where

@@ -1,15 +1,15 @@
 -- An image that stands for a tree breaks no rule.
-use Rattle.std.proofs.Common.{◌≡◌, ◌≢◌, ℕ, ◌+◌, ◌<◌, ◌≤◌, inl, inr, refl, sym, ap, ◌∙◌, subst, arith}
+use Rattle.std.proofs.Common.{ℕ, ap, ◌∙◌, arith}
 use Rattle.std.proofs.lemmas.Bool.{both_ways}
 use Rattle.file_tree.specs.Tree.{Tree}
 use Rattle.image_model.proofs.Members.{contained}
 use Rattle.image_model.proofs.Counts.{at_in}
 use Rattle.image_model.specs.Image.{Image}
-use Rattle.image_model.specs.Owners.{Owners, Owner, Chained, parent_of, is_dinode}
+use Rattle.image_model.specs.Owners.{Owners, parent_of}
 use Rattle.image_model.specs.Stands.{Layout, IsLaid, Stands}
 use Rattle.image_model.specs.Rules
 use Rattle.image_model.specs.Rules.{Breaks}
-use Rattle.image_model.proofs.Facts.{has_dinode, has_directory, has_leaf_row, inode_row, has_rindex, has_jindex}
+use Rattle.image_model.proofs.Facts.{has_dinode, inode_row, has_rindex, has_jindex}
 use Rattle.image_model.proofs.Unbroken.{header_there, on_device, in_a_group, one_owner, has_group, bits_right, free_counted, dinodes_counted}
 use Rattle.image_model.proofs.UnbrokenInodes as inodes
 use Rattle.image_model.proofs.UnbrokenRecords as records

@@ -1,7 +1,7 @@
 -- In an image that stands, each block in use is claimed by its owner.
-use Rattle.std.proofs.Common.{◌≡◌, ◌≢◌, ℕ, zero, suc, ◌+◌, ◌-◌, ◌*◌, ◌<◌, ◌≤◌, ◌⊎◌, inl, inr, Bool, true, false, List, [], ◌∷◌, drop, Option, None, Some, refl, sym, ap, ◌∙◌, subst, arith}
+use Rattle.std.proofs.Common.{◌≡◌, ◌≢◌, ℕ, zero, suc, ◌+◌, ◌-◌, ◌*◌, ◌<◌, inl, inr, Bool, true, false, List, [], ◌∷◌, drop, Option, None, Some, refl, sym, ap, ◌∙◌, subst, arith}
 use Rattle.std.proofs.lemmas.Bool.{cases_Bool, cond-true, cond-false, true≢false}
-use Rattle.std.specs.Prelude.{Contains, if◌then◌else◌, option_and_then, find}
+use Rattle.std.specs.Prelude.{Contains, option_and_then, find}
 use Rattle.std.specs.List.{range_with_len}
 use Rattle.std.specs.Option.{option_map}
 use Rattle.std.specs.Str.{bytes_eq}
@@ -10,17 +10,17 @@ use Rattle.gfs2_layout.specs.Bytes.{u64_at}
 use Rattle.gfs2_layout.specs.Structures.{dinode_length}
 use Rattle.gfs2_layout.specs.declared.dinode.Dinode.{Dinode}
 use Rattle.gfs2_layout.specs.declared.leaf.Leaf.{Leaf}
-use Rattle.image_model.specs.Image.{Image, superblock_place, superblock_in}
-use Rattle.image_model.specs.Owners.{Owner, Owners, Super, InGroup, Free, Nobody, Root, Master, Named, Below, Chained, is_dinode, IsUsed, IsWithin, Part, Itself, Pointed, InChain, Holding, holding, bytes_at, part_at}
+use Rattle.image_model.specs.Image.{Image, superblock_place}
+use Rattle.image_model.specs.Owners.{Owner, Owners, Super, InGroup, Free, Nobody, Root, Master, Named, Below, Chained, is_dinode, IsUsed, IsWithin, Part, Itself, Pointed, InChain, Holding, holding, part_at}
 use Rattle.image_model.specs.Records.{Record, records_in, is_dots, record_named, child_named}
 use Rattle.image_model.specs.Flat.{Path, Node, no_node, follow}
-use Rattle.image_model.specs.Inode.{height_in, is_directory_in, is_hashed_in, header_length, fan, span, pointer, linear_area, leaf_area, is_leaf_part, leaves_of, records_of, child_of, node_of, IsPointed, by_dinode, by_block, table_count, entry, leaf_in, first_hash}
+use Rattle.image_model.specs.Inode.{height_in, is_directory_in, is_hashed_in, header_length, span, pointer, leaf_area, is_leaf_part, leaves_of, records_of, child_of, node_of, IsPointed, by_dinode, by_block, table_count, entry, leaf_in, first_hash}
 use Rattle.image_model.specs.Stands.{Layout, IsLaid, flat_of}
 use Rattle.image_model.specs.Claims.{every, Leads, from_dinode, from_block, Claims, root, master, below, first_leaf, next_leaf, in_dinode, in_leaf, entry_block}
 use Rattle.image_model.proofs.Members.{IsIn, contained, is_in, from_flat_map, from_filter}
 use Rattle.image_model.proofs.Held.{none_some, some_same, own_block, block_same, pointed_owner, chained_owner, pointed_part, chained_part}
 use Rattle.image_model.proofs.Same.{entry_same, leaf_same}
-use Rattle.image_model.proofs.Rows.{sound, dinode_is, directory_is, hashed_is, count_is, entry_part, first_hash_is, claim_row, leaf_row, leaf_hashed}
+use Rattle.image_model.proofs.Rows.{sound, dinode_is, directory_is, hashed_is, count_is, entry_part, first_hash_is, claim_row, leaf_hashed}
 
 -- a block is claimed by this owner
 abbrev pub IsClaimed : Image → ℕ → Owner → Type 0
@@ -130,12 +130,11 @@ module _ (im : Image) (owners : Owners) (l : Layout) (laid : IsLaid im owners l)
         let same : entry (every im a) at.0 ≡ x = sym (entry_same im owners a dinode (sound im owners l laid a dinode) at.0) ∙ at.2 in
         let begins : first_hash (every im a) at.0 ≡ hash
         = sym (first_hash_is im owners l laid a dinode hashed at.0 low)
-        ∙ same_hash (first_hash (holding im owners a) at.0) hash (sym (entry_part im owners l laid a dinode hashed at.0 low) ∙ ap (part_at (holding im owners a)) at.2 ∙ part) in
-        (
+        ∙ same_hash (first_hash (holding im owners a) at.0) hash (sym (entry_part im owners l laid a dinode hashed at.0 low) ∙ ap (part_at (holding im owners a)) at.2 ∙ part) in (
           entry_block (every im a) at.0,
           subst (λ z. Claims im (entry_block (every im a) at.0) z (Chained a hash 0)) same
-          (subst (λ z. Claims im (entry_block (every im a) at.0) (entry (every im a) at.0) (Chained a z 0)) begins
-          (first_leaf claim.0 a (owners a) at.0 claim.1 dinode (sym (hashed_is im owners l laid a dinode) ∙ hashed) low)),
+              (subst (λ z. Claims im (entry_block (every im a) at.0) (entry (every im a) at.0) (Chained a z 0)) begins
+              (first_leaf claim.0 a (owners a) at.0 claim.1 dinode (sym (hashed_is im owners l laid a dinode) ∙ hashed) low)),
         )
     leaf_claim (suc place) hash x row =
         let part = chained_part im owners a x hash (suc place) row in
@@ -144,12 +143,11 @@ module _ (im : Image) (owners : Owners) (l : Layout) (laid : IsLaid im owners l)
         let before = leaf_claim place hash at.0 (chained_owner im owners a at.0 hash place at.1) in
         let same : (leaf_in (every im a) at.0).next ≡ x
         = ap (λ (y : Leaf). y.next) (sym (leaf_same im owners a dinode (sound im owners l laid a dinode) at.0 hash place at.1)) ∙ at.2 in
-        let one : place + 1 ≡ suc place = omega arith in
-        (
+        let one : place + 1 ≡ suc place = omega arith in (
           at.0,
           subst (λ z. Claims im at.0 x (Chained a hash z)) one
-          (subst (λ z. Claims im at.0 z (Chained a hash (place + 1))) same
-          (next_leaf before.0 at.0 a hash place before.1 (λ e. used_some x (subst IsUsed (sym row) tt) (sym same ∙ e)))),
+              (subst (λ z. Claims im at.0 z (Chained a hash (place + 1))) same
+              (next_leaf before.0 at.0 a hash place before.1 (λ e. used_some x (subst IsUsed (sym row) tt) (sym same ∙ e)))),
         )
 
     -- each record's name leads to a block that is claimed by it
@@ -160,7 +158,7 @@ module _ (im : Image) (owners : Owners) (l : Layout) (laid : IsLaid im owners l)
       | inr plain ↦ (
         a,
         in_dinode claim.0 a (owners a) r claim.1 dinode (sym (directory_is im owners l laid a dinode) ∙ dir) (sym (hashed_is im owners l laid a dinode) ∙ plain)
-        (subst (λ rs. Contains rs r) (cond-false _ _ _ plain ∙ ap (λ bytes. records_in (drop dinode_length bytes)) (own_block im owners a dinode)) there) name,
+            (subst (λ rs. Contains rs r) (cond-false _ _ _ plain ∙ ap (λ bytes. records_in (drop dinode_length bytes)) (own_block im owners a dinode)) there) name,
       )
       | inl hashed ↦
           let here = from_flat_map (λ x. records_in (leaf_area (holding im owners a) x)) r (leaves_of (holding im owners a)) (subst (IsIn r) (cond-true _ _ _ hashed) (is_in r _ there)) in

@@ -1,20 +1,20 @@
 -- In an image that stands, what claims a block is its owner in the table.
-use Rattle.std.proofs.Common.{◌≡◌, ◌≢◌, ℕ, suc, ◌+◌, ◌-◌, ◌*◌, ◌/◌, ◌^◌, ◌<◌, ◌≤◌, inl, inr, Bool, true, false, List, drop, Option, Some, refl, sym, ap, ap₂, ◌∙◌, subst, arith}
+use Rattle.std.proofs.Common.{◌≡◌, ℕ, suc, ◌+◌, ◌-◌, ◌*◌, ◌/◌, ◌^◌, ◌<◌, inl, inr, Bool, true, false, drop, Some, refl, sym, ap, ap₂, ◌∙◌, subst, arith}
 use Rattle.std.proofs.lemmas.Bool.{cases_Bool, cond-true, cond-false, true≢false}
-use Rattle.std.specs.Prelude.{Contains, filter, flat_map, ◌&&◌}
+use Rattle.std.specs.Prelude.{Contains, ◌&&◌}
 use Rattle.std.specs.List.{range_with_len}
 use Rattle.gfs2_layout.specs.Bytes.{u64_at}
 use Rattle.gfs2_layout.specs.Structures.{dinode_length, is_directory}
 use Rattle.gfs2_layout.specs.declared.dinode.Dinode.{Dinode}
 use Rattle.gfs2_layout.specs.declared.leaf.Leaf.{Leaf}
 use Rattle.image_model.specs.Image.{Image}
-use Rattle.image_model.specs.Owners.{Owner, Owners, Root, Master, Named, Below, Chained, is_dinode, IsUsed, IsWithin, Pointed, InChain, Holding, holding, bytes_at, part_at}
-use Rattle.image_model.specs.Records.{Record, records_in, is_dots}
-use Rattle.image_model.specs.Inode.{dinode_in, height_in, has_hash_flag, is_directory_in, is_hashed_in, header_length, fan, span, pointer, linear_area, leaf_area, is_leaf_part, leaves_of, records_of, IsChild, IsInode, depth_in, table_count, entry, leaf_in, first_hash, index_bits}
+use Rattle.image_model.specs.Owners.{Owner, Owners, Chained, is_dinode, IsUsed, IsWithin, Pointed, InChain, holding, part_at}
+use Rattle.image_model.specs.Records.{Record, records_in}
+use Rattle.image_model.specs.Inode.{dinode_in, has_hash_flag, is_directory_in, is_hashed_in, header_length, span, pointer, linear_area, leaf_area, is_leaf_part, leaves_of, records_of, IsChild, IsInode, table_count, entry, leaf_in, first_hash}
 use Rattle.image_model.specs.Stands.{Layout, IsLaid}
 use Rattle.image_model.specs.Claims.{every, Leads, from_dinode, from_block, Claims, root, master, below, first_leaf, next_leaf, in_dinode, in_leaf}
-use Rattle.image_model.proofs.Members.{IsIn, contained, is_in, in_flat_map, from_flat_map, in_filter, from_filter, in_range}
-use Rattle.image_model.proofs.Held.{own_block, block_same, pointed_owner, chained_owner, pointed_part, chained_part}
+use Rattle.image_model.proofs.Members.{IsIn, contained, is_in, in_flat_map, in_filter, in_range}
+use Rattle.image_model.proofs.Held.{own_block, block_same, pointed_owner, chained_owner, chained_part}
 use Rattle.image_model.proofs.Same.{dinode_same, entry_same, leaf_same}
 
 pub and_left : (p q : Bool) → (p && q) ≡ true → p ≡ true

@@ -1,5 +1,5 @@
 -- What is read of a sound inode block after block is what it says from its own blocks.
-use Rattle.std.proofs.Common.{◌≡◌, ◌≢◌, ℕ, zero, suc, ◌+◌, ◌-◌, ◌*◌, ◌/◌, ◌%◌, ◌<◌, ◌==◌, ◌⊎◌, inl, inr, Bool, true, false, List, [], ◌∷◌, ◌++◌, drop, take, Option, Some, refl, sym, ap, ap₂, ◌∙◌, subst, arith}
+use Rattle.std.proofs.Common.{◌≡◌, ◌≢◌, ℕ, zero, suc, ◌+◌, ◌-◌, ◌*◌, ◌/◌, ◌%◌, ◌<◌, ◌==◌, ◌⊎◌, inl, inr, Bool, true, List, [], ◌∷◌, ◌++◌, drop, take, Some, refl, sym, ap, ap₂, ◌∙◌, subst, arith}
 use Rattle.std.proofs.lemmas.Bool.{cases_eq, cond-true, cond-false, eq-eqb, ne_eqb}
 use Rattle.std.proofs.lemmas.Nat.{div_below}
 use Rattle.std.proofs.Math.Nat.{mul-zero}
@@ -10,9 +10,9 @@ use Rattle.gfs2_layout.specs.Structures.{dinode_of, dinode_length, leaf_of}
 use Rattle.gfs2_layout.specs.declared.dinode.Dinode.{Dinode}
 use Rattle.image_model.specs.Image.{Image}
 use Rattle.image_model.specs.Owners.{Owners, is_dinode, Pointed, InChain, Holding, holding, bytes_at, part_at}
-use Rattle.image_model.specs.Inode.{dinode_in, height_in, is_directory_in, header_length, fan, span, pointer, descend, content_block, unit, carried, pieces, content_count, content_of, EachPointer, IsChild, IsInode, entry, leaf_in}
+use Rattle.image_model.specs.Inode.{dinode_in, height_in, header_length, fan, span, pointer, descend, content_block, unit, carried, pieces, content_count, content_of, IsChild, IsInode, entry, leaf_in}
 use Rattle.image_model.specs.Claims.{every}
-use Rattle.image_model.proofs.Members.{IsIn, in_range, from_range}
+use Rattle.image_model.proofs.Members.{IsIn, from_range}
 use Rattle.image_model.proofs.Held.{own_block, block_same}
 
 positive : (i m k : ℕ) → i < m * k → 0 < k

@@ -1,16 +1,16 @@
 -- An image that stands has one table of owners, and one layout but for the order of its journals.
-use Rattle.std.proofs.Common.{◌≡◌, ℕ, zero, suc, ◌+◌, ◌<◌, ◌≤◌, ◌⊎◌, inl, inr, List, [], ◌∷◌, Option, Some, refl, sym, ap, ◌∙◌, subst, arith}
+use Rattle.std.proofs.Common.{◌≡◌, ℕ, zero, suc, ◌+◌, ◌<◌, ◌≤◌, ◌⊎◌, inl, inr, List, [], ◌∷◌, Some, refl, sym, ap, ◌∙◌, subst, arith}
 use Rattle.std.proofs.lemmas.Bool.{cases_lt}
 use Rattle.std.specs.Prelude.{codes, slice_get}
 use Rattle.gfs2_layout.specs.declared.rindex.Rindex.{Rindex}
 use Rattle.image_model.specs.Image.{Image, superblock_place}
 use Rattle.image_model.specs.Owners.{Owner, Owners, IsUsed}
-use Rattle.image_model.specs.Flat.{Thing, AFile, Flat, Node}
+use Rattle.image_model.specs.Flat.{AFile}
 use Rattle.image_model.specs.Groups.{IsListed, IsHeaderOf, IsDataOf, end_of, groups_in}
 use Rattle.image_model.specs.Stands.{Layout, IsLaid, IsJournalAt, flat_of}
 use Rattle.image_model.specs.Journals.{journal_name}
 use Rattle.image_model.proofs.Held.{some_same}
-use Rattle.image_model.proofs.Unique.{used_or_not, used_same, flat_same, roots_same}
+use Rattle.image_model.proofs.Unique.{used_or_not, used_same, flat_same}
 
 -- where a block lies among groups
 pub data Lies (groups : List Rindex) (b : ℕ) : Type 0 where

@@ -1,22 +1,17 @@
 -- An image that stands breaks none of the rules on single blocks, owners and groups.
-use Rattle.std.proofs.Common.{◌≡◌, ◌≢◌, ℕ, zero, suc, ◌+◌, ◌-◌, ◌*◌, ◌/◌, ◌<◌, ◌≤◌, ◌⊎◌, inl, inr, true, false, List, [], map, length, get_or, Option, Some, refl, sym, ap, ap₂, ◌∙◌, subst, arith}
-use Rattle.std.specs.List.{range_with_len}
+use Rattle.std.proofs.Common.{◌≡◌, ℕ, suc, ◌+◌, ◌-◌, ◌<◌, inl, inr, true, [], get_or, refl, sym, ap, ◌∙◌, subst, arith}
 use Rattle.std.proofs.lemmas.List.FromFn.{get_or-map-range_with_len}
-use Rattle.gfs2_layout.specs.Structures.{is_regular}
 use Rattle.gfs2_layout.specs.declared.rindex.Rindex.{Rindex}
-use Rattle.gfs2_layout.specs.declared.dinode.Dinode.{Dinode}
-use Rattle.gfs2_layout.specs.declared.group_header.GroupHeader.{GroupHeader}
-use Rattle.image_model.specs.Image.{Image, superblock_place}
+use Rattle.image_model.specs.Image.{Image}
 use Rattle.image_model.specs.BitmapCopy.{state_at}
 use Rattle.image_model.specs.Headers.{HasHeader}
-use Rattle.image_model.specs.Owners.{Owner, Owners, Super, InGroup, Free, Nobody, Root, Master, Named, Below, Chained, is_dinode, IsUsed, IsWithin, Pointed, InChain, holding, bytes_at}
-use Rattle.image_model.specs.Groups.{IsListed, IsHeaderOf, IsDataOf, group_blocks, group_header, bitmap_of, states_in, states_of, state_of, count_of, IsGroup}
-use Rattle.image_model.specs.Inode.{dinode_in, is_directory_in}
+use Rattle.image_model.specs.Owners.{Owner, Owners, Super, InGroup, Free, Nobody, Root, Master, Named, Below, Chained, is_dinode, IsWithin, Pointed, InChain}
+use Rattle.image_model.specs.Groups.{IsListed, IsDataOf, group_blocks, group_header, bitmap_of, states_of, state_of, count_of, IsGroup}
 use Rattle.image_model.specs.Stands.{Layout, IsLaid}
-use Rattle.image_model.specs.Claims.{every, Claims, HasInode, HasLeaf, HasGroup}
+use Rattle.image_model.specs.Claims.{Claims, HasGroup}
 use Rattle.image_model.specs.Rules.{Needs, of_superblock, of_group, of_bitmap, of_dinode, of_indirect, of_table, of_leaf, IsOutside, bits_of, states_at, HasWrongBits, of_owner, unlinked, stray}
 use Rattle.image_model.proofs.Held.{own_block, block_same, pointed_part, chained_part}
-use Rattle.image_model.proofs.Rows.{sound, dinode_is, directory_is, claim_row, leaf_row, leaf_hashed}
+use Rattle.image_model.proofs.Rows.{sound, directory_is, claim_row, leaf_row, leaf_hashed}
 use Rattle.image_model.proofs.Reach.{used_low, used_claim}
 use Rattle.image_model.proofs.Facts.{has_dinode, has_leaf_row, claimed_used, group_listed, listed_group}
 

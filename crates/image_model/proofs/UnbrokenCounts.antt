@@ -1,22 +1,22 @@
 -- An image that stands breaks none of the rules on counts of blocks, links and entries.
-use Rattle.std.proofs.Common.{◌≡◌, ◌≢◌, ℕ, zero, suc, ◌+◌, ◌<◌, ◌≤◌, ◌==◌, ◌⊎◌, inl, inr, Bool, true, false, List, [], ◌∷◌, ◌++◌, length, drop, Option, None, Some, refl, sym, ap, ap₂, ◌∙◌, subst, arith}
-use Rattle.std.proofs.lemmas.Bool.{cases_Bool, cases_eq, cond-true, cond-false, eq-eqb, ne_eqb, true≢false}
-use Rattle.std.specs.Prelude.{Contains, count_by, filter, flat_map, is_some}
+use Rattle.std.proofs.Common.{◌≡◌, ◌≢◌, ℕ, ◌+◌, ◌==◌, ◌⊎◌, inl, inr, Bool, true, false, List, length, drop, Option, None, Some, refl, sym, ap, ◌∙◌, subst, arith}
+use Rattle.std.proofs.lemmas.Bool.{cases_eq, cond-true, cond-false, eq-eqb, ne_eqb, true≢false}
+use Rattle.std.specs.Prelude.{filter, flat_map, is_some}
 use Rattle.std.specs.List.{range_with_len}
 use Rattle.gfs2_layout.specs.Structures.{dinode_length}
 use Rattle.gfs2_layout.specs.declared.dinode.Dinode.{Dinode}
 use Rattle.image_model.specs.Image.{Image}
-use Rattle.image_model.specs.Owners.{Owner, Owners, Super, InGroup, Free, Nobody, Root, Master, Named, Below, Chained, is_dinode, IsUsed, IsWithin, Part, Itself, Pointed, InChain, part_in, Cell, cell_part, cell_of, cell_in, Holding, holding, part_at}
+use Rattle.image_model.specs.Owners.{Owner, Owners, Super, InGroup, Free, Nobody, Root, Master, Named, Below, Chained, is_dinode, IsUsed, IsWithin, Part, Itself, Pointed, InChain, Cell, cell_part, holding, part_at}
 use Rattle.image_model.specs.Records.{Record, records_in}
-use Rattle.image_model.specs.Inode.{dinode_in, is_directory_in, is_hashed_in, linear_area, leaf_area, is_leaf_part, leaves_of, records_of, block_count}
+use Rattle.image_model.specs.Inode.{dinode_in, leaf_area, is_leaf_part, leaves_of, records_of, block_count}
 use Rattle.image_model.specs.Stands.{Layout, IsLaid, IsDirectory, heads_of, directory_count}
-use Rattle.image_model.specs.Claims.{every, Claims, HasInode, HasDirectory, HasLeaf}
+use Rattle.image_model.specs.Claims.{every, HasDirectory}
 use Rattle.image_model.specs.Rules.{AreWithin, AreLeaves, HasRecords, from_dinode_block, from_leaves}
-use Rattle.image_model.proofs.Members.{IsIn, contained, is_in, in_filter, from_filter, in_range, from_range}
-use Rattle.image_model.proofs.Rising.{Rising, rising, rising_range, rising_filter, same_rising, count_filter, one_if, count_split, one_there}
+use Rattle.image_model.proofs.Members.{IsIn, contained, is_in, in_filter, from_filter, in_range}
+use Rattle.image_model.proofs.Rising.{rising, rising_range, rising_filter, same_rising, count_filter, one_if, count_split, one_there}
 use Rattle.image_model.proofs.Held.{none_some, some_same, not_pointed, not_in_chain, own_part, itself_own, own_block, block_same, pointed_owner, pointed_part, chained_owner, chained_part}
 use Rattle.image_model.proofs.Same.{flat_map_same}
-use Rattle.image_model.proofs.Rows.{sound, dinode_is, hashed_is, leaf_row, leaf_hashed, claim_row}
+use Rattle.image_model.proofs.Rows.{sound, dinode_is, hashed_is, claim_row}
 use Rattle.image_model.proofs.Reach.{used_low, used_claim, leaf_part}
 use Rattle.image_model.proofs.Facts.{claimed_used, has_dinode, has_directory, has_leaf_row}
 
@@ -68,13 +68,12 @@ module _ (im : Image) (owners : Owners) (l : Layout) (laid : IsLaid im owners l)
       let d = has_dinode im owners l laid a has.inode in
       (has, cond-false _ _ _ (hashed_is im owners l laid a d ∙ plain) ∙ ap (λ bytes. records_in (drop dinode_length bytes)) (own_block im owners a d))
   records_are a _ (from_leaves leaves has hashed are) =
-      let d = has_dinode im owners l laid a has.inode in
-      (
+      let d = has_dinode im owners l laid a has.inode in (
         has,
         cond-true _ _ _ (hashed_is im owners l laid a d ∙ hashed) ∙ ap (flat_map (λ x. records_in (leaf_area (holding im owners a) x))) (leaves_are a leaves are)
-        ∙ flat_map_same (λ x. records_in (leaf_area (holding im owners a) x)) (λ x. records_in (leaf_area (every im a) x)) leaves (λ x h.
-          let leaf = are.only x (contained x leaves h) in
-          ap (λ bytes. records_in (drop 104 bytes)) (block_same im owners a x (InChain leaf.1 leaf.2) (chained_part im owners a x leaf.1 leaf.2 (has_leaf_row im owners l laid a x leaf)))),
+            ∙ flat_map_same (λ x. records_in (leaf_area (holding im owners a) x)) (λ x. records_in (leaf_area (every im a) x)) leaves (λ x h.
+            let leaf = are.only x (contained x leaves h) in
+            ap (λ bytes. records_in (drop 104 bytes)) (block_same im owners a x (InChain leaf.1 leaf.2) (chained_part im owners a x leaf.1 leaf.2 (has_leaf_row im owners l laid a x leaf)))),
       )
 
   module _ (a : ℕ) (records : List Record) (has : HasRecords im a records) where
@@ -156,7 +155,10 @@ module _ (im : Image) (owners : Owners) (l : Layout) (laid : IsLaid im owners l)
     unfolding block_count
     blocks_counted blocks are =
         ap (λ (d : Dinode). d.blocks) (sym (dinode_is im owners l laid a dinode)) ∙ (sound im owners l laid a dinode).blocks
-        ∙ omega (arith,
+        ∙ omega (
+          arith,
           count_split (λ x. is_some ((holding im owners a).cell x)) (λ x. is_other (part_at (holding im owners a) x)) (λ x. x == a) (range_with_len 0 im.count) is_own_or_other,
           one_there a 0 im.count (omega arith) (omega (arith, used_low im owners l laid a (used_dinode (owners a) dinode))),
-          count_filter (λ x. is_other (part_at (holding im owners a) x)) (range_with_len 0 im.count), ap length (others_are blocks are))
+          count_filter (λ x. is_other (part_at (holding im owners a) x)) (range_with_len 0 im.count),
+          ap length (others_are blocks are),
+        )

@@ -1,25 +1,24 @@
 -- An image that stands breaks none of the rules on single inodes, tables and chains.
-use Rattle.std.proofs.Common.{◌≡◌, ◌≢◌, ℕ, zero, suc, ◌+◌, ◌-◌, ◌*◌, ◌/◌, ◌%◌, ◌^◌, ◌<◌, ◌≤◌, ◌⊎◌, inl, inr, true, false, List, length, drop, Option, Some, refl, sym, ap, ap₂, ◌∙◌, subst, arith}
-use Rattle.std.proofs.lemmas.Bool.{cases_eq, both_ways}
+use Rattle.std.proofs.Common.{◌≡◌, ◌≢◌, ℕ, suc, ◌+◌, ◌-◌, ◌*◌, ◌/◌, ◌^◌, ◌<◌, ◌≤◌, inl, inr, true, false, length, drop, Some, sym, ap, ap₂, ◌∙◌, subst, arith}
+use Rattle.std.proofs.lemmas.Bool.{both_ways}
 use Rattle.std.specs.Prelude.{Contains}
 use Rattle.crc_words.specs.Remainder.{crc32_of}
-use Rattle.file_tree.specs.Apply.{file_limit}
 use Rattle.gfs2_layout.specs.Bytes.{u32_at}
 use Rattle.gfs2_layout.specs.Structures.{dinode_length, is_regular}
 use Rattle.gfs2_layout.specs.declared.dinode.Dinode.{Dinode}
 use Rattle.gfs2_layout.specs.declared.leaf.Leaf.{Leaf}
 use Rattle.image_model.specs.Image.{Image, superblock_in}
-use Rattle.image_model.specs.Owners.{Owner, Owners, Named, Below, Chained, is_dinode, IsUsed, InChain, holding, bytes_at, part_at}
+use Rattle.image_model.specs.Owners.{Owners, Chained, is_dinode, IsUsed, InChain, holding, bytes_at, part_at}
 use Rattle.image_model.specs.Records.{Record, records_in}
-use Rattle.image_model.specs.Inode.{dinode_in, height_in, is_directory_in, is_hashed_in, fan, span, unit, pieces, content_count, table_count, depth_in, entry, index_bits, first_hash, leaf_in, leaf_area, top_bits, IsLeaf, IsLinear, IsHashed}
+use Rattle.image_model.specs.Inode.{dinode_in, height_in, is_directory_in, is_hashed_in, fan, span, content_count, table_count, depth_in, entry, index_bits, first_hash, leaf_in, leaf_area, top_bits, IsLeaf, IsLinear, IsHashed}
 use Rattle.image_model.specs.Stands.{Layout, IsLaid}
-use Rattle.image_model.specs.Claims.{every, Leads, Claims, IsInodeAt, HasInode, HasDirectory, HasLeaf, IsUnder}
+use Rattle.image_model.specs.Claims.{every, Leads, Claims, HasInode, HasDirectory, HasLeaf}
 use Rattle.image_model.specs.Rules.{IsHashedAt}
 use Rattle.image_model.proofs.Held.{block_same, chained_owner, chained_part}
 use Rattle.image_model.proofs.Same.{count_same, entry_same, leaf_same}
-use Rattle.image_model.proofs.Rows.{sound, dinode_is, directory_is, hashed_is, count_is, leads_child, entry_part, first_leaf_is, first_hash_is, claim_row, leaf_row, leaf_hashed}
+use Rattle.image_model.proofs.Rows.{sound, dinode_is, directory_is, hashed_is, count_is, leads_child, entry_part, first_leaf_is, claim_row, leaf_row, leaf_hashed}
 use Rattle.image_model.proofs.Reach.{used_some}
-use Rattle.image_model.proofs.Facts.{has_dinode, has_directory, has_leaf_row, under_path, child_leads}
+use Rattle.image_model.proofs.Facts.{has_dinode, has_directory, has_leaf_row}
 
 module _ (im : Image) (owners : Owners) (l : Layout) (laid : IsLaid im owners l) where
   module _ (a : ℕ) (has : HasInode im a) where

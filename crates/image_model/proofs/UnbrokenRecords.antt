@@ -1,29 +1,27 @@
 -- An image that stands breaks none of the rules on records.
-use Rattle.std.proofs.Common.{◌≡◌, ◌≢◌, ℕ, zero, suc, ◌+◌, ◌<◌, ◌≤◌, ◌⊎◌, inl, inr, Bool, true, false, List, [], ◌∷◌, length, drop, Option, None, Some, refl, sym, ap, ap₂, ◌∙◌, subst, arith}
-use Rattle.std.proofs.lemmas.Bool.{cases_Bool, cases_eq, cond-true, cond-false, both_ways, true≢false}
+use Rattle.std.proofs.Common.{◌≡◌, ◌≢◌, ℕ, ◌+◌, ◌<◌, ◌≤◌, inl, inr, Bool, true, false, List, drop, Some, refl, sym, ap, ap₂, ◌∙◌, subst, arith}
+use Rattle.std.proofs.lemmas.Bool.{cases_Bool, cond-true, cond-false, both_ways}
 use Rattle.std.proofs.lemmas.Slice.Eq.{bytes_eq-Decides}
-use Rattle.std.specs.Prelude.{Contains, codes, count_by, flat_map, slice_get, if◌then◌else◌, ◌||◌}
-use Rattle.std.specs.List.{AllByRecursion, range_with_len}
+use Rattle.std.specs.Prelude.{Contains, codes, count_by, flat_map, slice_get, ◌||◌}
+use Rattle.std.specs.List.{range_with_len}
 use Rattle.std.specs.Str.{bytes_eq}
 use Rattle.crc_words.specs.Remainder.{crc32_of}
-use Rattle.file_tree.specs.Names.{IsName}
 use Rattle.gfs2_layout.specs.Structures.{dinode_length, is_in_use}
 use Rattle.gfs2_layout.specs.Area.{Slot, name_of, slots_of, IsArea}
 use Rattle.gfs2_layout.specs.declared.dinode.Dinode.{Dinode}
 use Rattle.image_model.specs.Image.{Image}
-use Rattle.image_model.specs.Owners.{Owner, Owners, Super, InGroup, Free, Nobody, Root, Master, Named, Below, Chained, Up, up_of, IsUsed, is_dinode, parent_of, InChain, holding, part_at}
+use Rattle.image_model.specs.Owners.{Owner, Owners, Super, InGroup, Free, Nobody, Root, Master, Named, Below, Chained, up_of, IsUsed, is_dinode, parent_of, InChain, holding, part_at}
 use Rattle.image_model.specs.Records.{Record, records_in, HasItsHash, is_dots}
-use Rattle.image_model.specs.Flat.{Node}
-use Rattle.image_model.specs.Inode.{Head, head_of, dinode_in, is_directory_in, is_hashed_in, linear_area, leaf_area, is_leaf_part, leaves_of, records_of}
+use Rattle.image_model.specs.Inode.{Head, head_of, dinode_in, is_hashed_in, linear_area, leaf_area, is_leaf_part, leaves_of, records_of}
 use Rattle.image_model.specs.Stands.{Layout, IsLaid, IsDirectory, LeadsDown, heads_of, kind_of, IsRecordOf, HasRecord, name_count}
-use Rattle.image_model.specs.Claims.{every, Claims, IsInodeAt, HasInode, HasDirectory, HasLeaf, HasArea, behind_dinode, of_leaf}
+use Rattle.image_model.specs.Claims.{every, HasDirectory, HasLeaf, HasArea, behind_dinode, of_leaf}
 use Rattle.image_model.specs.Rules.{HasRecordIn}
-use Rattle.image_model.proofs.Members.{IsIn, contained, is_in, in_filter, in_range}
-use Rattle.image_model.proofs.Counts.{all_in, at_in, count_some, count_two, one_passes, count_part, count_parts}
+use Rattle.image_model.proofs.Members.{IsIn, is_in, in_filter, in_range}
+use Rattle.image_model.proofs.Counts.{all_in, count_some, count_two, one_passes, count_part, count_parts}
 use Rattle.image_model.proofs.Held.{own_block, block_same, chained_part}
-use Rattle.image_model.proofs.Rows.{sound, dinode_is, directory_is, hashed_is, leaf_row, leaf_hashed, and_left}
+use Rattle.image_model.proofs.Rows.{dinode_is, directory_is, hashed_is, leaf_row, leaf_hashed, and_left}
 use Rattle.image_model.proofs.Reach.{used_low, child_dinode}
-use Rattle.image_model.proofs.Facts.{has_dinode, has_directory, has_leaf_row, inode_row, claims_used}
+use Rattle.image_model.proofs.Facts.{has_dinode, has_directory, has_leaf_row}
 use Rattle.image_model.proofs.AreaFacts.{IsAreaOf, area_of, record_there}
 
 module _ (im : Image) (owners : Owners) (l : Layout) (laid : IsLaid im owners l) where
@@ -51,8 +49,12 @@ module _ (im : Image) (owners : Owners) (l : Layout) (laid : IsLaid im owners l)
   count_area a _ _ (of_leaf x has) test =
       let same : records_of (holding im owners a) ≡ flat_map (λ y. records_in (leaf_area (holding im owners a) y)) (leaves_of (holding im owners a))
       = cond-true _ _ _ (leaf_directory_hashed a x has) in
-      omega (arith, ap (count_by test) same, ap (λ area. count_by test (records_in area)) (leaf_area_is a x has),
-      count_part test (λ y. records_in (leaf_area (holding im owners a) y)) x (leaves_of (holding im owners a)) (leaf_listed a x has))
+      omega (
+        arith,
+        ap (count_by test) same,
+        ap (λ area. count_by test (records_in area)) (leaf_area_is a x has),
+        count_part test (λ y. records_in (leaf_area (holding im owners a) y)) x (leaves_of (holding im owners a)) (leaf_listed a x has),
+      )
 
   module _ (a x : ℕ) (area : List ℕ) (has : HasArea im a x area) where
     of : IsAreaOf im owners a area

@@ -1,25 +1,23 @@
 -- An image that stands breaks none of the rules on system files, and none on long files and stray pointers.
-use Rattle.std.proofs.Common.{◌≡◌, ◌≢◌, ℕ, zero, suc, ◌+◌, ◌-◌, ◌*◌, ◌/◌, ◌%◌, ◌^◌, ◌<◌, ◌≤◌, inl, inr, true, false, List, [], length, Option, None, Some, refl, sym, ap, ap₂, ◌∙◌, subst, arith}
-use Rattle.std.proofs.lemmas.Bool.{cases_eq}
+use Rattle.std.proofs.Common.{◌≡◌, ◌≢◌, ℕ, ◌-◌, ◌*◌, ◌/◌, ◌%◌, ◌^◌, ◌<◌, ◌≤◌, true, length, None, Some, sym, ap, ◌∙◌, subst}
 use Rattle.std.proofs.lemmas.Nat.{pow_pos}
 use Rattle.std.proofs.Math.Nat.{mul-div_cancel}
 use Rattle.file_tree.specs.Apply.{file_limit}
 use Rattle.gfs2_layout.specs.Structures.{is_regular}
 use Rattle.gfs2_layout.specs.declared.rindex.Rindex.{Rindex}
 use Rattle.gfs2_layout.specs.declared.dinode.Dinode.{Dinode}
-use Rattle.gfs2_layout.specs.declared.leaf.Leaf.{Leaf}
 use Rattle.image_model.specs.Image.{Image, superblock_place, superblock_in}
-use Rattle.image_model.specs.Owners.{Owners, Root, is_dinode, InChain, holding, part_at}
+use Rattle.image_model.specs.Owners.{Owners, is_dinode, InChain, holding, part_at}
 use Rattle.image_model.specs.Groups.{IsListed, IsGroupAt, groups_in, entry_length, end_of, IsNear, GroupFits}
-use Rattle.image_model.specs.Inode.{dinode_in, is_directory_in, is_hashed_in, content_block, content_of, table_count, depth_in, entry, index_bits, first_hash, leaf_in}
+use Rattle.image_model.specs.Inode.{dinode_in, is_hashed_in, content_block, content_of, table_count, entry, index_bits, first_hash, leaf_in}
 use Rattle.image_model.specs.Journals.{ring_of, head_in}
 use Rattle.image_model.specs.Stands.{Layout, IsLaid}
-use Rattle.image_model.specs.Claims.{every, HasInode, IsUnder, itself, by_name, IsRindex, IsJindex, HasGroup, HasJournal}
+use Rattle.image_model.specs.Claims.{every, IsUnder, itself, by_name, IsRindex, HasGroup, HasJournal}
 use Rattle.image_model.specs.Rules.{IsHashedAt}
-use Rattle.image_model.proofs.Held.{none_some, chained_owner}
-use Rattle.image_model.proofs.Same.{entry_same, leaf_same}
-use Rattle.image_model.proofs.Rows.{sound, dinode_is, directory_is, hashed_is, entry_part, first_leaf_is, first_hash_is}
-use Rattle.image_model.proofs.Facts.{has_dinode, under_path, leads_row, rindex_is, has_rindex, has_jindex, rindex_dinode, rindex_file, list_of, group_listed, listed_group, journal_is}
+use Rattle.image_model.proofs.Held.{none_some}
+use Rattle.image_model.proofs.Same.{entry_same}
+use Rattle.image_model.proofs.Rows.{sound, dinode_is, hashed_is, entry_part, first_hash_is}
+use Rattle.image_model.proofs.Facts.{has_dinode, under_path, leads_row, rindex_is, rindex_dinode, rindex_file, list_of, listed_group, journal_is}
 use Rattle.image_model.proofs.Lengths.{size_large, length_content, place_is, places_same, head_same}
 
 module _ (im : Image) (owners : Owners) (l : Layout) (laid : IsLaid im owners l) where

@@ -1,10 +1,10 @@
 -- An image has one table of owners, and stands for one tree.
-use Rattle.std.proofs.Common.{◌≡◌, ◌≢◌, ℕ, ◌⊎◌, inl, inr, Bool, true, false, List, Option, None, Some, refl, sym, ap, ap₂, ◌∙◌, subst}
+use Rattle.std.proofs.Common.{◌≡◌, ℕ, ◌⊎◌, inl, inr, Bool, false, None, refl, sym, ap, ap₂, ◌∙◌}
 use Rattle.std.specs.Prelude.{if◌then◌else◌}
 use Rattle.file_tree.specs.Tree.{Tree}
 use Rattle.image_model.specs.Image.{Image}
-use Rattle.image_model.specs.Owners.{Owner, Owners, Super, InGroup, Free, Nobody, Root, Master, Named, Below, Chained, is_dinode, IsUsed, Part, part_in, Cell, cell_of, cell_in, Holding, holding}
-use Rattle.image_model.specs.Flat.{Path, Flat, Node, no_node, thing_from, thing_at}
+use Rattle.image_model.specs.Owners.{Owner, Owners, Super, InGroup, Free, Nobody, Root, Master, Named, Below, Chained, is_dinode, IsUsed, part_in, cell_of, cell_in, holding}
+use Rattle.image_model.specs.Flat.{Path, no_node, thing_from}
 use Rattle.image_model.specs.Inode.{node_of}
 use Rattle.image_model.specs.Stands.{Layout, IsLaid, Stands, flat_of}
 use Rattle.image_model.proofs.Reach.{used_claim}

@@ -1,9 +1,14 @@
 //! What the definitions of images mean. The functions do nothing: their contracts are the laws.
-ghost use Rattle.image_model.specs.Laws.{NothingBreaks, OneTree};
+ghost use Rattle.image_model.specs.Laws.{NothingBreaks, OneTable, OneTree};
 
 /// A law: an image stands for at most one tree.
 pub fn images_stand_for_one_tree()
     ensures { OneTree }
+{}
+
+/// A law: in an image that stands each block has one owner.
+pub fn blocks_have_one_owner()
+    ensures { OneTable }
 {}
 
 /// A law: in an image that stands for a tree, no block breaks a rule.

@@ -4,4 +4,4 @@
 
 mod laws;
 
-pub use laws::{images_stand_for_one_tree, what_stands_breaks_nothing};
+pub use laws::{blocks_have_one_owner, images_stand_for_one_tree, what_stands_breaks_nothing};
