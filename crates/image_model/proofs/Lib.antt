@@ -17,3 +17,4 @@ pub mod Lengths
 pub mod UnbrokenSystem
 pub mod Nothing
 pub mod Table
+pub mod Order

@@ -27,7 +27,7 @@ abbrev pub IsClaimed : Image → ℕ → Owner → Type 0
 IsClaimed im c o = (by : ℕ) × Claims im by c o
 
 -- what is found in a list is in it, and passes the test
-found_in : {X : Type 0} (test : X → Bool) (x : X) (xs : List X) → find test xs ≡ Some x → IsIn x xs × (test x ≡ true)
+pub found_in : {X : Type 0} (test : X → Bool) (x : X) (xs : List X) → find test xs ≡ Some x → IsIn x xs × (test x ≡ true)
 found_in test x [] e = absurd (none_some e)
 found_in test x (y ∷ ys) e = elim (cases_Bool (test y)) [
   | inl so ↦

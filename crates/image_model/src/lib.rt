@@ -4,4 +4,7 @@
 
 mod laws;
 
-pub use laws::{blocks_have_one_owner, images_stand_for_one_tree, what_stands_breaks_nothing};
+pub use laws::{
+    blocks_have_one_owner, images_stand_for_one_tree, records_have_no_order,
+    what_stands_breaks_nothing,
+};
