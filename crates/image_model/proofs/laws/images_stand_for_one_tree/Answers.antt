@@ -1,0 +1,5 @@
+use Rattle.image_model.proofs.Unique.{one_tree}
+use Rattle.image_model.proofs.laws.images_stand_for_one_tree.Goals as goal
+
+pub returns : goal.returns
+returns c = one_tree

@@ -1,0 +1,91 @@
+-- Who claims a block: whatever is reached from the superblock and names it, in any image, right or wrong, and without a table of owners.
+use Rattle.std.specs.Prelude.{ℕ, suc, ◌≡◌, ◌≢◌, ◌+◌, ◌*◌, ◌/◌, ◌<◌, ◌==◌, true, false, if◌then◌else◌, List, codes, Contains, Some}
+use Rattle.gfs2_layout.specs.Structures.{dinode_length}
+use Rattle.gfs2_layout.specs.declared.rindex.Rindex.{Rindex}
+use Rattle.image_model.specs.Groups.{groups_in, IsListed}
+use Rattle.image_model.specs.Image.{Image, superblock_place, superblock_in}
+use Rattle.image_model.specs.Inode.{height_in, is_directory_in, is_hashed_in, header_length, fan, pointer, span, unit, content_block, content_of, linear_area, leaf_area, leaf_in, table_count, entry, first_hash}
+use Rattle.image_model.specs.Journals.{journal_name}
+use Rattle.image_model.specs.Owners.{Owner, Root, Master, Named, Below, Chained, is_dinode, Holding, Itself}
+use Rattle.image_model.specs.Records.{Record, records_in, is_dots}
+
+-- the inode in block a, as if it had every block of the image: what is read from it so is what a program reads
+abbrev pub every : Image → ℕ → Holding
+every im a = record { size = im.size; count = im.count; own = a; cell = λ b. Some (record { part = Itself; bytes = im.at b }) }
+
+-- pointer k of block b of this inode leads to block c, which stands so many levels above content and begins at this index of it
+pub data Leads (h : Holding) : ℕ → ℕ → ℕ → ℕ → ℕ → Type 0 where
+  from_dinode : (k level : ℕ) → height_in h ≡ suc level → k < fan h.size dinode_length → pointer h dinode_length h.own k ≢ 0
+      → Leads h h.own k level (k * span h.size level) (pointer h dinode_length h.own k)
+  from_block : (b k level first c j : ℕ) → Leads h b k (suc level) first c → j < fan h.size header_length → pointer h header_length c j ≢ 0
+      → Leads h c j level (first + j * span h.size level) (pointer h header_length c j)
+
+-- the block of a directory that has pointer i of its table; its dinode's where the table has a hole there
+abbrev pub entry_block : Holding → ℕ → ℕ
+entry_block h i =
+    if height_in h == 0 then h.own
+    else (let b = content_block h (8 * i / unit h) in if b == 0 then h.own else b)
+
+-- `Claims im b c o`: block b has the number of block c, and by that c is o's
+pub data Claims (im : Image) : ℕ → ℕ → Owner → Type 0 where
+  root : Claims im (superblock_place im.size) (superblock_in im).root.address Root
+  master : Claims im (superblock_place im.size) (superblock_in im).master.address Master
+  below : (by a : ℕ) (o : Owner) (b k level first c : ℕ) → Claims im by a o → is_dinode o ≡ true → Leads (every im a) b k level first c
+      → Claims im b c (Below a b k level first)
+  first_leaf : (by a : ℕ) (o : Owner) (i : ℕ) → Claims im by a o → is_dinode o ≡ true → is_hashed_in (every im a) ≡ true → i < table_count (every im a)
+      → Claims im (entry_block (every im a) i) (entry (every im a) i) (Chained a (first_hash (every im a) i) 0)
+  next_leaf : (by x a hash place : ℕ) → Claims im by x (Chained a hash place) → (leaf_in (every im a) x).next ≢ 0
+      → Claims im x (leaf_in (every im a) x).next (Chained a hash (place + 1))
+  in_dinode : (by a : ℕ) (o : Owner) (r : Record) → Claims im by a o → is_dinode o ≡ true → is_directory_in (every im a) ≡ true → is_hashed_in (every im a) ≡ false
+      → Contains (records_in (linear_area (every im a))) r → is_dots r.name ≡ false → Claims im a r.address (Named a r.name)
+  in_leaf : (by x a hash place : ℕ) (r : Record) → Claims im by x (Chained a hash place)
+      → Contains (records_in (leaf_area (every im a) x)) r → is_dots r.name ≡ false → Claims im x r.address (Named a r.name)
+
+-- there is an inode with its dinode in block a, and this is what names it
+pub record IsInodeAt (im : Image) (a : ℕ) (o : Owner) : Type 0 where
+  pub by : ℕ
+  pub claimed : Claims im by a o
+  pub dinode : is_dinode o ≡ true
+
+abbrev pub HasInode : Image → ℕ → Type 0
+HasInode im a = (o : Owner) × IsInodeAt im a o
+
+pub record HasDirectory (im : Image) (a : ℕ) : Type 0 where
+  pub inode : HasInode im a
+  pub dir : is_directory_in (every im a) ≡ true
+
+-- block x is a leaf of the directory in block a
+abbrev pub HasLeaf : Image → ℕ → ℕ → Type 0
+HasLeaf im a x = (by hash place : ℕ) × Claims im by x (Chained a hash place)
+
+-- an area of records of the directory in block a: behind its dinode, or in a leaf, each with the block that it stands in
+pub data HasArea (im : Image) (a : ℕ) : ℕ → List ℕ → Type 0 where
+  behind_dinode : HasDirectory im a → is_hashed_in (every im a) ≡ false → HasArea im a a (linear_area (every im a))
+  of_leaf : (x : ℕ) → HasLeaf im a x → HasArea im a x (leaf_area (every im a) x)
+
+-- ---- the system files
+
+abbrev pub master_of : Image → ℕ
+master_of im = (superblock_in im).master.address
+
+-- this name leads from the directory in block a to the inode in block b
+abbrev pub LeadsTo : Image → ℕ → List ℕ → ℕ → Type 0
+LeadsTo im a name b = (by : ℕ) × Claims im by b (Named a name)
+
+abbrev pub IsRindex : Image → ℕ → Type 0
+IsRindex im d = LeadsTo im (master_of im) (codes "rindex") d
+
+abbrev pub IsJindex : Image → ℕ → Type 0
+IsJindex im d = LeadsTo im (master_of im) (codes "jindex") d
+
+-- g is in the list of groups
+abbrev pub HasGroup : Image → Rindex → Type 0
+HasGroup im g = (d : ℕ) × IsRindex im d × IsListed (groups_in (content_of (every im d))) g
+
+abbrev pub HasJournal : Image → ℕ → ℕ → Type 0
+HasJournal im j d = (jindex : ℕ) × IsJindex im jindex × LeadsTo im jindex (journal_name j) d
+
+-- the inode in block a is that of a directory's tree: the directory, or one to which names lead from it
+pub data IsUnder (im : Image) (top : ℕ) : ℕ → Type 0 where
+  itself : IsUnder im top top
+  by_name : (a b : ℕ) (name : List ℕ) → IsUnder im top a → LeadsTo im a name b → IsUnder im top b

@@ -1,0 +1,14 @@
+pub mod Image
+pub mod BitmapCopy
+pub mod Headers
+pub mod Owners
+pub mod Records
+pub mod Inode
+pub mod Flat
+pub mod Groups
+pub mod Journals
+pub mod Stands
+pub mod Claims
+pub mod Profile
+pub mod Rules
+pub mod Laws

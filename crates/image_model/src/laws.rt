@@ -1,0 +1,22 @@
+//! What the definitions of images mean. The functions do nothing: their contracts are the laws.
+ghost use Rattle.image_model.specs.Laws.{AnyOrder, NothingBreaks, OneTable, OneTree};
+
+/// A law: an image stands for at most one tree.
+pub fn images_stand_for_one_tree()
+    ensures { OneTree }
+{}
+
+/// A law: in an image that stands each block has one owner.
+pub fn blocks_have_one_owner()
+    ensures { OneTable }
+{}
+
+/// A law: in an image that stands for a tree, no block breaks a rule.
+pub fn what_stands_breaks_nothing()
+    ensures { NothingBreaks }
+{}
+
+/// A law: whether records are a directory's, and where a name leads, doesn't hang on their order.
+pub fn records_have_no_order()
+    ensures { AnyOrder }
+{}

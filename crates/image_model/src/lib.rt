@@ -1,0 +1,10 @@
+//! What a disk image stands for: the owner of every block, what each inode says, the file tree that reads from the
+//! root, and which block breaks which rule.
+#![tactic(auto)]
+
+mod laws;
+
+pub use laws::{
+    blocks_have_one_owner, images_stand_for_one_tree, records_have_no_order,
+    what_stands_breaks_nothing,
+};
