@@ -38,20 +38,24 @@ header_back h bytes long widths =
     } in
     (λ i. answer (or_else (short i) (bad i)) (is i))
 
-pub dirent_back : (d : Dirent) (bytes : List ℕ) → 40 ≤ length bytes → AllByRecursion HasItsWidth (dirent_fields d) → dirent_read (with_fields (dirent_fields d) bytes) ≡ answer (kind_fault d) d
-dirent_back d bytes long widths =
-    let new = with_fields (dirent_fields d) bytes in
+pub head_back : (d : Dirent) (bytes : List ℕ) → 40 ≤ length bytes → AllByRecursion HasItsWidth (dirent_fields d) → dirent_of (with_fields (dirent_fields d) bytes) ≡ d
+head_back d bytes long widths =
     let at = λ (i : ℕ). field-read (dirent_fields d) i (0, U16 0) bytes (omega (arith, long)) widths in
-    let long_new : 40 ≤ length new = omega (arith, long, length-fields (dirent_fields d) bytes (omega (arith, long))) in
-    let short = no_length_fault 40 new long_new in
-    let is : dirent_of new ≡ d = λ i. record {
+    λ i. record {
       inum = record { number = at 0 refl i; address = at 1 refl i };
       hash = at 2 refl i;
       rec_len = at 3 refl i;
       name_len = at 4 refl i;
       kind = at 5 refl i;
       rahead = at 6 refl i;
-    } in
+    }
+
+pub dirent_back : (d : Dirent) (bytes : List ℕ) → 40 ≤ length bytes → AllByRecursion HasItsWidth (dirent_fields d) → dirent_read (with_fields (dirent_fields d) bytes) ≡ answer (kind_fault d) d
+dirent_back d bytes long widths =
+    let new = with_fields (dirent_fields d) bytes in
+    let long_new : 40 ≤ length new = omega (arith, long, length-fields (dirent_fields d) bytes (omega (arith, long))) in
+    let short = no_length_fault 40 new long_new in
+    let is = head_back d bytes long widths in
     (λ i. answer (or_else (short i) (kind_fault (is i))) (is i))
 
 pub dinode_back : (d : Dinode) (bytes : List ℕ) → 232 ≤ length bytes → AllByRecursion HasItsWidth (dinode_fields d) → dinode_read (with_fields (dinode_fields d) bytes) ≡ Ok d

@@ -15,6 +15,7 @@ mod laws;
 mod leaf;
 mod log_header;
 mod numbers;
+mod putting;
 mod rindex;
 mod superblock;
 
@@ -29,6 +30,7 @@ pub use inum::Inum;
 pub use laws::{packed_states_are_read, states_are_put_and_read};
 pub use leaf::Leaf;
 pub use log_header::LogHeader;
+pub use putting::{least_length, put_record};
 pub use rindex::Rindex;
 pub use superblock::SuperBlock;
 
