@@ -4,6 +4,8 @@ pub mod Places
 pub mod Written
 pub mod PutHere
 pub mod PutRecord
+pub mod FoundAfter
+pub mod Spelled
 pub mod BitmapLaws
 pub mod InPlace
 pub mod FieldsInPlace

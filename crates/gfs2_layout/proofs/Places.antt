@@ -159,8 +159,8 @@ first_place needed area is = record {
   opens = opens_area area is;
 }
 
-take_more : (at n : ℕ) (bytes : List ℕ) → at ≤ length bytes → take (at + n) bytes ≡ take at bytes ++ take n (drop at bytes)
-take_more at n bytes within =
+pub take_on : (at n : ℕ) (bytes : List ℕ) → at ≤ length bytes → take (at + n) bytes ≡ take at bytes ++ take n (drop at bytes)
+take_on at n bytes within =
     let size = length-take-le at bytes within in
     (λ i. take (sym size i + n) (sym (take-append-drop at bytes) i)) ∙ take-append-add (take at bytes) (drop at bytes) n
 
@@ -172,7 +172,7 @@ next_place needed area at rest is some full =
     let one = alone rest on.good on.here in
     let size = length_behind rest on.good in
     let both = joined (take at area) (take n rest) is.before in
-    let taken : take (at + n) area ≡ take at area ++ take n rest = take_more at n area (omega (arith, is.within)) ∙ ap (λ (r : List ℕ). take at area ++ take n r) (sym is.rest_is) in
+    let taken : take (at + n) area ≡ take at area ++ take n rest = take_on at n area (omega (arith, is.within)) ∙ ap (λ (r : List ℕ). take at area ++ take n r) (sym is.rest_is) in
     record {
       within = omega (arith, is.within, size);
       rest_is = ap (drop n) is.rest_is ∙ drop-drop n at area;
