@@ -77,8 +77,8 @@ module _ (entry : Dirent) (name : List ℕ) (of : IsEntryOf entry name) where
     | inr unused ↦ rw unused (one_more_of (new_says entry name) (told later) (told (new_slot entry name s.body ∷ later)) (told later) (new_says entry name ∷ told later) refl (told_new s.body later) (one_more_here (new_says entry name) (told later)))
     | inl used ↦ one_more_of (new_says entry name) (told (s ∷ later)) (told (put_into entry name s ++ later)) (says s ∷ told later) (says s ∷ (new_says entry name ∷ told later)) (told_used s later used)
         (
-          ap told (into_used s later used) ∙ told_used (cut_short s) (new_slot entry name (drop (least_length s.head.name_len) s.body) ∷ later) used
-          ∙ (λ i. says_cut s i ∷ told_new (drop (least_length s.head.name_len) s.body) later i)
+        ap told (into_used s later used) ∙ told_used (cut_short s) (new_slot entry name (drop (least_length s.head.name_len) s.body) ∷ later) used
+        ∙ (λ i. says_cut s i ∷ told_new (drop (least_length s.head.name_len) s.body) later i)
         )
         (one_more_later (says s) (new_says entry name) (told later) (new_says entry name ∷ told later) (one_more_here (new_says entry name) (told later)))
   ]

@@ -48,7 +48,7 @@ module _ (bytes new name : List ℕ) (entry : Dirent) (rec_len : ℕ) (is : IsAr
       let over : 40 + length (slot_at bytes).body ≡ rec_len =
       omega (arith, ap length body, length-take-le (rec_len - 40) (drop 40 bytes) (omega (arith, length-drop 40 bytes, unused_inside)), unused_fits) in
       let standing = stands new (new_slot entry name (slot_at bytes).body) (behind bytes) (slot ∙ ap (new_slot entry name) body) (omega (arith, over, unused_fits)) (omega (arith, over, size, unused_inside))
-          (new_named entry name (slot_at bytes).body of (omega (arith, over, unused_fits))) (ap (λ (n : ℕ). drop n new) over ∙ further ∙ ap (λ (n : ℕ). drop n bytes) long) on.later in
+      (new_named entry name (slot_at bytes).body of (omega (arith, over, unused_fits))) (ap (λ (n : ℕ). drop n new) over ∙ further ∙ ap (λ (n : ℕ). drop n bytes) long) on.later in
       record { slots = standing.slots ∙ rw unused refl; area = standing.area }
 
 -- ---- one in use is cut to its least length
@@ -102,13 +102,13 @@ module _ (bytes tail name : List ℕ) (entry : Dirent) (rec_len least : ℕ) (is
         ap (λ (n : ℕ). drop n tail) over_long ∙ further ∙ drop-drop (rec_len - least) least shorter ∙ ap (λ (n : ℕ). drop n shorter) (omega (arith, used_fits.1, long))
         ∙ behind_shorter (u16_at 20 bytes) (omega (arith, long, used_fits.0, used_fits.1)) in
         let second = stands tail new_one (behind bytes) (slot ∙ ap (new_slot entry name) over_is) (omega arith) (omega (arith, over_long, size_tail, used_fits.1, used_inside))
-            (new_named entry name over of (omega (arith, over_long, used_fits.1))) later on.later in
+        (new_named entry name over of (omega (arith, over_long, used_fits.1))) later on.later in
         let front : length (take least shorter) ≡ least = length-take-le least shorter (omega (arith, size_shorter, used_fits.1, used_inside)) in
         let same : take least shorter ≡ take least (take least shorter ++ tail) = sym (take_at (take least shorter) tail least front) in
         let cut_len : u16_at 20 shorter ≡ least = ap (λ (s : Slot). s.head.rec_len) slot_shorter ∙ sym least_is in
         let slot_first = sym (slot_front least shorter (take least shorter ++ tail) used_fits.0 (omega (arith, cut_len)) same) ∙ slot_shorter in
         let first = stands (take least shorter ++ tail) (cut_short (slot_at bytes)) tail slot_first (omega arith) (omega (arith, front, least_is, length-append (take least shorter) tail)) (λ h. omega arith)
-            (ap (λ (n : ℕ). drop n (take least shorter ++ tail)) (sym least_is) ∙ drop_at (take least shorter) tail least front) second.area in
+        (ap (λ (n : ℕ). drop n (take least shorter ++ tail)) (sym least_is) ∙ drop_at (take least shorter) tail least front) second.area in
         record { slots = first.slots ∙ ap (λ (ss : List Slot). cut_short (slot_at bytes) ∷ ss) second.slots ∙ rw used refl; area = first.area }
 
 -- ---- by what the code holds
@@ -144,7 +144,7 @@ module _ (bytes name : List ℕ) (entry head : Dirent) (is : IsArea bytes) (some
     rest_put mid tail mid_is short slot further size =
         let part : take (length mid - least) (drop least mid) ≡ drop least (with_number w16 20 least bytes) = end_part least mid ∙ ap (drop least) mid_is in
         let put = used_put bytes tail name entry head.rec_len least is some of room (ap is_in_use (sym head_is) ∙ sym used) (ap (λ (d : Dirent). d.rec_len) head_is) least_there short
-            (slot ∙ ap (λ (b : List ℕ). new_slot entry name (slice 40 (head.rec_len - least - 40) b)) part)
-            (further ∙ ap (drop (head.rec_len - least)) part) (size ∙ ap length part) in
+        (slot ∙ ap (λ (b : List ℕ). new_slot entry name (slice 40 (head.rec_len - least - 40) b)) part)
+        (further ∙ ap (drop (head.rec_len - least)) part) (size ∙ ap length part) in
         let same : put_mid least (length mid - least) mid tail ≡ take least (with_number w16 20 least bytes) ++ tail = end_put least mid tail ∙ ap (λ (m : List ℕ). take least m ++ tail) mid_is in
         subst (λ (new : List ℕ). IsPut bytes new name entry) (sym same) put

@@ -58,10 +58,10 @@ module _ (area name : List ℕ) (entry : Dirent) (needed at : ℕ) (needs : need
   -- and what is there after it
   pub some_has_room : true ≡ list_any (has_room (least_length (length name))) (slots_of area)
   some_has_room = sym (
-    ap (list_any (has_room (least_length (length name)))) slots_split
-    ∙ list_any-append (has_room (least_length (length name))) (slots_of (take at area)) (slot_at (drop at area) ∷ slots_of (behind (drop at area)))
-    ∙ rw (none_before, room_here) refl
-  )
+      ap (list_any (has_room (least_length (length name)))) slots_split
+      ∙ list_any-append (has_room (least_length (length name))) (slots_of (take at area)) (slot_at (drop at area) ∷ slots_of (behind (drop at area)))
+      ∙ rw (none_before, room_here) refl
+      )
 
   pub put_all : (new : List ℕ) → IsPut (take (length area - at) (drop at area)) new name entry
       → (put_slot entry name (slots_of area) ≡ Some (slots_of (put_mid at (length area - at) area new))) × IsArea (put_mid at (length area - at) area new)
@@ -71,8 +71,8 @@ module _ (area name : List ℕ) (entry : Dirent) (needed at : ℕ) (needs : need
       let slots : slots_of new ≡ put_into entry name (slot_at (drop at area)) ++ slots_of (behind (drop at area)) =
       put.slots ∙ (λ i. put_into entry name (slot_at (part i)) ++ slots_of (behind (part i))) in (
         ap (put_slot entry name) slots_split
-        ∙ put_behind entry name (slots_of (take at area)) (slot_at (drop at area)) (slots_of (behind (drop at area))) none_before room_here
-        ∙ ap (λ (ss : List Slot). Some (slots_of (take at area) ++ ss)) (sym slots)
-        ∙ ap Some (sym both.slots) ∙ ap (λ (b : List ℕ). Some (slots_of b)) (sym whole),
+            ∙ put_behind entry name (slots_of (take at area)) (slot_at (drop at area)) (slots_of (behind (drop at area))) none_before room_here
+            ∙ ap (λ (ss : List Slot). Some (slots_of (take at area) ++ ss)) (sym slots)
+            ∙ ap Some (sym both.slots) ∙ ap (λ (b : List ℕ). Some (slots_of b)) (sym whole),
         subst IsArea (sym whole) (both.area put.area),
       )

@@ -72,7 +72,7 @@ spelled_within (suc n) (x ∷ xs) few is low =
     let long = record_length (x ∷ xs) on.good in
     ap (flat_map slot_bytes) on.slots
     ∙ (λ i. spelled_slot (x ∷ xs) low (omega (arith, long.0, long.1)) long.0 i
-        ++ spelled_within n (behind (x ∷ xs)) (omega (arith, few, length_behind (x ∷ xs) on.good, long.0)) on.later (All-drop (λ byte. byte < 256) (u16_at 20 (x ∷ xs)) (x ∷ xs) low) i)
+    ++ spelled_within n (behind (x ∷ xs)) (omega (arith, few, length_behind (x ∷ xs) on.good, long.0)) on.later (All-drop (λ byte. byte < 256) (u16_at 20 (x ∷ xs)) (x ∷ xs) low) i)
     ∙ take-append-drop (u16_at 20 (x ∷ xs)) (x ∷ xs)
 
 pub spelled_area : (area : List ℕ) → IsArea area → AreBytes area → flat_map slot_bytes (slots_of area) ≡ area

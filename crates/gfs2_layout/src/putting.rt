@@ -77,7 +77,12 @@ fn put_here(bytes: &mut [u8], entry: &Dirent, name: &[u8])
     if head.is_in_use() {
         let least = least_length(head.name_len);
         put_u16(bytes, 20, least as u16);
-        write_record(&mut bytes[least as usize..], entry, head.rec_len - least as u16, name);
+        write_record(
+            &mut bytes[least as usize..],
+            entry,
+            head.rec_len - least as u16,
+            name,
+        );
     } else {
         write_record(bytes, entry, head.rec_len, name);
     }

@@ -35,11 +35,11 @@ write_record-requires-else-is_in_use-clause-inside c =
 pub returns-then-is_in_use : goal.returns-then-is_in_use
 returns-then-is_in_use c =
     let put = rest_put c.args.bytes.now c.args.name.now c.args.entry.now c.head-head.result c.requires.area c.requires.some c.requires.entry c.requires.room c.head-head.ensures c.least_length-least.result c.least_length-least.ensures
-        c.if-is_in_use.ensures c.put_u16.new.bytes c.write_record.new.bytes c.put_u16.ensures.bytes c.put_u16.ensures.width c.write_record.ensures.slot c.write_record.ensures.behind c.write_record.auto.bytes in
+    c.if-is_in_use.ensures c.put_u16.new.bytes c.write_record.new.bytes c.put_u16.ensures.bytes c.put_u16.ensures.width c.write_record.ensures.slot c.write_record.ensures.behind c.write_record.auto.bytes in
     record { slots = put.slots; area = put.area }
 
 pub returns-else-is_in_use : goal.returns-else-is_in_use
 returns-else-is_in_use c =
     let put = whole_put c.args.bytes.now c.args.name.now c.args.entry.now c.head-head.result c.requires.area c.requires.some c.requires.entry c.requires.room c.head-head.ensures c.write_record-else-is_in_use.new.bytes
-        c.if-is_in_use.ensures c.write_record-else-is_in_use.ensures.slot c.write_record-else-is_in_use.ensures.behind c.write_record-else-is_in_use.auto.bytes in
+    c.if-is_in_use.ensures c.write_record-else-is_in_use.ensures.slot c.write_record-else-is_in_use.ensures.behind c.write_record-else-is_in_use.auto.bytes in
     record { slots = put.slots; area = put.area }
