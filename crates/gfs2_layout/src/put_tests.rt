@@ -14,7 +14,7 @@ const NEW: &[u8] = b"\x01\x02\x03\x04\x05\x06\x07\x08\x11\x12\x13\x14\x15\x16\x1
 
 // What stands in an area of 160 bytes, which are 165 else; the name that is put; and what is written, if it
 // has room. The hashes are zlib's crc32.
-const ROWS: [(&[Part], &[u8], Option<&[Part]>); 9] = [
+const ROWS: [(&[Part], &[u8], bool, &[Part]); 9] = [
     // An unused record is taken whole, and what is behind the name stays.
     (
         &[
@@ -26,12 +26,13 @@ const ROWS: [(&[Part], &[u8], Option<&[Part]>); 9] = [
             (40, b"gone"),
         ],
         b"a",
-        Some(&[
+        true,
+        &[
             (0, NEW),
             (16, b"\xe8\xb7\xbe\x43\x00\xa0\x00\x01\x00\x08\x00\x09"),
             (28, &[0; 12]),
             (40, b"a"),
-        ]),
+        ],
     ),
     // One in use is cut to its least length.
     (
@@ -41,13 +42,14 @@ const ROWS: [(&[Part], &[u8], Option<&[Part]>); 9] = [
             (40, b"."),
         ],
         b"ab",
-        Some(&[
+        true,
+        &[
             (20, b"\x00\x30"),
             (48, NEW),
             (64, b"\x9e\x83\x48\x6d\x00\x70\x00\x02\x00\x08\x00\x09"),
             (76, &[0; 12]),
             (88, b"ab"),
-        ]),
+        ],
     ),
     // A name of 8 bytes takes 48, one of 9 takes 56.
     (
@@ -57,13 +59,14 @@ const ROWS: [(&[Part], &[u8], Option<&[Part]>); 9] = [
             (40, b"12345678"),
         ],
         b"123456789",
-        Some(&[
+        true,
+        &[
             (20, b"\x00\x30"),
             (48, NEW),
             (64, b"\xcb\xf4\x39\x26\x00\x70\x00\x09\x00\x08\x00\x09"),
             (76, &[0; 12]),
             (88, b"123456789"),
-        ]),
+        ],
     ),
     // The first has no room behind its least length.
     (
@@ -76,13 +79,14 @@ const ROWS: [(&[Part], &[u8], Option<&[Part]>); 9] = [
             (88, b".."),
         ],
         b"ab",
-        Some(&[
+        true,
+        &[
             (68, b"\x00\x30"),
             (96, NEW),
             (112, b"\x9e\x83\x48\x6d\x00\x40\x00\x02\x00\x08\x00\x09"),
             (124, &[0; 12]),
             (136, b"ab"),
-        ]),
+        ],
     ),
     // The first has just enough, and the second more.
     (
@@ -94,13 +98,14 @@ const ROWS: [(&[Part], &[u8], Option<&[Part]>); 9] = [
             (112, b"\x00\x00\x00\x00\x00\x40\x00\x00\x00\x08\x00\x00"),
         ],
         b"x",
-        Some(&[
+        true,
+        &[
             (20, b"\x00\x30"),
             (48, NEW),
             (64, b"\x8c\xdc\x16\x83\x00\x30\x00\x01\x00\x08\x00\x09"),
             (76, &[0; 12]),
             (88, b"x"),
-        ]),
+        ],
     ),
     // The first has one byte too few; the second, of an odd length, is unused.
     (
@@ -116,12 +121,13 @@ const ROWS: [(&[Part], &[u8], Option<&[Part]>); 9] = [
             (135, b"old"),
         ],
         b"x",
-        Some(&[
+        true,
+        &[
             (95, NEW),
             (111, b"\x8c\xdc\x16\x83\x00\x41\x00\x01\x00\x08\x00\x09"),
             (123, &[0; 12]),
             (135, b"x"),
-        ]),
+        ],
     ),
     // An unused first one is one byte too short.
     (
@@ -133,13 +139,14 @@ const ROWS: [(&[Part], &[u8], Option<&[Part]>); 9] = [
             (87, b".."),
         ],
         b"x",
-        Some(&[
+        true,
+        &[
             (67, b"\x00\x30"),
             (95, NEW),
             (111, b"\x8c\xdc\x16\x83\x00\x41\x00\x01\x00\x08\x00\x09"),
             (123, &[0; 12]),
             (135, b"x"),
-        ]),
+        ],
     ),
     // The first has not even its least length.
     (
@@ -155,13 +162,14 @@ const ROWS: [(&[Part], &[u8], Option<&[Part]>); 9] = [
             (84, b"efgh"),
         ],
         b"x",
-        Some(&[
+        true,
+        &[
             (64, b"\x00\x30"),
             (92, NEW),
             (108, b"\x8c\xdc\x16\x83\x00\x44\x00\x01\x00\x08\x00\x09"),
             (120, &[0; 12]),
             (132, b"x"),
-        ]),
+        ],
     ),
     // No record has room.
     (
@@ -174,7 +182,8 @@ const ROWS: [(&[Part], &[u8], Option<&[Part]>); 9] = [
             (88, b".."),
         ],
         b"aaaaaaaaaaaaaaaaaazzzzzzz",
-        None,
+        false,
+        &[],
     ),
 ];
 
@@ -198,16 +207,12 @@ fn entry_of(rt: &impl Abort, name: &[u8]) -> Dirent
 
 #[test]
 fn records_are_put_into_the_first_with_room(rt: HostRuntime) {
-    for (before, name, after) in ROWS {
+    for (before, name, fits, after) in ROWS {
         let mut area: [u8; 160] = laid_over(&rt, 165, before, &[]);
         assert!(rt; is_area(&area), "at {name:?}");
         let entry = entry_of(&rt, name);
-        assert_eq!(rt;
-            put_record(&mut area, &entry, name),
-            after.is_some(),
-            "at {name:?}"
-        );
-        let want: [u8; 160] = laid_over(&rt, 165, before, after.unwrap_or(&[]));
+        assert_eq!(rt; put_record(&mut area, &entry, name), fits, "at {name:?}");
+        let want: [u8; 160] = laid_over(&rt, 165, before, after);
         assert_eq!(rt; area, want, "at {name:?}");
     }
 }
@@ -229,6 +234,7 @@ fn records_that_were_put_are_found(rt: HostRuntime) {
         let entry = entry_of(&rt, name);
         assert_eq!(rt; put_record(&mut area, &entry, name), place.is_some());
     }
+    assert!(rt; is_area(&area));
     for (name, place) in NAMES {
         assert_eq!(rt; find_record(&area, name), place, "at {name:?}");
     }
