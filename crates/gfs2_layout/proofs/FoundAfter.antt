@@ -1,14 +1,14 @@
 -- What the records tell after one was put in, and which names are found.
-use Rattle.std.proofs.Common.{◌≡◌, ◌≢◌, ℕ, ◌+◌, ◌-◌, ◌≤◌, Bool, true, false, inl, inr, List, [], ◌∷◌, ◌++◌, length, take, drop, Option, None, Some, refl, sym, ap, ◌∙◌, subst, arith, cond}
+use Rattle.std.proofs.Common.{◌≡◌, ◌≢◌, ℕ, ◌-◌, ◌≤◌, Bool, true, false, inl, inr, List, [], ◌∷◌, ◌++◌, length, drop, Option, None, Some, refl, sym, ap, ◌∙◌, subst, arith, cond}
 use Rattle.std.specs.Prelude.{◌↔◌}
 use Rattle.std.specs.List.{find, list_any}
 use Rattle.std.specs.Option.{option_map}
 use Rattle.std.specs.Str.{bytes_eq}
-use Rattle.std.proofs.lemmas.Bool.{cases_Bool, true≢false, cond-true, cond-false, or_parts}
+use Rattle.std.proofs.lemmas.Bool.{cases_Bool, true≢false, cond-true, cond-false}
 use Rattle.std.proofs.lemmas.List.{take_at, take-take}
 use Rattle.std.proofs.lemmas.Slice.Eq.{bytes_eq-Decides}
 use Rattle.gfs2_layout.specs.Structures.{is_in_use}
-use Rattle.gfs2_layout.specs.Area.{Slot, name_of, has_name, first_named}
+use Rattle.gfs2_layout.specs.Area.{Slot, name_of, first_named}
 use Rattle.gfs2_layout.specs.Putting.{IsEntryOf, least_length, has_room, cut_short, new_slot, put_into, put_slot, says, new_says, told, HasOneMore}
 use Rattle.gfs2_layout.specs.declared.dirent.Dirent.{Dirent}
 

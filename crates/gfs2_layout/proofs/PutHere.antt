@@ -1,16 +1,16 @@
 -- A record that is put into the first of an area: the area's records after it.
-use Rattle.std.proofs.Common.{◌≡◌, ℕ, ◌+◌, ◌-◌, ◌≤◌, ◌<◌, ◌^◌, Bool, true, false, List, [], ◌∷◌, ◌++◌, length, take, drop, refl, sym, ap, ◌∙◌, subst, arith, length-append, length-drop}
+use Rattle.std.proofs.Common.{◌≡◌, ℕ, ◌+◌, ◌-◌, ◌≤◌, ◌<◌, ◌^◌, true, false, List, ◌∷◌, ◌++◌, length, take, drop, refl, sym, ap, ◌∙◌, subst, arith, length-append, length-drop}
 use Rattle.std.specs.Int.{w16}
-use Rattle.std.proofs.lemmas.List.{drop_at, drop-drop, drop-take, take_at, take-take, take_all, drop_all, append-nil, length-take-le}
+use Rattle.std.proofs.lemmas.List.{drop_at, drop-drop, drop-take, take_at, take_all, drop_all, append-nil, length-take-le}
 use Rattle.gfs2_layout.specs.Bytes.{slice, u16_at, with_number}
 use Rattle.gfs2_layout.specs.Structures.{dirent_of, is_in_use}
 use Rattle.gfs2_layout.specs.Area.{Slot, slot_at, slots_of, HasItsName, IsArea}
 use Rattle.gfs2_layout.specs.Putting.{IsEntryOf, least_length, has_room, cut_short, new_slot, put_into}
 use Rattle.gfs2_layout.specs.declared.dirent.Dirent.{Dirent}
 use Rattle.gfs2_layout.proofs.InPlace.{is_width_16, length-with, drop-with}
-use Rattle.gfs2_layout.proofs.Records.{behind, record_length, AreaOn, area_on}
+use Rattle.gfs2_layout.proofs.Records.{behind, record_length, area_on}
 use Rattle.gfs2_layout.proofs.Places.{slot_front}
-use Rattle.gfs2_layout.proofs.Written.{Stands, stands, used_room, unused_room, cut}
+use Rattle.gfs2_layout.proofs.Written.{stands, used_room, unused_room, cut}
 use borrow.Rule.Slice.PartMut.{put_mid}
 
 -- ---- the end of a list, as a part of it

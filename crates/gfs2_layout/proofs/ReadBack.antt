@@ -1,12 +1,11 @@
 -- What is written is read.
-use Rattle.std.proofs.Common.{◌≡◌, ℕ, ◌+◌, ◌≤◌, true, List, length, drop, Option, None, Result, Ok, refl, sym, ap, subst, ◌∙◌, arith}
+use Rattle.std.proofs.Common.{◌≡◌, ℕ, ◌+◌, ◌≤◌, List, length, drop, None, Ok, refl, sym, subst, ◌∙◌, arith}
 use Rattle.std.proofs.lemmas.Bool.Decides.{nat_tests}
 use Rattle.std.specs.List.{AllByRecursion}
 use Rattle.gfs2_layout.specs.Bytes.{slice, put_at, u32_at}
 use Rattle.gfs2_layout.specs.Fields.{HasItsWidth, end_of, with_fields}
-use Rattle.gfs2_layout.specs.Structures.{magic, answer, or_else, length_fault, magic_fault, header_fault, header_of, header_read, kind_fault, inum_at, dirent_of, dirent_read, dinode_of, dinode_read, superblock_of, superblock_read}
+use Rattle.gfs2_layout.specs.Structures.{magic, answer, or_else, length_fault, magic_fault, header_fault, header_of, header_read, kind_fault, dirent_of, dirent_read, dinode_of, dinode_read, superblock_of, superblock_read}
 use Rattle.gfs2_layout.specs.Writing.{header_fields, dirent_fields, dinode_fields, superblock_fields, texts_put}
-use Rattle.gfs2_layout.specs.declared.fault.LayoutFault.{LayoutFault}
 use Rattle.gfs2_layout.specs.declared.header.MetaHeader.{MetaHeader}
 use Rattle.gfs2_layout.specs.declared.dirent.Dirent.{Dirent}
 use Rattle.gfs2_layout.specs.declared.dinode.Dinode.{Dinode}

@@ -1,17 +1,17 @@
 -- What a new record's writes leave: the record itself, and the one that was cut before it.
-use Rattle.std.proofs.Common.{◌≡◌, ℕ, ◌+◌, ◌-◌, ◌≤◌, ◌<◌, ◌^◌, ◌⊎◌, inl, inr, Bool, true, false, List, [], ◌∷◌, ◌++◌, length, take, drop, replicate, refl, sym, ap, ◌∙◌, subst, arith, length-append, length-drop}
+use Rattle.std.proofs.Common.{◌≡◌, ℕ, ◌+◌, ◌-◌, ◌≤◌, ◌<◌, ◌^◌, ◌⊎◌, inl, inr, true, false, List, ◌∷◌, ◌++◌, length, take, drop, replicate, sym, ap, ◌∙◌, subst, arith, length-drop}
 use Rattle.std.specs.Int.{Width, w16, w32, w64, byte_len}
 use Rattle.std.proofs.lemmas.Bool.Decides.{nat_tests}
-use Rattle.std.proofs.lemmas.List.{drop_at, drop-drop, drop-take, take-take, take-append-le, take_at, length-take-le, length-replicate}
+use Rattle.std.proofs.lemmas.List.{drop_at, drop-drop, drop-take, take-take, length-take-le}
 use Rattle.std.proofs.Math.Seq.{take-append-add}
 use Rattle.gfs2_layout.specs.Bytes.{slice, put_at, u16_at, with_number}
 use Rattle.gfs2_layout.specs.Structures.{dirent_of, is_in_use}
-use Rattle.gfs2_layout.specs.Area.{Slot, slot_at, slots_of, has_no_record, HasItsName, IsArea}
-use Rattle.gfs2_layout.specs.Putting.{IsEntryOf, least_length, has_room, cut_short, new_slot, put_into}
+use Rattle.gfs2_layout.specs.Area.{Slot, slot_at, slots_of, HasItsName, IsArea}
+use Rattle.gfs2_layout.specs.Putting.{least_length, has_room, new_slot}
 use Rattle.gfs2_layout.specs.declared.dirent.Dirent.{Dirent}
-use Rattle.gfs2_layout.proofs.InPlace.{slice-put_same, slice-put_before, drop-put, length-put, is_width_16, length-with, number-with_same, number-with_other, slice-with_other, drop-with}
-use Rattle.gfs2_layout.proofs.Records.{behind, record_length, length_behind, area_on}
-use Rattle.gfs2_layout.proofs.Places.{head_front, slot_front, slots_on, area_back, no_less}
+use Rattle.gfs2_layout.proofs.InPlace.{slice-put_same, slice-put_before, drop-put, length-put, is_width_16, number-with_same, number-with_other, slice-with_other}
+use Rattle.gfs2_layout.proofs.Records.{behind}
+use Rattle.gfs2_layout.proofs.Places.{head_front, slots_on, area_back, no_less}
 
 -- a head was written over bytes, then a pad, then a name
 module _ (bytes headed pad name : List ℕ) (twelve : length pad ≡ 12) (kept : drop 40 headed ≡ drop 40 bytes) (size : length headed ≡ length bytes) (fits : 40 + length name ≤ length bytes) where

@@ -1,6 +1,5 @@
 use Rattle.std.proofs.Common.{ap, ◌∙◌}
 use Rattle.gfs2_layout.specs.Putting.{least_length}
-use Rattle.gfs2_layout.proofs.PutHere.{IsPut}
 use Rattle.gfs2_layout.proofs.PutRecord.{some_has_room, put_all}
 use Rattle.gfs2_layout.proofs.putting.put_record.Goals as goal
 

@@ -1,4 +1,4 @@
-use Rattle.std.proofs.Common.{◌≡◌, ◌∙◌, ℕ, List, replicate, drop, ap, refl, arith}
+use Rattle.std.proofs.Common.{◌∙◌, ℕ, List, replicate, drop, ap, refl, arith}
 use Rattle.gfs2_layout.specs.Bytes.{put_at}
 use Rattle.gfs2_layout.specs.Area.{slot_at}
 use Rattle.gfs2_layout.proofs.Written.{slot_written, behind_written}
