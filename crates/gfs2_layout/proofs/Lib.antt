@@ -1,5 +1,11 @@
 pub mod Faults
 pub mod Records
+pub mod Places
+pub mod Written
+pub mod PutHere
+pub mod PutRecord
+pub mod FoundAfter
+pub mod Spelled
 pub mod BitmapLaws
 pub mod InPlace
 pub mod FieldsInPlace

@@ -1,12 +1,11 @@
 -- What is written is read.
-use Rattle.std.proofs.Common.{◌≡◌, ℕ, ◌+◌, ◌≤◌, true, List, length, drop, Option, None, Result, Ok, refl, sym, ap, subst, ◌∙◌, arith}
+use Rattle.std.proofs.Common.{◌≡◌, ℕ, ◌+◌, ◌≤◌, List, length, drop, None, Ok, refl, sym, subst, ◌∙◌, arith}
 use Rattle.std.proofs.lemmas.Bool.Decides.{nat_tests}
 use Rattle.std.specs.List.{AllByRecursion}
 use Rattle.gfs2_layout.specs.Bytes.{slice, put_at, u32_at}
 use Rattle.gfs2_layout.specs.Fields.{HasItsWidth, end_of, with_fields}
-use Rattle.gfs2_layout.specs.Structures.{magic, answer, or_else, length_fault, magic_fault, header_fault, header_of, header_read, kind_fault, inum_at, dirent_of, dirent_read, dinode_of, dinode_read, superblock_of, superblock_read}
+use Rattle.gfs2_layout.specs.Structures.{magic, answer, or_else, length_fault, magic_fault, header_fault, header_of, header_read, kind_fault, dirent_of, dirent_read, dinode_of, dinode_read, superblock_of, superblock_read}
 use Rattle.gfs2_layout.specs.Writing.{header_fields, dirent_fields, dinode_fields, superblock_fields, texts_put}
-use Rattle.gfs2_layout.specs.declared.fault.LayoutFault.{LayoutFault}
 use Rattle.gfs2_layout.specs.declared.header.MetaHeader.{MetaHeader}
 use Rattle.gfs2_layout.specs.declared.dirent.Dirent.{Dirent}
 use Rattle.gfs2_layout.specs.declared.dinode.Dinode.{Dinode}
@@ -38,20 +37,24 @@ header_back h bytes long widths =
     } in
     (λ i. answer (or_else (short i) (bad i)) (is i))
 
-pub dirent_back : (d : Dirent) (bytes : List ℕ) → 40 ≤ length bytes → AllByRecursion HasItsWidth (dirent_fields d) → dirent_read (with_fields (dirent_fields d) bytes) ≡ answer (kind_fault d) d
-dirent_back d bytes long widths =
-    let new = with_fields (dirent_fields d) bytes in
+pub head_back : (d : Dirent) (bytes : List ℕ) → 40 ≤ length bytes → AllByRecursion HasItsWidth (dirent_fields d) → dirent_of (with_fields (dirent_fields d) bytes) ≡ d
+head_back d bytes long widths =
     let at = λ (i : ℕ). field-read (dirent_fields d) i (0, U16 0) bytes (omega (arith, long)) widths in
-    let long_new : 40 ≤ length new = omega (arith, long, length-fields (dirent_fields d) bytes (omega (arith, long))) in
-    let short = no_length_fault 40 new long_new in
-    let is : dirent_of new ≡ d = λ i. record {
+    λ i. record {
       inum = record { number = at 0 refl i; address = at 1 refl i };
       hash = at 2 refl i;
       rec_len = at 3 refl i;
       name_len = at 4 refl i;
       kind = at 5 refl i;
       rahead = at 6 refl i;
-    } in
+    }
+
+pub dirent_back : (d : Dirent) (bytes : List ℕ) → 40 ≤ length bytes → AllByRecursion HasItsWidth (dirent_fields d) → dirent_read (with_fields (dirent_fields d) bytes) ≡ answer (kind_fault d) d
+dirent_back d bytes long widths =
+    let new = with_fields (dirent_fields d) bytes in
+    let long_new : 40 ≤ length new = omega (arith, long, length-fields (dirent_fields d) bytes (omega (arith, long))) in
+    let short = no_length_fault 40 new long_new in
+    let is = head_back d bytes long widths in
     (λ i. answer (or_else (short i) (kind_fault (is i))) (is i))
 
 pub dinode_back : (d : Dinode) (bytes : List ℕ) → 232 ≤ length bytes → AllByRecursion HasItsWidth (dinode_fields d) → dinode_read (with_fields (dinode_fields d) bytes) ≡ Ok d

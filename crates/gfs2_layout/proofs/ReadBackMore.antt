@@ -1,5 +1,5 @@
 -- What is written is read: structures without bytes of their own, and those with a checksum.
-use Rattle.std.proofs.Common.{◌≡◌, ℕ, ◌+◌, ◌-◌, ◌^◌, ◌≤◌, ◌<◌, Bool, true, false, List, length, take, drop, replicate, Option, None, Result, Ok, refl, sym, ap, ◌∙◌, arith, length-append}
+use Rattle.std.proofs.Common.{◌≡◌, ℕ, ◌+◌, ◌-◌, ◌^◌, ◌≤◌, ◌<◌, Bool, true, false, List, length, take, drop, replicate, None, Ok, refl, sym, ap, ◌∙◌, arith, length-append}
 use Rattle.std.specs.Prelude.{◌%◌, ◌==◌, if◌then◌else◌}
 use Rattle.std.proofs.lemmas.Bool.Decides.{nat_tests}
 use Rattle.std.proofs.lemmas.List.{drop_at, length-take-le, length-replicate}
@@ -10,7 +10,7 @@ use Rattle.gfs2_layout.specs.Bytes.{u32_at, with_number}
 use Rattle.gfs2_layout.specs.Fields.{HasItsWidth, end_of, with_fields}
 use Rattle.gfs2_layout.specs.Checksum.{checksum_of, with_checksum}
 use Rattle.gfs2_layout.specs.Structures.{answer, or_else, rindex_of, rindex_read, group_of, group_read, leaf_of, leaf_read, records_fault, log_of, log_read, hash_fault}
-use Rattle.gfs2_layout.specs.Writing.{rindex_fields, group_fields, group_put, leaf_fields, log_fields, log_flags, log_put, zeros_from}
+use Rattle.gfs2_layout.specs.Writing.{rindex_fields, group_fields, group_put, leaf_fields, log_fields, log_put, zeros_from}
 use Rattle.gfs2_layout.specs.declared.rindex.Rindex.{Rindex}
 use Rattle.gfs2_layout.specs.declared.group_header.GroupHeader.{GroupHeader}
 use Rattle.gfs2_layout.specs.declared.leaf.Leaf.{Leaf}

@@ -24,7 +24,7 @@ none_here : (most : ℕ) (rest : List ℕ) → has_no_record rest ≡ true → s
 none_here zero rest bad = refl
 none_here (suc most) rest bad = rw bad refl
 
-one_here : (most : ℕ) (rest : List ℕ) → has_no_record rest ≡ false → slots_within (suc most) rest ≡ slot_at rest ∷ slots_within most (behind rest)
+pub one_here : (most : ℕ) (rest : List ℕ) → has_no_record rest ≡ false → slots_within (suc most) rest ≡ slot_at rest ∷ slots_within most (behind rest)
 one_here most rest good = rw good refl
 
 -- nothing is left of an area that was filled
@@ -41,7 +41,7 @@ not_rest most rest some bad is = absurd (omega (arith, is.filled, ap (sum_by slo
 filled_more : (most : ℕ) (rest : List ℕ) → has_no_record rest ≡ false → sum_by slot_length (slots_within (suc most) rest) ≡ u16_at 20 rest + sum_by slot_length (slots_within most (behind rest))
 filled_more most rest good = ap (sum_by slot_length) (one_here most rest good) ∙ sum_by-cons slot_length (slot_at rest) (slots_within most (behind rest))
 
-length_behind : (rest : List ℕ) → has_no_record rest ≡ false → u16_at 20 rest + length (behind rest) ≡ length rest
+pub length_behind : (rest : List ℕ) → has_no_record rest ≡ false → u16_at 20 rest + length (behind rest) ≡ length rest
 length_behind rest good = omega (arith, length-drop (u16_at 20 rest) rest, (record_length rest good).1)
 
 pub rest_on : (most : ℕ) (rest : List ℕ) → has_no_record rest ≡ false → IsRest (suc most) rest → HasItsName (slot_at rest) × IsRest most (behind rest)
@@ -132,7 +132,7 @@ tells-unnamed area rest some unnamed (most, few, same) is = unnamed (opens_well 
 short_has_none : (rest : List ℕ) → length rest ≡ 0 → has_no_record rest ≡ true
 short_has_none rest none = grind (arith, nat_tests)
 
-same_slots : (n m : ℕ) (rest : List ℕ) → length rest ≤ n → length rest ≤ m → slots_within n rest ≡ slots_within m rest
+pub same_slots : (n m : ℕ) (rest : List ℕ) → length rest ≤ n → length rest ≤ m → slots_within n rest ≡ slots_within m rest
 same_slots zero m rest few enough = sym (none_here m rest (short_has_none rest (omega arith)))
 same_slots (suc n) zero rest few enough = none_here (suc n) rest (short_has_none rest (omega arith))
 same_slots (suc n) (suc m) rest few enough = by_test (has_no_record rest) refl (same_slots n m (behind rest))

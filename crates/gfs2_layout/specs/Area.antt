@@ -1,18 +1,34 @@
 -- An area of records: what stands in a linear directory behind its dinode, or in a leaf.
-use Rattle.std.specs.Prelude.{ℕ, zero, suc, ◌≡◌, ◌+◌, ◌-◌, ◌<◌, ◌≤◌, ◌||◌, ◌&&◌, Bool, nat_lt, if◌then◌else◌, List, [], ◌∷◌, length, take, drop, IsTrue, Option, sum_by}
+use Rattle.std.specs.Prelude.{ℕ, zero, suc, ◌≡◌, ◌+◌, ◌-◌, ◌<◌, ◌≤◌, ◌||◌, ◌&&◌, Bool, nat_lt, if◌then◌else◌, List, [], ◌∷◌, ◌++◌, length, take, drop, IsTrue, Option, sum_by}
 use Rattle.std.specs.List.{AllByRecursion, find}
 use Rattle.std.specs.Str.{bytes_eq}
+use Rattle.std.specs.Int.{w16, w32, w64, to_be_bytes}
 use Rattle.gfs2_layout.specs.Bytes.{u16_at, slice}
 use Rattle.gfs2_layout.specs.Structures.{dirent_of, is_in_use}
 use Rattle.gfs2_layout.specs.declared.dirent.Dirent.{Dirent}
 
--- a record: its head of 40 bytes, and the bytes behind it, which begin with the name
+-- a record: the numbers of its head, the pad that ends the head, and the bytes behind these 40, which begin with the name
 pub record Slot : Type 0 where
   pub head : Dirent
+  pub pad : List ℕ
   pub body : List ℕ
 
 abbrev pub slot_at : List ℕ → Slot
-slot_at bytes = record { head = dirent_of bytes; body = slice 40 (u16_at 20 bytes - 40) bytes }
+slot_at bytes = record { head = dirent_of bytes; pad = slice 28 12 bytes; body = slice 40 (u16_at 20 bytes - 40) bytes }
+
+-- the bytes of a record
+abbrev pub head_bytes : Dirent → List ℕ
+head_bytes d =
+    to_be_bytes w64 d.inum.number
+    ++ (to_be_bytes w64 d.inum.address
+    ++ (to_be_bytes w32 d.hash
+    ++ (to_be_bytes w16 d.rec_len
+    ++ (to_be_bytes w16 d.name_len
+    ++ (to_be_bytes w16 d.kind
+    ++ to_be_bytes w16 d.rahead)))))
+
+unfoldable pub slot_bytes : Slot → List ℕ
+slot_bytes s = head_bytes s.head ++ (s.pad ++ s.body)
 
 abbrev pub slot_length : Slot → ℕ
 slot_length s = s.head.rec_len

@@ -4,4 +4,5 @@ pub mod Checksum
 pub mod Structures
 pub mod Writing
 pub mod Area
+pub mod Putting
 pub mod Bitmap

@@ -17,7 +17,7 @@ fn no_record(bytes: &[u8]) -> bool
 }
 
 // The length of the record that begins here, and the bytes behind it.
-fn past_record(bytes: &[u8]) -> (u32, &[u8])
+pub(crate) fn past_record(bytes: &[u8]) -> (u32, &[u8])
     requires { has_no_record bytes.now ≡ false }
     ensures least { 40 ≤ result.0 }
     ensures whole { result.0 + length result.1.now ≡ length bytes.now }

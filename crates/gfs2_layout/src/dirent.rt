@@ -60,6 +60,7 @@ impl Dirent {
     pub fn write(&self, bytes: &mut [u8])
         requires { 40 ≤ length bytes.old }
         ensures bytes { bytes.new ≡ dirent_put self.now bytes.old }
+        ensures head { dirent_of bytes.new ≡ self.now }
         ensures read { dirent_read bytes.new ≡ answer (kind_fault self.now) self.now }
         ensures behind { drop 40 bytes.new ≡ drop 40 bytes.old }
     {

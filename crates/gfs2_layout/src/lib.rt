@@ -15,6 +15,7 @@ mod laws;
 mod leaf;
 mod log_header;
 mod numbers;
+mod putting;
 mod rindex;
 mod superblock;
 
@@ -26,12 +27,17 @@ pub use fault::LayoutFault;
 pub use group_header::GroupHeader;
 pub use header::MetaHeader;
 pub use inum::Inum;
-pub use laws::{packed_states_are_read, states_are_put_and_read};
+pub use laws::{
+    areas_are_their_records, packed_states_are_read, put_records_are_found, states_are_put_and_read,
+};
 pub use leaf::Leaf;
 pub use log_header::LogHeader;
+pub use putting::{least_length, put_record};
 pub use rindex::Rindex;
 pub use superblock::SuperBlock;
 
+#[cfg(test)]
+mod put_tests;
 #[cfg(test)]
 mod tests;
 #[cfg(test)]

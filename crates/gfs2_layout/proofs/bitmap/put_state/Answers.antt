@@ -1,4 +1,4 @@
-use Rattle.std.proofs.Common.{◌≡◌, ◌/◌, ℕ, List, ap, ◌∙◌}
+use Rattle.std.proofs.Common.{◌/◌, ℕ, ap, ◌∙◌}
 use Rattle.std.proofs.Math.ListN.{set}
 use Rattle.gfs2_layout.specs.Bitmap.{state_at}
 use Rattle.gfs2_layout.proofs.BitmapLaws.{state_same, state_other}

@@ -1,4 +1,4 @@
-use Rattle.std.proofs.Common.{◌≡◌, ◌<◌, ◌^◌, ap, ◌∙◌, drop, subst, ℕ, List}
+use Rattle.std.proofs.Common.{◌<◌, ◌^◌, ap, ◌∙◌, drop, subst, ℕ, List}
 use Rattle.gfs2_layout.specs.Structures.{log_read}
 use Rattle.gfs2_layout.specs.Checksum.{checksum_of, with_checksum}
 use Rattle.gfs2_layout.proofs.ReadBackMore.{log_back, log_behind}
