@@ -5,7 +5,7 @@ use Rattle.gfs2_layout.specs.Bytes.{slice}
 use Rattle.gfs2_layout.specs.Structures.{rindex_of, group_of}
 use Rattle.gfs2_layout.specs.declared.rindex.Rindex.{Rindex}
 use Rattle.gfs2_layout.specs.declared.group_header.GroupHeader.{GroupHeader}
-use Rattle.image_model.specs.BitmapCopy.{state_at}
+use Rattle.gfs2_layout.specs.Bitmap.{state_at}
 use Rattle.image_model.specs.Headers.{HasHeader}
 use Rattle.image_model.specs.Image.{Image, Blocks, superblock_place}
 use Rattle.image_model.specs.Owners.{Owner, Owners, Free, Root, Master, Named}

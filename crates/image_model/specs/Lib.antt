@@ -1,5 +1,4 @@
 pub mod Image
-pub mod BitmapCopy
 pub mod Headers
 pub mod Owners
 pub mod Records

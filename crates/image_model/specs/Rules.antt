@@ -9,7 +9,7 @@ use Rattle.gfs2_layout.specs.Bytes.{u32_at}
 use Rattle.gfs2_layout.specs.Structures.{dinode_length, is_regular, is_in_use}
 use Rattle.gfs2_layout.specs.Area.{Slot, name_of, slots_of, IsArea}
 use Rattle.gfs2_layout.specs.declared.rindex.Rindex.{Rindex}
-use Rattle.image_model.specs.BitmapCopy.{state_at}
+use Rattle.gfs2_layout.specs.Bitmap.{state_at}
 use Rattle.image_model.specs.Claims.{every, Leads, entry_block, Claims, IsInodeAt, HasInode, HasDirectory, HasLeaf, HasArea, master_of, IsRindex, IsJindex, HasGroup, HasJournal, IsUnder}
 use Rattle.image_model.specs.Groups.{groups_in, entry_length, IsGroupAt, IsListed, end_of, IsDataOf, IsNear, GroupFits, group_blocks, bitmap_of, group_header, states_in, state_of, count_of}
 use Rattle.image_model.specs.Headers.{HasHeader}
