@@ -4,3 +4,4 @@ pub mod PutLaws
 pub mod PointerLaws
 pub mod CountLaws
 pub mod BitmapLaws
+pub mod UseLaws

@@ -249,7 +249,7 @@ journals_block p = dinode_block p (dinode p 4 (journals_place p) (directory p (2
 
 -- ---- the image
 
-abbrev pub used_block : Plan → Use → List ℕ
+unfoldable pub used_block : Plan → Use → List ℕ
 used_block p Master = master_block p
 used_block p Root = root_block p
 used_block p (GroupList part) = group_list_block p part
@@ -257,11 +257,11 @@ used_block p Journals = journals_block p
 used_block p (Journal j part) = journal_block p j part
 
 -- data block k
-abbrev pub data_block : Plan → ℕ → List ℕ
+unfoldable pub data_block : Plan → ℕ → List ℕ
 data_block p k = if nat_lt k (taken p) then used_block p (use_of p k) else zeros p
 
 -- block n of a group
-abbrev pub group_block : Plan → ℕ → ℕ → List ℕ
+unfoldable pub group_block : Plan → ℕ → ℕ → List ℕ
 group_block p group n =
     if nat_lt n (headers_of p group) then header_block p group n
     else if nat_lt (n - headers_of p group) (data_blocks p group) then data_block p (data_before p group + (n - headers_of p group))
@@ -272,7 +272,7 @@ abbrev pub group_at : Plan → ℕ → ℕ
 group_at p block = min ((block - super_block p - 1) / share p) (last_group p)
 
 -- block by block
-abbrev pub new_block : Plan → ℕ → List ℕ
+unfoldable pub new_block : Plan → ℕ → List ℕ
 new_block p block =
     if nat_lt block (super_block p) then zeros p
     else if block == super_block p then superblock_put (superblock p) (zeros p)

@@ -1,8 +1,7 @@
 -- When an image is made, and when not.
 use Rattle.std.specs.Prelude.{ℕ, ⊤, ◌≡◌, ◌+◌, ◌^◌, ◌<◌, ◌≤◌, ◌&&◌, ◌==◌, ◌⊎◌, Bool, true, false, nat_le, if◌then◌else◌, List, length, Option, None, Some, Result, Ok, Err, IsTrue}
 use Rattle.mkgfs2_tool.specs.Groups.{data_blocks, last_group, all_data}
-use Rattle.mkgfs2_tool.specs.Order.{taken, group_list, journal}
-use Rattle.mkgfs2_tool.specs.declared.files.Shape.{Shape}
+use Rattle.mkgfs2_tool.specs.Order.{taken}
 use Rattle.mkgfs2_tool.specs.declared.files.Part.{Part}
 use Rattle.mkgfs2_tool.specs.declared.files.Part.TheVariants.{Top, Pointers, Content}
 use Rattle.mkgfs2_tool.specs.declared.order.Use.{Use}
@@ -50,13 +49,13 @@ pub record IsFitting (p : Plan) : Type 0 where
   pub room : taken p ≤ all_data p
   pub linear : HasLinearJournals p
 
--- a block of a file that has this part may stand there
-abbrev pub IsPartOf : Shape → Part → Type 0
-IsPartOf f Top = ⊤
-IsPartOf f (Pointers level index) = (1 ≤ level) × (level ≤ 3) × (index < 2 ^ 38)
-IsPartOf f (Content n) = n < 2 ^ 38
+-- a part has one of the levels below the dinode, and its place is small
+abbrev pub IsPartOf : Part → Type 0
+IsPartOf Top = ⊤
+IsPartOf (Pointers level index) = (1 ≤ level) × (level ≤ 3) × (index < 2 ^ 38)
+IsPartOf (Content n) = n < 2 ^ 38
 
-abbrev pub IsUseOf : Plan → Use → Type 0
-IsUseOf p (GroupList part) = IsPartOf (group_list p) part
-IsUseOf p (Journal j part) = (j < 8) × IsPartOf (journal p) part
-IsUseOf p _ = ⊤
+abbrev pub IsUseOf : Use → Type 0
+IsUseOf (GroupList part) = IsPartOf part
+IsUseOf (Journal j part) = (j < 8) × IsPartOf part
+IsUseOf _ = ⊤
