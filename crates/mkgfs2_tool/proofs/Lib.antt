@@ -5,3 +5,6 @@ pub mod PointerLaws
 pub mod CountLaws
 pub mod BitmapLaws
 pub mod UseLaws
+pub mod FlightLaws
+pub mod DiskLaws
+pub mod EndingLaws

@@ -129,8 +129,12 @@ group_entry p group = record {
   bitbytes = data_blocks p group / 4;
 }
 
-abbrev pub group_entries : Plan → List ℕ
-group_entries p = flat_map (λ group. rindex_put (group_entry p group) (replicate 96 0)) (range_with_len 0 p.groups)
+-- the entries of the first groups, so many
+abbrev pub entries_of : Plan → ℕ → List ℕ
+entries_of p groups = flat_map (λ group. rindex_put (group_entry p group) (replicate 96 0)) (range_with_len 0 groups)
+
+unfoldable pub group_entries : Plan → List ℕ
+group_entries p = entries_of p p.groups
 
 -- these bytes are the list of groups
 pub record IsGroupList (p : Plan) (bytes : List ℕ) : Type 0 where

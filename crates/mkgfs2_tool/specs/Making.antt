@@ -1,5 +1,5 @@
 -- When an image is made, and when not.
-use Rattle.std.specs.Prelude.{ℕ, ⊤, ◌≡◌, ◌+◌, ◌^◌, ◌<◌, ◌≤◌, ◌&&◌, ◌==◌, ◌⊎◌, Bool, true, false, nat_le, if◌then◌else◌, List, length, Option, None, Some, Result, Ok, Err, IsTrue}
+use Rattle.std.specs.Prelude.{ℕ, ⊤, ◌≡◌, ◌+◌, ◌^◌, ◌<◌, ◌≤◌, ◌&&◌, ◌==◌, ◌⊎◌, Bool, true, false, nat_le, if◌then◌else◌, List, length, Option, None, Some, IfSome, Result, Ok, Err, IsTrue}
 use Rattle.mkgfs2_tool.specs.Groups.{data_blocks, last_group, all_data}
 use Rattle.mkgfs2_tool.specs.Order.{taken}
 use Rattle.mkgfs2_tool.specs.declared.files.Part.{Part}
@@ -8,6 +8,9 @@ use Rattle.mkgfs2_tool.specs.declared.order.Use.{Use}
 use Rattle.mkgfs2_tool.specs.declared.order.Use.TheVariants.{Master, Root, GroupList, Journals, Journal}
 use Rattle.mkgfs2_tool.specs.declared.options.MakeOptions.{MakeOptions}
 use Rattle.mkgfs2_tool.specs.declared.options.Opt.{Opt}
+use Rattle.fault_counts.specs.Causes.{WentUp}
+use Rattle.mkgfs2_tool.specs.declared.options.MakeFault.{MakeFault}
+use Rattle.mkgfs2_tool.specs.declared.options.MakeFault.TheVariants.{DeviceFault}
 use Rattle.mkgfs2_tool.specs.declared.options.Opt.TheVariants as opt
 use Rattle.mkgfs2_tool.specs.declared.plan.Plan.{Plan}
 
@@ -59,3 +62,11 @@ abbrev pub IsUseOf : Use → Type 0
 IsUseOf (GroupList part) = IsPartOf part
 IsUseOf (Journal j part) = (j < 8) × IsPartOf part
 IsUseOf _ = ⊤
+
+-- a fault of the disk, told with the block, if it was at one, and with the rise of node 0's count
+abbrev pub IsFaultOf : ℕ → (ℕ → ℕ) → (ℕ → ℕ) → MakeFault → Type 0
+IsFaultOf count before now (DeviceFault block x y) = WentUp (before 0) (now 0) x y × IfSome block (λ b. b < count)
+IsFaultOf count before now _ = ⊥
+
+abbrev pub IsBlockSize : ℕ → Type 0
+IsBlockSize size = (size ≡ 512) ⊎ ((size ≡ 1024) ⊎ ((size ≡ 2048) ⊎ (size ≡ 4096)))

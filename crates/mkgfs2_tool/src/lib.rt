@@ -3,13 +3,16 @@
 
 mod blocks;
 mod bytes;
+mod device;
 mod directory;
 mod files;
 mod groups;
 mod inodes;
+mod making;
 mod options;
 mod order;
 mod plan;
 mod pointers;
 
+pub use making::make;
 pub use options::{MakeFault, MakeOptions, Opt};
