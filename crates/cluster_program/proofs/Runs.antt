@@ -1,15 +1,16 @@
 -- How a run of a script ends.
-use Rattle.std.proofs.Common.{◌≡◌, ℕ, ◌≤◌, List, [], IsTrue, Some, sym, ◌∙◌, subst, arith}
+use Rattle.std.proofs.Common.{◌≡◌, ℕ, ◌≤◌, List, [], length, IsTrue, Some, sym, ◌∙◌, subst, arith}
 use Rattle.fault_counts.specs.Causes.{WentUp}
 use Rattle.file_tree.specs.Tree.{Tree}
 use Rattle.file_tree.specs.declared.call.Call.{Call}
 use Rattle.cluster_history.specs.History.{Legal, NoneLost, tree_of}
 use Rattle.trace_text.specs.declared.item.TraceItem.{TraceItem}
 use Rattle.script_lang.specs.Script.{ScriptValue}
+use Rattle.script_lang.specs.declared.script.Client.{Client}
 use Rattle.script_lang.specs.declared.script.Line.{Line}
 use Rattle.script_lang.specs.declared.script.Line.TheVariants as line
 use Rattle.run_rules.specs.Follows.{history_of}
-use Rattle.run_rules.specs.History.{HoldsHistory, NoneStopped}
+use Rattle.run_rules.specs.History.{HoldsHistory, NoneStopped, AllAnswered}
 use Rattle.run_rules.proofs.Nothing.{nothing_follows, nothing_is_legal}
 use Rattle.shared_disk.specs.Disk.{DiskState}
 use Rattle.single_node.specs.Flat.{IsFlat, HasFlatRoot, LacksFlatRoot, IsStart}
@@ -18,8 +19,9 @@ use Rattle.single_node.specs.declared.end.RunEnd.{RunEnd}
 use Rattle.single_node.specs.declared.end.RunEnd.TheVariants as end
 use Rattle.cluster_program.specs.declared.status.Status.{Status}
 use Rattle.cluster_program.specs.declared.status.Status.TheVariants as status
-use Rattle.cluster_program.specs.Course.{Runs, RunEnds, MountFailed, MountRefused, CallFailed, CallRefused, NoRoom, AtCall}
+use Rattle.cluster_program.specs.Course.{Runs, RunEnds, IsDone, MountFailed, MountRefused, CallFailed, CallRefused, NoRoom, AtCall}
 use Rattle.single_node.specs.Blocks.{MountReads, MountRefuses, CallReads, CallRefuses, RefusesWhatIsTold, IsCallThat}
+use Rattle.single_node.specs.Run.{IsRunUpTo, IsWholeRun, IsRunOf, NotJoined, Taken, Unmounted}
 use Rattle.cluster_program.specs.Early.{status_of_end}
 
 -- a count went up within a longer time too
@@ -72,10 +74,31 @@ call_end disk mid first before now s items root (end.NotRead block) same begins 
     CallRefused root block (λ tree flat. other tree (may_start disk mid root tree same begins flat)) begins (at_root disk root s items block begins here)
 call_end disk mid first before now s items root end.NoMemory same begins earlier cause other refused failed = NoRoom
 
+-- ---- the same items, from what may be a start now
+
+module _ (clients : List Client) (lines : List Line) (Before Now : Tree → Type 0) (starts : (tree : Tree) → Now tree → Before tree) where
+  up_to : (count : ℕ) (items : List TraceItem) → IsRunUpTo clients lines count items Before → IsRunUpTo clients lines count items Now
+  up_to count items so = record { answered = so.answered; are = so.are; calls = so.calls; reads = λ tree start. so.reads tree (starts tree start) }
+
+  whole_from : (items : List TraceItem) → IsWholeRun clients lines items Before → IsWholeRun clients lines items Now
+  whole_from items whole = record { before = whole.before; taken = up_to (length lines) whole.before whole.taken; are = whole.are }
+
+  run_from : (items : List TraceItem) → IsRunOf clients lines items Before → IsRunOf clients lines items Now
+  run_from items (NotJoined none) = NotJoined none
+  run_from items (Taken count so) = Taken count (up_to count items so)
+  run_from items (Unmounted whole) = Unmounted (whole_from items whole)
+
+-- a run that is done
+pub done_end : (disk mid : DiskState) (faults faults_now : ℕ → ℕ) (s : ScriptValue) (items : List TraceItem) (root : List ℕ) → mid ≡ disk
+    → (IsTrue disk.tells → HasFlatRoot disk root) → AllAnswered items s → IsWholeRun s.clients s.lines items (IsStart mid root) → RunEnds disk faults faults_now s items status.Done
+done_end disk mid faults faults_now s items root same begins all whole =
+    IsDone all (whole_from s.clients s.lines (IsStart mid root) (IsFlat disk) (λ tree flat. may_start disk mid root tree same begins flat) items whole)
+
 -- nothing has happened
 pub no_items : (disk disk_now : DiskState) (faults faults_now : ℕ → ℕ) (s : ScriptValue) (items : List TraceItem) (own : Status) → disk_now ≡ disk → items ≡ []
     → RunEnds disk faults faults_now s items own → Runs disk disk_now faults faults_now s items own
 no_items disk disk_now faults faults_now s items own same none ends = record {
+  run = NotJoined none;
   history = subst (HoldsHistory s) (sym none) (nothing_follows s);
   members = subst NoneStopped (sym none) tt;
   none_lost = subst (λ (is : List TraceItem). NoneLost (history_of s.clients is)) (sym none) tt;
@@ -86,11 +109,12 @@ no_items disk disk_now faults faults_now s items own same none ends = record {
 
 pub ran : (disk mid disk_now : DiskState) (faults faults_now : ℕ → ℕ) (s : ScriptValue) (items : List TraceItem) (own : Status) (root : List ℕ)
     → mid ≡ disk → disk_now ≡ mid → (IsTrue disk.tells → HasFlatRoot disk root)
-    → HoldsHistory s items → NoneStopped items → NoneLost (history_of s.clients items)
+    → IsRunOf s.clients s.lines items (IsStart mid root) → HoldsHistory s items → NoneStopped items → NoneLost (history_of s.clients items)
     → ((tree : Tree) → IsStart mid root tree → Legal (history_of s.clients items) tree)
     → ((tree : Tree) → IsStart mid root tree → tree_of (history_of s.clients items) tree ≡ tree)
     → RunEnds disk faults faults_now s items own → Runs disk disk_now faults faults_now s items own
-ran disk mid disk_now faults faults_now s items own root same kept begins history members none_lost legal tree_is ends = record {
+ran disk mid disk_now faults faults_now s items own root same kept begins run history members none_lost legal tree_is ends = record {
+  run = run_from s.clients s.lines (IsStart mid root) (IsFlat disk) (λ tree flat. may_start disk mid root tree same begins flat) items run;
   history = history;
   members = members;
   none_lost = none_lost;
