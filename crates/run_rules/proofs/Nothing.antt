@@ -1,8 +1,6 @@
 -- A run that has no items yet.
-use Rattle.std.proofs.Common.{◌≡◌, ℕ, zero, suc, ◌+◌, ◌<◌, ◌≤◌, min, List, [], length, Some, refl, arith}
+use Rattle.std.proofs.Common.{◌≡◌, ℕ, zero, suc, ◌≤◌, min, [], Some, refl, arith}
 use Rattle.std.specs.List.{slice_get}
-use Rattle.file_tree.specs.Tree.{Tree}
-use Rattle.cluster_history.specs.History.{Legal}
 use Rattle.script_lang.specs.Script.{ScriptValue}
 use Rattle.run_rules.specs.Follows.{Follows, ByLine, above}
 use Rattle.run_rules.specs.Laws.{NothingFollows, NothingIsLegal}
