@@ -56,10 +56,10 @@ module _ (words : List (List ℕ)) (given left : Inputs) (sinks sinks_now : Outp
   of_script own NoRoom = inr refl
 
   of_run : (s : ScriptValue) (items : List TraceItem) (own : Status) → RunEnds given.disk given.disk_faults left.disk_faults s items own → IsWhole own
-  of_run s items own (IsDone all) = inl refl
-  of_run s items own (MountFailed block x y up reads) = absurd (none.disk 0 (rose (given.disk_faults 0) (left.disk_faults 0) x y up))
+  of_run s items own (IsDone all whole) = inl refl
+  of_run s items own (MountFailed block x y none_yet up reads) = absurd (none.disk 0 (rose (given.disk_faults 0) (left.disk_faults 0) x y up))
   of_run s items own (CallFailed root block x y up begins reads) = absurd (none.disk 1 (rose (given.disk_faults 1) (left.disk_faults 1) x y up))
-  of_run s items own (MountRefused block other refuses) = absurd (other may.tree may.flat)
+  of_run s items own (MountRefused block none_yet other refuses) = absurd (other may.tree may.flat)
   of_run s items own (CallRefused root block other begins refuses) = absurd (other may.tree may.flat)
   of_run s items own NoRoom = inr refl
 

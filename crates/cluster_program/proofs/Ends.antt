@@ -42,10 +42,10 @@ module _ (given left : Inputs) (sinks sinks_now : Outputs) where
   script_fault own NoRoom = tt
 
   run_fault : (s : ScriptValue) (items : List TraceItem) (own : Status) → RunEnds given.disk given.disk_faults left.disk_faults s items own → FaultHasCause given left sinks sinks_now own
-  run_fault s items own (IsDone all) = tt
-  run_fault s items own (MountFailed block x y up reads) = up
+  run_fault s items own (IsDone all whole) = tt
+  run_fault s items own (MountFailed block x y none up reads) = up
   run_fault s items own (CallFailed root block x y up begins reads) = up
-  run_fault s items own (MountRefused block other refuses) = tt
+  run_fault s items own (MountRefused block none other refuses) = tt
   run_fault s items own (CallRefused root block other begins refuses) = tt
   run_fault s items own NoRoom = tt
 

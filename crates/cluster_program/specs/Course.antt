@@ -4,7 +4,7 @@ use Rattle.std.specs.Io.KnownBytes.{Consumes, IsAtEnd}
 use Rattle.fault_counts.specs.Causes.{WentUp}
 use Rattle.file_tree.specs.Tree.{Tree}
 use Rattle.file_tree.specs.declared.call.Call.{Call}
-use Rattle.cluster_history.specs.History.{tree_of}
+use Rattle.cluster_history.specs.History.{Legal, NoneLost, tree_of}
 use Rattle.trace_text.specs.declared.item.TraceItem.{TraceItem}
 use Rattle.script_lang.specs.Script.{ScriptValue}
 use Rattle.script_lang.specs.Grammar.{script_read, Script, Bad, nothing}
@@ -18,6 +18,7 @@ use Rattle.run_rules.specs.History.{HoldsHistory, NoneStopped, AllAnswered}
 use Rattle.shared_disk.specs.Disk.{DiskState}
 use Rattle.single_node.specs.Flat.{IsFlat, HasFlatRoot, IsStart}
 use Rattle.single_node.specs.Blocks.{MountReads, MountRefuses, CallReads, CallRefuses, EndsAtCall}
+use Rattle.single_node.specs.Run.{IsRunOf, IsWholeRun}
 use Rattle.cluster_program.specs.World.{Inputs}
 use Rattle.cluster_program.specs.declared.status.Status.{Status}
 use Rattle.cluster_program.specs.declared.status.Status.TheVariants as status
@@ -67,26 +68,32 @@ pub data LacksScript (before now : Option (List ℕ)) (faults faults_now : ℕ) 
 abbrev pub AtCall : DiskState → List ℕ → ScriptValue → List TraceItem → (Call → Type 0) → Type 0
 AtCall disk root s items P = EndsAtCall P s.clients s.lines items (IsStart disk root)
 
--- How a run ends: each line is answered; the disk failed in mounting, or in a call; mounting or a call met a block that is
--- not of a form that is built, so that the image is not flat; or there was no memory.
+-- How a run ends: each line is answered and the node has unmounted; the disk failed in mounting, before the first item, or in a call, behind the lines
+-- above it; mounting or a call met, likewise, a block that is not of a form that is built, so that the image is not flat;
+-- or there was no memory.
 pub data RunEnds (disk : DiskState) (faults faults_now : ℕ → ℕ) (s : ScriptValue) (items : List TraceItem) : Status → Type 0 where
-  IsDone : AllAnswered items s → RunEnds disk faults faults_now s items status.Done
-  MountFailed : (block x y : ℕ) → WentUp (faults 0) (faults_now 0) x y → (IsTrue disk.tells → MountReads disk block)
+  IsDone : AllAnswered items s → IsWholeRun s.clients s.lines items (IsFlat disk) → RunEnds disk faults faults_now s items status.Done
+  MountFailed : (block x y : ℕ) → items ≡ [] → WentUp (faults 0) (faults_now 0) x y → (IsTrue disk.tells → MountReads disk block)
       → RunEnds disk faults faults_now s items (status.DeviceFault 0 (Some block) x y)
   CallFailed : (root : List ℕ) (block x y : ℕ) → WentUp (faults 1) (faults_now 1) x y → (IsTrue disk.tells → HasFlatRoot disk root)
       → AtCall disk root s items (λ call. CallReads root call block) → RunEnds disk faults faults_now s items (status.DeviceFault 1 (Some block) x y)
-  MountRefused : (block : ℕ) → ((tree : Tree) → IsFlat disk tree → ⊥) → (IsTrue disk.tells → MountRefuses disk block)
+  MountRefused : (block : ℕ) → items ≡ [] → ((tree : Tree) → IsFlat disk tree → ⊥) → (IsTrue disk.tells → MountRefuses disk block)
       → RunEnds disk faults faults_now s items (status.NotBuilt (part.Block block))
   CallRefused : (root : List ℕ) (block : ℕ) → ((tree : Tree) → IsFlat disk tree → ⊥) → (IsTrue disk.tells → HasFlatRoot disk root)
-      → (IsTrue disk.tells → AtCall disk root s items (λ call. CallRefuses disk root call block))
+      → AtCall disk root s items (λ call. IsTrue disk.tells → CallRefuses disk root call block)
       → RunEnds disk faults faults_now s items (status.NotBuilt (part.Block block))
   NoRoom : RunEnds disk faults faults_now s items status.NoMemory
 
 pub record Runs (disk disk_now : DiskState) (faults faults_now : ℕ → ℕ) (s : ScriptValue) (items : List TraceItem) (own : Status) : Type 0 where
-  -- where the image is flat, the items hold one history of its tree, and the image stands for the tree at its end
-  pub history : (tree : Tree) → IsFlat disk tree → HoldsHistory tree s items
-  pub stands : (tree : Tree) → IsFlat disk tree → IsFlat disk_now (tree_of (history_of s.clients items) tree)
+  -- on every disk, also one that tells nothing: node 1 joins, takes the lines one by one, and unmounts
+  pub run : IsRunOf s.clients s.lines items (IsFlat disk)
+  -- so the items follow the script and hold one history, no node stops, and nothing is lost
+  pub history : HoldsHistory s items
   pub members : NoneStopped items
+  pub none_lost : NoneLost (history_of s.clients items)
+  -- where the image is flat: every reply is that of its tree, which takes the calls one by one, and the image stands for the tree at the end
+  pub legal : (tree : Tree) → IsFlat disk tree → Legal (history_of s.clients items) tree
+  pub stands : (tree : Tree) → IsFlat disk tree → IsFlat disk_now (tree_of (history_of s.clients items) tree)
   pub ends : RunEnds disk faults faults_now s items own
 
 -- ---- the command: refusals come in this order, each before anything that follows it is touched
