@@ -1,6 +1,7 @@
 //! The top call: what a command does to the disk, prints and answers.
 #![tactic(auto)]
 
+mod image;
 mod input;
 mod output;
 mod places;

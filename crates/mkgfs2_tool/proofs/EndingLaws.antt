@@ -55,13 +55,13 @@ same_plan p size size' count count' o is size_is count_is = is ∙ ap (λ n. pla
 -- ---- the whole call, over a plan that is that of the options
 
 pub refused : (o : MakeOptions) (s : DiskState) (list : Option (List Operation)) (faults : ℕ → ℕ) (opt : Opt) → bad_option o ≡ Some opt → Ending o s s list list faults faults (Err (BadOption opt))
-refused o s list faults opt bad = IsRefused opt bad (record { state_is = refl; list_is = refl })
+refused o s list faults opt bad = IsRefused opt bad (record { state_is = refl; list_is = refl; faults_are = refl })
 
 pub too_small : (o : MakeOptions) (s : DiskState) (list : Option (List Operation)) (faults : ℕ → ℕ) (p : Plan) (needed : ℕ) → p ≡ plan_of s.size s.count o → bad_option o ≡ None
     → fits p ≡ false → IsNeeded p needed → Ending o s s list list faults faults (Err (TooSmall needed p.count))
 too_small o s list faults p needed is good lacks least =
     subst (λ n. Ending o s s list list faults faults (Err (TooSmall needed n))) (sym (ap (λ (q : Plan). q.count) is))
-      (IsTooSmall needed good (sym (ap fits is) ∙ lacks) (subst (λ q. IsNeeded q needed) is least) (record { state_is = refl; list_is = refl }))
+      (IsTooSmall needed good (sym (ap fits is) ∙ lacks) (subst (λ q. IsNeeded q needed) is least) (record { state_is = refl; list_is = refl; faults_are = refl }))
 
 pub tried : (o : MakeOptions) (s now : DiskState) (list list_now : Option (List Operation)) (faults faults_now : ℕ → ℕ) (p : Plan) (r : Result (Unit {0}) MakeFault)
     → p ≡ plan_of s.size s.count o → bad_option o ≡ None → fits p ≡ true → PlanEnding p s now list list_now faults faults_now r → Ending o s now list list_now faults faults_now r

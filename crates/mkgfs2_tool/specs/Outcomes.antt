@@ -74,15 +74,16 @@ pub record IsRoom (p : Plan) (room : Room) : Type 0 where
   pub wanted : length room.wanted.items ≡ p.size
   pub found : length room.found.items ≡ p.size
 
--- nothing was written
-pub record IsUntouched (old now : DiskState) (list list_now : Option (List Operation)) : Type 0 where
+-- nothing was written, and no count has changed
+pub record IsUntouched (old now : DiskState) (list list_now : Option (List Operation)) (faults faults_now : ℕ → ℕ) : Type 0 where
   pub state_is : now ≡ old
   pub list_is : list_now ≡ list
+  pub faults_are : faults_now ≡ faults
 
 -- How making the image of a plan ends: there was no memory; the disk failed, at one of its blocks or at a barrier; or the
 -- image is made.
 pub data PlanEnding (p : Plan) (old now : DiskState) (list list_now : Option (List Operation)) (faults faults_now : ℕ → ℕ) : Result (Unit {0}) MakeFault → Type 0 where
-  LacksMemory : IsUntouched old now list list_now → PlanEnding p old now list list_now faults faults_now (Err NoMemory)
+  LacksMemory : IsUntouched old now list list_now faults faults_now → PlanEnding p old now list list_now faults faults_now (Err NoMemory)
   HasFailed : (fault : MakeFault) → IsFaultOf old.count faults faults_now fault → IsBegun p old now list list_now
       → PlanEnding p old now list list_now faults faults_now (Err fault)
   HasMade : IsMade p old now list list_now → PlanEnding p old now list list_now faults faults_now (Ok tt)
@@ -90,8 +91,8 @@ pub data PlanEnding (p : Plan) (old now : DiskState) (list list_now : Option (Li
 -- How making an image ends: a number of the options is outside its limits; the device is too small, and so many blocks are
 -- needed; or its making was tried.
 pub data Ending (o : MakeOptions) (old now : DiskState) (list list_now : Option (List Operation)) (faults faults_now : ℕ → ℕ) : Result (Unit {0}) MakeFault → Type 0 where
-  IsRefused : (opt : Opt) → bad_option o ≡ Some opt → IsUntouched old now list list_now → Ending o old now list list_now faults faults_now (Err (BadOption opt))
+  IsRefused : (opt : Opt) → bad_option o ≡ Some opt → IsUntouched old now list list_now faults faults_now → Ending o old now list list_now faults faults_now (Err (BadOption opt))
   IsTooSmall : (needed : ℕ) → bad_option o ≡ None → fits (plan_of old.size old.count o) ≡ false → IsNeeded (plan_of old.size old.count o) needed
-      → IsUntouched old now list list_now → Ending o old now list list_now faults faults_now (Err (TooSmall needed old.count))
+      → IsUntouched old now list list_now faults faults_now → Ending o old now list list_now faults faults_now (Err (TooSmall needed old.count))
   IsTried : (result : Result (Unit {0}) MakeFault) → bad_option o ≡ None → fits (plan_of old.size old.count o) ≡ true
       → PlanEnding (plan_of old.size old.count o) old now list list_now faults faults_now result → Ending o old now list list_now faults faults_now result

@@ -16,3 +16,4 @@ mod pointers;
 
 pub use making::make;
 pub use options::{MakeFault, MakeOptions, Opt};
+pub use plan::Plan;

@@ -6,7 +6,7 @@ use crate::options::MakeOptions;
 
 /// What a device is to become: blocks of `size` bytes, `count` of them, with these journals and groups.
 #[derive(Clone, Copy, Debug, PartialEq, Eq)]
-pub(crate) struct Plan {
+pub struct Plan {
     pub size: u64,
     pub count: u64,
     pub journals: u64,

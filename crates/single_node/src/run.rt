@@ -44,6 +44,7 @@ fn reply_to<D: SharedDisk>(
     ensures block { IfErr result (λ end. IfNotRead end (λ b. RefusesWhatIsTold (D.state disk.old) root.now call.now b)) }
     ensures failed { IfErr result (λ end. IfDiskFailed end (λ b. CallReads root.now call.now b)) }
     ensures same { D.state disk.new ≡ D.state disk.old }
+    ensures list { D.list disk.new ≡ D.list disk.old }
     ensures cause { IfErr result (EndHasCause 1 (D.faults disk.old) (D.faults disk.new)) }
     ensures later { (j : ℕ) → D.faults disk.old j ≤ D.faults disk.new j }
 {
@@ -113,6 +114,7 @@ fn take_line<D: SharedDisk>(
     ensures block { IfErr result (λ end. IfNotRead end (λ b. IsCallThat (λ call. RefusesWhatIsTold (D.state disk.old) root.now call b) line.now)) }
     ensures failed { IfErr result (λ end. IfDiskFailed end (λ b. IsCallThat (λ call. CallReads root.now call b) line.now)) }
     ensures same { D.state disk.new ≡ D.state disk.old }
+    ensures list { D.list disk.new ≡ D.list disk.old }
     ensures cause { IfErr result (EndHasCause 1 (D.faults disk.old) (D.faults disk.new)) }
     ensures later { (j : ℕ) → D.faults disk.old j ≤ D.faults disk.new j }
 {
@@ -151,6 +153,7 @@ fn take_lines<D: SharedDisk>(
     ensures block { IfErr result (λ end. IfNotRead end (λ b. EndsAtCall (λ call. RefusesWhatIsTold (D.state disk.old) root.now call b) clients.now lines.now items.new.items (IsStart (D.state disk.old) root.now))) }
     ensures failed { IfErr result (λ end. IfDiskFailed end (λ b. EndsAtCall (λ call. CallReads root.now call b) clients.now lines.now items.new.items (IsStart (D.state disk.old) root.now))) }
     ensures same { D.state disk.new ≡ D.state disk.old }
+    ensures list { D.list disk.new ≡ D.list disk.old }
     ensures cause { IfErr result (EndHasCause 1 (D.faults disk.old) (D.faults disk.new)) }
     ensures later { (j : ℕ) → D.faults disk.old j ≤ D.faults disk.new j }
 {
@@ -185,6 +188,7 @@ fn run_lines<D: SharedDisk>(
     ensures block { IfErr result (λ end. IfNotRead end (λ b. EndsAtCall (λ call. RefusesWhatIsTold (D.state disk.old) root.now call b) clients.now lines.now items.new.items (IsStart (D.state disk.old) root.now))) }
     ensures failed { IfErr result (λ end. IfDiskFailed end (λ b. EndsAtCall (λ call. CallReads root.now call b) clients.now lines.now items.new.items (IsStart (D.state disk.old) root.now))) }
     ensures same { D.state disk.new ≡ D.state disk.old }
+    ensures list { D.list disk.new ≡ D.list disk.old }
     ensures cause { IfErr result (EndHasCause 1 (D.faults disk.old) (D.faults disk.new)) }
     ensures later { (j : ℕ) → D.faults disk.old j ≤ D.faults disk.new j }
 {
@@ -233,6 +237,7 @@ pub fn run_script<D: SharedDisk>(
     ensures block { IfErr result (λ end. IfNotRead end (λ b. EndsAtCall (λ call. RefusesWhatIsTold (D.state disk.old) root.now call b) script.now.clients script.now.lines items.new.items (IsStart (D.state disk.old) root.now))) }
     ensures failed { IfErr result (λ end. IfDiskFailed end (λ b. EndsAtCall (λ call. CallReads root.now call b) script.now.clients script.now.lines items.new.items (IsStart (D.state disk.old) root.now))) }
     ensures same { D.state disk.new ≡ D.state disk.old }
+    ensures list { D.list disk.new ≡ D.list disk.old }
     ensures cause { IfErr result (EndHasCause 1 (D.faults disk.old) (D.faults disk.new)) }
     ensures later { (j : ℕ) → D.faults disk.old j ≤ D.faults disk.new j }
 {

@@ -9,4 +9,4 @@ returns-clause-ending g c =
       (g.D.SharedDisk.faults c.args.disk.now) (g.D.SharedDisk.faults c.make_blocks.new.disk) c.make_blocks.result c.make_blocks.ensures.made c.make_blocks.ensures.begun c.make_blocks.ensures.cause
 
 pub returns-in_default-clause-ending : goal.returns-in_default-clause-ending
-returns-in_default-clause-ending g c = LacksMemory (record { state_is = refl; list_is = refl })
+returns-in_default-clause-ending g c = LacksMemory (record { state_is = refl; list_is = refl; faults_are = refl })
