@@ -1,4 +1,4 @@
-use Rattle.std.proofs.Common.{◌≡◌, ℕ, length, map}
+use Rattle.std.proofs.Common.{◌≡◌, length, map}
 use Rattle.std.specs.Prelude.{string_bytes}
 use Rattle.gfs2run.specs.Size.{size_given}
 use Rattle.gfs2run.proofs.size.size_given.Given as goal
