@@ -66,7 +66,7 @@ pub makes_so : (w : MakeWords) (o : MakeOptions) (s s' : DiskState) (l l' : Opti
     → s.count ≤ most_blocks → Ending o s s' l l' f f' r → status_of r ≡ answer → (left : Option (List ℕ)) (failed : ℕ) → Makes w (inputs s l f left failed) (inputs s' l' f' left failed) answer
 makes_so w o s s' l l' f f' r answer within is few ending answer_is left failed =
     subst (Makes w (inputs s l f left failed) (inputs s' l' f' left failed)) answer_is
-      (makes w s s' l l' f f' within r left failed few (subst (λ p. Ending p s s' l l' f f' r) is ending))
+    (makes w s s' l l' f f' within r left failed few (subst (λ p. Ending p s s' l l' f f' r) is ending))
 
 pub never_bad_so : (w : MakeWords) (o : MakeOptions) (s s' : DiskState) (l l' : Option (List Operation)) (f f' : ℕ → ℕ) (r : Result (Unit {0}) MakeFault) (opt : Opt) → IsMakeWithin w → o ≡ options_of w
     → Ending o s s' l l' f f' r → r ≡ Err (fault.BadOption opt) → ⊥

@@ -43,11 +43,13 @@ fn make_on<D: SharedDisk>(alloc: Global, disk: &mut D, words: &MakeWords) -> Sta
     match make(alloc, disk, &options_of(words)) {
         Ok(()) => Status::Done,
         Err(MakeFault::TooSmall { needed, found }) => Status::TooSmall { needed, found },
-        Err(MakeFault::DeviceFault {
-            block,
-            before,
-            after,
-        }) => Status::DeviceFault {
+        Err(
+            MakeFault::DeviceFault {
+                block,
+                before,
+                after,
+            },
+        ) => Status::DeviceFault {
             node: 0,
             block,
             before,

@@ -3,6 +3,8 @@
 
 mod image;
 mod input;
+#[cfg(test)]
+mod make_tests;
 mod output;
 mod places;
 mod report;
