@@ -19,4 +19,4 @@ pub byte_more : (p : Plan) (group start n : ℕ) (bytes : List ℕ) (b : ℕ) �
     → take (n + 1) (slice_set bytes n b) ≡ bitmap p group start (n + 1)
 byte_more p group start n bytes b within before is =
     take_set bytes n b within ∙ ap (λ xs. xs ++ b ∷ []) before ∙ ap (λ y. bitmap p group start n ++ y ∷ []) is
-      ∙ sym (ap (map (bitmap_byte p group)) (range_more start n) ∙ map-append (bitmap_byte p group) (range_with_len start n) ((start + n) ∷ []))
+    ∙ sym (ap (map (bitmap_byte p group)) (range_more start n) ∙ map-append (bitmap_byte p group) (range_with_len start n) ((start + n) ∷ []))

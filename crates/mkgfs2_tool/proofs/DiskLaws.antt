@@ -66,6 +66,7 @@ read_one_more p old s b before is k within = by_place (nat_lt k b) (nat_lt k (b 
   where
     earlier : read_gives s 0 k ≡ (if nat_lt k b then new_block p k else old.block_at k)
     earlier = before k within
+
     by_place : (v w : Bool) → nat_lt k b ≡ v → nat_lt k (b + 1) ≡ w → read_gives s 0 k ≡ (if nat_lt k (b + 1) then new_block p k else old.block_at k)
     by_place true true low next = rw next (earlier ∙ rw low refl)
     by_place true false low high = let never : ⊥ = grind (arith, nat_tests, low, high) in elim never [ ]
@@ -87,8 +88,8 @@ kept p old s list list_now b made within stood = record {
   where
     no_change : IsTrue old.tells → changes p old.block_at b ≡ changes p old.block_at (b + 1)
     no_change tells =
-      let none : change_at p old.block_at b ≡ [] = rw (equal (old.block_at b) (new_block p b) (stood tells)) refl in
-      sym (changes_more p old.block_at b ∙ ap (λ c. changes p old.block_at b ++ c) none ∙ append-nil (changes p old.block_at b))
+        let none : change_at p old.block_at b ≡ [] = rw (equal (old.block_at b) (new_block p b) (stood tells)) refl in
+        sym (changes_more p old.block_at b ∙ ap (λ c. changes p old.block_at b ++ c) none ∙ append-nil (changes p old.block_at b))
 
 -- what the block reads as once it was written
 reads_written : (s : DiskState) (b : ℕ) (bytes : List ℕ) (k : ℕ) → AreBelow b (s.in_flight 0)
@@ -126,21 +127,22 @@ wrote p old s list list_now list_new b made within differs gains = record {
   where
     one_change : IsTrue old.tells → changes p old.block_at b ++ Write 0 b (new_block p b) ∷ [] ≡ changes p old.block_at (b + 1)
     one_change tells =
-      let change : change_at p old.block_at b ≡ Write 0 b (new_block p b) ∷ [] = rw (unequal (old.block_at b) (new_block p b) (differs tells)) refl in
-      sym (changes_more p old.block_at b ∙ ap (λ c. changes p old.block_at b ++ c) change)
+        let change : change_at p old.block_at b ≡ Write 0 b (new_block p b) ∷ [] = rw (unequal (old.block_at b) (new_block p b) (differs tells)) refl in
+        sym (changes_more p old.block_at b ∙ ap (λ c. changes p old.block_at b ++ c) change)
+
     reads_more : IsTrue old.tells → (k : ℕ) → k < old.count → (v w : Bool) → nat_lt k b ≡ v → (b == k) ≡ w
         → read_gives (after_write s 0 b (new_block p b)) 0 k ≡ (if nat_lt k (b + 1) then new_block p k else old.block_at k)
     reads_more tells k inside true true low is = let never : ⊥ = grind (arith, nat_tests, low, is) in elim never [ ]
     reads_more tells k inside true false low is =
-      let next : nat_lt k (b + 1) ≡ true = grind (arith, nat_tests, low) in
-      reads_written s b (new_block p b) k made.below ∙ rw (is, next) (made.reads tells k inside ∙ rw low refl)
+        let next : nat_lt k (b + 1) ≡ true = grind (arith, nat_tests, low) in
+        reads_written s b (new_block p b) k made.below ∙ rw (is, next) (made.reads tells k inside ∙ rw low refl)
     reads_more tells k inside false true high is =
-      let same : b ≡ k = grind (arith, nat_tests, is) in
-      let next : nat_lt k (b + 1) ≡ true = grind (arith, nat_tests, same) in
-      reads_written s b (new_block p b) k made.below ∙ rw (is, next) (ap (new_block p) same)
+        let same : b ≡ k = grind (arith, nat_tests, is) in
+        let next : nat_lt k (b + 1) ≡ true = grind (arith, nat_tests, same) in
+        reads_written s b (new_block p b) k made.below ∙ rw (is, next) (ap (new_block p) same)
     reads_more tells k inside false false high is =
-      let over : nat_lt k (b + 1) ≡ false = grind (arith, nat_tests, high, is) in
-      reads_written s b (new_block p b) k made.below ∙ rw (is, over) (made.reads tells k inside ∙ rw high refl)
+        let over : nat_lt k (b + 1) ≡ false = grind (arith, nat_tests, high, is) in
+        reads_written s b (new_block p b) k made.below ∙ rw (is, over) (made.reads tells k inside ∙ rw high refl)
 
 -- ---- a barrier
 
@@ -179,7 +181,7 @@ pub wrote_so : (p : Plan) (old s s' : DiskState) (list list_now list_new : Optio
     → IsMadeUpTo p old s list list_now b → IsMadeUpTo p old s' list list_new (b + 1)
 wrote_so p old s s' list list_now list_new b bytes bytes_are is gains within differs made =
     subst (λ t. IsMadeUpTo p old t list list_new (b + 1)) (sym (is ∙ ap (after_write s 0 b) bytes_are))
-      (wrote p old s list list_now list_new b made within differs (subst (λ w. Gains list_now list_new (Write 0 b w ∷ [])) bytes_are gains))
+    (wrote p old s list list_now list_new b made within differs (subst (λ w. Gains list_now list_new (Write 0 b w ∷ [])) bytes_are gains))
 
 -- ---- how it ends
 
@@ -205,6 +207,7 @@ ends p old s list list_now made idle = record {
   where
     at_home : (b : ℕ) → s.block_at b ≡ read_gives s 0 b
     at_home b = sym (ap (λ fs. unwrap_or (flight_to fs b) (s.block_at b)) idle)
+
     below : (b : ℕ) → b < old.count → (if nat_lt b old.count then new_block p b else old.block_at b) ≡ new_block p b
     below b inside = let is : nat_lt b old.count ≡ true = grind (arith, nat_tests, inside) in rw is refl
 
@@ -234,7 +237,7 @@ pub found_right : (p : Plan) (old s s' : DiskState) (list list_now list_new : Op
     → IsMadeUpTo p old s list list_now b → IsMadeUpTo p old s' list list_new (b + 1)
 found_right p old s s' list list_now list_new b found wanted state_is list_is is wanted_is within same made =
     same_disk p old s s' list list_now list_new (b + 1) state_is list_is
-      (kept p old s list list_now b made within (λ tells. sym (found_old p old s list list_now b found is within made tells) ∙ same ∙ wanted_is))
+    (kept p old s list list_now b made within (λ tells. sym (found_old p old s list list_now b found is within made tells) ∙ same ∙ wanted_is))
 
 pub found_wrong : (p : Plan) (old s : DiskState) (list list_now : Option (List Operation)) (b : ℕ) (found wanted : List ℕ)
     → (IsTrue s.tells → found ≡ read_gives s 0 b) → wanted ≡ new_block p b → b < old.count → (found ≡ wanted → ⊥)

@@ -38,7 +38,7 @@ fitting p plan few linear is = by_tests (nat_le 4 (data_blocks p 0)) (nat_le 4 (
   where
     by_tests : (a b c : Bool) → nat_le 4 (data_blocks p 0) ≡ a → nat_le 4 (data_blocks p (last_group p)) ≡ b → nat_le (taken p) (all_data p) ≡ c → (a && b && c) ≡ true → IsFitting p
     by_tests true true true a b c all =
-      record { plan = plan; count = few; first = grind (arith, nat_tests, a); last = grind (arith, nat_tests, b); room = grind (arith, nat_tests, c); linear = linear }
+        record { plan = plan; count = few; first = grind (arith, nat_tests, a); last = grind (arith, nat_tests, b); room = grind (arith, nat_tests, c); linear = linear }
     by_tests true true false a b c all = let never : ⊥ = cc in elim never [ ]
     by_tests true false c a b d all = let never : ⊥ = cc in elim never [ ]
     by_tests false b c a d e all = let never : ⊥ = cc in elim never [ ]
@@ -61,7 +61,7 @@ pub too_small : (o : MakeOptions) (s : DiskState) (list : Option (List Operation
     → fits p ≡ false → IsNeeded p needed → Ending o s s list list faults faults (Err (TooSmall needed p.count))
 too_small o s list faults p needed is good lacks least =
     subst (λ n. Ending o s s list list faults faults (Err (TooSmall needed n))) (sym (ap (λ (q : Plan). q.count) is))
-      (IsTooSmall needed good (sym (ap fits is) ∙ lacks) (subst (λ q. IsNeeded q needed) is least) (record { state_is = refl; list_is = refl }))
+    (IsTooSmall needed good (sym (ap fits is) ∙ lacks) (subst (λ q. IsNeeded q needed) is least) (record { state_is = refl; list_is = refl }))
 
 pub tried : (o : MakeOptions) (s now : DiskState) (list list_now : Option (List Operation)) (faults faults_now : ℕ → ℕ) (p : Plan) (r : Result (Unit {0}) MakeFault)
     → p ≡ plan_of s.size s.count o → bad_option o ≡ None → fits p ≡ true → PlanEnding p s now list list_now faults faults_now r → Ending o s now list list_now faults faults_now r

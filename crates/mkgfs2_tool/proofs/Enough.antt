@@ -72,7 +72,7 @@ all_true x y t before first last = grind (arith, nat_tests)
 pub enlarged_fits : (p : Plan) → IsPlan p → fits (enlarged p) ≡ true
 enlarged_fits p is =
     all_true (data_blocks (enlarged p) 0) (data_blocks (enlarged p) (last_group p)) (taken p) (data_before (enlarged p) (last_group p))
-        (data_of p 0 is (even_first p is.some_groups)) (data_of p (last_group p) is (even_last p is.some_groups))
+    (data_of p 0 is (even_first p is.some_groups)) (data_of p (last_group p) is (even_last p is.some_groups))
 
 -- ---- how many blocks are taken at most
 
@@ -110,7 +110,6 @@ taken-few p is =
     let list : file_blocks (group_list p) ≤ 1 + 4 * (96 * p.groups) = file_blocks-few (group_list p) (record { size = is.size; bytes = omega (arith, is.groups) }) in
     let all : p.journals * file_blocks (journal p) ≤ 8 * (1 + 4 * (65536 * 4096)) = mul-le-mul {m₂ = 1 + 4 * (65536 * 4096)} is.journals (omega (arith, one, bytes)) in
     omega (arith, all, list, is.groups)
-
 
 -- and its number of blocks is small
 pub enough-small : (p : Plan) → IsPlan p → p.count ≤ 131072 → enough p < 2 ^ 48

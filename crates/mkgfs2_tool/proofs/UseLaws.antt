@@ -17,10 +17,11 @@ shares_are_some p fitting none = by_place (0 == last_group p) refl
   where
     most : 4 ≤ group_blocks p 0
     most = let some : 4 ≤ data_blocks p 0 = fitting.first in omega (arith, some)
+
     by_place : (v : Bool) → (0 == last_group p) ≡ v → ⊥
     by_place false is = let same : group_blocks p 0 ≡ share p = rw is refl in omega (arith, most, same, none)
     by_place true is =
-      let one : p.groups ≡ 1 = let only : 0 ≡ last_group p = grind (arith, nat_tests) in omega (arith, only, fitting.plan.some_groups) in
-      let same : group_blocks p 0 ≡ p.count - group_address p 0 = rw is refl in
-      let all : share p ≡ (p.count - super_block p - 1) / 1 = ap (λ g. (p.count - super_block p - 1) / g) one in
-      omega (arith, most, same, none, all)
+        let one : p.groups ≡ 1 = let only : 0 ≡ last_group p = grind (arith, nat_tests) in omega (arith, only, fitting.plan.some_groups) in
+        let same : group_blocks p 0 ≡ p.count - group_address p 0 = rw is refl in
+        let all : share p ≡ (p.count - super_block p - 1) / 1 = ap (λ g. (p.count - super_block p - 1) / g) one in
+        omega (arith, most, same, none, all)

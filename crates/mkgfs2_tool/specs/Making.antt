@@ -21,7 +21,7 @@ is_between low high n = nat_le low n && nat_le n high
 abbrev pub bad_option : MakeOptions → Option Opt
 bad_option o =
     if is_between 1 8 o.journals then
-      (if is_between 512 65536 o.journal_blocks then (if is_between 1 64 o.groups then None else Some opt.Groups) else Some opt.JournalBlocks)
+    (if is_between 512 65536 o.journal_blocks then (if is_between 1 64 o.groups then None else Some opt.Groups) else Some opt.JournalBlocks)
     else Some opt.Journals
 
 -- what a device of so many blocks of this size is to become

@@ -24,7 +24,10 @@ pub enum Opt {
 #[derive(Clone, Copy, Debug, PartialEq, Eq)]
 pub enum MakeFault {
     /// It needs so many blocks, and the device has only so many. Nothing was written.
-    TooSmall { needed: u64, found: u64 },
+    TooSmall {
+        needed: u64,
+        found: u64,
+    },
     /// The disk failed at this block, or at a barrier (`None`), and its count of faults for node 0 rose so. A part of the
     /// image may be written.
     DeviceFault {

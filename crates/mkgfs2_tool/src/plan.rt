@@ -131,7 +131,10 @@ impl Plan {
         ensures value { result ≡ data_blocks self.now group }
         ensures bound { result ≤ self.now.count }
     {
-        self.group_blocks(group).saturating_sub(self.headers_of(group)) / 4 * 4
+        self.group_blocks(group)
+            .saturating_sub(self.headers_of(group))
+            / 4
+            * 4
     }
 
     pub(crate) fn data_before(&self, group: u64) -> u64

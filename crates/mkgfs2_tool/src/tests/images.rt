@@ -131,8 +131,8 @@ const ROWS: [Row; 121] = [
     (4_096, 616, 1, 512, 40, 0x59CF_97E6),
 ];
 
-fn options_of(row: Row) -> MakeOptions {
-    let (_, _, journals, journal_blocks, groups, _) = row;
+/// Options with an identifier and a time.
+pub(crate) fn options_of(journals: u32, journal_blocks: u32, groups: u32) -> MakeOptions {
     MakeOptions {
         journals,
         journal_blocks,
@@ -143,10 +143,11 @@ fn options_of(row: Row) -> MakeOptions {
 }
 
 fn check(rt: &(impl Abort + AllocGlobal), row: Row) -> Result<(), Fail> {
-    let (size, blocks, _, _, _, sum) = row;
+    let (size, blocks, journals, journal_blocks, groups, sum) = row;
     assert!(rt; blocks <= 131_072 && size <= 4096);
     let device = ones(rt.alloc(), size as usize * blocks as usize)?;
-    let course = make_on(rt, size, device, &[], &options_of(row))?;
+    let options = options_of(journals, journal_blocks, groups);
+    let course = make_on(rt, size, device, &[], &options)?;
     assert_eq!(rt; course.end, None, "of {row:?}");
     assert_eq!(rt; crc32(&course.bytes), sum, "of {row:?}");
     Ok(())
@@ -157,5 +158,130 @@ fn images_are_laid_out_as_the_other_program_does(rt: HostRuntime) -> Result<(), 
     for row in ROWS {
         check(&rt, row)?;
     }
+    Ok(())
+}
+
+// Words of the image of 538 blocks of 4096 bytes with one journal of 512 blocks: block, byte, and the number of four
+// bytes there. They are the other program's, and were looked at one by one.
+const WORDS: [(usize, usize, u32); 78] = [
+    // The superblock.
+    (16, 0, 0x0116_1970),
+    (16, 4, 1),
+    (16, 16, 100),
+    (16, 24, 1801),
+    (16, 28, 1900),
+    (16, 36, 4096),
+    (16, 40, 12),
+    (16, 52, 1),
+    (16, 60, 18),
+    (16, 84, 2),
+    (16, 92, 19),
+    (16, 96, 0x6C6F_636B),
+    (16, 160, 0x6766_7332),
+    // The group's header, of 520 data blocks from block 18 on: one is free, and five are dinodes. In its bitmap blocks
+    // 18 to 22 are dinodes, 23 to 536 are used, and 537 is free.
+    (17, 0, 0x0116_1970),
+    (17, 4, 2),
+    (17, 16, 200),
+    (17, 24, 0),
+    (17, 28, 1),
+    (17, 32, 5),
+    (17, 44, 5),
+    (17, 52, 18),
+    (17, 56, 520),
+    (17, 60, 130),
+    (17, 128, 0xFF57_5555),
+    (17, 256, 0x5515_0000),
+    // The master directory.
+    (18, 0, 0x0116_1970),
+    (18, 4, 4),
+    (18, 16, 400),
+    (18, 28, 1),
+    (18, 36, 18),
+    (18, 40, 0o040_755),
+    (18, 52, 3),
+    (18, 60, 3864),
+    (18, 68, 1),
+    (18, 108, 18),
+    (18, 116, 18),
+    (18, 124, 1),
+    (18, 128, 1),
+    (18, 132, 1200),
+    (18, 148, 4),
+    // Its records: `.` is 48 bytes long, and `rindex`, the last, takes the rest.
+    (18, 244, 18),
+    (18, 252, 0x0030_0001),
+    (18, 256, 0x0004_0000),
+    (18, 332, 4),
+    (18, 340, 21),
+    (18, 368, 0x6A69_6E64),
+    (18, 380, 3),
+    (18, 388, 20),
+    (18, 396, 0x0E88_0006),
+    (18, 400, 0x0008_0000),
+    // The root.
+    (19, 28, 2),
+    (19, 36, 19),
+    (19, 52, 2),
+    (19, 148, 2),
+    (19, 300, 0x0EE8_0002),
+    // The list of groups, which is in its dinode.
+    (20, 28, 3),
+    (20, 40, 0o100_600),
+    (20, 60, 96),
+    (20, 128, 0x201),
+    (20, 136, 0),
+    (20, 236, 17),
+    (20, 240, 1),
+    (20, 252, 18),
+    (20, 256, 520),
+    (20, 260, 130),
+    // The directory of journals.
+    (21, 28, 4),
+    (21, 292, 18),
+    (21, 340, 22),
+    // The journal: two blocks of pointers, the first to 509 blocks and the second to three.
+    (22, 28, 5),
+    (22, 60, 0x0020_0000),
+    (22, 68, 515),
+    (22, 136, 2),
+    (22, 236, 23),
+    (22, 244, 24),
+    (23, 28, 25),
+    (23, 4092, 533),
+    (24, 44, 536),
+    (24, 52, 0),
+];
+
+// The journal's first block, a clean header with its hash, and then zeros.
+const HEADER: &[u8] =
+    b"\x01\x16\x19\x70\x00\x00\x00\x08\x00\x00\x00\x00\x00\x00\x00\x00\x00\x00\x03\x20\x00\x00\x00\x00\x00\x00\x00\x00\x00\x00\x00\x01\x00\x00\x00\x01\x00\x00\x00\x00\x00\x00\x00\x00\xac\x2f\xff\x8d\x00\x00\x00\x00";
+
+// Whether these bytes stand there.
+fn stands(bytes: &[u8], at: usize, part: &[u8]) -> bool {
+    at <= bytes.len() && part.len() <= bytes.len() - at && &bytes[at..at + part.len()] == part
+}
+
+#[test]
+fn the_least_image_has_these_fields(rt: HostRuntime) -> Result<(), Fail> {
+    let options = MakeOptions {
+        journals: 1,
+        journal_blocks: 512,
+        groups: 1,
+        uuid: [0; 16],
+        time: 0,
+    };
+    let image = make_on(&rt, 4096, ones(rt.alloc(), 2_203_648)?, &[], &options)?.bytes;
+    for (block, byte, word) in WORDS {
+        assert!(rt; block < 538 && byte < 4096);
+        assert!(rt;
+            stands(&image, block * 4096 + byte, &word.to_be_bytes()),
+            "at {block}, {byte}"
+        );
+    }
+    assert!(rt; image.len() == 2_203_648);
+    assert!(rt; stands(&image, 25 * 4096, HEADER));
+    assert!(rt; image[25 * 4096 + 48..].iter().all(|byte| *byte == 0));
+    assert_eq!(rt; crc32(&image), 0xDF7C_1FD8);
     Ok(())
 }

@@ -36,22 +36,22 @@ loop-block-preserved g c =
 pub returns-in_err-settle-clause-begun : goal.returns-in_err-settle-clause-begun
 returns-in_err-settle-clause-begun g c = at_error c.from_residual-in_err-settle.result (
     begun c.args.plan.now (g.D.SharedDisk.state c.args.disk.now) _ (g.D.SharedDisk.list c.args.disk.now) _ c.loop-block.block
-      (same_disk c.args.plan.now (g.D.SharedDisk.state c.args.disk.now) _ _ (g.D.SharedDisk.list c.args.disk.now) _ _ c.loop-block.block
-        c.in_err-settle.ensures.err.0 c.in_err-settle.ensures.err.1 c.loop-block.invariant.made) (grind arith))
+    (same_disk c.args.plan.now (g.D.SharedDisk.state c.args.disk.now) _ _ (g.D.SharedDisk.list c.args.disk.now) _ _ c.loop-block.block
+    c.in_err-settle.ensures.err.0 c.in_err-settle.ensures.err.1 c.loop-block.invariant.made) (grind arith))
 
 pub returns-in_ok-settle-clause-made : goal.returns-in_ok-settle-clause-made
 returns-in_ok-settle-clause-made g c =
     let all : c.loop-block.block ≡ (g.D.SharedDisk.state c.args.disk.now).count = grind arith in
     let made = settled_so c.args.plan.now (g.D.SharedDisk.state c.args.disk.now) _ _ (g.D.SharedDisk.list c.args.disk.now) _ _ c.loop-block.block
-        c.in_ok-settle.ensures.ok.0 c.in_ok-settle.ensures.ok.1 c.loop-block.invariant.made in
+    c.in_ok-settle.ensures.ok.0 c.in_ok-settle.ensures.ok.1 c.loop-block.invariant.made in
     ends c.args.plan.now (g.D.SharedDisk.state c.args.disk.now) _ (g.D.SharedDisk.list c.args.disk.now) _
-      (subst (IsMadeUpTo c.args.plan.now (g.D.SharedDisk.state c.args.disk.now) (g.D.SharedDisk.state c.settle.new.disk) (g.D.SharedDisk.list c.args.disk.now) (g.D.SharedDisk.list c.settle.new.disk)) all made)
-      (ap (λ (s : DiskState). s.in_flight 0) c.in_ok-settle.ensures.ok.0)
+    (subst (IsMadeUpTo c.args.plan.now (g.D.SharedDisk.state c.args.disk.now) (g.D.SharedDisk.state c.settle.new.disk) (g.D.SharedDisk.list c.args.disk.now) (g.D.SharedDisk.list c.settle.new.disk)) all made)
+    (ap (λ (s : DiskState). s.in_flight 0) c.in_ok-settle.ensures.ok.0)
 
 pub returns-else-in_flight-gt0-clause-made : goal.returns-else-in_flight-gt0-clause-made
 returns-else-in_flight-gt0-clause-made g c =
     let all : c.loop-block.block ≡ (g.D.SharedDisk.state c.args.disk.now).count = grind arith in
     let none : length ((g.D.SharedDisk.state c.loop-block.disk).in_flight 0) ≡ 0 = grind arith in
     ends c.args.plan.now (g.D.SharedDisk.state c.args.disk.now) _ (g.D.SharedDisk.list c.args.disk.now) _
-      (subst (IsMadeUpTo c.args.plan.now (g.D.SharedDisk.state c.args.disk.now) (g.D.SharedDisk.state c.loop-block.disk) (g.D.SharedDisk.list c.args.disk.now) (g.D.SharedDisk.list c.loop-block.disk)) all c.loop-block.invariant.made)
-      (empty ((g.D.SharedDisk.state c.loop-block.disk).in_flight 0) none)
+    (subst (IsMadeUpTo c.args.plan.now (g.D.SharedDisk.state c.args.disk.now) (g.D.SharedDisk.state c.loop-block.disk) (g.D.SharedDisk.list c.args.disk.now) (g.D.SharedDisk.list c.loop-block.disk)) all c.loop-block.invariant.made)
+    (empty ((g.D.SharedDisk.state c.loop-block.disk).in_flight 0) none)

@@ -28,4 +28,4 @@ returns-clause-made g c = λ p old list bytes differs within made.
 pub returns-clause-begun : goal.returns-clause-begun
 returns-clause-begun g c = λ p old list bytes differs within made.
     begun p old _ list _ (c.args.block + 1) (wrote_so p old _ _ list _ _ c.args.block c.args.bytes.now bytes c.in_ok-put_in_flight.ensures.ok.0 c.in_ok-put_in_flight.ensures.ok.1 within differs
-      (c.make_room.ensures.made p old list c.args.block made)) (omega (arith, within))
+    (c.make_room.ensures.made p old list c.args.block made)) (omega (arith, within))

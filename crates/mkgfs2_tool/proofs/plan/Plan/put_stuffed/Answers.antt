@@ -9,6 +9,6 @@ pub returns : goal.returns
 unfolding dinode_block
 returns c =
     c.put_bytes.ensures
-      ∙ ap (put_at 232 c.args.entries.now) c.put_dinode.ensures
-      ∙ ap (λ d. put_at 232 c.args.entries.now (dinode_put d (zeros c.args.self.now)))
-          (c.dinode-dinode.ensures ∙ ap (dinode c.args.self.now 3 2) (c.system_file.ensures ∙ ap system_file c.group_list.ensures.value))
+    ∙ ap (put_at 232 c.args.entries.now) c.put_dinode.ensures
+    ∙ ap (λ d. put_at 232 c.args.entries.now (dinode_put d (zeros c.args.self.now)))
+    (c.dinode-dinode.ensures ∙ ap (dinode c.args.self.now 3 2) (c.system_file.ensures ∙ ap system_file c.group_list.ensures.value))
