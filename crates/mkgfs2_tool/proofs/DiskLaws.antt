@@ -1,20 +1,20 @@
 -- How a disk goes from one step of making an image to the next.
-use Rattle.std.proofs.Common.{ℕ, ◌≡◌, ◌≢◌, ◌⊎◌, inl, inr, ◌<◌, ◌≤◌, ◌+◌, List, [], ◌∷◌, ◌++◌, length, map, Bool, true, false, refl, sym, subst, ap, ◌∙◌, arith, append_assoc, append-nil}
-use Rattle.std.specs.Prelude.{◌==◌, nat_lt, if◌then◌else◌, IsTrue, filter, flat_map, unwrap_or, None, Some, Option}
-use Rattle.std.specs.List.{range_with_len, AllByRecursion}
+use Rattle.std.proofs.Common.{ℕ, ◌≡◌, ◌≢◌, ◌⊎◌, inl, inr, ◌<◌, ◌≤◌, ◌+◌, List, [], ◌∷◌, ◌++◌, Bool, true, false, refl, sym, subst, ap, ◌∙◌, arith, append_assoc, append-nil}
+use Rattle.std.specs.Prelude.{◌==◌, nat_lt, if◌then◌else◌, IsTrue, flat_map, unwrap_or, None, Some, Option}
+use Rattle.std.specs.List.{range_with_len}
 use Rattle.std.specs.Str.{bytes_eq}
 use Rattle.std.proofs.lemmas.Bool.Decides.{nat_tests}
 use Rattle.std.proofs.lemmas.Slice.Eq.{bytes_eq-Decides}
 use Rattle.std.proofs.lemmas.List.Elements.{filter-append}
 use Rattle.std.proofs.lemmas.Grind.{flat_map-append}
-use Rattle.shared_disk.specs.Disk.{DiskState, Flight, Operation, Write, Barrier, Gains, read_gives, flight_to, with_flight, after_write, after_barrier}
+use Rattle.shared_disk.specs.Disk.{DiskState, Operation, Write, Barrier, Gains, read_gives, flight_to, after_write, after_barrier}
 use Rattle.mkgfs2_tool.specs.Blocks.{new_block}
-use Rattle.mkgfs2_tool.specs.Outcomes.{writes_in, is_write, change_at, changes, HasWritten, OnlyWrites, Reads, IsMadeUpTo, IsMade, IsBegun}
+use Rattle.mkgfs2_tool.specs.Outcomes.{writes_in, is_write, change_at, changes, Reads, IsMadeUpTo, IsMade, IsBegun}
 use Rattle.mkgfs2_tool.specs.declared.plan.Plan.{Plan}
 use Rattle.mkgfs2_tool.specs.Making.{IsFaultOf}
 use Rattle.mkgfs2_tool.specs.declared.options.MakeFault.{MakeFault}
 use Rattle.mkgfs2_tool.specs.declared.options.MakeFault.TheVariants.{TooSmall, DeviceFault, BadOption, NoMemory}
-use Rattle.mkgfs2_tool.proofs.FlightLaws.{AreBelow, none_to, with_one, length-with, with_below, below_more}
+use Rattle.mkgfs2_tool.proofs.FlightLaws.{AreBelow, with_one, with_below, below_more}
 use Rattle.mkgfs2_tool.proofs.PointerLaws.{range_more}
 
 -- ---- the list of operations

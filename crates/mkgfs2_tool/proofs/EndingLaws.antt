@@ -1,12 +1,12 @@
 -- Plans, and how making an image ends.
-use Rattle.std.proofs.Common.{ℕ, ◌≡◌, ◌<◌, ◌≤◌, ◌+◌, ◌⊎◌, List, [], refl, ap, sym, ◌∙◌, subst, arith, Bool, true, false}
+use Rattle.std.proofs.Common.{ℕ, ◌≡◌, ◌≤◌, List, refl, ap, sym, ◌∙◌, subst, arith, Bool, true, false}
 use Rattle.std.specs.Prelude.{Option, None, Some, Result, Ok, Err, OnOk, IfErr, OnErr, nat_le, ◌&&◌, if◌then◌else◌}
 use Rattle.std.proofs.lemmas.Bool.Decides.{nat_tests}
 use Rattle.shared_disk.specs.Disk.{DiskState, Operation}
 use Rattle.mkgfs2_tool.specs.Groups.{data_blocks, last_group, all_data}
 use Rattle.mkgfs2_tool.specs.Order.{fits, taken, IsNeeded}
 use Rattle.mkgfs2_tool.specs.Making.{bad_option, is_between, plan_of, IsPlan, IsFitting, HasLinearJournals, IsBlockSize, IsFaultOf}
-use Rattle.mkgfs2_tool.specs.Outcomes.{IsBegun, IsMade, IsUntouched, PlanEnding, LacksMemory, HasFailed, HasMade, Ending, IsRefused, IsTooSmall, IsTried}
+use Rattle.mkgfs2_tool.specs.Outcomes.{IsBegun, IsMade, PlanEnding, HasFailed, HasMade, Ending, IsRefused, IsTooSmall, IsTried}
 use Rattle.mkgfs2_tool.specs.declared.plan.Plan.{Plan}
 use Rattle.mkgfs2_tool.specs.declared.options.MakeOptions.{MakeOptions}
 use Rattle.mkgfs2_tool.specs.declared.options.Opt.{Opt}

@@ -3,7 +3,7 @@ use Rattle.std.proofs.Common.{ℕ, zero, suc, ◌≡◌, ◌+◌, ◌-◌, ◌*�
 use Rattle.std.specs.Prelude.{nat_le, ◌&&◌, ◌==◌, ◌^◌}
 use Rattle.std.proofs.lemmas.Bool.Decides.{nat_tests}
 use Rattle.std.proofs.Math.Nat.{mul-div_cancel_left, suc-mul, mul-le-mul, mul-pos, pow-suc, pow-zero}
-use Rattle.mkgfs2_tool.specs.Groups.{parts, first_bitmap, further_bitmap, super_block, share, group_address, group_blocks, data_blocks, header_blocks, last_group, all_data, data_before}
+use Rattle.mkgfs2_tool.specs.Groups.{parts, super_block, share, group_address, group_blocks, data_blocks, header_blocks, last_group, data_before}
 use Rattle.mkgfs2_tool.specs.Files.{content_blocks, height, level_blocks, level_start, file_blocks, block_pointers, IsShape}
 use Rattle.mkgfs2_tool.specs.Order.{taken, fits, group_list, journal}
 use Rattle.mkgfs2_tool.specs.Making.{IsPlan}

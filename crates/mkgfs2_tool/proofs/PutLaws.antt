@@ -1,10 +1,10 @@
 -- Bytes that are put over others.
-use Rattle.std.proofs.Common.{ℕ, zero, suc, ◌≡◌, ◌≤◌, ◌+◌, ◌-◌, List, [], ◌∷◌, ◌++◌, length, take, drop, min, replicate, refl, ap, sym, ◌∙◌, arith, append_assoc, length-append, length-drop, Bool, true, false, ◌<◌}
+use Rattle.std.proofs.Common.{ℕ, ◌≡◌, ◌≤◌, ◌+◌, ◌-◌, List, [], ◌++◌, length, take, drop, min, replicate, refl, ap, sym, ◌∙◌, arith, append_assoc, length-append, length-drop, Bool, true, false, ◌<◌}
 use Rattle.std.proofs.lemmas.List.{drop-drop, length-take-le, take-append-drop, drop-replicate, take_all, drop_all}
 use Rattle.std.proofs.lemmas.Bool.Decides.{nat_tests}
 use Rattle.std.specs.Prelude.{nat_le}
 use Rattle.std.proofs.Math.Seq.{take-append_seam, drop-append-add}
-use borrow.Rule.Slice.PartMut.{put_mid, post_of}
+use borrow.Rule.Slice.PartMut.{put_mid}
 use Rattle.gfs2_layout.specs.Bytes.{put_at, slice}
 
 -- a part of a slice that was written as a whole

@@ -1,11 +1,11 @@
 -- When an image is made, and when not.
-use Rattle.std.specs.Prelude.{ℕ, ⊤, ◌≡◌, ◌+◌, ◌^◌, ◌<◌, ◌≤◌, ◌&&◌, ◌==◌, ◌⊎◌, Bool, true, false, nat_le, if◌then◌else◌, List, length, Option, None, Some, IfSome, Result, Ok, Err, IsTrue}
+use Rattle.std.specs.Prelude.{ℕ, ⊤, ◌≡◌, ◌^◌, ◌<◌, ◌≤◌, ◌&&◌, ◌⊎◌, Bool, nat_le, if◌then◌else◌, Option, None, Some, IfSome}
 use Rattle.mkgfs2_tool.specs.Groups.{data_blocks, last_group, all_data}
 use Rattle.mkgfs2_tool.specs.Order.{taken}
 use Rattle.mkgfs2_tool.specs.declared.files.Part.{Part}
 use Rattle.mkgfs2_tool.specs.declared.files.Part.TheVariants.{Top, Pointers, Content}
 use Rattle.mkgfs2_tool.specs.declared.order.Use.{Use}
-use Rattle.mkgfs2_tool.specs.declared.order.Use.TheVariants.{Master, Root, GroupList, Journals, Journal}
+use Rattle.mkgfs2_tool.specs.declared.order.Use.TheVariants.{GroupList, Journal}
 use Rattle.mkgfs2_tool.specs.declared.options.MakeOptions.{MakeOptions}
 use Rattle.mkgfs2_tool.specs.declared.options.Opt.{Opt}
 use Rattle.fault_counts.specs.Causes.{WentUp}

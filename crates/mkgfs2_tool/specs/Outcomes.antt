@@ -2,7 +2,7 @@
 use Rattle.std.specs.Prelude.{ℕ, ◌≡◌, ◌≢◌, ◌⊎◌, ◌<◌, ◌≤◌, Bool, true, false, IsTrue, nat_lt, if◌then◌else◌, List, [], ◌∷◌, filter, flat_map, length, Option, None, Some, Result, Ok, Err}
 use Rattle.std.specs.List.{range_with_len, AllByRecursion}
 use Rattle.std.specs.Str.{bytes_eq}
-use Rattle.shared_disk.specs.Disk.{DiskState, Flight, Operation, Write, Barrier, Fence, Gains, read_gives}
+use Rattle.shared_disk.specs.Disk.{DiskState, Operation, Write, Barrier, Fence, Gains, read_gives}
 use Rattle.mkgfs2_tool.specs.Blocks.{new_block, IsGroupList}
 use Rattle.mkgfs2_tool.specs.declared.making.Room.{Room}
 use Rattle.mkgfs2_tool.specs.Making.{bad_option, plan_of, IsFaultOf}
@@ -11,7 +11,7 @@ use Rattle.mkgfs2_tool.specs.declared.plan.Plan.{Plan}
 use Rattle.mkgfs2_tool.specs.declared.options.MakeOptions.{MakeOptions}
 use Rattle.mkgfs2_tool.specs.declared.options.Opt.{Opt}
 use Rattle.mkgfs2_tool.specs.declared.options.MakeFault.{MakeFault}
-use Rattle.mkgfs2_tool.specs.declared.options.MakeFault.TheVariants.{TooSmall, DeviceFault, BadOption, NoMemory}
+use Rattle.mkgfs2_tool.specs.declared.options.MakeFault.TheVariants.{TooSmall, BadOption, NoMemory}
 
 -- the writes among operations
 abbrev pub is_write : Operation → Bool

@@ -13,6 +13,8 @@ mod options;
 mod order;
 mod plan;
 mod pointers;
+#[cfg(test)]
+mod tests;
 
 pub use making::make;
 pub use options::{MakeFault, MakeOptions, Opt};

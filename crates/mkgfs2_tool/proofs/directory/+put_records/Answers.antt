@@ -1,4 +1,4 @@
-use Rattle.std.proofs.Common.{ℕ, ◌≡◌, ◌≢◌, ◌-◌, ◌∷◌, ◌++◌, List, [], length, take, drop, slice_index_or, sym, ap, ◌∙◌, arith, rules}
+use Rattle.std.proofs.Common.{ℕ, ◌≡◌, ◌≢◌, ◌-◌, ◌++◌, List, length, take, drop, sym, arith, rules}
 use Rattle.std.proofs.lemmas.Bool.Decides.{nat_tests}
 use Rattle.mkgfs2_tool.specs.Directories.{name_of, least_length, record_bytes, records}
 use Rattle.mkgfs2_tool.specs.declared.directory.Entry.{Entry}

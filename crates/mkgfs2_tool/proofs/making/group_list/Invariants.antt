@@ -1,5 +1,4 @@
 use Rattle.std.proofs.Common.{◌≡◌, ◌*◌, length}
-use Rattle.std.specs.List.{range_with_len, flat_map}
 use Rattle.mkgfs2_tool.specs.Blocks.{entries_of}
 use Rattle.mkgfs2_tool.proofs.making.group_list.Given as goal
 

@@ -1,4 +1,4 @@
-use Rattle.std.proofs.Common.{◌≡◌, sym, ◌∙◌}
+use Rattle.std.proofs.Common.{sym, ◌∙◌}
 use Rattle.mkgfs2_tool.proofs.EndingLaws.{same_plan, refused, too_small, tried, good_plan, fitting_plan}
 use Rattle.mkgfs2_tool.proofs.making.make.Goals as goal
 

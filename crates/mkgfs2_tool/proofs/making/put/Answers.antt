@@ -1,4 +1,4 @@
-use Rattle.std.proofs.Common.{◌≡◌, ◌≤◌, ◌<◌, ◌+◌, ◌∙◌, ap, arith, length, Ok, Err}
+use Rattle.std.proofs.Common.{◌+◌, ◌∙◌, ap, arith, length}
 use Rattle.shared_disk.specs.Disk.{DiskState}
 use Rattle.mkgfs2_tool.proofs.FlightLaws.{none_to, length-with}
 use Rattle.mkgfs2_tool.proofs.DiskLaws.{begun, wrote_so, failed_write}

@@ -1,4 +1,4 @@
-use Rattle.std.proofs.Common.{ℕ, ◌≡◌, ◌-◌, List, length, replicate, refl, sym, ap, ◌∙◌, arith, rules}
+use Rattle.std.proofs.Common.{ℕ, ◌≡◌, ◌-◌, List, length, refl, ap, ◌∙◌, rules}
 use borrow.Rule.Slice.PartMut.{put_mid}
 use Rattle.gfs2_layout.specs.Writing.{dinode_put}
 use Rattle.gfs2_layout.specs.declared.dinode.Dinode.{Dinode}

@@ -1,4 +1,4 @@
-use Rattle.std.proofs.Common.{ℕ, ◌≡◌, ◌+◌, ◌-◌, ◌*◌, length, ap, ◌∙◌, arith, rules}
+use Rattle.std.proofs.Common.{◌≡◌, ◌-◌, length, ap, ◌∙◌, rules}
 use Rattle.mkgfs2_tool.specs.Blocks.{bitmap, first_header_block}
 use Rattle.mkgfs2_tool.proofs.PutLaws.{put_over}
 use Rattle.mkgfs2_tool.proofs.plan.Plan.put_first_header_block.Goals as goal

@@ -1,5 +1,5 @@
 use Rattle.std.proofs.Common.{ℕ, ◌≡◌, List, ap, ◌∙◌}
-use Rattle.gfs2_layout.specs.Bytes.{put_at, slice}
+use Rattle.gfs2_layout.specs.Bytes.{put_at}
 use Rattle.mkgfs2_tool.specs.Blocks.{padded, zeros}
 use Rattle.mkgfs2_tool.specs.declared.plan.Plan.{Plan}
 use Rattle.mkgfs2_tool.proofs.PutLaws.{put_first}

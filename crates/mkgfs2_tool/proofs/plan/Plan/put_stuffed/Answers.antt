@@ -1,7 +1,6 @@
-use Rattle.std.proofs.Common.{◌≡◌, ap, ◌∙◌}
+use Rattle.std.proofs.Common.{ap, ◌∙◌}
 use Rattle.gfs2_layout.specs.Bytes.{put_at}
 use Rattle.gfs2_layout.specs.Writing.{dinode_put}
-use Rattle.mkgfs2_tool.specs.Order.{group_list}
 use Rattle.mkgfs2_tool.specs.Blocks.{dinode, dinode_block, system_file, zeros}
 use Rattle.mkgfs2_tool.proofs.plan.Plan.put_stuffed.Goals as goal
 

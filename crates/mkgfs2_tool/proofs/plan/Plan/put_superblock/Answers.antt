@@ -1,6 +1,6 @@
-use Rattle.std.proofs.Common.{◌≡◌, ap, ◌∙◌}
+use Rattle.std.proofs.Common.{ap, ◌∙◌}
 use Rattle.gfs2_layout.specs.Writing.{superblock_put}
-use Rattle.mkgfs2_tool.specs.Blocks.{superblock, zeros}
+use Rattle.mkgfs2_tool.specs.Blocks.{superblock}
 use Rattle.mkgfs2_tool.proofs.plan.Plan.put_superblock.Goals as goal
 
 pub returns : goal.returns
