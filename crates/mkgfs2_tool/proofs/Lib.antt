@@ -4,3 +4,5 @@ pub mod PutLaws
 pub mod PointerLaws
 pub mod CountLaws
 pub mod BitmapLaws
+pub mod StandingGround
+pub mod StandingShapes

@@ -4,3 +4,4 @@ pub mod Order
 pub mod Directories
 pub mod Blocks
 pub mod Making
+pub mod Standing
