@@ -6,3 +6,5 @@ pub mod CountLaws
 pub mod BitmapLaws
 pub mod StandingGround
 pub mod StandingShapes
+pub mod StandingPlan
+pub mod StandingOwners

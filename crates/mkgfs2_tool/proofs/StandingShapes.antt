@@ -45,8 +45,8 @@ abbrev pub part_below : Shape → ℕ → ℕ → Part
 part_below f l i = if l == height f then Content i else Pointers l i
 
 pub data Piece (f : Shape) (n : ℕ) : Type 0 where
-  top : n ≡ 0 → Piece f n
-  below : (l i : ℕ) → IsBelow f l i → n ≡ level_start f l + i → Piece f n
+  is_top : n ≡ 0 → Piece f n
+  is_below : (l i : ℕ) → IsBelow f l i → n ≡ level_start f l + i → Piece f n
 
 module _ (f : Shape) (is : IsLow f) where
   large : 512 ≤ f.size
@@ -62,9 +62,6 @@ module _ (f : Shape) (is : IsLow f) where
   begins_level l i low = subst (λ s. i < parts (content_blocks f) s) (sym (span_pow f.size (height f - l))) (begins_part i (content_blocks f) (span f.size (height f - l)) (span_some f.size (height f - l) large) low)
 
   -- ---- which part a block is
-
-  part_first : (h n b1 b2 : ℕ) → n < b1 → (if nat_le (1 + b1) (1 + n) then (if nat_le (1 + b1 + b2) (1 + n) then part_at f 3 (1 + n) else part_at f 2 (1 + n)) else part_at f 1 (1 + n)) ≡ part_at f 1 (1 + n)
-  part_first h n b1 b2 low = cond-false _ _ _ (lt-leb (1 + b1) (1 + n) (omega (arith, low)))
 
   pub part_here : (l i : ℕ) → IsBelow f l i → part f (level_start f l + i) ≡ part_below f l i
   part_here zero i at = absurd (omega (arith, at.some))
@@ -116,11 +113,11 @@ module _ (f : Shape) (is : IsLow f) where
   find zero n some ok low = absurd (omega (arith, some, low))
   find (suc h) n some ok low = elim (cases_lt n (level_start f (suc h))) [
     | inl l ↦ find h n some (omega (arith, ok)) l
-    | inr ge ↦ below (suc h) (n - level_start f (suc h)) (record { some = omega arith; low = ok; inside = omega (arith, low, ge) }) (omega (arith, ge))
+    | inr ge ↦ is_below (suc h) (n - level_start f (suc h)) (record { some = omega arith; low = ok; inside = omega (arith, low, ge) }) (omega (arith, ge))
   ]
 
   pub piece : (n : ℕ) → n < file_blocks f → Piece f n
-  piece zero low = top refl
+  piece zero low = is_top refl
   piece (suc n) low = find (height f) (suc n) (omega arith) (omega arith) (omega (arith, low, same))
     where
       same : file_blocks f ≡ level_start f (suc (height f))
