@@ -8,3 +8,4 @@ pub mod StandingGround
 pub mod StandingShapes
 pub mod StandingPlan
 pub mod StandingOwners
+pub mod StandingBytes
