@@ -9,3 +9,5 @@ pub mod StandingShapes
 pub mod StandingPlan
 pub mod StandingOwners
 pub mod StandingBytes
+pub mod StandingDinodes
+pub mod StandingFiles

@@ -8,7 +8,8 @@ use Rattle.std.proofs.lemmas.List.{take_at, drop_at, take_all, take-append-drop,
 use Rattle.std.proofs.Math.Seq.{take-append-add}
 use Rattle.std.proofs.Math.Nat.{suc-mul}
 use Rattle.gfs2_layout.specs.Bytes.{slice, put_at, number_at, u32_at, u64_at}
-use Rattle.gfs2_layout.specs.Structures.{answer, header_fault, magic}
+use Rattle.gfs2_layout.specs.Structures.{answer, or_else, length_fault, magic_fault, header_of, header_read, header_fault, magic}
+use Rattle.gfs2_layout.specs.declared.header.MetaHeader.{MetaHeader}
 use Rattle.gfs2_layout.specs.declared.fault.LayoutFault.{LayoutFault}
 use Rattle.gfs2_layout.specs.declared.fault.LayoutFault.TheVariants.{Short, Magic, Kind, Format}
 use Rattle.gfs2_layout.proofs.InPlace.{is_width_64, length-put}
@@ -42,6 +43,25 @@ header_from needed kind format bytes e = elim (cases_Bool (nat_lt (length bytes)
     ]
   ]
 ]
+
+both_none : (o q : Option LayoutFault) → or_else o q ≡ None → q ≡ None
+both_none None q e = e
+both_none (Some f) q e = absurd (some_none f e)
+
+magic_there : (bytes : List ℕ) → magic_fault bytes ≡ None → u32_at 0 bytes ≡ magic
+magic_there bytes e = elim (cases_Bool (u32_at 0 bytes == magic)) [
+  | inl so ↦ eqb-true (u32_at 0 bytes) magic so
+  | inr off ↦ absurd (some_none Magic (sym (cond-false _ _ _ off) ∙ e))
+]
+
+pub plain_header : (h : MetaHeader) (bytes : List ℕ) → header_read bytes ≡ Ok h → HasHeader h.kind h.format bytes
+plain_header h bytes e =
+    let back = answer_ok (or_else (length_fault 24 bytes) (magic_fault bytes)) (header_of bytes) h e in
+    record {
+      magic_is = magic_there bytes (both_none (length_fault 24 bytes) (magic_fault bytes) back.0);
+      kind_is = ap (λ (m : MetaHeader). m.kind) back.1;
+      format_is = ap (λ (m : MetaHeader). m.format) back.1;
+    }
 
 pub header_front : (k kind format : ℕ) (a b : List ℕ) → 24 ≤ k → take k a ≡ take k b → HasHeader kind format b → HasHeader kind format a
 header_front k kind format a b long same is = record {

@@ -27,9 +27,12 @@ abbrev pub file_place : Plan → ℕ → ℕ
 file_place p zero = group_list_place
 file_place p (suc j) = journal_place p j
 
+abbrev pub file_bytes : Plan → ℕ → ℕ
+file_bytes p zero = 96 * p.groups
+file_bytes p (suc j) = p.journal_blocks * p.size
+
 abbrev pub file_shape : Plan → ℕ → Shape
-file_shape p zero = group_list p
-file_shape p (suc j) = journal p
+file_shape p i = record { size = p.size; bytes = file_bytes p i }
 
 abbrev pub file_use : ℕ → Part → Use
 file_use zero part = use_is.GroupList part

@@ -1,0 +1,189 @@
+-- The blocks of the files of a new image: their dinodes, and where their pointers lead.
+use Rattle.std.proofs.Common.{ℕ, zero, suc, ◌≡◌, ◌+◌, ◌-◌, ◌*◌, ◌/◌, ◌^◌, ◌<◌, ◌≤◌, ◌⊎◌, inl, inr, min, List, ◌++◌, length, drop, replicate, get_or, refl, sym, ap, ◌∙◌, subst, arith, length-drop, length-append}
+use Rattle.std.specs.Prelude.{◌==◌, if◌then◌else◌}
+use Rattle.std.specs.List.{AllByRecursion, range_with_len}
+use Rattle.std.proofs.lemmas.Bool.{cases_lt, cases_eq, cond-true, cond-false, eq-eqb, ne_eqb, lt-ltb, leb-true, leb-false}
+use Rattle.std.proofs.lemmas.Bool.Decides.{nat_tests}
+use Rattle.std.proofs.lemmas.List.{length-replicate, drop-replicate}
+use Rattle.std.proofs.lemmas.List.FromFn.{length-range_with_len, get_or-range_with_len}
+use Rattle.std.proofs.Math.Nat.{mul-le-mul}
+use Rattle.gfs2_layout.specs.Bytes.{put_at, u64_at}
+use Rattle.gfs2_layout.specs.Fields.{HasItsWidth, with_fields}
+use Rattle.gfs2_layout.specs.Structures.{header_fault, length_fault, magic_fault, or_else, header_of}
+use Rattle.gfs2_layout.specs.Writing.{header_fields, header_put}
+use Rattle.gfs2_layout.specs.declared.dinode.Dinode.{Dinode}
+use Rattle.gfs2_layout.specs.declared.header.MetaHeader.{MetaHeader}
+use Rattle.gfs2_layout.proofs.FieldsInPlace.{length-fields, drop-fields}
+use Rattle.gfs2_layout.proofs.ReadBack.{header_back}
+use Rattle.gfs2_layout.proofs.InPlace.{length-put}
+use Rattle.image_model.specs.Headers.{HasHeader}
+use Rattle.image_model.specs.Inode.{span}
+use Rattle.mkgfs2_tool.specs.Groups.{all_data, data_address, parts}
+use Rattle.mkgfs2_tool.specs.Files.{dinode_pointers, block_pointers, content_blocks, height, level_blocks, level_start, file_blocks, fan, children, part}
+use Rattle.mkgfs2_tool.specs.Order.{group_list, journal, journal_place, group_list_place, taken, use_of}
+use Rattle.mkgfs2_tool.specs.Blocks.{zeros, addresses, dinode, dinode_block, system_file, group_entry, group_entries, pointing_dinode, pointer_block, group_list_block, journal_block, used_block, data_block, new_block}
+use Rattle.mkgfs2_tool.specs.Making.{IsFitting}
+use Rattle.mkgfs2_tool.specs.Standing.{IsStamped}
+use Rattle.mkgfs2_tool.specs.declared.files.Shape.{Shape}
+use Rattle.mkgfs2_tool.specs.declared.files.Part.{Part}
+use Rattle.mkgfs2_tool.specs.declared.files.Part.TheVariants.{Top, Pointers, Content}
+use Rattle.mkgfs2_tool.specs.declared.plan.Plan.{Plan}
+use Rattle.mkgfs2_tool.proofs.StandingBytes.{plain_header, spelled, read_spelled, read_zeros, u64_behind, length_spelled, header_front, take_put, behind_put}
+use Rattle.mkgfs2_tool.proofs.StandingDinodes.{IsDinodeBlock, dinode_put_is, IsSmall, dinode_widths}
+use Rattle.mkgfs2_tool.proofs.StandingShapes.{IsLow, IsBelow, part_below, part_here, inside_file, begins_level, level_begins, height_low, span_some, start_low}
+use Rattle.mkgfs2_tool.proofs.StandingPlan.{new_data, address_low}
+use Rattle.mkgfs2_tool.proofs.StandingOwners.{file_place, file_shape, file_bytes, file_use, spot, file_taken, file_some, use_of_file, in_all}
+
+abbrev IsSize : ℕ → Type 0
+IsSize size = (size ≡ 512) ⊎ ((size ≡ 1024) ⊎ ((size ≡ 2048) ⊎ (size ≡ 4096)))
+
+list_low : (size g : ℕ) → IsSize size → g ≤ 64 → parts (96 * g) size ≤ dinode_pointers size * (block_pointers size * block_pointers size)
+list_low size g (inl is) few = rw is (omega (arith, few))
+list_low size g (inr (inl is)) few = rw is (omega (arith, few))
+list_low size g (inr (inr (inl is))) few = rw is (omega (arith, few))
+list_low size g (inr (inr (inr is))) few = rw is (omega (arith, few))
+
+journal_low : (size n : ℕ) → IsSize size → n ≤ 65536 → parts (n * size) size ≤ dinode_pointers size * (block_pointers size * block_pointers size)
+journal_low size n (inl is) few = rw is (omega (arith, few))
+journal_low size n (inr (inl is)) few = rw is (omega (arith, few))
+journal_low size n (inr (inr (inl is))) few = rw is (omega (arith, few))
+journal_low size n (inr (inr (inr is))) few = rw is (omega (arith, few))
+
+list_blocks : (size g : ℕ) → IsSize size → g ≤ 64 → parts (96 * g) size ≤ 65536
+list_blocks size g (inl is) few = rw is (omega (arith, few))
+list_blocks size g (inr (inl is)) few = rw is (omega (arith, few))
+list_blocks size g (inr (inr (inl is))) few = rw is (omega (arith, few))
+list_blocks size g (inr (inr (inr is))) few = rw is (omega (arith, few))
+
+journal_blocks : (size n : ℕ) → IsSize size → parts (n * size) size ≡ n
+journal_blocks size n (inl is) = rw is (omega arith)
+journal_blocks size n (inr (inl is)) = rw is (omega arith)
+journal_blocks size n (inr (inr (inl is))) = rw is (omega arith)
+journal_blocks size n (inr (inr (inr is))) = rw is (omega arith)
+
+-- the number of a file's dinode
+abbrev pub file_number : ℕ → ℕ
+file_number zero = 3
+file_number (suc j) = 5 + j
+
+-- what stands behind a file's dinode
+abbrev pub file_behind : Plan → ℕ → List ℕ
+file_behind p zero = if height (file_shape p 0) == 0 then group_entries p else addresses p group_list_place (children (file_shape p 0) 0 0)
+file_behind p (suc j) = addresses p (journal_place p j) (children (file_shape p (suc j)) 0 0)
+
+abbrev pub file_dinode : Plan → ℕ → Dinode
+file_dinode p i = dinode p (file_number i) (file_place p i) (system_file (file_shape p i))
+
+-- the pointers of a block, from this byte on: so many lead to blocks of the file one after another, and the others nowhere
+pub record HasPointers (p : Plan) (i : ℕ) (bytes : List ℕ) (start fan first count : ℕ) : Type 0 where
+  pub there : (k : ℕ) → k < fan → k < count → u64_at (start + 8 * k) bytes ≡ spot p i (first + k)
+  pub none : (k : ℕ) → k < fan → count ≤ k → u64_at (start + 8 * k) bytes ≡ 0
+
+has_pointers : (p : Plan) (i : ℕ) (bytes : List ℕ) (start fan first count least m : ℕ) → least ≡ min fan count
+    → drop start bytes ≡ spelled (spot p i) (range_with_len first least) ++ replicate m 0 → 8 * fan ≤ 8 * least + m
+    → ((k : ℕ) → k < count → spot p i (first + k) < 2 ^ 64) → HasPointers p i bytes start fan first count
+has_pointers p i bytes start fan first count least m is rest room low = record {
+  there = λ k inside few.
+    u64_behind start (8 * k) bytes ∙ ap (u64_at (8 * k)) rest
+    ∙ read_spelled (spot p i) (range_with_len first least) (replicate m 0) k (omega (arith, length-range_with_len first least, is, inside, few))
+        (subst (λ n. spot p i n < 2 ^ 64) (sym (get_or-range_with_len first least k 0 (omega (arith, is, inside, few)))) (low k few))
+    ∙ ap (spot p i) (get_or-range_with_len first least k 0 (omega (arith, is, inside, few)));
+  none = λ k inside far.
+    u64_behind start (8 * k) bytes ∙ ap (u64_at (8 * k)) rest
+    ∙ read_zeros (spelled (spot p i) (range_with_len first least)) m (8 * k)
+        (omega (arith, length_spelled (spot p i) (range_with_len first least), length-range_with_len first least, is, far))
+        (omega (arith, length_spelled (spot p i) (range_with_len first least), length-range_with_len first least, inside, room));
+}
+
+-- a block of pointers
+pub record IsPointerBlock (p : Plan) (i : ℕ) (bytes : List ℕ) (first count : ℕ) : Type 0 where
+  pub long : length bytes ≡ p.size
+  pub header : HasHeader 5 500 bytes
+  pub pointers : HasPointers p i bytes 24 (block_pointers p.size) first count
+
+abbrev pointer_header : MetaHeader
+pointer_header = record { kind = 5; format = 500; jid = 0 }
+
+headed : (size : ℕ) (part : List ℕ) → 24 + length part ≤ size → HasHeader 5 500 (put_at 24 part (header_put pointer_header (replicate size 0)))
+headed size part fits =
+    let clear : List ℕ = replicate size 0 in
+    let room : 24 ≤ length clear = omega (arith, fits, length-replicate {A = ℕ} size 0) in
+    let base : List ℕ = with_fields (header_fields pointer_header) clear in
+    let long : length base ≡ size = length-fields (header_fields pointer_header) clear (omega (arith, room)) ∙ length-replicate {A = ℕ} size 0 in
+    header_front 24 5 500 (put_at 24 part base) base (omega arith) (take_put 24 part base (omega (arith, long, fits))) (plain_header pointer_header base (header_back pointer_header clear room (omega arith, (omega arith, (omega arith, (omega arith, tt))))))
+
+behind_header : (size : ℕ) (part : List ℕ) → 24 + length part ≤ size → drop 24 (put_at 24 part (header_put pointer_header (replicate size 0))) ≡ part ++ replicate (size - 24 - length part) 0
+behind_header size part fits =
+    let clear : List ℕ = replicate size 0 in
+    let room : 24 ≤ length clear = omega (arith, fits, length-replicate {A = ℕ} size 0) in
+    let base : List ℕ = with_fields (header_fields pointer_header) clear in
+    let long : length base ≡ size = length-fields (header_fields pointer_header) clear (omega (arith, room)) ∙ length-replicate {A = ℕ} size 0 in
+    behind_put 24 (size - 24) part base (omega (arith, long, fits)) (drop-fields (header_fields pointer_header) clear (omega (arith, room)) 24 (omega arith) ∙ drop-replicate {X = ℕ} 24 size 0)
+
+long_header : (size : ℕ) (part : List ℕ) → 24 + length part ≤ size → length (put_at 24 part (header_put pointer_header (replicate size 0))) ≡ size
+long_header size part fits =
+    let clear : List ℕ = replicate size 0 in
+    let room : 24 ≤ length clear = omega (arith, fits, length-replicate {A = ℕ} size 0) in
+    let base : List ℕ = with_fields (header_fields pointer_header) clear in
+    let long : length base ≡ size = length-fields (header_fields pointer_header) clear (omega (arith, room)) ∙ length-replicate {A = ℕ} size 0 in
+    length-put 24 part base (omega (arith, long, fits)) ∙ long
+
+fits_in : (size start fan least part : ℕ) → fan ≡ (size - start) / 8 → start ≤ size → least ≤ fan → part ≡ 8 * least → start + part ≤ size
+fits_in size start fan least part is inside low long = omega (arith, is, inside, low, long)
+
+module _ (p : Plan) (fit : IsFitting p) (stamped : IsStamped p) where
+  pub file_low : (i : ℕ) → IsLow (file_shape p i)
+  file_low zero = record { size = fit.plan.size; room = list_low p.size p.groups fit.plan.size fit.plan.groups }
+  file_low (suc j) = record { size = fit.plan.size; room = journal_low p.size p.journal_blocks fit.plan.size fit.plan.journal_blocks }
+
+  pub large : 512 ≤ p.size
+  large = omega (arith, fit.plan.size)
+
+  pub size_few : p.size ≤ 4096
+  size_few = omega (arith, fit.plan.size)
+
+  content_few : (i : ℕ) → content_blocks (file_shape p i) ≤ 65536
+  content_few zero = list_blocks p.size p.groups fit.plan.size fit.plan.groups
+  content_few (suc j) = omega (arith, journal_blocks p.size p.journal_blocks fit.plan.size, fit.plan.journal_blocks)
+
+  level_few : (i l : ℕ) → level_blocks (file_shape p i) l ≤ content_blocks (file_shape p i)
+  level_few i l = elim (cases_lt (content_blocks (file_shape p i)) (level_blocks (file_shape p i) l)) [
+    | inr le ↦ le
+    | inl less ↦ absurd (never (content_blocks (file_shape p i)) (height (file_shape p i) - l) (level_begins (file_shape p i) (file_low i) l (content_blocks (file_shape p i)) less))
+  ]
+    where
+      never : (c n : ℕ) → c * span p.size n < c → ⊥
+      never c n less = let some : c * 1 ≤ c * span p.size n = mul-le-mul {n₁ = c} {m₁ = 1} {n₂ = c} {m₂ = span p.size n} (omega arith) (span_some p.size n large) in omega (arith, less, some)
+
+  pub blocks_few : (i : ℕ) → file_blocks (file_shape p i) ≤ 262144
+  blocks_few i = few (file_blocks (file_shape p i)) (level_start (file_shape p i) 4) (level_blocks (file_shape p i) 1) (level_blocks (file_shape p i) 2) (level_blocks (file_shape p i) 3)
+      all refl (through (level_few i 1)) (through (level_few i 2)) (through (level_few i 3))
+    where
+      through : {n : ℕ} → n ≤ content_blocks (file_shape p i) → n ≤ 65536
+      through {n} le = omega (arith, le, content_few i)
+
+      few : (b s x y z : ℕ) → b ≤ s → s ≡ 1 + x + y + z → x ≤ 65536 → y ≤ 65536 → z ≤ 65536 → b ≤ 262144
+      few b s x y z le e a c d = omega (arith, le, e, a, c, d)
+
+      all : file_blocks (file_shape p i) ≤ level_start (file_shape p i) 4
+      all = start_low (file_shape p i) (file_low i) (1 + height (file_shape p i)) 4 (omega arith) (omega (arith, height_low (file_shape p i) (file_low i)))
+
+  bytes_few : (i : ℕ) → file_bytes p i ≤ 268435456
+  bytes_few zero = omega (arith, fit.plan.groups)
+  bytes_few (suc j) = mul-le-mul {m₂ = 4096} fit.plan.journal_blocks size_few
+
+  pub spot_low : (i n : ℕ) → i ≤ p.journals → n < file_blocks (file_shape p i) → spot p i n < p.count
+  spot_low i n ok inside = address_low p fit (file_place p i + n) (in_all p fit (file_place p i + n) (file_taken p i n ok inside))
+
+  spot_small : (i n : ℕ) → i ≤ p.journals → n < file_blocks (file_shape p i) → spot p i n < 2 ^ 64
+  spot_small i n ok inside = through (spot p i n) p.count (spot_low i n ok inside) fit.count
+    where
+      through : (a b : ℕ) → a < b → b ≤ 131072 → a < 2 ^ 64
+      through a b less few = omega (arith, less, few)
+
+  -- what stands in a block of a file
+  pub file_block : (i n : ℕ) → i ≤ p.journals → n < file_blocks (file_shape p i) → new_block p (spot p i n) ≡ used_block p (file_use i (part (file_shape p i) n))
+  file_block i n ok inside =
+      new_data p fit (file_place p i + n) (in_all p fit (file_place p i + n) (file_taken p i n ok inside))
+      ∙ cond-true _ _ _ (lt-ltb (file_place p i + n) (taken p) (file_taken p i n ok inside))
+      ∙ ap (used_block p) (use_of_file p i n inside)
