@@ -11,3 +11,5 @@ pub mod StandingOwners
 pub mod StandingBytes
 pub mod StandingDinodes
 pub mod StandingFiles
+pub mod StandingCounts
+pub mod StandingWhose

@@ -42,18 +42,31 @@ file_use (suc j) part = use_is.Journal j part
 abbrev pub spot : Plan → ℕ → ℕ → ℕ
 spot p i n = data_address p (file_place p i + n)
 
--- how the file is named
-abbrev pub named : Plan → ℕ → Owner
-named p zero = Named (data_address p master_place) (codes "rindex")
-named p (suc j) = Named (data_address p (journals_place p)) (journal_name j)
+-- how the file is named, and where
+abbrev pub file_parent : Plan → ℕ → ℕ
+file_parent p zero = data_address p master_place
+file_parent p (suc j) = data_address p (journals_place p)
 
--- block x of a level below the dinode
+abbrev pub file_name : ℕ → List ℕ
+file_name zero = codes "rindex"
+file_name (suc j) = journal_name j
+
+abbrev pub named : Plan → ℕ → Owner
+named p i = Named (file_parent p i) (file_name i)
+
+-- what leads to block x of a level below the dinode: this block, by this pointer
+abbrev pub up_block : Plan → ℕ → ℕ → ℕ → ℕ
+up_block p i zero x = 0
+up_block p i (suc zero) x = 0
+up_block p i (suc (suc l)) x = level_start (file_shape p i) (suc l) + x / block_pointers p.size
+
+abbrev pub up_pointer : Plan → ℕ → ℕ → ℕ
+up_pointer p zero x = x
+up_pointer p (suc zero) x = x
+up_pointer p (suc (suc l)) x = x % block_pointers p.size
+
 abbrev pub below_owner : Plan → ℕ → ℕ → ℕ → Owner
-below_owner p i zero x = Nobody
-below_owner p i (suc zero) x = Below (spot p i 0) (spot p i 0) x (height (file_shape p i) - 1) (x * span p.size (height (file_shape p i) - 1))
-below_owner p i (suc (suc l)) x =
-    Below (spot p i 0) (spot p i (level_start (file_shape p i) (suc l) + x / block_pointers p.size)) (x % block_pointers p.size)
-        (height (file_shape p i) - suc (suc l)) (x * span p.size (height (file_shape p i) - suc (suc l)))
+below_owner p i l x = Below (spot p i 0) (spot p i (up_block p i l x)) (up_pointer p l x) (height (file_shape p i) - l) (x * span p.size (height (file_shape p i) - l))
 
 abbrev pub file_owner : Plan → ℕ → Part → Owner
 file_owner p i Top = named p i
