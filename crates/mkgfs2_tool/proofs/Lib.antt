@@ -13,3 +13,4 @@ pub mod StandingDinodes
 pub mod StandingFiles
 pub mod StandingCounts
 pub mod StandingWhose
+pub mod StandingInodes
