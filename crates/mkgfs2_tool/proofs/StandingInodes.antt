@@ -241,3 +241,163 @@ module _ (p : Plan) (fit : IsFitting p) (stamped : IsStamped p) (at : Blocks) (m
     where
       here : IsPartOf y b k (suc level) first → EachPointer h header_length y (λ j c. IsChild h y j level (first + j * span h.size level) c)
       here q = subst (λ z. EachPointer h header_length z (λ j c. IsChild h z j level (first + j * span p.size level) c)) (sym q.is) (inner_at q.l q.x level first q.below q.level_is q.first_is)
+
+  -- ---- what a part tells is so
+
+  pointed_first : (y x level : ℕ) → IsBelow (file_shape p i) 1 x → y ≡ spot p i (1 + x) → height (file_shape p i) - 1 ≡ level → (first : ℕ) → x * span p.size (height (file_shape p i) - 1) ≡ first
+      → IsPointed h y a x level first
+  pointed_first y x level is e g first f = by_dinode refl (file_height ∙ taller_is (height (file_shape p i)) level is.low g) narrow
+      (ap (u64_at (232 + 8 * x)) own_bytes ∙ (top_pointers p fit stamped i ok is.low).there x narrow is.inside ∙ sym e)
+      (sym f ∙ ap (λ n. x * span p.size n) g)
+    where
+      narrow : x < dinode_pointers p.size
+      narrow = top_narrow (file_shape p i) (file_low p fit stamped i) x is
+
+      taller_is : (n level : ℕ) → 1 ≤ n → n - 1 ≡ level → n ≡ suc level
+      taller_is n level some e = omega (arith, some, e)
+
+  pointed_later : (y l x level first : ℕ) → IsBelow (file_shape p i) (suc (suc l)) x → y ≡ spot p i (level_start (file_shape p i) (suc (suc l)) + x) → height (file_shape p i) - suc (suc l) ≡ level
+      → x * span p.size (height (file_shape p i) - suc (suc l)) ≡ first → IsPointed h y (spot p i (level_start (file_shape p i) (suc l) + x / block_pointers p.size)) (x % block_pointers p.size) level first
+  pointed_later y l x level first is e g f =
+      by_block (spot p i (up_block p i (suc l) (x / block_pointers p.size))) (up_pointer p (suc l) (x / block_pointers p.size)) (x / block_pointers p.size * span p.size (height (file_shape p i) - suc l))
+        (part_below_is (suc l) (x / block_pointers p.size) over ∙ ap (λ n. Some (Pointed (spot p i (up_block p i (suc l) (x / block_pointers p.size))) (up_pointer p (suc l) (x / block_pointers p.size)) n (x / block_pointers p.size * span p.size (height (file_shape p i) - suc l)))) (taller_is (height (file_shape p i)) l level is.low g))
+        inside
+        (ap (u64_at (24 + 8 * (x % block_pointers p.size))) (bytes_below (suc l) (x / block_pointers p.size) over)
+          ∙ (inner_block p fit stamped i (suc l) (x / block_pointers p.size) ok over is.low).pointers.there (x % block_pointers p.size) inside
+            (rest (level_blocks (file_shape p i) (suc (suc l))) (x / block_pointers p.size * block_pointers p.size) (x % block_pointers p.size) x (div-add-mod' x (block_pointers p.size)) is.inside)
+          ∙ ap (spot p i) (again (level_start (file_shape p i) (suc (suc l))) (x / block_pointers p.size * block_pointers p.size) (x % block_pointers p.size) x (div-add-mod' x (block_pointers p.size))) ∙ sym e)
+        (sym f ∙ ap (λ n. n * span p.size (height (file_shape p i) - suc (suc l))) (sym (div-add-mod' x (block_pointers p.size)))
+          ∙ first_on (file_shape p i) (file_low p fit stamped i) (suc l) (x / block_pointers p.size) (x % block_pointers p.size) is.low
+          ∙ ap (λ n. x / block_pointers p.size * span p.size (height (file_shape p i) - suc l) + x % block_pointers p.size * span p.size n) g)
+    where
+      over : IsBelow (file_shape p i) (suc l) (x / block_pointers p.size)
+      over = above (file_shape p i) (file_low p fit stamped i) (suc l) x (omega arith) is
+
+      inside : x % block_pointers p.size < block_pointers p.size
+      inside = mod_below x (block_pointers p.size) (wide (file_shape p i) (file_low p fit stamped i))
+
+      taller_is : (n l level : ℕ) → suc (suc l) ≤ n → n - suc (suc l) ≡ level → n - suc l ≡ suc level
+      taller_is n l level some e = omega (arith, some, e)
+
+      rest : (n q r x : ℕ) → q + r ≡ x → x < n → r < n - q
+      rest n q r x e few = omega (arith, e, few)
+
+      again : (s q r x : ℕ) → q + r ≡ x → s + q + r ≡ s + x
+      again s q r x e = omega (arith, e)
+
+  tree_pointed : (y b k level first : ℕ) → part_at h y ≡ Some (Pointed b k level first) → IsPointed h y b k level first
+  tree_pointed y b k level first e = here (part_of y b k level first e)
+    where
+      by_level : (l x : ℕ) → IsBelow (file_shape p i) l x → y ≡ spot p i (level_start (file_shape p i) l + x) → height (file_shape p i) - l ≡ level → x * span p.size (height (file_shape p i) - l) ≡ first
+          → IsPointed h y (spot p i (up_block p i l x)) (up_pointer p l x) level first
+      by_level zero x is s g f = absurd (omega (arith, is.some))
+      by_level (suc zero) x is s g f = pointed_first y x level is s g first f
+      by_level (suc (suc l)) x is s g f = pointed_later y l x level first is s g f
+
+      here : IsPartOf y b k level first → IsPointed h y b k level first
+      here q = subst (λ n. IsPointed h y n k level first) q.up (subst (λ n. IsPointed h y (spot p i (up_block p i q.l q.x)) n level first) q.by (by_level q.l q.x q.below q.is q.level_is q.first_is))
+
+  tree_below : (y b k level first : ℕ) → part_at h y ≡ Some (Pointed b k level first) → level < height_in h
+  tree_below y b k level first e = here (part_of y b k level first e)
+    where
+      lower : (n l level m : ℕ) → 1 ≤ l → l ≤ n → n - l ≡ level → m ≡ n → level < m
+      lower n l level m some low e same = omega (arith, some, low, e, same)
+
+      here : IsPartOf y b k level first → level < height_in h
+      here q = lower (height (file_shape p i)) q.l level (height_in h) q.below.some q.below.low q.level_is file_height
+
+  tree_indirect : (y b k level first : ℕ) → part_at h y ≡ Some (Pointed b k (suc level) first) → HasHeader 5 500 (bytes_at h y)
+  tree_indirect y b k level first e = here (part_of y b k (suc level) first e)
+    where
+      lower : (n l level : ℕ) → n - l ≡ suc level → l < n
+      lower n l level e = omega (arith, e)
+
+      here : IsPartOf y b k (suc level) first → HasHeader 5 500 (bytes_at h y)
+      here q = subst (λ z. HasHeader 5 500 (bytes_at h z)) (sym q.is)
+        (subst (HasHeader 5 500) (sym (bytes_below q.l q.x q.below)) (inner_block p fit stamped i q.l q.x ok q.below (lower (height (file_shape p i)) q.l level q.level_is)).header)
+
+  file_tree : HasTree h
+  file_tree = record {
+    top = tree_top;
+    inner = tree_inner;
+    pointed = tree_pointed;
+    below = tree_below;
+    indirect = tree_indirect;
+    table = λ y b k first dir e. absurd (true≢false (sym dir ∙ file_plain));
+  }
+
+  -- ---- its size
+
+  stuffed_size : height (file_shape p i) ≡ 0 → file_bytes p i ≤ p.size - 232
+  stuffed_size e = grind (arith, nat_tests)
+
+  file_fits : Fits h
+  file_fits = record {
+    low = few (height_in h) (height (file_shape p i)) file_height (height_low (file_shape p i) (file_low p fit stamped i));
+    stuffed = λ e. inside (dinode_in h).size (file_bytes p i) p.size file_size (stuffed_size (sym file_height ∙ e)) (omega (arith, fit.plan.size));
+    under = λ level e. under_at level (sym file_height ∙ e);
+  }
+    where
+      few : (m n : ℕ) → m ≡ n → n ≤ 3 → m ≤ 10
+      few m n e low = omega (arith, e, low)
+
+      inside : (m n s : ℕ) → m ≡ n → n ≤ s - 232 → 512 ≤ s → 232 + m ≤ s
+      inside m n s e low large = omega (arith, e, low, large)
+
+      under_at : (level : ℕ) → height (file_shape p i) ≡ suc level → content_count h ≤ dinode_pointers p.size * span p.size level
+      under_at level e =
+          let high = taller (height (file_shape p i)) level e in
+          subst (λ n. n ≤ dinode_pointers p.size * span p.size level) (sym count_is) (subst (λ n. content_blocks (file_shape p i) ≤ dinode_pointers p.size * span p.size n) high.1 (top_room (file_shape p i) (file_low p fit stamped i) high.0))
+
+  -- ---- its blocks are counted
+
+  spot_apart : (n k : ℕ) → n < file_blocks (file_shape p i) → k < file_blocks (file_shape p i) → spot p i n ≡ spot p i k → n ≡ k
+  spot_apart n k inside inside' e =
+      cancel (file_place p i) n k (apart_addresses p fit (file_place p i + n) (file_place p i + k) (in_all p fit (file_place p i + n) (file_taken p i n ok inside)) (in_all p fit (file_place p i + k) (file_taken p i k ok inside')) e)
+    where
+      cancel : (a n k : ℕ) → a + n ≡ a + k → n ≡ k
+      cancel a n k e = omega (arith, e)
+
+  has_block : (n : ℕ) → n < file_blocks (file_shape p i) → is_some (h.cell (spot p i n)) ≡ true
+  has_block n inside = each (piece (file_shape p i) (file_low p fit stamped i) n inside)
+    where
+      each : Piece (file_shape p i) n → is_some (h.cell (spot p i n)) ≡ true
+      each (is_top e) = cell_some (h.cell (spot p i n)) Itself (ap (λ m. part_at h (spot p i m)) e ∙ own_part (image p at) (owner p) a file_own)
+      each (is_below l x below e) =
+          cell_some (h.cell (spot p i n)) (Pointed (spot p i (up_block p i l x)) (up_pointer p l x) (height (file_shape p i) - l) (x * span p.size (height (file_shape p i) - l)))
+          (ap (λ m. part_at h (spot p i m)) e ∙ part_below_is l x below)
+
+  only_blocks : (b : ℕ) → is_some (h.cell b) ≡ true → (n : ℕ) × (n < file_blocks (file_shape p i)) × (b ≡ spot p i n)
+  only_blocks b e = let c = some_cell (h.cell b) e in by_part c.0 c.1
+    where
+      from_part : (d k level first : ℕ) → IsPartOf b d k level first → (n : ℕ) × (n < file_blocks (file_shape p i)) × (b ≡ spot p i n)
+      from_part d k level first q = (level_start (file_shape p i) q.l + q.x, inside_file (file_shape p i) (file_low p fit stamped i) q.l q.x q.below, q.is)
+
+      by_part : (q : Part) → part_at h b ≡ Some q → (n : ℕ) × (n < file_blocks (file_shape p i)) × (b ≡ spot p i n)
+      by_part Itself g = (0, file_some p i, itself_own (image p at) (owner p) a b g)
+      by_part (Pointed d k level first) g = from_part d k level first (part_of b d k level first g)
+      by_part (InChain hash place) g = absurd (no_chain b hash place g)
+
+  blocks_counted : block_count h ≡ file_blocks (file_shape p i)
+  unfolding block_count
+  blocks_counted = count_images (file_blocks (file_shape p i)) p.count (spot p i) (λ b. is_some (h.cell b)) (λ n inside. spot_low p fit stamped i n ok inside) spot_apart has_block only_blocks
+
+  pub file_sound : IsInode h
+  file_sound = record {
+    whole = λ b q e. ap length (block_same (image p at) (owner p) a b q e) ∙ made.whole b (part_low b q e);
+    header = subst (HasHeader 4 400) (sym own_bytes) (file_dinode_is p fit stamped i ok).header;
+    address = address_is;
+    number = λ e. number_some i (sym file_number_is ∙ e);
+    mode = inr file_regular;
+    links = λ e. links_is;
+    fits = file_fits;
+    tree = file_tree;
+    linear = λ e. absurd (true≢false (sym e ∙ file_plain));
+    hashed = λ e. absurd (true≢false (sym e ∙ unhashed));
+    leafless = λ e. no_chain;
+    blocks = blocks_is ∙ sym blocks_counted;
+  }
+    where
+      number_some : (n : ℕ) → file_number n ≡ 0 → ⊥
+      number_some zero e = absurd (omega (arith, e))
+      number_some (suc j) e = absurd (omega (arith, e))

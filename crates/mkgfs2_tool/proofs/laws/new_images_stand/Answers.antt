@@ -1,6 +1,6 @@
 use Rattle.mkgfs2_tool.proofs.laws.new_images_stand.Goals as goal
 use Rattle.mkgfs2_tool.proofs.StandingOwners.{zone}
-use Rattle.mkgfs2_tool.proofs.StandingInodes.{count_is}
+use Rattle.mkgfs2_tool.proofs.StandingInodes.{file_sound}
 use Rattle.mkgfs2_tool.proofs.StandingCounts.{count_images}
 
 pub returns : goal.returns
