@@ -14,3 +14,5 @@ pub mod StandingFiles
 pub mod StandingCounts
 pub mod StandingWhose
 pub mod StandingInodes
+pub mod StandingCrc
+pub mod StandingRings

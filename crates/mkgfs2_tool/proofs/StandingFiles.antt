@@ -55,7 +55,7 @@ list_blocks size g (inr (inl is)) few = rw is (omega (arith, few))
 list_blocks size g (inr (inr (inl is))) few = rw is (omega (arith, few))
 list_blocks size g (inr (inr (inr is))) few = rw is (omega (arith, few))
 
-journal_blocks : (size n : ℕ) → IsSize size → parts (n * size) size ≡ n
+pub journal_blocks : (size n : ℕ) → IsSize size → parts (n * size) size ≡ n
 journal_blocks size n (inl is) = rw is (omega arith)
 journal_blocks size n (inr (inl is)) = rw is (omega arith)
 journal_blocks size n (inr (inr (inl is))) = rw is (omega arith)

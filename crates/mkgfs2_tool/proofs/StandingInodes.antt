@@ -69,7 +69,7 @@ module _ (p : Plan) (fit : IsFitting p) (stamped : IsStamped p) (at : Blocks) (m
   pub file_own : is_dinode (owner p a) ≡ true
   file_own = ap is_dinode (owner_top p fit stamped i ok)
 
-  own_bytes : bytes_at h a ≡ new_block p a
+  pub own_bytes : bytes_at h a ≡ new_block p a
   own_bytes = own_block (image p at) (owner p) a file_own ∙ made.is a (spot_low p fit stamped i 0 ok (file_some p i))
 
   pub file_dinode_in : dinode_in h ≡ file_dinode p i
