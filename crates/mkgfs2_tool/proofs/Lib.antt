@@ -16,3 +16,4 @@ pub mod StandingWhose
 pub mod StandingInodes
 pub mod StandingCrc
 pub mod StandingRings
+pub mod StandingList
