@@ -17,3 +17,4 @@ pub mod StandingInodes
 pub mod StandingCrc
 pub mod StandingRings
 pub mod StandingList
+pub mod StandingRecords
