@@ -18,3 +18,4 @@ pub mod StandingCrc
 pub mod StandingRings
 pub mod StandingList
 pub mod StandingRecords
+pub mod StandingDirs

@@ -36,7 +36,7 @@ pub record AreMade (p : Plan) (at : Blocks) : Type 0 where
 abbrev pub held : Plan → Blocks → ℕ → Holding
 held p at a = holding (image p at) (owner p) a
 
-below_1 : (a b c d e a' b' c' d' e' : ℕ) → Below a b c d e ≡ Below a' b' c' d' e' → a ≡ a'
+pub below_1 : (a b c d e a' b' c' d' e' : ℕ) → Below a b c d e ≡ Below a' b' c' d' e' → a ≡ a'
 below_1 a b c d e a' b' c' d' e' s = cc
 
 below_2 : (a b c d e a' b' c' d' e' : ℕ) → Below a b c d e ≡ Below a' b' c' d' e' → b ≡ b'

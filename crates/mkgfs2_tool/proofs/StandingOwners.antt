@@ -196,10 +196,10 @@ pub file_taken : (p : Plan) (i n : ℕ) → i ≤ p.journals → n < file_blocks
 file_taken p zero n ok low = omega (arith, low)
 file_taken p (suc j) n ok low = omega (arith, low, row_fits j (file_blocks (journal p)) p.journals (file_blocks (journal p)) ok (omega arith))
 
-some_taken : (p : Plan) → 0 < taken p
+pub some_taken : (p : Plan) → 0 < taken p
 some_taken p = omega arith
 
-two_taken : (p : Plan) → 1 < taken p
+pub two_taken : (p : Plan) → 1 < taken p
 two_taken p = omega arith
 
 pub journals_taken : (p : Plan) → journals_place p < taken p

@@ -3,7 +3,7 @@ use Rattle.mkgfs2_tool.proofs.StandingOwners.{zone}
 use Rattle.mkgfs2_tool.proofs.StandingInodes.{file_sound}
 use Rattle.mkgfs2_tool.proofs.StandingRings.{content_bytes, new_journal}
 use Rattle.mkgfs2_tool.proofs.StandingList.{list_is, list_content}
-use Rattle.mkgfs2_tool.proofs.StandingRecords.{records_are}
+use Rattle.mkgfs2_tool.proofs.StandingDirs.{dir_sound, journals_at}
 use Rattle.mkgfs2_tool.proofs.StandingCounts.{count_images}
 
 pub returns : goal.returns
