@@ -19,3 +19,4 @@ pub mod StandingRings
 pub mod StandingList
 pub mod StandingRecords
 pub mod StandingDirs
+pub mod StandingNames
