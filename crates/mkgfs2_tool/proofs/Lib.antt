@@ -20,3 +20,4 @@ pub mod StandingList
 pub mod StandingRecords
 pub mod StandingDirs
 pub mod StandingNames
+pub mod StandingSystem
