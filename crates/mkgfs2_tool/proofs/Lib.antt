@@ -21,3 +21,4 @@ pub mod StandingRecords
 pub mod StandingDirs
 pub mod StandingNames
 pub mod StandingSystem
+pub mod StandingZones
