@@ -22,3 +22,4 @@ pub mod StandingDirs
 pub mod StandingNames
 pub mod StandingSystem
 pub mod StandingZones
+pub mod StandingWhole
