@@ -23,3 +23,4 @@ pub mod StandingNames
 pub mod StandingSystem
 pub mod StandingZones
 pub mod StandingWhole
+pub mod StandingBits

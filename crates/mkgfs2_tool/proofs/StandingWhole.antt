@@ -45,13 +45,13 @@ clear_long size = length-replicate {A = ℕ} size 0
 put_long : (n size : ℕ) (part bytes : List ℕ) → length bytes ≡ size → n + length part ≤ size → length (put_at n part bytes) ≡ size
 put_long n size part bytes long fits = length-put n part bytes (omega (arith, long, fits)) ∙ long
 
-group_put_long : (size : ℕ) (g : GroupHeader) → 512 ≤ size → length (group_put g (replicate size 0)) ≡ size
+pub group_put_long : (size : ℕ) (g : GroupHeader) → 512 ≤ size → length (group_put g (replicate size 0)) ≡ size
 group_put_long size g large =
     let base : List ℕ = with_fields (group_fields g) (replicate size 0) in
     let long : length base ≡ size = length-fields (group_fields g) (replicate size 0) (omega (arith, clear_long size, large)) ∙ clear_long size in
     length-with w32 64 (checksum_of 128 64 base) base is_width_32 (omega (arith, long, large)) ∙ long
 
-header_put_long : (size : ℕ) (h : MetaHeader) → 512 ≤ size → length (header_put h (replicate size 0)) ≡ size
+pub header_put_long : (size : ℕ) (h : MetaHeader) → 512 ≤ size → length (header_put h (replicate size 0)) ≡ size
 header_put_long size h large = length-fields (header_fields h) (replicate size 0) (omega (arith, clear_long size, large)) ∙ clear_long size
 
 dinode_put_long : (p : Plan) (number place count links : ℕ) → 512 ≤ p.size → length (dinode_put (dinode p number place (directory p count links)) (zeros p)) ≡ p.size

@@ -7,6 +7,7 @@ use Rattle.mkgfs2_tool.proofs.StandingDirs.{dir_sound, journals_at}
 use Rattle.mkgfs2_tool.proofs.StandingSystem.{within, system}
 use Rattle.mkgfs2_tool.proofs.StandingZones.{zoned, groups_fit}
 use Rattle.mkgfs2_tool.proofs.StandingWhole.{new_whole, super_is}
+use Rattle.mkgfs2_tool.proofs.StandingBits.{bits_are}
 use Rattle.mkgfs2_tool.proofs.StandingCounts.{count_images}
 
 pub returns : goal.returns
