@@ -24,3 +24,7 @@ pub mod StandingSystem
 pub mod StandingZones
 pub mod StandingWhole
 pub mod StandingBits
+pub mod StandingTallies
+pub mod StandingGroups
+pub mod StandingHeaders
+pub mod StandingProfile

@@ -29,7 +29,7 @@ pub record IsGroupOf (p : Plan) (e : Rindex) : Type 0 where
   pub ok : group ≤ last_group p
   pub is : e ≡ group_entry p group
 
-bits_fit : (size blocks : ℕ) → (size ≡ 512) ⊎ ((size ≡ 1024) ⊎ ((size ≡ 2048) ⊎ (size ≡ 4096))) → (blocks - header_blocks size blocks) / 4 * 4 ≤ bitmap_room size (header_blocks size blocks)
+pub bits_fit : (size blocks : ℕ) → (size ≡ 512) ⊎ ((size ≡ 1024) ⊎ ((size ≡ 2048) ⊎ (size ≡ 4096))) → (blocks - header_blocks size blocks) / 4 * 4 ≤ bitmap_room size (header_blocks size blocks)
 bits_fit size blocks (inl is) = rw is (omega arith)
 bits_fit size blocks (inr (inl is)) = rw is (omega arith)
 bits_fit size blocks (inr (inr (inl is))) = rw is (omega arith)
