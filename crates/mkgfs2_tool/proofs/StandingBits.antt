@@ -1,30 +1,28 @@
 -- The bitmaps of a new image.
-use Rattle.std.proofs.Common.{ℕ, zero, suc, ◌≡◌, ◌≢◌, ◌+◌, ◌-◌, ◌*◌, ◌/◌, ◌^◌, ◌<◌, ◌≤◌, ◌⊎◌, inl, inr, Bool, true, false, List, [], ◌∷◌, ◌++◌, length, take, drop, replicate, map, get_or, Ok, None, refl, sym, ap, ap₂, ◌∙◌, subst, arith, append-nil}
-use Rattle.std.specs.Prelude.{◌%◌, ◌==◌, nat_lt, if◌then◌else◌, flat_map, slice_index_or}
+use Rattle.std.proofs.Common.{ℕ, zero, suc, ◌≡◌, ◌+◌, ◌-◌, ◌*◌, ◌/◌, ◌^◌, ◌<◌, ◌≤◌, inl, inr, List, [], ◌∷◌, ◌++◌, length, take, drop, replicate, map, get_or, refl, sym, ap, ap₂, ◌∙◌, subst, arith, append-nil}
+use Rattle.std.specs.Prelude.{◌%◌, nat_lt, flat_map}
 use Rattle.std.specs.List.{AllByRecursion, range_with_len}
 use Rattle.std.specs.Int.{Width, w32, w64, byte_len}
-use Rattle.std.proofs.lemmas.Bool.{cases_lt, cases_eq, cases_Bool, cond-true, cond-false, eq-eqb, ne_eqb, lt-ltb, le-ltb}
+use Rattle.std.proofs.lemmas.Bool.{cases_Bool, cond-true, cond-false, ne_eqb}
 use Rattle.std.proofs.lemmas.List.{length-replicate, drop_all, map-append}
 use Rattle.std.proofs.lemmas.List.FromFn.{get_or-map-range_with_len}
-use Rattle.std.proofs.lemmas.Nat.{div_below, mod_below, div-add-mod'}
 use Rattle.std.proofs.Math.Nat.{suc-mul}
 use Rattle.gfs2_layout.specs.Bitmap.{state_at, byte_of}
-use Rattle.gfs2_layout.specs.Bytes.{put_at, number_at}
-use Rattle.gfs2_layout.specs.Fields.{HasItsWidth, with_fields}
+use Rattle.gfs2_layout.specs.Bytes.{put_at}
+use Rattle.gfs2_layout.specs.Fields.{HasItsWidth}
 use Rattle.gfs2_layout.specs.Structures.{group_of, header_fault}
-use Rattle.gfs2_layout.specs.Writing.{group_fields, group_put, header_fields, header_put}
+use Rattle.gfs2_layout.specs.Writing.{group_fields, group_put, header_put}
 use Rattle.gfs2_layout.specs.declared.group_header.GroupHeader.{GroupHeader}
 use Rattle.gfs2_layout.specs.declared.header.MetaHeader.{MetaHeader}
-use Rattle.gfs2_layout.proofs.FieldsInPlace.{length-fields, drop-fields}
 use Rattle.gfs2_layout.proofs.Places.{number_front}
 use Rattle.gfs2_layout.proofs.ReadBack.{header_back}
 use Rattle.gfs2_layout.proofs.ReadBackMore.{group_back}
-use Rattle.image_model.specs.Groups.{bitmap_of, bitmap_room}
+use Rattle.image_model.specs.Groups.{bitmap_of}
 use Rattle.image_model.specs.Headers.{HasHeader}
 use Rattle.image_model.specs.Image.{Blocks}
-use Rattle.mkgfs2_tool.specs.Groups.{last_group, group_address, group_blocks, headers_of, first_data, data_blocks, data_before}
+use Rattle.mkgfs2_tool.specs.Groups.{last_group, group_address, group_blocks, headers_of, data_blocks, data_before}
 use Rattle.mkgfs2_tool.specs.Order.{taken, use_of}
-use Rattle.mkgfs2_tool.specs.Blocks.{zeros, is_dinode, state, state_in, bitmap_byte, bitmap, group_header, first_header_block, further_header_block, header_block, new_block}
+use Rattle.mkgfs2_tool.specs.Blocks.{zeros, is_dinode, state, state_in, bitmap_byte, bitmap, group_header, first_header_block, further_header_block, header_block}
 use Rattle.mkgfs2_tool.specs.Making.{IsFitting}
 use Rattle.mkgfs2_tool.specs.Standing.{IsStamped}
 use Rattle.mkgfs2_tool.specs.declared.plan.Plan.{Plan}
@@ -162,7 +160,7 @@ further_is size bits big long =
     let base_long : length base ≡ size = header_put_long size further_header big in
     record {
       header = header_front 24 3 300 (put_at 24 bits base) base (omega arith) (take_put 24 bits base (omega (arith, base_long, big)))
-        (plain_header further_header base (header_back further_header clear (omega (arith, length-replicate {A = ℕ} size 0, big)) (omega arith, (omega arith, (omega arith, (omega arith, tt))))));
+          (plain_header further_header base (header_back further_header clear (omega (arith, length-replicate {A = ℕ} size 0, big)) (omega arith, (omega arith, (omega arith, (omega arith, tt))))));
       rest = drop_put 24 bits base (omega (arith, base_long, big)) ∙ ap (λ (xs : List ℕ). bits ++ xs) (drop_all (24 + length bits) base (omega (arith, base_long, long, big))) ∙ append-nil bits;
     }
 
@@ -201,8 +199,8 @@ module _ (p : Plan) (fit : IsFitting p) (stamped : IsStamped p) (at : Blocks) (m
       none n = omega arith
   joined_bits q (suc m) few =
       ap₂ (λ (a b : List ℕ). a ++ b) (further_at q (few_1 q m (headers_of p g) few)).rest
-        (ap (λ k. flat_map (λ (bytes : List ℕ). drop 24 bytes) (map at (range_with_len k m))) (turn (group_address p g) q)
-          ∙ joined_bits (suc q) m (few_2 q m (headers_of p g) few) ∙ ap (λ n. bitmap p g n (m * (p.size - 24))) (next q (p.size - 128) (p.size - 24)))
+      (ap (λ k. flat_map (λ (bytes : List ℕ). drop 24 bytes) (map at (range_with_len k m))) (turn (group_address p g) q)
+      ∙ joined_bits (suc q) m (few_2 q m (headers_of p g) few) ∙ ap (λ n. bitmap p g n (m * (p.size - 24))) (next q (p.size - 128) (p.size - 24)))
       ∙ bitmap_append p g (p.size - 128 + q * (p.size - 24)) (p.size - 24) (m * (p.size - 24))
       ∙ ap (bitmap p g (p.size - 128 + q * (p.size - 24))) (more m (p.size - 24))
     where
@@ -229,8 +227,8 @@ module _ (p : Plan) (fit : IsFitting p) (stamped : IsStamped p) (at : Blocks) (m
   bits_are =
       ap (λ n. bitmap_of (map at (range_with_len (group_address p g) n))) (one_more (headers_of p g) (omega arith))
       ∙ ap₂ (λ (a b : List ℕ). a ++ b) first_at.rest
-        (ap (λ k. flat_map (λ (bytes : List ℕ). drop 24 bytes) (map at (range_with_len k (headers_of p g - 1)))) (turn (group_address p g))
-          ∙ joined_bits 0 (headers_of p g - 1) (same (headers_of p g) (omega arith)) ∙ ap (λ n. bitmap p g n ((headers_of p g - 1) * (p.size - 24))) (zero_more (p.size - 128) (p.size - 24)))
+      (ap (λ k. flat_map (λ (bytes : List ℕ). drop 24 bytes) (map at (range_with_len k (headers_of p g - 1)))) (turn (group_address p g))
+      ∙ joined_bits 0 (headers_of p g - 1) (same (headers_of p g) (omega arith)) ∙ ap (λ n. bitmap p g n ((headers_of p g - 1) * (p.size - 24))) (zero_more (p.size - 128) (p.size - 24)))
       ∙ bitmap_append p g 0 (p.size - 128) ((headers_of p g - 1) * (p.size - 24))
     where
       one_more : (n : ℕ) → 1 ≤ n → n ≡ suc (n - 1)

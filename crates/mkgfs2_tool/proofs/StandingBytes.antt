@@ -1,10 +1,10 @@
 -- What is read of bytes that were put.
-use Rattle.std.proofs.Common.{ℕ, zero, suc, ◌≡◌, ◌+◌, ◌-◌, ◌*◌, ◌^◌, ◌<◌, ◌≤◌, ◌⊎◌, inl, inr, Bool, true, false, List, [], ◌∷◌, ◌++◌, length, take, drop, replicate, get_or, Option, None, Some, Result, Ok, Err, refl, sym, ap, ◌∙◌, subst, arith, length-append, length-drop, append_assoc, append-nil}
-use Rattle.std.specs.Prelude.{◌==◌, nat_lt, not, if◌then◌else◌}
+use Rattle.std.proofs.Common.{ℕ, zero, suc, ◌≡◌, ◌+◌, ◌-◌, ◌*◌, ◌^◌, ◌<◌, ◌≤◌, inl, inr, List, [], ◌∷◌, ◌++◌, length, take, drop, replicate, get_or, Option, None, Some, Ok, refl, sym, ap, ◌∙◌, arith, length-append, length-drop, append_assoc, append-nil}
+use Rattle.std.specs.Prelude.{◌==◌, nat_lt, not}
 use Rattle.std.specs.List.{flat_map, range_with_len}
-use Rattle.std.specs.Int.{Width, w32, w64, byte_len, to_be_bytes, from_be_bytes}
+use Rattle.std.specs.Int.{w32, w64, to_be_bytes, from_be_bytes}
 use Rattle.std.proofs.lemmas.Bool.{cases_lt, cases_Bool, cond-true, cond-false, eqb-true}
-use Rattle.std.proofs.lemmas.List.{take_at, drop_at, take_all, take-append-drop, drop-drop, drop_all, take-append-le, length-take-le, length-replicate, drop-replicate, take-replicate}
+use Rattle.std.proofs.lemmas.List.{take_at, drop_at, take_all, take-append-drop, drop-drop, drop_all, length-take-le, drop-replicate, take-replicate}
 use Rattle.std.proofs.Math.Seq.{take-append-add}
 use Rattle.std.proofs.Math.Nat.{suc-mul}
 use Rattle.gfs2_layout.specs.Bytes.{slice, put_at, number_at, u32_at, u64_at}
@@ -12,7 +12,7 @@ use Rattle.gfs2_layout.specs.Structures.{answer, or_else, length_fault, magic_fa
 use Rattle.gfs2_layout.specs.declared.header.MetaHeader.{MetaHeader}
 use Rattle.gfs2_layout.specs.declared.fault.LayoutFault.{LayoutFault}
 use Rattle.gfs2_layout.specs.declared.fault.LayoutFault.TheVariants.{Short, Magic, Kind, Format}
-use Rattle.gfs2_layout.proofs.InPlace.{is_width_64, length-put}
+use Rattle.gfs2_layout.proofs.InPlace.{is_width_64}
 use Rattle.gfs2_layout.proofs.Places.{number_front}
 use Rattle.image_model.specs.Headers.{HasHeader}
 
@@ -35,10 +35,10 @@ header_from needed kind format bytes e = elim (cases_Bool (nat_lt (length bytes)
       | inl b ↦ elim (cases_Bool (u32_at 16 bytes == format)) [
         | inr off ↦ absurd (some_none (Format (u32_at 16 bytes)) (sym (cond-false _ _ _ long ∙ cond-false _ _ _ (ap not a) ∙ cond-false _ _ _ (ap not b) ∙ cond-true _ _ _ (ap not off)) ∙ e))
         | inl c ↦ record {
-            magic_is = eqb-true (u32_at 0 bytes) magic a;
-            kind_is = eqb-true (u32_at 4 bytes) kind b;
-            format_is = eqb-true (u32_at 16 bytes) format c;
-          }
+          magic_is = eqb-true (u32_at 0 bytes) magic a;
+          kind_is = eqb-true (u32_at 4 bytes) kind b;
+          format_is = eqb-true (u32_at 16 bytes) format c;
+        }
       ]
     ]
   ]
@@ -114,7 +114,7 @@ unfolding number_at
 read_zeros front m at far inside =
     ap (λ n. from_be_bytes w64 (slice n 8 (front ++ replicate m 0))) (let e : at ≡ length front + (at - length front) = omega (arith, far) in e)
     ∙ ap (from_be_bytes w64) (slice_behind front (replicate m 0) (at - length front) 8 (length front) refl
-      ∙ ap (take 8) (drop-replicate (at - length front) m 0) ∙ take-replicate 8 (m - (at - length front)) 0 (omega (arith, far, inside)))
+    ∙ ap (take 8) (drop-replicate (at - length front) m 0) ∙ take-replicate 8 (m - (at - length front)) 0 (omega (arith, far, inside)))
 
 pub u64_behind : (start at : ℕ) (bytes : List ℕ) → u64_at (start + at) bytes ≡ u64_at at (drop start bytes)
 unfolding number_at
@@ -145,15 +145,15 @@ filled size bytes = bytes ++ replicate (size - length bytes) 0
 join_piece : (size n : ℕ) (here later : List ℕ) → n ≡ length here → take (n - size) later ≡ drop size here → take n (filled size (take size here) ++ later) ≡ here
 join_piece size n here later is rest = elim (cases_lt size n) [
   | inr le ↦
-    ap (λ (t : List ℕ). take n (filled size t ++ later)) (take_all size here (omega (arith, le, is)))
-    ∙ ap (take n) (append_assoc here (replicate (size - length here) 0) later)
-    ∙ take_at here (replicate (size - length here) 0 ++ later) n (sym is)
+      ap (λ (t : List ℕ). take n (filled size t ++ later)) (take_all size here (omega (arith, le, is)))
+      ∙ ap (take n) (append_assoc here (replicate (size - length here) 0) later)
+      ∙ take_at here (replicate (size - length here) 0 ++ later) n (sym is)
   | inl less ↦
-    let long : length (take size here) ≡ size = length-take-le size here (omega (arith, less, is)) in
-    ap (λ (t : List ℕ). take n (t ++ later)) (ap (λ m. take size here ++ replicate (size - m) 0) long ∙ ap (λ m. take size here ++ replicate m 0) (none size) ∙ append-nil (take size here))
-    ∙ ap (λ m. take m (take size here ++ later)) (let e : n ≡ length (take size here) + (n - size) = omega (arith, long, less) in e)
-    ∙ take-append-add (take size here) later (n - size)
-    ∙ ap (λ (t : List ℕ). take size here ++ t) rest ∙ take-append-drop size here
+      let long : length (take size here) ≡ size = length-take-le size here (omega (arith, less, is)) in
+      ap (λ (t : List ℕ). take n (t ++ later)) (ap (λ m. take size here ++ replicate (size - m) 0) long ∙ ap (λ m. take size here ++ replicate m 0) (none size) ∙ append-nil (take size here))
+      ∙ ap (λ m. take m (take size here ++ later)) (let e : n ≡ length (take size here) + (n - size) = omega (arith, long, less) in e)
+      ∙ take-append-add (take size here) later (n - size)
+      ∙ ap (λ (t : List ℕ). take size here ++ t) rest ∙ take-append-drop size here
 ]
   where
     none : (n : ℕ) → n - n ≡ 0
@@ -166,9 +166,9 @@ joined_again size bytes k zero all =
     ∙ sym (drop_all (k * size) bytes (omega (arith, all, ap (λ m. m * size) (let s : k + 0 ≡ k = omega arith in s))))
 joined_again size bytes k (suc c) all =
     join_piece size (length bytes - k * size) (drop (k * size) bytes) (flat_map (λ i. filled size (slice (i * size) size bytes)) (range_with_len (k + 1) c)) (sym (length-drop (k * size) bytes))
-        (ap (λ n. take n (flat_map (λ i. filled size (slice (i * size) size bytes)) (range_with_len (k + 1) c))) (let e : length bytes - k * size - size ≡ length bytes - (k + 1) * size = omega (arith, next) in e)
-          ∙ joined_again size bytes (k + 1) c (omega (arith, all, ap (λ m. m * size) (let s : k + suc c ≡ k + 1 + c = omega arith in s)))
-          ∙ ap (λ n. drop n bytes) next ∙ sym (drop-drop size (k * size) bytes))
+    (ap (λ n. take n (flat_map (λ i. filled size (slice (i * size) size bytes)) (range_with_len (k + 1) c))) (let e : length bytes - k * size - size ≡ length bytes - (k + 1) * size = omega (arith, next) in e)
+    ∙ joined_again size bytes (k + 1) c (omega (arith, all, ap (λ m. m * size) (let s : k + suc c ≡ k + 1 + c = omega arith in s)))
+    ∙ ap (λ n. drop n bytes) next ∙ sym (drop-drop size (k * size) bytes))
   where
     next : (k + 1) * size ≡ k * size + size
     next = add-one-mul k size

@@ -1,8 +1,8 @@
 -- How many numbers pass a test.
-use Rattle.std.proofs.Common.{ℕ, zero, suc, ◌≡◌, ◌+◌, ◌<◌, ◌≤◌, inl, inr, Bool, true, false, List, [], ◌∷◌, refl, sym, ap, ◌∙◌, subst, arith, cond}
+use Rattle.std.proofs.Common.{ℕ, zero, suc, ◌≡◌, ◌+◌, ◌<◌, inl, inr, Bool, true, false, List, [], ◌∷◌, refl, sym, ap, ◌∙◌, subst, arith}
 use Rattle.std.specs.Prelude.{◌==◌, ◌&&◌, not, count_by}
-use Rattle.std.specs.List.{range_with_len, sum_by}
-use Rattle.std.proofs.lemmas.Bool.{cases_eq, cases_Bool, cond-true, cond-false, eq-eqb, ne_eqb, true≢false, false_from_ne_true}
+use Rattle.std.specs.List.{range_with_len}
+use Rattle.std.proofs.lemmas.Bool.{cases_eq, cond-false, eq-eqb, ne_eqb, true≢false, false_from_ne_true}
 use Rattle.std.proofs.lemmas.List.Sums.{sum_by-cons}
 use Rattle.image_model.proofs.Rising.{one_if, count_split, one_there}
 
@@ -25,8 +25,8 @@ count_images zero total f test low apart passes only = count_none test (range_wi
 count_images (suc m) total f test low apart passes only =
     count_split test (λ b. b == f m) (λ b. test b && not (b == f m)) (range_with_len 0 total) split
     ∙ both (count_by (λ b. b == f m) (range_with_len 0 total)) (count_by (λ b. test b && not (b == f m)) (range_with_len 0 total))
-      (one_there (f m) 0 total (omega arith) (omega (arith, low m (omega arith))))
-      (count_images m total f (λ b. test b && not (b == f m)) (λ n less. low n (omega (arith, less))) (λ n k l l' e. apart n k (omega (arith, l)) (omega (arith, l')) e) passes' only')
+    (one_there (f m) 0 total (omega arith) (omega (arith, low m (omega arith))))
+    (count_images m total f (λ b. test b && not (b == f m)) (λ n less. low n (omega (arith, less))) (λ n k l l' e. apart n k (omega (arith, l)) (omega (arith, l')) e) passes' only')
   where
     both : (a b : ℕ) → a ≡ 1 → b ≡ m → a + b ≡ suc m
     both a b e g = omega (arith, e, g)

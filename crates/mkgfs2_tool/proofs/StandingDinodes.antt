@@ -1,9 +1,9 @@
 -- The dinode's block of a new inode, read back.
-use Rattle.std.proofs.Common.{ℕ, ◌≡◌, ◌+◌, ◌-◌, ◌^◌, ◌<◌, ◌≤◌, List, length, take, drop, replicate, ◌++◌, None, Ok, refl, sym, ap, ◌∙◌, subst, arith}
+use Rattle.std.proofs.Common.{ℕ, ◌≡◌, ◌+◌, ◌-◌, ◌^◌, ◌<◌, ◌≤◌, List, length, take, drop, replicate, ◌++◌, ◌∙◌, arith}
 use Rattle.std.specs.List.{AllByRecursion}
 use Rattle.std.specs.Int.{Width, w16, w32, w64, byte_len}
 use Rattle.std.proofs.lemmas.List.{length-replicate, drop-replicate}
-use Rattle.gfs2_layout.specs.Bytes.{put_at, number_at}
+use Rattle.gfs2_layout.specs.Bytes.{put_at}
 use Rattle.gfs2_layout.specs.Fields.{HasItsWidth, with_fields}
 use Rattle.gfs2_layout.specs.Structures.{dinode_of, header_fault}
 use Rattle.gfs2_layout.specs.Writing.{dinode_fields, dinode_put}

@@ -1,19 +1,19 @@
 -- The directories of a new image are sound.
-use Rattle.std.proofs.Common.{ℕ, zero, suc, ◌≡◌, ◌≢◌, ◌+◌, ◌-◌, ◌*◌, ◌/◌, ◌^◌, ◌<◌, ◌≤◌, ◌⊎◌, inl, inr, Bool, true, false, List, [], ◌∷◌, ◌++◌, length, drop, replicate, map, Option, None, Some, codes, refl, sym, ap, ◌∙◌, subst, arith, append-nil}
-use Rattle.std.specs.Prelude.{◌%◌, ◌==◌, ◌&&◌, is_some, if◌then◌else◌}
+use Rattle.std.proofs.Common.{ℕ, zero, suc, ◌≡◌, ◌≢◌, ◌+◌, ◌-◌, ◌^◌, ◌<◌, ◌≤◌, inl, true, false, List, ◌++◌, length, drop, replicate, map, Some, sym, ap, ◌∙◌, subst, arith, append-nil}
+use Rattle.std.specs.Prelude.{◌&&◌, is_some}
 use Rattle.std.specs.List.{AllByRecursion, range_with_len}
 use Rattle.std.proofs.lemmas.Bool.{cond-true, cond-false, lt-ltb, true≢false}
 use Rattle.gfs2_layout.specs.Bytes.{put_at}
-use Rattle.gfs2_layout.specs.Structures.{dinode_of, is_directory, dinode_length}
+use Rattle.gfs2_layout.specs.Structures.{dinode_of, is_directory}
 use Rattle.gfs2_layout.specs.Writing.{dinode_put}
 use Rattle.gfs2_layout.specs.declared.dinode.Dinode.{Dinode}
 use Rattle.image_model.specs.Headers.{HasHeader}
-use Rattle.image_model.specs.Image.{Image, Blocks}
-use Rattle.image_model.specs.Inode.{dinode_in, height_in, has_hash_flag, is_directory_in, is_hashed_in, linear_area, records_of, HasTree, Fits, IsLinear, IsInode, block_count}
-use Rattle.image_model.specs.Owners.{Owner, Below, Holding, Part, Itself, Pointed, InChain, is_dinode, holding, bytes_at, part_at}
-use Rattle.image_model.specs.Records.{Record, records_in, IsRecordArea}
+use Rattle.image_model.specs.Image.{Blocks}
+use Rattle.image_model.specs.Inode.{dinode_in, height_in, has_hash_flag, is_directory_in, is_hashed_in, linear_area, records_of, IsInode, block_count}
+use Rattle.image_model.specs.Owners.{Holding, Part, Itself, Pointed, InChain, is_dinode, bytes_at, part_at}
+use Rattle.image_model.specs.Records.{records_in, IsRecordArea}
 use Rattle.image_model.proofs.Held.{own_part, itself_own, pointed_owner, chained_owner, block_same, own_block}
-use Rattle.mkgfs2_tool.specs.Groups.{super_block, all_data, data_address}
+use Rattle.mkgfs2_tool.specs.Groups.{super_block, data_address}
 use Rattle.mkgfs2_tool.specs.Files.{file_blocks}
 use Rattle.mkgfs2_tool.specs.Order.{master_place, root_place, group_list_place, journals_place, journal_place, group_list, taken, use_of}
 use Rattle.mkgfs2_tool.specs.Directories.{records, Fit, name_of as name_in, entry, journal_entry, master_entries, root_entries, journals_entries}
@@ -28,7 +28,7 @@ use Rattle.mkgfs2_tool.proofs.RecordLaws.{AreJournals, journals_first}
 use Rattle.mkgfs2_tool.proofs.StandingCounts.{count_images}
 use Rattle.mkgfs2_tool.proofs.StandingDinodes.{IsDinodeBlock, dinode_put_is, IsSmall, dinode_widths}
 use Rattle.mkgfs2_tool.proofs.StandingPlan.{apart_addresses, address_low, address_high, new_data}
-use Rattle.mkgfs2_tool.proofs.StandingOwners.{file_place, file_shape, spot, owner, file_some, file_taken, in_all, owner_master, owner_root, owner_journals, use_of_journals, some_taken, two_taken, journals_taken}
+use Rattle.mkgfs2_tool.proofs.StandingOwners.{file_place, spot, owner, file_some, file_taken, in_all, owner_master, owner_root, owner_journals, use_of_journals, some_taken, two_taken, journals_taken}
 use Rattle.mkgfs2_tool.proofs.StandingFiles.{large, size_few}
 use Rattle.mkgfs2_tool.proofs.StandingWhose.{not_chained, IsBelowOf, below_of}
 use Rattle.mkgfs2_tool.proofs.StandingInodes.{image, AreMade, held, below_1, cell_some, some_cell}
@@ -170,8 +170,8 @@ module _ (p : Plan) (fit : IsFitting p) (stamped : IsStamped p) (at : Blocks) (m
   blocks_counted : block_count h ≡ 1
   unfolding block_count
   blocks_counted = count_images 1 p.count (λ n. a) (λ b. is_some (h.cell b)) (λ n low. low_address) (λ n k low low' e. omega (arith, low, low'))
-    (λ n low. cell_some (h.cell a) Itself (own_part (image p at) (owner p) a is.own))
-    (λ b e. let c = some_cell (h.cell b) e in (0, omega arith, only_own b c.0 c.1))
+      (λ n low. cell_some (h.cell a) Itself (own_part (image p at) (owner p) a is.own))
+      (λ b e. let c = some_cell (h.cell b) e in (0, omega arith, only_own b c.0 c.1))
 
   pub dir_sound : IsInode h
   dir_sound = record {
@@ -259,9 +259,16 @@ module _ (p : Plan) (fit : IsFitting p) (stamped : IsStamped p) where
     block = used_at master_place (some_taken p);
     own = ap is_dinode (owner_master p fit);
     no_file = no_file_at master_place (some_taken p) none;
-    entries = (this_is 1 master_place (omega arith) (omega arith) (some_taken p), (parent_is 1 master_place (omega arith) (omega arith) (some_taken p),
-      (entry_is name.Jindex 4 (journals_place p) 4 (omega arith) (omega arith, (omega arith, (omega arith, (omega arith, (omega arith, (omega arith, tt)))))) (omega arith) (omega arith) (journals_taken p) (omega arith),
-      (entry_is name.Rindex 3 group_list_place 8 (omega arith) (omega arith, (omega arith, (omega arith, (omega arith, (omega arith, (omega arith, tt)))))) (omega arith) (omega arith) list_taken (omega arith), tt))));
+    entries = (
+      this_is 1 master_place (omega arith) (omega arith) (some_taken p),
+      (
+        parent_is 1 master_place (omega arith) (omega arith) (some_taken p),
+        (
+          entry_is name.Jindex 4 (journals_place p) 4 (omega arith) (omega arith, (omega arith, (omega arith, (omega arith, (omega arith, (omega arith, tt)))))) (omega arith) (omega arith) (journals_taken p) (omega arith),
+          (entry_is name.Rindex 3 group_list_place 8 (omega arith) (omega arith, (omega arith, (omega arith, (omega arith, (omega arith, (omega arith, tt)))))) (omega arith) (omega arith) list_taken (omega arith), tt),
+        ),
+      ),
+    );
     fit = fits (area_length p) (room p.size (large p fit stamped));
     some = λ e. absurd (omega (arith, e));
     number_low = omega arith;

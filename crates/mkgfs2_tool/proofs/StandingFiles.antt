@@ -1,15 +1,14 @@
 -- The blocks of the files of a new image: their dinodes, and where their pointers lead.
-use Rattle.std.proofs.Common.{ℕ, zero, suc, ◌≡◌, ◌+◌, ◌-◌, ◌*◌, ◌/◌, ◌^◌, ◌<◌, ◌≤◌, ◌⊎◌, inl, inr, Bool, true, false, min, List, ◌++◌, length, drop, replicate, get_or, refl, sym, ap, ◌∙◌, subst, arith, length-drop, length-append}
+use Rattle.std.proofs.Common.{ℕ, zero, suc, ◌≡◌, ◌+◌, ◌-◌, ◌*◌, ◌/◌, ◌^◌, ◌<◌, ◌≤◌, ◌⊎◌, inl, inr, Bool, true, false, min, List, ◌++◌, length, drop, replicate, refl, sym, ap, ◌∙◌, subst, arith}
 use Rattle.std.specs.Prelude.{◌==◌, if◌then◌else◌}
-use Rattle.std.specs.List.{AllByRecursion, range_with_len}
-use Rattle.std.proofs.lemmas.Bool.{cases_lt, cases_eq, cond-true, cond-false, eq-eqb, ne_eqb, lt-ltb, leb-true, leb-false}
+use Rattle.std.specs.List.{range_with_len}
+use Rattle.std.proofs.lemmas.Bool.{cases_lt, cases_eq, cond-true, cond-false, eq-eqb, ne_eqb, lt-ltb}
 use Rattle.std.proofs.lemmas.Bool.Decides.{nat_tests}
 use Rattle.std.proofs.lemmas.List.{length-replicate, drop-replicate}
 use Rattle.std.proofs.lemmas.List.FromFn.{length-range_with_len, get_or-range_with_len}
 use Rattle.std.proofs.Math.Nat.{mul-le-mul}
 use Rattle.gfs2_layout.specs.Bytes.{put_at, u64_at}
-use Rattle.gfs2_layout.specs.Fields.{HasItsWidth, with_fields}
-use Rattle.gfs2_layout.specs.Structures.{header_fault, length_fault, magic_fault, or_else, header_of}
+use Rattle.gfs2_layout.specs.Fields.{with_fields}
 use Rattle.gfs2_layout.specs.Writing.{header_fields, header_put, dinode_put, rindex_put, rindex_fields}
 use Rattle.gfs2_layout.specs.declared.dinode.Dinode.{Dinode}
 use Rattle.gfs2_layout.specs.declared.header.MetaHeader.{MetaHeader}
@@ -18,19 +17,17 @@ use Rattle.gfs2_layout.proofs.ReadBack.{header_back}
 use Rattle.gfs2_layout.proofs.InPlace.{length-put}
 use Rattle.image_model.specs.Headers.{HasHeader}
 use Rattle.image_model.specs.Inode.{span}
-use Rattle.mkgfs2_tool.specs.Groups.{all_data, data_address, parts}
+use Rattle.mkgfs2_tool.specs.Groups.{data_address, parts}
 use Rattle.mkgfs2_tool.specs.Files.{dinode_pointers, block_pointers, content_blocks, height, level_blocks, level_start, file_blocks, fan, children, part}
-use Rattle.mkgfs2_tool.specs.Order.{group_list, journal, journal_place, group_list_place, taken, use_of}
-use Rattle.mkgfs2_tool.specs.Blocks.{zeros, addresses, dinode, dinode_block, system_file, group_entry, group_entries, pointing_dinode, pointer_block, group_list_block, journal_block, used_block, data_block, new_block}
+use Rattle.mkgfs2_tool.specs.Order.{journal_place, group_list_place, taken}
+use Rattle.mkgfs2_tool.specs.Blocks.{zeros, addresses, dinode, dinode_block, system_file, group_entry, group_entries, pointing_dinode, pointer_block, group_list_block, journal_block, used_block, new_block}
 use Rattle.mkgfs2_tool.specs.Making.{IsFitting}
 use Rattle.mkgfs2_tool.specs.Standing.{IsStamped}
-use Rattle.mkgfs2_tool.specs.declared.files.Shape.{Shape}
-use Rattle.mkgfs2_tool.specs.declared.files.Part.{Part}
 use Rattle.mkgfs2_tool.specs.declared.files.Part.TheVariants.{Top, Pointers, Content}
 use Rattle.mkgfs2_tool.specs.declared.plan.Plan.{Plan}
 use Rattle.mkgfs2_tool.proofs.StandingBytes.{length_pieces, plain_header, spelled, read_spelled, read_zeros, u64_behind, length_spelled, header_front, take_put, behind_put}
 use Rattle.mkgfs2_tool.proofs.StandingDinodes.{IsDinodeBlock, dinode_put_is, IsSmall, dinode_widths}
-use Rattle.mkgfs2_tool.proofs.StandingShapes.{IsLow, IsBelow, part_below, part_here, inside_file, begins_level, level_begins, height_low, span_some, start_low}
+use Rattle.mkgfs2_tool.proofs.StandingShapes.{IsLow, IsBelow, part_here, inside_file, level_begins, height_low, span_some, start_low}
 use Rattle.mkgfs2_tool.proofs.StandingPlan.{new_data, address_low}
 use Rattle.mkgfs2_tool.proofs.StandingOwners.{file_place, file_shape, file_bytes, file_use, spot, file_taken, file_some, use_of_file, in_all}
 
@@ -84,15 +81,15 @@ has_pointers : (p : Plan) (i : ℕ) (bytes : List ℕ) (start fan first count le
     → ((k : ℕ) → k < count → spot p i (first + k) < 2 ^ 64) → HasPointers p i bytes start fan first count
 has_pointers p i bytes start fan first count least m is rest room low = record {
   there = λ k inside few.
-    u64_behind start (8 * k) bytes ∙ ap (u64_at (8 * k)) rest
-    ∙ read_spelled (spot p i) (range_with_len first least) (replicate m 0) k (omega (arith, length-range_with_len first least, is, inside, few))
-        (subst (λ n. spot p i n < 2 ^ 64) (sym (get_or-range_with_len first least k 0 (omega (arith, is, inside, few)))) (low k few))
-    ∙ ap (spot p i) (get_or-range_with_len first least k 0 (omega (arith, is, inside, few)));
+      u64_behind start (8 * k) bytes ∙ ap (u64_at (8 * k)) rest
+      ∙ read_spelled (spot p i) (range_with_len first least) (replicate m 0) k (omega (arith, length-range_with_len first least, is, inside, few))
+      (subst (λ n. spot p i n < 2 ^ 64) (sym (get_or-range_with_len first least k 0 (omega (arith, is, inside, few)))) (low k few))
+      ∙ ap (spot p i) (get_or-range_with_len first least k 0 (omega (arith, is, inside, few)));
   none = λ k inside far.
-    u64_behind start (8 * k) bytes ∙ ap (u64_at (8 * k)) rest
-    ∙ read_zeros (spelled (spot p i) (range_with_len first least)) m (8 * k)
-        (omega (arith, length_spelled (spot p i) (range_with_len first least), length-range_with_len first least, is, far))
-        (omega (arith, length_spelled (spot p i) (range_with_len first least), length-range_with_len first least, inside, room));
+      u64_behind start (8 * k) bytes ∙ ap (u64_at (8 * k)) rest
+      ∙ read_zeros (spelled (spot p i) (range_with_len first least)) m (8 * k)
+      (omega (arith, length_spelled (spot p i) (range_with_len first least), length-range_with_len first least, is, far))
+      (omega (arith, length_spelled (spot p i) (range_with_len first least), length-range_with_len first least, inside, room));
 }
 
 -- a block of pointers
@@ -213,7 +210,7 @@ module _ (p : Plan) (fit : IsFitting p) (stamped : IsStamped p) where
 
   pub length_entries : length (group_entries p) ≡ 96 * p.groups
   length_entries = length_pieces (λ g. rindex_put (group_entry p g) (replicate 96 0)) 96 (range_with_len 0 p.groups) (λ g. length-fields (rindex_fields (group_entry p g)) (replicate 96 0) (omega arith))
-    ∙ ap (λ n. n * 96) (length-range_with_len 0 p.groups) ∙ turn p.groups
+      ∙ ap (λ n. n * 96) (length-range_with_len 0 p.groups) ∙ turn p.groups
     where
       turn : (n : ℕ) → n * 96 ≡ 96 * n
       turn n = omega arith
@@ -286,7 +283,7 @@ module _ (p : Plan) (fit : IsFitting p) (stamped : IsStamped p) where
   file_dinode_is i ok =
       subst (IsDinodeBlock p.size (file_dinode p i) (file_behind p i)) (sym (file_block i 0 ok (file_some p i) ∙ top_block i))
       (dinode_put_is p.size (file_dinode p i) (file_behind p i) (behind_room i)
-        (dinode_widths p (file_number i) (file_place p i) (system_file (file_shape p i)) (number_low i ok) (near (file_place p i)) stamped.time (small i)))
+      (dinode_widths p (file_number i) (file_place p i) (system_file (file_shape p i)) (number_low i ok) (near (file_place p i)) stamped.time (small i)))
     where
       same : file_place p i + 0 ≡ file_place p i
       same = none (file_place p i)
@@ -302,9 +299,9 @@ module _ (p : Plan) (fit : IsFitting p) (stamped : IsStamped p) where
   pub top_pointers : (i : ℕ) → i ≤ p.journals → 1 ≤ height (file_shape p i) → HasPointers p i (new_block p (spot p i 0)) 232 (dinode_pointers p.size) 1 (level_blocks (file_shape p i) 1)
   top_pointers i ok high =
       has_pointers p i (new_block p (spot p i 0)) 232 (dinode_pointers p.size) 1 (level_blocks (file_shape p i) 1) (top_least i) (p.size - 232 - length (file_behind p i)) refl
-        ((file_dinode_is i ok).rest ∙ ap (λ (b : List ℕ). b ++ replicate (p.size - 232 - length (file_behind p i)) 0) (behind_high i high ∙ ap (spelled (spot p i)) (top_children i)))
-        (rest p.size (dinode_pointers p.size) (top_least i) (length (file_behind p i)) refl (ap length (behind_high i high) ∙ length_top i))
-        (λ k few. spot_small i (1 + k) ok (inside_file (file_shape p i) (file_low i) 1 k (record { some = omega arith; low = high; inside = few })))
+      ((file_dinode_is i ok).rest ∙ ap (λ (b : List ℕ). b ++ replicate (p.size - 232 - length (file_behind p i)) 0) (behind_high i high ∙ ap (spelled (spot p i)) (top_children i)))
+      (rest p.size (dinode_pointers p.size) (top_least i) (length (file_behind p i)) refl (ap length (behind_high i high) ∙ length_top i))
+      (λ k few. spot_small i (1 + k) ok (inside_file (file_shape p i) (file_low i) 1 k (record { some = omega arith; low = high; inside = few })))
     where
       rest : (s d n b : ℕ) → d ≡ (s - 232) / 8 → b ≡ 8 * n → 8 * d ≤ 8 * n + (s - 232 - b)
       rest s d n b is long = omega (arith, is, long)
@@ -359,9 +356,9 @@ module _ (p : Plan) (fit : IsFitting p) (stamped : IsStamped p) where
         long = long_header p.size part_bytes room;
         header = headed p.size part_bytes room;
         pointers = has_pointers p i (put_at 24 part_bytes (header_put pointer_header (zeros p))) 24 (block_pointers p.size) first count least (p.size - 24 - length part_bytes) refl
-          (behind_header p.size part_bytes room ∙ ap (λ (xs : List ℕ). spelled (spot p i) xs ++ replicate (p.size - 24 - length part_bytes) 0) are)
-          (rest_room p.size (block_pointers p.size) least (length part_bytes) refl long)
-          (λ k few. spot_small i (first + k) ok (inside k few));
+            (behind_header p.size part_bytes room ∙ ap (λ (xs : List ℕ). spelled (spot p i) xs ++ replicate (p.size - 24 - length part_bytes) 0) are)
+            (rest_room p.size (block_pointers p.size) least (length part_bytes) refl long)
+            (λ k few. spot_small i (first + k) ok (inside k few));
       }
 
   pub inner_block : (i l x : ℕ) → i ≤ p.journals → IsBelow (file_shape p i) l x → l < height (file_shape p i)
@@ -369,8 +366,8 @@ module _ (p : Plan) (fit : IsFitting p) (stamped : IsStamped p) where
   inner_block i l x ok at high =
       subst (λ (b : List ℕ). IsPointerBlock p i b (level_start (file_shape p i) (suc l) + x * block_pointers p.size) (level_blocks (file_shape p i) (suc l) - x * block_pointers p.size)) (sym (inner_is i l x ok at high))
       (row i l x (level_start (file_shape p i) (suc l) + x * block_pointers p.size) (level_blocks (file_shape p i) (suc l) - x * block_pointers p.size) ok (inner_children i l x at.some)
-        (λ k few. subst (λ n. n < file_blocks (file_shape p i)) (turn (level_start (file_shape p i) (suc l)) (x * block_pointers p.size) k)
-          (inside_file (file_shape p i) (file_low i) (suc l) (x * block_pointers p.size + k) (record { some = omega arith; low = high; inside = child (x * block_pointers p.size) k (level_blocks (file_shape p i) (suc l)) few }))))
+      (λ k few. subst (λ n. n < file_blocks (file_shape p i)) (turn (level_start (file_shape p i) (suc l)) (x * block_pointers p.size) k)
+      (inside_file (file_shape p i) (file_low i) (suc l) (x * block_pointers p.size + k) (record { some = omega arith; low = high; inside = child (x * block_pointers p.size) k (level_blocks (file_shape p i) (suc l)) few }))))
 
   -- ---- the content of a file
 

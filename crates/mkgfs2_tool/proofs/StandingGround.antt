@@ -1,8 +1,8 @@
 -- Where the blocks of groups lie, over plain numbers.
-use Rattle.std.proofs.Common.{ℕ, zero, suc, ◌≡◌, ◌+◌, ◌-◌, ◌*◌, ◌/◌, ◌<◌, ◌≤◌, ◌⊎◌, inl, inr, min, refl, sym, ap, ◌∙◌, subst, arith}
+use Rattle.std.proofs.Common.{ℕ, ◌≡◌, ◌+◌, ◌-◌, ◌*◌, ◌/◌, ◌<◌, ◌≤◌, inl, inr, min, sym, ap, ◌∙◌, subst, arith}
 use Rattle.std.specs.Prelude.{◌%◌}
 use Rattle.std.proofs.lemmas.Bool.{cases_lt}
-use Rattle.std.proofs.lemmas.Nat.{div-mul-add, le-div, div_below, row_fits, div-add-mod', mod_below}
+use Rattle.std.proofs.lemmas.Nat.{div-mul-add, le-div, row_fits, div-add-mod', mod_below}
 
 -- the last block before the groups, the count, the share of a group, the last group, and of each group its blocks, its headers and its data blocks
 pub record Ground : Type 0 where
@@ -80,7 +80,7 @@ module _ (G : Ground) (is : IsGround G) where
   group_at_room g r ok low = elim (cases_lt g G.last) [
     | inl l ↦ within (G.rooms 0) g r G.last (omega (arith, is.even g l, low)) ok
     | inr ge ↦ let e : g ≡ G.last = omega (arith, ge, ok) in
-      subst (λ n. min ((n * G.rooms 0 + r) / G.rooms 0) G.last ≡ n) (sym e) (beyond (G.rooms 0) r G.last (omega (arith, is.some 0 (omega arith))))
+        subst (λ n. min ((n * G.rooms 0 + r) / G.rooms 0) G.last ≡ n) (sym e) (beyond (G.rooms 0) r G.last (omega (arith, is.some 0 (omega arith))))
   ]
 
   pub address_at_room : (g r : ℕ) → g ≤ G.last → r < G.rooms g → address G (before G g + r) ≡ behind G g + r
@@ -92,30 +92,30 @@ module _ (G : Ground) (is : IsGround G) where
   over_at g n ok low =
       let same : start G g + n - G.edge - 1 ≡ g * G.share + n = omega arith in
       ap (λ m. min (m / G.share) G.last) same ∙ elim (cases_lt g G.last) [
-    | inl l ↦ within G.share g n G.last (omega (arith, is.inner g l, low)) ok
-    | inr ge ↦ let e : g ≡ G.last = omega (arith, ge, ok) in
-      subst (λ m. min ((m * G.share + n) / G.share) G.last ≡ m) (sym e) (beyond G.share n G.last is.share)
-  ]
+        | inl l ↦ within G.share g n G.last (omega (arith, is.inner g l, low)) ok
+        | inr ge ↦ let e : g ≡ G.last = omega (arith, ge, ok) in
+            subst (λ m. min ((m * G.share + n) / G.share) G.last ≡ m) (sym e) (beyond G.share n G.last is.share)
+      ]
 
   -- each place among the data blocks is one of a group
   pub room : (k : ℕ) → k < all G → IsRoom G k
   room k low = elim (cases_lt (k / G.rooms 0) G.last) [
     | inl l ↦ record {
-        group = k / G.rooms 0;
-        offset = k % G.rooms 0;
-        listed = omega (arith, l);
-        inside = subst (λ n. k % G.rooms 0 < n) (sym (is.even (k / G.rooms 0) l)) (mod_below k (G.rooms 0) some);
-        is = sym (div-add-mod' k (G.rooms 0));
-      }
+      group = k / G.rooms 0;
+      offset = k % G.rooms 0;
+      listed = omega (arith, l);
+      inside = subst (λ n. k % G.rooms 0 < n) (sym (is.even (k / G.rooms 0) l)) (mod_below k (G.rooms 0) some);
+      is = sym (div-add-mod' k (G.rooms 0));
+    }
     | inr ge ↦
-      let far : G.last * G.rooms 0 ≤ k = omega (arith, row_le G.last (k / G.rooms 0) (G.rooms 0) ge, div-add-mod' k (G.rooms 0)) in
-      record {
-        group = G.last;
-        offset = k - G.last * G.rooms 0;
-        listed = omega arith;
-        inside = omega (arith, low, far);
-        is = omega (arith, far);
-      }
+        let far : G.last * G.rooms 0 ≤ k = omega (arith, row_le G.last (k / G.rooms 0) (G.rooms 0) ge, div-add-mod' k (G.rooms 0)) in
+        record {
+          group = G.last;
+          offset = k - G.last * G.rooms 0;
+          listed = omega arith;
+          inside = omega (arith, low, far);
+          is = omega (arith, far);
+        }
   ]
     where
       some : 0 < G.rooms 0
@@ -125,21 +125,21 @@ module _ (G : Ground) (is : IsGround G) where
   over_by : (b m : ℕ) → G.edge + 1 + m ≡ b → b < G.total → IsOver G b
   over_by b m low high = elim (cases_lt (m / G.share) G.last) [
     | inl l ↦ record {
-        group = m / G.share;
-        offset = m % G.share;
-        listed = omega (arith, l);
-        inside = subst (λ n. m % G.share < n) (sym (is.inner (m / G.share) l)) (mod_below m G.share is.share);
-        is = omega (arith, div-add-mod' m G.share, low);
-      }
+      group = m / G.share;
+      offset = m % G.share;
+      listed = omega (arith, l);
+      inside = subst (λ n. m % G.share < n) (sym (is.inner (m / G.share) l)) (mod_below m G.share is.share);
+      is = omega (arith, div-add-mod' m G.share, low);
+    }
     | inr ge ↦
-      let far : G.last * G.share ≤ m = omega (arith, row_le G.last (m / G.share) G.share ge, div-add-mod' m G.share) in
-      record {
-        group = G.last;
-        offset = m - G.last * G.share;
-        listed = omega arith;
-        inside = omega (arith, far, low, high, is.final);
-        is = omega (arith, far, low);
-      }
+        let far : G.last * G.share ≤ m = omega (arith, row_le G.last (m / G.share) G.share ge, div-add-mod' m G.share) in
+        record {
+          group = G.last;
+          offset = m - G.last * G.share;
+          listed = omega arith;
+          inside = omega (arith, far, low, high, is.final);
+          is = omega (arith, far, low);
+        }
   ]
 
   pub block_over : (b : ℕ) → G.edge < b → b < G.total → IsOver G b

@@ -1,8 +1,8 @@
 -- Each group of a new image has the bits and the counts that its blocks' owners ask for.
-use Rattle.std.proofs.Common.{ℕ, zero, suc, ◌≡◌, ◌≢◌, ◌+◌, ◌-◌, ◌*◌, ◌/◌, ◌^◌, ◌<◌, ◌≤◌, ◌⊎◌, inl, inr, Bool, true, false, List, [], ◌∷◌, length, map, refl, sym, ap, ◌∙◌, subst, arith}
-use Rattle.std.specs.Prelude.{◌==◌, nat_lt, if◌then◌else◌, count_by, slice_index_or}
+use Rattle.std.proofs.Common.{ℕ, zero, suc, ◌≡◌, ◌+◌, ◌-◌, ◌*◌, ◌/◌, ◌<◌, ◌≤◌, inl, inr, List, [], ◌∷◌, map, refl, sym, ap, ◌∙◌, subst, arith}
+use Rattle.std.specs.Prelude.{if◌then◌else◌, slice_index_or}
 use Rattle.std.specs.List.{AllByRecursion, range_with_len}
-use Rattle.std.proofs.lemmas.Bool.{cases_lt, cases_eq, cond-true, cond-false, eq-eqb, lt-ltb, le-ltb}
+use Rattle.std.proofs.lemmas.Bool.{cases_lt, cond-true, lt-ltb}
 use Rattle.std.proofs.lemmas.List.FromFn.{get_or-map-range_with_len}
 use Rattle.gfs2_layout.specs.Bitmap.{state_at}
 use Rattle.gfs2_layout.specs.Fields.{HasItsWidth}
@@ -10,28 +10,23 @@ use Rattle.gfs2_layout.specs.Structures.{group_of}
 use Rattle.gfs2_layout.specs.Writing.{group_fields}
 use Rattle.gfs2_layout.specs.declared.group_header.GroupHeader.{GroupHeader}
 use Rattle.gfs2_layout.specs.declared.rindex.Rindex.{Rindex}
-use Rattle.image_model.specs.Groups.{group_blocks, bitmap_of, group_header, states_in, state_of, states_of, count_of, IsGroup, IsListed, bitmap_room}
+use Rattle.image_model.specs.Groups.{group_blocks, bitmap_of, group_header, states_in, state_of, states_of, count_of, IsGroup, IsListed}
 use Rattle.image_model.specs.Headers.{HasHeader}
 use Rattle.image_model.specs.Image.{Blocks}
-use Rattle.image_model.specs.Owners.{Owner, Free}
 use Rattle.mkgfs2_tool.specs.Groups.{last_group, group_address, group_blocks as blocks_of, headers_of, first_data, data_blocks, data_before}
-use Rattle.mkgfs2_tool.specs.Files.{height}
-use Rattle.mkgfs2_tool.specs.Order.{taken, use_of, dinode_places}
-use Rattle.mkgfs2_tool.specs.Blocks.{is_dinode, is_within, state, state_in, bitmap, free_blocks, dinode_blocks, group_entry, group_header as new_header}
+use Rattle.mkgfs2_tool.specs.Order.{taken, use_of}
+use Rattle.mkgfs2_tool.specs.Blocks.{is_dinode, state, free_blocks, dinode_blocks, group_entry, group_header as new_header}
 use Rattle.mkgfs2_tool.specs.Making.{IsFitting}
 use Rattle.mkgfs2_tool.specs.Standing.{IsStamped, new_layout}
-use Rattle.mkgfs2_tool.specs.declared.files.Part.{Part}
 use Rattle.mkgfs2_tool.specs.declared.files.Part.TheVariants.{Top, Pointers, Content}
 use Rattle.mkgfs2_tool.specs.declared.order.Use.{Use}
 use Rattle.mkgfs2_tool.specs.declared.order.Use.TheVariants as use_is
 use Rattle.mkgfs2_tool.specs.declared.plan.Plan.{Plan}
-use Rattle.mkgfs2_tool.proofs.StandingPlan.{ground, ground_is}
-use Rattle.mkgfs2_tool.proofs.StandingGround.{group_ends}
 use Rattle.mkgfs2_tool.proofs.StandingOwners.{use_owner, owner, owner_room, owner_free}
 use Rattle.mkgfs2_tool.proofs.StandingInodes.{AreMade}
 use Rattle.mkgfs2_tool.proofs.StandingList.{AreSmall, small_group}
 use Rattle.mkgfs2_tool.proofs.StandingZones.{IsGroupOf, listed, bits_fit}
-use Rattle.mkgfs2_tool.proofs.StandingBits.{state_low, bitmap_state, IsFirst, IsFurther, first_at, further_at, bits_are}
+use Rattle.mkgfs2_tool.proofs.StandingBits.{bitmap_state, first_at, further_at, bits_are}
 use Rattle.mkgfs2_tool.proofs.StandingTallies.{state_free, state_used, free_counted, dinodes_counted, few_dinodes}
 
 map_shift : {X : Type 0} (f g : ℕ → X) (a b n : ℕ) → ((i : ℕ) → i < n → f (a + i) ≡ g (b + i)) → map f (range_with_len a n) ≡ map g (range_with_len b n)
@@ -73,7 +68,7 @@ module _ (p : Plan) (fit : IsFitting p) (stamped : IsStamped p) (at : Blocks) (m
 
       from : AreSmall (group_address p g) (headers_of p g) (first_data p g) (data_blocks p g) → AllByRecursion HasItsWidth (group_fields (new_header p g))
       from small = group_widths (headers_of p g) (data_blocks p g) (free_blocks p g) (dinode_blocks p g) (4 + p.journals) (first_data p g) small.length small.data_blocks (less (data_blocks p g) (taken p - data_before p g))
-        (few_dinodes p fit stamped (data_before p g) (data_blocks p g)) (few p.journals fit.plan.journals) small.data0
+          (few_dinodes p fit stamped (data_before p g) (data_blocks p g)) (few p.journals fit.plan.journals) small.data0
 
   module _ (g : ℕ) (ok : g ≤ last_group p) where
     abbrev blocks : List (List ℕ)

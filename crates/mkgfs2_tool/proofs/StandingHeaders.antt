@@ -1,18 +1,18 @@
 -- How many blocks of header and bitmap the groups of a new image have.
-use Rattle.std.proofs.Common.{ℕ, zero, suc, ◌≡◌, ◌+◌, ◌-◌, ◌*◌, ◌/◌, ◌<◌, ◌≤◌, ◌⊎◌, inl, inr, List, map, refl, sym, ap, ◌∙◌, subst, arith}
+use Rattle.std.proofs.Common.{ℕ, zero, suc, ◌≡◌, ◌+◌, ◌-◌, ◌*◌, ◌/◌, ◌<◌, ◌≤◌, ◌⊎◌, inl, inr, map, refl, sym, ap, ◌∙◌, subst, arith}
 use Rattle.std.specs.Prelude.{◌%◌}
 use Rattle.std.specs.List.{range_with_len, sum_by}
-use Rattle.std.proofs.lemmas.Bool.{cases_lt, cases_eq}
+use Rattle.std.proofs.lemmas.Bool.{cases_lt}
 use Rattle.std.proofs.lemmas.List.FromFn.{sum_by-map-range_with_len_more}
 use Rattle.std.proofs.lemmas.Nat.{div-add-mod', mod_below}
-use Rattle.std.proofs.Math.Nat.{mul-le-mul_right, mul-le-mul_left, mul-add, mul_left_comm, mul-suc, suc-mul}
+use Rattle.std.proofs.Math.Nat.{mul-le-mul_right, mul-le-mul_left, mul-add, mul_left_comm, suc-mul}
 use Rattle.gfs2_layout.specs.declared.rindex.Rindex.{Rindex}
 use Rattle.image_model.specs.Profile.{group_length}
-use Rattle.mkgfs2_tool.specs.Groups.{super_block, share, last_group, group_address, group_blocks, header_blocks, headers_of}
+use Rattle.mkgfs2_tool.specs.Groups.{super_block, share, last_group, group_blocks, header_blocks, headers_of}
 use Rattle.mkgfs2_tool.specs.Blocks.{group_entry}
 use Rattle.mkgfs2_tool.specs.Making.{IsFitting}
 use Rattle.mkgfs2_tool.specs.declared.plan.Plan.{Plan}
-use Rattle.mkgfs2_tool.proofs.StandingPlan.{ground, ground_is, blocks_inner}
+use Rattle.mkgfs2_tool.proofs.StandingPlan.{ground_is, blocks_inner}
 
 -- ---- over plain numbers: of so many groups and one more, each but the last of as many blocks as the others
 
@@ -139,8 +139,8 @@ module _ (p : Plan) (fit : IsFitting p) where
   pub few_group_blocks : group_length (map (group_entry p) (range_with_len 0 p.groups)) ≤ 128
   few_group_blocks = subst (λ n. n ≤ 128) (sym all_sum)
       (few_headers p.size (last_group p) (share p) (group_blocks p (last_group p)) fit.plan.size (few p.groups fit.plan.groups)
-        (through (super_block p + 1 + last_group p * share p + group_blocks p (last_group p)) p.count (ground_is p fit).final fit.count)
-        (left_over (super_block p) p.count p.groups (last_group p) (group_blocks p (last_group p)) (share p) (back p.groups fit.plan.some_groups) (ground_is p fit).final refl))
+      (through (super_block p + 1 + last_group p * share p + group_blocks p (last_group p)) p.count (ground_is p fit).final fit.count)
+      (left_over (super_block p) p.count p.groups (last_group p) (group_blocks p (last_group p)) (share p) (back p.groups fit.plan.some_groups) (ground_is p fit).final refl))
     where
       few : (n : ℕ) → n ≤ 64 → n - 1 ≤ 63
       few n le = omega (arith, le)

@@ -1,7 +1,7 @@
 -- The files of a new image are sound.
-use Rattle.std.proofs.Common.{ℕ, zero, suc, ◌≡◌, ◌≢◌, ◌+◌, ◌-◌, ◌*◌, ◌/◌, ◌<◌, ◌≤◌, ◌⊎◌, inl, inr, Bool, true, false, List, length, Option, None, Some, refl, sym, ap, ◌∙◌, subst, arith}
-use Rattle.std.specs.Prelude.{◌%◌, ◌==◌, ◌&&◌, is_some, if◌then◌else◌}
-use Rattle.std.proofs.lemmas.Bool.{cases_lt, cases_eq, cond-true, cond-false, eq-eqb, leb-true, true≢false}
+use Rattle.std.proofs.Common.{ℕ, zero, suc, ◌≡◌, ◌+◌, ◌-◌, ◌*◌, ◌/◌, ◌<◌, ◌≤◌, inl, inr, true, false, length, Option, None, Some, refl, sym, ap, ◌∙◌, subst, arith}
+use Rattle.std.specs.Prelude.{◌%◌, ◌&&◌, is_some}
+use Rattle.std.proofs.lemmas.Bool.{cases_lt, cond-false, true≢false}
 use Rattle.std.proofs.lemmas.Bool.Decides.{nat_tests}
 use Rattle.std.proofs.lemmas.Nat.{div-mul-add, mod-mul-add, div-add-mod', mod_below}
 use Rattle.gfs2_layout.specs.Bytes.{u64_at}
@@ -9,8 +9,8 @@ use Rattle.gfs2_layout.specs.Structures.{dinode_of, is_directory, is_regular, di
 use Rattle.gfs2_layout.specs.declared.dinode.Dinode.{Dinode}
 use Rattle.image_model.specs.Headers.{HasHeader}
 use Rattle.image_model.specs.Image.{Image, Blocks}
-use Rattle.image_model.specs.Inode.{dinode_in, height_in, has_hash_flag, is_directory_in, is_hashed_in, header_length, fan, pointer, span, unit, pieces, content_count, EachPointer, IsChild, IsPointed, by_dinode, by_block, HasTree, Fits, IsInode, block_count}
-use Rattle.image_model.specs.Owners.{Owner, Below, Holding, Cell, Part, Itself, Pointed, InChain, is_dinode, holding, cell_part, bytes_at, part_at}
+use Rattle.image_model.specs.Inode.{dinode_in, height_in, has_hash_flag, is_directory_in, is_hashed_in, header_length, span, unit, pieces, content_count, EachPointer, IsChild, IsPointed, by_dinode, by_block, HasTree, Fits, IsInode, block_count}
+use Rattle.image_model.specs.Owners.{Below, Holding, Cell, Part, Itself, Pointed, InChain, is_dinode, holding, cell_part, bytes_at, part_at}
 use Rattle.image_model.proofs.Held.{own_part, itself_own, pointed_owner, chained_owner, pointed_part, block_same, own_block}
 use Rattle.mkgfs2_tool.specs.Groups.{data_address}
 use Rattle.mkgfs2_tool.specs.Files.{dinode_pointers, block_pointers, content_blocks, height, level_blocks, level_start, file_blocks}
@@ -21,8 +21,8 @@ use Rattle.mkgfs2_tool.specs.declared.plan.Plan.{Plan}
 use Rattle.mkgfs2_tool.proofs.StandingCounts.{count_images}
 use Rattle.mkgfs2_tool.proofs.StandingShapes.{IsBelow, Piece, is_top, is_below, piece, above, first_on, first_inside, top_narrow, top_room, height_low, inside_file, wide}
 use Rattle.mkgfs2_tool.proofs.StandingPlan.{apart_addresses}
-use Rattle.mkgfs2_tool.proofs.StandingOwners.{file_place, file_shape, file_bytes, spot, named, up_block, up_pointer, below_owner, owner, file_some, file_taken, in_all}
-use Rattle.mkgfs2_tool.proofs.StandingFiles.{file_low, file_number, file_dinode, file_dinode_is, spot_low, HasPointers, top_pointers, inner_block}
+use Rattle.mkgfs2_tool.proofs.StandingOwners.{file_place, file_shape, file_bytes, spot, up_block, up_pointer, below_owner, owner, file_some, file_taken, in_all}
+use Rattle.mkgfs2_tool.proofs.StandingFiles.{file_low, file_number, file_dinode, file_dinode_is, spot_low, top_pointers, inner_block}
 use Rattle.mkgfs2_tool.proofs.StandingWhose.{owner_below, owner_top, same_file, not_chained, IsBelowOf, below_of}
 
 abbrev pub image : Plan → Blocks → Image
@@ -212,10 +212,10 @@ module _ (p : Plan) (fit : IsFitting p) (stamped : IsStamped p) (at : Blocks) (m
       let low = lower (height (file_shape p i)) (suc l) level e in
       let child : IsBelow (file_shape p i) (suc (suc l)) (x * block_pointers p.size + j) = record { some = omega arith; low = low.0; inside = child_low (x * block_pointers p.size) j (level_blocks (file_shape p i) (suc (suc l))) few } in
       let begins : (x * block_pointers p.size + j) * span p.size (height (file_shape p i) - suc (suc l)) ≡ first + j * span p.size level =
-        first_on (file_shape p i) (file_low p fit stamped i) (suc l) x j low.0 ∙ (λ t. g t + j * span p.size (low.1 t)) in
+      first_on (file_shape p i) (file_low p fit stamped i) (suc l) x j low.0 ∙ (λ t. g t + j * span p.size (low.1 t)) in
       record {
         part = ap (λ n. part_at h (spot p i n)) (sym (turn (level_start (file_shape p i) (suc (suc l))) (x * block_pointers p.size) j)) ∙ part_below_is (suc (suc l)) (x * block_pointers p.size + j) child
-          ∙ (λ t. Some (Pointed (spot p i (level_start (file_shape p i) (suc l) + div-mul-add x (block_pointers p.size) j inside t)) (mod-mul-add x (block_pointers p.size) j inside t) (low.1 t) (begins t)));
+            ∙ (λ t. Some (Pointed (spot p i (level_start (file_shape p i) (suc l) + div-mul-add x (block_pointers p.size) j inside t)) (mod-mul-add x (block_pointers p.size) j inside t) (low.1 t) (begins t)));
         within = subst (λ n. first + j * span p.size level < n) (sym count_is) (subst (λ n. n < content_blocks (file_shape p i)) begins (first_inside (file_shape p i) (file_low p fit stamped i) (suc (suc l)) (x * block_pointers p.size + j) child));
       }
     where
@@ -229,7 +229,7 @@ module _ (p : Plan) (fit : IsFitting p) (stamped : IsStamped p) (at : Blocks) (m
       let pointers = (inner_block p fit stamped i (suc l) x ok is (lower (height (file_shape p i)) (suc l) level e)).pointers in
       elim (cases_lt j (level_blocks (file_shape p i) (suc (suc l)) - x * block_pointers p.size)) [
         | inl few ↦ subst (IsChild h (spot p i (level_start (file_shape p i) (suc l) + x)) j level (first + j * span p.size level)) (sym (ap (u64_at (24 + 8 * j)) (bytes_below (suc l) x is) ∙ pointers.there j inside few))
-          (inner_child l x j level first is e g inside few)
+            (inner_child l x j level first is e g inside few)
         | inr far ↦ absurd (some (ap (u64_at (24 + 8 * j)) (bytes_below (suc l) x is) ∙ pointers.none j inside far))
       ]
     where
@@ -260,15 +260,15 @@ module _ (p : Plan) (fit : IsFitting p) (stamped : IsStamped p) (at : Blocks) (m
       → x * span p.size (height (file_shape p i) - suc (suc l)) ≡ first → IsPointed h y (spot p i (level_start (file_shape p i) (suc l) + x / block_pointers p.size)) (x % block_pointers p.size) level first
   pointed_later y l x level first is e g f =
       by_block (spot p i (up_block p i (suc l) (x / block_pointers p.size))) (up_pointer p (suc l) (x / block_pointers p.size)) (x / block_pointers p.size * span p.size (height (file_shape p i) - suc l))
-        (part_below_is (suc l) (x / block_pointers p.size) over ∙ ap (λ n. Some (Pointed (spot p i (up_block p i (suc l) (x / block_pointers p.size))) (up_pointer p (suc l) (x / block_pointers p.size)) n (x / block_pointers p.size * span p.size (height (file_shape p i) - suc l)))) (taller_is (height (file_shape p i)) l level is.low g))
-        inside
-        (ap (u64_at (24 + 8 * (x % block_pointers p.size))) (bytes_below (suc l) (x / block_pointers p.size) over)
-          ∙ (inner_block p fit stamped i (suc l) (x / block_pointers p.size) ok over is.low).pointers.there (x % block_pointers p.size) inside
-            (rest (level_blocks (file_shape p i) (suc (suc l))) (x / block_pointers p.size * block_pointers p.size) (x % block_pointers p.size) x (div-add-mod' x (block_pointers p.size)) is.inside)
-          ∙ ap (spot p i) (again (level_start (file_shape p i) (suc (suc l))) (x / block_pointers p.size * block_pointers p.size) (x % block_pointers p.size) x (div-add-mod' x (block_pointers p.size))) ∙ sym e)
-        (sym f ∙ ap (λ n. n * span p.size (height (file_shape p i) - suc (suc l))) (sym (div-add-mod' x (block_pointers p.size)))
-          ∙ first_on (file_shape p i) (file_low p fit stamped i) (suc l) (x / block_pointers p.size) (x % block_pointers p.size) is.low
-          ∙ ap (λ n. x / block_pointers p.size * span p.size (height (file_shape p i) - suc l) + x % block_pointers p.size * span p.size n) g)
+      (part_below_is (suc l) (x / block_pointers p.size) over ∙ ap (λ n. Some (Pointed (spot p i (up_block p i (suc l) (x / block_pointers p.size))) (up_pointer p (suc l) (x / block_pointers p.size)) n (x / block_pointers p.size * span p.size (height (file_shape p i) - suc l)))) (taller_is (height (file_shape p i)) l level is.low g))
+      inside
+      (ap (u64_at (24 + 8 * (x % block_pointers p.size))) (bytes_below (suc l) (x / block_pointers p.size) over)
+      ∙ (inner_block p fit stamped i (suc l) (x / block_pointers p.size) ok over is.low).pointers.there (x % block_pointers p.size) inside
+      (rest (level_blocks (file_shape p i) (suc (suc l))) (x / block_pointers p.size * block_pointers p.size) (x % block_pointers p.size) x (div-add-mod' x (block_pointers p.size)) is.inside)
+      ∙ ap (spot p i) (again (level_start (file_shape p i) (suc (suc l))) (x / block_pointers p.size * block_pointers p.size) (x % block_pointers p.size) x (div-add-mod' x (block_pointers p.size))) ∙ sym e)
+      (sym f ∙ ap (λ n. n * span p.size (height (file_shape p i) - suc (suc l))) (sym (div-add-mod' x (block_pointers p.size)))
+      ∙ first_on (file_shape p i) (file_low p fit stamped i) (suc l) (x / block_pointers p.size) (x % block_pointers p.size) is.low
+      ∙ ap (λ n. x / block_pointers p.size * span p.size (height (file_shape p i) - suc l) + x % block_pointers p.size * span p.size n) g)
     where
       over : IsBelow (file_shape p i) (suc l) (x / block_pointers p.size)
       over = above (file_shape p i) (file_low p fit stamped i) (suc l) x (omega arith) is
@@ -314,7 +314,7 @@ module _ (p : Plan) (fit : IsFitting p) (stamped : IsStamped p) (at : Blocks) (m
 
       here : IsPartOf y b k (suc level) first → HasHeader 5 500 (bytes_at h y)
       here q = subst (λ z. HasHeader 5 500 (bytes_at h z)) (sym q.is)
-        (subst (HasHeader 5 500) (sym (bytes_below q.l q.x q.below)) (inner_block p fit stamped i q.l q.x ok q.below (lower (height (file_shape p i)) q.l level q.level_is)).header)
+          (subst (HasHeader 5 500) (sym (bytes_below q.l q.x q.below)) (inner_block p fit stamped i q.l q.x ok q.below (lower (height (file_shape p i)) q.l level q.level_is)).header)
 
   file_tree : HasTree h
   file_tree = record {

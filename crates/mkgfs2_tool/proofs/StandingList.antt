@@ -1,5 +1,5 @@
 -- The list of groups of a new image, read from its file.
-use Rattle.std.proofs.Common.{ℕ, zero, suc, ◌≡◌, ◌+◌, ◌-◌, ◌*◌, ◌/◌, ◌^◌, ◌<◌, ◌≤◌, inl, inr, Bool, true, false, List, [], ◌∷◌, ◌++◌, length, take, drop, replicate, map, get_or, Ok, None, refl, sym, ap, ap₂, ◌∙◌, subst, arith}
+use Rattle.std.proofs.Common.{ℕ, zero, suc, ◌≡◌, ◌+◌, ◌-◌, ◌*◌, ◌/◌, ◌<◌, ◌≤◌, inl, inr, List, [], ◌∷◌, ◌++◌, length, take, drop, replicate, map, refl, sym, ap, ap₂, ◌∙◌, subst, arith}
 use Rattle.std.specs.Prelude.{◌%◌, ◌==◌, if◌then◌else◌, flat_map}
 use Rattle.std.specs.List.{AllByRecursion, range_with_len}
 use Rattle.std.proofs.lemmas.Bool.{cases_eq, cond-true, cond-false, eq-eqb, ne_eqb}
@@ -10,12 +10,11 @@ use Rattle.gfs2_layout.specs.Bytes.{slice}
 use Rattle.gfs2_layout.specs.Fields.{HasItsWidth}
 use Rattle.gfs2_layout.specs.Structures.{dinode_length, rindex_of, length_fault}
 use Rattle.gfs2_layout.specs.Writing.{rindex_fields, rindex_put}
-use Rattle.gfs2_layout.specs.declared.rindex.Rindex.{Rindex}
 use Rattle.gfs2_layout.proofs.FieldsInPlace.{length-fields}
 use Rattle.gfs2_layout.proofs.ReadBackMore.{rindex_back}
 use Rattle.image_model.specs.Groups.{groups_in}
 use Rattle.image_model.specs.Image.{Blocks}
-use Rattle.image_model.specs.Inode.{dinode_in, height_in, unit, carried, content_block, content_count, content_of}
+use Rattle.image_model.specs.Inode.{height_in, carried, content_block, content_count, content_of}
 use Rattle.image_model.specs.Owners.{Holding, bytes_at}
 use Rattle.image_model.specs.Stands.{IsGroupList}
 use Rattle.image_model.proofs.Lengths.{pieces_cover}
@@ -130,7 +129,7 @@ module _ (p : Plan) (fit : IsFitting p) (stamped : IsStamped p) (at : Blocks) (m
   content_high high =
       ap (λ n. take (96 * p.groups) (flat_map (λ i. carried h (content_block h i)) (range_with_len 0 n))) (count_is p fit stamped at made 0 none_ok)
       ∙ ap (take (96 * p.groups)) (flat_map_same (λ i. carried h (content_block h i)) (λ i. filled p.size (slice (i * p.size) p.size (group_entries p))) (range_with_len 0 (content_blocks (file_shape p 0)))
-        (λ x there. carried_is high x (under x (content_blocks (file_shape p 0)) (from_range 0 (content_blocks (file_shape p 0)) x there).1)))
+      (λ x there. carried_is high x (under x (content_blocks (file_shape p 0)) (from_range 0 (content_blocks (file_shape p 0)) x there).1)))
       ∙ ap (λ n. take n (flat_map (λ i. filled p.size (slice (i * p.size) p.size (group_entries p))) (range_with_len 0 (content_blocks (file_shape p 0))))) (sym (length_entries p fit stamped) ∙ less_none (length (group_entries p)) p.size)
       ∙ joined_again p.size (group_entries p) 0 (content_blocks (file_shape p 0)) enough
       ∙ ap (λ n. drop n (group_entries p)) (none p.size)

@@ -1,9 +1,9 @@
 -- The names of a new image: what they lead to.
-use Rattle.std.proofs.Common.{ℕ, zero, suc, ◌≡◌, ◌≢◌, ◌+◌, ◌-◌, ◌*◌, ◌<◌, ◌≤◌, ◌⊎◌, inl, inr, Bool, true, false, List, [], ◌∷◌, ◌++◌, length, map, get_or, Option, None, Some, codes, cond, refl, sym, ap, ◌∙◌, subst, arith}
-use Rattle.std.specs.Prelude.{◌==◌, ◌&&◌, not, decimal, slice_get, Contains, count_by, if◌then◌else◌}
+use Rattle.std.proofs.Common.{ℕ, zero, suc, ◌≡◌, ◌+◌, ◌<◌, ◌≤◌, inl, inr, Bool, false, List, [], ◌∷◌, ◌++◌, length, map, get_or, Some, codes, cond, refl, sym, ap, ◌∙◌, arith}
+use Rattle.std.specs.Prelude.{◌==◌, ◌&&◌, not, slice_get}
 use Rattle.std.specs.List.{AllByRecursion, range_with_len, find}
 use Rattle.std.specs.Str.{bytes_eq}
-use Rattle.std.proofs.lemmas.Bool.{cases_eq, cases_Bool, cond-true, cond-false, false_from_ne_true, true≢false}
+use Rattle.std.proofs.lemmas.Bool.{cases_eq, cases_Bool, cond-true, cond-false, false_from_ne_true}
 use Rattle.std.proofs.lemmas.List.{length-map}
 use Rattle.std.proofs.lemmas.List.FromFn.{length-range_with_len}
 use Rattle.std.proofs.lemmas.List.Sums.{sum_by-cons}
@@ -11,16 +11,12 @@ use Rattle.std.proofs.lemmas.Fmt.{decimal_digit}
 use Rattle.std.proofs.lemmas.Slice.Eq.{bytes_eq-Decides}
 use Rattle.file_tree.specs.Names.{IsName, IsNameByte}
 use Rattle.image_model.specs.Journals.{journal_name}
-use Rattle.image_model.specs.Records.{Record, is_dots, child_named}
+use Rattle.image_model.specs.Records.{Record, is_dots}
 use Rattle.image_model.specs.Stands.{name_count, directory_count}
-use Rattle.image_model.proofs.Members.{IsIn, is_in}
-use Rattle.mkgfs2_tool.specs.Groups.{data_address}
-use Rattle.mkgfs2_tool.specs.Order.{journal_place}
+use Rattle.image_model.proofs.Members.{IsIn}
 use Rattle.mkgfs2_tool.specs.Directories.{name_bytes, journal_entry}
-use Rattle.mkgfs2_tool.specs.declared.directory.Entry.{Entry}
 use Rattle.mkgfs2_tool.specs.declared.directory.Name.TheVariants as name
 use Rattle.mkgfs2_tool.specs.declared.plan.Plan.{Plan}
-use Rattle.mkgfs2_tool.proofs.StandingCounts.{count_none}
 use Rattle.mkgfs2_tool.proofs.StandingRecords.{entry_record}
 
 -- ---- the names of journals
@@ -38,8 +34,22 @@ pub is_journal_name : (j : ℕ) → j < 8 → IsName (record_name j)
 is_journal_name j low = record {
   some = omega arith;
   short = omega arith;
-  plain = (byte 106 (omega arith) (omega arith), (byte 111 (omega arith) (omega arith), (byte 117 (omega arith) (omega arith), (byte 114 (omega arith) (omega arith), (byte 110 (omega arith) (omega arith),
-    (byte 97 (omega arith) (omega arith), (byte 108 (omega arith) (omega arith), (byte (48 + j) (omega arith) (omega arith), tt))))))));
+  plain = (
+    byte 106 (omega arith) (omega arith),
+    (
+      byte 111 (omega arith) (omega arith),
+      (
+        byte 117 (omega arith) (omega arith),
+        (
+          byte 114 (omega arith) (omega arith),
+          (
+            byte 110 (omega arith) (omega arith),
+            (byte 97 (omega arith) (omega arith), (byte 108 (omega arith) (omega arith), (byte (48 + j) (omega arith) (omega arith), tt))),
+          ),
+        ),
+      ),
+    ),
+  );
   not_dot = λ e. absurd (omega (arith, ap length e));
   not_dots = λ e. absurd (omega (arith, ap length e));
 }
@@ -92,7 +102,7 @@ pub named_once : (rs : List Record) → AreApart rs → (name : List ℕ) → na
 named_once [] all name = omega arith
 named_once (r ∷ rs) all name = elim (cases_Bool (bytes_eq name r.name)) [
   | inl so ↦ one (cond (bytes_eq name r.name) 1 0) (name_count rs name) (name_count (r ∷ rs) name) (sum_by-cons (λ (t : Record). cond (bytes_eq name t.name) 1 0) r rs) (cond-true _ 1 0 so)
-    (none_named name r rs ((bytes_eq-Decides name r.name).0 so) all.0)
+      (none_named name r rs ((bytes_eq-Decides name r.name).0 so) all.0)
   | inr non ↦ rest (cond (bytes_eq name r.name) 1 0) (name_count rs name) (name_count (r ∷ rs) name) (sum_by-cons (λ (t : Record). cond (bytes_eq name t.name) 1 0) r rs) (cond-false _ 1 0 non) (named_once rs all.1 name)
 ]
   where
@@ -125,7 +135,7 @@ journal_found p start zero j low high = absurd (omega (arith, low, high))
 journal_found p start (suc n) j low high = elim (cases_eq j start) [
   | inl e ↦ cond-true _ _ _ ((bytes_eq-Decides (record_name j) (record_name start)).1 (ap record_name e)) ∙ ap (λ k. Some (entry_record (journal_entry p k))) (sym e)
   | inr d ↦ cond-false _ _ _ (false_from_ne_true (bytes_eq (record_name j) (record_name start)) (λ e. absurd (d (names_apart j start ((bytes_eq-Decides (record_name j) (record_name start)).0 e)))))
-    ∙ journal_found p (start + 1) n j (omega (arith, low, d)) (omega (arith, high))
+      ∙ journal_found p (start + 1) n j (omega (arith, low, d)) (omega (arith, high))
 ]
 
 -- a record of a journal

@@ -1,25 +1,24 @@
 -- Who owns each block of a new image.
-use Rattle.std.proofs.Common.{ℕ, zero, suc, ◌≡◌, ◌≢◌, ◌+◌, ◌-◌, ◌*◌, ◌/◌, ◌<◌, ◌≤◌, ◌⊎◌, inl, inr, true, false, List, codes, refl, sym, ap, ◌∙◌, subst, arith}
-use Rattle.std.specs.Prelude.{◌%◌, ◌^◌, ◌==◌, nat_lt, nat_le, min, if◌then◌else◌}
-use Rattle.std.proofs.lemmas.Bool.{cases_lt, cases_eq, cases_order, cond-true, cond-false, eq-eqb, ne_eqb, lt-ltb, le-ltb, le-leb, lt-leb}
+use Rattle.std.proofs.Common.{ℕ, zero, suc, ◌≡◌, ◌+◌, ◌-◌, ◌*◌, ◌/◌, ◌<◌, ◌≤◌, inl, inr, List, codes, refl, sym, ap, ◌∙◌, subst, arith}
+use Rattle.std.specs.Prelude.{◌%◌, nat_lt, nat_le, if◌then◌else◌}
+use Rattle.std.proofs.lemmas.Bool.{cases_lt, cases_order, cond-true, cond-false, eq-eqb, ne_eqb, lt-ltb, le-ltb, le-leb, lt-leb}
 use Rattle.std.proofs.lemmas.Nat.{div-mul-add, mod-mul-add, div-add-mod', mod_below, div_below, row_fits}
 use Rattle.image_model.specs.Inode.{span}
 use Rattle.image_model.specs.Journals.{journal_name}
 use Rattle.image_model.specs.Owners.{Owner, Super, InGroup, Free, Nobody, Root, Master, Named, Below, Owners, IsUsed}
-use Rattle.mkgfs2_tool.specs.Groups.{super_block, last_group, group_address, group_blocks, headers_of, first_data, data_blocks, data_before, all_data, data_address, parts}
-use Rattle.mkgfs2_tool.specs.Files.{dinode_pointers, block_pointers, height, level_blocks, level_start, file_blocks, part}
+use Rattle.mkgfs2_tool.specs.Groups.{super_block, last_group, group_address, group_blocks, headers_of, first_data, data_blocks, data_before, all_data, data_address}
+use Rattle.mkgfs2_tool.specs.Files.{block_pointers, height, level_start, file_blocks, part}
 use Rattle.mkgfs2_tool.specs.Order.{master_place, root_place, group_list_place, journals_place, journal_place, group_list, journal, taken, use_of, journal_use}
 use Rattle.mkgfs2_tool.specs.Blocks.{group_at}
-use Rattle.mkgfs2_tool.specs.Making.{IsFitting, IsPlan}
+use Rattle.mkgfs2_tool.specs.Making.{IsFitting}
 use Rattle.mkgfs2_tool.specs.declared.files.Shape.{Shape}
 use Rattle.mkgfs2_tool.specs.declared.files.Part.{Part}
 use Rattle.mkgfs2_tool.specs.declared.files.Part.TheVariants.{Top, Pointers, Content}
 use Rattle.mkgfs2_tool.specs.declared.order.Use.{Use}
 use Rattle.mkgfs2_tool.specs.declared.order.Use.TheVariants as use_is
 use Rattle.mkgfs2_tool.specs.declared.plan.Plan.{Plan}
-use Rattle.mkgfs2_tool.proofs.StandingGround.{IsRoom, IsOver, over_at, over_room, block_over, group_ends}
-use Rattle.mkgfs2_tool.proofs.StandingPlan.{ground, ground_is, address_at, room_of, room_low, apart_addresses, address_low, address_high}
-use Rattle.mkgfs2_tool.proofs.StandingShapes.{IsLow, IsBelow, part_below, Piece, piece, part_here, start_low}
+use Rattle.mkgfs2_tool.proofs.StandingGround.{IsRoom, IsOver, over_at, block_over, group_ends}
+use Rattle.mkgfs2_tool.proofs.StandingPlan.{ground, ground_is, address_at, room_of}
 
 -- ---- the files: the list of groups, and the journals
 
@@ -178,7 +177,7 @@ kept p (suc (suc n)) low = elim (cases_order (suc (suc n)) (journals_place p)) [
     of_journals m e =
         let fb = file_blocks (journal p) in
         is_file (suc (m / fb)) (m % fb) (div_below m fb p.journals (some_blocks (journal p)) (omega (arith, low, e)))
-            (mod_below m fb (some_blocks (journal p))) (omega (arith, e, div-add-mod' m fb))
+        (mod_below m fb (some_blocks (journal p))) (omega (arith, e, div-add-mod' m fb))
 
 -- each file has a place of its own
 pub file_apart : (p : Plan) (i k : ℕ) → file_place p i ≡ file_place p k → i ≡ k

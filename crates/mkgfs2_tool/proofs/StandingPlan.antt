@@ -1,14 +1,14 @@
 -- Where the blocks of a new image lie, and what is in them.
-use Rattle.std.proofs.Common.{ℕ, zero, suc, ◌≡◌, ◌+◌, ◌-◌, ◌*◌, ◌/◌, ◌<◌, ◌≤◌, ◌⊎◌, inl, inr, true, false, List, refl, sym, ap, ◌∙◌, subst, arith}
-use Rattle.std.specs.Prelude.{◌%◌, ◌^◌, ◌==◌, nat_lt, min, if◌then◌else◌}
+use Rattle.std.proofs.Common.{ℕ, ◌≡◌, ◌+◌, ◌-◌, ◌*◌, ◌/◌, ◌<◌, ◌≤◌, inl, inr, refl, sym, ap, ◌∙◌, subst, arith}
+use Rattle.std.specs.Prelude.{nat_lt, if◌then◌else◌}
 use Rattle.std.proofs.lemmas.Bool.{cases_lt, cases_eq, cond-true, cond-false, eq-eqb, ne_eqb, lt-ltb, le-ltb}
 use Rattle.std.proofs.Math.Nat.{div-one}
-use Rattle.mkgfs2_tool.specs.Groups.{super_block, share, last_group, group_address, group_blocks, header_blocks, headers_of, first_data, data_blocks, data_before, all_data, group_of_data, data_address}
-use Rattle.mkgfs2_tool.specs.Blocks.{zeros, superblock, new_block, group_block, group_at, header_block, data_block}
+use Rattle.mkgfs2_tool.specs.Groups.{super_block, share, last_group, group_address, group_blocks, header_blocks, headers_of, first_data, data_blocks, data_before, all_data, data_address}
+use Rattle.mkgfs2_tool.specs.Blocks.{zeros, superblock, new_block, group_block, header_block, data_block}
 use Rattle.gfs2_layout.specs.Writing.{superblock_put}
 use Rattle.mkgfs2_tool.specs.Making.{IsFitting}
 use Rattle.mkgfs2_tool.specs.declared.plan.Plan.{Plan}
-use Rattle.mkgfs2_tool.proofs.StandingGround.{Ground, IsGround, start, before, behind, over, address, all, IsRoom, IsOver, group_at_room, address_at_room, over_at, room, block_over, starts_rise, group_ends, rooms_below, place_of, over_room, place_back, apart}
+use Rattle.mkgfs2_tool.proofs.StandingGround.{Ground, IsGround, IsRoom, address_at_room, over_at, room, group_ends, rooms_below, apart}
 
 abbrev pub ground : Plan → Ground
 ground p = record {
@@ -128,8 +128,8 @@ module _ (p : Plan) (fit : IsFitting p) where
     where
       here : IsRoom (ground p) k → data_address p k < p.count
       here at = subst (λ n. data_address p n < p.count) (sym at.is)
-        (let ends = group_ends (ground p) ground_is at.group at.listed in
-         omega (arith, address_at at.group at.offset at.listed at.inside, at.inside, held at.group at.listed, ends))
+          (let ends = group_ends (ground p) ground_is at.group at.listed in
+          omega (arith, address_at at.group at.offset at.listed at.inside, at.inside, held at.group at.listed, ends))
 
   pub address_high : (k : ℕ) → k < all_data p → super_block p < data_address p k
   address_high k low = here (room_of k low)

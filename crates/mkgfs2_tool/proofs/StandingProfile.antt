@@ -1,35 +1,29 @@
 -- A new image stands, and is in the profile.
-use Rattle.std.proofs.Common.{ℕ, zero, suc, ◌≡◌, ◌≢◌, ◌+◌, ◌-◌, ◌*◌, ◌/◌, ◌^◌, ◌<◌, ◌≤◌, ◌⊎◌, inl, inr, Bool, true, false, List, [], ◌∷◌, length, map, Some, codes, refl, sym, ap, ◌∙◌, subst, arith}
-use Rattle.std.specs.List.{range_with_len, sum_by}
-use Rattle.std.proofs.lemmas.Bool.{cases_lt}
+use Rattle.std.proofs.Common.{ℕ, suc, ◌≡◌, ◌+◌, ◌^◌, ◌<◌, ◌≤◌, length, Some, refl, sym, ap, ◌∙◌, subst, arith}
 use Rattle.std.proofs.lemmas.List.FromFn.{length-map-range_with_len}
-use Rattle.std.proofs.lemmas.List.Sums.{sum_by-cons}
-use Rattle.std.proofs.Math.Nat.{mul-le-mul_right, mul-le-mul_left, mul-le-mul, mul-add, add-mul, suc-mul, div-add-mod', mod-lt}
-use Rattle.file_tree.specs.Tree.{dir, none}
 use Rattle.gfs2_layout.specs.declared.log_header.LogHeader.{LogHeader}
-use Rattle.gfs2_layout.specs.declared.rindex.Rindex.{Rindex}
 use Rattle.gfs2_layout.specs.declared.superblock.SuperBlock.{SuperBlock}
-use Rattle.image_model.specs.Claims.{every, LeadsTo}
-use Rattle.image_model.specs.Image.{Image, Blocks, IsImage, superblock_in}
+use Rattle.image_model.specs.Claims.{every}
+use Rattle.image_model.specs.Image.{Image, Blocks}
 use Rattle.image_model.specs.Journals.{ring_of, head_in, journal_name}
-use Rattle.image_model.specs.Profile.{HasPlainMaster, HasJournals, group_length, IsInProfile}
-use Rattle.image_model.specs.Stands.{Layout, IsJournalAt, IsSuper, IsLaid, Stands}
+use Rattle.image_model.specs.Profile.{HasPlainMaster, HasJournals, IsInProfile}
+use Rattle.image_model.specs.Stands.{IsSuper, IsLaid}
 use Rattle.image_model.proofs.Facts.{leads_child_of, child_leads}
 use Rattle.image_model.proofs.Held.{some_same}
 use Rattle.image_model.proofs.Lengths.{head_same, places_same}
-use Rattle.mkgfs2_tool.specs.Groups.{super_block, share, last_group, group_address, group_blocks, header_blocks, headers_of, first_bitmap, further_bitmap, data_address}
-use Rattle.mkgfs2_tool.specs.Order.{master_place, root_place, journals_place, journal_place}
-use Rattle.mkgfs2_tool.specs.Blocks.{superblock, group_entry, clean_header, new_block}
+use Rattle.mkgfs2_tool.specs.Groups.{super_block, group_address, group_blocks, data_address}
+use Rattle.mkgfs2_tool.specs.Order.{master_place, journals_place, journal_place}
+use Rattle.mkgfs2_tool.specs.Blocks.{group_entry, clean_header}
 use Rattle.mkgfs2_tool.specs.Making.{IsFitting}
 use Rattle.mkgfs2_tool.specs.Standing.{IsMade, IsStamped, new_layout, HasCleanHeads, StandsEmpty}
 use Rattle.mkgfs2_tool.specs.declared.plan.Plan.{Plan}
 use Rattle.mkgfs2_tool.proofs.StandingGround.{group_ends}
-use Rattle.mkgfs2_tool.proofs.StandingPlan.{ground, ground_is, blocks_inner, address_low}
-use Rattle.mkgfs2_tool.proofs.StandingOwners.{owner, spot, owner_master, owner_root, in_all, some_taken}
+use Rattle.mkgfs2_tool.proofs.StandingPlan.{ground, ground_is}
+use Rattle.mkgfs2_tool.proofs.StandingOwners.{owner, spot, owner_master, owner_root}
 use Rattle.mkgfs2_tool.proofs.StandingFiles.{large}
-use Rattle.mkgfs2_tool.proofs.StandingInodes.{image, AreMade, held, file_own, file_sound}
+use Rattle.mkgfs2_tool.proofs.StandingInodes.{image, AreMade, file_own, file_sound}
 use Rattle.mkgfs2_tool.proofs.StandingRings.{places_are, new_head, new_journal}
-use Rattle.mkgfs2_tool.proofs.StandingSystem.{inodes, directories, within, names, found, system, short, reads, root_is, IsJournalNamed, master_only, jindex_only, journal_at}
+use Rattle.mkgfs2_tool.proofs.StandingSystem.{inodes, directories, within, names, found, system, short, reads, root_is, master_only, journal_at}
 use Rattle.mkgfs2_tool.proofs.StandingWhole.{shift_is, IsSuperBlock, super_is, new_whole}
 use Rattle.mkgfs2_tool.proofs.StandingZones.{groups_fit, zoned}
 use Rattle.mkgfs2_tool.proofs.StandingGroups.{groups_are}
@@ -110,8 +104,8 @@ module _ (p : Plan) (fit : IsFitting p) (stamped : IsStamped p) (at : Blocks) (m
     device = fit.count;
     journals = has_journals;
     journal = λ j d e. let at_j = journal_at p fit stamped at made j d e in
-      subst (λ n. (512 ≤ (ring_of (every (image p at) n)).places) × ((ring_of (every (image p at) n)).places ≤ 65536)) (sym at_j.1)
-      (subst (λ n. (512 ≤ n) × (n ≤ 65536)) (sym (journal_places j at_j.0)) (fit.plan.some_journal_blocks, fit.plan.journal_blocks));
+        subst (λ n. (512 ≤ (ring_of (every (image p at) n)).places) × ((ring_of (every (image p at) n)).places ≤ 65536)) (sym at_j.1)
+        (subst (λ n. (512 ≤ n) × (n ≤ 65536)) (sym (journal_places j at_j.0)) (fit.plan.some_journal_blocks, fit.plan.journal_blocks));
     groups = subst (λ n. (1 ≤ n) × (n ≤ 64)) (sym (length-map-range_with_len (group_entry p) 0 p.groups)) (fit.plan.some_groups, fit.plan.groups);
     group_blocks = few_group_blocks p fit;
     sequence = λ j d head e f. one head (some_same (sym f ∙ heads j d e));

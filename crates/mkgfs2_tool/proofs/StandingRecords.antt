@@ -1,15 +1,15 @@
 -- The records of a new directory, read back.
-use Rattle.std.proofs.Common.{ℕ, zero, suc, ◌≡◌, ◌≢◌, ◌+◌, ◌-◌, ◌*◌, ◌/◌, ◌^◌, ◌<◌, ◌≤◌, ◌⊎◌, inl, inr, Bool, true, false, List, [], ◌∷◌, ◌++◌, length, take, drop, replicate, map, refl, sym, ap, ap₂, ◌∙◌, subst, arith, length-append}
-use Rattle.std.specs.Prelude.{◌==◌, ◌&&◌, not, filter, IsTrue, if◌then◌else◌}
+use Rattle.std.proofs.Common.{ℕ, ◌≡◌, ◌≢◌, ◌+◌, ◌-◌, ◌*◌, ◌/◌, ◌^◌, ◌<◌, ◌≤◌, true, List, [], ◌∷◌, ◌++◌, length, take, drop, replicate, map, refl, sym, ap, ap₂, ◌∙◌, subst, arith, length-append}
+use Rattle.std.specs.Prelude.{◌&&◌, not, filter}
 use Rattle.std.specs.List.{AllByRecursion}
 use Rattle.std.proofs.lemmas.Bool.{cond-true, ne_eqb}
-use Rattle.std.proofs.lemmas.List.{take_at, take-take, drop_all, length-replicate, drop-replicate, take-replicate}
+use Rattle.std.proofs.lemmas.List.{take_at, take-take, drop_all, length-replicate, drop-replicate}
 use Rattle.crc_words.specs.Remainder.{crc32_of}
-use Rattle.gfs2_layout.specs.Bytes.{slice, put_at, u16_at}
+use Rattle.gfs2_layout.specs.Bytes.{put_at, u16_at}
 use Rattle.gfs2_layout.specs.Fields.{HasItsWidth, with_fields}
 use Rattle.gfs2_layout.specs.Structures.{dirent_of, is_in_use}
-use Rattle.gfs2_layout.specs.Writing.{dirent_fields, dirent_put}
-use Rattle.gfs2_layout.specs.Area.{Slot, slot_at, slots_of, name_of, HasItsName, IsArea}
+use Rattle.gfs2_layout.specs.Writing.{dirent_fields}
+use Rattle.gfs2_layout.specs.Area.{Slot, slot_at, slots_of, name_of, IsArea}
 use Rattle.gfs2_layout.specs.declared.dirent.Dirent.{Dirent}
 use Rattle.gfs2_layout.proofs.FieldsInPlace.{length-fields, drop-fields}
 use Rattle.gfs2_layout.proofs.InPlace.{length-put}
@@ -18,7 +18,7 @@ use Rattle.gfs2_layout.proofs.ReadBack.{head_back}
 use Rattle.gfs2_layout.proofs.Records.{area_ends}
 use Rattle.gfs2_layout.proofs.Written.{stands}
 use Rattle.image_model.specs.Records.{Record, record_of, records_in, HasItsHash, IsRecordArea}
-use Rattle.mkgfs2_tool.specs.Directories.{name_bytes, name_of as name_in, least_length, head_of, record_bytes, records, Fit}
+use Rattle.mkgfs2_tool.specs.Directories.{name_of as name_in, least_length, head_of, record_bytes, records, Fit}
 use Rattle.mkgfs2_tool.specs.declared.directory.Entry.{Entry}
 use Rattle.mkgfs2_tool.proofs.StandingBytes.{take_put, behind_put}
 use Rattle.mkgfs2_tool.proofs.StandingCrc.{AreBytes, crc_low}
@@ -60,7 +60,7 @@ one_record e room is fits short =
     let long_clear : length clear ≡ room = length-replicate {A = ℕ} room 0 in
     let head : Dirent = head_of e room in
     let widths : AllByRecursion HasItsWidth (dirent_fields head) =
-      (is.number_low, (is.address_low, (crc_low name is.bytes, (short, (omega (arith, is.name), (is.kind, (omega arith, tt))))))) in
+    (is.number_low, (is.address_low, (crc_low name is.bytes, (short, (omega (arith, is.name), (is.kind, (omega arith, tt))))))) in
     let base : List ℕ = with_fields (dirent_fields head) clear in
     let long_base : length base ≡ room = length-fields (dirent_fields head) clear (omega (arith, long_clear, inside)) ∙ long_clear in
     let bytes : List ℕ = put_at 40 name base in
@@ -72,11 +72,11 @@ one_record e room is fits short =
     let size : u16_at 20 bytes ≡ room = ap (λ (d : Dirent). d.rec_len) read in
     let name_long : u16_at 22 bytes ≡ length name = ap (λ (d : Dirent). d.name_len) read in
     let named : name_of (slot_at bytes) ≡ name =
-      (λ t. take (name_long t) (take (size t - 40) (behind t)))
-      ∙ take-take (length name) (room - 40) (name ++ replicate (room - 40 - length name) 0) (omega (arith, inside))
-      ∙ take_at name (replicate (room - 40 - length name) 0) (length name) refl in
+    (λ t. take (name_long t) (take (size t - 40) (behind t)))
+    ∙ take-take (length name) (room - 40) (name ++ replicate (room - 40 - length name) 0) (omega (arith, inside))
+    ∙ take_at name (replicate (room - 40 - length name) 0) (length name) refl in
     let alone = stands bytes (slot_at bytes) [] refl (omega (arith, size, inside)) (omega (arith, size, long)) (λ u. omega (arith, size, name_long, inside))
-      (drop_all (u16_at 20 bytes) bytes (omega (arith, size, long))) (area_none [] refl) in
+    (drop_all (u16_at 20 bytes) bytes (omega (arith, size, long))) (area_none [] refl) in
     record {
       long = long;
       slots = alone.slots ∙ ap (λ (ss : List Slot). slot_at bytes ∷ ss) (area_ends [] refl);

@@ -1,35 +1,32 @@
 -- The content of the files of a new image: the journals' rings.
-use Rattle.std.proofs.Common.{ℕ, zero, suc, ◌≡◌, ◌≢◌, ◌+◌, ◌-◌, ◌*◌, ◌/◌, ◌^◌, ◌<◌, ◌≤◌, ◌⊎◌, inl, inr, Bool, true, false, List, length, replicate, Option, None, Some, Result, Ok, Err, refl, sym, ap, ap₂, ◌∙◌, subst, arith}
-use Rattle.std.specs.Prelude.{◌%◌, ◌==◌, not, if◌then◌else◌}
+use Rattle.std.proofs.Common.{ℕ, zero, suc, ◌≡◌, ◌≢◌, ◌+◌, ◌-◌, ◌*◌, ◌/◌, ◌<◌, ◌≤◌, inl, inr, List, length, replicate, None, Some, refl, sym, ap, ap₂, ◌∙◌, subst, arith}
+use Rattle.std.specs.Prelude.{◌%◌, ◌==◌, not}
 use Rattle.std.specs.Int.{w32, from_be_bytes}
-use Rattle.std.proofs.lemmas.Bool.{cases_lt, cases_eq, cond-true, cond-false, eq-eqb, ne_eqb, le-ltb, leb-true}
+use Rattle.std.proofs.lemmas.Bool.{cases_eq, cond-true, cond-false, ne_eqb, le-ltb}
 use Rattle.std.proofs.lemmas.Bool.Decides.{nat_tests}
 use Rattle.std.proofs.lemmas.List.{length-replicate, take-replicate}
 use Rattle.std.proofs.lemmas.Nat.{div_below, div-add-mod', mod_below}
 use Rattle.std.proofs.Math.Nat.{mul-div_cancel, mul-le-mul_right, mul-mod_left, mul_assoc, add-mul}
 use Rattle.gfs2_layout.specs.Bytes.{number_at, u32_at, u64_at}
-use Rattle.gfs2_layout.specs.Structures.{log_read, log_of, header_fault, hash_fault, or_else, answer, magic, dinode_length}
+use Rattle.gfs2_layout.specs.Structures.{log_of, header_fault, hash_fault, or_else, answer, magic, dinode_length}
 use Rattle.gfs2_layout.specs.Writing.{log_put}
-use Rattle.gfs2_layout.specs.declared.fault.LayoutFault.{LayoutFault}
 use Rattle.gfs2_layout.specs.declared.fault.LayoutFault.TheVariants.{Magic}
-use Rattle.gfs2_layout.specs.declared.log_header.LogHeader.{LogHeader}
 use Rattle.gfs2_layout.proofs.ReadBackMore.{log_back}
 use Rattle.image_model.specs.Image.{Blocks}
-use Rattle.image_model.specs.Inode.{dinode_in, height_in, header_length, pointer, span, descend, content_block, content_count}
+use Rattle.image_model.specs.Inode.{header_length, pointer, span, descend, content_block}
 use Rattle.image_model.specs.Journals.{Ring, ring_of, if_at, accepted, better, best_from, head_in, IsJournal}
 use Rattle.image_model.specs.Owners.{Holding, bytes_at}
-use Rattle.mkgfs2_tool.specs.Groups.{super_block, parts}
-use Rattle.mkgfs2_tool.specs.Files.{dinode_pointers, block_pointers, content_blocks, height, level_blocks, level_start, file_blocks}
-use Rattle.mkgfs2_tool.specs.Order.{journal}
-use Rattle.mkgfs2_tool.specs.Blocks.{zeros, clean_header, new_block, journal_block, used_block}
+use Rattle.mkgfs2_tool.specs.Groups.{super_block}
+use Rattle.mkgfs2_tool.specs.Files.{block_pointers, content_blocks, height, level_blocks, level_start, file_blocks}
+use Rattle.mkgfs2_tool.specs.Blocks.{zeros, clean_header, journal_block, used_block}
 use Rattle.mkgfs2_tool.specs.Making.{IsFitting}
 use Rattle.mkgfs2_tool.specs.Standing.{IsStamped}
 use Rattle.mkgfs2_tool.specs.declared.files.Part.TheVariants.{Content}
 use Rattle.mkgfs2_tool.specs.declared.plan.Plan.{Plan}
 use Rattle.mkgfs2_tool.proofs.StandingCrc.{log_low, bytes_zeros}
-use Rattle.mkgfs2_tool.proofs.StandingShapes.{IsBelow, begins_level, level_begins, first_on, span_on, span_some, top_narrow, inside_file}
+use Rattle.mkgfs2_tool.proofs.StandingShapes.{IsBelow, begins_level, span_some, top_narrow, inside_file}
 use Rattle.mkgfs2_tool.proofs.StandingPlan.{address_high}
-use Rattle.mkgfs2_tool.proofs.StandingOwners.{file_place, file_shape, file_bytes, file_use, spot, file_taken, in_all}
+use Rattle.mkgfs2_tool.proofs.StandingOwners.{file_place, file_shape, file_use, spot, file_taken, in_all}
 use Rattle.mkgfs2_tool.proofs.StandingFiles.{file_low, large, top_pointers, inner_block, content_at, journal_blocks}
 use Rattle.mkgfs2_tool.proofs.StandingInodes.{AreMade, held, file_height, file_size, file_regular, bytes_below, own_bytes}
 
@@ -92,7 +89,7 @@ module _ (p : Plan) (fit : IsFitting p) (stamped : IsStamped p) (at : Blocks) (m
         some = omega arith;
         low = lower (height (file_shape p i)) l lev e;
         inside = begins_level (file_shape p i) (file_low p fit stamped i) (suc l) (x * block_pointers p.size + r / span p.size lev)
-          (subst (λ n. (x * block_pointers p.size + r / span p.size lev) * span p.size n < content_blocks (file_shape p i)) (sym (next (height (file_shape p i)) l lev e))
+            (subst (λ n. (x * block_pointers p.size + r / span p.size lev) * span p.size n < content_blocks (file_shape p i)) (sym (next (height (file_shape p i)) l lev e))
             (begin ((x * block_pointers p.size + r / span p.size lev) * span p.size lev) (r % span p.size lev) (content_blocks (file_shape p i)) inside'));
       }
         where
@@ -121,7 +118,7 @@ module _ (p : Plan) (fit : IsFitting p) (stamped : IsStamped p) (at : Blocks) (m
       from_top : (lev : ℕ) → height (file_shape p i) - 1 ≡ lev → descend h lev (pointer h dinode_length a (x / span p.size lev)) (x % span p.size lev) ≡ spot p i (level_start (file_shape p i) (height (file_shape p i)) + x)
       from_top lev e =
           ap (λ b. descend h lev b (x % span p.size lev)) (ap (u64_at (232 + 8 * (x / span p.size lev))) (own_bytes p fit stamped at made i ok)
-            ∙ (top_pointers p fit stamped i ok high).there (x / span p.size lev) (top_narrow (file_shape p i) (file_low p fit stamped i) (x / span p.size lev) child) child.inside)
+          ∙ (top_pointers p fit stamped i ok high).there (x / span p.size lev) (top_narrow (file_shape p i) (file_low p fit stamped i) (x / span p.size lev) child) child.inside)
           ∙ descend_is lev 1 (x / span p.size lev) (x % span p.size lev) child e (mod_below x (span p.size lev) some) (subst (λ n. n < content_blocks (file_shape p i)) (sym (div-add-mod' x (span p.size lev))) inside)
           ∙ ap (λ n. spot p i (level_start (file_shape p i) (height (file_shape p i)) + n)) (div-add-mod' x (span p.size lev))
         where
@@ -136,7 +133,7 @@ module _ (p : Plan) (fit : IsFitting p) (stamped : IsStamped p) (at : Blocks) (m
             some = omega arith;
             low = high;
             inside = begins_level (file_shape p i) (file_low p fit stamped i) 1 (x / span p.size lev)
-              (subst (λ n. x / span p.size lev * span p.size n < content_blocks (file_shape p i)) (sym e)
+                (subst (λ n. x / span p.size lev * span p.size n < content_blocks (file_shape p i)) (sym e)
                 (begin (x / span p.size lev * span p.size lev) (x % span p.size lev) x (div-add-mod' x (span p.size lev)) (content_blocks (file_shape p i)) inside));
           }
 
@@ -179,7 +176,7 @@ zeros_refused size q large = ap (if_at q) (ap (λ f. answer (or_else f (hash_fau
 
     off : header_fault 48 8 800 (replicate size 0) ≡ Some Magic
     off = cond-false _ _ _ (le-ltb (length (replicate size 0)) 48 (omega (arith, length-replicate {A = ℕ} size 0, large)))
-      ∙ cond-true _ _ _ (ap not (ap (λ n. n == magic) first))
+        ∙ cond-true _ _ _ (ap not (ap (λ n. n == magic) first))
 
 header_accepted : (size j : ℕ) → 512 ≤ size → j < 8 → accepted 0 (log_put (clean_header j) (replicate size 0)) ≡ Some (clean_header j)
 unfolding accepted
@@ -236,7 +233,7 @@ module _ (p : Plan) (fit : IsFitting p) (stamped : IsStamped p) (at : Blocks) (m
   best_is : (n : ℕ) → suc n ≤ p.journal_blocks → best_from (ring_of hj) 0 (suc n) ≡ Some (clean_header j)
   best_is n few =
       ap₂ better (ap (accepted 0) ring_first ∙ header_accepted p.size j (large p fit stamped) (under j p.journals ok fit.plan.journals))
-        (best_none (ring_of hj) 1 n (λ m low high. ap (accepted m) (ring_later m low (below_count m n p.journal_blocks high few)) ∙ zeros_refused p.size m (large p fit stamped)))
+      (best_none (ring_of hj) 1 n (λ m low high. ap (accepted m) (ring_later m low (below_count m n p.journal_blocks high few)) ∙ zeros_refused p.size m (large p fit stamped)))
     where
       under : (j n : ℕ) → suc j ≤ n → n ≤ 8 → j < 8
       under j n a b = omega (arith, a, b)

@@ -1,16 +1,16 @@
 -- The levels of a file's blocks: which block is which, and which leads to which.
-use Rattle.std.proofs.Common.{ℕ, zero, suc, ◌≡◌, ◌+◌, ◌-◌, ◌*◌, ◌/◌, ◌<◌, ◌≤◌, ◌⊎◌, inl, inr, true, false, refl, sym, ap, ◌∙◌, subst, arith}
-use Rattle.std.specs.Prelude.{◌%◌, ◌^◌, ◌==◌, nat_le, if◌then◌else◌}
-use Rattle.std.proofs.lemmas.Bool.{cases_lt, cases_eq, cond-true, cond-false, eq-eqb, ne_eqb, le-leb, lt-leb}
+use Rattle.std.proofs.Common.{ℕ, zero, suc, ◌≡◌, ◌+◌, ◌-◌, ◌*◌, ◌/◌, ◌<◌, ◌≤◌, ◌⊎◌, inl, inr, refl, sym, ap, ◌∙◌, subst, arith}
+use Rattle.std.specs.Prelude.{◌^◌, ◌==◌, if◌then◌else◌}
+use Rattle.std.proofs.lemmas.Bool.{cases_lt, cases_eq, cond-true, cond-false, ne_eqb, le-leb, lt-leb}
 use Rattle.std.proofs.lemmas.Bool.Decides.{nat_tests}
-use Rattle.std.proofs.lemmas.Nat.{le-div, div-add-mod', mod_below, div_below}
-use Rattle.std.proofs.Math.Nat.{pow-suc, pow-zero, mul_comm, mul_assoc, add-mul, mul-le-mul_right, mul-lt-mul_of_pos_right, suc-mul}
+use Rattle.std.proofs.lemmas.Nat.{le-div, div-add-mod'}
+use Rattle.std.proofs.Math.Nat.{pow-suc, pow-zero, mul_comm, mul_assoc, add-mul, mul-le-mul_right, suc-mul}
 use Rattle.image_model.specs.Inode.{span}
 use Rattle.mkgfs2_tool.specs.Groups.{parts}
-use Rattle.mkgfs2_tool.specs.Files.{IsShape, dinode_pointers, block_pointers, content_blocks, height, level_blocks, level_start, file_blocks, part_at, part}
+use Rattle.mkgfs2_tool.specs.Files.{dinode_pointers, block_pointers, content_blocks, height, level_blocks, level_start, file_blocks, part}
 use Rattle.mkgfs2_tool.specs.declared.files.Shape.{Shape}
 use Rattle.mkgfs2_tool.specs.declared.files.Part.{Part}
-use Rattle.mkgfs2_tool.specs.declared.files.Part.TheVariants.{Top, Pointers, Content}
+use Rattle.mkgfs2_tool.specs.declared.files.Part.TheVariants.{Pointers, Content}
 
 -- a block of a row is one of its parts exactly where it begins before the end
 pub part_begins : (x c s : ℕ) → 1 ≤ s → x < parts c s → x * s < c
@@ -183,8 +183,13 @@ module _ (f : Shape) (is : IsLow f) where
   above l i some at = record {
     some = some;
     low = omega (arith, at.low);
-    inside = begins_level l (i / block_pointers f.size) (omega (arith, level_begins (suc l) i at.inside, step, ap (λ s. i / block_pointers f.size * s) (span_on l at.low),
-      mul_assoc (i / block_pointers f.size) (block_pointers f.size) (span f.size (height f - suc l))));
+    inside = begins_level l (i / block_pointers f.size) (omega (
+      arith,
+      level_begins (suc l) i at.inside,
+      step,
+      ap (λ s. i / block_pointers f.size * s) (span_on l at.low),
+      mul_assoc (i / block_pointers f.size) (block_pointers f.size) (span f.size (height f - suc l)),
+    ));
   }
     where
       step : i / block_pointers f.size * block_pointers f.size * span f.size (height f - suc l) ≤ i * span f.size (height f - suc l)
@@ -193,7 +198,7 @@ module _ (f : Shape) (is : IsLow f) where
   -- content begins as many blocks later as a pointer counts
   pub first_on : (l i k : ℕ) → l < height f → (i * block_pointers f.size + k) * span f.size (height f - suc l) ≡ i * span f.size (height f - l) + k * span f.size (height f - suc l)
   first_on l i k low = add-mul (i * block_pointers f.size) k (span f.size (height f - suc l))
-    ∙ ap (λ n. n + k * span f.size (height f - suc l)) (mul_assoc i (block_pointers f.size) (span f.size (height f - suc l)) ∙ ap (λ s. i * s) (sym (span_on l low)))
+      ∙ ap (λ n. n + k * span f.size (height f - suc l)) (mul_assoc i (block_pointers f.size) (span f.size (height f - suc l)) ∙ ap (λ s. i * s) (sym (span_on l low)))
 
   pub first_inside : (l i : ℕ) → IsBelow f l i → i * span f.size (height f - l) < content_blocks f
   first_inside l i at = level_begins l i at.inside

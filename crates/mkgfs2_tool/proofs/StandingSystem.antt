@@ -1,35 +1,31 @@
 -- The inodes of a new image, and where names lead.
-use Rattle.std.proofs.Common.{ℕ, zero, suc, ◌≡◌, ◌≢◌, ◌+◌, ◌-◌, ◌*◌, ◌<◌, ◌≤◌, ◌⊎◌, inl, inr, Bool, true, false, List, [], ◌∷◌, ◌++◌, length, map, Option, None, Some, codes, refl, sym, ap, ap₂, ◌∙◌, subst, arith}
-use Rattle.std.specs.Prelude.{◌/◌, ◌==◌, ◌&&◌, ◌||◌, not, Contains, if◌then◌else◌, option_and_then, cond}
-use Rattle.std.specs.List.{AllByRecursion, range_with_len, find}
+use Rattle.std.proofs.Common.{ℕ, zero, suc, ◌≡◌, ◌+◌, ◌<◌, ◌≤◌, ◌⊎◌, inl, inr, Bool, true, false, List, [], ◌∷◌, map, Option, None, Some, codes, refl, sym, ap, ◌∙◌, subst, arith}
+use Rattle.std.specs.Prelude.{◌/◌, ◌==◌, ◌&&◌, not, Contains, option_and_then, cond}
 use Rattle.std.specs.Option.{option_map}
-use Rattle.std.specs.Str.{bytes_eq}
-use Rattle.std.proofs.lemmas.Bool.{cases_Bool, cond-true, cond-false, or_parts, eqb-true, true≢false}
+use Rattle.std.proofs.lemmas.Bool.{cond-true, cond-false, eqb-true, true≢false}
 use Rattle.std.proofs.lemmas.List.Sums.{sum_by-cons}
-use Rattle.std.proofs.lemmas.List.{length-map}
 use Rattle.file_tree.specs.Tree.{dir, none}
-use Rattle.file_tree.specs.Apply.{file_limit}
 use Rattle.gfs2_layout.specs.Structures.{is_directory, is_regular}
 use Rattle.gfs2_layout.specs.declared.dinode.Dinode.{Dinode}
-use Rattle.image_model.specs.Flat.{Path, Thing, AFile, ADir, Node, Flat, follow, thing_from, thing_at, ReadsAs}
+use Rattle.image_model.specs.Flat.{Path, AFile, ADir, Node, Flat, follow, thing_from, thing_at, ReadsAs}
 use Rattle.image_model.specs.Image.{Blocks}
-use Rattle.image_model.specs.Inode.{Head, head_of, dinode_in, is_directory_in, content_of, records_of, node_of, thing_of, child_of, IsInode}
+use Rattle.image_model.specs.Inode.{Head, dinode_in, is_directory_in, records_of, node_of, IsInode}
 use Rattle.image_model.specs.Journals.{journal_name, IsJournal}
-use Rattle.image_model.specs.Owners.{Owner, Super, InGroup, Free, Nobody, Root, Master, Named, Below, Chained, Up, up_of, parent_of, is_dinode, IsUsed, IsWithin, Holding}
+use Rattle.image_model.specs.Owners.{Owner, Super, InGroup, Free, Nobody, Root, Master, Named, Below, Chained, Up, up_of, parent_of, is_dinode, IsUsed, IsWithin}
 use Rattle.image_model.specs.Records.{Record, is_dots, child_named}
-use Rattle.image_model.specs.Stands.{Layout, IsJournalAt, flat_of, heads_of, kind_of, IsRecordOf, HasRecord, name_count, directory_count, LeadsDown, IsDirectory, IsGroupList, IsSystem, IsFound, AreShort}
+use Rattle.image_model.specs.Stands.{IsJournalAt, flat_of, heads_of, IsRecordOf, HasRecord, directory_count, LeadsDown, IsDirectory, IsSystem, IsFound, AreShort}
 use Rattle.image_model.proofs.Held.{none_some, some_same}
 use Rattle.image_model.proofs.Members.{IsIn, is_in, contained}
 use Rattle.image_model.proofs.Reach.{Leading, IsNamedChild, named_child}
 use Rattle.mkgfs2_tool.specs.Groups.{data_address}
-use Rattle.mkgfs2_tool.specs.Order.{master_place, root_place, group_list_place, journals_place, journal_place}
+use Rattle.mkgfs2_tool.specs.Order.{master_place, root_place, journals_place, journal_place}
 use Rattle.mkgfs2_tool.specs.Directories.{journal_entry, master_entries, root_entries, journals_entries}
-use Rattle.mkgfs2_tool.specs.Blocks.{group_entry, group_entries}
+use Rattle.mkgfs2_tool.specs.Blocks.{group_entries}
 use Rattle.mkgfs2_tool.specs.Making.{IsFitting}
 use Rattle.mkgfs2_tool.specs.Standing.{IsStamped, new_layout}
 use Rattle.mkgfs2_tool.specs.declared.directory.Entry.{Entry}
 use Rattle.mkgfs2_tool.specs.declared.plan.Plan.{Plan}
-use Rattle.mkgfs2_tool.proofs.StandingOwners.{file_place, file_name, file_parent, spot, named, below_owner, owner, owner_master, owner_root, owner_journals}
+use Rattle.mkgfs2_tool.proofs.StandingOwners.{file_place, file_name, file_parent, spot, below_owner, owner, owner_master, owner_root, owner_journals}
 use Rattle.mkgfs2_tool.proofs.StandingFiles.{file_number}
 use Rattle.mkgfs2_tool.proofs.StandingWhose.{Whose, whose_master, whose_root, whose_journals, whose_file, whose_below, whose_none, whose, owner_top}
 use Rattle.mkgfs2_tool.proofs.StandingInodes.{image, AreMade, held, file_own, file_plain, file_number_is, file_sound}
@@ -37,7 +33,7 @@ use Rattle.mkgfs2_tool.proofs.StandingRings.{new_journal}
 use Rattle.mkgfs2_tool.proofs.StandingList.{list_content, list_is}
 use Rattle.mkgfs2_tool.proofs.StandingRecords.{entry_record}
 use Rattle.mkgfs2_tool.proofs.StandingDirs.{IsDirectoryAt, dir_is, dir_sound, dir_number, dir_entries, dir_links, dir_records, master_at, root_at, journals_at}
-use Rattle.mkgfs2_tool.proofs.StandingNames.{record_name, name_is, is_journal_name, is_jindex_name, is_rindex_name, AreApart, named_once, journal_records, journals_apart, dots_apart, journal_found, IsOfJournal, of_journal, length_journals, no_directories, got_at, get_at}
+use Rattle.mkgfs2_tool.proofs.StandingNames.{record_name, name_is, is_journal_name, is_jindex_name, is_rindex_name, named_once, journal_records, journals_apart, dots_apart, journal_found, IsOfJournal, of_journal, length_journals, no_directories, got_at, get_at}
 
 used_dinode : (o : Owner) → is_dinode o ≡ true → IsUsed o
 used_dinode Super e = cc
@@ -173,7 +169,7 @@ module _ (p : Plan) (fit : IsFitting p) (stamped : IsStamped p) (at : Blocks) (m
   master_directory = record {
     dot = has_record master_records (record { name = codes "."; number = 1; address = master; kind = 4 }) master (inl refl) (dir_record (codes ".") master 1 master_head);
     dots = subst (HasRecord heads master_records (codes "..")) (sym (ap (parent_of master) (owner_master p fit)))
-      (has_record master_records (record { name = codes ".."; number = 1; address = master; kind = 4 }) master (inr (inl refl)) (dir_record (codes "..") master 1 master_head));
+        (has_record master_records (record { name = codes ".."; number = 1; address = master; kind = 4 }) master (inr (inl refl)) (dir_record (codes "..") master 1 master_head));
     once = named_once master_records ((refl, (refl, (refl, tt))), ((refl, (refl, tt)), ((refl, tt), (tt, tt))));
     down = master_down;
     entries = dir_entries p fit stamped at made master_place 1 4 3 (master_entries p) (master_at p fit stamped);
@@ -192,7 +188,7 @@ module _ (p : Plan) (fit : IsFitting p) (stamped : IsStamped p) (at : Blocks) (m
   root_directory = record {
     dot = has_record root_records (record { name = codes "."; number = 2; address = root; kind = 4 }) root (inl refl) (dir_record (codes ".") root 2 root_head);
     dots = subst (HasRecord heads root_records (codes "..")) (sym (ap (parent_of root) (owner_root p fit)))
-      (has_record root_records (record { name = codes ".."; number = 2; address = root; kind = 4 }) root (inr (inl refl)) (dir_record (codes "..") root 2 root_head));
+        (has_record root_records (record { name = codes ".."; number = 2; address = root; kind = 4 }) root (inr (inl refl)) (dir_record (codes "..") root 2 root_head));
     once = named_once root_records ((refl, tt), (tt, tt));
     down = root_down;
     entries = dir_entries p fit stamped at made root_place 2 2 2 (root_entries p) (root_at p fit stamped);
@@ -245,7 +241,7 @@ module _ (p : Plan) (fit : IsFitting p) (stamped : IsStamped p) (at : Blocks) (m
   jindex_directory = record {
     dot = has_record jindex_records (record { name = codes "."; number = 4; address = jindex; kind = 4 }) jindex (inl refl) (dir_record (codes ".") jindex 4 jindex_head);
     dots = subst (HasRecord heads jindex_records (codes "..")) (sym (ap (parent_of jindex) (owner_journals p fit)))
-      (has_record jindex_records (record { name = codes ".."; number = 1; address = master; kind = 4 }) master (inr (inl refl)) (dir_record (codes "..") master 1 master_head));
+        (has_record jindex_records (record { name = codes ".."; number = 1; address = master; kind = 4 }) master (inr (inl refl)) (dir_record (codes "..") master 1 master_head));
     once = named_once jindex_records ((refl, dots_apart (codes ".") p 0 p.journals (λ j. refl)), (dots_apart (codes "..") p 0 p.journals (λ j. refl), journals_apart p 0 p.journals));
     down = jindex_down;
     entries = dir_entries p fit stamped at made (journals_place p) 4 (2 + p.journals) 2 (journals_entries p) (journals_at p fit stamped) ∙ two_more p.journals ∙ ap (λ n. suc (suc n)) (sym (length_journals p 0 p.journals));
@@ -265,7 +261,7 @@ module _ (p : Plan) (fit : IsFitting p) (stamped : IsStamped p) (at : Blocks) (m
       each (whose_master e o) = subst abbrev_at (sym e) (subst (λ (rs : List Record). IsDirectory heads (owner p) master rs (dinode_in (held p at master))) (sym (dir_records p fit stamped at made master_place 1 4 3 (master_entries p) (master_at p fit stamped))) master_directory)
       each (whose_root e o) = subst abbrev_at (sym e) (subst (λ (rs : List Record). IsDirectory heads (owner p) root rs (dinode_in (held p at root))) (sym (dir_records p fit stamped at made root_place 2 2 2 (root_entries p) (root_at p fit stamped))) root_directory)
       each (whose_journals e o) = subst abbrev_at (sym e) (subst (λ (rs : List Record). IsDirectory heads (owner p) jindex rs (dinode_in (held p at jindex)))
-        (sym (dir_records p fit stamped at made (journals_place p) 4 (2 + p.journals) 2 (journals_entries p) (journals_at p fit stamped))) jindex_directory)
+          (sym (dir_records p fit stamped at made (journals_place p) 4 (2 + p.journals) 2 (journals_entries p) (journals_at p fit stamped))) jindex_directory)
       each (whose_file i ok e o) = absurd (true≢false (sym is ∙ ap (λ n. is_directory_in (held p at n)) e ∙ file_plain p fit stamped at made i ok))
       each (whose_below i l x ok below e o) = absurd (no_below_dinode p i l x (ap is_dinode (sym o) ∙ dinode))
       each (whose_none un) = absurd (un (used_dinode (owner p a) dinode))

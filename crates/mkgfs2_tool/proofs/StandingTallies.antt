@@ -1,8 +1,8 @@
 -- A group's free blocks and dinodes are counted.
-use Rattle.std.proofs.Common.{ℕ, zero, suc, ◌≡◌, ◌≢◌, ◌+◌, ◌-◌, ◌*◌, ◌/◌, ◌^◌, ◌<◌, ◌≤◌, ◌⊎◌, inl, inr, Bool, true, false, List, [], ◌∷◌, length, map, refl, sym, ap, ◌∙◌, subst, arith, cond}
-use Rattle.std.specs.Prelude.{◌==◌, ◌&&◌, nat_le, nat_lt, if◌then◌else◌, count_by}
+use Rattle.std.proofs.Common.{ℕ, zero, suc, ◌≡◌, ◌+◌, ◌-◌, ◌*◌, ◌<◌, ◌≤◌, inl, inr, true, false, List, [], ◌∷◌, length, map, refl, sym, ap, ◌∙◌, subst, arith, cond}
+use Rattle.std.specs.Prelude.{◌==◌, if◌then◌else◌, count_by}
 use Rattle.std.specs.List.{AllByRecursion, range_with_len}
-use Rattle.std.proofs.lemmas.Bool.{cases_lt, cases_eq, cases_order, cases_Bool, cond-true, cond-false, eq-eqb, ne_eqb, eqb-true, eqb-false, lt-ltb, le-ltb, le-leb, lt-leb, true≢false, false_from_ne_true}
+use Rattle.std.proofs.lemmas.Bool.{cases_lt, cases_eq, cases_Bool, cond-true, cond-false, eq-eqb, ne_eqb, lt-ltb, le-ltb}
 use Rattle.std.proofs.lemmas.Bool.Decides.{nat_tests}
 use Rattle.std.proofs.lemmas.List.{length-map}
 use Rattle.std.proofs.lemmas.List.FromFn.{length-range_with_len}
@@ -11,18 +11,16 @@ use Rattle.std.proofs.lemmas.Nat.{row_fits}
 use Rattle.image_model.proofs.Members.{IsIn}
 use Rattle.image_model.proofs.Counts.{all_in}
 use Rattle.image_model.proofs.Rising.{Rising, one_if, count_split}
-use Rattle.mkgfs2_tool.specs.Files.{height, level_start, file_blocks, part}
-use Rattle.mkgfs2_tool.specs.Order.{master_place, root_place, group_list_place, journals_place, journal_place, group_list, journal, taken, use_of, dinode_places}
+use Rattle.mkgfs2_tool.specs.Files.{height, file_blocks, part}
+use Rattle.mkgfs2_tool.specs.Order.{journals_place, journal_place, group_list, journal, taken, use_of, dinode_places}
 use Rattle.mkgfs2_tool.specs.Blocks.{is_dinode, is_dinode_part, is_within, state}
 use Rattle.mkgfs2_tool.specs.Making.{IsFitting}
 use Rattle.mkgfs2_tool.specs.Standing.{IsStamped}
 use Rattle.mkgfs2_tool.specs.declared.files.Part.{Part}
-use Rattle.mkgfs2_tool.specs.declared.files.Part.TheVariants.{Top, Pointers, Content}
-use Rattle.mkgfs2_tool.specs.declared.order.Use.{Use}
-use Rattle.mkgfs2_tool.specs.declared.order.Use.TheVariants as use_is
+use Rattle.mkgfs2_tool.specs.declared.files.Part.TheVariants.{Pointers, Content}
 use Rattle.mkgfs2_tool.specs.declared.plan.Plan.{Plan}
 use Rattle.mkgfs2_tool.proofs.StandingCounts.{count_none}
-use Rattle.mkgfs2_tool.proofs.StandingShapes.{IsBelow, part_below, part_here, inside_file, Piece, is_top, is_below, piece}
+use Rattle.mkgfs2_tool.proofs.StandingShapes.{part_below, part_here, Piece, is_top, is_below, piece}
 use Rattle.mkgfs2_tool.proofs.StandingOwners.{file_place, file_shape, file_use, Kept, is_master, is_root, is_journals, is_file, kept, file_taken, file_some, use_of_file, use_of_journals, some_taken, two_taken, journals_taken}
 use Rattle.mkgfs2_tool.proofs.StandingFiles.{file_low}
 
@@ -46,9 +44,9 @@ pub free_counted : (p : Plan) (b n : ℕ) → count_by (λ s. s == 0) (map (stat
 free_counted p b zero = omega arith
 free_counted p b (suc n) = elim (cases_lt b (taken p)) [
   | inl low ↦ used (count_by (λ s. s == 0) (map (state p) (range_with_len b (suc n)))) (cond (state p b == 0) 1 0) (count_by (λ s. s == 0) (map (state p) (range_with_len (b + 1) n))) n (taken p) b
-    (sum_by-cons (λ s. one_if (s == 0)) (state p b) (map (state p) (range_with_len (b + 1) n))) (cond-false {A = ℕ} _ 1 0 (state_some p b low)) (free_counted p (b + 1) n) low
+      (sum_by-cons (λ s. one_if (s == 0)) (state p b) (map (state p) (range_with_len (b + 1) n))) (cond-false {A = ℕ} _ 1 0 (state_some p b low)) (free_counted p (b + 1) n) low
   | inr ge ↦ free (count_by (λ s. s == 0) (map (state p) (range_with_len b (suc n)))) (cond (state p b == 0) 1 0) (count_by (λ s. s == 0) (map (state p) (range_with_len (b + 1) n))) n (taken p) b
-    (sum_by-cons (λ s. one_if (s == 0)) (state p b) (map (state p) (range_with_len (b + 1) n))) (cond-true {A = ℕ} _ 1 0 (ap (λ s. s == 0) (state_free p b ge))) (free_counted p (b + 1) n) ge
+      (sum_by-cons (λ s. one_if (s == 0)) (state p b) (map (state p) (range_with_len (b + 1) n))) (cond-true {A = ℕ} _ 1 0 (ap (λ s. s == 0) (state_free p b ge))) (free_counted p (b + 1) n) ge
 ]
   where
     used : (c x y n t b : ℕ) → c ≡ x + y → x ≡ 0 → y ≡ n - (t - (b + 1)) → b < t → c ≡ suc n - (t - b)
@@ -111,18 +109,26 @@ journals_above p x s (suc n) low = (low, journals_above p x (s + 1) n (further x
 
 journals_rise : (p : Plan) (s n : ℕ) → Rising (map (journal_place p) (range_with_len s n))
 journals_rise p s zero = tt
-journals_rise p s (suc n) = (journals_above p (journal_place p s) (s + 1) n (next (journals_place p + 1) (s * file_blocks (journal p)) ((s + 1) * file_blocks (journal p)) (file_blocks (journal p)) (file_some p 1)
-    (row_fits s (file_blocks (journal p)) (s + 1) (file_blocks (journal p)) (omega arith) (omega arith))), journals_rise p (s + 1) n)
+journals_rise p s (suc n) = (
+  journals_above p (journal_place p s) (s + 1) n (next (journals_place p + 1) (s * file_blocks (journal p)) ((s + 1) * file_blocks (journal p)) (file_blocks (journal p)) (file_some p 1)
+      (row_fits s (file_blocks (journal p)) (s + 1) (file_blocks (journal p)) (omega arith) (omega arith))),
+  journals_rise p (s + 1) n,
+)
   where
     next : (a u v f : ℕ) → 1 ≤ f → u + f ≤ v → a + u < a + v
     next a u v f some step = omega (arith, some, step)
 
 places_rise : (p : Plan) → Rising (dinode_places p)
-places_rise p =
-    ((omega arith, (omega arith, (omega arith, journals_above p 0 0 p.journals (omega arith)))),
-     ((omega arith, (omega arith, journals_above p 1 0 p.journals (omega arith))),
-      ((list_first, journals_above p 2 0 p.journals (omega arith)),
-       (journals_above p (journals_place p) 0 p.journals (omega arith), journals_rise p 0 p.journals))))
+places_rise p = (
+  (omega arith, (omega arith, (omega arith, journals_above p 0 0 p.journals (omega arith)))),
+  (
+    (omega arith, (omega arith, journals_above p 1 0 p.journals (omega arith))),
+    (
+      (list_first, journals_above p 2 0 p.journals (omega arith)),
+      (journals_above p (journals_place p) 0 p.journals (omega arith), journals_rise p 0 p.journals),
+    ),
+  ),
+)
   where
     list_first : 2 < journals_place p
     list_first = above (file_blocks (group_list p)) (file_some p 0)

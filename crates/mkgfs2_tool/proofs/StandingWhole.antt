@@ -1,17 +1,16 @@
 -- Each block of a new image is whole, and its superblock reads as it was laid.
-use Rattle.std.proofs.Common.{ℕ, zero, suc, ◌≡◌, ◌≢◌, ◌+◌, ◌-◌, ◌*◌, ◌/◌, ◌^◌, ◌<◌, ◌≤◌, ◌⊎◌, inl, inr, Bool, true, false, List, [], ◌∷◌, ◌++◌, length, take, drop, replicate, map, Ok, None, refl, sym, ap, ◌∙◌, subst, arith, length-append}
-use Rattle.std.specs.Prelude.{min, ◌==◌, if◌then◌else◌}
-use Rattle.std.specs.List.{AllByRecursion, range_with_len}
+use Rattle.std.proofs.Common.{ℕ, zero, suc, ◌≡◌, ◌+◌, ◌-◌, ◌*◌, ◌^◌, ◌<◌, ◌≤◌, ◌⊎◌, inl, inr, List, length, take, drop, replicate, Ok, None, refl, sym, ap, ◌∙◌, subst, arith, length-append}
+use Rattle.std.specs.Prelude.{min}
+use Rattle.std.specs.List.{AllByRecursion}
 use Rattle.std.specs.Int.{w32}
 use Rattle.std.proofs.lemmas.Bool.{cases_lt, cases_eq, cond-true, cond-false, eq-eqb, ne_eqb, lt-ltb, le-ltb}
 use Rattle.std.proofs.lemmas.List.{length-replicate, length-take-le, length-take}
 use Rattle.std.proofs.lemmas.List.FromFn.{length-map-range_with_len}
-use Rattle.gfs2_layout.specs.Bytes.{slice, put_at, with_number}
+use Rattle.gfs2_layout.specs.Bytes.{slice, put_at}
 use Rattle.gfs2_layout.specs.Checksum.{checksum_of}
 use Rattle.gfs2_layout.specs.Fields.{HasItsWidth, with_fields}
 use Rattle.gfs2_layout.specs.Structures.{superblock_of, superblock_read, header_fault}
 use Rattle.gfs2_layout.specs.Writing.{superblock_fields, texts_put, superblock_put, group_fields, group_put, header_fields, header_put, log_fields, log_put, zeros_from, dinode_fields, dinode_put}
-use Rattle.gfs2_layout.specs.declared.superblock.SuperBlock.{SuperBlock}
 use Rattle.gfs2_layout.specs.declared.group_header.GroupHeader.{GroupHeader}
 use Rattle.gfs2_layout.specs.declared.header.MetaHeader.{MetaHeader}
 use Rattle.gfs2_layout.specs.declared.log_header.LogHeader.{LogHeader}
@@ -19,11 +18,11 @@ use Rattle.gfs2_layout.proofs.FieldsInPlace.{length-fields}
 use Rattle.gfs2_layout.proofs.InPlace.{is_width_32, length-put, length-with}
 use Rattle.gfs2_layout.proofs.ReadBack.{HasLengths, texts_with, superblock_back}
 use Rattle.image_model.specs.Headers.{HasHeader}
-use Rattle.mkgfs2_tool.specs.Groups.{super_block, last_group, group_address, group_blocks, headers_of, first_data, data_blocks, data_before, all_data, data_address}
-use Rattle.mkgfs2_tool.specs.Files.{height, level_start, file_blocks}
+use Rattle.mkgfs2_tool.specs.Groups.{super_block, last_group, headers_of, first_data, data_blocks, data_before, data_address}
+use Rattle.mkgfs2_tool.specs.Files.{height, level_start}
 use Rattle.mkgfs2_tool.specs.Order.{master_place, root_place, journals_place, taken}
 use Rattle.mkgfs2_tool.specs.Directories.{records, master_entries, root_entries, journals_entries}
-use Rattle.mkgfs2_tool.specs.Blocks.{zeros, shift_of, text_field, superblock, bitmap_byte, bitmap, group_header, first_header_block, further_header_block, header_block, area_length, dinode, directory, group_entries, group_list_block, journal_block, clean_header, used_block, data_block, new_block, group_block}
+use Rattle.mkgfs2_tool.specs.Blocks.{zeros, shift_of, superblock, bitmap_byte, bitmap, group_header, first_header_block, further_header_block, header_block, area_length, dinode, directory, group_entries, group_list_block, journal_block, clean_header, used_block, new_block}
 use Rattle.mkgfs2_tool.specs.Making.{IsFitting}
 use Rattle.mkgfs2_tool.specs.Standing.{IsStamped}
 use Rattle.mkgfs2_tool.specs.declared.directory.Entry.{Entry}
@@ -31,7 +30,7 @@ use Rattle.mkgfs2_tool.specs.declared.files.Part.TheVariants.{Content}
 use Rattle.mkgfs2_tool.specs.declared.plan.Plan.{Plan}
 use Rattle.mkgfs2_tool.proofs.StandingBytes.{answer_ok, header_from, filled}
 use Rattle.mkgfs2_tool.proofs.StandingShapes.{IsBelow, Piece, is_top, is_below, piece}
-use Rattle.mkgfs2_tool.proofs.StandingPlan.{ground, ground_is, new_at, new_header, new_room, new_super, address_at, room_of, address_low}
+use Rattle.mkgfs2_tool.proofs.StandingPlan.{new_at, new_header, new_room, new_super, address_at, address_low}
 use Rattle.mkgfs2_tool.proofs.StandingOwners.{file_shape, file_use, spot, Zone, is_low, is_past, is_header, is_room, is_end, zone, Kept, is_master, is_root, is_journals, is_file, kept, in_all, some_taken, two_taken}
 use Rattle.mkgfs2_tool.proofs.StandingFiles.{file_low, large, size_few, file_dinode_is, inner_block, content_at}
 use Rattle.mkgfs2_tool.proofs.StandingRecords.{records_are}
@@ -61,7 +60,7 @@ log_put_long : (size : ℕ) (h : LogHeader) → 512 ≤ size → length (log_put
 log_put_long size h large =
     let front : List ℕ = zeros_from 48 (replicate size 0) in
     let long_front : length front ≡ size = length-append (take 48 (replicate size 0)) (replicate (length (replicate {A = ℕ} size 0) - 48) 0)
-      ∙ sum (length (take 48 (replicate {A = ℕ} size 0))) (length (replicate {A = ℕ} (length (replicate {A = ℕ} size 0) - 48) 0)) (length-take-le 48 (replicate size 0) (omega (arith, clear_long size, large))) (clear_long (length (replicate {A = ℕ} size 0) - 48) ∙ ap (λ n. n - 48) (clear_long size)) in
+    ∙ sum (length (take 48 (replicate {A = ℕ} size 0))) (length (replicate {A = ℕ} (length (replicate {A = ℕ} size 0) - 48) 0)) (length-take-le 48 (replicate size 0) (omega (arith, clear_long size, large))) (clear_long (length (replicate {A = ℕ} size 0) - 48) ∙ ap (λ n. n - 48) (clear_long size)) in
     let base : List ℕ = with_fields (log_fields h) front in
     let long : length base ≡ size = length-fields (log_fields h) front (omega (arith, long_front, large)) ∙ long_front in
     length-with w32 44 (checksum_of 48 44 base) base is_width_32 (omega (arith, long, large)) ∙ long
@@ -94,8 +93,31 @@ module _ (p : Plan) (fit : IsFitting p) (stamped : IsStamped p) where
   lengths = record { lock_protocol = refl; lock_table = refl; uuid = stamped.uuid }
 
   super_widths : AllByRecursion HasItsWidth (superblock_fields (superblock p))
-  super_widths = (omega arith, (omega arith, (omega arith, (omega arith, (omega arith, (omega arith, (size_low p.size (size_few p fit stamped), (shift_low p.size fit.plan.size,
-    (omega arith, (near master_place (some_taken p), (omega arith, (near root_place (two_taken p), tt))))))))))))
+  super_widths = (
+    omega arith,
+    (
+      omega arith,
+      (
+        omega arith,
+        (
+          omega arith,
+          (
+            omega arith,
+            (
+              omega arith,
+              (
+                size_low p.size (size_few p fit stamped),
+                (
+                  shift_low p.size fit.plan.size,
+                  (omega arith, (near master_place (some_taken p), (omega arith, (near root_place (two_taken p), tt)))),
+                ),
+              ),
+            ),
+          ),
+        ),
+      ),
+    ),
+  )
     where
       size_low : (s : ℕ) → s ≤ 4096 → s < 2 ^ 32
       size_low s few = omega (arith, few)
@@ -258,5 +280,5 @@ module _ (p : Plan) (fit : IsFitting p) (stamped : IsStamped p) where
       each (is_room g r ok inside e) = ap (λ m. length (new_block p m)) e ∙ room_long g r ok inside
       each (is_end g n ok far inside e) =
           ap (λ m. length (new_block p m)) e ∙ ap length (new_at p fit g n ok inside
-            ∙ cond-false _ _ _ (le-ltb n (headers_of p g) (beyond n (headers_of p g) (data_blocks p g) far).0)
-            ∙ cond-false _ _ _ (le-ltb (n - headers_of p g) (data_blocks p g) (beyond n (headers_of p g) (data_blocks p g) far).1)) ∙ clear_long p.size
+          ∙ cond-false _ _ _ (le-ltb n (headers_of p g) (beyond n (headers_of p g) (data_blocks p g) far).0)
+          ∙ cond-false _ _ _ (le-ltb (n - headers_of p g) (data_blocks p g) (beyond n (headers_of p g) (data_blocks p g) far).1)) ∙ clear_long p.size

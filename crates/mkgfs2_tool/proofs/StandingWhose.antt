@@ -1,12 +1,10 @@
 -- Which blocks an owner of a new image has.
-use Rattle.std.proofs.Common.{ℕ, zero, suc, ◌≡◌, ◌+◌, ◌-◌, ◌*◌, ◌<◌, ◌≤◌, ◌⊎◌, inl, inr, List, codes, refl, sym, ap, ◌∙◌, subst, arith}
-use Rattle.std.specs.Prelude.{◌==◌, if◌then◌else◌}
+use Rattle.std.proofs.Common.{ℕ, ◌≡◌, ◌+◌, ◌≤◌, ◌⊎◌, inl, inr, List, codes, sym, ap, ◌∙◌, subst, arith}
 use Rattle.std.proofs.lemmas.Bool.{cases_eq, cond-true, cond-false, eq-eqb, ne_eqb}
-use Rattle.image_model.specs.Inode.{span}
-use Rattle.image_model.specs.Owners.{Owner, Super, InGroup, Free, Nobody, Root, Master, Named, Below, Chained, IsUsed}
+use Rattle.image_model.specs.Owners.{Root, Master, Named, Below, Chained, IsUsed}
 use Rattle.image_model.proofs.Unique.{used_or_not}
 use Rattle.mkgfs2_tool.specs.Groups.{data_address}
-use Rattle.mkgfs2_tool.specs.Files.{height, level_start, part, file_blocks}
+use Rattle.mkgfs2_tool.specs.Files.{height, level_start}
 use Rattle.mkgfs2_tool.specs.Order.{master_place, root_place, journals_place}
 use Rattle.mkgfs2_tool.specs.Making.{IsFitting}
 use Rattle.mkgfs2_tool.specs.Standing.{IsStamped}
@@ -62,7 +60,7 @@ module _ (p : Plan) (fit : IsFitting p) (stamped : IsStamped p) where
   pub same_file : (i k : ℕ) → i ≤ p.journals → k ≤ p.journals → spot p i 0 ≡ spot p k 0 → i ≡ k
   same_file i k ok ok' e =
       file_apart p i k (drop_zero (file_place p i) (file_place p k) (apart_addresses p fit (file_place p i + 0) (file_place p k + 0)
-        (in_all p fit (file_place p i + 0) (file_taken p i 0 ok (file_some p i))) (in_all p fit (file_place p k + 0) (file_taken p k 0 ok' (file_some p k))) e))
+      (in_all p fit (file_place p i + 0) (file_taken p i 0 ok (file_some p i))) (in_all p fit (file_place p k + 0) (file_taken p k 0 ok' (file_some p k))) e))
     where
       drop_zero : (a b : ℕ) → a + 0 ≡ b + 0 → a ≡ b
       drop_zero a b e = omega (arith, e)

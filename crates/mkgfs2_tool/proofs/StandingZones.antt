@@ -1,14 +1,12 @@
 -- The groups of a new image lie where they fit, and each owner's blocks lie where they may.
-use Rattle.std.proofs.Common.{ℕ, zero, suc, ◌≡◌, ◌≢◌, ◌+◌, ◌-◌, ◌*◌, ◌/◌, ◌<◌, ◌≤◌, ◌⊎◌, inl, inr, Bool, true, false, List, map, Some, refl, sym, ap, ◌∙◌, subst, arith}
-use Rattle.std.specs.List.{range_with_len}
+use Rattle.std.proofs.Common.{ℕ, ◌≡◌, ◌+◌, ◌-◌, ◌*◌, ◌/◌, ◌<◌, ◌≤◌, ◌⊎◌, inl, inr, Some, refl, sym, ap, ◌∙◌, subst, arith}
 use Rattle.std.proofs.lemmas.Bool.{cases_lt}
 use Rattle.gfs2_layout.specs.declared.rindex.Rindex.{Rindex}
 use Rattle.image_model.specs.Groups.{IsGroupAt, IsListed, end_of, IsHeaderOf, IsDataOf, IsNear, bitmap_room, GroupFits, GroupsFit}
-use Rattle.image_model.specs.Image.{Blocks, superblock_place}
-use Rattle.image_model.specs.Owners.{Owner, Super, InGroup, Free, Nobody, IsUsed}
+use Rattle.image_model.specs.Image.{Blocks}
+use Rattle.image_model.specs.Owners.{InGroup, Free, Nobody, IsUsed}
 use Rattle.image_model.specs.Stands.{IsZoned}
-use Rattle.image_model.proofs.Unique.{used_or_not}
-use Rattle.mkgfs2_tool.specs.Groups.{super_block, last_group, group_address, group_blocks, header_blocks, headers_of, first_data, data_blocks, data_before, all_data, data_address}
+use Rattle.mkgfs2_tool.specs.Groups.{super_block, last_group, group_address, group_blocks, header_blocks, headers_of, first_data, data_blocks, data_before, data_address}
 use Rattle.mkgfs2_tool.specs.Order.{taken}
 use Rattle.mkgfs2_tool.specs.Blocks.{group_entry}
 use Rattle.mkgfs2_tool.specs.Making.{IsFitting}
@@ -92,10 +90,14 @@ module _ (p : Plan) (fit : IsFitting p) (stamped : IsStamped p) where
       through g k n less ok = omega (arith, less, ok)
 
   near : (b : ℕ) → IsOver (ground p) b → (e : Rindex) × IsListed (new_layout p).groups e × IsNear e b
-  near b at = (group_entry p at.group, is_listed at.group at.listed, record {
-    low = low (group_address p at.group) at.offset b at.is;
-    high = high (group_address p at.group) (headers_of p at.group) (data_blocks p at.group) at.offset b at.is (near_in (group_blocks p at.group) (headers_of p at.group) at.offset at.inside ((ground_is p fit).some at.group at.listed));
-  })
+  near b at = (
+    group_entry p at.group,
+    is_listed at.group at.listed,
+    record {
+      low = low (group_address p at.group) at.offset b at.is;
+      high = high (group_address p at.group) (headers_of p at.group) (data_blocks p at.group) at.offset b at.is (near_in (group_blocks p at.group) (headers_of p at.group) at.offset at.inside ((ground_is p fit).some at.group at.listed));
+    },
+  )
     where
       low : (a n b : ℕ) → b ≡ a + n → a ≤ b
       low a n b e = omega (arith, e)
@@ -107,7 +109,7 @@ module _ (p : Plan) (fit : IsFitting p) (stamped : IsStamped p) where
   groups_fit at = record {
     each = λ e is. let g = listed e is in subst (GroupFits (image p at)) (sym g.is) (group_fits at g.group g.ok);
     rise = λ i j e f is is' less. let g = group_at i e is in let k = group_at j f is' in
-      subst (λ (x : Rindex). end_of x ≤ f.address) (sym g.1) (subst (λ (x : Rindex). end_of (group_entry p i) ≤ x.address) (sym k.1) (rise i j less k.0));
+        subst (λ (x : Rindex). end_of x ≤ f.address) (sym g.1) (subst (λ (x : Rindex). end_of (group_entry p i) ≤ x.address) (sym k.1) (rise i j less k.0));
     rest = λ b low high. near b (block_over (ground p) (ground_is p fit) b low high);
   }
 
@@ -194,9 +196,9 @@ module _ (p : Plan) (fit : IsFitting p) (stamped : IsStamped p) where
   zoned at = record {
     low = λ b le. owner_low p fit b le;
     headers = λ e is b h. let g = listed e is in
-      subst (λ (x : Rindex). owner p b ≡ InGroup x.address) (sym g.is) (zoned_header g.group g.ok b (subst (λ (x : Rindex). IsHeaderOf x b) g.is h));
+        subst (λ (x : Rindex). owner p b ≡ InGroup x.address) (sym g.is) (zoned_header g.group g.ok b (subst (λ (x : Rindex). IsHeaderOf x b) g.is h));
     data_blocks = λ e is b d. let g = listed e is in
-      subst (λ (x : Rindex). (owner p b ≡ Free x.address) ⊎ IsUsed (owner p b)) (sym g.is) (zoned_data g.group g.ok b (subst (λ (x : Rindex). IsDataOf x b) g.is d));
+        subst (λ (x : Rindex). (owner p b ≡ Free x.address) ⊎ IsUsed (owner p b)) (sym g.is) (zoned_data g.group g.ok b (subst (λ (x : Rindex). IsDataOf x b) g.is d));
     placed = placed;
     between = between;
   }

@@ -1,5 +1,5 @@
 -- A new image stands for the empty directory, and what a mount finds in it.
-use Rattle.std.specs.Prelude.{ℕ, ◌≡◌, ◌^◌, ◌<◌, List, length, map, Some}
+use Rattle.std.specs.Prelude.{ℕ, ◌≡◌, ◌^◌, ◌<◌, length, map, Some}
 use Rattle.std.specs.List.{range_with_len}
 use Rattle.file_tree.specs.Tree.{dir, none}
 use Rattle.image_model.specs.Claims.{every}
