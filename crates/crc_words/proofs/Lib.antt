@@ -5,3 +5,4 @@ pub mod LaneLemmas
 pub mod WordLemmas
 pub mod BurstLemmas
 pub mod DivisionLemmas
+pub mod FitLemmas

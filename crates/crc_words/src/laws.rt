@@ -47,3 +47,8 @@ pub fn checksums_have_known_values()
     ensures crc32 { crc32_of (codes "123456789") ≡ 0xCBF4_3926 }
     ensures crc32c_raw { bit_xor (crc32c_raw_of (codes "123456789")) all_ones ≡ 0xE306_9283 }
 {}
+
+/// A CRC-32 of bytes has 32 bits.
+pub fn checksums_have_32_bits()
+    ensures { (bytes : List ℕ) → All (λ byte. byte < 256) bytes → crc32_of bytes < 2 ^ 32 }
+{}

@@ -13,7 +13,7 @@ mod tests;
 
 pub use laws::{
     bursts_change_checksums, changed_bytes_are_a_burst, checksums_go_on_over_pieces,
-    checksums_have_known_values, remainders_are_rests_of_division,
+    checksums_have_32_bits, checksums_have_known_values, remainders_are_rests_of_division,
 };
 pub use plain::remainder_bit_by_bit;
 use tables::crc32::{CRC32_FAR, CRC32_NEAR};

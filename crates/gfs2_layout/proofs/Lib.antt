@@ -11,3 +11,5 @@ pub mod InPlace
 pub mod FieldsInPlace
 pub mod ReadBack
 pub mod ReadBackMore
+pub mod ReadOwn
+pub mod ReadLaws

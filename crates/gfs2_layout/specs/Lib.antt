@@ -6,3 +6,4 @@ pub mod Writing
 pub mod Area
 pub mod Putting
 pub mod Bitmap
+pub mod Laws

@@ -5,7 +5,22 @@ ghost use Rattle.std.specs.Option.{option_map};
 ghost use Rattle.gfs2_layout.specs.declared.dirent.Dirent.{Dirent};
 ghost use Rattle.gfs2_layout.specs.Area.{Slot, IsArea, first_named, slot_bytes, slots_of};
 ghost use Rattle.gfs2_layout.specs.Putting.{IsEntryOf, HasOneMore, has_room, least_length, new_says, put_slot, says, told};
+ghost use Rattle.gfs2_layout.specs.Laws.{AreasJoin, StructuresReadBack};
 ghost use Rattle.gfs2_layout.specs.Bitmap.{state_at, with_state, packed};
+
+use crc_words::checksums_have_32_bits;
+
+/// A law: a structure is read as it was written, from its own bytes alone, and the bytes behind it stay.
+pub fn structures_read_back()
+    ensures { StructuresReadBack }
+{
+    checksums_have_32_bits();
+}
+
+/// A law: of two areas one behind the other the records are those of the first and then those of the second.
+pub fn areas_join()
+    ensures { AreasJoin }
+{}
 
 /// A law: a state that was put is read again at its place, and what stood elsewhere stays.
 pub fn states_are_put_and_read()

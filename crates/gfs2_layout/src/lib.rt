@@ -28,7 +28,8 @@ pub use group_header::GroupHeader;
 pub use header::MetaHeader;
 pub use inum::Inum;
 pub use laws::{
-    areas_are_their_records, packed_states_are_read, put_records_are_found, states_are_put_and_read,
+    areas_are_their_records, areas_join, packed_states_are_read, put_records_are_found,
+    states_are_put_and_read, structures_read_back,
 };
 pub use leaf::Leaf;
 pub use log_header::LogHeader;

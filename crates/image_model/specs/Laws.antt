@@ -1,12 +1,14 @@
 -- Laws of images.
-use Rattle.std.specs.Prelude.{ℕ, ◌≡◌, List}
+use Rattle.std.specs.Prelude.{ℕ, ◌≡◌, ◌↔◌, true, List, Some}
 use Rattle.std.specs.List.Sorted.{IsPermutation}
 use Rattle.file_tree.specs.Tree.{Tree}
 use Rattle.image_model.specs.Image.{Image}
+use Rattle.image_model.specs.Claims.{every, Claims}
+use Rattle.image_model.specs.Journals.{ring_of, head_in, IsJournal}
 use Rattle.image_model.specs.Rules.{Breaks}
 use Rattle.gfs2_layout.specs.declared.dinode.Dinode.{Dinode}
 use Rattle.image_model.specs.Inode.{Head}
-use Rattle.image_model.specs.Owners.{Owners}
+use Rattle.image_model.specs.Owners.{Owner, Owners, Below, Chained, is_dinode, IsUsed, Part, Itself, Pointed, InChain, holding, bytes_at, part_at}
 use Rattle.image_model.specs.Records.{Record, child_named}
 use Rattle.image_model.specs.Stands.{Layout, IsLaid, IsDirectory, Stands}
 
@@ -26,3 +28,24 @@ NothingBreaks = (im : Image) (t : Tree) → Stands im t → (rule b : ℕ) → B
 abbrev pub AnyOrder : Type 0
 AnyOrder = (rs ss : List Record) → IsPermutation rs ss → (heads : ℕ → Head) (owners : Owners) (a : ℕ) (d : Dinode) → IsDirectory heads owners a rs d
     → IsDirectory heads owners a ss d × ((name : List ℕ) → child_named rs name ≡ child_named ss name)
+
+-- what an inode holds of a block is told by the block's owner
+pub record OwnersAreHeld (im : Image) (owners : Owners) : Type 0 where
+  pub own : (a : ℕ) → is_dinode (owners a) ≡ true → part_at (holding im owners a) a ≡ Some Itself
+  pub itself : (a b : ℕ) → part_at (holding im owners a) b ≡ Some Itself → b ≡ a
+  pub pointed : (a b above k level first : ℕ) → (part_at (holding im owners a) b ≡ Some (Pointed above k level first)) ↔ (owners b ≡ Below a above k level first)
+  pub chained : (a b hash place : ℕ) → (part_at (holding im owners a) b ≡ Some (InChain hash place)) ↔ (owners b ≡ Chained a hash place)
+  pub bytes : (a b : ℕ) (part : Part) → part_at (holding im owners a) b ≡ Some part → bytes_at (holding im owners a) b ≡ im.at b
+
+abbrev pub HoldingsAreOwned : Type 0
+HoldingsAreOwned = (im : Image) (owners : Owners) → OwnersAreHeld im owners
+
+-- in an image that stands a block is claimed by its owner, where one uses it, and by no other
+abbrev pub OwnersClaim : Type 0
+OwnersClaim = (im : Image) (owners : Owners) (l : Layout) → IsLaid im owners l → (b : ℕ) (o : Owner)
+    → ((by : ℕ) × Claims im by b o) ↔ ((owners b ≡ o) × IsUsed o)
+
+-- in an image that stands a journal that is read block after block is that which is read from its own blocks
+abbrev pub JournalsReadAlike : Type 0
+JournalsReadAlike = (im : Image) (owners : Owners) (l : Layout) → IsLaid im owners l → (a : ℕ) → is_dinode (owners a) ≡ true → IsJournal (holding im owners a)
+    → (head_in (ring_of (holding im owners a)) ≡ head_in (ring_of (every im a))) × ((ring_of (holding im owners a)).places ≡ (ring_of (every im a)).places)

@@ -1,5 +1,5 @@
 //! What the definitions of images mean. The functions do nothing: their contracts are the laws.
-ghost use Rattle.image_model.specs.Laws.{AnyOrder, NothingBreaks, OneTable, OneTree};
+ghost use Rattle.image_model.specs.Laws.{AnyOrder, HoldingsAreOwned, JournalsReadAlike, NothingBreaks, OneTable, OneTree, OwnersClaim};
 
 /// A law: an image stands for at most one tree.
 pub fn images_stand_for_one_tree()
@@ -19,4 +19,19 @@ pub fn what_stands_breaks_nothing()
 /// A law: whether records are a directory's, and where a name leads, doesn't hang on their order.
 pub fn records_have_no_order()
     ensures { AnyOrder }
+{}
+
+/// A law: what an inode holds of a block is told by the block's owner.
+pub fn holdings_are_owned()
+    ensures { HoldingsAreOwned }
+{}
+
+/// A law: in an image that stands a block that is in use is claimed by its owner, and by no other.
+pub fn owners_claim_their_blocks()
+    ensures { OwnersClaim }
+{}
+
+/// A law: in an image that stands a journal reads the same from its own blocks and block after block.
+pub fn journals_read_alike()
+    ensures { JournalsReadAlike }
 {}

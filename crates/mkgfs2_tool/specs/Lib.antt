@@ -5,3 +5,4 @@ pub mod Directories
 pub mod Blocks
 pub mod Making
 pub mod Outcomes
+pub mod Standing

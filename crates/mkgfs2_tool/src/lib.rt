@@ -9,6 +9,7 @@ mod files;
 mod groups;
 mod inodes;
 mod making;
+mod laws;
 mod options;
 mod order;
 mod plan;
@@ -17,5 +18,6 @@ mod pointers;
 mod tests;
 
 pub use making::make;
+pub use laws::new_images_stand;
 pub use options::{MakeFault, MakeOptions, Opt};
 pub use plan::Plan;

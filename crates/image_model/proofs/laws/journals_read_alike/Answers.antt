@@ -1,0 +1,7 @@
+use Rattle.image_model.proofs.Lengths.{head_same, places_same, size_large}
+use Rattle.image_model.proofs.laws.journals_read_alike.Goals as goal
+
+pub returns : goal.returns
+returns c = λ im owners l laid a dinode journal.
+    let large = size_large im.size laid.image.block_size in
+    (head_same im owners large a dinode (laid.inodes a dinode) journal, places_same im owners large a dinode (laid.inodes a dinode) journal)

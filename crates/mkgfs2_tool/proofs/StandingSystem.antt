@@ -1,0 +1,481 @@
+-- The inodes of a new image, and where names lead.
+use Rattle.std.proofs.Common.{ℕ, zero, suc, ◌≡◌, ◌+◌, ◌<◌, ◌≤◌, ◌⊎◌, inl, inr, Bool, true, false, List, [], ◌∷◌, map, Option, None, Some, codes, refl, sym, ap, ◌∙◌, subst, arith}
+use Rattle.std.specs.Prelude.{◌/◌, ◌==◌, ◌&&◌, not, Contains, option_and_then, cond}
+use Rattle.std.specs.Option.{option_map}
+use Rattle.std.proofs.lemmas.Bool.{cond-true, cond-false, eqb-true, true≢false}
+use Rattle.std.proofs.lemmas.List.Sums.{sum_by-cons}
+use Rattle.file_tree.specs.Tree.{dir, none}
+use Rattle.gfs2_layout.specs.Structures.{is_directory, is_regular}
+use Rattle.gfs2_layout.specs.declared.dinode.Dinode.{Dinode}
+use Rattle.image_model.specs.Flat.{Path, AFile, ADir, Node, Flat, follow, thing_from, thing_at, ReadsAs}
+use Rattle.image_model.specs.Image.{Blocks}
+use Rattle.image_model.specs.Inode.{Head, dinode_in, is_directory_in, records_of, node_of, IsInode}
+use Rattle.image_model.specs.Journals.{journal_name, IsJournal}
+use Rattle.image_model.specs.Owners.{Owner, Super, InGroup, Free, Nobody, Root, Master, Named, Below, Chained, Up, up_of, parent_of, is_dinode, IsUsed, IsWithin}
+use Rattle.image_model.specs.Records.{Record, is_dots, child_named}
+use Rattle.image_model.specs.Stands.{IsJournalAt, flat_of, heads_of, IsRecordOf, HasRecord, directory_count, LeadsDown, IsDirectory, IsSystem, IsFound, AreShort}
+use Rattle.image_model.proofs.Held.{none_some, some_same}
+use Rattle.image_model.proofs.Members.{IsIn, is_in, contained}
+use Rattle.image_model.proofs.Reach.{Leading, IsNamedChild, named_child}
+use Rattle.mkgfs2_tool.specs.Groups.{data_address}
+use Rattle.mkgfs2_tool.specs.Order.{master_place, root_place, journals_place, journal_place}
+use Rattle.mkgfs2_tool.specs.Directories.{journal_entry, master_entries, root_entries, journals_entries}
+use Rattle.mkgfs2_tool.specs.Blocks.{group_entries}
+use Rattle.mkgfs2_tool.specs.Making.{IsFitting}
+use Rattle.mkgfs2_tool.specs.Standing.{IsStamped, new_layout}
+use Rattle.mkgfs2_tool.specs.declared.directory.Entry.{Entry}
+use Rattle.mkgfs2_tool.specs.declared.plan.Plan.{Plan}
+use Rattle.mkgfs2_tool.proofs.StandingOwners.{file_place, file_name, file_parent, spot, below_owner, owner, owner_master, owner_root, owner_journals}
+use Rattle.mkgfs2_tool.proofs.StandingFiles.{file_number}
+use Rattle.mkgfs2_tool.proofs.StandingWhose.{Whose, whose_master, whose_root, whose_journals, whose_file, whose_below, whose_none, whose, owner_top}
+use Rattle.mkgfs2_tool.proofs.StandingInodes.{image, AreMade, held, file_own, file_plain, file_number_is, file_sound}
+use Rattle.mkgfs2_tool.proofs.StandingRings.{new_journal}
+use Rattle.mkgfs2_tool.proofs.StandingList.{list_content, list_is}
+use Rattle.mkgfs2_tool.proofs.StandingRecords.{entry_record}
+use Rattle.mkgfs2_tool.proofs.StandingDirs.{IsDirectoryAt, dir_is, dir_sound, dir_number, dir_entries, dir_links, dir_records, master_at, root_at, journals_at}
+use Rattle.mkgfs2_tool.proofs.StandingNames.{record_name, name_is, is_journal_name, is_jindex_name, is_rindex_name, named_once, journal_records, journals_apart, dots_apart, journal_found, IsOfJournal, of_journal, length_journals, no_directories, got_at, get_at}
+
+used_dinode : (o : Owner) → is_dinode o ≡ true → IsUsed o
+used_dinode Super e = cc
+used_dinode (InGroup g) e = cc
+used_dinode (Free g) e = cc
+used_dinode Nobody e = cc
+used_dinode Root e = tt
+used_dinode Master e = tt
+used_dinode (Named a name) e = tt
+used_dinode (Below a b k level first) e = tt
+used_dinode (Chained a hash place) e = tt
+
+used_up : (o : Owner) (u : Up) → up_of o ≡ Some u → IsUsed o
+used_up Super u e = cc
+used_up (InGroup g) u e = cc
+used_up (Free g) u e = cc
+used_up Nobody u e = cc
+used_up Root u e = tt
+used_up Master u e = tt
+used_up (Named a name) u e = tt
+used_up (Below a b k level first) u e = tt
+used_up (Chained a hash place) u e = tt
+
+used_within : (a : ℕ) (o : Owner) → IsWithin a o → IsUsed o
+used_within a Super e = elim e [ ]
+used_within a (InGroup g) e = elim e [ ]
+used_within a (Free g) e = elim e [ ]
+used_within a Nobody e = elim e [ ]
+used_within a Root e = elim e [ ]
+used_within a Master e = elim e [ ]
+used_within a (Named d name) e = elim e [ ]
+used_within a (Below d b k level first) e = tt
+used_within a (Chained d hash place) e = tt
+
+not_regular : (d : Dinode) → is_directory d ≡ true → is_regular d ≡ true → ⊥
+not_regular d e f = absurd (omega (arith, eqb-true (d.mode / 4096) 4 e, eqb-true (d.mode / 4096) 8 f))
+
+no_below_dinode : (p : Plan) (i l x : ℕ) → is_dinode (below_owner p i l x) ≡ true → ⊥
+no_below_dinode p i l x e = cc
+
+master_up : (u : Up) → up_of Master ≡ Some u → ⊥
+master_up u e = cc
+
+root_up : (u : Up) → up_of Root ≡ Some u → ⊥
+root_up u e = cc
+
+below_up : (p : Plan) (i l x : ℕ) (u : Up) → up_of (below_owner p i l x) ≡ Some u → ⊥
+below_up p i l x u e = cc
+
+module _ (p : Plan) (fit : IsFitting p) (stamped : IsStamped p) (at : Blocks) (made : AreMade p at) where
+  abbrev master : ℕ
+  master = data_address p master_place
+
+  abbrev root : ℕ
+  root = data_address p root_place
+
+  abbrev jindex : ℕ
+  jindex = data_address p (journals_place p)
+
+  abbrev heads : ℕ → Head
+  heads = heads_of (image p at) (owner p)
+
+  abbrev flat : Flat
+  flat = flat_of (image p at) (owner p)
+
+  -- ---- heads
+
+  -- the head of an inode, by its number and by whether it is a directory
+  record HasHead (a number : ℕ) (is_dir : Bool) : Type 0 where
+    pub number_is : (heads a).number ≡ number
+    pub dir_is : (heads a).is_dir ≡ is_dir
+
+  master_head : HasHead master 1 true
+  master_head = record { number_is = dir_number p fit stamped at made master_place 1 4 3 (master_entries p) (master_at p fit stamped); dir_is = dir_is p fit stamped at made master_place 1 4 3 (master_entries p) (master_at p fit stamped) }
+
+  root_head : HasHead root 2 true
+  root_head = record { number_is = dir_number p fit stamped at made root_place 2 2 2 (root_entries p) (root_at p fit stamped); dir_is = dir_is p fit stamped at made root_place 2 2 2 (root_entries p) (root_at p fit stamped) }
+
+  jindex_head : HasHead jindex 4 true
+  jindex_head = record {
+    number_is = dir_number p fit stamped at made (journals_place p) 4 (2 + p.journals) 2 (journals_entries p) (journals_at p fit stamped);
+    dir_is = dir_is p fit stamped at made (journals_place p) 4 (2 + p.journals) 2 (journals_entries p) (journals_at p fit stamped);
+  }
+
+  file_head : (i : ℕ) → i ≤ p.journals → HasHead (spot p i 0) (file_number i) false
+  file_head i ok = record { number_is = file_number_is p fit stamped at made i ok; dir_is = file_plain p fit stamped at made i ok }
+
+  dir_record : (name : List ℕ) (a number : ℕ) → HasHead a number true → IsRecordOf heads a (record { name = name; number = number; address = a; kind = 4 })
+  dir_record name a number head = record { address = refl; number = sym head.number_is; kind = sym (cond-true _ _ _ head.dir_is) }
+
+  file_record : (name : List ℕ) (a number : ℕ) → HasHead a number false → IsRecordOf heads a (record { name = name; number = number; address = a; kind = 8 })
+  file_record name a number head = record { address = refl; number = sym head.number_is; kind = sym (cond-false _ _ _ head.dir_is) }
+
+  has_record : (rs : List Record) (r : Record) (b : ℕ) → IsIn r rs → IsRecordOf heads b r → HasRecord heads rs r.name b
+  has_record rs r b there is = record { entry = r; there = contained r rs there; named = refl; true_of = is }
+
+  -- the address of a file's dinode
+  file_address : (i : ℕ) → data_address p (file_place p i) ≡ spot p i 0
+  file_address i = ap (data_address p) (none (file_place p i))
+    where
+      none : (n : ℕ) → n ≡ n + 0
+      none n = omega arith
+
+  -- ---- the three directories
+
+  abbrev master_records : List Record
+  master_records = map entry_record (master_entries p)
+
+  abbrev root_records : List Record
+  root_records = map entry_record (root_entries p)
+
+  abbrev jindex_records : List Record
+  jindex_records = map entry_record (journals_entries p)
+
+  no_dots : (r : Record) (name : List ℕ) (q : Record) → r ≡ q → is_dots q.name ≡ true → is_dots r.name ≡ false → ⊥
+  no_dots r name q e so non = true≢false (sym (ap (λ (s : Record). is_dots s.name) e ∙ so) ∙ non)
+
+  master_down : (r : Record) → Contains master_records r → is_dots r.name ≡ false → LeadsDown heads (owner p) master r
+  master_down r there non = each (is_in r master_records there)
+    where
+      each : IsIn r master_records → LeadsDown heads (owner p) master r
+      each (inl e) = absurd (no_dots r (codes ".") _ e refl non)
+      each (inr (inl e)) = absurd (no_dots r (codes "..") _ e refl non)
+      each (inr (inr (inl e))) = subst (LeadsDown heads (owner p) master) (sym e) (record { name = is_jindex_name; owner = owner_journals p fit; true_of = dir_record (codes "jindex") jindex 4 jindex_head })
+      each (inr (inr (inr (inl e)))) = subst (LeadsDown heads (owner p) master) (sym e) (record {
+        name = is_rindex_name;
+        owner = owner_top p fit stamped 0 (omega arith);
+        true_of = file_record (codes "rindex") (spot p 0 0) 3 (file_head 0 (omega arith));
+      })
+      each (inr (inr (inr (inr h)))) = elim h [ ]
+
+  master_directory : IsDirectory heads (owner p) master master_records (dinode_in (held p at master))
+  master_directory = record {
+    dot = has_record master_records (record { name = codes "."; number = 1; address = master; kind = 4 }) master (inl refl) (dir_record (codes ".") master 1 master_head);
+    dots = subst (HasRecord heads master_records (codes "..")) (sym (ap (parent_of master) (owner_master p fit)))
+        (has_record master_records (record { name = codes ".."; number = 1; address = master; kind = 4 }) master (inr (inl refl)) (dir_record (codes "..") master 1 master_head));
+    once = named_once master_records ((refl, (refl, (refl, tt))), ((refl, (refl, tt)), ((refl, tt), (tt, tt))));
+    down = master_down;
+    entries = dir_entries p fit stamped at made master_place 1 4 3 (master_entries p) (master_at p fit stamped);
+    links = dir_links p fit stamped at made master_place 1 4 3 (master_entries p) (master_at p fit stamped);
+  }
+
+  root_down : (r : Record) → Contains root_records r → is_dots r.name ≡ false → LeadsDown heads (owner p) root r
+  root_down r there non = each (is_in r root_records there)
+    where
+      each : IsIn r root_records → LeadsDown heads (owner p) root r
+      each (inl e) = absurd (no_dots r (codes ".") _ e refl non)
+      each (inr (inl e)) = absurd (no_dots r (codes "..") _ e refl non)
+      each (inr (inr h)) = elim h [ ]
+
+  root_directory : IsDirectory heads (owner p) root root_records (dinode_in (held p at root))
+  root_directory = record {
+    dot = has_record root_records (record { name = codes "."; number = 2; address = root; kind = 4 }) root (inl refl) (dir_record (codes ".") root 2 root_head);
+    dots = subst (HasRecord heads root_records (codes "..")) (sym (ap (parent_of root) (owner_root p fit)))
+        (has_record root_records (record { name = codes ".."; number = 2; address = root; kind = 4 }) root (inr (inl refl)) (dir_record (codes "..") root 2 root_head));
+    once = named_once root_records ((refl, tt), (tt, tt));
+    down = root_down;
+    entries = dir_entries p fit stamped at made root_place 2 2 2 (root_entries p) (root_at p fit stamped);
+    links = dir_links p fit stamped at made root_place 2 2 2 (root_entries p) (root_at p fit stamped);
+  }
+
+  few_journals : (j : ℕ) → j < p.journals → j < 8
+  few_journals j low = under j p.journals low fit.plan.journals
+    where
+      under : (j n : ℕ) → j < n → n ≤ 8 → j < 8
+      under j n a b = omega (arith, a, b)
+
+  journal_down : (j : ℕ) → suc j ≤ p.journals → LeadsDown heads (owner p) jindex (entry_record (journal_entry p j))
+  journal_down j low = record {
+    name = is_journal_name j (few_journals j low);
+    owner = ap (owner p) (file_address (suc j)) ∙ owner_top p fit stamped (suc j) low ∙ ap (λ (n : List ℕ). Named jindex n) (sym (name_is j (few_journals j low)));
+    true_of = subst (λ a. IsRecordOf heads a (record { name = record_name j; number = 5 + j; address = a; kind = 8 })) (sym (file_address (suc j))) (file_record (record_name j) (spot p (suc j) 0) (5 + j) (file_head (suc j) low));
+  }
+
+  jindex_down : (r : Record) → Contains jindex_records r → is_dots r.name ≡ false → LeadsDown heads (owner p) jindex r
+  jindex_down r there non = each (is_in r jindex_records there)
+    where
+      of : IsOfJournal p p.journals r → LeadsDown heads (owner p) jindex r
+      of q = subst (LeadsDown heads (owner p) jindex) (sym q.is) (journal_down q.j q.low)
+
+      each : IsIn r jindex_records → LeadsDown heads (owner p) jindex r
+      each (inl e) = absurd (no_dots r (codes ".") _ e refl non)
+      each (inr (inl e)) = absurd (no_dots r (codes "..") _ e refl non)
+      each (inr (inr h)) = of (of_journal p 0 p.journals p.journals r (omega arith) h)
+
+  jindex_links : directory_count jindex_records ≡ 0
+  jindex_links = none (directory_count jindex_records) (directory_count later) (directory_count (journal_records p 0 p.journals)) (sum_by-cons test first later) (sum_by-cons test second (journal_records p 0 p.journals)) (no_directories p 0 p.journals)
+    where
+      test : Record → ℕ
+      test r = cond (not (is_dots r.name) && r.kind == 4) 1 0
+
+      first : Record
+      first = record { name = codes "."; number = 4; address = jindex; kind = 4 }
+
+      second : Record
+      second = record { name = codes ".."; number = 1; address = master; kind = 4 }
+
+      later : List Record
+      later = second ∷ journal_records p 0 p.journals
+
+      none : (a b c : ℕ) → a ≡ 0 + b → b ≡ 0 + c → c ≡ 0 → a ≡ 0
+      none a b c e f z = omega (arith, e, f, z)
+
+  jindex_directory : IsDirectory heads (owner p) jindex jindex_records (dinode_in (held p at jindex))
+  jindex_directory = record {
+    dot = has_record jindex_records (record { name = codes "."; number = 4; address = jindex; kind = 4 }) jindex (inl refl) (dir_record (codes ".") jindex 4 jindex_head);
+    dots = subst (HasRecord heads jindex_records (codes "..")) (sym (ap (parent_of jindex) (owner_journals p fit)))
+        (has_record jindex_records (record { name = codes ".."; number = 1; address = master; kind = 4 }) master (inr (inl refl)) (dir_record (codes "..") master 1 master_head));
+    once = named_once jindex_records ((refl, dots_apart (codes ".") p 0 p.journals (λ j. refl)), (dots_apart (codes "..") p 0 p.journals (λ j. refl), journals_apart p 0 p.journals));
+    down = jindex_down;
+    entries = dir_entries p fit stamped at made (journals_place p) 4 (2 + p.journals) 2 (journals_entries p) (journals_at p fit stamped) ∙ two_more p.journals ∙ ap (λ n. suc (suc n)) (sym (length_journals p 0 p.journals));
+    links = dir_links p fit stamped at made (journals_place p) 4 (2 + p.journals) 2 (journals_entries p) (journals_at p fit stamped) ∙ ap (λ n. 2 + n) (sym jindex_links);
+  }
+    where
+      two_more : (n : ℕ) → 2 + n ≡ suc (suc n)
+      two_more n = omega arith
+
+  pub directories : (a : ℕ) → is_dinode (owner p a) ≡ true → is_directory_in (held p at a) ≡ true → IsDirectory heads (owner p) a (records_of (held p at a)) (dinode_in (held p at a))
+  directories a dinode is = each (whose p fit stamped a)
+    where
+      abbrev_at : ℕ → Type 0
+      abbrev_at a = IsDirectory heads (owner p) a (records_of (held p at a)) (dinode_in (held p at a))
+
+      each : Whose p a → IsDirectory heads (owner p) a (records_of (held p at a)) (dinode_in (held p at a))
+      each (whose_master e o) = subst abbrev_at (sym e) (subst (λ (rs : List Record). IsDirectory heads (owner p) master rs (dinode_in (held p at master))) (sym (dir_records p fit stamped at made master_place 1 4 3 (master_entries p) (master_at p fit stamped))) master_directory)
+      each (whose_root e o) = subst abbrev_at (sym e) (subst (λ (rs : List Record). IsDirectory heads (owner p) root rs (dinode_in (held p at root))) (sym (dir_records p fit stamped at made root_place 2 2 2 (root_entries p) (root_at p fit stamped))) root_directory)
+      each (whose_journals e o) = subst abbrev_at (sym e) (subst (λ (rs : List Record). IsDirectory heads (owner p) jindex rs (dinode_in (held p at jindex)))
+          (sym (dir_records p fit stamped at made (journals_place p) 4 (2 + p.journals) 2 (journals_entries p) (journals_at p fit stamped))) jindex_directory)
+      each (whose_file i ok e o) = absurd (true≢false (sym is ∙ ap (λ n. is_directory_in (held p at n)) e ∙ file_plain p fit stamped at made i ok))
+      each (whose_below i l x ok below e o) = absurd (no_below_dinode p i l x (ap is_dinode (sym o) ∙ dinode))
+      each (whose_none un) = absurd (un (used_dinode (owner p a) dinode))
+
+  pub inodes : (a : ℕ) → is_dinode (owner p a) ≡ true → IsInode (held p at a)
+  inodes a dinode = each (whose p fit stamped a)
+    where
+      sound_at : ℕ → Type 0
+      sound_at n = IsInode (held p at n)
+
+      each : Whose p a → IsInode (held p at a)
+      each (whose_master e o) = subst sound_at (sym e) (dir_sound p fit stamped at made master_place 1 4 3 (master_entries p) (master_at p fit stamped))
+      each (whose_root e o) = subst sound_at (sym e) (dir_sound p fit stamped at made root_place 2 2 2 (root_entries p) (root_at p fit stamped))
+      each (whose_journals e o) = subst sound_at (sym e) (dir_sound p fit stamped at made (journals_place p) 4 (2 + p.journals) 2 (journals_entries p) (journals_at p fit stamped))
+      each (whose_file i ok e o) = subst sound_at (sym e) (file_sound p fit stamped at made i ok)
+      each (whose_below i l x ok below e o) = absurd (no_below_dinode p i l x (ap is_dinode (sym o) ∙ dinode))
+      each (whose_none un) = absurd (un (used_dinode (owner p a) dinode))
+
+  pub within : (b a : ℕ) → IsWithin a (owner p b) → is_dinode (owner p a) ≡ true
+  within b a inside = each (whose p fit stamped b)
+    where
+      each : Whose p b → is_dinode (owner p a) ≡ true
+      each (whose_master e o) = elim (subst (IsWithin a) o inside) [ ]
+      each (whose_root e o) = elim (subst (IsWithin a) o inside) [ ]
+      each (whose_journals e o) = elim (subst (IsWithin a) o inside) [ ]
+      each (whose_file i ok e o) = elim (subst (IsWithin a) o inside) [ ]
+      each (whose_below i l x ok below e o) = ap (λ n. is_dinode (owner p n)) (sym (subst (IsWithin a) o inside)) ∙ file_own p fit stamped at made i ok
+      each (whose_none un) = absurd (un (used_within a (owner p b) inside))
+
+  -- ---- where names lead
+
+  module _ (place number count links : ℕ) (es : List Entry) (is : IsDirectoryAt p place number count links es) where
+    node_is : flat (data_address p place) ≡ node_of (held p at (data_address p place))
+    node_is = cond-true _ _ _ is.own
+
+    child_is : (name : List ℕ) → is_dots name ≡ false → (flat (data_address p place)).child name ≡ child_named (map entry_record es) name
+    child_is name non =
+        ap (λ (n : Node). n.child name) node_is
+        ∙ cond-true _ _ _ (dir_is p fit stamped at made place number count links es is)
+        ∙ cond-false _ _ _ non
+        ∙ ap (λ (rs : List Record). child_named rs name) (dir_records p fit stamped at made place number count links es is)
+
+    dir_thing : (flat (data_address p place)).thing ≡ ADir
+    dir_thing = ap (λ (n : Node). n.thing) node_is ∙ cond-true _ _ _ (dir_is p fit stamped at made place number count links es is)
+
+    -- a name that leads somewhere is that of a record
+    child_from : (name : List ℕ) (b : ℕ) → (flat (data_address p place)).child name ≡ Some b → (is_dots name ≡ false) × Leading (map entry_record es) name b
+    child_from name b e = from (named_child (held p at (data_address p place)) name b (sym (ap (λ (n : Node). n.child name) node_is) ∙ e))
+      where
+        from : IsNamedChild (held p at (data_address p place)) name b → (is_dots name ≡ false) × Leading (map entry_record es) name b
+        from q = (q.name_is, subst (λ (rs : List Record). Leading rs name b) (dir_records p fit stamped at made place number count links es is) q.leads)
+
+  master_jindex : (flat master).child (codes "jindex") ≡ Some jindex
+  master_jindex = child_is master_place 1 4 3 (master_entries p) (master_at p fit stamped) (codes "jindex") refl
+
+  master_rindex : (flat master).child (codes "rindex") ≡ Some (spot p 0 0)
+  master_rindex = child_is master_place 1 4 3 (master_entries p) (master_at p fit stamped) (codes "rindex") refl
+
+  jindex_journal : (j : ℕ) → suc j ≤ p.journals → (flat jindex).child (journal_name j) ≡ Some (spot p (suc j) 0)
+  jindex_journal j low =
+      ap (flat jindex).child (sym (name_is j (few_journals j low)))
+      ∙ child_is (journals_place p) 4 (2 + p.journals) 2 (journals_entries p) (journals_at p fit stamped) (record_name j) refl
+      ∙ ap (option_map (λ (r : Record). r.address)) (journal_found p 0 p.journals j (omega arith) (under j p.journals low))
+      ∙ ap Some (file_address (suc j))
+    where
+      under : (j n : ℕ) → suc j ≤ n → j < 0 + n
+      under j n low = omega (arith, low)
+
+  pub master_only : (name : List ℕ) (b : ℕ) → (flat master).child name ≡ Some b → (name ≡ codes "jindex") ⊎ (name ≡ codes "rindex")
+  master_only name b e = from (child_from master_place 1 4 3 (master_entries p) (master_at p fit stamped) name b e)
+    where
+      from : (is_dots name ≡ false) × Leading master_records name b → (name ≡ codes "jindex") ⊎ (name ≡ codes "rindex")
+      from q = each (is_in q.1.entry master_records q.1.there)
+        where
+          each : IsIn q.1.entry master_records → (name ≡ codes "jindex") ⊎ (name ≡ codes "rindex")
+          each (inl g) = absurd (true≢false (sym (ap is_dots (sym q.1.named ∙ ap (λ (r : Record). r.name) g)) ∙ q.0))
+          each (inr (inl g)) = absurd (true≢false (sym (ap is_dots (sym q.1.named ∙ ap (λ (r : Record). r.name) g)) ∙ q.0))
+          each (inr (inr (inl g))) = inl (sym q.1.named ∙ ap (λ (r : Record). r.name) g)
+          each (inr (inr (inr (inl g)))) = inr (sym q.1.named ∙ ap (λ (r : Record). r.name) g)
+          each (inr (inr (inr (inr h)))) = elim h [ ]
+
+  root_none : (name : List ℕ) (b : ℕ) → (flat root).child name ≡ Some b → ⊥
+  root_none name b e = from (child_from root_place 2 2 2 (root_entries p) (root_at p fit stamped) name b e)
+    where
+      from : (is_dots name ≡ false) × Leading root_records name b → ⊥
+      from q = each (is_in q.1.entry root_records q.1.there)
+        where
+          each : IsIn q.1.entry root_records → ⊥
+          each (inl g) = true≢false (sym (ap is_dots (sym q.1.named ∙ ap (λ (r : Record). r.name) g)) ∙ q.0)
+          each (inr (inl g)) = true≢false (sym (ap is_dots (sym q.1.named ∙ ap (λ (r : Record). r.name) g)) ∙ q.0)
+          each (inr (inr h)) = elim h [ ]
+
+  root_empty : (name : List ℕ) → (flat root).child name ≡ None
+  root_empty name = each ((flat root).child name) refl
+    where
+      each : (o : Option ℕ) → (flat root).child name ≡ o → (flat root).child name ≡ None
+      each None e = e
+      each (Some b) e = absurd (root_none name b e)
+
+  -- a journal that a name leads to
+  pub record IsJournalNamed (name : List ℕ) (b : ℕ) : Type 0 where
+    pub j : ℕ
+    pub low : suc j ≤ p.journals
+    pub is : b ≡ spot p (suc j) 0
+    pub named : name ≡ journal_name j
+
+  pub jindex_only : (name : List ℕ) (b : ℕ) → (flat jindex).child name ≡ Some b → IsJournalNamed name b
+  jindex_only name b e = from (child_from (journals_place p) 4 (2 + p.journals) 2 (journals_entries p) (journals_at p fit stamped) name b e)
+    where
+      from : (is_dots name ≡ false) × Leading jindex_records name b → IsJournalNamed name b
+      from q = each (is_in q.1.entry jindex_records q.1.there)
+        where
+          of : IsOfJournal p p.journals q.1.entry → IsJournalNamed name b
+          of g = record {
+            j = g.j;
+            low = g.low;
+            is = sym q.1.address ∙ ap (λ (r : Record). r.address) g.is ∙ file_address (suc g.j);
+            named = sym q.1.named ∙ ap (λ (r : Record). r.name) g.is ∙ name_is g.j (few_journals g.j g.low);
+          }
+
+          each : IsIn q.1.entry jindex_records → IsJournalNamed name b
+          each (inl g) = absurd (true≢false (sym (ap is_dots (sym q.1.named ∙ ap (λ (r : Record). r.name) g)) ∙ q.0))
+          each (inr (inl g)) = absurd (true≢false (sym (ap is_dots (sym q.1.named ∙ ap (λ (r : Record). r.name) g)) ∙ q.0))
+          each (inr (inr h)) = of (of_journal p 0 p.journals p.journals q.1.entry (omega arith) h)
+
+  -- ---- the layout's journals
+
+  pub journal_at : (j d : ℕ) → IsJournalAt (new_layout p) j d → (suc j ≤ p.journals) × (d ≡ spot p (suc j) 0)
+  journal_at j d e =
+      let got = got_at (λ k. data_address p (journal_place p k)) 0 p.journals j d e in
+      (omega (arith, got.0), got.1 ∙ ap (λ k. data_address p (journal_place p k)) (none j) ∙ file_address (suc j))
+    where
+      none : (n : ℕ) → 0 + n ≡ n
+      none n = omega arith
+
+  pub at_journal : (j : ℕ) → suc j ≤ p.journals → IsJournalAt (new_layout p) j (spot p (suc j) 0)
+  at_journal j low = get_at (λ k. data_address p (journal_place p k)) 0 p.journals j (omega (arith, low)) ∙ ap (λ k. Some (data_address p (journal_place p k))) (none j) ∙ ap Some (file_address (suc j))
+    where
+      none : (n : ℕ) → 0 + n ≡ n
+      none n = omega arith
+
+  -- ---- the system files
+
+  list_thing : (flat (spot p 0 0)).thing ≡ AFile (group_entries p)
+  list_thing =
+      ap (λ (n : Node). n.thing) (cond-true _ _ _ (file_own p fit stamped at made 0 (omega arith)))
+      ∙ cond-false _ _ _ (file_plain p fit stamped at made 0 (omega arith))
+      ∙ ap AFile (list_content p fit stamped at made)
+
+  pub system : IsSystem flat (held p at) (new_layout p)
+  system = record {
+    rindex = master_rindex;
+    groups = (group_entries p, list_thing, list_is p fit stamped at made);
+    jindex = master_jindex;
+    directory = dir_thing (journals_place p) 4 (2 + p.journals) 2 (journals_entries p) (journals_at p fit stamped);
+    journals = λ j d e. let at_j = journal_at j d e in jindex_journal j at_j.0 ∙ ap Some (sym at_j.1);
+    others = λ name d e. other name d (jindex_only name d e);
+    rings = λ j d e. let at_j = journal_at j d e in subst (λ n. IsJournal (held p at n)) (sym at_j.1) (new_journal p fit stamped at made j at_j.0);
+  }
+    where
+      other : (name : List ℕ) (d : ℕ) → IsJournalNamed name d → (j : ℕ) × IsJournalAt (new_layout p) j d × (name ≡ journal_name j)
+      other name d q = (q.j, subst (IsJournalAt (new_layout p) q.j) (sym q.is) (at_journal q.j q.low), q.named)
+
+  pub names : (a : ℕ) (u : Up) → up_of (owner p a) ≡ Some u → (flat u.parent).child u.name ≡ Some a
+  names a u e = each (whose p fit stamped a)
+    where
+      led : (parent : ℕ) (name : List ℕ) → owner p a ≡ Named parent name → (flat parent).child name ≡ Some a → (flat u.parent).child u.name ≡ Some a
+      led parent name o to = subst (λ (v : Up). (flat v.parent).child v.name ≡ Some a) (some_same (sym (ap up_of o) ∙ e)) to
+
+      of_file : (i : ℕ) → i ≤ p.journals → (flat (file_parent p i)).child (file_name i) ≡ Some (spot p i 0)
+      of_file zero ok = master_rindex
+      of_file (suc j) ok = jindex_journal j ok
+
+      each : Whose p a → (flat u.parent).child u.name ≡ Some a
+      each (whose_master s o) = absurd (master_up u (sym (ap up_of o) ∙ e))
+      each (whose_root s o) = absurd (root_up u (sym (ap up_of o) ∙ e))
+      each (whose_journals s o) = led master (codes "jindex") o (master_jindex ∙ ap Some (sym s))
+      each (whose_file i ok s o) = led (file_parent p i) (file_name i) o (of_file i ok ∙ ap Some (sym s))
+      each (whose_below i l x ok below s o) = absurd (below_up p i l x u (sym (ap up_of o) ∙ e))
+      each (whose_none un) = absurd (un (used_up (owner p a) u e))
+
+  pub found : (a : ℕ) → is_dinode (owner p a) ≡ true → IsFound flat (new_layout p) a
+  found a dinode = each (whose p fit stamped a)
+    where
+      to : (a b : ℕ) (path : Path) → (name : List ℕ) → (flat a).child name ≡ Some b → follow flat a (name ∷ path) ≡ follow flat b path
+      to a b path name e = ap (option_and_then (λ c. follow flat c path)) e
+
+      of_file : (i : ℕ) → i ≤ p.journals → (path : Path) × (follow flat master path ≡ Some (spot p i 0))
+      of_file zero ok = (codes "rindex" ∷ [], to master (spot p 0 0) [] (codes "rindex") master_rindex)
+      of_file (suc j) ok = (codes "jindex" ∷ journal_name j ∷ [], to master jindex (journal_name j ∷ []) (codes "jindex") master_jindex ∙ to jindex (spot p (suc j) 0) [] (journal_name j) (jindex_journal j ok))
+
+      each : Whose p a → IsFound flat (new_layout p) a
+      each (whose_master s o) = inr ([], ap Some (sym s))
+      each (whose_root s o) = inl ([], ap Some (sym s))
+      each (whose_journals s o) = inr (codes "jindex" ∷ [], to master jindex [] (codes "jindex") master_jindex ∙ ap Some (sym s))
+      each (whose_file i ok s o) = let way = of_file i ok in inr (way.0, way.1 ∙ ap Some (sym s))
+      each (whose_below i l x ok below s o) = absurd (no_below_dinode p i l x (ap is_dinode (sym o) ∙ dinode))
+      each (whose_none un) = absurd (un (used_dinode (owner p a) dinode))
+
+  -- ---- the root
+
+  nothing_below : (name : List ℕ) (path : Path) → follow flat root (name ∷ path) ≡ None
+  nothing_below name path = ap (option_and_then (λ c. follow flat c path)) (root_empty name)
+
+  pub short : AreShort flat (held p at) (new_layout p)
+  short [] a e regular = absurd (not_regular (dinode_in (held p at root)) (dir_is p fit stamped at made root_place 2 2 2 (root_entries p) (root_at p fit stamped)) (subst (λ n. is_regular (dinode_in (held p at n)) ≡ true) (sym (some_same e)) regular))
+  short (name ∷ path) a e regular = absurd (none_some (sym (nothing_below name path) ∙ e))
+
+  pub reads : ReadsAs flat root (dir none)
+  reads = record { tree = tt; same = same }
+    where
+      same : (path : Path) → thing_from flat root path ≡ thing_at (dir none) path
+      same [] = ap Some (dir_thing root_place 2 2 2 (root_entries p) (root_at p fit stamped))
+      same (name ∷ path) = ap (option_and_then (λ b. Some (flat b).thing)) (nothing_below name path)
+
+  pub root_is : is_directory_in (held p at root) ≡ true
+  root_is = dir_is p fit stamped at made root_place 2 2 2 (root_entries p) (root_at p fit stamped)

@@ -1,0 +1,119 @@
+-- Which blocks an owner of a new image has.
+use Rattle.std.proofs.Common.{ℕ, ◌≡◌, ◌+◌, ◌≤◌, ◌⊎◌, inl, inr, List, codes, sym, ap, ◌∙◌, subst, arith}
+use Rattle.std.proofs.lemmas.Bool.{cases_eq, cond-true, cond-false, eq-eqb, ne_eqb}
+use Rattle.image_model.specs.Owners.{Root, Master, Named, Below, Chained, IsUsed}
+use Rattle.image_model.proofs.Unique.{used_or_not}
+use Rattle.mkgfs2_tool.specs.Groups.{data_address}
+use Rattle.mkgfs2_tool.specs.Files.{height, level_start}
+use Rattle.mkgfs2_tool.specs.Order.{master_place, root_place, journals_place}
+use Rattle.mkgfs2_tool.specs.Making.{IsFitting}
+use Rattle.mkgfs2_tool.specs.Standing.{IsStamped}
+use Rattle.mkgfs2_tool.specs.declared.plan.Plan.{Plan}
+use Rattle.mkgfs2_tool.proofs.StandingPlan.{apart_addresses}
+use Rattle.mkgfs2_tool.proofs.StandingShapes.{IsBelow, part_below, part_here, inside_file, Piece, is_top, is_below, piece}
+use Rattle.mkgfs2_tool.proofs.StandingOwners.{file_place, file_shape, file_owner, spot, named, below_owner, owner, Kept, is_master, is_root, is_journals, is_file, kept, owner_file, owner_master, owner_root, owner_journals, IsTaken, used_taken, file_apart, in_all, file_taken, file_some}
+use Rattle.mkgfs2_tool.proofs.StandingFiles.{file_low}
+
+pub data Whose (p : Plan) (b : ℕ) : Type 0 where
+  whose_master : b ≡ data_address p master_place → owner p b ≡ Master → Whose p b
+  whose_root : b ≡ data_address p root_place → owner p b ≡ Root → Whose p b
+  whose_journals : b ≡ data_address p (journals_place p) → owner p b ≡ Named (data_address p master_place) (codes "jindex") → Whose p b
+  whose_file : (i : ℕ) → i ≤ p.journals → b ≡ spot p i 0 → owner p b ≡ named p i → Whose p b
+  whose_below : (i l x : ℕ) → i ≤ p.journals → IsBelow (file_shape p i) l x → b ≡ spot p i (level_start (file_shape p i) l + x) → owner p b ≡ below_owner p i l x → Whose p b
+  whose_none : (IsUsed (owner p b) → ⊥) → Whose p b
+
+module _ (p : Plan) (fit : IsFitting p) (stamped : IsStamped p) where
+  pub owner_below : (i l x : ℕ) → i ≤ p.journals → IsBelow (file_shape p i) l x → owner p (spot p i (level_start (file_shape p i) l + x)) ≡ below_owner p i l x
+  owner_below i l x ok at =
+      owner_file p fit i (level_start (file_shape p i) l + x) ok (inside_file (file_shape p i) (file_low p fit stamped i) l x at)
+      ∙ ap (file_owner p i) (part_here (file_shape p i) (file_low p fit stamped i) l x at) ∙ each (cases_eq l (height (file_shape p i)))
+    where
+      each : (l ≡ height (file_shape p i)) ⊎ (l ≡ height (file_shape p i) → ⊥) → file_owner p i (part_below (file_shape p i) l x) ≡ below_owner p i l x
+      each (inl e) = ap (file_owner p i) (cond-true _ _ _ (eq-eqb l (height (file_shape p i)) e)) ∙ ap (λ n. below_owner p i n x) (sym e)
+      each (inr d) = ap (file_owner p i) (cond-false _ _ _ (ne_eqb l (height (file_shape p i)) d))
+
+  pub owner_top : (i : ℕ) → i ≤ p.journals → owner p (spot p i 0) ≡ named p i
+  owner_top i ok = owner_file p fit i 0 ok (file_some p i)
+
+  pub whose : (b : ℕ) → Whose p b
+  whose b = elim (used_or_not (owner p b)) [
+    | inr none ↦ whose_none none
+    | inl used ↦ of_taken (used_taken p fit b used)
+  ]
+    where
+      of_piece : (i n : ℕ) → i ≤ p.journals → b ≡ spot p i n → Piece (file_shape p i) n → Whose p b
+      of_piece i n ok e (is_top none) = let at : b ≡ spot p i 0 = e ∙ ap (spot p i) none in whose_file i ok at (ap (owner p) at ∙ owner_top i ok)
+      of_piece i n ok e (is_below l x at is) =
+          let same : b ≡ spot p i (level_start (file_shape p i) l + x) = e ∙ ap (spot p i) is in
+          whose_below i l x ok at same (ap (owner p) same ∙ owner_below i l x ok at)
+
+      of_kept : (k : ℕ) → b ≡ data_address p k → Kept p k → Whose p b
+      of_kept k e (is_master is) = let at : b ≡ data_address p master_place = e ∙ ap (data_address p) is in whose_master at (ap (owner p) at ∙ owner_master p fit)
+      of_kept k e (is_root is) = let at : b ≡ data_address p root_place = e ∙ ap (data_address p) is in whose_root at (ap (owner p) at ∙ owner_root p fit)
+      of_kept k e (is_journals is) = let at : b ≡ data_address p (journals_place p) = e ∙ ap (data_address p) is in whose_journals at (ap (owner p) at ∙ owner_journals p fit)
+      of_kept k e (is_file i n ok inside is) = of_piece i n ok (e ∙ ap (data_address p) is) (piece (file_shape p i) (file_low p fit stamped i) n inside)
+
+      of_taken : IsTaken p fit b → Whose p b
+      of_taken at = of_kept at.place at.is (kept p at.place at.low)
+
+  -- a file has its dinode's block alone
+  pub same_file : (i k : ℕ) → i ≤ p.journals → k ≤ p.journals → spot p i 0 ≡ spot p k 0 → i ≡ k
+  same_file i k ok ok' e =
+      file_apart p i k (drop_zero (file_place p i) (file_place p k) (apart_addresses p fit (file_place p i + 0) (file_place p k + 0)
+      (in_all p fit (file_place p i + 0) (file_taken p i 0 ok (file_some p i))) (in_all p fit (file_place p k + 0) (file_taken p k 0 ok' (file_some p k))) e))
+    where
+      drop_zero : (a b : ℕ) → a + 0 ≡ b + 0 → a ≡ b
+      drop_zero a b e = omega (arith, e)
+
+  pub not_chained : (b a hash place : ℕ) → owner p b ≡ Chained a hash place → ⊥
+  not_chained b a hash place e = each (whose b)
+    where
+      no_master : Master ≡ Chained a hash place → ⊥
+      no_master e = cc
+
+      no_root : Root ≡ Chained a hash place → ⊥
+      no_root e = cc
+
+      no_named : (c : ℕ) (name : List ℕ) → Named c name ≡ Chained a hash place → ⊥
+      no_named c name e = cc
+
+      no_below : (c d k l f : ℕ) → Below c d k l f ≡ Chained a hash place → ⊥
+      no_below c d k l f e = cc
+
+      each : Whose p b → ⊥
+      each (whose_master at is) = no_master (sym is ∙ e)
+      each (whose_root at is) = no_root (sym is ∙ e)
+      each (whose_journals at is) = no_named (data_address p master_place) (codes "jindex") (sym is ∙ e)
+      each (whose_file i ok at is) = no_named _ _ (sym is ∙ e)
+      each (whose_below i l x ok at same is) = no_below _ _ _ _ _ (sym is ∙ e)
+      each (whose_none none) = none (subst IsUsed (sym e) tt)
+
+  -- a block below a dinode is one of a file's
+  pub record IsBelowOf (b a c k level first : ℕ) : Type 0 where
+    pub file : ℕ
+    pub ok : file ≤ p.journals
+    pub l : ℕ
+    pub x : ℕ
+    pub at : IsBelow (file_shape p file) l x
+    pub is : b ≡ spot p file (level_start (file_shape p file) l + x)
+    pub owned : below_owner p file l x ≡ Below a c k level first
+
+  pub below_of : (b a c k level first : ℕ) → owner p b ≡ Below a c k level first → IsBelowOf b a c k level first
+  below_of b a c k level first e = each (whose b)
+    where
+      no_master : Master ≡ Below a c k level first → ⊥
+      no_master e = cc
+
+      no_root : Root ≡ Below a c k level first → ⊥
+      no_root e = cc
+
+      no_named : (d : ℕ) (name : List ℕ) → Named d name ≡ Below a c k level first → ⊥
+      no_named d name e = cc
+
+      each : Whose p b → IsBelowOf b a c k level first
+      each (whose_master at is) = absurd (no_master (sym is ∙ e))
+      each (whose_root at is) = absurd (no_root (sym is ∙ e))
+      each (whose_journals at is) = absurd (no_named (data_address p master_place) (codes "jindex") (sym is ∙ e))
+      each (whose_file i ok at is) = absurd (no_named _ _ (sym is ∙ e))
+      each (whose_below i l x ok at same is) = record { file = i; ok = ok; l = l; x = x; at = at; is = same; owned = sym is ∙ e }
+      each (whose_none none) = absurd (none (subst IsUsed (sym e) tt))
