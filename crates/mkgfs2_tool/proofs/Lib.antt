@@ -4,6 +4,7 @@ pub mod PutLaws
 pub mod PointerLaws
 pub mod CountLaws
 pub mod BitmapLaws
+pub mod StandingGiven
 pub mod StandingGround
 pub mod StandingShapes
 pub mod StandingPlan
@@ -14,7 +15,6 @@ pub mod StandingFiles
 pub mod StandingCounts
 pub mod StandingWhose
 pub mod StandingInodes
-pub mod StandingCrc
 pub mod StandingRings
 pub mod StandingList
 pub mod StandingRecords

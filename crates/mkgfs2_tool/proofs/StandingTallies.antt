@@ -15,10 +15,10 @@ use Rattle.mkgfs2_tool.specs.Files.{height, file_blocks, part}
 use Rattle.mkgfs2_tool.specs.Order.{journals_place, journal_place, group_list, journal, taken, use_of, dinode_places}
 use Rattle.mkgfs2_tool.specs.Blocks.{is_dinode, is_dinode_part, is_within, state}
 use Rattle.mkgfs2_tool.specs.Making.{IsFitting}
-use Rattle.mkgfs2_tool.specs.Standing.{IsStamped}
 use Rattle.mkgfs2_tool.specs.declared.files.Part.{Part}
 use Rattle.mkgfs2_tool.specs.declared.files.Part.TheVariants.{Pointers, Content}
 use Rattle.mkgfs2_tool.specs.declared.plan.Plan.{Plan}
+use Rattle.mkgfs2_tool.proofs.StandingGiven.{Known}
 use Rattle.mkgfs2_tool.proofs.StandingCounts.{count_none}
 use Rattle.mkgfs2_tool.proofs.StandingShapes.{part_below, part_here, Piece, is_top, is_below, piece}
 use Rattle.mkgfs2_tool.proofs.StandingOwners.{file_place, file_shape, file_use, Kept, is_master, is_root, is_journals, is_file, kept, file_taken, file_some, use_of_file, use_of_journals, some_taken, two_taken, journals_taken}
@@ -154,7 +154,7 @@ from_journals p s zero all k few there = elim there [ ]
 from_journals p s (suc n) all k few (inl e) = record { j = s; low = omega (arith, few); is = e }
 from_journals p s (suc n) all k few (inr h) = from_journals p (s + 1) n all k (omega (arith, few)) h
 
-module _ (p : Plan) (fit : IsFitting p) (stamped : IsStamped p) where
+module _ (p : Plan) (fit : IsFitting p) (known : Known p) where
   dinode_use : (i : ℕ) (q : Part) → is_dinode (file_use i q) ≡ is_dinode_part q
   dinode_use zero q = refl
   dinode_use (suc j) q = refl
@@ -206,13 +206,13 @@ module _ (p : Plan) (fit : IsFitting p) (stamped : IsStamped p) where
       of_piece : (i n : ℕ) → i ≤ p.journals → n < file_blocks (file_shape p i) → k ≡ file_place p i + n → k < taken p → Piece (file_shape p i) n → IsIn k (dinode_places p)
       of_piece i n ok inside s low (is_top z) = at_file i ok (s ∙ ap (λ m. file_place p i + m) z ∙ none (file_place p i))
       of_piece i n ok inside s low (is_below l x at z) = absurd (never_one (state p k) (state_used p k low ∙ cond-false _ 3 1 (ap (λ m. is_dinode (use_of p m)) s ∙ ap is_dinode (use_of_file p i n inside) ∙ dinode_use i (part (file_shape p i) n)
-          ∙ ap (λ m. is_dinode_part (part (file_shape p i) m)) z ∙ ap is_dinode_part (part_here (file_shape p i) (file_low p fit stamped i) l x at) ∙ plain_part i l x)) e)
+          ∙ ap (λ m. is_dinode_part (part (file_shape p i) m)) z ∙ ap is_dinode_part (part_here (file_shape p i) (file_low p fit known i) l x at) ∙ plain_part i l x)) e)
 
       each : Kept p k → k < taken p → IsIn k (dinode_places p)
       each (is_master s) low = inl s
       each (is_root s) low = inr (inl s)
       each (is_journals s) low = inr (inr (inr (inl s)))
-      each (is_file i n ok inside s) low = of_piece i n ok inside s low (piece (file_shape p i) (file_low p fit stamped i) n inside)
+      each (is_file i n ok inside s) low = of_piece i n ok inside s low (piece (file_shape p i) (file_low p fit known i) n inside)
 
   -- a place is that of one dinode exactly where the state says so
   one_place : (k : ℕ) → count_by (λ q. q == k) (dinode_places p) ≡ one_if (state p k == 3)
