@@ -4,6 +4,7 @@ pub mod PutLaws
 pub mod PointerLaws
 pub mod CountLaws
 pub mod BitmapLaws
+pub mod StandingLists
 pub mod StandingGiven
 pub mod StandingGround
 pub mod StandingShapes

@@ -1,8 +1,7 @@
 -- The bitmaps of a new image.
-use Rattle.std.proofs.Common.{ℕ, zero, suc, ◌≡◌, ◌+◌, ◌-◌, ◌*◌, ◌/◌, ◌^◌, ◌<◌, ◌≤◌, inl, inr, List, [], ◌∷◌, ◌++◌, length, take, drop, replicate, map, get_or, refl, sym, ap, ap₂, ◌∙◌, subst, arith, append-nil}
+use Rattle.std.proofs.Common.{ℕ, zero, suc, ◌≡◌, ◌+◌, ◌-◌, ◌*◌, ◌/◌, ◌^◌, ◌<◌, ◌≤◌, inl, inr, List, [], ◌∷◌, ◌++◌, length, drop, replicate, map, get_or, refl, sym, ap, ap₂, ◌∙◌, subst, arith, append-nil}
 use Rattle.std.specs.Prelude.{◌%◌, nat_lt, flat_map}
 use Rattle.std.specs.List.{AllByRecursion, range_with_len}
-use Rattle.std.specs.Int.{Width, w32, w64, byte_len}
 use Rattle.std.proofs.lemmas.Bool.{cases_Bool, cond-true, cond-false, ne_eqb}
 use Rattle.std.proofs.lemmas.List.{length-replicate, drop_all, map-append}
 use Rattle.std.proofs.lemmas.List.FromFn.{get_or-map-range_with_len}
@@ -124,8 +123,8 @@ first_is given size h bits big long widths =
     let bytes : List ℕ = put_at 128 bits base in
     let bytes_long : length bytes ≡ size = length_put 128 bits base (omega (arith, base_long, long, big)) ∙ base_long in
     let back = answer_ok (header_fault 128 2 200 bytes) (group_of bytes) h
-      (law.own bytes base (omega (arith, bytes_long, big)) (omega (arith, base_long, big)) (take_put 128 bits base (omega (arith, base_long, big)))
-        ∙ law.back h clear (omega (arith, length-replicate {A = ℕ} size 0, big)) (zeros_are_bytes size) tt widths) in
+    (law.own bytes base (omega (arith, bytes_long, big)) (omega (arith, base_long, big)) (take_put 128 bits base (omega (arith, base_long, big)))
+    ∙ law.back h clear (omega (arith, length-replicate {A = ℕ} size 0, big)) (zeros_are_bytes size) tt widths) in
     record {
       header = header_from 128 2 200 bytes back.0;
       is = back.1;
@@ -150,7 +149,7 @@ further_is given size bits big long =
     let bytes_long : length bytes ≡ size = length_put 24 bits base (omega (arith, base_long, long, big)) ∙ base_long in
     record {
       header = plain_header further_header bytes (law.own bytes base (omega (arith, bytes_long, big)) (omega (arith, base_long, big)) (take_put 24 bits base (omega (arith, base_long, big)))
-        ∙ law.back further_header clear (omega (arith, length-replicate {A = ℕ} size 0, big)) (zeros_are_bytes size) tt (omega arith, (omega arith, (omega arith, (omega arith, tt)))));
+          ∙ law.back further_header clear (omega (arith, length-replicate {A = ℕ} size 0, big)) (zeros_are_bytes size) tt (omega arith, (omega arith, (omega arith, (omega arith, tt)))));
       rest = drop_put 24 bits base (omega (arith, base_long, big)) ∙ ap (λ (xs : List ℕ). bits ++ xs) (drop_all (24 + length bits) base (omega (arith, base_long, long, big))) ∙ append-nil bits;
     }
 

@@ -1,10 +1,9 @@
 -- The dinode's block of a new inode, read back.
-use Rattle.std.proofs.Common.{ℕ, Ok, ◌≡◌, ◌+◌, ◌-◌, ◌^◌, ◌<◌, ◌≤◌, List, length, take, drop, replicate, ◌++◌, ◌∙◌, arith}
+use Rattle.std.proofs.Common.{ℕ, Ok, ◌≡◌, ◌+◌, ◌-◌, ◌^◌, ◌<◌, ◌≤◌, List, length, drop, replicate, ◌++◌, ◌∙◌, arith}
 use Rattle.std.specs.List.{AllByRecursion}
-use Rattle.std.specs.Int.{Width, w16, w32, w64, byte_len}
 use Rattle.std.proofs.lemmas.List.{length-replicate, drop-replicate}
 use Rattle.gfs2_layout.specs.Bytes.{put_at}
-use Rattle.gfs2_layout.specs.Fields.{HasItsWidth, with_fields}
+use Rattle.gfs2_layout.specs.Fields.{HasItsWidth}
 use Rattle.gfs2_layout.specs.Structures.{dinode_of, dinode_read, header_fault}
 use Rattle.gfs2_layout.specs.Writing.{dinode_fields, dinode_put}
 use Rattle.gfs2_layout.specs.declared.dinode.Dinode.{Dinode}
@@ -34,7 +33,7 @@ dinode_put_is given size d behind fits widths =
     let bytes : List ℕ = put_at 232 behind base in
     let long_put : length bytes ≡ size = length_put 232 behind base (omega (arith, long, fits)) ∙ long in
     let read : dinode_read bytes ≡ Ok d =
-      law.own bytes base (omega (arith, long_put, fits)) (omega (arith, long, fits)) (take_put 232 behind base (omega (arith, long, fits))) ∙ law.back d clear room (zeros_are_bytes size) tt widths in
+    law.own bytes base (omega (arith, long_put, fits)) (omega (arith, long, fits)) (take_put 232 behind base (omega (arith, long, fits))) ∙ law.back d clear room (zeros_are_bytes size) tt widths in
     let back = answer_ok (header_fault 232 4 400 bytes) (dinode_of bytes) d read in
     record {
       long = long_put;

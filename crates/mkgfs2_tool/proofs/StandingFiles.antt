@@ -8,8 +8,7 @@ use Rattle.std.proofs.lemmas.List.{length-replicate, drop-replicate}
 use Rattle.std.proofs.lemmas.List.FromFn.{length-range_with_len, get_or-range_with_len}
 use Rattle.std.proofs.Math.Nat.{mul-le-mul}
 use Rattle.gfs2_layout.specs.Bytes.{put_at, u64_at}
-use Rattle.gfs2_layout.specs.Fields.{with_fields}
-use Rattle.gfs2_layout.specs.Writing.{header_fields, header_put, dinode_put, rindex_put, rindex_fields}
+use Rattle.gfs2_layout.specs.Writing.{header_put, dinode_put, rindex_put}
 use Rattle.gfs2_layout.specs.declared.dinode.Dinode.{Dinode}
 use Rattle.gfs2_layout.specs.declared.header.MetaHeader.{MetaHeader}
 use Rattle.image_model.specs.Headers.{HasHeader}
@@ -116,7 +115,7 @@ headed given size part fits =
     record {
       long = long_put;
       header = plain_header pointer_header bytes (law.own bytes base (omega (arith, long_put, fits)) (omega (arith, long, fits)) (take_put 24 part base (omega (arith, long, fits)))
-        ∙ law.back pointer_header clear room (zeros_are_bytes size) tt (omega arith, (omega arith, (omega arith, (omega arith, tt)))));
+          ∙ law.back pointer_header clear room (zeros_are_bytes size) tt (omega arith, (omega arith, (omega arith, (omega arith, tt)))));
       rest = behind_put 24 (size - 24) part base (omega (arith, long, fits)) (law.behind pointer_header clear room tt ∙ drop-replicate {X = ℕ} 24 size 0);
     }
 

@@ -1,5 +1,5 @@
 -- The list of groups of a new image, read from its file.
-use Rattle.std.proofs.Common.{ℕ, zero, suc, ◌≡◌, ◌+◌, ◌-◌, ◌*◌, ◌/◌, ◌<◌, ◌≤◌, inl, inr, List, [], ◌∷◌, ◌++◌, length, take, drop, replicate, map, refl, sym, ap, ap₂, ◌∙◌, subst, arith}
+use Rattle.std.proofs.Common.{ℕ, zero, suc, ◌≡◌, ◌+◌, ◌-◌, ◌*◌, ◌/◌, ◌<◌, ◌≤◌, inl, inr, List, ◌++◌, length, take, drop, replicate, map, refl, sym, ap, ap₂, ◌∙◌, subst, arith}
 use Rattle.std.specs.Prelude.{◌%◌, ◌==◌, if◌then◌else◌, flat_map}
 use Rattle.std.specs.List.{AllByRecursion, range_with_len}
 use Rattle.std.proofs.lemmas.Bool.{cases_eq, cond-true, cond-false, eq-eqb, ne_eqb}
@@ -15,14 +15,13 @@ use Rattle.image_model.specs.Image.{Blocks}
 use Rattle.image_model.specs.Inode.{height_in, carried, content_block, content_count, content_of}
 use Rattle.image_model.specs.Owners.{Holding, bytes_at}
 use Rattle.image_model.specs.Stands.{IsGroupList}
-use Rattle.image_model.proofs.Lengths.{pieces_cover}
-use Rattle.image_model.proofs.Members.{IsIn, from_range}
-use Rattle.image_model.proofs.Same.{flat_map_same}
 use Rattle.mkgfs2_tool.specs.Groups.{last_group, group_address, group_blocks, headers_of, first_data, data_blocks}
 use Rattle.mkgfs2_tool.specs.Files.{content_blocks, height}
 use Rattle.mkgfs2_tool.specs.Blocks.{group_entry, group_entries, group_list_block}
 use Rattle.mkgfs2_tool.specs.Making.{IsFitting}
 use Rattle.mkgfs2_tool.specs.declared.plan.Plan.{Plan}
+use Rattle.mkgfs2_tool.proofs.StandingLists.{IsIn, from_range, map_same, flat_map_same}
+use Rattle.mkgfs2_tool.proofs.StandingShapes.{parts_cover}
 use Rattle.mkgfs2_tool.proofs.StandingGiven.{Given, Known, zeros_are_bytes}
 use Rattle.mkgfs2_tool.proofs.StandingBytes.{filled, joined_again, slice_piece, answer_ok}
 use Rattle.mkgfs2_tool.proofs.StandingGround.{group_ends}
@@ -31,10 +30,6 @@ use Rattle.mkgfs2_tool.proofs.StandingOwners.{file_shape, spot}
 use Rattle.mkgfs2_tool.proofs.StandingFiles.{file_behind, file_dinode_is, behind_list, length_entries, large}
 use Rattle.mkgfs2_tool.proofs.StandingInodes.{AreMade, held, own_bytes, file_height, file_size, unit_is, count_is}
 use Rattle.mkgfs2_tool.proofs.StandingRings.{content_some, content_bytes}
-
-pub map_same : {X Y : Type 0} (f g : X → Y) (xs : List X) → ((x : X) → IsIn x xs → f x ≡ g x) → map f xs ≡ map g xs
-map_same f g [] same = refl
-map_same f g (x ∷ xs) same = λ t. same x (inl refl) t ∷ map_same f g xs (λ y h. same y (inr h)) t
 
 -- the numbers of a group are small
 pub record AreSmall (a h f d : ℕ) : Type 0 where
@@ -139,7 +134,7 @@ module _ (p : Plan) (fit : IsFitting p) (known : Known p) (at : Blocks) (made : 
       none s = omega arith
 
       enough : length (group_entries p) ≤ (0 + content_blocks (file_shape p 0)) * p.size
-      enough = through (length (group_entries p)) (96 * p.groups) (content_blocks (file_shape p 0)) p.size (length_entries p fit known) (pieces_cover (96 * p.groups) p.size (some_size p.size (large p fit known)))
+      enough = through (length (group_entries p)) (96 * p.groups) (content_blocks (file_shape p 0)) p.size (length_entries p fit known) (parts_cover (96 * p.groups) p.size (some_size p.size (large p fit known)))
         where
           some_size : (n : ℕ) → 512 ≤ n → 0 < n
           some_size n large = omega (arith, large)

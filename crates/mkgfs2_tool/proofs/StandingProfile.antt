@@ -8,7 +8,7 @@ use Rattle.image_model.specs.Image.{Image, Blocks}
 use Rattle.image_model.specs.Journals.{ring_of, head_in, journal_name}
 use Rattle.image_model.specs.Profile.{HasPlainMaster, HasJournals, IsInProfile}
 use Rattle.image_model.specs.Stands.{IsSuper, IsLaid}
-use Rattle.image_model.proofs.Held.{some_same}
+use Rattle.mkgfs2_tool.proofs.StandingLists.{some_same}
 use Rattle.mkgfs2_tool.specs.Groups.{super_block, group_address, group_blocks, data_address}
 use Rattle.mkgfs2_tool.specs.Order.{master_place, journals_place, journal_place}
 use Rattle.mkgfs2_tool.specs.Blocks.{group_entry, clean_header}
@@ -19,8 +19,7 @@ use Rattle.mkgfs2_tool.proofs.StandingGiven.{Given, Known}
 use Rattle.mkgfs2_tool.proofs.StandingGround.{group_ends}
 use Rattle.mkgfs2_tool.proofs.StandingPlan.{ground, ground_is}
 use Rattle.mkgfs2_tool.proofs.StandingOwners.{owner, spot, owner_master, owner_root}
-use Rattle.mkgfs2_tool.proofs.StandingFiles.{large}
-use Rattle.mkgfs2_tool.proofs.StandingInodes.{held, image, AreMade, file_own, file_sound}
+use Rattle.mkgfs2_tool.proofs.StandingInodes.{held, image, AreMade, file_own}
 use Rattle.mkgfs2_tool.proofs.StandingRings.{places_are, new_head, new_journal}
 use Rattle.mkgfs2_tool.proofs.StandingSystem.{inodes, directories, within, names, found, system, short, reads, root_is, master_only, journal_at}
 use Rattle.image_model.specs.Owners.{Named, up_of}

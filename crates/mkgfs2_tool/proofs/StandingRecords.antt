@@ -73,22 +73,22 @@ one_record given e room is fits short =
     let enough : 40 ≤ length clear = omega (arith, long_clear, inside) in
     let head : Dirent = head_of e room in
     let widths : HaveWidths (dirent_fields head) =
-      (is.number_low, (is.address_low, (given.fits name (All-from_recursion (λ b. b < 256) name is.bytes), (short, (omega (arith, is.name), (omega (arith, is.kind), (omega arith, tt))))))) in
+    (is.number_low, (is.address_low, (given.fits name (All-from_recursion (λ b. b < 256) name is.bytes), (short, (omega (arith, is.name), (omega (arith, is.kind), (omega arith, tt))))))) in
     let base : List ℕ = dirent_put head clear in
     let long_base : length base ≡ room = law.as_long head clear enough tt ∙ long_clear in
     let bytes : List ℕ = put_at 40 name base in
     let long : length bytes ≡ room = length_put 40 name base (omega (arith, long_base, inside)) ∙ long_base in
     let fault : kind_fault head ≡ None = right_kind head is.kind in
     let read : dirent_of bytes ≡ head = (answer_ok (or_else (length_fault 40 bytes) (kind_fault (dirent_of bytes))) (dirent_of bytes) head
-      (law.own bytes base (omega (arith, long, inside)) (omega (arith, long_base, inside)) (take_put 40 name base (omega (arith, long_base, inside))) ∙ law.back head clear enough (zeros_are_bytes room) tt (record { widths = widths; kind = fault }))).1 in
+    (law.own bytes base (omega (arith, long, inside)) (omega (arith, long_base, inside)) (take_put 40 name base (omega (arith, long_base, inside))) ∙ law.back head clear enough (zeros_are_bytes room) tt (record { widths = widths; kind = fault }))).1 in
     let behind : drop 40 bytes ≡ name ++ replicate (room - 40 - length name) 0 =
-      behind_put 40 (room - 40) name base (omega (arith, long_base, inside)) (law.behind head clear enough tt ∙ drop-replicate {X = ℕ} 40 room 0) in
+    behind_put 40 (room - 40) name base (omega (arith, long_base, inside)) (law.behind head clear enough tt ∙ drop-replicate {X = ℕ} 40 room 0) in
     let size : u16_at 20 bytes ≡ room = ap (λ (d : Dirent). d.rec_len) read in
     let name_long : u16_at 22 bytes ≡ length name = ap (λ (d : Dirent). d.name_len) read in
     let named : name_of (slot_at bytes) ≡ name =
-      (λ t. take (name_long t) (take (size t - 40) (behind t)))
-      ∙ take-take (length name) (room - 40) (name ++ replicate (room - 40 - length name) 0) (omega (arith, inside))
-      ∙ take_at name (replicate (room - 40 - length name) 0) (length name) refl in
+    (λ t. take (name_long t) (take (size t - 40) (behind t)))
+    ∙ take-take (length name) (room - 40) (name ++ replicate (room - 40 - length name) 0) (omega (arith, inside))
+    ∙ take_at name (replicate (room - 40 - length name) 0) (length name) refl in
     let alone = given.areas.one bytes (omega (arith, long, inside)) (size ∙ sym long) (λ u. omega (arith, size, name_long, inside)) in
     record {
       long = long;

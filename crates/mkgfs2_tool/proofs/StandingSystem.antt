@@ -14,9 +14,14 @@ use Rattle.image_model.specs.Journals.{journal_name, IsJournal}
 use Rattle.image_model.specs.Owners.{Owner, Super, InGroup, Free, Nobody, Root, Master, Named, Below, Chained, Up, up_of, parent_of, is_dinode, IsUsed, IsWithin}
 use Rattle.image_model.specs.Records.{Record, is_dots, child_named}
 use Rattle.image_model.specs.Stands.{IsJournalAt, flat_of, heads_of, IsRecordOf, HasRecord, directory_count, LeadsDown, IsDirectory, IsSystem, IsFound, AreShort}
-use Rattle.image_model.proofs.Held.{none_some, some_same}
-use Rattle.image_model.proofs.Members.{IsIn, is_in, contained}
-use Rattle.image_model.proofs.Reach.{Leading, IsNamedChild, named_child}
+use Rattle.mkgfs2_tool.proofs.StandingLists.{none_some, some_same, IsIn, is_in, contained, found_in}
+use Rattle.std.specs.Str.{bytes_eq}
+use Rattle.std.specs.Option.{option_map}
+use Rattle.std.proofs.lemmas.Bool.{cases_Bool}
+use Rattle.std.proofs.lemmas.Slice.Eq.{bytes_eq-Decides}
+use Rattle.image_model.specs.Owners.{Holding}
+use Rattle.image_model.specs.Inode.{child_of}
+use Rattle.image_model.specs.Records.{record_named}
 use Rattle.mkgfs2_tool.specs.Groups.{data_address}
 use Rattle.mkgfs2_tool.specs.Order.{master_place, root_place, journals_place, journal_place}
 use Rattle.mkgfs2_tool.specs.Directories.{journal_entry, master_entries, root_entries, journals_entries}
@@ -35,6 +40,33 @@ use Rattle.mkgfs2_tool.proofs.StandingList.{list_content, list_is}
 use Rattle.mkgfs2_tool.proofs.StandingRecords.{entry_record}
 use Rattle.mkgfs2_tool.proofs.StandingDirs.{IsDirectoryAt, dir_is, dir_sound, dir_number, dir_entries, dir_links, dir_records, master_at, root_at, journals_at}
 use Rattle.mkgfs2_tool.proofs.StandingNames.{record_name, name_is, is_journal_name, is_jindex_name, is_rindex_name, named_once, journal_records, journals_apart, dots_apart, journal_found, IsOfJournal, of_journal, length_journals, no_directories, got_at, get_at}
+
+-- a name that leads somewhere is that of a record
+record Leading (records : List Record) (name : List ℕ) (b : ℕ) : Type 0 where
+  pub entry : Record
+  pub there : IsIn entry records
+  pub named : entry.name ≡ name
+  pub address : entry.address ≡ b
+
+leading : (records : List Record) (name : List ℕ) (b : ℕ) → child_named records name ≡ Some b → Leading records name b
+leading records name b e = each (record_named records name) refl e
+  where
+    each : (o : Option Record) → record_named records name ≡ o → option_map (λ (r : Record). r.address) o ≡ Some b → Leading records name b
+    each None f g = absurd (none_some g)
+    each (Some r) f g = let found = found_in (λ (s : Record). bytes_eq name s.name) r records f in record { entry = r; there = found.0; named = sym ((bytes_eq-Decides name r.name).0 found.1); address = some_same g }
+
+record IsNamedChild (h : Holding) (name : List ℕ) (b : ℕ) : Type 0 where
+  pub name_is : is_dots name ≡ false
+  pub leads : Leading (records_of h) name b
+
+named_child : (h : Holding) (name : List ℕ) (b : ℕ) → child_of h name ≡ Some b → IsNamedChild h name b
+named_child h name b e = elim (cases_Bool (is_directory_in h)) [
+  | inr non ↦ absurd (none_some (sym (cond-false _ _ _ non) ∙ e))
+  | inl is ↦ elim (cases_Bool (is_dots name)) [
+    | inl dots ↦ absurd (none_some (sym (cond-true _ _ _ is ∙ cond-true _ _ _ dots) ∙ e))
+    | inr plain ↦ record { name_is = plain; leads = leading (records_of h) name b (sym (cond-true _ _ _ is ∙ cond-false _ _ _ plain) ∙ e) }
+  ]
+]
 
 used_dinode : (o : Owner) → is_dinode o ≡ true → IsUsed o
 used_dinode Super e = cc
@@ -335,7 +367,7 @@ module _ (p : Plan) (fit : IsFitting p) (known : Known p) (at : Blocks) (made : 
   master_only name b e = from (child_from master_place 1 4 3 (master_entries p) (master_at p fit known) name b e)
     where
       from : (is_dots name ≡ false) × Leading master_records name b → (name ≡ codes "jindex") ⊎ (name ≡ codes "rindex")
-      from q = each (is_in q.1.entry master_records q.1.there)
+      from q = each q.1.there
         where
           each : IsIn q.1.entry master_records → (name ≡ codes "jindex") ⊎ (name ≡ codes "rindex")
           each (inl g) = absurd (true≢false (sym (ap is_dots (sym q.1.named ∙ ap (λ (r : Record). r.name) g)) ∙ q.0))
@@ -348,7 +380,7 @@ module _ (p : Plan) (fit : IsFitting p) (known : Known p) (at : Blocks) (made : 
   root_none name b e = from (child_from root_place 2 2 2 (root_entries p) (root_at p fit known) name b e)
     where
       from : (is_dots name ≡ false) × Leading root_records name b → ⊥
-      from q = each (is_in q.1.entry root_records q.1.there)
+      from q = each q.1.there
         where
           each : IsIn q.1.entry root_records → ⊥
           each (inl g) = true≢false (sym (ap is_dots (sym q.1.named ∙ ap (λ (r : Record). r.name) g)) ∙ q.0)
@@ -373,7 +405,7 @@ module _ (p : Plan) (fit : IsFitting p) (known : Known p) (at : Blocks) (made : 
   jindex_only name b e = from (child_from (journals_place p) 4 (2 + p.journals) 2 (journals_entries p) (journals_at p fit known) name b e)
     where
       from : (is_dots name ≡ false) × Leading jindex_records name b → IsJournalNamed name b
-      from q = each (is_in q.1.entry jindex_records q.1.there)
+      from q = each q.1.there
         where
           of : IsOfJournal p p.journals q.1.entry → IsJournalNamed name b
           of g = record {

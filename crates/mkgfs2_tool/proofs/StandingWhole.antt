@@ -1,18 +1,16 @@
 -- Each block of a new image is whole, and its superblock reads as it was laid.
-use Rattle.std.proofs.Common.{ℕ, zero, suc, ◌≡◌, ◌+◌, ◌-◌, ◌*◌, ◌^◌, ◌<◌, ◌≤◌, ◌⊎◌, inl, inr, List, length, take, drop, replicate, Ok, None, refl, sym, ap, ◌∙◌, subst, arith, length-append}
+use Rattle.std.proofs.Common.{ℕ, zero, suc, ◌≡◌, ◌+◌, ◌-◌, ◌*◌, ◌^◌, ◌<◌, ◌≤◌, ◌⊎◌, inl, inr, List, length, drop, replicate, Ok, None, refl, sym, ap, ◌∙◌, subst, arith, length-append}
 use Rattle.std.specs.Prelude.{min}
 use Rattle.std.specs.List.{AllByRecursion}
-use Rattle.std.specs.Int.{w32}
 use Rattle.std.proofs.lemmas.Bool.{cases_lt, cases_eq, cond-true, cond-false, eq-eqb, ne_eqb, lt-ltb, le-ltb}
-use Rattle.std.proofs.lemmas.List.{length-replicate, length-take-le, length-take}
+use Rattle.std.proofs.lemmas.List.{length-replicate, length-take}
 use Rattle.std.proofs.lemmas.List.FromFn.{length-map-range_with_len}
 use Rattle.gfs2_layout.specs.Bytes.{slice, put_at}
-use Rattle.gfs2_layout.specs.Checksum.{checksum_of}
-use Rattle.gfs2_layout.specs.Fields.{HasItsWidth, with_fields}
+use Rattle.gfs2_layout.specs.Fields.{HasItsWidth}
 use Rattle.gfs2_layout.specs.Laws.{HasTextLengths}
 use Rattle.gfs2_layout.specs.declared.dinode.Dinode.{Dinode}
 use Rattle.gfs2_layout.specs.Structures.{superblock_of, superblock_read, header_fault}
-use Rattle.gfs2_layout.specs.Writing.{superblock_fields, texts_put, superblock_put, group_fields, group_put, header_fields, header_put, log_fields, log_put, zeros_from, dinode_fields, dinode_put}
+use Rattle.gfs2_layout.specs.Writing.{superblock_fields, superblock_put, group_put, header_put, log_put, dinode_put}
 use Rattle.gfs2_layout.specs.declared.group_header.GroupHeader.{GroupHeader}
 use Rattle.gfs2_layout.specs.declared.header.MetaHeader.{MetaHeader}
 use Rattle.gfs2_layout.specs.declared.log_header.LogHeader.{LogHeader}
