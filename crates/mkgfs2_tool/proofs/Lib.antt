@@ -8,6 +8,8 @@ pub mod UseLaws
 pub mod FlightLaws
 pub mod DiskLaws
 pub mod EndingLaws
+pub mod StandingLists
+pub mod StandingGiven
 pub mod StandingGround
 pub mod StandingShapes
 pub mod StandingPlan
@@ -18,7 +20,6 @@ pub mod StandingFiles
 pub mod StandingCounts
 pub mod StandingWhose
 pub mod StandingInodes
-pub mod StandingCrc
 pub mod StandingRings
 pub mod StandingList
 pub mod StandingRecords

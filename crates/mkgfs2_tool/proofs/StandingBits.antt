@@ -1,8 +1,7 @@
 -- The bitmaps of a new image.
-use Rattle.std.proofs.Common.{ℕ, zero, suc, ◌≡◌, ◌+◌, ◌-◌, ◌*◌, ◌/◌, ◌^◌, ◌<◌, ◌≤◌, inl, inr, List, [], ◌∷◌, ◌++◌, length, take, drop, replicate, map, get_or, refl, sym, ap, ap₂, ◌∙◌, subst, arith, append-nil}
+use Rattle.std.proofs.Common.{ℕ, zero, suc, ◌≡◌, ◌+◌, ◌-◌, ◌*◌, ◌/◌, ◌^◌, ◌<◌, ◌≤◌, inl, inr, List, [], ◌∷◌, ◌++◌, length, drop, replicate, map, get_or, refl, sym, ap, ap₂, ◌∙◌, subst, arith, append-nil}
 use Rattle.std.specs.Prelude.{◌%◌, nat_lt, flat_map}
 use Rattle.std.specs.List.{AllByRecursion, range_with_len}
-use Rattle.std.specs.Int.{Width, w32, w64, byte_len}
 use Rattle.std.proofs.lemmas.Bool.{cases_Bool, cond-true, cond-false, ne_eqb}
 use Rattle.std.proofs.lemmas.List.{length-replicate, drop_all, map-append}
 use Rattle.std.proofs.lemmas.List.FromFn.{get_or-map-range_with_len}
@@ -14,9 +13,6 @@ use Rattle.gfs2_layout.specs.Structures.{group_of, header_fault}
 use Rattle.gfs2_layout.specs.Writing.{group_fields, group_put, header_put}
 use Rattle.gfs2_layout.specs.declared.group_header.GroupHeader.{GroupHeader}
 use Rattle.gfs2_layout.specs.declared.header.MetaHeader.{MetaHeader}
-use Rattle.gfs2_layout.proofs.Places.{number_front}
-use Rattle.gfs2_layout.proofs.ReadBack.{header_back}
-use Rattle.gfs2_layout.proofs.ReadBackMore.{group_back}
 use Rattle.image_model.specs.Groups.{bitmap_of}
 use Rattle.image_model.specs.Headers.{HasHeader}
 use Rattle.image_model.specs.Image.{Blocks}
@@ -24,9 +20,9 @@ use Rattle.mkgfs2_tool.specs.Groups.{last_group, group_address, group_blocks, he
 use Rattle.mkgfs2_tool.specs.Order.{taken, use_of}
 use Rattle.mkgfs2_tool.specs.Blocks.{zeros, is_dinode, state, state_in, bitmap_byte, bitmap, group_header, first_header_block, further_header_block, header_block}
 use Rattle.mkgfs2_tool.specs.Making.{IsFitting}
-use Rattle.mkgfs2_tool.specs.Standing.{IsStamped}
 use Rattle.mkgfs2_tool.specs.declared.plan.Plan.{Plan}
-use Rattle.mkgfs2_tool.proofs.StandingBytes.{answer_ok, header_from, header_front, plain_header, take_put, drop_put}
+use Rattle.mkgfs2_tool.proofs.StandingGiven.{Given, Known, length_put, zeros_are_bytes}
+use Rattle.mkgfs2_tool.proofs.StandingBytes.{answer_ok, header_from, plain_header, take_put, drop_put}
 use Rattle.mkgfs2_tool.proofs.StandingPlan.{ground, ground_is, new_header}
 use Rattle.mkgfs2_tool.proofs.StandingGround.{group_ends}
 use Rattle.mkgfs2_tool.proofs.StandingFiles.{large}
@@ -112,36 +108,26 @@ bitmap_append p g a n m = sym (map-append (bitmap_byte p g) (range_with_len a n)
 
 -- ---- a group's header, read back
 
-group_front : (a b : List ℕ) → take 128 a ≡ take 128 b → group_of a ≡ group_of b
-group_front a b same =
-    let at = λ (w : Width) (place : ℕ) (h : place + byte_len w ≤ 128). number_front w place 128 a b h same in
-    λ i. record {
-      flags = at w32 24 (omega arith) i;
-      free = at w32 28 (omega arith) i;
-      dinodes = at w32 32 (omega arith) i;
-      skip = at w32 36 (omega arith) i;
-      igeneration = at w64 40 (omega arith) i;
-      data0 = at w64 48 (omega arith) i;
-      data_blocks = at w32 56 (omega arith) i;
-      bitbytes = at w32 60 (omega arith) i;
-    }
-
 -- the first block of a group
 pub record IsFirst (h : GroupHeader) (bits bytes : List ℕ) : Type 0 where
   pub header : HasHeader 2 200 bytes
   pub is : group_of bytes ≡ h
   pub rest : drop 128 bytes ≡ bits
 
-pub first_is : (size : ℕ) (h : GroupHeader) (bits : List ℕ) → 512 ≤ size → length bits ≡ size - 128 → AllByRecursion HasItsWidth (group_fields h) → IsFirst h bits (put_at 128 bits (group_put h (replicate size 0)))
-first_is size h bits big long widths =
+pub first_is : (given : Given) (size : ℕ) (h : GroupHeader) (bits : List ℕ) → 512 ≤ size → length bits ≡ size - 128 → AllByRecursion HasItsWidth (group_fields h) → IsFirst h bits (put_at 128 bits (group_put h (replicate size 0)))
+first_is given size h bits big long widths =
+    let law = given.structures.group in
     let clear : List ℕ = replicate size 0 in
     let base : List ℕ = group_put h clear in
-    let base_long : length base ≡ size = group_put_long size h big in
-    let back = answer_ok (header_fault 128 2 200 base) (group_of base) h (group_back h clear (omega (arith, length-replicate {A = ℕ} size 0, big)) widths) in
-    let same = take_put 128 bits base (omega (arith, base_long, big)) in
+    let base_long : length base ≡ size = group_put_long given size h big in
+    let bytes : List ℕ = put_at 128 bits base in
+    let bytes_long : length bytes ≡ size = length_put 128 bits base (omega (arith, base_long, long, big)) ∙ base_long in
+    let back = answer_ok (header_fault 128 2 200 bytes) (group_of bytes) h
+    (law.own bytes base (omega (arith, bytes_long, big)) (omega (arith, base_long, big)) (take_put 128 bits base (omega (arith, base_long, big)))
+    ∙ law.back h clear (omega (arith, length-replicate {A = ℕ} size 0, big)) (zeros_are_bytes size) tt widths) in
     record {
-      header = header_front 128 2 200 (put_at 128 bits base) base (omega arith) same (header_from 128 2 200 base back.0);
-      is = group_front (put_at 128 bits base) base same ∙ back.1;
+      header = header_from 128 2 200 bytes back.0;
+      is = back.1;
       rest = drop_put 128 bits base (omega (arith, base_long, big)) ∙ ap (λ (xs : List ℕ). bits ++ xs) (drop_all (128 + length bits) base (omega (arith, base_long, long, big))) ∙ append-nil bits;
     }
 
@@ -153,18 +139,21 @@ pub record IsFurther (bits bytes : List ℕ) : Type 0 where
   pub header : HasHeader 3 300 bytes
   pub rest : drop 24 bytes ≡ bits
 
-pub further_is : (size : ℕ) (bits : List ℕ) → 512 ≤ size → length bits ≡ size - 24 → IsFurther bits (put_at 24 bits (header_put further_header (replicate size 0)))
-further_is size bits big long =
+pub further_is : (given : Given) (size : ℕ) (bits : List ℕ) → 512 ≤ size → length bits ≡ size - 24 → IsFurther bits (put_at 24 bits (header_put further_header (replicate size 0)))
+further_is given size bits big long =
+    let law = given.structures.header in
     let clear : List ℕ = replicate size 0 in
     let base : List ℕ = header_put further_header clear in
-    let base_long : length base ≡ size = header_put_long size further_header big in
+    let base_long : length base ≡ size = header_put_long given size further_header big in
+    let bytes : List ℕ = put_at 24 bits base in
+    let bytes_long : length bytes ≡ size = length_put 24 bits base (omega (arith, base_long, long, big)) ∙ base_long in
     record {
-      header = header_front 24 3 300 (put_at 24 bits base) base (omega arith) (take_put 24 bits base (omega (arith, base_long, big)))
-          (plain_header further_header base (header_back further_header clear (omega (arith, length-replicate {A = ℕ} size 0, big)) (omega arith, (omega arith, (omega arith, (omega arith, tt))))));
+      header = plain_header further_header bytes (law.own bytes base (omega (arith, bytes_long, big)) (omega (arith, base_long, big)) (take_put 24 bits base (omega (arith, base_long, big)))
+          ∙ law.back further_header clear (omega (arith, length-replicate {A = ℕ} size 0, big)) (zeros_are_bytes size) tt (omega arith, (omega arith, (omega arith, (omega arith, tt)))));
       rest = drop_put 24 bits base (omega (arith, base_long, big)) ∙ ap (λ (xs : List ℕ). bits ++ xs) (drop_all (24 + length bits) base (omega (arith, base_long, long, big))) ∙ append-nil bits;
     }
 
-module _ (p : Plan) (fit : IsFitting p) (stamped : IsStamped p) (at : Blocks) (made : AreMade p at) (g : ℕ) (ok : g ≤ last_group p) (widths : AllByRecursion HasItsWidth (group_fields (group_header p g))) where
+module _ (p : Plan) (fit : IsFitting p) (known : Known p) (at : Blocks) (made : AreMade p at) (g : ℕ) (ok : g ≤ last_group p) (widths : AllByRecursion HasItsWidth (group_fields (group_header p g))) where
   header_low : (n : ℕ) → n < headers_of p g → group_address p g + n < p.count
   header_low n low = through (group_address p g) n (headers_of p g) (data_blocks p g) (group_blocks p g) p.count low ((ground_is p fit).held g ok) (group_ends (ground p) (ground_is p fit) g ok)
     where
@@ -177,7 +166,7 @@ module _ (p : Plan) (fit : IsFitting p) (stamped : IsStamped p) (at : Blocks) (m
   pub first_at : IsFirst (group_header p g) (bitmap p g 0 (p.size - 128)) (at (group_address p g))
   unfolding first_header_block
   first_at = subst (IsFirst (group_header p g) (bitmap p g 0 (p.size - 128))) (sym (ap at (none (group_address p g)) ∙ header_at 0 (omega arith)))
-      (first_is p.size (group_header p g) (bitmap p g 0 (p.size - 128)) (large p fit stamped) (bitmap_long p fit stamped g 0 (p.size - 128)) widths)
+      (first_is known.given p.size (group_header p g) (bitmap p g 0 (p.size - 128)) (large p fit known) (bitmap_long p fit known g 0 (p.size - 128)) widths)
     where
       none : (n : ℕ) → n ≡ n + 0
       none n = omega arith
@@ -186,7 +175,7 @@ module _ (p : Plan) (fit : IsFitting p) (stamped : IsStamped p) (at : Blocks) (m
   unfolding further_header_block
   further_at n low = subst (IsFurther (bitmap p g (p.size - 128 + n * (p.size - 24)) (p.size - 24)))
       (sym (header_at (suc n) low ∙ cond-false _ _ _ (ne_eqb (suc n) 0 (λ e. absurd (omega (arith, e)))) ∙ ap (λ m. put_at 24 (bitmap p g (p.size - 128 + m * (p.size - 24)) (p.size - 24)) (header_put further_header (zeros p))) (back n)))
-      (further_is p.size (bitmap p g (p.size - 128 + n * (p.size - 24)) (p.size - 24)) (large p fit stamped) (bitmap_long p fit stamped g (p.size - 128 + n * (p.size - 24)) (p.size - 24)))
+      (further_is known.given p.size (bitmap p g (p.size - 128 + n * (p.size - 24)) (p.size - 24)) (large p fit known) (bitmap_long p fit known g (p.size - 128 + n * (p.size - 24)) (p.size - 24)))
     where
       back : (n : ℕ) → suc n - 1 ≡ n
       back n = omega arith

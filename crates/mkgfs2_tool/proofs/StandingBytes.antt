@@ -2,18 +2,17 @@
 use Rattle.std.proofs.Common.{ℕ, zero, suc, ◌≡◌, ◌+◌, ◌-◌, ◌*◌, ◌^◌, ◌<◌, ◌≤◌, inl, inr, List, [], ◌∷◌, ◌++◌, length, take, drop, replicate, get_or, Option, None, Some, Ok, refl, sym, ap, ◌∙◌, arith, length-append, length-drop, append_assoc, append-nil}
 use Rattle.std.specs.Prelude.{◌==◌, nat_lt, not}
 use Rattle.std.specs.List.{flat_map, range_with_len}
-use Rattle.std.specs.Int.{w32, w64, to_be_bytes, from_be_bytes}
+use Rattle.std.specs.Int.{w64, to_be_bytes, from_be_bytes}
 use Rattle.std.proofs.lemmas.Bool.{cases_lt, cases_Bool, cond-true, cond-false, eqb-true}
 use Rattle.std.proofs.lemmas.List.{take_at, drop_at, take_all, take-append-drop, drop-drop, drop_all, length-take-le, drop-replicate, take-replicate}
 use Rattle.std.proofs.Math.Seq.{take-append-add}
 use Rattle.std.proofs.Math.Nat.{suc-mul}
+use Rattle.std.proofs.lemmas.Nat.{from_be_bytes-to_be_bytes_8}
 use Rattle.gfs2_layout.specs.Bytes.{slice, put_at, number_at, u32_at, u64_at}
 use Rattle.gfs2_layout.specs.Structures.{answer, or_else, length_fault, magic_fault, header_of, header_read, header_fault, magic}
 use Rattle.gfs2_layout.specs.declared.header.MetaHeader.{MetaHeader}
 use Rattle.gfs2_layout.specs.declared.fault.LayoutFault.{LayoutFault}
 use Rattle.gfs2_layout.specs.declared.fault.LayoutFault.TheVariants.{Short, Magic, Kind, Format}
-use Rattle.gfs2_layout.proofs.InPlace.{is_width_64}
-use Rattle.gfs2_layout.proofs.Places.{number_front}
 use Rattle.image_model.specs.Headers.{HasHeader}
 
 -- ---- answers
@@ -63,13 +62,6 @@ plain_header h bytes e =
       format_is = ap (λ (m : MetaHeader). m.format) back.1;
     }
 
-pub header_front : (k kind format : ℕ) (a b : List ℕ) → 24 ≤ k → take k a ≡ take k b → HasHeader kind format b → HasHeader kind format a
-header_front k kind format a b long same is = record {
-  magic_is = number_front w32 0 k a b (omega (arith, long)) same ∙ is.magic_is;
-  kind_is = number_front w32 4 k a b (omega (arith, long)) same ∙ is.kind_is;
-  format_is = number_front w32 16 k a b (omega (arith, long)) same ∙ is.format_is;
-}
-
 -- ---- bytes put behind a structure, over zeros
 
 pub take_put : (n : ℕ) (part bytes : List ℕ) → n ≤ length bytes → take n (put_at n part bytes) ≡ take n bytes
@@ -82,6 +74,9 @@ pub behind_put : (n m : ℕ) (part bytes : List ℕ) → n ≤ length bytes → 
 behind_put n m part bytes long clear =
     drop_put n part bytes long ∙ ap (λ (xs : List ℕ). part ++ xs) (sym (drop-drop (length part) n bytes) ∙ ap (drop (length part)) clear ∙ drop-replicate (length part) m 0)
 
+eight : (n : ℕ) → length (to_be_bytes w64 n) ≡ 8
+eight n = refl
+
 -- ---- addresses one after another, and zeros behind them
 
 abbrev pub spelled : (ℕ → ℕ) → List ℕ → List ℕ
@@ -92,7 +87,7 @@ AreLow f = (n : ℕ) → f n < 2 ^ 64
 
 pub length_spelled : (f : ℕ → ℕ) (xs : List ℕ) → length (spelled f xs) ≡ 8 * length xs
 length_spelled f [] = refl
-length_spelled f (x ∷ xs) = omega (arith, length-append (to_be_bytes w64 (f x)) (spelled f xs), is_width_64.long (f x), length_spelled f xs)
+length_spelled f (x ∷ xs) = omega (arith, length-append (to_be_bytes w64 (f x)) (spelled f xs), eight (f x), length_spelled f xs)
 
 slice_behind : (a rest : List ℕ) (at n k : ℕ) → length a ≡ k → slice (k + at) n (a ++ rest) ≡ slice at n rest
 slice_behind a rest at n k long = ap (take n) (sym (drop-drop at k (a ++ rest)) ∙ ap (drop at) (drop_at a rest k long))
@@ -102,11 +97,11 @@ unfolding number_at
 read_spelled f [] rest k few low = absurd (omega (arith, few))
 read_spelled f (x ∷ xs) rest zero few low =
     ap (λ (b : List ℕ). from_be_bytes w64 (take 8 b)) (append_assoc (to_be_bytes w64 (f x)) (spelled f xs) rest)
-    ∙ ap (from_be_bytes w64) (take_at (to_be_bytes w64 (f x)) (spelled f xs ++ rest) 8 (is_width_64.long (f x))) ∙ is_width_64.same (f x) low
+    ∙ ap (from_be_bytes w64) (take_at (to_be_bytes w64 (f x)) (spelled f xs ++ rest) 8 (eight (f x))) ∙ from_be_bytes-to_be_bytes_8 (f x) low
 read_spelled f (x ∷ xs) rest (suc k) few low =
     ap (λ n. from_be_bytes w64 (slice n 8 ((to_be_bytes w64 (f x) ++ spelled f xs) ++ rest))) (let e : 8 * suc k ≡ 8 + 8 * k = omega arith in e)
     ∙ ap (λ (b : List ℕ). from_be_bytes w64 (slice (8 + 8 * k) 8 b)) (append_assoc (to_be_bytes w64 (f x)) (spelled f xs) rest)
-    ∙ ap (from_be_bytes w64) (slice_behind (to_be_bytes w64 (f x)) (spelled f xs ++ rest) (8 * k) 8 8 (is_width_64.long (f x)))
+    ∙ ap (from_be_bytes w64) (slice_behind (to_be_bytes w64 (f x)) (spelled f xs ++ rest) (8 * k) 8 8 (eight (f x)))
     ∙ read_spelled f xs rest k (omega (arith, few)) low
 
 pub read_zeros : (front : List ℕ) (m at : ℕ) → length front ≤ at → at + 8 ≤ length front + m → u64_at at (front ++ replicate m 0) ≡ 0

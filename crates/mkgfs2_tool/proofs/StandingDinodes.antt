@@ -1,23 +1,19 @@
 -- The dinode's block of a new inode, read back.
-use Rattle.std.proofs.Common.{ℕ, ◌≡◌, ◌+◌, ◌-◌, ◌^◌, ◌<◌, ◌≤◌, List, length, take, drop, replicate, ◌++◌, ◌∙◌, arith}
+use Rattle.std.proofs.Common.{ℕ, Ok, ◌≡◌, ◌+◌, ◌-◌, ◌^◌, ◌<◌, ◌≤◌, List, length, drop, replicate, ◌++◌, ◌∙◌, arith}
 use Rattle.std.specs.List.{AllByRecursion}
-use Rattle.std.specs.Int.{Width, w16, w32, w64, byte_len}
 use Rattle.std.proofs.lemmas.List.{length-replicate, drop-replicate}
 use Rattle.gfs2_layout.specs.Bytes.{put_at}
-use Rattle.gfs2_layout.specs.Fields.{HasItsWidth, with_fields}
-use Rattle.gfs2_layout.specs.Structures.{dinode_of, header_fault}
+use Rattle.gfs2_layout.specs.Fields.{HasItsWidth}
+use Rattle.gfs2_layout.specs.Structures.{dinode_of, dinode_read, header_fault}
 use Rattle.gfs2_layout.specs.Writing.{dinode_fields, dinode_put}
 use Rattle.gfs2_layout.specs.declared.dinode.Dinode.{Dinode}
-use Rattle.gfs2_layout.proofs.FieldsInPlace.{length-fields, drop-fields}
-use Rattle.gfs2_layout.proofs.InPlace.{length-put}
-use Rattle.gfs2_layout.proofs.Places.{number_front}
-use Rattle.gfs2_layout.proofs.ReadBack.{dinode_back}
 use Rattle.image_model.specs.Headers.{HasHeader}
 use Rattle.mkgfs2_tool.specs.Groups.{data_address}
 use Rattle.mkgfs2_tool.specs.Blocks.{dinode}
 use Rattle.mkgfs2_tool.specs.declared.plan.Plan.{Plan}
 use Rattle.mkgfs2_tool.specs.declared.inodes.Inode.{Inode}
-use Rattle.mkgfs2_tool.proofs.StandingBytes.{answer_ok, header_from, header_front, take_put, behind_put}
+use Rattle.mkgfs2_tool.proofs.StandingBytes.{answer_ok, header_from, take_put, behind_put}
+use Rattle.mkgfs2_tool.proofs.StandingGiven.{Given, length_put, zeros_are_bytes}
 
 -- these bytes are a block of so many, with this dinode and these bytes behind it
 pub record IsDinodeBlock (size : ℕ) (d : Dinode) (behind bytes : List ℕ) : Type 0 where
@@ -26,51 +22,24 @@ pub record IsDinodeBlock (size : ℕ) (d : Dinode) (behind bytes : List ℕ) : T
   pub header : HasHeader 4 400 bytes
   pub rest : drop 232 bytes ≡ behind ++ replicate (size - 232 - length behind) 0
 
-dinode_front : (a b : List ℕ) → take 232 a ≡ take 232 b → dinode_of a ≡ dinode_of b
-dinode_front a b same =
-    let at = λ (w : Width) (place : ℕ) (h : place + byte_len w ≤ 232). number_front w place 232 a b h same in
-    λ i. record {
-      num = record { number = at w64 24 (omega arith) i; address = at w64 32 (omega arith) i };
-      mode = at w32 40 (omega arith) i;
-      uid = at w32 44 (omega arith) i;
-      gid = at w32 48 (omega arith) i;
-      nlink = at w32 52 (omega arith) i;
-      size = at w64 56 (omega arith) i;
-      blocks = at w64 64 (omega arith) i;
-      atime = at w64 72 (omega arith) i;
-      mtime = at w64 80 (omega arith) i;
-      ctime = at w64 88 (omega arith) i;
-      major = at w32 96 (omega arith) i;
-      minor = at w32 100 (omega arith) i;
-      goal_meta = at w64 104 (omega arith) i;
-      goal_data = at w64 112 (omega arith) i;
-      generation = at w64 120 (omega arith) i;
-      flags = at w32 128 (omega arith) i;
-      payload_format = at w32 132 (omega arith) i;
-      height = at w16 138 (omega arith) i;
-      depth = at w16 146 (omega arith) i;
-      entries = at w32 148 (omega arith) i;
-      eattr = at w64 168 (omega arith) i;
-      atime_nsec = at w32 176 (omega arith) i;
-      mtime_nsec = at w32 180 (omega arith) i;
-      ctime_nsec = at w32 184 (omega arith) i;
-    }
-
-pub dinode_put_is : (size : ℕ) (d : Dinode) (behind : List ℕ) → 232 + length behind ≤ size → AllByRecursion HasItsWidth (dinode_fields d)
+pub dinode_put_is : (given : Given) (size : ℕ) (d : Dinode) (behind : List ℕ) → 232 + length behind ≤ size → AllByRecursion HasItsWidth (dinode_fields d)
     → IsDinodeBlock size d behind (put_at 232 behind (dinode_put d (replicate size 0)))
-dinode_put_is size d behind fits widths =
+dinode_put_is given size d behind fits widths =
+    let law = given.structures.dinode in
     let clear : List ℕ = replicate size 0 in
     let room : 232 ≤ length clear = omega (arith, fits, length-replicate {A = ℕ} size 0) in
-    let base : List ℕ = with_fields (dinode_fields d) clear in
-    let long : length base ≡ size = length-fields (dinode_fields d) clear (omega (arith, room)) ∙ length-replicate {A = ℕ} size 0 in
-    let back = answer_ok (header_fault 232 4 400 base) (dinode_of base) d (dinode_back d clear room widths) in
-    let rest : drop 232 base ≡ replicate (size - 232) 0 = drop-fields (dinode_fields d) clear (omega (arith, room)) 232 (omega arith) ∙ drop-replicate {X = ℕ} 232 size 0 in
-    let same = take_put 232 behind base (omega (arith, long, fits)) in
+    let base : List ℕ = dinode_put d clear in
+    let long : length base ≡ size = law.as_long d clear room tt ∙ length-replicate {A = ℕ} size 0 in
+    let bytes : List ℕ = put_at 232 behind base in
+    let long_put : length bytes ≡ size = length_put 232 behind base (omega (arith, long, fits)) ∙ long in
+    let read : dinode_read bytes ≡ Ok d =
+    law.own bytes base (omega (arith, long_put, fits)) (omega (arith, long, fits)) (take_put 232 behind base (omega (arith, long, fits))) ∙ law.back d clear room (zeros_are_bytes size) tt widths in
+    let back = answer_ok (header_fault 232 4 400 bytes) (dinode_of bytes) d read in
     record {
-      long = length-put 232 behind base (omega (arith, long, fits)) ∙ long;
-      is = dinode_front (put_at 232 behind base) base same ∙ back.1;
-      header = header_front 232 4 400 (put_at 232 behind base) base (omega arith) same (header_from 232 4 400 base back.0);
-      rest = behind_put 232 (size - 232) behind base (omega (arith, long, fits)) rest;
+      long = long_put;
+      is = back.1;
+      header = header_from 232 4 400 bytes back.0;
+      rest = behind_put 232 (size - 232) behind base (omega (arith, long, fits)) (law.behind d clear room tt ∙ drop-replicate {X = ℕ} 232 size 0);
     }
 
 -- the numbers of an inode have their widths

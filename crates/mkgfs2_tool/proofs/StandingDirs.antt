@@ -1,5 +1,5 @@
 -- The directories of a new image are sound.
-use Rattle.std.proofs.Common.{ℕ, zero, suc, ◌≡◌, ◌≢◌, ◌+◌, ◌-◌, ◌^◌, ◌<◌, ◌≤◌, inl, true, false, List, ◌++◌, length, drop, replicate, map, Some, sym, ap, ◌∙◌, subst, arith, append-nil}
+use Rattle.std.proofs.Common.{ℕ, zero, suc, ◌≡◌, ◌≢◌, ◌+◌, ◌-◌, ◌^◌, ◌<◌, ◌≤◌, ◌⊎◌, inl, inr, true, false, List, ◌++◌, length, drop, replicate, map, Some, refl, sym, ap, ◌∙◌, subst, arith, append-nil}
 use Rattle.std.specs.Prelude.{◌&&◌, is_some}
 use Rattle.std.specs.List.{AllByRecursion, range_with_len}
 use Rattle.std.proofs.lemmas.Bool.{cond-true, cond-false, lt-ltb, true≢false}
@@ -12,19 +12,19 @@ use Rattle.image_model.specs.Image.{Blocks}
 use Rattle.image_model.specs.Inode.{dinode_in, height_in, has_hash_flag, is_directory_in, is_hashed_in, linear_area, records_of, IsInode, block_count}
 use Rattle.image_model.specs.Owners.{Holding, Part, Itself, Pointed, InChain, is_dinode, bytes_at, part_at}
 use Rattle.image_model.specs.Records.{records_in, IsRecordArea}
-use Rattle.image_model.proofs.Held.{own_part, itself_own, pointed_owner, chained_owner, block_same, own_block}
+use Rattle.mkgfs2_tool.proofs.StandingGiven.{own_part, itself_own, pointed_owner, chained_owner, block_same, own_block}
 use Rattle.mkgfs2_tool.specs.Groups.{super_block, data_address}
 use Rattle.mkgfs2_tool.specs.Files.{file_blocks}
 use Rattle.mkgfs2_tool.specs.Order.{master_place, root_place, group_list_place, journals_place, journal_place, group_list, taken, use_of}
 use Rattle.mkgfs2_tool.specs.Directories.{records, Fit, name_of as name_in, entry, journal_entry, master_entries, root_entries, journals_entries}
 use Rattle.mkgfs2_tool.specs.Blocks.{data_block, zeros, new_block, used_block, dinode, dinode_block, directory, area_length, master_block, root_block, journals_block}
 use Rattle.mkgfs2_tool.specs.Making.{IsFitting}
-use Rattle.mkgfs2_tool.specs.Standing.{IsStamped}
 use Rattle.mkgfs2_tool.specs.declared.directory.Entry.{Entry}
 use Rattle.mkgfs2_tool.specs.declared.directory.Name.{Name}
 use Rattle.mkgfs2_tool.specs.declared.directory.Name.TheVariants as name
 use Rattle.mkgfs2_tool.specs.declared.plan.Plan.{Plan}
 use Rattle.mkgfs2_tool.proofs.RecordLaws.{AreJournals, journals_first}
+use Rattle.mkgfs2_tool.proofs.StandingGiven.{Known}
 use Rattle.mkgfs2_tool.proofs.StandingCounts.{count_images}
 use Rattle.mkgfs2_tool.proofs.StandingDinodes.{IsDinodeBlock, dinode_put_is, IsSmall, dinode_widths}
 use Rattle.mkgfs2_tool.proofs.StandingPlan.{apart_addresses, address_low, address_high, new_data}
@@ -47,7 +47,7 @@ pub record IsDirectoryAt (p : Plan) (place number count links : ℕ) (es : List 
   pub count_low : count < 2 ^ 32
   pub links_low : links < 2 ^ 32
 
-module _ (p : Plan) (fit : IsFitting p) (stamped : IsStamped p) (at : Blocks) (made : AreMade p at) (place number count links : ℕ) (es : List Entry) (is : IsDirectoryAt p place number count links es) where
+module _ (p : Plan) (fit : IsFitting p) (known : Known p) (at : Blocks) (made : AreMade p at) (place number count links : ℕ) (es : List Entry) (is : IsDirectoryAt p place number count links es) where
   abbrev a : ℕ
   a = data_address p place
 
@@ -61,13 +61,13 @@ module _ (p : Plan) (fit : IsFitting p) (stamped : IsStamped p) (at : Blocks) (m
   low_address = address_low p fit place (in_all p fit place is.kept)
 
   records_made : AreRecords (area_length p) es (records (area_length p) es)
-  records_made = records_are (area_length p) es is.entries is.fit (short p.size (size_few p fit stamped))
+  records_made = records_are known.given (area_length p) es is.entries is.fit (short p.size (size_few p fit known))
     where
       short : (s : ℕ) → s ≤ 4096 → s - 232 < 2 ^ 16
       short s few = omega (arith, few)
 
   room : 232 + length (records (area_length p) es) ≤ p.size
-  room = all (length (records (area_length p) es)) p.size records_made.long (large p fit stamped)
+  room = all (length (records (area_length p) es)) p.size records_made.long (large p fit known)
     where
       all : (n s : ℕ) → n ≡ s - 232 → 512 ≤ s → 232 + n ≤ s
       all n s e large = omega (arith, e, large)
@@ -76,7 +76,7 @@ module _ (p : Plan) (fit : IsFitting p) (stamped : IsStamped p) (at : Blocks) (m
   small = record {
     mode = omega arith;
     nlink = is.links_low;
-    size = size_low p.size (size_few p fit stamped);
+    size = size_low p.size (size_few p fit known);
     blocks = omega arith;
     flags = omega arith;
     payload_format = omega arith;
@@ -89,13 +89,13 @@ module _ (p : Plan) (fit : IsFitting p) (stamped : IsStamped p) (at : Blocks) (m
 
   block_is : IsDinodeBlock p.size d (records (area_length p) es) (new_block p a)
   block_is = subst (IsDinodeBlock p.size d (records (area_length p) es)) (sym is.block)
-      (dinode_put_is p.size d (records (area_length p) es) room (dinode_widths p number place (directory p count links) is.number_low (near a p.count low_address fit.count) stamped.time small))
+      (dinode_put_is known.given p.size d (records (area_length p) es) room (dinode_widths p number place (directory p count links) is.number_low (near a p.count low_address fit.count) known.time small))
     where
       near : (a c : ℕ) → a < c → c ≤ 131072 → a < 2 ^ 64
       near a c low few = omega (arith, low, few)
 
   own_bytes : bytes_at h a ≡ new_block p a
-  own_bytes = own_block (image p at) (owner p) a is.own ∙ made.is a low_address
+  own_bytes = own_block known.given (image p at) (owner p) a is.own ∙ made.is a low_address
 
   dinode_is : dinode_in h ≡ d
   unfolding dinode_in
@@ -148,16 +148,16 @@ module _ (p : Plan) (fit : IsFitting p) (stamped : IsStamped p) (at : Blocks) (m
   dir_records = cond-false _ _ _ dir_linear ∙ ap records_in area_is ∙ records_made.are
 
   no_pointed : (y b k level first : ℕ) → part_at h y ≡ Some (Pointed b k level first) → ⊥
-  no_pointed y b k level first e = from (below_of p fit stamped y a b k level first (pointed_owner (image p at) (owner p) a y b k level first e))
+  no_pointed y b k level first e = from (below_of p fit known y a b k level first (pointed_owner known.given (image p at) (owner p) a y b k level first e))
     where
-      from : IsBelowOf p fit stamped y a b k level first → ⊥
+      from : IsBelowOf p fit known y a b k level first → ⊥
       from q = is.no_file q.file q.ok (below_1 _ _ _ _ _ _ _ _ _ _ q.owned)
 
   no_chain : (y hash place : ℕ) → part_at h y ≡ Some (InChain hash place) → ⊥
-  no_chain y hash place e = not_chained p fit stamped y a hash place (chained_owner (image p at) (owner p) a y hash place e)
+  no_chain y hash place e = not_chained p fit known y a hash place (chained_owner known.given (image p at) (owner p) a y hash place e)
 
   only_own : (y : ℕ) (q : Part) → part_at h y ≡ Some q → y ≡ a
-  only_own y Itself e = itself_own (image p at) (owner p) a y e
+  only_own y Itself e = itself_own known.given (image p at) (owner p) a y e
   only_own y (Pointed b k level first) e = absurd (no_pointed y b k level first e)
   only_own y (InChain hash place) e = absurd (no_chain y hash place e)
 
@@ -170,12 +170,12 @@ module _ (p : Plan) (fit : IsFitting p) (stamped : IsStamped p) (at : Blocks) (m
   blocks_counted : block_count h ≡ 1
   unfolding block_count
   blocks_counted = count_images 1 p.count (λ n. a) (λ b. is_some (h.cell b)) (λ n low. low_address) (λ n k low low' e. omega (arith, low, low'))
-      (λ n low. cell_some (h.cell a) Itself (own_part (image p at) (owner p) a is.own))
+      (λ n low. cell_some (h.cell a) Itself (own_part known.given (image p at) (owner p) a is.own))
       (λ b e. let c = some_cell (h.cell b) e in (0, omega arith, only_own b c.0 c.1))
 
   pub dir_sound : IsInode h
   dir_sound = record {
-    whole = λ b q e. ap length (block_same (image p at) (owner p) a b q e) ∙ made.whole b (subst (λ n. n < p.count) (sym (only_own b q e)) low_address);
+    whole = λ b q e. ap length (block_same known.given (image p at) (owner p) a b q e) ∙ made.whole b (subst (λ n. n < p.count) (sym (only_own b q e)) low_address);
     header = subst (HasHeader 4 400) (sym own_bytes) block_is.header;
     address = address_is;
     number = λ e. is.some (sym dir_number ∙ e);
@@ -183,7 +183,7 @@ module _ (p : Plan) (fit : IsFitting p) (stamped : IsStamped p) (at : Blocks) (m
     links = λ e. absurd (true≢false (sym dir_is ∙ e));
     fits = record {
       low = low_height (height_in h) height_is;
-      stuffed = λ e. size_inside (dinode_in h).size p.size size_is (large p fit stamped);
+      stuffed = λ e. size_inside (dinode_in h).size p.size size_is (large p fit known);
       under = λ level e. absurd (flat level e);
     };
     tree = record {
@@ -196,7 +196,7 @@ module _ (p : Plan) (fit : IsFitting p) (stamped : IsStamped p) (at : Blocks) (m
     };
     linear = λ e g. record {
       stuffed = height_is;
-      size = size_whole (dinode_in h).size p.size size_is (large p fit stamped);
+      size = size_whole (dinode_in h).size p.size size_is (large p fit known);
       area = subst IsRecordArea (sym area_is) records_made.area;
     };
     hashed = λ e. absurd (true≢false (sym e ∙ dir_linear));
@@ -215,17 +215,17 @@ module _ (p : Plan) (fit : IsFitting p) (stamped : IsStamped p) (at : Blocks) (m
 
 -- ---- the three directories
 
-module _ (p : Plan) (fit : IsFitting p) (stamped : IsStamped p) where
+module _ (p : Plan) (fit : IsFitting p) (known : Known p) where
   entry_is : (n : Name) (number place kind : ℕ) → length (name_in (entry p n number place kind)) ≤ 16 → AllByRecursion (λ b. b < 256) (name_in (entry p n number place kind))
-      → 1 ≤ number → number ≤ 12 → place < taken p → kind ≤ 8 → IsEntry (entry p n number place kind)
-  entry_is n number place kind short bytes some few kept kind_low = record {
+      → 1 ≤ number → number ≤ 12 → place < taken p → (kind ≡ 4) ⊎ (kind ≡ 8) → IsEntry (entry p n number place kind)
+  entry_is n number place kind short bytes some few kept kind_is = record {
     name = short;
     bytes = bytes;
     number = λ e. absurd (omega (arith, some, e));
     number_low = omega (arith, few);
     address = λ e. never (super_block p) (data_address p place) (address_high p fit place (in_all p fit place kept)) e;
     address_low = near (data_address p place) p.count (address_low p fit place (in_all p fit place kept)) fit.count;
-    kind = omega (arith, kind_low);
+    kind = kind_is;
   }
     where
       never : (s n : ℕ) → s < n → n ≡ 0 → ⊥
@@ -238,10 +238,10 @@ module _ (p : Plan) (fit : IsFitting p) (stamped : IsStamped p) where
   list_taken = omega arith
 
   this_is : (number place : ℕ) → 1 ≤ number → number ≤ 12 → place < taken p → IsEntry (entry p name.This number place 4)
-  this_is number place some few kept = entry_is name.This number place 4 (omega arith) (omega arith, tt) some few kept (omega arith)
+  this_is number place some few kept = entry_is name.This number place 4 (omega arith) (omega arith, tt) some few kept (inl refl)
 
   parent_is : (number place : ℕ) → 1 ≤ number → number ≤ 12 → place < taken p → IsEntry (entry p name.Parent number place 4)
-  parent_is number place some few kept = entry_is name.Parent number place 4 (omega arith) (omega arith, (omega arith, tt)) some few kept (omega arith)
+  parent_is number place some few kept = entry_is name.Parent number place 4 (omega arith) (omega arith, (omega arith, tt)) some few kept (inl refl)
 
   no_file_at : (place : ℕ) → place < taken p → ((i : ℕ) → file_place p i ≡ place → ⊥) → (i : ℕ) → i ≤ p.journals → spot p i 0 ≡ data_address p place → ⊥
   no_file_at place kept none i ok e = none i (drop_zero (file_place p i) place (apart_addresses p fit (file_place p i + 0) place (in_all p fit (file_place p i + 0) (file_taken p i 0 ok (file_some p i))) (in_all p fit place kept) e))
@@ -265,12 +265,12 @@ module _ (p : Plan) (fit : IsFitting p) (stamped : IsStamped p) where
       (
         parent_is 1 master_place (omega arith) (omega arith) (some_taken p),
         (
-          entry_is name.Jindex 4 (journals_place p) 4 (omega arith) (omega arith, (omega arith, (omega arith, (omega arith, (omega arith, (omega arith, tt)))))) (omega arith) (omega arith) (journals_taken p) (omega arith),
-          (entry_is name.Rindex 3 group_list_place 8 (omega arith) (omega arith, (omega arith, (omega arith, (omega arith, (omega arith, (omega arith, tt)))))) (omega arith) (omega arith) list_taken (omega arith), tt),
+          entry_is name.Jindex 4 (journals_place p) 4 (omega arith) (omega arith, (omega arith, (omega arith, (omega arith, (omega arith, (omega arith, tt)))))) (omega arith) (omega arith) (journals_taken p) (inl refl),
+          (entry_is name.Rindex 3 group_list_place 8 (omega arith) (omega arith, (omega arith, (omega arith, (omega arith, (omega arith, (omega arith, tt)))))) (omega arith) (omega arith) list_taken (inr refl), tt),
         ),
       ),
     );
-    fit = fits (area_length p) (room p.size (large p fit stamped));
+    fit = fits (area_length p) (room p.size (large p fit known));
     some = λ e. absurd (omega (arith, e));
     number_low = omega arith;
     count_low = omega arith;
@@ -295,7 +295,7 @@ module _ (p : Plan) (fit : IsFitting p) (stamped : IsStamped p) where
     own = ap is_dinode (owner_root p fit);
     no_file = no_file_at root_place (two_taken p) none;
     entries = (this_is 2 root_place (omega arith) (omega arith) (two_taken p), (parent_is 2 root_place (omega arith) (omega arith) (two_taken p), tt));
-    fit = fits (area_length p) (room p.size (large p fit stamped));
+    fit = fits (area_length p) (room p.size (large p fit known));
     some = λ e. absurd (omega (arith, e));
     number_low = omega arith;
     count_low = omega arith;
@@ -315,7 +315,7 @@ module _ (p : Plan) (fit : IsFitting p) (stamped : IsStamped p) where
   journal_is : (j : ℕ) → suc j ≤ p.journals → IsEntry (journal_entry p j)
   journal_is j ok = entry_is (name.Journal j) (5 + j) (journal_place p j) 8 (omega arith)
       (omega arith, (omega arith, (omega arith, (omega arith, (omega arith, (omega arith, (omega arith, (digit j p.journals ok fit.plan.journals, tt)))))))) (omega arith) (few j p.journals ok fit.plan.journals)
-      (at_first (journal_place p j) (taken p) (file_taken p (suc j) 0 ok (file_some p (suc j)))) (omega arith)
+      (at_first (journal_place p j) (taken p) (file_taken p (suc j) 0 ok (file_some p (suc j)))) (inr refl)
     where
       digit : (j n : ℕ) → suc j ≤ n → n ≤ 8 → 48 + j < 256
       digit j n a b = omega (arith, a, b)

@@ -8,13 +8,9 @@ use Rattle.std.proofs.lemmas.List.{length-replicate, drop-replicate}
 use Rattle.std.proofs.lemmas.List.FromFn.{length-range_with_len, get_or-range_with_len}
 use Rattle.std.proofs.Math.Nat.{mul-le-mul}
 use Rattle.gfs2_layout.specs.Bytes.{put_at, u64_at}
-use Rattle.gfs2_layout.specs.Fields.{with_fields}
-use Rattle.gfs2_layout.specs.Writing.{header_fields, header_put, dinode_put, rindex_put, rindex_fields}
+use Rattle.gfs2_layout.specs.Writing.{header_put, dinode_put, rindex_put}
 use Rattle.gfs2_layout.specs.declared.dinode.Dinode.{Dinode}
 use Rattle.gfs2_layout.specs.declared.header.MetaHeader.{MetaHeader}
-use Rattle.gfs2_layout.proofs.FieldsInPlace.{length-fields, drop-fields}
-use Rattle.gfs2_layout.proofs.ReadBack.{header_back}
-use Rattle.gfs2_layout.proofs.InPlace.{length-put}
 use Rattle.image_model.specs.Headers.{HasHeader}
 use Rattle.image_model.specs.Inode.{span}
 use Rattle.mkgfs2_tool.specs.Groups.{data_address, parts}
@@ -22,10 +18,10 @@ use Rattle.mkgfs2_tool.specs.Files.{dinode_pointers, block_pointers, content_blo
 use Rattle.mkgfs2_tool.specs.Order.{journal_place, group_list_place, taken}
 use Rattle.mkgfs2_tool.specs.Blocks.{data_block, zeros, addresses, dinode, dinode_block, system_file, group_entry, group_entries, pointing_dinode, pointer_block, group_list_block, journal_block, used_block, new_block}
 use Rattle.mkgfs2_tool.specs.Making.{IsFitting}
-use Rattle.mkgfs2_tool.specs.Standing.{IsStamped}
 use Rattle.mkgfs2_tool.specs.declared.files.Part.TheVariants.{Top, Pointers, Content}
 use Rattle.mkgfs2_tool.specs.declared.plan.Plan.{Plan}
-use Rattle.mkgfs2_tool.proofs.StandingBytes.{length_pieces, plain_header, spelled, read_spelled, read_zeros, u64_behind, length_spelled, header_front, take_put, behind_put}
+use Rattle.mkgfs2_tool.proofs.StandingGiven.{Given, Known, length_put, zeros_are_bytes}
+use Rattle.mkgfs2_tool.proofs.StandingBytes.{length_pieces, plain_header, spelled, read_spelled, read_zeros, u64_behind, length_spelled, take_put, behind_put}
 use Rattle.mkgfs2_tool.proofs.StandingDinodes.{IsDinodeBlock, dinode_put_is, IsSmall, dinode_widths}
 use Rattle.mkgfs2_tool.proofs.StandingShapes.{IsLow, IsBelow, part_here, inside_file, level_begins, height_low, span_some, start_low}
 use Rattle.mkgfs2_tool.proofs.StandingPlan.{new_data, address_low}
@@ -101,34 +97,32 @@ pub record IsPointerBlock (p : Plan) (i : ℕ) (bytes : List ℕ) (first count :
 abbrev pointer_header : MetaHeader
 pointer_header = record { kind = 5; format = 500; jid = 0 }
 
-headed : (size : ℕ) (part : List ℕ) → 24 + length part ≤ size → HasHeader 5 500 (put_at 24 part (header_put pointer_header (replicate size 0)))
-headed size part fits =
-    let clear : List ℕ = replicate size 0 in
-    let room : 24 ≤ length clear = omega (arith, fits, length-replicate {A = ℕ} size 0) in
-    let base : List ℕ = with_fields (header_fields pointer_header) clear in
-    let long : length base ≡ size = length-fields (header_fields pointer_header) clear (omega (arith, room)) ∙ length-replicate {A = ℕ} size 0 in
-    header_front 24 5 500 (put_at 24 part base) base (omega arith) (take_put 24 part base (omega (arith, long, fits))) (plain_header pointer_header base (header_back pointer_header clear room (omega arith, (omega arith, (omega arith, (omega arith, tt))))))
+-- a block of pointers: a header, and these bytes behind it
+record IsHeaded (size : ℕ) (part bytes : List ℕ) : Type 0 where
+  pub long : length bytes ≡ size
+  pub header : HasHeader 5 500 bytes
+  pub rest : drop 24 bytes ≡ part ++ replicate (size - 24 - length part) 0
 
-behind_header : (size : ℕ) (part : List ℕ) → 24 + length part ≤ size → drop 24 (put_at 24 part (header_put pointer_header (replicate size 0))) ≡ part ++ replicate (size - 24 - length part) 0
-behind_header size part fits =
+headed : (given : Given) (size : ℕ) (part : List ℕ) → 24 + length part ≤ size → IsHeaded size part (put_at 24 part (header_put pointer_header (replicate size 0)))
+headed given size part fits =
+    let law = given.structures.header in
     let clear : List ℕ = replicate size 0 in
     let room : 24 ≤ length clear = omega (arith, fits, length-replicate {A = ℕ} size 0) in
-    let base : List ℕ = with_fields (header_fields pointer_header) clear in
-    let long : length base ≡ size = length-fields (header_fields pointer_header) clear (omega (arith, room)) ∙ length-replicate {A = ℕ} size 0 in
-    behind_put 24 (size - 24) part base (omega (arith, long, fits)) (drop-fields (header_fields pointer_header) clear (omega (arith, room)) 24 (omega arith) ∙ drop-replicate {X = ℕ} 24 size 0)
-
-long_header : (size : ℕ) (part : List ℕ) → 24 + length part ≤ size → length (put_at 24 part (header_put pointer_header (replicate size 0))) ≡ size
-long_header size part fits =
-    let clear : List ℕ = replicate size 0 in
-    let room : 24 ≤ length clear = omega (arith, fits, length-replicate {A = ℕ} size 0) in
-    let base : List ℕ = with_fields (header_fields pointer_header) clear in
-    let long : length base ≡ size = length-fields (header_fields pointer_header) clear (omega (arith, room)) ∙ length-replicate {A = ℕ} size 0 in
-    length-put 24 part base (omega (arith, long, fits)) ∙ long
+    let base : List ℕ = header_put pointer_header clear in
+    let long : length base ≡ size = law.as_long pointer_header clear room tt ∙ length-replicate {A = ℕ} size 0 in
+    let bytes : List ℕ = put_at 24 part base in
+    let long_put : length bytes ≡ size = length_put 24 part base (omega (arith, long, fits)) ∙ long in
+    record {
+      long = long_put;
+      header = plain_header pointer_header bytes (law.own bytes base (omega (arith, long_put, fits)) (omega (arith, long, fits)) (take_put 24 part base (omega (arith, long, fits)))
+          ∙ law.back pointer_header clear room (zeros_are_bytes size) tt (omega arith, (omega arith, (omega arith, (omega arith, tt)))));
+      rest = behind_put 24 (size - 24) part base (omega (arith, long, fits)) (law.behind pointer_header clear room tt ∙ drop-replicate {X = ℕ} 24 size 0);
+    }
 
 fits_in : (size start fan least part : ℕ) → fan ≡ (size - start) / 8 → start ≤ size → least ≤ fan → part ≡ 8 * least → start + part ≤ size
 fits_in size start fan least part is inside low long = omega (arith, is, inside, low, long)
 
-module _ (p : Plan) (fit : IsFitting p) (stamped : IsStamped p) where
+module _ (p : Plan) (fit : IsFitting p) (known : Known p) where
   pub file_low : (i : ℕ) → IsLow (file_shape p i)
   file_low zero = record { size = fit.plan.size; room = list_low p.size p.groups fit.plan.size fit.plan.groups }
   file_low (suc j) = record { size = fit.plan.size; room = journal_low p.size p.journal_blocks fit.plan.size fit.plan.journal_blocks }
@@ -211,7 +205,7 @@ module _ (p : Plan) (fit : IsFitting p) (stamped : IsStamped p) where
 
   pub length_entries : length (group_entries p) ≡ 96 * p.groups
   unfolding group_entries
-  length_entries = length_pieces (λ g. rindex_put (group_entry p g) (replicate 96 0)) 96 (range_with_len 0 p.groups) (λ g. length-fields (rindex_fields (group_entry p g)) (replicate 96 0) (omega arith))
+  length_entries = length_pieces (λ g. rindex_put (group_entry p g) (replicate 96 0)) 96 (range_with_len 0 p.groups) (λ g. known.given.structures.rindex.as_long (group_entry p g) (replicate 96 0) (omega arith) tt)
       ∙ ap (λ n. n * 96) (length-range_with_len 0 p.groups) ∙ turn p.groups
     where
       turn : (n : ℕ) → n * 96 ≡ 96 * n
@@ -284,8 +278,8 @@ module _ (p : Plan) (fit : IsFitting p) (stamped : IsStamped p) where
   pub file_dinode_is : (i : ℕ) → i ≤ p.journals → IsDinodeBlock p.size (file_dinode p i) (file_behind p i) (new_block p (spot p i 0))
   file_dinode_is i ok =
       subst (IsDinodeBlock p.size (file_dinode p i) (file_behind p i)) (sym (file_block i 0 ok (file_some p i) ∙ top_block i))
-      (dinode_put_is p.size (file_dinode p i) (file_behind p i) (behind_room i)
-      (dinode_widths p (file_number i) (file_place p i) (system_file (file_shape p i)) (number_low i ok) (near (file_place p i)) stamped.time (small i)))
+      (dinode_put_is known.given p.size (file_dinode p i) (file_behind p i) (behind_room i)
+      (dinode_widths p (file_number i) (file_place p i) (system_file (file_shape p i)) (number_low i ok) (near (file_place p i)) known.time (small i)))
     where
       same : file_place p i + 0 ≡ file_place p i
       same = none (file_place p i)
@@ -355,10 +349,10 @@ module _ (p : Plan) (fit : IsFitting p) (stamped : IsStamped p) where
       let long : length part_bytes ≡ 8 * least = ap (λ (xs : List ℕ). length (spelled (spot p i) xs)) are ∙ length_spelled (spot p i) (range_with_len first least) ∙ ap (λ n. 8 * n) (length-range_with_len first least) in
       let room : 24 + length part_bytes ≤ p.size = fits_in p.size 24 (block_pointers p.size) least (length part_bytes) refl (omega (arith, large)) (least_low (block_pointers p.size) count) long in
       record {
-        long = long_header p.size part_bytes room;
-        header = headed p.size part_bytes room;
+        long = (headed known.given p.size part_bytes room).long;
+        header = (headed known.given p.size part_bytes room).header;
         pointers = has_pointers p i (put_at 24 part_bytes (header_put pointer_header (zeros p))) 24 (block_pointers p.size) first count least (p.size - 24 - length part_bytes) refl
-            (behind_header p.size part_bytes room ∙ ap (λ (xs : List ℕ). spelled (spot p i) xs ++ replicate (p.size - 24 - length part_bytes) 0) are)
+            ((headed known.given p.size part_bytes room).rest ∙ ap (λ (xs : List ℕ). spelled (spot p i) xs ++ replicate (p.size - 24 - length part_bytes) 0) are)
             (rest_room p.size (block_pointers p.size) least (length part_bytes) refl long)
             (λ k few. spot_small i (first + k) ok (inside k few));
       }

@@ -17,11 +17,12 @@ use Rattle.mkgfs2_tool.specs.Groups.{last_group, group_address, group_blocks as 
 use Rattle.mkgfs2_tool.specs.Order.{taken, use_of}
 use Rattle.mkgfs2_tool.specs.Blocks.{is_dinode, state, free_blocks, dinode_blocks, group_entry, group_header as new_header}
 use Rattle.mkgfs2_tool.specs.Making.{IsFitting}
-use Rattle.mkgfs2_tool.specs.Standing.{IsStamped, new_layout}
+use Rattle.mkgfs2_tool.specs.Standing.{new_layout}
 use Rattle.mkgfs2_tool.specs.declared.files.Part.TheVariants.{Top, Pointers, Content}
 use Rattle.mkgfs2_tool.specs.declared.order.Use.{Use}
 use Rattle.mkgfs2_tool.specs.declared.order.Use.TheVariants as use_is
 use Rattle.mkgfs2_tool.specs.declared.plan.Plan.{Plan}
+use Rattle.mkgfs2_tool.proofs.StandingGiven.{Known}
 use Rattle.mkgfs2_tool.proofs.StandingOwners.{use_owner, owner, owner_room, owner_free}
 use Rattle.mkgfs2_tool.proofs.StandingInodes.{AreMade}
 use Rattle.mkgfs2_tool.proofs.StandingList.{AreSmall, small_group}
@@ -56,7 +57,7 @@ group_widths : (h d f n k s : ℕ) → h ≤ 131072 → d ≤ 131072 → f ≤ d
 group_widths h d f n k s hl dl fl nl kl sl =
     (omega arith, (omega arith, (omega arith, (omega arith, (omega arith, (omega (arith, fl, dl), (omega (arith, nl), (omega arith, (omega (arith, kl), (omega (arith, sl), (omega (arith, dl), (omega (arith, dl), tt))))))))))))
 
-module _ (p : Plan) (fit : IsFitting p) (stamped : IsStamped p) (at : Blocks) (made : AreMade p at) where
+module _ (p : Plan) (fit : IsFitting p) (known : Known p) (at : Blocks) (made : AreMade p at) where
   widths : (g : ℕ) → g ≤ last_group p → AllByRecursion HasItsWidth (group_fields (new_header p g))
   widths g ok = from (small_group p fit g ok)
     where
@@ -68,7 +69,7 @@ module _ (p : Plan) (fit : IsFitting p) (stamped : IsStamped p) (at : Blocks) (m
 
       from : AreSmall (group_address p g) (headers_of p g) (first_data p g) (data_blocks p g) → AllByRecursion HasItsWidth (group_fields (new_header p g))
       from small = group_widths (headers_of p g) (data_blocks p g) (free_blocks p g) (dinode_blocks p g) (4 + p.journals) (first_data p g) small.length small.data_blocks (less (data_blocks p g) (taken p - data_before p g))
-          (few_dinodes p fit stamped (data_before p g) (data_blocks p g)) (few p.journals fit.plan.journals) small.data0
+          (few_dinodes p fit known (data_before p g) (data_blocks p g)) (few p.journals fit.plan.journals) small.data0
 
   module _ (g : ℕ) (ok : g ≤ last_group p) where
     abbrev blocks : List (List ℕ)
@@ -89,7 +90,7 @@ module _ (p : Plan) (fit : IsFitting p) (stamped : IsStamped p) (at : Blocks) (m
 
     bit_state : (i : ℕ) → i < data_blocks p g → state_at (bitmap_of blocks) (0 + i) ≡ state p (data_before p g + i)
     bit_state i inside =
-        ap (state_at (bitmap_of blocks)) (none i) ∙ ap (λ (bytes : List ℕ). state_at bytes i) (bits_are p fit stamped at made g ok (widths g ok))
+        ap (state_at (bitmap_of blocks)) (none i) ∙ ap (λ (bytes : List ℕ). state_at bytes i) (bits_are p fit known at made g ok (widths g ok))
         ∙ bitmap_state p g total i (through i (data_blocks p g) total inside (bits_fit p.size (blocks_of p g) fit.plan.size))
         ∙ cond-true _ (state p (data_before p g + i)) 0 (lt-ltb i (data_blocks p g) inside)
       where
@@ -115,26 +116,26 @@ module _ (p : Plan) (fit : IsFitting p) (stamped : IsStamped p) (at : Blocks) (m
         none n = omega arith
 
     header_is : group_header blocks ≡ new_header p g
-    header_is = ap group_of first_block ∙ (first_at p fit stamped at made g ok (widths g ok)).is
+    header_is = ap group_of first_block ∙ (first_at p fit known at made g ok (widths g ok)).is
 
     more_header : (k : ℕ) → 0 < k → k < headers_of p g → HasHeader 3 300 (slice_index_or blocks k [])
     more_header zero some low = absurd (omega (arith, some))
-    more_header (suc n) some low = subst (HasHeader 3 300) (sym (block_at (suc n) low)) (further_at p fit stamped at made g ok (widths g ok) n low).header
+    more_header (suc n) some low = subst (HasHeader 3 300) (sym (block_at (suc n) low)) (further_at p fit known at made g ok (widths g ok) n low).header
 
     pub group_is : IsGroup (group_entry p g) blocks (states_of (owner p) (group_entry p g))
     group_is = record {
-      header = subst (HasHeader 2 200) (sym first_block) (first_at p fit stamped at made g ok (widths g ok)).header;
+      header = subst (HasHeader 2 200) (sym first_block) (first_at p fit known at made g ok (widths g ok)).header;
       more = more_header;
       data0 = ap (λ (h : GroupHeader). h.data0) header_is;
       data_blocks = ap (λ (h : GroupHeader). h.data_blocks) header_is;
       bitbytes = ap (λ (h : GroupHeader). h.bitbytes) header_is;
       bits = bits_say;
       free = ap (λ (h : GroupHeader). h.free) header_is ∙ sym (ap (count_of 0) states_are ∙ free_counted p (data_before p g) (data_blocks p g));
-      dinodes = ap (λ (h : GroupHeader). h.dinodes) header_is ∙ sym (ap (count_of 3) states_are ∙ dinodes_counted p fit stamped (data_before p g) (data_blocks p g));
+      dinodes = ap (λ (h : GroupHeader). h.dinodes) header_is ∙ sym (ap (count_of 3) states_are ∙ dinodes_counted p fit known (data_before p g) (data_blocks p g));
     }
 
   pub groups_are : (e : Rindex) → IsListed (new_layout p).groups e → IsGroup e (group_blocks at e) (states_of (owner p) e)
-  groups_are e is = from (listed p fit stamped e is)
+  groups_are e is = from (listed p fit known e is)
     where
       from : IsGroupOf p e → IsGroup e (group_blocks at e) (states_of (owner p) e)
       from q = subst (λ (x : Rindex). IsGroup x (group_blocks at x) (states_of (owner p) x)) (sym q.is) (group_is q.group q.ok)

@@ -11,13 +11,13 @@ use Rattle.image_model.specs.Headers.{HasHeader}
 use Rattle.image_model.specs.Image.{Image, Blocks}
 use Rattle.image_model.specs.Inode.{dinode_in, height_in, has_hash_flag, is_directory_in, is_hashed_in, header_length, span, unit, pieces, content_count, EachPointer, IsChild, IsPointed, by_dinode, by_block, HasTree, Fits, IsInode, block_count}
 use Rattle.image_model.specs.Owners.{Below, Holding, Cell, Part, Itself, Pointed, InChain, is_dinode, holding, cell_part, bytes_at, part_at}
-use Rattle.image_model.proofs.Held.{own_part, itself_own, pointed_owner, chained_owner, pointed_part, block_same, own_block}
+use Rattle.mkgfs2_tool.proofs.StandingGiven.{own_part, itself_own, pointed_owner, chained_owner, pointed_part, block_same, own_block}
 use Rattle.mkgfs2_tool.specs.Groups.{data_address}
 use Rattle.mkgfs2_tool.specs.Files.{dinode_pointers, block_pointers, content_blocks, height, level_blocks, level_start, file_blocks}
 use Rattle.mkgfs2_tool.specs.Blocks.{new_block, dinode}
 use Rattle.mkgfs2_tool.specs.Making.{IsFitting}
-use Rattle.mkgfs2_tool.specs.Standing.{IsStamped}
 use Rattle.mkgfs2_tool.specs.declared.plan.Plan.{Plan}
+use Rattle.mkgfs2_tool.proofs.StandingGiven.{Known}
 use Rattle.mkgfs2_tool.proofs.StandingCounts.{count_images}
 use Rattle.mkgfs2_tool.proofs.StandingShapes.{IsBelow, Piece, is_top, is_below, piece, above, first_on, first_inside, top_narrow, top_room, height_low, inside_file, wide}
 use Rattle.mkgfs2_tool.proofs.StandingPlan.{apart_addresses}
@@ -59,7 +59,7 @@ pub some_cell : (o : Option Cell) → is_some o ≡ true → (q : Part) × (cell
 some_cell None e = cc
 some_cell (Some c) e = (c.part, refl)
 
-module _ (p : Plan) (fit : IsFitting p) (stamped : IsStamped p) (at : Blocks) (made : AreMade p at) (i : ℕ) (ok : i ≤ p.journals) where
+module _ (p : Plan) (fit : IsFitting p) (known : Known p) (at : Blocks) (made : AreMade p at) (i : ℕ) (ok : i ≤ p.journals) where
   abbrev a : ℕ
   a = spot p i 0
 
@@ -67,14 +67,14 @@ module _ (p : Plan) (fit : IsFitting p) (stamped : IsStamped p) (at : Blocks) (m
   h = held p at a
 
   pub file_own : is_dinode (owner p a) ≡ true
-  file_own = ap is_dinode (owner_top p fit stamped i ok)
+  file_own = ap is_dinode (owner_top p fit known i ok)
 
   pub own_bytes : bytes_at h a ≡ new_block p a
-  own_bytes = own_block (image p at) (owner p) a file_own ∙ made.is a (spot_low p fit stamped i 0 ok (file_some p i))
+  own_bytes = own_block known.given (image p at) (owner p) a file_own ∙ made.is a (spot_low p fit known i 0 ok (file_some p i))
 
   pub file_dinode_in : dinode_in h ≡ file_dinode p i
   unfolding dinode_in
-  file_dinode_in = ap dinode_of own_bytes ∙ (file_dinode_is p fit stamped i ok).is
+  file_dinode_in = ap dinode_of own_bytes ∙ (file_dinode_is p fit known i ok).is
 
   pub file_plain : is_directory_in h ≡ false
   unfolding dinode
@@ -127,12 +127,12 @@ module _ (p : Plan) (fit : IsFitting p) (stamped : IsStamped p) (at : Blocks) (m
 
   pub part_below_is : (l x : ℕ) → IsBelow (file_shape p i) l x
       → part_at h (spot p i (level_start (file_shape p i) l + x)) ≡ Some (Pointed (spot p i (up_block p i l x)) (up_pointer p l x) (height (file_shape p i) - l) (x * span p.size (height (file_shape p i) - l)))
-  part_below_is l x is = pointed_part (image p at) (owner p) a (spot p i (level_start (file_shape p i) l + x)) (spot p i (up_block p i l x)) (up_pointer p l x) (height (file_shape p i) - l) (x * span p.size (height (file_shape p i) - l)) (owner_below p fit stamped i l x ok is)
+  part_below_is l x is = pointed_part known.given (image p at) (owner p) a (spot p i (level_start (file_shape p i) l + x)) (spot p i (up_block p i l x)) (up_pointer p l x) (height (file_shape p i) - l) (x * span p.size (height (file_shape p i) - l)) (owner_below p fit known i l x ok is)
 
   pub bytes_below : (l x : ℕ) → IsBelow (file_shape p i) l x → bytes_at h (spot p i (level_start (file_shape p i) l + x)) ≡ new_block p (spot p i (level_start (file_shape p i) l + x))
   bytes_below l x is =
-      block_same (image p at) (owner p) a (spot p i (level_start (file_shape p i) l + x)) (Pointed (spot p i (up_block p i l x)) (up_pointer p l x) (height (file_shape p i) - l) (x * span p.size (height (file_shape p i) - l))) (part_below_is l x is)
-      ∙ made.is (spot p i (level_start (file_shape p i) l + x)) (spot_low p fit stamped i (level_start (file_shape p i) l + x) ok (inside_file (file_shape p i) (file_low p fit stamped i) l x is))
+      block_same known.given (image p at) (owner p) a (spot p i (level_start (file_shape p i) l + x)) (Pointed (spot p i (up_block p i l x)) (up_pointer p l x) (height (file_shape p i) - l) (x * span p.size (height (file_shape p i) - l))) (part_below_is l x is)
+      ∙ made.is (spot p i (level_start (file_shape p i) l + x)) (spot_low p fit known i (level_start (file_shape p i) l + x) ok (inside_file (file_shape p i) (file_low p fit known i) l x is))
 
   -- a part of the file is one of its blocks below the dinode
   pub record IsPartOf (y b k level first : ℕ) : Type 0 where
@@ -160,19 +160,19 @@ module _ (p : Plan) (fit : IsFitting p) (stamped : IsStamped p) (at : Blocks) (m
       }
 
   pub part_of : (y b k level first : ℕ) → part_at h y ≡ Some (Pointed b k level first) → IsPartOf y b k level first
-  part_of y b k level first e = from (below_of p fit stamped y a b k level first (pointed_owner (image p at) (owner p) a y b k level first e))
+  part_of y b k level first e = from (below_of p fit known y a b k level first (pointed_owner known.given (image p at) (owner p) a y b k level first e))
     where
-      from : IsBelowOf p fit stamped y a b k level first → IsPartOf y b k level first
-      from q = part_from y b k level first q.file q.l q.x (same_file p fit stamped q.file i q.ok ok (below_1 _ _ _ _ _ _ _ _ _ _ q.owned)) q.at q.is q.owned
+      from : IsBelowOf p fit known y a b k level first → IsPartOf y b k level first
+      from q = part_from y b k level first q.file q.l q.x (same_file p fit known q.file i q.ok ok (below_1 _ _ _ _ _ _ _ _ _ _ q.owned)) q.at q.is q.owned
 
   no_chain : (y hash place : ℕ) → part_at h y ≡ Some (InChain hash place) → ⊥
-  no_chain y hash place e = not_chained p fit stamped y a hash place (chained_owner (image p at) (owner p) a y hash place e)
+  no_chain y hash place e = not_chained p fit known y a hash place (chained_owner known.given (image p at) (owner p) a y hash place e)
 
   spot_of : (l x : ℕ) → IsBelow (file_shape p i) l x → spot p i (level_start (file_shape p i) l + x) < p.count
-  spot_of l x is = spot_low p fit stamped i (level_start (file_shape p i) l + x) ok (inside_file (file_shape p i) (file_low p fit stamped i) l x is)
+  spot_of l x is = spot_low p fit known i (level_start (file_shape p i) l + x) ok (inside_file (file_shape p i) (file_low p fit known i) l x is)
 
   part_low : (y : ℕ) (q : Part) → part_at h y ≡ Some q → y < p.count
-  part_low y Itself e = subst (λ n. n < p.count) (sym (itself_own (image p at) (owner p) a y e)) (spot_low p fit stamped i 0 ok (file_some p i))
+  part_low y Itself e = subst (λ n. n < p.count) (sym (itself_own known.given (image p at) (owner p) a y e)) (spot_low p fit known i 0 ok (file_some p i))
   part_low y (Pointed b k level first) e = here (part_of y b k level first e)
     where
       here : IsPartOf y b k level first → y < p.count
@@ -184,7 +184,7 @@ module _ (p : Plan) (fit : IsFitting p) (stamped : IsStamped p) (at : Blocks) (m
   top_child : (k : ℕ) → IsBelow (file_shape p i) 1 k → (level : ℕ) → height (file_shape p i) - 1 ≡ level → IsChild h a k level (k * span p.size level) (spot p i (1 + k))
   top_child k is level e = record {
     part = part_below_is 1 k is ∙ ap (λ n. Some (Pointed a k n (k * span p.size n))) e;
-    within = subst (λ n. k * span p.size level < n) (sym count_is) (subst (λ n. k * span p.size n < content_blocks (file_shape p i)) e (first_inside (file_shape p i) (file_low p fit stamped i) 1 k is));
+    within = subst (λ n. k * span p.size level < n) (sym count_is) (subst (λ n. k * span p.size n < content_blocks (file_shape p i)) e (first_inside (file_shape p i) (file_low p fit known i) 1 k is));
   }
 
   taller : (n level : ℕ) → n ≡ suc level → (1 ≤ n) × (n - 1 ≡ level)
@@ -193,7 +193,7 @@ module _ (p : Plan) (fit : IsFitting p) (stamped : IsStamped p) (at : Blocks) (m
   tree_top : (level : ℕ) → height_in h ≡ suc level → EachPointer h dinode_length h.own (λ k c. IsChild h h.own k level (k * span h.size level) c)
   tree_top level e k inside some =
       let high = taller (height (file_shape p i)) level (sym file_height ∙ e) in
-      let pointers = top_pointers p fit stamped i ok high.0 in
+      let pointers = top_pointers p fit known i ok high.0 in
       elim (cases_lt k (level_blocks (file_shape p i) 1)) [
         | inl few ↦ subst (IsChild h a k level (k * span p.size level)) (sym (ap (u64_at (232 + 8 * k)) own_bytes ∙ pointers.there k inside few)) (top_child k (record { some = omega arith; low = high.0; inside = few }) level high.1)
         | inr far ↦ absurd (some (ap (u64_at (232 + 8 * k)) own_bytes ∙ pointers.none k inside far))
@@ -212,11 +212,11 @@ module _ (p : Plan) (fit : IsFitting p) (stamped : IsStamped p) (at : Blocks) (m
       let low = lower (height (file_shape p i)) (suc l) level e in
       let child : IsBelow (file_shape p i) (suc (suc l)) (x * block_pointers p.size + j) = record { some = omega arith; low = low.0; inside = child_low (x * block_pointers p.size) j (level_blocks (file_shape p i) (suc (suc l))) few } in
       let begins : (x * block_pointers p.size + j) * span p.size (height (file_shape p i) - suc (suc l)) ≡ first + j * span p.size level =
-      first_on (file_shape p i) (file_low p fit stamped i) (suc l) x j low.0 ∙ (λ t. g t + j * span p.size (low.1 t)) in
+      first_on (file_shape p i) (file_low p fit known i) (suc l) x j low.0 ∙ (λ t. g t + j * span p.size (low.1 t)) in
       record {
         part = ap (λ n. part_at h (spot p i n)) (sym (turn (level_start (file_shape p i) (suc (suc l))) (x * block_pointers p.size) j)) ∙ part_below_is (suc (suc l)) (x * block_pointers p.size + j) child
             ∙ (λ t. Some (Pointed (spot p i (level_start (file_shape p i) (suc l) + div-mul-add x (block_pointers p.size) j inside t)) (mod-mul-add x (block_pointers p.size) j inside t) (low.1 t) (begins t)));
-        within = subst (λ n. first + j * span p.size level < n) (sym count_is) (subst (λ n. n < content_blocks (file_shape p i)) begins (first_inside (file_shape p i) (file_low p fit stamped i) (suc (suc l)) (x * block_pointers p.size + j) child));
+        within = subst (λ n. first + j * span p.size level < n) (sym count_is) (subst (λ n. n < content_blocks (file_shape p i)) begins (first_inside (file_shape p i) (file_low p fit known i) (suc (suc l)) (x * block_pointers p.size + j) child));
       }
     where
       lower : (n l level : ℕ) → n - l ≡ suc level → (l < n) × (n - suc l ≡ level)
@@ -226,7 +226,7 @@ module _ (p : Plan) (fit : IsFitting p) (stamped : IsStamped p) (at : Blocks) (m
       → EachPointer h header_length (spot p i (level_start (file_shape p i) l + x)) (λ j c. IsChild h (spot p i (level_start (file_shape p i) l + x)) j level (first + j * span p.size level) c)
   inner_at zero x level first is e g j inside some = absurd (omega (arith, is.some))
   inner_at (suc l) x level first is e g j inside some =
-      let pointers = (inner_block p fit stamped i (suc l) x ok is (lower (height (file_shape p i)) (suc l) level e)).pointers in
+      let pointers = (inner_block p fit known i (suc l) x ok is (lower (height (file_shape p i)) (suc l) level e)).pointers in
       elim (cases_lt j (level_blocks (file_shape p i) (suc (suc l)) - x * block_pointers p.size)) [
         | inl few ↦ subst (IsChild h (spot p i (level_start (file_shape p i) (suc l) + x)) j level (first + j * span p.size level)) (sym (ap (u64_at (24 + 8 * j)) (bytes_below (suc l) x is) ∙ pointers.there j inside few))
             (inner_child l x j level first is e g inside few)
@@ -247,11 +247,11 @@ module _ (p : Plan) (fit : IsFitting p) (stamped : IsStamped p) (at : Blocks) (m
   pointed_first : (y x level : ℕ) → IsBelow (file_shape p i) 1 x → y ≡ spot p i (1 + x) → height (file_shape p i) - 1 ≡ level → (first : ℕ) → x * span p.size (height (file_shape p i) - 1) ≡ first
       → IsPointed h y a x level first
   pointed_first y x level is e g first f = by_dinode refl (file_height ∙ taller_is (height (file_shape p i)) level is.low g) narrow
-      (ap (u64_at (232 + 8 * x)) own_bytes ∙ (top_pointers p fit stamped i ok is.low).there x narrow is.inside ∙ sym e)
+      (ap (u64_at (232 + 8 * x)) own_bytes ∙ (top_pointers p fit known i ok is.low).there x narrow is.inside ∙ sym e)
       (sym f ∙ ap (λ n. x * span p.size n) g)
     where
       narrow : x < dinode_pointers p.size
-      narrow = top_narrow (file_shape p i) (file_low p fit stamped i) x is
+      narrow = top_narrow (file_shape p i) (file_low p fit known i) x is
 
       taller_is : (n level : ℕ) → 1 ≤ n → n - 1 ≡ level → n ≡ suc level
       taller_is n level some e = omega (arith, some, e)
@@ -263,18 +263,18 @@ module _ (p : Plan) (fit : IsFitting p) (stamped : IsStamped p) (at : Blocks) (m
       (part_below_is (suc l) (x / block_pointers p.size) over ∙ ap (λ n. Some (Pointed (spot p i (up_block p i (suc l) (x / block_pointers p.size))) (up_pointer p (suc l) (x / block_pointers p.size)) n (x / block_pointers p.size * span p.size (height (file_shape p i) - suc l)))) (taller_is (height (file_shape p i)) l level is.low g))
       inside
       (ap (u64_at (24 + 8 * (x % block_pointers p.size))) (bytes_below (suc l) (x / block_pointers p.size) over)
-      ∙ (inner_block p fit stamped i (suc l) (x / block_pointers p.size) ok over is.low).pointers.there (x % block_pointers p.size) inside
+      ∙ (inner_block p fit known i (suc l) (x / block_pointers p.size) ok over is.low).pointers.there (x % block_pointers p.size) inside
       (rest (level_blocks (file_shape p i) (suc (suc l))) (x / block_pointers p.size * block_pointers p.size) (x % block_pointers p.size) x (div-add-mod' x (block_pointers p.size)) is.inside)
       ∙ ap (spot p i) (again (level_start (file_shape p i) (suc (suc l))) (x / block_pointers p.size * block_pointers p.size) (x % block_pointers p.size) x (div-add-mod' x (block_pointers p.size))) ∙ sym e)
       (sym f ∙ ap (λ n. n * span p.size (height (file_shape p i) - suc (suc l))) (sym (div-add-mod' x (block_pointers p.size)))
-      ∙ first_on (file_shape p i) (file_low p fit stamped i) (suc l) (x / block_pointers p.size) (x % block_pointers p.size) is.low
+      ∙ first_on (file_shape p i) (file_low p fit known i) (suc l) (x / block_pointers p.size) (x % block_pointers p.size) is.low
       ∙ ap (λ n. x / block_pointers p.size * span p.size (height (file_shape p i) - suc l) + x % block_pointers p.size * span p.size n) g)
     where
       over : IsBelow (file_shape p i) (suc l) (x / block_pointers p.size)
-      over = above (file_shape p i) (file_low p fit stamped i) (suc l) x (omega arith) is
+      over = above (file_shape p i) (file_low p fit known i) (suc l) x (omega arith) is
 
       inside : x % block_pointers p.size < block_pointers p.size
-      inside = mod_below x (block_pointers p.size) (wide (file_shape p i) (file_low p fit stamped i))
+      inside = mod_below x (block_pointers p.size) (wide (file_shape p i) (file_low p fit known i))
 
       taller_is : (n l level : ℕ) → suc (suc l) ≤ n → n - suc (suc l) ≡ level → n - suc l ≡ suc level
       taller_is n l level some e = omega (arith, some, e)
@@ -314,7 +314,7 @@ module _ (p : Plan) (fit : IsFitting p) (stamped : IsStamped p) (at : Blocks) (m
 
       here : IsPartOf y b k (suc level) first → HasHeader 5 500 (bytes_at h y)
       here q = subst (λ z. HasHeader 5 500 (bytes_at h z)) (sym q.is)
-          (subst (HasHeader 5 500) (sym (bytes_below q.l q.x q.below)) (inner_block p fit stamped i q.l q.x ok q.below (lower (height (file_shape p i)) q.l level q.level_is)).header)
+          (subst (HasHeader 5 500) (sym (bytes_below q.l q.x q.below)) (inner_block p fit known i q.l q.x ok q.below (lower (height (file_shape p i)) q.l level q.level_is)).header)
 
   file_tree : HasTree h
   file_tree = record {
@@ -333,7 +333,7 @@ module _ (p : Plan) (fit : IsFitting p) (stamped : IsStamped p) (at : Blocks) (m
 
   file_fits : Fits h
   file_fits = record {
-    low = few (height_in h) (height (file_shape p i)) file_height (height_low (file_shape p i) (file_low p fit stamped i));
+    low = few (height_in h) (height (file_shape p i)) file_height (height_low (file_shape p i) (file_low p fit known i));
     stuffed = λ e. inside (dinode_in h).size (file_bytes p i) p.size file_size (stuffed_size (sym file_height ∙ e)) (omega (arith, fit.plan.size));
     under = λ level e. under_at level (sym file_height ∙ e);
   }
@@ -347,7 +347,7 @@ module _ (p : Plan) (fit : IsFitting p) (stamped : IsStamped p) (at : Blocks) (m
       under_at : (level : ℕ) → height (file_shape p i) ≡ suc level → content_count h ≤ dinode_pointers p.size * span p.size level
       under_at level e =
           let high = taller (height (file_shape p i)) level e in
-          subst (λ n. n ≤ dinode_pointers p.size * span p.size level) (sym count_is) (subst (λ n. content_blocks (file_shape p i) ≤ dinode_pointers p.size * span p.size n) high.1 (top_room (file_shape p i) (file_low p fit stamped i) high.0))
+          subst (λ n. n ≤ dinode_pointers p.size * span p.size level) (sym count_is) (subst (λ n. content_blocks (file_shape p i) ≤ dinode_pointers p.size * span p.size n) high.1 (top_room (file_shape p i) (file_low p fit known i) high.0))
 
   -- ---- its blocks are counted
 
@@ -359,10 +359,10 @@ module _ (p : Plan) (fit : IsFitting p) (stamped : IsStamped p) (at : Blocks) (m
       cancel a n k e = omega (arith, e)
 
   has_block : (n : ℕ) → n < file_blocks (file_shape p i) → is_some (h.cell (spot p i n)) ≡ true
-  has_block n inside = each (piece (file_shape p i) (file_low p fit stamped i) n inside)
+  has_block n inside = each (piece (file_shape p i) (file_low p fit known i) n inside)
     where
       each : Piece (file_shape p i) n → is_some (h.cell (spot p i n)) ≡ true
-      each (is_top e) = cell_some (h.cell (spot p i n)) Itself (ap (λ m. part_at h (spot p i m)) e ∙ own_part (image p at) (owner p) a file_own)
+      each (is_top e) = cell_some (h.cell (spot p i n)) Itself (ap (λ m. part_at h (spot p i m)) e ∙ own_part known.given (image p at) (owner p) a file_own)
       each (is_below l x below e) =
           cell_some (h.cell (spot p i n)) (Pointed (spot p i (up_block p i l x)) (up_pointer p l x) (height (file_shape p i) - l) (x * span p.size (height (file_shape p i) - l)))
           (ap (λ m. part_at h (spot p i m)) e ∙ part_below_is l x below)
@@ -371,21 +371,21 @@ module _ (p : Plan) (fit : IsFitting p) (stamped : IsStamped p) (at : Blocks) (m
   only_blocks b e = let c = some_cell (h.cell b) e in by_part c.0 c.1
     where
       from_part : (d k level first : ℕ) → IsPartOf b d k level first → (n : ℕ) × (n < file_blocks (file_shape p i)) × (b ≡ spot p i n)
-      from_part d k level first q = (level_start (file_shape p i) q.l + q.x, inside_file (file_shape p i) (file_low p fit stamped i) q.l q.x q.below, q.is)
+      from_part d k level first q = (level_start (file_shape p i) q.l + q.x, inside_file (file_shape p i) (file_low p fit known i) q.l q.x q.below, q.is)
 
       by_part : (q : Part) → part_at h b ≡ Some q → (n : ℕ) × (n < file_blocks (file_shape p i)) × (b ≡ spot p i n)
-      by_part Itself g = (0, file_some p i, itself_own (image p at) (owner p) a b g)
+      by_part Itself g = (0, file_some p i, itself_own known.given (image p at) (owner p) a b g)
       by_part (Pointed d k level first) g = from_part d k level first (part_of b d k level first g)
       by_part (InChain hash place) g = absurd (no_chain b hash place g)
 
   blocks_counted : block_count h ≡ file_blocks (file_shape p i)
   unfolding block_count
-  blocks_counted = count_images (file_blocks (file_shape p i)) p.count (spot p i) (λ b. is_some (h.cell b)) (λ n inside. spot_low p fit stamped i n ok inside) spot_apart has_block only_blocks
+  blocks_counted = count_images (file_blocks (file_shape p i)) p.count (spot p i) (λ b. is_some (h.cell b)) (λ n inside. spot_low p fit known i n ok inside) spot_apart has_block only_blocks
 
   pub file_sound : IsInode h
   file_sound = record {
-    whole = λ b q e. ap length (block_same (image p at) (owner p) a b q e) ∙ made.whole b (part_low b q e);
-    header = subst (HasHeader 4 400) (sym own_bytes) (file_dinode_is p fit stamped i ok).header;
+    whole = λ b q e. ap length (block_same known.given (image p at) (owner p) a b q e) ∙ made.whole b (part_low b q e);
+    header = subst (HasHeader 4 400) (sym own_bytes) (file_dinode_is p fit known i ok).header;
     address = address_is;
     number = λ e. number_some i (sym file_number_is ∙ e);
     mode = inr file_regular;

@@ -13,7 +13,7 @@ use Rattle.file_tree.specs.Names.{IsName, IsNameByte}
 use Rattle.image_model.specs.Journals.{journal_name}
 use Rattle.image_model.specs.Records.{Record, is_dots}
 use Rattle.image_model.specs.Stands.{name_count, directory_count}
-use Rattle.image_model.proofs.Members.{IsIn}
+use Rattle.mkgfs2_tool.proofs.StandingLists.{IsIn}
 use Rattle.mkgfs2_tool.specs.Directories.{name_bytes, journal_entry}
 use Rattle.mkgfs2_tool.specs.declared.directory.Name.TheVariants as name
 use Rattle.mkgfs2_tool.specs.declared.plan.Plan.{Plan}

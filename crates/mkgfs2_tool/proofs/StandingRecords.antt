@@ -1,27 +1,27 @@
 -- The records of a new directory, read back.
-use Rattle.std.proofs.Common.{ℕ, ◌≡◌, ◌≢◌, ◌+◌, ◌-◌, ◌*◌, ◌/◌, ◌^◌, ◌<◌, ◌≤◌, true, List, [], ◌∷◌, ◌++◌, length, take, drop, replicate, map, refl, sym, ap, ap₂, ◌∙◌, subst, arith, length-append}
-use Rattle.std.specs.Prelude.{◌&&◌, not, filter}
+use Rattle.std.proofs.Common.{ℕ, ◌≡◌, ◌≢◌, ◌+◌, ◌-◌, ◌*◌, ◌/◌, ◌^◌, ◌<◌, ◌≤◌, ◌⊎◌, inl, inr, Bool, true, false, None, Some, List, [], ◌∷◌, ◌++◌, length, take, drop, replicate, map, refl, sym, ap, ap₂, ◌∙◌, subst, arith, length-append}
+use Rattle.std.specs.Prelude.{◌==◌, ◌&&◌, not, filter, if◌then◌else◌}
 use Rattle.std.specs.List.{AllByRecursion}
-use Rattle.std.proofs.lemmas.Bool.{cond-true, ne_eqb}
-use Rattle.std.proofs.lemmas.List.{take_at, take-take, drop_all, length-replicate, drop-replicate}
+use Rattle.std.proofs.lemmas.Bool.{cond-true, eq-eqb, ne_eqb, true≢false}
+use Rattle.std.proofs.lemmas.List.{take_at, take-take, length-replicate, drop-replicate}
+use Rattle.std.proofs.lemmas.List.Elements.{All-from_recursion}
 use Rattle.crc_words.specs.Remainder.{crc32_of}
 use Rattle.gfs2_layout.specs.Bytes.{put_at, u16_at}
-use Rattle.gfs2_layout.specs.Fields.{HasItsWidth, with_fields}
-use Rattle.gfs2_layout.specs.Structures.{dirent_of, is_in_use}
-use Rattle.gfs2_layout.specs.Writing.{dirent_fields}
+use Rattle.gfs2_layout.specs.Laws.{HaveWidths}
+use Rattle.gfs2_layout.specs.Structures.{or_else, length_fault, kind_fault, dirent_of, is_in_use}
+use Rattle.gfs2_layout.specs.Writing.{dirent_fields, dirent_put}
 use Rattle.gfs2_layout.specs.Area.{Slot, slot_at, slots_of, name_of, IsArea}
 use Rattle.gfs2_layout.specs.declared.dirent.Dirent.{Dirent}
-use Rattle.gfs2_layout.proofs.FieldsInPlace.{length-fields, drop-fields}
-use Rattle.gfs2_layout.proofs.InPlace.{length-put}
-use Rattle.gfs2_layout.proofs.Places.{head_front, area_none, joined}
-use Rattle.gfs2_layout.proofs.ReadBack.{head_back}
-use Rattle.gfs2_layout.proofs.Records.{area_ends}
-use Rattle.gfs2_layout.proofs.Written.{stands}
+use Rattle.gfs2_layout.specs.declared.fault.LayoutFault.{LayoutFault}
+use Rattle.gfs2_layout.specs.declared.fault.LayoutFault.TheVariants.{Value}
 use Rattle.image_model.specs.Records.{Record, record_of, records_in, HasItsHash, IsRecordArea}
 use Rattle.mkgfs2_tool.specs.Directories.{name_of as name_in, least_length, head_of, record_bytes, records, Fit}
 use Rattle.mkgfs2_tool.specs.declared.directory.Entry.{Entry}
-use Rattle.mkgfs2_tool.proofs.StandingBytes.{take_put, behind_put}
-use Rattle.mkgfs2_tool.proofs.StandingCrc.{AreBytes, crc_low}
+use Rattle.mkgfs2_tool.proofs.StandingBytes.{answer_ok, take_put, behind_put}
+use Rattle.mkgfs2_tool.proofs.StandingGiven.{Given, length_put, zeros_are_bytes}
+
+abbrev pub AreBytes : List ℕ → Type 0
+AreBytes xs = AllByRecursion (λ b. b < 256) xs
 
 -- an entry whose numbers have their widths, and lead somewhere
 pub record IsEntry (e : Entry) : Type 0 where
@@ -31,7 +31,7 @@ pub record IsEntry (e : Entry) : Type 0 where
   pub number_low : e.number < 2 ^ 64
   pub address : e.address ≢ 0
   pub address_low : e.address < 2 ^ 64
-  pub kind : e.kind < 2 ^ 16
+  pub kind : (e.kind ≡ 4) ⊎ (e.kind ≡ 8)
 
 -- what the record of an entry says
 abbrev pub entry_record : Entry → Record
@@ -46,41 +46,54 @@ record IsRecord (e : Entry) (room : ℕ) (bytes : List ℕ) : Type 0 where
   pub is : record_of (slot_at bytes) ≡ entry_record e
   pub hash : (slot_at bytes).head.hash ≡ crc32_of (name_of (slot_at bytes))
 
+right_by : (u f e : Bool) (v : LayoutFault) → (f ≡ true) ⊎ (e ≡ true) → (if u && not f && not e then Some v else None) ≡ None
+right_by true true e v h = refl
+right_by true false true v h = refl
+right_by true false false v (inl h) = absurd (true≢false (sym h))
+right_by true false false v (inr h) = absurd (true≢false (sym h))
+right_by false f e v h = refl
+
+right_kind : (d : Dirent) → (d.kind ≡ 4) ⊎ (d.kind ≡ 8) → kind_fault d ≡ None
+right_kind d (inl four) = right_by (is_in_use d) (d.kind == 4) (d.kind == 8) (Value 24 d.kind) (inl (eq-eqb d.kind 4 four))
+right_kind d (inr eight) = right_by (is_in_use d) (d.kind == 4) (d.kind == 8) (Value 24 d.kind) (inr (eq-eqb d.kind 8 eight))
+
 in_use : (d : Dirent) → d.inum.number ≢ 0 → d.inum.address ≢ 0 → is_in_use d ≡ true
 in_use d n a = λ t. not (ne_eqb d.inum.number 0 (λ e. n e) t) && not (ne_eqb d.inum.address 0 (λ e. a e) t)
 
 under_rooms : (n room : ℕ) → (40 + n + 7) / 8 * 8 ≤ room → 40 + n ≤ room
 under_rooms n room fits = omega (arith, fits)
 
-one_record : (e : Entry) (room : ℕ) → IsEntry e → least_length (length (name_in e)) ≤ room → room < 2 ^ 16 → IsRecord e room (record_bytes e room)
-one_record e room is fits short =
+one_record : (given : Given) (e : Entry) (room : ℕ) → IsEntry e → least_length (length (name_in e)) ≤ room → room < 2 ^ 16 → IsRecord e room (record_bytes e room)
+one_record given e room is fits short =
+    let law = given.structures.dirent in
     let clear : List ℕ = replicate room 0 in
     let name : List ℕ = name_in e in
     let inside : 40 + length name ≤ room = under_rooms (length name) room fits in
     let long_clear : length clear ≡ room = length-replicate {A = ℕ} room 0 in
+    let enough : 40 ≤ length clear = omega (arith, long_clear, inside) in
     let head : Dirent = head_of e room in
-    let widths : AllByRecursion HasItsWidth (dirent_fields head) =
-    (is.number_low, (is.address_low, (crc_low name is.bytes, (short, (omega (arith, is.name), (is.kind, (omega arith, tt))))))) in
-    let base : List ℕ = with_fields (dirent_fields head) clear in
-    let long_base : length base ≡ room = length-fields (dirent_fields head) clear (omega (arith, long_clear, inside)) ∙ long_clear in
+    let widths : HaveWidths (dirent_fields head) =
+    (is.number_low, (is.address_low, (given.fits name (All-from_recursion (λ b. b < 256) name is.bytes), (short, (omega (arith, is.name), (omega (arith, is.kind), (omega arith, tt))))))) in
+    let base : List ℕ = dirent_put head clear in
+    let long_base : length base ≡ room = law.as_long head clear enough tt ∙ long_clear in
     let bytes : List ℕ = put_at 40 name base in
-    let long : length bytes ≡ room = length-put 40 name base (omega (arith, long_base, inside)) ∙ long_base in
-    let same : take 28 bytes ≡ take 28 base = sym (take-take 28 40 bytes (omega arith)) ∙ ap (take 28) (take_put 40 name base (omega (arith, long_base, inside))) ∙ take-take 28 40 base (omega arith) in
-    let read : dirent_of bytes ≡ head = head_front 28 bytes base (omega arith) same ∙ head_back head clear (omega (arith, long_clear, inside)) widths in
-    let clear_behind : drop 40 base ≡ replicate (room - 40) 0 = drop-fields (dirent_fields head) clear (omega (arith, long_clear, inside)) 40 (omega arith) ∙ drop-replicate {X = ℕ} 40 room 0 in
-    let behind : drop 40 bytes ≡ name ++ replicate (room - 40 - length name) 0 = behind_put 40 (room - 40) name base (omega (arith, long_base, inside)) clear_behind in
+    let long : length bytes ≡ room = length_put 40 name base (omega (arith, long_base, inside)) ∙ long_base in
+    let fault : kind_fault head ≡ None = right_kind head is.kind in
+    let read : dirent_of bytes ≡ head = (answer_ok (or_else (length_fault 40 bytes) (kind_fault (dirent_of bytes))) (dirent_of bytes) head
+    (law.own bytes base (omega (arith, long, inside)) (omega (arith, long_base, inside)) (take_put 40 name base (omega (arith, long_base, inside))) ∙ law.back head clear enough (zeros_are_bytes room) tt (record { widths = widths; kind = fault }))).1 in
+    let behind : drop 40 bytes ≡ name ++ replicate (room - 40 - length name) 0 =
+    behind_put 40 (room - 40) name base (omega (arith, long_base, inside)) (law.behind head clear enough tt ∙ drop-replicate {X = ℕ} 40 room 0) in
     let size : u16_at 20 bytes ≡ room = ap (λ (d : Dirent). d.rec_len) read in
     let name_long : u16_at 22 bytes ≡ length name = ap (λ (d : Dirent). d.name_len) read in
     let named : name_of (slot_at bytes) ≡ name =
     (λ t. take (name_long t) (take (size t - 40) (behind t)))
     ∙ take-take (length name) (room - 40) (name ++ replicate (room - 40 - length name) 0) (omega (arith, inside))
     ∙ take_at name (replicate (room - 40 - length name) 0) (length name) refl in
-    let alone = stands bytes (slot_at bytes) [] refl (omega (arith, size, inside)) (omega (arith, size, long)) (λ u. omega (arith, size, name_long, inside))
-    (drop_all (u16_at 20 bytes) bytes (omega (arith, size, long))) (area_none [] refl) in
+    let alone = given.areas.one bytes (omega (arith, long, inside)) (size ∙ sym long) (λ u. omega (arith, size, name_long, inside)) in
     record {
       long = long;
-      slots = alone.slots ∙ ap (λ (ss : List Slot). slot_at bytes ∷ ss) (area_ends [] refl);
-      area = alone.area;
+      slots = alone.0;
+      area = alone.1;
       used = ap is_in_use read ∙ in_use head is.number is.address;
       is = λ t. record { name = named t; number = (read t).inum.number; address = (read t).inum.address; kind = (read t).kind };
       hash = ap (λ (d : Dirent). d.hash) read ∙ sym (ap crc32_of named);
@@ -112,11 +125,11 @@ first_told : (s : Slot) (ss : List Slot) (r : Record) (rs : List Record) → is_
     → map record_of (filter (λ (t : Slot). is_in_use t.head) (s ∷ ss)) ≡ r ∷ rs
 first_told s ss r rs used is rest = ap (map record_of) (cond-true _ _ _ used) ∙ (λ t. is t ∷ rest t)
 
-slots_are : (room : ℕ) (es : List Entry) → AreEntries es → Fit room es → room < 2 ^ 16 → AreSlots room es (records room es)
+slots_are : (given : Given) (room : ℕ) (es : List Entry) → AreEntries es → Fit room es → room < 2 ^ 16 → AreSlots room es (records room es)
 unfolding records
-slots_are room [] all fit short = elim fit [ ]
-slots_are room (e ∷ []) all fit short =
-    let one = one_record e room all.0 fit short in
+slots_are given room [] all fit short = elim fit [ ]
+slots_are given room (e ∷ []) all fit short =
+    let one = one_record given e room all.0 fit short in
     record {
       long = one.long;
       slots = one.slots;
@@ -124,23 +137,23 @@ slots_are room (e ∷ []) all fit short =
       hashes = (λ u. one.hash, tt);
       told = first_told (slot_at (record_bytes e room)) [] (entry_record e) [] one.used one.is refl;
     }
-slots_are room (e ∷ f ∷ es) all fit short =
+slots_are given room (e ∷ f ∷ es) all fit short =
     let least : ℕ = least_length (length (name_in e)) in
-    let one = one_record e least all.0 (omega arith) (omega (arith, fit.0, short)) in
-    let rest = slots_are (room - least) (f ∷ es) all.1 fit.1 (omega (arith, short)) in
-    let both = joined (record_bytes e least) (records (room - least) (f ∷ es)) one.area in
+    let one = one_record given e least all.0 (omega arith) (omega (arith, fit.0, short)) in
+    let rest = slots_are given (room - least) (f ∷ es) all.1 fit.1 (omega (arith, short)) in
+    let both = given.areas.both (record_bytes e least) (records (room - least) (f ∷ es)) one.area rest.area in
     record {
       long = omega (arith, length-append (record_bytes e least) (records (room - least) (f ∷ es)), one.long, rest.long, fit.0);
-      slots = both.slots ∙ ap₂ (λ (a b : List Slot). a ++ b) one.slots rest.slots;
-      area = both.area rest.area;
+      slots = both.0 ∙ ap₂ (λ (a b : List Slot). a ++ b) one.slots rest.slots;
+      area = both.1;
       hashes = (λ u. one.hash, rest.hashes);
       told = first_told (slot_at (record_bytes e least)) (slots_made (room - least) (f ∷ es)) (entry_record e) (map entry_record (f ∷ es)) one.used one.is rest.told;
     }
 
-pub records_are : (room : ℕ) (es : List Entry) → AreEntries es → Fit room es → room < 2 ^ 16 → AreRecords room es (records room es)
+pub records_are : (given : Given) (room : ℕ) (es : List Entry) → AreEntries es → Fit room es → room < 2 ^ 16 → AreRecords room es (records room es)
 unfolding records_in
-records_are room es all fit short =
-    let made = slots_are room es all fit short in
+records_are given room es all fit short =
+    let made = slots_are given room es all fit short in
     record {
       long = made.long;
       area = record { fills = made.area; hashes = subst (AllByRecursion HasItsHash) (sym made.slots) made.hashes };

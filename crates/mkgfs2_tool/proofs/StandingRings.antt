@@ -11,7 +11,6 @@ use Rattle.gfs2_layout.specs.Bytes.{number_at, u32_at, u64_at}
 use Rattle.gfs2_layout.specs.Structures.{log_of, header_fault, hash_fault, or_else, answer, magic, dinode_length}
 use Rattle.gfs2_layout.specs.Writing.{log_put}
 use Rattle.gfs2_layout.specs.declared.fault.LayoutFault.TheVariants.{Magic}
-use Rattle.gfs2_layout.proofs.ReadBackMore.{log_back}
 use Rattle.image_model.specs.Image.{Blocks}
 use Rattle.image_model.specs.Inode.{header_length, pointer, span, descend, content_block}
 use Rattle.image_model.specs.Journals.{Ring, ring_of, if_at, accepted, better, best_from, head_in, IsJournal}
@@ -20,17 +19,16 @@ use Rattle.mkgfs2_tool.specs.Groups.{super_block}
 use Rattle.mkgfs2_tool.specs.Files.{block_pointers, content_blocks, height, level_blocks, level_start, file_blocks}
 use Rattle.mkgfs2_tool.specs.Blocks.{zeros, clean_header, journal_block, used_block}
 use Rattle.mkgfs2_tool.specs.Making.{IsFitting}
-use Rattle.mkgfs2_tool.specs.Standing.{IsStamped}
 use Rattle.mkgfs2_tool.specs.declared.files.Part.TheVariants.{Content}
 use Rattle.mkgfs2_tool.specs.declared.plan.Plan.{Plan}
-use Rattle.mkgfs2_tool.proofs.StandingCrc.{log_low, bytes_zeros}
+use Rattle.mkgfs2_tool.proofs.StandingGiven.{Given, Known, zeros_are_bytes}
 use Rattle.mkgfs2_tool.proofs.StandingShapes.{IsBelow, begins_level, span_some, top_narrow, inside_file}
 use Rattle.mkgfs2_tool.proofs.StandingPlan.{address_high}
 use Rattle.mkgfs2_tool.proofs.StandingOwners.{file_place, file_shape, file_use, spot, file_taken, in_all}
 use Rattle.mkgfs2_tool.proofs.StandingFiles.{file_low, large, top_pointers, inner_block, content_at, journal_blocks}
 use Rattle.mkgfs2_tool.proofs.StandingInodes.{AreMade, held, file_height, file_size, file_regular, bytes_below, own_bytes}
 
-module _ (p : Plan) (fit : IsFitting p) (stamped : IsStamped p) (at : Blocks) (made : AreMade p at) (i : ℕ) (ok : i ≤ p.journals) where
+module _ (p : Plan) (fit : IsFitting p) (known : Known p) (at : Blocks) (made : AreMade p at) (i : ℕ) (ok : i ≤ p.journals) where
   abbrev a : ℕ
   a = spot p i 0
 
@@ -54,13 +52,13 @@ module _ (p : Plan) (fit : IsFitting p) (stamped : IsStamped p) (at : Blocks) (m
       whole : (x r : ℕ) → r < 1 → x ≡ x * 1 + r
       whole x r low = omega (arith, low)
   descend_is (suc lev) l x r is e low inside =
-      cond-false _ _ _ (ne_eqb (spot p i (level_start (file_shape p i) l + x)) 0 (spot_some (level_start (file_shape p i) l + x) (inside_file (file_shape p i) (file_low p fit stamped i) l x is)))
+      cond-false _ _ _ (ne_eqb (spot p i (level_start (file_shape p i) l + x)) 0 (spot_some (level_start (file_shape p i) l + x) (inside_file (file_shape p i) (file_low p fit known i) l x is)))
       ∙ ap (λ b. descend h lev b (r % span p.size lev)) points
       ∙ descend_is lev (suc l) (x * block_pointers p.size + r / span p.size lev) (r % span p.size lev) child (next (height (file_shape p i)) l lev e) (mod_below r (span p.size lev) some) inside'
       ∙ ap (λ n. spot p i (level_start (file_shape p i) (height (file_shape p i)) + n)) same
     where
       some : 1 ≤ span p.size lev
-      some = span_some p.size lev (large p fit stamped)
+      some = span_some p.size lev (large p fit known)
 
       lower : (n l lev : ℕ) → n - l ≡ suc lev → l < n
       lower n l lev e = omega (arith, e)
@@ -88,7 +86,7 @@ module _ (p : Plan) (fit : IsFitting p) (stamped : IsStamped p) (at : Blocks) (m
       child = record {
         some = omega arith;
         low = lower (height (file_shape p i)) l lev e;
-        inside = begins_level (file_shape p i) (file_low p fit stamped i) (suc l) (x * block_pointers p.size + r / span p.size lev)
+        inside = begins_level (file_shape p i) (file_low p fit known i) (suc l) (x * block_pointers p.size + r / span p.size lev)
             (subst (λ n. (x * block_pointers p.size + r / span p.size lev) * span p.size n < content_blocks (file_shape p i)) (sym (next (height (file_shape p i)) l lev e))
             (begin ((x * block_pointers p.size + r / span p.size lev) * span p.size lev) (r % span p.size lev) (content_blocks (file_shape p i)) inside'));
       }
@@ -98,8 +96,8 @@ module _ (p : Plan) (fit : IsFitting p) (stamped : IsStamped p) (at : Blocks) (m
 
       points : pointer h header_length (spot p i (level_start (file_shape p i) l + x)) (r / span p.size lev) ≡ spot p i (level_start (file_shape p i) (suc l) + (x * block_pointers p.size + r / span p.size lev))
       points =
-          ap (u64_at (24 + 8 * (r / span p.size lev))) (bytes_below p fit stamped at made i ok l x is)
-          ∙ (inner_block p fit stamped i l x ok is (lower (height (file_shape p i)) l lev e)).pointers.there (r / span p.size lev) wide (few (level_blocks (file_shape p i) (suc l)) (x * block_pointers p.size) (r / span p.size lev) child.inside)
+          ap (u64_at (24 + 8 * (r / span p.size lev))) (bytes_below p fit known at made i ok l x is)
+          ∙ (inner_block p fit known i l x ok is (lower (height (file_shape p i)) l lev e)).pointers.there (r / span p.size lev) wide (few (level_blocks (file_shape p i) (suc l)) (x * block_pointers p.size) (r / span p.size lev) child.inside)
           ∙ ap (spot p i) (turn (level_start (file_shape p i) (suc l)) (x * block_pointers p.size) (r / span p.size lev))
         where
           few : (n u v : ℕ) → u + v < n → v < n - u
@@ -112,18 +110,18 @@ module _ (p : Plan) (fit : IsFitting p) (stamped : IsStamped p) (at : Blocks) (m
   pub content_is : (x : ℕ) → 1 ≤ height (file_shape p i) → x < content_blocks (file_shape p i) → content_block h x ≡ spot p i (level_start (file_shape p i) (height (file_shape p i)) + x)
   unfolding content_block
   content_is x high inside =
-      ap (λ n. descend h (n - 1) (pointer h dinode_length a (x / span p.size (n - 1))) (x % span p.size (n - 1))) (file_height p fit stamped at made i ok)
+      ap (λ n. descend h (n - 1) (pointer h dinode_length a (x / span p.size (n - 1))) (x % span p.size (n - 1))) (file_height p fit known at made i ok)
       ∙ from_top (height (file_shape p i) - 1) refl
     where
       from_top : (lev : ℕ) → height (file_shape p i) - 1 ≡ lev → descend h lev (pointer h dinode_length a (x / span p.size lev)) (x % span p.size lev) ≡ spot p i (level_start (file_shape p i) (height (file_shape p i)) + x)
       from_top lev e =
-          ap (λ b. descend h lev b (x % span p.size lev)) (ap (u64_at (232 + 8 * (x / span p.size lev))) (own_bytes p fit stamped at made i ok)
-          ∙ (top_pointers p fit stamped i ok high).there (x / span p.size lev) (top_narrow (file_shape p i) (file_low p fit stamped i) (x / span p.size lev) child) child.inside)
+          ap (λ b. descend h lev b (x % span p.size lev)) (ap (u64_at (232 + 8 * (x / span p.size lev))) (own_bytes p fit known at made i ok)
+          ∙ (top_pointers p fit known i ok high).there (x / span p.size lev) (top_narrow (file_shape p i) (file_low p fit known i) (x / span p.size lev) child) child.inside)
           ∙ descend_is lev 1 (x / span p.size lev) (x % span p.size lev) child e (mod_below x (span p.size lev) some) (subst (λ n. n < content_blocks (file_shape p i)) (sym (div-add-mod' x (span p.size lev))) inside)
           ∙ ap (λ n. spot p i (level_start (file_shape p i) (height (file_shape p i)) + n)) (div-add-mod' x (span p.size lev))
         where
           some : 1 ≤ span p.size lev
-          some = span_some p.size lev (large p fit stamped)
+          some = span_some p.size lev (large p fit known)
 
           begin : (u v n : ℕ) → u + v ≡ n → (m : ℕ) → n < m → u < m
           begin u v n e m less = omega (arith, e, less)
@@ -132,13 +130,13 @@ module _ (p : Plan) (fit : IsFitting p) (stamped : IsStamped p) (at : Blocks) (m
           child = record {
             some = omega arith;
             low = high;
-            inside = begins_level (file_shape p i) (file_low p fit stamped i) 1 (x / span p.size lev)
+            inside = begins_level (file_shape p i) (file_low p fit known i) 1 (x / span p.size lev)
                 (subst (λ n. x / span p.size lev * span p.size n < content_blocks (file_shape p i)) (sym e)
                 (begin (x / span p.size lev * span p.size lev) (x % span p.size lev) x (div-add-mod' x (span p.size lev)) (content_blocks (file_shape p i)) inside));
           }
 
   content_level : (x : ℕ) → x < content_blocks (file_shape p i) → x < level_blocks (file_shape p i) (height (file_shape p i))
-  content_level x inside = begins_level (file_shape p i) (file_low p fit stamped i) (height (file_shape p i)) x
+  content_level x inside = begins_level (file_shape p i) (file_low p fit known i) (height (file_shape p i)) x
       (subst (λ n. x * span p.size n < content_blocks (file_shape p i)) (none (height (file_shape p i))) (subst (λ n. n < content_blocks (file_shape p i)) (one x) inside))
     where
       none : (n : ℕ) → 0 ≡ n - n
@@ -154,12 +152,12 @@ module _ (p : Plan) (fit : IsFitting p) (stamped : IsStamped p) (at : Blocks) (m
       same n = omega arith
 
   pub content_some : (x : ℕ) → 1 ≤ height (file_shape p i) → x < content_blocks (file_shape p i) → content_block h x ≢ 0
-  content_some x high inside e = spot_some (level_start (file_shape p i) (height (file_shape p i)) + x) (inside_file (file_shape p i) (file_low p fit stamped i) (height (file_shape p i)) x (content_below x high inside)) (sym (content_is x high inside) ∙ e)
+  content_some x high inside e = spot_some (level_start (file_shape p i) (height (file_shape p i)) + x) (inside_file (file_shape p i) (file_low p fit known i) (height (file_shape p i)) x (content_below x high inside)) (sym (content_is x high inside) ∙ e)
 
   pub content_bytes : (x : ℕ) → 1 ≤ height (file_shape p i) → x < content_blocks (file_shape p i) → bytes_at h (content_block h x) ≡ used_block p (file_use i (Content x))
   content_bytes x high inside =
-      ap (bytes_at h) (content_is x high inside) ∙ bytes_below p fit stamped at made i ok (height (file_shape p i)) x (content_below x high inside)
-      ∙ content_at p fit stamped i x ok high (content_level x inside)
+      ap (bytes_at h) (content_is x high inside) ∙ bytes_below p fit known at made i ok (height (file_shape p i)) x (content_below x high inside)
+      ∙ content_at p fit known i x ok high (content_level x inside)
 
 -- ---- the journals
 
@@ -178,22 +176,22 @@ zeros_refused size q large = ap (if_at q) (ap (λ f. answer (or_else f (hash_fau
     off = cond-false _ _ _ (le-ltb (length (replicate size 0)) 48 (omega (arith, length-replicate {A = ℕ} size 0, large)))
         ∙ cond-true _ _ _ (ap not (ap (λ n. n == magic) first))
 
-header_accepted : (size j : ℕ) → 512 ≤ size → j < 8 → accepted 0 (log_put (clean_header j) (replicate size 0)) ≡ Some (clean_header j)
+header_accepted : (given : Given) (size j : ℕ) → 512 ≤ size → j < 8 → accepted 0 (log_put (clean_header j) (replicate size 0)) ≡ Some (clean_header j)
 unfolding accepted
-header_accepted size j large few = ap (if_at 0) (log_back (clean_header j) (replicate size 0) (omega (arith, length-replicate {A = ℕ} size 0, large))
-    (omega arith, (omega arith, (omega arith, (omega (arith, few), (omega arith, (omega arith, (omega arith, (omega arith, tt)))))))) (log_low (clean_header j) (replicate size 0) (bytes_zeros size)))
+header_accepted given size j large few = ap (if_at 0) (given.structures.log.back (clean_header j) (replicate size 0) (omega (arith, length-replicate {A = ℕ} size 0, large)) (zeros_are_bytes size) tt
+    (omega arith, (omega arith, (omega arith, (omega (arith, few), (omega arith, (omega arith, (omega arith, (omega arith, tt)))))))))
 
 best_none : (ring : Ring) (q n : ℕ) → ((m : ℕ) → q ≤ m → m < q + n → accepted m (ring.at m) ≡ None) → best_from ring q n ≡ None
 best_none ring q zero none = refl
 best_none ring q (suc n) none = ap₂ better (none q (omega arith) (omega arith)) (best_none ring (q + 1) n (λ m low high. none m (omega (arith, low)) (omega (arith, high))))
 
-module _ (p : Plan) (fit : IsFitting p) (stamped : IsStamped p) (at : Blocks) (made : AreMade p at) (j : ℕ) (ok : suc j ≤ p.journals) where
+module _ (p : Plan) (fit : IsFitting p) (known : Known p) (at : Blocks) (made : AreMade p at) (j : ℕ) (ok : suc j ≤ p.journals) where
   abbrev hj : Holding
   hj = held p at (spot p (suc j) 0)
 
   journal_high : 1 ≤ height (file_shape p (suc j))
   journal_high = elim (cases_eq (height (file_shape p (suc j))) 0) [
-    | inl e ↦ absurd (never p.journal_blocks p.size fit.plan.some_journal_blocks (stuffed e) (large p fit stamped))
+    | inl e ↦ absurd (never p.journal_blocks p.size fit.plan.some_journal_blocks (stuffed e) (large p fit known))
     | inr d ↦ positive (height (file_shape p (suc j))) d
   ]
     where
@@ -211,7 +209,7 @@ module _ (p : Plan) (fit : IsFitting p) (stamped : IsStamped p) (at : Blocks) (m
   journal_content = journal_blocks p.size p.journal_blocks fit.plan.size
 
   pub places_are : (ring_of hj).places ≡ p.journal_blocks
-  places_are = ap (λ n. n / p.size) (file_size p fit stamped at made (suc j) ok) ∙ mul-div_cancel p.journal_blocks (some_size p.size (large p fit stamped))
+  places_are = ap (λ n. n / p.size) (file_size p fit known at made (suc j) ok) ∙ mul-div_cancel p.journal_blocks (some_size p.size (large p fit known))
     where
       some_size : (n : ℕ) → 512 ≤ n → 0 < n
       some_size n large = omega (arith, large)
@@ -221,19 +219,19 @@ module _ (p : Plan) (fit : IsFitting p) (stamped : IsStamped p) (at : Blocks) (m
 
   ring_first : (ring_of hj).at 0 ≡ log_put (clean_header j) (zeros p)
   unfolding journal_block used_block
-  ring_first = content_bytes p fit stamped at made (suc j) ok 0 journal_high (inside_content 0 (some_blocks p.journal_blocks fit.plan.some_journal_blocks))
+  ring_first = content_bytes p fit known at made (suc j) ok 0 journal_high (inside_content 0 (some_blocks p.journal_blocks fit.plan.some_journal_blocks))
     where
       some_blocks : (n : ℕ) → 512 ≤ n → 0 < n
       some_blocks n some = omega (arith, some)
 
   ring_later : (q : ℕ) → 1 ≤ q → q < p.journal_blocks → (ring_of hj).at q ≡ zeros p
   unfolding journal_block used_block
-  ring_later q some low = content_bytes p fit stamped at made (suc j) ok q journal_high (inside_content q low) ∙ cond-false _ _ _ (ne_eqb q 0 (λ e. absurd (omega (arith, e, some))))
+  ring_later q some low = content_bytes p fit known at made (suc j) ok q journal_high (inside_content q low) ∙ cond-false _ _ _ (ne_eqb q 0 (λ e. absurd (omega (arith, e, some))))
 
   best_is : (n : ℕ) → suc n ≤ p.journal_blocks → best_from (ring_of hj) 0 (suc n) ≡ Some (clean_header j)
   best_is n few =
-      ap₂ better (ap (accepted 0) ring_first ∙ header_accepted p.size j (large p fit stamped) (under j p.journals ok fit.plan.journals))
-      (best_none (ring_of hj) 1 n (λ m low high. ap (accepted m) (ring_later m low (below_count m n p.journal_blocks high few)) ∙ zeros_refused p.size m (large p fit stamped)))
+      ap₂ better (ap (accepted 0) ring_first ∙ header_accepted known.given p.size j (large p fit known) (under j p.journals ok fit.plan.journals))
+      (best_none (ring_of hj) 1 n (λ m low high. ap (accepted m) (ring_later m low (below_count m n p.journal_blocks high few)) ∙ zeros_refused p.size m (large p fit known)))
     where
       under : (j n : ℕ) → suc j ≤ n → n ≤ 8 → j < 8
       under j n a b = omega (arith, a, b)
@@ -254,8 +252,8 @@ module _ (p : Plan) (fit : IsFitting p) (stamped : IsStamped p) (at : Blocks) (m
 
   pub new_journal : IsJournal hj
   new_journal = record {
-    file = file_regular p fit stamped at made (suc j) ok;
-    whole = ap (λ n. n % p.size) (file_size p fit stamped at made (suc j) ok) ∙ mul-mod_left p.journal_blocks p.size;
-    filled = λ q low. content_some p fit stamped at made (suc j) ok q journal_high (inside_content q (subst (λ n. q < n) places_are low));
+    file = file_regular p fit known at made (suc j) ok;
+    whole = ap (λ n. n % p.size) (file_size p fit known at made (suc j) ok) ∙ mul-mod_left p.journal_blocks p.size;
+    filled = λ q low. content_some p fit known at made (suc j) ok q journal_high (inside_content q (subst (λ n. q < n) places_are low));
     headed = (clean_header j, new_head);
   }

@@ -1,9 +1,9 @@
 -- The levels of a file's blocks: which block is which, and which leads to which.
 use Rattle.std.proofs.Common.{ℕ, zero, suc, ◌≡◌, ◌+◌, ◌-◌, ◌*◌, ◌/◌, ◌<◌, ◌≤◌, ◌⊎◌, inl, inr, refl, sym, ap, ◌∙◌, subst, arith}
-use Rattle.std.specs.Prelude.{◌^◌, ◌==◌, if◌then◌else◌}
+use Rattle.std.specs.Prelude.{◌%◌, ◌^◌, ◌==◌, if◌then◌else◌}
 use Rattle.std.proofs.lemmas.Bool.{cases_lt, cases_eq, cond-true, cond-false, ne_eqb, le-leb, lt-leb}
 use Rattle.std.proofs.lemmas.Bool.Decides.{nat_tests}
-use Rattle.std.proofs.lemmas.Nat.{le-div, div-add-mod'}
+use Rattle.std.proofs.lemmas.Nat.{le-div, div-add-mod', mod_below}
 use Rattle.std.proofs.Math.Nat.{pow-suc, pow-zero, mul_comm, mul_assoc, add-mul, mul-le-mul_right, suc-mul}
 use Rattle.image_model.specs.Inode.{span}
 use Rattle.mkgfs2_tool.specs.Groups.{parts}
@@ -20,6 +20,13 @@ part_begins x c s some low =
 
 pub begins_part : (x c s : ℕ) → 1 ≤ s → x * s < c → x < parts c s
 begins_part x c s some low = le-div (suc x) (c + s - 1) s some (omega (arith, suc-mul x s, low, some))
+
+-- so many parts of a length are long enough
+pub parts_cover : (whole size : ℕ) → 0 < size → whole ≤ parts whole size * size
+parts_cover whole size some = enough whole size (parts whole size * size) ((whole + size - 1) % size) (div-add-mod' (whole + size - 1) size) (mod_below (whole + size - 1) size some)
+  where
+    enough : (n e p r : ℕ) → p + r ≡ n + e - 1 → r < e → n ≤ p
+    enough n e p r same low = omega (arith, same, low)
 
 pub span_some : (size n : ℕ) → 512 ≤ size → 1 ≤ span size n
 span_some size zero large = omega arith

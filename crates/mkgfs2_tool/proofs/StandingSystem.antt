@@ -14,17 +14,23 @@ use Rattle.image_model.specs.Journals.{journal_name, IsJournal}
 use Rattle.image_model.specs.Owners.{Owner, Super, InGroup, Free, Nobody, Root, Master, Named, Below, Chained, Up, up_of, parent_of, is_dinode, IsUsed, IsWithin}
 use Rattle.image_model.specs.Records.{Record, is_dots, child_named}
 use Rattle.image_model.specs.Stands.{IsJournalAt, flat_of, heads_of, IsRecordOf, HasRecord, directory_count, LeadsDown, IsDirectory, IsSystem, IsFound, AreShort}
-use Rattle.image_model.proofs.Held.{none_some, some_same}
-use Rattle.image_model.proofs.Members.{IsIn, is_in, contained}
-use Rattle.image_model.proofs.Reach.{Leading, IsNamedChild, named_child}
+use Rattle.mkgfs2_tool.proofs.StandingLists.{none_some, some_same, IsIn, is_in, contained, found_in}
+use Rattle.std.specs.Str.{bytes_eq}
+use Rattle.std.specs.Option.{option_map}
+use Rattle.std.proofs.lemmas.Bool.{cases_Bool}
+use Rattle.std.proofs.lemmas.Slice.Eq.{bytes_eq-Decides}
+use Rattle.image_model.specs.Owners.{Holding}
+use Rattle.image_model.specs.Inode.{child_of}
+use Rattle.image_model.specs.Records.{record_named}
 use Rattle.mkgfs2_tool.specs.Groups.{data_address}
 use Rattle.mkgfs2_tool.specs.Order.{master_place, root_place, journals_place, journal_place}
 use Rattle.mkgfs2_tool.specs.Directories.{journal_entry, master_entries, root_entries, journals_entries}
 use Rattle.mkgfs2_tool.specs.Blocks.{group_entries}
 use Rattle.mkgfs2_tool.specs.Making.{IsFitting}
-use Rattle.mkgfs2_tool.specs.Standing.{IsStamped, new_layout}
+use Rattle.mkgfs2_tool.specs.Standing.{new_layout}
 use Rattle.mkgfs2_tool.specs.declared.directory.Entry.{Entry}
 use Rattle.mkgfs2_tool.specs.declared.plan.Plan.{Plan}
+use Rattle.mkgfs2_tool.proofs.StandingGiven.{Known}
 use Rattle.mkgfs2_tool.proofs.StandingOwners.{file_place, file_name, file_parent, spot, below_owner, owner, owner_master, owner_root, owner_journals}
 use Rattle.mkgfs2_tool.proofs.StandingFiles.{file_number}
 use Rattle.mkgfs2_tool.proofs.StandingWhose.{Whose, whose_master, whose_root, whose_journals, whose_file, whose_below, whose_none, whose, owner_top}
@@ -34,6 +40,33 @@ use Rattle.mkgfs2_tool.proofs.StandingList.{list_content, list_is}
 use Rattle.mkgfs2_tool.proofs.StandingRecords.{entry_record}
 use Rattle.mkgfs2_tool.proofs.StandingDirs.{IsDirectoryAt, dir_is, dir_sound, dir_number, dir_entries, dir_links, dir_records, master_at, root_at, journals_at}
 use Rattle.mkgfs2_tool.proofs.StandingNames.{record_name, name_is, is_journal_name, is_jindex_name, is_rindex_name, named_once, journal_records, journals_apart, dots_apart, journal_found, IsOfJournal, of_journal, length_journals, no_directories, got_at, get_at}
+
+-- a name that leads somewhere is that of a record
+record Leading (records : List Record) (name : List ℕ) (b : ℕ) : Type 0 where
+  pub entry : Record
+  pub there : IsIn entry records
+  pub named : entry.name ≡ name
+  pub address : entry.address ≡ b
+
+leading : (records : List Record) (name : List ℕ) (b : ℕ) → child_named records name ≡ Some b → Leading records name b
+leading records name b e = each (record_named records name) refl e
+  where
+    each : (o : Option Record) → record_named records name ≡ o → option_map (λ (r : Record). r.address) o ≡ Some b → Leading records name b
+    each None f g = absurd (none_some g)
+    each (Some r) f g = let found = found_in (λ (s : Record). bytes_eq name s.name) r records f in record { entry = r; there = found.0; named = sym ((bytes_eq-Decides name r.name).0 found.1); address = some_same g }
+
+record IsNamedChild (h : Holding) (name : List ℕ) (b : ℕ) : Type 0 where
+  pub name_is : is_dots name ≡ false
+  pub leads : Leading (records_of h) name b
+
+named_child : (h : Holding) (name : List ℕ) (b : ℕ) → child_of h name ≡ Some b → IsNamedChild h name b
+named_child h name b e = elim (cases_Bool (is_directory_in h)) [
+  | inr non ↦ absurd (none_some (sym (cond-false _ _ _ non) ∙ e))
+  | inl is ↦ elim (cases_Bool (is_dots name)) [
+    | inl dots ↦ absurd (none_some (sym (cond-true _ _ _ is ∙ cond-true _ _ _ dots) ∙ e))
+    | inr plain ↦ record { name_is = plain; leads = leading (records_of h) name b (sym (cond-true _ _ _ is ∙ cond-false _ _ _ plain) ∙ e) }
+  ]
+]
 
 used_dinode : (o : Owner) → is_dinode o ≡ true → IsUsed o
 used_dinode Super e = cc
@@ -83,7 +116,7 @@ root_up u e = cc
 below_up : (p : Plan) (i l x : ℕ) (u : Up) → up_of (below_owner p i l x) ≡ Some u → ⊥
 below_up p i l x u e = cc
 
-module _ (p : Plan) (fit : IsFitting p) (stamped : IsStamped p) (at : Blocks) (made : AreMade p at) where
+module _ (p : Plan) (fit : IsFitting p) (known : Known p) (at : Blocks) (made : AreMade p at) where
   abbrev master : ℕ
   master = data_address p master_place
 
@@ -107,19 +140,19 @@ module _ (p : Plan) (fit : IsFitting p) (stamped : IsStamped p) (at : Blocks) (m
     pub dir_is : (heads a).is_dir ≡ is_dir
 
   master_head : HasHead master 1 true
-  master_head = record { number_is = dir_number p fit stamped at made master_place 1 4 3 (master_entries p) (master_at p fit stamped); dir_is = dir_is p fit stamped at made master_place 1 4 3 (master_entries p) (master_at p fit stamped) }
+  master_head = record { number_is = dir_number p fit known at made master_place 1 4 3 (master_entries p) (master_at p fit known); dir_is = dir_is p fit known at made master_place 1 4 3 (master_entries p) (master_at p fit known) }
 
   root_head : HasHead root 2 true
-  root_head = record { number_is = dir_number p fit stamped at made root_place 2 2 2 (root_entries p) (root_at p fit stamped); dir_is = dir_is p fit stamped at made root_place 2 2 2 (root_entries p) (root_at p fit stamped) }
+  root_head = record { number_is = dir_number p fit known at made root_place 2 2 2 (root_entries p) (root_at p fit known); dir_is = dir_is p fit known at made root_place 2 2 2 (root_entries p) (root_at p fit known) }
 
   jindex_head : HasHead jindex 4 true
   jindex_head = record {
-    number_is = dir_number p fit stamped at made (journals_place p) 4 (2 + p.journals) 2 (journals_entries p) (journals_at p fit stamped);
-    dir_is = dir_is p fit stamped at made (journals_place p) 4 (2 + p.journals) 2 (journals_entries p) (journals_at p fit stamped);
+    number_is = dir_number p fit known at made (journals_place p) 4 (2 + p.journals) 2 (journals_entries p) (journals_at p fit known);
+    dir_is = dir_is p fit known at made (journals_place p) 4 (2 + p.journals) 2 (journals_entries p) (journals_at p fit known);
   }
 
   file_head : (i : ℕ) → i ≤ p.journals → HasHead (spot p i 0) (file_number i) false
-  file_head i ok = record { number_is = file_number_is p fit stamped at made i ok; dir_is = file_plain p fit stamped at made i ok }
+  file_head i ok = record { number_is = file_number_is p fit known at made i ok; dir_is = file_plain p fit known at made i ok }
 
   dir_record : (name : List ℕ) (a number : ℕ) → HasHead a number true → IsRecordOf heads a (record { name = name; number = number; address = a; kind = 4 })
   dir_record name a number head = record { address = refl; number = sym head.number_is; kind = sym (cond-true _ _ _ head.dir_is) }
@@ -160,7 +193,7 @@ module _ (p : Plan) (fit : IsFitting p) (stamped : IsStamped p) (at : Blocks) (m
       each (inr (inr (inl e))) = subst (LeadsDown heads (owner p) master) (sym e) (record { name = is_jindex_name; owner = owner_journals p fit; true_of = dir_record (codes "jindex") jindex 4 jindex_head })
       each (inr (inr (inr (inl e)))) = subst (LeadsDown heads (owner p) master) (sym e) (record {
         name = is_rindex_name;
-        owner = owner_top p fit stamped 0 (omega arith);
+        owner = owner_top p fit known 0 (omega arith);
         true_of = file_record (codes "rindex") (spot p 0 0) 3 (file_head 0 (omega arith));
       })
       each (inr (inr (inr (inr h)))) = elim h [ ]
@@ -172,8 +205,8 @@ module _ (p : Plan) (fit : IsFitting p) (stamped : IsStamped p) (at : Blocks) (m
         (has_record master_records (record { name = codes ".."; number = 1; address = master; kind = 4 }) master (inr (inl refl)) (dir_record (codes "..") master 1 master_head));
     once = named_once master_records ((refl, (refl, (refl, tt))), ((refl, (refl, tt)), ((refl, tt), (tt, tt))));
     down = master_down;
-    entries = dir_entries p fit stamped at made master_place 1 4 3 (master_entries p) (master_at p fit stamped);
-    links = dir_links p fit stamped at made master_place 1 4 3 (master_entries p) (master_at p fit stamped);
+    entries = dir_entries p fit known at made master_place 1 4 3 (master_entries p) (master_at p fit known);
+    links = dir_links p fit known at made master_place 1 4 3 (master_entries p) (master_at p fit known);
   }
 
   root_down : (r : Record) → Contains root_records r → is_dots r.name ≡ false → LeadsDown heads (owner p) root r
@@ -191,8 +224,8 @@ module _ (p : Plan) (fit : IsFitting p) (stamped : IsStamped p) (at : Blocks) (m
         (has_record root_records (record { name = codes ".."; number = 2; address = root; kind = 4 }) root (inr (inl refl)) (dir_record (codes "..") root 2 root_head));
     once = named_once root_records ((refl, tt), (tt, tt));
     down = root_down;
-    entries = dir_entries p fit stamped at made root_place 2 2 2 (root_entries p) (root_at p fit stamped);
-    links = dir_links p fit stamped at made root_place 2 2 2 (root_entries p) (root_at p fit stamped);
+    entries = dir_entries p fit known at made root_place 2 2 2 (root_entries p) (root_at p fit known);
+    links = dir_links p fit known at made root_place 2 2 2 (root_entries p) (root_at p fit known);
   }
 
   few_journals : (j : ℕ) → j < p.journals → j < 8
@@ -204,7 +237,7 @@ module _ (p : Plan) (fit : IsFitting p) (stamped : IsStamped p) (at : Blocks) (m
   journal_down : (j : ℕ) → suc j ≤ p.journals → LeadsDown heads (owner p) jindex (entry_record (journal_entry p j))
   journal_down j low = record {
     name = is_journal_name j (few_journals j low);
-    owner = ap (owner p) (file_address (suc j)) ∙ owner_top p fit stamped (suc j) low ∙ ap (λ (n : List ℕ). Named jindex n) (sym (name_is j (few_journals j low)));
+    owner = ap (owner p) (file_address (suc j)) ∙ owner_top p fit known (suc j) low ∙ ap (λ (n : List ℕ). Named jindex n) (sym (name_is j (few_journals j low)));
     true_of = subst (λ a. IsRecordOf heads a (record { name = record_name j; number = 5 + j; address = a; kind = 8 })) (sym (file_address (suc j))) (file_record (record_name j) (spot p (suc j) 0) (5 + j) (file_head (suc j) low));
   }
 
@@ -244,51 +277,51 @@ module _ (p : Plan) (fit : IsFitting p) (stamped : IsStamped p) (at : Blocks) (m
         (has_record jindex_records (record { name = codes ".."; number = 1; address = master; kind = 4 }) master (inr (inl refl)) (dir_record (codes "..") master 1 master_head));
     once = named_once jindex_records ((refl, dots_apart (codes ".") p 0 p.journals (λ j. refl)), (dots_apart (codes "..") p 0 p.journals (λ j. refl), journals_apart p 0 p.journals));
     down = jindex_down;
-    entries = dir_entries p fit stamped at made (journals_place p) 4 (2 + p.journals) 2 (journals_entries p) (journals_at p fit stamped) ∙ two_more p.journals ∙ ap (λ n. suc (suc n)) (sym (length_journals p 0 p.journals));
-    links = dir_links p fit stamped at made (journals_place p) 4 (2 + p.journals) 2 (journals_entries p) (journals_at p fit stamped) ∙ ap (λ n. 2 + n) (sym jindex_links);
+    entries = dir_entries p fit known at made (journals_place p) 4 (2 + p.journals) 2 (journals_entries p) (journals_at p fit known) ∙ two_more p.journals ∙ ap (λ n. suc (suc n)) (sym (length_journals p 0 p.journals));
+    links = dir_links p fit known at made (journals_place p) 4 (2 + p.journals) 2 (journals_entries p) (journals_at p fit known) ∙ ap (λ n. 2 + n) (sym jindex_links);
   }
     where
       two_more : (n : ℕ) → 2 + n ≡ suc (suc n)
       two_more n = omega arith
 
   pub directories : (a : ℕ) → is_dinode (owner p a) ≡ true → is_directory_in (held p at a) ≡ true → IsDirectory heads (owner p) a (records_of (held p at a)) (dinode_in (held p at a))
-  directories a dinode is = each (whose p fit stamped a)
+  directories a dinode is = each (whose p fit known a)
     where
       abbrev_at : ℕ → Type 0
       abbrev_at a = IsDirectory heads (owner p) a (records_of (held p at a)) (dinode_in (held p at a))
 
       each : Whose p a → IsDirectory heads (owner p) a (records_of (held p at a)) (dinode_in (held p at a))
-      each (whose_master e o) = subst abbrev_at (sym e) (subst (λ (rs : List Record). IsDirectory heads (owner p) master rs (dinode_in (held p at master))) (sym (dir_records p fit stamped at made master_place 1 4 3 (master_entries p) (master_at p fit stamped))) master_directory)
-      each (whose_root e o) = subst abbrev_at (sym e) (subst (λ (rs : List Record). IsDirectory heads (owner p) root rs (dinode_in (held p at root))) (sym (dir_records p fit stamped at made root_place 2 2 2 (root_entries p) (root_at p fit stamped))) root_directory)
+      each (whose_master e o) = subst abbrev_at (sym e) (subst (λ (rs : List Record). IsDirectory heads (owner p) master rs (dinode_in (held p at master))) (sym (dir_records p fit known at made master_place 1 4 3 (master_entries p) (master_at p fit known))) master_directory)
+      each (whose_root e o) = subst abbrev_at (sym e) (subst (λ (rs : List Record). IsDirectory heads (owner p) root rs (dinode_in (held p at root))) (sym (dir_records p fit known at made root_place 2 2 2 (root_entries p) (root_at p fit known))) root_directory)
       each (whose_journals e o) = subst abbrev_at (sym e) (subst (λ (rs : List Record). IsDirectory heads (owner p) jindex rs (dinode_in (held p at jindex)))
-          (sym (dir_records p fit stamped at made (journals_place p) 4 (2 + p.journals) 2 (journals_entries p) (journals_at p fit stamped))) jindex_directory)
-      each (whose_file i ok e o) = absurd (true≢false (sym is ∙ ap (λ n. is_directory_in (held p at n)) e ∙ file_plain p fit stamped at made i ok))
+          (sym (dir_records p fit known at made (journals_place p) 4 (2 + p.journals) 2 (journals_entries p) (journals_at p fit known))) jindex_directory)
+      each (whose_file i ok e o) = absurd (true≢false (sym is ∙ ap (λ n. is_directory_in (held p at n)) e ∙ file_plain p fit known at made i ok))
       each (whose_below i l x ok below e o) = absurd (no_below_dinode p i l x (ap is_dinode (sym o) ∙ dinode))
       each (whose_none un) = absurd (un (used_dinode (owner p a) dinode))
 
   pub inodes : (a : ℕ) → is_dinode (owner p a) ≡ true → IsInode (held p at a)
-  inodes a dinode = each (whose p fit stamped a)
+  inodes a dinode = each (whose p fit known a)
     where
       sound_at : ℕ → Type 0
       sound_at n = IsInode (held p at n)
 
       each : Whose p a → IsInode (held p at a)
-      each (whose_master e o) = subst sound_at (sym e) (dir_sound p fit stamped at made master_place 1 4 3 (master_entries p) (master_at p fit stamped))
-      each (whose_root e o) = subst sound_at (sym e) (dir_sound p fit stamped at made root_place 2 2 2 (root_entries p) (root_at p fit stamped))
-      each (whose_journals e o) = subst sound_at (sym e) (dir_sound p fit stamped at made (journals_place p) 4 (2 + p.journals) 2 (journals_entries p) (journals_at p fit stamped))
-      each (whose_file i ok e o) = subst sound_at (sym e) (file_sound p fit stamped at made i ok)
+      each (whose_master e o) = subst sound_at (sym e) (dir_sound p fit known at made master_place 1 4 3 (master_entries p) (master_at p fit known))
+      each (whose_root e o) = subst sound_at (sym e) (dir_sound p fit known at made root_place 2 2 2 (root_entries p) (root_at p fit known))
+      each (whose_journals e o) = subst sound_at (sym e) (dir_sound p fit known at made (journals_place p) 4 (2 + p.journals) 2 (journals_entries p) (journals_at p fit known))
+      each (whose_file i ok e o) = subst sound_at (sym e) (file_sound p fit known at made i ok)
       each (whose_below i l x ok below e o) = absurd (no_below_dinode p i l x (ap is_dinode (sym o) ∙ dinode))
       each (whose_none un) = absurd (un (used_dinode (owner p a) dinode))
 
   pub within : (b a : ℕ) → IsWithin a (owner p b) → is_dinode (owner p a) ≡ true
-  within b a inside = each (whose p fit stamped b)
+  within b a inside = each (whose p fit known b)
     where
       each : Whose p b → is_dinode (owner p a) ≡ true
       each (whose_master e o) = elim (subst (IsWithin a) o inside) [ ]
       each (whose_root e o) = elim (subst (IsWithin a) o inside) [ ]
       each (whose_journals e o) = elim (subst (IsWithin a) o inside) [ ]
       each (whose_file i ok e o) = elim (subst (IsWithin a) o inside) [ ]
-      each (whose_below i l x ok below e o) = ap (λ n. is_dinode (owner p n)) (sym (subst (IsWithin a) o inside)) ∙ file_own p fit stamped at made i ok
+      each (whose_below i l x ok below e o) = ap (λ n. is_dinode (owner p n)) (sym (subst (IsWithin a) o inside)) ∙ file_own p fit known at made i ok
       each (whose_none un) = absurd (un (used_within a (owner p b) inside))
 
   -- ---- where names lead
@@ -300,30 +333,30 @@ module _ (p : Plan) (fit : IsFitting p) (stamped : IsStamped p) (at : Blocks) (m
     child_is : (name : List ℕ) → is_dots name ≡ false → (flat (data_address p place)).child name ≡ child_named (map entry_record es) name
     child_is name non =
         ap (λ (n : Node). n.child name) node_is
-        ∙ cond-true _ _ _ (dir_is p fit stamped at made place number count links es is)
+        ∙ cond-true _ _ _ (dir_is p fit known at made place number count links es is)
         ∙ cond-false _ _ _ non
-        ∙ ap (λ (rs : List Record). child_named rs name) (dir_records p fit stamped at made place number count links es is)
+        ∙ ap (λ (rs : List Record). child_named rs name) (dir_records p fit known at made place number count links es is)
 
     dir_thing : (flat (data_address p place)).thing ≡ ADir
-    dir_thing = ap (λ (n : Node). n.thing) node_is ∙ cond-true _ _ _ (dir_is p fit stamped at made place number count links es is)
+    dir_thing = ap (λ (n : Node). n.thing) node_is ∙ cond-true _ _ _ (dir_is p fit known at made place number count links es is)
 
     -- a name that leads somewhere is that of a record
     child_from : (name : List ℕ) (b : ℕ) → (flat (data_address p place)).child name ≡ Some b → (is_dots name ≡ false) × Leading (map entry_record es) name b
     child_from name b e = from (named_child (held p at (data_address p place)) name b (sym (ap (λ (n : Node). n.child name) node_is) ∙ e))
       where
         from : IsNamedChild (held p at (data_address p place)) name b → (is_dots name ≡ false) × Leading (map entry_record es) name b
-        from q = (q.name_is, subst (λ (rs : List Record). Leading rs name b) (dir_records p fit stamped at made place number count links es is) q.leads)
+        from q = (q.name_is, subst (λ (rs : List Record). Leading rs name b) (dir_records p fit known at made place number count links es is) q.leads)
 
   master_jindex : (flat master).child (codes "jindex") ≡ Some jindex
-  master_jindex = child_is master_place 1 4 3 (master_entries p) (master_at p fit stamped) (codes "jindex") refl
+  master_jindex = child_is master_place 1 4 3 (master_entries p) (master_at p fit known) (codes "jindex") refl
 
   master_rindex : (flat master).child (codes "rindex") ≡ Some (spot p 0 0)
-  master_rindex = child_is master_place 1 4 3 (master_entries p) (master_at p fit stamped) (codes "rindex") refl
+  master_rindex = child_is master_place 1 4 3 (master_entries p) (master_at p fit known) (codes "rindex") refl
 
   jindex_journal : (j : ℕ) → suc j ≤ p.journals → (flat jindex).child (journal_name j) ≡ Some (spot p (suc j) 0)
   jindex_journal j low =
       ap (flat jindex).child (sym (name_is j (few_journals j low)))
-      ∙ child_is (journals_place p) 4 (2 + p.journals) 2 (journals_entries p) (journals_at p fit stamped) (record_name j) refl
+      ∙ child_is (journals_place p) 4 (2 + p.journals) 2 (journals_entries p) (journals_at p fit known) (record_name j) refl
       ∙ ap (option_map (λ (r : Record). r.address)) (journal_found p 0 p.journals j (omega arith) (under j p.journals low))
       ∙ ap Some (file_address (suc j))
     where
@@ -331,10 +364,10 @@ module _ (p : Plan) (fit : IsFitting p) (stamped : IsStamped p) (at : Blocks) (m
       under j n low = omega (arith, low)
 
   pub master_only : (name : List ℕ) (b : ℕ) → (flat master).child name ≡ Some b → (name ≡ codes "jindex") ⊎ (name ≡ codes "rindex")
-  master_only name b e = from (child_from master_place 1 4 3 (master_entries p) (master_at p fit stamped) name b e)
+  master_only name b e = from (child_from master_place 1 4 3 (master_entries p) (master_at p fit known) name b e)
     where
       from : (is_dots name ≡ false) × Leading master_records name b → (name ≡ codes "jindex") ⊎ (name ≡ codes "rindex")
-      from q = each (is_in q.1.entry master_records q.1.there)
+      from q = each q.1.there
         where
           each : IsIn q.1.entry master_records → (name ≡ codes "jindex") ⊎ (name ≡ codes "rindex")
           each (inl g) = absurd (true≢false (sym (ap is_dots (sym q.1.named ∙ ap (λ (r : Record). r.name) g)) ∙ q.0))
@@ -344,10 +377,10 @@ module _ (p : Plan) (fit : IsFitting p) (stamped : IsStamped p) (at : Blocks) (m
           each (inr (inr (inr (inr h)))) = elim h [ ]
 
   root_none : (name : List ℕ) (b : ℕ) → (flat root).child name ≡ Some b → ⊥
-  root_none name b e = from (child_from root_place 2 2 2 (root_entries p) (root_at p fit stamped) name b e)
+  root_none name b e = from (child_from root_place 2 2 2 (root_entries p) (root_at p fit known) name b e)
     where
       from : (is_dots name ≡ false) × Leading root_records name b → ⊥
-      from q = each (is_in q.1.entry root_records q.1.there)
+      from q = each q.1.there
         where
           each : IsIn q.1.entry root_records → ⊥
           each (inl g) = true≢false (sym (ap is_dots (sym q.1.named ∙ ap (λ (r : Record). r.name) g)) ∙ q.0)
@@ -369,10 +402,10 @@ module _ (p : Plan) (fit : IsFitting p) (stamped : IsStamped p) (at : Blocks) (m
     pub named : name ≡ journal_name j
 
   pub jindex_only : (name : List ℕ) (b : ℕ) → (flat jindex).child name ≡ Some b → IsJournalNamed name b
-  jindex_only name b e = from (child_from (journals_place p) 4 (2 + p.journals) 2 (journals_entries p) (journals_at p fit stamped) name b e)
+  jindex_only name b e = from (child_from (journals_place p) 4 (2 + p.journals) 2 (journals_entries p) (journals_at p fit known) name b e)
     where
       from : (is_dots name ≡ false) × Leading jindex_records name b → IsJournalNamed name b
-      from q = each (is_in q.1.entry jindex_records q.1.there)
+      from q = each q.1.there
         where
           of : IsOfJournal p p.journals q.1.entry → IsJournalNamed name b
           of g = record {
@@ -407,26 +440,26 @@ module _ (p : Plan) (fit : IsFitting p) (stamped : IsStamped p) (at : Blocks) (m
 
   list_thing : (flat (spot p 0 0)).thing ≡ AFile (group_entries p)
   list_thing =
-      ap (λ (n : Node). n.thing) (cond-true _ _ _ (file_own p fit stamped at made 0 (omega arith)))
-      ∙ cond-false _ _ _ (file_plain p fit stamped at made 0 (omega arith))
-      ∙ ap AFile (list_content p fit stamped at made)
+      ap (λ (n : Node). n.thing) (cond-true _ _ _ (file_own p fit known at made 0 (omega arith)))
+      ∙ cond-false _ _ _ (file_plain p fit known at made 0 (omega arith))
+      ∙ ap AFile (list_content p fit known at made)
 
   pub system : IsSystem flat (held p at) (new_layout p)
   system = record {
     rindex = master_rindex;
-    groups = (group_entries p, list_thing, list_is p fit stamped at made);
+    groups = (group_entries p, list_thing, list_is p fit known at made);
     jindex = master_jindex;
-    directory = dir_thing (journals_place p) 4 (2 + p.journals) 2 (journals_entries p) (journals_at p fit stamped);
+    directory = dir_thing (journals_place p) 4 (2 + p.journals) 2 (journals_entries p) (journals_at p fit known);
     journals = λ j d e. let at_j = journal_at j d e in jindex_journal j at_j.0 ∙ ap Some (sym at_j.1);
     others = λ name d e. other name d (jindex_only name d e);
-    rings = λ j d e. let at_j = journal_at j d e in subst (λ n. IsJournal (held p at n)) (sym at_j.1) (new_journal p fit stamped at made j at_j.0);
+    rings = λ j d e. let at_j = journal_at j d e in subst (λ n. IsJournal (held p at n)) (sym at_j.1) (new_journal p fit known at made j at_j.0);
   }
     where
       other : (name : List ℕ) (d : ℕ) → IsJournalNamed name d → (j : ℕ) × IsJournalAt (new_layout p) j d × (name ≡ journal_name j)
       other name d q = (q.j, subst (IsJournalAt (new_layout p) q.j) (sym q.is) (at_journal q.j q.low), q.named)
 
   pub names : (a : ℕ) (u : Up) → up_of (owner p a) ≡ Some u → (flat u.parent).child u.name ≡ Some a
-  names a u e = each (whose p fit stamped a)
+  names a u e = each (whose p fit known a)
     where
       led : (parent : ℕ) (name : List ℕ) → owner p a ≡ Named parent name → (flat parent).child name ≡ Some a → (flat u.parent).child u.name ≡ Some a
       led parent name o to = subst (λ (v : Up). (flat v.parent).child v.name ≡ Some a) (some_same (sym (ap up_of o) ∙ e)) to
@@ -444,7 +477,7 @@ module _ (p : Plan) (fit : IsFitting p) (stamped : IsStamped p) (at : Blocks) (m
       each (whose_none un) = absurd (un (used_up (owner p a) u e))
 
   pub found : (a : ℕ) → is_dinode (owner p a) ≡ true → IsFound flat (new_layout p) a
-  found a dinode = each (whose p fit stamped a)
+  found a dinode = each (whose p fit known a)
     where
       to : (a b : ℕ) (path : Path) → (name : List ℕ) → (flat a).child name ≡ Some b → follow flat a (name ∷ path) ≡ follow flat b path
       to a b path name e = ap (option_and_then (λ c. follow flat c path)) e
@@ -467,15 +500,15 @@ module _ (p : Plan) (fit : IsFitting p) (stamped : IsStamped p) (at : Blocks) (m
   nothing_below name path = ap (option_and_then (λ c. follow flat c path)) (root_empty name)
 
   pub short : AreShort flat (held p at) (new_layout p)
-  short [] a e regular = absurd (not_regular (dinode_in (held p at root)) (dir_is p fit stamped at made root_place 2 2 2 (root_entries p) (root_at p fit stamped)) (subst (λ n. is_regular (dinode_in (held p at n)) ≡ true) (sym (some_same e)) regular))
+  short [] a e regular = absurd (not_regular (dinode_in (held p at root)) (dir_is p fit known at made root_place 2 2 2 (root_entries p) (root_at p fit known)) (subst (λ n. is_regular (dinode_in (held p at n)) ≡ true) (sym (some_same e)) regular))
   short (name ∷ path) a e regular = absurd (none_some (sym (nothing_below name path) ∙ e))
 
   pub reads : ReadsAs flat root (dir none)
   reads = record { tree = tt; same = same }
     where
       same : (path : Path) → thing_from flat root path ≡ thing_at (dir none) path
-      same [] = ap Some (dir_thing root_place 2 2 2 (root_entries p) (root_at p fit stamped))
+      same [] = ap Some (dir_thing root_place 2 2 2 (root_entries p) (root_at p fit known))
       same (name ∷ path) = ap (option_and_then (λ b. Some (flat b).thing)) (nothing_below name path)
 
   pub root_is : is_directory_in (held p at root) ≡ true
-  root_is = dir_is p fit stamped at made root_place 2 2 2 (root_entries p) (root_at p fit stamped)
+  root_is = dir_is p fit known at made root_place 2 2 2 (root_entries p) (root_at p fit known)

@@ -1,5 +1,5 @@
 -- A group's free blocks and dinodes are counted.
-use Rattle.std.proofs.Common.{ℕ, zero, suc, ◌≡◌, ◌+◌, ◌-◌, ◌*◌, ◌<◌, ◌≤◌, inl, inr, true, false, List, [], ◌∷◌, length, map, refl, sym, ap, ◌∙◌, subst, arith, cond}
+use Rattle.std.proofs.Common.{ℕ, zero, suc, ◌≡◌, ◌+◌, ◌-◌, ◌*◌, ◌<◌, ◌≤◌, inl, inr, true, false, length, map, refl, sym, ap, ◌∙◌, subst, arith, cond}
 use Rattle.std.specs.Prelude.{◌==◌, if◌then◌else◌, count_by}
 use Rattle.std.specs.List.{AllByRecursion, range_with_len}
 use Rattle.std.proofs.lemmas.Bool.{cases_lt, cases_eq, cases_Bool, cond-true, cond-false, eq-eqb, ne_eqb, lt-ltb, le-ltb}
@@ -8,17 +8,15 @@ use Rattle.std.proofs.lemmas.List.{length-map}
 use Rattle.std.proofs.lemmas.List.FromFn.{length-range_with_len}
 use Rattle.std.proofs.lemmas.List.Sums.{sum_by-cons, count_by-le-length}
 use Rattle.std.proofs.lemmas.Nat.{row_fits}
-use Rattle.image_model.proofs.Members.{IsIn}
-use Rattle.image_model.proofs.Counts.{all_in}
-use Rattle.image_model.proofs.Rising.{Rising, one_if, count_split}
+use Rattle.mkgfs2_tool.proofs.StandingLists.{IsIn, Rising, one_if, count_split, count_in, count_out}
 use Rattle.mkgfs2_tool.specs.Files.{height, file_blocks, part}
 use Rattle.mkgfs2_tool.specs.Order.{journals_place, journal_place, group_list, journal, taken, use_of, dinode_places}
 use Rattle.mkgfs2_tool.specs.Blocks.{is_dinode, is_dinode_part, is_within, state}
 use Rattle.mkgfs2_tool.specs.Making.{IsFitting}
-use Rattle.mkgfs2_tool.specs.Standing.{IsStamped}
 use Rattle.mkgfs2_tool.specs.declared.files.Part.{Part}
 use Rattle.mkgfs2_tool.specs.declared.files.Part.TheVariants.{Pointers, Content}
 use Rattle.mkgfs2_tool.specs.declared.plan.Plan.{Plan}
+use Rattle.mkgfs2_tool.proofs.StandingGiven.{Known}
 use Rattle.mkgfs2_tool.proofs.StandingCounts.{count_none}
 use Rattle.mkgfs2_tool.proofs.StandingShapes.{part_below, part_here, Piece, is_top, is_below, piece}
 use Rattle.mkgfs2_tool.proofs.StandingOwners.{file_place, file_shape, file_use, Kept, is_master, is_root, is_journals, is_file, kept, file_taken, file_some, use_of_file, use_of_journals, some_taken, two_taken, journals_taken}
@@ -54,46 +52,6 @@ free_counted p b (suc n) = elim (cases_lt b (taken p)) [
 
     free : (c x y n t b : ℕ) → c ≡ x + y → x ≡ 1 → y ≡ n - (t - (b + 1)) → t ≤ b → c ≡ suc n - (t - b)
     free c x y n t b e f g ge = omega (arith, e, f, g, ge)
-
--- ---- how often a number is in a rising list
-
-count_above : (b x : ℕ) (xs : List ℕ) → b ≤ x → AllByRecursion (λ y. x < y) xs → count_by (λ q. q == b) xs ≡ 0
-count_above b x [] le all = refl
-count_above b x (y ∷ ys) le all = none (count_by (λ q. q == b) (y ∷ ys)) (one_if (y == b)) (count_by (λ q. q == b) ys) (sum_by-cons (λ q. one_if (q == b)) y ys)
-    (cond-false {A = ℕ} _ 1 0 (ne_eqb y b (λ e. absurd (differ b x y le all.0 e)))) (count_above b x ys le all.1)
-  where
-    none : (c u v : ℕ) → c ≡ u + v → u ≡ 0 → v ≡ 0 → c ≡ 0
-    none c u v e f g = omega (arith, e, f, g)
-
-    differ : (b x y : ℕ) → b ≤ x → x < y → y ≡ b → ⊥
-    differ b x y le less e = absurd (omega (arith, le, less, e))
-
-count_in : (b : ℕ) (xs : List ℕ) → Rising xs → IsIn b xs → count_by (λ q. q == b) xs ≡ 1
-count_in b [] all there = elim there [ ]
-count_in b (x ∷ xs) all (inl e) = one (count_by (λ q. q == b) (x ∷ xs)) (one_if (x == b)) (count_by (λ q. q == b) xs) (sum_by-cons (λ q. one_if (q == b)) x xs)
-    (cond-true {A = ℕ} _ 1 0 (eq-eqb x b (sym e))) (count_above b x xs (same b x e) all.0)
-  where
-    one : (c u v : ℕ) → c ≡ u + v → u ≡ 1 → v ≡ 0 → c ≡ 1
-    one c u v e f g = omega (arith, e, f, g)
-
-    same : (b x : ℕ) → b ≡ x → b ≤ x
-    same b x e = omega (arith, e)
-count_in b (x ∷ xs) all (inr h) = one (count_by (λ q. q == b) (x ∷ xs)) (one_if (x == b)) (count_by (λ q. q == b) xs) (sum_by-cons (λ q. one_if (q == b)) x xs)
-    (cond-false {A = ℕ} _ 1 0 (ne_eqb x b (λ e. absurd (differ x b (all_in (λ y. x < y) b xs all.0 h) e)))) (count_in b xs all.1 h)
-  where
-    one : (c u v : ℕ) → c ≡ u + v → u ≡ 0 → v ≡ 1 → c ≡ 1
-    one c u v e f g = omega (arith, e, f, g)
-
-    differ : (x b : ℕ) → x < b → x ≡ b → ⊥
-    differ x b less e = absurd (omega (arith, less, e))
-
-count_out : (b : ℕ) (xs : List ℕ) → (IsIn b xs → ⊥) → count_by (λ q. q == b) xs ≡ 0
-count_out b [] out = refl
-count_out b (x ∷ xs) out = none (count_by (λ q. q == b) (x ∷ xs)) (one_if (x == b)) (count_by (λ q. q == b) xs) (sum_by-cons (λ q. one_if (q == b)) x xs)
-    (cond-false {A = ℕ} _ 1 0 (ne_eqb x b (λ e. absurd (out (inl (sym e)))))) (count_out b xs (λ h. out (inr h)))
-  where
-    none : (c u v : ℕ) → c ≡ u + v → u ≡ 0 → v ≡ 0 → c ≡ 0
-    none c u v e f g = omega (arith, e, f, g)
 
 -- ---- the places of dinodes rise
 
@@ -154,7 +112,7 @@ from_journals p s zero all k few there = elim there [ ]
 from_journals p s (suc n) all k few (inl e) = record { j = s; low = omega (arith, few); is = e }
 from_journals p s (suc n) all k few (inr h) = from_journals p (s + 1) n all k (omega (arith, few)) h
 
-module _ (p : Plan) (fit : IsFitting p) (stamped : IsStamped p) where
+module _ (p : Plan) (fit : IsFitting p) (known : Known p) where
   dinode_use : (i : ℕ) (q : Part) → is_dinode (file_use i q) ≡ is_dinode_part q
   dinode_use zero q = refl
   dinode_use (suc j) q = refl
@@ -206,13 +164,13 @@ module _ (p : Plan) (fit : IsFitting p) (stamped : IsStamped p) where
       of_piece : (i n : ℕ) → i ≤ p.journals → n < file_blocks (file_shape p i) → k ≡ file_place p i + n → k < taken p → Piece (file_shape p i) n → IsIn k (dinode_places p)
       of_piece i n ok inside s low (is_top z) = at_file i ok (s ∙ ap (λ m. file_place p i + m) z ∙ none (file_place p i))
       of_piece i n ok inside s low (is_below l x at z) = absurd (never_one (state p k) (state_used p k low ∙ cond-false _ 3 1 (ap (λ m. is_dinode (use_of p m)) s ∙ ap is_dinode (use_of_file p i n inside) ∙ dinode_use i (part (file_shape p i) n)
-          ∙ ap (λ m. is_dinode_part (part (file_shape p i) m)) z ∙ ap is_dinode_part (part_here (file_shape p i) (file_low p fit stamped i) l x at) ∙ plain_part i l x)) e)
+          ∙ ap (λ m. is_dinode_part (part (file_shape p i) m)) z ∙ ap is_dinode_part (part_here (file_shape p i) (file_low p fit known i) l x at) ∙ plain_part i l x)) e)
 
       each : Kept p k → k < taken p → IsIn k (dinode_places p)
       each (is_master s) low = inl s
       each (is_root s) low = inr (inl s)
       each (is_journals s) low = inr (inr (inr (inl s)))
-      each (is_file i n ok inside s) low = of_piece i n ok inside s low (piece (file_shape p i) (file_low p fit stamped i) n inside)
+      each (is_file i n ok inside s) low = of_piece i n ok inside s low (piece (file_shape p i) (file_low p fit known i) n inside)
 
   -- a place is that of one dinode exactly where the state says so
   one_place : (k : ℕ) → count_by (λ q. q == k) (dinode_places p) ≡ one_if (state p k == 3)

@@ -1,22 +1,19 @@
 -- Each block of a new image is whole, and its superblock reads as it was laid.
-use Rattle.std.proofs.Common.{ℕ, zero, suc, ◌≡◌, ◌+◌, ◌-◌, ◌*◌, ◌^◌, ◌<◌, ◌≤◌, ◌⊎◌, inl, inr, List, length, take, drop, replicate, Ok, None, refl, sym, ap, ◌∙◌, subst, arith, length-append}
+use Rattle.std.proofs.Common.{ℕ, zero, suc, ◌≡◌, ◌+◌, ◌-◌, ◌*◌, ◌^◌, ◌<◌, ◌≤◌, ◌⊎◌, inl, inr, List, length, drop, replicate, Ok, None, refl, sym, ap, ◌∙◌, subst, arith, length-append}
 use Rattle.std.specs.Prelude.{min}
 use Rattle.std.specs.List.{AllByRecursion}
-use Rattle.std.specs.Int.{w32}
 use Rattle.std.proofs.lemmas.Bool.{cases_lt, cases_eq, cond-true, cond-false, eq-eqb, ne_eqb, lt-ltb, le-ltb}
-use Rattle.std.proofs.lemmas.List.{length-replicate, length-take-le, length-take}
+use Rattle.std.proofs.lemmas.List.{length-replicate, length-take}
 use Rattle.std.proofs.lemmas.List.FromFn.{length-map-range_with_len}
 use Rattle.gfs2_layout.specs.Bytes.{slice, put_at}
-use Rattle.gfs2_layout.specs.Checksum.{checksum_of}
-use Rattle.gfs2_layout.specs.Fields.{HasItsWidth, with_fields}
+use Rattle.gfs2_layout.specs.Fields.{HasItsWidth}
+use Rattle.gfs2_layout.specs.Laws.{HasTextLengths}
+use Rattle.gfs2_layout.specs.declared.dinode.Dinode.{Dinode}
 use Rattle.gfs2_layout.specs.Structures.{superblock_of, superblock_read, header_fault}
-use Rattle.gfs2_layout.specs.Writing.{superblock_fields, texts_put, superblock_put, group_fields, group_put, header_fields, header_put, log_fields, log_put, zeros_from, dinode_fields, dinode_put}
+use Rattle.gfs2_layout.specs.Writing.{superblock_fields, superblock_put, group_put, header_put, log_put, dinode_put}
 use Rattle.gfs2_layout.specs.declared.group_header.GroupHeader.{GroupHeader}
 use Rattle.gfs2_layout.specs.declared.header.MetaHeader.{MetaHeader}
 use Rattle.gfs2_layout.specs.declared.log_header.LogHeader.{LogHeader}
-use Rattle.gfs2_layout.proofs.FieldsInPlace.{length-fields}
-use Rattle.gfs2_layout.proofs.InPlace.{is_width_32, length-put, length-with}
-use Rattle.gfs2_layout.proofs.ReadBack.{HasLengths, texts_with, superblock_back}
 use Rattle.image_model.specs.Headers.{HasHeader}
 use Rattle.mkgfs2_tool.specs.Groups.{super_block, last_group, headers_of, first_data, data_blocks, data_before, data_address}
 use Rattle.mkgfs2_tool.specs.Files.{height, level_start}
@@ -24,10 +21,10 @@ use Rattle.mkgfs2_tool.specs.Order.{master_place, root_place, journals_place, ta
 use Rattle.mkgfs2_tool.specs.Directories.{records, master_entries, root_entries, journals_entries}
 use Rattle.mkgfs2_tool.specs.Blocks.{group_block, data_block, zeros, shift_of, superblock, bitmap_byte, bitmap, group_header, first_header_block, further_header_block, header_block, area_length, dinode, directory, group_entries, group_list_block, journal_block, clean_header, used_block, new_block}
 use Rattle.mkgfs2_tool.specs.Making.{IsFitting}
-use Rattle.mkgfs2_tool.specs.Standing.{IsStamped}
 use Rattle.mkgfs2_tool.specs.declared.directory.Entry.{Entry}
 use Rattle.mkgfs2_tool.specs.declared.files.Part.TheVariants.{Content}
 use Rattle.mkgfs2_tool.specs.declared.plan.Plan.{Plan}
+use Rattle.mkgfs2_tool.proofs.StandingGiven.{Given, Known, length_put, zeros_are_bytes}
 use Rattle.mkgfs2_tool.proofs.StandingBytes.{answer_ok, header_from, filled}
 use Rattle.mkgfs2_tool.proofs.StandingShapes.{IsBelow, Piece, is_top, is_below, piece}
 use Rattle.mkgfs2_tool.proofs.StandingPlan.{new_at, new_header, new_room, new_super, address_at, address_low}
@@ -42,31 +39,22 @@ clear_long : (size : ℕ) → length (replicate {A = ℕ} size 0) ≡ size
 clear_long size = length-replicate {A = ℕ} size 0
 
 put_long : (n size : ℕ) (part bytes : List ℕ) → length bytes ≡ size → n + length part ≤ size → length (put_at n part bytes) ≡ size
-put_long n size part bytes long fits = length-put n part bytes (omega (arith, long, fits)) ∙ long
+put_long n size part bytes long fits = length_put n part bytes (omega (arith, long, fits)) ∙ long
 
-pub group_put_long : (size : ℕ) (g : GroupHeader) → 512 ≤ size → length (group_put g (replicate size 0)) ≡ size
-group_put_long size g large =
-    let base : List ℕ = with_fields (group_fields g) (replicate size 0) in
-    let long : length base ≡ size = length-fields (group_fields g) (replicate size 0) (omega (arith, clear_long size, large)) ∙ clear_long size in
-    length-with w32 64 (checksum_of 128 64 base) base is_width_32 (omega (arith, long, large)) ∙ long
+clear_room : (n size : ℕ) → n ≤ 272 → 512 ≤ size → n ≤ length (replicate {A = ℕ} size 0)
+clear_room n size few large = omega (arith, clear_long size, few, large)
 
-pub header_put_long : (size : ℕ) (h : MetaHeader) → 512 ≤ size → length (header_put h (replicate size 0)) ≡ size
-header_put_long size h large = length-fields (header_fields h) (replicate size 0) (omega (arith, clear_long size, large)) ∙ clear_long size
+pub group_put_long : (given : Given) (size : ℕ) (g : GroupHeader) → 512 ≤ size → length (group_put g (replicate size 0)) ≡ size
+group_put_long given size g large = given.structures.group.as_long g (replicate size 0) (clear_room 128 size (omega arith) large) tt ∙ clear_long size
 
-dinode_put_long : (p : Plan) (number place count links : ℕ) → 512 ≤ p.size → length (dinode_put (dinode p number place (directory p count links)) (zeros p)) ≡ p.size
-dinode_put_long p number place count links large = length-fields (dinode_fields (dinode p number place (directory p count links))) (replicate p.size 0) (omega (arith, clear_long p.size, large)) ∙ clear_long p.size
+pub header_put_long : (given : Given) (size : ℕ) (h : MetaHeader) → 512 ≤ size → length (header_put h (replicate size 0)) ≡ size
+header_put_long given size h large = given.structures.header.as_long h (replicate size 0) (clear_room 24 size (omega arith) large) tt ∙ clear_long size
 
-log_put_long : (size : ℕ) (h : LogHeader) → 512 ≤ size → length (log_put h (replicate size 0)) ≡ size
-log_put_long size h large =
-    let front : List ℕ = zeros_from 48 (replicate size 0) in
-    let long_front : length front ≡ size = length-append (take 48 (replicate size 0)) (replicate (length (replicate {A = ℕ} size 0) - 48) 0)
-    ∙ sum (length (take 48 (replicate {A = ℕ} size 0))) (length (replicate {A = ℕ} (length (replicate {A = ℕ} size 0) - 48) 0)) (length-take-le 48 (replicate size 0) (omega (arith, clear_long size, large))) (clear_long (length (replicate {A = ℕ} size 0) - 48) ∙ ap (λ n. n - 48) (clear_long size)) in
-    let base : List ℕ = with_fields (log_fields h) front in
-    let long : length base ≡ size = length-fields (log_fields h) front (omega (arith, long_front, large)) ∙ long_front in
-    length-with w32 44 (checksum_of 48 44 base) base is_width_32 (omega (arith, long, large)) ∙ long
-  where
-    sum : (a b : ℕ) → a ≡ 48 → b ≡ size - 48 → a + b ≡ size
-    sum a b e f = omega (arith, e, f, large)
+dinode_put_long : (given : Given) (size : ℕ) (d : Dinode) → 512 ≤ size → length (dinode_put d (replicate size 0)) ≡ size
+dinode_put_long given size d large = given.structures.dinode.as_long d (replicate size 0) (clear_room 232 size (omega arith) large) tt ∙ clear_long size
+
+log_put_long : (given : Given) (size : ℕ) (h : LogHeader) → 512 ≤ size → length (log_put h (replicate size 0)) ≡ size
+log_put_long given size h large = given.structures.log.as_long h (replicate size 0) (clear_room 48 size (omega arith) large) tt ∙ clear_long size
 
 -- ---- the superblock
 
@@ -82,15 +70,15 @@ shift_is size (inr (inl e)) = subst (λ n. 2 ^ shift_of n ≡ n) (sym e) refl
 shift_is size (inr (inr (inl e))) = subst (λ n. 2 ^ shift_of n ≡ n) (sym e) refl
 shift_is size (inr (inr (inr e))) = subst (λ n. 2 ^ shift_of n ≡ n) (sym e) refl
 
-module _ (p : Plan) (fit : IsFitting p) (stamped : IsStamped p) where
+module _ (p : Plan) (fit : IsFitting p) (known : Known p) where
   near : (k : ℕ) → k < taken p → data_address p k < 2 ^ 64
   near k low = through (data_address p k) p.count (address_low p fit k (in_all p fit k low)) fit.count
     where
       through : (a c : ℕ) → a < c → c ≤ 131072 → a < 2 ^ 64
       through a c low few = omega (arith, low, few)
 
-  lengths : HasLengths (superblock p)
-  lengths = record { lock_protocol = refl; lock_table = refl; uuid = stamped.uuid }
+  lengths : HasTextLengths (superblock p)
+  lengths = record { lock_protocol = refl; lock_table = refl; uuid = known.uuid }
 
   super_widths : AllByRecursion HasItsWidth (superblock_fields (superblock p))
   super_widths = (
@@ -106,7 +94,7 @@ module _ (p : Plan) (fit : IsFitting p) (stamped : IsStamped p) where
             (
               omega arith,
               (
-                size_low p.size (size_few p fit stamped),
+                size_low p.size (size_few p fit known),
                 (
                   shift_low p.size fit.plan.size,
                   (omega arith, (near master_place (some_taken p), (omega arith, (near root_place (two_taken p), tt)))),
@@ -122,17 +110,8 @@ module _ (p : Plan) (fit : IsFitting p) (stamped : IsStamped p) where
       size_low : (s : ℕ) → s ≤ 4096 → s < 2 ^ 32
       size_low s few = omega (arith, few)
 
-  clear_room : 272 ≤ length (zeros p)
-  clear_room = room p.size (length (zeros p)) (clear_long p.size) (large p fit stamped)
-    where
-      room : (s n : ℕ) → n ≡ s → 512 ≤ s → 272 ≤ n
-      room s n e large = omega (arith, e, large)
-
-  abbrev texts : List ℕ
-  texts = texts_put (superblock p) (zeros p)
-
   super_back : superblock_read (superblock_put (superblock p) (zeros p)) ≡ Ok (superblock p)
-  super_back = superblock_back (superblock p) (zeros p) texts (texts_with (superblock p) (zeros p) texts refl clear_room lengths) super_widths
+  super_back = known.given.structures.superblock.back (superblock p) (zeros p) (clear_room 272 p.size (omega arith) (large p fit known)) (zeros_are_bytes p.size) lengths super_widths
 
   pub record IsSuperBlock (bytes : List ℕ) : Type 0 where
     pub header : HasHeader 1 100 bytes
@@ -148,26 +127,7 @@ module _ (p : Plan) (fit : IsFitting p) (stamped : IsStamped p) where
       from e = record { header = header_from 272 1 100 (superblock_put (superblock p) (zeros p)) e.0; is = e.1 }
 
   super_long : length (superblock_put (superblock p) (zeros p)) ≡ p.size
-  super_long =
-      length-fields (superblock_fields (superblock p)) texts (room p.size (length texts) texts_long (large p fit stamped)) ∙ texts_long
-    where
-      room : (s n : ℕ) → n ≡ s → 512 ≤ s → 96 ≤ n
-      room s n e large = omega (arith, e, large)
-
-      fits : (s at n m : ℕ) → 512 ≤ s → m ≡ n → at + n ≤ 512 → at + m ≤ s
-      fits s at n m large e le = omega (arith, large, e, le)
-
-      one : List ℕ
-      one = put_at 96 (superblock p).lock_protocol (zeros p)
-
-      one_long : length (put_at 96 (superblock p).lock_protocol (zeros p)) ≡ p.size
-      one_long = put_long 96 p.size (superblock p).lock_protocol (zeros p) (clear_long p.size) (fits p.size 96 64 (length (superblock p).lock_protocol) (large p fit stamped) lengths.lock_protocol (omega arith))
-
-      two_long : length (put_at 160 (superblock p).lock_table (put_at 96 (superblock p).lock_protocol (zeros p))) ≡ p.size
-      two_long = put_long 160 p.size (superblock p).lock_table (put_at 96 (superblock p).lock_protocol (zeros p)) one_long (fits p.size 160 64 (length (superblock p).lock_table) (large p fit stamped) lengths.lock_table (omega arith))
-
-      texts_long : length texts ≡ p.size
-      texts_long = put_long 256 p.size p.uuid (put_at 160 (superblock p).lock_table (put_at 96 (superblock p).lock_protocol (zeros p))) two_long (fits p.size 256 16 (length p.uuid) (large p fit stamped) stamped.uuid (omega arith))
+  super_long = known.given.structures.superblock.as_long (superblock p) (zeros p) (clear_room 272 p.size (omega arith) (large p fit known)) lengths ∙ clear_long p.size
 
   -- ---- blocks of groups
 
@@ -176,16 +136,16 @@ module _ (p : Plan) (fit : IsFitting p) (stamped : IsStamped p) where
 
   first_long : (g : ℕ) → length (first_header_block p g) ≡ p.size
   unfolding first_header_block
-  first_long g = put_long 128 p.size (bitmap p g 0 (p.size - 128)) (group_put (group_header p g) (zeros p)) (group_put_long p.size (group_header p g) (large p fit stamped))
-      (room p.size (length (bitmap p g 0 (p.size - 128))) (bitmap_long g 0 (p.size - 128)) (large p fit stamped))
+  first_long g = put_long 128 p.size (bitmap p g 0 (p.size - 128)) (group_put (group_header p g) (zeros p)) (group_put_long known.given p.size (group_header p g) (large p fit known))
+      (room p.size (length (bitmap p g 0 (p.size - 128))) (bitmap_long g 0 (p.size - 128)) (large p fit known))
     where
       room : (s n : ℕ) → n ≡ s - 128 → 512 ≤ s → 128 + n ≤ s
       room s n e large = omega (arith, e, large)
 
   further_long : (g n : ℕ) → length (further_header_block p g n) ≡ p.size
   unfolding further_header_block
-  further_long g n = put_long 24 p.size (bitmap p g (p.size - 128 + (n - 1) * (p.size - 24)) (p.size - 24)) (header_put (record { kind = 3; format = 300; jid = 0 }) (zeros p)) (header_put_long p.size (record { kind = 3; format = 300; jid = 0 }) (large p fit stamped))
-      (room p.size (length (bitmap p g (p.size - 128 + (n - 1) * (p.size - 24)) (p.size - 24))) (bitmap_long g (p.size - 128 + (n - 1) * (p.size - 24)) (p.size - 24)) (large p fit stamped))
+  further_long g n = put_long 24 p.size (bitmap p g (p.size - 128 + (n - 1) * (p.size - 24)) (p.size - 24)) (header_put (record { kind = 3; format = 300; jid = 0 }) (zeros p)) (header_put_long known.given p.size (record { kind = 3; format = 300; jid = 0 }) (large p fit known))
+      (room p.size (length (bitmap p g (p.size - 128 + (n - 1) * (p.size - 24)) (p.size - 24))) (bitmap_long g (p.size - 128 + (n - 1) * (p.size - 24)) (p.size - 24)) (large p fit known))
     where
       room : (s n : ℕ) → n ≡ s - 24 → 512 ≤ s → 24 + n ≤ s
       room s n e large = omega (arith, e, large)
@@ -199,8 +159,8 @@ module _ (p : Plan) (fit : IsFitting p) (stamped : IsStamped p) where
   -- ---- blocks that are taken
 
   dir_long : (place number count links : ℕ) (es : List Entry) → IsDirectoryAt p place number count links es → length (new_block p (data_address p place)) ≡ p.size
-  dir_long place number count links es is = ap length is.block ∙ put_long 232 p.size (records (area_length p) es) (dinode_put (dinode p number place (directory p count links)) (zeros p)) (dinode_put_long p number place count links (large p fit stamped))
-      (room p.size (length (records (area_length p) es)) (records_are (area_length p) es is.entries is.fit (short p.size (size_few p fit stamped))).long (large p fit stamped))
+  dir_long place number count links es is = ap length is.block ∙ put_long 232 p.size (records (area_length p) es) (dinode_put (dinode p number place (directory p count links)) (zeros p)) (dinode_put_long known.given p.size (dinode p number place (directory p count links)) (large p fit known))
+      (room p.size (length (records (area_length p) es)) (records_are known.given (area_length p) es is.entries is.fit (short p.size (size_few p fit known))).long (large p fit known))
     where
       room : (s n : ℕ) → n ≡ s - 232 → 512 ≤ s → 232 + n ≤ s
       room s n e large = omega (arith, e, large)
@@ -221,13 +181,13 @@ module _ (p : Plan) (fit : IsFitting p) (stamped : IsStamped p) where
       least : (s n m : ℕ) → m ≡ min s n → m ≤ s
       least s n m e = omega (arith, e)
   content_long (suc j) x = elim (cases_eq x 0) [
-    | inl e ↦ ap length (cond-true _ (log_put (clean_header j) (zeros p)) (zeros p) (eq-eqb x 0 e)) ∙ log_put_long p.size (clean_header j) (large p fit stamped)
+    | inl e ↦ ap length (cond-true _ (log_put (clean_header j) (zeros p)) (zeros p) (eq-eqb x 0 e)) ∙ log_put_long known.given p.size (clean_header j) (large p fit known)
     | inr d ↦ ap length (cond-false _ (log_put (clean_header j) (zeros p)) (zeros p) (ne_eqb x 0 d)) ∙ clear_long p.size
   ]
 
   below_long : (i l x : ℕ) → i ≤ p.journals → IsBelow (file_shape p i) l x → length (new_block p (spot p i (level_start (file_shape p i) l + x))) ≡ p.size
   below_long i l x ok at = elim (cases_lt l (height (file_shape p i))) [
-    | inl less ↦ (inner_block p fit stamped i l x ok at less).long
+    | inl less ↦ (inner_block p fit known i l x ok at less).long
     | inr ge ↦ last (same l (height (file_shape p i)) at.low ge)
   ]
     where
@@ -237,20 +197,20 @@ module _ (p : Plan) (fit : IsFitting p) (stamped : IsStamped p) where
       last : l ≡ height (file_shape p i) → length (new_block p (spot p i (level_start (file_shape p i) l + x))) ≡ p.size
       last e =
           let at' : IsBelow (file_shape p i) (height (file_shape p i)) x = subst (λ n. IsBelow (file_shape p i) n x) e at in
-          ap (λ n. length (new_block p (spot p i (level_start (file_shape p i) n + x)))) e ∙ ap length (content_at p fit stamped i x ok at'.some at'.inside) ∙ content_long i x
+          ap (λ n. length (new_block p (spot p i (level_start (file_shape p i) n + x)))) e ∙ ap length (content_at p fit known i x ok at'.some at'.inside) ∙ content_long i x
 
   taken_long : (k : ℕ) → k < taken p → length (new_block p (data_address p k)) ≡ p.size
   taken_long k low = each (kept p k low)
     where
       of_piece : (i n : ℕ) → i ≤ p.journals → Piece (file_shape p i) n → length (new_block p (spot p i n)) ≡ p.size
-      of_piece i n ok (is_top e) = ap (λ m. length (new_block p (spot p i m))) e ∙ (file_dinode_is p fit stamped i ok).long
+      of_piece i n ok (is_top e) = ap (λ m. length (new_block p (spot p i m))) e ∙ (file_dinode_is p fit known i ok).long
       of_piece i n ok (is_below l x at e) = ap (λ m. length (new_block p (spot p i m))) e ∙ below_long i l x ok at
 
       each : Kept p k → length (new_block p (data_address p k)) ≡ p.size
-      each (is_master e) = ap (λ m. length (new_block p (data_address p m))) e ∙ dir_long master_place 1 4 3 (master_entries p) (master_at p fit stamped)
-      each (is_root e) = ap (λ m. length (new_block p (data_address p m))) e ∙ dir_long root_place 2 2 2 (root_entries p) (root_at p fit stamped)
-      each (is_journals e) = ap (λ m. length (new_block p (data_address p m))) e ∙ dir_long (journals_place p) 4 (2 + p.journals) 2 (journals_entries p) (journals_at p fit stamped)
-      each (is_file i n ok inside e) = ap (λ m. length (new_block p (data_address p m))) e ∙ of_piece i n ok (piece (file_shape p i) (file_low p fit stamped i) n inside)
+      each (is_master e) = ap (λ m. length (new_block p (data_address p m))) e ∙ dir_long master_place 1 4 3 (master_entries p) (master_at p fit known)
+      each (is_root e) = ap (λ m. length (new_block p (data_address p m))) e ∙ dir_long root_place 2 2 2 (root_entries p) (root_at p fit known)
+      each (is_journals e) = ap (λ m. length (new_block p (data_address p m))) e ∙ dir_long (journals_place p) 4 (2 + p.journals) 2 (journals_entries p) (journals_at p fit known)
+      each (is_file i n ok inside e) = ap (λ m. length (new_block p (data_address p m))) e ∙ of_piece i n ok (piece (file_shape p i) (file_low p fit known i) n inside)
 
   room_long : (g r : ℕ) → g ≤ last_group p → r < data_blocks p g → length (new_block p (first_data p g + r)) ≡ p.size
   unfolding data_block

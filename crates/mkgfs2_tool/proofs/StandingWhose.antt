@@ -2,17 +2,28 @@
 use Rattle.std.proofs.Common.{ℕ, ◌≡◌, ◌+◌, ◌≤◌, ◌⊎◌, inl, inr, List, codes, sym, ap, ◌∙◌, subst, arith}
 use Rattle.std.proofs.lemmas.Bool.{cases_eq, cond-true, cond-false, eq-eqb, ne_eqb}
 use Rattle.image_model.specs.Owners.{Root, Master, Named, Below, Chained, IsUsed}
-use Rattle.image_model.proofs.Unique.{used_or_not}
+use Rattle.image_model.specs.Owners.{Owner, Super, InGroup, Free, Nobody}
 use Rattle.mkgfs2_tool.specs.Groups.{data_address}
 use Rattle.mkgfs2_tool.specs.Files.{height, level_start}
 use Rattle.mkgfs2_tool.specs.Order.{master_place, root_place, journals_place}
 use Rattle.mkgfs2_tool.specs.Making.{IsFitting}
-use Rattle.mkgfs2_tool.specs.Standing.{IsStamped}
 use Rattle.mkgfs2_tool.specs.declared.plan.Plan.{Plan}
+use Rattle.mkgfs2_tool.proofs.StandingGiven.{Known}
 use Rattle.mkgfs2_tool.proofs.StandingPlan.{apart_addresses}
 use Rattle.mkgfs2_tool.proofs.StandingShapes.{IsBelow, part_below, part_here, inside_file, Piece, is_top, is_below, piece}
 use Rattle.mkgfs2_tool.proofs.StandingOwners.{file_place, file_shape, file_owner, spot, named, below_owner, owner, Kept, is_master, is_root, is_journals, is_file, kept, owner_file, owner_master, owner_root, owner_journals, IsTaken, used_taken, file_apart, in_all, file_taken, file_some}
 use Rattle.mkgfs2_tool.proofs.StandingFiles.{file_low}
+
+pub used_or_not : (o : Owner) → IsUsed o ⊎ (IsUsed o → ⊥)
+used_or_not Super = inr (λ u. u)
+used_or_not (InGroup g) = inr (λ u. u)
+used_or_not (Free g) = inr (λ u. u)
+used_or_not Nobody = inr (λ u. u)
+used_or_not Root = inl tt
+used_or_not Master = inl tt
+used_or_not (Named a name) = inl tt
+used_or_not (Below a b k level first) = inl tt
+used_or_not (Chained a hash place) = inl tt
 
 pub data Whose (p : Plan) (b : ℕ) : Type 0 where
   whose_master : b ≡ data_address p master_place → owner p b ≡ Master → Whose p b
@@ -22,11 +33,11 @@ pub data Whose (p : Plan) (b : ℕ) : Type 0 where
   whose_below : (i l x : ℕ) → i ≤ p.journals → IsBelow (file_shape p i) l x → b ≡ spot p i (level_start (file_shape p i) l + x) → owner p b ≡ below_owner p i l x → Whose p b
   whose_none : (IsUsed (owner p b) → ⊥) → Whose p b
 
-module _ (p : Plan) (fit : IsFitting p) (stamped : IsStamped p) where
+module _ (p : Plan) (fit : IsFitting p) (known : Known p) where
   pub owner_below : (i l x : ℕ) → i ≤ p.journals → IsBelow (file_shape p i) l x → owner p (spot p i (level_start (file_shape p i) l + x)) ≡ below_owner p i l x
   owner_below i l x ok at =
-      owner_file p fit i (level_start (file_shape p i) l + x) ok (inside_file (file_shape p i) (file_low p fit stamped i) l x at)
-      ∙ ap (file_owner p i) (part_here (file_shape p i) (file_low p fit stamped i) l x at) ∙ each (cases_eq l (height (file_shape p i)))
+      owner_file p fit i (level_start (file_shape p i) l + x) ok (inside_file (file_shape p i) (file_low p fit known i) l x at)
+      ∙ ap (file_owner p i) (part_here (file_shape p i) (file_low p fit known i) l x at) ∙ each (cases_eq l (height (file_shape p i)))
     where
       each : (l ≡ height (file_shape p i)) ⊎ (l ≡ height (file_shape p i) → ⊥) → file_owner p i (part_below (file_shape p i) l x) ≡ below_owner p i l x
       each (inl e) = ap (file_owner p i) (cond-true _ _ _ (eq-eqb l (height (file_shape p i)) e)) ∙ ap (λ n. below_owner p i n x) (sym e)
@@ -51,7 +62,7 @@ module _ (p : Plan) (fit : IsFitting p) (stamped : IsStamped p) where
       of_kept k e (is_master is) = let at : b ≡ data_address p master_place = e ∙ ap (data_address p) is in whose_master at (ap (owner p) at ∙ owner_master p fit)
       of_kept k e (is_root is) = let at : b ≡ data_address p root_place = e ∙ ap (data_address p) is in whose_root at (ap (owner p) at ∙ owner_root p fit)
       of_kept k e (is_journals is) = let at : b ≡ data_address p (journals_place p) = e ∙ ap (data_address p) is in whose_journals at (ap (owner p) at ∙ owner_journals p fit)
-      of_kept k e (is_file i n ok inside is) = of_piece i n ok (e ∙ ap (data_address p) is) (piece (file_shape p i) (file_low p fit stamped i) n inside)
+      of_kept k e (is_file i n ok inside is) = of_piece i n ok (e ∙ ap (data_address p) is) (piece (file_shape p i) (file_low p fit known i) n inside)
 
       of_taken : IsTaken p fit b → Whose p b
       of_taken at = of_kept at.place at.is (kept p at.place at.low)

@@ -10,8 +10,9 @@ use Rattle.mkgfs2_tool.specs.Groups.{super_block, last_group, group_address, gro
 use Rattle.mkgfs2_tool.specs.Order.{taken}
 use Rattle.mkgfs2_tool.specs.Blocks.{group_entry}
 use Rattle.mkgfs2_tool.specs.Making.{IsFitting}
-use Rattle.mkgfs2_tool.specs.Standing.{IsStamped, new_layout}
+use Rattle.mkgfs2_tool.specs.Standing.{new_layout}
 use Rattle.mkgfs2_tool.specs.declared.plan.Plan.{Plan}
+use Rattle.mkgfs2_tool.proofs.StandingGiven.{Known}
 use Rattle.mkgfs2_tool.proofs.StandingGround.{IsRoom, IsOver, block_over, group_ends, starts_rise}
 use Rattle.mkgfs2_tool.proofs.StandingShapes.{Piece, is_top, is_below, piece}
 use Rattle.mkgfs2_tool.proofs.StandingPlan.{ground, ground_is, address_at, room_of}
@@ -39,7 +40,7 @@ near_in b h n low some = omega (arith, low, some)
 fours : (n : ℕ) → n / 4 * 4 / 4 * 4 ≡ n / 4 * 4
 fours n = omega arith
 
-module _ (p : Plan) (fit : IsFitting p) (stamped : IsStamped p) where
+module _ (p : Plan) (fit : IsFitting p) (known : Known p) where
   under : (g n : ℕ) → g < n → g ≤ n - 1
   under g n low = omega (arith, low)
 
@@ -119,14 +120,14 @@ module _ (p : Plan) (fit : IsFitting p) (stamped : IsStamped p) where
   taken_used k low = each (kept p k low)
     where
       of_piece : (i n : ℕ) → i ≤ p.journals → Piece (file_shape p i) n → IsUsed (owner p (spot p i n))
-      of_piece i n ok (is_top e) = subst IsUsed (sym (ap (λ m. owner p (spot p i m)) e ∙ owner_top p fit stamped i ok)) tt
-      of_piece i n ok (is_below l x at e) = subst IsUsed (sym (ap (λ m. owner p (spot p i m)) e ∙ owner_below p fit stamped i l x ok at)) tt
+      of_piece i n ok (is_top e) = subst IsUsed (sym (ap (λ m. owner p (spot p i m)) e ∙ owner_top p fit known i ok)) tt
+      of_piece i n ok (is_below l x at e) = subst IsUsed (sym (ap (λ m. owner p (spot p i m)) e ∙ owner_below p fit known i l x ok at)) tt
 
       each : Kept p k → IsUsed (owner p (data_address p k))
       each (is_master e) = subst IsUsed (sym (ap (λ n. owner p (data_address p n)) e ∙ owner_master p fit)) tt
       each (is_root e) = subst IsUsed (sym (ap (λ n. owner p (data_address p n)) e ∙ owner_root p fit)) tt
       each (is_journals e) = subst IsUsed (sym (ap (λ n. owner p (data_address p n)) e ∙ owner_journals p fit)) tt
-      each (is_file i n ok inside e) = subst (λ m. IsUsed (owner p (data_address p m))) (sym e) (of_piece i n ok (piece (file_shape p i) (file_low p fit stamped i) n inside))
+      each (is_file i n ok inside e) = subst (λ m. IsUsed (owner p (data_address p m))) (sym e) (of_piece i n ok (piece (file_shape p i) (file_low p fit known i) n inside))
 
   of_room : (g r : ℕ) → g ≤ last_group p → r < data_blocks p g → (owner p (first_data p g + r) ≡ Free (group_address p g)) ⊎ IsUsed (owner p (first_data p g + r))
   of_room g r ok inside = elim (cases_lt (data_before p g + r) (taken p)) [
