@@ -11,7 +11,9 @@ use Rattle.shared_disk.specs.Disk.{DiskState, Operation, Write, Barrier, Gains, 
 use Rattle.mkgfs2_tool.specs.Blocks.{new_block}
 use Rattle.mkgfs2_tool.specs.Outcomes.{writes_in, is_write, change_at, changes, Reads, IsMadeUpTo, IsMade, IsBegun}
 use Rattle.mkgfs2_tool.specs.declared.plan.Plan.{Plan}
-use Rattle.mkgfs2_tool.specs.Making.{IsFaultOf}
+use Rattle.image_model.specs.Image.{image_of}
+use Rattle.mkgfs2_tool.specs.Standing.{NewImagesStand, IsStamped}
+use Rattle.mkgfs2_tool.specs.Making.{IsFaultOf, IsFitting}
 use Rattle.mkgfs2_tool.specs.declared.options.MakeFault.{MakeFault}
 use Rattle.mkgfs2_tool.specs.declared.options.MakeFault.TheVariants.{TooSmall, DeviceFault, BadOption, NoMemory}
 use Rattle.mkgfs2_tool.proofs.FlightLaws.{AreBelow, with_one, with_below, below_more}
@@ -197,11 +199,17 @@ begun p old s list list_now b made most = record {
     by_place k true is reads = inr (reads ∙ rw is refl)
     by_place k false is reads = inl (reads ∙ rw is refl)
 
-pub ends : (p : Plan) (old s : DiskState) (list list_now : Option (List Operation)) → IsMadeUpTo p old s list list_now old.count → s.in_flight 0 ≡ [] → IsMade p old s list list_now
-ends p old s list list_now made idle = record {
+pub ends : (p : Plan) (old s : DiskState) (list list_now : Option (List Operation)) → NewImagesStand → IsFitting p → IsStamped p → p.size ≡ old.size → p.count ≡ old.count
+    → IsMadeUpTo p old s list list_now old.count → s.in_flight 0 ≡ [] → IsMade p old s list list_now
+ends p old s list list_now law fitting stamped size_is count_is made idle = record {
   rest = made.rest;
   settled = idle;
   blocks = λ tells b inside. at_home b ∙ made.reads tells b inside ∙ below b inside;
+  stands = λ tells. law p (image_of s) fitting stamped (record {
+    size = made.rest.size ∙ sym size_is;
+    count = made.rest.count ∙ sym count_is;
+    blocks = λ b inside. let within : b < old.count = omega (arith, inside, count_is) in at_home b ∙ made.reads tells b within ∙ below b within;
+  });
   written = made.written;
 }
   where

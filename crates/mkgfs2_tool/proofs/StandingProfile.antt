@@ -13,7 +13,7 @@ use Rattle.mkgfs2_tool.specs.Groups.{super_block, group_address, group_blocks, d
 use Rattle.mkgfs2_tool.specs.Order.{master_place, journals_place, journal_place}
 use Rattle.mkgfs2_tool.specs.Blocks.{group_entry, clean_header}
 use Rattle.mkgfs2_tool.specs.Making.{IsFitting}
-use Rattle.mkgfs2_tool.specs.Standing.{IsStamped, IsMade, new_layout, HasCleanHeads, StandsEmpty}
+use Rattle.mkgfs2_tool.specs.Standing.{IsStamped, IsNewImage, new_layout, HasCleanHeads, StandsEmpty}
 use Rattle.mkgfs2_tool.specs.declared.plan.Plan.{Plan}
 use Rattle.mkgfs2_tool.proofs.StandingGiven.{Given, Known}
 use Rattle.mkgfs2_tool.proofs.StandingGround.{group_ends}
@@ -136,7 +136,7 @@ module _ (p : Plan) (fit : IsFitting p) (known : Known p) (at : Blocks) (made : 
   }
 
 -- any image that is made of a plan
-pub new_stands : Given → (p : Plan) (im : Image) → IsFitting p → IsStamped p → IsMade p im → StandsEmpty p im
+pub new_stands : Given → (p : Plan) (im : Image) → IsFitting p → IsStamped p → IsNewImage p im → StandsEmpty p im
 new_stands given p im fit stamped is =
     let known : Known p = record { uuid = stamped.uuid; time = stamped.time; given = given } in
     subst (StandsEmpty p) (λ t. record { size = sym is.size t; count = sym is.count t; at = im.at })

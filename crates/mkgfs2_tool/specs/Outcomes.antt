@@ -3,6 +3,8 @@ use Rattle.std.specs.Prelude.{ℕ, ◌≡◌, ◌≢◌, ◌⊎◌, ◌<◌, ◌
 use Rattle.std.specs.List.{range_with_len, AllByRecursion}
 use Rattle.std.specs.Str.{bytes_eq}
 use Rattle.shared_disk.specs.Disk.{DiskState, Operation, Write, Barrier, Fence, Gains, read_gives}
+use Rattle.image_model.specs.Image.{image_of}
+use Rattle.mkgfs2_tool.specs.Standing.{StandsEmpty}
 use Rattle.mkgfs2_tool.specs.Blocks.{new_block, IsGroupList}
 use Rattle.mkgfs2_tool.specs.declared.making.Room.{Room}
 use Rattle.mkgfs2_tool.specs.Making.{bad_option, plan_of, IsFaultOf}
@@ -55,11 +57,12 @@ pub record IsMadeUpTo (p : Plan) (old now : DiskState) (list list_now : Option (
   pub reads : IsTrue old.tells → Reads p old now b
   pub written : HasWritten list list_now (λ ops. IsTrue old.tells → ops ≡ changes p old.block_at b)
 
--- the image is made: every block is as it is to be, and only those were written that were not
+-- the image is made: every block is as it is to be, so that it stands for the empty directory, and only those were written that were not
 pub record IsMade (p : Plan) (old now : DiskState) (list list_now : Option (List Operation)) : Type 0 where
   pub rest : OnlyWrites old now
   pub settled : now.in_flight 0 ≡ []
   pub blocks : IsTrue old.tells → (b : ℕ) → b < old.count → now.block_at b ≡ new_block p b
+  pub stands : IsTrue old.tells → StandsEmpty p (image_of now)
   pub written : HasWritten list list_now (λ ops. IsTrue old.tells → ops ≡ changes p old.block_at old.count)
 
 -- a part of it is made: each block reads as it was or as it is to be

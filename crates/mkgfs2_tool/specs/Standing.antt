@@ -14,7 +14,7 @@ use Rattle.mkgfs2_tool.specs.Making.{IsFitting}
 use Rattle.mkgfs2_tool.specs.declared.plan.Plan.{Plan}
 
 -- an image that was made of this plan: its blocks below the count are those of a new image
-pub record IsMade (p : Plan) (im : Image) : Type 0 where
+pub record IsNewImage (p : Plan) (im : Image) : Type 0 where
   pub size : im.size ≡ p.size
   pub count : im.count ≡ p.count
   pub blocks : (b : ℕ) → b < p.count → im.at b ≡ new_block p b
@@ -48,4 +48,4 @@ pub record StandsEmpty (p : Plan) (im : Image) : Type 0 where
 
 -- every image that is made of a fitting plan stands for the empty directory
 abbrev pub NewImagesStand : Type 0
-NewImagesStand = (p : Plan) (im : Image) → IsFitting p → IsStamped p → IsMade p im → StandsEmpty p im
+NewImagesStand = (p : Plan) (im : Image) → IsFitting p → IsStamped p → IsNewImage p im → StandsEmpty p im

@@ -8,6 +8,7 @@ ghost use Rattle.mkgfs2_tool.specs.Outcomes.{IsMadeUpTo, IsBegun, IsMade, PlanEn
 ghost use Rattle.mkgfs2_tool.specs.declared.plan.Plan.{Plan};
 
 use crate::device::{put_in_flight, settle};
+use crate::laws::new_images_stand;
 use crate::options::{MakeFault, MakeOptions, bad_option};
 use crate::plan::Plan;
 use shared_disk::{SharedDisk, read_block};
@@ -144,6 +145,9 @@ fn make_blocks<D: SharedDisk>(
     ensures cause { IfErr result (IsFaultOf (D.state disk.old).count (D.faults disk.old) (D.faults disk.new)) }
     ensures later { (j : ℕ) → D.faults disk.old j ≤ D.faults disk.new j }
 {
+    // What is made stands for the empty directory, since its plan fits, and its time has 64 bits.
+    new_images_stand();
+    plan.time();
     let count = disk.blocks();
     let mut in_flight = 0;
     for block in 0..count {

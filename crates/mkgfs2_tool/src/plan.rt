@@ -52,6 +52,7 @@ fn header_blocks(size: u64, blocks: u64) -> u64
 impl Plan {
     ghost use Rattle.mkgfs2_tool.specs.Groups.{super_block, share, last_group, group_address, group_blocks, headers_of, first_data, data_blocks, data_before, all_data, group_of_data, data_address};
     ghost use Rattle.mkgfs2_tool.specs.Blocks.{zeros};
+    ghost use Rattle.mkgfs2_tool.specs.Standing.{IsStamped};
 
     /// What a device of so many blocks of this size is to become.
     pub(crate) fn of(size: u32, count: u64, options: &MakeOptions) -> Plan
@@ -165,6 +166,14 @@ impl Plan {
     {
         let group = (k / self.data_blocks(0)).min(self.groups - 1);
         self.first_data(group) + k.saturating_sub(self.data_before(group))
+    }
+
+    /// The time of the inodes. It has 64 bits, which the law of new images asks of a plan.
+    pub(crate) fn time(&self) -> u64
+        ensures value { result ≡ self.now.time }
+        ensures stamped { IsStamped self.now }
+    {
+        self.time
     }
 
     /// Makes a block all zeros.

@@ -44,7 +44,7 @@ returns-in_ok-settle-clause-made g c =
     let all : c.loop-block.block ≡ (g.D.SharedDisk.state c.args.disk.now).count = grind arith in
     let made = settled_so c.args.plan.now (g.D.SharedDisk.state c.args.disk.now) _ _ (g.D.SharedDisk.list c.args.disk.now) _ _ c.loop-block.block
     c.in_ok-settle.ensures.ok.0 c.in_ok-settle.ensures.ok.1 c.loop-block.invariant.made in
-    ends c.args.plan.now (g.D.SharedDisk.state c.args.disk.now) _ (g.D.SharedDisk.list c.args.disk.now) _
+    ends c.args.plan.now (g.D.SharedDisk.state c.args.disk.now) _ (g.D.SharedDisk.list c.args.disk.now) _ c.new_images_stand.ensures c.requires.plan c.time.ensures.stamped c.requires.size c.requires.blocks
     (subst (IsMadeUpTo c.args.plan.now (g.D.SharedDisk.state c.args.disk.now) (g.D.SharedDisk.state c.settle.new.disk) (g.D.SharedDisk.list c.args.disk.now) (g.D.SharedDisk.list c.settle.new.disk)) all made)
     (ap (λ (s : DiskState). s.in_flight 0) c.in_ok-settle.ensures.ok.0)
 
@@ -52,6 +52,6 @@ pub returns-else-in_flight-gt0-clause-made : goal.returns-else-in_flight-gt0-cla
 returns-else-in_flight-gt0-clause-made g c =
     let all : c.loop-block.block ≡ (g.D.SharedDisk.state c.args.disk.now).count = grind arith in
     let none : length ((g.D.SharedDisk.state c.loop-block.disk).in_flight 0) ≡ 0 = grind arith in
-    ends c.args.plan.now (g.D.SharedDisk.state c.args.disk.now) _ (g.D.SharedDisk.list c.args.disk.now) _
+    ends c.args.plan.now (g.D.SharedDisk.state c.args.disk.now) _ (g.D.SharedDisk.list c.args.disk.now) _ c.new_images_stand.ensures c.requires.plan c.time.ensures.stamped c.requires.size c.requires.blocks
     (subst (IsMadeUpTo c.args.plan.now (g.D.SharedDisk.state c.args.disk.now) (g.D.SharedDisk.state c.loop-block.disk) (g.D.SharedDisk.list c.args.disk.now) (g.D.SharedDisk.list c.loop-block.disk)) all c.loop-block.invariant.made)
     (empty ((g.D.SharedDisk.state c.loop-block.disk).in_flight 0) none)
