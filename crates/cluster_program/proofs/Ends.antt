@@ -4,6 +4,7 @@ use Rattle.std.specs.Prelude.{Some, None, Result, Ok, Err, if◌then◌else◌}
 use Rattle.command_words.specs.Commands.{words_read}
 use Rattle.command_words.specs.declared.command.Command.{Command}
 use Rattle.command_words.specs.declared.command.Usage.{Usage}
+use Rattle.command_words.specs.declared.command.MakeWords.{MakeWords}
 use Rattle.cluster_program.specs.declared.status.Part.TheVariants as part
 use Rattle.trace_text.specs.declared.item.TraceItem.{TraceItem}
 use Rattle.script_lang.specs.Script.{ScriptValue}
@@ -12,7 +13,7 @@ use Rattle.cluster_program.specs.declared.status.Status.TheVariants as status
 use Rattle.cluster_program.specs.declared.status.Which.{Which}
 use Rattle.cluster_program.specs.declared.status.Which.TheVariants as which
 use Rattle.cluster_program.specs.World.{Inputs, Outputs}
-use Rattle.cluster_program.specs.Course.{Course, RefusesWords, NoScript, RunsScript, LacksScript, SourceFailed, Refused, RefusedEarly, NotBuiltYet, RunEnds, IsDone, MountFailed, CallFailed, MountRefused, CallRefused, NoRoom, words_refusal, refusal_of, is_built}
+use Rattle.cluster_program.specs.Course.{Course, RefusesWords, MakesImage, NoScript, Makes, IsTooLarge, IsTooSmall, LacksMemory, HasFailed, HasMade, RunsScript, LacksScript, SourceFailed, Refused, RefusedEarly, NotBuiltYet, RunEnds, IsDone, MountFailed, CallFailed, MountRefused, CallRefused, NoRoom, words_refusal, refusal_of, is_built}
 use Rattle.cluster_program.specs.Report.{Becomes, Stays, WithoutMemory, Fails, Reports}
 use Rattle.cluster_program.specs.Command.{FaultHasCause}
 
@@ -26,9 +27,9 @@ module _ (given left : Inputs) (sinks sinks_now : Outputs) where
   words_fault : (block_size : ℕ) (words : List (List ℕ)) (own : Status) → words_refusal block_size words ≡ Some own → FaultHasCause given left sinks sinks_now own
   words_fault block_size words own refused = by_read (words_read block_size words) own refused
     where
-      by_read : (read : Result Command Usage) (own : Status) → refusal_of read ≡ Some own → FaultHasCause given left sinks sinks_now own
+      by_read : (read : Result Command Usage) (own : Status) → refusal_of block_size read ≡ Some own → FaultHasCause given left sinks sinks_now own
       by_read (Err usage) own is = let same : status.Usage usage.word ≡ own = cc in subst (FaultHasCause given left sinks sinks_now) same tt
-      by_read (Ok c) own is = by_test (is_built c) own is
+      by_read (Ok c) own is = by_test (is_built block_size c) own is
         where
           by_test : (b : Bool) (own : Status) → (if b then None else Some (status.NotBuilt part.Words)) ≡ Some own → FaultHasCause given left sinks sinks_now own
           by_test true own is = cc
@@ -42,17 +43,25 @@ module _ (given left : Inputs) (sinks sinks_now : Outputs) where
   script_fault own NoRoom = tt
 
   run_fault : (s : ScriptValue) (items : List TraceItem) (own : Status) → RunEnds given.disk given.disk_faults left.disk_faults s items own → FaultHasCause given left sinks sinks_now own
-  run_fault s items own (IsDone all) = tt
-  run_fault s items own (MountFailed block x y up reads) = up
+  run_fault s items own (IsDone all whole) = tt
+  run_fault s items own (MountFailed block x y none up reads) = up
   run_fault s items own (CallFailed root block x y up begins reads) = up
-  run_fault s items own (MountRefused block other refuses) = tt
+  run_fault s items own (MountRefused block none other refuses) = tt
   run_fault s items own (CallRefused root block other begins refuses) = tt
   run_fault s items own NoRoom = tt
 
+  make_fault : (make : MakeWords) (own : Status) → Makes make given left own → FaultHasCause given left sinks sinks_now own
+  make_fault make own (IsTooLarge many same) = tt
+  make_fault make own (IsTooSmall needed few lacks least same) = tt
+  make_fault make own (LacksMemory few room same) = tt
+  make_fault make own (HasFailed block x y few room up within begun same) = up
+  make_fault make own (HasMade few room made same) = tt
+
   course_fault : (words : List (List ℕ)) (s : ScriptValue) (items : List TraceItem) (own : Status) → Course words given left s items own → FaultHasCause given left sinks sinks_now own
   course_fault words s items own (RefusesWords told refused untouched) = words_fault given.disk.size words own refused
-  course_fault words s items own (NoScript told fine lacks untouched) = script_fault own lacks
-  course_fault words s items own (RunsScript text s' items' own' fine read script built runs) = run_fault s items own runs.ends
+  course_fault words s items own (MakesImage make own' asks makes) = make_fault make own makes
+  course_fault words s items own (NoScript told asks lacks untouched same) = script_fault own lacks
+  course_fault words s items own (RunsScript text s' items' own' asks read script built untouched runs) = run_fault s items own runs.ends
 
   trace_fault : (own told : Status) → Becomes which.Trace sinks.trace_faults sinks_now.trace_faults own told → FaultHasCause given left sinks sinks_now own → FaultHasCause given left sinks sinks_now told
   trace_fault own told (Stays same) cause = subst (FaultHasCause given left sinks sinks_now) (sym same) cause

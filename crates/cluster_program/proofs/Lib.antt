@@ -6,5 +6,6 @@ pub mod Scripts
 pub mod Courses
 pub mod ClientLines
 pub mod Faults
+pub mod Images
 pub mod Ends
 pub mod Complete

@@ -1,13 +1,17 @@
 -- How a run of a script ends.
-use Rattle.std.proofs.Common.{◌≡◌, ℕ, ◌≤◌, List, [], IsTrue, Some, sym, ◌∙◌, subst, arith}
+use Rattle.std.proofs.Common.{◌≡◌, ℕ, ◌≤◌, List, [], length, IsTrue, Some, sym, ◌∙◌, subst, arith}
 use Rattle.fault_counts.specs.Causes.{WentUp}
 use Rattle.file_tree.specs.Tree.{Tree}
-use Rattle.cluster_history.specs.History.{tree_of}
+use Rattle.file_tree.specs.declared.call.Call.{Call}
+use Rattle.cluster_history.specs.History.{Legal, NoneLost, tree_of}
 use Rattle.trace_text.specs.declared.item.TraceItem.{TraceItem}
 use Rattle.script_lang.specs.Script.{ScriptValue}
+use Rattle.script_lang.specs.declared.script.Client.{Client}
+use Rattle.script_lang.specs.declared.script.Line.{Line}
+use Rattle.script_lang.specs.declared.script.Line.TheVariants as line
 use Rattle.run_rules.specs.Follows.{history_of}
-use Rattle.run_rules.specs.History.{HoldsHistory, NoneStopped}
-use Rattle.run_rules.proofs.Nothing.{nothing_follows}
+use Rattle.run_rules.specs.History.{HoldsHistory, NoneStopped, AllAnswered}
+use Rattle.run_rules.proofs.Nothing.{nothing_follows, nothing_is_legal}
 use Rattle.shared_disk.specs.Disk.{DiskState}
 use Rattle.single_node.specs.Flat.{IsFlat, HasFlatRoot, LacksFlatRoot, IsStart}
 use Rattle.single_node.specs.Ends.{EndHasCause, IfNotRead, IfDiskFailed}
@@ -15,8 +19,9 @@ use Rattle.single_node.specs.declared.end.RunEnd.{RunEnd}
 use Rattle.single_node.specs.declared.end.RunEnd.TheVariants as end
 use Rattle.cluster_program.specs.declared.status.Status.{Status}
 use Rattle.cluster_program.specs.declared.status.Status.TheVariants as status
-use Rattle.cluster_program.specs.Course.{Runs, RunEnds, MountFailed, MountRefused, CallFailed, CallRefused, NoRoom, AtCall}
-use Rattle.single_node.specs.Blocks.{MountReads, MountRefuses, CallReads, CallRefuses}
+use Rattle.cluster_program.specs.Course.{Runs, RunEnds, IsDone, MountFailed, MountRefused, CallFailed, CallRefused, NoRoom, AtCall}
+use Rattle.single_node.specs.Blocks.{MountReads, MountRefuses, CallReads, CallRefuses, RefusesWhatIsTold, IsCallThat}
+use Rattle.single_node.specs.Run.{IsRunUpTo, IsWholeRun, IsRunOf, NotJoined, Taken, Unmounted}
 use Rattle.cluster_program.specs.Early.{status_of_end}
 
 -- a count went up within a longer time too
@@ -24,54 +29,98 @@ pub longer : (first before now x y : ℕ) → first ≤ before → WentUp before
 longer first before now x y earlier up = record { from = omega (arith, earlier, up.from); rose = up.rose; to = up.to }
 
 -- an end in mounting
-pub mount_end : (disk : DiskState) (first now : ℕ → ℕ) (s : ScriptValue) (items : List TraceItem) (e : RunEnd) → EndHasCause 0 first now e
+pub mount_end : (disk : DiskState) (first now : ℕ → ℕ) (s : ScriptValue) (items : List TraceItem) (e : RunEnd) → items ≡ [] → EndHasCause 0 first now e
     → IfNotRead e (λ _. IsTrue disk.tells → LacksFlatRoot disk) → IfNotRead e (λ b. IsTrue disk.tells → MountRefuses disk b)
     → IfDiskFailed e (λ b. IsTrue disk.tells → MountReads disk b) → RunEnds disk first now s items (status_of_end e)
-mount_end disk first now s items (end.DiskFailed node block rise) cause other refused failed =
-    let here = MountFailed block rise.before rise.after cause.1 failed in
+mount_end disk first now s items (end.DiskFailed node block rise) none cause other refused failed =
+    let here = MountFailed block rise.before rise.after none cause.1 failed in
     subst (λ (n : ℕ). RunEnds disk first now s items (status.DeviceFault n (Some block) rise.before rise.after)) (sym cause.0) here
-mount_end disk first now s items (end.NotRead block) cause other refused failed = MountRefused block (λ tree flat. other flat.tells flat.superblock flat.root) refused
-mount_end disk first now s items end.NoMemory cause other refused failed = NoRoom
+mount_end disk first now s items (end.NotRead block) none cause other refused failed = MountRefused block none (λ tree flat. other flat.tells flat.superblock flat.root) refused
+mount_end disk first now s items end.NoMemory none cause other refused failed = NoRoom
 
 -- a tree that the run may start from
 pub may_start : (disk mid : DiskState) (root : List ℕ) (tree : Tree) → mid ≡ disk → (IsTrue disk.tells → HasFlatRoot disk root) → IsFlat disk tree → IsStart mid root tree
 may_start disk mid root tree same begins flat = subst (λ (d : DiskState). IsStart d root tree) (sym same) (record { flat = flat; begins = begins flat.tells })
 
+of_call : {P Q : Call → Type 0} (l : Line) → ((call : Call) → P call → Q call) → IsCallThat P l → IsCallThat Q l
+of_call (line.Call client call) f holds = f call holds
+of_call line.Wait f holds = holds
+of_call (line.Crash nodes) f holds = holds
+of_call (line.Join node) f holds = holds
+
+-- a call that refuses what is told, on a disk whose root is this block where it tells its blocks
+at_root : (disk : DiskState) (root : List ℕ) (s : ScriptValue) (items : List TraceItem) (block : ℕ) → (IsTrue disk.tells → HasFlatRoot disk root)
+    → AtCall disk root s items (λ call. RefusesWhatIsTold disk root call block) → AtCall disk root s items (λ call. IsTrue disk.tells → CallRefuses disk root call block)
+at_root disk root s items block begins there = record {
+  count = there.count;
+  taken = there.taken;
+  next = there.next;
+  is_next = there.is_next;
+  holds = of_call {Q = λ call. IsTrue disk.tells → CallRefuses disk root call block} there.next (λ call refuses tells. refuses tells (begins tells)) there.holds;
+}
+
 -- an end in a call, of a run on the same disk
 pub call_end : (disk mid : DiskState) (first before now : ℕ → ℕ) (s : ScriptValue) (items : List TraceItem) (root : List ℕ) (e : RunEnd) → mid ≡ disk
     → (IsTrue disk.tells → HasFlatRoot disk root) → ((j : ℕ) → first j ≤ before j) → EndHasCause 1 before now e
     → IfNotRead e (λ _. (tree : Tree) → IsStart mid root tree → ⊥)
-    → IfNotRead e (λ b. IsTrue mid.tells → HasFlatRoot mid root → AtCall mid root s items (λ call. CallRefuses mid root call b))
+    → IfNotRead e (λ b. AtCall mid root s items (λ call. RefusesWhatIsTold mid root call b))
     → IfDiskFailed e (λ b. AtCall mid root s items (λ call. CallReads root call b)) → RunEnds disk first now s items (status_of_end e)
 call_end disk mid first before now s items root (end.DiskFailed node block rise) same begins earlier cause other refused failed =
     let here = CallFailed root block rise.before rise.after (longer (first 1) (before 1) (now 1) rise.before rise.after (earlier 1) cause.1) begins
     (subst (λ (d : DiskState). AtCall d root s items (λ call. CallReads root call block)) same failed) in
     subst (λ (n : ℕ). RunEnds disk first now s items (status.DeviceFault n (Some block) rise.before rise.after)) (sym cause.0) here
 call_end disk mid first before now s items root (end.NotRead block) same begins earlier cause other refused failed =
-    let here = subst (λ (d : DiskState). IsTrue d.tells → HasFlatRoot d root → AtCall d root s items (λ call. CallRefuses d root call block)) same refused in
-    CallRefused root block (λ tree flat. other tree (may_start disk mid root tree same begins flat)) begins (λ tells. here tells (begins tells))
+    let here = subst (λ (d : DiskState). AtCall d root s items (λ call. RefusesWhatIsTold d root call block)) same refused in
+    CallRefused root block (λ tree flat. other tree (may_start disk mid root tree same begins flat)) begins (at_root disk root s items block begins here)
 call_end disk mid first before now s items root end.NoMemory same begins earlier cause other refused failed = NoRoom
+
+-- ---- the same items, from what may be a start now
+
+module _ (clients : List Client) (lines : List Line) (Before Now : Tree → Type 0) (starts : (tree : Tree) → Now tree → Before tree) where
+  up_to : (count : ℕ) (items : List TraceItem) → IsRunUpTo clients lines count items Before → IsRunUpTo clients lines count items Now
+  up_to count items so = record { answered = so.answered; are = so.are; calls = so.calls; reads = λ tree start. so.reads tree (starts tree start) }
+
+  whole_from : (items : List TraceItem) → IsWholeRun clients lines items Before → IsWholeRun clients lines items Now
+  whole_from items whole = record { before = whole.before; taken = up_to (length lines) whole.before whole.taken; are = whole.are }
+
+  run_from : (items : List TraceItem) → IsRunOf clients lines items Before → IsRunOf clients lines items Now
+  run_from items (NotJoined none) = NotJoined none
+  run_from items (Taken count so) = Taken count (up_to count items so)
+  run_from items (Unmounted whole) = Unmounted (whole_from items whole)
+
+-- a run that is done
+pub done_end : (disk mid : DiskState) (faults faults_now : ℕ → ℕ) (s : ScriptValue) (items : List TraceItem) (root : List ℕ) → mid ≡ disk
+    → (IsTrue disk.tells → HasFlatRoot disk root) → AllAnswered items s → IsWholeRun s.clients s.lines items (IsStart mid root) → RunEnds disk faults faults_now s items status.Done
+done_end disk mid faults faults_now s items root same begins all whole =
+    IsDone all (whole_from s.clients s.lines (IsStart mid root) (IsFlat disk) (λ tree flat. may_start disk mid root tree same begins flat) items whole)
 
 -- nothing has happened
 pub no_items : (disk disk_now : DiskState) (faults faults_now : ℕ → ℕ) (s : ScriptValue) (items : List TraceItem) (own : Status) → disk_now ≡ disk → items ≡ []
     → RunEnds disk faults faults_now s items own → Runs disk disk_now faults faults_now s items own
 no_items disk disk_now faults faults_now s items own same none ends = record {
-  history = λ tree flat. subst (HoldsHistory tree s) (sym none) (nothing_follows tree s);
-  stands = λ tree flat. subst (λ (is : List TraceItem). IsFlat disk_now (tree_of (history_of s.clients is) tree)) (sym none) (subst (λ (d : DiskState). IsFlat d tree) (sym same) flat);
+  run = NotJoined none;
+  history = subst (HoldsHistory s) (sym none) (nothing_follows s);
   members = subst NoneStopped (sym none) tt;
+  none_lost = subst (λ (is : List TraceItem). NoneLost (history_of s.clients is)) (sym none) tt;
+  legal = λ tree flat. subst (λ (is : List TraceItem). Legal (history_of s.clients is) tree) (sym none) (nothing_is_legal tree);
+  stands = λ tree flat. subst (λ (is : List TraceItem). IsFlat disk_now (tree_of (history_of s.clients is) tree)) (sym none) (subst (λ (d : DiskState). IsFlat d tree) (sym same) flat);
   ends = ends;
 }
 
 pub ran : (disk mid disk_now : DiskState) (faults faults_now : ℕ → ℕ) (s : ScriptValue) (items : List TraceItem) (own : Status) (root : List ℕ)
     → mid ≡ disk → disk_now ≡ mid → (IsTrue disk.tells → HasFlatRoot disk root)
-    → ((tree : Tree) → IsStart mid root tree → HoldsHistory tree s items)
+    → IsRunOf s.clients s.lines items (IsStart mid root) → HoldsHistory s items → NoneStopped items → NoneLost (history_of s.clients items)
+    → ((tree : Tree) → IsStart mid root tree → Legal (history_of s.clients items) tree)
     → ((tree : Tree) → IsStart mid root tree → tree_of (history_of s.clients items) tree ≡ tree)
-    → NoneStopped items → RunEnds disk faults faults_now s items own → Runs disk disk_now faults faults_now s items own
-ran disk mid disk_now faults faults_now s items own root same kept begins history tree_is members ends = record {
-  history = λ tree flat. history tree (may_start disk mid root tree same begins flat);
+    → RunEnds disk faults faults_now s items own → Runs disk disk_now faults faults_now s items own
+ran disk mid disk_now faults faults_now s items own root same kept begins run history members none_lost legal tree_is ends = record {
+  run = run_from s.clients s.lines (IsStart mid root) (IsFlat disk) (λ tree flat. may_start disk mid root tree same begins flat) items run;
+  history = history;
+  members = members;
+  none_lost = none_lost;
+  legal = λ tree flat. legal tree (may_start disk mid root tree same begins flat);
   stands = λ tree flat.
       subst (IsFlat disk_now) (sym (tree_is tree (may_start disk mid root tree same begins flat))) (subst (λ (d : DiskState). IsFlat d tree) (sym (kept ∙ same)) flat);
-  members = members;
   ends = ends;
 }
 

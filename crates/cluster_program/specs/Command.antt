@@ -1,5 +1,5 @@
 -- What the top call promises.
-use Rattle.std.specs.Prelude.{ℕ, ◌≡◌, ◌⊎◌, ⊤, List, Some, None}
+use Rattle.std.specs.Prelude.{ℕ, ◌≡◌, ◌≤◌, ◌⊎◌, true, ⊤, List, Some, None}
 use Rattle.fault_counts.specs.Causes.{Rose, WentUp}
 use Rattle.file_tree.specs.Tree.{Tree}
 use Rattle.single_node.specs.Flat.{IsFlat}
@@ -9,7 +9,9 @@ use Rattle.trace_text.specs.declared.item.TraceItem.{TraceItem}
 use Rattle.script_lang.specs.Script.{ScriptValue}
 use Rattle.cluster_program.specs.World.{Inputs, Outputs}
 use Rattle.cluster_program.specs.Report.{Reports}
-use Rattle.cluster_program.specs.Course.{Course, words_refusal}
+use Rattle.cluster_program.specs.Course.{Course, AsksToRun, AsksToMake, image_of, most_blocks}
+use Rattle.command_words.specs.declared.command.MakeWords.{MakeWords}
+use Rattle.mkgfs2_tool.specs.Order.{fits}
 use Rattle.cluster_program.specs.declared.status.Status.{Status}
 use Rattle.cluster_program.specs.declared.status.Status.TheVariants as status
 use Rattle.cluster_program.specs.declared.status.Which.TheVariants as which
@@ -41,7 +43,7 @@ pub record NoneRose (given left : Inputs) (sinks sinks_now : Outputs) : Type 0 w
 
 -- the words are a run, the source tells its text, which is a script without a line that is not built, and the image is flat
 pub record IsRunnable (words : List (List ℕ)) (given : Inputs) : Type 0 where
-  pub run : words_refusal given.disk.size words ≡ None
+  pub run : AsksToRun given.disk.size words
   pub text : List ℕ
   pub tells : given.left ≡ Some text
   pub script : ScriptValue
@@ -50,6 +52,14 @@ pub record IsRunnable (words : List (List ℕ)) (given : Inputs) : Type 0 where
   pub tree : Tree
   pub flat : IsFlat given.disk tree
 
+-- the words ask for an image that is built, and it fits the device, which is not too large
+pub record IsMakeable (words : List (List ℕ)) (given : Inputs) : Type 0 where
+  pub make : MakeWords
+  pub asks : AsksToMake given.disk.size words make
+  pub few : given.disk.count ≤ most_blocks
+  pub room : fits (image_of given.disk make) ≡ true
+
 -- then nothing but want of memory keeps it from being done
 abbrev pub IsComplete : List (List ℕ) → Inputs → Inputs → Outputs → Outputs → Status → Type 0
-IsComplete words given left sinks sinks_now answer = NoneRose given left sinks sinks_now → IsRunnable words given → (answer ≡ status.Done) ⊎ (answer ≡ status.NoMemory)
+IsComplete words given left sinks sinks_now answer =
+    NoneRose given left sinks sinks_now → IsRunnable words given ⊎ IsMakeable words given → (answer ≡ status.Done) ⊎ (answer ≡ status.NoMemory)

@@ -1,10 +1,10 @@
 -- What a command does, from its words and its script to the items of its run and its own end.
-use Rattle.std.specs.Prelude.{ℕ, ◌≡◌, ◌++◌, ◌&&◌, Bool, true, false, IsTrue, if◌then◌else◌, List, [], Option, Some, None, Result, Ok, Err}
+use Rattle.std.specs.Prelude.{ℕ, ◌≡◌, ◌<◌, ◌≤◌, ◌==◌, nat_lt, not, IfSome, ◌++◌, ◌&&◌, Bool, true, false, IsTrue, if◌then◌else◌, List, [], Option, Some, None, Result, Ok, Err}
 use Rattle.std.specs.Io.KnownBytes.{Consumes, IsAtEnd}
 use Rattle.fault_counts.specs.Causes.{WentUp}
 use Rattle.file_tree.specs.Tree.{Tree}
 use Rattle.file_tree.specs.declared.call.Call.{Call}
-use Rattle.cluster_history.specs.History.{tree_of}
+use Rattle.cluster_history.specs.History.{Legal, NoneLost, tree_of}
 use Rattle.trace_text.specs.declared.item.TraceItem.{TraceItem}
 use Rattle.script_lang.specs.Script.{ScriptValue}
 use Rattle.script_lang.specs.Grammar.{script_read, Script, Bad, nothing}
@@ -13,15 +13,36 @@ use Rattle.command_words.specs.Commands.{words_read}
 use Rattle.command_words.specs.declared.command.Command.{Command}
 use Rattle.command_words.specs.declared.command.Command.TheVariants as command
 use Rattle.command_words.specs.declared.command.Usage.{Usage}
+use Rattle.command_words.specs.declared.command.MakeWords.{MakeWords}
+use Rattle.command_words.specs.declared.command.RunWords.{RunWords}
+use Rattle.mkgfs2_tool.specs.declared.options.MakeOptions.{MakeOptions}
+use Rattle.mkgfs2_tool.specs.declared.plan.Plan.{Plan}
+use Rattle.mkgfs2_tool.specs.Making.{plan_of}
+use Rattle.mkgfs2_tool.specs.Order.{fits, IsNeeded}
+use Rattle.mkgfs2_tool.specs.Outcomes.{IsBegun, IsMade}
 use Rattle.run_rules.specs.Follows.{history_of}
 use Rattle.run_rules.specs.History.{HoldsHistory, NoneStopped, AllAnswered}
 use Rattle.shared_disk.specs.Disk.{DiskState}
 use Rattle.single_node.specs.Flat.{IsFlat, HasFlatRoot, IsStart}
 use Rattle.single_node.specs.Blocks.{MountReads, MountRefuses, CallReads, CallRefuses, EndsAtCall}
+use Rattle.single_node.specs.Run.{IsRunOf, IsWholeRun}
 use Rattle.cluster_program.specs.World.{Inputs}
 use Rattle.cluster_program.specs.declared.status.Status.{Status}
 use Rattle.cluster_program.specs.declared.status.Status.TheVariants as status
 use Rattle.cluster_program.specs.declared.status.Part.TheVariants as part
+use Rattle.cluster_program.specs.declared.status.Field.TheVariants as field
+
+-- ---- what stays as it was
+
+-- nothing of the script was taken
+pub record KeepsScript (before now : Inputs) : Type 0 where
+  pub left : now.left ≡ before.left
+  pub faults : now.script_faults ≡ before.script_faults
+
+-- nothing was written to the disk
+pub record KeepsDisk (before now : Inputs) : Type 0 where
+  pub state_is : now.disk ≡ before.disk
+  pub list_is : now.disk_list ≡ before.disk_list
 
 -- ---- the words
 
@@ -29,18 +50,59 @@ abbrev pub is_none : {A : Type 0} → Option A → Bool
 is_none None = true
 is_none (Some a) = false
 
--- today a run is built, but not its schedules, steps and frames
-abbrev pub is_built : Command → Bool
-is_built (command.Run words) = is_none words.schedule && is_none words.steps && is_none words.frames
-is_built _ = false
+-- more journals than a linear directory in a block of 512 bytes has names for
+abbrev pub has_many_journals : ℕ → MakeWords → Bool
+has_many_journals block_size words = block_size == 512 && nat_lt 3 words.journals
 
-abbrev pub refusal_of : Result Command Usage → Option Status
-refusal_of (Err usage) = Some (status.Usage usage.word)
-refusal_of (Ok c) = if is_built c then None else Some (status.NotBuilt part.Words)
+-- today an image is made, but not one with so many journals, and a run is built, but not its schedules, steps and frames
+abbrev pub is_built : ℕ → Command → Bool
+is_built block_size (command.Make words) = not (has_many_journals block_size words)
+is_built block_size (command.Run words) = is_none words.schedule && is_none words.steps && is_none words.frames
+is_built block_size _ = false
 
--- why a disk of this block size is given no run by these words
+abbrev pub refusal_of : ℕ → Result Command Usage → Option Status
+refusal_of block_size (Err usage) = Some (status.Usage usage.word)
+refusal_of block_size (Ok c) = if is_built block_size c then None else Some (status.NotBuilt part.Words)
+
+-- why these words are not carried out on a disk of this block size
 abbrev pub words_refusal : ℕ → List (List ℕ) → Option Status
-words_refusal block_size words = refusal_of (words_read block_size words)
+words_refusal block_size words = refusal_of block_size (words_read block_size words)
+
+-- the words ask for an image, or for a run, and that is built
+pub record AsksToMake (block_size : ℕ) (words : List (List ℕ)) (make : MakeWords) : Type 0 where
+  pub read : words_read block_size words ≡ Ok (command.Make make)
+  pub built : words_refusal block_size words ≡ None
+
+pub record AsksToRun (block_size : ℕ) (words : List (List ℕ)) : Type 0 where
+  pub run : RunWords
+  pub read : words_read block_size words ≡ Ok (command.Run run)
+  pub built : words_refusal block_size words ≡ None
+
+-- ---- an image is made
+
+-- what is to be made
+abbrev pub options_of : MakeWords → MakeOptions
+options_of words = record { journals = words.journals; journal_blocks = words.journal_blocks; groups = words.groups; uuid = words.uuid; time = words.time }
+
+abbrev pub image_of : DiskState → MakeWords → Plan
+image_of disk words = plan_of disk.size disk.count (options_of words)
+
+-- the greatest device
+abbrev pub most_blocks : ℕ
+most_blocks = 131072
+
+-- How mkfs ends: the device is larger than any may be; the image doesn't fit it, and so many blocks are needed; there was no
+-- memory; the disk failed, at one of its blocks or at a barrier, and a part is made; or the image is made, every block of it.
+pub data Makes (words : MakeWords) (before now : Inputs) : Status → Type 0 where
+  IsTooLarge : most_blocks < before.disk.count → now ≡ before → Makes words before now (status.NotProfile field.Device before.disk.count)
+  IsTooSmall : (needed : ℕ) → before.disk.count ≤ most_blocks → fits (image_of before.disk words) ≡ false → IsNeeded (image_of before.disk words) needed → now ≡ before
+      → Makes words before now (status.TooSmall needed before.disk.count)
+  LacksMemory : before.disk.count ≤ most_blocks → fits (image_of before.disk words) ≡ true → now ≡ before → Makes words before now status.NoMemory
+  HasFailed : (block : Option ℕ) (x y : ℕ) → before.disk.count ≤ most_blocks → fits (image_of before.disk words) ≡ true → WentUp (before.disk_faults 0) (now.disk_faults 0) x y
+      → IfSome block (λ b. b < before.disk.count) → IsBegun (image_of before.disk words) before.disk now.disk before.disk_list now.disk_list
+      → KeepsScript before now → Makes words before now (status.DeviceFault 0 block x y)
+  HasMade : before.disk.count ≤ most_blocks → fits (image_of before.disk words) ≡ true
+      → IsMade (image_of before.disk words) before.disk now.disk before.disk_list now.disk_list → KeepsScript before now → Makes words before now status.Done
 
 -- ---- the script
 
@@ -67,34 +129,41 @@ pub data LacksScript (before now : Option (List ℕ)) (faults faults_now : ℕ) 
 abbrev pub AtCall : DiskState → List ℕ → ScriptValue → List TraceItem → (Call → Type 0) → Type 0
 AtCall disk root s items P = EndsAtCall P s.clients s.lines items (IsStart disk root)
 
--- How a run ends: each line is answered; the disk failed in mounting, or in a call; mounting or a call met a block that is
--- not of a form that is built, so that the image is not flat; or there was no memory.
+-- How a run ends: each line is answered and the node has unmounted; the disk failed in mounting, before the first item, or in a call, behind the lines
+-- above it; mounting or a call met, likewise, a block that is not of a form that is built, so that the image is not flat;
+-- or there was no memory.
 pub data RunEnds (disk : DiskState) (faults faults_now : ℕ → ℕ) (s : ScriptValue) (items : List TraceItem) : Status → Type 0 where
-  IsDone : AllAnswered items s → RunEnds disk faults faults_now s items status.Done
-  MountFailed : (block x y : ℕ) → WentUp (faults 0) (faults_now 0) x y → (IsTrue disk.tells → MountReads disk block)
+  IsDone : AllAnswered items s → IsWholeRun s.clients s.lines items (IsFlat disk) → RunEnds disk faults faults_now s items status.Done
+  MountFailed : (block x y : ℕ) → items ≡ [] → WentUp (faults 0) (faults_now 0) x y → (IsTrue disk.tells → MountReads disk block)
       → RunEnds disk faults faults_now s items (status.DeviceFault 0 (Some block) x y)
   CallFailed : (root : List ℕ) (block x y : ℕ) → WentUp (faults 1) (faults_now 1) x y → (IsTrue disk.tells → HasFlatRoot disk root)
       → AtCall disk root s items (λ call. CallReads root call block) → RunEnds disk faults faults_now s items (status.DeviceFault 1 (Some block) x y)
-  MountRefused : (block : ℕ) → ((tree : Tree) → IsFlat disk tree → ⊥) → (IsTrue disk.tells → MountRefuses disk block)
+  MountRefused : (block : ℕ) → items ≡ [] → ((tree : Tree) → IsFlat disk tree → ⊥) → (IsTrue disk.tells → MountRefuses disk block)
       → RunEnds disk faults faults_now s items (status.NotBuilt (part.Block block))
   CallRefused : (root : List ℕ) (block : ℕ) → ((tree : Tree) → IsFlat disk tree → ⊥) → (IsTrue disk.tells → HasFlatRoot disk root)
-      → (IsTrue disk.tells → AtCall disk root s items (λ call. CallRefuses disk root call block))
+      → AtCall disk root s items (λ call. IsTrue disk.tells → CallRefuses disk root call block)
       → RunEnds disk faults faults_now s items (status.NotBuilt (part.Block block))
   NoRoom : RunEnds disk faults faults_now s items status.NoMemory
 
 pub record Runs (disk disk_now : DiskState) (faults faults_now : ℕ → ℕ) (s : ScriptValue) (items : List TraceItem) (own : Status) : Type 0 where
-  -- where the image is flat, the items hold one history of its tree, and the image stands for the tree at its end
-  pub history : (tree : Tree) → IsFlat disk tree → HoldsHistory tree s items
-  pub stands : (tree : Tree) → IsFlat disk tree → IsFlat disk_now (tree_of (history_of s.clients items) tree)
+  -- on every disk, also one that tells nothing: node 1 joins, takes the lines one by one, and unmounts
+  pub run : IsRunOf s.clients s.lines items (IsFlat disk)
+  -- so the items follow the script and hold one history, no node stops, and nothing is lost
+  pub history : HoldsHistory s items
   pub members : NoneStopped items
+  pub none_lost : NoneLost (history_of s.clients items)
+  -- where the image is flat: every reply is that of its tree, which takes the calls one by one, and the image stands for the tree at the end
+  pub legal : (tree : Tree) → IsFlat disk tree → Legal (history_of s.clients items) tree
+  pub stands : (tree : Tree) → IsFlat disk tree → IsFlat disk_now (tree_of (history_of s.clients items) tree)
   pub ends : RunEnds disk faults faults_now s items own
 
 -- ---- the command: refusals come in this order, each before anything that follows it is touched
 
 pub data Course (words : List (List ℕ)) (before now : Inputs) : ScriptValue → List TraceItem → Status → Type 0 where
   RefusesWords : (own : Status) → words_refusal before.disk.size words ≡ Some own → now ≡ before → Course words before now nothing [] own
-  NoScript : (own : Status) → words_refusal before.disk.size words ≡ None → LacksScript before.left now.left before.script_faults now.script_faults own
-      → now.disk_faults ≡ before.disk_faults → Course words before now nothing [] own
-  RunsScript : (text : List ℕ) (s : ScriptValue) (items : List TraceItem) (own : Status) → words_refusal before.disk.size words ≡ None
-      → HasRead before.left now.left text → script_read text ≡ Script s → first_foreign s ≡ None
+  MakesImage : (make : MakeWords) (own : Status) → AsksToMake before.disk.size words make → Makes make before now own → Course words before now nothing [] own
+  NoScript : (own : Status) → AsksToRun before.disk.size words → LacksScript before.left now.left before.script_faults now.script_faults own
+      → KeepsDisk before now → now.disk_faults ≡ before.disk_faults → Course words before now nothing [] own
+  RunsScript : (text : List ℕ) (s : ScriptValue) (items : List TraceItem) (own : Status) → AsksToRun before.disk.size words
+      → HasRead before.left now.left text → script_read text ≡ Script s → first_foreign s ≡ None → KeepsDisk before now
       → Runs before.disk now.disk before.disk_faults now.disk_faults s items own → Course words before now s items own

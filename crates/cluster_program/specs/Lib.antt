@@ -9,3 +9,4 @@ pub mod Command
 pub mod Quiet
 pub mod Early
 pub mod Streams
+pub mod Tasks

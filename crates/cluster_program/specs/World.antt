@@ -1,10 +1,11 @@
 -- What a command is given, and what it writes to, each as far as it tells, with the counts of their faults.
 use Rattle.std.specs.Prelude.{ℕ, List, Option}
-use Rattle.shared_disk.specs.Disk.{DiskState}
+use Rattle.shared_disk.specs.Disk.{DiskState, Operation}
 
--- the disk, and what is left of the script
+-- the disk, its list of operations, and what is left of the script
 pub record Inputs : Type 0 where
   pub disk : DiskState
+  pub disk_list : Option (List Operation)
   pub disk_faults : ℕ → ℕ
   pub left : Option (List ℕ)
   pub script_faults : ℕ
@@ -16,8 +17,8 @@ pub record Outputs : Type 0 where
   pub output : Option (List ℕ)
   pub output_faults : ℕ
 
-abbrev pub inputs : DiskState → (ℕ → ℕ) → Option (List ℕ) → ℕ → Inputs
-inputs state faults text failed = record { disk = state; disk_faults = faults; left = text; script_faults = failed }
+abbrev pub inputs : DiskState → Option (List Operation) → (ℕ → ℕ) → Option (List ℕ) → ℕ → Inputs
+inputs state list faults text failed = record { disk = state; disk_list = list; disk_faults = faults; left = text; script_faults = failed }
 
 abbrev pub outputs : Option (List ℕ) → ℕ → Option (List ℕ) → ℕ → Outputs
 outputs traced failed printed broken = record { trace = traced; trace_faults = failed; output = printed; output_faults = broken }

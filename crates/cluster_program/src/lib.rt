@@ -1,7 +1,10 @@
 //! The top call: what a command does to the disk, prints and answers.
 #![tactic(auto)]
 
+mod image;
 mod input;
+#[cfg(test)]
+mod make_tests;
 mod output;
 mod places;
 mod report;

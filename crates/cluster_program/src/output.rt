@@ -1,7 +1,6 @@
 ghost use Rattle.std.specs.Prelude.{◌≡◌, ◌++◌, [], IfOk, OnOk, count_by};
 ghost use Rattle.std.specs.Io.KnownBytes.{Appends};
 ghost use Rattle.stream_io.specs.Streams.{AppendsPrefix};
-ghost use Rattle.text_words.specs.Words.{number};
 ghost use Rattle.cluster_program.specs.StatusText.{ended, status_lines};
 ghost use Rattle.cluster_program.specs.Streams.{PassesOn, PutHasCause};
 ghost use Rattle.cluster_program.specs.Quiet.{IsQuiet};
@@ -9,14 +8,14 @@ ghost use Rattle.cluster_program.specs.Out.{is_call as counts_as_call, is_commit
 
 use crate::places::place_of;
 use crate::status::Status;
-use crate::status_text::append_status;
+use crate::status_text::{append_one, append_status};
 use crate::streams::{PutFault, pass_on, put_held};
 use file_tree::{Call, Name, Reply, append_call, append_reply};
 use no_memory::NoMemory;
 use script_lang::{Client, Script};
 use std::alloc::Global;
 use stream_io::Sink;
-use text_words::{append, append_number};
+use text_words::append;
 use trace_text::TraceItem;
 
 // An answered line of a client.
@@ -129,13 +128,6 @@ fn put_all_lines<T: Sink>(
     Ok(())
 }
 
-fn append_count(text: &mut Vec<u8>, word: &[u8], count: u64) -> Result<(), NoMemory>
-    ensures { IfOk result (λ _. text.new.items ≡ text.old.items ++ (word.now ++ number count)) }
-{
-    append(text, word)?;
-    append_number(text, count)
-}
-
 /// What the items of a run come to.
 #[derive(Clone, Copy, Debug)]
 struct Tally {
@@ -149,11 +141,11 @@ struct Tally {
 fn append_tally(text: &mut Vec<u8>, tally: Tally) -> Result<(), NoMemory>
     ensures { IfOk result (λ _. text.new.items ≡ text.old.items ++ counts_text tally.calls tally.lost tally.commits tally.crashes tally.dirty) }
 {
-    append_count(text, b"calls", tally.calls)?;
-    append_count(text, b" lost", tally.lost)?;
-    append_count(text, b" commits", tally.commits)?;
-    append_count(text, b" crashes", tally.crashes)?;
-    append_count(text, b" dirty", tally.dirty)
+    append_one(text, b"calls", tally.calls)?;
+    append_one(text, b" lost", tally.lost)?;
+    append_one(text, b" commits", tally.commits)?;
+    append_one(text, b" crashes", tally.crashes)?;
+    append_one(text, b" dirty", tally.dirty)
 }
 
 fn is_call(item: &TraceItem) -> bool

@@ -45,6 +45,7 @@ pub(crate) fn mount_and_run<D: SharedDisk>(
     ensures runs { Runs (D.state disk.old) (D.state disk.new) (D.faults disk.old) (D.faults disk.new) script.now items.new.items result }
     ensures quiet { (told : Status) → (told ≡ Status.Done → result ≡ Status.Done) → IsQuiet script.now items.new.items told }
     ensures same { D.state disk.new ≡ D.state disk.old }
+    ensures list { D.list disk.new ≡ D.list disk.old }
     ensures later { (j : ℕ) → D.faults disk.old j ≤ D.faults disk.new j }
 {
     let root = match read_root(alloc, disk) {

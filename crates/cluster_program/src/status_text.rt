@@ -38,8 +38,8 @@ fn append_two(
     append_number(text, two)
 }
 
-// Words and a number.
-fn append_one(text: &mut Vec<u8>, words: &[u8], one: u64) -> Result<(), NoMemory>
+/// Puts words and a number behind a text.
+pub(crate) fn append_one(text: &mut Vec<u8>, words: &[u8], one: u64) -> Result<(), NoMemory>
     ensures { IfOk result (λ _. text.new.items ≡ text.old.items ++ (words.now ++ number one)) }
 {
     append(text, words)?;

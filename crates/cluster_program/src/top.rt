@@ -1,18 +1,19 @@
-ghost use Rattle.std.specs.Prelude.{◌≡◌, ◌≤◌, ℕ, [], map, string_bytes};
+ghost use Rattle.std.specs.Prelude.{◌≡◌, ◌≤◌, ℕ, List, [], map, string_bytes};
 ghost use Rattle.shared_disk.specs.Disk.{IsIdle};
 ghost use Rattle.script_lang.specs.Grammar.{nothing};
 ghost use Rattle.single_node.specs.Flat.{IsBlockSize};
 ghost use Rattle.cluster_program.specs.World.{inputs, outputs};
-ghost use Rattle.cluster_program.specs.Course.{Course};
+ghost use Rattle.cluster_program.specs.Course.{Course, AsksToRun};
 ghost use Rattle.cluster_program.specs.Report.{IsSinkFault};
 ghost use Rattle.cluster_program.specs.Command.{Ends, FaultHasCause, IsComplete};
 ghost use Rattle.cluster_program.specs.Quiet.{IsQuiet};
 
+use crate::image::make_image;
 use crate::report::report;
 use crate::run::mount_and_run;
 use crate::script::read_script;
 use crate::status::Status;
-use crate::words::check_words;
+use crate::words::{Task, read_task};
 use script_lang::Script;
 use shared_disk::SharedDisk;
 use std::alloc::Global;
@@ -49,6 +50,32 @@ fn without_script(alloc: Global, own: Status) -> Carried
     Carried { script, own }
 }
 
+// Reads a script and runs it. The items go behind `items`, which is empty.
+fn read_and_run<D: SharedDisk, S: Source>(
+    alloc: Global,
+    disk: &mut D,
+    source: &mut S,
+    items: &mut Vec<TraceItem>,
+) -> Carried
+    requires size { IsBlockSize (D.state disk.old).size }
+    requires idle { IsIdle (D.state disk.old) }
+    requires none { items.old.items ≡ [] }
+    ensures course { (words : List (List ℕ)) → AsksToRun (D.state disk.old).size words → Course words
+        (inputs (D.state disk.old) (D.list disk.old) (D.faults disk.old) (S.left source.old) (S.faults source.old))
+        (inputs (D.state disk.new) (D.list disk.new) (D.faults disk.new) (S.left source.new) (S.faults source.new))
+        result.script items.new.items result.own }
+    ensures own { IsSinkFault result.own → ⊥ }
+    ensures quiet { (told : Status) → (told ≡ Status.Done → result.own ≡ Status.Done) → IsQuiet result.script items.new.items told }
+    ensures later { ((j : ℕ) → D.faults disk.old j ≤ D.faults disk.new j) × (S.faults source.old ≤ S.faults source.new) }
+{
+    let script = match read_script(alloc, source) {
+        Ok(script) => script,
+        Err(own) => return without_script(alloc, own),
+    };
+    let own = mount_and_run(alloc, disk, &script, items);
+    Carried { script, own }
+}
+
 // Carries a command out. The items go behind `items`, which is empty.
 fn carry_out<D: SharedDisk, S: Source>(
     alloc: Global,
@@ -61,29 +88,28 @@ fn carry_out<D: SharedDisk, S: Source>(
     requires idle { IsIdle (D.state disk.old) }
     requires none { items.old.items ≡ [] }
     ensures course { Course (map string_bytes words.now)
-        (inputs (D.state disk.old) (D.faults disk.old) (S.left source.old) (S.faults source.old))
-        (inputs (D.state disk.new) (D.faults disk.new) (S.left source.new) (S.faults source.new))
+        (inputs (D.state disk.old) (D.list disk.old) (D.faults disk.old) (S.left source.old) (S.faults source.old))
+        (inputs (D.state disk.new) (D.list disk.new) (D.faults disk.new) (S.left source.new) (S.faults source.new))
         result.script items.new.items result.own }
     ensures own { IsSinkFault result.own → ⊥ }
     ensures quiet { (told : Status) → (told ≡ Status.Done → result.own ≡ Status.Done) → IsQuiet result.script items.new.items told }
-    ensures same { D.state disk.new ≡ D.state disk.old }
     ensures later { ((j : ℕ) → D.faults disk.old j ≤ D.faults disk.new j) × (S.faults source.old ≤ S.faults source.new) }
 {
-    match check_words(words, disk.block_size()) {
-        Ok(()) => {}
-        Err(own) => return without_script(alloc, own),
+    match read_task(words, disk.block_size()) {
+        Ok(Task::Make(words)) => {
+            let own = make_image(alloc, disk, &words);
+            without_script(alloc, own)
+        }
+        Ok(Task::Run) => read_and_run(alloc, disk, source, items),
+        Err(own) => without_script(alloc, own),
     }
-    let script = match read_script(alloc, source) {
-        Ok(script) => script,
-        Err(own) => return without_script(alloc, own),
-    };
-    let own = mount_and_run(alloc, disk, &script, items);
-    Carried { script, own }
 }
 
-/// Carries out the command that these words are, on this disk, and writes its trace and its output. Today `run` is
-/// built: it reads a script from `script`, runs it on the image, and tells each client's replies. It waits for nobody. It costs memory for the script and the items, a read of a block for each line that reads a file, and
-/// a pass over the items for each client.
+/// Carries out the command that these words are, on this disk, and writes its trace and its output. Today two
+/// commands are built. `mkfs` makes an image: it reads each block, and writes those that are not yet as they are to be.
+/// `run` reads a script from `script`, runs it on the image, and tells each client's replies; it costs memory for the
+/// script and the items, a read of a block for each line that reads a file, and a pass over the items for each client.
+/// It waits for nobody.
 pub fn gfs2run_alone<D: SharedDisk, S: Source, O: Sink, T: Sink>(
     alloc: Global,
     words: &[String],
@@ -95,24 +121,23 @@ pub fn gfs2run_alone<D: SharedDisk, S: Source, O: Sink, T: Sink>(
     requires size { IsBlockSize (D.state disk).size }
     requires idle { IsIdle (D.state disk) }
     ensures ends { Ends (map string_bytes words.now)
-        (inputs (D.state disk) (D.faults disk) (S.left script.old) (S.faults script.old))
-        (inputs (D.state result.disk) (D.faults result.disk) (S.left script.new) (S.faults script.new))
+        (inputs (D.state disk) (D.list disk) (D.faults disk) (S.left script.old) (S.faults script.old))
+        (inputs (D.state result.disk) (D.list result.disk) (D.faults result.disk) (S.left script.new) (S.faults script.new))
         (outputs (T.contents trace.old) (T.faults trace.old) (O.contents out.old) (O.faults out.old))
         (outputs (T.contents trace.new) (T.faults trace.new) (O.contents out.new) (O.faults out.new))
         result.status }
     ensures fault { FaultHasCause
-        (inputs (D.state disk) (D.faults disk) (S.left script.old) (S.faults script.old))
-        (inputs (D.state result.disk) (D.faults result.disk) (S.left script.new) (S.faults script.new))
+        (inputs (D.state disk) (D.list disk) (D.faults disk) (S.left script.old) (S.faults script.old))
+        (inputs (D.state result.disk) (D.list result.disk) (D.faults result.disk) (S.left script.new) (S.faults script.new))
         (outputs (T.contents trace.old) (T.faults trace.old) (O.contents out.old) (O.faults out.old))
         (outputs (T.contents trace.new) (T.faults trace.new) (O.contents out.new) (O.faults out.new))
         result.status }
     ensures complete { IsComplete (map string_bytes words.now)
-        (inputs (D.state disk) (D.faults disk) (S.left script.old) (S.faults script.old))
-        (inputs (D.state result.disk) (D.faults result.disk) (S.left script.new) (S.faults script.new))
+        (inputs (D.state disk) (D.list disk) (D.faults disk) (S.left script.old) (S.faults script.old))
+        (inputs (D.state result.disk) (D.list result.disk) (D.faults result.disk) (S.left script.new) (S.faults script.new))
         (outputs (T.contents trace.old) (T.faults trace.old) (O.contents out.old) (O.faults out.old))
         (outputs (T.contents trace.new) (T.faults trace.new) (O.contents out.new) (O.faults out.new))
         result.status }
-    ensures same { D.state result.disk ≡ D.state disk }
 {
     let mut disk = disk;
     let mut items = Vec::new(alloc);
@@ -143,24 +168,23 @@ pub fn gfs2run<
     requires size { IsBlockSize (D.state disk).size }
     requires idle { IsIdle (D.state disk) }
     ensures ends { Ends (map string_bytes words.now)
-        (inputs (D.state disk) (D.faults disk) (S.left script.old) (S.faults script.old))
-        (inputs (D.state result.disk) (D.faults result.disk) (S.left script.new) (S.faults script.new))
+        (inputs (D.state disk) (D.list disk) (D.faults disk) (S.left script.old) (S.faults script.old))
+        (inputs (D.state result.disk) (D.list result.disk) (D.faults result.disk) (S.left script.new) (S.faults script.new))
         (outputs (T.contents trace.old) (T.faults trace.old) (O.contents out.old) (O.faults out.old))
         (outputs (T.contents trace.new) (T.faults trace.new) (O.contents out.new) (O.faults out.new))
         result.status }
     ensures fault { FaultHasCause
-        (inputs (D.state disk) (D.faults disk) (S.left script.old) (S.faults script.old))
-        (inputs (D.state result.disk) (D.faults result.disk) (S.left script.new) (S.faults script.new))
+        (inputs (D.state disk) (D.list disk) (D.faults disk) (S.left script.old) (S.faults script.old))
+        (inputs (D.state result.disk) (D.list result.disk) (D.faults result.disk) (S.left script.new) (S.faults script.new))
         (outputs (T.contents trace.old) (T.faults trace.old) (O.contents out.old) (O.faults out.old))
         (outputs (T.contents trace.new) (T.faults trace.new) (O.contents out.new) (O.faults out.new))
         result.status }
     ensures complete { IsComplete (map string_bytes words.now)
-        (inputs (D.state disk) (D.faults disk) (S.left script.old) (S.faults script.old))
-        (inputs (D.state result.disk) (D.faults result.disk) (S.left script.new) (S.faults script.new))
+        (inputs (D.state disk) (D.list disk) (D.faults disk) (S.left script.old) (S.faults script.old))
+        (inputs (D.state result.disk) (D.list result.disk) (D.faults result.disk) (S.left script.new) (S.faults script.new))
         (outputs (T.contents trace.old) (T.faults trace.old) (O.contents out.old) (O.faults out.old))
         (outputs (T.contents trace.new) (T.faults trace.new) (O.contents out.new) (O.faults out.new))
         result.status }
-    ensures same { D.state result.disk ≡ D.state disk }
 {
     gfs2run_alone(alloc, words, disk, script, out, trace)
 }

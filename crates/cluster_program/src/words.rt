@@ -1,15 +1,30 @@
-ghost use Rattle.std.specs.Prelude.{◌≡◌, ℕ, OnOk, IfErr, Some, None, map, string_bytes, IsTrue};
-ghost use Rattle.command_words.specs.declared.command.RunWords.{RunWords as TheRunWords};
-ghost use Rattle.cluster_program.specs.Course.{is_built as counts_as_built, words_refusal};
+ghost use Rattle.std.specs.Prelude.{◌≡◌, ℕ, List, IfOk, IfErr, MatchOption, Some, None, true, false, map, string_bytes};
+ghost use Rattle.cluster_program.specs.Course.{is_built as counts_as_built, has_many_journals as are_many, words_refusal};
+ghost use Rattle.cluster_program.specs.Tasks.{IsTaskOf, Asks};
 
 use crate::status::{Part, Status};
-use command_words::{Command, read_words};
+use command_words::{Command, MakeWords, read_words};
+
+/// What the words ask for, among the commands that are built.
+#[derive(Clone, Copy, Debug, PartialEq, Eq)]
+pub(crate) enum Task {
+    Make(MakeWords),
+    Run,
+}
+
+// Whether an image has more journals than a linear directory has names for.
+fn has_many_journals(words: &MakeWords, block_size: u32) -> bool
+    ensures { result ≡ are_many block_size words.now }
+{
+    block_size == 512 && words.journals > 3
+}
 
 // Whether a command is built today.
-fn is_built(command: &Command) -> bool
-    ensures { result ≡ counts_as_built command.now }
+fn is_built(command: &Command, block_size: u32) -> bool
+    ensures { result ≡ counts_as_built block_size command.now }
 {
     match command {
+        Command::Make(words) => !has_many_journals(words, block_size),
         Command::Run(words) => {
             words.schedule.is_none() && words.steps.is_none() && words.frames.is_none()
         }
@@ -17,18 +32,30 @@ fn is_built(command: &Command) -> bool
     }
 }
 
-/// Whether the words are a run that is built; else how the command ends.
-pub(crate) fn check_words(words: &[String], block_size: u32) -> Result<(), Status>
-    ensures fine { OnOk result (words_refusal block_size (map string_bytes words.now) ≡ None) }
+// The task that a command is, if it is built.
+fn task_of(command: &Command, block_size: u32) -> Option<Task>
+    ensures { MatchOption result (counts_as_built block_size command.now ≡ false) (λ t. (counts_as_built block_size command.now ≡ true) × IsTaskOf command.now t) }
+{
+    if !is_built(command, block_size) {
+        return None;
+    }
+    match command {
+        Command::Make(words) => Some(Task::Make(*words)),
+        _ => Some(Task::Run),
+    }
+}
+
+/// What the words ask for, if that is built; else how the command ends.
+pub(crate) fn read_task(words: &[String], block_size: u32) -> Result<Task, Status>
+    ensures task { IfOk result (Asks block_size (map string_bytes words.now)) }
     ensures refused { IfErr result (λ own. words_refusal block_size (map string_bytes words.now) ≡ Some own) }
 {
     let command = match read_words(words, block_size) {
         Ok(command) => command,
         Err(usage) => return Err(Status::Usage { word: usage.word }),
     };
-    if is_built(&command) {
-        Ok(())
-    } else {
-        Err(Status::NotBuilt { part: Part::Words })
+    match task_of(&command, block_size) {
+        Some(task) => Ok(task),
+        None => Err(Status::NotBuilt { part: Part::Words }),
     }
 }

@@ -21,6 +21,8 @@ Standard input is the script; standard output gets each client's replies, the co
 and the status, whose number is the exit status.
 
 commands:
+  mkfs [--bsize N] [--journals N] [--journal-blocks N] [--groups N] [--uuid TEXT] [--time N]
+                    makes an image of the whole file IMAGE
   run [--time N]    runs the script
 
 options, as the only word:

@@ -1,4 +1,5 @@
-ghost use Rattle.std.specs.Prelude.{IfOk, IfSome};
+ghost use Rattle.std.specs.Prelude.{◌≡◌, ℕ, Ok, Some, IfOk, IfSome, map, string_bytes};
+ghost use Rattle.gfs2run.specs.Size.{size_written as the_size_written, first_size as the_first_size, size_given as the_size_given};
 ghost use Rattle.single_node.specs.Flat.{IsBlockSize};
 
 use std::fs::{File, Files};
@@ -9,7 +10,8 @@ const FIELD: u64 = 65_572;
 
 // One of the four block sizes, or 4096.
 fn one_of_four(size: u32) -> u32
-    ensures { IsBlockSize result }
+    ensures some { IsBlockSize result }
+    ensures same { IsBlockSize size → result ≡ size }
 {
     match size {
         512 => 512,
@@ -19,18 +21,47 @@ fn one_of_four(size: u32) -> u32
     }
 }
 
-// The block size that the word behind the first `--bsize` writes, if it is one of the four.
-fn size_in(words: &[String]) -> Option<u32>
-    ensures { IfSome result IsBlockSize }
+// The block size that a word writes.
+fn size_written(word: &[u8]) -> Option<u32>
+    ensures exact { result ≡ the_size_written word.now }
+    ensures some { IfSome result IsBlockSize }
 {
-    let at = words.iter().position(|word| word.as_str() == "--bsize")?;
-    match words.get(at + 1)?.as_str() {
-        "512" => Some(512),
-        "1024" => Some(1024),
-        "2048" => Some(2048),
-        "4096" => Some(4096),
-        _ => None,
+    if word == b"512".as_slice() {
+        return Some(512);
     }
+    if word == b"1024".as_slice() {
+        return Some(1024);
+    }
+    if word == b"2048".as_slice() {
+        return Some(2048);
+    }
+    if word == b"4096".as_slice() {
+        return Some(4096);
+    }
+    None
+}
+
+// The block size that the first of these words writes.
+fn first_size(words: &[String]) -> Option<u32>
+    ensures exact { result ≡ the_first_size (map string_bytes words.now) }
+    ensures some { IfSome result IsBlockSize }
+{
+    size_written(words.first()?.as_bytes())
+}
+
+// The block size that the word behind the first `--bsize` writes.
+fn size_given(words: &[String]) -> Option<u32>
+    ensures exact { result ≡ the_size_given (map string_bytes words.now) }
+    ensures some { IfSome result IsBlockSize }
+{
+    let mut rest = words;
+    while let [word, behind @ ..] = rest {
+        if word.as_bytes() == b"--bsize".as_slice() {
+            return first_size(behind);
+        }
+        rest = behind;
+    }
+    None
 }
 
 /// The block size of an image: that behind the first `--bsize` where it is one of the four, else that of the
@@ -40,9 +71,10 @@ pub fn block_size_of<F: Files<File = File>>(
     image: &str,
     words: &[String],
 ) -> io::Result<u32>
-    ensures { IfOk result IsBlockSize }
+    ensures some { IfOk result IsBlockSize }
+    ensures given { (size : ℕ) → the_size_given (map string_bytes words.now) ≡ Some size → result ≡ Ok size }
 {
-    if let Some(size) = size_in(words) {
+    if let Some(size) = size_given(words) {
         return Ok(size);
     }
     let mut file = File::open(rt, image)?;

@@ -1,5 +1,5 @@
 -- The bytes of a bitmap, made one by one.
-use Rattle.std.proofs.Common.{ℕ, zero, suc, ◌≡◌, ◌<◌, ◌≤◌, ◌+◌, List, [], ◌∷◌, ◌++◌, length, take, map, slice_set, refl, ap, sym, ◌∙◌, arith}
+use Rattle.std.proofs.Common.{ℕ, zero, suc, ◌≡◌, ◌<◌, ◌+◌, List, [], ◌∷◌, ◌++◌, length, take, map, slice_set, refl, ap, sym, ◌∙◌, arith}
 use Rattle.std.specs.List.{range_with_len}
 use Rattle.std.proofs.lemmas.List.{map-append}
 use Rattle.mkgfs2_tool.specs.Blocks.{bitmap, bitmap_byte}
@@ -19,4 +19,4 @@ pub byte_more : (p : Plan) (group start n : ℕ) (bytes : List ℕ) (b : ℕ) �
     → take (n + 1) (slice_set bytes n b) ≡ bitmap p group start (n + 1)
 byte_more p group start n bytes b within before is =
     take_set bytes n b within ∙ ap (λ xs. xs ++ b ∷ []) before ∙ ap (λ y. bitmap p group start n ++ y ∷ []) is
-      ∙ sym (ap (map (bitmap_byte p group)) (range_more start n) ∙ map-append (bitmap_byte p group) (range_with_len start n) ((start + n) ∷ []))
+    ∙ sym (ap (map (bitmap_byte p group)) (range_more start n) ∙ map-append (bitmap_byte p group) (range_with_len start n) ((start + n) ∷ []))

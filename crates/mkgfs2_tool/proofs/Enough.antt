@@ -3,7 +3,7 @@ use Rattle.std.proofs.Common.{ℕ, zero, suc, ◌≡◌, ◌+◌, ◌-◌, ◌*�
 use Rattle.std.specs.Prelude.{nat_le, ◌&&◌, ◌==◌, ◌^◌}
 use Rattle.std.proofs.lemmas.Bool.Decides.{nat_tests}
 use Rattle.std.proofs.Math.Nat.{mul-div_cancel_left, suc-mul, mul-le-mul, mul-pos, pow-suc, pow-zero}
-use Rattle.mkgfs2_tool.specs.Groups.{parts, first_bitmap, further_bitmap, super_block, share, group_address, group_blocks, data_blocks, header_blocks, last_group, all_data, data_before}
+use Rattle.mkgfs2_tool.specs.Groups.{parts, super_block, share, group_address, group_blocks, data_blocks, header_blocks, last_group, data_before}
 use Rattle.mkgfs2_tool.specs.Files.{content_blocks, height, level_blocks, level_start, file_blocks, block_pointers, IsShape}
 use Rattle.mkgfs2_tool.specs.Order.{taken, fits, group_list, journal}
 use Rattle.mkgfs2_tool.specs.Making.{IsPlan}
@@ -72,7 +72,7 @@ all_true x y t before first last = grind (arith, nat_tests)
 pub enlarged_fits : (p : Plan) → IsPlan p → fits (enlarged p) ≡ true
 enlarged_fits p is =
     all_true (data_blocks (enlarged p) 0) (data_blocks (enlarged p) (last_group p)) (taken p) (data_before (enlarged p) (last_group p))
-        (data_of p 0 is (even_first p is.some_groups)) (data_of p (last_group p) is (even_last p is.some_groups))
+    (data_of p 0 is (even_first p is.some_groups)) (data_of p (last_group p) is (even_last p is.some_groups))
 
 -- ---- how many blocks are taken at most
 
@@ -110,7 +110,6 @@ taken-few p is =
     let list : file_blocks (group_list p) ≤ 1 + 4 * (96 * p.groups) = file_blocks-few (group_list p) (record { size = is.size; bytes = omega (arith, is.groups) }) in
     let all : p.journals * file_blocks (journal p) ≤ 8 * (1 + 4 * (65536 * 4096)) = mul-le-mul {m₂ = 1 + 4 * (65536 * 4096)} is.journals (omega (arith, one, bytes)) in
     omega (arith, all, list, is.groups)
-
 
 -- and its number of blocks is small
 pub enough-small : (p : Plan) → IsPlan p → p.count ≤ 131072 → enough p < 2 ^ 48

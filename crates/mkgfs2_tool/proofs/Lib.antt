@@ -4,6 +4,10 @@ pub mod PutLaws
 pub mod PointerLaws
 pub mod CountLaws
 pub mod BitmapLaws
+pub mod UseLaws
+pub mod FlightLaws
+pub mod DiskLaws
+pub mod EndingLaws
 pub mod StandingLists
 pub mod StandingGiven
 pub mod StandingGround

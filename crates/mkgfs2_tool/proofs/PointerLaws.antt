@@ -1,6 +1,6 @@
 -- The addresses of a file's blocks, one after another.
-use Rattle.std.proofs.Common.{ℕ, zero, suc, ◌≡◌, ◌≤◌, ◌+◌, ◌*◌, List, [], ◌∷◌, ◌++◌, length, refl, ap, sym, ◌∙◌, arith, append_assoc, length-append, append-nil, rules}
-use Rattle.std.specs.List.{range_with_len, flat_map}
+use Rattle.std.proofs.Common.{ℕ, zero, suc, ◌≡◌, ◌≤◌, ◌+◌, ◌*◌, List, [], ◌∷◌, ◌++◌, length, refl, ap, sym, ◌∙◌, arith, append-nil}
+use Rattle.std.specs.List.{range_with_len}
 use Rattle.std.specs.Int.{w64, to_be_bytes}
 use Rattle.std.proofs.lemmas.Grind.{flat_map-append}
 use Rattle.std.proofs.lemmas.List.FromFn.{length-range_with_len}
@@ -8,7 +8,7 @@ use Rattle.gfs2_layout.specs.Bytes.{put_at}
 use Rattle.mkgfs2_tool.specs.Groups.{data_address}
 use Rattle.mkgfs2_tool.specs.Blocks.{addresses}
 use Rattle.mkgfs2_tool.specs.declared.plan.Plan.{Plan}
-use Rattle.mkgfs2_tool.proofs.PutLaws.{put_more, put_none}
+use Rattle.mkgfs2_tool.proofs.PutLaws.{put_more}
 
 -- a range with one number more
 pub range_more : (a n : ℕ) → range_with_len a (n + 1) ≡ range_with_len a n ++ (a + n) ∷ []
@@ -25,11 +25,11 @@ length-addresses p place (n ∷ ns) = let rest = length-addresses p place ns in 
 -- one address more
 pub address_more : (p : Plan) (at place first n : ℕ) (bytes : List ℕ) → at + 8 * n ≤ length bytes
     → put_at (at + 8 * n) (to_be_bytes w64 (data_address p (place + (first + n)))) (put_at at (addresses p place (range_with_len first n)) bytes)
-      ≡ put_at at (addresses p place (range_with_len first (n + 1))) bytes
+    ≡ put_at at (addresses p place (range_with_len first (n + 1))) bytes
 address_more p at place first n bytes room =
     let old = addresses p place (range_with_len first n) in
     let new = to_be_bytes w64 (data_address p (place + (first + n))) in
     let long : length old ≡ 8 * n = length-addresses p place (range_with_len first n) ∙ ap (λ k. 8 * k) (length-range_with_len first n) in
     let all : addresses p place (range_with_len first (n + 1)) ≡ old ++ new =
-      ap (addresses p place) (range_more first n) ∙ flat_map-append (λ k. to_be_bytes w64 (data_address p (place + k))) (range_with_len first n) ((first + n) ∷ []) ∙ ap (λ b. old ++ b) (append-nil new) in
+    ap (addresses p place) (range_more first n) ∙ flat_map-append (λ k. to_be_bytes w64 (data_address p (place + k))) (range_with_len first n) ((first + n) ∷ []) ∙ ap (λ b. old ++ b) (append-nil new) in
     ap (λ k. put_at (at + k) new (put_at at old bytes)) (sym long) ∙ put_more at old new bytes (omega (arith, room)) ∙ ap (λ b. put_at at b bytes) (sym all)

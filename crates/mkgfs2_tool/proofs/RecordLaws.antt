@@ -1,5 +1,5 @@
 -- Records of a new directory, one after another.
-use Rattle.std.proofs.Common.{ℕ, ◌≡◌, ◌≢◌, ◌≤◌, ◌*◌, ◌+◌, ◌-◌, suc, zero, arith,  List, [], ◌∷◌, ◌++◌, length, take, drop, map, slice_index_or, refl, ap, sym, ◌∙◌, subst}
+use Rattle.std.proofs.Common.{ℕ, ◌≡◌, ◌≢◌, ◌≤◌, ◌*◌, ◌+◌, ◌-◌, suc, zero, arith, List, [], ◌∷◌, ◌++◌, length, take, drop, map, slice_index_or, refl, ap, sym, ◌∙◌, subst}
 use Rattle.std.proofs.Math.Seq.{take-length}
 use Rattle.std.specs.List.{range_with_len}
 use Rattle.mkgfs2_tool.specs.Order.{master_place, journals_place}

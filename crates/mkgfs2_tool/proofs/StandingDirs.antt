@@ -17,7 +17,7 @@ use Rattle.mkgfs2_tool.specs.Groups.{super_block, data_address}
 use Rattle.mkgfs2_tool.specs.Files.{file_blocks}
 use Rattle.mkgfs2_tool.specs.Order.{master_place, root_place, group_list_place, journals_place, journal_place, group_list, taken, use_of}
 use Rattle.mkgfs2_tool.specs.Directories.{records, Fit, name_of as name_in, entry, journal_entry, master_entries, root_entries, journals_entries}
-use Rattle.mkgfs2_tool.specs.Blocks.{zeros, new_block, used_block, dinode, dinode_block, directory, area_length, master_block, root_block, journals_block}
+use Rattle.mkgfs2_tool.specs.Blocks.{data_block, zeros, new_block, used_block, dinode, dinode_block, directory, area_length, master_block, root_block, journals_block}
 use Rattle.mkgfs2_tool.specs.Making.{IsFitting}
 use Rattle.mkgfs2_tool.specs.declared.directory.Entry.{Entry}
 use Rattle.mkgfs2_tool.specs.declared.directory.Name.{Name}
@@ -250,10 +250,11 @@ module _ (p : Plan) (fit : IsFitting p) (known : Known p) where
       drop_zero a b e = omega (arith, e)
 
   used_at : (place : ℕ) → place < taken p → new_block p (data_address p place) ≡ used_block p (use_of p place)
+  unfolding data_block
   used_at place kept = new_data p fit place (in_all p fit place kept) ∙ cond-true _ _ _ (lt-ltb place (taken p) kept)
 
   pub master_at : IsDirectoryAt p master_place 1 4 3 (master_entries p)
-  unfolding master_block dinode_block
+  unfolding master_block dinode_block used_block
   master_at = record {
     kept = some_taken p;
     block = used_at master_place (some_taken p);
@@ -287,7 +288,7 @@ module _ (p : Plan) (fit : IsFitting p) (known : Known p) where
       fits n large = (omega (arith, large), (omega (arith, large), (omega (arith, large), omega (arith, large))))
 
   pub root_at : IsDirectoryAt p root_place 2 2 2 (root_entries p)
-  unfolding root_block dinode_block
+  unfolding root_block dinode_block used_block
   root_at = record {
     kept = two_taken p;
     block = used_at root_place (two_taken p);
@@ -330,7 +331,7 @@ module _ (p : Plan) (fit : IsFitting p) (known : Known p) where
   journals_are start (suc n) ok = (journal_is start (omega (arith, ok)), journals_are (start + 1) n (omega (arith, ok)))
 
   pub journals_at : IsDirectoryAt p (journals_place p) 4 (2 + p.journals) 2 (journals_entries p)
-  unfolding journals_block dinode_block
+  unfolding journals_block dinode_block used_block
   journals_at = record {
     kept = journals_taken p;
     block = used_at (journals_place p) (journals_taken p) ∙ ap (used_block p) (use_of_journals p);

@@ -16,7 +16,7 @@ use Rattle.image_model.specs.Inode.{span}
 use Rattle.mkgfs2_tool.specs.Groups.{data_address, parts}
 use Rattle.mkgfs2_tool.specs.Files.{dinode_pointers, block_pointers, content_blocks, height, level_blocks, level_start, file_blocks, fan, children, part}
 use Rattle.mkgfs2_tool.specs.Order.{journal_place, group_list_place, taken}
-use Rattle.mkgfs2_tool.specs.Blocks.{zeros, addresses, dinode, dinode_block, system_file, group_entry, group_entries, pointing_dinode, pointer_block, group_list_block, journal_block, used_block, new_block}
+use Rattle.mkgfs2_tool.specs.Blocks.{data_block, zeros, addresses, dinode, dinode_block, system_file, group_entry, group_entries, pointing_dinode, pointer_block, group_list_block, journal_block, used_block, new_block}
 use Rattle.mkgfs2_tool.specs.Making.{IsFitting}
 use Rattle.mkgfs2_tool.specs.declared.files.Part.TheVariants.{Top, Pointers, Content}
 use Rattle.mkgfs2_tool.specs.declared.plan.Plan.{Plan}
@@ -174,6 +174,7 @@ module _ (p : Plan) (fit : IsFitting p) (known : Known p) where
 
   -- what stands in a block of a file
   pub file_block : (i n : ℕ) → i ≤ p.journals → n < file_blocks (file_shape p i) → new_block p (spot p i n) ≡ used_block p (file_use i (part (file_shape p i) n))
+  unfolding data_block
   file_block i n ok inside =
       new_data p fit (file_place p i + n) (in_all p fit (file_place p i + n) (file_taken p i n ok inside))
       ∙ cond-true _ _ _ (lt-ltb (file_place p i + n) (taken p) (file_taken p i n ok inside))
@@ -203,6 +204,7 @@ module _ (p : Plan) (fit : IsFitting p) (known : Known p) where
       height_small n few = omega (arith, few)
 
   pub length_entries : length (group_entries p) ≡ 96 * p.groups
+  unfolding group_entries
   length_entries = length_pieces (λ g. rindex_put (group_entry p g) (replicate 96 0)) 96 (range_with_len 0 p.groups) (λ g. known.given.structures.rindex.as_long (group_entry p g) (replicate 96 0) (omega arith) tt)
       ∙ ap (λ n. n * 96) (length-range_with_len 0 p.groups) ∙ turn p.groups
     where
@@ -258,7 +260,7 @@ module _ (p : Plan) (fit : IsFitting p) (known : Known p) where
   behind_room (suc j) = top_room (suc j)
 
   top_block : (i : ℕ) → used_block p (file_use i Top) ≡ put_at 232 (file_behind p i) (dinode_put (file_dinode p i) (zeros p))
-  unfolding group_list_block pointing_dinode dinode_block journal_block
+  unfolding group_list_block pointing_dinode dinode_block journal_block group_entries used_block
   top_block zero = each (height (file_shape p 0) == 0) (file_dinode p 0) (group_entries p) (top_addresses 0)
     where
       each : (v : Bool) (d : Dinode) (a b : List ℕ) → (if v then dinode_block p d a else dinode_block p d b) ≡ put_at 232 (if v then a else b) (dinode_put d (zeros p))
@@ -311,7 +313,7 @@ module _ (p : Plan) (fit : IsFitting p) (known : Known p) where
       wide = cond-false _ _ _ (ne_eqb l 0 (λ e. absurd (omega (arith, e, some))))
 
   pointer_use : (i l x : ℕ) → used_block p (file_use i (Pointers l x)) ≡ put_at 24 (spelled (spot p i) (children (file_shape p i) l x)) (header_put pointer_header (zeros p))
-  unfolding group_list_block journal_block pointer_block
+  unfolding used_block group_list_block journal_block pointer_block
   pointer_use zero l x = refl
   pointer_use (suc j) l x = refl
 

@@ -17,7 +17,7 @@ use Rattle.image_model.specs.Owners.{Holding, bytes_at}
 use Rattle.image_model.specs.Stands.{IsGroupList}
 use Rattle.mkgfs2_tool.specs.Groups.{last_group, group_address, group_blocks, headers_of, first_data, data_blocks}
 use Rattle.mkgfs2_tool.specs.Files.{content_blocks, height}
-use Rattle.mkgfs2_tool.specs.Blocks.{group_entry, group_entries, group_list_block}
+use Rattle.mkgfs2_tool.specs.Blocks.{used_block, group_entry, group_entries, group_list_block}
 use Rattle.mkgfs2_tool.specs.Making.{IsFitting}
 use Rattle.mkgfs2_tool.specs.declared.plan.Plan.{Plan}
 use Rattle.mkgfs2_tool.proofs.StandingLists.{IsIn, from_range, map_same, flat_map_same}
@@ -62,7 +62,7 @@ module _ (p : Plan) (fit : IsFitting p) where
       under g n low = omega (arith, low)
 
   pub entries_back : Given → length (group_entries p) ≡ 96 * p.groups → groups_in (group_entries p) ≡ map (group_entry p) (range_with_len 0 p.groups)
-  unfolding groups_in
+  unfolding groups_in group_entries
   entries_back given long =
       ap (λ n. map (λ i. rindex_of (slice (96 * i) 96 (group_entries p))) (range_with_len 0 n)) (ap (λ n. n / 96) (long ∙ turn p.groups) ∙ mul-div_cancel p.groups (omega arith))
       ∙ map_same (λ i. rindex_of (slice (96 * i) 96 (group_entries p))) (group_entry p) (range_with_len 0 p.groups) each
@@ -107,7 +107,7 @@ module _ (p : Plan) (fit : IsFitting p) (known : Known p) (at : Blocks) (made : 
       ∙ take_at (group_entries p) (replicate (p.size - 232 - length (file_behind p 0)) 0) (96 * p.groups) (length_entries p fit known)
 
   carried_is : 1 ≤ height (file_shape p 0) → (x : ℕ) → x < content_blocks (file_shape p 0) → carried h (content_block h x) ≡ filled p.size (slice (x * p.size) p.size (group_entries p))
-  unfolding group_list_block
+  unfolding group_list_block used_block
   carried_is high x inside =
       cond-false _ _ _ (ne_eqb (content_block h x) 0 (content_some p fit known at made 0 none_ok x high inside))
       ∙ ap₂ drop (ap (λ n. p.size - n) (unit_is p fit known at made 0 none_ok) ∙ none p.size) (content_bytes p fit known at made 0 none_ok x high inside)

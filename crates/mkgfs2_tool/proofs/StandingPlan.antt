@@ -77,6 +77,7 @@ module _ (p : Plan) (fit : IsFitting p) where
   -- ---- what is in a block of a group
 
   pub new_at : (g n : ℕ) → g ≤ last_group p → n < group_blocks p g → new_block p (group_address p g + n) ≡ group_block p g n
+  unfolding group_block new_block
   new_at g n ok low =
       cond-false _ _ _ (le-ltb (group_address p g + n) (super_block p) (omega arith))
       ∙ cond-false _ _ _ (ne_eqb (group_address p g + n) (super_block p) (λ e. absurd (omega (arith, e))))
@@ -87,6 +88,7 @@ module _ (p : Plan) (fit : IsFitting p) where
       gone a r = omega arith
 
   pub new_header : (g n : ℕ) → g ≤ last_group p → n < headers_of p g → new_block p (group_address p g + n) ≡ header_block p g n
+  unfolding group_block
   new_header g n ok low = new_at g n ok (omega (arith, low, held g ok)) ∙ cond-true _ _ _ (lt-ltb n (headers_of p g) low)
 
   -- a data block of a group, by its place in the group and by its place among all
@@ -105,6 +107,7 @@ module _ (p : Plan) (fit : IsFitting p) where
   apart_addresses k n low low' e = apart (ground p) ground_is k n low low' e
 
   pub new_room : (g r : ℕ) → g ≤ last_group p → r < data_blocks p g → new_block p (first_data p g + r) ≡ data_block p (data_before p g + r)
+  unfolding group_block
   new_room g r ok low =
       ap (new_block p) (let e : first_data p g + r ≡ group_address p g + (headers_of p g + r) = omega arith in e)
       ∙ new_at g (headers_of p g + r) ok (omega (arith, low, held g ok))
@@ -138,4 +141,5 @@ module _ (p : Plan) (fit : IsFitting p) where
       here at = subst (λ n. super_block p < data_address p n) (sym at.is) (omega (arith, address_at at.group at.offset at.listed at.inside))
 
   pub new_super : new_block p (super_block p) ≡ superblock_put (superblock p) (zeros p)
+  unfolding new_block
   new_super = cond-false _ _ _ (le-ltb (super_block p) (super_block p) (omega arith)) ∙ cond-true _ _ _ (eq-eqb (super_block p) (super_block p) refl)

@@ -218,14 +218,14 @@ module _ (p : Plan) (fit : IsFitting p) (known : Known p) (at : Blocks) (made : 
   inside_content q low = subst (λ n. q < n) (sym journal_content) low
 
   ring_first : (ring_of hj).at 0 ≡ log_put (clean_header j) (zeros p)
-  unfolding journal_block
+  unfolding journal_block used_block
   ring_first = content_bytes p fit known at made (suc j) ok 0 journal_high (inside_content 0 (some_blocks p.journal_blocks fit.plan.some_journal_blocks))
     where
       some_blocks : (n : ℕ) → 512 ≤ n → 0 < n
       some_blocks n some = omega (arith, some)
 
   ring_later : (q : ℕ) → 1 ≤ q → q < p.journal_blocks → (ring_of hj).at q ≡ zeros p
-  unfolding journal_block
+  unfolding journal_block used_block
   ring_later q some low = content_bytes p fit known at made (suc j) ok q journal_high (inside_content q low) ∙ cond-false _ _ _ (ne_eqb q 0 (λ e. absurd (omega (arith, e, some))))
 
   best_is : (n : ℕ) → suc n ≤ p.journal_blocks → best_from (ring_of hj) 0 (suc n) ≡ Some (clean_header j)

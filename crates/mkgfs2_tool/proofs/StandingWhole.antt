@@ -19,7 +19,7 @@ use Rattle.mkgfs2_tool.specs.Groups.{super_block, last_group, headers_of, first_
 use Rattle.mkgfs2_tool.specs.Files.{height, level_start}
 use Rattle.mkgfs2_tool.specs.Order.{master_place, root_place, journals_place, taken}
 use Rattle.mkgfs2_tool.specs.Directories.{records, master_entries, root_entries, journals_entries}
-use Rattle.mkgfs2_tool.specs.Blocks.{zeros, shift_of, superblock, bitmap_byte, bitmap, group_header, first_header_block, further_header_block, header_block, area_length, dinode, directory, group_entries, group_list_block, journal_block, clean_header, used_block, new_block}
+use Rattle.mkgfs2_tool.specs.Blocks.{group_block, data_block, zeros, shift_of, superblock, bitmap_byte, bitmap, group_header, first_header_block, further_header_block, header_block, area_length, dinode, directory, group_entries, group_list_block, journal_block, clean_header, used_block, new_block}
 use Rattle.mkgfs2_tool.specs.Making.{IsFitting}
 use Rattle.mkgfs2_tool.specs.declared.directory.Entry.{Entry}
 use Rattle.mkgfs2_tool.specs.declared.files.Part.TheVariants.{Content}
@@ -175,7 +175,7 @@ module _ (p : Plan) (fit : IsFitting p) (known : Known p) where
       sum n m s le e = omega (arith, le, e)
 
   content_long : (i x : ℕ) → length (used_block p (file_use i (Content x))) ≡ p.size
-  unfolding group_list_block journal_block
+  unfolding group_list_block journal_block group_entries used_block
   content_long zero x = filled_long (slice (x * p.size) p.size (group_entries p)) (least p.size (length (drop (x * p.size) (group_entries p))) (length (slice (x * p.size) p.size (group_entries p))) (length-take p.size (drop (x * p.size) (group_entries p))))
     where
       least : (s n m : ℕ) → m ≡ min s n → m ≤ s
@@ -213,12 +213,14 @@ module _ (p : Plan) (fit : IsFitting p) (known : Known p) where
       each (is_file i n ok inside e) = ap (λ m. length (new_block p (data_address p m))) e ∙ of_piece i n ok (piece (file_shape p i) (file_low p fit known i) n inside)
 
   room_long : (g r : ℕ) → g ≤ last_group p → r < data_blocks p g → length (new_block p (first_data p g + r)) ≡ p.size
+  unfolding data_block
   room_long g r ok inside = elim (cases_lt (data_before p g + r) (taken p)) [
     | inl less ↦ ap (λ n. length (new_block p n)) (sym (address_at p fit g r ok inside)) ∙ taken_long (data_before p g + r) less
     | inr ge ↦ ap length (new_room p fit g r ok inside ∙ cond-false _ _ _ (le-ltb (data_before p g + r) (taken p) ge)) ∙ clear_long p.size
   ]
 
   pub new_whole : (b : ℕ) → b < p.count → length (new_block p b) ≡ p.size
+  unfolding new_block group_block
   new_whole b low = each (zone p fit b)
     where
       never : (b c : ℕ) → b < c → c ≤ b → ⊥

@@ -1,5 +1,5 @@
 -- What stands in each block of a new image.
-use Rattle.std.specs.Prelude.{ℕ, ◌≡◌, ◌+◌, ◌-◌, ◌*◌, ◌/◌, ◌%◌, ◌<◌, ◌≤◌, ◌==◌, ◌&&◌, Bool, true, false, min, nat_le, nat_lt, if◌then◌else◌, List, [], ◌∷◌, ◌++◌, length, map, take, drop, replicate, codes, count_by}
+use Rattle.std.specs.Prelude.{ℕ, ◌≡◌, ◌+◌, ◌-◌, ◌*◌, ◌/◌, ◌==◌, ◌&&◌, Bool, true, false, min, nat_le, nat_lt, if◌then◌else◌, List, ◌++◌, length, map, replicate, codes, count_by}
 use Rattle.std.specs.List.{range_with_len, flat_map}
 use Rattle.std.specs.Int.{w64, to_be_bytes}
 use Rattle.gfs2_layout.specs.Bytes.{put_at, slice}
@@ -10,7 +10,7 @@ use Rattle.gfs2_layout.specs.declared.dinode.Dinode.{Dinode}
 use Rattle.gfs2_layout.specs.declared.rindex.Rindex.{Rindex}
 use Rattle.gfs2_layout.specs.declared.group_header.GroupHeader.{GroupHeader}
 use Rattle.gfs2_layout.specs.declared.log_header.LogHeader.{LogHeader}
-use Rattle.mkgfs2_tool.specs.Groups.{super_block, share, last_group, group_address, group_blocks, headers_of, first_data, data_blocks, data_before, data_address}
+use Rattle.mkgfs2_tool.specs.Groups.{super_block, share, last_group, group_address, headers_of, first_data, data_blocks, data_before, data_address}
 use Rattle.mkgfs2_tool.specs.Files.{height, file_blocks, children}
 use Rattle.mkgfs2_tool.specs.declared.files.Shape.{Shape}
 use Rattle.mkgfs2_tool.specs.declared.files.Part.{Part}
@@ -129,8 +129,12 @@ group_entry p group = record {
   bitbytes = data_blocks p group / 4;
 }
 
-abbrev pub group_entries : Plan → List ℕ
-group_entries p = flat_map (λ group. rindex_put (group_entry p group) (replicate 96 0)) (range_with_len 0 p.groups)
+-- the entries of the first groups, so many
+abbrev pub entries_of : Plan → ℕ → List ℕ
+entries_of p groups = flat_map (λ group. rindex_put (group_entry p group) (replicate 96 0)) (range_with_len 0 groups)
+
+unfoldable pub group_entries : Plan → List ℕ
+group_entries p = entries_of p p.groups
 
 -- these bytes are the list of groups
 pub record IsGroupList (p : Plan) (bytes : List ℕ) : Type 0 where
@@ -249,7 +253,7 @@ journals_block p = dinode_block p (dinode p 4 (journals_place p) (directory p (2
 
 -- ---- the image
 
-abbrev pub used_block : Plan → Use → List ℕ
+unfoldable pub used_block : Plan → Use → List ℕ
 used_block p Master = master_block p
 used_block p Root = root_block p
 used_block p (GroupList part) = group_list_block p part
@@ -257,11 +261,11 @@ used_block p Journals = journals_block p
 used_block p (Journal j part) = journal_block p j part
 
 -- data block k
-abbrev pub data_block : Plan → ℕ → List ℕ
+unfoldable pub data_block : Plan → ℕ → List ℕ
 data_block p k = if nat_lt k (taken p) then used_block p (use_of p k) else zeros p
 
 -- block n of a group
-abbrev pub group_block : Plan → ℕ → ℕ → List ℕ
+unfoldable pub group_block : Plan → ℕ → ℕ → List ℕ
 group_block p group n =
     if nat_lt n (headers_of p group) then header_block p group n
     else if nat_lt (n - headers_of p group) (data_blocks p group) then data_block p (data_before p group + (n - headers_of p group))
@@ -272,7 +276,7 @@ abbrev pub group_at : Plan → ℕ → ℕ
 group_at p block = min ((block - super_block p - 1) / share p) (last_group p)
 
 -- block by block
-abbrev pub new_block : Plan → ℕ → List ℕ
+unfoldable pub new_block : Plan → ℕ → List ℕ
 new_block p block =
     if nat_lt block (super_block p) then zeros p
     else if block == super_block p then superblock_put (superblock p) (zeros p)

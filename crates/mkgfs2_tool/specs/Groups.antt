@@ -1,5 +1,5 @@
 -- Where the resource groups of a new image lie.
-use Rattle.std.specs.Prelude.{ℕ, ◌≡◌, ◌+◌, ◌-◌, ◌*◌, ◌/◌, ◌<◌, ◌≤◌, ◌==◌, min, if◌then◌else◌}
+use Rattle.std.specs.Prelude.{ℕ, ◌+◌, ◌-◌, ◌*◌, ◌/◌, ◌≤◌, ◌==◌, min, if◌then◌else◌}
 use Rattle.mkgfs2_tool.specs.declared.plan.Plan.{Plan}
 
 -- how many parts of this size the whole makes, the last of them maybe smaller

@@ -4,4 +4,5 @@ pub mod Order
 pub mod Directories
 pub mod Blocks
 pub mod Making
+pub mod Outcomes
 pub mod Standing

@@ -1,14 +1,16 @@
 -- When an image is made, and when not.
-use Rattle.std.specs.Prelude.{ℕ, ⊤, ◌≡◌, ◌+◌, ◌^◌, ◌<◌, ◌≤◌, ◌&&◌, ◌==◌, ◌⊎◌, Bool, true, false, nat_le, if◌then◌else◌, List, length, Option, None, Some, Result, Ok, Err, IsTrue}
+use Rattle.std.specs.Prelude.{ℕ, ⊤, ◌≡◌, ◌^◌, ◌<◌, ◌≤◌, ◌&&◌, ◌⊎◌, Bool, nat_le, if◌then◌else◌, Option, None, Some, IfSome}
 use Rattle.mkgfs2_tool.specs.Groups.{data_blocks, last_group, all_data}
-use Rattle.mkgfs2_tool.specs.Order.{taken, group_list, journal}
-use Rattle.mkgfs2_tool.specs.declared.files.Shape.{Shape}
+use Rattle.mkgfs2_tool.specs.Order.{taken}
 use Rattle.mkgfs2_tool.specs.declared.files.Part.{Part}
 use Rattle.mkgfs2_tool.specs.declared.files.Part.TheVariants.{Top, Pointers, Content}
 use Rattle.mkgfs2_tool.specs.declared.order.Use.{Use}
-use Rattle.mkgfs2_tool.specs.declared.order.Use.TheVariants.{Master, Root, GroupList, Journals, Journal}
+use Rattle.mkgfs2_tool.specs.declared.order.Use.TheVariants.{GroupList, Journal}
 use Rattle.mkgfs2_tool.specs.declared.options.MakeOptions.{MakeOptions}
 use Rattle.mkgfs2_tool.specs.declared.options.Opt.{Opt}
+use Rattle.fault_counts.specs.Causes.{WentUp}
+use Rattle.mkgfs2_tool.specs.declared.options.MakeFault.{MakeFault}
+use Rattle.mkgfs2_tool.specs.declared.options.MakeFault.TheVariants.{DeviceFault}
 use Rattle.mkgfs2_tool.specs.declared.options.Opt.TheVariants as opt
 use Rattle.mkgfs2_tool.specs.declared.plan.Plan.{Plan}
 
@@ -19,7 +21,7 @@ is_between low high n = nat_le low n && nat_le n high
 abbrev pub bad_option : MakeOptions → Option Opt
 bad_option o =
     if is_between 1 8 o.journals then
-      (if is_between 512 65536 o.journal_blocks then (if is_between 1 64 o.groups then None else Some opt.Groups) else Some opt.JournalBlocks)
+    (if is_between 512 65536 o.journal_blocks then (if is_between 1 64 o.groups then None else Some opt.Groups) else Some opt.JournalBlocks)
     else Some opt.Journals
 
 -- what a device of so many blocks of this size is to become
@@ -50,13 +52,21 @@ pub record IsFitting (p : Plan) : Type 0 where
   pub room : taken p ≤ all_data p
   pub linear : HasLinearJournals p
 
--- a block of a file that has this part may stand there
-abbrev pub IsPartOf : Shape → Part → Type 0
-IsPartOf f Top = ⊤
-IsPartOf f (Pointers level index) = (1 ≤ level) × (level ≤ 3) × (index < 2 ^ 38)
-IsPartOf f (Content n) = n < 2 ^ 38
+-- a part has one of the levels below the dinode, and its place is small
+abbrev pub IsPartOf : Part → Type 0
+IsPartOf Top = ⊤
+IsPartOf (Pointers level index) = (1 ≤ level) × (level ≤ 3) × (index < 2 ^ 38)
+IsPartOf (Content n) = n < 2 ^ 38
 
-abbrev pub IsUseOf : Plan → Use → Type 0
-IsUseOf p (GroupList part) = IsPartOf (group_list p) part
-IsUseOf p (Journal j part) = (j < 8) × IsPartOf (journal p) part
-IsUseOf p _ = ⊤
+abbrev pub IsUseOf : Use → Type 0
+IsUseOf (GroupList part) = IsPartOf part
+IsUseOf (Journal j part) = (j < 8) × IsPartOf part
+IsUseOf _ = ⊤
+
+-- a fault of the disk, told with the block, if it was at one, and with the rise of node 0's count
+abbrev pub IsFaultOf : ℕ → (ℕ → ℕ) → (ℕ → ℕ) → MakeFault → Type 0
+IsFaultOf count before now (DeviceFault block x y) = WentUp (before 0) (now 0) x y × IfSome block (λ b. b < count)
+IsFaultOf count before now _ = ⊥
+
+abbrev pub IsBlockSize : ℕ → Type 0
+IsBlockSize size = (size ≡ 512) ⊎ ((size ≡ 1024) ⊎ ((size ≡ 2048) ⊎ (size ≡ 4096)))

@@ -1,7 +1,7 @@
 -- The order in which the data blocks of a new image are taken.
-use Rattle.std.specs.Prelude.{ℕ, ◌≡◌, ◌+◌, ◌-◌, ◌*◌, ◌/◌, ◌%◌, ◌≤◌, ◌<◌, ◌==◌, ◌&&◌, Bool, true, false, nat_le, nat_lt, if◌then◌else◌, List, [], ◌∷◌, ◌++◌, map, count_by}
+use Rattle.std.specs.Prelude.{ℕ, ◌≡◌, ◌+◌, ◌-◌, ◌*◌, ◌/◌, ◌%◌, ◌≤◌, ◌<◌, ◌==◌, ◌&&◌, Bool, true, false, nat_le, nat_lt, if◌then◌else◌, List, ◌∷◌, map}
 use Rattle.std.specs.List.{range_with_len}
-use Rattle.mkgfs2_tool.specs.Groups.{all_data, data_blocks, data_before, last_group}
+use Rattle.mkgfs2_tool.specs.Groups.{all_data, data_blocks, last_group}
 use Rattle.mkgfs2_tool.specs.Files.{part, file_blocks}
 use Rattle.mkgfs2_tool.specs.declared.files.Shape.{Shape}
 use Rattle.mkgfs2_tool.specs.declared.order.Use.{Use}

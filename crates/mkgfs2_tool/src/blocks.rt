@@ -21,6 +21,18 @@ fn text_field(text: &[u8]) -> [u8; 64]
     field
 }
 
+// So many bytes from a place on, as far as there are any.
+#[tactic(auto, using(crate::proofs::PutLaws::piece))]
+fn piece_of(bytes: &[u8], at: usize, count: usize) -> &[u8]
+    requires { count ≤ 4096 }
+    ensures value { result.now ≡ slice at count bytes.now }
+    ensures short { length result.now ≤ count }
+{
+    let start = bytes.len().min(at);
+    let end = bytes.len().min(start + count);
+    &bytes[start..end]
+}
+
 // The exponent of one of the four block sizes.
 fn shift_of(size: u64) -> u32
     ensures { result ≡ shift_of_size size }
@@ -68,7 +80,7 @@ impl Plan {
         requires plan { IsFitting self.now }
         requires size { length block.old ≡ self.now.size }
         requires entries { IsGroupList self.now entries.now }
-        requires part { IsPartOf (group_list self.now) part }
+        requires part { IsPartOf part }
         ensures { block.new ≡ group_list_block self.now part }
     {
         let shape = self.group_list();
@@ -99,10 +111,9 @@ impl Plan {
         requires n { n < 2 ^ 40 }
         ensures { block.new ≡ padded self.now (slice (n * self.now.size) self.now.size content.now) }
     {
-        let start = content.len().min((n * self.size) as usize);
-        let end = content.len().min(start + self.size as usize);
+        let piece = piece_of(content, (n * self.size) as usize, self.size as usize);
         self.clear(block);
-        put_bytes(block, 0, &content[start..end]);
+        put_bytes(block, 0, piece);
     }
 
     // The first block of a journal.
@@ -129,7 +140,7 @@ impl Plan {
         requires plan { IsFitting self.now }
         requires size { length block.old ≡ self.now.size }
         requires number { number < 8 }
-        requires part { IsPartOf (journal self.now) part }
+        requires part { IsPartOf part }
         ensures { block.new ≡ journal_block self.now number part }
     {
         let place = self.journal_place(number);
@@ -143,11 +154,12 @@ impl Plan {
     }
 
     // A block that is taken.
+    #[tactic(auto, unfolding(crate::specs::Blocks::used_block))]
     fn put_used(&self, block: &mut [u8], used: Use, entries: &[u8])
         requires plan { IsFitting self.now }
         requires size { length block.old ≡ self.now.size }
         requires entries { IsGroupList self.now entries.now }
-        requires used { IsUseOf self.now used }
+        requires used { IsUseOf used }
         ensures { block.new ≡ used_block self.now used }
     {
         match used {
@@ -156,6 +168,82 @@ impl Plan {
             Use::GroupList(part) => self.put_group_list(block, part, entries),
             Use::Journals => self.put_journals(block),
             Use::Journal { number, part } => self.put_journal(block, number, part),
+        }
+    }
+
+    // Data block `k`.
+    #[tactic(auto, unfolding(crate::specs::Blocks::data_block))]
+    fn put_data_block(&self, block: &mut [u8], k: u64, entries: &[u8])
+        requires plan { IsFitting self.now }
+        requires size { length block.old ≡ self.now.size }
+        requires entries { IsGroupList self.now entries.now }
+        ensures { block.new ≡ data_block self.now k }
+    {
+        if k < self.taken() {
+            self.put_used(block, self.use_of(k), entries);
+        } else {
+            self.clear(block);
+        }
+    }
+
+    // Block `n` of a group.
+    #[tactic(auto, unfolding(crate::specs::Blocks::group_block))]
+    fn put_group_block(&self, block: &mut [u8], group: u64, n: u64, entries: &[u8])
+        requires plan { IsFitting self.now }
+        requires size { length block.old ≡ self.now.size }
+        requires group { group ≤ 64 }
+        requires n { n ≤ 131072 }
+        requires entries { IsGroupList self.now entries.now }
+        ensures { block.new ≡ group_block self.now group n }
+    {
+        let headers = self.headers_of(group);
+        if n < headers {
+            self.put_header_block(block, group, n);
+        } else if n - headers < self.data_blocks(group) {
+            self.put_data_block(block, self.data_before(group) + (n - headers), entries);
+        } else {
+            self.clear(block);
+        }
+    }
+
+    fn put_superblock(&self, block: &mut [u8])
+        requires plan { IsFitting self.now }
+        requires size { length block.old ≡ self.now.size }
+        ensures { block.new ≡ superblock_put (superblock self.now) (zeros self.now) }
+    {
+        self.clear(block);
+        self.superblock().write(block);
+    }
+
+    // The group in which a block lies.
+    #[tactic(auto, using(crate::proofs::UseLaws::shares_are_some))]
+    fn group_at(&self, block: u64) -> u64
+        requires { IsFitting self.now }
+        ensures value { result ≡ group_at self.now block }
+        ensures bound { result ≤ 64 }
+    {
+        let behind = block.saturating_sub(self.super_block() + 1);
+        (behind / self.share()).min(self.groups - 1)
+    }
+
+    /// What is to stand in a block of the device, where the bytes of the list of groups are given.
+    #[tactic(auto, unfolding(crate::specs::Blocks::new_block))]
+    pub(crate) fn put_block(&self, block: &mut [u8], number: u64, entries: &[u8])
+        requires plan { IsFitting self.now }
+        requires size { length block.old ≡ self.now.size }
+        requires number { number < 131072 }
+        requires entries { IsGroupList self.now entries.now }
+        ensures { block.new ≡ new_block self.now number }
+    {
+        let superblock = self.super_block();
+        if number < superblock {
+            self.clear(block);
+        } else if number == superblock {
+            self.put_superblock(block);
+        } else {
+            let group = self.group_at(number);
+            let n = number.saturating_sub(self.group_address(group));
+            self.put_group_block(block, group, n, entries);
         }
     }
 }

@@ -1,4 +1,5 @@
 ghost use Rattle.std.specs.Prelude.{◌≡◌, ◌≢◌, ◌+◌, ◌-◌, ◌*◌, ◌^◌, ◌<◌, ◌≤◌};
+ghost use Rattle.mkgfs2_tool.specs.Making.{IsPartOf};
 ghost use Rattle.mkgfs2_tool.specs.Files.{IsShape, dinode_pointers as dinode_pointers_of, block_pointers as block_pointers_of};
 
 use crate::plan::parts;
@@ -132,8 +133,11 @@ impl Shape {
 
     fn part_at(&self, level: u64, n: u64) -> Part
         requires shape { IsShape self.now }
-        requires level { level ≤ 4 }
-        ensures { result ≡ part_at self.now level n }
+        requires some { 1 ≤ level }
+        requires level { level ≤ 3 }
+        requires n { n < 2 ^ 38 }
+        ensures value { result ≡ part_at self.now level n }
+        ensures part { IsPartOf result }
     {
         let index = n.saturating_sub(self.level_start(level));
         if level == self.height() {
@@ -145,8 +149,10 @@ impl Shape {
 
     /// What block `n` of the file is.
     pub(crate) fn part(&self, n: u64) -> Part
-        requires { IsShape self.now }
-        ensures { result ≡ part self.now n }
+        requires shape { IsShape self.now }
+        requires n { n < 2 ^ 38 }
+        ensures value { result ≡ part self.now n }
+        ensures part { IsPartOf result }
     {
         if n == 0 {
             Part::Top

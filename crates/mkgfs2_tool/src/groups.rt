@@ -9,7 +9,9 @@ use crate::plan::Plan;
 use gfs2_layout::{GroupHeader, Rindex, pack};
 
 const FREE: u8 = 0;
+
 const USED: u8 = 1;
+
 const DINODE: u8 = 3;
 
 fn is_dinode_part(part: Part) -> bool
@@ -115,11 +117,7 @@ impl Plan {
         ensures value { result ≡ count_by (is_within_of (data_before self.now group) (data_blocks self.now group)) (place ∷ []) }
         ensures bound { result ≤ 1 }
     {
-        u32::from(is_within(
-            self.data_before(group),
-            self.data_blocks(group),
-            place,
-        ))
+        u32::from(is_within(self.data_before(group), self.data_blocks(group), place))
     }
 
     // How many dinodes a group has.

@@ -11,15 +11,19 @@ use crate::plan::Plan;
 use gfs2_layout::{Dinode, Inum};
 
 const DIRECTORY: u32 = 0o040_755;
+
 const SYSTEM_FILE: u32 = 0o100_600;
 
 // The flags of an inode whose content is journaled, and of a system file.
 const JOURNALED: u32 = 0x1;
+
 const SYSTEM: u32 = 0x200;
 
 // The format of a directory's records, and their kinds.
 const RECORDS: u32 = 1200;
+
 const DIRECTORY_KIND: u16 = 4;
+
 const FILE_KIND: u16 = 8;
 
 /// What a new inode is, but for its number, its address and its times.

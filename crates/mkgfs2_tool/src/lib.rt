@@ -3,15 +3,21 @@
 
 mod blocks;
 mod bytes;
+mod device;
 mod directory;
 mod files;
 mod groups;
 mod inodes;
+mod making;
 mod laws;
 mod options;
 mod order;
 mod plan;
 mod pointers;
+#[cfg(test)]
+mod tests;
 
+pub use making::make;
 pub use laws::new_images_stand;
 pub use options::{MakeFault, MakeOptions, Opt};
+pub use plan::Plan;

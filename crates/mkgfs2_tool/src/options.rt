@@ -1,8 +1,6 @@
 ghost use Rattle.std.specs.Prelude.{◌≡◌};
 ghost use Rattle.mkgfs2_tool.specs.Making.{bad_option as bad_option_of};
 
-use no_memory::NoMemory;
-
 /// What an image is to have: so many journals (1 to 8) of so many blocks (512 to 65,536), so many resource groups (1 to
 /// 64), an identifier, and the time of its inodes in seconds.
 #[derive(Clone, Copy, Debug, PartialEq, Eq)]
@@ -26,7 +24,10 @@ pub enum Opt {
 #[derive(Clone, Copy, Debug, PartialEq, Eq)]
 pub enum MakeFault {
     /// It needs so many blocks, and the device has only so many. Nothing was written.
-    TooSmall { needed: u64, found: u64 },
+    TooSmall {
+        needed: u64,
+        found: u64,
+    },
     /// The disk failed at this block, or at a barrier (`None`), and its count of faults for node 0 rose so. A part of the
     /// image may be written.
     DeviceFault {
@@ -38,12 +39,6 @@ pub enum MakeFault {
     BadOption(Opt),
     /// There was no memory. Nothing was written.
     NoMemory,
-}
-
-impl From<NoMemory> for MakeFault {
-    fn from(_: NoMemory) -> Self {
-        MakeFault::NoMemory
-    }
 }
 
 /// The first number that is outside its limits.

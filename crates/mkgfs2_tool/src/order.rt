@@ -1,6 +1,7 @@
 ghost use Rattle.std.specs.Prelude.{◌≡◌, ◌+◌, ◌^◌, ◌<◌, ◌≤◌};
-ghost use Rattle.mkgfs2_tool.specs.Files.{IsShape};
-ghost use Rattle.mkgfs2_tool.specs.Making.{IsPlan};
+ghost use Rattle.std.specs.Prelude.{◌*◌};
+ghost use Rattle.mkgfs2_tool.specs.Files.{IsShape, file_blocks};
+ghost use Rattle.mkgfs2_tool.specs.Making.{IsPlan, IsUseOf};
 
 use crate::files::{Part, Shape};
 use crate::plan::Plan;
@@ -69,9 +70,13 @@ impl Plan {
         self.journal_place(self.journals)
     }
 
+    #[tactic(auto, using(crate::proofs::UseLaws::quotient_below))]
     fn journal_use(&self, n: u64) -> Use
-        requires { IsPlan self.now }
-        ensures { result ≡ journal_use self.now n }
+        requires plan { IsPlan self.now }
+        requires n { n < self.now.journals * file_blocks (journal self.now) }
+        requires small { n < 2 ^ 38 }
+        ensures value { result ≡ journal_use self.now n }
+        ensures used { IsUseOf result }
     {
         let journal = self.journal();
         let blocks = journal.file_blocks();
@@ -83,8 +88,10 @@ impl Plan {
 
     /// What taken block `k` is for.
     pub(crate) fn use_of(&self, k: u64) -> Use
-        requires { IsPlan self.now }
-        ensures { result ≡ use_of self.now k }
+        requires plan { IsPlan self.now }
+        requires k { k < taken self.now }
+        ensures value { result ≡ use_of self.now k }
+        ensures used { IsUseOf result }
     {
         let journals = self.journals_place();
         match k {

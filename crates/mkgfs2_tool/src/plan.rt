@@ -1,10 +1,12 @@
 ghost use Rattle.std.specs.Prelude.{◌≡◌, ◌≢◌, ◌+◌, ◌-◌, ◌*◌, ◌/◌, ◌^◌, ◌<◌, ◌≤◌, length};
 ghost use Rattle.mkgfs2_tool.specs.Groups.{parts as parts_of, header_blocks as header_blocks_of};
-ghost use Rattle.mkgfs2_tool.specs.Making.{IsPlan};
+ghost use Rattle.mkgfs2_tool.specs.Making.{IsPlan, plan_of};
+
+use crate::options::MakeOptions;
 
 /// What a device is to become: blocks of `size` bytes, `count` of them, with these journals and groups.
 #[derive(Clone, Copy, Debug, PartialEq, Eq)]
-pub(crate) struct Plan {
+pub struct Plan {
     pub size: u64,
     pub count: u64,
     pub journals: u64,
@@ -50,6 +52,21 @@ fn header_blocks(size: u64, blocks: u64) -> u64
 impl Plan {
     ghost use Rattle.mkgfs2_tool.specs.Groups.{super_block, share, last_group, group_address, group_blocks, headers_of, first_data, data_blocks, data_before, all_data, group_of_data, data_address};
     ghost use Rattle.mkgfs2_tool.specs.Blocks.{zeros};
+
+    /// What a device of so many blocks of this size is to become.
+    pub(crate) fn of(size: u32, count: u64, options: &MakeOptions) -> Plan
+        ensures { result ≡ plan_of size count options.now }
+    {
+        Plan {
+            size: u64::from(size),
+            count,
+            journals: u64::from(options.journals),
+            journal_blocks: u64::from(options.journal_blocks),
+            groups: u64::from(options.groups),
+            uuid: options.uuid,
+            time: options.time,
+        }
+    }
 
     pub(crate) fn super_block(&self) -> u64
         requires { IsPlan self.now }
@@ -114,7 +131,10 @@ impl Plan {
         ensures value { result ≡ data_blocks self.now group }
         ensures bound { result ≤ self.now.count }
     {
-        self.group_blocks(group).saturating_sub(self.headers_of(group)) / 4 * 4
+        self.group_blocks(group)
+            .saturating_sub(self.headers_of(group))
+            / 4
+            * 4
     }
 
     pub(crate) fn data_before(&self, group: u64) -> u64

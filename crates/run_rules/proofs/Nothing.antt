@@ -1,16 +1,13 @@
 -- A run that has no items yet.
-use Rattle.std.proofs.Common.{◌≡◌, ℕ, zero, suc, ◌+◌, ◌<◌, ◌≤◌, min, List, [], length, Some, refl, arith}
+use Rattle.std.proofs.Common.{◌≡◌, ℕ, zero, suc, ◌≤◌, min, [], Some, refl, arith}
 use Rattle.std.specs.List.{slice_get}
-use Rattle.file_tree.specs.Tree.{Tree}
-use Rattle.cluster_history.specs.History.{Legal}
 use Rattle.script_lang.specs.Script.{ScriptValue}
 use Rattle.run_rules.specs.Follows.{Follows, ByLine, above}
-use Rattle.run_rules.specs.History.{HoldsHistory}
-use Rattle.run_rules.specs.Laws.{NothingFollows}
+use Rattle.run_rules.specs.Laws.{NothingFollows, NothingIsLegal}
 
-legal_none : (t : Tree) → Legal [] t
-legal_none t zero below = tt
-legal_none t (suc n) below = tt
+pub nothing_is_legal : NothingIsLegal
+nothing_is_legal t zero below = tt
+nothing_is_legal t (suc n) below = tt
 
 none_at : {A : Type 0} (p : ℕ) (x : A) → slice_get [] p ≡ Some x → ⊥
 none_at p x is = cc
@@ -35,9 +32,8 @@ follows_none s = record {
 }
 
 pub nothing_follows : NothingFollows
-nothing_follows start s = record {
-  legal = legal_none start;
+nothing_follows s = record {
+  follows = follows_none s;
   numbered = λ p node client number call reply is. absurd (none_at p _ is);
   synced = λ p q node client number kept before is lost. absurd (none_at p _ is);
-  follows = follows_none s;
 }

@@ -1,18 +1,16 @@
 -- The items of a run hold one history, and it follows the script.
 use Rattle.std.specs.Prelude.{ℕ, ◌≡◌, List, [], ◌∷◌}
-use Rattle.file_tree.specs.Tree.{Tree}
-use Rattle.cluster_history.specs.History.{Legal, KeepsSynced, IsNumbered}
+use Rattle.cluster_history.specs.History.{KeepsSynced, IsNumbered}
 use Rattle.trace_text.specs.declared.item.TraceItem.{TraceItem}
 use Rattle.trace_text.specs.declared.item.TraceItem.TheVariants as trace
 use Rattle.script_lang.specs.Script.{ScriptValue, calls_by}
 use Rattle.run_rules.specs.Follows.{history_of, call_items, Follows}
 
--- every reply is that of one file tree, which takes the calls that are alive one by one from this tree on
-pub record HoldsHistory (start : Tree) (s : ScriptValue) (items : List TraceItem) : Type 0 where
-  pub legal : Legal (history_of s.clients items) start
+-- the items follow the script, and hold one history: its calls are numbered from 1, and a loss keeps what was synced
+pub record HoldsHistory (s : ScriptValue) (items : List TraceItem) : Type 0 where
+  pub follows : Follows items s
   pub numbered : IsNumbered (history_of s.clients items)
   pub synced : KeepsSynced (history_of s.clients items)
-  pub follows : Follows items s
 
 -- no node has stopped
 abbrev pub NoneStopped : List TraceItem → Type 0

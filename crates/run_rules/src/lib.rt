@@ -2,9 +2,10 @@
 //! tree's, and which follows the script.
 #![tactic(auto)]
 
-ghost use Rattle.run_rules.specs.Laws.{NothingFollows};
+ghost use Rattle.run_rules.specs.Laws.{NothingFollows, NothingIsLegal};
 
-/// A law: a run that has no items yet is legal, numbered, and follows its script, whatever that is.
+/// A law: a run that has no items yet follows its script, whatever that is, is numbered, and is legal.
 pub fn nothing_is_a_history()
-    ensures { NothingFollows }
+    ensures history { NothingFollows }
+    ensures legal { NothingIsLegal }
 {}

@@ -1,6 +1,6 @@
 -- The column of a word in its line.
-use Rattle.std.proofs.Common.{◌≡◌, ℕ, zero, suc, ◌+◌, ◌-◌, ◌<◌, ◌≤◌, Bool, true, false, ◌==◌, if◌then◌else◌, List, [], ◌∷◌, length, refl, sym, ap, ◌∙◌, arith}
-use Rattle.std.specs.List.{slice_split, onto_first}
+use Rattle.std.proofs.Common.{◌≡◌, ℕ, zero, suc, ◌+◌, ◌-◌, ◌≤◌, Bool, true, false, ◌==◌, if◌then◌else◌, List, [], ◌∷◌, length, refl, arith}
+use Rattle.std.specs.List.{onto_first}
 use Rattle.script_lang.specs.Words.{words_in, column_of}
 
 pub column_of-step : (k : ℕ) (w : List ℕ) (ws : List (List ℕ)) → 1 ≤ k → column_of k (w ∷ ws) ≡ length w + 1 + column_of (k - 1) ws

@@ -1,6 +1,6 @@
 -- Which scripts one node runs whole.
-use Rattle.std.proofs.Common.{◌≡◌, ◌↔◌, ℕ, ◌+◌, ◌≤◌, ◌==◌, Bool, true, false, if◌then◌else◌, List, [], ◌∷◌, ◌++◌, length, map, drop, Option, Some, None, refl, sym, ap, ◌∙◌, subst, arith, eq-eqb}
-use Rattle.std.specs.Prelude.{nat_le, IsNone}
+use Rattle.std.proofs.Common.{◌≡◌, ◌↔◌, ℕ, ◌+◌, ◌==◌, Bool, true, false, if◌then◌else◌, List, [], ◌∷◌, ◌++◌, length, map, Option, Some, None, refl, sym, ap, ◌∙◌, arith, eq-eqb}
+use Rattle.std.specs.Prelude.{IsNone}
 use Rattle.std.specs.List.{AllByRecursion}
 use Rattle.std.proofs.lemmas.Bool.{eqb-true}
 use Rattle.std.proofs.lemmas.List.{append-nil}
@@ -15,7 +15,7 @@ use Rattle.script_lang.specs.Script.{ScriptValue}
 use Rattle.script_lang.specs.OneNode.{IsRootCall}
 use Rattle.script_lang.specs.OneNode.{IsOneNode, IsOneNodeLine}
 use Rattle.script_lang.specs.WellFormed.{IsClient, IsLine, IsWellFormed}
-use Rattle.script_lang.specs.Foreign.{is_own_call, is_own_line, own_lines, first_not, first_foreign}
+use Rattle.script_lang.specs.Foreign.{is_own_call, is_own_line, first_not, first_foreign}
 
 -- ---- the first line of several
 

@@ -1,11 +1,11 @@
 -- A text past the limit of bytes is refused at the line that passes it, whatever follows.
-use Rattle.std.proofs.Common.{◌≡◌, ℕ, ◌+◌, ◌<◌, ◌≤◌, Bool, true, false, List, [], ◌∷◌, ◌++◌, length, refl, sym, ap, ◌∙◌, subst, arith, append_assoc, append-nil, length-append}
-use Rattle.std.specs.Prelude.{◌||◌, ◌&&◌, nat_le, nat_lt, ◌==◌, if◌then◌else◌}
+use Rattle.std.proofs.Common.{◌≡◌, ℕ, ◌+◌, ◌<◌, ◌≤◌, Bool, true, false, List, [], ◌∷◌, ◌++◌, length, refl, sym, ap, ◌∙◌, arith, append_assoc, append-nil, length-append}
+use Rattle.std.specs.Prelude.{◌||◌, nat_lt, ◌==◌, if◌then◌else◌}
 use Rattle.std.specs.List.{onto_first}
 use Rattle.std.proofs.lemmas.Bool.Decides.{nat_tests}
 use Rattle.script_lang.specs.Script.{ScriptValue}
 use Rattle.script_lang.specs.Words.{lines_in, words_in, column_of, LineRead, Got, Wrong}
-use Rattle.script_lang.specs.Grammar.{script_limit, line_limit, has_byte_past_limit, line_read, script_from, script_read, nothing, ScriptRead, Script, Bad}
+use Rattle.script_lang.specs.Grammar.{script_limit, line_limit, has_byte_past_limit, line_read, script_from, nothing, Script, Bad}
 use Rattle.script_lang.specs.Laws.{LimitDecides}
 
 -- ---- a line that was begun

@@ -1,13 +1,8 @@
 -- A script line by line.
-use Rattle.std.proofs.Common.{◌≡◌, ℕ, ◌+◌, ◌-◌, ◌<◌, ◌≤◌, Bool, true, false, ◌||◌, if◌then◌else◌, inl, inr, List, [], ◌∷◌, length, refl, sym, ap, ◌∙◌, arith}
-use Rattle.std.specs.Prelude.{nat_lt, nat_le}
-use Rattle.std.proofs.lemmas.Bool.{cases_lt}
-use Rattle.std.proofs.lemmas.Bool.Decides.{nat_tests}
+use Rattle.std.proofs.Common.{◌≡◌, ℕ, ◌+◌, ◌-◌, ◌<◌, List, ◌∷◌, length, sym, ap, ◌∙◌, arith}
 use Rattle.script_lang.specs.Script.{ScriptValue}
-use Rattle.script_lang.specs.Words.{lines_in, words_in, Got, Wrong, column_of}
-use Rattle.script_lang.specs.Grammar.{ScriptRead, Script, Bad, script_limit, line_limit, client_limit, has_byte_past_limit, line_read, script_from, script_read, nothing}
-use Rattle.script_lang.specs.WellFormed.{IsWellFormed}
-use Rattle.script_lang.proofs.WellFormedLaws.{IsSoFar}
+use Rattle.script_lang.specs.Words.{lines_in}
+use Rattle.script_lang.specs.Grammar.{script_from, script_read, nothing}
 
 module _ (text : List ℕ) where
   -- what is left of the text is read into the script so far

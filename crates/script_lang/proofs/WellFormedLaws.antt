@@ -1,6 +1,6 @@
 -- Each script that a text is read as is well formed.
-use Rattle.std.proofs.Common.{◌≡◌, ◌≢◌, ◌⊎◌, inl, inr, ℕ, suc, ◌+◌, ◌-◌, ◌^◌, ◌<◌, ◌≤◌, ◌==◌, Bool, true, false, ◌&&◌, not, if◌then◌else◌, List, [], ◌∷◌, ◌++◌, length, Option, Some, None, refl, sym, ap, ◌∙◌, subst, arith}
-use Rattle.std.specs.Prelude.{codes, nat_lt, IsTrue, ⊤}
+use Rattle.std.proofs.Common.{◌≡◌, ◌≢◌, inl, inr, ℕ, ◌+◌, ◌-◌, ◌^◌, ◌<◌, ◌≤◌, ◌==◌, Bool, true, false, ◌&&◌, not, if◌then◌else◌, List, [], ◌∷◌, ◌++◌, length, Some, None, refl, sym, ap, ◌∙◌, subst, arith}
+use Rattle.std.specs.Prelude.{codes, nat_lt}
 use Rattle.std.specs.List.{AllByRecursion}
 use Rattle.std.specs.Str.{bytes_eq}
 use Rattle.std.proofs.lemmas.Bool.{and_parts, or_parts, eqb-true, eqb-false, not-true}
@@ -17,7 +17,7 @@ use Rattle.script_lang.specs.declared.script.Line.{Line}
 use Rattle.script_lang.specs.declared.script.Line.TheVariants as line
 use Rattle.script_lang.specs.Script.{ScriptValue}
 use Rattle.number_words.specs.Numbers.{number_in}
-use Rattle.script_lang.specs.Words.{LineRead, Got, Wrong, later, ends, a_word, the_word, client_in, is_client_name}
+use Rattle.script_lang.specs.Words.{LineRead, Got, Wrong, ends, a_word, the_word, is_client_name}
 use Rattle.script_lang.specs.Grammar.{client_limit, nothing, has_client, new_client, client_before_colon, with_line, with_armed, nodes_line, client_line, fate_read, is_armed, may_arm, armed_line, after_node, crash_line, called, call_line, call_read, may_have_client, later_line, line_read}
 use Rattle.script_lang.specs.OneNode.{HaveOwnClientNames}
 use Rattle.script_lang.specs.WellFormed.{IsNode, IsAllowedCall, IsClient, IsFate, IsArmed, IsLine, HaveOwnNodes}

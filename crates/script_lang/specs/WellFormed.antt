@@ -6,7 +6,7 @@ use Rattle.file_tree.specs.declared.call.Call.TheVariants as calls
 use Rattle.script_lang.specs.declared.script.Client.{Client}
 use Rattle.script_lang.specs.declared.script.Armed.{Armed}
 use Rattle.script_lang.specs.declared.script.Fate.{Fate}
-use Rattle.script_lang.specs.declared.script.Fate.TheVariants.{Old, New, Torn}
+use Rattle.script_lang.specs.declared.script.Fate.TheVariants.{Torn}
 use Rattle.script_lang.specs.declared.script.Line.{Line}
 use Rattle.script_lang.specs.declared.script.Line.TheVariants as line
 use Rattle.script_lang.specs.Script.{ScriptValue}

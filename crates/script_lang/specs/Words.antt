@@ -1,9 +1,7 @@
 -- Lines, words, and what a word is read as.
-use Rattle.std.specs.Prelude.{ℕ, suc, zero, ◌≡◌, ◌≢◌, ◌+◌, ◌^◌, ◌<◌, ◌==◌, ◌&&◌, ◌||◌, not, nat_le, Bool, if◌then◌else◌, List, [], ◌∷◌, length, replicate, codes, slice_index, Option, Some, None, option_map, MatchOption, Result, Ok, Err}
+use Rattle.std.specs.Prelude.{ℕ, suc, zero, ◌+◌, ◌==◌, ◌&&◌, ◌||◌, not, nat_le, Bool, if◌then◌else◌, List, [], ◌∷◌, length, replicate, codes, slice_index, Option, Some, None, option_map, Result, Ok, Err}
 use Rattle.std.specs.List.{slice_split, onto_first, list_all}
 use Rattle.std.specs.Str.{bytes_eq}
-use Rattle.std.specs.Str.Parse.{digits_value}
-use Rattle.std.specs.Fmt.{decimal}
 use Rattle.number_words.specs.Numbers.{number_in}
 use Rattle.hex.specs.Hex.{decode_of, encode_lower}
 use Rattle.file_tree.specs.PathText.{PathRead, Reads, Faulty, path_read}

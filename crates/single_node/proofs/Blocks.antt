@@ -13,7 +13,7 @@ use Rattle.script_lang.specs.declared.script.Client.{Client}
 use Rattle.script_lang.specs.declared.script.Line.{Line}
 use Rattle.script_lang.specs.declared.script.Line.TheVariants as line
 use Rattle.shared_disk.specs.Disk.{DiskState}
-use Rattle.single_node.specs.Blocks.{MountRefuses, BadSuperBlock, BadRoot, CallReads, CallRefuses, BadFile, BadName, IsCallThat, EndsAtCall}
+use Rattle.single_node.specs.Blocks.{MountRefuses, BadSuperBlock, BadRoot, CallReads, CallRefuses, BadFile, BadName, RefusesWhatIsTold, IsCallThat, EndsAtCall}
 use Rattle.single_node.specs.Flat.{HasFlatRoot, HasFile, HasItsFileName, LacksFlatRoot, IsStart, stuffed_part, root_of}
 use Rattle.trace_text.specs.declared.item.TraceItem.{TraceItem}
 use Rattle.single_node.specs.Run.{IsRunUpTo}
@@ -55,16 +55,15 @@ none_refused d root call block tree start (BadFile reads lacks) =
     let lead = leads d tree root start.flat start.begins reads.name reads.slot reads.is_name reads.found in lacks (subst (HasFile d) (sym reads.leads) lead.file)
 none_refused d root call block tree start (BadName lists is lacks) = names_are_names d tree root start.flat start.begins lacks
 
-none_of_line : (d : DiskState) (root : List ℕ) (block : ℕ) (tree : Tree) (l : Line) → IsStart d root tree → IsCallThat (λ call. CallRefuses d root call block) l → ⊥
-none_of_line d root block tree (line.Call client call) start refuses = none_refused d root call block tree start refuses
+none_of_line : (d : DiskState) (root : List ℕ) (block : ℕ) (tree : Tree) (l : Line) → IsStart d root tree → IsCallThat (λ call. RefusesWhatIsTold d root call block) l → ⊥
+none_of_line d root block tree (line.Call client call) start refuses = none_refused d root call block tree start (refuses start.flat.tells start.begins)
 none_of_line d root block tree line.Wait start refuses = refuses
 none_of_line d root block tree (line.Crash nodes) start refuses = refuses
 none_of_line d root block tree (line.Join node) start refuses = refuses
 
 pub none_of_lines : (d : DiskState) (root : List ℕ) (clients : List Client) (lines : List Line) (items : List TraceItem) (block : ℕ)
-    → (IsTrue d.tells → HasFlatRoot d root → EndsAtCall (λ call. CallRefuses d root call block) clients lines items (IsStart d root)) → (tree : Tree) → IsStart d root tree → ⊥
-none_of_lines d root clients lines items block refuses tree start =
-    let there = refuses start.flat.tells start.begins in none_of_line d root block tree there.next start there.holds
+    → EndsAtCall (λ call. RefusesWhatIsTold d root call block) clients lines items (IsStart d root) → (tree : Tree) → IsStart d root tree → ⊥
+none_of_lines d root clients lines items block there tree start = none_of_line d root block tree there.next start there.holds
 
 -- ---- a run that ends at a call
 
@@ -79,12 +78,12 @@ module _ (now before : DiskState) (root : List ℕ) (clients : List Client) (lin
     holds = holds;
   }
 
-  pub refused_at : IfNotRead end (λ b. IsTrue now.tells → HasFlatRoot now root → IsCallThat (λ call. CallRefuses now root call b) l)
-      → IfNotRead end (λ b. IsTrue before.tells → HasFlatRoot before root → EndsAtCall (λ call. CallRefuses before root call b) clients lines more (IsStart before root))
+  pub refused_at : IfNotRead end (λ b. IsCallThat (λ call. RefusesWhatIsTold now root call b) l)
+      → IfNotRead end (λ b. EndsAtCall (λ call. RefusesWhatIsTold before root call b) clients lines more (IsStart before root))
   refused_at refused =
-      not_read_weaker {Q = λ b. IsTrue before.tells → HasFlatRoot before root → EndsAtCall (λ call. CallRefuses before root call b) clients lines more (IsStart before root)} end
-      (λ b here tells has. ends_at (λ call. CallRefuses before root call b) (here tells has))
-      (subst (λ (s : DiskState). IfNotRead end (λ b. IsTrue s.tells → HasFlatRoot s root → IsCallThat (λ call. CallRefuses s root call b) l)) same refused)
+      not_read_weaker {Q = λ b. EndsAtCall (λ call. RefusesWhatIsTold before root call b) clients lines more (IsStart before root)} end
+      (λ b here. ends_at (λ call. RefusesWhatIsTold before root call b) here)
+      (subst (λ (s : DiskState). IfNotRead end (λ b. IsCallThat (λ call. RefusesWhatIsTold s root call b) l)) same refused)
 
   pub failed_at : IfDiskFailed end (λ b. IsCallThat (λ call. CallReads root call b) l) → IfDiskFailed end (λ b. EndsAtCall (λ call. CallReads root call b) clients lines more (IsStart before root))
   failed_at failed =

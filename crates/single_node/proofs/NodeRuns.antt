@@ -22,7 +22,7 @@ use Rattle.script_lang.specs.Script.{ScriptValue, call_by, calls_by}
 use Rattle.script_lang.specs.OneNode.{IsOneNode, IsOneNodeLine, HaveOwnClientNames}
 use Rattle.run_rules.specs.Follows.{Follows, ByLine, history_of, call_items, above, answered, IsAfterAbove, IsOrderLine, IsOnItsNode}
 use Rattle.run_rules.specs.History.{HoldsHistory, NoneStopped, AllAnswered}
-use Rattle.run_rules.proofs.Nothing.{nothing_follows}
+use Rattle.run_rules.proofs.Nothing.{nothing_follows, nothing_is_legal}
 use Rattle.single_node.specs.Run.{AnsweredCall, its_line, is_call_line, name_at, items_from, IsReadOnly, IsRunUpTo, IsWholeRun, IsRunOf, NotJoined, Taken, Unmounted}
 use Rattle.single_node.proofs.Calls.{take_front, filter_front, all_take, all_filter, all_map, all_at, calls_of_filter, calls_front, calls_rise, calls_within}
 use Rattle.single_node.proofs.Clients.{place_is, client_at}
@@ -314,18 +314,24 @@ module _ (s : ScriptValue) (form : IsOneNode s) (count : ℕ) (rs : List Answere
     rising = λ l later before below. omega arith;
   }
 
-  pub holds : (t : Tree) → AllByRecursion (IsReadOnly t) rs → HoldsHistory t s items
-  holds t reads =
-      let is = sym (history_is s.clients form.names rs end are_of is_end) in
-      record {
-        legal = subst (λ (h : List Item). Legal h t) is (legal t rs reads);
-        numbered = subst IsNumbered is (λ p node client number call r at. numbered_from 1 p rs node client number call r at);
-        synced = subst KeepsSynced is (λ p q node client number kept before sync lost. absurd (no_loss_at 1 q rs node kept lost));
-        follows = follows;
-      }
+  its_history : calls_from 1 rs ≡ history_of s.clients items
+  its_history = sym (history_is s.clients form.names rs end are_of is_end)
+
+  pub holds : HoldsHistory s items
+  holds = record {
+    follows = follows;
+    numbered = subst IsNumbered its_history (λ p node client number call r at. numbered_from 1 p rs node client number call r at);
+    synced = subst KeepsSynced its_history (λ p q node client number kept before sync lost. absurd (no_loss_at 1 q rs node kept lost));
+  }
+
+  pub legal_holds : (t : Tree) → AllByRecursion (IsReadOnly t) rs → Legal (history_of s.clients items) t
+  legal_holds t reads = subst (λ (h : List Item). Legal h t) its_history (legal t rs reads)
 
   pub tree_holds : (t : Tree) → AllByRecursion (IsReadOnly t) rs → tree_of (history_of s.clients items) t ≡ t
-  tree_holds t reads = ap (λ (h : List Item). tree_of h t) (history_is s.clients form.names rs end are_of is_end) ∙ tree_is t rs reads
+  tree_holds t reads = ap (λ (h : List Item). tree_of h t) (sym its_history) ∙ tree_is t rs reads
+
+  pub nothing_lost : NoneLost (history_of s.clients items)
+  nothing_lost = subst NoneLost its_history (none_lost 1 rs)
 
   none_stopped_from : (n : ℕ) (ss : List AnsweredCall) → NoneStopped (items_from s.clients n ss ++ end)
   none_stopped_from n [] = elim is_end [ inl is ↦ subst NoneStopped (sym is) tt | inr is ↦ subst NoneStopped (sym is) tt ]
@@ -340,13 +346,21 @@ module _ (s : ScriptValue) (form : IsOneNode s) (count : ℕ) (rs : List Answere
 -- ---- what a run owes to its script
 
 pub record Owes (s : ScriptValue) (items : List TraceItem) (IsStart : Tree → Type 0) : Type 0 where
-  pub history : (t : Tree) → IsStart t → HoldsHistory t s items
+  pub history : HoldsHistory s items
+  pub legal : (t : Tree) → IsStart t → Legal (history_of s.clients items) t
   pub tree : (t : Tree) → IsStart t → tree_of (history_of s.clients items) t ≡ t
   pub members : NoneStopped items
+  pub none_lost : NoneLost (history_of s.clients items)
 
 module _ (s : ScriptValue) (form : IsOneNode s) (items : List TraceItem) (IsStart : Tree → Type 0) where
   pub owes_none : items ≡ [] → Owes s items IsStart
-  owes_none none = subst (λ (is : List TraceItem). Owes s is IsStart) (sym none) (record { history = λ t start. nothing_follows t s; tree = λ t start. refl; members = tt })
+  owes_none none = subst (λ (is : List TraceItem). Owes s is IsStart) (sym none) (record {
+    history = nothing_follows s;
+    legal = λ t start. nothing_is_legal t;
+    tree = λ t start. refl;
+    members = tt;
+    none_lost = tt;
+  })
 
   -- the items of a run up to a line, with their end
   items_are : (count : ℕ) (before end : List TraceItem) → before ++ end ≡ items → (so : IsRunUpTo s.clients s.lines count before IsStart) → run_items s.clients so.answered end ≡ items
@@ -354,9 +368,11 @@ module _ (s : ScriptValue) (form : IsOneNode s) (items : List TraceItem) (IsStar
 
   owes_from : (count : ℕ) (before end : List TraceItem) → IsEnd end → before ++ end ≡ items → IsRunUpTo s.clients s.lines count before IsStart → Owes s items IsStart
   owes_from count before end is_end are so = subst (λ (is : List TraceItem). Owes s is IsStart) (items_are count before end are so) (record {
-    history = λ t start. holds s form count so.answered so.calls end is_end t (so.reads t start);
+    history = holds s form count so.answered so.calls end is_end;
+    legal = λ t start. legal_holds s form count so.answered so.calls end is_end t (so.reads t start);
     tree = λ t start. tree_holds s form count so.answered so.calls end is_end t (so.reads t start);
     members = none_stopped s form count so.answered so.calls end is_end;
+    none_lost = nothing_lost s form count so.answered so.calls end is_end;
   })
 
   pub owes : IsRunOf s.clients s.lines items IsStart → Owes s items IsStart

@@ -1,5 +1,5 @@
 -- Which blocks mounting and a run read, and which of them they refuse.
-use Rattle.std.specs.Prelude.{ℕ, ◌≡◌, List, [], ◌∷◌, slice_get, Some}
+use Rattle.std.specs.Prelude.{ℕ, ◌≡◌, IsTrue, List, [], ◌∷◌, slice_get, Some}
 use Rattle.std.specs.List.{AllByRecursion}
 use Rattle.file_tree.specs.Tree.{Tree}
 use Rattle.file_tree.specs.declared.call.Call.{Call}
@@ -12,7 +12,7 @@ use Rattle.script_lang.specs.declared.script.Line.TheVariants as line
 use Rattle.shared_disk.specs.Disk.{DiskState}
 use Rattle.trace_text.specs.declared.item.TraceItem.{TraceItem}
 use Rattle.single_node.specs.Run.{IsRunUpTo}
-use Rattle.single_node.specs.Flat.{HasSuperBlock, HasRoot, HasFile, HasItsFileName, stuffed_part, superblock_place, root_of}
+use Rattle.single_node.specs.Flat.{HasSuperBlock, HasRoot, HasFlatRoot, HasFile, HasItsFileName, stuffed_part, superblock_place, root_of}
 
 -- mounting reads the superblock's block, and where that is good the root's
 pub data MountReads (d : DiskState) (block : ℕ) : Type 0 where
@@ -39,6 +39,10 @@ pub record CallReads (root : List ℕ) (call : Call) (block : ℕ) : Type 0 wher
 pub data CallRefuses (d : DiskState) (root : List ℕ) (call : Call) (block : ℕ) : Type 0 where
   BadFile : CallReads root call block → (HasFile d block → ⊥) → CallRefuses d root call block
   BadName : call ≡ calls.List [] → block ≡ root_of d → (AllByRecursion HasItsFileName (slots_of (stuffed_part root)) → ⊥) → CallRefuses d root call block
+
+-- so, where the disk tells its blocks and this is its root
+abbrev pub RefusesWhatIsTold : DiskState → List ℕ → Call → ℕ → Type 0
+RefusesWhatIsTold d root call block = IsTrue d.tells → HasFlatRoot d root → CallRefuses d root call block
 
 -- the line is a call, and this holds of it
 abbrev pub IsCallThat : (Call → Type 0) → Line → Type 0

@@ -81,6 +81,7 @@ pub(crate) fn read_file<D: SharedDisk>(
         × (IsTrue (D.state disk.old).tells → HasFile (D.state disk.old) address → ⊥))) }
     ensures failed { IfErr result (λ end. IfDiskFailed end (λ b. b ≡ address)) }
     ensures same { D.state disk.new ≡ D.state disk.old }
+    ensures list { D.list disk.new ≡ D.list disk.old }
     ensures cause { IfErr result (EndHasCause 1 (D.faults disk.old) (D.faults disk.new)) }
     ensures later { (j : ℕ) → D.faults disk.old j ≤ D.faults disk.new j }
 {

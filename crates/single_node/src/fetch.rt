@@ -20,6 +20,7 @@ pub(crate) fn fetch<D: SharedDisk>(
     ensures outside { IfErr result (λ end. IfNotRead end (λ b. (b ≡ block) × ((D.state disk.old).count ≤ block))) }
     ensures failed { IfErr result (λ end. IfDiskFailed end (λ b. b ≡ block)) }
     ensures same { D.state disk.new ≡ D.state disk.old }
+    ensures list { D.list disk.new ≡ D.list disk.old }
     ensures cause { IfErr result (EndHasCause node (D.faults disk.old) (D.faults disk.new)) }
     ensures later { (j : ℕ) → D.faults disk.old j ≤ D.faults disk.new j }
 {

@@ -91,6 +91,7 @@ fn root_address<D: SharedDisk>(disk: &mut D, block: &mut [u8]) -> Result<u64, Ru
         × (IsTrue (D.state disk.old).tells → HasSuperBlock (D.state disk.old) → ⊥))) }
     ensures failed { IfErr result (λ end. IfDiskFailed end (λ b. b ≡ superblock_place (D.state disk.old).size)) }
     ensures same { D.state disk.new ≡ D.state disk.old }
+    ensures list { D.list disk.new ≡ D.list disk.old }
     ensures cause { IfErr result (EndHasCause 0 (D.faults disk.old) (D.faults disk.new)) }
     ensures later { (j : ℕ) → D.faults disk.old j ≤ D.faults disk.new j }
 {
@@ -151,6 +152,7 @@ fn fill_root<D: SharedDisk>(disk: &mut D, block: &mut [u8]) -> Result<u64, RunEn
     ensures block { IfErr result (λ end. IfNotRead end (λ b. IsTrue (D.state disk.old).tells → MountRefuses (D.state disk.old) b)) }
     ensures failed { IfErr result (λ end. IfDiskFailed end (λ b. IsTrue (D.state disk.old).tells → MountReads (D.state disk.old) b)) }
     ensures same { D.state disk.new ≡ D.state disk.old }
+    ensures list { D.list disk.new ≡ D.list disk.old }
     ensures cause { IfErr result (EndHasCause 0 (D.faults disk.old) (D.faults disk.new)) }
     ensures later { (j : ℕ) → D.faults disk.old j ≤ D.faults disk.new j }
 {
@@ -179,6 +181,7 @@ pub fn read_root<D: SharedDisk>(alloc: Global, disk: &mut D) -> Result<Root, Run
     ensures block { IfErr result (λ end. IfNotRead end (λ b. IsTrue (D.state disk.old).tells → MountRefuses (D.state disk.old) b)) }
     ensures failed { IfErr result (λ end. IfDiskFailed end (λ b. IsTrue (D.state disk.old).tells → MountReads (D.state disk.old) b)) }
     ensures same { D.state disk.new ≡ D.state disk.old }
+    ensures list { D.list disk.new ≡ D.list disk.old }
     ensures cause { IfErr result (EndHasCause 0 (D.faults disk.old) (D.faults disk.new)) }
     ensures later { (j : ℕ) → D.faults disk.old j ≤ D.faults disk.new j }
 {

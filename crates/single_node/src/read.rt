@@ -37,6 +37,7 @@ pub(crate) fn read_call<D: SharedDisk>(
         → CallRefuses (D.state disk.old) root.now (calls.Read path.now at count) b)) }
     ensures failed { IfErr result (λ end. IfDiskFailed end (λ b. CallReads root.now (calls.Read path.now at count) b)) }
     ensures same { D.state disk.new ≡ D.state disk.old }
+    ensures list { D.list disk.new ≡ D.list disk.old }
     ensures cause { IfErr result (EndHasCause 1 (D.faults disk.old) (D.faults disk.new)) }
     ensures later { (j : ℕ) → D.faults disk.old j ≤ D.faults disk.new j }
 {

@@ -1,7 +1,7 @@
-ghost use Rattle.std.specs.Prelude.{◌≡◌, ◌+◌, ◌<◌, ◌≤◌, ◌++◌, ◌∷◌, [], ℕ, List, length, IsTrue, IfOk, IfErr, OnOk, OnErr};
+ghost use Rattle.std.specs.Prelude.{◌≡◌, ◌+◌, ◌<◌, ◌≤◌, ◌++◌, ◌∷◌, [], ℕ, List, length, IfOk, IfErr, OnOk, OnErr};
 ghost use Rattle.std.specs.List.{AllByRecursion};
 ghost use Rattle.file_tree.specs.Tree.{Tree};
-ghost use Rattle.cluster_history.specs.History.{tree_of};
+ghost use Rattle.cluster_history.specs.History.{Legal, NoneLost, tree_of};
 ghost use Rattle.run_rules.specs.Follows.{history_of};
 ghost use Rattle.file_tree.specs.Apply.{apply};
 ghost use Rattle.gfs2_layout.specs.Area.{IsArea};
@@ -9,9 +9,9 @@ ghost use Rattle.shared_disk.specs.Disk.{IsIdle};
 ghost use Rattle.script_lang.specs.OneNode.{IsRootCall};
 ghost use Rattle.script_lang.specs.OneNode.{IsOneNode};
 ghost use Rattle.run_rules.specs.History.{HoldsHistory, NoneStopped, AllAnswered};
-ghost use Rattle.single_node.specs.Blocks.{CallReads, CallRefuses, IsCallThat, EndsAtCall};
+ghost use Rattle.single_node.specs.Blocks.{CallReads, RefusesWhatIsTold, IsCallThat, EndsAtCall};
 ghost use Rattle.single_node.specs.Ends.{EndHasCause, IfNotRead, IfDiskFailed};
-ghost use Rattle.single_node.specs.Flat.{IsFlat, HasFlatRoot, IsStart, IsBlockSize, stuffed_part};
+ghost use Rattle.single_node.specs.Flat.{IsStart, IsBlockSize, stuffed_part};
 ghost use Rattle.single_node.specs.Run.{IsLineOf, IsTaken, IsRunUpTo, IsRunOf, IsWholeRun};
 
 use crate::RunEnd;
@@ -41,10 +41,10 @@ fn reply_to<D: SharedDisk>(
     requires plain { IsRootCall call.now }
     ensures reply { IfOk result (λ reply. (tree : Tree) → IsStart (D.state disk.old) root.now tree
         → apply call.now tree ≡ record { reply = reply; tree = tree }) }
-    ensures block { IfErr result (λ end. IfNotRead end (λ b. IsTrue (D.state disk.old).tells → HasFlatRoot (D.state disk.old) root.now
-        → CallRefuses (D.state disk.old) root.now call.now b)) }
+    ensures block { IfErr result (λ end. IfNotRead end (λ b. RefusesWhatIsTold (D.state disk.old) root.now call.now b)) }
     ensures failed { IfErr result (λ end. IfDiskFailed end (λ b. CallReads root.now call.now b)) }
     ensures same { D.state disk.new ≡ D.state disk.old }
+    ensures list { D.list disk.new ≡ D.list disk.old }
     ensures cause { IfErr result (EndHasCause 1 (D.faults disk.old) (D.faults disk.new)) }
     ensures later { (j : ℕ) → D.faults disk.old j ≤ D.faults disk.new j }
 {
@@ -111,10 +111,10 @@ fn take_line<D: SharedDisk>(
     ensures taken { OnOk result (IsTaken clients.now line.now items.old.items items.new.items (λ call reply. (tree : Tree) → IsStart (D.state disk.old) root.now tree
         → apply call tree ≡ record { reply = reply; tree = tree })) }
     ensures kept { OnErr result (items.new.items ≡ items.old.items) }
-    ensures block { IfErr result (λ end. IfNotRead end (λ b. IsTrue (D.state disk.old).tells → HasFlatRoot (D.state disk.old) root.now
-        → IsCallThat (λ call. CallRefuses (D.state disk.old) root.now call b) line.now)) }
+    ensures block { IfErr result (λ end. IfNotRead end (λ b. IsCallThat (λ call. RefusesWhatIsTold (D.state disk.old) root.now call b) line.now)) }
     ensures failed { IfErr result (λ end. IfDiskFailed end (λ b. IsCallThat (λ call. CallReads root.now call b) line.now)) }
     ensures same { D.state disk.new ≡ D.state disk.old }
+    ensures list { D.list disk.new ≡ D.list disk.old }
     ensures cause { IfErr result (EndHasCause 1 (D.faults disk.old) (D.faults disk.new)) }
     ensures later { (j : ℕ) → D.faults disk.old j ≤ D.faults disk.new j }
 {
@@ -150,10 +150,10 @@ fn take_lines<D: SharedDisk>(
     requires joined { items.old.items ≡ TraceItem.Join 1 ∷ [] }
     ensures run { (count : ℕ) × IsRunUpTo clients.now lines.now count items.new.items (IsStart (D.state disk.old) root.now) }
     ensures whole { OnOk result (IsRunUpTo clients.now lines.now (length lines.now) items.new.items (IsStart (D.state disk.old) root.now)) }
-    ensures block { IfErr result (λ end. IfNotRead end (λ b. IsTrue (D.state disk.old).tells → HasFlatRoot (D.state disk.old) root.now
-        → EndsAtCall (λ call. CallRefuses (D.state disk.old) root.now call b) clients.now lines.now items.new.items (IsStart (D.state disk.old) root.now))) }
+    ensures block { IfErr result (λ end. IfNotRead end (λ b. EndsAtCall (λ call. RefusesWhatIsTold (D.state disk.old) root.now call b) clients.now lines.now items.new.items (IsStart (D.state disk.old) root.now))) }
     ensures failed { IfErr result (λ end. IfDiskFailed end (λ b. EndsAtCall (λ call. CallReads root.now call b) clients.now lines.now items.new.items (IsStart (D.state disk.old) root.now))) }
     ensures same { D.state disk.new ≡ D.state disk.old }
+    ensures list { D.list disk.new ≡ D.list disk.old }
     ensures cause { IfErr result (EndHasCause 1 (D.faults disk.old) (D.faults disk.new)) }
     ensures later { (j : ℕ) → D.faults disk.old j ≤ D.faults disk.new j }
 {
@@ -185,10 +185,10 @@ fn run_lines<D: SharedDisk>(
     requires none { items.old.items ≡ [] }
     ensures run { IsRunOf clients.now lines.now items.new.items (IsStart (D.state disk.old) root.now) }
     ensures whole { OnOk result (IsWholeRun clients.now lines.now items.new.items (IsStart (D.state disk.old) root.now)) }
-    ensures block { IfErr result (λ end. IfNotRead end (λ b. IsTrue (D.state disk.old).tells → HasFlatRoot (D.state disk.old) root.now
-        → EndsAtCall (λ call. CallRefuses (D.state disk.old) root.now call b) clients.now lines.now items.new.items (IsStart (D.state disk.old) root.now))) }
+    ensures block { IfErr result (λ end. IfNotRead end (λ b. EndsAtCall (λ call. RefusesWhatIsTold (D.state disk.old) root.now call b) clients.now lines.now items.new.items (IsStart (D.state disk.old) root.now))) }
     ensures failed { IfErr result (λ end. IfDiskFailed end (λ b. EndsAtCall (λ call. CallReads root.now call b) clients.now lines.now items.new.items (IsStart (D.state disk.old) root.now))) }
     ensures same { D.state disk.new ≡ D.state disk.old }
+    ensures list { D.list disk.new ≡ D.list disk.old }
     ensures cause { IfErr result (EndHasCause 1 (D.faults disk.old) (D.faults disk.new)) }
     ensures later { (j : ℕ) → D.faults disk.old j ≤ D.faults disk.new j }
 {
@@ -224,18 +224,20 @@ pub fn run_script<D: SharedDisk>(
     requires area { IsArea (stuffed_part root.now) }
     requires form { IsOneNode script.now }
     requires none { items.old.items ≡ [] }
-    ensures history { (tree : Tree) → IsStart (D.state disk.old) root.now tree → HoldsHistory tree script.now items.new.items }
+    ensures history { HoldsHistory script.now items.new.items }
+    ensures legal { (tree : Tree) → IsStart (D.state disk.old) root.now tree → Legal (history_of script.now.clients items.new.items) tree }
     ensures tree { (tree : Tree) → IsStart (D.state disk.old) root.now tree
         → tree_of (history_of script.now.clients items.new.items) tree ≡ tree }
     ensures run { IsRunOf script.now.clients script.now.lines items.new.items (IsStart (D.state disk.old) root.now) }
     ensures whole { OnOk result (IsWholeRun script.now.clients script.now.lines items.new.items (IsStart (D.state disk.old) root.now)) }
     ensures members { NoneStopped items.new.items }
+    ensures none_lost { NoneLost (history_of script.now.clients items.new.items) }
     ensures answered { OnOk result (AllAnswered items.new.items script.now) }
     ensures other { IfErr result (λ end. IfNotRead end (λ _. (tree : Tree) → IsStart (D.state disk.old) root.now tree → ⊥)) }
-    ensures block { IfErr result (λ end. IfNotRead end (λ b. IsTrue (D.state disk.old).tells → HasFlatRoot (D.state disk.old) root.now
-        → EndsAtCall (λ call. CallRefuses (D.state disk.old) root.now call b) script.now.clients script.now.lines items.new.items (IsStart (D.state disk.old) root.now))) }
+    ensures block { IfErr result (λ end. IfNotRead end (λ b. EndsAtCall (λ call. RefusesWhatIsTold (D.state disk.old) root.now call b) script.now.clients script.now.lines items.new.items (IsStart (D.state disk.old) root.now))) }
     ensures failed { IfErr result (λ end. IfDiskFailed end (λ b. EndsAtCall (λ call. CallReads root.now call b) script.now.clients script.now.lines items.new.items (IsStart (D.state disk.old) root.now))) }
     ensures same { D.state disk.new ≡ D.state disk.old }
+    ensures list { D.list disk.new ≡ D.list disk.old }
     ensures cause { IfErr result (EndHasCause 1 (D.faults disk.old) (D.faults disk.new)) }
     ensures later { (j : ℕ) → D.faults disk.old j ≤ D.faults disk.new j }
 {

@@ -1,23 +1,24 @@
-use Rattle.std.proofs.Common.{◌≡◌, ℕ, refl, subst, map}
+use Rattle.std.proofs.Common.{◌≡◌, ℕ, List, refl, subst, map}
 use Rattle.std.specs.Prelude.{string_bytes, None, Some}
-use Rattle.cluster_program.specs.Course.{RefusesWords, NoScript, RunsScript, words_refusal}
+use Rattle.cluster_program.specs.Course.{RefusesWords, MakesImage, AsksToMake, words_refusal}
+use Rattle.command_words.specs.declared.command.MakeWords.{MakeWords}
+use Rattle.cluster_program.specs.Tasks.{Asks}
+use Rattle.cluster_program.specs.declared.words.Task.{Task}
+use Rattle.cluster_program.specs.declared.words.Task.TheVariants as task
 use Rattle.cluster_program.proofs.Courses.{course_of}
 use Rattle.cluster_program.proofs.top.carry_out.Goals as goal
+
+made : (words : List (List ℕ)) (size : ℕ) (t : Task) (make : MakeWords) → t ≡ task.Make make → Asks size words t → AsksToMake size words make
+made words size t make is asks = (subst (Asks size words) is asks).0
+
+pub returns-in-Ok-Make-clause-course : goal.returns-in-Ok-Make-clause-course
+returns-in-Ok-Make-clause-course g c =
+    let asks = subst (λ (size : ℕ). AsksToMake size (map string_bytes c.args.words.now) c.in-Ok-Make.words) c.block_size.ensures (made (map string_bytes c.args.words.now) c.block_size.result c.in-Ok-Make.field-0 c.in-Ok-Make.words c.in-Ok-Make.field-0-is c.in-Ok-Make.ensures.task) in
+    course_of (map string_bytes c.args.words.now) _ _ c.without_script.ensures.script c.requires.none c.without_script.ensures.own
+    (MakesImage c.in-Ok-Make.words c.make_image-own.result asks (c.make_image-own.ensures.makes _ _))
 
 pub returns-in-Err-clause-course : goal.returns-in-Err-clause-course
 returns-in-Err-clause-course g c =
     let refused = subst (λ (size : ℕ). words_refusal size (map string_bytes c.args.words.now) ≡ Some c.in-Err.own) c.block_size.ensures c.in-Err.ensures.refused in
-    course_of (map string_bytes c.args.words.now) _ _ c.without_script.ensures.script c.requires.none c.without_script.ensures.own
+    course_of (map string_bytes c.args.words.now) _ _ c.without_script-in-Err.ensures.script c.requires.none c.without_script-in-Err.ensures.own
     (RefusesWords c.in-Err.own refused refl)
-
-pub returns-in-Err-read_script-clause-course : goal.returns-in-Err-read_script-clause-course
-returns-in-Err-read_script-clause-course g c =
-    let fine = subst (λ (size : ℕ). words_refusal size (map string_bytes c.args.words.now) ≡ None) c.block_size.ensures c.in-Ok.ensures.fine in
-    course_of (map string_bytes c.args.words.now) _ _ c.without_script-in-Err-read_script.ensures.script c.requires.none c.without_script-in-Err-read_script.ensures.own
-    (NoScript c.in-Err-read_script.own fine c.in-Err-read_script.ensures.none refl)
-
-pub returns-clause-course : goal.returns-clause-course
-returns-clause-course g c =
-    let fine = subst (λ (size : ℕ). words_refusal size (map string_bytes c.args.words.now) ≡ None) c.block_size.ensures c.in-Ok.ensures.fine in
-    let read = c.in-Ok-read_script.ensures.script in
-    RunsScript read.0 c.in-Ok-read_script.script c.mount_and_run-own.new.items.items c.mount_and_run-own.result fine read.1 read.2 c.in-Ok-read_script.ensures.built.0 c.mount_and_run-own.ensures.runs

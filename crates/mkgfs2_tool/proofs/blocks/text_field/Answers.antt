@@ -1,4 +1,4 @@
-use Rattle.std.proofs.Common.{◌≡◌, ◌∙◌}
+use Rattle.std.proofs.Common.{◌∙◌}
 use Rattle.mkgfs2_tool.proofs.PutLaws.{put_first}
 use Rattle.mkgfs2_tool.proofs.blocks.text_field.Goals as goal
 

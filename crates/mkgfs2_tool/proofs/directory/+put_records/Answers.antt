@@ -1,4 +1,4 @@
-use Rattle.std.proofs.Common.{ℕ, ◌≡◌, ◌≢◌, ◌-◌, ◌∷◌, ◌++◌, List, [], length, take, drop, slice_index_or, sym, ap, ◌∙◌, arith, rules}
+use Rattle.std.proofs.Common.{ℕ, ◌≡◌, ◌≢◌, ◌-◌, ◌++◌, List, length, take, drop, sym, arith, rules}
 use Rattle.std.proofs.lemmas.Bool.Decides.{nat_tests}
 use Rattle.mkgfs2_tool.specs.Directories.{name_of, least_length, record_bytes, records}
 use Rattle.mkgfs2_tool.specs.declared.directory.Entry.{Entry}
@@ -13,5 +13,5 @@ pub returns-else-is_empty : goal.returns-else-is_empty
 returns-else-is_empty t c =
     let several : length (take (length c.args.entries.now - 1) (drop 1 c.args.entries.now)) ≢ 0 = grind (arith, nat_tests) in
     joined (length c.args.area.now) (length c.split_at_mut-first.result.0.now) (length c.split_at_mut-first.result.1.now) _ _ c.args.entries.now
-        c.put_record-else-is_empty.new.bytes c.put_records.new.area (first_of_several (length c.args.area.now) c.args.entries.now _ c.requires.named c.requires.fit several)
-        (search rules) (search rules) c.put_record-else-is_empty.ensures c.put_records.ensures
+    c.put_record-else-is_empty.new.bytes c.put_records.new.area (first_of_several (length c.args.area.now) c.args.entries.now _ c.requires.named c.requires.fit several)
+    (search rules) (search rules) c.put_record-else-is_empty.ensures c.put_records.ensures

@@ -1,4 +1,3 @@
-use Rattle.std.proofs.Common.{sym, ◌∙◌}
 use Rattle.script_lang.proofs.HexWords.{hex_lower, hex_other}
 use Rattle.script_lang.proofs.content.hex_word.Goals as goal
 

@@ -1,8 +1,7 @@
-use Rattle.std.proofs.Common.{◌≡◌, ◌+◌, ℕ, List, [], length, map, rules, Some, Option, sym, ap, ◌∙◌, arith}
+use Rattle.std.proofs.Common.{◌≡◌, ◌+◌, ℕ, [], length, map, rules, Some, sym, ap, ◌∙◌, arith}
 use Rattle.std.proofs.lemmas.Bool.Decides.{nat_tests}
-use Rattle.script_lang.specs.declared.script.Line.{Line}
 use Rattle.script_lang.specs.Script.{ScriptValue}
-use Rattle.script_lang.specs.Foreign.{is_own_line, first_not, first_foreign}
+use Rattle.script_lang.specs.Foreign.{is_own_line, first_not}
 use Rattle.script_lang.proofs.ForeignLaws.{no_items, at_armed, at_lines, form_of}
 use Rattle.script_lang.proofs.one_node.first_foreign_line.Goals as goal
 

@@ -1,5 +1,5 @@
-use Rattle.std.proofs.Common.{arith, ◌≡◌, ◌+◌, ◌-◌, ◌≤◌, length, ap, ◌∙◌, sym}
-use Rattle.script_lang.specs.Words.{words_in, words_behind, column_of}
+use Rattle.std.proofs.Common.{arith, ◌≡◌, ◌+◌, ◌-◌, length, ap, ◌∙◌}
+use Rattle.script_lang.specs.Words.{words_behind, column_of}
 use Rattle.script_lang.proofs.Columns.{column_of-step, column_of-le}
 use Rattle.script_lang.proofs.parser.column.Goals as goal
 

@@ -1,4 +1,4 @@
-use Rattle.std.proofs.Common.{List, ◌-◌, length, sym, subst, arith}
+use Rattle.std.proofs.Common.{sym, subst, arith}
 use Rattle.script_lang.specs.Grammar.{ScriptRead}
 use Rattle.script_lang.specs.Reading.{IsRefusal}
 use Rattle.script_lang.specs.Words.{lines_in}

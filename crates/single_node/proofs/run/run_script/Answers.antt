@@ -1,14 +1,14 @@
 use Rattle.std.proofs.Common.{◌≡◌, ℕ, List, length, sym, ap, ◌∙◌, subst}
-use Rattle.std.specs.Prelude.{Result, OnOk, IfErr, IsTrue, Ok, Err}
+use Rattle.std.specs.Prelude.{Result, OnOk, IfErr, Ok, Err}
 use Rattle.std.specs.List.{AllByRecursion}
 use Rattle.file_tree.specs.Tree.{Tree}
 use Rattle.script_lang.specs.Script.{ScriptValue}
 use Rattle.script_lang.specs.declared.script.Client.{Client}
 use Rattle.script_lang.specs.declared.script.Line.{Line}
 use Rattle.shared_disk.specs.Disk.{DiskState}
-use Rattle.single_node.specs.Blocks.{CallReads, CallRefuses, EndsAtCall}
+use Rattle.single_node.specs.Blocks.{CallReads, RefusesWhatIsTold, EndsAtCall}
 use Rattle.single_node.specs.Ends.{IfNotRead, IfDiskFailed}
-use Rattle.single_node.specs.Flat.{HasFlatRoot, IsStart}
+use Rattle.single_node.specs.Flat.{IsStart}
 use Rattle.single_node.specs.declared.end.RunEnd.{RunEnd}
 use Rattle.single_node.specs.Run.{IsLineOf, IsRunOf, IsWholeRun}
 use Rattle.single_node.proofs.Blocks.{none_of_lines}
@@ -20,8 +20,17 @@ use Rattle.single_node.proofs.run.run_script.Goals as goal
 at_script : {clients : List Client} {lines : List Line} (P : List Client → List Line → Type 0) (cs : List Client) (ls : List Line) → clients ≡ cs → lines ≡ ls → P clients lines → P cs ls
 at_script P cs ls same equal = subst (λ (p : List Client × List Line). P p.0 p.1) (λ k. (same k, equal k))
 
+owes_none_yet : (g : Over) (c : goal.After-from_residual g) → Owes c.args.script.now c.args.items.now.items (IsStart (g.D.SharedDisk.state c.args.disk.now) c.args.root.now)
+owes_none_yet g c = owes_none c.args.script.now c.requires.form c.args.items.now.items _ c.requires.none
+
 pub returns-in_err-block-clause-history : goal.returns-in_err-block-clause-history
-returns-in_err-block-clause-history g c = (owes_none c.args.script.now c.requires.form c.args.items.now.items _ c.requires.none).history
+returns-in_err-block-clause-history g c = (owes_none_yet g c).history
+
+pub returns-in_err-block-clause-legal : goal.returns-in_err-block-clause-legal
+returns-in_err-block-clause-legal g c = (owes_none_yet g c).legal
+
+pub returns-in_err-block-clause-none_lost : goal.returns-in_err-block-clause-none_lost
+returns-in_err-block-clause-none_lost g c = (owes_none_yet g c).none_lost
 
 pub run_lines-requires-clause-form : goal.run_lines-requires-clause-form
 run_lines-requires-clause-form g c =
@@ -50,11 +59,17 @@ module _ (g : Over) (c : goal.After-drop-block g) where
 pub returns-clause-history : goal.returns-clause-history
 returns-clause-history g c = (owed g c).history
 
+pub returns-clause-legal : goal.returns-clause-legal
+returns-clause-legal g c = (owed g c).legal
+
 pub returns-clause-tree : goal.returns-clause-tree
 returns-clause-tree g c = (owed g c).tree
 
 pub returns-clause-members : goal.returns-clause-members
 returns-clause-members g c = (owed g c).members
+
+pub returns-clause-none_lost : goal.returns-clause-none_lost
+returns-clause-none_lost g c = (owed g c).none_lost
 
 on_ok : {P Q : Type 0} (r : Result Unit RunEnd) → (P → Q) → OnOk r P → OnOk r Q
 on_ok (Ok x) f h = f h
@@ -75,8 +90,7 @@ returns-clause-other g c =
 pub returns-clause-block : goal.returns-clause-block
 returns-clause-block g c =
     at_script
-    (λ cs ls. IfErr c.run_lines.result (λ end. IfNotRead end (λ b. IsTrue (disk g c).tells → HasFlatRoot (disk g c) (root g c)
-    → EndsAtCall (λ call. CallRefuses (disk g c) (root g c) call b) cs ls c.run_lines.new.items.items (IsStart (disk g c) (root g c)))))
+    (λ cs ls. IfErr c.run_lines.result (λ end. IfNotRead end (λ b. EndsAtCall (λ call. RefusesWhatIsTold (disk g c) (root g c) call b) cs ls c.run_lines.new.items.items (IsStart (disk g c) (root g c)))))
     c.args.script.now.clients c.args.script.now.lines (clients g c) (lines g c) c.run_lines.ensures.block
 
 pub returns-clause-failed : goal.returns-clause-failed

@@ -1,7 +1,6 @@
 use Rattle.std.proofs.Common.{sym, subst}
-use Rattle.std.specs.Prelude.{IsTrue}
-use Rattle.single_node.specs.Blocks.{CallRefuses, IsCallThat}
-use Rattle.single_node.specs.Flat.{HasFlatRoot, IsStart}
+use Rattle.single_node.specs.Blocks.{RefusesWhatIsTold, IsCallThat}
+use Rattle.single_node.specs.Flat.{IsStart}
 use Rattle.single_node.proofs.Ends.{not_read_weaker}
 use Rattle.single_node.proofs.Steps.{Reads, call_taken}
 use Rattle.single_node.proofs.run.take_line.Goals as goal
@@ -9,8 +8,8 @@ use Rattle.single_node.proofs.run.take_line.Goals as goal
 pub returns-in-Err-clause-block : goal.returns-in-Err-clause-block
 returns-in-Err-clause-block g c =
     let d = g.D.SharedDisk.state c.args.disk.now in
-    not_read_weaker {Q = λ b. IsTrue d.tells → HasFlatRoot d c.args.root.now → IsCallThat (λ call. CallRefuses d c.args.root.now call b) c.args.line.now} c.in-Err.end
-    (λ b refuses tells has. subst (IsCallThat (λ call. CallRefuses d c.args.root.now call b)) (sym c.in-Call.is) (refuses tells has)) c.in-Err.ensures.block
+    not_read_weaker {Q = λ b. IsCallThat (λ call. RefusesWhatIsTold d c.args.root.now call b) c.args.line.now} c.in-Err.end
+    (λ b refuses. subst (IsCallThat (λ call. RefusesWhatIsTold d c.args.root.now call b)) (sym c.in-Call.is) refuses) c.in-Err.ensures.block
 
 pub returns-in-Ok-put_call-clause-taken : goal.returns-in-Ok-put_call-clause-taken
 returns-in-Ok-put_call-clause-taken g c =

@@ -10,6 +10,7 @@ pub loop-line-init : goal.loop-line-init
 loop-line-init g c = record {
   run = run_none c.args.clients.now c.args.lines.now c.args.items.now.items _ c.requires.joined;
   same = refl;
+  list = refl;
   later = λ j. omega arith;
 }
 
@@ -36,5 +37,6 @@ loop-line-preserved g c =
     record {
       run = run_more c.args.clients.now c.args.lines.now c.loop-line.line-index c.loop-line.items.items _ _ c.line-item.result c.line-item.result c.loop-line-test.true c.line-item.is so.run taken;
       same = c.in-Ok.ensures.same ∙ so.same;
+      list = c.in-Ok.ensures.list ∙ so.list;
       later = λ j. omega (arith, so.later j, c.in-Ok.ensures.later j);
     }

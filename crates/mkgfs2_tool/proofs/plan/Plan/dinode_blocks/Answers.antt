@@ -1,5 +1,4 @@
-use Rattle.std.proofs.Common.{ℕ, ◌≡◌, ◌≤◌, ◌+◌, refl, sym, ap, ◌∙◌, arith}
-use Rattle.mkgfs2_tool.specs.Blocks.{dinode_blocks}
+use Rattle.std.proofs.Common.{◌≡◌, ◌+◌, sym, ap, ◌∙◌, arith}
 use Rattle.mkgfs2_tool.proofs.CountLaws.{dinodes_among, is_one_in, one_more_journal}
 use Rattle.mkgfs2_tool.proofs.plan.Plan.dinode_blocks.Goals as goal
 

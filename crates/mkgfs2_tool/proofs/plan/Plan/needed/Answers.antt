@@ -1,8 +1,8 @@
-use Rattle.std.proofs.Common.{◌≡◌, ◌+◌, ◌^◌, ◌<◌, ◌≤◌, ◌⊎◌, inl, inr, ℕ, Bool, false, true, refl, sym, ap, subst, ◌∙◌, arith}
+use Rattle.std.proofs.Common.{◌≡◌, ◌+◌, ◌<◌, ◌≤◌, ℕ, Bool, false, true, refl, sym, ap, ◌∙◌, arith}
 use Rattle.std.specs.Prelude.{nat_lt}
 use Rattle.std.proofs.lemmas.Bool.Decides.{nat_tests}
 use Rattle.mkgfs2_tool.specs.Making.{IsPlan}
-use Rattle.mkgfs2_tool.specs.Order.{taken, fits}
+use Rattle.mkgfs2_tool.specs.Order.{fits}
 use Rattle.mkgfs2_tool.specs.declared.plan.Plan.{Plan}
 use Rattle.mkgfs2_tool.proofs.Enough.{enough, enlarged_fits, enough-small, enough-more}
 use Rattle.mkgfs2_tool.proofs.plan.Plan.needed.Goals as goal

@@ -1,4 +1,4 @@
-use Rattle.std.proofs.Common.{◌≡◌, ap, ◌∙◌}
+use Rattle.std.proofs.Common.{ap, ◌∙◌}
 use Rattle.gfs2_layout.specs.Writing.{dinode_put}
 use Rattle.mkgfs2_tool.proofs.plan.Plan.put_dinode.Goals as goal
 

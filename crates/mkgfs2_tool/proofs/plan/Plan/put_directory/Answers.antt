@@ -1,4 +1,4 @@
-use Rattle.std.proofs.Common.{ℕ, ◌≡◌, ◌-◌, List, length, replicate, refl, sym, ap, ◌∙◌, arith, rules}
+use Rattle.std.proofs.Common.{ℕ, ◌≡◌, ◌-◌, List, length, refl, ap, ◌∙◌, rules}
 use borrow.Rule.Slice.PartMut.{put_mid}
 use Rattle.gfs2_layout.specs.Writing.{dinode_put}
 use Rattle.gfs2_layout.specs.declared.dinode.Dinode.{Dinode}
@@ -17,4 +17,4 @@ returns c =
     let long : length c.put_records.new.area ≡ length c.put_dinode.new.block - 232 = search rules in
     let size : length c.put_dinode.new.block ≡ c.args.self.now.size = search rules in
     put_behind c.args.self.now c.args.dinode c.put_dinode.new.block c.put_records.new.area _ (length c.put_dinode.new.block - 232) c.put_dinode.ensures
-        (c.put_records.ensures ∙ ap (λ room. records room c.args.entries.now) (search (rules, size))) long
+    (c.put_records.ensures ∙ ap (λ room. records room c.args.entries.now) (search (rules, size))) long

@@ -1,6 +1,5 @@
-use Rattle.std.proofs.Common.{◌≡◌, ap, ◌∙◌}
+use Rattle.std.proofs.Common.{ap, ◌∙◌}
 use Rattle.gfs2_layout.specs.Writing.{group_put}
-use Rattle.mkgfs2_tool.specs.Blocks.{zeros}
 use Rattle.mkgfs2_tool.proofs.plan.Plan.put_group_header.Goals as goal
 
 pub returns : goal.returns

@@ -1,6 +1,6 @@
-use Rattle.std.proofs.Common.{ℕ, ◌≡◌, ◌+◌, List, take, subst, sym, ap, ◌∙◌, arith}
+use Rattle.std.proofs.Common.{◌≡◌, ◌+◌, List, take, subst, sym, arith}
 use Rattle.mkgfs2_tool.specs.Making.{IsFitting}
-use Rattle.mkgfs2_tool.specs.Directories.{AreNamed, Fit, records, most_entries}
+use Rattle.mkgfs2_tool.specs.Directories.{most_entries}
 use Rattle.mkgfs2_tool.specs.Blocks.{journals_block}
 use Rattle.mkgfs2_tool.specs.declared.plan.Plan.{Plan}
 use Rattle.mkgfs2_tool.specs.declared.directory.Entry.{Entry}
