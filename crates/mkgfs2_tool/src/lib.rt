@@ -8,8 +8,8 @@ mod directory;
 mod files;
 mod groups;
 mod inodes;
-mod making;
 mod laws;
+mod making;
 mod options;
 mod order;
 mod plan;
@@ -17,7 +17,7 @@ mod pointers;
 #[cfg(test)]
 mod tests;
 
-pub use making::make;
 pub use laws::new_images_stand;
+pub use making::make;
 pub use options::{MakeFault, MakeOptions, Opt};
 pub use plan::Plan;
