@@ -279,7 +279,7 @@ module _ (p : Plan) (fit : IsFitting p) (known : Known p) where
   file_dinode_is i ok =
       subst (IsDinodeBlock p.size (file_dinode p i) (file_behind p i)) (sym (file_block i 0 ok (file_some p i) ∙ top_block i))
       (dinode_put_is known.given p.size (file_dinode p i) (file_behind p i) (behind_room i)
-      (dinode_widths p (file_number i) (file_place p i) (system_file (file_shape p i)) (number_low i ok) (near (file_place p i)) known.time (small i)))
+      (dinode_widths p (file_number i) (file_place p i) (system_file (file_shape p i)) (number_low i ok) near known.time (small i)))
     where
       same : file_place p i + 0 ≡ file_place p i
       same = none (file_place p i)
@@ -287,8 +287,8 @@ module _ (p : Plan) (fit : IsFitting p) (known : Known p) where
           none : (n : ℕ) → n + 0 ≡ n
           none n = omega arith
 
-      near : (k : ℕ) → data_address p (file_place p i) < 2 ^ 64
-      near k = subst (λ n. data_address p n < 2 ^ 64) same (spot_small i 0 ok (file_some p i))
+      near : data_address p (file_place p i) < 2 ^ 64
+      near = subst (λ n. data_address p n < 2 ^ 64) same (spot_small i 0 ok (file_some p i))
 
   -- ---- where pointers lead
 

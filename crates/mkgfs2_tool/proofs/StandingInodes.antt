@@ -105,11 +105,8 @@ module _ (p : Plan) (fit : IsFitting p) (known : Known p) (at : Blocks) (made : 
 
   address_is : (dinode_in h).num.address ≡ a
   unfolding dinode
-  address_is = ap (λ (d : Dinode). d.num.address) file_dinode_in ∙ ap (spot_at p) (none (file_place p i))
+  address_is = ap (λ (d : Dinode). d.num.address) file_dinode_in ∙ ap (data_address p) (none (file_place p i))
     where
-      spot_at : Plan → ℕ → ℕ
-      spot_at p n = data_address p n
-
       none : (n : ℕ) → n ≡ n + 0
       none n = omega arith
 

@@ -181,15 +181,15 @@ module _ (p : Plan) (fit : IsFitting p) (known : Known p) (at : Blocks) (made : 
   abbrev jindex_records : List Record
   jindex_records = map entry_record (journals_entries p)
 
-  no_dots : (r : Record) (name : List ℕ) (q : Record) → r ≡ q → is_dots q.name ≡ true → is_dots r.name ≡ false → ⊥
-  no_dots r name q e so non = true≢false (sym (ap (λ (s : Record). is_dots s.name) e ∙ so) ∙ non)
+  no_dots : (r q : Record) → r ≡ q → is_dots q.name ≡ true → is_dots r.name ≡ false → ⊥
+  no_dots r q e so non = true≢false (sym (ap (λ (s : Record). is_dots s.name) e ∙ so) ∙ non)
 
   master_down : (r : Record) → Contains master_records r → is_dots r.name ≡ false → LeadsDown heads (owner p) master r
   master_down r there non = each (is_in r master_records there)
     where
       each : IsIn r master_records → LeadsDown heads (owner p) master r
-      each (inl e) = absurd (no_dots r (codes ".") _ e refl non)
-      each (inr (inl e)) = absurd (no_dots r (codes "..") _ e refl non)
+      each (inl e) = absurd (no_dots r _ e refl non)
+      each (inr (inl e)) = absurd (no_dots r _ e refl non)
       each (inr (inr (inl e))) = subst (LeadsDown heads (owner p) master) (sym e) (record { name = is_jindex_name; owner = owner_journals p fit; true_of = dir_record (codes "jindex") jindex 4 jindex_head })
       each (inr (inr (inr (inl e)))) = subst (LeadsDown heads (owner p) master) (sym e) (record {
         name = is_rindex_name;
@@ -213,8 +213,8 @@ module _ (p : Plan) (fit : IsFitting p) (known : Known p) (at : Blocks) (made : 
   root_down r there non = each (is_in r root_records there)
     where
       each : IsIn r root_records → LeadsDown heads (owner p) root r
-      each (inl e) = absurd (no_dots r (codes ".") _ e refl non)
-      each (inr (inl e)) = absurd (no_dots r (codes "..") _ e refl non)
+      each (inl e) = absurd (no_dots r _ e refl non)
+      each (inr (inl e)) = absurd (no_dots r _ e refl non)
       each (inr (inr h)) = elim h [ ]
 
   root_directory : IsDirectory heads (owner p) root root_records (dinode_in (held p at root))
@@ -248,8 +248,8 @@ module _ (p : Plan) (fit : IsFitting p) (known : Known p) (at : Blocks) (made : 
       of q = subst (LeadsDown heads (owner p) jindex) (sym q.is) (journal_down q.j q.low)
 
       each : IsIn r jindex_records → LeadsDown heads (owner p) jindex r
-      each (inl e) = absurd (no_dots r (codes ".") _ e refl non)
-      each (inr (inl e)) = absurd (no_dots r (codes "..") _ e refl non)
+      each (inl e) = absurd (no_dots r _ e refl non)
+      each (inr (inl e)) = absurd (no_dots r _ e refl non)
       each (inr (inr h)) = of (of_journal p 0 p.journals p.journals r (omega arith) h)
 
   jindex_links : directory_count jindex_records ≡ 0
@@ -287,13 +287,13 @@ module _ (p : Plan) (fit : IsFitting p) (known : Known p) (at : Blocks) (made : 
   pub directories : (a : ℕ) → is_dinode (owner p a) ≡ true → is_directory_in (held p at a) ≡ true → IsDirectory heads (owner p) a (records_of (held p at a)) (dinode_in (held p at a))
   directories a dinode is = each (whose p fit known a)
     where
-      abbrev_at : ℕ → Type 0
-      abbrev_at a = IsDirectory heads (owner p) a (records_of (held p at a)) (dinode_in (held p at a))
+      directory_at : ℕ → Type 0
+      directory_at a = IsDirectory heads (owner p) a (records_of (held p at a)) (dinode_in (held p at a))
 
       each : Whose p a → IsDirectory heads (owner p) a (records_of (held p at a)) (dinode_in (held p at a))
-      each (whose_master e o) = subst abbrev_at (sym e) (subst (λ (rs : List Record). IsDirectory heads (owner p) master rs (dinode_in (held p at master))) (sym (dir_records p fit known at made master_place 1 4 3 (master_entries p) (master_at p fit known))) master_directory)
-      each (whose_root e o) = subst abbrev_at (sym e) (subst (λ (rs : List Record). IsDirectory heads (owner p) root rs (dinode_in (held p at root))) (sym (dir_records p fit known at made root_place 2 2 2 (root_entries p) (root_at p fit known))) root_directory)
-      each (whose_journals e o) = subst abbrev_at (sym e) (subst (λ (rs : List Record). IsDirectory heads (owner p) jindex rs (dinode_in (held p at jindex)))
+      each (whose_master e o) = subst directory_at (sym e) (subst (λ (rs : List Record). IsDirectory heads (owner p) master rs (dinode_in (held p at master))) (sym (dir_records p fit known at made master_place 1 4 3 (master_entries p) (master_at p fit known))) master_directory)
+      each (whose_root e o) = subst directory_at (sym e) (subst (λ (rs : List Record). IsDirectory heads (owner p) root rs (dinode_in (held p at root))) (sym (dir_records p fit known at made root_place 2 2 2 (root_entries p) (root_at p fit known))) root_directory)
+      each (whose_journals e o) = subst directory_at (sym e) (subst (λ (rs : List Record). IsDirectory heads (owner p) jindex rs (dinode_in (held p at jindex)))
           (sym (dir_records p fit known at made (journals_place p) 4 (2 + p.journals) 2 (journals_entries p) (journals_at p fit known))) jindex_directory)
       each (whose_file i ok e o) = absurd (true≢false (sym is ∙ ap (λ n. is_directory_in (held p at n)) e ∙ file_plain p fit known at made i ok))
       each (whose_below i l x ok below e o) = absurd (no_below_dinode p i l x (ap is_dinode (sym o) ∙ dinode))

@@ -1,4 +1,5 @@
-//! What the definition of a new image means. The function does nothing: its contract is the law.
+//! What the definition of a new image means. The function only calls the laws that its own stands on: its contract is
+//! the law.
 ghost use Rattle.mkgfs2_tool.specs.Standing.{NewImagesStand};
 
 use crc_words::checksums_have_32_bits;
