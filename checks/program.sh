@@ -3,6 +3,7 @@
 # Ends with status 0 where each case ends as it should. Needs Python 3 for the image; says so and skips without it.
 set -eu
 cd "$(dirname "$0")/.."
+here=$PWD
 
 if ! command -v python3 >/dev/null; then
     echo "checks/program.sh: skipped, no python3"
@@ -36,6 +37,32 @@ run() {
     status=0
     "$program" "$@" >out 2>/dev/null || status=$?
 }
+
+# new SIZE BLOCKS JOURNALS JOURNAL-BLOCKS GROUPS TIME UUID: mkfs makes what checks/new_image.py makes
+new() {
+    truncate -s $(($1 * $2)) made
+    if wanted=$(python3 "$here/checks/new_image.py" wanted "$@"); then
+        line="done" number=0
+    else
+        line="too small: needed $wanted blocks, found $2" number=11
+        truncate -s $(($1 * $2)) wanted
+    fi
+    run made trace mkfs --bsize "$1" --journals "$3" --journal-blocks "$4" --groups "$5" --time "$6" --uuid "$7"
+    check "mkfs $*" "$number" "$line"
+    cmp -s made wanted || {
+        echo "checks/program.sh: mkfs $*: the image is another" >&2
+        failed=1
+    }
+    rm -f made wanted
+}
+
+none=00000000000000000000000000000000
+new 4096 538 1 512 1 0 $none
+new 4096 537 1 512 1 0 $none
+new 512 20000 3 3000 7 9 0123456789abcdef0123456789abcdef
+new 1024 30000 8 2500 64 1700000000 $none
+new 2048 5000 2 1024 40 0 $none
+new 4096 3001 2 1024 41 0 $none
 
 run image trace run <script
 check "a run" 0 "done"
