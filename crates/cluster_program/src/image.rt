@@ -1,6 +1,6 @@
 ghost use Rattle.std.specs.Prelude.{◌≡◌, ◌≤◌, ℕ, List, Option, false};
 ghost use Rattle.shared_disk.specs.Disk.{IsIdle};
-ghost use Rattle.single_node.specs.Flat.{IsBlockSize};
+ghost use Rattle.gfs2_layout.specs.Device.{IsBlockSize};
 ghost use Rattle.command_words.specs.Limits.{IsMakeWithin};
 ghost use Rattle.cluster_program.specs.Course.{Makes, has_many_journals, options_of as options_asked};
 ghost use Rattle.cluster_program.specs.World.{inputs};

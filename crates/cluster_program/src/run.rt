@@ -1,6 +1,6 @@
 ghost use Rattle.std.specs.Prelude.{◌≡◌, ◌≤◌, ℕ, []};
 ghost use Rattle.shared_disk.specs.Disk.{IsIdle};
-ghost use Rattle.single_node.specs.Flat.{IsBlockSize};
+ghost use Rattle.gfs2_layout.specs.Device.{IsBlockSize};
 ghost use Rattle.script_lang.specs.OneNode.{IsOneNode};
 ghost use Rattle.cluster_program.specs.Course.{Runs};
 ghost use Rattle.cluster_program.specs.Quiet.{IsQuiet};

@@ -1,7 +1,7 @@
 ghost use Rattle.std.specs.Prelude.{◌≡◌, ◌≤◌, ℕ, List, [], map, string_bytes};
 ghost use Rattle.shared_disk.specs.Disk.{IsIdle};
 ghost use Rattle.script_lang.specs.Grammar.{nothing};
-ghost use Rattle.single_node.specs.Flat.{IsBlockSize};
+ghost use Rattle.gfs2_layout.specs.Device.{IsBlockSize};
 ghost use Rattle.cluster_program.specs.World.{inputs, outputs};
 ghost use Rattle.cluster_program.specs.Course.{Course, AsksToRun};
 ghost use Rattle.cluster_program.specs.Report.{IsSinkFault};

@@ -6,4 +6,10 @@ pub mod Writing
 pub mod Area
 pub mod Putting
 pub mod Bitmap
+pub mod Device
+pub mod Headers
+pub mod Holding
+pub mod Records
+pub mod Inode
+pub mod Journal
 pub mod Laws

@@ -1,6 +1,6 @@
 ghost use Rattle.std.specs.Prelude.{◌≡◌, ℕ, Ok, Some, IfOk, IfSome, map, string_bytes};
 ghost use Rattle.gfs2run.specs.Size.{size_written as the_size_written, first_size as the_first_size, size_given as the_size_given};
-ghost use Rattle.single_node.specs.Flat.{IsBlockSize};
+ghost use Rattle.gfs2_layout.specs.Device.{IsBlockSize};
 
 use std::fs::{File, Files};
 use std::io::{self, ErrorKind, Read, Seek, SeekFrom};

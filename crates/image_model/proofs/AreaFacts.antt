@@ -5,9 +5,10 @@ use Rattle.std.specs.Prelude.{Contains}
 use Rattle.std.specs.List.{range_with_len}
 use Rattle.gfs2_layout.specs.Structures.{dinode_length}
 use Rattle.image_model.specs.Image.{Image}
-use Rattle.image_model.specs.Owners.{Owners, is_dinode, InChain, holding, part_at}
-use Rattle.image_model.specs.Records.{Record, records_in, IsRecordArea}
-use Rattle.image_model.specs.Inode.{dinode_in, is_directory_in, is_hashed_in, linear_area, leaf_area, is_leaf_part, leaves_of, records_of}
+use Rattle.image_model.specs.Owners.{Owners, is_dinode, holding}
+use Rattle.gfs2_layout.specs.Holding.{InChain, part_at}
+use Rattle.gfs2_layout.specs.Records.{Record, records_in, IsRecordArea}
+use Rattle.gfs2_layout.specs.Inode.{dinode_in, is_directory_in, is_hashed_in, linear_area, leaf_area, is_leaf_part, leaves_of, records_of}
 use Rattle.image_model.specs.Stands.{Layout, IsLaid, IsDirectory, heads_of}
 use Rattle.image_model.specs.Claims.{every, HasInode, HasDirectory, HasArea, behind_dinode, of_leaf}
 use Rattle.image_model.specs.Rules.{HasRecordIn}

@@ -4,11 +4,13 @@ use Rattle.std.proofs.lemmas.Bool.{cases_Bool, cond-true, cond-false}
 use Rattle.std.specs.Prelude.{codes, option_and_then}
 use Rattle.gfs2_layout.specs.declared.rindex.Rindex.{Rindex}
 use Rattle.image_model.specs.Image.{Image}
-use Rattle.image_model.specs.Owners.{Owner, Owners, Named, Up, Chained, is_dinode, IsUsed, Holding, holding}
+use Rattle.image_model.specs.Owners.{Owner, Owners, Named, Up, Chained, is_dinode, IsUsed, holding}
 use Rattle.image_model.specs.Flat.{Path, AFile, ADir, Node, no_node, follow}
 use Rattle.image_model.specs.Groups.{groups_in, IsListed}
 use Rattle.image_model.specs.Journals.{journal_name, IsJournal}
-use Rattle.image_model.specs.Inode.{is_directory_in, content_of, thing_of, node_of}
+use Rattle.gfs2_layout.specs.Holding.{Holding}
+use Rattle.gfs2_layout.specs.Inode.{is_directory_in, content_of}
+use Rattle.image_model.specs.Nodes.{thing_of, node_of}
 use Rattle.image_model.specs.Stands.{Layout, IsLaid, flat_of}
 use Rattle.image_model.specs.Claims.{every, Claims, root, master, below, first_leaf, next_leaf, in_dinode, in_leaf, IsInodeAt, HasInode, HasDirectory, HasLeaf, master_of, LeadsTo, IsRindex, IsJindex, HasGroup, HasJournal, IsUnder, itself, by_name}
 use Rattle.image_model.proofs.Held.{none_some, some_same}

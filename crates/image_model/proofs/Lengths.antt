@@ -9,10 +9,13 @@ use Rattle.std.specs.Prelude.{flat_map}
 use Rattle.std.specs.List.{range_with_len}
 use Rattle.gfs2_layout.specs.Structures.{dinode_length, is_directory, is_regular}
 use Rattle.gfs2_layout.specs.declared.dinode.Dinode.{Dinode}
-use Rattle.image_model.specs.Image.{Image, IsBlockSize}
-use Rattle.image_model.specs.Owners.{Owners, is_dinode, Itself, Pointed, holding, bytes_at}
-use Rattle.image_model.specs.Inode.{dinode_in, height_in, is_directory_in, header_length, unit, pieces, carried, content_block, content_count, content_of, IsInode}
-use Rattle.image_model.specs.Journals.{Ring, ring_of, accepted, better, best_from, head_in, IsJournal}
+use Rattle.image_model.specs.Image.{Image}
+use Rattle.image_model.specs.Owners.{Owners, is_dinode, holding}
+use Rattle.gfs2_layout.specs.Device.{IsBlockSize}
+use Rattle.gfs2_layout.specs.Holding.{Itself, Pointed, bytes_at}
+use Rattle.gfs2_layout.specs.Inode.{dinode_in, height_in, is_directory_in, header_length, unit, pieces, carried, content_block, content_count, content_of, IsInode}
+use Rattle.gfs2_layout.specs.Journal.{Ring, ring_of, accepted, better, best_from, head_in}
+use Rattle.image_model.specs.Journals.{IsJournal}
 use Rattle.image_model.specs.Claims.{every}
 use Rattle.image_model.proofs.Members.{IsIn, from_range}
 use Rattle.image_model.proofs.Held.{own_part, block_same}

@@ -7,9 +7,9 @@ use Rattle.std.specs.Str.{bytes_eq}
 use Rattle.std.specs.List.Sorted.{IsPermutation}
 use Rattle.std.proofs.lemmas.List.Sorted.{IsPermutation-sym, Contains-permutation, sum_by-IsPermutation, length_permutation}
 use Rattle.gfs2_layout.specs.declared.dinode.Dinode.{Dinode}
-use Rattle.image_model.specs.Inode.{Head}
+use Rattle.gfs2_layout.specs.Inode.{Head}
 use Rattle.image_model.specs.Owners.{Owners}
-use Rattle.image_model.specs.Records.{Record, is_dots, child_named, record_named}
+use Rattle.gfs2_layout.specs.Records.{Record, is_dots, child_named, record_named}
 use Rattle.image_model.specs.Stands.{HasRecord, IsDirectory, name_count}
 use Rattle.image_model.proofs.Members.{IsIn, contained, is_in}
 use Rattle.image_model.proofs.Counts.{one_passes}

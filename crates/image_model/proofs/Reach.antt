@@ -10,13 +10,16 @@ use Rattle.gfs2_layout.specs.Bytes.{u64_at}
 use Rattle.gfs2_layout.specs.Structures.{dinode_length}
 use Rattle.gfs2_layout.specs.declared.dinode.Dinode.{Dinode}
 use Rattle.gfs2_layout.specs.declared.leaf.Leaf.{Leaf}
-use Rattle.image_model.specs.Image.{Image, superblock_place}
-use Rattle.image_model.specs.Owners.{Owner, Owners, Super, InGroup, Free, Nobody, Root, Master, Named, Below, Chained, is_dinode, IsUsed, IsWithin, Part, Itself, Pointed, InChain, Holding, holding, part_at}
-use Rattle.image_model.specs.Records.{Record, records_in, is_dots, record_named, child_named}
+use Rattle.image_model.specs.Image.{Image}
+use Rattle.image_model.specs.Owners.{Owner, Owners, Super, InGroup, Free, Nobody, Root, Master, Named, Below, Chained, is_dinode, IsUsed, IsWithin, holding}
+use Rattle.gfs2_layout.specs.Device.{superblock_place}
 use Rattle.image_model.specs.Flat.{Path, Node, no_node, follow}
-use Rattle.image_model.specs.Inode.{height_in, is_directory_in, is_hashed_in, header_length, span, pointer, leaf_area, is_leaf_part, leaves_of, records_of, child_of, node_of, IsPointed, by_dinode, by_block, table_count, entry, leaf_in, first_hash}
+use Rattle.gfs2_layout.specs.Holding.{Part, Itself, Pointed, InChain, Holding, part_at}
+use Rattle.gfs2_layout.specs.Records.{Record, records_in, is_dots, record_named, child_named}
+use Rattle.gfs2_layout.specs.Inode.{height_in, is_directory_in, is_hashed_in, header_length, span, pointer, leaf_area, is_leaf_part, leaves_of, records_of, IsPointed, by_dinode, by_block, table_count, entry, leaf_in, first_hash, Leads, from_dinode, from_block, entry_block}
+use Rattle.image_model.specs.Nodes.{child_of, node_of}
 use Rattle.image_model.specs.Stands.{Layout, IsLaid, flat_of}
-use Rattle.image_model.specs.Claims.{every, Leads, from_dinode, from_block, Claims, root, master, below, first_leaf, next_leaf, in_dinode, in_leaf, entry_block}
+use Rattle.image_model.specs.Claims.{every, Claims, root, master, below, first_leaf, next_leaf, in_dinode, in_leaf}
 use Rattle.image_model.proofs.Members.{IsIn, contained, is_in, from_flat_map, from_filter}
 use Rattle.image_model.proofs.Held.{none_some, some_same, own_block, block_same, pointed_owner, chained_owner, pointed_part, chained_part}
 use Rattle.image_model.proofs.Same.{entry_same, leaf_same}

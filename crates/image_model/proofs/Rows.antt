@@ -8,11 +8,12 @@ use Rattle.gfs2_layout.specs.Structures.{dinode_length, is_directory}
 use Rattle.gfs2_layout.specs.declared.dinode.Dinode.{Dinode}
 use Rattle.gfs2_layout.specs.declared.leaf.Leaf.{Leaf}
 use Rattle.image_model.specs.Image.{Image}
-use Rattle.image_model.specs.Owners.{Owner, Owners, Chained, is_dinode, IsUsed, IsWithin, Pointed, InChain, holding, part_at}
-use Rattle.image_model.specs.Records.{Record, records_in}
-use Rattle.image_model.specs.Inode.{dinode_in, has_hash_flag, is_directory_in, is_hashed_in, header_length, span, pointer, linear_area, leaf_area, is_leaf_part, leaves_of, records_of, IsChild, IsInode, table_count, entry, leaf_in, first_hash}
+use Rattle.image_model.specs.Owners.{Owner, Owners, Chained, is_dinode, IsUsed, IsWithin, holding}
+use Rattle.gfs2_layout.specs.Holding.{Pointed, InChain, part_at}
+use Rattle.gfs2_layout.specs.Records.{Record, records_in}
+use Rattle.gfs2_layout.specs.Inode.{dinode_in, has_hash_flag, is_directory_in, is_hashed_in, header_length, span, pointer, linear_area, leaf_area, is_leaf_part, leaves_of, records_of, IsChild, IsInode, table_count, entry, leaf_in, first_hash, Leads, from_dinode, from_block}
 use Rattle.image_model.specs.Stands.{Layout, IsLaid}
-use Rattle.image_model.specs.Claims.{every, Leads, from_dinode, from_block, Claims, root, master, below, first_leaf, next_leaf, in_dinode, in_leaf}
+use Rattle.image_model.specs.Claims.{every, Claims, root, master, below, first_leaf, next_leaf, in_dinode, in_leaf}
 use Rattle.image_model.proofs.Members.{IsIn, contained, is_in, in_flat_map, in_filter, in_range}
 use Rattle.image_model.proofs.Held.{own_block, block_same, pointed_owner, chained_owner, chained_part}
 use Rattle.image_model.proofs.Same.{dinode_same, entry_same, leaf_same}

@@ -9,8 +9,9 @@ use Rattle.gfs2_layout.specs.Bytes.{u64_at}
 use Rattle.gfs2_layout.specs.Structures.{dinode_of, dinode_length, leaf_of}
 use Rattle.gfs2_layout.specs.declared.dinode.Dinode.{Dinode}
 use Rattle.image_model.specs.Image.{Image}
-use Rattle.image_model.specs.Owners.{Owners, is_dinode, Pointed, InChain, Holding, holding, bytes_at, part_at}
-use Rattle.image_model.specs.Inode.{dinode_in, height_in, header_length, fan, span, pointer, descend, content_block, unit, carried, pieces, content_count, content_of, IsChild, IsInode, entry, leaf_in}
+use Rattle.image_model.specs.Owners.{Owners, is_dinode, holding}
+use Rattle.gfs2_layout.specs.Holding.{Pointed, InChain, Holding, bytes_at, part_at}
+use Rattle.gfs2_layout.specs.Inode.{dinode_in, height_in, header_length, fan, span, pointer, descend, content_block, unit, carried, pieces, content_count, content_of, IsChild, IsInode, entry, leaf_in}
 use Rattle.image_model.specs.Claims.{every}
 use Rattle.image_model.proofs.Members.{IsIn, from_range}
 use Rattle.image_model.proofs.Held.{own_block, block_same}

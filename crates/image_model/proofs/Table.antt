@@ -3,7 +3,8 @@ use Rattle.std.proofs.Common.{◌≡◌, ℕ, zero, suc, ◌+◌, ◌<◌, ◌�
 use Rattle.std.proofs.lemmas.Bool.{cases_lt}
 use Rattle.std.specs.Prelude.{codes, slice_get}
 use Rattle.gfs2_layout.specs.declared.rindex.Rindex.{Rindex}
-use Rattle.image_model.specs.Image.{Image, superblock_place}
+use Rattle.gfs2_layout.specs.Device.{superblock_place}
+use Rattle.image_model.specs.Image.{Image}
 use Rattle.image_model.specs.Owners.{Owner, Owners, IsUsed}
 use Rattle.image_model.specs.Flat.{AFile}
 use Rattle.image_model.specs.Groups.{IsListed, IsHeaderOf, IsDataOf, end_of, groups_in}

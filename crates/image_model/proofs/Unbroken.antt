@@ -4,8 +4,9 @@ use Rattle.std.proofs.lemmas.List.FromFn.{get_or-map-range_with_len}
 use Rattle.gfs2_layout.specs.declared.rindex.Rindex.{Rindex}
 use Rattle.image_model.specs.Image.{Image}
 use Rattle.gfs2_layout.specs.Bitmap.{state_at}
-use Rattle.image_model.specs.Headers.{HasHeader}
-use Rattle.image_model.specs.Owners.{Owner, Owners, Super, InGroup, Free, Nobody, Root, Master, Named, Below, Chained, is_dinode, IsWithin, Pointed, InChain}
+use Rattle.gfs2_layout.specs.Headers.{HasHeader}
+use Rattle.gfs2_layout.specs.Holding.{Pointed, InChain}
+use Rattle.image_model.specs.Owners.{Owner, Owners, Super, InGroup, Free, Nobody, Root, Master, Named, Below, Chained, is_dinode, IsWithin}
 use Rattle.image_model.specs.Groups.{IsListed, IsDataOf, group_blocks, group_header, bitmap_of, states_of, state_of, count_of, IsGroup}
 use Rattle.image_model.specs.Stands.{Layout, IsLaid}
 use Rattle.image_model.specs.Claims.{Claims, HasGroup}

@@ -6,9 +6,10 @@ use Rattle.std.specs.List.{range_with_len}
 use Rattle.gfs2_layout.specs.Structures.{dinode_length}
 use Rattle.gfs2_layout.specs.declared.dinode.Dinode.{Dinode}
 use Rattle.image_model.specs.Image.{Image}
-use Rattle.image_model.specs.Owners.{Owner, Owners, Super, InGroup, Free, Nobody, Root, Master, Named, Below, Chained, is_dinode, IsUsed, IsWithin, Part, Itself, Pointed, InChain, Cell, cell_part, holding, part_at}
-use Rattle.image_model.specs.Records.{Record, records_in}
-use Rattle.image_model.specs.Inode.{dinode_in, leaf_area, is_leaf_part, leaves_of, records_of, block_count}
+use Rattle.image_model.specs.Owners.{Owner, Owners, Super, InGroup, Free, Nobody, Root, Master, Named, Below, Chained, is_dinode, IsUsed, IsWithin, holding}
+use Rattle.gfs2_layout.specs.Holding.{Part, Itself, Pointed, InChain, Cell, cell_part, part_at}
+use Rattle.gfs2_layout.specs.Records.{Record, records_in}
+use Rattle.gfs2_layout.specs.Inode.{dinode_in, leaf_area, is_leaf_part, leaves_of, records_of, block_count}
 use Rattle.image_model.specs.Stands.{Layout, IsLaid, IsDirectory, heads_of, directory_count}
 use Rattle.image_model.specs.Claims.{every, HasDirectory}
 use Rattle.image_model.specs.Rules.{AreWithin, AreLeaves, HasRecords, from_dinode_block, from_leaves}

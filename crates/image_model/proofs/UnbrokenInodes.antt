@@ -8,11 +8,12 @@ use Rattle.gfs2_layout.specs.Structures.{dinode_length, is_regular}
 use Rattle.gfs2_layout.specs.declared.dinode.Dinode.{Dinode}
 use Rattle.gfs2_layout.specs.declared.leaf.Leaf.{Leaf}
 use Rattle.image_model.specs.Image.{Image, superblock_in}
-use Rattle.image_model.specs.Owners.{Owners, Chained, is_dinode, IsUsed, InChain, holding, bytes_at, part_at}
-use Rattle.image_model.specs.Records.{Record, records_in}
-use Rattle.image_model.specs.Inode.{dinode_in, height_in, is_directory_in, is_hashed_in, fan, span, content_count, table_count, depth_in, entry, index_bits, first_hash, leaf_in, leaf_area, top_bits, IsLeaf, IsLinear, IsHashed}
+use Rattle.image_model.specs.Owners.{Owners, Chained, is_dinode, IsUsed, holding}
+use Rattle.gfs2_layout.specs.Holding.{InChain, bytes_at, part_at}
+use Rattle.gfs2_layout.specs.Records.{Record, records_in}
+use Rattle.gfs2_layout.specs.Inode.{dinode_in, height_in, is_directory_in, is_hashed_in, fan, span, content_count, table_count, depth_in, entry, index_bits, first_hash, leaf_in, leaf_area, top_bits, IsLeaf, IsLinear, IsHashed, Leads}
 use Rattle.image_model.specs.Stands.{Layout, IsLaid}
-use Rattle.image_model.specs.Claims.{every, Leads, Claims, HasInode, HasDirectory, HasLeaf}
+use Rattle.image_model.specs.Claims.{every, Claims, HasInode, HasDirectory, HasLeaf}
 use Rattle.image_model.specs.Rules.{IsHashedAt}
 use Rattle.image_model.proofs.Held.{block_same, chained_owner, chained_part}
 use Rattle.image_model.proofs.Same.{count_same, entry_same, leaf_same}

@@ -10,9 +10,10 @@ use Rattle.gfs2_layout.specs.Structures.{dinode_length, is_in_use}
 use Rattle.gfs2_layout.specs.Area.{Slot, name_of, slots_of, IsArea}
 use Rattle.gfs2_layout.specs.declared.dinode.Dinode.{Dinode}
 use Rattle.image_model.specs.Image.{Image}
-use Rattle.image_model.specs.Owners.{Owner, Owners, Super, InGroup, Free, Nobody, Root, Master, Named, Below, Chained, up_of, IsUsed, is_dinode, parent_of, InChain, holding, part_at}
-use Rattle.image_model.specs.Records.{Record, records_in, HasItsHash, is_dots}
-use Rattle.image_model.specs.Inode.{Head, head_of, dinode_in, is_hashed_in, linear_area, leaf_area, is_leaf_part, leaves_of, records_of}
+use Rattle.image_model.specs.Owners.{Owner, Owners, Super, InGroup, Free, Nobody, Root, Master, Named, Below, Chained, up_of, IsUsed, is_dinode, parent_of, holding}
+use Rattle.gfs2_layout.specs.Holding.{InChain, part_at}
+use Rattle.gfs2_layout.specs.Records.{Record, records_in, HasItsHash, is_dots}
+use Rattle.gfs2_layout.specs.Inode.{Head, head_of, dinode_in, is_hashed_in, linear_area, leaf_area, is_leaf_part, leaves_of, records_of}
 use Rattle.image_model.specs.Stands.{Layout, IsLaid, IsDirectory, LeadsDown, heads_of, kind_of, IsRecordOf, HasRecord, name_count}
 use Rattle.image_model.specs.Claims.{every, HasDirectory, HasLeaf, HasArea, behind_dinode, of_leaf}
 use Rattle.image_model.specs.Rules.{HasRecordIn}

@@ -6,11 +6,13 @@ use Rattle.file_tree.specs.Apply.{file_limit}
 use Rattle.gfs2_layout.specs.Structures.{is_regular}
 use Rattle.gfs2_layout.specs.declared.rindex.Rindex.{Rindex}
 use Rattle.gfs2_layout.specs.declared.dinode.Dinode.{Dinode}
-use Rattle.image_model.specs.Image.{Image, superblock_place, superblock_in}
-use Rattle.image_model.specs.Owners.{Owners, is_dinode, InChain, holding, part_at}
+use Rattle.image_model.specs.Image.{Image, superblock_in}
+use Rattle.image_model.specs.Owners.{Owners, is_dinode, holding}
 use Rattle.image_model.specs.Groups.{IsListed, IsGroupAt, groups_in, entry_length, end_of, IsNear, GroupFits}
-use Rattle.image_model.specs.Inode.{dinode_in, is_hashed_in, content_block, content_of, table_count, entry, index_bits, first_hash, leaf_in}
-use Rattle.image_model.specs.Journals.{ring_of, head_in}
+use Rattle.gfs2_layout.specs.Device.{superblock_place}
+use Rattle.gfs2_layout.specs.Holding.{InChain, part_at}
+use Rattle.gfs2_layout.specs.Inode.{dinode_in, is_hashed_in, content_block, content_of, table_count, entry, index_bits, first_hash, leaf_in}
+use Rattle.gfs2_layout.specs.Journal.{ring_of, head_in}
 use Rattle.image_model.specs.Stands.{Layout, IsLaid}
 use Rattle.image_model.specs.Claims.{every, IsUnder, itself, by_name, IsRindex, HasGroup, HasJournal}
 use Rattle.image_model.specs.Rules.{IsHashedAt}

@@ -5,7 +5,7 @@ use Rattle.file_tree.specs.Tree.{Tree}
 use Rattle.image_model.specs.Image.{Image}
 use Rattle.image_model.specs.Owners.{Owner, Owners, Super, InGroup, Free, Nobody, Root, Master, Named, Below, Chained, is_dinode, IsUsed, part_in, cell_of, cell_in, holding}
 use Rattle.image_model.specs.Flat.{Path, no_node, thing_from}
-use Rattle.image_model.specs.Inode.{node_of}
+use Rattle.image_model.specs.Nodes.{node_of}
 use Rattle.image_model.specs.Stands.{Layout, IsLaid, Stands, flat_of}
 use Rattle.image_model.proofs.Reach.{used_claim}
 use Rattle.image_model.proofs.Rows.{claim_row}

@@ -1,30 +1,18 @@
 -- Who claims a block: whatever is reached from the superblock and names it, in any image, right or wrong, and without a table of owners.
-use Rattle.std.specs.Prelude.{ℕ, suc, ◌≡◌, ◌≢◌, ◌+◌, ◌*◌, ◌/◌, ◌<◌, ◌==◌, true, false, if◌then◌else◌, List, codes, Contains, Some}
-use Rattle.gfs2_layout.specs.Structures.{dinode_length}
+use Rattle.std.specs.Prelude.{ℕ, ◌≡◌, ◌≢◌, ◌+◌, ◌<◌, true, false, List, codes, Contains, Some}
 use Rattle.gfs2_layout.specs.declared.rindex.Rindex.{Rindex}
 use Rattle.image_model.specs.Groups.{groups_in, IsListed}
-use Rattle.image_model.specs.Image.{Image, superblock_place, superblock_in}
-use Rattle.image_model.specs.Inode.{height_in, is_directory_in, is_hashed_in, header_length, fan, pointer, span, unit, content_block, content_of, linear_area, leaf_area, leaf_in, table_count, entry, first_hash}
+use Rattle.image_model.specs.Image.{Image, superblock_in}
+use Rattle.gfs2_layout.specs.Device.{superblock_place}
 use Rattle.image_model.specs.Journals.{journal_name}
-use Rattle.image_model.specs.Owners.{Owner, Root, Master, Named, Below, Chained, is_dinode, Holding, Itself}
-use Rattle.image_model.specs.Records.{Record, records_in, is_dots}
+use Rattle.image_model.specs.Owners.{Owner, Root, Master, Named, Below, Chained, is_dinode}
+use Rattle.gfs2_layout.specs.Inode.{Leads, entry_block, is_directory_in, is_hashed_in, content_of, linear_area, leaf_area, leaf_in, table_count, entry, first_hash}
+use Rattle.gfs2_layout.specs.Holding.{Holding, Itself}
+use Rattle.gfs2_layout.specs.Records.{Record, records_in, is_dots}
 
 -- the inode in block a, as if it had every block of the image: what is read from it so is what a program reads
 abbrev pub every : Image → ℕ → Holding
 every im a = record { size = im.size; count = im.count; own = a; cell = λ b. Some (record { part = Itself; bytes = im.at b }) }
-
--- pointer k of block b of this inode leads to block c, which stands so many levels above content and begins at this index of it
-pub data Leads (h : Holding) : ℕ → ℕ → ℕ → ℕ → ℕ → Type 0 where
-  from_dinode : (k level : ℕ) → height_in h ≡ suc level → k < fan h.size dinode_length → pointer h dinode_length h.own k ≢ 0
-      → Leads h h.own k level (k * span h.size level) (pointer h dinode_length h.own k)
-  from_block : (b k level first c j : ℕ) → Leads h b k (suc level) first c → j < fan h.size header_length → pointer h header_length c j ≢ 0
-      → Leads h c j level (first + j * span h.size level) (pointer h header_length c j)
-
--- the block of a directory that has pointer i of its table; its dinode's where the table has a hole there
-abbrev pub entry_block : Holding → ℕ → ℕ
-entry_block h i =
-    if height_in h == 0 then h.own
-    else (let b = content_block h (8 * i / unit h) in if b == 0 then h.own else b)
 
 -- `Claims im b c o`: block b has the number of block c, and by that c is o's
 pub data Claims (im : Image) : ℕ → ℕ → Owner → Type 0 where

@@ -6,8 +6,9 @@ use Rattle.gfs2_layout.specs.Structures.{rindex_of, group_of}
 use Rattle.gfs2_layout.specs.declared.rindex.Rindex.{Rindex}
 use Rattle.gfs2_layout.specs.declared.group_header.GroupHeader.{GroupHeader}
 use Rattle.gfs2_layout.specs.Bitmap.{state_at}
-use Rattle.image_model.specs.Headers.{HasHeader}
-use Rattle.image_model.specs.Image.{Image, Blocks, superblock_place}
+use Rattle.gfs2_layout.specs.Headers.{HasHeader}
+use Rattle.gfs2_layout.specs.Device.{superblock_place}
+use Rattle.image_model.specs.Image.{Image, Blocks}
 use Rattle.image_model.specs.Owners.{Owner, Owners, Free, Root, Master, Named}
 
 -- ---- the list of groups

@@ -1,5 +1,6 @@
 -- An image: blocks of one size.
-use Rattle.std.specs.Prelude.{ℕ, ◌≡◌, ◌⊎◌, ◌/◌, ◌<◌, List, length}
+use Rattle.std.specs.Prelude.{ℕ, ◌≡◌, ◌/◌, ◌<◌, List, length}
+use Rattle.gfs2_layout.specs.Device.{IsBlockSize, superblock_place}
 use Rattle.gfs2_layout.specs.Structures.{superblock_of}
 use Rattle.gfs2_layout.specs.declared.superblock.SuperBlock.{SuperBlock}
 use Rattle.shared_disk.specs.Blocks.{block_in}
@@ -23,18 +24,10 @@ image_of s = record { size = s.size; count = s.count; at = s.block_at }
 abbrev pub image_in : ℕ → List ℕ → Image
 image_in size bytes = record { size = size; count = length bytes / size; at = block_in size bytes }
 
--- the four block sizes
-abbrev pub IsBlockSize : ℕ → Type 0
-IsBlockSize n = (n ≡ 512) ⊎ (n ≡ 1024) ⊎ (n ≡ 2048) ⊎ (n ≡ 4096)
-
 -- the blocks are of one of the four sizes, each of them whole
 pub record IsImage (im : Image) : Type 0 where
   pub block_size : IsBlockSize im.size
   pub whole : (b : ℕ) → b < im.count → length (im.at b) ≡ im.size
-
--- the superblock stands at byte 65,536
-abbrev pub superblock_place : ℕ → ℕ
-superblock_place size = 65536 / size
 
 abbrev pub superblock_in : Image → SuperBlock
 superblock_in im = superblock_of (im.at (superblock_place im.size))

@@ -4,12 +4,14 @@ use Rattle.std.specs.List.Sorted.{IsPermutation}
 use Rattle.file_tree.specs.Tree.{Tree}
 use Rattle.image_model.specs.Image.{Image}
 use Rattle.image_model.specs.Claims.{every, Claims}
-use Rattle.image_model.specs.Journals.{ring_of, head_in, IsJournal}
+use Rattle.image_model.specs.Journals.{IsJournal}
 use Rattle.image_model.specs.Rules.{Breaks}
 use Rattle.gfs2_layout.specs.declared.dinode.Dinode.{Dinode}
-use Rattle.image_model.specs.Inode.{Head}
-use Rattle.image_model.specs.Owners.{Owner, Owners, Below, Chained, is_dinode, IsUsed, Part, Itself, Pointed, InChain, holding, bytes_at, part_at}
-use Rattle.image_model.specs.Records.{Record, child_named}
+use Rattle.gfs2_layout.specs.Journal.{ring_of, head_in}
+use Rattle.image_model.specs.Owners.{Owner, Owners, Below, Chained, is_dinode, IsUsed, holding}
+use Rattle.gfs2_layout.specs.Inode.{Head}
+use Rattle.gfs2_layout.specs.Holding.{Part, Itself, Pointed, InChain, bytes_at, part_at}
+use Rattle.gfs2_layout.specs.Records.{Record, child_named}
 use Rattle.image_model.specs.Stands.{Layout, IsLaid, IsDirectory, Stands}
 
 -- an image stands for at most one tree

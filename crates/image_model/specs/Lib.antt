@@ -1,9 +1,7 @@
 pub mod Image
-pub mod Headers
 pub mod Owners
-pub mod Records
-pub mod Inode
 pub mod Flat
+pub mod Nodes
 pub mod Groups
 pub mod Journals
 pub mod Stands

@@ -1,5 +1,6 @@
 -- Who owns each block, and what an inode has.
-use Rattle.std.specs.Prelude.{ℕ, ◌≡◌, ◌==◌, Bool, true, false, if◌then◌else◌, List, [], Option, None, Some}
+use Rattle.std.specs.Prelude.{ℕ, ◌≡◌, ◌==◌, Bool, true, false, if◌then◌else◌, List, Option, None, Some}
+use Rattle.gfs2_layout.specs.Holding.{Part, Itself, Pointed, InChain, Cell, Holding}
 use Rattle.image_model.specs.Image.{Image}
 
 -- the owner of a block, and the block's part in it
@@ -58,22 +59,6 @@ IsWithin a _ = ⊥
 
 -- ---- what an inode has: its blocks, and the part of each
 
-pub data Part : Type 0 where
-  Itself : Part  -- its dinode
-  Pointed : ℕ → ℕ → ℕ → ℕ → Part  -- block, pointer, level and first index, as in `Below`
-  InChain : ℕ → ℕ → Part  -- hash and place, as in `Chained`
-
-pub record Cell : Type 0 where
-  pub part : Part
-  pub bytes : List ℕ
-
--- an inode's own blocks, and nothing for any other block: all that an inode says is read from these alone
-pub record Holding : Type 0 where
-  pub size : ℕ  -- bytes of a block
-  pub count : ℕ  -- blocks of the image
-  pub own : ℕ  -- the block of the inode's dinode
-  pub cell : ℕ → Option Cell
-
 -- the part in inode a of block b, whose owner is given
 abbrev pub part_in : ℕ → ℕ → Owner → Option Part
 part_in a b Root = if b == a then Some Itself else None
@@ -93,18 +78,3 @@ cell_in im owners a b = cell_of (part_in a b (owners b)) (im.at b)
 
 abbrev pub holding : Image → Owners → ℕ → Holding
 holding im owners a = record { size = im.size; count = im.count; own = a; cell = cell_in im owners a }
-
-abbrev pub cell_bytes : Option Cell → List ℕ
-cell_bytes None = []
-cell_bytes (Some c) = c.bytes
-
-abbrev pub cell_part : Option Cell → Option Part
-cell_part None = None
-cell_part (Some c) = Some c.part
-
--- the bytes of a block of the inode; none of a block that it hasn't
-abbrev pub bytes_at : Holding → ℕ → List ℕ
-bytes_at h b = cell_bytes (h.cell b)
-
-abbrev pub part_at : Holding → ℕ → Option Part
-part_at h b = cell_part (h.cell b)

@@ -2,9 +2,10 @@
 use Rattle.std.specs.Prelude.{ℕ, ◌≡◌, ◌⊎◌, ◌^◌, ◌<◌, ◌≤◌, List, length, sum_by, codes, Some}
 use Rattle.gfs2_layout.specs.declared.log_header.LogHeader.{LogHeader}
 use Rattle.gfs2_layout.specs.declared.rindex.Rindex.{Rindex}
+use Rattle.gfs2_layout.specs.Journal.{ring_of, head_in}
 use Rattle.image_model.specs.Claims.{every, LeadsTo}
 use Rattle.image_model.specs.Image.{Image, superblock_in}
-use Rattle.image_model.specs.Journals.{ring_of, head_in, journal_name}
+use Rattle.image_model.specs.Journals.{journal_name}
 use Rattle.image_model.specs.Stands.{Layout, IsJournalAt}
 
 -- the master directory leads to `jindex` and `rindex` alone

@@ -10,14 +10,15 @@ use Rattle.gfs2_layout.specs.Structures.{dinode_length, is_regular, is_in_use}
 use Rattle.gfs2_layout.specs.Area.{Slot, name_of, slots_of, IsArea}
 use Rattle.gfs2_layout.specs.declared.rindex.Rindex.{Rindex}
 use Rattle.gfs2_layout.specs.Bitmap.{state_at}
-use Rattle.image_model.specs.Claims.{every, Leads, entry_block, Claims, IsInodeAt, HasInode, HasDirectory, HasLeaf, HasArea, master_of, IsRindex, IsJindex, HasGroup, HasJournal, IsUnder}
+use Rattle.image_model.specs.Claims.{every, Claims, IsInodeAt, HasInode, HasDirectory, HasLeaf, HasArea, master_of, IsRindex, IsJindex, HasGroup, HasJournal, IsUnder}
 use Rattle.image_model.specs.Groups.{groups_in, entry_length, IsGroupAt, IsListed, end_of, IsDataOf, IsNear, GroupFits, group_blocks, bitmap_of, group_header, states_in, state_of, count_of}
-use Rattle.image_model.specs.Headers.{HasHeader}
-use Rattle.image_model.specs.Image.{Image, superblock_place, superblock_in}
-use Rattle.image_model.specs.Inode.{dinode_in, height_in, is_directory_in, is_hashed_in, fan, span, content_block, content_of, content_count, table_count, depth_in, entry, index_bits, leaf_in, leaf_area, linear_area, top_bits, head_of}
-use Rattle.image_model.specs.Journals.{ring_of, head_in}
+use Rattle.gfs2_layout.specs.Inode.{Leads, entry_block, dinode_in, height_in, is_directory_in, is_hashed_in, fan, span, content_block, content_of, content_count, table_count, depth_in, entry, index_bits, leaf_in, leaf_area, linear_area, top_bits, head_of}
+use Rattle.image_model.specs.Image.{Image, superblock_in}
+use Rattle.gfs2_layout.specs.Headers.{HasHeader}
+use Rattle.gfs2_layout.specs.Device.{superblock_place}
 use Rattle.image_model.specs.Owners.{Owner, Below, Chained, parent_of, IsWithin}
-use Rattle.image_model.specs.Records.{Record, records_in, is_dots}
+use Rattle.gfs2_layout.specs.Journal.{ring_of, head_in}
+use Rattle.gfs2_layout.specs.Records.{Record, records_in, is_dots}
 use Rattle.image_model.specs.Stands.{kind_of, directory_count}
 
 -- the header that a place needs

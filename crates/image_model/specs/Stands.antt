@@ -9,12 +9,15 @@ use Rattle.gfs2_layout.specs.declared.dinode.Dinode.{Dinode}
 use Rattle.gfs2_layout.specs.declared.rindex.Rindex.{Rindex}
 use Rattle.image_model.specs.Flat.{Path, AFile, ADir, Flat, no_node, follow, ReadsAs}
 use Rattle.image_model.specs.Groups.{groups_in, entry_length, IsListed, IsHeaderOf, IsDataOf, GroupsFit, group_blocks, states_of, IsGroup}
-use Rattle.image_model.specs.Headers.{HasHeader}
-use Rattle.image_model.specs.Image.{Image, IsImage, superblock_place, superblock_in}
-use Rattle.image_model.specs.Inode.{Head, head_of, dinode_in, is_directory_in, node_of, records_of, IsInode}
+use Rattle.gfs2_layout.specs.Headers.{HasHeader}
+use Rattle.image_model.specs.Image.{Image, IsImage, superblock_in}
+use Rattle.gfs2_layout.specs.Device.{superblock_place}
 use Rattle.image_model.specs.Journals.{journal_name, IsJournal}
-use Rattle.image_model.specs.Owners.{Owners, Super, InGroup, Free, Nobody, Root, Master, Named, Up, up_of, parent_of, is_dinode, IsUsed, IsWithin, Holding, holding}
-use Rattle.image_model.specs.Records.{Record, is_dots}
+use Rattle.image_model.specs.Owners.{Owners, Super, InGroup, Free, Nobody, Root, Master, Named, Up, up_of, parent_of, is_dinode, IsUsed, IsWithin, holding}
+use Rattle.gfs2_layout.specs.Inode.{Head, head_of, dinode_in, is_directory_in, records_of, IsInode}
+use Rattle.gfs2_layout.specs.Holding.{Holding}
+use Rattle.gfs2_layout.specs.Records.{Record, is_dots}
+use Rattle.image_model.specs.Nodes.{node_of}
 
 -- what a mount finds: the two top directories, the two system files in the master directory, the groups, the journals' dinodes in order
 pub record Layout : Type 0 where

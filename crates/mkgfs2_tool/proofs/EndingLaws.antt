@@ -5,7 +5,7 @@ use Rattle.std.proofs.lemmas.Bool.Decides.{nat_tests}
 use Rattle.shared_disk.specs.Disk.{DiskState, Operation}
 use Rattle.mkgfs2_tool.specs.Groups.{data_blocks, last_group, all_data}
 use Rattle.mkgfs2_tool.specs.Order.{fits, taken, IsNeeded}
-use Rattle.mkgfs2_tool.specs.Making.{bad_option, is_between, plan_of, IsPlan, IsFitting, HasLinearJournals, IsBlockSize, IsFaultOf}
+use Rattle.mkgfs2_tool.specs.Making.{bad_option, is_between, plan_of, IsPlan, IsFitting, HasLinearJournals, IsFaultOf}
 use Rattle.mkgfs2_tool.specs.Outcomes.{IsBegun, IsMade, PlanEnding, HasFailed, HasMade, Ending, IsRefused, IsTooSmall, IsTried}
 use Rattle.mkgfs2_tool.specs.declared.plan.Plan.{Plan}
 use Rattle.mkgfs2_tool.specs.declared.options.MakeOptions.{MakeOptions}
@@ -13,6 +13,7 @@ use Rattle.mkgfs2_tool.specs.declared.options.Opt.{Opt}
 use Rattle.mkgfs2_tool.specs.declared.options.Opt.TheVariants as opt
 use Rattle.mkgfs2_tool.specs.declared.options.MakeFault.{MakeFault}
 use Rattle.mkgfs2_tool.specs.declared.options.MakeFault.TheVariants.{TooSmall, BadOption}
+use Rattle.gfs2_layout.specs.Device.{IsBlockSize}
 
 pub plan_is : (size count : ℕ) (o : MakeOptions) → bad_option o ≡ None → IsBlockSize size → count ≤ 131072 → IsPlan (plan_of size count o)
 plan_is size count o good size_is few = by_tests (is_between 1 8 o.journals) (is_between 512 65536 o.journal_blocks) (is_between 1 64 o.groups) refl refl refl good

@@ -13,7 +13,7 @@ use Rattle.gfs2_layout.specs.Structures.{answer, or_else, length_fault, magic_fa
 use Rattle.gfs2_layout.specs.declared.header.MetaHeader.{MetaHeader}
 use Rattle.gfs2_layout.specs.declared.fault.LayoutFault.{LayoutFault}
 use Rattle.gfs2_layout.specs.declared.fault.LayoutFault.TheVariants.{Short, Magic, Kind, Format}
-use Rattle.image_model.specs.Headers.{HasHeader}
+use Rattle.gfs2_layout.specs.Headers.{HasHeader}
 
 -- ---- answers
 

@@ -7,7 +7,7 @@ use Rattle.gfs2_layout.specs.Fields.{HasItsWidth}
 use Rattle.gfs2_layout.specs.Structures.{dinode_of, dinode_read, header_fault}
 use Rattle.gfs2_layout.specs.Writing.{dinode_fields, dinode_put}
 use Rattle.gfs2_layout.specs.declared.dinode.Dinode.{Dinode}
-use Rattle.image_model.specs.Headers.{HasHeader}
+use Rattle.gfs2_layout.specs.Headers.{HasHeader}
 use Rattle.mkgfs2_tool.specs.Groups.{data_address}
 use Rattle.mkgfs2_tool.specs.Blocks.{dinode}
 use Rattle.mkgfs2_tool.specs.declared.plan.Plan.{Plan}

@@ -7,11 +7,12 @@ use Rattle.gfs2_layout.specs.Bytes.{put_at}
 use Rattle.gfs2_layout.specs.Structures.{dinode_of, is_directory}
 use Rattle.gfs2_layout.specs.Writing.{dinode_put}
 use Rattle.gfs2_layout.specs.declared.dinode.Dinode.{Dinode}
-use Rattle.image_model.specs.Headers.{HasHeader}
+use Rattle.gfs2_layout.specs.Headers.{HasHeader}
 use Rattle.image_model.specs.Image.{Blocks}
-use Rattle.image_model.specs.Inode.{dinode_in, height_in, has_hash_flag, is_directory_in, is_hashed_in, linear_area, records_of, IsInode, block_count}
-use Rattle.image_model.specs.Owners.{Holding, Part, Itself, Pointed, InChain, is_dinode, bytes_at, part_at}
-use Rattle.image_model.specs.Records.{records_in, IsRecordArea}
+use Rattle.gfs2_layout.specs.Inode.{dinode_in, height_in, has_hash_flag, is_directory_in, is_hashed_in, linear_area, records_of, IsInode, block_count}
+use Rattle.image_model.specs.Owners.{is_dinode}
+use Rattle.gfs2_layout.specs.Holding.{Holding, Part, Itself, Pointed, InChain, bytes_at, part_at}
+use Rattle.gfs2_layout.specs.Records.{records_in, IsRecordArea}
 use Rattle.mkgfs2_tool.proofs.StandingGiven.{own_part, itself_own, pointed_owner, chained_owner, block_same, own_block}
 use Rattle.mkgfs2_tool.specs.Groups.{super_block, data_address}
 use Rattle.mkgfs2_tool.specs.Files.{file_blocks}

@@ -11,8 +11,8 @@ use Rattle.gfs2_layout.specs.Bytes.{put_at, u64_at}
 use Rattle.gfs2_layout.specs.Writing.{header_put, dinode_put, rindex_put}
 use Rattle.gfs2_layout.specs.declared.dinode.Dinode.{Dinode}
 use Rattle.gfs2_layout.specs.declared.header.MetaHeader.{MetaHeader}
-use Rattle.image_model.specs.Headers.{HasHeader}
-use Rattle.image_model.specs.Inode.{span}
+use Rattle.gfs2_layout.specs.Headers.{HasHeader}
+use Rattle.gfs2_layout.specs.Inode.{span}
 use Rattle.mkgfs2_tool.specs.Groups.{data_address, parts}
 use Rattle.mkgfs2_tool.specs.Files.{dinode_pointers, block_pointers, content_blocks, height, level_blocks, level_start, file_blocks, fan, children, part}
 use Rattle.mkgfs2_tool.specs.Order.{journal_place, group_list_place, taken}

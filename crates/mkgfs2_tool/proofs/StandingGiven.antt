@@ -6,9 +6,10 @@ use Rattle.std.proofs.lemmas.List.Elements.{All-replicate}
 use Rattle.crc_words.specs.Remainder.{crc32_of}
 use Rattle.gfs2_layout.specs.Bytes.{put_at}
 use Rattle.gfs2_layout.specs.Laws.{AreasJoin, StructuresReadBack}
+use Rattle.gfs2_layout.specs.Holding.{Part, Itself, Pointed, InChain, bytes_at, part_at}
 use Rattle.image_model.specs.Image.{Image}
 use Rattle.image_model.specs.Laws.{HoldingsAreOwned, JournalsReadAlike, OwnersClaim}
-use Rattle.image_model.specs.Owners.{Owners, Below, Chained, Part, Itself, Pointed, InChain, is_dinode, holding, bytes_at, part_at}
+use Rattle.image_model.specs.Owners.{Owners, Below, Chained, is_dinode, holding}
 use Rattle.mkgfs2_tool.specs.declared.plan.Plan.{Plan}
 
 pub record Given : Type 0 where

@@ -7,10 +7,11 @@ use Rattle.std.proofs.lemmas.Nat.{div-mul-add, mod-mul-add, div-add-mod', mod_be
 use Rattle.gfs2_layout.specs.Bytes.{u64_at}
 use Rattle.gfs2_layout.specs.Structures.{dinode_of, is_directory, is_regular, dinode_length}
 use Rattle.gfs2_layout.specs.declared.dinode.Dinode.{Dinode}
-use Rattle.image_model.specs.Headers.{HasHeader}
+use Rattle.gfs2_layout.specs.Headers.{HasHeader}
 use Rattle.image_model.specs.Image.{Image, Blocks}
-use Rattle.image_model.specs.Inode.{dinode_in, height_in, has_hash_flag, is_directory_in, is_hashed_in, header_length, span, unit, pieces, content_count, EachPointer, IsChild, IsPointed, by_dinode, by_block, HasTree, Fits, IsInode, block_count}
-use Rattle.image_model.specs.Owners.{Below, Holding, Cell, Part, Itself, Pointed, InChain, is_dinode, holding, cell_part, bytes_at, part_at}
+use Rattle.gfs2_layout.specs.Inode.{dinode_in, height_in, has_hash_flag, is_directory_in, is_hashed_in, header_length, span, unit, pieces, content_count, EachPointer, IsChild, IsPointed, by_dinode, by_block, HasTree, Fits, IsInode, block_count}
+use Rattle.gfs2_layout.specs.Holding.{Holding, Cell, Part, Itself, Pointed, InChain, cell_part, bytes_at, part_at}
+use Rattle.image_model.specs.Owners.{Below, is_dinode, holding}
 use Rattle.mkgfs2_tool.proofs.StandingGiven.{own_part, itself_own, pointed_owner, chained_owner, pointed_part, block_same, own_block}
 use Rattle.mkgfs2_tool.specs.Groups.{data_address}
 use Rattle.mkgfs2_tool.specs.Files.{dinode_pointers, block_pointers, content_blocks, height, level_blocks, level_start, file_blocks}

@@ -12,8 +12,8 @@ use Rattle.gfs2_layout.specs.Structures.{dinode_length, rindex_of, length_fault}
 use Rattle.gfs2_layout.specs.Writing.{rindex_fields, rindex_put}
 use Rattle.image_model.specs.Groups.{groups_in}
 use Rattle.image_model.specs.Image.{Blocks}
-use Rattle.image_model.specs.Inode.{height_in, carried, content_block, content_count, content_of}
-use Rattle.image_model.specs.Owners.{Holding, bytes_at}
+use Rattle.gfs2_layout.specs.Inode.{height_in, carried, content_block, content_count, content_of}
+use Rattle.gfs2_layout.specs.Holding.{Holding, bytes_at}
 use Rattle.image_model.specs.Stands.{IsGroupList}
 use Rattle.mkgfs2_tool.specs.Groups.{last_group, group_address, group_blocks, headers_of, first_data, data_blocks}
 use Rattle.mkgfs2_tool.specs.Files.{content_blocks, height}

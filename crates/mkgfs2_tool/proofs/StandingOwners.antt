@@ -3,7 +3,7 @@ use Rattle.std.proofs.Common.{ℕ, zero, suc, ◌≡◌, ◌+◌, ◌-◌, ◌*�
 use Rattle.std.specs.Prelude.{◌%◌, nat_lt, nat_le, if◌then◌else◌}
 use Rattle.std.proofs.lemmas.Bool.{cases_lt, cases_order, cond-true, cond-false, eq-eqb, ne_eqb, lt-ltb, le-ltb, le-leb, lt-leb}
 use Rattle.std.proofs.lemmas.Nat.{div-mul-add, mod-mul-add, div-add-mod', mod_below, div_below, row_fits}
-use Rattle.image_model.specs.Inode.{span}
+use Rattle.gfs2_layout.specs.Inode.{span}
 use Rattle.image_model.specs.Journals.{journal_name}
 use Rattle.image_model.specs.Owners.{Owner, Super, InGroup, Free, Nobody, Root, Master, Named, Below, Owners, IsUsed}
 use Rattle.mkgfs2_tool.specs.Groups.{super_block, last_group, group_address, group_blocks, headers_of, first_data, data_blocks, data_before, all_data, data_address}

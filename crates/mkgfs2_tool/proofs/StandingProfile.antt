@@ -3,9 +3,10 @@ use Rattle.std.proofs.Common.{List, ℕ, suc, ◌≡◌, ◌+◌, ◌^◌, ◌<�
 use Rattle.std.proofs.lemmas.List.FromFn.{length-map-range_with_len}
 use Rattle.gfs2_layout.specs.declared.log_header.LogHeader.{LogHeader}
 use Rattle.gfs2_layout.specs.declared.superblock.SuperBlock.{SuperBlock}
+use Rattle.gfs2_layout.specs.Journal.{ring_of, head_in}
 use Rattle.image_model.specs.Claims.{every, LeadsTo}
 use Rattle.image_model.specs.Image.{Image, Blocks}
-use Rattle.image_model.specs.Journals.{ring_of, head_in, journal_name}
+use Rattle.image_model.specs.Journals.{journal_name}
 use Rattle.image_model.specs.Profile.{HasPlainMaster, HasJournals, IsInProfile}
 use Rattle.image_model.specs.Stands.{IsSuper, IsLaid}
 use Rattle.mkgfs2_tool.proofs.StandingLists.{some_same}

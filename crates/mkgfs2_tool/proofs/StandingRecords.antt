@@ -14,7 +14,7 @@ use Rattle.gfs2_layout.specs.Area.{Slot, slot_at, slots_of, name_of, IsArea}
 use Rattle.gfs2_layout.specs.declared.dirent.Dirent.{Dirent}
 use Rattle.gfs2_layout.specs.declared.fault.LayoutFault.{LayoutFault}
 use Rattle.gfs2_layout.specs.declared.fault.LayoutFault.TheVariants.{Value}
-use Rattle.image_model.specs.Records.{Record, record_of, records_in, HasItsHash, IsRecordArea}
+use Rattle.gfs2_layout.specs.Records.{Record, record_of, records_in, HasItsHash, IsRecordArea}
 use Rattle.mkgfs2_tool.specs.Directories.{name_of as name_in, least_length, head_of, record_bytes, records, Fit}
 use Rattle.mkgfs2_tool.specs.declared.directory.Entry.{Entry}
 use Rattle.mkgfs2_tool.proofs.StandingBytes.{answer_ok, take_put, behind_put}

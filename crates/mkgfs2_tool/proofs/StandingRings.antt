@@ -12,9 +12,10 @@ use Rattle.gfs2_layout.specs.Structures.{log_of, header_fault, hash_fault, or_el
 use Rattle.gfs2_layout.specs.Writing.{log_put}
 use Rattle.gfs2_layout.specs.declared.fault.LayoutFault.TheVariants.{Magic}
 use Rattle.image_model.specs.Image.{Blocks}
-use Rattle.image_model.specs.Inode.{header_length, pointer, span, descend, content_block}
-use Rattle.image_model.specs.Journals.{Ring, ring_of, if_at, accepted, better, best_from, head_in, IsJournal}
-use Rattle.image_model.specs.Owners.{Holding, bytes_at}
+use Rattle.gfs2_layout.specs.Inode.{header_length, pointer, span, descend, content_block}
+use Rattle.image_model.specs.Journals.{IsJournal}
+use Rattle.gfs2_layout.specs.Journal.{Ring, ring_of, if_at, accepted, better, best_from, head_in}
+use Rattle.gfs2_layout.specs.Holding.{Holding, bytes_at}
 use Rattle.mkgfs2_tool.specs.Groups.{super_block}
 use Rattle.mkgfs2_tool.specs.Files.{block_pointers, content_blocks, height, level_blocks, level_start, file_blocks}
 use Rattle.mkgfs2_tool.specs.Blocks.{zeros, clean_header, journal_block, used_block}

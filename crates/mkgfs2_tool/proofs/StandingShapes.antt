@@ -5,7 +5,7 @@ use Rattle.std.proofs.lemmas.Bool.{cases_lt, cases_eq, cond-true, cond-false, ne
 use Rattle.std.proofs.lemmas.Bool.Decides.{nat_tests}
 use Rattle.std.proofs.lemmas.Nat.{le-div, div-add-mod', mod_below}
 use Rattle.std.proofs.Math.Nat.{pow-suc, pow-zero, mul_comm, mul_assoc, add-mul, mul-le-mul_right, suc-mul}
-use Rattle.image_model.specs.Inode.{span}
+use Rattle.gfs2_layout.specs.Inode.{span}
 use Rattle.mkgfs2_tool.specs.Groups.{parts}
 use Rattle.mkgfs2_tool.specs.Files.{dinode_pointers, block_pointers, content_blocks, height, level_blocks, level_start, file_blocks, part}
 use Rattle.mkgfs2_tool.specs.declared.files.Shape.{Shape}

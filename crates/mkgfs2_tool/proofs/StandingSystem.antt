@@ -9,19 +9,18 @@ use Rattle.gfs2_layout.specs.Structures.{is_directory, is_regular}
 use Rattle.gfs2_layout.specs.declared.dinode.Dinode.{Dinode}
 use Rattle.image_model.specs.Flat.{Path, AFile, ADir, Node, Flat, follow, thing_from, thing_at, ReadsAs}
 use Rattle.image_model.specs.Image.{Blocks}
-use Rattle.image_model.specs.Inode.{Head, dinode_in, is_directory_in, records_of, node_of, IsInode}
+use Rattle.gfs2_layout.specs.Inode.{Head, dinode_in, is_directory_in, records_of, IsInode}
 use Rattle.image_model.specs.Journals.{journal_name, IsJournal}
 use Rattle.image_model.specs.Owners.{Owner, Super, InGroup, Free, Nobody, Root, Master, Named, Below, Chained, Up, up_of, parent_of, is_dinode, IsUsed, IsWithin}
-use Rattle.image_model.specs.Records.{Record, is_dots, child_named}
+use Rattle.image_model.specs.Nodes.{node_of, child_of}
 use Rattle.image_model.specs.Stands.{IsJournalAt, flat_of, heads_of, IsRecordOf, HasRecord, directory_count, LeadsDown, IsDirectory, IsSystem, IsFound, AreShort}
 use Rattle.mkgfs2_tool.proofs.StandingLists.{none_some, some_same, IsIn, is_in, contained, found_in}
 use Rattle.std.specs.Str.{bytes_eq}
 use Rattle.std.specs.Option.{option_map}
 use Rattle.std.proofs.lemmas.Bool.{cases_Bool}
 use Rattle.std.proofs.lemmas.Slice.Eq.{bytes_eq-Decides}
-use Rattle.image_model.specs.Owners.{Holding}
-use Rattle.image_model.specs.Inode.{child_of}
-use Rattle.image_model.specs.Records.{record_named}
+use Rattle.gfs2_layout.specs.Records.{Record, is_dots, child_named, record_named}
+use Rattle.gfs2_layout.specs.Holding.{Holding}
 use Rattle.mkgfs2_tool.specs.Groups.{data_address}
 use Rattle.mkgfs2_tool.specs.Order.{master_place, root_place, journals_place, journal_place}
 use Rattle.mkgfs2_tool.specs.Directories.{journal_entry, master_entries, root_entries, journals_entries}

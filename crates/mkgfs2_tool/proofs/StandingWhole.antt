@@ -14,7 +14,7 @@ use Rattle.gfs2_layout.specs.Writing.{superblock_fields, superblock_put, group_p
 use Rattle.gfs2_layout.specs.declared.group_header.GroupHeader.{GroupHeader}
 use Rattle.gfs2_layout.specs.declared.header.MetaHeader.{MetaHeader}
 use Rattle.gfs2_layout.specs.declared.log_header.LogHeader.{LogHeader}
-use Rattle.image_model.specs.Headers.{HasHeader}
+use Rattle.gfs2_layout.specs.Headers.{HasHeader}
 use Rattle.mkgfs2_tool.specs.Groups.{super_block, last_group, headers_of, first_data, data_blocks, data_before, data_address}
 use Rattle.mkgfs2_tool.specs.Files.{height, level_start}
 use Rattle.mkgfs2_tool.specs.Order.{master_place, root_place, journals_place, taken}

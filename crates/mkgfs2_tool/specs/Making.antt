@@ -67,6 +67,3 @@ IsUseOf _ = ⊤
 abbrev pub IsFaultOf : ℕ → (ℕ → ℕ) → (ℕ → ℕ) → MakeFault → Type 0
 IsFaultOf count before now (DeviceFault block x y) = WentUp (before 0) (now 0) x y × IfSome block (λ b. b < count)
 IsFaultOf count before now _ = ⊥
-
-abbrev pub IsBlockSize : ℕ → Type 0
-IsBlockSize size = (size ≡ 512) ⊎ ((size ≡ 1024) ⊎ ((size ≡ 2048) ⊎ (size ≡ 4096)))

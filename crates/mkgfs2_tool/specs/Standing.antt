@@ -4,7 +4,7 @@ use Rattle.std.specs.List.{range_with_len}
 use Rattle.file_tree.specs.Tree.{dir, none}
 use Rattle.image_model.specs.Claims.{every}
 use Rattle.image_model.specs.Image.{Image}
-use Rattle.image_model.specs.Journals.{ring_of, head_in}
+use Rattle.gfs2_layout.specs.Journal.{ring_of, head_in}
 use Rattle.image_model.specs.Profile.{IsInProfile}
 use Rattle.image_model.specs.Stands.{Layout, IsJournalAt, Stands}
 use Rattle.mkgfs2_tool.specs.Groups.{data_address}

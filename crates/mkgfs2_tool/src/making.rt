@@ -3,9 +3,10 @@ ghost use Rattle.std.specs.List.{AllByRecursion};
 ghost use Rattle.std.specs.Prelude.{◌≢◌, IsTrue};
 ghost use Rattle.shared_disk.specs.Disk.{DiskState, Operation, read_gives};
 ghost use Rattle.mkgfs2_tool.specs.Blocks.{IsGroupList, new_block};
-ghost use Rattle.mkgfs2_tool.specs.Making.{IsFitting, IsFaultOf, IsBlockSize, HasLinearJournals, plan_of};
+ghost use Rattle.mkgfs2_tool.specs.Making.{IsFitting, IsFaultOf, HasLinearJournals, plan_of};
 ghost use Rattle.mkgfs2_tool.specs.Outcomes.{IsMadeUpTo, IsBegun, IsMade, PlanEnding, Ending, IsRoom};
 ghost use Rattle.mkgfs2_tool.specs.declared.plan.Plan.{Plan};
+ghost use Rattle.gfs2_layout.specs.Device.{IsBlockSize};
 
 use crate::device::{put_in_flight, settle};
 use crate::laws::new_images_stand;

@@ -1,7 +1,7 @@
 // A run of the top call, and what it is to leave.
 ghost use Rattle.shared_disk.specs.Disk.{IsIdle};
 ghost use Rattle.shared_disk.specs.Memory.{memory_state};
-ghost use Rattle.single_node.specs.Flat.{IsBlockSize};
+ghost use Rattle.gfs2_layout.specs.Device.{IsBlockSize};
 
 use cluster_program::gfs2run_alone;
 use shared_disk::MemDisk;

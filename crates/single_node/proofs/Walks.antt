@@ -7,8 +7,9 @@ use Rattle.file_tree.specs.Names.{IsName}
 use Rattle.file_tree.specs.Apply.{walk, found_or, Walked, Found, Refused, read_reply, list_reply}
 use Rattle.file_tree.specs.declared.reply.Reply.TheVariants as reply
 use Rattle.gfs2_layout.specs.Area.{Slot, slots_of, first_named, has_name}
+use Rattle.gfs2_layout.specs.Device.{IsBlockSize}
 use Rattle.shared_disk.specs.Disk.{DiskState}
-use Rattle.single_node.specs.Flat.{IsFlat, IsBlockSize, HasFlatRoot, HasItsFileName, LeadsToFile, names_a_file, files_of, file_bytes, stuffed_part, root_slots}
+use Rattle.single_node.specs.Flat.{IsFlat, HasFlatRoot, HasItsFileName, LeadsToFile, names_a_file, files_of, file_bytes, stuffed_part, root_slots}
 use Rattle.single_node.proofs.Files.{look-files_of, found_file, found_holds, named_is_file, name_is_no_dot}
 
 pub one_name : (path names : List (List ℕ)) (name other : List ℕ) → names ≡ path → 1 ≤ length names → length path ≤ 1 → name ≡ get_or names 0 other → path ≡ name ∷ []

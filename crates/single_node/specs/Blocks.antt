@@ -6,13 +6,14 @@ use Rattle.file_tree.specs.declared.call.Call.{Call}
 use Rattle.file_tree.specs.declared.call.Call.TheVariants as calls
 use Rattle.file_tree.specs.Names.{IsName}
 use Rattle.gfs2_layout.specs.Area.{Slot, slots_of, first_named}
+use Rattle.gfs2_layout.specs.Device.{superblock_place}
 use Rattle.script_lang.specs.declared.script.Client.{Client}
 use Rattle.script_lang.specs.declared.script.Line.{Line}
 use Rattle.script_lang.specs.declared.script.Line.TheVariants as line
 use Rattle.shared_disk.specs.Disk.{DiskState}
 use Rattle.trace_text.specs.declared.item.TraceItem.{TraceItem}
 use Rattle.single_node.specs.Run.{IsRunUpTo}
-use Rattle.single_node.specs.Flat.{HasSuperBlock, HasRoot, HasFlatRoot, HasFile, HasItsFileName, stuffed_part, superblock_place, root_of}
+use Rattle.single_node.specs.Flat.{HasSuperBlock, HasRoot, HasFlatRoot, HasFile, HasItsFileName, stuffed_part, root_of}
 
 -- mounting reads the superblock's block, and where that is good the root's
 pub data MountReads (d : DiskState) (block : ℕ) : Type 0 where

@@ -1,20 +1,13 @@
 -- Flat images: the root is one block of records, and each of its files is one block of content.
-use Rattle.std.specs.Prelude.{ℕ, ◌≡◌, ◌≢◌, ◌⊎◌, ⊤, ◌+◌, ◌/◌, ◌%◌, ◌<◌, ◌≤◌, ◌&&◌, ◌||◌, not, Bool, IsTrue, if◌then◌else◌, List, [], ◌∷◌, take, drop, codes, None}
+use Rattle.std.specs.Prelude.{ℕ, ◌≡◌, ◌≢◌, ⊤, ◌+◌, ◌/◌, ◌%◌, ◌<◌, ◌≤◌, ◌&&◌, ◌||◌, not, Bool, IsTrue, if◌then◌else◌, List, [], ◌∷◌, take, drop, codes, None}
 use Rattle.std.specs.List.{AllByRecursion}
 use Rattle.std.specs.Str.{bytes_eq}
 use Rattle.file_tree.specs.Tree.{Tree, Entries, file, dir, none, set}
 use Rattle.file_tree.specs.Names.{IsName}
+use Rattle.gfs2_layout.specs.Device.{superblock_place}
 use Rattle.gfs2_layout.specs.Structures.{header_fault, superblock_of, dinode_of, dinode_length, is_directory, is_regular, is_in_use}
 use Rattle.gfs2_layout.specs.Area.{Slot, slots_of, name_of, IsArea}
 use Rattle.shared_disk.specs.Disk.{DiskState}
-
--- the four block sizes
-abbrev pub IsBlockSize : ℕ → Type 0
-IsBlockSize n = (n ≡ 512) ⊎ (n ≡ 1024) ⊎ (n ≡ 2048) ⊎ (n ≡ 4096)
-
--- the superblock is at byte 65,536
-abbrev pub superblock_place : ℕ → ℕ
-superblock_place size = 65536 / size
 
 -- a superblock stands there, and is that of a disk with this block size
 pub record HasSuperBlock (d : DiskState) : Type 0 where

@@ -1,11 +1,12 @@
-ghost use Rattle.std.specs.Prelude.{◌≡◌, ◌+◌, ◌<◌, ◌≤◌, ℕ, length, take, drop, IsTrue, IfOk, IfErr, IfSome, IfNone, MatchOption, None, Some, ◌^◌};
+ghost use Rattle.std.specs.Prelude.{◌≡◌, ◌+◌, ◌<◌, ◌≤◌, ℕ, length, take, drop, IsTrue, IfOk, IfErr, MatchOption, None, Some, ◌^◌};
 ghost use Rattle.file_tree.specs.Tree.{Tree, names_in, Entries};
 ghost use Rattle.file_tree.specs.Apply.{read_reply, list_reply, walk, Walked};
-ghost use Rattle.gfs2_layout.specs.Structures.{dinode_of, is_in_use};
-ghost use Rattle.gfs2_layout.specs.Area.{Slot, slots_of, slot_at, first_named, IsArea};
+ghost use Rattle.gfs2_layout.specs.Structures.{dinode_of};
+ghost use Rattle.gfs2_layout.specs.Area.{Slot, slots_of, first_named, IsArea};
+ghost use Rattle.gfs2_layout.specs.Device.{IsBlockSize};
 ghost use Rattle.shared_disk.specs.Disk.{IsIdle};
 ghost use Rattle.single_node.specs.Ends.{EndHasCause, IfNotRead, IfDiskFailed};
-ghost use Rattle.single_node.specs.Flat.{IsFlat, IsStuffedFile, HasFile, HasFlatRoot, IsBlockSize, file_bytes, stuffed_part};
+ghost use Rattle.single_node.specs.Flat.{IsFlat, IsStuffedFile, HasFile, HasFlatRoot, file_bytes, stuffed_part};
 
 use crate::RunEnd;
 use crate::fetch::fetch;

@@ -1,13 +1,13 @@
-ghost use Rattle.std.specs.Prelude.{◌≡◌, ◌≤◌, ℕ, List, [], length, IfOk, IfErr, MatchOption, IsTrue};
+ghost use Rattle.std.specs.Prelude.{◌≡◌, ◌≤◌, ℕ, List, [], length, IfOk, IfErr, MatchOption};
 ghost use Rattle.std.specs.List.{AllByRecursion};
 ghost use Rattle.file_tree.specs.Tree.{Tree, names_in};
 ghost use Rattle.file_tree.specs.Apply.{list_reply, walk};
 ghost use Rattle.file_tree.specs.Names.{IsName};
 ghost use Rattle.gfs2_layout.specs.Structures.{dinode_of};
-ghost use Rattle.gfs2_layout.specs.Area.{IsArea, slots_of, name_of};
+ghost use Rattle.gfs2_layout.specs.Area.{IsArea, slots_of};
 ghost use Rattle.shared_disk.specs.Disk.{DiskState};
 ghost use Rattle.single_node.specs.Ends.{EndHasCause, IfNotRead, IfDiskFailed};
-ghost use Rattle.single_node.specs.Flat.{IsFlat, HasFlatRoot, IsBlockSize, stuffed_part, files_of, names_a_file, HasItsFileName};
+ghost use Rattle.single_node.specs.Flat.{IsFlat, HasFlatRoot, stuffed_part, files_of, names_a_file, HasItsFileName};
 
 use crate::RunEnd;
 use crate::answer::{address_of, behind_dinode};

@@ -1,11 +1,12 @@
-ghost use Rattle.std.specs.Prelude.{◌≡◌, ◌⊎◌, ◌+◌, ◌/◌, ◌%◌, ◌<◌, ◌≤◌, ◌↔◌, ℕ, length, IsTrue, OnOk, IfOk, IfErr, MatchOption};
+ghost use Rattle.std.specs.Prelude.{◌≡◌, ◌/◌, ◌%◌, ◌<◌, ◌≤◌, ◌↔◌, ℕ, length, IsTrue, OnOk, IfOk, IfErr, MatchOption};
 ghost use Rattle.std.specs.List.{AllByRecursion};
 ghost use Rattle.gfs2_layout.specs.Structures.{dinode_of};
 ghost use Rattle.gfs2_layout.specs.Area.{Slot, slots_of, IsShown, IsArea};
+ghost use Rattle.gfs2_layout.specs.Device.{superblock_place, IsBlockSize};
 ghost use Rattle.shared_disk.specs.Disk.{IsIdle};
 ghost use Rattle.single_node.specs.Ends.{EndHasCause, IfNotRead, IfDiskFailed};
 ghost use Rattle.single_node.specs.Blocks.{MountReads, MountRefuses};
-ghost use Rattle.single_node.specs.Flat.{IsStuffed, IsFlatDirectory, HasSuperBlock, HasFlatRoot, LacksFlatRoot, IsOfFile, names_a_file, stuffed_part, superblock_place, root_of, is_dot, IsBlockSize};
+ghost use Rattle.single_node.specs.Flat.{IsStuffed, IsFlatDirectory, HasSuperBlock, HasFlatRoot, LacksFlatRoot, IsOfFile, names_a_file, stuffed_part, root_of, is_dot};
 
 use crate::RunEnd;
 use crate::fetch::fetch;

@@ -2,11 +2,12 @@ ghost use Rattle.std.specs.Prelude.{◌≡◌, ◌≤◌, ℕ, length, IsTrue, I
 ghost use Rattle.file_tree.specs.Tree.{Tree};
 ghost use Rattle.file_tree.specs.Apply.{read_reply, walk};
 ghost use Rattle.gfs2_layout.specs.Area.{IsArea};
+ghost use Rattle.gfs2_layout.specs.Device.{IsBlockSize};
 ghost use Rattle.shared_disk.specs.Disk.{IsIdle};
 ghost use Rattle.single_node.specs.Ends.{EndHasCause, IfNotRead, IfDiskFailed};
 ghost use Rattle.single_node.specs.Blocks.{CallReads, CallRefuses};
 ghost use Rattle.file_tree.specs.declared.call.Call.TheVariants as calls;
-ghost use Rattle.single_node.specs.Flat.{IsFlat, HasFlatRoot, IsBlockSize, stuffed_part};
+ghost use Rattle.single_node.specs.Flat.{IsFlat, HasFlatRoot, stuffed_part};
 
 use crate::RunEnd;
 use crate::answer::{address_of, behind_dinode, read_file};

@@ -5,13 +5,14 @@ ghost use Rattle.cluster_history.specs.History.{Legal, NoneLost, tree_of};
 ghost use Rattle.run_rules.specs.Follows.{history_of};
 ghost use Rattle.file_tree.specs.Apply.{apply};
 ghost use Rattle.gfs2_layout.specs.Area.{IsArea};
+ghost use Rattle.gfs2_layout.specs.Device.{IsBlockSize};
 ghost use Rattle.shared_disk.specs.Disk.{IsIdle};
 ghost use Rattle.script_lang.specs.OneNode.{IsRootCall};
 ghost use Rattle.script_lang.specs.OneNode.{IsOneNode};
 ghost use Rattle.run_rules.specs.History.{HoldsHistory, NoneStopped, AllAnswered};
 ghost use Rattle.single_node.specs.Blocks.{CallReads, RefusesWhatIsTold, IsCallThat, EndsAtCall};
 ghost use Rattle.single_node.specs.Ends.{EndHasCause, IfNotRead, IfDiskFailed};
-ghost use Rattle.single_node.specs.Flat.{IsStart, IsBlockSize, stuffed_part};
+ghost use Rattle.single_node.specs.Flat.{IsStart, stuffed_part};
 ghost use Rattle.single_node.specs.Run.{IsLineOf, IsTaken, IsRunUpTo, IsRunOf, IsWholeRun};
 
 use crate::RunEnd;

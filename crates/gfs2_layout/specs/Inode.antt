@@ -1,15 +1,14 @@
 -- What an inode says, read from its own blocks alone, and the rules that these blocks keep.
-use Rattle.std.specs.Prelude.{ℕ, zero, suc, ◌≡◌, ◌≢◌, ◌⊎◌, ◌+◌, ◌-◌, ◌*◌, ◌/◌, ◌%◌, ◌^◌, ◌<◌, ◌≤◌, ◌==◌, ◌&&◌, Bool, true, false, is_some, if◌then◌else◌, List, length, take, drop, filter, flat_map, count_by, replicate, Contains, Option, None, Some}
+use Rattle.std.specs.Prelude.{ℕ, zero, suc, ◌≡◌, ◌≢◌, ◌⊎◌, ◌+◌, ◌-◌, ◌*◌, ◌/◌, ◌%◌, ◌^◌, ◌<◌, ◌≤◌, ◌==◌, ◌&&◌, Bool, true, false, is_some, if◌then◌else◌, List, length, take, drop, filter, flat_map, count_by, replicate, Contains, Option, Some}
 use Rattle.std.specs.List.{range_with_len}
 use Rattle.crc_words.specs.Remainder.{crc32_of}
 use Rattle.gfs2_layout.specs.Bytes.{u32_at, u64_at}
 use Rattle.gfs2_layout.specs.Structures.{dinode_of, dinode_length, is_directory, is_regular, leaf_of}
 use Rattle.gfs2_layout.specs.declared.dinode.Dinode.{Dinode}
 use Rattle.gfs2_layout.specs.declared.leaf.Leaf.{Leaf}
-use Rattle.image_model.specs.Headers.{HasHeader}
-use Rattle.image_model.specs.Owners.{Holding, Part, Pointed, InChain, bytes_at, part_at}
-use Rattle.image_model.specs.Records.{Record, records_in, IsRecordArea, is_dots, child_named}
-use Rattle.image_model.specs.Flat.{Thing, AFile, ADir, Node}
+use Rattle.gfs2_layout.specs.Headers.{HasHeader}
+use Rattle.gfs2_layout.specs.Holding.{Holding, Part, Pointed, InChain, bytes_at, part_at}
+use Rattle.gfs2_layout.specs.Records.{Record, records_in, IsRecordArea}
 
 unfoldable pub dinode_in : Holding → Dinode
 dinode_in h = dinode_of (bytes_at h h.own)
@@ -104,18 +103,6 @@ leaves_of h = filter (λ x. is_leaf_part (part_at h x)) (range_with_len 0 h.coun
 unfoldable pub records_of : Holding → List Record
 records_of h = if is_hashed_in h then flat_map (λ x. records_in (leaf_area h x)) (leaves_of h) else records_in (linear_area h)
 
--- ---- what it says
-
-abbrev pub thing_of : Holding → Thing
-thing_of h = if is_directory_in h then ADir else AFile (content_of h)
-
--- where a name leads; `.` and `..` lead to no child
-abbrev pub child_of : Holding → List ℕ → Option ℕ
-child_of h name = if is_directory_in h then (if is_dots name then None else child_named (records_of h) name) else None
-
-abbrev pub node_of : Holding → Node
-node_of h = record { thing = thing_of h; child = child_of h }
-
 -- what a record repeats of the inode that it names
 pub record Head : Type 0 where
   pub number : ℕ
@@ -125,6 +112,13 @@ abbrev pub head_of : Holding → Head
 head_of h = record { number = (dinode_in h).num.number; is_dir = is_directory_in h }
 
 -- ---- the blocks of content, and the indirect blocks above them
+
+-- pointer k of block b of this inode leads to block c, which stands so many levels above content and begins at this index of it
+pub data Leads (h : Holding) : ℕ → ℕ → ℕ → ℕ → ℕ → Type 0 where
+  from_dinode : (k level : ℕ) → height_in h ≡ suc level → k < fan h.size dinode_length → pointer h dinode_length h.own k ≢ 0
+      → Leads h h.own k level (k * span h.size level) (pointer h dinode_length h.own k)
+  from_block : (b k level first c j : ℕ) → Leads h b k (suc level) first c → j < fan h.size header_length → pointer h header_length c j ≢ 0
+      → Leads h c j level (first + j * span h.size level) (pointer h header_length c j)
 
 -- P of each pointer of the block that isn't zero, and of the block to which it leads
 abbrev pub EachPointer : Holding → ℕ → ℕ → (ℕ → ℕ → Type 0) → Type 0
@@ -170,6 +164,12 @@ table_count h = 2 ^ depth_in h
 -- pointer i of the table
 abbrev pub entry : Holding → ℕ → ℕ
 entry h i = u64_at (8 * i) (content_of h)
+
+-- the block of a directory that has pointer i of its table; its dinode's where the table has a hole there
+abbrev pub entry_block : Holding → ℕ → ℕ
+entry_block h i =
+    if height_in h == 0 then h.own
+    else (let b = content_block h (8 * i / unit h) in if b == 0 then h.own else b)
 
 abbrev pub leaf_in : Holding → ℕ → Leaf
 leaf_in h x = leaf_of (bytes_at h x)
