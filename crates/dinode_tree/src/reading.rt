@@ -1,0 +1,39 @@
+ghost use Rattle.std.specs.Prelude.{◌≡◌};
+ghost use Rattle.gfs2_layout.specs.Holding.{Holding};
+ghost use Rattle.glock_names.specs.Steps.{IfIs, IfNeedBlock, IfDamaged};
+ghost use Rattle.dinode_tree.specs.Shown.{IsShown};
+ghost use Rattle.dinode_tree.specs.Broken.{IsBroken};
+ghost use Rattle.dinode_tree.specs.Reading.{block_at, content_range, IsInRange, AreWholeBefore, IsNeeded};
+
+use glock_names::{CallFault, Step, View};
+use std::alloc::Global;
+
+/// The block of content with this index, from 0; None is a hole, or an index past what the pointers reach. Content that
+/// stands behind its dinode is in no block. It looks at no content: at the dinode's header, its address and number, its
+/// mode, whether its size fits it or its height, in this order, and then, from the dinode down, at the header of each
+/// indirect block on the way and whether a pointer on it leads wholly past the size. It costs a look into the view for
+/// each level.
+pub fn place<V: View>(view: &V, dinode: u64, index: u64) -> Result<Step<Option<u64>>, CallFault>
+    ensures found { (h : Holding) → IsShown (V.seen view.now) dinode h → IfIs result (λ found. found ≡ block_at h index) }
+    ensures needed { (h : Holding) → IsShown (V.seen view.now) dinode h → IfNeedBlock result (IsNeeded (V.seen view.now) h (λ i. i ≡ index) 1) }
+    ensures damaged { (h : Holding) → IsShown (V.seen view.now) dinode h → IfDamaged result (IsBroken h) }
+{
+    Err(CallFault::NoMemory)
+}
+
+/// The bytes of the content from byte `at` on, `len` of them or up to the content's end. It looks at what `place` looks
+/// at, and at the header of each table block of a directory. It costs a look into the view for each level and each block
+/// of content in the range, and takes memory for what it answers.
+pub fn read_range<V: View>(
+    alloc: Global,
+    view: &V,
+    dinode: u64,
+    at: u64,
+    len: u32,
+) -> Result<Step<Vec<u8>>, CallFault>
+    ensures found { (h : Holding) → IsShown (V.seen view.now) dinode h → AreWholeBefore h at → IfIs result (λ bytes. bytes.items ≡ content_range h at len) }
+    ensures needed { (h : Holding) → IsShown (V.seen view.now) dinode h → IfNeedBlock result (IsNeeded (V.seen view.now) h (IsInRange h at len) 0) }
+    ensures damaged { (h : Holding) → IsShown (V.seen view.now) dinode h → IfDamaged result (IsBroken h) }
+{
+    Err(CallFault::NoMemory)
+}
