@@ -1,3 +1,4 @@
 pub mod Shown
 pub mod Broken
 pub mod Reading
+pub mod Walking

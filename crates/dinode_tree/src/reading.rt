@@ -3,10 +3,32 @@ ghost use Rattle.gfs2_layout.specs.Holding.{Holding};
 ghost use Rattle.glock_names.specs.Steps.{IfIs, IfNeedBlock, IfDamaged};
 ghost use Rattle.dinode_tree.specs.Shown.{IsShown};
 ghost use Rattle.dinode_tree.specs.Broken.{IsBroken};
+ghost use Rattle.dinode_tree.specs.Walking.{IsIn};
 ghost use Rattle.dinode_tree.specs.Reading.{block_at, content_range, IsInRange, AreWholeBefore, IsNeeded};
 
+use crate::inode::Inode;
+use crate::links::find;
+use crate::looks::look;
 use glock_names::{CallFault, Step, View};
 use std::alloc::Global;
+
+// The block of content with this index.
+fn place_in<V: View>(
+    view: &V,
+    inode: &Inode<'_>,
+    index: u64,
+) -> Result<Step<Option<u64>>, CallFault>
+    requires { IsIn (V.seen view.now) inode.now }
+    ensures found { (h : Holding) → IsShown (V.seen view.now) inode.now.block h → IfIs result (λ found. found ≡ block_at h index) }
+    ensures needed { (h : Holding) → IsShown (V.seen view.now) inode.now.block h → IfNeedBlock result (IsNeeded (V.seen view.now) h (λ i. i ≡ index) 1) }
+    ensures damaged { (h : Holding) → IsShown (V.seen view.now) inode.now.block h → IfDamaged result (IsBroken h) }
+{
+    match find(view, inode, index)? {
+        Step::Is(Some(link)) => Ok(Step::Is(Some(link.block))),
+        Step::Is(None) => Ok(Step::Is(None)),
+        Step::NeedBlock(missing) => Ok(Step::NeedBlock(missing)),
+    }
+}
 
 /// The block of content with this index, from 0; None is a hole, or an index past what the pointers reach. Content that
 /// stands behind its dinode is in no block. It looks at no content: at the dinode's header, its address and number, its
@@ -18,7 +40,10 @@ pub fn place<V: View>(view: &V, dinode: u64, index: u64) -> Result<Step<Option<u
     ensures needed { (h : Holding) → IsShown (V.seen view.now) dinode h → IfNeedBlock result (IsNeeded (V.seen view.now) h (λ i. i ≡ index) 1) }
     ensures damaged { (h : Holding) → IsShown (V.seen view.now) dinode h → IfDamaged result (IsBroken h) }
 {
-    Err(CallFault::NoMemory)
+    match look(view, dinode)? {
+        Step::Is(inode) => place_in(view, &inode, index),
+        Step::NeedBlock(missing) => Ok(Step::NeedBlock(missing)),
+    }
 }
 
 /// The bytes of the content from byte `at` on, `len` of them or up to the content's end. It looks at what `place` looks

@@ -1,5 +1,5 @@
 -- What a call over a view answers.
-use Rattle.std.specs.Prelude.{ℕ, Result, Ok, Err, ⊤}
+use Rattle.std.specs.Prelude.{ℕ, Result, Ok, Err, IfErr, ⊤}
 use Rattle.glock_names.specs.declared.steps.CallFault.{CallFault}
 use Rattle.glock_names.specs.declared.steps.CallFault.TheVariants.{Damaged, NoMemory}
 use Rattle.glock_names.specs.declared.steps.Missing.{Missing}
@@ -18,8 +18,10 @@ IfNeedBlock (Ok (Is answer)) P = ⊤
 IfNeedBlock (Ok (NeedBlock missing)) P = P missing
 IfNeedBlock (Err fault) P = ⊤
 
--- P of the rule that is broken and of the block that breaks it, where the call found one
+-- P of the rule that is broken and of the block that breaks it, where the fault tells of one
+abbrev pub TellsOf : (ℕ → ℕ → Type 0) → CallFault → Type 0
+TellsOf P (Damaged block rule) = P rule block
+TellsOf P NoMemory = ⊤
+
 abbrev pub IfDamaged : {A : Type 0} → Result A CallFault → (ℕ → ℕ → Type 0) → Type 0
-IfDamaged (Ok answer) P = ⊤
-IfDamaged (Err (Damaged block rule)) P = P rule block
-IfDamaged (Err NoMemory) P = ⊤
+IfDamaged result P = IfErr result (TellsOf P)

@@ -1,0 +1,3 @@
+pub mod Dinodes
+pub mod Spans
+pub mod Pointers

@@ -1,0 +1,51 @@
+-- What the code that walks down an inode holds, as what it stands for.
+use Rattle.std.specs.Prelude.{ℕ, ◌≡◌, ◌-◌, ◌<◌, ◌≤◌, false, List, length, replicate, Option, None, Some}
+use Rattle.std.specs.Borrow.{Bor}
+use Rattle.gfs2_layout.specs.Holding.{Holding, Itself, bytes_at}
+use Rattle.gfs2_layout.specs.Inode.{Leads, height_in, span, descend, unit, carried, content_block}
+use Rattle.glock_names.specs.Views.{Seen}
+use Rattle.glock_names.specs.declared.steps.Missing.{Missing}
+use Rattle.dinode_tree.specs.Reading.{reach, block_at, inode_lock}
+use Rattle.dinode_tree.specs.declared.inode.Inode.{Inode}
+use Rattle.dinode_tree.specs.declared.ways.Link.{Link}
+
+-- the inode's dinode is what the view has in this block
+pub record IsIn (v : Seen) (inode : Inode) : Type 0 where
+  pub bytes : v.block_at inode.block ≡ Some inode.bytes.now
+  pub size : v.size ≡ length inode.bytes.now
+
+-- an inode of which each block is its dinode's: what the dinode says is read from it
+abbrev pub held : Inode → Holding
+held inode = record { size = length inode.bytes.now; count = 0; own = inode.block; cell = λ b. Some (record { part = Itself; bytes = inode.bytes.now }) }
+
+-- the inode's dinode is that of the holding
+pub record IsOf (h : Holding) (inode : Inode) : Type 0 where
+  pub own : h.own ≡ inode.block
+  pub size : h.size ≡ length inode.bytes.now
+  pub bytes : bytes_at h h.own ≡ inode.bytes.now
+
+-- a pointer on the way to the block of content with this index
+pub record IsLink (h : Holding) (index : ℕ) (link : Link) : Type 0 where
+  pub wanted : link.way.index ≡ index
+  pub least : link.way.left ≤ index
+  pub left : link.way.left < span h.size link.way.level
+  pub leads : (k : ℕ) × Leads h link.way.from k link.way.level (index - link.way.left) link.block
+  pub within : index < reach h.size (height_in h)
+  pub block : content_block h index ≡ descend h link.way.level link.block link.way.left
+
+-- none: there is no such block of content
+abbrev pub IsStep : Holding → ℕ → Option Link → Type 0
+IsStep h index None = block_at h index ≡ None
+IsStep h index (Some link) = IsLink h index link
+
+-- the dinode's block is the one that is missing
+abbrev pub missing_dinode : ℕ → Missing
+missing_dinode a = record { lock = inode_lock a; block = a; plain = false; from = a }
+
+-- what a block of content carries: none is a hole
+abbrev pub piece_bytes : Holding → Option (Bor (List ℕ)) → List ℕ
+piece_bytes h None = replicate (unit h) 0
+piece_bytes h (Some bytes) = bytes.now
+
+abbrev pub IsPiece : Holding → ℕ → Option (Bor (List ℕ)) → Type 0
+IsPiece h index piece = piece_bytes h piece ≡ carried h (content_block h index)
