@@ -1,3 +1,4 @@
 pub mod Dinodes
 pub mod Spans
 pub mod Pointers
+pub mod Stepping

@@ -21,7 +21,7 @@ use Rattle.dinode_tree.specs.declared.inode.Inode.{Inode}
 use Rattle.dinode_tree.specs.declared.ways.Link.{Link}
 use Rattle.dinode_tree.specs.declared.ways.Way.{Way}
 use Rattle.dinode_tree.proofs.Dinodes.{told, told_own, dinode_is, height_same, count_same}
-use Rattle.dinode_tree.proofs.Spans.{span_some}
+use Rattle.dinode_tree.proofs.Spans.{span_some, rest_below}
 
 -- ---- which block has which index
 
@@ -105,9 +105,9 @@ module _ (h : Holding) (large : 512 ≤ h.size) (index level : ℕ) (high : heig
       subst (λ f. Leads h h.own k level f p) at (subst (Leads h h.own k level (k * span h.size level)) (sym p_is) leads)
 
 -- a pointer on the way, from what it leads to
-pub link_of : (h : Holding) (way : Way) (p k : ℕ) → way.left < span h.size way.level → Leads h way.from k way.level (way.index - way.left) p
+pub link_of : (h : Holding) (way : Way) (p k : ℕ) → way.left ≤ way.index → way.left < span h.size way.level → Leads h way.from k way.level (way.index - way.left) p
     → way.index < reach h.size (height_in h) → content_block h way.index ≡ descend h way.level p way.left → IsLink h way.index (record { way = way; block = p })
-link_of h way p k small leads low is = record { wanted = refl; least = way.least; left = small; leads = (k, leads); within = low; block = is }
+link_of h way p k least small leads low is = record { wanted = refl; least = least; left = small; leads = (k, leads); within = low; block = is }
 
 -- the dinode's own pointer
 module _ (h : Holding) (inode : Inode) (o : IsOf h inode) (way : Way) (from_is : way.from ≡ inode.block) (high : inode.dinode.height ≡ suc way.level) (k p : ℕ)
@@ -143,6 +143,7 @@ module _ (h : Holding) (inode : Inode) (o : IsOf h inode) (way : Way) (from_is :
   pub first_link_is : k < fan (length inode.bytes.now) 232 → p ≢ 0 → IsLink h way.index (record { way = way; block = p })
   first_link_is low some =
       link_of h way p k
+          (rest_below way.index _ way.left left_h)
           (subst (λ n. n < span h.size way.level) (sym left_h) (mod-lt way.index (span_some h.size way.level large)))
           (first_leads low some)
           (top_within h large way.index way.level high_h k way.left p k_h left_h p_h (subst (λ n. k < fan n 232) (sym o.size) low))
@@ -190,7 +191,7 @@ module _ (h : Holding) (large : 512 ≤ h.size) (index : ℕ) (link : Link) (is 
   next_link_is some =
       let small : way.left < span h.size way.level = subst (λ n. n < span h.size way.level) (sym left_is) (mod-lt link.way.left (span_some h.size way.level large)) in
       let made : IsLink h way.index (record { way = way; block = p }) =
-          link_of h way p k small (next_leads some) (subst (λ n. n < reach h.size (height_in h)) (sym index_h) is.within) (ap (content_block h) index_h ∙ next_block) in
+          link_of h way p k (omega (arith, rest_below link.way.left _ way.left left_is, is.least, index_h)) small (next_leads some) (subst (λ n. n < reach h.size (height_in h)) (sym index_h) is.within) (ap (content_block h) index_h ∙ next_block) in
       subst (λ n. IsLink h n (record { way = way; block = p })) index_h made
 
 -- ---- what following a pointer gives
@@ -209,3 +210,37 @@ followed_past h inode p way (Ok found) o fault past some leads = tt
 followed_past h inode p way (Err other) o fault past some leads =
     let led = leads some in
     told_own h other inode.block 8 fault o.own (past_end way.from led.0 way.level (way.index - way.left) p led.1 (omega (arith, past, count_same h inode o)))
+
+-- ---- a block on the way that is missing, or lacks its header
+
+pub shown_of : (v : Seen) (h : Holding) (inode : Inode) → IsShown v inode.block h → IsIn v inode → IsOf h inode
+shown_of v h inode shown seen = record {
+  own = shown.own;
+  size = shown.size ∙ seen.size;
+  bytes = shown.same h.own inode.bytes.now shown.dinode (ap v.block_at shown.own ∙ seen.bytes);
+}
+
+-- what the holding has in a block to which a pointer leads is what the view has
+pub same_bytes : (v : Seen) (h : Holding) (a index : ℕ) (link : Link) (bytes : List ℕ) → IsShown v a h → IsLink h index link → v.block_at link.block ≡ Some bytes → bytes_at h link.block ≡ bytes
+same_bytes v h a index link bytes shown is has = shown.same link.block bytes (shown.led_to _ _ _ _ _ is.leads.1) has
+
+pub lacks_indirect : (v : Seen) (h : Holding) (a index : ℕ) (link : Link) (bytes : List ℕ) (fault : CallFault) → IsShown v a h → IsLink h index link → 1 ≤ link.way.level
+    → v.block_at link.block ≡ Some bytes → fault ≡ Damaged link.block 1 → ¬ (HasHeader 5 500 bytes) → TellsOf (IsBroken h) fault
+lacks_indirect v h a index link bytes fault shown is above has at lacks =
+    let up : link.way.level ≡ suc (link.way.level - 1) = omega (arith, above) in
+    let leads : Leads h link.way.from is.leads.0 (suc (link.way.level - 1)) (index - link.way.left) link.block =
+        subst (λ l. Leads h link.way.from is.leads.0 l (index - link.way.left) link.block) up is.leads.1 in
+    told h fault link.block 1 at (no_header link.block 5 500 (of_indirect _ _ _ _ _ leads)
+    (λ header. lacks (subst (HasHeader 5 500) (same_bytes v h a index link bytes shown is has) header)))
+
+pub needed_link : (v : Seen) (h : Holding) (inode : Inode) (index least : ℕ) (link : Link) (m : Missing) → IsShown v inode.block h → IsIn v inode → IsLink h index link → least ≤ link.way.level
+    → v.block_at link.block ≡ None
+    → m ≡ record { lock = inode_lock inode.block; block = link.block; plain = link.way.level == 0 && is_regular inode.dinode; from = link.way.from }
+    → IsNeeded v h (λ i. i ≡ index) least m
+needed_link v h inode index least link m shown seen is above absent at =
+    subst (IsNeeded v h (λ i. i ≡ index) least) (sym at) (record {
+      lock = ap inode_lock (sym shown.own);
+      absent = absent;
+      way = led_to index is.leads.0 link.way.level (index - link.way.left) refl above is.leads.1 (omega arith) (omega (arith, is.left, is.least))
+          (ap (λ d. link.way.level == 0 && is_regular d) (sym (dinode_is h inode (shown_of v h inode shown seen))));
+    })

@@ -2,7 +2,7 @@
 use Rattle.std.proofs.Common.{◌≡◌, ◌⊎◌, ℕ, zero, suc, ◌+◌, ◌-◌, ◌*◌, ◌/◌, ◌%◌, ◌<◌, ◌≤◌, min, inl, inr, refl, sym, ap, subst, ◌∙◌, arith}
 use Rattle.std.proofs.lemmas.Grind.{div_ceil_times}
 use Rattle.std.proofs.lemmas.Nat.{le-div}
-use Rattle.std.proofs.Math.Nat.{mul_comm, one-le-mul, mul-le-mul_right, le-mul_of_pos_right, div-lt_iff_lt-mul, div-mul-le_self, div-eq_of_lt, mod-eq_of_lt}
+use Rattle.std.proofs.Math.Nat.{mul_comm, one-le-mul, mul-le-mul_right, le-mul_of_pos_right, div-lt_iff_lt-mul, div-mul-le_self, div-eq_of_lt, mod-eq_of_lt, mod-le}
 use Rattle.gfs2_layout.specs.Inode.{fan, span, header_length, pieces}
 
 -- a block leads to a block at least
@@ -65,3 +65,7 @@ pub too_many : (c s f : ℕ) → 1 ≤ c → f ≤ (c - 1) / s → f * s < c
 too_many c s f some high =
     let more : f * s ≤ (c - 1) / s * s = mul-le-mul_right s high in
     omega (arith, some, more, div-mul-le_self (c - 1) s)
+
+-- a rest is no more than the whole
+pub rest_below : (i s left : ℕ) → left ≡ i % s → left ≤ i
+rest_below i s left is = omega (arith, is, mod-le i s)

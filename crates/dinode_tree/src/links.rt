@@ -1,5 +1,5 @@
-ghost use Rattle.std.specs.Prelude.{ℕ, ◌≡◌, ◌≢◌, ◌-◌, ◌<◌, ◌≤◌, ◌==◌, ◌&&◌, IfOk, IfErr, OnErr, IfSome, IfNone};
-ghost use Rattle.gfs2_layout.specs.Holding.{Holding};
+ghost use Rattle.std.specs.Prelude.{ℕ, ◌≡◌, ◌≢◌, ◌-◌, ◌<◌, ◌≤◌, ◌==◌, ◌&&◌, IfOk, IfErr, OnErr, IfSome, IfNone, length};
+ghost use Rattle.gfs2_layout.specs.Holding.{Holding, bytes_at};
 ghost use Rattle.gfs2_layout.specs.Structures.{is_regular};
 ghost use Rattle.gfs2_layout.specs.Inode.{content_count, Fits};
 ghost use Rattle.glock_names.specs.Steps.{IfIs, IfNeedBlock, IfDamaged};
@@ -16,6 +16,7 @@ use glock_names::{CallFault, Missing, Step, View};
 
 // The link of a pointer; None where it leads nowhere. What it leads to is to begin before the inode's end.
 fn follow(inode: &Inode<'_>, pointer: u64, way: Way) -> Result<Option<Link>, CallFault>
+    requires { way.left ≤ way.index }
     ensures none { IfOk result (λ found. IfNone found (pointer ≡ 0)) }
     ensures some { IfOk result (λ found. IfSome found (λ link. link ≡ record { way = way; block = pointer })) }
     ensures leads { IfOk result (λ found. IfSome found (λ link. pointer ≢ 0)) }
@@ -37,6 +38,7 @@ fn follow(inode: &Inode<'_>, pointer: u64, way: Way) -> Result<Option<Link>, Cal
 
 // The dinode's pointer on the way to a block of content.
 fn first_link(inode: &Inode<'_>, index: u64) -> Result<Option<Link>, CallFault>
+    ensures least { IfOk result (λ found. IfSome found (λ link. link.way.left ≤ link.way.index)) }
     ensures step { (h : Holding) → IsOf h inode.now → IfOk result (IsStep h index) }
     ensures damaged { (h : Holding) → IsOf h inode.now → IfDamaged result (IsBroken h) }
 {
@@ -74,6 +76,34 @@ pub(crate) fn missing_block(inode: &Inode<'_>, link: &Link) -> Missing
     }
 }
 
+// The pointer on the way to a block of content, of the indirect block to which a link leads.
+fn link_below(
+    inode: &Inode<'_>,
+    bytes: &[u8],
+    link: &Link,
+) -> Result<Option<Link>, CallFault>
+    requires above { 1 ≤ link.now.way.level }
+    requires least { link.now.way.left ≤ link.now.way.index }
+    requires size { length bytes.now ≡ length inode.now.bytes.now }
+    ensures lower { IfOk result (λ found. IfSome found (λ next. next.way.level < link.now.way.level)) }
+    ensures least { IfOk result (λ found. IfSome found (λ next. next.way.left ≤ next.way.index)) }
+    ensures step { (h : Holding) (index : ℕ) → IsOf h inode.now → bytes_at h link.now.block ≡ bytes.now → IsLink h index link.now → IfOk result (IsStep h index) }
+    ensures damaged { (h : Holding) (index : ℕ) → IsOf h inode.now → bytes_at h link.now.block ≡ bytes.now → IsLink h index link.now → IfDamaged result (IsBroken h) }
+{
+    let level = link.way.level - 1;
+    let (k, left) = split(bytes.len(), level, link.way.left);
+    if k >= fan(bytes.len(), IN_BLOCK) {
+        return Ok(None);
+    }
+    let way = Way {
+        from: link.block,
+        level,
+        index: link.way.index,
+        left,
+    };
+    follow(inode, number_at(bytes, IN_BLOCK + 8 * k as usize), way)
+}
+
 // One step down: the pointer of an indirect block on the way to a block of content.
 fn next_link<V: View>(
     view: &V,
@@ -82,7 +112,9 @@ fn next_link<V: View>(
 ) -> Result<Step<Option<Link>>, CallFault>
     requires seen { IsIn (V.seen view.now) inode.now }
     requires above { 1 ≤ link.now.way.level }
+    requires least { link.now.way.left ≤ link.now.way.index }
     ensures lower { IfIs result (λ found. IfSome found (λ next. next.way.level < link.now.way.level)) }
+    ensures least { IfIs result (λ found. IfSome found (λ next. next.way.left ≤ next.way.index)) }
     ensures step { (h : Holding) (index : ℕ) → IsShown (V.seen view.now) inode.now.block h → IsLink h index link.now → IfIs result (IsStep h index) }
     ensures needed { (h : Holding) (index : ℕ) → IsShown (V.seen view.now) inode.now.block h → IsLink h index link.now → IfNeedBlock result (IsNeeded (V.seen view.now) h (λ i. i ≡ index) 1) }
     ensures damaged { (h : Holding) (index : ℕ) → IsShown (V.seen view.now) inode.now.block h → IsLink h index link.now → IfDamaged result (IsBroken h) }
@@ -93,18 +125,7 @@ fn next_link<V: View>(
     if !has_header(bytes, 5, 500) {
         return Err(damaged(link.block, 1));
     }
-    let level = link.way.level - 1;
-    let (k, left) = split(bytes.len(), level, link.way.left);
-    let way = Way {
-        from: link.block,
-        level,
-        index: link.way.index,
-        left,
-    };
-    if k >= fan(bytes.len(), IN_BLOCK) {
-        return Ok(Step::Is(None));
-    }
-    let found = follow(inode, number_at(bytes, IN_BLOCK + 8 * k as usize), way)?;
+    let found = link_below(inode, bytes, link)?;
     Ok(Step::Is(found))
 }
 

@@ -1,5 +1,3 @@
-ghost use Rattle.std.specs.Prelude.{◌≤◌};
-
 /// A pointer on the way to the block of content with an index: the block in which it stands, how many levels above
 /// content that stands to which it leads, and the index among the blocks of content below that one.
 #[derive(Clone, Copy)]
@@ -8,7 +6,6 @@ pub(crate) struct Way {
     pub level: u16,
     pub index: u64,
     pub left: u64,
-    ghost least: { left ≤ index },
 }
 
 /// A pointer that leads to a block.
