@@ -121,8 +121,8 @@ fits_pointed inode level high low small = record {
   low = omega (arith, low, high, height_held inode);
   stuffed = λ zero. absurd (omega (arith, zero, high, height_held inode));
   under = λ other up.
-  let same : level ≡ other = omega (arith, up, high, height_held inode) in
-  subst (λ l. content_count (held inode) ≤ fan (length inode.bytes.now) 232 * span (length inode.bytes.now) l) same small;
+      let same : level ≡ other = omega (arith, up, high, height_held inode) in
+      subst (λ l. content_count (held inode) ≤ fan (length inode.bytes.now) 232 * span (length inode.bytes.now) l) same small;
 }
 
 pub fits_last : (inode : Inode) (level count last : ℕ) → inode.dinode.height ≡ level + 1 → level ≤ 9 → count ≡ content_count (held inode)

@@ -138,16 +138,16 @@ module _ (h : Holding) (inode : Inode) (o : IsOf h inode) (way : Way) (from_is :
   first_leads low some =
       let own : h.own ≡ way.from = o.own ∙ sym from_is in
       subst (λ b. Leads h b k way.level (way.index - way.left) p) own
-          (top_leads h large way.index way.level high_h k way.left p k_h left_h p_h (subst (λ n. k < fan n 232) (sym o.size) low) some)
+      (top_leads h large way.index way.level high_h k way.left p k_h left_h p_h (subst (λ n. k < fan n 232) (sym o.size) low) some)
 
   pub first_link_is : k < fan (length inode.bytes.now) 232 → p ≢ 0 → IsLink h way.index (record { way = way; block = p })
   first_link_is low some =
       link_of h way p k
-          (rest_below way.index _ way.left left_h)
-          (subst (λ n. n < span h.size way.level) (sym left_h) (mod-lt way.index (span_some h.size way.level large)))
-          (first_leads low some)
-          (top_within h large way.index way.level high_h k way.left p k_h left_h p_h (subst (λ n. k < fan n 232) (sym o.size) low))
-          (top_block h large way.index way.level high_h k way.left p k_h left_h p_h)
+      (rest_below way.index _ way.left left_h)
+      (subst (λ n. n < span h.size way.level) (sym left_h) (mod-lt way.index (span_some h.size way.level large)))
+      (first_leads low some)
+      (top_within h large way.index way.level high_h k way.left p k_h left_h p_h (subst (λ n. k < fan n 232) (sym o.size) low))
+      (top_block h large way.index way.level high_h k way.left p k_h left_h p_h)
 
 -- the pointer of an indirect block
 module _ (h : Holding) (large : 512 ≤ h.size) (index : ℕ) (link : Link) (is : IsLink h index link) (way : Way) (from_is : way.from ≡ link.block) (index_is : way.index ≡ link.way.index)
@@ -179,19 +179,19 @@ module _ (h : Holding) (large : 512 ≤ h.size) (index : ℕ) (link : Link) (is 
   pub next_leads : p ≢ 0 → Leads h way.from k way.level (way.index - way.left) p
   next_leads some =
       let above : Leads h link.way.from is.leads.0 (suc way.level) (index - link.way.left) link.block =
-          subst (λ l. Leads h link.way.from is.leads.0 l (index - link.way.left) link.block) high is.leads.1 in
+      subst (λ l. Leads h link.way.from is.leads.0 l (index - link.way.left) link.block) high is.leads.1 in
       let leads : Leads h link.block k way.level (index - link.way.left + k * span h.size way.level) (pointer h header_length link.block k) =
-          from_block link.way.from is.leads.0 way.level (index - link.way.left) link.block k above next_low (λ e. some (next_p ∙ e)) in
+      from_block link.way.from is.leads.0 way.level (index - link.way.left) link.block k above next_low (λ e. some (next_p ∙ e)) in
       let at : index - link.way.left + k * span h.size way.level ≡ way.index - way.left =
-          omega (arith, parts_of link.way.left (span h.size way.level) k way.left k_is left_is, is.least, index_h) in
+      omega (arith, parts_of link.way.left (span h.size way.level) k way.left k_is left_is, is.least, index_h) in
       subst (λ b. Leads h b k way.level (way.index - way.left) p) (sym from_is)
-          (subst (λ f. Leads h link.block k way.level f p) at (subst (Leads h link.block k way.level (index - link.way.left + k * span h.size way.level)) (sym next_p) leads))
+      (subst (λ f. Leads h link.block k way.level f p) at (subst (Leads h link.block k way.level (index - link.way.left + k * span h.size way.level)) (sym next_p) leads))
 
   pub next_link_is : p ≢ 0 → IsLink h index (record { way = way; block = p })
   next_link_is some =
       let small : way.left < span h.size way.level = subst (λ n. n < span h.size way.level) (sym left_is) (mod-lt link.way.left (span_some h.size way.level large)) in
       let made : IsLink h way.index (record { way = way; block = p }) =
-          link_of h way p k (omega (arith, rest_below link.way.left _ way.left left_is, is.least, index_h)) small (next_leads some) (subst (λ n. n < reach h.size (height_in h)) (sym index_h) is.within) (ap (content_block h) index_h ∙ next_block) in
+      link_of h way p k (omega (arith, rest_below link.way.left _ way.left left_is, is.least, index_h)) small (next_leads some) (subst (λ n. n < reach h.size (height_in h)) (sym index_h) is.within) (ap (content_block h) index_h ∙ next_block) in
       subst (λ n. IsLink h n (record { way = way; block = p })) index_h made
 
 -- ---- what following a pointer gives
@@ -229,7 +229,7 @@ pub lacks_indirect : (v : Seen) (h : Holding) (a index : ℕ) (link : Link) (byt
 lacks_indirect v h a index link bytes fault shown is above has at lacks =
     let up : link.way.level ≡ suc (link.way.level - 1) = omega (arith, above) in
     let leads : Leads h link.way.from is.leads.0 (suc (link.way.level - 1)) (index - link.way.left) link.block =
-        subst (λ l. Leads h link.way.from is.leads.0 l (index - link.way.left) link.block) up is.leads.1 in
+    subst (λ l. Leads h link.way.from is.leads.0 l (index - link.way.left) link.block) up is.leads.1 in
     told h fault link.block 1 at (no_header link.block 5 500 (of_indirect _ _ _ _ _ leads)
     (λ header. lacks (subst (HasHeader 5 500) (same_bytes v h a index link bytes shown is has) header)))
 

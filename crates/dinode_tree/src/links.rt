@@ -56,7 +56,11 @@ fn first_link(inode: &Inode<'_>, index: u64) -> Result<Option<Link>, CallFault>
         index,
         left,
     };
-    follow(inode, number_at(inode.bytes, IN_DINODE + 8 * k as usize), way)
+    follow(
+        inode,
+        number_at(inode.bytes, IN_DINODE + 8 * k as usize),
+        way,
+    )
 }
 
 /// What a call needs where the view hasn't the block to which a pointer leads.
@@ -77,11 +81,7 @@ pub(crate) fn missing_block(inode: &Inode<'_>, link: &Link) -> Missing
 }
 
 // The pointer on the way to a block of content, of the indirect block to which a link leads.
-fn link_below(
-    inode: &Inode<'_>,
-    bytes: &[u8],
-    link: &Link,
-) -> Result<Option<Link>, CallFault>
+fn link_below(inode: &Inode<'_>, bytes: &[u8], link: &Link) -> Result<Option<Link>, CallFault>
     requires above { 1 ≤ link.now.way.level }
     requires least { link.now.way.left ≤ link.now.way.index }
     requires size { length bytes.now ≡ length inode.now.bytes.now }

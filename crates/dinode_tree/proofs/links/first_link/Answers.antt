@@ -14,21 +14,22 @@ pub returns-then-k-fan-clause-step : goal.returns-then-k-fan-clause-step
 returns-then-k-fan-clause-step c h o =
     let high : c.args.inode.now.dinode.height ≡ suc (c.args.inode.now.dinode.height - 1) = omega (arith, c.if-inode-eq0.false) in
     first_past h c.args.inode.now o (record { from = c.args.inode.now.block; level = c.args.inode.now.dinode.height - 1; index = c.args.index; left = c.split-k.result.1 })
-        refl high c.split-k.result.0 _ c.split-k.ensures.pointer c.split-k.ensures.left refl (omega (arith, c.if-k-fan.true, c.fan.ensures))
+    refl high c.split-k.result.0 _ c.split-k.ensures.pointer c.split-k.ensures.left refl (omega (arith, c.if-k-fan.true, c.fan.ensures))
 
 pub returns-clause-step : goal.returns-clause-step
 returns-clause-step c h o =
     let high : c.args.inode.now.dinode.height ≡ suc (c.args.inode.now.dinode.height - 1) = omega (arith, c.if-inode-eq0.false) in
     followed h c.args.index c.number_at.result _ c.follow.result c.follow.ensures.none c.follow.ensures.some c.follow.ensures.leads
-        (first_none h c.args.inode.now o _ refl high c.split-k.result.0 c.number_at.result c.split-k.ensures.pointer c.split-k.ensures.left c.number_at.ensures)
-        (first_link_is h c.args.inode.now o _ refl high c.split-k.result.0 c.number_at.result c.split-k.ensures.pointer c.split-k.ensures.left c.number_at.ensures
-        (omega (arith, c.if-k-fan.false, c.fan.ensures)))
+    (first_none h c.args.inode.now o _ refl high c.split-k.result.0 c.number_at.result c.split-k.ensures.pointer c.split-k.ensures.left c.number_at.ensures)
+    (first_link_is h c.args.inode.now o _ refl high c.split-k.result.0 c.number_at.result c.split-k.ensures.pointer c.split-k.ensures.left c.number_at.ensures
+    (omega (arith, c.if-k-fan.false, c.fan.ensures)))
 
 pub returns-clause-damaged : goal.returns-clause-damaged
 returns-clause-damaged c h o =
     let high : c.args.inode.now.dinode.height ≡ suc (c.args.inode.now.dinode.height - 1) = omega (arith, c.if-inode-eq0.false) in
     followed_past h c.args.inode.now c.number_at.result _ c.follow.result o c.follow.ensures.fault c.follow.ensures.past c.follow.ensures.astray
-        (λ some.
-        (c.split-k.result.0,
-        first_leads h c.args.inode.now o _ refl high c.split-k.result.0 c.number_at.result c.split-k.ensures.pointer c.split-k.ensures.left c.number_at.ensures
-        (omega (arith, c.if-k-fan.false, c.fan.ensures)) some))
+    (λ some. (
+      c.split-k.result.0,
+      first_leads h c.args.inode.now o _ refl high c.split-k.result.0 c.number_at.result c.split-k.ensures.pointer c.split-k.ensures.left c.number_at.ensures
+          (omega (arith, c.if-k-fan.false, c.fan.ensures)) some,
+    ))

@@ -11,8 +11,8 @@ returns-clause-step c h index o same is =
     let k_is = c.split-k.ensures.pointer ∙ ap (λ n. c.args.link.now.way.left / span n (c.args.link.now.way.level - 1)) size in
     let left_is = c.split-k.ensures.left ∙ ap (λ n. c.args.link.now.way.left % span n (c.args.link.now.way.level - 1)) size in
     followed h index c.number_at.result _ c.follow.result c.follow.ensures.none c.follow.ensures.some c.follow.ensures.leads
-        (next_none h large index c.args.link.now is _ refl refl high c.args.bytes.now same c.split-k.result.0 c.number_at.result k_is left_is c.number_at.ensures)
-        (next_link_is h large index c.args.link.now is _ refl refl high c.args.bytes.now same c.split-k.result.0 c.number_at.result k_is left_is c.number_at.ensures)
+    (next_none h large index c.args.link.now is _ refl refl high c.args.bytes.now same c.split-k.result.0 c.number_at.result k_is left_is c.number_at.ensures)
+    (next_link_is h large index c.args.link.now is _ refl refl high c.args.bytes.now same c.split-k.result.0 c.number_at.result k_is left_is c.number_at.ensures)
 
 pub returns-clause-damaged : goal.returns-clause-damaged
 returns-clause-damaged c h index o same is =
@@ -22,6 +22,7 @@ returns-clause-damaged c h index o same is =
     let k_is = c.split-k.ensures.pointer ∙ ap (λ n. c.args.link.now.way.left / span n (c.args.link.now.way.level - 1)) size in
     let left_is = c.split-k.ensures.left ∙ ap (λ n. c.args.link.now.way.left % span n (c.args.link.now.way.level - 1)) size in
     followed_past h c.args.inode.now c.number_at.result _ c.follow.result o c.follow.ensures.fault c.follow.ensures.past c.follow.ensures.astray
-        (λ some.
-        (c.split-k.result.0,
-        next_leads h large index c.args.link.now is _ refl refl high c.args.bytes.now same c.split-k.result.0 c.number_at.result k_is left_is c.number_at.ensures some))
+    (λ some. (
+      c.split-k.result.0,
+      next_leads h large index c.args.link.now is _ refl refl high c.args.bytes.now same c.split-k.result.0 c.number_at.result k_is left_is c.number_at.ensures some,
+    ))

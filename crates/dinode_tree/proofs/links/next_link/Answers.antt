@@ -10,4 +10,4 @@ returns-in_default-clause-needed g c h index shown is =
 pub returns-then-not-has_header-clause-damaged : goal.returns-then-not-has_header-clause-damaged
 returns-then-not-has_header-clause-damaged g c h index shown is =
     lacks_indirect (g.V.View.seen c.args.view.now) h _ index c.args.link.now c.in-Some.bytes.now _ shown is c.requires.above c.in-Some.ensures.some c.damaged.ensures
-        (lacks c.has_header.result c.has_header.ensures c.if-not-has_header.true)
+    (lacks c.has_header.result c.has_header.ensures c.if-not-has_header.true)
