@@ -2,3 +2,4 @@ pub mod Dinodes
 pub mod Spans
 pub mod Pointers
 pub mod Stepping
+pub mod Ranges

@@ -1,8 +1,9 @@
 -- What the code that walks down an inode holds, as what it stands for.
-use Rattle.std.specs.Prelude.{ℕ, ◌≡◌, ◌-◌, ◌<◌, ◌≤◌, false, List, length, replicate, Option, None, Some}
-use Rattle.std.specs.Borrow.{Bor}
+use Rattle.std.specs.Prelude.{ℕ, ◌≡◌, ◌-◌, ◌<◌, ◌≤◌, ◌==◌, false, if◌then◌else◌, List, length, take, drop, flat_map, Option, None, Some}
+use Rattle.std.specs.List.{range_with_len}
 use Rattle.gfs2_layout.specs.Holding.{Holding, Itself, bytes_at}
-use Rattle.gfs2_layout.specs.Inode.{Leads, height_in, span, descend, unit, carried, content_block}
+use Rattle.gfs2_layout.specs.Inode.{Leads, height_in, span, descend, unit, carried, content_block, content_count}
+use Rattle.gfs2_layout.specs.Structures.{dinode_length}
 use Rattle.glock_names.specs.Views.{Seen}
 use Rattle.glock_names.specs.declared.steps.Missing.{Missing}
 use Rattle.dinode_tree.specs.Reading.{reach, block_at, inode_lock}
@@ -42,10 +43,18 @@ IsStep h index (Some link) = IsLink h index link
 abbrev pub missing_dinode : ℕ → Missing
 missing_dinode a = record { lock = inode_lock a; block = a; plain = false; from = a }
 
--- what a block of content carries: none is a hole
-abbrev pub piece_bytes : Holding → Option (Bor (List ℕ)) → List ℕ
-piece_bytes h None = replicate (unit h) 0
-piece_bytes h (Some bytes) = bytes.now
+-- what the blocks of content carry, one after another, up to the end of the last
+abbrev pub carried_all : Holding → List ℕ
+carried_all h = flat_map (λ i. carried h (content_block h i)) (range_with_len 0 (content_count h))
 
-abbrev pub IsPiece : Holding → ℕ → Option (Bor (List ℕ)) → Type 0
-IsPiece h index piece = piece_bytes h piece ≡ carried h (content_block h index)
+-- what the content begins: its block behind the dinode, or what its blocks carry
+abbrev pub laid_out : Holding → List ℕ
+laid_out h = if height_in h == 0 then drop dinode_length (bytes_at h h.own) else carried_all h
+
+-- so many bytes from a place on of what the content begins
+abbrev pub laid_range : Holding → ℕ → ℕ → List ℕ
+laid_range h at end = take (end - at) (drop at (laid_out h))
+
+-- so many of the blocks of content carry as much as a block does
+abbrev pub ArePieces : Holding → ℕ → Type 0
+ArePieces h n = (i : ℕ) → i < n → length (carried h (content_block h i)) ≡ unit h

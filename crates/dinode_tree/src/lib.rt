@@ -2,6 +2,7 @@
 #![tactic(auto)]
 
 mod blocks;
+mod content;
 mod inode;
 mod links;
 mod looks;

@@ -1,11 +1,13 @@
 ghost use Rattle.std.specs.Prelude.{◌≡◌};
 ghost use Rattle.gfs2_layout.specs.Holding.{Holding};
+ghost use Rattle.gfs2_layout.specs.Inode.{Fits};
 ghost use Rattle.glock_names.specs.Steps.{IfIs, IfNeedBlock, IfDamaged};
 ghost use Rattle.dinode_tree.specs.Shown.{IsShown};
 ghost use Rattle.dinode_tree.specs.Broken.{IsBroken};
-ghost use Rattle.dinode_tree.specs.Walking.{IsIn};
+ghost use Rattle.dinode_tree.specs.Walking.{held, IsIn};
 ghost use Rattle.dinode_tree.specs.Reading.{block_at, content_range, IsInRange, AreWholeBefore, IsNeeded};
 
+use crate::content::{blocks_range, stuffed_range};
 use crate::inode::Inode;
 use crate::links::find;
 use crate::looks::look;
@@ -46,6 +48,31 @@ pub fn place<V: View>(view: &V, dinode: u64, index: u64) -> Result<Step<Option<u
     }
 }
 
+// The bytes of the content in a range, up to its end.
+fn range_in<V: View>(
+    alloc: Global,
+    view: &V,
+    inode: &Inode<'_>,
+    at: u64,
+    len: u32,
+) -> Result<Step<Vec<u8>>, CallFault>
+    requires seen { IsIn (V.seen view.now) inode.now }
+    requires fits { Fits (held inode.now) }
+    ensures found { (h : Holding) → IsShown (V.seen view.now) inode.now.block h → AreWholeBefore h at → IfIs result (λ bytes. bytes.items ≡ content_range h at len) }
+    ensures needed { (h : Holding) → IsShown (V.seen view.now) inode.now.block h → IfNeedBlock result (IsNeeded (V.seen view.now) h (IsInRange h at len) 0) }
+    ensures damaged { (h : Holding) → IsShown (V.seen view.now) inode.now.block h → IfDamaged result (IsBroken h) }
+{
+    let end = at.saturating_add(u64::from(len)).min(inode.dinode.size);
+    if at >= end {
+        return Ok(Step::Is(Vec::new(alloc)));
+    }
+    if inode.dinode.height == 0 {
+        let bytes = stuffed_range(alloc, inode, at, end)?;
+        return Ok(Step::Is(bytes));
+    }
+    blocks_range(alloc, view, inode, at, end)
+}
+
 /// The bytes of the content from byte `at` on, `len` of them or up to the content's end. It looks at what `place` looks
 /// at, and at the header of each table block of a directory. It costs a look into the view for each level and each block
 /// of content in the range, and takes memory for what it answers.
@@ -60,5 +87,8 @@ pub fn read_range<V: View>(
     ensures needed { (h : Holding) → IsShown (V.seen view.now) dinode h → IfNeedBlock result (IsNeeded (V.seen view.now) h (IsInRange h at len) 0) }
     ensures damaged { (h : Holding) → IsShown (V.seen view.now) dinode h → IfDamaged result (IsBroken h) }
 {
-    Err(CallFault::NoMemory)
+    match look(view, dinode)? {
+        Step::Is(inode) => range_in(alloc, view, &inode, at, len),
+        Step::NeedBlock(missing) => Ok(Step::NeedBlock(missing)),
+    }
 }
