@@ -1,6 +1,6 @@
 -- What a dinode says that was read, and what it breaks.
-use Rattle.std.proofs.Common.{◌≡◌, ◌↔◌, IsTrue, ◌≢◌, Bool, true, false, ℕ, zero, suc, ◌+◌, ◌-◌, ◌*◌, ◌/◌, ◌<◌, ◌≤◌, length, List, refl, sym, ap, ap₂, subst, ◌∙◌, arith}
-use Rattle.std.proofs.lemmas.Bool.{cond-true, cond-false}
+use Rattle.std.proofs.Common.{◌≡◌, ◌↔◌, IsTrue, ◌≢◌, Bool, true, false, inl, inr, ℕ, zero, suc, ◌+◌, ◌-◌, ◌*◌, ◌/◌, ◌<◌, ◌≤◌, length, List, refl, sym, ap, ap₂, subst, ◌∙◌, arith}
+use Rattle.std.proofs.lemmas.Bool.{cond-true, cond-false, cases_Bool}
 use Rattle.std.specs.Prelude.{if◌then◌else◌}
 use Rattle.gfs2_layout.specs.Holding.{Holding, bytes_at}
 use Rattle.gfs2_layout.specs.Headers.{HasHeader}
@@ -52,6 +52,18 @@ unit_of_file inode file =
     let e : unit_as (length inode.bytes.now) inode.dinode ≡ length inode.bytes.now = cond-false _ _ _ file in
     unit_is inode ∙ e
 
+pub unit_large : (inode : Inode) → 488 ≤ unit (held inode)
+unit_large inode = elim (cases_Bool (is_directory inode.dinode)) [
+  | inl directory ↦ omega (arith, unit_of_directory inode directory, inode.least)
+  | inr file ↦ omega (arith, unit_of_file inode file, inode.least)
+]
+
+pub unit_most : (inode : Inode) → unit (held inode) ≤ length inode.bytes.now
+unit_most inode = elim (cases_Bool (is_directory inode.dinode)) [
+  | inl directory ↦ omega (arith, unit_of_directory inode directory)
+  | inr file ↦ omega (arith, unit_of_file inode file)
+]
+
 pub unit_same : (h : Holding) (inode : Inode) → IsOf h inode → unit (held inode) ≡ unit h
 unit_same h inode o = unit_is inode ∙ sym (ap₂ unit_as o.size (dinode_is h inode o))
 
@@ -63,6 +75,9 @@ height_same h inode o = ap (λ (d : Dinode). d.height) (sym (dinode_is h inode o
 
 pub height_held : (inode : Inode) → inode.dinode.height ≡ height_in (held inode)
 height_held inode = ap (λ (d : Dinode). d.height) (sym (held_is inode))
+
+pub size_held : (inode : Inode) → inode.dinode.size ≡ (dinode_in (held inode)).size
+size_held inode = ap (λ (d : Dinode). d.size) (sym (held_is inode))
 
 pub count_same : (h : Holding) (inode : Inode) → IsOf h inode → content_count (held inode) ≡ content_count h
 count_same h inode o = ap₂ pieces (ap (λ (d : Dinode). d.size) (held_is inode) ∙ size_same h inode o) (unit_same h inode o)

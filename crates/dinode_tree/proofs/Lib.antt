@@ -3,3 +3,4 @@ pub mod Spans
 pub mod Pointers
 pub mod Stepping
 pub mod Ranges
+pub mod Pieces

@@ -70,35 +70,34 @@ pub(crate) fn piece<'a, V: View>(
     }
 }
 
-// Appends the content from `at` to the end of its block of content, or to `end`, and answers how far that is.
-fn append_part<V: View>(
-    bytes: &mut Vec<u8>,
-    view: &V,
+// The content from `at` to the end of its block of content, or to `end`.
+fn part<'a, V: View>(
+    view: &'a V,
     inode: &Inode<'_>,
     at: u64,
     end: u64,
-) -> Result<Step<u64>, CallFault>
+) -> Result<Step<&'a [u8]>, CallFault>
     requires seen { IsIn (V.seen view.now) inode.now }
     requires fits { Fits (held inode.now) }
     requires below { 1 ≤ inode.now.dinode.height }
     requires some { at < end }
     requires within { end ≤ inode.now.dinode.size }
-    ensures further { IfIs result (λ to. at < to) }
-    ensures least { IfIs result (λ to. to ≤ end) }
-    ensures appended { (h : Holding) → IsShown (V.seen view.now) inode.now.block h → ArePieces h (at / unit h) → IfIs result (λ to. bytes.new.items ≡ bytes.old.items ++ laid_range h at to) }
-    ensures pieces { (h : Holding) → IsShown (V.seen view.now) inode.now.block h → ArePieces h (at / unit h) → IfIs result (λ to. ArePieces h (to / unit h)) }
+    ensures further { IfIs result (λ part. 0 < length part.now) }
+    ensures least { IfIs result (λ part. at + length part.now ≤ end) }
+    ensures read { (h : Holding) → IsShown (V.seen view.now) inode.now.block h → ArePieces h (at / unit h) → IfIs result (λ part. part.now ≡ laid_range h at (at + length part.now)) }
+    ensures pieces { (h : Holding) → IsShown (V.seen view.now) inode.now.block h → ArePieces h (at / unit h) → IfIs result (λ part. ArePieces h ((at + length part.now) / unit h)) }
     ensures needed { (h : Holding) → IsShown (V.seen view.now) inode.now.block h → IfNeedBlock result (IsNeeded (V.seen view.now) h (λ i. i ≡ at / unit h) 0) }
     ensures damaged { (h : Holding) → IsShown (V.seen view.now) inode.now.block h → IfDamaged result (IsBroken h) }
 {
     let unit = inode.unit() as u64;
-    let piece = match piece(view, inode, at / unit)? {
-        Step::Is(piece) => piece,
-        Step::NeedBlock(missing) => return Ok(Step::NeedBlock(missing)),
-    };
-    let from = at % unit;
-    let to = unit.min(from + (end - at));
-    bytes.extend_from_slice(&piece[from as usize..to as usize])?;
-    Ok(Step::Is(at + (to - from)))
+    match piece(view, inode, at / unit)? {
+        Step::Is(piece) => {
+            let from = at % unit;
+            let to = unit.min(from + (end - at));
+            Ok(Step::Is(&piece[from as usize..to as usize]))
+        }
+        Step::NeedBlock(missing) => Ok(Step::NeedBlock(missing)),
+    }
 }
 
 /// The content from `at` to `end`, of an inode that has it in blocks below its dinode.
@@ -121,8 +120,11 @@ pub(crate) fn blocks_range<V: View>(
     let mut bytes = Vec::with_capacity(alloc, (end - at) as usize)?;
     let mut next = at;
     while next < end {
-        match append_part(&mut bytes, view, inode, next, end)? {
-            Step::Is(to) => next = to,
+        match part(view, inode, next, end)? {
+            Step::Is(part) => {
+                bytes.extend_from_slice(part)?;
+                next += part.len() as u64;
+            }
             Step::NeedBlock(missing) => return Ok(Step::NeedBlock(missing)),
         }
     }
@@ -136,12 +138,11 @@ pub(crate) fn stuffed_range(
     at: u64,
     end: u64,
 ) -> Result<Vec<u8>, NoMemory>
-    requires fits { Fits (held inode.now) }
     requires stuffed { inode.now.dinode.height ≡ 0 }
     requires order { at ≤ end }
-    requires within { end ≤ inode.now.dinode.size }
+    requires within { 232 + end ≤ length inode.now.bytes.now }
     ensures { (h : Holding) → IsOf h inode.now → IfOk result (λ bytes. bytes.items ≡ laid_range h at end) }
 {
-    let behind = &inode.bytes[IN_DINODE..];
-    Ok(Vec::from_slice(alloc, &behind[at as usize..end as usize])?)
+    let behind = &inode.bytes[IN_DINODE + at as usize..IN_DINODE + end as usize];
+    Ok(Vec::from_slice(alloc, behind)?)
 }

@@ -1,4 +1,4 @@
-ghost use Rattle.std.specs.Prelude.{◌≡◌};
+ghost use Rattle.std.specs.Prelude.{◌≡◌, ◌+◌, min};
 ghost use Rattle.gfs2_layout.specs.Holding.{Holding};
 ghost use Rattle.gfs2_layout.specs.Inode.{Fits};
 ghost use Rattle.glock_names.specs.Steps.{IfIs, IfNeedBlock, IfDamaged};
@@ -48,6 +48,13 @@ pub fn place<V: View>(view: &V, dinode: u64, index: u64) -> Result<Step<Option<u
     }
 }
 
+// Where so many bytes of the content from `at` on end.
+fn end_of(inode: &Inode<'_>, at: u64, len: u32) -> u64
+    ensures { result ≡ min (at + len) inode.now.dinode.size }
+{
+    at.saturating_add(u64::from(len)).min(inode.dinode.size)
+}
+
 // The bytes of the content in a range, up to its end.
 fn range_in<V: View>(
     alloc: Global,
@@ -62,7 +69,7 @@ fn range_in<V: View>(
     ensures needed { (h : Holding) → IsShown (V.seen view.now) inode.now.block h → IfNeedBlock result (IsNeeded (V.seen view.now) h (IsInRange h at len) 0) }
     ensures damaged { (h : Holding) → IsShown (V.seen view.now) inode.now.block h → IfDamaged result (IsBroken h) }
 {
-    let end = at.saturating_add(u64::from(len)).min(inode.dinode.size);
+    let end = end_of(inode, at, len);
     if at >= end {
         return Ok(Step::Is(Vec::new(alloc)));
     }
