@@ -1,13 +1,13 @@
 -- What a dinode says that was read, and what it breaks.
-use Rattle.std.proofs.Common.{◌≡◌, ◌↔◌, IsTrue, ◌≢◌, Bool, true, false, inl, inr, ℕ, zero, suc, ◌+◌, ◌-◌, ◌*◌, ◌/◌, ◌<◌, ◌≤◌, length, List, refl, sym, ap, ap₂, subst, ◌∙◌, arith}
+use Rattle.std.proofs.Common.{◌≡◌, ◌↔◌, IsTrue, ◌≢◌, Bool, true, false, inl, inr, ℕ, ◌+◌, ◌-◌, ◌*◌, ◌/◌, ◌<◌, ◌≤◌, length, List, sym, ap, ap₂, subst, ◌∙◌, arith}
 use Rattle.std.proofs.lemmas.Bool.{cond-true, cond-false, cases_Bool}
 use Rattle.std.specs.Prelude.{if◌then◌else◌}
 use Rattle.gfs2_layout.specs.Holding.{Holding, bytes_at}
 use Rattle.gfs2_layout.specs.Headers.{HasHeader}
-use Rattle.gfs2_layout.specs.Inode.{dinode_in, height_in, is_directory_in, header_length, fan, span, unit, pieces, content_count, Fits}
-use Rattle.gfs2_layout.specs.Structures.{dinode_of, dinode_length, is_directory, is_regular}
+use Rattle.gfs2_layout.specs.Inode.{dinode_in, height_in, header_length, fan, span, unit, pieces, content_count, Fits}
+use Rattle.gfs2_layout.specs.Structures.{dinode_of, is_directory, is_regular}
 use Rattle.gfs2_layout.specs.declared.dinode.Dinode.{Dinode}
-use Rattle.glock_names.specs.Steps.{TellsOf}
+use Rattle.glock_names.specs.Steps.{IsDamage}
 use Rattle.glock_names.specs.declared.steps.CallFault.{CallFault}
 use Rattle.glock_names.specs.declared.steps.CallFault.TheVariants.{Damaged}
 use Rattle.dinode_tree.specs.Broken.{IsBroken, no_header, of_dinode, other_address, no_number, no_mode, too_high, too_large_for_dinode, too_large_for_height}
@@ -16,10 +16,10 @@ use Rattle.dinode_tree.specs.declared.inode.Inode.{Inode}
 use Rattle.dinode_tree.proofs.Spans.{enough, too_many, span_some}
 
 -- a fault that tells of a broken rule
-pub told : (h : Holding) (fault : CallFault) (b rule : ℕ) → fault ≡ Damaged b rule → IsBroken h rule b → TellsOf (IsBroken h) fault
-told h fault b rule is broken = subst (λ f. TellsOf (IsBroken h) f) (sym is) broken
+pub told : (h : Holding) (fault : CallFault) (b rule : ℕ) → fault ≡ Damaged b rule → IsBroken h rule b → IsDamage (IsBroken h) fault
+told h fault b rule is broken = subst (λ f. IsDamage (IsBroken h) f) (sym is) broken
 
-pub told_own : (h : Holding) (fault : CallFault) (b rule : ℕ) → fault ≡ Damaged b rule → h.own ≡ b → IsBroken h rule h.own → TellsOf (IsBroken h) fault
+pub told_own : (h : Holding) (fault : CallFault) (b rule : ℕ) → fault ≡ Damaged b rule → h.own ≡ b → IsBroken h rule h.own → IsDamage (IsBroken h) fault
 told_own h fault b rule is own broken = told h fault b rule is (subst (IsBroken h rule) own broken)
 
 -- a test that failed
@@ -85,37 +85,37 @@ count_same h inode o = ap₂ pieces (ap (λ (d : Dinode). d.size) (held_is inode
 -- ---- what it breaks
 
 pub lacks_header : (h : Holding) (fault : CallFault) (b : ℕ) (bytes : List ℕ) → fault ≡ Damaged b 1 → h.own ≡ b → bytes_at h h.own ≡ bytes → ¬ (HasHeader 4 400 bytes)
-    → TellsOf (IsBroken h) fault
+    → IsDamage (IsBroken h) fault
 lacks_header h fault b bytes is own same lacks =
     told_own h fault b 1 is own (no_header h.own 4 400 of_dinode (λ has. lacks (subst (HasHeader 4 400) same has)))
 
 pub wrong_address : (h : Holding) (inode : Inode) (fault : CallFault) → IsOf h inode → fault ≡ Damaged inode.block 7 → inode.dinode.num.address ≢ inode.block
-    → TellsOf (IsBroken h) fault
+    → IsDamage (IsBroken h) fault
 wrong_address h inode fault o is wrong =
     told_own h fault inode.block 7 is o.own (other_address (λ e. wrong (sym (ap (λ (d : Dinode). d.num.address) (dinode_is h inode o)) ∙ e ∙ o.own)))
 
 pub wrong_number : (h : Holding) (inode : Inode) (fault : CallFault) → IsOf h inode → fault ≡ Damaged inode.block 7 → inode.dinode.num.number ≡ 0
-    → TellsOf (IsBroken h) fault
+    → IsDamage (IsBroken h) fault
 wrong_number h inode fault o is none =
     told_own h fault inode.block 7 is o.own (no_number (ap (λ (d : Dinode). d.num.number) (dinode_is h inode o) ∙ none))
 
 pub wrong_mode : (h : Holding) (inode : Inode) (fault : CallFault) → IsOf h inode → fault ≡ Damaged inode.block 8
-    → is_directory inode.dinode ≡ false → is_regular inode.dinode ≡ false → TellsOf (IsBroken h) fault
+    → is_directory inode.dinode ≡ false → is_regular inode.dinode ≡ false → IsDamage (IsBroken h) fault
 wrong_mode h inode fault o is directory regular =
     told_own h fault inode.block 8 is o.own (no_mode (ap is_directory (dinode_is h inode o) ∙ directory) (ap is_regular (dinode_is h inode o) ∙ regular))
 
 pub wrong_height : (h : Holding) (inode : Inode) (fault : CallFault) → IsOf h inode → fault ≡ Damaged inode.block 8 → 10 < inode.dinode.height
-    → TellsOf (IsBroken h) fault
+    → IsDamage (IsBroken h) fault
 wrong_height h inode fault o is high = told_own h fault inode.block 8 is o.own (too_high (omega (arith, high, height_same h inode o)))
 
 pub wrong_stuffed : (h : Holding) (inode : Inode) (fault : CallFault) → IsOf h inode → fault ≡ Damaged inode.block 8 → inode.dinode.height ≡ 0
-    → length inode.bytes.now < 232 + inode.dinode.size → TellsOf (IsBroken h) fault
+    → length inode.bytes.now < 232 + inode.dinode.size → IsDamage (IsBroken h) fault
 wrong_stuffed h inode fault o is low large =
     told_own h fault inode.block 8 is o.own (too_large_for_dinode (omega (arith, low, height_same h inode o)) (omega (arith, large, o.size, size_same h inode o)))
 
 pub wrong_pointed : (h : Holding) (inode : Inode) (fault : CallFault) (level count last : ℕ) → IsOf h inode → fault ≡ Damaged inode.block 8 → inode.dinode.height ≡ level + 1
     → count ≡ content_count (held inode) → count ≢ 0 → last ≡ (count - 1) / span (length inode.bytes.now) level → fan (length inode.bytes.now) 232 ≤ last
-    → TellsOf (IsBroken h) fault
+    → IsDamage (IsBroken h) fault
 wrong_pointed h inode fault level count last o is high same some at far =
     let over : fan (length inode.bytes.now) 232 * span (length inode.bytes.now) level < count = too_many count _ _ (omega (arith, some)) (omega (arith, at, far)) in
     let over_h : fan h.size 232 * span h.size level < count = subst (λ n. fan n 232 * span n level < count) (sym o.size) over in

@@ -1,15 +1,14 @@
 -- What the blocks of content of an inode carry.
-use Rattle.std.proofs.Common.{◌≡◌, ◌≢◌, ◌⊎◌, true, false, Bool, ℕ, zero, suc, ◌+◌, ◌-◌, ◌*◌, ◌/◌, ◌%◌, ◌<◌, ◌≤◌, min, inl, inr, List, [], ◌++◌, length, take, drop, Option, Some, None, refl, sym, ap, ap₂, subst, ◌∙◌, arith, length-drop, length-take, drop-drop, div-add-mod'}
-use Rattle.std.proofs.lemmas.Bool.{cond-true, cond-false, eq-eqb, ne_eqb, cases_eq, cases_Bool}
-use Rattle.std.proofs.lemmas.List.{length-replicate, take_all, drop-take}
-use Rattle.std.specs.Prelude.{◌==◌, ◌&&◌, if◌then◌else◌, replicate, flat_map}
-use Rattle.std.specs.List.{range_with_len}
+use Rattle.std.proofs.Common.{◌≡◌, ◌≢◌, true, ℕ, suc, ◌+◌, ◌-◌, ◌*◌, ◌/◌, ◌%◌, ◌<◌, ◌≤◌, min, inl, inr, List, [], ◌++◌, length, take, drop, Option, Some, None, refl, sym, ap, ap₂, subst, ◌∙◌, arith, length-drop, length-take, drop-drop, div-add-mod'}
+use Rattle.std.proofs.lemmas.Bool.{cond-true, cond-false, eq-eqb, ne_eqb, cases_eq}
+use Rattle.std.proofs.lemmas.List.{length-replicate}
+use Rattle.std.specs.Prelude.{replicate}
 use Rattle.gfs2_layout.specs.Headers.{HasHeader}
 use Rattle.gfs2_layout.specs.Holding.{Holding, bytes_at}
-use Rattle.gfs2_layout.specs.Inode.{Leads, dinode_in, height_in, is_directory_in, header_length, fan, span, descend, unit, carried, content_block, content_count, content_of, Fits}
+use Rattle.gfs2_layout.specs.Inode.{Leads, dinode_in, height_in, fan, span, descend, unit, carried, content_block, content_count, content_of, Fits}
 use Rattle.gfs2_layout.specs.Structures.{dinode_length, is_directory}
 use Rattle.gfs2_layout.specs.declared.dinode.Dinode.{Dinode}
-use Rattle.glock_names.specs.Steps.{TellsOf}
+use Rattle.glock_names.specs.Steps.{IsDamage}
 use Rattle.glock_names.specs.Views.{Seen}
 use Rattle.glock_names.specs.declared.steps.CallFault.{CallFault}
 use Rattle.glock_names.specs.declared.steps.CallFault.TheVariants.{Damaged}
@@ -22,7 +21,7 @@ use Rattle.dinode_tree.specs.declared.inode.Inode.{Inode}
 use Rattle.dinode_tree.specs.declared.ways.Link.{Link}
 use Rattle.dinode_tree.proofs.Dinodes.{told, dinode_is, held_is, height_held, height_same, size_same, count_same, unit_same, unit_large, unit_most}
 use Rattle.dinode_tree.proofs.Pointers.{leads_somewhere, some_within, same_bytes, shown_of}
-use Rattle.dinode_tree.proofs.Ranges.{range_of_piece, joined_ranges, range_to_end, piece_before, piece_within}
+use Rattle.dinode_tree.proofs.Ranges.{range_of_piece, joined_ranges, range_to_end, piece_before, piece_within, before_end}
 use Rattle.std.proofs.lemmas.Nat.{mod_below}
 
 -- ---- one block of content
@@ -33,9 +32,9 @@ within_reach h inode index o fits some low =
     let high : inode.dinode.height ≡ suc (inode.dinode.height - 1) = omega (arith, some) in
     let up : height_in h ≡ suc (inode.dinode.height - 1) = sym (height_same h inode o) ∙ high in
     let under : content_count (held inode) ≤ fan (length inode.bytes.now) 232 * span (length inode.bytes.now) (inode.dinode.height - 1) =
-        fits.under (inode.dinode.height - 1) (sym (height_held inode) ∙ high) in
+    fits.under (inode.dinode.height - 1) (sym (height_held inode) ∙ high) in
     let under_h : content_count (held inode) ≤ fan h.size 232 * span h.size (inode.dinode.height - 1) =
-        subst (λ n. content_count (held inode) ≤ fan n 232 * span n (inode.dinode.height - 1)) (sym o.size) under in
+    subst (λ n. content_count (held inode) ≤ fan n 232 * span n (inode.dinode.height - 1)) (sym o.size) under in
     subst (λ n. index < reach h.size n) (sym up) (omega (arith, low, under_h))
 
 hole_at : (h : Holding) (index : ℕ) → index < reach h.size (height_in h) → block_at h index ≡ None → content_block h index ≡ 0
@@ -69,7 +68,7 @@ block_carries v h inode index link bytes piece shown seen is content has size at
     ∙ sym (carried_block h link.block (leads_somewhere h _ _ _ _ _ is.leads.1)) ∙ ap (carried h) (sym block)
 
 pub lacks_table : (v : Seen) (h : Holding) (inode : Inode) (index : ℕ) (link : Link) (bytes : List ℕ) (fault : CallFault) → IsShown v inode.block h → IsIn v inode → IsLink h index link → link.way.level ≡ 0
-    → v.block_at link.block ≡ Some bytes → is_directory inode.dinode ≡ true → fault ≡ Damaged link.block 1 → ¬ (HasHeader 7 700 bytes) → TellsOf (IsBroken h) fault
+    → v.block_at link.block ≡ Some bytes → is_directory inode.dinode ≡ true → fault ≡ Damaged link.block 1 → ¬ (HasHeader 7 700 bytes) → IsDamage (IsBroken h) fault
 lacks_table v h inode index link bytes fault shown seen is content has directory at lacks =
     let o = shown_of v h inode shown seen in
     let leads : Leads h link.way.from is.leads.0 0 (index - link.way.left) link.block = subst (λ l. Leads h link.way.from is.leads.0 l (index - link.way.left) link.block) content is.leads.1 in
@@ -84,11 +83,19 @@ in_blocks h some = cond-false _ _ _ (ne_eqb (height_in h) 0 (λ e. omega (arith,
 pub in_dinode : (h : Holding) → height_in h ≡ 0 → laid_out h ≡ drop dinode_length (bytes_at h h.own)
 in_dinode h none = cond-true _ _ _ (eq-eqb (height_in h) 0 none)
 
+pub unit_some : (h : Holding) (inode : Inode) → IsOf h inode → 0 < unit h
+unit_some h inode o = omega (arith, unit_same h inode o, unit_large inode)
+
+pub unit_small : (h : Holding) (inode : Inode) → IsOf h inode → unit h ≤ h.size
+unit_small h inode o = omega (arith, unit_same h inode o, unit_most inode, o.size)
+
 -- what the blocks before a byte carry, where they are whole
-pub pieces_of_whole : (h : Holding) (at : ℕ) → unit h ≤ h.size → AreWholeBefore h at → ArePieces h (at / unit h)
-pieces_of_whole h at small whole i low = elim (cases_eq (content_block h i) 0) [
+pub pieces_of_whole : (h : Holding) (inode : Inode) (at : ℕ) → IsOf h inode → at ≤ inode.dinode.size → AreWholeBefore h at → ArePieces h (at / unit h)
+pieces_of_whole h inode at o within whole i low = elim (cases_eq (content_block h i) 0) [
   | inl none ↦ ap length (carried_hole h (content_block h i) none) ∙ length-replicate (unit h) 0
-  | inr some ↦ ap length (carried_block h (content_block h i) some) ∙ length-drop (h.size - unit h) (bytes_at h (content_block h i)) ∙ omega (arith, whole i low some, small)
+  | inr some ↦
+      ap length (carried_block h (content_block h i) some) ∙ length-drop (h.size - unit h) (bytes_at h (content_block h i))
+      ∙ omega (arith, whole i low (before_end i at (dinode_in h).size (unit h) (unit_some h inode o) (omega (arith, within, size_same h inode o)) low) some, unit_small h inode o)
 ]
 
 module _ (h : Holding) (inode : Inode) (o : IsOf h inode) (some : 1 ≤ inode.dinode.height) (u at end from to : ℕ) (piece : List ℕ)
@@ -157,16 +164,10 @@ in_range h inode at end next o some low less within i is =
 pub count_held : (inode : Inode) (at u : ℕ) → u ≡ unit (held inode) → at < inode.dinode.size → at / u < content_count (held inode)
 count_held inode at u is low =
     subst (λ n. at / n < content_count (held inode)) (sym is)
-        (piece_within at (dinode_in (held inode)).size (unit (held inode)) (omega (arith, unit_large inode)) (omega (arith, low, ap (λ (d : Dinode). d.size) (held_is inode))))
+    (piece_within at (dinode_in (held inode)).size (unit (held inode)) (omega (arith, unit_large inode)) (omega (arith, low, ap (λ (d : Dinode). d.size) (held_is inode))))
 
 pub in_longer : (h : Holding) (at len len' i : ℕ) → len ≤ len' → IsInRange h at len i → IsInRange h at len' i
 in_longer h at len len' i more within = record { ends = within.ends; begins = omega (arith, within.begins, more); within = within.within }
-
-pub unit_some : (h : Holding) (inode : Inode) → IsOf h inode → 0 < unit h
-unit_some h inode o = omega (arith, unit_same h inode o, unit_large inode)
-
-pub unit_small : (h : Holding) (inode : Inode) → IsOf h inode → unit h ≤ h.size
-unit_small h inode o = omega (arith, unit_same h inode o, unit_most inode, o.size)
 
 -- ---- the whole content
 
@@ -187,6 +188,9 @@ range_none h at len end is past =
 pub stuffed_is : (h : Holding) (inode : Inode) (at end : ℕ) → IsOf h inode → inode.dinode.height ≡ 0 → take (end - at) (drop (232 + at) inode.bytes.now) ≡ laid_range h at end
 stuffed_is h inode at end o none =
     sym (ap (λ l. take (end - at) (drop at l)) (in_dinode h (sym (height_same h inode o) ∙ none) ∙ ap (drop 232) o.bytes) ∙ ap (take (end - at)) (drop-drop at 232 inode.bytes.now))
+
+pub nothing_read : (h : Holding) (at : ℕ) → [] ≡ laid_range h at at
+nothing_read h at = let none : at - at ≡ 0 = omega arith in sym (ap (λ k. take k (drop at (laid_out h))) none)
 
 pub appended : (h : Holding) (at next : ℕ) (bytes part : List ℕ) → at ≤ next → bytes ≡ laid_range h at next → part ≡ laid_range h next (next + length part)
     → bytes ++ part ≡ laid_range h at (next + length part)

@@ -1,20 +1,20 @@
 -- Where the pointers of an inode lead on the way to a block of content.
-use Rattle.std.proofs.Common.{◌≡◌, ◌≢◌, ◌⊎◌, Bool, true, false, ℕ, zero, suc, ◌+◌, ◌-◌, ◌*◌, ◌/◌, ◌%◌, ◌<◌, ◌≤◌, inl, inr, length, List, Option, Some, None, Result, Ok, Err, IfOk, IfErr, OnErr, IfSome, IfNone, refl, sym, ap, ap₂, subst, ◌∙◌, arith}
+use Rattle.std.proofs.Common.{◌≡◌, ◌≢◌, ◌⊎◌, ℕ, zero, suc, ◌+◌, ◌-◌, ◌*◌, ◌/◌, ◌%◌, ◌<◌, ◌≤◌, inl, inr, length, List, Option, Some, None, Result, Ok, Err, IfOk, IfErr, OnErr, IfSome, IfNone, refl, sym, ap, ap₂, subst, ◌∙◌, arith}
 use Rattle.std.proofs.lemmas.Bool.{cond-true, cond-false, eq-eqb, ne_eqb, cases_lt, lt-ltb, le-ltb}
 use Rattle.std.proofs.Math.Nat.{mod-lt, div-add-mod', div-lt_iff_lt-mul}
 use Rattle.std.specs.Prelude.{◌==◌, ◌&&◌, nat_lt, if◌then◌else◌}
 use Rattle.gfs2_layout.specs.Bytes.{u64_at}
 use Rattle.gfs2_layout.specs.Headers.{HasHeader}
 use Rattle.gfs2_layout.specs.Holding.{Holding, bytes_at}
-use Rattle.gfs2_layout.specs.Inode.{Leads, from_dinode, from_block, dinode_in, height_in, is_directory_in, header_length, fan, span, pointer, descend, content_block, content_count}
+use Rattle.gfs2_layout.specs.Inode.{Leads, from_dinode, from_block, height_in, header_length, fan, span, pointer, descend, content_block, content_count}
 use Rattle.gfs2_layout.specs.Structures.{dinode_length, is_regular}
-use Rattle.glock_names.specs.Steps.{TellsOf}
+use Rattle.glock_names.specs.Steps.{IsDamage}
 use Rattle.glock_names.specs.Views.{Seen}
 use Rattle.glock_names.specs.declared.steps.CallFault.{CallFault}
 use Rattle.glock_names.specs.declared.steps.CallFault.TheVariants.{Damaged}
 use Rattle.glock_names.specs.declared.steps.Missing.{Missing}
-use Rattle.dinode_tree.specs.Broken.{IsBroken, no_header, of_indirect, of_table, past_end}
-use Rattle.dinode_tree.specs.Reading.{reach, target, block_at, inode_lock, IsNeeded, IsOnWay, led_to}
+use Rattle.dinode_tree.specs.Broken.{IsBroken, no_header, of_indirect, past_end}
+use Rattle.dinode_tree.specs.Reading.{reach, target, block_at, inode_lock, IsNeeded, led_to}
 use Rattle.dinode_tree.specs.Shown.{IsShown}
 use Rattle.dinode_tree.specs.Walking.{held, IsIn, IsOf, IsLink, IsStep}
 use Rattle.dinode_tree.specs.declared.inode.Inode.{Inode}
@@ -205,7 +205,7 @@ followed h index p way (Err fault) none some leads hole link = tt
 
 pub followed_past : (h : Holding) (inode : Inode) (p : ℕ) (way : Way) (result : Result (Option Link) CallFault) → IsOf h inode
     → IfErr result (λ fault. fault ≡ Damaged inode.block 8) → OnErr result (content_count (held inode) ≤ way.index - way.left) → OnErr result (p ≢ 0)
-    → (p ≢ 0 → (k : ℕ) × Leads h way.from k way.level (way.index - way.left) p) → IfErr result (TellsOf (IsBroken h))
+    → (p ≢ 0 → (k : ℕ) × Leads h way.from k way.level (way.index - way.left) p) → IfErr result (IsDamage (IsBroken h))
 followed_past h inode p way (Ok found) o fault past some leads = tt
 followed_past h inode p way (Err other) o fault past some leads =
     let led = leads some in
@@ -225,7 +225,7 @@ pub same_bytes : (v : Seen) (h : Holding) (a index : ℕ) (link : Link) (bytes :
 same_bytes v h a index link bytes shown is has = shown.same link.block bytes (shown.led_to _ _ _ _ _ is.leads.1) has
 
 pub lacks_indirect : (v : Seen) (h : Holding) (a index : ℕ) (link : Link) (bytes : List ℕ) (fault : CallFault) → IsShown v a h → IsLink h index link → 1 ≤ link.way.level
-    → v.block_at link.block ≡ Some bytes → fault ≡ Damaged link.block 1 → ¬ (HasHeader 5 500 bytes) → TellsOf (IsBroken h) fault
+    → v.block_at link.block ≡ Some bytes → fault ≡ Damaged link.block 1 → ¬ (HasHeader 5 500 bytes) → IsDamage (IsBroken h) fault
 lacks_indirect v h a index link bytes fault shown is above has at lacks =
     let up : link.way.level ≡ suc (link.way.level - 1) = omega (arith, above) in
     let leads : Leads h link.way.from is.leads.0 (suc (link.way.level - 1)) (index - link.way.left) link.block =

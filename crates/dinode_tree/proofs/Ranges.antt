@@ -1,10 +1,10 @@
 -- What a range of the content is, piece by piece.
-use Rattle.std.proofs.Common.{◌≡◌, ◌≢◌, ◌⊎◌, true, false, ℕ, zero, suc, ◌+◌, ◌-◌, ◌*◌, ◌/◌, ◌%◌, ◌<◌, ◌≤◌, min, inl, inr, List, [], ◌∷◌, ◌++◌, length, take, drop, Option, Some, None, refl, sym, ap, ap₂, subst, ◌∙◌, arith, length-drop, length-take, drop-drop, drop_at}
-use Rattle.std.proofs.Math.Nat.{mod-lt, div-add-mod', div-lt_iff_lt-mul, div-mul-le_self, lt_of_mul-lt-mul_right, le-div_iff_mul-le}
+use Rattle.std.proofs.Common.{◌≡◌, ◌⊎◌, ℕ, zero, suc, ◌+◌, ◌-◌, ◌*◌, ◌/◌, ◌%◌, ◌<◌, ◌≤◌, min, inl, inr, List, [], ◌++◌, length, take, drop, sym, ap, ap₂, subst, ◌∙◌, arith, length-drop, length-take, drop-drop, drop_at}
+use Rattle.std.proofs.Math.Nat.{div-add-mod', div-lt_iff_lt-mul, lt_of_mul-lt-mul_right, le-div_iff_mul-le, mul-div_left}
 use Rattle.std.proofs.Math.Seq.{take-add}
 use Rattle.std.proofs.lemmas.List.{drop-append-le, take-append-le, drop-take, take-take, take_all, drop_all}
-use Rattle.std.proofs.lemmas.Bool.{cond-true, cond-false, eq-eqb, ne_eqb, cases_lt}
-use Rattle.std.specs.Prelude.{◌==◌, if◌then◌else◌, flat_map}
+use Rattle.std.proofs.lemmas.Bool.{cases_lt}
+use Rattle.std.specs.Prelude.{flat_map}
 use Rattle.std.specs.List.{range_with_len}
 use Rattle.std.proofs.lemmas.Grind.{div_ceil_times}
 use Rattle.gfs2_layout.specs.Inode.{pieces}
@@ -65,12 +65,12 @@ joined_ranges xs a b c low high =
 pub range_to_end : (xs : List ℕ) (size at len : ℕ) → take (min (at + len) size - at) (drop at xs) ≡ take len (drop at (take size xs))
 range_to_end xs size at len = elim (cases_lt size at) [
   | inl past ↦
-  let none : min (at + len) size - at ≡ 0 = omega (arith, past) in
-  ap (λ k. take k (drop at xs)) none ∙ sym (ap (take len) (drop_all at (take size xs) (omega (arith, past, length-take size xs))) ∙ take_all len [] (omega arith))
+      let none : min (at + len) size - at ≡ 0 = omega (arith, past) in
+      ap (λ k. take k (drop at xs)) none ∙ sym (ap (take len) (drop_all at (take size xs) (omega (arith, past, length-take size xs))) ∙ take_all len [] (omega arith))
   | inr within ↦
-  let whole : size ≡ at + (size - at) = omega (arith, within) in
-  let cut : drop at (take size xs) ≡ take (size - at) (drop at xs) = ap (λ k. drop at (take k xs)) whole ∙ drop-take at (size - at) xs in
-  rest within (cases_lt (size - at) len) ∙ sym (ap (take len) cut)
+      let whole : size ≡ at + (size - at) = omega (arith, within) in
+      let cut : drop at (take size xs) ≡ take (size - at) (drop at xs) = ap (λ k. drop at (take k xs)) whole ∙ drop-take at (size - at) xs in
+      rest within (cases_lt (size - at) len) ∙ sym (ap (take len) cut)
 ]
   where
     rest : at ≤ size → (size - at < len) ⊎ (len ≤ size - at) → take (min (at + len) size - at) (drop at xs) ≡ take len (take (size - at) (drop at xs))
@@ -91,18 +91,30 @@ piece_within at size u some low =
     cover : size ≤ pieces size u * u
     cover = subst (λ c. size ≤ c * u) (pieces_of size u some) (div_ceil_times size u some).0
 
+-- the pieces before a byte that isn't behind the end
+pub before_end : (i at size u : ℕ) → 0 < u → at ≤ size → i < at / u → i < pieces size u
+before_end i at size u some low before =
+    let times : suc i * u ≤ at = (le-div_iff_mul-le some).0 before in
+    let back : i * u / u ≡ i = mul-div_left i some in
+    let less : i * u < size = omega (arith, times, low, some, suc_times i u) in
+    subst (λ n. n < pieces size u) back (piece_within (i * u) size u some less)
+
 -- so far as the end of a piece there are no more pieces
 pub piece_before : (i at d u : ℕ) → 0 < u → at % u + d ≤ u → i < (at + d) / u → (i < at / u) ⊎ (i ≡ at / u)
 piece_before i at d u some small low = rest (cases_lt i (at / u))
   where
     split : at / u * u + at % u ≡ at
     split = div-add-mod' at u
+
     high : suc i * u ≤ at + d
     high = (le-div_iff_mul-le some).0 low
+
     more : i * u < suc (at / u) * u
     more = omega (arith, split, high, small, some, suc_times i u, suc_times (at / u) u)
+
     less : i < suc (at / u)
     less = lt_of_mul-lt-mul_right u more
+
     rest : (i < at / u) ⊎ (at / u ≤ i) → (i < at / u) ⊎ (i ≡ at / u)
     rest (inl before) = inl before
     rest (inr after) = inr (omega (arith, after, less))

@@ -1,7 +1,7 @@
 ghost use Rattle.std.specs.Prelude.{ℕ, ◌≡◌, ◌+◌, ◌-◌, ◌*◌, ◌/◌, ◌<◌, ◌≤◌, ◌++◌, length, take, drop, replicate, IfOk};
 ghost use Rattle.gfs2_layout.specs.Holding.{Holding};
 ghost use Rattle.gfs2_layout.specs.Inode.{unit, carried, content_block, content_count, Fits};
-ghost use Rattle.glock_names.specs.Steps.{IfIs, IfNeedBlock, IfDamaged};
+ghost use Rattle.glock_names.specs.Steps.{IfIs, IfNeedBlock, IfDamaged, OnlyDamaged};
 ghost use Rattle.dinode_tree.specs.Shown.{IsShown};
 ghost use Rattle.dinode_tree.specs.Broken.{IsBroken};
 ghost use Rattle.dinode_tree.specs.Reading.{IsInRange, AreWholeBefore, IsNeeded};
@@ -37,7 +37,7 @@ fn carried_by<'a, V: View>(
     ensures length { IfIs result (λ piece. length piece.now ≡ unit (held inode.now)) }
     ensures carried { (h : Holding) (index : ℕ) → IsShown (V.seen view.now) inode.now.block h → IsLink h index link.now → IfIs result (λ piece. piece.now ≡ carried h (content_block h index)) }
     ensures needed { (h : Holding) (index : ℕ) → IsShown (V.seen view.now) inode.now.block h → IsLink h index link.now → IfNeedBlock result (IsNeeded (V.seen view.now) h (λ i. i ≡ index) 0) }
-    ensures damaged { (h : Holding) (index : ℕ) → IsShown (V.seen view.now) inode.now.block h → IsLink h index link.now → IfDamaged result (IsBroken h) }
+    ensures damaged { (h : Holding) (index : ℕ) → IsShown (V.seen view.now) inode.now.block h → IsLink h index link.now → OnlyDamaged result (IsBroken h) }
 {
     let Some(bytes) = block_of(view, link.block) else {
         return Ok(Step::NeedBlock(missing_block(inode, link)));
@@ -61,7 +61,7 @@ pub(crate) fn piece<'a, V: View>(
     ensures length { IfIs result (λ piece. length piece.now ≡ unit (held inode.now)) }
     ensures carried { (h : Holding) → IsShown (V.seen view.now) inode.now.block h → IfIs result (λ piece. piece.now ≡ carried h (content_block h index)) }
     ensures needed { (h : Holding) → IsShown (V.seen view.now) inode.now.block h → IfNeedBlock result (IsNeeded (V.seen view.now) h (λ i. i ≡ index) 0) }
-    ensures damaged { (h : Holding) → IsShown (V.seen view.now) inode.now.block h → IfDamaged result (IsBroken h) }
+    ensures damaged { (h : Holding) → IsShown (V.seen view.now) inode.now.block h → OnlyDamaged result (IsBroken h) }
 {
     match find(view, inode, index)? {
         Step::Is(Some(link)) => carried_by(view, inode, &link),
@@ -87,7 +87,7 @@ fn part<'a, V: View>(
     ensures read { (h : Holding) → IsShown (V.seen view.now) inode.now.block h → ArePieces h (at / unit h) → IfIs result (λ part. part.now ≡ laid_range h at (at + length part.now)) }
     ensures pieces { (h : Holding) → IsShown (V.seen view.now) inode.now.block h → ArePieces h (at / unit h) → IfIs result (λ part. ArePieces h ((at + length part.now) / unit h)) }
     ensures needed { (h : Holding) → IsShown (V.seen view.now) inode.now.block h → IfNeedBlock result (IsNeeded (V.seen view.now) h (λ i. i ≡ at / unit h) 0) }
-    ensures damaged { (h : Holding) → IsShown (V.seen view.now) inode.now.block h → IfDamaged result (IsBroken h) }
+    ensures damaged { (h : Holding) → IsShown (V.seen view.now) inode.now.block h → OnlyDamaged result (IsBroken h) }
 {
     let unit = inode.unit() as u64;
     match piece(view, inode, at / unit)? {

@@ -28,7 +28,7 @@ impl<'a> Inode<'a> {
     ghost use Rattle.dinode_tree.specs.Reading.{inode_lock};
     ghost use Rattle.dinode_tree.specs.Walking.{held, IsOf};
     ghost use Rattle.dinode_tree.specs.Broken.{IsBroken};
-    ghost use Rattle.glock_names.specs.Steps.{IfDamaged};
+    ghost use Rattle.glock_names.specs.Steps.{OnlyDamaged};
 
     /// Reads a dinode, which is to have its header.
     pub fn read(block: u64, bytes: &'a [u8]) -> Result<Inode<'a>, CallFault>
@@ -36,7 +36,7 @@ impl<'a> Inode<'a> {
         requires most { length bytes.now ≤ 4096 }
         ensures block { IfOk result (λ inode. inode.block ≡ block) }
         ensures bytes { IfOk result (λ inode. inode.bytes.now ≡ bytes.now) }
-        ensures damaged { (h : Holding) → h.own ≡ block → bytes_at h h.own ≡ bytes.now → IfDamaged result (IsBroken h) }
+        ensures damaged { (h : Holding) → h.own ≡ block → bytes_at h h.own ≡ bytes.now → OnlyDamaged result (IsBroken h) }
     {
         if !has_header(bytes, 4, 400) {
             return Err(damaged(block, 1));
@@ -53,7 +53,7 @@ impl<'a> Inode<'a> {
 
     /// That the dinode has its own address and a formal number.
     pub fn check_number(&self) -> Result<(), CallFault>
-        ensures damaged { (h : Holding) → IsOf h self.now → IfDamaged result (IsBroken h) }
+        ensures damaged { (h : Holding) → IsOf h self.now → OnlyDamaged result (IsBroken h) }
     {
         if self.dinode.num.address != self.block {
             return Err(damaged(self.block, 7));
@@ -66,7 +66,7 @@ impl<'a> Inode<'a> {
 
     /// That its mode is that of a directory or a regular file.
     pub fn check_mode(&self) -> Result<(), CallFault>
-        ensures damaged { (h : Holding) → IsOf h self.now → IfDamaged result (IsBroken h) }
+        ensures damaged { (h : Holding) → IsOf h self.now → OnlyDamaged result (IsBroken h) }
     {
         if self.dinode.is_directory() || self.dinode.is_regular() {
             return Ok(());
@@ -77,7 +77,7 @@ impl<'a> Inode<'a> {
     /// That the height is one of 0 to 10, and that the content fits: behind the dinode at height 0, and else below it.
     pub fn check_fits(&self) -> Result<(), CallFault>
         ensures fits { OnOk result (Fits (held self.now)) }
-        ensures damaged { (h : Holding) → IsOf h self.now → IfDamaged result (IsBroken h) }
+        ensures damaged { (h : Holding) → IsOf h self.now → OnlyDamaged result (IsBroken h) }
     {
         if self.dinode.height > 10 {
             return Err(damaged(self.block, 8));
@@ -91,7 +91,7 @@ impl<'a> Inode<'a> {
     fn check_stuffed(&self) -> Result<(), CallFault>
         requires { self.now.dinode.height ≡ 0 }
         ensures fits { OnOk result (Fits (held self.now)) }
-        ensures damaged { (h : Holding) → IsOf h self.now → IfDamaged result (IsBroken h) }
+        ensures damaged { (h : Holding) → IsOf h self.now → OnlyDamaged result (IsBroken h) }
     {
         if self.dinode.size > (self.bytes.len() - IN_DINODE) as u64 {
             return Err(damaged(self.block, 8));
@@ -103,7 +103,7 @@ impl<'a> Inode<'a> {
         requires height { self.now.dinode.height ≡ level + 1 }
         requires low { level ≤ 9 }
         ensures fits { OnOk result (Fits (held self.now)) }
-        ensures damaged { (h : Holding) → IsOf h self.now → IfDamaged result (IsBroken h) }
+        ensures damaged { (h : Holding) → IsOf h self.now → OnlyDamaged result (IsBroken h) }
     {
         let count = self.content_count();
         if count == 0 {

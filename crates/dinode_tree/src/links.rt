@@ -2,7 +2,7 @@ ghost use Rattle.std.specs.Prelude.{ℕ, ◌≡◌, ◌≢◌, ◌-◌, ◌<◌,
 ghost use Rattle.gfs2_layout.specs.Holding.{Holding, bytes_at};
 ghost use Rattle.gfs2_layout.specs.Structures.{is_regular};
 ghost use Rattle.gfs2_layout.specs.Inode.{content_count, Fits};
-ghost use Rattle.glock_names.specs.Steps.{IfIs, IfNeedBlock, IfDamaged};
+ghost use Rattle.glock_names.specs.Steps.{IfIs, IfNeedBlock, OnlyDamaged};
 ghost use Rattle.dinode_tree.specs.Shown.{IsShown};
 ghost use Rattle.dinode_tree.specs.Broken.{IsBroken};
 ghost use Rattle.dinode_tree.specs.Reading.{IsNeeded, inode_lock};
@@ -40,7 +40,7 @@ fn follow(inode: &Inode<'_>, pointer: u64, way: Way) -> Result<Option<Link>, Cal
 fn first_link(inode: &Inode<'_>, index: u64) -> Result<Option<Link>, CallFault>
     ensures least { IfOk result (λ found. IfSome found (λ link. link.way.left ≤ link.way.index)) }
     ensures step { (h : Holding) → IsOf h inode.now → IfOk result (IsStep h index) }
-    ensures damaged { (h : Holding) → IsOf h inode.now → IfDamaged result (IsBroken h) }
+    ensures damaged { (h : Holding) → IsOf h inode.now → OnlyDamaged result (IsBroken h) }
 {
     if inode.dinode.height == 0 {
         return Ok(None);
@@ -88,7 +88,7 @@ fn link_below(inode: &Inode<'_>, bytes: &[u8], link: &Link) -> Result<Option<Lin
     ensures lower { IfOk result (λ found. IfSome found (λ next. next.way.level < link.now.way.level)) }
     ensures least { IfOk result (λ found. IfSome found (λ next. next.way.left ≤ next.way.index)) }
     ensures step { (h : Holding) (index : ℕ) → IsOf h inode.now → bytes_at h link.now.block ≡ bytes.now → IsLink h index link.now → IfOk result (IsStep h index) }
-    ensures damaged { (h : Holding) (index : ℕ) → IsOf h inode.now → bytes_at h link.now.block ≡ bytes.now → IsLink h index link.now → IfDamaged result (IsBroken h) }
+    ensures damaged { (h : Holding) (index : ℕ) → IsOf h inode.now → bytes_at h link.now.block ≡ bytes.now → IsLink h index link.now → OnlyDamaged result (IsBroken h) }
 {
     let level = link.way.level - 1;
     let (k, left) = split(bytes.len(), level, link.way.left);
@@ -117,7 +117,7 @@ fn next_link<V: View>(
     ensures least { IfIs result (λ found. IfSome found (λ next. next.way.left ≤ next.way.index)) }
     ensures step { (h : Holding) (index : ℕ) → IsShown (V.seen view.now) inode.now.block h → IsLink h index link.now → IfIs result (IsStep h index) }
     ensures needed { (h : Holding) (index : ℕ) → IsShown (V.seen view.now) inode.now.block h → IsLink h index link.now → IfNeedBlock result (IsNeeded (V.seen view.now) h (λ i. i ≡ index) 1) }
-    ensures damaged { (h : Holding) (index : ℕ) → IsShown (V.seen view.now) inode.now.block h → IsLink h index link.now → IfDamaged result (IsBroken h) }
+    ensures damaged { (h : Holding) (index : ℕ) → IsShown (V.seen view.now) inode.now.block h → IsLink h index link.now → OnlyDamaged result (IsBroken h) }
 {
     let Some(bytes) = block_of(view, link.block) else {
         return Ok(Step::NeedBlock(missing_block(inode, link)));
@@ -140,7 +140,7 @@ pub(crate) fn find<V: View>(
     ensures level { IfIs result (λ found. IfSome found (λ link. link.way.level ≡ 0)) }
     ensures step { (h : Holding) → IsShown (V.seen view.now) inode.now.block h → IfIs result (IsStep h index) }
     ensures needed { (h : Holding) → IsShown (V.seen view.now) inode.now.block h → IfNeedBlock result (IsNeeded (V.seen view.now) h (λ i. i ≡ index) 1) }
-    ensures damaged { (h : Holding) → IsShown (V.seen view.now) inode.now.block h → IfDamaged result (IsBroken h) }
+    ensures damaged { (h : Holding) → IsShown (V.seen view.now) inode.now.block h → OnlyDamaged result (IsBroken h) }
 {
     let mut link = match first_link(inode, index)? {
         Some(link) => link,

@@ -1,7 +1,7 @@
 ghost use Rattle.std.specs.Prelude.{◌≡◌, None};
 ghost use Rattle.gfs2_layout.specs.Holding.{Holding};
 ghost use Rattle.gfs2_layout.specs.Inode.{Fits};
-ghost use Rattle.glock_names.specs.Steps.{IfIs, IfNeedBlock, IfDamaged};
+ghost use Rattle.glock_names.specs.Steps.{IfIs, IfNeedBlock, OnlyDamaged};
 ghost use Rattle.dinode_tree.specs.Shown.{IsShown};
 ghost use Rattle.dinode_tree.specs.Broken.{IsBroken};
 ghost use Rattle.dinode_tree.specs.Walking.{held, IsIn, missing_dinode};
@@ -17,7 +17,7 @@ pub(crate) fn look<V: View>(view: &V, dinode: u64) -> Result<Step<Inode<'_>>, Ca
     ensures fits { IfIs result (λ inode. Fits (held inode)) }
     ensures needed { IfNeedBlock result (λ missing. missing ≡ missing_dinode dinode) }
     ensures absent { IfNeedBlock result (λ missing. (V.seen view.now).block_at dinode ≡ None) }
-    ensures damaged { (h : Holding) → IsShown (V.seen view.now) dinode h → IfDamaged result (IsBroken h) }
+    ensures damaged { (h : Holding) → IsShown (V.seen view.now) dinode h → OnlyDamaged result (IsBroken h) }
 {
     let Some(bytes) = block_of(view, dinode) else {
         return Ok(Step::NeedBlock(Missing {

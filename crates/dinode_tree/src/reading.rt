@@ -1,7 +1,7 @@
 ghost use Rattle.std.specs.Prelude.{◌≡◌, ◌+◌, min};
 ghost use Rattle.gfs2_layout.specs.Holding.{Holding};
 ghost use Rattle.gfs2_layout.specs.Inode.{Fits};
-ghost use Rattle.glock_names.specs.Steps.{IfIs, IfNeedBlock, IfDamaged};
+ghost use Rattle.glock_names.specs.Steps.{IfIs, IfNeedBlock, IfDamaged, OnlyDamaged};
 ghost use Rattle.dinode_tree.specs.Shown.{IsShown};
 ghost use Rattle.dinode_tree.specs.Broken.{IsBroken};
 ghost use Rattle.dinode_tree.specs.Walking.{held, IsIn};
@@ -23,7 +23,7 @@ fn place_in<V: View>(
     requires { IsIn (V.seen view.now) inode.now }
     ensures found { (h : Holding) → IsShown (V.seen view.now) inode.now.block h → IfIs result (λ found. found ≡ block_at h index) }
     ensures needed { (h : Holding) → IsShown (V.seen view.now) inode.now.block h → IfNeedBlock result (IsNeeded (V.seen view.now) h (λ i. i ≡ index) 1) }
-    ensures damaged { (h : Holding) → IsShown (V.seen view.now) inode.now.block h → IfDamaged result (IsBroken h) }
+    ensures damaged { (h : Holding) → IsShown (V.seen view.now) inode.now.block h → OnlyDamaged result (IsBroken h) }
 {
     match find(view, inode, index)? {
         Step::Is(Some(link)) => Ok(Step::Is(Some(link.block))),
@@ -40,7 +40,7 @@ fn place_in<V: View>(
 pub fn place<V: View>(view: &V, dinode: u64, index: u64) -> Result<Step<Option<u64>>, CallFault>
     ensures found { (h : Holding) → IsShown (V.seen view.now) dinode h → IfIs result (λ found. found ≡ block_at h index) }
     ensures needed { (h : Holding) → IsShown (V.seen view.now) dinode h → IfNeedBlock result (IsNeeded (V.seen view.now) h (λ i. i ≡ index) 1) }
-    ensures damaged { (h : Holding) → IsShown (V.seen view.now) dinode h → IfDamaged result (IsBroken h) }
+    ensures damaged { (h : Holding) → IsShown (V.seen view.now) dinode h → OnlyDamaged result (IsBroken h) }
 {
     match look(view, dinode)? {
         Step::Is(inode) => place_in(view, &inode, index),

@@ -25,3 +25,11 @@ TellsOf P NoMemory = ⊤
 
 abbrev pub IfDamaged : {A : Type 0} → Result A CallFault → (ℕ → ℕ → Type 0) → Type 0
 IfDamaged result P = IfErr result (TellsOf P)
+
+-- the same of a call that takes no memory: there is no other fault
+abbrev pub IsDamage : (ℕ → ℕ → Type 0) → CallFault → Type 0
+IsDamage P (Damaged block rule) = P rule block
+IsDamage P NoMemory = ⊥
+
+abbrev pub OnlyDamaged : {A : Type 0} → Result A CallFault → (ℕ → ℕ → Type 0) → Type 0
+OnlyDamaged result P = IfErr result (IsDamage P)

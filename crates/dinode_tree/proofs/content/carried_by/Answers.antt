@@ -1,7 +1,5 @@
-use Rattle.std.proofs.Common.{◌≡◌, ◌-◌, ◌∙◌, ap, ap₂, sym, arith, length, drop, length-drop}
+use Rattle.std.proofs.Common.{◌-◌, ◌∙◌, ap, sym, arith, length, drop, length-drop}
 use Rattle.std.proofs.lemmas.List.{take_all}
-use Rattle.dinode_tree.specs.Walking.{held}
-use Rattle.gfs2_layout.specs.Inode.{unit}
 use Rattle.dinode_tree.proofs.Dinodes.{lacks}
 use Rattle.dinode_tree.proofs.Pointers.{needed_link}
 use Rattle.dinode_tree.proofs.Pieces.{block_carries, lacks_table}
@@ -14,9 +12,9 @@ returns-in_default-clause-needed g c h index shown is =
 pub returns-then-not-has_header-clause-damaged : goal.returns-then-not-has_header-clause-damaged
 returns-then-not-has_header-clause-damaged g c h index shown is =
     lacks_table (g.V.View.seen c.args.view.now) h c.args.inode.now index c.args.link.now c.in-Some.bytes.now _ shown c.requires.seen is c.requires.content c.in-Some.ensures.some
-        (sym c.is_directory.ensures ∙ c.if-is_directory.true) c.damaged.ensures (lacks c.has_header.result c.has_header.ensures c.if-not-has_header.true)
+    (sym c.is_directory.ensures ∙ c.if-is_directory.true) c.damaged.ensures (lacks c.has_header.result c.has_header.ensures c.if-not-has_header.true)
 
 pub returns-clause-carried : goal.returns-clause-carried
 returns-clause-carried g c h index shown is =
     block_carries (g.V.View.seen c.args.view.now) h c.args.inode.now index c.args.link.now c.in-Some.bytes.now _ shown c.requires.seen is c.requires.content c.in-Some.ensures.some c.in-Some.ensures.size
-        (take_all _ _ (omega (arith, length-drop (length c.in-Some.bytes.now - c.unit.result) c.in-Some.bytes.now)) ∙ ap (λ u. drop (length c.in-Some.bytes.now - u) c.in-Some.bytes.now) c.unit.ensures.value)
+    (take_all _ _ (omega (arith, length-drop (length c.in-Some.bytes.now - c.unit.result) c.in-Some.bytes.now)) ∙ ap (λ u. drop (length c.in-Some.bytes.now - u) c.in-Some.bytes.now) c.unit.ensures.value)

@@ -1,4 +1,4 @@
-use Rattle.std.proofs.Common.{◌≡◌, ◌≤◌}
+use Rattle.std.proofs.Common.{◌≤◌}
 use Rattle.gfs2_layout.specs.Holding.{Holding}
 use Rattle.dinode_tree.specs.Shown.{IsShown}
 use Rattle.dinode_tree.specs.Walking.{IsLink}

@@ -1,4 +1,4 @@
-use Rattle.std.proofs.Common.{◌≡◌, ◌≢◌, ◌-◌, ◌≤◌, suc, length, refl, sym, ap, subst, ◌∙◌, arith}
+use Rattle.std.proofs.Common.{◌≡◌, ◌-◌, ◌≤◌, suc, refl, sym, subst, ◌∙◌, arith}
 use Rattle.gfs2_layout.specs.Inode.{height_in}
 use Rattle.dinode_tree.specs.Reading.{reach}
 use Rattle.dinode_tree.proofs.Dinodes.{height_same}

@@ -1,6 +1,6 @@
 use Rattle.std.proofs.Common.{◌≡◌, ◌-◌, ◌/◌, ◌%◌, ◌≤◌, suc, length, refl, sym, ap, ◌∙◌, arith}
 use Rattle.gfs2_layout.specs.Inode.{span}
-use Rattle.dinode_tree.proofs.Pointers.{next_low, next_none, next_leads, next_link_is, followed, followed_past}
+use Rattle.dinode_tree.proofs.Pointers.{next_none, next_leads, next_link_is, followed, followed_past}
 use Rattle.dinode_tree.proofs.links.link_below.Goals as goal
 
 pub returns-clause-step : goal.returns-clause-step

@@ -1,4 +1,3 @@
-use Rattle.std.proofs.Common.{arith}
 use Rattle.dinode_tree.proofs.Dinodes.{lacks}
 use Rattle.dinode_tree.proofs.Pointers.{lacks_indirect, needed_link}
 use Rattle.dinode_tree.proofs.links.next_link.Goals as goal

@@ -1,4 +1,4 @@
-use Rattle.std.proofs.Common.{◌≡◌, ◌*◌, ◌<◌, ◌≤◌, ◌^◌, ℕ, arith}
+use Rattle.std.proofs.Common.{arith}
 use Rattle.dinode_tree.proofs.Spans.{span_over}
 use Rattle.dinode_tree.proofs.numbers.span.Goals as goal
 

@@ -1,5 +1,4 @@
-use Rattle.std.proofs.Common.{◌≡◌, arith}
-use Rattle.gfs2_layout.specs.Inode.{span}
+use Rattle.std.proofs.Common.{arith}
 use Rattle.dinode_tree.proofs.Spans.{span_some}
 use Rattle.dinode_tree.proofs.numbers.split.Goals as goal
 

@@ -1,4 +1,4 @@
-use Rattle.std.proofs.Common.{◌≡◌, ◌≤◌, ◌+◌, ◌-◌, ◌∙◌, min, sym, length, arith}
+use Rattle.std.proofs.Common.{◌≡◌, ◌-◌, ◌∙◌, sym, arith}
 use Rattle.dinode_tree.specs.Walking.{laid_range}
 use Rattle.dinode_tree.specs.Reading.{content_range, IsInRange}
 use Rattle.dinode_tree.proofs.Dinodes.{height_held, size_held}
@@ -25,12 +25,12 @@ pub returns-clause-found : goal.returns-clause-found
 returns-clause-found g c h shown whole =
     let o = shown_of (g.V.View.seen c.args.view.now) h c.args.inode.now shown c.requires.seen in
     answer_so c.blocks_range.result (λ bytes. bytes.items ≡ laid_range h c.args.at c.end_of-end.result) (λ bytes. bytes.items ≡ content_range h c.args.at c.args.len)
-        (λ bytes is. is ∙ range_is h c.args.at c.args.len c.end_of-end.result (end_is h c.args.inode.now c.args.at c.args.len c.end_of-end.result o c.end_of-end.ensures))
-        (c.blocks_range.ensures.found h shown whole)
+    (λ bytes is. is ∙ range_is h c.args.at c.args.len c.end_of-end.result (end_is h c.args.inode.now c.args.at c.args.len c.end_of-end.result o c.end_of-end.ensures))
+    (c.blocks_range.ensures.found h shown whole)
 
 pub returns-clause-needed : goal.returns-clause-needed
 returns-clause-needed g c h shown =
     needed_so c.blocks_range.result _ _
-        (λ m. needed_for (g.V.View.seen c.args.view.now) h (IsInRange h c.args.at (c.end_of-end.result - c.args.at)) (IsInRange h c.args.at c.args.len) 0 0 m
-        (λ i. in_longer h c.args.at (c.end_of-end.result - c.args.at) c.args.len i (omega (arith, c.end_of-end.ensures))) (omega arith))
-        (c.blocks_range.ensures.needed h shown)
+    (λ m. needed_for (g.V.View.seen c.args.view.now) h (IsInRange h c.args.at (c.end_of-end.result - c.args.at)) (IsInRange h c.args.at c.args.len) 0 0 m
+    (λ i. in_longer h c.args.at (c.end_of-end.result - c.args.at) c.args.len i (omega (arith, c.end_of-end.ensures))) (omega arith))
+    (c.blocks_range.ensures.needed h shown)

@@ -1,4 +1,4 @@
-use Rattle.std.proofs.Common.{arith, length}
+use Rattle.std.proofs.Common.{arith}
 use Rattle.dinode_tree.proofs.Dinodes.{wrong_stuffed, fits_stuffed}
 use Rattle.dinode_tree.proofs.inode.Inode.check_stuffed.Goals as goal
 

@@ -1,7 +1,6 @@
-use Rattle.std.proofs.Common.{◌≡◌, ◌∙◌, ap, ap₂, sym, arith}
-use Rattle.gfs2_layout.specs.Inode.{pieces, unit}
+use Rattle.std.proofs.Common.{◌∙◌, ap, ap₂, sym, arith}
+use Rattle.gfs2_layout.specs.Inode.{pieces}
 use Rattle.gfs2_layout.specs.declared.dinode.Dinode.{Dinode}
-use Rattle.dinode_tree.specs.Walking.{held}
 use Rattle.dinode_tree.proofs.Dinodes.{held_is}
 use Rattle.dinode_tree.proofs.Spans.{pieces_of}
 use Rattle.dinode_tree.proofs.inode.Inode.content_count.Goals as goal
