@@ -8,6 +8,8 @@ mod links;
 mod looks;
 mod numbers;
 mod reading;
+#[cfg(test)]
+mod tests;
 mod ways;
 
 pub use reading::{place, read_range};
