@@ -4,6 +4,7 @@
 mod blocks;
 mod content;
 mod inode;
+mod laws;
 mod links;
 mod looks;
 mod numbers;
@@ -12,4 +13,7 @@ mod reading;
 mod tests;
 mod ways;
 
+pub use laws::{
+    all_blocks_are_shown, every_view_shows_an_inode, sound_inodes_are_shown, sound_inodes_are_whole,
+};
 pub use reading::{place, read_range};
