@@ -26,7 +26,7 @@ pub(crate) struct Inode<'a> {
 impl<'a> Inode<'a> {
     ghost use Rattle.gfs2_layout.specs.Headers.{HasHeader};
     ghost use Rattle.gfs2_layout.specs.Structures.{is_directory, is_regular};
-    ghost use Rattle.gfs2_layout.specs.Inode.{unit, content_count, is_directory_in, Fits};
+    ghost use Rattle.gfs2_layout.specs.Inode.{unit, content_count, Fits};
     ghost use Rattle.dinode_tree.specs.Reading.{inode_lock};
     ghost use Rattle.dinode_tree.specs.Walking.{held, IsOf};
     ghost use Rattle.dinode_tree.specs.Broken.{IsBroken};

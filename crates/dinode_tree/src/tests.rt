@@ -1,7 +1,5 @@
 // Inodes on blocks of 512 bytes, laid out by hand after Linux's gfs2_ondisk.h. A dinode has 35 pointers from byte 232 on,
 // an indirect block 61 from byte 24 on, and a table block of a directory carries 488 bytes from byte 24 on.
-ghost use Rattle.std.specs.Prelude.{◌≡◌};
-
 use crate::{place, read_range};
 use glock_names::{CallFault, Group, LockName, Missing, State, Step, View};
 use std::alloc::{AllocError, Global};
