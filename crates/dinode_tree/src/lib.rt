@@ -1,0 +1,19 @@
+//! The content of inodes, as a function of a view.
+#![tactic(auto)]
+
+mod blocks;
+mod content;
+mod inode;
+mod laws;
+mod links;
+mod looks;
+mod numbers;
+mod reading;
+#[cfg(test)]
+mod tests;
+mod ways;
+
+pub use laws::{
+    all_blocks_are_shown, every_view_shows_an_inode, sound_inodes_are_shown, sound_inodes_are_whole,
+};
+pub use reading::{place, read_range};
