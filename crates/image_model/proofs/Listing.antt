@@ -184,47 +184,15 @@ covered_more im groups k b c d to within reached few next =
       above = omega (arith, rise.0.above, grown, next, behind, few);
     }
 
--- ---- more entries than blocks
+-- ---- groups that fit and rise, each behind all before it
 
--- whether it fits
-fits_or : (im : Image) (g : Rindex) → GroupFits im g ⊎ (GroupFits im g → ⊥)
-fits_or im g = elim (cases_lt (superblock_place im.size) g.address) [
-  | inr low ↦ inr (λ f. omega (arith, f.above, low))
-  | inl above ↦ elim (cases_lt 0 g.length) [
-    | inr none ↦ inr (λ f. omega (arith, f.some, none))
-    | inl some ↦ elim (cases_eq g.data0 (g.address + g.length)) [
-      | inr other ↦ inr (λ f. other f.first)
-      | inl first ↦ elim (cases_eq (g.bitbytes * 4) g.data_blocks) [
-        | inr other ↦ inr (λ f. other f.whole)
-        | inl whole ↦ elim (cases_lt (bitmap_room im.size g.length) g.data_blocks) [
-          | inl high ↦ inr (λ f. omega (arith, f.bits, high))
-          | inr bits ↦ elim (cases_lt im.count (end_of g)) [
-            | inl high ↦ inr (λ f. omega (arith, f.inside, high))
-            | inr inside ↦ inl record { above = above; some = omega (arith, some); first = first; whole = whole; bits = bits; inside = inside }
-          ]
-        ]
-      ]
-    ]
-  ]
-]
-
-module _ (im : Image) (d : ℕ) (is : IsRindex im d) where
-  -- the entries rise, or one breaks the rule of the list
-  rise_or : (groups more : List Rindex) → groups_in (content_of (every im d)) ≡ groups ++ more → RiseFrom im 0 groups → RiseFrom im 0 (groups_in (content_of (every im d))) ⊎ Breaks im 18 d
-  rise_or groups [] all rise = inl (subst (RiseFrom im 0) (sym (all ∙ append-nil groups)) rise)
-  rise_or groups (g ∷ more) all rise = elim (fits_or im g) [
-    | inr lacks ↦ inr (unfit_entry im d is groups more g all lacks)
-    | inl fits ↦ elim (cases_lt g.address (end_after 0 groups)) [
-      | inl early ↦ inr (early_entry im d is groups more g all early)
-      | inr low ↦ rise_or (groups ++ (g ∷ [])) more (one_more _ groups more g all) (rise_more im 0 groups g rise fits low)
-    ]
-  ]
-
-  pub crowded : im.count < length (groups_in (content_of (every im d))) → Breaks im 18 d
-  crowded many = elim (rise_or [] (groups_in (content_of (every im d))) refl tt) [
-    | inr breaks ↦ breaks
-    | inl rise ↦ absurd (omega (arith, many, few_groups im 0 (groups_in (content_of (every im d))) rise (omega arith)))
-  ]
+pub rising : (im : Image) (e : ℕ) (gs : List Rindex) → ((g : Rindex) → IsListed gs g → GroupFits im g)
+    → ((i j : ℕ) (g h : Rindex) → IsGroupAt gs i g → IsGroupAt gs j h → i < j → end_of g ≤ h.address) → ((g : Rindex) → IsListed gs g → e ≤ g.address) → RiseFrom im e gs
+rising im e [] each rise low = tt
+rising im e (g ∷ gs) each rise low =
+    let behind : RiseFrom im (end_of g) gs = rising im (end_of g) gs (λ h at. each h (suc at.0, at.1)) (λ i j h k at at' before. rise (suc i) (suc j) h k at at' (omega (arith, before)))
+    (λ h at. rise 0 (suc at.0) g h refl at.1 (omega arith)) in
+    (each g (0, refl), low g (0, refl), behind)
 
 pub groups_count : (bytes : List ℕ) → length (groups_in bytes) ≡ length bytes / entry_length
 unfolding groups_in

@@ -75,6 +75,7 @@ module _ (im : Image) (owners : Owners) (l : Layout) (laid : IsLaid im owners l)
   laid_breaks_nothing _ _ (Rules.headless j d has none) = system.journal_headed im owners l laid j d has none
   laid_breaks_nothing _ _ (Rules.no_rindex none) = none l.rindex (has_rindex im owners l laid)
   laid_breaks_nothing _ _ (Rules.part_of_entry d is e) = e (system.list_whole im owners l laid d is)
+  laid_breaks_nothing _ _ (Rules.too_many d is many) = absurd (omega (arith, many, system.list_short im owners l laid d is))
   laid_breaks_nothing _ _ (Rules.unfit d g is at not) = not (system.groups_fit im owners l laid d g is at)
   laid_breaks_nothing _ _ (Rules.not_rising d i j g h is at at' low high) = absurd (omega (arith, high, system.groups_rise im owners l laid d i j g h is at at' low))
   laid_breaks_nothing _ _ (Rules.bare b low high none) = system.none_bare im owners l laid b low high none

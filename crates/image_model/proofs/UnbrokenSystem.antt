@@ -17,6 +17,7 @@ use Rattle.image_model.specs.Stands.{Layout, IsLaid}
 use Rattle.image_model.specs.Claims.{every, IsUnder, itself, by_name, IsRindex, HasGroup, HasJournal}
 use Rattle.image_model.specs.Rules.{IsHashedAt}
 use Rattle.image_model.proofs.Held.{none_some}
+use Rattle.image_model.proofs.Listing.{rising, few_groups, groups_count}
 use Rattle.image_model.proofs.Same.{entry_same}
 use Rattle.image_model.proofs.Rows.{sound, dinode_is, hashed_is, entry_part, first_hash_is}
 use Rattle.image_model.proofs.Facts.{has_dinode, under_path, leads_row, rindex_is, rindex_dinode, rindex_file, list_of, listed_group, journal_is}
@@ -62,16 +63,30 @@ module _ (im : Image) (owners : Owners) (l : Layout) (laid : IsLaid im owners l)
 
   -- ---- the list of groups
 
-  pub list_whole : (d : ℕ) → IsRindex im d → (dinode_in (every im d)).size % entry_length ≡ 0
-  list_whole d is =
-      let file = rindex_file im owners l laid in
+  list_size : (d : ℕ) → IsRindex im d → (dinode_in (every im d)).size ≡ length laid.system.groups.0
+  list_size d is =
       let dinode = rindex_dinode im owners l laid in
-      ap (λ a. (dinode_in (every im a)).size % entry_length) (rindex_is im owners l laid d is)
-      ∙ ap (λ n. n % entry_length)
-      (ap (λ (x : Dinode). x.size) (sym (dinode_is im owners l laid l.rindex dinode))
+      ap (λ a. (dinode_in (every im a)).size) (rindex_is im owners l laid d is)
+      ∙ ap (λ (x : Dinode). x.size) (sym (dinode_is im owners l laid l.rindex dinode))
       ∙ sym (length_content im owners large l.rindex dinode (sound im owners l laid l.rindex dinode))
-      ∙ ap length file.1)
-      ∙ laid.system.groups.2.whole
+      ∙ ap length (rindex_file im owners l laid).1
+
+  pub list_whole : (d : ℕ) → IsRindex im d → (dinode_in (every im d)).size % entry_length ≡ 0
+  list_whole d is = ap (λ n. n % entry_length) (list_size d is) ∙ laid.system.groups.2.whole
+
+  -- groups that rise are no more than the device has blocks
+  pub list_short : (d : ℕ) → IsRindex im d → (dinode_in (every im d)).size ≤ entry_length * im.count
+  list_short d is =
+      let listed = laid.system.groups.2 in
+      let rise = rising im 0 l.groups laid.fit.each laid.fit.rise (λ g at. omega arith) in
+      omega (
+        arith,
+        list_size d is,
+        listed.whole,
+        groups_count laid.system.groups.0,
+        ap length listed.listed,
+        few_groups im 0 l.groups rise (omega arith),
+      )
 
   pub groups_fit : (d : ℕ) (g : Rindex) → IsRindex im d → IsListed (groups_in (content_of (every im d))) g → GroupFits im g
   groups_fit d g is at = laid.fit.each g (subst (λ gs. IsListed gs g) (list_of im owners l laid d is) at)

@@ -165,9 +165,10 @@ pub data Breaks (im : Image) : ℕ → ℕ → Type 0 where
   -- 16: a journal has no accepted header; or there is no directory of journals
   no_jindex : ((d : ℕ) → IsJindex im d → ⊥) → Breaks im 16 (master_of im)
   headless : (j d : ℕ) → HasJournal im j d → head_in (ring_of (every im d)) ≡ None → Breaks im 16 d
-  -- 18: the list of groups is missing or has a part of an entry, groups don't fit, rise or lie apart, or a block above the superblock's is in none and isn't one of at most three behind one
+  -- 18: the list of groups is missing, has a part of an entry or more entries than the device has blocks, groups don't fit, rise or lie apart, or a block above the superblock's is in none and isn't one of at most three behind one
   no_rindex : ((d : ℕ) → IsRindex im d → ⊥) → Breaks im 18 (master_of im)
   part_of_entry : (d : ℕ) → IsRindex im d → (dinode_in (every im d)).size % entry_length ≢ 0 → Breaks im 18 d
+  too_many : (d : ℕ) → IsRindex im d → entry_length * im.count < (dinode_in (every im d)).size → Breaks im 18 d
   unfit : (d : ℕ) (g : Rindex) → IsRindex im d → IsListed (groups_in (content_of (every im d))) g → ¬ (GroupFits im g) → Breaks im 18 d
   not_rising : (d i j : ℕ) (g h : Rindex) → IsRindex im d → IsGroupAt (groups_in (content_of (every im d))) i g → IsGroupAt (groups_in (content_of (every im d))) j h
       → i < j → h.address < end_of g → Breaks im 18 d

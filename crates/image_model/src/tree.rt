@@ -67,12 +67,16 @@ fn find_rindex<'a>(walk: &mut Walk<'a>, master: u64) -> Result<Inode<'a>, ImageF
     }
 }
 
-// That the list of groups is whole entries.
+// That the list of groups is whole entries, and no more of them than the device has blocks: so it is short enough to be
+// read.
 fn check_entries(rindex: &Inode<'_>) -> Result<(), ImageFault>
     requires { IsRindex (image_at rindex.now.block.image) rindex.now.block.number }
     ensures damaged { IfErr result (IsTrueOf (image_at rindex.now.block.image)) }
 {
     if rindex.dinode.size % 96 != 0 {
+        return Err(damaged(rindex.block.number, 18));
+    }
+    if rindex.dinode.size / 96 > rindex.block.image.count {
         return Err(damaged(rindex.block.number, 18));
     }
     Ok(())

@@ -1,6 +1,8 @@
 use super::watched::{make_on, ones};
 use crate::MakeOptions;
 use crc_words::crc32;
+use file_tree::Content;
+use image_model::{Image, read_tree};
 use std::process::Abort;
 use std::test::Fail;
 
@@ -150,6 +152,21 @@ fn check(rt: &(impl Abort + AllocGlobal), row: Row) -> Result<(), Fail> {
     let course = make_on(rt, size, device, &[], &options)?;
     assert_eq!(rt; course.end, None, "of {row:?}");
     assert_eq!(rt; crc32(&course.bytes), sum, "of {row:?}");
+    check_empty(rt, size, course.bytes)
+}
+
+// That the image reads as a directory without a name.
+fn check_empty(rt: &(impl Abort + AllocGlobal), size: u32, bytes: Vec<u8>) -> Result<(), Fail> {
+    assert!(rt; size == 512 || size == 1024 || size == 2048 || size == 4096);
+    assert!(rt; bytes.len() % size as usize == 0);
+    let image = Image {
+        block_size: size,
+        bytes: Content::new(bytes),
+    };
+    match read_tree(rt.alloc(), &image) {
+        Ok(tree) => assert!(rt; tree.lacks(b"a") && tree.lacks(b"jindex")),
+        Err(fault) => panic!(rt; "{fault:?}"),
+    }
     Ok(())
 }
 
