@@ -1,13 +1,16 @@
 -- What a sound inode has.
-use Rattle.std.proofs.Common.{◌≡◌, ◌⊎◌, ℕ, zero, suc, ◌+◌, ◌*◌, ◌/◌, ◌%◌, ◌<◌, ◌≤◌, inl, inr, [], Option, Some, None, refl, sym, ap, subst, ◌∙◌, arith}
-use Rattle.std.proofs.lemmas.Bool.{cases_eq}
+use Rattle.std.proofs.Common.{◌≡◌, ◌⊎◌, ℕ, zero, suc, ◌+◌, ◌*◌, ◌/◌, ◌%◌, ◌<◌, ◌≤◌, inl, inr, List, length, replicate, Option, Some, None, refl, sym, ap, subst, ◌∙◌, arith}
+use Rattle.std.proofs.lemmas.Bool.{cases_eq, both_ways}
+use Rattle.std.proofs.lemmas.List.{length-replicate}
 use Rattle.std.proofs.Math.Nat.{mod-lt, div-lt_iff_lt-mul}
 use Rattle.std.specs.Prelude.{IsSome, unwrap_or}
 use Rattle.gfs2_layout.specs.Device.{IsBlockSize}
-use Rattle.gfs2_layout.specs.Holding.{Holding, Cell, Part, Itself, Pointed, cell_part, part_at}
-use Rattle.gfs2_layout.specs.Inode.{Leads, from_dinode, from_block, HasTree, IsInode, height_in, header_length, fan, span, pointer, descend, content_block, content_count}
-use Rattle.gfs2_layout.specs.Structures.{dinode_length}
-use Rattle.glock_names.specs.Views.{Seen}
+use Rattle.gfs2_layout.specs.Headers.{HasHeader}
+use Rattle.gfs2_layout.specs.Holding.{Holding, Cell, Part, Itself, Pointed, cell_part, part_at, bytes_at}
+use Rattle.gfs2_layout.specs.Inode.{Leads, from_dinode, from_block, HasTree, IsInode, dinode_in, is_directory_in, height_in, header_length, fan, span, pointer, descend, content_block, content_count}
+use Rattle.gfs2_layout.specs.Structures.{dinode_length, is_regular}
+use Rattle.glock_names.specs.Views.{Seen, IsView}
+use Rattle.dinode_tree.specs.Broken.{Needs, of_dinode, of_indirect, of_table, IsBroken, no_header, other_address, no_number, no_mode, too_high, too_large_for_dinode, too_large_for_height, past_end}
 use Rattle.dinode_tree.specs.Reading.{reach, block_at, AreWholeBefore}
 use Rattle.dinode_tree.specs.Shown.{IsAsSeen, IsShown}
 use Rattle.dinode_tree.proofs.Pointers.{descend_zero, descend_one, descend_top, none_past, none_at_hole, some_within}
@@ -96,14 +99,47 @@ held_at h i b (suc level) high size sound counted is =
 pub sound_is_whole : (h : Holding) (at : ℕ) → IsBlockSize h.size → IsInode h → AreWholeBefore h at
 sound_is_whole h at size sound i b low counted is = let found = held_at h i b (height_in h) refl size sound counted is in sound.whole b found.0 found.1
 
+-- ---- nothing is broken in it
+
+-- content that a pointer leads to begins before the end
+within_of_led : (h : Holding) (b k level first c : ℕ) → HasTree h → Leads h b k level first c → first < content_count h
+within_of_led h _ _ _ _ _ tree (from_dinode k level high low some) = (tree.top level high k low some).within
+within_of_led h _ _ _ _ _ tree (from_block b k level first c j leads low some) = (tree.inner c b k level first (part_of_led h b k (suc level) first c tree leads) j low some).within
+
+has_needed : (h : Holding) → IsInode h → (b kind format : ℕ) → Needs h b kind format → HasHeader kind format (bytes_at h b)
+has_needed h sound _ _ _ of_dinode = sound.header
+has_needed h sound _ _ _ (of_indirect b k level first x leads) = sound.tree.indirect x b k level first (part_of_led h b k (suc level) first x sound.tree leads)
+has_needed h sound _ _ _ (of_table b k first x leads dir) = sound.tree.table x b k first dir (part_of_led h b k 0 first x sound.tree leads)
+
+pub sound_breaks_nothing : (h : Holding) (rule b : ℕ) → IsInode h → IsBroken h rule b → ⊥
+sound_breaks_nothing h _ _ sound (no_header b kind format needs lacks) = lacks (has_needed h sound b kind format needs)
+sound_breaks_nothing h _ _ sound (other_address other) = other sound.address
+sound_breaks_nothing h _ _ sound (no_number none) = sound.number none
+sound_breaks_nothing h _ _ sound (no_mode no_dir no_file) = elim sound.mode [
+  | inl dir ↦ both_ways (is_directory_in h) no_dir dir
+  | inr file ↦ both_ways (is_regular (dinode_in h)) no_file file
+]
+sound_breaks_nothing h _ _ sound (too_high high) = omega (arith, high, sound.fits.low)
+sound_breaks_nothing h _ _ sound (too_large_for_dinode stuffed large) = omega (arith, large, sound.fits.stuffed stuffed)
+sound_breaks_nothing h _ _ sound (too_large_for_height level high large) = omega (arith, large, sound.fits.under level high)
+sound_breaks_nothing h _ _ sound (past_end b k level first c leads past) = omega (arith, past, within_of_led h b k level first c sound.tree leads)
+
 -- ---- an inode that has all blocks
 
 pub all_is_shown : (v : Seen) (h : Holding) → h.size ≡ v.size → ((b : ℕ) → IsSome (h.cell b)) → IsAsSeen v h → IsShown v h.own h
 all_is_shown v h size all same = record { own = refl; size = size; dinode = all h.own; led_to = λ b k level first c leads. all c; same = same }
 
--- the inode of which each block is what the view has, or empty
+-- the inode of which each block is what the view has, or zeros
 abbrev alone : Seen → ℕ → Holding
-alone v a = record { size = v.size; count = 0; own = a; cell = λ b. Some (record { part = Itself; bytes = unwrap_or (v.block_at b) [] }) }
+alone v a = record { size = v.size; count = 0; own = a; cell = λ b. Some (record { part = Itself; bytes = unwrap_or (v.block_at b) (replicate v.size 0) }) }
 
-pub some_is_shown : (v : Seen) (a : ℕ) → (h : Holding) × IsShown v a h
-some_is_shown v a = (alone v a, all_is_shown v (alone v a) refl (λ b. refl) (λ b bytes there is. ap (λ o. unwrap_or o []) is))
+alone_is_whole : (v : Seen) (a at : ℕ) → IsView v → AreWholeBefore (alone v a) at
+alone_is_whole v a at view i b low counted is = each (v.block_at b) refl
+  where
+    each : (o : Option (List ℕ)) → v.block_at b ≡ o → length (unwrap_or o (replicate v.size 0)) ≡ v.size
+    each None is = length-replicate v.size 0
+    each (Some bytes) is = view.whole b bytes is
+
+pub some_is_shown : (v : Seen) (a : ℕ) → (h : Holding) × (IsShown v a h × (IsView v → (at : ℕ) → AreWholeBefore h at))
+some_is_shown v a =
+    (alone v a, (all_is_shown v (alone v a) refl (λ b. refl) (λ b bytes there is. ap (λ o. unwrap_or o (replicate v.size 0)) is), λ view at. alone_is_whole v a at view))
