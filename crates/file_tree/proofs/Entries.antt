@@ -29,33 +29,6 @@ held_more all xs i e d below same name tree =
     entries_held-append all (e ∷ []) ∙ (λ k. joined (same k) (entry (name k) (tree k) none))
     ∙ sym (entries_held-append (take i xs) (get_or xs i d ∷ [])) ∙ ap entries_held (sym (take_more xs i d below))
 
--- ---- the place of a new name
-
--- past an entry that is below the name
-pub place_on : (es : List Entry) (i : ℕ) (name : List ℕ) (d : Entry) → i < length es → name_order name (get_or es i d).name ≡ Greater
-    → ((k : ℕ) → IsPlace (drop i es) k name → IsPlace es (i + k) name) → (k : ℕ) → IsPlace (drop (i + 1) es) k name → IsPlace es (i + 1 + k) name
-place_on es i name d below greater so k here =
-    let front : drop i es ≡ get_or es i d ∷ drop (i + 1) es = drop_more es i d below in
-    let P : List Entry → Type 0 = λ ds. IsPlace ds (suc k) name in
-    let one : IsPlace (drop i es) (suc k) name = subst P (sym front) (greater, here) in
-    let Q : ℕ → Type 0 = λ n. IsPlace es n name in
-    let same : i + suc k ≡ i + 1 + k = omega arith in
-    subst Q same (so (suc k) one)
-
-pub absent_on : (es : List Entry) (i : ℕ) (name : List ℕ) (d : Entry) → i < length es → name_order name (get_or es i d).name ≡ Greater
-    → look (entries_held (drop i es)) name ≡ None → look (entries_held (drop (i + 1) es)) name ≡ None
-absent_on es i name d below greater absent =
-    let front : drop i es ≡ get_or es i d ∷ drop (i + 1) es = drop_more es i d below in
-    let here = subst (λ (ds : List Entry). look (entries_held ds) name ≡ None) front absent in
-    rw greater at here
-
--- past the last entry
-pub place_at_end : (es : List Entry) (i : ℕ) (name : List ℕ) → length es ≤ i → ((k : ℕ) → IsPlace (drop i es) k name → IsPlace es (i + k) name) → IsPlace es i name
-place_at_end es i name past so =
-    let P : List Entry → Type 0 = λ ds. IsPlace ds 0 name in
-    let Q : ℕ → Type 0 = λ n. IsPlace es n name in
-    subst Q (omega arith) (so 0 (subst P (sym (drop_all i es past)) tt))
-
 -- an entry put at its place
 pub held_put : (es : List Entry) (place : ℕ) (e : Entry) → IsPlace es place e.name → entries_held (insert es place e) ≡ set (entries_held es) e.name e.tree
 held_put [] zero e here = refl

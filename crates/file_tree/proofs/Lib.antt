@@ -1,4 +1,5 @@
 pub mod Entries
+pub mod Places
 pub mod MapLaws
 pub mod NameLists
 pub mod Texts

@@ -1,11 +1,10 @@
-ghost use Rattle.std.specs.Prelude.{◌≡◌, ◌≤◌, length, IfOk, OnOk, OnErr, None};
+ghost use Rattle.std.specs.Prelude.{◌≡◌, ◌≢◌, ◌≤◌, ◌↔◌, length, IfOk, IfErr, OnOk, OnErr, None, IsTrue};
 ghost use Rattle.file_tree.specs.Tree.{file, dir, none, look, set, IsDir};
 ghost use Rattle.file_tree.specs.Apply.{entries_of};
-ghost use Rattle.file_tree.specs.Held.{entries_held, IsPlace};
+ghost use Rattle.file_tree.specs.Held.{entries_held, IsPlace, NamesRise};
 
 use crate::{Content, Name, NoMemory};
 use std::alloc::Global;
-use std::cmp::Ordering;
 use std::marker::Model;
 
 /// A file, or a directory with its names in rising byte order.
@@ -41,6 +40,10 @@ impl Model for Tree {
 
     ghost view = { λ t. tree_held t.node };
 
+    ghost use Rattle.file_tree.specs.Held.{NodeRises};
+
+    ghost invariant = { λ t. NodeRises t.node };
+
     ghost size = { node_count };
 
     ghost use Rattle.file_tree.specs.TreeFalls.{depth_le-node_count};
@@ -67,8 +70,8 @@ impl Tree {
         }
     }
 
-    /// Adds a name with this tree, and all else stays. It goes over the directory's names, of which
-    /// this one is not.
+    /// Adds a name with this tree, and all else stays. It finds the name's place by halving, and moves the
+    /// names behind it.
     pub fn put(&mut self, name: Name, tree: Tree) -> Result<(), NoMemory>
         requires directory { IsDir self.old }
         requires absent { look (entries_of self.old) name ≡ None }
@@ -82,30 +85,43 @@ impl Tree {
     }
 }
 
-// Where in the order a new name belongs.
-fn place_of(entries: &[Entry], name: &[u8]) -> usize
-    requires { look (entries_held entries.now) name.now ≡ None }
-    ensures place { IsPlace entries.now result name.now }
-    ensures within { result ≤ length entries.now }
-{
-    let mut place = 0;
-    for entry in entries {
-        match name.cmp(entry.name.bytes()) {
-            Ordering::Greater => place += 1,
-            Ordering::Equal | Ordering::Less => return place,
+impl Tree {
+    /// Whether this is a directory that has no such name. It finds the name's place by halving.
+    pub fn lacks(&self, name: &[u8]) -> bool
+        ensures { IsTrue result ↔ IsDir self.now × (look (entries_of self.now) name.now ≡ None) }
+    {
+        match &self.node {
+            Node::File(_) => false,
+            Node::Dir(entries) => place_of(entries, name).is_err(),
         }
     }
-    place
+}
+
+// Where a name is among the entries, or where it would go.
+fn place_of(entries: &[Entry], name: &[u8]) -> Result<usize, usize>
+    requires { NamesRise (entries_held entries.now) }
+    ensures there { IfOk result (λ _. look (entries_held entries.now) name.now ≢ None) }
+    ensures absent { IfErr result (λ _. look (entries_held entries.now) name.now ≡ None) }
+    ensures place { IfErr result (λ place. IsPlace entries.now place name.now) }
+    ensures within { IfErr result (λ place. place ≤ length entries.now) }
+{
+    entries.binary_search_by(|entry| entry.name.bytes().cmp(name))
 }
 
 fn put_entry(entries: &mut Vec<Entry>, name: Name, tree: Tree) -> Result<(), NoMemory>
-    requires { look (entries_held entries.old.items) name ≡ None }
+    requires rise { NamesRise (entries_held entries.old.items) }
+    requires absent { look (entries_held entries.old.items) name ≡ None }
     ensures ok { OnOk result (entries_held entries.new.items ≡ set (entries_held entries.old.items) name tree) }
+    ensures rise { NamesRise (entries_held entries.new.items) }
     ensures err { OnErr result (entries.new.items ≡ entries.old.items) }
 {
-    let place = place_of(entries, name.bytes());
-    entries.insert(place, Entry { name, tree })?;
-    Ok(())
+    match place_of(entries, name.bytes()) {
+        Ok(_) => unreachable!(),
+        Err(place) => {
+            entries.insert(place, Entry { name, tree })?;
+            Ok(())
+        }
+    }
 }
 
 impl Tree {

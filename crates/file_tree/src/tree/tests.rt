@@ -54,3 +54,20 @@ fn names_go_to_their_places(rt: HostRuntime) -> Result<(), Fail> {
     );
     Ok(())
 }
+
+#[test]
+fn names_that_are_not_there_are_lacked(rt: HostRuntime) -> Result<(), Fail> {
+    let tree = directory(rt.alloc())?;
+    for name in [b"a", b"b", b"c"] {
+        assert!(rt; !tree.lacks(name.as_slice()));
+    }
+    for name in [b"A", b"d", b"z"] {
+        assert!(rt; tree.lacks(name.as_slice()));
+    }
+    for name in [b"aa", b"bz"] {
+        assert!(rt; tree.lacks(name.as_slice()));
+    }
+    assert!(rt; tree.lacks(b"".as_slice()));
+    assert!(rt; !Tree::file(Content::new(Vec::new(rt.alloc()))).lacks(b"a".as_slice()));
+    Ok(())
+}

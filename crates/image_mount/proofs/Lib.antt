@@ -1,0 +1,9 @@
+pub mod KeptLaws
+pub mod Causes
+pub mod Stops
+pub mod Supers
+pub mod Shown
+pub mod Steps
+pub mod Areas
+pub mod Twice
+pub mod Working

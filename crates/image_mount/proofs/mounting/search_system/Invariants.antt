@@ -1,0 +1,14 @@
+use Rattle.std.proofs.Common.{◌≡◌, ◌≤◌, ℕ}
+use Rattle.image_mount.specs.Searching.{IsWorking}
+use Rattle.image_mount.proofs.mounting.search_system.Given as goal
+
+abbrev pub invariant-loop-system : goal.invariant-loop-system
+invariant-loop-system g l = record {
+  work : IsWorking (g.D.SharedDisk.state l.disk) l.table;
+  same : g.D.SharedDisk.state l.disk ≡ g.D.SharedDisk.state l.initial.disk;
+  list : g.D.SharedDisk.list l.disk ≡ g.D.SharedDisk.list l.initial.disk;
+  later : (j : ℕ) → g.D.SharedDisk.faults l.initial.disk j ≤ g.D.SharedDisk.faults l.disk j;
+}
+
+abbrev pub decreases-loop-system : goal.decreases-loop-system
+decreases-loop-system g l = l.table.left

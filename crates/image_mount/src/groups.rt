@@ -1,0 +1,192 @@
+ghost use Rattle.std.specs.Prelude.{ℕ, ◌≡◌, ◌+◌, ◌-◌, ◌*◌, ◌/◌, ◌%◌, ◌^◌, ◌<◌, ◌≤◌, ◌↔◌, min, false, length, map, IsTrue, IfOk, IfErr, OnOk};
+ghost use Rattle.std.specs.List.{All};
+ghost use Rattle.image_model.specs.Groups.{GroupFits, GroupsFit, IsDataOf, end_of as first_behind, groups_in};
+ghost use Rattle.image_model.specs.Image.{Image};
+ghost use Rattle.image_model.specs.Profile.{group_length};
+ghost use Rattle.image_mount.specs.Searching.{IsSteady, LacksBlock};
+
+use crate::fault::MountFault;
+use crate::field::Field;
+use crate::formats::superblock_place;
+use crate::inodes::Inode;
+use crate::stop::{Stop, damaged, outside, reads};
+use crate::table::Table;
+use dinode_tree::read_range;
+use gfs2_layout::Rindex;
+use glock_names::{Entry, Step, View};
+use std::alloc::Global;
+
+// How many bytes an entry of the list of groups has.
+const ENTRY: usize = 96;
+
+/// A device: how many bytes a block has, and how many blocks there are.
+#[derive(Clone, Copy)]
+pub(crate) struct Device {
+    pub size: u32,
+    pub count: u64,
+    ghost least: { 512 ≤ size },
+    ghost most: { size ≤ 4096 },
+}
+
+// The first block behind a group's data blocks, or the greatest number where it is more.
+fn end_of(group: &Rindex) -> u64
+    ensures { result ≡ min (first_behind group.now) (2 ^ 64 - 1) }
+{
+    group.data0.saturating_add(u64::from(group.data_blocks))
+}
+
+/// Whether the block is a data block of one of the groups.
+pub(crate) fn is_data(groups: &[Rindex], block: u64) -> bool
+    requires { block + 1 < 2 ^ 64 }
+    ensures { result ≡ false → All (λ g. ¬ (IsDataOf g block)) groups.now }
+{
+    for group in groups {
+        if group.data0 <= block && block < end_of(group) {
+            return true;
+        }
+    }
+    false
+}
+
+// Whether a group lies on the device, above the superblock, and its bitmap has bits for its data blocks.
+fn fits(device: &Device, group: &Rindex) -> bool
+    ensures { (im : Image) → device.now.size ≡ im.size → device.now.count ≡ im.count → IsTrue result ↔ GroupFits im group.now }
+{
+    let size = u64::from(device.size);
+    if group.address <= superblock_place(device.size) || group.length == 0 {
+        return false;
+    }
+    if group.data0 != group.address.saturating_add(u64::from(group.length)) {
+        return false;
+    }
+    if end_of(group) > device.count {
+        return false;
+    }
+    let blocks = u64::from(group.data_blocks);
+    let more = u64::from(group.length) - 1;
+    let room = 4 * (size - 128 + more * (size - 24));
+    u64::from(group.bitbytes) * 4 == blocks && blocks <= room
+}
+
+// The whole entries of the list.
+fn read_entries(alloc: Global, content: &[u8]) -> Result<Vec<Rindex>, MountFault>
+    ensures found { IfOk result (λ groups. groups.items ≡ groups_in content.now) }
+    ensures most { IfOk result (λ groups. length groups.items * 96 ≤ length content.now) }
+    ensures steady { IfErr result IsSteady }
+{
+    let mut groups = Vec::new(alloc);
+    let mut rest = content;
+    while let Ok(group) = Rindex::read(rest) {
+        groups.push(group)?;
+        rest = &rest[ENTRY..];
+    }
+    Ok(groups)
+}
+
+// That the groups fit, and rise without overlapping.
+fn check_rise(device: &Device, groups: &[Rindex], list: u64) -> Result<(), MountFault>
+    ensures steady { IfErr result IsSteady }
+{
+    let mut end = 0;
+    for group in groups {
+        if !fits(device, group) || group.address < end {
+            return Err(damaged(list, 18));
+        }
+        end = end_of(group);
+    }
+    Ok(())
+}
+
+// That each block above the superblock is near a group: at most three behind each belong to nobody.
+fn check_cover(device: &Device, groups: &[Rindex]) -> Result<(), MountFault>
+    ensures steady { IfErr result IsSteady }
+{
+    let mut bare = superblock_place(device.size) + 1;
+    for group in groups {
+        if bare < group.address {
+            return Err(damaged(bare, 18));
+        }
+        bare = end_of(group).saturating_add(3);
+    }
+    if bare < device.count {
+        return Err(damaged(bare, 18));
+    }
+    Ok(())
+}
+
+// How many blocks the headers and bitmaps of at most 64 groups have.
+fn count_headers(groups: &[Rindex]) -> u64
+    requires { length groups.now ≤ 64 }
+    ensures { result ≡ group_length groups.now }
+{
+    let mut count = 0;
+    for group in groups {
+        count += u64::from(group.length);
+    }
+    count
+}
+
+// That the groups fit the device and the profile. The dinode of their list is in block `list`.
+fn check_groups(device: &Device, groups: &[Rindex], list: u64) -> Result<(), MountFault>
+    requires { length groups.now ≤ 64 }
+    ensures steady { IfErr result IsSteady }
+{
+    check_rise(device, groups, list)?;
+    check_cover(device, groups)?;
+    let headers = count_headers(groups);
+    if headers > 128 {
+        return Err(outside(Field::GroupBlocks, headers));
+    }
+    Ok(())
+}
+
+// How many bytes the list has, which has one to 64 whole entries.
+fn list_length(inode: &Inode, size: u32) -> Result<u32, MountFault>
+    requires { 512 ≤ size }
+    ensures most { IfOk result (λ bytes. bytes ≤ 6144) }
+    ensures steady { IfErr result IsSteady }
+{
+    let bytes = inode.dinode.size;
+    if bytes % ENTRY as u64 != 0 {
+        return Err(damaged(inode.block, 18));
+    }
+    let count = bytes / ENTRY as u64;
+    if count == 0 || count > 64 {
+        return Err(outside(Field::Groups, count));
+    }
+    if inode.dinode.is_directory() {
+        inode.check_linear(size)?;
+    }
+    Ok(bytes as u32)
+}
+
+// The content of the list.
+fn read_list(alloc: Global, table: &Table, inode: &Inode, bytes: u32) -> Result<Vec<u8>, Stop>
+    ensures length { IfOk result (λ content. length content.items ≤ bytes) }
+    ensures lacks { IfErr result (LacksBlock table.now) }
+{
+    match read_range(alloc, table, inode.block, 0, bytes)? {
+        Step::Is(content) => Ok(content),
+        Step::NeedBlock(missing) => Err(reads(&missing)),
+    }
+}
+
+/// The groups that are listed in the file `rindex`, on a device of so many blocks.
+pub(crate) fn list_groups(
+    alloc: Global,
+    table: &Table,
+    count: u64,
+    master: u64,
+    rindex: &Entry,
+) -> Result<Vec<Rindex>, Stop>
+    ensures lacks { IfErr result (LacksBlock table.now) }
+{
+    let size = table.block_size();
+    let inode = Inode::read(table, master, rindex.addr)?;
+    inode.check_record(rindex)?;
+    let bytes = list_length(&inode, size)?;
+    let content = read_list(alloc, table, &inode, bytes)?;
+    let groups = read_entries(alloc, &content)?;
+    check_groups(&Device { size, count }, &groups, inode.block)?;
+    Ok(groups)
+}
