@@ -5,3 +5,4 @@ pub mod Stepping
 pub mod Ranges
 pub mod Pieces
 pub mod ReadDinodes
+pub mod Sound
