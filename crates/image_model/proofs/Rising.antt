@@ -12,7 +12,7 @@ abbrev pub Rising : List ℕ → Type 0
 Rising [] = ⊤
 Rising (x ∷ xs) = AllByRecursion (λ y. x < y) xs × Rising xs
 
-all_above : (x y : ℕ) (xs : List ℕ) → x < y → AllByRecursion (λ z. y < z) xs → AllByRecursion (λ z. x < z) xs
+pub all_above : (x y : ℕ) (xs : List ℕ) → x < y → AllByRecursion (λ z. y < z) xs → AllByRecursion (λ z. x < z) xs
 all_above x y [] low all = tt
 all_above x y (z ∷ zs) low all = (omega (arith, low, all.0), all_above x y zs low all.1)
 
@@ -24,7 +24,7 @@ rising (x ∷ y ∷ ys) is =
     let first : x < y = is 0 (omega arith) in
     ((first, all_above x y ys first more.0), more)
 
-all_of : {X : Type 0} (P : X → Type 0) (xs : List X) → ((x : X) → IsIn x xs → P x) → AllByRecursion P xs
+pub all_of : {X : Type 0} (P : X → Type 0) (xs : List X) → ((x : X) → IsIn x xs → P x) → AllByRecursion P xs
 all_of P [] each = tt
 all_of P (x ∷ xs) each = (each x (inl refl), all_of P xs (λ y h. each y (inr h)))
 
