@@ -7,3 +7,9 @@ pub mod Steps
 pub mod Areas
 pub mod Twice
 pub mod Working
+pub mod Names
+pub mod Marks
+pub mod Heads
+pub mod JournalNames
+pub mod Accepts
+pub mod Places

@@ -4,3 +4,5 @@ pub mod Mounted
 pub mod Table
 pub mod Searching
 pub mod Listing
+pub mod System
+pub mod Rings
