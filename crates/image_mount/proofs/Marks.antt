@@ -152,11 +152,11 @@ marked_more im done d n m old new b is entries low place known = record {
 
 module _ (im : Image) (done : List ℕ) (system : System) (journal : Entry) (next : IsNext im done system journal) where
   format : HasFormat im
-  format = next.journal.names.groups.list.master.format
+  format = next.named.names.groups.list.master.format
 
   pub place_claim : (place : ℕ) (located : Located) (at : IsPlaceAt im journal.addr place located) → Claims im located.from located.block (Below journal.addr located.from at.leads.0 0 place)
   place_claim place located at =
-      below system.jindex journal.addr (Named system.jindex (journal_name next.journal.index)) located.from at.leads.0 0 place located.block next.journal.named.claimed refl at.leads.1
+      below system.jindex journal.addr (Named system.jindex (journal_name next.named.index)) located.from at.leads.0 0 place located.block next.named.named.claimed refl at.leads.1
 
   pub place_beyond : (f : MountFault) (place : ℕ) (located : Located) → f ≡ fault.Damaged located.from 2 → IsPlaceAt im journal.addr place located → im.count ≤ located.block → RefusesRightly im f
   place_beyond f place located is at high =

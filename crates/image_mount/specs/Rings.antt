@@ -53,8 +53,8 @@ pub record IsJournalIn (im : Image) (jindex : ℕ) (journal : Entry) : Type 0 wh
 
 -- a journal that is looked for next, after those whose dinodes are in these blocks
 pub record IsNext (im : Image) (done : List ℕ) (system : System) (journal : Entry) : Type 0 where
-  pub system : IsSystemOf im system
-  pub journal : IsJournalIn im system.jindex journal
+  pub looked : IsSystemOf im system
+  pub named : IsJournalIn im system.jindex journal
   pub plain : ¬ (IsRindex im journal.addr)
   pub new : ¬ (Contains done journal.addr)
 
@@ -79,7 +79,7 @@ pub record AreBlocksOf (im : Image) (d n : ℕ) (blocks : List ℕ) : Type 0 whe
 -- the blocks at all places of the journal with its dinode in block d
 pub record IsRingOf (im : Image) (d : ℕ) (blocks : List ℕ) : Type 0 where
   pub places : HasPlaces im d (ring_of (every im d)).places
-  pub blocks : AreBlocksOf im d (ring_of (every im d)).places blocks
+  pub are : AreBlocksOf im d (ring_of (every im d)).places blocks
 
 -- each of these journals has its ring
 pub record AreRings (im : Image) (journals : List Entry) (rings : List Ring) : Type 0 where
@@ -88,7 +88,7 @@ pub record AreRings (im : Image) (journals : List Entry) (rings : List Ring) : T
 
 -- what is mounted of a journal, whose sequence is one of the profile
 pub record IsLowJournal (im : Image) (journal : Journal) : Type 0 where
-  pub journal : IsJournalOf im journal.dinode journal
+  pub is : IsJournalOf im journal.dinode journal
   pub low : journal.head.sequence < 2 ^ 63
 
 -- each of these rings has its journal

@@ -3,6 +3,7 @@ ghost use Rattle.std.specs.List.{All};
 ghost use Rattle.gfs2_layout.specs.Device.{superblock_place};
 ghost use Rattle.gfs2_layout.specs.Inode.{Fits};
 ghost use Rattle.gfs2_layout.specs.Journal.{accepted as accepted_at, better as better_of, head_in};
+ghost use Rattle.shared_disk.specs.Disk.{IsIdle};
 ghost use Rattle.glock_names.specs.declared.steps.Entry.{Entry as EntryValue};
 ghost use Rattle.image_model.specs.Claims.{every};
 ghost use Rattle.image_model.specs.Image.{Image, image_of};
