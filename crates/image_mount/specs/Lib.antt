@@ -4,3 +4,4 @@ pub mod Mounted
 pub mod Table
 pub mod Searching
 pub mod Listing
+pub mod Groups
