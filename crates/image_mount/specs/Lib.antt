@@ -4,5 +4,6 @@ pub mod Mounted
 pub mod Table
 pub mod Searching
 pub mod Listing
+pub mod Groups
 pub mod System
 pub mod Rings

@@ -1,9 +1,16 @@
 ghost use Rattle.std.specs.Prelude.{ℕ, ◌≡◌, ◌+◌, ◌-◌, ◌*◌, ◌/◌, ◌%◌, ◌^◌, ◌<◌, ◌≤◌, ◌↔◌, min, false, length, map, IsTrue, IfOk, IfErr, OnOk};
 ghost use Rattle.std.specs.List.{All};
+ghost use Rattle.gfs2_layout.specs.Inode.{dinode_in, content_of};
+ghost use Rattle.image_model.specs.Claims.{every, HasInode};
 ghost use Rattle.image_model.specs.Groups.{GroupFits, GroupsFit, IsDataOf, end_of as first_behind, groups_in};
 ghost use Rattle.image_model.specs.Image.{Image};
+ghost use Rattle.image_model.specs.Listing.{RiseFrom};
 ghost use Rattle.image_model.specs.Profile.{group_length};
-ghost use Rattle.image_mount.specs.Searching.{IsSteady, LacksBlock};
+ghost use Rattle.image_model.specs.Stands.{Layout};
+ghost use Rattle.image_mount.specs.Found.{HasFormat, HasMaster};
+ghost use Rattle.image_mount.specs.Groups.{IsListEntry, IsListOf, AreGroups};
+ghost use Rattle.image_mount.specs.Refusals.{RefusesRightly};
+ghost use Rattle.image_mount.specs.Searching.{IsRead, IsSteady, StopsRightly, LacksBlock};
 
 use crate::fault::MountFault;
 use crate::field::Field;
@@ -85,11 +92,16 @@ fn read_entries(alloc: Global, content: &[u8]) -> Result<Vec<Rindex>, MountFault
 
 // That the groups fit, and rise without overlapping.
 fn check_rise(device: &Device, groups: &[Rindex], list: u64) -> Result<(), MountFault>
+    ensures rise { (im : Image) → IsListOf im device.now list groups.now → OnOk result (RiseFrom im 0 groups.now) }
+    ensures refused { (im : Image) → IsListOf im device.now list groups.now → IfErr result (RefusesRightly im) }
     ensures steady { IfErr result IsSteady }
 {
     let mut end = 0;
     for group in groups {
-        if !fits(device, group) || group.address < end {
+        if !fits(device, group) {
+            return Err(damaged(list, 18));
+        }
+        if group.address < end {
             return Err(damaged(list, 18));
         }
         end = end_of(group);
@@ -99,6 +111,8 @@ fn check_rise(device: &Device, groups: &[Rindex], list: u64) -> Result<(), Mount
 
 // That each block above the superblock is near a group: at most three behind each belong to nobody.
 fn check_cover(device: &Device, groups: &[Rindex]) -> Result<(), MountFault>
+    ensures fit { (im : Image) (list : ℕ) → IsListOf im device.now list groups.now → RiseFrom im 0 groups.now → OnOk result (GroupsFit im groups.now) }
+    ensures refused { (im : Image) (list : ℕ) → IsListOf im device.now list groups.now → RiseFrom im 0 groups.now → IfErr result (RefusesRightly im) }
     ensures steady { IfErr result IsSteady }
 {
     let mut bare = superblock_place(device.size) + 1;
@@ -129,6 +143,9 @@ fn count_headers(groups: &[Rindex]) -> u64
 // That the groups fit the device and the profile. The dinode of their list is in block `list`.
 fn check_groups(device: &Device, groups: &[Rindex], list: u64) -> Result<(), MountFault>
     requires { length groups.now ≤ 64 }
+    ensures fit { (im : Image) → IsListOf im device.now list groups.now → OnOk result (GroupsFit im groups.now) }
+    ensures short { OnOk result (group_length groups.now ≤ 128) }
+    ensures refused { (im : Image) → IsListOf im device.now list groups.now → 1 ≤ length groups.now → IfErr result (RefusesRightly im) }
     ensures steady { IfErr result IsSteady }
 {
     check_rise(device, groups, list)?;
@@ -143,7 +160,11 @@ fn check_groups(device: &Device, groups: &[Rindex], list: u64) -> Result<(), Mou
 // How many bytes the list has, which has one to 64 whole entries.
 fn list_length(inode: &Inode, size: u32) -> Result<u32, MountFault>
     requires { 512 ≤ size }
+    ensures value { IfOk result (λ bytes. bytes ≡ inode.now.dinode.size) }
+    ensures whole { OnOk result (inode.now.dinode.size % 96 ≡ 0) }
+    ensures least { IfOk result (λ bytes. 96 ≤ bytes) }
     ensures most { IfOk result (λ bytes. bytes ≤ 6144) }
+    ensures refused { (im : Image) (l : Layout) → HasMaster im l → l.rindex ≡ inode.now.block → inode.now.dinode ≡ dinode_in (every im inode.now.block) → size ≡ im.size → IfErr result (RefusesRightly im) }
     ensures steady { IfErr result IsSteady }
 {
     let bytes = inode.dinode.size;
@@ -162,7 +183,10 @@ fn list_length(inode: &Inode, size: u32) -> Result<u32, MountFault>
 
 // The content of the list.
 fn read_list(alloc: Global, table: &Table, inode: &Inode, bytes: u32) -> Result<Vec<u8>, Stop>
-    ensures length { IfOk result (λ content. length content.items ≤ bytes) }
+    ensures found { (im : Image) → IsRead im table.now → (dinode_in (every im inode.now.block)).size ≡ bytes → IfOk result (λ content. content.items ≡ content_of (every im inode.now.block)) }
+    ensures length { (im : Image) → IsRead im table.now → (dinode_in (every im inode.now.block)).size ≡ bytes → IfOk result (λ content. length content.items ≡ bytes) }
+    ensures most { IfOk result (λ content. length content.items ≤ bytes) }
+    ensures stops { (im : Image) → IsRead im table.now → HasInode im inode.now.block → HasFormat im → IfErr result (StopsRightly im) }
     ensures lacks { IfErr result (LacksBlock table.now) }
 {
     match read_range(alloc, table, inode.block, 0, bytes)? {
@@ -171,7 +195,8 @@ fn read_list(alloc: Global, table: &Table, inode: &Inode, bytes: u32) -> Result<
     }
 }
 
-/// The groups that are listed in the file `rindex`, on a device of so many blocks.
+/// The groups that are listed in the file `rindex`, to which a record of the master directory leads, on a device of so
+/// many blocks.
 pub(crate) fn list_groups(
     alloc: Global,
     table: &Table,
@@ -179,6 +204,9 @@ pub(crate) fn list_groups(
     master: u64,
     rindex: &Entry,
 ) -> Result<Vec<Rindex>, Stop>
+    ensures found { (im : Image) → IsRead im table.now → count ≡ im.count → IsListEntry im master rindex.now → IfOk result (λ groups. AreGroups im rindex.now.addr groups.items) }
+    ensures length { IfOk result (λ groups. length groups.items ≤ 64) }
+    ensures stops { (im : Image) → IsRead im table.now → count ≡ im.count → IsListEntry im master rindex.now → IfErr result (StopsRightly im) }
     ensures lacks { IfErr result (LacksBlock table.now) }
 {
     let size = table.block_size();
