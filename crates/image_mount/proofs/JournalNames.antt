@@ -46,10 +46,13 @@ of_among (suc n) name j low is = elim (cases_Bool (bytes_eq (journal_name n) nam
       ap (λ b. b || is_among n name) non ∙ of_among n name j (omega (arith, low, apart)) is
 ]
 
-module _ {X : Type 0} where
-  one : (X → Bool) → X → ℕ
-  one test x = cond (test x) 1 0
+both_cond : (p q : Bool) → (p ≡ true → q ≡ true → ⊥) → cond (p || q) 1 0 ≡ cond p 1 0 + cond q 1 0
+both_cond true true apart = absurd (apart refl refl)
+both_cond true false apart = refl
+both_cond false true apart = refl
+both_cond false false apart = refl
 
+module _ {X : Type 0} where
   -- two tests that agree on each element
   pub count_same : (p q : X → Bool) (xs : List X) → ((x : X) → IsIn x xs → p x ≡ q x) → count_by p xs ≡ count_by q xs
   count_same p q [] same = refl
@@ -58,12 +61,6 @@ module _ {X : Type 0} where
       ∙ ap (λ b. cond b 1 0 + count_by p xs) (same x (inl refl))
       ∙ ap (λ n. cond (q x) 1 0 + n) (count_same p q xs (λ y there. same y (inr there)))
       ∙ sym (sum_by-cons (λ y. cond (q y) 1 0) x xs)
-
-  both_cond : (p q : Bool) → (p ≡ true → q ≡ true → ⊥) → cond (p || q) 1 0 ≡ cond p 1 0 + cond q 1 0
-  both_cond true true apart = absurd (apart refl refl)
-  both_cond true false apart = refl
-  both_cond false true apart = refl
-  both_cond false false apart = refl
 
   -- two tests that no element passes both
   pub count_either : (p q : X → Bool) (xs : List X) → ((x : X) → IsIn x xs → p x ≡ true → q x ≡ true → ⊥) → count_by (λ x. p x || q x) xs ≡ count_by p xs + count_by q xs
@@ -78,7 +75,9 @@ module _ {X : Type 0} where
 
   pub count_none : (xs : List X) → count_by (λ x. false) xs ≡ 0
   count_none [] = refl
-  count_none (x ∷ xs) = sum_by-cons (λ y. cond false 1 0) x xs ∙ count_none xs
+  count_none (x ∷ xs) =
+      let step : count_by (λ (y : X). false) (x ∷ xs) ≡ 0 + count_by (λ (y : X). false) xs = sum_by-cons (λ y. cond false 1 0) x xs in
+      omega (arith, step, count_none xs)
 
 -- records of which each name is there once, and which have the names of so many journals
 pub count_named : (records : List Record) (n : ℕ) → n ≤ 8 → ((name : List ℕ) → times records name ≤ 1) → ((j : ℕ) → j < n → (r : Record) × Contains records r × (r.name ≡ journal_name j))

@@ -8,6 +8,7 @@ pub mod Areas
 pub mod Twice
 pub mod Working
 pub mod Names
+pub mod Numbered
 pub mod Marks
 pub mod Heads
 pub mod JournalNames

@@ -1,5 +1,5 @@
 -- Where names lead from a linear directory.
-use Rattle.std.proofs.Common.{◌≡◌, ◌≢◌, ◌⊎◌, inl, inr, ℕ, ◌<◌, Bool, true, false, List, [], ◌∷◌, length, Option, None, Some, refl, sym, ap, subst, ◌∙◌, arith}
+use Rattle.std.proofs.Common.{◌≡◌, ◌≢◌, ◌⊎◌, inl, inr, ℕ, zero, suc, ◌<◌, Bool, true, false, List, [], ◌∷◌, length, Option, None, Some, refl, sym, ap, subst, ◌∙◌, arith}
 use Rattle.std.specs.Prelude.{map, Contains, slice_get, slice_index_or, codes, find}
 use Rattle.std.specs.Option.{option_map}
 use Rattle.std.specs.Str.{bytes_eq}
@@ -15,7 +15,8 @@ use Rattle.image_model.specs.Owners.{Owner, Named, Chained}
 use Rattle.image_model.specs.Rules.{HasRecords, HasRecordIn, from_dinode_block, from_leaves}
 use Rattle.image_mount.specs.Found.{first_other, is_system_name}
 use Rattle.image_mount.specs.Listing.{said, AreRecordsOf, AreDistinct}
-use Rattle.image_mount.specs.System.{IsNamedIn, IsAmong}
+use Rattle.image_mount.specs.Groups.{IsNamedIn}
+use Rattle.image_mount.specs.System.{IsAmong}
 use Rattle.image_mount.specs.declared.listing.Named.{Named as Item}
 
 -- ---- elements of lists
@@ -41,14 +42,14 @@ from_mapped {X} {Y} f xs i y at = each (slice_get xs i) refl (sym (slice_get-map
 
 pub none_found : {X : Type 0} (test : X → Bool) (xs : List X) (i : ℕ) (x : X) → find test xs ≡ None → slice_get xs i ≡ Some x → test x ≡ false
 none_found test [] i x none at = cc
-none_found test (y ∷ ys) i x none at = elim (cases_Bool (test y)) [
+none_found {X} test (y ∷ ys) i x none at = elim (cases_Bool (test y)) [
   | inl so ↦ let e : Some y ≡ None = sym (cond-true _ _ _ so) ∙ none in cc
-  | inr non ↦ rest i at non
+  | inr non ↦ rest i at non (λ k found. none_found test ys k x (sym (cond-false _ _ _ non) ∙ none) found)
 ]
   where
-    rest : (i : ℕ) → slice_get (y ∷ ys) i ≡ Some x → test y ≡ false → test x ≡ false
-    rest zero at non = ap test (sym (same_some y x at)) ∙ non
-    rest (suc i) at non = none_found test ys i x (sym (cond-false _ _ _ non) ∙ none) at
+    rest : (i : ℕ) → slice_get (y ∷ ys) i ≡ Some x → test y ≡ false → ((k : ℕ) → slice_get ys k ≡ Some x → test x ≡ false) → test x ≡ false
+    rest zero at non more = ap test (sym (same_some y x at)) ∙ non
+    rest (suc i) at non more = more i at
 
 pub mapped_none : {X Y : Type 0} (f : X → Y) (o : Option X) → option_map f o ≡ None → o ≡ None
 mapped_none f None e = refl
@@ -117,26 +118,6 @@ records_same im a _ all are (from_leaves leaves directory hashed of) = absurd (t
 pub has_records : (im : Image) (a : ℕ) (all : List Record) → AreRecordsOf im a all → HasRecords im a all
 has_records im a all are = subst (HasRecords im a) (sym are.all) (from_dinode_block are.directory are.linear)
 
--- one of them by its name
-pub named_in : (im : Image) (a : ℕ) (items : List Item) (name : List ℕ) (entry : Entry) → AreRecordsOf im a (map said items) → is_dots name ≡ false → IsAmong items name entry → IsNamedIn im a name entry
-named_in im a items name entry are leads among =
-    let r = said among.item in
-    let at = mapped_at said items among.index among.item among.there in
-    let there = subst (λ rs. Contains rs r) are.all (at_contains (map said items) among.index r at) in
-    let plain : is_dots r.name ≡ false = ap is_dots among.named ∙ leads in
-    let inode = are.directory.inode in
-    let claimed = in_dinode inode.1.by a inode.0 r inode.1.claimed inode.1.dinode are.directory.dir are.linear there plain in
-    record {
-      claimed = subst (λ (e : Entry). Claims im a e.addr (Named a name)) among.entry_is (subst (λ n. Claims im a r.address (Named a n)) among.named claimed);
-      of = r;
-      there = (linear_area (every im a), behind_dinode are.directory are.linear, there);
-      repeats = record {
-        number = ap (λ (e : Entry). e.number) among.entry_is;
-        address = ap (λ (e : Entry). e.addr) among.entry_is;
-        kind = ap (λ (e : Entry). e.kind) among.entry_is;
-      };
-    }
-
 -- where a name leads, there is a record of it among them
 pub record IsLedAmong (items : List Item) (name : List ℕ) (d : ℕ) : Type 0 where
   pub entry : Entry
@@ -163,6 +144,30 @@ one_among items name e f distinct one other =
     let same : one.index ≡ other.index = distinct one.index other.index (said one.item) (said other.item) at at' (one.named ∙ sym other.named) in
     let is : one.item ≡ other.item = same_some one.item other.item (sym one.there ∙ ap (slice_get items) same ∙ other.there) in
     sym one.entry_is ∙ ap (λ (n : Item). n.entry) is ∙ other.entry_is
+
+-- one of them by its name
+pub named_in : (im : Image) (a : ℕ) (items : List Item) (name : List ℕ) (entry : Entry) → AreRecordsOf im a (map said items) → AreDistinct (map said items) → is_dots name ≡ false → IsAmong items name entry
+    → IsNamedIn im a name entry
+named_in im a items name entry are distinct leads among =
+    let r = said among.item in
+    let at = mapped_at said items among.index among.item among.there in
+    let there = subst (λ rs. Contains rs r) are.all (at_contains (map said items) among.index r at) in
+    let plain : is_dots r.name ≡ false = ap is_dots among.named ∙ leads in
+    let inode = are.directory.inode in
+    let claimed = in_dinode inode.1.by a inode.0 r inode.1.claimed inode.1.dinode are.directory.dir are.linear there plain in
+    record {
+      claimed = subst (λ (e : Entry). Claims im a e.addr (Named a name)) among.entry_is (subst (λ n. Claims im a r.address (Named a n)) among.named claimed);
+      only = λ d way.
+          let other = led_among im a items name d are way in
+          sym other.address ∙ ap (λ (e : Entry). e.addr) (one_among items name other.entry entry distinct other.among among);
+      row = r;
+      there = (linear_area (every im a), behind_dinode are.directory are.linear, there);
+      is = record {
+        number = ap (λ (e : Entry). e.number) among.entry_is;
+        address = ap (λ (e : Entry). e.addr) among.entry_is;
+        kind = ap (λ (e : Entry). e.kind) among.entry_is;
+      };
+    }
 
 -- the name is none of these
 pub none_among : (items : List Item) (name : List ℕ) (entry : Entry) → IsAmong items name entry → ((i : ℕ) (n : Item) → slice_get items i ≡ Some n → n.name.now ≢ name) → ⊥

@@ -17,7 +17,8 @@ use Rattle.image_mount.specs.Found.{HasNames}
 use Rattle.image_mount.specs.Mounted.{Journal, IsJournalOf}
 use Rattle.image_mount.specs.Refusals.{IsReached}
 use Rattle.image_mount.specs.Searching.{IsWanted}
-use Rattle.image_mount.specs.System.{IsNamedIn, IsSystemOf}
+use Rattle.image_mount.specs.Groups.{IsNamedIn}
+use Rattle.image_mount.specs.System.{IsSystemOf}
 use Rattle.image_mount.specs.Table.{Kept, seen_of}
 use Rattle.image_mount.specs.declared.journals.Ring.{Ring}
 use Rattle.image_mount.specs.declared.system.System.{System}

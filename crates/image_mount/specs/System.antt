@@ -2,32 +2,23 @@
 use Rattle.std.specs.Prelude.{ℕ, ◌≡◌, ◌≢◌, ◌⊎◌, ◌<◌, ◌≤◌, false, List, Contains, codes, length, map, slice_get, None, Some}
 use Rattle.glock_names.specs.declared.steps.Entry.{Entry}
 use Rattle.gfs2_layout.specs.Records.{Record, is_dots}
-use Rattle.image_model.specs.Claims.{Claims, LeadsTo, IsRindex, IsJindex, master_of}
+use Rattle.image_model.specs.Claims.{LeadsTo, IsRindex, master_of}
 use Rattle.image_model.specs.Image.{Image, superblock_in}
 use Rattle.image_model.specs.Journals.{journal_name}
-use Rattle.image_model.specs.Owners.{Named}
 use Rattle.image_model.specs.Profile.{HasPlainMaster}
-use Rattle.image_model.specs.Rules.{HasRecords, HasRecordIn}
+use Rattle.image_model.specs.Rules.{HasRecords}
 use Rattle.image_model.specs.Stands.{Layout}
 use Rattle.image_mount.specs.Found.{first_other, AreJournalNames, HasNames}
-use Rattle.image_mount.specs.Listing.{IsEntryOf, said}
+use Rattle.image_mount.specs.Groups.{IsNamedIn}
+use Rattle.image_mount.specs.Listing.{said}
 use Rattle.image_mount.specs.declared.listing.Named.{Named as Item}
 use Rattle.image_mount.specs.declared.system.System.{System}
 use Rattle.image_mount.specs.declared.system.SystemFiles.{SystemFiles}
-
--- a record of this name in the block of a linear directory's dinode, and what it says
-pub record IsNamedIn (im : Image) (a : ℕ) (name : List ℕ) (entry : Entry) : Type 0 where
-  pub claimed : Claims im a entry.addr (Named a name)
-  pub of : Record
-  pub there : HasRecordIn im a a of
-  pub repeats : IsEntryOf entry of
 
 -- the files that the master directory names, and it names no others
 pub record AreFilesOf (im : Image) (files : SystemFiles) : Type 0 where
   pub rindex : IsNamedIn im (master_of im) (codes "rindex") files.rindex
   pub jindex : IsNamedIn im (master_of im) (codes "jindex") files.jindex
-  pub one_rindex : (d : ℕ) → IsRindex im d → d ≡ files.rindex.addr
-  pub one_jindex : (d : ℕ) → IsJindex im d → d ≡ files.jindex.addr
   pub plain : (records : List Record) → HasRecords im (master_of im) records → first_other records ≡ None
   pub others : (name : List ℕ) (d : ℕ) → LeadsTo im (master_of im) name d → (name ≡ codes "jindex") ⊎ (name ≡ codes "rindex")
 

@@ -92,8 +92,8 @@ fn read_entries(alloc: Global, content: &[u8]) -> Result<Vec<Rindex>, MountFault
 
 // That the groups fit, and rise without overlapping.
 fn check_rise(device: &Device, groups: &[Rindex], list: u64) -> Result<(), MountFault>
-    ensures rise { (im : Image) → IsListOf im device.now list groups.now → OnOk result (RiseFrom im 0 groups.now) }
-    ensures refused { (im : Image) → IsListOf im device.now list groups.now → IfErr result (RefusesRightly im) }
+    ensures rise { (im : Image) → IsListOf im device.now.size device.now.count list groups.now → OnOk result (RiseFrom im 0 groups.now) }
+    ensures refused { (im : Image) → IsListOf im device.now.size device.now.count list groups.now → IfErr result (RefusesRightly im) }
     ensures steady { IfErr result IsSteady }
 {
     let mut end = 0;
@@ -111,8 +111,8 @@ fn check_rise(device: &Device, groups: &[Rindex], list: u64) -> Result<(), Mount
 
 // That each block above the superblock is near a group: at most three behind each belong to nobody.
 fn check_cover(device: &Device, groups: &[Rindex]) -> Result<(), MountFault>
-    ensures fit { (im : Image) (list : ℕ) → IsListOf im device.now list groups.now → RiseFrom im 0 groups.now → OnOk result (GroupsFit im groups.now) }
-    ensures refused { (im : Image) (list : ℕ) → IsListOf im device.now list groups.now → RiseFrom im 0 groups.now → IfErr result (RefusesRightly im) }
+    ensures fit { (im : Image) (list : ℕ) → IsListOf im device.now.size device.now.count list groups.now → RiseFrom im 0 groups.now → OnOk result (GroupsFit im groups.now) }
+    ensures refused { (im : Image) (list : ℕ) → IsListOf im device.now.size device.now.count list groups.now → RiseFrom im 0 groups.now → IfErr result (RefusesRightly im) }
     ensures steady { IfErr result IsSteady }
 {
     let mut bare = superblock_place(device.size) + 1;
@@ -143,9 +143,9 @@ fn count_headers(groups: &[Rindex]) -> u64
 // That the groups fit the device and the profile. The dinode of their list is in block `list`.
 fn check_groups(device: &Device, groups: &[Rindex], list: u64) -> Result<(), MountFault>
     requires { length groups.now ≤ 64 }
-    ensures fit { (im : Image) → IsListOf im device.now list groups.now → OnOk result (GroupsFit im groups.now) }
+    ensures fit { (im : Image) → IsListOf im device.now.size device.now.count list groups.now → OnOk result (GroupsFit im groups.now) }
     ensures short { OnOk result (group_length groups.now ≤ 128) }
-    ensures refused { (im : Image) → IsListOf im device.now list groups.now → 1 ≤ length groups.now → IfErr result (RefusesRightly im) }
+    ensures refused { (im : Image) → IsListOf im device.now.size device.now.count list groups.now → 1 ≤ length groups.now → IfErr result (RefusesRightly im) }
     ensures steady { IfErr result IsSteady }
 {
     check_rise(device, groups, list)?;

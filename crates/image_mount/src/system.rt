@@ -8,11 +8,12 @@ ghost use Rattle.image_model.specs.Journals.{journal_name as name_of_journal};
 ghost use Rattle.image_model.specs.Rules.{HasRecords};
 ghost use Rattle.image_model.specs.Stands.{Layout};
 ghost use Rattle.image_mount.specs.Found.{HasFormat, HasGroups, most_blocks, first_other as first_beside};
+ghost use Rattle.image_mount.specs.Groups.{IsNamedIn};
 ghost use Rattle.image_mount.specs.Listing.{said};
 ghost use Rattle.image_mount.specs.Refusals.{RefusesRightly};
 ghost use Rattle.image_mount.specs.declared.fault.MountFault.TheVariants as fault_of;
 ghost use Rattle.image_mount.specs.Searching.{IsRead, IsSteady, StopsRightly, LacksBlock};
-ghost use Rattle.image_mount.specs.System.{IsNamedIn, AreFilesOf, AreAmong, LacksName, AreNamesOf, AreJournalsAmong, AreJournalsOf, IsSystemOf};
+ghost use Rattle.image_mount.specs.System.{AreFilesOf, AreAmong, LacksName, AreNamesOf, AreJournalsAmong, AreJournalsOf, IsSystemOf};
 
 use crate::fault::MountFault;
 use crate::field::Field;
