@@ -13,7 +13,6 @@ use Rattle.image_model.specs.Rules.{HasRecordIn}
 use Rattle.image_model.specs.Stands.{Layout}
 use Rattle.image_mount.specs.Found.{HasList, HasMaster}
 use Rattle.image_mount.specs.Listing.{IsEntryOf}
-use Rattle.image_mount.specs.declared.groups.Device.{Device}
 
 -- what a record of this name says, behind the dinode of a directory in block a: by it alone the name leads on
 pub record IsNamedIn (im : Image) (a : ℕ) (name : List ℕ) (entry : Entry) : Type 0 where
@@ -24,21 +23,22 @@ pub record IsNamedIn (im : Image) (a : ℕ) (name : List ℕ) (entry : Entry) : 
   pub is : IsEntryOf entry row
 
 -- what the record of `rindex` says, in the master directory, whose dinode is in this block
-pub record IsListEntry (im : Image) (master : ℕ) (entry : Entry) : Type 0 where
+pub record IsListEntry (im : Image) (block : ℕ) (entry : Entry) : Type 0 where
   pub layout : Layout
   pub found : HasMaster im layout
   pub rindex : layout.rindex ≡ entry.addr
-  pub master : layout.master ≡ master
-  pub named : IsNamedIn im master (codes "rindex") entry
+  pub master : layout.master ≡ block
+  pub named : IsNamedIn im block (codes "rindex") entry
 
--- the groups that are listed in the file whose dinode is in block `list`, the only one that is `rindex`, on this device
-pub record IsListOf (im : Image) (device : Device) (list : ℕ) (groups : List Rindex) : Type 0 where
-  pub size : device.size ≡ im.size
-  pub count : device.count ≡ im.count
+-- these groups are listed in the file whose dinode is in block `list`, the only one that is `rindex`; the device has so
+-- many blocks of so many bytes
+pub record IsListOf (im : Image) (size count list : ℕ) (listed : List Rindex) : Type 0 where
+  pub block_size : size ≡ im.size
+  pub blocks : count ≡ im.count
   pub layout : Layout
   pub found : HasList im layout
   pub rindex : layout.rindex ≡ list
-  pub groups : layout.groups ≡ groups
+  pub groups : layout.groups ≡ listed
   pub only : (d : ℕ) → IsRindex im d → d ≡ list
 
 -- these groups are listed there, fit the image, and are within the profile
