@@ -7,3 +7,6 @@ pub mod Steps
 pub mod Areas
 pub mod Twice
 pub mod Working
+pub mod Grouping
+pub mod Records
+pub mod Wanted
