@@ -16,12 +16,12 @@ use Rattle.image_model.specs.Image.{Image}
 use Rattle.image_model.specs.Listing.{RiseFrom, end_after}
 use Rattle.image_model.specs.Rules.{Breaks}
 use Rattle.image_model.specs.Stands.{Layout}
-use Rattle.image_model.proofs.Listing.{all_fit, all_above, rise_more, end_more, unfit_entry, early_entry}
+use Rattle.image_model.proofs.Listing.{all_fit, all_above, rise_more, end_more, unfit_entry, early_entry, groups_count}
 use Rattle.dinode_tree.specs.Reading.{content_range, AreWholeBefore}
 use Rattle.image_model.specs.Groups.{bitmap_room}
 use Rattle.image_model.specs.Owners.{Named}
 use Rattle.image_model.specs.Rules.{part_of_entry}
-use Rattle.image_model.specs.Claims.{HasInode, master_of}
+use Rattle.image_model.specs.Claims.{HasInode, LeadsTo, master_of}
 use Rattle.gfs2_layout.specs.Holding.{Holding}
 use Rattle.gfs2_layout.specs.declared.dinode.Dinode.{Dinode}
 use Rattle.std.proofs.lemmas.List.{take-take}
@@ -33,15 +33,16 @@ use Rattle.image_mount.specs.declared.fault.MountFault.TheVariants as fault
 use Rattle.image_mount.proofs.Causes.{told, told_outside}
 use Rattle.image_mount.proofs.Shown.{inode_at}
 use Rattle.image_mount.specs.Found.{HasFormat, HasMaster, HasList}
-use Rattle.image_mount.specs.Groups.{IsListOf}
+use Rattle.image_mount.specs.Groups.{IsListEntry, IsListOf, AreGroups}
+use Rattle.glock_names.specs.declared.steps.Entry.{Entry}
+use Rattle.image_model.specs.Profile.{group_length}
 
 -- ---- what is known of the list
 
-pub with_groups : Layout → List Rindex → Layout
+abbrev pub with_groups : Layout → List Rindex → Layout
 with_groups l groups = record { root = l.root; master = l.master; rindex = l.rindex; jindex = l.jindex; groups = groups; journals = l.journals }
 
 pub master_with : (im : Image) (l : Layout) (groups : List Rindex) → HasMaster im l → HasMaster im (with_groups l groups)
-unfolding with_groups
 master_with im l groups has = record {
   format = has.format;
   root = has.root;
@@ -175,6 +176,39 @@ cut h = take-take (dinode_in h).size (dinode_in h).size _ (omega arith)
 -- a list's content, where its length is known
 pub content_all : (im : Image) (a n : ℕ) (bytes : List ℕ) → (dinode_in (every im a)).size ≡ n → bytes ≡ content_range (every im a) 0 n → bytes ≡ content_of (every im a)
 content_all im a n bytes size read = read ∙ ap (λ k. take k (content_of (every im a))) (sym size) ∙ cut (every im a)
+
+-- what was read there is the list
+pub list_of : (im : Image) (size count block a : ℕ) (entry : Entry) (groups : List Rindex) (content : List ℕ) → IsListEntry im block entry → size ≡ im.size → count ≡ im.count → a ≡ entry.addr
+    → (dinode_in (every im a)).size % 96 ≡ 0 → content ≡ content_of (every im a) → groups ≡ groups_in content → IsListOf im size count a groups
+list_of im size count block a entry groups content is of_size of_count at whole read listed =
+    let here : a ≡ is.layout.rindex = at ∙ sym is.rindex in
+    record {
+      block_size = of_size;
+      blocks = of_count;
+      layout = with_groups is.layout groups;
+      found = record {
+        master = master_with im is.layout groups is.found;
+        whole = ap (λ d. (dinode_in (every im d)).size % 96) (sym here) ∙ whole;
+        listed = ap (λ d. groups_in (content_of (every im d))) (sym here) ∙ ap groups_in (sym read) ∙ sym listed;
+      };
+      rindex = is.rindex ∙ sym at;
+      groups = refl;
+      only = λ d leads. is.named.only d (subst (λ m. LeadsTo im m (codes "rindex") d) (is.found.master ∙ is.master) leads) ∙ sym at;
+    }
+
+pub groups_some : (groups : List Rindex) (content : List ℕ) (bytes : ℕ) → groups ≡ groups_in content → length content ≡ bytes → 96 ≤ bytes → 1 ≤ length groups
+groups_some groups content bytes listed long least = omega (arith, ap length listed, groups_count content, long, least)
+
+pub groups_are : (im : Image) (a b : ℕ) (groups items : List Rindex) → groups ≡ items → a ≡ b → AreGroups im a groups → AreGroups im b items
+groups_are im a b groups items same at are = subst (λ x. AreGroups im x items) at (subst (AreGroups im a) same are)
+
+-- too many blocks of headers
+pub long_groups : (im : Image) (f : MountFault) (size count list n : ℕ) (groups : List Rindex) → f ≡ fault.NotProfile field.GroupBlocks n → IsListOf im size count list groups → n ≡ group_length groups
+    → 1 ≤ length groups → length groups ≤ 64 → GroupsFit im groups → 128 < n → RefusesRightly im f
+long_groups im f size count list n groups is of counted some few fit many =
+    let P : List Rindex → Type 0 = λ gs. 1 ≤ length gs → length gs ≤ 64 → GroupsFit im gs → 128 < group_length gs → IsOutside im field.GroupBlocks (group_length gs) in
+    let long : P groups = subst P of.groups (λ a b c d. outside.group_blocks of.layout of.found a b c d) in
+    told_outside im f field.GroupBlocks n is (subst (IsOutside im field.GroupBlocks) (sym counted) (long some few fit (omega (arith, many, counted))))
 
 -- no block of content stands before the first
 pub none_before : (h : Holding) → AreWholeBefore h 0

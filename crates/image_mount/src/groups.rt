@@ -92,7 +92,7 @@ fn read_entry(entry: &[u8]) -> Rindex
 fn read_entries(alloc: Global, content: &[u8]) -> Result<Vec<Rindex>, MountFault>
     ensures found { IfOk result (λ groups. groups.items ≡ groups_in content.now) }
     ensures most { IfOk result (λ groups. length groups.items * 96 ≤ length content.now) }
-    ensures steady { IfErr result IsSteady }
+    ensures memory { IfErr result (λ fault. fault ≡ MountFault.NoMemory) }
 {
     let mut groups = Vec::new(alloc);
     let mut rest = content;
