@@ -14,3 +14,6 @@ pub mod Heads
 pub mod JournalNames
 pub mod Accepts
 pub mod Places
+pub mod Grouping
+pub mod Records
+pub mod Wanted

@@ -3,12 +3,16 @@ use Rattle.std.proofs.Common.{◌≡◌, ◌≢◌, ◌⊎◌, inl, inr, ℕ, ze
 use Rattle.std.specs.Prelude.{map, slice_get}
 use Rattle.std.specs.Option.{option_map}
 use Rattle.std.proofs.lemmas.Bool.{cases_lt, cases_eq}
-use Rattle.std.proofs.lemmas.Option.{slice_get-map, slice_get_within, get_or_from_slice_get}
+use Rattle.std.proofs.lemmas.Option.{slice_get-map, slice_get-get_or, slice_get_within, get_or_from_slice_get}
 use Rattle.std.proofs.lemmas.Slice.Eq.{bytes_eq-Decides}
 use Rattle.std.specs.Str.{bytes_eq}
 use Rattle.image_mount.specs.declared.listing.Named.{Named}
 use Rattle.gfs2_layout.specs.Records.{Record}
-use Rattle.image_mount.specs.Listing.{AreDistinct}
+use Rattle.gfs2_layout.specs.Records.{records_in}
+use Rattle.image_model.specs.Claims.{HasArea}
+use Rattle.image_model.specs.Image.{Image}
+use Rattle.image_model.specs.Rules.{Breaks, twice_in_area}
+use Rattle.image_mount.specs.Listing.{said, AreDistinct}
 
 -- the names of the first so many come no more behind them
 abbrev pub AreDistinctTo : List Record → ℕ → Type 0
@@ -37,3 +41,42 @@ apart_all records name k all before i n at = before i n (omega (arith, all, slic
 
 pub differ : (a b : List ℕ) → false ≡ bytes_eq a b → a ≢ b
 differ a b other same = grind (arith, bytes_eq-Decides a b, other, same)
+
+-- what a record says that stands there
+pub said_at : (records : List Named) (i : ℕ) (r : Record) → slice_get (map said records) i ≡ Some r → (n : Named) × (slice_get records i ≡ Some n) × (said n ≡ r)
+said_at [] i r at = cc
+said_at (n ∷ records) zero r at = (n, refl, some_is (said n) r at)
+  where
+    some_is : (x y : Record) → Some x ≡ Some y → x ≡ y
+    some_is x y e = cc
+said_at (n ∷ records) (suc i) r at = said_at records i r at
+
+pub at_said : (records : List Named) (k : ℕ) (d : Named) → k < length records → slice_get (map said records) k ≡ Some (said (get_or records k d))
+at_said records k d low = slice_get-map said records k ∙ ap (option_map said) (slice_get-get_or records k d low)
+
+behind : {X : Type 0} (xs : List X) (n i : ℕ) → slice_get (drop n xs) i ≡ slice_get xs (n + i)
+behind xs zero i = ap (slice_get xs) (omega arith)
+behind [] (suc n) i = refl
+behind (x ∷ xs) (suc n) i = behind xs n i
+
+-- the next name comes no more either
+pub distinct_more : (records : List Named) (k : ℕ) (d : Named) → AreDistinctTo (map said records) k
+    → ((i : ℕ) (n : Named) → slice_get (drop (k + 1) records) i ≡ Some n → n.name.now ≢ (get_or records k d).name.now) → AreDistinctTo (map said records) (k + 1)
+distinct_more records k d to none i j r s low before at other same = elim (cases_lt i k) [
+  | inl old ↦ to i j r s old before at other same
+  | inr new ↦
+      let is : i ≡ k = omega (arith, low, new) in
+      let x = said_at records i r at in
+      let y = said_at records j s other in
+      let here : get_or records k d ≡ x.0 = get_or_from_slice_get records k x.0 d (ap (slice_get records) (sym is) ∙ x.1) in
+      let there : slice_get (drop (k + 1) records) (j - (k + 1)) ≡ Some y.0 = behind records (k + 1) (j - (k + 1)) ∙ ap (slice_get records) (omega (arith, before, is)) ∙ y.1 in
+      none (j - (k + 1)) y.0 there (ap (λ (q : Record). q.name) y.2 ∙ sym same ∙ sym (ap (λ (q : Record). q.name) x.2) ∙ sym (ap (λ (n : Named). n.name.now) here))
+]
+
+pub twice_breaks : (im : Image) (a block k j : ℕ) (area : List ℕ) (records : List Named) (found d : Named) → HasArea im a block area → map said records ≡ records_in area → k < length records
+    → slice_get (drop (k + 1) records) j ≡ Some found → found.name.now ≡ (get_or records k d).name.now → Breaks im 10 block
+twice_breaks im a block k j area records found d has is low at named =
+    let first = ap (λ l. slice_get l k) (sym is) ∙ at_said records k d low in
+    let there : slice_get records (k + 1 + j) ≡ Some found = sym (behind records (k + 1) j) ∙ at in
+    let second = ap (λ l. slice_get l (k + 1 + j)) (sym is) ∙ slice_get-map said records (k + 1 + j) ∙ ap (option_map said) there in
+    twice_in_area a block k (k + 1 + j) area (said (get_or records k d)) (said found) has first second (omega arith) (sym named)

@@ -23,22 +23,22 @@ pub record IsNamedIn (im : Image) (a : ℕ) (name : List ℕ) (entry : Entry) : 
   pub is : IsEntryOf entry row
 
 -- what the record of `rindex` says, in the master directory, whose dinode is in this block
-pub record IsListEntry (im : Image) (master : ℕ) (entry : Entry) : Type 0 where
+pub record IsListEntry (im : Image) (block : ℕ) (entry : Entry) : Type 0 where
   pub layout : Layout
   pub found : HasMaster im layout
   pub rindex : layout.rindex ≡ entry.addr
-  pub top : layout.master ≡ master
-  pub named : IsNamedIn im master (codes "rindex") entry
+  pub master : layout.master ≡ block
+  pub named : IsNamedIn im block (codes "rindex") entry
 
 -- these groups are listed in the file whose dinode is in block `list`, the only one that is `rindex`; the device has so
 -- many blocks of so many bytes
-pub record IsListOf (im : Image) (size count list : ℕ) (groups : List Rindex) : Type 0 where
+pub record IsListOf (im : Image) (size count list : ℕ) (listed : List Rindex) : Type 0 where
   pub block_size : size ≡ im.size
   pub blocks : count ≡ im.count
   pub layout : Layout
   pub found : HasList im layout
   pub rindex : layout.rindex ≡ list
-  pub are : layout.groups ≡ groups
+  pub groups : layout.groups ≡ listed
   pub only : (d : ℕ) → IsRindex im d → d ≡ list
 
 -- these groups are listed there, fit the image, and are within the profile

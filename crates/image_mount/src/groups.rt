@@ -1,13 +1,15 @@
-ghost use Rattle.std.specs.Prelude.{ℕ, ◌≡◌, ◌+◌, ◌-◌, ◌*◌, ◌/◌, ◌%◌, ◌^◌, ◌<◌, ◌≤◌, ◌↔◌, min, false, length, map, IsTrue, IfOk, IfErr, OnOk};
+ghost use Rattle.std.specs.Prelude.{ℕ, ◌≡◌, ◌+◌, ◌-◌, ◌*◌, ◌/◌, ◌%◌, ◌^◌, ◌<◌, ◌≤◌, ◌↔◌, min, true, false, length, map, IsTrue, IfOk, IfErr, OnOk};
 ghost use Rattle.std.specs.List.{All};
 ghost use Rattle.gfs2_layout.specs.Inode.{dinode_in, content_of};
-ghost use Rattle.image_model.specs.Claims.{every, HasInode};
+ghost use Rattle.gfs2_layout.specs.Structures.{rindex_of};
+ghost use Rattle.image_model.specs.Claims.{every, Claims};
 ghost use Rattle.image_model.specs.Groups.{GroupFits, GroupsFit, IsDataOf, end_of as first_behind, groups_in};
 ghost use Rattle.image_model.specs.Image.{Image};
 ghost use Rattle.image_model.specs.Listing.{RiseFrom};
+ghost use Rattle.image_model.specs.Owners.{Owner, is_dinode};
 ghost use Rattle.image_model.specs.Profile.{group_length};
 ghost use Rattle.image_model.specs.Stands.{Layout};
-ghost use Rattle.image_mount.specs.Found.{HasFormat, HasMaster};
+ghost use Rattle.image_mount.specs.Found.{most_blocks, HasFormat, HasMaster};
 ghost use Rattle.image_mount.specs.Groups.{IsListEntry, IsListOf, AreGroups};
 ghost use Rattle.image_mount.specs.Refusals.{RefusesRightly};
 ghost use Rattle.image_mount.specs.Searching.{IsRead, IsSteady, StopsRightly, LacksBlock};
@@ -57,7 +59,7 @@ pub(crate) fn is_data(groups: &[Rindex], block: u64) -> bool
 
 // Whether a group lies on the device, above the superblock, and its bitmap has bits for its data blocks.
 fn fits(device: &Device, group: &Rindex) -> bool
-    ensures { (im : Image) → device.now.size ≡ im.size → device.now.count ≡ im.count → IsTrue result ↔ GroupFits im group.now }
+    ensures { (im : Image) → device.now.size ≡ im.size → device.now.count ≡ im.count → im.count ≤ most_blocks → IsTrue result ↔ GroupFits im group.now }
 {
     let size = u64::from(device.size);
     if group.address <= superblock_place(device.size) || group.length == 0 {
@@ -75,17 +77,29 @@ fn fits(device: &Device, group: &Rindex) -> bool
     u64::from(group.bitbytes) * 4 == blocks && blocks <= room
 }
 
+// An entry of the list.
+fn read_entry(entry: &[u8]) -> Rindex
+    requires { length entry.now ≡ 96 }
+    ensures { result ≡ rindex_of entry.now }
+{
+    let Ok(group) = Rindex::read(entry) else {
+        unreachable!()
+    };
+    group
+}
+
 // The whole entries of the list.
 fn read_entries(alloc: Global, content: &[u8]) -> Result<Vec<Rindex>, MountFault>
     ensures found { IfOk result (λ groups. groups.items ≡ groups_in content.now) }
     ensures most { IfOk result (λ groups. length groups.items * 96 ≤ length content.now) }
-    ensures steady { IfErr result IsSteady }
+    ensures memory { IfErr result (λ fault. fault ≡ MountFault.NoMemory) }
 {
     let mut groups = Vec::new(alloc);
     let mut rest = content;
-    while let Ok(group) = Rindex::read(rest) {
-        groups.push(group)?;
-        rest = &rest[ENTRY..];
+    while rest.len() >= ENTRY {
+        let (entry, behind) = rest.split_at(ENTRY);
+        groups.push(read_entry(entry))?;
+        rest = behind;
     }
     Ok(groups)
 }
@@ -186,9 +200,11 @@ fn read_list(alloc: Global, table: &Table, inode: &Inode, bytes: u32) -> Result<
     ensures found { (im : Image) → IsRead im table.now → (dinode_in (every im inode.now.block)).size ≡ bytes → IfOk result (λ content. content.items ≡ content_of (every im inode.now.block)) }
     ensures length { (im : Image) → IsRead im table.now → (dinode_in (every im inode.now.block)).size ≡ bytes → IfOk result (λ content. length content.items ≡ bytes) }
     ensures most { IfOk result (λ content. length content.items ≤ bytes) }
-    ensures stops { (im : Image) → IsRead im table.now → HasInode im inode.now.block → HasFormat im → IfErr result (StopsRightly im) }
+    ensures stops { (im : Image) (o : Owner) → IsRead im table.now → Claims im inode.now.from inode.now.block o → is_dinode o ≡ true → HasFormat im → IfErr result (StopsRightly im) }
     ensures lacks { IfErr result (LacksBlock table.now) }
 {
+    // The dinode is kept, and what is missing is a block below it.
+    table.get(inode.block, inode.from)?;
     match read_range(alloc, table, inode.block, 0, bytes)? {
         Step::Is(content) => Ok(content),
         Step::NeedBlock(missing) => Err(reads(&missing)),
