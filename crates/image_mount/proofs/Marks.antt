@@ -23,19 +23,6 @@ use Rattle.image_mount.specs.declared.system.System.{System}
 use Rattle.image_mount.proofs.Causes.{told}
 use Rattle.image_mount.proofs.KeptLaws.{get_kept}
 
--- ---- owners by which a block is read
-
--- a dinode's block is no content
-pub dinode_leads : (im : Image) (o : Owner) → is_dinode o ≡ true → IsLeading im o
-dinode_leads im o dinode d b k first e = let no : is_dinode (Below d b k 0 first) ≡ true = ap is_dinode (sym e) ∙ dinode in cc
-
--- nor is a block that stands above content
-pub above_leads : (im : Image) (a b k level first : ℕ) → IsLeading im (Below a b k (suc level) first)
-above_leads im a b k level first d c j other e = absurd (apart a b k level first d c j other e)
-  where
-    apart : (a b k level first d c j other : ℕ) → Below a b k (suc level) first ≡ Below d c j 0 other → ⊥
-    apart a b k level first d c j other e = cc
-
 -- ---- a block that is wanted is not read
 
 pub beyond_super : (im : Image) (f : MountFault) (block : ℕ) → f ≡ fault.Damaged block 1 → block ≡ superblock_place im.size → im.count ≤ block → RefusesRightly im f

@@ -11,6 +11,8 @@ use Rattle.gfs2_layout.specs.Records.{Record, records_in, is_dots}
 use Rattle.glock_names.specs.declared.steps.Entry.{Entry}
 use Rattle.image_model.specs.Claims.{every, Claims, root, master, below, first_leaf, next_leaf, in_dinode, in_leaf, HasDirectory, behind_dinode, LeadsTo}
 use Rattle.image_model.specs.Image.{Image}
+use Rattle.image_model.proofs.Directories.{leaf_is_hashed, not_both}
+use Rattle.image_mount.proofs.Records.{named_in as named_by}
 use Rattle.image_model.specs.Owners.{Owner, Named, Chained}
 use Rattle.image_model.specs.Rules.{HasRecords, HasRecordIn, from_dinode_block, from_leaves}
 use Rattle.image_mount.specs.Found.{first_other, is_system_name}
@@ -61,21 +63,6 @@ mapped_some f (Some x) y e = (x, refl, same_some (f x) y e)
 
 -- ---- claims by names
 
--- a leaf is of a hashed directory
-HashedBy : Image → Owner → Type 0
-HashedBy im (Chained a hash place) = is_hashed_in (every im a) ≡ true
-HashedBy im _ = Unit {0}
-
-hashed_by : (im : Image) (by c : ℕ) (o : Owner) → Claims im by c o → HashedBy im o
-unfolding HashedBy
-hashed_by im _ _ _ root = tt
-hashed_by im _ _ _ master = tt
-hashed_by im _ _ _ (below by a o b k level first c claim dinode leads) = tt
-hashed_by im _ _ _ (first_leaf by a o i claim dinode hashed low) = hashed
-hashed_by im _ _ _ (next_leaf by x a hash place claim more) = hashed_by im by x (Chained a hash place) claim
-hashed_by im _ _ _ (in_dinode by a o r claim dinode dir plain there name) = tt
-hashed_by im _ _ _ (in_leaf by x a hash place r claim there name) = tt
-
 -- a record of a linear directory by which the name leads there
 pub record IsLed (im : Image) (a : ℕ) (name : List ℕ) (c : ℕ) : Type 0 where
   pub entry : Record
@@ -90,14 +77,14 @@ NamesBy im c (Named a name) = is_hashed_in (every im a) ≡ false → IsLed im a
 NamesBy im c _ = Unit {0}
 
 names_by : (im : Image) (by c : ℕ) (o : Owner) → Claims im by c o → NamesBy im c o
-unfolding NamesBy HashedBy
+unfolding NamesBy
 names_by im _ _ _ root = tt
 names_by im _ _ _ master = tt
 names_by im _ _ _ (below by a o b k level first c claim dinode leads) = tt
 names_by im _ _ _ (first_leaf by a o i claim dinode hashed low) = tt
 names_by im _ _ _ (next_leaf by x a hash place claim more) = tt
 names_by im _ _ _ (in_dinode by a o r claim dinode dir plain there name) = λ linear. record { entry = r; there = there; named = refl; address = refl; leads = name; directory = dir }
-names_by im _ _ _ (in_leaf by x a hash place r claim there name) = λ linear. absurd (true≢false (sym (hashed_by im by x (Chained a hash place) claim) ∙ linear))
+names_by im _ _ _ (in_leaf by x a hash place r claim there name) = λ linear. absurd (not_both (is_hashed_in (every im a)) (leaf_is_hashed im by x a hash place claim) linear)
 
 pub led_by : (im : Image) (a : ℕ) (name : List ℕ) (c : ℕ) → is_hashed_in (every im a) ≡ false → LeadsTo im a name c → IsLed im a name c
 unfolding NamesBy
@@ -114,9 +101,6 @@ led_by_file im a name c file way =
 pub records_same : (im : Image) (a : ℕ) (records all : List Record) → AreRecordsOf im a all → HasRecords im a records → records ≡ all
 records_same im a _ all are (from_dinode_block directory linear) = sym are.all
 records_same im a _ all are (from_leaves leaves directory hashed of) = absurd (true≢false (sym hashed ∙ are.linear))
-
-pub has_records : (im : Image) (a : ℕ) (all : List Record) → AreRecordsOf im a all → HasRecords im a all
-has_records im a all are = subst (HasRecords im a) (sym are.all) (from_dinode_block are.directory are.linear)
 
 -- where a name leads, there is a record of it among them
 pub record IsLedAmong (items : List Item) (name : List ℕ) (d : ℕ) : Type 0 where
@@ -149,25 +133,9 @@ one_among items name e f distinct one other =
 pub named_in : (im : Image) (a : ℕ) (items : List Item) (name : List ℕ) (entry : Entry) → AreRecordsOf im a (map said items) → AreDistinct (map said items) → is_dots name ≡ false → IsAmong items name entry
     → IsNamedIn im a name entry
 named_in im a items name entry are distinct leads among =
-    let r = said among.item in
-    let at = mapped_at said items among.index among.item among.there in
-    let there = subst (λ rs. Contains rs r) are.all (at_contains (map said items) among.index r at) in
-    let plain : is_dots r.name ≡ false = ap is_dots among.named ∙ leads in
-    let inode = are.directory.inode in
-    let claimed = in_dinode inode.1.by a inode.0 r inode.1.claimed inode.1.dinode are.directory.dir are.linear there plain in
-    record {
-      claimed = subst (λ (e : Entry). Claims im a e.addr (Named a name)) among.entry_is (subst (λ n. Claims im a r.address (Named a n)) among.named claimed);
-      only = λ d way.
-          let other = led_among im a items name d are way in
-          sym other.address ∙ ap (λ (e : Entry). e.addr) (one_among items name other.entry entry distinct other.among among);
-      row = r;
-      there = (linear_area (every im a), behind_dinode are.directory are.linear, there);
-      is = record {
-        number = ap (λ (e : Entry). e.number) among.entry_is;
-        address = ap (λ (e : Entry). e.addr) among.entry_is;
-        kind = ap (λ (e : Entry). e.kind) among.entry_is;
-      };
-    }
+    let n = among.item in
+    let named = named_by im a items are distinct among.index n among.there (ap is_dots among.named ∙ leads) in
+    subst (IsNamedIn im a name) among.entry_is (subst (λ x. IsNamedIn im a x n.entry) among.named named)
 
 -- the name is none of these
 pub none_among : (items : List Item) (name : List ℕ) (entry : Entry) → IsAmong items name entry → ((i : ℕ) (n : Item) → slice_get items i ≡ Some n → n.name.now ≢ name) → ⊥

@@ -36,7 +36,7 @@ use Rattle.image_mount.specs.declared.field.Field.TheVariants as field
 use Rattle.image_mount.specs.declared.stop.Stop.{Stop}
 use Rattle.image_mount.specs.declared.stop.Stop.TheVariants as stop
 use Rattle.image_mount.proofs.Causes.{told, told_outside}
-use Rattle.image_mount.proofs.Marks.{dinode_leads, above_leads}
+use Rattle.image_mount.proofs.Wanted.{dinode_leads, above_leads}
 
 some_same : {X : Type 0} (x y : X) → Some x ≡ Some y → x ≡ y
 some_same x y e = cc
