@@ -9,6 +9,7 @@ pub mod Twice
 pub mod Working
 pub mod Names
 pub mod Numbered
+pub mod SystemFiles
 pub mod Marks
 pub mod Heads
 pub mod JournalNames

@@ -1,6 +1,6 @@
 -- What is known of the blocks that are kept and of those that are places of journals, as more are read and found.
 use Rattle.std.proofs.Common.{◌≡◌, ◌≢◌, ◌⊎◌, inl, inr, ℕ, zero, suc, ◌+◌, ◌<◌, ◌≤◌, Bool, true, false, List, [], ◌∷◌, ◌++◌, length, Option, None, Some, refl, sym, ap, subst, ◌∙◌, arith}
-use Rattle.std.specs.Prelude.{Contains, slice_get, slice_set}
+use Rattle.std.specs.Prelude.{Contains, slice_get, slice_set, Result, Ok, Err, OnOk}
 use Rattle.std.specs.List.{All}
 use Rattle.std.proofs.lemmas.Bool.{cases_eq}
 use Rattle.std.proofs.lemmas.List.Elements.{Contains-append_left, Contains-push}
@@ -15,10 +15,12 @@ use Rattle.image_model.specs.Journals.{journal_name}
 use Rattle.image_mount.specs.Found.{HasFormat}
 use Rattle.image_mount.specs.Refusals.{RefusesRightly}
 use Rattle.image_mount.specs.Rings.{IsPlace, IsSearched, IsJournalIn, IsNext, IsPlaceAt}
-use Rattle.image_mount.specs.Searching.{IsWanted, IsLeading}
+use Rattle.image_mount.specs.Searching.{IsWanted, StopsRightly}
 use Rattle.image_mount.specs.Table.{Kept, seen_of, bytes_of}
 use Rattle.image_mount.specs.declared.fault.MountFault.{MountFault}
 use Rattle.image_mount.specs.declared.fault.MountFault.TheVariants as fault
+use Rattle.image_mount.specs.declared.stop.Stop.{Stop}
+use Rattle.image_mount.specs.declared.stop.Stop.TheVariants as stop
 use Rattle.image_mount.specs.declared.system.System.{System}
 use Rattle.image_mount.proofs.Causes.{told}
 use Rattle.image_mount.proofs.KeptLaws.{get_kept}
@@ -187,3 +189,11 @@ module _ (im : Image) (done : List ℕ) (system : System) (journal : Entry) (nex
     plain = next.plain;
     of = inr (refl, omega arith);
   }
+
+-- ---- what was known before a block is read is known behind it
+
+pub searched_on : {T E : Type 0} (r : Result T E) (s : Stop) (block from : ℕ) (old new : Kept) → s ≡ stop.Reads block from
+    → OnOk r ((im : Image) (done : List ℕ) (d n : ℕ) → IsWanted im block from → IsSearched im done d n old → IsSearched im done d n new)
+    → OnOk r ((im : Image) (done : List ℕ) (d n : ℕ) → StopsRightly im s → IsSearched im done d n old → IsSearched im done d n new)
+searched_on (Ok x) s block from old new is more = λ im done d n stops known. more im done d n (subst (StopsRightly im) is stops) known
+searched_on (Err e) s block from old new is more = tt

@@ -107,6 +107,7 @@ pub record IsLedAmong (items : List Item) (name : List ℕ) (d : ℕ) : Type 0 w
   pub entry : Entry
   pub among : IsAmong items name entry
   pub address : entry.addr ≡ d
+  pub leads : is_dots name ≡ false
 
 pub led_among : (im : Image) (a : ℕ) (items : List Item) (name : List ℕ) (d : ℕ) → AreRecordsOf im a (map said items) → LeadsTo im a name d → IsLedAmong items name d
 led_among im a items name d are way =
@@ -118,6 +119,7 @@ led_among im a items name d are way =
       entry = item.0.entry;
       among = record { index = there.0; item = item.0; there = item.1; named = ap (λ (r : Record). r.name) item.2 ∙ led.named; entry_is = refl };
       address = ap (λ (r : Record). r.address) item.2 ∙ led.address;
+      leads = ap is_dots (sym led.named) ∙ led.leads;
     }
 
 -- no name leads by two of them
