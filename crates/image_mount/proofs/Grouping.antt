@@ -24,7 +24,7 @@ use Rattle.image_model.specs.Rules.{part_of_entry}
 use Rattle.image_model.specs.Claims.{HasInode, LeadsTo, master_of}
 use Rattle.gfs2_layout.specs.Holding.{Holding}
 use Rattle.gfs2_layout.specs.declared.dinode.Dinode.{Dinode}
-use Rattle.std.proofs.lemmas.List.{take-take}
+use Rattle.std.proofs.lemmas.List.{take-take, take_all}
 use Rattle.image_mount.specs.Refusals.{IsOutside, RefusesRightly}
 use Rattle.image_mount.specs.Refusals as outside
 use Rattle.image_mount.specs.declared.field.Field.TheVariants as field
@@ -100,14 +100,8 @@ risen_more im groups k end next d to low fits above few is =
       ends = ap (end_after 0) taken ∙ end_more 0 (take k groups) g ∙ omega (arith, is, fits.inside, few);
     }
 
-take_all : {X : Type 0} (xs : List X) (k : ℕ) → length xs ≤ k → take k xs ≡ xs
-take_all [] zero low = refl
-take_all [] (suc k) low = refl
-take_all (x ∷ xs) zero low = absurd (omega (arith, low))
-take_all (x ∷ xs) (suc k) low = ap (λ l. x ∷ l) (take_all xs k (omega (arith, low)))
-
 pub risen_all : (im : Image) (groups : List Rindex) (k end : ℕ) → IsRisenTo im groups k end → length groups ≤ k → RiseFrom im 0 groups
-risen_all im groups k end to all = subst (RiseFrom im 0) (take_all groups k all) to.rise
+risen_all im groups k end to all = subst (RiseFrom im 0) (take_all k groups all) to.rise
 
 all_at : {X : Type 0} (P : X → Type 0) (xs : List X) (i : ℕ) (x : X) → AllByRecursion P xs → slice_get xs i ≡ Some x → P x
 all_at P [] i x all there = cc

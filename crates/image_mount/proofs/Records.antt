@@ -1,5 +1,5 @@
 -- The records of a linear directory.
-use Rattle.std.proofs.Common.{◌≡◌, ◌≢◌, ℕ, ◌+◌, ◌<◌, true, false, List, length, drop, get_or, Some, refl, sym, ap, subst, ◌∙◌, arith}
+use Rattle.std.proofs.Common.{◌≡◌, ◌≢◌, ℕ, ◌+◌, ◌-◌, ◌<◌, true, false, List, length, take, drop, get_or, Some, refl, sym, ap, subst, ◌∙◌, arith}
 use Rattle.std.specs.Prelude.{map, slice_get, codes, Contains}
 use Rattle.std.specs.List.{All}
 use Rattle.std.proofs.lemmas.Option.{slice_get-get_or, slice_get-map, slice_get_within, get_or_from_slice_get}
@@ -17,7 +17,7 @@ use Rattle.image_mount.specs.Groups.{IsNamedIn}
 use Rattle.image_mount.specs.Listing.{said, AreRecordsOf, AreDistinct, IsDirectoryIn}
 use Rattle.image_mount.specs.declared.inodes.Inode.{Inode}
 use Rattle.image_mount.specs.declared.listing.Named.{Named}
-use Rattle.image_mount.proofs.Twice.{said_at, at_said}
+use Rattle.image_mount.proofs.Twice.{said_at, at_said, all_taken}
 
 -- ---- a directory that is claimed
 
@@ -28,6 +28,16 @@ has_directory im inode parent is = record {
 }
 
 -- ---- its records
+
+-- what was read behind its dinode is its area
+pub area_of : (im : Image) (a : ℕ) (bytes area : List ℕ) → im.at a ≡ bytes → area ≡ take (length bytes - 232) (drop 232 bytes) → area ≡ linear_area (every im a)
+area_of im a bytes area same is = is ∙ all_taken 232 bytes ∙ ap (drop 232) (sym same)
+
+pub area_in : (im : Image) (a : ℕ) (area : List ℕ) → HasDirectory im a → is_hashed_in (every im a) ≡ false → area ≡ linear_area (every im a) → HasArea im a a area
+area_in im a area directory linear is = subst (HasArea im a a) (sym is) (behind_dinode directory linear)
+
+pub records_of : (im : Image) (a : ℕ) (area : List ℕ) (records : List Record) → HasDirectory im a → is_hashed_in (every im a) ≡ false → area ≡ linear_area (every im a) → records ≡ records_in area → AreRecordsOf im a records
+records_of im a area records directory linear is read = record { directory = directory; linear = linear; all = read ∙ ap records_in is }
 
 contains_at : {X : Type 0} (xs : List X) (i : ℕ) (x : X) → slice_get xs i ≡ Some x → Contains xs x
 contains_at xs i x at = (i, slice_get_within xs i x at, get_or_from_slice_get xs i x x at)

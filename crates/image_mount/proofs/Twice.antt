@@ -1,6 +1,7 @@
 -- Names that come twice.
-use Rattle.std.proofs.Common.{◌≡◌, ◌≢◌, ◌⊎◌, inl, inr, ℕ, zero, suc, ◌+◌, ◌-◌, ◌<◌, ◌≤◌, false, List, [], ◌∷◌, length, drop, get_or, Option, None, Some, refl, sym, ap, subst, ◌∙◌, arith}
-use Rattle.std.specs.Prelude.{map, slice_get}
+use Rattle.std.proofs.Common.{◌≡◌, ◌≢◌, ◌⊎◌, inl, inr, ℕ, zero, suc, ◌+◌, ◌-◌, ◌<◌, ◌≤◌, true, false, List, [], ◌∷◌, length, take, drop, get_or, Option, None, Some, refl, sym, ap, subst, ◌∙◌, arith}
+use Rattle.std.specs.Prelude.{map, slice_get, is_some, IfSome, IfNone}
+use Rattle.std.proofs.lemmas.List.{length-drop, take_all}
 use Rattle.std.specs.Option.{option_map}
 use Rattle.std.proofs.lemmas.Bool.{cases_lt, cases_eq}
 use Rattle.std.proofs.lemmas.Option.{slice_get-map, slice_get-get_or, slice_get_within, get_or_from_slice_get}
@@ -55,9 +56,13 @@ pub at_said : (records : List Named) (k : ℕ) (d : Named) → k < length record
 at_said records k d low = slice_get-map said records k ∙ ap (option_map said) (slice_get-get_or records k d low)
 
 behind : {X : Type 0} (xs : List X) (n i : ℕ) → slice_get (drop n xs) i ≡ slice_get xs (n + i)
-behind xs zero i = ap (slice_get xs) (omega arith)
+behind xs zero i = let place : i ≡ zero + i = omega arith in ap (slice_get xs) place
 behind [] (suc n) i = refl
-behind (x ∷ xs) (suc n) i = behind xs n i
+behind (x ∷ xs) (suc n) i = let place : suc (n + i) ≡ suc n + i = omega arith in behind xs n i ∙ ap (slice_get (x ∷ xs)) place
+
+-- what a slice to the end is
+pub all_taken : {X : Type 0} (n : ℕ) (xs : List X) → take (length xs - n) (drop n xs) ≡ drop n xs
+all_taken n xs = take_all (length xs - n) (drop n xs) (omega (arith, length-drop n xs))
 
 -- the next name comes no more either
 pub distinct_more : (records : List Named) (k : ℕ) (d : Named) → AreDistinctTo (map said records) k
@@ -80,3 +85,17 @@ twice_breaks im a block k j area records found d has is low at named =
     let there : slice_get records (k + 1 + j) ≡ Some found = sym (behind records (k + 1) j) ∙ at in
     let second = ap (λ l. slice_get l (k + 1 + j)) (sym is) ∙ slice_get-map said records (k + 1 + j) ∙ ap (option_map said) there in
     twice_in_area a block k (k + 1 + j) area (said (get_or records k d)) (said found) has first second (omega arith) (sym named)
+
+-- as the code finds it: with what `find` answers for the rest
+pub distinct_next : (records rest : List Named) (name : List ℕ) (k : ℕ) (d : Named) (o : Option Named) → AreDistinctTo (map said records) k → rest ≡ take (length records - (k + 1)) (drop (k + 1) records)
+    → name ≡ (get_or records k d).name.now → false ≡ is_some o → IfNone o ((i : ℕ) (n : Named) → slice_get rest i ≡ Some n → n.name.now ≢ name) → AreDistinctTo (map said records) (k + 1)
+distinct_next records rest name k d None to is named some none =
+    distinct_more records k d to (λ i n at same. none i n (ap (λ l. slice_get l i) (is ∙ all_taken (k + 1) records) ∙ at) (same ∙ sym named))
+distinct_next records rest name k d (Some found) to is named some none = absurd (cc)
+
+pub twice_found : (im : Image) (a block k : ℕ) (area : List ℕ) (records rest : List Named) (name : List ℕ) (d : Named) (o : Option Named) → HasArea im a block area → map said records ≡ records_in area → k < length records
+    → rest ≡ take (length records - (k + 1)) (drop (k + 1) records) → name ≡ (get_or records k d).name.now → true ≡ is_some o → IfSome o (λ found. found.name.now ≡ name)
+    → IfSome o (λ found. (i : ℕ) × (slice_get rest i ≡ Some found)) → Breaks im 10 block
+twice_found im a block k area records rest name d None has all low is named some same there = absurd (cc)
+twice_found im a block k area records rest name d (Some found) has all low is named some same there =
+    twice_breaks im a block k there.0 area records found d has all low (ap (λ l. slice_get l there.0) (sym (is ∙ all_taken (k + 1) records)) ∙ there.1) (same ∙ named)
