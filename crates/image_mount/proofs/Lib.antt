@@ -10,6 +10,7 @@ pub mod Working
 pub mod Names
 pub mod Numbered
 pub mod SystemFiles
+pub mod Systems
 pub mod Marks
 pub mod Heads
 pub mod JournalNames
