@@ -1,12 +1,15 @@
 -- The head of a journal, found from its first place on.
-use Rattle.std.proofs.Common.{◌≡◌, ◌⊎◌, inl, inr, ℕ, zero, suc, ◌+◌, ◌<◌, ◌≤◌, List, length, Option, None, Some, get_or, refl, sym, ap, subst, ◌∙◌, arith}
-use Rattle.std.specs.Prelude.{map, nat_lt, if◌then◌else◌}
+use Rattle.std.proofs.Common.{◌≡◌, ◌≢◌, ◌⊎◌, inl, inr, ℕ, zero, suc, ◌+◌, ◌<◌, ◌≤◌, List, length, Option, None, Some, get_or, refl, sym, ap, subst, ◌∙◌, arith}
+use Rattle.std.specs.Prelude.{map, nat_lt, if◌then◌else◌, Ok, Err}
 use Rattle.std.specs.List.{All, range_with_len}
+use Rattle.std.proofs.lemmas.Bool.{cond-true, cond-false, eq-eqb, ne_eqb}
 use Rattle.std.proofs.lemmas.Bool.Decides.{nat_tests}
 use Rattle.std.proofs.lemmas.List.{length-map}
 use Rattle.std.proofs.lemmas.List.FromFn.{get_or-map-range_with_len, length-range_with_len}
 use Rattle.gfs2_layout.specs.Inode.{content_block}
-use Rattle.gfs2_layout.specs.Journal.{Ring, ring_of, accepted, better, best_from, head_in}
+use Rattle.gfs2_layout.specs.Journal.{Ring, ring_of, if_at, accepted, better, best_from, head_in}
+use Rattle.gfs2_layout.specs.Structures.{log_read}
+use Rattle.gfs2_layout.specs.declared.fault.LayoutFault.{LayoutFault}
 use Rattle.gfs2_layout.specs.declared.log_header.LogHeader.{LogHeader}
 use Rattle.image_model.specs.Claims.{every}
 use Rattle.image_model.specs.Image.{Image}
@@ -60,3 +63,17 @@ device_told im (fault.Damaged block rule) b fails reached = absurd fails
 device_told im (fault.DeviceFault block before after) b fails reached = subst (IsReached im) (sym fails) reached
 device_told im (fault.NotBuilt block) b fails reached = absurd fails
 device_told im fault.NoMemory b fails reached = absurd fails
+
+-- ---- the header at one place
+
+pub accepted_there : (place : ℕ) (bytes : List ℕ) (header : LogHeader) (n : ℕ) → Ok header ≡ log_read bytes → n ≡ header.blkno → n ≡ place → Some header ≡ accepted place bytes
+unfolding accepted
+accepted_there place bytes header n read is at = sym (cond-true _ (Some header) None (eq-eqb header.blkno place (sym is ∙ at))) ∙ ap (if_at place) read
+
+pub accepted_elsewhere : (place : ℕ) (bytes : List ℕ) (header : LogHeader) (n : ℕ) → Ok header ≡ log_read bytes → n ≡ header.blkno → n ≢ place → None ≡ accepted place bytes
+unfolding accepted
+accepted_elsewhere place bytes header n read is other = sym (cond-false _ (Some header) None (ne_eqb header.blkno place (λ e. other (is ∙ e)))) ∙ ap (if_at place) read
+
+pub accepted_none : (place : ℕ) (bytes : List ℕ) (f : LayoutFault) → Err f ≡ log_read bytes → None ≡ accepted place bytes
+unfolding accepted
+accepted_none place bytes f read = ap (if_at place) read

@@ -1,13 +1,17 @@
 -- What is known of the blocks that are kept and of those that are places of journals, as more are read and found.
 use Rattle.std.proofs.Common.{◌≡◌, ◌≢◌, ◌⊎◌, inl, inr, ℕ, zero, suc, ◌+◌, ◌<◌, ◌≤◌, Bool, true, false, List, [], ◌∷◌, ◌++◌, length, Option, None, Some, refl, sym, ap, subst, ◌∙◌, arith}
-use Rattle.std.specs.Prelude.{Contains, slice_get, slice_set, Result, Ok, Err, OnOk}
+use Rattle.std.specs.Prelude.{Contains, slice_get, slice_set, Result, Ok, Err, OnOk, IfOk, is_ok}
 use Rattle.std.specs.List.{All}
 use Rattle.std.proofs.lemmas.Bool.{cases_eq}
+use Rattle.std.proofs.lemmas.Option.{slice_get-get_or, slice_get_within, get_or_from_slice_get}
 use Rattle.std.proofs.lemmas.List.Elements.{Contains-append_left, Contains-push}
 use Rattle.dinode_tree.specs.declared.locating.Located.{Located}
 use Rattle.gfs2_layout.specs.Device.{superblock_place}
+use Rattle.gfs2_layout.specs.Inode.{content_of}
+use Rattle.gfs2_layout.specs.declared.rindex.Rindex.{Rindex}
 use Rattle.glock_names.specs.declared.steps.Entry.{Entry}
-use Rattle.image_model.specs.Claims.{Claims, below}
+use Rattle.image_model.specs.Claims.{every, Claims, below}
+use Rattle.image_model.specs.Groups.{groups_in, IsDataOf}
 use Rattle.image_model.specs.Image.{Image}
 use Rattle.image_model.specs.Owners.{Owner, Below, Named, is_dinode}
 use Rattle.image_model.specs.Rules.{Breaks, no_superblock, beyond_device, beyond_groups, two_owners, IsOutside}
@@ -16,6 +20,7 @@ use Rattle.image_mount.specs.Found.{HasFormat}
 use Rattle.image_mount.specs.Refusals.{RefusesRightly}
 use Rattle.image_mount.specs.Rings.{IsPlace, IsSearched, IsJournalIn, IsNext, IsPlaceAt}
 use Rattle.image_mount.specs.Searching.{IsWanted, StopsRightly}
+use Rattle.image_mount.specs.System.{IsSystemOf}
 use Rattle.image_mount.specs.Table.{Kept, seen_of, bytes_of}
 use Rattle.image_mount.specs.declared.fault.MountFault.{MountFault}
 use Rattle.image_mount.specs.declared.fault.MountFault.TheVariants as fault
@@ -197,3 +202,25 @@ pub searched_on : {T E : Type 0} (r : Result T E) (s : Stop) (block from : ℕ) 
     → OnOk r ((im : Image) (done : List ℕ) (d n : ℕ) → StopsRightly im s → IsSearched im done d n old → IsSearched im done d n new)
 searched_on (Ok x) s block from old new is more = λ im done d n stops known. more im done d n (subst (StopsRightly im) is stops) known
 searched_on (Err e) s block from old new is more = tt
+
+-- ---- blocks of groups
+
+pub outside_groups : (im : Image) (system : System) (b : ℕ) (groups : List Rindex) → IsSystemOf im system → groups ≡ system.groups.items → All (λ g. ¬ (IsDataOf g b)) groups → IsOutside im b
+outside_groups im system b groups looked same none g has inside =
+    let list : groups_in (content_of (every im has.0)) ≡ groups
+    = ap (λ d. groups_in (content_of (every im d))) (looked.one_rindex has.0 has.1) ∙ looked.names.groups.list.listed ∙ sym same in
+    let at : slice_get groups has.2.0 ≡ Some g = ap (λ gs. slice_get gs has.2.0) (sym list) ∙ has.2.1 in
+    let low = slice_get_within groups has.2.0 g at in
+    subst (λ (h : Rindex). ¬ (IsDataOf h b)) (get_or_from_slice_get groups has.2.0 g g at) (none has.2.0 g low) inside
+
+pub above_super : (im : Image) (system : System) (b : ℕ) (groups : List Rindex) → IsSystemOf im system → groups ≡ system.groups.items → (g : Rindex) × Contains groups g × IsDataOf g b → b ≢ superblock_place im.size
+above_super im system b groups looked same inside e =
+    let g = inside.0 in
+    let there = subst (λ gs. Contains gs g) same inside.1 in
+    let fits = looked.names.groups.fit.each g (there.0, slice_get-get_or system.groups.items there.0 g there.1 ∙ ap Some there.2) in
+    absurd (omega (arith, e, fits.above, fits.first, inside.2.low))
+
+-- what is said of an answer holds of one
+pub some_ok : {T E : Type 0} (r : Result T E) (P : T → Type 0) → is_ok r ≡ true → IfOk r P → (x : T) × P x
+some_ok (Ok x) P e holds = (x, holds)
+some_ok (Err f) P e holds = absurd (let no_answer : false ≡ true = e in cc)

@@ -1,6 +1,7 @@
-ghost use Rattle.std.specs.Prelude.{ℕ, ◌≡◌, ◌+◌, ◌-◌, ◌*◌, ◌/◌, ◌%◌, ◌^◌, ◌<◌, ◌≤◌, ◌↔◌, min, true, false, length, map, IsTrue, IfOk, IfErr, OnOk};
+ghost use Rattle.std.specs.Prelude.{ℕ, ◌≡◌, ◌+◌, ◌-◌, ◌*◌, ◌/◌, ◌%◌, ◌^◌, ◌<◌, ◌≤◌, ◌↔◌, min, true, false, length, map, true, Contains, IsTrue, IfOk, IfErr, OnOk};
 ghost use Rattle.std.specs.List.{All};
 ghost use Rattle.gfs2_layout.specs.Inode.{dinode_in, content_of};
+ghost use Rattle.gfs2_layout.specs.declared.rindex.Rindex.{Rindex as RindexValue};
 ghost use Rattle.gfs2_layout.specs.Structures.{rindex_of};
 ghost use Rattle.image_model.specs.Claims.{every, Claims, IsRindex};
 ghost use Rattle.image_model.specs.Groups.{GroupFits, GroupsFit, IsDataOf, end_of as first_behind, groups_in};
@@ -47,7 +48,8 @@ fn end_of(group: &Rindex) -> u64
 /// Whether the block is a data block of one of the groups.
 pub(crate) fn is_data(groups: &[Rindex], block: u64) -> bool
     requires { block + 1 < 2 ^ 64 }
-    ensures { result ≡ false → All (λ g. ¬ (IsDataOf g block)) groups.now }
+    ensures inside { result ≡ true → (g : RindexValue) × Contains groups.now g × IsDataOf g block }
+    ensures outside { result ≡ false → All (λ g. ¬ (IsDataOf g block)) groups.now }
 {
     for group in groups {
         if group.data0 <= block && block < end_of(group) {
