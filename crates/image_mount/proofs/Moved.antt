@@ -9,7 +9,7 @@ use Rattle.std.proofs.lemmas.List.Elements.{All-push}
 use Rattle.dinode_tree.specs.declared.locating.Located.{Located}
 use Rattle.gfs2_layout.specs.Journal.{ring_of}
 use Rattle.glock_names.specs.declared.steps.Entry.{Entry}
-use Rattle.image_model.specs.Claims.{every, Claims, IsRindex}
+use Rattle.image_model.specs.Claims.{every, Claims, IsRindex, master_of}
 use Rattle.image_model.specs.Image.{Image, image_of}
 use Rattle.image_model.specs.Journals.{journal_name}
 use Rattle.image_model.specs.Owners.{Named}
@@ -97,10 +97,10 @@ pub twice_list : (im : Image) (system : System) (j : ℕ) (entry : Entry) (f : M
     → f ≡ fault.Damaged entry.addr 3 → RefusesRightly im f
 twice_list im system j entry f looked at same is =
     let list = looked.names.groups.list.master.rindex in
-    let claim = subst (λ b. Claims im list.0 b (Named _ (codes "rindex"))) (sym same) list.1 in
+    let claim = subst (λ b. Claims im list.0 b (Named (master_of im) (codes "rindex"))) (sym same) list.1 in
     told im f entry.addr 3 is looked.names.groups.list.master.format
-    (two_owners entry.addr system.jindex list.0 (Named system.jindex (journal_name j)) (Named _ (codes "rindex")) (looked.journals.each j entry at).claimed claim
-    (λ e. absurd (omega (arith, ap (λ name. get_or name 0 0) (same_name system.jindex _ (journal_name j) (codes "rindex") e)))))
+    (two_owners entry.addr system.jindex list.0 (Named system.jindex (journal_name j)) (Named (master_of im) (codes "rindex")) (looked.journals.each j entry at).claimed claim
+    (λ e. absurd (omega (arith, ap (λ name. get_or name 0 0) (same_name system.jindex (master_of im) (journal_name j) (codes "rindex") e)))))
 
 got_taken : {X : Type 0} (xs : List X) (n i : ℕ) (x : X) → slice_get (take n xs) i ≡ Some x → (i < n) × (slice_get xs i ≡ Some x)
 got_taken [] zero i x at = cc
@@ -151,3 +151,18 @@ rings_more im journals j entry old new ring are at dinode of is = record {
 
 pub dinodes_more : (old new : List Ring) (ring : Ring) (d : ℕ) → new ≡ old ++ ring ∷ [] → ring.dinode ≡ d → map (λ (r : Ring). r.dinode) old ++ d ∷ [] ≡ map (λ (r : Ring). r.dinode) new
 dinodes_more old new ring d is dinode = ap (λ x. map (λ (r : Ring). r.dinode) old ++ x ∷ []) (sym dinode) ∙ sym (map-append (λ (r : Ring). r.dinode) old (ring ∷ [])) ∙ ap (map (λ (r : Ring). r.dinode)) (sym is)
+
+-- an item of a list that is another's
+pub at_item : {X : Type 0} (xs ys : List X) (i : ℕ) (d : X) → xs ≡ ys → i < length xs → slice_get ys i ≡ Some (get_or xs i d)
+at_item xs ys i d same low = ap (λ zs. slice_get zs i) (sym same) ∙ slice_get-get_or xs i d low
+
+pub inside_now : (old now : DiskState) (blocks : List ℕ) → now ≡ old → All (λ b. b < now.count) blocks → All (λ b. b < old.count) blocks
+inside_now old now blocks same = subst (λ (s : DiskState). All (λ b. b < s.count) blocks) same
+
+pub rings_inside : (n : ℕ) (old new : List Ring) (ring : Ring) → All (λ (r : Ring). All (λ b. b < n) r.blocks.items) old → All (λ b. b < n) ring.blocks.items → new ≡ old ++ ring ∷ []
+    → All (λ (r : Ring). All (λ b. b < n) r.blocks.items) new
+rings_inside n old new ring before here is = subst (All (λ (r : Ring). All (λ b. b < n) r.blocks.items)) (sym is) (All-push (λ (r : Ring). All (λ b. b < n) r.blocks.items) old ring before here)
+
+pub ring_of_turn : (im : Image) (rings : List Ring) (k : ℕ) (ring : Ring) → k < length rings → ring ≡ get_or rings k ring → All (λ (r : Ring). IsRingOf im r.dinode r.blocks.items) rings
+    → IsRingOf im ring.dinode ring.blocks.items
+ring_of_turn im rings k ring low is all = subst (λ (r : Ring). IsRingOf im r.dinode r.blocks.items) (sym is) (all k ring low)

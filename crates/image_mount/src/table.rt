@@ -35,6 +35,7 @@ impl Model for Table {
 impl Table {
     ghost use Rattle.image_mount.specs.Table.{seen_of};
     ghost use Rattle.image_mount.specs.Searching.{IsSteady, LacksBlock};
+    ghost use Rattle.image_mount.specs.declared.fault.MountFault.TheVariants as fault_of;
 
     /// Nothing is kept of so many blocks.
     pub fn new(alloc: Global, size: u32, count: u64) -> Result<Table, MountFault>
@@ -43,6 +44,7 @@ impl Table {
         ensures count { IfOk result (λ table. length table.entries ≡ count) }
         ensures size { IfOk result (λ table. table.size ≡ size) }
         ensures places { IfOk result (λ table. All (λ place. place ≡ false) table.places) }
+        ensures memory { IfErr result (λ fault. fault ≡ fault_of.NoMemory) }
         ensures steady { IfErr result IsSteady }
     {
         let mut entries = Vec::with_capacity(alloc, count as usize)?;
