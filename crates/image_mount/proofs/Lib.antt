@@ -17,6 +17,7 @@ pub mod JournalNames
 pub mod Accepts
 pub mod Places
 pub mod Moved
+pub mod Ending
 pub mod Grouping
 pub mod Records
 pub mod Wanted

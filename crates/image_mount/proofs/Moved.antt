@@ -1,5 +1,5 @@
 -- What a call over a disk tells, in the words of what the disk held before.
-use Rattle.std.proofs.Common.{◌≡◌, ◌≢◌, inl, inr, ℕ, zero, suc, ◌+◌, ◌<◌, ◌≤◌, List, [], ◌∷◌, ◌++◌, length, take, get_or, Some, IsTrue, refl, sym, ap, subst, ◌∙◌, arith}
+use Rattle.std.proofs.Common.{◌≡◌, ◌≢◌, ◌↔◌, Bool, false, inl, inr, ℕ, zero, suc, ◌+◌, ◌<◌, ◌≤◌, List, [], ◌∷◌, ◌++◌, length, take, get_or, Some, IsTrue, refl, sym, ap, subst, ◌∙◌, arith}
 use Rattle.std.specs.Prelude.{codes, map, Contains, slice_get}
 use Rattle.std.specs.List.{All}
 use Rattle.std.proofs.lemmas.Bool.{cases_lt}
@@ -24,7 +24,7 @@ use Rattle.image_mount.specs.declared.fault.MountFault.{MountFault}
 use Rattle.image_mount.specs.declared.fault.MountFault.TheVariants as fault
 use Rattle.image_mount.specs.declared.journals.Ring.{Ring}
 use Rattle.image_mount.specs.declared.system.System.{System}
-use Rattle.image_mount.proofs.Causes.{told}
+use Rattle.image_mount.proofs.Causes.{told, lacks}
 use Rattle.image_mount.proofs.JournalNames.{one_number}
 use Rattle.image_mount.proofs.Names.{contains_at, mapped_at, from_mapped}
 
@@ -55,6 +55,16 @@ module _ (old now : DiskState) (same : now ≡ old) where
       → IsTrue old.tells → IsNext (image_of old) done system journal → IsSearched (image_of old) done 0 0 k → P (image_of old)
   ring_told done system journal k P more =
       subst (λ (s : DiskState). IsTrue s.tells → IsNext (image_of s) done system journal → IsSearched (image_of s) done 0 0 k → P (image_of s)) same more
+
+  pub ring_found : (done : List ℕ) (system : System) (journal : Entry) (k : Kept) (blocks : List ℕ)
+      → (IsTrue now.tells → IsNext (image_of now) done system journal → IsSearched (image_of now) done 0 0 k → IsRingOf (image_of now) journal.addr blocks)
+      → IsTrue old.tells → IsNext (image_of old) done system journal → IsSearched (image_of old) done 0 0 k → IsRingOf (image_of old) journal.addr blocks
+  ring_found done system journal k blocks more = ring_told done system journal k (λ i. IsRingOf i journal.addr blocks) more
+
+  pub ring_searched : (done : List ℕ) (system : System) (journal : Entry) (k new : Kept)
+      → (IsTrue now.tells → IsNext (image_of now) done system journal → IsSearched (image_of now) done 0 0 k → IsSearched (image_of now) (done ++ journal.addr ∷ []) 0 0 new)
+      → IsTrue old.tells → IsNext (image_of old) done system journal → IsSearched (image_of old) done 0 0 k → IsSearched (image_of old) (done ++ journal.addr ∷ []) 0 0 new
+  ring_searched done system journal k new more = ring_told done system journal k (λ i. IsSearched i (done ++ journal.addr ∷ []) 0 0 new) more
 
 -- a block that is marked is kept as it was
 pub working_marked : (s : DiskState) (k new : Kept) → IsWorking s k → new.entries ≡ k.entries → new.size ≡ k.size → IsWorking s new
@@ -166,3 +176,10 @@ rings_inside n old new ring before here is = subst (All (λ (r : Ring). All (λ 
 pub ring_of_turn : (im : Image) (rings : List Ring) (k : ℕ) (ring : Ring) → k < length rings → ring ≡ get_or rings k ring → All (λ (r : Ring). IsRingOf im r.dinode r.blocks.items) rings
     → IsRingOf im ring.dinode ring.blocks.items
 ring_of_turn im rings k ring low is all = subst (λ (r : Ring). IsRingOf im r.dinode r.blocks.items) (sym is) (all k ring low)
+
+-- the journal after those whose rings were found
+pub next_after : (im : Image) (system : System) (j : ℕ) (entry : Entry) (rings now : List Ring) (b : Bool) → IsSystemOf im system → slice_get system.journals.items j ≡ Some entry → entry.addr ≢ system.rindex
+    → IsTrue b ↔ Contains (map (λ (r : Ring). r.dinode) now) entry.addr → b ≡ false → now ≡ rings → IsNext im (map (λ (r : Ring). r.dinode) rings) system entry
+next_after im system j entry rings now b looked at other test failed same =
+    next_in im system j entry (map (λ (r : Ring). r.dinode) rings) looked at other
+    (λ there. lacks b test failed (subst (λ rs. Contains (map (λ (r : Ring). r.dinode) rs) entry.addr) (sym same) there))
