@@ -11,7 +11,7 @@ use Rattle.gfs2_layout.specs.Device.{superblock_place}
 use Rattle.gfs2_layout.specs.Inode.{dinode_in, content_of, unit}
 use Rattle.gfs2_layout.specs.declared.rindex.Rindex.{Rindex}
 use Rattle.image_model.specs.Claims.{every, IsRindex, HasGroup}
-use Rattle.image_model.specs.Groups.{groups_in, entry_length, IsGroupAt, IsListed, IsNear, GroupFits, GroupsFit, end_of}
+use Rattle.image_model.specs.Groups.{groups_in, IsGroupAt, IsListed, IsNear, GroupFits, GroupsFit, end_of}
 use Rattle.image_model.specs.Image.{Image}
 use Rattle.image_model.specs.Listing.{RiseFrom, end_after}
 use Rattle.image_model.specs.Rules.{Breaks}
@@ -32,7 +32,7 @@ use Rattle.image_mount.specs.declared.fault.MountFault.{MountFault}
 use Rattle.image_mount.specs.declared.fault.MountFault.TheVariants as fault
 use Rattle.image_mount.proofs.Causes.{told, told_outside}
 use Rattle.image_mount.proofs.Shown.{inode_at}
-use Rattle.image_mount.specs.Found.{HasFormat, HasMaster, HasList}
+use Rattle.image_mount.specs.Found.{HasFormat, HasMaster}
 use Rattle.image_mount.specs.Groups.{IsListEntry, IsListOf, AreGroups}
 use Rattle.glock_names.specs.declared.steps.Entry.{Entry}
 use Rattle.image_model.specs.Profile.{group_length}
@@ -214,12 +214,14 @@ pub fits_if : (im : Image) (g : Rindex) (size len sum end room : ℕ) → superb
     → end ≡ min (end_of g) (2 ^ 64 - 1) → end ≤ im.count → im.count ≤ 131072 → g.bitbytes * 4 ≡ g.data_blocks → size ≡ im.size → len ≡ g.length → room ≡ 4 * (size - 128 + (len - 1) * (size - 24))
     → (g.data_blocks ≤ room → GroupFits im g) × (GroupFits im g → g.data_blocks ≤ room)
 fits_if im g size len sum end room above some first sum_is end_is inside few whole size_is len_is room_is =
-    let same : room ≡ bitmap_room im.size g.length = room_is ∙ ap (λ s. 4 * (s - 128 + (len - 1) * (s - 24))) size_is ∙ ap (bitmap_room im.size) len_is in
-    ((λ low. record {
-      above = above;
-      some = omega (arith, some);
-      first = omega (arith, first, sum_is, end_is, inside, few);
-      whole = whole;
-      bits = omega (arith, low, same);
-      inside = omega (arith, end_is, inside, few);
-    }), (λ fits. omega (arith, fits.bits, same)))
+    let same : room ≡ bitmap_room im.size g.length = room_is ∙ ap (λ s. 4 * (s - 128 + (len - 1) * (s - 24))) size_is ∙ ap (bitmap_room im.size) len_is in (
+      (λ low. record {
+        above = above;
+        some = omega (arith, some);
+        first = omega (arith, first, sum_is, end_is, inside, few);
+        whole = whole;
+        bits = omega (arith, low, same);
+        inside = omega (arith, end_is, inside, few);
+      }),
+      (λ fits. omega (arith, fits.bits, same)),
+    )

@@ -1,12 +1,12 @@
 -- Blocks that a search wants, in which the image has what it looks for.
-use Rattle.std.proofs.Common.{◌≡◌, ℕ, true, List, Option, None, Some, inr, sym, ap, subst, ◌∙◌}
+use Rattle.std.proofs.Common.{◌≡◌, ℕ, true, List, None, Some, inr, sym, ap, subst, ◌∙◌}
 use Rattle.dinode_tree.specs.Reading.{IsNeeded, IsOnWay, the_dinode, led_to}
 use Rattle.glock_names.specs.declared.steps.Missing.{Missing}
 use Rattle.image_model.specs.Claims.{every, Claims, below}
 use Rattle.image_model.specs.Image.{Image}
 use Rattle.image_model.specs.Owners.{Owner, Below, is_dinode}
 use Rattle.image_mount.specs.Found.{HasFormat}
-use Rattle.image_mount.specs.Searching.{StopsRightly, IsWanted}
+use Rattle.image_mount.specs.Searching.{StopsRightly}
 use Rattle.image_mount.specs.Table.{Kept, seen_of}
 use Rattle.image_mount.specs.declared.stop.Stop.{Stop}
 use Rattle.image_mount.specs.declared.stop.Stop.TheVariants as stop
