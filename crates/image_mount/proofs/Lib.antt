@@ -7,6 +7,15 @@ pub mod Steps
 pub mod Areas
 pub mod Twice
 pub mod Working
+pub mod Names
+pub mod Numbered
+pub mod SystemFiles
+pub mod Systems
+pub mod Marks
+pub mod Heads
+pub mod JournalNames
+pub mod Accepts
+pub mod Places
 pub mod Grouping
 pub mod Records
 pub mod Wanted

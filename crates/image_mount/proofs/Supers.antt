@@ -38,10 +38,11 @@ super_is im bytes s place at same read =
     (answered (header_fault 272 1 100 bytes) (superblock_of bytes) s read).1 ∙ ap superblock_of (sym same ∙ ap im.at at)
 
 pub has_super : (im : Image) (bytes : List ℕ) (s : SuperBlock) (place : ℕ) → place ≡ superblock_place im.size → im.at place ≡ bytes → Ok s ≡ superblock_read bytes
-    → im.count ≤ most_blocks → superblock_place im.size < im.count → HasSuper im
-has_super im bytes s place at same read few inside = record {
+    → im.count ≤ most_blocks → superblock_place im.size < im.count → length bytes ≡ im.size → HasSuper im
+has_super im bytes s place at same read few inside whole = record {
   few = few;
   inside = inside;
+  whole = ap (λ b. length (im.at b)) (sym at) ∙ ap length same ∙ whole;
   header = subst (HasHeader 1 100) (sym same ∙ ap im.at at) (header_is 272 1 100 bytes (answered (header_fault 272 1 100 bytes) (superblock_of bytes) s read).0);
 }
 

@@ -21,6 +21,7 @@ most_blocks = 131072
 pub record HasSuper (im : Image) : Type 0 where
   pub few : im.count ≤ most_blocks
   pub inside : superblock_place im.size < im.count
+  pub whole : length (im.at (superblock_place im.size)) ≡ im.size
   pub header : HasHeader 1 100 (im.at (superblock_place im.size))
 
 pub record HasFormat (im : Image) : Type 0 where

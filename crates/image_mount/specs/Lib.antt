@@ -5,3 +5,5 @@ pub mod Table
 pub mod Searching
 pub mod Listing
 pub mod Groups
+pub mod System
+pub mod Rings

@@ -1,9 +1,10 @@
-ghost use Rattle.std.specs.Prelude.{ℕ, ◌≡◌, ◌+◌, ◌<◌, ◌≤◌, length, IsTrue, true, None, OnOk, IfErr, slice_get, Some};
+ghost use Rattle.std.specs.Prelude.{ℕ, List, ◌≡◌, ◌+◌, ◌<◌, ◌≤◌, length, IsTrue, true, None, OnOk, IfErr, slice_get, Some};
 ghost use Rattle.gfs2_layout.specs.Device.{IsBlockSize};
 ghost use Rattle.shared_disk.specs.Disk.{IsIdle};
-ghost use Rattle.image_model.specs.Image.{image_of};
-ghost use Rattle.image_mount.specs.Refusals.{HasRisen};
-ghost use Rattle.image_mount.specs.Searching.{FailsAt, IsWorking, LacksBlock};
+ghost use Rattle.image_model.specs.Image.{Image, image_of};
+ghost use Rattle.image_mount.specs.Refusals.{HasRisen, RefusesRightly};
+ghost use Rattle.image_mount.specs.Rings.{IsSearched};
+ghost use Rattle.image_mount.specs.Searching.{FailsAt, IsWanted, IsWorking, LacksBlock, StopsRightly};
 ghost use Rattle.image_mount.specs.Table.{seen_of};
 
 use crate::fault::MountFault;
@@ -43,6 +44,7 @@ pub(crate) fn read_into<D: SharedDisk>(
 // Why a block is not read whose number stands in block `from`: it is not on the device, or it is a place of a journal.
 fn check_readable(table: &Table, count: u64, block: u64, from: u64) -> Result<(), MountFault>
     ensures inside { OnOk result (block < count) }
+    ensures refused { (im : Image) (done : List ℕ) (d n : ℕ) → table.now.size ≡ im.size → count ≡ im.count → IsWanted im block from → IsSearched im done d n table.now → IfErr result (RefusesRightly im) }
     ensures steady { IfErr result (λ fault. (f g : ℕ → ℕ) → HasRisen f g fault) }
 {
     if block == superblock_place(table.block_size()) && block >= count {
@@ -68,6 +70,9 @@ pub(crate) fn fetch<D: SharedDisk>(
     requires work { IsWorking (D.state disk.old) table.old }
     requires new { (seen_of table.old).block_at block ≡ None }
     ensures work { OnOk result (IsWorking (D.state disk.new) table.new) }
+    ensures searched { OnOk result ((im : Image) (done : List ℕ) (d n : ℕ) → IsWanted im block from → IsSearched im done d n table.old → IsSearched im done d n table.new) }
+    ensures refused { (done : List ℕ) (d n : ℕ) → IsTrue (D.state disk.old).tells → IsWanted (image_of (D.state disk.old)) block from → IsSearched (image_of (D.state disk.old)) done d n table.old
+        → IfErr result (RefusesRightly (image_of (D.state disk.old))) }
     ensures falls { OnOk result (table.new.left + 1 ≡ table.old.left) }
     ensures places { table.new.places ≡ table.old.places }
     ensures risen { IfErr result (HasRisen (D.faults disk.old) (D.faults disk.new)) }
@@ -93,6 +98,9 @@ pub(crate) fn go_on<D: SharedDisk>(
     requires work { IsWorking (D.state disk.old) table.old }
     requires lacks { LacksBlock table.old stop }
     ensures work { OnOk result (IsWorking (D.state disk.new) table.new) }
+    ensures searched { OnOk result ((im : Image) (done : List ℕ) (d n : ℕ) → StopsRightly im stop → IsSearched im done d n table.old → IsSearched im done d n table.new) }
+    ensures refused { (done : List ℕ) (d n : ℕ) → IsTrue (D.state disk.old).tells → StopsRightly (image_of (D.state disk.old)) stop → IsSearched (image_of (D.state disk.old)) done d n table.old
+        → IfErr result (RefusesRightly (image_of (D.state disk.old))) }
     ensures falls { OnOk result (table.new.left + 1 ≡ table.old.left) }
     ensures places { table.new.places ≡ table.old.places }
     ensures risen { IfErr result (HasRisen (D.faults disk.old) (D.faults disk.new)) }

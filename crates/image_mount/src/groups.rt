@@ -1,8 +1,9 @@
-ghost use Rattle.std.specs.Prelude.{ℕ, ◌≡◌, ◌+◌, ◌-◌, ◌*◌, ◌/◌, ◌%◌, ◌^◌, ◌<◌, ◌≤◌, ◌↔◌, min, true, false, length, map, IsTrue, IfOk, IfErr, OnOk};
+ghost use Rattle.std.specs.Prelude.{ℕ, ◌≡◌, ◌+◌, ◌-◌, ◌*◌, ◌/◌, ◌%◌, ◌^◌, ◌<◌, ◌≤◌, ◌↔◌, min, true, false, length, map, true, Contains, IsTrue, IfOk, IfErr, OnOk};
 ghost use Rattle.std.specs.List.{All};
 ghost use Rattle.gfs2_layout.specs.Inode.{dinode_in, content_of};
+ghost use Rattle.gfs2_layout.specs.declared.rindex.Rindex.{Rindex as RindexValue};
 ghost use Rattle.gfs2_layout.specs.Structures.{rindex_of};
-ghost use Rattle.image_model.specs.Claims.{every, Claims};
+ghost use Rattle.image_model.specs.Claims.{every, Claims, IsRindex};
 ghost use Rattle.image_model.specs.Groups.{GroupFits, GroupsFit, IsDataOf, end_of as first_behind, groups_in};
 ghost use Rattle.image_model.specs.Image.{Image};
 ghost use Rattle.image_model.specs.Listing.{RiseFrom};
@@ -47,7 +48,8 @@ fn end_of(group: &Rindex) -> u64
 /// Whether the block is a data block of one of the groups.
 pub(crate) fn is_data(groups: &[Rindex], block: u64) -> bool
     requires { block + 1 < 2 ^ 64 }
-    ensures { result ≡ false → All (λ g. ¬ (IsDataOf g block)) groups.now }
+    ensures inside { result ≡ true → (g : RindexValue) × Contains groups.now g × IsDataOf g block }
+    ensures outside { result ≡ false → All (λ g. ¬ (IsDataOf g block)) groups.now }
 {
     for group in groups {
         if group.data0 <= block && block < end_of(group) {
@@ -200,7 +202,7 @@ fn read_list(alloc: Global, table: &Table, inode: &Inode, bytes: u32) -> Result<
     ensures found { (im : Image) → IsRead im table.now → (dinode_in (every im inode.now.block)).size ≡ bytes → IfOk result (λ content. content.items ≡ content_of (every im inode.now.block)) }
     ensures length { (im : Image) → IsRead im table.now → (dinode_in (every im inode.now.block)).size ≡ bytes → IfOk result (λ content. length content.items ≡ bytes) }
     ensures most { IfOk result (λ content. length content.items ≤ bytes) }
-    ensures stops { (im : Image) (o : Owner) → IsRead im table.now → Claims im inode.now.from inode.now.block o → is_dinode o ≡ true → HasFormat im → IfErr result (StopsRightly im) }
+    ensures stops { (im : Image) (o : Owner) → IsRead im table.now → Claims im inode.now.from inode.now.block o → is_dinode o ≡ true → HasFormat im → IsRindex im inode.now.block → IfErr result (StopsRightly im) }
     ensures lacks { IfErr result (LacksBlock table.now) }
 {
     // The dinode is kept, and what is missing is a block below it.

@@ -1,8 +1,18 @@
-ghost use Rattle.std.specs.Prelude.{ℕ, ◌≡◌, ◌+◌, ◌<◌, ◌≤◌, length, IsTrue, OnOk, IfOk, IfErr};
+ghost use Rattle.std.specs.Prelude.{ℕ, ◌≡◌, ◌≢◌, ◌+◌, ◌<◌, ◌≤◌, ◌↔◌, ◌++◌, [], ◌∷◌, List, Contains, length, map, Some, IsTrue, OnOk, IfOk, IfErr};
 ghost use Rattle.std.specs.List.{All};
+ghost use Rattle.gfs2_layout.specs.Device.{superblock_place};
+ghost use Rattle.gfs2_layout.specs.Inode.{Fits};
+ghost use Rattle.gfs2_layout.specs.Journal.{accepted as accepted_at, better as better_of, head_in};
 ghost use Rattle.shared_disk.specs.Disk.{IsIdle};
-ghost use Rattle.image_mount.specs.Refusals.{HasRisen};
-ghost use Rattle.image_mount.specs.Searching.{IsSteady, IsWorking, LacksBlock};
+ghost use Rattle.glock_names.specs.declared.steps.Entry.{Entry as EntryValue};
+ghost use Rattle.image_model.specs.Claims.{every};
+ghost use Rattle.image_model.specs.Image.{Image, image_of};
+ghost use Rattle.image_model.specs.Stands.{Layout, IsJournalAt};
+ghost use Rattle.image_mount.specs.Found.{HasNames};
+ghost use Rattle.image_mount.specs.Refusals.{HasRisen, IsReached, RefusesRightly};
+ghost use Rattle.image_mount.specs.Rings.{IsSearched, IsJournalIn, IsNext, HasPlaces, IsPlaceAt, AreBlocksOf, IsRingOf, AreRings, AreJournals, IsHeadOf, ring_at};
+ghost use Rattle.image_mount.specs.Searching.{IsRead, IsSteady, IsWorking, LacksBlock, StopsRightly};
+ghost use Rattle.image_mount.specs.System.{IsSystemOf};
 
 use crate::fault::MountFault;
 use crate::fetching::{go_on, read_into};
@@ -14,9 +24,8 @@ use crate::stop::{Stop, damaged, outside, reads};
 use crate::system::System;
 use crate::table::Table;
 use dinode_tree::{Located, locate};
-use gfs2_layout::{LogHeader, Rindex};
+use gfs2_layout::LogHeader;
 use glock_names::{Entry, Step, View};
-use no_memory::NoMemory;
 use shared_disk::SharedDisk;
 use std::alloc::Global;
 
@@ -29,6 +38,8 @@ pub(crate) struct Ring {
 
 // How many places a journal has, which is a file of whole blocks.
 fn place_count(table: &Table, jindex: u64, journal: &Entry) -> Result<u64, Stop>
+    ensures found { (im : Image) → IsRead im table.now → IfOk result (HasPlaces im journal.now.addr) }
+    ensures stops { (im : Image) → IsRead im table.now → IsJournalIn im jindex journal.now → IfErr result (StopsRightly im) }
     ensures lacks { IfErr result (LacksBlock table.now) }
 {
     let inode = Inode::read(table, jindex, journal.addr)?;
@@ -56,6 +67,11 @@ fn count_places<D: SharedDisk>(
 ) -> Result<u64, MountFault>
     requires work { IsWorking (D.state disk.old) table.old }
     ensures work { OnOk result (IsWorking (D.state disk.new) table.new) }
+    ensures found { IfOk result (λ places. IsTrue (D.state disk.old).tells → HasPlaces (image_of (D.state disk.old)) journal.now.addr places) }
+    ensures searched { OnOk result ((done : List ℕ) (d n : ℕ) → IsTrue (D.state disk.old).tells → IsJournalIn (image_of (D.state disk.old)) jindex journal.now → IsSearched (image_of (D.state disk.old)) done d n table.old
+        → IsSearched (image_of (D.state disk.old)) done d n table.new) }
+    ensures refused { (done : List ℕ) (d n : ℕ) → IsTrue (D.state disk.old).tells → IsJournalIn (image_of (D.state disk.old)) jindex journal.now → IsSearched (image_of (D.state disk.old)) done d n table.old
+        → IfErr result (RefusesRightly (image_of (D.state disk.old))) }
     ensures risen { IfErr result (HasRisen (D.faults disk.old) (D.faults disk.new)) }
     ensures same { D.state disk.new ≡ D.state disk.old }
     ensures list { D.list disk.new ≡ D.list disk.old }
@@ -70,12 +86,18 @@ fn count_places<D: SharedDisk>(
 }
 
 // The block at a place of a journal, which has no hole.
-fn block_at(table: &Table, dinode: u64, place: u64) -> Result<Located, Stop>
+fn block_at(table: &Table, jindex: u64, journal: &Entry, place: u64) -> Result<Located, Stop>
+    ensures found { (im : Image) → IsRead im table.now → IfOk result (IsPlaceAt im journal.now.addr place) }
+    ensures stops { (im : Image) (places : ℕ) → IsRead im table.now → IsJournalIn im jindex journal.now → HasPlaces im journal.now.addr places → place < places → IfErr result (StopsRightly im) }
     ensures lacks { IfErr result (LacksBlock table.now) }
 {
-    match locate(table, dinode, place)? {
+    match locate(table, journal.addr, place)? {
         Step::Is(Some(located)) => Ok(located),
-        Step::Is(None) => Err(Stop::Refused(damaged(dinode, 8))),
+        Step::Is(None) => Err(Stop::Refused(damaged(journal.addr, 8))),
+        Step::NeedBlock(missing) if missing.block == journal.addr => Err(Stop::Reads {
+            block: journal.addr,
+            from: jindex,
+        }),
         Step::NeedBlock(missing) => Err(reads(&missing)),
     }
 }
@@ -84,18 +106,24 @@ fn find_block<D: SharedDisk>(
     alloc: Global,
     disk: &mut D,
     table: &mut Table,
-    dinode: u64,
+    jindex: u64,
+    journal: &Entry,
     place: u64,
 ) -> Result<Located, MountFault>
     requires work { IsWorking (D.state disk.old) table.old }
     ensures work { OnOk result (IsWorking (D.state disk.new) table.new) }
+    ensures found { IfOk result (λ located. IsTrue (D.state disk.old).tells → IsPlaceAt (image_of (D.state disk.old)) journal.now.addr place located) }
+    ensures searched { OnOk result ((done : List ℕ) (d n places : ℕ) → IsTrue (D.state disk.old).tells → IsJournalIn (image_of (D.state disk.old)) jindex journal.now → HasPlaces (image_of (D.state disk.old)) journal.now.addr places → place < places
+        → IsSearched (image_of (D.state disk.old)) done d n table.old → IsSearched (image_of (D.state disk.old)) done d n table.new) }
+    ensures refused { (done : List ℕ) (d n places : ℕ) → IsTrue (D.state disk.old).tells → IsJournalIn (image_of (D.state disk.old)) jindex journal.now → HasPlaces (image_of (D.state disk.old)) journal.now.addr places → place < places
+        → IsSearched (image_of (D.state disk.old)) done d n table.old → IfErr result (RefusesRightly (image_of (D.state disk.old))) }
     ensures risen { IfErr result (HasRisen (D.faults disk.old) (D.faults disk.new)) }
     ensures same { D.state disk.new ≡ D.state disk.old }
     ensures list { D.list disk.new ≡ D.list disk.old }
     ensures later { (j : ℕ) → D.faults disk.old j ≤ D.faults disk.new j }
 {
     loop {
-        match block_at(table, dinode, place) {
+        match block_at(table, jindex, journal, place) {
             Ok(located) => return Ok(located),
             Err(stop) => go_on(alloc, disk, table, stop)?,
         }
@@ -103,11 +131,14 @@ fn find_block<D: SharedDisk>(
 }
 
 // That a place of a journal lies in a group's data blocks, and that its block is neither kept nor another's place.
-fn check_place(table: &Table, groups: &[Rindex], located: &Located) -> Result<(), MountFault>
+fn check_place(table: &Table, system: &System, located: &Located) -> Result<(), MountFault>
     ensures inside { OnOk result (located.now.block < length table.now.entries) }
+    ensures apart { OnOk result ((im : Image) → IsSystemOf im system.now → located.now.block ≢ superblock_place im.size) }
+    ensures refused { (im : Image) (done : List ℕ) (journal : EntryValue) (place : ℕ) → IsRead im table.now → IsNext im done system.now journal → IsSearched im done journal.addr place table.now
+        → IsPlaceAt im journal.addr place located.now → IfErr result (RefusesRightly im) }
     ensures steady { IfErr result IsSteady }
 {
-    if located.block >= table.count() || !is_data(groups, located.block) {
+    if located.block >= table.count() || !is_data(&system.groups, located.block) {
         return Err(damaged(located.from, 2));
     }
     if table.is_place(located.block) || table.get(located.block, located.from).is_ok() {
@@ -121,12 +152,18 @@ fn find_blocks<D: SharedDisk>(
     alloc: Global,
     disk: &mut D,
     table: &mut Table,
-    groups: &[Rindex],
-    dinode: u64,
+    system: &System,
+    journal: &Entry,
     places: u64,
 ) -> Result<Vec<u64>, MountFault>
     requires work { IsWorking (D.state disk.old) table.old }
     ensures work { OnOk result (IsWorking (D.state disk.new) table.new) }
+    ensures found { IfOk result (λ blocks. (done : List ℕ) → IsTrue (D.state disk.old).tells → IsNext (image_of (D.state disk.old)) done system.now journal.now → HasPlaces (image_of (D.state disk.old)) journal.now.addr places
+        → IsSearched (image_of (D.state disk.old)) done journal.now.addr 0 table.old → AreBlocksOf (image_of (D.state disk.old)) journal.now.addr places blocks.items) }
+    ensures searched { OnOk result ((done : List ℕ) → IsTrue (D.state disk.old).tells → IsNext (image_of (D.state disk.old)) done system.now journal.now → HasPlaces (image_of (D.state disk.old)) journal.now.addr places
+        → IsSearched (image_of (D.state disk.old)) done journal.now.addr 0 table.old → IsSearched (image_of (D.state disk.old)) done journal.now.addr places table.new) }
+    ensures refused { (done : List ℕ) → IsTrue (D.state disk.old).tells → IsNext (image_of (D.state disk.old)) done system.now journal.now → HasPlaces (image_of (D.state disk.old)) journal.now.addr places
+        → IsSearched (image_of (D.state disk.old)) done journal.now.addr 0 table.old → IfErr result (RefusesRightly (image_of (D.state disk.old))) }
     ensures inside { IfOk result (λ blocks. All (λ b. b < (D.state disk.old).count) blocks.items) }
     ensures count { IfOk result (λ blocks. length blocks.items ≡ places) }
     ensures risen { IfErr result (HasRisen (D.faults disk.old) (D.faults disk.new)) }
@@ -136,8 +173,8 @@ fn find_blocks<D: SharedDisk>(
 {
     let mut blocks = Vec::with_capacity(alloc, places as usize)?;
     for place in 0..places {
-        let located = find_block(alloc, disk, table, dinode, place)?;
-        check_place(table, groups, &located)?;
+        let located = find_block(alloc, disk, table, system.jindex, journal, place)?;
+        check_place(table, system, &located)?;
         table.mark(located.block);
         blocks.push(located.block)?;
     }
@@ -145,7 +182,9 @@ fn find_blocks<D: SharedDisk>(
 }
 
 // Whether the block is that of the dinode of one of these journals.
-fn has_dinode(rings: &[Ring], block: u64) -> bool {
+fn has_dinode(rings: &[Ring], block: u64) -> bool
+    ensures { IsTrue result ↔ Contains (map (λ (ring : Ring). ring.dinode) rings.now) block }
+{
     for ring in rings {
         if ring.dinode == block {
             return true;
@@ -164,6 +203,12 @@ fn find_ring<D: SharedDisk>(
 ) -> Result<Ring, MountFault>
     requires work { IsWorking (D.state disk.old) table.old }
     ensures work { OnOk result (IsWorking (D.state disk.new) table.new) }
+    ensures dinode { IfOk result (λ ring. ring.dinode ≡ journal.now.addr) }
+    ensures found { IfOk result (λ ring. (done : List ℕ) → IsTrue (D.state disk.old).tells → IsNext (image_of (D.state disk.old)) done system.now journal.now → IsSearched (image_of (D.state disk.old)) done 0 0 table.old
+        → IsRingOf (image_of (D.state disk.old)) journal.now.addr ring.blocks.items) }
+    ensures searched { OnOk result ((done : List ℕ) → IsTrue (D.state disk.old).tells → IsNext (image_of (D.state disk.old)) done system.now journal.now → IsSearched (image_of (D.state disk.old)) done 0 0 table.old
+        → IsSearched (image_of (D.state disk.old)) (done ++ journal.now.addr ∷ []) 0 0 table.new) }
+    ensures refused { (done : List ℕ) → IsTrue (D.state disk.old).tells → IsNext (image_of (D.state disk.old)) done system.now journal.now → IsSearched (image_of (D.state disk.old)) done 0 0 table.old → IfErr result (RefusesRightly (image_of (D.state disk.old))) }
     ensures inside { IfOk result (λ ring. All (λ b. b < (D.state disk.old).count) ring.blocks.items) }
     ensures risen { IfErr result (HasRisen (D.faults disk.old) (D.faults disk.new)) }
     ensures same { D.state disk.new ≡ D.state disk.old }
@@ -172,7 +217,7 @@ fn find_ring<D: SharedDisk>(
 {
     let dinode = journal.addr;
     let places = count_places(alloc, disk, table, system.jindex, journal)?;
-    let blocks = find_blocks(alloc, disk, table, &system.groups, dinode, places)?;
+    let blocks = find_blocks(alloc, disk, table, system, journal, places)?;
     Ok(Ring { dinode, blocks })
 }
 
@@ -185,6 +230,8 @@ pub(crate) fn find_rings<D: SharedDisk>(
 ) -> Result<Vec<Ring>, MountFault>
     requires work { IsWorking (D.state disk.old) table.old }
     ensures work { OnOk result (IsWorking (D.state disk.new) table.new) }
+    ensures found { IfOk result (λ rings. IsTrue (D.state disk.old).tells → IsSystemOf (image_of (D.state disk.old)) system.now → IsSearched (image_of (D.state disk.old)) [] 0 0 table.old → AreRings (image_of (D.state disk.old)) system.now.journals.items rings.items) }
+    ensures refused { IsTrue (D.state disk.old).tells → IsSystemOf (image_of (D.state disk.old)) system.now → IsSearched (image_of (D.state disk.old)) [] 0 0 table.old → IfErr result (RefusesRightly (image_of (D.state disk.old))) }
     ensures inside { IfOk result (λ rings. All (λ (ring : Ring). All (λ b. b < (D.state disk.old).count) ring.blocks.items) rings.items) }
     ensures risen { IfErr result (HasRisen (D.faults disk.old) (D.faults disk.new)) }
     ensures same { D.state disk.new ≡ D.state disk.old }
@@ -203,7 +250,9 @@ pub(crate) fn find_rings<D: SharedDisk>(
 }
 
 // The header that is accepted at a place, if one is.
-fn accepted(place: u64, bytes: &[u8]) -> Option<LogHeader> {
+fn accepted(place: u64, bytes: &[u8]) -> Option<LogHeader>
+    ensures { result ≡ accepted_at place bytes.now }
+{
     match LogHeader::read(bytes) {
         Ok(header) if u64::from(header.blkno) == place => Some(header),
         _ => None,
@@ -211,7 +260,9 @@ fn accepted(place: u64, bytes: &[u8]) -> Option<LogHeader> {
 }
 
 // Of two headers that of higher sequence, and of equal ones the first.
-fn better(first: Option<LogHeader>, second: Option<LogHeader>) -> Option<LogHeader> {
+fn better(first: Option<LogHeader>, second: Option<LogHeader>) -> Option<LogHeader>
+    ensures { result ≡ better_of first second }
+{
     match (first, second) {
         (Some(one), Some(other)) if one.sequence < other.sequence => Some(other),
         (Some(one), _) => Some(one),
@@ -228,6 +279,8 @@ fn best_header<D: SharedDisk>(
     requires idle { IsIdle (D.state disk.old) }
     requires size { length bytes.old ≡ (D.state disk.old).size }
     requires inside { All (λ b. b < (D.state disk.old).count) blocks.now }
+    ensures found { IfOk result (λ best. IsTrue (D.state disk.old).tells → best ≡ head_in (ring_at (D.state disk.old).block_at blocks.now)) }
+    ensures refused { All (IsReached (image_of (D.state disk.old))) blocks.now → IfErr result (RefusesRightly (image_of (D.state disk.old))) }
     ensures risen { IfErr result (HasRisen (D.faults disk.old) (D.faults disk.new)) }
     ensures same { D.state disk.new ≡ D.state disk.old }
     ensures list { D.list disk.new ≡ D.list disk.old }
@@ -252,6 +305,9 @@ fn find_head<D: SharedDisk>(
     requires idle { IsIdle (D.state disk.old) }
     requires size { length bytes.old ≡ (D.state disk.old).size }
     requires inside { All (λ b. b < (D.state disk.old).count) ring.now.blocks.items }
+    ensures found { IfOk result (λ head. IsTrue (D.state disk.old).tells → IsRingOf (image_of (D.state disk.old)) ring.now.dinode ring.now.blocks.items → IsHeadOf (image_of (D.state disk.old)) ring.now.dinode head) }
+    ensures refused { (l : Layout) (j : ℕ) → IsTrue (D.state disk.old).tells → HasNames (image_of (D.state disk.old)) l → IsJournalAt l j ring.now.dinode → IsRingOf (image_of (D.state disk.old)) ring.now.dinode ring.now.blocks.items
+        → IfErr result (RefusesRightly (image_of (D.state disk.old))) }
     ensures risen { IfErr result (HasRisen (D.faults disk.old) (D.faults disk.new)) }
     ensures same { D.state disk.new ≡ D.state disk.old }
     ensures list { D.list disk.new ≡ D.list disk.old }
@@ -266,41 +322,31 @@ fn find_head<D: SharedDisk>(
     Ok(head)
 }
 
-/// The heads of the journals, each in turn. It reads the block at each place once.
-pub(crate) fn find_heads<D: SharedDisk>(
+/// The journals with their heads, each in turn. It reads the block at each place once.
+pub(crate) fn find_journals<D: SharedDisk>(
     alloc: Global,
     disk: &mut D,
-    rings: &[Ring],
-) -> Result<Vec<LogHeader>, MountFault>
+    rings: Vec<Ring>,
+) -> Result<Vec<JournalMap>, MountFault>
     requires idle { IsIdle (D.state disk.old) }
-    requires inside { All (λ (ring : Ring). All (λ b. b < (D.state disk.old).count) ring.blocks.items) rings.now }
+    requires inside { All (λ (ring : Ring). All (λ b. b < (D.state disk.old).count) ring.blocks.items) rings.items }
+    ensures found { IfOk result (λ journals. IsTrue (D.state disk.old).tells → All (λ (ring : Ring). IsRingOf (image_of (D.state disk.old)) ring.dinode ring.blocks.items) rings.items → AreJournals (image_of (D.state disk.old)) rings.items journals.items) }
+    ensures refused { (l : Layout) → IsTrue (D.state disk.old).tells → HasNames (image_of (D.state disk.old)) l → map (λ (ring : Ring). ring.dinode) rings.items ≡ l.journals
+        → All (λ (ring : Ring). IsRingOf (image_of (D.state disk.old)) ring.dinode ring.blocks.items) rings.items → IfErr result (RefusesRightly (image_of (D.state disk.old))) }
     ensures risen { IfErr result (HasRisen (D.faults disk.old) (D.faults disk.new)) }
-    ensures same { D.state disk.new ≡ D.state disk.old }
+    ensures same { D.state disk.new ≡ (D.state disk.old) }
     ensures list { D.list disk.new ≡ D.list disk.old }
     ensures later { (j : ℕ) → D.faults disk.old j ≤ D.faults disk.new j }
 {
     let size = disk.block_size() as usize;
     let mut bytes = vec![in alloc; 0u8; size]?;
-    let mut heads = Vec::with_capacity(alloc, rings.len())?;
-    for ring in rings {
-        let head = find_head(disk, &mut bytes, ring)?;
-        heads.push(head)?;
-    }
-    Ok(heads)
-}
-
-/// The journals with their heads.
-pub(crate) fn map_journals(
-    alloc: Global,
-    rings: Vec<Ring>,
-    heads: &[LogHeader],
-) -> Result<Vec<JournalMap>, NoMemory> {
     let mut journals = Vec::with_capacity(alloc, rings.len())?;
-    for (ring, head) in rings.into_iter().zip(heads) {
+    for ring in rings {
+        let head = find_head(disk, &mut bytes, &ring)?;
         journals.push(JournalMap {
             dinode: ring.dinode,
             blocks: ring.blocks,
-            head: *head,
+            head,
         })?;
     }
     Ok(journals)

@@ -1,15 +1,18 @@
-ghost use Rattle.std.specs.Prelude.{◌≡◌, ◌≤◌, ℕ, map, IsTrue, OnOk, IfOk, IfErr};
+ghost use Rattle.std.specs.Prelude.{◌≡◌, ◌≤◌, ℕ, [], map, IsTrue, OnOk, IfOk, IfErr};
 ghost use Rattle.shared_disk.specs.Disk.{IsIdle};
 ghost use Rattle.gfs2_layout.specs.Device.{IsBlockSize};
-ghost use Rattle.image_model.specs.Image.{image_of};
+ghost use Rattle.image_model.specs.Image.{Image, image_of};
 ghost use Rattle.image_mount.specs.Mounted.{IsMounted, IsOfProfile, group_of_entry};
 ghost use Rattle.image_mount.specs.Refusals.{RefusesRightly, HasRisen, IsExcused};
+ghost use Rattle.image_mount.specs.Found.{most_blocks};
+ghost use Rattle.image_mount.specs.Rings.{IsSearched};
 ghost use Rattle.image_mount.specs.Searching.{IsSteady, IsWorking};
+ghost use Rattle.image_mount.specs.System.{IsSystemOf};
 
 use crate::fault::MountFault;
 use crate::fetching::go_on;
 use crate::field::Field;
-use crate::journals::{find_heads, find_rings, map_journals};
+use crate::journals::{find_journals, find_rings};
 use crate::mounted::Mounted;
 use crate::stop::outside;
 use crate::system::{System, find_system};
@@ -22,7 +25,8 @@ use std::alloc::Global;
 
 // That the device has no more blocks than are mounted.
 fn check_device(count: u64) -> Result<(), MountFault>
-    ensures few { OnOk result (count ≤ 131072) }
+    ensures few { OnOk result (count ≤ most_blocks) }
+    ensures refused { (im : Image) → count ≡ im.count → IfErr result (RefusesRightly im) }
     ensures steady { IfErr result IsSteady }
 {
     if count > 131_072 {
@@ -39,6 +43,9 @@ fn search_system<D: SharedDisk>(
 ) -> Result<System, MountFault>
     requires work { IsWorking (D.state disk.old) table.old }
     ensures work { OnOk result (IsWorking (D.state disk.new) table.new) }
+    ensures found { IfOk result (λ system. IsTrue (D.state disk.old).tells → (D.state disk.old).count ≤ most_blocks → IsSearched (image_of (D.state disk.old)) [] 0 0 table.old → IsSystemOf (image_of (D.state disk.old)) system) }
+    ensures searched { OnOk result (IsTrue (D.state disk.old).tells → (D.state disk.old).count ≤ most_blocks → IsSearched (image_of (D.state disk.old)) [] 0 0 table.old → IsSearched (image_of (D.state disk.old)) [] 0 0 table.new) }
+    ensures refused { IsTrue (D.state disk.old).tells → (D.state disk.old).count ≤ most_blocks → IsSearched (image_of (D.state disk.old)) [] 0 0 table.old → IfErr result (RefusesRightly (image_of (D.state disk.old))) }
     ensures risen { IfErr result (HasRisen (D.faults disk.old) (D.faults disk.new)) }
     ensures same { D.state disk.new ≡ D.state disk.old }
     ensures list { D.list disk.new ≡ D.list disk.old }
@@ -88,10 +95,10 @@ pub fn mount_image<D: SharedDisk>(alloc: Global, disk: &mut D) -> Result<Mounted
     let mut table = Table::new(alloc, disk.block_size(), disk.blocks())?;
     let system = search_system(alloc, disk, &mut table)?;
     let rings = find_rings(alloc, disk, &mut table, &system)?;
-    let heads = find_heads(alloc, disk, &rings)?;
+    let journals = find_journals(alloc, disk, rings)?;
     Ok(Mounted {
         sb: system.superblock,
         groups: map_groups(alloc, &system.groups)?,
-        journals: map_journals(alloc, rings, &heads)?,
+        journals,
     })
 }

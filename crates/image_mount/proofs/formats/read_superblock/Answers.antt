@@ -17,7 +17,7 @@ returns-in_err-check_formats-clause-stops c im read few =
     let same = read.same _ _ c.in_ok-bytes.ensures.bytes in
     let low : superblock_place im.size < im.count = omega (arith, at, read.count, kept_inside c.args.table.now.entries c.superblock_place-place.result c.in_ok-bytes.bytes.now c.in_ok-bytes.ensures.bytes) in
     stopped im _ _ c.from_residual-in_err-check_formats.ensures.1
-    (c.in_err-check_formats.ensures.refused im (has_super im _ c.in-Ok.superblock _ at same c.in-Ok.ensures few low) (super_is im _ c.in-Ok.superblock _ at same c.in-Ok.ensures) (c.block_size-size.ensures.value ∙ read.size))
+    (c.in_err-check_formats.ensures.refused im (has_super im _ c.in-Ok.superblock _ at same c.in-Ok.ensures few low (c.in_ok-bytes.ensures.whole ∙ read.size)) (super_is im _ c.in-Ok.superblock _ at same c.in-Ok.ensures) (c.block_size-size.ensures.value ∙ read.size))
 
 pub returns-clause-found : goal.returns-clause-found
 returns-clause-found c im read =
@@ -29,4 +29,4 @@ returns-clause-format c im read few =
     let at : c.superblock_place-place.result ≡ superblock_place im.size = c.superblock_place-place.ensures ∙ ap superblock_place (c.block_size-size.ensures.value ∙ read.size) in
     let same = read.same _ _ c.in_ok-bytes.ensures.bytes in
     let low : superblock_place im.size < im.count = omega (arith, at, read.count, kept_inside c.args.table.now.entries c.superblock_place-place.result c.in_ok-bytes.bytes.now c.in_ok-bytes.ensures.bytes) in
-    c.in_ok-check_formats.ensures.format im (has_super im _ c.in-Ok.superblock _ at same c.in-Ok.ensures few low) (super_is im _ c.in-Ok.superblock _ at same c.in-Ok.ensures) (c.block_size-size.ensures.value ∙ read.size)
+    c.in_ok-check_formats.ensures.format im (has_super im _ c.in-Ok.superblock _ at same c.in-Ok.ensures few low (c.in_ok-bytes.ensures.whole ∙ read.size)) (super_is im _ c.in-Ok.superblock _ at same c.in-Ok.ensures) (c.block_size-size.ensures.value ∙ read.size)

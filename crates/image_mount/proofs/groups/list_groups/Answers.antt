@@ -1,12 +1,14 @@
-use Rattle.std.proofs.Common.{◌≡◌, ◌%◌, length, sym, ap, subst, ◌∙◌, arith}
+use Rattle.std.proofs.Common.{◌≡◌, ◌%◌, length, refl, sym, ap, subst, ◌∙◌, arith}
 use Rattle.gfs2_layout.specs.Inode.{dinode_in}
 use Rattle.gfs2_layout.specs.declared.dinode.Dinode.{Dinode}
-use Rattle.image_model.specs.Claims.{every}
+use Rattle.std.specs.Prelude.{codes}
+use Rattle.image_model.specs.Claims.{every, Claims, IsRindex}
+use Rattle.image_model.specs.Owners.{Named}
 use Rattle.image_model.specs.Groups.{groups_in}
 use Rattle.image_model.specs.Rules.{HasRecordIn}
 use Rattle.image_mount.specs.Refusals.{RefusesRightly}
 use Rattle.image_mount.proofs.Grouping.{list_of, list_groups, groups_some, groups_are}
-use Rattle.image_mount.proofs.Stops.{stopped}
+use Rattle.image_mount.proofs.Stops.{passed, stopped}
 use Rattle.image_mount.proofs.groups.list_groups.Goals as goal
 
 pub returns-in_err-check_record-clause-stops : goal.returns-in_err-check_record-clause-stops
@@ -15,6 +17,15 @@ returns-in_err-check_record-clause-stops c im read of_count is =
     let dinode : inode.dinode ≡ dinode_in (every im inode.block) = c.in_ok-inode.ensures.found im read ∙ ap (λ a. dinode_in (every im a)) (sym c.in_ok-inode.ensures.block) in
     stopped im _ _ c.from_residual-in_err-check_record.ensures.1
     (c.in_err-check_record.ensures.refused im c.args.master is.named.row dinode is.found.format (subst (λ x. HasRecordIn im c.args.master x is.named.row) (sym c.in_ok-inode.ensures.from) is.named.there) is.named.is)
+
+pub returns-in_err-content-clause-stops : goal.returns-in_err-content-clause-stops
+returns-in_err-content-clause-stops c im read of_count is =
+    let inode = c.in_ok-inode.inode in
+    let at = c.in_ok-inode.ensures.block in
+    passed im _ _ c.from_residual-in_err-content.ensures.1
+    (c.in_err-content.ensures.stops im (Named c.args.master (codes "rindex")) read
+    (subst (λ a. Claims im inode.from a (Named c.args.master (codes "rindex"))) (sym at) (subst (λ b. Claims im b c.args.rindex.now.addr (Named c.args.master (codes "rindex"))) (sym c.in_ok-inode.ensures.from) is.named.claimed))
+    refl is.found.format (subst (IsRindex im) (is.rindex ∙ sym at) is.found.rindex))
 
 pub returns-in_err-groups-clause-stops : goal.returns-in_err-groups-clause-stops
 returns-in_err-groups-clause-stops c im read of_count is = stopped im _ _ c.from_residual-in_err-groups.ensures.1 (subst (RefusesRightly im) (sym c.in_err-groups.ensures.memory) tt)

@@ -1,3 +1,5 @@
+use Rattle.std.proofs.Common.{inr}
+use Rattle.image_mount.proofs.Wanted.{dinode_leads}
 use Rattle.image_model.specs.Claims.{every}
 use Rattle.gfs2_layout.specs.Inode.{dinode_in, Fits}
 use Rattle.std.proofs.Common.{◌≡◌}
@@ -20,3 +22,6 @@ returns-in-Is-clause-found c im read =
 pub returns-in-Is-clause-fits : goal.returns-in-Is-clause-fits
 returns-in-Is-clause-fits c im read =
     answer_at c.in_ok-dinode.field-0 c.in-Is.dinode (λ d. Fits (every im c.args.block)) c.in-Is.is (c.in_ok-dinode.ensures.fits (every im c.args.block) (shown im c.args.table.now c.args.block read))
+
+pub returns-in-NeedBlock-clause-stops : goal.returns-in-NeedBlock-clause-stops
+returns-in-NeedBlock-clause-stops c im o read claimed dinode format = inr (format, (o, claimed, dinode_leads im o dinode))
