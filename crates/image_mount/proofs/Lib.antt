@@ -16,6 +16,7 @@ pub mod Heads
 pub mod JournalNames
 pub mod Accepts
 pub mod Places
+pub mod Moved
 pub mod Grouping
 pub mod Records
 pub mod Wanted

@@ -1,6 +1,6 @@
 -- What is known of the blocks that are kept and of those that are places of journals, as more are read and found.
 use Rattle.std.proofs.Common.{◌≡◌, ◌≢◌, ◌⊎◌, inl, inr, ℕ, zero, suc, ◌+◌, ◌<◌, ◌≤◌, Bool, true, false, List, [], ◌∷◌, ◌++◌, length, Option, None, Some, refl, sym, ap, subst, ◌∙◌, arith}
-use Rattle.std.specs.Prelude.{Contains, slice_get, slice_set, Result, Ok, Err, OnOk, IfOk, is_ok}
+use Rattle.std.specs.Prelude.{Contains, slice_get, slice_set, IsTrue, Result, Ok, Err, OnOk, IfOk, is_ok}
 use Rattle.std.specs.List.{All}
 use Rattle.std.proofs.lemmas.Bool.{cases_eq}
 use Rattle.std.proofs.lemmas.Option.{slice_get-get_or, slice_get_within, get_or_from_slice_get}
@@ -12,7 +12,8 @@ use Rattle.gfs2_layout.specs.declared.rindex.Rindex.{Rindex}
 use Rattle.glock_names.specs.declared.steps.Entry.{Entry}
 use Rattle.image_model.specs.Claims.{every, Claims, below}
 use Rattle.image_model.specs.Groups.{groups_in, IsDataOf}
-use Rattle.image_model.specs.Image.{Image}
+use Rattle.shared_disk.specs.Disk.{DiskState}
+use Rattle.image_model.specs.Image.{Image, image_of}
 use Rattle.image_model.specs.Owners.{Owner, Below, Named, is_dinode}
 use Rattle.image_model.specs.Rules.{Breaks, no_superblock, beyond_device, beyond_groups, two_owners, IsOutside}
 use Rattle.image_model.specs.Journals.{journal_name}
@@ -224,3 +225,10 @@ above_super im system b groups looked same inside e =
 pub some_ok : {T E : Type 0} (r : Result T E) (P : T → Type 0) → is_ok r ≡ true → IfOk r P → (x : T) × P x
 some_ok (Ok x) P e holds = (x, holds)
 some_ok (Err f) P e holds = absurd (let no_answer : false ≡ true = e in cc)
+
+-- why what is wanted isn't read, of a disk that holds what it held before
+pub go_refused : (old now : DiskState) (s : Stop) (k : Kept) (f : MountFault) (done : List ℕ) (d n : ℕ) → now ≡ old
+    → ((done : List ℕ) (d n : ℕ) → IsTrue now.tells → StopsRightly (image_of now) s → IsSearched (image_of now) done d n k → RefusesRightly (image_of now) f)
+    → IsTrue old.tells → StopsRightly (image_of old) s → IsSearched (image_of old) done d n k → RefusesRightly (image_of old) f
+go_refused old now s k f done d n same more =
+    subst (λ (t : DiskState). IsTrue t.tells → StopsRightly (image_of t) s → IsSearched (image_of t) done d n k → RefusesRightly (image_of t) f) same (more done d n)

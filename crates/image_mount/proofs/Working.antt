@@ -43,3 +43,7 @@ refilled x items len count same = ap (λ n. take n (x ++ drop (length x) items))
 -- nothing is kept yet
 pub working_new : (s : DiskState) (k : Kept) → IsIdle s → k.size ≡ s.size → length k.entries ≡ s.count → All (λ kept. kept ≡ None) k.entries → IsWorking s k
 working_new s k idle size count none = record { idle = idle; size = size; count = count; same = λ tells b bytes at. absurd (none_kept k.entries b bytes none at) }
+
+-- the same, where the disk holds what it held before
+pub read_now : (old now : DiskState) (k : Kept) → now ≡ old → IsTrue old.tells → IsWorking now k → IsRead (image_of old) k
+read_now old now k same tells work = read_of old k tells (subst (λ s. IsWorking s k) same work)

@@ -52,7 +52,7 @@ fn place_count(table: &Table, jindex: u64, journal: &Entry) -> Result<u64, Stop>
         return Err(Stop::Refused(damaged(inode.block, 8)));
     }
     let places = inode.dinode.size / u64::from(size);
-    if !(512..=65_536).contains(&places) {
+    if places < 512 || places > 65_536 {
         return Err(Stop::Refused(outside(Field::Journal, places)));
     }
     Ok(places)

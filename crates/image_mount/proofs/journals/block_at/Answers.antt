@@ -54,12 +54,12 @@ pub returns-in-NeedBlock-2-clause-stops : goal.returns-in-NeedBlock-2-clause-sto
 returns-in-NeedBlock-2-clause-stops c im places read of has low =
     let d = c.args.journal.now.addr in
     subst (StopsRightly im) (sym c.reads.ensures)
-    (above_wanted im c.args.jindex c.args.journal.now (seen_of c.args.table.now) c.args.place c.in-NeedBlock-2.missing of
-    (needed_at c.in_ok-located.field-0 c.in-NeedBlock-2.missing _ c.in-NeedBlock-2.is (c.in_ok-located.ensures.needed (every im d) (shown im c.args.table.now d read))) c.if-missing-journal.false)
+    (above_wanted im c.args.jindex c.args.journal.now (seen_of c.args.table.now) c.args.place c.in-NeedBlock.missing of
+    (needed_at c.in_ok-located.field-0 c.in-NeedBlock.missing _ c.in-NeedBlock.is (c.in_ok-located.ensures.needed (every im d) (shown im c.args.table.now d read))) c.if-missing-journal.false)
 
 pub returns-in-NeedBlock-2-clause-lacks : goal.returns-in-NeedBlock-2-clause-lacks
 returns-in-NeedBlock-2-clause-lacks c =
     let v = seen_of c.args.table.now in
     let d = c.args.journal.now.addr in
-    lacks_needed c.args.table.now (seen_in v d) _ 1 c.in-NeedBlock-2.missing _ c.reads.ensures
-    (needed_at c.in_ok-located.field-0 c.in-NeedBlock-2.missing _ c.in-NeedBlock-2.is (c.in_ok-located.ensures.needed (seen_in v d) (shown_by v d)))
+    lacks_needed c.args.table.now (seen_in v d) _ 1 c.in-NeedBlock.missing _ c.reads.ensures
+    (needed_at c.in_ok-located.field-0 c.in-NeedBlock.missing _ c.in-NeedBlock.is (c.in_ok-located.ensures.needed (seen_in v d) (shown_by v d)))

@@ -1,4 +1,4 @@
-use Rattle.std.proofs.Common.{◌≡◌, ◌≢◌, ℕ, Some, true, sym, arith}
+use Rattle.std.proofs.Common.{◌≡◌, ◌≢◌, ℕ, Some, true, sym, ◌∙◌, arith}
 use Rattle.gfs2_layout.specs.Device.{superblock_place}
 use Rattle.image_mount.specs.Table.{seen_of}
 use Rattle.image_mount.proofs.Marks.{place_beyond, place_outside, place_again, place_kept, outside_groups, above_super, some_ok}
@@ -24,7 +24,7 @@ returns-then-is_place-clause-refused c im done journal place read next known at 
     elim c.then-is_place.branch [
       | then-is_place-via-then-is_place w ↦ place_again im done system journal next _ place located c.damaged-then-is_place.ensures at (known.marked located.block (c.is_place.ensures.0 w.if-is_place.true))
       | then-is_place-via-else-is_place+then-is_ok w ↦
-          let kept = some_ok w.get.result (λ bytes. (seen_of c.args.table.now).block_at located.block ≡ Some bytes.now) ? w.get.ensures.bytes in
+          let kept = some_ok w.get.result (λ bytes. (seen_of c.args.table.now).block_at located.block ≡ Some bytes.now) (sym w.is_ok.ensures.value ∙ w.if-is_ok.true) w.get.ensures.bytes in
           let wanted = known.wanted located.block kept.0.now kept.1 in
           place_kept im done system journal next _ place located wanted.0 c.damaged-then-is_place.ensures at wanted.1 apart
     ]
