@@ -1,10 +1,10 @@
 -- The records of an area, as they are read one after another.
-use Rattle.std.proofs.Common.{◌≡◌, ◌≢◌, ℕ, zero, suc, ◌+◌, ◌<◌, List, [], ◌∷◌, ◌++◌, length, Bool, true, false, IsTrue, refl, sym, ap, subst, ◌∙◌, arith, append_assoc}
+use Rattle.std.proofs.Common.{◌≡◌, ◌≢◌, ℕ, suc, List, [], ◌∷◌, ◌++◌, Bool, true, IsTrue, refl, sym, ap, subst, ◌∙◌, arith, append_assoc}
 use Rattle.std.specs.Prelude.{map, filter, Contains}
 use Rattle.std.proofs.lemmas.List.{map-append, append-nil}
 use Rattle.std.proofs.lemmas.List.Elements.{filter-append}
 use Rattle.crc_words.specs.Remainder.{crc32_of}
-use Rattle.gfs2_layout.specs.Area.{Slot, name_of, slots_of, IsShown}
+use Rattle.gfs2_layout.specs.Area.{Slot, slots_of, IsShown}
 use Rattle.gfs2_layout.specs.Records.{Record, record_of, records_in}
 use Rattle.gfs2_layout.specs.Structures.{is_in_use}
 use Rattle.gfs2_layout.specs.declared.dirent.Dirent.{Dirent}

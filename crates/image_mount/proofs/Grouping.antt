@@ -3,46 +3,40 @@ use Rattle.std.proofs.Common.{◌≡◌, ◌≢◌, ◌⊎◌, inl, inr, ℕ, ze
 use Rattle.std.specs.Prelude.{slice_get, codes}
 use Rattle.std.specs.List.{AllByRecursion}
 use Rattle.std.proofs.lemmas.Bool.{cases_lt}
+use Rattle.std.proofs.lemmas.List.{drop_more, take-append-drop, take-take, take_all}
 use Rattle.std.proofs.lemmas.Option.{slice_get-get_or}
-use Rattle.std.proofs.lemmas.List.{drop_more, take-append-drop}
 use Rattle.std.proofs.Math.Nat.{zero-div}
 use Rattle.std.proofs.Math.Seq.{take-suc}
 use Rattle.gfs2_layout.specs.Device.{superblock_place}
+use Rattle.gfs2_layout.specs.Holding.{Holding}
 use Rattle.gfs2_layout.specs.Inode.{dinode_in, content_of, unit}
+use Rattle.gfs2_layout.specs.declared.dinode.Dinode.{Dinode}
 use Rattle.gfs2_layout.specs.declared.rindex.Rindex.{Rindex}
-use Rattle.image_model.specs.Claims.{every, IsRindex, HasGroup}
-use Rattle.image_model.specs.Groups.{groups_in, entry_length, IsGroupAt, IsListed, IsNear, GroupFits, GroupsFit, end_of}
+use Rattle.glock_names.specs.declared.steps.Entry.{Entry}
+use Rattle.dinode_tree.specs.Reading.{content_range, AreWholeBefore}
+use Rattle.image_model.specs.Claims.{every, HasGroup, IsRindex, LeadsTo}
+use Rattle.image_model.specs.Groups.{groups_in, bitmap_room, IsGroupAt, IsListed, IsNear, GroupFits, GroupsFit, end_of}
 use Rattle.image_model.specs.Image.{Image}
 use Rattle.image_model.specs.Listing.{RiseFrom, end_after}
-use Rattle.image_model.specs.Rules.{Breaks}
+use Rattle.image_model.specs.Profile.{group_length}
+use Rattle.image_model.specs.Rules.{Breaks, part_of_entry}
 use Rattle.image_model.specs.Stands.{Layout}
 use Rattle.image_model.proofs.Listing.{all_fit, all_above, rise_more, end_more, unfit_entry, early_entry, groups_count}
-use Rattle.dinode_tree.specs.Reading.{content_range, AreWholeBefore}
-use Rattle.image_model.specs.Groups.{bitmap_room}
-use Rattle.image_model.specs.Owners.{Named}
-use Rattle.image_model.specs.Rules.{part_of_entry}
-use Rattle.image_model.specs.Claims.{HasInode, LeadsTo, master_of}
-use Rattle.gfs2_layout.specs.Holding.{Holding}
-use Rattle.gfs2_layout.specs.declared.dinode.Dinode.{Dinode}
-use Rattle.std.proofs.lemmas.List.{take-take, take_all}
+use Rattle.image_mount.specs.Found.{HasFormat, HasMaster}
+use Rattle.image_mount.specs.Groups.{IsListEntry, IsListOf, AreGroups}
 use Rattle.image_mount.specs.Refusals.{IsOutside, RefusesRightly}
 use Rattle.image_mount.specs.Refusals as outside
-use Rattle.image_mount.specs.declared.field.Field.TheVariants as field
 use Rattle.image_mount.specs.declared.fault.MountFault.{MountFault}
 use Rattle.image_mount.specs.declared.fault.MountFault.TheVariants as fault
+use Rattle.image_mount.specs.declared.field.Field.TheVariants as field
 use Rattle.image_mount.proofs.Causes.{told, told_outside}
-use Rattle.image_mount.proofs.Shown.{inode_at}
-use Rattle.image_mount.specs.Found.{HasFormat, HasMaster, HasList}
-use Rattle.image_mount.specs.Groups.{IsListEntry, IsListOf, AreGroups}
-use Rattle.glock_names.specs.declared.steps.Entry.{Entry}
-use Rattle.image_model.specs.Profile.{group_length}
 
 -- ---- what is known of the list
 
 abbrev pub with_groups : Layout → List Rindex → Layout
 with_groups l groups = record { root = l.root; master = l.master; rindex = l.rindex; jindex = l.jindex; groups = groups; journals = l.journals }
 
-pub master_with : (im : Image) (l : Layout) (groups : List Rindex) → HasMaster im l → HasMaster im (with_groups l groups)
+master_with : (im : Image) (l : Layout) (groups : List Rindex) → HasMaster im l → HasMaster im (with_groups l groups)
 master_with im l groups has = record {
   format = has.format;
   root = has.root;
@@ -159,10 +153,6 @@ pub wrong_part : (im : Image) (f : MountFault) (l : Layout) (a : ℕ) (d : Dinod
 wrong_part im f l a d is has at read other =
     told im f a 18 is has.format (part_of_entry a (subst (IsRindex im) at has.rindex) (λ e. other (ap (λ (x : Dinode). x.size % 96) read ∙ e)))
 
--- the inode of the list, as one that is claimed
-pub list_inode : (im : Image) (l : Layout) (a : ℕ) → HasMaster im l → l.rindex ≡ a → HasInode im a
-list_inode im l a has at = subst (HasInode im) at (inode_at im has.rindex.0 l.rindex (Named (master_of im) (codes "rindex")) has.rindex.1 refl)
-
 cut : (h : Holding) → take (dinode_in h).size (content_of h) ≡ content_of h
 unfolding content_of
 cut h = take-take (dinode_in h).size (dinode_in h).size _ (omega arith)
@@ -214,12 +204,14 @@ pub fits_if : (im : Image) (g : Rindex) (size len sum end room : ℕ) → superb
     → end ≡ min (end_of g) (2 ^ 64 - 1) → end ≤ im.count → im.count ≤ 131072 → g.bitbytes * 4 ≡ g.data_blocks → size ≡ im.size → len ≡ g.length → room ≡ 4 * (size - 128 + (len - 1) * (size - 24))
     → (g.data_blocks ≤ room → GroupFits im g) × (GroupFits im g → g.data_blocks ≤ room)
 fits_if im g size len sum end room above some first sum_is end_is inside few whole size_is len_is room_is =
-    let same : room ≡ bitmap_room im.size g.length = room_is ∙ ap (λ s. 4 * (s - 128 + (len - 1) * (s - 24))) size_is ∙ ap (bitmap_room im.size) len_is in
-    ((λ low. record {
-      above = above;
-      some = omega (arith, some);
-      first = omega (arith, first, sum_is, end_is, inside, few);
-      whole = whole;
-      bits = omega (arith, low, same);
-      inside = omega (arith, end_is, inside, few);
-    }), (λ fits. omega (arith, fits.bits, same)))
+    let same : room ≡ bitmap_room im.size g.length = room_is ∙ ap (λ s. 4 * (s - 128 + (len - 1) * (s - 24))) size_is ∙ ap (bitmap_room im.size) len_is in (
+      (λ low. record {
+        above = above;
+        some = omega (arith, some);
+        first = omega (arith, first, sum_is, end_is, inside, few);
+        whole = whole;
+        bits = omega (arith, low, same);
+        inside = omega (arith, end_is, inside, few);
+      }),
+      (λ fits. omega (arith, fits.bits, same)),
+    )

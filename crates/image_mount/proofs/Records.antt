@@ -1,16 +1,15 @@
 -- The records of a linear directory.
-use Rattle.std.proofs.Common.{◌≡◌, ◌≢◌, ℕ, ◌+◌, ◌-◌, ◌<◌, true, false, List, length, take, drop, get_or, Some, refl, sym, ap, subst, ◌∙◌, arith}
+use Rattle.std.proofs.Common.{◌≡◌, ◌≢◌, ℕ, ◌-◌, false, List, length, take, drop, get_or, Some, refl, sym, ap, subst, ◌∙◌}
 use Rattle.std.specs.Prelude.{map, slice_get, codes, Contains}
 use Rattle.std.specs.List.{All}
 use Rattle.std.proofs.lemmas.Option.{slice_get-get_or, slice_get-map, slice_get_within, get_or_from_slice_get}
 use Rattle.std.specs.Option.{option_map}
-use Rattle.gfs2_layout.specs.Inode.{dinode_in, is_directory_in, is_hashed_in, has_hash_flag, linear_area}
+use Rattle.gfs2_layout.specs.Inode.{is_hashed_in, linear_area}
 use Rattle.gfs2_layout.specs.Records.{Record, records_in, is_dots}
-use Rattle.gfs2_layout.specs.Structures.{is_directory, dinode_length}
-use Rattle.gfs2_layout.specs.declared.dinode.Dinode.{Dinode}
+use Rattle.gfs2_layout.specs.Structures.{is_directory}
 use Rattle.image_model.specs.Claims.{every, Claims, in_dinode, in_leaf, HasDirectory, HasArea, behind_dinode, of_leaf}
 use Rattle.image_model.specs.Image.{Image}
-use Rattle.image_model.specs.Owners.{Named as named_by, parent_of}
+use Rattle.image_model.specs.Owners.{Named as named_by}
 use Rattle.image_model.specs.Rules.{Breaks, HasRecordIn, HasRecords, from_dinode_block, no_dot, no_dots, other_dot, other_dots}
 use Rattle.image_model.proofs.Directories.{leaf_is_hashed, not_both}
 use Rattle.image_mount.specs.Groups.{IsNamedIn}

@@ -1,5 +1,5 @@
 -- Names that come twice.
-use Rattle.std.proofs.Common.{◌≡◌, ◌≢◌, ◌⊎◌, inl, inr, ℕ, zero, suc, ◌+◌, ◌-◌, ◌<◌, ◌≤◌, true, false, List, [], ◌∷◌, length, take, drop, get_or, Option, None, Some, refl, sym, ap, subst, ◌∙◌, arith}
+use Rattle.std.proofs.Common.{◌≡◌, ◌≢◌, inl, inr, ℕ, zero, suc, ◌+◌, ◌-◌, ◌<◌, ◌≤◌, true, false, List, [], ◌∷◌, length, take, drop, get_or, Option, None, Some, refl, sym, ap, ◌∙◌, arith}
 use Rattle.std.specs.Prelude.{map, slice_get, is_some, IfSome, IfNone}
 use Rattle.std.proofs.lemmas.List.{length-drop, take_all}
 use Rattle.std.specs.Option.{option_map}
@@ -65,7 +65,7 @@ pub all_taken : {X : Type 0} (n : ℕ) (xs : List X) → take (length xs - n) (d
 all_taken n xs = take_all (length xs - n) (drop n xs) (omega (arith, length-drop n xs))
 
 -- the next name comes no more either
-pub distinct_more : (records : List Named) (k : ℕ) (d : Named) → AreDistinctTo (map said records) k
+distinct_more : (records : List Named) (k : ℕ) (d : Named) → AreDistinctTo (map said records) k
     → ((i : ℕ) (n : Named) → slice_get (drop (k + 1) records) i ≡ Some n → n.name.now ≢ (get_or records k d).name.now) → AreDistinctTo (map said records) (k + 1)
 distinct_more records k d to none i j r s low before at other same = elim (cases_lt i k) [
   | inl old ↦ to i j r s old before at other same
@@ -78,7 +78,7 @@ distinct_more records k d to none i j r s low before at other same = elim (cases
       none (j - (k + 1)) y.0 there (ap (λ (q : Record). q.name) y.2 ∙ sym same ∙ sym (ap (λ (q : Record). q.name) x.2) ∙ sym (ap (λ (n : Named). n.name.now) here))
 ]
 
-pub twice_breaks : (im : Image) (a block k j : ℕ) (area : List ℕ) (records : List Named) (found d : Named) → HasArea im a block area → map said records ≡ records_in area → k < length records
+twice_breaks : (im : Image) (a block k j : ℕ) (area : List ℕ) (records : List Named) (found d : Named) → HasArea im a block area → map said records ≡ records_in area → k < length records
     → slice_get (drop (k + 1) records) j ≡ Some found → found.name.now ≡ (get_or records k d).name.now → Breaks im 10 block
 twice_breaks im a block k j area records found d has is low at named =
     let first = ap (λ l. slice_get l k) (sym is) ∙ at_said records k d low in

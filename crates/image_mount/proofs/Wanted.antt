@@ -1,5 +1,5 @@
 -- Blocks that a search wants, in which the image has what it looks for.
-use Rattle.std.proofs.Common.{◌≡◌, ℕ, suc, true, List, Option, None, Some, inr, sym, ap, subst, ◌∙◌}
+use Rattle.std.proofs.Common.{◌≡◌, ℕ, suc, true, List, None, Some, inr, sym, ap, subst, ◌∙◌}
 use Rattle.dinode_tree.specs.Reading.{IsNeeded, IsOnWay, the_dinode, led_to}
 use Rattle.glock_names.specs.declared.steps.Missing.{Missing}
 use Rattle.image_model.specs.Claims.{every, Claims, below, IsRindex}

@@ -1,4 +1,4 @@
-use Rattle.std.proofs.Common.{sym, arith}
+use Rattle.std.proofs.Common.{arith}
 use Rattle.image_mount.proofs.Causes.{told, lacks}
 use Rattle.image_mount.proofs.Grouping.{list_format, list_few, unfit_at, early_at, risen_none, risen_more, risen_all}
 use Rattle.image_mount.proofs.groups.check_rise.Goals as goal

@@ -1,13 +1,11 @@
-use Rattle.std.proofs.Common.{◌≡◌, ◌≤◌, ◌%◌, length, refl, sym, ap, subst, ◌∙◌, arith}
-use Rattle.gfs2_layout.specs.Inode.{dinode_in, content_of}
+use Rattle.std.proofs.Common.{◌≡◌, ◌%◌, length, refl, sym, ap, subst, ◌∙◌, arith}
+use Rattle.gfs2_layout.specs.Inode.{dinode_in}
 use Rattle.gfs2_layout.specs.declared.dinode.Dinode.{Dinode}
 use Rattle.std.specs.Prelude.{codes}
 use Rattle.image_model.specs.Claims.{every, Claims, IsRindex}
 use Rattle.image_model.specs.Owners.{Named}
-use Rattle.image_model.specs.Groups.{groups_in, GroupsFit}
-use Rattle.image_model.specs.Profile.{group_length}
+use Rattle.image_model.specs.Groups.{groups_in}
 use Rattle.image_model.specs.Rules.{HasRecordIn}
-use Rattle.image_mount.specs.Groups.{IsListOf}
 use Rattle.image_mount.specs.Refusals.{RefusesRightly}
 use Rattle.image_mount.proofs.Grouping.{list_of, list_groups, groups_some, groups_are}
 use Rattle.image_mount.proofs.Stops.{passed, stopped}
@@ -41,7 +39,7 @@ returns-in_err-check_groups-clause-stops c im read of_count is =
     let content = c.in_ok-content.content.items in
     let listed : c.deref-2.result.now ≡ groups_in content = c.deref-2.ensures.value ∙ c.in_ok-groups.ensures.found ∙ ap groups_in c.deref.ensures.value in
     let list = list_of im c.block_size-size.result c.args.count c.args.master inode.block c.args.rindex.now c.deref-2.result.now content is (c.block_size-size.ensures.value ∙ read.size) of_count c.in_ok-inode.ensures.block whole
-        (c.in_ok-content.ensures.found im read size) listed in
+    (c.in_ok-content.ensures.found im read size) listed in
     stopped im _ _ c.from_residual-in_err-check_groups.ensures.1
     (c.in_err-check_groups.ensures.refused im list (groups_some c.deref-2.result.now content c.in_ok-bytes.bytes listed (c.in_ok-content.ensures.length im read size) c.in_ok-bytes.ensures.least))
 
@@ -54,7 +52,7 @@ returns-clause-found c im read of_count is =
     let content = c.in_ok-content.content.items in
     let listed : c.deref-2.result.now ≡ groups_in content = c.deref-2.ensures.value ∙ c.in_ok-groups.ensures.found ∙ ap groups_in c.deref.ensures.value in
     let list = list_of im c.block_size-size.result c.args.count c.args.master inode.block c.args.rindex.now c.deref-2.result.now content is (c.block_size-size.ensures.value ∙ read.size) of_count c.in_ok-inode.ensures.block whole
-        (c.in_ok-content.ensures.found im read size) listed in
+    (c.in_ok-content.ensures.found im read size) listed in
     let value = c.deref-2.ensures.value in
     groups_are im inode.block c.args.rindex.now.addr c.deref-2.result.now c.in_ok-groups.groups.items value c.in_ok-inode.ensures.block (record {
       whole = whole;

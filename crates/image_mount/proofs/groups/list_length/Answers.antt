@@ -1,5 +1,5 @@
-use Rattle.std.proofs.Common.{inl, inr, arith}
-use Rattle.image_mount.proofs.Grouping.{wrong_count, wrong_part, list_inode}
+use Rattle.std.proofs.Common.{inl, inr}
+use Rattle.image_mount.proofs.Grouping.{wrong_count, wrong_part}
 use Rattle.image_mount.proofs.groups.list_length.Goals.{then-count-eq0-via-then-count-eq0, then-count-eq0-via-else-count-eq0+then-count-gt64}
 use Rattle.image_mount.proofs.groups.list_length.Goals as goal
 

@@ -1,4 +1,4 @@
-use Rattle.std.proofs.Common.{◌≡◌, true, sym, ◌∙◌, arith}
+use Rattle.std.proofs.Common.{◌≡◌, true, arith}
 use Rattle.gfs2_layout.specs.Structures.{is_in_use}
 use Rattle.image_mount.proofs.Areas.{wrong_hash}
 use Rattle.image_mount.proofs.listing.add.Goals as goal

@@ -1,4 +1,4 @@
-use Rattle.std.proofs.Common.{◌≡◌, length, sym}
+use Rattle.std.proofs.Common.{length, sym}
 use Rattle.std.proofs.lemmas.List.{length-map}
 use Rattle.image_mount.specs.Listing.{said}
 use Rattle.image_mount.proofs.Causes.{wrong_entries, wrong_links}

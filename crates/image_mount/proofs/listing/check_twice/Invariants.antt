@@ -1,4 +1,3 @@
-use Rattle.std.proofs.Common.{◌<◌}
 use Rattle.std.specs.Prelude.{map}
 use Rattle.image_mount.specs.Listing.{said}
 use Rattle.image_mount.proofs.Twice.{AreDistinctTo}

@@ -1,4 +1,4 @@
-use Rattle.std.proofs.Common.{◌≡◌, arith}
+use Rattle.std.proofs.Common.{arith}
 use Rattle.image_mount.proofs.Twice.{apart_more, apart_all, differ}
 use Rattle.image_mount.proofs.listing.find.Goals as goal
 

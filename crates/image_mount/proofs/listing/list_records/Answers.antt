@@ -1,4 +1,4 @@
-use Rattle.std.proofs.Common.{◌≡◌, refl, sym, ap, subst, ◌∙◌}
+use Rattle.std.proofs.Common.{refl, sym, subst}
 use Rattle.std.specs.Prelude.{map}
 use Rattle.image_mount.specs.Listing.{said, AreRecordsOf}
 use Rattle.image_mount.proofs.Causes.{linear_of}

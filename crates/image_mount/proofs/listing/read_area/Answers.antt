@@ -1,6 +1,6 @@
 use Rattle.gfs2_layout.specs.Area.{slot_at}
 use Rattle.image_model.specs.Rules.{unfilled}
-use Rattle.image_mount.proofs.Areas.{half_none, half_more, half_all, next_in}
+use Rattle.image_mount.proofs.Areas.{half_more, half_all, next_in}
 use Rattle.image_mount.proofs.Causes.{told, lacks}
 use Rattle.image_mount.proofs.Stops.{refused}
 use Rattle.image_mount.proofs.listing.read_area.Goals as goal

@@ -1,4 +1,4 @@
-use Rattle.std.proofs.Common.{◌≡◌, ◌++◌, List, length}
+use Rattle.std.proofs.Common.{length}
 use Rattle.std.specs.Prelude.{map}
 use Rattle.gfs2_layout.specs.Area.{IsArea}
 use Rattle.image_mount.specs.Listing.{said}

@@ -1,5 +1,4 @@
-use Rattle.std.proofs.Common.{◌≡◌, false, sym, ◌∙◌}
-use Rattle.gfs2_layout.specs.Records.{is_dots}
+use Rattle.std.proofs.Common.{sym, ◌∙◌}
 use Rattle.image_model.specs.Rules.{no_name}
 use Rattle.image_mount.specs.Listing.{said}
 use Rattle.image_mount.proofs.Causes.{told, lacks}
