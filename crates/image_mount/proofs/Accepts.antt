@@ -1,24 +1,17 @@
 -- An image that stands and is of the profile is not refused but for the disk, for memory, and for what is not read yet.
-use Rattle.std.proofs.Common.{◌≡◌, ◌≢◌, ◌⊎◌, inl, inr, ℕ, zero, suc, ◌+◌, ◌/◌, ◌<◌, ◌≤◌, ◌||◌, ◌&&◌, Bool, true, false, List, [], ◌∷◌, ◌++◌, length, Some, None, refl, sym, ap, subst, ◌∙◌, arith}
-use Rattle.std.specs.Prelude.{codes, decimal, count_by, not, Contains, slice_get}
-use Rattle.std.specs.List.{All}
-use Rattle.std.specs.Str.{bytes_eq}
-use Rattle.std.proofs.lemmas.Bool.{true≢false, cases_Bool, cond-true, cond-false}
-use Rattle.std.proofs.lemmas.Fmt.{decimal_digit}
+use Rattle.std.proofs.Common.{◌≡◌, inl, inr, ℕ, zero, suc, ◌/◌, ◌<◌, ◌&&◌, Bool, true, false, List, [], ◌∷◌, length, Some, refl, sym, ap, subst, ◌∙◌, arith}
+use Rattle.std.specs.Prelude.{not, Contains, slice_get}
+use Rattle.std.proofs.lemmas.Bool.{true≢false, cond-true}
 use Rattle.std.proofs.lemmas.List.FromFn.{length-map-range_with_len}
-use Rattle.std.proofs.lemmas.List.Sums.{sum_by-cons}
-use Rattle.std.proofs.lemmas.Slice.Eq.{bytes_eq-Decides}
 use Rattle.std.proofs.lemmas.Option.{slice_get-get_or}
 use Rattle.gfs2_layout.specs.Inode.{dinode_in, is_directory_in, content_of, leaf_area}
-use Rattle.gfs2_layout.specs.Journal.{ring_of, head_in}
 use Rattle.gfs2_layout.specs.Records.{Record, records_in, is_dots}
 use Rattle.gfs2_layout.specs.declared.dinode.Dinode.{Dinode}
-use Rattle.gfs2_layout.specs.declared.rindex.Rindex.{Rindex}
 use Rattle.image_model.specs.Claims.{every, LeadsTo, master_of, in_dinode, in_leaf}
 use Rattle.image_model.specs.Groups.{groups_in, entry_length}
 use Rattle.image_model.specs.Image.{Image}
 use Rattle.image_model.specs.Journals.{journal_name}
-use Rattle.image_model.specs.Owners.{Owners, is_dinode, holding}
+use Rattle.image_model.specs.Owners.{Owners, holding}
 use Rattle.image_model.specs.Profile.{IsInProfile, group_length}
 use Rattle.image_model.specs.Rules.{HasRecords, from_dinode_block, from_leaves}
 use Rattle.image_model.specs.Flat.{Node, no_node}
@@ -29,18 +22,17 @@ use Rattle.image_model.proofs.Lengths.{length_content, size_large}
 use Rattle.image_model.proofs.Members.{IsIn, contained, is_in, from_flat_map}
 use Rattle.image_model.proofs.Nothing.{laid_breaks_nothing}
 use Rattle.image_model.proofs.Reach.{found_in, named_child}
-use Rattle.image_model.proofs.Rows.{sound, dinode_is, directory_is}
+use Rattle.image_model.proofs.Rows.{sound, dinode_is}
 use Rattle.image_model.proofs.Same.{content_same}
 use Rattle.image_model.proofs.UnbrokenCounts.{records_are}
-use Rattle.image_mount.specs.Found.{first_other, is_system_name, HasMaster, HasNames, name_count, AreJournalNames}
+use Rattle.image_mount.specs.Found.{is_system_name, HasMaster, HasNames, AreJournalNames}
 use Rattle.image_mount.specs.Mounted.{IsOfProfile}
 use Rattle.image_mount.specs.Refusals.{IsOutside, RefusesRightly, IsExcused}
 use Rattle.image_mount.specs.Refusals as outside
 use Rattle.image_mount.specs.declared.fault.MountFault.{MountFault}
 use Rattle.image_mount.specs.declared.fault.MountFault.TheVariants as fault
 use Rattle.image_mount.specs.declared.field.Field.{Field}
-use Rattle.image_mount.specs.declared.field.Field.TheVariants as field
-use Rattle.image_mount.proofs.Names.{led_by_file, contains_at}
+use Rattle.image_mount.proofs.Names.{led_by_file}
 use Rattle.image_mount.proofs.JournalNames.{count_named}
 
 both_left : (p q : Bool) → (p && q) ≡ true → p ≡ true

@@ -1,9 +1,7 @@
 -- Faults that have their cause in the image.
-use Rattle.std.proofs.Common.{◌≡◌, ◌≢◌, ◌↔◌, ◌⊎◌, inl, inr, ℕ, ◌+◌, ◌^◌, ◌≤◌, Bool, true, false, IsTrue, List, length, refl, sym, ap, subst, ◌∙◌, arith}
-use Rattle.std.specs.Prelude.{Some, if◌then◌else◌}
-use Rattle.gfs2_layout.specs.Device.{superblock_place}
-use Rattle.gfs2_layout.specs.Headers.{HasHeader}
-use Rattle.gfs2_layout.specs.Inode.{dinode_in, is_hashed_in, has_hash_flag, is_directory_in, head_of}
+use Rattle.std.proofs.Common.{◌≡◌, ◌≢◌, ◌↔◌, inr, ℕ, ◌+◌, ◌^◌, ◌≤◌, Bool, false, IsTrue, List, length, sym, ap, subst, ◌∙◌, arith}
+use Rattle.std.specs.Prelude.{if◌then◌else◌}
+use Rattle.gfs2_layout.specs.Inode.{dinode_in, is_hashed_in, has_hash_flag, head_of}
 use Rattle.gfs2_layout.specs.Records.{Record}
 use Rattle.gfs2_layout.specs.Structures.{is_directory, dinode_length}
 use Rattle.gfs2_layout.specs.declared.dinode.Dinode.{Dinode}

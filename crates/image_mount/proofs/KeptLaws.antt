@@ -1,5 +1,5 @@
 -- What keeping one more block does to those that are kept.
-use Rattle.std.proofs.Common.{◌≡◌, ◌≢◌, ◌⊎◌, inl, inr, All, ℕ, zero, suc, ◌+◌, List, [], ◌∷◌, length, Option, Some, None, count_by, is_none, slice_get, slice_set, refl, sym, ap, ◌∙◌, arith}
+use Rattle.std.proofs.Common.{◌≡◌, ◌⊎◌, inl, inr, All, ℕ, zero, suc, ◌+◌, List, [], ◌∷◌, length, Option, Some, None, count_by, is_none, slice_get, slice_set, ap, ◌∙◌, arith}
 use Rattle.std.proofs.lemmas.Option.{gets}
 use Rattle.std.proofs.lemmas.Grind.{common_steps}
 use Rattle.glock_names.specs.Views.{IsView}

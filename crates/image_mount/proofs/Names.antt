@@ -1,21 +1,18 @@
 -- Where names lead from a linear directory.
-use Rattle.std.proofs.Common.{◌≡◌, ◌≢◌, ◌⊎◌, inl, inr, ℕ, zero, suc, ◌<◌, Bool, true, false, List, [], ◌∷◌, length, Option, None, Some, refl, sym, ap, subst, ◌∙◌, arith}
-use Rattle.std.specs.Prelude.{map, Contains, slice_get, slice_index_or, codes, find}
+use Rattle.std.proofs.Common.{◌≡◌, ◌≢◌, inl, inr, ℕ, zero, suc, Bool, true, false, List, [], ◌∷◌, Option, None, Some, refl, sym, ap, subst, ◌∙◌, arith}
+use Rattle.std.specs.Prelude.{map, Contains, slice_get, find}
 use Rattle.std.specs.Option.{option_map}
-use Rattle.std.specs.Str.{bytes_eq}
 use Rattle.std.proofs.lemmas.Bool.{true≢false, cases_Bool, cond-true, cond-false}
 use Rattle.std.proofs.lemmas.Option.{slice_get-map, slice_get_within, slice_get-get_or, get_or_from_slice_get}
-use Rattle.std.proofs.lemmas.Slice.Eq.{bytes_eq-Decides}
 use Rattle.gfs2_layout.specs.Inode.{is_directory_in, is_hashed_in, linear_area}
 use Rattle.gfs2_layout.specs.Records.{Record, records_in, is_dots}
 use Rattle.glock_names.specs.declared.steps.Entry.{Entry}
-use Rattle.image_model.specs.Claims.{every, Claims, root, master, below, first_leaf, next_leaf, in_dinode, in_leaf, HasDirectory, behind_dinode, LeadsTo}
+use Rattle.image_model.specs.Claims.{every, Claims, root, master, below, first_leaf, next_leaf, in_dinode, in_leaf, LeadsTo}
 use Rattle.image_model.specs.Image.{Image}
 use Rattle.image_model.proofs.Directories.{leaf_is_hashed, not_both}
 use Rattle.image_mount.proofs.Records.{named_in as named_by}
-use Rattle.image_model.specs.Owners.{Owner, Named, Chained}
-use Rattle.image_model.specs.Rules.{HasRecords, HasRecordIn, from_dinode_block, from_leaves}
-use Rattle.image_mount.specs.Found.{first_other, is_system_name}
+use Rattle.image_model.specs.Owners.{Owner, Named}
+use Rattle.image_model.specs.Rules.{HasRecords, from_dinode_block, from_leaves}
 use Rattle.image_mount.specs.Listing.{said, AreRecordsOf, AreDistinct}
 use Rattle.image_mount.specs.Groups.{IsNamedIn}
 use Rattle.image_mount.specs.System.{IsAmong}

@@ -1,11 +1,11 @@
 -- The journals among the records of their directory.
-use Rattle.std.proofs.Common.{◌≡◌, ◌≢◌, ◌⊎◌, inl, inr, ℕ, ◌+◌, ◌<◌, ◌≤◌, Bool, true, false, List, length, get_or, Option, None, Some, refl, sym, ap, subst, ◌∙◌, arith}
+use Rattle.std.proofs.Common.{◌≡◌, ◌≢◌, inl, inr, ℕ, ◌+◌, ◌<◌, ◌≤◌, Bool, true, false, List, length, get_or, Option, None, Some, sym, ap, subst, ◌∙◌, arith}
 use Rattle.std.specs.Prelude.{map, not, Contains, slice_get, IfSome, IfNone}
 use Rattle.std.proofs.lemmas.Bool.{cases_eq}
 use Rattle.std.proofs.lemmas.Option.{slice_get-get_or, slice_get_within, get_or_from_slice_get}
 use Rattle.gfs2_layout.specs.Records.{Record, is_dots}
 use Rattle.glock_names.specs.declared.steps.Entry.{Entry}
-use Rattle.image_model.specs.Claims.{every, LeadsTo}
+use Rattle.image_model.specs.Claims.{LeadsTo}
 use Rattle.image_model.specs.Image.{Image}
 use Rattle.image_model.specs.Journals.{journal_name}
 use Rattle.image_model.specs.Rules.{HasRecords}
@@ -14,14 +14,14 @@ use Rattle.image_mount.specs.Found.{HasGroups, name_count, AreJournalNames}
 use Rattle.image_mount.specs.Listing.{said, AreRecordsOf, AreDistinct}
 use Rattle.image_mount.specs.Refusals.{RefusesRightly}
 use Rattle.image_mount.specs.Refusals as outside
-use Rattle.image_mount.specs.System.{IsAmong, AreAmong, LacksName, AreNamesOf, AreJournalsAmong, AreJournalsOf}
+use Rattle.image_mount.specs.System.{AreAmong, LacksName, AreNamesOf, AreJournalsAmong, AreJournalsOf}
 use Rattle.image_mount.specs.declared.fault.MountFault.{MountFault}
 use Rattle.image_mount.specs.declared.fault.MountFault.TheVariants as fault
 use Rattle.image_mount.specs.declared.field.Field.TheVariants as field
 use Rattle.image_mount.specs.declared.listing.Named.{Named as Item}
 use Rattle.image_mount.proofs.Causes.{told_outside}
 use Rattle.image_mount.proofs.JournalNames.{name_leads}
-use Rattle.image_mount.proofs.Names.{at_contains, contains_at, mapped_at, from_mapped, records_same, named_in, led_among, led_by}
+use Rattle.image_mount.proofs.Names.{at_contains, contains_at, mapped_at, from_mapped, records_same, named_in, led_by}
 
 -- the first so many of these that lead on have the names of so many journals
 abbrev pub AreNamedTo : List Item → ℕ → ℕ → Type 0

@@ -1,9 +1,8 @@
 -- The places of a journal, as they are found one by one.
-use Rattle.std.proofs.Common.{◌≡◌, ◌≢◌, ◌⊎◌, inl, inr, ℕ, zero, suc, ◌+◌, ◌-◌, ◌*◌, ◌/◌, ◌%◌, ◌==◌, ◌<◌, ◌≤◌, Bool, true, false, List, [], ◌∷◌, ◌++◌, length, Option, None, Some, refl, sym, ap, subst, ◌∙◌, arith}
-use Rattle.std.specs.Prelude.{map, nat_lt, if◌then◌else◌}
-use Rattle.std.specs.Option.{option_map}
+use Rattle.std.proofs.Common.{◌≡◌, ◌≢◌, inl, inr, ℕ, zero, suc, ◌+◌, ◌-◌, ◌/◌, ◌%◌, ◌==◌, ◌<◌, ◌≤◌, true, List, [], ◌∷◌, ◌++◌, None, Some, refl, sym, ap, subst, ◌∙◌, arith}
+use Rattle.std.specs.Prelude.{map, nat_lt}
 use Rattle.std.specs.List.{All, range_with_len}
-use Rattle.std.proofs.lemmas.Bool.{cases_Bool, cases_lt, cases_eq, cond-true, cond-false, eq-eqb, ne_eqb}
+use Rattle.std.proofs.lemmas.Bool.{cases_Bool, cases_eq, cond-true, cond-false, ne_eqb}
 use Rattle.std.proofs.lemmas.Bool.Decides.{nat_tests}
 use Rattle.std.proofs.lemmas.Nat.{le-div}
 use Rattle.std.proofs.lemmas.List.Elements.{All-push}
@@ -11,9 +10,8 @@ use Rattle.std.proofs.lemmas.List.FromFn.{map-range_with_len_more}
 use Rattle.std.proofs.Math.Nat.{div-eq_of_lt, div-mul-le_self, mul-le-mul_left}
 use Rattle.dinode_tree.specs.Reading.{IsNeeded, IsOnWay, the_dinode, led_to, block_at, reach, target}
 use Rattle.dinode_tree.specs.declared.locating.Located.{Located}
-use Rattle.gfs2_layout.specs.Inode.{Leads, Fits, dinode_in, height_in, is_directory_in, fan, span, header_length, unit, content_block, content_count}
-use Rattle.gfs2_layout.specs.Journal.{ring_of, head_in}
-use Rattle.gfs2_layout.specs.Structures.{dinode_length}
+use Rattle.gfs2_layout.specs.Inode.{Leads, dinode_in, height_in, is_directory_in, header_length, unit, content_block}
+use Rattle.gfs2_layout.specs.Journal.{ring_of}
 use Rattle.gfs2_layout.specs.Holding.{Holding}
 use Rattle.gfs2_layout.specs.declared.dinode.Dinode.{Dinode}
 use Rattle.glock_names.specs.Views.{Seen}
@@ -29,12 +27,10 @@ use Rattle.image_mount.specs.Found.{HasFormat}
 use Rattle.image_mount.specs.Refusals.{RefusesRightly, IsReached}
 use Rattle.image_mount.specs.Refusals as outside
 use Rattle.image_mount.specs.Rings.{IsJournalIn, HasPlaces, IsPlaceAt, AreBlocksOf}
-use Rattle.image_mount.specs.Searching.{IsWanted, StopsRightly}
+use Rattle.image_mount.specs.Searching.{IsWanted}
 use Rattle.image_mount.specs.declared.fault.MountFault.{MountFault}
 use Rattle.image_mount.specs.declared.fault.MountFault.TheVariants as fault
 use Rattle.image_mount.specs.declared.field.Field.TheVariants as field
-use Rattle.image_mount.specs.declared.stop.Stop.{Stop}
-use Rattle.image_mount.specs.declared.stop.Stop.TheVariants as stop
 use Rattle.image_mount.proofs.Causes.{told, told_outside}
 use Rattle.image_mount.proofs.Wanted.{dinode_leads, above_leads}
 
@@ -134,11 +130,14 @@ above_wanted im jindex journal v place m of needed other = each needed.way
     at : (k level first : ℕ) → 1 ≤ level → Leads (every im journal.addr) m.from k level first m.block → IsWanted im m.block m.from
     at k zero first least leads = absurd (omega arith)
     at k (suc level) first least leads =
-        inr (journal_format im jindex journal of, (
-        Below journal.addr m.from k (suc level) first,
-        below jindex journal.addr (Named jindex (journal_name of.index)) m.from k (suc level) first m.block of.named.claimed refl leads,
-        above_leads im journal.addr m.from k level first,
-    ))
+        inr (
+          journal_format im jindex journal of,
+          (
+            Below journal.addr m.from k (suc level) first,
+            below jindex journal.addr (Named jindex (journal_name of.index)) m.from k (suc level) first m.block of.named.claimed refl leads,
+            above_leads im journal.addr m.from k level first,
+          ),
+        )
 
     each : IsOnWay (every im journal.addr) (λ i. i ≡ place) 1 m → IsWanted im m.block m.from
     each (the_dinode own from plain) = absurd (other own)

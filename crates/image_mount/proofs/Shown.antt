@@ -1,16 +1,13 @@
 -- What the blocks that are kept show of an inode, and what a call over them breaks of the image's rules.
-use Rattle.std.proofs.Common.{◌≡◌, ◌≢◌, ◌<◌, ◌≤◌, ◌⊎◌, inl, inr, ℕ, zero, suc, List, [], ◌∷◌, length, Option, None, Some, true, false, refl, sym, ap, subst, ◌∙◌, arith}
-use Rattle.std.specs.Prelude.{slice_get, ⊤}
-use Rattle.gfs2_layout.specs.Holding.{Holding, bytes_at}
-use Rattle.gfs2_layout.specs.Inode.{Leads}
-use Rattle.gfs2_layout.specs.Structures.{dinode_length}
+use Rattle.std.proofs.Common.{◌≡◌, ◌<◌, inr, ℕ, zero, suc, List, [], ◌∷◌, length, Option, Some, true, refl, sym, arith}
+use Rattle.std.specs.Prelude.{slice_get}
 use Rattle.glock_names.specs.Steps.{IsDamage, TellsOf}
 use Rattle.glock_names.specs.declared.steps.CallFault.{CallFault}
 use Rattle.glock_names.specs.declared.steps.CallFault.TheVariants as call
 use Rattle.dinode_tree.specs.Broken.{IsBroken, of_dinode, of_indirect, of_table}
 use Rattle.dinode_tree.specs.Broken as broken
 use Rattle.dinode_tree.specs.Shown.{IsShown}
-use Rattle.image_model.specs.Claims.{every, Claims, below, IsInodeAt, HasInode}
+use Rattle.image_model.specs.Claims.{every, Claims, below, HasInode}
 use Rattle.image_model.specs.Image.{Image}
 use Rattle.image_model.specs.Owners.{Owner, is_dinode}
 use Rattle.image_model.specs.Rules.{Breaks}

@@ -1,10 +1,9 @@
 -- A search that stops where a call in it did.
-use Rattle.std.proofs.Common.{◌≡◌, sym, subst, List}
-use Rattle.std.specs.Prelude.{Result, Ok, Err, IfErr, IsErr, IsErrAnd}
-use Rattle.glock_names.specs.declared.steps.CallFault.{CallFault}
+use Rattle.std.proofs.Common.{◌≡◌, sym, subst}
+use Rattle.std.specs.Prelude.{Result, Ok, Err, IfErr, IsErrAnd}
 use Rattle.image_model.specs.Image.{Image}
 use Rattle.image_mount.specs.Refusals.{RefusesRightly}
-use Rattle.image_mount.specs.Searching.{StopsRightly, of_call}
+use Rattle.image_mount.specs.Searching.{StopsRightly}
 use Rattle.image_mount.specs.declared.fault.MountFault.{MountFault}
 use Rattle.image_mount.specs.declared.stop.Stop.{Stop}
 use Rattle.image_mount.specs.declared.stop.Stop.TheVariants as stop

@@ -1,21 +1,20 @@
 -- The files that the master directory names.
-use Rattle.std.proofs.Common.{◌≡◌, ◌≢◌, ◌⊎◌, inl, inr, ℕ, ◌||◌, ◌&&◌, Bool, true, false, List, Option, None, Some, refl, sym, ap, subst, ◌∙◌, arith}
+use Rattle.std.proofs.Common.{◌≡◌, ◌≢◌, ◌⊎◌, inl, inr, ℕ, ◌||◌, ◌&&◌, Bool, true, false, List, Option, None, Some, refl, sym, ap, subst, ◌∙◌}
 use Rattle.std.specs.Prelude.{map, not, codes, slice_get}
 use Rattle.std.specs.Option.{option_map}
 use Rattle.std.specs.Str.{bytes_eq}
-use Rattle.std.proofs.lemmas.Bool.{cases_Bool}
 use Rattle.std.proofs.lemmas.Slice.Eq.{bytes_eq-Decides}
 use Rattle.gfs2_layout.specs.Device.{superblock_place}
 use Rattle.gfs2_layout.specs.Inode.{dinode_in, is_directory_in}
 use Rattle.gfs2_layout.specs.Records.{Record, is_dots}
 use Rattle.gfs2_layout.specs.Structures.{is_directory}
 use Rattle.gfs2_layout.specs.declared.dinode.Dinode.{Dinode}
-use Rattle.image_model.specs.Claims.{every, Claims, master, LeadsTo, master_of, IsRindex, IsJindex}
+use Rattle.image_model.specs.Claims.{every, Claims, master, LeadsTo, master_of}
 use Rattle.image_model.specs.Image.{Image}
-use Rattle.image_model.specs.Owners.{Owner, Master, Named, is_dinode, parent_of}
+use Rattle.image_model.specs.Owners.{Owner, Master, is_dinode, parent_of}
 use Rattle.image_model.specs.Rules.{Breaks, HasRecords, no_rindex, no_jindex}
 use Rattle.image_mount.specs.Found.{HasFormat, first_other, is_system_name}
-use Rattle.image_mount.specs.Listing.{said, AreRecordsOf, AreDistinct, IsDirectoryIn}
+use Rattle.image_mount.specs.Listing.{said, AreRecordsOf, IsDirectoryIn}
 use Rattle.image_mount.specs.Refusals.{RefusesRightly, IsOutside}
 use Rattle.image_mount.specs.Refusals as outside
 use Rattle.image_mount.specs.System.{IsAmong}

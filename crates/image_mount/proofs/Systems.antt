@@ -1,21 +1,19 @@
 -- The system files that were found, as a layout of the image.
-use Rattle.std.proofs.Common.{◌≡◌, ℕ, ◌<◌, List, [], length, Some, Vec, Global, refl, sym, ap, subst, ◌∙◌, arith}
-use Rattle.std.specs.Prelude.{codes, map, slice_get}
+use Rattle.std.proofs.Common.{◌≡◌, ℕ, List, [], length, Vec, Global, refl, sym, ap, subst, arith}
+use Rattle.std.specs.Prelude.{codes, map}
 use Rattle.std.proofs.lemmas.List.{length-map}
-use Rattle.gfs2_layout.specs.Records.{Record}
 use Rattle.gfs2_layout.specs.declared.rindex.Rindex.{Rindex}
 use Rattle.gfs2_layout.specs.declared.superblock.SuperBlock.{SuperBlock}
 use Rattle.glock_names.specs.declared.steps.Entry.{Entry}
-use Rattle.image_model.specs.Claims.{Claims, LeadsTo, IsRindex, IsJindex, master_of}
+use Rattle.image_model.specs.Claims.{Claims, LeadsTo, master_of}
 use Rattle.image_model.specs.Image.{Image, superblock_in}
 use Rattle.image_model.specs.Journals.{journal_name}
 use Rattle.image_model.specs.Owners.{Named}
 use Rattle.image_model.specs.Rules.{HasRecords}
-use Rattle.image_model.specs.Stands.{Layout, IsJournalAt}
-use Rattle.image_mount.specs.Found.{HasFormat, HasMaster, HasList, HasGroups, HasNames, AreJournalNames}
+use Rattle.image_model.specs.Stands.{Layout}
+use Rattle.image_mount.specs.Found.{HasFormat, HasMaster, HasGroups, AreJournalNames}
 use Rattle.image_mount.specs.Groups.{IsNamedIn, IsListEntry, AreGroups}
 use Rattle.image_mount.specs.System.{AreFilesOf, AreJournalsOf, IsSystemOf}
-use Rattle.image_mount.specs.declared.system.System.{System}
 use Rattle.image_mount.specs.declared.system.SystemFiles.{SystemFiles}
 use Rattle.image_mount.proofs.Names.{from_mapped}
 

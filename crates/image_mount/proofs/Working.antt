@@ -1,11 +1,11 @@
 -- One more block that is read and kept.
-use Rattle.std.proofs.Common.{◌≡◌, ◌<◌, ◌⊎◌, inl, inr, ℕ, zero, suc, List, [], ◌∷◌, ◌++◌, take, drop, length, length-set, refl, Option, None, Some, IsTrue, sym, ap, subst, ◌∙◌, arith}
+use Rattle.std.proofs.Common.{◌≡◌, ◌<◌, inl, inr, ℕ, zero, suc, List, [], ◌∷◌, ◌++◌, take, drop, length, length-set, refl, Option, None, Some, IsTrue, sym, ap, subst, ◌∙◌, arith}
 use Rattle.std.specs.Prelude.{slice_get, slice_set}
 use Rattle.std.specs.List.{All}
 use Rattle.shared_disk.specs.Disk.{DiskState, IsIdle}
 use Rattle.image_model.specs.Image.{image_of}
 use Rattle.image_mount.specs.Searching.{IsWorking, IsRead}
-use Rattle.image_mount.specs.Table.{Kept, seen_of, bytes_of}
+use Rattle.image_mount.specs.Table.{Kept, bytes_of}
 use Rattle.image_mount.proofs.KeptLaws.{get_kept, none_kept}
 
 pub not_kept : (entries : List (Option (List ℕ))) (b : ℕ) → b < length entries → bytes_of (slice_get entries b) ≡ None → slice_get entries b ≡ Some None

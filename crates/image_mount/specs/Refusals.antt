@@ -6,10 +6,9 @@ use Rattle.gfs2_layout.specs.Inode.{dinode_in, is_directory_in}
 use Rattle.gfs2_layout.specs.Journal.{ring_of, head_in}
 use Rattle.gfs2_layout.specs.Records.{Record}
 use Rattle.gfs2_layout.specs.declared.log_header.LogHeader.{LogHeader}
-use Rattle.image_model.specs.Claims.{every, Claims, LeadsTo, master_of}
+use Rattle.image_model.specs.Claims.{every, Claims, master_of}
 use Rattle.image_model.specs.Groups.{entry_length, GroupsFit}
 use Rattle.image_model.specs.Image.{Image, superblock_in}
-use Rattle.image_model.specs.Journals.{journal_name}
 use Rattle.image_model.specs.Owners.{Owner}
 use Rattle.image_model.specs.Profile.{group_length}
 use Rattle.image_model.specs.Rules.{Breaks, HasRecords, IsHashedAt}

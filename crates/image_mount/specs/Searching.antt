@@ -1,5 +1,5 @@
 -- What a search in the blocks that are kept knows of the image, and why it stops.
-use Rattle.std.specs.Prelude.{ℕ, ◌≡◌, ◌⊎◌, ⊤, IsTrue, List, length, Option, None, Some}
+use Rattle.std.specs.Prelude.{ℕ, ◌≡◌, ◌⊎◌, ⊤, IsTrue, List, length, None, Some}
 use Rattle.gfs2_layout.specs.Device.{superblock_place}
 use Rattle.glock_names.specs.declared.steps.CallFault.{CallFault}
 use Rattle.glock_names.specs.declared.steps.CallFault.TheVariants as call

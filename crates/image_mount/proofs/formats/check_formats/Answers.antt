@@ -1,4 +1,4 @@
-use Rattle.std.proofs.Common.{◌≡◌, ◌^◌, ◌∙◌, ap, IsTrue, arith}
+use Rattle.std.proofs.Common.{◌∙◌, ap, IsTrue, arith}
 use Rattle.image_mount.specs.declared.field.Field.TheVariants as field
 use Rattle.image_mount.specs.declared.fault.MountFault.TheVariants as fault
 use Rattle.image_mount.proofs.Causes.{wrong_fs, wrong_multihost, wrong_bsize, wrong_shift, right_format, lacks}

@@ -1,6 +1,5 @@
-use Rattle.std.proofs.Common.{◌≡◌, ◌<◌, ◌≤◌, ◌∙◌, sym, ap, subst, length, arith}
+use Rattle.std.proofs.Common.{◌≡◌, ◌<◌, ◌∙◌, ap, arith}
 use Rattle.gfs2_layout.specs.Device.{superblock_place}
-use Rattle.image_mount.specs.Found.{HasSuper}
 use Rattle.image_mount.proofs.Shown.{kept_inside}
 use Rattle.image_mount.proofs.Stops.{stopped}
 use Rattle.image_mount.proofs.Supers.{super_is, has_super, lacks_super}

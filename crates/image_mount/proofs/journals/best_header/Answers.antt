@@ -1,4 +1,4 @@
-use Rattle.std.proofs.Common.{◌≡◌, ◌+◌, IsTrue, length, get_or, refl, subst, ◌∙◌, arith}
+use Rattle.std.proofs.Common.{◌≡◌, IsTrue, length, get_or, refl, subst, ◌∙◌, arith}
 use Rattle.shared_disk.specs.Disk.{DiskState}
 use Rattle.image_mount.proofs.Heads.{head_more, head_all}
 use Rattle.image_mount.proofs.journals.best_header.Goals as goal

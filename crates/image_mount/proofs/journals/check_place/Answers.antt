@@ -1,4 +1,4 @@
-use Rattle.std.proofs.Common.{◌≡◌, ◌≢◌, ℕ, Some, true, sym, ◌∙◌, arith}
+use Rattle.std.proofs.Common.{◌≡◌, ◌≢◌, Some, true, sym, ◌∙◌, arith}
 use Rattle.gfs2_layout.specs.Device.{superblock_place}
 use Rattle.image_mount.specs.Table.{seen_of}
 use Rattle.image_mount.proofs.Marks.{place_beyond, place_outside, place_again, place_kept, outside_groups, above_super, some_ok}

@@ -1,4 +1,4 @@
-use Rattle.std.proofs.Common.{◌≡◌, ◌<◌, ◌+◌, ℕ, length, sym, ap, subst, ◌∙◌, arith}
+use Rattle.std.proofs.Common.{◌≡◌, ◌<◌, ◌+◌, length, sym, ap, subst, ◌∙◌, arith}
 use Rattle.std.specs.List.{All}
 use Rattle.std.proofs.lemmas.List.{length_push}
 use Rattle.std.proofs.lemmas.List.Elements.{All-push}
@@ -25,7 +25,7 @@ returns-in_err-check_place-clause-refused g c done tells next has known =
     let d = c.args.journal.now.addr in
     let found = c.in_ok-located.ensures in
     let searched = place_searched _ _ inv.same c.args.system.now.jindex c.args.journal.now c.args.places c.loop-place.place c.loop-place.table c.find_block.new.table done d c.loop-place.place
-        (found.searched done d c.loop-place.place c.args.places) tells next.named has c.loop-place-test.true (inv.searched done tells next has known) in
+    (found.searched done d c.loop-place.place c.args.places) tells next.named has c.loop-place-test.true (inv.searched done tells next has known) in
     refused (image_of (g.D.SharedDisk.state c.args.disk.now)) _ _ c.from_residual-in_err-check_place.ensures.1
     (c.in_err-check_place.ensures.refused (image_of (g.D.SharedDisk.state c.args.disk.now)) done c.args.journal.now c.loop-place.place (read_now _ _ _ (found.same ∙ inv.same) tells found.work) next searched
     (place_at _ _ inv.same d c.loop-place.place c.in_ok-located.located found.found tells))
@@ -50,7 +50,7 @@ loop-place-preserved g c =
       searched = λ done tells next has known.
           let at = place_at _ _ inv.same d c.loop-place.place located found.found tells in
           let searched = place_searched _ _ inv.same c.args.system.now.jindex c.args.journal.now c.args.places c.loop-place.place c.loop-place.table c.find_block.new.table done d c.loop-place.place
-              (found.searched done d c.loop-place.place c.args.places) tells next.named has c.loop-place-test.true (inv.searched done tells next has known) in
+          (found.searched done d c.loop-place.place c.args.places) tells next.named has c.loop-place-test.true (inv.searched done tells next has known) in
           marked_more (image_of s) done d c.loop-place.place (c.loop-place.place + 1) c.find_block.new.table c.mark.new.self located.block c.mark.ensures.places c.mark.ensures.entries (omega arith)
           (is_place (image_of s) done c.args.system.now c.args.journal.now next c.loop-place.place located at (c.in_ok-check_place.ensures.apart (image_of s) next.looked)) searched;
       same = found.same ∙ inv.same;

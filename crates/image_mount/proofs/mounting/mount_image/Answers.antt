@@ -1,12 +1,10 @@
-use Rattle.std.proofs.Common.{◌≡◌, ◌≤◌, [], IsTrue, ap, subst, sym, ◌∙◌, refl, arith}
+use Rattle.std.proofs.Common.{IsTrue, ap, subst, sym, ◌∙◌, refl, arith}
 use Rattle.std.specs.Prelude.{map}
 use Rattle.image_mount.specs.Mounted.{group_of_entry}
-use Rattle.shared_disk.specs.Disk.{DiskState}
 use Rattle.image_model.specs.Image.{image_of}
 use Rattle.image_mount.specs.Refusals.{RefusesRightly}
-use Rattle.image_mount.specs.Rings.{IsSearched, IsRingOf, AreRings, AreJournals}
-use Rattle.image_mount.specs.System.{IsSystemOf, layout_of}
-use Rattle.image_mount.specs.declared.journals.Ring.{Ring}
+use Rattle.image_mount.specs.Rings.{AreRings}
+use Rattle.image_mount.specs.System.{layout_of}
 use Rattle.image_mount.proofs.Marks.{searched_new}
 use Rattle.image_mount.proofs.Ending.{refused_where, excused_where, mounted, rings_told, journals_refused, journals_found}
 use Rattle.image_mount.proofs.Working.{working_new}

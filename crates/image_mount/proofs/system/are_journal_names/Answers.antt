@@ -1,4 +1,4 @@
-use Rattle.std.proofs.Common.{◌≡◌, true, false, refl, arith}
+use Rattle.std.proofs.Common.{refl, arith}
 use Rattle.image_mount.proofs.Numbered.{named_more, named_all, other_name}
 use Rattle.image_mount.proofs.system.are_journal_names.Goals as goal
 use Rattle.image_mount.proofs.system.are_journal_names.Goals.{else-leads_on-via-then-leads_on+else-not-is_journal_name, else-leads_on-via-else-leads_on}

@@ -1,5 +1,4 @@
-use Rattle.std.proofs.Common.{◌≡◌, ◌≤◌, ◌<◌, ◌≢◌, ℕ, length, true, arith, refl}
-use Rattle.std.proofs.lemmas.Option.{MatchOption-at_some}
+use Rattle.std.proofs.Common.{◌≡◌, ◌<◌, ℕ, length, true, arith, refl}
 use Rattle.image_model.specs.Journals.{journal_name}
 use Rattle.image_mount.specs.System.{AreAmong, LacksName}
 use Rattle.image_mount.proofs.Causes.{lacks}

@@ -42,7 +42,7 @@ returns-in_err-journals-clause-stops c im l read groups at named =
     let inode = c.in_ok-inode.inode in
     let yes : is_directory inode.dinode ≡ true = sym c.is_directory.ensures ∙ grind (arith, c.if-not-is_directory.false) in
     let directory = directory_in im inode c.args.master c.args.jindex.now.addr c.args.master (Named c.args.master (codes "jindex")) groups.list.master.format named.claimed refl c.in_ok-inode.ensures.block
-        c.in_ok-inode.ensures.from (c.in_ok-inode.ensures.found im read) yes refl in
+    c.in_ok-inode.ensures.from (c.in_ok-inode.ensures.found im read) yes refl in
     let are : AreRecordsOf im inode.block (map said c.in_ok-records.records.items) = c.in_ok-records.ensures.found im read directory in
     let has = subst (λ a. HasRecords im a (map said c.in_ok-records.records.items)) (c.in_ok-inode.ensures.block ∙ sym at) (has_records im inode.block c.in_ok-records.records.items are) in
     stopped im _ _ c.from_residual-in_err-journals.ensures.1
@@ -53,7 +53,7 @@ returns-clause-found c im l read groups at named =
     let inode = c.in_ok-inode.inode in
     let yes : is_directory inode.dinode ≡ true = sym c.is_directory.ensures ∙ grind (arith, c.if-not-is_directory.false) in
     let directory = directory_in im inode c.args.master c.args.jindex.now.addr c.args.master (Named c.args.master (codes "jindex")) groups.list.master.format named.claimed refl c.in_ok-inode.ensures.block
-        c.in_ok-inode.ensures.from (c.in_ok-inode.ensures.found im read) yes refl in
+    c.in_ok-inode.ensures.from (c.in_ok-inode.ensures.found im read) yes refl in
     let items = c.in_ok-records.records.items in
     let are : AreRecordsOf im inode.block (map said items) = c.in_ok-records.ensures.found im read directory in
     let among = subst (λ xs. AreJournalsAmong xs c.in_ok-journals.journals.items) c.deref.ensures.value c.in_ok-journals.ensures.found in

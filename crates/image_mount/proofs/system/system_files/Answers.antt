@@ -1,14 +1,12 @@
-use Rattle.std.proofs.Common.{◌≡◌, true, None, Some, sym, ap, subst, refl, ◌∙◌, arith}
+use Rattle.std.proofs.Common.{◌≡◌, true, None, sym, ap, subst, refl, ◌∙◌, arith}
 use Rattle.std.specs.Prelude.{codes, map}
 use Rattle.std.specs.Option.{option_map}
-use Rattle.gfs2_layout.specs.Inode.{dinode_in}
 use Rattle.gfs2_layout.specs.Records.{Record}
 use Rattle.gfs2_layout.specs.Structures.{is_directory}
-use Rattle.image_model.specs.Claims.{every, master_of}
 use Rattle.image_model.specs.Owners.{Master}
 use Rattle.image_mount.specs.Found.{first_other}
 use Rattle.image_mount.specs.Groups.{IsNamedIn}
-use Rattle.image_mount.specs.Listing.{said, AreRecordsOf, IsDirectoryIn}
+use Rattle.image_mount.specs.Listing.{said, AreRecordsOf}
 use Rattle.image_mount.specs.System.{IsAmong}
 use Rattle.image_mount.proofs.Names.{named_in}
 use Rattle.image_mount.proofs.Stops.{passed}
@@ -39,7 +37,7 @@ returns-in-Some-clause-stops c im read format place same =
     let items = c.in_ok-records.records.items in
     let yes : is_directory inode.dinode ≡ true = sym c.is_directory.ensures ∙ grind (arith, c.if-not-is_directory.false) in
     let directory = directory_in im inode c.args.place c.args.master c.args.master Master format (is_master im c.args.place c.args.master place same) refl c.in_ok-inode.ensures.block c.in_ok-inode.ensures.from
-        (c.in_ok-inode.ensures.found im read) yes refl in
+    (c.in_ok-inode.ensures.found im read) yes refl in
     let are : AreRecordsOf im c.args.master (map said items) = subst (λ a. AreRecordsOf im a (map said items)) c.in_ok-inode.ensures.block (c.in_ok-records.ensures.found im read directory) in
     let found = c.first_other.ensures ∙ ap (λ xs. option_map (λ (r : Record). r.address) (first_other (map said xs))) c.deref.ensures.value in
     other_master im _ c.args.master c.in-Some.other items c.first_other.result c.outside.ensures format same are found c.in-Some.is
@@ -50,7 +48,7 @@ returns-in_default-find-clause-stops c im read format place same =
     let items = c.in_ok-records.records.items in
     let yes : is_directory inode.dinode ≡ true = sym c.is_directory.ensures ∙ grind (arith, c.if-not-is_directory.false) in
     let directory = directory_in im inode c.args.place c.args.master c.args.master Master format (is_master im c.args.place c.args.master place same) refl c.in_ok-inode.ensures.block c.in_ok-inode.ensures.from
-        (c.in_ok-inode.ensures.found im read) yes refl in
+    (c.in_ok-inode.ensures.found im read) yes refl in
     let are : AreRecordsOf im c.args.master (map said items) = subst (λ a. AreRecordsOf im a (map said items)) c.in_ok-inode.ensures.block (c.in_ok-records.ensures.found im read directory) in
     lacks_rindex im _ c.args.master c.deref-2.result.now c.damaged-in_default-find.ensures format same (subst (λ xs. AreRecordsOf im c.args.master (map said xs)) (sym c.deref-2.ensures.value) are) c.in_default-find.ensures.none
 
@@ -60,7 +58,7 @@ returns-in_default-find-2-clause-stops c im read format place same =
     let items = c.in_ok-records.records.items in
     let yes : is_directory inode.dinode ≡ true = sym c.is_directory.ensures ∙ grind (arith, c.if-not-is_directory.false) in
     let directory = directory_in im inode c.args.place c.args.master c.args.master Master format (is_master im c.args.place c.args.master place same) refl c.in_ok-inode.ensures.block c.in_ok-inode.ensures.from
-        (c.in_ok-inode.ensures.found im read) yes refl in
+    (c.in_ok-inode.ensures.found im read) yes refl in
     let are : AreRecordsOf im c.args.master (map said items) = subst (λ a. AreRecordsOf im a (map said items)) c.in_ok-inode.ensures.block (c.in_ok-records.ensures.found im read directory) in
     lacks_jindex im _ c.args.master c.deref-3.result.now c.damaged-in_default-find-2.ensures format same (subst (λ xs. AreRecordsOf im c.args.master (map said xs)) (sym c.deref-3.ensures.value) are) c.in_default-find-2.ensures.none
 
@@ -70,7 +68,7 @@ returns-clause-found c im read format place same =
     let items = c.in_ok-records.records.items in
     let yes : is_directory inode.dinode ≡ true = sym c.is_directory.ensures ∙ grind (arith, c.if-not-is_directory.false) in
     let directory = directory_in im inode c.args.place c.args.master c.args.master Master format (is_master im c.args.place c.args.master place same) refl c.in_ok-inode.ensures.block c.in_ok-inode.ensures.from
-        (c.in_ok-inode.ensures.found im read) yes refl in
+    (c.in_ok-inode.ensures.found im read) yes refl in
     let are : AreRecordsOf im c.args.master (map said items) = subst (λ a. AreRecordsOf im a (map said items)) c.in_ok-inode.ensures.block (c.in_ok-records.ensures.found im read directory) in
     let found = c.first_other.ensures ∙ ap (λ xs. option_map (λ (r : Record). r.address) (first_other (map said xs))) c.deref.ensures.value in
     let none : c.first_other.result ≡ None = grind (arith, c.in_default.not-Some) in

@@ -3,7 +3,6 @@ use Rattle.image_mount.proofs.Wanted.{dinode_leads}
 use Rattle.image_model.specs.Claims.{every}
 use Rattle.gfs2_layout.specs.Inode.{dinode_in, Fits}
 use Rattle.std.proofs.Common.{◌≡◌}
-use Rattle.glock_names.specs.declared.steps.Step.TheVariants.{Is}
 use Rattle.image_mount.proofs.Shown.{shown, inode_at, damage_told}
 use Rattle.image_mount.proofs.Steps.{answer_at}
 use Rattle.image_mount.proofs.Stops.{stopped}

@@ -1,4 +1,4 @@
-use Rattle.std.proofs.Common.{◌≡◌, arith}
+use Rattle.std.proofs.Common.{arith}
 use Rattle.glock_names.specs.Views.{IsView}
 use Rattle.image_mount.specs.Table.{seen_of}
 use Rattle.image_mount.proofs.KeptLaws.{none_kept}
