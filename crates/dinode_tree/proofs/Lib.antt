@@ -4,4 +4,5 @@ pub mod Pointers
 pub mod Stepping
 pub mod Ranges
 pub mod Pieces
+pub mod ReadDinodes
 pub mod Sound

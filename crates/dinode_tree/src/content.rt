@@ -114,6 +114,7 @@ pub(crate) fn blocks_range<V: View>(
     requires order { at ≤ end }
     requires within { end ≤ inode.now.dinode.size }
     ensures found { (h : Holding) → IsShown (V.seen view.now) inode.now.block h → AreWholeBefore h at → IfIs result (λ bytes. bytes.items ≡ laid_range h at end) }
+    ensures length { IfIs result (λ bytes. length bytes.items ≡ end - at) }
     ensures needed { (h : Holding) → IsShown (V.seen view.now) inode.now.block h → IfNeedBlock result (IsNeeded (V.seen view.now) h (IsInRange h at (end - at)) 0) }
     ensures damaged { (h : Holding) → IsShown (V.seen view.now) inode.now.block h → IfDamaged result (IsBroken h) }
 {
@@ -141,7 +142,8 @@ pub(crate) fn stuffed_range(
     requires stuffed { inode.now.dinode.height ≡ 0 }
     requires order { at ≤ end }
     requires within { 232 + end ≤ length inode.now.bytes.now }
-    ensures { (h : Holding) → IsOf h inode.now → IfOk result (λ bytes. bytes.items ≡ laid_range h at end) }
+    ensures found { (h : Holding) → IsOf h inode.now → IfOk result (λ bytes. bytes.items ≡ laid_range h at end) }
+    ensures length { IfOk result (λ bytes. length bytes.items ≡ end - at) }
 {
     let behind = &inode.bytes[IN_DINODE + at as usize..IN_DINODE + end as usize];
     Ok(Vec::from_slice(alloc, behind)?)

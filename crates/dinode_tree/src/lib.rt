@@ -6,6 +6,7 @@ mod content;
 mod inode;
 mod laws;
 mod links;
+mod locating;
 mod looks;
 mod numbers;
 mod reading;
@@ -13,6 +14,7 @@ mod reading;
 mod tests;
 mod ways;
 
+pub use locating::{Located, locate, read_dinode};
 pub use laws::{
     all_blocks_are_shown, every_view_shows_an_inode, sound_inodes_are_shown,
     sound_inodes_are_whole, sound_inodes_break_nothing,

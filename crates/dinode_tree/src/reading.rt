@@ -1,6 +1,6 @@
-ghost use Rattle.std.specs.Prelude.{◌≡◌, ◌+◌, min};
+ghost use Rattle.std.specs.Prelude.{◌≡◌, ◌+◌, ◌-◌, min, length};
 ghost use Rattle.gfs2_layout.specs.Holding.{Holding};
-ghost use Rattle.gfs2_layout.specs.Inode.{Fits};
+ghost use Rattle.gfs2_layout.specs.Inode.{dinode_in, Fits};
 ghost use Rattle.glock_names.specs.Steps.{IfIs, IfNeedBlock, IfDamaged, OnlyDamaged};
 ghost use Rattle.dinode_tree.specs.Shown.{IsShown};
 ghost use Rattle.dinode_tree.specs.Broken.{IsBroken};
@@ -66,6 +66,7 @@ fn range_in<V: View>(
     requires seen { IsIn (V.seen view.now) inode.now }
     requires fits { Fits (held inode.now) }
     ensures found { (h : Holding) → IsShown (V.seen view.now) inode.now.block h → AreWholeBefore h at → IfIs result (λ bytes. bytes.items ≡ content_range h at len) }
+    ensures length { IfIs result (λ bytes. length bytes.items ≡ min len (inode.now.dinode.size - at)) }
     ensures needed { (h : Holding) → IsShown (V.seen view.now) inode.now.block h → IfNeedBlock result (IsNeeded (V.seen view.now) h (IsInRange h at len) 0) }
     ensures damaged { (h : Holding) → IsShown (V.seen view.now) inode.now.block h → IfDamaged result (IsBroken h) }
 {
@@ -91,6 +92,7 @@ pub fn read_range<V: View>(
     len: u32,
 ) -> Result<Step<Vec<u8>>, CallFault>
     ensures found { (h : Holding) → IsShown (V.seen view.now) dinode h → AreWholeBefore h at → IfIs result (λ bytes. bytes.items ≡ content_range h at len) }
+    ensures length { (h : Holding) → IsShown (V.seen view.now) dinode h → IfIs result (λ bytes. length bytes.items ≡ min len ((dinode_in h).size - at)) }
     ensures needed { (h : Holding) → IsShown (V.seen view.now) dinode h → IfNeedBlock result (IsNeeded (V.seen view.now) h (IsInRange h at len) 0) }
     ensures damaged { (h : Holding) → IsShown (V.seen view.now) dinode h → IfDamaged result (IsBroken h) }
 {

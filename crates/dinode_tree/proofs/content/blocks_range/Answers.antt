@@ -1,4 +1,4 @@
-use Rattle.std.proofs.Common.{◌≡◌, ◌≤◌, ◌+◌, ◌/◌, ◌∙◌, length, arith}
+use Rattle.std.proofs.Common.{◌≡◌, ◌≤◌, ◌+◌, ◌/◌, ◌∙◌, length, length-append, ap, arith}
 use Rattle.dinode_tree.specs.Walking.{laid_range, ArePieces}
 use Rattle.gfs2_layout.specs.Inode.{unit}
 use Rattle.dinode_tree.proofs.Pointers.{shown_of}
@@ -10,6 +10,7 @@ pub loop-next-init : goal.loop-next-init
 loop-next-init g c = record {
   least = omega arith;
   most = c.requires.order;
+  count = omega (arith, ap length c.in_ok-bytes.ensures.items);
   read = λ h shown whole. c.in_ok-bytes.ensures.items ∙ nothing_read h c.args.at;
   pieces = λ h shown whole.
       pieces_of_whole h c.args.inode.now c.args.at (shown_of (g.V.View.seen c.args.view.now) h c.args.inode.now shown c.requires.seen) c.requires.fits c.requires.below (omega (arith, c.requires.order, c.requires.within)) whole;
@@ -19,6 +20,7 @@ pub loop-next-preserved : goal.loop-next-preserved
 loop-next-preserved g c = record {
   least = omega (arith, c.loop-next.invariant.least);
   most = answer_at c.in_ok-part.field-0 c.in-Is.part (λ p. c.loop-next.next + length p.now ≤ c.args.end) c.in-Is.is c.in_ok-part.ensures.least;
+  count = omega (arith, c.loop-next.invariant.count, c.loop-next.invariant.least, ap length c.in_ok-extend_from_slice-in-Is.ensures.items, length-append c.loop-next.bytes.items c.in-Is.part.now);
   read = λ h shown whole.
       c.in_ok-extend_from_slice-in-Is.ensures.items ∙ appended h c.args.at c.loop-next.next c.loop-next.bytes.items c.in-Is.part.now c.loop-next.invariant.least (c.loop-next.invariant.read h shown whole)
       (answer_at c.in_ok-part.field-0 c.in-Is.part (λ p. p.now ≡ laid_range h c.loop-next.next (c.loop-next.next + length p.now)) c.in-Is.is

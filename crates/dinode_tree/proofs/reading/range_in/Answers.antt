@@ -19,7 +19,7 @@ stuffed_range-requires-clause-within g c =
 pub returns-then-inode-eq0-clause-found : goal.returns-then-inode-eq0-clause-found
 returns-then-inode-eq0-clause-found g c h shown whole =
     let o = shown_of (g.V.View.seen c.args.view.now) h c.args.inode.now shown c.requires.seen in
-    c.in_ok-bytes.ensures h o ∙ range_is h c.args.at c.args.len c.end_of-end.result (end_is h c.args.inode.now c.args.at c.args.len c.end_of-end.result o c.end_of-end.ensures)
+    c.in_ok-bytes.ensures.found h o ∙ range_is h c.args.at c.args.len c.end_of-end.result (end_is h c.args.inode.now c.args.at c.args.len c.end_of-end.result o c.end_of-end.ensures)
 
 pub returns-clause-found : goal.returns-clause-found
 returns-clause-found g c h shown whole =

@@ -1,0 +1,28 @@
+-- What is told of a dinode that was read.
+use Rattle.std.proofs.Common.{◌≡◌, ◌*◌, ◌≤◌, ℕ, length, sym, subst, ◌∙◌, arith}
+use Rattle.gfs2_layout.specs.Holding.{Holding}
+use Rattle.gfs2_layout.specs.Inode.{dinode_in, height_in, fan, span, content_count, Fits}
+use Rattle.gfs2_layout.specs.Structures.{dinode_length}
+use Rattle.glock_names.specs.Views.{Seen}
+use Rattle.dinode_tree.specs.Shown.{IsShown}
+use Rattle.dinode_tree.specs.Walking.{held, IsIn, IsOf}
+use Rattle.dinode_tree.specs.declared.inode.Inode.{Inode}
+use Rattle.dinode_tree.proofs.Dinodes.{dinode_is, height_same, height_held, size_same, size_held, count_same}
+use Rattle.dinode_tree.proofs.Pointers.{shown_of}
+
+-- what is shown of the inode in the block that the holding's dinode is in
+pub shown_in : (v : Seen) (h : Holding) (a : ℕ) (inode : Inode) → inode.block ≡ a → IsShown v a h → IsIn v inode → IsOf h inode
+shown_in v h a inode at shown there = shown_of v h inode (subst (λ b. IsShown v b h) (sym at) shown) there
+
+-- a dinode whose content fits is the holding's
+pub fits_of : (h : Holding) (inode : Inode) → IsOf h inode → Fits (held inode) → Fits h
+fits_of h inode o f =
+    let height : height_in (held inode) ≡ height_in h = sym (height_held inode) ∙ height_same h inode o in
+    let size : (dinode_in (held inode)).size ≡ (dinode_in h).size = sym (size_held inode) ∙ size_same h inode o in
+    record {
+      low = omega (arith, f.low, height);
+      stuffed = λ none. omega (arith, f.stuffed (height ∙ none), size, o.size);
+      under = λ level high.
+          subst (λ n. content_count h ≤ fan n dinode_length * span n level) (sym o.size)
+          (subst (λ n. n ≤ fan (length inode.bytes.now) dinode_length * span (length inode.bytes.now) level) (count_same h inode o) (f.under level (height ∙ high)));
+    }

@@ -1,0 +1,113 @@
+-- What mounting tells in the end.
+use Rattle.std.proofs.Common.{◌≡◌, ℕ, ◌^◌, ◌<◌, List, [], length, Some, IsTrue, sym, ap, subst, ◌∙◌}
+use Rattle.std.specs.Prelude.{map, slice_get, Result, IfErr, IsErrAnd}
+use Rattle.std.specs.List.{All}
+use Rattle.std.proofs.lemmas.List.{length-map}
+use Rattle.std.proofs.lemmas.Option.{slice_get_within, get_or_from_slice_get}
+use Rattle.gfs2_layout.specs.declared.log_header.LogHeader.{LogHeader}
+use Rattle.glock_names.specs.declared.steps.Entry.{Entry}
+use Rattle.image_model.specs.Image.{Image, image_of}
+use Rattle.image_model.specs.Stands.{Layout, IsJournalAt}
+use Rattle.image_mount.specs.Found.{HasFormat, HasNames}
+use Rattle.image_mount.specs.Mounted.{Journal, MountedValue, IsMounted, IsOfProfile, IsJournalOf, group_of_entry}
+use Rattle.image_mount.specs.Refusals.{RefusesRightly, IsExcused}
+use Rattle.image_mount.specs.Rings.{IsSearched, AreRings, AreJournals, IsLowJournal, IsRingOf}
+use Rattle.image_mount.specs.System.{IsSystemOf, layout_of}
+use Rattle.image_mount.specs.Table.{Kept}
+use Rattle.shared_disk.specs.Disk.{DiskState}
+use Rattle.image_mount.specs.declared.fault.MountFault.{MountFault}
+use Rattle.image_mount.specs.declared.journals.Ring.{Ring}
+use Rattle.image_mount.specs.declared.system.System.{System}
+use Rattle.image_mount.proofs.Accepts.{excused}
+use Rattle.image_mount.proofs.Names.{mapped_at, from_mapped}
+use Rattle.image_mount.proofs.Stops.{handed}
+
+-- a refusal that is handed on, where the disk tells
+pub refused_where : {T : Type 0} (W : Type 0) (im : Image) (r : Result T MountFault) (f : MountFault) → IsErrAnd r (λ g. g ≡ f) → (W → RefusesRightly im f) → IfErr r (λ g. W → RefusesRightly im g)
+refused_where {T} W im r f is right = handed {T = T} r (λ g. g ≡ f) (λ g. W → RefusesRightly im g) is (λ g e w. subst (RefusesRightly im) (sym e) (right w))
+
+pub excused_where : {T : Type 0} (W : Type 0) (im : Image) (r : Result T MountFault) (f : MountFault) → IsErrAnd r (λ g. g ≡ f) → (W → RefusesRightly im f) → IfErr r (λ g. W → IsOfProfile im → IsExcused g)
+excused_where {T} W im r f is right = handed {T = T} r (λ g. g ≡ f) (λ g. W → IsOfProfile im → IsExcused g) is (λ g e w of. subst IsExcused (sym e) (excused im f (right w) of))
+
+same_some : {X : Type 0} (x y : X) → Some x ≡ Some y → x ≡ y
+same_some x y e = cc
+
+-- what was found is what is mounted
+pub mounted : (im : Image) (system : System) (rings : List Ring) (journals : List Journal) (m : MountedValue) → IsSystemOf im system → AreRings im system.journals.items rings → AreJournals im rings journals
+    → m.superblock ≡ system.superblock → m.groups ≡ map group_of_entry system.groups.items → m.journals ≡ journals → IsMounted im m
+mounted im system rings journals m looked are found super groups same = record {
+  layout = l;
+  found = looked.names;
+  profile = record {
+    fs_format = format.fs_format;
+    multihost_format = format.multihost_format;
+    bsize = format.bsize;
+    bsize_shift = format.bsize_shift;
+    master = looked.master;
+    device = format.super.few;
+    journals = record {
+      some = looked.names.some;
+      few = looked.names.few;
+      there = looked.names.there;
+      others = λ name d way.
+          let other = looked.journals.others name d way in
+          (other.0, subst (IsJournalAt l other.0) other.1.2 (mapped_at (λ (e : Entry). e.addr) system.journals.items other.0 other.1.0 other.1.1), other.1.3);
+    };
+    journal = λ j d at.
+        let ring = ring_at j d at in
+        let has = ring.2.places in
+        (has.least, has.most);
+    groups = (looked.names.groups.some, looked.names.groups.few);
+    group_blocks = looked.names.groups.short;
+    sequence = λ j d head at is.
+        let journal = journal_at j d at in
+        let low = journal.2.1 in
+        subst (λ (h : LogHeader). h.sequence < 2 ^ 63) (same_some journal.0.head head (sym journal.2.0.head ∙ is)) low;
+  };
+  superblock = super ∙ looked.superblock;
+  groups = groups;
+  count = ap length same ∙ sym (length-map journals (λ (j : Journal). j.dinode)) ∙ ap length dinodes;
+  journals = λ j d journal at there.
+      let one = journal_at j d at in
+      subst (IsJournalOf im d) (same_some one.0 journal (sym one.1 ∙ ap (λ js. slice_get js j) (sym same) ∙ there)) one.2.0;
+}
+  where
+    l : Layout
+    l = layout_of system
+
+    format : HasFormat im
+    format = looked.names.groups.list.master.format
+
+    dinodes : map (λ (j : Journal). j.dinode) journals ≡ l.journals
+    dinodes = found.dinodes ∙ are.dinodes
+
+    ring_at : (j d : ℕ) → IsJournalAt l j d → (ring : Ring) × (slice_get rings j ≡ Some ring) × IsRingOf im d ring.blocks.items
+    ring_at j d at =
+        let ring = from_mapped (λ (r : Ring). r.dinode) rings j d (ap (λ ds. slice_get ds j) are.dinodes ∙ at) in
+        let low = slice_get_within rings j ring.0 ring.1 in
+        let of = subst (λ (r : Ring). IsRingOf im r.dinode r.blocks.items) (get_or_from_slice_get rings j ring.0 ring.0 ring.1) (are.each j ring.0 low) in
+        (ring.0, ring.1, subst (λ x. IsRingOf im x ring.0.blocks.items) ring.2 of)
+
+    journal_at : (j d : ℕ) → IsJournalAt l j d → (journal : Journal) × (slice_get journals j ≡ Some journal) × (IsJournalOf im d journal × (journal.head.sequence < 2 ^ 63))
+    journal_at j d at =
+        let journal = from_mapped (λ (x : Journal). x.dinode) journals j d (ap (λ ds. slice_get ds j) dinodes ∙ at) in
+        let low = slice_get_within journals j journal.0 journal.1 in
+        let of = subst (IsLowJournal im) (get_or_from_slice_get journals j journal.0 journal.0 journal.1) (found.each j journal.0 low) in
+        (journal.0, journal.1, (subst (λ x. IsJournalOf im x journal.0) journal.2 of.is, of.low))
+
+module _ (old now : DiskState) (same : now ≡ old) where
+  pub rings_told : (system : System) (k : Kept) (P : Image → Type 0) → (IsTrue now.tells → IsSystemOf (image_of now) system → IsSearched (image_of now) [] 0 0 k → P (image_of now))
+      → IsTrue old.tells → IsSystemOf (image_of old) system → IsSearched (image_of old) [] 0 0 k → P (image_of old)
+  rings_told system k P more = subst (λ (s : DiskState). IsTrue s.tells → IsSystemOf (image_of s) system → IsSearched (image_of s) [] 0 0 k → P (image_of s)) same more
+
+  pub journals_refused : (l : Layout) (rings : List Ring) (f : MountFault)
+      → (IsTrue now.tells → HasNames (image_of now) l → map (λ (r : Ring). r.dinode) rings ≡ l.journals → All (λ (r : Ring). IsRingOf (image_of now) r.dinode r.blocks.items) rings → RefusesRightly (image_of now) f)
+      → IsTrue old.tells → HasNames (image_of old) l → map (λ (r : Ring). r.dinode) rings ≡ l.journals → All (λ (r : Ring). IsRingOf (image_of old) r.dinode r.blocks.items) rings → RefusesRightly (image_of old) f
+  journals_refused l rings f more =
+      subst (λ (s : DiskState). IsTrue s.tells → HasNames (image_of s) l → map (λ (r : Ring). r.dinode) rings ≡ l.journals → All (λ (r : Ring). IsRingOf (image_of s) r.dinode r.blocks.items) rings → RefusesRightly (image_of s) f) same more
+
+  pub journals_found : (rings : List Ring) (journals : List Journal)
+      → (IsTrue now.tells → All (λ (r : Ring). IsRingOf (image_of now) r.dinode r.blocks.items) rings → AreJournals (image_of now) rings journals)
+      → IsTrue old.tells → All (λ (r : Ring). IsRingOf (image_of old) r.dinode r.blocks.items) rings → AreJournals (image_of old) rings journals
+  journals_found rings journals more =
+      subst (λ (s : DiskState). IsTrue s.tells → All (λ (r : Ring). IsRingOf (image_of s) r.dinode r.blocks.items) rings → AreJournals (image_of s) rings journals) same more

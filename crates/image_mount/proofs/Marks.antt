@@ -1,0 +1,234 @@
+-- What is known of the blocks that are kept and of those that are places of journals, as more are read and found.
+use Rattle.std.proofs.Common.{◌≡◌, ◌≢◌, inl, inr, ℕ, zero, suc, ◌+◌, ◌≤◌, Bool, true, false, List, [], ◌∷◌, ◌++◌, Option, None, Some, refl, sym, ap, subst, ◌∙◌, arith}
+use Rattle.std.specs.Prelude.{Contains, slice_get, slice_set, IsTrue, Result, Ok, Err, OnOk, IfOk, is_ok}
+use Rattle.std.specs.List.{All}
+use Rattle.std.proofs.lemmas.Bool.{cases_eq}
+use Rattle.std.proofs.lemmas.Option.{slice_get-get_or, slice_get_within, get_or_from_slice_get}
+use Rattle.std.proofs.lemmas.List.Elements.{Contains-append_left, Contains-push}
+use Rattle.dinode_tree.specs.declared.locating.Located.{Located}
+use Rattle.gfs2_layout.specs.Device.{superblock_place}
+use Rattle.gfs2_layout.specs.Inode.{content_of}
+use Rattle.gfs2_layout.specs.declared.rindex.Rindex.{Rindex}
+use Rattle.glock_names.specs.declared.steps.Entry.{Entry}
+use Rattle.image_model.specs.Claims.{every, Claims, below}
+use Rattle.image_model.specs.Groups.{groups_in, IsDataOf}
+use Rattle.shared_disk.specs.Disk.{DiskState}
+use Rattle.image_model.specs.Image.{Image, image_of}
+use Rattle.image_model.specs.Owners.{Below, Named}
+use Rattle.image_model.specs.Rules.{Breaks, no_superblock, beyond_device, beyond_groups, two_owners, IsOutside}
+use Rattle.image_model.specs.Journals.{journal_name}
+use Rattle.image_mount.specs.Found.{HasFormat}
+use Rattle.image_mount.specs.Refusals.{RefusesRightly}
+use Rattle.image_mount.specs.Rings.{IsPlace, IsSearched, IsNext, IsPlaceAt}
+use Rattle.image_mount.specs.Searching.{IsWanted, StopsRightly}
+use Rattle.image_mount.specs.System.{IsSystemOf}
+use Rattle.image_mount.specs.Table.{Kept, bytes_of}
+use Rattle.image_mount.specs.declared.fault.MountFault.{MountFault}
+use Rattle.image_mount.specs.declared.fault.MountFault.TheVariants as fault
+use Rattle.image_mount.specs.declared.stop.Stop.{Stop}
+use Rattle.image_mount.specs.declared.stop.Stop.TheVariants as stop
+use Rattle.image_mount.specs.declared.system.System.{System}
+use Rattle.image_mount.proofs.Causes.{told}
+use Rattle.image_mount.proofs.KeptLaws.{get_kept}
+
+-- ---- a block that is wanted is not read
+
+pub beyond_super : (im : Image) (f : MountFault) (block : ℕ) → f ≡ fault.Damaged block 1 → block ≡ superblock_place im.size → im.count ≤ block → RefusesRightly im f
+beyond_super im f block is at high =
+    let breaks : Breaks im 1 block = subst (Breaks im 1) (sym at) (no_superblock (omega (arith, high, at))) in
+    subst (RefusesRightly im) (sym is) (breaks, inl at)
+
+pub beyond_all : (im : Image) (f : MountFault) (block from : ℕ) → f ≡ fault.Damaged from 2 → IsWanted im block from → im.count ≤ block → block ≢ superblock_place im.size → RefusesRightly im f
+beyond_all im f block from is wanted high other = elim wanted [
+  | inl super ↦ absurd (other super)
+  | inr by ↦ told im f from 2 is by.0 (beyond_device from block by.1.0 by.1.1 high)
+]
+
+pub place_wanted : (im : Image) (f : MountFault) (block from : ℕ) (done : List ℕ) (d n : ℕ) → f ≡ fault.Damaged block 3 → IsWanted im block from → IsPlace im done d n block → RefusesRightly im f
+place_wanted im f block from done d n is wanted place = elim wanted [
+  | inl super ↦ absurd (place.apart super)
+  | inr by ↦
+      told im f block 3 is by.0 (two_owners block from place.by by.1.0 (Below place.inode place.by place.pointer 0 place.index) by.1.1 place.claimed
+      (λ e. place.plain (by.1.2 place.inode place.by place.pointer place.index e)))
+]
+
+-- ---- one more block is kept, or is a place
+
+pub searched_more : (im : Image) (done : List ℕ) (d n : ℕ) (old new : Kept) (b from : ℕ) (x : List ℕ) → slice_get old.entries b ≡ Some None → new.entries ≡ slice_set old.entries b (Some x)
+    → new.places ≡ old.places → IsWanted im b from → IsSearched im done d n old → IsSearched im done d n new
+searched_more im done d n old new b from x free is places wanted known = record {
+  wanted = λ c bytes at. elim (get_kept x old.entries b c bytes free (ap (λ es. bytes_of (slice_get es c)) (sym is) ∙ at)) [
+    | inl both ↦ (from, subst (λ z. IsWanted im z from) (sym both.0) wanted)
+    | inr before ↦ known.wanted c bytes before
+  ];
+  marked = λ c at. known.marked c (ap (λ ps. slice_get ps c) (sym places) ∙ at);
+}
+
+got_other : {X : Type 0} (xs : List X) (i j : ℕ) (x : X) → i ≢ j → slice_get (slice_set xs i x) j ≡ slice_get xs j
+got_other [] i j x d = refl
+got_other (y ∷ xs) zero zero x d = absurd (d refl)
+got_other (y ∷ xs) zero (suc j) x d = refl
+got_other (y ∷ xs) (suc i) zero x d = refl
+got_other (y ∷ xs) (suc i) (suc j) x d = got_other xs i j x (λ e. d (ap suc e))
+
+-- what is a place stays one, as more are found
+pub place_later : (im : Image) (done : List ℕ) (d n m b : ℕ) → n ≤ m → IsPlace im done d n b → IsPlace im done d m b
+place_later im done d n m b low place = record {
+  apart = place.apart;
+  inode = place.inode;
+  by = place.by;
+  pointer = place.pointer;
+  index = place.index;
+  claimed = place.claimed;
+  plain = place.plain;
+  of = elim place.of [ inl before ↦ inl before | inr here ↦ inr (here.0, omega (arith, low, here.1)) ];
+}
+
+pub place_done : (im : Image) (done : List ℕ) (d n b : ℕ) → IsPlace im done d n b → IsPlace im (done ++ d ∷ []) 0 0 b
+place_done im done d n b place = record {
+  apart = place.apart;
+  inode = place.inode;
+  by = place.by;
+  pointer = place.pointer;
+  index = place.index;
+  claimed = place.claimed;
+  plain = place.plain;
+  of = inl (elim place.of [
+    | inl before ↦ Contains-append_left done (d ∷ []) place.inode before
+    | inr here ↦ subst (Contains (done ++ d ∷ [])) (sym here.0) (Contains-push done d)
+  ]);
+}
+
+pub place_none : (im : Image) (done : List ℕ) (d e b : ℕ) → IsPlace im done d 0 b → IsPlace im done e 0 b
+place_none im done d e b place = record {
+  apart = place.apart;
+  inode = place.inode;
+  by = place.by;
+  pointer = place.pointer;
+  index = place.index;
+  claimed = place.claimed;
+  plain = place.plain;
+  of = elim place.of [ inl before ↦ inl before | inr here ↦ absurd (omega (arith, here.1)) ];
+}
+
+pub searched_done : (im : Image) (done : List ℕ) (d n : ℕ) (k : Kept) → IsSearched im done d n k → IsSearched im (done ++ d ∷ []) 0 0 k
+searched_done im done d n k known = record { wanted = known.wanted; marked = λ b at. place_done im done d n b (known.marked b at) }
+
+pub searched_next : (im : Image) (done : List ℕ) (d : ℕ) (k : Kept) → IsSearched im done 0 0 k → IsSearched im done d 0 k
+searched_next im done d k known = record { wanted = known.wanted; marked = λ b at. place_none im done 0 d b (known.marked b at) }
+
+pub searched_new : (im : Image) (k : Kept) → All (λ kept. kept ≡ None) k.entries → All (λ place. place ≡ false) k.places → IsSearched im [] 0 0 k
+searched_new im k none unmarked = record {
+  wanted = λ b bytes at. absurd (none_at k.entries none b bytes at);
+  marked = λ b at. absurd (false_at k.places unmarked b at);
+}
+  where
+    none_at : (entries : List (Option (List ℕ))) → All (λ kept. kept ≡ None) entries → (b : ℕ) (bytes : List ℕ) → bytes_of (slice_get entries b) ≡ Some bytes → ⊥
+    none_at [] all b bytes at = cc
+    none_at (e ∷ es) all zero bytes at = let e0 = all 0 None (omega arith) in cc
+    none_at (e ∷ es) all (suc b) bytes at = none_at es (λ k d low. all (suc k) d (omega (arith, low))) b bytes at
+
+    false_at : (places : List Bool) → All (λ place. place ≡ false) places → (b : ℕ) → slice_get places b ≡ Some true → ⊥
+    false_at [] all b at = cc
+    false_at (e ∷ es) all zero at = let e0 = all 0 false (omega arith) in cc
+    false_at (e ∷ es) all (suc b) at = false_at es (λ k d low. all (suc k) d (omega (arith, low))) b at
+
+pub marked_more : (im : Image) (done : List ℕ) (d n m : ℕ) (old new : Kept) (b : ℕ) → new.places ≡ slice_set old.places b true → new.entries ≡ old.entries → n ≤ m → IsPlace im done d m b
+    → IsSearched im done d n old → IsSearched im done d m new
+marked_more im done d n m old new b is entries low place known = record {
+  wanted = λ c bytes at. known.wanted c bytes (ap (λ es. bytes_of (slice_get es c)) (sym entries) ∙ at);
+  marked = λ c at. elim (cases_eq b c) [
+    | inl same ↦ subst (IsPlace im done d m) same place
+    | inr other ↦ place_later im done d n m c low (known.marked c (sym (got_other old.places b c true other) ∙ ap (λ ps. slice_get ps c) (sym is) ∙ at))
+  ];
+}
+
+-- ---- a place of the next journal
+
+module _ (im : Image) (done : List ℕ) (system : System) (journal : Entry) (next : IsNext im done system journal) where
+  format : HasFormat im
+  format = next.named.names.groups.list.master.format
+
+  pub place_claim : (place : ℕ) (located : Located) (at : IsPlaceAt im journal.addr place located) → Claims im located.from located.block (Below journal.addr located.from at.leads.0 0 place)
+  place_claim place located at =
+      below system.jindex journal.addr (Named system.jindex (journal_name next.named.index)) located.from at.leads.0 0 place located.block next.named.named.claimed refl at.leads.1
+
+  pub place_beyond : (f : MountFault) (place : ℕ) (located : Located) → f ≡ fault.Damaged located.from 2 → IsPlaceAt im journal.addr place located → im.count ≤ located.block → RefusesRightly im f
+  place_beyond f place located is at high =
+      told im f located.from 2 is format (beyond_device located.from located.block (Below journal.addr located.from at.leads.0 0 place) (place_claim place located at) high)
+
+  pub place_outside : (f : MountFault) (place : ℕ) (located : Located) → f ≡ fault.Damaged located.from 2 → IsPlaceAt im journal.addr place located → IsOutside im located.block → RefusesRightly im f
+  place_outside f place located is at out =
+      told im f located.from 2 is format (beyond_groups located.from located.block (Below journal.addr located.from at.leads.0 0 place) (place_claim place located at) out)
+
+  one_place : (a b k i d c j p : ℕ) → Below a b k 0 i ≡ Below d c j 0 p → (a ≡ d) × (i ≡ p)
+  one_place a b k i d c j p e = (cc, cc)
+
+  pub place_again : (f : MountFault) (place : ℕ) (located : Located) → f ≡ fault.Damaged located.block 3 → IsPlaceAt im journal.addr place located → IsPlace im done journal.addr place located.block
+      → RefusesRightly im f
+  place_again f place located is at old =
+      told im f located.block 3 is format
+      (two_owners located.block old.by located.from (Below old.inode old.by old.pointer 0 old.index) (Below journal.addr located.from at.leads.0 0 place) old.claimed (place_claim place located at)
+      (λ e. let same = one_place old.inode old.by old.pointer old.index journal.addr located.from at.leads.0 place e in elim old.of [
+        | inl before ↦ next.new (subst (Contains done) same.0 before)
+        | inr here ↦ absurd (omega (arith, same.1, here.1))
+      ]))
+
+  pub place_kept : (f : MountFault) (place : ℕ) (located : Located) (by : ℕ) → f ≡ fault.Damaged located.block 3 → IsPlaceAt im journal.addr place located → IsWanted im located.block by
+      → located.block ≢ superblock_place im.size → RefusesRightly im f
+  place_kept f place located by is at wanted apart = elim wanted [
+    | inl super ↦ absurd (apart super)
+    | inr from ↦
+        told im f located.block 3 is format
+        (two_owners located.block by located.from from.1.0 (Below journal.addr located.from at.leads.0 0 place) from.1.1 (place_claim place located at)
+        (λ e. next.plain (from.1.2 journal.addr located.from at.leads.0 place e)))
+  ]
+
+  pub is_place : (place : ℕ) (located : Located) → IsPlaceAt im journal.addr place located → located.block ≢ superblock_place im.size → IsPlace im done journal.addr (place + 1) located.block
+  is_place place located at apart = record {
+    apart = apart;
+    inode = journal.addr;
+    by = located.from;
+    pointer = at.leads.0;
+    index = place;
+    claimed = place_claim place located at;
+    plain = next.plain;
+    of = inr (refl, omega arith);
+  }
+
+-- ---- what was known before a block is read is known behind it
+
+pub searched_on : {T E : Type 0} (r : Result T E) (s : Stop) (block from : ℕ) (old new : Kept) → s ≡ stop.Reads block from
+    → OnOk r ((im : Image) (done : List ℕ) (d n : ℕ) → IsWanted im block from → IsSearched im done d n old → IsSearched im done d n new)
+    → OnOk r ((im : Image) (done : List ℕ) (d n : ℕ) → StopsRightly im s → IsSearched im done d n old → IsSearched im done d n new)
+searched_on (Ok x) s block from old new is more = λ im done d n stops known. more im done d n (subst (StopsRightly im) is stops) known
+searched_on (Err e) s block from old new is more = tt
+
+-- ---- blocks of groups
+
+pub outside_groups : (im : Image) (system : System) (b : ℕ) (groups : List Rindex) → IsSystemOf im system → groups ≡ system.groups.items → All (λ g. ¬ (IsDataOf g b)) groups → IsOutside im b
+outside_groups im system b groups looked same none g has inside =
+    let list : groups_in (content_of (every im has.0)) ≡ groups
+    = ap (λ d. groups_in (content_of (every im d))) (looked.one_rindex has.0 has.1) ∙ looked.names.groups.list.listed ∙ sym same in
+    let at : slice_get groups has.2.0 ≡ Some g = ap (λ gs. slice_get gs has.2.0) (sym list) ∙ has.2.1 in
+    let low = slice_get_within groups has.2.0 g at in
+    subst (λ (h : Rindex). ¬ (IsDataOf h b)) (get_or_from_slice_get groups has.2.0 g g at) (none has.2.0 g low) inside
+
+pub above_super : (im : Image) (system : System) (b : ℕ) (groups : List Rindex) → IsSystemOf im system → groups ≡ system.groups.items → (g : Rindex) × Contains groups g × IsDataOf g b → b ≢ superblock_place im.size
+above_super im system b groups looked same inside e =
+    let g = inside.0 in
+    let there = subst (λ gs. Contains gs g) same inside.1 in
+    let fits = looked.names.groups.fit.each g (there.0, slice_get-get_or system.groups.items there.0 g there.1 ∙ ap Some there.2) in
+    absurd (omega (arith, e, fits.above, fits.first, inside.2.low))
+
+-- what is said of an answer holds of one
+pub some_ok : {T E : Type 0} (r : Result T E) (P : T → Type 0) → is_ok r ≡ true → IfOk r P → (x : T) × P x
+some_ok (Ok x) P e holds = (x, holds)
+some_ok (Err f) P e holds = absurd (let no_answer : false ≡ true = e in cc)
+
+-- why what is wanted isn't read, of a disk that holds what it held before
+pub go_refused : (old now : DiskState) (s : Stop) (k : Kept) (f : MountFault) (done : List ℕ) (d n : ℕ) → now ≡ old
+    → ((done : List ℕ) (d n : ℕ) → IsTrue now.tells → StopsRightly (image_of now) s → IsSearched (image_of now) done d n k → RefusesRightly (image_of now) f)
+    → IsTrue old.tells → StopsRightly (image_of old) s → IsSearched (image_of old) done d n k → RefusesRightly (image_of old) f
+go_refused old now s k f done d n same more =
+    subst (λ (t : DiskState). IsTrue t.tells → StopsRightly (image_of t) s → IsSearched (image_of t) done d n k → RefusesRightly (image_of t) f) same (more done d n)

@@ -1,0 +1,183 @@
+-- What a call over a disk tells, in the words of what the disk held before.
+use Rattle.std.proofs.Common.{◌≡◌, ◌≢◌, ◌↔◌, Bool, false, ℕ, zero, suc, ◌+◌, ◌<◌, List, [], ◌∷◌, ◌++◌, length, take, get_or, Some, IsTrue, refl, sym, ap, subst, ◌∙◌, arith}
+use Rattle.std.specs.Prelude.{codes, map, Contains, slice_get}
+use Rattle.std.specs.List.{All}
+use Rattle.std.proofs.lemmas.Option.{slice_get-get_or}
+use Rattle.std.proofs.lemmas.List.{map-append}
+use Rattle.std.proofs.lemmas.List.Elements.{All-push}
+use Rattle.dinode_tree.specs.declared.locating.Located.{Located}
+use Rattle.glock_names.specs.declared.steps.Entry.{Entry}
+use Rattle.image_model.specs.Claims.{Claims, master_of}
+use Rattle.image_model.specs.Image.{Image, image_of}
+use Rattle.image_model.specs.Journals.{journal_name}
+use Rattle.image_model.specs.Owners.{Named}
+use Rattle.image_model.specs.Rules.{two_owners}
+use Rattle.shared_disk.specs.Disk.{DiskState}
+use Rattle.image_mount.specs.Refusals.{RefusesRightly}
+use Rattle.image_mount.specs.Rings.{IsSearched, IsJournalIn, IsNext, HasPlaces, IsPlaceAt, AreBlocksOf, IsRingOf, AreRings}
+use Rattle.image_mount.specs.Searching.{IsWorking}
+use Rattle.image_mount.specs.System.{IsSystemOf, layout_of}
+use Rattle.image_mount.specs.Table.{Kept, bytes_of}
+use Rattle.image_mount.specs.declared.fault.MountFault.{MountFault}
+use Rattle.image_mount.specs.declared.fault.MountFault.TheVariants as fault
+use Rattle.image_mount.specs.declared.journals.Ring.{Ring}
+use Rattle.image_mount.specs.declared.system.System.{System}
+use Rattle.image_mount.proofs.Causes.{told, lacks}
+use Rattle.image_mount.proofs.JournalNames.{one_number}
+use Rattle.image_mount.proofs.Names.{contains_at, mapped_at, from_mapped}
+
+module _ (old now : DiskState) (same : now ≡ old) where
+  pub place_refused : (jindex : ℕ) (journal : Entry) (places place : ℕ) (k : Kept) (f : MountFault) (done : List ℕ) (d n : ℕ)
+      → (IsTrue now.tells → IsJournalIn (image_of now) jindex journal → HasPlaces (image_of now) journal.addr places → place < places → IsSearched (image_of now) done d n k → RefusesRightly (image_of now) f)
+      → IsTrue old.tells → IsJournalIn (image_of old) jindex journal → HasPlaces (image_of old) journal.addr places → place < places → IsSearched (image_of old) done d n k → RefusesRightly (image_of old) f
+  place_refused jindex journal places place k f done d n more =
+      subst (λ (s : DiskState). IsTrue s.tells → IsJournalIn (image_of s) jindex journal → HasPlaces (image_of s) journal.addr places → place < places → IsSearched (image_of s) done d n k → RefusesRightly (image_of s) f) same more
+
+  pub place_searched : (jindex : ℕ) (journal : Entry) (places place : ℕ) (k new : Kept) (done : List ℕ) (d n : ℕ)
+      → (IsTrue now.tells → IsJournalIn (image_of now) jindex journal → HasPlaces (image_of now) journal.addr places → place < places → IsSearched (image_of now) done d n k → IsSearched (image_of now) done d n new)
+      → IsTrue old.tells → IsJournalIn (image_of old) jindex journal → HasPlaces (image_of old) journal.addr places → place < places → IsSearched (image_of old) done d n k → IsSearched (image_of old) done d n new
+  place_searched jindex journal places place k new done d n more =
+      subst (λ (s : DiskState). IsTrue s.tells → IsJournalIn (image_of s) jindex journal → HasPlaces (image_of s) journal.addr places → place < places → IsSearched (image_of s) done d n k → IsSearched (image_of s) done d n new) same more
+
+  pub place_at : (d place : ℕ) (located : Located) → (IsTrue now.tells → IsPlaceAt (image_of now) d place located) → IsTrue old.tells → IsPlaceAt (image_of old) d place located
+  place_at d place located more = subst (λ (s : DiskState). IsTrue s.tells → IsPlaceAt (image_of s) d place located) same more
+
+  pub blocks_told : (done : List ℕ) (system : System) (journal : Entry) (places : ℕ) (k : Kept) (P : Image → Type 0)
+      → (IsTrue now.tells → IsNext (image_of now) done system journal → HasPlaces (image_of now) journal.addr places → IsSearched (image_of now) done journal.addr 0 k → P (image_of now))
+      → IsTrue old.tells → IsNext (image_of old) done system journal → HasPlaces (image_of old) journal.addr places → IsSearched (image_of old) done journal.addr 0 k → P (image_of old)
+  blocks_told done system journal places k P more =
+      subst (λ (s : DiskState). IsTrue s.tells → IsNext (image_of s) done system journal → HasPlaces (image_of s) journal.addr places → IsSearched (image_of s) done journal.addr 0 k → P (image_of s)) same more
+
+  pub ring_told : (done : List ℕ) (system : System) (journal : Entry) (k : Kept) (P : Image → Type 0)
+      → (IsTrue now.tells → IsNext (image_of now) done system journal → IsSearched (image_of now) done 0 0 k → P (image_of now))
+      → IsTrue old.tells → IsNext (image_of old) done system journal → IsSearched (image_of old) done 0 0 k → P (image_of old)
+  ring_told done system journal k P more =
+      subst (λ (s : DiskState). IsTrue s.tells → IsNext (image_of s) done system journal → IsSearched (image_of s) done 0 0 k → P (image_of s)) same more
+
+  pub ring_found : (done : List ℕ) (system : System) (journal : Entry) (k : Kept) (blocks : List ℕ)
+      → (IsTrue now.tells → IsNext (image_of now) done system journal → IsSearched (image_of now) done 0 0 k → IsRingOf (image_of now) journal.addr blocks)
+      → IsTrue old.tells → IsNext (image_of old) done system journal → IsSearched (image_of old) done 0 0 k → IsRingOf (image_of old) journal.addr blocks
+  ring_found done system journal k blocks more = ring_told done system journal k (λ i. IsRingOf i journal.addr blocks) more
+
+  pub ring_searched : (done : List ℕ) (system : System) (journal : Entry) (k new : Kept)
+      → (IsTrue now.tells → IsNext (image_of now) done system journal → IsSearched (image_of now) done 0 0 k → IsSearched (image_of now) (done ++ journal.addr ∷ []) 0 0 new)
+      → IsTrue old.tells → IsNext (image_of old) done system journal → IsSearched (image_of old) done 0 0 k → IsSearched (image_of old) (done ++ journal.addr ∷ []) 0 0 new
+  ring_searched done system journal k new more = ring_told done system journal k (λ i. IsSearched i (done ++ journal.addr ∷ []) 0 0 new) more
+
+-- a block that is marked is kept as it was
+pub working_marked : (s : DiskState) (k new : Kept) → IsWorking s k → new.entries ≡ k.entries → new.size ≡ k.size → IsWorking s new
+working_marked s k new work entries size = record {
+  idle = work.idle;
+  size = size ∙ work.size;
+  count = ap length entries ∙ work.count;
+  same = λ tells b bytes at. work.same tells b bytes (ap (λ es. bytes_of (slice_get es b)) (sym entries) ∙ at);
+}
+
+-- the blocks at all its places are a journal's ring
+pub ring_is : (im : Image) (d places : ℕ) (blocks : List ℕ) → HasPlaces im d places → AreBlocksOf im d places blocks → IsRingOf im d blocks
+ring_is im d places blocks has are = record { places = subst (HasPlaces im d) has.count has; are = subst (λ n. AreBlocksOf im d n blocks) has.count are }
+
+-- ---- a journal that is looked for
+
+pub journal_in : (im : Image) (system : System) (j : ℕ) (entry : Entry) → IsSystemOf im system → slice_get system.journals.items j ≡ Some entry → IsJournalIn im system.jindex entry
+journal_in im system j entry looked at = record {
+  layout = layout_of system;
+  names = looked.names;
+  jindex_is = refl;
+  index = j;
+  at = mapped_at (λ (e : Entry). e.addr) system.journals.items j entry at;
+  named = looked.journals.each j entry at;
+}
+
+pub next_in : (im : Image) (system : System) (j : ℕ) (entry : Entry) (done : List ℕ) → IsSystemOf im system → slice_get system.journals.items j ≡ Some entry → entry.addr ≢ system.rindex → ¬ (Contains done entry.addr)
+    → IsNext im done system entry
+next_in im system j entry done looked at other new = record {
+  looked = looked;
+  named = journal_in im system j entry looked at;
+  plain = λ list. other (looked.one_rindex entry.addr list);
+  new = new;
+}
+
+same_name : (a b : ℕ) (x y : List ℕ) → Named a x ≡ Named b y → x ≡ y
+same_name a b x y e = cc
+
+pub twice_list : (im : Image) (system : System) (j : ℕ) (entry : Entry) (f : MountFault) → IsSystemOf im system → slice_get system.journals.items j ≡ Some entry → entry.addr ≡ system.rindex
+    → f ≡ fault.Damaged entry.addr 3 → RefusesRightly im f
+twice_list im system j entry f looked at same is =
+    let list = looked.names.groups.list.master.rindex in
+    let claim = subst (λ b. Claims im list.0 b (Named (master_of im) (codes "rindex"))) (sym same) list.1 in
+    told im f entry.addr 3 is looked.names.groups.list.master.format
+    (two_owners entry.addr system.jindex list.0 (Named system.jindex (journal_name j)) (Named (master_of im) (codes "rindex")) (looked.journals.each j entry at).claimed claim
+    (λ e. absurd (omega (arith, ap (λ name. get_or name 0 0) (same_name system.jindex (master_of im) (journal_name j) (codes "rindex") e)))))
+
+got_taken : {X : Type 0} (xs : List X) (n i : ℕ) (x : X) → slice_get (take n xs) i ≡ Some x → (i < n) × (slice_get xs i ≡ Some x)
+got_taken [] zero i x at = cc
+got_taken [] (suc n) i x at = cc
+got_taken (y ∷ xs) zero i x at = cc
+got_taken (y ∷ xs) (suc n) zero x at = (omega arith, at)
+got_taken (y ∷ xs) (suc n) (suc i) x at = let more = got_taken xs n i x at in (omega (arith, more.0), more.1)
+
+pub twice_journal : (im : Image) (system : System) (j : ℕ) (entry : Entry) (rings : List Ring) (f : MountFault) → IsSystemOf im system → slice_get system.journals.items j ≡ Some entry
+    → AreRings im (take j system.journals.items) rings → Contains (map (λ (r : Ring). r.dinode) rings) entry.addr → f ≡ fault.Damaged entry.addr 3 → RefusesRightly im f
+twice_journal im system j entry rings f looked at are there is =
+    let there' = subst (λ xs. Contains xs entry.addr) are.dinodes there in
+    let other = from_mapped (λ (e : Entry). e.addr) (take j system.journals.items) there'.0 entry.addr (contains_at _ entry.addr there') in
+    let i = there'.0 in
+    let early = got_taken system.journals.items j i other.0 other.1 in
+    let claim = subst (λ b. Claims im system.jindex b (Named system.jindex (journal_name i))) other.2 (looked.journals.each i other.0 early.1).claimed in
+    let few = looked.journals.few in
+    let low = within system.journals.items j entry at in
+    told im f entry.addr 3 is looked.names.groups.list.master.format
+    (two_owners entry.addr system.jindex system.jindex (Named system.jindex (journal_name j)) (Named system.jindex (journal_name i)) (looked.journals.each j entry at).claimed claim
+    (λ e. absurd (omega (arith, early.0, one_number j i (omega (arith, few, low)) (omega (arith, few, low, early.0)) (same_name system.jindex system.jindex (journal_name j) (journal_name i) e)))))
+  where
+    within : (xs : List Entry) (k : ℕ) (x : Entry) → slice_get xs k ≡ Some x → k < length xs
+    within [] k x e = cc
+    within (y ∷ xs) zero x e = omega arith
+    within (y ∷ xs) (suc k) x e = omega (arith, within xs k x e)
+
+take_more : {X : Type 0} (xs : List X) (j : ℕ) (x : X) → slice_get xs j ≡ Some x → take (j + 1) xs ≡ take j xs ++ x ∷ []
+take_more xs j x at = let e : j + 1 ≡ suc j = omega arith in ap (λ n. take n xs) e ∙ all xs j x at
+  where
+    all : {X : Type 0} (xs : List X) (j : ℕ) (x : X) → slice_get xs j ≡ Some x → take (suc j) xs ≡ take j xs ++ x ∷ []
+    all [] j x at = cc
+    all {X} (y ∷ xs) zero x at = let head : y ≡ x = some_same y x at in ap (λ (z : X). z ∷ []) head
+      where
+        some_same : (a b : X) → Some a ≡ Some b → a ≡ b
+        some_same a b e = cc
+    all (y ∷ xs) (suc j) x at = ap (λ zs. y ∷ zs) (all xs j x at)
+
+pub rings_more : (im : Image) (journals : List Entry) (j : ℕ) (entry : Entry) (old new : List Ring) (ring : Ring) → AreRings im (take j journals) old → slice_get journals j ≡ Some entry → ring.dinode ≡ entry.addr
+    → IsRingOf im entry.addr ring.blocks.items → new ≡ old ++ ring ∷ [] → AreRings im (take (j + 1) journals) new
+rings_more im journals j entry old new ring are at dinode of is = record {
+  dinodes = ap (map (λ (r : Ring). r.dinode)) is ∙ map-append (λ (r : Ring). r.dinode) old (ring ∷ []) ∙ ap (λ xs. xs ++ ring.dinode ∷ []) are.dinodes
+      ∙ ap (λ d. map (λ (e : Entry). e.addr) (take j journals) ++ d ∷ []) dinode ∙ sym (map-append (λ (e : Entry). e.addr) (take j journals) (entry ∷ []))
+      ∙ ap (map (λ (e : Entry). e.addr)) (sym (take_more journals j entry at));
+  each = subst (All (λ (r : Ring). IsRingOf im r.dinode r.blocks.items)) (sym is)
+      (All-push (λ (r : Ring). IsRingOf im r.dinode r.blocks.items) old ring are.each (subst (λ d. IsRingOf im d ring.blocks.items) (sym dinode) of));
+}
+
+pub dinodes_more : (old new : List Ring) (ring : Ring) (d : ℕ) → new ≡ old ++ ring ∷ [] → ring.dinode ≡ d → map (λ (r : Ring). r.dinode) old ++ d ∷ [] ≡ map (λ (r : Ring). r.dinode) new
+dinodes_more old new ring d is dinode = ap (λ x. map (λ (r : Ring). r.dinode) old ++ x ∷ []) (sym dinode) ∙ sym (map-append (λ (r : Ring). r.dinode) old (ring ∷ [])) ∙ ap (map (λ (r : Ring). r.dinode)) (sym is)
+
+-- an item of a list that is another's
+pub at_item : {X : Type 0} (xs ys : List X) (i : ℕ) (d : X) → xs ≡ ys → i < length xs → slice_get ys i ≡ Some (get_or xs i d)
+at_item xs ys i d same low = ap (λ zs. slice_get zs i) (sym same) ∙ slice_get-get_or xs i d low
+
+pub inside_now : (old now : DiskState) (blocks : List ℕ) → now ≡ old → All (λ b. b < now.count) blocks → All (λ b. b < old.count) blocks
+inside_now old now blocks same = subst (λ (s : DiskState). All (λ b. b < s.count) blocks) same
+
+pub rings_inside : (n : ℕ) (old new : List Ring) (ring : Ring) → All (λ (r : Ring). All (λ b. b < n) r.blocks.items) old → All (λ b. b < n) ring.blocks.items → new ≡ old ++ ring ∷ []
+    → All (λ (r : Ring). All (λ b. b < n) r.blocks.items) new
+rings_inside n old new ring before here is = subst (All (λ (r : Ring). All (λ b. b < n) r.blocks.items)) (sym is) (All-push (λ (r : Ring). All (λ b. b < n) r.blocks.items) old ring before here)
+
+pub ring_of_turn : (im : Image) (rings : List Ring) (k : ℕ) (ring : Ring) → k < length rings → ring ≡ get_or rings k ring → All (λ (r : Ring). IsRingOf im r.dinode r.blocks.items) rings
+    → IsRingOf im ring.dinode ring.blocks.items
+ring_of_turn im rings k ring low is all = subst (λ (r : Ring). IsRingOf im r.dinode r.blocks.items) (sym is) (all k ring low)
+
+-- the journal after those whose rings were found
+pub next_after : (im : Image) (system : System) (j : ℕ) (entry : Entry) (rings now : List Ring) (b : Bool) → IsSystemOf im system → slice_get system.journals.items j ≡ Some entry → entry.addr ≢ system.rindex
+    → IsTrue b ↔ Contains (map (λ (r : Ring). r.dinode) now) entry.addr → b ≡ false → now ≡ rings → IsNext im (map (λ (r : Ring). r.dinode) rings) system entry
+next_after im system j entry rings now b looked at other test failed same =
+    next_in im system j entry (map (λ (r : Ring). r.dinode) rings) looked at other
+    (λ there. lacks b test failed (subst (λ rs. Contains (map (λ (r : Ring). r.dinode) rs) entry.addr) (sym same) there))

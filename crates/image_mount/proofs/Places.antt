@@ -1,0 +1,157 @@
+-- The places of a journal, as they are found one by one.
+use Rattle.std.proofs.Common.{◌≡◌, ◌≢◌, inl, inr, ℕ, zero, suc, ◌+◌, ◌-◌, ◌/◌, ◌%◌, ◌==◌, ◌<◌, ◌≤◌, true, List, [], ◌∷◌, ◌++◌, None, Some, refl, sym, ap, subst, ◌∙◌, arith}
+use Rattle.std.specs.Prelude.{map, nat_lt}
+use Rattle.std.specs.List.{All, range_with_len}
+use Rattle.std.proofs.lemmas.Bool.{cases_Bool, cases_eq, cond-true, cond-false, ne_eqb}
+use Rattle.std.proofs.lemmas.Bool.Decides.{nat_tests}
+use Rattle.std.proofs.lemmas.Nat.{le-div}
+use Rattle.std.proofs.lemmas.List.Elements.{All-push}
+use Rattle.std.proofs.lemmas.List.FromFn.{map-range_with_len_more}
+use Rattle.std.proofs.Math.Nat.{div-eq_of_lt, div-mul-le_self, mul-le-mul_left}
+use Rattle.dinode_tree.specs.Reading.{IsNeeded, IsOnWay, the_dinode, led_to, block_at, reach, target}
+use Rattle.dinode_tree.specs.declared.locating.Located.{Located}
+use Rattle.gfs2_layout.specs.Inode.{Leads, dinode_in, height_in, is_directory_in, header_length, unit, content_block}
+use Rattle.gfs2_layout.specs.Journal.{ring_of}
+use Rattle.gfs2_layout.specs.Holding.{Holding}
+use Rattle.gfs2_layout.specs.declared.dinode.Dinode.{Dinode}
+use Rattle.glock_names.specs.Views.{Seen}
+use Rattle.glock_names.specs.declared.steps.Entry.{Entry}
+use Rattle.glock_names.specs.declared.steps.Missing.{Missing}
+use Rattle.image_model.specs.Claims.{every, Claims, below, HasInode, HasJournal, IsJindex}
+use Rattle.image_model.specs.Image.{Image}
+use Rattle.image_model.specs.Journals.{journal_name}
+use Rattle.image_model.specs.Owners.{Below, Named}
+use Rattle.image_model.specs.Rules.{journal_hole, journal_part}
+use Rattle.image_model.proofs.Lengths.{whole_pieces}
+use Rattle.image_mount.specs.Found.{HasFormat}
+use Rattle.image_mount.specs.Refusals.{RefusesRightly, IsReached}
+use Rattle.image_mount.specs.Refusals as outside
+use Rattle.image_mount.specs.Rings.{IsJournalIn, HasPlaces, IsPlaceAt, AreBlocksOf}
+use Rattle.image_mount.specs.Searching.{IsWanted}
+use Rattle.image_mount.specs.declared.fault.MountFault.{MountFault}
+use Rattle.image_mount.specs.declared.fault.MountFault.TheVariants as fault
+use Rattle.image_mount.specs.declared.field.Field.TheVariants as field
+use Rattle.image_mount.proofs.Causes.{told, told_outside}
+use Rattle.image_mount.proofs.Wanted.{dinode_leads, above_leads}
+
+some_same : {X : Type 0} (x y : X) → Some x ≡ Some y → x ≡ y
+some_same x y e = cc
+
+none_some : {X : Type 0} (x : X) → None ≡ Some x → ⊥
+none_some x e = cc
+
+-- ---- blocks of content
+
+pub found_block : (h : Holding) (i b : ℕ) → Some b ≡ block_at h i → b ≡ content_block h i
+found_block h i b e = elim (cases_Bool (nat_lt i (reach h.size (height_in h)))) [
+  | inr past ↦ absurd (none_some b (sym (cond-false _ _ _ past) ∙ sym e))
+  | inl low ↦
+      let here : Some b ≡ target (content_block h i) = e ∙ cond-true _ _ _ low in
+      elim (cases_Bool (content_block h i == 0)) [
+        | inl none ↦ absurd (none_some b (sym (cond-true _ _ _ none) ∙ sym here))
+        | inr some ↦ some_same b (content_block h i) (here ∙ cond-false _ _ _ some)
+      ]
+]
+
+pub hole_block : (h : Holding) (i : ℕ) → None ≡ block_at h i → i < reach h.size (height_in h) → content_block h i ≡ 0
+hole_block h i e low = elim (cases_eq (content_block h i) 0) [
+  | inl none ↦ none
+  | inr some ↦
+      let within : nat_lt i (reach h.size (height_in h)) ≡ true = grind (arith, nat_tests, low) in
+      absurd (none_some (content_block h i) (e ∙ cond-true _ _ _ within ∙ cond-false _ _ _ (ne_eqb (content_block h i) 0 some)))
+]
+
+fewer : (n size unit : ℕ) → 0 < unit → unit ≤ size → n / size ≤ n / unit
+fewer n size unit some low = le-div (n / size) n unit some (omega (arith, mul-le-mul_left (n / size) low, div-mul-le_self n size))
+
+unit_bounds : (im : Image) (d : ℕ) → 512 ≤ im.size → (0 < unit (every im d)) × (unit (every im d) ≤ im.size)
+unit_bounds im d large = elim (cases_Bool (is_directory_in (every im d))) [
+  | inl dir ↦ let e : unit (every im d) ≡ im.size - header_length = cond-true _ _ _ dir in (omega (arith, e, large), omega (arith, e))
+  | inr file ↦ let e : unit (every im d) ≡ im.size = cond-false _ _ _ file in (omega (arith, e, large), omega (arith, e))
+]
+
+-- the places are among the blocks that the pointers reach
+pub within_reach : (im : Image) (d places place : ℕ) → HasPlaces im d places → place < places → place < reach im.size (height_in (every im d))
+within_reach im d places place has low = each (height_in (every im d)) refl
+  where
+    bytes : ℕ
+    bytes = (dinode_in (every im d)).size
+
+    each : (n : ℕ) → height_in (every im d) ≡ n → place < reach im.size n
+    each zero is =
+        let stuffed = has.fits.stuffed is in
+        let none : bytes / im.size ≡ 0 = div-eq_of_lt (omega (arith, stuffed)) in
+        absurd (omega (arith, none, has.count, has.least))
+    each (suc level) is =
+        let bounds = unit_bounds im d has.large in
+        let few = fewer bytes im.size (unit (every im d)) bounds.0 bounds.1 in
+        let all = whole_pieces bytes (unit (every im d)) bounds.0 in
+        omega (arith, low, has.count, few, all, has.fits.under level is)
+
+-- ---- a journal by its record
+
+pub journal_of : (im : Image) (jindex : ℕ) (journal : Entry) (of : IsJournalIn im jindex journal) → HasJournal im of.index journal.addr
+journal_of im jindex journal of = (jindex, subst (IsJindex im) of.jindex_is of.names.groups.list.master.jindex, (jindex, of.named.claimed))
+
+pub journal_format : (im : Image) (jindex : ℕ) (journal : Entry) → IsJournalIn im jindex journal → HasFormat im
+journal_format im jindex journal of = of.names.groups.list.master.format
+
+pub journal_inode : (im : Image) (jindex : ℕ) (journal : Entry) → IsJournalIn im jindex journal → HasInode im journal.addr
+journal_inode im jindex journal of = (Named jindex (journal_name of.index), record { by = jindex; claimed = of.named.claimed; dinode = refl })
+
+pub wrong_part : (im : Image) (jindex : ℕ) (journal : Entry) (f : MountFault) (d size : ℕ) (dinode : Dinode) → IsJournalIn im jindex journal → f ≡ fault.Damaged d 8 → d ≡ journal.addr
+    → dinode ≡ dinode_in (every im journal.addr) → size ≡ im.size → dinode.size % size ≢ 0 → RefusesRightly im f
+wrong_part im jindex journal f d size dinode of is at read sized part =
+    told im f journal.addr 8 (is ∙ ap (λ b. fault.Damaged b 8) at) (journal_format im jindex journal of)
+    (journal_part of.index journal.addr (journal_of im jindex journal of) (λ e. part (ap (λ (x : Dinode). x.size % size) read ∙ ap (λ n. (dinode_in (every im journal.addr)).size % n) sized ∙ e)))
+
+pub wrong_places : (im : Image) (jindex : ℕ) (journal : Entry) (f : MountFault) (places : ℕ) → IsJournalIn im jindex journal → f ≡ fault.NotProfile field.Journal places
+    → places ≡ (ring_of (every im journal.addr)).places → ((512 ≤ places) × (places ≤ 65536) → ⊥) → RefusesRightly im f
+wrong_places im jindex journal f places of is count wrong =
+    told_outside im f field.Journal (ring_of (every im journal.addr)).places (is ∙ ap (fault.NotProfile field.Journal) count)
+    (outside.journal of.layout of.index journal.addr of.names of.at (λ both. wrong (omega (arith, both.0, count), omega (arith, both.1, count))))
+
+pub wrong_hole : (im : Image) (jindex : ℕ) (journal : Entry) (f : MountFault) (places place : ℕ) → IsJournalIn im jindex journal → f ≡ fault.Damaged journal.addr 8 → HasPlaces im journal.addr places
+    → place < places → None ≡ block_at (every im journal.addr) place → RefusesRightly im f
+wrong_hole im jindex journal f places place of is has low hole =
+    told im f journal.addr 8 is (journal_format im jindex journal of)
+    (journal_hole of.index journal.addr place (journal_of im jindex journal of) (omega (arith, low, has.count)) (hole_block (every im journal.addr) place hole (within_reach im journal.addr places place has low)))
+
+-- ---- blocks that are wanted on the way to a place
+
+pub journal_wanted : (im : Image) (jindex : ℕ) (journal : Entry) → IsJournalIn im jindex journal → IsWanted im journal.addr jindex
+journal_wanted im jindex journal of =
+    inr (journal_format im jindex journal of, (Named jindex (journal_name of.index), of.named.claimed, dinode_leads im (Named jindex (journal_name of.index)) refl))
+
+pub above_wanted : (im : Image) (jindex : ℕ) (journal : Entry) (v : Seen) (place : ℕ) (m : Missing) → IsJournalIn im jindex journal → IsNeeded v (every im journal.addr) (λ i. i ≡ place) 1 m
+    → m.block ≢ journal.addr → IsWanted im m.block m.from
+above_wanted im jindex journal v place m of needed other = each needed.way
+  where
+    at : (k level first : ℕ) → 1 ≤ level → Leads (every im journal.addr) m.from k level first m.block → IsWanted im m.block m.from
+    at k zero first least leads = absurd (omega arith)
+    at k (suc level) first least leads =
+        inr (
+          journal_format im jindex journal of,
+          (
+            Below journal.addr m.from k (suc level) first,
+            below jindex journal.addr (Named jindex (journal_name of.index)) m.from k (suc level) first m.block of.named.claimed refl leads,
+            above_leads im journal.addr m.from k level first,
+          ),
+        )
+
+    each : IsOnWay (every im journal.addr) (λ i. i ≡ place) 1 m → IsWanted im m.block m.from
+    each (the_dinode own from plain) = absurd (other own)
+    each (led_to i k level first wanted least leads begins ends plain) = at k level first least leads
+
+-- ---- one more place
+
+pub blocks_none : (im : Image) (d : ℕ) → AreBlocksOf im d 0 []
+blocks_none im d = record { all = refl; reached = λ k x low. absurd (omega (arith, low)) }
+
+pub blocks_more : (im : Image) (d n by k : ℕ) (located : Located) (old new : List ℕ) → AreBlocksOf im d n old → IsPlaceAt im d n located → Claims im by located.block (Below d by k 0 n) → new ≡ old ++ located.block ∷ []
+    → AreBlocksOf im d (n + 1) new
+blocks_more im d n by k located old new are at claim is = record {
+  all = is ∙ ap (λ xs. xs ++ located.block ∷ []) are.all ∙ ap (λ b. map (content_block (every im d)) (range_with_len 0 n) ++ b ∷ []) at.block
+      ∙ sym (map-range_with_len_more (content_block (every im d)) 0 n n (omega arith));
+  reached = subst (All (IsReached im)) (sym is) (All-push (IsReached im) old located.block are.reached (inr (by, (Below d by k 0 n, claim))));
+}

@@ -1,0 +1,26 @@
+-- A search that stops where a call in it did.
+use Rattle.std.proofs.Common.{◌≡◌, sym, subst}
+use Rattle.std.specs.Prelude.{Result, Ok, Err, IfErr, IsErrAnd}
+use Rattle.image_model.specs.Image.{Image}
+use Rattle.image_mount.specs.Refusals.{RefusesRightly}
+use Rattle.image_mount.specs.Searching.{StopsRightly}
+use Rattle.image_mount.specs.declared.fault.MountFault.{MountFault}
+use Rattle.image_mount.specs.declared.stop.Stop.{Stop}
+use Rattle.image_mount.specs.declared.stop.Stop.TheVariants as stop
+
+-- what is handed on is what was made of an error
+pub handed : {T F : Type 0} (r : Result T F) (G P : F → Type 0) → IsErrAnd r G → ((f : F) → G f → P f) → IfErr r P
+handed (Ok x) G P is so = tt
+handed (Err f) G P is so = so f is
+
+-- a refusal that is handed on as the stop of a search
+pub stopped : {T : Type 0} (im : Image) (r : Result T Stop) (f : MountFault) → IsErrAnd r (λ s. s ≡ stop.Refused f) → RefusesRightly im f → IfErr r (StopsRightly im)
+stopped {T} im r f is right = handed {T = T} r (λ s. s ≡ stop.Refused f) (StopsRightly im) is (λ s e. subst (StopsRightly im) (sym e) right)
+
+-- a stop that is handed on
+pub passed : {T : Type 0} (im : Image) (r : Result T Stop) (s : Stop) → IsErrAnd r (λ t. t ≡ s) → StopsRightly im s → IfErr r (StopsRightly im)
+passed {T} im r s is right = handed {T = T} r (λ t. t ≡ s) (StopsRightly im) is (λ t e. subst (StopsRightly im) (sym e) right)
+
+-- a refusal that is handed on
+pub refused : {T : Type 0} (im : Image) (r : Result T MountFault) (f : MountFault) → IsErrAnd r (λ g. g ≡ f) → RefusesRightly im f → IfErr r (RefusesRightly im)
+refused {T} im r f is right = handed {T = T} r (λ g. g ≡ f) (RefusesRightly im) is (λ g e. subst (RefusesRightly im) (sym e) right)

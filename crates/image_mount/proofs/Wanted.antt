@@ -1,0 +1,48 @@
+-- Blocks that a search wants, in which the image has what it looks for.
+use Rattle.std.proofs.Common.{◌≡◌, ℕ, suc, true, List, None, Some, inr, sym, ap, subst, ◌∙◌}
+use Rattle.dinode_tree.specs.Reading.{IsNeeded, IsOnWay, the_dinode, led_to}
+use Rattle.glock_names.specs.declared.steps.Missing.{Missing}
+use Rattle.image_model.specs.Claims.{every, Claims, below, IsRindex}
+use Rattle.image_model.specs.Image.{Image}
+use Rattle.image_model.specs.Owners.{Owner, Below, is_dinode}
+use Rattle.image_mount.specs.Found.{HasFormat}
+use Rattle.image_mount.specs.Searching.{StopsRightly, IsLeading}
+use Rattle.image_mount.specs.Table.{Kept, seen_of}
+use Rattle.image_mount.specs.declared.stop.Stop.{Stop}
+use Rattle.image_mount.specs.declared.stop.Stop.TheVariants as stop
+
+-- ---- owners by which a block is read
+
+-- a dinode's block is no content
+pub dinode_leads : (im : Image) (o : Owner) → is_dinode o ≡ true → IsLeading im o
+dinode_leads im o dinode d b k first e = let no : is_dinode (Below d b k 0 first) ≡ true = ap is_dinode (sym e) ∙ dinode in cc
+
+-- nor is a block that stands above content
+pub above_leads : (im : Image) (a b k level first : ℕ) → IsLeading im (Below a b k (suc level) first)
+above_leads im a b k level first d c j other e = absurd (apart a b k level first d c j other e)
+  where
+    apart : (a b k level first d c j other : ℕ) → Below a b k (suc level) first ≡ Below d c j 0 other → ⊥
+    apart a b k level first d c j other e = cc
+
+-- each block of the list of groups is read
+pub list_leads : (im : Image) (a b k level first : ℕ) → IsRindex im a → IsLeading im (Below a b k level first)
+list_leads im a b k level first list d c j other e = subst (IsRindex im) (same a b k level first d c j other e) list
+  where
+    same : (a b k level first d c j other : ℕ) → Below a b k level first ≡ Below d c j 0 other → a ≡ d
+    same a b k level first d c j other e = cc
+
+-- ---- blocks that are wanted
+
+-- the block of an inode that is claimed is wanted by its number there
+pub wanted : (im : Image) (block from : ℕ) (o : Owner) (s : Stop) → s ≡ stop.Reads block from → Claims im from block o → is_dinode o ≡ true → HasFormat im → StopsRightly im s
+wanted im block from o s is claimed dinode format = subst (StopsRightly im) (sym is) (inr (format, (o, claimed, dinode_leads im o dinode)))
+
+-- a block that is missing below the dinode of the list of groups, which is kept
+pub wanted_below : (im : Image) (k : Kept) (by a : ℕ) (o : Owner) (bytes : List ℕ) (P : ℕ → Type 0) (least : ℕ) (m : Missing) (s : Stop) → s ≡ stop.Reads m.block m.from → Claims im by a o → is_dinode o ≡ true
+    → HasFormat im → IsRindex im a → (seen_of k).block_at a ≡ Some bytes → IsNeeded (seen_of k) (every im a) P least m → StopsRightly im s
+wanted_below im k by a o bytes P least m s is claimed dinode format list kept needed = subst (StopsRightly im) (sym is) (inr (format, on_way needed.way))
+  where
+    on_way : IsOnWay (every im a) P least m → (p : Owner) × Claims im m.from m.block p × IsLeading im p
+    on_way (the_dinode same from plain) = let none : Some bytes ≡ None = sym kept ∙ ap (seen_of k).block_at (sym same) ∙ needed.absent in cc
+    on_way (led_to i j level first wants low leads before within plain) =
+        (Below a m.from j level first, below by a o m.from j level first m.block claimed dinode leads, list_leads im a m.from j level first list)

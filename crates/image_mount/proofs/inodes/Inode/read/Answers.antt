@@ -1,0 +1,26 @@
+use Rattle.std.proofs.Common.{inr}
+use Rattle.image_mount.proofs.Wanted.{dinode_leads}
+use Rattle.image_model.specs.Claims.{every}
+use Rattle.gfs2_layout.specs.Inode.{dinode_in, Fits}
+use Rattle.std.proofs.Common.{◌≡◌}
+use Rattle.image_mount.proofs.Shown.{shown, inode_at, damage_told}
+use Rattle.image_mount.proofs.Steps.{answer_at}
+use Rattle.image_mount.proofs.Stops.{stopped}
+use Rattle.image_mount.proofs.inodes.Inode.read.Goals as goal
+
+pub returns-in_err-dinode-clause-stops : goal.returns-in_err-dinode-clause-stops
+returns-in_err-dinode-clause-stops c im o read claimed dinode format =
+    stopped im _ _ c.from_residual.ensures.1
+    (damage_told im c.args.block c.in_err-dinode.field-0.0 (inode_at im c.args.from c.args.block o claimed dinode) format
+    (c.in_err-dinode.ensures.damaged (every im c.args.block) (shown im c.args.table.now c.args.block read)))
+
+pub returns-in-Is-clause-found : goal.returns-in-Is-clause-found
+returns-in-Is-clause-found c im read =
+    answer_at c.in_ok-dinode.field-0 c.in-Is.dinode (λ d. d ≡ dinode_in (every im c.args.block)) c.in-Is.is (c.in_ok-dinode.ensures.found (every im c.args.block) (shown im c.args.table.now c.args.block read))
+
+pub returns-in-Is-clause-fits : goal.returns-in-Is-clause-fits
+returns-in-Is-clause-fits c im read =
+    answer_at c.in_ok-dinode.field-0 c.in-Is.dinode (λ d. Fits (every im c.args.block)) c.in-Is.is (c.in_ok-dinode.ensures.fits (every im c.args.block) (shown im c.args.table.now c.args.block read))
+
+pub returns-in-NeedBlock-clause-stops : goal.returns-in-NeedBlock-clause-stops
+returns-in-NeedBlock-clause-stops c im o read claimed dinode format = inr (format, (o, claimed, dinode_leads im o dinode))

@@ -1,0 +1,69 @@
+use Rattle.std.proofs.Common.{◌≡◌, ◌<◌, ◌+◌, length, sym, ap, subst, ◌∙◌, arith}
+use Rattle.std.specs.List.{All}
+use Rattle.std.proofs.lemmas.List.{length_push}
+use Rattle.std.proofs.lemmas.List.Elements.{All-push}
+use Rattle.image_model.specs.Image.{image_of}
+use Rattle.shared_disk.specs.Disk.{DiskState}
+use Rattle.image_mount.specs.Rings.{AreBlocksOf, IsSearched}
+use Rattle.image_mount.proofs.Marks.{place_claim, is_place, marked_more}
+use Rattle.image_mount.proofs.Moved.{place_refused, place_searched, place_at, working_marked}
+use Rattle.image_mount.proofs.Places.{blocks_more}
+use Rattle.image_mount.proofs.Stops.{refused}
+use Rattle.image_mount.proofs.Working.{read_now}
+use Rattle.image_mount.proofs.journals.find_blocks.Goals as goal
+
+pub returns-in_err-located-clause-refused : goal.returns-in_err-located-clause-refused
+returns-in_err-located-clause-refused g c done tells next has known =
+    let inv = c.loop-place.invariant in
+    refused (image_of (g.D.SharedDisk.state c.args.disk.now)) _ _ c.from_residual-in_err-located.ensures.1
+    (place_refused _ _ inv.same c.args.system.now.jindex c.args.journal.now c.args.places c.loop-place.place c.loop-place.table c.in_err-located.field-0.0 done c.args.journal.now.addr c.loop-place.place
+    (c.in_err-located.ensures.refused done c.args.journal.now.addr c.loop-place.place c.args.places) tells next.named has c.loop-place-test.true (inv.searched done tells next has known))
+
+pub returns-in_err-check_place-clause-refused : goal.returns-in_err-check_place-clause-refused
+returns-in_err-check_place-clause-refused g c done tells next has known =
+    let inv = c.loop-place.invariant in
+    let d = c.args.journal.now.addr in
+    let found = c.in_ok-located.ensures in
+    let searched = place_searched _ _ inv.same c.args.system.now.jindex c.args.journal.now c.args.places c.loop-place.place c.loop-place.table c.find_block.new.table done d c.loop-place.place
+    (found.searched done d c.loop-place.place c.args.places) tells next.named has c.loop-place-test.true (inv.searched done tells next has known) in
+    refused (image_of (g.D.SharedDisk.state c.args.disk.now)) _ _ c.from_residual-in_err-check_place.ensures.1
+    (c.in_err-check_place.ensures.refused (image_of (g.D.SharedDisk.state c.args.disk.now)) done c.args.journal.now c.loop-place.place (read_now _ _ _ (found.same ∙ inv.same) tells found.work) next searched
+    (place_at _ _ inv.same d c.loop-place.place c.in_ok-located.located found.found tells))
+
+pub loop-place-preserved : goal.loop-place-preserved
+loop-place-preserved g c =
+    let inv = c.loop-place.invariant in
+    let s = g.D.SharedDisk.state c.args.disk.now in
+    let d = c.args.journal.now.addr in
+    let found = c.in_ok-located.ensures in
+    let located = c.in_ok-located.located in
+    let items = c.in_ok-push.ensures.items in
+    let low : located.block < s.count = omega (arith, c.in_ok-check_place.ensures.inside, found.work.count, ap (λ (t : DiskState). t.count) (found.same ∙ inv.same)) in
+    record {
+      work = working_marked _ c.find_block.new.table c.mark.new.self found.work c.mark.ensures.entries c.mark.ensures.size;
+      inside = subst (All (λ b. b < s.count)) (sym items) (All-push (λ b. b < s.count) c.loop-place.blocks.items located.block inv.inside low);
+      count = omega (arith, ap length items, length_push c.loop-place.blocks.items located.block, inv.count);
+      found = λ done tells next has known.
+          let at = place_at _ _ inv.same d c.loop-place.place located found.found tells in
+          blocks_more (image_of s) d c.loop-place.place located.from at.leads.0 located c.loop-place.blocks.items _ (inv.found done tells next has known) at
+          (place_claim (image_of s) done c.args.system.now c.args.journal.now next c.loop-place.place located at) items;
+      searched = λ done tells next has known.
+          let at = place_at _ _ inv.same d c.loop-place.place located found.found tells in
+          let searched = place_searched _ _ inv.same c.args.system.now.jindex c.args.journal.now c.args.places c.loop-place.place c.loop-place.table c.find_block.new.table done d c.loop-place.place
+          (found.searched done d c.loop-place.place c.args.places) tells next.named has c.loop-place-test.true (inv.searched done tells next has known) in
+          marked_more (image_of s) done d c.loop-place.place (c.loop-place.place + 1) c.find_block.new.table c.mark.new.self located.block c.mark.ensures.places c.mark.ensures.entries (omega arith)
+          (is_place (image_of s) done c.args.system.now c.args.journal.now next c.loop-place.place located at (c.in_ok-check_place.ensures.apart (image_of s) next.looked)) searched;
+      same = found.same ∙ inv.same;
+      list = found.list ∙ inv.list;
+      later = λ j. omega (arith, inv.later j, found.later j);
+    }
+
+pub returns-clause-found : goal.returns-clause-found
+returns-clause-found g c done tells next has known =
+    let all : c.loop-place.place ≡ c.args.places = omega (arith, c.loop-place-test.false, c.loop-place.auto.place-end) in
+    subst (λ n. AreBlocksOf (image_of (g.D.SharedDisk.state c.args.disk.now)) c.args.journal.now.addr n c.loop-place.blocks.items) all (c.loop-place.invariant.found done tells next has known)
+
+pub returns-clause-searched : goal.returns-clause-searched
+returns-clause-searched g c done tells next has known =
+    let all : c.loop-place.place ≡ c.args.places = omega (arith, c.loop-place-test.false, c.loop-place.auto.place-end) in
+    subst (λ n. IsSearched (image_of (g.D.SharedDisk.state c.args.disk.now)) done c.args.journal.now.addr n c.loop-place.table) all (c.loop-place.invariant.searched done tells next has known)

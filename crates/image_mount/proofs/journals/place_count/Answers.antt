@@ -1,0 +1,36 @@
+use Rattle.std.proofs.Common.{◌≡◌, ◌/◌, sym, ap, subst, ◌∙◌, arith}
+use Rattle.gfs2_layout.specs.Inode.{dinode_in}
+use Rattle.image_model.specs.Claims.{every}
+use Rattle.image_model.specs.Rules.{HasRecordIn}
+use Rattle.image_mount.proofs.Places.{wrong_part, wrong_places, journal_format}
+use Rattle.image_mount.proofs.Stops.{stopped}
+use Rattle.gfs2_layout.specs.Journal.{ring_of}
+use Rattle.gfs2_layout.specs.declared.dinode.Dinode.{Dinode}
+use Rattle.image_mount.proofs.journals.place_count.Goals as goal
+use Rattle.image_mount.proofs.journals.place_count.Goals.{then-places-lt512-via-then-places-lt512, then-places-lt512-via-else-places-lt512+then-places-gt65536}
+
+pub returns-in_err-check_record-clause-stops : goal.returns-in_err-check_record-clause-stops
+returns-in_err-check_record-clause-stops c im read of =
+    let inode = c.in_ok-inode.inode in
+    let dinode : inode.dinode ≡ dinode_in (every im inode.block) = c.in_ok-inode.ensures.found im read ∙ ap (λ a. dinode_in (every im a)) (sym c.in_ok-inode.ensures.block) in
+    stopped im _ _ c.from_residual-in_err-check_record.ensures.1
+    (c.in_err-check_record.ensures.refused im c.args.jindex of.named.row dinode (journal_format im c.args.jindex c.args.journal.now of)
+    (subst (λ x. HasRecordIn im c.args.jindex x of.named.row) (sym c.in_ok-inode.ensures.from) of.named.there) of.named.is)
+
+pub returns-then-inode-from-ne0-clause-stops : goal.returns-then-inode-from-ne0-clause-stops
+returns-then-inode-from-ne0-clause-stops c im read of =
+    let inode = c.in_ok-inode.inode in
+    wrong_part im c.args.jindex c.args.journal.now _ inode.block c.from.result inode.dinode of c.damaged.ensures c.in_ok-inode.ensures.block (c.in_ok-inode.ensures.found im read)
+    (c.from.ensures ∙ c.block_size-size.ensures.value ∙ read.size) c.if-inode-from-ne0.true
+
+pub returns-then-places-lt512-clause-stops : goal.returns-then-places-lt512-clause-stops
+returns-then-places-lt512-clause-stops c im read of =
+    let inode = c.in_ok-inode.inode in
+    let sized : c.from-2.result ≡ im.size = c.from-2.ensures ∙ c.block_size-size.ensures.value ∙ read.size in
+    let count : inode.dinode.size / c.from-2.result ≡ (ring_of (every im c.args.journal.now.addr)).places
+    = ap (λ n. inode.dinode.size / n) sized ∙ ap (λ (d : Dinode). d.size / im.size) (c.in_ok-inode.ensures.found im read) in
+    wrong_places im c.args.jindex c.args.journal.now _ _ of c.outside.ensures count
+    (λ both. elim c.then-places-lt512.branch [
+      | then-places-lt512-via-then-places-lt512 w ↦ absurd (omega (arith, both.0, w.if-places-lt512.true))
+      | then-places-lt512-via-else-places-lt512+then-places-gt65536 w ↦ absurd (omega (arith, both.1, w.if-places-gt65536.true))
+    ])

@@ -1,0 +1,51 @@
+-- The list of groups, as it is found and read.
+use Rattle.std.specs.Prelude.{ℕ, ◌≡◌, ◌≤◌, ◌%◌, List, length, codes}
+use Rattle.gfs2_layout.specs.Inode.{dinode_in, content_of}
+use Rattle.gfs2_layout.specs.Records.{Record}
+use Rattle.gfs2_layout.specs.declared.rindex.Rindex.{Rindex}
+use Rattle.glock_names.specs.declared.steps.Entry.{Entry}
+use Rattle.image_model.specs.Claims.{every, Claims, LeadsTo, IsRindex}
+use Rattle.image_model.specs.Groups.{entry_length, groups_in, GroupsFit}
+use Rattle.image_model.specs.Image.{Image}
+use Rattle.image_model.specs.Owners.{Named}
+use Rattle.image_model.specs.Profile.{group_length}
+use Rattle.image_model.specs.Rules.{HasRecordIn}
+use Rattle.image_model.specs.Stands.{Layout}
+use Rattle.image_mount.specs.Found.{HasList, HasMaster}
+use Rattle.image_mount.specs.Listing.{IsEntryOf}
+
+-- what a record of this name says, behind the dinode of a directory in block a: by it alone the name leads on
+pub record IsNamedIn (im : Image) (a : ℕ) (name : List ℕ) (entry : Entry) : Type 0 where
+  pub claimed : Claims im a entry.addr (Named a name)
+  pub only : (d : ℕ) → LeadsTo im a name d → d ≡ entry.addr
+  pub row : Record
+  pub there : HasRecordIn im a a row
+  pub is : IsEntryOf entry row
+
+-- what the record of `rindex` says, in the master directory, whose dinode is in this block
+pub record IsListEntry (im : Image) (block : ℕ) (entry : Entry) : Type 0 where
+  pub layout : Layout
+  pub found : HasMaster im layout
+  pub rindex : layout.rindex ≡ entry.addr
+  pub master : layout.master ≡ block
+  pub named : IsNamedIn im block (codes "rindex") entry
+
+-- these groups are listed in the file whose dinode is in block `list`, the only one that is `rindex`; the device has so
+-- many blocks of so many bytes
+pub record IsListOf (im : Image) (size count list : ℕ) (listed : List Rindex) : Type 0 where
+  pub block_size : size ≡ im.size
+  pub blocks : count ≡ im.count
+  pub layout : Layout
+  pub found : HasList im layout
+  pub rindex : layout.rindex ≡ list
+  pub groups : layout.groups ≡ listed
+  pub only : (d : ℕ) → IsRindex im d → d ≡ list
+
+-- these groups are listed there, fit the image, and are within the profile
+pub record AreGroups (im : Image) (list : ℕ) (groups : List Rindex) : Type 0 where
+  pub whole : (dinode_in (every im list)).size % entry_length ≡ 0
+  pub listed : groups_in (content_of (every im list)) ≡ groups
+  pub some : 1 ≤ length groups
+  pub few : length groups ≤ 64
+  pub fit : GroupsFit im groups
+  pub short : group_length groups ≤ 128

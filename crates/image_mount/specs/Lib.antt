@@ -1,0 +1,9 @@
+pub mod Found
+pub mod Refusals
+pub mod Mounted
+pub mod Table
+pub mod Searching
+pub mod Listing
+pub mod Groups
+pub mod System
+pub mod Rings

@@ -1,0 +1,52 @@
+-- The records of a linear directory, as the code has them.
+use Rattle.std.specs.Prelude.{ℕ, ◌≡◌, true, false, List, map, filter, slice_get, Some}
+use Rattle.gfs2_layout.specs.Area.{Slot}
+use Rattle.gfs2_layout.specs.Inode.{dinode_in, is_hashed_in, linear_area}
+use Rattle.gfs2_layout.specs.Records.{Record, record_of, records_in}
+use Rattle.gfs2_layout.specs.Structures.{is_directory, is_in_use}
+use Rattle.gfs2_layout.specs.declared.dirent.Dirent.{Dirent}
+use Rattle.glock_names.specs.declared.steps.Entry.{Entry}
+use Rattle.image_model.specs.Claims.{every, HasDirectory, Claims}
+use Rattle.image_model.specs.Image.{Image}
+use Rattle.image_model.specs.Owners.{Owner, is_dinode, parent_of}
+use Rattle.image_mount.specs.Found.{HasFormat}
+use Rattle.image_mount.specs.declared.inodes.Inode.{Inode}
+use Rattle.image_mount.specs.declared.listing.Named.{Named}
+
+-- what a record says that was read
+abbrev pub said : Named → Record
+said n = record { name = n.name.now; number = n.entry.number; address = n.entry.addr; kind = n.entry.kind }
+
+-- what a record's head and its name say
+abbrev pub said_by : Dirent → List ℕ → Record
+said_by head name = record { name = name; number = head.inum.number; address = head.inum.address; kind = head.kind }
+
+-- what those of these records say that are in use
+abbrev pub said_in : List Slot → List Record
+said_in slots = map record_of (filter (λ s. is_in_use s.head) slots)
+
+-- what the record repeats of the inode to which it leads
+pub record IsEntryOf (entry : Entry) (r : Record) : Type 0 where
+  pub number : r.number ≡ entry.number
+  pub address : r.address ≡ entry.addr
+  pub kind : r.kind ≡ entry.kind
+
+-- these are the records of a linear directory
+pub record AreRecordsOf (im : Image) (a : ℕ) (records : List Record) : Type 0 where
+  pub directory : HasDirectory im a
+  pub linear : is_hashed_in (every im a) ≡ false
+  pub all : records ≡ records_in (linear_area (every im a))
+
+-- no name comes twice
+abbrev pub AreDistinct : List Record → Type 0
+AreDistinct records = (i j : ℕ) (r s : Record) → slice_get records i ≡ Some r → slice_get records j ≡ Some s → r.name ≡ s.name → i ≡ j
+
+-- a directory that is claimed in the image, below the one with its dinode in block `parent`, and its dinode
+pub record IsDirectoryIn (im : Image) (inode : Inode) (parent : ℕ) : Type 0 where
+  pub format : HasFormat im
+  pub owner : Owner
+  pub claimed : Claims im inode.from inode.block owner
+  pub is_inode : is_dinode owner ≡ true
+  pub dinode : inode.dinode ≡ dinode_in (every im inode.block)
+  pub directory : is_directory inode.dinode ≡ true
+  pub above : parent ≡ parent_of inode.block owner

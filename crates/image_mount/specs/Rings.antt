@@ -1,0 +1,107 @@
+-- What is known of the image while the journals are looked for.
+use Rattle.std.specs.Prelude.{ℕ, ◌≡◌, ◌≢◌, ◌⊎◌, ◌^◌, ◌<◌, ◌≤◌, true, List, length, map, Contains, slice_get, slice_index, Some}
+use Rattle.std.specs.List.{All, range_with_len}
+use Rattle.dinode_tree.specs.declared.locating.Located.{Located}
+use Rattle.gfs2_layout.specs.Device.{superblock_place}
+use Rattle.gfs2_layout.specs.Inode.{Leads, Fits, content_block}
+use Rattle.gfs2_layout.specs.Journal.{ring_of, head_in}
+use Rattle.gfs2_layout.specs.Journal.{Ring as JournalRing}
+use Rattle.gfs2_layout.specs.declared.log_header.LogHeader.{LogHeader}
+use Rattle.glock_names.specs.declared.steps.Entry.{Entry}
+use Rattle.image_model.specs.Claims.{every, Claims, IsRindex}
+use Rattle.image_model.specs.Image.{Image}
+use Rattle.image_model.specs.Journals.{journal_name}
+use Rattle.image_model.specs.Owners.{Below}
+use Rattle.image_model.specs.Stands.{Layout, IsJournalAt}
+use Rattle.image_mount.specs.Found.{HasNames}
+use Rattle.image_mount.specs.Mounted.{Journal, IsJournalOf}
+use Rattle.image_mount.specs.Refusals.{IsReached}
+use Rattle.image_mount.specs.Searching.{IsWanted}
+use Rattle.image_mount.specs.Groups.{IsNamedIn}
+use Rattle.image_mount.specs.System.{IsSystemOf}
+use Rattle.image_mount.specs.Table.{Kept, seen_of}
+use Rattle.image_mount.specs.declared.journals.Ring.{Ring}
+use Rattle.image_mount.specs.declared.system.System.{System}
+
+-- each block that is kept was wanted
+abbrev pub AreWanted : Image → Kept → Type 0
+AreWanted im k = (b : ℕ) (bytes : List ℕ) → (seen_of k).block_at b ≡ Some bytes → (from : ℕ) × IsWanted im b from
+
+-- the block is a place of a journal: of one of those whose dinodes are in these blocks, or one of the first so many of that in block d
+pub record IsPlace (im : Image) (done : List ℕ) (d n b : ℕ) : Type 0 where
+  pub apart : b ≢ superblock_place im.size
+  pub inode : ℕ
+  pub by : ℕ
+  pub pointer : ℕ
+  pub index : ℕ
+  pub claimed : Claims im by b (Below inode by pointer 0 index)
+  pub plain : ¬ (IsRindex im inode)
+  pub of : Contains done inode ⊎ ((inode ≡ d) × (index < n))
+
+-- each block that is kept was wanted, and each that is marked is such a place
+pub record IsSearched (im : Image) (done : List ℕ) (d n : ℕ) (k : Kept) : Type 0 where
+  pub wanted : AreWanted im k
+  pub marked : (b : ℕ) → slice_get k.places b ≡ Some true → IsPlace im done d n b
+
+-- a journal by its record in the directory of journals, whose dinode is in this block
+pub record IsJournalIn (im : Image) (jindex : ℕ) (journal : Entry) : Type 0 where
+  pub layout : Layout
+  pub names : HasNames im layout
+  pub jindex_is : layout.jindex ≡ jindex
+  pub index : ℕ
+  pub at : IsJournalAt layout index journal.addr
+  pub named : IsNamedIn im jindex (journal_name index) journal
+
+-- a journal that is looked for next, after those whose dinodes are in these blocks
+pub record IsNext (im : Image) (done : List ℕ) (system : System) (journal : Entry) : Type 0 where
+  pub looked : IsSystemOf im system
+  pub named : IsJournalIn im system.jindex journal
+  pub plain : ¬ (IsRindex im journal.addr)
+  pub new : ¬ (Contains done journal.addr)
+
+-- the journal with its dinode in block d has so many places
+pub record HasPlaces (im : Image) (d places : ℕ) : Type 0 where
+  pub count : places ≡ (ring_of (every im d)).places
+  pub fits : Fits (every im d)
+  pub large : 512 ≤ im.size
+  pub most : places ≤ 65536
+  pub least : 512 ≤ places
+
+-- the block of content with index `place` is where the pointer in block `from` leads
+pub record IsPlaceAt (im : Image) (d place : ℕ) (located : Located) : Type 0 where
+  pub block : located.block ≡ content_block (every im d) place
+  pub leads : (k : ℕ) × Leads (every im d) located.from k 0 place located.block
+
+-- the blocks at the first so many places of a journal
+pub record AreBlocksOf (im : Image) (d n : ℕ) (blocks : List ℕ) : Type 0 where
+  pub all : blocks ≡ map (content_block (every im d)) (range_with_len 0 n)
+  pub reached : All (IsReached im) blocks
+
+-- the blocks at all places of the journal with its dinode in block d
+pub record IsRingOf (im : Image) (d : ℕ) (blocks : List ℕ) : Type 0 where
+  pub places : HasPlaces im d (ring_of (every im d)).places
+  pub are : AreBlocksOf im d (ring_of (every im d)).places blocks
+
+-- each of these journals has its ring
+pub record AreRings (im : Image) (journals : List Entry) (rings : List Ring) : Type 0 where
+  pub dinodes : map (λ (ring : Ring). ring.dinode) rings ≡ map (λ (e : Entry). e.addr) journals
+  pub each : All (λ (ring : Ring). IsRingOf im ring.dinode ring.blocks.items) rings
+
+-- what is mounted of a journal, whose sequence is one of the profile
+pub record IsLowJournal (im : Image) (journal : Journal) : Type 0 where
+  pub is : IsJournalOf im journal.dinode journal
+  pub low : journal.head.sequence < 2 ^ 63
+
+-- each of these rings has its journal
+pub record AreJournals (im : Image) (rings : List Ring) (journals : List Journal) : Type 0 where
+  pub dinodes : map (λ (j : Journal). j.dinode) journals ≡ map (λ (ring : Ring). ring.dinode) rings
+  pub each : All (IsLowJournal im) journals
+
+-- what a journal has at each of its places
+abbrev pub ring_at : (ℕ → List ℕ) → List ℕ → JournalRing
+ring_at at blocks = record { places = length blocks; at = λ p. at (slice_index blocks p) }
+
+-- the head of the journal with its dinode in block d, of which the sequence is one of the profile
+pub record IsHeadOf (im : Image) (d : ℕ) (head : LogHeader) : Type 0 where
+  pub head_is : head_in (ring_of (every im d)) ≡ Some head
+  pub low : head.sequence < 2 ^ 63

@@ -1,0 +1,62 @@
+-- What a search in the blocks that are kept knows of the image, and why it stops.
+use Rattle.std.specs.Prelude.{ℕ, ◌≡◌, ◌⊎◌, ⊤, IsTrue, List, length, None, Some}
+use Rattle.gfs2_layout.specs.Device.{superblock_place}
+use Rattle.glock_names.specs.declared.steps.CallFault.{CallFault}
+use Rattle.glock_names.specs.declared.steps.CallFault.TheVariants as call
+use Rattle.image_model.specs.Claims.{Claims, IsRindex}
+use Rattle.image_model.specs.Image.{Image}
+use Rattle.image_model.specs.Owners.{Owner, Below}
+use Rattle.shared_disk.specs.Disk.{DiskState, IsIdle}
+use Rattle.image_mount.specs.Found.{HasFormat}
+use Rattle.image_mount.specs.Refusals.{RefusesRightly}
+use Rattle.image_mount.specs.Table.{Kept, seen_of}
+use Rattle.image_mount.specs.declared.fault.MountFault.{MountFault}
+use Rattle.image_mount.specs.declared.fault.MountFault.TheVariants as fault
+use Rattle.image_mount.specs.declared.stop.Stop.{Stop}
+use Rattle.image_mount.specs.declared.stop.Stop.TheVariants as stop
+
+-- the fault of a call over a view, as mounting tells it
+abbrev pub of_call : CallFault → MountFault
+of_call (call.Damaged block rule) = fault.Damaged block rule
+of_call call.NoMemory = fault.NoMemory
+
+-- the blocks that are kept hold what they hold in the image
+pub record IsRead (im : Image) (k : Kept) : Type 0 where
+  pub size : k.size ≡ im.size
+  pub count : length k.entries ≡ im.count
+  pub same : (b : ℕ) (bytes : List ℕ) → (seen_of k).block_at b ≡ Some bytes → im.at b ≡ bytes
+
+-- a block of content that is this owner's is one of the list of groups
+abbrev pub IsLeading : Image → Owner → Type 0
+IsLeading im o = (d b k first : ℕ) → o ≡ Below d b k 0 first → IsRindex im d
+
+-- the superblock is to be read, or a block that is claimed by its number in block `from`: of content the list of groups alone
+abbrev pub IsWanted : Image → ℕ → ℕ → Type 0
+IsWanted im block from = (block ≡ superblock_place im.size) ⊎ (HasFormat im × ((o : Owner) × Claims im from block o × IsLeading im o))
+
+-- the image is refused for a cause that it has, or a block is wanted
+abbrev pub StopsRightly : Image → Stop → Type 0
+StopsRightly im (stop.Refused fault) = RefusesRightly im fault
+StopsRightly im (stop.Reads block from) = IsWanted im block from
+
+-- the fault isn't the disk's
+abbrev pub IsSteady : MountFault → Type 0
+IsSteady (fault.DeviceFault block before after) = ⊥
+IsSteady _ = ⊤
+
+-- the block that is wanted isn't kept, and a refusal isn't the disk's
+abbrev pub LacksBlock : Kept → Stop → Type 0
+LacksBlock k (stop.Refused fault) = IsSteady fault
+LacksBlock k (stop.Reads block from) = (seen_of k).block_at block ≡ None
+
+-- the fault is that of the disk at this block
+abbrev pub FailsAt : ℕ → MountFault → Type 0
+FailsAt b (fault.DeviceFault block before after) = block ≡ b
+FailsAt b _ = ⊥
+
+-- the disk is idle, the table has an entry for each of its blocks, and what is kept was read from it, where it tells
+pub record IsWorking (s : DiskState) (k : Kept) : Type 0 where
+  pub idle : IsIdle s
+  pub size : k.size ≡ s.size
+  pub count : length k.entries ≡ s.count
+  pub same : IsTrue s.tells → (b : ℕ) (bytes : List ℕ) → (seen_of k).block_at b ≡ Some bytes → s.block_at b ≡ bytes

@@ -1,0 +1,76 @@
+-- What the system files say, as the code has it.
+use Rattle.std.specs.Prelude.{ℕ, ◌≡◌, ◌≢◌, ◌⊎◌, ◌<◌, ◌≤◌, false, List, Contains, codes, length, map, slice_get, None, Some}
+use Rattle.glock_names.specs.declared.steps.Entry.{Entry}
+use Rattle.gfs2_layout.specs.Records.{Record, is_dots}
+use Rattle.image_model.specs.Claims.{LeadsTo, IsRindex, master_of}
+use Rattle.image_model.specs.Image.{Image, superblock_in}
+use Rattle.image_model.specs.Journals.{journal_name}
+use Rattle.image_model.specs.Profile.{HasPlainMaster}
+use Rattle.image_model.specs.Rules.{HasRecords}
+use Rattle.image_model.specs.Stands.{Layout}
+use Rattle.image_mount.specs.Found.{first_other, AreJournalNames, HasNames}
+use Rattle.image_mount.specs.Groups.{IsNamedIn}
+use Rattle.image_mount.specs.Listing.{said}
+use Rattle.image_mount.specs.declared.listing.Named.{Named as Item}
+use Rattle.image_mount.specs.declared.system.System.{System}
+use Rattle.image_mount.specs.declared.system.SystemFiles.{SystemFiles}
+
+-- the files that the master directory names, and it names no others
+pub record AreFilesOf (im : Image) (files : SystemFiles) : Type 0 where
+  pub rindex : IsNamedIn im (master_of im) (codes "rindex") files.rindex
+  pub jindex : IsNamedIn im (master_of im) (codes "jindex") files.jindex
+  pub plain : (records : List Record) → HasRecords im (master_of im) records → first_other records ≡ None
+  pub others : (name : List ℕ) (d : ℕ) → LeadsTo im (master_of im) name d → (name ≡ codes "jindex") ⊎ (name ≡ codes "rindex")
+
+-- one of these has this name and this entry
+pub record IsAmong (items : List Item) (name : List ℕ) (entry : Entry) : Type 0 where
+  pub index : ℕ
+  pub item : Item
+  pub there : slice_get items index ≡ Some item
+  pub named : item.name.now ≡ name
+  pub entry_is : item.entry ≡ entry
+
+abbrev pub AreAmong : List Item → List Entry → Type 0
+AreAmong items journals = (j : ℕ) (entry : Entry) → slice_get journals j ≡ Some entry → IsAmong items (journal_name j) entry
+
+-- none of these has the name
+abbrev pub LacksName : List Item → List ℕ → Type 0
+LacksName items name = (i : ℕ) (n : Item) → slice_get items i ≡ Some n → n.name.now ≢ name
+
+-- those that lead on have the names of so many journals
+abbrev pub AreNamesOf : List Record → ℕ → Type 0
+AreNamesOf records n = (r : Record) → Contains records r → is_dots r.name ≡ false → (j : ℕ) × (j < n) × (r.name ≡ journal_name j)
+
+-- these are the journals' among the records: one to eight, and they have no others beside
+pub record AreJournalsAmong (items : List Item) (journals : List Entry) : Type 0 where
+  pub some : 1 ≤ length journals
+  pub few : length journals ≤ 8
+  pub named : AreJournalNames (map said items) (length journals)
+  pub each : AreAmong items journals
+
+-- these are the journals that the directory in block a names
+pub record AreJournalsOf (im : Image) (a : ℕ) (journals : List Entry) : Type 0 where
+  pub some : 1 ≤ length journals
+  pub few : length journals ≤ 8
+  pub named : (records : List Record) → HasRecords im a records → AreJournalNames records (length journals)
+  pub each : (j : ℕ) (entry : Entry) → slice_get journals j ≡ Some entry → IsNamedIn im a (journal_name j) entry
+  pub others : (name : List ℕ) (d : ℕ) → LeadsTo im a name d → (j : ℕ) × ((entry : Entry) × (slice_get journals j ≡ Some entry) × (entry.addr ≡ d) × (name ≡ journal_name j))
+
+-- where the system files lie
+abbrev pub layout_of : System → Layout
+layout_of s = record {
+  root = s.superblock.root.address;
+  master = s.superblock.master.address;
+  rindex = s.rindex;
+  jindex = s.jindex;
+  groups = s.groups.items;
+  journals = map (λ (e : Entry). e.addr) s.journals.items;
+}
+
+-- the system files were looked at, as far as the journals' records
+pub record IsSystemOf (im : Image) (s : System) : Type 0 where
+  pub superblock : s.superblock ≡ superblock_in im
+  pub names : HasNames im (layout_of s)
+  pub master : HasPlainMaster im (layout_of s)
+  pub one_rindex : (d : ℕ) → IsRindex im d → d ≡ s.rindex
+  pub journals : AreJournalsOf im s.jindex s.journals.items

@@ -1,0 +1,115 @@
+ghost use Rattle.std.specs.Prelude.{ℕ, List, ◌≡◌, ◌+◌, ◌<◌, ◌≤◌, length, IsTrue, true, None, OnOk, IfErr, slice_get, Some};
+ghost use Rattle.gfs2_layout.specs.Device.{IsBlockSize};
+ghost use Rattle.shared_disk.specs.Disk.{IsIdle};
+ghost use Rattle.image_model.specs.Image.{Image, image_of};
+ghost use Rattle.image_mount.specs.Refusals.{HasRisen, RefusesRightly};
+ghost use Rattle.image_mount.specs.Rings.{IsSearched};
+ghost use Rattle.image_mount.specs.Searching.{FailsAt, IsWanted, IsWorking, LacksBlock, StopsRightly};
+ghost use Rattle.image_mount.specs.Table.{seen_of};
+
+use crate::fault::MountFault;
+use crate::formats::superblock_place;
+use crate::stop::{Stop, damaged};
+use crate::table::Table;
+use glock_names::View;
+use shared_disk::{SharedDisk, read_block};
+use std::alloc::Global;
+
+/// Reads a block of an idle disk, as the run itself.
+pub(crate) fn read_into<D: SharedDisk>(
+    disk: &mut D,
+    block: u64,
+    into: &mut [u8],
+) -> Result<(), MountFault>
+    requires idle { IsIdle (D.state disk.old) }
+    requires block { block < (D.state disk.old).count }
+    requires size { length into.old ≡ (D.state disk.old).size }
+    ensures bytes { OnOk result (IsTrue (D.state disk.old).tells → into.new ≡ (D.state disk.old).block_at block) }
+    ensures failed { IfErr result (FailsAt block) }
+    ensures risen { IfErr result (HasRisen (D.faults disk.old) (D.faults disk.new)) }
+    ensures same { D.state disk.new ≡ D.state disk.old }
+    ensures list { D.list disk.new ≡ D.list disk.old }
+    ensures later { (j : ℕ) → D.faults disk.old j ≤ D.faults disk.new j }
+{
+    match read_block(disk, 0, block, into) {
+        Ok(()) => Ok(()),
+        Err(rise) => Err(MountFault::DeviceFault {
+            block,
+            before: rise.before,
+            after: rise.after,
+        }),
+    }
+}
+
+// Why a block is not read whose number stands in block `from`: it is not on the device, or it is a place of a journal.
+fn check_readable(table: &Table, count: u64, block: u64, from: u64) -> Result<(), MountFault>
+    ensures inside { OnOk result (block < count) }
+    ensures refused { (im : Image) (done : List ℕ) (d n : ℕ) → table.now.size ≡ im.size → count ≡ im.count → IsWanted im block from → IsSearched im done d n table.now → IfErr result (RefusesRightly im) }
+    ensures steady { IfErr result (λ fault. (f g : ℕ → ℕ) → HasRisen f g fault) }
+{
+    if block == superblock_place(table.block_size()) && block >= count {
+        return Err(damaged(block, 1));
+    }
+    if block >= count {
+        return Err(damaged(from, 2));
+    }
+    if table.is_place(block) {
+        return Err(damaged(block, 3));
+    }
+    Ok(())
+}
+
+/// Reads a block that is not kept yet, whose number stands in block `from`, and keeps it.
+pub(crate) fn fetch<D: SharedDisk>(
+    alloc: Global,
+    disk: &mut D,
+    table: &mut Table,
+    block: u64,
+    from: u64,
+) -> Result<(), MountFault>
+    requires work { IsWorking (D.state disk.old) table.old }
+    requires new { (seen_of table.old).block_at block ≡ None }
+    ensures work { OnOk result (IsWorking (D.state disk.new) table.new) }
+    ensures searched { OnOk result ((im : Image) (done : List ℕ) (d n : ℕ) → IsWanted im block from → IsSearched im done d n table.old → IsSearched im done d n table.new) }
+    ensures refused { (done : List ℕ) (d n : ℕ) → IsTrue (D.state disk.old).tells → IsWanted (image_of (D.state disk.old)) block from → IsSearched (image_of (D.state disk.old)) done d n table.old
+        → IfErr result (RefusesRightly (image_of (D.state disk.old))) }
+    ensures falls { OnOk result (table.new.left + 1 ≡ table.old.left) }
+    ensures places { table.new.places ≡ table.old.places }
+    ensures risen { IfErr result (HasRisen (D.faults disk.old) (D.faults disk.new)) }
+    ensures same { D.state disk.new ≡ D.state disk.old }
+    ensures list { D.list disk.new ≡ D.list disk.old }
+    ensures later { (j : ℕ) → D.faults disk.old j ≤ D.faults disk.new j }
+{
+    check_readable(table, disk.blocks(), block, from)?;
+    let size = disk.block_size() as usize;
+    let mut bytes = vec![in alloc; 0u8; size]?;
+    read_into(disk, block, &mut bytes)?;
+    table.keep(block, bytes);
+    Ok(())
+}
+
+/// Reads the block for want of which a search stopped; a refusal it answers.
+pub(crate) fn go_on<D: SharedDisk>(
+    alloc: Global,
+    disk: &mut D,
+    table: &mut Table,
+    stop: Stop,
+) -> Result<(), MountFault>
+    requires work { IsWorking (D.state disk.old) table.old }
+    requires lacks { LacksBlock table.old stop }
+    ensures work { OnOk result (IsWorking (D.state disk.new) table.new) }
+    ensures searched { OnOk result ((im : Image) (done : List ℕ) (d n : ℕ) → StopsRightly im stop → IsSearched im done d n table.old → IsSearched im done d n table.new) }
+    ensures refused { (done : List ℕ) (d n : ℕ) → IsTrue (D.state disk.old).tells → StopsRightly (image_of (D.state disk.old)) stop → IsSearched (image_of (D.state disk.old)) done d n table.old
+        → IfErr result (RefusesRightly (image_of (D.state disk.old))) }
+    ensures falls { OnOk result (table.new.left + 1 ≡ table.old.left) }
+    ensures places { table.new.places ≡ table.old.places }
+    ensures risen { IfErr result (HasRisen (D.faults disk.old) (D.faults disk.new)) }
+    ensures same { D.state disk.new ≡ D.state disk.old }
+    ensures list { D.list disk.new ≡ D.list disk.old }
+    ensures later { (j : ℕ) → D.faults disk.old j ≤ D.faults disk.new j }
+{
+    match stop {
+        Stop::Refused(fault) => Err(fault),
+        Stop::Reads { block, from } => fetch(alloc, disk, table, block, from),
+    }
+}

@@ -1,0 +1,90 @@
+ghost use Rattle.std.specs.Prelude.{ℕ, ◌≡◌, ◌≤◌, ◌+◌, true, false, length, if◌then◌else◌, IfOk, OnOk, IfErr};
+ghost use Rattle.gfs2_layout.specs.Inode.{dinode_in, is_directory_in, is_hashed_in, head_of, has_hash_flag, Fits};
+ghost use Rattle.gfs2_layout.specs.Structures.{is_directory};
+ghost use Rattle.gfs2_layout.specs.Records.{Record};
+ghost use Rattle.image_model.specs.Claims.{every, HasInode, HasDirectory, Claims};
+ghost use Rattle.image_model.specs.Image.{Image};
+ghost use Rattle.image_model.specs.Owners.{Owner, is_dinode};
+ghost use Rattle.image_model.specs.Rules.{HasRecordIn};
+ghost use Rattle.image_mount.specs.Found.{HasFormat};
+ghost use Rattle.image_mount.specs.Refusals.{RefusesRightly};
+ghost use Rattle.image_mount.specs.Searching.{IsRead, IsSteady, StopsRightly, LacksBlock};
+ghost use Rattle.image_mount.specs.Listing.{IsEntryOf};
+
+use crate::fault::MountFault;
+use crate::stop::{Stop, damaged};
+use crate::table::Table;
+use dinode_tree::read_dinode;
+use gfs2_layout::Dinode;
+use glock_names::{Entry, Step};
+
+/// An inode: the block of its dinode, the block in which its number stands, and what its dinode says.
+#[derive(Clone, Copy)]
+pub(crate) struct Inode {
+    pub block: u64,
+    pub from: u64,
+    pub dinode: Dinode,
+}
+
+impl Inode {
+    /// Reads a dinode, which keeps the rules of its own: it has its header, its address and a number, a mode, and its size
+    /// fits it or its height.
+    pub fn read(table: &Table, from: u64, block: u64) -> Result<Inode, Stop>
+        ensures block { IfOk result (λ inode. inode.block ≡ block) }
+        ensures from { IfOk result (λ inode. inode.from ≡ from) }
+        ensures found { (im : Image) → IsRead im table.now → IfOk result (λ inode. inode.dinode ≡ dinode_in (every im block)) }
+        ensures fits { (im : Image) → IsRead im table.now → OnOk result (Fits (every im block)) }
+        ensures stops { (im : Image) (o : Owner) → IsRead im table.now → Claims im from block o → is_dinode o ≡ true → HasFormat im → IfErr result (StopsRightly im) }
+        ensures lacks { IfErr result (LacksBlock table.now) }
+    {
+        match read_dinode(table, block)? {
+            Step::Is(dinode) => Ok(Inode {
+                block,
+                from,
+                dinode,
+            }),
+            Step::NeedBlock(_) => Err(Stop::Reads { block, from }),
+        }
+    }
+
+    // The kind that its record has.
+    fn kind(&self) -> u16
+        ensures { result ≡ (if is_directory self.now.dinode then 4 else 8) }
+    {
+        if self.dinode.is_directory() { 4 } else { 8 }
+    }
+
+    /// That a record in block `from` repeats the kind and the formal number of this inode, to which it leads.
+    pub fn check_record(&self, entry: &Entry) -> Result<(), MountFault>
+        requires { entry.now.addr ≡ self.now.block }
+        ensures refused { (im : Image) (a : ℕ) (r : Record) → self.now.dinode ≡ dinode_in (every im self.now.block) → HasFormat im → HasRecordIn im a self.now.from r → IsEntryOf entry.now r → IfErr result (RefusesRightly im) }
+        ensures steady { IfErr result IsSteady }
+    {
+        if entry.kind != self.kind() {
+            return Err(damaged(self.from, 11));
+        }
+        if entry.number != self.dinode.num.number {
+            return Err(damaged(self.from, 11));
+        }
+        Ok(())
+    }
+
+    /// That a directory is a linear one, whose records stand behind the dinode up to the end of its block.
+    pub fn check_linear(&self, size: u32) -> Result<(), MountFault>
+        requires { 512 ≤ size }
+        ensures linear { OnOk result (has_hash_flag self.now.dinode ≡ false) }
+        ensures refused { (im : Image) → self.now.dinode ≡ dinode_in (every im self.now.block) → size ≡ im.size → HasFormat im → HasDirectory im self.now.block → IfErr result (RefusesRightly im) }
+        ensures steady { IfErr result IsSteady }
+    {
+        if self.dinode.flags / 2 % 2 == 1 {
+            return Err(MountFault::NotBuilt { block: self.block });
+        }
+        if self.dinode.height != 0 {
+            return Err(damaged(self.block, 8));
+        }
+        if self.dinode.size != u64::from(size) - 232 {
+            return Err(damaged(self.block, 8));
+        }
+        Ok(())
+    }
+}

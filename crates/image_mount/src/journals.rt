@@ -1,0 +1,353 @@
+ghost use Rattle.std.specs.Prelude.{ℕ, ◌≡◌, ◌≢◌, ◌+◌, ◌<◌, ◌≤◌, ◌↔◌, ◌++◌, [], ◌∷◌, List, Contains, length, map, Some, IsTrue, OnOk, IfOk, IfErr};
+ghost use Rattle.std.specs.List.{All};
+ghost use Rattle.gfs2_layout.specs.Device.{superblock_place};
+ghost use Rattle.gfs2_layout.specs.Inode.{Fits};
+ghost use Rattle.gfs2_layout.specs.Journal.{accepted as accepted_at, better as better_of, head_in};
+ghost use Rattle.shared_disk.specs.Disk.{IsIdle};
+ghost use Rattle.glock_names.specs.declared.steps.Entry.{Entry as EntryValue};
+ghost use Rattle.image_model.specs.Claims.{every};
+ghost use Rattle.image_model.specs.Image.{Image, image_of};
+ghost use Rattle.image_model.specs.Stands.{Layout, IsJournalAt};
+ghost use Rattle.image_mount.specs.Found.{HasNames};
+ghost use Rattle.image_mount.specs.Refusals.{HasRisen, IsReached, RefusesRightly};
+ghost use Rattle.image_mount.specs.Rings.{IsSearched, IsJournalIn, IsNext, HasPlaces, IsPlaceAt, AreBlocksOf, IsRingOf, AreRings, AreJournals, IsHeadOf, ring_at};
+ghost use Rattle.image_mount.specs.Searching.{IsRead, IsSteady, IsWorking, LacksBlock, StopsRightly};
+ghost use Rattle.image_mount.specs.System.{IsSystemOf};
+
+use crate::fault::MountFault;
+use crate::fetching::{go_on, read_into};
+use crate::field::Field;
+use crate::groups::is_data;
+use crate::inodes::Inode;
+use crate::mounted::JournalMap;
+use crate::stop::{Stop, damaged, outside, reads};
+use crate::system::System;
+use crate::table::Table;
+use dinode_tree::{Located, locate};
+use gfs2_layout::LogHeader;
+use glock_names::{Entry, Step, View};
+use shared_disk::SharedDisk;
+use std::alloc::Global;
+
+/// Where a journal lies: the block of its dinode, and the block at each of its places.
+#[derive(Drop)]
+pub(crate) struct Ring {
+    pub dinode: u64,
+    pub blocks: Vec<u64>,
+}
+
+// How many places a journal has, which is a file of whole blocks.
+fn place_count(table: &Table, jindex: u64, journal: &Entry) -> Result<u64, Stop>
+    ensures found { (im : Image) → IsRead im table.now → IfOk result (HasPlaces im journal.now.addr) }
+    ensures stops { (im : Image) → IsRead im table.now → IsJournalIn im jindex journal.now → IfErr result (StopsRightly im) }
+    ensures lacks { IfErr result (LacksBlock table.now) }
+{
+    let inode = Inode::read(table, jindex, journal.addr)?;
+    inode.check_record(journal)?;
+    let size = table.block_size();
+    if inode.dinode.is_directory() {
+        inode.check_linear(size)?;
+    }
+    if inode.dinode.size % u64::from(size) != 0 {
+        return Err(Stop::Refused(damaged(inode.block, 8)));
+    }
+    let places = inode.dinode.size / u64::from(size);
+    if places < 512 || places > 65_536 {
+        return Err(Stop::Refused(outside(Field::Journal, places)));
+    }
+    Ok(places)
+}
+
+fn count_places<D: SharedDisk>(
+    alloc: Global,
+    disk: &mut D,
+    table: &mut Table,
+    jindex: u64,
+    journal: &Entry,
+) -> Result<u64, MountFault>
+    requires work { IsWorking (D.state disk.old) table.old }
+    ensures work { OnOk result (IsWorking (D.state disk.new) table.new) }
+    ensures found { IfOk result (λ places. IsTrue (D.state disk.old).tells → HasPlaces (image_of (D.state disk.old)) journal.now.addr places) }
+    ensures searched { OnOk result ((done : List ℕ) (d n : ℕ) → IsTrue (D.state disk.old).tells → IsJournalIn (image_of (D.state disk.old)) jindex journal.now → IsSearched (image_of (D.state disk.old)) done d n table.old
+        → IsSearched (image_of (D.state disk.old)) done d n table.new) }
+    ensures refused { (done : List ℕ) (d n : ℕ) → IsTrue (D.state disk.old).tells → IsJournalIn (image_of (D.state disk.old)) jindex journal.now → IsSearched (image_of (D.state disk.old)) done d n table.old
+        → IfErr result (RefusesRightly (image_of (D.state disk.old))) }
+    ensures risen { IfErr result (HasRisen (D.faults disk.old) (D.faults disk.new)) }
+    ensures same { D.state disk.new ≡ D.state disk.old }
+    ensures list { D.list disk.new ≡ D.list disk.old }
+    ensures later { (j : ℕ) → D.faults disk.old j ≤ D.faults disk.new j }
+{
+    loop {
+        match place_count(table, jindex, journal) {
+            Ok(places) => return Ok(places),
+            Err(stop) => go_on(alloc, disk, table, stop)?,
+        }
+    }
+}
+
+// The block at a place of a journal, which has no hole.
+fn block_at(table: &Table, jindex: u64, journal: &Entry, place: u64) -> Result<Located, Stop>
+    ensures found { (im : Image) → IsRead im table.now → IfOk result (IsPlaceAt im journal.now.addr place) }
+    ensures stops { (im : Image) (places : ℕ) → IsRead im table.now → IsJournalIn im jindex journal.now → HasPlaces im journal.now.addr places → place < places → IfErr result (StopsRightly im) }
+    ensures lacks { IfErr result (LacksBlock table.now) }
+{
+    match locate(table, journal.addr, place)? {
+        Step::Is(Some(located)) => Ok(located),
+        Step::Is(None) => Err(Stop::Refused(damaged(journal.addr, 8))),
+        Step::NeedBlock(missing) if missing.block == journal.addr => Err(Stop::Reads {
+            block: journal.addr,
+            from: jindex,
+        }),
+        Step::NeedBlock(missing) => Err(reads(&missing)),
+    }
+}
+
+fn find_block<D: SharedDisk>(
+    alloc: Global,
+    disk: &mut D,
+    table: &mut Table,
+    jindex: u64,
+    journal: &Entry,
+    place: u64,
+) -> Result<Located, MountFault>
+    requires work { IsWorking (D.state disk.old) table.old }
+    ensures work { OnOk result (IsWorking (D.state disk.new) table.new) }
+    ensures found { IfOk result (λ located. IsTrue (D.state disk.old).tells → IsPlaceAt (image_of (D.state disk.old)) journal.now.addr place located) }
+    ensures searched { OnOk result ((done : List ℕ) (d n places : ℕ) → IsTrue (D.state disk.old).tells → IsJournalIn (image_of (D.state disk.old)) jindex journal.now → HasPlaces (image_of (D.state disk.old)) journal.now.addr places → place < places
+        → IsSearched (image_of (D.state disk.old)) done d n table.old → IsSearched (image_of (D.state disk.old)) done d n table.new) }
+    ensures refused { (done : List ℕ) (d n places : ℕ) → IsTrue (D.state disk.old).tells → IsJournalIn (image_of (D.state disk.old)) jindex journal.now → HasPlaces (image_of (D.state disk.old)) journal.now.addr places → place < places
+        → IsSearched (image_of (D.state disk.old)) done d n table.old → IfErr result (RefusesRightly (image_of (D.state disk.old))) }
+    ensures risen { IfErr result (HasRisen (D.faults disk.old) (D.faults disk.new)) }
+    ensures same { D.state disk.new ≡ D.state disk.old }
+    ensures list { D.list disk.new ≡ D.list disk.old }
+    ensures later { (j : ℕ) → D.faults disk.old j ≤ D.faults disk.new j }
+{
+    loop {
+        match block_at(table, jindex, journal, place) {
+            Ok(located) => return Ok(located),
+            Err(stop) => go_on(alloc, disk, table, stop)?,
+        }
+    }
+}
+
+// That a place of a journal lies in a group's data blocks, and that its block is neither kept nor another's place.
+fn check_place(table: &Table, system: &System, located: &Located) -> Result<(), MountFault>
+    ensures inside { OnOk result (located.now.block < length table.now.entries) }
+    ensures apart { OnOk result ((im : Image) → IsSystemOf im system.now → located.now.block ≢ superblock_place im.size) }
+    ensures refused { (im : Image) (done : List ℕ) (journal : EntryValue) (place : ℕ) → IsRead im table.now → IsNext im done system.now journal → IsSearched im done journal.addr place table.now
+        → IsPlaceAt im journal.addr place located.now → IfErr result (RefusesRightly im) }
+    ensures steady { IfErr result IsSteady }
+{
+    if located.block >= table.count() || !is_data(&system.groups, located.block) {
+        return Err(damaged(located.from, 2));
+    }
+    if table.is_place(located.block) || table.get(located.block, located.from).is_ok() {
+        return Err(damaged(located.block, 3));
+    }
+    Ok(())
+}
+
+// The blocks at so many places of a journal.
+fn find_blocks<D: SharedDisk>(
+    alloc: Global,
+    disk: &mut D,
+    table: &mut Table,
+    system: &System,
+    journal: &Entry,
+    places: u64,
+) -> Result<Vec<u64>, MountFault>
+    requires work { IsWorking (D.state disk.old) table.old }
+    ensures work { OnOk result (IsWorking (D.state disk.new) table.new) }
+    ensures found { IfOk result (λ blocks. (done : List ℕ) → IsTrue (D.state disk.old).tells → IsNext (image_of (D.state disk.old)) done system.now journal.now → HasPlaces (image_of (D.state disk.old)) journal.now.addr places
+        → IsSearched (image_of (D.state disk.old)) done journal.now.addr 0 table.old → AreBlocksOf (image_of (D.state disk.old)) journal.now.addr places blocks.items) }
+    ensures searched { OnOk result ((done : List ℕ) → IsTrue (D.state disk.old).tells → IsNext (image_of (D.state disk.old)) done system.now journal.now → HasPlaces (image_of (D.state disk.old)) journal.now.addr places
+        → IsSearched (image_of (D.state disk.old)) done journal.now.addr 0 table.old → IsSearched (image_of (D.state disk.old)) done journal.now.addr places table.new) }
+    ensures refused { (done : List ℕ) → IsTrue (D.state disk.old).tells → IsNext (image_of (D.state disk.old)) done system.now journal.now → HasPlaces (image_of (D.state disk.old)) journal.now.addr places
+        → IsSearched (image_of (D.state disk.old)) done journal.now.addr 0 table.old → IfErr result (RefusesRightly (image_of (D.state disk.old))) }
+    ensures inside { IfOk result (λ blocks. All (λ b. b < (D.state disk.old).count) blocks.items) }
+    ensures count { IfOk result (λ blocks. length blocks.items ≡ places) }
+    ensures risen { IfErr result (HasRisen (D.faults disk.old) (D.faults disk.new)) }
+    ensures same { D.state disk.new ≡ D.state disk.old }
+    ensures list { D.list disk.new ≡ D.list disk.old }
+    ensures later { (j : ℕ) → D.faults disk.old j ≤ D.faults disk.new j }
+{
+    let mut blocks = Vec::with_capacity(alloc, places as usize)?;
+    for place in 0..places {
+        let located = find_block(alloc, disk, table, system.jindex, journal, place)?;
+        check_place(table, system, &located)?;
+        table.mark(located.block);
+        blocks.push(located.block)?;
+    }
+    Ok(blocks)
+}
+
+// Whether the block is that of the dinode of one of these journals.
+fn has_dinode(rings: &[Ring], block: u64) -> bool
+    ensures { IsTrue result ↔ Contains (map (λ (ring : Ring). ring.dinode) rings.now) block }
+{
+    for ring in rings {
+        if ring.dinode == block {
+            return true;
+        }
+    }
+    false
+}
+
+// Where a journal lies. No other has its dinode.
+fn find_ring<D: SharedDisk>(
+    alloc: Global,
+    disk: &mut D,
+    table: &mut Table,
+    system: &System,
+    journal: &Entry,
+) -> Result<Ring, MountFault>
+    requires work { IsWorking (D.state disk.old) table.old }
+    ensures work { OnOk result (IsWorking (D.state disk.new) table.new) }
+    ensures dinode { IfOk result (λ ring. ring.dinode ≡ journal.now.addr) }
+    ensures found { IfOk result (λ ring. (done : List ℕ) → IsTrue (D.state disk.old).tells → IsNext (image_of (D.state disk.old)) done system.now journal.now → IsSearched (image_of (D.state disk.old)) done 0 0 table.old
+        → IsRingOf (image_of (D.state disk.old)) journal.now.addr ring.blocks.items) }
+    ensures searched { OnOk result ((done : List ℕ) → IsTrue (D.state disk.old).tells → IsNext (image_of (D.state disk.old)) done system.now journal.now → IsSearched (image_of (D.state disk.old)) done 0 0 table.old
+        → IsSearched (image_of (D.state disk.old)) (done ++ journal.now.addr ∷ []) 0 0 table.new) }
+    ensures refused { (done : List ℕ) → IsTrue (D.state disk.old).tells → IsNext (image_of (D.state disk.old)) done system.now journal.now → IsSearched (image_of (D.state disk.old)) done 0 0 table.old → IfErr result (RefusesRightly (image_of (D.state disk.old))) }
+    ensures inside { IfOk result (λ ring. All (λ b. b < (D.state disk.old).count) ring.blocks.items) }
+    ensures risen { IfErr result (HasRisen (D.faults disk.old) (D.faults disk.new)) }
+    ensures same { D.state disk.new ≡ D.state disk.old }
+    ensures list { D.list disk.new ≡ D.list disk.old }
+    ensures later { (j : ℕ) → D.faults disk.old j ≤ D.faults disk.new j }
+{
+    let dinode = journal.addr;
+    let places = count_places(alloc, disk, table, system.jindex, journal)?;
+    let blocks = find_blocks(alloc, disk, table, system, journal, places)?;
+    Ok(Ring { dinode, blocks })
+}
+
+/// Where the journals lie, each in turn.
+pub(crate) fn find_rings<D: SharedDisk>(
+    alloc: Global,
+    disk: &mut D,
+    table: &mut Table,
+    system: &System,
+) -> Result<Vec<Ring>, MountFault>
+    requires work { IsWorking (D.state disk.old) table.old }
+    ensures work { OnOk result (IsWorking (D.state disk.new) table.new) }
+    ensures found { IfOk result (λ rings. IsTrue (D.state disk.old).tells → IsSystemOf (image_of (D.state disk.old)) system.now → IsSearched (image_of (D.state disk.old)) [] 0 0 table.old → AreRings (image_of (D.state disk.old)) system.now.journals.items rings.items) }
+    ensures refused { IsTrue (D.state disk.old).tells → IsSystemOf (image_of (D.state disk.old)) system.now → IsSearched (image_of (D.state disk.old)) [] 0 0 table.old → IfErr result (RefusesRightly (image_of (D.state disk.old))) }
+    ensures inside { IfOk result (λ rings. All (λ (ring : Ring). All (λ b. b < (D.state disk.old).count) ring.blocks.items) rings.items) }
+    ensures risen { IfErr result (HasRisen (D.faults disk.old) (D.faults disk.new)) }
+    ensures same { D.state disk.new ≡ D.state disk.old }
+    ensures list { D.list disk.new ≡ D.list disk.old }
+    ensures later { (j : ℕ) → D.faults disk.old j ≤ D.faults disk.new j }
+{
+    let mut rings = Vec::new(alloc);
+    for journal in &system.journals {
+        if journal.addr == system.rindex || has_dinode(&rings, journal.addr) {
+            return Err(damaged(journal.addr, 3));
+        }
+        let ring = find_ring(alloc, disk, table, system, journal)?;
+        rings.push(ring)?;
+    }
+    Ok(rings)
+}
+
+// The header that is accepted at a place, if one is.
+fn accepted(place: u64, bytes: &[u8]) -> Option<LogHeader>
+    ensures { result ≡ accepted_at place bytes.now }
+{
+    match LogHeader::read(bytes) {
+        Ok(header) if u64::from(header.blkno) == place => Some(header),
+        _ => None,
+    }
+}
+
+// Of two headers that of higher sequence, and of equal ones the first.
+fn better(first: Option<LogHeader>, second: Option<LogHeader>) -> Option<LogHeader>
+    ensures { result ≡ better_of first second }
+{
+    match (first, second) {
+        (Some(one), Some(other)) if one.sequence < other.sequence => Some(other),
+        (Some(one), _) => Some(one),
+        (None, other) => other,
+    }
+}
+
+// The best of the headers that are accepted in these blocks, each of which is read once.
+fn best_header<D: SharedDisk>(
+    disk: &mut D,
+    bytes: &mut [u8],
+    blocks: &[u64],
+) -> Result<Option<LogHeader>, MountFault>
+    requires idle { IsIdle (D.state disk.old) }
+    requires size { length bytes.old ≡ (D.state disk.old).size }
+    requires inside { All (λ b. b < (D.state disk.old).count) blocks.now }
+    ensures found { IfOk result (λ best. IsTrue (D.state disk.old).tells → best ≡ head_in (ring_at (D.state disk.old).block_at blocks.now)) }
+    ensures refused { All (IsReached (image_of (D.state disk.old))) blocks.now → IfErr result (RefusesRightly (image_of (D.state disk.old))) }
+    ensures risen { IfErr result (HasRisen (D.faults disk.old) (D.faults disk.new)) }
+    ensures same { D.state disk.new ≡ D.state disk.old }
+    ensures list { D.list disk.new ≡ D.list disk.old }
+    ensures later { (j : ℕ) → D.faults disk.old j ≤ D.faults disk.new j }
+{
+    let mut best = None;
+    let mut place = 0;
+    for block in blocks {
+        read_into(disk, *block, bytes)?;
+        best = better(best, accepted(place, bytes));
+        place += 1;
+    }
+    Ok(best)
+}
+
+// The head of a journal, whose sequence is below 2^63.
+fn find_head<D: SharedDisk>(
+    disk: &mut D,
+    bytes: &mut [u8],
+    ring: &Ring,
+) -> Result<LogHeader, MountFault>
+    requires idle { IsIdle (D.state disk.old) }
+    requires size { length bytes.old ≡ (D.state disk.old).size }
+    requires inside { All (λ b. b < (D.state disk.old).count) ring.now.blocks.items }
+    ensures found { IfOk result (λ head. IsTrue (D.state disk.old).tells → IsRingOf (image_of (D.state disk.old)) ring.now.dinode ring.now.blocks.items → IsHeadOf (image_of (D.state disk.old)) ring.now.dinode head) }
+    ensures refused { (l : Layout) (j : ℕ) → IsTrue (D.state disk.old).tells → HasNames (image_of (D.state disk.old)) l → IsJournalAt l j ring.now.dinode → IsRingOf (image_of (D.state disk.old)) ring.now.dinode ring.now.blocks.items
+        → IfErr result (RefusesRightly (image_of (D.state disk.old))) }
+    ensures risen { IfErr result (HasRisen (D.faults disk.old) (D.faults disk.new)) }
+    ensures same { D.state disk.new ≡ D.state disk.old }
+    ensures list { D.list disk.new ≡ D.list disk.old }
+    ensures later { (j : ℕ) → D.faults disk.old j ≤ D.faults disk.new j }
+{
+    let Some(head) = best_header(disk, bytes, &ring.blocks)? else {
+        return Err(damaged(ring.dinode, 16));
+    };
+    if head.sequence >= 1 << 63 {
+        return Err(outside(Field::Sequence, head.sequence));
+    }
+    Ok(head)
+}
+
+/// The journals with their heads, each in turn. It reads the block at each place once.
+pub(crate) fn find_journals<D: SharedDisk>(
+    alloc: Global,
+    disk: &mut D,
+    rings: Vec<Ring>,
+) -> Result<Vec<JournalMap>, MountFault>
+    requires idle { IsIdle (D.state disk.old) }
+    requires inside { All (λ (ring : Ring). All (λ b. b < (D.state disk.old).count) ring.blocks.items) rings.items }
+    ensures found { IfOk result (λ journals. IsTrue (D.state disk.old).tells → All (λ (ring : Ring). IsRingOf (image_of (D.state disk.old)) ring.dinode ring.blocks.items) rings.items → AreJournals (image_of (D.state disk.old)) rings.items journals.items) }
+    ensures refused { (l : Layout) → IsTrue (D.state disk.old).tells → HasNames (image_of (D.state disk.old)) l → map (λ (ring : Ring). ring.dinode) rings.items ≡ l.journals
+        → All (λ (ring : Ring). IsRingOf (image_of (D.state disk.old)) ring.dinode ring.blocks.items) rings.items → IfErr result (RefusesRightly (image_of (D.state disk.old))) }
+    ensures risen { IfErr result (HasRisen (D.faults disk.old) (D.faults disk.new)) }
+    ensures same { D.state disk.new ≡ (D.state disk.old) }
+    ensures list { D.list disk.new ≡ D.list disk.old }
+    ensures later { (j : ℕ) → D.faults disk.old j ≤ D.faults disk.new j }
+{
+    let size = disk.block_size() as usize;
+    let mut bytes = vec![in alloc; 0u8; size]?;
+    let mut journals = Vec::with_capacity(alloc, rings.len())?;
+    for ring in rings {
+        let head = find_head(disk, &mut bytes, &ring)?;
+        journals.push(JournalMap {
+            dinode: ring.dinode,
+            blocks: ring.blocks,
+            head,
+        })?;
+    }
+    Ok(journals)
+}

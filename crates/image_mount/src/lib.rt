@@ -1,0 +1,24 @@
+//! Mounting: what an image has to be, and where its groups and journals lie.
+#![tactic(auto)]
+
+mod fault;
+mod fetching;
+mod field;
+mod formats;
+mod groups;
+mod inodes;
+mod journals;
+mod listing;
+mod mounted;
+mod mounting;
+mod stop;
+mod system;
+mod table;
+
+pub use fault::MountFault;
+pub use field::Field;
+pub use mounted::{JournalMap, Mounted};
+pub use mounting::mount_image;
+
+#[cfg(test)]
+mod tests;

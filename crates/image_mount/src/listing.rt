@@ -1,0 +1,228 @@
+ghost use Rattle.std.specs.Prelude.{ℕ, ◌≡◌, ◌≢◌, ◌≤◌, ◌++◌, [], ◌∷◌, List, not, length, map, Contains, slice_get, Some, IfOk, OnOk, IfErr, IfSome, IfNone};
+ghost use Rattle.std.specs.List.{All};
+ghost use Rattle.gfs2_layout.specs.Area.{Slot, IsShown, slots_of};
+ghost use Rattle.gfs2_layout.specs.Inode.{dinode_in};
+ghost use Rattle.gfs2_layout.specs.Records.{records_in, is_dots as has_dots};
+ghost use Rattle.image_model.specs.Claims.{every, HasArea};
+ghost use Rattle.image_model.specs.Image.{Image};
+ghost use Rattle.image_model.specs.Rules.{Breaks, HasRecordIn, HasRecords};
+ghost use Rattle.image_model.specs.Stands.{directory_count};
+ghost use Rattle.image_mount.specs.Found.{HasFormat, name_count};
+ghost use Rattle.image_mount.specs.Refusals.{RefusesRightly};
+ghost use Rattle.image_mount.specs.Searching.{IsRead, IsSteady, StopsRightly, LacksBlock};
+ghost use Rattle.image_mount.specs.Listing.{said, said_by, said_in, AreRecordsOf, AreDistinct, IsDirectoryIn};
+
+use crate::fault::MountFault;
+use crate::inodes::Inode;
+use crate::stop::{Stop, damaged};
+use crate::table::Table;
+use crc_words::crc32;
+use file_tree::is_name;
+use gfs2_layout::{Record, is_area, next_record};
+use glock_names::{Entry, View};
+use std::alloc::Global;
+
+/// A record in use of a directory: its name, and what it says of the inode to which that leads.
+#[derive(Clone, Copy)]
+pub(crate) struct Named<'a> {
+    pub name: &'a [u8],
+    pub entry: Entry,
+}
+
+fn is_dots(name: &[u8]) -> bool
+    ensures { result ≡ has_dots name.now }
+{
+    name == b".".as_slice() || name == b"..".as_slice()
+}
+
+impl<'a> Named<'a> {
+    fn of(record: &Record<'a>) -> Named<'a>
+        ensures { said result ≡ said_by record.now.head record.now.name.now }
+    {
+        Named {
+            name: record.name,
+            entry: Entry {
+                number: record.head.inum.number,
+                addr: record.head.inum.address,
+                kind: record.head.kind,
+            },
+        }
+    }
+
+    /// Whether it leads neither to the directory itself nor to the one above.
+    pub fn leads_on(&self) -> bool
+        ensures { result ≡ not (has_dots self.now.name.now) }
+    {
+        !is_dots(self.name)
+    }
+
+    fn check_name(&self, block: u64) -> Result<(), MountFault>
+        ensures refused { (im : Image) (a : ℕ) → HasFormat im → HasRecordIn im a block (said self.now) → IfErr result (RefusesRightly im) }
+        ensures steady { IfErr result IsSteady }
+    {
+        if is_dots(self.name) || is_name(self.name) {
+            return Ok(());
+        }
+        Err(damaged(block, 9))
+    }
+}
+
+// Adds a record, if it is in use; it is to have its name's hash.
+fn add<'a>(records: &mut Vec<Named<'a>>, record: &Record<'a>, block: u64) -> Result<(), MountFault>
+    ensures added { (s : Slot) → IsShown record.now.head record.now.name.now s → OnOk result (map said records.new.items ≡ map said records.old.items ++ said_in (s ∷ [])) }
+    ensures refused { (im : Image) (a : ℕ) (area : List ℕ) (s : Slot) → IsShown record.now.head record.now.name.now s → HasFormat im → HasArea im a block area → Contains (slots_of area) s → IfErr result (RefusesRightly im) }
+    ensures steady { IfErr result IsSteady }
+{
+    if !record.head.is_in_use() {
+        return Ok(());
+    }
+    if record.head.hash != crc32(record.name) {
+        return Err(damaged(block, 9));
+    }
+    records.push(Named::of(record))?;
+    Ok(())
+}
+
+// The records in use of an area in a block, which they are to fill.
+fn read_area<'a>(alloc: Global, area: &'a [u8], block: u64) -> Result<Vec<Named<'a>>, MountFault>
+    ensures found { IfOk result (λ records. map said records.items ≡ records_in area.now) }
+    ensures refused { (im : Image) (a : ℕ) → HasFormat im → HasArea im a block area.now → IfErr result (RefusesRightly im) }
+    ensures steady { IfErr result IsSteady }
+{
+    if !is_area(area) {
+        return Err(damaged(block, 9));
+    }
+    let mut records = Vec::new(alloc);
+    let mut rest = area;
+    while let Some((record, behind)) = next_record(rest) {
+        add(&mut records, &record, block)?;
+        rest = behind;
+    }
+    Ok(records)
+}
+
+// That each record has a name, or is `.` or `..`.
+fn check_names(records: &[Named<'_>], block: u64) -> Result<(), MountFault>
+    ensures refused { (im : Image) (a : ℕ) → HasFormat im → All (λ n. HasRecordIn im a block (said n)) records.now → IfErr result (RefusesRightly im) }
+    ensures steady { IfErr result IsSteady }
+{
+    for record in records {
+        record.check_name(block)?;
+    }
+    Ok(())
+}
+
+/// The first record of this name.
+pub(crate) fn find<'a>(records: &[Named<'a>], name: &[u8]) -> Option<Named<'a>>
+    ensures named { IfSome result (λ found. found.name.now ≡ name.now) }
+    ensures there { IfSome result (λ found. (i : ℕ) × (slice_get records.now i ≡ Some found)) }
+    ensures none { IfNone result ((i : ℕ) (n : Named) → slice_get records.now i ≡ Some n → n.name.now ≢ name.now) }
+{
+    for record in records {
+        if record.name == name {
+            return Some(*record);
+        }
+    }
+    None
+}
+
+// That no name comes twice.
+fn check_twice(records: &[Named<'_>], block: u64) -> Result<(), MountFault>
+    ensures distinct { OnOk result (AreDistinct (map said records.now)) }
+    ensures refused { (im : Image) (a : ℕ) (area : List ℕ) → HasFormat im → HasArea im a block area → map said records.now ≡ records_in area → IfErr result (RefusesRightly im) }
+    ensures steady { IfErr result IsSteady }
+{
+    for i in 0..records.len() {
+        if find(&records[i + 1..], records[i].name).is_some() {
+            return Err(damaged(block, 10));
+        }
+    }
+    Ok(())
+}
+
+// That there is a record of this name, `.` or `..`, which leads to this block.
+fn check_dot(records: &[Named<'_>], block: u64, name: &[u8], leads: u64) -> Result<(), MountFault>
+    ensures refused { (im : Image) → HasFormat im → (((i : ℕ) (n : Named) → slice_get records.now i ≡ Some n → n.name.now ≢ name.now) → Breaks im 10 block)
+        → ((i : ℕ) (n : Named) → slice_get records.now i ≡ Some n → n.name.now ≡ name.now → n.entry.addr ≢ leads → Breaks im 10 block)
+        → IfErr result (RefusesRightly im) }
+    ensures steady { IfErr result IsSteady }
+{
+    let Some(dot) = find(records, name) else {
+        return Err(damaged(block, 10));
+    };
+    if dot.entry.addr != leads {
+        return Err(damaged(block, 10));
+    }
+    Ok(())
+}
+
+/// How many names these records have beside `.` and `..`.
+pub(crate) fn count_names(records: &[Named<'_>]) -> u64
+    ensures { result ≡ name_count (map said records.now) }
+{
+    let mut count = 0;
+    for record in records {
+        count += u64::from(record.leads_on());
+    }
+    count
+}
+
+// How many directories these records name.
+fn count_directories(records: &[Named<'_>]) -> u64
+    ensures value { result ≡ directory_count (map said records.now) }
+    ensures most { result ≤ length records.now }
+{
+    let mut count = 0;
+    for record in records {
+        count += u64::from(record.leads_on() && record.entry.kind == 4);
+    }
+    count
+}
+
+// That a directory's links and entries are the count of its records.
+fn check_counts(inode: &Inode, records: &[Named<'_>]) -> Result<(), MountFault>
+    ensures refused { (im : Image) → HasFormat im → inode.now.dinode ≡ dinode_in (every im inode.now.block) → HasRecords im inode.now.block (map said records.now) → IfErr result (RefusesRightly im) }
+    ensures steady { IfErr result IsSteady }
+{
+    if u64::from(inode.dinode.entries) != records.len() as u64 {
+        return Err(damaged(inode.block, 12));
+    }
+    if u64::from(inode.dinode.nlink) != 2 + count_directories(records) {
+        return Err(damaged(inode.block, 12));
+    }
+    Ok(())
+}
+
+// That the records are those of a directory below the one with this dinode.
+fn check_records(inode: &Inode, parent: u64, records: &[Named<'_>]) -> Result<(), MountFault>
+    ensures distinct { OnOk result (AreDistinct (map said records.now)) }
+    ensures refused { (im : Image) → IsDirectoryIn im inode.now parent → AreRecordsOf im inode.now.block (map said records.now) → IfErr result (RefusesRightly im) }
+    ensures steady { IfErr result IsSteady }
+{
+    check_names(records, inode.block)?;
+    check_twice(records, inode.block)?;
+    check_dot(records, inode.block, b".", inode.block)?;
+    check_dot(records, inode.block, b"..", parent)?;
+    check_counts(inode, records)
+}
+
+/// The records of a directory below the one with its dinode in block `parent`. It looks at whether the directory is
+/// linear, whether the records fill the rest of its block, at their hashes and names, at `.` and `..`, and at the counts
+/// of links and entries.
+pub(crate) fn list_records<'a>(
+    alloc: Global,
+    table: &'a Table,
+    inode: &Inode,
+    parent: u64,
+) -> Result<Vec<Named<'a>>, Stop>
+    ensures found { (im : Image) → IsRead im table.now → IsDirectoryIn im inode.now parent → IfOk result (λ records. AreRecordsOf im inode.now.block (map said records.items)) }
+    ensures distinct { IfOk result (λ records. AreDistinct (map said records.items)) }
+    ensures stops { (im : Image) → IsRead im table.now → IsDirectoryIn im inode.now parent → IfErr result (StopsRightly im) }
+    ensures lacks { IfErr result (LacksBlock table.now) }
+{
+    let bytes = table.get(inode.block, inode.from)?;
+    inode.check_linear(table.block_size())?;
+    let records = read_area(alloc, &bytes[232..], inode.block)?;
+    check_records(inode, parent, &records)?;
+    Ok(records)
+}

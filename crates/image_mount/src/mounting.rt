@@ -1,0 +1,104 @@
+ghost use Rattle.std.specs.Prelude.{◌≡◌, ◌≤◌, ℕ, [], map, IsTrue, OnOk, IfOk, IfErr};
+ghost use Rattle.shared_disk.specs.Disk.{IsIdle};
+ghost use Rattle.gfs2_layout.specs.Device.{IsBlockSize};
+ghost use Rattle.image_model.specs.Image.{Image, image_of};
+ghost use Rattle.image_mount.specs.Mounted.{IsMounted, IsOfProfile, group_of_entry};
+ghost use Rattle.image_mount.specs.Refusals.{RefusesRightly, HasRisen, IsExcused};
+ghost use Rattle.image_mount.specs.Found.{most_blocks};
+ghost use Rattle.image_mount.specs.Rings.{IsSearched};
+ghost use Rattle.image_mount.specs.Searching.{IsSteady, IsWorking};
+ghost use Rattle.image_mount.specs.System.{IsSystemOf};
+
+use crate::fault::MountFault;
+use crate::fetching::go_on;
+use crate::field::Field;
+use crate::journals::{find_journals, find_rings};
+use crate::mounted::Mounted;
+use crate::stop::outside;
+use crate::system::{System, find_system};
+use crate::table::Table;
+use gfs2_layout::Rindex;
+use glock_names::Group;
+use no_memory::NoMemory;
+use shared_disk::SharedDisk;
+use std::alloc::Global;
+
+// That the device has no more blocks than are mounted.
+fn check_device(count: u64) -> Result<(), MountFault>
+    ensures few { OnOk result (count ≤ most_blocks) }
+    ensures refused { (im : Image) → count ≡ im.count → IfErr result (RefusesRightly im) }
+    ensures steady { IfErr result IsSteady }
+{
+    if count > 131_072 {
+        return Err(outside(Field::Device, count));
+    }
+    Ok(())
+}
+
+// What the system files say; their blocks are read, each as it is wanted.
+fn search_system<D: SharedDisk>(
+    alloc: Global,
+    disk: &mut D,
+    table: &mut Table,
+) -> Result<System, MountFault>
+    requires work { IsWorking (D.state disk.old) table.old }
+    ensures work { OnOk result (IsWorking (D.state disk.new) table.new) }
+    ensures found { IfOk result (λ system. IsTrue (D.state disk.old).tells → (D.state disk.old).count ≤ most_blocks → IsSearched (image_of (D.state disk.old)) [] 0 0 table.old → IsSystemOf (image_of (D.state disk.old)) system) }
+    ensures searched { OnOk result (IsTrue (D.state disk.old).tells → (D.state disk.old).count ≤ most_blocks → IsSearched (image_of (D.state disk.old)) [] 0 0 table.old → IsSearched (image_of (D.state disk.old)) [] 0 0 table.new) }
+    ensures refused { IsTrue (D.state disk.old).tells → (D.state disk.old).count ≤ most_blocks → IsSearched (image_of (D.state disk.old)) [] 0 0 table.old → IfErr result (RefusesRightly (image_of (D.state disk.old))) }
+    ensures risen { IfErr result (HasRisen (D.faults disk.old) (D.faults disk.new)) }
+    ensures same { D.state disk.new ≡ D.state disk.old }
+    ensures list { D.list disk.new ≡ D.list disk.old }
+    ensures later { (j : ℕ) → D.faults disk.old j ≤ D.faults disk.new j }
+{
+    let count = disk.blocks();
+    loop {
+        match find_system(alloc, table, count) {
+            Ok(system) => return Ok(system),
+            Err(stop) => go_on(alloc, disk, table, stop)?,
+        }
+    }
+}
+
+// The groups, as the file calls see them.
+fn map_groups(alloc: Global, entries: &[Rindex]) -> Result<Vec<Group>, NoMemory>
+    ensures { IfOk result (λ groups. groups.items ≡ map group_of_entry entries.now) }
+{
+    let mut groups = Vec::with_capacity(alloc, entries.len())?;
+    for entry in entries {
+        groups.push(Group {
+            addr: entry.address,
+            length: entry.length,
+            first: entry.data0,
+            count: entry.data_blocks,
+        })?;
+    }
+    Ok(groups)
+}
+
+/// Mounts the image on an idle disk: reads, as the run itself, the superblock, the master directory, the list of groups,
+/// the directory of journals and each journal, and looks at every field of the profile. No block is read twice, and nothing
+/// is written. It costs a read for each block that the system files have, memory for those of them that lead on, and for
+/// an entry a block of the device.
+pub fn mount_image<D: SharedDisk>(alloc: Global, disk: &mut D) -> Result<Mounted, MountFault>
+    requires idle { IsIdle (D.state disk.old) }
+    requires size { IsBlockSize (D.state disk.old).size }
+    ensures mounted { IfOk result (λ m. IsTrue (D.state disk.old).tells → IsMounted (image_of (D.state disk.old)) m) }
+    ensures refused { IfErr result (λ fault. IsTrue (D.state disk.old).tells → RefusesRightly (image_of (D.state disk.old)) fault) }
+    ensures accepts { IfErr result (λ fault. IsTrue (D.state disk.old).tells → IsOfProfile (image_of (D.state disk.old)) → IsExcused fault) }
+    ensures risen { IfErr result (HasRisen (D.faults disk.old) (D.faults disk.new)) }
+    ensures same { D.state disk.new ≡ D.state disk.old }
+    ensures list { D.list disk.new ≡ D.list disk.old }
+    ensures later { (j : ℕ) → D.faults disk.old j ≤ D.faults disk.new j }
+{
+    check_device(disk.blocks())?;
+    let mut table = Table::new(alloc, disk.block_size(), disk.blocks())?;
+    let system = search_system(alloc, disk, &mut table)?;
+    let rings = find_rings(alloc, disk, &mut table, &system)?;
+    let journals = find_journals(alloc, disk, rings)?;
+    Ok(Mounted {
+        sb: system.superblock,
+        groups: map_groups(alloc, &system.groups)?,
+        journals,
+    })
+}

@@ -1,0 +1,205 @@
+ghost use Rattle.std.specs.Prelude.{ℕ, ◌≡◌, ◌≢◌, ◌<◌, ◌≤◌, ◌↔◌, true, false, length, map, codes, slice_get, Some, IsTrue, IfOk, OnOk, IfErr, IfSome, IfNone};
+ghost use Rattle.std.specs.Option.{option_map};
+ghost use Rattle.gfs2_layout.specs.Device.{superblock_place as place_for};
+ghost use Rattle.gfs2_layout.specs.Records.{Record};
+ghost use Rattle.image_model.specs.Claims.{master_of};
+ghost use Rattle.image_model.specs.Image.{Image};
+ghost use Rattle.image_model.specs.Journals.{journal_name as name_of_journal};
+ghost use Rattle.image_model.specs.Rules.{HasRecords};
+ghost use Rattle.image_model.specs.Stands.{Layout};
+ghost use Rattle.image_mount.specs.Found.{HasFormat, HasGroups, most_blocks, first_other as first_beside};
+ghost use Rattle.image_mount.specs.Groups.{IsNamedIn};
+ghost use Rattle.image_mount.specs.Listing.{said};
+ghost use Rattle.image_mount.specs.Refusals.{RefusesRightly};
+ghost use Rattle.image_mount.specs.declared.fault.MountFault.TheVariants as fault_of;
+ghost use Rattle.image_mount.specs.Searching.{IsRead, IsSteady, StopsRightly, LacksBlock};
+ghost use Rattle.image_mount.specs.System.{AreFilesOf, AreAmong, LacksName, AreNamesOf, AreJournalsAmong, AreJournalsOf, IsSystemOf};
+
+use crate::fault::MountFault;
+use crate::field::Field;
+use crate::formats::{read_superblock, superblock_place};
+use crate::groups::list_groups;
+use crate::inodes::Inode;
+use crate::listing::{Named, count_names, find, list_records};
+use crate::stop::{Stop, damaged, outside};
+use crate::table::Table;
+use gfs2_layout::{Rindex, SuperBlock};
+use glock_names::{Entry, View};
+use std::alloc::Global;
+
+/// What the system files say: the superblock, the list of groups and the block of its dinode, and the journals by their
+/// records in the directory `jindex`, whose dinode is in this block.
+#[derive(Drop)]
+pub(crate) struct System {
+    pub superblock: SuperBlock,
+    pub rindex: u64,
+    pub groups: Vec<Rindex>,
+    pub jindex: u64,
+    pub journals: Vec<Entry>,
+}
+
+// The records of the two files that the master directory names.
+#[derive(Clone, Copy)]
+struct SystemFiles {
+    rindex: Entry,
+    jindex: Entry,
+}
+
+// The first record that has a name beside `.`, `..`, `rindex` and `jindex`.
+fn first_other(records: &[Named<'_>]) -> Option<u64>
+    ensures { result ≡ option_map (λ (r : Record). r.address) (first_beside (map said records.now)) }
+{
+    for record in records {
+        let known = record.name == b"jindex".as_slice() || record.name == b"rindex".as_slice();
+        if record.leads_on() && !known {
+            return Some(record.entry.addr);
+        }
+    }
+    None
+}
+
+// The master directory, which names `rindex` and `jindex` and no other file.
+fn system_files(alloc: Global, table: &Table, place: u64, master: u64) -> Result<SystemFiles, Stop>
+    ensures found { (im : Image) → IsRead im table.now → HasFormat im → place ≡ place_for im.size → master ≡ master_of im → IfOk result (AreFilesOf im) }
+    ensures stops { (im : Image) → IsRead im table.now → HasFormat im → place ≡ place_for im.size → master ≡ master_of im → IfErr result (StopsRightly im) }
+    ensures lacks { IfErr result (LacksBlock table.now) }
+{
+    let inode = Inode::read(table, place, master)?;
+    if !inode.dinode.is_directory() {
+        return Err(Stop::Refused(damaged(master, 18)));
+    }
+    let records = list_records(alloc, table, &inode, master)?;
+    if let Some(other) = first_other(&records) {
+        return Err(Stop::Refused(outside(Field::Master, other)));
+    }
+    let Some(rindex) = find(&records, b"rindex") else {
+        return Err(Stop::Refused(damaged(master, 18)));
+    };
+    let Some(jindex) = find(&records, b"jindex") else {
+        return Err(Stop::Refused(damaged(master, 16)));
+    };
+    Ok(SystemFiles {
+        rindex: rindex.entry,
+        jindex: jindex.entry,
+    })
+}
+
+/// The name of a journal below the tenth.
+fn journal_name(j: u8) -> [u8; 8]
+    requires { j ≤ 9 }
+    ensures { result ≡ name_of_journal j }
+{
+    let mut name = *b"journal0";
+    name[7] += j;
+    name
+}
+
+// Whether the name is that of one of so many journals.
+fn is_journal_name(name: &[u8], count: u8) -> bool
+    requires { count ≤ 8 }
+    ensures found { result ≡ true → (j : ℕ) × (j < count) × (name.now ≡ name_of_journal j) }
+    ensures none { result ≡ false → (j : ℕ) → j < count → name.now ≢ name_of_journal j }
+{
+    for j in 0..count {
+        if name == journal_name(j).as_slice() {
+            return true;
+        }
+    }
+    false
+}
+
+// Whether the records, but for `.` and `..`, have the names of so many journals.
+fn are_journal_names(records: &[Named<'_>], count: u8) -> bool
+    requires { count ≤ 8 }
+    ensures { IsTrue result ↔ AreNamesOf (map said records.now) count }
+{
+    for record in records {
+        if record.leads_on() && !is_journal_name(record.name, count) {
+            return false;
+        }
+    }
+    true
+}
+
+// The records of so many journals, in order; None where one is missing.
+fn journals_in(
+    alloc: Global,
+    records: &[Named<'_>],
+    count: u8,
+) -> Result<Option<Vec<Entry>>, MountFault>
+    requires { count ≤ 8 }
+    ensures found { IfOk result (λ journals. IfSome journals (λ entries. (length entries.items ≡ count) × AreAmong records.now entries.items)) }
+    ensures none { IfOk result (λ journals. IfNone journals ((j : ℕ) × (j < count) × LacksName records.now (name_of_journal j))) }
+    ensures memory { IfErr result (λ fault. fault ≡ fault_of.NoMemory) }
+    ensures steady { IfErr result IsSteady }
+{
+    let mut journals = Vec::new(alloc);
+    for j in 0..count {
+        match find(records, &journal_name(j)) {
+            Some(journal) => journals.push(journal.entry)?,
+            None => return Ok(None),
+        }
+    }
+    Ok(Some(journals))
+}
+
+// The records of the journals, which are one to eight, and beside which there are no names.
+fn check_journals(alloc: Global, records: &[Named<'_>]) -> Result<Vec<Entry>, MountFault>
+    ensures found { IfOk result (λ journals. AreJournalsAmong records.now journals.items) }
+    ensures refused { (im : Image) (l : Layout) → HasGroups im l → HasRecords im l.jindex (map said records.now) → IfErr result (RefusesRightly im) }
+    ensures steady { IfErr result IsSteady }
+{
+    let count = count_names(records);
+    let other = outside(Field::Journals, count);
+    if count == 0 || count > 8 || !are_journal_names(records, count as u8) {
+        return Err(other);
+    }
+    match journals_in(alloc, records, count as u8)? {
+        Some(journals) => Ok(journals),
+        None => Err(other),
+    }
+}
+
+// The directory of journals. A file has no names.
+fn list_journals(
+    alloc: Global,
+    table: &Table,
+    master: u64,
+    jindex: &Entry,
+) -> Result<Vec<Entry>, Stop>
+    ensures found { (im : Image) (l : Layout) → IsRead im table.now → HasGroups im l → l.jindex ≡ jindex.now.addr → IsNamedIn im master (codes "jindex") jindex.now
+        → IfOk result (λ journals. AreJournalsOf im jindex.now.addr journals.items) }
+    ensures stops { (im : Image) (l : Layout) → IsRead im table.now → HasGroups im l → l.jindex ≡ jindex.now.addr → IsNamedIn im master (codes "jindex") jindex.now
+        → IfErr result (StopsRightly im) }
+    ensures lacks { IfErr result (LacksBlock table.now) }
+{
+    let inode = Inode::read(table, master, jindex.addr)?;
+    inode.check_record(jindex)?;
+    if !inode.dinode.is_directory() {
+        return Err(Stop::Refused(outside(Field::Journals, 0)));
+    }
+    let records = list_records(alloc, table, &inode, master)?;
+    let journals = check_journals(alloc, &records)?;
+    Ok(journals)
+}
+
+/// Looks at the system files as far as the journals' records, on a device of so many blocks.
+pub(crate) fn find_system(alloc: Global, table: &Table, count: u64) -> Result<System, Stop>
+    ensures found { (im : Image) → IsRead im table.now → count ≡ im.count → im.count ≤ most_blocks → IfOk result (IsSystemOf im) }
+    ensures stops { (im : Image) → IsRead im table.now → count ≡ im.count → im.count ≤ most_blocks → IfErr result (StopsRightly im) }
+    ensures lacks { IfErr result (LacksBlock table.now) }
+{
+    let superblock = read_superblock(table)?;
+    let master = superblock.master.address;
+    let place = superblock_place(table.block_size());
+    let files = system_files(alloc, table, place, master)?;
+    let groups = list_groups(alloc, table, count, master, &files.rindex)?;
+    let journals = list_journals(alloc, table, master, &files.jindex)?;
+    Ok(System {
+        superblock,
+        rindex: files.rindex.addr,
+        groups,
+        jindex: files.jindex.addr,
+        journals,
+    })
+}
