@@ -1,5 +1,17 @@
-//! Glocks: their names, their states, and who waits for them.
+//! Glocks: their names, their states, and who waits for them. What a node sees under them while it works on a call.
 #![tactic(auto)]
+
+ghost use Rattle.std.specs.Prelude.{◌≡◌, ◌∷◌};
+ghost use Rattle.std.specs.Int.{w64, to_be_bytes};
+
+mod steps;
+mod views;
+
+pub use steps::{CallFault, Entry, Missing, Step};
+pub use views::{Group, View};
+
+#[cfg(test)]
+mod tests;
 
 /// The state in which a node holds a glock: unlocked, shared, deferred or exclusive.
 #[derive(Clone, Copy, Debug, PartialEq, Eq)]
@@ -25,4 +37,14 @@ pub struct Waits {
     pub lock: LockName,
     pub state: State,
     pub holders: u16,
+}
+
+impl LockName {
+    /// The name as nine bytes: the kind, and then the number, the highest byte first.
+    pub fn bytes(&self) -> [u8; 9]
+        ensures { result ≡ self.now.kind ∷ to_be_bytes w64 self.now.number }
+    {
+        let [a, b, c, d, e, f, g, h] = self.number.to_be_bytes();
+        [self.kind, a, b, c, d, e, f, g, h]
+    }
 }

@@ -1,0 +1,82 @@
+#!/bin/sh
+# Times `gfs2run IMAGE TRACE show` on an image of 131,072 blocks of 4096 bytes (512 MiB) with 8 journals, of 1,024 blocks
+# each and of 16,000 each, beside `dd` reading as many blocks as the journals have, which is nearly all that showing reads,
+# and says what share of the time that reading is. Where mkfs.gfs2 and fsck.gfs2 (package gfs2-utils) are there, it times
+# `fsck.gfs2 -n` on an image of that size of their own. The least of five rounds counts. Needs 2 GiB in TMPDIR (else /tmp)
+# and GNU date; PROGRAM may name another program than the one that is built here.
+set -eu
+top=$(cd "$(dirname "$0")/.." && pwd)
+blocks=131072
+size=4096
+rounds=5
+
+if [ -z "${PROGRAM:-}" ]; then
+    (cd "$top/crates/gfs2run" && rt run >/dev/null 2>&1) || true
+    PROGRAM=$top/crates/gfs2run/out/gfs2run
+fi
+if ! [ -x "$PROGRAM" ]; then
+    echo "The program could not be built: see 'rt run' in crates/gfs2run." >&2
+    exit 1
+fi
+
+work=$(mktemp -d)
+trap 'rm -rf "$work"' EXIT
+cd "$work"
+
+# timed COMMAND..: the least of its seconds over all rounds, in `seconds`; where it fails, the script ends with what it said
+timed() {
+    seconds=''
+    round=0
+    while [ $round -lt $rounds ]; do
+        begin=$(date +%s.%N)
+        "$@" >log 2>&1 || {
+            cat log >&2
+            echo "bench/show.sh: '$*' ended with a fault" >&2
+            exit 1
+        }
+        seconds=$(echo "$begin $(date +%s.%N) $seconds" | awk '{ t = $2 - $1; printf "%.3f", ($3 == "" || t < $3) ? t : $3 }')
+        round=$((round + 1))
+    done
+}
+
+show_image() {
+    "$PROGRAM" image trace show </dev/null
+}
+
+read_blocks() {
+    dd if=image of=/dev/null bs=$size count="$1"
+}
+
+echo "seconds for an image of 512 MiB with 8 journals"
+for journal in 1024 16000; do
+    rm -f image
+    truncate -s $((blocks * size)) image
+    "$PROGRAM" image trace mkfs --bsize $size --journals 8 --journal-blocks $journal </dev/null >log || {
+        cat log >&2
+        exit 1
+    }
+    timed show_image
+    show=$seconds
+    timed read_blocks $((8 * journal))
+    awk -v journal=$journal -v show="$show" -v read="$seconds" 'BEGIN {
+        printf "journals of %5d blocks: show %8.3f, dd of as many blocks %8.3f: %3.0f%% of the time\n", journal, show, read, 100 * read / show
+    }'
+done
+
+fsck=$(PATH=$PATH:/sbin:/usr/sbin command -v fsck.gfs2 || true)
+mkfs=$(PATH=$PATH:/sbin:/usr/sbin command -v mkfs.gfs2 || true)
+if [ -z "$fsck" ] || [ -z "$mkfs" ]; then
+    echo "fsck.gfs2 -n: not measured, gfs2-utils is not installed"
+    exit 0
+fi
+rm -f image
+truncate -s $((blocks * size)) image
+"$mkfs" -O -j 8 -J 8 -p lock_nolock image >log 2>&1 || {
+    cat log >&2
+    exit 1
+}
+check_image() {
+    "$fsck" -n image
+}
+timed check_image
+awk -v show="$show" -v check="$seconds" 'BEGIN { printf "fsck.gfs2 -n %8.3f: show takes %.2f times that\n", check, show / check }'

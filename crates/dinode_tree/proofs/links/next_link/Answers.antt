@@ -1,0 +1,12 @@
+use Rattle.dinode_tree.proofs.Dinodes.{lacks}
+use Rattle.dinode_tree.proofs.Pointers.{lacks_indirect, needed_link}
+use Rattle.dinode_tree.proofs.links.next_link.Goals as goal
+
+pub returns-in_default-clause-needed : goal.returns-in_default-clause-needed
+returns-in_default-clause-needed g c h index shown is =
+    needed_link (g.V.View.seen c.args.view.now) h c.args.inode.now index 1 c.args.link.now _ shown c.requires.seen is c.requires.above c.in_default.ensures.none c.missing_block.ensures
+
+pub returns-then-not-has_header-clause-damaged : goal.returns-then-not-has_header-clause-damaged
+returns-then-not-has_header-clause-damaged g c h index shown is =
+    lacks_indirect (g.V.View.seen c.args.view.now) h _ index c.args.link.now c.in-Some.bytes.now _ shown is c.requires.above c.in-Some.ensures.some c.damaged.ensures
+    (lacks c.has_header.result c.has_header.ensures c.if-not-has_header.true)

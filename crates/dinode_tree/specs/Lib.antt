@@ -1,0 +1,4 @@
+pub mod Shown
+pub mod Broken
+pub mod Reading
+pub mod Walking

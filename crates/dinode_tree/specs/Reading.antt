@@ -1,0 +1,59 @@
+-- What is read of an inode.
+use Rattle.std.specs.Prelude.{ℕ, zero, suc, ◌≡◌, ◌≢◌, ◌+◌, ◌*◌, ◌/◌, ◌<◌, ◌≤◌, ◌==◌, ◌&&◌, nat_lt, false, if◌then◌else◌, List, length, take, drop, Option, None, Some}
+use Rattle.gfs2_layout.specs.Holding.{Holding, bytes_at}
+use Rattle.gfs2_layout.specs.Inode.{Leads, dinode_in, height_in, fan, span, unit, content_block, content_count, content_of}
+use Rattle.gfs2_layout.specs.Structures.{dinode_length, is_regular}
+use Rattle.glock_names.specs.Views.{Seen}
+use Rattle.glock_names.specs.declared.LockName.{LockName}
+use Rattle.glock_names.specs.declared.steps.Missing.{Missing}
+
+-- ---- the blocks of content
+
+-- how many blocks of content the pointers of a dinode of this height reach
+abbrev pub reach : ℕ → ℕ → ℕ
+reach size zero = 0
+reach size (suc level) = fan size dinode_length * span size level
+
+-- where a pointer leads; 0 leads nowhere
+abbrev pub target : ℕ → Option ℕ
+target pointer = if pointer == 0 then None else Some pointer
+
+-- the block of content with index i; none is a hole, or lies past what the pointers reach
+abbrev pub block_at : Holding → ℕ → Option ℕ
+block_at h i = if nat_lt i (reach h.size (height_in h)) then target (content_block h i) else None
+
+-- ---- ranges of the content
+
+-- the bytes of the content from `at` on, so many of them or up to its end
+abbrev pub content_range : Holding → ℕ → ℕ → List ℕ
+content_range h at len = take len (drop at (content_of h))
+
+-- the block of content with index i has bytes of this range
+pub record IsInRange (h : Holding) (at len i : ℕ) : Type 0 where
+  pub ends : at < (i + 1) * unit h
+  pub begins : i * unit h < at + len
+  pub within : i < content_count h
+
+-- Each block of content before the one with byte `at` is a whole block, or a hole. It tells at which byte of the content
+-- a block begins; of an inode that is sound all blocks are whole, and from byte 0 on there is nothing to tell.
+abbrev pub AreWholeBefore : Holding → ℕ → Type 0
+AreWholeBefore h at = (i : ℕ) → i < at / unit h → i < content_count h → content_block h i ≢ 0 → length (bytes_at h (content_block h i)) ≡ h.size
+
+-- ---- blocks that are needed
+
+-- the lock that covers an inode's blocks
+abbrev pub inode_lock : ℕ → LockName
+inode_lock a = record { kind = 2; number = a }
+
+-- A block without which the block of content with one of the wanted indexes isn't found, or isn't read: the dinode's, or
+-- one to which a pointer on the way leads, so many levels above content at least.
+pub data IsOnWay (h : Holding) (wanted : ℕ → Type 0) (least : ℕ) (m : Missing) : Type 0 where
+  the_dinode : m.block ≡ h.own → m.from ≡ h.own → m.plain ≡ false → IsOnWay h wanted least m
+  led_to : (i k level first : ℕ) → wanted i → least ≤ level → Leads h m.from k level first m.block → first ≤ i → i < first + span h.size level
+      → m.plain ≡ (level == 0 && is_regular (dinode_in h)) → IsOnWay h wanted least m
+
+-- the view hasn't this block of the inode, which is needed
+pub record IsNeeded (v : Seen) (h : Holding) (wanted : ℕ → Type 0) (least : ℕ) (m : Missing) : Type 0 where
+  pub lock : m.lock ≡ inode_lock h.own
+  pub absent : v.block_at m.block ≡ None
+  pub way : IsOnWay h wanted least m

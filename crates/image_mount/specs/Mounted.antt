@@ -1,0 +1,52 @@
+-- What is told of an image that is mounted.
+use Rattle.std.specs.Prelude.{ℕ, ◌≡◌, List, length, map, slice_get, Some}
+use Rattle.std.specs.List.{range_with_len}
+use Rattle.glock_names.specs.declared.views.Group.{Group}
+use Rattle.gfs2_layout.specs.Inode.{content_block}
+use Rattle.gfs2_layout.specs.Journal.{ring_of, head_in}
+use Rattle.gfs2_layout.specs.declared.log_header.LogHeader.{LogHeader}
+use Rattle.gfs2_layout.specs.declared.rindex.Rindex.{Rindex}
+use Rattle.gfs2_layout.specs.declared.superblock.SuperBlock.{SuperBlock}
+use Rattle.image_model.specs.Claims.{every}
+use Rattle.image_model.specs.Image.{Image, superblock_in}
+use Rattle.image_model.specs.Owners.{Owners}
+use Rattle.image_model.specs.Profile.{IsInProfile}
+use Rattle.image_model.specs.Stands.{Layout, IsLaid, IsJournalAt}
+use Rattle.image_mount.specs.Found.{HasNames}
+
+-- a journal: the block of its dinode, the block at each of its places, and its head
+pub record Journal : Type 0 where
+  pub dinode : ℕ
+  pub blocks : List ℕ
+  pub head : LogHeader
+
+pub record MountedValue : Type 0 where
+  pub superblock : SuperBlock
+  pub groups : List Group
+  pub journals : List Journal
+
+abbrev pub group_of_entry : Rindex → Group
+group_of_entry g = record { addr = g.address; length = g.length; first = g.data0; count = g.data_blocks }
+
+-- the journal whose dinode is in block d, as every block of the image tells it
+pub record IsJournalOf (im : Image) (d : ℕ) (journal : Journal) : Type 0 where
+  pub dinode : journal.dinode ≡ d
+  pub blocks : journal.blocks ≡ map (content_block (every im d)) (range_with_len 0 (ring_of (every im d)).places)
+  pub head : head_in (ring_of (every im d)) ≡ Some journal.head
+
+-- What the image tells is what was mounted, and it is within the profile.
+pub record IsMounted (im : Image) (m : MountedValue) : Type 0 where
+  pub layout : Layout
+  pub found : HasNames im layout
+  pub profile : IsInProfile im layout
+  pub superblock : m.superblock ≡ superblock_in im
+  pub groups : m.groups ≡ map group_of_entry layout.groups
+  pub count : length m.journals ≡ length layout.journals
+  pub journals : (j d : ℕ) (journal : Journal) → IsJournalAt layout j d → slice_get m.journals j ≡ Some journal → IsJournalOf im d journal
+
+-- the image stands, and is one of the profile
+pub record IsOfProfile (im : Image) : Type 0 where
+  pub owners : Owners
+  pub layout : Layout
+  pub laid : IsLaid im owners layout
+  pub profile : IsInProfile im layout

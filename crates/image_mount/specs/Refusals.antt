@@ -1,0 +1,73 @@
+-- Why an image is not mounted.
+use Rattle.std.specs.Prelude.{ℕ, ◌≡◌, ◌≢◌, ◌⊎◌, ⊤, ◌^◌, ◌<◌, ◌≤◌, List, length, Some}
+use Rattle.fault_counts.specs.Causes.{WentUp}
+use Rattle.gfs2_layout.specs.Device.{superblock_place}
+use Rattle.gfs2_layout.specs.Journal.{ring_of, head_in}
+use Rattle.gfs2_layout.specs.Records.{Record}
+use Rattle.gfs2_layout.specs.declared.log_header.LogHeader.{LogHeader}
+use Rattle.image_model.specs.Claims.{every, Claims, LeadsTo, master_of}
+use Rattle.image_model.specs.Groups.{GroupsFit}
+use Rattle.image_model.specs.Image.{Image, superblock_in}
+use Rattle.image_model.specs.Journals.{journal_name}
+use Rattle.image_model.specs.Owners.{Owner}
+use Rattle.image_model.specs.Profile.{group_length}
+use Rattle.image_model.specs.Rules.{Breaks, HasRecords, IsHashedAt}
+use Rattle.image_model.specs.Stands.{Layout, IsJournalAt}
+use Rattle.image_mount.specs.Found.{most_blocks, HasSuper, HasFormat, first_other, HasList, HasMaster, HasGroups, name_count, AreJournalNames, HasNames}
+use Rattle.image_mount.specs.declared.field.Field.{Field}
+use Rattle.image_mount.specs.declared.field.Field.TheVariants as field
+use Rattle.image_mount.specs.declared.fault.MountFault.{MountFault}
+use Rattle.image_mount.specs.declared.fault.MountFault.TheVariants as fault
+
+-- A field in which the image is outside the profile, with what it says there. Mounting looks at the fields in this order, so
+-- each is told only where those before it are within.
+pub data IsOutside (im : Image) : Field → ℕ → Type 0 where
+  device : most_blocks < im.count → IsOutside im field.Device im.count
+  fs_format : HasSuper im → (superblock_in im).fs_format ≢ 1801 → IsOutside im field.FsFormat (superblock_in im).fs_format
+  multihost_format : HasSuper im → (superblock_in im).fs_format ≡ 1801 → (superblock_in im).multihost_format ≢ 1900
+      → IsOutside im field.MultihostFormat (superblock_in im).multihost_format
+  bsize : HasSuper im → (superblock_in im).fs_format ≡ 1801 → (superblock_in im).multihost_format ≡ 1900 → (superblock_in im).bsize ≢ im.size
+      → IsOutside im field.Bsize (superblock_in im).bsize
+  bsize_shift : HasSuper im → (superblock_in im).fs_format ≡ 1801 → (superblock_in im).multihost_format ≡ 1900 → (superblock_in im).bsize ≡ im.size
+      → 2 ^ (superblock_in im).bsize_shift ≢ im.size → IsOutside im field.BsizeShift (superblock_in im).bsize_shift
+  -- the first record in the master directory that is neither `jindex` nor `rindex`, by its block
+  master : (records : List Record) (r : Record) → HasFormat im → HasRecords im (master_of im) records → first_other records ≡ Some r
+      → IsOutside im field.Master r.address
+  -- how many groups are listed
+  groups : (l : Layout) → HasList im l → (length l.groups ≡ 0) ⊎ (64 < length l.groups) → IsOutside im field.Groups (length l.groups)
+  -- how many blocks of headers and bitmaps the groups have
+  group_blocks : (l : Layout) → HasList im l → 1 ≤ length l.groups → length l.groups ≤ 64 → GroupsFit im l.groups → 128 < group_length l.groups
+      → IsOutside im field.GroupBlocks (group_length l.groups)
+  -- how many names `jindex` has, where they aren't those of one to eight journals
+  journals : (l : Layout) (records : List Record) → HasGroups im l → HasRecords im l.jindex records
+      → ((1 ≤ name_count records) × (name_count records ≤ 8) × AreJournalNames records (name_count records) → ⊥) → IsOutside im field.Journals (name_count records)
+  -- how many blocks a journal has
+  journal : (l : Layout) (j d : ℕ) → HasNames im l → IsJournalAt l j d → ((512 ≤ (ring_of (every im d)).places) × ((ring_of (every im d)).places ≤ 65536) → ⊥)
+      → IsOutside im field.Journal (ring_of (every im d)).places
+  -- the sequence of a journal's head
+  sequence : (l : Layout) (j d : ℕ) (head : LogHeader) → HasNames im l → IsJournalAt l j d → head_in (ring_of (every im d)) ≡ Some head → 2 ^ 63 ≤ head.sequence
+      → IsOutside im field.Sequence head.sequence
+
+-- a block that mounting reads: the superblock, or one that it leads to
+abbrev pub IsReached : Image → ℕ → Type 0
+IsReached im b = (b ≡ superblock_place im.size) ⊎ ((by : ℕ) × ((o : Owner) × Claims im by b o))
+
+-- The cause of each refusal in the image. A broken rule behind the superblock is told only where the formats are those of the profile.
+abbrev pub RefusesRightly : Image → MountFault → Type 0
+RefusesRightly im (fault.NotProfile what value) = IsOutside im what value
+RefusesRightly im (fault.Damaged block rule) = Breaks im rule block × ((block ≡ superblock_place im.size) ⊎ HasFormat im)
+RefusesRightly im (fault.DeviceFault block before after) = IsReached im block
+RefusesRightly im (fault.NotBuilt block) = IsHashedAt im block × HasFormat im
+RefusesRightly im fault.NoMemory = ⊤
+
+-- a fault of the disk is told only where the disk's count for the run's own calls rose so
+abbrev pub HasRisen : (ℕ → ℕ) → (ℕ → ℕ) → MountFault → Type 0
+HasRisen before now (fault.DeviceFault block x y) = WentUp (before 0) (now 0) x y
+HasRisen before now _ = ⊤
+
+-- the disk failed, there was no memory, or a directory is not read yet
+abbrev pub IsExcused : MountFault → Type 0
+IsExcused (fault.DeviceFault block before after) = ⊤
+IsExcused (fault.NotBuilt block) = ⊤
+IsExcused fault.NoMemory = ⊤
+IsExcused _ = ⊥

@@ -1,0 +1,50 @@
+use crate::Field;
+use no_memory::NoMemory;
+use std::alloc::{AllocError, AllocFailed};
+
+/// Why an image was not mounted.
+#[derive(Clone, Copy, Debug, PartialEq, Eq)]
+pub enum MountFault {
+    /// This field has this value, and is outside the profile.
+    NotProfile { field: Field, value: u64 },
+    /// This block breaks the rule of this number.
+    Damaged { block: u64, rule: u16 },
+    /// The disk failed at this block, and its count for the run's own calls rose so.
+    DeviceFault { block: u64, before: u64, after: u64 },
+    /// The directory whose dinode is in this block is a hashed one, which is not read yet.
+    NotBuilt { block: u64 },
+    NoMemory,
+}
+
+impl From<NoMemory> for MountFault {
+    ghost use Rattle.std.specs.Prelude.{◌≡◌};
+    ghost use Rattle.image_mount.specs.declared.fault.MountFault.TheVariants.{NoMemory};
+
+    ghost from_gives = { λ _ fault. fault ≡ NoMemory };
+
+    fn from(_: NoMemory) -> Self {
+        MountFault::NoMemory
+    }
+}
+
+impl From<AllocError> for MountFault {
+    ghost use Rattle.std.specs.Prelude.{◌≡◌};
+    ghost use Rattle.image_mount.specs.declared.fault.MountFault.TheVariants.{NoMemory};
+
+    ghost from_gives = { λ _ fault. fault ≡ NoMemory };
+
+    fn from(_: AllocError) -> Self {
+        MountFault::NoMemory
+    }
+}
+
+impl<T: Drop> From<AllocFailed<T>> for MountFault {
+    ghost use Rattle.std.specs.Prelude.{◌≡◌};
+    ghost use Rattle.image_mount.specs.declared.fault.MountFault.TheVariants.{NoMemory};
+
+    ghost from_gives = { λ _ fault. fault ≡ NoMemory };
+
+    fn from(_: AllocFailed<T>) -> Self {
+        MountFault::NoMemory
+    }
+}
