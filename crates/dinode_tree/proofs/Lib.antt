@@ -4,3 +4,4 @@ pub mod Pointers
 pub mod Stepping
 pub mod Ranges
 pub mod Pieces
+pub mod Sound

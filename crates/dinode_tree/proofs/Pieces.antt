@@ -90,12 +90,15 @@ pub unit_small : (h : Holding) (inode : Inode) → IsOf h inode → unit h ≤ h
 unit_small h inode o = omega (arith, unit_same h inode o, unit_most inode, o.size)
 
 -- what the blocks before a byte carry, where they are whole
-pub pieces_of_whole : (h : Holding) (inode : Inode) (at : ℕ) → IsOf h inode → at ≤ inode.dinode.size → AreWholeBefore h at → ArePieces h (at / unit h)
-pieces_of_whole h inode at o within whole i low = elim (cases_eq (content_block h i) 0) [
+pub pieces_of_whole : (h : Holding) (inode : Inode) (at : ℕ) → IsOf h inode → Fits (held inode) → 1 ≤ inode.dinode.height → at ≤ inode.dinode.size → AreWholeBefore h at
+    → ArePieces h (at / unit h)
+pieces_of_whole h inode at o fits below within whole i low = elim (cases_eq (content_block h i) 0) [
   | inl none ↦ ap length (carried_hole h (content_block h i) none) ∙ length-replicate (unit h) 0
   | inr some ↦
+      let counted : i < content_count h = before_end i at (dinode_in h).size (unit h) (unit_some h inode o) (omega (arith, within, size_same h inode o)) low in
+      let reached : i < reach h.size (height_in h) = within_reach h inode i o fits below (omega (arith, counted, count_same h inode o)) in
       ap length (carried_block h (content_block h i) some) ∙ length-drop (h.size - unit h) (bytes_at h (content_block h i))
-      ∙ omega (arith, whole i low (before_end i at (dinode_in h).size (unit h) (unit_some h inode o) (omega (arith, within, size_same h inode o)) low) some, unit_small h inode o)
+      ∙ omega (arith, whole i (content_block h i) low counted (some_within h i (content_block h i) reached refl some), unit_small h inode o)
 ]
 
 module _ (h : Holding) (inode : Inode) (o : IsOf h inode) (some : 1 ≤ inode.dinode.height) (u at end from to : ℕ) (piece : List ℕ)

@@ -1,5 +1,5 @@
 -- What is read of an inode.
-use Rattle.std.specs.Prelude.{ℕ, zero, suc, ◌≡◌, ◌≢◌, ◌+◌, ◌*◌, ◌/◌, ◌<◌, ◌≤◌, ◌==◌, ◌&&◌, nat_lt, false, if◌then◌else◌, List, length, take, drop, Option, None, Some}
+use Rattle.std.specs.Prelude.{ℕ, zero, suc, ◌≡◌, ◌+◌, ◌*◌, ◌/◌, ◌<◌, ◌≤◌, ◌==◌, ◌&&◌, nat_lt, false, if◌then◌else◌, List, length, take, drop, Option, None, Some}
 use Rattle.gfs2_layout.specs.Holding.{Holding, bytes_at}
 use Rattle.gfs2_layout.specs.Inode.{Leads, dinode_in, height_in, fan, span, unit, content_block, content_count, content_of}
 use Rattle.gfs2_layout.specs.Structures.{dinode_length, is_regular}
@@ -37,7 +37,7 @@ pub record IsInRange (h : Holding) (at len i : ℕ) : Type 0 where
 -- Each block of content before the one with byte `at` is a whole block, or a hole. It tells at which byte of the content
 -- a block begins; of an inode that is sound all blocks are whole, and from byte 0 on there is nothing to tell.
 abbrev pub AreWholeBefore : Holding → ℕ → Type 0
-AreWholeBefore h at = (i : ℕ) → i < at / unit h → i < content_count h → content_block h i ≢ 0 → length (bytes_at h (content_block h i)) ≡ h.size
+AreWholeBefore h at = (i b : ℕ) → i < at / unit h → i < content_count h → block_at h i ≡ Some b → length (bytes_at h b) ≡ h.size
 
 -- ---- blocks that are needed
 

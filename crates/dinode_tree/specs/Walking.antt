@@ -47,11 +47,11 @@ missing_dinode a = record { lock = inode_lock a; block = a; plain = false; from 
 abbrev pub carried_all : Holding → List ℕ
 carried_all h = flat_map (λ i. carried h (content_block h i)) (range_with_len 0 (content_count h))
 
--- what the content begins: its block behind the dinode, or what its blocks carry
+-- the bytes that the content is the front of: those behind the dinode, or what its blocks carry
 abbrev pub laid_out : Holding → List ℕ
 laid_out h = if height_in h == 0 then drop dinode_length (bytes_at h h.own) else carried_all h
 
--- so many bytes from a place on of what the content begins
+-- the part of these from one place to another
 abbrev pub laid_range : Holding → ℕ → ℕ → List ℕ
 laid_range h at end = take (end - at) (drop at (laid_out h))
 

@@ -1,4 +1,4 @@
-ghost use Rattle.std.specs.Prelude.{◌≡◌, ◌+◌, ◌-◌, ◌≤◌, length, IfOk, OnOk};
+ghost use Rattle.std.specs.Prelude.{◌≡◌, ◌≢◌, ◌⊎◌, true, ◌+◌, ◌-◌, ◌≤◌, length, IfOk, OnOk};
 ghost use Rattle.gfs2_layout.specs.Structures.{dinode_of};
 ghost use Rattle.gfs2_layout.specs.Holding.{Holding, bytes_at};
 
@@ -24,7 +24,9 @@ pub(crate) struct Inode<'a> {
 }
 
 impl<'a> Inode<'a> {
-    ghost use Rattle.gfs2_layout.specs.Inode.{unit, content_count, is_directory_in, Fits};
+    ghost use Rattle.gfs2_layout.specs.Headers.{HasHeader};
+    ghost use Rattle.gfs2_layout.specs.Structures.{is_directory, is_regular};
+    ghost use Rattle.gfs2_layout.specs.Inode.{unit, content_count, Fits};
     ghost use Rattle.dinode_tree.specs.Reading.{inode_lock};
     ghost use Rattle.dinode_tree.specs.Walking.{held, IsOf};
     ghost use Rattle.dinode_tree.specs.Broken.{IsBroken};
@@ -36,6 +38,7 @@ impl<'a> Inode<'a> {
         requires most { length bytes.now ≤ 4096 }
         ensures block { IfOk result (λ inode. inode.block ≡ block) }
         ensures bytes { IfOk result (λ inode. inode.bytes.now ≡ bytes.now) }
+        ensures header { OnOk result (HasHeader 4 400 bytes.now) }
         ensures damaged { (h : Holding) → h.own ≡ block → bytes_at h h.own ≡ bytes.now → OnlyDamaged result (IsBroken h) }
     {
         if !has_header(bytes, 4, 400) {
@@ -53,6 +56,8 @@ impl<'a> Inode<'a> {
 
     /// That the dinode has its own address and a formal number.
     pub fn check_number(&self) -> Result<(), CallFault>
+        ensures address { OnOk result (self.now.dinode.num.address ≡ self.now.block) }
+        ensures number { OnOk result (self.now.dinode.num.number ≢ 0) }
         ensures damaged { (h : Holding) → IsOf h self.now → OnlyDamaged result (IsBroken h) }
     {
         if self.dinode.num.address != self.block {
@@ -66,6 +71,7 @@ impl<'a> Inode<'a> {
 
     /// That its mode is that of a directory or a regular file.
     pub fn check_mode(&self) -> Result<(), CallFault>
+        ensures mode { OnOk result ((is_directory self.now.dinode ≡ true) ⊎ (is_regular self.now.dinode ≡ true)) }
         ensures damaged { (h : Holding) → IsOf h self.now → OnlyDamaged result (IsBroken h) }
     {
         if self.dinode.is_directory() || self.dinode.is_regular() {

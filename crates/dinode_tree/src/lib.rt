@@ -4,10 +4,17 @@
 mod blocks;
 mod content;
 mod inode;
+mod laws;
 mod links;
 mod looks;
 mod numbers;
 mod reading;
+#[cfg(test)]
+mod tests;
 mod ways;
 
+pub use laws::{
+    all_blocks_are_shown, every_view_shows_an_inode, sound_inodes_are_shown,
+    sound_inodes_are_whole, sound_inodes_break_nothing,
+};
 pub use reading::{place, read_range};

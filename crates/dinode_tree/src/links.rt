@@ -1,7 +1,7 @@
 ghost use Rattle.std.specs.Prelude.{ℕ, ◌≡◌, ◌≢◌, ◌-◌, ◌<◌, ◌≤◌, ◌==◌, ◌&&◌, IfOk, IfErr, OnErr, IfSome, IfNone, length};
 ghost use Rattle.gfs2_layout.specs.Holding.{Holding, bytes_at};
 ghost use Rattle.gfs2_layout.specs.Structures.{is_regular};
-ghost use Rattle.gfs2_layout.specs.Inode.{content_count, Fits};
+ghost use Rattle.gfs2_layout.specs.Inode.{content_count};
 ghost use Rattle.glock_names.specs.Steps.{IfIs, IfNeedBlock, OnlyDamaged};
 ghost use Rattle.dinode_tree.specs.Shown.{IsShown};
 ghost use Rattle.dinode_tree.specs.Broken.{IsBroken};

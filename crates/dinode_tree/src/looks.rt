@@ -1,4 +1,6 @@
-ghost use Rattle.std.specs.Prelude.{◌≡◌, None};
+ghost use Rattle.std.specs.Prelude.{◌≡◌, ◌≢◌, ◌⊎◌, true, None};
+ghost use Rattle.gfs2_layout.specs.Headers.{HasHeader};
+ghost use Rattle.gfs2_layout.specs.Structures.{is_directory, is_regular};
 ghost use Rattle.gfs2_layout.specs.Holding.{Holding};
 ghost use Rattle.gfs2_layout.specs.Inode.{Fits};
 ghost use Rattle.glock_names.specs.Steps.{IfIs, IfNeedBlock, OnlyDamaged};
@@ -14,6 +16,10 @@ use glock_names::{CallFault, Missing, Step, View};
 pub(crate) fn look<V: View>(view: &V, dinode: u64) -> Result<Step<Inode<'_>>, CallFault>
     ensures block { IfIs result (λ inode. inode.block ≡ dinode) }
     ensures seen { IfIs result (λ inode. IsIn (V.seen view.now) inode) }
+    ensures header { IfIs result (λ inode. HasHeader 4 400 inode.bytes.now) }
+    ensures address { IfIs result (λ inode. inode.dinode.num.address ≡ dinode) }
+    ensures number { IfIs result (λ inode. inode.dinode.num.number ≢ 0) }
+    ensures mode { IfIs result (λ inode. (is_directory inode.dinode ≡ true) ⊎ (is_regular inode.dinode ≡ true)) }
     ensures fits { IfIs result (λ inode. Fits (held inode)) }
     ensures needed { IfNeedBlock result (λ missing. missing ≡ missing_dinode dinode) }
     ensures absent { IfNeedBlock result (λ missing. (V.seen view.now).block_at dinode ≡ None) }

@@ -12,7 +12,7 @@ loop-next-init g c = record {
   most = c.requires.order;
   read = λ h shown whole. c.in_ok-bytes.ensures.items ∙ nothing_read h c.args.at;
   pieces = λ h shown whole.
-      pieces_of_whole h c.args.inode.now c.args.at (shown_of (g.V.View.seen c.args.view.now) h c.args.inode.now shown c.requires.seen) (omega (arith, c.requires.order, c.requires.within)) whole;
+      pieces_of_whole h c.args.inode.now c.args.at (shown_of (g.V.View.seen c.args.view.now) h c.args.inode.now shown c.requires.seen) c.requires.fits c.requires.below (omega (arith, c.requires.order, c.requires.within)) whole;
 }
 
 pub loop-next-preserved : goal.loop-next-preserved
