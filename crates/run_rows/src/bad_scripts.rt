@@ -1,5 +1,5 @@
 // Scripts with one wrong word, and what is right beside them. The image has the file `a`, which is `0123456789`.
-use crate::image::{File, disk, image};
+use crate::image::{File, Image, image_of};
 use crate::runs::{Fails, NONE, run};
 use std::alloc::Global;
 use std::process::Abort;
@@ -13,14 +13,15 @@ const FILES: [File<'static>; 1] = [File {
 // A run of this text leaves this status, output and trace.
 fn expect_text(
     rt: &(impl Abort + AllocGlobal),
+    whole: &Image,
     text: &[u8],
     fails: Fails<'_>,
     (status, out, trace): (u8, &[u8], &[u8]),
     row: usize,
 ) -> Result<(), Fail> {
     let a = rt.alloc();
-    let image = image(rt, a, 512, &FILES)?;
-    let left = run(a, disk(rt, a, 512, image, &[])?, text, fails)?;
+    let disk = whole.copy(a)?.disk(rt, a, &[])?;
+    let left = run(a, disk, text, fails)?;
     assert_eq!(rt; left.out.bytes(), out, "row {row}");
     assert_eq!(rt; left.trace.bytes(), trace, "row {row}");
     assert_eq!(rt; left.status, status, "row {row}");
@@ -29,13 +30,14 @@ fn expect_text(
 
 fn expect_bad(
     rt: &(impl Abort + AllocGlobal),
+    whole: &Image,
     text: &[u8],
     line: u32,
     column: u32,
     row: usize,
 ) -> Result<(), Fail> {
     let out = format!(in rt.alloc(); "script: line {line} column {column}\n")?;
-    expect_text(rt, text, NONE, (2, out.as_bytes(), b""), row)
+    expect_text(rt, whole, text, NONE, (2, out.as_bytes(), b""), row)
 }
 
 // These lines behind one another.
@@ -153,18 +155,19 @@ static THIRD_LINES: [(&[u8], u32); 49] = [
 
 #[test]
 fn a_wrong_word_is_told(rt: HostRuntime) -> Result<(), Fail> {
+    let whole = image_of(&rt, rt.alloc(), 512, &FILES)?;
     let a = rt.alloc();
     for (row, (line, column)) in FIRST_LINES.iter().enumerate() {
         let text = joined(a, &[line, SECOND, THIRD])?;
-        expect_bad(&rt, &text, 1, *column, row)?;
+        expect_bad(&rt, &whole, &text, 1, *column, row)?;
     }
     for (row, (line, column)) in SECOND_LINES.iter().enumerate() {
         let text = joined(a, &[FIRST, line, THIRD])?;
-        expect_bad(&rt, &text, 2, *column, row)?;
+        expect_bad(&rt, &whole, &text, 2, *column, row)?;
     }
     for (row, (line, column)) in THIRD_LINES.iter().enumerate() {
         let text = joined(a, &[FIRST, SECOND, line, THIRD])?;
-        expect_bad(&rt, &text, 3, *column, row)?;
+        expect_bad(&rt, &whole, &text, 3, *column, row)?;
     }
     Ok(())
 }
@@ -206,12 +209,13 @@ static FOREIGN: [(&[u8], u32); 8] = [
 
 #[test]
 fn a_text_that_is_no_script_is_told(rt: HostRuntime) -> Result<(), Fail> {
+    let whole = image_of(&rt, rt.alloc(), 512, &FILES)?;
     for (row, (text, line, column)) in TEXTS.iter().enumerate() {
-        expect_bad(&rt, text, *line, *column, row)?;
+        expect_bad(&rt, &whole, text, *line, *column, row)?;
     }
     for (row, (text, line)) in FOREIGN.iter().enumerate() {
         let out = format!(in rt.alloc(); "not built: line {line}\n")?;
-        expect_text(&rt, text, NONE, (20, out.as_bytes(), b""), row)?;
+        expect_text(&rt, &whole, text, NONE, (20, out.as_bytes(), b""), row)?;
     }
     Ok(())
 }
@@ -231,6 +235,7 @@ static RIGHT: [(&str, &str); 8] = [
 // The last line lacks its newline.
 #[test]
 fn a_last_line_lacks_its_newline(rt: HostRuntime) -> Result<(), Fail> {
+    let whole = image_of(&rt, rt.alloc(), 512, &FILES)?;
     let a = rt.alloc();
     for (row, (call, reply)) in RIGHT.iter().enumerate() {
         let text = format!(in a; "nodes 1\nclient c on 1\nc: {call}")?;
@@ -239,7 +244,7 @@ fn a_last_line_lacks_its_newline(rt: HostRuntime) -> Result<(), Fail> {
         )?;
         let trace = format!(in a; "join 1\ncall 1 c 1 {call} = {reply}\nunmount 1\n")?;
         let want = (0, out.as_bytes(), trace.as_bytes());
-        expect_text(&rt, text.as_bytes(), NONE, want, row)?;
+        expect_text(&rt, &whole, text.as_bytes(), NONE, want, row)?;
     }
     Ok(())
 }
@@ -270,9 +275,10 @@ static PATHS: [(&[u32], u8, &[u8]); 6] = [
 
 #[test]
 fn a_path_that_is_too_long_is_told(rt: HostRuntime) -> Result<(), Fail> {
+    let whole = image_of(&rt, rt.alloc(), 512, &FILES)?;
     for (row, (lengths, status, out)) in PATHS.iter().enumerate() {
         let text = path_text(rt.alloc(), lengths)?;
-        expect_text(&rt, &text, NONE, (*status, out, b""), row)?;
+        expect_text(&rt, &whole, &text, NONE, (*status, out, b""), row)?;
     }
     Ok(())
 }
@@ -306,11 +312,12 @@ fn waits(alloc: Global, third: &[u8]) -> Result<Vec<u8>, Fail> {
 
 #[test]
 fn a_failing_source_is_told(rt: HostRuntime) -> Result<(), Fail> {
+    let whole = image_of(&rt, rt.alloc(), 512, &FILES)?;
     let text = waits(rt.alloc(), b"")?;
     for (row, (calls, want)) in FAILING.iter().enumerate() {
-        expect_text(&rt, &text, [calls, &[], &[]], *want, row)?;
+        expect_text(&rt, &whole, &text, [calls, &[], &[]], *want, row)?;
     }
     // The fault is told, and not what is wrong in the text before it.
     let text = waits(rt.alloc(), b"Wait\n")?;
-    expect_text(&rt, &text, [&[2], &[], &[]], FAULT, 100)
+    expect_text(&rt, &whole, &text, [&[2], &[], &[]], FAULT, 100)
 }

@@ -1,5 +1,5 @@
 // A disk and sinks that fail at each of their calls in turn. The root has the files `b` and `a`, in this order.
-use crate::image::{File, SIZES, block_number, disk, image};
+use crate::image::{File, Image, SIZES, Spot, image_of};
 use crate::runs::{Fails, Left, NONE, Told, expect_told, run};
 use std::alloc::Global;
 use std::process::Abort;
@@ -25,9 +25,15 @@ static CALLS: [(&str, &str); 6] = [
     ("read /a 9 5", "data 39"),
 ];
 
-// Where the disk's calls are: the node, the block, counted from the superblock's, and how many lines are answered before.
-// A list reads nothing, nor does the read of a file that is not there.
-static READS: [(u8, u64, usize); 5] = [(0, 0, 0), (0, 2, 0), (1, 4, 0), (1, 3, 2), (1, 4, 5)];
+// Where the disk's calls are: the node, the block, and how many lines are answered before. A list reads nothing, nor does
+// the read of a file that is not there.
+static READS: [(u8, Spot, usize); 5] = [
+    (0, Spot::Super, 0),
+    (0, Spot::Root, 0),
+    (1, Spot::File(1), 0),
+    (1, Spot::File(0), 2),
+    (1, Spot::File(1), 5),
+];
 
 // What the run is to leave, of which so many lines are answered.
 fn told_of(alloc: Global, answered: usize) -> Result<Told, Fail> {
@@ -41,31 +47,27 @@ fn told_of(alloc: Global, answered: usize) -> Result<Told, Fail> {
     Ok(told)
 }
 
-// Runs all calls on a disk whose calls of these numbers fail.
+// Runs all calls on a disk of this image whose calls of these numbers fail.
 fn check(
     rt: &(impl Abort + AllocGlobal),
-    size: u32,
+    whole: &Image,
     fails: &[u64],
     told: &Told,
     row: usize,
 ) -> Result<(), Fail> {
     let a = rt.alloc();
-    let image = image(rt, a, size, &FILES)?;
-    let left = run(
-        a,
-        disk(rt, a, size, image, fails)?,
-        told.script.as_bytes(),
-        NONE,
-    )?;
-    expect_told(rt, &left, told, size, row);
+    let disk = whole.copy(a)?.disk(rt, a, fails)?;
+    let left = run(a, disk, told.script.as_bytes(), NONE)?;
+    expect_told(rt, &left, told, whole.size, row);
     Ok(())
 }
 
 fn check_reads(rt: &(impl Abort + AllocGlobal), size: u32) -> Result<(), Fail> {
     let a = rt.alloc();
+    let whole = image_of(rt, a, size, &FILES)?;
     let mut call = 1u64;
-    for (row, (node, block, answered)) in READS.iter().enumerate() {
-        let block = block_number(rt, size, *block);
+    for (row, (node, spot, answered)) in READS.iter().enumerate() {
+        let block = whole.number(rt, *spot);
         let line = format!(in a; "device fault: node {node} block {block} count 0 to 1")?;
         let mut told = told_of(a, *answered)?;
         if *node == 0 {
@@ -74,13 +76,13 @@ fn check_reads(rt: &(impl Abort + AllocGlobal), size: u32) -> Result<(), Fail> {
             told.end(5, line.as_str())?;
         }
         // A call that is not reached may fail as well.
-        check(rt, size, &[call], &told, row)?;
-        check(rt, size, &[call.saturating_add(1), call], &told, row)?;
+        check(rt, &whole, &[call], &told, row)?;
+        check(rt, &whole, &[call.saturating_add(1), call], &told, row)?;
         call = call.saturating_add(1);
     }
     let mut told = told_of(a, CALLS.len())?;
     told.done()?;
-    check(rt, size, &[call], &told, 100)
+    check(rt, &whole, &[call], &told, 100)
 }
 
 #[test]
@@ -106,18 +108,24 @@ fn long_run(alloc: Global) -> Result<Told, Fail> {
 
 static FULL: [u8; 3864] = [b'f'; 3864];
 
-fn run_long(
-    rt: &(impl Abort + AllocGlobal),
-    script: &[u8],
-    fails: Fails<'_>,
-) -> Result<Left, Fail> {
-    let a = rt.alloc();
+// An image whose file `f` fills its block.
+fn full_image(rt: &(impl Abort + AllocGlobal)) -> Result<Image, Fail> {
     let files = [File {
         name: b"f",
         content: &FULL,
     }];
-    let image = image(rt, a, 4096, &files)?;
-    run(a, disk(rt, a, 4096, image, &[])?, script, fails)
+    image_of(rt, rt.alloc(), 4096, &files)
+}
+
+fn run_long(
+    rt: &(impl Abort + AllocGlobal),
+    whole: &Image,
+    script: &[u8],
+    fails: Fails<'_>,
+) -> Result<Left, Fail> {
+    let a = rt.alloc();
+    let disk = whole.copy(a)?.disk(rt, a, &[])?;
+    run(a, disk, script, fails)
 }
 
 // What has come is a front of all, and not all.
@@ -131,13 +139,14 @@ const CHUNKS: u64 = 3;
 
 #[test]
 fn a_trace_fails_at_each_call_in_turn(rt: HostRuntime) -> Result<(), Fail> {
+    let whole = full_image(&rt)?;
     let mut told = long_run(rt.alloc())?;
     told.end(7, "trace fault: count 0 to 1")?;
     told.trace.push_str("unmount 1\n")?;
     let mut before = 0usize;
     for call in 1..=CHUNKS {
         let fails = [call, call + 1];
-        let left = run_long(&rt, told.script.as_bytes(), [&[], &fails, &[]])?;
+        let left = run_long(&rt, &whole, told.script.as_bytes(), [&[], &fails, &[]])?;
         expect_front(&rt, left.trace.bytes(), told.trace.as_bytes());
         let come = left.trace.bytes().len();
         assert!(rt; call == 1 || come.saturating_sub(before) >= 65_536);
@@ -150,20 +159,21 @@ fn a_trace_fails_at_each_call_in_turn(rt: HostRuntime) -> Result<(), Fail> {
 
 #[test]
 fn an_output_fails_at_each_call_in_turn(rt: HostRuntime) -> Result<(), Fail> {
+    let whole = full_image(&rt)?;
     let mut told = long_run(rt.alloc())?;
     told.done()?;
     for call in 1..=CHUNKS {
         let fails = [call];
-        let left = run_long(&rt, told.script.as_bytes(), [&[], &[], &fails])?;
+        let left = run_long(&rt, &whole, told.script.as_bytes(), [&[], &[], &fails])?;
         expect_front(&rt, left.out.bytes(), told.out.as_bytes());
         assert_eq!(rt; left.trace.bytes(), told.trace.as_bytes());
         assert_eq!(rt; left.status, 7);
     }
     // No sink has a call past these.
-    let left = run_long(&rt, told.script.as_bytes(), [&[], &[4], &[4]])?;
+    let left = run_long(&rt, &whole, told.script.as_bytes(), [&[], &[4], &[4]])?;
     expect_told(&rt, &left, &told, 4096, 100);
     // Where both fail, the trace's fault is told.
-    let left = run_long(&rt, told.script.as_bytes(), [&[], &[3], &[1]])?;
+    let left = run_long(&rt, &whole, told.script.as_bytes(), [&[], &[3], &[1]])?;
     expect_front(&rt, left.trace.bytes(), told.trace.as_bytes());
     assert!(rt; left.out.bytes().is_empty());
     assert_eq!(rt; left.status, 7);

@@ -1,5 +1,5 @@
 // Flat images of the four block sizes, and what a client reads from them.
-use crate::image::{File, SIZES, disk, image};
+use crate::image::{File, SIZES, image_of};
 use crate::runs::{NONE, Told, expect_told, run};
 use std::alloc::Global;
 use std::process::Abort;
@@ -14,8 +14,7 @@ fn check(
 ) -> Result<(), Fail> {
     let a = rt.alloc();
     told.done()?;
-    let image = image(rt, a, size, files)?;
-    let disk = disk(rt, a, size, image, &[])?;
+    let disk = image_of(rt, a, size, files)?.disk(rt, a, &[])?;
     let left = run(a, disk, told.script.as_bytes(), NONE)?;
     expect_told(rt, &left, told, size, files.len());
     Ok(())

@@ -1,128 +1,18 @@
-// Images that break their form in one field, and the block at which that is told; and what may stand in the fields that
-// are not looked at. The root has the files `b` and `a`, in this order.
-use crate::image::{File, SIZES, SUPERBLOCK, block_number, disk, image, place, put};
-use crate::runs::{NONE, Told, expect_told, run};
-use std::alloc::Global;
-use std::process::Abort;
+// Images that break their form in one field of the root or of a file, and the block at which that is told; and what may stand
+// in the fields that are not looked at.
+use crate::image::SIZES;
+use crate::rows::End::{Done, NoCall, NoCallAt, NoMount};
+use crate::rows::Value::{AreaAnd, AreaLess, Block, Bytes};
+use crate::rows::{
+    A, ALL, B, GROUP, LAST, ONES, PAST, ROOT, Row, SUPER, UNUSED, ZEROS, check_rows, row_image,
+};
 use std::test::Fail;
-
-const FILES: [File<'static>; 2] = [
-    File {
-        name: b"b",
-        content: b"hello",
-    },
-    File {
-        name: b"a",
-        content: b"0123456789",
-    },
-];
-
-const CALLS: [&str; 4] = ["read /a 0 5", "list /", "read /b 0 5", "list /b"];
-
-// What is put: bytes; the number of a block that is counted from the superblock's; or that of the bytes behind a dinode
-// less so many, as a record's length, or and so many, as a size.
-#[derive(Clone, Copy, Drop)]
-enum Value {
-    Bytes(&'static [u8]),
-    Block(u64),
-    AreaLess(u32),
-    AreaAnd(u32),
-}
-
-use Value::{AreaAnd, AreaLess, Block, Bytes};
-
-// The block, counted from the superblock's, the offset in it, and what is put there.
-type Patch = (u64, u32, Value);
-
-// How the run ends: it is done; or it refuses a block when it mounts, or when it calls. The block is counted from the
-// superblock's, and from the disk's first under `NoMountAt` and `NoCallAt`.
-#[derive(Clone, Copy, Drop)]
-enum End {
-    Done,
-    NoMount(u64),
-    NoMountAt(u64),
-    NoCall(u64),
-    NoCallAt(u64),
-}
-
-use End::{Done, NoCall, NoCallAt, NoMount, NoMountAt};
-
-const LAST: u64 = u64::MAX;
-
-// What is put over the image, the replies, and the end.
-type Row = (&'static [Patch], &'static [&'static str], End);
-
-const SUPER: u64 = 0;
-
-const ROOT: u64 = 2;
-
-const B: u64 = 3;
-
-const A: u64 = 4;
-
-// The block behind the files, and the number of blocks.
-const UNUSED: u64 = 5;
-
-const PAST: u64 = 6;
-
-const ALL: [&str; 4] = [
-    "data 3031323334",
-    "names 2 a b",
-    "data 68656c6c6f",
-    "notdir",
-];
 
 const WITHOUT_B: [&str; 4] = ["data 3031323334", "names 1 a", "notfound", "notfound"];
 
 const UP_TO_B: [&str; 2] = ["data 3031323334", "names 2 a b"];
 
 const A_ALONE: [&str; 1] = ["data 3031323334"];
-
-const ONES: Value = Bytes(&[0xff; 8]);
-
-const ZEROS: Value = Bytes(&[0; 8]);
-
-static SUPERBLOCKS: [Row; 18] = [
-    (&[], &ALL, Done),
-    // The magic number, the kind and the format.
-    (&[(SUPER, 0, Bytes(b"\x00"))], &[], NoMount(SUPER)),
-    (&[(SUPER, 3, Bytes(b"\x71"))], &[], NoMount(SUPER)),
-    (&[(SUPER, 4, Bytes(b"\x01"))], &[], NoMount(SUPER)),
-    (&[(SUPER, 7, Bytes(b"\x04"))], &[], NoMount(SUPER)),
-    (&[(SUPER, 16, Bytes(b"\x01"))], &[], NoMount(SUPER)),
-    (&[(SUPER, 19, Bytes(b"\x65"))], &[], NoMount(SUPER)),
-    // The block size: 0, none of the four, and one that is right but for its highest byte.
-    (
-        &[(SUPER, 36, Bytes(b"\x00\x00\x00\x00"))],
-        &[],
-        NoMount(SUPER),
-    ),
-    (
-        &[(SUPER, 36, Bytes(b"\x00\x00\x03\x00"))],
-        &[],
-        NoMount(SUPER),
-    ),
-    (&[(SUPER, 36, Bytes(b"\x01"))], &[], NoMount(SUPER)),
-    // The root's block: the first one past the device, the last number, and blocks that hold no directory.
-    (&[(SUPER, 88, Block(PAST))], &[], NoMount(PAST)),
-    (&[(SUPER, 88, ONES)], &[], NoMountAt(LAST)),
-    (&[(SUPER, 88, ZEROS)], &[], NoMountAt(0)),
-    (&[(SUPER, 88, Block(SUPER))], &[], NoMount(SUPER)),
-    (&[(SUPER, 88, Block(1))], &[], NoMount(1)),
-    (&[(SUPER, 88, Block(B))], &[], NoMount(B)),
-    (&[(SUPER, 88, Block(UNUSED))], &[], NoMount(UNUSED)),
-    // What is not looked at.
-    (
-        &[
-            (SUPER, 8, ONES),
-            (SUPER, 20, Bytes(&[0xff; 16])),
-            (SUPER, 40, Bytes(&[0xff; 48])),
-            (SUPER, 96, Bytes(&[0xff; 176])),
-        ],
-        &ALL,
-        Done,
-    ),
-];
 
 static ROOTS: [Row; 24] = [
     (&[(ROOT, 0, Bytes(b"\x00"))], &[], NoMount(ROOT)),
@@ -355,7 +245,7 @@ static FILE_BLOCKS: [Row; 33] = [
     (&[(ROOT, 336, Block(PAST))], &UP_TO_B, NoCall(PAST)),
     (&[(ROOT, 336, ONES)], &UP_TO_B, NoCallAt(LAST)),
     (&[(ROOT, 336, Block(SUPER))], &UP_TO_B, NoCall(SUPER)),
-    (&[(ROOT, 336, Block(1))], &UP_TO_B, NoCall(1)),
+    (&[(ROOT, 336, Block(GROUP))], &UP_TO_B, NoCall(GROUP)),
     (&[(ROOT, 336, Block(ROOT))], &UP_TO_B, NoCall(ROOT)),
     (&[(ROOT, 336, Block(UNUSED))], &UP_TO_B, NoCall(UNUSED)),
     (
@@ -421,152 +311,18 @@ static FILE_BLOCKS: [Row; 33] = [
     ),
 ];
 
-fn put_value(rt: &impl Abort, image: &mut Vec<u8>, size: u32, at: usize, value: Value) {
-    let area = size.saturating_sub(232);
-    match value {
-        Bytes(bytes) => put(rt, image, at, bytes),
-        Block(block) => put(rt, image, at, &block_number(rt, size, block).to_be_bytes()),
-        AreaLess(less) => {
-            let length = area.saturating_sub(less);
-            assert!(rt; length < 65_536);
-            put(rt, image, at, &(length as u16).to_be_bytes());
-        }
-        AreaAnd(more) => {
-            let length = u64::from(area.saturating_add(more));
-            put(rt, image, at, &length.to_be_bytes());
-        }
-    }
-}
-
-fn put_patches(rt: &impl Abort, image: &mut Vec<u8>, size: u32, patches: &[Patch]) {
-    for (block, offset, value) in patches {
-        let at = place(size, *block).saturating_add(*offset as usize);
-        put_value(rt, image, size, at, *value);
-    }
-}
-
-// The line that tells that a block is refused.
-fn refusal(alloc: Global, block: u64) -> Result<String, Fail> {
-    Ok(format!(in alloc; "not built: block {block}")?)
-}
-
-fn tell_end(
-    rt: &impl Abort,
-    alloc: Global,
-    told: &mut Told,
-    size: u32,
-    end: End,
-) -> Result<(), Fail> {
-    match end {
-        Done => told.done(),
-        NoMount(block) => {
-            told.refuse(20, refusal(alloc, block_number(rt, size, block))?.as_str())
-        }
-        NoMountAt(block) => told.refuse(20, refusal(alloc, block)?.as_str()),
-        NoCall(block) => told.end(20, refusal(alloc, block_number(rt, size, block))?.as_str()),
-        NoCallAt(block) => told.end(20, refusal(alloc, block)?.as_str()),
-    }
-}
-
-// What the run of all calls is to leave, of which the first are answered.
-fn told_of(
-    rt: &impl Abort,
-    alloc: Global,
-    size: u32,
-    replies: &[&str],
-    end: End,
-) -> Result<Told, Fail> {
-    let mut told = Told::joined(alloc)?;
-    for call in CALLS {
-        told.ask(call)?;
-    }
-    for (call, reply) in CALLS.iter().zip(replies) {
-        told.answer(call, reply)?;
-    }
-    tell_end(rt, alloc, &mut told, size, end)?;
-    Ok(told)
-}
-
-fn check(
-    rt: &(impl Abort + AllocGlobal),
-    image: Vec<u8>,
-    size: u32,
-    replies: &[&str],
-    end: End,
-    row: usize,
-) -> Result<(), Fail> {
-    let a = rt.alloc();
-    let told = told_of(rt, a, size, replies, end)?;
-    let left = run(
-        a,
-        disk(rt, a, size, image, &[])?,
-        told.script.as_bytes(),
-        NONE,
-    )?;
-    expect_told(rt, &left, &told, size, row);
-    Ok(())
-}
-
-fn check_rows(
-    rt: &(impl Abort + AllocGlobal),
-    size: u32,
-    first: usize,
-    rows: &[Row],
-) -> Result<(), Fail> {
-    let mut row = first;
-    for (patches, replies, end) in rows {
-        let mut bytes = image(rt, rt.alloc(), size, &FILES)?;
-        put_patches(rt, &mut bytes, size, patches);
-        check(rt, bytes, size, replies, *end, row)?;
-        row = row.saturating_add(1);
-    }
-    Ok(())
-}
-
 #[test]
 fn a_field_of_another_form_is_told(rt: HostRuntime) -> Result<(), Fail> {
     for size in SIZES {
-        check_rows(&rt, size, 0, &SUPERBLOCKS)?;
-        check_rows(&rt, size, 100, &ROOTS)?;
-        check_rows(&rt, size, 200, &LENGTHS)?;
-        check_rows(&rt, size, 300, &KINDS)?;
-        check_rows(&rt, size, 400, &NAMES)?;
-        check_rows(&rt, size, 500, &FILE_BLOCKS)?;
+        let whole = row_image(&rt, size)?;
+        check_rows(&rt, &whole, 100, &ROOTS)?;
+        check_rows(&rt, &whole, 200, &LENGTHS)?;
+        check_rows(&rt, &whole, 300, &KINDS)?;
+        check_rows(&rt, &whole, 400, &NAMES)?;
+        check_rows(&rt, &whole, 500, &FILE_BLOCKS)?;
         if size > 512 {
-            check_rows(&rt, size, 600, &LONG_NAMES)?;
+            check_rows(&rt, &whole, 600, &LONG_NAMES)?;
         }
-    }
-    Ok(())
-}
-
-// How many bytes of the image the device has: those before the superblock's block, and so many blocks from there on.
-static CUTS: [(usize, u64, End); 8] = [
-    (0, 0, NoMount(SUPER)),
-    (0, 1, NoMount(SUPER)),
-    (SUPERBLOCK, 0, NoMount(SUPER)),
-    (SUPERBLOCK, 1, NoMount(ROOT)),
-    (SUPERBLOCK, 2, NoMount(ROOT)),
-    (SUPERBLOCK, 3, NoCall(A)),
-    (SUPERBLOCK, 4, NoCall(A)),
-    (SUPERBLOCK, 5, Done),
-];
-
-#[test]
-fn a_device_that_ends_early_is_told(rt: HostRuntime) -> Result<(), Fail> {
-    for size in SIZES {
-        for (row, (before, blocks, end)) in CUTS.iter().enumerate() {
-            let mut bytes = image(&rt, rt.alloc(), size, &FILES)?;
-            let length = (*blocks as usize).saturating_mul(size as usize);
-            bytes.truncate(before.saturating_add(length));
-            let replies = if matches!(end, Done) {
-                &ALL[..]
-            } else {
-                &ALL[..0]
-            };
-            check(&rt, bytes, size, replies, *end, row)?;
-        }
-        let zeros = vec![in rt.alloc(); 0u8; place(size, PAST)]?;
-        check(&rt, zeros, size, &[], NoMount(SUPER), 100)?;
     }
     Ok(())
 }

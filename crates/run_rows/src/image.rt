@@ -1,11 +1,19 @@
-// Images on a disk in memory. With the superblock's block, that of byte 65,536, counted as 0, the root is in block 2 and
-// the files are in the blocks from 3 on, in the order of their records. One block is behind them.
+// Images on a disk in memory that stand for a tree: made with one journal of 512 blocks and one group, and with files put
+// into the root.
+//
+// With the superblock's block, that of byte 65,536, counted as 0, the group's header is in block 1, the master directory in
+// block 2, the root in block 3, the list of groups in block 4, the directory of journals in block 5, and the journal in
+// block 6 and those behind it: its blocks of pointers and its 512 blocks. The files follow, in the order of their records,
+// and free blocks: one, and as many more as make the group's data blocks a multiple of 4.
 ghost use Rattle.std.specs.Prelude.{IfOk};
 ghost use Rattle.shared_disk.specs.Disk.{IsIdle};
 ghost use Rattle.shared_disk.specs.Memory.{memory_state};
 ghost use Rattle.gfs2_layout.specs.Device.{IsBlockSize};
 
-use shared_disk::MemDisk;
+use crc_words::crc32;
+use gfs2_layout::{Dinode, Dirent, GroupHeader, Inum, is_area, put_record, put_state};
+use mkgfs2_tool::{MakeOptions, make};
+use shared_disk::{MemDisk, SharedDisk};
 use std::alloc::Global;
 use std::process::Abort;
 use std::test::Fail;
@@ -15,13 +23,21 @@ pub(crate) const SIZES: [u32; 4] = [512, 1024, 2048, 4096];
 /// Where the superblock is, in bytes.
 pub(crate) const SUPERBLOCK: usize = 65_536;
 
-/// The root's block, counted from the superblock's.
-pub(crate) const ROOT: u64 = 2;
+// The first data block of the group, and the journal's dinode, counted from the superblock's block.
+const DATA: u64 = 2;
 
-/// That of the first file.
-const FILES: u64 = 3;
+const JOURNAL: u64 = 6;
 
-const FORMAL: u64 = 2;
+// The formal number of the first file: the dinodes before it have those from 1 to 5.
+const FIRST_NUMBER: u64 = 6;
+
+const OPTIONS: MakeOptions = MakeOptions {
+    journals: 1,
+    journal_blocks: 512,
+    groups: 1,
+    uuid: [7; 16],
+    time: 1_700_000_000,
+};
 
 #[derive(Clone, Copy, Drop)]
 pub(crate) struct File<'a> {
@@ -29,177 +45,257 @@ pub(crate) struct File<'a> {
     pub content: &'a [u8],
 }
 
+/// A block of an image, by what it holds. Files count from 0, in the order of their records.
 #[derive(Clone, Copy, Drop)]
-struct Record<'a> {
-    name: &'a [u8],
-    number: u64,
-    block: u64,
-    kind: u16,
+pub(crate) enum Spot {
+    Super,
+    Group,
+    Root,
+    File(u64),
+    /// The first free block, behind the files.
+    Behind,
+    /// The first block past the device.
+    Past,
 }
 
-/// The number of a block on the disk that is counted from the superblock's.
-pub(crate) fn block_number(rt: &impl Abort, size: u32, block: u64) -> u64 {
-    assert!(rt; size > 0);
-    (65_536 / u64::from(size)).saturating_add(block)
+/// An image: its bytes, how large its blocks are, and how many files its root has.
+#[derive(Drop)]
+pub(crate) struct Image {
+    pub bytes: Vec<u8>,
+    pub size: u32,
+    files: u64,
 }
 
-/// The place in bytes of a block that is counted from the superblock's.
-pub(crate) fn place(size: u32, block: u64) -> usize {
-    SUPERBLOCK.saturating_add((block as usize).saturating_mul(size as usize))
+// How many blocks of pointers the journal has: one of them has 61, 125, 253 or 509 pointers.
+fn pointer_blocks(size: u32) -> u64 {
+    match size {
+        512 => 9,
+        1024 => 5,
+        2048 => 3,
+        _ => 2,
+    }
 }
 
-/// Puts bytes over those at a place.
-pub(crate) fn put(rt: &impl Abort, image: &mut Vec<u8>, at: usize, part: &[u8]) {
-    assert!(rt; at <= image.len() && part.len() <= image.len() - at);
-    image[at..at + part.len()].copy_from_slice(part);
+// The first file's block, counted from the superblock's.
+fn first_file(size: u32) -> u64 {
+    pointer_blocks(size).saturating_add(JOURNAL + 1 + 512)
 }
 
-// Puts bytes at an offset from a place.
-fn put_at(rt: &impl Abort, image: &mut Vec<u8>, place: usize, offset: usize, part: &[u8]) {
-    put(rt, image, place.saturating_add(offset), part);
+// How many data blocks the group has, for so many files and a free block.
+fn data_blocks(size: u32, files: u64) -> u64 {
+    let taken = first_file(size).saturating_sub(DATA).saturating_add(files);
+    (taken / 4).saturating_add(1).saturating_mul(4)
 }
 
-fn put_head(rt: &impl Abort, image: &mut Vec<u8>, at: usize, kind: u32, format: u32) {
-    put_at(rt, image, at, 0, b"\x01\x16\x19\x70");
-    put_at(rt, image, at, 4, &kind.to_be_bytes());
-    put_at(rt, image, at, 16, &format.to_be_bytes());
+// The number of a block, counted from the superblock's.
+fn behind_super(size: u32, files: u64, spot: Spot) -> u64 {
+    match spot {
+        Spot::Super => 0,
+        Spot::Group => 1,
+        Spot::Root => 3,
+        Spot::File(index) => first_file(size).saturating_add(index),
+        Spot::Behind => first_file(size).saturating_add(files),
+        Spot::Past => data_blocks(size, files).saturating_add(DATA),
+    }
 }
 
-fn put_inum(rt: &impl Abort, image: &mut Vec<u8>, at: usize, number: u64, address: u64) {
-    put_at(rt, image, at, 0, &number.to_be_bytes());
-    put_at(rt, image, at, 8, &address.to_be_bytes());
-}
+impl Image {
+    /// The number of a block on the disk.
+    pub(crate) fn number(&self, rt: &impl Abort, spot: Spot) -> u64 {
+        assert!(rt; self.size > 0);
+        (65_536 / u64::from(self.size)).saturating_add(behind_super(self.size, self.files, spot))
+    }
 
-fn put_superblock(rt: &impl Abort, image: &mut Vec<u8>, size: u32) {
-    put_head(rt, image, SUPERBLOCK, 1, 100);
-    put_at(rt, image, SUPERBLOCK, 36, &size.to_be_bytes());
-    let root = block_number(rt, size, ROOT);
-    put_inum(rt, image, SUPERBLOCK.saturating_add(80), FORMAL, root);
-}
+    /// The place of a block in bytes.
+    pub(crate) fn place(&self, spot: Spot) -> usize {
+        let behind = behind_super(self.size, self.files, spot) as usize;
+        SUPERBLOCK.saturating_add(behind.saturating_mul(self.size as usize))
+    }
 
-// A dinode in its block, with this mode and so many bytes behind it.
-fn put_dinode(rt: &impl Abort, image: &mut Vec<u8>, size: u32, block: u64, mode: u32, length: u64) {
-    let at = place(size, block);
-    put_head(rt, image, at, 4, 400);
-    let address = block_number(rt, size, block);
-    put_inum(rt, image, at.saturating_add(24), block, address);
-    put_at(rt, image, at, 40, &mode.to_be_bytes());
-    put_at(rt, image, at, 56, &length.to_be_bytes());
-}
+    /// Puts bytes over those at a place.
+    pub(crate) fn put(&mut self, rt: &impl Abort, at: usize, part: &[u8]) {
+        let image = &mut self.bytes;
+        assert!(rt; at <= image.len() && part.len() <= image.len() - at);
+        image[at..at + part.len()].copy_from_slice(part);
+    }
 
-fn put_record(
-    rt: &impl Abort,
-    image: &mut Vec<u8>,
-    size: u32,
-    at: usize,
-    length: usize,
-    record: Record<'_>,
-) {
-    assert!(rt; length <= 4096 && record.name.len() <= 255);
-    let address = block_number(rt, size, record.block);
-    put_inum(rt, image, at, record.number, address);
-    put_at(rt, image, at, 20, &(length as u16).to_be_bytes());
-    put_at(rt, image, at, 22, &(record.name.len() as u16).to_be_bytes());
-    put_at(rt, image, at, 24, &record.kind.to_be_bytes());
-    put_at(rt, image, at, 40, record.name);
-}
+    /// An image like this one.
+    pub(crate) fn copy(&self, alloc: Global) -> Result<Image, Fail> {
+        Ok(Image {
+            bytes: self.bytes.to_vec(alloc)?,
+            size: self.size,
+            files: self.files,
+        })
+    }
 
-// How many bytes the record of a name has at least.
-fn least_length(name: &[u8]) -> usize {
-    name.len().saturating_add(47) / 8 * 8
-}
+    /// A disk that holds this image, whose calls of these numbers fail.
+    pub(crate) fn disk(self, rt: &impl Abort, alloc: Global, fails: &[u64]) -> Result<MemDisk, Fail>
+        ensures size { IfOk result (λ d. IsBlockSize (memory_state d).size) }
+        ensures idle { IfOk result (λ d. IsIdle (memory_state d)) }
+    {
+        disk(rt, alloc, self.size, self.bytes, fails)
+    }
 
-// The records, each of its least length, from the root's dinode on; the last takes the rest.
-fn put_records(rt: &impl Abort, image: &mut Vec<u8>, size: u32, records: &[Record<'_>]) {
-    let end = place(size, FILES);
-    let mut at = place(size, ROOT).saturating_add(232);
-    let last = records.len().saturating_sub(1);
-    for (i, record) in records.iter().enumerate() {
-        let length = if i == last {
-            end.saturating_sub(at)
-        } else {
-            least_length(record.name)
+    // The bytes of a block.
+    fn block(&mut self, rt: &impl Abort, spot: Spot) -> &mut [u8] {
+        let at = self.place(spot);
+        let size = self.size as usize;
+        let image = &mut self.bytes;
+        assert!(rt; at <= image.len() && size <= image.len() - at);
+        &mut image[at..at + size]
+    }
+
+    // Takes the blocks of the files from the group's free ones.
+    fn put_group(&mut self, rt: &impl Abort) -> Result<(), Fail> {
+        let files = self.files;
+        let first = first_file(self.size).saturating_sub(DATA);
+        let block = self.block(rt, Spot::Group);
+        assert!(rt; block.len() >= 512 && block.len() <= 4096 && files <= 4096 && first <= 4096);
+        let Ok(header) = GroupHeader::read(block) else {
+            return Err(Fail::from("no group"));
         };
-        put_record(rt, image, size, at, length, *record);
-        at = at.saturating_add(length);
+        let taken = GroupHeader {
+            free: header.free.saturating_sub(files as u32),
+            dinodes: header.dinodes.saturating_add(files as u32),
+            igeneration: header.igeneration.saturating_add(files),
+            ..header
+        };
+        taken.write(block);
+        for place in first..first.saturating_add(files) {
+            put_dinode_state(rt, &mut block[128..], place);
+        }
+        Ok(())
     }
-    assert!(rt; at == end);
+
+    // The root's dinode.
+    fn root(&mut self, rt: &impl Abort) -> Result<Dinode, Fail> {
+        match Dinode::read(self.block(rt, Spot::Root)) {
+            Ok(dinode) => Ok(dinode),
+            Err(_) => Err(Fail::from("no root")),
+        }
+    }
+
+    // Adds a record of a file to the root, behind the others, and counts it.
+    fn put_entry(&mut self, rt: &impl Abort, inum: Inum, name: &[u8]) -> Result<(), Fail> {
+        let dinode = self.root(rt)?;
+        let counted = Dinode {
+            entries: dinode.entries.saturating_add(1),
+            ..dinode
+        };
+        let block = self.block(rt, Spot::Root);
+        assert!(rt; block.len() >= 232);
+        counted.write(block);
+        put_file_record(rt, &mut block[232..], inum, name);
+        Ok(())
+    }
+
+    // Puts a file into its block: what its dinode shares with the root's is taken from there.
+    fn put_file(
+        &mut self,
+        rt: &impl Abort,
+        spot: Spot,
+        inum: Inum,
+        content: &[u8],
+    ) -> Result<(), Fail> {
+        let root = self.root(rt)?;
+        let dinode = Dinode {
+            num: inum,
+            mode: 0o100_644,
+            nlink: 1,
+            size: content.len() as u64,
+            goal_meta: inum.address,
+            goal_data: inum.address,
+            generation: inum.number,
+            payload_format: 0,
+            entries: 0,
+            ..root
+        };
+        let block = self.block(rt, spot);
+        assert!(rt; block.len() >= 232 && content.len() <= block.len() - 232);
+        dinode.write(block);
+        block[232..232 + content.len()].copy_from_slice(content);
+        Ok(())
+    }
+
+    // Puts files into the root, in this order.
+    fn put_files(&mut self, rt: &impl Abort, files: &[File<'_>]) -> Result<(), Fail> {
+        for (index, file) in files.iter().enumerate() {
+            let spot = Spot::File(index as u64);
+            let inum = Inum {
+                number: FIRST_NUMBER.saturating_add(index as u64),
+                address: self.number(rt, spot),
+            };
+            self.put_file(rt, spot, inum, file.content)?;
+            self.put_entry(rt, inum, file.name)?;
+        }
+        Ok(())
+    }
 }
 
-fn records_of<'a>(alloc: Global, files: &[File<'a>]) -> Result<Vec<Record<'a>>, Fail> {
-    let mut records = Vec::new(alloc);
-    for name in [b".".as_slice(), b"..".as_slice()] {
-        records.push(Record {
-            name,
-            number: FORMAL,
-            block: ROOT,
-            kind: 4,
-        })?;
-    }
-    let mut block = FILES;
-    for file in files {
-        records.push(Record {
-            name: file.name,
-            number: block,
-            block,
-            kind: 8,
-        })?;
-        block = block.saturating_add(1);
-    }
-    Ok(records)
+// The block at this place of the group is a dinode.
+fn put_dinode_state(rt: &impl Abort, bitmap: &mut [u8], place: u64) {
+    assert!(rt; bitmap.len() <= 4096 && place < 4 * bitmap.len() as u64);
+    put_state(bitmap, place as u32, 3);
 }
 
-fn put_root(
+fn put_file_record(rt: &impl Abort, area: &mut [u8], inum: Inum, name: &[u8]) {
+    assert!(rt; !name.is_empty() && name.len() <= 255);
+    let entry = Dirent {
+        inum,
+        hash: crc32(name),
+        rec_len: 0,
+        name_len: name.len() as u16,
+        kind: 8,
+        rahead: 0,
+    };
+    assert!(rt; entry.is_in_use());
+    assert!(rt; is_area(area));
+    let is_put = put_record(area, &entry, name);
+    assert!(rt; is_put);
+}
+
+// The bytes of a new image in so many blocks.
+fn new_image(rt: &impl Abort, alloc: Global, size: u32, blocks: usize) -> Result<Vec<u8>, Fail> {
+    assert!(rt; size <= 4096 && blocks <= 131_072);
+    let bytes = vec![in alloc; 0u8; blocks * size as usize]?;
+    let mut disk = disk(rt, alloc, size, bytes, &[])?;
+    assert!(rt; disk.blocks() <= 131_072);
+    let made = make(alloc, &mut disk, &OPTIONS);
+    assert!(rt; made.is_ok());
+    Ok(disk.into_bytes())
+}
+
+/// An image of blocks of this size, with these files in its root.
+pub(crate) fn image_of(
     rt: &impl Abort,
     alloc: Global,
-    image: &mut Vec<u8>,
     size: u32,
     files: &[File<'_>],
-) -> Result<(), Fail> {
-    let length = u64::from(size).saturating_sub(232);
-    put_dinode(rt, image, size, ROOT, 0o040_755, length);
-    let records = records_of(alloc, files)?;
-    put_records(rt, image, size, &records);
-    Ok(())
-}
-
-fn put_files(rt: &impl Abort, image: &mut Vec<u8>, size: u32, files: &[File<'_>]) {
-    let mut block = FILES;
-    for file in files {
-        put_dinode(rt, image, size, block, 0o100_644, file.content.len() as u64);
-        put_at(rt, image, place(size, block), 232, file.content);
-        block = block.saturating_add(1);
-    }
-}
-
-/// The bytes of an image of blocks of this size, with these files in its root.
-pub(crate) fn image(
-    rt: &impl Abort,
-    alloc: Global,
-    size: u32,
-    files: &[File<'_>],
-) -> Result<Vec<u8>, Fail> {
-    let blocks = FILES.saturating_add(files.len() as u64).saturating_add(1);
-    let mut image = vec![in alloc; 0u8; place(size, blocks)]?;
-    put_superblock(rt, &mut image, size);
-    put_root(rt, alloc, &mut image, size, files)?;
-    put_files(rt, &mut image, size, files);
+) -> Result<Image, Fail> {
+    let mut image = Image {
+        bytes: Vec::new(alloc),
+        size,
+        files: files.len() as u64,
+    };
+    let blocks = image.number(rt, Spot::Past) as usize;
+    image.bytes = new_image(rt, alloc, size, blocks)?;
+    image.put_group(rt)?;
+    image.put_files(rt, files)?;
     Ok(image)
 }
 
-/// A disk of these bytes, whose calls of these numbers fail.
-pub(crate) fn disk(
+fn disk(
     rt: &impl Abort,
     alloc: Global,
     size: u32,
-    image: Vec<u8>,
+    bytes: Vec<u8>,
     fails: &[u64],
 ) -> Result<MemDisk, Fail>
     ensures size { IfOk result (λ d. IsBlockSize (memory_state d).size) }
     ensures idle { IfOk result (λ d. IsIdle (memory_state d)) }
 {
     assert!(rt; size == 512 || size == 1024 || size == 2048 || size == 4096);
-    assert!(rt; image.len() % size as usize == 0);
+    assert!(rt; bytes.len() % size as usize == 0);
     let fails = fails.to_vec(alloc)?;
-    Ok(MemDisk::new(size, image, fails, Vec::new(alloc), 0)?)
+    Ok(MemDisk::new(size, bytes, fails, Vec::new(alloc), 0)?)
 }

@@ -13,6 +13,10 @@ mod hostile_images;
 #[cfg(test)]
 mod image;
 #[cfg(test)]
+mod rows;
+#[cfg(test)]
 mod runs;
 #[cfg(test)]
 mod script_limits;
+#[cfg(test)]
+mod superblocks;

@@ -1,5 +1,5 @@
 // Scripts at their limits of bytes, lines and clients, and past them. The image has the file `a`, which is `h`.
-use crate::image::{File, disk, image};
+use crate::image::{File, image_of};
 use crate::runs::{Left, NONE, run};
 use std::alloc::Global;
 use std::process::Abort;
@@ -12,8 +12,8 @@ const FILES: [File<'static>; 1] = [File {
 
 fn run_text(rt: &(impl Abort + AllocGlobal), text: &[u8]) -> Result<Left, Fail> {
     let a = rt.alloc();
-    let image = image(rt, a, 512, &FILES)?;
-    run(a, disk(rt, a, 512, image, &[])?, text, NONE)
+    let disk = image_of(rt, a, 512, &FILES)?.disk(rt, a, &[])?;
+    run(a, disk, text, NONE)
 }
 
 fn expect_left(rt: &impl Abort, left: &Left, status: u8, out: &[u8], trace: &[u8]) {
