@@ -108,7 +108,8 @@ fn a_journal_without_a_header_is_told(rt: HostRuntime) -> Result<(), Fail> {
     image.put(&rt, 25 * 4096, &[0; 4]);
     let script = b"nodes 1\nclient c on 1\nc: list /\n";
     let left = run(a, image.disk(&rt, a, &[])?, script, NONE)?;
-    assert_eq!(rt; left.out.bytes(), b"damaged: block 22 rule 16\n");
+    let out = b"damaged: block 22 rule 16\n";
+    assert_eq!(rt; left.out.bytes(), out.as_slice());
     assert!(rt; left.trace.bytes().is_empty());
     assert_eq!(rt; left.status, 4);
     Ok(())
