@@ -144,11 +144,13 @@ fn carry_out<D: SharedDisk, S: Source>(
     }
 }
 
-/// Carries out the command that these words are, on this disk, and writes its trace and its output. Today three
-/// commands are built. `mkfs` makes an image: it reads each block, and writes those that are not yet as they are to be.
-/// `show` tells the image's journals and its tree, and writes nothing. `run` reads a script from `script`, runs it on the image, and tells each client's replies; it costs memory for the
-/// script and the items, a read of a block for each line that reads a file, and a pass over the items for each client.
-/// It waits for nobody.
+/// Carries out the command that these words are, on this disk, and writes its trace and its output. Today three commands are
+/// built. `mkfs` makes an image: it reads each block, and writes those that are not yet as they are to be. `show` mounts the
+/// image, tells its journals and its tree, and writes nothing; it costs a read of each block of the system files, of the
+/// root's and of each file's, and memory for its lines and, while it mounts, for an entry a block of the device. `run` reads
+/// a script from `script`, mounts the image, runs the script on it, and tells each client's replies; it costs what mounting
+/// costs, memory for the script and the items, a read of a block for each line that reads a file, and a pass over the items
+/// for each client. It waits for nobody.
 pub fn gfs2run_alone<D: SharedDisk, S: Source, O: Sink, T: Sink>(
     alloc: Global,
     words: &[String],
