@@ -128,7 +128,8 @@ fn with_names(
     Ok(image)
 }
 
-// Of further names in the master directory the first record's is told, by the block to which it leads.
+// Of further names in the master directory the first record's is told, by the block to which it leads. A block of 512 bytes
+// has room for one.
 #[test]
 fn a_further_name_in_the_master_directory_is_told(rt: HostRuntime) -> Result<(), Fail> {
     for size in SIZES {
@@ -137,8 +138,10 @@ fn a_further_name_in_the_master_directory_is_told(rt: HostRuntime) -> Result<(),
         let a = whole.number(&rt, A);
         let one = with_names(&rt, &whole, &[(1, b"other")])?;
         check(&rt, one, &[], Outside("master", a), 0)?;
-        let two = with_names(&rt, &whole, &[(0, b"z"), (1, b"a")])?;
-        check(&rt, two, &[], Outside("master", b), 1)?;
+        if size > 512 {
+            let two = with_names(&rt, &whole, &[(0, b"z"), (1, b"a")])?;
+            check(&rt, two, &[], Outside("master", b), 1)?;
+        }
     }
     Ok(())
 }

@@ -26,12 +26,20 @@ pub fn append_journal(text: &mut Vec<u8>, journal: u64, clean: bool) -> Result<(
     }
 }
 
+// Puts a kind of node and the spelling of its path.
+fn append_kind(text: &mut Vec<u8>, kind: &[u8], path: &Path) -> Result<(), NoMemory>
+    ensures { IfOk result (λ _. text.new.items ≡ text.old.items ++ (kind.now ++ word (path_text path.now))) }
+{
+    append(text, kind)?;
+    append(text, b" ")?;
+    append_path(text, path)
+}
+
 /// Puts the line of a directory at the end.
 pub fn append_dir(text: &mut Vec<u8>, path: &Path) -> Result<(), NoMemory>
     ensures { IfOk result (λ _. text.new.items ≡ text.old.items ++ dir_line path.now) }
 {
-    append(text, b"dir ")?;
-    append_path(text, path)?;
+    append_kind(text, b"dir", path)?;
     append(text, b"\n")
 }
 
@@ -51,8 +59,7 @@ pub fn append_file(
 ) -> Result<(), NoMemory>
     ensures { IfOk result (λ _. text.new.items ≡ text.old.items ++ file_line path.now content.now) }
 {
-    append(text, b"file ")?;
-    append_path(text, path)?;
+    append_kind(text, b"file", path)?;
     append_number(text, content.len() as u64)?;
     append(text, b" ")?;
     append_checksum(alloc, text, content)?;
