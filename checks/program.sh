@@ -163,6 +163,10 @@ if mkfs=$(PATH=$PATH:/sbin:/usr/sbin command -v mkfs.gfs2); then
         echo "checks/program.sh: an image of mkfs.gfs2 was changed" >&2
         failed=1
     }
+    "$mkfs" -O -p lock_nolock -j 1 -J 8 -o format=1801 real >/dev/null 2>&1
+    other=$(python3 "$here/checks/first_other.py" real)
+    run real trace show
+    check "a show of one of the older format" 3 "not profile: master $other"
 else
     echo "checks/program.sh: no image of mkfs.gfs2 tried, gfs2-utils is not installed"
 fi
