@@ -6,36 +6,16 @@
 # goes into that; the aim is four times. The least of five rounds counts. Needs 2 GiB in TMPDIR (else /tmp) and GNU date;
 # PROGRAM may name another program than the one that is built here.
 set -eu
-top=$(cd "$(dirname "$0")/.." && pwd)
-blocks=131072
-size=4096
 rounds=5
+. "$(dirname "$0")/timing.sh"
 
-if [ -z "${PROGRAM:-}" ]; then
-    (cd "$top/crates/gfs2run" && rt run >/dev/null 2>&1) || true
-    PROGRAM=$top/crates/gfs2run/out/gfs2run
-fi
-if ! [ -x "$PROGRAM" ]; then
-    echo "The program could not be built: see 'rt run' in crates/gfs2run." >&2
-    exit 1
-fi
-
-work=$(mktemp -d)
-trap 'rm -rf "$work"' EXIT
-cd "$work"
-
-# timed COMMAND..: the least of its seconds over all rounds, in `seconds`; where it fails, the script ends with what it said
-timed() {
-    seconds=''
+# best COMMAND..: the least of its seconds over all rounds, in `best`
+best() {
+    best=''
     round=0
     while [ $round -lt $rounds ]; do
-        begin=$(date +%s.%N)
-        "$@" >log 2>&1 || {
-            cat log >&2
-            echo "bench/show.sh: '$*' ended with a fault" >&2
-            exit 1
-        }
-        seconds=$(echo "$begin $(date +%s.%N) $seconds" | awk '{ t = $2 - $1; printf "%.3f", ($3 == "" || t < $3) ? t : $3 }')
+        timed "$@"
+        best=$(least "$best" "$seconds")
         round=$((round + 1))
     done
 }
@@ -56,13 +36,13 @@ for journal in 1024 2048 16000; do
         cat log >&2
         exit 1
     }
-    timed show_image
-    show=$seconds
+    best show_image
+    show=$best
     if [ $journal = 2048 ]; then
         beside=$show
     fi
-    timed read_blocks $((8 * journal))
-    awk -v journal=$journal -v show="$show" -v read="$seconds" 'BEGIN {
+    best read_blocks $((8 * journal))
+    awk -v journal=$journal -v show="$show" -v read="$best" 'BEGIN {
         printf "journals of %5d blocks: show %8.3f, dd of as many blocks %8.3f: %3.0f%% of the time\n", journal, show, read, 100 * read / show
     }'
 done
@@ -82,7 +62,7 @@ truncate -s $((blocks * size)) image
 check_image() {
     "$fsck" -n image
 }
-timed check_image
-awk -v show="$beside" -v check="$seconds" 'BEGIN {
+best check_image
+awk -v show="$beside" -v check="$best" 'BEGIN {
     printf "fsck.gfs2 -n with journals of 2048 blocks: %8.3f, %.1f times as long as show\n", check, check / show
 }'
