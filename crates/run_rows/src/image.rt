@@ -5,7 +5,7 @@
 // block 2, the root in block 3, the list of groups in block 4, the directory of journals in block 5, and the journal in
 // block 6 and those behind it: its blocks of pointers and its 512 places. The files follow, in the order of their records,
 // and free blocks: one, and as many more as make the group's data blocks a multiple of 4.
-ghost use Rattle.std.specs.Prelude.{IfOk};
+ghost use Rattle.std.specs.Prelude.{◌≡◌, IfOk};
 ghost use Rattle.shared_disk.specs.Disk.{IsIdle};
 ghost use Rattle.shared_disk.specs.Memory.{memory_state};
 ghost use Rattle.gfs2_layout.specs.Device.{IsBlockSize};
@@ -30,17 +30,6 @@ const JOURNAL: u64 = 6;
 
 // The formal number of the first file: the dinodes before it have those from 1 to 5.
 const FIRST_NUMBER: u64 = 6;
-
-// With so many journals.
-fn options(journals: u32) -> MakeOptions {
-    MakeOptions {
-        journals,
-        journal_blocks: 512,
-        groups: 1,
-        uuid: [7; 16],
-        time: 1_700_000_000,
-    }
-}
 
 #[derive(Clone, Copy, Drop)]
 pub(crate) struct File<'a> {
@@ -310,11 +299,18 @@ fn new_image(
     journals: u32,
 ) -> Result<Vec<u8>, Fail> {
     assert!(rt; size <= 4096 && blocks <= 131_072);
-    assert!(rt; journals <= 3 || size > 512);
+    assert!(rt; journals <= 3 || size >= 1024);
     let bytes = vec![in alloc; 0u8; blocks * size as usize]?;
     let mut disk = disk(rt, alloc, size, bytes, &[])?;
     assert!(rt; disk.blocks() <= 131_072);
-    let made = make(alloc, &mut disk, &options(journals));
+    let options = MakeOptions {
+        journals,
+        journal_blocks: 512,
+        groups: 1,
+        uuid: [7; 16],
+        time: 1_700_000_000,
+    };
+    let made = make(alloc, &mut disk, &options);
     assert!(rt; made.is_ok());
     Ok(disk.into_bytes())
 }
@@ -377,6 +373,7 @@ fn disk(
     fails: &[u64],
 ) -> Result<MemDisk, Fail>
     ensures size { IfOk result (λ d. IsBlockSize (memory_state d).size) }
+    ensures given { IfOk result (λ d. d.nodes.size ≡ size) }
     ensures idle { IfOk result (λ d. IsIdle (memory_state d)) }
 {
     assert!(rt; size == 512 || size == 1024 || size == 2048 || size == 4096);
