@@ -4,39 +4,8 @@
 # prints the ratios. The least of three rounds counts. Needs 2 GiB in TMPDIR (else /tmp) and GNU date; PROGRAM may name
 # another program than the one that is built here.
 set -eu
-top=$(cd "$(dirname "$0")/.." && pwd)
-blocks=131072
-size=4096
 rounds=3
-
-if [ -z "${PROGRAM:-}" ]; then
-    (cd "$top/crates/gfs2run" && rt run >/dev/null 2>&1) || true
-    PROGRAM=$top/crates/gfs2run/out/gfs2run
-fi
-if ! [ -x "$PROGRAM" ]; then
-    echo "The program could not be built: see 'rt run' in crates/gfs2run." >&2
-    exit 1
-fi
-
-work=$(mktemp -d)
-trap 'rm -rf "$work"' EXIT
-cd "$work"
-
-# timed COMMAND..: its seconds, in `seconds`; where it fails, the script ends with what it said
-timed() {
-    sync
-    begin=$(date +%s.%N)
-    "$@" >log 2>&1 || {
-        cat log >&2
-        echo "bench/mkfs.sh: '$*' ended with a fault" >&2
-        exit 1
-    }
-    seconds=$(echo "$begin $(date +%s.%N)" | awk '{ printf "%.3f", $2 - $1 }')
-}
-
-least() {
-    awk -v a="$1" -v b="$2" 'BEGIN { print (a == "" || b + 0 < a + 0) ? b : a }'
-}
+. "$(dirname "$0")/timing.sh"
 
 make_image() {
     "$PROGRAM" "$1" trace mkfs --bsize $size --journals 8 </dev/null

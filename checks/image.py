@@ -1,42 +1,45 @@
-"""Makes a small image: `image.py FILE`."""
-import sys
+"""Makes a small image with a file: `image.py FILE`.
 
-# An image of 538 blocks of 4096 bytes: the superblock in block 16, the root directory in block 19, and in it
-# the file `a`, which is `hello`, in block 537. All numbers are big-endian.
+It is a new image of 538 blocks of 4096 bytes with one journal of 512 blocks (checks/new_image.py), in which the last block,
+537, holds the dinode of a file: `a`, which is `hello`, in the root. Block 17 is the group's header and block 19 the root.
+"""
+import sys
 from struct import pack
+from zlib import crc32
+
+sys.dont_write_bytecode = True
+import new_image
 
 BLOCK = 4096
-image = bytearray(538 * BLOCK)
+FILE = 537
+NUMBER = 6  # behind the five dinodes of a new image
+
+options = dict(groups=1, journals=1, journal_blocks=512, time=0, uuid=bytes(16))
+image = bytearray(new_image.make(BLOCK, 538, options)[0])
 
 
 def put(block, place, form, *values):
-    at = block * BLOCK + place
     data = pack(">" + form, *values)
+    at = block * BLOCK + place
     image[at:at + len(data)] = data
 
 
-def header(block, kind, form):
-    put(block, 0, "IIQII", 0x01161970, kind, 0, form, 0)
+content = b"hello"
+dinode = new_image.dinode(NUMBER, FILE, 0o100644, 1, len(content), 1, 0, 1, 0, 0, 0, 0)
+put(FILE, 0, "%ds" % (len(dinode) + len(content)), dinode + content)
 
+# The root has one more entry: the record of `a` behind that of `..`, of which it takes the rest.
+put(19, 148, "I", 3)
+put(19, 280 + 20, "H", 48)
+put(19, 328, "QQIHHHH", NUMBER, FILE, crc32(b"a"), BLOCK - 328, 1, 8, 0)
+put(19, 328 + 40, "s", b"a")
 
-def dinode(block, number, mode, size):
-    header(block, 4, 400)
-    put(block, 24, "QQI", number, block, mode)  # its number, its place, its type
-    put(block, 56, "Q", size)
+# The group has no free block any more, six dinodes, and the state 3 for its last block.
+put(17, 28, "II", 0, 6)
+put(17, 40, "Q", NUMBER)
+image[17 * BLOCK + 128 + (FILE - 18) // 4] |= 3 << 2 * ((FILE - 18) % 4)
+put(17, 64, "I", 0)
+put(17, 64, "I", crc32(bytes(image[17 * BLOCK:17 * BLOCK + 128])))
 
-
-def record(place, number, block, length, name, kind):
-    put(19, place, "QQIHHH", number, block, 0, length, len(name), kind)
-    put(19, place + 40, f"{len(name)}s", name)
-
-
-header(16, 1, 100)
-put(16, 36, "II", BLOCK, 12)  # the block size, and its logarithm
-put(16, 80, "QQ", 2, 19)  # the root
-dinode(19, 2, 0o040755, BLOCK - 232)
-record(232, 2, 19, 48, b".", 4)
-record(280, 2, 19, 48, b"..", 4)
-record(328, 3, 537, BLOCK - 328, b"a", 8)
-dinode(537, 3, 0o100644, 5)
-put(537, 232, "5s", b"hello")
-open(sys.argv[1], "wb").write(image)
+with open(sys.argv[1], "wb") as file:
+    file.write(image)

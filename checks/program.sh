@@ -1,6 +1,7 @@
 #!/bin/sh
 # Runs the built program on real files in the cases that no proof reaches: what the system refuses, cuts off or closes.
-# Ends with status 0 where each case ends as it should. Needs Python 3 for the image; says so and skips without it.
+# Ends with status 0 where each case ends as it should. Needs Python 3 for the image; says so and skips without it. Tries
+# images of mkfs.gfs2 too, where it is installed.
 set -eu
 cd "$(dirname "$0")/.."
 here=$PWD
@@ -93,13 +94,42 @@ run absent none/trace run <script
 check "the image is tried first" 12 "cannot open absent"
 : >empty
 run empty trace run <script
-check "an empty image" 20 "not built: block 16"
+check "an empty image" 4 "damaged: block 16 rule 1"
 head -c 100000 image >short
 run short trace run <script
-check "an image cut off behind its root" 20 "not built: block 537"
+check "an image cut off within its journal" 4 "damaged: block 20 rule 18"
 head -c 70000 image >part
 run part trace run <script
-check "an image that ends within a block" 20 "not built: block 19"
+check "an image that ends within a block" 4 "damaged: block 16 rule 2"
+run part trace show
+check "a show of it" 4 "damaged: block 16 rule 2"
+[ "$(wc -l <out)" = 1 ] || {
+    echo "checks/program.sh: a show that is not done has more than one line" >&2
+    failed=1
+}
+run image trace show --bsize 512
+check "an option of show" 1 "usage: word 2"
+run image trace show </dev/null
+check "a show" 0 "done"
+printf 'journal 0 clean\ndir /\nfile /a 5 3610a686\ndone\n' >wanted
+cmp -s out wanted || {
+    echo "checks/program.sh: what is shown of an image with a file" >&2
+    failed=1
+}
+[ ! -s trace ] || {
+    echo "checks/program.sh: a show left a trace" >&2
+    failed=1
+}
+run image trace show <&-
+check "a show with a closed standard input" 0 "done"
+truncate -s 2203648 fresh
+run fresh trace mkfs --journal-blocks 512
+run fresh trace show
+check "a show of a new image" 0 "done"
+printf 'journal 0 clean\ndir /\ndone\n' | cmp -s - out || {
+    echo "checks/program.sh: what is shown of a new image" >&2
+    failed=1
+}
 run image trace run --bsize 512 <script
 check "an option of another command" 1 "usage: word 2"
 run image trace run <&-
@@ -118,6 +148,28 @@ echo >out
 check "an output that is full" 7 ""
 run image /dev/full run <script
 check "a trace that is full" 7 "trace fault: count 0 to 1"
+
+# Images of the distribution's mkfs.gfs2, where it is there: of another format than is handled, and with system files that are
+# left out here. They are refused, and stay as they were.
+if mkfs=$(PATH=$PATH:/sbin:/usr/sbin command -v mkfs.gfs2); then
+    truncate -s 32M real
+    "$mkfs" -O -p lock_nolock -j 1 -J 8 real >/dev/null 2>&1
+    cp real kept
+    run real trace show
+    check "a show of an image of mkfs.gfs2" 3 "not profile: fs_format 1802"
+    run real trace run <script
+    check "a run on an image of mkfs.gfs2" 3 "not profile: fs_format 1802"
+    cmp -s real kept || {
+        echo "checks/program.sh: an image of mkfs.gfs2 was changed" >&2
+        failed=1
+    }
+    "$mkfs" -O -p lock_nolock -j 1 -J 8 -o format=1801 real >/dev/null 2>&1
+    other=$(python3 "$here/checks/first_other.py" real)
+    run real trace show
+    check "a show of one of the older format" 3 "not profile: master $other"
+else
+    echo "checks/program.sh: no image of mkfs.gfs2 tried, gfs2-utils is not installed"
+fi
 
 cmp -s image before || {
     echo "checks/program.sh: the image was changed" >&2

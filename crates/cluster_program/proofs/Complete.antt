@@ -11,9 +11,10 @@ use Rattle.cluster_program.specs.declared.status.Status.{Status}
 use Rattle.cluster_program.specs.declared.status.Status.TheVariants as status
 use Rattle.cluster_program.specs.declared.status.Which.{Which}
 use Rattle.cluster_program.specs.World.{Inputs, Outputs}
-use Rattle.cluster_program.specs.Course.{Course, RefusesWords, MakesImage, NoScript, Makes, IsTooLarge, IsTooSmall, LacksMemory, HasFailed, HasMade, AsksToRun, AsksToMake, image_of, most_blocks, RunsScript, LacksScript, SourceFailed, Refused, RefusedEarly, NotBuiltYet, RunEnds, IsDone, MountFailed, CallFailed, MountRefused, CallRefused, NoRoom}
+use Rattle.cluster_program.specs.Course.{Course, RefusesWords, MakesImage, NoScript, Makes, IsTooLarge, IsTooSmall, LacksMemory, HasFailed, HasMade, AsksToRun, AsksToMake, plan_for, most_blocks, RunsScript, LacksScript, SourceFailed, Refused, RefusedEarly, NotBuiltYet, RunEnds, IsDone, NotMounted, CallFailed, CallRefused, CallLeadsOut, NoRoom, AsksToShow, Shows, HasShown, ShowsNone, TreeFailed, TreeRefused, TreeLeadsOut, NothingHeld, ShowsImage}
+use Rattle.cluster_program.specs.Mounting.{MountEnds, DiskFails, LiesOutside, IsDamaged, IsDirty, IsHashed, HasOtherRoot, LacksRoom}
 use Rattle.cluster_program.specs.Report.{Becomes, Stays, WithoutMemory, Fails, Reports}
-use Rattle.cluster_program.specs.Command.{NoneRose, IsRunnable, IsMakeable, IsComplete}
+use Rattle.cluster_program.specs.Command.{NoneRose, IsMountable, IsRunnable, IsShowable, IsMakeable, IsComplete}
 use Rattle.mkgfs2_tool.specs.Order.{fits}
 use Rattle.command_words.specs.Commands.{words_read}
 use Rattle.command_words.specs.declared.command.Command.TheVariants as command
@@ -60,52 +61,88 @@ module _ (words : List (List ℕ)) (given left : Inputs) (sinks sinks_now : Outp
       let both : None ≡ Some line = sym may.built ∙ ap first_foreign one ∙ foreign in cc
   of_script may own NoRoom = inr refl
 
-  of_run : IsRunnable words given → (s : ScriptValue) (items : List TraceItem) (own : Status) → RunEnds given.disk given.disk_faults left.disk_faults s items own → IsWhole own
+  of_mount : IsMountable given.disk → (own : Status) → MountEnds given.disk given.disk_faults left.disk_faults own → IsWhole own
+  of_mount may own (DiskFails block x y up reached) = absurd (none.disk 0 (rose (given.disk_faults 0) (left.disk_faults 0) x y up))
+  of_mount may own (LiesOutside what value outside never) = absurd (never may.flat.tells may.profile)
+  of_mount may own (IsDamaged block rule breaks never) = absurd (never may.flat.tells may.tree may.stands)
+  of_mount may own (IsDirty block dirty) =
+      let it = dirty may.flat.tells in
+      let both : true ≡ false = sym (may.clean it.0 it.1.0 it.1.1.0 it.1.1.1.0 it.1.1.1.1) ∙ it.1.1.1.2 in cc
+  of_mount may own (IsHashed block hashed) = absurd (may.linear block (hashed may.flat.tells))
+  of_mount may own (HasOtherRoot block other) = absurd ((other may.flat.tells).1 may.flat.root)
+  of_mount may own LacksRoom = inr refl
+
+  of_show : IsMountable given.disk → (lines : List ℕ) (own : Status) → Shows given.disk given.disk_faults left.disk_faults lines own → IsWhole own
+  of_show may lines own (HasShown m lines' mounted are stands) = inl refl
+  of_show may lines own (ShowsNone own' ends) = of_mount may own ends
+  of_show may lines own (TreeFailed root block x y up begins reads) = absurd (none.disk 0 (rose (given.disk_faults 0) (left.disk_faults 0) x y up))
+  of_show may lines own (TreeRefused root block other begins refuses) = absurd (other may.tree may.flat)
+  of_show may lines own (TreeLeadsOut root block other begins refuses breaks) = absurd (other may.tree may.flat)
+  of_show may lines own NothingHeld = inr refl
+
+  of_run : IsMountable given.disk → (s : ScriptValue) (items : List TraceItem) (own : Status) → RunEnds given.disk given.disk_faults left.disk_faults s items own → IsWhole own
   of_run may s items own (IsDone all whole) = inl refl
-  of_run may s items own (MountFailed block x y none_yet up reads) = absurd (none.disk 0 (rose (given.disk_faults 0) (left.disk_faults 0) x y up))
+  of_run may s items own (NotMounted own' none_yet ends) = of_mount may own ends
   of_run may s items own (CallFailed root block x y up begins reads) = absurd (none.disk 1 (rose (given.disk_faults 1) (left.disk_faults 1) x y up))
-  of_run may s items own (MountRefused block none_yet other refuses) = absurd (other may.tree may.flat)
   of_run may s items own (CallRefused root block other begins refuses) = absurd (other may.tree may.flat)
+  of_run may s items own (CallLeadsOut root block other begins refuses breaks) = absurd (other may.tree may.flat)
   of_run may s items own NoRoom = inr refl
 
   -- an image that fits its device
-  of_make : (make : MakeWords) → given.disk.count ≤ most_blocks → fits (image_of given.disk make) ≡ true → (own : Status) → Makes make given left own → IsWhole own
+  of_make : (make : MakeWords) → given.disk.count ≤ most_blocks → fits (plan_for given.disk make) ≡ true → (own : Status) → Makes make given left own → IsWhole own
   of_make make few room own (IsTooLarge many same) = let never : ⊥ = omega (arith, few, many) in absurd never
   of_make make few room own (IsTooSmall needed few' lacks least same) = let both : true ≡ false = sym room ∙ lacks in cc
   of_make make few room own (LacksMemory few' room' same) = inr refl
   of_make make few room own (HasFailed block x y few' room' up within begun same) = absurd (none.disk 0 (rose (given.disk_faults 0) (left.disk_faults 0) x y up))
   of_make make few room own (HasMade few' room' made same) = inl refl
 
-  not_both : (make : MakeWords) (run : RunWords) → words_read given.disk.size words ≡ Ok (command.Make make) → words_read given.disk.size words ≡ Ok (command.Run run) → ⊥
-  not_both make run first second = let both : Ok (command.Make make) ≡ Ok (command.Run run) = sym first ∙ second in cc
+  -- two commands are not the same words
+  not_make_run : (make : MakeWords) (run : RunWords) → words_read given.disk.size words ≡ Ok (command.Make make) → words_read given.disk.size words ≡ Ok (command.Run run) → ⊥
+  not_make_run make run first second = let both : Ok (command.Make make) ≡ Ok (command.Run run) = sym first ∙ second in cc
+
+  not_make_show : (make : MakeWords) → words_read given.disk.size words ≡ Ok (command.Make make) → words_read given.disk.size words ≡ Ok command.Show → ⊥
+  not_make_show make first second = let both : Ok (command.Make make) ≡ Ok command.Show = sym first ∙ second in cc
+
+  not_run_show : (run : RunWords) → words_read given.disk.size words ≡ Ok (command.Run run) → words_read given.disk.size words ≡ Ok command.Show → ⊥
+  not_run_show run first second = let both : Ok (command.Run run) ≡ Ok command.Show = sym first ∙ second in cc
 
   one_make : (make other : MakeWords) → words_read given.disk.size words ≡ Ok (command.Make make) → words_read given.disk.size words ≡ Ok (command.Make other) → make ≡ other
   one_make make other first second = let both : Ok (command.Make make) ≡ Ok (command.Make other) = sym first ∙ second in cc
 
-  of_running : IsRunnable words given → (s : ScriptValue) (items : List TraceItem) (own : Status) → Course words given left s items own → IsWhole own
-  of_running may s items own (RefusesWords told refused untouched) = let both : None ≡ Some own = sym may.run.built ∙ refused in cc
-  of_running may s items own (MakesImage make own' asks makes) = absurd (not_both make may.run.run asks.read may.run.read)
-  of_running may s items own (NoScript told asks lacks untouched same) = of_script may own lacks
-  of_running may s items own (RunsScript text s' items' own' asks read script built untouched runs) = of_run may s items own runs.ends
+  of_running : IsRunnable words given → (s : ScriptValue) (items : List TraceItem) (lines : List ℕ) (own : Status) → Course words given left s items lines own → IsWhole own
+  of_running may s items lines own (RefusesWords told refused untouched) = let both : None ≡ Some own = sym may.run.built ∙ refused in cc
+  of_running may s items lines own (MakesImage make own' asks makes) = absurd (not_make_run make may.run.run asks.read may.run.read)
+  of_running may s items lines own (ShowsImage lines' own' asks script disk shows) = absurd (not_run_show may.run.run may.run.read asks.read)
+  of_running may s items lines own (NoScript told asks lacks untouched same) = of_script may own lacks
+  of_running may s items lines own (RunsScript text s' items' own' asks read script built untouched runs) = of_run may.mountable s items own runs.ends
 
-  of_making : IsMakeable words given → (s : ScriptValue) (items : List TraceItem) (own : Status) → Course words given left s items own → IsWhole own
-  of_making may s items own (RefusesWords told refused untouched) = let both : None ≡ Some own = sym may.asks.built ∙ refused in cc
-  of_making may s items own (MakesImage make own' asks makes) =
-      of_make make may.few (subst (λ m. fits (image_of given.disk m) ≡ true) (one_make may.make make may.asks.read asks.read) may.room) own makes
-  of_making may s items own (NoScript told asks lacks untouched same) = absurd (not_both may.make asks.run may.asks.read asks.read)
-  of_making may s items own (RunsScript text s' items' own' asks read script built untouched runs) = absurd (not_both may.make asks.run may.asks.read asks.read)
+  of_showing : IsShowable words given → (s : ScriptValue) (items : List TraceItem) (lines : List ℕ) (own : Status) → Course words given left s items lines own → IsWhole own
+  of_showing may s items lines own (RefusesWords told refused untouched) = let both : None ≡ Some own = sym may.show.built ∙ refused in cc
+  of_showing may s items lines own (MakesImage make own' asks makes) = absurd (not_make_show make asks.read may.show.read)
+  of_showing may s items lines own (ShowsImage lines' own' asks script disk shows) = of_show may.mountable lines own shows
+  of_showing may s items lines own (NoScript told asks lacks untouched same) = absurd (not_run_show asks.run asks.read may.show.read)
+  of_showing may s items lines own (RunsScript text s' items' own' asks read script built untouched runs) = absurd (not_run_show asks.run asks.read may.show.read)
 
-  of_course : IsRunnable words given ⊎ IsMakeable words given → (s : ScriptValue) (items : List TraceItem) (own : Status) → Course words given left s items own → IsWhole own
-  of_course (inl may) s items own course = of_running may s items own course
-  of_course (inr may) s items own course = of_making may s items own course
+  of_making : IsMakeable words given → (s : ScriptValue) (items : List TraceItem) (lines : List ℕ) (own : Status) → Course words given left s items lines own → IsWhole own
+  of_making may s items lines own (RefusesWords told refused untouched) = let both : None ≡ Some own = sym may.asks.built ∙ refused in cc
+  of_making may s items lines own (MakesImage make own' asks makes) =
+      of_make make may.few (subst (λ m. fits (plan_for given.disk m) ≡ true) (one_make may.make make may.asks.read asks.read) may.room) own makes
+  of_making may s items lines own (ShowsImage lines' own' asks script disk shows) = absurd (not_make_show may.make may.asks.read asks.read)
+  of_making may s items lines own (NoScript told asks lacks untouched same) = absurd (not_make_run may.make asks.run may.asks.read asks.read)
+  of_making may s items lines own (RunsScript text s' items' own' asks read script built untouched runs) = absurd (not_make_run may.make asks.run may.asks.read asks.read)
+
+  of_course : IsRunnable words given ⊎ (IsShowable words given ⊎ IsMakeable words given) → (s : ScriptValue) (items : List TraceItem) (lines : List ℕ) (own : Status) → Course words given left s items lines own → IsWhole own
+  of_course (inl may) s items lines own course = of_running may s items lines own course
+  of_course (inr (inl may)) s items lines own course = of_showing may s items lines own course
+  of_course (inr (inr may)) s items lines own course = of_making may s items lines own course
 
   of_sink : (which : Which) (before now : ℕ) (old new : Status) → (Rose before now → ⊥) → Becomes which before now old new → IsWhole old → IsWhole new
   of_sink which before now old new still (Stays same) whole = subst IsWhole (sym same) whole
   of_sink which before now old new still (WithoutMemory without) whole = inr without
   of_sink which before now old new still (Fails x y not_told fails up) whole = absurd (still (rose before now x y up))
 
-pub complete : (given left : Inputs) (sinks sinks_now : Outputs) (words : List (List ℕ)) (s : ScriptValue) (items : List TraceItem) (own answer : Status) → Course words given left s items own
-    → Reports sinks sinks_now s items own answer → IsComplete words given left sinks sinks_now answer
-complete given left sinks sinks_now words s items own answer course report none may =
-    let told = of_sink words given left sinks sinks_now none _ _ _ own report.told none.trace report.told_is (of_course words given left sinks sinks_now none may s items own course) in
+pub complete : (given left : Inputs) (sinks sinks_now : Outputs) (words : List (List ℕ)) (s : ScriptValue) (items : List TraceItem) (lines : List ℕ) (own answer : Status) → Course words given left s items lines own
+    → Reports sinks sinks_now s items lines own answer → IsComplete words given left sinks sinks_now answer
+complete given left sinks sinks_now words s items lines own answer course report none may =
+    let told = of_sink words given left sinks sinks_now none _ _ _ own report.told none.trace report.told_is (of_course words given left sinks sinks_now none may s items lines own course) in
     of_sink words given left sinks sinks_now none _ _ _ report.told answer none.output report.answer_is told

@@ -7,11 +7,17 @@ use Rattle.cluster_program.specs.declared.status.Status.{Status}
 use Rattle.cluster_program.specs.World.{Inputs}
 use Rattle.cluster_program.specs.Course.{Course}
 
-pub course_of : (words : List (List ℕ)) (given left : Inputs) {s : ScriptValue} {items : List TraceItem} {own told : Status}
-    → s ≡ nothing → items ≡ [] → told ≡ own → Course words given left nothing [] own → Course words given left s items told
-course_of words given left {s} {items} {own} {told} script none same course =
-    subst (λ (x : ScriptValue). Course words given left x items told) (sym script)
-    (subst (λ (is : List TraceItem). Course words given left nothing is told) (sym none) (subst (Course words given left nothing []) (sym same) course))
+pub course_of : (words : List (List ℕ)) (given left : Inputs) {s : ScriptValue} {items : List TraceItem} {lines told_lines : List ℕ} {own told : Status}
+    → s ≡ nothing → items ≡ [] → told_lines ≡ lines → told ≡ own → Course words given left nothing [] lines own → Course words given left s items told_lines told
+course_of words given left {s} {items} {lines} {told_lines} {own} {told} script none shown same course =
+    subst (λ (x : ScriptValue). Course words given left x items told_lines told) (sym script)
+    (subst (λ (is : List TraceItem). Course words given left nothing is told_lines told) (sym none)
+    (subst (λ (ls : List ℕ). Course words given left nothing [] ls told) (sym shown) (subst (Course words given left nothing [] lines) (sym same) course)))
+
+-- a command that shows nothing
+pub with_no_lines : (words : List (List ℕ)) (given left : Inputs) {s : ScriptValue} {items : List TraceItem} {lines : List ℕ} {own : Status}
+    → lines ≡ [] → Course words given left s items [] own → Course words given left s items lines own
+with_no_lines words given left {s} {items} {lines} {own} none course = subst (λ (ls : List ℕ). Course words given left s items ls own) (sym none) course
 
 pub never_both : (b : Bool) → b ≡ false → b ≡ true → ⊥
 never_both b isnt is = let both : true ≡ false = sym is ∙ isnt in cc

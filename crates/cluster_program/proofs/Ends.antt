@@ -13,7 +13,8 @@ use Rattle.cluster_program.specs.declared.status.Status.TheVariants as status
 use Rattle.cluster_program.specs.declared.status.Which.{Which}
 use Rattle.cluster_program.specs.declared.status.Which.TheVariants as which
 use Rattle.cluster_program.specs.World.{Inputs, Outputs}
-use Rattle.cluster_program.specs.Course.{Course, RefusesWords, MakesImage, NoScript, Makes, IsTooLarge, IsTooSmall, LacksMemory, HasFailed, HasMade, RunsScript, LacksScript, SourceFailed, Refused, RefusedEarly, NotBuiltYet, RunEnds, IsDone, MountFailed, CallFailed, MountRefused, CallRefused, NoRoom, words_refusal, refusal_of, is_built}
+use Rattle.cluster_program.specs.Course.{Course, RefusesWords, MakesImage, NoScript, Makes, IsTooLarge, IsTooSmall, LacksMemory, HasFailed, HasMade, RunsScript, LacksScript, SourceFailed, Refused, RefusedEarly, NotBuiltYet, RunEnds, IsDone, NotMounted, CallFailed, CallRefused, CallLeadsOut, NoRoom, Shows, HasShown, ShowsNone, TreeFailed, TreeRefused, TreeLeadsOut, NothingHeld, ShowsImage, words_refusal, refusal_of, is_built}
+use Rattle.cluster_program.specs.Mounting.{MountEnds, DiskFails, LiesOutside, IsDamaged, IsDirty, IsHashed, HasOtherRoot, LacksRoom}
 use Rattle.cluster_program.specs.Report.{Becomes, Stays, WithoutMemory, Fails, Reports}
 use Rattle.cluster_program.specs.Command.{FaultHasCause}
 
@@ -42,12 +43,29 @@ module _ (given left : Inputs) (sinks sinks_now : Outputs) where
   script_fault own (NotBuiltYet text s line read is foreign) = tt
   script_fault own NoRoom = tt
 
+  mount_fault : (own : Status) → MountEnds given.disk given.disk_faults left.disk_faults own → FaultHasCause given left sinks sinks_now own
+  mount_fault own (DiskFails block x y up reached) = up
+  mount_fault own (LiesOutside what value outside never) = tt
+  mount_fault own (IsDamaged block rule breaks never) = tt
+  mount_fault own (IsDirty block dirty) = tt
+  mount_fault own (IsHashed block hashed) = tt
+  mount_fault own (HasOtherRoot block other) = tt
+  mount_fault own LacksRoom = tt
+
+  show_fault : (lines : List ℕ) (own : Status) → Shows given.disk given.disk_faults left.disk_faults lines own → FaultHasCause given left sinks sinks_now own
+  show_fault lines own (HasShown m lines' mounted are stands) = tt
+  show_fault lines own (ShowsNone own' ends) = mount_fault own ends
+  show_fault lines own (TreeFailed root block x y up begins reads) = up
+  show_fault lines own (TreeRefused root block other begins refuses) = tt
+  show_fault lines own (TreeLeadsOut root block other begins refuses breaks) = tt
+  show_fault lines own NothingHeld = tt
+
   run_fault : (s : ScriptValue) (items : List TraceItem) (own : Status) → RunEnds given.disk given.disk_faults left.disk_faults s items own → FaultHasCause given left sinks sinks_now own
   run_fault s items own (IsDone all whole) = tt
-  run_fault s items own (MountFailed block x y none up reads) = up
+  run_fault s items own (NotMounted own' none ends) = mount_fault own ends
   run_fault s items own (CallFailed root block x y up begins reads) = up
-  run_fault s items own (MountRefused block none other refuses) = tt
   run_fault s items own (CallRefused root block other begins refuses) = tt
+  run_fault s items own (CallLeadsOut root block other begins refuses breaks) = tt
   run_fault s items own NoRoom = tt
 
   make_fault : (make : MakeWords) (own : Status) → Makes make given left own → FaultHasCause given left sinks sinks_now own
@@ -57,11 +75,12 @@ module _ (given left : Inputs) (sinks sinks_now : Outputs) where
   make_fault make own (HasFailed block x y few room up within begun same) = up
   make_fault make own (HasMade few room made same) = tt
 
-  course_fault : (words : List (List ℕ)) (s : ScriptValue) (items : List TraceItem) (own : Status) → Course words given left s items own → FaultHasCause given left sinks sinks_now own
-  course_fault words s items own (RefusesWords told refused untouched) = words_fault given.disk.size words own refused
-  course_fault words s items own (MakesImage make own' asks makes) = make_fault make own makes
-  course_fault words s items own (NoScript told asks lacks untouched same) = script_fault own lacks
-  course_fault words s items own (RunsScript text s' items' own' asks read script built untouched runs) = run_fault s items own runs.ends
+  course_fault : (words : List (List ℕ)) (s : ScriptValue) (items : List TraceItem) (lines : List ℕ) (own : Status) → Course words given left s items lines own → FaultHasCause given left sinks sinks_now own
+  course_fault words s items lines own (RefusesWords told refused untouched) = words_fault given.disk.size words own refused
+  course_fault words s items lines own (MakesImage make own' asks makes) = make_fault make own makes
+  course_fault words s items lines own (ShowsImage lines' own' asks script disk shows) = show_fault lines own shows
+  course_fault words s items lines own (NoScript told asks lacks untouched same) = script_fault own lacks
+  course_fault words s items lines own (RunsScript text s' items' own' asks read script built untouched runs) = run_fault s items own runs.ends
 
   trace_fault : (own told : Status) → Becomes which.Trace sinks.trace_faults sinks_now.trace_faults own told → FaultHasCause given left sinks sinks_now own → FaultHasCause given left sinks sinks_now told
   trace_fault own told (Stays same) cause = subst (FaultHasCause given left sinks sinks_now) (sym same) cause
@@ -73,7 +92,7 @@ module _ (given left : Inputs) (sinks sinks_now : Outputs) where
   output_fault told answer (WithoutMemory without) cause = subst (FaultHasCause given left sinks sinks_now) (sym without) tt
   output_fault told answer (Fails x y not_told fails up) cause = subst (FaultHasCause given left sinks sinks_now) (sym fails) up
 
-  pub fault_has_cause : (words : List (List ℕ)) (s : ScriptValue) (items : List TraceItem) (own answer : Status) → Course words given left s items own
-      → Reports sinks sinks_now s items own answer → FaultHasCause given left sinks sinks_now answer
-  fault_has_cause words s items own answer course report =
-      output_fault report.told answer report.answer_is (trace_fault own report.told report.told_is (course_fault words s items own course))
+  pub fault_has_cause : (words : List (List ℕ)) (s : ScriptValue) (items : List TraceItem) (lines : List ℕ) (own answer : Status) → Course words given left s items lines own
+      → Reports sinks sinks_now s items lines own answer → FaultHasCause given left sinks sinks_now answer
+  fault_has_cause words s items lines own answer course report =
+      output_fault report.told answer report.answer_is (trace_fault own report.told report.told_is (course_fault words s items lines own course))

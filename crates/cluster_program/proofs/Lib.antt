@@ -1,10 +1,13 @@
 pub mod Lines
+pub mod Mounts
+pub mod Shows
 pub mod Passing
 pub mod Quiet
 pub mod Runs
 pub mod Scripts
 pub mod Courses
 pub mod ClientLines
+pub mod Far
 pub mod Faults
 pub mod Images
 pub mod Ends

@@ -106,3 +106,18 @@ pub front_all : {T E : Type 0} (a b c : Option (List ℕ)) (start held now all :
 front_all a b c start held now all r none before last =
     let (rest, end) = at_either b c held now [] r last in
     front_from a c start all none (rest, subst (Passes a c start rest) (append-nil all) (then_passes a b c start held rest all [] before end))
+
+-- ---- a text of which a front was held already
+
+-- what was held counts as sent last
+pub held_first : (a b : Option (List ℕ)) (held now bytes : List ℕ) → Passes a b held now bytes → Passes a b [] now (held ++ bytes)
+held_first a b held now bytes p = record { sent = p.sent; appended = p.appended; split = p.split }
+
+pub held_front : (a b : Option (List ℕ)) (held all bytes : List ℕ) → held ++ bytes ≡ all → (rest : List ℕ) × Passes a b held rest bytes → AppendsPrefix a b all
+held_front a b held all bytes is p = subst (AppendsPrefix a b) is (front_of a b p.0 (held ++ bytes) (held_first a b held p.0 bytes p.1))
+
+pub held_front_all : {T E : Type 0} (a b c : Option (List ℕ)) (start held now all bytes : List ℕ) (r : Result T E) → start ++ bytes ≡ all → Passes a b start held bytes → PassesOn b c held now r []
+    → AppendsPrefix a c all
+held_front_all a b c start held now all bytes r is before last =
+    let (rest, end) = at_either b c held now [] r last in
+    held_front a c start all bytes is (rest, subst (Passes a c start rest) (append-nil bytes) (then_passes a b c start held rest bytes [] before end))

@@ -13,30 +13,26 @@ use Rattle.run_rules.specs.Follows.{history_of}
 use Rattle.run_rules.specs.History.{HoldsHistory, NoneStopped, AllAnswered}
 use Rattle.run_rules.proofs.Nothing.{nothing_follows, nothing_is_legal}
 use Rattle.shared_disk.specs.Disk.{DiskState}
-use Rattle.single_node.specs.Flat.{IsFlat, HasFlatRoot, LacksFlatRoot, IsStart}
+use Rattle.single_node.specs.Flat.{IsFlat, HasFlatRoot, IsStart}
 use Rattle.single_node.specs.Ends.{EndHasCause, IfNotRead, IfDiskFailed}
+use Rattle.single_node.specs.declared.end.Refusal.{Refusal}
+use Rattle.single_node.specs.declared.end.Refusal.TheVariants as why
 use Rattle.single_node.specs.declared.end.RunEnd.{RunEnd}
 use Rattle.single_node.specs.declared.end.RunEnd.TheVariants as end
 use Rattle.cluster_program.specs.declared.status.Status.{Status}
 use Rattle.cluster_program.specs.declared.status.Status.TheVariants as status
-use Rattle.cluster_program.specs.Course.{Runs, RunEnds, IsDone, MountFailed, MountRefused, CallFailed, CallRefused, NoRoom, AtCall}
-use Rattle.single_node.specs.Blocks.{MountReads, MountRefuses, CallReads, CallRefuses, RefusesWhatIsTold, IsCallThat}
+use Rattle.cluster_program.specs.Course.{Runs, RunEnds, IsDone, NotMounted, CallFailed, CallRefused, CallLeadsOut, NoRoom, AtCall}
+use Rattle.single_node.specs.Blocks.{CallReads, CallRefuses, RefusesWhatIsTold, IsCallThat}
 use Rattle.single_node.specs.Run.{IsRunUpTo, IsWholeRun, IsRunOf, NotJoined, Taken, Unmounted}
+use Rattle.image_model.specs.Image.{image_of}
+use Rattle.image_model.specs.Rules.{Breaks}
+use Rattle.cluster_program.specs.Mounting.{MountEnds, DiskFails, LiesOutside, IsDamaged, IsDirty, IsHashed, HasOtherRoot, LacksRoom}
 use Rattle.cluster_program.specs.Early.{status_of_end}
+use Rattle.cluster_program.proofs.Far.{far_file}
 
 -- a count went up within a longer time too
 pub longer : (first before now x y : ℕ) → first ≤ before → WentUp before now x y → WentUp first now x y
 longer first before now x y earlier up = record { from = omega (arith, earlier, up.from); rose = up.rose; to = up.to }
-
--- an end in mounting
-pub mount_end : (disk : DiskState) (first now : ℕ → ℕ) (s : ScriptValue) (items : List TraceItem) (e : RunEnd) → items ≡ [] → EndHasCause 0 first now e
-    → IfNotRead e (λ _. IsTrue disk.tells → LacksFlatRoot disk) → IfNotRead e (λ b. IsTrue disk.tells → MountRefuses disk b)
-    → IfDiskFailed e (λ b. IsTrue disk.tells → MountReads disk b) → RunEnds disk first now s items (status_of_end e)
-mount_end disk first now s items (end.DiskFailed node block rise) none cause other refused failed =
-    let here = MountFailed block rise.before rise.after none cause.1 failed in
-    subst (λ (n : ℕ). RunEnds disk first now s items (status.DeviceFault n (Some block) rise.before rise.after)) (sym cause.0) here
-mount_end disk first now s items (end.NotRead block) none cause other refused failed = MountRefused block none (λ tree flat. other flat.tells flat.superblock flat.root) refused
-mount_end disk first now s items end.NoMemory none cause other refused failed = NoRoom
 
 -- a tree that the run may start from
 pub may_start : (disk mid : DiskState) (root : List ℕ) (tree : Tree) → mid ≡ disk → (IsTrue disk.tells → HasFlatRoot disk root) → IsFlat disk tree → IsStart mid root tree
@@ -49,29 +45,39 @@ of_call (line.Crash nodes) f holds = holds
 of_call (line.Join node) f holds = holds
 
 -- a call that refuses what is told, on a disk whose root is this block where it tells its blocks
-at_root : (disk : DiskState) (root : List ℕ) (s : ScriptValue) (items : List TraceItem) (block : ℕ) → (IsTrue disk.tells → HasFlatRoot disk root)
-    → AtCall disk root s items (λ call. RefusesWhatIsTold disk root call block) → AtCall disk root s items (λ call. IsTrue disk.tells → CallRefuses disk root call block)
-at_root disk root s items block begins there = record {
+at_root : (disk : DiskState) (root : List ℕ) (s : ScriptValue) (items : List TraceItem) (block : ℕ) (why : Refusal) → (IsTrue disk.tells → HasFlatRoot disk root)
+    → AtCall disk root s items (λ call. RefusesWhatIsTold disk root call block why) → AtCall disk root s items (λ call. IsTrue disk.tells → CallRefuses disk root call block why)
+at_root disk root s items block why begins there = record {
   count = there.count;
   taken = there.taken;
   next = there.next;
   is_next = there.is_next;
-  holds = of_call {Q = λ call. IsTrue disk.tells → CallRefuses disk root call block} there.next (λ call refuses tells. refuses tells (begins tells)) there.holds;
+  holds = of_call {Q = λ call. IsTrue disk.tells → CallRefuses disk root call block why} there.next (λ call refuses tells. refuses tells (begins tells)) there.holds;
 }
+
+call_leads_out : (disk : DiskState) (root : List ℕ) (block : ℕ) (l : Line) → HasFlatRoot disk root → IsTrue disk.tells
+    → IsCallThat (λ call. IsTrue disk.tells → CallRefuses disk root call block why.LeadsOut) l → Breaks (image_of disk) 2 block
+call_leads_out disk root block (line.Call client call) has tells refuses = far_file disk root call block has (refuses tells)
+call_leads_out disk root block line.Wait has tells refuses = absurd refuses
+call_leads_out disk root block (line.Crash nodes) has tells refuses = absurd refuses
+call_leads_out disk root block (line.Join node) has tells refuses = absurd refuses
 
 -- an end in a call, of a run on the same disk
 pub call_end : (disk mid : DiskState) (first before now : ℕ → ℕ) (s : ScriptValue) (items : List TraceItem) (root : List ℕ) (e : RunEnd) → mid ≡ disk
     → (IsTrue disk.tells → HasFlatRoot disk root) → ((j : ℕ) → first j ≤ before j) → EndHasCause 1 before now e
-    → IfNotRead e (λ _. (tree : Tree) → IsStart mid root tree → ⊥)
-    → IfNotRead e (λ b. AtCall mid root s items (λ call. RefusesWhatIsTold mid root call b))
+    → IfNotRead e (λ _ _. (tree : Tree) → IsStart mid root tree → ⊥)
+    → IfNotRead e (λ b r. AtCall mid root s items (λ call. RefusesWhatIsTold mid root call b r))
     → IfDiskFailed e (λ b. AtCall mid root s items (λ call. CallReads root call b)) → RunEnds disk first now s items (status_of_end e)
 call_end disk mid first before now s items root (end.DiskFailed node block rise) same begins earlier cause other refused failed =
     let here = CallFailed root block rise.before rise.after (longer (first 1) (before 1) (now 1) rise.before rise.after (earlier 1) cause.1) begins
     (subst (λ (d : DiskState). AtCall d root s items (λ call. CallReads root call block)) same failed) in
     subst (λ (n : ℕ). RunEnds disk first now s items (status.DeviceFault n (Some block) rise.before rise.after)) (sym cause.0) here
-call_end disk mid first before now s items root (end.NotRead block) same begins earlier cause other refused failed =
-    let here = subst (λ (d : DiskState). AtCall d root s items (λ call. RefusesWhatIsTold d root call block)) same refused in
-    CallRefused root block (λ tree flat. other tree (may_start disk mid root tree same begins flat)) begins (at_root disk root s items block begins here)
+call_end disk mid first before now s items root (end.NotRead block why.Form) same begins earlier cause other refused failed =
+    let here = subst (λ (d : DiskState). AtCall d root s items (λ call. RefusesWhatIsTold d root call block why.Form)) same refused in
+    CallRefused root block (λ tree flat. other tree (may_start disk mid root tree same begins flat)) begins (at_root disk root s items block why.Form begins here)
+call_end disk mid first before now s items root (end.NotRead block why.LeadsOut) same begins earlier cause other refused failed =
+    let here = at_root disk root s items block why.LeadsOut begins (subst (λ (d : DiskState). AtCall d root s items (λ call. RefusesWhatIsTold d root call block why.LeadsOut)) same refused) in
+    CallLeadsOut root block (λ tree flat. other tree (may_start disk mid root tree same begins flat)) begins here (λ tells. call_leads_out disk root block here.next (begins tells) tells here.holds)
 call_end disk mid first before now s items root end.NoMemory same begins earlier cause other refused failed = NoRoom
 
 -- ---- the same items, from what may be a start now
@@ -127,5 +133,15 @@ ran disk mid disk_now faults faults_now s items own root same kept begins run hi
 -- an early end is not told to be done
 pub never_done : (e : RunEnd) → status_of_end e ≡ status.Done → ⊥
 never_done (end.DiskFailed node block rise) is = cc
-never_done (end.NotRead block) is = cc
+never_done (end.NotRead block why.Form) is = cc
+never_done (end.NotRead block why.LeadsOut) is = cc
 never_done end.NoMemory is = cc
+
+pub mount_never_done : (disk : DiskState) (first now : ℕ → ℕ) (own : Status) → MountEnds disk first now own → own ≡ status.Done → ⊥
+mount_never_done disk first now own (DiskFails block x y up reached) is = cc
+mount_never_done disk first now own (LiesOutside what value outside never) is = cc
+mount_never_done disk first now own (IsDamaged block rule breaks never) is = cc
+mount_never_done disk first now own (IsDirty block dirty) is = cc
+mount_never_done disk first now own (IsHashed block hashed) is = cc
+mount_never_done disk first now own (HasOtherRoot block other) is = cc
+mount_never_done disk first now own LacksRoom is = cc

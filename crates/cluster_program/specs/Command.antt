@@ -9,7 +9,13 @@ use Rattle.trace_text.specs.declared.item.TraceItem.{TraceItem}
 use Rattle.script_lang.specs.Script.{ScriptValue}
 use Rattle.cluster_program.specs.World.{Inputs, Outputs}
 use Rattle.cluster_program.specs.Report.{Reports}
-use Rattle.cluster_program.specs.Course.{Course, AsksToRun, AsksToMake, image_of, most_blocks}
+use Rattle.cluster_program.specs.Course.{Course, AsksToRun, AsksToShow, AsksToMake, plan_for, most_blocks}
+use Rattle.cluster_program.specs.Mounting.{AreClean}
+use Rattle.image_model.specs.Image.{image_of}
+use Rattle.image_model.specs.Rules.{IsHashedAt}
+use Rattle.image_model.specs.Stands.{Stands}
+use Rattle.image_mount.specs.Mounted.{IsOfProfile}
+use Rattle.shared_disk.specs.Disk.{DiskState}
 use Rattle.command_words.specs.declared.command.MakeWords.{MakeWords}
 use Rattle.mkgfs2_tool.specs.Order.{fits}
 use Rattle.cluster_program.specs.declared.status.Status.{Status}
@@ -28,9 +34,10 @@ FaultHasCause given left sinks sinks_now _ = ⊤
 pub record Ends (words : List (List ℕ)) (given left : Inputs) (sinks sinks_now : Outputs) (answer : Status) : Type 0 where
   pub script : ScriptValue
   pub items : List TraceItem
+  pub lines : List ℕ
   pub own : Status
-  pub course : Course words given left script items own
-  pub report : Reports sinks sinks_now script items own answer
+  pub course : Course words given left script items lines own
+  pub report : Reports sinks sinks_now script items lines own answer
 
 -- ---- when a command is carried out whole
 
@@ -41,7 +48,17 @@ pub record NoneRose (given left : Inputs) (sinks sinks_now : Outputs) : Type 0 w
   pub trace : Rose sinks.trace_faults sinks_now.trace_faults → ⊥
   pub output : Rose sinks.output_faults sinks_now.output_faults → ⊥
 
--- the words are a run, the source tells its text, which is a script without a line that is not built, and the image is flat
+-- The image on the disk stands, is one of the profile and flat: no directory of it is hashed, each journal was left clean, and
+-- the root is a linear directory of files that stand behind their dinodes.
+pub record IsMountable (disk : DiskState) : Type 0 where
+  pub tree : Tree
+  pub flat : IsFlat disk tree
+  pub profile : IsOfProfile (image_of disk)
+  pub stands : Stands (image_of disk) tree
+  pub linear : (a : ℕ) → IsHashedAt (image_of disk) a → ⊥
+  pub clean : AreClean (image_of disk)
+
+-- the words are a run, the source tells its text, which is a script without a line that is not built, and the image can be mounted
 pub record IsRunnable (words : List (List ℕ)) (given : Inputs) : Type 0 where
   pub run : AsksToRun given.disk.size words
   pub text : List ℕ
@@ -49,17 +66,21 @@ pub record IsRunnable (words : List (List ℕ)) (given : Inputs) : Type 0 where
   pub script : ScriptValue
   pub is_script : script_read text ≡ Script script
   pub built : first_foreign script ≡ None
-  pub tree : Tree
-  pub flat : IsFlat given.disk tree
+  pub mountable : IsMountable given.disk
+
+-- the words ask for an image to be shown, and it can be mounted
+pub record IsShowable (words : List (List ℕ)) (given : Inputs) : Type 0 where
+  pub show : AsksToShow given.disk.size words
+  pub mountable : IsMountable given.disk
 
 -- the words ask for an image that is built, and it fits the device, which is not too large
 pub record IsMakeable (words : List (List ℕ)) (given : Inputs) : Type 0 where
   pub make : MakeWords
   pub asks : AsksToMake given.disk.size words make
   pub few : given.disk.count ≤ most_blocks
-  pub room : fits (image_of given.disk make) ≡ true
+  pub room : fits (plan_for given.disk make) ≡ true
 
 -- then nothing but want of memory keeps it from being done
 abbrev pub IsComplete : List (List ℕ) → Inputs → Inputs → Outputs → Outputs → Status → Type 0
 IsComplete words given left sinks sinks_now answer =
-    NoneRose given left sinks sinks_now → IsRunnable words given ⊎ IsMakeable words given → (answer ≡ status.Done) ⊎ (answer ≡ status.NoMemory)
+    NoneRose given left sinks sinks_now → IsRunnable words given ⊎ (IsShowable words given ⊎ IsMakeable words given) → (answer ≡ status.Done) ⊎ (answer ≡ status.NoMemory)

@@ -1,5 +1,5 @@
 -- What a command does, from its words and its script to the items of its run and its own end.
-use Rattle.std.specs.Prelude.{ℕ, ◌≡◌, ◌<◌, ◌≤◌, ◌==◌, nat_lt, not, IfSome, ◌++◌, ◌&&◌, Bool, true, false, IsTrue, if◌then◌else◌, List, [], Option, Some, None, Result, Ok, Err}
+use Rattle.std.specs.Prelude.{ℕ, ◌≡◌, ◌<◌, ◌≤◌, ◌==◌, nat_lt, not, IfSome, ◌++◌, ◌&&◌, Bool, true, false, IsTrue, if◌then◌else◌, List, [], map, Option, Some, None, Result, Ok, Err}
 use Rattle.std.specs.Io.KnownBytes.{Consumes, IsAtEnd}
 use Rattle.fault_counts.specs.Causes.{WentUp}
 use Rattle.file_tree.specs.Tree.{Tree}
@@ -24,13 +24,20 @@ use Rattle.run_rules.specs.Follows.{history_of}
 use Rattle.run_rules.specs.History.{HoldsHistory, NoneStopped, AllAnswered}
 use Rattle.shared_disk.specs.Disk.{DiskState}
 use Rattle.single_node.specs.Flat.{IsFlat, HasFlatRoot, IsStart}
-use Rattle.single_node.specs.Blocks.{MountReads, MountRefuses, CallReads, CallRefuses, EndsAtCall}
+use Rattle.single_node.specs.Blocks.{CallReads, CallRefuses, EndsAtCall}
+use Rattle.single_node.specs.Shown.{TreeReads, TreeRefuses}
+use Rattle.single_node.specs.declared.end.Refusal.TheVariants as refusal
+use Rattle.image_model.specs.Rules.{Breaks}
+use Rattle.image_model.specs.Stands.{Stands}
+use Rattle.image_mount.specs.Mounted.{Journal, MountedValue, IsMounted}
+use Rattle.show_text.specs.Show.{journal_lines, tree_lines}
+use Rattle.cluster_program.specs.Mounting.{OfImage, NeverStands, MountEnds}
 use Rattle.single_node.specs.Run.{IsRunOf, IsWholeRun}
 use Rattle.cluster_program.specs.World.{Inputs}
 use Rattle.cluster_program.specs.declared.status.Status.{Status}
 use Rattle.cluster_program.specs.declared.status.Status.TheVariants as status
 use Rattle.cluster_program.specs.declared.status.Part.TheVariants as part
-use Rattle.cluster_program.specs.declared.status.Field.TheVariants as field
+use Rattle.image_mount.specs.declared.field.Field.TheVariants as field
 
 -- ---- what stays as it was
 
@@ -54,9 +61,10 @@ is_none (Some a) = false
 abbrev pub has_many_journals : ℕ → MakeWords → Bool
 has_many_journals block_size words = block_size == 512 && nat_lt 3 words.journals
 
--- today an image is made, but not one with so many journals, and a run is built, but not its schedules, steps and frames
+-- today an image is made, but not one with so many journals, an image is shown, and a run is built, but not its schedules, steps and frames
 abbrev pub is_built : ℕ → Command → Bool
 is_built block_size (command.Make words) = not (has_many_journals block_size words)
+is_built block_size command.Show = true
 is_built block_size (command.Run words) = is_none words.schedule && is_none words.steps && is_none words.frames
 is_built block_size _ = false
 
@@ -68,9 +76,13 @@ refusal_of block_size (Ok c) = if is_built block_size c then None else Some (sta
 abbrev pub words_refusal : ℕ → List (List ℕ) → Option Status
 words_refusal block_size words = refusal_of block_size (words_read block_size words)
 
--- the words ask for an image, or for a run, and that is built
+-- the words ask for an image, for a show, or for a run, and that is built
 pub record AsksToMake (block_size : ℕ) (words : List (List ℕ)) (make : MakeWords) : Type 0 where
   pub read : words_read block_size words ≡ Ok (command.Make make)
+  pub built : words_refusal block_size words ≡ None
+
+pub record AsksToShow (block_size : ℕ) (words : List (List ℕ)) : Type 0 where
+  pub read : words_read block_size words ≡ Ok command.Show
   pub built : words_refusal block_size words ≡ None
 
 pub record AsksToRun (block_size : ℕ) (words : List (List ℕ)) : Type 0 where
@@ -84,8 +96,8 @@ pub record AsksToRun (block_size : ℕ) (words : List (List ℕ)) : Type 0 where
 abbrev pub options_of : MakeWords → MakeOptions
 options_of words = record { journals = words.journals; journal_blocks = words.journal_blocks; groups = words.groups; uuid = words.uuid; time = words.time }
 
-abbrev pub image_of : DiskState → MakeWords → Plan
-image_of disk words = plan_of disk.size disk.count (options_of words)
+abbrev pub plan_for : DiskState → MakeWords → Plan
+plan_for disk words = plan_of disk.size disk.count (options_of words)
 
 -- the greatest device
 abbrev pub most_blocks : ℕ
@@ -95,14 +107,14 @@ most_blocks = 131072
 -- memory; the disk failed, at one of its blocks or at a barrier, and a part is made; or the image is made, every block of it.
 pub data Makes (words : MakeWords) (before now : Inputs) : Status → Type 0 where
   IsTooLarge : most_blocks < before.disk.count → now ≡ before → Makes words before now (status.NotProfile field.Device before.disk.count)
-  IsTooSmall : (needed : ℕ) → before.disk.count ≤ most_blocks → fits (image_of before.disk words) ≡ false → IsNeeded (image_of before.disk words) needed → now ≡ before
+  IsTooSmall : (needed : ℕ) → before.disk.count ≤ most_blocks → fits (plan_for before.disk words) ≡ false → IsNeeded (plan_for before.disk words) needed → now ≡ before
       → Makes words before now (status.TooSmall needed before.disk.count)
-  LacksMemory : before.disk.count ≤ most_blocks → fits (image_of before.disk words) ≡ true → now ≡ before → Makes words before now status.NoMemory
-  HasFailed : (block : Option ℕ) (x y : ℕ) → before.disk.count ≤ most_blocks → fits (image_of before.disk words) ≡ true → WentUp (before.disk_faults 0) (now.disk_faults 0) x y
-      → IfSome block (λ b. b < before.disk.count) → IsBegun (image_of before.disk words) before.disk now.disk before.disk_list now.disk_list
+  LacksMemory : before.disk.count ≤ most_blocks → fits (plan_for before.disk words) ≡ true → now ≡ before → Makes words before now status.NoMemory
+  HasFailed : (block : Option ℕ) (x y : ℕ) → before.disk.count ≤ most_blocks → fits (plan_for before.disk words) ≡ true → WentUp (before.disk_faults 0) (now.disk_faults 0) x y
+      → IfSome block (λ b. b < before.disk.count) → IsBegun (plan_for before.disk words) before.disk now.disk before.disk_list now.disk_list
       → KeepsScript before now → Makes words before now (status.DeviceFault 0 block x y)
-  HasMade : before.disk.count ≤ most_blocks → fits (image_of before.disk words) ≡ true
-      → IsMade (image_of before.disk words) before.disk now.disk before.disk_list now.disk_list → KeepsScript before now → Makes words before now status.Done
+  HasMade : before.disk.count ≤ most_blocks → fits (plan_for before.disk words) ≡ true
+      → IsMade (plan_for before.disk words) before.disk now.disk before.disk_list now.disk_list → KeepsScript before now → Makes words before now status.Done
 
 -- ---- the script
 
@@ -129,20 +141,20 @@ pub data LacksScript (before now : Option (List ℕ)) (faults faults_now : ℕ) 
 abbrev pub AtCall : DiskState → List ℕ → ScriptValue → List TraceItem → (Call → Type 0) → Type 0
 AtCall disk root s items P = EndsAtCall P s.clients s.lines items (IsStart disk root)
 
--- How a run ends: each line is answered and the node has unmounted; the disk failed in mounting, before the first item, or in a call, behind the lines
--- above it; mounting or a call met, likewise, a block that is not of a form that is built, so that the image is not flat;
--- or there was no memory.
+-- How a run ends: each line is answered and the node has unmounted; the image was not mounted, before the first item; the
+-- disk failed in a call, behind the lines above it; a call met, likewise, a block of a form that is not built, or a number
+-- of a block outside the disk; or there was no memory.
 pub data RunEnds (disk : DiskState) (faults faults_now : ℕ → ℕ) (s : ScriptValue) (items : List TraceItem) : Status → Type 0 where
   IsDone : AllAnswered items s → IsWholeRun s.clients s.lines items (IsFlat disk) → RunEnds disk faults faults_now s items status.Done
-  MountFailed : (block x y : ℕ) → items ≡ [] → WentUp (faults 0) (faults_now 0) x y → (IsTrue disk.tells → MountReads disk block)
-      → RunEnds disk faults faults_now s items (status.DeviceFault 0 (Some block) x y)
+  NotMounted : (own : Status) → items ≡ [] → MountEnds disk faults faults_now own → RunEnds disk faults faults_now s items own
   CallFailed : (root : List ℕ) (block x y : ℕ) → WentUp (faults 1) (faults_now 1) x y → (IsTrue disk.tells → HasFlatRoot disk root)
       → AtCall disk root s items (λ call. CallReads root call block) → RunEnds disk faults faults_now s items (status.DeviceFault 1 (Some block) x y)
-  MountRefused : (block : ℕ) → items ≡ [] → ((tree : Tree) → IsFlat disk tree → ⊥) → (IsTrue disk.tells → MountRefuses disk block)
-      → RunEnds disk faults faults_now s items (status.NotBuilt (part.Block block))
   CallRefused : (root : List ℕ) (block : ℕ) → ((tree : Tree) → IsFlat disk tree → ⊥) → (IsTrue disk.tells → HasFlatRoot disk root)
-      → AtCall disk root s items (λ call. IsTrue disk.tells → CallRefuses disk root call block)
+      → AtCall disk root s items (λ call. IsTrue disk.tells → CallRefuses disk root call block refusal.Form)
       → RunEnds disk faults faults_now s items (status.NotBuilt (part.Block block))
+  CallLeadsOut : (root : List ℕ) (block : ℕ) → ((tree : Tree) → IsFlat disk tree → ⊥) → (IsTrue disk.tells → HasFlatRoot disk root)
+      → AtCall disk root s items (λ call. IsTrue disk.tells → CallRefuses disk root call block refusal.LeadsOut) → OfImage disk (λ im. Breaks im 2 block)
+      → RunEnds disk faults faults_now s items (status.Damaged block 2)
   NoRoom : RunEnds disk faults faults_now s items status.NoMemory
 
 pub record Runs (disk disk_now : DiskState) (faults faults_now : ℕ → ℕ) (s : ScriptValue) (items : List TraceItem) (own : Status) : Type 0 where
@@ -157,13 +169,38 @@ pub record Runs (disk disk_now : DiskState) (faults faults_now : ℕ → ℕ) (s
   pub stands : (tree : Tree) → IsFlat disk tree → IsFlat disk_now (tree_of (history_of s.clients items) tree)
   pub ends : RunEnds disk faults faults_now s items own
 
--- ---- the command: refusals come in this order, each before anything that follows it is touched
+-- ---- what is shown
 
-pub data Course (words : List (List ℕ)) (before now : Inputs) : ScriptValue → List TraceItem → Status → Type 0 where
-  RefusesWords : (own : Status) → words_refusal before.disk.size words ≡ Some own → now ≡ before → Course words before now nothing [] own
-  MakesImage : (make : MakeWords) (own : Status) → AsksToMake before.disk.size words make → Makes make before now own → Course words before now nothing [] own
+-- whether each journal was left clean
+abbrev pub clean_of : MountedValue → List Bool
+clean_of m = map (λ (j : Journal). j.head.clean) m.journals
+
+-- What `show` prints, and how it ends: a line for each journal and the lines of the tree that a flat image holds, and of that
+-- which the image stands for; or nothing, since the image was
+-- not mounted, the disk failed at a file, a file is of a form that is not built or its number is one of a block outside the disk,
+-- or there was no memory.
+pub data Shows (disk : DiskState) (faults faults_now : ℕ → ℕ) : List ℕ → Status → Type 0 where
+  HasShown : (m : MountedValue) (lines : List ℕ) → OfImage disk (λ im. IsMounted im m)
+      → ((tree : Tree) → IsFlat disk tree → lines ≡ journal_lines 0 (clean_of m) ++ tree_lines [] tree)
+      → OfImage disk (λ im. (tree : Tree) → Stands im tree → lines ≡ journal_lines 0 (clean_of m) ++ tree_lines [] tree) → Shows disk faults faults_now lines status.Done
+  ShowsNone : (own : Status) → MountEnds disk faults faults_now own → Shows disk faults faults_now [] own
+  TreeFailed : (root : List ℕ) (block x y : ℕ) → WentUp (faults 0) (faults_now 0) x y → (IsTrue disk.tells → HasFlatRoot disk root) → TreeReads root block
+      → Shows disk faults faults_now [] (status.DeviceFault 0 (Some block) x y)
+  TreeRefused : (root : List ℕ) (block : ℕ) → ((tree : Tree) → IsFlat disk tree → ⊥) → (IsTrue disk.tells → HasFlatRoot disk root)
+      → TreeRefuses disk root block refusal.Form → Shows disk faults faults_now [] (status.NotBuilt (part.Block block))
+  TreeLeadsOut : (root : List ℕ) (block : ℕ) → ((tree : Tree) → IsFlat disk tree → ⊥) → (IsTrue disk.tells → HasFlatRoot disk root)
+      → TreeRefuses disk root block refusal.LeadsOut → OfImage disk (λ im. Breaks im 2 block) → Shows disk faults faults_now [] (status.Damaged block 2)
+  NothingHeld : Shows disk faults faults_now [] status.NoMemory
+
+-- ---- the command: refusals come in this order, each before anything that follows it is touched; its items are those of a run, its lines those of a show
+
+pub data Course (words : List (List ℕ)) (before now : Inputs) : ScriptValue → List TraceItem → List ℕ → Status → Type 0 where
+  RefusesWords : (own : Status) → words_refusal before.disk.size words ≡ Some own → now ≡ before → Course words before now nothing [] [] own
+  MakesImage : (make : MakeWords) (own : Status) → AsksToMake before.disk.size words make → Makes make before now own → Course words before now nothing [] [] own
+  ShowsImage : (lines : List ℕ) (own : Status) → AsksToShow before.disk.size words → KeepsScript before now → KeepsDisk before now
+      → Shows before.disk before.disk_faults now.disk_faults lines own → Course words before now nothing [] lines own
   NoScript : (own : Status) → AsksToRun before.disk.size words → LacksScript before.left now.left before.script_faults now.script_faults own
-      → KeepsDisk before now → now.disk_faults ≡ before.disk_faults → Course words before now nothing [] own
+      → KeepsDisk before now → now.disk_faults ≡ before.disk_faults → Course words before now nothing [] [] own
   RunsScript : (text : List ℕ) (s : ScriptValue) (items : List TraceItem) (own : Status) → AsksToRun before.disk.size words
       → HasRead before.left now.left text → script_read text ≡ Script s → first_foreign s ≡ None → KeepsDisk before now
-      → Runs before.disk now.disk before.disk_faults now.disk_faults s items own → Course words before now s items own
+      → Runs before.disk now.disk before.disk_faults now.disk_faults s items own → Course words before now s items [] own

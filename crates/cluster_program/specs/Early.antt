@@ -2,6 +2,9 @@
 use Rattle.std.specs.Prelude.{Some}
 use Rattle.script_lang.specs.declared.parser.ScriptRefusal.{ScriptRefusal}
 use Rattle.script_lang.specs.declared.parser.ScriptRefusal.TheVariants as refusal
+use Rattle.image_mount.specs.declared.fault.MountFault.{MountFault}
+use Rattle.image_mount.specs.declared.fault.MountFault.TheVariants as fault
+use Rattle.single_node.specs.declared.end.Refusal.TheVariants as why
 use Rattle.single_node.specs.declared.end.RunEnd.{RunEnd}
 use Rattle.single_node.specs.declared.end.RunEnd.TheVariants as end
 use Rattle.cluster_program.specs.declared.input.InputFault.{InputFault}
@@ -13,8 +16,17 @@ use Rattle.cluster_program.specs.declared.status.Part.TheVariants as part
 -- of a run
 abbrev pub status_of_end : RunEnd → Status
 status_of_end (end.DiskFailed node block rise) = status.DeviceFault node (Some block) rise.before rise.after
-status_of_end (end.NotRead block) = status.NotBuilt (part.Block block)
+status_of_end (end.NotRead block why.Form) = status.NotBuilt (part.Block block)
+status_of_end (end.NotRead block why.LeadsOut) = status.Damaged block 2
 status_of_end end.NoMemory = status.NoMemory
+
+-- of a mount
+abbrev pub status_of_mount : MountFault → Status
+status_of_mount (fault.NotProfile field value) = status.NotProfile field value
+status_of_mount (fault.Damaged block rule) = status.Damaged block rule
+status_of_mount (fault.DeviceFault block before after) = status.DeviceFault 0 (Some block) before after
+status_of_mount (fault.NotBuilt block) = status.NotBuilt (part.Block block)
+status_of_mount fault.NoMemory = status.NoMemory
 
 -- of the reading of a text
 abbrev pub status_of_input : InputFault → Status

@@ -4,6 +4,7 @@ pub mod Orders
 pub mod StatusText
 pub mod Out
 pub mod Report
+pub mod Mounting
 pub mod Course
 pub mod Command
 pub mod Quiet

@@ -1,5 +1,5 @@
 -- What is put into the two sinks, and how their faults are told.
-use Rattle.std.specs.Prelude.{ℕ, ◌≡◌, ◌⊎◌, ⊤, List, Option}
+use Rattle.std.specs.Prelude.{ℕ, ◌≡◌, ◌⊎◌, ⊤, List, [], ◌++◌, if◌then◌else◌, Option}
 use Rattle.std.specs.Io.KnownBytes.{Appends}
 use Rattle.fault_counts.specs.Causes.{Rose, WentUp}
 use Rattle.stream_io.specs.Streams.{AppendsPrefix}
@@ -9,7 +9,7 @@ use Rattle.trace_text.specs.declared.item.TraceItem.{TraceItem}
 use Rattle.trace_text.specs.Text.{print}
 use Rattle.script_lang.specs.Script.{ScriptValue}
 use Rattle.cluster_program.specs.World.{Outputs}
-use Rattle.cluster_program.specs.Out.{out_of}
+use Rattle.cluster_program.specs.Out.{is_done, out_of}
 use Rattle.cluster_program.specs.declared.status.Which.{Which}
 use Rattle.cluster_program.specs.declared.status.Which.TheVariants as which
 
@@ -33,11 +33,15 @@ pub data Becomes (which : Which) (before now : ℕ) (old new : Status) : Type 0 
   WithoutMemory : new ≡ status.NoMemory → Becomes which before now old new
   Fails : (x y : ℕ) → (IsSinkFault old → ⊥) → new ≡ status.SinkFault which x y → WentUp before now x y → Becomes which before now old new
 
--- The trace gets the text of the items. Then the output, also where the trace failed, gets what the items and the
--- status give. A fault of theirs is told in the status, that of the trace before that of the output.
-pub record Reports (before now : Outputs) (s : ScriptValue) (items : List TraceItem) (own answer : Status) : Type 0 where
+-- what is printed before the rest: the lines that are shown, where all was done
+abbrev pub shown : Status → List ℕ → List ℕ
+shown told lines = if is_done told then lines else []
+
+-- The trace gets the text of the items. Then the output, also where the trace failed, gets the lines
+-- that are shown, and what the items and the status give. A fault of theirs is told in the status, that of the trace before that of the output.
+pub record Reports (before now : Outputs) (s : ScriptValue) (items : List TraceItem) (lines : List ℕ) (own answer : Status) : Type 0 where
   pub told : Status
   pub trace : Puts before.trace now.trace (print items) (IsExcused before.trace_faults now.trace_faults told)
   pub told_is : Becomes which.Trace before.trace_faults now.trace_faults own told
-  pub output : Puts before.output now.output (out_of s items told 0) (IsExcused before.output_faults now.output_faults answer)
+  pub output : Puts before.output now.output (shown told lines ++ out_of s items told 0) (IsExcused before.output_faults now.output_faults answer)
   pub answer_is : Becomes which.Out before.output_faults now.output_faults told answer

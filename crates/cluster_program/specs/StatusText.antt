@@ -10,8 +10,8 @@ use Rattle.cluster_program.specs.declared.status.Status.TheVariants as status
 use Rattle.cluster_program.specs.declared.status.Which.TheVariants as which
 use Rattle.cluster_program.specs.declared.status.Part.{Part}
 use Rattle.cluster_program.specs.declared.status.Part.TheVariants as part
-use Rattle.cluster_program.specs.declared.status.Field.{Field}
-use Rattle.cluster_program.specs.declared.status.Field.TheVariants as field
+use Rattle.image_mount.specs.declared.field.Field.{Field}
+use Rattle.image_mount.specs.declared.field.Field.TheVariants as field
 use Rattle.cluster_program.specs.declared.status.Waits.{Waits}
 
 abbrev pub field_text : Field → List ℕ

@@ -6,8 +6,9 @@ ghost use Rattle.cluster_program.specs.Course.{Makes, has_many_journals, options
 ghost use Rattle.cluster_program.specs.World.{inputs};
 ghost use Rattle.cluster_program.specs.Report.{IsSinkFault};
 
-use crate::status::{Field, Status};
+use crate::status::Status;
 use command_words::MakeWords;
+use image_mount::Field;
 use mkgfs2_tool::{MakeFault, MakeOptions, make};
 use shared_disk::SharedDisk;
 use std::alloc::Global;

@@ -1,15 +1,18 @@
 //! The top call: what a command does to the disk, prints and answers.
 #![tactic(auto)]
 
+mod early;
 mod image;
 mod input;
 #[cfg(test)]
 mod make_tests;
+mod mounting;
 mod output;
 mod places;
 mod report;
 mod run;
 mod script;
+mod show;
 mod status;
 mod status_text;
 mod streams;
@@ -18,5 +21,6 @@ mod tests;
 mod top;
 mod words;
 
-pub use status::{Field, Part, Status, Waits, Which};
+pub use image_mount::Field;
+pub use status::{Part, Status, Waits, Which};
 pub use top::{Ended, gfs2run, gfs2run_alone};

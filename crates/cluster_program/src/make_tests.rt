@@ -141,8 +141,8 @@ fn images_are_made_or_refused(rt: HostRuntime) -> Result<(), Fail> {
     Ok(())
 }
 
-// The image's bytes, once the words have made it.
-fn made(rt: &(impl Abort + AllocGlobal), words: &[&str]) -> Result<Vec<u8>, Fail> {
+/// The bytes of an image of 538 blocks of 4096 bytes, once the words have made it.
+pub(crate) fn made(rt: &(impl Abort + AllocGlobal), words: &[&str]) -> Result<Vec<u8>, Fail> {
     let a = rt.alloc();
     let disk = device(a, 4096, 538, &[])?;
     let mut script = MemSource::new(Vec::new(a), Vec::new(a));

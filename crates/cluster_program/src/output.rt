@@ -4,6 +4,7 @@ ghost use Rattle.stream_io.specs.Streams.{AppendsPrefix};
 ghost use Rattle.cluster_program.specs.StatusText.{ended, status_lines};
 ghost use Rattle.cluster_program.specs.Streams.{PassesOn, PutHasCause};
 ghost use Rattle.cluster_program.specs.Quiet.{IsQuiet};
+ghost use Rattle.cluster_program.specs.Report.{shown};
 ghost use Rattle.cluster_program.specs.Out.{is_call as counts_as_call, is_commit as counts_as_commit, is_stop as counts_as_stop, counts_text, counts_line, answered_line, item_line, answered_lines, all_lines, out_of};
 
 use crate::places::place_of;
@@ -266,20 +267,32 @@ fn put_lines<T: Sink>(
     }
 }
 
-/// Puts what a run prints for its clients. It holds a chunk of it, and goes over the items once for each client.
+// The lines that are shown, which are held first.
+fn held_lines(alloc: Global, lines: Vec<u8>, told: &Status) -> Vec<u8>
+    ensures { result.items ≡ shown told.now lines.items }
+{
+    match told {
+        Status::Done => lines,
+        _ => Vec::new(alloc),
+    }
+}
+
+/// Puts the lines that are shown, where all was done, and what a run prints for its clients. It holds a chunk of that, and
+/// goes over the items once for each client.
 pub(crate) fn put_out<T: Sink>(
     alloc: Global,
     sink: &mut T,
     script: &Script,
     items: &[TraceItem],
+    lines: Vec<u8>,
     told: &Status,
 ) -> Result<(), PutFault>
     requires quiet { IsQuiet script.now items.now told.now }
-    ensures all { OnOk result (Appends (T.contents sink.old) (T.contents sink.new) (out_of script.now items.now told.now 0)) }
-    ensures front { AppendsPrefix (T.contents sink.old) (T.contents sink.new) (out_of script.now items.now told.now 0) }
+    ensures all { OnOk result (Appends (T.contents sink.old) (T.contents sink.new) (shown told.now lines.items ++ out_of script.now items.now told.now 0)) }
+    ensures front { AppendsPrefix (T.contents sink.old) (T.contents sink.new) (shown told.now lines.items ++ out_of script.now items.now told.now 0) }
     ensures cause { PutHasCause (T.faults sink.old) (T.faults sink.new) result }
 {
-    let mut held = Vec::new(alloc);
+    let mut held = held_lines(alloc, lines, told);
     match put_lines(alloc, sink, &mut held, script, items, told) {
         Ok(()) => put_held(sink, &mut held),
         Err(fault) => Err(fault),

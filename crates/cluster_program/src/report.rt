@@ -1,9 +1,9 @@
-ghost use Rattle.std.specs.Prelude.{◌≡◌, ◌≤◌, ◌↔◌, IsTrue};
+ghost use Rattle.std.specs.Prelude.{◌≡◌, ◌++◌, ◌≤◌, ◌↔◌, IsTrue};
 ghost use Rattle.trace_text.specs.Text.{print};
 ghost use Rattle.cluster_program.specs.Out.{out_of};
 ghost use Rattle.cluster_program.specs.Quiet.{IsQuiet};
 ghost use Rattle.cluster_program.specs.World.{outputs};
-ghost use Rattle.cluster_program.specs.Report.{IsSinkFault, IsExcused, Puts, Becomes, Reports};
+ghost use Rattle.cluster_program.specs.Report.{shown, IsSinkFault, IsExcused, Puts, Becomes, Reports};
 
 use crate::output::put_out;
 use crate::status::{Status, Which};
@@ -43,15 +43,16 @@ fn report_out<T: Sink>(
     sink: &mut T,
     script: &Script,
     items: &[TraceItem],
+    lines: Vec<u8>,
     told: Status,
 ) -> Status
     requires quiet { IsQuiet script.now items.now told }
-    ensures puts { Puts (T.contents sink.old) (T.contents sink.new) (out_of script.now items.now told 0) (IsExcused (T.faults sink.old) (T.faults sink.new) result) }
+    ensures puts { Puts (T.contents sink.old) (T.contents sink.new) (shown told lines.items ++ out_of script.now items.now told 0) (IsExcused (T.faults sink.old) (T.faults sink.new) result) }
     ensures becomes { Becomes Which.Out (T.faults sink.old) (T.faults sink.new) told result }
     ensures later { T.faults sink.old ≤ T.faults sink.new }
 {
     let before = sink.faults();
-    match put_out(alloc, sink, script, items, &told) {
+    match put_out(alloc, sink, script, items, lines, &told) {
         Ok(()) => told,
         Err(PutFault::NoMemory) => Status::NoMemory,
         Err(PutFault::Failed) => {
@@ -74,6 +75,7 @@ pub(crate) fn report<T: Sink, O: Sink>(
     out: &mut O,
     script: &Script,
     items: &[TraceItem],
+    lines: Vec<u8>,
     own: Status,
 ) -> Status
     requires own { IsSinkFault own → ⊥ }
@@ -81,9 +83,9 @@ pub(crate) fn report<T: Sink, O: Sink>(
     ensures reports { Reports
         (outputs (T.contents trace.old) (T.faults trace.old) (O.contents out.old) (O.faults out.old))
         (outputs (T.contents trace.new) (T.faults trace.new) (O.contents out.new) (O.faults out.new))
-        script.now items.now own result }
+        script.now items.now lines.items own result }
     ensures later { (T.faults trace.old ≤ T.faults trace.new) × (O.faults out.old ≤ O.faults out.new) }
 {
     let told = report_trace(alloc, trace, items, own);
-    report_out(alloc, out, script, items, told)
+    report_out(alloc, out, script, items, lines, told)
 }

@@ -4,32 +4,15 @@ ghost use Rattle.gfs2_layout.specs.Device.{IsBlockSize};
 ghost use Rattle.script_lang.specs.OneNode.{IsOneNode};
 ghost use Rattle.cluster_program.specs.Course.{Runs};
 ghost use Rattle.cluster_program.specs.Quiet.{IsQuiet};
-ghost use Rattle.cluster_program.specs.Early.{status_of_end};
 
-use crate::status::{Part, Status};
+use crate::early::early;
+use crate::mounting::mount_flat;
+use crate::status::Status;
 use script_lang::Script;
 use shared_disk::SharedDisk;
-use single_node::{RunEnd, read_root, run_script};
+use single_node::run_script;
 use std::alloc::Global;
 use trace_text::TraceItem;
-
-// How a command ends whose run ended early.
-fn early(end: RunEnd) -> Status
-    ensures { result ≡ status_of_end end }
-{
-    match end {
-        RunEnd::DiskFailed { node, block, rise } => Status::DeviceFault {
-            node,
-            block: Some(block),
-            before: rise.before,
-            after: rise.after,
-        },
-        RunEnd::NotRead { block } => Status::NotBuilt {
-            part: Part::Block { block },
-        },
-        RunEnd::NoMemory => Status::NoMemory,
-    }
-}
 
 /// Mounts the image and runs a script on it. The items go behind `items`, which is empty.
 pub(crate) fn mount_and_run<D: SharedDisk>(
@@ -48,11 +31,11 @@ pub(crate) fn mount_and_run<D: SharedDisk>(
     ensures list { D.list disk.new ≡ D.list disk.old }
     ensures later { (j : ℕ) → D.faults disk.old j ≤ D.faults disk.new j }
 {
-    let root = match read_root(alloc, disk) {
-        Ok(root) => root,
-        Err(end) => return early(end),
+    let image = match mount_flat(alloc, disk) {
+        Ok(image) => image,
+        Err(own) => return own,
     };
-    match run_script(alloc, disk, &root, script, items) {
+    match run_script(alloc, disk, &image.root, script, items) {
         Ok(()) => Status::Done,
         Err(end) => early(end),
     }

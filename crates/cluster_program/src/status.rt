@@ -2,23 +2,7 @@ ghost use Rattle.std.specs.Prelude.{◌≡◌};
 ghost use Rattle.cluster_program.specs.StatusText.{status_number};
 
 use glock_names::{LockName, State};
-
-/// A field of an image in which it is outside the profile.
-#[derive(Clone, Copy, Debug, PartialEq, Eq)]
-pub enum Field {
-    FsFormat,
-    MultihostFormat,
-    Bsize,
-    BsizeShift,
-    Master,
-    Device,
-    Journals,
-    Journal,
-    Groups,
-    GroupBlocks,
-    Nodes,
-    Sequence,
-}
+use image_mount::Field;
 
 /// One of the two sinks.
 #[derive(Clone, Copy, Debug, PartialEq, Eq)]

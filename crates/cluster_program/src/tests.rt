@@ -1,10 +1,12 @@
-// Commands over memory. The image was laid out by hand: 538 blocks of 4096 bytes, the superblock in block 16,
-// the root directory in block 19, and in it the file `a`, which is `hello`, in block 537.
+// Commands over memory. The image is a new one of 538 blocks of 4096 bytes, with the superblock in block 16, the group's header
+// in block 17, the root directory in block 19, the list of groups in 20, the journal's dinode in 22, its blocks of pointers in
+// 23 and 24, and its places in 25 to 536; and with a file put into its root by hand: `a`, which is `hello`, in block 537.
 ghost use Rattle.std.specs.Prelude.{◌≡◌, IfOk};
 ghost use Rattle.shared_disk.specs.Disk.{IsIdle};
 ghost use Rattle.shared_disk.specs.Memory.{memory_state};
 
 use crate::gfs2run_alone;
+use crate::make_tests::made;
 use shared_disk::MemDisk;
 use std::alloc::Global;
 use std::process::Abort;
@@ -14,54 +16,41 @@ use stream_io::{MemSink, MemSource};
 // Bytes at a place.
 type Part = (usize, &'static [u8]);
 
-const IMAGE: [Part; 18] = [
-    // The superblock: 4096 bytes a block, and the root at block 19.
-    (65_536, b"\x01\x16\x19\x70\x00\x00\x00\x01"),
-    (65_552, b"\x00\x00\x00\x64"),
-    (65_572, b"\x00\x00\x10\x00\x00\x00\x00\x0c"),
-    (
-        65_616,
-        b"\x00\x00\x00\x00\x00\x00\x00\x02\x00\x00\x00\x00\x00\x00\x00\x13",
-    ),
-    // The root's dinode: a directory of 3864 bytes.
-    (77_824, b"\x01\x16\x19\x70\x00\x00\x00\x04"),
-    (77_840, b"\x00\x00\x01\x90"),
-    (
-        77_848,
-        b"\x00\x00\x00\x00\x00\x00\x00\x02\x00\x00\x00\x00\x00\x00\x00\x13\x00\x00\x41\xed",
-    ),
-    (77_880, b"\x00\x00\x00\x00\x00\x00\x0f\x18"),
-    // Its records: `.`, `..` and `a`.
-    (
-        78_056,
-        b"\x00\x00\x00\x00\x00\x00\x00\x02\x00\x00\x00\x00\x00\x00\x00\x13",
-    ),
-    (78_072, b"\x00\x00\x00\x00\x00\x30\x00\x01\x00\x04"),
-    (78_096, b"."),
-    (
-        78_104,
-        b"\x00\x00\x00\x00\x00\x00\x00\x02\x00\x00\x00\x00\x00\x00\x00\x13",
-    ),
-    (78_120, b"\x00\x00\x00\x00\x00\x30\x00\x02\x00\x04"),
-    (78_144, b".."),
+const FILE: [Part; 16] = [
+    // The group's header, with no free block and six dinodes, its checksum, and the state of the last block.
+    (69_660, b"\x00\x00\x00\x00\x00\x00\x00\x06"),
+    (69_672, b"\x00\x00\x00\x00\x00\x00\x00\x06"),
+    (69_696, b"\xf5\xbc\x94\xf5"),
+    (69_889, b"\xd5"),
+    // The root's dinode has three entries, and the record of `a` takes the rest of that of `..`.
+    (77_972, b"\x00\x00\x00\x03"),
+    (78_124, b"\x00\x30"),
     (
         78_152,
-        b"\x00\x00\x00\x00\x00\x00\x00\x03\x00\x00\x00\x00\x00\x00\x02\x19",
+        b"\x00\x00\x00\x00\x00\x00\x00\x06\x00\x00\x00\x00\x00\x00\x02\x19",
     ),
-    (78_168, b"\x00\x00\x00\x00\x0e\xb8\x00\x01\x00\x08"),
+    (78_168, b"\xe8\xb7\xbe\x43\x0e\xb8\x00\x01\x00\x08"),
     (78_192, b"a"),
-    // The file.
-    (2_199_784, b"hello"),
-];
-
-const FILE: [Part; 4] = [
+    // The file's dinode, and its bytes.
     (2_199_552, b"\x01\x16\x19\x70\x00\x00\x00\x04"),
     (2_199_568, b"\x00\x00\x01\x90"),
     (
         2_199_576,
-        b"\x00\x00\x00\x00\x00\x00\x00\x03\x00\x00\x00\x00\x00\x00\x02\x19\x00\x00\x81\xa4",
+        b"\x00\x00\x00\x00\x00\x00\x00\x06\x00\x00\x00\x00\x00\x00\x02\x19\x00\x00\x81\xa4",
     ),
-    (2_199_608, b"\x00\x00\x00\x00\x00\x00\x00\x05"),
+    (
+        2_199_604,
+        b"\x00\x00\x00\x01\x00\x00\x00\x00\x00\x00\x00\x05\x00\x00\x00\x00\x00\x00\x00\x01",
+    ),
+    (
+        2_199_656,
+        b"\x00\x00\x00\x00\x00\x00\x02\x19\x00\x00\x00\x00\x00\x00\x02\x19",
+    ),
+    (
+        2_199_672,
+        b"\x00\x00\x00\x00\x00\x00\x00\x06\x00\x00\x00\x01",
+    ),
+    (2_199_784, b"hello"),
 ];
 
 fn put(rt: &impl Abort, bytes: &mut Vec<u8>, parts: &[Part]) {
@@ -72,11 +61,15 @@ fn put(rt: &impl Abort, bytes: &mut Vec<u8>, parts: &[Part]) {
 }
 
 // The image with these parts over it, on a disk whose calls of these numbers fail.
-fn image(rt: &impl Abort, alloc: Global, later: &[Part], fails: &[u64]) -> Result<MemDisk, Fail>
+fn image(
+    rt: &(impl Abort + AllocGlobal),
+    alloc: Global,
+    later: &[Part],
+    fails: &[u64],
+) -> Result<MemDisk, Fail>
     ensures { IfOk result (λ d. (d.nodes.size ≡ 4096) × IsIdle (memory_state d)) }
 {
-    let mut bytes = vec![in alloc; 0u8; 2_203_648]?;
-    put(rt, &mut bytes, &IMAGE);
+    let mut bytes = made(rt, &["mkfs", "--journal-blocks", "512"])?;
     put(rt, &mut bytes, &FILE);
     put(rt, &mut bytes, later);
     assert!(rt; bytes.len() == 2_203_648);
@@ -128,7 +121,7 @@ const OUT: &[u8] =
 
 const NONE: [&[u64]; 4] = [&[], &[], &[], &[]];
 
-const ROWS: [Row; 23] = [
+const ROWS: [Row; 26] = [
     Row {
         words: &["run"],
         script: SCRIPT,
@@ -289,8 +282,36 @@ unmount 1
         script: SCRIPT,
         over: &[(65_536, b"\x00")],
         fails: NONE,
-        status: 20,
-        out: b"not built: block 16\n",
+        status: 4,
+        out: b"damaged: block 16 rule 1\n",
+        trace: b"",
+    },
+    // What is on the image, and what is told of one of another format.
+    Row {
+        words: &["show"],
+        script: SCRIPT,
+        over: &[],
+        fails: NONE,
+        status: 0,
+        out: b"journal 0 clean\ndir /\nfile /a 5 3610a686\ndone\n",
+        trace: b"",
+    },
+    Row {
+        words: &["show"],
+        script: SCRIPT,
+        over: &[(65_563, b"\x0a")],
+        fails: NONE,
+        status: 3,
+        out: b"not profile: fs_format 1802\n",
+        trace: b"",
+    },
+    Row {
+        words: &["show", "--time", "7"],
+        script: SCRIPT,
+        over: &[],
+        fails: NONE,
+        status: 1,
+        out: b"usage: word 2\n",
         trace: b"",
     },
     // The file's dinode has a height.
@@ -313,11 +334,12 @@ unmount 1
         out: b"device fault: node 0 block 16 count 0 to 1\n",
         trace: b"",
     },
+    // Behind the 519 blocks that mounting reads and the root's, that of the file.
     Row {
         words: &["run"],
         script: SCRIPT,
         over: &[],
-        fails: [&[3], &[], &[], &[]],
+        fails: [&[521], &[], &[], &[]],
         status: 5,
         out: b"calls 0 lost 0 commits 0 crashes 0 dirty 0\ndevice fault: node 1 block 537 count 0 to 1\n",
         trace: b"join 1\n",

@@ -3,7 +3,7 @@ ghost use Rattle.shared_disk.specs.Disk.{IsIdle};
 ghost use Rattle.script_lang.specs.Grammar.{nothing};
 ghost use Rattle.gfs2_layout.specs.Device.{IsBlockSize};
 ghost use Rattle.cluster_program.specs.World.{inputs, outputs};
-ghost use Rattle.cluster_program.specs.Course.{Course, AsksToRun};
+ghost use Rattle.cluster_program.specs.Course.{Course, Shows, AsksToRun};
 ghost use Rattle.cluster_program.specs.Report.{IsSinkFault};
 ghost use Rattle.cluster_program.specs.Command.{Ends, FaultHasCause, IsComplete};
 ghost use Rattle.cluster_program.specs.Quiet.{IsQuiet};
@@ -12,6 +12,7 @@ use crate::image::make_image;
 use crate::report::report;
 use crate::run::mount_and_run;
 use crate::script::read_script;
+use crate::show::show_image;
 use crate::status::Status;
 use crate::words::{Task, read_task};
 use script_lang::Script;
@@ -29,25 +30,58 @@ pub struct Ended<D> {
     pub disk: D,
 }
 
-// A command that was carried out: the script that it ran, without anything in it where it ran none, and its end.
+// A command that was carried out: the script that it ran, without anything in it where it ran none, the lines that it
+// shows, and its end.
 #[derive(Drop)]
 struct Carried {
     script: Script,
+    lines: Vec<u8>,
     own: Status,
 }
 
-// The end of a command that ran no script.
-fn without_script(alloc: Global, own: Status) -> Carried
-    ensures script { result.script ≡ nothing }
-    ensures own { result.own ≡ own }
+fn no_script(alloc: Global) -> Script
+    ensures { result ≡ nothing }
 {
-    let script = Script {
+    Script {
         nodes: 0,
         clients: Vec::new(alloc),
         armed: Vec::new(alloc),
         lines: Vec::new(alloc),
-    };
-    Carried { script, own }
+    }
+}
+
+// The end of a command that ran no script, and shows nothing.
+fn without_script(alloc: Global, own: Status) -> Carried
+    ensures script { result.script ≡ nothing }
+    ensures lines { result.lines.items ≡ [] }
+    ensures own { result.own ≡ own }
+{
+    Carried {
+        script: no_script(alloc),
+        lines: Vec::new(alloc),
+        own,
+    }
+}
+
+// Shows what is on the image.
+fn show<D: SharedDisk>(alloc: Global, disk: &mut D) -> Carried
+    requires size { IsBlockSize (D.state disk.old).size }
+    requires idle { IsIdle (D.state disk.old) }
+    ensures script { result.script ≡ nothing }
+    ensures shows { Shows (D.state disk.old) (D.faults disk.old) (D.faults disk.new) result.lines.items result.own }
+    ensures same { D.state disk.new ≡ D.state disk.old }
+    ensures list { D.list disk.new ≡ D.list disk.old }
+    ensures later { (j : ℕ) → D.faults disk.old j ≤ D.faults disk.new j }
+    ensures own { IsSinkFault result.own → ⊥ }
+{
+    match show_image(alloc, disk) {
+        Ok(lines) => Carried {
+            script: no_script(alloc),
+            lines,
+            own: Status::Done,
+        },
+        Err(own) => without_script(alloc, own),
+    }
 }
 
 // Reads a script and runs it. The items go behind `items`, which is empty.
@@ -63,7 +97,7 @@ fn read_and_run<D: SharedDisk, S: Source>(
     ensures course { (words : List (List ℕ)) → AsksToRun (D.state disk.old).size words → Course words
         (inputs (D.state disk.old) (D.list disk.old) (D.faults disk.old) (S.left source.old) (S.faults source.old))
         (inputs (D.state disk.new) (D.list disk.new) (D.faults disk.new) (S.left source.new) (S.faults source.new))
-        result.script items.new.items result.own }
+        result.script items.new.items result.lines.items result.own }
     ensures own { IsSinkFault result.own → ⊥ }
     ensures quiet { (told : Status) → (told ≡ Status.Done → result.own ≡ Status.Done) → IsQuiet result.script items.new.items told }
     ensures later { ((j : ℕ) → D.faults disk.old j ≤ D.faults disk.new j) × (S.faults source.old ≤ S.faults source.new) }
@@ -73,7 +107,11 @@ fn read_and_run<D: SharedDisk, S: Source>(
         Err(own) => return without_script(alloc, own),
     };
     let own = mount_and_run(alloc, disk, &script, items);
-    Carried { script, own }
+    Carried {
+        script,
+        lines: Vec::new(alloc),
+        own,
+    }
 }
 
 // Carries a command out. The items go behind `items`, which is empty.
@@ -90,7 +128,7 @@ fn carry_out<D: SharedDisk, S: Source>(
     ensures course { Course (map string_bytes words.now)
         (inputs (D.state disk.old) (D.list disk.old) (D.faults disk.old) (S.left source.old) (S.faults source.old))
         (inputs (D.state disk.new) (D.list disk.new) (D.faults disk.new) (S.left source.new) (S.faults source.new))
-        result.script items.new.items result.own }
+        result.script items.new.items result.lines.items result.own }
     ensures own { IsSinkFault result.own → ⊥ }
     ensures quiet { (told : Status) → (told ≡ Status.Done → result.own ≡ Status.Done) → IsQuiet result.script items.new.items told }
     ensures later { ((j : ℕ) → D.faults disk.old j ≤ D.faults disk.new j) × (S.faults source.old ≤ S.faults source.new) }
@@ -100,16 +138,19 @@ fn carry_out<D: SharedDisk, S: Source>(
             let own = make_image(alloc, disk, &words);
             without_script(alloc, own)
         }
+        Ok(Task::Show) => show(alloc, disk),
         Ok(Task::Run) => read_and_run(alloc, disk, source, items),
         Err(own) => without_script(alloc, own),
     }
 }
 
-/// Carries out the command that these words are, on this disk, and writes its trace and its output. Today two
-/// commands are built. `mkfs` makes an image: it reads each block, and writes those that are not yet as they are to be.
-/// `run` reads a script from `script`, runs it on the image, and tells each client's replies; it costs memory for the
-/// script and the items, a read of a block for each line that reads a file, and a pass over the items for each client.
-/// It waits for nobody.
+/// Carries out the command that these words are, on this disk, and writes its trace and its output. Today three commands are
+/// built. `mkfs` makes an image: it reads each block, and writes those that are not yet as they are to be. `show` mounts the
+/// image, tells its journals and its tree, and writes nothing; it costs a read of each block of the system files, of the
+/// root's and of each file's, and memory for its lines and, while it mounts, for an entry a block of the device. `run` reads
+/// a script from `script`, mounts the image, runs the script on it, and tells each client's replies; it costs what mounting
+/// costs, memory for the script and the items, a read of a block for each line that reads a file, and a pass over the items
+/// for each client. It waits for nobody.
 pub fn gfs2run_alone<D: SharedDisk, S: Source, O: Sink, T: Sink>(
     alloc: Global,
     words: &[String],
@@ -141,8 +182,8 @@ pub fn gfs2run_alone<D: SharedDisk, S: Source, O: Sink, T: Sink>(
 {
     let mut disk = disk;
     let mut items = Vec::new(alloc);
-    let Carried { script, own } = carry_out(alloc, words, &mut disk, script, &mut items);
-    let status = report(alloc, trace, out, &script, &items, own);
+    let Carried { script, lines, own } = carry_out(alloc, words, &mut disk, script, &mut items);
+    let status = report(alloc, trace, out, &script, &items, lines, own);
     Ended { status, disk }
 }
 

@@ -9,6 +9,7 @@ use command_words::{Command, MakeWords, read_words};
 #[derive(Clone, Copy, Debug, PartialEq, Eq)]
 pub(crate) enum Task {
     Make(MakeWords),
+    Show,
     Run,
 }
 
@@ -25,6 +26,7 @@ fn is_built(command: &Command, block_size: u32) -> bool
 {
     match command {
         Command::Make(words) => !has_many_journals(words, block_size),
+        Command::Show => true,
         Command::Run(words) => {
             words.schedule.is_none() && words.steps.is_none() && words.frames.is_none()
         }
@@ -41,6 +43,7 @@ fn task_of(command: &Command, block_size: u32) -> Option<Task>
     }
     match command {
         Command::Make(words) => Some(Task::Make(*words)),
+        Command::Show => Some(Task::Show),
         _ => Some(Task::Run),
     }
 }

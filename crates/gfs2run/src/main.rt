@@ -17,12 +17,13 @@ use stream_io::{Open, StdSink, StdSource};
 const HELP: &str = "usage: gfs2run IMAGE TRACE COMMAND
 
 Runs a cluster over the disk image IMAGE and writes the trace of the run to TRACE.
-Standard input is the script; standard output gets each client's replies, the counts
-and the status, whose number is the exit status.
+Standard input is the script; standard output gets each client's replies and the counts
+of a run, or the lines of a show, and the status, whose number is the exit status.
 
 commands:
   mkfs [--bsize N] [--journals N] [--journal-blocks N] [--groups N] [--uuid TEXT] [--time N]
                     makes an image of the whole file IMAGE
+  show              prints the image's journals and its tree, and writes nothing to it
   run [--time N]    runs the script
 
 options, as the only word:

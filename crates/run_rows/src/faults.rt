@@ -1,6 +1,6 @@
 // A disk and sinks that fail at each of their calls in turn. The root has the files `b` and `a`, in this order.
-use crate::image::{File, Image, SIZES, Spot, image_of};
-use crate::runs::{Fails, Left, NONE, Told, expect_told, run};
+use crate::image::{File, Image, SIZES, Spot, image_of, pointer_blocks};
+use crate::runs::{Fails, Left, NONE, Told, expect_told, run, show};
 use std::alloc::Global;
 use std::process::Abort;
 use std::test::Fail;
@@ -25,15 +25,17 @@ static CALLS: [(&str, &str); 6] = [
     ("read /a 9 5", "data 39"),
 ];
 
-// Where the disk's calls are: the node, the block, and how many lines are answered before. A list reads nothing, nor does
-// the read of a file that is not there.
-static READS: [(u8, Spot, usize); 5] = [
-    (0, Spot::Super, 0),
+// Where the disk's calls are behind those that mount: the node, the block, and how many lines are answered before. A list
+// reads nothing, nor does the read of a file that is not there.
+static READS: [(u8, Spot, usize); 4] = [
     (0, Spot::Root, 0),
     (1, Spot::File(1), 0),
     (1, Spot::File(0), 2),
     (1, Spot::File(1), 5),
 ];
+
+// Likewise where the image is shown, which takes the files by their names.
+static SHOWN: [Spot; 3] = [Spot::Root, Spot::File(1), Spot::File(0)];
 
 // What the run is to leave, of which so many lines are answered.
 fn told_of(alloc: Global, answered: usize) -> Result<Told, Fail> {
@@ -62,13 +64,60 @@ fn check(
     Ok(())
 }
 
-fn check_reads(rt: &(impl Abort + AllocGlobal), size: u32) -> Result<(), Fail> {
+fn fault(alloc: Global, node: u8, block: u64) -> Result<String, Fail> {
+    Ok(format!(in alloc; "device fault: node {node} block {block} count 0 to 1")?)
+}
+
+// How many blocks mounting reads: the superblock, the dinodes of the master directory and of the three system files, and the
+// journal's blocks of pointers and places.
+fn mounting_reads(size: u32) -> u64 {
+    pointer_blocks(size).saturating_add(5 + 512)
+}
+
+// The block of each of these reads: they rise, without the group's and the root's.
+fn mounting_block(rt: &impl Abort, whole: &Image, read: u64) -> u64 {
+    let behind = match read {
+        1 => 0,
+        2 => 2,
+        _ => read.saturating_add(1),
+    };
+    whole.number(rt, Spot::Super).saturating_add(behind)
+}
+
+// A disk that fails at this call leaves nothing of a show but the fault at this block.
+fn check_show(
+    rt: &(impl Abort + AllocGlobal),
+    whole: &Image,
+    call: u64,
+    block: u64,
+) -> Result<(), Fail> {
     let a = rt.alloc();
-    let whole = image_of(rt, a, size, &FILES)?;
-    let mut call = 1u64;
+    let mut told = Told::joined(a)?;
+    told.refuse(5, fault(a, 0, block)?.as_str())?;
+    let left = show(a, whole.copy(a)?.disk(rt, a, &[call])?, &[])?;
+    expect_told(rt, &left, &told, whole.size, call as usize);
+    Ok(())
+}
+
+// The disk fails at each call that mounts.
+fn check_mounting(rt: &(impl Abort + AllocGlobal), whole: &Image) -> Result<(), Fail> {
+    let a = rt.alloc();
+    for call in 1..=mounting_reads(whole.size) {
+        let block = mounting_block(rt, whole, call);
+        let mut told = told_of(a, 0)?;
+        told.refuse(5, fault(a, 0, block)?.as_str())?;
+        check(rt, whole, &[call], &told, call as usize)?;
+        check_show(rt, whole, call, block)?;
+    }
+    Ok(())
+}
+
+// The disk fails at each call of a run behind those that mount. It has no call past these.
+fn check_reads(rt: &(impl Abort + AllocGlobal), whole: &Image) -> Result<(), Fail> {
+    let a = rt.alloc();
+    let mut call = mounting_reads(whole.size).saturating_add(1);
     for (row, (node, spot, answered)) in READS.iter().enumerate() {
-        let block = whole.number(rt, *spot);
-        let line = format!(in a; "device fault: node {node} block {block} count 0 to 1")?;
+        let line = fault(a, *node, whole.number(rt, *spot))?;
         let mut told = told_of(a, *answered)?;
         if *node == 0 {
             told.refuse(5, line.as_str())?;
@@ -76,19 +125,35 @@ fn check_reads(rt: &(impl Abort + AllocGlobal), size: u32) -> Result<(), Fail> {
             told.end(5, line.as_str())?;
         }
         // A call that is not reached may fail as well.
-        check(rt, &whole, &[call], &told, row)?;
-        check(rt, &whole, &[call.saturating_add(1), call], &told, row)?;
+        check(rt, whole, &[call], &told, row)?;
+        check(rt, whole, &[call.saturating_add(1), call], &told, row)?;
         call = call.saturating_add(1);
     }
     let mut told = told_of(a, CALLS.len())?;
     told.done()?;
-    check(rt, &whole, &[call], &told, 100)
+    check(rt, whole, &[call], &told, 100)
+}
+
+// The same of a show.
+fn check_shown(rt: &(impl Abort + AllocGlobal), whole: &Image) -> Result<(), Fail> {
+    let a = rt.alloc();
+    let mut call = mounting_reads(whole.size).saturating_add(1);
+    for spot in SHOWN {
+        check_show(rt, whole, call, whole.number(rt, spot))?;
+        call = call.saturating_add(1);
+    }
+    let left = show(a, whole.copy(a)?.disk(rt, a, &[call])?, &[])?;
+    assert_eq!(rt; left.status, 0);
+    Ok(())
 }
 
 #[test]
 fn a_disk_fails_at_each_call_in_turn(rt: HostRuntime) -> Result<(), Fail> {
     for size in SIZES {
-        check_reads(&rt, size)?;
+        let whole = image_of(&rt, rt.alloc(), size, &FILES)?;
+        check_mounting(&rt, &whole)?;
+        check_reads(&rt, &whole)?;
+        check_shown(&rt, &whole)?;
     }
     Ok(())
 }

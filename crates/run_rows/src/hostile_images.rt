@@ -1,10 +1,10 @@
 // Images that break their form in one field of the root or of a file, and the block at which that is told; and what may stand
 // in the fields that are not looked at.
 use crate::image::SIZES;
-use crate::rows::End::{Done, NoCall, NoCallAt, NoMount};
+use crate::rows::End::{BrokenAtCall, Done, NoCall, NoMount};
 use crate::rows::Value::{AreaAnd, AreaLess, Block, Bytes};
 use crate::rows::{
-    A, ALL, B, GROUP, LAST, ONES, PAST, ROOT, Row, SUPER, UNUSED, ZEROS, check_rows, row_image,
+    A, ALL, B, GROUP, ONES, PAST, ROOT, Row, SUPER, UNUSED, ZEROS, check_rows, row_image,
 };
 use std::test::Fail;
 
@@ -242,8 +242,8 @@ static LONG_NAMES: [Row; 2] = [
 
 static FILE_BLOCKS: [Row; 33] = [
     // The block that the record of `b` names: past the device, the last number, and blocks that hold no file.
-    (&[(ROOT, 336, Block(PAST))], &UP_TO_B, NoCall(PAST)),
-    (&[(ROOT, 336, ONES)], &UP_TO_B, NoCallAt(LAST)),
+    (&[(ROOT, 336, Block(PAST))], &UP_TO_B, BrokenAtCall(ROOT, 2)),
+    (&[(ROOT, 336, ONES)], &UP_TO_B, BrokenAtCall(ROOT, 2)),
     (&[(ROOT, 336, Block(SUPER))], &UP_TO_B, NoCall(SUPER)),
     (&[(ROOT, 336, Block(GROUP))], &UP_TO_B, NoCall(GROUP)),
     (&[(ROOT, 336, Block(ROOT))], &UP_TO_B, NoCall(ROOT)),
@@ -259,7 +259,7 @@ static FILE_BLOCKS: [Row; 33] = [
         Done,
     ),
     // That of `a`, which is read first.
-    (&[(ROOT, 384, Block(PAST))], &[], NoCall(PAST)),
+    (&[(ROOT, 384, Block(PAST))], &[], BrokenAtCall(ROOT, 2)),
     // Its magic number, kind and format.
     (&[(B, 0, Bytes(b"\x00"))], &UP_TO_B, NoCall(B)),
     (&[(B, 3, Bytes(b"\x71"))], &UP_TO_B, NoCall(B)),

@@ -3,9 +3,9 @@
 //
 // With the superblock's block, that of byte 65,536, counted as 0, the group's header is in block 1, the master directory in
 // block 2, the root in block 3, the list of groups in block 4, the directory of journals in block 5, and the journal in
-// block 6 and those behind it: its blocks of pointers and its 512 blocks. The files follow, in the order of their records,
+// block 6 and those behind it: its blocks of pointers and its 512 places. The files follow, in the order of their records,
 // and free blocks: one, and as many more as make the group's data blocks a multiple of 4.
-ghost use Rattle.std.specs.Prelude.{IfOk};
+ghost use Rattle.std.specs.Prelude.{◌≡◌, IfOk};
 ghost use Rattle.shared_disk.specs.Disk.{IsIdle};
 ghost use Rattle.shared_disk.specs.Memory.{memory_state};
 ghost use Rattle.gfs2_layout.specs.Device.{IsBlockSize};
@@ -31,14 +31,6 @@ const JOURNAL: u64 = 6;
 // The formal number of the first file: the dinodes before it have those from 1 to 5.
 const FIRST_NUMBER: u64 = 6;
 
-const OPTIONS: MakeOptions = MakeOptions {
-    journals: 1,
-    journal_blocks: 512,
-    groups: 1,
-    uuid: [7; 16],
-    time: 1_700_000_000,
-};
-
 #[derive(Clone, Copy, Drop)]
 pub(crate) struct File<'a> {
     pub name: &'a [u8],
@@ -50,12 +42,21 @@ pub(crate) struct File<'a> {
 pub(crate) enum Spot {
     Super,
     Group,
+    Master,
     Root,
+    Rindex,
+    Jindex,
+    /// The journal's dinode.
+    Journal,
+    /// The first of the journal's places.
+    Place,
     File(u64),
     /// The first free block, behind the files.
     Behind,
     /// The first block past the device.
     Past,
+    /// The fourth block past the device.
+    Bare,
 }
 
 /// An image: its bytes, how large its blocks are, and how many files its root has.
@@ -66,8 +67,8 @@ pub(crate) struct Image {
     files: u64,
 }
 
-// How many blocks of pointers the journal has: one of them has 61, 125, 253 or 509 pointers.
-fn pointer_blocks(size: u32) -> u64 {
+/// How many blocks of pointers the journal has: one of them has 61, 125, 253 or 509 pointers.
+pub(crate) fn pointer_blocks(size: u32) -> u64 {
     match size {
         512 => 9,
         1024 => 5,
@@ -92,10 +93,16 @@ fn behind_super(size: u32, files: u64, spot: Spot) -> u64 {
     match spot {
         Spot::Super => 0,
         Spot::Group => 1,
+        Spot::Master => 2,
         Spot::Root => 3,
+        Spot::Rindex => 4,
+        Spot::Jindex => 5,
+        Spot::Journal => JOURNAL,
+        Spot::Place => pointer_blocks(size).saturating_add(JOURNAL + 1),
         Spot::File(index) => first_file(size).saturating_add(index),
         Spot::Behind => first_file(size).saturating_add(files),
         Spot::Past => data_blocks(size, files).saturating_add(DATA),
+        Spot::Bare => data_blocks(size, files).saturating_add(DATA + 3),
     }
 }
 
@@ -167,22 +174,27 @@ impl Image {
         Ok(())
     }
 
-    // The root's dinode.
-    fn root(&mut self, rt: &impl Abort) -> Result<Dinode, Fail> {
-        match Dinode::read(self.block(rt, Spot::Root)) {
+    fn dinode(&mut self, rt: &impl Abort, spot: Spot) -> Result<Dinode, Fail> {
+        match Dinode::read(self.block(rt, spot)) {
             Ok(dinode) => Ok(dinode),
-            Err(_) => Err(Fail::from("no root")),
+            Err(_) => Err(Fail::from("no dinode")),
         }
     }
 
-    // Adds a record of a file to the root, behind the others, and counts it.
-    fn put_entry(&mut self, rt: &impl Abort, inum: Inum, name: &[u8]) -> Result<(), Fail> {
-        let dinode = self.root(rt)?;
+    // Adds a record of a file to a directory, behind the others, and counts it.
+    fn put_entry(
+        &mut self,
+        rt: &impl Abort,
+        directory: Spot,
+        inum: Inum,
+        name: &[u8],
+    ) -> Result<(), Fail> {
+        let dinode = self.dinode(rt, directory)?;
         let counted = Dinode {
             entries: dinode.entries.saturating_add(1),
             ..dinode
         };
-        let block = self.block(rt, Spot::Root);
+        let block = self.block(rt, directory);
         assert!(rt; block.len() >= 232);
         counted.write(block);
         put_file_record(rt, &mut block[232..], inum, name);
@@ -197,7 +209,7 @@ impl Image {
         inum: Inum,
         content: &[u8],
     ) -> Result<(), Fail> {
-        let root = self.root(rt)?;
+        let root = self.dinode(rt, Spot::Root)?;
         let dinode = Dinode {
             num: inum,
             mode: 0o100_644,
@@ -217,16 +229,40 @@ impl Image {
         Ok(())
     }
 
+    fn inum(&self, rt: &impl Abort, file: u64) -> Inum {
+        Inum {
+            number: FIRST_NUMBER.saturating_add(file),
+            address: self.number(rt, Spot::File(file)),
+        }
+    }
+
     // Puts files into the root, in this order.
     fn put_files(&mut self, rt: &impl Abort, files: &[File<'_>]) -> Result<(), Fail> {
         for (index, file) in files.iter().enumerate() {
-            let spot = Spot::File(index as u64);
-            let inum = Inum {
-                number: FIRST_NUMBER.saturating_add(index as u64),
-                address: self.number(rt, spot),
-            };
-            self.put_file(rt, spot, inum, file.content)?;
-            self.put_entry(rt, inum, file.name)?;
+            let index = index as u64;
+            let inum = self.inum(rt, index);
+            self.put_file(rt, Spot::File(index), inum, file.content)?;
+            self.put_entry(rt, Spot::Root, inum, file.name)?;
+        }
+        Ok(())
+    }
+
+    /// Gives a file a further name, in the master directory.
+    pub(crate) fn put_in_master(
+        &mut self,
+        rt: &impl Abort,
+        file: u64,
+        name: &[u8],
+    ) -> Result<(), Fail> {
+        let inum = self.inum(rt, file);
+        self.put_entry(rt, Spot::Master, inum, name)
+    }
+
+    /// Puts so many blocks of zeros behind the device.
+    pub(crate) fn lengthen(&mut self, blocks: usize) -> Result<(), Fail> {
+        let more = blocks.saturating_mul(self.size as usize);
+        for _ in 0..more {
+            self.bytes.push(0)?;
         }
         Ok(())
     }
@@ -254,15 +290,60 @@ fn put_file_record(rt: &impl Abort, area: &mut [u8], inum: Inum, name: &[u8]) {
     assert!(rt; is_put);
 }
 
-// The bytes of a new image in so many blocks.
-fn new_image(rt: &impl Abort, alloc: Global, size: u32, blocks: usize) -> Result<Vec<u8>, Fail> {
+// The bytes of a new image in so many blocks, with so many journals.
+fn new_image(
+    rt: &impl Abort,
+    alloc: Global,
+    size: u32,
+    blocks: usize,
+    journals: u32,
+) -> Result<Vec<u8>, Fail> {
     assert!(rt; size <= 4096 && blocks <= 131_072);
+    assert!(rt; journals <= 3 || size >= 1024);
     let bytes = vec![in alloc; 0u8; blocks * size as usize]?;
     let mut disk = disk(rt, alloc, size, bytes, &[])?;
     assert!(rt; disk.blocks() <= 131_072);
-    let made = make(alloc, &mut disk, &OPTIONS);
+    let options = MakeOptions {
+        journals,
+        journal_blocks: 512,
+        groups: 1,
+        uuid: [7; 16],
+        time: 1_700_000_000,
+    };
+    let made = make(alloc, &mut disk, &options);
     assert!(rt; made.is_ok());
     Ok(disk.into_bytes())
+}
+
+/// A disk of so many blocks with a new image, which has so many journals.
+pub(crate) fn made_of(
+    rt: &impl Abort,
+    alloc: Global,
+    size: u32,
+    blocks: usize,
+    journals: u32,
+) -> Result<MemDisk, Fail>
+    ensures size { IfOk result (λ d. IsBlockSize (memory_state d).size) }
+    ensures idle { IfOk result (λ d. IsIdle (memory_state d)) }
+{
+    let bytes = new_image(rt, alloc, size, blocks, journals)?;
+    disk(rt, alloc, size, bytes, &[])
+}
+
+/// A disk of so many blocks of zeros, whose calls of these numbers fail.
+pub(crate) fn zeros_of(
+    rt: &impl Abort,
+    alloc: Global,
+    size: u32,
+    blocks: usize,
+    fails: &[u64],
+) -> Result<MemDisk, Fail>
+    ensures size { IfOk result (λ d. IsBlockSize (memory_state d).size) }
+    ensures idle { IfOk result (λ d. IsIdle (memory_state d)) }
+{
+    assert!(rt; size <= 4096 && blocks <= 131_073);
+    let bytes = vec![in alloc; 0u8; blocks * size as usize]?;
+    disk(rt, alloc, size, bytes, fails)
 }
 
 /// An image of blocks of this size, with these files in its root.
@@ -278,7 +359,7 @@ pub(crate) fn image_of(
         files: files.len() as u64,
     };
     let blocks = image.number(rt, Spot::Past) as usize;
-    image.bytes = new_image(rt, alloc, size, blocks)?;
+    image.bytes = new_image(rt, alloc, size, blocks, 1)?;
     image.put_group(rt)?;
     image.put_files(rt, files)?;
     Ok(image)
@@ -292,6 +373,7 @@ fn disk(
     fails: &[u64],
 ) -> Result<MemDisk, Fail>
     ensures size { IfOk result (λ d. IsBlockSize (memory_state d).size) }
+    ensures given { IfOk result (λ d. d.nodes.size ≡ size) }
     ensures idle { IfOk result (λ d. IsIdle (memory_state d)) }
 {
     assert!(rt; size == 512 || size == 1024 || size == 2048 || size == 4096);

@@ -19,4 +19,8 @@ mod runs;
 #[cfg(test)]
 mod script_limits;
 #[cfg(test)]
+mod shows;
+#[cfg(test)]
 mod superblocks;
+#[cfg(test)]
+mod system_files;

@@ -1,7 +1,7 @@
 // Rows over images: what is put over an image with the files `b` and `a` in its root, in this order, and what a run of four
-// calls is to leave.
+// calls is to leave. Where the image isn't mounted, to show it is to leave the same.
 use crate::image::{File, Image, Spot, image_of};
-use crate::runs::{NONE, Told, expect_told, run};
+use crate::runs::{NONE, Told, expect_told, run, show};
 use std::alloc::Global;
 use std::process::Abort;
 use std::test::Fail;
@@ -32,27 +32,38 @@ pub(crate) enum Value {
 /// The block, the offset in it, and what is put there.
 pub(crate) type Patch = (Spot, u32, Value);
 
-/// How the run ends: it is done; or it refuses a block when it mounts, or when it calls. Under `NoMountAt` and `NoCallAt` the
-/// block is counted from the disk's first.
+/// How the run ends: it is done; or it isn't mounted, or ends at a call, since a form is not built, at a block, or a rule is
+/// broken; or the image isn't mounted since a field is outside the profile. Under `NoMountAt` the block is counted from the
+/// disk's first.
 #[derive(Clone, Copy, Drop)]
 pub(crate) enum End {
     Done,
     NoMount(Spot),
     NoMountAt(u64),
+    Broken(Spot, u8),
+    Outside(&'static str, u64),
     NoCall(Spot),
-    NoCallAt(u64),
+    BrokenAtCall(Spot, u8),
 }
 
 /// What is put over the image, the replies, and the end.
 pub(crate) type Row = (&'static [Patch], &'static [&'static str], End);
 
-pub(crate) const LAST: u64 = u64::MAX;
-
 pub(crate) const SUPER: Spot = Spot::Super;
 
 pub(crate) const GROUP: Spot = Spot::Group;
 
+pub(crate) const MASTER: Spot = Spot::Master;
+
 pub(crate) const ROOT: Spot = Spot::Root;
+
+pub(crate) const RINDEX: Spot = Spot::Rindex;
+
+pub(crate) const JINDEX: Spot = Spot::Jindex;
+
+pub(crate) const JOURNAL: Spot = Spot::Journal;
+
+pub(crate) const PLACE: Spot = Spot::Place;
 
 pub(crate) const B: Spot = Spot::File(0);
 
@@ -93,16 +104,40 @@ fn put_value(rt: &impl Abort, image: &mut Image, at: usize, value: Value) {
     }
 }
 
-fn put_patches(rt: &impl Abort, image: &mut Image, patches: &[Patch]) {
+/// Puts what these patches say.
+pub(crate) fn put_patches(rt: &impl Abort, image: &mut Image, patches: &[Patch]) {
     for (spot, offset, value) in patches {
         let at = image.place(*spot).saturating_add(*offset as usize);
         put_value(rt, image, at, *value);
     }
 }
 
-// The line that tells that a block is refused.
-fn refusal(alloc: Global, block: u64) -> Result<String, Fail> {
-    Ok(format!(in alloc; "not built: block {block}")?)
+// The status, and the line that tells it: what a block holds is not built.
+fn not_built(alloc: Global, block: u64) -> Result<(u8, String), Fail> {
+    Ok((20, format!(in alloc; "not built: block {block}")?))
+}
+
+// A block breaks a rule.
+fn damaged(alloc: Global, block: u64, rule: u8) -> Result<(u8, String), Fail> {
+    Ok((4, format!(in alloc; "damaged: block {block} rule {rule}")?))
+}
+
+// How the command ends where the image isn't mounted.
+fn refusal(
+    rt: &impl Abort,
+    alloc: Global,
+    image: &Image,
+    end: End,
+) -> Result<Option<(u8, String)>, Fail> {
+    match end {
+        End::NoMount(spot) => Ok(Some(not_built(alloc, image.number(rt, spot))?)),
+        End::NoMountAt(block) => Ok(Some(not_built(alloc, block)?)),
+        End::Broken(spot, rule) => Ok(Some(damaged(alloc, image.number(rt, spot), rule)?)),
+        End::Outside(field, value) => {
+            Ok(Some((3, format!(in alloc; "not profile: {field} {value}")?)))
+        }
+        End::Done | End::NoCall(_) | End::BrokenAtCall(_, _) => Ok(None),
+    }
 }
 
 fn tell_end(
@@ -112,13 +147,12 @@ fn tell_end(
     image: &Image,
     end: End,
 ) -> Result<(), Fail> {
-    match end {
-        End::Done => told.done(),
-        End::NoMount(spot) => told.refuse(20, refusal(alloc, image.number(rt, spot))?.as_str()),
-        End::NoMountAt(block) => told.refuse(20, refusal(alloc, block)?.as_str()),
-        End::NoCall(spot) => told.end(20, refusal(alloc, image.number(rt, spot))?.as_str()),
-        End::NoCallAt(block) => told.end(20, refusal(alloc, block)?.as_str()),
-    }
+    let (status, line) = match end {
+        End::NoCall(spot) => not_built(alloc, image.number(rt, spot))?,
+        End::BrokenAtCall(spot, rule) => damaged(alloc, image.number(rt, spot), rule)?,
+        _ => return told.done(),
+    };
+    told.end(status, line.as_str())
 }
 
 // What the run of all calls is to leave, of which the first are answered.
@@ -133,6 +167,10 @@ fn told_of(
     for call in CALLS {
         told.ask(call)?;
     }
+    if let Some((status, line)) = refusal(rt, alloc, image, end)? {
+        told.refuse(status, line.as_str())?;
+        return Ok(told);
+    }
     for (call, reply) in CALLS.iter().zip(replies) {
         told.answer(call, reply)?;
     }
@@ -145,7 +183,7 @@ pub(crate) fn row_image(rt: &(impl Abort + AllocGlobal), size: u32) -> Result<Im
     image_of(rt, rt.alloc(), size, &FILES)
 }
 
-/// A run of all calls on this image leaves these replies and this end.
+/// A run of all calls on this image leaves these replies and this end; where it isn't mounted, a show leaves this end too.
 pub(crate) fn check(
     rt: &(impl Abort + AllocGlobal),
     image: Image,
@@ -156,6 +194,10 @@ pub(crate) fn check(
     let a = rt.alloc();
     let size = image.size;
     let told = told_of(rt, a, &image, replies, end)?;
+    if refusal(rt, a, &image, end)?.is_some() {
+        let left = show(a, image.copy(a)?.disk(rt, a, &[])?, &[])?;
+        expect_told(rt, &left, &told, size, row);
+    }
     let left = run(a, image.disk(rt, a, &[])?, told.script.as_bytes(), NONE)?;
     expect_told(rt, &left, &told, size, row);
     Ok(())

@@ -23,10 +23,11 @@ pub(crate) struct Left {
     pub status: u8,
 }
 
-/// Runs a script.
-pub(crate) fn run(
+// Carries out a command of one word.
+fn carry_out(
     alloc: Global,
     disk: MemDisk,
+    command: &str,
     script: &[u8],
     fails: Fails<'_>,
 ) -> Result<Left, Fail>
@@ -38,10 +39,32 @@ pub(crate) fn run(
     let mut trace = MemSink::new(alloc, of_trace.to_vec(alloc)?);
     let mut out = MemSink::new(alloc, of_out.to_vec(alloc)?);
     let mut words = Vec::new(alloc);
-    words.push("run".to_string(alloc)?)?;
+    words.push(command.to_string(alloc)?)?;
     let ended = gfs2run_alone(alloc, &words, disk, &mut source, &mut out, &mut trace);
     let status = ended.status.number();
     Ok(Left { out, trace, status })
+}
+
+/// Runs a script.
+pub(crate) fn run(
+    alloc: Global,
+    disk: MemDisk,
+    script: &[u8],
+    fails: Fails<'_>,
+) -> Result<Left, Fail>
+    requires size { IsBlockSize (memory_state disk).size }
+    requires idle { IsIdle (memory_state disk) }
+{
+    carry_out(alloc, disk, "run", script, fails)
+}
+
+/// Shows what is on the disk. The output's calls of these numbers fail; so does the first of the script's source, which is
+/// not read.
+pub(crate) fn show(alloc: Global, disk: MemDisk, of_out: &[u64]) -> Result<Left, Fail>
+    requires size { IsBlockSize (memory_state disk).size }
+    requires idle { IsIdle (memory_state disk) }
+{
+    carry_out(alloc, disk, "show", b"", [&[1], &[], of_out])
 }
 
 /// A script of the client `c`, and what a run of it is to leave so far.
@@ -103,7 +126,7 @@ impl Told {
         Ok(())
     }
 
-    /// The command ends with this status before node 1 has joined.
+    /// The command ends with this status before node 1 has joined, or shows nothing else.
     pub(crate) fn refuse(&mut self, status: u8, line: &str) -> Result<(), Fail> {
         self.status = status;
         self.trace.clear();

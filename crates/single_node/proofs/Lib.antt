@@ -4,6 +4,8 @@ pub mod Clients
 pub mod Ends
 pub mod Files
 pub mod Lists
+pub mod Shown
+pub mod Standing
 pub mod NodeRuns
 pub mod Steps
 pub mod Walks

@@ -31,7 +31,7 @@ module _ (d : DiskState) (tree : Tree) (root : List ℕ) (flat : IsFlat d tree) 
   slots_are : slots ≡ root_slots d
   slots_are = ap (λ (b : List ℕ). slots_of (stuffed_part b)) has.block_is
 
-  tree_is : tree ≡ dir (files_of d.block_at slots)
+  pub tree_is : tree ≡ dir (files_of d.block_at slots)
   tree_is = flat.is_tree ∙ ap (λ (ss : List Slot). dir (files_of d.block_at ss)) (sym slots_are)
 
   pub walk_root : (path : List (List ℕ)) → path ≡ [] → walk tree path ≡ Found (dir (files_of d.block_at slots))

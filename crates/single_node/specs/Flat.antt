@@ -73,9 +73,6 @@ pub record HasFlatRoot (d : DiskState) (block : List ℕ) : Type 0 where
   pub root : HasRoot d
   pub block_is : block ≡ d.block_at (root_of d)
 
-abbrev pub LacksFlatRoot : DiskState → Type 0
-LacksFlatRoot d = HasSuperBlock d → HasRoot d → ⊥
-
 -- a regular file is in this block
 pub record HasFile (d : DiskState) (block : ℕ) : Type 0 where
   pub inside : block < d.count

@@ -6,11 +6,12 @@ ghost use Rattle.gfs2_layout.specs.Area.{Slot, slots_of, first_named, IsArea};
 ghost use Rattle.gfs2_layout.specs.Device.{IsBlockSize};
 ghost use Rattle.shared_disk.specs.Disk.{IsIdle};
 ghost use Rattle.single_node.specs.Ends.{EndHasCause, IfNotRead, IfDiskFailed};
+ghost use Rattle.single_node.specs.Blocks.{FileRefused};
 ghost use Rattle.single_node.specs.Flat.{IsFlat, IsStuffedFile, HasFile, HasFlatRoot, file_bytes, stuffed_part};
 
-use crate::RunEnd;
 use crate::fetch::fetch;
 use crate::mount::stuffed_dinode;
+use crate::{Refusal, RunEnd};
 use file_tree::Content;
 use gfs2_layout::{Dirent, find_record};
 use shared_disk::SharedDisk;
@@ -64,11 +65,13 @@ fn range_of(
     Ok(Content::new(Vec::from_slice(alloc, part)?))
 }
 
-// Reads a part of the file whose dinode is at this address.
+// Reads, under a node's number, a part of the file whose dinode is at this address, which stands in block `from`.
 pub(crate) fn read_file<D: SharedDisk>(
     alloc: Global,
     disk: &mut D,
+    node: u8,
     block: &mut [u8],
+    from: u64,
     address: u64,
     at: u64,
     count: u32,
@@ -76,22 +79,27 @@ pub(crate) fn read_file<D: SharedDisk>(
     requires idle { IsIdle (D.state disk.old) }
     requires size { length block.old ≡ (D.state disk.old).size }
     requires some { IsBlockSize (D.state disk.old).size }
+    requires node { node ≤ 8 }
     ensures content { IfOk result (λ content. IsTrue (D.state disk.old).tells
         → content ≡ take count (drop at (file_bytes ((D.state disk.old).block_at address)))) }
-    ensures block { IfErr result (λ end. IfNotRead end (λ b. (b ≡ address)
-        × (IsTrue (D.state disk.old).tells → HasFile (D.state disk.old) address → ⊥))) }
+    ensures whole { IfOk result (λ _. IsTrue (D.state disk.old).tells → length ((D.state disk.old).block_at address) ≡ (D.state disk.old).size) }
+    ensures file { IfOk result (λ _. IsTrue (D.state disk.old).tells → HasFile (D.state disk.old) address) }
+    ensures block { IfErr result (λ end. IfNotRead end (λ b why. IsTrue (D.state disk.old).tells → FileRefused (D.state disk.old) from address b why)) }
     ensures failed { IfErr result (λ end. IfDiskFailed end (λ b. b ≡ address)) }
     ensures same { D.state disk.new ≡ D.state disk.old }
     ensures list { D.list disk.new ≡ D.list disk.old }
-    ensures cause { IfErr result (EndHasCause 1 (D.faults disk.old) (D.faults disk.new)) }
+    ensures cause { IfErr result (EndHasCause node (D.faults disk.old) (D.faults disk.new)) }
     ensures later { (j : ℕ) → D.faults disk.old j ≤ D.faults disk.new j }
 {
-    match fetch(disk, 1, address, block) {
+    match fetch(disk, node, from, address, block) {
         Ok(()) => {}
         Err(end) => return Err(end),
     }
     let Some(size) = file_size(block, address) else {
-        return Err(RunEnd::NotRead { block: address });
+        return Err(RunEnd::NotRead {
+            block: address,
+            why: Refusal::Form,
+        });
     };
     match range_of(alloc, block, size, at, count) {
         Ok(content) => Ok(content),

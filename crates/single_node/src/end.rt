@@ -2,13 +2,22 @@ use fault_counts::Rise;
 use no_memory::NoMemory;
 use std::alloc::{AllocError, AllocFailed};
 
+/// Why a block is refused.
+#[derive(Clone, Copy, Debug, PartialEq, Eq)]
+pub enum Refusal {
+    /// It is not of the form that is read today.
+    Form,
+    /// It has the number of a block that is outside the disk.
+    LeadsOut,
+}
+
 /// Why a run ended before its script did.
 #[derive(Clone, Copy, Debug, PartialEq, Eq)]
 pub enum RunEnd {
     /// The disk failed at this block under this node's number, and its count for that node rose so.
     DiskFailed { node: u8, block: u64, rise: Rise },
-    /// This block is not of the form that is read today, or lies outside the disk.
-    NotRead { block: u64 },
+    /// This block is refused.
+    NotRead { block: u64, why: Refusal },
     NoMemory,
 }
 

@@ -2,13 +2,14 @@ ghost use Rattle.std.specs.Prelude.{◌≡◌, ◌<◌, ◌≤◌, ℕ, length, 
 ghost use Rattle.shared_disk.specs.Disk.{IsIdle};
 ghost use Rattle.single_node.specs.Ends.{EndHasCause, IfNotRead, IfDiskFailed};
 
-use crate::RunEnd;
+use crate::{Refusal, RunEnd};
 use shared_disk::{SharedDisk, read_block};
 
-// Reads a block of an idle disk under a node's number.
+// Reads a block of an idle disk under a node's number; `from` is the block that has its number.
 pub(crate) fn fetch<D: SharedDisk>(
     disk: &mut D,
     node: u8,
+    from: u64,
     block: u64,
     into: &mut [u8],
 ) -> Result<(), RunEnd>
@@ -17,7 +18,7 @@ pub(crate) fn fetch<D: SharedDisk>(
     requires size { length into.old ≡ (D.state disk.old).size }
     ensures bytes { OnOk result (IsTrue (D.state disk.old).tells → into.new ≡ (D.state disk.old).block_at block) }
     ensures inside { OnOk result (block < (D.state disk.old).count) }
-    ensures outside { IfErr result (λ end. IfNotRead end (λ b. (b ≡ block) × ((D.state disk.old).count ≤ block))) }
+    ensures outside { IfErr result (λ end. IfNotRead end (λ b why. (b ≡ from) × (why ≡ Refusal.LeadsOut) × ((D.state disk.old).count ≤ block))) }
     ensures failed { IfErr result (λ end. IfDiskFailed end (λ b. b ≡ block)) }
     ensures same { D.state disk.new ≡ D.state disk.old }
     ensures list { D.list disk.new ≡ D.list disk.old }
@@ -25,7 +26,10 @@ pub(crate) fn fetch<D: SharedDisk>(
     ensures later { (j : ℕ) → D.faults disk.old j ≤ D.faults disk.new j }
 {
     if block >= disk.blocks() {
-        return Err(RunEnd::NotRead { block });
+        return Err(RunEnd::NotRead {
+            block: from,
+            why: Refusal::LeadsOut,
+        });
     }
     match read_block(disk, node, block, into) {
         Ok(()) => Ok(()),

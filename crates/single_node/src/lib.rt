@@ -4,14 +4,18 @@
 mod answer;
 mod end;
 mod fetch;
+mod laws;
 mod list;
 mod mount;
 mod read;
 mod run;
+mod show;
 
-pub use end::RunEnd;
+pub use end::{Refusal, RunEnd};
+pub use laws::{standing_names_are_flat, standing_roots_are_flat};
 pub use mount::{Root, read_root};
 pub use run::run_script;
+pub use show::append_tree;
 
 #[cfg(test)]
 mod tests;

@@ -9,9 +9,9 @@ ghost use Rattle.shared_disk.specs.Disk.{DiskState};
 ghost use Rattle.single_node.specs.Ends.{EndHasCause, IfNotRead, IfDiskFailed};
 ghost use Rattle.single_node.specs.Flat.{IsFlat, HasFlatRoot, stuffed_part, files_of, names_a_file, HasItsFileName};
 
-use crate::RunEnd;
 use crate::answer::{address_of, behind_dinode};
 use crate::mount::{Root, leads_on};
+use crate::{Refusal, RunEnd};
 use file_tree::{Name, NameList, Path, Reply, is_name};
 use gfs2_layout::next_record;
 use no_memory::NoMemory;
@@ -19,7 +19,7 @@ use std::alloc::Global;
 
 // The names of the files in an area of records, or `None` where one of them is not a name. It calls itself
 // for the records behind the first, of which a block has at most a hundred.
-fn file_names(alloc: Global, area: &[u8]) -> Result<Option<NameList>, NoMemory>
+pub(crate) fn file_names(alloc: Global, area: &[u8]) -> Result<Option<NameList>, NoMemory>
     requires { IsArea area.now }
     ensures { IfOk result (λ r. MatchOption r (AllByRecursion HasItsFileName (slots_of area.now) → ⊥)
         (λ names. (block_at : ℕ → List ℕ) → names ≡ names_in (files_of block_at (slots_of area.now)))) }
@@ -48,7 +48,7 @@ pub(crate) fn list_call(alloc: Global, root: &Root, path: &Path) -> Result<Reply
     requires plain { length path.now ≤ 1 }
     ensures reply { IfOk result (λ reply. (disk : DiskState) (tree : Tree) → IsFlat disk tree → HasFlatRoot disk root.now
         → reply ≡ list_reply (walk tree path.now)) }
-    ensures block { IfErr result (λ end. IfNotRead end (λ b. (path.now ≡ []) × (b ≡ (dinode_of root.now).num.address)
+    ensures block { IfErr result (λ end. IfNotRead end (λ b why. (why ≡ Refusal.Form) × (path.now ≡ []) × (b ≡ (dinode_of root.now).num.address)
         × (AllByRecursion HasItsFileName (slots_of (stuffed_part root.now)) → ⊥))) }
     ensures failed { IfErr result (λ end. IfDiskFailed end (λ _. ⊥)) }
     ensures cause { IfErr result (λ end. (faults : ℕ → ℕ) → EndHasCause 1 faults faults end) }
@@ -59,6 +59,7 @@ pub(crate) fn list_call(alloc: Global, root: &Root, path: &Path) -> Result<Reply
             Ok(Some(names)) => Ok(Reply::Names(names)),
             Ok(None) => Err(RunEnd::NotRead {
                 block: root.address(),
+                why: Refusal::Form,
             }),
             Err(_) => Err(RunEnd::NoMemory),
         };

@@ -2,15 +2,15 @@ ghost use Rattle.std.specs.Prelude.{◌≡◌, ◌/◌, ◌%◌, ◌<◌, ◌≤
 ghost use Rattle.std.specs.List.{AllByRecursion};
 ghost use Rattle.gfs2_layout.specs.Structures.{dinode_of};
 ghost use Rattle.gfs2_layout.specs.Area.{Slot, slots_of, IsShown, IsArea};
-ghost use Rattle.gfs2_layout.specs.Device.{superblock_place, IsBlockSize};
+ghost use Rattle.gfs2_layout.specs.Device.{IsBlockSize};
 ghost use Rattle.shared_disk.specs.Disk.{IsIdle};
 ghost use Rattle.single_node.specs.Ends.{EndHasCause, IfNotRead, IfDiskFailed};
-ghost use Rattle.single_node.specs.Blocks.{MountReads, MountRefuses};
-ghost use Rattle.single_node.specs.Flat.{IsStuffed, IsFlatDirectory, HasSuperBlock, HasFlatRoot, LacksFlatRoot, IsOfFile, names_a_file, stuffed_part, root_of, is_dot};
+ghost use Rattle.single_node.specs.Blocks.{RootRefused};
+ghost use Rattle.single_node.specs.Flat.{IsStuffed, IsFlatDirectory, HasSuperBlock, HasFlatRoot, IsOfFile, names_a_file, stuffed_part, root_of, is_dot};
 
-use crate::RunEnd;
 use crate::fetch::fetch;
-use gfs2_layout::{Dinode, Record, SuperBlock, is_area, next_record};
+use crate::{Refusal, RunEnd};
+use gfs2_layout::{Dinode, Record, is_area, next_record};
 use shared_disk::SharedDisk;
 use std::alloc::Global;
 use std::marker::Model;
@@ -82,32 +82,6 @@ fn is_flat_directory(block: &[u8], address: u64) -> bool
     has_only_files(area)
 }
 
-// The root's address, where the superblock is one and is that of a disk with this block size.
-fn root_address<D: SharedDisk>(disk: &mut D, block: &mut [u8]) -> Result<u64, RunEnd>
-    requires idle { IsIdle (D.state disk.old) }
-    requires size { length block.old ≡ (D.state disk.old).size }
-    requires some { IsBlockSize (D.state disk.old).size }
-    ensures root { IfOk result (λ root. IsTrue (D.state disk.old).tells → HasSuperBlock (D.state disk.old) × (root ≡ root_of (D.state disk.old))) }
-    ensures block { IfErr result (λ end. IfNotRead end (λ b. (b ≡ superblock_place (D.state disk.old).size)
-        × (IsTrue (D.state disk.old).tells → HasSuperBlock (D.state disk.old) → ⊥))) }
-    ensures failed { IfErr result (λ end. IfDiskFailed end (λ b. b ≡ superblock_place (D.state disk.old).size)) }
-    ensures same { D.state disk.new ≡ D.state disk.old }
-    ensures list { D.list disk.new ≡ D.list disk.old }
-    ensures cause { IfErr result (EndHasCause 0 (D.faults disk.old) (D.faults disk.new)) }
-    ensures later { (j : ℕ) → D.faults disk.old j ≤ D.faults disk.new j }
-{
-    let size = disk.block_size();
-    let place = 65_536 / u64::from(size);
-    fetch(disk, 0, place, block)?;
-    let Ok(superblock) = SuperBlock::read(block) else {
-        return Err(RunEnd::NotRead { block: place });
-    };
-    if superblock.bsize != size {
-        return Err(RunEnd::NotRead { block: place });
-    }
-    Ok(superblock.root.address)
-}
-
 /// The root directory of a flat image, which is read once and kept.
 #[derive(Drop)]
 pub struct Root {
@@ -142,45 +116,45 @@ impl Root {
     }
 }
 
-// Reads the root directory's block, and gives its address.
-fn fill_root<D: SharedDisk>(disk: &mut D, block: &mut [u8]) -> Result<u64, RunEnd>
+// Reads the root directory's block.
+fn fill_root<D: SharedDisk>(disk: &mut D, address: u64, block: &mut [u8]) -> Result<(), RunEnd>
     requires idle { IsIdle (D.state disk.old) }
     requires size { length block.old ≡ (D.state disk.old).size }
     requires some { IsBlockSize (D.state disk.old).size }
-    ensures root { OnOk result (IsTrue (D.state disk.old).tells → HasFlatRoot (D.state disk.old) block.new) }
-    ensures area { OnOk result (IsArea (stuffed_part block.new)) }
-    ensures address { IfOk result (λ address. address ≡ (dinode_of block.new).num.address) }
-    ensures block { IfErr result (λ end. IfNotRead end (λ b. IsTrue (D.state disk.old).tells → MountRefuses (D.state disk.old) b)) }
-    ensures failed { IfErr result (λ end. IfDiskFailed end (λ b. IsTrue (D.state disk.old).tells → MountReads (D.state disk.old) b)) }
+    ensures inside { OnOk result (address < (D.state disk.old).count) }
+    ensures bytes { OnOk result (IsTrue (D.state disk.old).tells → block.new ≡ (D.state disk.old).block_at address) }
+    ensures root { OnOk result (IsFlatDirectory (D.state disk.old).size address block.new) }
+    ensures block { IfErr result (λ end. IfNotRead end (λ b why. IsTrue (D.state disk.old).tells → RootRefused (D.state disk.old) address b why)) }
+    ensures failed { IfErr result (λ end. IfDiskFailed end (λ b. b ≡ address)) }
     ensures same { D.state disk.new ≡ D.state disk.old }
     ensures list { D.list disk.new ≡ D.list disk.old }
     ensures cause { IfErr result (EndHasCause 0 (D.faults disk.old) (D.faults disk.new)) }
     ensures later { (j : ℕ) → D.faults disk.old j ≤ D.faults disk.new j }
 {
-    let address = match root_address(disk, block) {
-        Ok(address) => address,
-        Err(end) => return Err(end),
-    };
-    match fetch(disk, 0, address, block) {
+    let place = 65_536 / u64::from(disk.block_size());
+    match fetch(disk, 0, place, address, block) {
         Ok(()) => {}
         Err(end) => return Err(end),
     }
     if !is_flat_directory(block, address) {
-        return Err(RunEnd::NotRead { block: address });
+        return Err(RunEnd::NotRead {
+            block: address,
+            why: Refusal::Form,
+        });
     }
-    Ok(address)
+    Ok(())
 }
 
-/// Reads the superblock and the root directory of an idle disk. `NotRead` has the block of the one that is
-/// not that of a flat image, and `DiskFailed` that of the one whose read failed. It takes memory for one block.
-pub fn read_root<D: SharedDisk>(alloc: Global, disk: &mut D) -> Result<Root, RunEnd>
+/// Reads the root directory of an idle disk, by its address, which the superblock has. `NotRead` has the root's
+/// block, where that is none of a flat image, and the superblock's, where the root is outside the disk; `DiskFailed` has the
+/// root's. It takes memory for one block.
+pub fn read_root<D: SharedDisk>(alloc: Global, disk: &mut D, address: u64) -> Result<Root, RunEnd>
     requires idle { IsIdle (D.state disk.old) }
     requires size { IsBlockSize (D.state disk.old).size }
-    ensures root { IfOk result (λ block. IsTrue (D.state disk.old).tells → HasFlatRoot (D.state disk.old) block) }
+    ensures root { IfOk result (λ block. IsTrue (D.state disk.old).tells → HasSuperBlock (D.state disk.old) → address ≡ root_of (D.state disk.old) → HasFlatRoot (D.state disk.old) block) }
     ensures area { IfOk result (λ block. (length block ≡ (D.state disk.old).size) × IsArea (stuffed_part block)) }
-    ensures other { IfErr result (λ end. IfNotRead end (λ _. IsTrue (D.state disk.old).tells → LacksFlatRoot (D.state disk.old))) }
-    ensures block { IfErr result (λ end. IfNotRead end (λ b. IsTrue (D.state disk.old).tells → MountRefuses (D.state disk.old) b)) }
-    ensures failed { IfErr result (λ end. IfDiskFailed end (λ b. IsTrue (D.state disk.old).tells → MountReads (D.state disk.old) b)) }
+    ensures block { IfErr result (λ end. IfNotRead end (λ b why. IsTrue (D.state disk.old).tells → RootRefused (D.state disk.old) address b why)) }
+    ensures failed { IfErr result (λ end. IfDiskFailed end (λ b. b ≡ address)) }
     ensures same { D.state disk.new ≡ D.state disk.old }
     ensures list { D.list disk.new ≡ D.list disk.old }
     ensures cause { IfErr result (EndHasCause 0 (D.faults disk.old) (D.faults disk.new)) }
@@ -188,8 +162,8 @@ pub fn read_root<D: SharedDisk>(alloc: Global, disk: &mut D) -> Result<Root, Run
 {
     let size = disk.block_size() as usize;
     let mut block = vec![in alloc; 0u8; size]?;
-    match fill_root(disk, &mut block) {
-        Ok(address) => Ok(Root { address, block }),
+    match fill_root(disk, address, &mut block) {
+        Ok(()) => Ok(Root { address, block }),
         Err(end) => Err(end),
     }
 }

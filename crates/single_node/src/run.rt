@@ -42,7 +42,7 @@ fn reply_to<D: SharedDisk>(
     requires plain { IsRootCall call.now }
     ensures reply { IfOk result (λ reply. (tree : Tree) → IsStart (D.state disk.old) root.now tree
         → apply call.now tree ≡ record { reply = reply; tree = tree }) }
-    ensures block { IfErr result (λ end. IfNotRead end (λ b. RefusesWhatIsTold (D.state disk.old) root.now call.now b)) }
+    ensures block { IfErr result (λ end. IfNotRead end (λ b why. RefusesWhatIsTold (D.state disk.old) root.now call.now b why)) }
     ensures failed { IfErr result (λ end. IfDiskFailed end (λ b. CallReads root.now call.now b)) }
     ensures same { D.state disk.new ≡ D.state disk.old }
     ensures list { D.list disk.new ≡ D.list disk.old }
@@ -51,7 +51,8 @@ fn reply_to<D: SharedDisk>(
 {
     match call {
         Call::Read(path, at, count) => {
-            read_call(alloc, disk, root.block(), block, path, *at, *count)
+            let from = root.address();
+            read_call(alloc, disk, root.block(), from, block, path, *at, *count)
         }
         Call::List(path) => list_call(alloc, root, path),
         _ => unreachable!(),
@@ -112,7 +113,7 @@ fn take_line<D: SharedDisk>(
     ensures taken { OnOk result (IsTaken clients.now line.now items.old.items items.new.items (λ call reply. (tree : Tree) → IsStart (D.state disk.old) root.now tree
         → apply call tree ≡ record { reply = reply; tree = tree })) }
     ensures kept { OnErr result (items.new.items ≡ items.old.items) }
-    ensures block { IfErr result (λ end. IfNotRead end (λ b. IsCallThat (λ call. RefusesWhatIsTold (D.state disk.old) root.now call b) line.now)) }
+    ensures block { IfErr result (λ end. IfNotRead end (λ b why. IsCallThat (λ call. RefusesWhatIsTold (D.state disk.old) root.now call b why) line.now)) }
     ensures failed { IfErr result (λ end. IfDiskFailed end (λ b. IsCallThat (λ call. CallReads root.now call b) line.now)) }
     ensures same { D.state disk.new ≡ D.state disk.old }
     ensures list { D.list disk.new ≡ D.list disk.old }
@@ -151,7 +152,7 @@ fn take_lines<D: SharedDisk>(
     requires joined { items.old.items ≡ TraceItem.Join 1 ∷ [] }
     ensures run { (count : ℕ) × IsRunUpTo clients.now lines.now count items.new.items (IsStart (D.state disk.old) root.now) }
     ensures whole { OnOk result (IsRunUpTo clients.now lines.now (length lines.now) items.new.items (IsStart (D.state disk.old) root.now)) }
-    ensures block { IfErr result (λ end. IfNotRead end (λ b. EndsAtCall (λ call. RefusesWhatIsTold (D.state disk.old) root.now call b) clients.now lines.now items.new.items (IsStart (D.state disk.old) root.now))) }
+    ensures block { IfErr result (λ end. IfNotRead end (λ b why. EndsAtCall (λ call. RefusesWhatIsTold (D.state disk.old) root.now call b why) clients.now lines.now items.new.items (IsStart (D.state disk.old) root.now))) }
     ensures failed { IfErr result (λ end. IfDiskFailed end (λ b. EndsAtCall (λ call. CallReads root.now call b) clients.now lines.now items.new.items (IsStart (D.state disk.old) root.now))) }
     ensures same { D.state disk.new ≡ D.state disk.old }
     ensures list { D.list disk.new ≡ D.list disk.old }
@@ -186,7 +187,7 @@ fn run_lines<D: SharedDisk>(
     requires none { items.old.items ≡ [] }
     ensures run { IsRunOf clients.now lines.now items.new.items (IsStart (D.state disk.old) root.now) }
     ensures whole { OnOk result (IsWholeRun clients.now lines.now items.new.items (IsStart (D.state disk.old) root.now)) }
-    ensures block { IfErr result (λ end. IfNotRead end (λ b. EndsAtCall (λ call. RefusesWhatIsTold (D.state disk.old) root.now call b) clients.now lines.now items.new.items (IsStart (D.state disk.old) root.now))) }
+    ensures block { IfErr result (λ end. IfNotRead end (λ b why. EndsAtCall (λ call. RefusesWhatIsTold (D.state disk.old) root.now call b why) clients.now lines.now items.new.items (IsStart (D.state disk.old) root.now))) }
     ensures failed { IfErr result (λ end. IfDiskFailed end (λ b. EndsAtCall (λ call. CallReads root.now call b) clients.now lines.now items.new.items (IsStart (D.state disk.old) root.now))) }
     ensures same { D.state disk.new ≡ D.state disk.old }
     ensures list { D.list disk.new ≡ D.list disk.old }
@@ -234,8 +235,8 @@ pub fn run_script<D: SharedDisk>(
     ensures members { NoneStopped items.new.items }
     ensures none_lost { NoneLost (history_of script.now.clients items.new.items) }
     ensures answered { OnOk result (AllAnswered items.new.items script.now) }
-    ensures other { IfErr result (λ end. IfNotRead end (λ _. (tree : Tree) → IsStart (D.state disk.old) root.now tree → ⊥)) }
-    ensures block { IfErr result (λ end. IfNotRead end (λ b. EndsAtCall (λ call. RefusesWhatIsTold (D.state disk.old) root.now call b) script.now.clients script.now.lines items.new.items (IsStart (D.state disk.old) root.now))) }
+    ensures other { IfErr result (λ end. IfNotRead end (λ _ _. (tree : Tree) → IsStart (D.state disk.old) root.now tree → ⊥)) }
+    ensures block { IfErr result (λ end. IfNotRead end (λ b why. EndsAtCall (λ call. RefusesWhatIsTold (D.state disk.old) root.now call b why) script.now.clients script.now.lines items.new.items (IsStart (D.state disk.old) root.now))) }
     ensures failed { IfErr result (λ end. IfDiskFailed end (λ b. EndsAtCall (λ call. CallReads root.now call b) script.now.clients script.now.lines items.new.items (IsStart (D.state disk.old) root.now))) }
     ensures same { D.state disk.new ≡ D.state disk.old }
     ensures list { D.list disk.new ≡ D.list disk.old }

@@ -7,7 +7,7 @@ ghost use Rattle.shared_disk.specs.Disk.{IsIdle};
 ghost use Rattle.shared_disk.specs.Memory.{memory_state};
 ghost use Rattle.single_node.specs.Run.{IsLineOf};
 
-use crate::{RunEnd, read_root, run_script};
+use crate::{Refusal, RunEnd, read_root, run_script};
 use fault_counts::Rise;
 use file_tree::{Call, Name, Path, is_name};
 use script_lang::{Client, Line, Script, first_foreign_line, parse};
@@ -107,6 +107,16 @@ fn image(rt: &impl Abort, alloc: Global, later: &[Part], fails: &[u64]) -> Resul
     Ok(MemDisk::new(512, bytes, fails, Vec::new(alloc), 0)?)
 }
 
+// The address of the root, as the superblock's last byte of it says, with these parts over the image.
+fn root_address(later: &[Part]) -> u64 {
+    for (at, part) in later {
+        if let (65_631, [address]) = (*at, *part) {
+            return u64::from(*address);
+        }
+    }
+    130
+}
+
 // Runs the script on the image; then these are the end and the trace.
 fn check_run(
     rt: &(impl Abort + AllocGlobal),
@@ -120,7 +130,7 @@ fn check_run(
 {
     let a = rt.alloc();
     let mut disk = image(rt, a, later, fails)?;
-    let root = match read_root(a, &mut disk) {
+    let root = match read_root(a, &mut disk, root_address(later)) {
         Ok(root) => root,
         Err(end) => {
             assert_eq!(rt; Some(end), want);
@@ -245,11 +255,10 @@ call 1 ann 2 read /b 0 1 = data 68
 ";
 
 // Which call of the disk fails, under which node's number and at which block, and the trace.
-const FAILING: [(u64, u8, u64, &[u8]); 4] = [
-    (1, 0, 128, b""),
-    (2, 0, 130, b""),
-    (3, 1, 132, LISTED),
-    (4, 1, 133, B_READ),
+const FAILING: [(u64, u8, u64, &[u8]); 3] = [
+    (1, 0, 130, b""),
+    (2, 1, 132, LISTED),
+    (3, 1, 133, B_READ),
 ];
 
 #[test]
@@ -265,13 +274,8 @@ fn a_failing_disk_is_told(rt: HostRuntime) -> Result<(), Fail> {
     Ok(())
 }
 
-// What is laid over the image, the block that is not read, and the trace.
-const NOT_READ: [(&[Part], u64, &[u8]); 17] = [
-    // The superblock: its magic number, its kind, its block size, and a root outside the disk.
-    (&[(65_539, b"\x71")], 128, b""),
-    (&[(65_543, b"\x04")], 128, b""),
-    (&[(65_574, b"\x04")], 128, b""),
-    (&[(65_631, b"\x8c")], 140, b""),
+// What is laid over the image, the block that is refused, and the trace.
+const NOT_READ: [(&[Part], u64, &[u8]); 12] = [
     // The root: its kind, its place, its mode, its size, its flags and its height.
     (&[(66_567, b"\x05")], 130, b""),
     (&[(66_599, b"\x83")], 130, b""),
@@ -283,8 +287,7 @@ const NOT_READ: [(&[Part], u64, &[u8]); 17] = [
     (&[(66_812, b"\x00\x00")], 130, b""),
     (&[(66_913, b"\x04")], 130, b""),
     (&[(66_928, b"/")], 130, b"join 1\n"),
-    // The file `a`: a place outside the disk, its kind, its mode, and a byte more than the block has.
-    (&[(66_951, b"\x8c")], 140, B_READ),
+    // The file `a`: its kind, its mode, and a byte more than the block has.
     (&[(68_103, b"\x05")], 133, B_READ),
     (&[(68_138, b"\x41")], 133, B_READ),
     (&[(68_158, b"\x01\x19")], 133, B_READ),
@@ -293,7 +296,24 @@ const NOT_READ: [(&[Part], u64, &[u8]); 17] = [
 #[test]
 fn a_block_of_another_form_is_told(rt: HostRuntime) -> Result<(), Fail> {
     for (later, block, trace) in NOT_READ {
-        let end = RunEnd::NotRead { block };
+        let why = Refusal::Form;
+        let end = RunEnd::NotRead { block, why };
+        check_text(&rt, later, &[], SHORT_SCRIPT, Some(end), trace)?;
+    }
+    Ok(())
+}
+
+// The root's place is outside the disk, as the superblock has it; that of the file `a` is, as the root has it.
+const FAR: [(&[Part], u64, &[u8]); 2] = [
+    (&[(65_631, b"\x8c")], 128, b""),
+    (&[(66_951, b"\x8c")], 130, B_READ),
+];
+
+#[test]
+fn a_number_outside_the_disk_is_told_where_it_stands(rt: HostRuntime) -> Result<(), Fail> {
+    for (later, block, trace) in FAR {
+        let why = Refusal::LeadsOut;
+        let end = RunEnd::NotRead { block, why };
         check_text(&rt, later, &[], SHORT_SCRIPT, Some(end), trace)?;
     }
     Ok(())
@@ -464,7 +484,10 @@ call 1 cy 2 read /b 0 1 = data 68
 #[test]
 fn a_run_of_several_clients_ends_at_its_block(rt: HostRuntime) -> Result<(), Fail> {
     let script = script_of(&rt, rt.alloc(), FAILING_STEPS)?;
-    let other = RunEnd::NotRead { block: 133 };
+    let other = RunEnd::NotRead {
+        block: 133,
+        why: Refusal::Form,
+    };
     check_run(
         &rt,
         &[(68_138, b"\x41")],
@@ -482,5 +505,5 @@ fn a_run_of_several_clients_ends_at_its_block(rt: HostRuntime) -> Result<(), Fai
         block: 133,
         rise,
     };
-    check_run(&rt, &[], &[4], &script, Some(failed), TWO_CALLS)
+    check_run(&rt, &[], &[3], &script, Some(failed), TWO_CALLS)
 }

@@ -5,7 +5,7 @@ use Rattle.command_words.specs.declared.command.MakeWords.{MakeWords}
 use Rattle.cluster_program.specs.Course.{Makes, IsTooLarge}
 use Rattle.cluster_program.specs.World.{inputs}
 use Rattle.cluster_program.specs.declared.status.Status.TheVariants as status
-use Rattle.cluster_program.specs.declared.status.Field.TheVariants as field
+use Rattle.image_mount.specs.declared.field.Field.TheVariants as field
 use Rattle.cluster_program.proofs.image.make_image.Goals as goal
 
 too_large : (w : MakeWords) (s : DiskState) (list : Option (List Operation)) (faults : ℕ → ℕ) (count : ℕ) → count ≡ s.count → 131072 < count → (left : Option (List ℕ)) (failed : ℕ)

@@ -1,11 +1,16 @@
+use Rattle.std.proofs.Common.{List, ℕ, ◌++◌, ap}
 use Rattle.cluster_program.specs.Out.{out_of}
-use Rattle.cluster_program.proofs.Passing.{front_all, front_from}
+use Rattle.cluster_program.specs.Report.{shown}
+use Rattle.cluster_program.proofs.Passing.{held_front, held_front_all}
 use Rattle.cluster_program.proofs.output.put_out.Goals as goal
 
 pub returns-in-Ok-clause-front : goal.returns-in-Ok-clause-front
 returns-in-Ok-clause-front g c =
-    front_all _ _ _ c.new-held.result.items c.put_lines.new.held.items c.put_held.new.held.items (out_of c.args.script.now c.args.items.now c.args.told.now 0) c.put_held.result
-    c.new-held.ensures.items c.in-Ok.ensures.bytes c.put_held.ensures.bytes
+    let rest = out_of c.args.script.now c.args.items.now c.args.told.now 0 in
+    held_front_all _ _ _ c.held_lines-held.result.items c.put_lines.new.held.items c.put_held.new.held.items (shown c.args.told.now c.args.lines.items ++ rest) rest c.put_held.result
+    (ap (λ (held : List ℕ). held ++ rest) c.held_lines-held.ensures) c.in-Ok.ensures.bytes c.put_held.ensures.bytes
 
 pub returns-clause-front : goal.returns-clause-front
-returns-clause-front g c = front_from _ _ c.new-held.result.items (out_of c.args.script.now c.args.items.now c.args.told.now 0) c.new-held.ensures.items c.in-Err.ensures.bytes
+returns-clause-front g c =
+    let rest = out_of c.args.script.now c.args.items.now c.args.told.now 0 in
+    held_front _ _ c.held_lines-held.result.items (shown c.args.told.now c.args.lines.items ++ rest) rest (ap (λ (held : List ℕ). held ++ rest) c.held_lines-held.ensures) c.in-Err.ensures.bytes

@@ -20,15 +20,15 @@ module _ (g : Over) (c : goal.After-drop-items g) where
   abbrev sinks_now : Outputs
   sinks_now = record { trace = g.T.Sink.contents c.report-status.new.trace; trace_faults = g.T.Sink.faults c.report-status.new.trace; output = g.O.Sink.contents c.report-status.new.out; output_faults = g.O.Sink.faults c.report-status.new.out }
 
-  reports : Reports sinks sinks_now c.carry_out-script.result.script c.carry_out-script.new.items.items c.carry_out-script.result.own c.report-status.result
-  reports = subst (λ (items : List TraceItem). Reports sinks sinks_now c.carry_out-script.result.script items c.carry_out-script.result.own c.report-status.result) c.deref.ensures.value c.report-status.ensures.reports
+  reports : Reports sinks sinks_now c.carry_out-script.result.script c.carry_out-script.new.items.items c.carry_out-script.result.lines.items c.carry_out-script.result.own c.report-status.result
+  reports = subst (λ (items : List TraceItem). Reports sinks sinks_now c.carry_out-script.result.script items c.carry_out-script.result.lines.items c.carry_out-script.result.own c.report-status.result) c.deref.ensures.value c.report-status.ensures.reports
 
 pub returns-clause-fault : goal.returns-clause-fault
 returns-clause-fault g c =
-    fault_has_cause _ _ (sinks g c) (sinks_now g c) (map string_bytes c.args.words.now) c.carry_out-script.result.script c.carry_out-script.new.items.items c.carry_out-script.result.own c.report-status.result
+    fault_has_cause _ _ (sinks g c) (sinks_now g c) (map string_bytes c.args.words.now) c.carry_out-script.result.script c.carry_out-script.new.items.items c.carry_out-script.result.lines.items c.carry_out-script.result.own c.report-status.result
     c.carry_out-script.ensures.course (reports g c)
 
 pub returns-clause-complete : goal.returns-clause-complete
 returns-clause-complete g c =
-    complete _ _ (sinks g c) (sinks_now g c) (map string_bytes c.args.words.now) c.carry_out-script.result.script c.carry_out-script.new.items.items c.carry_out-script.result.own c.report-status.result
+    complete _ _ (sinks g c) (sinks_now g c) (map string_bytes c.args.words.now) c.carry_out-script.result.script c.carry_out-script.new.items.items c.carry_out-script.result.lines.items c.carry_out-script.result.own c.report-status.result
     c.carry_out-script.ensures.course (reports g c)

@@ -1,15 +1,16 @@
 use Rattle.std.proofs.Common.{refl}
 use Rattle.cluster_program.specs.Course.{NoScript, RunsScript}
-use Rattle.cluster_program.proofs.Courses.{course_of}
+use Rattle.cluster_program.proofs.Courses.{course_of, with_no_lines}
 use Rattle.cluster_program.proofs.top.read_and_run.Goals as goal
 
 pub returns-in-Err-clause-course : goal.returns-in-Err-clause-course
 returns-in-Err-clause-course g c = λ words asks.
-    course_of words _ _ c.without_script.ensures.script c.requires.none c.without_script.ensures.own
+    course_of words _ _ c.without_script.ensures.script c.requires.none c.without_script.ensures.lines c.without_script.ensures.own
     (NoScript c.in-Err.own asks c.in-Err.ensures.none (record { state_is = refl; list_is = refl }) refl)
 
 pub returns-clause-course : goal.returns-clause-course
 returns-clause-course g c = λ words asks.
     let read = c.in-Ok.ensures.script in
-    RunsScript read.0 c.in-Ok.script c.mount_and_run-own.new.items.items c.mount_and_run-own.result asks read.1 read.2 c.in-Ok.ensures.built.0
-    (record { state_is = c.mount_and_run-own.ensures.same; list_is = c.mount_and_run-own.ensures.list }) c.mount_and_run-own.ensures.runs
+    with_no_lines words _ _ c.new.ensures.items
+    (RunsScript read.0 c.in-Ok.script c.mount_and_run-own.new.items.items c.mount_and_run-own.result asks read.1 read.2 c.in-Ok.ensures.built.0
+    (record { state_is = c.mount_and_run-own.ensures.same; list_is = c.mount_and_run-own.ensures.list }) c.mount_and_run-own.ensures.runs)

@@ -1,7 +1,6 @@
 use Rattle.std.proofs.Common.{None, Some, arith}
-use Rattle.std.specs.Prelude.{IsTrue}
 use Rattle.file_tree.specs.declared.call.Call.TheVariants as calls
-use Rattle.single_node.specs.Blocks.{CallReads, CallRefuses}
+use Rattle.single_node.specs.Blocks.{CallReads, RefusesWhatIsTold}
 use Rattle.single_node.proofs.Blocks.{reads_file, refuses_file}
 use Rattle.single_node.proofs.Ends.{not_read_weaker, disk_failed_weaker}
 use Rattle.single_node.proofs.Walks.{one_name, first_is, block_size_bounds, read_absent, read_found}
@@ -31,8 +30,9 @@ returns-in-Err-clause-block g c =
     let (s, found, there) = c.in-Some.ensures in
     let one = one_name c.args.path.now c.names.result.now c.name-item.result c.name-item.result c.names.ensures c.in-len1-up.len_at_least c.requires.plain c.name-item.is in
     let first = first_is c.args.root.now c.behind_dinode-area.result.now c.name-item.result c.bytes-name.result.now (Some s) c.behind_dinode-area.ensures.part c.bytes-name.ensures.bytes found in
-    not_read_weaker {Q = λ b. IsTrue (g.D.SharedDisk.state c.args.disk.now).tells → CallRefuses (g.D.SharedDisk.state c.args.disk.now) c.args.root.now (calls.Read c.args.path.now c.args.at c.args.count) b} c.in-Err.end
-    (λ b. refuses_file c.args.root.now c.args.path.now c.name-item.result c.args.at c.args.count s c.in-Some.address c.bytes-name.ensures.name one first there (g.D.SharedDisk.state c.args.disk.now) b) c.in-Err.ensures.block
+    not_read_weaker {Q = λ b why. RefusesWhatIsTold (g.D.SharedDisk.state c.args.disk.now) c.args.root.now (calls.Read c.args.path.now c.args.at c.args.count) b why} c.in-Err.end
+    (λ b why. refuses_file c.args.root.now c.args.path.now c.name-item.result c.args.at c.args.count s c.in-Some.address c.bytes-name.ensures.name one first there (g.D.SharedDisk.state c.args.disk.now) c.args.from b why c.requires.from)
+    c.in-Err.ensures.block
 
 pub returns-in-Err-clause-failed : goal.returns-in-Err-clause-failed
 returns-in-Err-clause-failed g c =

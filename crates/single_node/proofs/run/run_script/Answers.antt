@@ -84,13 +84,13 @@ returns-clause-answered g c =
 
 pub returns-clause-other : goal.returns-clause-other
 returns-clause-other g c =
-    other_weaker {Q = λ _. (tree : Tree) → IsStart (disk g c) (root g c) tree → ⊥} c.run_lines.result
+    other_weaker {Q = λ _ _. (tree : Tree) → IsStart (disk g c) (root g c) tree → ⊥} c.run_lines.result
     (none_of_lines (disk g c) (root g c) c.deref.result.now c.deref-2.result.now c.run_lines.new.items.items) c.run_lines.ensures.block
 
 pub returns-clause-block : goal.returns-clause-block
 returns-clause-block g c =
     at_script
-    (λ cs ls. IfErr c.run_lines.result (λ end. IfNotRead end (λ b. EndsAtCall (λ call. RefusesWhatIsTold (disk g c) (root g c) call b) cs ls c.run_lines.new.items.items (IsStart (disk g c) (root g c)))))
+    (λ cs ls. IfErr c.run_lines.result (λ end. IfNotRead end (λ b why. EndsAtCall (λ call. RefusesWhatIsTold (disk g c) (root g c) call b why) cs ls c.run_lines.new.items.items (IsStart (disk g c) (root g c)))))
     c.args.script.now.clients c.args.script.now.lines (clients g c) (lines g c) c.run_lines.ensures.block
 
 pub returns-clause-failed : goal.returns-clause-failed

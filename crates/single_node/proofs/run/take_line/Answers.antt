@@ -8,8 +8,8 @@ use Rattle.single_node.proofs.run.take_line.Goals as goal
 pub returns-in-Err-clause-block : goal.returns-in-Err-clause-block
 returns-in-Err-clause-block g c =
     let d = g.D.SharedDisk.state c.args.disk.now in
-    not_read_weaker {Q = λ b. IsCallThat (λ call. RefusesWhatIsTold d c.args.root.now call b) c.args.line.now} c.in-Err.end
-    (λ b refuses. subst (IsCallThat (λ call. RefusesWhatIsTold d c.args.root.now call b)) (sym c.in-Call.is) refuses) c.in-Err.ensures.block
+    not_read_weaker {Q = λ b why. IsCallThat (λ call. RefusesWhatIsTold d c.args.root.now call b why) c.args.line.now} c.in-Err.end
+    (λ b why refuses. subst (IsCallThat (λ call. RefusesWhatIsTold d c.args.root.now call b why)) (sym c.in-Call.is) refuses) c.in-Err.ensures.block
 
 pub returns-in-Ok-put_call-clause-taken : goal.returns-in-Ok-put_call-clause-taken
 returns-in-Ok-put_call-clause-taken g c =

@@ -1,0 +1,81 @@
+-- How a mount that failed ends a command, and what one that went well gives.
+use Rattle.std.proofs.Common.{◌≡◌, ℕ, ◌≤◌, List, false, true, Some, None, length, inl, inr, refl, sym, ap, ◌∙◌, subst, arith}
+use Rattle.std.specs.Prelude.{IsTrue, nat_lt}
+use Rattle.fault_counts.specs.Causes.{WentUp}
+use Rattle.file_tree.specs.Tree.{Tree}
+use Rattle.gfs2_layout.specs.Device.{IsBlockSize, superblock_place}
+use Rattle.gfs2_layout.specs.Headers.{HasHeader}
+use Rattle.gfs2_layout.specs.Structures.{header_fault}
+use Rattle.image_model.specs.Claims.{Claims, root}
+use Rattle.image_model.specs.Image.{Image, image_of}
+use Rattle.image_model.specs.Laws.{NothingBreaks}
+use Rattle.image_model.specs.Owners.{Root}
+use Rattle.image_model.specs.Rules.{Breaks}
+use Rattle.gfs2_layout.specs.declared.superblock.SuperBlock.{SuperBlock}
+use Rattle.image_mount.specs.Found.{HasSuper, HasFormat}
+use Rattle.image_mount.specs.Mounted.{MountedValue, IsMounted, IsOfProfile}
+use Rattle.image_mount.specs.Refusals.{RefusesRightly, HasRisen, IsExcused, IsReached}
+use Rattle.image_mount.specs.declared.fault.MountFault.{MountFault}
+use Rattle.image_mount.specs.declared.fault.MountFault.TheVariants as fault
+use Rattle.shared_disk.specs.Disk.{DiskState}
+use Rattle.single_node.specs.Blocks.{RootRefused, OtherRoot, FarRoot}
+use Rattle.single_node.specs.Ends.{EndHasCause, IfNotRead, IfDiskFailed}
+use Rattle.single_node.specs.Flat.{HasSuperBlock, HasRoot, HasFlatRoot, IsFlatDirectory, root_of}
+use Rattle.single_node.specs.declared.end.Refusal.TheVariants as why
+use Rattle.single_node.specs.declared.end.RunEnd.{RunEnd}
+use Rattle.single_node.specs.declared.end.RunEnd.TheVariants as end
+use Rattle.single_node.proofs.Walks.{block_size_bounds}
+use Rattle.cluster_program.specs.Early.{status_of_end, status_of_mount}
+use Rattle.cluster_program.specs.Mounting.{OfImage, MountEnds, DiskFails, LiesOutside, IsDamaged, IsDirty, IsHashed, HasOtherRoot, LacksRoom}
+use Rattle.cluster_program.specs.declared.status.Status.{Status}
+use Rattle.cluster_program.specs.declared.status.Status.TheVariants as status
+use Rattle.cluster_program.proofs.Far.{far_root}
+use Rattle.cluster_program.proofs.Runs.{longer}
+
+pub mount_end : (d : DiskState) (first now : ℕ → ℕ) (f : MountFault) → NothingBreaks → OfImage d (λ im. RefusesRightly im f) → OfImage d (λ im. IsOfProfile im → IsExcused f) → HasRisen first now f
+    → MountEnds d first now (status_of_mount f)
+mount_end d first now (fault.NotProfile what value) law right excused risen = LiesOutside what value right excused
+mount_end d first now (fault.Damaged block rule) law right excused risen =
+    IsDamaged block rule (λ tells. (right tells).0) (λ tells tree stands. law (image_of d) tree stands rule block (right tells).0)
+mount_end d first now (fault.DeviceFault block x y) law right excused risen = DiskFails block x y risen right
+mount_end d first now (fault.NotBuilt block) law right excused risen = IsHashed block (λ tells. (right tells).0)
+mount_end d first now fault.NoMemory law right excused risen = LacksRoom
+
+root_is_reached : (d : DiskState) (block : ℕ) → block ≡ root_of d → IsReached (image_of d) block
+root_is_reached d block is = inr (superblock_place d.size, (Root, subst (λ (b : ℕ). Claims (image_of d) (superblock_place d.size) b Root) (sym is) root))
+
+pub root_end : (d mid : DiskState) (first before now : ℕ → ℕ) (address : ℕ) (e : RunEnd) → mid ≡ d → NothingBreaks → (IsTrue d.tells → address ≡ root_of d) → ((j : ℕ) → first j ≤ before j)
+    → EndHasCause 0 before now e → IfNotRead e (λ b r. IsTrue mid.tells → RootRefused mid address b r) → IfDiskFailed e (λ b. b ≡ address) → MountEnds d first now (status_of_end e)
+root_end d mid first before now address (end.DiskFailed node block rise) same law at earlier cause refused failed =
+    let here = DiskFails block rise.before rise.after (longer (first 0) (before 0) (now 0) rise.before rise.after (earlier 0) cause.1) (λ tells. root_is_reached d block (failed ∙ at tells)) in
+    subst (λ (n : ℕ). MountEnds d first now (status.DeviceFault n (Some block) rise.before rise.after)) (sym cause.0) here
+root_end d mid first before now address (end.NotRead block why.Form) same law at earlier cause refused failed =
+    HasOtherRoot block (λ tells. other_root d address block (at tells) (subst (λ (s : DiskState). IsTrue s.tells → RootRefused s address block why.Form) same refused tells))
+  where
+    other_root : (d : DiskState) (address block : ℕ) → address ≡ root_of d → RootRefused d address block why.Form → (block ≡ root_of d) × (HasRoot d → ⊥)
+    other_root d address block at (OtherRoot is inside other) =
+        (is ∙ at, λ has. other (subst (λ (a : ℕ). IsFlatDirectory d.size a (d.block_at a)) (sym at) has.directory))
+root_end d mid first before now address (end.NotRead block why.LeadsOut) same law at earlier cause refused failed =
+    let broken : OfImage d (λ im. Breaks im 2 block) = λ tells. far d address block (at tells) (subst (λ (s : DiskState). IsTrue s.tells → RootRefused s address block why.LeadsOut) same refused tells) in
+    IsDamaged block 2 broken (λ tells tree stands. law (image_of d) tree stands 2 block (broken tells))
+  where
+    far : (d : DiskState) (address block : ℕ) → address ≡ root_of d → RootRefused d address block why.LeadsOut → Breaks (image_of d) 2 block
+    far d address block at (FarRoot is outside) = subst (Breaks (image_of d) 2) (sym is) (far_root d (subst (λ (a : ℕ). d.count ≤ a) at outside))
+root_end d mid first before now address end.NoMemory same law at earlier cause refused failed = LacksRoom
+
+-- ---- what the superblock is
+
+good_header : (bytes : List ℕ) → 272 ≤ length bytes → HasHeader 1 100 bytes → header_fault 272 1 100 bytes ≡ None
+good_header bytes long has = grind (arith, long, has.magic_is, has.kind_is, has.format_is)
+
+pub superblock_is : (d : DiskState) (m : MountedValue) → IsBlockSize d.size → IsMounted (image_of d) m → HasSuperBlock d × (m.superblock.root.address ≡ root_of d)
+superblock_is d m four mounted =
+    let format : HasFormat (image_of d) = mounted.found.groups.list.master.format in
+    let long : 272 ≤ length (d.block_at (superblock_place d.size)) = omega (arith, format.super.whole, (block_size_bounds d.size four).0) in (
+      record { inside = format.super.inside; good = good_header (d.block_at (superblock_place d.size)) long format.super.header; bsize = format.bsize },
+      ap (λ (s : SuperBlock). s.root.address) mounted.superblock,
+    )
+
+pub root_there : (d mid : DiskState) (block : List ℕ) (address : ℕ) → mid ≡ d → (IsTrue mid.tells → HasSuperBlock mid → address ≡ root_of mid → HasFlatRoot mid block)
+    → IsTrue d.tells → HasSuperBlock d → address ≡ root_of d → HasFlatRoot d block
+root_there d mid block address same so = subst (λ (s : DiskState). IsTrue s.tells → HasSuperBlock s → address ≡ root_of s → HasFlatRoot s block) same so

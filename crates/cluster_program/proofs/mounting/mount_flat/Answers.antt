@@ -1,0 +1,35 @@
+use Rattle.std.proofs.Common.{◌≡◌, ℕ, List, Some, slice_get, sym, ap, ◌∙◌, subst}
+use Rattle.std.specs.Prelude.{IsTrue}
+use Rattle.image_mount.specs.Mounted.{Journal, MountedValue}
+use Rattle.shared_disk.specs.Disk.{DiskState}
+use Rattle.single_node.specs.Flat.{HasFlatRoot, HasSuperBlock, root_of}
+use Rattle.cluster_program.specs.Mounting.{MountEnds, IsDirty}
+use Rattle.cluster_program.proofs.Mounts.{mount_end, root_end, root_there, superblock_is}
+use Rattle.cluster_program.proofs.mounting.mount_flat.Goals as goal
+
+pub returns-in-Err-clause-ends : goal.returns-in-Err-clause-ends
+returns-in-Err-clause-ends g c =
+    subst (MountEnds _ _ _) (sym c.not_mounted.ensures)
+    (mount_end (g.D.SharedDisk.state c.args.disk.now) (g.D.SharedDisk.faults c.args.disk.now) (g.D.SharedDisk.faults c.mount_image.new.disk) c.in-Err.fault c.what_stands_breaks_nothing.ensures c.in-Err.ensures.refused c.in-Err.ensures.accepts c.in-Err.ensures.risen)
+
+pub returns-in-Some-clause-ends : goal.returns-in-Some-clause-ends
+returns-in-Some-clause-ends g c =
+    let it = c.in-Some.ensures in
+    let journals = c.deref.ensures.value ∙ ap (λ (m : MountedValue). m.journals) c.mounted.view_is in
+    let there = subst (λ (js : List Journal). slice_get js it.0 ≡ Some it.1.0) journals it.1.1 in
+    subst (MountEnds _ _ _) (sym c.not_built.ensures) (IsDirty c.in-Some.block (λ tells. (c.in-Ok.mounted, (c.in-Ok.ensures.mounted tells, (it.0, (it.1.0, there, it.1.2, it.1.3))))))
+
+pub returns-in-Ok-read_root-clause-root : goal.returns-in-Ok-read_root-clause-root
+returns-in-Ok-read_root-clause-root g c tells =
+    let d = g.D.SharedDisk.state c.args.disk.now in
+    let told = superblock_is d c.in-Ok.mounted c.requires.size (c.in-Ok.ensures.mounted tells) in
+    let at = ap (λ (m : MountedValue). m.superblock.root.address) c.mounted.view_is ∙ told.1 in
+    root_there d (g.D.SharedDisk.state c.mount_image.new.disk) c.in-Ok-read_root.root c.mounted.inside.sb.root.address c.in-Ok.ensures.same c.in-Ok-read_root.ensures.root tells told.0 at
+
+pub returns-in-Err-read_root-clause-ends : goal.returns-in-Err-read_root-clause-ends
+returns-in-Err-read_root-clause-ends g c =
+    let d = g.D.SharedDisk.state c.args.disk.now in
+    let at : IsTrue d.tells → c.mounted.inside.sb.root.address ≡ root_of d = λ tells. ap (λ (m : MountedValue). m.superblock.root.address) c.mounted.view_is ∙ (superblock_is d c.in-Ok.mounted c.requires.size (c.in-Ok.ensures.mounted tells)).1 in
+    subst (MountEnds _ _ _) (sym c.early.ensures)
+    (root_end d (g.D.SharedDisk.state c.mount_image.new.disk) (g.D.SharedDisk.faults c.args.disk.now) (g.D.SharedDisk.faults c.mount_image.new.disk) (g.D.SharedDisk.faults c.read_root.new.disk) c.mounted.inside.sb.root.address
+    c.in-Err-read_root.end c.in-Ok.ensures.same c.what_stands_breaks_nothing.ensures at c.in-Ok.ensures.later c.in-Err-read_root.ensures.cause c.in-Err-read_root.ensures.block c.in-Err-read_root.ensures.failed)

@@ -1,0 +1,55 @@
+ghost use Rattle.std.specs.Prelude.{◌≡◌, ◌≤◌, ◌+◌, ◌++◌, ℕ, List, Bool, [], map, drop, IfOk, IfErr, MatchResult};
+ghost use Rattle.gfs2_layout.specs.Device.{IsBlockSize};
+ghost use Rattle.image_mount.specs.Mounted.{Journal};
+ghost use Rattle.shared_disk.specs.Disk.{IsIdle};
+ghost use Rattle.show_text.specs.Show.{journal_lines};
+ghost use Rattle.cluster_program.specs.Course.{Shows};
+
+use crate::early::early;
+use crate::mounting::mount_flat;
+use crate::status::Status;
+use image_mount::JournalMap;
+use no_memory::NoMemory;
+use shared_disk::SharedDisk;
+use show_text::append_journal;
+use single_node::{append_tree, standing_names_are_flat};
+use std::alloc::Global;
+
+// Puts the lines of the journals at the end.
+fn append_journals(text: &mut Vec<u8>, journals: &[JournalMap]) -> Result<(), NoMemory>
+    ensures { IfOk result (λ _. text.new.items ≡ text.old.items ++ journal_lines 0 (map (λ (j : Journal). j.head.clean) journals.now)) }
+{
+    let mut number = 0;
+    for journal in journals {
+        append_journal(text, number, journal.head.clean)?;
+        number += 1;
+    }
+    Ok(())
+}
+
+/// The lines of what is on the image, journals and tree, or how the command ends without them.
+pub(crate) fn show_image<D: SharedDisk>(alloc: Global, disk: &mut D) -> Result<Vec<u8>, Status>
+    requires idle { IsIdle (D.state disk.old) }
+    requires size { IsBlockSize (D.state disk.old).size }
+    ensures shows { MatchResult result (λ lines. Shows (D.state disk.old) (D.faults disk.old) (D.faults disk.new) lines.items Status.Done)
+        (λ own. Shows (D.state disk.old) (D.faults disk.old) (D.faults disk.new) [] own) }
+    ensures same { D.state disk.new ≡ D.state disk.old }
+    ensures list { D.list disk.new ≡ D.list disk.old }
+    ensures later { (j : ℕ) → D.faults disk.old j ≤ D.faults disk.new j }
+{
+    // What is shown of an image that stands is the tree that it stands for.
+    standing_names_are_flat();
+    let image = match mount_flat(alloc, disk) {
+        Ok(image) => image,
+        Err(own) => return Err(own),
+    };
+    let mut lines = Vec::new(alloc);
+    match append_journals(&mut lines, &image.mounted.journals) {
+        Ok(()) => {}
+        Err(_) => return Err(Status::NoMemory),
+    }
+    match append_tree(alloc, disk, &image.root, &mut lines) {
+        Ok(()) => Ok(lines),
+        Err(end) => Err(early(end)),
+    }
+}
