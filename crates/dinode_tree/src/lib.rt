@@ -14,9 +14,9 @@ mod reading;
 mod tests;
 mod ways;
 
-pub use locating::{Located, locate, read_dinode};
 pub use laws::{
     all_blocks_are_shown, every_view_shows_an_inode, sound_inodes_are_shown,
     sound_inodes_are_whole, sound_inodes_break_nothing,
 };
+pub use locating::{Located, locate, read_dinode};
 pub use reading::{place, read_range};
