@@ -1,5 +1,5 @@
 // Disks in memory with images that were made, and patched.
-ghost use Rattle.std.specs.Prelude.{IfOk};
+ghost use Rattle.std.specs.Prelude.{◌≡◌, IfOk};
 ghost use Rattle.shared_disk.specs.Disk.{IsIdle};
 ghost use Rattle.shared_disk.specs.Memory.{memory_state};
 ghost use Rattle.gfs2_layout.specs.Device.{IsBlockSize};
@@ -22,6 +22,7 @@ pub(crate) fn disk(
     image: Vec<u8>,
     fails: &[u64],
 ) -> Result<MemDisk, Fail>
+    ensures same { IfOk result (λ d. d.nodes.size ≡ size) }
     ensures size { IfOk result (λ d. IsBlockSize (memory_state d).size) }
     ensures idle { IfOk result (λ d. IsIdle (memory_state d)) }
 {
