@@ -17,7 +17,7 @@ pub(crate) fn number_at(bytes: &[u8], at: usize) -> u64
 }
 
 /// Whether a block begins with the magic, this kind and this format.
-pub(crate) fn has_header(bytes: &[u8], kind: u32, format: u32) -> bool
+pub fn has_header(bytes: &[u8], kind: u32, format: u32) -> bool
     requires { 24 ≤ length bytes.now }
     ensures { IsTrue result ↔ HasHeader kind format bytes.now }
 {

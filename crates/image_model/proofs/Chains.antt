@@ -20,7 +20,7 @@ use Rattle.image_model.specs.Rules.{IsHashedAt, chain_depth, no_leaf, pointer_mi
 use Rattle.image_model.specs.declared.blocks.Blocks.{Blocks}
 use Rattle.image_model.specs.declared.directory.Visit.{Visit}
 use Rattle.image_model.specs.declared.hashed.LeafAt.{LeafAt}
-use Rattle.image_model.specs.declared.hash_table.Table.{Table}
+use Rattle.image_model.specs.declared.hash_table.HashTable.{HashTable}
 use Rattle.image_model.specs.declared.image.ImageFault.{ImageFault}
 use Rattle.image_model.specs.declared.image.ImageFault.TheVariants.{Damaged}
 use Rattle.image_model.specs.declared.inode.Inode.{Inode}
@@ -86,7 +86,7 @@ step_place (Some n) p f g most one two low = omega (arith, one, two, low)
 
 -- ---- a pointer of the table
 
-pub entry_is : (inode : Inode) (table : Table) (j : ℕ) → IsTableOf inode table → u64_at (8 * j) table.bytes.items ≡ entry (held inode) j
+pub entry_is : (inode : Inode) (table : HashTable) (j : ℕ) → IsTableOf inode table → u64_at (8 * j) table.bytes.items ≡ entry (held inode) j
 entry_is inode table j of = ap (u64_at (8 * j)) of.content
 
 pub low_index : (i d : ℕ) → d ≤ 15 → i < 2 ^ d → i < 2 ^ 16
@@ -94,10 +94,10 @@ low_index i d low below =
     let p : 2 ^ d ≤ 2 ^ 15 = pow_mono {i = d} {j = 15} low in
     omega (arith, p, below)
 
-pub in_table : (inode : Inode) (table : Table) (i : ℕ) → IsTableOf inode table → i < 2 ^ table.depth → i < table_count (held inode)
+pub in_table : (inode : Inode) (table : HashTable) (i : ℕ) → IsTableOf inode table → i < 2 ^ table.depth → i < table_count (held inode)
 in_table inode table i of below = subst (λ d. i < 2 ^ d) of.depth below
 
-pub no_leaf_there : (image : Blocks) (inode : Inode) (table : Table) (i by number : ℕ) (fault : ImageFault) → inode.block.image ≡ image → IsHashedAt (image_at image) inode.block.number
+pub no_leaf_there : (image : Blocks) (inode : Inode) (table : HashTable) (i by number : ℕ) (fault : ImageFault) → inode.block.image ≡ image → IsHashedAt (image_at image) inode.block.number
     → IsTableOf inode table → i < 2 ^ table.depth → by ≡ entry_block (held inode) i → number ≡ u64_at (8 * i) table.bytes.items → number ≡ 0 → fault ≡ Damaged by 14
     → IsTrueOf (image_at image) fault
 no_leaf_there image inode table i by number fault own hashed of below by_is number_is none is =
@@ -107,7 +107,7 @@ no_leaf_there image inode table i by number fault own hashed of below by_is numb
     (no_leaf inode.block.number i has (in_table inode table i of below) (sym (entry_is inode table i of) ∙ sym number_is ∙ none)) in
     subst P own here hashed
 
-pub first_claim : (image : Blocks) (visit : Visit) (table : Table) (i by number : ℕ) → IsVisitIn image visit → IsHashedAt (image_at image) visit.inode.block.number
+pub first_claim : (image : Blocks) (visit : Visit) (table : HashTable) (i by number : ℕ) → IsVisitIn image visit → IsHashedAt (image_at image) visit.inode.block.number
     → IsTableOf visit.inode table → i < 2 ^ table.depth → by ≡ entry_block (held visit.inode) i → number ≡ u64_at (8 * i) table.bytes.items
     → Claims (image_at image) by number (Chained visit.inode.block.number (first_hash (held visit.inode) i) 0)
 first_claim image visit table i by number v hashed of below by_is number_is =
@@ -137,7 +137,7 @@ same_bits i j run some low high =
     let above : q ≤ j / run = le-div q j run some (omega (arith, split, low)) in
     omega (arith, below, above)
 
-pub missing : (image : Blocks) (inode : Inode) (table : Table) (i j number run : ℕ) (leaf : Leaf) (fault : ImageFault) → inode.block.image ≡ image → IsHashedAt (image_at image) inode.block.number
+pub missing : (image : Blocks) (inode : Inode) (table : HashTable) (i j number run : ℕ) (leaf : Leaf) (fault : ImageFault) → inode.block.image ≡ image → IsHashedAt (image_at image) inode.block.number
     → IsTableOf inode table → i < 2 ^ table.depth → j < 2 ^ table.depth → number ≡ u64_at (8 * i) table.bytes.items → leaf ≡ leaf_in (held inode) number → run ≡ 2 ^ (table.depth - leaf.depth)
     → j / run ≡ i / run → u64_at (8 * j) table.bytes.items ≢ number → fault ≡ Damaged number 14 → IsTrueOf (image_at image) fault
 missing image inode table i j number run leaf fault own hashed of below j_below number_is leaf_is run_is bits other is =
@@ -153,14 +153,14 @@ missing image inode table i j number run leaf fault own hashed of below j_below 
     subst P own here hashed
 
 -- the first hash of a pointer's chain, by the run of pointers that it is in
-pub hash_by_run : (inode : Inode) (table : Table) (i number run : ℕ) (leaf : Leaf) → IsTableOf inode table → number ≡ entry (held inode) i → leaf ≡ leaf_in (held inode) number
+pub hash_by_run : (inode : Inode) (table : HashTable) (i number run : ℕ) (leaf : Leaf) → IsTableOf inode table → number ≡ entry (held inode) i → leaf ≡ leaf_in (held inode) number
     → run ≡ 2 ^ (table.depth - leaf.depth) → i / run * 2 ^ (32 - leaf.depth) ≡ first_hash (held inode) i
 hash_by_run inode table i number run leaf of at leaf_is run_is =
     let h = held inode in
     let depth : leaf.depth ≡ (leaf_in h (entry h i)).depth = ap (λ (l : Leaf). l.depth) (leaf_is ∙ ap (leaf_in h) at) in
     λ k. i / (run_is ∙ (λ m. 2 ^ (of.depth m - depth m))) k * 2 ^ (32 - depth k)
 
-pub headed_run : (walk : Walk) (visit : Visit) (table : Table) (i j number run hash : ℕ) (leaf : Leaf) → IsTableOf visit.inode table → number ≡ u64_at (8 * i) table.bytes.items
+pub headed_run : (walk : Walk) (visit : Visit) (table : HashTable) (i j number run hash : ℕ) (leaf : Leaf) → IsTableOf visit.inode table → number ≡ u64_at (8 * i) table.bytes.items
     → leaf ≡ leaf_in (held visit.inode) number → run ≡ 2 ^ (table.depth - leaf.depth) → hash ≡ i / run * 2 ^ (32 - leaf.depth) → j / run ≡ i / run
     → u64_at (8 * j) table.bytes.items ≡ number → HasClaim walk.owners.entries.items number (Chained visit.inode.block.number hash 0) → IsHeaded walk visit j
 headed_run walk visit table i j number run hash leaf of number_is leaf_is run_is hash_is bits pointer has =
@@ -170,7 +170,7 @@ headed_run walk visit table i j number run hash leaf of number_is leaf_is run_is
     let same : hash ≡ first_hash h j = hash_is ∙ ap (λ n. n * 2 ^ (32 - leaf.depth)) (sym bits) ∙ hash_by_run visit.inode table j number run leaf of at leaf_is run_is in
     subst (λ n. HasClaim walk.owners.entries.items n (Chained a (first_hash h j) 0)) at (subst (λ n. HasClaim walk.owners.entries.items number (Chained a n 0)) same has)
 
-pub hash_claim : (image : Blocks) (inode : Inode) (table : Table) (i by number run hash : ℕ) (leaf : Leaf) → IsTableOf inode table → number ≡ u64_at (8 * i) table.bytes.items
+pub hash_claim : (image : Blocks) (inode : Inode) (table : HashTable) (i by number run hash : ℕ) (leaf : Leaf) → IsTableOf inode table → number ≡ u64_at (8 * i) table.bytes.items
     → leaf ≡ leaf_in (held inode) number → run ≡ 2 ^ (table.depth - leaf.depth) → hash ≡ i / run * 2 ^ (32 - leaf.depth)
     → Claims (image_at image) by number (Chained inode.block.number (first_hash (held inode) i) 0) → Claims (image_at image) by number (Chained inode.block.number hash 0)
 hash_claim image inode table i by number run hash leaf of number_is leaf_is run_is hash_is claimed =

@@ -113,7 +113,7 @@ answer_is (Some fault) s x e = absurd (cc)
 pub leaf_reads : (bytes : List ℕ) (leaf : Leaf) (result : Result Leaf LayoutFault) → result ≡ Ok leaf → result ≡ leaf_read bytes → leaf ≡ leaf_of bytes
 leaf_reads bytes leaf result ok is = sym (answer_is _ (leaf_of bytes) leaf (sym is ∙ ok))
 
-leaf_well : (bytes : List ℕ) → 104 ≤ length bytes → HasHeader 6 600 bytes → u32_at 28 bytes ≡ 1200 → leaf_read bytes ≡ Ok (leaf_of bytes)
+pub leaf_well : (bytes : List ℕ) → 104 ≤ length bytes → HasHeader 6 600 bytes → u32_at 28 bytes ≡ 1200 → leaf_read bytes ≡ Ok (leaf_of bytes)
 leaf_well bytes long header format =
     ap (λ o. answer (or_else o (records_fault bytes)) (leaf_of bytes)) (header_well 104 6 600 bytes long header) ∙ ap (λ o. answer o (leaf_of bytes)) (records_well bytes format)
 

@@ -14,7 +14,7 @@ use Rattle.image_model.specs.declared.directory.Found.{Found}
 use Rattle.image_model.specs.declared.directory.Tally.{Tally}
 use Rattle.image_model.specs.declared.directory.Visit.{Visit}
 use Rattle.image_model.specs.declared.hashed.LeafAt.{LeafAt}
-use Rattle.image_model.specs.declared.hash_table.Table.{Table}
+use Rattle.image_model.specs.declared.hash_table.HashTable.{HashTable}
 use Rattle.image_model.specs.declared.inode.Inode.{Inode}
 use Rattle.image_model.specs.declared.owners.Claim.{Claim}
 use Rattle.image_model.specs.declared.walk.Walk.{Walk}
@@ -79,7 +79,7 @@ abbrev pub LeavesStay : ℕ → List (Option Claim) → List (Option Claim) → 
 LeavesStay a old new = (x hash place : ℕ) → HasClaim new x (Chained a hash place) → HasClaim old x (Chained a hash place)
 
 -- the table's bytes are the directory's content, and it is as deep as that says
-pub record IsTableOf (inode : Inode) (table : Table) : Type 0 where
+pub record IsTableOf (inode : Inode) (table : HashTable) : Type 0 where
   pub depth : table.depth ≡ depth_in (held inode)
   pub content : table.bytes.items ≡ content_of (held inode)
   pub size : inode.dinode.size ≡ 8 * 2 ^ table.depth

@@ -5,7 +5,7 @@ use crate::blocks::number_at;
 
 /// The table of a hashed directory: its depth, and its content.
 #[derive(Drop)]
-pub(crate) struct Table {
+pub struct HashTable {
     pub depth: u16,
     pub bytes: Vec<u8>,
     ghost deep: { depth ≤ 15 },
@@ -13,14 +13,14 @@ pub(crate) struct Table {
 }
 
 /// How many pointers a table of this depth has.
-pub(crate) fn pointers_of(depth: u16) -> u64
+pub fn pointers_of(depth: u16) -> u64
     requires { depth ≤ 15 }
     ensures { result ≡ 2 ^ depth }
 {
     1 << depth
 }
 
-impl Table {
+impl HashTable {
     /// How many pointers it has.
     pub fn count(&self) -> u64
         ensures { result ≡ 2 ^ self.now.depth }

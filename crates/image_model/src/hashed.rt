@@ -13,7 +13,7 @@ ghost use Rattle.image_model.specs.Rules.{IsHashedAt};
 use crate::blocks::Block;
 use crate::content::read_content;
 use crate::directory::{Area, Found, Tally, Visit};
-use crate::hash_table::{Table, pointers_of};
+use crate::hash_table::{HashTable, pointers_of};
 use crate::image::{ImageFault, damaged};
 use crate::inode::Inode;
 use crate::owners::Claim;
@@ -330,7 +330,7 @@ impl<'a> Walk<'a> {
     fn bucket(
         &mut self,
         visit: &Visit<'a>,
-        table: &Table,
+        table: &HashTable,
         i: u64,
         tally: &mut Tally,
         found: &mut Vec<Found<'a>>,
@@ -396,7 +396,7 @@ impl<'a> Walk<'a> {
     {
         let depth = visit.inode.table_depth()?;
         let bytes = read_content(self.alloc, &visit.inode)?;
-        let table = Table { depth, bytes };
+        let table = HashTable { depth, bytes };
         let count = table.count();
         let mut i = 0;
         while i < count {

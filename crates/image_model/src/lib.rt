@@ -20,9 +20,11 @@ mod tree;
 mod visiting;
 mod walk;
 
+pub use hash_table::{HashTable, pointers_of};
 pub use image::{Image, ImageFault};
 pub use laws::{
     blocks_have_one_owner, holdings_are_owned, images_stand_for_one_tree, journals_read_alike,
     owners_claim_their_blocks, records_have_no_order, what_stands_breaks_nothing,
 };
+pub use owners::{Claim, Owners};
 pub use tree::read_tree;

@@ -7,7 +7,7 @@ use std::alloc::Global;
 
 /// By what a block is claimed.
 #[derive(Clone, Copy)]
-pub(crate) enum Claim<'a> {
+pub enum Claim<'a> {
     /// The superblock says that it is the root directory's or the master directory's dinode.
     Root,
     Master,
@@ -112,7 +112,7 @@ pub(crate) fn state_of(claim: &Option<Claim<'_>>) -> u8
 
 /// What claims each block, as far as it was found.
 #[derive(Drop)]
-pub(crate) struct Owners<'a> {
+pub struct Owners<'a> {
     pub entries: Vec<Option<Claim<'a>>>,
     /// How many blocks nothing claims.
     pub free: usize,

@@ -4,16 +4,16 @@ use Rattle.std.specs.Prelude.{not, Contains, slice_get}
 use Rattle.std.proofs.lemmas.Bool.{true≢false, cond-true}
 use Rattle.std.proofs.lemmas.List.FromFn.{length-map-range_with_len}
 use Rattle.std.proofs.lemmas.Option.{slice_get-get_or}
-use Rattle.gfs2_layout.specs.Inode.{dinode_in, is_directory_in, content_of, leaf_area}
+use Rattle.gfs2_layout.specs.Inode.{dinode_in, is_directory_in, content_of, entry_block, first_hash, leaf_area, linear_area}
 use Rattle.gfs2_layout.specs.Records.{Record, records_in, is_dots}
 use Rattle.gfs2_layout.specs.declared.dinode.Dinode.{Dinode}
-use Rattle.image_model.specs.Claims.{every, LeadsTo, master_of, in_dinode, in_leaf}
+use Rattle.image_model.specs.Claims.{every, Claims, LeadsTo, master_of, first_leaf, next_leaf, in_dinode, in_leaf}
 use Rattle.image_model.specs.Groups.{groups_in, entry_length}
 use Rattle.image_model.specs.Image.{Image}
 use Rattle.image_model.specs.Journals.{journal_name}
-use Rattle.image_model.specs.Owners.{Owners, holding}
+use Rattle.image_model.specs.Owners.{Owners, Chained, holding}
 use Rattle.image_model.specs.Profile.{IsInProfile, group_length}
-use Rattle.image_model.specs.Rules.{HasRecords, from_dinode_block, from_leaves}
+use Rattle.image_model.specs.Rules.{HasRecords, IsHashedAt, from_dinode_block, from_leaves}
 use Rattle.image_model.specs.Flat.{Node, no_node}
 use Rattle.image_model.specs.Nodes.{node_of}
 use Rattle.image_model.specs.Stands.{Layout, IsLaid, IsDirectory, IsJournalAt, heads_of, flat_of}
@@ -25,7 +25,8 @@ use Rattle.image_model.proofs.Reach.{found_in, named_child}
 use Rattle.image_model.proofs.Rows.{sound, dinode_is}
 use Rattle.image_model.proofs.Same.{content_same}
 use Rattle.image_model.proofs.UnbrokenCounts.{records_are}
-use Rattle.image_mount.specs.Found.{is_system_name, HasMaster, HasNames, AreJournalNames}
+use Rattle.image_mount.specs.Found.{is_other, is_system_name, chain_head, chain_next, IsFirstOther, IsInChain, behind_dinode, HasMaster, HasNames, AreJournalNames}
+use Rattle.image_mount.specs.Found.{in_leaf as in_leaf_of}
 use Rattle.image_mount.specs.Mounted.{IsOfProfile}
 use Rattle.image_mount.specs.Refusals.{IsOutside, RefusesRightly, IsExcused}
 use Rattle.image_mount.specs.Refusals as outside
@@ -55,6 +56,30 @@ record_leads im a _ r (from_leaves leaves dir hashed are) there leads =
     let here = from_flat_map (λ x. records_in (leaf_area (every im a) x)) r leaves there in
     let leaf = are.only here.0 (contained here.0 leaves here.1) in
     (here.0, in_leaf leaf.0 here.0 a leaf.1 leaf.2 r leaf.3 (contained r _ here.2) leads)
+
+-- a leaf to which the table leads is one of the directory
+pub chain_leaf : (im : Image) (a i place x : ℕ) → IsHashedAt im a → IsInChain (every im a) i place x → (by : ℕ) × Claims im by x (Chained a (first_hash (every im a) i) place)
+chain_leaf im a i _ _ hashed (chain_head low) =
+    (entry_block (every im a) i, first_leaf hashed.0.1.by a hashed.0.0 i hashed.0.1.claimed hashed.0.1.dinode hashed.1 low)
+chain_leaf im a i _ _ hashed (chain_next place x chain more) =
+    let from = chain_leaf im a i place x hashed chain in
+    (x, next_leaf from.0 x a (first_hash (every im a) i) place from.1 more)
+
+-- where the first other record leads, its name leads
+other_leads : (im : Image) (a : ℕ) (r : Record) → IsFirstOther im a r → (is_system_name r.name ≡ false) × LeadsTo im a r.name r.address
+other_leads im a r (behind_dinode _ dir plain found) =
+    let here = found_in is_other r (records_in (linear_area (every im a))) found in
+    let leads = not_true (is_dots r.name) (both_left _ _ here.1) in (
+      not_true (is_system_name r.name) (both_right (not (is_dots r.name)) _ here.1),
+      (a, in_dinode dir.inode.1.by a dir.inode.0 r dir.inode.1.claimed dir.inode.1.dinode dir.dir plain (contained r _ here.0) leads),
+    )
+other_leads im a r (in_leaf_of i place x _ hashed chain found before) =
+    let here = found_in is_other r (records_in (leaf_area (every im a) x)) found in
+    let leads = not_true (is_dots r.name) (both_left _ _ here.1) in
+    let leaf = chain_leaf im a i place x hashed chain in (
+      not_true (is_system_name r.name) (both_right (not (is_dots r.name)) _ here.1),
+      (x, in_leaf leaf.0 x a (first_hash (every im a) i) place r leaf.1 (contained r _ here.0) leads),
+    )
 
 module _ (im : Image) (owners : Owners) (l : Layout) (laid : IsLaid im owners l) (inside : IsInProfile im l) where
   one_rindex : (m : Layout) → HasMaster im m → m.rindex ≡ l.rindex
@@ -125,14 +150,12 @@ module _ (im : Image) (owners : Owners) (l : Layout) (laid : IsLaid im owners l)
   none_outside _ _ (outside.multihost_format super fs other) = other inside.multihost_format
   none_outside _ _ (outside.bsize super fs multihost other) = other inside.bsize
   none_outside _ _ (outside.bsize_shift super fs multihost bsize other) = other inside.bsize_shift
-  none_outside _ _ (outside.master records r format has first) =
-      let found = found_in (λ (r : Record). not (is_dots r.name) && not (is_system_name r.name)) r records first in
-      let leads = not_true (is_dots r.name) (both_left _ _ found.1) in
-      let other = not_true (is_system_name r.name) (both_right (not (is_dots r.name)) _ found.1) in
-      let way = subst (λ a. LeadsTo im a r.name r.address) (master_is im owners l laid) (record_leads im (master_of im) records r has found.0 leads) in
+  none_outside _ _ (outside.master r format first) =
+      let here = other_leads im (master_of im) r first in
+      let way = subst (λ a. LeadsTo im a r.name r.address) (master_is im owners l laid) here.1 in
       elim (inside.master r.name r.address way) [
-        | inl j ↦ true≢false (ap is_system_name (sym j) ∙ other)
-        | inr d ↦ true≢false (ap is_system_name (sym d) ∙ other)
+        | inl j ↦ true≢false (ap is_system_name (sym j) ∙ here.0)
+        | inr d ↦ true≢false (ap is_system_name (sym d) ∙ here.0)
       ]
   none_outside _ _ (outside.groups m has whole bad) =
       let count : (dinode_in (every im m.rindex)).size / entry_length ≡ length l.groups = ap (λ a. (dinode_in (every im a)).size / entry_length) (one_rindex m has) ∙ list_length in

@@ -1,7 +1,7 @@
 -- Faults that have their cause in the image.
 use Rattle.std.proofs.Common.{◌≡◌, ◌≢◌, ◌↔◌, inr, ℕ, ◌+◌, ◌^◌, ◌≤◌, Bool, false, IsTrue, List, length, sym, ap, subst, ◌∙◌, arith}
 use Rattle.std.specs.Prelude.{if◌then◌else◌}
-use Rattle.gfs2_layout.specs.Inode.{dinode_in, is_hashed_in, has_hash_flag, head_of}
+use Rattle.gfs2_layout.specs.Inode.{dinode_in, is_hashed_in, head_of}
 use Rattle.gfs2_layout.specs.Records.{Record}
 use Rattle.gfs2_layout.specs.Structures.{is_directory, dinode_length}
 use Rattle.gfs2_layout.specs.declared.dinode.Dinode.{Dinode}
@@ -9,10 +9,10 @@ use Rattle.gfs2_layout.specs.declared.superblock.SuperBlock.{SuperBlock}
 use Rattle.glock_names.specs.declared.steps.Entry.{Entry}
 use Rattle.image_model.specs.Claims.{every, HasDirectory}
 use Rattle.image_model.specs.Image.{Image, superblock_in}
-use Rattle.image_model.specs.Rules.{Breaks, HasRecordIn, HasRecords, entry_count, directory_links, linear_height, linear_size, other_kind, other_number}
+use Rattle.image_model.specs.Rules.{Breaks, HasRecordIn, entry_count, directory_links, linear_height, linear_size, other_kind, other_number}
 use Rattle.image_model.specs.Stands.{kind_of, directory_count}
 use Rattle.image_mount.specs.Found.{HasSuper, HasFormat}
-use Rattle.image_mount.specs.Listing.{IsEntryOf}
+use Rattle.image_mount.specs.Listing.{IsEntryOf, AreCountedIn, is_hashed_by}
 use Rattle.image_mount.specs.Refusals.{IsOutside, RefusesRightly, fs_format, multihost_format, bsize, bsize_shift}
 use Rattle.image_mount.specs.declared.field.Field.{Field}
 use Rattle.image_mount.specs.declared.field.Field.TheVariants as field
@@ -73,18 +73,19 @@ lacks b test failed p = let t : IsTrue false = subst IsTrue failed (test.1 p) in
 
 -- ---- inodes
 
-pub linear_of : (im : Image) (a : ℕ) (d : Dinode) → d ≡ dinode_in (every im a) → has_hash_flag d ≡ false → is_hashed_in (every im a) ≡ false
-linear_of im a d is plain =
-    let flag : has_hash_flag (dinode_in (every im a)) ≡ false = ap has_hash_flag (sym is) ∙ plain in
-    grind (arith, flag)
+pub hashed_as : (im : Image) (a : ℕ) (d : Dinode) (b : Bool) → d ≡ dinode_in (every im a) → is_hashed_by d ≡ b → is_hashed_in (every im a) ≡ b
+hashed_as im a d b is hashed = ap is_hashed_by (sym is) ∙ hashed
 
-pub wrong_height : (im : Image) (f : MountFault) (a : ℕ) (d : Dinode) → f ≡ fault.Damaged a 8 → d ≡ dinode_in (every im a) → HasFormat im → HasDirectory im a → has_hash_flag d ≡ false
+pub linear_of : (im : Image) (a : ℕ) (d : Dinode) → d ≡ dinode_in (every im a) → is_hashed_by d ≡ false → is_hashed_in (every im a) ≡ false
+linear_of im a d is plain = hashed_as im a d false is plain
+
+pub wrong_height : (im : Image) (f : MountFault) (a : ℕ) (d : Dinode) → f ≡ fault.Damaged a 8 → d ≡ dinode_in (every im a) → HasFormat im → HasDirectory im a → is_hashed_by d ≡ false
     → d.height ≢ 0 → RefusesRightly im f
 wrong_height im f a d is read format has plain other =
     told im f a 8 is format (linear_height a has (linear_of im a d read plain) (λ e. other (ap (λ (x : Dinode). x.height) read ∙ e)))
 
 pub wrong_size : (im : Image) (f : MountFault) (a size : ℕ) (d : Dinode) → f ≡ fault.Damaged a 8 → d ≡ dinode_in (every im a) → size ≡ im.size → 512 ≤ size → HasFormat im → HasDirectory im a
-    → has_hash_flag d ≡ false → ¬ (dinode_length + d.size ≡ size) → RefusesRightly im f
+    → is_hashed_by d ≡ false → ¬ (dinode_length + d.size ≡ size) → RefusesRightly im f
 wrong_size im f a size d is read of large format has plain other =
     told im f a 8 is format (linear_size a has (linear_of im a d read plain) (λ e. other (ap (λ (x : Dinode). dinode_length + x.size) read ∙ e ∙ sym of)))
 
@@ -104,12 +105,12 @@ wrong_formal im f a x b d entry r is read at format has of other =
 
 -- ---- counts
 
-pub wrong_entries : (im : Image) (f : MountFault) (a entries count : ℕ) (d : Dinode) (records : List Record) → f ≡ fault.Damaged a 12 → d ≡ dinode_in (every im a) → HasFormat im → HasRecords im a records
+pub wrong_entries : (im : Image) (f : MountFault) (a entries count : ℕ) (d : Dinode) (records : List Record) → f ≡ fault.Damaged a 12 → d ≡ dinode_in (every im a) → HasFormat im → AreCountedIn im a records
     → entries ≡ d.entries → count ≡ length records → entries ≢ count → RefusesRightly im f
 wrong_entries im f a entries count d records is read format has entries_is count_is other =
-    told im f a 12 is format (entry_count a records has (λ e. other (entries_is ∙ ap (λ (x : Dinode). x.entries) read ∙ e ∙ sym count_is)))
+    told im f a 12 is format (entry_count a has.0 has.1 (λ e. other (entries_is ∙ ap (λ (x : Dinode). x.entries) read ∙ e ∙ has.2 ∙ sym count_is)))
 
-pub wrong_links : (im : Image) (f : MountFault) (a links count : ℕ) (d : Dinode) (records : List Record) → f ≡ fault.Damaged a 12 → d ≡ dinode_in (every im a) → HasFormat im → HasRecords im a records
+pub wrong_links : (im : Image) (f : MountFault) (a links count : ℕ) (d : Dinode) (records : List Record) → f ≡ fault.Damaged a 12 → d ≡ dinode_in (every im a) → HasFormat im → AreCountedIn im a records
     → links ≡ d.nlink → count ≡ directory_count records → links ≢ 2 + count → RefusesRightly im f
 wrong_links im f a links count d records is read format has links_is count_is other =
-    told im f a 12 is format (directory_links a records has (λ e. other (links_is ∙ ap (λ (x : Dinode). x.nlink) read ∙ e ∙ ap (λ n. 2 + n) (sym count_is))))
+    told im f a 12 is format (directory_links a has.0 has.1 (λ e. other (links_is ∙ ap (λ (x : Dinode). x.nlink) read ∙ e ∙ ap (λ n. 2 + n) (has.3 ∙ sym count_is))))

@@ -1,6 +1,6 @@
 -- The list of groups: what its file says, that its groups rise, and that no block is far from all of them.
 use Rattle.std.proofs.Common.{◌≡◌, ◌≢◌, ◌⊎◌, inl, inr, ℕ, zero, suc, ◌+◌, ◌-◌, ◌*◌, ◌/◌, ◌%◌, ◌^◌, ◌<◌, ◌≤◌, min, List, [], ◌∷◌, ◌++◌, length, take, drop, get_or, Some, refl, sym, ap, subst, ◌∙◌, arith}
-use Rattle.std.specs.Prelude.{slice_get, codes}
+use Rattle.std.specs.Prelude.{slice_get}
 use Rattle.std.specs.List.{AllByRecursion}
 use Rattle.std.proofs.lemmas.Bool.{cases_lt}
 use Rattle.std.proofs.lemmas.List.{drop_more, take-append-drop, take-take, take_all}
@@ -12,9 +12,8 @@ use Rattle.gfs2_layout.specs.Holding.{Holding}
 use Rattle.gfs2_layout.specs.Inode.{dinode_in, content_of, unit}
 use Rattle.gfs2_layout.specs.declared.dinode.Dinode.{Dinode}
 use Rattle.gfs2_layout.specs.declared.rindex.Rindex.{Rindex}
-use Rattle.glock_names.specs.declared.steps.Entry.{Entry}
 use Rattle.dinode_tree.specs.Reading.{content_range, AreWholeBefore}
-use Rattle.image_model.specs.Claims.{every, HasGroup, IsRindex, LeadsTo}
+use Rattle.image_model.specs.Claims.{every, HasGroup, IsRindex}
 use Rattle.image_model.specs.Groups.{groups_in, bitmap_room, IsGroupAt, IsListed, IsNear, GroupFits, GroupsFit, end_of}
 use Rattle.image_model.specs.Image.{Image}
 use Rattle.image_model.specs.Listing.{RiseFrom, end_after}
@@ -23,10 +22,11 @@ use Rattle.image_model.specs.Rules.{Breaks, part_of_entry}
 use Rattle.image_model.specs.Stands.{Layout}
 use Rattle.image_model.proofs.Listing.{all_fit, all_above, rise_more, end_more, unfit_entry, early_entry, groups_count}
 use Rattle.image_mount.specs.Found.{HasFormat, HasMaster}
-use Rattle.image_mount.specs.Groups.{IsListEntry, IsListOf, AreGroups}
+use Rattle.image_mount.specs.Groups.{IsListLink, IsListOf, AreGroups}
 use Rattle.image_mount.specs.Refusals.{IsOutside, RefusesRightly}
 use Rattle.image_mount.specs.Refusals as outside
 use Rattle.image_mount.specs.declared.fault.MountFault.{MountFault}
+use Rattle.image_mount.specs.declared.listing.Link.{Link}
 use Rattle.image_mount.specs.declared.fault.MountFault.TheVariants as fault
 use Rattle.image_mount.specs.declared.field.Field.TheVariants as field
 use Rattle.image_mount.proofs.Causes.{told, told_outside}
@@ -162,9 +162,9 @@ pub content_all : (im : Image) (a n : ℕ) (bytes : List ℕ) → (dinode_in (ev
 content_all im a n bytes size read = read ∙ ap (λ k. take k (content_of (every im a))) (sym size) ∙ cut (every im a)
 
 -- what was read there is the list
-pub list_of : (im : Image) (size count block a : ℕ) (entry : Entry) (groups : List Rindex) (content : List ℕ) → IsListEntry im block entry → size ≡ im.size → count ≡ im.count → a ≡ entry.addr
+pub list_of : (im : Image) (size count a : ℕ) (link : Link) (groups : List Rindex) (content : List ℕ) → IsListLink im link → size ≡ im.size → count ≡ im.count → a ≡ link.entry.addr
     → (dinode_in (every im a)).size % 96 ≡ 0 → content ≡ content_of (every im a) → groups ≡ groups_in content → IsListOf im size count a groups
-list_of im size count block a entry groups content is of_size of_count at whole read listed =
+list_of im size count a link groups content is of_size of_count at whole read listed =
     let here : a ≡ is.layout.rindex = at ∙ sym is.rindex in
     record {
       block_size = of_size;
@@ -177,7 +177,7 @@ list_of im size count block a entry groups content is of_size of_count at whole 
       };
       rindex = is.rindex ∙ sym at;
       groups = refl;
-      only = λ d leads. is.named.only d (subst (λ m. LeadsTo im m (codes "rindex") d) (is.found.master ∙ is.master) leads) ∙ sym at;
+      only = λ d leads. is.named.only d leads ∙ sym at;
     }
 
 pub groups_some : (groups : List Rindex) (content : List ℕ) (bytes : ℕ) → groups ≡ groups_in content → length content ≡ bytes → 96 ≤ bytes → 1 ≤ length groups

@@ -1,5 +1,7 @@
 pub mod KeptLaws
 pub mod Causes
+pub mod LeafCauses
+pub mod LeafWalks
 pub mod Stops
 pub mod Supers
 pub mod Shown

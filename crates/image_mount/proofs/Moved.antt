@@ -1,16 +1,18 @@
 -- What a call over a disk tells, in the words of what the disk held before.
-use Rattle.std.proofs.Common.{◌≡◌, ◌≢◌, ◌↔◌, Bool, false, ℕ, zero, suc, ◌+◌, ◌<◌, List, [], ◌∷◌, ◌++◌, length, take, get_or, Some, IsTrue, refl, sym, ap, subst, ◌∙◌, arith}
+use Rattle.std.proofs.Common.{◌≡◌, ◌≢◌, ◌↔◌, inl, inr, Bool, false, ℕ, zero, suc, ◌+◌, ◌<◌, List, [], ◌∷◌, ◌++◌, length, take, get_or, Some, IsTrue, refl, sym, ap, subst, ◌∙◌, arith}
 use Rattle.std.specs.Prelude.{codes, map, Contains, slice_get}
 use Rattle.std.specs.List.{All}
 use Rattle.std.proofs.lemmas.Option.{slice_get-get_or}
 use Rattle.std.proofs.lemmas.List.{map-append}
 use Rattle.std.proofs.lemmas.List.Elements.{All-push}
 use Rattle.dinode_tree.specs.declared.locating.Located.{Located}
+use Rattle.gfs2_layout.specs.Device.{superblock_place}
+use Rattle.gfs2_layout.specs.declared.superblock.SuperBlock.{SuperBlock}
 use Rattle.glock_names.specs.declared.steps.Entry.{Entry}
-use Rattle.image_model.specs.Claims.{Claims, master_of}
+use Rattle.image_model.specs.Claims.{Claims, master, master_of}
 use Rattle.image_model.specs.Image.{Image, image_of}
 use Rattle.image_model.specs.Journals.{journal_name}
-use Rattle.image_model.specs.Owners.{Named}
+use Rattle.image_model.specs.Owners.{Master, Named}
 use Rattle.image_model.specs.Rules.{two_owners}
 use Rattle.shared_disk.specs.Disk.{DiskState}
 use Rattle.image_mount.specs.Refusals.{RefusesRightly}
@@ -89,17 +91,31 @@ journal_in im system j entry looked at = record {
   named = looked.journals.each j entry at;
 }
 
-pub next_in : (im : Image) (system : System) (j : ℕ) (entry : Entry) (done : List ℕ) → IsSystemOf im system → slice_get system.journals.items j ≡ Some entry → entry.addr ≢ system.rindex → ¬ (Contains done entry.addr)
-    → IsNext im done system entry
-next_in im system j entry done looked at other new = record {
+pub next_in : (im : Image) (system : System) (j : ℕ) (entry : Entry) (done : List ℕ) → IsSystemOf im system → slice_get system.journals.items j ≡ Some entry → entry.addr ≢ system.superblock.master.address → entry.addr ≢ system.rindex
+    → ¬ (Contains done entry.addr) → IsNext im done system entry
+next_in im system j entry done looked at apart other new = record {
   looked = looked;
   named = journal_in im system j entry looked at;
-  plain = λ list. other (looked.one_rindex entry.addr list);
+  plain = λ file. elim file [
+    | inl list ↦ other (looked.one_rindex entry.addr list)
+    | inr same ↦ apart (same ∙ sym (ap (λ (s : SuperBlock). s.master.address) looked.superblock))
+  ];
   new = new;
 }
 
 same_name : (a b : ℕ) (x y : List ℕ) → Named a x ≡ Named b y → x ≡ y
 same_name a b x y e = cc
+
+pub twice_master : (im : Image) (system : System) (j : ℕ) (entry : Entry) (f : MountFault) → IsSystemOf im system → slice_get system.journals.items j ≡ Some entry
+    → entry.addr ≡ system.superblock.master.address → f ≡ fault.Damaged entry.addr 3 → RefusesRightly im f
+twice_master im system j entry f looked at same is =
+    let there : entry.addr ≡ master_of im = same ∙ ap (λ (s : SuperBlock). s.master.address) looked.superblock in
+    let claim = subst (λ b. Claims im (superblock_place im.size) b Master) (sym there) master in
+    told im f entry.addr 3 is looked.names.groups.list.master.format
+    (two_owners entry.addr system.jindex (superblock_place im.size) (Named system.jindex (journal_name j)) Master (looked.journals.each j entry at).claimed claim (λ e. no_name e))
+  where
+    no_name : Named system.jindex (journal_name j) ≡ Master → ⊥
+    no_name e = cc
 
 pub twice_list : (im : Image) (system : System) (j : ℕ) (entry : Entry) (f : MountFault) → IsSystemOf im system → slice_get system.journals.items j ≡ Some entry → entry.addr ≡ system.rindex
     → f ≡ fault.Damaged entry.addr 3 → RefusesRightly im f
@@ -176,8 +192,8 @@ pub ring_of_turn : (im : Image) (rings : List Ring) (k : ℕ) (ring : Ring) → 
 ring_of_turn im rings k ring low is all = subst (λ (r : Ring). IsRingOf im r.dinode r.blocks.items) (sym is) (all k ring low)
 
 -- the journal after those whose rings were found
-pub next_after : (im : Image) (system : System) (j : ℕ) (entry : Entry) (rings now : List Ring) (b : Bool) → IsSystemOf im system → slice_get system.journals.items j ≡ Some entry → entry.addr ≢ system.rindex
-    → IsTrue b ↔ Contains (map (λ (r : Ring). r.dinode) now) entry.addr → b ≡ false → now ≡ rings → IsNext im (map (λ (r : Ring). r.dinode) rings) system entry
-next_after im system j entry rings now b looked at other test failed same =
-    next_in im system j entry (map (λ (r : Ring). r.dinode) rings) looked at other
+pub next_after : (im : Image) (system : System) (j : ℕ) (entry : Entry) (rings now : List Ring) (b : Bool) → IsSystemOf im system → slice_get system.journals.items j ≡ Some entry → entry.addr ≢ system.superblock.master.address
+    → entry.addr ≢ system.rindex → IsTrue b ↔ Contains (map (λ (r : Ring). r.dinode) now) entry.addr → b ≡ false → now ≡ rings → IsNext im (map (λ (r : Ring). r.dinode) rings) system entry
+next_after im system j entry rings now b looked at apart other test failed same =
+    next_in im system j entry (map (λ (r : Ring). r.dinode) rings) looked at apart other
     (λ there. lacks b test failed (subst (λ rs. Contains (map (λ (r : Ring). r.dinode) rs) entry.addr) (sym same) there))

@@ -10,10 +10,10 @@ use Rattle.glock_names.specs.declared.steps.Entry.{Entry}
 use Rattle.image_model.specs.Claims.{every, Claims, root, master, below, first_leaf, next_leaf, in_dinode, in_leaf, LeadsTo}
 use Rattle.image_model.specs.Image.{Image}
 use Rattle.image_model.proofs.Directories.{leaf_is_hashed, not_both}
-use Rattle.image_mount.proofs.Records.{named_in as named_by}
+use Rattle.image_mount.proofs.Records.{led_record, named_in as named_by}
 use Rattle.image_model.specs.Owners.{Owner, Named}
 use Rattle.image_model.specs.Rules.{HasRecords, from_dinode_block, from_leaves}
-use Rattle.image_mount.specs.Listing.{said, AreRecordsOf, AreDistinct}
+use Rattle.image_mount.specs.Listing.{said, AreAllRecords, AreRecordsOf, AreDistinct}
 use Rattle.image_mount.specs.Groups.{IsNamedIn}
 use Rattle.image_mount.specs.System.{IsAmong}
 use Rattle.image_mount.specs.declared.listing.Named.{Named as Item}
@@ -106,17 +106,15 @@ pub record IsLedAmong (items : List Item) (name : List ℕ) (d : ℕ) : Type 0 w
   pub address : entry.addr ≡ d
   pub leads : is_dots name ≡ false
 
-pub led_among : (im : Image) (a : ℕ) (items : List Item) (name : List ℕ) (d : ℕ) → AreRecordsOf im a (map said items) → LeadsTo im a name d → IsLedAmong items name d
+pub led_among : (im : Image) (a : ℕ) (items : List Item) (name : List ℕ) (d : ℕ) → AreAllRecords im a items → LeadsTo im a name d → IsLedAmong items name d
 led_among im a items name d are way =
-    let led = led_by im a name d are.linear way in
-    let there = subst (λ rs. Contains rs led.entry) (sym are.all) led.there in
-    let at = contains_at (map said items) led.entry there in
-    let item = from_mapped said items there.0 led.entry at in
+    let led = led_record im a way.0 d name way.1 in
+    let one = are.all way.0 led.0 led.1 in
     record {
-      entry = item.0.entry;
-      among = record { index = there.0; item = item.0; there = item.1; named = ap (λ (r : Record). r.name) item.2 ∙ led.named; entry_is = refl };
-      address = ap (λ (r : Record). r.address) item.2 ∙ led.address;
-      leads = ap is_dots (sym led.named) ∙ led.leads;
+      entry = one.1.0.entry;
+      among = record { index = one.0; item = one.1.0; there = one.1.1; named = ap (λ (r : Record). r.name) one.1.2 ∙ led.2; entry_is = refl };
+      address = ap (λ (r : Record). r.address) one.1.2 ∙ led.3;
+      leads = ap is_dots (sym led.2) ∙ led.4;
     }
 
 -- no name leads by two of them
@@ -129,12 +127,12 @@ one_among items name e f distinct one other =
     sym one.entry_is ∙ ap (λ (n : Item). n.entry) is ∙ other.entry_is
 
 -- one of them by its name
-pub named_in : (im : Image) (a : ℕ) (items : List Item) (name : List ℕ) (entry : Entry) → AreRecordsOf im a (map said items) → AreDistinct (map said items) → is_dots name ≡ false → IsAmong items name entry
-    → IsNamedIn im a name entry
+pub named_in : (im : Image) (a : ℕ) (items : List Item) (name : List ℕ) (entry : Entry) → AreAllRecords im a items → AreDistinct (map said items) → is_dots name ≡ false → (among : IsAmong items name entry)
+    → IsNamedIn im a among.item.block name entry
 named_in im a items name entry are distinct leads among =
     let n = among.item in
     let named = named_by im a items are distinct among.index n among.there (ap is_dots among.named ∙ leads) in
-    subst (IsNamedIn im a name) among.entry_is (subst (λ x. IsNamedIn im a x n.entry) among.named named)
+    subst (IsNamedIn im a n.block name) among.entry_is (subst (λ x. IsNamedIn im a n.block x n.entry) among.named named)
 
 -- the name is none of these
 pub none_among : (items : List Item) (name : List ℕ) (entry : Entry) → IsAmong items name entry → ((i : ℕ) (n : Item) → slice_get items i ≡ Some n → n.name.now ≢ name) → ⊥

@@ -1,6 +1,7 @@
 -- The journals among the records of their directory.
 use Rattle.std.proofs.Common.{◌≡◌, ◌≢◌, inl, inr, ℕ, ◌+◌, ◌<◌, ◌≤◌, Bool, true, false, List, length, get_or, Option, None, Some, sym, ap, subst, ◌∙◌, arith}
 use Rattle.std.specs.Prelude.{map, not, Contains, slice_get, IfSome, IfNone}
+use Rattle.std.specs.List.{All}
 use Rattle.std.proofs.lemmas.Bool.{cases_eq}
 use Rattle.std.proofs.lemmas.Option.{slice_get-get_or, slice_get_within, get_or_from_slice_get}
 use Rattle.gfs2_layout.specs.Records.{Record, is_dots}
@@ -10,6 +11,7 @@ use Rattle.image_model.specs.Image.{Image}
 use Rattle.image_model.specs.Journals.{journal_name}
 use Rattle.image_model.specs.Rules.{HasRecords}
 use Rattle.image_model.specs.Stands.{Layout}
+use Rattle.image_mount.specs.Groups.{IsNamedIn}
 use Rattle.image_mount.specs.Found.{HasGroups, name_count, AreJournalNames}
 use Rattle.image_mount.specs.Listing.{said, AreRecordsOf, AreDistinct}
 use Rattle.image_mount.specs.Refusals.{RefusesRightly}
@@ -22,6 +24,7 @@ use Rattle.image_mount.specs.declared.listing.Named.{Named as Item}
 use Rattle.image_mount.proofs.Causes.{told_outside}
 use Rattle.image_mount.proofs.JournalNames.{name_leads}
 use Rattle.image_mount.proofs.Names.{at_contains, contains_at, mapped_at, from_mapped, records_same, named_in, led_by}
+use Rattle.image_mount.proofs.Records.{all_records}
 
 -- the first so many of these that lead on have the names of so many journals
 abbrev pub AreNamedTo : List Item → ℕ → ℕ → Type 0
@@ -81,25 +84,32 @@ journals_among items journals n count same counted some few length_is among name
     no_entry : Entry
     no_entry = record { number = 0; addr = 0; kind = 0 }
 
-pub journals_of : (im : Image) (a : ℕ) (items : List Item) (journals : List Entry) → AreRecordsOf im a (map said items) → AreDistinct (map said items) → AreJournalsAmong items journals → AreJournalsOf im a journals
-journals_of im a items journals are distinct among = record {
+pub journals_of : (im : Image) (a : ℕ) (items : List Item) (journals : List Entry) → AreRecordsOf im a (map said items) → All (λ n. n.block ≡ a) items → AreDistinct (map said items)
+    → AreJournalsAmong items journals → AreJournalsOf im a journals
+journals_of im a items journals are here distinct among = record {
   some = among.some;
   few = among.few;
   named = λ records has. subst (λ rs. AreJournalNames rs (length journals)) (sym (records_same im a records (map said items) are has)) among.named;
-  each = λ j entry at. named_in im a items (journal_name j) entry are distinct (name_leads j) (among.each j entry at);
+  each = λ j entry at. named j entry at;
   others = λ name d way.
       let led = led_by im a name d are.linear way in
       let there = subst (λ rs. Contains rs led.entry) (sym are.all) led.there in
       let got = among.named.2 led.entry there led.leads in
       let entry = get_or journals got.0 no_entry in
       let at = slice_get-get_or journals got.0 no_entry got.1 in
-      let named = named_in im a items (journal_name got.0) entry are distinct (name_leads got.0) (among.each got.0 entry at) in
+      let named = named got.0 entry at in
       let name_is : name ≡ journal_name got.0 = sym led.named ∙ got.2 in
       (got.0, (entry, at, sym (named.only d (subst (λ n. LeadsTo im a n d) name_is way)), name_is));
 }
   where
     no_entry : Entry
     no_entry = record { number = 0; addr = 0; kind = 0 }
+
+    named : (j : ℕ) (entry : Entry) → slice_get journals j ≡ Some entry → IsNamedIn im a a (journal_name j) entry
+    named j entry at =
+        let there = among.each j entry at in
+        let block : there.item.block ≡ a = ap (λ (n : Item). n.block) (sym (get_or_from_slice_get items there.index there.item there.item there.there)) ∙ here there.index there.item (slice_get_within items there.index there.item there.there) in
+        subst (λ x. IsNamedIn im a x (journal_name j) entry) block (named_in im a items (journal_name j) entry (all_records im a items are here) distinct (name_leads j) there)
 
 -- ---- what is said of an option, where it is known which one it is
 

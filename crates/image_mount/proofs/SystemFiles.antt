@@ -11,21 +11,23 @@ use Rattle.gfs2_layout.specs.Structures.{is_directory}
 use Rattle.gfs2_layout.specs.declared.dinode.Dinode.{Dinode}
 use Rattle.image_model.specs.Claims.{every, Claims, master, LeadsTo, master_of}
 use Rattle.image_model.specs.Image.{Image}
-use Rattle.image_model.specs.Owners.{Owner, Master, is_dinode, parent_of}
-use Rattle.image_model.specs.Rules.{Breaks, HasRecords, no_rindex, no_jindex}
-use Rattle.image_mount.specs.Found.{HasFormat, first_other, is_system_name}
-use Rattle.image_mount.specs.Listing.{said, AreRecordsOf, IsDirectoryIn}
+use Rattle.image_model.specs.Owners.{Owner, Master, Named, is_dinode, parent_of}
+use Rattle.image_model.specs.Rules.{Breaks, HasRecordIn, no_rindex, no_jindex}
+use Rattle.image_mount.specs.Found.{HasFormat, IsFirstOther, behind_dinode, first_other, is_other, is_system_name}
+use Rattle.image_mount.specs.Leaves.{IsMasterIn}
+use Rattle.image_mount.specs.Listing.{said, is_hashed_by, link_of, AreAllRecords, AreRecordsOf, IsDirectoryIn}
+use Rattle.image_mount.specs.Groups.{IsNamedIn}
 use Rattle.image_mount.specs.Refusals.{RefusesRightly, IsOutside}
 use Rattle.image_mount.specs.Refusals as outside
-use Rattle.image_mount.specs.System.{IsAmong}
+use Rattle.image_mount.specs.System.{ArePlainRecords, IsAmong, IsLinkOf}
 use Rattle.image_mount.specs.declared.fault.MountFault.{MountFault}
 use Rattle.image_mount.specs.declared.fault.MountFault.TheVariants as fault
 use Rattle.image_mount.specs.declared.field.Field.TheVariants as field
 use Rattle.image_mount.specs.declared.inodes.Inode.{Inode}
+use Rattle.image_mount.specs.declared.listing.Link.{Link}
 use Rattle.image_mount.specs.declared.listing.Named.{Named as Item}
 use Rattle.image_mount.proofs.Causes.{told, told_outside}
-use Rattle.image_mount.proofs.Names.{mapped_at, mapped_none, mapped_some, none_found, led_among, led_by_file, records_same, none_among}
-use Rattle.image_mount.proofs.Records.{has_records}
+use Rattle.image_mount.proofs.Names.{mapped_at, mapped_none, mapped_some, named_in, none_found, led_among, led_by_file, none_among}
 
 -- ---- an inode that is claimed, and is a directory
 
@@ -47,6 +49,18 @@ not_directory im addr d b read is failed = sym (ap is_directory read) ∙ sym is
 pub is_master : (im : Image) (place at : ℕ) → place ≡ superblock_place im.size → at ≡ master_of im → Claims im place at Master
 is_master im place at is same = subst (λ b. Claims im b at Master) (sym is) (subst (λ a. Claims im (superblock_place im.size) a Master) (sym same) master)
 
+-- the master directory is one, and it is its own parent
+pub master_directory : (im : Image) (inode : Inode) → IsMasterIn im inode → IsDirectoryIn im inode inode.block
+master_directory im inode is = record {
+  format = is.format;
+  owner = Master;
+  claimed = is_master im inode.from inode.block is.from is.block;
+  is_inode = refl;
+  dinode = is.dinode;
+  directory = ap is_directory is.dinode ∙ is.directory;
+  above = refl;
+}
+
 -- ---- what the master directory lacks
 
 pub master_file : (im : Image) (f : MountFault) (at : ℕ) → f ≡ fault.Damaged at 18 → HasFormat im → at ≡ master_of im → is_directory_in (every im at) ≡ false → RefusesRightly im f
@@ -54,30 +68,27 @@ master_file im f at is format same file =
     told im f at 18 is format
     (subst (Breaks im 18) (sym same) (no_rindex (λ d way. led_by_file im (master_of im) (codes "rindex") d (subst (λ a. is_directory_in (every im a) ≡ false) same file) way)))
 
-pub lacks_rindex : (im : Image) (f : MountFault) (at : ℕ) (items : List Item) → f ≡ fault.Damaged at 18 → HasFormat im → at ≡ master_of im → AreRecordsOf im at (map said items)
-    → ((i : ℕ) (n : Item) → slice_get items i ≡ Some n → n.name.now ≢ codes "rindex") → RefusesRightly im f
-lacks_rindex im f at items is format same are none =
-    told im f at 18 is format
-    (subst (Breaks im 18) (sym same) (no_rindex (λ d way.
-    let led = led_among im at items (codes "rindex") d are (subst (λ a. LeadsTo im a (codes "rindex") d) (sym same) way) in
-    none_among items (codes "rindex") led.entry led.among none)))
+module _ (im : Image) (f : MountFault) (at : ℕ) (items : List Item) (format : HasFormat im) (same : at ≡ master_of im) (are : AreAllRecords im at items) where
+  never_led : (name : List ℕ) (d : ℕ) → ((i : ℕ) (n : Item) → slice_get items i ≡ Some n → n.name.now ≢ name) → LeadsTo im (master_of im) name d → ⊥
+  never_led name d none way =
+      let led = led_among im at items name d are (subst (λ a. LeadsTo im a name d) (sym same) way) in
+      none_among items name led.entry led.among none
 
-pub lacks_jindex : (im : Image) (f : MountFault) (at : ℕ) (items : List Item) → f ≡ fault.Damaged at 16 → HasFormat im → at ≡ master_of im → AreRecordsOf im at (map said items)
-    → ((i : ℕ) (n : Item) → slice_get items i ≡ Some n → n.name.now ≢ codes "jindex") → RefusesRightly im f
-lacks_jindex im f at items is format same are none =
-    told im f at 16 is format
-    (subst (Breaks im 16) (sym same) (no_jindex (λ d way.
-    let led = led_among im at items (codes "jindex") d are (subst (λ a. LeadsTo im a (codes "jindex") d) (sym same) way) in
-    none_among items (codes "jindex") led.entry led.among none)))
+  pub lacks_rindex : f ≡ fault.Damaged at 18 → ((i : ℕ) (n : Item) → slice_get items i ≡ Some n → n.name.now ≢ codes "rindex") → RefusesRightly im f
+  lacks_rindex is none = told im f at 18 is format (subst (Breaks im 18) (sym same) (no_rindex (λ d way. never_led (codes "rindex") d none way)))
+
+  pub lacks_jindex : f ≡ fault.Damaged at 16 → ((i : ℕ) (n : Item) → slice_get items i ≡ Some n → n.name.now ≢ codes "jindex") → RefusesRightly im f
+  lacks_jindex is none = told im f at 16 is format (subst (Breaks im 16) (sym same) (no_jindex (λ d way. never_led (codes "jindex") d none way)))
 
 -- ---- other names
 
+-- behind the dinode of a linear one
 pub other_master : (im : Image) (f : MountFault) (at other : ℕ) (items : List Item) (o : Option ℕ) → f ≡ fault.NotProfile field.Master other → HasFormat im → at ≡ master_of im → AreRecordsOf im at (map said items)
     → o ≡ option_map (λ (r : Record). r.address) (first_other (map said items)) → o ≡ Some other → RefusesRightly im f
 other_master im f at other items o is format same are found some =
     let first = mapped_some (λ (r : Record). r.address) (first_other (map said items)) other (sym found ∙ some) in
-    let has = subst (λ a. HasRecords im a (map said items)) same (has_records im at items are) in
-    told_outside im f field.Master other is (subst (IsOutside im field.Master) first.2 (outside.master (map said items) first.0 format has first.1))
+    let told_here : IsFirstOther im at first.0 = behind_dinode first.0 are.directory are.linear (ap first_other (sym are.all) ∙ first.1) in
+    told_outside im f field.Master other is (subst (IsOutside im field.Master) first.2 (outside.master first.0 format (subst (λ a. IsFirstOther im a first.0) same told_here)))
 
 either : (p q : Bool) → (p || q) ≡ true → (p ≡ true) ⊎ (q ≡ true)
 either true q e = inl refl
@@ -88,21 +99,24 @@ of_not true q none plain = let e : true ≡ false = plain in cc
 of_not false true none plain = refl
 of_not false false none plain = let e : true ≡ false = none in cc
 
-module _ (im : Image) (at : ℕ) (items : List Item) (o : Option ℕ) (same : at ≡ master_of im) (are : AreRecordsOf im at (map said items))
-    (found : o ≡ option_map (λ (r : Record). r.address) (first_other (map said items))) (none : o ≡ None) where
-  no_other : first_other (map said items) ≡ None
-  no_other = mapped_none (λ (r : Record). r.address) (first_other (map said items)) (sym found ∙ none)
+-- where none of them has another name, each has one that is known
+pub plain_items : (items : List Item) → first_other (map said items) ≡ None → (i : ℕ) (n : Item) → slice_get items i ≡ Some n → is_other (said n) ≡ false
+plain_items items none i n at = none_found is_other (map said items) i (said n) none (mapped_at said items i n at)
 
-  pub plain_records : (records : List Record) → HasRecords im (master_of im) records → first_other records ≡ None
-  plain_records records has = ap first_other (records_same im at records (map said items) are (subst (λ a. HasRecords im a records) (sym same) has)) ∙ no_other
+pub no_other : (items : List Item) (o : Option ℕ) → o ≡ option_map (λ (r : Record). r.address) (first_other (map said items)) → o ≡ None → first_other (map said items) ≡ None
+no_other items o found none = mapped_none (λ (r : Record). r.address) (first_other (map said items)) (sym found ∙ none)
+
+module _ (im : Image) (at : ℕ) (items : List Item) (same : at ≡ master_of im) (are : ArePlainRecords im at items) where
+  pub plain_records : (x : ℕ) (r : Record) → HasRecordIn im (master_of im) x r → is_other r ≡ false
+  plain_records x r has =
+      let one = are.all.all x r (subst (λ a. HasRecordIn im a x r) (sym same) has) in
+      ap is_other (sym one.1.2) ∙ are.plain one.0 one.1.0 one.1.1
 
   pub plain_names : (name : List ℕ) (d : ℕ) → LeadsTo im (master_of im) name d → (name ≡ codes "jindex") ⊎ (name ≡ codes "rindex")
   plain_names name d way =
-      let way' = subst (λ a. LeadsTo im a name d) (sym same) way in
-      let led = led_among im at items name d are way' in
+      let led = led_among im at items name d are.all (subst (λ a. LeadsTo im a name d) (sym same) way) in
       let item = led.among.item in
-      let failed = none_found (λ (r : Record). not (is_dots r.name) && not (is_system_name r.name)) (map said items) led.among.index (said item) no_other (mapped_at said items led.among.index item led.among.there) in
-      let system : is_system_name item.name.now ≡ true = of_not (is_dots item.name.now) (is_system_name item.name.now) failed (ap is_dots led.among.named ∙ led.leads) in
+      let system : is_system_name item.name.now ≡ true = of_not (is_dots item.name.now) (is_system_name item.name.now) (are.plain led.among.index item led.among.there) (ap is_dots led.among.named ∙ led.leads) in
       let system' : is_system_name name ≡ true = ap is_system_name (sym led.among.named) ∙ system in
       elim (either (bytes_eq name (codes "jindex")) (bytes_eq name (codes "rindex")) system') [
         | inl j ↦ inl ((bytes_eq-Decides name (codes "jindex")).0 j)
@@ -112,3 +126,20 @@ module _ (im : Image) (at : ℕ) (items : List Item) (o : Option ℕ) (same : at
 -- what `find` finds
 pub among_found : (items : List Item) (name : List ℕ) (item : Item) → item.name.now ≡ name → (i : ℕ) × (slice_get items i ≡ Some item) → IsAmong items name item.entry
 among_found items name item named at = record { index = at.0; item = item; there = at.1; named = named; entry_is = refl }
+
+-- the record of a system file
+pub link_in : (im : Image) (at : ℕ) (items : List Item) (name : List ℕ) (item : Item) (link : Link) → at ≡ master_of im → ArePlainRecords im at items → is_dots name ≡ false → item.name.now ≡ name
+    → (i : ℕ) × (slice_get items i ≡ Some item) → link ≡ link_of item → IsLinkOf im name link
+unfolding among_found
+link_in im at items name item link same are plain named there is =
+    subst (IsLinkOf im name) (sym is) (subst (λ a. IsNamedIn im a item.block name item.entry) same (named_in im at items name item.entry are.all are.distinct plain (among_found items name item named there)))
+
+-- the directory of journals is a hashed one
+pub hashed_jindex : (im : Image) (inode : Inode) (link : Link) → HasFormat im → IsLinkOf im (codes "jindex") link → inode.block ≡ link.entry.addr → inode.dinode ≡ dinode_in (every im inode.block)
+    → is_hashed_by inode.dinode ≡ true → RefusesRightly im (fault.NotBuilt inode.block)
+hashed_jindex im inode link format named at read hashed =
+    let claim = subst (λ a. Claims im link.from a (Named (master_of im) (codes "jindex"))) (sym at) named.claimed in (
+      (link.from, claim),
+      ((Named (master_of im) (codes "jindex"), record { by = link.from; claimed = claim; dinode = refl }), ap is_hashed_by (sym read) ∙ hashed),
+      format,
+    )

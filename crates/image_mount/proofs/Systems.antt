@@ -1,6 +1,6 @@
 -- The system files that were found, as a layout of the image.
 use Rattle.std.proofs.Common.{◌≡◌, ℕ, List, [], length, Vec, Global, refl, sym, ap, subst, arith}
-use Rattle.std.specs.Prelude.{codes, map}
+use Rattle.std.specs.Prelude.{map}
 use Rattle.std.proofs.lemmas.List.{length-map}
 use Rattle.gfs2_layout.specs.declared.rindex.Rindex.{Rindex}
 use Rattle.gfs2_layout.specs.declared.superblock.SuperBlock.{SuperBlock}
@@ -9,17 +9,17 @@ use Rattle.image_model.specs.Claims.{Claims, LeadsTo, master_of}
 use Rattle.image_model.specs.Image.{Image, superblock_in}
 use Rattle.image_model.specs.Journals.{journal_name}
 use Rattle.image_model.specs.Owners.{Named}
-use Rattle.image_model.specs.Rules.{HasRecords}
+use Rattle.image_model.specs.Rules.{HasRecordIn}
 use Rattle.image_model.specs.Stands.{Layout}
 use Rattle.image_mount.specs.Found.{HasFormat, HasMaster, HasGroups, AreJournalNames}
-use Rattle.image_mount.specs.Groups.{IsNamedIn, IsListEntry, AreGroups}
+use Rattle.image_mount.specs.Groups.{IsListLink, AreGroups}
 use Rattle.image_mount.specs.System.{AreFilesOf, AreJournalsOf, IsSystemOf}
 use Rattle.image_mount.specs.declared.system.SystemFiles.{SystemFiles}
 use Rattle.image_mount.proofs.Names.{from_mapped}
 
 module _ (im : Image) (sb : SuperBlock) (files : SystemFiles) (format : HasFormat im) (read : sb ≡ superblock_in im) (of : AreFilesOf im files) where
   abbrev layout : List Rindex → List ℕ → Layout
-  layout groups journals = record { root = sb.root.address; master = sb.master.address; rindex = files.rindex.addr; jindex = files.jindex.addr; groups = groups; journals = journals }
+  layout groups journals = record { root = sb.root.address; master = sb.master.address; rindex = files.rindex.entry.addr; jindex = files.jindex.entry.addr; groups = groups; journals = journals }
 
   pub same_master : sb.master.address ≡ master_of im
   same_master = ap (λ (s : SuperBlock). s.master.address) read
@@ -29,24 +29,15 @@ module _ (im : Image) (sb : SuperBlock) (files : SystemFiles) (format : HasForma
     format = format;
     root = ap (λ (s : SuperBlock). s.root.address) (sym read);
     master = sym same_master;
-    plain = λ records has. of.plain records (subst (λ a. HasRecords im a records) same_master has);
-    rindex = (master_of im, of.rindex.claimed);
-    jindex = (master_of im, of.jindex.claimed);
+    plain = λ x r has. of.plain x r (subst (λ a. HasRecordIn im a x r) same_master has);
+    rindex = (files.rindex.from, of.rindex.claimed);
+    jindex = (files.jindex.from, of.jindex.claimed);
   }
 
-  pub list_entry : IsListEntry im sb.master.address files.rindex
-  list_entry = record {
-    layout = layout [] [];
-    found = master_found [] [];
-    rindex = refl;
-    master = refl;
-    named = subst (λ a. IsNamedIn im a (codes "rindex") files.rindex) (sym same_master) of.rindex;
-  }
+  pub list_link : IsListLink im files.rindex
+  list_link = record { layout = layout [] []; found = master_found [] []; rindex = refl; named = of.rindex }
 
-  pub jindex_named : IsNamedIn im sb.master.address (codes "jindex") files.jindex
-  jindex_named = subst (λ a. IsNamedIn im a (codes "jindex") files.jindex) (sym same_master) of.jindex
-
-  pub groups_found : (groups : List Rindex) (journals : List ℕ) → AreGroups im files.rindex.addr groups → HasGroups im (layout groups journals)
+  pub groups_found : (groups : List Rindex) (journals : List ℕ) → AreGroups im files.rindex.entry.addr groups → HasGroups im (layout groups journals)
   groups_found groups journals are = record {
     list = record { master = master_found groups journals; whole = are.whole; listed = are.listed };
     some = are.some;
@@ -55,8 +46,8 @@ module _ (im : Image) (sb : SuperBlock) (files : SystemFiles) (format : HasForma
     short = are.short;
   }
 
-  pub system_of : (groups : Vec Rindex Global) (journals : Vec Entry Global) → AreGroups im files.rindex.addr groups.items → AreJournalsOf im files.jindex.addr journals.items
-      → IsSystemOf im (record { superblock = sb; rindex = files.rindex.addr; groups = groups; jindex = files.jindex.addr; journals = journals })
+  pub system_of : (groups : Vec Rindex Global) (journals : Vec Entry Global) → AreGroups im files.rindex.entry.addr groups.items → AreJournalsOf im files.jindex.entry.addr journals.items
+      → IsSystemOf im (record { superblock = sb; rindex = files.rindex.entry.addr; groups = groups; jindex = files.jindex.entry.addr; journals = journals })
   system_of groups journals are names =
       let addresses = map (λ (e : Entry). e.addr) journals.items in
       let count : length addresses ≡ length journals.items = length-map journals.items (λ (e : Entry). e.addr) in
@@ -69,7 +60,7 @@ module _ (im : Image) (sb : SuperBlock) (files : SystemFiles) (format : HasForma
           named = λ records has. subst (AreJournalNames records) (sym count) (names.named records has);
           there = λ j d at.
               let entry = from_mapped (λ (e : Entry). e.addr) journals.items j d at in
-              (files.jindex.addr, subst (λ b. Claims im files.jindex.addr b (Named files.jindex.addr (journal_name j))) entry.2 (names.each j entry.0 entry.1).claimed);
+              (files.jindex.entry.addr, subst (λ b. Claims im files.jindex.entry.addr b (Named files.jindex.entry.addr (journal_name j))) entry.2 (names.each j entry.0 entry.1).claimed);
         };
         master = λ name d way. of.others name d (subst (λ a. LeadsTo im a name d) same_master way);
         one_rindex = λ d is. of.rindex.only d is;

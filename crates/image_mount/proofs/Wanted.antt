@@ -2,11 +2,11 @@
 use Rattle.std.proofs.Common.{◌≡◌, ℕ, suc, true, List, None, Some, inr, sym, ap, subst, ◌∙◌}
 use Rattle.dinode_tree.specs.Reading.{IsNeeded, IsOnWay, the_dinode, led_to}
 use Rattle.glock_names.specs.declared.steps.Missing.{Missing}
-use Rattle.image_model.specs.Claims.{every, Claims, below, IsRindex}
+use Rattle.image_model.specs.Claims.{every, Claims, below}
 use Rattle.image_model.specs.Image.{Image}
-use Rattle.image_model.specs.Owners.{Owner, Below, is_dinode}
+use Rattle.image_model.specs.Owners.{Owner, Below, Chained, is_dinode}
 use Rattle.image_mount.specs.Found.{HasFormat}
-use Rattle.image_mount.specs.Searching.{StopsRightly, IsLeading}
+use Rattle.image_mount.specs.Searching.{StopsRightly, IsLeading, IsSystemFile}
 use Rattle.image_mount.specs.Table.{Kept, seen_of}
 use Rattle.image_mount.specs.declared.stop.Stop.{Stop}
 use Rattle.image_mount.specs.declared.stop.Stop.TheVariants as stop
@@ -24,9 +24,9 @@ above_leads im a b k level first d c j other e = absurd (apart a b k level first
     apart : (a b k level first d c j other : ℕ) → Below a b k (suc level) first ≡ Below d c j 0 other → ⊥
     apart a b k level first d c j other e = cc
 
--- each block of the list of groups is read
-pub list_leads : (im : Image) (a b k level first : ℕ) → IsRindex im a → IsLeading im (Below a b k level first)
-list_leads im a b k level first list d c j other e = subst (IsRindex im) (same a b k level first d c j other e) list
+-- each block of a system file that is read block by block
+pub list_leads : (im : Image) (a b k level first : ℕ) → IsSystemFile im a → IsLeading im (Below a b k level first)
+list_leads im a b k level first list d c j other e = subst (IsSystemFile im) (same a b k level first d c j other e) list
   where
     same : (a b k level first d c j other : ℕ) → Below a b k level first ≡ Below d c j 0 other → a ≡ d
     same a b k level first d c j other e = cc
@@ -37,9 +37,16 @@ list_leads im a b k level first list d c j other e = subst (IsRindex im) (same a
 pub wanted : (im : Image) (block from : ℕ) (o : Owner) (s : Stop) → s ≡ stop.Reads block from → Claims im from block o → is_dinode o ≡ true → HasFormat im → StopsRightly im s
 wanted im block from o s is claimed dinode format = subst (StopsRightly im) (sym is) (inr (format, (o, claimed, dinode_leads im o dinode)))
 
--- a block that is missing below the dinode of the list of groups, which is kept
+-- a leaf is no content
+pub leaf_leads : (im : Image) (a hash place : ℕ) → IsLeading im (Chained a hash place)
+leaf_leads im a hash place d b k first e = absurd (apart a hash place d b k first e)
+  where
+    apart : (a hash place d b k first : ℕ) → Chained a hash place ≡ Below d b k 0 first → ⊥
+    apart a hash place d b k first e = cc
+
+-- a block that is missing below the dinode of a system file, which is kept
 pub wanted_below : (im : Image) (k : Kept) (by a : ℕ) (o : Owner) (bytes : List ℕ) (P : ℕ → Type 0) (least : ℕ) (m : Missing) (s : Stop) → s ≡ stop.Reads m.block m.from → Claims im by a o → is_dinode o ≡ true
-    → HasFormat im → IsRindex im a → (seen_of k).block_at a ≡ Some bytes → IsNeeded (seen_of k) (every im a) P least m → StopsRightly im s
+    → HasFormat im → IsSystemFile im a → (seen_of k).block_at a ≡ Some bytes → IsNeeded (seen_of k) (every im a) P least m → StopsRightly im s
 wanted_below im k by a o bytes P least m s is claimed dinode format list kept needed = subst (StopsRightly im) (sym is) (inr (format, on_way needed.way))
   where
     on_way : IsOnWay (every im a) P least m → (p : Owner) × Claims im m.from m.block p × IsLeading im p

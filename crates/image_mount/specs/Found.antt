@@ -1,16 +1,17 @@
 -- What mounting finds in an image, in the order in which it looks. Everything is read as it lies, from an image that may be right or wrong.
-use Rattle.std.specs.Prelude.{ℕ, ◌≡◌, ◌%◌, ◌^◌, ◌<◌, ◌≤◌, ◌&&◌, ◌||◌, not, Bool, false, List, length, codes, count_by, find, Contains, Option, None}
+use Rattle.std.specs.Prelude.{ℕ, ◌≡◌, ◌≢◌, ◌⊎◌, ◌+◌, ◌%◌, ◌^◌, ◌<◌, ◌≤◌, ◌&&◌, ◌||◌, not, Bool, false, List, length, codes, count_by, find, Contains, Option, None, Some}
 use Rattle.std.specs.Str.{bytes_eq}
 use Rattle.gfs2_layout.specs.Device.{superblock_place}
 use Rattle.gfs2_layout.specs.Headers.{HasHeader}
-use Rattle.gfs2_layout.specs.Inode.{dinode_in, content_of}
-use Rattle.gfs2_layout.specs.Records.{Record, is_dots}
-use Rattle.image_model.specs.Claims.{every, LeadsTo, IsRindex, IsJindex}
+use Rattle.gfs2_layout.specs.Holding.{Holding}
+use Rattle.gfs2_layout.specs.Inode.{dinode_in, content_of, is_hashed_in, linear_area, leaf_area, leaf_in, table_count, entry}
+use Rattle.gfs2_layout.specs.Records.{Record, records_in, is_dots}
+use Rattle.image_model.specs.Claims.{every, HasDirectory, LeadsTo, IsRindex, IsJindex}
 use Rattle.image_model.specs.Groups.{entry_length, groups_in, GroupsFit}
 use Rattle.image_model.specs.Image.{Image, superblock_in}
 use Rattle.image_model.specs.Journals.{journal_name}
 use Rattle.image_model.specs.Profile.{group_length}
-use Rattle.image_model.specs.Rules.{HasRecords}
+use Rattle.image_model.specs.Rules.{HasRecordIn, HasRecords, IsHashedAt}
 use Rattle.image_model.specs.Stands.{Layout, IsJournalAt}
 
 -- ---- the device and the superblock
@@ -31,20 +32,41 @@ pub record HasFormat (im : Image) : Type 0 where
   pub bsize : (superblock_in im).bsize ≡ im.size
   pub bsize_shift : 2 ^ (superblock_in im).bsize_shift ≡ im.size
 
--- ---- the master directory: `jindex` and `rindex`, and no other name
+-- ---- the master directory, linear or hashed: `jindex` and `rindex`, and no other name
 
 abbrev pub is_system_name : List ℕ → Bool
 is_system_name name = bytes_eq name (codes "jindex") || bytes_eq name (codes "rindex")
 
--- the first of these records that has a name of its own and is none of the two
+-- the record has a name of its own, and it is none of the two
+abbrev pub is_other : Record → Bool
+is_other r = not (is_dots r.name) && not (is_system_name r.name)
+
 abbrev pub first_other : List Record → Option Record
-first_other records = find (λ r. not (is_dots r.name) && not (is_system_name r.name)) records
+first_other records = find is_other records
+
+-- Block x is the leaf so many behind the one to which pointer i of the table leads. In this order a hashed directory has
+-- its leaves: pointer by pointer, and each chain from its first leaf on.
+pub data IsInChain (h : Holding) (i : ℕ) : ℕ → ℕ → Type 0 where
+  chain_head : i < table_count h → IsInChain h i 0 (entry h i)
+  chain_next : (place x : ℕ) → IsInChain h i place x → (leaf_in h x).next ≢ 0 → IsInChain h i (place + 1) (leaf_in h x).next
+
+-- what comes so far behind pointer j comes before what comes so far behind pointer i
+abbrev pub ComesBefore : ℕ → ℕ → ℕ → ℕ → Type 0
+ComesBefore j earlier i place = (j < i) ⊎ ((j ≡ i) × (earlier < place))
+
+-- the first record of a directory that has another name
+pub data IsFirstOther (im : Image) (a : ℕ) : Record → Type 0 where
+  behind_dinode : (r : Record) → HasDirectory im a → is_hashed_in (every im a) ≡ false → first_other (records_in (linear_area (every im a))) ≡ Some r
+      → IsFirstOther im a r
+  in_leaf : (i place x : ℕ) (r : Record) → IsHashedAt im a → IsInChain (every im a) i place x → first_other (records_in (leaf_area (every im a) x)) ≡ Some r
+      → ((j earlier y : ℕ) → ComesBefore j earlier i place → IsInChain (every im a) j earlier y → first_other (records_in (leaf_area (every im a) y)) ≡ None)
+      → IsFirstOther im a r
 
 pub record HasMaster (im : Image) (l : Layout) : Type 0 where
   pub format : HasFormat im
   pub root : (superblock_in im).root.address ≡ l.root
   pub master : (superblock_in im).master.address ≡ l.master
-  pub plain : (records : List Record) → HasRecords im l.master records → first_other records ≡ None
+  pub plain : (x : ℕ) (r : Record) → HasRecordIn im l.master x r → is_other r ≡ false
   pub rindex : IsRindex im l.rindex
   pub jindex : IsJindex im l.jindex
 

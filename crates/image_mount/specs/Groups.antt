@@ -4,7 +4,7 @@ use Rattle.gfs2_layout.specs.Inode.{dinode_in, content_of}
 use Rattle.gfs2_layout.specs.Records.{Record}
 use Rattle.gfs2_layout.specs.declared.rindex.Rindex.{Rindex}
 use Rattle.glock_names.specs.declared.steps.Entry.{Entry}
-use Rattle.image_model.specs.Claims.{every, Claims, LeadsTo, IsRindex}
+use Rattle.image_model.specs.Claims.{every, Claims, LeadsTo, IsRindex, master_of}
 use Rattle.image_model.specs.Groups.{entry_length, groups_in, GroupsFit}
 use Rattle.image_model.specs.Image.{Image}
 use Rattle.image_model.specs.Owners.{Named}
@@ -13,22 +13,22 @@ use Rattle.image_model.specs.Rules.{HasRecordIn}
 use Rattle.image_model.specs.Stands.{Layout}
 use Rattle.image_mount.specs.Found.{HasList, HasMaster}
 use Rattle.image_mount.specs.Listing.{IsEntryOf}
+use Rattle.image_mount.specs.declared.listing.Link.{Link}
 
--- what a record of this name says, behind the dinode of a directory in block a: by it alone the name leads on
-pub record IsNamedIn (im : Image) (a : ℕ) (name : List ℕ) (entry : Entry) : Type 0 where
-  pub claimed : Claims im a entry.addr (Named a name)
+-- what a record of this name says, in block `from` of the directory with its dinode in block a: by it alone the name leads on
+pub record IsNamedIn (im : Image) (a from : ℕ) (name : List ℕ) (entry : Entry) : Type 0 where
+  pub claimed : Claims im from entry.addr (Named a name)
   pub only : (d : ℕ) → LeadsTo im a name d → d ≡ entry.addr
   pub row : Record
-  pub there : HasRecordIn im a a row
+  pub there : HasRecordIn im a from row
   pub is : IsEntryOf entry row
 
--- what the record of `rindex` says, in the master directory, whose dinode is in this block
-pub record IsListEntry (im : Image) (block : ℕ) (entry : Entry) : Type 0 where
+-- what the record of `rindex` in the master directory says
+pub record IsListLink (im : Image) (link : Link) : Type 0 where
   pub layout : Layout
   pub found : HasMaster im layout
-  pub rindex : layout.rindex ≡ entry.addr
-  pub master : layout.master ≡ block
-  pub named : IsNamedIn im block (codes "rindex") entry
+  pub rindex : layout.rindex ≡ link.entry.addr
+  pub named : IsNamedIn im (master_of im) link.from (codes "rindex") link.entry
 
 -- these groups are listed in the file whose dinode is in block `list`, the only one that is `rindex`; the device has so
 -- many blocks of so many bytes

@@ -4,6 +4,7 @@ pub mod Mounted
 pub mod Table
 pub mod Searching
 pub mod Listing
+pub mod Leaves
 pub mod Groups
 pub mod System
 pub mod Rings

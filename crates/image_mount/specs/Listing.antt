@@ -1,16 +1,20 @@
--- The records of a linear directory, as the code has them.
-use Rattle.std.specs.Prelude.{ℕ, ◌≡◌, true, false, List, map, filter, slice_get, Some}
+-- The records of a directory, as the code has them.
+use Rattle.std.specs.Prelude.{ℕ, ◌≡◌, ◌&&◌, Bool, true, false, List, length, map, filter, slice_get, Some}
 use Rattle.gfs2_layout.specs.Area.{Slot}
-use Rattle.gfs2_layout.specs.Inode.{dinode_in, is_hashed_in, linear_area}
+use Rattle.gfs2_layout.specs.Inode.{dinode_in, has_hash_flag, is_hashed_in, linear_area}
 use Rattle.gfs2_layout.specs.Records.{Record, record_of, records_in}
 use Rattle.gfs2_layout.specs.Structures.{is_directory, is_in_use}
+use Rattle.gfs2_layout.specs.declared.dinode.Dinode.{Dinode}
 use Rattle.gfs2_layout.specs.declared.dirent.Dirent.{Dirent}
 use Rattle.glock_names.specs.declared.steps.Entry.{Entry}
 use Rattle.image_model.specs.Claims.{every, HasDirectory, Claims}
 use Rattle.image_model.specs.Image.{Image}
 use Rattle.image_model.specs.Owners.{Owner, is_dinode, parent_of}
+use Rattle.image_model.specs.Rules.{HasRecordIn, HasRecords}
+use Rattle.image_model.specs.Stands.{directory_count}
 use Rattle.image_mount.specs.Found.{HasFormat}
 use Rattle.image_mount.specs.declared.inodes.Inode.{Inode}
+use Rattle.image_mount.specs.declared.listing.Link.{Link}
 use Rattle.image_mount.specs.declared.listing.Named.{Named}
 
 -- what a record says that was read
@@ -25,6 +29,17 @@ said_by head name = record { name = name; number = head.inum.number; address = h
 abbrev pub said_in : List Slot → List Record
 said_in slots = map record_of (filter (λ s. is_in_use s.head) slots)
 
+-- what a record says, and the block that it stands in
+abbrev pub standing : Named → Record × ℕ
+standing n = (said n, n.block)
+
+abbrev pub link_of : Named → Link
+link_of n = record { entry = n.entry; from = n.block }
+
+-- a dinode with the mode of a directory and the flag of a hashed one
+abbrev pub is_hashed_by : Dinode → Bool
+is_hashed_by d = is_directory d && has_hash_flag d
+
 -- what the record repeats of the inode to which it leads
 pub record IsEntryOf (entry : Entry) (r : Record) : Type 0 where
   pub number : r.number ≡ entry.number
@@ -36,6 +51,16 @@ pub record AreRecordsOf (im : Image) (a : ℕ) (records : List Record) : Type 0 
   pub directory : HasDirectory im a
   pub linear : is_hashed_in (every im a) ≡ false
   pub all : records ≡ records_in (linear_area (every im a))
+
+-- these are all records of a directory, each with the block that it stands in
+pub record AreAllRecords (im : Image) (a : ℕ) (records : List Named) : Type 0 where
+  pub directory : HasDirectory im a
+  pub each : (i : ℕ) (n : Named) → slice_get records i ≡ Some n → HasRecordIn im a n.block (said n)
+  pub all : (x : ℕ) (r : Record) → HasRecordIn im a x r → (i : ℕ) × ((n : Named) × (slice_get records i ≡ Some n) × (said n ≡ r))
+
+-- a directory has so many records, and so many directories among them
+abbrev pub AreCountedIn : Image → ℕ → List Record → Type 0
+AreCountedIn im a records = (all : List Record) × HasRecords im a all × (length all ≡ length records) × (directory_count all ≡ directory_count records)
 
 -- no name comes twice
 abbrev pub AreDistinct : List Record → Type 0

@@ -6,14 +6,16 @@ use Rattle.gfs2_layout.specs.Inode.{dinode_in, is_directory_in}
 use Rattle.gfs2_layout.specs.Journal.{ring_of, head_in}
 use Rattle.gfs2_layout.specs.Records.{Record}
 use Rattle.gfs2_layout.specs.declared.log_header.LogHeader.{LogHeader}
-use Rattle.image_model.specs.Claims.{every, Claims, master_of}
+use Rattle.image_model.specs.Claims.{every, Claims, IsJindex, master_of}
 use Rattle.image_model.specs.Groups.{entry_length, GroupsFit}
 use Rattle.image_model.specs.Image.{Image, superblock_in}
 use Rattle.image_model.specs.Owners.{Owner}
 use Rattle.image_model.specs.Profile.{group_length}
 use Rattle.image_model.specs.Rules.{Breaks, HasRecords, IsHashedAt}
 use Rattle.image_model.specs.Stands.{Layout, IsJournalAt}
-use Rattle.image_mount.specs.Found.{most_blocks, HasSuper, HasFormat, first_other, HasList, HasMaster, HasGroups, name_count, AreJournalNames, HasNames}
+use Rattle.image_mount.specs.Found.{most_blocks, HasSuper, HasFormat, IsFirstOther, HasList, HasMaster, HasGroups, name_count, AreJournalNames, HasNames}
+use Rattle.image_model.specs.declared.image.ImageFault.{ImageFault}
+use Rattle.image_model.specs.declared.image.ImageFault.TheVariants as image
 use Rattle.image_mount.specs.declared.field.Field.{Field}
 use Rattle.image_mount.specs.declared.field.Field.TheVariants as field
 use Rattle.image_mount.specs.declared.fault.MountFault.{MountFault}
@@ -31,8 +33,7 @@ pub data IsOutside (im : Image) : Field → ℕ → Type 0 where
   bsize_shift : HasSuper im → (superblock_in im).fs_format ≡ 1801 → (superblock_in im).multihost_format ≡ 1900 → (superblock_in im).bsize ≡ im.size
       → 2 ^ (superblock_in im).bsize_shift ≢ im.size → IsOutside im field.BsizeShift (superblock_in im).bsize_shift
   -- the first record in the master directory that is neither `jindex` nor `rindex`, by its block
-  master : (records : List Record) (r : Record) → HasFormat im → HasRecords im (master_of im) records → first_other records ≡ Some r
-      → IsOutside im field.Master r.address
+  master : (r : Record) → HasFormat im → IsFirstOther im (master_of im) r → IsOutside im field.Master r.address
   -- how many groups are listed, by the size of their list
   groups : (l : Layout) → HasMaster im l → (dinode_in (every im l.rindex)).size % entry_length ≡ 0
       → ((dinode_in (every im l.rindex)).size / entry_length ≡ 0) ⊎ (64 < (dinode_in (every im l.rindex)).size / entry_length)
@@ -61,15 +62,20 @@ abbrev pub RefusesRightly : Image → MountFault → Type 0
 RefusesRightly im (fault.NotProfile what value) = IsOutside im what value
 RefusesRightly im (fault.Damaged block rule) = Breaks im rule block × ((block ≡ superblock_place im.size) ⊎ HasFormat im)
 RefusesRightly im (fault.DeviceFault block before after) = IsReached im block
-RefusesRightly im (fault.NotBuilt block) = IsHashedAt im block × HasFormat im
+RefusesRightly im (fault.NotBuilt block) = IsJindex im block × IsHashedAt im block × HasFormat im
 RefusesRightly im fault.NoMemory = ⊤
+
+-- what breaks a rule of an image, as mounting tells it
+abbrev pub of_image : ImageFault → MountFault
+of_image (image.Damaged block rule) = fault.Damaged block rule
+of_image image.NoMemory = fault.NoMemory
 
 -- a fault of the disk is told only where the disk's count for the run's own calls rose so
 abbrev pub HasRisen : (ℕ → ℕ) → (ℕ → ℕ) → MountFault → Type 0
 HasRisen before now (fault.DeviceFault block x y) = WentUp (before 0) (now 0) x y
 HasRisen before now _ = ⊤
 
--- the disk failed, there was no memory, or a directory is not read yet
+-- the disk failed, there was no memory, or a directory of journals is not read yet
 abbrev pub IsExcused : MountFault → Type 0
 IsExcused (fault.DeviceFault block before after) = ⊤
 IsExcused (fault.NotBuilt block) = ⊤

@@ -8,7 +8,7 @@ use Rattle.gfs2_layout.specs.Journal.{ring_of, head_in}
 use Rattle.gfs2_layout.specs.Journal.{Ring as JournalRing}
 use Rattle.gfs2_layout.specs.declared.log_header.LogHeader.{LogHeader}
 use Rattle.glock_names.specs.declared.steps.Entry.{Entry}
-use Rattle.image_model.specs.Claims.{every, Claims, IsRindex}
+use Rattle.image_model.specs.Claims.{every, Claims}
 use Rattle.image_model.specs.Image.{Image}
 use Rattle.image_model.specs.Journals.{journal_name}
 use Rattle.image_model.specs.Owners.{Below}
@@ -16,7 +16,7 @@ use Rattle.image_model.specs.Stands.{Layout, IsJournalAt}
 use Rattle.image_mount.specs.Found.{HasNames}
 use Rattle.image_mount.specs.Mounted.{Journal, IsJournalOf}
 use Rattle.image_mount.specs.Refusals.{IsReached}
-use Rattle.image_mount.specs.Searching.{IsWanted}
+use Rattle.image_mount.specs.Searching.{IsSystemFile, IsWanted}
 use Rattle.image_mount.specs.Groups.{IsNamedIn}
 use Rattle.image_mount.specs.System.{IsSystemOf}
 use Rattle.image_mount.specs.Table.{Kept, seen_of}
@@ -35,7 +35,7 @@ pub record IsPlace (im : Image) (done : List ℕ) (d n b : ℕ) : Type 0 where
   pub pointer : ℕ
   pub index : ℕ
   pub claimed : Claims im by b (Below inode by pointer 0 index)
-  pub plain : ¬ (IsRindex im inode)
+  pub plain : ¬ (IsSystemFile im inode)
   pub of : Contains done inode ⊎ ((inode ≡ d) × (index < n))
 
 -- each block that is kept was wanted, and each that is marked is such a place
@@ -50,13 +50,13 @@ pub record IsJournalIn (im : Image) (jindex : ℕ) (journal : Entry) : Type 0 wh
   pub jindex_is : layout.jindex ≡ jindex
   pub index : ℕ
   pub at : IsJournalAt layout index journal.addr
-  pub named : IsNamedIn im jindex (journal_name index) journal
+  pub named : IsNamedIn im jindex jindex (journal_name index) journal
 
 -- a journal that is looked for next, after those whose dinodes are in these blocks
 pub record IsNext (im : Image) (done : List ℕ) (system : System) (journal : Entry) : Type 0 where
   pub looked : IsSystemOf im system
   pub named : IsJournalIn im system.jindex journal
-  pub plain : ¬ (IsRindex im journal.addr)
+  pub plain : ¬ (IsSystemFile im journal.addr)
   pub new : ¬ (Contains done journal.addr)
 
 -- the journal with its dinode in block d has so many places

@@ -6,20 +6,38 @@ use Rattle.image_model.specs.Claims.{LeadsTo, IsRindex, master_of}
 use Rattle.image_model.specs.Image.{Image, superblock_in}
 use Rattle.image_model.specs.Journals.{journal_name}
 use Rattle.image_model.specs.Profile.{HasPlainMaster}
-use Rattle.image_model.specs.Rules.{HasRecords}
+use Rattle.image_model.specs.Rules.{HasRecordIn, HasRecords}
 use Rattle.image_model.specs.Stands.{Layout}
-use Rattle.image_mount.specs.Found.{first_other, AreJournalNames, HasNames}
+use Rattle.image_mount.specs.Found.{is_other, AreJournalNames, HasNames}
 use Rattle.image_mount.specs.Groups.{IsNamedIn}
-use Rattle.image_mount.specs.Listing.{said}
+use Rattle.image_mount.specs.Leaves.{IsMasterIn}
+use Rattle.image_mount.specs.Listing.{said, AreAllRecords, AreDistinct}
+use Rattle.image_mount.specs.declared.master.Master.{Master}
+use Rattle.image_mount.specs.declared.listing.Link.{Link}
 use Rattle.image_mount.specs.declared.listing.Named.{Named as Item}
 use Rattle.image_mount.specs.declared.system.System.{System}
 use Rattle.image_mount.specs.declared.system.SystemFiles.{SystemFiles}
 
+-- the record of a system file in the master directory
+abbrev pub IsLinkOf : Image → List ℕ → Link → Type 0
+IsLinkOf im name link = IsNamedIn im (master_of im) link.from name link.entry
+
+-- these are all records of the directory: no name comes twice, and none is another than those of the system files
+pub record ArePlainRecords (im : Image) (a : ℕ) (records : List Item) : Type 0 where
+  pub all : AreAllRecords im a records
+  pub distinct : AreDistinct (map said records)
+  pub plain : (i : ℕ) (n : Item) → slice_get records i ≡ Some n → is_other (said n) ≡ false
+
+-- the superblock, and the master directory's inode
+pub record IsMasterOf (im : Image) (master : Master) : Type 0 where
+  pub superblock : master.superblock ≡ superblock_in im
+  pub inode : IsMasterIn im master.inode
+
 -- the files that the master directory names, and it names no others
 pub record AreFilesOf (im : Image) (files : SystemFiles) : Type 0 where
-  pub rindex : IsNamedIn im (master_of im) (codes "rindex") files.rindex
-  pub jindex : IsNamedIn im (master_of im) (codes "jindex") files.jindex
-  pub plain : (records : List Record) → HasRecords im (master_of im) records → first_other records ≡ None
+  pub rindex : IsLinkOf im (codes "rindex") files.rindex
+  pub jindex : IsLinkOf im (codes "jindex") files.jindex
+  pub plain : (x : ℕ) (r : Record) → HasRecordIn im (master_of im) x r → is_other r ≡ false
   pub others : (name : List ℕ) (d : ℕ) → LeadsTo im (master_of im) name d → (name ≡ codes "jindex") ⊎ (name ≡ codes "rindex")
 
 -- one of these has this name and this entry
@@ -53,7 +71,7 @@ pub record AreJournalsOf (im : Image) (a : ℕ) (journals : List Entry) : Type 0
   pub some : 1 ≤ length journals
   pub few : length journals ≤ 8
   pub named : (records : List Record) → HasRecords im a records → AreJournalNames records (length journals)
-  pub each : (j : ℕ) (entry : Entry) → slice_get journals j ≡ Some entry → IsNamedIn im a (journal_name j) entry
+  pub each : (j : ℕ) (entry : Entry) → slice_get journals j ≡ Some entry → IsNamedIn im a a (journal_name j) entry
   pub others : (name : List ℕ) (d : ℕ) → LeadsTo im a name d → (j : ℕ) × ((entry : Entry) × (slice_get journals j ≡ Some entry) × (entry.addr ≡ d) × (name ≡ journal_name j))
 
 -- where the system files lie

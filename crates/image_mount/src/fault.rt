@@ -1,4 +1,5 @@
 use crate::Field;
+use image_model::ImageFault;
 use no_memory::NoMemory;
 use std::alloc::{AllocError, AllocFailed};
 
@@ -11,7 +12,7 @@ pub enum MountFault {
     Damaged { block: u64, rule: u16 },
     /// The disk failed at this block, and its count for the run's own calls rose so.
     DeviceFault { block: u64, before: u64, after: u64 },
-    /// The directory whose dinode is in this block is a hashed one, which is not read yet.
+    /// The directory of journals, whose dinode is in this block, is a hashed one, which is not read yet.
     NotBuilt { block: u64 },
     NoMemory,
 }
@@ -24,6 +25,20 @@ impl From<NoMemory> for MountFault {
 
     fn from(_: NoMemory) -> Self {
         MountFault::NoMemory
+    }
+}
+
+impl From<ImageFault> for MountFault {
+    ghost use Rattle.std.specs.Prelude.{◌≡◌};
+    ghost use Rattle.image_mount.specs.Refusals.{of_image};
+
+    ghost from_gives = { λ found fault. fault ≡ of_image found };
+
+    fn from(found: ImageFault) -> Self {
+        match found {
+            ImageFault::Damaged { block, rule } => MountFault::Damaged { block, rule },
+            ImageFault::NoMemory => MountFault::NoMemory,
+        }
     }
 }
 

@@ -3,7 +3,7 @@ ghost use Rattle.std.specs.List.{All};
 ghost use Rattle.gfs2_layout.specs.Inode.{dinode_in, content_of};
 ghost use Rattle.gfs2_layout.specs.declared.rindex.Rindex.{Rindex as RindexValue};
 ghost use Rattle.gfs2_layout.specs.Structures.{rindex_of};
-ghost use Rattle.image_model.specs.Claims.{every, Claims, IsRindex};
+ghost use Rattle.image_model.specs.Claims.{every, Claims};
 ghost use Rattle.image_model.specs.Groups.{GroupFits, GroupsFit, IsDataOf, end_of as first_behind, groups_in};
 ghost use Rattle.image_model.specs.Image.{Image};
 ghost use Rattle.image_model.specs.Listing.{RiseFrom};
@@ -11,19 +11,20 @@ ghost use Rattle.image_model.specs.Owners.{Owner, is_dinode};
 ghost use Rattle.image_model.specs.Profile.{group_length};
 ghost use Rattle.image_model.specs.Stands.{Layout};
 ghost use Rattle.image_mount.specs.Found.{most_blocks, HasFormat, HasMaster};
-ghost use Rattle.image_mount.specs.Groups.{IsListEntry, IsListOf, AreGroups};
+ghost use Rattle.image_mount.specs.Groups.{IsListLink, IsListOf, AreGroups};
 ghost use Rattle.image_mount.specs.Refusals.{RefusesRightly};
-ghost use Rattle.image_mount.specs.Searching.{IsRead, IsSteady, StopsRightly, LacksBlock};
+ghost use Rattle.image_mount.specs.Searching.{IsRead, IsSteady, IsSystemFile, StopsRightly, LacksBlock};
 
 use crate::fault::MountFault;
 use crate::field::Field;
 use crate::formats::superblock_place;
 use crate::inodes::Inode;
+use crate::listing::Link;
 use crate::stop::{Stop, damaged, outside, reads};
 use crate::table::Table;
 use dinode_tree::read_range;
 use gfs2_layout::Rindex;
-use glock_names::{Entry, Step, View};
+use glock_names::{Step, View};
 use std::alloc::Global;
 
 // How many bytes an entry of the list of groups has.
@@ -175,11 +176,12 @@ fn check_groups(device: &Device, groups: &[Rindex], list: u64) -> Result<(), Mou
 
 // How many bytes the list has, which has one to 64 whole entries.
 fn list_length(inode: &Inode, size: u32) -> Result<u32, MountFault>
-    requires { 512 ≤ size }
+    requires size { 512 ≤ size }
+    requires most { size ≤ 4096 }
     ensures value { IfOk result (λ bytes. bytes ≡ inode.now.dinode.size) }
     ensures whole { OnOk result (inode.now.dinode.size % 96 ≡ 0) }
     ensures least { IfOk result (λ bytes. 96 ≤ bytes) }
-    ensures most { IfOk result (λ bytes. bytes ≤ 6144) }
+    ensures short { IfOk result (λ bytes. bytes ≤ 6144) }
     ensures refused { (im : Image) (l : Layout) → HasMaster im l → l.rindex ≡ inode.now.block → inode.now.dinode ≡ dinode_in (every im inode.now.block) → size ≡ im.size → IfErr result (RefusesRightly im) }
     ensures steady { IfErr result IsSteady }
 {
@@ -192,17 +194,22 @@ fn list_length(inode: &Inode, size: u32) -> Result<u32, MountFault>
         return Err(outside(Field::Groups, count));
     }
     if inode.dinode.is_directory() {
-        inode.check_linear(size)?;
+        inode.check_directory(size)?;
     }
     Ok(bytes as u32)
 }
 
-// The content of the list.
-fn read_list(alloc: Global, table: &Table, inode: &Inode, bytes: u32) -> Result<Vec<u8>, Stop>
+/// The content of the list of groups or of the master directory, which has so many bytes.
+pub(crate) fn read_whole(
+    alloc: Global,
+    table: &Table,
+    inode: &Inode,
+    bytes: u32,
+) -> Result<Vec<u8>, Stop>
     ensures found { (im : Image) → IsRead im table.now → (dinode_in (every im inode.now.block)).size ≡ bytes → IfOk result (λ content. content.items ≡ content_of (every im inode.now.block)) }
     ensures length { (im : Image) → IsRead im table.now → (dinode_in (every im inode.now.block)).size ≡ bytes → IfOk result (λ content. length content.items ≡ bytes) }
     ensures most { IfOk result (λ content. length content.items ≤ bytes) }
-    ensures stops { (im : Image) (o : Owner) → IsRead im table.now → Claims im inode.now.from inode.now.block o → is_dinode o ≡ true → HasFormat im → IsRindex im inode.now.block → IfErr result (StopsRightly im) }
+    ensures stops { (im : Image) (o : Owner) → IsRead im table.now → Claims im inode.now.from inode.now.block o → is_dinode o ≡ true → HasFormat im → IsSystemFile im inode.now.block → IfErr result (StopsRightly im) }
     ensures lacks { IfErr result (LacksBlock table.now) }
 {
     // The dinode is kept, and what is missing is a block below it.
@@ -219,19 +226,18 @@ pub(crate) fn list_groups(
     alloc: Global,
     table: &Table,
     count: u64,
-    master: u64,
-    rindex: &Entry,
+    rindex: &Link,
 ) -> Result<Vec<Rindex>, Stop>
-    ensures found { (im : Image) → IsRead im table.now → count ≡ im.count → IsListEntry im master rindex.now → IfOk result (λ groups. AreGroups im rindex.now.addr groups.items) }
+    ensures found { (im : Image) → IsRead im table.now → count ≡ im.count → IsListLink im rindex.now → IfOk result (λ groups. AreGroups im rindex.now.entry.addr groups.items) }
     ensures length { IfOk result (λ groups. length groups.items ≤ 64) }
-    ensures stops { (im : Image) → IsRead im table.now → count ≡ im.count → IsListEntry im master rindex.now → IfErr result (StopsRightly im) }
+    ensures stops { (im : Image) → IsRead im table.now → count ≡ im.count → IsListLink im rindex.now → IfErr result (StopsRightly im) }
     ensures lacks { IfErr result (LacksBlock table.now) }
 {
     let size = table.block_size();
-    let inode = Inode::read(table, master, rindex.addr)?;
-    inode.check_record(rindex)?;
+    let inode = Inode::read(table, rindex.from, rindex.entry.addr)?;
+    inode.check_record(&rindex.entry)?;
     let bytes = list_length(&inode, size)?;
-    let content = read_list(alloc, table, &inode, bytes)?;
+    let content = read_whole(alloc, table, &inode, bytes)?;
     let groups = read_entries(alloc, &content)?;
     check_groups(&Device { size, count }, &groups, inode.block)?;
     Ok(groups)

@@ -1,15 +1,15 @@
-ghost use Rattle.std.specs.Prelude.{ℕ, ◌≡◌, ◌≤◌, ◌+◌, true, false, length, if◌then◌else◌, IfOk, OnOk, IfErr};
+ghost use Rattle.std.specs.Prelude.{ℕ, ◌≡◌, ◌≤◌, ◌+◌, ◌*◌, ◌^◌, true, false, length, if◌then◌else◌, IfOk, OnOk, IfErr};
 ghost use Rattle.gfs2_layout.specs.Inode.{dinode_in, is_directory_in, is_hashed_in, head_of, has_hash_flag, Fits};
 ghost use Rattle.gfs2_layout.specs.Structures.{is_directory};
 ghost use Rattle.gfs2_layout.specs.Records.{Record};
 ghost use Rattle.image_model.specs.Claims.{every, HasInode, HasDirectory, Claims};
 ghost use Rattle.image_model.specs.Image.{Image};
 ghost use Rattle.image_model.specs.Owners.{Owner, is_dinode};
-ghost use Rattle.image_model.specs.Rules.{HasRecordIn};
+ghost use Rattle.image_model.specs.Rules.{HasRecordIn, IsHashedAt};
 ghost use Rattle.image_mount.specs.Found.{HasFormat};
 ghost use Rattle.image_mount.specs.Refusals.{RefusesRightly};
 ghost use Rattle.image_mount.specs.Searching.{IsRead, IsSteady, StopsRightly, LacksBlock};
-ghost use Rattle.image_mount.specs.Listing.{IsEntryOf};
+ghost use Rattle.image_mount.specs.Listing.{IsEntryOf, is_hashed_by};
 
 use crate::fault::MountFault;
 use crate::stop::{Stop, damaged};
@@ -17,6 +17,7 @@ use crate::table::Table;
 use dinode_tree::read_dinode;
 use gfs2_layout::Dinode;
 use glock_names::{Entry, Step};
+use image_model::pointers_of;
 
 /// An inode: the block of its dinode, the block in which its number stands, and what its dinode says.
 #[derive(Clone, Copy)]
@@ -69,16 +70,20 @@ impl Inode {
         Ok(())
     }
 
-    /// That a directory is a linear one, whose records stand behind the dinode up to the end of its block.
+    /// Whether it is a directory with the flag of a hashed one.
+    pub fn is_hashed(&self) -> bool
+        ensures { result ≡ is_hashed_by self.now.dinode }
+    {
+        self.dinode.is_directory() && self.dinode.flags / 2 % 2 == 1
+    }
+
+    /// That the records of a linear directory stand behind the dinode up to the end of its block.
     pub fn check_linear(&self, size: u32) -> Result<(), MountFault>
-        requires { 512 ≤ size }
-        ensures linear { OnOk result (has_hash_flag self.now.dinode ≡ false) }
+        requires size { 512 ≤ size }
+        requires linear { is_hashed_by self.now.dinode ≡ false }
         ensures refused { (im : Image) → self.now.dinode ≡ dinode_in (every im self.now.block) → size ≡ im.size → HasFormat im → HasDirectory im self.now.block → IfErr result (RefusesRightly im) }
         ensures steady { IfErr result IsSteady }
     {
-        if self.dinode.flags / 2 % 2 == 1 {
-            return Err(MountFault::NotBuilt { block: self.block });
-        }
         if self.dinode.height != 0 {
             return Err(damaged(self.block, 8));
         }
@@ -86,5 +91,46 @@ impl Inode {
             return Err(damaged(self.block, 8));
         }
         Ok(())
+    }
+
+    /// The depth of a hashed directory's table, which has so many pointers as it may have.
+    pub fn table_depth(&self, size: u32) -> Result<u16, MountFault>
+        requires size { 512 ≤ size }
+        requires most { size ≤ 4096 }
+        ensures deep { IfOk result (λ depth. depth ≤ 15) }
+        ensures depth { IfOk result (λ depth. depth ≡ self.now.dinode.depth) }
+        ensures bytes { IfOk result (λ depth. self.now.dinode.size ≡ 8 * 2 ^ depth) }
+        ensures refused { (im : Image) → self.now.dinode ≡ dinode_in (every im self.now.block) → size ≡ im.size → HasFormat im → IsHashedAt im self.now.block → IfErr result (RefusesRightly im) }
+        ensures steady { IfErr result IsSteady }
+    {
+        let depth = self.dinode.depth;
+        if depth > 15 {
+            return Err(damaged(self.block, 13));
+        }
+        let count = pointers_of(depth);
+        if count < u64::from(size) / 16 {
+            return Err(damaged(self.block, 13));
+        }
+        if 8 * u64::from(size) < count {
+            return Err(damaged(self.block, 13));
+        }
+        if self.dinode.size != 8 * count {
+            return Err(damaged(self.block, 13));
+        }
+        Ok(depth)
+    }
+
+    /// That a directory has the size of its block's rest where it is a linear one, and that of its table where it is hashed.
+    pub fn check_directory(&self, size: u32) -> Result<(), MountFault>
+        requires size { 512 ≤ size }
+        requires most { size ≤ 4096 }
+        ensures refused { (im : Image) → self.now.dinode ≡ dinode_in (every im self.now.block) → size ≡ im.size → HasFormat im → HasDirectory im self.now.block → IfErr result (RefusesRightly im) }
+        ensures steady { IfErr result IsSteady }
+    {
+        if self.is_hashed() {
+            self.table_depth(size)?;
+            return Ok(());
+        }
+        self.check_linear(size)
     }
 }

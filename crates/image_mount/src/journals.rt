@@ -46,7 +46,7 @@ fn place_count(table: &Table, jindex: u64, journal: &Entry) -> Result<u64, Stop>
     inode.check_record(journal)?;
     let size = table.block_size();
     if inode.dinode.is_directory() {
-        inode.check_linear(size)?;
+        inode.check_directory(size)?;
     }
     if inode.dinode.size % u64::from(size) != 0 {
         return Err(Stop::Refused(damaged(inode.block, 8)));
@@ -240,6 +240,9 @@ pub(crate) fn find_rings<D: SharedDisk>(
 {
     let mut rings = Vec::new(alloc);
     for journal in &system.journals {
+        if journal.addr == system.superblock.master.address {
+            return Err(damaged(journal.addr, 3));
+        }
         if journal.addr == system.rindex || has_dinode(&rings, journal.addr) {
             return Err(damaged(journal.addr, 3));
         }

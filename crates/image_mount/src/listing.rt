@@ -1,16 +1,19 @@
-ghost use Rattle.std.specs.Prelude.{ℕ, ◌≡◌, ◌≢◌, ◌≤◌, ◌++◌, [], ◌∷◌, List, not, length, map, Contains, slice_get, Some, IfOk, OnOk, IfErr, IfSome, IfNone};
+ghost use Rattle.std.specs.Prelude.{ℕ, ◌≡◌, ◌≢◌, ◌≤◌, ◌++◌, false, [], ◌∷◌, List, not, length, map, Contains, slice_get, Some, IfOk, OnOk, IfErr, IfSome, IfNone};
 ghost use Rattle.std.specs.List.{All};
+ghost use Rattle.std.specs.Option.{option_map};
+ghost use Rattle.gfs2_layout.specs.Records.{Record as RecordValue};
 ghost use Rattle.gfs2_layout.specs.Area.{Slot, IsShown, slots_of};
 ghost use Rattle.gfs2_layout.specs.Inode.{dinode_in};
+ghost use Rattle.image_mount.specs.Listing.{is_hashed_by};
 ghost use Rattle.gfs2_layout.specs.Records.{records_in, is_dots as has_dots};
 ghost use Rattle.image_model.specs.Claims.{every, HasArea};
 ghost use Rattle.image_model.specs.Image.{Image};
-ghost use Rattle.image_model.specs.Rules.{Breaks, HasRecordIn, HasRecords};
+ghost use Rattle.image_model.specs.Rules.{Breaks, HasRecordIn};
 ghost use Rattle.image_model.specs.Stands.{directory_count};
-ghost use Rattle.image_mount.specs.Found.{HasFormat, name_count};
+ghost use Rattle.image_mount.specs.Found.{HasFormat, name_count, first_other as first_beside};
 ghost use Rattle.image_mount.specs.Refusals.{RefusesRightly};
 ghost use Rattle.image_mount.specs.Searching.{IsRead, IsSteady, StopsRightly, LacksBlock};
-ghost use Rattle.image_mount.specs.Listing.{said, said_by, said_in, AreRecordsOf, AreDistinct, IsDirectoryIn};
+ghost use Rattle.image_mount.specs.Listing.{said, said_by, said_in, link_of, AreCountedIn, AreRecordsOf, AreDistinct, IsDirectoryIn};
 
 use crate::fault::MountFault;
 use crate::inodes::Inode;
@@ -22,11 +25,19 @@ use gfs2_layout::{Record, is_area, next_record};
 use glock_names::{Entry, View};
 use std::alloc::Global;
 
-/// A record in use of a directory: its name, and what it says of the inode to which that leads.
+/// A record in use of a directory: its name, what it says of the inode to which that leads, and the block that it stands in.
 #[derive(Clone, Copy)]
 pub(crate) struct Named<'a> {
     pub name: &'a [u8],
     pub entry: Entry,
+    pub block: u64,
+}
+
+/// What a record says of the inode to which it leads, and the block that it stands in.
+#[derive(Clone, Copy)]
+pub(crate) struct Link {
+    pub entry: Entry,
+    pub from: u64,
 }
 
 fn is_dots(name: &[u8]) -> bool
@@ -36,8 +47,9 @@ fn is_dots(name: &[u8]) -> bool
 }
 
 impl<'a> Named<'a> {
-    fn of(record: &Record<'a>) -> Named<'a>
-        ensures { said result ≡ said_by record.now.head record.now.name.now }
+    fn of(record: &Record<'a>, block: u64) -> Named<'a>
+        ensures said { said result ≡ said_by record.now.head record.now.name.now }
+        ensures here { result.block ≡ block }
     {
         Named {
             name: record.name,
@@ -46,6 +58,17 @@ impl<'a> Named<'a> {
                 addr: record.head.inum.address,
                 kind: record.head.kind,
             },
+            block,
+        }
+    }
+
+    /// What it says, with its block.
+    pub fn link(&self) -> Link
+        ensures { result ≡ link_of self.now }
+    {
+        Link {
+            entry: self.entry,
+            from: self.block,
         }
     }
 
@@ -69,6 +92,7 @@ impl<'a> Named<'a> {
 
 // Adds a record, if it is in use; it is to have its name's hash.
 fn add<'a>(records: &mut Vec<Named<'a>>, record: &Record<'a>, block: u64) -> Result<(), MountFault>
+    ensures here { All (λ n. n.block ≡ block) records.old.items → OnOk result (All (λ n. n.block ≡ block) records.new.items) }
     ensures added { (s : Slot) → IsShown record.now.head record.now.name.now s → OnOk result (map said records.new.items ≡ map said records.old.items ++ said_in (s ∷ [])) }
     ensures refused { (im : Image) (a : ℕ) (area : List ℕ) (s : Slot) → IsShown record.now.head record.now.name.now s → HasFormat im → HasArea im a block area → Contains (slots_of area) s → IfErr result (RefusesRightly im) }
     ensures steady { IfErr result IsSteady }
@@ -79,12 +103,17 @@ fn add<'a>(records: &mut Vec<Named<'a>>, record: &Record<'a>, block: u64) -> Res
     if record.head.hash != crc32(record.name) {
         return Err(damaged(block, 9));
     }
-    records.push(Named::of(record))?;
+    records.push(Named::of(record, block))?;
     Ok(())
 }
 
-// The records in use of an area in a block, which they are to fill.
-fn read_area<'a>(alloc: Global, area: &'a [u8], block: u64) -> Result<Vec<Named<'a>>, MountFault>
+/// The records in use of an area in a block, which they are to fill.
+pub(crate) fn read_area<'a>(
+    alloc: Global,
+    area: &'a [u8],
+    block: u64,
+) -> Result<Vec<Named<'a>>, MountFault>
+    ensures here { IfOk result (λ records. All (λ n. n.block ≡ block) records.items) }
     ensures found { IfOk result (λ records. map said records.items ≡ records_in area.now) }
     ensures refused { (im : Image) (a : ℕ) → HasFormat im → HasArea im a block area.now → IfErr result (RefusesRightly im) }
     ensures steady { IfErr result IsSteady }
@@ -101,8 +130,8 @@ fn read_area<'a>(alloc: Global, area: &'a [u8], block: u64) -> Result<Vec<Named<
     Ok(records)
 }
 
-// That each record has a name, or is `.` or `..`.
-fn check_names(records: &[Named<'_>], block: u64) -> Result<(), MountFault>
+/// That each record has a name, or is `.` or `..`.
+pub(crate) fn check_names(records: &[Named<'_>], block: u64) -> Result<(), MountFault>
     ensures refused { (im : Image) (a : ℕ) → HasFormat im → All (λ n. HasRecordIn im a block (said n)) records.now → IfErr result (RefusesRightly im) }
     ensures steady { IfErr result IsSteady }
 {
@@ -126,8 +155,21 @@ pub(crate) fn find<'a>(records: &[Named<'a>], name: &[u8]) -> Option<Named<'a>>
     None
 }
 
-// That no name comes twice.
-fn check_twice(records: &[Named<'_>], block: u64) -> Result<(), MountFault>
+/// The first record that has a name beside `.`, `..`, `rindex` and `jindex`.
+pub(crate) fn first_other(records: &[Named<'_>]) -> Option<u64>
+    ensures { result ≡ option_map (λ (r : RecordValue). r.address) (first_beside (map said records.now)) }
+{
+    for record in records {
+        let known = record.name == b"jindex".as_slice() || record.name == b"rindex".as_slice();
+        if record.leads_on() && !known {
+            return Some(record.entry.addr);
+        }
+    }
+    None
+}
+
+/// That no name comes twice.
+pub(crate) fn check_twice(records: &[Named<'_>], block: u64) -> Result<(), MountFault>
     ensures distinct { OnOk result (AreDistinct (map said records.now)) }
     ensures refused { (im : Image) (a : ℕ) (area : List ℕ) → HasFormat im → HasArea im a block area → map said records.now ≡ records_in area → IfErr result (RefusesRightly im) }
     ensures steady { IfErr result IsSteady }
@@ -140,8 +182,14 @@ fn check_twice(records: &[Named<'_>], block: u64) -> Result<(), MountFault>
     Ok(())
 }
 
-// That there is a record of this name, `.` or `..`, which leads to this block.
-fn check_dot(records: &[Named<'_>], block: u64, name: &[u8], leads: u64) -> Result<(), MountFault>
+/// That there is a record of this name, `.` or `..`, which leads to this block, in the directory with its dinode in block
+/// `block`.
+pub(crate) fn check_dot(
+    records: &[Named<'_>],
+    block: u64,
+    name: &[u8],
+    leads: u64,
+) -> Result<(), MountFault>
     ensures refused { (im : Image) → HasFormat im → (((i : ℕ) (n : Named) → slice_get records.now i ≡ Some n → n.name.now ≢ name.now) → Breaks im 10 block)
         → ((i : ℕ) (n : Named) → slice_get records.now i ≡ Some n → n.name.now ≡ name.now → n.entry.addr ≢ leads → Breaks im 10 block)
         → IfErr result (RefusesRightly im) }
@@ -179,9 +227,9 @@ fn count_directories(records: &[Named<'_>]) -> u64
     count
 }
 
-// That a directory's links and entries are the count of its records.
-fn check_counts(inode: &Inode, records: &[Named<'_>]) -> Result<(), MountFault>
-    ensures refused { (im : Image) → HasFormat im → inode.now.dinode ≡ dinode_in (every im inode.now.block) → HasRecords im inode.now.block (map said records.now) → IfErr result (RefusesRightly im) }
+/// That a directory's links and entries are the count of its records.
+pub(crate) fn check_counts(inode: &Inode, records: &[Named<'_>]) -> Result<(), MountFault>
+    ensures refused { (im : Image) → HasFormat im → inode.now.dinode ≡ dinode_in (every im inode.now.block) → AreCountedIn im inode.now.block (map said records.now) → IfErr result (RefusesRightly im) }
     ensures steady { IfErr result IsSteady }
 {
     if u64::from(inode.dinode.entries) != records.len() as u64 {
@@ -196,7 +244,7 @@ fn check_counts(inode: &Inode, records: &[Named<'_>]) -> Result<(), MountFault>
 // That the records are those of a directory below the one with this dinode.
 fn check_records(inode: &Inode, parent: u64, records: &[Named<'_>]) -> Result<(), MountFault>
     ensures distinct { OnOk result (AreDistinct (map said records.now)) }
-    ensures refused { (im : Image) → IsDirectoryIn im inode.now parent → AreRecordsOf im inode.now.block (map said records.now) → IfErr result (RefusesRightly im) }
+    ensures refused { (im : Image) → IsDirectoryIn im inode.now parent → AreRecordsOf im inode.now.block (map said records.now) → All (λ n. n.block ≡ inode.now.block) records.now → IfErr result (RefusesRightly im) }
     ensures steady { IfErr result IsSteady }
 {
     check_names(records, inode.block)?;
@@ -206,15 +254,16 @@ fn check_records(inode: &Inode, parent: u64, records: &[Named<'_>]) -> Result<()
     check_counts(inode, records)
 }
 
-/// The records of a directory below the one with its dinode in block `parent`. It looks at whether the directory is
-/// linear, whether the records fill the rest of its block, at their hashes and names, at `.` and `..`, and at the counts
-/// of links and entries.
+/// The records of a linear directory below the one with its dinode in block `parent`. It looks at whether they fill the
+/// rest of its block, at their hashes and names, at `.` and `..`, and at the counts of links and entries.
 pub(crate) fn list_records<'a>(
     alloc: Global,
     table: &'a Table,
     inode: &Inode,
     parent: u64,
 ) -> Result<Vec<Named<'a>>, Stop>
+    requires linear { is_hashed_by inode.now.dinode ≡ false }
+    ensures here { IfOk result (λ records. All (λ n. n.block ≡ inode.now.block) records.items) }
     ensures found { (im : Image) → IsRead im table.now → IsDirectoryIn im inode.now parent → IfOk result (λ records. AreRecordsOf im inode.now.block (map said records.items)) }
     ensures distinct { IfOk result (λ records. AreDistinct (map said records.items)) }
     ensures stops { (im : Image) → IsRead im table.now → IsDirectoryIn im inode.now parent → IfErr result (StopsRightly im) }

@@ -13,6 +13,7 @@ use crate::fault::MountFault;
 use crate::fetching::go_on;
 use crate::field::Field;
 use crate::journals::{find_journals, find_rings};
+use crate::master::{search_master, search_names};
 use crate::mounted::Mounted;
 use crate::stop::outside;
 use crate::system::{System, find_system};
@@ -42,6 +43,7 @@ fn search_system<D: SharedDisk>(
     table: &mut Table,
 ) -> Result<System, MountFault>
     requires work { IsWorking (D.state disk.old) table.old }
+    requires few { (D.state disk.old).count ≤ most_blocks }
     ensures work { OnOk result (IsWorking (D.state disk.new) table.new) }
     ensures found { IfOk result (λ system. IsTrue (D.state disk.old).tells → (D.state disk.old).count ≤ most_blocks → IsSearched (image_of (D.state disk.old)) [] 0 0 table.old → IsSystemOf (image_of (D.state disk.old)) system) }
     ensures searched { OnOk result (IsTrue (D.state disk.old).tells → (D.state disk.old).count ≤ most_blocks → IsSearched (image_of (D.state disk.old)) [] 0 0 table.old → IsSearched (image_of (D.state disk.old)) [] 0 0 table.new) }
@@ -52,8 +54,10 @@ fn search_system<D: SharedDisk>(
     ensures later { (j : ℕ) → D.faults disk.old j ≤ D.faults disk.new j }
 {
     let count = disk.blocks();
+    let master = search_master(alloc, disk, table)?;
+    let names = search_names(alloc, disk, table, &master.inode)?;
     loop {
-        match find_system(alloc, table, count) {
+        match find_system(alloc, table, count, &master, &names) {
             Ok(system) => return Ok(system),
             Err(stop) => go_on(alloc, disk, table, stop)?,
         }

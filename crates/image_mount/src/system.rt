@@ -1,30 +1,29 @@
 ghost use Rattle.std.specs.Prelude.{ℕ, ◌≡◌, ◌≢◌, ◌<◌, ◌≤◌, ◌↔◌, true, false, length, map, codes, slice_get, Some, IsTrue, IfOk, OnOk, IfErr, IfSome, IfNone};
-ghost use Rattle.std.specs.Option.{option_map};
-ghost use Rattle.gfs2_layout.specs.Device.{superblock_place as place_for};
+ghost use Rattle.gfs2_layout.specs.Inode.{is_hashed_in};
 ghost use Rattle.gfs2_layout.specs.Records.{Record};
-ghost use Rattle.image_model.specs.Claims.{master_of};
+ghost use Rattle.image_model.specs.Claims.{every, master_of};
 ghost use Rattle.image_model.specs.Image.{Image};
 ghost use Rattle.image_model.specs.Journals.{journal_name as name_of_journal};
 ghost use Rattle.image_model.specs.Rules.{HasRecords};
 ghost use Rattle.image_model.specs.Stands.{Layout};
-ghost use Rattle.image_mount.specs.Found.{HasFormat, HasGroups, most_blocks, first_other as first_beside};
-ghost use Rattle.image_mount.specs.Groups.{IsNamedIn};
-ghost use Rattle.image_mount.specs.Listing.{said};
+ghost use Rattle.image_mount.specs.Found.{HasFormat, HasGroups};
+ghost use Rattle.image_mount.specs.Leaves.{IsMasterIn};
+ghost use Rattle.image_mount.specs.Listing.{said, AreAllRecords};
 ghost use Rattle.image_mount.specs.Refusals.{RefusesRightly};
 ghost use Rattle.image_mount.specs.declared.fault.MountFault.TheVariants as fault_of;
 ghost use Rattle.image_mount.specs.Searching.{IsRead, IsSteady, StopsRightly, LacksBlock};
-ghost use Rattle.image_mount.specs.System.{AreFilesOf, AreAmong, LacksName, AreNamesOf, AreJournalsAmong, AreJournalsOf, IsSystemOf};
+ghost use Rattle.image_mount.specs.System.{IsLinkOf, IsMasterOf, ArePlainRecords, AreFilesOf, AreAmong, LacksName, AreNamesOf, AreJournalsAmong, AreJournalsOf, IsSystemOf};
 
 use crate::fault::MountFault;
 use crate::field::Field;
-use crate::formats::{read_superblock, superblock_place};
 use crate::groups::list_groups;
 use crate::inodes::Inode;
-use crate::listing::{Named, count_names, find, list_records};
+use crate::listing::{Link, Named, count_names, find, first_other, list_records};
+use crate::master::Master;
 use crate::stop::{Stop, damaged, outside};
 use crate::table::Table;
 use gfs2_layout::{Rindex, SuperBlock};
-use glock_names::{Entry, View};
+use glock_names::Entry;
 use std::alloc::Global;
 
 /// What the system files say: the superblock, the list of groups and the block of its dinode, and the journals by their
@@ -41,47 +40,50 @@ pub(crate) struct System {
 // The records of the two files that the master directory names.
 #[derive(Clone, Copy)]
 struct SystemFiles {
-    rindex: Entry,
-    jindex: Entry,
+    rindex: Link,
+    jindex: Link,
 }
 
-// The first record that has a name beside `.`, `..`, `rindex` and `jindex`.
-fn first_other(records: &[Named<'_>]) -> Option<u64>
-    ensures { result ≡ option_map (λ (r : Record). r.address) (first_beside (map said records.now)) }
+// The files that these records of the master directory name.
+fn files_among(records: &[Named<'_>], master: u64) -> Result<SystemFiles, MountFault>
+    ensures found { (im : Image) → ArePlainRecords im master records.now → master ≡ master_of im → IfOk result (AreFilesOf im) }
+    ensures refused { (im : Image) → HasFormat im → AreAllRecords im master records.now → master ≡ master_of im → IfErr result (RefusesRightly im) }
+    ensures steady { IfErr result IsSteady }
 {
-    for record in records {
-        let known = record.name == b"jindex".as_slice() || record.name == b"rindex".as_slice();
-        if record.leads_on() && !known {
-            return Some(record.entry.addr);
-        }
-    }
-    None
+    let Some(rindex) = find(records, b"rindex") else {
+        return Err(damaged(master, 18));
+    };
+    let Some(jindex) = find(records, b"jindex") else {
+        return Err(damaged(master, 16));
+    };
+    Ok(SystemFiles {
+        rindex: rindex.link(),
+        jindex: jindex.link(),
+    })
 }
 
-// The master directory, which names `rindex` and `jindex` and no other file.
-fn system_files(alloc: Global, table: &Table, place: u64, master: u64) -> Result<SystemFiles, Stop>
-    ensures found { (im : Image) → IsRead im table.now → HasFormat im → place ≡ place_for im.size → master ≡ master_of im → IfOk result (AreFilesOf im) }
-    ensures stops { (im : Image) → IsRead im table.now → HasFormat im → place ≡ place_for im.size → master ≡ master_of im → IfErr result (StopsRightly im) }
+// The master directory, which names `rindex` and `jindex` and no other file. Where it is a hashed one, these records were
+// found in its leaves.
+fn system_files(
+    alloc: Global,
+    table: &Table,
+    inode: &Inode,
+    names: &[Named<'_>],
+) -> Result<SystemFiles, Stop>
+    ensures found { (im : Image) → IsRead im table.now → IsMasterIn im inode.now → (is_hashed_in (every im inode.now.block) ≡ true → ArePlainRecords im inode.now.block names.now) → IfOk result (AreFilesOf im) }
+    ensures stops { (im : Image) → IsRead im table.now → IsMasterIn im inode.now → (is_hashed_in (every im inode.now.block) ≡ true → ArePlainRecords im inode.now.block names.now) → IfErr result (StopsRightly im) }
     ensures lacks { IfErr result (LacksBlock table.now) }
 {
-    let inode = Inode::read(table, place, master)?;
-    if !inode.dinode.is_directory() {
-        return Err(Stop::Refused(damaged(master, 18)));
+    if inode.is_hashed() {
+        let files = files_among(names, inode.block)?;
+        return Ok(files);
     }
-    let records = list_records(alloc, table, &inode, master)?;
+    let records = list_records(alloc, table, inode, inode.block)?;
     if let Some(other) = first_other(&records) {
         return Err(Stop::Refused(outside(Field::Master, other)));
     }
-    let Some(rindex) = find(&records, b"rindex") else {
-        return Err(Stop::Refused(damaged(master, 18)));
-    };
-    let Some(jindex) = find(&records, b"jindex") else {
-        return Err(Stop::Refused(damaged(master, 16)));
-    };
-    Ok(SystemFiles {
-        rindex: rindex.entry,
-        jindex: jindex.entry,
-    })
+    let files = files_among(&records, inode.block)?;
+    Ok(files)
 }
 
 /// The name of a journal below the tenth.
@@ -165,41 +167,48 @@ fn list_journals(
     alloc: Global,
     table: &Table,
     master: u64,
-    jindex: &Entry,
+    jindex: &Link,
 ) -> Result<Vec<Entry>, Stop>
-    ensures found { (im : Image) (l : Layout) → IsRead im table.now → HasGroups im l → l.jindex ≡ jindex.now.addr → IsNamedIn im master (codes "jindex") jindex.now
-        → IfOk result (λ journals. AreJournalsOf im jindex.now.addr journals.items) }
-    ensures stops { (im : Image) (l : Layout) → IsRead im table.now → HasGroups im l → l.jindex ≡ jindex.now.addr → IsNamedIn im master (codes "jindex") jindex.now
+    ensures found { (im : Image) (l : Layout) → IsRead im table.now → HasGroups im l → l.jindex ≡ jindex.now.entry.addr → master ≡ master_of im → IsLinkOf im (codes "jindex") jindex.now
+        → IfOk result (λ journals. AreJournalsOf im jindex.now.entry.addr journals.items) }
+    ensures stops { (im : Image) (l : Layout) → IsRead im table.now → HasGroups im l → l.jindex ≡ jindex.now.entry.addr → master ≡ master_of im → IsLinkOf im (codes "jindex") jindex.now
         → IfErr result (StopsRightly im) }
     ensures lacks { IfErr result (LacksBlock table.now) }
 {
-    let inode = Inode::read(table, master, jindex.addr)?;
-    inode.check_record(jindex)?;
+    let inode = Inode::read(table, jindex.from, jindex.entry.addr)?;
+    inode.check_record(&jindex.entry)?;
     if !inode.dinode.is_directory() {
         return Err(Stop::Refused(outside(Field::Journals, 0)));
+    }
+    if inode.is_hashed() {
+        return Err(Stop::Refused(MountFault::NotBuilt { block: inode.block }));
     }
     let records = list_records(alloc, table, &inode, master)?;
     let journals = check_journals(alloc, &records)?;
     Ok(journals)
 }
 
-/// Looks at the system files as far as the journals' records, on a device of so many blocks.
-pub(crate) fn find_system(alloc: Global, table: &Table, count: u64) -> Result<System, Stop>
-    ensures found { (im : Image) → IsRead im table.now → count ≡ im.count → im.count ≤ most_blocks → IfOk result (IsSystemOf im) }
-    ensures stops { (im : Image) → IsRead im table.now → count ≡ im.count → im.count ≤ most_blocks → IfErr result (StopsRightly im) }
+/// Looks at the system files as far as the journals' records, on a device of so many blocks. Where the master directory is a
+/// hashed one, these records were found in its leaves.
+pub(crate) fn find_system(
+    alloc: Global,
+    table: &Table,
+    count: u64,
+    master: &Master,
+    names: &[Named<'_>],
+) -> Result<System, Stop>
+    ensures found { (im : Image) → IsRead im table.now → count ≡ im.count → IsMasterOf im master.now → (is_hashed_in (every im master.now.inode.block) ≡ true → ArePlainRecords im master.now.inode.block names.now) → IfOk result (IsSystemOf im) }
+    ensures stops { (im : Image) → IsRead im table.now → count ≡ im.count → IsMasterOf im master.now → (is_hashed_in (every im master.now.inode.block) ≡ true → ArePlainRecords im master.now.inode.block names.now) → IfErr result (StopsRightly im) }
     ensures lacks { IfErr result (LacksBlock table.now) }
 {
-    let superblock = read_superblock(table)?;
-    let master = superblock.master.address;
-    let place = superblock_place(table.block_size());
-    let files = system_files(alloc, table, place, master)?;
-    let groups = list_groups(alloc, table, count, master, &files.rindex)?;
-    let journals = list_journals(alloc, table, master, &files.jindex)?;
+    let files = system_files(alloc, table, &master.inode, names)?;
+    let groups = list_groups(alloc, table, count, &files.rindex)?;
+    let journals = list_journals(alloc, table, master.inode.block, &files.jindex)?;
     Ok(System {
-        superblock,
-        rindex: files.rindex.addr,
+        superblock: master.superblock,
+        rindex: files.rindex.entry.addr,
         groups,
-        jindex: files.jindex.addr,
+        jindex: files.jindex.entry.addr,
         journals,
     })
 }

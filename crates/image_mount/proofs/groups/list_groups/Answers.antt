@@ -1,8 +1,8 @@
-use Rattle.std.proofs.Common.{◌≡◌, ◌%◌, length, refl, sym, ap, subst, ◌∙◌, arith}
+use Rattle.std.proofs.Common.{◌≡◌, inl, ◌%◌, length, refl, sym, ap, subst, ◌∙◌, arith}
 use Rattle.gfs2_layout.specs.Inode.{dinode_in}
 use Rattle.gfs2_layout.specs.declared.dinode.Dinode.{Dinode}
 use Rattle.std.specs.Prelude.{codes}
-use Rattle.image_model.specs.Claims.{every, Claims, IsRindex}
+use Rattle.image_model.specs.Claims.{every, Claims, IsRindex, master_of}
 use Rattle.image_model.specs.Owners.{Named}
 use Rattle.image_model.specs.Groups.{groups_in}
 use Rattle.image_model.specs.Rules.{HasRecordIn}
@@ -16,16 +16,16 @@ returns-in_err-check_record-clause-stops c im read of_count is =
     let inode = c.in_ok-inode.inode in
     let dinode : inode.dinode ≡ dinode_in (every im inode.block) = c.in_ok-inode.ensures.found im read ∙ ap (λ a. dinode_in (every im a)) (sym c.in_ok-inode.ensures.block) in
     stopped im _ _ c.from_residual-in_err-check_record.ensures.1
-    (c.in_err-check_record.ensures.refused im c.args.master is.named.row dinode is.found.format (subst (λ x. HasRecordIn im c.args.master x is.named.row) (sym c.in_ok-inode.ensures.from) is.named.there) is.named.is)
+    (c.in_err-check_record.ensures.refused im (master_of im) is.named.row dinode is.found.format (subst (λ x. HasRecordIn im (master_of im) x is.named.row) (sym c.in_ok-inode.ensures.from) is.named.there) is.named.is)
 
 pub returns-in_err-content-clause-stops : goal.returns-in_err-content-clause-stops
 returns-in_err-content-clause-stops c im read of_count is =
     let inode = c.in_ok-inode.inode in
     let at = c.in_ok-inode.ensures.block in
     passed im _ _ c.from_residual-in_err-content.ensures.1
-    (c.in_err-content.ensures.stops im (Named c.args.master (codes "rindex")) read
-    (subst (λ a. Claims im inode.from a (Named c.args.master (codes "rindex"))) (sym at) (subst (λ b. Claims im b c.args.rindex.now.addr (Named c.args.master (codes "rindex"))) (sym c.in_ok-inode.ensures.from) is.named.claimed))
-    refl is.found.format (subst (IsRindex im) (is.rindex ∙ sym at) is.found.rindex))
+    (c.in_err-content.ensures.stops im (Named (master_of im) (codes "rindex")) read
+    (subst (λ a. Claims im inode.from a (Named (master_of im) (codes "rindex"))) (sym at) (subst (λ b. Claims im b c.args.rindex.now.entry.addr (Named (master_of im) (codes "rindex"))) (sym c.in_ok-inode.ensures.from) is.named.claimed))
+    refl is.found.format (inl (subst (IsRindex im) (is.rindex ∙ sym at) is.found.rindex)))
 
 pub returns-in_err-groups-clause-stops : goal.returns-in_err-groups-clause-stops
 returns-in_err-groups-clause-stops c im read of_count is = stopped im _ _ c.from_residual-in_err-groups.ensures.1 (subst (RefusesRightly im) (sym c.in_err-groups.ensures.memory) tt)
@@ -38,7 +38,7 @@ returns-in_err-check_groups-clause-stops c im read of_count is =
     let whole : (dinode_in (every im inode.block)).size % 96 ≡ 0 = ap (λ (d : Dinode). d.size % 96) (sym dinode) ∙ c.in_ok-bytes.ensures.whole in
     let content = c.in_ok-content.content.items in
     let listed : c.deref-2.result.now ≡ groups_in content = c.deref-2.ensures.value ∙ c.in_ok-groups.ensures.found ∙ ap groups_in c.deref.ensures.value in
-    let list = list_of im c.block_size-size.result c.args.count c.args.master inode.block c.args.rindex.now c.deref-2.result.now content is (c.block_size-size.ensures.value ∙ read.size) of_count c.in_ok-inode.ensures.block whole
+    let list = list_of im c.block_size-size.result c.args.count inode.block c.args.rindex.now c.deref-2.result.now content is (c.block_size-size.ensures.value ∙ read.size) of_count c.in_ok-inode.ensures.block whole
     (c.in_ok-content.ensures.found im read size) listed in
     stopped im _ _ c.from_residual-in_err-check_groups.ensures.1
     (c.in_err-check_groups.ensures.refused im list (groups_some c.deref-2.result.now content c.in_ok-bytes.bytes listed (c.in_ok-content.ensures.length im read size) c.in_ok-bytes.ensures.least))
@@ -51,14 +51,14 @@ returns-clause-found c im read of_count is =
     let whole : (dinode_in (every im inode.block)).size % 96 ≡ 0 = ap (λ (d : Dinode). d.size % 96) (sym dinode) ∙ c.in_ok-bytes.ensures.whole in
     let content = c.in_ok-content.content.items in
     let listed : c.deref-2.result.now ≡ groups_in content = c.deref-2.ensures.value ∙ c.in_ok-groups.ensures.found ∙ ap groups_in c.deref.ensures.value in
-    let list = list_of im c.block_size-size.result c.args.count c.args.master inode.block c.args.rindex.now c.deref-2.result.now content is (c.block_size-size.ensures.value ∙ read.size) of_count c.in_ok-inode.ensures.block whole
+    let list = list_of im c.block_size-size.result c.args.count inode.block c.args.rindex.now c.deref-2.result.now content is (c.block_size-size.ensures.value ∙ read.size) of_count c.in_ok-inode.ensures.block whole
     (c.in_ok-content.ensures.found im read size) listed in
     let value = c.deref-2.ensures.value in
-    groups_are im inode.block c.args.rindex.now.addr c.deref-2.result.now c.in_ok-groups.groups.items value c.in_ok-inode.ensures.block (record {
+    groups_are im inode.block c.args.rindex.now.entry.addr c.deref-2.result.now c.in_ok-groups.groups.items value c.in_ok-inode.ensures.block (record {
       whole = whole;
       listed = list_groups im _ _ _ _ list;
       some = groups_some c.deref-2.result.now content c.in_ok-bytes.bytes listed (c.in_ok-content.ensures.length im read size) c.in_ok-bytes.ensures.least;
-      few = omega (arith, ap length value, c.in_ok-groups.ensures.most, ap length c.deref.ensures.value, c.in_ok-content.ensures.most, c.in_ok-bytes.ensures.most);
+      few = omega (arith, ap length value, c.in_ok-groups.ensures.most, ap length c.deref.ensures.value, c.in_ok-content.ensures.most, c.in_ok-bytes.ensures.short);
       fit = c.in_ok-check_groups.ensures.fit im list;
       short = c.in_ok-check_groups.ensures.short;
     })

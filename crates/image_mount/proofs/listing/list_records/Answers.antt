@@ -1,6 +1,8 @@
-use Rattle.std.proofs.Common.{refl, sym, subst}
+use Rattle.std.proofs.Common.{◌≡◌, refl, sym, subst}
 use Rattle.std.specs.Prelude.{map}
+use Rattle.std.specs.List.{All}
 use Rattle.image_mount.specs.Listing.{said, AreRecordsOf}
+use Rattle.image_mount.specs.declared.listing.Named.{Named}
 use Rattle.image_mount.proofs.Causes.{linear_of}
 use Rattle.image_mount.proofs.Records.{area_in, area_of, has_directory, records_of}
 use Rattle.image_mount.proofs.Stops.{stopped}
@@ -11,18 +13,19 @@ returns-in_err-records-clause-stops c im read is =
     let a = c.args.inode.now.block in
     let area = area_of im a c.in_ok-bytes.bytes.now _ (read.same _ _ c.in_ok-bytes.ensures.bytes) refl in
     stopped im _ _ c.from_residual-in_err-records.ensures.1
-    (c.in_err-records.ensures.refused im a is.format (area_in im a _ (has_directory im c.args.inode.now c.args.parent is) (linear_of im a _ is.dinode c.in_ok-check_linear.ensures.linear) area))
+    (c.in_err-records.ensures.refused im a is.format (area_in im a _ (has_directory im c.args.inode.now c.args.parent is) (linear_of im a _ is.dinode c.requires.linear) area))
 
 pub returns-in_err-check_records-clause-stops : goal.returns-in_err-check_records-clause-stops
 returns-in_err-check_records-clause-stops c im read is =
     let a = c.args.inode.now.block in
     let area = area_of im a c.in_ok-bytes.bytes.now _ (read.same _ _ c.in_ok-bytes.ensures.bytes) refl in
-    let are = records_of im a _ _ (has_directory im c.args.inode.now c.args.parent is) (linear_of im a _ is.dinode c.in_ok-check_linear.ensures.linear) area c.in_ok-records.ensures.found in
+    let are = records_of im a _ _ (has_directory im c.args.inode.now c.args.parent is) (linear_of im a _ is.dinode c.requires.linear) area c.in_ok-records.ensures.found in
     stopped im _ _ c.from_residual-in_err-check_records.ensures.1
-    (c.in_err-check_records.ensures.refused im is (subst (λ rs. AreRecordsOf im a (map said rs)) (sym c.deref.ensures.value) are))
+    (c.in_err-check_records.ensures.refused im is (subst (λ rs. AreRecordsOf im a (map said rs)) (sym c.deref.ensures.value) are)
+    (subst (λ rs. All (λ (n : Named). n.block ≡ a) rs) (sym c.deref.ensures.value) c.in_ok-records.ensures.here))
 
 pub returns-clause-found : goal.returns-clause-found
 returns-clause-found c im read is =
     let a = c.args.inode.now.block in
     let area = area_of im a c.in_ok-bytes.bytes.now _ (read.same _ _ c.in_ok-bytes.ensures.bytes) refl in
-    records_of im a _ _ (has_directory im c.args.inode.now c.args.parent is) (linear_of im a _ is.dinode c.in_ok-check_linear.ensures.linear) area c.in_ok-records.ensures.found
+    records_of im a _ _ (has_directory im c.args.inode.now c.args.parent is) (linear_of im a _ is.dinode c.requires.linear) area c.in_ok-records.ensures.found

@@ -23,6 +23,7 @@ loop-record-preserved c =
       area = first.later;
       half = half_more c.args.area.now c.loop-record.rest.now c.in-Some.behind.now _ _ (slot_at c.loop-record.rest.now) c.loop-record.invariant.half first.slots
           (c.in_ok-add.ensures.added (slot_at c.loop-record.rest.now) first.shown);
+      here = c.in_ok-add.ensures.here c.loop-record.invariant.here;
     }
 
 pub returns-clause-found : goal.returns-clause-found

@@ -1,5 +1,6 @@
-use Rattle.std.proofs.Common.{length}
+use Rattle.std.proofs.Common.{◌≡◌, length}
 use Rattle.std.specs.Prelude.{map}
+use Rattle.std.specs.List.{All}
 use Rattle.gfs2_layout.specs.Area.{IsArea}
 use Rattle.image_mount.specs.Listing.{said}
 use Rattle.image_mount.proofs.Areas.{IsHalf}
@@ -9,6 +10,7 @@ abbrev pub invariant-loop-record : goal.invariant-loop-record
 invariant-loop-record l = record {
   area : IsArea l.rest;
   half : IsHalf l.area l.rest (map said l.records.items);
+  here : All (λ n. n.block ≡ l.block) l.records.items;
 }
 
 abbrev pub decreases-loop-record : goal.decreases-loop-record

@@ -2,7 +2,7 @@ use Rattle.std.proofs.Common.{◌≡◌, true, sym, ap, subst, refl, ◌∙◌, 
 use Rattle.std.specs.Prelude.{codes, map}
 use Rattle.gfs2_layout.specs.Inode.{dinode_in}
 use Rattle.gfs2_layout.specs.Structures.{is_directory}
-use Rattle.image_model.specs.Claims.{every}
+use Rattle.image_model.specs.Claims.{every, master_of}
 use Rattle.image_model.specs.Owners.{Named}
 use Rattle.image_model.specs.Rules.{HasRecordIn, HasRecords}
 use Rattle.image_mount.specs.Listing.{said, AreRecordsOf}
@@ -13,48 +13,54 @@ use Rattle.image_mount.proofs.Causes.{told_outside}
 use Rattle.image_mount.proofs.Numbered.{journals_of}
 use Rattle.image_mount.proofs.Records.{has_records}
 use Rattle.image_mount.proofs.Stops.{passed, stopped}
-use Rattle.image_mount.proofs.SystemFiles.{directory_in, not_directory}
+use Rattle.image_mount.proofs.SystemFiles.{directory_in, hashed_jindex, not_directory}
 use Rattle.image_mount.proofs.system.list_journals.Goals as goal
 
 pub returns-in_err-check_record-clause-stops : goal.returns-in_err-check_record-clause-stops
-returns-in_err-check_record-clause-stops c im l read groups at named =
+returns-in_err-check_record-clause-stops c im l read groups at same named =
     let inode = c.in_ok-inode.inode in
     let dinode : inode.dinode ≡ dinode_in (every im inode.block) = c.in_ok-inode.ensures.found im read ∙ ap (λ a. dinode_in (every im a)) (sym c.in_ok-inode.ensures.block) in
     stopped im _ _ c.from_residual-in_err-check_record.ensures.1
-    (c.in_err-check_record.ensures.refused im c.args.master named.row dinode groups.list.master.format (subst (λ x. HasRecordIn im c.args.master x named.row) (sym c.in_ok-inode.ensures.from) named.there) named.is)
+    (c.in_err-check_record.ensures.refused im (master_of im) named.row dinode groups.list.master.format (subst (λ x. HasRecordIn im (master_of im) x named.row) (sym c.in_ok-inode.ensures.from) named.there) named.is)
 
 pub returns-then-not-is_directory-clause-stops : goal.returns-then-not-is_directory-clause-stops
-returns-then-not-is_directory-clause-stops c im l read groups at named =
+returns-then-not-is_directory-clause-stops c im l read groups at same named =
     let dinode = c.in_ok-inode.ensures.found im read ∙ ap (λ a. dinode_in (every im a)) (sym at) in
     told_outside im _ field.Journals 0 c.outside.ensures (outside.no_journals l groups (not_directory im l.jindex c.in_ok-inode.inode.dinode c.is_directory.result dinode c.is_directory.ensures c.if-not-is_directory.true))
 
+pub returns-then-is_hashed-clause-stops : goal.returns-then-is_hashed-clause-stops
+returns-then-is_hashed-clause-stops c im l read groups at same named =
+    let inode = c.in_ok-inode.inode in
+    let dinode : inode.dinode ≡ dinode_in (every im inode.block) = c.in_ok-inode.ensures.found im read ∙ ap (λ a. dinode_in (every im a)) (sym c.in_ok-inode.ensures.block) in
+    hashed_jindex im inode c.args.jindex.now groups.list.master.format named c.in_ok-inode.ensures.block dinode (sym c.is_hashed.ensures ∙ c.if-is_hashed.true)
+
 pub returns-in_err-records-clause-stops : goal.returns-in_err-records-clause-stops
-returns-in_err-records-clause-stops c im l read groups at named =
+returns-in_err-records-clause-stops c im l read groups at same named =
     let inode = c.in_ok-inode.inode in
     let yes : is_directory inode.dinode ≡ true = sym c.is_directory.ensures ∙ grind (arith, c.if-not-is_directory.false) in
     passed im _ _ c.from_residual-in_err-records.ensures.1
     (c.in_err-records.ensures.stops im read
-    (directory_in im inode c.args.master c.args.jindex.now.addr c.args.master (Named c.args.master (codes "jindex")) groups.list.master.format named.claimed refl c.in_ok-inode.ensures.block c.in_ok-inode.ensures.from
-    (c.in_ok-inode.ensures.found im read) yes refl))
+    (directory_in im inode c.args.jindex.now.from c.args.jindex.now.entry.addr c.args.master (Named (master_of im) (codes "jindex")) groups.list.master.format named.claimed refl c.in_ok-inode.ensures.block c.in_ok-inode.ensures.from
+    (c.in_ok-inode.ensures.found im read) yes same))
 
 pub returns-in_err-journals-clause-stops : goal.returns-in_err-journals-clause-stops
-returns-in_err-journals-clause-stops c im l read groups at named =
+returns-in_err-journals-clause-stops c im l read groups at same named =
     let inode = c.in_ok-inode.inode in
     let yes : is_directory inode.dinode ≡ true = sym c.is_directory.ensures ∙ grind (arith, c.if-not-is_directory.false) in
-    let directory = directory_in im inode c.args.master c.args.jindex.now.addr c.args.master (Named c.args.master (codes "jindex")) groups.list.master.format named.claimed refl c.in_ok-inode.ensures.block
-    c.in_ok-inode.ensures.from (c.in_ok-inode.ensures.found im read) yes refl in
+    let directory = directory_in im inode c.args.jindex.now.from c.args.jindex.now.entry.addr c.args.master (Named (master_of im) (codes "jindex")) groups.list.master.format named.claimed refl c.in_ok-inode.ensures.block
+    c.in_ok-inode.ensures.from (c.in_ok-inode.ensures.found im read) yes same in
     let are : AreRecordsOf im inode.block (map said c.in_ok-records.records.items) = c.in_ok-records.ensures.found im read directory in
     let has = subst (λ a. HasRecords im a (map said c.in_ok-records.records.items)) (c.in_ok-inode.ensures.block ∙ sym at) (has_records im inode.block c.in_ok-records.records.items are) in
     stopped im _ _ c.from_residual-in_err-journals.ensures.1
     (c.in_err-journals.ensures.refused im l groups (subst (λ xs. HasRecords im l.jindex (map said xs)) (sym c.deref.ensures.value) has))
 
 pub returns-clause-found : goal.returns-clause-found
-returns-clause-found c im l read groups at named =
+returns-clause-found c im l read groups at same named =
     let inode = c.in_ok-inode.inode in
     let yes : is_directory inode.dinode ≡ true = sym c.is_directory.ensures ∙ grind (arith, c.if-not-is_directory.false) in
-    let directory = directory_in im inode c.args.master c.args.jindex.now.addr c.args.master (Named c.args.master (codes "jindex")) groups.list.master.format named.claimed refl c.in_ok-inode.ensures.block
-    c.in_ok-inode.ensures.from (c.in_ok-inode.ensures.found im read) yes refl in
+    let directory = directory_in im inode c.args.jindex.now.from c.args.jindex.now.entry.addr c.args.master (Named (master_of im) (codes "jindex")) groups.list.master.format named.claimed refl c.in_ok-inode.ensures.block
+    c.in_ok-inode.ensures.from (c.in_ok-inode.ensures.found im read) yes same in
     let items = c.in_ok-records.records.items in
     let are : AreRecordsOf im inode.block (map said items) = c.in_ok-records.ensures.found im read directory in
     let among = subst (λ xs. AreJournalsAmong xs c.in_ok-journals.journals.items) c.deref.ensures.value c.in_ok-journals.ensures.found in
-    subst (λ a. AreJournalsOf im a c.in_ok-journals.journals.items) c.in_ok-inode.ensures.block (journals_of im inode.block items c.in_ok-journals.journals.items are c.in_ok-records.ensures.distinct among)
+    subst (λ a. AreJournalsOf im a c.in_ok-journals.journals.items) c.in_ok-inode.ensures.block (journals_of im inode.block items c.in_ok-journals.journals.items are c.in_ok-records.ensures.here c.in_ok-records.ensures.distinct among)

@@ -1,0 +1,104 @@
+-- What the table and the leaves of a hashed directory break, as mounting finds it.
+use Rattle.std.proofs.Common.{◌≡◌, ◌≢◌, ℕ, ◌+◌, ◌-◌, ◌*◌, ◌/◌, ◌^◌, ◌<◌, ◌≤◌, true, List, length, drop, get_or, Result, Some, Ok, sym, ap, subst, ◌∙◌, arith}
+use Rattle.std.specs.Prelude.{map, Contains, slice_get}
+use Rattle.std.proofs.Math.Pow.{pow_mono}
+use Rattle.std.proofs.lemmas.List.{length-map}
+use Rattle.std.proofs.lemmas.Option.{slice_get_within, get_or_from_slice_get}
+use Rattle.crc_words.specs.Remainder.{crc32_of}
+use Rattle.gfs2_layout.specs.Bytes.{u32_at}
+use Rattle.gfs2_layout.specs.Headers.{HasHeader}
+use Rattle.gfs2_layout.specs.Inode.{dinode_in, depth_in, is_directory_in, leaf_in, leaf_area}
+use Rattle.gfs2_layout.specs.Records.{Record, records_in}
+use Rattle.gfs2_layout.specs.Structures.{leaf_of, leaf_read}
+use Rattle.gfs2_layout.specs.declared.dinode.Dinode.{Dinode}
+use Rattle.gfs2_layout.specs.declared.fault.LayoutFault.{LayoutFault}
+use Rattle.gfs2_layout.specs.declared.leaf.Leaf.{Leaf}
+use Rattle.image_model.specs.Claims.{every, Claims, HasLeaf, HasDirectory}
+use Rattle.image_model.specs.Image.{Image}
+use Rattle.image_model.specs.Owners.{Chained}
+use Rattle.image_model.specs.Rules.{IsHashedAt, table_too_small, table_too_large, table_size, records_format, leaf_too_deep, leaf_hash, leaf_entries, chain_depth, no_header, of_leaf as needs_leaf}
+use Rattle.image_model.proofs.LeafFaults.{leaf_well}
+use Rattle.image_mount.specs.Found.{HasFormat}
+use Rattle.image_mount.specs.Leaves.{IsLeafIn}
+use Rattle.image_mount.specs.Listing.{said, is_hashed_by}
+use Rattle.image_mount.specs.Refusals.{RefusesRightly}
+use Rattle.image_mount.specs.declared.fault.MountFault.{MountFault}
+use Rattle.image_mount.specs.declared.fault.MountFault.TheVariants as fault
+use Rattle.image_mount.specs.declared.leaf.LeafAt.{LeafAt}
+use Rattle.image_mount.specs.declared.listing.Named.{Named}
+use Rattle.image_mount.proofs.Causes.{told, hashed_as}
+use Rattle.image_mount.proofs.Twice.{at_said}
+use Rattle.image_mount.proofs.Names.{at_contains}
+
+-- ---- the table
+
+pub hashed_at : (im : Image) (a : ℕ) (d : Dinode) → d ≡ dinode_in (every im a) → HasDirectory im a → is_hashed_by d ≡ true → IsHashedAt im a
+hashed_at im a d read directory hashed = (directory.inode, hashed_as im a d true read hashed)
+
+module _ (im : Image) (f : MountFault) (a size : ℕ) (d : Dinode) (is : f ≡ fault.Damaged a 13) (read : d ≡ dinode_in (every im a)) (of : size ≡ im.size) (format : HasFormat im) (hashed : IsHashedAt im a) where
+  pub table_large : 8 * size < 2 ^ d.depth → RefusesRightly im f
+  table_large high =
+      let here : 8 * im.size < 2 ^ d.depth = subst (λ s. 8 * s < 2 ^ d.depth) of high in
+      told im f a 13 is format (table_too_large a hashed (subst (λ (x : Dinode). 8 * im.size < 2 ^ x.depth) read here))
+
+  pub table_deep : size ≤ 4096 → 15 < d.depth → RefusesRightly im f
+  table_deep most deep =
+      let p : 2 ^ 16 ≤ 2 ^ d.depth = pow_mono {i = 16} {j = d.depth} (omega (arith, deep)) in
+      table_large (omega (arith, p, most))
+
+  pub table_small : (count : ℕ) → count ≡ 2 ^ d.depth → count < size / 16 → RefusesRightly im f
+  table_small count counted low =
+      let here : 2 ^ d.depth < im.size / 16 = subst (λ n. n < im.size / 16) counted (subst (λ s. count < s / 16) of low) in
+      told im f a 13 is format (table_too_small a hashed (subst (λ (x : Dinode). 2 ^ x.depth < im.size / 16) read here))
+
+  pub table_misfit : (count : ℕ) → count ≡ 2 ^ d.depth → d.size ≢ 8 * count → RefusesRightly im f
+  table_misfit count counted other =
+      let here : d.size ≢ 8 * 2 ^ d.depth = subst (λ n. d.size ≢ 8 * n) counted other in
+      told im f a 13 is format (table_size a hashed (subst (λ (x : Dinode). x.size ≢ 8 * 2 ^ x.depth) read here))
+
+-- ---- the head of a leaf
+
+module _ (im : Image) (f : MountFault) (a x : ℕ) (format : HasFormat im) (leaf : HasLeaf im a x) where
+  pub leaf_header : f ≡ fault.Damaged x 1 → ¬ (HasHeader 6 600 (im.at x)) → RefusesRightly im f
+  leaf_header is lacks = told im f x 1 is format (no_header x 6 600 (needs_leaf a x leaf) lacks)
+
+  pub leaf_format : (bytes : List ℕ) → f ≡ fault.Damaged x 14 → im.at x ≡ bytes → 104 ≤ length bytes → HasHeader 6 600 bytes → ((l : Leaf) → leaf_read bytes ≡ Ok l → ⊥) → RefusesRightly im f
+  leaf_format bytes is same long header fails =
+      told im f x 14 is format (records_format a x leaf (λ e. fails (leaf_of bytes) (leaf_well bytes long header (ap (u32_at 28) (sym same) ∙ e))))
+
+  pub leaf_deep : (depth : ℕ) (head : Leaf) → f ≡ fault.Damaged x 14 → head ≡ leaf_of (im.at x) → depth ≡ depth_in (every im a) → depth < head.depth → RefusesRightly im f
+  leaf_deep depth head is read deep_is deep =
+      told im f x 14 is format (leaf_too_deep a x leaf (omega (arith, deep, deep_is, ap (λ (l : Leaf). l.depth) read)))
+
+-- a leaf that was come to is one of the directory
+pub leaf_there : (im : Image) (a : ℕ) (at : LeafAt) → IsLeafIn im a at → HasLeaf im a at.block
+leaf_there im a at is = (is.claimed.0, at.hash, at.place, is.claimed.1)
+
+-- the next of a chain is another one's depth
+pub depth_differs : (im : Image) (a : ℕ) (tail : LeafAt) (head : Leaf) (f : MountFault) → HasFormat im → IsLeafIn im a tail → tail.head.next ≢ 0 → f ≡ fault.Damaged tail.head.next 14 → head ≡ leaf_of (im.at tail.head.next)
+    → head.depth ≢ tail.head.depth → RefusesRightly im f
+depth_differs im a tail head f format is more told_at read other =
+    let next : tail.head.next ≡ (leaf_in (every im a) tail.block).next = ap (λ (l : Leaf). l.next) is.head in
+    let there : head ≡ leaf_in (every im a) (leaf_in (every im a) tail.block).next = read ∙ ap (λ n. leaf_of (im.at n)) next in
+    told im f (leaf_in (every im a) tail.block).next 14 (told_at ∙ ap (λ n. fault.Damaged n 14) next) format
+    (chain_depth a tail.block (leaf_there im a tail is) (λ e. more (next ∙ e)) (λ e. other (ap (λ (l : Leaf). l.depth) there ∙ e ∙ sym (ap (λ (l : Leaf). l.depth) is.head))))
+
+-- ---- the records of a leaf
+
+pub wrong_count : (im : Image) (a : ℕ) (at : LeafAt) (f : MountFault) (records : List Named) (entries : ℕ) → HasFormat im → IsLeafIn im a at → f ≡ fault.Damaged at.block 14 → entries ≡ at.head.entries
+    → map said records ≡ records_in (drop 104 (im.at at.block)) → length records ≢ entries → RefusesRightly im f
+wrong_count im a at f records entries format is told_at entries_is read other =
+    told im f at.block 14 told_at format
+    (leaf_entries a at.block (leaf_there im a at is) (λ e. other (sym (length-map records said) ∙ ap length read ∙ sym e ∙ sym (ap (λ (l : Leaf). l.entries) is.head) ∙ sym entries_is)))
+
+pub wrong_hash : (im : Image) (a : ℕ) (at : LeafAt) (f : MountFault) (records : List Named) (k shift crc : ℕ) (d : Named) (name : List ℕ) → HasFormat im → IsLeafIn im a at → f ≡ fault.Damaged at.block 14
+    → map said records ≡ records_in (drop 104 (im.at at.block)) → k < length records → name ≡ (get_or records k d).name.now → crc ≡ crc32_of name → shift ≡ 32 - at.head.depth
+    → crc / 2 ^ shift ≢ at.hash / 2 ^ shift → RefusesRightly im f
+wrong_hash im a at f records k shift crc d name format is told_at read low name_is crc_is shifted other =
+    let r = said (get_or records k d) in
+    let there = at_contains (records_in (drop 104 (im.at at.block))) k r (ap (λ l. slice_get l k) (sym read) ∙ at_said records k d low) in
+    let depth : shift ≡ 32 - (leaf_in (every im a) at.block).depth = shifted ∙ ap (λ (l : Leaf). 32 - l.depth) is.head in
+    let hash : crc ≡ crc32_of r.name = crc_is ∙ ap crc32_of name_is in
+    let wrong : crc32_of r.name / 2 ^ (32 - (leaf_in (every im a) at.block).depth) ≢ at.hash / 2 ^ (32 - (leaf_in (every im a) at.block).depth)
+    = subst (λ s. crc32_of r.name / 2 ^ s ≢ at.hash / 2 ^ s) depth (subst (λ n. n / 2 ^ shift ≢ at.hash / 2 ^ shift) hash other) in
+    told im f at.block 14 told_at format (leaf_hash a at.block is.claimed.0 at.hash at.place r is.claimed.1 there wrong)

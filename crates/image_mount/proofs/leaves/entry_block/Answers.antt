@@ -1,0 +1,44 @@
+use Rattle.std.proofs.Common.{rules, ℕ, ◌≡◌, ◌≢◌, ◌⊎◌, ◌+◌, ◌-◌, ◌*◌, ◌/◌, ◌^◌, ◌<◌, ◌≤◌, ◌++◌, true, false, drop, length, map, vec_len, slice_get, is_some, None, Some, IfOk, OnOk, IfErr, IfSome, IfNone, ◌%◌, Bool, nat_eq, nat_lt, List, [], ◌∷◌, slice_index_or, slice_set, bit_and, bit_or, Fits, w8, w32, w64, Bor, MutBor}
+use Rattle.std.specs.Prelude.{⊤}
+use Rattle.std.specs.List.{All}
+use Rattle.gfs2_layout.specs.Inode.{depth_in}
+use Rattle.gfs2_layout.specs.Inode.{entry_block as block_of_entry}
+use Rattle.gfs2_layout.specs.Inode.{is_hashed_in}
+use Rattle.gfs2_layout.specs.Records.{records_in, Record}
+use Rattle.gfs2_layout.specs.Structures.{leaf_of}
+use Rattle.image_model.specs.Claims.{every, Claims, master_of}
+use Rattle.image_model.specs.Image.{Image}
+use Rattle.image_model.specs.Owners.{Chained}
+use Rattle.image_model.specs.Rules.{HasRecordIn}
+use Rattle.image_mount.specs.Found.{HasFormat, is_other}
+use Rattle.image_mount.specs.Found.{first_other as first_other_in}
+use Rattle.image_mount.specs.Leaves.{IsMasterIn, IsTableOf, IsLeafIn, IsFirstTold, IsNextLeaf, IsWalked, ComesNext, HasEnded, steps_left}
+use Rattle.image_mount.specs.Listing.{said, standing, AreDistinct}
+use Rattle.image_mount.specs.Refusals.{RefusesRightly}
+use Rattle.image_mount.specs.Searching.{IsRead, IsSteady, StopsRightly, LacksBlock}
+use Rattle.image_mount.specs.Table.{seen_of}
+use Rattle.image_mount.proofs.leaves.entry_block.Goals as goal
+
+-- src/leaves.rt:58:5
+pub returns-in_err-get-clause-stops : goal.returns-in_err-get-clause-stops
+returns-in_err-get-clause-stops c = ?
+
+-- src/leaves.rt:60:11
+pub returns-in_err-block-clause-stops : goal.returns-in_err-block-clause-stops
+returns-in_err-block-clause-stops c = ?
+
+-- src/leaves.rt:48:1
+pub returns-in-Is-Some-clause-found : goal.returns-in-Is-Some-clause-found
+returns-in-Is-Some-clause-found c = ?
+
+-- src/leaves.rt:48:1
+pub returns-in-Is-None-clause-found : goal.returns-in-Is-None-clause-found
+returns-in-Is-None-clause-found c = ?
+
+-- src/leaves.rt:48:1
+pub returns-in-NeedBlock-clause-stops : goal.returns-in-NeedBlock-clause-stops
+returns-in-NeedBlock-clause-stops c = ?
+
+-- src/leaves.rt:48:1
+pub returns-in-NeedBlock-clause-lacks : goal.returns-in-NeedBlock-clause-lacks
+returns-in-NeedBlock-clause-lacks c = ?

@@ -1,0 +1,18 @@
+use Rattle.std.proofs.Common.{ℕ, ◌≡◌, ◌≤◌, ◌^◌, [], true, map, vec_len, IsTrue, OnOk, IfOk, IfErr, ◌+◌, ◌-◌, ◌*◌, ◌<◌, length}
+use Rattle.gfs2_layout.specs.Inode.{dinode_in, is_hashed_in}
+use Rattle.image_model.specs.Claims.{every, master_of}
+use Rattle.image_model.specs.Image.{Image, image_of}
+use Rattle.image_mount.specs.Found.{HasFormat, most_blocks}
+use Rattle.image_mount.specs.Leaves.{IsMasterIn, IsTableOf, IsWalked, HasEnded}
+use Rattle.image_mount.specs.Listing.{said, AreAllRecords, AreCountedIn}
+use Rattle.image_mount.specs.Refusals.{HasRisen, RefusesRightly}
+use Rattle.image_mount.specs.Rings.{IsSearched}
+use Rattle.image_mount.specs.Searching.{IsRead, IsSteady, IsWorking, LacksBlock, StopsRightly}
+use Rattle.image_mount.specs.System.{IsMasterOf, ArePlainRecords}
+use Rattle.image_mount.proofs.master.walk_leaves.Given as goal
+
+abbrev pub invariant-loop-at : goal.invariant-loop-at
+invariant-loop-at g l = ?
+
+abbrev pub decreases-loop-at : goal.decreases-loop-at
+decreases-loop-at g l = ?

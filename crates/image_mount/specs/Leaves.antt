@@ -1,0 +1,145 @@
+-- The walk over the leaves of a hashed directory, as the code has it.
+use Rattle.std.specs.Prelude.{ℕ, ◌≡◌, ◌≢◌, ◌⊎◌, ◌+◌, ◌-◌, ◌*◌, ◌^◌, ◌<◌, ◌≤◌, Bool, true, false, List, length, map, flat_map, Contains, Option, None, Some, IfSome, slice_get}
+use Rattle.std.specs.List.Sorted.{IsStrictlyIncreasing}
+use Rattle.gfs2_layout.specs.Device.{superblock_place}
+use Rattle.gfs2_layout.specs.Holding.{Holding}
+use Rattle.gfs2_layout.specs.Inode.{dinode_in, is_directory_in, is_hashed_in, content_of, depth_in, table_count, entry, first_hash, leaf_in, leaf_area, Fits}
+use Rattle.gfs2_layout.specs.Records.{Record, records_in}
+use Rattle.image_model.specs.Claims.{every, Claims, HasDirectory, master_of}
+use Rattle.image_model.specs.Image.{Image}
+use Rattle.image_model.specs.Leaves.{HasClaim, AreChained, leaf_records}
+use Rattle.image_model.specs.Owners.{Chained}
+use Rattle.image_model.specs.Owning.{AreClaims}
+use Rattle.image_model.specs.Rules.{HasRecordIn, IsHashedAt}
+use Rattle.image_model.specs.Stands.{directory_count}
+use Rattle.image_model.specs.declared.hash_table.HashTable.{HashTable}
+use Rattle.image_model.specs.declared.owners.Claim.{Claim}
+use Rattle.image_mount.specs.Found.{HasFormat, IsInChain, ComesBefore, is_other, first_other}
+use Rattle.image_mount.specs.Listing.{said, AreDistinct}
+use Rattle.image_mount.specs.declared.inodes.Inode.{Inode}
+use Rattle.image_mount.specs.declared.leaf.LeafAt.{LeafAt}
+use Rattle.image_mount.specs.declared.leaf.LeafWalk.{LeafWalk}
+use Rattle.image_mount.specs.declared.listing.Named.{Named}
+
+-- the inode is the master directory's, and keeps the rules of its dinode
+pub record IsMasterIn (im : Image) (inode : Inode) : Type 0 where
+  pub format : HasFormat im
+  pub block : inode.block ≡ master_of im
+  pub from : inode.from ≡ superblock_place im.size
+  pub dinode : inode.dinode ≡ dinode_in (every im inode.block)
+  pub fits : Fits (every im inode.block)
+  pub directory : is_directory_in (every im inode.block) ≡ true
+
+-- the master directory is a hashed one, and this is its table
+pub record IsTableOf (im : Image) (inode : Inode) (table : HashTable) : Type 0 where
+  pub master : IsMasterIn im inode
+  pub hashed : is_hashed_in (every im inode.block) ≡ true
+  pub depth : table.depth ≡ depth_in (every im inode.block)
+  pub content : table.bytes.items ≡ content_of (every im inode.block)
+  pub size : (dinode_in (every im inode.block)).size ≡ 8 * 2 ^ table.depth
+
+-- ---- a leaf
+
+-- the directory in block a has this leaf, at its place in the chain of a pointer; the pointers from that one to `behind` lead to the chain
+pub record IsLeafIn (im : Image) (a : ℕ) (at : LeafAt) : Type 0 where
+  pub head : at.head ≡ leaf_in (every im a) at.block
+  pub claimed : (by : ℕ) × Claims im by at.block (Chained a at.hash at.place)
+  pub chain : IsInChain (every im a) at.pointer at.place at.block
+  pub hash : at.hash ≡ first_hash (every im a) at.pointer
+  pub some : at.pointer < at.behind
+  pub within : at.behind ≤ table_count (every im a)
+  pub run : (j : ℕ) → at.pointer ≤ j → j < at.behind → (entry (every im a) j ≡ entry (every im a) at.pointer) × (first_hash (every im a) j ≡ at.hash)
+
+-- ---- the walk
+
+-- what a walk came to in a chain of the table, where this leaf is open, whose next isn't looked for yet, and the pointer is the next
+abbrev pub IsPassed : Option LeafAt → ℕ → ℕ → ℕ → Type 0
+IsPassed None index j place = j < index
+IsPassed (Some at) index j place = ComesBefore j place at.pointer (at.place + 1)
+
+abbrev pub block_of : Option LeafAt → Option ℕ
+block_of None = None
+block_of (Some at) = Some at.block
+
+-- each record of the leaf is among these
+abbrev pub IsListed : Image → ℕ → ℕ → List Named → Type 0
+IsListed im a x records = (r : Record) → Contains (leaf_records (every im a) x) r → (k : ℕ) × ((n : Named) × (slice_get records k ≡ Some n) × (said n ≡ r) × (n.block ≡ x))
+
+-- the leaves that are claimed are these, in rising order, and they have as many records, and directories among them
+pub record AreLeavesOf (im : Image) (a : ℕ) (entries : List (Option Claim)) (records : List Record) : Type 0 where
+  pub leaves : List ℕ
+  pub rise : IsStrictlyIncreasing leaves
+  pub only : (x : ℕ) → Contains leaves x → (hash place : ℕ) × HasClaim entries x (Chained a hash place)
+  pub all : (x hash place : ℕ) → HasClaim entries x (Chained a hash place) → Contains leaves x
+  pub count : length (flat_map (leaf_records (every im a)) leaves) ≡ length records
+  pub directories : directory_count (flat_map (leaf_records (every im a)) leaves) ≡ directory_count records
+
+-- a record that was found stands in a leaf that is claimed
+pub record IsFoundIn (im : Image) (a : ℕ) (entries : List (Option Claim)) (n : Named) : Type 0 where
+  pub stands : HasRecordIn im a n.block (said n)
+  pub leaf : (hash place : ℕ) × HasClaim entries n.block (Chained a hash place)
+  pub plain : is_other (said n) ≡ false
+
+-- the leaf is open: it is claimed, and its next isn't looked for yet
+pub record IsOpen (im : Image) (a : ℕ) (walk : LeafWalk) (at : LeafAt) : Type 0 where
+  pub is : IsLeafIn im a at
+  pub claimed : HasClaim walk.owners.entries.items at.block (Chained a at.hash at.place)
+
+-- how far a walk over the leaves of the directory in block a has come
+pub record IsWalked (im : Image) (a : ℕ) (walk : LeafWalk) : Type 0 where
+  pub claims : AreClaims im walk.owners.entries.items
+  pub within : walk.index ≤ table_count (every im a)
+  pub headed : (j : ℕ) → j < walk.index → HasClaim walk.owners.entries.items (entry (every im a) j) (Chained a (first_hash (every im a) j) 0)
+  pub chained : AreChained (every im a) walk.owners.entries.items (block_of walk.tail)
+  pub opened : IfSome walk.tail (IsOpen im a walk)
+  pub passed : (j place y : ℕ) → IsPassed walk.tail walk.index j place → IsInChain (every im a) j place y → HasClaim walk.owners.entries.items y (Chained a (first_hash (every im a) j) place)
+  pub listed : (x hash place : ℕ) → HasClaim walk.owners.entries.items x (Chained a hash place) → IsListed im a x walk.records.items
+  pub found : (k : ℕ) (n : Named) → slice_get walk.records.items k ≡ Some n → IsFoundIn im a walk.owners.entries.items n
+  pub distinct : AreDistinct (map said walk.records.items)
+  pub leaves : AreLeavesOf im a walk.owners.entries.items (map said walk.records.items)
+
+-- no leaf is open that has a next
+abbrev pub IsClosed : Option LeafAt → Type 0
+IsClosed None = Unit {0}
+IsClosed (Some at) = at.head.next ≡ 0
+
+-- the leaf behind that which is open
+pub record IsBehind (tail at : LeafAt) : Type 0 where
+  pub more : tail.head.next ≢ 0
+  pub block : at.block ≡ tail.head.next
+  pub hash : at.hash ≡ tail.hash
+  pub place : at.place ≡ tail.place + 1
+  pub pointer : at.pointer ≡ tail.pointer
+  pub behind : at.behind ≡ tail.behind
+
+-- the leaf to which a walk comes next: behind that which is open, or the first of the next pointer's chain
+abbrev pub ComesNext : LeafWalk → LeafAt → Type 0
+ComesNext walk at =
+    ((tail : LeafAt) × (walk.tail ≡ Some tail) × IsBehind tail at) ⊎ (IsClosed walk.tail × (at.pointer ≡ walk.index) × (at.place ≡ 0))
+
+-- each record that comes before those of this leaf is a system file's, or leads nowhere on
+pub record IsFirstTold (im : Image) (at : LeafAt) : Type 0 where
+  pub format : HasFormat im
+  pub hashed : IsHashedAt im (master_of im)
+  pub leaf : IsLeafIn im (master_of im) at
+  pub before : (j earlier y : ℕ) → ComesBefore j earlier at.pointer at.place → IsInChain (every im (master_of im)) j earlier y → first_other (leaf_records (every im (master_of im)) y) ≡ None
+
+-- the leaf comes next in a walk over the master directory
+pub record IsNextLeaf (im : Image) (walk : LeafWalk) (at : LeafAt) : Type 0 where
+  pub format : HasFormat im
+  pub hashed : IsHashedAt im (master_of im)
+  pub leaf : IsLeafIn im (master_of im) at
+  pub next : ComesNext walk at
+  pub walked : IsWalked im (master_of im) walk
+
+-- the walk is at its end
+abbrev pub HasEnded : LeafWalk → ℕ → Type 0
+HasEnded walk count = IsClosed walk.tail × (walk.index ≡ count)
+
+abbrev pub one_if_open : Option LeafAt → ℕ
+one_if_open None = 0
+one_if_open (Some at) = 1
+
+-- how many steps a walk has at most before it, over a table of so many pointers
+abbrev pub steps_left : LeafWalk → ℕ → ℕ
+steps_left walk count = 2 * walk.owners.free + (count - walk.index) + one_if_open walk.tail

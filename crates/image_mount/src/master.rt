@@ -1,0 +1,170 @@
+ghost use Rattle.std.specs.Prelude.{ℕ, ◌≡◌, ◌≤◌, ◌^◌, [], true, map, vec_len, IsTrue, OnOk, IfOk, IfErr};
+ghost use Rattle.gfs2_layout.specs.Inode.{dinode_in, is_hashed_in};
+ghost use Rattle.image_model.specs.Claims.{every, master_of};
+ghost use Rattle.image_model.specs.Image.{Image, image_of};
+ghost use Rattle.image_mount.specs.Found.{HasFormat, most_blocks};
+ghost use Rattle.image_mount.specs.Leaves.{IsMasterIn, IsTableOf, IsWalked, HasEnded};
+ghost use Rattle.image_mount.specs.Listing.{said, AreAllRecords, AreCountedIn};
+ghost use Rattle.image_mount.specs.Refusals.{HasRisen, RefusesRightly};
+ghost use Rattle.image_mount.specs.Rings.{IsSearched};
+ghost use Rattle.image_mount.specs.Searching.{IsRead, IsSteady, IsWorking, LacksBlock, StopsRightly};
+ghost use Rattle.image_mount.specs.System.{IsMasterOf, ArePlainRecords};
+
+use crate::fault::MountFault;
+use crate::fetching::go_on;
+use crate::formats::{read_superblock, superblock_place};
+use crate::inodes::Inode;
+use crate::leaf::LeafWalk;
+use crate::leaves::read_pointers;
+use crate::listing::{Named, check_counts, check_dot};
+use crate::stop::{Stop, damaged};
+use crate::table::Table;
+use gfs2_layout::SuperBlock;
+use glock_names::View;
+use image_model::HashTable;
+use shared_disk::SharedDisk;
+use std::alloc::Global;
+
+/// The superblock, and the inode of the master directory.
+#[derive(Clone, Copy)]
+pub(crate) struct Master {
+    pub superblock: SuperBlock,
+    pub inode: Inode,
+}
+
+fn find_master(table: &Table) -> Result<Master, Stop>
+    ensures found { (im : Image) → IsRead im table.now → im.count ≤ most_blocks → IfOk result (IsMasterOf im) }
+    ensures stops { (im : Image) → IsRead im table.now → im.count ≤ most_blocks → IfErr result (StopsRightly im) }
+    ensures lacks { IfErr result (LacksBlock table.now) }
+{
+    let superblock = read_superblock(table)?;
+    let place = superblock_place(table.block_size());
+    let inode = Inode::read(table, place, superblock.master.address)?;
+    if !inode.dinode.is_directory() {
+        return Err(Stop::Refused(damaged(inode.block, 18)));
+    }
+    Ok(Master { superblock, inode })
+}
+
+/// The superblock, and the inode of the master directory; their blocks are read.
+pub(crate) fn search_master<D: SharedDisk>(
+    alloc: Global,
+    disk: &mut D,
+    table: &mut Table,
+) -> Result<Master, MountFault>
+    requires work { IsWorking (D.state disk.old) table.old }
+    ensures work { OnOk result (IsWorking (D.state disk.new) table.new) }
+    ensures found { IfOk result (λ master. IsTrue (D.state disk.old).tells → (D.state disk.old).count ≤ most_blocks → IsSearched (image_of (D.state disk.old)) [] 0 0 table.old → IsMasterOf (image_of (D.state disk.old)) master) }
+    ensures searched { OnOk result (IsTrue (D.state disk.old).tells → (D.state disk.old).count ≤ most_blocks → IsSearched (image_of (D.state disk.old)) [] 0 0 table.old → IsSearched (image_of (D.state disk.old)) [] 0 0 table.new) }
+    ensures refused { IsTrue (D.state disk.old).tells → (D.state disk.old).count ≤ most_blocks → IsSearched (image_of (D.state disk.old)) [] 0 0 table.old → IfErr result (RefusesRightly (image_of (D.state disk.old))) }
+    ensures risen { IfErr result (HasRisen (D.faults disk.old) (D.faults disk.new)) }
+    ensures same { D.state disk.new ≡ D.state disk.old }
+    ensures list { D.list disk.new ≡ D.list disk.old }
+    ensures later { (j : ℕ) → D.faults disk.old j ≤ D.faults disk.new j }
+{
+    loop {
+        match find_master(table) {
+            Ok(master) => return Ok(master),
+            Err(stop) => go_on(alloc, disk, table, stop)?,
+        }
+    }
+}
+
+// The table of the master directory, which is a hashed one; its blocks are read, each as it is wanted.
+fn search_pointers<D: SharedDisk>(
+    alloc: Global,
+    disk: &mut D,
+    table: &mut Table,
+    inode: &Inode,
+) -> Result<HashTable, MountFault>
+    requires work { IsWorking (D.state disk.old) table.old }
+    ensures work { OnOk result (IsWorking (D.state disk.new) table.new) }
+    ensures found { IfOk result (λ pointers. IsTrue (D.state disk.old).tells → IsMasterIn (image_of (D.state disk.old)) inode.now → is_hashed_in (every (image_of (D.state disk.old)) inode.now.block) ≡ true → IsTableOf (image_of (D.state disk.old)) inode.now pointers) }
+    ensures searched { OnOk result (IsTrue (D.state disk.old).tells → IsMasterIn (image_of (D.state disk.old)) inode.now → is_hashed_in (every (image_of (D.state disk.old)) inode.now.block) ≡ true → IsSearched (image_of (D.state disk.old)) [] 0 0 table.old
+        → IsSearched (image_of (D.state disk.old)) [] 0 0 table.new) }
+    ensures refused { IsTrue (D.state disk.old).tells → IsMasterIn (image_of (D.state disk.old)) inode.now → is_hashed_in (every (image_of (D.state disk.old)) inode.now.block) ≡ true → IsSearched (image_of (D.state disk.old)) [] 0 0 table.old
+        → IfErr result (RefusesRightly (image_of (D.state disk.old))) }
+    ensures risen { IfErr result (HasRisen (D.faults disk.old) (D.faults disk.new)) }
+    ensures same { D.state disk.new ≡ D.state disk.old }
+    ensures list { D.list disk.new ≡ D.list disk.old }
+    ensures later { (j : ℕ) → D.faults disk.old j ≤ D.faults disk.new j }
+{
+    loop {
+        match read_pointers(alloc, table, inode) {
+            Ok(pointers) => return Ok(pointers),
+            Err(stop) => go_on(alloc, disk, table, stop)?,
+        }
+    }
+}
+
+// Goes over the leaves to which this table leads, each of which is read.
+fn walk_leaves<D: SharedDisk>(
+    alloc: Global,
+    disk: &mut D,
+    table: &mut Table,
+    inode: &Inode,
+    pointers: &HashTable,
+) -> Result<LeafWalk, MountFault>
+    requires work { IsWorking (D.state disk.old) table.old }
+    requires few { (D.state disk.old).count ≤ most_blocks }
+    ensures work { OnOk result (IsWorking (D.state disk.new) table.new) }
+    ensures found { IfOk result (λ walk. IsTrue (D.state disk.old).tells → IsTableOf (image_of (D.state disk.old)) inode.now pointers.now → IsWalked (image_of (D.state disk.old)) (master_of (image_of (D.state disk.old))) walk) }
+    ensures ended { IfOk result (λ walk. HasEnded walk (2 ^ pointers.now.depth)) }
+    ensures searched { OnOk result (IsTrue (D.state disk.old).tells → IsTableOf (image_of (D.state disk.old)) inode.now pointers.now → IsSearched (image_of (D.state disk.old)) [] 0 0 table.old → IsSearched (image_of (D.state disk.old)) [] 0 0 table.new) }
+    ensures refused { IsTrue (D.state disk.old).tells → IsTableOf (image_of (D.state disk.old)) inode.now pointers.now → IsSearched (image_of (D.state disk.old)) [] 0 0 table.old → IfErr result (RefusesRightly (image_of (D.state disk.old))) }
+    ensures risen { IfErr result (HasRisen (D.faults disk.old) (D.faults disk.new)) }
+    ensures same { D.state disk.new ≡ D.state disk.old }
+    ensures list { D.list disk.new ≡ D.list disk.old }
+    ensures later { (j : ℕ) → D.faults disk.old j ≤ D.faults disk.new j }
+{
+    let mut walk = LeafWalk::new(alloc, disk.blocks())?;
+    loop {
+        match walk.next(table, inode, pointers) {
+            Ok(Some(at)) => match table.block(at.block) {
+                Some(bytes) => walk.enter(alloc, inode.block, bytes, &at)?,
+                None => unreachable!(),
+            },
+            Ok(None) => return Ok(walk),
+            Err(stop) => go_on(alloc, disk, table, stop)?,
+        }
+    }
+}
+
+// That the records that were found in all leaves are those of the master directory.
+fn check_hashed(inode: &Inode, records: &[Named<'_>]) -> Result<(), MountFault>
+    ensures refused { (im : Image) → IsMasterIn im inode.now → AreAllRecords im inode.now.block records.now → AreCountedIn im inode.now.block (map said records.now) → IfErr result (RefusesRightly im) }
+    ensures steady { IfErr result IsSteady }
+{
+    check_dot(records, inode.block, b".", inode.block)?;
+    check_dot(records, inode.block, b"..", inode.block)?;
+    check_counts(inode, records)
+}
+
+/// The records of the master directory, where it is a hashed one; its leaves are read. It looks at each leaf's head, at
+/// what its records fill, at their hashes and names, whether they are those of system files, at `.` and `..`, and at the
+/// counts of links and entries.
+pub(crate) fn search_names<D: SharedDisk>(
+    alloc: Global,
+    disk: &mut D,
+    table: &mut Table,
+    inode: &Inode,
+) -> Result<Vec<Named<'static>>, MountFault>
+    requires work { IsWorking (D.state disk.old) table.old }
+    requires few { (D.state disk.old).count ≤ most_blocks }
+    ensures work { OnOk result (IsWorking (D.state disk.new) table.new) }
+    ensures found { IfOk result (λ names. IsTrue (D.state disk.old).tells → IsMasterIn (image_of (D.state disk.old)) inode.now → is_hashed_in (every (image_of (D.state disk.old)) inode.now.block) ≡ true → ArePlainRecords (image_of (D.state disk.old)) inode.now.block names.items) }
+    ensures searched { OnOk result (IsTrue (D.state disk.old).tells → IsMasterIn (image_of (D.state disk.old)) inode.now → IsSearched (image_of (D.state disk.old)) [] 0 0 table.old → IsSearched (image_of (D.state disk.old)) [] 0 0 table.new) }
+    ensures refused { IsTrue (D.state disk.old).tells → IsMasterIn (image_of (D.state disk.old)) inode.now → IsSearched (image_of (D.state disk.old)) [] 0 0 table.old → IfErr result (RefusesRightly (image_of (D.state disk.old))) }
+    ensures risen { IfErr result (HasRisen (D.faults disk.old) (D.faults disk.new)) }
+    ensures same { D.state disk.new ≡ D.state disk.old }
+    ensures list { D.list disk.new ≡ D.list disk.old }
+    ensures later { (j : ℕ) → D.faults disk.old j ≤ D.faults disk.new j }
+{
+    if !inode.is_hashed() {
+        return Ok(Vec::new(alloc));
+    }
+    let pointers = search_pointers(alloc, disk, table, inode)?;
+    let walk = walk_leaves(alloc, disk, table, inode, &pointers)?;
+    check_hashed(inode, &walk.records)?;
+    Ok(walk.records)
+}
