@@ -38,7 +38,7 @@ mount_end d first now (fault.NotProfile what value) law right excused risen = Li
 mount_end d first now (fault.Damaged block rule) law right excused risen =
     IsDamaged block rule (λ tells. (right tells).0) (λ tells tree stands. law (image_of d) tree stands rule block (right tells).0)
 mount_end d first now (fault.DeviceFault block x y) law right excused risen = DiskFails block x y risen right
-mount_end d first now (fault.NotBuilt block) law right excused risen = IsHashed block (λ tells. (right tells).0)
+mount_end d first now (fault.NotBuilt block) law right excused risen = IsHashed block (λ tells. ((right tells).0, (right tells).1))
 mount_end d first now fault.NoMemory law right excused risen = LacksRoom
 
 root_is_reached : (d : DiskState) (block : ℕ) → block ≡ root_of d → IsReached (image_of d) block

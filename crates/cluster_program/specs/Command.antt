@@ -12,6 +12,7 @@ use Rattle.cluster_program.specs.Report.{Reports}
 use Rattle.cluster_program.specs.Course.{Course, AsksToRun, AsksToShow, AsksToMake, plan_for, most_blocks}
 use Rattle.cluster_program.specs.Mounting.{AreClean}
 use Rattle.image_model.specs.Image.{image_of}
+use Rattle.image_model.specs.Claims.{IsJindex}
 use Rattle.image_model.specs.Rules.{IsHashedAt}
 use Rattle.image_model.specs.Stands.{Stands}
 use Rattle.image_mount.specs.Mounted.{IsOfProfile}
@@ -48,14 +49,14 @@ pub record NoneRose (given left : Inputs) (sinks sinks_now : Outputs) : Type 0 w
   pub trace : Rose sinks.trace_faults sinks_now.trace_faults → ⊥
   pub output : Rose sinks.output_faults sinks_now.output_faults → ⊥
 
--- The image on the disk stands, is one of the profile and flat: no directory of it is hashed, each journal was left clean, and
--- the root is a linear directory of files that stand behind their dinodes.
+-- The image on the disk stands, is one of the profile and flat: the directory of journals isn't hashed, each journal was left
+-- clean, and the root is a linear directory of files that stand behind their dinodes.
 pub record IsMountable (disk : DiskState) : Type 0 where
   pub tree : Tree
   pub flat : IsFlat disk tree
   pub profile : IsOfProfile (image_of disk)
   pub stands : Stands (image_of disk) tree
-  pub linear : (a : ℕ) → IsHashedAt (image_of disk) a → ⊥
+  pub linear : (a : ℕ) → IsJindex (image_of disk) a → IsHashedAt (image_of disk) a → ⊥
   pub clean : AreClean (image_of disk)
 
 -- the words are a run, the source tells its text, which is a script without a line that is not built, and the image can be mounted

@@ -3,6 +3,7 @@ use Rattle.std.specs.Prelude.{ℕ, ◌≡◌, false, true, IsTrue, Some, slice_g
 use Rattle.fault_counts.specs.Causes.{WentUp}
 use Rattle.file_tree.specs.Tree.{Tree}
 use Rattle.image_model.specs.Image.{Image, image_of}
+use Rattle.image_model.specs.Claims.{IsJindex}
 use Rattle.image_model.specs.Rules.{Breaks, IsHashedAt}
 use Rattle.image_model.specs.Stands.{Stands}
 use Rattle.image_mount.specs.Mounted.{Journal, MountedValue, IsMounted, IsOfProfile}
@@ -18,7 +19,7 @@ use Rattle.cluster_program.specs.declared.status.Part.TheVariants as part
 abbrev pub OfImage : DiskState → (Image → Type 0) → Type 0
 OfImage disk P = IsTrue disk.tells → P (image_of disk)
 
--- the image is none that stands for a tree, or one outside the profile
+-- the image stands for no tree
 abbrev pub NeverStands : Image → Type 0
 NeverStands im = (tree : Tree) → Stands im tree → ⊥
 
@@ -31,13 +32,14 @@ abbrev pub AreClean : Image → Type 0
 AreClean im = (m : MountedValue) → IsMounted im m → (j : ℕ) (journal : Journal) → slice_get m.journals j ≡ Some journal → journal.head.clean ≡ true
 
 -- Why an image isn't mounted: the disk failed at a block to which mounting came; a field is outside the profile; a block breaks a
--- rule; and what is not built: the replay of a journal, a hashed directory, and a root that is no linear directory of files.
+-- rule; and what is not built: the replay of a journal, a hashed directory of journals, and a root that is no linear directory
+-- of files.
 pub data MountEnds (disk : DiskState) (faults faults_now : ℕ → ℕ) : Status → Type 0 where
   DiskFails : (block x y : ℕ) → WentUp (faults 0) (faults_now 0) x y → OfImage disk (λ im. IsReached im block) → MountEnds disk faults faults_now (status.DeviceFault 0 (Some block) x y)
   LiesOutside : (what : Field) (value : ℕ) → OfImage disk (λ im. IsOutside im what value) → OfImage disk (λ im. IsOfProfile im → ⊥)
       → MountEnds disk faults faults_now (status.NotProfile what value)
   IsDamaged : (block rule : ℕ) → OfImage disk (λ im. Breaks im rule block) → OfImage disk NeverStands → MountEnds disk faults faults_now (status.Damaged block rule)
   IsDirty : (block : ℕ) → OfImage disk (λ im. HasDirtyJournal im block) → MountEnds disk faults faults_now (status.NotBuilt (part.Block block))
-  IsHashed : (block : ℕ) → OfImage disk (λ im. IsHashedAt im block) → MountEnds disk faults faults_now (status.NotBuilt (part.Block block))
+  IsHashed : (block : ℕ) → OfImage disk (λ im. IsJindex im block × IsHashedAt im block) → MountEnds disk faults faults_now (status.NotBuilt (part.Block block))
   HasOtherRoot : (block : ℕ) → (IsTrue disk.tells → (block ≡ root_of disk) × (HasRoot disk → ⊥)) → MountEnds disk faults faults_now (status.NotBuilt (part.Block block))
   LacksRoom : MountEnds disk faults faults_now status.NoMemory

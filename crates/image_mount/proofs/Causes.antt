@@ -1,5 +1,5 @@
 -- Faults that have their cause in the image.
-use Rattle.std.proofs.Common.{◌≡◌, ◌≢◌, ◌↔◌, inr, ℕ, ◌+◌, ◌^◌, ◌≤◌, Bool, false, IsTrue, List, length, sym, ap, subst, ◌∙◌, arith}
+use Rattle.std.proofs.Common.{◌≡◌, ◌≢◌, ◌↔◌, inr, ℕ, ◌+◌, ◌^◌, ◌≤◌, Bool, true, false, IsTrue, List, length, sym, ap, subst, ◌∙◌, arith}
 use Rattle.std.specs.Prelude.{if◌then◌else◌}
 use Rattle.gfs2_layout.specs.Inode.{dinode_in, is_hashed_in, head_of}
 use Rattle.gfs2_layout.specs.Records.{Record}
@@ -70,6 +70,10 @@ right_format im s size super read of format sharing same shift = record {
 -- a test that failed
 pub lacks : {P : Type 0} (b : Bool) → IsTrue b ↔ P → b ≡ false → ¬ P
 lacks b test failed p = let t : IsTrue false = subst IsTrue failed (test.1 p) in grind arith
+
+-- a test that held
+pub has : {P : Type 0} (b : Bool) → IsTrue b ↔ P → b ≡ true → P
+has b test held = test.0 held
 
 -- ---- inodes
 

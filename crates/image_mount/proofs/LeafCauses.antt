@@ -1,24 +1,27 @@
 -- What the table and the leaves of a hashed directory break, as mounting finds it.
-use Rattle.std.proofs.Common.{◌≡◌, ◌≢◌, ℕ, ◌+◌, ◌-◌, ◌*◌, ◌/◌, ◌^◌, ◌<◌, ◌≤◌, true, List, length, drop, get_or, Result, Some, Ok, sym, ap, subst, ◌∙◌, arith}
+use Rattle.std.proofs.Common.{◌≡◌, ◌≢◌, ℕ, ◌+◌, ◌-◌, ◌*◌, ◌/◌, ◌^◌, ◌<◌, ◌≤◌, true, List, length, take, drop, get_or, Result, Some, Ok, refl, sym, ap, subst, ◌∙◌, arith}
 use Rattle.std.specs.Prelude.{map, Contains, slice_get}
+use Rattle.std.specs.List.{All}
+use Rattle.std.proofs.Math.Path.{transport}
 use Rattle.std.proofs.Math.Pow.{pow_mono}
 use Rattle.std.proofs.lemmas.List.{length-map}
 use Rattle.std.proofs.lemmas.Option.{slice_get_within, get_or_from_slice_get}
 use Rattle.crc_words.specs.Remainder.{crc32_of}
 use Rattle.gfs2_layout.specs.Bytes.{u32_at}
 use Rattle.gfs2_layout.specs.Headers.{HasHeader}
-use Rattle.gfs2_layout.specs.Inode.{dinode_in, depth_in, is_directory_in, leaf_in, leaf_area}
+use Rattle.gfs2_layout.specs.Inode.{dinode_in, depth_in, entry, first_hash, leaf_in}
 use Rattle.gfs2_layout.specs.Records.{Record, records_in}
 use Rattle.gfs2_layout.specs.Structures.{leaf_of, leaf_read}
 use Rattle.gfs2_layout.specs.declared.dinode.Dinode.{Dinode}
 use Rattle.gfs2_layout.specs.declared.fault.LayoutFault.{LayoutFault}
 use Rattle.gfs2_layout.specs.declared.leaf.Leaf.{Leaf}
-use Rattle.image_model.specs.Claims.{every, Claims, HasLeaf, HasDirectory}
+use Rattle.image_model.specs.Claims.{every, Claims, HasArea, HasLeaf, HasDirectory, next_leaf}
+use Rattle.image_model.specs.Claims.{of_leaf}
 use Rattle.image_model.specs.Image.{Image}
 use Rattle.image_model.specs.Owners.{Chained}
-use Rattle.image_model.specs.Rules.{IsHashedAt, table_too_small, table_too_large, table_size, records_format, leaf_too_deep, leaf_hash, leaf_entries, chain_depth, no_header, of_leaf as needs_leaf}
-use Rattle.image_model.proofs.LeafFaults.{leaf_well}
-use Rattle.image_mount.specs.Found.{HasFormat}
+use Rattle.image_model.specs.Rules.{HasRecordIn, IsHashedAt, table_too_small, table_too_large, table_size, records_format, leaf_too_deep, leaf_hash, leaf_entries, chain_depth, no_header, of_leaf as needs_leaf}
+use Rattle.image_model.proofs.LeafFaults.{leaf_reads, leaf_well}
+use Rattle.image_mount.specs.Found.{HasFormat, IsInChain, chain_next}
 use Rattle.image_mount.specs.Leaves.{IsLeafIn}
 use Rattle.image_mount.specs.Listing.{said, is_hashed_by}
 use Rattle.image_mount.specs.Refusals.{RefusesRightly}
@@ -27,7 +30,7 @@ use Rattle.image_mount.specs.declared.fault.MountFault.TheVariants as fault
 use Rattle.image_mount.specs.declared.leaf.LeafAt.{LeafAt}
 use Rattle.image_mount.specs.declared.listing.Named.{Named}
 use Rattle.image_mount.proofs.Causes.{told, hashed_as}
-use Rattle.image_mount.proofs.Twice.{at_said}
+use Rattle.image_mount.proofs.Twice.{all_taken, at_said}
 use Rattle.image_mount.proofs.Names.{at_contains}
 
 -- ---- the table
@@ -70,6 +73,9 @@ module _ (im : Image) (f : MountFault) (a x : ℕ) (format : HasFormat im) (leaf
   leaf_deep depth head is read deep_is deep =
       told im f x 14 is format (leaf_too_deep a x leaf (omega (arith, deep, deep_is, ap (λ (l : Leaf). l.depth) read)))
 
+pub leaf_head : (im : Image) (x : ℕ) (bytes : List ℕ) (leaf : Leaf) (result : Result Leaf LayoutFault) → im.at x ≡ bytes → result ≡ Ok leaf → result ≡ leaf_read bytes → leaf ≡ leaf_of (im.at x)
+leaf_head im x bytes leaf result same ok is = leaf_reads bytes leaf result ok is ∙ ap leaf_of (sym same)
+
 -- a leaf that was come to is one of the directory
 pub leaf_there : (im : Image) (a : ℕ) (at : LeafAt) → IsLeafIn im a at → HasLeaf im a at.block
 leaf_there im a at is = (is.claimed.0, at.hash, at.place, is.claimed.1)
@@ -82,6 +88,28 @@ depth_differs im a tail head f format is more told_at read other =
     let there : head ≡ leaf_in (every im a) (leaf_in (every im a) tail.block).next = read ∙ ap (λ n. leaf_of (im.at n)) next in
     told im f (leaf_in (every im a) tail.block).next 14 (told_at ∙ ap (λ n. fault.Damaged n 14) next) format
     (chain_depth a tail.block (leaf_there im a tail is) (λ e. more (next ∙ e)) (λ e. other (ap (λ (l : Leaf). l.depth) there ∙ e ∙ sym (ap (λ (l : Leaf). l.depth) is.head))))
+
+-- the next of a chain
+pub behind_claim : (im : Image) (a : ℕ) (tail : LeafAt) → IsLeafIn im a tail → tail.head.next ≢ 0 → Claims im tail.block tail.head.next (Chained a tail.hash (tail.place + 1))
+behind_claim im a tail is more =
+    let next : tail.head.next ≡ (leaf_in (every im a) tail.block).next = ap (λ (l : Leaf). l.next) is.head in
+    subst (λ n. Claims im tail.block n (Chained a tail.hash (tail.place + 1))) (sym next) (next_leaf is.claimed.0 tail.block a tail.hash tail.place is.claimed.1 (λ e. more (next ∙ e)))
+
+pub behind_is : (im : Image) (a : ℕ) (tail at : LeafAt) → IsLeafIn im a tail → tail.head.next ≢ 0 → at.head ≡ leaf_of (im.at tail.head.next) → at.block ≡ tail.head.next → at.hash ≡ tail.hash → at.place ≡ tail.place + 1
+    → at.pointer ≡ tail.pointer → at.behind ≡ tail.behind → IsLeafIn im a at
+behind_is im a tail at is more read block hash place pointer behind =
+    let next : tail.head.next ≡ (leaf_in (every im a) tail.block).next = ap (λ (l : Leaf). l.next) is.head in
+    record {
+      head = read ∙ ap (λ n. leaf_of (im.at n)) (sym block);
+      claimed = (tail.block, transport (λ k. Claims im tail.block (sym block k) (Chained a (sym hash k) (sym place k))) (behind_claim im a tail is more));
+      chain = transport (λ k. IsInChain (every im a) (sym pointer k) (sym place k) ((sym next ∙ sym block) k)) (chain_next tail.place tail.block is.chain (λ e. more (next ∙ e)));
+      hash = hash ∙ is.hash ∙ ap (first_hash (every im a)) (sym pointer);
+      some = omega (arith, is.some, pointer, behind);
+      within = omega (arith, is.within, behind);
+      run = λ j low high.
+          let here = is.run j (omega (arith, low, pointer)) (omega (arith, high, behind)) in
+          (here.0 ∙ ap (entry (every im a)) (sym pointer), here.1 ∙ sym hash);
+    }
 
 -- ---- the records of a leaf
 
@@ -102,3 +130,18 @@ wrong_hash im a at f records k shift crc d name format is told_at read low name_
     let wrong : crc32_of r.name / 2 ^ (32 - (leaf_in (every im a) at.block).depth) ≢ at.hash / 2 ^ (32 - (leaf_in (every im a) at.block).depth)
     = subst (λ s. crc32_of r.name / 2 ^ s ≢ at.hash / 2 ^ s) depth (subst (λ n. n / 2 ^ shift ≢ at.hash / 2 ^ shift) hash other) in
     told im f at.block 14 told_at format (leaf_hash a at.block is.claimed.0 at.hash at.place r is.claimed.1 there wrong)
+
+-- what stands behind a leaf's head
+pub taken_leaf : (bytes : List ℕ) → take (length bytes - 104) (drop 104 bytes) ≡ drop 104 bytes
+taken_leaf bytes = all_taken 104 bytes
+
+pub leaf_area_in : (im : Image) (a : ℕ) (at : LeafAt) (bytes area : List ℕ) → IsLeafIn im a at → im.at at.block ≡ bytes → area ≡ drop 104 bytes → HasArea im a at.block area
+leaf_area_in im a at bytes area is same area_is = subst (HasArea im a at.block) (ap (drop 104) same ∙ sym area_is) (of_leaf at.block (leaf_there im a at is))
+
+-- each of these records stands in the leaf
+pub leaf_listed : (im : Image) (a : ℕ) (at : LeafAt) (bytes : List ℕ) (records : List Named) → IsLeafIn im a at → im.at at.block ≡ bytes → map said records ≡ records_in (drop 104 bytes)
+    → All (λ n. HasRecordIn im a at.block (said n)) records
+leaf_listed im a at bytes records is same read k d low =
+    let n = get_or records k d in
+    let area = leaf_area_in im a at bytes (drop 104 bytes) is same refl in
+    (drop 104 bytes, area, at_contains (records_in (drop 104 bytes)) k (said n) (ap (λ l. slice_get l k) (sym read) ∙ at_said records k d low))

@@ -1,53 +1,70 @@
 -- How far a walk over the leaves of a hashed directory has come.
-use Rattle.std.proofs.Common.{◌≡◌, ◌≢◌, ◌⊎◌, inl, inr, ℕ, zero, suc, ◌+◌, ◌<◌, ◌≤◌, Bool, true, false, List, [], ◌∷◌, ◌++◌, length, get_or, drop, Option, None, Some, refl, sym, ap, subst, ◌∙◌, arith, length-append}
+use Rattle.std.proofs.Common.{◌≡◌, ◌≢◌, ◌⊎◌, inl, inr, ℕ, zero, suc, ◌+◌, ◌^◌, ◌<◌, ◌≤◌, IsTrue, Bool, true, false, List, [], ◌∷◌, ◌++◌, length, get_or, drop, Option, None, Some, refl, sym, ap, subst, ◌∙◌, arith, length-append}
 use Rattle.std.specs.Prelude.{map, flat_map, find, Contains, IfSome, slice_get}
 use Rattle.std.specs.List.{All}
-use Rattle.std.proofs.lemmas.Bool.{cases_lt, cases_eq, cond-true, cond-false}
+use Rattle.std.specs.Option.{option_map}
+use Rattle.std.proofs.Math.Path.{transport}
+use Rattle.std.proofs.lemmas.Bool.{cases_lt}
 use Rattle.std.proofs.lemmas.Grind.{flat_map-append}
-use Rattle.std.proofs.lemmas.List.{length-map, map-append}
-use Rattle.std.proofs.lemmas.Simd.{map-map}
-use Rattle.std.proofs.lemmas.Option.{slice_get-get_or, slice_get_within, get_or_from_slice_get}
+use Rattle.std.proofs.lemmas.Option.{slice_get-get_or}
 use Rattle.gfs2_layout.specs.Holding.{Holding}
 use Rattle.gfs2_layout.specs.Inode.{entry, first_hash, is_hashed_in, leaf_in, leaf_area, table_count}
 use Rattle.gfs2_layout.specs.Records.{Record, records_in}
-use Rattle.image_model.specs.Claims.{every, Claims, HasDirectory, master_of, of_leaf}
-use Rattle.image_model.specs.Image.{Image}
+use Rattle.gfs2_layout.specs.declared.leaf.Leaf.{Leaf}
+use Rattle.image_model.specs.Claims.{every, Claims, HasArea, HasDirectory, master_of, behind_dinode, of_leaf}
+use Rattle.image_model.specs.Image.{Image, image_of}
 use Rattle.image_model.specs.Leaves.{HasClaim, AreChained, leaf_records}
 use Rattle.image_model.specs.Owners.{Owner, Chained}
-use Rattle.image_model.specs.Owning.{owner_of, AreClaims, IsEntered, IsEmpty}
-use Rattle.image_model.specs.Rules.{HasRecordIn, HasRecords, from_leaves, AreLeaves, IsHashedAt}
+use Rattle.image_model.specs.Owning.{owner_of, AreClaims, IsClash, IsEntered, IsEmpty}
+use Rattle.image_model.specs.Rules.{HasRecordIn, from_leaves, IsHashedAt}
 use Rattle.image_model.specs.Stands.{directory_count}
 use Rattle.image_model.specs.Going.{ClaimsOnly}
+use Rattle.image_model.specs.declared.hash_table.HashTable.{HashTable}
+use Rattle.image_model.specs.declared.image.ImageFault.{ImageFault}
+use Rattle.image_model.specs.declared.image.ImageFault.TheVariants as image
 use Rattle.image_model.specs.declared.owners.Claim.{Claim}
 use Rattle.image_model.proofs.Chains.{claim_of}
 use Rattle.image_model.proofs.Counts.{count_append}
+use Rattle.image_model.proofs.Directories.{not_both}
 use Rattle.image_model.proofs.Going.{entered_only, directory_test}
 use Rattle.image_model.proofs.Leaves.{unrise, in_rising, in_split, split_in, split_here, claim_kept, claim_entered, not_claimed, leaves_entered, leaves_known, chained_next, chained_known, chained_first, chained_stay, chained_end, all_claimed}
 use Rattle.image_model.proofs.Members.{IsIn, contained, is_in}
 use Rattle.image_model.proofs.Rising.{rising}
-use Rattle.image_model.proofs.WalkFaults.{empty_claims, entered_if}
-use Rattle.image_mount.specs.Found.{IsInChain, chain_head, chain_next, ComesBefore, is_other, first_other}
-use Rattle.image_mount.specs.Leaves.{IsLeafIn, IsPassed, block_of, IsListed, AreLeavesOf, IsFoundIn, IsOpen, IsWalked, IsClosed, IsBehind, ComesNext, IsNextLeaf}
+use Rattle.image_model.proofs.WalkFaults.{clash, empty_claims, entered_if}
+use Rattle.image_mount.specs.Found.{HasFormat, IsFirstOther, IsInChain, chain_head, ComesBefore, is_other, first_other, in_leaf}
+use Rattle.image_mount.specs.Found.{chain_next as chain_behind}
+use Rattle.image_mount.specs.Leaves.{IsLeafIn, IsPassed, block_of, IsListed, AreLeavesOf, IsFoundIn, IsOpen, IsWalked, IsClosed, IsBehind, ComesNext, IsNextLeaf, IsFirstTold, IsTableOf, HasEnded}
 use Rattle.image_mount.specs.Listing.{said, standing, AreAllRecords, AreCountedIn, AreDistinct}
+use Rattle.image_mount.specs.Refusals.{IsOutside, RefusesRightly, of_image}
+use Rattle.image_mount.specs.Refusals as outside
+use Rattle.image_mount.specs.System.{ArePlainRecords}
+use Rattle.image_mount.specs.declared.fault.MountFault.{MountFault}
+use Rattle.image_mount.specs.declared.fault.MountFault.TheVariants as fault
+use Rattle.image_mount.specs.declared.field.Field.TheVariants as field
+use Rattle.image_mount.specs.declared.inodes.Inode.{Inode}
 use Rattle.image_mount.specs.declared.leaf.LeafAt.{LeafAt}
 use Rattle.image_mount.specs.declared.leaf.LeafWalk.{LeafWalk}
 use Rattle.image_mount.specs.declared.listing.Named.{Named}
-use Rattle.image_mount.proofs.Names.{contains_at, mapped_at, from_mapped}
+use Rattle.image_mount.proofs.Adding.{kept_at, new_at, none_found, said_added, which_at}
+use Rattle.image_mount.proofs.Causes.{told_outside}
+use Rattle.image_mount.proofs.Masters.{master_has, table_hashed}
+use Rattle.image_mount.proofs.Names.{at_contains, contains_at, from_mapped, mapped_at, mapped_some, none_found as none_by_name}
+use Rattle.shared_disk.specs.Disk.{DiskState}
 use Rattle.image_mount.proofs.Numbered.{at_some}
 
 -- ---- the order of leaves
 
 head_is : (h : Holding) (i place x : ℕ) → IsInChain h i place x → place ≡ 0 → x ≡ entry h i
 head_is h i _ _ (chain_head low) e = refl
-head_is h i _ _ (chain_next place x chain more) e = absurd (omega (arith, e))
+head_is h i _ _ (chain_behind place x chain more) e = absurd (omega (arith, e))
 
 step_back : (h : Holding) (i place y n : ℕ) → IsInChain h i place y → place ≡ n + 1 → (x : ℕ) × IsInChain h i n x × (y ≡ (leaf_in h x).next)
 step_back h i _ _ n (chain_head low) e = absurd (omega (arith, e))
-step_back h i _ _ n (chain_next place x chain more) e = let same : place ≡ n = omega (arith, e) in (x, subst (λ p. IsInChain h i p x) same chain, refl)
+step_back h i _ _ n (chain_behind place x chain more) e = let same : place ≡ n = omega (arith, e) in (x, subst (λ p. IsInChain h i p x) same chain, refl)
 
 chain_same : (h : Holding) (i place x y : ℕ) → IsInChain h i place x → IsInChain h i place y → x ≡ y
 chain_same h i _ _ y (chain_head low) other = sym (head_is h i 0 y other refl)
-chain_same h i _ _ y (chain_next place x chain more) other =
+chain_same h i _ _ y (chain_behind place x chain more) other =
     let back = step_back h i (place + 1) y place other refl in
     ap (λ n. (leaf_in h n).next) (chain_same h i place x back.0 chain back.1) ∙ sym back.2
 
@@ -58,7 +75,7 @@ no_some x e = cc
 entered_along : (h : Holding) (entries : List (Option Claim)) (j place y : ℕ) → AreChained h entries None → HasClaim entries (entry h j) (Chained h.own (first_hash h j) 0) → IsInChain h j place y
     → HasClaim entries y (Chained h.own (first_hash h j) place)
 entered_along h entries j _ _ chained headed (chain_head low) = headed
-entered_along h entries j _ _ chained headed (chain_next place x chain more) =
+entered_along h entries j _ _ chained headed (chain_behind place x chain more) =
     chained x (first_hash h j) place (entered_along h entries j place x chained headed chain) (λ e. absurd (no_some x e)) more
 
 closed_chained : (h : Holding) (entries : List (Option Claim)) (tail : Option LeafAt) → AreChained h entries (block_of tail) → IfSome tail (λ t. t.head ≡ leaf_in h t.block) → IsClosed tail → AreChained h entries None
@@ -71,55 +88,6 @@ opened_heads im a walk (Some t) is = is.is.head
 
 passed_by : (im : Image) (a : ℕ) (walk : LeafWalk) (tail : Option LeafAt) (t : LeafAt) (j place : ℕ) → tail ≡ Some t → ComesBefore j place t.pointer (t.place + 1) → IsPassed tail walk.index j place
 passed_by im a walk tail t j place is before = subst (λ o. IsPassed o walk.index j place) (sym is) before
-
--- ---- lists of records
-
-get_left : {X : Type 0} (xs ys : List X) (k : ℕ) (x : X) → slice_get xs k ≡ Some x → slice_get (xs ++ ys) k ≡ Some x
-get_left [] ys k x at = cc
-get_left (z ∷ xs) ys zero x at = at
-get_left (z ∷ xs) ys (suc k) x at = get_left xs ys k x at
-
-get_right : {X : Type 0} (xs ys : List X) (c : ℕ) (x : X) → slice_get ys c ≡ Some x → (k : ℕ) × (slice_get (xs ++ ys) k ≡ Some x)
-get_right [] ys c x at = (c, at)
-get_right (z ∷ xs) ys c x at = let more = get_right xs ys c x at in (suc more.0, more.1)
-
-get_either : {X : Type 0} (xs ys : List X) (k : ℕ) (x : X) → slice_get (xs ++ ys) k ≡ Some x → (slice_get xs k ≡ Some x) ⊎ ((c : ℕ) × (slice_get ys c ≡ Some x))
-get_either [] ys k x at = inr (k, at)
-get_either (z ∷ xs) ys zero x at = inl at
-get_either (z ∷ xs) ys (suc k) x at = get_either xs ys k x at
-
-none_found : {X : Type 0} (test : X → Bool) (xs : List X) → ((x : X) → Contains xs x → test x ≡ false) → find test xs ≡ None
-none_found test [] none = refl
-none_found {X} test (x ∷ xs) none =
-    cond-false (test x) (Some x) (find test xs) (none x (0, omega arith, refl)) ∙ none_found test xs (λ y there. none y (suc there.0, omega (arith, there.1), there.2))
-
-module _ (old new : List Named) (ys : List (Record × ℕ)) (added : map standing new ≡ map standing old ++ ys) where
-  kept_at : (k : ℕ) (n : Named) → slice_get old k ≡ Some n → (m : Named) × (slice_get new k ≡ Some m) × (standing m ≡ standing n)
-  kept_at k n at = from_mapped standing new k (standing n) (ap (λ l. slice_get l k) added ∙ get_left (map standing old) ys k (standing n) (mapped_at standing old k n at))
-
-  new_at : (c : ℕ) (y : Record × ℕ) → slice_get ys c ≡ Some y → (k : ℕ) × ((m : Named) × (slice_get new k ≡ Some m) × (standing m ≡ y))
-  new_at c y at =
-      let there = get_right (map standing old) ys c y at in
-      (there.0, from_mapped standing new there.0 y (ap (λ l. slice_get l there.0) added ∙ there.1))
-
-  which_at : (k : ℕ) (m : Named) → slice_get new k ≡ Some m → ((n : Named) × (slice_get old k ≡ Some n) × (standing n ≡ standing m)) ⊎ ((c : ℕ) × (slice_get ys c ≡ Some (standing m)))
-  which_at k m at = elim (get_either (map standing old) ys k (standing m) (ap (λ l. slice_get l k) (sym added) ∙ mapped_at standing new k m at)) [
-    | inl here ↦ inl (from_mapped standing old k (standing m) here)
-    | inr there ↦ inr there
-  ]
-
--- what they say, without their blocks
-said_of : (xs : List Named) → map (λ (p : Record × ℕ). p.0) (map standing xs) ≡ map said xs
-said_of xs = map-map (λ (p : Record × ℕ). p.0) standing xs
-
-records_of : (b : ℕ) (rs : List Record) → map (λ (p : Record × ℕ). p.0) (map (λ r. (r, b)) rs) ≡ rs
-records_of b [] = refl
-records_of b (r ∷ rs) = ap (λ xs. r ∷ xs) (records_of b rs)
-
-pub said_added : (old new : List Named) (b : ℕ) (rs : List Record) → map standing new ≡ map standing old ++ map (λ r. (r, b)) rs → map said new ≡ map said old ++ rs
-said_added old new b rs added =
-    sym (said_of new) ∙ ap (map (λ (p : Record × ℕ). p.0)) added ∙ map-append (λ (p : Record × ℕ). p.0) (map standing old) (map (λ r. (r, b)) rs)
-    ∙ (λ i. said_of old i ++ records_of b rs i)
 
 -- ---- one leaf more
 
@@ -150,12 +118,33 @@ module _ (im : Image) (a : ℕ) (es new : List (Option Claim)) (x hash place : �
           | inl was ↦ split_in y x split.front split.back (subst (IsIn y) split.was (is_in y o.leaves (o.all y k p was)))
           | inr e ↦ subst (λ n. IsIn n (split.front ++ (x ∷ split.back))) (sym e) (split_here x split.front split.back)
         ]);
-        count = omega (arith, ap length (flat_map-append f split.front (x ∷ split.back)), length-append (flat_map f split.front) (f x ++ flat_map f split.back), length-append (f x) (flat_map f split.back),
-            ap length (ap (flat_map f) split.was ∙ flat_map-append f split.front split.back), length-append (flat_map f split.front) (flat_map f split.back), o.count, ap length is, length-append records (f x));
-        directories = omega (arith, ap directory_count (flat_map-append f split.front (x ∷ split.back)), count_append directory_test (flat_map f split.front) (f x ++ flat_map f split.back),
-            count_append directory_test (f x) (flat_map f split.back), ap directory_count (ap (flat_map f) split.was ∙ flat_map-append f split.front split.back),
-            count_append directory_test (flat_map f split.front) (flat_map f split.back), o.directories, ap directory_count is, count_append directory_test records (f x));
+        count = omega (
+          arith,
+          ap length (flat_map-append f split.front (x ∷ split.back)),
+          length-append (flat_map f split.front) (f x ++ flat_map f split.back),
+          length-append (f x) (flat_map f split.back),
+          ap length (ap (flat_map f) split.was ∙ flat_map-append f split.front split.back),
+          length-append (flat_map f split.front) (flat_map f split.back),
+          o.count,
+          ap length is,
+          length-append records (f x),
+        );
+        directories = omega (
+          arith,
+          ap directory_count (flat_map-append f split.front (x ∷ split.back)),
+          count_append directory_test (flat_map f split.front) (f x ++ flat_map f split.back),
+          count_append directory_test (f x) (flat_map f split.back),
+          ap directory_count (ap (flat_map f) split.was ∙ flat_map-append f split.front split.back),
+          count_append directory_test (flat_map f split.front) (flat_map f split.back),
+          o.directories,
+          ap directory_count is,
+          count_append directory_test records (f x),
+        );
       }
+
+entered_claims : (im : Image) (old new : List (Option Claim)) (x by : ℕ) (claim : Claim) (fresh : Bool) → IsEntered old new x claim fresh → AreClaims im old → Claims im by x (owner_of claim) → AreClaims im new
+entered_claims im old new x by claim true entered claims claimed = entered_if im old new x by claim true entered.1 claims claimed
+entered_claims im old new x by claim false entered claims claimed = entered_if im old new x by claim false entered.1 claims claimed
 
 -- ---- what comes next
 
@@ -193,7 +182,7 @@ module _ (im : Image) (walk : LeafWalk) (at : LeafAt) (of : IsNextLeaf im walk a
       let is = of.walked.found k n (slice_get-get_or walk.records.items k d low) in (
         is.stands,
         λ e. not_claimed walk.owners.entries.items at.block (Chained (master_of im) is.leaf.0 is.leaf.1) lacks
-        (subst (λ b. HasClaim walk.owners.entries.items b (Chained (master_of im) is.leaf.0 is.leaf.1)) e is.leaf.2),
+            (subst (λ b. HasClaim walk.owners.entries.items b (Chained (master_of im) is.leaf.0 is.leaf.1)) e is.leaf.2),
       )
 
   module _ (later : LeafWalk) (claim : Claim) (owner : owner_of claim ≡ Chained (master_of im) at.hash at.place) (index : later.index ≡ at.behind) (fresh : Bool)
@@ -211,15 +200,252 @@ module _ (im : Image) (walk : LeafWalk) (at : LeafAt) (of : IsNextLeaf im walk a
     headed_now j low = elim (cases_lt j walk.index) [
       | inl before ↦ kept (entry (every im (master_of im)) j) (Chained (master_of im) (first_hash (every im (master_of im)) j) 0) (of.walked.headed j before)
       | inr past ↦ elim of.next [
-        | inl behind ↦ absurd (omega (arith, low, index, behind.2.behind, past, ended behind.0 behind.1))
+        | inl behind ↦ absurd (omega (arith, low, index, behind.2.behind, past, at_some walk.tail behind.0 (λ (u : LeafAt). u.behind ≡ walk.index) behind.1 walk.behind))
         | inr begins ↦
             let run = of.leaf.run j (omega (arith, past, begins.1)) (omega (arith, low, index)) in
             let first_is : at.block ≡ entry (every im (master_of im)) at.pointer = head_is (every im (master_of im)) at.pointer at.place at.block of.leaf.chain begins.2 in
             let there : HasClaim later.owners.entries.items at.block (Chained (master_of im) (first_hash (every im (master_of im)) j) 0)
-            = (λ i. subst (HasClaim later.owners.entries.items at.block) (λ k. Chained (master_of im) (sym run.1 k) (begins.2 k)) mine) 0 in
+            = transport (λ k. HasClaim later.owners.entries.items at.block (Chained (master_of im) (sym run.1 k) (begins.2 k))) mine in
             subst (λ b. HasClaim later.owners.entries.items b (Chained (master_of im) (first_hash (every im (master_of im)) j) 0)) (first_is ∙ sym run.0) there
       ]
     ]
-      where
-        ended : (t : LeafAt) → walk.tail ≡ Some t → t.behind ≡ walk.index
-        ended t is = at_some walk.tail t (λ u. u.behind ≡ walk.index) is walk.behind
+
+    owned : Claims im (of.leaf.claimed.0) at.block (owner_of claim)
+    owned = subst (Claims im of.leaf.claimed.0 at.block) (sym owner) of.leaf.claimed.1
+
+    claims_now : AreClaims im later.owners.entries.items
+    claims_now = entered_claims im walk.owners.entries.items later.owners.entries.items at.block of.leaf.claimed.0 claim fresh entered of.walked.claims owned
+
+    within_now : later.index ≤ table_count (every im (master_of im))
+    within_now = omega (arith, index, of.leaf.within)
+
+  -- a leaf that was claimed so already
+  pub walked_known : (later : LeafWalk) (claim : Claim) → owner_of claim ≡ Chained (master_of im) at.hash at.place → later.index ≡ at.behind
+      → IsEntered walk.owners.entries.items later.owners.entries.items at.block claim false → later.tail ≡ None → later.records.items ≡ walk.records.items → IsWalked im (master_of im) later
+  walked_known later claim owner index entered tail records =
+      let h = every im (master_of im) in
+      let stays = leaves_known (master_of im) walk.owners.entries.items later.owners.entries.items at.block claim entered in
+      let on_now = on later claim owner index false entered in
+      let now : AreChained h later.owners.entries.items None = elim of.next [
+        | inl behind ↦
+            let b = behind.2 in
+            let opened = at_some walk.tail behind.0 (IsOpen im (master_of im) walk) behind.1 of.walked.opened in
+            let chained = subst (λ o. AreChained h walk.owners.entries.items (block_of o)) behind.1 of.walked.chained in
+            chained_known (λ (o : Owner). o ≡ owner_of claim) h walk.owners.entries.items later.owners.entries.items on_now behind.0.block behind.0.hash behind.0.place at.block chained opened.claimed
+            (sym (ap (λ (l : Leaf). l.next) opened.is.head) ∙ sym b.block)
+            (transport (λ k. HasClaim later.owners.entries.items at.block (Chained (master_of im) (b.hash k) (b.place k))) (mine later claim owner index false entered)) stays
+        | inr begins ↦ chained_stay (λ (o : Owner). o ≡ owner_of claim) h walk.owners.entries.items later.owners.entries.items on_now (closed begins.0) stays
+      ] in
+      let headed = headed_now later claim owner index false entered in
+      let same_entries : later.owners.entries.items ≡ walk.owners.entries.items = entered.1 in
+      record {
+        claims = claims_now later claim owner index false entered;
+        within = within_now later claim owner index false entered;
+        headed = headed;
+        chained = subst (λ o. AreChained h later.owners.entries.items (block_of o)) (sym tail) now;
+        opened = subst (λ o. IfSome o (IsOpen im (master_of im) later)) (sym tail) tt;
+        passed = λ j place y before chain.
+            let low : j < later.index = subst (λ o. IsPassed o later.index j place) tail before in
+            entered_along h later.owners.entries.items j place y now (headed j low) chain;
+        listed = λ x hash place has. subst (IsListed im (master_of im) x) (sym records) (of.walked.listed x hash place (subst (λ es. HasClaim es x (Chained (master_of im) hash place)) same_entries has));
+        found = λ k n there. subst (λ es. IsFoundIn im (master_of im) es n) (sym same_entries) (of.walked.found k n (ap (λ l. slice_get l k) (sym records) ∙ there));
+        distinct = subst (λ xs. AreDistinct (map said xs)) (sym records) of.walked.distinct;
+        leaves = subst (λ es. AreLeavesOf im (master_of im) es (map said later.records.items)) (sym same_entries) (subst (λ xs. AreLeavesOf im (master_of im) walk.owners.entries.items (map said xs)) (sym records) of.walked.leaves);
+      }
+
+  -- a leaf that is claimed now, whose records were added
+  pub walked_fresh : (later : LeafWalk) (claim : Claim) → owner_of claim ≡ Chained (master_of im) at.hash at.place → later.index ≡ at.behind
+      → IsEntered walk.owners.entries.items later.owners.entries.items at.block claim true → later.tail ≡ Some at
+      → map standing later.records.items ≡ map standing walk.records.items ++ map (λ (r : Record). (r, at.block)) (leaf_records (every im (master_of im)) at.block)
+      → first_other (leaf_records (every im (master_of im)) at.block) ≡ None → AreDistinct (map said later.records.items) → IsWalked im (master_of im) later
+  walked_fresh later claim owner index entered tail added plain distinct =
+      let h = every im (master_of im) in
+      let rs = leaf_records h at.block in
+      let only = leaves_entered (master_of im) walk.owners.entries.items later.owners.entries.items at.block claim true entered in
+      let on_now = on later claim owner index true entered in
+      let mine_now = mine later claim owner index true entered in
+      let now : AreChained h later.owners.entries.items (Some at.block) = elim of.next [
+        | inl behind ↦
+            let b = behind.2 in
+            let opened = at_some walk.tail behind.0 (IsOpen im (master_of im) walk) behind.1 of.walked.opened in
+            let chained = subst (λ o. AreChained h walk.owners.entries.items (block_of o)) behind.1 of.walked.chained in
+            chained_next (λ (o : Owner). o ≡ owner_of claim) h walk.owners.entries.items later.owners.entries.items on_now behind.0.block behind.0.hash behind.0.place at.block chained opened.claimed
+            (sym (ap (λ (l : Leaf). l.next) opened.is.head) ∙ sym b.block)
+            (transport (λ k. HasClaim later.owners.entries.items at.block (Chained (master_of im) (b.hash k) (b.place k))) mine_now) only
+        | inr begins ↦ chained_first (λ (o : Owner). o ≡ owner_of claim) h walk.owners.entries.items later.owners.entries.items on_now at.block (closed begins.0) only
+      ] in
+      record {
+        claims = claims_now later claim owner index true entered;
+        within = within_now later claim owner index true entered;
+        headed = headed_now later claim owner index true entered;
+        chained = subst (λ o. AreChained h later.owners.entries.items (block_of o)) (sym tail) now;
+        opened = subst (λ o. IfSome o (IsOpen im (master_of im) later)) (sym tail) (record { is = of.leaf; claimed = mine_now });
+        passed = λ j place y before chain.
+            let here : ComesBefore j place at.pointer (at.place + 1) = subst (λ o. IsPassed o later.index j place) tail before in
+            elim (split_before j place at.pointer at.place here) [
+              | inl earlier ↦ kept later claim owner index true entered y (Chained (master_of im) (first_hash h j) place) (came_before j place y earlier chain)
+              | inr itself ↦
+                  let same : at.block ≡ y = chain_same h at.pointer at.place at.block y of.leaf.chain (transport (λ k. IsInChain h (itself.0 k) (itself.1 k) y) chain) in
+                  transport (λ k. HasClaim later.owners.entries.items (same k) (Chained (master_of im) ((of.leaf.hash ∙ ap (first_hash h) (sym itself.0)) k) (sym itself.1 k))) mine_now
+            ];
+        listed = λ x hash place has r there. elim (only x hash place has) [
+          | inl was ↦
+              let one = of.walked.listed x hash place was r there in
+              let m = kept_at walk.records.items later.records.items (map (λ (r : Record). (r, at.block)) (leaf_records (every im (master_of im)) at.block)) added one.0 one.1.0 one.1.1 in
+              (one.0, (m.0, m.1, ap (λ (p : Record × ℕ). p.0) m.2 ∙ one.1.2, ap (λ (p : Record × ℕ). p.1) m.2 ∙ one.1.3))
+          | inr e ↦
+              let mine_there : Contains rs r = subst (λ n. Contains (leaf_records h n) r) e there in
+              let m = new_at walk.records.items later.records.items (map (λ (r : Record). (r, at.block)) (leaf_records (every im (master_of im)) at.block)) added mine_there.0 (r, at.block) (mapped_at (λ (q : Record). (q, at.block)) rs mine_there.0 r (contains_at rs r mine_there)) in
+              (m.0, (m.1.0, m.1.1, ap (λ (p : Record × ℕ). p.0) m.1.2, ap (λ (p : Record × ℕ). p.1) m.1.2 ∙ sym e))
+        ];
+        found = λ k n there. elim (which_at walk.records.items later.records.items (map (λ (r : Record). (r, at.block)) (leaf_records (every im (master_of im)) at.block)) added k n there) [
+          | inl old ↦
+              let f = of.walked.found k old.0 old.1 in
+              found_record im (master_of im) later.owners.entries.items n (subst (IsFoundAt im (master_of im) later.owners.entries.items) old.2
+              (f.stands, (f.leaf.0, f.leaf.1, kept later claim owner index true entered old.0.block (Chained (master_of im) f.leaf.0 f.leaf.1) f.leaf.2), f.plain))
+          | inr new ↦
+              let r = from_mapped (λ (q : Record). (q, at.block)) rs new.0 (standing n) new.1 in
+              let area = of_leaf at.block (of.leaf.claimed.0, at.hash, at.place, of.leaf.claimed.1) in
+              found_record im (master_of im) later.owners.entries.items n (subst (IsFoundAt im (master_of im) later.owners.entries.items) r.2
+              ((leaf_area h at.block, area, at_contains rs new.0 r.0 r.1), (at.hash, at.place, mine_now), none_by_name is_other rs new.0 r.0 plain r.1))
+        ];
+        distinct = distinct;
+        leaves = leaves_more im (master_of im) walk.owners.entries.items later.owners.entries.items at.block at.hash at.place claim owner (map said walk.records.items) (map said later.records.items) of.walked.leaves entered
+            (said_added walk.records.items later.records.items at.block rs added);
+      }
+    where
+      split_before : (j place i p : ℕ) → ComesBefore j place i (p + 1) → ComesBefore j place i p ⊎ ((j ≡ i) × (place ≡ p))
+      split_before j place i p (inl less) = inl (inl less)
+      split_before j place i p (inr same) = elim (cases_lt place p) [
+        | inl less ↦ inl (inr (same.0, less))
+        | inr past ↦ inr (same.0, omega (arith, same.1, past))
+      ]
+
+-- ---- the end of a walk
+
+-- each leaf of the directory was come to
+abbrev pub AreAllLeaves : Image → ℕ → LeafWalk → Type 0
+AreAllLeaves im a walk = (by x hash place : ℕ) → Claims im by x (Chained a hash place) → HasClaim walk.owners.entries.items x (Chained a hash place)
+
+pub counted_in : (im : Image) (a : ℕ) (walk : LeafWalk) → IsHashedAt im a → HasDirectory im a → IsWalked im a walk → AreAllLeaves im a walk → AreCountedIn im a (map said walk.records.items)
+counted_in im a walk hashed directory w all = (
+  flat_map (leaf_records (every im a)) w.leaves.leaves,
+  from_leaves w.leaves.leaves directory hashed.1 (record {
+    rise = w.leaves.rise;
+    all = λ x leaf. w.leaves.all x leaf.1 leaf.2 (all leaf.0 x leaf.1 leaf.2 leaf.3);
+    only = λ x there.
+        let c = w.leaves.only x there in
+        let from = claim_of im walk.owners.entries.items x (Chained a c.0 c.1) w.claims c.2 in
+        (from.0, c.0, c.1, from.1);
+  }),
+  w.leaves.count,
+  w.leaves.directories,
+)
+
+pub all_leaves : (im : Image) (a count : ℕ) (walk : LeafWalk) → IsWalked im a walk → HasEnded walk count → count ≡ table_count (every im a) → AreAllLeaves im a walk
+all_leaves im a count walk w ended count_is by x hash place claimed =
+    let chained = closed_chained (every im a) walk.owners.entries.items walk.tail w.chained (opened_heads im a walk walk.tail w.opened) ended.0 in
+    all_claimed im a walk.owners.entries.items by x hash place claimed chained (λ j low. w.headed j (omega (arith, low, count_is, ended.1)))
+
+pub all_found : (im : Image) (a : ℕ) (walk : LeafWalk) → IsHashedAt im a → HasDirectory im a → IsWalked im a walk → AreAllLeaves im a walk → AreAllRecords im a walk.records.items
+all_found im a walk hashed directory w all = record {
+  directory = directory;
+  each = λ i n at. (w.found i n at).stands;
+  all = λ x r has. from x has.0 has.1 r has.2;
+}
+  where
+    from : (x : ℕ) (area : List ℕ) → HasArea im a x area → (r : Record) → Contains (records_in area) r → (i : ℕ) × ((n : Named) × (slice_get walk.records.items i ≡ Some n) × (said n ≡ r))
+    from _ _ (behind_dinode dir linear) r there = absurd (not_both (is_hashed_in (every im a)) hashed.1 linear)
+    from _ _ (of_leaf x leaf) r there =
+        let one = w.listed x leaf.1 leaf.2 (all leaf.0 x leaf.1 leaf.2 leaf.3) r there in
+        (one.0, (one.1.0, one.1.1, one.1.2))
+
+pub plain_records : (im : Image) (a : ℕ) (walk : LeafWalk) → IsHashedAt im a → HasDirectory im a → IsWalked im a walk → AreAllLeaves im a walk → ArePlainRecords im a walk.records.items
+plain_records im a walk hashed directory w all = record { all = all_found im a walk hashed directory w all; distinct = w.distinct; plain = λ i n at. (w.found i n at).plain }
+
+-- ---- the start of a walk
+
+pub walked_new : (im : Image) (a : ℕ) (walk : LeafWalk) → IsEmpty walk.owners.entries.items → walk.records.items ≡ [] → walk.index ≡ 0 → walk.tail ≡ None → IsWalked im a walk
+walked_new im a walk empty records index tail =
+    let none : (x : ℕ) (o : Owner) → HasClaim walk.owners.entries.items x o → ⊥ = λ x o has. empty x has.claim has.there in
+    let no_record : (k : ℕ) (n : Named) → slice_get walk.records.items k ≡ Some n → ⊥ = λ k n at. no_some n (sym (ap (λ l. slice_get l k) records) ∙ at) in
+    record {
+      claims = empty_claims im walk.owners.entries.items empty;
+      within = omega (arith, index);
+      headed = λ j low. absurd (omega (arith, low, index));
+      chained = λ x hash place has not_open more. absurd (none x (Chained a hash place) has);
+      opened = subst (λ o. IfSome o (IsOpen im a walk)) (sym tail) tt;
+      passed = λ j place y before chain. absurd (omega (arith, index, subst (λ o. IsPassed o walk.index j place) tail before));
+      listed = λ x hash place has. absurd (none x (Chained a hash place) has);
+      found = λ k n at. absurd (no_record k n at);
+      distinct = λ i j r s at other same. absurd (let n = from_mapped said walk.records.items i r at in no_record i n.0 n.1);
+      leaves = record {
+        leaves = [];
+        rise = unrise [] tt;
+        only = λ x there. elim (is_in x [] there) [ ];
+        all = λ x hash place has. absurd (none x (Chained a hash place) has);
+        count = sym (ap (λ xs. length (map said xs)) records);
+        directories = sym (ap (λ xs. directory_count (map said xs)) records);
+      };
+    }
+
+-- ---- a walk over the master directory
+
+-- it is that over the directory whose inode was read
+pub walked_at : (im : Image) (inode : Inode) (table : HashTable) (walk : LeafWalk) → IsTableOf im inode table → IsWalked im (master_of im) walk → IsWalked im inode.block walk
+walked_at im inode table walk of w = subst (λ a. IsWalked im a walk) (sym of.master.block) w
+
+pub next_leaf_in : (im : Image) (inode : Inode) (table : HashTable) (walk : LeafWalk) (at : LeafAt) → IsTableOf im inode table → IsWalked im (master_of im) walk → IsLeafIn im inode.block at → ComesNext walk at
+    → IsNextLeaf im walk at
+next_leaf_in im inode table walk at of w leaf next = record {
+  format = of.master.format;
+  hashed = subst (IsHashedAt im) of.master.block (table_hashed im inode table of);
+  leaf = subst (λ a. IsLeafIn im a at) of.master.block leaf;
+  next = next;
+  walked = w;
+}
+
+pub walked_by : (old now : DiskState) → now ≡ old → (inode : Inode) (table : HashTable) (walk : LeafWalk) → (IsTrue now.tells → IsTableOf (image_of now) inode table → IsWalked (image_of now) inode.block walk)
+    → IsTrue old.tells → IsTableOf (image_of old) inode table → IsWalked (image_of old) inode.block walk
+walked_by old now same inode table walk more = subst (λ (s : DiskState). IsTrue s.tells → IsTableOf (image_of s) inode table → IsWalked (image_of s) inode.block walk) same more
+
+module _ (im : Image) (inode : Inode) (table : HashTable) (walk : LeafWalk) (of : IsTableOf im inode table) (w : IsWalked im inode.block walk) (ended : HasEnded walk (2 ^ table.depth)) where
+  came_all : AreAllLeaves im inode.block walk
+  came_all = all_leaves im inode.block (2 ^ table.depth) walk w ended (ap (λ d. 2 ^ d) of.depth)
+
+  pub walk_found : AreAllRecords im inode.block walk.records.items
+  walk_found = all_found im inode.block walk (table_hashed im inode table of) (master_has im inode of.master) w came_all
+
+  pub walk_counted : AreCountedIn im inode.block (map said walk.records.items)
+  walk_counted = counted_in im inode.block walk (table_hashed im inode table of) (master_has im inode of.master) w came_all
+
+  pub walk_plain : ArePlainRecords im inode.block walk.records.items
+  walk_plain = plain_records im inode.block walk (table_hashed im inode table of) (master_has im inode of.master) w came_all
+
+-- ---- a leaf that is entered
+
+-- a block that is claimed otherwise
+pub clash_told : (im : Image) (entries : List (Option Claim)) (x by : ℕ) (claim : Claim) (found : ImageFault) → HasFormat im → AreClaims im entries → Claims im by x (owner_of claim) → IsClash entries x claim found
+    → RefusesRightly im (of_image found)
+clash_told im entries x by claim (image.Damaged block rule) format claims claimed c = (clash im entries x by claim (image.Damaged block rule) claims claimed c, inr format)
+clash_told im entries x by claim image.NoMemory format claims claimed c = tt
+
+pub first_told : (im : Image) (walk : LeafWalk) (at : LeafAt) → IsNextLeaf im walk at → IsFirstTold im at
+first_told im walk at of = record { format = of.format; hashed = of.hashed; leaf = of.leaf; before = none_before im walk at of }
+
+-- by the claim that is entered the leaf is claimed
+pub owned_by : (im : Image) (walk : LeafWalk) (at : LeafAt) (master : ℕ) (of : IsNextLeaf im walk at) → master ≡ master_of im → Claims im of.leaf.claimed.0 at.block (Chained master at.hash at.place)
+owned_by im walk at master of same = subst (λ a. Claims im of.leaf.claimed.0 at.block (Chained a at.hash at.place)) (sym same) of.leaf.claimed.1
+
+pub short_kept : (tail : Option LeafAt) (free less n m : ℕ) → IfSome tail (λ at. at.place + free ≤ n) → less + 1 ≡ free → m ≡ n → IfSome tail (λ at. at.place + less ≤ m)
+short_kept None free less n m short fell same = tt
+short_kept (Some at) free less n m short fell same = omega (arith, short, fell, same)
+
+-- what is told of the records of a leaf, where one has another name
+pub other_told : (im : Image) (at : LeafAt) (f : MountFault) (other : ℕ) (bytes : List ℕ) (records : List Named) (o : Option ℕ) → IsFirstTold im at → im.at at.block ≡ bytes → map said records ≡ records_in (drop 104 bytes)
+    → f ≡ fault.NotProfile field.Master other → o ≡ option_map (λ (r : Record). r.address) (first_other (map said records)) → o ≡ Some other → RefusesRightly im f
+other_told im at f other bytes records o told_first same read is found some =
+    let first = mapped_some (λ (r : Record). r.address) (first_other (map said records)) other (sym found ∙ some) in
+    let here : first_other (leaf_records (every im (master_of im)) at.block) ≡ Some first.0 = ap (λ b. first_other (records_in (drop 104 b))) same ∙ ap first_other (sym read) ∙ first.1 in
+    let is_first : IsFirstOther im (master_of im) first.0 = in_leaf at.pointer at.place at.block first.0 told_first.hashed told_first.leaf.chain here told_first.before in
+    told_outside im f field.Master other is (subst (IsOutside im field.Master) first.2 (outside.master first.0 told_first.format is_first))

@@ -1,7 +1,10 @@
 pub mod KeptLaws
 pub mod Causes
 pub mod LeafCauses
+pub mod Adding
+pub mod Plain
 pub mod LeafWalks
+pub mod Masters
 pub mod Stops
 pub mod Supers
 pub mod Shown

@@ -18,11 +18,14 @@ use Rattle.shared_disk.specs.Disk.{DiskState}
 use Rattle.image_mount.specs.Refusals.{RefusesRightly}
 use Rattle.image_mount.specs.Rings.{IsSearched, IsJournalIn, IsNext, HasPlaces, IsPlaceAt, AreBlocksOf, IsRingOf, AreRings}
 use Rattle.image_mount.specs.Searching.{IsWorking}
-use Rattle.image_mount.specs.System.{IsSystemOf, layout_of}
+use Rattle.image_mount.specs.Leaves.{IsMasterIn}
+use Rattle.image_mount.specs.System.{IsMasterOf, IsNamedBy, IsSystemOf, layout_of}
 use Rattle.image_mount.specs.Table.{Kept, bytes_of}
 use Rattle.image_mount.specs.declared.fault.MountFault.{MountFault}
 use Rattle.image_mount.specs.declared.fault.MountFault.TheVariants as fault
 use Rattle.image_mount.specs.declared.journals.Ring.{Ring}
+use Rattle.image_mount.specs.declared.listing.Named.{Named as Item}
+use Rattle.image_mount.specs.declared.master.Master.{Master}
 use Rattle.image_mount.specs.declared.system.System.{System}
 use Rattle.image_mount.proofs.Causes.{told, lacks}
 use Rattle.image_mount.proofs.JournalNames.{one_number}
@@ -65,6 +68,21 @@ module _ (old now : DiskState) (same : now ≡ old) where
       → (IsTrue now.tells → IsNext (image_of now) done system journal → IsSearched (image_of now) done 0 0 k → IsSearched (image_of now) (done ++ journal.addr ∷ []) 0 0 new)
       → IsTrue old.tells → IsNext (image_of old) done system journal → IsSearched (image_of old) done 0 0 k → IsSearched (image_of old) (done ++ journal.addr ∷ []) 0 0 new
   ring_searched done system journal k new more = ring_told done system journal k (λ i. IsSearched i (done ++ journal.addr ∷ []) 0 0 new) more
+
+  pub names_known : (master : Master) (names : List Item) → (IsTrue now.tells → IsMasterIn (image_of now) master.inode → IsNamedBy (image_of now) master names) → IsTrue old.tells → IsMasterOf (image_of old) master
+      → IsNamedBy (image_of old) master names
+  names_known master names more tells is = subst (λ (s : DiskState). IsTrue s.tells → IsMasterIn (image_of s) master.inode → IsNamedBy (image_of s) master names) same more tells is.inode
+
+  pub names_searched : (master : Master) (k new : Kept) → (IsTrue now.tells → IsMasterIn (image_of now) master.inode → IsSearched (image_of now) [] 0 0 k → IsSearched (image_of now) [] 0 0 new)
+      → IsTrue old.tells → IsMasterOf (image_of old) master → IsSearched (image_of old) [] 0 0 k → IsSearched (image_of old) [] 0 0 new
+  names_searched master k new more tells is =
+      subst (λ (s : DiskState). IsTrue s.tells → IsMasterIn (image_of s) master.inode → IsSearched (image_of s) [] 0 0 k → IsSearched (image_of s) [] 0 0 new) same more tells is.inode
+
+  pub files_searched : (master : Master) (names : List Item) (k new : Kept)
+      → (IsTrue now.tells → IsMasterOf (image_of now) master → IsNamedBy (image_of now) master names → IsSearched (image_of now) [] 0 0 k → IsSearched (image_of now) [] 0 0 new)
+      → IsTrue old.tells → IsMasterOf (image_of old) master → IsNamedBy (image_of old) master names → IsSearched (image_of old) [] 0 0 k → IsSearched (image_of old) [] 0 0 new
+  files_searched master names k new more =
+      subst (λ (s : DiskState). IsTrue s.tells → IsMasterOf (image_of s) master → IsNamedBy (image_of s) master names → IsSearched (image_of s) [] 0 0 k → IsSearched (image_of s) [] 0 0 new) same more
 
 -- a block that is marked is kept as it was
 pub working_marked : (s : DiskState) (k new : Kept) → IsWorking s k → new.entries ≡ k.entries → new.size ≡ k.size → IsWorking s new

@@ -44,6 +44,10 @@ leaf_leads im a hash place d b k first e = absurd (apart a hash place d b k firs
     apart : (a hash place d b k first : ℕ) → Chained a hash place ≡ Below d b k 0 first → ⊥
     apart a hash place d b k first e = cc
 
+-- a leaf is wanted by its number in its directory
+pub leaf_wanted : (im : Image) (by x a hash place : ℕ) (s : Stop) → s ≡ stop.Reads x by → Claims im by x (Chained a hash place) → HasFormat im → StopsRightly im s
+leaf_wanted im by x a hash place s is claimed format = subst (StopsRightly im) (sym is) (inr (format, (Chained a hash place, claimed, leaf_leads im a hash place)))
+
 -- a block that is missing below the dinode of a system file, which is kept
 pub wanted_below : (im : Image) (k : Kept) (by a : ℕ) (o : Owner) (bytes : List ℕ) (P : ℕ → Type 0) (least : ℕ) (m : Missing) (s : Stop) → s ≡ stop.Reads m.block m.from → Claims im by a o → is_dinode o ≡ true
     → HasFormat im → IsSystemFile im a → (seen_of k).block_at a ≡ Some bytes → IsNeeded (seen_of k) (every im a) P least m → StopsRightly im s

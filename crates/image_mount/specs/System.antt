@@ -1,8 +1,9 @@
 -- What the system files say, as the code has it.
-use Rattle.std.specs.Prelude.{ℕ, ◌≡◌, ◌≢◌, ◌⊎◌, ◌<◌, ◌≤◌, false, List, Contains, codes, length, map, slice_get, None, Some}
+use Rattle.std.specs.Prelude.{ℕ, ◌≡◌, ◌≢◌, ◌⊎◌, ◌<◌, ◌≤◌, true, false, List, Contains, codes, length, map, slice_get, None, Some}
 use Rattle.glock_names.specs.declared.steps.Entry.{Entry}
+use Rattle.gfs2_layout.specs.Inode.{is_hashed_in}
 use Rattle.gfs2_layout.specs.Records.{Record, is_dots}
-use Rattle.image_model.specs.Claims.{LeadsTo, IsRindex, master_of}
+use Rattle.image_model.specs.Claims.{every, LeadsTo, IsRindex, master_of}
 use Rattle.image_model.specs.Image.{Image, superblock_in}
 use Rattle.image_model.specs.Journals.{journal_name}
 use Rattle.image_model.specs.Profile.{HasPlainMaster}
@@ -32,6 +33,10 @@ pub record ArePlainRecords (im : Image) (a : ℕ) (records : List Item) : Type 0
 pub record IsMasterOf (im : Image) (master : Master) : Type 0 where
   pub superblock : master.superblock ≡ superblock_in im
   pub inode : IsMasterIn im master.inode
+
+-- these are all records of the master directory, where it is a hashed one
+abbrev pub IsNamedBy : Image → Master → List Item → Type 0
+IsNamedBy im master names = is_hashed_in (every im master.inode.block) ≡ true → ArePlainRecords im master.inode.block names
 
 -- the files that the master directory names, and it names no others
 pub record AreFilesOf (im : Image) (files : SystemFiles) : Type 0 where

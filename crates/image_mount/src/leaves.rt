@@ -227,7 +227,7 @@ fn add_records(
 ) -> Result<(), MountFault>
     requires { All (λ n. is_other (said n) ≡ false) records.now }
     ensures added { OnOk result (map standing found.new.items ≡ map standing found.old.items ++ map standing records.now) }
-    ensures distinct { AreDistinct (map said found.old.items) → AreDistinct (map said records.now) → OnOk result (AreDistinct (map said found.new.items)) }
+    ensures distinct { AreDistinct (map said found.old.items) → OnOk result (AreDistinct (map said found.new.items)) }
     ensures refused { (im : Image) (a : ℕ) → HasFormat im → All (λ n. HasRecordIn im a n.block (said n) × (n.block ≢ block)) found.old.items → All (λ n. HasRecordIn im a block (said n)) records.now
         → AreDistinct (map said records.now) → IfErr result (RefusesRightly im) }
     ensures steady { IfErr result IsSteady }
@@ -271,6 +271,7 @@ impl LeafWalk {
     pub fn new(alloc: Global, count: u64) -> Result<LeafWalk, MountFault>
         ensures walked { (im : Image) (a : ℕ) → IfOk result (IsWalked im a) }
         ensures count { IfOk result (λ walk. vec_len walk.owners.entries ≡ count) }
+        ensures index { IfOk result (λ walk. walk.index ≡ 0) }
         ensures memory { IfErr result (λ fault. fault ≡ MountFault.NoMemory) }
         ensures steady { IfErr result IsSteady }
     {
@@ -340,12 +341,13 @@ impl LeafWalk {
             hash: at.hash,
             place: at.place,
         };
-        if self.owners.claim(at.block, claim)? {
-            add_leaf(alloc, &mut self.records, bytes, at)?;
-            self.tail = Some(*at);
-        } else {
+        if !self.owners.claim(at.block, claim)? {
             self.tail = None;
+            self.index = at.behind;
+            return Ok(());
         }
+        add_leaf(alloc, &mut self.records, bytes, at)?;
+        self.tail = Some(*at);
         self.index = at.behind;
         Ok(())
     }

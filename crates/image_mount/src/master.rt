@@ -1,6 +1,6 @@
 ghost use Rattle.std.specs.Prelude.{ℕ, ◌≡◌, ◌≤◌, ◌^◌, [], true, map, vec_len, IsTrue, OnOk, IfOk, IfErr};
 ghost use Rattle.gfs2_layout.specs.Inode.{dinode_in, is_hashed_in};
-ghost use Rattle.image_model.specs.Claims.{every, master_of};
+ghost use Rattle.image_model.specs.Claims.{every};
 ghost use Rattle.image_model.specs.Image.{Image, image_of};
 ghost use Rattle.image_mount.specs.Found.{HasFormat, most_blocks};
 ghost use Rattle.image_mount.specs.Leaves.{IsMasterIn, IsTableOf, IsWalked, HasEnded};
@@ -108,7 +108,7 @@ fn walk_leaves<D: SharedDisk>(
     requires work { IsWorking (D.state disk.old) table.old }
     requires few { (D.state disk.old).count ≤ most_blocks }
     ensures work { OnOk result (IsWorking (D.state disk.new) table.new) }
-    ensures found { IfOk result (λ walk. IsTrue (D.state disk.old).tells → IsTableOf (image_of (D.state disk.old)) inode.now pointers.now → IsWalked (image_of (D.state disk.old)) (master_of (image_of (D.state disk.old))) walk) }
+    ensures found { IfOk result (λ walk. IsTrue (D.state disk.old).tells → IsTableOf (image_of (D.state disk.old)) inode.now pointers.now → IsWalked (image_of (D.state disk.old)) inode.now.block walk) }
     ensures ended { IfOk result (λ walk. HasEnded walk (2 ^ pointers.now.depth)) }
     ensures searched { OnOk result (IsTrue (D.state disk.old).tells → IsTableOf (image_of (D.state disk.old)) inode.now pointers.now → IsSearched (image_of (D.state disk.old)) [] 0 0 table.old → IsSearched (image_of (D.state disk.old)) [] 0 0 table.new) }
     ensures refused { IsTrue (D.state disk.old).tells → IsTableOf (image_of (D.state disk.old)) inode.now pointers.now → IsSearched (image_of (D.state disk.old)) [] 0 0 table.old → IfErr result (RefusesRightly (image_of (D.state disk.old))) }
@@ -120,9 +120,9 @@ fn walk_leaves<D: SharedDisk>(
     let mut walk = LeafWalk::new(alloc, disk.blocks())?;
     loop {
         match walk.next(table, inode, pointers) {
-            Ok(Some(at)) => match table.block(at.block) {
-                Some(bytes) => walk.enter(alloc, inode.block, bytes, &at)?,
-                None => unreachable!(),
+            Ok(Some(at)) => match table.get(at.block, at.block) {
+                Ok(bytes) => walk.enter(alloc, inode.block, bytes, &at)?,
+                Err(_) => unreachable!(),
             },
             Ok(None) => return Ok(walk),
             Err(stop) => go_on(alloc, disk, table, stop)?,

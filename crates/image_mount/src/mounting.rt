@@ -7,13 +7,14 @@ ghost use Rattle.image_mount.specs.Refusals.{RefusesRightly, HasRisen, IsExcused
 ghost use Rattle.image_mount.specs.Found.{most_blocks};
 ghost use Rattle.image_mount.specs.Rings.{IsSearched};
 ghost use Rattle.image_mount.specs.Searching.{IsSteady, IsWorking};
-ghost use Rattle.image_mount.specs.System.{IsSystemOf};
+ghost use Rattle.image_mount.specs.System.{IsMasterOf, IsNamedBy, IsSystemOf};
 
 use crate::fault::MountFault;
 use crate::fetching::go_on;
 use crate::field::Field;
 use crate::journals::{find_journals, find_rings};
-use crate::master::{search_master, search_names};
+use crate::listing::Named;
+use crate::master::{Master, search_master, search_names};
 use crate::mounted::Mounted;
 use crate::stop::outside;
 use crate::system::{System, find_system};
@@ -36,7 +37,34 @@ fn check_device(count: u64) -> Result<(), MountFault>
     Ok(())
 }
 
-// What the system files say; their blocks are read, each as it is wanted.
+// What the system files say, once the master directory is known; their blocks are read, each as it is wanted.
+fn search_files<D: SharedDisk>(
+    alloc: Global,
+    disk: &mut D,
+    table: &mut Table,
+    master: &Master,
+    names: &[Named<'_>],
+) -> Result<System, MountFault>
+    requires work { IsWorking (D.state disk.old) table.old }
+    ensures work { OnOk result (IsWorking (D.state disk.new) table.new) }
+    ensures found { IfOk result (λ system. IsTrue (D.state disk.old).tells → IsMasterOf (image_of (D.state disk.old)) master.now → IsNamedBy (image_of (D.state disk.old)) master.now names.now → IsSystemOf (image_of (D.state disk.old)) system) }
+    ensures searched { OnOk result (IsTrue (D.state disk.old).tells → IsMasterOf (image_of (D.state disk.old)) master.now → IsNamedBy (image_of (D.state disk.old)) master.now names.now → IsSearched (image_of (D.state disk.old)) [] 0 0 table.old → IsSearched (image_of (D.state disk.old)) [] 0 0 table.new) }
+    ensures refused { IsTrue (D.state disk.old).tells → IsMasterOf (image_of (D.state disk.old)) master.now → IsNamedBy (image_of (D.state disk.old)) master.now names.now → IsSearched (image_of (D.state disk.old)) [] 0 0 table.old → IfErr result (RefusesRightly (image_of (D.state disk.old))) }
+    ensures risen { IfErr result (HasRisen (D.faults disk.old) (D.faults disk.new)) }
+    ensures same { D.state disk.new ≡ D.state disk.old }
+    ensures list { D.list disk.new ≡ D.list disk.old }
+    ensures later { (j : ℕ) → D.faults disk.old j ≤ D.faults disk.new j }
+{
+    let count = disk.blocks();
+    loop {
+        match find_system(alloc, table, count, master, names) {
+            Ok(system) => return Ok(system),
+            Err(stop) => go_on(alloc, disk, table, stop)?,
+        }
+    }
+}
+
+// What the system files say; their blocks are read.
 fn search_system<D: SharedDisk>(
     alloc: Global,
     disk: &mut D,
@@ -45,23 +73,17 @@ fn search_system<D: SharedDisk>(
     requires work { IsWorking (D.state disk.old) table.old }
     requires few { (D.state disk.old).count ≤ most_blocks }
     ensures work { OnOk result (IsWorking (D.state disk.new) table.new) }
-    ensures found { IfOk result (λ system. IsTrue (D.state disk.old).tells → (D.state disk.old).count ≤ most_blocks → IsSearched (image_of (D.state disk.old)) [] 0 0 table.old → IsSystemOf (image_of (D.state disk.old)) system) }
-    ensures searched { OnOk result (IsTrue (D.state disk.old).tells → (D.state disk.old).count ≤ most_blocks → IsSearched (image_of (D.state disk.old)) [] 0 0 table.old → IsSearched (image_of (D.state disk.old)) [] 0 0 table.new) }
-    ensures refused { IsTrue (D.state disk.old).tells → (D.state disk.old).count ≤ most_blocks → IsSearched (image_of (D.state disk.old)) [] 0 0 table.old → IfErr result (RefusesRightly (image_of (D.state disk.old))) }
+    ensures found { IfOk result (λ system. IsTrue (D.state disk.old).tells → IsSearched (image_of (D.state disk.old)) [] 0 0 table.old → IsSystemOf (image_of (D.state disk.old)) system) }
+    ensures searched { OnOk result (IsTrue (D.state disk.old).tells → IsSearched (image_of (D.state disk.old)) [] 0 0 table.old → IsSearched (image_of (D.state disk.old)) [] 0 0 table.new) }
+    ensures refused { IsTrue (D.state disk.old).tells → IsSearched (image_of (D.state disk.old)) [] 0 0 table.old → IfErr result (RefusesRightly (image_of (D.state disk.old))) }
     ensures risen { IfErr result (HasRisen (D.faults disk.old) (D.faults disk.new)) }
     ensures same { D.state disk.new ≡ D.state disk.old }
     ensures list { D.list disk.new ≡ D.list disk.old }
     ensures later { (j : ℕ) → D.faults disk.old j ≤ D.faults disk.new j }
 {
-    let count = disk.blocks();
     let master = search_master(alloc, disk, table)?;
     let names = search_names(alloc, disk, table, &master.inode)?;
-    loop {
-        match find_system(alloc, table, count, &master, &names) {
-            Ok(system) => return Ok(system),
-            Err(stop) => go_on(alloc, disk, table, stop)?,
-        }
-    }
+    search_files(alloc, disk, table, &master, &names)
 }
 
 // The groups, as the file calls see them.

@@ -12,7 +12,7 @@ ghost use Rattle.image_mount.specs.Listing.{said, AreAllRecords};
 ghost use Rattle.image_mount.specs.Refusals.{RefusesRightly};
 ghost use Rattle.image_mount.specs.declared.fault.MountFault.TheVariants as fault_of;
 ghost use Rattle.image_mount.specs.Searching.{IsRead, IsSteady, StopsRightly, LacksBlock};
-ghost use Rattle.image_mount.specs.System.{IsLinkOf, IsMasterOf, ArePlainRecords, AreFilesOf, AreAmong, LacksName, AreNamesOf, AreJournalsAmong, AreJournalsOf, IsSystemOf};
+ghost use Rattle.image_mount.specs.System.{IsLinkOf, IsMasterOf, IsNamedBy, ArePlainRecords, AreFilesOf, AreAmong, LacksName, AreNamesOf, AreJournalsAmong, AreJournalsOf, IsSystemOf};
 
 use crate::fault::MountFault;
 use crate::field::Field;
@@ -197,8 +197,8 @@ pub(crate) fn find_system(
     master: &Master,
     names: &[Named<'_>],
 ) -> Result<System, Stop>
-    ensures found { (im : Image) → IsRead im table.now → count ≡ im.count → IsMasterOf im master.now → (is_hashed_in (every im master.now.inode.block) ≡ true → ArePlainRecords im master.now.inode.block names.now) → IfOk result (IsSystemOf im) }
-    ensures stops { (im : Image) → IsRead im table.now → count ≡ im.count → IsMasterOf im master.now → (is_hashed_in (every im master.now.inode.block) ≡ true → ArePlainRecords im master.now.inode.block names.now) → IfErr result (StopsRightly im) }
+    ensures found { (im : Image) → IsRead im table.now → count ≡ im.count → IsMasterOf im master.now → IsNamedBy im master.now names.now → IfOk result (IsSystemOf im) }
+    ensures stops { (im : Image) → IsRead im table.now → count ≡ im.count → IsMasterOf im master.now → IsNamedBy im master.now names.now → IfErr result (StopsRightly im) }
     ensures lacks { IfErr result (LacksBlock table.now) }
 {
     let files = system_files(alloc, table, &master.inode, names)?;

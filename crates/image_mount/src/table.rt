@@ -78,6 +78,7 @@ impl Table {
     pub fn get(&self, block: u64, from: u64) -> Result<&[u8], Stop>
         ensures bytes { IfOk result (λ bytes. (seen_of self.now).block_at block ≡ Some bytes.now) }
         ensures whole { IfOk result (λ bytes. length bytes.now ≡ self.now.size) }
+        ensures least { IfOk result (λ bytes. 512 ≤ length bytes.now) }
         ensures stops { IfErr result (λ stop. stop ≡ Stop.Reads block from) }
         ensures lacks { IfErr result (LacksBlock self.now) }
     {

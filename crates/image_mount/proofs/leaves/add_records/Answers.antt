@@ -1,40 +1,29 @@
-use Rattle.std.proofs.Common.{rules, ℕ, ◌≡◌, ◌≢◌, ◌⊎◌, ◌+◌, ◌-◌, ◌*◌, ◌/◌, ◌^◌, ◌<◌, ◌≤◌, ◌++◌, true, false, drop, length, map, vec_len, slice_get, is_some, None, Some, IfOk, OnOk, IfErr, IfSome, IfNone, ◌%◌, Bool, nat_eq, nat_lt, List, [], ◌∷◌, slice_index_or, slice_set, bit_and, bit_or, Fits, w8, w32, w64, Bor, MutBor}
-use Rattle.std.specs.Prelude.{⊤}
-use Rattle.std.specs.List.{All}
-use Rattle.gfs2_layout.specs.Inode.{depth_in}
-use Rattle.gfs2_layout.specs.Inode.{entry_block as block_of_entry}
-use Rattle.gfs2_layout.specs.Inode.{is_hashed_in}
-use Rattle.gfs2_layout.specs.Records.{records_in, Record}
-use Rattle.gfs2_layout.specs.Structures.{leaf_of}
-use Rattle.image_model.specs.Claims.{every, Claims, master_of}
-use Rattle.image_model.specs.Image.{Image}
-use Rattle.image_model.specs.Owners.{Chained}
-use Rattle.image_model.specs.Rules.{HasRecordIn}
-use Rattle.image_mount.specs.Found.{HasFormat, is_other}
-use Rattle.image_mount.specs.Found.{first_other as first_other_in}
-use Rattle.image_mount.specs.Leaves.{IsMasterIn, IsTableOf, IsLeafIn, IsFirstTold, IsNextLeaf, IsWalked, ComesNext, HasEnded, steps_left}
-use Rattle.image_mount.specs.Listing.{said, standing, AreDistinct}
-use Rattle.image_mount.specs.Refusals.{RefusesRightly}
-use Rattle.image_mount.specs.Searching.{IsRead, IsSteady, StopsRightly, LacksBlock}
-use Rattle.image_mount.specs.Table.{seen_of}
+use Rattle.std.proofs.Common.{◌∙◌, get_or, sym, ap, arith}
+use Rattle.std.specs.Prelude.{slice_get}
+use Rattle.image_mount.proofs.Adding.{no_record, added_all, added_more, added_start, apart_from, distinct_more, found_some, none_there, same_standing, twice_found}
 use Rattle.image_mount.proofs.leaves.add_records.Goals as goal
 
--- src/leaves.rt:235:5
 pub loop-record-init : goal.loop-record-init
-loop-record-init c = ?
+loop-record-init c = record { added = added_start c.args.found.now.items c.args.records.now; low = omega arith; distinct = λ d. d }
 
--- src/leaves.rt:237:13
 pub returns-then-is_some-clause-refused : goal.returns-then-is_some-clause-refused
-returns-then-is_some-clause-refused c = ?
+returns-then-is_some-clause-refused c im a format before here distinct =
+    let f = found_some c.deref.result.now _ c.find.result (sym c.is_some.ensures ∙ c.if-is_some.true) c.find.ensures.there c.find.ensures.named in
+    twice_found im a c.args.block c.loop-record.record-index f.1.0 _ c.args.found.now.items c.args.records.now c.loop-record.found.items _ f.0 format c.damaged.ensures before here distinct
+    (c.loop-record.invariant.added) (omega (arith, c.loop-record-test.true)) (ap (λ l. slice_get l f.1.0) (sym c.deref.ensures.value) ∙ f.1.1.0) f.1.1.1
 
--- src/leaves.rt:235:5
 pub loop-record-preserved : goal.loop-record-preserved
-loop-record-preserved c = ?
+loop-record-preserved c = record {
+  added = added_more c.args.found.now.items c.args.records.now c.loop-record.found.items c.push.new.self.items c.loop-record.record-index _ _ c.loop-record.invariant.added (omega (arith, c.loop-record-test.true)) c.in_ok-push.ensures.items
+      (same_standing (get_or c.args.records.now c.loop-record.record-index no_record) c.system_name.result.now c.system_name.ensures);
+  low = omega (arith, c.loop-record-test.true);
+  distinct = λ d. distinct_more c.loop-record.found.items c.push.new.self.items _ (c.loop-record.invariant.distinct d) c.in_ok-push.ensures.items
+      (apart_from c.loop-record.found.items c.deref.result.now _ _ c.deref.ensures.value c.system_name.ensures (none_there c.find.result (sym c.is_some.ensures ∙ c.if-is_some.false) c.find.ensures.none));
+}
 
--- src/leaves.rt:223:1
 pub returns-clause-added : goal.returns-clause-added
-returns-clause-added c = ?
+returns-clause-added c =
+    added_all c.args.found.now.items c.args.records.now c.loop-record.found.items c.loop-record.record-index (omega (arith, c.loop-record-test.false)) c.loop-record.invariant.added c.loop-record.invariant.low
 
--- src/leaves.rt:223:1
 pub returns-clause-distinct : goal.returns-clause-distinct
-returns-clause-distinct c = ?
+returns-clause-distinct c d = c.loop-record.invariant.distinct d

@@ -1,23 +1,12 @@
-use Rattle.std.proofs.Common.{ℕ, ◌≡◌, ◌≢◌, ◌⊎◌, ◌+◌, ◌-◌, ◌*◌, ◌/◌, ◌^◌, ◌<◌, ◌≤◌, ◌++◌, true, false, drop, length, map, vec_len, slice_get, is_some, None, Some, IfOk, OnOk, IfErr, IfSome, IfNone}
-use Rattle.std.specs.Prelude.{⊤}
-use Rattle.std.specs.List.{All}
-use Rattle.gfs2_layout.specs.Inode.{depth_in}
-use Rattle.gfs2_layout.specs.Inode.{entry_block as block_of_entry}
-use Rattle.gfs2_layout.specs.Inode.{is_hashed_in}
-use Rattle.gfs2_layout.specs.Records.{records_in, Record}
-use Rattle.gfs2_layout.specs.Structures.{leaf_of}
-use Rattle.image_model.specs.Claims.{every, Claims, master_of}
-use Rattle.image_model.specs.Image.{Image}
-use Rattle.image_model.specs.Owners.{Chained}
-use Rattle.image_model.specs.Rules.{HasRecordIn}
-use Rattle.image_mount.specs.Found.{HasFormat, is_other}
-use Rattle.image_mount.specs.Found.{first_other as first_other_in}
-use Rattle.image_mount.specs.Leaves.{IsMasterIn, IsTableOf, IsLeafIn, IsFirstTold, IsNextLeaf, IsWalked, ComesNext, HasEnded, steps_left}
-use Rattle.image_mount.specs.Listing.{said, standing, AreDistinct}
-use Rattle.image_mount.specs.Refusals.{RefusesRightly}
-use Rattle.image_mount.specs.Searching.{IsRead, IsSteady, StopsRightly, LacksBlock}
-use Rattle.image_mount.specs.Table.{seen_of}
+use Rattle.std.proofs.Common.{◌≤◌, length}
+use Rattle.std.specs.Prelude.{map}
+use Rattle.image_mount.specs.Listing.{said, AreDistinct}
+use Rattle.image_mount.proofs.Adding.{IsAdded}
 use Rattle.image_mount.proofs.leaves.add_records.Given as goal
 
 abbrev pub invariant-loop-record : goal.invariant-loop-record
-invariant-loop-record l = ?
+invariant-loop-record l = record {
+  added : IsAdded l.initial.found.items l.records l.record-index l.found.items;
+  low : l.record-index ≤ length l.records;
+  distinct : AreDistinct (map said l.initial.found.items) → AreDistinct (map said l.found.items);
+}

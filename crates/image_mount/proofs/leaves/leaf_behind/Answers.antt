@@ -1,32 +1,15 @@
-use Rattle.std.proofs.Common.{rules, ℕ, ◌≡◌, ◌≢◌, ◌⊎◌, ◌+◌, ◌-◌, ◌*◌, ◌/◌, ◌^◌, ◌<◌, ◌≤◌, ◌++◌, true, false, drop, length, map, vec_len, slice_get, is_some, None, Some, IfOk, OnOk, IfErr, IfSome, IfNone, ◌%◌, Bool, nat_eq, nat_lt, List, [], ◌∷◌, slice_index_or, slice_set, bit_and, bit_or, Fits, w8, w32, w64, Bor, MutBor}
-use Rattle.std.specs.Prelude.{⊤}
-use Rattle.std.specs.List.{All}
-use Rattle.gfs2_layout.specs.Inode.{depth_in}
-use Rattle.gfs2_layout.specs.Inode.{entry_block as block_of_entry}
-use Rattle.gfs2_layout.specs.Inode.{is_hashed_in}
-use Rattle.gfs2_layout.specs.Records.{records_in, Record}
-use Rattle.gfs2_layout.specs.Structures.{leaf_of}
-use Rattle.image_model.specs.Claims.{every, Claims, master_of}
-use Rattle.image_model.specs.Image.{Image}
-use Rattle.image_model.specs.Owners.{Chained}
-use Rattle.image_model.specs.Rules.{HasRecordIn}
-use Rattle.image_mount.specs.Found.{HasFormat, is_other}
-use Rattle.image_mount.specs.Found.{first_other as first_other_in}
-use Rattle.image_mount.specs.Leaves.{IsMasterIn, IsTableOf, IsLeafIn, IsFirstTold, IsNextLeaf, IsWalked, ComesNext, HasEnded, steps_left}
-use Rattle.image_mount.specs.Listing.{said, standing, AreDistinct}
-use Rattle.image_mount.specs.Refusals.{RefusesRightly}
-use Rattle.image_mount.specs.Searching.{IsRead, IsSteady, StopsRightly, LacksBlock}
-use Rattle.image_mount.specs.Table.{seen_of}
+use Rattle.std.proofs.Common.{◌+◌, refl}
+use Rattle.image_mount.proofs.LeafCauses.{behind_claim, behind_is, depth_differs}
+use Rattle.image_mount.proofs.Stops.{passed}
 use Rattle.image_mount.proofs.leaves.leaf_behind.Goals as goal
 
--- src/leaves.rt:99:16
 pub returns-in_err-head-clause-stops : goal.returns-in_err-head-clause-stops
-returns-in_err-head-clause-stops c = ?
+returns-in_err-head-clause-stops c im a read format depth is more =
+    passed im _ _ c.from_residual.ensures.1 (c.in_err-head.ensures.stops im a c.args.tail.now.hash (c.args.tail.now.place + 1) read format depth (behind_claim im a c.args.tail.now is more))
 
--- src/leaves.rt:101:9
 pub returns-then-head-tail-clause-stops : goal.returns-then-head-tail-clause-stops
-returns-then-head-tail-clause-stops c = ?
+returns-then-head-tail-clause-stops c im a read format depth is more =
+    depth_differs im a c.args.tail.now c.in_ok-head.head _ format is more c.damaged.ensures (c.in_ok-head.ensures.found im read) c.if-head-tail.true
 
--- src/leaves.rt:89:1
 pub returns-clause-found : goal.returns-clause-found
-returns-clause-found c = ?
+returns-clause-found c im a read is more = behind_is im a c.args.tail.now _ is more (c.in_ok-head.ensures.found im read) refl refl refl refl refl

@@ -1,44 +1,53 @@
-use Rattle.std.proofs.Common.{rules, ℕ, ◌≡◌, ◌≢◌, ◌⊎◌, ◌+◌, ◌-◌, ◌*◌, ◌/◌, ◌^◌, ◌<◌, ◌≤◌, ◌++◌, true, false, drop, length, map, vec_len, slice_get, is_some, None, Some, IfOk, OnOk, IfErr, IfSome, IfNone, ◌%◌, Bool, nat_eq, nat_lt, List, [], ◌∷◌, slice_index_or, slice_set, bit_and, bit_or, Fits, w8, w32, w64, Bor, MutBor}
-use Rattle.std.specs.Prelude.{⊤}
-use Rattle.std.specs.List.{All}
-use Rattle.gfs2_layout.specs.Inode.{depth_in}
-use Rattle.gfs2_layout.specs.Inode.{entry_block as block_of_entry}
-use Rattle.gfs2_layout.specs.Inode.{is_hashed_in}
-use Rattle.gfs2_layout.specs.Records.{records_in, Record}
-use Rattle.gfs2_layout.specs.Structures.{leaf_of}
-use Rattle.image_model.specs.Claims.{every, Claims, master_of}
-use Rattle.image_model.specs.Image.{Image}
-use Rattle.image_model.specs.Owners.{Chained}
-use Rattle.image_model.specs.Rules.{HasRecordIn}
-use Rattle.image_mount.specs.Found.{HasFormat, is_other}
-use Rattle.image_mount.specs.Found.{first_other as first_other_in}
-use Rattle.image_mount.specs.Leaves.{IsMasterIn, IsTableOf, IsLeafIn, IsFirstTold, IsNextLeaf, IsWalked, ComesNext, HasEnded, steps_left}
-use Rattle.image_mount.specs.Listing.{said, standing, AreDistinct}
-use Rattle.image_mount.specs.Refusals.{RefusesRightly}
-use Rattle.image_mount.specs.Searching.{IsRead, IsSteady, StopsRightly, LacksBlock}
-use Rattle.image_mount.specs.Table.{seen_of}
+use Rattle.std.proofs.Common.{ℕ, ◌-◌, ◌%◌, refl, sym, ap, subst, ◌∙◌, arith}
+use Rattle.image_model.proofs.Chains.{run_some, start_whole}
+use Rattle.image_model.proofs.Spans.{aligned_run}
+use Rattle.gfs2_layout.specs.Inode.{first_hash}
+use Rattle.image_model.specs.Claims.{every}
+use Rattle.image_mount.proofs.Masters.{first_claim, leaf_is, missing_told, no_leaf_told}
+use Rattle.image_mount.proofs.Stops.{passed}
 use Rattle.image_mount.proofs.leaves.leaf_of_pointer.Goals as goal
 
--- src/leaves.rt:141:9
+pub returns-in_err-by-clause-stops : goal.returns-in_err-by-clause-stops
+returns-in_err-by-clause-stops c im read of = passed im _ _ c.from_residual.ensures.1 (c.in_err-by.ensures.stops im read of)
+
 pub returns-then-number-eq0-clause-stops : goal.returns-then-number-eq0-clause-stops
-returns-then-number-eq0-clause-stops c = ?
+returns-then-number-eq0-clause-stops c im read of =
+    no_leaf_told im c.args.inode.now c.args.pointers.now of c.args.i c.in_ok-by.by c.pointer-number.result _ c.requires (c.in_ok-by.ensures.found im read of) c.pointer-number.ensures c.if-number-eq0.true
+    c.damaged.ensures
 
--- src/leaves.rt:143:16
 pub returns-in_err-head-clause-stops : goal.returns-in_err-head-clause-stops
-returns-in_err-head-clause-stops c = ?
+returns-in_err-head-clause-stops c im read of =
+    let a = c.args.inode.now.block in
+    passed im _ _ c.from_residual-in_err-head.ensures.1
+    (c.in_err-head.ensures.stops im a (first_hash (every im a) c.args.i) 0 read of.master.format of.depth
+    (first_claim im c.args.inode.now c.args.pointers.now of c.args.i c.in_ok-by.by c.pointer-number.result c.requires (c.in_ok-by.ensures.found im read of) c.pointer-number.ensures))
 
--- src/leaves.rt:146:9
 pub leads_to-requires : goal.leads_to-requires
-leads_to-requires c = ?
+leads_to-requires c =
+    let some = run_some c.run-run.result (c.args.pointers.now.depth - c.in_ok-head.head.depth) c.run-run.ensures in
+    let start : ℕ = c.args.i - c.args.i % c.run-run.result in
+    aligned_run start c.run-run.result c.args.pointers.now.depth c.in_ok-head.head.depth c.run-run.ensures (omega (arith, c.requires)) (start_whole c.args.i c.run-run.result some)
 
--- src/leaves.rt:147:9
 pub returns-then-not-leads_to-clause-stops : goal.returns-then-not-leads_to-clause-stops
-returns-then-not-leads_to-clause-stops c = ?
+returns-then-not-leads_to-clause-stops c im read of =
+    let no = c.leads_to.ensures.no c.if-not-leads_to.true in
+    let some = run_some c.run-run.result (c.args.pointers.now.depth - c.in_ok-head.head.depth) c.run-run.ensures in
+    let start : ℕ = c.args.i - c.args.i % c.run-run.result in
+    let room = aligned_run start c.run-run.result c.args.pointers.now.depth c.in_ok-head.head.depth c.run-run.ensures (omega (arith, c.requires)) (start_whole c.args.i c.run-run.result some) in
+    missing_told im c.args.inode.now c.args.pointers.now of c.args.i c.pointer-number.result c.run-run.result c.in_ok-head.head c.requires c.pointer-number.ensures (c.in_ok-head.ensures.found im read) c.run-run.ensures
+    no.0 _ (omega (arith, room, no.1.1)) no.1.0 no.1.1 no.1.2 c.damaged-then-not-leads_to.ensures
 
--- src/leaves.rt:124:1
 pub returns-clause-run : goal.returns-clause-run
-returns-clause-run c = ?
+returns-clause-run c =
+    let some = run_some c.run-run.result (c.args.pointers.now.depth - c.in_ok-head.head.depth) c.run-run.ensures in
+    let start : ℕ = c.args.i - c.args.i % c.run-run.result in
+    let room = aligned_run start c.run-run.result c.args.pointers.now.depth c.in_ok-head.head.depth c.run-run.ensures (omega (arith, c.requires)) (start_whole c.args.i c.run-run.result some) in
+    (omega (arith, some), room)
 
--- src/leaves.rt:124:1
 pub returns-clause-found : goal.returns-clause-found
-returns-clause-found c = ?
+returns-clause-found c im read of =
+    let some = run_some c.run-run.result (c.args.pointers.now.depth - c.in_ok-head.head.depth) c.run-run.ensures in
+    let start : ℕ = c.args.i - c.args.i % c.run-run.result in
+    let room = aligned_run start c.run-run.result c.args.pointers.now.depth c.in_ok-head.head.depth c.run-run.ensures (omega (arith, c.requires)) (start_whole c.args.i c.run-run.result some) in
+    leaf_is im c.args.inode.now c.args.pointers.now of c.args.i c.pointer-number.result c.run-run.result c.in_ok-head.head c.requires c.pointer-number.ensures (c.in_ok-head.ensures.found im read) c.run-run.ensures
+    _ c.in_ok-by.by c.first_hash_of.result (c.in_ok-by.ensures.found im read of) c.first_hash_of.ensures refl refl refl refl refl refl (omega (arith, some)) room (c.leads_to.ensures.yes c.if-not-leads_to.false)

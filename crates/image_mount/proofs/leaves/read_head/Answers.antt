@@ -1,36 +1,34 @@
-use Rattle.std.proofs.Common.{rules, ℕ, ◌≡◌, ◌≢◌, ◌⊎◌, ◌+◌, ◌-◌, ◌*◌, ◌/◌, ◌^◌, ◌<◌, ◌≤◌, ◌++◌, true, false, drop, length, map, vec_len, slice_get, is_some, None, Some, IfOk, OnOk, IfErr, IfSome, IfNone, ◌%◌, Bool, nat_eq, nat_lt, List, [], ◌∷◌, slice_index_or, slice_set, bit_and, bit_or, Fits, w8, w32, w64, Bor, MutBor}
-use Rattle.std.specs.Prelude.{⊤}
-use Rattle.std.specs.List.{All}
-use Rattle.gfs2_layout.specs.Inode.{depth_in}
-use Rattle.gfs2_layout.specs.Inode.{entry_block as block_of_entry}
-use Rattle.gfs2_layout.specs.Inode.{is_hashed_in}
-use Rattle.gfs2_layout.specs.Records.{records_in, Record}
-use Rattle.gfs2_layout.specs.Structures.{leaf_of}
-use Rattle.image_model.specs.Claims.{every, Claims, master_of}
-use Rattle.image_model.specs.Image.{Image}
-use Rattle.image_model.specs.Owners.{Chained}
-use Rattle.image_model.specs.Rules.{HasRecordIn}
-use Rattle.image_mount.specs.Found.{HasFormat, is_other}
-use Rattle.image_mount.specs.Found.{first_other as first_other_in}
-use Rattle.image_mount.specs.Leaves.{IsMasterIn, IsTableOf, IsLeafIn, IsFirstTold, IsNextLeaf, IsWalked, ComesNext, HasEnded, steps_left}
-use Rattle.image_mount.specs.Listing.{said, standing, AreDistinct}
-use Rattle.image_mount.specs.Refusals.{RefusesRightly}
-use Rattle.image_mount.specs.Searching.{IsRead, IsSteady, StopsRightly, LacksBlock}
-use Rattle.image_mount.specs.Table.{seen_of}
+use Rattle.std.proofs.Common.{sym, ap, subst, ◌∙◌, arith}
+use Rattle.gfs2_layout.specs.Headers.{HasHeader}
+use Rattle.image_mount.proofs.Causes.{has, lacks}
+use Rattle.image_mount.proofs.LeafCauses.{leaf_deep, leaf_format, leaf_head, leaf_header}
+use Rattle.image_mount.proofs.Stops.{passed}
+use Rattle.image_mount.proofs.Wanted.{leaf_wanted}
 use Rattle.image_mount.proofs.leaves.read_head.Goals as goal
 
--- src/leaves.rt:76:9
+pub returns-in_err-bytes-clause-stops : goal.returns-in_err-bytes-clause-stops
+returns-in_err-bytes-clause-stops c im a hash place read format depth claimed =
+    passed im _ _ c.from_residual.ensures.1 (leaf_wanted im c.args.by c.args.number a hash place _ c.in_err-bytes.ensures.stops claimed format)
+
 pub has_header-requires : goal.has_header-requires
-has_header-requires c = ?
+has_header-requires c = omega (arith, c.in_ok-bytes.ensures.least)
 
--- src/leaves.rt:77:9
 pub returns-then-not-has_header-clause-stops : goal.returns-then-not-has_header-clause-stops
-returns-then-not-has_header-clause-stops c = ?
+returns-then-not-has_header-clause-stops c im a hash place read format depth claimed =
+    let same = read.same _ _ c.in_ok-bytes.ensures.bytes in
+    leaf_header im _ a c.args.number format (c.args.by, hash, place, claimed) c.damaged.ensures
+    (subst (λ bytes. ¬ (HasHeader 6 600 bytes)) (sym same) (lacks c.has_header.result c.has_header.ensures c.if-not-has_header.true))
 
--- src/leaves.rt:80:9
 pub returns-in_default-clause-stops : goal.returns-in_default-clause-stops
-returns-in_default-clause-stops c = ?
+returns-in_default-clause-stops c im a hash place read format depth claimed =
+    leaf_format im _ a c.args.number format (c.args.by, hash, place, claimed) c.in_ok-bytes.bytes.now c.damaged-in_default.ensures (read.same _ _ c.in_ok-bytes.ensures.bytes)
+    (omega (arith, c.in_ok-bytes.ensures.least)) (has c.has_header.result c.has_header.ensures c.if-not-has_header.false) (λ leaf e. c.in_default.not-Ok leaf (c.read.ensures ∙ e))
 
--- src/leaves.rt:83:9
 pub returns-then-leaf-depth-clause-stops : goal.returns-then-leaf-depth-clause-stops
-returns-then-leaf-depth-clause-stops c = ?
+returns-then-leaf-depth-clause-stops c im a hash place read format depth claimed =
+    leaf_deep im _ a c.args.number format (c.args.by, hash, place, claimed) c.args.depth c.in-Ok.leaf c.damaged-then-leaf-depth.ensures
+    (leaf_head im c.args.number c.in_ok-bytes.bytes.now c.in-Ok.leaf _ (read.same _ _ c.in_ok-bytes.ensures.bytes) c.in-Ok.is c.read.ensures) depth c.if-leaf-depth.true
+
+pub returns-clause-found : goal.returns-clause-found
+returns-clause-found c im read =
+    leaf_head im c.args.number c.in_ok-bytes.bytes.now c.in-Ok.leaf _ (read.same _ _ c.in_ok-bytes.ensures.bytes) c.in-Ok.is c.read.ensures

@@ -1,32 +1,18 @@
-use Rattle.std.proofs.Common.{rules, ℕ, ◌≡◌, ◌≢◌, ◌⊎◌, ◌+◌, ◌-◌, ◌*◌, ◌/◌, ◌^◌, ◌<◌, ◌≤◌, ◌++◌, true, false, drop, length, map, vec_len, slice_get, is_some, None, Some, IfOk, OnOk, IfErr, IfSome, IfNone, ◌%◌, Bool, nat_eq, nat_lt, List, [], ◌∷◌, slice_index_or, slice_set, bit_and, bit_or, Fits, w8, w32, w64, Bor, MutBor}
-use Rattle.std.specs.Prelude.{⊤}
-use Rattle.std.specs.List.{All}
-use Rattle.gfs2_layout.specs.Inode.{depth_in}
-use Rattle.gfs2_layout.specs.Inode.{entry_block as block_of_entry}
-use Rattle.gfs2_layout.specs.Inode.{is_hashed_in}
-use Rattle.gfs2_layout.specs.Records.{records_in, Record}
-use Rattle.gfs2_layout.specs.Structures.{leaf_of}
-use Rattle.image_model.specs.Claims.{every, Claims, master_of}
-use Rattle.image_model.specs.Image.{Image}
-use Rattle.image_model.specs.Owners.{Chained}
-use Rattle.image_model.specs.Rules.{HasRecordIn}
-use Rattle.image_mount.specs.Found.{HasFormat, is_other}
-use Rattle.image_mount.specs.Found.{first_other as first_other_in}
-use Rattle.image_mount.specs.Leaves.{IsMasterIn, IsTableOf, IsLeafIn, IsFirstTold, IsNextLeaf, IsWalked, ComesNext, HasEnded, steps_left}
-use Rattle.image_mount.specs.Listing.{said, standing, AreDistinct}
-use Rattle.image_mount.specs.Refusals.{RefusesRightly}
-use Rattle.image_mount.specs.Searching.{IsRead, IsSteady, StopsRightly, LacksBlock}
-use Rattle.image_mount.specs.Table.{seen_of}
+use Rattle.std.proofs.Common.{◌≡◌, ◌*◌, ◌^◌, refl, sym, ap, ◌∙◌, arith}
+use Rattle.gfs2_layout.specs.Inode.{dinode_in}
+use Rattle.gfs2_layout.specs.declared.dinode.Dinode.{Dinode}
+use Rattle.image_model.specs.Claims.{every}
+use Rattle.image_model.specs.Owners.{Master}
+use Rattle.image_mount.proofs.Masters.{master_claim, master_inode, master_read}
+use Rattle.image_mount.proofs.Stops.{passed, stopped}
 use Rattle.image_mount.proofs.leaves.read_pointers.Goals as goal
 
--- src/leaves.rt:42:17
 pub returns-in_err-depth-clause-stops : goal.returns-in_err-depth-clause-stops
-returns-in_err-depth-clause-stops c = ?
+returns-in_err-depth-clause-stops c im read is hashed =
+    stopped im _ _ c.from_residual.ensures.1
+    (c.in_err-depth.ensures.refused im is.dinode (c.block_size.ensures.value ∙ read.size) is.format (master_inode im c.args.inode.now is, hashed))
 
--- src/leaves.rt:43:17
 pub returns-in_err-bytes-clause-stops : goal.returns-in_err-bytes-clause-stops
-returns-in_err-bytes-clause-stops c = ?
-
--- src/leaves.rt:44:5
-pub invariant_of-result : goal.invariant_of-result
-invariant_of-result c = ?
+returns-in_err-bytes-clause-stops c im read is hashed =
+    passed im _ _ c.from_residual-in_err-bytes.ensures.1
+    (c.in_err-bytes.ensures.stops im Master read (master_claim im c.args.inode.now is) refl is.format (master_read im c.args.inode.now is))

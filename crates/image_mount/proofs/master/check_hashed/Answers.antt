@@ -1,20 +1,18 @@
-use Rattle.std.proofs.Common.{rules, ℕ, ◌≡◌, ◌≤◌, ◌^◌, [], true, map, vec_len, IsTrue, OnOk, IfOk, IfErr, ◌+◌, ◌-◌, ◌*◌, ◌<◌, length, ◌/◌, ◌%◌, Bool, false, nat_eq, nat_lt, List, ◌∷◌, ◌++◌, slice_index_or, slice_set, bit_and, bit_or, Fits, w8, w32, w64, Bor, MutBor}
-use Rattle.gfs2_layout.specs.Inode.{dinode_in, is_hashed_in}
-use Rattle.image_model.specs.Claims.{every, master_of}
-use Rattle.image_model.specs.Image.{Image, image_of}
-use Rattle.image_mount.specs.Found.{HasFormat, most_blocks}
-use Rattle.image_mount.specs.Leaves.{IsMasterIn, IsTableOf, IsWalked, HasEnded}
-use Rattle.image_mount.specs.Listing.{said, AreAllRecords, AreCountedIn}
-use Rattle.image_mount.specs.Refusals.{HasRisen, RefusesRightly}
-use Rattle.image_mount.specs.Rings.{IsSearched}
-use Rattle.image_mount.specs.Searching.{IsRead, IsSteady, IsWorking, LacksBlock, StopsRightly}
-use Rattle.image_mount.specs.System.{IsMasterOf, ArePlainRecords}
+use Rattle.std.proofs.Common.{refl}
+use Rattle.image_model.specs.Owners.{Master}
+use Rattle.image_mount.proofs.Masters.{master_claim}
+use Rattle.image_mount.proofs.Records.{dot_astray, dot_missing, dots_astray, dots_missing}
+use Rattle.image_mount.proofs.Stops.{refused}
 use Rattle.image_mount.proofs.master.check_hashed.Goals as goal
 
--- src/master.rt:138:5
 pub returns-in_err-check_dot-clause-refused : goal.returns-in_err-check_dot-clause-refused
-returns-in_err-check_dot-clause-refused c = ?
+returns-in_err-check_dot-clause-refused c im is all counted =
+    let a = c.args.inode.now.block in
+    refused im _ _ c.from_residual.ensures.1 (c.in_err-check_dot.ensures.refused im is.format (dot_missing im a c.args.records.now all) (dot_astray im a c.args.records.now all))
 
--- src/master.rt:139:5
 pub returns-in_err-check_dot-2-clause-refused : goal.returns-in_err-check_dot-2-clause-refused
-returns-in_err-check_dot-2-clause-refused c = ?
+returns-in_err-check_dot-2-clause-refused c im is all counted =
+    let inode = c.args.inode.now in
+    refused im _ _ c.from_residual-in_err-check_dot-2.ensures.1
+    (c.in_err-check_dot-2.ensures.refused im is.format (dots_missing im inode.block c.args.records.now all)
+    (dots_astray im inode.block c.args.records.now all inode.block Master (record { by = inode.from; claimed = master_claim im inode is; dinode = refl }) refl))

@@ -1,20 +1,24 @@
-use Rattle.std.proofs.Common.{rules, ℕ, ◌≡◌, ◌≤◌, ◌^◌, [], true, map, vec_len, IsTrue, OnOk, IfOk, IfErr, ◌+◌, ◌-◌, ◌*◌, ◌<◌, length, ◌/◌, ◌%◌, Bool, false, nat_eq, nat_lt, List, ◌∷◌, ◌++◌, slice_index_or, slice_set, bit_and, bit_or, Fits, w8, w32, w64, Bor, MutBor}
-use Rattle.gfs2_layout.specs.Inode.{dinode_in, is_hashed_in}
+use Rattle.std.proofs.Common.{◌≡◌, refl, ap, sym, ◌∙◌}
+use Rattle.gfs2_layout.specs.Device.{superblock_place}
+use Rattle.gfs2_layout.specs.declared.superblock.SuperBlock.{SuperBlock}
+use Rattle.gfs2_layout.specs.Inode.{dinode_in}
 use Rattle.image_model.specs.Claims.{every, master_of}
-use Rattle.image_model.specs.Image.{Image, image_of}
-use Rattle.image_mount.specs.Found.{HasFormat, most_blocks}
-use Rattle.image_mount.specs.Leaves.{IsMasterIn, IsTableOf, IsWalked, HasEnded}
-use Rattle.image_mount.specs.Listing.{said, AreAllRecords, AreCountedIn}
-use Rattle.image_mount.specs.Refusals.{HasRisen, RefusesRightly}
-use Rattle.image_mount.specs.Rings.{IsSearched}
-use Rattle.image_mount.specs.Searching.{IsRead, IsSteady, IsWorking, LacksBlock, StopsRightly}
-use Rattle.image_mount.specs.System.{IsMasterOf, ArePlainRecords}
+use Rattle.image_model.specs.Owners.{Master}
+use Rattle.image_mount.proofs.Stops.{passed}
+use Rattle.image_mount.proofs.SystemFiles.{is_master, master_file, not_directory}
 use Rattle.image_mount.proofs.master.find_master.Goals as goal
 
--- src/master.rt:42:17
 pub returns-in_err-inode-clause-stops : goal.returns-in_err-inode-clause-stops
-returns-in_err-inode-clause-stops c = ?
+returns-in_err-inode-clause-stops c im read few =
+    let place : c.superblock_place-place.result ≡ superblock_place im.size = c.superblock_place-place.ensures ∙ ap superblock_place (c.block_size.ensures.value ∙ read.size) in
+    let same : c.in_ok-superblock.superblock.master.address ≡ master_of im = ap (λ (s : SuperBlock). s.master.address) (c.in_ok-superblock.ensures.found im read) in
+    passed im _ _ c.from_residual-in_err-inode.ensures.1 (c.in_err-inode.ensures.stops im Master read (is_master im _ _ place same) refl (c.in_ok-superblock.ensures.format im read few))
 
--- src/master.rt:44:9
 pub returns-then-not-is_directory-clause-stops : goal.returns-then-not-is_directory-clause-stops
-returns-then-not-is_directory-clause-stops c = ?
+returns-then-not-is_directory-clause-stops c im read few =
+    let inode = c.in_ok-inode.inode in
+    let same : c.in_ok-superblock.superblock.master.address ≡ master_of im = ap (λ (s : SuperBlock). s.master.address) (c.in_ok-superblock.ensures.found im read) in
+    let dinode = c.in_ok-inode.ensures.found im read in
+    let at = c.in_ok-inode.ensures.block in
+    master_file im _ inode.block c.damaged.ensures (c.in_ok-superblock.ensures.format im read few) (at ∙ same)
+    (not_directory im inode.block inode.dinode c.is_directory.result (dinode ∙ ap (λ a. dinode_in (every im a)) (sym at)) c.is_directory.ensures c.if-not-is_directory.true)

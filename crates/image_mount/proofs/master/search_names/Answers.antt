@@ -1,20 +1,28 @@
-use Rattle.std.proofs.Common.{rules, ℕ, ◌≡◌, ◌≤◌, ◌^◌, [], true, map, vec_len, IsTrue, OnOk, IfOk, IfErr, ◌+◌, ◌-◌, ◌*◌, ◌<◌, length, ◌/◌, ◌%◌, Bool, false, nat_eq, nat_lt, List, ◌∷◌, ◌++◌, slice_index_or, slice_set, bit_and, bit_or, Fits, w8, w32, w64, Bor, MutBor}
-use Rattle.gfs2_layout.specs.Inode.{dinode_in, is_hashed_in}
-use Rattle.image_model.specs.Claims.{every, master_of}
-use Rattle.image_model.specs.Image.{Image, image_of}
-use Rattle.image_mount.specs.Found.{HasFormat, most_blocks}
-use Rattle.image_mount.specs.Leaves.{IsMasterIn, IsTableOf, IsWalked, HasEnded}
-use Rattle.image_mount.specs.Listing.{said, AreAllRecords, AreCountedIn}
-use Rattle.image_mount.specs.Refusals.{HasRisen, RefusesRightly}
-use Rattle.image_mount.specs.Rings.{IsSearched}
-use Rattle.image_mount.specs.Searching.{IsRead, IsSteady, IsWorking, LacksBlock, StopsRightly}
-use Rattle.image_mount.specs.System.{IsMasterOf, ArePlainRecords}
+use Rattle.std.proofs.Common.{◌≡◌, true, sym, subst, ◌∙◌, arith}
+use Rattle.std.specs.Prelude.{map}
+use Rattle.gfs2_layout.specs.Inode.{is_hashed_in}
+use Rattle.image_model.specs.Claims.{every}
+use Rattle.image_model.specs.Image.{image_of}
+use Rattle.image_mount.specs.Listing.{said, is_hashed_by, AreAllRecords, AreCountedIn}
+use Rattle.image_mount.proofs.Causes.{hashed_as}
+use Rattle.image_mount.proofs.LeafWalks.{walk_counted, walk_found, walk_plain, walked_by}
+use Rattle.image_mount.proofs.Stops.{refused}
 use Rattle.image_mount.proofs.master.search_names.Goals as goal
 
--- src/master.rt:168:5
 pub returns-in_err-check_hashed-clause-refused : goal.returns-in_err-check_hashed-clause-refused
-returns-in_err-check_hashed-clause-refused g c = ?
+returns-in_err-check_hashed-clause-refused g c tells is known =
+    let inode = c.args.inode.now in
+    let flag : is_hashed_by inode.dinode ≡ true = sym c.is_hashed.ensures ∙ grind (arith, c.if-not-is_hashed.false) in
+    let of = c.in_ok-pointers.ensures.found tells is (hashed_as (image_of (g.D.SharedDisk.state c.args.disk.now)) inode.block _ true is.dinode flag) in
+    let walk = walked_by _ _ c.in_ok-pointers.ensures.same inode c.in_ok-pointers.pointers c.in_ok-walk.walk c.in_ok-walk.ensures.found tells of in
+    refused (image_of (g.D.SharedDisk.state c.args.disk.now)) _ _ c.from_residual-in_err-check_hashed.ensures.1
+    (c.in_err-check_hashed.ensures.refused (image_of (g.D.SharedDisk.state c.args.disk.now)) is
+    (subst (AreAllRecords (image_of (g.D.SharedDisk.state c.args.disk.now)) inode.block) (sym c.deref.ensures.value) (walk_found (image_of (g.D.SharedDisk.state c.args.disk.now)) inode c.in_ok-pointers.pointers c.in_ok-walk.walk of walk c.in_ok-walk.ensures.ended))
+    (subst (λ xs. AreCountedIn (image_of (g.D.SharedDisk.state c.args.disk.now)) inode.block (map said xs)) (sym c.deref.ensures.value) (walk_counted (image_of (g.D.SharedDisk.state c.args.disk.now)) inode c.in_ok-pointers.pointers c.in_ok-walk.walk of walk c.in_ok-walk.ensures.ended)))
 
--- src/master.rt:146:1
 pub returns-clause-found : goal.returns-clause-found
-returns-clause-found g c = ?
+returns-clause-found g c tells is hashed =
+    let inode = c.args.inode.now in
+    let of = c.in_ok-pointers.ensures.found tells is hashed in
+    let walk = walked_by _ _ c.in_ok-pointers.ensures.same inode c.in_ok-pointers.pointers c.in_ok-walk.walk c.in_ok-walk.ensures.found tells of in
+    walk_plain (image_of (g.D.SharedDisk.state c.args.disk.now)) inode c.in_ok-pointers.pointers c.in_ok-walk.walk of walk c.in_ok-walk.ensures.ended

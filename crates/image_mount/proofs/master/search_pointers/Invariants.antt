@@ -1,18 +1,20 @@
-use Rattle.std.proofs.Common.{ℕ, ◌≡◌, ◌≤◌, ◌^◌, [], true, map, vec_len, IsTrue, OnOk, IfOk, IfErr, ◌+◌, ◌-◌, ◌*◌, ◌<◌, length}
-use Rattle.gfs2_layout.specs.Inode.{dinode_in, is_hashed_in}
-use Rattle.image_model.specs.Claims.{every, master_of}
-use Rattle.image_model.specs.Image.{Image, image_of}
-use Rattle.image_mount.specs.Found.{HasFormat, most_blocks}
-use Rattle.image_mount.specs.Leaves.{IsMasterIn, IsTableOf, IsWalked, HasEnded}
-use Rattle.image_mount.specs.Listing.{said, AreAllRecords, AreCountedIn}
-use Rattle.image_mount.specs.Refusals.{HasRisen, RefusesRightly}
+use Rattle.std.proofs.Common.{◌≡◌, ◌≤◌, ℕ, [], true, IsTrue}
+use Rattle.gfs2_layout.specs.Inode.{is_hashed_in}
+use Rattle.image_model.specs.Claims.{every}
+use Rattle.image_mount.specs.Leaves.{IsMasterIn}
+use Rattle.image_model.specs.Image.{image_of}
 use Rattle.image_mount.specs.Rings.{IsSearched}
-use Rattle.image_mount.specs.Searching.{IsRead, IsSteady, IsWorking, LacksBlock, StopsRightly}
-use Rattle.image_mount.specs.System.{IsMasterOf, ArePlainRecords}
+use Rattle.image_mount.specs.Searching.{IsWorking}
 use Rattle.image_mount.proofs.master.search_pointers.Given as goal
 
 abbrev pub invariant-loop-pointers : goal.invariant-loop-pointers
-invariant-loop-pointers g l = ?
+invariant-loop-pointers g l = record {
+  work : IsWorking (g.D.SharedDisk.state l.disk) l.table;
+  searched : IsTrue (g.D.SharedDisk.state l.initial.disk).tells → IsMasterIn (image_of (g.D.SharedDisk.state l.initial.disk)) l.inode → is_hashed_in (every (image_of (g.D.SharedDisk.state l.initial.disk)) l.inode.block) ≡ true → IsSearched (image_of (g.D.SharedDisk.state l.initial.disk)) [] 0 0 l.initial.table → IsSearched (image_of (g.D.SharedDisk.state l.initial.disk)) [] 0 0 l.table;
+  same : g.D.SharedDisk.state l.disk ≡ g.D.SharedDisk.state l.initial.disk;
+  list : g.D.SharedDisk.list l.disk ≡ g.D.SharedDisk.list l.initial.disk;
+  later : (j : ℕ) → g.D.SharedDisk.faults l.initial.disk j ≤ g.D.SharedDisk.faults l.disk j;
+}
 
 abbrev pub decreases-loop-pointers : goal.decreases-loop-pointers
-decreases-loop-pointers g l = ?
+decreases-loop-pointers g l = l.table.left

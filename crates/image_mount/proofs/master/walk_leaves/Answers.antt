@@ -1,112 +1,105 @@
-use Rattle.std.proofs.Common.{rules, ℕ, ◌≡◌, ◌≤◌, ◌^◌, [], true, map, vec_len, IsTrue, OnOk, IfOk, IfErr, ◌+◌, ◌-◌, ◌*◌, ◌<◌, length, ◌/◌, ◌%◌, Bool, false, nat_eq, nat_lt, List, ◌∷◌, ◌++◌, slice_index_or, slice_set, bit_and, bit_or, Fits, w8, w32, w64, Bor, MutBor}
-use Rattle.gfs2_layout.specs.Inode.{dinode_in, is_hashed_in}
-use Rattle.image_model.specs.Claims.{every, master_of}
-use Rattle.image_model.specs.Image.{Image, image_of}
-use Rattle.image_mount.specs.Found.{HasFormat, most_blocks}
-use Rattle.image_mount.specs.Leaves.{IsMasterIn, IsTableOf, IsWalked, HasEnded}
-use Rattle.image_mount.specs.Listing.{said, AreAllRecords, AreCountedIn}
-use Rattle.image_mount.specs.Refusals.{HasRisen, RefusesRightly}
-use Rattle.image_mount.specs.Rings.{IsSearched}
-use Rattle.image_mount.specs.Searching.{IsRead, IsSteady, IsWorking, LacksBlock, StopsRightly}
-use Rattle.image_mount.specs.System.{IsMasterOf, ArePlainRecords}
+use Rattle.std.proofs.Common.{◌^◌, [], refl, ap, arith, ◌∙◌}
+use Rattle.image_model.specs.Claims.{master_of}
+use Rattle.image_model.specs.Image.{image_of}
+use Rattle.shared_disk.specs.Disk.{DiskState}
+use Rattle.image_mount.proofs.LeafWalks.{next_leaf_in, walked_at}
+use Rattle.image_mount.proofs.Marks.{go_refused}
+use Rattle.image_mount.proofs.Shown.{kept_inside}
+use Rattle.image_mount.proofs.Stops.{refused}
+use Rattle.image_mount.proofs.Working.{read_now}
 use Rattle.image_mount.proofs.master.walk_leaves.Goals as goal
 
--- src/master.rt:121:5
 pub loop-at-init : goal.loop-at-init
-loop-at-init g c = ?
+loop-at-init g c = record {
+  work = c.requires.work;
+  count = c.in_ok-walk.ensures.count ∙ c.blocks-2.ensures.value;
+  within = omega (arith, c.in_ok-walk.ensures.index);
+  walked = λ tells of. c.in_ok-walk.ensures.walked (image_of (g.D.SharedDisk.state c.args.disk.now)) (master_of (image_of (g.D.SharedDisk.state c.args.disk.now)));
+  searched = λ tells of known. known;
+  same = refl;
+  list = refl;
+  later = λ j. omega arith;
+}
 
--- src/master.rt:122:15
 pub next-requires-clause-count : goal.next-requires-clause-count
-next-requires-clause-count g c = ?
+next-requires-clause-count g c = omega (arith, c.loop-at.invariant.count, c.requires.few)
 
--- src/master.rt:122:15
 pub next-requires-clause-within : goal.next-requires-clause-within
-next-requires-clause-within g c = ?
+next-requires-clause-within g c = c.loop-at.invariant.within
 
--- src/master.rt:124:32
 pub enter-requires-clause-inside : goal.enter-requires-clause-inside
-enter-requires-clause-inside g c = ?
+enter-requires-clause-inside g c =
+    let inv = c.loop-at.invariant in
+    omega (arith, kept_inside c.loop-at.table.entries c.in-Ok-Some.at.block c.in-Ok.bytes.now c.in-Ok.ensures.bytes, inv.count, inv.work.count, ap (λ (s : DiskState). s.count) inv.same)
 
--- src/master.rt:124:32
-pub enter-requires-clause-whole : goal.enter-requires-clause-whole
-enter-requires-clause-whole g c = ?
-
--- src/master.rt:121:5
 pub loop-at-smaller-in-Continue-branch-2 : goal.loop-at-smaller-in-Continue-branch-2
-loop-at-smaller-in-Continue-branch-2 g c = ?
+loop-at-smaller-in-Continue-branch-2 g c = omega (arith, c.in_ok-enter-in-Ok.ensures.falls (2 ^ c.args.pointers.now.depth) c.in-Ok-Some.ensures.run)
 
--- src/master.rt:121:5
 pub loop-at-preserved-in-Continue-branch-2 : goal.loop-at-preserved-in-Continue-branch-2
-loop-at-preserved-in-Continue-branch-2 g c = ?
+loop-at-preserved-in-Continue-branch-2 g c =
+    let inv = c.loop-at.invariant in
+    let entered = c.in_ok-enter-in-Ok.ensures in
+    record {
+      work = inv.work;
+      count = entered.count ∙ inv.count;
+      within = omega (arith, entered.index, c.in-Ok-Some.ensures.run);
+      walked = λ tells of.
+          let read = read_now _ _ _ inv.same tells inv.work in
+          let walk = inv.walked tells of in
+          let leaf = c.in-Ok-Some.ensures.found (image_of (g.D.SharedDisk.state c.args.disk.now)) read of (walked_at (image_of (g.D.SharedDisk.state c.args.disk.now)) c.args.inode.now c.args.pointers.now c.loop-at.walk of walk) in
+          entered.walked (image_of (g.D.SharedDisk.state c.args.disk.now)) (next_leaf_in (image_of (g.D.SharedDisk.state c.args.disk.now)) c.args.inode.now c.args.pointers.now c.loop-at.walk c.in-Ok-Some.at of walk leaf c.in-Ok-Some.ensures.next) of.master.block (read.same _ _ c.in-Ok.ensures.bytes);
+      searched = inv.searched;
+      same = inv.same;
+      list = inv.list;
+      later = inv.later;
+    }
 
--- src/master.rt:124:32
-pub returns-in_err-enter-in-Some-clause-refused : goal.returns-in_err-enter-in-Some-clause-refused
-returns-in_err-enter-in-Some-clause-refused g c = ?
+pub returns-in_err-enter-in-Ok-clause-refused : goal.returns-in_err-enter-in-Ok-clause-refused
+returns-in_err-enter-in-Ok-clause-refused g c tells of known =
+    let inv = c.loop-at.invariant in
+    let read = read_now _ _ _ inv.same tells inv.work in
+    let walk = inv.walked tells of in
+    let leaf = c.in-Ok-Some.ensures.found (image_of (g.D.SharedDisk.state c.args.disk.now)) read of (walked_at (image_of (g.D.SharedDisk.state c.args.disk.now)) c.args.inode.now c.args.pointers.now c.loop-at.walk of walk) in
+    refused (image_of (g.D.SharedDisk.state c.args.disk.now)) _ _ c.from_residual.ensures.1
+    (c.in_err-enter-in-Ok.ensures.refused (image_of (g.D.SharedDisk.state c.args.disk.now)) (next_leaf_in (image_of (g.D.SharedDisk.state c.args.disk.now)) c.args.inode.now c.args.pointers.now c.loop-at.walk c.in-Ok-Some.at of walk leaf c.in-Ok-Some.ensures.next) of.master.block (read.same _ _ c.in-Ok.ensures.bytes))
 
--- src/master.rt:124:32
-pub returns-in_err-enter-in-Some-clause-same : goal.returns-in_err-enter-in-Some-clause-same
-returns-in_err-enter-in-Some-clause-same g c = ?
+pub returns-in_err-enter-in-Ok-clause-same : goal.returns-in_err-enter-in-Ok-clause-same
+returns-in_err-enter-in-Ok-clause-same g c = c.loop-at.invariant.same
 
--- src/master.rt:124:32
-pub returns-in_err-enter-in-Some-clause-list : goal.returns-in_err-enter-in-Some-clause-list
-returns-in_err-enter-in-Some-clause-list g c = ?
+pub returns-in_err-enter-in-Ok-clause-list : goal.returns-in_err-enter-in-Ok-clause-list
+returns-in_err-enter-in-Ok-clause-list g c = c.loop-at.invariant.list
 
--- src/master.rt:124:32
-pub returns-in_err-enter-in-Some-clause-later : goal.returns-in_err-enter-in-Some-clause-later
-returns-in_err-enter-in-Some-clause-later g c = ?
+pub returns-in_err-enter-in-Ok-clause-later : goal.returns-in_err-enter-in-Ok-clause-later
+returns-in_err-enter-in-Ok-clause-later g c = c.loop-at.invariant.later
 
--- src/master.rt:127:25
-pub returns-in-Ok-None-clause-work : goal.returns-in-Ok-None-clause-work
-returns-in-Ok-None-clause-work g c = ?
-
--- src/master.rt:127:25
 pub returns-in-Ok-None-clause-found : goal.returns-in-Ok-None-clause-found
-returns-in-Ok-None-clause-found g c = ?
+returns-in-Ok-None-clause-found g c tells of = walked_at (image_of (g.D.SharedDisk.state c.args.disk.now)) c.args.inode.now c.args.pointers.now c.loop-at.walk of (c.loop-at.invariant.walked tells of)
 
--- src/master.rt:127:25
-pub returns-in-Ok-None-clause-searched : goal.returns-in-Ok-None-clause-searched
-returns-in-Ok-None-clause-searched g c = ?
-
--- src/master.rt:127:25
-pub returns-in-Ok-None-clause-same : goal.returns-in-Ok-None-clause-same
-returns-in-Ok-None-clause-same g c = ?
-
--- src/master.rt:127:25
-pub returns-in-Ok-None-clause-list : goal.returns-in-Ok-None-clause-list
-returns-in-Ok-None-clause-list g c = ?
-
--- src/master.rt:127:25
-pub returns-in-Ok-None-clause-later : goal.returns-in-Ok-None-clause-later
-returns-in-Ok-None-clause-later g c = ?
-
--- src/master.rt:128:26
-pub go_on-requires-clause-work : goal.go_on-requires-clause-work
-go_on-requires-clause-work g c = ?
-
--- src/master.rt:121:5
 pub loop-at-smaller : goal.loop-at-smaller
-loop-at-smaller g c = ?
+loop-at-smaller g c = omega (arith, c.in_ok-go_on-in-Err.ensures.falls)
 
--- src/master.rt:121:5
 pub loop-at-preserved : goal.loop-at-preserved
-loop-at-preserved g c = ?
+loop-at-preserved g c =
+    let inv = c.loop-at.invariant in
+    let next = c.in_ok-go_on-in-Err.ensures in
+    record {
+      work = next.work;
+      count = inv.count;
+      within = inv.within;
+      walked = inv.walked;
+      searched = λ tells of known.
+          next.searched (image_of (g.D.SharedDisk.state c.args.disk.now)) [] 0 0
+          (c.in-Err.ensures.stops (image_of (g.D.SharedDisk.state c.args.disk.now)) (read_now _ _ _ inv.same tells inv.work) of (walked_at (image_of (g.D.SharedDisk.state c.args.disk.now)) c.args.inode.now c.args.pointers.now c.loop-at.walk of (inv.walked tells of)))
+          (inv.searched tells of known);
+      same = next.same ∙ inv.same;
+      list = next.list ∙ inv.list;
+      later = λ j. omega (arith, inv.later j, next.later j);
+    }
 
--- src/master.rt:128:26
 pub returns-in_err-go_on-in-Err-clause-refused : goal.returns-in_err-go_on-in-Err-clause-refused
-returns-in_err-go_on-in-Err-clause-refused g c = ?
-
--- src/master.rt:128:26
-pub returns-in_err-go_on-in-Err-clause-risen : goal.returns-in_err-go_on-in-Err-clause-risen
-returns-in_err-go_on-in-Err-clause-risen g c = ?
-
--- src/master.rt:128:26
-pub returns-in_err-go_on-in-Err-clause-same : goal.returns-in_err-go_on-in-Err-clause-same
-returns-in_err-go_on-in-Err-clause-same g c = ?
-
--- src/master.rt:128:26
-pub returns-in_err-go_on-in-Err-clause-list : goal.returns-in_err-go_on-in-Err-clause-list
-returns-in_err-go_on-in-Err-clause-list g c = ?
-
--- src/master.rt:128:26
-pub returns-in_err-go_on-in-Err-clause-later : goal.returns-in_err-go_on-in-Err-clause-later
-returns-in_err-go_on-in-Err-clause-later g c = ?
+returns-in_err-go_on-in-Err-clause-refused g c tells of known =
+    let inv = c.loop-at.invariant in
+    refused (image_of (g.D.SharedDisk.state c.args.disk.now)) _ _ c.from_residual-in_err-go_on-in-Err.ensures.1
+    (go_refused _ _ _ _ _ [] 0 0 inv.same c.in_err-go_on-in-Err.ensures.refused tells
+    (c.in-Err.ensures.stops (image_of (g.D.SharedDisk.state c.args.disk.now)) (read_now _ _ _ inv.same tells inv.work) of (walked_at (image_of (g.D.SharedDisk.state c.args.disk.now)) c.args.inode.now c.args.pointers.now c.loop-at.walk of (inv.walked tells of)))
+    (inv.searched tells of known))

@@ -1,18 +1,22 @@
-use Rattle.std.proofs.Common.{ℕ, ◌≡◌, ◌≤◌, ◌^◌, [], true, map, vec_len, IsTrue, OnOk, IfOk, IfErr, ◌+◌, ◌-◌, ◌*◌, ◌<◌, length}
-use Rattle.gfs2_layout.specs.Inode.{dinode_in, is_hashed_in}
-use Rattle.image_model.specs.Claims.{every, master_of}
-use Rattle.image_model.specs.Image.{Image, image_of}
-use Rattle.image_mount.specs.Found.{HasFormat, most_blocks}
-use Rattle.image_mount.specs.Leaves.{IsMasterIn, IsTableOf, IsWalked, HasEnded}
-use Rattle.image_mount.specs.Listing.{said, AreAllRecords, AreCountedIn}
-use Rattle.image_mount.specs.Refusals.{HasRisen, RefusesRightly}
+use Rattle.std.proofs.Common.{◌≡◌, ◌≤◌, ◌+◌, ◌^◌, ℕ, [], IsTrue, vec_len}
+use Rattle.image_model.specs.Claims.{master_of}
+use Rattle.image_model.specs.Image.{image_of}
+use Rattle.image_mount.specs.Leaves.{IsTableOf, IsWalked, steps_left}
 use Rattle.image_mount.specs.Rings.{IsSearched}
-use Rattle.image_mount.specs.Searching.{IsRead, IsSteady, IsWorking, LacksBlock, StopsRightly}
-use Rattle.image_mount.specs.System.{IsMasterOf, ArePlainRecords}
+use Rattle.image_mount.specs.Searching.{IsWorking}
 use Rattle.image_mount.proofs.master.walk_leaves.Given as goal
 
 abbrev pub invariant-loop-at : goal.invariant-loop-at
-invariant-loop-at g l = ?
+invariant-loop-at g l = record {
+  work : IsWorking (g.D.SharedDisk.state l.disk) l.table;
+  count : vec_len l.walk.owners.entries ≡ (g.D.SharedDisk.state l.initial.disk).count;
+  within : l.walk.index ≤ 2 ^ l.pointers.depth;
+  walked : IsTrue (g.D.SharedDisk.state l.initial.disk).tells → IsTableOf (image_of (g.D.SharedDisk.state l.initial.disk)) l.inode l.pointers → IsWalked (image_of (g.D.SharedDisk.state l.initial.disk)) (master_of (image_of (g.D.SharedDisk.state l.initial.disk))) l.walk;
+  searched : IsTrue (g.D.SharedDisk.state l.initial.disk).tells → IsTableOf (image_of (g.D.SharedDisk.state l.initial.disk)) l.inode l.pointers → IsSearched (image_of (g.D.SharedDisk.state l.initial.disk)) [] 0 0 l.initial.table → IsSearched (image_of (g.D.SharedDisk.state l.initial.disk)) [] 0 0 l.table;
+  same : g.D.SharedDisk.state l.disk ≡ g.D.SharedDisk.state l.initial.disk;
+  list : g.D.SharedDisk.list l.disk ≡ g.D.SharedDisk.list l.initial.disk;
+  later : (j : ℕ) → g.D.SharedDisk.faults l.initial.disk j ≤ g.D.SharedDisk.faults l.disk j;
+}
 
 abbrev pub decreases-loop-at : goal.decreases-loop-at
-decreases-loop-at g l = ?
+decreases-loop-at g l = l.table.left + steps_left l.walk (2 ^ l.pointers.depth)

@@ -1,28 +1,16 @@
-use Rattle.std.proofs.Common.{[], arith, ◌∙◌}
+use Rattle.std.proofs.Common.{◌∙◌, sym, subst}
 use Rattle.image_model.specs.Image.{image_of}
-use Rattle.image_mount.proofs.Marks.{go_refused}
-use Rattle.image_mount.proofs.Stops.{refused}
-use Rattle.image_mount.proofs.Working.{read_now}
+use Rattle.image_mount.specs.System.{IsNamedBy}
+use Rattle.image_mount.proofs.Moved.{names_searched, files_searched, names_known}
+use Rattle.image_mount.proofs.Stops.{held}
 use Rattle.image_mount.proofs.mounting.search_system.Goals as goal
 
-pub loop-system-preserved : goal.loop-system-preserved
-loop-system-preserved g c =
-    let inv = c.loop-system.invariant in
-    let next = c.in_ok-go_on-in-Err.ensures in
-    record {
-      work = next.work;
-      searched = λ tells few known.
-          next.searched (image_of (g.D.SharedDisk.state c.args.disk.now)) [] 0 0 (c.in-Err.ensures.stops (image_of (g.D.SharedDisk.state c.args.disk.now)) (read_now _ _ _ inv.same tells inv.work) c.blocks-count.ensures.value few) (inv.searched tells few known);
-      same = next.same ∙ inv.same;
-      list = next.list ∙ inv.list;
-      later = λ j. omega (arith, inv.later j, next.later j);
-    }
-
-pub returns-in_err-go_on-in-Err-clause-refused : goal.returns-in_err-go_on-in-Err-clause-refused
-returns-in_err-go_on-in-Err-clause-refused g c tells few known =
-    let inv = c.loop-system.invariant in
-    refused (image_of (g.D.SharedDisk.state c.args.disk.now)) _ _ c.from_residual.ensures.1
-    (go_refused _ _ _ _ _ [] 0 0 inv.same c.in_err-go_on-in-Err.ensures.refused tells (c.in-Err.ensures.stops (image_of (g.D.SharedDisk.state c.args.disk.now)) (read_now _ _ _ inv.same tells inv.work) c.blocks-count.ensures.value few) (inv.searched tells few known))
-
-pub returns-in-Ok-clause-found : goal.returns-in-Ok-clause-found
-returns-in-Ok-clause-found g c tells few known = c.in-Ok.ensures.found _ (read_now _ _ _ c.loop-system.invariant.same tells c.loop-system.invariant.work) c.blocks-count.ensures.value few
+pub returns-clause-searched : goal.returns-clause-searched
+returns-clause-searched g c =
+    held c.search_files.result _ _ c.search_files.ensures.searched (λ more tells known.
+    let m = c.in_ok-master.ensures in
+    let n = c.in_ok-names.ensures in
+    let master = m.found tells c.requires.few known in
+    files_searched _ _ (n.same ∙ m.same) c.in_ok-master.master c.deref.result.now _ _ more tells master
+    (subst (IsNamedBy (image_of (g.D.SharedDisk.state c.args.disk.now)) c.in_ok-master.master) (sym c.deref.ensures.value) (names_known _ _ m.same c.in_ok-master.master c.in_ok-names.names.items n.found tells master))
+    (names_searched _ _ m.same c.in_ok-master.master _ _ n.searched tells master (m.searched tells c.requires.few known)))

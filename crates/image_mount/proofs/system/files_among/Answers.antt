@@ -1,28 +1,23 @@
-use Rattle.std.proofs.Common.{rules, ℕ, ◌≡◌, ◌≢◌, ◌<◌, ◌≤◌, ◌↔◌, true, false, length, map, codes, slice_get, Some, IsTrue, IfOk, OnOk, IfErr, IfSome, IfNone, ◌+◌, ◌-◌, ◌*◌, ◌/◌, ◌%◌, Bool, nat_eq, nat_lt, List, [], ◌∷◌, ◌++◌, slice_index_or, slice_set, bit_and, bit_or, Fits, w8, w32, w64, Bor, MutBor}
-use Rattle.gfs2_layout.specs.Inode.{is_hashed_in}
-use Rattle.gfs2_layout.specs.Records.{Record}
-use Rattle.image_model.specs.Claims.{every, master_of}
-use Rattle.image_model.specs.Image.{Image}
-use Rattle.image_model.specs.Journals.{journal_name as name_of_journal}
-use Rattle.image_model.specs.Rules.{HasRecords}
-use Rattle.image_model.specs.Stands.{Layout}
-use Rattle.image_mount.specs.Found.{HasFormat, HasGroups}
-use Rattle.image_mount.specs.Leaves.{IsMasterIn}
-use Rattle.image_mount.specs.Listing.{said, AreAllRecords}
-use Rattle.image_mount.specs.Refusals.{RefusesRightly}
-use Rattle.image_mount.specs.declared.fault.MountFault.TheVariants as fault_of
-use Rattle.image_mount.specs.Searching.{IsRead, IsSteady, StopsRightly, LacksBlock}
-use Rattle.image_mount.specs.System.{IsLinkOf, IsMasterOf, ArePlainRecords, AreFilesOf, AreAmong, LacksName, AreNamesOf, AreJournalsAmong, AreJournalsOf, IsSystemOf}
+use Rattle.std.proofs.Common.{refl}
+use Rattle.std.specs.Prelude.{codes}
+use Rattle.image_mount.proofs.SystemFiles.{lacks_jindex, lacks_rindex, link_in, plain_names, plain_records}
 use Rattle.image_mount.proofs.system.files_among.Goals as goal
 
--- src/system.rt:54:9
 pub returns-in_default-clause-refused : goal.returns-in_default-clause-refused
-returns-in_default-clause-refused c = ?
+returns-in_default-clause-refused c im format are same = lacks_rindex im _ c.args.master c.args.records.now format same are c.damaged.ensures c.in_default.ensures.none
 
--- src/system.rt:57:9
 pub returns-in_default-find-clause-refused : goal.returns-in_default-find-clause-refused
-returns-in_default-find-clause-refused c = ?
+returns-in_default-find-clause-refused c im format are same =
+    lacks_jindex im _ c.args.master c.args.records.now format same are c.damaged-in_default-find.ensures c.in_default-find.ensures.none
 
--- src/system.rt:48:1
 pub returns-clause-found : goal.returns-clause-found
-returns-clause-found c = ?
+returns-clause-found c im are same =
+    let items = c.args.records.now in
+    let r = c.in-Some.rindex in
+    let j = c.in-Some-find.jindex in
+    record {
+      rindex = link_in im c.args.master items (codes "rindex") r _ same are refl c.in-Some.ensures.named c.in-Some.ensures.there c.link.ensures;
+      jindex = link_in im c.args.master items (codes "jindex") j _ same are refl c.in-Some-find.ensures.named c.in-Some-find.ensures.there c.link-2.ensures;
+      plain = plain_records im c.args.master items same are;
+      others = plain_names im c.args.master items same are;
+    }

@@ -1,14 +1,14 @@
 use Rattle.std.proofs.Common.{◌≡◌, ◌≤◌, ℕ, [], IsTrue}
 use Rattle.image_model.specs.Image.{image_of}
-use Rattle.image_mount.specs.Found.{most_blocks}
 use Rattle.image_mount.specs.Rings.{IsSearched}
 use Rattle.image_mount.specs.Searching.{IsWorking}
-use Rattle.image_mount.proofs.mounting.search_system.Given as goal
+use Rattle.image_mount.specs.System.{IsMasterOf, IsNamedBy}
+use Rattle.image_mount.proofs.mounting.search_files.Given as goal
 
 abbrev pub invariant-loop-system : goal.invariant-loop-system
 invariant-loop-system g l = record {
   work : IsWorking (g.D.SharedDisk.state l.disk) l.table;
-  searched : IsTrue (g.D.SharedDisk.state l.initial.disk).tells → (g.D.SharedDisk.state l.initial.disk).count ≤ most_blocks → IsSearched (image_of (g.D.SharedDisk.state l.initial.disk)) [] 0 0 l.initial.table → IsSearched (image_of (g.D.SharedDisk.state l.initial.disk)) [] 0 0 l.table;
+  searched : IsTrue (g.D.SharedDisk.state l.initial.disk).tells → IsMasterOf (image_of (g.D.SharedDisk.state l.initial.disk)) l.master → IsNamedBy (image_of (g.D.SharedDisk.state l.initial.disk)) l.master l.names → IsSearched (image_of (g.D.SharedDisk.state l.initial.disk)) [] 0 0 l.initial.table → IsSearched (image_of (g.D.SharedDisk.state l.initial.disk)) [] 0 0 l.table;
   same : g.D.SharedDisk.state l.disk ≡ g.D.SharedDisk.state l.initial.disk;
   list : g.D.SharedDisk.list l.disk ≡ g.D.SharedDisk.list l.initial.disk;
   later : (j : ℕ) → g.D.SharedDisk.faults l.initial.disk j ≤ g.D.SharedDisk.faults l.disk j;

@@ -1,0 +1,175 @@
+-- The master directory as an inode, and the pointers of its table where it is a hashed one.
+use Rattle.std.proofs.Common.{◌≡◌, ◌≢◌, inl, inr, ℕ, zero, suc, cond, ◌+◌, ◌-◌, ◌*◌, ◌/◌, ◌%◌, ◌^◌, ◌<◌, ◌≤◌, ◌==◌, true, List, None, Some, refl, sym, ap, subst, ◌∙◌, arith}
+use Rattle.std.specs.Prelude.{nat_lt}
+use Rattle.std.proofs.lemmas.Bool.{cases_Bool, cond-true, cond-false, eq-eqb, ne_eqb}
+use Rattle.std.proofs.Math.Nat.{div-lt_iff_lt-mul}
+use Rattle.std.proofs.Math.Path.{transport}
+use Rattle.dinode_tree.specs.Reading.{reach, block_at}
+use Rattle.gfs2_layout.specs.Bytes.{u64_at}
+use Rattle.gfs2_layout.specs.Holding.{Holding}
+use Rattle.gfs2_layout.specs.Inode.{dinode_in, depth_in, is_directory_in, is_hashed_in, height_in, header_length, unit, content_block, content_count, pieces, table_count, entry, entry_block, index_bits, first_hash, leaf_in, Fits}
+use Rattle.gfs2_layout.specs.Structures.{leaf_of}
+use Rattle.gfs2_layout.specs.declared.dinode.Dinode.{Dinode}
+use Rattle.gfs2_layout.specs.declared.leaf.Leaf.{Leaf}
+use Rattle.image_model.specs.Claims.{every, Claims, HasInode, HasDirectory, first_leaf, next_leaf}
+use Rattle.image_model.specs.Image.{Image}
+use Rattle.image_model.specs.Owners.{Chained, Master}
+use Rattle.image_model.specs.Rules.{IsHashedAt, no_leaf, pointer_missing}
+use Rattle.image_model.specs.declared.hash_table.HashTable.{HashTable}
+use Rattle.image_model.proofs.Chains.{same_bits, run_some}
+use Rattle.image_model.proofs.Pieces.{pieces_cover}
+use Rattle.image_mount.specs.Found.{HasFormat, IsInChain, chain_head, chain_next}
+use Rattle.image_mount.specs.Leaves.{IsMasterIn, IsTableOf, IsLeafIn}
+use Rattle.image_mount.specs.Refusals.{RefusesRightly}
+use Rattle.image_mount.specs.Searching.{IsSystemFile}
+use Rattle.image_mount.specs.declared.fault.MountFault.{MountFault}
+use Rattle.image_mount.specs.declared.fault.MountFault.TheVariants as fault
+use Rattle.image_mount.specs.declared.inodes.Inode.{Inode}
+use Rattle.image_mount.specs.declared.leaf.LeafAt.{LeafAt}
+use Rattle.image_mount.proofs.Causes.{told}
+use Rattle.image_mount.proofs.Places.{found_block, hole_block}
+use Rattle.image_mount.proofs.SystemFiles.{is_master}
+
+module _ (im : Image) (inode : Inode) (is : IsMasterIn im inode) where
+  pub master_claim : Claims im inode.from inode.block Master
+  master_claim = is_master im inode.from inode.block is.from is.block
+
+  pub master_inode : HasInode im inode.block
+  master_inode = (Master, record { by = inode.from; claimed = master_claim; dinode = refl })
+
+  pub master_has : HasDirectory im inode.block
+  master_has = record { inode = master_inode; dir = is.directory }
+
+  pub master_read : IsSystemFile im inode.block
+  master_read = inr is.block
+
+-- ---- the table
+
+module _ (im : Image) (inode : Inode) (table : HashTable) (of : IsTableOf im inode table) where
+  pub table_hashed : IsHashedAt im inode.block
+  table_hashed = (master_inode im inode of.master, of.hashed)
+
+  pub entry_is : (j : ℕ) → u64_at (8 * j) table.bytes.items ≡ entry (every im inode.block) j
+  entry_is j = ap (u64_at (8 * j)) of.content
+
+  pub in_table : (i : ℕ) → i < 2 ^ table.depth → i < table_count (every im inode.block)
+  in_table i low = subst (λ d. i < 2 ^ d) of.depth low
+
+  pub no_leaf_told : (i by number : ℕ) (f : MountFault) → i < 2 ^ table.depth → by ≡ entry_block (every im inode.block) i → number ≡ u64_at (8 * i) table.bytes.items → number ≡ 0 → f ≡ fault.Damaged by 14
+      → RefusesRightly im f
+  no_leaf_told i by number f low by_is number_is none is =
+      told im f (entry_block (every im inode.block) i) 14 (is ∙ ap (λ n. fault.Damaged n 14) by_is) of.master.format
+      (no_leaf inode.block i table_hashed (in_table i low) (sym (entry_is i) ∙ sym number_is ∙ none))
+
+  pub first_claim : (i by number : ℕ) → i < 2 ^ table.depth → by ≡ entry_block (every im inode.block) i → number ≡ u64_at (8 * i) table.bytes.items
+      → Claims im by number (Chained inode.block (first_hash (every im inode.block) i) 0)
+  first_claim i by number low by_is number_is =
+      let plain = first_leaf inode.from inode.block Master i (master_claim im inode of.master) refl of.hashed (in_table i low) in
+      let at : number ≡ entry (every im inode.block) i = number_is ∙ entry_is i in
+      subst (λ n. Claims im by n (Chained inode.block (first_hash (every im inode.block) i) 0)) (sym at)
+      (subst (λ n. Claims im n (entry (every im inode.block) i) (Chained inode.block (first_hash (every im inode.block) i) 0)) (sym by_is) plain)
+
+  module _ (i number run : ℕ) (head : Leaf) (low : i < 2 ^ table.depth) (number_is : number ≡ u64_at (8 * i) table.bytes.items) (head_is : head ≡ leaf_of (im.at number))
+      (run_is : run ≡ 2 ^ (table.depth - head.depth)) where
+    depth_of : (j : ℕ) → number ≡ entry (every im inode.block) j → head.depth ≡ (leaf_in (every im inode.block) (entry (every im inode.block) j)).depth
+    depth_of j at = ap (λ (l : Leaf). l.depth) (head_is ∙ ap (λ n. leaf_of (im.at n)) at)
+
+    at_pointer : number ≡ entry (every im inode.block) i
+    at_pointer = number_is ∙ entry_is i
+
+    pub hash_by_run : (j : ℕ) → number ≡ entry (every im inode.block) j → j / run * 2 ^ (32 - head.depth) ≡ first_hash (every im inode.block) j
+    hash_by_run j at = λ k. j / (run_is ∙ (λ m. 2 ^ (of.depth m - depth_of j at m))) k * 2 ^ (32 - depth_of j at k)
+
+    pub missing_told : (j : ℕ) (f : MountFault) → j < 2 ^ table.depth → i - i % run ≤ j → j < i - i % run + run → u64_at (8 * j) table.bytes.items ≢ number → f ≡ fault.Damaged number 14 → RefusesRightly im f
+    missing_told j f below start end other is =
+        let h = every im inode.block in
+        let bits = same_bits i j run (run_some run (table.depth - head.depth) run_is) start end in
+        let here : run ≡ 2 ^ (depth_in h - (leaf_in h (entry h i)).depth) = run_is ∙ (λ k. 2 ^ (of.depth k - depth_of i at_pointer k)) in
+        let same : index_bits h (leaf_in h (entry h i)).depth j ≡ index_bits h (leaf_in h (entry h i)).depth i = subst (λ r. j / r ≡ i / r) here bits in
+        told im f (entry h i) 14 (is ∙ ap (λ n. fault.Damaged n 14) at_pointer) of.master.format
+        (pointer_missing inode.block i j table_hashed (in_table i low) (in_table j below) same (λ e. other (entry_is j ∙ e ∙ sym at_pointer)))
+
+    -- the leaf of a pointer, where its whole run leads to it
+    pub leaf_is : (at : LeafAt) (by hash : ℕ) → by ≡ entry_block (every im inode.block) i → hash ≡ i / run * 2 ^ (32 - head.depth) → at.block ≡ number → at.head ≡ head → at.hash ≡ hash → at.place ≡ 0 → at.pointer ≡ i
+        → at.behind ≡ i - i % run + run → i < at.behind → at.behind ≤ 2 ^ table.depth
+        → ((j : ℕ) → i - i % run ≤ j → j < i - i % run + run → u64_at (8 * j) table.bytes.items ≡ number) → IsLeafIn im inode.block at
+    leaf_is at by hash by_is hash_is block head_same hash_same place pointer behind some within all =
+        let h = every im inode.block in
+        let mine : at.hash ≡ first_hash h i = hash_same ∙ hash_is ∙ hash_by_run i at_pointer in
+        let some_run = run_some run (table.depth - head.depth) run_is in
+        record {
+          head = head_same ∙ head_is ∙ ap (λ n. leaf_of (im.at n)) (sym block);
+          claimed = (by, transport (λ k. Claims im by (sym block k) (Chained inode.block (sym mine k) (sym place k))) (first_claim i by number low by_is number_is));
+          chain = transport (λ k. IsInChain h (sym pointer k) (sym place k) ((sym at_pointer ∙ sym block) k)) (chain_head (in_table i low));
+          hash = mine ∙ ap (first_hash h) (sym pointer);
+          some = omega (arith, pointer, some);
+          within = subst (λ d. at.behind ≤ 2 ^ d) of.depth within;
+          run = λ j from to.
+              let rest : i % run < run = omega (arith, some_run) in
+              let start : i - i % run ≤ j = omega (arith, from, pointer) in
+              let end : j < i - i % run + run = omega (arith, to, behind) in
+              let there : number ≡ entry h j = sym (all j start end) ∙ entry_is j in
+              let bits = same_bits i j run some_run start end in (
+                sym there ∙ at_pointer ∙ ap (entry h) (sym pointer),
+                sym (hash_by_run j there) ∙ ap (λ n. n * 2 ^ (32 - head.depth)) bits ∙ sym hash_is ∙ sym hash_same,
+              );
+        }
+
+-- ---- the block that has a pointer
+
+not_hole : (h : Holding) (i b : ℕ) → Some b ≡ block_at h i → content_block h i ≢ 0
+not_hole h i b at none = elim (cases_Bool (nat_lt i (reach h.size (height_in h)))) [
+  | inr past ↦ no_some b (sym (cond-false _ _ _ past) ∙ sym at)
+  | inl low ↦ no_some b (sym (cond-true _ _ _ (eq-eqb (content_block h i) 0 none)) ∙ sym (cond-true _ _ _ low) ∙ sym at)
+]
+  where
+    no_some : (x : ℕ) → None ≡ Some x → ⊥
+    no_some x e = cc
+
+module _ (im : Image) (inode : Inode) (table : HashTable) (of : IsTableOf im inode table) (i : ℕ) (low : i < 2 ^ table.depth) where
+  height_is : inode.dinode.height ≡ height_in (every im inode.block)
+  height_is = ap (λ (d : Dinode). d.height) of.master.dinode
+
+  pub stuffed_block : inode.dinode.height ≡ 0 → inode.block ≡ entry_block (every im inode.block) i
+  stuffed_block none = sym (cond-true _ _ _ (eq-eqb (height_in (every im inode.block)) 0 (sym height_is ∙ none)))
+
+  module _ (size : ℕ) (same : size ≡ im.size) (large : 512 ≤ size) where
+    unit_is : size - 24 ≡ unit (every im inode.block)
+    unit_is = ap (λ n. n - 24) same ∙ sym (cond-true _ _ _ of.master.directory)
+
+    index_same : 8 * i / (size - 24) ≡ 8 * i / unit (every im inode.block)
+    index_same = ap (λ n. 8 * i / n) unit_is
+
+    index_within : 8 * i / (size - 24) < content_count (every im inode.block)
+    index_within =
+        let u = unit (every im inode.block) in
+        let some : 0 < u = omega (arith, unit_is, large) in
+        let cover = pieces_cover (dinode_in (every im inode.block)).size u some in
+        let below : 8 * i / u < pieces (dinode_in (every im inode.block)).size u = (div-lt_iff_lt-mul some).1 (omega (arith, cover, of.size, low)) in
+        omega (arith, below, index_same)
+
+    index_reached : inode.dinode.height ≢ 0 → 8 * i / (size - 24) < reach im.size (height_in (every im inode.block))
+    index_reached some = each (height_in (every im inode.block)) refl
+      where
+        each : (n : ℕ) → height_in (every im inode.block) ≡ n → 8 * i / (size - 24) < reach im.size n
+        each zero is = absurd (some (height_is ∙ is))
+        each (suc level) is = omega (arith, index_within, of.master.fits.under level is)
+
+    -- the block of the table with this index, or none
+    pub block_there : (b : ℕ) → inode.dinode.height ≢ 0 → Some b ≡ block_at (every im inode.block) (8 * i / (size - 24)) → b ≡ entry_block (every im inode.block) i
+    block_there b some at =
+        let h = every im inode.block in
+        let is = found_block h (8 * i / (size - 24)) b at in
+        let there : b ≡ content_block h (8 * i / unit h) = is ∙ ap (content_block h) index_same in
+        let pointed : b ≢ 0 = λ e. not_hole h (8 * i / (size - 24)) b at (sym is ∙ e) in
+        let first = cond-false (height_in h == 0) h.own (cond (content_block h (8 * i / unit h) == 0) h.own (content_block h (8 * i / unit h))) (ne_eqb (height_in h) 0 (λ e. some (height_is ∙ e))) in
+        let second = cond-false (content_block h (8 * i / unit h) == 0) h.own (content_block h (8 * i / unit h)) (ne_eqb (content_block h (8 * i / unit h)) 0 (λ e. pointed (there ∙ e))) in
+        there ∙ sym (first ∙ second)
+
+    pub hole_there : inode.dinode.height ≢ 0 → None ≡ block_at (every im inode.block) (8 * i / (size - 24)) → inode.block ≡ entry_block (every im inode.block) i
+    hole_there some at =
+        let h = every im inode.block in
+        let none : content_block h (8 * i / unit h) ≡ 0 = ap (content_block h) (sym index_same) ∙ hole_block h (8 * i / (size - 24)) at (index_reached some) in
+        let first = cond-false (height_in h == 0) h.own (cond (content_block h (8 * i / unit h) == 0) h.own (content_block h (8 * i / unit h))) (ne_eqb (height_in h) 0 (λ e. some (height_is ∙ e))) in
+        let second = cond-true (content_block h (8 * i / unit h) == 0) h.own (content_block h (8 * i / unit h)) (eq-eqb (content_block h (8 * i / unit h)) 0 none) in
+        sym (first ∙ second)

@@ -1,0 +1,28 @@
+use Rattle.std.proofs.Common.{[], arith, ◌∙◌}
+use Rattle.image_model.specs.Image.{image_of}
+use Rattle.image_mount.proofs.Marks.{go_refused}
+use Rattle.image_mount.proofs.Stops.{refused}
+use Rattle.image_mount.proofs.Working.{read_now}
+use Rattle.image_mount.proofs.mounting.search_files.Goals as goal
+
+pub loop-system-preserved : goal.loop-system-preserved
+loop-system-preserved g c =
+    let inv = c.loop-system.invariant in
+    let next = c.in_ok-go_on-in-Err.ensures in
+    record {
+      work = next.work;
+      searched = λ tells is named known.
+          next.searched (image_of (g.D.SharedDisk.state c.args.disk.now)) [] 0 0 (c.in-Err.ensures.stops (image_of (g.D.SharedDisk.state c.args.disk.now)) (read_now _ _ _ inv.same tells inv.work) c.blocks-count.ensures.value is named) (inv.searched tells is named known);
+      same = next.same ∙ inv.same;
+      list = next.list ∙ inv.list;
+      later = λ j. omega (arith, inv.later j, next.later j);
+    }
+
+pub returns-in_err-go_on-in-Err-clause-refused : goal.returns-in_err-go_on-in-Err-clause-refused
+returns-in_err-go_on-in-Err-clause-refused g c tells is named known =
+    let inv = c.loop-system.invariant in
+    refused (image_of (g.D.SharedDisk.state c.args.disk.now)) _ _ c.from_residual.ensures.1
+    (go_refused _ _ _ _ _ [] 0 0 inv.same c.in_err-go_on-in-Err.ensures.refused tells (c.in-Err.ensures.stops (image_of (g.D.SharedDisk.state c.args.disk.now)) (read_now _ _ _ inv.same tells inv.work) c.blocks-count.ensures.value is named) (inv.searched tells is named known))
+
+pub returns-in-Ok-clause-found : goal.returns-in-Ok-clause-found
+returns-in-Ok-clause-found g c tells is named = c.in-Ok.ensures.found _ (read_now _ _ _ c.loop-system.invariant.same tells c.loop-system.invariant.work) c.blocks-count.ensures.value is named
