@@ -70,7 +70,7 @@ said_added old new b rs added =
 
 -- ---- one record more
 
-pub no_record : Named
+abbrev pub no_record : Named
 no_record = record { name = record { ref_ptr = (0, 0); now = [] }; entry = record { number = 0; addr = 0; kind = 0 }; block = 0 }
 
 -- these are those at first, and so many of a leaf
@@ -95,6 +95,9 @@ added_all initial records found k all is low =
     let same : k ≡ length records = omega (arith, all, low) in
     is ∙ ap (λ n. map standing initial ++ map standing (take n records)) same ∙ ap (λ xs. map standing initial ++ map standing xs) (take-length records)
 
+record_is : (a b : Record) → Some a ≡ Some b → a ≡ b
+record_is a b e = cc
+
 -- one more of another name than all of them
 pub distinct_more : (found new : List Named) (y : Named) → AreDistinct (map said found) → new ≡ found ++ y ∷ [] → ((i : ℕ) (n : Named) → slice_get found i ≡ Some n → n.name.now ≢ y.name.now) → AreDistinct (map said new)
 distinct_more found new y distinct is other i j r s at at' same =
@@ -112,16 +115,13 @@ distinct_more found new y distinct is other i j r s at at' same =
     ]
   where
     last_or : (xs : List Record) (x : Record) (k : ℕ) (z : Record) → slice_get (xs ++ x ∷ []) k ≡ Some z → (slice_get xs k ≡ Some z) ⊎ ((k ≡ length xs) × (z ≡ x))
-    last_or [] x zero z e = inr (refl, is_some_of z x (sym e))
+    last_or [] x zero z e = inr (refl, record_is z x (sym e))
     last_or [] x (suc k) z e = absurd (no z e)
       where
         no : (z : Record) → None ≡ Some z → ⊥
         no z e = cc
     last_or (w ∷ xs) x zero z e = inl e
     last_or (w ∷ xs) x (suc k) z e = elim (last_or xs x k z e) [ inl here ↦ inl here | inr there ↦ inr (ap suc there.0, there.1) ]
-
-    is_some_of : (a b : Record) → Some a ≡ Some b → a ≡ b
-    is_some_of a b e = cc
 
 -- a name that was found already
 pub twice_found : (im : Image) (a block k i : ℕ) (f : MountFault) (initial records found : List Named) (d n : Named) → HasFormat im → f ≡ fault.Damaged block 10

@@ -1,6 +1,6 @@
 -- How far a walk over the leaves of a hashed directory has come.
 use Rattle.std.proofs.Common.{◌≡◌, ◌≢◌, ◌⊎◌, inl, inr, ℕ, zero, suc, ◌+◌, ◌^◌, ◌<◌, ◌≤◌, IsTrue, Bool, true, false, List, [], ◌∷◌, ◌++◌, length, get_or, drop, Option, None, Some, refl, sym, ap, subst, ◌∙◌, arith, length-append}
-use Rattle.std.specs.Prelude.{map, flat_map, find, Contains, IfSome, slice_get}
+use Rattle.std.specs.Prelude.{if◌then◌else◌, map, flat_map, find, Contains, IfSome, slice_get}
 use Rattle.std.specs.List.{All}
 use Rattle.std.specs.Option.{option_map}
 use Rattle.std.proofs.Math.Path.{transport}
@@ -449,3 +449,8 @@ other_told im at f other bytes records o told_first same read is found some =
     let here : first_other (leaf_records (every im (master_of im)) at.block) ≡ Some first.0 = ap (λ b. first_other (records_in (drop 104 b))) same ∙ ap first_other (sym read) ∙ first.1 in
     let is_first : IsFirstOther im (master_of im) first.0 = in_leaf at.pointer at.place at.block first.0 told_first.hashed told_first.leaf.chain here told_first.before in
     told_outside im f field.Master other is (subst (IsOutside im field.Master) first.2 (outside.master first.0 told_first.format is_first))
+
+-- a claim that is new leaves one block less
+pub fell : (fresh : Bool) (less free : ℕ) → fresh ≡ true → less + (if fresh then 1 else 0) ≡ free → less + 1 ≡ free
+fell true less free is e = e
+fell false less free is e = absurd (let no : false ≡ true = is in cc)

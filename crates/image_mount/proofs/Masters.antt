@@ -7,7 +7,7 @@ use Rattle.std.proofs.Math.Path.{transport}
 use Rattle.dinode_tree.specs.Reading.{reach, block_at}
 use Rattle.gfs2_layout.specs.Bytes.{u64_at}
 use Rattle.gfs2_layout.specs.Holding.{Holding}
-use Rattle.gfs2_layout.specs.Inode.{dinode_in, depth_in, is_directory_in, is_hashed_in, height_in, header_length, unit, content_block, content_count, pieces, table_count, entry, entry_block, index_bits, first_hash, leaf_in, Fits}
+use Rattle.gfs2_layout.specs.Inode.{dinode_in, depth_in, is_directory_in, is_hashed_in, height_in, header_length, unit, content_block, content_count, content_of, pieces, table_count, entry, entry_block, index_bits, first_hash, leaf_in, Fits}
 use Rattle.gfs2_layout.specs.Structures.{leaf_of}
 use Rattle.gfs2_layout.specs.declared.dinode.Dinode.{Dinode}
 use Rattle.gfs2_layout.specs.declared.leaf.Leaf.{Leaf}
@@ -43,7 +43,28 @@ module _ (im : Image) (inode : Inode) (is : IsMasterIn im inode) where
   pub master_read : IsSystemFile im inode.block
   master_read = inr is.block
 
+-- the dinode that is kept is read once more
+pub kept_master : (im : Image) (inode kept : Inode) → IsMasterIn im inode → kept.block ≡ inode.block → kept.from ≡ inode.from → kept.dinode ≡ dinode_in (every im inode.block) → IsMasterIn im kept
+kept_master im inode kept is block from dinode = record {
+  format = is.format;
+  block = block ∙ is.block;
+  from = from ∙ is.from;
+  dinode = dinode ∙ ap (λ a. dinode_in (every im a)) (sym block);
+  fits = subst (λ a. Fits (every im a)) (sym block) is.fits;
+  directory = ap (λ a. is_directory_in (every im a)) block ∙ is.directory;
+}
+
 -- ---- the table
+
+pub table_is : (im : Image) (inode kept : Inode) (table : HashTable) → IsMasterIn im inode → kept.block ≡ inode.block → is_hashed_in (every im inode.block) ≡ true → IsMasterIn im kept → table.depth ≡ kept.dinode.depth
+    → (dinode_in (every im kept.block)).size ≡ 8 * 2 ^ table.depth → table.bytes.items ≡ content_of (every im kept.block) → IsTableOf im inode table
+table_is im inode kept table is block hashed again depth size content = record {
+  master = is;
+  hashed = hashed;
+  depth = depth ∙ ap (λ (d : Dinode). d.depth) again.dinode ∙ ap (λ a. depth_in (every im a)) block;
+  content = content ∙ ap (λ a. content_of (every im a)) block;
+  size = ap (λ a. (dinode_in (every im a)).size) (sym block) ∙ size;
+}
 
 module _ (im : Image) (inode : Inode) (table : HashTable) (of : IsTableOf im inode table) where
   pub table_hashed : IsHashedAt im inode.block

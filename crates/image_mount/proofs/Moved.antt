@@ -25,7 +25,7 @@ use Rattle.image_mount.specs.declared.fault.MountFault.{MountFault}
 use Rattle.image_mount.specs.declared.fault.MountFault.TheVariants as fault
 use Rattle.image_mount.specs.declared.journals.Ring.{Ring}
 use Rattle.image_mount.specs.declared.listing.Named.{Named as Item}
-use Rattle.image_mount.specs.declared.master.Master.{Master}
+use Rattle.image_mount.specs.declared.master.Master.{Master as MasterValue}
 use Rattle.image_mount.specs.declared.system.System.{System}
 use Rattle.image_mount.proofs.Causes.{told, lacks}
 use Rattle.image_mount.proofs.JournalNames.{one_number}
@@ -69,20 +69,20 @@ module _ (old now : DiskState) (same : now ≡ old) where
       → IsTrue old.tells → IsNext (image_of old) done system journal → IsSearched (image_of old) done 0 0 k → IsSearched (image_of old) (done ++ journal.addr ∷ []) 0 0 new
   ring_searched done system journal k new more = ring_told done system journal k (λ i. IsSearched i (done ++ journal.addr ∷ []) 0 0 new) more
 
-  pub names_known : (master : Master) (names : List Item) → (IsTrue now.tells → IsMasterIn (image_of now) master.inode → IsNamedBy (image_of now) master names) → IsTrue old.tells → IsMasterOf (image_of old) master
-      → IsNamedBy (image_of old) master names
-  names_known master names more tells is = subst (λ (s : DiskState). IsTrue s.tells → IsMasterIn (image_of s) master.inode → IsNamedBy (image_of s) master names) same more tells is.inode
+  pub names_known : (at : MasterValue) (names : List Item) → (IsTrue now.tells → IsMasterIn (image_of now) at.inode → IsNamedBy (image_of now) at names) → IsTrue old.tells → IsMasterOf (image_of old) at
+      → IsNamedBy (image_of old) at names
+  names_known at names more tells is = subst (λ (s : DiskState). IsTrue s.tells → IsMasterIn (image_of s) at.inode → IsNamedBy (image_of s) at names) same more tells is.inode
 
-  pub names_searched : (master : Master) (k new : Kept) → (IsTrue now.tells → IsMasterIn (image_of now) master.inode → IsSearched (image_of now) [] 0 0 k → IsSearched (image_of now) [] 0 0 new)
-      → IsTrue old.tells → IsMasterOf (image_of old) master → IsSearched (image_of old) [] 0 0 k → IsSearched (image_of old) [] 0 0 new
-  names_searched master k new more tells is =
-      subst (λ (s : DiskState). IsTrue s.tells → IsMasterIn (image_of s) master.inode → IsSearched (image_of s) [] 0 0 k → IsSearched (image_of s) [] 0 0 new) same more tells is.inode
+  pub names_searched : (at : MasterValue) (k new : Kept) → (IsTrue now.tells → IsMasterIn (image_of now) at.inode → IsSearched (image_of now) [] 0 0 k → IsSearched (image_of now) [] 0 0 new)
+      → IsTrue old.tells → IsMasterOf (image_of old) at → IsSearched (image_of old) [] 0 0 k → IsSearched (image_of old) [] 0 0 new
+  names_searched at k new more tells is =
+      subst (λ (s : DiskState). IsTrue s.tells → IsMasterIn (image_of s) at.inode → IsSearched (image_of s) [] 0 0 k → IsSearched (image_of s) [] 0 0 new) same more tells is.inode
 
-  pub files_searched : (master : Master) (names : List Item) (k new : Kept)
-      → (IsTrue now.tells → IsMasterOf (image_of now) master → IsNamedBy (image_of now) master names → IsSearched (image_of now) [] 0 0 k → IsSearched (image_of now) [] 0 0 new)
-      → IsTrue old.tells → IsMasterOf (image_of old) master → IsNamedBy (image_of old) master names → IsSearched (image_of old) [] 0 0 k → IsSearched (image_of old) [] 0 0 new
-  files_searched master names k new more =
-      subst (λ (s : DiskState). IsTrue s.tells → IsMasterOf (image_of s) master → IsNamedBy (image_of s) master names → IsSearched (image_of s) [] 0 0 k → IsSearched (image_of s) [] 0 0 new) same more
+  pub files_searched : (at : MasterValue) (names : List Item) (k new : Kept)
+      → (IsTrue now.tells → IsMasterOf (image_of now) at → IsNamedBy (image_of now) at names → IsSearched (image_of now) [] 0 0 k → IsSearched (image_of now) [] 0 0 new)
+      → IsTrue old.tells → IsMasterOf (image_of old) at → IsNamedBy (image_of old) at names → IsSearched (image_of old) [] 0 0 k → IsSearched (image_of old) [] 0 0 new
+  files_searched at names k new more =
+      subst (λ (s : DiskState). IsTrue s.tells → IsMasterOf (image_of s) at → IsNamedBy (image_of s) at names → IsSearched (image_of s) [] 0 0 k → IsSearched (image_of s) [] 0 0 new) same more
 
 -- a block that is marked is kept as it was
 pub working_marked : (s : DiskState) (k new : Kept) → IsWorking s k → new.entries ≡ k.entries → new.size ≡ k.size → IsWorking s new

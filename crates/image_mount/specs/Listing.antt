@@ -3,7 +3,7 @@ use Rattle.std.specs.Prelude.{ℕ, ◌≡◌, ◌&&◌, Bool, true, false, List,
 use Rattle.gfs2_layout.specs.Area.{Slot}
 use Rattle.gfs2_layout.specs.Inode.{dinode_in, has_hash_flag, is_hashed_in, linear_area}
 use Rattle.gfs2_layout.specs.Records.{Record, record_of, records_in}
-use Rattle.gfs2_layout.specs.Structures.{is_directory, is_in_use}
+use Rattle.gfs2_layout.specs.Structures.{dinode_of, is_directory, is_in_use}
 use Rattle.gfs2_layout.specs.declared.dinode.Dinode.{Dinode}
 use Rattle.gfs2_layout.specs.declared.dirent.Dirent.{Dirent}
 use Rattle.glock_names.specs.declared.steps.Entry.{Entry}
@@ -13,6 +13,7 @@ use Rattle.image_model.specs.Owners.{Owner, is_dinode, parent_of}
 use Rattle.image_model.specs.Rules.{HasRecordIn, HasRecords}
 use Rattle.image_model.specs.Stands.{directory_count}
 use Rattle.image_mount.specs.Found.{HasFormat}
+use Rattle.image_mount.specs.Table.{Kept, seen_of}
 use Rattle.image_mount.specs.declared.inodes.Inode.{Inode}
 use Rattle.image_mount.specs.declared.listing.Link.{Link}
 use Rattle.image_mount.specs.declared.listing.Named.{Named}
@@ -39,6 +40,10 @@ link_of n = record { entry = n.entry; from = n.block }
 -- a dinode with the mode of a directory and the flag of a hashed one
 abbrev pub is_hashed_by : Dinode → Bool
 is_hashed_by d = is_directory d && has_hash_flag d
+
+-- the dinode is the one that is kept
+abbrev pub HasKeptDinode : Kept → Inode → Type 0
+HasKeptDinode k inode = (bytes : List ℕ) → (seen_of k).block_at inode.block ≡ Some bytes → inode.dinode ≡ dinode_of bytes
 
 -- what the record repeats of the inode to which it leads
 pub record IsEntryOf (entry : Entry) (r : Record) : Type 0 where

@@ -9,7 +9,7 @@ ghost use Rattle.image_model.specs.Rules.{HasRecordIn, IsHashedAt};
 ghost use Rattle.image_mount.specs.Found.{HasFormat};
 ghost use Rattle.image_mount.specs.Refusals.{RefusesRightly};
 ghost use Rattle.image_mount.specs.Searching.{IsRead, IsSteady, StopsRightly, LacksBlock};
-ghost use Rattle.image_mount.specs.Listing.{IsEntryOf, is_hashed_by};
+ghost use Rattle.image_mount.specs.Listing.{HasKeptDinode, IsEntryOf, is_hashed_by};
 
 use crate::fault::MountFault;
 use crate::stop::{Stop, damaged};
@@ -34,6 +34,7 @@ impl Inode {
         ensures block { IfOk result (λ inode. inode.block ≡ block) }
         ensures from { IfOk result (λ inode. inode.from ≡ from) }
         ensures found { (im : Image) → IsRead im table.now → IfOk result (λ inode. inode.dinode ≡ dinode_in (every im block)) }
+        ensures kept { IfOk result (HasKeptDinode table.now) }
         ensures fits { (im : Image) → IsRead im table.now → OnOk result (Fits (every im block)) }
         ensures stops { (im : Image) (o : Owner) → IsRead im table.now → Claims im from block o → is_dinode o ≡ true → HasFormat im → IfErr result (StopsRightly im) }
         ensures lacks { IfErr result (LacksBlock table.now) }

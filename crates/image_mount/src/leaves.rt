@@ -39,8 +39,10 @@ pub(crate) fn read_pointers(alloc: Global, table: &Table, inode: &Inode) -> Resu
     ensures stops { (im : Image) → IsRead im table.now → IsMasterIn im inode.now → is_hashed_in (every im inode.now.block) ≡ true → IfErr result (StopsRightly im) }
     ensures lacks { IfErr result (LacksBlock table.now) }
 {
-    let depth = inode.table_depth(table.block_size())?;
-    let bytes = read_whole(alloc, table, inode, 8 << depth)?;
+    // Looked at once more, so that its size is that of what is kept.
+    let kept = Inode::read(table, inode.from, inode.block)?;
+    let depth = kept.table_depth(table.block_size())?;
+    let bytes = read_whole(alloc, table, &kept, 8 << depth)?;
     Ok(HashTable { depth, bytes })
 }
 

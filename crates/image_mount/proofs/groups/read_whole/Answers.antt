@@ -1,5 +1,7 @@
-use Rattle.std.proofs.Common.{◌≡◌, ◌-◌, length, arith}
-use Rattle.std.specs.Prelude.{min}
+use Rattle.std.proofs.Common.{◌≡◌, ◌-◌, [], length, sym, ap, ◌∙◌, arith}
+use Rattle.gfs2_layout.specs.Structures.{dinode_of}
+use Rattle.gfs2_layout.specs.declared.dinode.Dinode.{Dinode}
+use Rattle.std.specs.Prelude.{min, unwrap_or}
 use Rattle.std.proofs.Math.Nat.{min-le_left}
 use Rattle.gfs2_layout.specs.Inode.{dinode_in}
 use Rattle.dinode_tree.specs.Reading.{content_range}
@@ -33,6 +35,15 @@ returns-in-Is-clause-length c im read size =
     let a = c.args.inode.now.block in
     let is = answer_at c.in_ok-content.field-0 c.in-Is.content (λ b. length b.items ≡ min c.args.bytes ((dinode_in (every im a)).size - 0)) c.in-Is.is (c.in_ok-content.ensures.length (every im a) (shown im c.args.table.now a read)) in
     omega (arith, is, size)
+
+pub returns-in-Is-clause-whole : goal.returns-in-Is-clause-whole
+unfolding dinode_in
+returns-in-Is-clause-whole c kept size =
+    let v = seen_of c.args.table.now in
+    let a = c.args.inode.now.block in
+    let dinode : c.args.inode.now.dinode ≡ dinode_in (seen_in v a) = kept _ c.in_ok-get.ensures.bytes ∙ sym (ap (λ o. dinode_of (unwrap_or o [])) c.in_ok-get.ensures.bytes) in
+    let is = answer_at c.in_ok-content.field-0 c.in-Is.content (λ b. length b.items ≡ min c.args.bytes ((dinode_in (seen_in v a)).size - 0)) c.in-Is.is (c.in_ok-content.ensures.length (seen_in v a) (shown_by v a)) in
+    omega (arith, is, size, ap (λ (d : Dinode). d.size) dinode)
 
 pub returns-in-Is-clause-most : goal.returns-in-Is-clause-most
 returns-in-Is-clause-most c =

@@ -1,9 +1,12 @@
-use Rattle.std.proofs.Common.{◌^◌, [], refl, ap, arith, ◌∙◌}
+use Rattle.std.proofs.Common.{◌^◌, ◌≤◌, [], refl, ap, arith, ◌∙◌}
 use Rattle.image_model.specs.Claims.{master_of}
 use Rattle.image_model.specs.Image.{image_of}
 use Rattle.shared_disk.specs.Disk.{DiskState}
 use Rattle.image_mount.proofs.LeafWalks.{next_leaf_in, walked_at}
+use Rattle.image_mount.specs.Leaves.{ComesNext, IsLeafIn}
+use Rattle.image_mount.specs.declared.leaf.LeafAt.{LeafAt}
 use Rattle.image_mount.proofs.Marks.{go_refused}
+use Rattle.image_mount.proofs.Numbered.{at_some}
 use Rattle.image_mount.proofs.Shown.{kept_inside}
 use Rattle.image_mount.proofs.Stops.{refused}
 use Rattle.image_mount.proofs.Working.{read_now}
@@ -33,7 +36,7 @@ enter-requires-clause-inside g c =
     omega (arith, kept_inside c.loop-at.table.entries c.in-Ok-Some.at.block c.in-Ok.bytes.now c.in-Ok.ensures.bytes, inv.count, inv.work.count, ap (λ (s : DiskState). s.count) inv.same)
 
 pub loop-at-smaller-in-Continue-branch-2 : goal.loop-at-smaller-in-Continue-branch-2
-loop-at-smaller-in-Continue-branch-2 g c = omega (arith, c.in_ok-enter-in-Ok.ensures.falls (2 ^ c.args.pointers.now.depth) c.in-Ok-Some.ensures.run)
+loop-at-smaller-in-Continue-branch-2 g c = omega (arith, c.in_ok-enter-in-Ok.ensures.falls (2 ^ c.args.pointers.now.depth) (at_some c.in-Ok-Some.field-0 c.in-Ok-Some.at (λ (a : LeafAt). a.behind ≤ 2 ^ c.args.pointers.now.depth) c.in-Ok-Some.field-0-is c.in-Ok-Some.ensures.run))
 
 pub loop-at-preserved-in-Continue-branch-2 : goal.loop-at-preserved-in-Continue-branch-2
 loop-at-preserved-in-Continue-branch-2 g c =
@@ -42,12 +45,12 @@ loop-at-preserved-in-Continue-branch-2 g c =
     record {
       work = inv.work;
       count = entered.count ∙ inv.count;
-      within = omega (arith, entered.index, c.in-Ok-Some.ensures.run);
+      within = omega (arith, entered.index, at_some c.in-Ok-Some.field-0 c.in-Ok-Some.at (λ (a : LeafAt). a.behind ≤ 2 ^ c.args.pointers.now.depth) c.in-Ok-Some.field-0-is c.in-Ok-Some.ensures.run);
       walked = λ tells of.
           let read = read_now _ _ _ inv.same tells inv.work in
           let walk = inv.walked tells of in
-          let leaf = c.in-Ok-Some.ensures.found (image_of (g.D.SharedDisk.state c.args.disk.now)) read of (walked_at (image_of (g.D.SharedDisk.state c.args.disk.now)) c.args.inode.now c.args.pointers.now c.loop-at.walk of walk) in
-          entered.walked (image_of (g.D.SharedDisk.state c.args.disk.now)) (next_leaf_in (image_of (g.D.SharedDisk.state c.args.disk.now)) c.args.inode.now c.args.pointers.now c.loop-at.walk c.in-Ok-Some.at of walk leaf c.in-Ok-Some.ensures.next) of.master.block (read.same _ _ c.in-Ok.ensures.bytes);
+          let leaf = at_some c.in-Ok-Some.field-0 c.in-Ok-Some.at (IsLeafIn (image_of (g.D.SharedDisk.state c.args.disk.now)) c.args.inode.now.block) c.in-Ok-Some.field-0-is (c.in-Ok-Some.ensures.found (image_of (g.D.SharedDisk.state c.args.disk.now)) read of (walked_at (image_of (g.D.SharedDisk.state c.args.disk.now)) c.args.inode.now c.args.pointers.now c.loop-at.walk of walk)) in
+          entered.walked (image_of (g.D.SharedDisk.state c.args.disk.now)) (next_leaf_in (image_of (g.D.SharedDisk.state c.args.disk.now)) c.args.inode.now c.args.pointers.now c.loop-at.walk c.in-Ok-Some.at of walk leaf (at_some c.in-Ok-Some.field-0 c.in-Ok-Some.at (ComesNext c.loop-at.walk) c.in-Ok-Some.field-0-is c.in-Ok-Some.ensures.next)) of.master.block (read.same _ _ c.in-Ok.ensures.bytes);
       searched = inv.searched;
       same = inv.same;
       list = inv.list;
@@ -59,9 +62,9 @@ returns-in_err-enter-in-Ok-clause-refused g c tells of known =
     let inv = c.loop-at.invariant in
     let read = read_now _ _ _ inv.same tells inv.work in
     let walk = inv.walked tells of in
-    let leaf = c.in-Ok-Some.ensures.found (image_of (g.D.SharedDisk.state c.args.disk.now)) read of (walked_at (image_of (g.D.SharedDisk.state c.args.disk.now)) c.args.inode.now c.args.pointers.now c.loop-at.walk of walk) in
-    refused (image_of (g.D.SharedDisk.state c.args.disk.now)) _ _ c.from_residual.ensures.1
-    (c.in_err-enter-in-Ok.ensures.refused (image_of (g.D.SharedDisk.state c.args.disk.now)) (next_leaf_in (image_of (g.D.SharedDisk.state c.args.disk.now)) c.args.inode.now c.args.pointers.now c.loop-at.walk c.in-Ok-Some.at of walk leaf c.in-Ok-Some.ensures.next) of.master.block (read.same _ _ c.in-Ok.ensures.bytes))
+    let leaf = at_some c.in-Ok-Some.field-0 c.in-Ok-Some.at (IsLeafIn (image_of (g.D.SharedDisk.state c.args.disk.now)) c.args.inode.now.block) c.in-Ok-Some.field-0-is (c.in-Ok-Some.ensures.found (image_of (g.D.SharedDisk.state c.args.disk.now)) read of (walked_at (image_of (g.D.SharedDisk.state c.args.disk.now)) c.args.inode.now c.args.pointers.now c.loop-at.walk of walk)) in
+    refused (image_of (g.D.SharedDisk.state c.args.disk.now)) _ _ c.from_residual-in_err-enter-in-Ok.ensures.1
+    (c.in_err-enter-in-Ok.ensures.refused (image_of (g.D.SharedDisk.state c.args.disk.now)) (next_leaf_in (image_of (g.D.SharedDisk.state c.args.disk.now)) c.args.inode.now c.args.pointers.now c.loop-at.walk c.in-Ok-Some.at of walk leaf (at_some c.in-Ok-Some.field-0 c.in-Ok-Some.at (ComesNext c.loop-at.walk) c.in-Ok-Some.field-0-is c.in-Ok-Some.ensures.next)) of.master.block (read.same _ _ c.in-Ok.ensures.bytes))
 
 pub returns-in_err-enter-in-Ok-clause-same : goal.returns-in_err-enter-in-Ok-clause-same
 returns-in_err-enter-in-Ok-clause-same g c = c.loop-at.invariant.same

@@ -2,9 +2,12 @@ use Rattle.std.proofs.Common.{inr}
 use Rattle.image_mount.proofs.Wanted.{dinode_leads}
 use Rattle.image_model.specs.Claims.{every}
 use Rattle.gfs2_layout.specs.Inode.{dinode_in, Fits}
-use Rattle.std.proofs.Common.{◌≡◌}
+use Rattle.std.proofs.Common.{◌≡◌, [], ap, ◌∙◌}
 use Rattle.image_mount.proofs.Shown.{shown, inode_at, damage_told}
-use Rattle.image_mount.proofs.Steps.{answer_at}
+use Rattle.image_mount.proofs.Steps.{answer_at, seen_in, shown_by}
+use Rattle.image_mount.specs.Table.{seen_of}
+use Rattle.gfs2_layout.specs.Structures.{dinode_of}
+use Rattle.std.specs.Prelude.{unwrap_or}
 use Rattle.image_mount.proofs.Stops.{stopped}
 use Rattle.image_mount.proofs.inodes.Inode.read.Goals as goal
 
@@ -17,6 +20,13 @@ returns-in_err-dinode-clause-stops c im o read claimed dinode format =
 pub returns-in-Is-clause-found : goal.returns-in-Is-clause-found
 returns-in-Is-clause-found c im read =
     answer_at c.in_ok-dinode.field-0 c.in-Is.dinode (λ d. d ≡ dinode_in (every im c.args.block)) c.in-Is.is (c.in_ok-dinode.ensures.found (every im c.args.block) (shown im c.args.table.now c.args.block read))
+
+pub returns-in-Is-clause-kept : goal.returns-in-Is-clause-kept
+unfolding dinode_in
+returns-in-Is-clause-kept c bytes at =
+    let v = seen_of c.args.table.now in
+    let a = c.args.block in
+    answer_at c.in_ok-dinode.field-0 c.in-Is.dinode (λ d. d ≡ dinode_in (seen_in v a)) c.in-Is.is (c.in_ok-dinode.ensures.found (seen_in v a) (shown_by v a)) ∙ ap (λ o. dinode_of (unwrap_or o [])) at
 
 pub returns-in-Is-clause-fits : goal.returns-in-Is-clause-fits
 returns-in-Is-clause-fits c im read =
