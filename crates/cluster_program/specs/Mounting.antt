@@ -18,7 +18,7 @@ use Rattle.cluster_program.specs.declared.status.Part.TheVariants as part
 abbrev pub OfImage : DiskState → (Image → Type 0) → Type 0
 OfImage disk P = IsTrue disk.tells → P (image_of disk)
 
--- the image is none that stands for a tree, or one outside the profile
+-- the image stands for no tree
 abbrev pub NeverStands : Image → Type 0
 NeverStands im = (tree : Tree) → Stands im tree → ⊥
 
