@@ -3,4 +3,6 @@
 
 mod disks;
 mod good;
+mod hashed;
+mod hashing;
 mod refused;

@@ -57,13 +57,24 @@ pub(crate) fn image(
     Ok(disk.into_bytes())
 }
 
-/// Puts a patch over an image.
-pub(crate) fn put(rt: &impl Abort, image: &mut Vec<u8>, size: u32, (block, at, value): Patch) {
+/// Puts bytes over an image, at a place in a block.
+pub(crate) fn put_bytes(
+    rt: &impl Abort,
+    image: &mut Vec<u8>,
+    size: u32,
+    (block, at): (u64, usize),
+    bytes: &[u8],
+) {
     let place = (block as usize)
         .saturating_mul(size as usize)
         .saturating_add(at);
-    assert!(rt; place <= image.len() && 4 <= image.len() - place);
-    image[place..place + 4].copy_from_slice(&value.to_be_bytes());
+    assert!(rt; place <= image.len() && bytes.len() <= image.len() - place);
+    image[place..place + bytes.len()].copy_from_slice(bytes);
+}
+
+/// Puts a patch over an image.
+pub(crate) fn put(rt: &impl Abort, image: &mut Vec<u8>, size: u32, (block, at, value): Patch) {
+    put_bytes(rt, image, size, (block, at), &value.to_be_bytes());
 }
 
 /// What mounting answers of these bytes, on a disk whose calls of these numbers fail.

@@ -4,107 +4,41 @@ use std::process::Abort;
 use std::rt::HostRuntime;
 use std::test::Fail;
 
-// Patches of an image, and why it is refused.
-type Row = (&'static [Patch], MountFault);
+// Patches of an image, with the block that breaks a rule and the rule,
+type Broken = (&'static [Patch], u64, u16);
+// a field outside the profile and its value,
+type Outside = (&'static [Patch], Field, u64);
+// or the block of a hashed directory that is not read.
+type Hashed = (&'static [Patch], u64);
 
-const ROWS_4096: [Row; 88] = [
-    (&[(16, 0, 0)], MountFault::Damaged { block: 16, rule: 1 }),
-    (&[(16, 4, 2)], MountFault::Damaged { block: 16, rule: 1 }),
-    (
-        &[(16, 16, 0x00000065)],
-        MountFault::Damaged { block: 16, rule: 1 },
-    ),
-    (
-        &[(16, 24, 0x0000070A)],
-        MountFault::NotProfile {
-            field: Field::FsFormat,
-            value: 1802,
-        },
-    ),
-    (
-        &[(16, 28, 0x0000076D)],
-        MountFault::NotProfile {
-            field: Field::MultihostFormat,
-            value: 1901,
-        },
-    ),
-    (
-        &[(16, 36, 0x00002000)],
-        MountFault::NotProfile {
-            field: Field::Bsize,
-            value: 8192,
-        },
-    ),
-    (
-        &[(16, 40, 0x0000000D)],
-        MountFault::NotProfile {
-            field: Field::BsizeShift,
-            value: 13,
-        },
-    ),
-    (
-        &[(16, 40, 0xFFFFFFFF)],
-        MountFault::NotProfile {
-            field: Field::BsizeShift,
-            value: 4294967295,
-        },
-    ),
-    (
-        &[(16, 60, 0x0000021A)],
-        MountFault::Damaged { block: 16, rule: 2 },
-    ),
-    (&[(16, 56, 1)], MountFault::Damaged { block: 16, rule: 2 }),
-    (
-        &[(16, 60, 0x00000010)],
-        MountFault::Damaged { block: 16, rule: 1 },
-    ),
-    (&[(18, 0, 0)], MountFault::Damaged { block: 18, rule: 1 }),
-    (
-        &[(18, 36, 0x00000013)],
-        MountFault::Damaged { block: 18, rule: 7 },
-    ),
-    (&[(18, 28, 0)], MountFault::Damaged { block: 18, rule: 7 }),
-    (&[(18, 40, 0)], MountFault::Damaged { block: 18, rule: 8 }),
-    (
-        &[(18, 40, 0x000081A4)],
-        MountFault::Damaged {
-            block: 18,
-            rule: 18,
-        },
-    ),
-    (&[(18, 128, 3)], MountFault::NotBuilt { block: 18 }),
-    (&[(18, 136, 1)], MountFault::Damaged { block: 18, rule: 8 }),
-    (
-        &[(18, 136, 0x0000000B)],
-        MountFault::Damaged { block: 18, rule: 8 },
-    ),
-    (
-        &[(18, 60, 0x00000F17)],
-        MountFault::Damaged { block: 18, rule: 8 },
-    ),
-    (
-        &[(18, 60, 0x00000F19)],
-        MountFault::Damaged { block: 18, rule: 8 },
-    ),
-    (
-        &[(18, 252, 0x00310001)],
-        MountFault::Damaged { block: 18, rule: 9 },
-    ),
-    (
-        &[(18, 248, 0x0ED4E243)],
-        MountFault::Damaged { block: 18, rule: 9 },
-    ),
-    (
-        &[(18, 416, 0x72696E65)],
-        MountFault::Damaged { block: 18, rule: 9 },
-    ),
+const BROKEN_4096: [Broken; 71] = [
+    (&[(16, 0, 0)], 16, 1),
+    (&[(16, 4, 2)], 16, 1),
+    (&[(16, 16, 0x00000065)], 16, 1),
+    (&[(16, 60, 0x0000021A)], 16, 2),
+    (&[(16, 56, 1)], 16, 2),
+    (&[(16, 60, 0x00000010)], 16, 1),
+    (&[(18, 0, 0)], 18, 1),
+    (&[(18, 36, 0x00000013)], 18, 7),
+    (&[(18, 28, 0)], 18, 7),
+    (&[(18, 40, 0)], 18, 8),
+    (&[(18, 40, 0x000081A4)], 18, 18),
+    (&[(18, 128, 3)], 18, 13),
+    (&[(18, 136, 1)], 18, 8),
+    (&[(18, 136, 0x0000000B)], 18, 8),
+    (&[(18, 60, 0x00000F17)], 18, 8),
+    (&[(18, 60, 0x00000F19)], 18, 8),
+    (&[(18, 252, 0x00310001)], 18, 9),
+    (&[(18, 248, 0x0ED4E243)], 18, 9),
+    (&[(18, 416, 0x72696E65)], 18, 9),
     (
         &[
             (18, 392, 0x66CA309C),
             (18, 416, 0x722F6E64),
             (18, 420, 0x65780000),
         ],
-        MountFault::Damaged { block: 18, rule: 9 },
+        18,
+        9,
     ),
     (
         &[
@@ -112,119 +46,23 @@ const ROWS_4096: [Row; 88] = [
             (18, 416, 0x6A696E64),
             (18, 420, 0x65780000),
         ],
-        MountFault::Damaged {
-            block: 18,
-            rule: 10,
-        },
+        18,
+        10,
     ),
-    (
-        &[(18, 244, 0x00000013)],
-        MountFault::Damaged {
-            block: 18,
-            rule: 10,
-        },
-    ),
-    (
-        &[(18, 292, 0x00000013)],
-        MountFault::Damaged {
-            block: 18,
-            rule: 10,
-        },
-    ),
-    (
-        &[(18, 248, 0x8CDC1683), (18, 272, 0x78000000)],
-        MountFault::Damaged {
-            block: 18,
-            rule: 10,
-        },
-    ),
-    (
-        &[(18, 284, 0), (18, 148, 3)],
-        MountFault::Damaged {
-            block: 18,
-            rule: 10,
-        },
-    ),
-    (
-        &[(18, 148, 5)],
-        MountFault::Damaged {
-            block: 18,
-            rule: 12,
-        },
-    ),
-    (
-        &[(18, 52, 4)],
-        MountFault::Damaged {
-            block: 18,
-            rule: 12,
-        },
-    ),
-    (
-        &[
-            (18, 392, 0xA5DC872E),
-            (18, 416, 0x6F746865),
-            (18, 420, 0x72210000),
-        ],
-        MountFault::NotProfile {
-            field: Field::Master,
-            value: 20,
-        },
-    ),
-    (
-        &[(18, 380, 0), (18, 148, 3)],
-        MountFault::Damaged {
-            block: 18,
-            rule: 18,
-        },
-    ),
-    (
-        &[(18, 332, 0), (18, 148, 3), (18, 52, 2)],
-        MountFault::Damaged {
-            block: 18,
-            rule: 16,
-        },
-    ),
-    (
-        &[(18, 400, 0x00040000), (18, 52, 4)],
-        MountFault::Damaged {
-            block: 18,
-            rule: 11,
-        },
-    ),
-    (
-        &[(18, 380, 0x00000063)],
-        MountFault::Damaged {
-            block: 18,
-            rule: 11,
-        },
-    ),
-    (
-        &[(18, 388, 0x0000021A)],
-        MountFault::Damaged { block: 18, rule: 2 },
-    ),
-    (&[(20, 0, 0)], MountFault::Damaged { block: 20, rule: 1 }),
-    (&[(20, 36, 1)], MountFault::Damaged { block: 20, rule: 7 }),
-    (
-        &[(20, 60, 0x00000061)],
-        MountFault::Damaged {
-            block: 20,
-            rule: 18,
-        },
-    ),
-    (
-        &[(20, 60, 0)],
-        MountFault::NotProfile {
-            field: Field::Groups,
-            value: 0,
-        },
-    ),
-    (
-        &[(20, 60, 0x00001860), (20, 136, 1)],
-        MountFault::NotProfile {
-            field: Field::Groups,
-            value: 65,
-        },
-    ),
+    (&[(18, 244, 0x00000013)], 18, 10),
+    (&[(18, 292, 0x00000013)], 18, 10),
+    (&[(18, 248, 0x8CDC1683), (18, 272, 0x78000000)], 18, 10),
+    (&[(18, 284, 0), (18, 148, 3)], 18, 10),
+    (&[(18, 148, 5)], 18, 12),
+    (&[(18, 52, 4)], 18, 12),
+    (&[(18, 380, 0), (18, 148, 3)], 18, 18),
+    (&[(18, 332, 0), (18, 148, 3), (18, 52, 2)], 18, 16),
+    (&[(18, 400, 0x00040000), (18, 52, 4)], 18, 11),
+    (&[(18, 380, 0x00000063)], 18, 11),
+    (&[(18, 388, 0x0000021A)], 18, 2),
+    (&[(20, 0, 0)], 20, 1),
+    (&[(20, 36, 1)], 20, 7),
+    (&[(20, 60, 0x00000061)], 20, 18),
     (
         &[
             (20, 60, 0x00000060),
@@ -232,15 +70,10 @@ const ROWS_4096: [Row; 88] = [
             (20, 232, 0),
             (20, 236, 0x0000021A),
         ],
-        MountFault::Damaged { block: 20, rule: 2 },
+        20,
+        2,
     ),
-    (
-        &[(20, 60, 0x00000060), (20, 136, 1)],
-        MountFault::Damaged {
-            block: 20,
-            rule: 18,
-        },
-    ),
+    (&[(20, 60, 0x00000060), (20, 136, 1)], 20, 18),
     (
         &[
             (20, 60, 0x00000060),
@@ -248,46 +81,65 @@ const ROWS_4096: [Row; 88] = [
             (20, 232, 0),
             (20, 236, 0),
         ],
-        MountFault::Damaged {
-            block: 20,
-            rule: 18,
-        },
+        20,
+        18,
     ),
+    (&[(20, 236, 0x00000010)], 20, 18),
+    (&[(20, 260, 0x00000083)], 20, 18),
+    (&[(20, 256, 0x0000020C), (20, 260, 0x00000083)], 20, 18),
+    (&[(20, 240, 0)], 20, 18),
+    (&[(20, 256, 0x00000204), (20, 260, 0x00000081)], 537, 18),
+    (&[(18, 352, 0x00080000), (18, 52, 2)], 18, 11),
+    (&[(18, 332, 0x00000063)], 18, 11),
+    (&[(18, 340, 0x0000021A)], 18, 2),
+    (&[(21, 0, 0)], 21, 1),
+    (&[(21, 148, 4)], 21, 12),
+    (&[(21, 292, 0x00000015)], 21, 10),
+    (&[(21, 332, 0x00000063)], 21, 11),
+    (&[(21, 340, 0x0000021A)], 21, 2),
+    (&[(21, 340, 0x00000014)], 20, 3),
+    (&[(22, 0, 0)], 22, 1),
     (
-        &[(20, 236, 0x00000010)],
-        MountFault::Damaged {
-            block: 20,
-            rule: 18,
-        },
+        &[(22, 40, 0x000041ED), (21, 352, 0x00040000), (21, 52, 3)],
+        22,
+        8,
     ),
+    (&[(22, 60, 0x00200001)], 22, 8),
+    (&[(22, 56, 0x00000100)], 22, 8),
+    (&[(22, 236, 0x0000021A)], 22, 2),
+    (&[(22, 236, 0)], 22, 8),
+    (&[(23, 0, 0)], 23, 1),
+    (&[(23, 28, 0)], 22, 8),
+    (&[(23, 28, 0x0000021A)], 23, 2),
+    (&[(23, 24, 1)], 23, 2),
+    (&[(23, 28, 0x00000011)], 23, 2),
+    (&[(23, 28, 0x00000010)], 23, 2),
+    (&[(23, 28, 0x00000012)], 18, 3),
+    (&[(23, 36, 0x00000019)], 25, 3),
+    (&[(23, 28, 0x00000016)], 22, 3),
+    (&[(22, 244, 0x00000019)], 25, 3),
+    (&[(22, 244, 0x00000017)], 25, 3),
+    (&[(25, 0, 0)], 22, 16),
+    (&[(25, 40, 1)], 22, 16),
+];
+
+const OUTSIDE_4096: [Outside; 16] = [
+    (&[(16, 24, 0x0000070A)], Field::FsFormat, 1802),
+    (&[(16, 28, 0x0000076D)], Field::MultihostFormat, 1901),
+    (&[(16, 36, 0x00002000)], Field::Bsize, 8192),
+    (&[(16, 40, 0x0000000D)], Field::BsizeShift, 13),
+    (&[(16, 40, 0xFFFFFFFF)], Field::BsizeShift, 4294967295),
     (
-        &[(20, 260, 0x00000083)],
-        MountFault::Damaged {
-            block: 20,
-            rule: 18,
-        },
+        &[
+            (18, 392, 0xA5DC872E),
+            (18, 416, 0x6F746865),
+            (18, 420, 0x72210000),
+        ],
+        Field::Master,
+        20,
     ),
-    (
-        &[(20, 256, 0x0000020C), (20, 260, 0x00000083)],
-        MountFault::Damaged {
-            block: 20,
-            rule: 18,
-        },
-    ),
-    (
-        &[(20, 240, 0)],
-        MountFault::Damaged {
-            block: 20,
-            rule: 18,
-        },
-    ),
-    (
-        &[(20, 256, 0x00000204), (20, 260, 0x00000081)],
-        MountFault::Damaged {
-            block: 537,
-            rule: 18,
-        },
-    ),
+    (&[(20, 60, 0)], Field::Groups, 0),
+    (&[(20, 60, 0x00001860), (20, 136, 1)], Field::Groups, 65),
     (
         &[
             (20, 240, 0x00000081),
@@ -295,62 +147,22 @@ const ROWS_4096: [Row; 88] = [
             (20, 256, 0x00000188),
             (20, 260, 0x00000062),
         ],
-        MountFault::NotProfile {
-            field: Field::GroupBlocks,
-            value: 129,
-        },
-    ),
-    (
-        &[(18, 352, 0x00080000), (18, 52, 2)],
-        MountFault::Damaged {
-            block: 18,
-            rule: 11,
-        },
-    ),
-    (
-        &[(18, 332, 0x00000063)],
-        MountFault::Damaged {
-            block: 18,
-            rule: 11,
-        },
-    ),
-    (
-        &[(18, 340, 0x0000021A)],
-        MountFault::Damaged { block: 18, rule: 2 },
+        Field::GroupBlocks,
+        129,
     ),
     (
         &[(21, 40, 0x000081A4), (18, 352, 0x00080000), (18, 52, 2)],
-        MountFault::NotProfile {
-            field: Field::Journals,
-            value: 0,
-        },
+        Field::Journals,
+        0,
     ),
-    (&[(21, 0, 0)], MountFault::Damaged { block: 21, rule: 1 }),
-    (
-        &[(21, 148, 4)],
-        MountFault::Damaged {
-            block: 21,
-            rule: 12,
-        },
-    ),
-    (
-        &[(21, 292, 0x00000015)],
-        MountFault::Damaged {
-            block: 21,
-            rule: 10,
-        },
-    ),
-    (&[(21, 128, 3)], MountFault::NotBuilt { block: 21 }),
     (
         &[
             (21, 344, 0x8B70757D),
             (21, 368, 0x6A6F7572),
             (21, 372, 0x6E616C31),
         ],
-        MountFault::NotProfile {
-            field: Field::Journals,
-            value: 1,
-        },
+        Field::Journals,
+        1,
     ),
     (
         &[
@@ -358,296 +170,49 @@ const ROWS_4096: [Row; 88] = [
             (21, 368, 0x6A6F7572),
             (21, 372, 0x6E616C58),
         ],
-        MountFault::NotProfile {
-            field: Field::Journals,
-            value: 1,
-        },
+        Field::Journals,
+        1,
     ),
-    (
-        &[(21, 332, 0), (21, 148, 2)],
-        MountFault::NotProfile {
-            field: Field::Journals,
-            value: 0,
-        },
-    ),
-    (
-        &[(21, 332, 0x00000063)],
-        MountFault::Damaged {
-            block: 21,
-            rule: 11,
-        },
-    ),
-    (
-        &[(21, 340, 0x0000021A)],
-        MountFault::Damaged { block: 21, rule: 2 },
-    ),
-    (
-        &[(21, 340, 0x00000014)],
-        MountFault::Damaged { block: 20, rule: 3 },
-    ),
-    (&[(22, 0, 0)], MountFault::Damaged { block: 22, rule: 1 }),
-    (
-        &[(22, 40, 0x000041ED), (21, 352, 0x00040000), (21, 52, 3)],
-        MountFault::Damaged { block: 22, rule: 8 },
-    ),
-    (
-        &[(22, 60, 0x00200001)],
-        MountFault::Damaged { block: 22, rule: 8 },
-    ),
-    (
-        &[(22, 60, 0x001FF000)],
-        MountFault::NotProfile {
-            field: Field::Journal,
-            value: 511,
-        },
-    ),
-    (
-        &[(22, 56, 0x00000100)],
-        MountFault::Damaged { block: 22, rule: 8 },
-    ),
-    (
-        &[(22, 60, 0x10001000)],
-        MountFault::NotProfile {
-            field: Field::Journal,
-            value: 65537,
-        },
-    ),
-    (
-        &[(22, 236, 0x0000021A)],
-        MountFault::Damaged { block: 22, rule: 2 },
-    ),
-    (&[(22, 236, 0)], MountFault::Damaged { block: 22, rule: 8 }),
-    (&[(23, 0, 0)], MountFault::Damaged { block: 23, rule: 1 }),
-    (&[(23, 28, 0)], MountFault::Damaged { block: 22, rule: 8 }),
-    (
-        &[(23, 28, 0x0000021A)],
-        MountFault::Damaged { block: 23, rule: 2 },
-    ),
-    (&[(23, 24, 1)], MountFault::Damaged { block: 23, rule: 2 }),
-    (
-        &[(23, 28, 0x00000011)],
-        MountFault::Damaged { block: 23, rule: 2 },
-    ),
-    (
-        &[(23, 28, 0x00000010)],
-        MountFault::Damaged { block: 23, rule: 2 },
-    ),
-    (
-        &[(23, 28, 0x00000012)],
-        MountFault::Damaged { block: 18, rule: 3 },
-    ),
-    (
-        &[(23, 36, 0x00000019)],
-        MountFault::Damaged { block: 25, rule: 3 },
-    ),
-    (
-        &[(23, 28, 0x00000016)],
-        MountFault::Damaged { block: 22, rule: 3 },
-    ),
-    (
-        &[(22, 244, 0x00000019)],
-        MountFault::Damaged { block: 25, rule: 3 },
-    ),
-    (
-        &[(22, 244, 0x00000017)],
-        MountFault::Damaged { block: 25, rule: 3 },
-    ),
-    (
-        &[(25, 0, 0)],
-        MountFault::Damaged {
-            block: 22,
-            rule: 16,
-        },
-    ),
-    (
-        &[(25, 40, 1)],
-        MountFault::Damaged {
-            block: 22,
-            rule: 16,
-        },
-    ),
+    (&[(21, 332, 0), (21, 148, 2)], Field::Journals, 0),
+    (&[(22, 60, 0x001FF000)], Field::Journal, 511),
+    (&[(22, 60, 0x10001000)], Field::Journal, 65537),
     (
         &[(25, 24, 0x80000000), (25, 28, 0), (25, 44, 0x6630C1A4)],
-        MountFault::NotProfile {
-            field: Field::Sequence,
-            value: 9223372036854775808,
-        },
+        Field::Sequence,
+        9223372036854775808,
     ),
 ];
 
-const ROWS_512: [Row; 87] = [
-    (
-        &[(128, 0, 0)],
-        MountFault::Damaged {
-            block: 128,
-            rule: 1,
-        },
-    ),
-    (
-        &[(128, 4, 2)],
-        MountFault::Damaged {
-            block: 128,
-            rule: 1,
-        },
-    ),
-    (
-        &[(128, 16, 0x00000065)],
-        MountFault::Damaged {
-            block: 128,
-            rule: 1,
-        },
-    ),
-    (
-        &[(128, 24, 0x0000070A)],
-        MountFault::NotProfile {
-            field: Field::FsFormat,
-            value: 1802,
-        },
-    ),
-    (
-        &[(128, 28, 0x0000076D)],
-        MountFault::NotProfile {
-            field: Field::MultihostFormat,
-            value: 1901,
-        },
-    ),
-    (
-        &[(128, 36, 0x00000400)],
-        MountFault::NotProfile {
-            field: Field::Bsize,
-            value: 1024,
-        },
-    ),
-    (
-        &[(128, 40, 0x0000000D)],
-        MountFault::NotProfile {
-            field: Field::BsizeShift,
-            value: 13,
-        },
-    ),
-    (
-        &[(128, 40, 0xFFFFFFFF)],
-        MountFault::NotProfile {
-            field: Field::BsizeShift,
-            value: 4294967295,
-        },
-    ),
-    (
-        &[(128, 60, 0x00000292)],
-        MountFault::Damaged {
-            block: 128,
-            rule: 2,
-        },
-    ),
-    (
-        &[(128, 56, 1)],
-        MountFault::Damaged {
-            block: 128,
-            rule: 2,
-        },
-    ),
-    (
-        &[(128, 60, 0x00000080)],
-        MountFault::Damaged {
-            block: 128,
-            rule: 1,
-        },
-    ),
-    (
-        &[(130, 0, 0)],
-        MountFault::Damaged {
-            block: 130,
-            rule: 1,
-        },
-    ),
-    (
-        &[(130, 36, 0x00000083)],
-        MountFault::Damaged {
-            block: 130,
-            rule: 7,
-        },
-    ),
-    (
-        &[(130, 28, 0)],
-        MountFault::Damaged {
-            block: 130,
-            rule: 7,
-        },
-    ),
-    (
-        &[(130, 40, 0)],
-        MountFault::Damaged {
-            block: 130,
-            rule: 8,
-        },
-    ),
-    (
-        &[(130, 40, 0x000081A4)],
-        MountFault::Damaged {
-            block: 130,
-            rule: 18,
-        },
-    ),
-    (&[(130, 128, 3)], MountFault::NotBuilt { block: 130 }),
-    (
-        &[(130, 136, 1)],
-        MountFault::Damaged {
-            block: 130,
-            rule: 8,
-        },
-    ),
-    (
-        &[(130, 136, 0x0000000B)],
-        MountFault::Damaged {
-            block: 130,
-            rule: 8,
-        },
-    ),
-    (
-        &[(130, 60, 0x00000117)],
-        MountFault::Damaged {
-            block: 130,
-            rule: 8,
-        },
-    ),
-    (
-        &[(130, 60, 0x00000119)],
-        MountFault::Damaged {
-            block: 130,
-            rule: 8,
-        },
-    ),
-    (
-        &[(130, 252, 0x00310001)],
-        MountFault::Damaged {
-            block: 130,
-            rule: 9,
-        },
-    ),
-    (
-        &[(130, 248, 0x0ED4E243)],
-        MountFault::Damaged {
-            block: 130,
-            rule: 9,
-        },
-    ),
-    (
-        &[(130, 416, 0x72696E65)],
-        MountFault::Damaged {
-            block: 130,
-            rule: 9,
-        },
-    ),
+const HASHED_4096: [Hashed; 1] = [(&[(21, 128, 3)], 21)];
+
+const BROKEN_512: [Broken; 71] = [
+    (&[(128, 0, 0)], 128, 1),
+    (&[(128, 4, 2)], 128, 1),
+    (&[(128, 16, 0x00000065)], 128, 1),
+    (&[(128, 60, 0x00000292)], 128, 2),
+    (&[(128, 56, 1)], 128, 2),
+    (&[(128, 60, 0x00000080)], 128, 1),
+    (&[(130, 0, 0)], 130, 1),
+    (&[(130, 36, 0x00000083)], 130, 7),
+    (&[(130, 28, 0)], 130, 7),
+    (&[(130, 40, 0)], 130, 8),
+    (&[(130, 40, 0x000081A4)], 130, 18),
+    (&[(130, 128, 3)], 130, 13),
+    (&[(130, 136, 1)], 130, 8),
+    (&[(130, 136, 0x0000000B)], 130, 8),
+    (&[(130, 60, 0x00000117)], 130, 8),
+    (&[(130, 60, 0x00000119)], 130, 8),
+    (&[(130, 252, 0x00310001)], 130, 9),
+    (&[(130, 248, 0x0ED4E243)], 130, 9),
+    (&[(130, 416, 0x72696E65)], 130, 9),
     (
         &[
             (130, 392, 0x66CA309C),
             (130, 416, 0x722F6E64),
             (130, 420, 0x65780000),
         ],
-        MountFault::Damaged {
-            block: 130,
-            rule: 9,
-        },
+        130,
+        9,
     ),
     (
         &[
@@ -655,134 +220,23 @@ const ROWS_512: [Row; 87] = [
             (130, 416, 0x6A696E64),
             (130, 420, 0x65780000),
         ],
-        MountFault::Damaged {
-            block: 130,
-            rule: 10,
-        },
+        130,
+        10,
     ),
-    (
-        &[(130, 244, 0x00000083)],
-        MountFault::Damaged {
-            block: 130,
-            rule: 10,
-        },
-    ),
-    (
-        &[(130, 292, 0x00000083)],
-        MountFault::Damaged {
-            block: 130,
-            rule: 10,
-        },
-    ),
-    (
-        &[(130, 248, 0x8CDC1683), (130, 272, 0x78000000)],
-        MountFault::Damaged {
-            block: 130,
-            rule: 10,
-        },
-    ),
-    (
-        &[(130, 284, 0), (130, 148, 3)],
-        MountFault::Damaged {
-            block: 130,
-            rule: 10,
-        },
-    ),
-    (
-        &[(130, 148, 5)],
-        MountFault::Damaged {
-            block: 130,
-            rule: 12,
-        },
-    ),
-    (
-        &[(130, 52, 4)],
-        MountFault::Damaged {
-            block: 130,
-            rule: 12,
-        },
-    ),
-    (
-        &[
-            (130, 392, 0xA5DC872E),
-            (130, 416, 0x6F746865),
-            (130, 420, 0x72210000),
-        ],
-        MountFault::NotProfile {
-            field: Field::Master,
-            value: 132,
-        },
-    ),
-    (
-        &[(130, 380, 0), (130, 148, 3)],
-        MountFault::Damaged {
-            block: 130,
-            rule: 18,
-        },
-    ),
-    (
-        &[(130, 332, 0), (130, 148, 3), (130, 52, 2)],
-        MountFault::Damaged {
-            block: 130,
-            rule: 16,
-        },
-    ),
-    (
-        &[(130, 400, 0x00040000), (130, 52, 4)],
-        MountFault::Damaged {
-            block: 130,
-            rule: 11,
-        },
-    ),
-    (
-        &[(130, 380, 0x00000063)],
-        MountFault::Damaged {
-            block: 130,
-            rule: 11,
-        },
-    ),
-    (
-        &[(130, 388, 0x00000292)],
-        MountFault::Damaged {
-            block: 130,
-            rule: 2,
-        },
-    ),
-    (
-        &[(132, 0, 0)],
-        MountFault::Damaged {
-            block: 132,
-            rule: 1,
-        },
-    ),
-    (
-        &[(132, 36, 1)],
-        MountFault::Damaged {
-            block: 132,
-            rule: 7,
-        },
-    ),
-    (
-        &[(132, 60, 0x00000061)],
-        MountFault::Damaged {
-            block: 132,
-            rule: 18,
-        },
-    ),
-    (
-        &[(132, 60, 0)],
-        MountFault::NotProfile {
-            field: Field::Groups,
-            value: 0,
-        },
-    ),
-    (
-        &[(132, 60, 0x00001860), (132, 136, 1)],
-        MountFault::NotProfile {
-            field: Field::Groups,
-            value: 65,
-        },
-    ),
+    (&[(130, 244, 0x00000083)], 130, 10),
+    (&[(130, 292, 0x00000083)], 130, 10),
+    (&[(130, 248, 0x8CDC1683), (130, 272, 0x78000000)], 130, 10),
+    (&[(130, 284, 0), (130, 148, 3)], 130, 10),
+    (&[(130, 148, 5)], 130, 12),
+    (&[(130, 52, 4)], 130, 12),
+    (&[(130, 380, 0), (130, 148, 3)], 130, 18),
+    (&[(130, 332, 0), (130, 148, 3), (130, 52, 2)], 130, 16),
+    (&[(130, 400, 0x00040000), (130, 52, 4)], 130, 11),
+    (&[(130, 380, 0x00000063)], 130, 11),
+    (&[(130, 388, 0x00000292)], 130, 2),
+    (&[(132, 0, 0)], 132, 1),
+    (&[(132, 36, 1)], 132, 7),
+    (&[(132, 60, 0x00000061)], 132, 18),
     (
         &[
             (132, 60, 0x00000060),
@@ -790,18 +244,10 @@ const ROWS_512: [Row; 87] = [
             (132, 232, 0),
             (132, 236, 0x00000292),
         ],
-        MountFault::Damaged {
-            block: 132,
-            rule: 2,
-        },
+        132,
+        2,
     ),
-    (
-        &[(132, 60, 0x00000060), (132, 136, 1)],
-        MountFault::Damaged {
-            block: 132,
-            rule: 18,
-        },
-    ),
+    (&[(132, 60, 0x00000060), (132, 136, 1)], 132, 18),
     (
         &[
             (132, 60, 0x00000060),
@@ -809,46 +255,65 @@ const ROWS_512: [Row; 87] = [
             (132, 232, 0),
             (132, 236, 0),
         ],
-        MountFault::Damaged {
-            block: 132,
-            rule: 18,
-        },
+        132,
+        18,
     ),
+    (&[(132, 236, 0x00000080)], 132, 18),
+    (&[(132, 260, 0x00000085)], 132, 18),
+    (&[(132, 256, 0x00000214), (132, 260, 0x00000085)], 132, 18),
+    (&[(132, 240, 0)], 132, 18),
+    (&[(132, 256, 0x0000020C), (132, 260, 0x00000083)], 657, 18),
+    (&[(130, 352, 0x00080000), (130, 52, 2)], 130, 11),
+    (&[(130, 332, 0x00000063)], 130, 11),
+    (&[(130, 340, 0x00000292)], 130, 2),
+    (&[(133, 0, 0)], 133, 1),
+    (&[(133, 148, 4)], 133, 12),
+    (&[(133, 292, 0x00000085)], 133, 10),
+    (&[(133, 332, 0x00000063)], 133, 11),
+    (&[(133, 340, 0x00000292)], 133, 2),
+    (&[(133, 340, 0x00000084)], 132, 3),
+    (&[(134, 0, 0)], 134, 1),
     (
-        &[(132, 236, 0x00000080)],
-        MountFault::Damaged {
-            block: 132,
-            rule: 18,
-        },
+        &[(134, 40, 0x000041ED), (133, 352, 0x00040000), (133, 52, 3)],
+        134,
+        8,
     ),
+    (&[(134, 60, 0x00040001)], 134, 8),
+    (&[(134, 56, 0x00000100)], 134, 8),
+    (&[(134, 236, 0x00000292)], 134, 2),
+    (&[(134, 236, 0)], 134, 8),
+    (&[(135, 0, 0)], 135, 1),
+    (&[(135, 28, 0)], 134, 8),
+    (&[(135, 28, 0x00000292)], 135, 2),
+    (&[(135, 24, 1)], 135, 2),
+    (&[(135, 28, 0x00000081)], 135, 2),
+    (&[(135, 28, 0x00000080)], 135, 2),
+    (&[(135, 28, 0x00000082)], 130, 3),
+    (&[(135, 36, 0x00000090)], 144, 3),
+    (&[(135, 28, 0x00000086)], 134, 3),
+    (&[(134, 244, 0x00000090)], 144, 3),
+    (&[(134, 244, 0x00000087)], 144, 3),
+    (&[(144, 0, 0)], 134, 16),
+    (&[(144, 40, 1)], 134, 16),
+];
+
+const OUTSIDE_512: [Outside; 15] = [
+    (&[(128, 24, 0x0000070A)], Field::FsFormat, 1802),
+    (&[(128, 28, 0x0000076D)], Field::MultihostFormat, 1901),
+    (&[(128, 36, 0x00000400)], Field::Bsize, 1024),
+    (&[(128, 40, 0x0000000D)], Field::BsizeShift, 13),
+    (&[(128, 40, 0xFFFFFFFF)], Field::BsizeShift, 4294967295),
     (
-        &[(132, 260, 0x00000085)],
-        MountFault::Damaged {
-            block: 132,
-            rule: 18,
-        },
+        &[
+            (130, 392, 0xA5DC872E),
+            (130, 416, 0x6F746865),
+            (130, 420, 0x72210000),
+        ],
+        Field::Master,
+        132,
     ),
-    (
-        &[(132, 256, 0x00000214), (132, 260, 0x00000085)],
-        MountFault::Damaged {
-            block: 132,
-            rule: 18,
-        },
-    ),
-    (
-        &[(132, 240, 0)],
-        MountFault::Damaged {
-            block: 132,
-            rule: 18,
-        },
-    ),
-    (
-        &[(132, 256, 0x0000020C), (132, 260, 0x00000083)],
-        MountFault::Damaged {
-            block: 657,
-            rule: 18,
-        },
-    ),
+    (&[(132, 60, 0)], Field::Groups, 0),
+    (&[(132, 60, 0x00001860), (132, 136, 1)], Field::Groups, 65),
     (
         &[
             (132, 240, 0x00000081),
@@ -856,71 +321,22 @@ const ROWS_512: [Row; 87] = [
             (132, 256, 0x00000190),
             (132, 260, 0x00000064),
         ],
-        MountFault::NotProfile {
-            field: Field::GroupBlocks,
-            value: 129,
-        },
-    ),
-    (
-        &[(130, 352, 0x00080000), (130, 52, 2)],
-        MountFault::Damaged {
-            block: 130,
-            rule: 11,
-        },
-    ),
-    (
-        &[(130, 332, 0x00000063)],
-        MountFault::Damaged {
-            block: 130,
-            rule: 11,
-        },
-    ),
-    (
-        &[(130, 340, 0x00000292)],
-        MountFault::Damaged {
-            block: 130,
-            rule: 2,
-        },
+        Field::GroupBlocks,
+        129,
     ),
     (
         &[(133, 40, 0x000081A4), (130, 352, 0x00080000), (130, 52, 2)],
-        MountFault::NotProfile {
-            field: Field::Journals,
-            value: 0,
-        },
+        Field::Journals,
+        0,
     ),
-    (
-        &[(133, 0, 0)],
-        MountFault::Damaged {
-            block: 133,
-            rule: 1,
-        },
-    ),
-    (
-        &[(133, 148, 4)],
-        MountFault::Damaged {
-            block: 133,
-            rule: 12,
-        },
-    ),
-    (
-        &[(133, 292, 0x00000085)],
-        MountFault::Damaged {
-            block: 133,
-            rule: 10,
-        },
-    ),
-    (&[(133, 128, 3)], MountFault::NotBuilt { block: 133 }),
     (
         &[
             (133, 344, 0x8B70757D),
             (133, 368, 0x6A6F7572),
             (133, 372, 0x6E616C31),
         ],
-        MountFault::NotProfile {
-            field: Field::Journals,
-            value: 1,
-        },
+        Field::Journals,
+        1,
     ),
     (
         &[
@@ -928,207 +344,96 @@ const ROWS_512: [Row; 87] = [
             (133, 368, 0x6A6F7572),
             (133, 372, 0x6E616C58),
         ],
-        MountFault::NotProfile {
-            field: Field::Journals,
-            value: 1,
-        },
+        Field::Journals,
+        1,
     ),
-    (
-        &[(133, 332, 0), (133, 148, 2)],
-        MountFault::NotProfile {
-            field: Field::Journals,
-            value: 0,
-        },
-    ),
-    (
-        &[(133, 332, 0x00000063)],
-        MountFault::Damaged {
-            block: 133,
-            rule: 11,
-        },
-    ),
-    (
-        &[(133, 340, 0x00000292)],
-        MountFault::Damaged {
-            block: 133,
-            rule: 2,
-        },
-    ),
-    (
-        &[(133, 340, 0x00000084)],
-        MountFault::Damaged {
-            block: 132,
-            rule: 3,
-        },
-    ),
-    (
-        &[(134, 0, 0)],
-        MountFault::Damaged {
-            block: 134,
-            rule: 1,
-        },
-    ),
-    (
-        &[(134, 40, 0x000041ED), (133, 352, 0x00040000), (133, 52, 3)],
-        MountFault::Damaged {
-            block: 134,
-            rule: 8,
-        },
-    ),
-    (
-        &[(134, 60, 0x00040001)],
-        MountFault::Damaged {
-            block: 134,
-            rule: 8,
-        },
-    ),
-    (
-        &[(134, 60, 0x0003FE00)],
-        MountFault::NotProfile {
-            field: Field::Journal,
-            value: 511,
-        },
-    ),
-    (
-        &[(134, 56, 0x00000100)],
-        MountFault::Damaged {
-            block: 134,
-            rule: 8,
-        },
-    ),
-    (
-        &[(134, 236, 0x00000292)],
-        MountFault::Damaged {
-            block: 134,
-            rule: 2,
-        },
-    ),
-    (
-        &[(134, 236, 0)],
-        MountFault::Damaged {
-            block: 134,
-            rule: 8,
-        },
-    ),
-    (
-        &[(135, 0, 0)],
-        MountFault::Damaged {
-            block: 135,
-            rule: 1,
-        },
-    ),
-    (
-        &[(135, 28, 0)],
-        MountFault::Damaged {
-            block: 134,
-            rule: 8,
-        },
-    ),
-    (
-        &[(135, 28, 0x00000292)],
-        MountFault::Damaged {
-            block: 135,
-            rule: 2,
-        },
-    ),
-    (
-        &[(135, 24, 1)],
-        MountFault::Damaged {
-            block: 135,
-            rule: 2,
-        },
-    ),
-    (
-        &[(135, 28, 0x00000081)],
-        MountFault::Damaged {
-            block: 135,
-            rule: 2,
-        },
-    ),
-    (
-        &[(135, 28, 0x00000080)],
-        MountFault::Damaged {
-            block: 135,
-            rule: 2,
-        },
-    ),
-    (
-        &[(135, 28, 0x00000082)],
-        MountFault::Damaged {
-            block: 130,
-            rule: 3,
-        },
-    ),
-    (
-        &[(135, 36, 0x00000090)],
-        MountFault::Damaged {
-            block: 144,
-            rule: 3,
-        },
-    ),
-    (
-        &[(135, 28, 0x00000086)],
-        MountFault::Damaged {
-            block: 134,
-            rule: 3,
-        },
-    ),
-    (
-        &[(134, 244, 0x00000090)],
-        MountFault::Damaged {
-            block: 144,
-            rule: 3,
-        },
-    ),
-    (
-        &[(134, 244, 0x00000087)],
-        MountFault::Damaged {
-            block: 144,
-            rule: 3,
-        },
-    ),
-    (
-        &[(144, 0, 0)],
-        MountFault::Damaged {
-            block: 134,
-            rule: 16,
-        },
-    ),
-    (
-        &[(144, 40, 1)],
-        MountFault::Damaged {
-            block: 134,
-            rule: 16,
-        },
-    ),
+    (&[(133, 332, 0), (133, 148, 2)], Field::Journals, 0),
+    (&[(134, 60, 0x0003FE00)], Field::Journal, 511),
     (
         &[(144, 24, 0x80000000), (144, 28, 0), (144, 44, 0x6630C1A4)],
-        MountFault::NotProfile {
-            field: Field::Sequence,
-            value: 9223372036854775808,
-        },
+        Field::Sequence,
+        9223372036854775808,
     ),
 ];
 
-fn check(rt: &(impl Abort + AllocGlobal), size: u32, count: u64, rows: &[Row]) -> Result<(), Fail> {
+const HASHED_512: [Hashed; 1] = [(&[(133, 128, 3)], 133)];
+
+// Why the image with these patches over it is refused.
+fn refusal(
+    rt: &(impl Abort + AllocGlobal),
+    size: u32,
+    sound: &[u8],
+    patches: &[Patch],
+) -> Result<Option<MountFault>, Fail> {
+    let mut image = Vec::from_slice(rt.alloc(), sound)?;
+    for patch in patches {
+        put(rt, &mut image, size, *patch);
+    }
+    Ok(mounted(rt, size, image, &[])?.err())
+}
+
+fn check_broken(
+    rt: &(impl Abort + AllocGlobal),
+    size: u32,
+    count: u64,
+    rows: &[Broken],
+) -> Result<(), Fail> {
     let sound = image(rt, size, count, 1, 1)?;
-    for (i, (patches, fault)) in rows.iter().enumerate() {
-        let mut image = Vec::from_slice(rt.alloc(), &sound)?;
-        for patch in *patches {
-            put(rt, &mut image, size, *patch);
-        }
-        let refused = mounted(rt, size, image, &[])?.err();
-        assert_eq!(rt; refused, Some(*fault), "row {i}");
+    for (i, (patches, block, rule)) in rows.iter().enumerate() {
+        let fault = MountFault::Damaged {
+            block: *block,
+            rule: *rule,
+        };
+        assert_eq!(rt; refusal(rt, size, &sound, patches)?, Some(fault), "row {i}");
+    }
+    Ok(())
+}
+
+fn check_outside(
+    rt: &(impl Abort + AllocGlobal),
+    size: u32,
+    count: u64,
+    rows: &[Outside],
+) -> Result<(), Fail> {
+    let sound = image(rt, size, count, 1, 1)?;
+    for (i, (patches, field, value)) in rows.iter().enumerate() {
+        let fault = MountFault::NotProfile {
+            field: *field,
+            value: *value,
+        };
+        assert_eq!(rt; refusal(rt, size, &sound, patches)?, Some(fault), "row {i}");
+    }
+    Ok(())
+}
+
+fn check_hashed(
+    rt: &(impl Abort + AllocGlobal),
+    size: u32,
+    count: u64,
+    rows: &[Hashed],
+) -> Result<(), Fail> {
+    let sound = image(rt, size, count, 1, 1)?;
+    for (i, (patches, block)) in rows.iter().enumerate() {
+        let fault = MountFault::NotBuilt { block: *block };
+        assert_eq!(rt; refusal(rt, size, &sound, patches)?, Some(fault), "row {i}");
     }
     Ok(())
 }
 
 #[test]
-fn patched_images_of_large_blocks_are_refused(rt: HostRuntime) -> Result<(), Fail> {
-    check(&rt, 4096, 538, &ROWS_4096)
+fn a_broken_rule_is_told(rt: HostRuntime) -> Result<(), Fail> {
+    check_broken(&rt, 4096, 538, &BROKEN_4096)?;
+    check_broken(&rt, 512, 658, &BROKEN_512)
 }
 
 #[test]
-fn patched_images_of_small_blocks_are_refused(rt: HostRuntime) -> Result<(), Fail> {
-    check(&rt, 512, 658, &ROWS_512)
+fn a_field_outside_the_profile_is_told(rt: HostRuntime) -> Result<(), Fail> {
+    check_outside(&rt, 4096, 538, &OUTSIDE_4096)?;
+    check_outside(&rt, 512, 658, &OUTSIDE_512)
+}
+
+#[test]
+fn a_hashed_directory_is_told(rt: HostRuntime) -> Result<(), Fail> {
+    check_hashed(&rt, 4096, 538, &HASHED_4096)?;
+    check_hashed(&rt, 512, 658, &HASHED_512)
 }
