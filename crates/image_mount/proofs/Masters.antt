@@ -4,6 +4,7 @@ use Rattle.std.specs.Prelude.{nat_lt}
 use Rattle.std.proofs.lemmas.Bool.{cases_Bool, cond-true, cond-false, eq-eqb, ne_eqb}
 use Rattle.std.proofs.Math.Nat.{div-lt_iff_lt-mul}
 use Rattle.std.proofs.Math.Path.{transport}
+use Rattle.std.proofs.Math.Pow.{pow_mono}
 use Rattle.dinode_tree.specs.Reading.{reach, block_at}
 use Rattle.gfs2_layout.specs.Bytes.{u64_at}
 use Rattle.gfs2_layout.specs.Holding.{Holding}
@@ -55,6 +56,12 @@ kept_master im inode kept is block from dinode = record {
 }
 
 -- ---- the table
+
+-- its bytes are few
+pub table_short : (depth : ℕ) → depth ≤ 15 → 8 * 2 ^ depth % 4294967296 ≡ 8 * 2 ^ depth
+table_short depth low =
+    let p : 2 ^ depth ≤ 2 ^ 15 = pow_mono {i = depth} {j = 15} low in
+    omega (arith, p)
 
 pub table_is : (im : Image) (inode kept : Inode) (table : HashTable) → IsMasterIn im inode → kept.block ≡ inode.block → is_hashed_in (every im inode.block) ≡ true → IsMasterIn im kept → table.depth ≡ kept.dinode.depth
     → (dinode_in (every im kept.block)).size ≡ 8 * 2 ^ table.depth → table.bytes.items ≡ content_of (every im kept.block) → IsTableOf im inode table
