@@ -11,15 +11,16 @@ use crate::runs::{NONE, run};
 use std::process::Abort;
 use std::test::Fail;
 
-static SYSTEM: [Row; 11] = [
+static SYSTEM: [Row; 12] = [
     // Their magic numbers, and the own block of the master directory.
     (&[(MASTER, 0, Bytes(b"\x00"))], &[], Broken(MASTER, 1)),
     (&[(RINDEX, 0, Bytes(b"\x00"))], &[], Broken(RINDEX, 1)),
     (&[(JINDEX, 0, Bytes(b"\x00"))], &[], Broken(JINDEX, 1)),
     (&[(JOURNAL, 0, Bytes(b"\x00"))], &[], Broken(JOURNAL, 1)),
     (&[(MASTER, 32, ZEROS)], &[], Broken(MASTER, 7)),
-    // The master directory is hashed.
-    (&[(MASTER, 131, Bytes(b"\x03"))], &[], NoMount(MASTER)),
+    // The master directory has the flag of a hashed one, and a table of depth 0; the directory of journals is hashed.
+    (&[(MASTER, 131, Bytes(b"\x03"))], &[], Broken(MASTER, 13)),
+    (&[(JINDEX, 131, Bytes(b"\x03"))], &[], NoMount(JINDEX)),
     // The list of groups: not whole entries, without any, and with a group that doesn't begin behind its header.
     (&[(RINDEX, 63, Bytes(b"\x5f"))], &[], Broken(RINDEX, 18)),
     (&[(RINDEX, 56, ZEROS)], &[], Outside("groups", 0)),
