@@ -1,6 +1,6 @@
 -- How far a walk over the leaves of a hashed directory has come.
-use Rattle.std.proofs.Common.{◌≡◌, ◌≢◌, ◌⊎◌, inl, inr, ℕ, zero, suc, ◌+◌, ◌^◌, ◌<◌, ◌≤◌, IsTrue, Bool, true, false, List, [], ◌∷◌, ◌++◌, length, get_or, drop, Option, None, Some, refl, sym, ap, subst, ◌∙◌, arith, length-append}
-use Rattle.std.specs.Prelude.{if◌then◌else◌, map, flat_map, find, Contains, IfSome, slice_get}
+use Rattle.std.proofs.Common.{◌≡◌, ◌≢◌, ◌⊎◌, inl, inr, ℕ, ◌+◌, ◌^◌, ◌<◌, ◌≤◌, IsTrue, Bool, true, false, List, [], ◌∷◌, ◌++◌, length, get_or, drop, Option, None, Some, refl, sym, ap, subst, ◌∙◌, arith, length-append}
+use Rattle.std.specs.Prelude.{if◌then◌else◌, map, flat_map, Contains, IfSome, slice_get}
 use Rattle.std.specs.List.{All}
 use Rattle.std.specs.Option.{option_map}
 use Rattle.std.proofs.Math.Path.{transport}
@@ -33,7 +33,7 @@ use Rattle.image_model.proofs.Rising.{rising}
 use Rattle.image_model.proofs.WalkFaults.{clash, empty_claims, entered_if}
 use Rattle.image_mount.specs.Found.{HasFormat, IsFirstOther, IsInChain, chain_head, ComesBefore, is_other, first_other, in_leaf}
 use Rattle.image_mount.specs.Found.{chain_next as chain_behind}
-use Rattle.image_mount.specs.Leaves.{IsLeafIn, IsPassed, block_of, IsListed, AreLeavesOf, IsFoundIn, IsOpen, IsWalked, IsClosed, IsBehind, ComesNext, IsNextLeaf, IsFirstTold, IsTableOf, HasEnded}
+use Rattle.image_mount.specs.Leaves.{IsLeafIn, IsPassed, block_of, IsListed, AreLeavesOf, IsFoundIn, IsOpen, IsWalked, IsClosed, ComesNext, IsNextLeaf, IsFirstTold, IsTableOf, HasEnded}
 use Rattle.image_mount.specs.Listing.{said, standing, AreAllRecords, AreCountedIn, AreDistinct}
 use Rattle.image_mount.specs.Refusals.{IsOutside, RefusesRightly, of_image}
 use Rattle.image_mount.specs.Refusals as outside

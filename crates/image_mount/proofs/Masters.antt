@@ -1,5 +1,5 @@
 -- The master directory as an inode, and the pointers of its table where it is a hashed one.
-use Rattle.std.proofs.Common.{◌≡◌, ◌≢◌, inl, inr, ℕ, zero, suc, cond, ◌+◌, ◌-◌, ◌*◌, ◌/◌, ◌%◌, ◌^◌, ◌<◌, ◌≤◌, ◌==◌, true, List, None, Some, refl, sym, ap, subst, ◌∙◌, arith}
+use Rattle.std.proofs.Common.{◌≡◌, ◌≢◌, inl, inr, ℕ, zero, suc, cond, ◌+◌, ◌-◌, ◌*◌, ◌/◌, ◌%◌, ◌^◌, ◌<◌, ◌≤◌, ◌==◌, true, None, Some, refl, sym, ap, subst, ◌∙◌, arith}
 use Rattle.std.specs.Prelude.{nat_lt}
 use Rattle.std.proofs.lemmas.Bool.{cases_Bool, cond-true, cond-false, eq-eqb, ne_eqb}
 use Rattle.std.proofs.Math.Nat.{div-lt_iff_lt-mul}
@@ -8,18 +8,18 @@ use Rattle.std.proofs.Math.Pow.{pow_mono}
 use Rattle.dinode_tree.specs.Reading.{reach, block_at}
 use Rattle.gfs2_layout.specs.Bytes.{u64_at}
 use Rattle.gfs2_layout.specs.Holding.{Holding}
-use Rattle.gfs2_layout.specs.Inode.{dinode_in, depth_in, is_directory_in, is_hashed_in, height_in, header_length, unit, content_block, content_count, content_of, pieces, table_count, entry, entry_block, index_bits, first_hash, leaf_in, Fits}
+use Rattle.gfs2_layout.specs.Inode.{dinode_in, depth_in, is_directory_in, is_hashed_in, height_in, unit, content_block, content_count, content_of, pieces, table_count, entry, entry_block, index_bits, first_hash, leaf_in, Fits}
 use Rattle.gfs2_layout.specs.Structures.{leaf_of}
 use Rattle.gfs2_layout.specs.declared.dinode.Dinode.{Dinode}
 use Rattle.gfs2_layout.specs.declared.leaf.Leaf.{Leaf}
-use Rattle.image_model.specs.Claims.{every, Claims, HasInode, HasDirectory, first_leaf, next_leaf}
+use Rattle.image_model.specs.Claims.{every, Claims, HasInode, HasDirectory, first_leaf}
 use Rattle.image_model.specs.Image.{Image}
 use Rattle.image_model.specs.Owners.{Chained, Master}
 use Rattle.image_model.specs.Rules.{IsHashedAt, no_leaf, pointer_missing}
 use Rattle.image_model.specs.declared.hash_table.HashTable.{HashTable}
 use Rattle.image_model.proofs.Chains.{same_bits, run_some}
 use Rattle.image_model.proofs.Pieces.{pieces_cover}
-use Rattle.image_mount.specs.Found.{HasFormat, IsInChain, chain_head, chain_next}
+use Rattle.image_mount.specs.Found.{IsInChain, chain_head}
 use Rattle.image_mount.specs.Leaves.{IsMasterIn, IsTableOf, IsLeafIn}
 use Rattle.image_mount.specs.Refusals.{RefusesRightly}
 use Rattle.image_mount.specs.Searching.{IsSystemFile}

@@ -1,5 +1,5 @@
 -- The names that a master directory has.
-use Rattle.std.proofs.Common.{◌≡◌, inl, inr, ◌||◌, ◌&&◌, Bool, true, false, List, ℕ, refl, sym, ap, ◌∙◌, arith}
+use Rattle.std.proofs.Common.{◌≡◌, inl, inr, ◌||◌, ◌&&◌, true, false, List, ℕ, refl, sym, ap, ◌∙◌}
 use Rattle.std.specs.Prelude.{codes, not}
 use Rattle.std.specs.Str.{bytes_eq}
 use Rattle.std.proofs.lemmas.Slice.Eq.{bytes_eq-Decides}

@@ -1,5 +1,5 @@
 -- What the system files say, as the code has it.
-use Rattle.std.specs.Prelude.{ℕ, ◌≡◌, ◌≢◌, ◌⊎◌, ◌<◌, ◌≤◌, true, false, List, Contains, codes, length, map, slice_get, None, Some}
+use Rattle.std.specs.Prelude.{ℕ, ◌≡◌, ◌≢◌, ◌⊎◌, ◌<◌, ◌≤◌, true, false, List, Contains, codes, length, map, slice_get, Some}
 use Rattle.glock_names.specs.declared.steps.Entry.{Entry}
 use Rattle.gfs2_layout.specs.Inode.{is_hashed_in}
 use Rattle.gfs2_layout.specs.Records.{Record, is_dots}

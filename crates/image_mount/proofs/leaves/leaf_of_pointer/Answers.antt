@@ -1,4 +1,4 @@
-use Rattle.std.proofs.Common.{ℕ, ◌-◌, ◌%◌, refl, sym, ap, subst, ◌∙◌, arith}
+use Rattle.std.proofs.Common.{ℕ, ◌-◌, ◌%◌, refl, arith}
 use Rattle.image_model.proofs.Chains.{run_some, start_whole}
 use Rattle.image_model.proofs.Spans.{aligned_run}
 use Rattle.gfs2_layout.specs.Inode.{first_hash}

@@ -1,4 +1,4 @@
-use Rattle.std.proofs.Common.{sym, ap, subst, ◌∙◌, arith}
+use Rattle.std.proofs.Common.{sym, subst, ◌∙◌, arith}
 use Rattle.gfs2_layout.specs.Headers.{HasHeader}
 use Rattle.image_mount.proofs.Causes.{has, lacks}
 use Rattle.image_mount.proofs.LeafCauses.{leaf_deep, leaf_format, leaf_head, leaf_header}

@@ -1,5 +1,4 @@
-use Rattle.std.proofs.Common.{◌≡◌, [], refl, ap, ◌∙◌}
-use Rattle.image_model.specs.Claims.{master_of}
+use Rattle.std.proofs.Common.{[], refl}
 use Rattle.image_mount.proofs.Stops.{passed}
 use Rattle.image_mount.proofs.Systems.{list_link, groups_found, system_of}
 use Rattle.image_mount.proofs.system.find_system.Goals as goal

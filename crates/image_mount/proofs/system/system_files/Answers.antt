@@ -1,14 +1,10 @@
-use Rattle.std.proofs.Common.{◌≡◌, true, false, None, sym, ap, subst, refl, ◌∙◌, arith}
+use Rattle.std.proofs.Common.{◌≡◌, true, None, sym, ap, subst, ◌∙◌, arith}
 use Rattle.std.specs.Prelude.{map}
 use Rattle.std.specs.Option.{option_map}
-use Rattle.std.specs.List.{All}
-use Rattle.gfs2_layout.specs.Inode.{is_hashed_in}
 use Rattle.gfs2_layout.specs.Records.{Record}
-use Rattle.image_model.specs.Claims.{every}
 use Rattle.image_mount.specs.Found.{first_other}
-use Rattle.image_mount.specs.Listing.{said, is_hashed_by, AreAllRecords, AreRecordsOf}
+use Rattle.image_mount.specs.Listing.{said, is_hashed_by, AreAllRecords}
 use Rattle.image_mount.specs.System.{ArePlainRecords}
-use Rattle.image_mount.specs.declared.listing.Named.{Named}
 use Rattle.image_mount.proofs.Causes.{hashed_as}
 use Rattle.image_mount.proofs.Records.{all_records}
 use Rattle.image_mount.proofs.Stops.{passed, stopped}

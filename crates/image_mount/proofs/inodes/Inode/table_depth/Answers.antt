@@ -1,6 +1,6 @@
 use Rattle.image_mount.proofs.LeafCauses.{table_deep, table_large, table_misfit, table_small}
 use Rattle.image_mount.proofs.inodes.Inode.table_depth.Goals as goal
-use Rattle.std.proofs.Common.{arith, ◌∙◌}
+use Rattle.std.proofs.Common.{arith}
 
 pub returns-then-depth-gt15-clause-refused : goal.returns-then-depth-gt15-clause-refused
 returns-then-depth-gt15-clause-refused c im read of format hashed =
