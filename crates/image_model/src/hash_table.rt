@@ -3,7 +3,8 @@ ghost use Rattle.gfs2_layout.specs.Bytes.{u64_at};
 
 use crate::blocks::number_at;
 
-/// The table of a hashed directory: its depth, and its content.
+/// The table of a hashed directory: its depth, and its content, which is 2 to the power depth pointers to leaves, each a
+/// number of eight bytes.
 #[derive(Drop)]
 pub struct HashTable {
     pub depth: u16,
@@ -28,7 +29,7 @@ impl HashTable {
         1 << self.depth
     }
 
-    /// Pointer i of the table.
+    /// Pointer i of the table: the number of a block, and 0 where it leads nowhere.
     pub fn pointer(&self, i: u64) -> u64
         requires { i < 2 ^ self.now.depth }
         ensures { result ≡ u64_at (8 * i) self.now.bytes.items }
@@ -36,7 +37,7 @@ impl HashTable {
         number_at(&self.bytes, 8 * i as usize)
     }
 
-    /// How many pointers lead to a leaf of this depth.
+    /// How many pointers lead to a leaf of this depth: neighbours, the first of them at a multiple of their count.
     pub fn run(&self, depth: u16) -> u64
         requires { depth ≤ self.now.depth }
         ensures { result ≡ 2 ^ (self.now.depth - depth) }
@@ -44,7 +45,7 @@ impl HashTable {
         1 << (self.depth - depth)
     }
 
-    /// Whether so many pointers from one on lead to this block.
+    /// Whether so many pointers from one on lead to this block. It looks at each of them, up to the first that doesn't.
     pub fn leads_to(&self, first: u64, run: u64, number: u64) -> bool
         requires { first + run ≤ 2 ^ self.now.depth }
         ensures yes { result ≡ true → (j : ℕ) → first ≤ j → j < first + run → u64_at (8 * j) self.now.bytes.items ≡ number }

@@ -110,7 +110,7 @@ pub(crate) fn state_of(claim: &Option<Claim<'_>>) -> u8
     }
 }
 
-/// What claims each block, as far as it was found.
+/// What claims each block of an image, as far as it was found: an entry a block.
 #[derive(Drop)]
 pub struct Owners<'a> {
     pub entries: Vec<Option<Claim<'a>>>,
@@ -120,7 +120,7 @@ pub struct Owners<'a> {
 }
 
 impl<'a> Owners<'a> {
-    /// Nothing is claimed of so many blocks.
+    /// Nothing is claimed of so many blocks. It takes memory for an entry each.
     pub fn new(alloc: Global, count: usize) -> Result<Owners<'a>, ImageFault>
         ensures len { IfOk result (λ owners. vec_len owners.entries ≡ count) }
         ensures empty { IfOk result (λ owners. IsEmpty owners.entries.items) }
@@ -136,7 +136,8 @@ impl<'a> Owners<'a> {
         })
     }
 
-    /// Enters the claim of a block, and answers whether it is new.
+    /// Enters the claim of a block, and answers whether it is new. The fault of a block that is claimed otherwise already is
+    /// rule 15 where both claims are of one chain of leaves, and else rule 3, at that block; then the table stays as it was.
     pub fn claim(&mut self, block: u64, claim: Claim<'a>) -> Result<bool, ImageFault>
         requires { block < vec_len self.old.entries }
         ensures entered { IfOk result (λ fresh. self.new.entries.items ≡ (if fresh then slice_set self.old.entries.items block (Some claim.entry) else self.old.entries.items)) }
