@@ -1,0 +1,148 @@
+-- Histories with losses that are not there yet: they are legal, and keep what the cut keeps.
+use Rattle.std.proofs.Common.{ℕ, ◌≡◌, ◌≤◌, ◌<◌, ◌⊎◌, inl, inr, true, false, ◌&&◌, List, [], ◌∷◌, ◌++◌, refl, sym, ap, ◌∙◌, subst, arith}
+use Rattle.std.specs.Prelude.{nat_lt, if◌then◌else◌}
+use Rattle.std.proofs.lemmas.Bool.{cases_eq, cases_lt, cases_Bool, cond-true, cond-false, eq-eqb}
+use Rattle.cluster_laws.specs.Files.{Files, RightTo}
+use Rattle.cluster_laws.specs.Book.{at, Kept, Book, InBox, kept_by, Numbered, dropped, Whole}
+use Rattle.cluster_laws.specs.History.{Item, Gone, living, saids, Legal, Life, gones, least, cut_at, Above, HasLife, AreLives}
+use Rattle.cluster_laws.specs.Laws.{RemainsLegal, PrefixClause, head_cuts}
+use Rattle.cluster_laws.proofs.Cells.{ltb-true, ltb-false, eqb-false, at-same, at-other, at-cases}
+use Rattle.cluster_laws.proofs.Replaying.{stands_for_what_remains}
+use Rattle.cluster_laws.proofs.Histories.{living-gone, Legal-more}
+
+-- the kept calls of a cut, with their nodes and numbers
+keep : (F : Files) → (ℕ → ℕ) → List (Kept F) → List (Kept F)
+keep F cut [] = []
+keep F cut (x ∷ xs) = if nat_lt (cut (x.node)) (x.number) then keep F cut xs else (x ∷ keep F cut xs)
+
+saids-keep : (F : Files) (cut : ℕ → ℕ) (xs : List (Kept F)) → saids F (keep F cut xs) ≡ kept_by F cut xs
+unfolding keep
+saids-keep F cut [] = refl
+saids-keep F cut (x ∷ xs) = elim (cases_Bool (nat_lt (cut (x.node)) (x.number))) [
+  | inl e ↦ ap (saids F) (cond-true _ _ _ e) ∙ saids-keep F cut xs ∙ sym (cond-true _ _ _ e)
+  | inr e ↦ ap (saids F) (cond-false _ _ _ e) ∙ ap (λ z. x.said ∷ z) (saids-keep F cut xs) ∙ sym (cond-false _ _ _ e)
+]
+
+keep-all : (F : Files) (cut : ℕ → ℕ) (xs : List (Kept F)) → Numbered F cut xs → keep F cut xs ≡ xs
+unfolding keep
+keep-all F cut [] p = refl
+keep-all F cut (x ∷ xs) p = cond-false _ _ _ (ltb-false (cut (x.node)) (x.number) (p.0)) ∙ ap (λ z. x ∷ z) (keep-all F cut xs (p.1))
+
+least-is : (a b : ℕ) → ((least a b ≡ b) × (b < a)) ⊎ ((least a b ≡ a) × (a ≤ b))
+least-is a b = elim (cases_lt b a) [
+  | inl lt ↦ inl (cond-true _ _ _ (ltb-true b a lt), lt)
+  | inr ge ↦ inr (cond-false _ _ _ (ltb-false b a ge), ge)
+]
+
+least-first : (a b : ℕ) → least a b ≤ a
+least-first a b = elim (least-is a b) [ inl l ↦ (let e = l.0 in let h = l.1 in omega arith) | inr l ↦ (let e = l.0 in omega arith) ]
+
+least-second : (a b : ℕ) → least a b ≤ b
+least-second a b = elim (least-is a b) [ inl l ↦ (let e = l.0 in omega arith) | inr l ↦ (let e = l.0 in let h = l.1 in omega arith) ]
+
+least-above : (n a b : ℕ) → n ≤ a → n ≤ b → n ≤ least a b
+least-above n a b p q = elim (least-is a b) [ inl l ↦ (let e = l.0 in omega arith) | inr l ↦ (let e = l.0 in omega arith) ]
+
+dropped-keep : (F : Files) (i k : ℕ) (cut : ℕ → ℕ) (xs : List (Kept F)) → dropped F i k (keep F cut xs) ≡ keep F (at cut i (least (cut i) k)) xs
+unfolding keep
+dropped-keep F i k cut [] = refl
+dropped-keep F i k cut (x ∷ xs) = let rest = dropped-keep F i k cut xs in elim (cases_eq (x.node) i) [
+  | inl e ↦ (let e0 : at cut i (least (cut i) k) (x.node) ≡ least (cut i) k = ap (at cut i (least (cut i) k)) e ∙ at-same cut i (least (cut i) k) in
+      let e1 : cut (x.node) ≡ cut i = ap cut e in
+      let p = least-first (cut i) k in let q = least-second (cut i) k in elim (cases_lt (cut i) (x.number)) [
+        | inl above ↦ ap (dropped F i k) (cond-true _ _ _ (ap (λ z. nat_lt z (x.number)) e1 ∙ ltb-true (cut i) (x.number) above))
+            ∙ rest ∙ sym (cond-true _ _ _ (ap (λ z. nat_lt z (x.number)) e0 ∙ ltb-true (least (cut i) k) (x.number) (omega arith)))
+        | inr within ↦ ap (dropped F i k) (cond-false _ _ _ (ap (λ z. nat_lt z (x.number)) e1 ∙ ltb-false (cut i) (x.number) within)) ∙ (elim (cases_lt k (x.number)) [
+          | inl lt ↦ cond-true _ _ _ (subst (λ z. (z && nat_lt k (x.number)) ≡ true) (sym (eq-eqb _ _ (sym e))) (ltb-true k (x.number) lt))
+              ∙ rest ∙ sym (cond-true _ _ _ (ap (λ z. nat_lt z (x.number)) e0 ∙ ltb-true (least (cut i) k) (x.number) (omega arith)))
+          | inr ge ↦ (let r = least-above (x.number) (cut i) k within ge in
+              cond-false _ _ _ (subst (λ z. (z && nat_lt k (x.number)) ≡ false) (sym (eq-eqb _ _ (sym e))) (ltb-false k (x.number) ge))
+              ∙ ap (λ z. x ∷ z) rest ∙ sym (cond-false _ _ _ (ap (λ z. nat_lt z (x.number)) e0 ∙ ltb-false (least (cut i) k) (x.number) r)))
+        ])
+      ])
+  | inr ne ↦ (let e0 : at cut i (least (cut i) k) (x.node) ≡ cut (x.node) = at-other cut i (least (cut i) k) (x.node) ne in elim (cases_Bool (nat_lt (cut (x.node)) (x.number))) [
+    | inl lt ↦ ap (dropped F i k) (cond-true _ _ _ lt) ∙ rest ∙ sym (cond-true _ _ _ (ap (λ z. nat_lt z (x.number)) e0 ∙ lt))
+    | inr ge ↦ ap (dropped F i k) (cond-false _ _ _ ge)
+        ∙ cond-false _ _ _ (subst (λ z. (z && nat_lt k (x.number)) ≡ false) (sym (eqb-false _ _ (λ e. ne (sym e)))) refl)
+        ∙ ap (λ z. x ∷ z) rest ∙ sym (cond-false _ _ _ (ap (λ z. nat_lt z (x.number)) e0 ∙ ge))
+  ])
+]
+
+append_assoc : {A : Type 0} (xs ys zs : List A) → (xs ++ ys) ++ zs ≡ xs ++ (ys ++ zs)
+append_assoc [] ys zs = refl
+append_assoc (x ∷ xs) ys zs = ap (λ z. x ∷ z) (append_assoc xs ys zs)
+
+append-nil : {A : Type 0} (xs : List A) → xs ++ [] ≡ xs
+append-nil [] = refl
+append-nil (x ∷ xs) = ap (λ z. x ∷ z) (append-nil xs)
+
+module _ (F : Files) (B : Book F) (whole : Whole F B) where
+  more : (now : ℕ → ℕ) (ls : List Life) (items : List (Item F)) → InBox F B now → ((i : ℕ) → now i ≤ B.published i) → Above (B.low) ls
+      → Legal F items (B.start) → living F items ≡ keep F now (B.kept)
+      → Legal F (items ++ gones F ls) (B.start) × (saids F (living F (items ++ gones F ls)) ≡ kept_by F (cut_at now ls) (B.kept))
+  more now [] items in_box below above legal told =
+      (subst (λ z. Legal F z (B.start)) (sym (append-nil items)) legal, ap (λ z. saids F (living F z)) (append-nil items) ∙ ap (saids F) told ∙ saids-keep F now (B.kept))
+  more now (l ∷ ls) items in_box below above legal told =
+      let told' : living F (items ++ (Gone (l.node) (l.kept) (l.kept) ∷ [])) ≡ keep F (at now (l.node) (least (now (l.node)) (l.kept))) (B.kept) =
+      living-gone F (l.node) (l.kept) (l.kept) items ∙ ap (dropped F (l.node) (l.kept)) told ∙ dropped-keep F (l.node) (l.kept) now (B.kept) in
+      let in_box' : InBox F B (at now (l.node) (least (now (l.node)) (l.kept))) = (λ i. at-cases (λ z. (B.low i ≤ z) × (z ≤ B.answered i)) now (l.node) (least (now (l.node)) (l.kept)) i
+      (λ e. subst (λ m. (B.low m ≤ least (now (l.node)) (l.kept)) × (least (now (l.node)) (l.kept) ≤ B.answered m)) (sym e)
+      (least-above (B.low (l.node)) (now (l.node)) (l.kept) (in_box (l.node)).0 (above.0), (let p = least-first (now (l.node)) (l.kept) in let q = (in_box (l.node)).1 in omega arith))) (λ ne. in_box i)) in
+      let below' : (i : ℕ) → at now (l.node) (least (now (l.node)) (l.kept)) i ≤ B.published i = (λ i. at-cases (λ z. z ≤ B.published i) now (l.node) (least (now (l.node)) (l.kept)) i
+      (λ e. subst (λ m. least (now (l.node)) (l.kept) ≤ B.published m) (sym e) (let p = least-first (now (l.node)) (l.kept) in let q = below (l.node) in omega arith)) (λ ne. below i)) in
+      let r = whole.right (at now (l.node) (least (now (l.node)) (l.kept))) in_box' below' in
+      let legal' : Legal F (items ++ (Gone (l.node) (l.kept) (l.kept) ∷ [])) (B.start) = Legal-more F items (Gone (l.node) (l.kept) (l.kept)) (B.start) legal
+      (r.0, subst (λ z. RightTo F z (B.start) (r.0)) (sym (ap (saids F) told' ∙ saids-keep F (at now (l.node) (least (now (l.node)) (l.kept))) (B.kept))) (r.2)) in
+      let rest = more (at now (l.node) (least (now (l.node)) (l.kept))) ls (items ++ (Gone (l.node) (l.kept) (l.kept) ∷ [])) in_box' below' (above.1) legal' told' in (
+        subst (λ z. Legal F z (B.start)) (append_assoc items (Gone (l.node) (l.kept) (l.kept) ∷ []) (gones F ls)) (rest.0),
+        ap (λ z. saids F (living F z)) (sym (append_assoc items (Gone (l.node) (l.kept) (l.kept) ∷ []) (gones F ls))) ∙ rest.1,
+      )
+
+pub remains_legal : (F : Files) → RemainsLegal F
+remains_legal F w ls s above =
+    more F (w.book) (s.whole) ((w.book).published) ls (w.items) (λ i. ((s.whole).low_published i, (s.whole).published_answered i)) (λ i. omega arith)
+    above (s.legal) (s.told ∙ sym (keep-all F ((w.book).published) ((w.book).kept) ((s.whole).numbered)))
+
+-- ---- lives that leave exactly what a cut has
+
+cut_at-above : (cut now : ℕ → ℕ) (ls : List Life) → ((i : ℕ) → cut i ≤ now i) → Above cut ls → (i : ℕ) → cut i ≤ cut_at now ls i
+cut_at-above cut now [] below above i = below i
+cut_at-above cut now (l ∷ ls) below above i = cut_at-above cut (at now (l.node) (least (now (l.node)) (l.kept))) ls
+    (λ j. at-cases (λ z. cut j ≤ z) now (l.node) (least (now (l.node)) (l.kept)) j
+    (λ e. subst (λ m. cut m ≤ least (now (l.node)) (l.kept)) (sym e) (least-above (cut (l.node)) (now (l.node)) (l.kept) (below (l.node)) (above.0))) (λ ne. below j)) (above.1) i
+
+cut_at-below : (now : ℕ → ℕ) (ls : List Life) (i : ℕ) → cut_at now ls i ≤ now i
+cut_at-below now [] i = omega arith
+cut_at-below now (l ∷ ls) i =
+    let p = cut_at-below (at now (l.node) (least (now (l.node)) (l.kept))) ls i in
+    let q : at now (l.node) (least (now (l.node)) (l.kept)) i ≤ now i = at-cases (λ z. z ≤ now i) now (l.node) (least (now (l.node)) (l.kept)) i
+    (λ e. subst (λ m. least (now (l.node)) (l.kept) ≤ now m) (sym e) (least-first (now (l.node)) (l.kept))) (λ ne. omega arith) in omega arith
+
+cut_at-life : (cut now : ℕ → ℕ) (ls : List Life) (i : ℕ) → HasLife cut i ls → cut_at now ls i ≤ cut i
+cut_at-life cut now [] i h = absurd h
+cut_at-life cut now (l ∷ ls) i (inl h) =
+    let p = cut_at-below (at now (l.node) (least (now (l.node)) (l.kept))) ls i in
+    let q : at now (l.node) (least (now (l.node)) (l.kept)) i ≤ l.kept = subst (λ m. at now (l.node) (least (now (l.node)) (l.kept)) m ≤ l.kept) (h.0)
+    (subst (λ z. z ≤ l.kept) (sym (at-same now (l.node) (least (now (l.node)) (l.kept)))) (least-second (now (l.node)) (l.kept))) in
+    let e = h.1 in omega arith
+cut_at-life cut now (l ∷ ls) i (inr h) = cut_at-life cut (at now (l.node) (least (now (l.node)) (l.kept))) ls i h
+
+pub cut_at-lives : (published cut : ℕ → ℕ) (ls : List Life) → ((i : ℕ) → cut i ≤ published i) → AreLives published cut ls → (i : ℕ) → cut_at published ls i ≡ cut i
+cut_at-lives published cut ls below lives i =
+    let p = cut_at-above cut published ls below (lives.above) i in elim (lives.every i) [
+      | inl all ↦ (let q = cut_at-below published ls i in omega arith)
+      | inr life ↦ (let q = cut_at-life cut published ls i life in omega arith)
+    ]
+
+pub Above-lower : (low cut : ℕ → ℕ) (ls : List Life) → ((i : ℕ) → low i ≤ cut i) → Above cut ls → Above low ls
+Above-lower low cut [] h above = tt
+Above-lower low cut (l ∷ ls) h above = (let p = h (l.node) in let q = above.0 in omega arith, Above-lower low cut ls h (above.1))
+
+pub prefix_clause : (F : Files) → PrefixClause F
+prefix_clause F w choice x r ls s free outcome replay lives =
+    let cuts : ℕ → ℕ = head_cuts F (w.disk) choice in
+    let remains = remains_legal F w ls s (Above-lower ((w.book).low) (head_cuts F (w.disk) choice) ls (λ i. ((s.mirror).cuts i (choice i)).0) (lives.above)) in
+    let told : saids F (living F (w.items ++ gones F ls)) ≡ kept_by F (head_cuts F (w.disk) choice) ((w.book).kept) =
+    remains.1 ∙ ap (λ z. kept_by F z ((w.book).kept)) (λ k i. cut_at-lives ((w.book).published) (head_cuts F (w.disk) choice) ls (λ i. ((s.mirror).cuts i (choice i)).1) lives i k) in
+    let stands = stands_for_what_remains F (w.book) (w.disk) (s.mirror) choice x r outcome replay (s.whole) free in
+    (remains.0, (stands.0, stands.1, subst (λ z. RightTo F z ((w.book).start) (stands.0)) (sym told) (stands.2)))

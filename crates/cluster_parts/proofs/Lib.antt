@@ -1,0 +1,4 @@
+pub mod Stopping
+pub mod Parting
+pub mod Minding
+pub mod Flying

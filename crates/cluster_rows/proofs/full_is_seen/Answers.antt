@@ -1,0 +1,8 @@
+use Rattle.cluster_rows.proofs.Rowing.{views_seen, calm_stays}
+use Rattle.cluster_rows.proofs.full_is_seen.Goals as goal
+
+pub returns-clause-seen : goal.returns-clause-seen
+returns-clause-seen g c = views_seen _
+
+pub returns-clause-calm : goal.returns-clause-calm
+returns-clause-calm g c = calm_stays _

@@ -1,0 +1,29 @@
+//! The table of items, of the events that make them; which head a loss counts from; and each front of a run's items.
+#![tactic(auto)]
+
+ghost use Rattle.cluster_rows.specs.Rows.{RowsHold, CleanRow, ViewsAreSeen, CalmStays};
+ghost use Rattle.cluster_rows.specs.Marks.{HeadsAreMarked, EveryFrontIsPassed};
+
+use cluster_laws::System;
+
+/// A law: each event meets the row of its item.
+pub fn items_are_disciplined<S: System>()
+    ensures rows { RowsHold S.files }
+    ensures clean { CleanRow S.files }
+{}
+
+/// A law: what a node saw that answered nospace is what every image has that a stop might leave.
+pub fn full_is_seen<S: System>()
+    ensures seen { ViewsAreSeen S.files }
+    ensures calm { CalmStays S.files }
+{}
+
+/// A law: each head, and so each loss, counts from a header of its life, or from the last call before it.
+pub fn losses_count_from_heads<S: System>()
+    ensures { HeadsAreMarked S.files }
+{}
+
+/// A law: a run passes each front of its items.
+pub fn every_front_is_passed<S: System>()
+    ensures { EveryFrontIsPassed S.files }
+{}

@@ -1,0 +1,29 @@
+//! The cluster behind turns: which changes a seat may make alone and which with the wire, and that they keep what holds of all parts.
+#![tactic(auto)]
+
+ghost use Rattle.cluster_laws.specs.Files.{Files};
+ghost use Rattle.cluster_turns.specs.Turns.{Ties, TriesAreAlone, TurnsKeep, EventsGrow};
+
+/// The values behind the turns, one for each node and one for the wire, and what they say of the cluster.
+pub trait TurnedParts {
+    ghost files: { Files };
+
+    ghost ties: { Ties files };
+
+    fn parts(&self) -> u64;
+}
+
+/// A law: a try touches nothing but its own node.
+pub fn a_try_is_alone<P: TurnedParts>()
+    ensures { TriesAreAlone P.files }
+{}
+
+/// A law: what a seat may change alone, and what with the wire, keeps what holds of all parts, whatever the others are.
+pub fn turns_keep<P: TurnedParts>()
+    ensures { TurnsKeep P.files P.ties }
+{}
+
+/// A law: items and answered calls only grow.
+pub fn events_grow<P: TurnedParts>()
+    ensures { EventsGrow P.files }
+{}

@@ -1,0 +1,131 @@
+-- The stages of a demotion, and an unmount.
+use Rattle.std.proofs.Common.{ℕ, suc, ◌≡◌, ◌≤◌, ◌<◌, ◌⊎◌, inl, inr, Bool, true, false, None, Some, refl, sym, ap, ◌∙◌, arith}
+use Rattle.std.proofs.lemmas.Bool.{cases_Bool, cond-true, cond-false}
+use Rattle.cluster_laws.specs.Files.{Files, Ex}
+use Rattle.cluster_laws.specs.Book.{flushed, settled}
+use Rattle.cluster_laws.specs.Mirror.{Head, headed, either, chosen}
+use Rattle.cluster_laws.specs.World.{World, Begins, Ends, Settles}
+use Rattle.cluster_laws.proofs.Cells.{none-some, at-same}
+use Rattle.cluster_laws.proofs.Logging.{header_heads, given_back, given, stays, never_under}
+use Rattle.cluster_events.specs.Cluster.{BookOf, NothingUnder, Works, GoesDown, Done, Then}
+use Rattle.event_lists.specs.Stops.{with_world}
+use Rattle.event_lists.specs.Demotions.{DiskOf, CommitIsEvents, FlushFlushes, RevokesAreHeader, StagesRelease, ReleaseIsEvents, CleanIsHeader, CleanReleases}
+
+module _ (F : Files) where
+  -- ---- a header and its barrier
+
+  pub commit : CommitIsEvents F
+  commit c i u h t single writer header = (
+    with_world F c landed,
+    record {
+      events = Then c (with_world F c begun) _ (Works begun (Begins i h single (header_heads F (BookOf F c) (DiskOf F c) i u h ((t.world).whole) ((t.world).mirror) header)) (writer, header.none_flying))
+          (Then (with_world F c begun) (with_world F c landed) _ (Works landed (Ends i true) tt) (Done (with_world F c landed)));
+      low = at-same ((BookOf F c).low) i _ ∙ ap (λ (z : Head F). z.cut) new ∙ header.cut;
+      heads = after;
+      rest = (refl, refl, refl, refl, refl);
+    },
+  )
+    where
+      begun : World F
+      begun = record (c.world) { disk = headed F (DiskOf F c) i h }
+
+      landed : World F
+      landed = record (c.world) {
+        book = flushed F (BookOf F c) i (((headed F (DiskOf F c) i h).heads i true).cut);
+        disk = chosen F (headed F (DiskOf F c) i h) i true;
+      }
+
+      new : (headed F (DiskOf F c) i h).heads i true ≡ h
+      new = ap (λ f. f true) (at-same ((DiskOf F c).heads) i (either ((DiskOf F c).heads i false) h))
+
+      after : (d : Bool) → (chosen F (headed F (DiskOf F c) i h) i true).heads i d ≡ h
+      after false = ap (λ f. f false) (at-same ((headed F (DiskOf F c) i h).heads) i _) ∙ new
+      after true = ap (λ f. f true) (at-same ((headed F (DiskOf F c) i h).heads) i _) ∙ new
+
+  pub flushes : FlushFlushes F
+  flushes B i l e n b x low high change = absurd (omega (arith, e))
+
+  pub revokes : RevokesAreHeader F
+  revokes B D i p mirror low home none_flying = record {
+    header = record {
+      cut = mirror.alone i;
+      range = (omega arith, low);
+      each = λ b. inl (
+        (λ n lo hi. absurd (omega arith)),
+        elim (cases_Bool (p b)) [
+          | inl e ↦ inr (cond-true _ _ _ e, λ v live. home b v e live)
+          | inr e ↦ inl (cond-false _ _ _ e)
+        ],
+      );
+      none_flying = none_flying;
+    };
+    revoked = λ l all b v live under. elim (cases_Bool (p b)) [
+      | inl e ↦ none-some (cond-true _ _ _ e) live
+      | inr e ↦ true-false (all b v (sym (cond-false _ _ _ e) ∙ live) under) e
+    ];
+  }
+    where
+      true-false : {z : Bool} → z ≡ true → z ≡ false → ⊥
+      true-false e f = cc
+
+  pub stages : StagesRelease F
+  stages B D i l flushed revoked = record { unlive = revoked; untouched = flushed }
+
+  -- ---- the release
+
+  pub releases : ReleaseIsEvents F
+  releases c i locks cache t here weakens all clean cached = (
+    _,
+    record {
+      events = Then c (with_world F c (record (c.world) { book = settled F (BookOf F c) i back })) _
+          (Works _ (Settles i back all (λ b e. (gave b e).0) (λ n b e. (gave b e).3 n) dead) tt)
+          (Then (with_world F c (record (c.world) { book = settled F (BookOf F c) i back })) _ _ (GoesDown i locks cache here weakens all clean' cached) (Done _));
+      now = refl;
+      states = λ l. ap (λ f. f l) (at-same ((BookOf F c).state) i _);
+      disk = refl;
+    },
+  )
+    where
+      back : ℕ → Bool
+      back = given_back F (BookOf F c) (DiskOf F c) ((t.world).whole) ((t.world).mirror) i
+
+      gave : (b : ℕ) → given_back F (BookOf F c) (DiskOf F c) ((t.world).whole) ((t.world).mirror) i b ≡ true
+          → ((BookOf F c).owner b ≡ Some i) × (((DiskOf F c).heads i false).live b ≡ None) × (((DiskOf F c).heads i true).live b ≡ None)
+          × ((n : ℕ) → (BookOf F c).low i ≤ n → n < (BookOf F c).answered i → (BookOf F c).change i (suc n) b ≡ None)
+      gave = given F (BookOf F c) (DiskOf F c) ((t.world).whole) ((t.world).mirror) i
+
+      dead : (d : Bool) (b : ℕ) → given_back F (BookOf F c) (DiskOf F c) ((t.world).whole) ((t.world).mirror) i b ≡ true → ((DiskOf F c).heads i d).live b ≡ None
+      dead false b e = (gave b e).1
+      dead true b e = (gave b e).2
+
+      was : (b : ℕ) → (settled F (BookOf F c) i (given_back F (BookOf F c) (DiskOf F c) ((t.world).whole) ((t.world).mirror) i)).owner b ≡ Some i
+          → (given_back F (BookOf F c) (DiskOf F c) ((t.world).whole) ((t.world).mirror) i b ≡ false) × ((BookOf F c).owner b ≡ Some i)
+      was b h = elim (cases_Bool (given_back F (BookOf F c) (DiskOf F c) ((t.world).whole) ((t.world).mirror) i b)) [
+        | inl e ↦ absurd (none-some (cond-true _ _ _ e) h)
+        | inr e ↦ (e, sym (cond-false _ _ _ e) ∙ h)
+      ]
+
+      clean' : (l : F.Lock) → (c.locks l i).state ≡ Ex → ((locks l i).state ≡ Ex)
+          ⊎ NothingUnder F (settled F (BookOf F c) i (given_back F (BookOf F c) (DiskOf F c) ((t.world).whole) ((t.world).mirror) i)) i l
+      clean' l ex = elim (clean l ex) [
+        | inl still ↦ inl still
+        | inr may ↦ inr (λ k b h low high. (let o = was b h in
+            never_under F (BookOf F c) (DiskOf F c) ((t.world).whole) ((t.world).mirror) i l may b (o.1)
+            (stays F (BookOf F c) (DiskOf F c) ((t.world).whole) ((t.world).mirror) i b (o.0) (o.1)) k low high))
+      ]
+
+  -- ---- an unmount
+
+  pub clean_header : CleanIsHeader F
+  clean_header B D i mirror all low home none_flying = record {
+    cut = refl;
+    range = (omega (arith, all), omega (arith, all, low));
+    each = λ b. inl ((λ n lo hi. absurd (omega (arith, all))), inr (refl, λ v live. home b v live));
+    none_flying = none_flying;
+  }
+
+  pub clean_releases : CleanReleases F
+  clean_releases B D i l all dead = record {
+    unlive = λ d b v live under. none-some (dead d b) live;
+    untouched = λ n b x low high change. absurd (omega (arith, all));
+  }

@@ -1,0 +1,4 @@
+pub mod Stopping
+pub mod Recovering
+pub mod Demoting
+pub mod Beginning

@@ -1,0 +1,152 @@
+-- A slot is recovered, as a list of events.
+use Rattle.std.proofs.Common.{ℕ, zero, suc, ◌+◌, ◌-◌, ◌≡◌, ◌≤◌, ◌<◌, ◌⊎◌, inl, inr, Bool, true, false, ◌&&◌, None, Some, [], ◌∷◌, ◌++◌, refl, sym, ap, ◌∙◌, subst, arith}
+use Rattle.std.specs.Prelude.{not}
+use Rattle.std.proofs.lemmas.Bool.{cases_eq, cases_Bool, cond-true, cond-false}
+use Rattle.cluster_laws.specs.Files.{Files, Un}
+use Rattle.cluster_laws.specs.Book.{at, Book, settled, lost}
+use Rattle.cluster_laws.specs.Mirror.{renumbered}
+use Rattle.cluster_laws.specs.History.{Gone}
+use Rattle.cluster_laws.specs.Log.{Calm}
+use Rattle.cluster_laws.specs.World.{Loses, Settles}
+use Rattle.cluster_laws.proofs.Cells.{none-some, at-same}
+use Rattle.cluster_laws.proofs.Logging.{owned_by, owned_by-true, owned_by-false, given_back, given, stays}
+use Rattle.cluster_events.specs.Cluster.{Cluster, BookOf, Works, Recovers, PastEnds, Done, Then}
+use Rattle.event_lists.specs.Stops.{with_world, KeptIsFound, RecoveryIsEvents, StartRecoveryIsEvents, PastIsEvents}
+
+waits-acts : (runs waits : Bool) → waits ≡ true → (runs && not waits) ≡ false
+waits-acts true waits e = ap not e
+waits-acts false waits e = refl
+
+module _ (F : Files) where
+  -- ---- the number that the loss keeps
+
+  find : (B : Book F) (i d lo : ℕ) → lo + d ≡ B.answered i
+      → (k : ℕ) × (lo ≤ k) × (k ≤ B.answered i) × Calm F B i lo k × ((k ≡ B.answered i) ⊎ (F.Changes (B.told i (suc k)) ≡ true))
+  find B i zero lo e = (lo, omega arith, omega (arith, e), (λ n low high. absurd (omega arith)), inl (omega (arith, e)))
+  find B i (suc d) lo e = elim (cases_Bool (F.Changes (B.told i (suc lo)))) [
+    | inl changes ↦ (lo, omega arith, omega (arith, e), (λ n low high. absurd (omega arith)), inr changes)
+    | inr calm ↦ (let r = find B i d (suc lo) (omega (arith, e)) in let p = r.1 in (
+      r.0,
+      omega arith,
+      r.2,
+      (λ n low high. elim (cases_eq n lo) [
+        | inl same ↦ subst (λ m. F.Changes (B.told i (suc m)) ≡ false) (sym same) calm
+        | inr other ↦ r.3 n (omega arith) high
+      ]),
+      r.4,
+    ))
+  ]
+
+  pub kept_found : KeptIsFound F
+  kept_found c i t =
+      let p = ((t.world).whole).low_published i in let q = ((t.world).whole).published_answered i in
+      let r = find (BookOf F c) i ((BookOf F c).answered i - (BookOf F c).low i) ((BookOf F c).low i) (omega arith) in
+      (r.0, record { above = r.1; below = r.2; calm = r.3; next = r.4 })
+
+  -- ---- a slot whose life ended in this run
+
+  abbrev its : Book F → ℕ → ℕ → Bool
+  its B i b = owned_by (B.owner b) i
+
+  its-none : (B : Book F) (i b : ℕ) → (settled F B i (its B i)).owner b ≡ Some i → ⊥
+  its-none B i b h = elim (cases_Bool (its B i b)) [
+    | inl e ↦ none-some (cond-true _ _ _ e) h
+    | inr e ↦ owned_by-false (B.owner b) i e (sym (cond-false _ _ _ e) ∙ h)
+  ]
+
+  abbrev after_lost : Cluster F → ℕ → ℕ → Cluster F
+  after_lost c i k = with_world F c (record (c.world) {
+    book = lost F (BookOf F c) i k;
+    disk = renumbered F ((c.world).disk) i ((BookOf F c).answered i);
+    items = (c.world).items ++ (Gone i ((BookOf F c).low i) k ∷ []);
+  })
+
+  abbrev after_settled : Cluster F → ℕ → (ℕ → Bool) → Cluster F
+  after_settled c i p = with_world F c (record (c.world) { book = settled F (BookOf F c) i p })
+
+  pub recovery : RecoveryIsEvents F
+  recovery c i k t here wait keeps single dead = (
+    _,
+    record {
+      events = Then c (after_lost c i k) _ (Works _ (Loses i k (q.0) (keeps.above) (keeps.below) (keeps.calm) (keeps.next) (q.1) single) wait)
+          (Then (after_lost c i k) (after_settled (after_lost c i k) i (its (BookOf F c) i)) _
+          (Works _ (Settles i (its (BookOf F c) i) (q.0) (λ b e. owned_by-true ((BookOf F c).owner b) i e) untouched dead') tt)
+          (Then (after_settled (after_lost c i k) i (its (BookOf F c) i)) _ _ (Recovers i here wait nothing_left) (Done _)));
+      slot = at-same (c.waits) i false;
+      items = refl;
+      blocks = nothing_left;
+      locks = λ l. ap (λ f. f l) (at-same ((BookOf F c).state) i (λ l. Un));
+      disk = (refl, refl);
+    },
+  )
+    where
+      q : ((BookOf F c).published i ≡ (BookOf F c).answered i) × ((b : ℕ) → (BookOf F c).cache i b ≡ None)
+      q = t.quiet i (waits-acts (c.runs i) (c.waits i) wait)
+
+      untouched : (n b : ℕ) → its (BookOf F c) i b ≡ true → at ((BookOf F c).low) i ((BookOf F c).answered i) i ≤ n → n < (BookOf F c).answered i → (BookOf F c).change i (suc n) b ≡ None
+      untouched n b e low high = let low' : (BookOf F c).answered i ≤ n = subst (λ z. z ≤ n) (at-same ((BookOf F c).low) i ((BookOf F c).answered i)) low in absurd (omega arith)
+
+      dead' : (d : Bool) (b : ℕ) → its (BookOf F c) i b ≡ true → ((renumbered F ((c.world).disk) i ((BookOf F c).answered i)).heads i d).live b ≡ None
+      dead' d b e = subst (λ f. (f d).live b ≡ None) (sym (at-same (((c.world).disk).heads) i _)) (dead d b)
+
+      nothing_left : (b : ℕ) → (settled F (lost F (BookOf F c) i k) i (its (BookOf F c) i)).owner b ≡ Some i → ⊥
+      nothing_left b h = its-none (BookOf F c) i b h
+
+  -- ---- a slot that waited since the start
+
+  pub start_recovery : StartRecoveryIsEvents F
+  start_recovery c i t here wait empty flushed = (
+    _,
+    record {
+      events = Then c (after_settled c (c.past) back) _
+          (Works _ (Settles (c.past) back all (λ b e. (gave b e).0) (λ n b e. (gave b e).3 n) dead) tt)
+          (Then (after_settled c (c.past) back) _ _ (Recovers i here wait still_empty) (Done _));
+      slot = at-same (c.waits) i false;
+      items = refl;
+      past = left;
+    },
+  )
+    where
+      back : ℕ → Bool
+      back = given_back F (BookOf F c) ((c.world).disk) ((t.world).whole) ((t.world).mirror) (c.past)
+
+      gave : (b : ℕ) → given_back F (BookOf F c) ((c.world).disk) ((t.world).whole) ((t.world).mirror) (c.past) b ≡ true
+          → ((BookOf F c).owner b ≡ Some (c.past)) × ((((c.world).disk).heads (c.past) false).live b ≡ None) × ((((c.world).disk).heads (c.past) true).live b ≡ None)
+          × ((n : ℕ) → (BookOf F c).low (c.past) ≤ n → n < (BookOf F c).answered (c.past) → (BookOf F c).change (c.past) (suc n) b ≡ None)
+      gave = given F (BookOf F c) ((c.world).disk) ((t.world).whole) ((t.world).mirror) (c.past)
+
+      all : (BookOf F c).published (c.past) ≡ (BookOf F c).answered (c.past)
+      all = (t.quiet (c.past) (ap (λ b. b && not (c.waits (c.past))) (t.gone))).0
+
+      dead : (d : Bool) (b : ℕ) → given_back F (BookOf F c) ((c.world).disk) ((t.world).whole) ((t.world).mirror) (c.past) b ≡ true → (((c.world).disk).heads (c.past) d).live b ≡ None
+      dead false b e = (gave b e).1
+      dead true b e = (gave b e).2
+
+      still_empty : (b : ℕ) → (settled F (BookOf F c) (c.past) (given_back F (BookOf F c) ((c.world).disk) ((t.world).whole) ((t.world).mirror) (c.past))).owner b ≡ Some i → ⊥
+      still_empty b h = elim (cases_Bool (given_back F (BookOf F c) ((c.world).disk) ((t.world).whole) ((t.world).mirror) (c.past) b)) [
+        | inl e ↦ none-some (cond-true _ _ _ e) h
+        | inr e ↦ empty b (sym (cond-false _ _ _ e) ∙ h)
+      ]
+
+      left : (b : ℕ) → (settled F (BookOf F c) (c.past) (given_back F (BookOf F c) ((c.world).disk) ((t.world).whole) ((t.world).mirror) (c.past))).owner b ≡ Some (c.past)
+          → (d : Bool) × (v : F.Content) × ((((c.world).disk).heads (c.past) d).live b ≡ Some v)
+      left b h = elim (cases_Bool (given_back F (BookOf F c) ((c.world).disk) ((t.world).whole) ((t.world).mirror) (c.past) b)) [
+        | inl e ↦ absurd (none-some (cond-true _ _ _ e) h)
+        | inr e ↦ elim (stays F (BookOf F c) ((c.world).disk) ((t.world).whole) ((t.world).mirror) (c.past) b e (sym (cond-false _ _ _ e) ∙ h)) [
+          | inl live ↦ live
+          | inr touch ↦ (let x = touch.2 in let y = touch.3 in absurd (omega (arith, flushed)))
+        ]
+      ]
+
+  pub past_ends : PastIsEvents F
+  past_ends c t wait flushed dead = (
+    _,
+    Then c (after_settled c (c.past) (its (BookOf F c) (c.past))) _
+        (Works _ (Settles (c.past) (its (BookOf F c) (c.past)) all (λ b e. owned_by-true ((BookOf F c).owner b) (c.past) e) (λ n b e low high. absurd (omega (arith, flushed, low, high))) (λ d b e. dead d b)) tt)
+        (Then (after_settled c (c.past) (its (BookOf F c) (c.past))) _ _ (PastEnds wait (its-none (BookOf F c) (c.past))) (Done _)),
+    at-same (c.waits) (c.past) false,
+    λ l. ap (λ f. f l) (at-same ((BookOf F c).state) (c.past) (λ l. Un)),
+  )
+    where
+      all : (BookOf F c).published (c.past) ≡ (BookOf F c).answered (c.past)
+      all = (t.quiet (c.past) (ap (λ b. b && not (c.waits (c.past))) (t.gone))).0

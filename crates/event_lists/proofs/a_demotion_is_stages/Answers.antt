@@ -1,0 +1,14 @@
+use Rattle.event_lists.proofs.Demoting.{flushes, revokes, stages, releases}
+use Rattle.event_lists.proofs.a_demotion_is_stages.Goals as goal
+
+pub returns-clause-flush : goal.returns-clause-flush
+returns-clause-flush g c = flushes _
+
+pub returns-clause-revokes : goal.returns-clause-revokes
+returns-clause-revokes g c = revokes _
+
+pub returns-clause-stages : goal.returns-clause-stages
+returns-clause-stages g c = stages _
+
+pub returns-clause-release : goal.returns-clause-release
+returns-clause-release g c = releases _

@@ -1,0 +1,14 @@
+use Rattle.event_lists.proofs.Recovering.{kept_found, recovery, start_recovery, past_ends}
+use Rattle.event_lists.proofs.a_recovery_is_events.Goals as goal
+
+pub returns-clause-kept : goal.returns-clause-kept
+returns-clause-kept g c = kept_found _
+
+pub returns-clause-slot : goal.returns-clause-slot
+returns-clause-slot g c = recovery _
+
+pub returns-clause-start : goal.returns-clause-start
+returns-clause-start g c = start_recovery _
+
+pub returns-clause-past : goal.returns-clause-past
+returns-clause-past g c = past_ends _

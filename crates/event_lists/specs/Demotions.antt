@@ -1,0 +1,92 @@
+-- A demotion in its stages, and an unmount, as lists of events.
+use Rattle.std.specs.Prelude.{ℕ, suc, ◌≡◌, ◌≤◌, ◌<◌, ◌⊎◌, Bool, true, false, if◌then◌else◌, None, Some}
+use Rattle.cluster_laws.specs.Files.{Files, CellOf, Part, LockOf, Un, Ex}
+use Rattle.cluster_laws.specs.Book.{Book}
+use Rattle.cluster_laws.specs.Mirror.{Head, Disk, Mirror}
+use Rattle.cluster_laws.specs.Log.{IsHeader, MayGo}
+use Rattle.cluster_events.specs.Cluster.{HasIdleWriter, Cluster, BookOf, Weakens, Events, Together}
+use Rattle.lock_laws.specs.Lock.{Node}
+
+abbrev pub DiskOf : (F : Files) → Cluster F → Disk F
+DiskOf F c = (c.world).disk
+
+-- ---- the stages
+
+-- past its flush: no call that isn't in the journal changed or freed a block that was under the lock before it or is after it
+abbrev pub IsFlushed : (F : Files) → Book F → ℕ → F.Lock → Type 0
+IsFlushed F B i l = (n b : ℕ) (x : CellOf F) → B.low i ≤ n → n < B.answered i → B.change i (suc n) b ≡ Some x
+    → (LockOf F x ≡ l → ⊥) × (LockOf F (B.says i n b) ≡ l → ⊥)
+
+-- past its barrier: every live block under it is home, and nothing is in flight to it
+abbrev pub IsAtHome : (F : Files) → Book F → Disk F → ℕ → F.Lock → Type 0
+IsAtHome F B D i l = (b : ℕ) (v : F.Content) → (D.heads i false).live b ≡ Some v → LockOf F (B.says i (B.low i) b) ≡ l
+    → (D.blocks b ≡ v) × ((r : ℕ) → D.flight r b ≡ None)
+
+-- past its revokes: no live block is under it
+abbrev pub IsRevoked : (F : Files) → Book F → Disk F → ℕ → F.Lock → Type 0
+IsRevoked F B D i l = (d : Bool) (b : ℕ) (v : F.Content) → (D.heads i d).live b ≡ Some v → LockOf F (B.says i (B.low i) b) ≡ l → ⊥
+
+-- ---- a header with its barrier: of a flush, of revokes, alone, or clean
+
+pub record IsCommit (F : Files) (c : Cluster F) (i u : ℕ) (h : Head F) (c' : Cluster F) : Type 0 where
+  pub events : Events F c c'
+  pub low : (BookOf F c').low i ≡ u
+  pub heads : (d : Bool) → (DiskOf F c').heads i d ≡ h
+  pub rest : ((BookOf F c').answered ≡ (BookOf F c).answered) × ((BookOf F c').published ≡ (BookOf F c).published) × ((BookOf F c').says ≡ (BookOf F c).says)
+      × ((BookOf F c').state ≡ (BookOf F c).state) × ((DiskOf F c').blocks ≡ (DiskOf F c).blocks)
+
+abbrev pub CommitIsEvents : Files → Type 0
+CommitIsEvents F = (c : Cluster F) (i u : ℕ) (h : Head F) → Together F c → (DiskOf F c).heads i true ≡ (DiskOf F c).heads i false → HasIdleWriter F c i
+    → IsHeader F (BookOf F c) (DiskOf F c) i u h → (c' : Cluster F) × IsCommit F c i u h c'
+
+-- a flush up to the last call is past the flush of every lock
+abbrev pub FlushFlushes : Files → Type 0
+FlushFlushes F = (B : Book F) (i : ℕ) (l : F.Lock) → B.low i ≡ B.answered i → IsFlushed F B i l
+
+-- the head without these blocks
+abbrev pub without_live : (F : Files) → Head F → (ℕ → Bool) → Head F
+without_live F h p = record { cut = h.cut; live = λ b. if p b then None else h.live b }
+
+-- Revokes: of blocks that are home, and nothing of the node in flight, the header that leaves them out may go, and it leaves no block live under a lock
+-- all of whose live blocks are among them.
+pub record RevokesGo (F : Files) (B : Book F) (D : Disk F) (i : ℕ) (p : ℕ → Bool) : Type 0 where
+  pub header : IsHeader F B D i (B.low i) (without_live F (D.heads i false) p)
+  pub revoked : (l : F.Lock) → ((b : ℕ) (v : F.Content) → (D.heads i false).live b ≡ Some v → LockOf F (B.says i (B.low i) b) ≡ l → p b ≡ true)
+      → (b : ℕ) (v : F.Content) → (without_live F (D.heads i false) p).live b ≡ Some v → LockOf F (B.says i (B.low i) b) ≡ l → ⊥
+
+abbrev pub RevokesAreHeader : Files → Type 0
+RevokesAreHeader F = (B : Book F) (D : Disk F) (i : ℕ) (p : ℕ → Bool) → Mirror F B D → B.low i ≤ B.published i
+    → ((b : ℕ) (v : F.Content) → p b ≡ true → (D.heads i false).live b ≡ Some v → D.blocks b ≡ v)
+    → ((r b : ℕ) (v : F.Content) → D.flight r b ≡ Some v → B.owner b ≡ Some i → ⊥)
+    → RevokesGo F B D i p
+
+-- past flush and revokes the lock may go
+abbrev pub StagesRelease : Files → Type 0
+StagesRelease F = (B : Book F) (D : Disk F) (i : ℕ) (l : F.Lock) → IsFlushed F B i l → IsRevoked F B D i l → MayGo F B D i l
+
+-- ---- the release
+
+pub record IsRelease (F : Files) (c : Cluster F) (i : ℕ) (locks : F.Lock → ℕ → Node) (c' : Cluster F) : Type 0 where
+  pub events : Events F c c'
+  pub now : c'.locks ≡ locks
+  pub states : (l : F.Lock) → (BookOf F c').state i l ≡ (locks l i).state
+  pub disk : (c'.world).disk ≡ (c.world).disk
+
+abbrev pub ReleaseIsEvents : Files → Type 0
+ReleaseIsEvents F = (c : Cluster F) (i : ℕ) (locks : F.Lock → ℕ → Node) (cache : Part F) → Together F c → (i ≡ c.past → ⊥)
+    → ((l : F.Lock) → Weakens i (c.locks l) (locks l)) → (BookOf F c).published i ≡ (BookOf F c).answered i
+    → ((l : F.Lock) → (c.locks l i).state ≡ Ex → ((locks l i).state ≡ Ex) ⊎ MayGo F (BookOf F c) (DiskOf F c) i l)
+    → ((b : ℕ) (x : CellOf F) → cache b ≡ Some x → ((BookOf F c).cache i b ≡ Some x) × ((locks (LockOf F x) i).state ≡ Un → ⊥))
+    → (c' : Cluster F) × IsRelease F c i locks c'
+
+-- ---- an unmount
+
+-- All calls are in the journal and every live block is home, so the clean header may go; with it no block is live, and every lock may go.
+abbrev pub CleanIsHeader : Files → Type 0
+CleanIsHeader F = (B : Book F) (D : Disk F) (i : ℕ) → Mirror F B D → B.low i ≡ B.answered i → B.low i ≤ B.published i
+    → ((b : ℕ) (v : F.Content) → (D.heads i false).live b ≡ Some v → D.blocks b ≡ v)
+    → ((r b : ℕ) (v : F.Content) → D.flight r b ≡ Some v → B.owner b ≡ Some i → ⊥)
+    → IsHeader F B D i (B.answered i) (record { cut = B.answered i; live = λ b. None })
+
+abbrev pub CleanReleases : Files → Type 0
+CleanReleases F = (B : Book F) (D : Disk F) (i : ℕ) (l : F.Lock) → B.low i ≡ B.answered i → ((d : Bool) (b : ℕ) → (D.heads i d).live b ≡ None) → MayGo F B D i l

@@ -1,0 +1,51 @@
+//! What can happen to a cluster as lists of its events: crashes, fences, recoveries, demotions in their stages, unmounts.
+#![tactic(auto)]
+
+ghost use Rattle.event_lists.specs.Stops.{CrashIsEvents, CrashAfterWrite, FenceIsEvents, KeptIsFound, RecoveryIsEvents, StartRecoveryIsEvents, PastIsEvents};
+ghost use Rattle.event_lists.specs.Demotions.{CommitIsEvents, FlushFlushes, RevokesAreHeader, StagesRelease, ReleaseIsEvents, CleanIsHeader, CleanReleases};
+ghost use Rattle.event_lists.specs.Begins.{StartsFromDisk};
+
+use cluster_laws::System;
+
+/// A law: a crash of a set of nodes, also one that stands behind its node's write, and a withdraw.
+pub fn a_crash_is_events<S: System>()
+    ensures set { CrashIsEvents S.files }
+    ensures after_write { CrashAfterWrite S.files }
+{}
+
+/// A law: a fence, whatever becomes of the writes in flight.
+pub fn a_fence_is_events<S: System>()
+    ensures { FenceIsEvents S.files }
+{}
+
+/// A law: a slot is recovered, with the number that its loss keeps; one that waited since the start; and the past ends with the last of these.
+pub fn a_recovery_is_events<S: System>()
+    ensures kept { KeptIsFound S.files }
+    ensures slot { RecoveryIsEvents S.files }
+    ensures start { StartRecoveryIsEvents S.files }
+    ensures past { PastIsEvents S.files }
+{}
+
+/// A law: a header with its barrier, of a flush, of revokes, alone, or clean.
+pub fn a_commit_is_events<S: System>()
+    ensures { CommitIsEvents S.files }
+{}
+
+/// A law: the stages of a demotion, one after the other, let the lock go.
+pub fn a_demotion_is_stages<S: System>()
+    ensures flush { FlushFlushes S.files }
+    ensures revokes { RevokesAreHeader S.files }
+    ensures stages { StagesRelease S.files }
+    ensures release { ReleaseIsEvents S.files }
+{}
+
+/// A law: an unmount's clean header may go, and behind it every lock.
+pub fn an_unmount_is_stages<S: System>()
+    ensures header { CleanIsHeader S.files }
+    ensures release { CleanReleases S.files }
+{}
+
+/// A law: a disk whose journals may be dirty is a start. What they have live is the past's, which holds every lock while a slot waits.
+pub fn a_dirty_start_starts<S: System>()
+    ensures { StartsFromDisk S.files }
+{}
