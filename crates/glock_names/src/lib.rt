@@ -3,10 +3,12 @@
 
 ghost use Rattle.std.specs.Prelude.{◌≡◌, ◌∷◌};
 ghost use Rattle.std.specs.Int.{w64, to_be_bytes};
+ghost use Rattle.glock_names.specs.States.{mode_for};
 
 mod steps;
 mod views;
 
+use dlm_modes::Mode;
 pub use steps::{CallFault, Entry, Missing, Step};
 pub use views::{Group, View};
 
@@ -24,7 +26,7 @@ pub enum State {
 
 /// A glock's name: its kind, which is 1 for the whole file system, 2 for an inode and 3 for a resource
 /// group, and a number, which is the address of the inode's or the group's block.
-#[derive(Clone, Copy, Debug, PartialEq, Eq)]
+#[derive(Clone, Copy, Debug, PartialEq, Eq, Hash)]
 pub struct LockName {
     pub kind: u8,
     pub number: u64,
@@ -46,5 +48,17 @@ impl LockName {
     {
         let [a, b, c, d, e, f, g, h] = self.number.to_be_bytes();
         [self.kind, a, b, c, d, e, f, g, h]
+    }
+}
+
+/// The mode in which the lock manager keeps a glock that a node holds in this state.
+pub fn mode_of(state: State) -> Mode
+    ensures { result ≡ mode_for state }
+{
+    match state {
+        State::Un => Mode::Nl,
+        State::Sh => Mode::Pr,
+        State::Df => Mode::Cw,
+        State::Ex => Mode::Ex,
     }
 }

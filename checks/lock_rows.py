@@ -1,0 +1,151 @@
+#!/usr/bin/env python3
+"""What `lock_rows` has to print, worked out from the rules of the lock manager alone.
+
+Run it from the top of the repository: checks/lock_rows.py > crates/lock_rows/stdout
+"""
+import zlib
+
+MODES = ["nl", "cr", "cw", "pr", "pw", "ex"]
+TOGETHER = {"nl": MODES, "cr": MODES[:5], "cw": MODES[:3], "pr": ["nl", "cr", "pr"], "pw": MODES[:2], "ex": MODES[:1]}
+BELOW = {"nl": MODES[:1], "cr": MODES[:2], "cw": MODES[:3], "pr": ["nl", "cr", "pr"], "pw": MODES[:5], "ex": MODES}
+
+
+class Lock:
+    def __init__(self):
+        self.held, self.conversions, self.requests = [], [], []
+        self.value, self.valid = 0, False
+        self.rebuild, self.slots = False, []
+
+    def mode(self, node):
+        return next((m for n, m in self.held if n == node), None)
+
+    def waits(self, node):
+        return any(n == node for n, _ in self.conversions + self.requests)
+
+    def hold(self, node, mode):
+        if self.mode(node) is None:
+            self.held.append((node, mode))
+        else:
+            self.held = [(n, mode if n == node else m) for n, m in self.held]
+
+    def cause(self, node, mode, earlier):
+        if self.rebuild:
+            return "waits rebuild"
+        if self.slots:
+            return f"waits slot {min(self.slots)}"
+        for n, m in self.held:
+            if n != node and mode not in TOGETHER[m]:
+                return f"waits held {n}"
+        for n, m in earlier:
+            if mode not in TOGETHER[m]:
+                return f"waits behind {n}"
+        return None
+
+    def ask(self, node, mode, queue, earlier):
+        cause = self.cause(node, mode, earlier)
+        if cause:
+            queue.append((node, mode))
+            return cause
+        self.hold(node, mode)
+        return f"granted {self.tell()}"
+
+    def tell(self):
+        return f"{self.value} {'valid' if self.valid else 'not'}"
+
+    def request(self, node, mode):
+        if self.mode(node) is not None or self.waits(node):
+            return "-"
+        return self.ask(node, mode, self.requests, self.conversions + self.requests)
+
+    def convert(self, node, mode):
+        if self.mode(node) is None or self.waits(node):
+            return "-"
+        return self.ask(node, mode, self.conversions, self.conversions)
+
+    def down(self, node, mode, value):
+        had = self.mode(node)
+        if had is None or had == mode or mode not in BELOW[had]:
+            return "-"
+        if value is not None and had in ("pw", "ex"):
+            self.value, self.valid = value, True
+        if mode == "nl":
+            self.held = [(n, m) for n, m in self.held if n != node]
+        else:
+            self.hold(node, mode)
+        return "down"
+
+    def next_grants(self):
+        told = []
+        if not self.rebuild and not self.slots:
+            for name in ("conversions", "requests"):
+                staying = []
+                for node, mode in getattr(self, name):
+                    earlier = staying if name == "conversions" else self.conversions + staying
+                    if self.cause(node, mode, earlier):
+                        staying.append((node, mode))
+                    else:
+                        self.hold(node, mode)
+                        told.append(f" {node} {mode} {self.tell()}")
+                setattr(self, name, staying)
+        return "grants" + "".join(told)
+
+    def callbacks(self):
+        told = []
+        for node, mode in self.held:
+            others = [m for n, m in self.conversions + self.requests if n != node]
+            if all(mode in TOGETHER[m] for m in others):
+                continue
+            may = [k for k in BELOW[mode] if all(k in TOGETHER[m] for m in others)]
+            most = [k for k in may if all(j in BELOW[k] for j in may)]
+            assert len(most) == 1
+            told.append(f" {node} {most[0]}")
+        return "callbacks" + "".join(told)
+
+
+def row():
+    """The row of calls on one master for lock 2/9."""
+    lock = Lock()
+    yield lock.request(1, "ex")
+    yield lock.request(2, "pr")
+    yield lock.callbacks()
+    yield lock.down(1, "pr", 7)
+    yield lock.next_grants()
+    yield lock.convert(1, "ex")
+    yield lock.request(3, "cr")
+    yield lock.down(2, "nl", None)
+    yield lock.next_grants()
+
+
+def random_calls(seed):
+    """24 calls of the nodes 1 to 4, by seed."""
+    x = seed
+
+    def draw(count):
+        nonlocal x
+        x = (x * 6364136223846793005 + 1442695040888963407) % 2**64
+        return (x >> 33) % count
+
+    lock = Lock()
+    for _ in range(24):
+        kind, node, mode, byte = draw(8), 1 + draw(4), MODES[draw(6)], draw(256)
+        if kind < 3:
+            yield lock.request(node, mode)
+        elif kind == 3:
+            yield lock.convert(node, mode)
+        elif kind < 6:
+            yield lock.down(node, mode, byte if byte % 2 == 1 else None)
+        elif kind == 6:
+            yield lock.next_grants()
+        elif mode == "ex":
+            lock.rebuild = byte % 4 == 0
+            lock.slots = [node] if byte % 4 == 1 else []
+            yield "blocked"
+        else:
+            yield lock.callbacks()
+
+
+for line in row():
+    print(line)
+for hundred in range(100):
+    text = "".join(line + "\n" for seed in range(100 * hundred, 100 * hundred + 100) for line in random_calls(seed))
+    print(f"{zlib.crc32(text.encode()):08x}")

@@ -1,0 +1,3 @@
+pub mod ClaimLaws
+pub mod TableLaws
+pub mod RunLaws

@@ -1,0 +1,207 @@
+-- The modes in which a lock is held go together.
+use Rattle.std.proofs.Common.{ℕ, ◌≡◌, ◌≢◌, ◌||◌, Bool, true, false, List, [], ◌∷◌, ◌++◌, Option, None, Some, cond, refl, sym, ap, ◌∙◌, subst, inl, inr, ◌⊎◌}
+use Rattle.std.specs.Prelude.{◌==◌, ◌&&◌, not, find, fold, option_map, is_none, is_some}
+use Rattle.std.specs.List.{AllByRecursion}
+use Rattle.std.proofs.lemmas.Bool.Decides.{eqb_tells}
+use Rattle.dlm_modes.specs.declared.Mode.{Mode}
+use Rattle.dlm_modes.specs.Modes.{go_together, is_at_least, is_above}
+use Rattle.dlm_modes.proofs.ModeLaws.{together-turned, together-weaker}
+use Rattle.fencing.specs.NodeSets.{least_of}
+use Rattle.dlm_master.specs.declared.claims.Claim.{Claim}
+use Rattle.dlm_master.specs.declared.claims.Cause.{Cause}
+use Rattle.dlm_master.specs.declared.claims.Cause.TheVariants.{Held, Behind, Rebuild, Slot}
+use Rattle.dlm_master.specs.Claims.{is_of, is_null, mode_of_node, with_claim, without_claim, now_holding, stands_in_way, in_way}
+use Rattle.dlm_master.specs.LockState.{LockState, TurnState}
+use Rattle.dlm_master.specs.Locks.{claim, or_else, cause_of, request_cause, convert_cause, requested, converted, lowered, is_free, turn, conversion_turns, all_turns, after_grants}
+use Rattle.dlm_master.specs.Tables.{holds_above}
+use Rattle.dlm_master.specs.Runs.{Together, Call, Requests, Converts, Lowers, Grants, Blocks, Run, started, after, MayCall, after_all, MayCallAll, GrantsGoTogether}
+
+no-way : {A : Type 0} → false ≡ true → A
+no-way e = absurd (let f : false ≡ true = e in cc)
+
+-- what others hold goes with this mode of a node
+abbrev Goes : ℕ → Mode → List Claim → Type 0
+Goes node mode cs = AllByRecursion (λ d. node ≢ d.node → go_together mode d.mode ≡ true) cs
+
+all-with : (P : Claim → Type 0) (cs : List Claim) (c : Claim) → AllByRecursion P cs → P c → AllByRecursion P (with_claim cs c)
+all-with P [] c all here = (here, tt)
+all-with P (x ∷ xs) c all here = by (is_of c.node x) (all-with P xs c all.1 here)
+  where
+    by : (b : Bool) → AllByRecursion P (with_claim xs c) → AllByRecursion P (cond b (c ∷ xs) (x ∷ with_claim xs c))
+    by true rest = (here, all.1)
+    by false rest = (all.0, rest)
+
+all-without : (P : Claim → Type 0) (cs : List Claim) (node : ℕ) → AllByRecursion P cs → AllByRecursion P (without_claim cs node)
+all-without P [] node all = tt
+all-without P (x ∷ xs) node all = by (is_of node x) (all-without P xs node all.1)
+  where
+    by : (b : Bool) → AllByRecursion P (without_claim xs node) → AllByRecursion P (cond b xs (x ∷ without_claim xs node))
+    by true rest = all.1
+    by false rest = (all.0, rest)
+
+-- a claim that goes with the others may be put
+together-with : (cs : List Claim) (c : Claim) → Together cs → Goes c.node c.mode cs → Together (with_claim cs c)
+together-with [] c all goes = (tt, tt)
+together-with (x ∷ xs) c all goes = by (is_of c.node x) (together-with xs c all.1 goes.1)
+  where
+    by : (b : Bool) → Together (with_claim xs c) → Together (cond b (c ∷ xs) (x ∷ with_claim xs c))
+    by true rest = (goes.1, all.1)
+    by false rest = (
+      all-with (λ d. x.node ≢ d.node → go_together x.mode d.mode ≡ true) xs c all.0
+          (λ ne. together-turned c.mode x.mode (goes.0 (λ e. ne (sym e)))),
+      rest,
+    )
+
+together-without : (cs : List Claim) (node : ℕ) → Together cs → Together (without_claim cs node)
+together-without [] node all = tt
+together-without (x ∷ xs) node all = by (is_of node x) (together-without xs node all.1)
+  where
+    by : (b : Bool) → Together (without_claim xs node) → Together (cond b xs (x ∷ without_claim xs node))
+    by true rest = all.1
+    by false rest = (all-without (λ d. x.node ≢ d.node → go_together x.mode d.mode ≡ true) xs node all.0, rest)
+
+-- where nothing is in the way, the mode goes with what others hold
+way-goes : (cs : List Claim) (node : ℕ) (mode : Mode) → in_way cs node mode ≡ None → Goes node mode cs
+way-goes [] node mode e = tt
+way-goes (x ∷ xs) node mode e = by (stands_in_way node mode x) refl (way-goes xs node mode)
+  where
+    by : (b : Bool) → stands_in_way node mode x ≡ b → (in_way xs node mode ≡ None → Goes node mode xs) → Goes node mode (x ∷ xs)
+    by true h rest = absurd (let f : Some x.node ≡ None = rw h at e in cc)
+    by false h rest = ((λ ne. goes-if ne), rest (rw h at e))
+      where
+        goes-if : node ≢ x.node → go_together mode x.mode ≡ true
+        goes-if ne = elim (eqb_tells x.node node) [
+          | inl same ↦ absurd (ne (sym same.1))
+          | inr other ↦ together-turned x.mode mode (turned (go_together x.mode mode) (sym (ap (λ t. not t && not (go_together x.mode mode)) other.0) ∙ h))
+        ]
+          where
+            turned : (g : Bool) → not g ≡ false → g ≡ true
+            turned true p = refl
+            turned false p = no-way (sym p)
+
+-- the claim of a node that has one
+at-node : (P : Claim → Type 0) (cs : List Claim) (node : ℕ) (mode : Mode) → AllByRecursion P cs → mode_of_node cs node ≡ Some mode
+    → (d : Claim) × P d × (d.node ≡ node) × (d.mode ≡ mode)
+at-node P [] node mode all e = absurd (let f : None ≡ Some mode = e in cc)
+at-node P (x ∷ xs) node mode all e = by (eqb_tells x.node node) (at-node P xs node mode all.1)
+  where
+    inside : {a b : Mode} → Some a ≡ Some b → a ≡ b
+    inside p = cc
+
+    by : (((x.node == node) ≡ true) × (x.node ≡ node)) ⊎ (((x.node == node) ≡ false) × (x.node ≢ node)) → (mode_of_node xs node ≡ Some mode → (d : Claim) × P d × (d.node ≡ node) × (d.mode ≡ mode))
+        → (d : Claim) × P d × (d.node ≡ node) × (d.mode ≡ mode)
+    by (inl same) rest = (x, all.0, same.1, inside (rw same.0 at e))
+    by (inr other) rest = rest (rw other.0 at e)
+
+all-map : (P Q : Claim → Type 0) → ((d : Claim) → P d → Q d) → (cs : List Claim) → AllByRecursion P cs → AllByRecursion Q cs
+all-map P Q f [] all = tt
+all-map P Q f (x ∷ xs) all = (f x all.0, all-map P Q f xs all.1)
+
+-- what a node holds goes with what others hold
+held-goes : (cs : List Claim) (node : ℕ) (mode : Mode) → Together cs → mode_of_node cs node ≡ Some mode → Goes node mode cs
+held-goes [] node mode all e = tt
+held-goes (x ∷ xs) node mode all e = by (eqb_tells x.node node) (held-goes xs node mode all.1)
+  where
+    inside : {a b : Mode} → Some a ≡ Some b → a ≡ b
+    inside p = cc
+
+    by : (((x.node == node) ≡ true) × (x.node ≡ node)) ⊎ (((x.node == node) ≡ false) × (x.node ≢ node)) → (mode_of_node xs node ≡ Some mode → Goes node mode xs) → Goes node mode (x ∷ xs)
+    by (inl same) rest =
+        let is : x.mode ≡ mode = inside (rw same.0 at e) in (
+          (λ ne. absurd (ne (sym same.1))),
+          all-map (λ d. x.node ≢ d.node → go_together x.mode d.mode ≡ true) (λ d. node ≢ d.node → go_together mode d.mode ≡ true)
+              (λ d p ne. subst (λ (m : Mode). go_together m d.mode ≡ true) is (p (λ q. ne (sym same.1 ∙ q)))) xs all.0,
+        )
+    by (inr other) rest =
+        let there : mode_of_node xs node ≡ Some mode = rw other.0 at e in
+        let d = at-node (λ d. x.node ≢ d.node → go_together x.mode d.mode ≡ true) xs node mode all.0 there in
+        ((λ ne. together-turned x.mode mode (subst (λ (m : Mode). go_together x.mode m ≡ true) d.3 (d.1 (λ q. other.1 (q ∙ d.2))))), rest there)
+
+-- ---- why a node needn't wait
+
+or-none : (a b : Option Cause) → or_else a b ≡ None → (a ≡ None) × (b ≡ None)
+or-none None b e = (refl, e)
+or-none (Some c) b e = absurd (let f : Some c ≡ None = e in cc)
+
+map-none : (o : Option ℕ) → option_map Held o ≡ None → o ≡ None
+map-none None e = refl
+map-none (Some n) e = absurd (let f : Some (Held n) ≡ None = e in cc)
+
+cause-none : (rebuild : Bool) (waiting : ℕ) (held conversions requests : List Claim) (node : ℕ) (mode : Mode)
+    → cause_of rebuild waiting held conversions requests node mode ≡ None → in_way held node mode ≡ None
+cause-none true waiting held conversions requests node mode e = absurd (let f : Some Rebuild ≡ None = e in cc)
+cause-none false waiting held conversions requests node mode e =
+    map-none _ (or-none (option_map Held (in_way held node mode)) _ (or-none (option_map Slot (least_of waiting)) _ e).1).0
+
+none-is : (o : Option ℕ) → is_none o ≡ true → o ≡ None
+none-is None e = refl
+none-is (Some n) e = no-way e
+
+first-true : (a b : Bool) → (a && b) ≡ true → a ≡ true
+first-true true b e = refl
+first-true false b e = no-way e
+
+-- ---- turns
+
+turn-keeps : (before : List Claim) (t : TurnState) (w : Claim) → Together t.held → Together (turn before t w).held
+turn-keeps before t w all = by (is_free before t w) refl
+  where
+    by : (b : Bool) → is_free before t w ≡ b
+        → Together (cond b (let s : TurnState = record { held = with_claim t.held w; staying = t.staying; granted = t.granted ++ w ∷ [] } in s) (let s : TurnState = record { held = t.held; staying = t.staying ++ w ∷ []; granted = t.granted } in s)).held
+    by true h = together-with t.held w all (way-goes t.held w.node w.mode (none-is _ (first-true _ _ (first-true _ _ h))))
+    by false h = all
+
+turns-keep : (before : List Claim) (t : TurnState) (ws : List Claim) → Together t.held → Together (fold (turn before) t ws).held
+turns-keep before t [] all = all
+turns-keep before t (w ∷ ws) all = turns-keep before (turn before t w) ws (turn-keeps before t w all)
+
+pub grants-keep : (l : LockState) → Together l.held → Together (after_grants l).held
+grants-keep l all =
+    turns-keep (conversion_turns l).staying (record { held = (conversion_turns l).held; staying = []; granted = (conversion_turns l).granted }) l.requests
+    (turns-keep [] (record { held = l.held; staying = []; granted = [] }) l.conversions all)
+
+-- ---- calls
+
+pub requested-keeps : (cause : Option Cause) (l : LockState) (node : ℕ) (mode : Mode) → (cause ≡ None → in_way l.held node mode ≡ None) → Together l.held → Together (requested cause l node mode).held
+requested-keeps None l node mode free all = together-with l.held (claim node mode) all (way-goes l.held node mode (free refl))
+requested-keeps (Some c) l node mode free all = all
+
+pub converted-keeps : (cause : Option Cause) (l : LockState) (node : ℕ) (mode : Mode) → (cause ≡ None → in_way l.held node mode ≡ None) → Together l.held → Together (converted cause l node mode).held
+converted-keeps None l node mode free all = together-with l.held (claim node mode) all (way-goes l.held node mode (free refl))
+converted-keeps (Some c) l node mode free all = all
+
+lower-goes : (cs : List Claim) (node : ℕ) (had mode : Mode) → is_at_least had mode ≡ true → Goes node had cs → Goes node mode cs
+lower-goes cs node had mode covers all =
+    all-map (λ d. node ≢ d.node → go_together had d.mode ≡ true) (λ d. node ≢ d.node → go_together mode d.mode ≡ true)
+    (λ d p ne. together-turned d.mode mode (together-weaker d.mode had mode (together-turned had d.mode (p ne)) covers)) cs all
+
+pub lowered-keeps : (l : LockState) (node : ℕ) (mode : Mode) (value : Option (List ℕ)) → holds_above (mode_of_node l.held node) mode ≡ true → Together l.held → Together (lowered l node mode value).held
+lowered-keeps l node mode value above all = by (mode_of_node l.held node) refl
+  where
+    now : (had : Mode) → mode_of_node l.held node ≡ Some had → is_at_least had mode ≡ true → (b : Bool) → Together (cond b (without_claim l.held node) (with_claim l.held (claim node mode)))
+    now had e covers true = together-without l.held node all
+    now had e covers false = together-with l.held (claim node mode) all (lower-goes l.held node had mode covers (held-goes l.held node had all e))
+
+    by : (o : Option Mode) → mode_of_node l.held node ≡ o → Together (now_holding l.held node mode)
+    by None e = no-way (ap (λ (o : Option Mode). holds_above o mode) (sym e) ∙ above)
+    by (Some had) e = now had e (first-true _ _ (ap (λ (o : Option Mode). holds_above o mode) (sym e) ∙ above)) (is_null mode)
+
+call-keeps : (r : Run) (call : Call) → MayCall r call → Together r.lock.held → Together (after r call).lock.held
+call-keeps r (Requests node mode) may all =
+    requested-keeps (request_cause r.rebuild r.waiting r.lock node mode) r.lock node mode (cause-none r.rebuild r.waiting r.lock.held r.lock.conversions r.lock.requests node mode) all
+call-keeps r (Converts node mode) may all =
+    converted-keeps (convert_cause r.rebuild r.waiting r.lock node mode) r.lock node mode (cause-none r.rebuild r.waiting r.lock.held r.lock.conversions [] node mode) all
+call-keeps r (Lowers node mode value) may all = lowered-keeps r.lock node mode value may all
+call-keeps r Grants may all = by (r.rebuild || not (r.waiting == 0))
+  where
+    by : (b : Bool) → Together (cond b r (let s : Run = record r { lock = after_grants r.lock } in s)).lock.held
+    by true = all
+    by false = grants-keep r.lock all
+call-keeps r (Blocks rebuild waiting) may all = all
+
+calls-keep : (calls : List Call) (r : Run) → MayCallAll r calls → Together r.lock.held → Together (after_all r calls).lock.held
+calls-keep [] r may all = all
+calls-keep (call ∷ calls) r may all = calls-keep calls (after r call) may.1 (call-keeps r call may.0 all)
+
+pub grants-go-together : GrantsGoTogether
+grants-go-together calls may = calls-keep calls started may tt

@@ -1,0 +1,39 @@
+-- The nodes that hold a lock, or wait for it, each with a mode.
+use Rattle.std.specs.Prelude.{ℕ, ◌==◌, ◌&&◌, Bool, true, false, not, List, [], ◌∷◌, Option, option_map, find, if◌then◌else◌}
+use Rattle.dlm_modes.specs.declared.Mode.{Mode}
+use Rattle.dlm_modes.specs.declared.Mode.TheVariants.{Nl}
+use Rattle.dlm_modes.specs.Modes.{go_together}
+use Rattle.dlm_master.specs.declared.claims.Claim.{Claim}
+
+abbrev pub is_of : ℕ → Claim → Bool
+is_of node c = c.node == node
+
+-- the mode that the node has there, if it has one
+abbrev pub mode_of_node : List Claim → ℕ → Option Mode
+mode_of_node cs node = option_map (λ c. c.mode) (find (is_of node) cs)
+
+-- with this claim in the place of the one that its node had, or last
+abbrev pub with_claim : List Claim → Claim → List Claim
+with_claim [] c = c ∷ []
+with_claim (x ∷ xs) c = if is_of c.node x then c ∷ xs else x ∷ with_claim xs c
+
+-- without the node's claim
+abbrev pub without_claim : List Claim → ℕ → List Claim
+without_claim [] node = []
+without_claim (x ∷ xs) node = if is_of node x then xs else x ∷ without_claim xs node
+
+abbrev pub is_null : Mode → Bool
+is_null Nl = true
+is_null mode = false
+
+-- the node holds this mode now: in Nl it holds none
+abbrev pub now_holding : List Claim → ℕ → Mode → List Claim
+now_holding cs node mode = if is_null mode then without_claim cs node else with_claim cs (record { node = node; mode = mode })
+
+-- the claim of another node, in a mode that doesn't go with this one
+abbrev pub stands_in_way : ℕ → Mode → Claim → Bool
+stands_in_way node mode c = not (is_of node c) && not (go_together c.mode mode)
+
+-- the first node that stands in the way of this node in this mode
+abbrev pub in_way : List Claim → ℕ → Mode → Option ℕ
+in_way cs node mode = option_map (λ c. c.node) (find (stands_in_way node mode) cs)

@@ -1,0 +1,5 @@
+pub mod Claims
+pub mod LockState
+pub mod Locks
+pub mod Tables
+pub mod Runs

@@ -1,0 +1,62 @@
+-- Lists of calls on one lock of a master.
+use Rattle.std.specs.Prelude.{ℕ, ◌≡◌, ◌≢◌, ◌==◌, ◌||◌, ⊤, Bool, true, false, not, List, [], ◌∷◌, Option, None, is_some, if◌then◌else◌}
+use Rattle.std.specs.List.{AllByRecursion}
+use Rattle.dlm_modes.specs.declared.Mode.{Mode}
+use Rattle.dlm_modes.specs.Modes.{go_together}
+use Rattle.dlm_master.specs.declared.claims.Claim.{Claim}
+use Rattle.dlm_master.specs.Claims.{mode_of_node}
+use Rattle.dlm_master.specs.LockState.{LockState}
+use Rattle.dlm_master.specs.Locks.{free_lock, is_waiting, request_cause, requested, convert_cause, converted, lowered, after_grants}
+use Rattle.dlm_master.specs.Tables.{holds_above}
+
+-- whichever two nodes hold the lock, their modes go together
+abbrev pub Together : List Claim → Type 0
+Together [] = ⊤
+Together (c ∷ cs) = AllByRecursion (λ d. c.node ≢ d.node → go_together c.mode d.mode ≡ true) cs × Together cs
+
+-- a call on the lock: a node asks for it, or for another mode, or lowers it; the waiters take their turns; or it is said
+-- whether a rebuild isn't done and which slots wait
+pub data Call : Type 0 where
+  Requests : ℕ → Mode → Call
+  Converts : ℕ → Mode → Call
+  Lowers : ℕ → Mode → Option (List ℕ) → Call
+  Grants : Call
+  Blocks : Bool → ℕ → Call
+
+-- the lock, and what keeps its master from granting it
+pub record Run : Type 0 where
+  pub rebuild : Bool
+  pub waiting : ℕ
+  pub lock : LockState
+
+-- nobody ever asked
+abbrev pub started : Run
+started = record { rebuild = false; waiting = 0; lock = free_lock }
+
+-- what the calls do, as their contracts say
+abbrev pub after : Run → Call → Run
+after r (Requests node mode) = record r { lock = requested (request_cause r.rebuild r.waiting r.lock node mode) r.lock node mode }
+after r (Converts node mode) = record r { lock = converted (convert_cause r.rebuild r.waiting r.lock node mode) r.lock node mode }
+after r (Lowers node mode value) = record r { lock = lowered r.lock node mode value }
+after r Grants = if r.rebuild || not (r.waiting == 0) then r else record r { lock = after_grants r.lock }
+after r (Blocks rebuild waiting) = record { rebuild = rebuild; waiting = waiting; lock = r.lock }
+
+-- what the calls require
+abbrev pub MayCall : Run → Call → Type 0
+MayCall r (Requests node mode) = (mode_of_node r.lock.held node ≡ None) × (is_waiting r.lock node ≡ false)
+MayCall r (Converts node mode) = (is_some (mode_of_node r.lock.held node) ≡ true) × (is_waiting r.lock node ≡ false)
+MayCall r (Lowers node mode value) = holds_above (mode_of_node r.lock.held node) mode ≡ true
+MayCall r Grants = ⊤
+MayCall r (Blocks rebuild waiting) = ⊤
+
+abbrev pub after_all : Run → List Call → Run
+after_all r [] = r
+after_all r (call ∷ calls) = after_all (after r call) calls
+
+abbrev pub MayCallAll : Run → List Call → Type 0
+MayCallAll r [] = ⊤
+MayCallAll r (call ∷ calls) = MayCall r call × MayCallAll (after r call) calls
+
+-- after every list of calls the modes in which the lock is held go together
+abbrev pub GrantsGoTogether : Type 0
+GrantsGoTogether = (calls : List Call) → MayCallAll started calls → Together (after_all started calls).lock.held

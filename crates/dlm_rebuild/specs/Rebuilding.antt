@@ -1,0 +1,55 @@
+-- A table of locks that is made anew.
+use Rattle.std.specs.Prelude.{ℕ, ◌==◌, ◌%◌, ◌∷◌, ◌||◌, Bool, true, false, not, List, [], Option, None, length, slice_get, if◌then◌else◌}
+use Rattle.std.specs.List.{list_all}
+use Rattle.std.specs.Int.{w64, to_be_bytes}
+use Rattle.crc_words.specs.Remainder.{crc32_of}
+use Rattle.glock_names.specs.declared.LockName.{LockName}
+use Rattle.dlm_modes.specs.declared.Mode.{Mode}
+use Rattle.fencing.specs.NodeSets.{has, with_node, nodes_of, all_nodes}
+use Rattle.dlm_master.specs.Tables.{MasterState, after_request, after_convert, after_down, after_report}
+
+-- the members of the view, those that have told all that they hold, and what was told so far
+pub record RebuildState : Type 0 where
+  pub members : ℕ
+  pub ended : ℕ
+  pub master : MasterState
+
+abbrev pub begun : ℕ → ℕ → RebuildState
+begun generation members = record {
+  members = members;
+  ended = 0;
+  master = record { generation = generation; rebuild = true; waiting = 0; table = [] };
+}
+
+abbrev pub with_report : RebuildState → ℕ → LockName → Mode → RebuildState
+with_report r node lock mode = record r { master = after_report r.master node lock mode }
+
+abbrev pub with_end : RebuildState → ℕ → RebuildState
+with_end r node = record r { ended = with_node r.ended node }
+
+abbrev pub after_request_in : RebuildState → ℕ → LockName → Mode → RebuildState
+after_request_in r node lock mode = record r { master = after_request r.master node lock mode }
+
+abbrev pub after_convert_in : RebuildState → ℕ → LockName → Mode → RebuildState
+after_convert_in r node lock mode = record r { master = after_convert r.master node lock mode }
+
+abbrev pub after_down_in : RebuildState → ℕ → LockName → Mode → RebuildState
+after_down_in r node lock mode = record r { master = after_down r.master node lock mode None }
+
+-- every member has ended
+abbrev pub is_done : RebuildState → Bool
+is_done r = list_all (λ node. not (has r.members node) || has r.ended node) all_nodes
+
+-- the table that was told, and nothing keeps its master from granting
+abbrev pub master_after : RebuildState → MasterState
+master_after r = record r.master { rebuild = false; waiting = 0 }
+
+-- the nine bytes of a lock's name: its kind, and its number with the highest byte first
+abbrev pub name_bytes : LockName → List ℕ
+name_bytes lock = lock.kind ∷ to_be_bytes w64 lock.number
+
+-- the member at the place of the name's CRC-32, modulo how many members there are, in rising order
+abbrev pub master_for : ℕ → LockName → Option ℕ
+master_for members lock =
+    if length (nodes_of members) == 0 then None
+    else slice_get (nodes_of members) (crc32_of (name_bytes lock) % length (nodes_of members))

@@ -1,0 +1,44 @@
+-- Lists of calls on one lock while its table is made anew.
+use Rattle.std.specs.Prelude.{ℕ, ◌≡◌, ◌==◌, true, List, [], ◌∷◌, Option, None, Some, if◌then◌else◌}
+use Rattle.dlm_modes.specs.declared.Mode.{Mode}
+use Rattle.dlm_modes.specs.Modes.{not_valid}
+use Rattle.dlm_master.specs.Claims.{is_null, mode_of_node}
+use Rattle.dlm_master.specs.LockState.{LockState}
+use Rattle.dlm_master.specs.Locks.{free_lock, request_cause, requested, convert_cause, converted, lowered, reported}
+
+-- a node tells what it holds, or lowers it; or it asks for the lock, or for another mode
+pub data Call : Type 0 where
+  Reports : ℕ → Mode → Call
+  Lowers : ℕ → Mode → Call
+  Requests : ℕ → Mode → Call
+  Converts : ℕ → Mode → Call
+
+-- what the calls do, as their contracts say: the rebuild isn't done
+abbrev pub after : LockState → Call → LockState
+after l (Reports node mode) = reported l node mode
+after l (Lowers node mode) = lowered l node mode None
+after l (Requests node mode) = requested (request_cause true 0 l node mode) l node mode
+after l (Converts node mode) = converted (convert_cause true 0 l node mode) l node mode
+
+abbrev pub after_all : LockState → List Call → LockState
+after_all l [] = l
+after_all l (call ∷ calls) = after_all (after l call) calls
+
+-- what a node that tells this mode holds: nothing in Nl
+abbrev pub told : Mode → Option Mode
+told mode = if is_null mode then None else Some mode
+
+-- what the node told last in the calls, by a report or by lowering the lock
+abbrev pub last_told : List Call → ℕ → Option Mode → Option Mode
+last_told [] node before = before
+last_told (Reports other mode ∷ calls) node before = last_told calls node (if other == node then told mode else before)
+last_told (Lowers other mode ∷ calls) node before = last_told calls node (if other == node then told mode else before)
+last_told (call ∷ calls) node before = last_told calls node before
+
+-- after every list of calls the table has of each node what it told last, nobody was granted anything, and no value is valid
+pub record HasLastReports (calls : List Call) : Type 0 where
+  pub reports : (node : ℕ) → mode_of_node (after_all free_lock calls).held node ≡ last_told calls node None
+  pub value : (after_all free_lock calls).value ≡ not_valid
+
+abbrev pub RebuiltFromReports : Type 0
+RebuiltFromReports = (calls : List Call) → HasLastReports calls

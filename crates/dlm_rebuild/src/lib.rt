@@ -1,0 +1,169 @@
+//! A table of locks that a new master makes anew from what the members of a view report.
+#![tactic(auto)]
+
+ghost use Rattle.std.specs.Prelude.{◌≡◌, ◌<◌, ◌||◌, true, false, not, None, IfOk, IfErr, OnOk, OnErr, is_ok, is_some};
+ghost use Rattle.std.specs.List.{list_all};
+ghost use Rattle.fencing.specs.NodeSets.{has, all_nodes};
+ghost use Rattle.dlm_master.specs.Locks.{answer_by};
+ghost use Rattle.dlm_master.specs.Tables.{lock_of, held_by, waits_for, holds_above, request_waits, convert_waits};
+ghost use Rattle.dlm_rebuild.specs.Rebuilding.{begun, with_report, with_end, is_done as done, master_after, after_request_in, after_convert_in, after_down_in, master_for};
+ghost use Rattle.dlm_rebuild.specs.Runs.{RebuiltFromReports};
+
+use crc_words::crc32;
+use dlm_master::{Answer, Master};
+use dlm_modes::{Mode, ValueBlock};
+use fencing::{add_node, count_nodes, has_node, node_at};
+use glock_names::LockName;
+use no_memory::NoMemory;
+use std::alloc::Global;
+use std::marker::Model;
+
+/// The master of a lock among these members: the one at the place of the CRC-32 of the lock's nine bytes, modulo how many they
+/// are, in rising order. `None` exactly where nobody is a member.
+pub fn master_of(members: u16, lock: LockName) -> Option<u8>
+    ensures { result ≡ master_for members lock }
+{
+    let count = count_nodes(members);
+    if count == 0 {
+        return None;
+    }
+    node_at(members, crc32(&lock.bytes()) as usize % count)
+}
+
+static NODES: [u8; 16] = [0, 1, 2, 3, 4, 5, 6, 7, 8, 9, 10, 11, 12, 13, 14, 15];
+
+// Whether every node of the one set belongs to the other.
+fn all_within(set: u16, other: u16) -> bool
+    ensures { result ≡ list_all (λ node. not (has set node) || has other node) all_nodes }
+{
+    NODES
+        .iter()
+        .all(|node| !has_node(set, *node) || has_node(other, *node))
+}
+
+/// The table of a new master while the members tell what they hold. Requests, conversions and lowers that come meanwhile are
+/// kept in it; nothing is granted.
+#[derive(Drop)]
+pub struct Rebuild {
+    members: u16,
+    ended: u16,
+    master: Master,
+}
+
+impl Model for Rebuild {
+    ghost use Rattle.dlm_rebuild.specs.Rebuilding.{RebuildState};
+
+    ghost Value = { RebuildState };
+
+    ghost view = { λ r. record { members = r.members; ended = r.ended; master = r.master } };
+}
+
+impl Rebuild {
+    /// No member of the view has told anything yet.
+    pub fn new(alloc: Global, generation: u64, members: u16) -> Rebuild
+        ensures { result ≡ begun generation members }
+    {
+        let mut master = Master::new(alloc, generation);
+        master.blocked(true, 0);
+        Rebuild {
+            members,
+            ended: 0,
+            master,
+        }
+    }
+
+    /// A member tells what it holds of a lock. Of several reports of a node for a lock the last one counts, and one in `Nl` says
+    /// that it holds none. The value that it has of the lock may be older than one that was lowered since, and isn't kept. After
+    /// want of memory nothing has changed.
+    pub fn report(
+        &mut self,
+        node: u8,
+        lock: LockName,
+        mode: Mode,
+        _value: ValueBlock,
+    ) -> Result<(), NoMemory>
+        ensures ok { OnOk result (self.new ≡ with_report self.old node lock mode) }
+        ensures err { OnErr result (self.new ≡ self.old) }
+    {
+        self.master.report(node, lock, mode)
+    }
+
+    /// A member has told all that it holds.
+    pub fn end(&mut self, node: u8)
+        requires { node < 16 }
+        ensures { self.new ≡ with_end self.old node }
+    {
+        self.ended = add_node(self.ended, node);
+    }
+
+    /// A node asks for a lock while the rebuild isn't done, as in `Master::request`.
+    pub fn request(&mut self, node: u8, lock: LockName, mode: Mode) -> Result<Answer, NoMemory>
+        requires none { held_by self.old.master node lock ≡ None }
+        requires idle { waits_for self.old.master node lock ≡ false }
+        ensures answer { IfOk result (λ a. a ≡ answer_by (request_waits self.old.master node lock mode) (lock_of self.old.master lock)) }
+        ensures ok { OnOk result (self.new ≡ after_request_in self.old node lock mode) }
+        ensures err { OnErr result (self.new ≡ self.old) }
+    {
+        self.master.request(node, lock, mode)
+    }
+
+    /// A holder asks for another mode while the rebuild isn't done, as in `Master::convert`.
+    pub fn convert(&mut self, node: u8, lock: LockName, mode: Mode) -> Result<Answer, NoMemory>
+        requires holds { is_some (held_by self.old.master node lock) ≡ true }
+        requires idle { waits_for self.old.master node lock ≡ false }
+        ensures answer { IfOk result (λ a. a ≡ answer_by (convert_waits self.old.master node lock mode) (lock_of self.old.master lock)) }
+        ensures ok { OnOk result (self.new ≡ after_convert_in self.old node lock mode) }
+        ensures err { OnErr result (self.new ≡ self.old) }
+    {
+        self.master.convert(node, lock, mode)
+    }
+
+    /// A node lowers a lock after it has reported it. No value is kept before the rebuild is done. It takes no memory.
+    pub fn down(&mut self, node: u8, lock: LockName, mode: Mode)
+        requires { holds_above (held_by self.old.master node lock) mode ≡ true }
+        ensures { self.new ≡ after_down_in self.old node lock mode }
+    {
+        self.master.down(node, lock, mode, None);
+    }
+
+    /// The mode in which the node holds the lock by what it told. `None` exactly where it holds none.
+    pub fn held(&self, node: u8, lock: LockName) -> Option<Mode>
+        ensures { result ≡ held_by self.now.master node lock }
+    {
+        self.master.held(node, lock)
+    }
+
+    /// Whether the node waits for the lock.
+    pub fn waits(&self, node: u8, lock: LockName) -> bool
+        ensures { result ≡ waits_for self.now.master node lock }
+    {
+        self.master.waits(node, lock)
+    }
+
+    /// Whether each member has ended.
+    pub fn is_done(&self) -> bool
+        ensures { result ≡ done self.now }
+    {
+        all_within(self.members, self.ended)
+    }
+
+    /// The master with the table that the members told, once each of them has ended; else the rebuild as it is. It takes no
+    /// memory.
+    pub fn complete(self) -> Result<Master, Rebuild>
+        ensures done { is_ok result ≡ done self }
+        ensures ok { IfOk result (λ m. m ≡ master_after self) }
+        ensures err { IfErr result (λ r. r ≡ self) }
+    {
+        if !self.is_done() {
+            return Err(self);
+        }
+        let Rebuild { mut master, .. } = self;
+        master.blocked(false, 0);
+        Ok(master)
+    }
+}
+
+/// A law: after every list of calls a table that is made anew has of each node what it told last, and no value in it is valid.
+pub fn a_rebuilt_table_has_the_last_reports()
+    ensures { RebuiltFromReports }
+{}

@@ -1,0 +1,3 @@
+pub mod NodeSets
+pub mod Members
+pub mod Laws

@@ -1,0 +1,212 @@
+ghost use Rattle.std.specs.Prelude.{◌<◌, ◌≤◌};
+
+use crc_words::crc32;
+use dlm_master::{Answer, Cause, Master};
+use dlm_modes::{Mode, ValueBlock, covers};
+use glock_names::LockName;
+use no_memory::NoMemory;
+use std::alloc::Global;
+
+const LOCK: LockName = LockName { kind: 2, number: 9 };
+
+// Numbers that follow from a seed.
+#[derive(Drop)]
+struct Draw {
+    x: u64,
+}
+
+impl Draw {
+    // The next number below the count.
+    fn below(&mut self, count: u64) -> u64
+        requires { 0 < count }
+        ensures { result < count }
+    {
+        self.x = self
+            .x
+            .wrapping_mul(6364136223846793005)
+            .wrapping_add(1442695040888963407);
+        (self.x >> 33) % count
+    }
+}
+
+fn mode_at(place: u64) -> Mode {
+    match place {
+        0 => Mode::Nl,
+        1 => Mode::Cr,
+        2 => Mode::Cw,
+        3 => Mode::Pr,
+        4 => Mode::Pw,
+        _ => Mode::Ex,
+    }
+}
+
+fn word(mode: Mode) -> &'static str {
+    match mode {
+        Mode::Nl => "nl",
+        Mode::Cr => "cr",
+        Mode::Cw => "cw",
+        Mode::Pr => "pr",
+        Mode::Pw => "pw",
+        Mode::Ex => "ex",
+    }
+}
+
+fn state(valid: bool) -> &'static str {
+    if valid { "valid" } else { "not" }
+}
+
+fn tell(out: &mut String, answer: Answer) -> Result<(), NoMemory> {
+    match answer {
+        Answer::Granted(value) => {
+            let first = value.bytes[0];
+            let state = state(value.valid);
+            writeln!(out, "granted {first} {state}")?;
+        }
+        Answer::Waiting(cause) => tell_cause(out, cause)?,
+    }
+    Ok(())
+}
+
+fn tell_cause(out: &mut String, cause: Cause) -> Result<(), NoMemory> {
+    match cause {
+        Cause::Held(node) => writeln!(out, "waits held {node}")?,
+        Cause::Behind(node) => writeln!(out, "waits behind {node}")?,
+        Cause::Rebuild => writeln!(out, "waits rebuild")?,
+        Cause::Slot(node) => writeln!(out, "waits slot {node}")?,
+    }
+    Ok(())
+}
+
+fn request(out: &mut String, master: &mut Master, node: u8, mode: Mode) -> Result<(), NoMemory> {
+    if master.waits(node, LOCK) {
+        writeln!(out, "-")?;
+        return Ok(());
+    }
+    match master.held(node, LOCK) {
+        Some(_) => writeln!(out, "-")?,
+        None => tell(out, master.request(node, LOCK, mode)?)?,
+    }
+    Ok(())
+}
+
+fn convert(out: &mut String, master: &mut Master, node: u8, mode: Mode) -> Result<(), NoMemory> {
+    if master.waits(node, LOCK) || master.held(node, LOCK).is_none() {
+        writeln!(out, "-")?;
+        return Ok(());
+    }
+    tell(out, master.convert(node, LOCK, mode)?)
+}
+
+fn down(
+    out: &mut String,
+    master: &mut Master,
+    node: u8,
+    mode: Mode,
+    value: Option<[u8; 32]>,
+) -> Result<(), NoMemory> {
+    match master.held(node, LOCK) {
+        Some(had) if covers(had, mode) && !covers(mode, had) => {
+            master.down(node, LOCK, mode, value);
+            writeln!(out, "down")?;
+        }
+        _ => writeln!(out, "-")?,
+    }
+    Ok(())
+}
+
+fn tell_grant(out: &mut String, grant: (u8, Mode, ValueBlock)) -> Result<(), NoMemory> {
+    let (node, mode, value) = grant;
+    let first = value.bytes[0];
+    let mode = word(mode);
+    let state = state(value.valid);
+    write!(out, " {node} {mode} {first} {state}")?;
+    Ok(())
+}
+
+fn next_grants(out: &mut String, master: &mut Master) -> Result<(), NoMemory> {
+    let grants = master.next_grants(LOCK)?;
+    out.push_str("grants")?;
+    for grant in &grants {
+        tell_grant(out, *grant)?;
+    }
+    out.push_str("\n")?;
+    Ok(())
+}
+
+fn callbacks(out: &mut String, master: &Master) -> Result<(), NoMemory> {
+    let callbacks = master.callbacks(LOCK)?;
+    out.push_str("callbacks")?;
+    for callback in &callbacks {
+        let (node, mode) = *callback;
+        let mode = word(mode);
+        write!(out, " {node} {mode}")?;
+    }
+    out.push_str("\n")?;
+    Ok(())
+}
+
+/// A row of calls on one master.
+pub fn row(alloc: Global) -> Result<String, NoMemory> {
+    let mut master = Master::new(alloc, 1);
+    let mut text = String::new(alloc);
+    let out = &mut text;
+    request(out, &mut master, 1, Mode::Ex)?;
+    request(out, &mut master, 2, Mode::Pr)?;
+    callbacks(out, &master)?;
+    down(out, &mut master, 1, Mode::Pr, Some([7; 32]))?;
+    next_grants(out, &mut master)?;
+    convert(out, &mut master, 1, Mode::Ex)?;
+    request(out, &mut master, 3, Mode::Cr)?;
+    down(out, &mut master, 2, Mode::Nl, None)?;
+    next_grants(out, &mut master)?;
+    Ok(text)
+}
+
+fn block(out: &mut String, master: &mut Master, node: u8, byte: u8) -> Result<(), NoMemory>
+    requires { node ≤ 4 }
+{
+    let waiting: u16 = if byte % 4 == 1 { 1 << node } else { 0 };
+    master.blocked(byte % 4 == 0, waiting);
+    writeln!(out, "blocked")?;
+    Ok(())
+}
+
+fn call(out: &mut String, master: &mut Master, draw: &mut Draw) -> Result<(), NoMemory> {
+    let kind = draw.below(8);
+    let node = 1 + draw.below(4) as u8;
+    let mode = mode_at(draw.below(6));
+    let byte = draw.below(256) as u8;
+    if kind < 3 {
+        request(out, master, node, mode)
+    } else if kind == 3 {
+        convert(out, master, node, mode)
+    } else if kind < 6 {
+        let value = if byte % 2 == 1 {
+            Some([byte; 32])
+        } else {
+            None
+        };
+        down(out, master, node, mode, value)
+    } else if kind == 6 {
+        next_grants(out, master)
+    } else if mode == Mode::Ex {
+        block(out, master, node, byte)
+    } else {
+        callbacks(out, master)
+    }
+}
+
+/// The checksum of the answers of a hundred lists of 24 calls each.
+pub fn hundred(alloc: Global, place: u64) -> Result<u32, NoMemory>
+    requires { place < 100 }
+{
+    let mut text = String::new(alloc);
+    for k in 0..100u64 {
+        let mut master = Master::new(alloc, 1);
+        let mut draw = Draw { x: 100 * place + k };
+        for _ in 0..24u64 {
+            call(&mut text, &mut master, &mut draw)?;
+        }
+    }
+    Ok(crc32(text.as_bytes()))
+}

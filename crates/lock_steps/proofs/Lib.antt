@@ -1,0 +1,16 @@
+pub mod Modes
+pub mod Running
+pub mod Basics
+pub mod Ways
+pub mod Mailing
+pub mod Tying
+pub mod Holding
+pub mod Claims
+pub mod Sets
+pub mod Tabling
+pub mod Turning
+pub mod Membering
+pub mod Listing
+pub mod Granting
+pub mod Exactly
+pub mod Example

@@ -1,0 +1,87 @@
+-- Each call of the lock manager's parts is a step of the lock, or a few, or none.
+use Rattle.std.specs.Prelude.{ℕ, ◌≡◌, ◌≢◌, ◌≤◌, Bool, true, false, []}
+use Rattle.std.specs.List.{AllByRecursion}
+use Rattle.glock_names.specs.declared.LockName.{LockName}
+use Rattle.dlm_modes.specs.Modes.{go_together, is_at_least}
+use Rattle.fencing.specs.NodeSets.{has}
+use Rattle.dlm_holder.specs.Holdings.{mode_in}
+use Rattle.dlm_master.specs.Locks.{free_lock}
+use Rattle.lock_laws.specs.Lock.{Node, Sound, starting}
+use Rattle.lock_steps.specs.Runs.{Steps}
+use Rattle.lock_steps.specs.Parts.{Parts, Post, way}
+use Rattle.lock_steps.specs.Ties.{Tied, sight, present}
+use Rattle.lock_steps.specs.Calls.{MailCall, HolderCall, TableCall, MemberCall}
+
+-- the parts after a call are the machine after a list of its steps
+pub record Follows (lock : LockName) (l : ℕ → Node) (p : Parts) : Type 0 where
+  pub state : ℕ → Node
+  pub steps : Steps l state
+  pub tied : Tied lock p state
+
+abbrev pub MailIsNoStep : Type 0
+MailIsNoStep = (lock : LockName) (p : Parts) (post : Post) (l : ℕ → Node) → MailCall p.post post → Tied lock p l → Tied lock (record p { post = post }) l
+
+abbrev pub HolderCallsAreSteps : Type 0
+HolderCallsAreSteps = (lock : LockName) (p q : Parts) (l : ℕ → Node) → HolderCall lock p q → Sound l → Tied lock p l → Follows lock l q
+
+abbrev pub TableCallsAreSteps : Type 0
+TableCallsAreSteps = (lock : LockName) (p q : Parts) (l : ℕ → Node) → TableCall lock p q → Sound l → Tied lock p l → Follows lock l q
+
+abbrev pub MemberCallsAreSteps : Type 0
+MemberCallsAreSteps = (lock : LockName) (p q : Parts) (l : ℕ → Node) → MemberCall lock p q → Sound l → Tied lock p l → Follows lock l q
+
+-- ---- every list of calls
+
+pub data Call (lock : LockName) (p : Parts) : Parts → Type 0 where
+  OfMail : (post : Post) → MailCall p.post post → Call lock p (record p { post = post })
+  OfHolder : (q : Parts) → HolderCall lock p q → Call lock p q
+  OfTable : (q : Parts) → TableCall lock p q → Call lock p q
+  OfMembers : (q : Parts) → MemberCall lock p q → Call lock p q
+
+pub data Calls (lock : LockName) (p : Parts) : Parts → Type 0 where
+  NoCall : Calls lock p p
+  AndCall : (q r : Parts) → Calls lock p q → Call lock q r → Calls lock p r
+
+-- the start: nothing is asked for, held or under way, and the master of the first view, which needs no reports, knows which slots
+-- wait
+pub record Begins (lock : LockName) (p : Parts) : Type 0 where
+  pub master : p.master ≤ 8
+  pub holders : (k : ℕ) → k ≤ 8 → p.holders k ≡ []
+  pub table : present p lock ≡ free_lock
+  pub members : (k : ℕ) → k ≤ 8 → has p.table.members k ≡ has p.membership.members k
+  pub ended : (k : ℕ) → k ≤ 8 → has p.table.ended k ≡ has p.membership.members k
+  pub told : (k : ℕ) → k ≤ 8 → has p.membership.waiting k ≡ true → has p.table.master.waiting k ≡ true
+  pub fresh : (k : ℕ) → k ≤ 8 → p.fresh k ≡ false
+  pub taken : (k : ℕ) → k ≤ 8 → p.taken k ≡ has p.membership.members k
+  pub mail : (i k : ℕ) → i ≤ 8 → k ≤ 8 → way p.post i k ≡ []
+
+abbrev pub EveryListIsSteps : Type 0
+EveryListIsSteps = (lock : LockName) (p q : Parts) → Begins lock p → Calls lock p q
+    → (runs : ℕ → Bool) × (waits : ℕ → Bool) × (l : ℕ → Node) × Steps (λ k. starting (runs k) (waits k)) l × Tied lock q l
+
+-- what holds of the parts after every list of calls
+pub record AreRight (lock : LockName) (p : Parts) : Type 0 where
+  -- two members hold the lock in modes that go together; and what is granted to one and on its way goes with what the other holds
+  pub compatible : (i k : ℕ) → i ≤ 8 → k ≤ 8 → i ≢ k → has p.membership.members i ≡ true → has p.membership.members k ≡ true
+      → go_together (mode_in (p.holders i) lock) (mode_in (p.holders k) lock) ≡ true
+  pub grants_compatible : (i k : ℕ) → i ≤ 8 → k ≤ 8 → i ≢ k → has p.membership.members k ≡ true
+      → AllByRecursion (λ mode. go_together mode (mode_in (p.holders k) lock) ≡ true) (sight lock p i).down
+  -- of a member whose reports have ended the table has at least what it holds, and what is granted to it and on its way
+  pub covers : (k : ℕ) → k ≤ 8 → has p.membership.members k ≡ true → p.taken k ≡ true → has p.table.ended k ≡ true
+      → is_at_least ((sight lock p k).table) (mode_in (p.holders k) lock) ≡ true
+  pub covers_grants : (k : ℕ) → k ≤ 8 → p.taken k ≡ true → has p.table.ended k ≡ true
+      → AllByRecursion (λ mode. is_at_least ((sight lock p k).table) mode ≡ true) (sight lock p k).down
+
+abbrev pub EveryListIsRight : Type 0
+EveryListIsRight = (lock : LockName) (p q : Parts) → Begins lock p → Calls lock p q → AreRight lock q
+
+-- the table is no rebuild's any more, every member of the view has told all, and no slot waits
+pub record MayGrant (p : Parts) : Type 0 where
+  pub rebuilt : p.table.master.rebuild ≡ false
+  pub heard : (i : ℕ) → i ≤ 8 → has p.table.members i ≡ true → has p.table.ended i ≡ true
+  pub runs : (i : ℕ) → i ≤ 8 → has p.membership.waiting i ≡ false
+
+-- after every list of calls, whichever call then sets a grant on its way to a node makes it only where that is so
+abbrev pub GrantsWait : Type 0
+GrantsWait = (lock : LockName) (a p q : Parts) (k : ℕ) → Begins lock a → Calls lock a p → Call lock p q → k ≤ 8
+    → (sight lock p k).down ≡ [] → (sight lock q k).down ≢ [] → MayGrant p

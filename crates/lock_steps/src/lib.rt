@@ -1,0 +1,83 @@
+//! The calls of the lock manager's parts as steps of one lock: `lock_laws` says what holds of it.
+#![tactic(auto)]
+
+ghost use Rattle.lock_steps.specs.Modes.{GoAsModes, CoverAsModes, HaveModesOfTheirOwn};
+ghost use Rattle.lock_steps.specs.Runs.{EveryRunIsCompatible, EveryTableCovers};
+ghost use Rattle.lock_steps.specs.Example.{ListCanBeMade};
+ghost use Rattle.lock_steps.specs.Exact.{TablesAreExact, RequestsFindNothing, LowersOnlyLower};
+ghost use Rattle.lock_steps.specs.Laws.{MailIsNoStep, HolderCallsAreSteps, TableCallsAreSteps, MemberCallsAreSteps, EveryListIsSteps, EveryListIsRight, GrantsWait};
+
+/// A law: states go together and are at most one another as their modes.
+pub fn states_are_modes()
+    ensures together { GoAsModes }
+    ensures covers { CoverAsModes }
+    ensures own { HaveModesOfTheirOwn }
+{}
+
+/// A law: over every list of steps from the start held states go together, those of stopped nodes until they are recovered
+/// among them.
+pub fn every_run_is_compatible()
+    ensures { EveryRunIsCompatible }
+{}
+
+/// A law: over every list of steps from the start, once a node's reports have ended the master's table is at least what the
+/// node holds, and what is granted to it and on its way.
+pub fn every_table_covers()
+    ensures { EveryTableCovers }
+{}
+
+/// A law: a call of the mail is no step of a lock.
+pub fn mail_is_no_step()
+    ensures { MailIsNoStep }
+{}
+
+/// A law: a call of a node's holder is a step of the lock, or none.
+pub fn a_holder_call_is_a_step()
+    ensures { HolderCallsAreSteps }
+{}
+
+/// A law: a call of a master or of a rebuild is a list of steps of the lock.
+pub fn a_table_call_is_steps()
+    ensures { TableCallsAreSteps }
+{}
+
+/// A law: a stop, a fence, a recovery, a join and a new view are a step of each lock, or none.
+pub fn a_member_call_is_steps()
+    ensures { MemberCallsAreSteps }
+{}
+
+/// A law: every list of calls from the start is a list of steps of the lock.
+pub fn every_list_is_steps()
+    ensures { EveryListIsSteps }
+{}
+
+/// A law: after every list of calls held modes go together, and a table has at least what is held and granted.
+pub fn every_list_is_right()
+    ensures { EveryListIsRight }
+{}
+
+/// A law: a grant is made only where the table is no rebuild's, every member of the view has told all, and no slot waits.
+pub fn grants_wait()
+    ensures { GrantsWait }
+{}
+
+/// A law: of a node that has taken the present view, and no ask of which stands, a table has exactly what the node holds once all
+/// that it told has come. So a rebuilt table has each node's last report.
+pub fn tables_are_exact()
+    ensures { TablesAreExact }
+{}
+
+/// A law: who asks holds nothing by the table and waits for nothing, as the master's call requires.
+pub fn requests_find_nothing()
+    ensures { RequestsFindNothing }
+{}
+
+/// A law: who lowers a lock has at least that mode by the table.
+pub fn lowers_only_lower()
+    ensures { LowersOnlyLower }
+{}
+
+/// A law: the calls can be made, from a start that there is. So what holds of every list of them isn't said of none.
+pub fn a_list_can_be_made()
+    ensures { ListCanBeMade }
+{}

@@ -1,0 +1,175 @@
+//! The messages that are under way between the nodes: for each ordered pair of nodes a queue, first in, first out.
+#![tactic(auto)]
+
+ghost use Rattle.std.specs.Prelude.{◌≡◌, ◌≤◌, ◌<◌, ◌+◌, ◌*◌, ◌↔◌, ℕ, [], ◌∷◌, ◌++◌, length, IsTrue, IfOk, OnOk, OnErr, IfNone, option_to_list};
+ghost use Rattle.std.specs.List.{AllByRecursion};
+ghost use Rattle.mail_queues.specs.Queues.{word_of, messages_of, room_of, IsQueueNow};
+ghost use Rattle.mail_queues.specs.Order.{ComesOnceInOrder};
+
+mod queue;
+
+use dlm_modes::{MailWord, Mode, ValueBlock};
+use glock_names::LockName;
+use no_memory::NoMemory;
+pub use queue::Queue;
+use std::alloc::Global;
+use std::marker::Model;
+
+/// What a message says.
+#[derive(Clone, Copy, Debug, PartialEq, Eq)]
+pub enum Body {
+    /// The sender asks the lock's master for it.
+    Request(LockName, Mode),
+    /// The sender, which holds the lock, asks its master for another mode.
+    Convert(LockName, Mode),
+    /// The sender now holds the lock in this mode only, and may give it a value.
+    Down(LockName, Mode, Option<[u8; 32]>),
+    /// The master grants the lock.
+    Grant(LockName, Mode, ValueBlock),
+    /// The master tells a holder that it stands in the way, and the strongest mode that it may keep.
+    Callback(LockName, Mode),
+    /// The sender tells a lock's new master what it holds.
+    Report(LockName, Mode, ValueBlock),
+    /// The sender's reports have ended.
+    End,
+    /// There is a new view, or a slot was recovered.
+    View,
+}
+
+/// A message, and the number of the view in which it was sent. Whoever takes one of an older view drops it.
+#[derive(Clone, Copy, Debug, PartialEq, Eq)]
+pub struct Message {
+    pub generation: u64,
+    pub body: Body,
+}
+
+impl Message {
+    /// The kind of the message.
+    pub fn word(&self) -> MailWord
+        ensures { result ≡ word_of self.now.body }
+    {
+        match self.body {
+            Body::Request(_, _) => MailWord::Request,
+            Body::Convert(_, _) => MailWord::Convert,
+            Body::Down(_, _, _) => MailWord::Down,
+            Body::Grant(_, _, _) => MailWord::Grant,
+            Body::Callback(_, _) => MailWord::Callback,
+            Body::Report(_, _, _) => MailWord::Report,
+            Body::End => MailWord::End,
+            Body::View => MailWord::View,
+        }
+    }
+}
+
+/// The queues between the nodes 0 to 8, one for each ordered pair.
+#[derive(Drop)]
+pub struct Mail {
+    // That of a pair stands at place 9 * from + to.
+    queues: Vec<Queue>,
+}
+
+impl Model for Mail {
+    ghost use Rattle.std.specs.Prelude.{List, ◌≡◌, length};
+    ghost use Rattle.mail_queues.specs.State.{QueueState};
+
+    ghost Value = { List QueueState };
+
+    ghost view = { λ m. m.queues.items };
+
+    ghost invariant = { λ m. length m.queues.items ≡ 81 };
+}
+
+fn place(from: u8, to: u8) -> usize
+    requires from { from ≤ 8 }
+    requires to { to ≤ 8 }
+    ensures value { result ≡ 9 * from + to }
+    ensures within { result < 81 }
+{
+    9 * from as usize + to as usize
+}
+
+fn make_queues(alloc: Global) -> Result<Vec<Queue>, NoMemory>
+    ensures count { IfOk result (λ v. length v.items ≡ 81) }
+    ensures empty { IfOk result (λ v. AllByRecursion (λ q. q.messages ≡ []) v.items) }
+{
+    let mut queues = Vec::with_capacity(alloc, 81)?;
+    for _ in 0..81usize {
+        queues.push(Queue::new(alloc))?;
+    }
+    Ok(queues)
+}
+
+impl Mail {
+    /// Nothing is under way.
+    pub fn new(alloc: Global) -> Result<Mail, NoMemory>
+        ensures { IfOk result (λ mail. (from to : ℕ) → messages_of mail from to ≡ []) }
+    {
+        Ok(Mail {
+            queues: make_queues(alloc)?,
+        })
+    }
+
+    /// Whether nothing is under way from the one node to the other.
+    pub fn is_empty(&self, from: u8, to: u8) -> bool
+        requires from { from ≤ 8 }
+        requires to { to ≤ 8 }
+        ensures { IsTrue result ↔ (messages_of self.now from to ≡ []) }
+    {
+        self.queues[place(from, to)].is_empty()
+    }
+
+    /// Sends a message. Where there is no memory nothing is sent.
+    pub fn send(&mut self, from: u8, to: u8, message: Message) -> Result<(), NoMemory>
+        requires from { from ≤ 8 }
+        requires to { to ≤ 8 }
+        ensures ok { OnOk result (IsQueueNow self.old self.new from to (messages_of self.old from to ++ message ∷ [])) }
+        ensures err { OnErr result (IsQueueNow self.old self.new from to (messages_of self.old from to)) }
+        ensures room { room_of self.old from to ≤ room_of self.new from to + 1 }
+    {
+        let queue = &mut self.queues[place(from, to)];
+        queue.send(message)
+    }
+
+    /// Makes room for this many more messages from the one node to the other.
+    pub fn reserve(&mut self, from: u8, to: u8, more: usize) -> Result<(), NoMemory>
+        requires from { from ≤ 8 }
+        requires to { to ≤ 8 }
+        ensures ok { OnOk result (more ≤ room_of self.new from to) }
+        ensures keeps { IsQueueNow self.old self.new from to (messages_of self.old from to) }
+        ensures room { room_of self.old from to ≤ room_of self.new from to }
+    {
+        let queue = &mut self.queues[place(from, to)];
+        queue.reserve(more)
+    }
+
+    /// Sends a message into room that was made before. It takes no memory.
+    pub fn send_reserved(&mut self, from: u8, to: u8, message: Message)
+        requires from { from ≤ 8 }
+        requires to { to ≤ 8 }
+        requires room { 0 < room_of self.old from to }
+        ensures sent { IsQueueNow self.old self.new from to (messages_of self.old from to ++ message ∷ []) }
+        ensures room { room_of self.old from to ≤ room_of self.new from to + 1 }
+    {
+        let queue = &mut self.queues[place(from, to)];
+        queue.send_reserved(message);
+    }
+
+    /// Takes the first message from the one node to the other. `None` exactly where nothing is under way.
+    pub fn receive(&mut self, from: u8, to: u8) -> Option<Message>
+        requires from { from ≤ 8 }
+        requires to { to ≤ 8 }
+        ensures first { messages_of self.old from to ≡ option_to_list result ++ messages_of self.new from to }
+        ensures none { IfNone result (messages_of self.old from to ≡ []) }
+        ensures others { IsQueueNow self.old self.new from to (messages_of self.new from to) }
+        ensures room { room_of self.old from to ≤ room_of self.new from to }
+    {
+        let queue = &mut self.queues[place(from, to)];
+        queue.receive()
+    }
+}
+
+/// A law: over every list of calls, what is received from one node to another is what was sent, each message once and in the
+/// order in which it was sent; what isn't received yet is under way.
+pub fn messages_come_once_in_their_order()
+    ensures { ComesOnceInOrder }
+{}
