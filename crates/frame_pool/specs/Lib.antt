@@ -1,0 +1,9 @@
+pub mod Frames
+pub mod Inside
+pub mod Lending
+pub mod Ownership
+pub mod Places
+pub mod Lends
+pub mod Parts
+pub mod InRegion
+pub mod LendsPart

@@ -1,0 +1,4 @@
+pub mod States
+pub mod Keys
+pub mod Table
+pub mod Calls
