@@ -1,0 +1,16 @@
+pub mod Inks
+pub mod WordsBack
+pub mod CallsBack
+pub mod ClientsBack
+pub mod LinesBack
+pub mod ScriptsBack
+pub mod Rows
+pub mod Stops
+pub mod Walk
+pub mod Begins
+pub mod FreshNames
+pub mod Stages
+pub mod Texts
+pub mod FirstWrong
+pub mod ReadParts
+pub mod ReadScripts

@@ -1,0 +1,21 @@
+//! What the grammar of scripts means. The functions do nothing: their contracts are the laws.
+#![tactic(auto)]
+
+ghost use Rattle.script_laws.specs.Printing.{ReadBack, ReadCanBePrinted};
+ghost use Rattle.script_laws.specs.Places.{FirstWrongIsTold};
+
+/// A law: a script that is printed is read back as the same script.
+pub fn a_printed_script_is_read_back()
+    ensures { ReadBack }
+{}
+
+/// A law: the place that is told of a wrong text is that of its first wrong word. No script goes on from the words up to and
+/// with it; and some script goes on from the words before it.
+pub fn first_wrong_word_is_told()
+    ensures { FirstWrongIsTold }
+{}
+
+/// A law: whatever a text is read as is well formed, and can be printed where that is not too long for a script.
+pub fn a_read_script_can_be_printed()
+    ensures { ReadCanBePrinted }
+{}
