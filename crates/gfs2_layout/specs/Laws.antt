@@ -3,7 +3,7 @@ use Rattle.std.specs.Prelude.{ℕ, ◌≡◌, ◌<◌, ◌≤◌, ⊤, List, [],
 use Rattle.std.specs.List.{All, AllByRecursion}
 use Rattle.gfs2_layout.specs.Bytes.{u16_at}
 use Rattle.gfs2_layout.specs.Fields.{Field, HasItsWidth}
-use Rattle.gfs2_layout.specs.Structures.{header_read, superblock_read, dinode_read, kind_fault, dirent_read, rindex_read, group_read, leaf_read, log_read}
+use Rattle.gfs2_layout.specs.Structures.{header_read, superblock_read, dinode_read, kind_fault, dirent_read, rindex_read, group_read, leaf_read, log_read, dinode_length}
 use Rattle.gfs2_layout.specs.Writing.{header_fields, header_put, superblock_fields, superblock_put, dinode_fields, dinode_put, dirent_fields, dirent_put, rindex_fields, rindex_put, group_fields, group_put, leaf_fields, leaf_put, log_fields, log_put}
 use Rattle.gfs2_layout.specs.Area.{slot_at, slots_of, HasItsName, IsArea}
 use Rattle.gfs2_layout.specs.declared.fault.LayoutFault.{LayoutFault}
@@ -53,7 +53,7 @@ pub record IsFitDirent (d : Dirent) : Type 0 where
 pub record StructuresReadBack : Type 0 where
   pub header : IsReadBack 24 IsAny (λ (h : MetaHeader). HaveWidths (header_fields h)) stay header_put header_read
   pub superblock : IsReadBack 272 HasTextLengths (λ (s : SuperBlock). HaveWidths (superblock_fields s)) stay superblock_put superblock_read
-  pub dinode : IsReadBack 232 IsAny (λ (d : Dinode). HaveWidths (dinode_fields d)) stay dinode_put dinode_read
+  pub dinode : IsReadBack dinode_length IsAny (λ (d : Dinode). HaveWidths (dinode_fields d)) stay dinode_put dinode_read
   pub dirent : IsReadBack 40 IsAny IsFitDirent stay dirent_put dirent_read
   pub rindex : IsReadBack 96 IsAny (λ (r : Rindex). HaveWidths (rindex_fields r)) stay rindex_put rindex_read
   pub group : IsReadBack 128 IsAny (λ (g : GroupHeader). HaveWidths (group_fields g)) stay group_put group_read

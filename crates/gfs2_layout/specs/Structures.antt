@@ -98,19 +98,22 @@ dinode_of bytes = record {
   ctime_nsec = u32_at 184 bytes;
 }
 
-abbrev pub dinode_read : List ℕ → Result Dinode LayoutFault
-dinode_read bytes = answer (header_fault 232 4 400 bytes) (dinode_of bytes)
-
--- what a dinode is, by its mode's file type
-abbrev pub is_directory : Dinode → Bool
-is_directory d = d.mode / 4096 == 4
-
-abbrev pub is_regular : Dinode → Bool
-is_regular d = d.mode / 4096 == 8
-
--- the content of a stuffed inode follows its dinode's 232 bytes
+-- how many bytes a dinode has; the content of a stuffed inode follows them
 abbrev pub dinode_length : ℕ
 dinode_length = 232
+
+abbrev pub dinode_read : List ℕ → Result Dinode LayoutFault
+dinode_read bytes = answer (header_fault dinode_length 4 400 bytes) (dinode_of bytes)
+
+-- the four bits of a mode that say of which type a file is; those above them say nothing of it
+abbrev pub file_type : ℕ → ℕ
+file_type mode = mode / 4096 % 16
+
+abbrev pub is_directory : Dinode → Bool
+is_directory d = file_type d.mode == 4
+
+abbrev pub is_regular : Dinode → Bool
+is_regular d = file_type d.mode == 8
 
 abbrev pub dirent_of : List ℕ → Dirent
 dirent_of bytes = record {

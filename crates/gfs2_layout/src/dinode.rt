@@ -6,7 +6,10 @@ use crate::header::{MAGIC, fault_of_header};
 use crate::numbers::{u16_at, u32_at, u64_at};
 use crate::{Inum, LayoutFault};
 
-/// A dinode (`gfs2_dinode`), the first 232 bytes of its block. Sizes are in bytes, times in seconds.
+/// How many bytes a dinode has. What its block holds behind them is the content of a stuffed inode, or pointers.
+pub const DINODE_LENGTH: usize = 232;
+
+/// A dinode (`gfs2_dinode`), the first bytes of its block. Sizes are in bytes, times in seconds.
 #[derive(Clone, Copy, Debug, PartialEq, Eq)]
 pub struct Dinode {
     pub num: Inum,
@@ -38,7 +41,7 @@ pub struct Dinode {
 }
 
 impl Dinode {
-    ghost use Rattle.gfs2_layout.specs.Structures.{dinode_of, dinode_read, is_directory, is_regular};
+    ghost use Rattle.gfs2_layout.specs.Structures.{dinode_of, dinode_read, dinode_length, is_directory, is_regular};
     ghost use Rattle.gfs2_layout.specs.Writing.{dinode_put};
 
     /// Reads a dinode. Faults: `Short` below 232 bytes, `Magic`, `Kind` other than 4, `Format` other than
@@ -46,14 +49,14 @@ impl Dinode {
     pub fn read(bytes: &[u8]) -> Result<Dinode, LayoutFault>
         ensures { result ≡ dinode_read bytes.now }
     {
-        match fault_of_header(bytes, 232, 4, 400) {
+        match fault_of_header(bytes, DINODE_LENGTH, 4, 400) {
             Some(fault) => Err(fault),
             None => Ok(Dinode::fields(bytes)),
         }
     }
 
     fn fields(bytes: &[u8]) -> Dinode
-        requires { 232 ≤ length bytes.now }
+        requires { dinode_length ≤ length bytes.now }
         ensures { result ≡ dinode_of bytes.now }
     {
         Dinode {
@@ -86,10 +89,10 @@ impl Dinode {
 
     /// Writes the dinode. Pads and the reserved bytes keep theirs.
     pub fn write(&self, bytes: &mut [u8])
-        requires { 232 ≤ length bytes.old }
+        requires { dinode_length ≤ length bytes.old }
         ensures bytes { bytes.new ≡ dinode_put self.now bytes.old }
         ensures read { dinode_read bytes.new ≡ Ok self.now }
-        ensures behind { drop 232 bytes.new ≡ drop 232 bytes.old }
+        ensures behind { drop dinode_length bytes.new ≡ drop dinode_length bytes.old }
     {
         let fields = [
             (0, U32(MAGIC)),
@@ -125,17 +128,17 @@ impl Dinode {
         put_fields(bytes, &fields);
     }
 
-    /// Whether the mode is a directory's.
+    /// Whether the mode's file type (`S_IFMT`, 0o170000) is a directory's (`S_IFDIR`).
     pub fn is_directory(&self) -> bool
         ensures { result ≡ is_directory self.now }
     {
-        self.mode / 4096 == 4
+        self.mode / 4096 % 16 == 4
     }
 
-    /// Whether the mode is a regular file's.
+    /// Whether the mode's file type is a regular file's (`S_IFREG`).
     pub fn is_regular(&self) -> bool
         ensures { result ≡ is_regular self.now }
     {
-        self.mode / 4096 == 8
+        self.mode / 4096 % 16 == 8
     }
 }

@@ -4,6 +4,7 @@
 mod area;
 mod bitmap;
 mod checksum;
+mod device;
 mod dinode;
 mod dirent;
 mod fault;
@@ -21,7 +22,8 @@ mod superblock;
 
 pub use area::{Record, find_record, is_area, next_record};
 pub use bitmap::{pack, put_state, state_at};
-pub use dinode::Dinode;
+pub use device::superblock_block;
+pub use dinode::{DINODE_LENGTH, Dinode};
 pub use dirent::Dirent;
 pub use fault::LayoutFault;
 pub use group_header::GroupHeader;

@@ -197,6 +197,11 @@ fn each_field_is_at_its_place(rt: HostRuntime) {
     let bytes: [u8; 232] = laid_out(&rt, &DINODE, &[]);
     assert_eq!(rt; Dinode::read(&bytes), Ok(DINODE_READ));
     assert!(rt; DINODE_READ.is_regular() && !DINODE_READ.is_directory());
+    let marked = Dinode {
+        mode: 0xffff_41ed,
+        ..DINODE_READ
+    };
+    assert!(rt; marked.is_directory() && !marked.is_regular());
     let header = MetaHeader {
         kind: 4,
         format: 400,

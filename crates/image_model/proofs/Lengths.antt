@@ -96,7 +96,7 @@ module _ (im : Image) (owners : Owners) (large : 512 ≤ im.size) (a : ℕ) (din
     ]
       where
         differ : (d : Dinode) → is_directory d ≡ true → is_regular d ≡ true → ⊥
-        differ d e f = absurd (omega (arith, eqb-true (d.mode / 4096) 4 e, eqb-true (d.mode / 4096) 8 f))
+        differ d e f = absurd (omega (arith, eqb-true (d.mode / 4096 % 16) 4 e, eqb-true (d.mode / 4096 % 16) 8 f))
 
     place_low : (p : ℕ) → p < (ring_of (holding im owners a)).places → p < content_count (holding im owners a)
     place_low p low =

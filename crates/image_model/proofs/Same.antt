@@ -42,7 +42,7 @@ module _ (im : Image) (owners : Owners) (a : ℕ) (dinode : is_dinode (owners a)
   unit_same = ap (λ d. if dir d then im.size - header_length else im.size) dinode_same
     where
       dir : Dinode → Bool
-      dir d = d.mode / 4096 == 4
+      dir d = d.mode / 4096 % 16 == 4
 
   pub count_same : content_count (holding im owners a) ≡ content_count (every im a)
   count_same = ap₂ pieces (ap (λ (d : Dinode). d.size) dinode_same) unit_same

@@ -11,6 +11,7 @@ use Rattle.std.specs.declared.cmp.Ordering.TheVariants.{Less, Equal, Greater}
 use Rattle.std.specs.Cmp.Lexicographic.{nat_list_cmp_total}
 use Rattle.file_tree.specs.Tree.{Tree, Entries, file, dir, none, entry, look, name_order, if_equal, IsBelowFirst, IsTree, AreEntries}
 use Rattle.image_model.specs.Flat.{Path, Thing, AFile, ADir, thing_in, tree_at, thing_at}
+use Rattle.file_tree.proofs.MapLaws.{same_order as same_from_order}
 
 pub same_or_not : (n m : List ℕ) → (n ≡ m) ⊎ (n ≢ m)
 same_or_not n m = elim (cases_Bool (bytes_eq n m)) [
@@ -30,9 +31,6 @@ not_equal Greater a b e = refl
 
 order_self : (n : List ℕ) → name_order n n ≡ Equal
 order_self n = is_equal _ (is_eq-slice_cmp n n ∙ (bytes_eq-Decides n n).1 refl)
-
-same_from_order : (n m : List ℕ) → name_order n m ≡ Equal → n ≡ m
-same_from_order n m e = (bytes_eq-Decides n m).0 (sym (is_eq-slice_cmp n m) ∙ ap is_eq e)
 
 unequal_test : (n m : List ℕ) → n ≢ m → bytes_eq n m ≡ false
 unequal_test n m d = elim (cases_Bool (bytes_eq n m)) [ inl e ↦ absurd (d ((bytes_eq-Decides n m).0 e)) | inr e ↦ e ]

@@ -1,5 +1,6 @@
 -- The images that are mounted, among those that stand: what else they have.
 use Rattle.std.specs.Prelude.{ℕ, ◌≡◌, ◌⊎◌, ◌^◌, ◌<◌, ◌≤◌, List, length, sum_by, codes, Some}
+use Rattle.profile_limits.specs.Limits.{least_journal_blocks, most_blocks, most_group_blocks, most_groups, most_journal_blocks, most_journals}
 use Rattle.gfs2_layout.specs.declared.log_header.LogHeader.{LogHeader}
 use Rattle.gfs2_layout.specs.declared.rindex.Rindex.{Rindex}
 use Rattle.gfs2_layout.specs.Journal.{ring_of, head_in}
@@ -15,7 +16,7 @@ HasPlainMaster im l = (name : List ℕ) (d : ℕ) → LeadsTo im l.master name d
 -- the names in `jindex` are `journal0`, `journal1` and so on, without a gap, from one to eight
 pub record HasJournals (im : Image) (l : Layout) : Type 0 where
   pub some : 1 ≤ length l.journals
-  pub few : length l.journals ≤ 8
+  pub few : length l.journals ≤ most_journals
   pub there : (j d : ℕ) → IsJournalAt l j d → LeadsTo im l.jindex (journal_name j) d
   pub others : (name : List ℕ) (d : ℕ) → LeadsTo im l.jindex name d → (j : ℕ) × IsJournalAt l j d × (name ≡ journal_name j)
 
@@ -30,9 +31,9 @@ pub record IsInProfile (im : Image) (l : Layout) : Type 0 where
   pub bsize : (superblock_in im).bsize ≡ im.size
   pub bsize_shift : 2 ^ (superblock_in im).bsize_shift ≡ im.size
   pub master : HasPlainMaster im l
-  pub device : im.count ≤ 131072
+  pub device : im.count ≤ most_blocks
   pub journals : HasJournals im l
-  pub journal : (j d : ℕ) → IsJournalAt l j d → (512 ≤ (ring_of (every im d)).places) × ((ring_of (every im d)).places ≤ 65536)
-  pub groups : (1 ≤ length l.groups) × (length l.groups ≤ 64)
-  pub group_blocks : group_length l.groups ≤ 128
+  pub journal : (j d : ℕ) → IsJournalAt l j d → (least_journal_blocks ≤ (ring_of (every im d)).places) × ((ring_of (every im d)).places ≤ most_journal_blocks)
+  pub groups : (1 ≤ length l.groups) × (length l.groups ≤ most_groups)
+  pub group_blocks : group_length l.groups ≤ most_group_blocks
   pub sequence : (j d : ℕ) (head : LogHeader) → IsJournalAt l j d → head_in (ring_of (every im d)) ≡ Some head → head.sequence < 2 ^ 63

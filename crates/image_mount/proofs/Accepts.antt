@@ -35,10 +35,7 @@ use Rattle.image_mount.specs.declared.fault.MountFault.TheVariants as fault
 use Rattle.image_mount.specs.declared.field.Field.{Field}
 use Rattle.image_mount.proofs.Names.{led_by_file}
 use Rattle.image_mount.proofs.JournalNames.{count_named}
-
-both_left : (p q : Bool) → (p && q) ≡ true → p ≡ true
-both_left true q e = refl
-both_left false q e = e
+use Rattle.image_model.proofs.Rows.{and_left as both_left}
 
 both_right : (p q : Bool) → (p && q) ≡ true → q ≡ true
 both_right true q e = e

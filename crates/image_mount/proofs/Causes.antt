@@ -18,6 +18,7 @@ use Rattle.image_mount.specs.declared.field.Field.{Field}
 use Rattle.image_mount.specs.declared.field.Field.TheVariants as field
 use Rattle.image_mount.specs.declared.fault.MountFault.{MountFault}
 use Rattle.image_mount.specs.declared.fault.MountFault.TheVariants as fault
+pub use Rattle.dinode_tree.proofs.Dinodes.{lacks}
 
 -- a rule that is broken, where the formats are known
 pub told : (im : Image) (f : MountFault) (b rule : ℕ) → f ≡ fault.Damaged b rule → HasFormat im → Breaks im rule b → RefusesRightly im f
@@ -66,10 +67,6 @@ right_format im s size super read of format sharing same shift = record {
   bsize = sym (ap (λ (t : SuperBlock). t.bsize) read) ∙ same ∙ of;
   bsize_shift = sym (ap (λ (t : SuperBlock). 2 ^ t.bsize_shift) read) ∙ shift ∙ of;
 }
-
--- a test that failed
-pub lacks : {P : Type 0} (b : Bool) → IsTrue b ↔ P → b ≡ false → ¬ P
-lacks b test failed p = let t : IsTrue false = subst IsTrue failed (test.1 p) in grind arith
 
 -- a test that held
 pub has : {P : Type 0} (b : Bool) → IsTrue b ↔ P → b ≡ true → P

@@ -13,7 +13,7 @@ use Rattle.image_mount.specs.Mounted.{Journal, MountedValue, IsMounted, IsOfProf
 use Rattle.image_mount.specs.Refusals.{RefusesRightly, IsExcused}
 use Rattle.image_mount.specs.Rings.{IsSearched, AreRings, AreJournals, IsLowJournal, IsRingOf}
 use Rattle.image_mount.specs.System.{IsSystemOf, layout_of}
-use Rattle.image_mount.specs.Table.{Kept}
+use Rattle.image_mount.specs.Kept.{Kept}
 use Rattle.shared_disk.specs.Disk.{DiskState}
 use Rattle.image_mount.specs.declared.fault.MountFault.{MountFault}
 use Rattle.image_mount.specs.declared.journals.Ring.{Ring}

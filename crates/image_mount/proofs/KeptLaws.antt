@@ -3,7 +3,7 @@ use Rattle.std.proofs.Common.{◌≡◌, ◌⊎◌, inl, inr, All, ℕ, zero, su
 use Rattle.std.proofs.lemmas.Option.{gets}
 use Rattle.std.proofs.lemmas.Grind.{common_steps}
 use Rattle.glock_names.specs.Views.{IsView}
-use Rattle.image_mount.specs.Table.{Kept, bytes_of, seen_of}
+use Rattle.image_mount.specs.Kept.{Kept, bytes_of, seen_of}
 
 pub count_kept : (x : List ℕ) (entries : List (Option (List ℕ))) (i : ℕ) → slice_get entries i ≡ Some None
     → count_by is_none (slice_set entries i (Some x)) + 1 ≡ count_by is_none entries

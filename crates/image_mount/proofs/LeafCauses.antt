@@ -19,7 +19,7 @@ use Rattle.image_model.specs.Claims.{of_leaf}
 use Rattle.image_model.specs.Image.{Image}
 use Rattle.image_model.specs.Owners.{Chained}
 use Rattle.image_model.specs.Rules.{HasRecordIn, IsHashedAt, table_too_small, table_too_large, table_size, records_format, leaf_too_deep, leaf_hash, leaf_entries, chain_depth, no_header, of_leaf as needs_leaf}
-use Rattle.image_model.proofs.LeafFaults.{leaf_reads, leaf_well}
+use Rattle.image_reader.proofs.LeafFaults.{leaf_reads, leaf_well}
 use Rattle.image_mount.specs.Found.{HasFormat, IsInChain, chain_next}
 use Rattle.image_mount.specs.Leaves.{IsLeafIn}
 use Rattle.image_mount.specs.Listing.{said, is_hashed_by}

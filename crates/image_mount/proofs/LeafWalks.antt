@@ -13,24 +13,24 @@ use Rattle.gfs2_layout.specs.Records.{Record, records_in}
 use Rattle.gfs2_layout.specs.declared.leaf.Leaf.{Leaf}
 use Rattle.image_model.specs.Claims.{every, Claims, HasArea, HasDirectory, master_of, behind_dinode, of_leaf}
 use Rattle.image_model.specs.Image.{Image, image_of}
-use Rattle.image_model.specs.Leaves.{HasClaim, AreChained, leaf_records}
+use Rattle.image_reader.specs.Leaves.{HasClaim, AreChained, leaf_records}
 use Rattle.image_model.specs.Owners.{Owner, Chained}
-use Rattle.image_model.specs.Owning.{owner_of, AreClaims, IsClash, IsEntered, IsEmpty}
+use Rattle.image_reader.specs.Owning.{owner_of, AreClaims, IsClash, IsEntered, IsEmpty}
 use Rattle.image_model.specs.Rules.{HasRecordIn, from_leaves, IsHashedAt}
 use Rattle.image_model.specs.Stands.{directory_count}
-use Rattle.image_model.specs.Going.{ClaimsOnly}
-use Rattle.image_model.specs.declared.hash_table.HashTable.{HashTable}
-use Rattle.image_model.specs.declared.image.ImageFault.{ImageFault}
-use Rattle.image_model.specs.declared.image.ImageFault.TheVariants as image
-use Rattle.image_model.specs.declared.owners.Claim.{Claim}
-use Rattle.image_model.proofs.Chains.{claim_of}
+use Rattle.image_reader.specs.Going.{ClaimsOnly}
+use Rattle.image_reader.specs.declared.hash_table.HashTable.{HashTable}
+use Rattle.image_reader.specs.declared.image.ImageFault.{ImageFault}
+use Rattle.image_reader.specs.declared.image.ImageFault.TheVariants as image
+use Rattle.image_reader.specs.declared.owners.Claim.{Claim}
+use Rattle.image_reader.proofs.Chains.{claim_of}
 use Rattle.image_model.proofs.Counts.{count_append}
-use Rattle.image_model.proofs.Directories.{not_both}
-use Rattle.image_model.proofs.Going.{entered_only, directory_test}
-use Rattle.image_model.proofs.Leaves.{unrise, in_rising, in_split, split_in, split_here, claim_kept, claim_entered, not_claimed, leaves_entered, leaves_known, chained_next, chained_known, chained_first, chained_stay, chained_end, all_claimed}
+use Rattle.image_reader.proofs.Directories.{not_both}
+use Rattle.image_reader.proofs.Going.{entered_only, directory_test}
+use Rattle.image_reader.proofs.Leaves.{unrise, in_rising, in_split, split_in, split_here, claim_kept, claim_entered, not_claimed, leaves_entered, leaves_known, chained_next, chained_known, chained_first, chained_stay, chained_end, all_claimed}
 use Rattle.image_model.proofs.Members.{IsIn, contained, is_in}
 use Rattle.image_model.proofs.Rising.{rising}
-use Rattle.image_model.proofs.WalkFaults.{clash, empty_claims, entered_if}
+use Rattle.image_reader.proofs.WalkFaults.{clash, empty_claims, entered_if}
 use Rattle.image_mount.specs.Found.{HasFormat, IsFirstOther, IsInChain, chain_head, ComesBefore, is_other, first_other, in_leaf}
 use Rattle.image_mount.specs.Found.{chain_next as chain_behind}
 use Rattle.image_mount.specs.Leaves.{IsLeafIn, IsPassed, block_of, IsListed, AreLeavesOf, IsFoundIn, IsOpen, IsWalked, IsClosed, ComesNext, IsNextLeaf, IsFirstTold, IsTableOf, HasEnded}

@@ -22,7 +22,7 @@ use Rattle.image_mount.specs.Refusals.{RefusesRightly}
 use Rattle.image_mount.specs.Rings.{IsPlace, IsSearched, IsNext, IsPlaceAt}
 use Rattle.image_mount.specs.Searching.{IsWanted, StopsRightly}
 use Rattle.image_mount.specs.System.{IsSystemOf}
-use Rattle.image_mount.specs.Table.{Kept, bytes_of}
+use Rattle.image_mount.specs.Kept.{Kept, bytes_of}
 use Rattle.image_mount.specs.declared.fault.MountFault.{MountFault}
 use Rattle.image_mount.specs.declared.fault.MountFault.TheVariants as fault
 use Rattle.image_mount.specs.declared.stop.Stop.{Stop}

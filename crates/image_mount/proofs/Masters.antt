@@ -16,9 +16,9 @@ use Rattle.image_model.specs.Claims.{every, Claims, HasInode, HasDirectory, firs
 use Rattle.image_model.specs.Image.{Image}
 use Rattle.image_model.specs.Owners.{Chained, Master}
 use Rattle.image_model.specs.Rules.{IsHashedAt, no_leaf, pointer_missing}
-use Rattle.image_model.specs.declared.hash_table.HashTable.{HashTable}
-use Rattle.image_model.proofs.Chains.{same_bits, run_some}
-use Rattle.image_model.proofs.Pieces.{pieces_cover}
+use Rattle.image_reader.specs.declared.hash_table.HashTable.{HashTable}
+use Rattle.image_reader.proofs.Chains.{same_bits, run_some}
+use Rattle.image_reader.proofs.Pieces.{pieces_cover}
 use Rattle.image_mount.specs.Found.{IsInChain, chain_head}
 use Rattle.image_mount.specs.Leaves.{IsMasterIn, IsTableOf, IsLeafIn}
 use Rattle.image_mount.specs.Refusals.{RefusesRightly}

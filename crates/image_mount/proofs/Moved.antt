@@ -20,7 +20,7 @@ use Rattle.image_mount.specs.Rings.{IsSearched, IsJournalIn, IsNext, HasPlaces, 
 use Rattle.image_mount.specs.Searching.{IsWorking}
 use Rattle.image_mount.specs.Leaves.{IsMasterIn}
 use Rattle.image_mount.specs.System.{IsMasterOf, IsNamedBy, IsSystemOf, layout_of}
-use Rattle.image_mount.specs.Table.{Kept, bytes_of}
+use Rattle.image_mount.specs.Kept.{Kept, bytes_of}
 use Rattle.image_mount.specs.declared.fault.MountFault.{MountFault}
 use Rattle.image_mount.specs.declared.fault.MountFault.TheVariants as fault
 use Rattle.image_mount.specs.declared.journals.Ring.{Ring}

@@ -9,7 +9,7 @@ use Rattle.gfs2_layout.specs.Records.{Record, records_in, is_dots}
 use Rattle.glock_names.specs.declared.steps.Entry.{Entry}
 use Rattle.image_model.specs.Claims.{every, Claims, root, master, below, first_leaf, next_leaf, in_dinode, in_leaf, LeadsTo}
 use Rattle.image_model.specs.Image.{Image}
-use Rattle.image_model.proofs.Directories.{leaf_is_hashed, not_both}
+use Rattle.image_reader.proofs.Directories.{leaf_is_hashed, not_both}
 use Rattle.image_mount.proofs.Records.{led_record, named_in as named_by}
 use Rattle.image_model.specs.Owners.{Owner, Named}
 use Rattle.image_model.specs.Rules.{HasRecords, from_dinode_block, from_leaves}

@@ -11,7 +11,7 @@ use Rattle.image_model.specs.Claims.{every, Claims, in_dinode, in_leaf, HasDirec
 use Rattle.image_model.specs.Image.{Image}
 use Rattle.image_model.specs.Owners.{Owner, parent_of, Named as named_by}
 use Rattle.image_model.specs.Rules.{Breaks, HasRecordIn, HasRecords, from_dinode_block, no_dot, no_dots, other_dot, other_dots}
-use Rattle.image_model.proofs.Directories.{leaf_is_hashed, not_both}
+use Rattle.image_reader.proofs.Directories.{leaf_is_hashed, not_both}
 use Rattle.image_mount.specs.Groups.{IsNamedIn}
 use Rattle.image_mount.specs.Listing.{said, AreAllRecords, AreCountedIn, AreRecordsOf, AreDistinct, IsDirectoryIn}
 use Rattle.image_mount.specs.declared.inodes.Inode.{Inode}

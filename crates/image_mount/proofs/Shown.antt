@@ -15,7 +15,7 @@ use Rattle.image_model.specs.Rules as rules
 use Rattle.image_mount.specs.Found.{HasFormat}
 use Rattle.image_mount.specs.Refusals.{RefusesRightly}
 use Rattle.image_mount.specs.Searching.{IsRead, of_call}
-use Rattle.image_mount.specs.Table.{Kept, seen_of, bytes_of}
+use Rattle.image_mount.specs.Kept.{Kept, seen_of, bytes_of}
 
 pub shown : (im : Image) (k : Kept) (a : ℕ) → IsRead im k → IsShown (seen_of k) a (every im a)
 shown im k a read = record {

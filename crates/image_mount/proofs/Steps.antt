@@ -6,19 +6,14 @@ use Rattle.glock_names.specs.Views.{Seen}
 use Rattle.dinode_tree.specs.Reading.{IsNeeded}
 use Rattle.dinode_tree.specs.Shown.{IsShown}
 use Rattle.image_mount.specs.Searching.{LacksBlock}
-use Rattle.image_mount.specs.Table.{Kept, seen_of}
+use Rattle.image_mount.specs.Kept.{Kept, seen_of}
 use Rattle.image_mount.specs.declared.stop.Stop.{Stop}
 use Rattle.image_mount.specs.declared.stop.Stop.TheVariants as stop
 use Rattle.glock_names.specs.Steps.{IfNeedBlock, IfIs}
 use Rattle.glock_names.specs.declared.steps.Missing.{Missing}
 use Rattle.glock_names.specs.declared.steps.Step.{Step}
 use Rattle.glock_names.specs.declared.steps.Step.TheVariants.{Is, NeedBlock}
-
-pub needed_at : {A : Type 0} (step : Step A) (m : Missing) (P : Missing → Type 0) → step ≡ NeedBlock m → IfNeedBlock (Ok step) P → P m
-needed_at {A} step m P is needed = subst (λ s. IfNeedBlock {A = A} (Ok s) P) is needed
-
-pub answer_at : {A : Type 0} (step : Step A) (answer : A) (P : A → Type 0) → step ≡ Is answer → IfIs (Ok step) P → P answer
-answer_at {A} step answer P is holds = subst (λ s. IfIs {A = A} (Ok s) P) is holds
+pub use Rattle.dinode_tree.proofs.Stepping.{needed_at, answer_at}
 
 -- ---- what a view shows by itself
 

@@ -1,5 +1,6 @@
 -- The superblock that was read.
 use Rattle.std.proofs.Common.{◌≡◌, ◌≤◌, ◌<◌, inl, ℕ, List, length, Option, None, Some, Ok, Err, refl, sym, ap, subst, ◌∙◌, arith}
+use Rattle.profile_limits.specs.Limits.{most_blocks}
 use Rattle.std.proofs.lemmas.Bool.Decides.{nat_tests}
 use Rattle.gfs2_layout.specs.Device.{superblock_place}
 use Rattle.gfs2_layout.specs.Headers.{HasHeader}
@@ -8,13 +9,11 @@ use Rattle.gfs2_layout.specs.declared.fault.LayoutFault.{LayoutFault}
 use Rattle.gfs2_layout.specs.declared.superblock.SuperBlock.{SuperBlock}
 use Rattle.image_model.specs.Image.{Image, superblock_in}
 use Rattle.image_model.specs.Rules.{Breaks, no_header, of_superblock}
-use Rattle.image_mount.specs.Found.{HasSuper, most_blocks}
+use Rattle.image_mount.specs.Found.{HasSuper}
 use Rattle.image_mount.specs.Refusals.{RefusesRightly}
 use Rattle.image_mount.specs.declared.fault.MountFault.{MountFault}
 use Rattle.image_mount.specs.declared.fault.MountFault.TheVariants as fault
-
-pub header_well : (needed kind format : ℕ) (bytes : List ℕ) → needed ≤ length bytes → HasHeader kind format bytes → header_fault needed kind format bytes ≡ None
-header_well needed kind format bytes long has = grind (arith, nat_tests, long, has.magic_is, has.kind_is, has.format_is)
+pub use Rattle.image_reader.proofs.LeafFaults.{header_well}
 
 pub header_is : (needed kind format : ℕ) (bytes : List ℕ) → header_fault needed kind format bytes ≡ None → HasHeader kind format bytes
 header_is needed kind format bytes none = record {

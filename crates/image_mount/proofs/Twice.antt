@@ -14,6 +14,7 @@ use Rattle.image_model.specs.Claims.{HasArea}
 use Rattle.image_model.specs.Image.{Image}
 use Rattle.image_model.specs.Rules.{Breaks, twice_in_area}
 use Rattle.image_mount.specs.Listing.{said, AreDistinct}
+pub use Rattle.image_reader.proofs.Listed.{behind as all_taken}
 
 -- the names of the first so many come no more behind them
 abbrev pub AreDistinctTo : List Record → ℕ → Type 0
@@ -59,10 +60,6 @@ behind : {X : Type 0} (xs : List X) (n i : ℕ) → slice_get (drop n xs) i ≡ 
 behind xs zero i = let place : i ≡ zero + i = omega arith in ap (slice_get xs) place
 behind [] (suc n) i = refl
 behind (x ∷ xs) (suc n) i = let place : suc (n + i) ≡ suc n + i = omega arith in behind xs n i ∙ ap (slice_get (x ∷ xs)) place
-
--- what a slice to the end is
-pub all_taken : {X : Type 0} (n : ℕ) (xs : List X) → take (length xs - n) (drop n xs) ≡ drop n xs
-all_taken n xs = take_all (length xs - n) (drop n xs) (omega (arith, length-drop n xs))
 
 -- the next name comes no more either
 distinct_more : (records : List Named) (k : ℕ) (d : Named) → AreDistinctTo (map said records) k

@@ -7,7 +7,7 @@ use Rattle.image_model.specs.Image.{Image}
 use Rattle.image_model.specs.Owners.{Owner, Below, Chained, is_dinode}
 use Rattle.image_mount.specs.Found.{HasFormat}
 use Rattle.image_mount.specs.Searching.{StopsRightly, IsLeading, IsSystemFile}
-use Rattle.image_mount.specs.Table.{Kept, seen_of}
+use Rattle.image_mount.specs.Kept.{Kept, seen_of}
 use Rattle.image_mount.specs.declared.stop.Stop.{Stop}
 use Rattle.image_mount.specs.declared.stop.Stop.TheVariants as stop
 

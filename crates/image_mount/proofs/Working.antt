@@ -5,7 +5,7 @@ use Rattle.std.specs.List.{All}
 use Rattle.shared_disk.specs.Disk.{DiskState, IsIdle}
 use Rattle.image_model.specs.Image.{image_of}
 use Rattle.image_mount.specs.Searching.{IsWorking, IsRead}
-use Rattle.image_mount.specs.Table.{Kept, bytes_of}
+use Rattle.image_mount.specs.Kept.{Kept, bytes_of}
 use Rattle.image_mount.proofs.KeptLaws.{get_kept, none_kept}
 
 pub not_kept : (entries : List (Option (List ℕ))) (b : ℕ) → b < length entries → bytes_of (slice_get entries b) ≡ None → slice_get entries b ≡ Some None

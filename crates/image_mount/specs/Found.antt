@@ -1,5 +1,6 @@
 -- What mounting finds in an image, in the order in which it looks. Everything is read as it lies, from an image that may be right or wrong.
 use Rattle.std.specs.Prelude.{ℕ, ◌≡◌, ◌≢◌, ◌⊎◌, ◌+◌, ◌%◌, ◌^◌, ◌<◌, ◌≤◌, ◌&&◌, ◌||◌, not, Bool, false, List, length, codes, count_by, find, Contains, Option, None, Some}
+use Rattle.profile_limits.specs.Limits.{most_blocks, most_group_blocks, most_groups, most_journals}
 use Rattle.std.specs.Str.{bytes_eq}
 use Rattle.gfs2_layout.specs.Device.{superblock_place}
 use Rattle.gfs2_layout.specs.Headers.{HasHeader}
@@ -15,9 +16,6 @@ use Rattle.image_model.specs.Rules.{HasRecordIn, HasRecords, IsHashedAt}
 use Rattle.image_model.specs.Stands.{Layout, IsJournalAt}
 
 -- ---- the device and the superblock
-
-abbrev pub most_blocks : ℕ
-most_blocks = 131072
 
 pub record HasSuper (im : Image) : Type 0 where
   pub few : im.count ≤ most_blocks
@@ -81,9 +79,9 @@ pub record HasList (im : Image) (l : Layout) : Type 0 where
 pub record HasGroups (im : Image) (l : Layout) : Type 0 where
   pub list : HasList im l
   pub some : 1 ≤ length l.groups
-  pub few : length l.groups ≤ 64
+  pub few : length l.groups ≤ most_groups
   pub fit : GroupsFit im l.groups
-  pub short : group_length l.groups ≤ 128
+  pub short : group_length l.groups ≤ most_group_blocks
 
 -- ---- the journals
 
@@ -101,6 +99,6 @@ AreJournalNames records n =
 pub record HasNames (im : Image) (l : Layout) : Type 0 where
   pub groups : HasGroups im l
   pub some : 1 ≤ length l.journals
-  pub few : length l.journals ≤ 8
+  pub few : length l.journals ≤ most_journals
   pub named : (records : List Record) → HasRecords im l.jindex records → AreJournalNames records (length l.journals)
   pub there : (j d : ℕ) → IsJournalAt l j d → LeadsTo im l.jindex (journal_name j) d

@@ -6,13 +6,13 @@ use Rattle.gfs2_layout.specs.Inode.{dinode_in, is_directory_in, is_hashed_in, co
 use Rattle.gfs2_layout.specs.Records.{Record}
 use Rattle.image_model.specs.Claims.{every, Claims, master_of}
 use Rattle.image_model.specs.Image.{Image}
-use Rattle.image_model.specs.Leaves.{HasClaim, AreChained, leaf_records}
+use Rattle.image_reader.specs.Leaves.{HasClaim, AreChained, leaf_records}
 use Rattle.image_model.specs.Owners.{Chained}
-use Rattle.image_model.specs.Owning.{AreClaims}
+use Rattle.image_reader.specs.Owning.{AreClaims}
 use Rattle.image_model.specs.Rules.{HasRecordIn, IsHashedAt}
 use Rattle.image_model.specs.Stands.{directory_count}
-use Rattle.image_model.specs.declared.hash_table.HashTable.{HashTable}
-use Rattle.image_model.specs.declared.owners.Claim.{Claim}
+use Rattle.image_reader.specs.declared.hash_table.HashTable.{HashTable}
+use Rattle.image_reader.specs.declared.owners.Claim.{Claim}
 use Rattle.image_mount.specs.Found.{HasFormat, IsInChain, ComesBefore, is_other, first_other}
 use Rattle.image_mount.specs.Listing.{said, AreDistinct}
 use Rattle.image_mount.specs.declared.inodes.Inode.{Inode}

@@ -1,7 +1,7 @@
 pub mod Found
 pub mod Refusals
 pub mod Mounted
-pub mod Table
+pub mod Kept
 pub mod Searching
 pub mod Listing
 pub mod Leaves

@@ -13,7 +13,7 @@ use Rattle.image_model.specs.Owners.{Owner, is_dinode, parent_of}
 use Rattle.image_model.specs.Rules.{HasRecordIn, HasRecords}
 use Rattle.image_model.specs.Stands.{directory_count}
 use Rattle.image_mount.specs.Found.{HasFormat}
-use Rattle.image_mount.specs.Table.{Kept, seen_of}
+use Rattle.image_mount.specs.Kept.{Kept, seen_of}
 use Rattle.image_mount.specs.declared.inodes.Inode.{Inode}
 use Rattle.image_mount.specs.declared.listing.Link.{Link}
 use Rattle.image_mount.specs.declared.listing.Named.{Named}

@@ -1,5 +1,6 @@
 -- Why an image is not mounted.
 use Rattle.std.specs.Prelude.{ℕ, ◌≡◌, ◌≢◌, ◌⊎◌, ⊤, false, ◌/◌, ◌%◌, ◌^◌, ◌<◌, ◌≤◌, List, length, Some}
+use Rattle.profile_limits.specs.Limits.{least_journal_blocks, most_blocks, most_group_blocks, most_groups, most_journal_blocks, most_journals}
 use Rattle.fault_counts.specs.Causes.{WentUp}
 use Rattle.gfs2_layout.specs.Device.{superblock_place}
 use Rattle.gfs2_layout.specs.Inode.{dinode_in, is_directory_in}
@@ -13,9 +14,9 @@ use Rattle.image_model.specs.Owners.{Owner}
 use Rattle.image_model.specs.Profile.{group_length}
 use Rattle.image_model.specs.Rules.{Breaks, HasRecords, IsHashedAt}
 use Rattle.image_model.specs.Stands.{Layout, IsJournalAt}
-use Rattle.image_mount.specs.Found.{most_blocks, HasSuper, HasFormat, IsFirstOther, HasList, HasMaster, HasGroups, name_count, AreJournalNames, HasNames}
-use Rattle.image_model.specs.declared.image.ImageFault.{ImageFault}
-use Rattle.image_model.specs.declared.image.ImageFault.TheVariants as image
+use Rattle.image_mount.specs.Found.{HasSuper, HasFormat, IsFirstOther, HasList, HasMaster, HasGroups, name_count, AreJournalNames, HasNames}
+use Rattle.image_reader.specs.declared.image.ImageFault.{ImageFault}
+use Rattle.image_reader.specs.declared.image.ImageFault.TheVariants as image
 use Rattle.image_mount.specs.declared.field.Field.{Field}
 use Rattle.image_mount.specs.declared.field.Field.TheVariants as field
 use Rattle.image_mount.specs.declared.fault.MountFault.{MountFault}
@@ -39,15 +40,15 @@ pub data IsOutside (im : Image) : Field → ℕ → Type 0 where
       → ((dinode_in (every im l.rindex)).size / entry_length ≡ 0) ⊎ (64 < (dinode_in (every im l.rindex)).size / entry_length)
       → IsOutside im field.Groups ((dinode_in (every im l.rindex)).size / entry_length)
   -- how many blocks of headers and bitmaps the groups have
-  group_blocks : (l : Layout) → HasList im l → 1 ≤ length l.groups → length l.groups ≤ 64 → GroupsFit im l.groups → 128 < group_length l.groups
+  group_blocks : (l : Layout) → HasList im l → 1 ≤ length l.groups → length l.groups ≤ most_groups → GroupsFit im l.groups → most_group_blocks < group_length l.groups
       → IsOutside im field.GroupBlocks (group_length l.groups)
   -- how many names `jindex` has, where they aren't those of one to eight journals
   journals : (l : Layout) (records : List Record) → HasGroups im l → HasRecords im l.jindex records
-      → ((1 ≤ name_count records) × (name_count records ≤ 8) × AreJournalNames records (name_count records) → ⊥) → IsOutside im field.Journals (name_count records)
+      → ((1 ≤ name_count records) × (name_count records ≤ most_journals) × AreJournalNames records (name_count records) → ⊥) → IsOutside im field.Journals (name_count records)
   -- `jindex` is a file, which has no names
   no_journals : (l : Layout) → HasGroups im l → is_directory_in (every im l.jindex) ≡ false → IsOutside im field.Journals 0
   -- how many blocks a journal has
-  journal : (l : Layout) (j d : ℕ) → HasNames im l → IsJournalAt l j d → ((512 ≤ (ring_of (every im d)).places) × ((ring_of (every im d)).places ≤ 65536) → ⊥)
+  journal : (l : Layout) (j d : ℕ) → HasNames im l → IsJournalAt l j d → ((least_journal_blocks ≤ (ring_of (every im d)).places) × ((ring_of (every im d)).places ≤ most_journal_blocks) → ⊥)
       → IsOutside im field.Journal (ring_of (every im d)).places
   -- the sequence of a journal's head
   sequence : (l : Layout) (j d : ℕ) (head : LogHeader) → HasNames im l → IsJournalAt l j d → head_in (ring_of (every im d)) ≡ Some head → 2 ^ 63 ≤ head.sequence

@@ -1,5 +1,6 @@
 -- What is known of the image while the journals are looked for.
 use Rattle.std.specs.Prelude.{ℕ, ◌≡◌, ◌≢◌, ◌⊎◌, ◌^◌, ◌<◌, ◌≤◌, true, List, length, map, Contains, slice_get, slice_index, Some}
+use Rattle.profile_limits.specs.Limits.{least_journal_blocks, most_journal_blocks}
 use Rattle.std.specs.List.{All, range_with_len}
 use Rattle.dinode_tree.specs.declared.locating.Located.{Located}
 use Rattle.gfs2_layout.specs.Device.{superblock_place}
@@ -19,7 +20,7 @@ use Rattle.image_mount.specs.Refusals.{IsReached}
 use Rattle.image_mount.specs.Searching.{IsSystemFile, IsWanted}
 use Rattle.image_mount.specs.Groups.{IsNamedIn}
 use Rattle.image_mount.specs.System.{IsSystemOf}
-use Rattle.image_mount.specs.Table.{Kept, seen_of}
+use Rattle.image_mount.specs.Kept.{Kept, seen_of}
 use Rattle.image_mount.specs.declared.journals.Ring.{Ring}
 use Rattle.image_mount.specs.declared.system.System.{System}
 
@@ -64,8 +65,8 @@ pub record HasPlaces (im : Image) (d places : ℕ) : Type 0 where
   pub count : places ≡ (ring_of (every im d)).places
   pub fits : Fits (every im d)
   pub large : 512 ≤ im.size
-  pub most : places ≤ 65536
-  pub least : 512 ≤ places
+  pub most : places ≤ most_journal_blocks
+  pub least : least_journal_blocks ≤ places
 
 -- the block of content with index `place` is where the pointer in block `from` leads
 pub record IsPlaceAt (im : Image) (d place : ℕ) (located : Located) : Type 0 where

@@ -9,7 +9,7 @@ use Rattle.image_model.specs.Owners.{Owner, Below}
 use Rattle.shared_disk.specs.Disk.{DiskState, IsIdle}
 use Rattle.image_mount.specs.Found.{HasFormat}
 use Rattle.image_mount.specs.Refusals.{RefusesRightly}
-use Rattle.image_mount.specs.Table.{Kept, seen_of}
+use Rattle.image_mount.specs.Kept.{Kept, seen_of}
 use Rattle.image_mount.specs.declared.fault.MountFault.{MountFault}
 use Rattle.image_mount.specs.declared.fault.MountFault.TheVariants as fault
 use Rattle.image_mount.specs.declared.stop.Stop.{Stop}

@@ -1,5 +1,5 @@
 use crate::Field;
-use image_model::ImageFault;
+use image_reader::ImageFault;
 use no_memory::NoMemory;
 use std::alloc::{AllocError, AllocFailed};
 

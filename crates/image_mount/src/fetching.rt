@@ -1,16 +1,17 @@
 ghost use Rattle.std.specs.Prelude.{ℕ, List, ◌≡◌, ◌+◌, ◌<◌, ◌≤◌, length, IsTrue, true, None, OnOk, IfErr, slice_get, Some};
 ghost use Rattle.gfs2_layout.specs.Device.{IsBlockSize};
 ghost use Rattle.shared_disk.specs.Disk.{IsIdle};
+ghost use Rattle.shared_disk.specs.Disk.{ReadsOnly};
 ghost use Rattle.image_model.specs.Image.{Image, image_of};
 ghost use Rattle.image_mount.specs.Refusals.{HasRisen, RefusesRightly};
 ghost use Rattle.image_mount.specs.Rings.{IsSearched};
 ghost use Rattle.image_mount.specs.Searching.{FailsAt, IsWanted, IsWorking, LacksBlock, StopsRightly};
-ghost use Rattle.image_mount.specs.Table.{seen_of};
+ghost use Rattle.image_mount.specs.Kept.{seen_of};
 
 use crate::fault::MountFault;
-use crate::formats::superblock_place;
+use crate::kept_blocks::KeptBlocks;
 use crate::stop::{Stop, damaged};
-use crate::table::Table;
+use gfs2_layout::superblock_block;
 use glock_names::View;
 use shared_disk::{SharedDisk, read_block};
 use std::alloc::Global;
@@ -27,9 +28,7 @@ pub(crate) fn read_into<D: SharedDisk>(
     ensures bytes { OnOk result (IsTrue (D.state disk.old).tells → into.new ≡ (D.state disk.old).block_at block) }
     ensures failed { IfErr result (FailsAt block) }
     ensures risen { IfErr result (HasRisen (D.faults disk.old) (D.faults disk.new)) }
-    ensures same { D.state disk.new ≡ D.state disk.old }
-    ensures list { D.list disk.new ≡ D.list disk.old }
-    ensures later { (j : ℕ) → D.faults disk.old j ≤ D.faults disk.new j }
+    ensures reads { ReadsOnly (D.state disk.old) (D.state disk.new) (D.list disk.old) (D.list disk.new) (D.faults disk.old) (D.faults disk.new) }
 {
     match read_block(disk, 0, block, into) {
         Ok(()) => Ok(()),
@@ -42,12 +41,12 @@ pub(crate) fn read_into<D: SharedDisk>(
 }
 
 // Why a block is not read whose number stands in block `from`: it is not on the device, or it is a place of a journal.
-fn check_readable(table: &Table, count: u64, block: u64, from: u64) -> Result<(), MountFault>
+fn check_readable(table: &KeptBlocks, count: u64, block: u64, from: u64) -> Result<(), MountFault>
     ensures inside { OnOk result (block < count) }
     ensures refused { (im : Image) (done : List ℕ) (d n : ℕ) → table.now.size ≡ im.size → count ≡ im.count → IsWanted im block from → IsSearched im done d n table.now → IfErr result (RefusesRightly im) }
     ensures steady { IfErr result (λ fault. (f g : ℕ → ℕ) → HasRisen f g fault) }
 {
-    if block == superblock_place(table.block_size()) && block >= count {
+    if block == superblock_block(table.block_size()) && block >= count {
         return Err(damaged(block, 1));
     }
     if block >= count {
@@ -63,7 +62,7 @@ fn check_readable(table: &Table, count: u64, block: u64, from: u64) -> Result<()
 pub(crate) fn fetch<D: SharedDisk>(
     alloc: Global,
     disk: &mut D,
-    table: &mut Table,
+    table: &mut KeptBlocks,
     block: u64,
     from: u64,
 ) -> Result<(), MountFault>
@@ -76,9 +75,7 @@ pub(crate) fn fetch<D: SharedDisk>(
     ensures falls { OnOk result (table.new.left + 1 ≡ table.old.left) }
     ensures places { table.new.places ≡ table.old.places }
     ensures risen { IfErr result (HasRisen (D.faults disk.old) (D.faults disk.new)) }
-    ensures same { D.state disk.new ≡ D.state disk.old }
-    ensures list { D.list disk.new ≡ D.list disk.old }
-    ensures later { (j : ℕ) → D.faults disk.old j ≤ D.faults disk.new j }
+    ensures reads { ReadsOnly (D.state disk.old) (D.state disk.new) (D.list disk.old) (D.list disk.new) (D.faults disk.old) (D.faults disk.new) }
 {
     check_readable(table, disk.blocks(), block, from)?;
     let size = disk.block_size() as usize;
@@ -92,7 +89,7 @@ pub(crate) fn fetch<D: SharedDisk>(
 pub(crate) fn go_on<D: SharedDisk>(
     alloc: Global,
     disk: &mut D,
-    table: &mut Table,
+    table: &mut KeptBlocks,
     stop: Stop,
 ) -> Result<(), MountFault>
     requires work { IsWorking (D.state disk.old) table.old }
@@ -104,9 +101,7 @@ pub(crate) fn go_on<D: SharedDisk>(
     ensures falls { OnOk result (table.new.left + 1 ≡ table.old.left) }
     ensures places { table.new.places ≡ table.old.places }
     ensures risen { IfErr result (HasRisen (D.faults disk.old) (D.faults disk.new)) }
-    ensures same { D.state disk.new ≡ D.state disk.old }
-    ensures list { D.list disk.new ≡ D.list disk.old }
-    ensures later { (j : ℕ) → D.faults disk.old j ≤ D.faults disk.new j }
+    ensures reads { ReadsOnly (D.state disk.old) (D.state disk.new) (D.list disk.old) (D.list disk.new) (D.faults disk.old) (D.faults disk.new) }
 {
     match stop {
         Stop::Refused(fault) => Err(fault),

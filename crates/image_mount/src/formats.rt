@@ -1,25 +1,18 @@
 ghost use Rattle.std.specs.Prelude.{◌≡◌, ◌≤◌, ◌^◌, ◌↔◌, IsTrue, OnOk, IfOk, IfErr};
-ghost use Rattle.gfs2_layout.specs.Device.{superblock_place as place_for, IsBlockSize};
+ghost use Rattle.gfs2_layout.specs.Device.{IsBlockSize};
 ghost use Rattle.gfs2_layout.specs.Structures.{superblock_of};
 ghost use Rattle.image_model.specs.Image.{Image, superblock_in};
-ghost use Rattle.image_mount.specs.Found.{HasSuper, HasFormat, most_blocks};
+ghost use Rattle.image_mount.specs.Found.{HasSuper, HasFormat};
 ghost use Rattle.image_mount.specs.Refusals.{RefusesRightly};
 ghost use Rattle.image_mount.specs.Searching.{IsRead, IsSteady, StopsRightly, LacksBlock};
+ghost use Rattle.profile_limits.specs.Limits.{most_blocks};
 
 use crate::fault::MountFault;
 use crate::field::Field;
+use crate::kept_blocks::KeptBlocks;
 use crate::stop::{Stop, damaged, outside};
-use crate::table::Table;
-use gfs2_layout::SuperBlock;
+use gfs2_layout::{SuperBlock, superblock_block};
 use glock_names::View;
-
-/// The block of the superblock, which stands at byte 65,536.
-pub(crate) fn superblock_place(size: u32) -> u64
-    requires { 1 ≤ size }
-    ensures { result ≡ place_for size }
-{
-    65_536 / u64::from(size)
-}
 
 // Whether a block has two to this power bytes.
 fn is_shift(shift: u32, size: u32) -> bool
@@ -57,14 +50,14 @@ fn check_formats(superblock: &SuperBlock, size: u32) -> Result<(), MountFault>
 }
 
 /// The superblock, whose formats are those of the profile.
-pub(crate) fn read_superblock(table: &Table) -> Result<SuperBlock, Stop>
+pub(crate) fn read_superblock(table: &KeptBlocks) -> Result<SuperBlock, Stop>
     ensures found { (im : Image) → IsRead im table.now → IfOk result (λ superblock. superblock ≡ superblock_in im) }
     ensures format { (im : Image) → IsRead im table.now → im.count ≤ most_blocks → OnOk result (HasFormat im) }
     ensures stops { (im : Image) → IsRead im table.now → im.count ≤ most_blocks → IfErr result (StopsRightly im) }
     ensures lacks { IfErr result (LacksBlock table.now) }
 {
     let size = table.block_size();
-    let place = superblock_place(size);
+    let place = superblock_block(size);
     let bytes = table.get(place, place)?;
     let Ok(superblock) = SuperBlock::read(bytes) else {
         return Err(Stop::Refused(damaged(place, 1)));

@@ -10,21 +10,21 @@ ghost use Rattle.image_model.specs.Listing.{RiseFrom};
 ghost use Rattle.image_model.specs.Owners.{Owner, is_dinode};
 ghost use Rattle.image_model.specs.Profile.{group_length};
 ghost use Rattle.image_model.specs.Stands.{Layout};
-ghost use Rattle.image_mount.specs.Found.{most_blocks, HasFormat, HasMaster};
+ghost use Rattle.image_mount.specs.Found.{HasFormat, HasMaster};
 ghost use Rattle.image_mount.specs.Groups.{IsListLink, IsListOf, AreGroups};
 ghost use Rattle.image_mount.specs.Listing.{HasKeptDinode};
 ghost use Rattle.image_mount.specs.Refusals.{RefusesRightly};
 ghost use Rattle.image_mount.specs.Searching.{IsRead, IsSteady, IsSystemFile, StopsRightly, LacksBlock};
+ghost use Rattle.profile_limits.specs.Limits.{most_blocks};
 
 use crate::fault::MountFault;
 use crate::field::Field;
-use crate::formats::superblock_place;
 use crate::inodes::Inode;
+use crate::kept_blocks::KeptBlocks;
 use crate::listing::Link;
 use crate::stop::{Stop, damaged, outside, reads};
-use crate::table::Table;
 use dinode_tree::read_range;
-use gfs2_layout::Rindex;
+use gfs2_layout::{Rindex, superblock_block};
 use glock_names::{Step, View};
 use std::alloc::Global;
 
@@ -66,7 +66,7 @@ fn fits(device: &Device, group: &Rindex) -> bool
     ensures { (im : Image) → device.now.size ≡ im.size → device.now.count ≡ im.count → im.count ≤ most_blocks → IsTrue result ↔ GroupFits im group.now }
 {
     let size = u64::from(device.size);
-    if group.address <= superblock_place(device.size) || group.length == 0 {
+    if group.address <= superblock_block(device.size) || group.length == 0 {
         return false;
     }
     if group.data0 != group.address.saturating_add(u64::from(group.length)) {
@@ -133,7 +133,7 @@ fn check_cover(device: &Device, groups: &[Rindex]) -> Result<(), MountFault>
     ensures refused { (im : Image) (list : ℕ) → IsListOf im device.now.size device.now.count list groups.now → RiseFrom im 0 groups.now → IfErr result (RefusesRightly im) }
     ensures steady { IfErr result IsSteady }
 {
-    let mut bare = superblock_place(device.size) + 1;
+    let mut bare = superblock_block(device.size) + 1;
     for group in groups {
         if bare < group.address {
             return Err(damaged(bare, 18));
@@ -203,7 +203,7 @@ fn list_length(inode: &Inode, size: u32) -> Result<u32, MountFault>
 /// The content of the list of groups or of the master directory, which has so many bytes.
 pub(crate) fn read_whole(
     alloc: Global,
-    table: &Table,
+    table: &KeptBlocks,
     inode: &Inode,
     bytes: u32,
 ) -> Result<Vec<u8>, Stop>
@@ -226,7 +226,7 @@ pub(crate) fn read_whole(
 /// many blocks.
 pub(crate) fn list_groups(
     alloc: Global,
-    table: &Table,
+    table: &KeptBlocks,
     count: u64,
     rindex: &Link,
 ) -> Result<Vec<Rindex>, Stop>

@@ -12,12 +12,12 @@ ghost use Rattle.image_mount.specs.Searching.{IsRead, IsSteady, StopsRightly, La
 ghost use Rattle.image_mount.specs.Listing.{HasKeptDinode, IsEntryOf, is_hashed_by};
 
 use crate::fault::MountFault;
+use crate::kept_blocks::KeptBlocks;
 use crate::stop::{Stop, damaged};
-use crate::table::Table;
 use dinode_tree::read_dinode;
-use gfs2_layout::Dinode;
+use gfs2_layout::{DINODE_LENGTH, Dinode};
 use glock_names::{Entry, Step};
-use image_model::pointers_of;
+use image_reader::pointers_of;
 
 /// An inode: the block of its dinode, the block in which its number stands, and what its dinode says.
 #[derive(Clone, Copy)]
@@ -30,7 +30,7 @@ pub(crate) struct Inode {
 impl Inode {
     /// Reads a dinode, which keeps the rules of its own: it has its header, its address and a number, a mode, and its size
     /// fits it or its height.
-    pub fn read(table: &Table, from: u64, block: u64) -> Result<Inode, Stop>
+    pub fn read(table: &KeptBlocks, from: u64, block: u64) -> Result<Inode, Stop>
         ensures block { IfOk result (λ inode. inode.block ≡ block) }
         ensures from { IfOk result (λ inode. inode.from ≡ from) }
         ensures found { (im : Image) → IsRead im table.now → IfOk result (λ inode. inode.dinode ≡ dinode_in (every im block)) }
@@ -88,7 +88,7 @@ impl Inode {
         if self.dinode.height != 0 {
             return Err(damaged(self.block, 8));
         }
-        if self.dinode.size != u64::from(size) - 232 {
+        if self.dinode.size != u64::from(size) - DINODE_LENGTH as u64 {
             return Err(damaged(self.block, 8));
         }
         Ok(())

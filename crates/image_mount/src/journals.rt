@@ -4,6 +4,7 @@ ghost use Rattle.gfs2_layout.specs.Device.{superblock_place};
 ghost use Rattle.gfs2_layout.specs.Inode.{Fits};
 ghost use Rattle.gfs2_layout.specs.Journal.{accepted as accepted_at, better as better_of, head_in};
 ghost use Rattle.shared_disk.specs.Disk.{IsIdle};
+ghost use Rattle.shared_disk.specs.Disk.{ReadsOnly};
 ghost use Rattle.glock_names.specs.declared.steps.Entry.{Entry as EntryValue};
 ghost use Rattle.image_model.specs.Claims.{every};
 ghost use Rattle.image_model.specs.Image.{Image, image_of};
@@ -19,15 +20,20 @@ use crate::fetching::{go_on, read_into};
 use crate::field::Field;
 use crate::groups::is_data;
 use crate::inodes::Inode;
+use crate::kept_blocks::KeptBlocks;
 use crate::mounted::JournalMap;
 use crate::stop::{Stop, damaged, outside, reads};
 use crate::system::System;
-use crate::table::Table;
 use dinode_tree::{Located, locate};
 use gfs2_layout::LogHeader;
 use glock_names::{Entry, Step, View};
+use profile_limits::{LEAST_JOURNAL_BLOCKS, MOST_JOURNAL_BLOCKS};
 use shared_disk::SharedDisk;
 use std::alloc::Global;
+
+const LEAST_PLACES: u64 = LEAST_JOURNAL_BLOCKS as u64;
+
+const MOST_PLACES: u64 = MOST_JOURNAL_BLOCKS as u64;
 
 /// Where a journal lies: the block of its dinode, and the block at each of its places.
 #[derive(Drop)]
@@ -37,7 +43,7 @@ pub(crate) struct Ring {
 }
 
 // How many places a journal has, which is a file of whole blocks.
-fn place_count(table: &Table, jindex: u64, journal: &Entry) -> Result<u64, Stop>
+fn place_count(table: &KeptBlocks, jindex: u64, journal: &Entry) -> Result<u64, Stop>
     ensures found { (im : Image) → IsRead im table.now → IfOk result (HasPlaces im journal.now.addr) }
     ensures stops { (im : Image) → IsRead im table.now → IsJournalIn im jindex journal.now → IfErr result (StopsRightly im) }
     ensures lacks { IfErr result (LacksBlock table.now) }
@@ -52,7 +58,7 @@ fn place_count(table: &Table, jindex: u64, journal: &Entry) -> Result<u64, Stop>
         return Err(Stop::Refused(damaged(inode.block, 8)));
     }
     let places = inode.dinode.size / u64::from(size);
-    if places < 512 || places > 65_536 {
+    if places < LEAST_PLACES || places > MOST_PLACES {
         return Err(Stop::Refused(outside(Field::Journal, places)));
     }
     Ok(places)
@@ -61,7 +67,7 @@ fn place_count(table: &Table, jindex: u64, journal: &Entry) -> Result<u64, Stop>
 fn count_places<D: SharedDisk>(
     alloc: Global,
     disk: &mut D,
-    table: &mut Table,
+    table: &mut KeptBlocks,
     jindex: u64,
     journal: &Entry,
 ) -> Result<u64, MountFault>
@@ -73,9 +79,7 @@ fn count_places<D: SharedDisk>(
     ensures refused { (done : List ℕ) (d n : ℕ) → IsTrue (D.state disk.old).tells → IsJournalIn (image_of (D.state disk.old)) jindex journal.now → IsSearched (image_of (D.state disk.old)) done d n table.old
         → IfErr result (RefusesRightly (image_of (D.state disk.old))) }
     ensures risen { IfErr result (HasRisen (D.faults disk.old) (D.faults disk.new)) }
-    ensures same { D.state disk.new ≡ D.state disk.old }
-    ensures list { D.list disk.new ≡ D.list disk.old }
-    ensures later { (j : ℕ) → D.faults disk.old j ≤ D.faults disk.new j }
+    ensures reads { ReadsOnly (D.state disk.old) (D.state disk.new) (D.list disk.old) (D.list disk.new) (D.faults disk.old) (D.faults disk.new) }
 {
     loop {
         match place_count(table, jindex, journal) {
@@ -86,7 +90,7 @@ fn count_places<D: SharedDisk>(
 }
 
 // The block at a place of a journal, which has no hole.
-fn block_at(table: &Table, jindex: u64, journal: &Entry, place: u64) -> Result<Located, Stop>
+fn block_at(table: &KeptBlocks, jindex: u64, journal: &Entry, place: u64) -> Result<Located, Stop>
     ensures found { (im : Image) → IsRead im table.now → IfOk result (IsPlaceAt im journal.now.addr place) }
     ensures stops { (im : Image) (places : ℕ) → IsRead im table.now → IsJournalIn im jindex journal.now → HasPlaces im journal.now.addr places → place < places → IfErr result (StopsRightly im) }
     ensures lacks { IfErr result (LacksBlock table.now) }
@@ -105,7 +109,7 @@ fn block_at(table: &Table, jindex: u64, journal: &Entry, place: u64) -> Result<L
 fn find_block<D: SharedDisk>(
     alloc: Global,
     disk: &mut D,
-    table: &mut Table,
+    table: &mut KeptBlocks,
     jindex: u64,
     journal: &Entry,
     place: u64,
@@ -118,9 +122,7 @@ fn find_block<D: SharedDisk>(
     ensures refused { (done : List ℕ) (d n places : ℕ) → IsTrue (D.state disk.old).tells → IsJournalIn (image_of (D.state disk.old)) jindex journal.now → HasPlaces (image_of (D.state disk.old)) journal.now.addr places → place < places
         → IsSearched (image_of (D.state disk.old)) done d n table.old → IfErr result (RefusesRightly (image_of (D.state disk.old))) }
     ensures risen { IfErr result (HasRisen (D.faults disk.old) (D.faults disk.new)) }
-    ensures same { D.state disk.new ≡ D.state disk.old }
-    ensures list { D.list disk.new ≡ D.list disk.old }
-    ensures later { (j : ℕ) → D.faults disk.old j ≤ D.faults disk.new j }
+    ensures reads { ReadsOnly (D.state disk.old) (D.state disk.new) (D.list disk.old) (D.list disk.new) (D.faults disk.old) (D.faults disk.new) }
 {
     loop {
         match block_at(table, jindex, journal, place) {
@@ -131,7 +133,7 @@ fn find_block<D: SharedDisk>(
 }
 
 // That a place of a journal lies in a group's data blocks, and that its block is neither kept nor another's place.
-fn check_place(table: &Table, system: &System, located: &Located) -> Result<(), MountFault>
+fn check_place(table: &KeptBlocks, system: &System, located: &Located) -> Result<(), MountFault>
     ensures inside { OnOk result (located.now.block < length table.now.entries) }
     ensures apart { OnOk result ((im : Image) → IsSystemOf im system.now → located.now.block ≢ superblock_place im.size) }
     ensures refused { (im : Image) (done : List ℕ) (journal : EntryValue) (place : ℕ) → IsRead im table.now → IsNext im done system.now journal → IsSearched im done journal.addr place table.now
@@ -151,7 +153,7 @@ fn check_place(table: &Table, system: &System, located: &Located) -> Result<(), 
 fn find_blocks<D: SharedDisk>(
     alloc: Global,
     disk: &mut D,
-    table: &mut Table,
+    table: &mut KeptBlocks,
     system: &System,
     journal: &Entry,
     places: u64,
@@ -167,9 +169,7 @@ fn find_blocks<D: SharedDisk>(
     ensures inside { IfOk result (λ blocks. All (λ b. b < (D.state disk.old).count) blocks.items) }
     ensures count { IfOk result (λ blocks. length blocks.items ≡ places) }
     ensures risen { IfErr result (HasRisen (D.faults disk.old) (D.faults disk.new)) }
-    ensures same { D.state disk.new ≡ D.state disk.old }
-    ensures list { D.list disk.new ≡ D.list disk.old }
-    ensures later { (j : ℕ) → D.faults disk.old j ≤ D.faults disk.new j }
+    ensures reads { ReadsOnly (D.state disk.old) (D.state disk.new) (D.list disk.old) (D.list disk.new) (D.faults disk.old) (D.faults disk.new) }
 {
     let mut blocks = Vec::with_capacity(alloc, places as usize)?;
     for place in 0..places {
@@ -197,7 +197,7 @@ fn has_dinode(rings: &[Ring], block: u64) -> bool
 fn find_ring<D: SharedDisk>(
     alloc: Global,
     disk: &mut D,
-    table: &mut Table,
+    table: &mut KeptBlocks,
     system: &System,
     journal: &Entry,
 ) -> Result<Ring, MountFault>
@@ -211,9 +211,7 @@ fn find_ring<D: SharedDisk>(
     ensures refused { (done : List ℕ) → IsTrue (D.state disk.old).tells → IsNext (image_of (D.state disk.old)) done system.now journal.now → IsSearched (image_of (D.state disk.old)) done 0 0 table.old → IfErr result (RefusesRightly (image_of (D.state disk.old))) }
     ensures inside { IfOk result (λ ring. All (λ b. b < (D.state disk.old).count) ring.blocks.items) }
     ensures risen { IfErr result (HasRisen (D.faults disk.old) (D.faults disk.new)) }
-    ensures same { D.state disk.new ≡ D.state disk.old }
-    ensures list { D.list disk.new ≡ D.list disk.old }
-    ensures later { (j : ℕ) → D.faults disk.old j ≤ D.faults disk.new j }
+    ensures reads { ReadsOnly (D.state disk.old) (D.state disk.new) (D.list disk.old) (D.list disk.new) (D.faults disk.old) (D.faults disk.new) }
 {
     let dinode = journal.addr;
     let places = count_places(alloc, disk, table, system.jindex, journal)?;
@@ -225,7 +223,7 @@ fn find_ring<D: SharedDisk>(
 pub(crate) fn find_rings<D: SharedDisk>(
     alloc: Global,
     disk: &mut D,
-    table: &mut Table,
+    table: &mut KeptBlocks,
     system: &System,
 ) -> Result<Vec<Ring>, MountFault>
     requires work { IsWorking (D.state disk.old) table.old }
@@ -234,9 +232,7 @@ pub(crate) fn find_rings<D: SharedDisk>(
     ensures refused { IsTrue (D.state disk.old).tells → IsSystemOf (image_of (D.state disk.old)) system.now → IsSearched (image_of (D.state disk.old)) [] 0 0 table.old → IfErr result (RefusesRightly (image_of (D.state disk.old))) }
     ensures inside { IfOk result (λ rings. All (λ (ring : Ring). All (λ b. b < (D.state disk.old).count) ring.blocks.items) rings.items) }
     ensures risen { IfErr result (HasRisen (D.faults disk.old) (D.faults disk.new)) }
-    ensures same { D.state disk.new ≡ D.state disk.old }
-    ensures list { D.list disk.new ≡ D.list disk.old }
-    ensures later { (j : ℕ) → D.faults disk.old j ≤ D.faults disk.new j }
+    ensures reads { ReadsOnly (D.state disk.old) (D.state disk.new) (D.list disk.old) (D.list disk.new) (D.faults disk.old) (D.faults disk.new) }
 {
     let mut rings = Vec::new(alloc);
     for journal in &system.journals {
@@ -285,9 +281,7 @@ fn best_header<D: SharedDisk>(
     ensures found { IfOk result (λ best. IsTrue (D.state disk.old).tells → best ≡ head_in (ring_at (D.state disk.old).block_at blocks.now)) }
     ensures refused { All (IsReached (image_of (D.state disk.old))) blocks.now → IfErr result (RefusesRightly (image_of (D.state disk.old))) }
     ensures risen { IfErr result (HasRisen (D.faults disk.old) (D.faults disk.new)) }
-    ensures same { D.state disk.new ≡ D.state disk.old }
-    ensures list { D.list disk.new ≡ D.list disk.old }
-    ensures later { (j : ℕ) → D.faults disk.old j ≤ D.faults disk.new j }
+    ensures reads { ReadsOnly (D.state disk.old) (D.state disk.new) (D.list disk.old) (D.list disk.new) (D.faults disk.old) (D.faults disk.new) }
 {
     let mut best = None;
     let mut place = 0;
@@ -312,9 +306,7 @@ fn find_head<D: SharedDisk>(
     ensures refused { (l : Layout) (j : ℕ) → IsTrue (D.state disk.old).tells → HasNames (image_of (D.state disk.old)) l → IsJournalAt l j ring.now.dinode → IsRingOf (image_of (D.state disk.old)) ring.now.dinode ring.now.blocks.items
         → IfErr result (RefusesRightly (image_of (D.state disk.old))) }
     ensures risen { IfErr result (HasRisen (D.faults disk.old) (D.faults disk.new)) }
-    ensures same { D.state disk.new ≡ D.state disk.old }
-    ensures list { D.list disk.new ≡ D.list disk.old }
-    ensures later { (j : ℕ) → D.faults disk.old j ≤ D.faults disk.new j }
+    ensures reads { ReadsOnly (D.state disk.old) (D.state disk.new) (D.list disk.old) (D.list disk.new) (D.faults disk.old) (D.faults disk.new) }
 {
     let Some(head) = best_header(disk, bytes, &ring.blocks)? else {
         return Err(damaged(ring.dinode, 16));

@@ -3,7 +3,7 @@ ghost use Rattle.std.proofs.Props.{props};
 
 use crate::listing::Named;
 use gfs2_layout::Leaf;
-use image_model::Owners;
+use image_reader::Owners;
 
 /// A leaf of a hashed directory: its block and what its head says; the first of the hashes of its chain, and how many
 /// leaves stand before it there; the pointer of the table at which its chain is come to, and the first behind those that

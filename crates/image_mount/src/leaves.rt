@@ -13,28 +13,32 @@ ghost use Rattle.image_mount.specs.Leaves.{IsMasterIn, IsTableOf, IsLeafIn, IsFi
 ghost use Rattle.image_mount.specs.Listing.{said, standing, AreDistinct};
 ghost use Rattle.image_mount.specs.Refusals.{RefusesRightly};
 ghost use Rattle.image_mount.specs.Searching.{IsRead, IsSteady, StopsRightly, LacksBlock};
-ghost use Rattle.image_mount.specs.Table.{seen_of};
+ghost use Rattle.image_mount.specs.Kept.{seen_of};
 
 use crate::fault::MountFault;
 use crate::field::Field;
 use crate::groups::read_whole;
 use crate::inodes::Inode;
+use crate::kept_blocks::KeptBlocks;
 use crate::leaf::{LeafAt, LeafWalk};
 use crate::listing::{Named, check_names, check_twice, find, first_other, read_area};
 use crate::stop::{Stop, damaged, outside, reads};
-use crate::table::Table;
 use crc_words::crc32;
 use dinode_tree::{has_header, place};
 use gfs2_layout::Leaf;
 use glock_names::{Step, View};
-use image_model::{Claim, HashTable, Owners};
+use image_reader::{Claim, HashTable, Owners};
 use std::alloc::Global;
 
 // Where the records of a leaf begin.
 const IN_LEAF: usize = 104;
 
 /// The table of the master directory, which is a hashed one.
-pub(crate) fn read_pointers(alloc: Global, table: &Table, inode: &Inode) -> Result<HashTable, Stop>
+pub(crate) fn read_pointers(
+    alloc: Global,
+    table: &KeptBlocks,
+    inode: &Inode,
+) -> Result<HashTable, Stop>
     ensures found { (im : Image) → IsRead im table.now → IsMasterIn im inode.now → is_hashed_in (every im inode.now.block) ≡ true → IfOk result (IsTableOf im inode.now) }
     ensures stops { (im : Image) → IsRead im table.now → IsMasterIn im inode.now → is_hashed_in (every im inode.now.block) ≡ true → IfErr result (StopsRightly im) }
     ensures lacks { IfErr result (LacksBlock table.now) }
@@ -47,7 +51,7 @@ pub(crate) fn read_pointers(alloc: Global, table: &Table, inode: &Inode) -> Resu
 }
 
 // The block that has pointer i of the table; the dinode's where the table has a hole there.
-fn entry_block(table: &Table, inode: &Inode, pointers: &HashTable, i: u64) -> Result<u64, Stop>
+fn entry_block(table: &KeptBlocks, inode: &Inode, pointers: &HashTable, i: u64) -> Result<u64, Stop>
     requires { i < 2 ^ pointers.now.depth }
     ensures found { (im : Image) → IsRead im table.now → IsTableOf im inode.now pointers.now → IfOk result (λ block. block ≡ block_of_entry (every im inode.now.block) i) }
     ensures stops { (im : Image) → IsRead im table.now → IsTableOf im inode.now pointers.now → IfErr result (StopsRightly im) }
@@ -67,7 +71,7 @@ fn entry_block(table: &Table, inode: &Inode, pointers: &HashTable, i: u64) -> Re
 }
 
 // The head of a leaf whose number stands in block `by`, which is no deeper than the table.
-fn read_head(table: &Table, by: u64, number: u64, depth: u16) -> Result<Leaf, Stop>
+fn read_head(table: &KeptBlocks, by: u64, number: u64, depth: u16) -> Result<Leaf, Stop>
     ensures found { (im : Image) → IsRead im table.now → IfOk result (λ leaf. leaf ≡ leaf_of (im.at number)) }
     ensures low { IfOk result (λ leaf. leaf.depth ≤ depth) }
     ensures kept { OnOk result ((seen_of table.now).block_at number ≢ None) }
@@ -88,7 +92,7 @@ fn read_head(table: &Table, by: u64, number: u64, depth: u16) -> Result<Leaf, St
 }
 
 // The leaf behind one of a chain, which is as deep.
-fn leaf_behind(table: &Table, tail: &LeafAt, depth: u16) -> Result<LeafAt, Stop>
+fn leaf_behind(table: &KeptBlocks, tail: &LeafAt, depth: u16) -> Result<LeafAt, Stop>
     requires depth { depth ≤ 15 }
     requires place { tail.now.place + 1 < 2 ^ 64 }
     ensures behind { IfOk result (λ at. (at.block ≡ tail.now.head.next) × (at.hash ≡ tail.now.hash) × (at.place ≡ tail.now.place + 1) × (at.pointer ≡ tail.now.pointer) × (at.behind ≡ tail.now.behind)) }
@@ -124,7 +128,7 @@ fn first_hash_of(bits: u64, depth: u16) -> u64
 // The leaf to which pointer i of the table leads, and its run of pointers: the first of them stands at a multiple of their
 // count.
 fn leaf_of_pointer(
-    table: &Table,
+    table: &KeptBlocks,
     inode: &Inode,
     pointers: &HashTable,
     i: u64,
@@ -289,7 +293,7 @@ impl LeafWalk {
     /// The leaf that comes next, if the walk isn't at its end.
     pub fn next(
         &self,
-        table: &Table,
+        table: &KeptBlocks,
         inode: &Inode,
         pointers: &HashTable,
     ) -> Result<Option<LeafAt>, Stop>

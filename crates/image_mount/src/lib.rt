@@ -8,6 +8,7 @@ mod formats;
 mod groups;
 mod inodes;
 mod journals;
+mod kept_blocks;
 mod leaf;
 mod leaves;
 mod listing;
@@ -16,7 +17,6 @@ mod mounted;
 mod mounting;
 mod stop;
 mod system;
-mod table;
 
 pub use fault::MountFault;
 pub use field::Field;

@@ -17,11 +17,11 @@ ghost use Rattle.image_mount.specs.Listing.{said, said_by, said_in, link_of, Are
 
 use crate::fault::MountFault;
 use crate::inodes::Inode;
+use crate::kept_blocks::KeptBlocks;
 use crate::stop::{Stop, damaged};
-use crate::table::Table;
 use crc_words::crc32;
 use file_tree::is_name;
-use gfs2_layout::{Record, is_area, next_record};
+use gfs2_layout::{DINODE_LENGTH, Record, is_area, next_record};
 use glock_names::{Entry, View};
 use std::alloc::Global;
 
@@ -258,7 +258,7 @@ fn check_records(inode: &Inode, parent: u64, records: &[Named<'_>]) -> Result<()
 /// rest of its block, at their hashes and names, at `.` and `..`, and at the counts of links and entries.
 pub(crate) fn list_records<'a>(
     alloc: Global,
-    table: &'a Table,
+    table: &'a KeptBlocks,
     inode: &Inode,
     parent: u64,
 ) -> Result<Vec<Named<'a>>, Stop>
@@ -271,7 +271,7 @@ pub(crate) fn list_records<'a>(
 {
     let bytes = table.get(inode.block, inode.from)?;
     inode.check_linear(table.block_size())?;
-    let records = read_area(alloc, &bytes[232..], inode.block)?;
+    let records = read_area(alloc, &bytes[DINODE_LENGTH..], inode.block)?;
     check_records(inode, parent, &records)?;
     Ok(records)
 }

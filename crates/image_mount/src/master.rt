@@ -2,26 +2,28 @@ ghost use Rattle.std.specs.Prelude.{ℕ, ◌≡◌, ◌≤◌, ◌^◌, [], true
 ghost use Rattle.gfs2_layout.specs.Inode.{dinode_in, is_hashed_in};
 ghost use Rattle.image_model.specs.Claims.{every};
 ghost use Rattle.image_model.specs.Image.{Image, image_of};
-ghost use Rattle.image_mount.specs.Found.{HasFormat, most_blocks};
+ghost use Rattle.image_mount.specs.Found.{HasFormat};
 ghost use Rattle.image_mount.specs.Leaves.{IsMasterIn, IsTableOf, IsWalked, HasEnded};
 ghost use Rattle.image_mount.specs.Listing.{said, AreAllRecords, AreCountedIn};
 ghost use Rattle.image_mount.specs.Refusals.{HasRisen, RefusesRightly};
 ghost use Rattle.image_mount.specs.Rings.{IsSearched};
 ghost use Rattle.image_mount.specs.Searching.{IsRead, IsSteady, IsWorking, LacksBlock, StopsRightly};
 ghost use Rattle.image_mount.specs.System.{IsMasterOf, ArePlainRecords};
+ghost use Rattle.profile_limits.specs.Limits.{most_blocks};
+ghost use Rattle.shared_disk.specs.Disk.{ReadsOnly};
 
 use crate::fault::MountFault;
 use crate::fetching::go_on;
-use crate::formats::{read_superblock, superblock_place};
+use crate::formats::read_superblock;
 use crate::inodes::Inode;
+use crate::kept_blocks::KeptBlocks;
 use crate::leaf::LeafWalk;
 use crate::leaves::read_pointers;
 use crate::listing::{Named, check_counts, check_dot};
 use crate::stop::{Stop, damaged};
-use crate::table::Table;
-use gfs2_layout::SuperBlock;
+use gfs2_layout::{SuperBlock, superblock_block};
 use glock_names::View;
-use image_model::HashTable;
+use image_reader::HashTable;
 use shared_disk::SharedDisk;
 use std::alloc::Global;
 
@@ -32,13 +34,13 @@ pub(crate) struct Master {
     pub inode: Inode,
 }
 
-fn find_master(table: &Table) -> Result<Master, Stop>
+fn find_master(table: &KeptBlocks) -> Result<Master, Stop>
     ensures found { (im : Image) → IsRead im table.now → im.count ≤ most_blocks → IfOk result (IsMasterOf im) }
     ensures stops { (im : Image) → IsRead im table.now → im.count ≤ most_blocks → IfErr result (StopsRightly im) }
     ensures lacks { IfErr result (LacksBlock table.now) }
 {
     let superblock = read_superblock(table)?;
-    let place = superblock_place(table.block_size());
+    let place = superblock_block(table.block_size());
     let inode = Inode::read(table, place, superblock.master.address)?;
     if !inode.dinode.is_directory() {
         return Err(Stop::Refused(damaged(inode.block, 18)));
@@ -50,7 +52,7 @@ fn find_master(table: &Table) -> Result<Master, Stop>
 pub(crate) fn search_master<D: SharedDisk>(
     alloc: Global,
     disk: &mut D,
-    table: &mut Table,
+    table: &mut KeptBlocks,
 ) -> Result<Master, MountFault>
     requires work { IsWorking (D.state disk.old) table.old }
     ensures work { OnOk result (IsWorking (D.state disk.new) table.new) }
@@ -58,9 +60,7 @@ pub(crate) fn search_master<D: SharedDisk>(
     ensures searched { OnOk result (IsTrue (D.state disk.old).tells → (D.state disk.old).count ≤ most_blocks → IsSearched (image_of (D.state disk.old)) [] 0 0 table.old → IsSearched (image_of (D.state disk.old)) [] 0 0 table.new) }
     ensures refused { IsTrue (D.state disk.old).tells → (D.state disk.old).count ≤ most_blocks → IsSearched (image_of (D.state disk.old)) [] 0 0 table.old → IfErr result (RefusesRightly (image_of (D.state disk.old))) }
     ensures risen { IfErr result (HasRisen (D.faults disk.old) (D.faults disk.new)) }
-    ensures same { D.state disk.new ≡ D.state disk.old }
-    ensures list { D.list disk.new ≡ D.list disk.old }
-    ensures later { (j : ℕ) → D.faults disk.old j ≤ D.faults disk.new j }
+    ensures reads { ReadsOnly (D.state disk.old) (D.state disk.new) (D.list disk.old) (D.list disk.new) (D.faults disk.old) (D.faults disk.new) }
 {
     loop {
         match find_master(table) {
@@ -74,7 +74,7 @@ pub(crate) fn search_master<D: SharedDisk>(
 fn search_pointers<D: SharedDisk>(
     alloc: Global,
     disk: &mut D,
-    table: &mut Table,
+    table: &mut KeptBlocks,
     inode: &Inode,
 ) -> Result<HashTable, MountFault>
     requires work { IsWorking (D.state disk.old) table.old }
@@ -85,9 +85,7 @@ fn search_pointers<D: SharedDisk>(
     ensures refused { IsTrue (D.state disk.old).tells → IsMasterIn (image_of (D.state disk.old)) inode.now → is_hashed_in (every (image_of (D.state disk.old)) inode.now.block) ≡ true → IsSearched (image_of (D.state disk.old)) [] 0 0 table.old
         → IfErr result (RefusesRightly (image_of (D.state disk.old))) }
     ensures risen { IfErr result (HasRisen (D.faults disk.old) (D.faults disk.new)) }
-    ensures same { D.state disk.new ≡ D.state disk.old }
-    ensures list { D.list disk.new ≡ D.list disk.old }
-    ensures later { (j : ℕ) → D.faults disk.old j ≤ D.faults disk.new j }
+    ensures reads { ReadsOnly (D.state disk.old) (D.state disk.new) (D.list disk.old) (D.list disk.new) (D.faults disk.old) (D.faults disk.new) }
 {
     loop {
         match read_pointers(alloc, table, inode) {
@@ -101,7 +99,7 @@ fn search_pointers<D: SharedDisk>(
 fn walk_leaves<D: SharedDisk>(
     alloc: Global,
     disk: &mut D,
-    table: &mut Table,
+    table: &mut KeptBlocks,
     inode: &Inode,
     pointers: &HashTable,
 ) -> Result<LeafWalk, MountFault>
@@ -113,9 +111,7 @@ fn walk_leaves<D: SharedDisk>(
     ensures searched { OnOk result (IsTrue (D.state disk.old).tells → IsTableOf (image_of (D.state disk.old)) inode.now pointers.now → IsSearched (image_of (D.state disk.old)) [] 0 0 table.old → IsSearched (image_of (D.state disk.old)) [] 0 0 table.new) }
     ensures refused { IsTrue (D.state disk.old).tells → IsTableOf (image_of (D.state disk.old)) inode.now pointers.now → IsSearched (image_of (D.state disk.old)) [] 0 0 table.old → IfErr result (RefusesRightly (image_of (D.state disk.old))) }
     ensures risen { IfErr result (HasRisen (D.faults disk.old) (D.faults disk.new)) }
-    ensures same { D.state disk.new ≡ D.state disk.old }
-    ensures list { D.list disk.new ≡ D.list disk.old }
-    ensures later { (j : ℕ) → D.faults disk.old j ≤ D.faults disk.new j }
+    ensures reads { ReadsOnly (D.state disk.old) (D.state disk.new) (D.list disk.old) (D.list disk.new) (D.faults disk.old) (D.faults disk.new) }
 {
     let mut walk = LeafWalk::new(alloc, disk.blocks())?;
     loop {
@@ -146,7 +142,7 @@ fn check_hashed(inode: &Inode, records: &[Named<'_>]) -> Result<(), MountFault>
 pub(crate) fn search_names<D: SharedDisk>(
     alloc: Global,
     disk: &mut D,
-    table: &mut Table,
+    table: &mut KeptBlocks,
     inode: &Inode,
 ) -> Result<Vec<Named<'static>>, MountFault>
     requires work { IsWorking (D.state disk.old) table.old }
@@ -156,9 +152,7 @@ pub(crate) fn search_names<D: SharedDisk>(
     ensures searched { OnOk result (IsTrue (D.state disk.old).tells → IsMasterIn (image_of (D.state disk.old)) inode.now → IsSearched (image_of (D.state disk.old)) [] 0 0 table.old → IsSearched (image_of (D.state disk.old)) [] 0 0 table.new) }
     ensures refused { IsTrue (D.state disk.old).tells → IsMasterIn (image_of (D.state disk.old)) inode.now → IsSearched (image_of (D.state disk.old)) [] 0 0 table.old → IfErr result (RefusesRightly (image_of (D.state disk.old))) }
     ensures risen { IfErr result (HasRisen (D.faults disk.old) (D.faults disk.new)) }
-    ensures same { D.state disk.new ≡ D.state disk.old }
-    ensures list { D.list disk.new ≡ D.list disk.old }
-    ensures later { (j : ℕ) → D.faults disk.old j ≤ D.faults disk.new j }
+    ensures reads { ReadsOnly (D.state disk.old) (D.state disk.new) (D.list disk.old) (D.list disk.new) (D.faults disk.old) (D.faults disk.new) }
 {
     if !inode.is_hashed() {
         return Ok(Vec::new(alloc));

@@ -1,27 +1,29 @@
 ghost use Rattle.std.specs.Prelude.{◌≡◌, ◌≤◌, ℕ, [], map, IsTrue, OnOk, IfOk, IfErr};
 ghost use Rattle.shared_disk.specs.Disk.{IsIdle};
+ghost use Rattle.shared_disk.specs.Disk.{ReadsOnly};
 ghost use Rattle.gfs2_layout.specs.Device.{IsBlockSize};
 ghost use Rattle.image_model.specs.Image.{Image, image_of};
 ghost use Rattle.image_mount.specs.Mounted.{IsMounted, IsOfProfile, group_of_entry};
 ghost use Rattle.image_mount.specs.Refusals.{RefusesRightly, HasRisen, IsExcused};
-ghost use Rattle.image_mount.specs.Found.{most_blocks};
 ghost use Rattle.image_mount.specs.Rings.{IsSearched};
 ghost use Rattle.image_mount.specs.Searching.{IsSteady, IsWorking};
 ghost use Rattle.image_mount.specs.System.{IsMasterOf, IsNamedBy, IsSystemOf};
+ghost use Rattle.profile_limits.specs.Limits.{most_blocks};
 
 use crate::fault::MountFault;
 use crate::fetching::go_on;
 use crate::field::Field;
 use crate::journals::{find_journals, find_rings};
+use crate::kept_blocks::KeptBlocks;
 use crate::listing::Named;
 use crate::master::{Master, search_master, search_names};
 use crate::mounted::Mounted;
 use crate::stop::outside;
 use crate::system::{System, find_system};
-use crate::table::Table;
 use gfs2_layout::Rindex;
 use glock_names::Group;
 use no_memory::NoMemory;
+use profile_limits::MOST_BLOCKS;
 use shared_disk::SharedDisk;
 use std::alloc::Global;
 
@@ -31,7 +33,7 @@ fn check_device(count: u64) -> Result<(), MountFault>
     ensures refused { (im : Image) → count ≡ im.count → IfErr result (RefusesRightly im) }
     ensures steady { IfErr result IsSteady }
 {
-    if count > 131_072 {
+    if count > MOST_BLOCKS {
         return Err(outside(Field::Device, count));
     }
     Ok(())
@@ -41,7 +43,7 @@ fn check_device(count: u64) -> Result<(), MountFault>
 fn search_files<D: SharedDisk>(
     alloc: Global,
     disk: &mut D,
-    table: &mut Table,
+    table: &mut KeptBlocks,
     master: &Master,
     names: &[Named<'_>],
 ) -> Result<System, MountFault>
@@ -51,9 +53,7 @@ fn search_files<D: SharedDisk>(
     ensures searched { OnOk result (IsTrue (D.state disk.old).tells → IsMasterOf (image_of (D.state disk.old)) master.now → IsNamedBy (image_of (D.state disk.old)) master.now names.now → IsSearched (image_of (D.state disk.old)) [] 0 0 table.old → IsSearched (image_of (D.state disk.old)) [] 0 0 table.new) }
     ensures refused { IsTrue (D.state disk.old).tells → IsMasterOf (image_of (D.state disk.old)) master.now → IsNamedBy (image_of (D.state disk.old)) master.now names.now → IsSearched (image_of (D.state disk.old)) [] 0 0 table.old → IfErr result (RefusesRightly (image_of (D.state disk.old))) }
     ensures risen { IfErr result (HasRisen (D.faults disk.old) (D.faults disk.new)) }
-    ensures same { D.state disk.new ≡ D.state disk.old }
-    ensures list { D.list disk.new ≡ D.list disk.old }
-    ensures later { (j : ℕ) → D.faults disk.old j ≤ D.faults disk.new j }
+    ensures reads { ReadsOnly (D.state disk.old) (D.state disk.new) (D.list disk.old) (D.list disk.new) (D.faults disk.old) (D.faults disk.new) }
 {
     let count = disk.blocks();
     loop {
@@ -68,7 +68,7 @@ fn search_files<D: SharedDisk>(
 fn search_system<D: SharedDisk>(
     alloc: Global,
     disk: &mut D,
-    table: &mut Table,
+    table: &mut KeptBlocks,
 ) -> Result<System, MountFault>
     requires work { IsWorking (D.state disk.old) table.old }
     requires few { (D.state disk.old).count ≤ most_blocks }
@@ -77,9 +77,7 @@ fn search_system<D: SharedDisk>(
     ensures searched { OnOk result (IsTrue (D.state disk.old).tells → IsSearched (image_of (D.state disk.old)) [] 0 0 table.old → IsSearched (image_of (D.state disk.old)) [] 0 0 table.new) }
     ensures refused { IsTrue (D.state disk.old).tells → IsSearched (image_of (D.state disk.old)) [] 0 0 table.old → IfErr result (RefusesRightly (image_of (D.state disk.old))) }
     ensures risen { IfErr result (HasRisen (D.faults disk.old) (D.faults disk.new)) }
-    ensures same { D.state disk.new ≡ D.state disk.old }
-    ensures list { D.list disk.new ≡ D.list disk.old }
-    ensures later { (j : ℕ) → D.faults disk.old j ≤ D.faults disk.new j }
+    ensures reads { ReadsOnly (D.state disk.old) (D.state disk.new) (D.list disk.old) (D.list disk.new) (D.faults disk.old) (D.faults disk.new) }
 {
     let master = search_master(alloc, disk, table)?;
     let names = search_names(alloc, disk, table, &master.inode)?;
@@ -114,12 +112,10 @@ pub fn mount_image<D: SharedDisk>(alloc: Global, disk: &mut D) -> Result<Mounted
     ensures refused { IfErr result (λ fault. IsTrue (D.state disk.old).tells → RefusesRightly (image_of (D.state disk.old)) fault) }
     ensures accepts { IfErr result (λ fault. IsTrue (D.state disk.old).tells → IsOfProfile (image_of (D.state disk.old)) → IsExcused fault) }
     ensures risen { IfErr result (HasRisen (D.faults disk.old) (D.faults disk.new)) }
-    ensures same { D.state disk.new ≡ D.state disk.old }
-    ensures list { D.list disk.new ≡ D.list disk.old }
-    ensures later { (j : ℕ) → D.faults disk.old j ≤ D.faults disk.new j }
+    ensures reads { ReadsOnly (D.state disk.old) (D.state disk.new) (D.list disk.old) (D.list disk.new) (D.faults disk.old) (D.faults disk.new) }
 {
     check_device(disk.blocks())?;
-    let mut table = Table::new(alloc, disk.block_size(), disk.blocks())?;
+    let mut table = KeptBlocks::new(alloc, disk.block_size(), disk.blocks())?;
     let system = search_system(alloc, disk, &mut table)?;
     let rings = find_rings(alloc, disk, &mut table, &system)?;
     let journals = find_journals(alloc, disk, rings)?;

@@ -18,10 +18,10 @@ use crate::fault::MountFault;
 use crate::field::Field;
 use crate::groups::list_groups;
 use crate::inodes::Inode;
+use crate::kept_blocks::KeptBlocks;
 use crate::listing::{Link, Named, count_names, find, first_other, list_records};
 use crate::master::Master;
 use crate::stop::{Stop, damaged, outside};
-use crate::table::Table;
 use gfs2_layout::{Rindex, SuperBlock};
 use glock_names::Entry;
 use std::alloc::Global;
@@ -66,7 +66,7 @@ fn files_among(records: &[Named<'_>], master: u64) -> Result<SystemFiles, MountF
 // found in its leaves.
 fn system_files(
     alloc: Global,
-    table: &Table,
+    table: &KeptBlocks,
     inode: &Inode,
     names: &[Named<'_>],
 ) -> Result<SystemFiles, Stop>
@@ -165,7 +165,7 @@ fn check_journals(alloc: Global, records: &[Named<'_>]) -> Result<Vec<Entry>, Mo
 // The directory of journals. A file has no names.
 fn list_journals(
     alloc: Global,
-    table: &Table,
+    table: &KeptBlocks,
     master: u64,
     jindex: &Link,
 ) -> Result<Vec<Entry>, Stop>
@@ -192,7 +192,7 @@ fn list_journals(
 /// hashed one, these records were found in its leaves.
 pub(crate) fn find_system(
     alloc: Global,
-    table: &Table,
+    table: &KeptBlocks,
     count: u64,
     master: &Master,
     names: &[Named<'_>],

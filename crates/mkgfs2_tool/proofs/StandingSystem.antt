@@ -1,6 +1,6 @@
 -- The inodes of a new image, and where names lead.
 use Rattle.std.proofs.Common.{ℕ, zero, suc, ◌≡◌, ◌+◌, ◌<◌, ◌≤◌, ◌⊎◌, inl, inr, Bool, true, false, List, [], ◌∷◌, map, Option, None, Some, codes, refl, sym, ap, ◌∙◌, subst, arith}
-use Rattle.std.specs.Prelude.{◌/◌, ◌==◌, ◌&&◌, not, Contains, option_and_then, cond}
+use Rattle.std.specs.Prelude.{◌/◌, ◌%◌, ◌==◌, ◌&&◌, not, Contains, option_and_then, cond}
 use Rattle.std.specs.Option.{option_map}
 use Rattle.std.proofs.lemmas.Bool.{cond-true, cond-false, eqb-true, true≢false}
 use Rattle.std.proofs.lemmas.List.Sums.{sum_by-cons}
@@ -39,33 +39,7 @@ use Rattle.mkgfs2_tool.proofs.StandingList.{list_content, list_is}
 use Rattle.mkgfs2_tool.proofs.StandingRecords.{entry_record}
 use Rattle.mkgfs2_tool.proofs.StandingDirs.{IsDirectoryAt, dir_is, dir_sound, dir_number, dir_entries, dir_links, dir_records, master_at, root_at, journals_at}
 use Rattle.mkgfs2_tool.proofs.StandingNames.{record_name, name_is, is_journal_name, is_jindex_name, is_rindex_name, named_once, journal_records, journals_apart, dots_apart, journal_found, IsOfJournal, of_journal, length_journals, no_directories, got_at, get_at}
-
--- a name that leads somewhere is that of a record
-record Leading (records : List Record) (name : List ℕ) (b : ℕ) : Type 0 where
-  pub entry : Record
-  pub there : IsIn entry records
-  pub named : entry.name ≡ name
-  pub address : entry.address ≡ b
-
-leading : (records : List Record) (name : List ℕ) (b : ℕ) → child_named records name ≡ Some b → Leading records name b
-leading records name b e = each (record_named records name) refl e
-  where
-    each : (o : Option Record) → record_named records name ≡ o → option_map (λ (r : Record). r.address) o ≡ Some b → Leading records name b
-    each None f g = absurd (none_some g)
-    each (Some r) f g = let found = found_in (λ (s : Record). bytes_eq name s.name) r records f in record { entry = r; there = found.0; named = sym ((bytes_eq-Decides name r.name).0 found.1); address = some_same g }
-
-record IsNamedChild (h : Holding) (name : List ℕ) (b : ℕ) : Type 0 where
-  pub name_is : is_dots name ≡ false
-  pub leads : Leading (records_of h) name b
-
-named_child : (h : Holding) (name : List ℕ) (b : ℕ) → child_of h name ≡ Some b → IsNamedChild h name b
-named_child h name b e = elim (cases_Bool (is_directory_in h)) [
-  | inr non ↦ absurd (none_some (sym (cond-false _ _ _ non) ∙ e))
-  | inl is ↦ elim (cases_Bool (is_dots name)) [
-    | inl dots ↦ absurd (none_some (sym (cond-true _ _ _ is ∙ cond-true _ _ _ dots) ∙ e))
-    | inr plain ↦ record { name_is = plain; leads = leading (records_of h) name b (sym (cond-true _ _ _ is ∙ cond-false _ _ _ plain) ∙ e) }
-  ]
-]
+use Rattle.image_model.proofs.Reach.{Leading, IsNamedChild, leading, named_child}
 
 used_dinode : (o : Owner) → is_dinode o ≡ true → IsUsed o
 used_dinode Super e = cc
@@ -101,7 +75,7 @@ used_within a (Below d b k level first) e = tt
 used_within a (Chained d hash place) e = tt
 
 not_regular : (d : Dinode) → is_directory d ≡ true → is_regular d ≡ true → ⊥
-not_regular d e f = absurd (omega (arith, eqb-true (d.mode / 4096) 4 e, eqb-true (d.mode / 4096) 8 f))
+not_regular d e f = absurd (omega (arith, eqb-true (d.mode / 4096 % 16) 4 e, eqb-true (d.mode / 4096 % 16) 8 f))
 
 no_below_dinode : (p : Plan) (i l x : ℕ) → is_dinode (below_owner p i l x) ≡ true → ⊥
 no_below_dinode p i l x e = cc
@@ -366,7 +340,7 @@ module _ (p : Plan) (fit : IsFitting p) (known : Known p) (at : Blocks) (made : 
   master_only name b e = from (child_from master_place 1 4 3 (master_entries p) (master_at p fit known) name b e)
     where
       from : (is_dots name ≡ false) × Leading master_records name b → (name ≡ codes "jindex") ⊎ (name ≡ codes "rindex")
-      from q = each q.1.there
+      from q = each (is_in q.1.entry master_records q.1.there)
         where
           each : IsIn q.1.entry master_records → (name ≡ codes "jindex") ⊎ (name ≡ codes "rindex")
           each (inl g) = absurd (true≢false (sym (ap is_dots (sym q.1.named ∙ ap (λ (r : Record). r.name) g)) ∙ q.0))
@@ -379,7 +353,7 @@ module _ (p : Plan) (fit : IsFitting p) (known : Known p) (at : Blocks) (made : 
   root_none name b e = from (child_from root_place 2 2 2 (root_entries p) (root_at p fit known) name b e)
     where
       from : (is_dots name ≡ false) × Leading root_records name b → ⊥
-      from q = each q.1.there
+      from q = each (is_in q.1.entry root_records q.1.there)
         where
           each : IsIn q.1.entry root_records → ⊥
           each (inl g) = true≢false (sym (ap is_dots (sym q.1.named ∙ ap (λ (r : Record). r.name) g)) ∙ q.0)
@@ -404,7 +378,7 @@ module _ (p : Plan) (fit : IsFitting p) (known : Known p) (at : Blocks) (made : 
   jindex_only name b e = from (child_from (journals_place p) 4 (2 + p.journals) 2 (journals_entries p) (journals_at p fit known) name b e)
     where
       from : (is_dots name ≡ false) × Leading jindex_records name b → IsJournalNamed name b
-      from q = each q.1.there
+      from q = each (is_in q.1.entry jindex_records q.1.there)
         where
           of : IsOfJournal p p.journals q.1.entry → IsJournalNamed name b
           of g = record {

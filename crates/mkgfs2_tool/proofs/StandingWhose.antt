@@ -13,17 +13,7 @@ use Rattle.mkgfs2_tool.proofs.StandingPlan.{apart_addresses}
 use Rattle.mkgfs2_tool.proofs.StandingShapes.{IsBelow, part_below, part_here, inside_file, Piece, is_top, is_below, piece}
 use Rattle.mkgfs2_tool.proofs.StandingOwners.{file_place, file_shape, file_owner, spot, named, below_owner, owner, Kept, is_master, is_root, is_journals, is_file, kept, owner_file, owner_master, owner_root, owner_journals, IsTaken, used_taken, file_apart, in_all, file_taken, file_some}
 use Rattle.mkgfs2_tool.proofs.StandingFiles.{file_low}
-
-pub used_or_not : (o : Owner) → IsUsed o ⊎ (IsUsed o → ⊥)
-used_or_not Super = inr (λ u. u)
-used_or_not (InGroup g) = inr (λ u. u)
-used_or_not (Free g) = inr (λ u. u)
-used_or_not Nobody = inr (λ u. u)
-used_or_not Root = inl tt
-used_or_not Master = inl tt
-used_or_not (Named a name) = inl tt
-used_or_not (Below a b k level first) = inl tt
-used_or_not (Chained a hash place) = inl tt
+pub use Rattle.image_model.proofs.Unique.{used_or_not}
 
 pub data Whose (p : Plan) (b : ℕ) : Type 0 where
   whose_master : b ≡ data_address p master_place → owner p b ≡ Master → Whose p b

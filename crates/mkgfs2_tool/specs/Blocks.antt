@@ -1,5 +1,6 @@
 -- What stands in each block of a new image.
 use Rattle.std.specs.Prelude.{ℕ, ◌≡◌, ◌+◌, ◌-◌, ◌*◌, ◌/◌, ◌==◌, ◌&&◌, Bool, true, false, min, nat_le, nat_lt, if◌then◌else◌, List, ◌++◌, length, map, replicate, codes, count_by}
+use Rattle.gfs2_layout.specs.Structures.{dinode_length}
 use Rattle.std.specs.List.{range_with_len, flat_map}
 use Rattle.std.specs.Int.{w64, to_be_bytes}
 use Rattle.gfs2_layout.specs.Bytes.{put_at, slice}
@@ -154,7 +155,7 @@ abbrev pub directory : Plan → ℕ → ℕ → Inode
 directory p entries directories = record {
   mode = 16877;
   nlink = directories;
-  size = p.size - 232;
+  size = p.size - dinode_length;
   blocks = 1;
   flags = journaled;
   payload_format = 1200;
@@ -205,7 +206,7 @@ dinode p number place i = record {
 
 -- a dinode's block, with these bytes behind the dinode
 unfoldable pub dinode_block : Plan → Dinode → List ℕ → List ℕ
-dinode_block p d behind = put_at 232 behind (dinode_put d (zeros p))
+dinode_block p d behind = put_at dinode_length behind (dinode_put d (zeros p))
 
 -- ---- blocks of files
 
@@ -240,7 +241,7 @@ journal_block p j (Content n) = if n == 0 then log_put (clean_header j) (zeros p
 -- ---- directories
 
 abbrev pub area_length : Plan → ℕ
-area_length p = p.size - 232
+area_length p = p.size - dinode_length
 
 unfoldable pub master_block : Plan → List ℕ
 master_block p = dinode_block p (dinode p 1 master_place (directory p 4 3)) (records (area_length p) (master_entries p))

@@ -1,5 +1,6 @@
 -- The blocks of a new file: its dinode, the blocks of pointers level by level from the top, and its content, each number counted from the dinode on.
 use Rattle.std.specs.Prelude.{ℕ, zero, suc, ◌≡◌, ◌≤◌, ◌⊎◌, ◌+◌, ◌-◌, ◌*◌, ◌/◌, ◌^◌, ◌==◌, min, nat_le, if◌then◌else◌, List}
+use Rattle.gfs2_layout.specs.Structures.{dinode_length}
 use Rattle.std.specs.List.{range_with_len}
 use Rattle.mkgfs2_tool.specs.Groups.{parts}
 use Rattle.mkgfs2_tool.specs.declared.files.Shape.{Shape}
@@ -11,9 +12,9 @@ pub record IsShape (f : Shape) : Type 0 where
   pub size : (f.size ≡ 512) ⊎ ((f.size ≡ 1024) ⊎ ((f.size ≡ 2048) ⊎ (f.size ≡ 4096)))
   pub bytes : f.bytes ≤ 2 ^ 28
 
--- how many pointers of eight bytes stand in a dinode, behind 232 bytes, and in a block of pointers, behind 24
+-- how many pointers of eight bytes stand in a dinode, behind its own bytes, and in a block of pointers, behind 24
 abbrev pub dinode_pointers : ℕ → ℕ
-dinode_pointers size = (size - 232) / 8
+dinode_pointers size = (size - dinode_length) / 8
 
 abbrev pub block_pointers : ℕ → ℕ
 block_pointers size = (size - 24) / 8
@@ -24,7 +25,7 @@ content_blocks f = parts f.bytes f.size
 -- The least height at which the content fits: at 0 it stands in the dinode. No file of a new image is higher than three.
 abbrev pub height : Shape → ℕ
 height f =
-    if nat_le f.bytes (f.size - 232) then 0
+    if nat_le f.bytes (f.size - dinode_length) then 0
     else if nat_le (content_blocks f) (dinode_pointers f.size) then 1
     else if nat_le (content_blocks f) (dinode_pointers f.size * block_pointers f.size) then 2
     else 3

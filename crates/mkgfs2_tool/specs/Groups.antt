@@ -1,14 +1,15 @@
 -- Where the resource groups of a new image lie.
 use Rattle.std.specs.Prelude.{ℕ, ◌+◌, ◌-◌, ◌*◌, ◌/◌, ◌≤◌, ◌==◌, min, if◌then◌else◌}
+use Rattle.gfs2_layout.specs.Device.{superblock_place}
 use Rattle.mkgfs2_tool.specs.declared.plan.Plan.{Plan}
 
 -- how many parts of this size the whole makes, the last of them maybe smaller
 abbrev pub parts : ℕ → ℕ → ℕ
 parts whole size = (whole + size - 1) / size
 
--- the superblock stands 64 KiB behind the start
+-- the superblock's block
 abbrev pub super_block : Plan → ℕ
-super_block p = 65536 / p.size
+super_block p = superblock_place p.size
 
 -- The blocks behind the superblock are shared among the groups evenly, and the last group also has what is left over.
 abbrev pub share : Plan → ℕ

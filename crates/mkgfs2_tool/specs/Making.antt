@@ -1,5 +1,6 @@
 -- When an image is made, and when not.
 use Rattle.std.specs.Prelude.{ℕ, ⊤, ◌≡◌, ◌^◌, ◌<◌, ◌≤◌, ◌&&◌, ◌⊎◌, Bool, nat_le, if◌then◌else◌, Option, None, Some, IfSome}
+use Rattle.profile_limits.specs.Limits.{least_journal_blocks, most_blocks, most_groups, most_journal_blocks, most_journals}
 use Rattle.mkgfs2_tool.specs.Groups.{data_blocks, last_group, all_data}
 use Rattle.mkgfs2_tool.specs.Order.{taken}
 use Rattle.mkgfs2_tool.specs.declared.files.Part.{Part}
@@ -20,8 +21,8 @@ is_between low high n = nat_le low n && nat_le n high
 -- the first of the numbers that is outside its limits
 abbrev pub bad_option : MakeOptions → Option Opt
 bad_option o =
-    if is_between 1 8 o.journals then
-    (if is_between 512 65536 o.journal_blocks then (if is_between 1 64 o.groups then None else Some opt.Groups) else Some opt.JournalBlocks)
+    if is_between 1 most_journals o.journals then
+    (if is_between least_journal_blocks most_journal_blocks o.journal_blocks then (if is_between 1 most_groups o.groups then None else Some opt.Groups) else Some opt.JournalBlocks)
     else Some opt.Journals
 
 -- what a device of so many blocks of this size is to become
@@ -33,11 +34,11 @@ pub record IsPlan (p : Plan) : Type 0 where
   pub size : (p.size ≡ 512) ⊎ ((p.size ≡ 1024) ⊎ ((p.size ≡ 2048) ⊎ (p.size ≡ 4096)))
   pub count : p.count < 2 ^ 48
   pub some_journals : 1 ≤ p.journals
-  pub journals : p.journals ≤ 8
-  pub some_journal_blocks : 512 ≤ p.journal_blocks
-  pub journal_blocks : p.journal_blocks ≤ 65536
+  pub journals : p.journals ≤ most_journals
+  pub some_journal_blocks : least_journal_blocks ≤ p.journal_blocks
+  pub journal_blocks : p.journal_blocks ≤ most_journal_blocks
   pub some_groups : 1 ≤ p.groups
-  pub groups : p.groups ≤ 64
+  pub groups : p.groups ≤ most_groups
 
 -- with at most three journals, or in blocks of more than 512 bytes, the directory of the journals is a linear one
 abbrev pub HasLinearJournals : Plan → Type 0
@@ -46,7 +47,7 @@ HasLinearJournals p = (p.journals ≤ 3) ⊎ (1024 ≤ p.size)
 -- a plan of an image that fits its device
 pub record IsFitting (p : Plan) : Type 0 where
   pub plan : IsPlan p
-  pub count : p.count ≤ 131072
+  pub count : p.count ≤ most_blocks
   pub first : 4 ≤ data_blocks p 0
   pub last : 4 ≤ data_blocks p (last_group p)
   pub room : taken p ≤ all_data p

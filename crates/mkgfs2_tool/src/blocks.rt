@@ -3,13 +3,15 @@ ghost use Rattle.gfs2_layout.specs.Bytes.{slice};
 ghost use Rattle.gfs2_layout.specs.Writing.{superblock_put, log_put};
 ghost use Rattle.mkgfs2_tool.specs.Blocks.{system_file as system_file_of, text_field as text_field_of, shift_of as shift_of_size};
 ghost use Rattle.mkgfs2_tool.specs.Making.{IsFitting};
+ghost use Rattle.profile_limits.specs.Limits.{most_blocks};
+ghost use Rattle.gfs2_layout.specs.Structures.{dinode_length};
 
 use crate::bytes::put_bytes;
 use crate::files::Part;
 use crate::inodes::system_file;
 use crate::order::Use;
 use crate::plan::Plan;
-use gfs2_layout::{Inum, LogHeader, SuperBlock};
+use gfs2_layout::{DINODE_LENGTH, Inum, LogHeader, SuperBlock};
 
 // A name, and zeros behind it.
 fn text_field(text: &[u8]) -> [u8; 64]
@@ -96,12 +98,12 @@ impl Plan {
     fn put_stuffed(&self, block: &mut [u8], entries: &[u8])
         requires plan { IsFitting self.now }
         requires size { length block.old ≡ self.now.size }
-        requires room { 232 + length entries.now ≤ self.now.size }
+        requires room { dinode_length + length entries.now ≤ self.now.size }
         ensures { block.new ≡ dinode_block self.now (dinode self.now 3 2 (system_file_of (group_list self.now))) entries.now }
     {
         let dinode = self.dinode(3, 2, system_file(self.group_list()));
         self.put_dinode(block, dinode);
-        put_bytes(block, 232, entries);
+        put_bytes(block, DINODE_LENGTH, entries);
     }
 
     // Block `n` of some content, and zeros behind its end.
@@ -192,7 +194,7 @@ impl Plan {
         requires plan { IsFitting self.now }
         requires size { length block.old ≡ self.now.size }
         requires group { group ≤ 64 }
-        requires n { n ≤ 131072 }
+        requires n { n ≤ most_blocks }
         requires entries { IsGroupList self.now entries.now }
         ensures { block.new ≡ group_block self.now group n }
     {
@@ -231,7 +233,7 @@ impl Plan {
     pub(crate) fn put_block(&self, block: &mut [u8], number: u64, entries: &[u8])
         requires plan { IsFitting self.now }
         requires size { length block.old ≡ self.now.size }
-        requires number { number < 131072 }
+        requires number { number < most_blocks }
         requires entries { IsGroupList self.now entries.now }
         ensures { block.new ≡ new_block self.now number }
     {

@@ -3,6 +3,7 @@ ghost use Rattle.mkgfs2_tool.specs.Making.{IsPartOf};
 ghost use Rattle.mkgfs2_tool.specs.Files.{IsShape, dinode_pointers as dinode_pointers_of, block_pointers as block_pointers_of};
 
 use crate::plan::parts;
+use gfs2_layout::DINODE_LENGTH;
 
 /// A file of so many bytes, in blocks of this size.
 #[derive(Clone, Copy, Debug, PartialEq, Eq)]
@@ -23,7 +24,7 @@ fn dinode_pointers(size: u64) -> u64
     requires { 512 ≤ size }
     ensures { result ≡ dinode_pointers_of size }
 {
-    (size - 232) / 8
+    (size - DINODE_LENGTH as u64) / 8
 }
 
 fn block_pointers(size: u64) -> u64
@@ -50,7 +51,7 @@ impl Shape {
         ensures value { result ≡ height self.now }
         ensures bound { result ≤ 3 }
     {
-        if self.bytes <= self.size - 232 {
+        if self.bytes <= self.size - DINODE_LENGTH as u64 {
             return 0;
         }
         let blocks = self.content_blocks();

@@ -2,6 +2,7 @@ ghost use Rattle.std.specs.Prelude.{◌≡◌, ◌+◌, ◌-◌, ◌*◌, ◌/�
 ghost use Rattle.gfs2_layout.specs.Writing.{group_put, rindex_put};
 ghost use Rattle.mkgfs2_tool.specs.Blocks.{is_within as is_within_of, is_dinode as is_dinode_of, is_dinode_part as is_dinode_part_of};
 ghost use Rattle.mkgfs2_tool.specs.Making.{IsFitting};
+ghost use Rattle.profile_limits.specs.Limits.{most_blocks};
 
 use crate::files::Part;
 use crate::order::Use;
@@ -104,7 +105,7 @@ impl Plan {
         requires plan { IsFitting self.now }
         requires group { group ≤ 64 }
         ensures value { result ≡ free_blocks self.now group }
-        ensures bound { result ≤ 131072 }
+        ensures bound { result ≤ most_blocks }
     {
         self.data_blocks(group)
             .saturating_sub(self.taken().saturating_sub(self.data_before(group)))
@@ -179,7 +180,7 @@ impl Plan {
         requires size { length block.old ≡ self.now.size }
         requires group { group ≤ 64 }
         requires some { 1 ≤ n }
-        requires n { n ≤ 131072 }
+        requires n { n ≤ most_blocks }
         ensures { block.new ≡ further_header_block self.now group n }
     {
         self.put_header(block, 3, 300);
@@ -192,7 +193,7 @@ impl Plan {
         requires plan { IsFitting self.now }
         requires size { length block.old ≡ self.now.size }
         requires group { group ≤ 64 }
-        requires n { n ≤ 131072 }
+        requires n { n ≤ most_blocks }
         ensures { block.new ≡ header_block self.now group n }
     {
         if n == 0 {

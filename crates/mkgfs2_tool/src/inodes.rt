@@ -8,7 +8,7 @@ ghost use Rattle.mkgfs2_tool.specs.Blocks.{system_file as system_file_of, dinode
 use crate::directory::{Entry, Name, put_records};
 use crate::files::Shape;
 use crate::plan::Plan;
-use gfs2_layout::{Dinode, Inum};
+use gfs2_layout::{DINODE_LENGTH, Dinode, Inum};
 
 const DIRECTORY: u32 = 0o040_755;
 
@@ -67,7 +67,7 @@ impl Plan {
         Inode {
             mode: DIRECTORY,
             nlink: directories,
-            size: self.size - 232,
+            size: self.size - DINODE_LENGTH as u64,
             blocks: 1,
             flags: JOURNALED,
             payload_format: RECORDS,
@@ -158,7 +158,7 @@ impl Plan {
         ensures { block.new ≡ dinode_block self.now dinode (records (area_length self.now) entries.now) }
     {
         self.put_dinode(block, dinode);
-        put_records(&mut block[232..], entries);
+        put_records(&mut block[DINODE_LENGTH..], entries);
     }
 
     /// The block of the master directory.

@@ -7,6 +7,7 @@ ghost use Rattle.mkgfs2_tool.specs.Making.{IsFitting, IsFaultOf, HasLinearJourna
 ghost use Rattle.mkgfs2_tool.specs.Outcomes.{IsMadeUpTo, IsBegun, IsMade, PlanEnding, Ending, IsRoom};
 ghost use Rattle.mkgfs2_tool.specs.declared.plan.Plan.{Plan};
 ghost use Rattle.gfs2_layout.specs.Device.{IsBlockSize};
+ghost use Rattle.profile_limits.specs.Limits.{most_blocks};
 
 use crate::device::{put_in_flight, settle};
 use crate::laws::new_images_stand;
@@ -208,7 +209,7 @@ pub fn make<D: SharedDisk>(
     options: &MakeOptions,
 ) -> Result<(), MakeFault>
     requires size { IsBlockSize (D.state disk.old).size }
-    requires small { (D.state disk.old).count ≤ 131072 }
+    requires small { (D.state disk.old).count ≤ most_blocks }
     requires idle { (D.state disk.old).in_flight 0 ≡ [] }
     requires linear { HasLinearJournals (plan_of (D.state disk.old).size (D.state disk.old).count options.now) }
     ensures ending { Ending options.now (D.state disk.old) (D.state disk.new) (D.list disk.old) (D.list disk.new) (D.faults disk.old) (D.faults disk.new) result }

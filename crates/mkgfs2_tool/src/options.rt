@@ -1,6 +1,8 @@
 ghost use Rattle.std.specs.Prelude.{◌≡◌};
 ghost use Rattle.mkgfs2_tool.specs.Making.{bad_option as bad_option_of};
 
+use profile_limits::{LEAST_JOURNAL_BLOCKS, MOST_GROUPS, MOST_JOURNAL_BLOCKS, MOST_JOURNALS};
+
 /// What an image is to have: so many journals (1 to 8) of so many blocks (512 to 65,536), so many resource groups (1 to
 /// 64), an identifier, and the time of its inodes in seconds.
 #[derive(Clone, Copy, Debug, PartialEq, Eq)]
@@ -45,13 +47,13 @@ pub enum MakeFault {
 pub(crate) fn bad_option(options: &MakeOptions) -> Option<Opt>
     ensures { result ≡ bad_option_of options.now }
 {
-    if !(1..=8).contains(&options.journals) {
+    if !(1..=MOST_JOURNALS).contains(&options.journals) {
         return Some(Opt::Journals);
     }
-    if !(512..=65_536).contains(&options.journal_blocks) {
+    if !(LEAST_JOURNAL_BLOCKS..=MOST_JOURNAL_BLOCKS).contains(&options.journal_blocks) {
         return Some(Opt::JournalBlocks);
     }
-    if !(1..=64).contains(&options.groups) {
+    if !(1..=MOST_GROUPS).contains(&options.groups) {
         return Some(Opt::Groups);
     }
     None

@@ -2,6 +2,7 @@ ghost use Rattle.std.specs.Prelude.{◌≡◌, ◌+◌, ◌^◌, ◌<◌, ◌≤
 ghost use Rattle.std.specs.Prelude.{◌*◌};
 ghost use Rattle.mkgfs2_tool.specs.Files.{IsShape, file_blocks};
 ghost use Rattle.mkgfs2_tool.specs.Making.{IsPlan, IsUseOf};
+ghost use Rattle.profile_limits.specs.Limits.{most_blocks};
 
 use crate::files::{Part, Shape};
 use crate::plan::Plan;
@@ -134,7 +135,7 @@ impl Plan {
     /// one, and they are about as many as are taken.
     pub(crate) fn needed(&self) -> u64
         requires plan { IsPlan self.now }
-        requires small { self.now.count ≤ 131072 }
+        requires small { self.now.count ≤ most_blocks }
         ensures { IsNeeded self.now result }
     {
         let mut count = self.count;

@@ -3,6 +3,7 @@ ghost use Rattle.mkgfs2_tool.specs.Groups.{parts as parts_of, header_blocks as h
 ghost use Rattle.mkgfs2_tool.specs.Making.{IsPlan, plan_of};
 
 use crate::options::MakeOptions;
+use gfs2_layout::superblock_block;
 
 /// What a device is to become: blocks of `size` bytes, `count` of them, with these journals and groups.
 #[derive(Clone, Copy, Debug, PartialEq, Eq)]
@@ -74,7 +75,7 @@ impl Plan {
         ensures value { result ≡ super_block self.now }
         ensures bound { result ≤ 128 }
     {
-        65_536 / self.size
+        superblock_block(self.size as u32)
     }
 
     pub(crate) fn share(&self) -> u64

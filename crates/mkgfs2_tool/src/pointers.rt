@@ -9,7 +9,7 @@ use crate::bytes::put_bytes;
 use crate::files::Shape;
 use crate::inodes::system_file;
 use crate::plan::Plan;
-use gfs2_layout::MetaHeader;
+use gfs2_layout::{DINODE_LENGTH, MetaHeader};
 
 impl Plan {
     ghost use Rattle.mkgfs2_tool.specs.Blocks.{addresses, pointing_dinode, pointer_block, zeros};
@@ -73,7 +73,7 @@ impl Plan {
     {
         let dinode = self.dinode(number, place, system_file(shape));
         self.put_dinode(block, dinode);
-        self.put_children(block, 232, place, shape, 0, 0);
+        self.put_children(block, DINODE_LENGTH, place, shape, 0, 0);
     }
 
     /// A block of pointers.

@@ -5,3 +5,4 @@ pub mod NodeLaws
 pub mod OperationLaws
 pub mod StateLaws
 pub mod FileLaws
+pub mod ReadLaws

@@ -1,5 +1,5 @@
 -- What a shared disk holds, and what its calls do to it.
-use Rattle.std.specs.Prelude.{ℕ, ◌≡◌, ◌<◌, ◌==◌, Bool, true, false, IsTrue, List, [], ◌∷◌, ◌++◌, length, map, nat_lt, Option, None, Some, unwrap_or, if◌then◌else◌, ⊤}
+use Rattle.std.specs.Prelude.{ℕ, ◌≡◌, ◌<◌, ◌≤◌, ◌==◌, Bool, true, false, IsTrue, List, [], ◌∷◌, ◌++◌, length, map, nat_lt, Option, None, Some, unwrap_or, if◌then◌else◌, ⊤}
 use Rattle.std.specs.List.{AllByRecursion}
 
 -- a write in flight: the block that it goes to, and its bytes
@@ -94,3 +94,9 @@ pub record IsSound (s : DiskState) : Type 0 where
 pub record IsIdle (s : DiskState) : Type 0 where
   pub none_in_flight : (node : ℕ) → s.in_flight node ≡ []
   pub none_fenced : (node : ℕ) → s.is_fenced node ≡ false
+
+-- a call only reads: the disk stays as it was, and so does its list of operations; no count of faults falls
+pub record ReadsOnly (before now : DiskState) (told told_now : Option (List Operation)) (faults faults_now : ℕ → ℕ) : Type 0 where
+  pub same : now ≡ before
+  pub list : told_now ≡ told
+  pub later : (node : ℕ) → faults node ≤ faults_now node

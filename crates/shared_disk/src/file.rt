@@ -10,9 +10,9 @@ use crate::nodes::Nodes;
 use crate::{DiskError, Settle, SharedDisk};
 use std::alloc::Global;
 use std::fs::{File, OpenFile, OpenOptions};
-use std::io;
+use std::io::{self, Error, ErrorKind, Seek, SeekFrom};
 use std::marker::Model;
-use std::os::unix::fs::FileExt;
+use std::os::unix::fs::{FileExt, FileTypeExt};
 use std::rt::Files;
 
 /// Why a file can't be a disk: the system refused to open or to measure it, or there was no memory.
@@ -22,7 +22,7 @@ pub enum OpenError {
     NoMemory,
 }
 
-/// The whole blocks of a file; bytes past them are left alone. What is in flight is in memory, taken
+/// The whole blocks of a regular file or a block device; bytes past them are left alone. What is in flight is in memory, taken
 /// at opening, until a barrier or a fence writes it to the file. It tells nothing of its blocks.
 /// A read costs a binary search and one read of the system, a barrier or a fence one write of the
 /// system per write in flight, and a barrier one sync.
@@ -112,8 +112,21 @@ fn settle_flights(
     Ok(())
 }
 
+// Opens a file that blocks stand on: a regular file, or a block device. Nothing else is opened, so nobody waits at a pipe.
+fn open_blocks<F: Files<File = File>>(rt: &F, path: &str, is_written: bool) -> io::Result<File> {
+    let about = rt.metadata(path)?;
+    if !about.is_file() && !about.file_type().is_block_device() {
+        return Err(Error::from(ErrorKind::InvalidInput));
+    }
+    OpenOptions::new()
+        .read(true)
+        .write(is_written)
+        .open(rt, path)
+}
+
 impl FileDisk {
-    /// A disk of the file's whole blocks of so many bytes, with nothing in flight and nobody fenced.
+    /// A disk of the file's whole blocks of so many bytes, with nothing in flight and nobody fenced. The file is a
+    /// regular file or a block device.
     pub fn open<F: Files<File = File>>(
         rt: &F,
         alloc: Global,
@@ -124,13 +137,40 @@ impl FileDisk {
         ensures value { IfOk result (λ d. d ≡ fresh d.count block_size) }
         ensures idle { IfOk result (λ d. IsIdle (file_state d)) }
     {
-        let Ok(file) = OpenOptions::new().read(true).write(true).open(rt, path) else {
+        match open_blocks(rt, path, true) {
+            Ok(file) => FileDisk::over(file, alloc, block_size),
+            Err(_) => Err(OpenError::Failed),
+        }
+    }
+
+    /// The same of a file that may only be read. What is written to the disk stays in flight: the barrier or the fence
+    /// that is to bring it to the file fails.
+    pub fn open_for_reading<F: Files<File = File>>(
+        rt: &F,
+        alloc: Global,
+        path: &str,
+        block_size: u32,
+    ) -> Result<FileDisk, OpenError>
+        requires { 1 ≤ block_size }
+        ensures value { IfOk result (λ d. d ≡ fresh d.count block_size) }
+        ensures idle { IfOk result (λ d. IsIdle (file_state d)) }
+    {
+        match open_blocks(rt, path, false) {
+            Ok(file) => FileDisk::over(file, alloc, block_size),
+            Err(_) => Err(OpenError::Failed),
+        }
+    }
+
+    // A disk over an open file. Its end tells how long it is; what the system tells of a block device has no length.
+    fn over(mut file: File, alloc: Global, block_size: u32) -> Result<FileDisk, OpenError>
+        requires { 1 ≤ block_size }
+        ensures value { IfOk result (λ d. d ≡ fresh d.count block_size) }
+        ensures idle { IfOk result (λ d. IsIdle (file_state d)) }
+    {
+        let Ok(length) = file.seek(SeekFrom::End(0)) else {
             return Err(OpenError::Failed);
         };
-        let Ok(about) = file.metadata() else {
-            return Err(OpenError::Failed);
-        };
-        let count = about.len() / u64::from(block_size);
+        let count = length / u64::from(block_size);
         let Ok(nodes) = Nodes::new(alloc, count, block_size) else {
             return Err(OpenError::NoMemory);
         };

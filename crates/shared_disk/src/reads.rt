@@ -1,5 +1,5 @@
-ghost use Rattle.std.specs.Prelude.{◌≡◌, ◌<◌, ◌≤◌, ℕ, length, IsTrue, false, OnOk, IfErr};
-ghost use Rattle.shared_disk.specs.Disk.{read_gives};
+ghost use Rattle.std.specs.Prelude.{◌≡◌, ◌<◌, ◌≤◌, length, IsTrue, false, OnOk, IfErr};
+ghost use Rattle.shared_disk.specs.Disk.{read_gives, ReadsOnly};
 ghost use Rattle.fault_counts.specs.Causes.{WentUp};
 
 use crate::SharedDisk;
@@ -17,10 +17,8 @@ pub fn read_block<D: SharedDisk>(
     requires size { length into.old ≡ (D.state disk.old).size }
     requires open { (D.state disk.old).is_fenced node ≡ false }
     ensures bytes { OnOk result (IsTrue (D.state disk.old).tells → into.new ≡ read_gives (D.state disk.old) node block) }
-    ensures same { D.state disk.new ≡ D.state disk.old }
-    ensures list { D.list disk.new ≡ D.list disk.old }
+    ensures reads { ReadsOnly (D.state disk.old) (D.state disk.new) (D.list disk.old) (D.list disk.new) (D.faults disk.old) (D.faults disk.new) }
     ensures cause { IfErr result (λ r. WentUp (D.faults disk.old node) (D.faults disk.new node) r.before r.after) }
-    ensures later { (j : ℕ) → D.faults disk.old j ≤ D.faults disk.new j }
 {
     let before = disk.faults(node);
     match disk.read(node, block, into) {

@@ -2,7 +2,7 @@ use super::watched::{make_on, ones};
 use crate::MakeOptions;
 use crc_words::crc32;
 use file_tree::Content;
-use image_model::{Image, read_tree};
+use image_reader::{Image, read_tree};
 use std::process::Abort;
 use std::test::Fail;
 

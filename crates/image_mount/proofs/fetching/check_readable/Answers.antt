@@ -5,13 +5,13 @@ use Rattle.image_mount.proofs.fetching.check_readable.Goals as goal
 
 pub returns-then-block-count-clause-refused : goal.returns-then-block-count-clause-refused
 returns-then-block-count-clause-refused c im done d n size count wanted known =
-    beyond_super im _ c.args.block c.damaged.ensures (c.if-block-superblock_place.true ∙ c.superblock_place.ensures ∙ ap superblock_place (c.block_size.ensures.value ∙ size)) (omega (arith, c.if-block-count.true, count))
+    beyond_super im _ c.args.block c.damaged.ensures (c.if-block-superblock_block.true ∙ c.superblock_block.ensures ∙ ap superblock_place (c.block_size.ensures.value ∙ size)) (omega (arith, c.if-block-count.true, count))
 
 pub returns-then-block-count-2-clause-refused : goal.returns-then-block-count-2-clause-refused
 returns-then-block-count-2-clause-refused c im done d n size count wanted known =
-    let place : c.superblock_place.result ≡ superblock_place im.size = c.superblock_place.ensures ∙ ap superblock_place (c.block_size.ensures.value ∙ size) in
+    let place : c.superblock_block.result ≡ superblock_place im.size = c.superblock_block.ensures ∙ ap superblock_place (c.block_size.ensures.value ∙ size) in
     beyond_all im _ c.args.block c.args.from c.damaged-then-block-count-2.ensures wanted (omega (arith, c.if-block-count-2.true, count))
-    (λ e. elim c.else-block-superblock_place.either [
+    (λ e. elim c.else-block-superblock_block.either [
       | inl both ↦ absurd (omega (arith, both.1, c.if-block-count-2.true))
       | inr other ↦ other (e ∙ sym place)
     ])

@@ -19,7 +19,7 @@ keep-requires-clause-new g c =
 pub returns-clause-work : goal.returns-clause-work
 returns-clause-work g c =
     let low : c.args.block < length c.args.table.now.entries = omega (arith, c.in_ok-check_readable.ensures.inside, c.blocks-2.ensures.value, c.requires.work.count) in
-    working_more (g.D.SharedDisk.state c.args.disk.now) _ c.args.table.now _ c.args.block _ c.in_ok-read_into.ensures.same c.requires.work (not_kept c.args.table.now.entries c.args.block low c.requires.new)
+    working_more (g.D.SharedDisk.state c.args.disk.now) _ c.args.table.now _ c.args.block _ c.in_ok-read_into.ensures.reads.same c.requires.work (not_kept c.args.table.now.entries c.args.block low c.requires.new)
     c.keep.ensures.kept c.keep.ensures.size (λ tells. refilled c.read_into.new.into c.in_ok-bytes.bytes.items c.in_ok-bytes.bytes.len c.in_ok-bytes.bytes.ok.0 (c.read_into.auto.into ∙ ap length c.deref_mut.ensures.value) ∙ c.in_ok-read_into.ensures.bytes tells)
 
 pub returns-in_err-check_readable-clause-refused : goal.returns-in_err-check_readable-clause-refused

@@ -7,25 +7,25 @@ use Rattle.image_mount.proofs.formats.read_superblock.Goals as goal
 
 pub returns-in_default-clause-stops : goal.returns-in_default-clause-stops
 returns-in_default-clause-stops c im read few =
-    let at : c.superblock_place-place.result ≡ superblock_place im.size = c.superblock_place-place.ensures ∙ ap superblock_place (c.block_size-size.ensures.value ∙ read.size) in
+    let at : c.superblock_block-place.result ≡ superblock_place im.size = c.superblock_block-place.ensures ∙ ap superblock_place (c.block_size-size.ensures.value ∙ read.size) in
     lacks_super im c.in_ok-bytes.bytes.now c.in_default.field-0 _ _ at (read.same _ _ c.in_ok-bytes.ensures.bytes) (grind (arith)) c.in_default.ensures c.damaged.ensures
 
 pub returns-in_err-check_formats-clause-stops : goal.returns-in_err-check_formats-clause-stops
 returns-in_err-check_formats-clause-stops c im read few =
-    let at : c.superblock_place-place.result ≡ superblock_place im.size = c.superblock_place-place.ensures ∙ ap superblock_place (c.block_size-size.ensures.value ∙ read.size) in
+    let at : c.superblock_block-place.result ≡ superblock_place im.size = c.superblock_block-place.ensures ∙ ap superblock_place (c.block_size-size.ensures.value ∙ read.size) in
     let same = read.same _ _ c.in_ok-bytes.ensures.bytes in
-    let low : superblock_place im.size < im.count = omega (arith, at, read.count, kept_inside c.args.table.now.entries c.superblock_place-place.result c.in_ok-bytes.bytes.now c.in_ok-bytes.ensures.bytes) in
+    let low : superblock_place im.size < im.count = omega (arith, at, read.count, kept_inside c.args.table.now.entries c.superblock_block-place.result c.in_ok-bytes.bytes.now c.in_ok-bytes.ensures.bytes) in
     stopped im _ _ c.from_residual-in_err-check_formats.ensures.1
     (c.in_err-check_formats.ensures.refused im (has_super im _ c.in-Ok.superblock _ at same c.in-Ok.ensures few low (c.in_ok-bytes.ensures.whole ∙ read.size)) (super_is im _ c.in-Ok.superblock _ at same c.in-Ok.ensures) (c.block_size-size.ensures.value ∙ read.size))
 
 pub returns-clause-found : goal.returns-clause-found
 returns-clause-found c im read =
-    let at : c.superblock_place-place.result ≡ superblock_place im.size = c.superblock_place-place.ensures ∙ ap superblock_place (c.block_size-size.ensures.value ∙ read.size) in
+    let at : c.superblock_block-place.result ≡ superblock_place im.size = c.superblock_block-place.ensures ∙ ap superblock_place (c.block_size-size.ensures.value ∙ read.size) in
     super_is im _ c.in-Ok.superblock _ at (read.same _ _ c.in_ok-bytes.ensures.bytes) c.in-Ok.ensures
 
 pub returns-clause-format : goal.returns-clause-format
 returns-clause-format c im read few =
-    let at : c.superblock_place-place.result ≡ superblock_place im.size = c.superblock_place-place.ensures ∙ ap superblock_place (c.block_size-size.ensures.value ∙ read.size) in
+    let at : c.superblock_block-place.result ≡ superblock_place im.size = c.superblock_block-place.ensures ∙ ap superblock_place (c.block_size-size.ensures.value ∙ read.size) in
     let same = read.same _ _ c.in_ok-bytes.ensures.bytes in
-    let low : superblock_place im.size < im.count = omega (arith, at, read.count, kept_inside c.args.table.now.entries c.superblock_place-place.result c.in_ok-bytes.bytes.now c.in_ok-bytes.ensures.bytes) in
+    let low : superblock_place im.size < im.count = omega (arith, at, read.count, kept_inside c.args.table.now.entries c.superblock_block-place.result c.in_ok-bytes.bytes.now c.in_ok-bytes.ensures.bytes) in
     c.in_ok-check_formats.ensures.format im (has_super im _ c.in-Ok.superblock _ at same c.in-Ok.ensures few low (c.in_ok-bytes.ensures.whole ∙ read.size)) (super_is im _ c.in-Ok.superblock _ at same c.in-Ok.ensures) (c.block_size-size.ensures.value ∙ read.size)

@@ -14,9 +14,9 @@ loop-group-init c = record {
     end = 0;
     past = tt;
     rise = rise;
-    above = omega (arith, c.superblock_place-bare.ensures, ap superblock_place is.block_size);
+    above = omega (arith, c.superblock_block-bare.ensures, ap superblock_place is.block_size);
   };
-  near = λ im list is. near_none im c.args.groups.now _ (omega (arith, c.superblock_place-bare.ensures, ap superblock_place is.block_size));
+  near = λ im list is. near_none im c.args.groups.now _ (omega (arith, c.superblock_block-bare.ensures, ap superblock_place is.block_size));
 }
 
 pub returns-then-bare-group-clause-refused : goal.returns-then-bare-group-clause-refused

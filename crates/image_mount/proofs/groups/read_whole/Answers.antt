@@ -11,7 +11,7 @@ use Rattle.image_mount.proofs.Shown.{shown, inode_at, call_told}
 use Rattle.image_mount.proofs.Steps.{answer_at, needed_at, seen_in, shown_by, lacks_needed}
 use Rattle.image_mount.proofs.Stops.{passed, stopped}
 use Rattle.image_mount.proofs.Wanted.{wanted, wanted_below}
-use Rattle.image_mount.specs.Table.{seen_of}
+use Rattle.image_mount.specs.Kept.{seen_of}
 use Rattle.image_mount.proofs.groups.read_whole.Goals as goal
 
 pub returns-in_err-get-clause-stops : goal.returns-in_err-get-clause-stops

@@ -1,6 +1,7 @@
 use Rattle.std.proofs.Common.{◌≡◌, IsTrue, length, get_or, refl, subst, ◌∙◌, arith}
 use Rattle.shared_disk.specs.Disk.{DiskState}
 use Rattle.image_mount.proofs.Heads.{head_more, head_all}
+use Rattle.shared_disk.proofs.ReadLaws.{reads_on}
 use Rattle.image_mount.proofs.journals.best_header.Goals as goal
 
 pub loop-block-preserved : goal.loop-block-preserved
@@ -12,10 +13,8 @@ loop-block-preserved g c =
       size = c.read_into.auto.into ∙ inv.size;
       found = λ tells.
           head_more (g.D.SharedDisk.state c.args.disk.now).block_at c.args.blocks.now c.loop-block.block-index c.loop-block.place (get_or c.args.blocks.now c.loop-block.block-index 0) c.read_into.new.into c.loop-block.best c.accepted.result c.better-best.result
-          c.better-best.ensures c.accepted.ensures inv.place (inv.found tells) (subst (λ (s : DiskState). IsTrue s.tells → c.read_into.new.into ≡ s.block_at (get_or c.args.blocks.now c.loop-block.block-index 0)) inv.same read.bytes tells) refl;
-      same = read.same ∙ inv.same;
-      list = read.list ∙ inv.list;
-      later = λ j. omega (arith, inv.later j, read.later j);
+          c.better-best.ensures c.accepted.ensures inv.place (inv.found tells) (subst (λ (s : DiskState). IsTrue s.tells → c.read_into.new.into ≡ s.block_at (get_or c.args.blocks.now c.loop-block.block-index 0)) inv.reads.same read.bytes tells) refl;
+      reads = reads_on inv.reads read.reads;
     }
 
 pub returns-clause-found : goal.returns-clause-found

@@ -7,7 +7,7 @@ use Rattle.gfs2_layout.specs.Inode.{Leads}
 use Rattle.glock_names.specs.declared.steps.Step.TheVariants.{Is}
 use Rattle.image_model.specs.Claims.{every}
 use Rattle.image_mount.specs.Searching.{StopsRightly}
-use Rattle.image_mount.specs.Table.{seen_of}
+use Rattle.image_mount.specs.Kept.{seen_of}
 use Rattle.image_mount.proofs.Places.{found_block, wrong_hole, journal_format, journal_inode, journal_wanted, above_wanted}
 use Rattle.image_mount.proofs.Shown.{shown, damage_told}
 use Rattle.image_mount.proofs.Steps.{answer_at, needed_at, seen_in, shown_by, lacks_needed}

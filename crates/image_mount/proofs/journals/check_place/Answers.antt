@@ -1,6 +1,6 @@
 use Rattle.std.proofs.Common.{◌≡◌, ◌≢◌, Some, true, sym, ◌∙◌, arith}
 use Rattle.gfs2_layout.specs.Device.{superblock_place}
-use Rattle.image_mount.specs.Table.{seen_of}
+use Rattle.image_mount.specs.Kept.{seen_of}
 use Rattle.image_mount.proofs.Marks.{place_beyond, place_outside, place_again, place_kept, outside_groups, above_super, some_ok}
 use Rattle.image_mount.proofs.journals.check_place.Goals as goal
 use Rattle.image_mount.proofs.journals.check_place.Goals.{then-located-count-via-then-located-count, then-located-count-via-else-located-count+then-not-is_data, then-is_place-via-then-is_place, then-is_place-via-else-is_place+then-is_ok}

@@ -3,6 +3,7 @@ use Rattle.image_model.specs.Image.{image_of}
 use Rattle.image_mount.proofs.Marks.{go_refused}
 use Rattle.image_mount.proofs.Stops.{refused}
 use Rattle.image_mount.proofs.Working.{read_now}
+use Rattle.shared_disk.proofs.ReadLaws.{reads_on}
 use Rattle.image_mount.proofs.journals.find_block.Goals as goal
 
 pub loop-located-preserved : goal.loop-located-preserved
@@ -12,17 +13,15 @@ loop-located-preserved g c =
     record {
       work = next.work;
       searched = λ done d n places tells of has low known.
-          next.searched (image_of (g.D.SharedDisk.state c.args.disk.now)) done d n (c.in-Err.ensures.stops (image_of (g.D.SharedDisk.state c.args.disk.now)) places (read_now _ _ _ inv.same tells inv.work) of has low) (inv.searched done d n places tells of has low known);
-      same = next.same ∙ inv.same;
-      list = next.list ∙ inv.list;
-      later = λ j. omega (arith, inv.later j, next.later j);
+          next.searched (image_of (g.D.SharedDisk.state c.args.disk.now)) done d n (c.in-Err.ensures.stops (image_of (g.D.SharedDisk.state c.args.disk.now)) places (read_now _ _ _ inv.reads.same tells inv.work) of has low) (inv.searched done d n places tells of has low known);
+      reads = reads_on inv.reads next.reads;
     }
 
 pub returns-in_err-go_on-in-Err-clause-refused : goal.returns-in_err-go_on-in-Err-clause-refused
 returns-in_err-go_on-in-Err-clause-refused g c done d n places tells of has low known =
     let inv = c.loop-located.invariant in
     refused (image_of (g.D.SharedDisk.state c.args.disk.now)) _ _ c.from_residual.ensures.1
-    (go_refused _ _ _ _ _ done d n inv.same c.in_err-go_on-in-Err.ensures.refused tells (c.in-Err.ensures.stops (image_of (g.D.SharedDisk.state c.args.disk.now)) places (read_now _ _ _ inv.same tells inv.work) of has low) (inv.searched done d n places tells of has low known))
+    (go_refused _ _ _ _ _ done d n inv.reads.same c.in_err-go_on-in-Err.ensures.refused tells (c.in-Err.ensures.stops (image_of (g.D.SharedDisk.state c.args.disk.now)) places (read_now _ _ _ inv.reads.same tells inv.work) of has low) (inv.searched done d n places tells of has low known))
 
 pub returns-in-Ok-clause-found : goal.returns-in-Ok-clause-found
-returns-in-Ok-clause-found g c tells = c.in-Ok.ensures.found _ (read_now _ _ _ c.loop-located.invariant.same tells c.loop-located.invariant.work)
+returns-in-Ok-clause-found g c tells = c.in-Ok.ensures.found _ (read_now _ _ _ c.loop-located.invariant.reads.same tells c.loop-located.invariant.work)

@@ -10,13 +10,14 @@ use Rattle.image_mount.proofs.Moved.{place_refused, place_searched, place_at, wo
 use Rattle.image_mount.proofs.Places.{blocks_more}
 use Rattle.image_mount.proofs.Stops.{refused}
 use Rattle.image_mount.proofs.Working.{read_now}
+use Rattle.shared_disk.proofs.ReadLaws.{reads_on}
 use Rattle.image_mount.proofs.journals.find_blocks.Goals as goal
 
 pub returns-in_err-located-clause-refused : goal.returns-in_err-located-clause-refused
 returns-in_err-located-clause-refused g c done tells next has known =
     let inv = c.loop-place.invariant in
     refused (image_of (g.D.SharedDisk.state c.args.disk.now)) _ _ c.from_residual-in_err-located.ensures.1
-    (place_refused _ _ inv.same c.args.system.now.jindex c.args.journal.now c.args.places c.loop-place.place c.loop-place.table c.in_err-located.field-0.0 done c.args.journal.now.addr c.loop-place.place
+    (place_refused _ _ inv.reads.same c.args.system.now.jindex c.args.journal.now c.args.places c.loop-place.place c.loop-place.table c.in_err-located.field-0.0 done c.args.journal.now.addr c.loop-place.place
     (c.in_err-located.ensures.refused done c.args.journal.now.addr c.loop-place.place c.args.places) tells next.named has c.loop-place-test.true (inv.searched done tells next has known))
 
 pub returns-in_err-check_place-clause-refused : goal.returns-in_err-check_place-clause-refused
@@ -24,11 +25,11 @@ returns-in_err-check_place-clause-refused g c done tells next has known =
     let inv = c.loop-place.invariant in
     let d = c.args.journal.now.addr in
     let found = c.in_ok-located.ensures in
-    let searched = place_searched _ _ inv.same c.args.system.now.jindex c.args.journal.now c.args.places c.loop-place.place c.loop-place.table c.find_block.new.table done d c.loop-place.place
+    let searched = place_searched _ _ inv.reads.same c.args.system.now.jindex c.args.journal.now c.args.places c.loop-place.place c.loop-place.table c.find_block.new.table done d c.loop-place.place
     (found.searched done d c.loop-place.place c.args.places) tells next.named has c.loop-place-test.true (inv.searched done tells next has known) in
     refused (image_of (g.D.SharedDisk.state c.args.disk.now)) _ _ c.from_residual-in_err-check_place.ensures.1
-    (c.in_err-check_place.ensures.refused (image_of (g.D.SharedDisk.state c.args.disk.now)) done c.args.journal.now c.loop-place.place (read_now _ _ _ (found.same ∙ inv.same) tells found.work) next searched
-    (place_at _ _ inv.same d c.loop-place.place c.in_ok-located.located found.found tells))
+    (c.in_err-check_place.ensures.refused (image_of (g.D.SharedDisk.state c.args.disk.now)) done c.args.journal.now c.loop-place.place (read_now _ _ _ (found.reads.same ∙ inv.reads.same) tells found.work) next searched
+    (place_at _ _ inv.reads.same d c.loop-place.place c.in_ok-located.located found.found tells))
 
 pub loop-place-preserved : goal.loop-place-preserved
 loop-place-preserved g c =
@@ -38,24 +39,22 @@ loop-place-preserved g c =
     let found = c.in_ok-located.ensures in
     let located = c.in_ok-located.located in
     let items = c.in_ok-push.ensures.items in
-    let low : located.block < s.count = omega (arith, c.in_ok-check_place.ensures.inside, found.work.count, ap (λ (t : DiskState). t.count) (found.same ∙ inv.same)) in
+    let low : located.block < s.count = omega (arith, c.in_ok-check_place.ensures.inside, found.work.count, ap (λ (t : DiskState). t.count) (found.reads.same ∙ inv.reads.same)) in
     record {
       work = working_marked _ c.find_block.new.table c.mark.new.self found.work c.mark.ensures.entries c.mark.ensures.size;
       inside = subst (All (λ b. b < s.count)) (sym items) (All-push (λ b. b < s.count) c.loop-place.blocks.items located.block inv.inside low);
       count = omega (arith, ap length items, length_push c.loop-place.blocks.items located.block, inv.count);
       found = λ done tells next has known.
-          let at = place_at _ _ inv.same d c.loop-place.place located found.found tells in
+          let at = place_at _ _ inv.reads.same d c.loop-place.place located found.found tells in
           blocks_more (image_of s) d c.loop-place.place located.from at.leads.0 located c.loop-place.blocks.items _ (inv.found done tells next has known) at
           (place_claim (image_of s) done c.args.system.now c.args.journal.now next c.loop-place.place located at) items;
       searched = λ done tells next has known.
-          let at = place_at _ _ inv.same d c.loop-place.place located found.found tells in
-          let searched = place_searched _ _ inv.same c.args.system.now.jindex c.args.journal.now c.args.places c.loop-place.place c.loop-place.table c.find_block.new.table done d c.loop-place.place
+          let at = place_at _ _ inv.reads.same d c.loop-place.place located found.found tells in
+          let searched = place_searched _ _ inv.reads.same c.args.system.now.jindex c.args.journal.now c.args.places c.loop-place.place c.loop-place.table c.find_block.new.table done d c.loop-place.place
           (found.searched done d c.loop-place.place c.args.places) tells next.named has c.loop-place-test.true (inv.searched done tells next has known) in
           marked_more (image_of s) done d c.loop-place.place (c.loop-place.place + 1) c.find_block.new.table c.mark.new.self located.block c.mark.ensures.places c.mark.ensures.entries (omega arith)
           (is_place (image_of s) done c.args.system.now c.args.journal.now next c.loop-place.place located at (c.in_ok-check_place.ensures.apart (image_of s) next.looked)) searched;
-      same = found.same ∙ inv.same;
-      list = found.list ∙ inv.list;
-      later = λ j. omega (arith, inv.later j, found.later j);
+      reads = reads_on inv.reads found.reads;
     }
 
 pub returns-clause-found : goal.returns-clause-found

@@ -3,6 +3,7 @@ use Rattle.std.specs.List.{All}
 use Rattle.image_model.specs.Image.{image_of}
 use Rattle.image_mount.specs.Rings.{IsNext, IsSearched, HasPlaces, AreBlocksOf}
 use Rattle.image_mount.specs.Searching.{IsWorking}
+use Rattle.shared_disk.specs.Disk.{ReadsOnly}
 use Rattle.image_mount.proofs.journals.find_blocks.Given as goal
 
 abbrev pub invariant-loop-place : goal.invariant-loop-place
@@ -14,7 +15,5 @@ invariant-loop-place g l = record {
       → AreBlocksOf (image_of (g.D.SharedDisk.state l.initial.disk)) l.journal.addr l.place l.blocks.items;
   searched : (done : List ℕ) → IsTrue (g.D.SharedDisk.state l.initial.disk).tells → IsNext (image_of (g.D.SharedDisk.state l.initial.disk)) done l.system l.journal → HasPlaces (image_of (g.D.SharedDisk.state l.initial.disk)) l.journal.addr l.places → IsSearched (image_of (g.D.SharedDisk.state l.initial.disk)) done l.journal.addr 0 l.initial.table
       → IsSearched (image_of (g.D.SharedDisk.state l.initial.disk)) done l.journal.addr l.place l.table;
-  same : g.D.SharedDisk.state l.disk ≡ g.D.SharedDisk.state l.initial.disk;
-  list : g.D.SharedDisk.list l.disk ≡ g.D.SharedDisk.list l.initial.disk;
-  later : (j : ℕ) → g.D.SharedDisk.faults l.initial.disk j ≤ g.D.SharedDisk.faults l.disk j;
+  reads : ReadsOnly (g.D.SharedDisk.state l.initial.disk) (g.D.SharedDisk.state l.disk) (g.D.SharedDisk.list l.initial.disk) (g.D.SharedDisk.list l.disk) (g.D.SharedDisk.faults l.initial.disk) (g.D.SharedDisk.faults l.disk);
 }

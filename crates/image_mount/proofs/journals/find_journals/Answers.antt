@@ -15,6 +15,7 @@ use Rattle.image_mount.proofs.Moved.{ring_of_turn}
 use Rattle.image_mount.proofs.Names.{mapped_at}
 use Rattle.image_mount.proofs.Stops.{refused}
 use Rattle.image_mount.proofs.Working.{refilled}
+use Rattle.shared_disk.proofs.ReadLaws.{reads_on}
 use Rattle.image_mount.proofs.journals.find_journals.Goals as goal
 
 pub returns-in_err-head-clause-refused : goal.returns-in_err-head-clause-refused
@@ -29,7 +30,7 @@ returns-in_err-head-clause-refused g c l tells names same rings =
     let at : IsJournalAt l k ring.dinode = ap (λ ds. slice_get ds k) (sym same) ∙ mapped_at (λ (r : Ring). r.dinode) c.args.rings.items k ring there in
     let of = ring_of_turn (image_of s) c.args.rings.items k ring turn.0 turn.1 rings in
     refused (image_of s) _ _ c.from_residual-in_err-head.ensures.1
-    (subst (λ (t : DiskState). IsTrue t.tells → HasNames (image_of t) l → IsJournalAt l k ring.dinode → IsRingOf (image_of t) ring.dinode ring.blocks.items → RefusesRightly (image_of t) c.in_err-head.field-0.0) inv.same
+    (subst (λ (t : DiskState). IsTrue t.tells → HasNames (image_of t) l → IsJournalAt l k ring.dinode → IsRingOf (image_of t) ring.dinode ring.blocks.items → RefusesRightly (image_of t) c.in_err-head.field-0.0) inv.reads.same
     (c.in_err-head.ensures.refused l k) tells names at of)
 
 pub loop-ring-preserved : goal.loop-ring-preserved
@@ -45,9 +46,7 @@ loop-ring-preserved g c =
       size = ap length (refilled c.find_head.new.bytes c.loop-ring.bytes.items c.loop-ring.bytes.len c.loop-ring.bytes.ok.0 filled) ∙ filled ∙ inv.size;
       found = λ tells rings.
           let of = ring_of_turn (image_of s) c.args.rings.items (length c.loop-ring.yielded) ring turn.0 turn.1 rings in
-          let head = subst (λ (t : DiskState). IsTrue t.tells → IsRingOf (image_of t) ring.dinode ring.blocks.items → IsHeadOf (image_of t) ring.dinode c.in_ok-head.head) inv.same read.found tells of in
+          let head = subst (λ (t : DiskState). IsTrue t.tells → IsRingOf (image_of t) ring.dinode ring.blocks.items → IsHeadOf (image_of t) ring.dinode c.in_ok-head.head) inv.reads.same read.found tells of in
           journals_more (image_of s) c.loop-ring.yielded ring c.in_ok-head.head c.loop-ring.journals.items _ (inv.found tells rings) of head c.in_ok-push.ensures.items;
-      same = read.same ∙ inv.same;
-      list = read.list ∙ inv.list;
-      later = λ j. omega (arith, inv.later j, read.later j);
+      reads = reads_on inv.reads read.reads;
     }

@@ -17,7 +17,7 @@ returns-in_err-blocks-clause-refused g c done tells next known =
     let counted = c.in_ok-places.ensures in
     let begun = searched_next im done d c.count_places.new.table (counted.searched done 0 0 tells next.named known) in
     refused im _ _ c.from_residual-in_err-blocks.ensures.1
-    (blocks_told _ _ counted.same done c.args.system.now c.args.journal.now c.in_ok-places.places c.count_places.new.table (λ (i : Image). RefusesRightly i c.in_err-blocks.field-0.0) (c.in_err-blocks.ensures.refused done) tells next
+    (blocks_told _ _ counted.reads.same done c.args.system.now c.args.journal.now c.in_ok-places.places c.count_places.new.table (λ (i : Image). RefusesRightly i c.in_err-blocks.field-0.0) (c.in_err-blocks.ensures.refused done) tells next
     (counted.found tells) begun)
 
 pub returns-clause-found : goal.returns-clause-found
@@ -28,7 +28,7 @@ returns-clause-found g c done tells next known =
     let begun = searched_next im done d c.count_places.new.table (counted.searched done 0 0 tells next.named known) in
     let blocks = c.in_ok-blocks.blocks.items in
     ring_is im d c.in_ok-places.places blocks (counted.found tells)
-    (blocks_told _ _ counted.same done c.args.system.now c.args.journal.now c.in_ok-places.places c.count_places.new.table (λ (i : Image). AreBlocksOf i d c.in_ok-places.places blocks) (c.in_ok-blocks.ensures.found done) tells next
+    (blocks_told _ _ counted.reads.same done c.args.system.now c.args.journal.now c.in_ok-places.places c.count_places.new.table (λ (i : Image). AreBlocksOf i d c.in_ok-places.places blocks) (c.in_ok-blocks.ensures.found done) tells next
     (counted.found tells) begun)
 
 pub returns-clause-searched : goal.returns-clause-searched
@@ -38,5 +38,5 @@ returns-clause-searched g c done tells next known =
     let counted = c.in_ok-places.ensures in
     let begun = searched_next im done d c.count_places.new.table (counted.searched done 0 0 tells next.named known) in
     searched_done im done d c.in_ok-places.places c.find_blocks.new.table
-    (blocks_told _ _ counted.same done c.args.system.now c.args.journal.now c.in_ok-places.places c.count_places.new.table (λ (i : Image). IsSearched i done d c.in_ok-places.places c.find_blocks.new.table) (c.in_ok-blocks.ensures.searched done)
+    (blocks_told _ _ counted.reads.same done c.args.system.now c.args.journal.now c.in_ok-places.places c.count_places.new.table (λ (i : Image). IsSearched i done d c.in_ok-places.places c.find_blocks.new.table) (c.in_ok-blocks.ensures.searched done)
     tells next (counted.found tells) begun)

@@ -6,6 +6,7 @@ use Rattle.image_mount.specs.Rings.{IsSearched, AreRings}
 use Rattle.image_mount.specs.Searching.{IsWorking}
 use Rattle.image_mount.specs.System.{IsSystemOf}
 use Rattle.image_mount.specs.declared.journals.Ring.{Ring}
+use Rattle.shared_disk.specs.Disk.{ReadsOnly}
 use Rattle.image_mount.proofs.journals.find_rings.Given as goal
 
 abbrev pub invariant-loop-journal : goal.invariant-loop-journal
@@ -14,7 +15,5 @@ invariant-loop-journal g l = record {
   inside : All (λ (ring : Ring). All (λ b. b < (g.D.SharedDisk.state l.initial.disk).count) ring.blocks.items) l.rings.items;
   found : IsTrue (g.D.SharedDisk.state l.initial.disk).tells → IsSystemOf (image_of (g.D.SharedDisk.state l.initial.disk)) l.system → IsSearched (image_of (g.D.SharedDisk.state l.initial.disk)) [] 0 0 l.initial.table → AreRings (image_of (g.D.SharedDisk.state l.initial.disk)) (take l.journal-index l.system.journals.items) l.rings.items;
   searched : IsTrue (g.D.SharedDisk.state l.initial.disk).tells → IsSystemOf (image_of (g.D.SharedDisk.state l.initial.disk)) l.system → IsSearched (image_of (g.D.SharedDisk.state l.initial.disk)) [] 0 0 l.initial.table → IsSearched (image_of (g.D.SharedDisk.state l.initial.disk)) (map (λ (ring : Ring). ring.dinode) l.rings.items) 0 0 l.table;
-  same : g.D.SharedDisk.state l.disk ≡ g.D.SharedDisk.state l.initial.disk;
-  list : g.D.SharedDisk.list l.disk ≡ g.D.SharedDisk.list l.initial.disk;
-  later : (j : ℕ) → g.D.SharedDisk.faults l.initial.disk j ≤ g.D.SharedDisk.faults l.disk j;
+  reads : ReadsOnly (g.D.SharedDisk.state l.initial.disk) (g.D.SharedDisk.state l.disk) (g.D.SharedDisk.list l.initial.disk) (g.D.SharedDisk.list l.disk) (g.D.SharedDisk.faults l.initial.disk) (g.D.SharedDisk.faults l.disk);
 }

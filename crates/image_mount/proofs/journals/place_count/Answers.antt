@@ -7,7 +7,7 @@ use Rattle.image_mount.proofs.Stops.{stopped}
 use Rattle.gfs2_layout.specs.Journal.{ring_of}
 use Rattle.gfs2_layout.specs.declared.dinode.Dinode.{Dinode}
 use Rattle.image_mount.proofs.journals.place_count.Goals as goal
-use Rattle.image_mount.proofs.journals.place_count.Goals.{then-places-lt512-via-then-places-lt512, then-places-lt512-via-else-places-lt512+then-places-gt65536}
+use Rattle.image_mount.proofs.journals.place_count.Goals.{then-places-lt-LEAST_PLACES-via-then-places-lt-LEAST_PLACES, then-places-lt-LEAST_PLACES-via-else-places-lt-LEAST_PLACES+then-places-gt-MOST_PLACES}
 
 pub returns-in_err-check_record-clause-stops : goal.returns-in_err-check_record-clause-stops
 returns-in_err-check_record-clause-stops c im read of =
@@ -23,14 +23,14 @@ returns-then-inode-from-ne0-clause-stops c im read of =
     wrong_part im c.args.jindex c.args.journal.now _ inode.block c.from.result inode.dinode of c.damaged.ensures c.in_ok-inode.ensures.block (c.in_ok-inode.ensures.found im read)
     (c.from.ensures ∙ c.block_size-size.ensures.value ∙ read.size) c.if-inode-from-ne0.true
 
-pub returns-then-places-lt512-clause-stops : goal.returns-then-places-lt512-clause-stops
-returns-then-places-lt512-clause-stops c im read of =
+pub returns-then-places-lt-LEAST_PLACES-clause-stops : goal.returns-then-places-lt-LEAST_PLACES-clause-stops
+returns-then-places-lt-LEAST_PLACES-clause-stops c im read of =
     let inode = c.in_ok-inode.inode in
     let sized : c.from-2.result ≡ im.size = c.from-2.ensures ∙ c.block_size-size.ensures.value ∙ read.size in
     let count : inode.dinode.size / c.from-2.result ≡ (ring_of (every im c.args.journal.now.addr)).places
     = ap (λ n. inode.dinode.size / n) sized ∙ ap (λ (d : Dinode). d.size / im.size) (c.in_ok-inode.ensures.found im read) in
     wrong_places im c.args.jindex c.args.journal.now _ _ of c.outside.ensures count
-    (λ both. elim c.then-places-lt512.branch [
-      | then-places-lt512-via-then-places-lt512 w ↦ absurd (omega (arith, both.0, w.if-places-lt512.true))
-      | then-places-lt512-via-else-places-lt512+then-places-gt65536 w ↦ absurd (omega (arith, both.1, w.if-places-gt65536.true))
+    (λ both. elim c.then-places-lt-LEAST_PLACES.branch [
+      | then-places-lt-LEAST_PLACES-via-then-places-lt-LEAST_PLACES w ↦ absurd (omega (arith, both.0, w.if-places-lt-LEAST_PLACES.true))
+      | then-places-lt-LEAST_PLACES-via-else-places-lt-LEAST_PLACES+then-places-gt-MOST_PLACES w ↦ absurd (omega (arith, both.1, w.if-places-gt-MOST_PLACES.true))
     ])

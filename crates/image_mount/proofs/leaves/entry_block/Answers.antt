@@ -3,7 +3,7 @@ use Rattle.dinode_tree.specs.Reading.{block_at}
 use Rattle.glock_names.specs.declared.steps.Step.TheVariants.{Is}
 use Rattle.image_model.specs.Claims.{every}
 use Rattle.image_model.specs.Owners.{Master}
-use Rattle.image_mount.specs.Table.{seen_of}
+use Rattle.image_mount.specs.Kept.{seen_of}
 use Rattle.image_mount.proofs.Masters.{block_there, hole_there, master_claim, master_inode, master_read, stuffed_block}
 use Rattle.image_mount.proofs.Shown.{shown, damage_told}
 use Rattle.image_mount.proofs.Steps.{answer_at, needed_at, seen_in, shown_by, lacks_needed}

@@ -1,6 +1,6 @@
 use Rattle.std.proofs.Common.{ℕ, ◌-◌, ◌%◌, refl, arith}
-use Rattle.image_model.proofs.Chains.{run_some, start_whole}
-use Rattle.image_model.proofs.Spans.{aligned_run}
+use Rattle.image_reader.proofs.Chains.{run_some, start_whole}
+use Rattle.image_reader.proofs.Spans.{aligned_run}
 use Rattle.gfs2_layout.specs.Inode.{first_hash}
 use Rattle.image_model.specs.Claims.{every}
 use Rattle.image_mount.proofs.Masters.{first_claim, leaf_is, missing_told, no_leaf_told}

@@ -10,7 +10,7 @@ use Rattle.image_mount.proofs.master.find_master.Goals as goal
 
 pub returns-in_err-inode-clause-stops : goal.returns-in_err-inode-clause-stops
 returns-in_err-inode-clause-stops c im read few =
-    let place : c.superblock_place-place.result ≡ superblock_place im.size = c.superblock_place-place.ensures ∙ ap superblock_place (c.block_size.ensures.value ∙ read.size) in
+    let place : c.superblock_block-place.result ≡ superblock_place im.size = c.superblock_block-place.ensures ∙ ap superblock_place (c.block_size.ensures.value ∙ read.size) in
     let same : c.in_ok-superblock.superblock.master.address ≡ master_of im = ap (λ (s : SuperBlock). s.master.address) (c.in_ok-superblock.ensures.found im read) in
     passed im _ _ c.from_residual-in_err-inode.ensures.1 (c.in_err-inode.ensures.stops im Master read (is_master im _ _ place same) refl (c.in_ok-superblock.ensures.format im read few))
 

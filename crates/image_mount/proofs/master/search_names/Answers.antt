@@ -12,7 +12,7 @@ returns-in_err-check_hashed-clause-refused g c tells is known =
     let inode = c.args.inode.now in
     let flag : is_hashed_by inode.dinode ≡ true = sym c.is_hashed.ensures ∙ grind (arith, c.if-not-is_hashed.false) in
     let of = c.in_ok-pointers.ensures.found tells is (hashed_as (image_of (g.D.SharedDisk.state c.args.disk.now)) inode.block _ true is.dinode flag) in
-    let walk = walked_by _ _ c.in_ok-pointers.ensures.same inode c.in_ok-pointers.pointers c.in_ok-walk.walk c.in_ok-walk.ensures.found tells of in
+    let walk = walked_by _ _ c.in_ok-pointers.ensures.reads.same inode c.in_ok-pointers.pointers c.in_ok-walk.walk c.in_ok-walk.ensures.found tells of in
     refused (image_of (g.D.SharedDisk.state c.args.disk.now)) _ _ c.from_residual-in_err-check_hashed.ensures.1
     (c.in_err-check_hashed.ensures.refused (image_of (g.D.SharedDisk.state c.args.disk.now)) is
     (subst (AreAllRecords (image_of (g.D.SharedDisk.state c.args.disk.now)) inode.block) (sym c.deref.ensures.value) (walk_found (image_of (g.D.SharedDisk.state c.args.disk.now)) inode c.in_ok-pointers.pointers c.in_ok-walk.walk of walk c.in_ok-walk.ensures.ended))
@@ -22,5 +22,5 @@ pub returns-clause-found : goal.returns-clause-found
 returns-clause-found g c tells is hashed =
     let inode = c.args.inode.now in
     let of = c.in_ok-pointers.ensures.found tells is hashed in
-    let walk = walked_by _ _ c.in_ok-pointers.ensures.same inode c.in_ok-pointers.pointers c.in_ok-walk.walk c.in_ok-walk.ensures.found tells of in
+    let walk = walked_by _ _ c.in_ok-pointers.ensures.reads.same inode c.in_ok-pointers.pointers c.in_ok-walk.walk c.in_ok-walk.ensures.found tells of in
     walk_plain (image_of (g.D.SharedDisk.state c.args.disk.now)) inode c.in_ok-pointers.pointers c.in_ok-walk.walk of walk c.in_ok-walk.ensures.ended

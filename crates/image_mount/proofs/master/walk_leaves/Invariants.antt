@@ -4,6 +4,7 @@ use Rattle.image_model.specs.Image.{image_of}
 use Rattle.image_mount.specs.Leaves.{IsTableOf, IsWalked, steps_left}
 use Rattle.image_mount.specs.Rings.{IsSearched}
 use Rattle.image_mount.specs.Searching.{IsWorking}
+use Rattle.shared_disk.specs.Disk.{ReadsOnly}
 use Rattle.image_mount.proofs.master.walk_leaves.Given as goal
 
 abbrev pub invariant-loop-at : goal.invariant-loop-at
@@ -13,9 +14,7 @@ invariant-loop-at g l = record {
   within : l.walk.index ≤ 2 ^ l.pointers.depth;
   walked : IsTrue (g.D.SharedDisk.state l.initial.disk).tells → IsTableOf (image_of (g.D.SharedDisk.state l.initial.disk)) l.inode l.pointers → IsWalked (image_of (g.D.SharedDisk.state l.initial.disk)) (master_of (image_of (g.D.SharedDisk.state l.initial.disk))) l.walk;
   searched : IsTrue (g.D.SharedDisk.state l.initial.disk).tells → IsTableOf (image_of (g.D.SharedDisk.state l.initial.disk)) l.inode l.pointers → IsSearched (image_of (g.D.SharedDisk.state l.initial.disk)) [] 0 0 l.initial.table → IsSearched (image_of (g.D.SharedDisk.state l.initial.disk)) [] 0 0 l.table;
-  same : g.D.SharedDisk.state l.disk ≡ g.D.SharedDisk.state l.initial.disk;
-  list : g.D.SharedDisk.list l.disk ≡ g.D.SharedDisk.list l.initial.disk;
-  later : (j : ℕ) → g.D.SharedDisk.faults l.initial.disk j ≤ g.D.SharedDisk.faults l.disk j;
+  reads : ReadsOnly (g.D.SharedDisk.state l.initial.disk) (g.D.SharedDisk.state l.disk) (g.D.SharedDisk.list l.initial.disk) (g.D.SharedDisk.list l.disk) (g.D.SharedDisk.faults l.initial.disk) (g.D.SharedDisk.faults l.disk);
 }
 
 abbrev pub decreases-loop-at : goal.decreases-loop-at

@@ -11,6 +11,6 @@ returns-clause-searched g c =
     let m = c.in_ok-master.ensures in
     let n = c.in_ok-names.ensures in
     let master = m.found tells c.requires.few known in
-    files_searched _ _ (n.same ∙ m.same) c.in_ok-master.master c.deref.result.now _ _ more tells master
-    (subst (IsNamedBy (image_of (g.D.SharedDisk.state c.args.disk.now)) c.in_ok-master.master) (sym c.deref.ensures.value) (names_known _ _ m.same c.in_ok-master.master c.in_ok-names.names.items n.found tells master))
-    (names_searched _ _ m.same c.in_ok-master.master _ _ n.searched tells master (m.searched tells c.requires.few known)))
+    files_searched _ _ (n.reads.same ∙ m.reads.same) c.in_ok-master.master c.deref.result.now _ _ more tells master
+    (subst (IsNamedBy (image_of (g.D.SharedDisk.state c.args.disk.now)) c.in_ok-master.master) (sym c.deref.ensures.value) (names_known _ _ m.reads.same c.in_ok-master.master c.in_ok-names.names.items n.found tells master))
+    (names_searched _ _ m.reads.same c.in_ok-master.master _ _ n.searched tells master (m.searched tells c.requires.few known)))

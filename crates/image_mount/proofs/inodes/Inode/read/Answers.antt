@@ -5,7 +5,7 @@ use Rattle.gfs2_layout.specs.Inode.{dinode_in, Fits}
 use Rattle.std.proofs.Common.{◌≡◌, [], ap, ◌∙◌}
 use Rattle.image_mount.proofs.Shown.{shown, inode_at, damage_told}
 use Rattle.image_mount.proofs.Steps.{answer_at, seen_in, shown_by}
-use Rattle.image_mount.specs.Table.{seen_of}
+use Rattle.image_mount.specs.Kept.{seen_of}
 use Rattle.gfs2_layout.specs.Structures.{dinode_of}
 use Rattle.std.specs.Prelude.{unwrap_or}
 use Rattle.image_mount.proofs.Stops.{stopped}

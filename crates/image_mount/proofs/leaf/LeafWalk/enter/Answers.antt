@@ -4,7 +4,7 @@ use Rattle.gfs2_layout.specs.Records.{Record, records_in}
 use Rattle.image_mount.specs.Found.{first_other}
 use Rattle.image_mount.specs.Listing.{standing}
 use Rattle.image_model.specs.Owners.{Chained}
-use Rattle.image_model.specs.Owning.{IsEntered}
+use Rattle.image_reader.specs.Owning.{IsEntered}
 use Rattle.image_mount.proofs.LeafWalks.{clash_told, fell, first_told, others_stand, owned_by, short_kept, walked_fresh, walked_known}
 use Rattle.image_mount.proofs.Stops.{refused}
 use Rattle.image_mount.proofs.leaf.LeafWalk.enter.Goals as goal

@@ -1,6 +1,0 @@
-use Rattle.std.proofs.Common.{refl}
-use Rattle.image_model.proofs.Visits.{visit_found}
-use Rattle.image_model.proofs.directory.Visit.of_found.Goals as goal
-
-pub returns-clause-visit : goal.returns-clause-visit
-returns-clause-visit c image is = visit_found image c.args.entry.now _ refl refl is

@@ -1,5 +1,0 @@
-use Rattle.image_model.specs.System.{HasNoneNamed}
-use Rattle.image_model.proofs.journals.named.Given as goal
-
-abbrev pub invariant-loop-entry : goal.invariant-loop-entry
-invariant-loop-entry l = HasNoneNamed l.found l.entry-index l.parent l.name

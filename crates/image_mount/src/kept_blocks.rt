@@ -1,0 +1,145 @@
+ghost use Rattle.std.specs.Prelude.{◌≡◌, ◌≢◌, ◌+◌, ◌<◌, ◌≤◌, ⊤, true, false, length, count_by, is_none, slice_set, slice_get, Some, None, IsTrue, ◌↔◌, IfOk, IfErr, IfSome, IfNone, MatchOption};
+ghost use Rattle.std.specs.List.{All};
+ghost use Rattle.gfs2_layout.specs.Device.{IsBlockSize};
+
+use crate::fault::MountFault;
+use crate::stop::Stop;
+use file_tree::Content;
+use glock_names::{Group, LockName, State, View};
+use std::alloc::Global;
+use std::marker::Model;
+
+/// The blocks of a device that were read and are kept, by their numbers.
+#[derive(Drop)]
+pub(crate) struct KeptBlocks {
+    size: u32,
+    entries: Vec<Option<Content>>,
+    // Which blocks are places of journals.
+    places: Vec<bool>,
+    // How many blocks are not kept.
+    left: usize,
+}
+
+impl Model for KeptBlocks {
+    ghost use Rattle.std.specs.Prelude.{◌≡◌, count_by, is_none, length};
+    ghost use Rattle.glock_names.specs.Views.{IsView};
+    ghost use Rattle.image_mount.specs.Kept.{Kept, seen_of};
+
+    ghost Value = { Kept };
+
+    ghost view = { λ t. record { size = t.size; entries = t.entries.items; places = t.places.items; left = t.left } };
+
+    ghost invariant = { λ t. IsView (seen_of (record { size = t.size; entries = t.entries.items; places = t.places.items; left = t.left })) × (t.left ≡ count_by is_none t.entries.items) × (length t.places.items ≡ length t.entries.items) };
+}
+
+impl KeptBlocks {
+    ghost use Rattle.image_mount.specs.Kept.{seen_of};
+    ghost use Rattle.image_mount.specs.Searching.{IsSteady, LacksBlock};
+    ghost use Rattle.image_mount.specs.declared.fault.MountFault.TheVariants as fault_of;
+
+    /// Nothing is kept of so many blocks.
+    pub fn new(alloc: Global, size: u32, count: u64) -> Result<KeptBlocks, MountFault>
+        requires { IsBlockSize size }
+        ensures empty { IfOk result (λ table. All (λ kept. kept ≡ None) table.entries) }
+        ensures count { IfOk result (λ table. length table.entries ≡ count) }
+        ensures size { IfOk result (λ table. table.size ≡ size) }
+        ensures places { IfOk result (λ table. All (λ place. place ≡ false) table.places) }
+        ensures memory { IfErr result (λ fault. fault ≡ fault_of.NoMemory) }
+        ensures steady { IfErr result IsSteady }
+    {
+        let mut entries = Vec::with_capacity(alloc, count as usize)?;
+        let mut places = Vec::with_capacity(alloc, count as usize)?;
+        for _block in 0..count {
+            entries.push(None)?;
+            places.push(false)?;
+        }
+        Ok(KeptBlocks {
+            size,
+            entries,
+            places,
+            left: count as usize,
+        })
+    }
+
+    /// Keeps a block that is not kept yet.
+    pub fn keep(&mut self, block: u64, bytes: Vec<u8>)
+        requires new { slice_get self.old.entries block ≡ Some None }
+        requires whole { length bytes.items ≡ self.old.size }
+        ensures kept { self.new.entries ≡ slice_set self.old.entries block (Some bytes.items) }
+        ensures size { self.new.size ≡ self.old.size }
+        ensures places { self.new.places ≡ self.old.places }
+        ensures falls { self.new.left + 1 ≡ self.old.left }
+    {
+        self.entries[block as usize] = Some(Content::new(bytes));
+        self.left -= 1;
+    }
+
+    /// The bytes of a block, whose number stands in block `from`; a search for it stops where it isn't kept.
+    pub fn get(&self, block: u64, from: u64) -> Result<&[u8], Stop>
+        ensures bytes { IfOk result (λ bytes. (seen_of self.now).block_at block ≡ Some bytes.now) }
+        ensures whole { IfOk result (λ bytes. length bytes.now ≡ self.now.size) }
+        ensures least { IfOk result (λ bytes. 512 ≤ length bytes.now) }
+        ensures stops { IfErr result (λ stop. stop ≡ Stop.Reads block from) }
+        ensures lacks { IfErr result (LacksBlock self.now) }
+    {
+        let _size = self.block_size();
+        match self.block(block) {
+            Some(bytes) => Ok(bytes),
+            None => Err(Stop::Reads { block, from }),
+        }
+    }
+
+    /// How many blocks the device has.
+    pub fn count(&self) -> u64
+        ensures { result ≡ length self.now.entries }
+    {
+        self.entries.len() as u64
+    }
+
+    /// Whether the block is a place of a journal.
+    pub fn is_place(&self, block: u64) -> bool
+        ensures { IsTrue result ↔ slice_get self.now.places block ≡ Some true }
+    {
+        self.places.get(block as usize) == Some(&true)
+    }
+
+    /// The block is a place of a journal.
+    pub fn mark(&mut self, block: u64)
+        requires { block < length self.old.entries }
+        ensures places { self.new.places ≡ slice_set self.old.places block true }
+        ensures entries { self.new.entries ≡ self.old.entries }
+        ensures size { self.new.size ≡ self.old.size }
+        ensures left { self.new.left ≡ self.old.left }
+    {
+        self.places[block as usize] = true;
+    }
+}
+
+impl View for KeptBlocks {
+    ghost use Rattle.image_mount.specs.Kept.{seen_of};
+
+    ghost seen = { seen_of };
+
+    fn state(&self, _lock: LockName) -> State {
+        State::Un
+    }
+
+    fn block(&self, block: u64) -> Option<&[u8]> {
+        match self.entries.get(block as usize) {
+            Some(Some(content)) => Some(content.bytes()),
+            Some(None) | None => None,
+        }
+    }
+
+    fn groups(&self) -> &[Group] {
+        &[]
+    }
+
+    fn root(&self) -> u64 {
+        0
+    }
+
+    fn block_size(&self) -> u32 {
+        self.size
+    }
+}

@@ -1,0 +1,129 @@
+-- What claiming a block finds broken.
+use Rattle.std.proofs.Common.{◌≡◌, ◌≢◌, ◌⊎◌, Bool, true, false, ℕ, zero, suc, [], ◌∷◌, ◌++◌, ◌≤◌, List, Bor, Option, Some, None, inl, inr, refl, sym, ap, subst, ◌∙◌, arith}
+use Rattle.std.specs.Prelude.{if◌then◌else◌, Contains, MatchOption, slice_get, slice_set}
+use Rattle.std.specs.List.{All}
+use Rattle.std.proofs.lemmas.Bool.{cases_lt}
+use Rattle.std.proofs.lemmas.List.Elements.{All-contains}
+use Rattle.gfs2_layout.specs.declared.rindex.Rindex.{Rindex}
+use Rattle.image_model.specs.Claims.{Claims, HasGroup}
+use Rattle.image_model.specs.Groups.{IsDataOf}
+use Rattle.image_model.specs.Image.{Image}
+use Rattle.image_model.specs.Owners.{Owner, Chained}
+use Rattle.image_reader.specs.Owning.{owner_of, AreClaims, AreOneChain, IsClash, IsEmpty}
+use Rattle.image_reader.specs.Reading.{image_at, IsTrueOf}
+use Rattle.image_model.specs.Rules.{Breaks, IsOutside, beyond_device, beyond_groups, two_owners, comes_again}
+use Rattle.image_reader.specs.Walking.{IsSound, IsOutsideKnown}
+use Rattle.image_reader.specs.declared.image.ImageFault.{ImageFault}
+use Rattle.image_reader.specs.declared.image.ImageFault.TheVariants.{Damaged}
+use Rattle.image_reader.specs.declared.owners.Claim.{Claim}
+use Rattle.image_reader.specs.declared.walk.Walk.{Walk}
+use Rattle.image_reader.proofs.InodeFaults.{told}
+
+-- ---- outside the device, or the groups
+
+pub beyond : (walk : Walk) (fault : ImageFault) (by number : ℕ) (o : Owner) → fault ≡ Damaged by 2 → Claims (image_at walk.image) by number o
+    → walk.image.count ≤ number → IsTrueOf (image_at walk.image) fault
+beyond walk fault by number o is claimed past =
+    let counted = walk.image.counted in
+    told _ fault _ _ is (beyond_device by number o claimed (omega (arith, counted, past)))
+
+outside_of : (im : Image) (groups : Option (Bor (List Rindex))) (number : ℕ) → MatchOption groups (Unit {0}) (λ known. (g : Rindex) → HasGroup im g → Contains known.now g)
+    → MatchOption groups ⊥ (λ known. All (λ g. ¬ (IsDataOf g number)) known.now) → IsOutside im number
+outside_of im None number all outside = absurd outside
+outside_of im (Some known) number all outside = λ g has inside. All-contains (λ g. ¬ (IsDataOf g number)) known.now g outside (all g has) inside
+
+pub past_groups : (walk : Walk) (fault : ImageFault) (by number : ℕ) (o : Owner) → fault ≡ Damaged by 2 → Claims (image_at walk.image) by number o
+    → IsSound walk → IsOutsideKnown walk number → IsTrueOf (image_at walk.image) fault
+past_groups walk fault by number o is claimed sound outside =
+    told _ fault _ _ is (beyond_groups by number o claimed (outside_of (image_at walk.image) walk.groups number sound.groups outside))
+
+-- ---- claimed twice
+
+in_order : (im : Image) (x from by a hash place later : ℕ) → Claims im from x (Chained a hash place) → Claims im by x (Chained a hash later)
+    → Chained a hash place ≢ Chained a hash later → Breaks im 15 x
+in_order im x from by a hash place later first second other =
+    elim (cases_lt place later) [
+      | inl less ↦ comes_again a hash x from by place later first second less
+      | inr past ↦ elim (cases_lt later place) [
+        | inl less ↦ comes_again a hash x by from later place second first less
+        | inr back ↦
+            let same : place ≡ later = omega (arith, past, back) in
+            absurd (other (ap (Chained a hash) same))
+      ]
+    ]
+
+chain_breaks : (im : Image) (x from by : ℕ) (o p : Owner) → Claims im from x o → Claims im by x p → o ≢ p → AreOneChain o p → Breaks im 15 x
+chain_breaks im x from by (Chained a hash place) (Chained b more later) first second other one =
+    let same : Chained b more later ≡ Chained a hash later = λ i. Chained (sym one.0 i) (sym one.1 i) later in
+    in_order im x from by a hash place later first (subst (Claims im by x) same second) (λ e. other (e ∙ sym same))
+chain_breaks im x from by _ _ first second other one = absurd one
+
+pub clash : (im : Image) (entries : List (Option Claim)) (x by : ℕ) (claim : Claim) (fault : ImageFault) → AreClaims im entries → Claims im by x (owner_of claim)
+    → IsClash entries x claim fault → IsTrueOf im fault
+clash im entries x by claim fault claims claimed c =
+    let old = claims x c.old c.there in
+    elim c.told [
+      | inl three ↦ told im fault x 3 three (two_owners x old.0 by (owner_of c.old) (owner_of claim) old.1 claimed c.other)
+      | inr fifteen ↦ told im fault x 15 fifteen.0 (chain_breaks im x old.0 by (owner_of c.old) (owner_of claim) old.1 claimed c.other fifteen.1)
+    ]
+
+-- ---- entering a claim
+
+pub set_other : {X : Type 0} → (xs : List X) (i b : ℕ) (v : X) → b ≢ i → slice_get (slice_set xs i v) b ≡ slice_get xs b
+set_other [] i b v other = refl
+set_other (x ∷ xs) zero zero v other = absurd (other refl)
+set_other (x ∷ xs) zero (suc b) v other = refl
+set_other (x ∷ xs) (suc i) zero v other = refl
+set_other (x ∷ xs) (suc i) (suc b) v other = set_other xs i b v (λ e. other (ap suc e))
+
+pub set_here : {X : Type 0} → (xs : List X) (i : ℕ) (v y : X) → slice_get (slice_set xs i v) i ≡ Some y → y ≡ v
+set_here [] i v y there = cc
+set_here (x ∷ xs) zero v y there = cc
+set_here (x ∷ xs) (suc i) v y there = set_here xs i v y there
+
+pub some_is : {X : Type 0} → (x y : X) → Some x ≡ Some y → x ≡ y
+some_is x y e = cc
+
+entered_at : (im : Image) (entries : List (Option Claim)) (x by : ℕ) (claim : Claim) → AreClaims im entries → Claims im by x (owner_of claim)
+    → (b : ℕ) (other : Claim) → (b ≡ x) ⊎ (b ≢ x) → slice_get (slice_set entries x (Some claim)) b ≡ Some (Some other) → (from : ℕ) × Claims im from b (owner_of other)
+entered_at im entries x by claim claims claimed b other (inl same) there =
+    let at_x : slice_get (slice_set entries x (Some claim)) x ≡ Some (Some other) = subst (λ n. slice_get (slice_set entries x (Some claim)) n ≡ Some (Some other)) same there in
+    let is : other ≡ claim = some_is other claim (set_here entries x (Some claim) (Some other) at_x) in
+    let P : ℕ → Type 0 = λ n. Claims im by n (owner_of other) in
+    (by, subst P (sym same) (subst (λ (c : Claim). Claims im by x (owner_of c)) (sym is) claimed))
+entered_at im entries x by claim claims claimed b other (inr apart) there = claims b other (sym (set_other entries x b (Some claim) apart) ∙ there)
+
+pub same_or_not : (a b : ℕ) → (a ≡ b) ⊎ (a ≢ b)
+same_or_not a b = elim (cases_lt a b) [
+  | inl less ↦ inr (λ e. absurd (omega (arith, less, e)))
+  | inr past ↦ elim (cases_lt b a) [
+    | inl less ↦ inr (λ e. absurd (omega (arith, less, e)))
+    | inr back ↦ inl (omega (arith, past, back))
+  ]
+]
+
+pub entered : (im : Image) (entries : List (Option Claim)) (x by : ℕ) (claim : Claim) → AreClaims im entries → Claims im by x (owner_of claim)
+    → AreClaims im (slice_set entries x (Some claim))
+entered im entries x by claim claims claimed b other there = entered_at im entries x by claim claims claimed b other (same_or_not b x) there
+
+pub entered_if : (im : Image) (entries later : List (Option Claim)) (x by : ℕ) (claim : Claim) (fresh : Bool) → later ≡ (if fresh then slice_set entries x (Some claim) else entries)
+    → AreClaims im entries → Claims im by x (owner_of claim) → AreClaims im later
+entered_if im entries later x by claim true is claims claimed = subst (AreClaims im) (sym is) (entered im entries x by claim claims claimed)
+entered_if im entries later x by claim false is claims claimed = subst (AreClaims im) (sym is) claims
+
+-- ---- a table of nothing
+
+no_last : (entries : List (Option Claim)) (b : ℕ) (claim : Claim) → IsEmpty entries → slice_get (entries ++ None ∷ []) b ≡ Some (Some claim) → ⊥
+no_last [] zero claim empty there = absurd (let e : Some None ≡ Some (Some claim) = there in cc)
+no_last [] (suc b) claim empty there = absurd (let e : None ≡ Some (Some claim) = there in cc)
+no_last (e ∷ entries) zero claim empty there = empty zero claim there
+no_last (e ∷ entries) (suc b) claim empty there = no_last entries b claim (λ k c at. empty (suc k) c at) there
+
+pub empty_more : (entries later : List (Option Claim)) → later ≡ entries ++ None ∷ [] → IsEmpty entries → IsEmpty later
+empty_more entries later is empty b claim there = no_last entries b claim empty (ap (λ es. slice_get es b) (sym is) ∙ there)
+
+pub empty_start : (entries : List (Option Claim)) → entries ≡ [] → IsEmpty entries
+empty_start entries is b claim there = absurd (let e : None ≡ Some (Some claim) = ap (λ es. slice_get es b) (sym is) ∙ there in cc)
+
+pub empty_claims : (im : Image) (entries : List (Option Claim)) → IsEmpty entries → AreClaims im entries
+empty_claims im entries empty b claim there = absurd (empty b claim there)

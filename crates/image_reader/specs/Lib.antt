@@ -1,0 +1,15 @@
+pub mod Reading
+pub mod Owning
+pub mod Walking
+pub mod Finding
+pub mod Found
+pub mod Assembled
+pub mod Carrying
+pub mod ReadTree
+pub mod Bitmaps
+pub mod System
+pub mod Going
+pub mod Leaves
+pub mod Complete
+pub mod Untouched
+pub mod Descending
