@@ -1,14 +1,14 @@
 -- A legal history without a loss goes on.
-use Rattle.std.proofs.Common.{◌≡◌, ◌⊎◌, ℕ, zero, suc, ◌+◌, ◌<◌, ◌≤◌, List, [], ◌∷◌, ◌++◌, length, take, inl, inr, refl, sym, ap, ◌∙◌, subst, arith, length-append, true, false, ◌||◌}
+use Rattle.std.proofs.Common.{◌≡◌, ℕ, List, [], ◌∷◌, ◌++◌, length, inl, inr, refl, sym, ap, ◌∙◌, subst, arith, length-append, false}
 use Rattle.std.proofs.lemmas.List.{take-append-le, take_all}
 use Rattle.std.proofs.lemmas.Bool.{cases_lt}
 use Rattle.file_tree.specs.Tree.{Tree}
-use Rattle.file_tree.specs.Apply.{Answers, apply}
+use Rattle.file_tree.specs.Apply.{Answers}
 use Rattle.file_tree.specs.declared.call.Call.{Call}
 use Rattle.file_tree.specs.declared.reply.Reply.{Reply}
 use Rattle.cluster_history.specs.declared.Item.{Item}
 use Rattle.cluster_history.specs.declared.Item.TheVariants as item
-use Rattle.cluster_history.specs.History.{Legal, AllAnswer, alive, any_drops, drops, Replied, after, tree_after, tree_of, NoneLost, GoesOn}
+use Rattle.cluster_history.specs.History.{Legal, AllAnswer, alive, any_drops, Replied, after, tree_after, tree_of, NoneLost, GoesOn}
 
 abbrev pub replied : List Item → List Replied
 replied [] = []

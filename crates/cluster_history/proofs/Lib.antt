@@ -1,2 +1,4 @@
 pub mod Legal
 pub mod Rows
+pub mod Changing
+pub mod Living

@@ -1,13 +1,13 @@
 -- Worked rows of the definitions, which the checker computes.
-use Rattle.std.proofs.Common.{◌≡◌, ℕ, List, [], ◌∷◌, ◌++◌, refl}
+use Rattle.std.proofs.Common.{◌≡◌, ℕ, List, [], ◌∷◌, refl}
 use Rattle.std.specs.Prelude.{codes}
-use Rattle.file_tree.specs.Tree.{Tree, file, dir, none, entry}
+use Rattle.file_tree.specs.Tree.{file, dir, none, entry}
 use Rattle.file_tree.specs.declared.call.Call.TheVariants as calls
-use Rattle.file_tree.specs.declared.reply.Kind.TheVariants.{File, Dir}
+use Rattle.file_tree.specs.declared.reply.Kind.TheVariants.{File}
 use Rattle.file_tree.specs.declared.reply.Reply.TheVariants as replies
 use Rattle.cluster_history.specs.declared.Item.{Item}
 use Rattle.cluster_history.specs.declared.Item.TheVariants as item
-use Rattle.cluster_history.specs.History.{Replied, alive, lost_count, tree_of}
+use Rattle.cluster_history.specs.History.{alive, lost_count, tree_of}
 
 abbrev x : List (List ℕ)
 x = codes "x" ∷ []

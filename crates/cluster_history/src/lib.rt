@@ -2,6 +2,8 @@
 #![tactic(auto)]
 
 ghost use Rattle.cluster_history.specs.History.{GoesOn};
+ghost use Rattle.cluster_history.specs.Changes.{OthersLeaveTheTree};
+ghost use Rattle.cluster_history.specs.Losses.{LivesOn};
 
 use file_tree::{Call, Reply};
 
@@ -26,4 +28,14 @@ pub enum Item {
 /// A law: a legal history with no loss, and one more call that is answered as the tree answers it, is legal.
 pub fn legal_goes_on()
     ensures { GoesOn }
+{}
+
+/// A law: which calls change the tree is told by call and reply. Whatever is answered, any other call leaves it.
+pub fn other_calls_leave_the_tree()
+    ensures { OthersLeaveTheTree }
+{}
+
+/// A law: what is alive is alive as items, which carry node and number, and grows item by item.
+pub fn living_goes_on()
+    ensures { LivesOn }
 {}

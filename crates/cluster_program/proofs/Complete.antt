@@ -1,5 +1,6 @@
 -- A command that may be carried out is, but for want of memory.
 use Rattle.std.proofs.Common.{◌≡◌, ◌⊎◌, inl, inr, ℕ, ◌≤◌, ◌<◌, true, false, List, ◌++◌, refl, sym, ap, ◌∙◌, subst, arith, append-nil}
+use Rattle.profile_limits.specs.Limits.{most_blocks}
 use Rattle.std.specs.Prelude.{Option, Some, None, Result, Ok}
 use Rattle.std.specs.Io.KnownBytes.{Consumes, IsAtEnd}
 use Rattle.fault_counts.specs.Causes.{Rose, WentUp}
@@ -11,7 +12,7 @@ use Rattle.cluster_program.specs.declared.status.Status.{Status}
 use Rattle.cluster_program.specs.declared.status.Status.TheVariants as status
 use Rattle.cluster_program.specs.declared.status.Which.{Which}
 use Rattle.cluster_program.specs.World.{Inputs, Outputs}
-use Rattle.cluster_program.specs.Course.{Course, RefusesWords, MakesImage, NoScript, Makes, IsTooLarge, IsTooSmall, LacksMemory, HasFailed, HasMade, AsksToRun, AsksToMake, plan_for, most_blocks, RunsScript, LacksScript, SourceFailed, Refused, RefusedEarly, NotBuiltYet, RunEnds, IsDone, NotMounted, CallFailed, CallRefused, CallLeadsOut, NoRoom, AsksToShow, Shows, HasShown, ShowsNone, TreeFailed, TreeRefused, TreeLeadsOut, NothingHeld, ShowsImage}
+use Rattle.cluster_program.specs.Course.{Course, RefusesWords, MakesImage, NoScript, Makes, IsTooLarge, IsTooSmall, LacksMemory, HasFailed, HasMade, AsksToRun, AsksToMake, plan_for, RunsScript, LacksScript, SourceFailed, Refused, RefusedEarly, NotBuiltYet, RunEnds, IsDone, NotMounted, CallFailed, CallRefused, CallLeadsOut, NoRoom, AsksToShow, Shows, HasShown, ShowsNone, TreeFailed, TreeRefused, TreeLeadsOut, NothingHeld, ShowsImage}
 use Rattle.cluster_program.specs.Mounting.{MountEnds, DiskFails, LiesOutside, IsDamaged, IsDirty, IsHashed, HasOtherRoot, LacksRoom}
 use Rattle.cluster_program.specs.Report.{Becomes, Stays, WithoutMemory, Fails, Reports}
 use Rattle.cluster_program.specs.Command.{NoneRose, IsMountable, IsRunnable, IsShowable, IsMakeable, IsComplete}
@@ -73,7 +74,7 @@ module _ (words : List (List ℕ)) (given left : Inputs) (sinks sinks_now : Outp
   of_mount may own LacksRoom = inr refl
 
   of_show : IsMountable given.disk → (lines : List ℕ) (own : Status) → Shows given.disk given.disk_faults left.disk_faults lines own → IsWhole own
-  of_show may lines own (HasShown m lines' mounted are stands) = inl refl
+  of_show may lines own (HasShown m lines' mounted clean are stands) = inl refl
   of_show may lines own (ShowsNone own' ends) = of_mount may own ends
   of_show may lines own (TreeFailed root block x y up begins reads) = absurd (none.disk 0 (rose (given.disk_faults 0) (left.disk_faults 0) x y up))
   of_show may lines own (TreeRefused root block other begins refuses) = absurd (other may.tree may.flat)
@@ -142,7 +143,7 @@ module _ (words : List (List ℕ)) (given left : Inputs) (sinks sinks_now : Outp
   of_sink which before now old new still (Fails x y not_told fails up) whole = absurd (still (rose before now x y up))
 
 pub complete : (given left : Inputs) (sinks sinks_now : Outputs) (words : List (List ℕ)) (s : ScriptValue) (items : List TraceItem) (lines : List ℕ) (own answer : Status) → Course words given left s items lines own
-    → Reports sinks sinks_now s items lines own answer → IsComplete words given left sinks sinks_now answer
+    → Reports sinks sinks_now s items lines 0 own answer → IsComplete words given left sinks sinks_now answer
 complete given left sinks sinks_now words s items lines own answer course report none may =
     let told = of_sink words given left sinks sinks_now none _ _ _ own report.told none.trace report.told_is (of_course words given left sinks sinks_now none may s items lines own course) in
     of_sink words given left sinks sinks_now none _ _ _ report.told answer none.output report.answer_is told

@@ -53,7 +53,7 @@ module _ (given left : Inputs) (sinks sinks_now : Outputs) where
   mount_fault own LacksRoom = tt
 
   show_fault : (lines : List ℕ) (own : Status) → Shows given.disk given.disk_faults left.disk_faults lines own → FaultHasCause given left sinks sinks_now own
-  show_fault lines own (HasShown m lines' mounted are stands) = tt
+  show_fault lines own (HasShown m lines' mounted clean are stands) = tt
   show_fault lines own (ShowsNone own' ends) = mount_fault own ends
   show_fault lines own (TreeFailed root block x y up begins reads) = up
   show_fault lines own (TreeRefused root block other begins refuses) = tt
@@ -93,6 +93,6 @@ module _ (given left : Inputs) (sinks sinks_now : Outputs) where
   output_fault told answer (Fails x y not_told fails up) cause = subst (FaultHasCause given left sinks sinks_now) (sym fails) up
 
   pub fault_has_cause : (words : List (List ℕ)) (s : ScriptValue) (items : List TraceItem) (lines : List ℕ) (own answer : Status) → Course words given left s items lines own
-      → Reports sinks sinks_now s items lines own answer → FaultHasCause given left sinks sinks_now answer
+      → Reports sinks sinks_now s items lines 0 own answer → FaultHasCause given left sinks sinks_now answer
   fault_has_cause words s items lines own answer course report =
       output_fault report.told answer report.answer_is (trace_fault own report.told report.told_is (course_fault words s items lines own course))

@@ -11,4 +11,5 @@ pub mod Far
 pub mod Faults
 pub mod Images
 pub mod Ends
+pub mod Dirty
 pub mod Complete

@@ -26,7 +26,8 @@ use Rattle.single_node.specs.Blocks.{CallReads, CallRefuses, RefusesWhatIsTold, 
 use Rattle.single_node.specs.Run.{IsRunUpTo, IsWholeRun, IsRunOf, NotJoined, Taken, Unmounted}
 use Rattle.image_model.specs.Image.{image_of}
 use Rattle.image_model.specs.Rules.{Breaks}
-use Rattle.cluster_program.specs.Mounting.{MountEnds, DiskFails, LiesOutside, IsDamaged, IsDirty, IsHashed, HasOtherRoot, LacksRoom}
+use Rattle.image_mount.specs.Mounted.{MountedValue, IsMounted}
+use Rattle.cluster_program.specs.Mounting.{OfImage, IsLeftClean, IsMountedClean, MountEnds, DiskFails, LiesOutside, IsDamaged, IsDirty, IsHashed, HasOtherRoot, LacksRoom}
 use Rattle.cluster_program.specs.Early.{status_of_end}
 use Rattle.cluster_program.proofs.Far.{far_file}
 
@@ -110,16 +111,21 @@ no_items disk disk_now faults faults_now s items own same none ends = record {
   none_lost = subst (λ (is : List TraceItem). NoneLost (history_of s.clients is)) (sym none) tt;
   legal = λ tree flat. subst (λ (is : List TraceItem). Legal (history_of s.clients is) tree) (sym none) (nothing_is_legal tree);
   stands = λ tree flat. subst (λ (is : List TraceItem). IsFlat disk_now (tree_of (history_of s.clients is) tree)) (sym none) (subst (λ (d : DiskState). IsFlat d tree) (sym same) flat);
+  mounted = λ some. absurd (some none);
   ends = ends;
 }
 
+-- what was mounted, with clean journals alone
+pub mounted_clean : (disk : DiskState) (m : MountedValue) → OfImage disk (λ im. IsMounted im m) → IsLeftClean m → OfImage disk IsMountedClean
+mounted_clean disk m mounted clean tells = record { value = m; mounted = mounted tells; clean = clean }
+
 pub ran : (disk mid disk_now : DiskState) (faults faults_now : ℕ → ℕ) (s : ScriptValue) (items : List TraceItem) (own : Status) (root : List ℕ)
-    → mid ≡ disk → disk_now ≡ mid → (IsTrue disk.tells → HasFlatRoot disk root)
+    → mid ≡ disk → disk_now ≡ mid → (IsTrue disk.tells → HasFlatRoot disk root) → OfImage disk IsMountedClean
     → IsRunOf s.clients s.lines items (IsStart mid root) → HoldsHistory s items → NoneStopped items → NoneLost (history_of s.clients items)
     → ((tree : Tree) → IsStart mid root tree → Legal (history_of s.clients items) tree)
     → ((tree : Tree) → IsStart mid root tree → tree_of (history_of s.clients items) tree ≡ tree)
     → RunEnds disk faults faults_now s items own → Runs disk disk_now faults faults_now s items own
-ran disk mid disk_now faults faults_now s items own root same kept begins run history members none_lost legal tree_is ends = record {
+ran disk mid disk_now faults faults_now s items own root same kept begins mounted run history members none_lost legal tree_is ends = record {
   run = run_from s.clients s.lines (IsStart mid root) (IsFlat disk) (λ tree flat. may_start disk mid root tree same begins flat) items run;
   history = history;
   members = members;
@@ -127,6 +133,7 @@ ran disk mid disk_now faults faults_now s items own root same kept begins run hi
   legal = λ tree flat. legal tree (may_start disk mid root tree same begins flat);
   stands = λ tree flat.
       subst (IsFlat disk_now) (sym (tree_is tree (may_start disk mid root tree same begins flat))) (subst (λ (d : DiskState). IsFlat d tree) (sym (kept ∙ same)) flat);
+  mounted = λ some. mounted;
   ends = ends;
 }
 

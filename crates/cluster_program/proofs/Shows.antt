@@ -16,7 +16,7 @@ use Rattle.single_node.specs.declared.end.RunEnd.TheVariants as end
 use Rattle.single_node.proofs.Blocks.{none_refused}
 use Rattle.cluster_program.specs.Course.{Shows, HasShown, ShowsNone, TreeFailed, TreeRefused, TreeLeadsOut, NothingHeld, clean_of}
 use Rattle.cluster_program.specs.Early.{status_of_end}
-use Rattle.cluster_program.specs.Mounting.{OfImage, MountEnds, DiskFails, LiesOutside, IsDamaged, IsDirty, IsHashed, HasOtherRoot, LacksRoom}
+use Rattle.cluster_program.specs.Mounting.{OfImage, MountEnds, DiskFails, LiesOutside, IsDamaged, IsDirty, IsHashed, HasOtherRoot, LacksRoom, IsLeftClean}
 use Rattle.cluster_program.specs.Report.{IsSinkFault}
 use Rattle.cluster_program.specs.declared.status.Status.{Status}
 use Rattle.cluster_program.specs.declared.status.Status.TheVariants as status
@@ -45,7 +45,7 @@ tree_end d mid first before now root (end.NotRead block why.LeadsOut) same begin
     TreeLeadsOut root block (never_flat d root block why.LeadsOut begins here) begins here (λ tells. far_file d root here.0 block (begins tells) (here.1 tells (begins tells)))
 tree_end d mid first before now root end.NoMemory same begins earlier cause refused failed = NothingHeld
 
-module _ (d mid : DiskState) (first now : ℕ → ℕ) (m : MountedValue) (root empty journals lines : List ℕ) (clean : List Bool) (same : mid ≡ d) (mounted : OfImage d (λ im. IsMounted im m))
+module _ (d mid : DiskState) (first now : ℕ → ℕ) (m : MountedValue) (root empty journals lines : List ℕ) (clean : List Bool) (same : mid ≡ d) (mounted : OfImage d (λ im. IsMounted im m)) (left_clean : IsLeftClean m)
     (begins : IsTrue d.tells → HasFlatRoot d root) (are : clean ≡ clean_of m) (none : empty ≡ []) (first_lines : journals ≡ empty ++ journal_lines 0 clean)
     (later : (tree : Tree) → IsStart mid root tree → lines ≡ journals ++ tree_lines [] tree) where
   lines_of_flat : (tree : Tree) → IsFlat d tree → lines ≡ journal_lines 0 (clean_of m) ++ tree_lines [] tree
@@ -55,11 +55,11 @@ module _ (d mid : DiskState) (first now : ℕ → ℕ) (m : MountedValue) (root 
   pub all_shown : StandingNamesAreFlat → IsIdle d → (IsTrue mid.tells → LeadFirstToFiles mid root) → Shows d first now lines status.Done
   all_shown law idle files =
       let told = subst (λ (s : DiskState). IsTrue s.tells → LeadFirstToFiles s root) same files in
-      HasShown m lines mounted lines_of_flat (λ tells tree stands. lines_of_flat tree (law d tree tells idle.none_in_flight root (begins tells) (told tells) stands))
+      HasShown m lines mounted left_clean lines_of_flat (λ tells tree stands. lines_of_flat tree (law d tree tells idle.none_in_flight root (begins tells) (told tells) stands))
 
 -- what a show tells is none of the sinks' faults
 pub no_sink_fault : (d : DiskState) (first now : ℕ → ℕ) (lines : List ℕ) (own : Status) → Shows d first now lines own → IsSinkFault own → ⊥
-no_sink_fault d first now lines own (HasShown m lines' mounted are stands) = λ never. never
+no_sink_fault d first now lines own (HasShown m lines' mounted clean are stands) = λ never. never
 no_sink_fault d first now lines own (ShowsNone own' ends) = no_mount_fault d first now own ends
   where
     no_mount_fault : (d : DiskState) (first now : ℕ → ℕ) (own : Status) → MountEnds d first now own → IsSinkFault own → ⊥

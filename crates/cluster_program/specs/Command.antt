@@ -1,5 +1,6 @@
 -- What the top call promises.
 use Rattle.std.specs.Prelude.{ℕ, ◌≡◌, ◌≤◌, ◌⊎◌, true, ⊤, List, Some, None}
+use Rattle.profile_limits.specs.Limits.{most_blocks}
 use Rattle.fault_counts.specs.Causes.{Rose, WentUp}
 use Rattle.file_tree.specs.Tree.{Tree}
 use Rattle.single_node.specs.Flat.{IsFlat}
@@ -9,7 +10,8 @@ use Rattle.trace_text.specs.declared.item.TraceItem.{TraceItem}
 use Rattle.script_lang.specs.Script.{ScriptValue}
 use Rattle.cluster_program.specs.World.{Inputs, Outputs}
 use Rattle.cluster_program.specs.Report.{Reports}
-use Rattle.cluster_program.specs.Course.{Course, AsksToRun, AsksToShow, AsksToMake, plan_for, most_blocks}
+use Rattle.cluster_program.specs.Course.{Course, AsksToRun, AsksToShow, AsksToMake, plan_for}
+use Rattle.cluster_program.specs.Dirty.{IsDirtyCount}
 use Rattle.cluster_program.specs.Mounting.{AreClean}
 use Rattle.image_model.specs.Image.{image_of}
 use Rattle.image_model.specs.Claims.{IsJindex}
@@ -38,7 +40,9 @@ pub record Ends (words : List (List ℕ)) (given left : Inputs) (sinks sinks_now
   pub lines : List ℕ
   pub own : Status
   pub course : Course words given left script items lines own
-  pub report : Reports sinks sinks_now script items lines own answer
+  pub dirty : ℕ
+  pub report : Reports sinks sinks_now script items lines dirty own answer
+  pub counted : IsDirtyCount left.disk script items report.told dirty
 
 -- ---- when a command is carried out whole
 

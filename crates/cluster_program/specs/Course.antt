@@ -1,5 +1,6 @@
 -- What a command does, from its words and its script to the items of its run and its own end.
-use Rattle.std.specs.Prelude.{ℕ, ◌≡◌, ◌<◌, ◌≤◌, ◌==◌, nat_lt, not, IfSome, ◌++◌, ◌&&◌, Bool, true, false, IsTrue, if◌then◌else◌, List, [], map, Option, Some, None, Result, Ok, Err}
+use Rattle.std.specs.Prelude.{ℕ, ◌≡◌, ◌≢◌, ◌<◌, ◌≤◌, ◌==◌, nat_lt, not, IfSome, ◌++◌, ◌&&◌, Bool, true, false, IsTrue, if◌then◌else◌, List, [], map, Option, Some, None, Result, Ok, Err}
+use Rattle.profile_limits.specs.Limits.{most_blocks}
 use Rattle.std.specs.Io.KnownBytes.{Consumes, IsAtEnd}
 use Rattle.fault_counts.specs.Causes.{WentUp}
 use Rattle.file_tree.specs.Tree.{Tree}
@@ -31,7 +32,7 @@ use Rattle.image_model.specs.Rules.{Breaks}
 use Rattle.image_model.specs.Stands.{Stands}
 use Rattle.image_mount.specs.Mounted.{Journal, MountedValue, IsMounted}
 use Rattle.show_text.specs.Show.{journal_lines, tree_lines}
-use Rattle.cluster_program.specs.Mounting.{OfImage, NeverStands, MountEnds}
+use Rattle.cluster_program.specs.Mounting.{OfImage, NeverStands, MountEnds, IsLeftClean, IsMountedClean}
 use Rattle.single_node.specs.Run.{IsRunOf, IsWholeRun}
 use Rattle.cluster_program.specs.World.{Inputs}
 use Rattle.cluster_program.specs.declared.status.Status.{Status}
@@ -99,10 +100,6 @@ options_of words = record { journals = words.journals; journal_blocks = words.jo
 abbrev pub plan_for : DiskState → MakeWords → Plan
 plan_for disk words = plan_of disk.size disk.count (options_of words)
 
--- the greatest device
-abbrev pub most_blocks : ℕ
-most_blocks = 131072
-
 -- How mkfs ends: the device is larger than any may be; the image doesn't fit it, and so many blocks are needed; there was no
 -- memory; the disk failed, at one of its blocks or at a barrier, and a part is made; or the image is made, every block of it.
 pub data Makes (words : MakeWords) (before now : Inputs) : Status → Type 0 where
@@ -167,6 +164,8 @@ pub record Runs (disk disk_now : DiskState) (faults faults_now : ℕ → ℕ) (s
   -- where the image is flat: every reply is that of its tree, which takes the calls one by one, and the image stands for the tree at the end
   pub legal : (tree : Tree) → IsFlat disk tree → Legal (history_of s.clients items) tree
   pub stands : (tree : Tree) → IsFlat disk tree → IsFlat disk_now (tree_of (history_of s.clients items) tree)
+  -- no item stands before the image was mounted and each of its journals was found clean
+  pub mounted : items ≢ [] → OfImage disk IsMountedClean
   pub ends : RunEnds disk faults faults_now s items own
 
 -- ---- what is shown
@@ -175,12 +174,12 @@ pub record Runs (disk disk_now : DiskState) (faults faults_now : ℕ → ℕ) (s
 abbrev pub clean_of : MountedValue → List Bool
 clean_of m = map (λ (j : Journal). j.head.clean) m.journals
 
--- What `show` prints, and how it ends: a line for each journal and the lines of the tree that a flat image holds, and of that
+-- What `show` prints, and how it ends: the image was mounted, and its journals were left clean; a line for each of them and the lines of the tree that a flat image holds, and of that
 -- which the image stands for; or nothing, since the image was
 -- not mounted, the disk failed at a file, a file is of a form that is not built or its number is one of a block outside the disk,
 -- or there was no memory.
 pub data Shows (disk : DiskState) (faults faults_now : ℕ → ℕ) : List ℕ → Status → Type 0 where
-  HasShown : (m : MountedValue) (lines : List ℕ) → OfImage disk (λ im. IsMounted im m)
+  HasShown : (m : MountedValue) (lines : List ℕ) → OfImage disk (λ im. IsMounted im m) → IsLeftClean m
       → ((tree : Tree) → IsFlat disk tree → lines ≡ journal_lines 0 (clean_of m) ++ tree_lines [] tree)
       → OfImage disk (λ im. (tree : Tree) → Stands im tree → lines ≡ journal_lines 0 (clean_of m) ++ tree_lines [] tree) → Shows disk faults faults_now lines status.Done
   ShowsNone : (own : Status) → MountEnds disk faults faults_now own → Shows disk faults faults_now [] own

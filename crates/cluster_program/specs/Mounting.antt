@@ -27,9 +27,19 @@ NeverStands im = (tree : Tree) → Stands im tree → ⊥
 abbrev pub HasDirtyJournal : Image → ℕ → Type 0
 HasDirtyJournal im block = (m : MountedValue) × (IsMounted im m × ((j : ℕ) × ((journal : Journal) × (slice_get m.journals j ≡ Some journal) × (journal.head.clean ≡ false) × (journal.dinode ≡ block))))
 
--- each journal was left clean
+-- each journal of what was mounted was left clean
+abbrev pub IsLeftClean : MountedValue → Type 0
+IsLeftClean m = (j : ℕ) (journal : Journal) → slice_get m.journals j ≡ Some journal → journal.head.clean ≡ true
+
+-- so of whatever is mounted from this image
 abbrev pub AreClean : Image → Type 0
-AreClean im = (m : MountedValue) → IsMounted im m → (j : ℕ) (journal : Journal) → slice_get m.journals j ≡ Some journal → journal.head.clean ≡ true
+AreClean im = (m : MountedValue) → IsMounted im m → IsLeftClean m
+
+-- the image was mounted, and each of its journals was left clean
+pub record IsMountedClean (im : Image) : Type 0 where
+  pub value : MountedValue
+  pub mounted : IsMounted im value
+  pub clean : IsLeftClean value
 
 -- Why an image isn't mounted: the disk failed at a block to which mounting came; a field is outside the profile; a block breaks a
 -- rule; and what is not built: the replay of a journal, a hashed directory of journals, and a root that is no linear directory

@@ -37,11 +37,11 @@ pub data Becomes (which : Which) (before now : ℕ) (old new : Status) : Type 0 
 abbrev pub shown : Status → List ℕ → List ℕ
 shown told lines = if is_done told then lines else []
 
--- The trace gets the text of the items. Then the output, also where the trace failed, gets the lines
+-- With a count of journals that are not clean: the trace gets the text of the items. Then the output, also where the trace failed, gets the lines
 -- that are shown, and what the items and the status give. A fault of theirs is told in the status, that of the trace before that of the output.
-pub record Reports (before now : Outputs) (s : ScriptValue) (items : List TraceItem) (lines : List ℕ) (own answer : Status) : Type 0 where
+pub record Reports (before now : Outputs) (s : ScriptValue) (items : List TraceItem) (lines : List ℕ) (dirty : ℕ) (own answer : Status) : Type 0 where
   pub told : Status
   pub trace : Puts before.trace now.trace (print items) (IsExcused before.trace_faults now.trace_faults told)
   pub told_is : Becomes which.Trace before.trace_faults now.trace_faults own told
-  pub output : Puts before.output now.output (shown told lines ++ out_of s items told 0) (IsExcused before.output_faults now.output_faults answer)
+  pub output : Puts before.output now.output (shown told lines ++ out_of s items told dirty) (IsExcused before.output_faults now.output_faults answer)
   pub answer_is : Becomes which.Out before.output_faults now.output_faults told answer

@@ -5,16 +5,15 @@ ghost use Rattle.command_words.specs.Limits.{IsMakeWithin};
 ghost use Rattle.cluster_program.specs.Course.{Makes, has_many_journals, options_of as options_asked};
 ghost use Rattle.cluster_program.specs.World.{inputs};
 ghost use Rattle.cluster_program.specs.Report.{IsSinkFault};
+ghost use Rattle.profile_limits.specs.Limits.{most_blocks};
 
 use crate::status::Status;
 use command_words::MakeWords;
 use image_mount::Field;
 use mkgfs2_tool::{MakeFault, MakeOptions, make};
+use profile_limits::MOST_BLOCKS;
 use shared_disk::SharedDisk;
 use std::alloc::Global;
-
-// The greatest device, in blocks.
-const MOST_BLOCKS: u64 = 131_072;
 
 fn options_of(words: &MakeWords) -> MakeOptions
     ensures { result ≡ options_asked words.now }
@@ -32,7 +31,7 @@ fn options_of(words: &MakeWords) -> MakeOptions
 fn make_on<D: SharedDisk>(alloc: Global, disk: &mut D, words: &MakeWords) -> Status
     requires size { IsBlockSize (D.state disk.old).size }
     requires idle { IsIdle (D.state disk.old) }
-    requires small { (D.state disk.old).count ≤ 131072 }
+    requires small { (D.state disk.old).count ≤ most_blocks }
     requires within { IsMakeWithin words.now }
     requires few { has_many_journals (D.state disk.old).size words.now ≡ false }
     ensures makes { (left : Option (List ℕ)) (failed : ℕ) → Makes words.now

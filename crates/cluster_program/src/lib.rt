@@ -1,7 +1,7 @@
 //! The top call: what a command does to the disk, prints and answers.
 #![tactic(auto)]
 
-mod early;
+mod end_status;
 mod image;
 mod input;
 #[cfg(test)]

@@ -4,10 +4,11 @@ ghost use Rattle.gfs2_layout.specs.Device.{IsBlockSize};
 ghost use Rattle.image_model.specs.Image.{image_of};
 ghost use Rattle.image_mount.specs.Mounted.{Journal, IsMounted};
 ghost use Rattle.shared_disk.specs.Disk.{IsIdle};
+ghost use Rattle.shared_disk.specs.Disk.{ReadsOnly};
 ghost use Rattle.single_node.specs.Flat.{HasFlatRoot, stuffed_part};
-ghost use Rattle.cluster_program.specs.Mounting.{MountEnds};
+ghost use Rattle.cluster_program.specs.Mounting.{MountEnds, IsLeftClean};
 
-use crate::early::{early, not_built, not_mounted};
+use crate::end_status::{not_built, not_mounted, status_of_end};
 use crate::status::Status;
 use image_model::what_stands_breaks_nothing;
 use image_mount::{JournalMap, Mounted, mount_image};
@@ -41,12 +42,11 @@ pub(crate) fn mount_flat<D: SharedDisk>(alloc: Global, disk: &mut D) -> Result<F
     requires idle { IsIdle (D.state disk.old) }
     requires size { IsBlockSize (D.state disk.old).size }
     ensures mounted { IfOk result (λ image. IsTrue (D.state disk.old).tells → IsMounted (image_of (D.state disk.old)) image.mounted) }
+    ensures clean { IfOk result (λ image. IsLeftClean image.mounted) }
     ensures root { IfOk result (λ image. IsTrue (D.state disk.old).tells → HasFlatRoot (D.state disk.old) image.root) }
     ensures area { IfOk result (λ image. (length image.root ≡ (D.state disk.old).size) × IsArea (stuffed_part image.root)) }
     ensures ends { IfErr result (MountEnds (D.state disk.old) (D.faults disk.old) (D.faults disk.new)) }
-    ensures same { D.state disk.new ≡ D.state disk.old }
-    ensures list { D.list disk.new ≡ D.list disk.old }
-    ensures later { (j : ℕ) → D.faults disk.old j ≤ D.faults disk.new j }
+    ensures reads { ReadsOnly (D.state disk.old) (D.state disk.new) (D.list disk.old) (D.list disk.new) (D.faults disk.old) (D.faults disk.new) }
 {
     what_stands_breaks_nothing();
     let mounted = match mount_image(alloc, disk) {
@@ -59,6 +59,6 @@ pub(crate) fn mount_flat<D: SharedDisk>(alloc: Global, disk: &mut D) -> Result<F
     let address = mounted.sb.root.address;
     match read_root(alloc, disk, address) {
         Ok(root) => Ok(FlatImage { mounted, root }),
-        Err(end) => Err(early(end)),
+        Err(end) => Err(status_of_end(end)),
     }
 }

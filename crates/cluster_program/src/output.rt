@@ -184,7 +184,7 @@ fn counts_of(items: &[TraceItem]) -> (u64, u64, u64)
     (calls, commits, stops)
 }
 
-// The counts of a run in which nothing is lost and no journal is written.
+// The counts of a run in which nothing is lost and no journal is written: none is left dirty.
 fn append_counts(
     text: &mut Vec<u8>,
     script: &Script,

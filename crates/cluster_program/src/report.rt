@@ -83,7 +83,7 @@ pub(crate) fn report<T: Sink, O: Sink>(
     ensures reports { Reports
         (outputs (T.contents trace.old) (T.faults trace.old) (O.contents out.old) (O.faults out.old))
         (outputs (T.contents trace.new) (T.faults trace.new) (O.contents out.new) (O.faults out.new))
-        script.now items.now lines.items own result }
+        script.now items.now lines.items 0 own result }
     ensures later { (T.faults trace.old ≤ T.faults trace.new) × (O.faults out.old ≤ O.faults out.new) }
 {
     let told = report_trace(alloc, trace, items, own);

@@ -1,11 +1,12 @@
 ghost use Rattle.std.specs.Prelude.{◌≡◌, ◌≤◌, ℕ, []};
 ghost use Rattle.shared_disk.specs.Disk.{IsIdle};
+ghost use Rattle.shared_disk.specs.Disk.{ReadsOnly};
 ghost use Rattle.gfs2_layout.specs.Device.{IsBlockSize};
 ghost use Rattle.script_lang.specs.OneNode.{IsOneNode};
 ghost use Rattle.cluster_program.specs.Course.{Runs};
 ghost use Rattle.cluster_program.specs.Quiet.{IsQuiet};
 
-use crate::early::early;
+use crate::end_status::status_of_end;
 use crate::mounting::mount_flat;
 use crate::status::Status;
 use script_lang::Script;
@@ -27,9 +28,7 @@ pub(crate) fn mount_and_run<D: SharedDisk>(
     requires none { items.old.items ≡ [] }
     ensures runs { Runs (D.state disk.old) (D.state disk.new) (D.faults disk.old) (D.faults disk.new) script.now items.new.items result }
     ensures quiet { (told : Status) → (told ≡ Status.Done → result ≡ Status.Done) → IsQuiet script.now items.new.items told }
-    ensures same { D.state disk.new ≡ D.state disk.old }
-    ensures list { D.list disk.new ≡ D.list disk.old }
-    ensures later { (j : ℕ) → D.faults disk.old j ≤ D.faults disk.new j }
+    ensures reads { ReadsOnly (D.state disk.old) (D.state disk.new) (D.list disk.old) (D.list disk.new) (D.faults disk.old) (D.faults disk.new) }
 {
     let image = match mount_flat(alloc, disk) {
         Ok(image) => image,
@@ -37,6 +36,6 @@ pub(crate) fn mount_and_run<D: SharedDisk>(
     };
     match run_script(alloc, disk, &image.root, script, items) {
         Ok(()) => Status::Done,
-        Err(end) => early(end),
+        Err(end) => status_of_end(end),
     }
 }

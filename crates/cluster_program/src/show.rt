@@ -2,10 +2,11 @@ ghost use Rattle.std.specs.Prelude.{◌≡◌, ◌≤◌, ◌+◌, ◌++◌, ℕ
 ghost use Rattle.gfs2_layout.specs.Device.{IsBlockSize};
 ghost use Rattle.image_mount.specs.Mounted.{Journal};
 ghost use Rattle.shared_disk.specs.Disk.{IsIdle};
+ghost use Rattle.shared_disk.specs.Disk.{ReadsOnly};
 ghost use Rattle.show_text.specs.Show.{journal_lines};
 ghost use Rattle.cluster_program.specs.Course.{Shows};
 
-use crate::early::early;
+use crate::end_status::status_of_end;
 use crate::mounting::mount_flat;
 use crate::status::Status;
 use image_mount::JournalMap;
@@ -33,9 +34,7 @@ pub(crate) fn show_image<D: SharedDisk>(alloc: Global, disk: &mut D) -> Result<V
     requires size { IsBlockSize (D.state disk.old).size }
     ensures shows { MatchResult result (λ lines. Shows (D.state disk.old) (D.faults disk.old) (D.faults disk.new) lines.items Status.Done)
         (λ own. Shows (D.state disk.old) (D.faults disk.old) (D.faults disk.new) [] own) }
-    ensures same { D.state disk.new ≡ D.state disk.old }
-    ensures list { D.list disk.new ≡ D.list disk.old }
-    ensures later { (j : ℕ) → D.faults disk.old j ≤ D.faults disk.new j }
+    ensures reads { ReadsOnly (D.state disk.old) (D.state disk.new) (D.list disk.old) (D.list disk.new) (D.faults disk.old) (D.faults disk.new) }
 {
     // What is shown of an image that stands is the tree that it stands for.
     standing_names_are_flat();
@@ -50,6 +49,6 @@ pub(crate) fn show_image<D: SharedDisk>(alloc: Global, disk: &mut D) -> Result<V
     }
     match append_tree(alloc, disk, &image.root, &mut lines) {
         Ok(()) => Ok(lines),
-        Err(end) => Err(early(end)),
+        Err(end) => Err(status_of_end(end)),
     }
 }

@@ -1,5 +1,6 @@
 ghost use Rattle.std.specs.Prelude.{◌≡◌, ◌≤◌, ℕ, List, [], map, string_bytes};
 ghost use Rattle.shared_disk.specs.Disk.{IsIdle};
+ghost use Rattle.shared_disk.specs.Disk.{ReadsOnly};
 ghost use Rattle.script_lang.specs.Grammar.{nothing};
 ghost use Rattle.gfs2_layout.specs.Device.{IsBlockSize};
 ghost use Rattle.cluster_program.specs.World.{inputs, outputs};
@@ -69,9 +70,7 @@ fn show<D: SharedDisk>(alloc: Global, disk: &mut D) -> Carried
     requires idle { IsIdle (D.state disk.old) }
     ensures script { result.script ≡ nothing }
     ensures shows { Shows (D.state disk.old) (D.faults disk.old) (D.faults disk.new) result.lines.items result.own }
-    ensures same { D.state disk.new ≡ D.state disk.old }
-    ensures list { D.list disk.new ≡ D.list disk.old }
-    ensures later { (j : ℕ) → D.faults disk.old j ≤ D.faults disk.new j }
+    ensures reads { ReadsOnly (D.state disk.old) (D.state disk.new) (D.list disk.old) (D.list disk.new) (D.faults disk.old) (D.faults disk.new) }
     ensures own { IsSinkFault result.own → ⊥ }
 {
     match show_image(alloc, disk) {

@@ -1,5 +1,6 @@
 -- The commands of the program, and what its words are read as.
 use Rattle.std.specs.Prelude.{ℕ, ◌-◌, ◌^◌, if◌then◌else◌, List, [], ◌∷◌, replicate, codes, Option, Some, None, unwrap_or, Result, Ok, Err}
+use Rattle.profile_limits.specs.Limits.{least_journal_blocks, most_groups, most_journal_blocks, most_journals}
 use Rattle.std.specs.Str.{bytes_eq}
 use Rattle.number_words.specs.Numbers.{number_in}
 use Rattle.command_words.specs.declared.command.Usage.{Usage}
@@ -19,9 +20,9 @@ largest = 2 ^ 63 - 1
 abbrev pub make_options : List Row
 make_options =
     row (codes "--bsize") BlockSize
-    ∷ row (codes "--journals") (Number 1 8)
-    ∷ row (codes "--journal-blocks") (Number 512 65536)
-    ∷ row (codes "--groups") (Number 1 64)
+    ∷ row (codes "--journals") (Number 1 most_journals)
+    ∷ row (codes "--journal-blocks") (Number least_journal_blocks most_journal_blocks)
+    ∷ row (codes "--groups") (Number 1 most_groups)
     ∷ row (codes "--uuid") Identifier
     ∷ row (codes "--time") (Number 0 largest)
     ∷ []

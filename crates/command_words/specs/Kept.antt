@@ -1,5 +1,6 @@
 -- How the reader keeps the options that were given.
 use Rattle.std.specs.Prelude.{ℕ, ◌≡◌, ◌+◌, List, [], codes, Option, Some, None, option_map}
+use Rattle.profile_limits.specs.Limits.{least_journal_blocks, most_groups, most_journal_blocks, most_journals}
 use Rattle.number_words.specs.Numbers.{number_in}
 use Rattle.uuid.specs.Text.{parsed}
 use Rattle.command_words.specs.declared.options.Opt.{Opt}
@@ -12,9 +13,9 @@ use Rattle.command_words.specs.Commands.{largest, make_options, run_options, loa
 
 abbrev pub row_of : Opt → Row
 row_of Bsize = row (codes "--bsize") BlockSize
-row_of Journals = row (codes "--journals") (Number 1 8)
-row_of JournalBlocks = row (codes "--journal-blocks") (Number 512 65536)
-row_of Groups = row (codes "--groups") (Number 1 64)
+row_of Journals = row (codes "--journals") (Number 1 most_journals)
+row_of JournalBlocks = row (codes "--journal-blocks") (Number least_journal_blocks most_journal_blocks)
+row_of Groups = row (codes "--groups") (Number 1 most_groups)
 row_of Uuid = row (codes "--uuid") Identifier
 row_of Time = row (codes "--time") (Number 0 largest)
 row_of Schedule = row (codes "--schedule") (Number 0 largest)
@@ -41,9 +42,9 @@ kept Frames s = option_map Whole s.frames
 -- the same after the value that a word is for an option, if it is one, was kept
 abbrev pub kept_put : ℕ → Opt → List ℕ → Options → Options
 kept_put block_size Bsize w s = record s { bsize = size_in block_size w }
-kept_put block_size Journals w s = record s { journals = number_in 1 8 w }
-kept_put block_size JournalBlocks w s = record s { journal_blocks = number_in 512 65536 w }
-kept_put block_size Groups w s = record s { groups = number_in 1 64 w }
+kept_put block_size Journals w s = record s { journals = number_in 1 most_journals w }
+kept_put block_size JournalBlocks w s = record s { journal_blocks = number_in least_journal_blocks most_journal_blocks w }
+kept_put block_size Groups w s = record s { groups = number_in 1 most_groups w }
 kept_put block_size Uuid w s = record s { uuid = parsed w }
 kept_put block_size Time w s = record s { time = number_in 0 largest w }
 kept_put block_size Schedule w s = record s { schedule = number_in 0 largest w }

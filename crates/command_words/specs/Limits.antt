@@ -1,5 +1,6 @@
 -- What a command asks for is within limits.
 use Rattle.std.specs.Prelude.{ℕ, ◌≤◌, ⊤, IfSome}
+use Rattle.profile_limits.specs.Limits.{least_journal_blocks, most_groups, most_journal_blocks, most_journals}
 use Rattle.command_words.specs.declared.command.MakeWords.{MakeWords}
 use Rattle.command_words.specs.declared.command.RunWords.{RunWords}
 use Rattle.command_words.specs.declared.command.LoadWords.{LoadWords}
@@ -11,9 +12,9 @@ abbrev pub IsBetween : ℕ → ℕ → ℕ → Type 0
 IsBetween low high n = (low ≤ n) × (n ≤ high)
 
 pub record IsMakeWithin (make : MakeWords) : Type 0 where
-  pub journals : IsBetween 1 8 make.journals
-  pub journal_blocks : IsBetween 512 65536 make.journal_blocks
-  pub groups : IsBetween 1 64 make.groups
+  pub journals : IsBetween 1 most_journals make.journals
+  pub journal_blocks : IsBetween least_journal_blocks most_journal_blocks make.journal_blocks
+  pub groups : IsBetween 1 most_groups make.groups
   pub time : IsBetween 0 largest make.time
 
 pub record IsRunWithin (run : RunWords) : Type 0 where

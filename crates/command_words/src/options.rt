@@ -7,6 +7,7 @@ ghost use Rattle.command_words.specs.Kept.{row_of, options_of, kept, kept_put, K
 use crate::command::{LoadWords, MakeWords, RunWords, Usage};
 use crate::words::{first_word, identifier, size_number, small_number};
 use number_words::number_word;
+use profile_limits::{LEAST_JOURNAL_BLOCKS, MOST_GROUPS, MOST_JOURNAL_BLOCKS, MOST_JOURNALS};
 
 pub(crate) const LARGEST: u64 = 9_223_372_036_854_775_807;
 
@@ -147,9 +148,13 @@ impl Options {
     {
         match option {
             Opt::Bsize => self.bsize = size_number(word, block_size),
-            Opt::Journals => self.journals = small_number(word, 1, 8),
-            Opt::JournalBlocks => self.journal_blocks = small_number(word, 512, 65_536),
-            Opt::Groups => self.groups = small_number(word, 1, 64),
+            Opt::Journals => self.journals = small_number(word, 1, MOST_JOURNALS),
+            Opt::JournalBlocks => self.journal_blocks = small_number(
+                word,
+                LEAST_JOURNAL_BLOCKS,
+                MOST_JOURNAL_BLOCKS,
+            ),
+            Opt::Groups => self.groups = small_number(word, 1, MOST_GROUPS),
             Opt::Uuid => self.uuid = identifier(word),
             Opt::Time => self.time = number_word(word, 0, LARGEST),
             Opt::Schedule => self.schedule = number_word(word, 0, LARGEST),

@@ -6,12 +6,14 @@ ghost use Rattle.dinode_tree.specs.Shown.{IsShown};
 ghost use Rattle.dinode_tree.specs.Broken.{IsBroken};
 ghost use Rattle.dinode_tree.specs.Reading.{IsInRange, AreWholeBefore, IsNeeded};
 ghost use Rattle.dinode_tree.specs.Walking.{held, IsIn, IsOf, IsLink, laid_range, ArePieces};
+ghost use Rattle.gfs2_layout.specs.Structures.{dinode_length};
 
 use crate::blocks::{block_of, damaged};
-use crate::inode::{IN_DINODE, Inode};
+use crate::inode::Inode;
 use crate::links::{find, missing_block};
 use crate::numbers::has_header;
 use crate::ways::Link;
+use gfs2_layout::DINODE_LENGTH;
 use glock_names::{CallFault, Step, View};
 use no_memory::NoMemory;
 use std::alloc::Global;
@@ -141,10 +143,10 @@ pub(crate) fn stuffed_range(
 ) -> Result<Vec<u8>, NoMemory>
     requires stuffed { inode.now.dinode.height ≡ 0 }
     requires order { at ≤ end }
-    requires within { 232 + end ≤ length inode.now.bytes.now }
+    requires within { dinode_length + end ≤ length inode.now.bytes.now }
     ensures found { (h : Holding) → IsOf h inode.now → IfOk result (λ bytes. bytes.items ≡ laid_range h at end) }
     ensures length { IfOk result (λ bytes. length bytes.items ≡ end - at) }
 {
-    let behind = &inode.bytes[IN_DINODE + at as usize..IN_DINODE + end as usize];
+    let behind = &inode.bytes[DINODE_LENGTH + at as usize..DINODE_LENGTH + end as usize];
     Ok(Vec::from_slice(alloc, behind)?)
 }

@@ -4,12 +4,10 @@ ghost use Rattle.gfs2_layout.specs.Holding.{Holding, bytes_at};
 
 use crate::blocks::{damaged, lock_of};
 use crate::numbers::{fan, has_header, split};
-use gfs2_layout::Dinode;
+use gfs2_layout::{DINODE_LENGTH, Dinode};
 use glock_names::{CallFault, LockName};
 
 /// Where the pointers of a dinode begin, and those of an indirect block.
-pub(crate) const IN_DINODE: usize = 232;
-
 pub(crate) const IN_BLOCK: usize = 24;
 
 /// An inode: its dinode's block, the bytes of that block, and what the dinode says.
@@ -99,7 +97,7 @@ impl<'a> Inode<'a> {
         ensures fits { OnOk result (Fits (held self.now)) }
         ensures damaged { (h : Holding) → IsOf h self.now → OnlyDamaged result (IsBroken h) }
     {
-        if self.dinode.size > (self.bytes.len() - IN_DINODE) as u64 {
+        if self.dinode.size > (self.bytes.len() - DINODE_LENGTH) as u64 {
             return Err(damaged(self.block, 8));
         }
         Ok(())
@@ -116,7 +114,7 @@ impl<'a> Inode<'a> {
             return Ok(());
         }
         let (last, _) = split(self.bytes.len(), level, count - 1);
-        if last >= fan(self.bytes.len(), IN_DINODE) {
+        if last >= fan(self.bytes.len(), DINODE_LENGTH) {
             return Err(damaged(self.block, 8));
         }
         Ok(())

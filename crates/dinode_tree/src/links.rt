@@ -9,9 +9,10 @@ ghost use Rattle.dinode_tree.specs.Reading.{IsNeeded, inode_lock};
 ghost use Rattle.dinode_tree.specs.Walking.{held, IsIn, IsOf, IsLink, IsStep};
 
 use crate::blocks::{block_of, damaged};
-use crate::inode::{IN_BLOCK, IN_DINODE, Inode};
+use crate::inode::{IN_BLOCK, Inode};
 use crate::numbers::{fan, has_header, number_at, split};
 use crate::ways::{Link, Way};
+use gfs2_layout::DINODE_LENGTH;
 use glock_names::{CallFault, Missing, Step, View};
 
 // The link of a pointer; None where it leads nowhere. What it leads to is to begin before the inode's end.
@@ -47,7 +48,7 @@ fn first_link(inode: &Inode<'_>, index: u64) -> Result<Option<Link>, CallFault>
     }
     let level = inode.dinode.height - 1;
     let (k, left) = split(inode.bytes.len(), level, index);
-    if k >= fan(inode.bytes.len(), IN_DINODE) {
+    if k >= fan(inode.bytes.len(), DINODE_LENGTH) {
         return Ok(None);
     }
     let way = Way {
@@ -58,7 +59,7 @@ fn first_link(inode: &Inode<'_>, index: u64) -> Result<Option<Link>, CallFault>
     };
     follow(
         inode,
-        number_at(inode.bytes, IN_DINODE + 8 * k as usize),
+        number_at(inode.bytes, DINODE_LENGTH + 8 * k as usize),
         way,
     )
 }

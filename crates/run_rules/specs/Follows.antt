@@ -80,16 +80,23 @@ is_write_of node (trace.WriteHome i block) = i == node
 is_write_of node (trace.WriteReplay i block) = i == node
 is_write_of node _ = false
 
--- whether the node is a member after these items
-abbrev pub member_after : ℕ → Bool → List TraceItem → Bool
-member_after node now [] = now
-member_after node now (trace.Join i ∷ is) = member_after node (if i == node then true else now) is
-member_after node now (trace.Crash i ∷ is) = member_after node (if i == node then false else now) is
-member_after node now (trace.Withdraw i before after ∷ is) = member_after node (if i == node then false else now) is
-member_after node now (_ ∷ is) = member_after node now is
+-- What became of a node: it hasn't joined yet, it is a member, or a crash or a withdrawal stopped it.
+pub data Standing : Type 0 where
+  NotJoined : Standing
+  Member : Standing
+  Stopped : Standing
 
-abbrev pub is_member : List TraceItem → ℕ → ℕ → Bool
-is_member items node p = member_after node false (take p items)
+-- the standing of the node after these items, which was `now` before them
+abbrev pub standing_after : ℕ → Standing → List TraceItem → Standing
+standing_after node now [] = now
+standing_after node now (trace.Join i ∷ is) = standing_after node (if i == node then Member else now) is
+standing_after node now (trace.Crash i ∷ is) = standing_after node (if i == node then Stopped else now) is
+standing_after node now (trace.Withdraw i before after ∷ is) = standing_after node (if i == node then Stopped else now) is
+standing_after node now (_ ∷ is) = standing_after node now is
+
+-- its standing after the first p items
+abbrev pub standing : List TraceItem → ℕ → ℕ → Standing
+standing items node p = standing_after node NotJoined (take p items)
 
 -- ---- what a crash, or a join after the start, carries out: a line of the script, or an armed crash
 
@@ -111,8 +118,8 @@ JoinsBy s items p node (ByArmed a) = ⊥
 
 -- at the place of a crash line each node that it names is stopped, and at that of a join line its node is a member
 abbrev pub StandsAt : ScriptValue → List TraceItem → Line → ℕ → Type 0
-StandsAt s items (line.Crash nodes) p = (node : ℕ) → IsBitSet nodes node → node ≤ s.nodes → is_member items node p ≡ false
-StandsAt s items (line.Join node) p = is_member items node p ≡ true
+StandsAt s items (line.Crash nodes) p = (node : ℕ) → IsBitSet nodes node → node ≤ s.nodes → standing items node p ≡ Stopped
+StandsAt s items (line.Join node) p = standing items node p ≡ Member
 StandsAt s items _ p = ⊥
 
 pub record Follows (items : List TraceItem) (s : ScriptValue) : Type 0 where

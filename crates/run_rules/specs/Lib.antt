@@ -1,3 +1,4 @@
 pub mod Follows
 pub mod History
 pub mod Laws
+pub mod Lives

@@ -2,10 +2,15 @@
 //! tree's, and which follows the script.
 #![tactic(auto)]
 
-ghost use Rattle.run_rules.specs.Laws.{NothingFollows, NothingIsLegal};
+ghost use Rattle.run_rules.specs.Laws.{CrashLinesAreCarriedOut, NothingFollows, NothingIsLegal};
 
 /// A law: a run that has no items yet follows its script, whatever that is, is numbered, and is legal.
 pub fn nothing_is_a_history()
     ensures history { NothingFollows }
     ensures legal { NothingIsLegal }
+{}
+
+/// A law: a run that passes over a crash line, as one of `crash 1` and `c: list /` that only lists, doesn't follow its script.
+pub fn crash_lines_are_carried_out()
+    ensures { CrashLinesAreCarriedOut }
 {}

@@ -30,6 +30,7 @@ use Rattle.single_node.specs.Laws.{StandingRootsAreFlat, StandingNamesAreFlat}
 use Rattle.single_node.specs.Shown.{LeadFirstToFiles}
 use Rattle.single_node.proofs.Files.{both, false_from, bytes_eq-comm, found_file, found_holds, look-files_of, named_is_file}
 use Rattle.single_node.proofs.Shown.{not_true, no_dot}
+use Rattle.image_model.proofs.Rising.{all_of}
 
 -- ---- the records in use
 
@@ -43,10 +44,6 @@ in_map f x (y ∷ ys) (inr h) = inr (in_map f x ys h)
 
 record_in : (s : Slot) (ss : List Slot) → IsIn s ss → is_in_use s.head ≡ true → IsIn (record_of s) (used_records ss)
 record_in s ss h used = in_map record_of s (filter (λ t. is_in_use t.head) ss) (in_filter (λ t. is_in_use t.head) s ss h used)
-
-all_of : {X : Type 0} (P : X → Type 0) (xs : List X) → ((x : X) → IsIn x xs → P x) → AllByRecursion P xs
-all_of P [] each = tt
-all_of P (x ∷ xs) each = (each x (inl refl), all_of P xs (λ y h. each y (inr h)))
 
 -- ---- no name twice
 
@@ -139,7 +136,7 @@ dots_lead_nowhere block_at n ss dot = each (look (files_of block_at ss) n) refl
 -- ---- what the inodes say
 
 regular_is_no_directory : (d : Dinode) → is_regular d ≡ true → is_directory d ≡ false
-regular_is_no_directory d is = ne_eqb (d.mode / 4096) 4 (λ e. let eight : d.mode / 4096 ≡ 8 = eqb-true (d.mode / 4096) 8 is in omega (arith, e, eight))
+regular_is_no_directory d is = ne_eqb (d.mode / 4096 % 16) 4 (λ e. let eight : d.mode / 4096 % 16 ≡ 8 = eqb-true (d.mode / 4096 % 16) 8 is in omega (arith, e, eight))
 
 module _ (im : Image) (owners : Owners) (held : HoldingsAreOwned) (a : ℕ) (there : is_dinode (owners a) ≡ true) where
   bytes_are : bytes_at (holding im owners a) a ≡ im.at a

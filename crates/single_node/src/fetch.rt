@@ -1,5 +1,6 @@
 ghost use Rattle.std.specs.Prelude.{◌≡◌, ◌<◌, ◌≤◌, ℕ, length, IsTrue, OnOk, IfErr};
 ghost use Rattle.shared_disk.specs.Disk.{IsIdle};
+ghost use Rattle.shared_disk.specs.Disk.{ReadsOnly};
 ghost use Rattle.single_node.specs.Ends.{EndHasCause, IfNotRead, IfDiskFailed};
 
 use crate::{Refusal, RunEnd};
@@ -20,10 +21,8 @@ pub(crate) fn fetch<D: SharedDisk>(
     ensures inside { OnOk result (block < (D.state disk.old).count) }
     ensures outside { IfErr result (λ end. IfNotRead end (λ b why. (b ≡ from) × (why ≡ Refusal.LeadsOut) × ((D.state disk.old).count ≤ block))) }
     ensures failed { IfErr result (λ end. IfDiskFailed end (λ b. b ≡ block)) }
-    ensures same { D.state disk.new ≡ D.state disk.old }
-    ensures list { D.list disk.new ≡ D.list disk.old }
+    ensures reads { ReadsOnly (D.state disk.old) (D.state disk.new) (D.list disk.old) (D.list disk.new) (D.faults disk.old) (D.faults disk.new) }
     ensures cause { IfErr result (EndHasCause node (D.faults disk.old) (D.faults disk.new)) }
-    ensures later { (j : ℕ) → D.faults disk.old j ≤ D.faults disk.new j }
 {
     if block >= disk.blocks() {
         return Err(RunEnd::NotRead {

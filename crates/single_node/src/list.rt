@@ -9,8 +9,8 @@ ghost use Rattle.shared_disk.specs.Disk.{DiskState};
 ghost use Rattle.single_node.specs.Ends.{EndHasCause, IfNotRead, IfDiskFailed};
 ghost use Rattle.single_node.specs.Flat.{IsFlat, HasFlatRoot, stuffed_part, files_of, names_a_file, HasItsFileName};
 
-use crate::answer::{address_of, behind_dinode};
-use crate::mount::{Root, leads_on};
+use crate::root_block::{Root, leads_on};
+use crate::stuffed_file::{address_of, behind_dinode};
 use crate::{Refusal, RunEnd};
 use file_tree::{Name, NameList, Path, Reply, is_name};
 use gfs2_layout::next_record;

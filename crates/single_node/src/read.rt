@@ -5,13 +5,14 @@ ghost use Rattle.gfs2_layout.specs.Area.{IsArea};
 ghost use Rattle.gfs2_layout.specs.Structures.{dinode_of};
 ghost use Rattle.gfs2_layout.specs.Device.{IsBlockSize};
 ghost use Rattle.shared_disk.specs.Disk.{IsIdle};
+ghost use Rattle.shared_disk.specs.Disk.{ReadsOnly};
 ghost use Rattle.single_node.specs.Ends.{EndHasCause, IfNotRead, IfDiskFailed};
 ghost use Rattle.single_node.specs.Blocks.{CallReads, RefusesWhatIsTold};
 ghost use Rattle.file_tree.specs.declared.call.Call.TheVariants as calls;
 ghost use Rattle.single_node.specs.Flat.{IsFlat, HasFlatRoot, stuffed_part};
 
 use crate::RunEnd;
-use crate::answer::{address_of, behind_dinode, read_file};
+use crate::stuffed_file::{address_of, behind_dinode, read_file};
 use file_tree::{Path, Reply};
 use shared_disk::SharedDisk;
 use std::alloc::Global;
@@ -39,10 +40,8 @@ pub(crate) fn read_call<D: SharedDisk>(
         → reply ≡ read_reply (walk tree path.now) at count) }
     ensures block { IfErr result (λ end. IfNotRead end (λ b why. RefusesWhatIsTold (D.state disk.old) root.now (calls.Read path.now at count) b why)) }
     ensures failed { IfErr result (λ end. IfDiskFailed end (λ b. CallReads root.now (calls.Read path.now at count) b)) }
-    ensures same { D.state disk.new ≡ D.state disk.old }
-    ensures list { D.list disk.new ≡ D.list disk.old }
+    ensures reads { ReadsOnly (D.state disk.old) (D.state disk.new) (D.list disk.old) (D.list disk.new) (D.faults disk.old) (D.faults disk.new) }
     ensures cause { IfErr result (EndHasCause 1 (D.faults disk.old) (D.faults disk.new)) }
-    ensures later { (j : ℕ) → D.faults disk.old j ≤ D.faults disk.new j }
 {
     let [name, ..] = path.names() else {
         return Ok(Reply::IsDir);

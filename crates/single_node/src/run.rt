@@ -7,6 +7,7 @@ ghost use Rattle.file_tree.specs.Apply.{apply};
 ghost use Rattle.gfs2_layout.specs.Area.{IsArea};
 ghost use Rattle.gfs2_layout.specs.Device.{IsBlockSize};
 ghost use Rattle.shared_disk.specs.Disk.{IsIdle};
+ghost use Rattle.shared_disk.specs.Disk.{ReadsOnly};
 ghost use Rattle.script_lang.specs.OneNode.{IsRootCall};
 ghost use Rattle.script_lang.specs.OneNode.{IsOneNode};
 ghost use Rattle.run_rules.specs.History.{HoldsHistory, NoneStopped, AllAnswered};
@@ -17,8 +18,8 @@ ghost use Rattle.single_node.specs.Run.{IsLineOf, IsTaken, IsRunUpTo, IsRunOf, I
 
 use crate::RunEnd;
 use crate::list::list_call;
-use crate::mount::Root;
 use crate::read::read_call;
+use crate::root_block::Root;
 use file_tree::{Call, Name, Reply};
 use no_memory::NoMemory;
 use script_lang::{Client, Line, Script};
@@ -44,10 +45,8 @@ fn reply_to<D: SharedDisk>(
         → apply call.now tree ≡ record { reply = reply; tree = tree }) }
     ensures block { IfErr result (λ end. IfNotRead end (λ b why. RefusesWhatIsTold (D.state disk.old) root.now call.now b why)) }
     ensures failed { IfErr result (λ end. IfDiskFailed end (λ b. CallReads root.now call.now b)) }
-    ensures same { D.state disk.new ≡ D.state disk.old }
-    ensures list { D.list disk.new ≡ D.list disk.old }
+    ensures reads { ReadsOnly (D.state disk.old) (D.state disk.new) (D.list disk.old) (D.list disk.new) (D.faults disk.old) (D.faults disk.new) }
     ensures cause { IfErr result (EndHasCause 1 (D.faults disk.old) (D.faults disk.new)) }
-    ensures later { (j : ℕ) → D.faults disk.old j ≤ D.faults disk.new j }
 {
     match call {
         Call::Read(path, at, count) => {
@@ -115,10 +114,8 @@ fn take_line<D: SharedDisk>(
     ensures kept { OnErr result (items.new.items ≡ items.old.items) }
     ensures block { IfErr result (λ end. IfNotRead end (λ b why. IsCallThat (λ call. RefusesWhatIsTold (D.state disk.old) root.now call b why) line.now)) }
     ensures failed { IfErr result (λ end. IfDiskFailed end (λ b. IsCallThat (λ call. CallReads root.now call b) line.now)) }
-    ensures same { D.state disk.new ≡ D.state disk.old }
-    ensures list { D.list disk.new ≡ D.list disk.old }
+    ensures reads { ReadsOnly (D.state disk.old) (D.state disk.new) (D.list disk.old) (D.list disk.new) (D.faults disk.old) (D.faults disk.new) }
     ensures cause { IfErr result (EndHasCause 1 (D.faults disk.old) (D.faults disk.new)) }
-    ensures later { (j : ℕ) → D.faults disk.old j ≤ D.faults disk.new j }
 {
     let Line::Call { client, call } = line else {
         return Ok(());
@@ -154,10 +151,8 @@ fn take_lines<D: SharedDisk>(
     ensures whole { OnOk result (IsRunUpTo clients.now lines.now (length lines.now) items.new.items (IsStart (D.state disk.old) root.now)) }
     ensures block { IfErr result (λ end. IfNotRead end (λ b why. EndsAtCall (λ call. RefusesWhatIsTold (D.state disk.old) root.now call b why) clients.now lines.now items.new.items (IsStart (D.state disk.old) root.now))) }
     ensures failed { IfErr result (λ end. IfDiskFailed end (λ b. EndsAtCall (λ call. CallReads root.now call b) clients.now lines.now items.new.items (IsStart (D.state disk.old) root.now))) }
-    ensures same { D.state disk.new ≡ D.state disk.old }
-    ensures list { D.list disk.new ≡ D.list disk.old }
+    ensures reads { ReadsOnly (D.state disk.old) (D.state disk.new) (D.list disk.old) (D.list disk.new) (D.faults disk.old) (D.faults disk.new) }
     ensures cause { IfErr result (EndHasCause 1 (D.faults disk.old) (D.faults disk.new)) }
-    ensures later { (j : ℕ) → D.faults disk.old j ≤ D.faults disk.new j }
 {
     for line in lines {
         match take_line(alloc, disk, root, block, clients, line, items) {
@@ -189,10 +184,8 @@ fn run_lines<D: SharedDisk>(
     ensures whole { OnOk result (IsWholeRun clients.now lines.now items.new.items (IsStart (D.state disk.old) root.now)) }
     ensures block { IfErr result (λ end. IfNotRead end (λ b why. EndsAtCall (λ call. RefusesWhatIsTold (D.state disk.old) root.now call b why) clients.now lines.now items.new.items (IsStart (D.state disk.old) root.now))) }
     ensures failed { IfErr result (λ end. IfDiskFailed end (λ b. EndsAtCall (λ call. CallReads root.now call b) clients.now lines.now items.new.items (IsStart (D.state disk.old) root.now))) }
-    ensures same { D.state disk.new ≡ D.state disk.old }
-    ensures list { D.list disk.new ≡ D.list disk.old }
+    ensures reads { ReadsOnly (D.state disk.old) (D.state disk.new) (D.list disk.old) (D.list disk.new) (D.faults disk.old) (D.faults disk.new) }
     ensures cause { IfErr result (EndHasCause 1 (D.faults disk.old) (D.faults disk.new)) }
-    ensures later { (j : ℕ) → D.faults disk.old j ≤ D.faults disk.new j }
 {
     match put_item(items, TraceItem::Join { node: 1 }) {
         Ok(()) => {}
@@ -238,10 +231,8 @@ pub fn run_script<D: SharedDisk>(
     ensures other { IfErr result (λ end. IfNotRead end (λ _ _. (tree : Tree) → IsStart (D.state disk.old) root.now tree → ⊥)) }
     ensures block { IfErr result (λ end. IfNotRead end (λ b why. EndsAtCall (λ call. RefusesWhatIsTold (D.state disk.old) root.now call b why) script.now.clients script.now.lines items.new.items (IsStart (D.state disk.old) root.now))) }
     ensures failed { IfErr result (λ end. IfDiskFailed end (λ b. EndsAtCall (λ call. CallReads root.now call b) script.now.clients script.now.lines items.new.items (IsStart (D.state disk.old) root.now))) }
-    ensures same { D.state disk.new ≡ D.state disk.old }
-    ensures list { D.list disk.new ≡ D.list disk.old }
+    ensures reads { ReadsOnly (D.state disk.old) (D.state disk.new) (D.list disk.old) (D.list disk.new) (D.faults disk.old) (D.faults disk.new) }
     ensures cause { IfErr result (EndHasCause 1 (D.faults disk.old) (D.faults disk.new)) }
-    ensures later { (j : ℕ) → D.faults disk.old j ≤ D.faults disk.new j }
 {
     let size = disk.block_size() as usize;
     let mut block = vec![in alloc; 0u8; size]?;

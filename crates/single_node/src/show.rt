@@ -5,14 +5,15 @@ ghost use Rattle.gfs2_layout.specs.Area.{IsArea, slots_of, first_named};
 ghost use Rattle.gfs2_layout.specs.Device.{IsBlockSize};
 ghost use Rattle.gfs2_layout.specs.Structures.{dinode_of};
 ghost use Rattle.shared_disk.specs.Disk.{DiskState, IsIdle};
+ghost use Rattle.shared_disk.specs.Disk.{ReadsOnly};
 ghost use Rattle.show_text.specs.Show.{tree_lines, file_line, dir_line};
 ghost use Rattle.single_node.specs.Ends.{EndHasCause, IfNotRead, IfDiskFailed};
 ghost use Rattle.single_node.specs.Flat.{IsStart, files_of, stuffed_part};
 ghost use Rattle.single_node.specs.Shown.{shown_line, LeadsFirstToFile, LeadFirstToFiles, TreeReads, TreeRefuses};
 
-use crate::answer::{address_of, behind_dinode, read_file};
 use crate::list::file_names;
-use crate::mount::Root;
+use crate::root_block::Root;
+use crate::stuffed_file::{address_of, behind_dinode, read_file};
 use crate::{Refusal, RunEnd};
 use file_tree::{Name, NameList, Path};
 use no_memory::NoMemory;
@@ -67,10 +68,8 @@ fn append_named<D: SharedDisk>(
     ensures file { IfOk result (λ _. IsTrue (D.state disk.old).tells → LeadsFirstToFile (D.state disk.old) root.now name.now) }
     ensures block { IfErr result (λ end. IfNotRead end (λ b why. TreeRefuses (D.state disk.old) root.now b why)) }
     ensures failed { IfErr result (λ end. IfDiskFailed end (λ b. TreeReads root.now b)) }
-    ensures same { D.state disk.new ≡ D.state disk.old }
-    ensures list { D.list disk.new ≡ D.list disk.old }
+    ensures reads { ReadsOnly (D.state disk.old) (D.state disk.new) (D.list disk.old) (D.list disk.new) (D.faults disk.old) (D.faults disk.new) }
     ensures cause { IfErr result (EndHasCause 0 (D.faults disk.old) (D.faults disk.new)) }
-    ensures later { (j : ℕ) → D.faults disk.old j ≤ D.faults disk.new j }
 {
     let area = behind_dinode(root);
     let Some(address) = address_of(area, name.bytes()) else {
@@ -107,10 +106,8 @@ fn append_files<D: SharedDisk>(
     ensures files { IfOk result (λ _. IsTrue (D.state disk.old).tells → AllByRecursion (LeadsFirstToFile (D.state disk.old) root.now) names.now) }
     ensures block { IfErr result (λ end. IfNotRead end (λ b why. TreeRefuses (D.state disk.old) root.now b why)) }
     ensures failed { IfErr result (λ end. IfDiskFailed end (λ b. TreeReads root.now b)) }
-    ensures same { D.state disk.new ≡ D.state disk.old }
-    ensures list { D.list disk.new ≡ D.list disk.old }
+    ensures reads { ReadsOnly (D.state disk.old) (D.state disk.new) (D.list disk.old) (D.list disk.new) (D.faults disk.old) (D.faults disk.new) }
     ensures cause { IfErr result (EndHasCause 0 (D.faults disk.old) (D.faults disk.new)) }
-    ensures later { (j : ℕ) → D.faults disk.old j ≤ D.faults disk.new j }
 {
     for name in names {
         match append_named(alloc, disk, root, from, block, name, text) {
@@ -156,10 +153,8 @@ pub fn append_tree<D: SharedDisk>(
     ensures files { IfOk result (λ _. IsTrue (D.state disk.old).tells → LeadFirstToFiles (D.state disk.old) root.now) }
     ensures block { IfErr result (λ end. IfNotRead end (λ b why. TreeRefuses (D.state disk.old) root.now b why)) }
     ensures failed { IfErr result (λ end. IfDiskFailed end (λ b. TreeReads root.now b)) }
-    ensures same { D.state disk.new ≡ D.state disk.old }
-    ensures list { D.list disk.new ≡ D.list disk.old }
+    ensures reads { ReadsOnly (D.state disk.old) (D.state disk.new) (D.list disk.old) (D.list disk.new) (D.faults disk.old) (D.faults disk.new) }
     ensures cause { IfErr result (EndHasCause 0 (D.faults disk.old) (D.faults disk.new)) }
-    ensures later { (j : ℕ) → D.faults disk.old j ≤ D.faults disk.new j }
 {
     let size = disk.block_size() as usize;
     let names = names_of(alloc, root)?;

@@ -50,7 +50,17 @@ pub fn append_number(text: &mut Vec<u8>, n: u64) -> Result<(), NoMemory>
 pub fn append_hex(alloc: Global, text: &mut Vec<u8>, bytes: &[u8]) -> Result<(), NoMemory>
     ensures { IfOk result (λ _. text.new.items ≡ text.old.items ++ encode_lower bytes.now) }
 {
-    let digits = hex::encode(alloc, bytes)?;
-    text.extend_from_slice(digits.as_bytes())?;
-    Ok(())
+    let start = text.len();
+    let Some(end) = bytes
+        .len()
+        .checked_mul(2)
+        .and_then(|count| start.checked_add(count))
+    else {
+        return Err(NoMemory);
+    };
+    text.resize(end, 0)?;
+    match hex::encode_to_slice(bytes, &mut text[start..]) {
+        Ok(()) => Ok(()),
+        Err(_) => Err(NoMemory),
+    }
 }

@@ -1,4 +1,4 @@
-use Rattle.std.proofs.Common.{◌≡◌, ℕ, List, Some, slice_get, sym, ap, ◌∙◌, subst}
+use Rattle.std.proofs.Common.{◌≡◌, ℕ, List, true, Some, slice_get, sym, ap, ◌∙◌, subst}
 use Rattle.std.specs.Prelude.{IsTrue}
 use Rattle.image_mount.specs.Mounted.{Journal, MountedValue}
 use Rattle.shared_disk.specs.Disk.{DiskState}
@@ -24,12 +24,17 @@ returns-in-Ok-read_root-clause-root g c tells =
     let d = g.D.SharedDisk.state c.args.disk.now in
     let told = superblock_is d c.in-Ok.mounted c.requires.size (c.in-Ok.ensures.mounted tells) in
     let at = ap (λ (m : MountedValue). m.superblock.root.address) c.mounted.view_is ∙ told.1 in
-    root_there d (g.D.SharedDisk.state c.mount_image.new.disk) c.in-Ok-read_root.root c.mounted.inside.sb.root.address c.in-Ok.ensures.same c.in-Ok-read_root.ensures.root tells told.0 at
+    root_there d (g.D.SharedDisk.state c.mount_image.new.disk) c.in-Ok-read_root.root c.mounted.inside.sb.root.address c.in-Ok.ensures.reads.same c.in-Ok-read_root.ensures.root tells told.0 at
 
 pub returns-in-Err-read_root-clause-ends : goal.returns-in-Err-read_root-clause-ends
 returns-in-Err-read_root-clause-ends g c =
     let d = g.D.SharedDisk.state c.args.disk.now in
     let at : IsTrue d.tells → c.mounted.inside.sb.root.address ≡ root_of d = λ tells. ap (λ (m : MountedValue). m.superblock.root.address) c.mounted.view_is ∙ (superblock_is d c.in-Ok.mounted c.requires.size (c.in-Ok.ensures.mounted tells)).1 in
-    subst (MountEnds _ _ _) (sym c.early.ensures)
+    subst (MountEnds _ _ _) (sym c.status_of_end.ensures)
     (root_end d (g.D.SharedDisk.state c.mount_image.new.disk) (g.D.SharedDisk.faults c.args.disk.now) (g.D.SharedDisk.faults c.mount_image.new.disk) (g.D.SharedDisk.faults c.read_root.new.disk) c.mounted.inside.sb.root.address
-    c.in-Err-read_root.end c.in-Ok.ensures.same c.what_stands_breaks_nothing.ensures at c.in-Ok.ensures.later c.in-Err-read_root.ensures.cause c.in-Err-read_root.ensures.block c.in-Err-read_root.ensures.failed)
+    c.in-Err-read_root.end c.in-Ok.ensures.reads.same c.what_stands_breaks_nothing.ensures at c.in-Ok.ensures.reads.later c.in-Err-read_root.ensures.cause c.in-Err-read_root.ensures.block c.in-Err-read_root.ensures.failed)
+
+pub returns-in-Ok-read_root-clause-clean : goal.returns-in-Ok-read_root-clause-clean
+returns-in-Ok-read_root-clause-clean g c =
+    let journals = c.deref.ensures.value ∙ ap (λ (m : MountedValue). m.journals) c.mounted.view_is in
+    subst (λ (js : List Journal). (j : ℕ) (journal : Journal) → slice_get js j ≡ Some journal → journal.head.clean ≡ true) journals c.in_default.ensures

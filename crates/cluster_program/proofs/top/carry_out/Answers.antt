@@ -30,4 +30,4 @@ pub returns-in-Ok-Show-clause-course : goal.returns-in-Ok-Show-clause-course
 returns-in-Ok-Show-clause-course g c =
     let asks = subst (λ (size : ℕ). AsksToShow size (map string_bytes c.args.words.now)) c.block_size.ensures (shown_as (map string_bytes c.args.words.now) c.block_size.result c.in-Ok-Show.field-0 c.in-Ok-Show.field-0-is c.in-Ok-Show.ensures.task) in
     course_of (map string_bytes c.args.words.now) _ _ c.show.ensures.script c.requires.none refl refl
-    (ShowsImage c.show.result.lines.items c.show.result.own asks (record { left = refl; faults = refl }) (record { state_is = c.show.ensures.same; list_is = c.show.ensures.list }) c.show.ensures.shows)
+    (ShowsImage c.show.result.lines.items c.show.result.own asks (record { left = refl; faults = refl }) (record { state_is = c.show.ensures.reads.same; list_is = c.show.ensures.reads.list }) c.show.ensures.shows)

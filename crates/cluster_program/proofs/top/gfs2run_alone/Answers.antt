@@ -6,6 +6,7 @@ use Rattle.cluster_program.specs.Report.{Reports}
 use Rattle.cluster_program.specs.World.{Outputs}
 use Rattle.cluster_program.proofs.Ends.{fault_has_cause}
 use Rattle.cluster_program.proofs.Complete.{complete}
+use Rattle.cluster_program.proofs.Dirty.{counted}
 use Rattle.cluster_program.proofs.top.gfs2run_alone.Given.{Over}
 use Rattle.cluster_program.proofs.top.gfs2run_alone.Goals as goal
 
@@ -20,8 +21,20 @@ module _ (g : Over) (c : goal.After-drop-items g) where
   abbrev sinks_now : Outputs
   sinks_now = record { trace = g.T.Sink.contents c.report-status.new.trace; trace_faults = g.T.Sink.faults c.report-status.new.trace; output = g.O.Sink.contents c.report-status.new.out; output_faults = g.O.Sink.faults c.report-status.new.out }
 
-  reports : Reports sinks sinks_now c.carry_out-script.result.script c.carry_out-script.new.items.items c.carry_out-script.result.lines.items c.carry_out-script.result.own c.report-status.result
-  reports = subst (λ (items : List TraceItem). Reports sinks sinks_now c.carry_out-script.result.script items c.carry_out-script.result.lines.items c.carry_out-script.result.own c.report-status.result) c.deref.ensures.value c.report-status.ensures.reports
+  reports : Reports sinks sinks_now c.carry_out-script.result.script c.carry_out-script.new.items.items c.carry_out-script.result.lines.items 0 c.carry_out-script.result.own c.report-status.result
+  reports = subst (λ (items : List TraceItem). Reports sinks sinks_now c.carry_out-script.result.script items c.carry_out-script.result.lines.items 0 c.carry_out-script.result.own c.report-status.result) c.deref.ensures.value c.report-status.ensures.reports
+
+pub returns-clause-ends : goal.returns-clause-ends
+returns-clause-ends g c = record {
+  script = c.carry_out-script.result.script;
+  items = c.carry_out-script.new.items.items;
+  lines = c.carry_out-script.result.lines.items;
+  own = c.carry_out-script.result.own;
+  course = c.carry_out-script.ensures.course;
+  dirty = 0;
+  report = reports g c;
+  counted = counted _ _ (map string_bytes c.args.words.now) c.carry_out-script.result.script c.carry_out-script.new.items.items c.carry_out-script.result.lines.items c.carry_out-script.result.own c.carry_out-script.ensures.course (reports g c).told;
+}
 
 pub returns-clause-fault : goal.returns-clause-fault
 returns-clause-fault g c =

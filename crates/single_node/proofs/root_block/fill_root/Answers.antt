@@ -6,13 +6,13 @@ use Rattle.single_node.specs.declared.end.Refusal.TheVariants as refusal
 use Rattle.single_node.specs.Flat.{IsFlatDirectory}
 use Rattle.single_node.proofs.Blocks.{outside_root}
 use Rattle.single_node.proofs.Ends.{not_read_weaker}
-use Rattle.single_node.proofs.mount.fill_root.Goals as goal
+use Rattle.single_node.proofs.root_block.fill_root.Goals as goal
 
 pub returns-in-Err-clause-block : goal.returns-in-Err-clause-block
 returns-in-Err-clause-block g c =
     let d = g.D.SharedDisk.state c.args.disk.now in
-    not_read_weaker {P = λ b why. (b ≡ 65536 / c.from-place.result) × (why ≡ refusal.LeadsOut) × (d.count ≤ c.args.address)} {Q = λ b why. IsTrue d.tells → RootRefused d c.args.address b why} c.in-Err.end
-    (λ b why out tells. outside_root d (65536 / c.from-place.result) c.args.address b why (ap superblock_place (c.from-place.ensures ∙ c.block_size.ensures)) out) c.in-Err.ensures.outside
+    not_read_weaker {P = λ b why. (b ≡ c.superblock_block-place.result) × (why ≡ refusal.LeadsOut) × (d.count ≤ c.args.address)} {Q = λ b why. IsTrue d.tells → RootRefused d c.args.address b why} c.in-Err.end
+    (λ b why out tells. outside_root d c.superblock_block-place.result c.args.address b why (c.superblock_block-place.ensures ∙ ap superblock_place c.block_size.ensures) out) c.in-Err.ensures.outside
 
 pub returns-then-not-is_flat_directory-clause-block : goal.returns-then-not-is_flat_directory-clause-block
 returns-then-not-is_flat_directory-clause-block g c tells =

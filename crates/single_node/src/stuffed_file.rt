@@ -1,29 +1,30 @@
 ghost use Rattle.std.specs.Prelude.{◌≡◌, ◌+◌, ◌<◌, ◌≤◌, ℕ, length, take, drop, IsTrue, IfOk, IfErr, MatchOption, None, Some, ◌^◌};
 ghost use Rattle.file_tree.specs.Tree.{Tree, names_in, Entries};
 ghost use Rattle.file_tree.specs.Apply.{read_reply, list_reply, walk, Walked};
-ghost use Rattle.gfs2_layout.specs.Structures.{dinode_of};
+ghost use Rattle.gfs2_layout.specs.Structures.{dinode_of, dinode_length};
 ghost use Rattle.gfs2_layout.specs.Area.{Slot, slots_of, first_named, IsArea};
 ghost use Rattle.gfs2_layout.specs.Device.{IsBlockSize};
 ghost use Rattle.shared_disk.specs.Disk.{IsIdle};
+ghost use Rattle.shared_disk.specs.Disk.{ReadsOnly};
 ghost use Rattle.single_node.specs.Ends.{EndHasCause, IfNotRead, IfDiskFailed};
 ghost use Rattle.single_node.specs.Blocks.{FileRefused};
 ghost use Rattle.single_node.specs.Flat.{IsFlat, IsStuffedFile, HasFile, HasFlatRoot, file_bytes, stuffed_part};
 
 use crate::fetch::fetch;
-use crate::mount::stuffed_dinode;
+use crate::root_block::stuffed_dinode;
 use crate::{Refusal, RunEnd};
 use file_tree::Content;
-use gfs2_layout::{Dirent, find_record};
+use gfs2_layout::{DINODE_LENGTH, Dirent, find_record};
 use shared_disk::SharedDisk;
 use std::alloc::{AllocError, Global};
 
 /// What stands behind the dinode of a block.
 pub(crate) fn behind_dinode(block: &[u8]) -> &[u8]
-    requires { 232 ≤ length block.now }
+    requires { dinode_length ≤ length block.now }
     ensures part { result.now ≡ stuffed_part block.now }
     ensures within { length result.now ≤ length block.now }
 {
-    &block[232..]
+    &block[DINODE_LENGTH..]
 }
 
 // The size of the stuffed file that a block holds in its own place.
@@ -33,7 +34,7 @@ fn file_size(block: &[u8], address: u64) -> Option<usize>
         (λ size. (size ≡ (dinode_of block.now).size) × IsStuffedFile (length block.now) address block.now) }
 {
     let dinode = stuffed_dinode(block, address)?;
-    if !dinode.is_regular() || dinode.size > block.len() as u64 - 232 {
+    if !dinode.is_regular() || dinode.size > block.len() as u64 - DINODE_LENGTH as u64 {
         return None;
     }
     Some(dinode.size as usize)
@@ -57,10 +58,10 @@ fn range_of(
     at: u64,
     count: u32,
 ) -> Result<Content, AllocError>
-    requires { size + 232 ≤ length block.now }
+    requires { size + dinode_length ≤ length block.now }
     ensures { IfOk result (λ content. content ≡ take count (drop at (take size (stuffed_part block.now)))) }
 {
-    let file = &block[232..232 + size];
+    let file = &block[DINODE_LENGTH..DINODE_LENGTH + size];
     let part = part_of(file, at, count);
     Ok(Content::new(Vec::from_slice(alloc, part)?))
 }
@@ -86,10 +87,8 @@ pub(crate) fn read_file<D: SharedDisk>(
     ensures file { IfOk result (λ _. IsTrue (D.state disk.old).tells → HasFile (D.state disk.old) address) }
     ensures block { IfErr result (λ end. IfNotRead end (λ b why. IsTrue (D.state disk.old).tells → FileRefused (D.state disk.old) from address b why)) }
     ensures failed { IfErr result (λ end. IfDiskFailed end (λ b. b ≡ address)) }
-    ensures same { D.state disk.new ≡ D.state disk.old }
-    ensures list { D.list disk.new ≡ D.list disk.old }
+    ensures reads { ReadsOnly (D.state disk.old) (D.state disk.new) (D.list disk.old) (D.list disk.new) (D.faults disk.old) (D.faults disk.new) }
     ensures cause { IfErr result (EndHasCause node (D.faults disk.old) (D.faults disk.new)) }
-    ensures later { (j : ℕ) → D.faults disk.old j ≤ D.faults disk.new j }
 {
     match fetch(disk, node, from, address, block) {
         Ok(()) => {}

@@ -5,7 +5,7 @@ use Rattle.gfs2_layout.specs.declared.dinode.Dinode.{Dinode}
 use Rattle.gfs2_layout.specs.Structures.{is_directory}
 use Rattle.gfs2_layout.specs.Area.{IsArea, slots_of}
 use Rattle.single_node.specs.Flat.{IsOfFile}
-use Rattle.single_node.proofs.mount.is_flat_directory.Goals as goal
+use Rattle.single_node.proofs.root_block.is_flat_directory.Goals as goal
 
 pub returns-then-not-is_area : goal.returns-then-not-is_area
 returns-then-not-is_area c =

@@ -4,7 +4,7 @@ use Rattle.single_node.specs.Blocks.{FileRefused, NoFile}
 use Rattle.single_node.specs.Flat.{IsStuffedFile}
 use Rattle.single_node.proofs.Blocks.{outside_file}
 use Rattle.single_node.proofs.Ends.{not_read_weaker}
-use Rattle.single_node.proofs.answer.read_file.Goals as goal
+use Rattle.single_node.proofs.stuffed_file.read_file.Goals as goal
 
 pub returns-in-Err-clause-block : goal.returns-in-Err-clause-block
 returns-in-Err-clause-block g c =

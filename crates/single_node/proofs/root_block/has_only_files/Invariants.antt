@@ -3,7 +3,7 @@ use Rattle.std.specs.Prelude.{◌↔◌}
 use Rattle.std.specs.List.{AllByRecursion}
 use Rattle.gfs2_layout.specs.Area.{IsArea, slots_of}
 use Rattle.single_node.specs.Flat.{IsOfFile}
-use Rattle.single_node.proofs.mount.has_only_files.Given as goal
+use Rattle.single_node.proofs.root_block.has_only_files.Given as goal
 
 abbrev pub invariant-loop-record : goal.invariant-loop-record
 invariant-loop-record l = record {

@@ -2,7 +2,7 @@ use Rattle.std.proofs.Common.{sym, subst}
 use Rattle.std.specs.List.{AllByRecursion}
 use Rattle.gfs2_layout.specs.Area.{slot_at}
 use Rattle.single_node.specs.Flat.{IsOfFile}
-use Rattle.single_node.proofs.mount.has_only_files.Goals as goal
+use Rattle.single_node.proofs.root_block.has_only_files.Goals as goal
 
 pub returns-then-not-is_of_file : goal.returns-then-not-is_of_file
 returns-then-not-is_of_file c =

@@ -4,13 +4,14 @@ ghost use Rattle.gfs2_layout.specs.Structures.{dinode_of};
 ghost use Rattle.gfs2_layout.specs.Area.{Slot, slots_of, IsShown, IsArea};
 ghost use Rattle.gfs2_layout.specs.Device.{IsBlockSize};
 ghost use Rattle.shared_disk.specs.Disk.{IsIdle};
+ghost use Rattle.shared_disk.specs.Disk.{ReadsOnly};
 ghost use Rattle.single_node.specs.Ends.{EndHasCause, IfNotRead, IfDiskFailed};
 ghost use Rattle.single_node.specs.Blocks.{RootRefused};
 ghost use Rattle.single_node.specs.Flat.{IsStuffed, IsFlatDirectory, HasSuperBlock, HasFlatRoot, IsOfFile, names_a_file, stuffed_part, root_of, is_dot};
 
 use crate::fetch::fetch;
 use crate::{Refusal, RunEnd};
-use gfs2_layout::{Dinode, Record, is_area, next_record};
+use gfs2_layout::{DINODE_LENGTH, Dinode, Record, is_area, next_record, superblock_block};
 use shared_disk::SharedDisk;
 use std::alloc::Global;
 use std::marker::Model;
@@ -71,11 +72,11 @@ fn is_flat_directory(block: &[u8], address: u64) -> bool
     let Some(dinode) = stuffed_dinode(block, address) else {
         return false;
     };
-    let whole = dinode.size == block.len() as u64 - 232;
+    let whole = dinode.size == block.len() as u64 - DINODE_LENGTH as u64;
     if !dinode.is_directory() || !whole || dinode.flags / 2 % 2 != 0 {
         return false;
     }
-    let area = &block[232..];
+    let area = &block[DINODE_LENGTH..];
     if !is_area(area) {
         return false;
     }
@@ -126,12 +127,10 @@ fn fill_root<D: SharedDisk>(disk: &mut D, address: u64, block: &mut [u8]) -> Res
     ensures root { OnOk result (IsFlatDirectory (D.state disk.old).size address block.new) }
     ensures block { IfErr result (λ end. IfNotRead end (λ b why. IsTrue (D.state disk.old).tells → RootRefused (D.state disk.old) address b why)) }
     ensures failed { IfErr result (λ end. IfDiskFailed end (λ b. b ≡ address)) }
-    ensures same { D.state disk.new ≡ D.state disk.old }
-    ensures list { D.list disk.new ≡ D.list disk.old }
+    ensures reads { ReadsOnly (D.state disk.old) (D.state disk.new) (D.list disk.old) (D.list disk.new) (D.faults disk.old) (D.faults disk.new) }
     ensures cause { IfErr result (EndHasCause 0 (D.faults disk.old) (D.faults disk.new)) }
-    ensures later { (j : ℕ) → D.faults disk.old j ≤ D.faults disk.new j }
 {
-    let place = 65_536 / u64::from(disk.block_size());
+    let place = superblock_block(disk.block_size());
     match fetch(disk, 0, place, address, block) {
         Ok(()) => {}
         Err(end) => return Err(end),
@@ -155,10 +154,8 @@ pub fn read_root<D: SharedDisk>(alloc: Global, disk: &mut D, address: u64) -> Re
     ensures area { IfOk result (λ block. (length block ≡ (D.state disk.old).size) × IsArea (stuffed_part block)) }
     ensures block { IfErr result (λ end. IfNotRead end (λ b why. IsTrue (D.state disk.old).tells → RootRefused (D.state disk.old) address b why)) }
     ensures failed { IfErr result (λ end. IfDiskFailed end (λ b. b ≡ address)) }
-    ensures same { D.state disk.new ≡ D.state disk.old }
-    ensures list { D.list disk.new ≡ D.list disk.old }
+    ensures reads { ReadsOnly (D.state disk.old) (D.state disk.new) (D.list disk.old) (D.list disk.new) (D.faults disk.old) (D.faults disk.new) }
     ensures cause { IfErr result (EndHasCause 0 (D.faults disk.old) (D.faults disk.new)) }
-    ensures later { (j : ℕ) → D.faults disk.old j ≤ D.faults disk.new j }
 {
     let size = disk.block_size() as usize;
     let mut block = vec![in alloc; 0u8; size]?;

@@ -38,7 +38,7 @@ pub(crate) fn not_built(block: u64) -> Status
 }
 
 /// One whose run, or whose reading of the root, ended so.
-pub(crate) fn early(end: RunEnd) -> Status
+pub(crate) fn status_of_end(end: RunEnd) -> Status
     ensures { result ≡ status_of_end end }
 {
     match end {
