@@ -149,6 +149,161 @@ check "an output that is full" 7 ""
 run image /dev/full run <script
 check "a trace that is full" 7 "trace fault: count 0 to 1"
 
+# Words and names that are no text. A word of the command that is none is a wrong one; std opens no file by such a name.
+bad=$(printf 'a\377b')
+run image trace "$bad" <script
+check "a command that is no text" 1 "usage: word 1"
+run image trace run --time "$bad" <script
+check "a value that is no text" 1 "usage: word 3"
+run image trace run "$bad" 5 <script
+check "an option that is no text" 1 "usage: word 2"
+run "$bad"
+check "a single word that is no text" 1 "usage: word 1"
+cp image "$bad"
+run "$bad" trace show
+check "an image whose name is no text" 12 "cannot open $bad"
+run image "$bad" show
+check "a trace whose name is no text" 12 "cannot open $bad"
+cmp -s image "$bad" || {
+    echo "checks/program.sh: a file whose name is no text was changed" >&2
+    failed=1
+}
+rm -f "$bad"
+mkdir ünder
+cp image ünder/bild
+run ünder/bild ünder/spur show
+check "names that are text, and not ASCII" 0 "done"
+
+# A trace that is the image, by its name, by a link, and by a second name. Nothing is emptied.
+cp image same
+ln -s same link
+ln same second
+for name in same ./same link second; do
+    run same "$name" run <script
+    check "a trace that is the image, as $name" 12 "cannot open $name"
+done
+run link second mkfs --journal-blocks 512
+check "an image and a trace that are one file" 12 "cannot open second"
+cmp -s same before || {
+    echo "checks/program.sh: an image that was given as the trace too was changed" >&2
+    failed=1
+}
+printf 'what stood here before is longer than the trace of a run that follows, which is to replace the whole of it\n\n\n' >trace
+run image trace run <script
+check "a run over an older trace" 0 "done"
+[ "$(head -n 1 trace)" = "join 1" ] && [ "$(wc -l <trace)" = 3 ] || {
+    echo "checks/program.sh: an older trace was not emptied" >&2
+    failed=1
+}
+
+# An image that may only be read is shown, and nothing else. Root may write everything, so root tries as another.
+as=''
+if [ "$(id -u)" = 0 ]; then
+    if command -v setpriv >/dev/null; then
+        as='setpriv --reuid=65534 --regid=65534 --clear-groups'
+    else
+        as=none
+        echo "checks/program.sh: no image tried that may only be read: root may write all, and setpriv is not here"
+    fi
+fi
+if [ "$as" != none ]; then
+    chmod 755 "$folder"
+    mkdir open
+    chmod 777 open
+    cp "$program" open/program
+    cp image script open
+    chmod 444 open/image
+    for words in "show" "run" "mkfs --journal-blocks 512"; do
+        status=0
+        # shellcheck disable=SC2086
+        (cd open && $as ./program image trace $words <script >../out 2>/dev/null) || status=$?
+        case $words in
+        show) check "a show of an image that may only be read" 0 "done" ;;
+        *) check "$words on an image that may only be read" 12 "cannot open image" ;;
+        esac
+    done
+    cmp -s image open/image || {
+        echo "checks/program.sh: an image that may only be read was changed" >&2
+        failed=1
+    }
+fi
+
+# What blocks stand on is a file or a block device. A pipe with nobody at its other end is not waited for.
+mkfifo pipe
+for name in pipe /dev/null /dev/zero; do
+    for words in "show" "run" "mkfs --bsize 512"; do
+        status=0
+        # shellcheck disable=SC2086
+        timeout 20 "$program" "$name" trace $words <script >out 2>/dev/null || status=$?
+        check "$words on $name" 12 "cannot open $name"
+    done
+done
+truncate -s 4M whole
+if loop=$(losetup --find --show whole 2>/dev/null); then
+    run "$loop" trace mkfs --journal-blocks 512
+    check "mkfs on a block device" 0 "done"
+    run "$loop" trace show
+    check "a show of a block device" 0 "done"
+    run "$loop" "$loop" show
+    check "a trace that is the image's block device" 12 "cannot open $loop"
+    losetup --detach "$loop"
+    truncate -s 4M file
+    run file trace mkfs --journal-blocks 512
+    cmp -s whole file || {
+        echo "checks/program.sh: a block device got another image than a file of its length" >&2
+        failed=1
+    }
+else
+    echo "checks/program.sh: no block device tried, none can be made here"
+fi
+
+# What the program says itself, onto an output that is full or closed: it ends with 7, and says nothing elsewhere.
+quiet() {
+    if [ "$status" != 7 ] || [ -s faults ]; then
+        echo "checks/program.sh: $1: status $status, faults '$(cat faults)'; wanted 7 and none" >&2
+        failed=1
+    fi
+}
+for words in "--help" "--version" "absent trace run" "image none/trace run" "image"; do
+    status=0
+    # shellcheck disable=SC2086
+    "$program" $words >/dev/full 2>faults <script || status=$?
+    quiet "$words onto an output that is full"
+    status=0
+    # shellcheck disable=SC2086
+    "$program" $words >&- 2>faults <script || status=$?
+    quiet "$words onto a closed output"
+done
+
+# Input that does not wait, with nothing there yet, is a fault.
+python3 - "$program" <<'PYTHON' >out && status=0 || status=$?
+import os, subprocess, sys
+reading, _writing = os.pipe()
+os.set_blocking(reading, False)
+sys.exit(subprocess.run([sys.argv[1], "image", "trace", "run"], stdin=reading).returncode)
+PYTHON
+check "input that does not wait" 6 "script fault: count 0 to 1"
+
+# The bits of a mode above the low 16 say nothing of the type of a file, here of all that the root leads to.
+python3 - <<'PYTHON'
+import struct
+image = bytearray(open("image", "rb").read())
+for at in range(0, len(image), 4096):
+    if struct.unpack(">II", image[at : at + 8]) == (0x01161970, 4):
+        image[at + 40 : at + 42] = b"\xff\xff"
+open("marked", "wb").write(image)
+PYTHON
+run image trace show
+mv out plain
+run marked trace show
+check "a show of an image with bits above the modes" 0 "done"
+cmp -s out plain || {
+    echo "checks/program.sh: bits above the modes change what is shown" >&2
+    failed=1
+}
+run marked trace run <script
+check "a run on it" 0 "done"
+
 # Images of the distribution's mkfs.gfs2, where it is there: of another format than is handled, and with system files that are
 # left out here. They are refused, and stay as they were.
 if mkfs=$(PATH=$PATH:/sbin:/usr/sbin command -v mkfs.gfs2); then
