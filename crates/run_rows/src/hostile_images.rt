@@ -25,7 +25,8 @@ static ROOTS: [Row; 24] = [
     (&[(ROOT, 32, Block(B))], &[], NoMount(ROOT)),
     (&[(ROOT, 32, Bytes(b"\x80"))], &[], NoMount(ROOT)),
     (&[(ROOT, 32, ZEROS)], &[], NoMount(ROOT)),
-    // Its mode: that of a file, a link and a pipe, none, and a bit past the file type's; and other rights.
+    // Its mode: that of a file, a link and a pipe, none; and other rights, and the bits above the sixteen of a mode, which
+    // are not looked at.
     (
         &[(ROOT, 40, Bytes(b"\x00\x00\x81\xa4"))],
         &[],
@@ -46,8 +47,8 @@ static ROOTS: [Row; 24] = [
         &[],
         NoMount(ROOT),
     ),
-    (&[(ROOT, 40, Bytes(b"\x00\x01"))], &[], NoMount(ROOT)),
-    (&[(ROOT, 40, Bytes(b"\x00\x00\x4f\xff"))], &ALL, Done),
+    (&[(ROOT, 40, Bytes(b"\x00\x01"))], &ALL, Done),
+    (&[(ROOT, 40, Bytes(b"\xff\xff\x4f\xff"))], &ALL, Done),
     // Its size.
     (&[(ROOT, 63, Bytes(b"\x17"))], &[], NoMount(ROOT)),
     (&[(ROOT, 63, Bytes(b"\x19"))], &[], NoMount(ROOT)),
@@ -272,12 +273,12 @@ static FILE_BLOCKS: [Row; 33] = [
     (&[(B, 32, Block(A))], &UP_TO_B, NoCall(B)),
     (&[(B, 32, Bytes(b"\x80"))], &UP_TO_B, NoCall(B)),
     (&[(B, 32, ZEROS)], &UP_TO_B, NoCall(B)),
-    // Its mode.
+    // Its mode; the bits above its sixteen are not looked at.
     (&[(B, 40, Bytes(b"\x00\x00\x41\xed"))], &UP_TO_B, NoCall(B)),
     (&[(B, 40, Bytes(b"\x00\x00\xa1\xa4"))], &UP_TO_B, NoCall(B)),
     (&[(B, 40, Bytes(b"\x00\x00\x00\x00"))], &UP_TO_B, NoCall(B)),
-    (&[(B, 40, Bytes(b"\x00\x01"))], &UP_TO_B, NoCall(B)),
-    (&[(B, 40, Bytes(b"\x00\x00\x8f\xff"))], &ALL, Done),
+    (&[(B, 40, Bytes(b"\x00\x01"))], &ALL, Done),
+    (&[(B, 40, Bytes(b"\xff\xff\x8f\xff"))], &ALL, Done),
     // Its height.
     (&[(B, 138, Bytes(b"\x01"))], &UP_TO_B, NoCall(B)),
     (&[(B, 139, Bytes(b"\x01"))], &UP_TO_B, NoCall(B)),
