@@ -10,11 +10,12 @@ use Rattle.fencing.specs.NodeSets.{least_of}
 use Rattle.dlm_master.specs.declared.claims.Claim.{Claim}
 use Rattle.dlm_master.specs.declared.claims.Cause.{Cause}
 use Rattle.dlm_master.specs.declared.claims.Cause.TheVariants.{Held, Behind, Rebuild, Slot}
-use Rattle.dlm_master.specs.Claims.{is_of, is_null, mode_of_node, with_claim, without_claim, now_holding, stands_in_way, in_way}
+use Rattle.dlm_master.specs.Claims.{is_of, is_null, mode_of_node, with_claim, without_claim, now_holding, stands_in_way, in_way, Together}
 use Rattle.dlm_master.specs.LockState.{LockState, TurnState}
 use Rattle.dlm_master.specs.Locks.{claim, or_else, cause_of, request_cause, convert_cause, requested, converted, lowered, is_free, turn, conversion_turns, all_turns, after_grants}
 use Rattle.dlm_master.specs.Tables.{holds_above}
-use Rattle.dlm_master.specs.Runs.{Together, Call, Requests, Converts, Lowers, Grants, Blocks, Run, started, after, MayCall, after_all, MayCallAll, GrantsGoTogether}
+use Rattle.dlm_master.specs.Runs.{Call, Requests, Converts, Lowers, Grants, Blocks, Run, after, MayCall, after_all, MayCallAll}
+use Rattle.dlm_master.specs.Laws.{GrantsKeepTogether}
 
 no-way : {A : Type 0} → false ≡ true → A
 no-way e = absurd (let f : false ≡ true = e in cc)
@@ -59,6 +60,13 @@ together-without (x ∷ xs) node all = by (is_of node x) (together-without xs no
     by : (b : Bool) → Together (without_claim xs node) → Together (cond b xs (x ∷ without_claim xs node))
     by true rest = all.1
     by false rest = (all-without (λ d. x.node ≢ d.node → go_together x.mode d.mode ≡ true) xs node all.0, rest)
+
+together-now : (cs : List Claim) (node : ℕ) (mode : Mode) → Together cs → Goes node mode cs → Together (now_holding cs node mode)
+together-now cs node mode all goes = by (is_null mode)
+  where
+    by : (b : Bool) → Together (cond b (without_claim cs node) (with_claim cs (claim node mode)))
+    by true = together-without cs node all
+    by false = together-with cs (claim node mode) all goes
 
 -- where nothing is in the way, the mode goes with what others hold
 way-goes : (cs : List Claim) (node : ℕ) (mode : Mode) → in_way cs node mode ≡ None → Goes node mode cs
@@ -147,8 +155,8 @@ turn-keeps : (before : List Claim) (t : TurnState) (w : Claim) → Together t.he
 turn-keeps before t w all = by (is_free before t w) refl
   where
     by : (b : Bool) → is_free before t w ≡ b
-        → Together (cond b (let s : TurnState = record { held = with_claim t.held w; staying = t.staying; granted = t.granted ++ w ∷ [] } in s) (let s : TurnState = record { held = t.held; staying = t.staying ++ w ∷ []; granted = t.granted } in s)).held
-    by true h = together-with t.held w all (way-goes t.held w.node w.mode (none-is _ (first-true _ _ (first-true _ _ h))))
+        → Together (cond b (let s : TurnState = record { held = now_holding t.held w.node w.mode; staying = t.staying; granted = t.granted ++ w ∷ [] } in s) (let s : TurnState = record { held = t.held; staying = t.staying ++ w ∷ []; granted = t.granted } in s)).held
+    by true h = together-now t.held w.node w.mode all (way-goes t.held w.node w.mode (none-is _ (first-true _ _ (first-true _ _ h))))
     by false h = all
 
 turns-keep : (before : List Claim) (t : TurnState) (ws : List Claim) → Together t.held → Together (fold (turn before) t ws).held
@@ -163,11 +171,11 @@ grants-keep l all =
 -- ---- calls
 
 pub requested-keeps : (cause : Option Cause) (l : LockState) (node : ℕ) (mode : Mode) → (cause ≡ None → in_way l.held node mode ≡ None) → Together l.held → Together (requested cause l node mode).held
-requested-keeps None l node mode free all = together-with l.held (claim node mode) all (way-goes l.held node mode (free refl))
+requested-keeps None l node mode free all = together-now l.held node mode all (way-goes l.held node mode (free refl))
 requested-keeps (Some c) l node mode free all = all
 
 pub converted-keeps : (cause : Option Cause) (l : LockState) (node : ℕ) (mode : Mode) → (cause ≡ None → in_way l.held node mode ≡ None) → Together l.held → Together (converted cause l node mode).held
-converted-keeps None l node mode free all = together-with l.held (claim node mode) all (way-goes l.held node mode (free refl))
+converted-keeps None l node mode free all = together-now l.held node mode all (way-goes l.held node mode (free refl))
 converted-keeps (Some c) l node mode free all = all
 
 lower-goes : (cs : List Claim) (node : ℕ) (had mode : Mode) → is_at_least had mode ≡ true → Goes node had cs → Goes node mode cs
@@ -178,20 +186,18 @@ lower-goes cs node had mode covers all =
 pub lowered-keeps : (l : LockState) (node : ℕ) (mode : Mode) (value : Option (List ℕ)) → holds_above (mode_of_node l.held node) mode ≡ true → Together l.held → Together (lowered l node mode value).held
 lowered-keeps l node mode value above all = by (mode_of_node l.held node) refl
   where
-    now : (had : Mode) → mode_of_node l.held node ≡ Some had → is_at_least had mode ≡ true → (b : Bool) → Together (cond b (without_claim l.held node) (with_claim l.held (claim node mode)))
-    now had e covers true = together-without l.held node all
-    now had e covers false = together-with l.held (claim node mode) all (lower-goes l.held node had mode covers (held-goes l.held node had all e))
-
     by : (o : Option Mode) → mode_of_node l.held node ≡ o → Together (now_holding l.held node mode)
     by None e = no-way (ap (λ (o : Option Mode). holds_above o mode) (sym e) ∙ above)
-    by (Some had) e = now had e (first-true _ _ (ap (λ (o : Option Mode). holds_above o mode) (sym e) ∙ above)) (is_null mode)
+    by (Some had) e =
+        let covers = first-true _ _ (ap (λ (o : Option Mode). holds_above o mode) (sym e) ∙ above) in
+        together-now l.held node mode all (lower-goes l.held node had mode covers (held-goes l.held node had all e))
 
 call-keeps : (r : Run) (call : Call) → MayCall r call → Together r.lock.held → Together (after r call).lock.held
 call-keeps r (Requests node mode) may all =
     requested-keeps (request_cause r.rebuild r.waiting r.lock node mode) r.lock node mode (cause-none r.rebuild r.waiting r.lock.held r.lock.conversions r.lock.requests node mode) all
 call-keeps r (Converts node mode) may all =
     converted-keeps (convert_cause r.rebuild r.waiting r.lock node mode) r.lock node mode (cause-none r.rebuild r.waiting r.lock.held r.lock.conversions [] node mode) all
-call-keeps r (Lowers node mode value) may all = lowered-keeps r.lock node mode value may all
+call-keeps r (Lowers node mode value) may all = lowered-keeps r.lock node mode value may.0 all
 call-keeps r Grants may all = by (r.rebuild || not (r.waiting == 0))
   where
     by : (b : Bool) → Together (cond b r (let s : Run = record r { lock = after_grants r.lock } in s)).lock.held
@@ -203,5 +209,5 @@ calls-keep : (calls : List Call) (r : Run) → MayCallAll r calls → Together r
 calls-keep [] r may all = all
 calls-keep (call ∷ calls) r may all = calls-keep calls (after r call) may.1 (call-keeps r call may.0 all)
 
-pub grants-go-together : GrantsGoTogether
-grants-go-together calls may = calls-keep calls started may tt
+pub grants-keep-together : GrantsKeepTogether
+grants-keep-together r calls may all = calls-keep calls r may all

@@ -1,5 +1,6 @@
 -- The nodes that hold a lock, or wait for it, each with a mode.
-use Rattle.std.specs.Prelude.{ℕ, ◌==◌, ◌&&◌, Bool, true, false, not, List, [], ◌∷◌, Option, option_map, find, if◌then◌else◌}
+use Rattle.std.specs.Prelude.{ℕ, ◌≡◌, ◌≢◌, ◌==◌, ◌&&◌, ⊤, Bool, true, false, not, List, [], ◌∷◌, Option, option_map, unwrap_or, find, if◌then◌else◌}
+use Rattle.std.specs.List.{AllByRecursion}
 use Rattle.dlm_modes.specs.declared.Mode.{Mode}
 use Rattle.dlm_modes.specs.declared.Mode.TheVariants.{Nl}
 use Rattle.dlm_modes.specs.Modes.{go_together}
@@ -11,6 +12,10 @@ is_of node c = c.node == node
 -- the mode that the node has there, if it has one
 abbrev pub mode_of_node : List Claim → ℕ → Option Mode
 mode_of_node cs node = option_map (λ c. c.mode) (find (is_of node) cs)
+
+-- and Nl where it has none
+abbrev pub mode_at : List Claim → ℕ → Mode
+mode_at cs node = unwrap_or (mode_of_node cs node) Nl
 
 -- with this claim in the place of the one that its node had, or last
 abbrev pub with_claim : List Claim → Claim → List Claim
@@ -37,3 +42,17 @@ stands_in_way node mode c = not (is_of node c) && not (go_together c.mode mode)
 -- the first node that stands in the way of this node in this mode
 abbrev pub in_way : List Claim → ℕ → Mode → Option ℕ
 in_way cs node mode = option_map (λ c. c.node) (find (stands_in_way node mode) cs)
+
+-- no claim is of this node
+abbrev pub Absent : ℕ → List Claim → Type 0
+Absent node cs = AllByRecursion (λ d. is_of node d ≡ false) cs
+
+-- no two claims are of one node
+abbrev pub OneEach : List Claim → Type 0
+OneEach [] = ⊤
+OneEach (c ∷ cs) = Absent c.node cs × OneEach cs
+
+-- whichever two nodes hold the lock, their modes go together
+abbrev pub Together : List Claim → Type 0
+Together [] = ⊤
+Together (c ∷ cs) = AllByRecursion (λ d. c.node ≢ d.node → go_together c.mode d.mode ≡ true) cs × Together cs

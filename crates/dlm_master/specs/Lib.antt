@@ -3,3 +3,4 @@ pub mod LockState
 pub mod Locks
 pub mod Tables
 pub mod Runs
+pub mod Laws

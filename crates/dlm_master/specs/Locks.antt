@@ -11,7 +11,7 @@ use Rattle.dlm_master.specs.declared.claims.Cause.{Cause}
 use Rattle.dlm_master.specs.declared.claims.Cause.TheVariants.{Held, Behind, Rebuild, Slot}
 use Rattle.dlm_master.specs.declared.claims.Answer.{Answer}
 use Rattle.dlm_master.specs.declared.claims.Answer.TheVariants.{Granted, Waiting}
-use Rattle.dlm_master.specs.Claims.{is_of, mode_of_node, with_claim, now_holding, in_way}
+use Rattle.dlm_master.specs.Claims.{is_of, mode_of_node, now_holding, in_way}
 use Rattle.dlm_master.specs.LockState.{LockState, TurnState}
 
 -- nobody holds the lock, and nobody has written its value
@@ -55,11 +55,11 @@ answer_by None l = Granted l.value
 answer_by (Some cause) l = Waiting cause
 
 abbrev pub requested : Option Cause → LockState → ℕ → Mode → LockState
-requested None l node mode = record l { held = with_claim l.held (claim node mode) }
+requested None l node mode = record l { held = now_holding l.held node mode }
 requested (Some cause) l node mode = record l { requests = l.requests ++ claim node mode ∷ [] }
 
 abbrev pub converted : Option Cause → LockState → ℕ → Mode → LockState
-converted None l node mode = record l { held = with_claim l.held (claim node mode) }
+converted None l node mode = record l { held = now_holding l.held node mode }
 converted (Some cause) l node mode = record l { conversions = l.conversions ++ claim node mode ∷ [] }
 
 -- ---- down
@@ -96,7 +96,7 @@ is_free before t w =
 abbrev pub turn : List Claim → TurnState → Claim → TurnState
 turn before t w =
     if is_free before t w
-    then record { held = with_claim t.held w; staying = t.staying; granted = t.granted ++ w ∷ [] }
+    then record { held = now_holding t.held w.node w.mode; staying = t.staying; granted = t.granted ++ w ∷ [] }
     else record { held = t.held; staying = t.staying ++ w ∷ []; granted = t.granted }
 
 -- the conversions take their turns, and then the requests

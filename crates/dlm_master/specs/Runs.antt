@@ -1,18 +1,10 @@
 -- Lists of calls on one lock of a master.
-use Rattle.std.specs.Prelude.{ℕ, ◌≡◌, ◌≢◌, ◌==◌, ◌||◌, ⊤, Bool, true, false, not, List, [], ◌∷◌, Option, None, is_some, if◌then◌else◌}
-use Rattle.std.specs.List.{AllByRecursion}
+use Rattle.std.specs.Prelude.{ℕ, ◌≡◌, ◌==◌, ◌||◌, ⊤, Bool, true, false, not, List, [], ◌∷◌, Option, None, if◌then◌else◌}
 use Rattle.dlm_modes.specs.declared.Mode.{Mode}
-use Rattle.dlm_modes.specs.Modes.{go_together}
-use Rattle.dlm_master.specs.declared.claims.Claim.{Claim}
 use Rattle.dlm_master.specs.Claims.{mode_of_node}
 use Rattle.dlm_master.specs.LockState.{LockState}
 use Rattle.dlm_master.specs.Locks.{free_lock, is_waiting, request_cause, requested, convert_cause, converted, lowered, after_grants}
-use Rattle.dlm_master.specs.Tables.{holds_above}
-
--- whichever two nodes hold the lock, their modes go together
-abbrev pub Together : List Claim → Type 0
-Together [] = ⊤
-Together (c ∷ cs) = AllByRecursion (λ d. c.node ≢ d.node → go_together c.mode d.mode ≡ true) cs × Together cs
+use Rattle.dlm_master.specs.Tables.{holds_above, holds_covered}
 
 -- a call on the lock: a node asks for it, or for another mode, or lowers it; the waiters take their turns; or it is said
 -- whether a rebuild isn't done and which slots wait
@@ -44,8 +36,8 @@ after r (Blocks rebuild waiting) = record { rebuild = rebuild; waiting = waiting
 -- what the calls require
 abbrev pub MayCall : Run → Call → Type 0
 MayCall r (Requests node mode) = (mode_of_node r.lock.held node ≡ None) × (is_waiting r.lock node ≡ false)
-MayCall r (Converts node mode) = (is_some (mode_of_node r.lock.held node) ≡ true) × (is_waiting r.lock node ≡ false)
-MayCall r (Lowers node mode value) = holds_above (mode_of_node r.lock.held node) mode ≡ true
+MayCall r (Converts node mode) = (holds_covered (mode_of_node r.lock.held node) mode ≡ true) × (is_waiting r.lock node ≡ false)
+MayCall r (Lowers node mode value) = (holds_above (mode_of_node r.lock.held node) mode ≡ true) × (is_waiting r.lock node ≡ false)
 MayCall r Grants = ⊤
 MayCall r (Blocks rebuild waiting) = ⊤
 
@@ -56,7 +48,3 @@ after_all r (call ∷ calls) = after_all (after r call) calls
 abbrev pub MayCallAll : Run → List Call → Type 0
 MayCallAll r [] = ⊤
 MayCallAll r (call ∷ calls) = MayCall r call × MayCallAll (after r call) calls
-
--- after every list of calls the modes in which the lock is held go together
-abbrev pub GrantsGoTogether : Type 0
-GrantsGoTogether = (calls : List Call) → MayCallAll started calls → Together (after_all started calls).lock.held

@@ -3,7 +3,7 @@ use Rattle.std.specs.Prelude.{ℕ, ◌==◌, ◌||◌, Bool, false, not, List, [
 use Rattle.glock_names.specs.declared.LockName.{LockName}
 use Rattle.glock_names.specs.LockMaps.{at_lock, with_lock}
 use Rattle.dlm_modes.specs.declared.Mode.{Mode}
-use Rattle.dlm_modes.specs.Modes.{is_above}
+use Rattle.dlm_modes.specs.Modes.{is_above, is_at_least}
 use Rattle.dlm_modes.specs.declared.ValueBlock.{ValueBlock}
 use Rattle.dlm_master.specs.declared.claims.Cause.{Cause}
 use Rattle.dlm_master.specs.Claims.{mode_of_node}
@@ -36,6 +36,11 @@ waits_for m node lock = is_waiting (lock_of m lock) node
 abbrev pub holds_above : Option Mode → Mode → Bool
 holds_above None mode = false
 holds_above (Some held) mode = is_above held mode
+
+-- it holds a mode, and this one covers it
+abbrev pub holds_covered : Option Mode → Mode → Bool
+holds_covered None mode = false
+holds_covered (Some held) mode = is_at_least mode held
 
 -- no grant is to be made
 abbrev pub is_blocked : MasterState → Bool

@@ -93,8 +93,8 @@ pub(crate) fn first_in_way(claims: &[Claim], node: u8, mode: Mode) -> Option<u8>
     }
 }
 
-/// Puts the claim in the place of its node's, or last. After want of memory nothing has changed.
-pub(crate) fn put_claim(claims: &mut Vec<Claim>, claim: Claim) -> Result<(), NoMemory>
+// Puts the claim in the place of its node's, or last. After want of memory nothing has changed.
+fn put_claim(claims: &mut Vec<Claim>, claim: Claim) -> Result<(), NoMemory>
     ensures ok { OnOk result (claims.new.items ≡ with_claim claims.old.items claim) }
     ensures err { OnErr result (claims.new.items ≡ claims.old.items) }
 {
@@ -105,17 +105,37 @@ pub(crate) fn put_claim(claims: &mut Vec<Claim>, claim: Claim) -> Result<(), NoM
     Ok(())
 }
 
+// Takes the node's claim away, if it has one.
+fn drop_claim(claims: &mut Vec<Claim>, node: u8)
+    ensures { claims.new.items ≡ without_claim claims.old.items node }
+{
+    if let Some(place) = place_of(claims, node) {
+        claims.remove(place);
+    }
+}
+
+/// The node holds the lock as it claims, in the place of what it held, or last: in `Nl` it holds none. After want of memory
+/// nothing has changed.
+pub(crate) fn hold(claims: &mut Vec<Claim>, claim: Claim) -> Result<(), NoMemory>
+    ensures ok { OnOk result (claims.new.items ≡ now_holding claims.old.items claim.node claim.mode) }
+    ensures err { OnErr result (claims.new.items ≡ claims.old.items) }
+{
+    if holds_nothing(claim.mode) {
+        drop_claim(claims, claim.node);
+        return Ok(());
+    }
+    put_claim(claims, claim)
+}
+
 /// The node, which has a claim, has it in this mode from now on. It takes no memory.
 pub(crate) fn lower_claim(claims: &mut Vec<Claim>, node: u8, mode: Mode)
     requires { is_some (mode_of_claim claims.old.items node) ≡ true }
     ensures { claims.new.items ≡ now_holding claims.old.items node mode }
 {
-    if let Some(place) = place_of(claims, node) {
-        if holds_nothing(mode) {
-            claims.remove(place);
-        } else {
-            claims[place] = Claim { node, mode };
-        }
+    if holds_nothing(mode) {
+        drop_claim(claims, node);
+    } else if let Some(place) = place_of(claims, node) {
+        claims[place] = Claim { node, mode };
     }
 }
 

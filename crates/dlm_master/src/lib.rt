@@ -1,7 +1,7 @@
 //! A master's table of locks: who holds each, who waits for it, and what the lock carries.
 #![tactic(auto)]
 
-ghost use Rattle.dlm_master.specs.Runs.{GrantsGoTogether};
+ghost use Rattle.dlm_master.specs.Laws.{CauseIsSo, SoundLocksStaySound, NoWaiterIsLost, NoneWhileBlocked, GrantsKeepTogether, CallbacksAreDue};
 
 mod beside;
 mod claims;
@@ -13,7 +13,35 @@ pub use claims::{Answer, Cause, Claim};
 pub use lock::Lock;
 pub use master::Master;
 
-/// A law: after every list of calls that may be made on a lock, the modes in which nodes hold it go together.
-pub fn grants_go_together()
-    ensures { GrantsGoTogether }
+/// A law: a cause that is named is so, and where none is named nothing is in the way.
+pub fn a_wait_names_a_cause_that_is_so()
+    ensures { CauseIsSo }
+{}
+
+/// A law: no list of calls lets a node hold a lock twice, or in `Nl`, or wait twice; who waits for another mode holds one that
+/// this covers, and who waits for the lock holds none.
+pub fn sound_locks_stay_sound()
+    ensures { SoundLocksStaySound }
+{}
+
+/// A law: when those who wait take their turns, each is granted or stays, in the order of the arrival; who is granted holds the
+/// lock so, nobody else's hold has changed, and who stays has a cause.
+pub fn no_waiter_is_lost()
+    ensures { NoWaiterIsLost }
+{}
+
+/// A law: while a rebuild isn't done or a slot waits no call lets a node hold more than it held.
+pub fn none_is_granted_while_blocked()
+    ensures { NoneWhileBlocked }
+{}
+
+/// A law: where the modes in which nodes hold a lock go together, they do after every list of calls that may be made.
+pub fn grants_keep_together()
+    ensures { GrantsKeepTogether }
+{}
+
+/// A law: a holder is called back exactly where its mode doesn't go with another node's that waits, and it is told the strongest
+/// mode of those that it has which goes with all of them.
+pub fn callbacks_are_due()
+    ensures { CallbacksAreDue }
 {}

@@ -3,7 +3,7 @@ ghost use Rattle.dlm_master.specs.Claims.{mode_of_node as mode_of_claim};
 ghost use Rattle.dlm_master.specs.Locks.{free_lock, is_waiting as waits, request_cause, convert_cause, answer_by, requested, converted, lowered, reported, after_grants, grants_of, callback_to as callback_for, callbacks_of};
 
 use crate::beside::{kept, value_after};
-use crate::claims::{Answer, Blocked, Claim, cause_for, lower_claim, mode_of_node, put_claim};
+use crate::claims::{Answer, Blocked, Claim, cause_for, hold, lower_claim, mode_of_node};
 use crate::turns::Turns;
 use dlm_modes::{Mode, ValueBlock, covers};
 use no_memory::NoMemory;
@@ -70,7 +70,7 @@ impl Lock {
             claim,
         ) {
             None => {
-                put_claim(&mut self.held, claim)?;
+                hold(&mut self.held, claim)?;
                 Ok(Answer::Granted(self.value))
             }
             Some(cause) => {
@@ -87,7 +87,7 @@ impl Lock {
     {
         match cause_for(blocked, &self.held, &self.conversions, &[], claim) {
             None => {
-                put_claim(&mut self.held, claim)?;
+                hold(&mut self.held, claim)?;
                 Ok(Answer::Granted(self.value))
             }
             Some(cause) => {
@@ -109,9 +109,7 @@ impl Lock {
         ensures ok { OnOk result (self.new ≡ reported self.old node mode) }
         ensures err { OnErr result (self.new ≡ self.old) }
     {
-        put_claim(&mut self.held, Claim { node, mode })?;
-        lower_claim(&mut self.held, node, mode);
-        Ok(())
+        hold(&mut self.held, Claim { node, mode })
     }
 
     // The lock after all who wait have taken their turns, and who is granted.

@@ -1,7 +1,7 @@
-ghost use Rattle.std.specs.Prelude.{◌≡◌, [], true, false, None, is_some, IfOk, OnOk, OnErr};
+ghost use Rattle.std.specs.Prelude.{◌≡◌, [], true, false, None, IfOk, OnOk, OnErr};
 ghost use Rattle.glock_names.specs.LockMaps.{lock_in};
 ghost use Rattle.dlm_master.specs.Locks.{answer_by, grants_of, callbacks_of};
-ghost use Rattle.dlm_master.specs.Tables.{lock_of, held_by, waits_for, holds_above, request_waits, convert_waits, after_request, after_convert, after_down, after_report, after_turns, next_of, after_next};
+ghost use Rattle.dlm_master.specs.Tables.{lock_of, held_by, waits_for, holds_above, holds_covered, request_waits, convert_waits, after_request, after_convert, after_down, after_report, after_turns, next_of, after_next};
 
 use crate::claims::{Answer, Blocked, Claim};
 use crate::lock::Lock;
@@ -83,9 +83,10 @@ impl Master {
         }
     }
 
-    /// A node, which holds the lock and waits for nothing on it, asks for another mode. After want of memory nothing has changed.
+    /// A node, which holds the lock in a mode that this one covers and waits for nothing on it, asks for this mode. After want of
+    /// memory nothing has changed.
     pub fn convert(&mut self, node: u8, lock: LockName, mode: Mode) -> Result<Answer, NoMemory>
-        requires holds { is_some (held_by self.old node lock) ≡ true }
+        requires covers { holds_covered (held_by self.old node lock) mode ≡ true }
         requires idle { waits_for self.old node lock ≡ false }
         ensures answer { IfOk result (λ a. a ≡ answer_by (convert_waits self.old node lock mode) (lock_of self.old lock)) }
         ensures ok { OnOk result (self.new ≡ after_convert self.old node lock mode) }
@@ -103,10 +104,11 @@ impl Master {
         }
     }
 
-    /// A node, which holds the lock in a mode above this one, keeps this mode only. A value that it gives is kept, and is valid
-    /// from then on, where it held the lock in `Pw` or `Ex`. It takes no memory.
+    /// A node, which holds the lock in a mode above this one and waits for nothing on it, keeps this mode only. A value that it
+    /// gives is kept, and is valid from then on, where it held the lock in `Pw` or `Ex`. It takes no memory.
     pub fn down(&mut self, node: u8, lock: LockName, mode: Mode, value: Option<[u8; 32]>)
-        requires { holds_above (held_by self.old node lock) mode ≡ true }
+        requires above { holds_above (held_by self.old node lock) mode ≡ true }
+        requires idle { waits_for self.old node lock ≡ false }
         ensures { self.new ≡ after_down self.old node lock mode value }
     {
         let Some(found) = self.locks.get_mut(&lock) else {

@@ -1,7 +1,7 @@
 ghost use Rattle.std.specs.Prelude.{◌≡◌, OnOk, fold};
 ghost use Rattle.dlm_master.specs.Locks.{is_free as waits_for_none, turn as turn_of};
 
-use crate::claims::{Claim, first_in_way, put_claim};
+use crate::claims::{Claim, first_in_way, hold};
 use no_memory::NoMemory;
 use std::marker::Model;
 
@@ -59,7 +59,7 @@ impl Turns {
         ensures { OnOk result (self.new ≡ turn_of before.now self.old waiter) }
     {
         if self.is_free(before, waiter) {
-            put_claim(&mut self.held, waiter)?;
+            hold(&mut self.held, waiter)?;
             self.granted.push(waiter)?;
         } else {
             self.staying.push(waiter)?;

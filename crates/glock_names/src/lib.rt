@@ -1,9 +1,9 @@
 //! Glocks: their names, their states, and who waits for them. What a node sees under them while it works on a call.
 #![tactic(auto)]
 
-ghost use Rattle.std.specs.Prelude.{◌≡◌, ◌∷◌};
-ghost use Rattle.std.specs.Int.{w64, to_be_bytes};
-ghost use Rattle.glock_names.specs.States.{mode_for};
+ghost use Rattle.std.specs.Prelude.{◌≡◌};
+ghost use Rattle.glock_names.specs.Names.{name_bytes};
+ghost use Rattle.glock_names.specs.States.{mode_for, state_in, IsStrongestState};
 
 mod steps;
 mod views;
@@ -44,7 +44,7 @@ pub struct Waits {
 impl LockName {
     /// The name as nine bytes: the kind, and then the number, the highest byte first.
     pub fn bytes(&self) -> [u8; 9]
-        ensures { result ≡ self.now.kind ∷ to_be_bytes w64 self.now.number }
+        ensures { result ≡ name_bytes self.now }
     {
         let [a, b, c, d, e, f, g, h] = self.number.to_be_bytes();
         [self.kind, a, b, c, d, e, f, g, h]
@@ -62,3 +62,22 @@ pub fn mode_of(state: State) -> Mode
         State::Ex => Mode::Ex,
     }
 }
+
+/// The strongest state that a node may keep of a glock where it may keep this mode, as a callback tells it. It is shared where
+/// the mode is `Pw`, which covers shared and deferred.
+pub fn state_under(mode: Mode) -> State
+    ensures { result ≡ state_in mode }
+{
+    match mode {
+        Mode::Nl | Mode::Cr => State::Un,
+        Mode::Cw => State::Df,
+        Mode::Pr | Mode::Pw => State::Sh,
+        Mode::Ex => State::Ex,
+    }
+}
+
+/// A law: the state under a mode is covered by it, no state above it is, it goes with each whom the mode goes with, and the
+/// mode of a state has that state under it.
+pub fn the_state_under_a_mode_is_the_strongest()
+    ensures { IsStrongestState }
+{}

@@ -1,14 +1,8 @@
 use Rattle.std.proofs.Common.{◌≡◌, Bool, List, Option, Some, None, position, cond, sym, ap, ◌∙◌}
 use Rattle.dlm_master.specs.declared.claims.Claim.{Claim}
 use Rattle.dlm_master.specs.Claims.{is_of, with_claim, without_claim}
-use Rattle.dlm_master.proofs.ClaimLaws.{set-with_claim, remove-without_claim, no-place}
+use Rattle.dlm_master.proofs.ClaimLaws.{set-with_claim, no-place}
 use Rattle.dlm_master.proofs.claims.lower_claim.Goals as goal
-
-pub returns-then-holds_nothing : goal.returns-then-holds_nothing
-returns-then-holds_nothing c =
-    let at = ap (λ (l : List Claim). position (is_of c.args.node) l) c.deref.ensures.value in
-    rw (sym c.holds_nothing.ensures ∙ c.if-holds_nothing.true)
-    (c.remove.ensures.items ∙ remove-without_claim c.args.claims.now.items c.in-Some.place c.args.node (record { node = c.args.node; mode = c.args.mode }) (sym at ∙ (sym c.place_of.ensures ∙ c.in-Some.is)))
 
 pub returns-else-holds_nothing : goal.returns-else-holds_nothing
 returns-else-holds_nothing c =
