@@ -1,13 +1,14 @@
 -- A node's claim in a list: where it stands, and what a write there makes.
 use Rattle.std.proofs.Common.{ℕ, zero, suc, ◌≡◌, ◌≢◌, ◌+◌, ◌<◌, ◌≤◌, Bool, true, false, cond, List, [], ◌∷◌, ◌++◌, length, get_or, set, take, drop, Option, Some, None, position, is_some, refl, sym, ap, ◌∙◌, subst, inl, inr, ◌⊎◌, eq-eqb, arith}
-use Rattle.std.specs.Prelude.{◌==◌, option_map, find, remove}
+use Rattle.std.specs.Prelude.{◌==◌, option_map, unwrap_or, find, remove}
 use Rattle.std.specs.List.{position_or_len, AllByRecursion}
 use Rattle.std.proofs.lemmas.Bool.{ltb-false}
 use Rattle.std.proofs.lemmas.Bool.Decides.{eqb_tells}
 use Rattle.std.proofs.lemmas.List.Quantifiers.{position-Some}
 use Rattle.dlm_modes.specs.declared.Mode.{Mode}
+use Rattle.dlm_modes.specs.declared.Mode.TheVariants.{Nl, Cr, Cw, Pr, Pw, Ex}
 use Rattle.dlm_master.specs.declared.claims.Claim.{Claim}
-use Rattle.dlm_master.specs.Claims.{is_of, is_null, mode_of_node, with_claim, without_claim, now_holding, Absent, OneEach}
+use Rattle.dlm_master.specs.Claims.{is_of, is_null, mode_of_node, mode_at, with_claim, without_claim, now_holding, Absent, OneEach}
 use Rattle.dlm_master.specs.Locks.{claim}
 
 no-way : {A : Type 0} → false ≡ true → A
@@ -196,3 +197,118 @@ one-now cs node mode all = by (is_null mode)
     by : (b : Bool) → OneEach (cond b (without_claim cs node) (with_claim cs (claim node mode)))
     by true = one-without cs node all
     by false = one-with cs (claim node mode) all
+
+-- the mode of another node
+without-away : (cs : List Claim) (other node : ℕ) → (node ≡ other → ⊥) → mode_of_node (without_claim cs other) node ≡ mode_of_node cs node
+without-away [] other node ne = refl
+without-away (x ∷ xs) other node ne = by (eqb_tells x.node other) (without-away xs other node ne)
+  where
+    by : (((x.node == other) ≡ true) × (x.node ≡ other)) ⊎ (((x.node == other) ≡ false) × (x.node ≢ other)) → mode_of_node (without_claim xs other) node ≡ mode_of_node xs node
+        → mode_of_node (without_claim (x ∷ xs) other) node ≡ mode_of_node (x ∷ xs) node
+    by (inl same) rest =
+        let away : (x.node == node) ≡ false = elim (eqb_tells x.node node) [ inl q ↦ absurd (ne (sym q.1 ∙ same.1)) | inr q ↦ q.0 ] in
+        rw (same.0, away) refl
+    by (inr apart) rest = rw apart.0 (stays (x.node == node))
+      where
+        stays : (b : Bool) → option_map (λ (c : Claim). c.mode) (cond b (Some x) (find (is_of node) (without_claim xs other))) ≡ option_map (λ (c : Claim). c.mode) (cond b (Some x) (find (is_of node) xs))
+        stays true = refl
+        stays false = rest
+
+pub mode-away : (cs : List Claim) (other : ℕ) (mode : Mode) (node : ℕ) → (node ≡ other → ⊥) → mode_of_node (now_holding cs other mode) node ≡ mode_of_node cs node
+mode-away cs other mode node ne = by (is_null mode)
+  where
+    by : (b : Bool) → mode_of_node (cond b (without_claim cs other) (with_claim cs (claim other mode))) node ≡ mode_of_node cs node
+    by true = without-away cs other node ne
+    by false =
+        let off : (other == node) ≡ false = elim (eqb_tells other node) [ inl q ↦ absurd (ne (sym q.1)) | inr q ↦ q.0 ] in
+        mode-with cs (claim other mode) node ∙ ap (λ b. cond b (Some mode) (mode_of_node cs node)) off
+
+-- and of the node itself
+null-or : (mode : Mode) → unwrap_or (cond (is_null mode) None (Some mode)) Nl ≡ mode
+null-or Nl = refl
+null-or Cr = refl
+null-or Cw = refl
+null-or Pr = refl
+null-or Pw = refl
+null-or Ex = refl
+
+pub mode-here : (cs : List Claim) (node : ℕ) (mode : Mode) → OneEach cs → mode_at (now_holding cs node mode) node ≡ mode
+mode-here cs node mode one =
+    ap (λ (o : Option Mode). unwrap_or o Nl) (mode-now cs node mode node one ∙ ap (λ b. cond b (cond (is_null mode) None (Some mode)) (mode_of_node cs node)) (eq-eqb node node refl)) ∙ null-or mode
+
+-- ---- all claims
+
+pub all-left : (P : Claim → Type 0) (xs ys : List Claim) → AllByRecursion P (xs ++ ys) → AllByRecursion P xs
+all-left P [] ys all = tt
+all-left P (x ∷ xs) ys all = (all.0, all-left P xs ys all.1)
+
+pub all-right : (P : Claim → Type 0) (xs ys : List Claim) → AllByRecursion P (xs ++ ys) → AllByRecursion P ys
+all-right P [] ys all = all
+all-right P (x ∷ xs) ys all = all-right P xs ys all.1
+
+pub all-join : (P : Claim → Type 0) (xs ys : List Claim) → AllByRecursion P xs → AllByRecursion P ys → AllByRecursion P (xs ++ ys)
+all-join P [] ys all more = more
+all-join P (x ∷ xs) ys all more = (all.0, all-join P xs ys all.1 more)
+
+pub all-both : (P Q R : Claim → Type 0) → ((c : Claim) → P c → Q c → R c) → (cs : List Claim) → AllByRecursion P cs → AllByRecursion Q cs → AllByRecursion R cs
+all-both P Q R f [] all more = tt
+all-both P Q R f (x ∷ xs) all more = (f x all.0 more.0, all-both P Q R f xs all.1 more.1)
+
+pub all-with : (P : Claim → Type 0) (cs : List Claim) (c : Claim) → AllByRecursion P cs → P c → AllByRecursion P (with_claim cs c)
+all-with P [] c all here = (here, tt)
+all-with P (x ∷ xs) c all here = by (is_of c.node x) (all-with P xs c all.1 here)
+  where
+    by : (b : Bool) → AllByRecursion P (with_claim xs c) → AllByRecursion P (cond b (c ∷ xs) (x ∷ with_claim xs c))
+    by true rest = (here, all.1)
+    by false rest = (all.0, rest)
+
+pub all-without : (P : Claim → Type 0) (cs : List Claim) (node : ℕ) → AllByRecursion P cs → AllByRecursion P (without_claim cs node)
+all-without P [] node all = tt
+all-without P (x ∷ xs) node all = by (is_of node x) (all-without P xs node all.1)
+  where
+    by : (b : Bool) → AllByRecursion P (without_claim xs node) → AllByRecursion P (cond b xs (x ∷ without_claim xs node))
+    by true rest = all.1
+    by false rest = (all.0, rest)
+
+-- ---- nodes apart
+
+pub not-of : (a b : ℕ) → (a ≡ b → ⊥) → (a == b) ≡ false
+not-of a b ne = elim (eqb_tells a b) [ inl q ↦ absurd (ne q.1) | inr q ↦ q.0 ]
+
+pub of-not : (a b : ℕ) → (a == b) ≡ false → a ≡ b → ⊥
+of-not a b e same = elim (eqb_tells a b) [ inl q ↦ no-way (sym e ∙ q.0) | inr q ↦ q.1 same ]
+
+pub none-of : (cs : List Claim) (node : ℕ) → mode_of_node cs node ≡ None → Absent node cs
+none-of [] node e = tt
+none-of (x ∷ xs) node e = by (is_of node x) refl (none-of xs node)
+  where
+    by : (b : Bool) → is_of node x ≡ b → (mode_of_node xs node ≡ None → Absent node xs) → Absent node (x ∷ xs)
+    by true h rest = absurd (let f : Some x.mode ≡ None = rw h at e in cc)
+    by false h rest = (h, rest (rw h at e))
+
+pub one-left : (xs ys : List Claim) → OneEach (xs ++ ys) → OneEach xs
+one-left [] ys one = tt
+one-left (x ∷ xs) ys one = (all-left (λ d. is_of x.node d ≡ false) xs ys one.0, one-left xs ys one.1)
+
+pub one-right : (xs ys : List Claim) → OneEach (xs ++ ys) → OneEach ys
+one-right [] ys one = one
+one-right (x ∷ xs) ys one = one-right xs ys one.1
+
+pub one-put : (xs ys : List Claim) (c : Claim) → OneEach (xs ++ ys) → Absent c.node xs → Absent c.node ys → OneEach (xs ++ c ∷ ys)
+one-put [] ys c one before behind = (behind, one)
+one-put (x ∷ xs) ys c one before behind = (
+  all-join (λ d. is_of x.node d ≡ false) xs (c ∷ ys) (all-left (λ d. is_of x.node d ≡ false) xs ys one.0)
+      (turned x.node c.node before.0, all-right (λ d. is_of x.node d ≡ false) xs ys one.0),
+  one-put xs ys c one.1 before.1 behind,
+)
+
+-- those behind are of other nodes than those before
+pub one-apart : (xs ys : List Claim) → OneEach (xs ++ ys) → AllByRecursion (λ d. Absent d.node xs) ys
+one-apart [] ys one = every ys
+  where
+    every : (cs : List Claim) → AllByRecursion (λ d. Absent d.node []) cs
+    every [] = tt
+    every (c ∷ cs) = (tt, every cs)
+one-apart (x ∷ xs) ys one =
+    all-both (λ d. is_of x.node d ≡ false) (λ d. Absent d.node xs) (λ d. Absent d.node (x ∷ xs)) (λ d e rest. (turned d.node x.node e, rest)) ys
+    (all-right (λ d. is_of x.node d ≡ false) xs ys one.0) (one-apart xs ys one.1)

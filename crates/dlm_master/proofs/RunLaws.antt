@@ -12,6 +12,7 @@ use Rattle.dlm_master.specs.declared.claims.Cause.{Cause}
 use Rattle.dlm_master.specs.declared.claims.Cause.TheVariants.{Held, Behind, Rebuild, Slot}
 use Rattle.dlm_master.specs.Claims.{is_of, is_null, mode_of_node, with_claim, without_claim, now_holding, stands_in_way, in_way, Together}
 use Rattle.dlm_master.specs.LockState.{LockState, TurnState}
+use Rattle.dlm_master.proofs.ClaimLaws.{all-with, all-without}
 use Rattle.dlm_master.specs.Locks.{claim, or_else, cause_of, request_cause, convert_cause, requested, converted, lowered, is_free, turn, conversion_turns, all_turns, after_grants}
 use Rattle.dlm_master.specs.Tables.{holds_above}
 use Rattle.dlm_master.specs.Runs.{Call, Requests, Converts, Lowers, Grants, Blocks, Run, after, MayCall, after_all, MayCallAll}
@@ -23,22 +24,6 @@ no-way e = absurd (let f : false ≡ true = e in cc)
 -- what others hold goes with this mode of a node
 abbrev Goes : ℕ → Mode → List Claim → Type 0
 Goes node mode cs = AllByRecursion (λ d. node ≢ d.node → go_together mode d.mode ≡ true) cs
-
-all-with : (P : Claim → Type 0) (cs : List Claim) (c : Claim) → AllByRecursion P cs → P c → AllByRecursion P (with_claim cs c)
-all-with P [] c all here = (here, tt)
-all-with P (x ∷ xs) c all here = by (is_of c.node x) (all-with P xs c all.1 here)
-  where
-    by : (b : Bool) → AllByRecursion P (with_claim xs c) → AllByRecursion P (cond b (c ∷ xs) (x ∷ with_claim xs c))
-    by true rest = (here, all.1)
-    by false rest = (all.0, rest)
-
-all-without : (P : Claim → Type 0) (cs : List Claim) (node : ℕ) → AllByRecursion P cs → AllByRecursion P (without_claim cs node)
-all-without P [] node all = tt
-all-without P (x ∷ xs) node all = by (is_of node x) (all-without P xs node all.1)
-  where
-    by : (b : Bool) → AllByRecursion P (without_claim xs node) → AllByRecursion P (cond b xs (x ∷ without_claim xs node))
-    by true rest = all.1
-    by false rest = (all.0, rest)
 
 -- a claim that goes with the others may be put
 together-with : (cs : List Claim) (c : Claim) → Together cs → Goes c.node c.mode cs → Together (with_claim cs c)

@@ -1,5 +1,5 @@
 -- What holds of every lock at its master, and after every list of calls.
-use Rattle.std.specs.Prelude.{ℕ, ◌≡◌, ◌≢◌, ◌<◌, ⊤, Bool, true, false, not, List, [], ◌∷◌, ◌++◌, Option, None, Some, Contains, filter}
+use Rattle.std.specs.Prelude.{ℕ, ◌≡◌, ◌≢◌, ◌<◌, ◌⊎◌, ⊤, Bool, true, false, not, List, [], ◌∷◌, ◌++◌, Option, None, Some, Contains, filter}
 use Rattle.std.specs.List.{AllByRecursion}
 use Rattle.dlm_modes.specs.declared.Mode.{Mode}
 use Rattle.dlm_modes.specs.Modes.{go_together, is_at_least}

@@ -1,1 +1,2 @@
 pub mod NodeSetLaws
+pub mod LeastLaws

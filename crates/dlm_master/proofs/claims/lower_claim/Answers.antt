@@ -4,8 +4,8 @@ use Rattle.dlm_master.specs.Claims.{is_of, with_claim, without_claim}
 use Rattle.dlm_master.proofs.ClaimLaws.{set-with_claim, no-place}
 use Rattle.dlm_master.proofs.claims.lower_claim.Goals as goal
 
-pub returns-else-holds_nothing : goal.returns-else-holds_nothing
-returns-else-holds_nothing c =
+pub returns-in-Some : goal.returns-in-Some
+returns-in-Some c =
     let at = ap (λ (l : List Claim). position (is_of c.args.node) l) c.deref.ensures.value in
     rw (sym c.holds_nothing.ensures ∙ c.if-holds_nothing.false)
     (set-with_claim c.args.claims.now.items c.in-Some.place (record { node = c.args.node; mode = c.args.mode }) (sym at ∙ (sym c.place_of.ensures ∙ c.in-Some.is)))

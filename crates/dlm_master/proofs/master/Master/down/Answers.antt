@@ -12,7 +12,7 @@ down-requires c =
     let there = lent i.locks.entries c.args.lock c.get_mut.result c.in-Some.found c.get_mut.ensures.value c.in-Some.is in
     let same : lock_of c.args.self.now c.args.lock ≡ c.in-Some.found.now =
     ap (λ (n : MasterState). lock_of n c.args.lock) (sym c.self.view_is) ∙ lock-found i.locks.entries c.args.lock c.in-Some.found.now there in
-    sym (ap (λ (l : LockState). is_some (mode_of_node l.held c.args.node)) same) ∙ holds-some (held_by c.args.self.now c.args.node c.args.lock) c.args.mode c.requires
+    sym (ap (λ (l : LockState). is_some (mode_of_node l.held c.args.node)) same) ∙ holds-some (held_by c.args.self.now c.args.node c.args.lock) c.args.mode c.requires.above
 
 pub returns : goal.returns
 returns c =

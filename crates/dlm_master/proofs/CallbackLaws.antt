@@ -1,0 +1,229 @@
+-- Who is called back, and how far.
+use Rattle.std.proofs.Common.{ℕ, ◌≡◌, Bool, true, false, List, [], ◌∷◌, ◌++◌, Option, None, Some, cond, refl, sym, ap, ◌∙◌}
+use Rattle.std.specs.Prelude.{◌&&◌, not, fold, filter}
+use Rattle.std.specs.List.{AllByRecursion, list_all}
+use Rattle.dlm_modes.specs.declared.Mode.{Mode}
+use Rattle.dlm_modes.specs.declared.Mode.TheVariants.{Nl, Cr, Cw, Pr, Pw, Ex}
+use Rattle.dlm_modes.specs.Modes.{go_together, is_at_least}
+use Rattle.dlm_modes.proofs.ModeLaws.{covers-itself, covers-through}
+use Rattle.dlm_master.specs.declared.claims.Claim.{Claim}
+use Rattle.dlm_master.specs.Claims.{is_of}
+use Rattle.dlm_master.specs.LockState.{LockState}
+use Rattle.dlm_master.specs.Locks.{most_beside, most_below, kept_beside, may_keep, callback_to}
+use Rattle.dlm_master.specs.Laws.{other_waiters, GoesWithAll, IsMostKept, IsCalledRightly, CallbacksAreDue}
+
+no-way : {A : Type 0} → false ≡ true → A
+no-way e = absurd (let f : false ≡ true = e in cc)
+
+-- ---- modes
+
+-- a mode goes with another exactly where the strongest beside that covers it
+beside : (w m : Mode) → is_at_least (most_beside w) m ≡ go_together m w
+beside Nl Nl = refl
+beside Nl Cr = refl
+beside Nl Cw = refl
+beside Nl Pr = refl
+beside Nl Pw = refl
+beside Nl Ex = refl
+beside Cr Nl = refl
+beside Cr Cr = refl
+beside Cr Cw = refl
+beside Cr Pr = refl
+beside Cr Pw = refl
+beside Cr Ex = refl
+beside Cw Nl = refl
+beside Cw Cr = refl
+beside Cw Cw = refl
+beside Cw Pr = refl
+beside Cw Pw = refl
+beside Cw Ex = refl
+beside Pr Nl = refl
+beside Pr Cr = refl
+beside Pr Cw = refl
+beside Pr Pr = refl
+beside Pr Pw = refl
+beside Pr Ex = refl
+beside Pw Nl = refl
+beside Pw Cr = refl
+beside Pw Cw = refl
+beside Pw Pr = refl
+beside Pw Pw = refl
+beside Pw Ex = refl
+beside Ex Nl = refl
+beside Ex Cr = refl
+beside Ex Cw = refl
+beside Ex Pr = refl
+beside Ex Pw = refl
+beside Ex Ex = refl
+
+-- of two that don't cover each other
+apart : (a b m : Mode) → is_at_least a b ≡ false → is_at_least b a ≡ false → is_at_least Cr m ≡ (is_at_least a m && is_at_least b m)
+apart Nl Nl m p q = no-way (sym p)
+apart Nl Cr m p q = no-way (sym q)
+apart Nl Cw m p q = no-way (sym q)
+apart Nl Pr m p q = no-way (sym q)
+apart Nl Pw m p q = no-way (sym q)
+apart Nl Ex m p q = no-way (sym q)
+apart Cr Nl m p q = no-way (sym p)
+apart Cr Cr m p q = no-way (sym p)
+apart Cr Cw m p q = no-way (sym q)
+apart Cr Pr m p q = no-way (sym q)
+apart Cr Pw m p q = no-way (sym q)
+apart Cr Ex m p q = no-way (sym q)
+apart Cw Nl m p q = no-way (sym p)
+apart Cw Cr m p q = no-way (sym p)
+apart Cw Cw m p q = no-way (sym p)
+apart Cw Pr Nl p q = refl
+apart Cw Pr Cr p q = refl
+apart Cw Pr Cw p q = refl
+apart Cw Pr Pr p q = refl
+apart Cw Pr Pw p q = refl
+apart Cw Pr Ex p q = refl
+apart Cw Pw m p q = no-way (sym q)
+apart Cw Ex m p q = no-way (sym q)
+apart Pr Nl m p q = no-way (sym p)
+apart Pr Cr m p q = no-way (sym p)
+apart Pr Cw Nl p q = refl
+apart Pr Cw Cr p q = refl
+apart Pr Cw Cw p q = refl
+apart Pr Cw Pr p q = refl
+apart Pr Cw Pw p q = refl
+apart Pr Cw Ex p q = refl
+apart Pr Pr m p q = no-way (sym p)
+apart Pr Pw m p q = no-way (sym q)
+apart Pr Ex m p q = no-way (sym q)
+apart Pw Nl m p q = no-way (sym p)
+apart Pw Cr m p q = no-way (sym p)
+apart Pw Cw m p q = no-way (sym p)
+apart Pw Pr m p q = no-way (sym p)
+apart Pw Pw m p q = no-way (sym p)
+apart Pw Ex m p q = no-way (sym q)
+apart Ex Nl m p q = no-way (sym p)
+apart Ex Cr m p q = no-way (sym p)
+apart Ex Cw m p q = no-way (sym p)
+apart Ex Pr m p q = no-way (sym p)
+apart Ex Pw m p q = no-way (sym p)
+apart Ex Ex m p q = no-way (sym p)
+
+-- where one covers the other
+within : (a b m : Mode) → is_at_least a b ≡ true → is_at_least b m ≡ (is_at_least a m && is_at_least b m)
+within a b m covers = by (is_at_least b m) refl (is_at_least a m) refl
+  where
+    by : (y : Bool) → is_at_least b m ≡ y → (x : Bool) → is_at_least a m ≡ x → y ≡ (x && y)
+    by y e true h = refl
+    by false e false h = refl
+    by true e false h = no-way (sym h ∙ covers-through a b m covers e)
+
+and-turned : (x y : Bool) → (x && y) ≡ (y && x)
+and-turned true true = refl
+and-turned true false = refl
+and-turned false true = refl
+and-turned false false = refl
+
+-- the strongest that both cover covers exactly what both cover
+both : (a b m : Mode) → is_at_least (most_below a b) m ≡ (is_at_least a m && is_at_least b m)
+both a b m = by (is_at_least a b) refl (is_at_least b a) refl
+  where
+    by : (x : Bool) → is_at_least a b ≡ x → (y : Bool) → is_at_least b a ≡ y → is_at_least (cond x b (cond y a Cr)) m ≡ (is_at_least a m && is_at_least b m)
+    by true p y q = within a b m p
+    by false p true q = within b a m q ∙ and-turned (is_at_least b m) (is_at_least a m)
+    by false p false q = apart a b m p q
+
+-- ---- beside all waiters
+
+and-through : (x y z : Bool) → ((x && y) && z) ≡ (x && (y && z))
+and-through true y z = refl
+and-through false y z = refl
+
+-- what may be kept covers exactly what the holder's mode covers and goes with each other waiter
+keeps : (node : ℕ) (ws : List Claim) (had m : Mode)
+    → is_at_least (fold (kept_beside node) had ws) m ≡ (is_at_least had m && list_all (λ w. go_together m w.mode) (filter (λ w. not (is_of node w)) ws))
+keeps node [] had m = by (is_at_least had m)
+  where
+    by : (b : Bool) → b ≡ (b && true)
+    by true = refl
+    by false = refl
+keeps node (w ∷ ws) had m = by (is_of node w) refl (keeps node ws (kept_beside node had w) m)
+  where
+    all : List Claim → Bool
+    all = list_all (λ (w : Claim). go_together m w.mode)
+
+    others : List Claim
+    others = filter (λ (w : Claim). not (is_of node w)) ws
+
+    by : (b : Bool) → is_of node w ≡ b → is_at_least (fold (kept_beside node) (kept_beside node had w) ws) m ≡ (is_at_least (kept_beside node had w) m && list_all (λ (w : Claim). go_together m w.mode) (filter (λ (w : Claim). not (is_of node w)) ws))
+        → is_at_least (fold (kept_beside node) (kept_beside node had w) ws) m ≡ (is_at_least had m && list_all (λ (w : Claim). go_together m w.mode) (filter (λ (w : Claim). not (is_of node w)) (w ∷ ws)))
+    by true own rest =
+        rest ∙ (ap (λ (k : Mode). is_at_least k m && list_all (λ (w : Claim). go_together m w.mode) (filter (λ (w : Claim). not (is_of node w)) ws)) (own-keeps own)
+        ∙ ap (λ (l : List Claim). is_at_least had m && list_all (λ (w : Claim). go_together m w.mode) l) (sym (passed own)))
+      where
+        own-keeps : is_of node w ≡ true → kept_beside node had w ≡ had
+        own-keeps e = ap (λ b. cond b had (most_below had (most_beside w.mode))) e
+
+        passed : is_of node w ≡ true → filter (λ (w : Claim). not (is_of node w)) (w ∷ ws) ≡ filter (λ (w : Claim). not (is_of node w)) ws
+        passed e = ap (λ b. cond (not b) (w ∷ filter (λ (w : Claim). not (is_of node w)) ws) (filter (λ (w : Claim). not (is_of node w)) ws)) e
+    by false other rest =
+        rest ∙ (ap (λ (k : Mode). is_at_least k m && list_all (λ (w : Claim). go_together m w.mode) (filter (λ (w : Claim). not (is_of node w)) ws)) (less other)
+        ∙ (ap (λ x. x && list_all (λ (w : Claim). go_together m w.mode) (filter (λ (w : Claim). not (is_of node w)) ws)) (both had (most_beside w.mode) m ∙ ap (λ x. is_at_least had m && x) (beside w.mode m))
+        ∙ (and-through (is_at_least had m) (go_together m w.mode) (list_all (λ (w : Claim). go_together m w.mode) (filter (λ (w : Claim). not (is_of node w)) ws))
+        ∙ ap (λ (l : List Claim). is_at_least had m && list_all (λ (w : Claim). go_together m w.mode) l) (sym (among other)))))
+      where
+        less : is_of node w ≡ false → kept_beside node had w ≡ most_below had (most_beside w.mode)
+        less e = ap (λ b. cond b had (most_below had (most_beside w.mode))) e
+
+        among : is_of node w ≡ false → filter (λ (w : Claim). not (is_of node w)) (w ∷ ws) ≡ w ∷ filter (λ (w : Claim). not (is_of node w)) ws
+        among e = ap (λ b. cond (not b) (w ∷ filter (λ (w : Claim). not (is_of node w)) ws) (filter (λ (w : Claim). not (is_of node w)) ws)) e
+
+fold-on : (node : ℕ) (had : Mode) (xs ys : List Claim) → fold (kept_beside node) had (xs ++ ys) ≡ fold (kept_beside node) (fold (kept_beside node) had xs) ys
+fold-on node had [] ys = refl
+fold-on node had (x ∷ xs) ys = fold-on node (kept_beside node had x) xs ys
+
+pub may-keep : (l : LockState) (c : Claim) (m : Mode) → is_at_least (may_keep l c) m ≡ (is_at_least c.mode m && list_all (λ w. go_together m w.mode) (other_waiters l c.node))
+may-keep l c m = ap (λ (k : Mode). is_at_least k m) (sym (fold-on c.node c.mode l.conversions l.requests)) ∙ keeps c.node (l.conversions ++ l.requests) c.mode m
+
+-- ---- callbacks
+
+goes-all : (ws : List Claim) (m : Mode) → list_all (λ w. go_together m w.mode) ws ≡ true → GoesWithAll ws m
+goes-all [] m e = tt
+goes-all (w ∷ ws) m e = by (go_together m w.mode) refl (goes-all ws m)
+  where
+    by : (b : Bool) → go_together m w.mode ≡ b → (list_all (λ w. go_together m w.mode) ws ≡ true → GoesWithAll ws m) → GoesWithAll (w ∷ ws) m
+    by true h rest = (h, rest (rw h at e))
+    by false h rest = no-way (rw h at e)
+
+all-goes : (ws : List Claim) (m : Mode) → GoesWithAll ws m → list_all (λ w. go_together m w.mode) ws ≡ true
+all-goes [] m all = refl
+all-goes (w ∷ ws) m all = rw all.0 (all-goes ws m all.1)
+
+two : (a b : Bool) → (a && b) ≡ true → (a ≡ true) × (b ≡ true)
+two true b e = (refl, e)
+two false b e = no-way e
+
+pub callbacks-are-due : CallbacksAreDue
+callbacks-are-due l c = record {
+  spared = λ all. ap (λ b. cond b None (Some (c.node, may_keep l c))) (covers-all all);
+  called = λ not_all. (may_keep l c, ap (λ b. cond b None (Some (c.node, may_keep l c))) (covers-less not_all), most);
+}
+  where
+    at-own : is_at_least (may_keep l c) c.mode ≡ list_all (λ (w : Claim). go_together c.mode w.mode) (other_waiters l c.node)
+    at-own = may-keep l c c.mode ∙ ap (λ b. b && list_all (λ (w : Claim). go_together c.mode w.mode) (other_waiters l c.node)) (covers-itself c.mode)
+
+    covers-all : GoesWithAll (other_waiters l c.node) c.mode → is_at_least (may_keep l c) c.mode ≡ true
+    covers-all all = at-own ∙ all-goes (other_waiters l c.node) c.mode all
+
+    covers-less : (GoesWithAll (other_waiters l c.node) c.mode → ⊥) → is_at_least (may_keep l c) c.mode ≡ false
+    covers-less not_all = by (is_at_least (may_keep l c) c.mode) refl
+      where
+        by : (b : Bool) → is_at_least (may_keep l c) c.mode ≡ b → b ≡ false
+        by true e = absurd (not_all (goes-all (other_waiters l c.node) c.mode (sym at-own ∙ e)))
+        by false e = refl
+
+    kept : (is_at_least c.mode (may_keep l c) ≡ true) × (list_all (λ (w : Claim). go_together (may_keep l c) w.mode) (other_waiters l c.node) ≡ true)
+    kept = two _ _ (sym (may-keep l c (may_keep l c)) ∙ covers-itself (may_keep l c))
+
+    most : IsMostKept c.mode (may_keep l c) (other_waiters l c.node)
+    most = record {
+      covered = kept.0;
+      goes = goes-all (other_waiters l c.node) (may_keep l c) kept.1;
+      most = λ mode below all. may-keep l c mode ∙ (ap (λ b. b && list_all (λ (w : Claim). go_together mode w.mode) (other_waiters l c.node)) below ∙ all-goes (other_waiters l c.node) mode all);
+    }
