@@ -1,18 +1,19 @@
 -- The modes in which a lock is held go together.
-use Rattle.std.proofs.Common.{ℕ, ◌≡◌, ◌≢◌, ◌||◌, Bool, true, false, List, [], ◌∷◌, ◌++◌, Option, None, Some, cond, refl, sym, ap, ◌∙◌, subst, inl, inr, ◌⊎◌}
-use Rattle.std.specs.Prelude.{◌==◌, ◌&&◌, not, find, fold, option_map, is_none, is_some}
+use Rattle.std.proofs.Common.{ℕ, ◌≡◌, ◌≢◌, ◌||◌, Bool, true, false, List, [], ◌∷◌, ◌++◌, Option, None, Some, cond, refl, sym, ap, ◌∙◌, subst, inl, inr, ◌⊎◌, eq-eqb}
+use Rattle.std.specs.Prelude.{◌==◌, ◌&&◌, not, find, fold, option_map, unwrap_or, is_none}
 use Rattle.std.specs.List.{AllByRecursion}
 use Rattle.std.proofs.lemmas.Bool.Decides.{eqb_tells}
 use Rattle.dlm_modes.specs.declared.Mode.{Mode}
+use Rattle.dlm_modes.specs.declared.Mode.TheVariants.{Nl}
 use Rattle.dlm_modes.specs.Modes.{go_together, is_at_least, is_above}
 use Rattle.dlm_modes.proofs.ModeLaws.{together-turned, together-weaker}
 use Rattle.fencing.specs.NodeSets.{least_of}
 use Rattle.dlm_master.specs.declared.claims.Claim.{Claim}
 use Rattle.dlm_master.specs.declared.claims.Cause.{Cause}
 use Rattle.dlm_master.specs.declared.claims.Cause.TheVariants.{Held, Behind, Rebuild, Slot}
-use Rattle.dlm_master.specs.Claims.{is_of, is_null, mode_of_node, with_claim, without_claim, now_holding, stands_in_way, in_way, Together}
+use Rattle.dlm_master.specs.Claims.{is_of, is_null, mode_of_node, mode_at, with_claim, without_claim, now_holding, stands_in_way, in_way, OneEach, Together}
 use Rattle.dlm_master.specs.LockState.{LockState, TurnState}
-use Rattle.dlm_master.proofs.ClaimLaws.{all-with, all-without}
+use Rattle.dlm_master.proofs.ClaimLaws.{absent-mode, absent-along, turned, all-with, all-without, all-both}
 use Rattle.dlm_master.specs.Locks.{claim, or_else, cause_of, request_cause, convert_cause, requested, converted, lowered, is_free, turn, conversion_turns, all_turns, after_grants}
 use Rattle.dlm_master.specs.Tables.{holds_above}
 use Rattle.dlm_master.specs.Runs.{Call, Requests, Converts, Lowers, Grants, Blocks, Run, after, MayCall, after_all, MayCallAll}
@@ -109,6 +110,46 @@ held-goes (x ∷ xs) node mode all e = by (eqb_tells x.node node) (held-goes xs 
         let there : mode_of_node xs node ≡ Some mode = rw other.0 at e in
         let d = at-node (λ d. x.node ≢ d.node → go_together x.mode d.mode ≡ true) xs node mode all.0 there in
         ((λ ne. together-turned x.mode mode (subst (λ (m : Mode). go_together x.mode m ≡ true) d.3 (d.1 (λ q. other.1 (q ∙ d.2))))), rest there)
+
+-- the mode of a node of a list is that of the first claim, or of the others
+first-mode : (x : Claim) (xs : List Claim) → mode_at (x ∷ xs) x.node ≡ x.mode
+first-mode x xs = ap (λ b. unwrap_or (option_map (λ (c : Claim). c.mode) (cond b (Some x) (find (is_of x.node) xs))) Nl) (eq-eqb x.node x.node refl)
+
+later-mode : (x : Claim) (xs : List Claim) (node : ℕ) → is_of node x ≡ false → mode_at (x ∷ xs) node ≡ mode_at xs node
+later-mode x xs node e = ap (λ b. unwrap_or (option_map (λ (c : Claim). c.mode) (cond b (Some x) (find (is_of node) xs))) Nl) e
+
+each-mode : (cs : List Claim) → OneEach cs → AllByRecursion (λ d. mode_at cs d.node ≡ d.mode) cs
+each-mode [] one = tt
+each-mode (x ∷ xs) one = (
+  first-mode x xs,
+  all-both (λ d. is_of x.node d ≡ false) (λ d. mode_at xs d.node ≡ d.mode) (λ d. mode_at (x ∷ xs) d.node ≡ d.mode)
+      (λ d away e. later-mode x xs d.node (turned d.node x.node away) ∙ e) xs one.0 (each-mode xs one.1),
+)
+
+-- where what each two nodes hold goes together, all does
+pub together-of : (cs : List Claim) → OneEach cs → ((i k : ℕ) → i ≢ k → go_together (mode_at cs i) (mode_at cs k) ≡ true) → Together cs
+together-of [] one goes = tt
+together-of (x ∷ xs) one goes = (
+  all-both (λ d. is_of x.node d ≡ false) (λ d. mode_at xs d.node ≡ d.mode) (λ d. x.node ≢ d.node → go_together x.mode d.mode ≡ true)
+      (λ d away e ne. ap (λ (m : Mode). go_together m d.mode) (sym (first-mode x xs))
+      ∙ (ap (go_together (mode_at (x ∷ xs) x.node)) (sym (later-mode x xs d.node (turned d.node x.node away) ∙ e)) ∙ goes x.node d.node ne)) xs one.0 (each-mode xs one.1),
+  together-of xs one.1 (λ i k ne. rest i k ne),
+)
+  where
+    without-first : (i : ℕ) → ((mode_at xs i ≡ Nl) ⊎ (mode_at (x ∷ xs) i ≡ mode_at xs i))
+    without-first i = elim (eqb_tells x.node i) [
+      | inl same ↦ inl (ap (λ (o : Option Mode). unwrap_or o Nl) (absent-mode xs i (absent-along xs x.node i same.1 one.0)))
+      | inr other ↦ inr (later-mode x xs i other.0)
+    ]
+
+    rest : (i k : ℕ) → i ≢ k → go_together (mode_at xs i) (mode_at xs k) ≡ true
+    rest i k ne = elim (without-first i) [
+      | inl none ↦ ap (λ (m : Mode). go_together m (mode_at xs k)) none
+      | inr first ↦ elim (without-first k) [
+        | inl none ↦ together-turned (mode_at xs k) (mode_at xs i) (ap (λ (m : Mode). go_together m (mode_at xs i)) none)
+        | inr second ↦ ap (λ (m : Mode). go_together m (mode_at xs k)) (sym first) ∙ (ap (go_together (mode_at (x ∷ xs) i)) (sym second) ∙ goes i k ne)
+      ]
+    ]
 
 -- ---- why a node needn't wait
 

@@ -56,6 +56,13 @@ impl Master {
         self.generation
     }
 
+    /// The nodes whose slots wait.
+    pub fn waiting(&self) -> u16
+        ensures { result ≡ self.now.waiting }
+    {
+        self.blocked.waiting
+    }
+
     /// Whether a rebuild isn't done, and the nodes whose slots wait, from now on.
     pub fn blocked(&mut self, rebuild: bool, waiting: u16)
         ensures { self.new ≡ record self.old { rebuild = rebuild; waiting = waiting } }

@@ -1,11 +1,14 @@
 -- A table of locks that is made anew.
-use Rattle.std.specs.Prelude.{ℕ, ◌==◌, ◌%◌, ◌∷◌, ◌||◌, Bool, true, false, not, List, [], Option, None, length, slice_get, if◌then◌else◌}
+use Rattle.std.specs.Prelude.{ℕ, ◌==◌, ◌%◌, ◌||◌, Bool, true, false, not, [], Option, None, length, slice_get, if◌then◌else◌}
 use Rattle.std.specs.List.{list_all}
-use Rattle.std.specs.Int.{w64, to_be_bytes}
 use Rattle.crc_words.specs.Remainder.{crc32_of}
 use Rattle.glock_names.specs.declared.LockName.{LockName}
+use Rattle.glock_names.specs.Names.{name_bytes}
 use Rattle.dlm_modes.specs.declared.Mode.{Mode}
 use Rattle.fencing.specs.NodeSets.{has, with_node, nodes_of, all_nodes}
+use Rattle.dlm_master.specs.declared.claims.Answer.{Answer}
+use Rattle.dlm_master.specs.declared.claims.Answer.TheVariants.{Waiting}
+use Rattle.dlm_master.specs.declared.claims.Cause.TheVariants.{Rebuild}
 use Rattle.dlm_master.specs.Tables.{MasterState, after_request, after_convert, after_down, after_report}
 
 -- the members of the view, those that have told all that they hold, and what was told so far
@@ -27,6 +30,14 @@ with_report r node lock mode = record r { master = after_report r.master node lo
 abbrev pub with_end : RebuildState → ℕ → RebuildState
 with_end r node = record r { ended = with_node r.ended node }
 
+-- these slots wait from now on
+abbrev pub with_waiting : RebuildState → ℕ → RebuildState
+with_waiting r waiting = record r { master = record r.master { waiting = waiting } }
+
+-- the answer to each who asks meanwhile: it waits for the rebuild
+abbrev pub not_yet : Answer
+not_yet = Waiting Rebuild
+
 abbrev pub after_request_in : RebuildState → ℕ → LockName → Mode → RebuildState
 after_request_in r node lock mode = record r { master = after_request r.master node lock mode }
 
@@ -40,13 +51,9 @@ after_down_in r node lock mode = record r { master = after_down r.master node lo
 abbrev pub is_done : RebuildState → Bool
 is_done r = list_all (λ node. not (has r.members node) || has r.ended node) all_nodes
 
--- the table that was told, and nothing keeps its master from granting
+-- the table that was told, and of what keeps its master from granting only the slots that wait
 abbrev pub master_after : RebuildState → MasterState
-master_after r = record r.master { rebuild = false; waiting = 0 }
-
--- the nine bytes of a lock's name: its kind, and its number with the highest byte first
-abbrev pub name_bytes : LockName → List ℕ
-name_bytes lock = lock.kind ∷ to_be_bytes w64 lock.number
+master_after r = record r.master { rebuild = false }
 
 -- the member at the place of the name's CRC-32, modulo how many members there are, in rising order
 abbrev pub master_for : ℕ → LockName → Option ℕ

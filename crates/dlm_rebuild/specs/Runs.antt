@@ -1,8 +1,9 @@
 -- Lists of calls on one lock while its table is made anew.
-use Rattle.std.specs.Prelude.{ℕ, ◌≡◌, ◌==◌, true, List, [], ◌∷◌, Option, None, Some, if◌then◌else◌}
+use Rattle.std.specs.Prelude.{ℕ, ◌≡◌, ◌≢◌, ◌==◌, true, List, [], ◌∷◌, Option, None, Some, unwrap_or, if◌then◌else◌}
 use Rattle.dlm_modes.specs.declared.Mode.{Mode}
-use Rattle.dlm_modes.specs.Modes.{not_valid}
-use Rattle.dlm_master.specs.Claims.{is_null, mode_of_node}
+use Rattle.dlm_modes.specs.declared.Mode.TheVariants.{Nl}
+use Rattle.dlm_modes.specs.Modes.{go_together, not_valid}
+use Rattle.dlm_master.specs.Claims.{is_null, mode_of_node, OneEach, Together}
 use Rattle.dlm_master.specs.LockState.{LockState}
 use Rattle.dlm_master.specs.Locks.{free_lock, request_cause, requested, convert_cause, converted, lowered, reported}
 
@@ -38,6 +39,10 @@ last_told (call ∷ calls) node before = last_told calls node before
 -- after every list of calls the table has of each node what it told last, nobody was granted anything, and no value is valid
 pub record HasLastReports (calls : List Call) : Type 0 where
   pub reports : (node : ℕ) → mode_of_node (after_all free_lock calls).held node ≡ last_told calls node None
+  -- each node once, and in modes that go together where what they told last does
+  pub once : OneEach (after_all free_lock calls).held
+  pub together : ((i k : ℕ) → i ≢ k → go_together (unwrap_or (last_told calls i None) Nl) (unwrap_or (last_told calls k None) Nl) ≡ true)
+      → Together (after_all free_lock calls).held
   pub value : (after_all free_lock calls).value ≡ not_valid
 
 abbrev pub RebuiltFromReports : Type 0

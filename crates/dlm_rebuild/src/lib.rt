@@ -1,12 +1,11 @@
 //! A table of locks that a new master makes anew from what the members of a view report.
 #![tactic(auto)]
 
-ghost use Rattle.std.specs.Prelude.{◌≡◌, ◌<◌, ◌||◌, true, false, not, None, IfOk, IfErr, OnOk, OnErr, is_ok, is_some};
+ghost use Rattle.std.specs.Prelude.{◌≡◌, ◌<◌, ◌||◌, true, false, not, None, IfOk, IfErr, OnOk, OnErr, is_ok};
 ghost use Rattle.std.specs.List.{list_all};
 ghost use Rattle.fencing.specs.NodeSets.{has, all_nodes};
-ghost use Rattle.dlm_master.specs.Locks.{answer_by};
-ghost use Rattle.dlm_master.specs.Tables.{lock_of, held_by, waits_for, holds_above, request_waits, convert_waits};
-ghost use Rattle.dlm_rebuild.specs.Rebuilding.{begun, with_report, with_end, is_done as done, master_after, after_request_in, after_convert_in, after_down_in, master_for};
+ghost use Rattle.dlm_master.specs.Tables.{held_by, waits_for, holds_above, holds_covered};
+ghost use Rattle.dlm_rebuild.specs.Rebuilding.{begun, with_report, with_end, with_waiting, not_yet, is_done as done, master_after, after_request_in, after_convert_in, after_down_in, master_for};
 ghost use Rattle.dlm_rebuild.specs.Runs.{RebuiltFromReports};
 
 use crc_words::crc32;
@@ -17,6 +16,9 @@ use glock_names::LockName;
 use no_memory::NoMemory;
 use std::alloc::Global;
 use std::marker::Model;
+
+#[cfg(test)]
+mod tests;
 
 /// The master of a lock among these members: the one at the place of the CRC-32 of the lock's nine bytes, modulo how many they
 /// are, in rising order. `None` exactly where nobody is a member.
@@ -42,7 +44,7 @@ fn all_within(set: u16, other: u16) -> bool
 }
 
 /// The table of a new master while the members tell what they hold. Requests, conversions and lowers that come meanwhile are
-/// kept in it; nothing is granted.
+/// kept in it; nothing is granted before the rebuild is complete.
 #[derive(Drop)]
 pub struct Rebuild {
     members: u16,
@@ -51,11 +53,14 @@ pub struct Rebuild {
 }
 
 impl Model for Rebuild {
+    ghost use Rattle.std.specs.Prelude.{◌≡◌, true};
     ghost use Rattle.dlm_rebuild.specs.Rebuilding.{RebuildState};
 
     ghost Value = { RebuildState };
 
     ghost view = { λ r. record { members = r.members; ended = r.ended; master = r.master } };
+
+    ghost invariant = { λ r. r.master.rebuild ≡ true };
 }
 
 impl Rebuild {
@@ -70,6 +75,13 @@ impl Rebuild {
             ended: 0,
             master,
         }
+    }
+
+    /// The nodes whose slots wait, from now on: its master grants nothing before there are none.
+    pub fn blocked(&mut self, waiting: u16)
+        ensures { self.new ≡ with_waiting self.old waiting }
+    {
+        self.master.blocked(true, waiting);
     }
 
     /// A member tells what it holds of a lock. Of several reports of a node for a lock the last one counts, and one in `Nl` says
@@ -96,31 +108,32 @@ impl Rebuild {
         self.ended = add_node(self.ended, node);
     }
 
-    /// A node asks for a lock while the rebuild isn't done, as in `Master::request`.
+    /// A node asks for a lock while the rebuild isn't done, as in `Master::request`: it waits for the rebuild.
     pub fn request(&mut self, node: u8, lock: LockName, mode: Mode) -> Result<Answer, NoMemory>
         requires none { held_by self.old.master node lock ≡ None }
         requires idle { waits_for self.old.master node lock ≡ false }
-        ensures answer { IfOk result (λ a. a ≡ answer_by (request_waits self.old.master node lock mode) (lock_of self.old.master lock)) }
+        ensures waits { IfOk result (λ a. a ≡ not_yet) }
         ensures ok { OnOk result (self.new ≡ after_request_in self.old node lock mode) }
         ensures err { OnErr result (self.new ≡ self.old) }
     {
         self.master.request(node, lock, mode)
     }
 
-    /// A holder asks for another mode while the rebuild isn't done, as in `Master::convert`.
+    /// A holder asks for another mode while the rebuild isn't done, as in `Master::convert`: it waits for the rebuild.
     pub fn convert(&mut self, node: u8, lock: LockName, mode: Mode) -> Result<Answer, NoMemory>
-        requires holds { is_some (held_by self.old.master node lock) ≡ true }
+        requires covers { holds_covered (held_by self.old.master node lock) mode ≡ true }
         requires idle { waits_for self.old.master node lock ≡ false }
-        ensures answer { IfOk result (λ a. a ≡ answer_by (convert_waits self.old.master node lock mode) (lock_of self.old.master lock)) }
+        ensures waits { IfOk result (λ a. a ≡ not_yet) }
         ensures ok { OnOk result (self.new ≡ after_convert_in self.old node lock mode) }
         ensures err { OnErr result (self.new ≡ self.old) }
     {
         self.master.convert(node, lock, mode)
     }
 
-    /// A node lowers a lock after it has reported it. No value is kept before the rebuild is done. It takes no memory.
+    /// A node, which waits for nothing on the lock, lowers it after it has reported it. No value is kept before the rebuild is done. It takes no memory.
     pub fn down(&mut self, node: u8, lock: LockName, mode: Mode)
-        requires { holds_above (held_by self.old.master node lock) mode ≡ true }
+        requires above { holds_above (held_by self.old.master node lock) mode ≡ true }
+        requires idle { waits_for self.old.master node lock ≡ false }
         ensures { self.new ≡ after_down_in self.old node lock mode }
     {
         self.master.down(node, lock, mode, None);
@@ -147,8 +160,8 @@ impl Rebuild {
         all_within(self.members, self.ended)
     }
 
-    /// The master with the table that the members told, once each of them has ended; else the rebuild as it is. It takes no
-    /// memory.
+    /// The master with the table that the members told, once each of them has ended, which grants nothing while a slot waits;
+    /// else the rebuild as it is. It takes no memory.
     pub fn complete(self) -> Result<Master, Rebuild>
         ensures done { is_ok result ≡ done self }
         ensures ok { IfOk result (λ m. m ≡ master_after self) }
@@ -158,12 +171,14 @@ impl Rebuild {
             return Err(self);
         }
         let Rebuild { mut master, .. } = self;
-        master.blocked(false, 0);
+        let waiting = master.waiting();
+        master.blocked(false, waiting);
         Ok(master)
     }
 }
 
-/// A law: after every list of calls a table that is made anew has of each node what it told last, and no value in it is valid.
+/// A law: after every list of calls a table that is made anew has of each node what it told last, in modes that go together
+/// where these do, and no value in it is valid.
 pub fn a_rebuilt_table_has_the_last_reports()
     ensures { RebuiltFromReports }
 {}
