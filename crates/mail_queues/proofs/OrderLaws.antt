@@ -36,25 +36,25 @@ comes-once old new (Sent from to message ∷ calls) i k i_node k_node (between, 
     let later = comes-once between new calls i k i_node k_node rest in
     elim (pair_tells from to i k) [
       | inl same ↦
-          let here : messages_of between i k ≡ messages_of old i k ++ message ∷ [] = rw (← same.1, ← same.2) makes.queue in
+          let here : messages_of between i k ≡ messages_of old i k ++ message ∷ [] = rw (← same.1, ← same.2) makes.2.queue in
           rw same.0 (sent-here (messages_of old i k) (messages_of between i k) (sent_in calls i k) message here ∙ later)
       | inr other ↦
-          rw other.0 (ap (λ (l : List Message). l ++ sent_in calls i k) (stays old between from to i k _ makes i_node k_node other.1) ∙ later)
+          rw other.0 (ap (λ (l : List Message). l ++ sent_in calls i k) (stays old between from to i k _ makes.2 i_node k_node other.1) ∙ later)
     ]
 comes-once old new (Received from to message ∷ calls) i k i_node k_node (between, makes, rest) =
     let later = comes-once between new calls i k i_node k_node rest in
     elim (pair_tells from to i k) [
       | inl same ↦
-          let here : messages_of old i k ≡ option_to_list message ++ messages_of between i k = rw (← same.1, ← same.2) makes.0 in
+          let here : messages_of old i k ≡ option_to_list message ++ messages_of between i k = rw (← same.1, ← same.2) makes.2 in
           rw same.0 (received-here (messages_of old i k) (messages_of between i k) (option_to_list message) (sent_in calls i k) (received_in calls i k) (messages_of new i k) here later)
       | inr other ↦
-          rw other.0 (ap (λ (l : List Message). l ++ sent_in calls i k) (stays old between from to i k _ makes.1 i_node k_node other.1) ∙ later)
+          rw other.0 (ap (λ (l : List Message). l ++ sent_in calls i k) (stays old between from to i k _ makes.3 i_node k_node other.1) ∙ later)
     ]
 comes-once old new (Kept from to ∷ calls) i k i_node k_node (between, makes, rest) =
     let later = comes-once between new calls i k i_node k_node rest in
     elim (pair_tells from to i k) [
       | inl same ↦
-          let here : messages_of between i k ≡ messages_of old i k = rw (← same.1, ← same.2) makes.queue in
+          let here : messages_of between i k ≡ messages_of old i k = rw (← same.1, ← same.2) makes.2.queue in
           ap (λ (l : List Message). l ++ sent_in calls i k) (sym here) ∙ later
-      | inr other ↦ ap (λ (l : List Message). l ++ sent_in calls i k) (stays old between from to i k _ makes i_node k_node other.1) ∙ later
+      | inr other ↦ ap (λ (l : List Message). l ++ sent_in calls i k) (stays old between from to i k _ makes.2 i_node k_node other.1) ∙ later
     ]

@@ -10,12 +10,12 @@ pub data Call : Type 0 where
   Received : ℕ → ℕ → Option Message → Call
   Kept : ℕ → ℕ → Call
 
--- what the contracts of the calls say
+-- what the contracts of the calls say, which are of the nodes 0 to 8
 abbrev pub Makes : List QueueState → Call → List QueueState → Type 0
-Makes old (Sent from to message) new = IsQueueNow old new from to (messages_of old from to ++ message ∷ [])
+Makes old (Sent from to message) new = (from ≤ 8) × (to ≤ 8) × IsQueueNow old new from to (messages_of old from to ++ message ∷ [])
 Makes old (Received from to message) new =
-    (messages_of old from to ≡ option_to_list message ++ messages_of new from to) × IsQueueNow old new from to (messages_of new from to)
-Makes old (Kept from to) new = IsQueueNow old new from to (messages_of old from to)
+    (from ≤ 8) × (to ≤ 8) × (messages_of old from to ≡ option_to_list message ++ messages_of new from to) × IsQueueNow old new from to (messages_of new from to)
+Makes old (Kept from to) new = (from ≤ 8) × (to ≤ 8) × IsQueueNow old new from to (messages_of old from to)
 
 -- the calls, one after another
 abbrev pub MakeAll : List QueueState → List Call → List QueueState → Type 0

@@ -1,8 +1,7 @@
 //! The messages that are under way between the nodes: for each ordered pair of nodes a queue, first in, first out.
 #![tactic(auto)]
 
-ghost use Rattle.std.specs.Prelude.{◌≡◌, ◌≤◌, ◌<◌, ◌+◌, ◌*◌, ◌↔◌, ℕ, [], ◌∷◌, ◌++◌, length, IsTrue, IfOk, OnOk, OnErr, IfNone, option_to_list};
-ghost use Rattle.std.specs.List.{AllByRecursion};
+ghost use Rattle.std.specs.Prelude.{◌≡◌, ◌≤◌, ◌<◌, ◌+◌, ◌*◌, ◌↔◌, ℕ, [], ◌∷◌, ◌++◌, true, IsTrue, IsSome, is_ok, OnOk, OnErr, IfNone, option_to_list};
 ghost use Rattle.mail_queues.specs.Queues.{word_of, messages_of, room_of, IsQueueNow};
 ghost use Rattle.mail_queues.specs.Order.{ComesOnceInOrder};
 
@@ -13,7 +12,11 @@ use glock_names::LockName;
 use no_memory::NoMemory;
 pub use queue::Queue;
 use std::alloc::Global;
+use std::array;
 use std::marker::Model;
+
+#[cfg(test)]
+mod tests;
 
 /// What a message says.
 #[derive(Clone, Copy, Debug, PartialEq, Eq)]
@@ -65,7 +68,7 @@ impl Message {
 #[derive(Drop)]
 pub struct Mail {
     // That of a pair stands at place 9 * from + to.
-    queues: Vec<Queue>,
+    queues: [Queue; 81],
 }
 
 impl Model for Mail {
@@ -74,9 +77,9 @@ impl Model for Mail {
 
     ghost Value = { List QueueState };
 
-    ghost view = { λ m. m.queues.items };
+    ghost view = { λ m. m.queues };
 
-    ghost invariant = { λ m. length m.queues.items ≡ 81 };
+    ghost invariant = { λ m. length m.queues ≡ 81 };
 }
 
 fn place(from: u8, to: u8) -> usize
@@ -88,25 +91,18 @@ fn place(from: u8, to: u8) -> usize
     9 * from as usize + to as usize
 }
 
-fn make_queues(alloc: Global) -> Result<Vec<Queue>, NoMemory>
-    ensures count { IfOk result (λ v. length v.items ≡ 81) }
-    ensures empty { IfOk result (λ v. AllByRecursion (λ q. q.messages ≡ []) v.items) }
-{
-    let mut queues = Vec::with_capacity(alloc, 81)?;
-    for _ in 0..81usize {
-        queues.push(Queue::new(alloc))?;
-    }
-    Ok(queues)
-}
-
 impl Mail {
-    /// Nothing is under way.
-    pub fn new(alloc: Global) -> Result<Mail, NoMemory>
-        ensures { IfOk result (λ mail. (from to : ℕ) → messages_of mail from to ≡ []) }
+    /// Nothing is under way. It takes no memory.
+    pub fn new(alloc: Global) -> Mail
+        ensures { (from to : ℕ) → messages_of result from to ≡ [] }
     {
-        Ok(Mail {
-            queues: make_queues(alloc)?,
-        })
+        Mail {
+            queues: array::from_fn(
+                |_|
+                    ensures { result.messages ≡ [] }
+                { Queue::new(alloc) },
+            ),
+        }
     }
 
     /// Whether nothing is under way from the one node to the other.
@@ -118,23 +114,36 @@ impl Mail {
         self.queues[place(from, to)].is_empty()
     }
 
-    /// Sends a message. Where there is no memory nothing is sent.
+    /// How many more messages from the one node to the other there is room for.
+    pub fn room(&self, from: u8, to: u8) -> usize
+        requires from { from ≤ 8 }
+        requires to { to ≤ 8 }
+        ensures { result ≡ room_of self.now from to }
+    {
+        self.queues[place(from, to)].room()
+    }
+
+    /// Sends a message. Where there is no memory nothing is sent, and no room that was made is lost; where there is room it is
+    /// sent.
     pub fn send(&mut self, from: u8, to: u8, message: Message) -> Result<(), NoMemory>
         requires from { from ≤ 8 }
         requires to { to ≤ 8 }
         ensures ok { OnOk result (IsQueueNow self.old self.new from to (messages_of self.old from to ++ message ∷ [])) }
         ensures err { OnErr result (IsQueueNow self.old self.new from to (messages_of self.old from to)) }
         ensures room { room_of self.old from to ≤ room_of self.new from to + 1 }
+        ensures kept { OnErr result (room_of self.old from to ≤ room_of self.new from to) }
+        ensures roomy { 0 < room_of self.old from to → is_ok result ≡ true }
     {
         let queue = &mut self.queues[place(from, to)];
         queue.send(message)
     }
 
-    /// Makes room for this many more messages from the one node to the other.
+    /// Makes room for this many more messages from the one node to the other, where there isn't.
     pub fn reserve(&mut self, from: u8, to: u8, more: usize) -> Result<(), NoMemory>
         requires from { from ≤ 8 }
         requires to { to ≤ 8 }
         ensures ok { OnOk result (more ≤ room_of self.new from to) }
+        ensures roomy { more ≤ room_of self.old from to → is_ok result ≡ true }
         ensures keeps { IsQueueNow self.old self.new from to (messages_of self.old from to) }
         ensures room { room_of self.old from to ≤ room_of self.new from to }
     {
@@ -154,7 +163,8 @@ impl Mail {
         queue.send_reserved(message);
     }
 
-    /// Takes the first message from the one node to the other. `None` exactly where nothing is under way.
+    /// Takes the first message from the one node to the other, and leaves its room to the next. `None` exactly where nothing is
+    /// under way.
     pub fn receive(&mut self, from: u8, to: u8) -> Option<Message>
         requires from { from ≤ 8 }
         requires to { to ≤ 8 }
@@ -162,6 +172,7 @@ impl Mail {
         ensures none { IfNone result (messages_of self.old from to ≡ []) }
         ensures others { IsQueueNow self.old self.new from to (messages_of self.new from to) }
         ensures room { room_of self.old from to ≤ room_of self.new from to }
+        ensures freed { IsSome result → room_of self.old from to + 1 ≤ room_of self.new from to }
     {
         let queue = &mut self.queues[place(from, to)];
         queue.receive()

@@ -1,4 +1,4 @@
-ghost use Rattle.std.specs.Prelude.{◌≡◌, ◌≤◌, ◌<◌, ◌+◌, ◌↔◌, [], ◌∷◌, ◌++◌, IsTrue, OnOk, OnErr, IfNone, option_to_list};
+ghost use Rattle.std.specs.Prelude.{◌≡◌, ◌≤◌, ◌<◌, ◌+◌, ◌↔◌, [], ◌∷◌, ◌++◌, true, IsTrue, IsSome, is_ok, OnOk, OnErr, IfNone, option_to_list};
 
 use crate::Message;
 use no_memory::NoMemory;
@@ -37,10 +37,18 @@ impl Queue {
         self.waiting.is_empty()
     }
 
+    pub fn room(&self) -> usize
+        ensures { result ≡ self.now.room }
+    {
+        self.waiting.capacity() - self.waiting.len()
+    }
+
     pub fn send(&mut self, message: Message) -> Result<(), NoMemory>
         ensures ok { OnOk result (self.new.messages ≡ self.old.messages ++ message ∷ []) }
         ensures err { OnErr result (self.new.messages ≡ self.old.messages) }
         ensures room { self.old.room ≤ self.new.room + 1 }
+        ensures kept { OnErr result (self.old.room ≤ self.new.room) }
+        ensures roomy { 0 < self.old.room → is_ok result ≡ true }
     {
         self.reserve(1)?;
         self.send_reserved(message);
@@ -49,6 +57,7 @@ impl Queue {
 
     pub fn reserve(&mut self, more: usize) -> Result<(), NoMemory>
         ensures ok { OnOk result (more ≤ self.new.room) }
+        ensures roomy { more ≤ self.old.room → is_ok result ≡ true }
         ensures keeps { self.new.messages ≡ self.old.messages }
         ensures room { self.old.room ≤ self.new.room }
     {
@@ -68,6 +77,7 @@ impl Queue {
         ensures first { self.old.messages ≡ option_to_list result ++ self.new.messages }
         ensures none { IfNone result (self.old.messages ≡ []) }
         ensures room { self.old.room ≤ self.new.room }
+        ensures freed { IsSome result → self.old.room + 1 ≤ self.new.room }
     {
         self.waiting.pop_front()
     }
