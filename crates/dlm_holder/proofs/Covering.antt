@@ -1,8 +1,8 @@
 -- A holder is never stronger than granted.
-use Rattle.std.proofs.Common.{◌≡◌, ◌≢◌, Bool, true, false, List, [], ◌∷◌, Option, Some, None, cond, refl, sym, ap, ◌∙◌, inl, inr, subst}
+use Rattle.std.proofs.Common.{◌≡◌, Bool, true, false, List, [], ◌∷◌, Option, Some, None, cond, refl, sym, ap, ◌∙◌, inl, inr, subst}
 use Rattle.std.specs.Prelude.{unwrap_or}
 use Rattle.glock_names.specs.declared.LockName.{LockName}
-use Rattle.glock_names.specs.LockMaps.{same_lock, at_lock, with_lock}
+use Rattle.glock_names.specs.LockMaps.{same_lock, with_lock}
 use Rattle.glock_names.proofs.LockMapLaws.{same_lock_tells, at_lock-with_same, at_lock-with_other}
 use Rattle.dlm_modes.specs.declared.Mode.{Mode}
 use Rattle.dlm_modes.specs.declared.Mode.TheVariants.{Nl}
@@ -10,7 +10,7 @@ use Rattle.dlm_modes.specs.Modes.{is_at_least}
 use Rattle.dlm_modes.proofs.ModeLaws.{covers-itself, covers-through}
 use Rattle.dlm_holder.specs.declared.Holding.{Holding}
 use Rattle.dlm_holder.specs.Holdings.{Holdings, nothing, holding_of, mode_in, asked_for, granted_to, lowered_to, ask_dropped}
-use Rattle.dlm_holder.specs.Laws.{Call, Asks, IsGranted, Lowers, DropsAsk, after, MayCall, after_all, MayCallAll, last_granted, NeverStronger}
+use Rattle.dlm_holder.specs.Laws.{Call, Asks, IsGranted, Lowers, DropsAsk, after_all, MayCallAll, last_granted, NeverStronger}
 
 -- the mode of a lock after a write
 mode-written : (h : Holdings) (other lock : LockName) (x : Holding) → mode_in (with_lock h other x) lock ≡ cond (same_lock other lock) (x.mode) (mode_in h lock)

@@ -1,7 +1,7 @@
 //! What one node holds of the lock manager's locks: never more than was granted to it.
 #![tactic(auto)]
 
-ghost use Rattle.std.specs.Prelude.{◌≡◌, [], true, OnOk, OnErr};
+ghost use Rattle.std.specs.Prelude.{◌≡◌, [], true, is_ok, OnOk, OnErr};
 ghost use Rattle.dlm_modes.specs.Modes.{is_at_least};
 ghost use Rattle.glock_names.specs.LockMaps.{lock_in};
 ghost use Rattle.dlm_holder.specs.Holdings.{holding_of, mode_in, wanted_in, value_in, knows, asked_for, granted_to, lowered_to, ask_dropped};
@@ -14,6 +14,9 @@ use no_memory::NoMemory;
 use std::alloc::Global;
 use std::marker::Model;
 
+#[cfg(test)]
+mod tests;
+
 /// A lock at a node: the mode in which the node holds it, the mode for which an ask of the node stands without grant, and the
 /// lock's value as its last grant brought it.
 #[derive(Clone, Copy, Debug, PartialEq, Eq)]
@@ -22,6 +25,16 @@ pub struct Holding {
     pub wanted: Option<Mode>,
     pub value: ValueBlock,
 }
+
+// What a node holds of a lock for which it has not asked.
+const NOTHING: Holding = Holding {
+    mode: Mode::Nl,
+    wanted: None,
+    value: ValueBlock {
+        bytes: [0; 32],
+        valid: false,
+    },
+};
 
 /// The locks that a node has asked for in this life, in the order in which it first asked, and what it holds of them.
 #[derive(Drop)]
@@ -53,29 +66,28 @@ impl Holder {
         ensures { result ≡ holding_of self.now lock }
     {
         match self.locks.get(&lock) {
-            None => Holding {
-                mode: Mode::Nl,
-                wanted: None,
-                value: ValueBlock::new(),
-            },
+            None => NOTHING,
             Some(holding) => *holding,
         }
     }
 
     /// Notes that the node asks for the lock in this mode, and makes the room that its grants and lowers need. After want of
-    /// memory nothing has changed. Two lookups by name, as each call that writes.
+    /// memory, which a lock that was asked for before doesn't need, nothing has changed.
     pub fn asked(&mut self, lock: LockName, mode: Mode) -> Result<(), NoMemory>
         ensures ok { OnOk result (self.new ≡ asked_for self.old lock mode) }
         ensures err { OnErr result (self.new ≡ self.old) }
+        ensures again { knows self.old lock ≡ true → is_ok result ≡ true }
     {
-        let holding = self.holding(lock);
-        self.locks.insert(
-            lock,
-            Holding {
-                wanted: Some(mode),
-                ..holding
-            },
-        )?;
+        match self.locks.get_mut(&lock) {
+            Some(holding) => holding.wanted = Some(mode),
+            None => {
+                let asked = Holding {
+                    wanted: Some(mode),
+                    ..NOTHING
+                };
+                self.locks.insert(lock, asked)?;
+            }
+        }
         Ok(())
     }
 
@@ -100,8 +112,10 @@ impl Holder {
         requires covered { is_at_least (mode_in self.old lock) mode ≡ true }
         ensures { self.new ≡ lowered_to self.old lock mode }
     {
-        let holding = self.holding(lock);
-        let _ = self.locks.insert(lock, Holding { mode, ..holding });
+        let Some(holding) = self.locks.get_mut(&lock) else {
+            return;
+        };
+        holding.mode = mode;
     }
 
     /// The node's ask for the lock is over without a grant, as each is when a new view begins. It takes no memory.
@@ -109,14 +123,10 @@ impl Holder {
         requires { knows self.old lock ≡ true }
         ensures { self.new ≡ ask_dropped self.old lock }
     {
-        let holding = self.holding(lock);
-        let _ = self.locks.insert(
-            lock,
-            Holding {
-                wanted: None,
-                ..holding
-            },
-        );
+        let Some(holding) = self.locks.get_mut(&lock) else {
+            return;
+        };
+        holding.wanted = None;
     }
 
     /// Whether the node has asked for the lock.

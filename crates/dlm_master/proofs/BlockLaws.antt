@@ -5,18 +5,17 @@ use Rattle.std.specs.Int.Bits.{and_zero_l}
 use Rattle.std.proofs.lemmas.Bool.Decides.{eqb_tells}
 use Rattle.dlm_modes.specs.declared.Mode.{Mode}
 use Rattle.dlm_modes.specs.declared.Mode.TheVariants.{Nl}
-use Rattle.dlm_modes.specs.Modes.{is_at_least, is_above}
+use Rattle.dlm_modes.specs.Modes.{is_at_least}
 use Rattle.dlm_modes.proofs.ModeLaws.{covers-itself}
 use Rattle.fencing.specs.NodeSets.{has, least_of}
 use Rattle.fencing.proofs.LeastLaws.{least-none}
 use Rattle.dlm_master.specs.declared.claims.Claim.{Claim}
 use Rattle.dlm_master.specs.declared.claims.Cause.{Cause}
 use Rattle.dlm_master.specs.declared.claims.Cause.TheVariants.{Held, Behind, Rebuild, Slot}
-use Rattle.dlm_master.specs.Claims.{mode_of_node, mode_at, now_holding, in_way, OneEach}
-use Rattle.dlm_master.specs.LockState.{LockState}
-use Rattle.dlm_master.specs.Locks.{or_else, cause_of, request_cause, convert_cause, requested, converted, after_grants}
+use Rattle.dlm_master.specs.Claims.{mode_of_node, mode_at, now_holding, in_way}
+use Rattle.dlm_master.specs.Locks.{or_else, cause_of, requested, converted, after_grants}
 use Rattle.dlm_master.specs.Tables.{holds_above}
-use Rattle.dlm_master.specs.Runs.{Call, Requests, Converts, Lowers, Grants, Blocks, Run, after, MayCall}
+use Rattle.dlm_master.specs.Runs.{Requests, Converts, Lowers, Grants, Blocks, Run, after}
 use Rattle.dlm_master.specs.Laws.{IsBlocked, NoneWhileBlocked}
 use Rattle.dlm_master.proofs.ClaimLaws.{mode-away, mode-here}
 

@@ -1,7 +1,7 @@
 -- Who is called back, and how far.
-use Rattle.std.proofs.Common.{ℕ, ◌≡◌, Bool, true, false, List, [], ◌∷◌, ◌++◌, Option, None, Some, cond, refl, sym, ap, ◌∙◌}
+use Rattle.std.proofs.Common.{ℕ, ◌≡◌, Bool, true, false, List, [], ◌∷◌, ◌++◌, None, Some, cond, refl, sym, ap, ◌∙◌}
 use Rattle.std.specs.Prelude.{◌&&◌, not, fold, filter}
-use Rattle.std.specs.List.{AllByRecursion, list_all}
+use Rattle.std.specs.List.{list_all}
 use Rattle.dlm_modes.specs.declared.Mode.{Mode}
 use Rattle.dlm_modes.specs.declared.Mode.TheVariants.{Nl, Cr, Cw, Pr, Pw, Ex}
 use Rattle.dlm_modes.specs.Modes.{go_together, is_at_least}
@@ -9,8 +9,8 @@ use Rattle.dlm_modes.proofs.ModeLaws.{covers-itself, covers-through}
 use Rattle.dlm_master.specs.declared.claims.Claim.{Claim}
 use Rattle.dlm_master.specs.Claims.{is_of}
 use Rattle.dlm_master.specs.LockState.{LockState}
-use Rattle.dlm_master.specs.Locks.{most_beside, most_below, kept_beside, may_keep, callback_to}
-use Rattle.dlm_master.specs.Laws.{other_waiters, GoesWithAll, IsMostKept, IsCalledRightly, CallbacksAreDue}
+use Rattle.dlm_master.specs.Locks.{most_beside, most_below, kept_beside, may_keep}
+use Rattle.dlm_master.specs.Laws.{other_waiters, GoesWithAll, IsMostKept, CallbacksAreDue}
 
 no-way : {A : Type 0} → false ≡ true → A
 no-way e = absurd (let f : false ≡ true = e in cc)

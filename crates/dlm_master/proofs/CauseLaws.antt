@@ -1,9 +1,7 @@
 -- A cause that is named is so, and where none is named none is.
-use Rattle.std.proofs.Common.{ℕ, zero, suc, ◌≡◌, ◌≢◌, ◌<◌, ◌+◌, Bool, true, false, List, [], ◌∷◌, ◌++◌, length, Option, None, Some, inl, inr, ◌⊎◌, refl, sym, ap, ◌∙◌, subst, arith}
-use Rattle.std.specs.Prelude.{◌==◌, ◌&&◌, not, find, option_map, Contains, slice_index_or}
-use Rattle.std.specs.List.{AllByRecursion}
+use Rattle.std.proofs.Common.{ℕ, zero, suc, ◌≡◌, ◌≢◌, ◌<◌, Bool, true, false, List, [], ◌∷◌, ◌++◌, length, Option, None, Some, inl, inr, ◌⊎◌, refl, sym, ap, ◌∙◌, subst, arith}
+use Rattle.std.specs.Prelude.{◌&&◌, not, find, option_map, Contains, slice_index_or}
 use Rattle.std.proofs.lemmas.Bool.Decides.{eqb_tells}
-use Rattle.dlm_modes.specs.declared.Mode.{Mode}
 use Rattle.dlm_modes.specs.Modes.{go_together}
 use Rattle.fencing.specs.NodeSets.{least_of}
 use Rattle.fencing.proofs.LeastLaws.{least-none, least-some}
@@ -12,7 +10,7 @@ use Rattle.dlm_master.specs.declared.claims.Cause.{Cause}
 use Rattle.dlm_master.specs.declared.claims.Cause.TheVariants.{Held, Behind, Rebuild, Slot}
 use Rattle.dlm_master.specs.Claims.{is_of, stands_in_way, in_way}
 use Rattle.dlm_master.specs.Locks.{claim, or_else, cause_of}
-use Rattle.dlm_master.specs.Laws.{IsInWay, IsSo, IsRightCause, CauseIsSo}
+use Rattle.dlm_master.specs.Laws.{IsInWay, IsSo, CauseIsSo}
 
 no-way : {A : Type 0} → false ≡ true → A
 no-way e = absurd (let f : false ≡ true = e in cc)

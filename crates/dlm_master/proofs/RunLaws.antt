@@ -5,16 +5,16 @@ use Rattle.std.specs.List.{AllByRecursion}
 use Rattle.std.proofs.lemmas.Bool.Decides.{eqb_tells}
 use Rattle.dlm_modes.specs.declared.Mode.{Mode}
 use Rattle.dlm_modes.specs.declared.Mode.TheVariants.{Nl}
-use Rattle.dlm_modes.specs.Modes.{go_together, is_at_least, is_above}
+use Rattle.dlm_modes.specs.Modes.{go_together, is_at_least}
 use Rattle.dlm_modes.proofs.ModeLaws.{together-turned, together-weaker}
 use Rattle.fencing.specs.NodeSets.{least_of}
 use Rattle.dlm_master.specs.declared.claims.Claim.{Claim}
 use Rattle.dlm_master.specs.declared.claims.Cause.{Cause}
-use Rattle.dlm_master.specs.declared.claims.Cause.TheVariants.{Held, Behind, Rebuild, Slot}
+use Rattle.dlm_master.specs.declared.claims.Cause.TheVariants.{Held, Rebuild, Slot}
 use Rattle.dlm_master.specs.Claims.{is_of, is_null, mode_of_node, mode_at, with_claim, without_claim, now_holding, stands_in_way, in_way, OneEach, Together}
 use Rattle.dlm_master.specs.LockState.{LockState, TurnState}
 use Rattle.dlm_master.proofs.ClaimLaws.{absent-mode, absent-along, turned, all-with, all-without, all-both}
-use Rattle.dlm_master.specs.Locks.{claim, or_else, cause_of, request_cause, convert_cause, requested, converted, lowered, is_free, turn, conversion_turns, all_turns, after_grants}
+use Rattle.dlm_master.specs.Locks.{claim, or_else, cause_of, request_cause, convert_cause, requested, converted, lowered, is_free, turn, conversion_turns, after_grants}
 use Rattle.dlm_master.specs.Tables.{holds_above}
 use Rattle.dlm_master.specs.Runs.{Call, Requests, Converts, Lowers, Grants, Blocks, Run, after, MayCall, after_all, MayCallAll}
 use Rattle.dlm_master.specs.Laws.{GrantsKeepTogether}

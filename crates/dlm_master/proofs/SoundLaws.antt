@@ -8,7 +8,7 @@ use Rattle.dlm_master.specs.declared.claims.Claim.{Claim}
 use Rattle.dlm_master.specs.declared.claims.Cause.{Cause}
 use Rattle.dlm_master.specs.Claims.{is_of, is_null, mode_of_node, with_claim, without_claim, now_holding, Absent, OneEach}
 use Rattle.dlm_master.specs.LockState.{LockState}
-use Rattle.dlm_master.specs.Locks.{claim, value_after, is_waiting, request_cause, convert_cause, requested, converted, lowered, conversion_turns, all_turns, after_grants}
+use Rattle.dlm_master.specs.Locks.{claim, value_after, is_waiting, request_cause, convert_cause, requested, converted, conversion_turns, all_turns, after_grants}
 use Rattle.dlm_master.specs.Tables.{holds_covered}
 use Rattle.dlm_master.specs.Runs.{Call, Requests, Converts, Lowers, Grants, Blocks, Run, after, MayCall, after_all, MayCallAll}
 use Rattle.dlm_master.specs.Laws.{IsSound, SoundLocksStaySound}

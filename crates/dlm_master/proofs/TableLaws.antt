@@ -1,23 +1,20 @@
 -- What a write of the map of locks does to a master's state.
-use Rattle.std.proofs.Common.{ℕ, ◌≡◌, Bool, true, false, List, [], ◌∷◌, Option, None, Some, Result, Ok, Err, OnOk, OnErr, cond, is_some, refl, sym, ap, ◌∙◌}
+use Rattle.std.proofs.Common.{◌≡◌, true, false, List, Option, None, Some, Result, Ok, Err, OnOk, OnErr, is_some, refl, sym, ap, ◌∙◌}
 use Rattle.std.specs.Prelude.{unwrap_or}
 use Rattle.std.specs.Option.{option_copied_mut}
 use Rattle.std.specs.Map.{set_value}
 use Rattle.indexmap.specs.IndexMap.{IndexMap, insert_entry}
 use denote.MutBor.{MutBor}
 use Rattle.glock_names.specs.declared.LockName.{LockName}
-use Rattle.glock_names.specs.LockMaps.{same_lock, at_lock, with_lock}
-use Rattle.glock_names.proofs.LockMapLaws.{with_lock-unique}
+use Rattle.glock_names.specs.LockMaps.{same_lock, at_lock}
+use Rattle.glock_names.proofs.LockMapLaws.{with_lock-unique, set_value-with_lock, set_value-same}
 use Rattle.dlm_master.specs.LockState.{LockState}
 use Rattle.dlm_master.specs.Locks.{free_lock}
 use Rattle.dlm_modes.specs.declared.Mode.{Mode}
-use Rattle.dlm_master.specs.Tables.{MasterState, lock_of, with_state, holds_above}
+use Rattle.dlm_master.specs.Tables.{MasterState, with_state, holds_above}
 
 abbrev pub Table : Type 0
 Table = List (LockName × LockState)
-
-some-none : {A : Type 0} {x : LockState} → None ≡ Some x → A
-some-none {A} {x} e = absurd (let f : None ≡ Some x = e in cc)
 
 -- what `get_mut` lent is what the map has
 pub lent : (es : Table) (lock : LockName) (r : Option (MutBor LockState)) (found : MutBor LockState) → option_copied_mut r ≡ at_lock es lock → r ≡ Some found
@@ -33,32 +30,11 @@ lock-found es lock x e = ap (λ (o : Option LockState). unwrap_or o free_lock) e
 pub lock-free : (es : Table) (lock : LockName) → at_lock es lock ≡ None → unwrap_or (at_lock es lock) free_lock ≡ free_lock
 lock-free es lock e = ap (λ (o : Option LockState). unwrap_or o free_lock) e
 
--- a write through what was lent
-set_value-with : (es : Table) (lock : LockName) (x w : LockState) → at_lock es lock ≡ Some x → set_value (same_lock lock) es w ≡ with_lock es lock w
-set_value-with [] lock x w e = some-none e
-set_value-with (k ∷ es) lock x w e = by (same_lock lock k.0) refl (set_value-with es lock x w)
-  where
-    by : (b : Bool) → same_lock lock k.0 ≡ b → (at_lock es lock ≡ Some x → set_value (same_lock lock) es w ≡ with_lock es lock w) → set_value (same_lock lock) (k ∷ es) w ≡ with_lock (k ∷ es) lock w
-    by true h rest = rw h refl
-    by false h rest = rw h (ap (λ (l : Table). k ∷ l) (rest (rw h at e)))
-
--- a write of what is there
-set_value-same : (es : Table) (lock : LockName) (x : LockState) → at_lock es lock ≡ Some x → set_value (same_lock lock) es x ≡ es
-set_value-same [] lock x e = refl
-set_value-same (k ∷ es) lock x e = by (same_lock lock k.0) refl (set_value-same es lock x)
-  where
-    inside : {a b : LockState} → Some a ≡ Some b → a ≡ b
-    inside p = cc
-
-    by : (b : Bool) → same_lock lock k.0 ≡ b → (at_lock es lock ≡ Some x → set_value (same_lock lock) es x ≡ es) → set_value (same_lock lock) (k ∷ es) x ≡ k ∷ es
-    by true h rest = let s : Some k.1 ≡ Some x = rw h at e in rw h (ap (λ (v : LockState). (k.0, v) ∷ es) (sym (inside s)))
-    by false h rest = rw h (ap (λ (l : Table). k ∷ l) (rest (rw h at e)))
-
 -- the state after a write through what was lent
 pub put-back : (m now : MasterState) (lock : LockName) (old new : LockState) (later : Table) → m ≡ now → at_lock m.table lock ≡ Some old
     → later ≡ set_value (same_lock lock) m.table new → (let s : MasterState = record m { table = later } in s) ≡ with_state now lock new
 put-back m now lock old new later e there w =
-    ap (λ (t : Table). let s : MasterState = record m { table = t } in s) (w ∙ set_value-with m.table lock old new there)
+    ap (λ (t : Table). let s : MasterState = record m { table = t } in s) (w ∙ set_value-with_lock m.table lock old new there)
     ∙ ap (λ (n : MasterState). with_state n lock new) e
 
 pub put-same : (m now : MasterState) (lock : LockName) (old new : LockState) (later : Table) → m ≡ now → at_lock m.table lock ≡ Some old → new ≡ old

@@ -1,5 +1,5 @@
 -- The waiters of a lock take their turns.
-use Rattle.std.proofs.Common.{ℕ, ◌≡◌, ◌≢◌, ◌||◌, Bool, true, false, List, [], ◌∷◌, ◌++◌, Option, None, Some, cond, refl, sym, ap, ◌∙◌, subst, inl, inr, ◌⊎◌, append_assoc, append-nil, eq-eqb}
+use Rattle.std.proofs.Common.{ℕ, ◌≡◌, ◌≢◌, ◌||◌, Bool, true, false, List, [], ◌∷◌, ◌++◌, Option, None, Some, cond, refl, sym, ap, ◌∙◌, subst, inl, inr, ◌⊎◌, append_assoc, append-nil}
 use Rattle.std.specs.Prelude.{◌==◌, ◌&&◌, ⊤, not, find, fold, option_map, unwrap_or, is_none, is_some}
 use Rattle.std.specs.List.{AllByRecursion}
 use Rattle.std.proofs.lemmas.Bool.Decides.{eqb_tells}
@@ -14,7 +14,7 @@ use Rattle.dlm_master.specs.Claims.{is_of, is_null, mode_of_node, mode_at, with_
 use Rattle.dlm_master.specs.LockState.{LockState, TurnState}
 use Rattle.dlm_master.specs.Locks.{claim, is_free, turn, conversion_turns, all_turns, after_grants}
 use Rattle.dlm_master.specs.Tables.{holds_covered}
-use Rattle.dlm_master.specs.Laws.{IsSo, IsSound, IsSplit, Nobody, IsGranted, Stays, EachWaits, LosesNobody, NoWaiterIsLost}
+use Rattle.dlm_master.specs.Laws.{IsSo, IsSound, IsSplit, Nobody, IsGranted, Stays, EachWaits, NoWaiterIsLost}
 use Rattle.dlm_master.proofs.ClaimLaws.{one-now, mode-away, mode-here, all-both, of-not, turned, one-left, one-right, one-apart}
 use Rattle.dlm_master.proofs.CauseLaws.{way-so}
 

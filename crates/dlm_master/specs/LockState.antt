@@ -1,5 +1,5 @@
 -- What a master has of one lock.
-use Rattle.std.specs.Prelude.{ℕ, Bool, List}
+use Rattle.std.specs.Prelude.{List}
 use Rattle.dlm_modes.specs.declared.ValueBlock.{ValueBlock}
 use Rattle.dlm_master.specs.declared.claims.Claim.{Claim}
 

@@ -1,10 +1,10 @@
 -- What the calls do to one lock.
-use Rattle.std.specs.Prelude.{ℕ, ◌==◌, ◌&&◌, Bool, true, false, not, List, [], ◌∷◌, ◌++◌, Option, None, Some, is_some, is_none, option_map, fold, map, ◌||◌, if◌then◌else◌}
+use Rattle.std.specs.Prelude.{ℕ, ◌&&◌, Bool, true, false, List, [], ◌∷◌, ◌++◌, Option, None, Some, is_some, is_none, option_map, fold, map, ◌||◌, if◌then◌else◌}
 use Rattle.std.specs.List.{filter_map}
 use Rattle.dlm_modes.specs.declared.Mode.{Mode}
 use Rattle.dlm_modes.specs.declared.Mode.TheVariants.{Nl, Cr, Cw, Pr, Pw, Ex}
 use Rattle.dlm_modes.specs.declared.ValueBlock.{ValueBlock}
-use Rattle.dlm_modes.specs.Modes.{go_together, is_at_least, not_valid}
+use Rattle.dlm_modes.specs.Modes.{is_at_least, not_valid}
 use Rattle.fencing.specs.NodeSets.{least_of}
 use Rattle.dlm_master.specs.declared.claims.Claim.{Claim}
 use Rattle.dlm_master.specs.declared.claims.Cause.{Cause}

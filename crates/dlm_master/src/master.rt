@@ -12,8 +12,8 @@ use no_memory::NoMemory;
 use std::alloc::Global;
 use std::marker::Model;
 
-/// The locks of which a node is the master, in one view. Each call makes one or two lookups by name, and goes over the nodes
-/// that hold or await that lock, and over no other lock.
+/// The locks of which a node is the master, in one view. Each call makes one lookup by name, and a second where a lock comes new
+/// into the table; it goes over the nodes that hold or await that lock, and over no other lock.
 #[derive(Drop)]
 pub struct Master {
     generation: u64,
@@ -99,16 +99,10 @@ impl Master {
         ensures ok { OnOk result (self.new ≡ after_convert self.old node lock mode) }
         ensures err { OnErr result (self.new ≡ self.old) }
     {
-        let claim = Claim { node, mode };
-        match self.locks.get_mut(&lock) {
-            Some(found) => found.convert(self.blocked, claim),
-            None => {
-                let mut fresh = Lock::new(*self.locks.allocator());
-                let answer = fresh.convert(self.blocked, claim)?;
-                self.locks.insert(lock, fresh)?;
-                Ok(answer)
-            }
-        }
+        let Some(found) = self.locks.get_mut(&lock) else {
+            return Err(NoMemory);
+        };
+        found.convert(self.blocked, Claim { node, mode })
     }
 
     /// A node, which holds the lock in a mode above this one and waits for nothing on it, keeps this mode only. A value that it

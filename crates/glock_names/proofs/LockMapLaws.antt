@@ -1,6 +1,7 @@
 -- What a map from locks has after a write.
 use Rattle.std.proofs.Common.{ℕ, ◌≡◌, ◌≢◌, Bool, true, false, List, [], ◌∷◌, Option, Some, None, cond, refl, sym, ap, ◌∙◌, inl, inr, ◌⊎◌}
 use Rattle.std.specs.Prelude.{◌==◌, ◌&&◌}
+use Rattle.std.specs.Map.{set_value}
 use Rattle.std.proofs.lemmas.Bool.Decides.{eqb_tells}
 use Rattle.glock_names.specs.declared.LockName.{LockName}
 use Rattle.glock_names.specs.LockMaps.{same_lock, at_lock, with_lock}
@@ -48,3 +49,24 @@ module _ {A : Type 0} where
       → (m : List (LockName × A)) (lock : LockName) (x : A) → f m lock x ≡ with_lock m lock x
   with_lock-unique f first rest [] lock x = first lock x
   with_lock-unique f first rest (e ∷ es) lock x = rest e es lock x ∙ ap (λ r. cond (same_lock lock e.0) ((e.0, x) ∷ es) (e ∷ r)) (with_lock-unique f first rest es lock x)
+
+  -- a write at the value that the map has at a lock
+  pub set_value-with_lock : (m : List (LockName × A)) (lock : LockName) (x w : A) → at_lock m lock ≡ Some x → set_value (same_lock lock) m w ≡ with_lock m lock w
+  set_value-with_lock [] lock x w e = absurd (let f : None ≡ Some x = e in cc)
+  set_value-with_lock (k ∷ es) lock x w e = by (same_lock lock k.0) refl (set_value-with_lock es lock x w)
+    where
+      by : (b : Bool) → same_lock lock k.0 ≡ b → (at_lock es lock ≡ Some x → set_value (same_lock lock) es w ≡ with_lock es lock w) → set_value (same_lock lock) (k ∷ es) w ≡ with_lock (k ∷ es) lock w
+      by true h rest = rw h refl
+      by false h rest = rw h (ap (λ (l : List (LockName × A)). k ∷ l) (rest (rw h at e)))
+
+  -- and a write of what is there
+  pub set_value-same : (m : List (LockName × A)) (lock : LockName) (x : A) → at_lock m lock ≡ Some x → set_value (same_lock lock) m x ≡ m
+  set_value-same [] lock x e = absurd (let f : None ≡ Some x = e in cc)
+  set_value-same (k ∷ es) lock x e = by (same_lock lock k.0) refl (set_value-same es lock x)
+    where
+      inside : {a b : A} → Some a ≡ Some b → a ≡ b
+      inside p = cc
+
+      by : (b : Bool) → same_lock lock k.0 ≡ b → (at_lock es lock ≡ Some x → set_value (same_lock lock) es x ≡ es) → set_value (same_lock lock) (k ∷ es) x ≡ k ∷ es
+      by true h rest = let s : Some k.1 ≡ Some x = rw h at e in rw h (ap (λ (v : A). (k.0, v) ∷ es) (sym (inside s)))
+      by false h rest = rw h (ap (λ (l : List (LockName × A)). k ∷ l) (rest (rw h at e)))

@@ -1,14 +1,19 @@
-use Rattle.std.proofs.Common.{ap, ◌∙◌, Option, Some}
-use Rattle.glock_names.specs.LockMaps.{with_lock}
-use Rattle.dlm_modes.specs.declared.Mode.{Mode}
+use Rattle.std.proofs.Common.{Some}
 use Rattle.dlm_holder.specs.declared.Holding.{Holding}
-use Rattle.dlm_holder.specs.Holdings.{Holdings}
-use Rattle.dlm_holder.proofs.Writing.{writes}
+use Rattle.dlm_holder.proofs.Writing.{absent, entries-of, put-back, put-new, unknown}
 use Rattle.dlm_holder.proofs.Holder.asked.Goals as goal
 
-pub returns-clause-ok : goal.returns-clause-ok
-returns-clause-ok c =
-    let asks = λ (k : Holding). let now : Holding = record k { wanted = Some c.args.mode } in now in
-    c.in_ok-insert.ensures.entries ∙ (writes c.self.inside.locks.entries c.args.lock (asks c.holding-holding.result)
-    ∙ (ap (λ (h : Holdings). with_lock h c.args.lock (asks c.holding-holding.result)) c.self.view_is
-    ∙ ap (λ (k : Holding). with_lock c.args.self.now c.args.lock (asks k)) c.holding-holding.ensures))
+pub returns-in-Some-clause-ok : goal.returns-in-Some-clause-ok
+returns-in-Some-clause-ok c =
+    put-back c.self.inside.locks.entries c.args.self.now _ c.args.lock c.get_mut.result c.in-Some.holding (λ (k : Holding). record k { wanted = Some c.args.mode })
+    c.self.view_is c.get_mut.ensures.value c.in-Some.is (c.get_mut.follows.holds _).0
+
+pub returns-in_ok-insert-in-None-clause-ok : goal.returns-in_ok-insert-in-None-clause-ok
+returns-in_ok-insert-in-None-clause-ok c =
+    let gone = absent c.self.inside.locks.entries c.args.lock c.get_mut.result c.get_mut.ensures.value c.in-None.is in
+    put-new c.self.inside.locks.entries c.args.self.now (c.get_mut.follows.lender-at-none).entries _ c.args.lock (λ (k : Holding). record k { wanted = Some c.args.mode })
+    c.self.view_is (entries-of _ _ c.get_mut.follows.holds-at-none) gone c.in_ok-insert-in-None.ensures.entries
+
+pub returns-in_err-insert-in-None-clause-again : goal.returns-in_err-insert-in-None-clause-again
+returns-in_err-insert-in-None-clause-again c known =
+    unknown c.self.inside.locks.entries c.args.self.now c.args.lock c.self.view_is (absent c.self.inside.locks.entries c.args.lock c.get_mut.result c.get_mut.ensures.value c.in-None.is) known

@@ -1,10 +1,9 @@
-use Rattle.std.proofs.Common.{ap, ◌∙◌, None}
-use Rattle.glock_names.specs.LockMaps.{with_lock}
+use Rattle.std.proofs.Common.{None}
 use Rattle.dlm_holder.specs.declared.Holding.{Holding}
-use Rattle.dlm_holder.proofs.Writing.{written}
+use Rattle.dlm_holder.proofs.Writing.{put-back}
 use Rattle.dlm_holder.proofs.Holder.drop_ask.Goals as goal
 
 pub returns : goal.returns
 returns c =
-    written c.insert.result _ _ _ c.args.lock _ c.self.view_is c.insert.ensures.entries c.insert.ensures.absent c.requires
-    ∙ ap (λ (k : Holding). with_lock c.args.self.now c.args.lock (record k { wanted = None })) c.holding-holding.ensures
+    put-back c.self.inside.locks.entries c.args.self.now _ c.args.lock c.get_mut.result c.in-Some.holding (λ (k : Holding). record k { wanted = None })
+    c.self.view_is c.get_mut.ensures.value c.in-Some.is (c.get_mut.follows.holds _).0

@@ -1,7 +1,7 @@
-use Rattle.std.proofs.Common.{◌≡◌, List, Option, Some, None, position, sym, ap, ◌∙◌}
+use Rattle.std.proofs.Common.{List, position, sym, ap, ◌∙◌}
 use Rattle.dlm_modes.specs.declared.Mode.TheVariants.{Nl}
 use Rattle.dlm_master.specs.declared.claims.Claim.{Claim}
-use Rattle.dlm_master.specs.Claims.{is_of, without_claim}
+use Rattle.dlm_master.specs.Claims.{is_of}
 use Rattle.dlm_master.proofs.ClaimLaws.{remove-without_claim, without_claim-none}
 use Rattle.dlm_master.proofs.claims.drop_claim.Goals as goal
 

@@ -1,6 +1,6 @@
-use Rattle.std.proofs.Common.{◌≡◌, Bool, List, Option, Some, None, position, cond, sym, ap, ◌∙◌}
+use Rattle.std.proofs.Common.{List, position, sym, ap, ◌∙◌}
 use Rattle.dlm_master.specs.declared.claims.Claim.{Claim}
-use Rattle.dlm_master.specs.Claims.{is_of, with_claim, without_claim}
+use Rattle.dlm_master.specs.Claims.{is_of}
 use Rattle.dlm_master.proofs.ClaimLaws.{set-with_claim, no-place}
 use Rattle.dlm_master.proofs.claims.lower_claim.Goals as goal
 

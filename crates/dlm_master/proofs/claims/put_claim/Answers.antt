@@ -1,4 +1,4 @@
-use Rattle.std.proofs.Common.{◌≡◌, List, Option, Some, None, position, sym, ap, ◌∙◌}
+use Rattle.std.proofs.Common.{List, position, sym, ap, ◌∙◌}
 use Rattle.dlm_master.specs.declared.claims.Claim.{Claim}
 use Rattle.dlm_master.specs.Claims.{is_of}
 use Rattle.dlm_master.proofs.ClaimLaws.{set-with_claim, push-with_claim}

@@ -1,21 +1,21 @@
-use Rattle.std.proofs.Common.{◌≡◌, List, Option, Some, None, IfOk, refl, sym, ap, ◌∙◌, subst}
+use Rattle.std.proofs.Common.{◌≡◌, IfOk, refl, sym, ap, ◌∙◌, subst}
 use Rattle.dlm_master.specs.declared.claims.Answer.{Answer}
 use Rattle.dlm_master.specs.LockState.{LockState}
 use Rattle.dlm_master.specs.Locks.{answer_by, convert_cause, converted}
 use Rattle.dlm_master.specs.Tables.{MasterState, lock_of, with_state, convert_waits, after_convert}
-use Rattle.dlm_master.proofs.TableLaws.{lent, absent, lock-found, lock-free, put-back, put-same, put-new, entries-of, on-ok, on-err}
+use Rattle.dlm_master.proofs.TableLaws.{lent, lock-found, put-back, put-same, on-ok, on-err}
 use Rattle.dlm_master.proofs.master.Master.convert.Goals as goal
 
-pub returns-in-Some-clause-answer : goal.returns-in-Some-clause-answer
-returns-in-Some-clause-answer c =
+pub returns-clause-answer : goal.returns-clause-answer
+returns-clause-answer c =
     let i = c.self.inside in
     let there = lent i.locks.entries c.args.lock c.get_mut.result c.in-Some.found c.get_mut.ensures.value c.in-Some.is in
     let P : LockState → Type 0 = λ l. IfOk c.convert.result (λ (a : Answer). a ≡ answer_by (convert_cause i.blocked.rebuild i.blocked.waiting l c.args.node c.args.mode) l) in
     let Q : MasterState → Type 0 = λ m. IfOk c.convert.result (λ (a : Answer). a ≡ answer_by (convert_waits m c.args.node c.args.lock c.args.mode) (lock_of m c.args.lock)) in
     subst Q c.self.view_is (subst P (sym (lock-found i.locks.entries c.args.lock c.in-Some.found.now there)) c.convert.ensures.answer)
 
-pub returns-in-Some-clause-ok : goal.returns-in-Some-clause-ok
-returns-in-Some-clause-ok c =
+pub returns-clause-ok : goal.returns-clause-ok
+returns-clause-ok c =
     let i = c.self.inside in
     let m : MasterState = record { generation = i.generation; rebuild = i.blocked.rebuild; waiting = i.blocked.waiting; table = i.locks.entries } in
     let there = lent i.locks.entries c.args.lock c.get_mut.result c.in-Some.found c.get_mut.ensures.value c.in-Some.is in
@@ -27,8 +27,8 @@ returns-in-Some-clause-ok c =
     ∙ ap (λ (n : MasterState). after_convert n c.args.node c.args.lock c.args.mode) c.self.view_is))
     c.convert.ensures.ok
 
-pub returns-in-Some-clause-err : goal.returns-in-Some-clause-err
-returns-in-Some-clause-err c =
+pub returns-clause-err : goal.returns-clause-err
+returns-clause-err c =
     let i = c.self.inside in
     let m : MasterState = record { generation = i.generation; rebuild = i.blocked.rebuild; waiting = i.blocked.waiting; table = i.locks.entries } in
     let there = lent i.locks.entries c.args.lock c.get_mut.result c.in-Some.found c.get_mut.ensures.value c.in-Some.is in
@@ -36,13 +36,3 @@ returns-in-Some-clause-err c =
     (λ (e : c.convert.new.self ≡ c.in-Some.found.now).
     put-same m c.args.self.now c.args.lock c.in-Some.found.now c.convert.new.self (c.get_mut.follows.lender c.convert.new.self).entries c.self.view_is there e (c.get_mut.follows.holds c.convert.new.self).0)
     c.convert.ensures.err
-
-pub returns-in_ok-insert-in-None-clause-ok : goal.returns-in_ok-insert-in-None-clause-ok
-returns-in_ok-insert-in-None-clause-ok c =
-    let i = c.self.inside in
-    let m : MasterState = record { generation = i.generation; rebuild = i.blocked.rebuild; waiting = i.blocked.waiting; table = i.locks.entries } in
-    let gone = absent i.locks.entries c.args.lock c.get_mut.result c.get_mut.ensures.value c.in-None.is in
-    let made = λ (l : LockState). converted (convert_cause i.blocked.rebuild i.blocked.waiting l c.args.node c.args.mode) l c.args.node c.args.mode in
-    put-new m c.args.lock c.convert-in-None.new.self c.get_mut.follows.lender-at-none.entries c.insert.new.self.entries (entries-of _ _ c.get_mut.follows.holds-at-none) c.in_ok-insert-in-None.ensures.entries
-    ∙ (ap (with_state m c.args.lock) (c.in_ok-answer-in-None.ensures.ok ∙ ap made (c.new-fresh.ensures ∙ sym (lock-free i.locks.entries c.args.lock gone)))
-    ∙ ap (λ (n : MasterState). after_convert n c.args.node c.args.lock c.args.mode) c.self.view_is)
