@@ -3,10 +3,11 @@ use Rattle.std.proofs.Common.{ℕ, ◌≡◌, ◌||◌, Bool, true, false, List,
 use Rattle.std.specs.Prelude.{◌==◌, not, fold, is_some}
 use Rattle.std.specs.List.{AllByRecursion}
 use Rattle.dlm_modes.specs.declared.Mode.{Mode}
+use Rattle.dlm_modes.specs.declared.Mode.TheVariants.{Nl}
 use Rattle.dlm_modes.specs.declared.ValueBlock.{ValueBlock}
 use Rattle.dlm_master.specs.declared.claims.Claim.{Claim}
 use Rattle.dlm_master.specs.declared.claims.Cause.{Cause}
-use Rattle.dlm_master.specs.Claims.{is_of, is_null, mode_of_node, with_claim, without_claim, now_holding, Absent, OneEach}
+use Rattle.dlm_master.specs.Claims.{is_of, is_null, mode_of_node, mode_at, with_claim, without_claim, now_holding, Absent, OneEach, NeverNull}
 use Rattle.dlm_master.specs.LockState.{LockState}
 use Rattle.dlm_master.specs.Locks.{claim, value_after, is_waiting, request_cause, convert_cause, requested, converted, conversion_turns, all_turns, after_grants}
 use Rattle.dlm_master.specs.Tables.{holds_covered}
@@ -20,10 +21,7 @@ no-way e = absurd (let f : false ≡ true = e in cc)
 
 -- ---- nobody holds the lock in Nl
 
-abbrev NeverNull : List Claim → Type 0
-NeverNull cs = AllByRecursion (λ c. is_null c.mode ≡ false) cs
-
-null-now : (cs : List Claim) (node : ℕ) (mode : Mode) → NeverNull cs → NeverNull (now_holding cs node mode)
+pub null-now : (cs : List Claim) (node : ℕ) (mode : Mode) → NeverNull cs → NeverNull (now_holding cs node mode)
 null-now cs node mode all = by (is_null mode) refl
   where
     by : (b : Bool) → is_null mode ≡ b → NeverNull (cond b (without_claim cs node) (with_claim cs (claim node mode)))
@@ -33,6 +31,14 @@ null-now cs node mode all = by (is_null mode) refl
 null-held : (held given : List Claim) → NeverNull held → NeverNull (fold (λ cs w. now_holding cs w.node w.mode) held given)
 null-held held [] all = all
 null-held held (v ∷ given) all = null-held (now_holding held v.node v.mode) given (null-now held v.node v.mode all)
+
+pub null-none : (cs : List Claim) (node : ℕ) → NeverNull cs → mode_at cs node ≡ Nl → mode_of_node cs node ≡ None
+null-none [] node all e = refl
+null-none (x ∷ xs) node all e = by (is_of node x) refl (null-none xs node all.1)
+  where
+    by : (b : Bool) → is_of node x ≡ b → (mode_at xs node ≡ Nl → mode_of_node xs node ≡ None) → mode_of_node (x ∷ xs) node ≡ None
+    by true h rest = no-way (sym all.0 ∙ ap is_null (let here : x.mode ≡ Nl = rw h at e in here))
+    by false h rest = rw h (rest (rw h at e))
 
 -- ---- a node that waits for nothing
 

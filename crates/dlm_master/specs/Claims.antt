@@ -52,6 +52,10 @@ abbrev pub OneEach : List Claim → Type 0
 OneEach [] = ⊤
 OneEach (c ∷ cs) = Absent c.node cs × OneEach cs
 
+-- nobody holds it in Nl
+abbrev pub NeverNull : List Claim → Type 0
+NeverNull cs = AllByRecursion (λ c. is_null c.mode ≡ false) cs
+
 -- whichever two nodes hold the lock, their modes go together
 abbrev pub Together : List Claim → Type 0
 Together [] = ⊤

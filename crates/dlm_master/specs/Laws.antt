@@ -7,7 +7,7 @@ use Rattle.fencing.specs.NodeSets.{has}
 use Rattle.dlm_master.specs.declared.claims.Claim.{Claim}
 use Rattle.dlm_master.specs.declared.claims.Cause.{Cause}
 use Rattle.dlm_master.specs.declared.claims.Cause.TheVariants.{Held, Behind, Rebuild, Slot}
-use Rattle.dlm_master.specs.Claims.{is_of, is_null, mode_of_node, mode_at, Absent, OneEach, Together}
+use Rattle.dlm_master.specs.Claims.{is_of, mode_of_node, mode_at, Absent, OneEach, NeverNull, Together}
 use Rattle.dlm_master.specs.LockState.{LockState}
 use Rattle.dlm_master.specs.Locks.{free_lock, claim, cause_of, all_turns, after_grants, callback_to}
 use Rattle.dlm_master.specs.Tables.{holds_covered}
@@ -42,7 +42,7 @@ CauseIsSo = (rebuild : Bool) (waiting : ℕ) (held conversions requests : List C
 -- the lock holds none
 pub record IsSound (l : LockState) : Type 0 where
   pub held_once : OneEach l.held
-  pub never_null : AllByRecursion (λ c. is_null c.mode ≡ false) l.held
+  pub never_null : NeverNull l.held
   pub waits_once : OneEach (l.conversions ++ l.requests)
   pub raises : AllByRecursion (λ w. holds_covered (mode_of_node l.held w.node) w.mode ≡ true) l.conversions
   pub holds_none : AllByRecursion (λ w. mode_of_node l.held w.node ≡ None) l.requests

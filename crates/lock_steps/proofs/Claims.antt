@@ -2,62 +2,27 @@
 use Rattle.std.proofs.Common.{ℕ, ◌≡◌, inl, inr, Bool, true, false, Option, None, Some, List, [], ◌∷◌, ◌++◌, refl, sym, ap, ◌∙◌, subst}
 use Rattle.std.specs.Prelude.{◌==◌, ◌&&◌, not, option_map, unwrap_or, is_none}
 use Rattle.std.specs.List.{AllByRecursion}
-use Rattle.std.proofs.lemmas.Bool.{cond-true, cond-false}
 use Rattle.std.proofs.lemmas.Bool.Decides.{eqb_tells}
 use Rattle.dlm_modes.specs.declared.Mode.{Mode}
-use Rattle.dlm_modes.specs.declared.Mode.TheVariants.{Nl, Cr, Cw, Pr, Pw, Ex}
+use Rattle.dlm_modes.specs.declared.Mode.TheVariants.{Nl}
 use Rattle.dlm_modes.specs.Modes.{go_together}
 use Rattle.dlm_modes.proofs.ModeLaws.{together-turned}
 use Rattle.fencing.specs.NodeSets.{least_of}
 use Rattle.dlm_master.specs.declared.claims.Claim.{Claim}
 use Rattle.dlm_master.specs.declared.claims.Cause.{Cause}
 use Rattle.dlm_master.specs.declared.claims.Cause.TheVariants.{Held, Rebuild, Slot}
-use Rattle.dlm_master.specs.Claims.{is_of, mode_of_node, with_claim, now_holding, stands_in_way, in_way}
+use Rattle.dlm_master.specs.Claims.{is_of, mode_of_node, mode_at, now_holding, stands_in_way, in_way, OneEach}
 use Rattle.dlm_master.specs.Locks.{or_else, cause_of}
-use Rattle.dlm_rebuild.specs.Runs.{told}
-use Rattle.dlm_rebuild.proofs.RunLaws.{Alone, mode-with, mode-now, alone-with, alone-now}
-use Rattle.lock_steps.specs.Ties.{OneEach}
+use Rattle.dlm_master.proofs.ClaimLaws.{absent-mode, mode-here, mode-away}
 use Rattle.lock_steps.proofs.Basics.{true-false, eqb-self, eqb-other}
 
--- ---- one claim a node
-
-alone : (cs : List Claim) → OneEach cs → Alone cs
-alone [] one = tt
-alone (c ∷ cs) one = (one.0, alone cs one.1)
-
-one-each : (cs : List Claim) → Alone cs → OneEach cs
-one-each [] one = tt
-one-each (c ∷ cs) one = (one.0, one-each cs one.1)
-
-pub one-with : (cs : List Claim) (c : Claim) → OneEach cs → OneEach (with_claim cs c)
-one-with cs c one = one-each (with_claim cs c) (alone-with cs c (alone cs one))
-
-pub one-now : (cs : List Claim) (k : ℕ) (mode : Mode) → OneEach cs → OneEach (now_holding cs k mode)
-one-now cs k mode one = one-each (now_holding cs k mode) (alone-now cs k mode (alone cs one))
-
--- what a node holds, Nl where it has no claim
-abbrev pub mode_at : List Claim → ℕ → Mode
-mode_at cs i = unwrap_or (mode_of_node cs i) Nl
-
-pub with-here : (cs : List Claim) (c : Claim) → mode_at (with_claim cs c) c.node ≡ c.mode
-with-here cs c = ap (λ (o : Option Mode). unwrap_or o Nl) (mode-with cs c c.node ∙ cond-true _ _ _ (eqb-self c.node))
-
-pub with-away : (cs : List Claim) (c : Claim) (i : ℕ) → (i ≡ c.node → ⊥) → mode_at (with_claim cs c) i ≡ mode_at cs i
-with-away cs c i ne = ap (λ (o : Option Mode). unwrap_or o Nl) (mode-with cs c i ∙ cond-false _ _ _ (eqb-other c.node i (λ e. ne (sym e))))
-
-told-is : (mode : Mode) → unwrap_or (told mode) Nl ≡ mode
-told-is Nl = refl
-told-is Cr = refl
-told-is Cw = refl
-told-is Pr = refl
-told-is Pw = refl
-told-is Ex = refl
+-- ---- what a node holds
 
 pub now-here : (cs : List Claim) (k : ℕ) (mode : Mode) → OneEach cs → mode_at (now_holding cs k mode) k ≡ mode
-now-here cs k mode one = ap (λ (o : Option Mode). unwrap_or o Nl) (mode-now cs k mode k (alone cs one) ∙ cond-true _ _ _ (eqb-self k)) ∙ told-is mode
+now-here cs k mode one = mode-here cs k mode one
 
-pub now-away : (cs : List Claim) (k : ℕ) (mode : Mode) (i : ℕ) → OneEach cs → (i ≡ k → ⊥) → mode_at (now_holding cs k mode) i ≡ mode_at cs i
-now-away cs k mode i one ne = ap (λ (o : Option Mode). unwrap_or o Nl) (mode-now cs k mode i (alone cs one) ∙ cond-false _ _ _ (eqb-other k i (λ e. ne (sym e))))
+pub now-away : (cs : List Claim) (k : ℕ) (mode : Mode) (i : ℕ) → (i ≡ k → ⊥) → mode_at (now_holding cs k mode) i ≡ mode_at cs i
+now-away cs k mode i ne = ap (λ (o : Option Mode). unwrap_or o Nl) (mode-away cs k mode i ne)
 
 -- ---- waiters
 
@@ -82,12 +47,8 @@ among-away (x ∷ xs) ys w i ne = by (x.node == i) refl (among-away xs ys w i ne
     by false e rest = rw e rest
 
 -- and where it is gone, its node has none
-absent : (cs : List Claim) (n : ℕ) → AllByRecursion (λ d. is_of n d ≡ false) cs → mode_of_node cs n ≡ None
-absent [] n all = refl
-absent (x ∷ xs) n all = rw all.0 (absent xs n all.1)
-
 pub among-gone : (xs ys : List Claim) (w : Claim) → OneEach (xs ++ w ∷ ys) → mode_of_node (xs ++ ys) w.node ≡ None
-among-gone [] ys w one = absent ys w.node one.0
+among-gone [] ys w one = absent-mode ys w.node one.0
 among-gone (x ∷ xs) ys w one = rw (not-first xs one.0) (among-gone xs ys w one.1)
   where
     not-first : (xs : List Claim) → AllByRecursion (λ d. is_of x.node d ≡ false) (xs ++ w ∷ ys) → (x.node == w.node) ≡ false

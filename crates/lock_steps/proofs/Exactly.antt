@@ -1,12 +1,17 @@
 -- What a table has of a node once all that is under way has come, over the steps of a lock.
 use Rattle.std.proofs.Common.{ℕ, ◌≡◌, inl, inr, Bool, true, false, Option, None, Some, is_some, List, [], ◌∷◌, ◌++◌, map, refl, sym, ap, ◌∙◌, subst}
-use Rattle.std.specs.Prelude.{option_map}
+use Rattle.std.specs.Prelude.{◌||◌, option_map}
 use Rattle.std.proofs.lemmas.Bool.{cases_eq, cases_Bool}
 use Rattle.glock_names.specs.declared.LockName.{LockName}
 use Rattle.glock_names.specs.States.{mode_for}
 use Rattle.dlm_modes.specs.declared.Mode.{Mode}
 use Rattle.dlm_modes.specs.Modes.{is_at_least}
 use Rattle.mail_queues.specs.declared.Body.TheVariants.{Request, Down}
+use Rattle.dlm_master.specs.declared.claims.Claim.{Claim}
+use Rattle.dlm_master.specs.Claims.{mode_of_node}
+use Rattle.dlm_master.specs.LockState.{LockState}
+use Rattle.dlm_master.specs.Locks.{is_waiting}
+use Rattle.dlm_master.proofs.SoundLaws.{null-none}
 use Rattle.lock_laws.specs.Lock.{State, Un, Node, Report, End, Lowered, Asked, eff, leq, has_report, has_down, has_ask, Ok, Fine, Sound, at, Move, Asks, HearsReport, HearsEnd, HearsDown, HearsAsk, Receives, Drops, Lowers, TakesView, Stops, IsRecovered, Joins, anew, Step, Moves, Changes, Grants, starting}
 use Rattle.lock_laws.specs.Lock as machine
 use Rattle.lock_laws.proofs.Keeping.{starts}
@@ -212,6 +217,19 @@ ends lock p q b calls =
       tied = r.4;
     }
 
+-- who has lowered the lock wants nothing of it
+wants-none : (n : Node) → Fine n → has_down (n.up) ≡ true → n.wants ≡ None
+wants-none n f down = by (n.wants) refl
+  where
+    by : (o : Option State) → n.wants ≡ o → n.wants ≡ None
+    by None e = e
+    by (Some s) e = true-false down (f.wanting s e).0
+
+-- where nobody converts, who has no request waits for nothing
+waits-not : (t : LockState) (k : ℕ) → t.conversions ≡ [] → mode_of_node t.requests k ≡ None → is_waiting t k ≡ false
+waits-not t k none e =
+    ap (λ (cs : List Claim). is_some (mode_of_node cs k) || is_some (mode_of_node t.requests k)) none ∙ ap is_some e
+
 pub tables-exact : TablesAreExact
 tables-exact lock p q k b calls x member settled' taken none =
     let e = ends lock p q b calls in
@@ -233,8 +251,10 @@ requests-find lock p q k mode rest b calls x hand =
     let asks : has_ask (n.up) ≡ true = ap has_ask up in
     let order : machine.InOrder (Asked a.0 ∷ c.1) = subst machine.InOrder up ((e.sound).fine k).in_order in
     let nothing : settled (n.up) (n.table) ≡ Un = (e.exact k).asking asks in
-    let table : n.table ≡ Un = sym (settled-same c.1 (n.table) order.0 order.1) ∙ (sym (ap (λ (u : List machine.Message). settled u (n.table)) up) ∙ nothing) in
-    (f.table ∙ ap mode_for table, f.wants ∙ ap (option_map mode_for) (((e.sound).fine k).asking asks).2)
+    let table : n.table ≡ Un = sym (settled-same c.1 (n.table) order.0 order.1) ∙ (sym (ap (λ (u : List machine.Message). settled u (n.table)) up) ∙ nothing) in (
+      null-none (present q lock).held k (e.tied).table.never_null (f.table ∙ ap mode_for table),
+      waits-not (present q lock) k (e.tied).table.never_converted (f.wants ∙ ap (option_map mode_for) (((e.sound).fine k).asking asks).2),
+    )
 
 pub lowers-lower : LowersOnlyLower
 lowers-lower lock p q k mode value rest b calls x hand =
@@ -246,5 +266,7 @@ lowers-lower lock p q k mode value rest b calls x hand =
     let a = is-down c.0 mode c.3 in
     let up : n.up ≡ Lowered a.0 ∷ c.1 = c.2 ∙ ap (λ (m : machine.Message). m ∷ c.1) a.1 in
     let taken : q.taken k ≡ true = has-taken lock q (present q lock) q.post e.state k (Down lock mode value) (ties.Lowers mode) rest same e.sound x hand (says-down lock mode value) refl in
-    let ok : Ok (eff n) (n.down) (n.table) (Lowered a.0 ∷ c.1) = subst (Ok (eff n) (n.down) (n.table)) up (((e.sound).fine k).ok (sym f.taken ∙ taken)) in
-    ap (λ (t : Mode). is_at_least t mode) f.table ∙ (ap (is_at_least (mode_for (n.table))) a.2 ∙ (sym (cover-as-modes a.0 (n.table)) ∙ ok.0))
+    let ok : Ok (eff n) (n.down) (n.table) (Lowered a.0 ∷ c.1) = subst (Ok (eff n) (n.down) (n.table)) up (((e.sound).fine k).ok (sym f.taken ∙ taken)) in (
+      ap (λ (t : Mode). is_at_least t mode) f.table ∙ (ap (is_at_least (mode_for (n.table))) a.2 ∙ (sym (cover-as-modes a.0 (n.table)) ∙ ok.0)),
+      waits-not (present q lock) k (e.tied).table.never_converted (f.wants ∙ ap (option_map mode_for) (wants-none n ((e.sound).fine k) (ap has_down up))),
+    )

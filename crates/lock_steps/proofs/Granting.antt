@@ -81,7 +81,7 @@ table-waits lock p _ l k tied (calls.Requested j mode rest x hand new idle) none
         let free = no-cause p.table.master.rebuild p.table.master.waiting (present p lock).held (present p lock).conversions (present p lock).requests j mode e in
         may-grant lock p l tied free.0 (least-none p.table.master.waiting free.1)
     by (Some cause) e some = absurd (some (left-empty (in_view p.membership.generation (grants lock)) p.post j p.master _ rest p.master k hand none))
-table-waits lock p _ l k tied (calls.Lowered j mode said kept rest x hand above) none some =
+table-waits lock p _ l k tied (calls.Lowered j mode said kept rest x hand above idle) none some =
     absurd (some (left-empty (in_view p.membership.generation (grants lock)) p.post j p.master _ rest p.master k hand none))
 table-waits lock p _ l k tied (calls.LoweredAlready j mode said rest x hand already) none some =
     absurd (some (left-empty (in_view p.membership.generation (grants lock)) p.post j p.master _ rest p.master k hand none))
@@ -98,8 +98,8 @@ table-waits lock p _ l k tied calls.GrantsNext none some = by (is_blocked p.tabl
     by false e some =
         let parts = or_parts p.table.master.rebuild (not (p.table.master.waiting == 0)) e in
         may-grant lock p l tied parts.0 (λ i x. ap (λ (n : ℕ). has n i) (not-zero p.table.master.waiting parts.1) ∙ zero-has i)
-table-waits lock p _ l k tied (calls.Completes waiting ended told) none some = absurd (some none)
-table-waits lock p _ l k tied (calls.Blocks waiting done told) none some = absurd (some none)
+table-waits lock p _ l k tied (calls.Completes ended told) none some = absurd (some none)
+table-waits lock p _ l k tied (calls.Blocks waiting told) none some = absurd (some none)
 
 call-waits : (lock : LockName) (p q : Parts) (l : ℕ → Node) (k : ℕ) → Tied lock p l → Call lock p q → k ≤ 8 → (sight lock p k).down ≡ [] → (sight lock q k).down ≢ [] → MayGrant p
 call-waits lock p _ l k tied (OfMail post call) x none some =

@@ -81,7 +81,7 @@ begins-tied lock p b = record {
     table = refl;
   };
   master = b.master;
-  table = subst IsTable (sym b.table) (record { never_converted = refl; held_once = tt; asked_once = tt; nodes = tt });
+  table = subst IsTable (sym b.table) (record { never_converted = refl; held_once = tt; never_null = tt; asked_once = tt; nodes = tt });
   done = λ e k x m. b.ended k x ∙ (sym (b.members k x) ∙ m);
   told = λ e. b.told;
   unheard = λ k x e. ap (λ (t : LockState). unwrap_or (mode_of_node t.held k) Nl) b.table;

@@ -268,7 +268,7 @@ member-steps lock p _ l (Changes master x is) sound tied = record {
     });
     others = λ i y. (let o = tied.others i y in record { member = o.member; waits = o.waits; roll = o.member; table = refl });
     master = x;
-    table = record { never_converted = refl; held_once = tt; asked_once = tt; nodes = tt };
+    table = record { never_converted = refl; held_once = tt; never_null = tt; asked_once = tt; nodes = tt };
     done = λ e. true-false refl e;
     told = λ e. true-false refl e;
     unheard = λ i y e. refl;

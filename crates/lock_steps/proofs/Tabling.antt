@@ -16,7 +16,9 @@ use Rattle.mail_queues.specs.declared.Message.{Message}
 use Rattle.mail_queues.specs.declared.Body.{Body}
 use Rattle.mail_queues.specs.declared.Body.TheVariants.{Request, Down, Grant, Report}
 use Rattle.dlm_master.specs.declared.claims.Claim.{Claim}
-use Rattle.dlm_master.specs.Claims.{mode_of_node, with_claim, now_holding, in_way}
+use Rattle.dlm_master.specs.Claims.{mode_of_node, mode_at, now_holding, in_way, OneEach, NeverNull}
+use Rattle.dlm_master.proofs.ClaimLaws.{one-now}
+use Rattle.dlm_master.proofs.SoundLaws.{null-now}
 use Rattle.dlm_master.specs.LockState.{LockState}
 use Rattle.dlm_master.specs.Locks.{claim}
 use Rattle.dlm_master.specs.Tables.{lock_of}
@@ -24,14 +26,14 @@ use Rattle.dlm_rebuild.specs.Rebuilding.{RebuildState}
 use Rattle.lock_laws.specs.Lock.{State, Un, Node, eff, at, goes, has_ask, Sound, Step, Moves, Grants, Move}
 use Rattle.lock_laws.specs.Lock as machine
 use Rattle.lock_steps.specs.Parts.{Parts, Post, way, now_says, with_left}
-use Rattle.lock_steps.specs.Ties.{Tell, tell_of, Sight, sight, Fits, IsNobody, OneEach, IsTable, Tied, in_view, tells, grants, present}
+use Rattle.lock_steps.specs.Ties.{Tell, tell_of, Sight, sight, Fits, IsNobody, IsTable, Tied, in_view, tells, grants, present}
 use Rattle.lock_steps.specs.Ties as ties
 use Rattle.lock_steps.specs.Calls.{grant_letter}
 use Rattle.lock_steps.proofs.Modes.{go-as-modes}
 use Rattle.lock_steps.proofs.Basics.{up-to, true-false, same-self, at-here, at-away}
 use Rattle.lock_steps.proofs.Ways.{letters-say, letters-mute, letters-away, letters-all, left-says, left-mute, left-away, left-all}
 use Rattle.lock_steps.proofs.Tying.{now-says, says-one, says-none}
-use Rattle.lock_steps.proofs.Claims.{mode_at, one-with, one-now, with-here, with-away, now-here, now-away, among-here, among-away, among-gone, all-less, all-at, all-more, one-less, one-more, way-goes}
+use Rattle.lock_steps.proofs.Claims.{now-here, now-away, among-here, among-away, among-gone, all-less, all-at, all-more, one-less, one-more, way-goes}
 
 -- what is seen of node i where this is the lock in the table and this is on its way
 abbrev pub sight_of : LockName → Parts → LockState → Post → ℕ → Sight
@@ -196,6 +198,7 @@ hears-ask lock p t post l k mode rest tied sound x hand none =
           (record {
             never_converted = (tied.table).never_converted;
             held_once = (tied.table).held_once;
+            never_null = (tied.table).never_null;
             asked_once = one;
             nodes = all-more (λ c. c.node ≤ 8) t.requests (claim k mode) (tied.table).nodes x;
           })
@@ -212,9 +215,9 @@ pub now-has : (lock : LockName) (p : Parts) (t : LockState) (held : List Claim) 
     → TiedOf lock p t post l → Sound l → k ≤ 8 → post.took k p.master ≡ now_says p b ∷ rest → tells lock b ≡ Some tell → grants lock b ≡ None
     → filter_map (in_view p.membership.generation (tells lock)) (way (with_left post k p.master rest) k p.master) ≡ map tell_of q
     → Move (l k) (record (l k) { table = s; up = q })
-    → mode_at held k ≡ mode_for s → ((i : ℕ) → (i ≡ k → ⊥) → mode_at held i ≡ mode_at t.held i) → OneEach held
+    → mode_at held k ≡ mode_for s → ((i : ℕ) → (i ≡ k → ⊥) → mode_at held i ≡ mode_at t.held i) → OneEach held → NeverNull held
     → Reaches lock p (record t { held = held; value = value }) (with_left post k p.master rest) l
-now-has lock p t held value post l k s q b tell rest tied sound x hand said mute ups move here away one =
+now-has lock p t held value post l k s q b tell rest tied sound x hand said mute ups move here away one null =
     let f = tied.nodes k x in
     let n : Node = record (l k) { table = s; up = q } in
     record {
@@ -238,6 +241,7 @@ now-has lock p t held value post l k s q b tell rest tied sound x hand said mute
           (record {
             never_converted = (tied.table).never_converted;
             held_once = one;
+            never_null = null;
             asked_once = (tied.table).asked_once;
             nodes = (tied.table).nodes;
           })
@@ -259,8 +263,8 @@ hears-down lock p t value post l k mode bytes rest tied sound x hand =
     subst (λ (m : Mode). Reaches lock p (record t { held = now_holding t.held k m; value = value }) (with_left post k p.master rest) l) (sym a.2)
     (now-has lock p t (now_holding t.held k (mode_for a.0)) value post l k a.0 c.1 (Down lock mode bytes) (ties.Lowers mode) rest tied sound x hand said refl c.4
     (machine.HearsDown a.0 c.1 (c.2 ∙ ap (λ (m : machine.Message). m ∷ c.1) a.1))
-    (now-here t.held k (mode_for a.0) (tied.table).held_once) (λ i ne. now-away t.held k (mode_for a.0) i (tied.table).held_once ne)
-    (one-now t.held k (mode_for a.0) (tied.table).held_once))
+    (now-here t.held k (mode_for a.0) (tied.table).held_once) (λ i ne. now-away t.held k (mode_for a.0) i ne)
+    (one-now t.held k (mode_for a.0) (tied.table).held_once) (null-now t.held k (mode_for a.0) (tied.table).never_null))
 
 -- the same where the table has it already
 pub hears-no-change : (lock : LockName) (p : Parts) (t : LockState) (post : Post) (l : ℕ → Node) (k : ℕ) (mode : Mode) (said : Option (List ℕ)) (rest : List Message)
@@ -271,7 +275,7 @@ hears-no-change lock p t post l k mode bytes rest tied sound x hand already =
     let c = first lock p t post l k (Down lock mode bytes) (ties.Lowers mode) rest tied sound x hand said refl in
     let a = is-down c.0 mode c.3 in
     now-has lock p t t.held t.value post l k a.0 c.1 (Down lock mode bytes) (ties.Lowers mode) rest tied sound x hand said refl c.4
-    (machine.HearsDown a.0 c.1 (c.2 ∙ ap (λ (m : machine.Message). m ∷ c.1) a.1)) (already ∙ a.2) (λ i ne. refl) (tied.table).held_once
+    (machine.HearsDown a.0 c.1 (c.2 ∙ ap (λ (m : machine.Message). m ∷ c.1) a.1)) (already ∙ a.2) (λ i ne. refl) (tied.table).held_once (tied.table).never_null
 
 pub hears-report : (lock : LockName) (p : Parts) (t : LockState) (post : Post) (l : ℕ → Node) (k : ℕ) (mode : Mode) (value : ValueBlock) (rest : List Message)
     → TiedOf lock p t post l → Sound l → k ≤ 8 → post.took k p.master ≡ now_says p (Report lock mode value) ∷ rest
@@ -283,8 +287,8 @@ hears-report lock p t post l k mode value rest tied sound x hand =
     subst (λ (m : Mode). Reaches lock p (record t { held = now_holding t.held k m }) (with_left post k p.master rest) l) (sym a.2)
     (now-has lock p t (now_holding t.held k (mode_for a.0)) t.value post l k a.0 c.1 (Report lock mode value) (ties.Reports mode) rest tied sound x hand said refl c.4
     (machine.HearsReport a.0 c.1 (c.2 ∙ ap (λ (m : machine.Message). m ∷ c.1) a.1))
-    (now-here t.held k (mode_for a.0) (tied.table).held_once) (λ i ne. now-away t.held k (mode_for a.0) i (tied.table).held_once ne)
-    (one-now t.held k (mode_for a.0) (tied.table).held_once))
+    (now-here t.held k (mode_for a.0) (tied.table).held_once) (λ i ne. now-away t.held k (mode_for a.0) i ne)
+    (one-now t.held k (mode_for a.0) (tied.table).held_once) (null-now t.held k (mode_for a.0) (tied.table).never_null))
 
 -- ---- a grant
 
@@ -299,7 +303,7 @@ no-state o e = ap (λ (x : Option State). option_to_list (option_map mode_for x)
 pub is-granted : (lock : LockName) (p : Parts) (t : LockState) (post : Post) (l : ℕ → Node) (before after : List Claim) (w : Claim)
     → p.master ≤ 8 → TiedOf lock p t post l → Sound l → t.requests ≡ before ++ w ∷ after → in_way t.held w.node w.mode ≡ None
     → ((i : ℕ) → (l i).roll ≡ true → (l i).heard ≡ true) → ((i : ℕ) → (l i).waits ≡ false)
-    → Reaches lock p (record t { held = with_claim t.held w; requests = before ++ after }) (grant_letter p lock post w) l
+    → Reaches lock p (record t { held = now_holding t.held w.node w.mode; requests = before ++ after }) (grant_letter p lock post w) l
 is-granted lock p t post l before after w m8 tied sound is free ready runs =
     let k : ℕ = w.node in
     let one : OneEach (before ++ w ∷ after) = subst OneEach is (tied.table).asked_once in
@@ -325,7 +329,7 @@ is-granted lock p t post l before after w m8 tied sound is free ready runs =
     record {
       state = at l k n;
       step = Grants k s ready runs want.1 (λ i ne. goes-with i ne s want.2);
-      tied = one-of lock p t (record t { held = with_claim t.held w; requests = before ++ after }) post (grant_letter p lock post w) l k n tied x
+      tied = one-of lock p t (record t { held = now_holding t.held w.node w.mode; requests = before ++ after }) post (grant_letter p lock post w) l k n tied x
           (record {
             member = f.member;
             fresh = f.fresh;
@@ -334,7 +338,7 @@ is-granted lock p t post l before after w m8 tied sound is free ready runs =
             taken = f.taken;
             mode = f.mode;
             asked = f.asked;
-            table = with-here t.held w ∙ want.2;
+            table = now-here t.held k w.mode (tied.table).held_once ∙ want.2;
             heard = f.heard;
             wants = among-gone before after w one;
             up = letters-mute (in_view p.membership.generation (tells lock)) post p.master k letter k p.master mute ∙ f.up;
@@ -344,12 +348,13 @@ is-granted lock p t post l before after w m8 tied sound is free ready runs =
           })
           (record {
             never_converted = (tied.table).never_converted;
-            held_once = one-with t.held w (tied.table).held_once;
+            held_once = one-now t.held k w.mode (tied.table).held_once;
+            never_null = null-now t.held k w.mode (tied.table).never_null;
             asked_once = one-less before after w one;
             nodes = all-less (λ c. c.node ≤ 8) before after w all8;
           })
           (inr taken)
-          (λ i ne. with-away t.held w i ne)
+          (λ i ne. now-away t.held k w.mode i ne)
           (λ i ne. sym (ap (λ (cs : List Claim). mode_of_node cs i) is ∙ among-away before after w i ne))
           (λ i y ne. letters-mute (in_view p.membership.generation (tells lock)) post p.master k letter i p.master mute)
           (λ i y ne. ap (filter_map (in_view p.membership.generation (grants lock))) (letters-away post p.master k letter p.master i (λ a b. ne b)))

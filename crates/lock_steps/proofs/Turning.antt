@@ -17,7 +17,7 @@ use Rattle.mail_queues.specs.declared.Message.{Message}
 use Rattle.mail_queues.specs.declared.Body.TheVariants.{End}
 use Rattle.dlm_master.specs.declared.claims.Claim.{Claim}
 use Rattle.dlm_master.specs.declared.claims.Cause.{Cause}
-use Rattle.dlm_master.specs.Claims.{mode_of_node, with_claim, now_holding, in_way}
+use Rattle.dlm_master.specs.Claims.{mode_of_node, now_holding, in_way}
 use Rattle.dlm_master.specs.LockState.{LockState, TurnState}
 use Rattle.dlm_master.specs.Locks.{free_lock, claim, requested, value_after, is_free, turn, all_turns, after_grants}
 use Rattle.dlm_master.specs.Tables.{MasterState, lock_of, with_state, is_blocked, request_waits, after_turns}
@@ -90,14 +90,14 @@ module _ (lock : LockName) (p : Parts) (l0 : ℕ → Node) (base : Tied lock p l
     where
       by : (b : Bool) → is_free [] t w ≡ b
           → ((t : TurnState) (l : ℕ → Node) → Sound l → TiedOf lock p (turning value t ws) (fold (grant_letter p lock) p.post t.granted) l → Turned lock p value (fold (turn []) t ws) l)
-          → Turned lock p value (fold (turn []) (cond b (let s : TurnState = record { held = with_claim t.held w; staying = t.staying; granted = t.granted ++ w ∷ [] } in s)
+          → Turned lock p value (fold (turn []) (cond b (let s : TurnState = record { held = now_holding t.held w.node w.mode; staying = t.staying; granted = t.granted ++ w ∷ [] } in s)
           (let s : TurnState = record { held = t.held; staying = t.staying ++ w ∷ []; granted = t.granted } in s)) ws) l
       by true free rest =
           let r = is-granted lock p (turning value t (w ∷ ws)) (fold (grant_letter p lock) p.post t.granted) l t.staying ws w base.master tied sound refl
           (none-is (in_way t.held w.node w.mode) (first-true _ _ (first-true _ _ free)))
           (all-heard lock p l0 base done (turning value t (w ∷ ws)) (fold (grant_letter p lock) p.post t.granted) l tied)
           (none-waits lock p l0 base done (turning value t (w ∷ ws)) (fold (grant_letter p lock) p.post t.granted) l tied none) in
-          let next : TurnState = record { held = with_claim t.held w; staying = t.staying; granted = t.granted ++ w ∷ [] } in
+          let next : TurnState = record { held = now_holding t.held w.node w.mode; staying = t.staying; granted = t.granted ++ w ∷ [] } in
           let more = rest next r.state (step_keeps l r.state r.step sound).0
           (subst (λ (q : Post). TiedOf lock p (turning value next ws) q r.state) (sym (fold-append (grant_letter p lock) p.post t.granted (w ∷ []))) r.tied) in
           record { state = more.state; steps = steps-join l r.state more.state (one-step l r.state r.step) more.steps; tied = more.tied }
@@ -195,17 +195,17 @@ table-steps lock p _ l (Requested k mode rest x hand new idle) sound tied = by (
         let g = is-granted lock p t (with_left p.post k p.master rest) a.state (present p lock).requests [] (claim k mode) tied.master a.tied (step_keeps l a.state a.step sound).0 refl free.2
         (all-heard lock p l tied free.0 t (with_left p.post k p.master rest) a.state a.tied)
         (none-waits lock p l tied free.0 t (with_left p.post k p.master rest) a.state a.tied (least-none p.table.master.waiting free.1)) in
-        let u : LockState = record (present p lock) { held = with_claim (present p lock).held (claim k mode) } in
+        let u : LockState = record (present p lock) { held = now_holding (present p lock).held k mode } in
         record {
           state = g.state;
           steps = AndThen a.state g.state (one-step l a.state a.step) g.step;
           tied = tied-with lock p (record p.table { master = with_state p.table.master lock u }) (grant_letter p lock (with_left p.post k p.master rest) (claim k mode)) l g.state tied
               (subst (λ (v : LockState). TiedOf lock p v (grant_letter p lock (with_left p.post k p.master rest) (claim k mode)) g.state) (sym (written p.table.master lock u))
-              (subst (λ (cs : List Claim). TiedOf lock p (record (present p lock) { held = with_claim (present p lock).held (claim k mode); requests = cs })
+              (subst (λ (cs : List Claim). TiedOf lock p (record (present p lock) { held = now_holding (present p lock).held k mode; requests = cs })
               (grant_letter p lock (with_left p.post k p.master rest) (claim k mode)) g.state) (append-nil (present p lock).requests) g.tied))
               refl refl refl refl;
         }
-table-steps lock p _ l (Lowered k mode said kept rest x hand above) sound tied =
+table-steps lock p _ l (Lowered k mode said kept rest x hand above idle) sound tied =
     wrote lock p l (record (present p lock) { held = now_holding (present p lock).held k mode; value = value_after (mode_of_node (present p lock).held k) kept (present p lock).value })
     (with_left p.post k p.master rest) tied
     (hears-down lock p (present p lock) (value_after (mode_of_node (present p lock).held k) kept (present p lock).value) p.post l k mode said rest (tied-of lock p l tied) sound x hand)
@@ -267,7 +267,7 @@ table-steps lock p _ l GrantsNext sound tied = by (is_blocked p.table.master) re
         })
     by true e = record { state = l; steps = Stays; tied = tied }
     by false e = grants-next lock p l sound tied e
-table-steps lock p _ l (Completes waiting ended told) sound tied = record {
+table-steps lock p _ l (Completes ended told) sound tied = record {
   state = l;
   steps = Stays;
   tied = record {
@@ -281,7 +281,7 @@ table-steps lock p _ l (Completes waiting ended told) sound tied = record {
     mail = tied.mail;
   };
 }
-table-steps lock p _ l (Blocks waiting done told) sound tied = record {
+table-steps lock p _ l (Blocks waiting told) sound tied = record {
   state = l;
   steps = Stays;
   tied = record {
@@ -290,7 +290,7 @@ table-steps lock p _ l (Blocks waiting done told) sound tied = record {
     master = tied.master;
     table = tied.table;
     done = tied.done;
-    told = λ e. told;
+    told = told;
     unheard = tied.unheard;
     mail = tied.mail;
   };

@@ -111,7 +111,7 @@ pub data TableCall (lock : LockName) (p : Parts) : Parts → Type 0 where
       })
   -- `Master::down`, `Rebuild::down`
   Lowered : (k : ℕ) (mode : Mode) (said kept : Option (List ℕ)) (rest : List Message) → k ≤ 8 → p.post.took k p.master ≡ now_says p (Down lock mode said) ∷ rest
-      → holds_above (held_by p.table.master k lock) mode ≡ true
+      → holds_above (held_by p.table.master k lock) mode ≡ true → waits_for p.table.master k lock ≡ false
       → TableCall lock p (record p { table = record p.table { master = after_down p.table.master k lock mode kept }; post = with_left p.post k p.master rest })
   -- a node lowers the lock to what the table has of it already: nothing is called
   LoweredAlready : (k : ℕ) (mode : Mode) (said : Option (List ℕ)) (rest : List Message) → k ≤ 8 → p.post.took k p.master ≡ now_says p (Down lock mode said) ∷ rest
@@ -128,11 +128,11 @@ pub data TableCall (lock : LockName) (p : Parts) : Parts → Type 0 where
     table = record p.table { master = after_next p.table.master lock };
     post = if is_blocked p.table.master then p.post else fold (grant_letter p lock) p.post (all_turns (present p lock)).granted;
   })
-  -- `Rebuild::complete`, and at once `Master::blocked` with the slots that wait
-  Completes : (waiting : ℕ) → is_done p.table ≡ true → ((k : ℕ) → k ≤ 8 → has p.membership.waiting k ≡ true → has waiting k ≡ true)
-      → TableCall lock p (record p { table = record p.table { master = record (master_after p.table) { waiting = waiting } } })
-  -- `Master::blocked`
-  Blocks : (waiting : ℕ) → p.table.master.rebuild ≡ false → ((k : ℕ) → k ≤ 8 → has p.membership.waiting k ≡ true → has waiting k ≡ true)
+  -- `Rebuild::complete`, of a rebuild that knows which slots wait
+  Completes : is_done p.table ≡ true → ((k : ℕ) → k ≤ 8 → has p.membership.waiting k ≡ true → has p.table.master.waiting k ≡ true)
+      → TableCall lock p (record p { table = record p.table { master = master_after p.table } })
+  -- `Rebuild::blocked`; and `Master::blocked`, which tells each slot that waits
+  Blocks : (waiting : ℕ) → (p.table.master.rebuild ≡ false → (k : ℕ) → k ≤ 8 → has p.membership.waiting k ≡ true → has waiting k ≡ true)
       → TableCall lock p (record p { table = record p.table { master = record p.table.master { waiting = waiting } } })
   -- a call on another lock
   TableElsewhere : (other : LockName) (t : LockState) → lock ≢ other

@@ -2,12 +2,12 @@
 use Rattle.std.specs.Prelude.{ℕ, ◌≡◌, ◌≤◌, true, false, List, [], ◌∷◌, Option, None}
 use Rattle.glock_names.specs.declared.LockName.{LockName}
 use Rattle.dlm_modes.specs.declared.Mode.{Mode}
-use Rattle.dlm_modes.specs.declared.Mode.TheVariants.{Nl}
 use Rattle.dlm_modes.specs.Modes.{is_at_least}
 use Rattle.fencing.specs.NodeSets.{has}
 use Rattle.mail_queues.specs.declared.Message.{Message}
 use Rattle.mail_queues.specs.declared.Body.TheVariants.{Request, Down}
 use Rattle.dlm_holder.specs.Holdings.{mode_in, wanted_in}
+use Rattle.dlm_master.specs.Tables.{held_by, waits_for}
 use Rattle.lock_steps.specs.Parts.{Parts, now_says}
 use Rattle.lock_steps.specs.Ties.{Tell, Reports, Ends, Lowers, Asks, sight}
 use Rattle.lock_steps.specs.Laws.{Begins, Calls}
@@ -29,9 +29,11 @@ TablesAreExact = (lock : LockName) (p q : Parts) (k : ℕ) → Begins lock p →
 -- so a call on a message meets its contract: who asks holds nothing by the table and waits for nothing
 abbrev pub RequestsFindNothing : Type 0
 RequestsFindNothing = (lock : LockName) (p q : Parts) (k : ℕ) (mode : Mode) (rest : List Message) → Begins lock p → Calls lock p q → k ≤ 8
-    → q.post.took k q.master ≡ now_says q (Request lock mode) ∷ rest → ((sight lock q k).table ≡ Nl) × ((sight lock q k).wants ≡ None)
+    → q.post.took k q.master ≡ now_says q (Request lock mode) ∷ rest
+    → (held_by q.table.master k lock ≡ None) × (waits_for q.table.master k lock ≡ false)
 
--- and who lowers the lock has at least that by the table
+-- and who lowers the lock has at least that by the table and waits for nothing
 abbrev pub LowersOnlyLower : Type 0
 LowersOnlyLower = (lock : LockName) (p q : Parts) (k : ℕ) (mode : Mode) (value : Option (List ℕ)) (rest : List Message) → Begins lock p → Calls lock p q → k ≤ 8
-    → q.post.took k q.master ≡ now_says q (Down lock mode value) ∷ rest → is_at_least ((sight lock q k).table) mode ≡ true
+    → q.post.took k q.master ≡ now_says q (Down lock mode value) ∷ rest
+    → (is_at_least ((sight lock q k).table) mode ≡ true) × (waits_for q.table.master k lock ≡ false)

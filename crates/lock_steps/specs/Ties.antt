@@ -1,5 +1,5 @@
 -- What of a lock the parts and the machine have in common.
-use Rattle.std.specs.Prelude.{ℕ, ◌≡◌, ◌≤◌, ◌<◌, ◌==◌, ⊤, Bool, true, false, List, [], ◌∷◌, Option, None, Some, is_some, unwrap_or, option_map, option_to_list, map, if◌then◌else◌}
+use Rattle.std.specs.Prelude.{ℕ, ◌≡◌, ◌≤◌, ◌<◌, ◌==◌, Bool, true, false, List, [], Option, None, Some, is_some, unwrap_or, option_map, option_to_list, map, if◌then◌else◌}
 use Rattle.std.specs.List.{AllByRecursion, filter_map}
 use Rattle.glock_names.specs.declared.LockName.{LockName}
 use Rattle.glock_names.specs.LockMaps.{same_lock}
@@ -11,8 +11,7 @@ use Rattle.mail_queues.specs.declared.Message.{Message}
 use Rattle.mail_queues.specs.declared.Body.{Body}
 use Rattle.mail_queues.specs.declared.Body.TheVariants.{Request, Convert, Down, Grant, Callback, Report, End, View}
 use Rattle.dlm_holder.specs.Holdings.{mode_in, wanted_in}
-use Rattle.dlm_master.specs.declared.claims.Claim.{Claim}
-use Rattle.dlm_master.specs.Claims.{is_of, mode_of_node}
+use Rattle.dlm_master.specs.Claims.{mode_of_node, OneEach, NeverNull}
 use Rattle.dlm_master.specs.LockState.{LockState}
 use Rattle.dlm_master.specs.Tables.{lock_of}
 use Rattle.lock_laws.specs.Lock.{State, Un, Node, eff}
@@ -122,15 +121,11 @@ pub record IsNobody (n : Node) : Type 0 where
 
 -- ---- the lock's table
 
--- no two claims are of one node
-abbrev pub OneEach : List Claim → Type 0
-OneEach [] = ⊤
-OneEach (c ∷ cs) = AllByRecursion (λ d. is_of c.node d ≡ false) cs × OneEach cs
-
 pub record IsTable (t : LockState) : Type 0 where
   -- glocks never convert
   pub never_converted : t.conversions ≡ []
   pub held_once : OneEach t.held
+  pub never_null : NeverNull t.held
   pub asked_once : OneEach t.requests
   pub nodes : AllByRecursion (λ c. c.node ≤ 8) t.requests
 
