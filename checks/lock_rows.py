@@ -1,8 +1,11 @@
 #!/usr/bin/env python3
 """What `lock_rows` has to print, worked out from the rules of the lock manager alone.
 
-Run it from the top of the repository: checks/lock_rows.py > crates/lock_rows/stdout
+Run it from the top of the repository:
+    checks/lock_rows.py > crates/lock_rows/stdout
+    checks/lock_rows.py --check     compares that file with it; the status is 1 where they differ
 """
+import sys
 import zlib
 
 MODES = ["nl", "cr", "cw", "pr", "pw", "ex"]
@@ -13,7 +16,8 @@ BELOW = {"nl": MODES[:1], "cr": MODES[:2], "cw": MODES[:3], "pr": ["nl", "cr", "
 class Lock:
     def __init__(self):
         self.held, self.conversions, self.requests = [], [], []
-        self.value, self.valid = 0, False
+        # the value's first byte and its last
+        self.value, self.last, self.valid = 0, 0, False
         self.rebuild, self.slots = False, []
 
     def mode(self, node):
@@ -23,7 +27,9 @@ class Lock:
         return any(n == node for n, _ in self.conversions + self.requests)
 
     def hold(self, node, mode):
-        if self.mode(node) is None:
+        if mode == "nl":
+            self.held = [(n, m) for n, m in self.held if n != node]
+        elif self.mode(node) is None:
             self.held.append((node, mode))
         else:
             self.held = [(n, mode if n == node else m) for n, m in self.held]
@@ -50,7 +56,7 @@ class Lock:
         return f"granted {self.tell()}"
 
     def tell(self):
-        return f"{self.value} {'valid' if self.valid else 'not'}"
+        return f"{self.value} {self.last} {'valid' if self.valid else 'not'}"
 
     def request(self, node, mode):
         if self.mode(node) is not None or self.waits(node):
@@ -58,20 +64,17 @@ class Lock:
         return self.ask(node, mode, self.requests, self.conversions + self.requests)
 
     def convert(self, node, mode):
-        if self.mode(node) is None or self.waits(node):
+        if self.mode(node) not in BELOW[mode] or self.waits(node):
             return "-"
         return self.ask(node, mode, self.conversions, self.conversions)
 
     def down(self, node, mode, value):
         had = self.mode(node)
-        if had is None or had == mode or mode not in BELOW[had]:
+        if had is None or had == mode or mode not in BELOW[had] or self.waits(node):
             return "-"
         if value is not None and had in ("pw", "ex"):
-            self.value, self.valid = value, True
-        if mode == "nl":
-            self.held = [(n, m) for n, m in self.held if n != node]
-        else:
-            self.hold(node, mode)
+            self.value, self.last, self.valid = value, 255 - value, True
+        self.hold(node, mode)
         return "down"
 
     def next_grants(self):
@@ -117,7 +120,7 @@ def row():
 
 
 def random_calls(seed):
-    """24 calls of the nodes 1 to 4, by seed."""
+    """24 calls of the nodes 1 to 4 on two locks of one master, by seed."""
     x = seed
 
     def draw(count):
@@ -125,9 +128,9 @@ def random_calls(seed):
         x = (x * 6364136223846793005 + 1442695040888963407) % 2**64
         return (x >> 33) % count
 
-    lock = Lock()
+    locks = Lock(), Lock()
     for _ in range(24):
-        kind, node, mode, byte = draw(8), 1 + draw(4), MODES[draw(6)], draw(256)
+        kind, node, mode, byte, lock = draw(8), 1 + draw(4), MODES[draw(6)], draw(256), locks[draw(4) // 3]
         if kind < 3:
             yield lock.request(node, mode)
         elif kind == 3:
@@ -137,15 +140,26 @@ def random_calls(seed):
         elif kind == 6:
             yield lock.next_grants()
         elif mode == "ex":
-            lock.rebuild = byte % 4 == 0
-            lock.slots = [node] if byte % 4 == 1 else []
+            for each in locks:
+                each.rebuild = byte % 4 == 0
+                each.slots = [node] if byte % 4 == 1 else []
             yield "blocked"
         else:
             yield lock.callbacks()
 
 
-for line in row():
-    print(line)
-for hundred in range(100):
-    text = "".join(line + "\n" for seed in range(100 * hundred, 100 * hundred + 100) for line in random_calls(seed))
-    print(f"{zlib.crc32(text.encode()):08x}")
+def lines():
+    yield from row()
+    for hundred in range(100):
+        text = "".join(line + "\n" for seed in range(100 * hundred, 100 * hundred + 100) for line in random_calls(seed))
+        yield f"{zlib.crc32(text.encode()):08x}"
+
+
+printed = "".join(line + "\n" for line in lines())
+if sys.argv[1:] == ["--check"]:
+    path = "crates/lock_rows/stdout"
+    with open(path) as stored:
+        if stored.read() != printed:
+            sys.exit(f"{path} isn't what checks/lock_rows.py works out")
+else:
+    print(printed, end="")

@@ -1,13 +1,18 @@
 ghost use Rattle.std.specs.Prelude.{◌<◌, ◌≤◌};
 
 use crc_words::crc32;
-use dlm_master::{Answer, Cause, Master};
+use dlm_master::{Answer, Cause, Claim, Master};
 use dlm_modes::{Mode, ValueBlock, covers};
 use glock_names::LockName;
 use no_memory::NoMemory;
 use std::alloc::Global;
 
 const LOCK: LockName = LockName { kind: 2, number: 9 };
+
+const OTHER: LockName = LockName {
+    kind: 2,
+    number: 10,
+};
 
 // Numbers that follow from a seed.
 #[derive(Drop)]
@@ -55,12 +60,21 @@ fn state(valid: bool) -> &'static str {
     if valid { "valid" } else { "not" }
 }
 
+// The first byte of a value and the last, and whether it is valid.
+fn tell_value(out: &mut String, value: ValueBlock) -> Result<(), NoMemory> {
+    let first = value.bytes[0];
+    let last = value.bytes[31];
+    let state = state(value.valid);
+    write!(out, " {first} {last} {state}")?;
+    Ok(())
+}
+
 fn tell(out: &mut String, answer: Answer) -> Result<(), NoMemory> {
     match answer {
         Answer::Granted(value) => {
-            let first = value.bytes[0];
-            let state = state(value.valid);
-            writeln!(out, "granted {first} {state}")?;
+            out.push_str("granted")?;
+            tell_value(out, value)?;
+            out.push_str("\n")?;
         }
         Answer::Waiting(cause) => tell_cause(out, cause)?,
     }
@@ -77,36 +91,64 @@ fn tell_cause(out: &mut String, cause: Cause) -> Result<(), NoMemory> {
     Ok(())
 }
 
-fn request(out: &mut String, master: &mut Master, node: u8, mode: Mode) -> Result<(), NoMemory> {
-    if master.waits(node, LOCK) {
+fn request(
+    out: &mut String,
+    master: &mut Master,
+    lock: LockName,
+    claim: Claim,
+) -> Result<(), NoMemory> {
+    let Claim { node, mode } = claim;
+    if master.waits(node, lock) {
         writeln!(out, "-")?;
         return Ok(());
     }
-    match master.held(node, LOCK) {
+    match master.held(node, lock) {
         Some(_) => writeln!(out, "-")?,
-        None => tell(out, master.request(node, LOCK, mode)?)?,
+        None => tell(out, master.request(node, lock, mode)?)?,
     }
     Ok(())
 }
 
-fn convert(out: &mut String, master: &mut Master, node: u8, mode: Mode) -> Result<(), NoMemory> {
-    if master.waits(node, LOCK) || master.held(node, LOCK).is_none() {
+fn convert(
+    out: &mut String,
+    master: &mut Master,
+    lock: LockName,
+    claim: Claim,
+) -> Result<(), NoMemory> {
+    let Claim { node, mode } = claim;
+    if master.waits(node, lock) {
         writeln!(out, "-")?;
         return Ok(());
     }
-    tell(out, master.convert(node, LOCK, mode)?)
+    match master.held(node, lock) {
+        Some(had) if covers(mode, had) => tell(out, master.convert(node, lock, mode)?)?,
+        _ => writeln!(out, "-")?,
+    }
+    Ok(())
+}
+
+// The value of a byte: its first byte is that, and its last one another.
+fn value_of(byte: u8) -> [u8; 32] {
+    let mut bytes = [byte; 32];
+    bytes[31] = 255 - byte;
+    bytes
 }
 
 fn down(
     out: &mut String,
     master: &mut Master,
-    node: u8,
-    mode: Mode,
+    lock: LockName,
+    claim: Claim,
     value: Option<[u8; 32]>,
 ) -> Result<(), NoMemory> {
-    match master.held(node, LOCK) {
+    let Claim { node, mode } = claim;
+    if master.waits(node, lock) {
+        writeln!(out, "-")?;
+        return Ok(());
+    }
+    match master.held(node, lock) {
         Some(had) if covers(had, mode) && !covers(mode, had) => {
-            master.down(node, LOCK, mode, value);
+            master.down(node, lock, mode, value);
             writeln!(out, "down")?;
         }
         _ => writeln!(out, "-")?,
@@ -116,15 +158,13 @@ fn down(
 
 fn tell_grant(out: &mut String, grant: (u8, Mode, ValueBlock)) -> Result<(), NoMemory> {
     let (node, mode, value) = grant;
-    let first = value.bytes[0];
     let mode = word(mode);
-    let state = state(value.valid);
-    write!(out, " {node} {mode} {first} {state}")?;
-    Ok(())
+    write!(out, " {node} {mode}")?;
+    tell_value(out, value)
 }
 
-fn next_grants(out: &mut String, master: &mut Master) -> Result<(), NoMemory> {
-    let grants = master.next_grants(LOCK)?;
+fn next_grants(out: &mut String, master: &mut Master, lock: LockName) -> Result<(), NoMemory> {
+    let grants = master.next_grants(lock)?;
     out.push_str("grants")?;
     for grant in &grants {
         tell_grant(out, *grant)?;
@@ -133,8 +173,8 @@ fn next_grants(out: &mut String, master: &mut Master) -> Result<(), NoMemory> {
     Ok(())
 }
 
-fn callbacks(out: &mut String, master: &Master) -> Result<(), NoMemory> {
-    let callbacks = master.callbacks(LOCK)?;
+fn callbacks(out: &mut String, master: &Master, lock: LockName) -> Result<(), NoMemory> {
+    let callbacks = master.callbacks(lock)?;
     out.push_str("callbacks")?;
     for callback in &callbacks {
         let (node, mode) = *callback;
@@ -145,20 +185,25 @@ fn callbacks(out: &mut String, master: &Master) -> Result<(), NoMemory> {
     Ok(())
 }
 
+fn claim(node: u8, mode: Mode) -> Claim {
+    Claim { node, mode }
+}
+
 /// A row of calls on one master.
 pub fn row(alloc: Global) -> Result<String, NoMemory> {
     let mut master = Master::new(alloc, 1);
     let mut text = String::new(alloc);
     let out = &mut text;
-    request(out, &mut master, 1, Mode::Ex)?;
-    request(out, &mut master, 2, Mode::Pr)?;
-    callbacks(out, &master)?;
-    down(out, &mut master, 1, Mode::Pr, Some([7; 32]))?;
-    next_grants(out, &mut master)?;
-    convert(out, &mut master, 1, Mode::Ex)?;
-    request(out, &mut master, 3, Mode::Cr)?;
-    down(out, &mut master, 2, Mode::Nl, None)?;
-    next_grants(out, &mut master)?;
+    request(out, &mut master, LOCK, claim(1, Mode::Ex))?;
+    request(out, &mut master, LOCK, claim(2, Mode::Pr))?;
+    callbacks(out, &master, LOCK)?;
+    let value = Some(value_of(7));
+    down(out, &mut master, LOCK, claim(1, Mode::Pr), value)?;
+    next_grants(out, &mut master, LOCK)?;
+    convert(out, &mut master, LOCK, claim(1, Mode::Ex))?;
+    request(out, &mut master, LOCK, claim(3, Mode::Cr))?;
+    down(out, &mut master, LOCK, claim(2, Mode::Nl), None)?;
+    next_grants(out, &mut master, LOCK)?;
     Ok(text)
 }
 
@@ -176,23 +221,25 @@ fn call(out: &mut String, master: &mut Master, draw: &mut Draw) -> Result<(), No
     let node = 1 + draw.below(4) as u8;
     let mode = mode_at(draw.below(6));
     let byte = draw.below(256) as u8;
+    let lock = if draw.below(4) < 3 { LOCK } else { OTHER };
+    let claim = Claim { node, mode };
     if kind < 3 {
-        request(out, master, node, mode)
+        request(out, master, lock, claim)
     } else if kind == 3 {
-        convert(out, master, node, mode)
+        convert(out, master, lock, claim)
     } else if kind < 6 {
         let value = if byte % 2 == 1 {
-            Some([byte; 32])
+            Some(value_of(byte))
         } else {
             None
         };
-        down(out, master, node, mode, value)
+        down(out, master, lock, claim, value)
     } else if kind == 6 {
-        next_grants(out, master)
+        next_grants(out, master, lock)
     } else if mode == Mode::Ex {
         block(out, master, node, byte)
     } else {
-        callbacks(out, master)
+        callbacks(out, master, lock)
     }
 }
 
