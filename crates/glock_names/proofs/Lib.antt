@@ -1,1 +1,2 @@
 pub mod LockMapLaws
+pub mod StateOrders

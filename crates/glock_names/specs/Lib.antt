@@ -1,4 +1,5 @@
 pub mod Views
 pub mod Steps
 pub mod States
+pub mod StateOrder
 pub mod LockMaps
