@@ -17,7 +17,7 @@ use Rattle.glock_machine.specs.declared.wants.Wants.{Wants}
 use Rattle.glock_machine.specs.Keys.{key_of}
 use Rattle.glock_machine.specs.Wants.{is_wanted, with_want, is_unserved, unserved, any_unserved}
 use Rattle.glock_machine.specs.Table.{Table, new_glock, glock_of, changed, common, wanted, unwanted, granted, pinned, unpinned, called_back, still_called, lowered, touched, down_of, may_ask}
-use Rattle.glock_machine.specs.Calls.{Deed, Want, Unwant, Pin, Unpin, Granted, Callback, Down, Touch, done, MayBeDone, all_done, is_grant, is_callback, is_down, Act, On, Unmount, after, after_all, Come, deeds_on, PinnedThroughout, Stands, GoesFarEnough, KeepsWant, WantStands, last_granted}
+use Rattle.glock_machine.specs.Calls.{Deed, Want, Unwant, Pin, Unpin, Granted, Callback, Down, Touch, done, MayBeDone, all_done, is_grant, is_callback, is_down, Act, On, Unmount, after, after_all, Come, deeds_on, PinnedThroughout, Stands, CallStands, GoesFarEnough, KeepsWant, WantStands, last_granted}
 use Rattle.glock_machine.proofs.Locks.{key_total, key_exact}
 use Rattle.glock_machine.proofs.Below.{common_first, common_second}
 
@@ -313,12 +313,39 @@ module _ (keep : State) where
       by true is = inr (leq_through g.state (allowed_of keep g) keep is (common_second (unwrap_or g.called g.state) keep))
       by false is = inl (allowed_of keep g, refl, common_second (unwrap_or g.called g.state) keep)
 
+-- while it stands, the lock goes down as far as it asks
+call_goes : (keep : State) (u : Bool) (g : Glock) → Stands keep g → leq g.state Un ≡ false → g.pins ≡ 0 → (to : State) × (down_of u g ≡ Some to) × (leq to keep ≡ true)
+call_goes keep u g s held none = by (u || any_unserved g.state g.wants) refl
+  where
+    step : down_of u g ≡ cond (u || any_unserved g.state g.wants) (Some Un) g.called
+    step = λ i. cond (nat_lt 0 (none i) || held i) None (cond (u || any_unserved g.state g.wants) (Some Un) g.called)
+
+    by : (b : Bool) → (u || any_unserved g.state g.wants) ≡ b → (to : State) × (down_of u g ≡ Some to) × (leq to keep ≡ true)
+    by true is = (Un, step ∙ ap (λ b. cond b (Some Un) g.called) is, refl)
+    by false is = (s.0, step ∙ ap (λ b. cond b (Some Un) g.called) is ∙ s.1, s.2)
+
+call_stands : (lock : LockName) (keep : State) (now : Table) → Stands keep (glock_of now lock) → CallStands keep lock now
+call_stands lock keep now s = record {
+  called = s;
+  goes = λ held unpinned.
+      let down : (to : State) × (down_of now.unmounting (glock_of now lock) ≡ Some to) × (leq to keep ≡ true) = call_goes keep now.unmounting (glock_of now lock) s held unpinned in
+      (down.0, goes_by now.unmounting (get now.locks (key_of lock)) ∙ down.1, down.2);
+}
+
 pub calls_stand : (lock : LockName) (keep : State) (acts : List Act) (t : Table)
-    → Stands keep (glock_of (after_all (On lock (Callback keep) ∷ acts) t) lock) ⊎ GoesFarEnough keep (deeds_on lock acts) (called_back keep (glock_of t lock))
-calls_stand lock keep acts t =
-    subst (λ g. Stands keep g ⊎ GoesFarEnough keep (deeds_on lock acts) (called_back keep (glock_of t lock)))
-    (sym (stand_apart lock acts (changed (called_back keep) t lock) ∙ ap (all_done (deeds_on lock acts)) (at_own lock (called_back keep) t)))
-    (stands_on keep (deeds_on lock acts) (called_back keep (glock_of t lock)) (call_begins keep (glock_of t lock)))
+    → CallStands keep lock (after_all (On lock (Callback keep) ∷ acts) t) ⊎ GoesFarEnough keep (deeds_on lock acts) (called_back keep (glock_of t lock))
+calls_stand lock keep acts t = by (stands_on keep (deeds_on lock acts) (called_back keep (glock_of t lock)) (call_begins keep (glock_of t lock)))
+  where
+    now : Table
+    now = after_all (On lock (Callback keep) ∷ acts) t
+
+    at : glock_of now lock ≡ all_done (deeds_on lock acts) (called_back keep (glock_of t lock))
+    at = stand_apart lock acts (changed (called_back keep) t lock) ∙ ap (all_done (deeds_on lock acts)) (at_own lock (called_back keep) t)
+
+    by : Stands keep (all_done (deeds_on lock acts) (called_back keep (glock_of t lock))) ⊎ GoesFarEnough keep (deeds_on lock acts) (called_back keep (glock_of t lock))
+        → CallStands keep lock now ⊎ GoesFarEnough keep (deeds_on lock acts) (called_back keep (glock_of t lock))
+    by (inl s) = inl (call_stands lock keep now (subst (Stands keep) (sym at) s))
+    by (inr far) = inr far
 
 -- ---- numbers of calls
 

@@ -94,6 +94,11 @@ PinnedThroughout (deed ∷ deeds) g = (nat_lt 0 g.pins ≡ true) × PinnedThroug
 abbrev pub Stands : State → Glock → Type 0
 Stands keep g = (kept : State) × (g.called ≡ Some kept) × (leq kept keep ≡ true)
 
+-- and where the lock is held and not pinned, it goes down that far
+pub record CallStands (keep : State) (lock : LockName) (t : Table) : Type 0 where
+  pub called : Stands keep (glock_of t lock)
+  pub goes : leq (glock_of t lock).state Un ≡ false → (glock_of t lock).pins ≡ 0 → (to : State) × (goes_to t lock ≡ Some to) × (leq to keep ≡ true)
+
 -- before these calls or after one of them the lock is held in no stronger state
 abbrev pub GoesFarEnough : State → List Deed → Glock → Type 0
 GoesFarEnough keep [] g = leq g.state keep ≡ true

@@ -7,7 +7,7 @@ ghost use Rattle.glock_names.specs.declared.State.TheVariants.{Un};
 ghost use Rattle.glock_names.specs.StateOrder.{leq};
 ghost use Rattle.glock_machine.specs.Table.{Table, glock_of, granted, called_back, may_ask};
 ghost use Rattle.glock_machine.specs.declared.glock.Glock.{Glock};
-ghost use Rattle.glock_machine.specs.Calls.{Deed, Act, On, Want, Granted, Callback, Down, Touch, Come, after, after_all, all_done, deeds_on, is_grant, is_callback, is_down, PinnedThroughout, Stands, GoesFarEnough, KeepsWant, WantStands, last_granted};
+ghost use Rattle.glock_machine.specs.Calls.{Deed, Act, On, Want, Granted, Callback, Down, Touch, Come, after, after_all, all_done, deeds_on, is_grant, is_callback, is_down, PinnedThroughout, CallStands, GoesFarEnough, KeepsWant, WantStands, last_granted};
 
 /// A law: what is kept of a lock depends on the calls on that lock alone.
 pub fn locks_stand_apart()
@@ -34,10 +34,11 @@ pub fn wants_stand()
         → KeepsWant state (deeds_on lock acts) → WantStands state lock (after_all (On lock (Want state) ∷ acts) t) }
 {}
 
-/// A law: a callback stands from its call on, whatever else is called, until the lock went down as far as it asks.
+/// A law: a callback stands from its call on, whatever else is called, until the lock went down as far as it asks; and while it
+/// stands, the lock goes down that far as soon as it isn't pinned.
 pub fn callbacks_stand()
     ensures { (lock : LockName) (keep : State) (acts : List Act) (t : Table)
-        → Stands keep (glock_of (after_all (On lock (Callback keep) ∷ acts) t) lock)
+        → CallStands keep lock (after_all (On lock (Callback keep) ∷ acts) t)
         ⊎ GoesFarEnough keep (deeds_on lock acts) (called_back keep (glock_of t lock)) }
 {}
 
