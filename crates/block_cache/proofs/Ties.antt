@@ -6,10 +6,9 @@ use Rattle.finite_maps.proofs.Seen.{get-numbers}
 use mathlib.Core.Bool.{beq}
 use Rattle.glock_names.specs.declared.LockName.{LockName}
 use Rattle.glock_names.specs.LockMaps.{same_lock}
-use Rattle.glock_names.proofs.LockMapLaws.{same_lock_tells}
 use Rattle.block_cache.specs.declared.cache.Cell.{Cell}
 use Rattle.block_cache.specs.declared.shelves.ShelfName.{ShelfName}
-use Rattle.block_cache.specs.Cells.{kept_if, stays, is_lock}
+use Rattle.block_cache.specs.Cells.{kept_if, stays}
 use Rattle.block_cache.specs.Shelving.{has, same_shelf, Shelved, on_shelf, Adds, Removes}
 use Rattle.block_cache.specs.Tie.{cell_at, shelf_of, belongs, leaves, Tied}
 use Rattle.block_cache.proofs.Shelving.{same_shelf_tells}
@@ -172,19 +171,13 @@ one_less es es' shelf rest block is cells b =
     by (inr e) = ap (λ t. cond (has rest b || t) None (cell_at es b)) e.0 ∙ ap (λ t. cond t None (cell_at es b)) (or_false (has rest b))
         ∙ sym (ap (λ t. cond (has rest b) None (cond t None (cell_at es b))) (turned e.1))
 
-is_lock_turned : (a b : LockName) → is_lock b a ≡ same_lock a b
-is_lock_turned a b = elim (same_lock_tells a b) [
-  | inl e ↦ elim (same_lock_tells b a) [ inl f ↦ f.0 ∙ sym e.0 | inr f ↦ absurd (f.1 (sym e.1)) ]
-  | inr e ↦ elim (same_lock_tells b a) [ inl f ↦ absurd (e.1 (sym f.1)) | inr f ↦ f.0 ∙ sym e.0 ]
-]
-
 abbrev pub off : LockName → Bool → Cell → Bool
 off lock plain c = not (same_shelf (record { lock = lock; plain = plain }) (shelf_of c))
 
 -- what stays where the shelf of a lock's content goes
 pub plain_goes : (lock : LockName) (o : Option Cell) → kept_if (off lock true) o ≡ kept_if (stays lock true) o
 plain_goes lock None = refl
-plain_goes lock (Some c) = by (same_lock lock c.lock) c.plain ∙ sym (ap (λ t. cond (not t || (true && not c.plain)) (Some c) None) (is_lock_turned lock c.lock))
+plain_goes lock (Some c) = by (same_lock lock c.lock) c.plain
   where
     by : (i p : Bool) → cond (not (i && beq true p)) (Some c) None ≡ cond (not i || (true && not p)) (Some c) None
     by true true = refl
@@ -195,7 +188,7 @@ plain_goes lock (Some c) = by (same_lock lock c.lock) c.plain ∙ sym (ap (λ t.
 -- and where the other goes too
 pub both_go : (lock : LockName) (o : Option Cell) → kept_if (off lock false) (kept_if (off lock true) o) ≡ kept_if (stays lock false) o
 both_go lock None = refl
-both_go lock (Some c) = by (same_lock lock c.lock) c.plain refl refl ∙ sym (ap (λ t. cond (not t || (false && not c.plain)) (Some c) None) (is_lock_turned lock c.lock))
+both_go lock (Some c) = by (same_lock lock c.lock) c.plain refl refl
   where
     by : (i p : Bool) → same_lock lock c.lock ≡ i → c.plain ≡ p → kept_if (off lock false) (cond (not (i && beq true p)) (Some c) None) ≡ cond (not i || (false && not p)) (Some c) None
     by true true h k = refl

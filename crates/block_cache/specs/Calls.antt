@@ -10,12 +10,16 @@ pub data Act : Type 0 where
   DropLock : (lock : LockName) → (keep_meta : Bool) → Act
   DropBlock : (block : ℕ) → Act
 
+-- what a call leaves
+abbrev pub Leaves : Act → Cells → Cells → Type 0
+Leaves (Put block cell) before now = now ≡ insert before block cell
+Leaves (DropLock lock keep_meta) before now = DropsLock before now lock keep_meta
+Leaves (DropBlock block) before now = now ≡ remove before block
+
 -- a cache that was made, and on which these calls were made
 abbrev pub Reached : List Act → Cells → Type 0
 Reached [] now = now ≡ empty
-Reached (Put block cell ∷ acts) now = (before : Cells) × Reached acts before × (now ≡ insert before block cell)
-Reached (DropLock lock keep_meta ∷ acts) now = (before : Cells) × Reached acts before × DropsLock before now lock keep_meta
-Reached (DropBlock block ∷ acts) now = (before : Cells) × Reached acts before × (now ≡ remove before block)
+Reached (act ∷ acts) now = (before : Cells) × Reached acts before × Leaves act before now
 
 -- the cell that was put last at the block, where no call since then dropped it
 abbrev pub last_put : List Act → ℕ → Option Cell

@@ -1,9 +1,10 @@
 -- A cache, as its callers see it: a finite map from block numbers to cells.
-use Rattle.std.specs.Prelude.{◌≡◌, ℕ, Bool, not, ◌&&◌, ◌||◌, ◌==◌, List, Option, None, Some, if◌then◌else◌, refl}
+use Rattle.std.specs.Prelude.{◌≡◌, ℕ, Bool, not, ◌&&◌, ◌||◌, List, Option, None, Some, if◌then◌else◌, refl}
 use Rattle.std.specs.Ordering.{nat_cmp}
 use Rattle.std.specs.Coded.{Coded, code_by, coded×, coded_ℕ, coded_bool, coded_list}
 use Rattle.std.specs.FinMap.{FinMap, code, get}
 use Rattle.glock_names.specs.declared.LockName.{LockName}
+use Rattle.glock_names.specs.LockMaps.{same_lock}
 use Rattle.block_cache.specs.declared.cache.Cell.{Cell}
 
 abbrev pub Cells : Type 0
@@ -19,12 +20,9 @@ cell_code = code_by (LockName × (Bool × List ℕ)) (coded× lock_code (coded×
 abbrev pub cells_code : Coded Cells
 cells_code = code coded_ℕ cell_code
 
-abbrev pub is_lock : LockName → LockName → Bool
-is_lock a b = (a.kind == b.kind) && (a.number == b.number)
-
 -- the cell stays where the lock's blocks go, or its plain ones alone
 abbrev pub stays : LockName → Bool → Cell → Bool
-stays lock keep_meta cell = not (is_lock cell.lock lock) || (keep_meta && not cell.plain)
+stays lock keep_meta cell = not (same_lock lock cell.lock) || (keep_meta && not cell.plain)
 
 -- the value where it passes the test
 abbrev pub kept_if : (Cell → Bool) → Option Cell → Option Cell

@@ -12,7 +12,7 @@ pub fn last_put_is_shown()
 {}
 
 /// A law: once a lock's cells were dropped (or its plain ones alone), none is there until one is put under it,
-/// whatever else is called. That they are dropped before the lock goes is the caller's to see to.
+/// whatever else is called.
 pub fn cells_leave_with_their_lock()
     ensures { (lock : LockName) (keep_meta : Bool) (later earlier : List Act) (now : Cells)
         → Reached (later ++ Act.DropLock lock keep_meta ∷ earlier) now → PutsOnly (stays lock keep_meta) later

@@ -1,79 +1,110 @@
 -- What the stages say of a lock.
-use Rattle.std.proofs.Common.{◌≡◌, ◌<◌, List, [], ◌∷◌, Bool, true, false, cond, not, refl, sym, ap, subst, true≢false, lit<, arith}
-use Rattle.std.proofs.lemmas.Bool.{ltb-false}
+use Rattle.std.proofs.Common.{◌≡◌, ◌<◌, ◌≤◌, Bool, true, false, cond, not, refl, sym, ap, subst, lit<, arith}
+use Rattle.std.proofs.lemmas.Bool.{ltb-false, false_from_ne_true, ltb-true}
 use Rattle.glock_names.specs.declared.State.{State}
 use Rattle.glock_names.specs.declared.State.TheVariants.{Ex}
 use Rattle.demotion.specs.declared.stages.Stage.{Stage}
 use Rattle.demotion.specs.declared.stages.Stage.TheVariants.{Flush, Home, Barrier, Revoke, Release}
 use Rattle.demotion.specs.declared.stages.Under.{Under}
-use Rattle.demotion.specs.Stages.{stage_after, MayGoAtLast, rank, is_exclusive, is_unflushed, stage_of, MayGo, Works}
+use Rattle.demotion.specs.Stages.{rank, is_exclusive, is_unflushed, has_away, stage_of, IsPast, AreDoneBefore, MayGo}
 
 -- the choice of the stage, by its tests
 abbrev pick : Bool → Bool → Bool → Bool → Bool → Stage
 pick ex unflushed away flying live = cond (not ex) Release (cond unflushed Flush (cond away Home (cond flying Barrier (cond live Revoke Release))))
 
-free : (unflushed away flying live : Bool) → pick true unflushed away flying live ≡ Release → (unflushed ≡ false) × ((away ≡ false) × ((flying ≡ false) × (live ≡ false)))
-free true a f l h = cc
-free false true f l h = cc
-free false false true l h = cc
-free false false false true h = cc
-free false false false false h = (refl, (refl, (refl, refl)))
+-- where the stage is past another, that one's test is false
+past_flush : (f a b l : Bool) → 0 < rank (pick true f a b l) → f ≡ false
+past_flush true a b l h = absurd (omega arith)
+past_flush false a b l h = refl
 
-freed : (u : Under) (ex : Bool) → pick ex (is_unflushed u) u.away u.in_flight u.live ≡ Release → ex ≡ true
-    → (is_unflushed u ≡ false) × ((u.away ≡ false) × ((u.in_flight ≡ false) × (u.live ≡ false)))
-freed u true h e = free (is_unflushed u) u.away u.in_flight u.live h
-freed u false h e = absurd (true≢false (sym e))
+past_home : (f a b l : Bool) → 1 < rank (pick true f a b l) → a ≡ false
+past_home true a b l h = absurd (omega arith)
+past_home false true b l h = absurd (omega arith)
+past_home false false b l h = refl
+
+past_barrier : (f a b l : Bool) → 2 < rank (pick true f a b l) → b ≡ false
+past_barrier true a b l h = absurd (omega arith)
+past_barrier false true b l h = absurd (omega arith)
+past_barrier false false true l h = absurd (omega arith)
+past_barrier false false false l h = refl
+
+past_revoke : (f a b l : Bool) → 3 < rank (pick true f a b l) → l ≡ false
+past_revoke true a b l h = absurd (omega arith)
+past_revoke false true b l h = absurd (omega arith)
+past_revoke false false true l h = absurd (omega arith)
+past_revoke false false false true h = absurd (omega arith)
+past_revoke false false false false h = refl
+
+past_release : (f a b l : Bool) → 4 < rank (pick true f a b l) → ⊥
+past_release true a b l h = omega arith
+past_release false true b l h = omega arith
+past_release false false true l h = omega arith
+past_release false false false true h = omega arith
+past_release false false false false h = omega arith
+
+pub past : (past : Stage) (u : Under) → rank past < rank (stage_of Ex u) → IsPast past u
+past Flush u h = ltb-false u.flushed u.touched (past_flush (is_unflushed u) (has_away u) u.in_flight u.live h)
+past Home u h = past_home (is_unflushed u) (has_away u) u.in_flight u.live h
+past Barrier u h = past_barrier (is_unflushed u) (has_away u) u.in_flight u.live h
+past Revoke u h = past_revoke (is_unflushed u) (has_away u) u.in_flight u.live h
+past Release u h = past_release (is_unflushed u) (has_away u) u.in_flight u.live h
+
+-- and where the tests before one are false, it or a later one has come
+from_home : (a b l : Bool) → 1 ≤ rank (pick true false a b l)
+from_home true b l = lit< tt
+from_home false true l = lit< tt
+from_home false false true = lit< tt
+from_home false false false = lit< tt
+
+from_barrier : (b l : Bool) → 2 ≤ rank (pick true false false b l)
+from_barrier true l = lit< tt
+from_barrier false true = lit< tt
+from_barrier false false = lit< tt
+
+from_revoke : (l : Bool) → 3 ≤ rank (pick true false false false l)
+from_revoke true = lit< tt
+from_revoke false = lit< tt
+
+none_unflushed : (u : Under) → u.touched ≤ u.flushed → is_unflushed u ≡ false
+none_unflushed u h = false_from_ne_true _ (λ e. omega (arith, h, ltb-true u.flushed u.touched e))
+
+pub taken_up : (stage : Stage) (u : Under) → AreDoneBefore stage u → rank stage ≤ rank (stage_of Ex u)
+taken_up Flush u d = omega arith
+taken_up Home u d = subst (λ t. 1 ≤ rank (pick true t (has_away u) u.in_flight u.live)) (sym (none_unflushed u d)) (from_home (has_away u) u.in_flight u.live)
+taken_up Barrier u d =
+    subst (λ t. 2 ≤ rank (pick true t (has_away u) u.in_flight u.live)) (sym (none_unflushed u d.0))
+    (subst (λ t. 2 ≤ rank (pick true false t u.in_flight u.live)) (sym d.1) (from_barrier u.in_flight u.live))
+taken_up Revoke u d =
+    subst (λ t. 3 ≤ rank (pick true t (has_away u) u.in_flight u.live)) (sym (none_unflushed u d.0))
+    (subst (λ t. 3 ≤ rank (pick true false t u.in_flight u.live)) (sym d.1)
+    (subst (λ t. 3 ≤ rank (pick true false false t u.live)) (sym d.2) (from_revoke u.live)))
+taken_up Release u d =
+    subst (λ t. 4 ≤ rank (pick true t (has_away u) u.in_flight u.live)) (sym (none_unflushed u d.0))
+    (subst (λ t. 4 ≤ rank (pick true false t u.in_flight u.live)) (sym d.1)
+    (subst (λ t. 4 ≤ rank (pick true false false t u.live)) (sym d.2)
+    (subst (λ t. 4 ≤ rank (pick true false false false t)) (sym d.3) (lit< tt))))
+
+pub in_order : (stage : Stage) (u : Under) → AreDoneBefore stage u → IsPast stage u → rank stage < rank (stage_of Ex u)
+in_order Flush u d p = taken_up Home u p
+in_order Home u d p = taken_up Barrier u (d, p)
+in_order Barrier u d p = taken_up Revoke u (d.0, d.1, p)
+in_order Revoke u d p = taken_up Release u (d.0, d.1, d.2, p)
+in_order Release u d p = absurd p
+
+pub first : (u : Under) → is_unflushed u ≡ true → stage_of Ex u ≡ Flush
+first u h = ap (λ t. cond t Flush (cond (has_away u) Home (cond u.in_flight Barrier (cond u.live Revoke Release)))) h
+
+-- the release of an exclusive lock is past every other stage
+freed : (held : State) (u : Under) → stage_of held u ≡ Release → is_exclusive held ≡ true → (s : Stage) → rank s < 4 → IsPast s u
+freed held u h e s low = past s u (subst (λ (t : Stage). rank s < rank t)
+    (sym h') low)
+  where
+    h' : stage_of Ex u ≡ Release
+    h' = subst (λ ex. pick ex (is_unflushed u) (has_away u) u.in_flight u.live ≡ Release) e h
 
 pub safe : (held : State) (u : Under) → stage_of held u ≡ Release → MayGo held u
 safe held u h = record {
-  flushed = λ e. ltb-false u.flushed u.touched (freed u (is_exclusive held) h e).0;
-  not_live = λ e. (freed u (is_exclusive held) h e).1.1.1;
-  home = λ e. (freed u (is_exclusive held) h e).1.0;
-  settled = λ e. (freed u (is_exclusive held) h e).1.1.0;
+  flushed = λ e. freed held u h e Flush (lit< tt);
+  not_live = λ e. freed held u h e Revoke (lit< tt);
+  settled = λ e. freed held u h e Barrier (lit< tt);
 }
-
-pub first : (u : Under) → is_unflushed u ≡ true → stage_of Ex u ≡ Flush
-first u h = ap (λ t. cond t Flush (cond u.away Home (cond u.in_flight Barrier (cond u.live Revoke Release)))) h
-
--- with these tests false, what is picked is later
-later : (ex away flying live : Bool) → 0 < rank (pick ex false away flying live)
-later false a f l = lit< tt
-later true true f l = lit< tt
-later true false true l = lit< tt
-later true false false true = lit< tt
-later true false false false = lit< tt
-
-later_home : (ex flying live : Bool) → 1 < rank (pick ex false false flying live)
-later_home false f l = lit< tt
-later_home true true l = lit< tt
-later_home true false true = lit< tt
-later_home true false false = lit< tt
-
-later_barrier : (ex live : Bool) → 2 < rank (pick ex false false false live)
-later_barrier false l = lit< tt
-later_barrier true true = lit< tt
-later_barrier true false = lit< tt
-
-later_revoke : (ex : Bool) → 3 < rank (pick ex false false false false)
-later_revoke false = lit< tt
-later_revoke true = lit< tt
-
-pub in_order : (held : State) (stage : Stage) (u v : Under) → stage_of held u ≡ stage → rank stage < 4 → Works stage u v → rank stage < rank (stage_of held v)
-in_order held Flush u v is before w = subst (λ t. 0 < rank (pick (is_exclusive held) t v.away v.in_flight v.live)) (sym w) (later (is_exclusive held) v.away v.in_flight v.live)
-in_order held Home u v is before w =
-    subst (λ t. 1 < rank (pick (is_exclusive held) t v.away v.in_flight v.live)) (sym w.0)
-    (subst (λ t. 1 < rank (pick (is_exclusive held) false t v.in_flight v.live)) (sym w.1) (later_home (is_exclusive held) v.in_flight v.live))
-in_order held Barrier u v is before w =
-    subst (λ t. 2 < rank (pick (is_exclusive held) t v.away v.in_flight v.live)) (sym w.0)
-    (subst (λ t. 2 < rank (pick (is_exclusive held) false t v.in_flight v.live)) (sym w.1)
-    (subst (λ t. 2 < rank (pick (is_exclusive held) false false t v.live)) (sym w.2) (later_barrier (is_exclusive held) v.live)))
-in_order held Revoke u v is before w =
-    subst (λ t. 3 < rank (pick (is_exclusive held) t v.away v.in_flight v.live)) (sym w.0)
-    (subst (λ t. 3 < rank (pick (is_exclusive held) false t v.in_flight v.live)) (sym w.1)
-    (subst (λ t. 3 < rank (pick (is_exclusive held) false false t v.live)) (sym w.2)
-    (subst (λ t. 3 < rank (pick (is_exclusive held) false false false t)) (sym w.3) (later_revoke (is_exclusive held)))))
-in_order held Release u v is before w = absurd (omega arith)
-
-pub allowed : (looks : List (State × Under)) → stage_after looks ≡ Release → MayGoAtLast looks
-allowed [] h = cc
-allowed (look ∷ looks) h = safe look.0 look.1 h

@@ -1,5 +1,5 @@
 -- The stages of a demotion, and which of them a lock needs.
-use Rattle.std.specs.Prelude.{◌≡◌, ℕ, ◌≤◌, List, [], ◌∷◌, Bool, true, false, not, nat_lt, if◌then◌else◌, ⊤}
+use Rattle.std.specs.Prelude.{◌≡◌, ℕ, ◌≤◌, Bool, true, false, not, ◌&&◌, nat_lt, if◌then◌else◌, ⊤}
 use Rattle.glock_names.specs.declared.State.{State}
 use Rattle.glock_names.specs.declared.State.TheVariants.{Un, Sh, Df, Ex}
 use Rattle.demotion.specs.declared.stages.Stage.{Stage}
@@ -25,38 +25,38 @@ is_exclusive Un = false
 abbrev pub is_unflushed : Under → Bool
 is_unflushed u = nat_lt u.flushed u.touched
 
+-- a live block isn't home, and isn't on its way
+abbrev pub has_away : Under → Bool
+has_away u = u.live && u.away
+
 -- the first stage that is needed: the flush of what isn't in the journal, the way home, the barrier that ends it, the revokes of what
 -- is live; nothing is left then but to let the lock go
 abbrev pub stage_of : State → Under → Stage
 stage_of held u =
     if not (is_exclusive held) then Release else
     if is_unflushed u then Flush else
-    if u.away then Home else
+    if has_away u then Home else
     if u.in_flight then Barrier else
     if u.live then Revoke else Release
+
+-- what the stages before this one leave under an exclusive lock: past the flush no call that touched it is missing in the journal, past the way
+-- home no live block is away, past the barrier none is on its way, past the revokes none is live; and no stage is past the release
+abbrev pub IsPast : Stage → Under → Type 0
+IsPast Flush u = u.touched ≤ u.flushed
+IsPast Home u = has_away u ≡ false
+IsPast Barrier u = u.in_flight ≡ false
+IsPast Revoke u = u.live ≡ false
+IsPast Release u = ⊥
+
+abbrev pub AreDoneBefore : Stage → Under → Type 0
+AreDoneBefore Flush u = ⊤
+AreDoneBefore Home u = IsPast Flush u
+AreDoneBefore Barrier u = IsPast Flush u × IsPast Home u
+AreDoneBefore Revoke u = IsPast Flush u × IsPast Home u × IsPast Barrier u
+AreDoneBefore Release u = IsPast Flush u × IsPast Home u × IsPast Barrier u × IsPast Revoke u
 
 -- the lock may go: it isn't held exclusive, or no change under it is unflushed, none of its blocks is live, and none is on its way home
 pub record MayGo (held : State) (u : Under) : Type 0 where
   pub flushed : is_exclusive held ≡ true → u.touched ≤ u.flushed
   pub not_live : is_exclusive held ≡ true → u.live ≡ false
-  pub home : is_exclusive held ≡ true → u.away ≡ false
   pub settled : is_exclusive held ≡ true → u.in_flight ≡ false
-
--- what it means that a stage's work was done, and nothing else: the flush leaves nothing unflushed, the way home nothing away,
--- the barrier nothing in flight, the revokes nothing live; what earlier stages did stays
-abbrev pub Works : Stage → Under → Under → Type 0
-Works Flush u v = is_unflushed v ≡ false
-Works Home u v = (is_unflushed v ≡ false) × (v.away ≡ false)
-Works Barrier u v = (is_unflushed v ≡ false) × (v.away ≡ false) × (v.in_flight ≡ false)
-Works Revoke u v = (is_unflushed v ≡ false) × (v.away ≡ false) × (v.in_flight ≡ false) × (v.live ≡ false)
-Works Release u v = ⊤
-
--- a demotion that was made, and then looked at what there was under its lock, each time in a held state; the last look first
-abbrev pub stage_after : List (State × Under) → Stage
-stage_after [] = Flush
-stage_after (look ∷ looks) = stage_of look.0 look.1
-
--- at the last look the lock might go
-abbrev pub MayGoAtLast : List (State × Under) → Type 0
-MayGoAtLast [] = ⊥
-MayGoAtLast (look ∷ looks) = MayGo look.0 look.1

@@ -1,28 +1,34 @@
 // Laws of the stages.
-ghost use Rattle.std.specs.Prelude.{◌≡◌, ◌<◌, true, List};
+ghost use Rattle.std.specs.Prelude.{◌≡◌, ◌≤◌, ◌<◌, true, suc};
 ghost use Rattle.glock_names.specs.declared.State.{State};
 ghost use Rattle.demotion.specs.declared.stages.Stage.{Stage};
 ghost use Rattle.demotion.specs.declared.stages.Stage.TheVariants.{Flush, Release};
 ghost use Rattle.demotion.specs.declared.stages.Under.{Under};
-ghost use Rattle.demotion.specs.Stages.{stage_of, rank, is_exclusive, is_unflushed, MayGo, Works, stage_after, MayGoAtLast};
+ghost use Rattle.demotion.specs.Stages.{stage_of, rank, is_unflushed, IsPast, AreDoneBefore, MayGo};
 
 /// A law: the last stage has come only where the lock may go.
 pub fn release_is_safe()
     ensures { (held : State) (u : Under) → stage_of held u ≡ Release → MayGo held u }
 {}
 
-/// A law: after any calls a demotion has come to the release only where the last look at its lock allows it.
-pub fn releases_are_allowed()
-    ensures { (looks : List (State × Under)) → stage_after looks ≡ Release → MayGoAtLast looks }
+/// A law: past a stage, what it does is done. Past the flush nothing under the lock is unflushed, past the way home no live
+/// block is away, past the barrier none is on its way, past the revokes none is live.
+pub fn past_stages_are_done()
+    ensures { (past : Stage) (u : Under) → rank past < rank (stage_of State.Ex u) → IsPast past u }
+{}
+
+/// A law: where the stages before one are done, it or a later one has come. So a demotion that was cut in a stage is taken up
+/// again in that stage, and none that was done before is done again.
+pub fn cut_stages_are_taken_up()
+    ensures { (stage : Stage) (u : Under) → AreDoneBefore stage u → rank stage ≤ rank (stage_of State.Ex u) }
+{}
+
+/// A law: where a stage's work is done too, a later one has come. So there are four works at most before the release.
+pub fn stages_come_in_order()
+    ensures { (stage : Stage) (u : Under) → AreDoneBefore stage u → IsPast stage u → rank stage < rank (stage_of State.Ex u) }
 {}
 
 /// A law: a change that isn't flushed comes first, whichever stage the demotion had come to.
 pub fn unflushed_comes_first()
     ensures { (u : Under) → is_unflushed u ≡ true → stage_of State.Ex u ≡ Flush }
-{}
-
-/// A law: where a stage's work was done, a later one has come. So there are four works at most before the release.
-pub fn stages_come_in_order()
-    ensures { (held : State) (stage : Stage) (u v : Under) → stage_of held u ≡ stage → rank stage < 4 → Works stage u v
-        → rank stage < rank (stage_of held v) }
 {}

@@ -5,9 +5,10 @@ mod laws;
 mod stages;
 
 pub use laws::{
-    release_is_safe, releases_are_allowed, stages_come_in_order, unflushed_comes_first,
+    cut_stages_are_taken_up, past_stages_are_done, release_is_safe, stages_come_in_order,
+    unflushed_comes_first,
 };
-pub use stages::{Demotion, Stage, Under};
+pub use stages::{Stage, Under, stage_needed};
 
 #[cfg(test)]
 mod tests;

@@ -14,7 +14,7 @@ use Rattle.std.specs.Map.{keys_of}
 use Rattle.finite_maps.proofs.Seen.{get-seen, seen_insert}
 use Rattle.finite_maps.proofs.Keys.{tied}
 use Rattle.glock_names.specs.declared.State.{State}
-use Rattle.glock_machine.specs.declared.glocks.Glock.{Glock}
+use Rattle.glock_machine.specs.declared.glock.Glock.{Glock}
 use Rattle.glock_machine.specs.Keys.{Key, key_cmp}
 use Rattle.glock_machine.specs.Table.{down_of}
 

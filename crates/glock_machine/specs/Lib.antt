@@ -1,4 +1,4 @@
-pub mod States
+pub mod Wants
 pub mod Keys
 pub mod Table
 pub mod Calls

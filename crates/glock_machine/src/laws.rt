@@ -1,19 +1,69 @@
 // Laws over every list of calls.
-ghost use Rattle.std.specs.Prelude.{◌≡◌, ◌⊎◌, true, List};
+ghost use Rattle.std.specs.Prelude.{◌≡◌, ◌⊎◌, ◌≤◌, ◌&&◌, ℕ, true, false, not, List, ◌∷◌};
+ghost use Rattle.std.specs.List.{list_any};
 ghost use Rattle.glock_names.specs.declared.LockName.{LockName};
 ghost use Rattle.glock_names.specs.declared.State.{State};
-ghost use Rattle.glock_machine.specs.States.{suffices};
-ghost use Rattle.glock_machine.specs.Table.{Table, glock_of};
-ghost use Rattle.glock_machine.specs.Calls.{Act, Come, after_all, PinnedThroughout, Stands, GoesFarEnough};
+ghost use Rattle.glock_names.specs.declared.State.TheVariants.{Un};
+ghost use Rattle.glock_names.specs.StateOrder.{leq};
+ghost use Rattle.glock_machine.specs.Table.{Table, glock_of, granted, called_back, may_ask};
+ghost use Rattle.glock_machine.specs.declared.glock.Glock.{Glock};
+ghost use Rattle.glock_machine.specs.Calls.{Deed, Act, On, Want, Granted, Callback, Down, Touch, Come, after, after_all, all_done, deeds_on, is_grant, is_callback, is_down, PinnedThroughout, CallStands, GoesFarEnough, KeepsWant, WantStands, last_granted};
+
+/// A law: what is kept of a lock depends on the calls on that lock alone.
+pub fn locks_stand_apart()
+    ensures { (lock : LockName) (acts : List Act) (t : Table)
+        → glock_of (after_all acts t) lock ≡ all_done (deeds_on lock acts) (glock_of t lock) }
+{}
 
 /// A law: while a lock is pinned it is never held in a weaker state, whatever is called.
 pub fn pinned_locks_stay()
-    ensures { (lock : LockName) (acts : List Act) (t : Table) → Come acts t → PinnedThroughout lock acts t
-        → suffices (glock_of (after_all acts t) lock).state (glock_of t lock).state ≡ true }
+    ensures { (lock : LockName) (acts : List Act) (t : Table) → Come acts t → PinnedThroughout (deeds_on lock acts) (glock_of t lock)
+        → leq (glock_of t lock).state (glock_of (after_all acts t) lock).state ≡ true }
 {}
 
-/// A law: a callback stands, whatever is called, until the lock went down as far as it asks.
+/// A law: what is held of a lock is at most what was granted last, or what was held at the start.
+pub fn states_were_granted()
+    ensures { (lock : LockName) (acts : List Act) (t : Table) → Come acts t
+        → leq (glock_of (after_all acts t) lock).state (last_granted (deeds_on lock acts) (glock_of t lock).state) ≡ true }
+{}
+
+/// A law: a want stands, whatever is called and whatever else is wanted, until it is taken back or what serves it is granted; and
+/// while what is held doesn't serve it, the lock goes down to unlocked as soon as it isn't pinned.
+pub fn wants_stand()
+    ensures { (lock : LockName) (state : State) (acts : List Act) (t : Table) → leq state (glock_of t lock).state ≡ false
+        → KeepsWant state (deeds_on lock acts) → WantStands state lock (after_all (On lock (Want state) ∷ acts) t) }
+{}
+
+/// A law: a callback stands from its call on, whatever else is called, until the lock went down as far as it asks; and while it
+/// stands, the lock goes down that far as soon as it isn't pinned.
 pub fn callbacks_stand()
-    ensures { (keep : State) (lock : LockName) (acts : List Act) (t : Table) → Stands keep lock t
-        → Stands keep lock (after_all acts t) ⊎ GoesFarEnough keep lock acts t }
+    ensures { (lock : LockName) (keep : State) (acts : List Act) (t : Table)
+        → CallStands keep lock (after_all (On lock (Callback keep) ∷ acts) t)
+        ⊎ GoesFarEnough keep (deeds_on lock acts) (called_back keep (glock_of t lock)) }
+{}
+
+/// A law: the number that is kept of a lock is at least that of each call that touched it since its grant.
+pub fn touches_are_kept()
+    ensures { (lock : LockName) (number : ℕ) (acts : List Act) (t : Table) → list_any is_grant (deeds_on lock acts) ≡ false
+        → number ≤ (glock_of (after_all (On lock (Touch number) ∷ acts) t) lock).touched }
+{}
+
+/// A law: where a lock went down last though no callback came since its grant, the node may not ask for what it had then, nor
+/// for less.
+pub fn uncalled_downs_bar_asks()
+    ensures { (lock : LockName) (first to state : State) (between later : List Act) (t : Table)
+        → list_any is_grant (deeds_on lock between) ≡ false → list_any is_callback (deeds_on lock between) ≡ false
+        → list_any is_grant (deeds_on lock later) ≡ false → list_any is_down (deeds_on lock later) ≡ false
+        → leq state (glock_of (after_all (On lock (Granted first) ∷ between) t) lock).state ≡ true
+        → may_ask state (glock_of (after_all later (after (On lock (Down to)) (after_all (On lock (Granted first) ∷ between) t))) lock) ≡ false }
+{}
+
+/// A law: where a callback asked for less than the node held, and the lock went down since, the node may ask for it in every
+/// state, once it holds nothing of it.
+pub fn called_downs_bar_nothing()
+    ensures { (lock : LockName) (keep to state : State) (between later : List Act) (t : Table) → leq (glock_of t lock).state keep ≡ false
+        → list_any is_grant (deeds_on lock between) ≡ false
+        → list_any is_grant (deeds_on lock later) ≡ false → list_any is_down (deeds_on lock later) ≡ false
+        → (g : Glock) → g ≡ glock_of (after_all later (after (On lock (Down to)) (after_all (On lock (Callback keep) ∷ between) t))) lock
+        → may_ask state g ≡ (leq g.state Un && not (leq state Un)) }
 {}

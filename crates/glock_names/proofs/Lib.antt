@@ -1,2 +1,3 @@
 pub mod LockMapLaws
 pub mod StateLaws
+pub mod StateOrders

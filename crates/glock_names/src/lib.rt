@@ -5,10 +5,12 @@ ghost use Rattle.std.specs.Prelude.{◌≡◌};
 ghost use Rattle.glock_names.specs.Names.{name_bytes};
 ghost use Rattle.glock_names.specs.States.{mode_for, state_in, IsStrongestState};
 
+mod order;
 mod steps;
 mod views;
 
 use dlm_modes::Mode;
+pub use order::{is_at_most, is_below, may_cache};
 pub use steps::{CallFault, Entry, Missing, Step};
 pub use views::{Group, View};
 

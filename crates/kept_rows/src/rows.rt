@@ -1,9 +1,9 @@
 // The rows, by their first number.
 use block_cache::Cache;
-use demotion::{Demotion, Stage, Under};
+use demotion::{Stage, Under, stage_needed};
 use frame_pool::{Frame, Pool};
 use glock_machine::Glocks;
-use glock_names::{LockName, State};
+use glock_names::{LockName, State, is_below};
 use revoke_table::Revokes;
 use std::alloc::Global;
 
@@ -45,7 +45,7 @@ impl Kept {
             11 => self.revokes.cancels(a, b) == (c == 1),
             20..=23 => self.play_cache(row),
             30 | 38 | 39 => self.play_glocks(row),
-            31..=37 => play_glock(&mut self.glocks, row),
+            31..=37 | 41 | 42 => play_glock(&mut self.glocks, row),
             40 => stage_is(row),
             50 => self.take_frame(a, b),
             51..=53 => self.play_frame(what, a, byte_of(b)),
@@ -133,7 +133,7 @@ impl Kept {
 }
 
 fn play_glock(glocks: &mut Glocks, row: &Row) -> bool {
-    let [what, a, b, c, d, e, ..] = *row;
+    let [what, a, b, c, d, ..] = *row;
     let lock = lock_of(a, b);
     if !glocks.was_wanted(lock) {
         return false;
@@ -141,22 +141,51 @@ fn play_glock(glocks: &mut Glocks, row: &Row) -> bool {
     match what {
         31 => glocks.pin(lock),
         32 => glocks.unpin(lock),
-        33 => glocks.granted(lock, state_of(c)),
+        33 => return grant(glocks, lock, state_of(c)),
         34 => glocks.callback(lock, state_of(c)),
-        35 => {
-            if glocks.is_pinned(lock) {
-                return false;
-            }
-            glocks.down(lock, state_of(c));
-        }
+        35 => return lower(glocks, lock, state_of(c)),
         36 => glocks.touch(lock, c),
-        _ => {
-            return glocks.state(lock) == state_of(c)
-                && glocks.is_pinned(lock) == (d == 1)
-                && glocks.last_touch(lock) == e;
-        }
+        41 => glocks.unwant(lock, state_of(c)),
+        42 => return glocks.may_ask(lock, state_of(c)) == (d == 1),
+        _ => return is_kept(glocks, lock, row),
     }
     true
+}
+
+fn grant(glocks: &mut Glocks, lock: LockName, state: State) -> bool {
+    if !glocks.was_wanted(lock) || !is_below(glocks.state(lock), state) {
+        return false;
+    }
+    glocks.granted(lock, state);
+    true
+}
+
+fn lower(glocks: &mut Glocks, lock: LockName, to: State) -> bool {
+    if !glocks.was_wanted(lock) || glocks.is_pinned(lock) || !is_below(to, glocks.state(lock)) {
+        return false;
+    }
+    glocks.down(lock, to);
+    true
+}
+
+// Whether what is kept of the lock is as the row says.
+fn is_kept(glocks: &Glocks, lock: LockName, row: &Row) -> bool {
+    let [_, _, _, held, pinned, touched, wants, called] = *row;
+    let is = |state: State, bit: u64| glocks.is_wanted(lock, state) == (wants & bit != 0);
+    glocks.state(lock) == state_of(held)
+        && glocks.is_pinned(lock) == (pinned == 1)
+        && glocks.last_touch(lock) == touched
+        && is(State::Sh, 1)
+        && is(State::Df, 2)
+        && is(State::Ex, 4)
+        && called
+            == match glocks.called(lock) {
+                None => 0,
+                Some(State::Un) => 1,
+                Some(State::Sh) => 2,
+                Some(State::Df) => 3,
+                Some(State::Ex) => 4,
+            }
 }
 
 fn stage_is(row: &Row) -> bool {
@@ -168,10 +197,8 @@ fn stage_is(row: &Row) -> bool {
         away: away == 1,
         in_flight: flying == 1,
     };
-    let mut going = Demotion::new(lock_of(2, 1), State::Un);
-    going.advance(state_of(held), &under);
     stage
-        == match going.stage() {
+        == match stage_needed(state_of(held), &under) {
             Stage::Flush => 0,
             Stage::Home => 1,
             Stage::Barrier => 2,

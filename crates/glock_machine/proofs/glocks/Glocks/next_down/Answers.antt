@@ -1,9 +1,13 @@
-use Rattle.std.proofs.Common.{◌≡◌, ◌∙◌, ap, sym, refl, Some, None, is_some, true≢false}
+use Rattle.std.proofs.Common.{◌≡◌, ◌∙◌, ap, sym, subst, refl, Some, None, is_some, true, true≢false}
 use Rattle.std.specs.Prelude.{option_and_then}
 use Rattle.std.specs.Option.{option_map_or}
-use Rattle.glock_machine.specs.Keys.{key_of}
-use Rattle.glock_machine.specs.Table.{down_of, goes_to}
+use Rattle.std.specs.FinMap.{from_entries}
+use Rattle.glock_names.specs.declared.LockName.{LockName}
+use Rattle.glock_names.specs.StateOrder.{is_below}
+use Rattle.glock_machine.specs.Keys.{key_of, key_cmp}
+use Rattle.glock_machine.specs.Table.{Table, glock_of, down_of, goes_to}
 use Rattle.glock_machine.proofs.Locks.{first_down, get-locks, goes_at, least_at, nothing_at}
+use Rattle.glock_machine.proofs.Below.{goes_below}
 use Rattle.glock_machine.proofs.glocks.Glocks.next_down.Goals as goal
 
 pub returns-in-Some-down_of-clause-goes : goal.returns-in-Some-down_of-clause-goes
@@ -42,3 +46,14 @@ returns-clause-none c =
           ∙ nothing_at c.self.inside.unmounting c.self.inside.locks.entries none (key_of lock),
       λ all. refl,
     )
+
+pub returns-in-Some-down_of-clause-weaker : goal.returns-in-Some-down_of-clause-weaker
+returns-in-Some-down_of-clause-weaker c =
+    let first : first_down c.self.inside.unmounting c.self.inside.locks.entries ≡ Some (c.in-Some.key.now, c.in-Some-down_of.to) =
+    sym c.loop-key.invariant ∙ ap (first_down c.self.inside.unmounting) c.in-Some.ensures.steps
+    ∙ ap (λ o. option_map_or (λ t. Some (c.in-Some.key.now, t)) o (first_down c.self.inside.unmounting c.next.new.self)) (sym c.in-Some-down_of.ensures) in
+    let lock : LockName = record { kind = c.in-Some.key.now.0; number = c.in-Some.key.now.1 } in
+    subst (λ (t : Table). is_below c.in-Some-down_of.to (glock_of t lock).state ≡ true) c.self.view_is
+    (goes_below (from_entries {R = key_cmp} c.self.inside.locks.entries) c.self.inside.unmounting (c.in-Some.key.now) c.in-Some-down_of.to c.self.invariant
+    (ap (option_and_then (down_of c.self.inside.unmounting)) (get-locks c.self.inside.locks.entries c.in-Some.key.now)
+    ∙ goes_at c.self.inside.unmounting c.self.inside.locks.entries c.iter-key-items.ensures.ordered c.in-Some.key.now c.in-Some-down_of.to first))

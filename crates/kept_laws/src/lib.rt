@@ -1,0 +1,48 @@
+//! What ties a node's cache to its glocks, and these to their demotions: laws over lists of calls on all of them.
+#![tactic(auto)]
+
+ghost use Rattle.std.specs.Prelude.{◌≡◌, ◌≤◌, ℕ, true, false, List, ◌∷◌, Some};
+ghost use Rattle.std.specs.FinMap.{empty, get};
+ghost use Rattle.std.specs.List.{list_any};
+ghost use Rattle.glock_names.specs.declared.LockName.{LockName};
+ghost use Rattle.glock_names.specs.declared.State.TheVariants.{Un, Sh, Df, Ex};
+ghost use Rattle.block_cache.specs.declared.cache.Cell.{Cell};
+ghost use Rattle.block_cache.specs.Cells.{Cells, DropsLock};
+ghost use Rattle.demotion.specs.declared.stages.Under.{Under};
+ghost use Rattle.demotion.specs.declared.stages.Stage.TheVariants.{Release};
+ghost use Rattle.demotion.specs.Stages.{stage_of};
+ghost use Rattle.glock_machine.specs.Table.{Table, glock_of};
+ghost use Rattle.glock_machine.specs.Calls.{Act, On, Touch, is_grant, deeds_on, after_all};
+ghost use Rattle.kept_laws.specs.Kept.{Kept, Call, AllFit, Fits, Goes};
+
+/// A law: whatever is called on glocks and cache, every cell is one that the state of its lock lets the node cache. It is so of
+/// an empty cache, whatever is held.
+pub fn caches_fit_their_locks()
+    ensures kept { (calls : List Call) (old new : Kept) → AllFit old → Goes calls old new → AllFit new }
+    ensures begun { (locks : Table) → AllFit (record { locks = locks; cells = empty }) }
+{}
+
+/// A law: so a cell leaves the cache before its lock goes. Of a lock that isn't held no block is cached, and of one that is held
+/// deferred no content.
+pub fn cells_leave_before_their_lock()
+    ensures unlocked { (calls : List Call) (old new : Kept) → AllFit old → Goes calls old new
+        → (b : ℕ) (cell : Cell) → get new.cells b ≡ Some cell → (glock_of new.locks cell.lock).state ≡ Un → ⊥ }
+    ensures deferred { (calls : List Call) (old new : Kept) → AllFit old → Goes calls old new
+        → (b : ℕ) (cell : Cell) → get new.cells b ≡ Some cell → (glock_of new.locks cell.lock).state ≡ Df → cell.plain ≡ false }
+{}
+
+/// A law: what a lock may go down to once its cells were dropped: to unlocked when all were, to deferred when the content was, and
+/// to shared as it is.
+pub fn drops_let_locks_go()
+    ensures unlocked { (old new : Cells) (lock : LockName) → DropsLock old new lock false → Fits new lock Un }
+    ensures deferred { (old new : Cells) (lock : LockName) → DropsLock old new lock true → Fits new lock Df }
+    ensures shared { (cells : Cells) (lock : LockName) → Fits cells lock Sh }
+{}
+
+/// A law: the release of a lock that is held exclusive comes only once every call that touched it since its grant is in the
+/// journal: what is called `flushed` in what the demotion looks at.
+pub fn locks_go_flushed()
+    ensures { (lock : LockName) (number : ℕ) (acts : List Act) (t now : Table) (u : Under) → now ≡ after_all (On lock (Touch number) ∷ acts) t
+        → list_any is_grant (deeds_on lock acts) ≡ false → (glock_of now lock).state ≡ Ex
+        → u.touched ≡ (glock_of now lock).touched → stage_of Ex u ≡ Release → number ≤ u.flushed }
+{}
