@@ -1,7 +1,7 @@
 -- The invariant of the cluster part by part, as images, journals, caches and locks show it: for every set of nodes that might stop, and every choice of
 -- the headers in flight.
-use Rattle.std.specs.Prelude.{ℕ, zero, suc, ◌-◌, ◌≡◌, ◌≤◌, ◌<◌, ◌⊎◌, ⊤, Bool, true, false, not, if◌then◌else◌, None, Some, List, [], ◌∷◌, ◌++◌}
-use Rattle.cluster_laws.specs.Files.{Files, CellOf, LockOf, RightTo, State, Un, Sh, Df, Ex}
+use Rattle.std.specs.Prelude.{ℕ, zero, suc, ◌-◌, ◌≡◌, ◌≤◌, ◌<◌, ◌⊎◌, Bool, true, false, not, if◌then◌else◌, None, Some, List, [], ◌∷◌, ◌++◌}
+use Rattle.cluster_laws.specs.Files.{Files, CellOf, Part, LockOf, RightTo, State, Un, Sh, Df, Ex}
 use Rattle.cluster_laws.specs.Book.{W, InBox, publish}
 use Rattle.cluster_laws.specs.Mirror.{IsReplay, FreeIsFree, placed}
 use Rattle.cluster_laws.specs.History.{Called, living, saids, Legal, Life, gones, AreLives}
@@ -10,7 +10,7 @@ use Rattle.cluster_laws.specs.World.{World, Sound, Run}
 use Rattle.cluster_laws.specs.Laws.{head_cuts}
 use Rattle.lock_laws.specs.Lock.{goes, leq, eff, has_report}
 use Rattle.cluster_laws.specs.World as world
-use Rattle.cluster_events.specs.Cluster.{Cluster, BookOf, Together, Event, Works, GoesDown}
+use Rattle.cluster_events.specs.Cluster.{Cluster, BookOf, Together, Event, Works, GoesDown, Stops}
 
 -- ---- the history and the image where a set of nodes stops
 
@@ -163,17 +163,32 @@ may_cache Sh plain = true
 may_cache Df plain = not plain
 may_cache Ex plain = true
 
-abbrev pub CachesAllow : (F : Files) → (CellOf F → Bool) → Cluster F → Type 0
-CachesAllow F plain c = (j b : ℕ) (x : CellOf F) → (BookOf F c).cache j b ≡ Some x → may_cache ((BookOf F c).state j (LockOf F x)) (plain x) ≡ true
+-- `own` is what each node keeps for all its calls. The book's cache has beside it what is kept beside one call: what a read under a deferred lock gave.
+abbrev pub CachesAllow : (F : Files) → (CellOf F → Bool) → (ℕ → Part F) → Cluster F → Type 0
+CachesAllow F plain own c = (j b : ℕ) (x : CellOf F) → own j b ≡ Some x
+    → ((BookOf F c).cache j b ≡ Some x) × (may_cache ((BookOf F c).state j (LockOf F x)) (plain x) ≡ true)
 
--- what a node has to mind for that: a call puts nothing in the cache but what it writes, a block is read in a state that may cache it, and what a lower
--- state may not cache is dropped
-abbrev pub StateMinds : (F : Files) (plain : CellOf F → Bool) (c c' : Cluster F) → Event F c c' → Type 0
-StateMinds F plain c _ (Works _ (world.Answers j said v change cache no_sync a) may) = (b : ℕ) (x : CellOf F) → change b ≡ None → cache b ≡ Some x → (BookOf F c).cache j b ≡ Some x
-StateMinds F plain c _ (Works _ (world.Reads j b held) may) =
-    may_cache ((BookOf F c).state j (LockOf F (W F (BookOf F c) ((BookOf F c).answered) b))) (plain (W F (BookOf F c) ((BookOf F c).answered) b)) ≡ true
-StateMinds F plain c _ (GoesDown i locks cache here h all clean cached) = (b : ℕ) (x : CellOf F) → cache b ≡ Some x → may_cache ((locks (LockOf F x) i).state) (plain x) ≡ true
-StateMinds F plain c _ _ = ⊤
+-- What a node keeps after an event it kept before; or its call wrote it; or it read it in a state that may cache it. What the event takes out of the cache, and
+-- what a lower state may not cache, it keeps no more.
+abbrev pub KeptFrom : (F : Files) (plain : CellOf F → Bool) (own : ℕ → Part F) (c c' : Cluster F) → Event F c c' → ℕ → ℕ → CellOf F → Type 0
+KeptFrom F plain own c _ (Works _ (world.Answers k said v change cache no_sync a) may) j b x =
+    ((j ≡ k → ⊥) × (own j b ≡ Some x)) ⊎ ((j ≡ k) × (cache b ≡ Some x) × ((own j b ≡ Some x) ⊎ (change b ≡ Some x)))
+KeptFrom F plain own c _ (Works _ (world.Reads k n held) may) j b x = (own j b ≡ Some x)
+    ⊎ ((j ≡ k) × (b ≡ n) × (x ≡ W F (BookOf F c) ((BookOf F c).answered) n) × (may_cache ((BookOf F c).state j (LockOf F x)) (plain x) ≡ true))
+KeptFrom F plain own c _ (Works _ (world.Shrinks k cache forgets) may) j b x = (own j b ≡ Some x) × (j ≡ k → cache j b ≡ Some x)
+KeptFrom F plain own c _ (GoesDown i locks cache here h all clean cached) j b x = (own j b ≡ Some x)
+    × (j ≡ i → (cache b ≡ Some x) × (may_cache ((locks (LockOf F x) i).state) (plain x) ≡ true))
+KeptFrom F plain own c _ (Stops i here runs all) j b x = (own j b ≡ Some x) × (j ≡ i → ⊥)
+KeptFrom F plain own c _ _ j b x = own j b ≡ Some x
+
+-- what nodes have to mind for that
+abbrev pub StateMinds : (F : Files) (plain : CellOf F → Bool) (own own' : ℕ → Part F) (c c' : Cluster F) → Event F c c' → Type 0
+StateMinds F plain own own' c c' event = (j b : ℕ) (x : CellOf F) → own' j b ≡ Some x → KeptFrom F plain own c c' event j b x
 
 abbrev pub StateMindedKeeps : Files → Type 0
-StateMindedKeeps F = (plain : CellOf F → Bool) (c c' : Cluster F) (event : Event F c c') → Together F c → StateMinds F plain c c' event → CachesAllow F plain c → CachesAllow F plain c'
+StateMindedKeeps F = (plain : CellOf F → Bool) (own own' : ℕ → Part F) (c c' : Cluster F) (event : Event F c c') → Together F c → StateMinds F plain own own' c c' event
+    → CachesAllow F plain own c → CachesAllow F plain own' c'
+
+-- at a start nothing is kept
+abbrev pub StartAllows : Files → Type 0
+StartAllows F = (plain : CellOf F → Bool) (c : Cluster F) → CachesAllow F plain (λ j b. None) c

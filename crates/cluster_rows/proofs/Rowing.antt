@@ -127,12 +127,12 @@ pub rows_hold : (F : Files) → RowsHold F
 rows_hold F c c' event t = rows F c t c' event
 
 pub clean_row : (F : Files) → CleanRow F
-clean_row F w i h header none b v live = elim (header.each b) [
+clean_row F w i u h header none untouched b v live = elim (header.each b) [
   | inl same ↦ elim (same.1) [
     | inl as_was ↦ absurd (none-some (sym as_was ∙ none b) live)
     | inr home ↦ home.1 v live
   ]
-  | inr last ↦ (let l = last.0 in let p = l.above in let q = l.below in absurd (omega arith))
+  | inr last ↦ (let l = last.0 in absurd (none-some (untouched b (l.call) (l.above) (l.below)) (l.changes)))
 ]
 
 -- ---- full

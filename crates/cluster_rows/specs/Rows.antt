@@ -4,7 +4,7 @@ use Rattle.cluster_laws.specs.Files.{Files, CellOf, LockOf, State, Un, Ex}
 use Rattle.cluster_laws.specs.Book.{W, InBox}
 use Rattle.cluster_laws.specs.Mirror.{Head}
 use Rattle.cluster_laws.specs.History.{calls_of, LossIsRight}
-use Rattle.cluster_laws.specs.Log.{Calm, IsHeader}
+use Rattle.cluster_laws.specs.Log.{Untouched, Calm, IsHeader}
 use Rattle.cluster_laws.specs.World.{World, Sound}
 use Rattle.cluster_laws.specs.World as world
 use Rattle.lock_laws.specs.Lock.{Node, goes, leq}
@@ -88,9 +88,11 @@ Row F c _ _ = ⊤
 abbrev pub RowsHold : Files → Type 0
 RowsHold F = (c c' : Cluster F) (event : Event F c c') → Together F c → Row F c c' event
 
--- a clean header, all of whose calls are in the journal: every live block is home on the disk
+-- a clean header, up to whose number no call that isn't in the journal touches a block: every live block is home on the disk. The number is that of the node's last
+-- call in an unmount, and that of the accepted head in a replay
 abbrev pub CleanRow : Files → Type 0
-CleanRow F = (w : World F) (i : ℕ) (h : Head F) → IsHeader F (w.book) (w.disk) i ((w.book).low i) h → ((b : ℕ) → h.live b ≡ None)
+CleanRow F = (w : World F) (i u : ℕ) (h : Head F) → IsHeader F (w.book) (w.disk) i u h → ((b : ℕ) → h.live b ≡ None)
+    → ((b : ℕ) → Untouched F (w.book) i ((w.book).low i) u b)
     → (b : ℕ) (v : F.Content) → ((w.disk).heads i false).live b ≡ Some v → (w.disk).blocks b ≡ v
 
 -- ---- full: what a node saw that answered nospace

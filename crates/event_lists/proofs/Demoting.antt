@@ -1,5 +1,5 @@
 -- The stages of a demotion, and an unmount.
-use Rattle.std.proofs.Common.{ℕ, suc, ◌≡◌, ◌≤◌, ◌<◌, ◌⊎◌, inl, inr, Bool, true, false, None, Some, refl, sym, ap, ◌∙◌, arith}
+use Rattle.std.proofs.Common.{ℕ, suc, ◌≡◌, ◌≤◌, ◌<◌, ◌⊎◌, inl, inr, Bool, true, false, None, Some, refl, sym, ap, ◌∙◌}
 use Rattle.std.proofs.lemmas.Bool.{cases_Bool, cond-true, cond-false}
 use Rattle.cluster_laws.specs.Files.{Files, Ex}
 use Rattle.cluster_laws.specs.Book.{flushed, settled}
@@ -43,21 +43,21 @@ module _ (F : Files) where
       after true = ap (λ f. f true) (at-same ((headed F (DiskOf F c) i h).heads) i _) ∙ new
 
   pub flushes : FlushFlushes F
-  flushes B i l e n b x low high change = absurd (omega (arith, e))
+  flushes B i l untouched n b x low high change = absurd (none-some (untouched b n low high) change)
 
   pub revokes : RevokesAreHeader F
-  revokes B D i p mirror low home none_flying = record {
+  revokes B D i u h p header untouched home = record {
     header = record {
-      cut = mirror.alone i;
-      range = (omega arith, low);
-      each = λ b. inl (
-        (λ n lo hi. absurd (omega arith)),
-        elim (cases_Bool (p b)) [
-          | inl e ↦ inr (cond-true _ _ _ e, λ v live. home b v e live)
-          | inr e ↦ inl (cond-false _ _ _ e)
-        ],
-      );
-      none_flying = none_flying;
+      cut = header.cut;
+      range = header.range;
+      each = λ b. elim (cases_Bool (p b)) [
+        | inl e ↦ inl (untouched b e, inr (cond-true _ _ _ e, λ v live. home b v e live))
+        | inr e ↦ elim (header.each b) [
+          | inl same ↦ inl (same.0, elim (same.1) [ inl was ↦ inl (cond-false _ _ _ e ∙ was) | inr gone ↦ inr (cond-false _ _ _ e ∙ gone.0, gone.1) ])
+          | inr last ↦ inr (last.0, elim (last.1) [ inl logged ↦ inl (cond-false _ _ _ e ∙ logged) | inr free ↦ inr free ])
+        ]
+      ];
+      none_flying = header.none_flying;
     };
     revoked = λ l all b v live under. elim (cases_Bool (p b)) [
       | inl e ↦ none-some (cond-true _ _ _ e) live
@@ -117,15 +117,15 @@ module _ (F : Files) where
   -- ---- an unmount
 
   pub clean_header : CleanIsHeader F
-  clean_header B D i mirror all low home none_flying = record {
+  clean_header B D i u range untouched home none_flying = record {
     cut = refl;
-    range = (omega (arith, all), omega (arith, all, low));
-    each = λ b. inl ((λ n lo hi. absurd (omega (arith, all))), inr (refl, λ v live. home b v live));
+    range = range;
+    each = λ b. inl (untouched b, inr (refl, λ v live. home b v live));
     none_flying = none_flying;
   }
 
   pub clean_releases : CleanReleases F
-  clean_releases B D i l all dead = record {
+  clean_releases B D i l untouched dead = record {
     unlive = λ d b v live under. none-some (dead d b) live;
-    untouched = λ n b x low high change. absurd (omega (arith, all));
+    untouched = λ n b x low high change. absurd (none-some (untouched b n low high) change);
   }

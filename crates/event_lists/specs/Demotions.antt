@@ -2,8 +2,8 @@
 use Rattle.std.specs.Prelude.{ℕ, suc, ◌≡◌, ◌≤◌, ◌<◌, ◌⊎◌, Bool, true, false, if◌then◌else◌, None, Some}
 use Rattle.cluster_laws.specs.Files.{Files, CellOf, Part, LockOf, Un, Ex}
 use Rattle.cluster_laws.specs.Book.{Book}
-use Rattle.cluster_laws.specs.Mirror.{Head, Disk, Mirror}
-use Rattle.cluster_laws.specs.Log.{IsHeader, MayGo}
+use Rattle.cluster_laws.specs.Mirror.{Head, Disk}
+use Rattle.cluster_laws.specs.Log.{Untouched, IsHeader, MayGo}
 use Rattle.cluster_events.specs.Cluster.{HasIdleWriter, Cluster, BookOf, Weakens, Events, Together}
 use Rattle.lock_laws.specs.Lock.{Node}
 
@@ -39,26 +39,27 @@ abbrev pub CommitIsEvents : Files → Type 0
 CommitIsEvents F = (c : Cluster F) (i u : ℕ) (h : Head F) → Together F c → (DiskOf F c).heads i true ≡ (DiskOf F c).heads i false → HasIdleWriter F c i
     → IsHeader F (BookOf F c) (DiskOf F c) i u h → (c' : Cluster F) × IsCommit F c i u h c'
 
--- a flush up to the last call is past the flush of every lock
+-- a journal without whose calls no block was touched is past the flush of every lock: so it is behind a flush up to the last call, and stays with reads and syncs
+-- that are answered later (calls that change no tree touch no block)
 abbrev pub FlushFlushes : Files → Type 0
-FlushFlushes F = (B : Book F) (i : ℕ) (l : F.Lock) → B.low i ≡ B.answered i → IsFlushed F B i l
+FlushFlushes F = (B : Book F) (i : ℕ) (l : F.Lock) → ((b : ℕ) → Untouched F B i (B.low i) (B.answered i) b) → IsFlushed F B i l
 
 -- the head without these blocks
 abbrev pub without_live : (F : Files) → Head F → (ℕ → Bool) → Head F
 without_live F h p = record { cut = h.cut; live = λ b. if p b then None else h.live b }
 
--- Revokes: of blocks that are home, and nothing of the node in flight, the header that leaves them out may go, and it leaves no block live under a lock
--- all of whose live blocks are among them.
-pub record RevokesGo (F : Files) (B : Book F) (D : Disk F) (i : ℕ) (p : ℕ → Bool) : Type 0 where
-  pub header : IsHeader F B D i (B.low i) (without_live F (D.heads i false) p)
-  pub revoked : (l : F.Lock) → ((b : ℕ) (v : F.Content) → (D.heads i false).live b ≡ Some v → LockOf F (B.says i (B.low i) b) ≡ l → p b ≡ true)
-      → (b : ℕ) (v : F.Content) → (without_live F (D.heads i false) p).live b ≡ Some v → LockOf F (B.says i (B.low i) b) ≡ l → ⊥
+-- Revokes: where a header with the calls up to u may go, so may one that leaves out blocks that are home and that none of these calls touches; and it leaves no
+-- block live under a lock all of whose live blocks are among them.
+pub record RevokesGo (F : Files) (B : Book F) (D : Disk F) (i u : ℕ) (h : Head F) (p : ℕ → Bool) : Type 0 where
+  pub header : IsHeader F B D i u (without_live F h p)
+  pub revoked : (l : F.Lock) → ((b : ℕ) (v : F.Content) → h.live b ≡ Some v → LockOf F (B.says i u b) ≡ l → p b ≡ true)
+      → (b : ℕ) (v : F.Content) → (without_live F h p).live b ≡ Some v → LockOf F (B.says i u b) ≡ l → ⊥
 
 abbrev pub RevokesAreHeader : Files → Type 0
-RevokesAreHeader F = (B : Book F) (D : Disk F) (i : ℕ) (p : ℕ → Bool) → Mirror F B D → B.low i ≤ B.published i
+RevokesAreHeader F = (B : Book F) (D : Disk F) (i u : ℕ) (h : Head F) (p : ℕ → Bool) → IsHeader F B D i u h
+    → ((b : ℕ) → p b ≡ true → Untouched F B i (B.low i) u b)
     → ((b : ℕ) (v : F.Content) → p b ≡ true → (D.heads i false).live b ≡ Some v → D.blocks b ≡ v)
-    → ((r b : ℕ) (v : F.Content) → D.flight r b ≡ Some v → B.owner b ≡ Some i → ⊥)
-    → RevokesGo F B D i p
+    → RevokesGo F B D i u h p
 
 -- past flush and revokes the lock may go
 abbrev pub StagesRelease : Files → Type 0
@@ -81,12 +82,14 @@ ReleaseIsEvents F = (c : Cluster F) (i : ℕ) (locks : F.Lock → ℕ → Node) 
 
 -- ---- an unmount
 
--- All calls are in the journal and every live block is home, so the clean header may go; with it no block is live, and every lock may go.
+-- The clean header carries a number up to which the calls that aren't in the journal touch no block: in an unmount that of the node's last call, in a replay that of
+-- the accepted head. Every live block is home. With it no block is live, and every lock may go.
 abbrev pub CleanIsHeader : Files → Type 0
-CleanIsHeader F = (B : Book F) (D : Disk F) (i : ℕ) → Mirror F B D → B.low i ≡ B.answered i → B.low i ≤ B.published i
+CleanIsHeader F = (B : Book F) (D : Disk F) (i u : ℕ) → (B.low i ≤ u) × (u ≤ B.published i) → ((b : ℕ) → Untouched F B i (B.low i) u b)
     → ((b : ℕ) (v : F.Content) → (D.heads i false).live b ≡ Some v → D.blocks b ≡ v)
     → ((r b : ℕ) (v : F.Content) → D.flight r b ≡ Some v → B.owner b ≡ Some i → ⊥)
-    → IsHeader F B D i (B.answered i) (record { cut = B.answered i; live = λ b. None })
+    → IsHeader F B D i u (record { cut = u; live = λ b. None })
 
 abbrev pub CleanReleases : Files → Type 0
-CleanReleases F = (B : Book F) (D : Disk F) (i : ℕ) (l : F.Lock) → B.low i ≡ B.answered i → ((d : Bool) (b : ℕ) → (D.heads i d).live b ≡ None) → MayGo F B D i l
+CleanReleases F = (B : Book F) (D : Disk F) (i : ℕ) (l : F.Lock) → ((b : ℕ) → Untouched F B i (B.low i) (B.answered i) b) → ((d : Bool) (b : ℕ) → (D.heads i d).live b ≡ None)
+    → MayGo F B D i l
