@@ -44,13 +44,13 @@ module _ (F : Files) (B : Book F) (whole : Whole F B) (j : ℕ) (said : F.Said) 
   abbrev After : Book F
   After = tried F B j said v c cache
 
-  own-answered : After.answered j ≡ suc (B.answered j)
+  pub own-answered : After.answered j ≡ suc (B.answered j)
   own-answered = at-same (B.answered) j _
 
-  own-change : (n : ℕ) → n < B.answered j → After.change j (suc n) ≡ B.change j (suc n)
+  pub own-change : (n : ℕ) → n < B.answered j → After.change j (suc n) ≡ B.change j (suc n)
   own-change n below = ap (λ f. f (suc n)) (at-same (B.change) j _) ∙ at-other (B.change j) (suc (B.answered j)) c (suc n) (λ e. absurd (omega arith))
 
-  last-change : After.change j (suc (B.answered j)) ≡ c
+  pub last-change : After.change j (suc (B.answered j)) ≡ c
   last-change = ap (λ f. f (suc (B.answered j))) (at-same (B.change) j _) ∙ at-same (B.change j) (suc (B.answered j)) c
 
   own : (since last : F.Lock → ℕ) → ((l : F.Lock) → Touches F c l → suc (B.answered j) ≤ last l) → NumbersStand F B j since last → NumbersStand F After j since last

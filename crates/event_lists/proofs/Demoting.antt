@@ -1,30 +1,23 @@
 -- The stages of a demotion, and an unmount.
-use Rattle.std.proofs.Common.{ℕ, suc, ◌≡◌, ◌≤◌, ◌<◌, ◌⊎◌, inl, inr, Bool, true, false, None, Some, refl, sym, ap, ◌∙◌}
-use Rattle.std.proofs.lemmas.Bool.{cases_Bool, cond-true, cond-false}
+use Rattle.std.proofs.Common.{ℕ, suc, ◌≡◌, ◌≤◌, ◌<◌, ◌⊎◌, inl, inr, Bool, true, false, None, Some, refl, sym, ap, ◌∙◌, subst}
+use Rattle.std.proofs.lemmas.Bool.{cases_eq, cases_Bool, cond-true, cond-false}
 use Rattle.cluster_laws.specs.Files.{Files, Ex}
-use Rattle.cluster_laws.specs.Book.{flushed, settled}
-use Rattle.cluster_laws.specs.Mirror.{Head, headed, either, chosen}
+use Rattle.cluster_laws.specs.Book.{at, flushed, settled}
+use Rattle.cluster_laws.specs.Mirror.{headed, either, chosen}
 use Rattle.cluster_laws.specs.World.{World, Begins, Ends, Settles}
-use Rattle.cluster_laws.proofs.Cells.{none-some, at-same}
+use Rattle.cluster_laws.proofs.Cells.{none-some, at-same, at-other}
 use Rattle.cluster_laws.proofs.Logging.{header_heads, given_back, given, stays, never_under}
-use Rattle.cluster_events.specs.Cluster.{BookOf, NothingUnder, Works, GoesDown, Done, Then}
+use Rattle.cluster_events.specs.Cluster.{BookOf, NothingUnder, Events, Works, GoesDown, Done, Then}
 use Rattle.event_lists.specs.Stops.{with_world}
-use Rattle.event_lists.specs.Demotions.{DiskOf, CommitIsEvents, FlushFlushes, RevokesAreHeader, StagesRelease, ReleaseIsEvents, CleanIsHeader, CleanReleases}
+use Rattle.event_lists.specs.Demotions.{DiskOf, committed, CommitIsEvents, FlushFlushes, RevokesAreHeader, HomeIsRevoked, StagesRelease, ReleaseIsEvents, CleanIsHeader, CleanReleases}
 
 module _ (F : Files) where
   -- ---- a header and its barrier
 
   pub commit : CommitIsEvents F
-  commit c i u h t single writer header = (
-    with_world F c landed,
-    record {
-      events = Then c (with_world F c begun) _ (Works begun (Begins i h single (header_heads F (BookOf F c) (DiskOf F c) i u h ((t.world).whole) ((t.world).mirror) header)) (writer, header.none_flying))
-          (Then (with_world F c begun) (with_world F c landed) _ (Works landed (Ends i true) tt) (Done (with_world F c landed)));
-      low = at-same ((BookOf F c).low) i _ ∙ ap (λ (z : Head F). z.cut) new ∙ header.cut;
-      heads = after;
-      rest = (refl, refl, refl, refl, refl);
-    },
-  )
+  commit c i u h t single writer header = subst (λ z. Events F c z) same
+      (Then c (with_world F c begun) _ (Works begun (Begins i h single (header_heads F (BookOf F c) (DiskOf F c) i u h ((t.world).whole) ((t.world).mirror) header)) (writer, header.none_flying))
+      (Then (with_world F c begun) (with_world F c landed) _ (Works landed (Ends i true) tt) (Done (with_world F c landed))))
     where
       begun : World F
       begun = record (c.world) { disk = headed F (DiskOf F c) i h }
@@ -38,9 +31,22 @@ module _ (F : Files) where
       new : (headed F (DiskOf F c) i h).heads i true ≡ h
       new = ap (λ f. f true) (at-same ((DiskOf F c).heads) i (either ((DiskOf F c).heads i false) h))
 
-      after : (d : Bool) → (chosen F (headed F (DiskOf F c) i h) i true).heads i d ≡ h
-      after false = ap (λ f. f false) (at-same ((headed F (DiskOf F c) i h).heads) i _) ∙ new
-      after true = ap (λ f. f true) (at-same ((headed F (DiskOf F c) i h).heads) i _) ∙ new
+      after : (k : ℕ) → (chosen F (headed F (DiskOf F c) i h) i true).heads k ≡ at ((DiskOf F c).heads) i (λ d. h) k
+      after k = elim (cases_eq k i) [
+        | inl e ↦ subst (λ z. (chosen F (headed F (DiskOf F c) i h) i true).heads z ≡ at ((DiskOf F c).heads) i (λ d. h) z) (sym e)
+            (at-same ((headed F (DiskOf F c) i h).heads) i _ ∙ (λ z d. both d z) ∙ sym (at-same ((DiskOf F c).heads) i (λ d. h)))
+        | inr ne ↦ at-other ((headed F (DiskOf F c) i h).heads) i _ k ne ∙ at-other ((DiskOf F c).heads) i _ k ne ∙ sym (at-other ((DiskOf F c).heads) i (λ d. h) k ne)
+      ]
+        where
+          both : (d : Bool) → either ((headed F (DiskOf F c) i h).heads i true) ((headed F (DiskOf F c) i h).heads i true) d ≡ h
+          both false = new
+          both true = new
+
+      same : with_world F c landed ≡ committed F c i h
+      same = λ z. with_world F c (record (c.world) {
+        book = flushed F (BookOf F c) i ((new z).cut);
+        disk = record (DiskOf F c) { heads = λ k. after k z };
+      })
 
   pub flushes : FlushFlushes F
   flushes B i l untouched n b x low high change = absurd (none-some (untouched b n low high) change)
@@ -68,6 +74,9 @@ module _ (F : Files) where
       true-false : {z : Bool} → z ≡ true → z ≡ false → ⊥
       true-false e f = cc
 
+  pub home_revoked : HomeIsRevoked F
+  home_revoked B D i u h p l header home untouched under = revokes B D i u h p header untouched (λ b v e live. (home b v live (under b v e live)).0)
+
   pub stages : StagesRelease F
   stages B D i l flushed revoked = record { unlive = revoked; untouched = flushed }
 
@@ -82,6 +91,8 @@ module _ (F : Files) where
           (Then (with_world F c (record (c.world) { book = settled F (BookOf F c) i back })) _ _ (GoesDown i locks cache here weakens all clean' cached) (Done _));
       now = refl;
       states = λ l. ap (λ f. f l) (at-same ((BookOf F c).state) i _);
+      low = refl;
+      items = refl;
       disk = refl;
     },
   )

@@ -1,7 +1,7 @@
--- A demotion in its stages, and an unmount, as lists of events.
+-- A demotion in its stages, and an unmount in its.
 use Rattle.std.specs.Prelude.{ℕ, suc, ◌≡◌, ◌≤◌, ◌<◌, ◌⊎◌, Bool, true, false, if◌then◌else◌, None, Some}
 use Rattle.cluster_laws.specs.Files.{Files, CellOf, Part, LockOf, Un, Ex}
-use Rattle.cluster_laws.specs.Book.{Book}
+use Rattle.cluster_laws.specs.Book.{at, Book, flushed}
 use Rattle.cluster_laws.specs.Mirror.{Head, Disk}
 use Rattle.cluster_laws.specs.Log.{Untouched, IsHeader, MayGo}
 use Rattle.cluster_events.specs.Cluster.{HasIdleWriter, Cluster, BookOf, Weakens, Events, Together}
@@ -28,16 +28,15 @@ IsRevoked F B D i l = (d : Bool) (b : ℕ) (v : F.Content) → (D.heads i d).liv
 
 -- ---- a header with its barrier: of a flush, of revokes, alone, or clean
 
-pub record IsCommit (F : Files) (c : Cluster F) (i u : ℕ) (h : Head F) (c' : Cluster F) : Type 0 where
-  pub events : Events F c c'
-  pub low : (BookOf F c').low i ≡ u
-  pub heads : (d : Bool) → (DiskOf F c').heads i d ≡ h
-  pub rest : ((BookOf F c').answered ≡ (BookOf F c).answered) × ((BookOf F c').published ≡ (BookOf F c).published) × ((BookOf F c').says ≡ (BookOf F c).says)
-      × ((BookOf F c').state ≡ (BookOf F c).state) × ((DiskOf F c').blocks ≡ (DiskOf F c).blocks)
+-- the journal then has the calls that the header says, and this head
+abbrev pub committed : (F : Files) → Cluster F → ℕ → Head F → Cluster F
+committed F c i h = record c {
+  world = record (c.world) { book = flushed F (BookOf F c) i (h.cut); disk = record (DiskOf F c) { heads = at ((DiskOf F c).heads) i (λ d. h) } };
+}
 
 abbrev pub CommitIsEvents : Files → Type 0
 CommitIsEvents F = (c : Cluster F) (i u : ℕ) (h : Head F) → Together F c → (DiskOf F c).heads i true ≡ (DiskOf F c).heads i false → HasIdleWriter F c i
-    → IsHeader F (BookOf F c) (DiskOf F c) i u h → (c' : Cluster F) × IsCommit F c i u h c'
+    → IsHeader F (BookOf F c) (DiskOf F c) i u h → Events F c (committed F c i h)
 
 -- a journal without whose calls no block was touched is past the flush of every lock: so it is behind a flush up to the last call, and stays with reads and syncs
 -- that are answered later (calls that change no tree touch no block)
@@ -61,6 +60,13 @@ RevokesAreHeader F = (B : Book F) (D : Disk F) (i u : ℕ) (h : Head F) (p : ℕ
     → ((b : ℕ) (v : F.Content) → p b ≡ true → (D.heads i false).live b ≡ Some v → D.blocks b ≡ v)
     → RevokesGo F B D i u h p
 
+-- past its barrier so may the live blocks under the lock be left out
+abbrev pub HomeIsRevoked : Files → Type 0
+HomeIsRevoked F = (B : Book F) (D : Disk F) (i u : ℕ) (h : Head F) (p : ℕ → Bool) (l : F.Lock) → IsHeader F B D i u h → IsAtHome F B D i l
+    → ((b : ℕ) → p b ≡ true → Untouched F B i (B.low i) u b)
+    → ((b : ℕ) (v : F.Content) → p b ≡ true → (D.heads i false).live b ≡ Some v → LockOf F (B.says i (B.low i) b) ≡ l)
+    → RevokesGo F B D i u h p
+
 -- past flush and revokes the lock may go
 abbrev pub StagesRelease : Files → Type 0
 StagesRelease F = (B : Book F) (D : Disk F) (i : ℕ) (l : F.Lock) → IsFlushed F B i l → IsRevoked F B D i l → MayGo F B D i l
@@ -71,6 +77,8 @@ pub record IsRelease (F : Files) (c : Cluster F) (i : ℕ) (locks : F.Lock → �
   pub events : Events F c c'
   pub now : c'.locks ≡ locks
   pub states : (l : F.Lock) → (BookOf F c').state i l ≡ (locks l i).state
+  pub low : (BookOf F c').low i ≡ (BookOf F c).low i
+  pub items : (c'.world).items ≡ (c.world).items
   pub disk : (c'.world).disk ≡ (c.world).disk
 
 abbrev pub ReleaseIsEvents : Files → Type 0

@@ -2,7 +2,9 @@
 #![tactic(auto)]
 
 ghost use Rattle.event_lists.specs.Stops.{CrashIsEvents, CrashAfterWrite, FenceIsEvents, KeptIsFound, RecoveryIsEvents, StartRecoveryIsEvents, PastIsEvents};
-ghost use Rattle.event_lists.specs.Demotions.{CommitIsEvents, FlushFlushes, RevokesAreHeader, StagesRelease, ReleaseIsEvents, CleanIsHeader, CleanReleases};
+ghost use Rattle.event_lists.specs.Demotions.{CommitIsEvents, FlushFlushes, RevokesAreHeader, HomeIsRevoked, StagesRelease, ReleaseIsEvents, CleanIsHeader, CleanReleases};
+ghost use Rattle.event_lists.specs.Homes.{HomeIsEvents, HomeIsAtHome, DemotionIsEvents, UnmountIsEvents};
+ghost use Rattle.event_lists.specs.Stages.{StagesStay};
 ghost use Rattle.event_lists.specs.Begins.{StartsFromDisk};
 
 use cluster_laws::System;
@@ -35,8 +37,30 @@ pub fn a_commit_is_events<S: System>()
 pub fn a_demotion_is_stages<S: System>()
     ensures flush { FlushFlushes S.files }
     ensures revokes { RevokesAreHeader S.files }
+    ensures home { HomeIsRevoked S.files }
     ensures stages { StagesRelease S.files }
     ensures release { ReleaseIsEvents S.files }
+{}
+
+/// A law: writes home with their barrier; behind it every live block under a lock that was put home is at home.
+pub fn home_writes_are_events<S: System>()
+    ensures home { HomeIsEvents S.files }
+    ensures at_home { HomeIsAtHome S.files }
+{}
+
+/// A law: a stage that a demotion has reached stays through every event, but for those that set it back.
+pub fn stages_stay<S: System>()
+    ensures { StagesStay S.files }
+{}
+
+/// A law: a demotion, from its flush to its release.
+pub fn a_demotion_is_events<S: System>()
+    ensures { DemotionIsEvents S.files }
+{}
+
+/// A law: an unmount, from its flush until every lock is down.
+pub fn an_unmount_is_events<S: System>()
+    ensures { UnmountIsEvents S.files }
 {}
 
 /// A law: an unmount's clean header may go, and behind it every lock.
