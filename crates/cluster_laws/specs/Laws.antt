@@ -132,6 +132,16 @@ NumbersKeep F = (w w' : World F) (step : Step F w w') (i : ℕ) (since last sinc
 abbrev pub head_cuts : (F : Files) → Disk F → (ℕ → Bool) → ℕ → ℕ
 head_cuts F D choice i = (D.heads i (choice i)).cut
 
+-- of this node the losses of one life keep what the rule of losses keeps: the number that the cut has, or more that changes nothing
+abbrev pub HasLoss : (F : Files) → Book F → (ℕ → ℕ) → ℕ → List Life → Type 0
+HasLoss F B cut i [] = ⊥
+HasLoss F B cut i (l ∷ ls) = ((l.node ≡ i) × (l.kept ≤ B.answered i) × Calm F B i (cut i) (l.kept)) ⊎ HasLoss F B cut i ls
+
+-- a loss for each node that has published more than the cut keeps, by the rule; several of one node among them, in any order
+pub record AreLosses (F : Files) (B : Book F) (published cut : ℕ → ℕ) (ls : List Life) : Type 0 where
+  pub above : Above cut ls
+  pub every : (i : ℕ) → (published i ≤ cut i) ⊎ HasLoss F B cut i ls
+
 -- the prefix clause: whatever becomes of the writes in flight and of the headers, the history with a loss for each life that has none is legal, and
 -- the disk, its journals replayed, stands for the tree at its end
 abbrev pub PrefixClause : Files → Type 0
@@ -139,3 +149,20 @@ PrefixClause F = (w : World F) (choice : ℕ → Bool) (x r : ℕ → F.Content)
     → IsOutcome F (w.disk) x → IsReplay F (w.disk) choice x r → AreLives ((w.book).published) (head_cuts F (w.disk) choice) ls
     → Legal F (w.items ++ gones F ls) ((w.book).start)
     × ((t : F.Tree) × F.Stands (placed F r (W F (w.book) (head_cuts F (w.disk) choice))) t × RightTo F (saids F (living F (w.items ++ gones F ls))) ((w.book).start) t)
+
+-- no published call that isn't in the accepted head of its node's journal changes anything
+abbrev pub NothingIsUnflushed : (F : Files) → World F → Type 0
+NothingIsUnflushed F w = (i : ℕ) → Calm F (w.book) i ((w.book).low i) ((w.book).published i)
+
+-- Then there is nothing to lose: each outcome of the disk, replayed, stands for the tree of the history as it is. So it is at the end of a run, where each node
+-- unmounted or only read.
+abbrev pub AtTheEnd : Files → Type 0
+AtTheEnd F = (w : World F) (choice : ℕ → Bool) (x r : ℕ → F.Content) → Sound F w → FreeIsFree F → NothingIsUnflushed F w
+    → IsOutcome F (w.disk) x → IsReplay F (w.disk) choice x r
+    → (t : F.Tree) × F.Stands (placed F r (W F (w.book) ((w.book).published))) t × RightTo F (saids F (living F (w.items))) ((w.book).start) t
+
+-- and with nothing live and nothing in flight it is the image on the disk itself
+abbrev pub ImageAtTheEnd : Files → Type 0
+ImageAtTheEnd F = (w : World F) → Sound F w → FreeIsFree F → NothingIsUnflushed F w → ((r b : ℕ) → (w.disk).flight r b ≡ None)
+    → ((i : ℕ) (c : Bool) (b : ℕ) → ((w.disk).heads i c).live b ≡ None)
+    → (t : F.Tree) × F.Stands (placed F ((w.disk).blocks) (W F (w.book) ((w.book).published))) t × RightTo F (saids F (living F (w.items))) ((w.book).start) t

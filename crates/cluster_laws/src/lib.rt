@@ -2,7 +2,7 @@
 #![tactic(auto)]
 
 ghost use Rattle.cluster_laws.specs.Files.{Files};
-ghost use Rattle.cluster_laws.specs.Laws.{TryKeeps, PublishKeeps, FlushKeeps, DownKeeps, GrantKeeps, ReadSees, Remains, StepKeeps, HeaderHeads, ReleaseKeeps, NumberTells, NotedReads, TryKeepsNotes, ReadKeepsNotes, StepKeepsNotes, NotesStand, NumbersKeep, CalmIsUntouched, ReadIsRight, RemainsLegal, PrefixClause, RecoveredKeeps};
+ghost use Rattle.cluster_laws.specs.Laws.{TryKeeps, PublishKeeps, FlushKeeps, DownKeeps, GrantKeeps, ReadSees, Remains, StepKeeps, HeaderHeads, ReleaseKeeps, NumberTells, NotedReads, TryKeepsNotes, ReadKeepsNotes, StepKeepsNotes, NotesStand, NumbersKeep, CalmIsUntouched, ReadIsRight, RemainsLegal, PrefixClause, AtTheEnd, ImageAtTheEnd, RecoveredKeeps};
 ghost use Rattle.cluster_laws.specs.World.{EveryRun};
 ghost use Rattle.cluster_laws.specs.Rings.{EveryDisk, RingsReplay, RingGoesOver, RingBegins, RingEnds, StartSlotRecovered, PastEnds};
 ghost use Rattle.cluster_laws.specs.Notes.{NeedsAreDone};
@@ -190,4 +190,11 @@ pub fn a_ring_ends<S: System>()
 /// A law: the prefix clause, with losses of several lives and nodes in any order.
 pub fn every_prefix_is_right<S: System>()
     ensures { PrefixClause S.files }
+{}
+
+/// A law: where nothing is unflushed, nothing is to be lost: the disk, replayed, stands for the tree of the history as it is; so does the image itself, where
+/// no block is live or in flight.
+pub fn the_end_is_right<S: System>()
+    ensures replayed { AtTheEnd S.files }
+    ensures image { ImageAtTheEnd S.files }
 {}

@@ -3,11 +3,11 @@
 use Rattle.std.specs.Prelude.{ℕ, zero, suc, ◌-◌, ◌≡◌, ◌≤◌, ◌<◌, ◌⊎◌, Bool, true, false, not, if◌then◌else◌, None, Some, List, [], ◌∷◌, ◌++◌}
 use Rattle.cluster_laws.specs.Files.{Files, CellOf, Part, LockOf, RightTo, State, Un, Sh, Df, Ex}
 use Rattle.cluster_laws.specs.Book.{W, InBox, publish}
-use Rattle.cluster_laws.specs.Mirror.{IsReplay, FreeIsFree, placed}
+use Rattle.cluster_laws.specs.Mirror.{Near, IsReplay, FreeIsFree, placed}
 use Rattle.cluster_laws.specs.History.{Called, living, saids, Legal, Life, gones, AreLives}
 use Rattle.cluster_laws.specs.Log.{Untouched, Last}
 use Rattle.cluster_laws.specs.World.{World, Sound, Run}
-use Rattle.cluster_laws.specs.Laws.{head_cuts}
+use Rattle.cluster_laws.specs.Laws.{head_cuts, AreLosses}
 use Rattle.lock_laws.specs.Lock.{goes, leq, eff, has_report}
 use Rattle.cluster_laws.specs.World as world
 use Rattle.cluster_events.specs.Cluster.{Cluster, BookOf, Together, Event, Works, GoesDown, Stops}
@@ -41,9 +41,9 @@ PublishedFrom F n w = (i : ℕ) → n ≤ i → (w.book).published i ≡ (w.book
 abbrev pub cut_of : (F : Files) → World F → (ℕ → Bool) → (ℕ → Bool) → ℕ → ℕ
 cut_of F w stops choice i = if stops i then head_cuts F (w.disk) choice i else (w.book).answered i
 
--- the block is unflushed at a node that doesn't stop, with this content
+-- the block is unflushed at a node that doesn't stop, with this content, or free and with any
 abbrev pub IsUnflushed : (F : Files) → World F → (ℕ → Bool) → (ℕ → Bool) → ℕ → F.Content → Type 0
-IsUnflushed F w stops choice b d = (i : ℕ) × (stops i ≡ false) × ((l : Last F (w.book) i (head_cuts F (w.disk) choice i) ((w.book).answered i) b) × (d ≡ (l.cell).content))
+IsUnflushed F w stops choice b d = (i : ℕ) × (stops i ≡ false) × ((l : Last F (w.book) i (head_cuts F (w.disk) choice i) ((w.book).answered i) b) × Near F d (l.cell))
 
 abbrev pub NoneUnflushed : (F : Files) → World F → (ℕ → Bool) → (ℕ → Bool) → ℕ → Type 0
 NoneUnflushed F w stops choice b = (i : ℕ) → stops i ≡ false → Untouched F (w.book) i (head_cuts F (w.disk) choice i) ((w.book).answered i) b
@@ -60,8 +60,8 @@ abbrev pub Shows : (F : Files) → World F → (ℕ → Bool) → (ℕ → Bool)
 Shows F w stops choice r = (b : ℕ) → IsUnflushed F w stops choice b (r b)
     ⊎ (NoneUnflushed F w stops choice b × (IsLive F w choice b (r b) ⊎ (NoneLive F w choice b × (r b ≡ (w.disk).blocks b))))
 
--- The first part. The history is the published items, then the answered calls of each node that aren't published, then a loss for each life of a node
--- that stops: it is legal, and the image stands for the tree at its end.
+-- The first part. The history is the published items, then the answered calls of each node that aren't published, then a loss by the rule for each life of a node
+-- that stops, which may keep calls behind the accepted head's that change nothing: it is legal, and the image stands for the tree at its end.
 pub record IsRight (F : Files) (w : World F) (n : ℕ) (stops choice : ℕ → Bool) (ls : List Life) : Type 0 where
   pub legal : Legal F ((published_below F n w).items ++ gones F ls) ((w.book).start)
   pub tree : F.Tree
@@ -71,7 +71,7 @@ pub record IsRight (F : Files) (w : World F) (n : ℕ) (stops choice : ℕ → B
 
 abbrev pub EverySetMayStop : Files → Type 0
 EverySetMayStop F = (w : World F) (n : ℕ) (stops choice : ℕ → Bool) (ls : List Life) → Sound F w → PublishedFrom F n w
-    → AreLives ((w.book).answered) (cut_of F w stops choice) ls → IsRight F w n stops choice ls
+    → AreLosses F (w.book) ((w.book).answered) (cut_of F w stops choice) ls → IsRight F w n stops choice ls
 
 -- the calls that are published for it are steps
 abbrev pub AllIsPublished : Files → Type 0
