@@ -76,8 +76,8 @@ module _ (F : Files) (plain : CellOf F → Bool) (own : ℕ → Part F) (c : Clu
   keeps _ (Fences i out unfenced none) j b x old = (allow j b x old).1
   keeps _ Views j b x old = (allow j b x old).1
   keeps _ (Joins i here out fenced waits) j b x old = (allow j b x old).1
-  keeps _ (Recovers i here wait nothing_left) j b x h = ends i (waits-acts (c.runs i) (c.waits i) wait) j b x h
-  keeps _ (PastEnds wait nothing_left) j b x h = ends (c.past) (waits-acts (c.runs (c.past)) (c.waits (c.past)) wait) j b x h
+  keeps _ (Recovers i here wait nothing_left unheaded told) j b x h = ends i (waits-acts (c.runs i) (c.waits i) wait) j b x h
+  keeps _ (PastEnds wait nothing_left unheaded) j b x h = ends (c.past) (waits-acts (c.runs (c.past)) (c.waits (c.past)) wait) j b x h
 
   -- ---- and it is in the cache of the book
 
@@ -132,8 +132,8 @@ module _ (F : Files) (plain : CellOf F → Bool) (own : ℕ → Part F) (c : Clu
   keeps-in _ (Fences i out unfenced none) j b x old = (allow j b x old).0
   keeps-in _ Views j b x old = (allow j b x old).0
   keeps-in _ (Joins i here out fenced waits) j b x old = (allow j b x old).0
-  keeps-in _ (Recovers i here wait nothing_left) j b x old = (allow j b x old).0
-  keeps-in _ (PastEnds wait nothing_left) j b x old = (allow j b x old).0
+  keeps-in _ (Recovers i here wait nothing_left unheaded told) j b x old = (allow j b x old).0
+  keeps-in _ (PastEnds wait nothing_left unheaded) j b x old = (allow j b x old).0
 
 pub minded : (F : Files) → StateMindedKeeps F
 minded F plain own own' c c' event t minds allow j b x has =

@@ -134,25 +134,25 @@ abbrev pub MasterKnows : (F : Files) → Cluster F → Type 0
 MasterKnows F c = (i : ℕ) (l : F.Lock) → (c.locks l i).taken ≡ true → has_report ((c.locks l i).up) ≡ false
     → (leq (eff (c.locks l i)) ((c.locks l i).table) ≡ true) × ((s : State) → (c.locks l i).down ≡ Some s → leq s ((c.locks l i).table) ≡ true)
 
--- and who is fenced has nothing in flight
-abbrev pub FencedAreQuiet : (F : Files) → Cluster F → Type 0
-FencedAreQuiet F c = (i b : ℕ) → c.fenced i ≡ true → ((c.world).disk).flight i b ≡ None
-
 pub record LockParts (F : Files) (c : Cluster F) : Type 0 where
   pub states : StatesGo F c
   pub master : MasterKnows F c
-  pub fenced : FencedAreQuiet F c
 
 abbrev pub LockPartsHold : Files → Type 0
 LockPartsHold F = (c : Cluster F) → Together F c → LockParts F c
 
--- The rest of the seventh, of headers: while a header of a journal is in flight, nothing is in flight to a block of it.
-abbrev pub HeadersFlyAlone : (F : Files) → Cluster F → Type 0
-HeadersFlyAlone F c = (i r b : ℕ) (v : F.Content) → ((c.world).disk).flight r b ≡ Some v → (BookOf F c).owner b ≡ Some i
-    → ((c.world).disk).heads i true ≡ ((c.world).disk).heads i false
+-- The rest of the seventh, of who writes. A write home in flight is of the journal's own node or of one that replays its slot, and so is a header; while a header
+-- is in flight nothing is in flight to a block of its journal; who is fenced has neither in flight.
+pub record WritesAreOwn (F : Files) (c : Cluster F) : Type 0 where
+  pub homes : (i r b : ℕ) (v : F.Content) → ((c.world).disk).flight r b ≡ Some v → (BookOf F c).owner b ≡ Some i
+      → (c.header_of i ≡ None) × ((r ≡ i) ⊎ (c.waits i ≡ true))
+  pub headers : (i r : ℕ) → c.header_of i ≡ Some r → (r ≡ i) ⊎ (c.waits i ≡ true)
+  -- the journal has two heads only while a header of it is in flight
+  pub one_head : (i : ℕ) → c.header_of i ≡ None → ((c.world).disk).heads i true ≡ ((c.world).disk).heads i false
+  pub fenced : (i : ℕ) → c.fenced i ≡ true → ((b : ℕ) → ((c.world).disk).flight i b ≡ None) × ((k : ℕ) → c.header_of k ≡ Some i → ⊥)
 
-abbrev pub HeadersGoOnAlone : Files → Type 0
-HeadersGoOnAlone F = (c c' : Cluster F) → Event F c c' → Together F c → HeadersFlyAlone F c → HeadersFlyAlone F c'
+abbrev pub WritersHold : Files → Type 0
+WritersHold F = (c : Cluster F) → Together F c → WritesAreOwn F c
 
 -- ---- in which states a node may have a block cached
 

@@ -1,5 +1,5 @@
 -- Counts are ties, and with them all nodes may stop at once.
-use Rattle.std.proofs.Common.{ℕ, ◌≡◌, ◌<◌, inl, inr, true, false, Bool, None, Some, List, [], ◌∷◌, refl, sym, ap, ◌∙◌, subst, arith, not, ◌&&◌}
+use Rattle.std.proofs.Common.{ℕ, suc, ◌≡◌, ◌<◌, inl, inr, true, false, Bool, None, Some, List, [], ◌∷◌, refl, sym, ap, ◌∙◌, subst, arith, not, ◌&&◌}
 use Rattle.cluster_laws.specs.Files.{Files}
 use Rattle.cluster_laws.specs.Book.{at, relocked}
 use Rattle.cluster_laws.specs.World.{nothing}
@@ -63,6 +63,7 @@ module _ (F : Files) (nodes : ℕ) where
     runs = at (c.runs) i false;
     waits = at (c.waits) i true;
     fenced = at (c.fenced) i false;
+    unlost = at (c.unlost) i (suc (c.unlost i));
   }
 
   stop : (c : Cluster F) (is : List ℕ) → ((k : ℕ) → k < nodes → (BookOf F c).published k ≡ (BookOf F c).answered k) → ((k : ℕ) → k < nodes → k ≡ c.past → ⊥)

@@ -48,7 +48,7 @@ module _ (F : Files) (c : Cluster F) (j : ℕ) (said : F.Said) (v change cache :
 
   pub only : OnlyOf F j c After
   only = record {
-    wire = record { disk = refl; items = refl; kept = refl; published = refl; start = refl; locks = refl; runs = refl; waits = refl; fenced = refl; past = refl };
+    wire = record { disk = refl; items = refl; kept = refl; published = refl; start = refl; locks = refl; runs = refl; waits = refl; fenced = refl; header_of = refl; unlost = refl; past = refl };
     others = of-other;
   }
 
@@ -59,7 +59,7 @@ tries_alone F = record {
       (λ i ne. refl);
   syncs = λ c j said sure t same. only F c j said (nothing F) (nothing F) ((BookOf F c).cache j) sure (λ b x e. absurd (none-some refl e)) same;
   shrinks = λ c j cache forgets. record {
-    wire = record { disk = refl; items = refl; kept = refl; published = refl; start = refl; locks = refl; runs = refl; waits = refl; fenced = refl; past = refl };
+    wire = record { disk = refl; items = refl; kept = refl; published = refl; start = refl; locks = refl; runs = refl; waits = refl; fenced = refl; header_of = refl; unlost = refl; past = refl };
     others = λ i ne. record {
       keeps = λ b own. own;
       no_more = λ b own. own;

@@ -27,7 +27,7 @@ pub record SameNode (F : Files) (i : ℕ) (c c' : Cluster F) : Type 0 where
   pub cache : (BookOf F c').cache i ≡ (BookOf F c).cache i
   pub sure : (c'.world).sure i ≡ (c.world).sure i
 
--- what lies between the nodes: the disk, the items, messages and the lists of who runs, waits and is fenced
+-- what lies between the nodes: the disk and who has a header in flight, the items and which losses are left, messages, and the lists of who runs, waits and is fenced
 pub record SameWire (F : Files) (c c' : Cluster F) : Type 0 where
   pub disk : (c'.world).disk ≡ (c.world).disk
   pub items : (c'.world).items ≡ (c.world).items
@@ -38,6 +38,8 @@ pub record SameWire (F : Files) (c c' : Cluster F) : Type 0 where
   pub runs : c'.runs ≡ c.runs
   pub waits : c'.waits ≡ c.waits
   pub fenced : c'.fenced ≡ c.fenced
+  pub header_of : c'.header_of ≡ c.header_of
+  pub unlost : c'.unlost ≡ c.unlost
   pub past : c'.past ≡ c.past
 
 -- only this node's own has changed

@@ -4,29 +4,46 @@ use Rattle.std.proofs.lemmas.Bool.{cases_eq, cases_Bool, cond-true, cond-false}
 use Rattle.cluster_laws.specs.Files.{Files, Ex}
 use Rattle.cluster_laws.specs.Book.{at, flushed, settled}
 use Rattle.cluster_laws.specs.Mirror.{headed, either, chosen}
-use Rattle.cluster_laws.specs.World.{World, Begins, Ends, Settles}
+use Rattle.cluster_laws.specs.World.{Begins, Ends, Settles}
 use Rattle.cluster_laws.proofs.Cells.{none-some, at-same, at-other}
 use Rattle.cluster_laws.proofs.Logging.{header_heads, given_back, given, stays, never_under}
-use Rattle.cluster_events.specs.Cluster.{BookOf, NothingUnder, Events, Works, GoesDown, Done, Then}
+use Rattle.cluster_events.specs.Cluster.{Cluster, BookOf, NothingUnder, Event, Events, Works, GoesDown, Done, Then}
 use Rattle.event_lists.specs.Stops.{with_world}
 use Rattle.event_lists.specs.Demotions.{DiskOf, committed, CommitIsEvents, FlushFlushes, RevokesAreHeader, HomeIsRevoked, StagesRelease, ReleaseIsEvents, CleanIsHeader, CleanReleases}
 
 module _ (F : Files) where
   -- ---- a header and its barrier
 
-  pub commit : CommitIsEvents F
-  commit c i u h t single writer header = subst (λ z. Events F c z) same
-      (Then c (with_world F c begun) _ (Works begun (Begins i h single (header_heads F (BookOf F c) (DiskOf F c) i u h ((t.world).whole) ((t.world).mirror) header)) (writer, header.none_flying))
-      (Then (with_world F c begun) (with_world F c landed) _ (Works landed (Ends i true) tt) (Done (with_world F c landed))))
-    where
-      begun : World F
-      begun = record (c.world) { disk = headed F (DiskOf F c) i h }
+  at-again : {A : Type 0} (f : ℕ → A) (i : ℕ) (x y : A) (k : ℕ) → at (at f i x) i y k ≡ at f i y k
+  at-again f i x y k = elim (cases_eq k i) [
+    | inl e ↦ subst (λ z. at (at f i x) i y z ≡ at f i y z) (sym e) (at-same (at f i x) i y ∙ sym (at-same f i y))
+    | inr ne ↦ at-other (at f i x) i y k ne ∙ at-other f i x k ne ∙ sym (at-other f i y k ne)
+  ]
 
-      landed : World F
-      landed = record (c.world) {
-        book = flushed F (BookOf F c) i (((headed F (DiskOf F c) i h).heads i true).cut);
-        disk = chosen F (headed F (DiskOf F c) i h) i true;
+  pub commit : CommitIsEvents F
+  commit c i u h t unheaded writer header = subst (λ z. Events F c z) same (Then c begun _ first (Then begun landed _ second (Done landed)))
+    where
+      begun : Cluster F
+      begun = record c {
+        world = record (c.world) { disk = headed F (DiskOf F c) i h };
+        header_of = at (c.header_of) i (Some (writer.0));
       }
+
+      landed : Cluster F
+      landed = record c {
+        world = record (c.world) {
+          book = flushed F (BookOf F c) i (((headed F (DiskOf F c) i h).heads i true).cut);
+          disk = chosen F (headed F (DiskOf F c) i h) i true;
+        };
+        header_of = at (at (c.header_of) i (Some (writer.0))) i None;
+      }
+
+      first : Event F c begun
+      first = Works (begun.world) (Begins i h (t.headers i unheaded) (header_heads F (BookOf F c) (DiskOf F c) i u h ((t.world).whole) ((t.world).mirror) header))
+          (writer, unheaded, header.none_flying)
+
+      second : Event F begun landed
+      second = Works (landed.world) (Ends i true) (writer.0, at-same (c.header_of) i (Some (writer.0)), inl refl)
 
       new : (headed F (DiskOf F c) i h).heads i true ≡ h
       new = ap (λ f. f true) (at-same ((DiskOf F c).heads) i (either ((DiskOf F c).heads i false) h))
@@ -42,11 +59,14 @@ module _ (F : Files) where
           both false = new
           both true = new
 
-      same : with_world F c landed ≡ committed F c i h
-      same = λ z. with_world F c (record (c.world) {
-        book = flushed F (BookOf F c) i ((new z).cut);
-        disk = record (DiskOf F c) { heads = λ k. after k z };
-      })
+      same : landed ≡ committed F c i h
+      same = λ z. record c {
+        world = record (c.world) {
+          book = flushed F (BookOf F c) i ((new z).cut);
+          disk = record (DiskOf F c) { heads = λ k. after k z };
+        };
+        header_of = λ k. at-again (c.header_of) i (Some (writer.0)) None k z;
+      }
 
   pub flushes : FlushFlushes F
   flushes B i l untouched n b x low high change = absurd (none-some (untouched b n low high) change)

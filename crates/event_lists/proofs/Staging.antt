@@ -86,7 +86,7 @@ module _ (F : Files) (c : Cluster F) (t : Together F c) (i : ℕ) (l : F.Lock) (
   flushed-on v (world.Reads j b held) may free flushed = flushed-same (v.book) refl refl refl refl flushed
   flushed-on v (world.Shrinks k cache forgets) may free flushed = flushed-same (v.book) refl refl refl refl flushed
   flushed-on v (world.Loses k m all above below calm next none single) may free flushed =
-      flushed-same (v.book) (at-other (B.low) k (B.answered k) i (asleep k may)) refl refl (at-other (B.says) k (λ n. λ b. B.says k m b) i (asleep k may)) flushed
+      flushed-same (v.book) (at-other (B.low) k (B.answered k) i (asleep k (may.0))) refl refl (at-other (B.says) k (λ n. λ b. B.says k m b) i (asleep k (may.0))) flushed
 
   flushed-event : (c' : Cluster F) (event : Event F c c') → (TouchesLock F c c' event i l → ⊥) → IsFlushed F B i l → IsFlushed F (BookOf F c') i l
   flushed-event _ (Works v step may) free flushed = flushed-on v step may free flushed
@@ -97,8 +97,8 @@ module _ (F : Files) (c : Cluster F) (t : Together F c) (i : ℕ) (l : F.Lock) (
   flushed-event _ (Fences k out unfenced none) free flushed = flushed
   flushed-event _ Views free flushed = flushed
   flushed-event _ (Joins k here out fenced waits) free flushed = flushed
-  flushed-event c' (Recovers k here wait nothing_left) free flushed = flushed-same (BookOf F c') refl refl refl refl flushed
-  flushed-event c' (PastEnds wait nothing_left) free flushed = flushed-same (BookOf F c') refl refl refl refl flushed
+  flushed-event c' (Recovers k here wait nothing_left unheaded told) free flushed = flushed-same (BookOf F c') refl refl refl refl flushed
+  flushed-event c' (PastEnds wait nothing_left unheaded) free flushed = flushed-same (BookOf F c') refl refl refl refl flushed
 
   -- ---- what heads say of the node's blocks
 
@@ -150,7 +150,7 @@ module _ (F : Files) (c : Cluster F) (t : Together F c) (i : ℕ) (l : F.Lock) (
   kin-on _ (world.Reads j b held) may free single = same-kin _ refl refl refl
   kin-on _ (world.Shrinks k cache forgets) may free single = same-kin _ refl refl refl
   kin-on _ (world.Loses k m all above below calm next none alone) may free single =
-      same-kin _ (at-other (D.heads) k _ i (asleep k may)) (at-other (B.low) k _ i (asleep k may)) (at-other (B.says) k _ i (asleep k may))
+      same-kin _ (at-other (D.heads) k _ i (asleep k (may.0))) (at-other (B.low) k _ i (asleep k (may.0))) (at-other (B.says) k _ i (asleep k (may.0)))
 
   kin : (c' : Cluster F) (event : Event F c c') → (BeginsHeader F c c' event i → ⊥) → D.heads i true ≡ D.heads i false → Kin (c'.world)
   kin _ (Works v step may) free single = kin-on v step may free single
@@ -161,8 +161,8 @@ module _ (F : Files) (c : Cluster F) (t : Together F c) (i : ℕ) (l : F.Lock) (
   kin _ (Fences k out unfenced none) free single = same-kin _ refl refl refl
   kin _ Views free single = same-kin _ refl refl refl
   kin _ (Joins k here out fenced waits) free single = same-kin _ refl refl refl
-  kin _ (Recovers k here wait nothing_left) free single = same-kin _ refl refl refl
-  kin _ (PastEnds wait nothing_left) free single = same-kin _ refl refl refl
+  kin _ (Recovers k here wait nothing_left unheaded told) free single = same-kin _ refl refl refl
+  kin _ (PastEnds wait nothing_left unheaded) free single = same-kin _ refl refl refl
 
   -- a block that is live after the event was live and under the same lock before
   was-live : (w : World F) → Kin w → (d : Bool) (b : ℕ) (v : F.Content) → ((w.disk).heads i d).live b ≡ Some v → (D.heads i d).live b ≡ Some v
@@ -213,17 +213,41 @@ module _ (F : Files) (c : Cluster F) (t : Together F c) (i : ℕ) (l : F.Lock) (
   rests _ (Fences k out unfenced none) free = λ b v live under home. home
   rests _ Views free = λ b v live under home. home
   rests _ (Joins k here out fenced waits) free = λ b v live under home. home
-  rests _ (Recovers k here wait nothing_left) free = λ b v live under home. home
-  rests _ (PastEnds wait nothing_left) free = λ b v live under home. home
+  rests _ (Recovers k here wait nothing_left unheaded told) free = λ b v live under home. home
+  rests _ (PastEnds wait nothing_left unheaded) free = λ b v live under home. home
+
+  still-unheaded : (c' : Cluster F) (event : Event F c c') → (BeginsHeader F c c' event i → ⊥) → c.header_of i ≡ None → c'.header_of i ≡ None
+  still-unheaded _ (Works _ (world.Answers j said view change cache no_sync a) may) free none = none
+  still-unheaded _ (Works _ (world.Syncs j said does still calm) may) free none = none
+  still-unheaded _ (Works _ (world.Publishes k some) may) free none = none
+  still-unheaded _ (Works _ (world.Begins k h single heads) may) free none = at-other (c.header_of) k _ i (λ e. free (sym e)) ∙ none
+  still-unheaded _ (Works _ (world.Ends k d) may) free none = at-cases (λ z. z ≡ None) (c.header_of) k None i (λ e. refl) (λ ne. none)
+  still-unheaded _ (Works _ (world.Writes r b v k live) may) free none = none
+  still-unheaded _ (Works _ (world.Lands r x settles) may) free none = none
+  still-unheaded _ (Works _ (world.Settles k p all own one dead) may) free none = none
+  still-unheaded _ (Works _ (world.Lower k state cache lowers) may) free none = absurd may
+  still-unheaded _ (Works _ (world.Grants k state raises) may) free none = absurd may
+  still-unheaded _ (Works _ (world.Reads j b held) may) free none = none
+  still-unheaded _ (Works _ (world.Shrinks k cache forgets) may) free none = none
+  still-unheaded _ (Works _ (world.Loses k m all above below calm next empty single) may) free none = none
+  still-unheaded _ (Mails locks h) free none = none
+  still-unheaded _ (IsGranted k locks here no_wait h) free none = none
+  still-unheaded _ (GoesDown k locks cache here h all clean cached) free none = none
+  still-unheaded _ (Stops k here runs all) free none = none
+  still-unheaded _ (Fences k out unfenced idle) free none = none
+  still-unheaded _ Views free none = none
+  still-unheaded _ (Joins k here out fenced waits) free none = none
+  still-unheaded _ (Recovers k here wait nothing_left unheaded told) free none = none
+  still-unheaded _ (PastEnds wait nothing_left unheaded) free none = none
 
 pub stay : (F : Files) → StagesStay F
 stay F c c' event i l t awake = record {
   flushed = λ free flushed. flushed-event F c t i l awake c' event free flushed;
-  single = λ free single. (let k = kin F c t i l awake c' event free single in ap (λ f. f true) (k.heads) ∙ single ∙ sym (ap (λ f. f false) (k.heads)));
-  at_home = λ free unwritten single home b v live under. (let k = kin F c t i l awake c' event free single in
+  unheaded = λ free none. still-unheaded F c t i l awake c' event free none;
+  at_home = λ free unwritten none home b v live under. (let k = kin F c t i l awake c' event free (t.headers i none) in
       let was = was-live F c t i l awake (c'.world) k false b v live in
       let on = was-under F c t i l awake (c'.world) k false b v live under in
       rests F c t i l awake c' event unwritten b v was on (home b v was on));
-  revoked = λ free single revoked d b v live under. (let k = kin F c t i l awake c' event free single in
+  revoked = λ free none revoked d b v live under. (let k = kin F c t i l awake c' event free (t.headers i none) in
       revoked d b v (was-live F c t i l awake (c'.world) k d b v live) (was-under F c t i l awake (c'.world) k d b v live under));
 }

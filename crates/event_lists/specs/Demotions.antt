@@ -32,10 +32,11 @@ IsRevoked F B D i l = (d : Bool) (b : ℕ) (v : F.Content) → (D.heads i d).liv
 abbrev pub committed : (F : Files) → Cluster F → ℕ → Head F → Cluster F
 committed F c i h = record c {
   world = record (c.world) { book = flushed F (BookOf F c) i (h.cut); disk = record (DiskOf F c) { heads = at ((DiskOf F c).heads) i (λ d. h) } };
+  header_of = at (c.header_of) i None;
 }
 
 abbrev pub CommitIsEvents : Files → Type 0
-CommitIsEvents F = (c : Cluster F) (i u : ℕ) (h : Head F) → Together F c → (DiskOf F c).heads i true ≡ (DiskOf F c).heads i false → HasIdleWriter F c i
+CommitIsEvents F = (c : Cluster F) (i u : ℕ) (h : Head F) → Together F c → c.header_of i ≡ None → HasIdleWriter F c i
     → IsHeader F (BookOf F c) (DiskOf F c) i u h → Events F c (committed F c i h)
 
 -- a journal without whose calls no block was touched is past the flush of every lock: so it is behind a flush up to the last call, and stays with reads and syncs

@@ -3,7 +3,7 @@ use Rattle.std.specs.Prelude.{ℕ, ◌≡◌, ◌⊎◌, ⊤, Bool, true, false,
 use Rattle.cluster_laws.specs.Files.{Files, CellOf, Part, LockOf, Un, Ex, laid}
 use Rattle.cluster_laws.specs.Mirror.{Head, Disk}
 use Rattle.cluster_laws.specs.Log.{Untouched, IsHeader}
-use Rattle.cluster_events.specs.Cluster.{WritesFor, Cluster, BookOf, Weakens, Events, Together}
+use Rattle.cluster_events.specs.Cluster.{WritesFor, IsIdle, Cluster, BookOf, Weakens, Events, Together}
 use Rattle.event_lists.specs.Stops.{IsIn}
 use Rattle.event_lists.specs.Demotions.{DiskOf, IsAtHome}
 use Rattle.lock_laws.specs.Lock.{Node}
@@ -29,12 +29,8 @@ pub record IsWrittenHome (F : Files) (c : Cluster F) (r i : ℕ) (bs : List ℕ)
   pub heads : d.heads ≡ (DiskOf F c).heads
 
 abbrev pub HomeIsEvents : Files → Type 0
-HomeIsEvents F = (c : Cluster F) (r i : ℕ) (bs : List ℕ) → WritesFor F c r i → (DiskOf F c).heads i true ≡ (DiskOf F c).heads i false
+HomeIsEvents F = (c : Cluster F) (r i : ℕ) (bs : List ℕ) → Together F c → WritesFor F c r i → c.header_of i ≡ None
     → AreLive F ((DiskOf F c).heads i false) bs → (d : Disk F) × IsWrittenHome F c r i bs d
-
--- nobody else has a write in flight to a block of the journal
-abbrev pub NoOtherWrites : (F : Files) → Cluster F → ℕ → Type 0
-NoOtherWrites F c i = (r b : ℕ) (v : F.Content) → (r ≡ i → ⊥) → (DiskOf F c).flight r b ≡ Some v → (BookOf F c).owner b ≡ Some i → ⊥
 
 -- the node's live blocks under the lock, at the number of its last call
 pub record AreUnder (F : Files) (c : Cluster F) (i : ℕ) (l : F.Lock) (h : Head F) (bs : List ℕ) : Type 0 where
@@ -42,9 +38,9 @@ pub record AreUnder (F : Files) (c : Cluster F) (i : ℕ) (l : F.Lock) (h : Head
   pub under : (b : ℕ) → IsIn b bs → LockOf F ((BookOf F c).says i ((BookOf F c).answered i) b) ≡ l
   pub every : (b : ℕ) (v : F.Content) → h.live b ≡ Some v → LockOf F ((BookOf F c).says i ((BookOf F c).answered i) b) ≡ l → IsIn b bs
 
--- where these were put home, the node is past its barrier with the lock
+-- where these were put home, the node, whose slot doesn't wait, is past its barrier with the lock
 abbrev pub HomeIsAtHome : Files → Type 0
-HomeIsAtHome F = (c : Cluster F) (i : ℕ) (l : F.Lock) (bs : List ℕ) (d : Disk F) → Together F c → NoOtherWrites F c i
+HomeIsAtHome F = (c : Cluster F) (i : ℕ) (l : F.Lock) (bs : List ℕ) (d : Disk F) → Together F c → c.waits i ≡ false
     → ((b : ℕ) → Untouched F (BookOf F c) i ((BookOf F c).low i) ((BookOf F c).answered i) b)
     → AreUnder F c i l ((DiskOf F c).heads i false) bs → IsWrittenHome F c i i bs d → IsAtHome F (BookOf F c) d i l
 
@@ -55,14 +51,14 @@ abbrev pub FlushesTo : (F : Files) → Cluster F → ℕ → Head F → Type 0
 FlushesTo F c i h = IsHeader F (BookOf F c) (DiskOf F c) i ((BookOf F c).answered i) h
     ⊎ (((b : ℕ) → Untouched F (BookOf F c) i ((BookOf F c).low i) ((BookOf F c).answered i) b) × ((DiskOf F c).heads i false ≡ h))
 
--- the node is a member that has published all that it answered and has nothing in flight
-pub record IsIdle (F : Files) (c : Cluster F) (i : ℕ) : Type 0 where
+-- the node is a member whose slot doesn't wait, that has published all that it answered and has nothing in flight
+pub record IsAtRest (F : Files) (c : Cluster F) (i : ℕ) : Type 0 where
   pub here : i ≡ c.past → ⊥
   pub runs : c.runs i ≡ true
   pub all : (BookOf F c).published i ≡ (BookOf F c).answered i
-  pub single : (DiskOf F c).heads i true ≡ (DiskOf F c).heads i false
-  pub landed : (b : ℕ) → (DiskOf F c).flight i b ≡ None
-  pub alone : NoOtherWrites F c i
+  pub awake : c.waits i ≡ false
+  pub unheaded : c.header_of i ≡ None
+  pub idle : IsIdle F c i
 
 -- what is left of the cache is under locks that the node still holds
 abbrev pub KeepsCache : (F : Files) → Cluster F → ℕ → (F.Lock → ℕ → Node) → Part F → Type 0
@@ -79,14 +75,14 @@ pub record IsDown (F : Files) (c : Cluster F) (i : ℕ) (locks : F.Lock → ℕ 
 -- A demotion: a flush, where one is needed; the live blocks under the lock go home; a header revokes them; and the lock goes down, alone among those that are
 -- exclusive.
 abbrev pub DemotionIsEvents : Files → Type 0
-DemotionIsEvents F = (c : Cluster F) (i : ℕ) (l : F.Lock) (h : Head F) (bs : List ℕ) (locks : F.Lock → ℕ → Node) (cache : Part F) → Together F c → IsIdle F c i
+DemotionIsEvents F = (c : Cluster F) (i : ℕ) (l : F.Lock) (h : Head F) (bs : List ℕ) (locks : F.Lock → ℕ → Node) (cache : Part F) → Together F c → IsAtRest F c i
     → FlushesTo F c i h → AreUnder F c i l h bs → ((m : F.Lock) → Weakens i (c.locks m) (locks m))
     → ((m : F.Lock) → (c.locks m i).state ≡ Ex → ((locks m i).state ≡ Ex) ⊎ (m ≡ l)) → KeepsCache F c i locks cache
     → (c' : Cluster F) × IsDown F c i locks c'
 
 -- An unmount: a flush, where one is needed; all live blocks go home; a clean header; and all locks go down. No block of the journal is live then.
 abbrev pub UnmountIsEvents : Files → Type 0
-UnmountIsEvents F = (c : Cluster F) (i : ℕ) (h : Head F) (bs : List ℕ) (locks : F.Lock → ℕ → Node) (cache : Part F) → Together F c → IsIdle F c i
+UnmountIsEvents F = (c : Cluster F) (i : ℕ) (h : Head F) (bs : List ℕ) (locks : F.Lock → ℕ → Node) (cache : Part F) → Together F c → IsAtRest F c i
     → FlushesTo F c i h → AreLive F h bs → ((b : ℕ) (v : F.Content) → h.live b ≡ Some v → IsIn b bs) → ((m : F.Lock) → Weakens i (c.locks m) (locks m))
     → KeepsCache F c i locks cache
     → (c' : Cluster F) × IsDown F c i locks c' × ((d : Bool) (b : ℕ) → ((DiskOf F c').heads i d).live b ≡ None)

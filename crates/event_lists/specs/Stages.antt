@@ -1,5 +1,5 @@
 -- What sets a demotion's stages back, and that no other event does.
-use Rattle.std.specs.Prelude.{ℕ, ◌≡◌, true, false}
+use Rattle.std.specs.Prelude.{ℕ, ◌≡◌, false, None}
 use Rattle.cluster_laws.specs.Files.{Files, LockOf, Touches}
 use Rattle.cluster_laws.specs.World as world
 use Rattle.cluster_events.specs.Cluster.{Cluster, BookOf, Event, Works, Together}
@@ -23,10 +23,10 @@ WritesUnder F c _ _ i l = ⊥
 pub record StagesKeep (F : Files) (c c' : Cluster F) (event : Event F c c') (i : ℕ) (l : F.Lock) : Type 0 where
   pub flushed : (TouchesLock F c c' event i l → ⊥) → IsFlushed F (BookOf F c) i l → IsFlushed F (BookOf F c') i l
   -- while no header of the journal is in flight
-  pub single : (BeginsHeader F c c' event i → ⊥) → (DiskOf F c).heads i true ≡ (DiskOf F c).heads i false → (DiskOf F c').heads i true ≡ (DiskOf F c').heads i false
-  pub at_home : (BeginsHeader F c c' event i → ⊥) → (WritesUnder F c c' event i l → ⊥) → (DiskOf F c).heads i true ≡ (DiskOf F c).heads i false
+  pub unheaded : (BeginsHeader F c c' event i → ⊥) → c.header_of i ≡ None → c'.header_of i ≡ None
+  pub at_home : (BeginsHeader F c c' event i → ⊥) → (WritesUnder F c c' event i l → ⊥) → c.header_of i ≡ None
       → IsAtHome F (BookOf F c) (DiskOf F c) i l → IsAtHome F (BookOf F c') (DiskOf F c') i l
-  pub revoked : (BeginsHeader F c c' event i → ⊥) → (DiskOf F c).heads i true ≡ (DiskOf F c).heads i false
+  pub revoked : (BeginsHeader F c c' event i → ⊥) → c.header_of i ≡ None
       → IsRevoked F (BookOf F c) (DiskOf F c) i l → IsRevoked F (BookOf F c') (DiskOf F c') i l
 
 -- of a node whose slot doesn't wait: what it reached stays, whatever it or another node does

@@ -1,7 +1,7 @@
 //! What can happen to a cluster as lists of its events: crashes, fences, recoveries, demotions in their stages, unmounts.
 #![tactic(auto)]
 
-ghost use Rattle.event_lists.specs.Stops.{CrashIsEvents, CrashAfterWrite, FenceIsEvents, KeptIsFound, RecoveryIsEvents, StartRecoveryIsEvents, PastIsEvents};
+ghost use Rattle.event_lists.specs.Stops.{CrashIsEvents, CrashAfterWrite, FenceIsEvents, KeptIsFound, LossIsEvents, RecoveryIsEvents, StartRecoveryIsEvents, PastIsEvents};
 ghost use Rattle.event_lists.specs.Demotions.{CommitIsEvents, FlushFlushes, RevokesAreHeader, HomeIsRevoked, StagesRelease, ReleaseIsEvents, CleanIsHeader, CleanReleases};
 ghost use Rattle.event_lists.specs.Homes.{HomeIsEvents, HomeIsAtHome, DemotionIsEvents, UnmountIsEvents};
 ghost use Rattle.event_lists.specs.Stages.{StagesStay};
@@ -20,9 +20,10 @@ pub fn a_fence_is_events<S: System>()
     ensures { FenceIsEvents S.files }
 {}
 
-/// A law: a slot is recovered, with the number that its loss keeps; one that waited since the start; and the past ends with the last of these.
+/// A law: the loss of a life that ended, with the number that it keeps; a slot is recovered; one that waited since the start; and the past ends with the last.
 pub fn a_recovery_is_events<S: System>()
     ensures kept { KeptIsFound S.files }
+    ensures loss { LossIsEvents S.files }
     ensures slot { RecoveryIsEvents S.files }
     ensures start { StartRecoveryIsEvents S.files }
     ensures past { PastIsEvents S.files }
