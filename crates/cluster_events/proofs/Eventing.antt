@@ -1,24 +1,26 @@
 -- Each event keeps what holds of the cluster, and is a list of the machine's steps.
 use Rattle.std.proofs.Common.{ℕ, ◌≡◌, ◌<◌, ◌⊎◌, inl, inr, suc, Bool, true, false, ◌&&◌, None, Some, refl, sym, ap, ◌∙◌, subst, arith}
 use Rattle.std.specs.Prelude.{not}
-use Rattle.std.proofs.lemmas.Bool.{cases_eq, cases_Bool}
+use Rattle.std.proofs.lemmas.Bool.{cases_eq, cases_Bool, cond-true, cond-false}
 use Rattle.cluster_laws.specs.Files.{Files, CellOf, Part, LockOf, Un, Ex}
-use Rattle.cluster_laws.specs.Book.{at, relocked}
+use Rattle.cluster_laws.specs.Book.{at, taken, relocked}
+use Rattle.cluster_laws.specs.Mirror.{Head, either}
 use Rattle.cluster_laws.specs.Locks as book
 use Rattle.cluster_laws.specs.World.{World, nothing, BeginsAt, Run, Stop, Goes}
 use Rattle.cluster_laws.specs.World as world
-use Rattle.cluster_laws.proofs.Cells.{split, none-some, at-same, at-other, at-cases}
+use Rattle.cluster_laws.proofs.Cells.{split, inside, none-some, at-same, at-other, at-cases}
+use Rattle.cluster_laws.proofs.Trying.{free_or_ours}
 use Rattle.cluster_laws.proofs.Running.{step_keeps, every_run, sound_start}
 use Rattle.lock_laws.specs.Lock.{Node, Holds, starting, Compatible}
 use Rattle.lock_laws.specs.Lock as lock
 use Rattle.lock_laws.proofs.Keeping.{alone, starts}
-use Rattle.cluster_events.specs.Cluster.{Cluster, acts, BookOf, Sends, Receives, Weakens, MayWork, with_book, restated, NothingUnder, stopped, freed, joined, Works, Mails, IsGranted, GoesDown, Stops, Fences, Views, Joins, Recovers, PastEnds, Events, Done, Then, Together, StartIsTogether, EventKeeps, EventIsSteps, EveryCluster}
+use Rattle.cluster_events.specs.Cluster.{Cluster, IsIdle, headers_after, worked, HeadersFlyAlone, acts, BookOf, Sends, Receives, Weakens, MayWork, with_book, restated, NothingUnder, stopped, freed, joined, Works, Mails, IsGranted, GoesDown, Stops, Fences, Views, Joins, Recovers, PastEnds, Events, Done, Then, Together, StartIsTogether, EventKeeps, EventIsSteps, EveryCluster}
 use Rattle.cluster_events.proofs.Locking.{un-or-held, un-ex, makes-sound, makes-idle, sends-makes, sends-state, sends-waits, sends-member, receives-makes, receives-same, receives-other, receives-held, weakens-makes, weakens-same, weakens-other, weakens-ex, weakens-un}
 
 true-false : {b : Bool} → b ≡ true → b ≡ false → ⊥
 true-false e f = cc
 
-waits-acts : (runs waits : Bool) → waits ≡ true → (runs && not waits) ≡ false
+pub waits-acts : (runs waits : Bool) → waits ≡ true → (runs && not waits) ≡ false
 waits-acts true waits e = ap not e
 waits-acts false waits e = refl
 
@@ -64,7 +66,7 @@ module _ (F : Files) (c : Cluster F) (t : Together F c) where
   quiet-step _ (world.Lower k state cache lowers) may i idle = absurd may
   quiet-step _ (world.Grants k state raises) may i idle = absurd may
   quiet-step _ (world.Reads j b held) may i idle = let q = t.quiet i idle in
-      (q.0, λ k. ap (λ f. f k) (at-other ((w.book).cache) j _ i (differ j i may idle)) ∙ q.1 k)
+      (q.0, λ k. ap (λ f. f k) (at-other ((w.book).cache) j _ i (differ j i (may.0) idle)) ∙ q.1 k)
   quiet-step _ (world.Shrinks k cache forgets) may i idle = let q = t.quiet i idle in (
     q.0,
     λ b. elim (split (cache i b)) [
@@ -96,7 +98,7 @@ module _ (F : Files) (c : Cluster F) (t : Together F c) where
   flight-step _ (world.Shrinks k cache forgets) may i b idle none = none
   flight-step _ (world.Loses k m all above below calm next empty single) may i b idle none = none
 
-  state-step : (v : World F) (step : world.Step F w v) → MayWork F c v step → (v.book).state ≡ (w.book).state
+  pub state-step : (v : World F) (step : world.Step F w v) → MayWork F c v step → (v.book).state ≡ (w.book).state
   state-step _ (world.Answers j said view change cache no_sync a) may = refl
   state-step _ (world.Syncs j said does still calm) may = refl
   state-step _ (world.Publishes k some) may = refl
@@ -111,7 +113,112 @@ module _ (F : Files) (c : Cluster F) (t : Together F c) where
   state-step _ (world.Shrinks k cache forgets) may = refl
   state-step _ (world.Loses k m all above below calm next none single) may = refl
 
-  pub works : (v : World F) (step : world.Step F w v) → MayWork F c v step → Together F (record c { world = v })
+  -- ---- who has what in flight
+
+  -- what is in flight has an owner, and so has it after a change of another node
+  flying-owner : (r b : ℕ) (v : F.Content) → (w.disk).flight r b ≡ Some v → (k : ℕ) × ((w.book).owner b ≡ Some k)
+  flying-owner r b v f = let l = ((t.world).mirror).flights r b v f in (l.0, ((t.world).mirror).lives (l.0) false b v ((l.1) false))
+
+  tried-owner : (j : ℕ) (change : Part F) → ((b : ℕ) (x : CellOf F) → change b ≡ Some x → ((w.book).owner b ≡ None) ⊎ ((w.book).owner b ≡ Some j))
+      → (i r b : ℕ) (v : F.Content) → (w.disk).flight r b ≡ Some v → taken j (change b) ((w.book).owner b) ≡ Some i → (w.book).owner b ≡ Some i
+  tried-owner j change ours i r b v f own = elim (split (change b)) [
+    | inl none ↦ sym (ap (λ o. taken j o ((w.book).owner b)) none) ∙ own
+    | inr some ↦ elim (ours b (some.0) (some.1)) [
+      | inl nobody ↦ absurd (none-some nobody (flying-owner r b v f).1)
+      | inr mine ↦ mine ∙ sym (ap (λ o. taken j o ((w.book).owner b)) (some.1)) ∙ own
+    ]
+  ]
+
+  alone-step : (v : World F) (step : world.Step F w v) (may : MayWork F c v step) → HeadersFlyAlone F (worked F c v step may)
+  alone-step _ (world.Answers j said view change cache no_sync a) may i r b u f own = t.alone i r b u f
+      (tried-owner j change (free_or_ours F (w.book) ((t.world).whole) j said view change cache (a.sees) (a.does) (a.guards) (a.caches) (a.tells) (a.tracks)) i r b u f own)
+  alone-step _ (world.Syncs j said does still calm) may i r b u f own = t.alone i r b u f own
+  alone-step _ (world.Publishes k some) may i r b u f own = t.alone i r b u f own
+  alone-step _ (world.Begins k h single heads) may i r b u f own = let was = t.alone i r b u f own in
+      (at-other (c.header_of) k _ i (λ e. may.2 r b u f (subst (λ z. (w.book).owner b ≡ Some z) e own)) ∙ was.0, was.1)
+  alone-step _ (world.Ends k d) may i r b u f own = let was = t.alone i r b u f own in
+      (at-cases (λ z. z ≡ None) (c.header_of) k None i (λ e. refl) (λ ne. was.0), was.1)
+  alone-step _ (world.Writes q y x k live) may i r b u f own = at-cases (λ g. g b ≡ Some u → (c.header_of i ≡ None) × ((r ≡ i) ⊎ (c.waits i ≡ true))) ((w.disk).flight) q
+      (at ((w.disk).flight q) y (Some x)) r
+      (λ e. at-cases (λ o. o ≡ Some u → (c.header_of i ≡ None) × ((r ≡ i) ⊎ (c.waits i ≡ true))) ((w.disk).flight q) y (Some x) b
+      (λ same g. here e (inside (sym (((t.world).mirror).lives k false b x (subst (λ z. ((w.disk).heads k false).live z ≡ Some x) (sym same) (live false))) ∙ own)))
+      (λ other g. t.alone i r b u (subst (λ z. (w.disk).flight z b ≡ Some u) (sym e) g) own))
+      (λ ne g. t.alone i r b u g own) f
+    where
+      here : r ≡ q → k ≡ i → (c.header_of i ≡ None) × ((r ≡ i) ⊎ (c.waits i ≡ true))
+      here e same = subst (λ z. (c.header_of z ≡ None) × ((r ≡ z) ⊎ (c.waits z ≡ true))) same
+          (may.1, elim ((may.0).1) [ inl own ↦ inl (e ∙ own) | inr waits ↦ inr waits ])
+  alone-step _ (world.Lands q x settles) may i r b u f own = t.alone i r b u
+      (at-cases (λ g. g b ≡ Some u → (w.disk).flight r b ≡ Some u) ((w.disk).flight) q (λ b. None) r (λ e g. absurd (none-some refl g)) (λ ne g. g) f) own
+  alone-step _ (world.Settles k p all mine untouched dead) may i r b u f own = t.alone i r b u f (elim (cases_Bool (p b)) [
+    | inl e ↦ absurd (none-some (cond-true _ _ _ e) own)
+    | inr e ↦ sym (cond-false _ _ _ e) ∙ own
+  ])
+  alone-step _ (world.Lower k state cache lowers) may i r b u f own = absurd may
+  alone-step _ (world.Grants k state raises) may i r b u f own = absurd may
+  alone-step _ (world.Reads j y held) may i r b u f own = t.alone i r b u f own
+  alone-step _ (world.Shrinks j cache forgets) may i r b u f own = t.alone i r b u f own
+  alone-step _ (world.Loses k m all above below calm next none single) may i r b u f own = t.alone i r b u f own
+
+  headers-step : (v : World F) (step : world.Step F w v) (may : MayWork F c v step) → (i : ℕ) → headers_after F c v step may i ≡ None → (v.disk).heads i true ≡ (v.disk).heads i false
+  headers-step _ (world.Answers j said view change cache no_sync a) may i none = t.headers i none
+  headers-step _ (world.Syncs j said does still calm) may i none = t.headers i none
+  headers-step _ (world.Publishes k some) may i none = t.headers i none
+  headers-step _ (world.Begins k h single heads) may i none = elim (cases_eq i k) [
+    | inl e ↦ absurd (none-some none (subst (λ z. at (c.header_of) k (Some ((may.0).0)) z ≡ Some ((may.0).0)) (sym e) (at-same (c.header_of) k _)))
+    | inr ne ↦ subst (λ f. f true ≡ f false) (sym (at-other ((w.disk).heads) k _ i ne)) (t.headers i (sym (at-other (c.header_of) k _ i ne) ∙ none))
+  ]
+  headers-step _ (world.Ends k d) may i none = at-cases (λ f. f true ≡ f false) ((w.disk).heads) k (either ((w.disk).heads k d) ((w.disk).heads k d)) i (λ e. refl)
+      (λ ne. t.headers i (sym (at-other (c.header_of) k _ i ne) ∙ none))
+  headers-step _ (world.Writes r b v k live) may i none = t.headers i none
+  headers-step _ (world.Lands r x settles) may i none = t.headers i none
+  headers-step _ (world.Settles k p all own one dead) may i none = t.headers i none
+  headers-step _ (world.Lower k state cache lowers) may i none = absurd may
+  headers-step _ (world.Grants k state raises) may i none = absurd may
+  headers-step _ (world.Reads j b held) may i none = t.headers i none
+  headers-step _ (world.Shrinks k cache forgets) may i none = t.headers i none
+  headers-step _ (world.Loses k m all above below calm next empty single) may i none =
+      at-cases (λ f. f true ≡ f false) ((w.disk).heads) k (λ d. record { cut = (w.book).answered k; live = ((w.disk).heads k d).live }) i
+      (λ e. ap (λ (z : Head F). record { cut = (w.book).answered k; live = z.live }) (t.headers k (subst (λ z. c.header_of z ≡ None) e none))) (λ ne. t.headers i none)
+
+  writers-step : (v : World F) (step : world.Step F w v) (may : MayWork F c v step) → (i r : ℕ) → headers_after F c v step may i ≡ Some r → (r ≡ i) ⊎ (c.waits i ≡ true)
+  writers-step _ (world.Answers j said view change cache no_sync a) may i r has = t.writers i r has
+  writers-step _ (world.Syncs j said does still calm) may i r has = t.writers i r has
+  writers-step _ (world.Publishes k some) may i r has = t.writers i r has
+  writers-step _ (world.Begins k h single heads) may i r has = elim (cases_eq i k) [
+    | inl e ↦ (let is : (may.0).0 ≡ r = inside (sym (subst (λ z. at (c.header_of) k (Some ((may.0).0)) z ≡ Some ((may.0).0)) (sym e) (at-same (c.header_of) k _)) ∙ has) in
+        elim ((may.0).1).1 [ inl own ↦ inl (sym is ∙ own ∙ sym e) | inr waits ↦ inr (subst (λ z. c.waits z ≡ true) (sym e) waits) ])
+    | inr ne ↦ t.writers i r (sym (at-other (c.header_of) k _ i ne) ∙ has)
+  ]
+  writers-step _ (world.Ends k d) may i r has = at-cases (λ z. z ≡ Some r → (r ≡ i) ⊎ (c.waits i ≡ true)) (c.header_of) k None i (λ e has. absurd (none-some refl has)) (λ ne has. t.writers i r has) has
+  writers-step _ (world.Writes q b v k live) may i r has = t.writers i r has
+  writers-step _ (world.Lands q x settles) may i r has = t.writers i r has
+  writers-step _ (world.Settles k p all own one dead) may i r has = t.writers i r has
+  writers-step _ (world.Lower k state cache lowers) may i r has = absurd may
+  writers-step _ (world.Grants k state raises) may i r has = absurd may
+  writers-step _ (world.Reads j b held) may i r has = t.writers i r has
+  writers-step _ (world.Shrinks k cache forgets) may i r has = t.writers i r has
+  writers-step _ (world.Loses k m all above below calm next none single) may i r has = t.writers i r has
+
+  -- who has stopped begins no header
+  unheaded-step : (v : World F) (step : world.Step F w v) (may : MayWork F c v step) → (i : ℕ) → c.runs i ≡ false → ((k : ℕ) → c.header_of k ≡ Some i → ⊥)
+      → (k : ℕ) → headers_after F c v step may k ≡ Some i → ⊥
+  unheaded-step _ (world.Answers j said view change cache no_sync a) may i idle none k has = none k has
+  unheaded-step _ (world.Syncs j said does still calm) may i idle none k has = none k has
+  unheaded-step _ (world.Publishes j some) may i idle none k has = none k has
+  unheaded-step _ (world.Begins j h single heads) may i idle none k has = at-cases (λ z. z ≡ Some i → ⊥) (c.header_of) j (Some ((may.0).0)) k
+      (λ e has. true-false (subst (λ z. c.runs z ≡ true) (inside has) (((may.0).1).0)) idle) (λ ne has. none k has) has
+  unheaded-step _ (world.Ends j d) may i idle none k has = at-cases (λ z. z ≡ Some i → ⊥) (c.header_of) j None k (λ e has. none-some refl has) (λ ne has. none k has) has
+  unheaded-step _ (world.Writes q b v j live) may i idle none k has = none k has
+  unheaded-step _ (world.Lands q x settles) may i idle none k has = none k has
+  unheaded-step _ (world.Settles j p all own one dead) may i idle none k has = none k has
+  unheaded-step _ (world.Lower j state cache lowers) may i idle none k has = absurd may
+  unheaded-step _ (world.Grants j state raises) may i idle none k has = absurd may
+  unheaded-step _ (world.Reads j b held) may i idle none k has = none k has
+  unheaded-step _ (world.Shrinks j cache forgets) may i idle none k has = none k has
+  unheaded-step _ (world.Loses j m all above below calm next empty single) may i idle none k has = none k has
+
+  pub works : (v : World F) (step : world.Step F w v) (may : MayWork F c v step) → Together F (worked F c v step may)
   works v step may = record {
     world = step_keeps F w v step (t.world);
     locks = t.locks;
@@ -122,7 +229,10 @@ module _ (F : Files) (c : Cluster F) (t : Together F c) where
     idle = t.idle;
     ended = λ none l. ap (λ f. f (c.past) l) (state-step v step may) ∙ t.ended none l;
     quiet = quiet-step v step may;
-    settled = λ i f. (let h = t.settled i f in (h.0, λ b. flight-step v step may i b (h.0) (h.1 b)));
+    settled = λ i f. (let h = t.settled i f in (h.0, (λ b. flight-step v step may i b (h.0) ((h.1).0 b), unheaded-step v step may i (h.0) ((h.1).1))));
+    headers = headers-step v step may;
+    writers = writers-step v step may;
+    alone = alone-step v step may;
   }
 
   pub mails : (locks : F.Lock → ℕ → Node) → ((l : F.Lock) → Sends (c.locks l) (locks l)) → Together F (record c { locks = locks })
@@ -137,6 +247,9 @@ module _ (F : Files) (c : Cluster F) (t : Together F c) where
     ended = t.ended;
     quiet = t.quiet;
     settled = t.settled;
+    headers = t.headers;
+    writers = t.writers;
+    alone = t.alone;
   }
 
   pub views : Together F (record c { locks = λ l k. lock.anew (c.locks l k) })
@@ -151,6 +264,9 @@ module _ (F : Files) (c : Cluster F) (t : Together F c) where
     ended = t.ended;
     quiet = t.quiet;
     settled = t.settled;
+    headers = t.headers;
+    writers = t.writers;
+    alone = t.alone;
   }
 
   -- ---- a grant there is a grant here
@@ -218,6 +334,9 @@ module _ (F : Files) (c : Cluster F) (t : Together F c) where
       ended = λ over l. ap (λ f. f l) (at-other ((BookOf F c).state) i _ (c.past) (λ e. here (sym e))) ∙ t.ended over l;
       quiet = t.quiet;
       settled = t.settled;
+      headers = t.headers;
+      writers = t.writers;
+      alone = t.alone;
     }
 
   -- ---- a state that goes down there goes down here
@@ -273,6 +392,9 @@ module _ (F : Files) (c : Cluster F) (t : Together F c) where
             (λ ne. q.1 b),
       ));
       settled = t.settled;
+      headers = t.headers;
+      writers = t.writers;
+      alone = t.alone;
     }
 
   -- ---- stops, fences, joins
@@ -288,7 +410,7 @@ module _ (F : Files) (c : Cluster F) (t : Together F c) where
     })
 
     pub stops : (BookOf F c).published i ≡ (BookOf F c).answered i
-        → Together F (record c { world = Uncached; locks = λ l. at (c.locks l) i (stopped (c.locks l i)); runs = at (c.runs) i false; waits = at (c.waits) i true; fenced = at (c.fenced) i false })
+        → Together F (record c { world = Uncached; locks = λ l. at (c.locks l) i (stopped (c.locks l i)); runs = at (c.runs) i false; waits = at (c.waits) i true; fenced = at (c.fenced) i false; unlost = at (c.unlost) i (suc (c.unlost i)) })
     stops all = record {
       world = step_keeps F w Uncached shrink (t.world);
       locks = λ l. makes-sound _ _ (inr (lock.Moves i _ lock.Stops)) (t.locks l);
@@ -311,8 +433,14 @@ module _ (F : Files) (c : Cluster F) (t : Together F c) where
         | inl e ↦ absurd (true-false f (subst (λ k. at (c.fenced) i false k ≡ false) (sym e) (at-same (c.fenced) i false)))
         | inr ne ↦ (let h = t.settled k (sym (at-other (c.fenced) i false k ne) ∙ f) in (at-other (c.runs) i false k ne ∙ h.0, h.1))
       ];
+      headers = t.headers;
+      writers = λ k r has. elim (t.writers k r has) [ inl own ↦ inl own | inr waits ↦ inr (waits-on k waits) ];
+      alone = λ k r b v f own. (let was = t.alone k r b v f own in (was.0, elim (was.1) [ inl own ↦ inl own | inr waits ↦ inr (waits-on k waits) ]));
     }
       where
+        waits-on : (k : ℕ) → c.waits k ≡ true → at (c.waits) i true k ≡ true
+        waits-on k waits = at-cases (λ z. z ≡ true) (c.waits) i true k (λ e. refl) (λ ne. waits)
+
         still : (k : ℕ) → (k ≡ i → ⊥) → (at (c.runs) i false k && not (at (c.waits) i true k)) ≡ acts F c k
         still k ne = ap (λ b. b && not (at (c.waits) i true k)) (at-other (c.runs) i false k ne) ∙ ap (λ b. c.runs k && not b) (at-other (c.waits) i true k ne)
 
@@ -322,7 +450,7 @@ module _ (F : Files) (c : Cluster F) (t : Together F c) where
           | inr ne ↦ subst (λ z. P z (at g i y k)) (sym (at-other f i x k ne)) (subst (λ z. P (f k) z) (sym (at-other g i y k ne)) there)
         ]
 
-  pub fences : (i : ℕ) → c.runs i ≡ false → ((b : ℕ) → (w.disk).flight i b ≡ None) → Together F (record c { fenced = at (c.fenced) i true })
+  pub fences : (i : ℕ) → c.runs i ≡ false → IsIdle F c i → Together F (record c { fenced = at (c.fenced) i true })
   fences i out none = record {
     world = t.world;
     locks = t.locks;
@@ -334,9 +462,12 @@ module _ (F : Files) (c : Cluster F) (t : Together F c) where
     ended = t.ended;
     quiet = t.quiet;
     settled = λ k f. elim (cases_eq k i) [
-      | inl e ↦ subst (λ k. (c.runs k ≡ false) × ((b : ℕ) → (w.disk).flight k b ≡ None)) (sym e) (out, none)
+      | inl e ↦ subst (λ k. (c.runs k ≡ false) × IsIdle F c k) (sym e) (out, none)
       | inr ne ↦ t.settled k (sym (at-other (c.fenced) i true k ne) ∙ f)
     ];
+    headers = t.headers;
+    writers = t.writers;
+    alone = t.alone;
   }
 
   module _ (i : ℕ) (here : i ≡ c.past → ⊥) (out : c.runs i ≡ false) where
@@ -364,6 +495,9 @@ module _ (F : Files) (c : Cluster F) (t : Together F c) where
         | inl e ↦ absurd (true-false f (subst (λ k. at (c.fenced) i false k ≡ false) (sym e) (at-same (c.fenced) i false)))
         | inr ne ↦ (let h = t.settled k (sym (at-other (c.fenced) i false k ne) ∙ f) in (at-other (c.runs) i true k ne ∙ h.0, h.1))
       ];
+      headers = t.headers;
+      writers = t.writers;
+      alone = t.alone;
     }
 
   -- ---- the locks of a node that doesn't act end
@@ -384,7 +518,7 @@ module _ (F : Files) (c : Cluster F) (t : Together F c) where
       cached = λ b x e. absurd (none-some ((t.quiet i idle).1 b) e);
     })
 
-    module _ (wait : c.waits i ≡ true) where
+    module _ (wait : c.waits i ≡ true) (unheaded : c.header_of i ≡ None) where
       waits-other : (k : ℕ) → at (c.waits) i false k ≡ false → (k ≡ i → ⊥) → c.waits k ≡ false
       waits-other k e ne = sym (at-other (c.waits) i false k ne) ∙ e
 
@@ -419,6 +553,18 @@ module _ (F : Files) (c : Cluster F) (t : Together F c) where
           | inr ne ↦ t.quiet k (ap (λ b. c.runs k && not b) (sym (at-other (c.waits) i false k ne)) ∙ q)
         ];
         settled = t.settled;
+        headers = t.headers;
+        writers = λ k r has. elim (t.writers k r has) [
+          | inl own ↦ inl own
+          | inr waits ↦ inr (at-other (c.waits) i false k (λ e. none-some unheaded (subst (λ z. c.header_of z ≡ Some r) e has)) ∙ waits)
+        ];
+        alone = λ k r b v f own. (let was = t.alone k r b v f own in (
+          was.0,
+          elim (was.1) [
+            | inl own ↦ inl own
+            | inr waits ↦ inr (at-other (c.waits) i false k (λ e. nothing_left b (subst (λ z. (BookOf F c).owner b ≡ Some z) e own)) ∙ waits)
+          ],
+        ));
       }
 
 -- ---- events
@@ -432,8 +578,8 @@ event_keeps F c _ (Stops i here runs all) t = stops F c t i here all
 event_keeps F c _ (Fences i out unfenced none) t = fences F c t i out none
 event_keeps F c _ Views t = views F c t
 event_keeps F c _ (Joins i here out fenced waits) t = joins F c t i here out
-event_keeps F c _ (Recovers i here wait nothing_left) t = frees F c t i (waits-acts (c.runs i) (c.waits i) wait) nothing_left wait
-event_keeps F c _ (PastEnds wait nothing_left) t = frees F c t (c.past) (waits-acts (c.runs (c.past)) (c.waits (c.past)) wait) nothing_left wait
+event_keeps F c _ (Recovers i here wait nothing_left unheaded told) t = frees F c t i (waits-acts (c.runs i) (c.waits i) wait) nothing_left wait unheaded
+event_keeps F c _ (PastEnds wait nothing_left unheaded) t = frees F c t (c.past) (waits-acts (c.runs (c.past)) (c.waits (c.past)) wait) nothing_left wait unheaded
 
 abbrev once : (F : Files) (u v : World F) → world.Step F u v → Run F u v
 once F u v step = Goes u v v step (Stop v)
@@ -447,8 +593,8 @@ event_is_steps F c _ (Stops i here runs all) t = once F (c.world) _ (shrink F c 
 event_is_steps F c _ (Fences i out unfenced none) t = Stop (c.world)
 event_is_steps F c _ Views t = Stop (c.world)
 event_is_steps F c _ (Joins i here out fenced waits) t = Stop (c.world)
-event_is_steps F c _ (Recovers i here wait nothing_left) t = once F (c.world) _ (end F c t i (waits-acts (c.runs i) (c.waits i) wait) nothing_left)
-event_is_steps F c _ (PastEnds wait nothing_left) t = once F (c.world) _ (end F c t (c.past) (waits-acts (c.runs (c.past)) (c.waits (c.past)) wait) nothing_left)
+event_is_steps F c _ (Recovers i here wait nothing_left unheaded told) t = once F (c.world) _ (end F c t i (waits-acts (c.runs i) (c.waits i) wait) nothing_left)
+event_is_steps F c _ (PastEnds wait nothing_left unheaded) t = once F (c.world) _ (end F c t (c.past) (waits-acts (c.runs (c.past)) (c.waits (c.past)) wait) nothing_left)
 
 pub run-append : (F : Files) (u v w : World F) → Run F u v → Run F v w → Run F u w
 run-append F u _ w (Stop _) r = r
@@ -477,6 +623,9 @@ starts_together F c s = record {
   ended = s.clean;
   quiet = λ i idle. (let n = (s.world).numbers i in (n.1 ∙ sym (n.2), λ b. (s.world).uncached i b));
   settled = λ i f. absurd (true-false f (s.fenced i));
+  headers = λ i none. (s.headers i).1;
+  writers = λ i r has. absurd (none-some (s.headers i).0 has);
+  alone = λ i r b v f own. absurd (none-some (s.resting r b) f);
 }
 
 pub every_cluster : (F : Files) → EveryCluster F

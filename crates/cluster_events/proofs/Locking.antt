@@ -79,17 +79,17 @@ receives-held i l _ (Takes t down member fresh runs) s held = absurd (held (sym 
 
 pub weakens-makes : (i : ℕ) (l l' : ℕ → Node) → Weakens i l l' → Makes l l'
 weakens-makes i l _ Keeps = inl refl
-weakens-makes i l _ (GoesTo s member fresh taken runs low held) = inr (lock.Moves i _ (lock.Lowers s member fresh taken runs low held))
+weakens-makes i l _ (GoesTo s member fresh taken runs low held less) = inr (lock.Moves i _ (lock.Lowers s member fresh taken runs low held))
 
 pub weakens-same : {A : Type 0} (f : Node → A) → ((n m : Node) → m.member ≡ n.member → m.waits ≡ n.waits → f m ≡ f n)
     → (i : ℕ) (l l' : ℕ → Node) → Weakens i l l' → (k : ℕ) → f (l' k) ≡ f (l k)
 weakens-same f same i l _ Keeps k = refl
-weakens-same f same i l _ (GoesTo s member fresh taken runs low held) k = at-cases (λ z. f z ≡ f (l k)) l i _ k
+weakens-same f same i l _ (GoesTo s member fresh taken runs low held less) k = at-cases (λ z. f z ≡ f (l k)) l i _ k
     (λ e. same (l i) _ refl refl ∙ ap (λ z. f (l z)) (sym e)) (λ ne. refl)
 
 pub weakens-other : (i : ℕ) (l l' : ℕ → Node) → Weakens i l l' → (k : ℕ) → (k ≡ i → ⊥) → (l' k).state ≡ (l k).state
 weakens-other i l _ Keeps k ne = refl
-weakens-other i l _ (GoesTo s member fresh taken runs low held) k ne = ap (λ (n : Node). n.state) (at-other l i _ k ne)
+weakens-other i l _ (GoesTo s member fresh taken runs low held less) k ne = ap (λ (n : Node). n.state) (at-other l i _ k ne)
 
 leq-ex : (s t : State) → leq s t ≡ true → s ≡ Ex → t ≡ Ex
 leq-ex Un t p e = absurd cc
@@ -102,8 +102,8 @@ leq-ex Ex Ex p e = refl
 
 pub weakens-ex : (i : ℕ) (l l' : ℕ → Node) → Weakens i l l' → (l' i).state ≡ Ex → (l i).state ≡ Ex
 weakens-ex i l _ Keeps ex = ex
-weakens-ex i l _ (GoesTo s member fresh taken runs low held) ex = leq-ex s ((l i).state) low (sym (ap (λ (n : Node). n.state) (at-same l i _)) ∙ ex)
+weakens-ex i l _ (GoesTo s member fresh taken runs low held less) ex = leq-ex s ((l i).state) low (sym (ap (λ (n : Node). n.state) (at-same l i _)) ∙ ex)
 
 pub weakens-un : (i : ℕ) (l l' : ℕ → Node) → Weakens i l l' → (l i).state ≡ Un → (l' i).state ≡ Un
 weakens-un i l _ Keeps un = un
-weakens-un i l _ (GoesTo s member fresh taken runs low held) un = absurd (held un)
+weakens-un i l _ (GoesTo s member fresh taken runs low held less) un = absurd (held un)

@@ -1,13 +1,17 @@
 -- Histories with losses that are not there yet: they are legal, and keep what the cut keeps.
-use Rattle.std.proofs.Common.{ℕ, ◌≡◌, ◌≤◌, ◌<◌, ◌⊎◌, inl, inr, true, false, ◌&&◌, List, [], ◌∷◌, ◌++◌, refl, sym, ap, ◌∙◌, subst, arith}
+use Rattle.std.proofs.Common.{ℕ, ◌≡◌, ◌≤◌, ◌<◌, ◌⊎◌, inl, inr, Bool, true, false, ◌&&◌, List, [], ◌∷◌, ◌++◌, refl, sym, ap, ◌∙◌, subst, arith}
 use Rattle.std.specs.Prelude.{nat_lt, if◌then◌else◌}
 use Rattle.std.proofs.lemmas.Bool.{cases_eq, cases_lt, cases_Bool, cond-true, cond-false, eq-eqb}
 use Rattle.cluster_laws.specs.Files.{Files, RightTo}
-use Rattle.cluster_laws.specs.Book.{at, Kept, Book, InBox, kept_by, Numbered, dropped, Whole}
+use Rattle.cluster_laws.specs.Book.{at, Kept, Book, W, InBox, kept_by, Numbered, dropped, Whole}
 use Rattle.cluster_laws.specs.History.{Item, Gone, living, saids, Legal, Life, gones, least, cut_at, Above, HasLife, AreLives}
-use Rattle.cluster_laws.specs.Laws.{RemainsLegal, PrefixClause, head_cuts}
-use Rattle.cluster_laws.proofs.Cells.{ltb-true, ltb-false, eqb-false, at-same, at-other, at-cases}
-use Rattle.cluster_laws.proofs.Replaying.{stands_for_what_remains}
+use Rattle.cluster_laws.specs.Log.{Calm}
+use Rattle.cluster_laws.specs.World.{World, Sound}
+use Rattle.cluster_laws.specs.Mirror.{Near, IsOutcome, IsReplay, FreeIsFree, placed}
+use Rattle.cluster_laws.specs.Laws.{RemainsLegal, PrefixClause, HasLoss, AreLosses, NothingIsUnflushed, AtTheEnd, ImageAtTheEnd, head_cuts}
+use Rattle.cluster_laws.proofs.Logging.{steady, calm_untouched}
+use Rattle.cluster_laws.proofs.Cells.{split, whose-none, whose-some, ltb-true, ltb-false, eqb-false, at-same, at-other, at-cases}
+use Rattle.cluster_laws.proofs.Replaying.{near, stands_for_what_remains}
 use Rattle.cluster_laws.proofs.Histories.{living-gone, Legal-more}
 
 -- the kept calls of a cut, with their nodes and numbers
@@ -146,3 +150,75 @@ prefix_clause F w choice x r ls s free outcome replay lives =
     remains.1 ∙ ap (λ z. kept_by F z ((w.book).kept)) (λ k i. cut_at-lives ((w.book).published) (head_cuts F (w.disk) choice) ls (λ i. ((s.mirror).cuts i (choice i)).1) lives i k) in
     let stands = stands_for_what_remains F (w.book) (w.disk) (s.mirror) choice x r outcome replay (s.whole) free in
     (remains.0, (stands.0, stands.1, subst (λ z. RightTo F z ((w.book).start) (stands.0)) (sym told) (stands.2)))
+
+-- ---- losses by the rule, and the end of a run
+
+-- where the calls between two cuts change nothing, their images are one
+pub image_same : (F : Files) (B : Book F) → Whole F B → (a b : ℕ → ℕ) → ((i : ℕ) → (B.low i ≤ a i) × (a i ≤ b i) × (b i ≤ B.answered i) × Calm F B i (a i) (b i)) → W F B b ≡ W F B a
+image_same F B whole a b between = λ i k. at_block k i
+  where
+    at_block : (k : ℕ) → W F B b k ≡ W F B a k
+    at_block k = elim (split (B.owner k)) [
+      | inl nobody ↦ whose-none _ _ nobody ∙ sym (whose-none _ _ nobody)
+      | inr some ↦ (let o = some.0 in let h = between o in
+          whose-some _ _ (some.1)
+          ∙ steady F B whole o k (some.1) (a o) (b o) (h.0) (h.1) (h.2) (calm_untouched F B o (a o) (b o) k whole (h.0) (h.2) (h.3))
+          ∙ sym (whose-some _ _ (some.1)))
+    ]
+
+cut_at-loss : (F : Files) (B : Book F) (cut now : ℕ → ℕ) (ls : List Life) (i : ℕ) → HasLoss F B cut i ls
+    → (k : ℕ) × (cut_at now ls i ≤ k) × (k ≤ B.answered i) × Calm F B i (cut i) k
+cut_at-loss F B cut now [] i h = absurd h
+cut_at-loss F B cut now (l ∷ ls) i (inl h) =
+    let p = cut_at-below (at now (l.node) (least (now (l.node)) (l.kept))) ls i in
+    let q : at now (l.node) (least (now (l.node)) (l.kept)) i ≤ l.kept = subst (λ m. at now (l.node) (least (now (l.node)) (l.kept)) m ≤ l.kept) (h.0)
+    (subst (λ z. z ≤ l.kept) (sym (at-same now (l.node) (least (now (l.node)) (l.kept)))) (least-second (now (l.node)) (l.kept))) in
+    (l.kept, omega arith, h.1, h.2)
+cut_at-loss F B cut now (l ∷ ls) i (inr h) = cut_at-loss F B cut (at now (l.node) (least (now (l.node)) (l.kept))) ls i h
+
+-- what such losses leave of a node is the cut, or more that changes nothing
+pub cut_at-losses : (F : Files) (B : Book F) (published cut : ℕ → ℕ) (ls : List Life) → ((i : ℕ) → cut i ≤ published i) → ((i : ℕ) → published i ≤ B.answered i)
+    → AreLosses F B published cut ls → (i : ℕ)
+    → (cut i ≤ cut_at published ls i) × (cut_at published ls i ≤ published i) × Calm F B i (cut i) (cut_at published ls i)
+cut_at-losses F B published cut ls below top losses i = (
+  cut_at-above cut published ls below (losses.above) i,
+  cut_at-below published ls i,
+  elim (losses.every i) [
+    | inl all ↦ (λ n low high. absurd (let q = cut_at-below published ls i in omega arith))
+    | inr loss ↦ (let k = cut_at-loss F B cut published ls i loss in let h = k.1 in λ n low high. k.3 n low (omega arith))
+  ],
+)
+
+module _ (F : Files) (w : World F) (s : Sound F w) (free : FreeIsFree F) (calm : NothingIsUnflushed F w) where
+  -- the image of all published calls stands for the tree of the history
+  all-stands : (t : F.Tree) × F.Stands (W F (w.book) ((w.book).published)) t × RightTo F (saids F (living F (w.items))) ((w.book).start) t
+  all-stands =
+      let right = (s.whole).right ((w.book).published) (λ i. ((s.whole).low_published i, (s.whole).published_answered i)) (λ i. omega arith) in (
+        right.0,
+        right.1,
+        subst (λ z. RightTo F z ((w.book).start) (right.0))
+            (sym (saids-keep F ((w.book).published) ((w.book).kept)) ∙ ap (saids F) (keep-all F ((w.book).published) ((w.book).kept) ((s.whole).numbered)) ∙ ap (saids F) (sym (s.told))) (right.2),
+      )
+
+  -- it is the image of the heads, whichever they are
+  same-image : (choice : ℕ → Bool) → W F (w.book) ((w.book).published) ≡ W F (w.book) (λ i. ((w.disk).heads i (choice i)).cut)
+  same-image choice = image_same F (w.book) (s.whole) (λ i. ((w.disk).heads i (choice i)).cut) ((w.book).published)
+      (λ i. (let c = (s.mirror).cuts i (choice i) in let p = c.0 in (c.0, c.1, (s.whole).published_answered i, λ n low high. calm i n (omega arith) high)))
+
+  pub end-stands : (choice : ℕ → Bool) (x r : ℕ → F.Content) → IsOutcome F (w.disk) x → IsReplay F (w.disk) choice x r
+      → (t : F.Tree) × F.Stands (placed F r (W F (w.book) ((w.book).published))) t × RightTo F (saids F (living F (w.items))) ((w.book).start) t
+  end-stands choice x r outcome replay = (
+    all-stands.0,
+    free (W F (w.book) ((w.book).published)) (placed F r (W F (w.book) ((w.book).published))) (all-stands.0) (all-stands.1)
+        (λ b. elim (subst (λ m. Near F (r b) (m b)) (sym (same-image choice)) (near F (w.book) (w.disk) (s.mirror) choice x r outcome replay b)) [
+          | inl e ↦ inl (ap (λ d. record { content = d; place = (W F (w.book) ((w.book).published) b).place }) e)
+          | inr f ↦ inr (f, refl)
+        ]),
+    all-stands.2,
+  )
+
+pub at_the_end : (F : Files) → AtTheEnd F
+at_the_end F w choice x r s free calm outcome replay = end-stands F w s free calm choice x r outcome replay
+
+pub image_at_the_end : (F : Files) → ImageAtTheEnd F
+image_at_the_end F w s free calm still none = end-stands F w s free calm (λ i. false) ((w.disk).blocks) ((w.disk).blocks) (λ b. inl refl) (λ b. inr ((λ i. none i false b), refl))

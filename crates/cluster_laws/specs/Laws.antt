@@ -1,13 +1,13 @@
 -- The laws, each as one statement.
-use Rattle.std.specs.Prelude.{false, true, Some, ℕ, ◌≡◌, ◌≤◌, ◌<◌, ◌⊎◌, suc, Bool, List, ◌++◌, None, [], ◌∷◌}
-use Rattle.cluster_laws.specs.Files.{Files, Part, LockOf, RightTo, State, Un, laid, CellOf, Touches}
+use Rattle.std.specs.Prelude.{false, true, Some, ℕ, ◌≡◌, ◌≤◌, ◌<◌, ◌⊎◌, ⊤, suc, Bool, List, ◌++◌, None, [], ◌∷◌}
+use Rattle.cluster_laws.specs.Files.{Files, Part, LockOf, RightTo, State, Un, Ex, laid, CellOf, Touches}
 use Rattle.cluster_laws.specs.Book.{Book, Whole, W, Seen, tried, publish, flushed, settled, relocked, kept_by, lost}
 use Rattle.cluster_laws.specs.Locks.{Lowers, Raises, read_into}
 use Rattle.cluster_laws.specs.Mirror.{Near, Head, Heads, Disk, Mirror, IsOutcome, IsReplay, FreeIsFree, placed, renumbered}
 use Rattle.cluster_laws.specs.History.{Legal, living, saids, Life, gones, cut_at, Above, AreLives, Gone}
-use Rattle.cluster_laws.specs.Log.{Untouched, Calm, IsHeader, MayGo, LastTouches, GoesDown}
+use Rattle.cluster_laws.specs.Log.{Untouched, Calm, IsHeader, MayGo, NumbersStand, GoOn, GoesDown}
 use Rattle.cluster_laws.specs.Notes.{Note, NoteStands, Caches, CachesAfter, CacheMinds, NoteMinds, NeedsBlock}
-use Rattle.cluster_laws.specs.World.{World, Answering, Step, Sound}
+use Rattle.cluster_laws.specs.World.{World, Answering, Step, Answers, Sound}
 
 -- one node answers a call, from its view alone: the book keeps Whole, for every cut
 abbrev pub TryKeeps : Files → Type 0
@@ -46,11 +46,15 @@ abbrev pub ReleaseKeeps : Files → Type 0
 ReleaseKeeps F = (B : Book F) (D : Disk F) (i : ℕ) (state : ℕ → F.Lock → State) (cache : ℕ → Part F) → Whole F B → Mirror F B D → GoesDown F B D i state cache
     → (p : ℕ → Bool) × Whole F (relocked F (settled F B i p) state cache) × Mirror F (relocked F (settled F B i p) state cache) D
 
--- the test that a node makes: no live block was under the lock at its flush, and the last call that touched it is in the journal
+-- the test that a node makes: no live block was under the lock at its flush, and the last call since its grant that touched it is in the journal
 abbrev pub NumberTells : Files → Type 0
-NumberTells F = (B : Book F) (D : Disk F) (i : ℕ) (l : F.Lock) (last : F.Lock → ℕ) → Whole F B → LastTouches F B i last
+NumberTells F = (B : Book F) (D : Disk F) (i : ℕ) (l : F.Lock) (since last : F.Lock → ℕ) → Whole F B → NumbersStand F B i since last
     → ((c : Bool) (b : ℕ) (v : F.Content) → (D.heads i c).live b ≡ Some v → LockOf F (B.says i (B.low i) b) ≡ l → ⊥)
     → last l ≤ B.low i → MayGo F B D i l
+
+-- calls that change no tree touch no block
+abbrev pub CalmIsUntouched : Files → Type 0
+CalmIsUntouched F = (B : Book F) (i lo hi b : ℕ) → Whole F B → B.low i ≤ lo → hi ≤ B.answered i → Calm F B i lo hi → Untouched F B i lo hi b
 
 -- of a block that j doesn't have in its log, or has home, the disk has what the images have that j's calls are in
 abbrev pub ReadIsRight : Files → Type 0
@@ -95,11 +99,11 @@ TryKeepsNotes F = (B : Book F) (D : Disk F) (j : ℕ) (said : F.Said) (v c cache
     × ((i : ℕ) → (i ≡ j → ⊥) → Caches F B D i → Caches F (tried F B j said v c cache) D i)
     × ((i : ℕ) (pinned : F.Lock → Bool) (n : Note F) → (i ≡ j → ⊥) → NoteStands F B i pinned n → NoteStands F (tried F B j said v c cache) i pinned n)
 
--- a read of node j keeps all notes but those of the block that it reads, which are met
+-- a read of node j keeps all notes but those of the block that it reads under an exclusive lock, which are met
 abbrev pub ReadKeepsNotes : Files → Type 0
 ReadKeepsNotes F = (B : Book F) (D : Disk F) (j b : ℕ) → Whole F B
     → ((i : ℕ) → Caches F B D i → Caches F (relocked F B (B.state) (read_into F B j b)) D i)
-    × ((i : ℕ) (pinned : F.Lock → Bool) (n : Note F) → (i ≡ j → n.block ≡ b → ⊥) → NoteStands F B i pinned n
+    × ((i : ℕ) (pinned : F.Lock → Bool) (n : Note F) → (i ≡ j → (n.block ≡ b → ⊥) ⊎ (B.state i (n.lock) ≡ Ex → ⊥)) → NoteStands F B i pinned n
     → NoteStands F (relocked F B (B.state) (read_into F B j b)) i pinned n)
 
 -- every event keeps what is said of a running node's cache and notes, where the node minds what it has to
@@ -112,17 +116,31 @@ StepKeepsNotes F = (w w' : World F) (step : Step F w w') (i : ℕ) → Sound F w
 abbrev pub NotesStand : Files → Type 0
 NotesStand F = (B : Book F) (j : ℕ) (v : Part F) (pinned : F.Lock → Bool) (n : Note F) → Whole F B
     → ((b : ℕ) (x : CellOf F) → v b ≡ Some x → Seen F B j (B.answered j) b x) → NeedsBlock F v (n.block) (n.lock)
-    → (B.state j (n.lock) ≡ Un → ⊥) → pinned (n.lock) ≡ true → B.cache j (n.block) ≡ None → NoteStands F B j pinned n
+    → (B.state j (n.lock) ≡ Un → ⊥) → pinned (n.lock) ≡ true → (B.cache j (n.block) ≡ None) ⊎ (B.state j (n.lock) ≡ Ex → ⊥) → NoteStands F B j pinned n
 
--- the numbers of the last calls that touched the locks, after a try and after a header
+-- a call that node i answers raises the number of each lock that it touches
+abbrev pub TouchMinds : (F : Files) (w w' : World F) → Step F w w' → ℕ → (F.Lock → ℕ) → Type 0
+TouchMinds F w _ (Answers j said v c cache no_sync a) i last' = i ≡ j → (l : F.Lock) → Touches F c l → suc ((w.book).answered j) ≤ last' l
+TouchMinds F w _ _ i last' = ⊤
+
+-- every event keeps the numbers of a node's locks: a grant, at which they begin anew, a try that touches them, headers, and the end of a life
 abbrev pub NumbersKeep : Files → Type 0
-NumbersKeep F = (B : Book F) (j : ℕ) (said : F.Said) (v c cache : Part F) (i : ℕ) (last last' : F.Lock → ℕ) → LastTouches F B i last
-    → ((l : F.Lock) → last l ≤ last' l) → (i ≡ j → (l : F.Lock) → Touches F c l → suc (B.answered j) ≤ last' l)
-    → LastTouches F (tried F B j said v c cache) i last'
+NumbersKeep F = (w w' : World F) (step : Step F w w') (i : ℕ) (since last since' last' : F.Lock → ℕ) → Sound F w → GoOn F (w.book) i since last since' last'
+    → TouchMinds F w w' step i last' → NumbersStand F (w.book) i since last → NumbersStand F (w'.book) i since' last'
 
 -- what the heads of a choice have
 abbrev pub head_cuts : (F : Files) → Disk F → (ℕ → Bool) → ℕ → ℕ
 head_cuts F D choice i = (D.heads i (choice i)).cut
+
+-- of this node the losses of one life keep what the rule of losses keeps: the number that the cut has, or more that changes nothing
+abbrev pub HasLoss : (F : Files) → Book F → (ℕ → ℕ) → ℕ → List Life → Type 0
+HasLoss F B cut i [] = ⊥
+HasLoss F B cut i (l ∷ ls) = ((l.node ≡ i) × (l.kept ≤ B.answered i) × Calm F B i (cut i) (l.kept)) ⊎ HasLoss F B cut i ls
+
+-- a loss for each node that has published more than the cut keeps, by the rule; several of one node among them, in any order
+pub record AreLosses (F : Files) (B : Book F) (published cut : ℕ → ℕ) (ls : List Life) : Type 0 where
+  pub above : Above cut ls
+  pub every : (i : ℕ) → (published i ≤ cut i) ⊎ HasLoss F B cut i ls
 
 -- the prefix clause: whatever becomes of the writes in flight and of the headers, the history with a loss for each life that has none is legal, and
 -- the disk, its journals replayed, stands for the tree at its end
@@ -131,3 +149,20 @@ PrefixClause F = (w : World F) (choice : ℕ → Bool) (x r : ℕ → F.Content)
     → IsOutcome F (w.disk) x → IsReplay F (w.disk) choice x r → AreLives ((w.book).published) (head_cuts F (w.disk) choice) ls
     → Legal F (w.items ++ gones F ls) ((w.book).start)
     × ((t : F.Tree) × F.Stands (placed F r (W F (w.book) (head_cuts F (w.disk) choice))) t × RightTo F (saids F (living F (w.items ++ gones F ls))) ((w.book).start) t)
+
+-- no published call that isn't in the accepted head of its node's journal changes anything
+abbrev pub NothingIsUnflushed : (F : Files) → World F → Type 0
+NothingIsUnflushed F w = (i : ℕ) → Calm F (w.book) i ((w.book).low i) ((w.book).published i)
+
+-- Then there is nothing to lose: each outcome of the disk, replayed, stands for the tree of the history as it is. So it is at the end of a run, where each node
+-- unmounted or only read.
+abbrev pub AtTheEnd : Files → Type 0
+AtTheEnd F = (w : World F) (choice : ℕ → Bool) (x r : ℕ → F.Content) → Sound F w → FreeIsFree F → NothingIsUnflushed F w
+    → IsOutcome F (w.disk) x → IsReplay F (w.disk) choice x r
+    → (t : F.Tree) × F.Stands (placed F r (W F (w.book) ((w.book).published))) t × RightTo F (saids F (living F (w.items))) ((w.book).start) t
+
+-- and with nothing live and nothing in flight it is the image on the disk itself
+abbrev pub ImageAtTheEnd : Files → Type 0
+ImageAtTheEnd F = (w : World F) → Sound F w → FreeIsFree F → NothingIsUnflushed F w → ((r b : ℕ) → (w.disk).flight r b ≡ None)
+    → ((i : ℕ) (c : Bool) (b : ℕ) → ((w.disk).heads i c).live b ≡ None)
+    → (t : F.Tree) × F.Stands (placed F ((w.disk).blocks) (W F (w.book) ((w.book).published))) t × RightTo F (saids F (living F (w.items))) ((w.book).start) t

@@ -39,9 +39,18 @@ pub record MayGo (F : Files) (B : Book F) (D : Disk F) (i : ℕ) (l : F.Lock) : 
   pub untouched : (n b : ℕ) (x : CellOf F) → B.low i ≤ n → n < B.answered i → B.change i (suc n) b ≡ Some x
       → (LockOf F x ≡ l → ⊥) × (LockOf F (B.says i n b) ≡ l → ⊥)
 
--- what a node keeps of each lock that it holds: the number of the last call that touched it
-abbrev pub LastTouches : (F : Files) → Book F → ℕ → (F.Lock → ℕ) → Type 0
-LastTouches F B i last = (n : ℕ) (l : F.Lock) → B.low i ≤ n → n < B.answered i → Touches F (B.change i (suc n)) l → suc n ≤ last l
+-- What a node keeps of each lock that it holds: the number of the last call since its grant that touched it. `since` is the number of the node's last call at that
+-- grant, which the node needn't keep.
+pub record NumbersStand (F : Files) (B : Book F) (i : ℕ) (since last : F.Lock → ℕ) : Type 0 where
+  pub answered : (l : F.Lock) → since l ≤ B.answered i
+  pub touched : (n : ℕ) (l : F.Lock) → B.low i ≤ n → since l ≤ n → n < B.answered i → Touches F (B.change i (suc n)) l → suc n ≤ last l
+  -- no call before the grant that isn't in the journal changed or freed a block that was under the lock before it or is after it
+  pub none_before : (n b : ℕ) (x : CellOf F) (l : F.Lock) → B.low i ≤ n → n < since l → B.change i (suc n) b ≡ Some x
+      → (LockOf F x ≡ l → ⊥) × (LockOf F (B.says i n b) ≡ l → ⊥)
+
+-- of a lock that the node doesn't hold the numbers may begin anew, as they do at a grant; else the last call may only rise
+abbrev pub GoOn : (F : Files) → Book F → ℕ → (F.Lock → ℕ) → (F.Lock → ℕ) → (F.Lock → ℕ) → (F.Lock → ℕ) → Type 0
+GoOn F B i since last since' last' = (l : F.Lock) → ((B.state i l ≡ Un) × (since' l ≡ B.answered i)) ⊎ ((since' l ≡ since l) × (last l ≤ last' l))
 
 pub record GoesDown (F : Files) (B : Book F) (D : Disk F) (i : ℕ) (state : ℕ → F.Lock → State) (cache : ℕ → Part F) : Type 0 where
   pub others : (j : ℕ) → (j ≡ i → ⊥) → (state j ≡ B.state j) × (cache j ≡ B.cache j)

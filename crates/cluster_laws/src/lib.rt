@@ -2,7 +2,7 @@
 #![tactic(auto)]
 
 ghost use Rattle.cluster_laws.specs.Files.{Files};
-ghost use Rattle.cluster_laws.specs.Laws.{TryKeeps, PublishKeeps, FlushKeeps, DownKeeps, GrantKeeps, ReadSees, Remains, StepKeeps, HeaderHeads, ReleaseKeeps, NumberTells, NotedReads, TryKeepsNotes, ReadKeepsNotes, StepKeepsNotes, NotesStand, NumbersKeep, ReadIsRight, RemainsLegal, PrefixClause, RecoveredKeeps};
+ghost use Rattle.cluster_laws.specs.Laws.{TryKeeps, PublishKeeps, FlushKeeps, DownKeeps, GrantKeeps, ReadSees, Remains, StepKeeps, HeaderHeads, ReleaseKeeps, NumberTells, NotedReads, TryKeepsNotes, ReadKeepsNotes, StepKeepsNotes, NotesStand, NumbersKeep, CalmIsUntouched, ReadIsRight, RemainsLegal, PrefixClause, AtTheEnd, ImageAtTheEnd, RecoveredKeeps};
 ghost use Rattle.cluster_laws.specs.World.{EveryRun};
 ghost use Rattle.cluster_laws.specs.Rings.{EveryDisk, RingsReplay, RingGoesOver, RingBegins, RingEnds, StartSlotRecovered, PastEnds};
 ghost use Rattle.cluster_laws.specs.Notes.{NeedsAreDone};
@@ -70,7 +70,7 @@ pub fn a_release_keeps<S: System>()
     ensures { ReleaseKeeps S.files }
 {}
 
-/// A law: what a node keeps of a lock, the number of the last call that touched it, tells that it may go down.
+/// A law: what a node keeps of a lock, the number of the last call since its grant that touched it, tells that it may go down.
 pub fn a_number_tells<S: System>()
     ensures { NumberTells S.files }
 {}
@@ -152,9 +152,14 @@ pub fn a_note_stands<S: System>()
     ensures { NotesStand S.files }
 {}
 
-/// A law: a try keeps the numbers of the last calls that touched the locks.
-pub fn a_try_keeps_numbers<S: System>()
+/// A law: every event keeps the numbers of the last calls that touched the locks, and a grant begins them anew.
+pub fn a_step_keeps_numbers<S: System>()
     ensures { NumbersKeep S.files }
+{}
+
+/// A law: calls that change no tree touch no block.
+pub fn calm_calls_touch_nothing<S: System>()
+    ensures { CalmIsUntouched S.files }
 {}
 
 /// A law: what a file call says of a block that it finds missing is what the machine wants of a note.
@@ -185,4 +190,11 @@ pub fn a_ring_ends<S: System>()
 /// A law: the prefix clause, with losses of several lives and nodes in any order.
 pub fn every_prefix_is_right<S: System>()
     ensures { PrefixClause S.files }
+{}
+
+/// A law: where nothing is unflushed, nothing is to be lost: the disk, replayed, stands for the tree of the history as it is; so does the image itself, where
+/// no block is live or in flight.
+pub fn the_end_is_right<S: System>()
+    ensures replayed { AtTheEnd S.files }
+    ensures image { ImageAtTheEnd S.files }
 {}

@@ -34,5 +34,4 @@ lock_parts F c t = record {
     ];
   };
   master = λ i l taken none. (let n = c.locks l i in let d = dominated (eff n) (n.down) (n.table) (n.up) none (((t.locks l).fine i).ok taken) in (d.0, d.1));
-  fenced = λ i b f. (t.settled i f).1 b;
 }

@@ -1,18 +1,18 @@
 -- Whichever nodes stop: all that was answered is published, the others' lives are lost, and the disk shows what is left.
 use Rattle.std.proofs.Common.{ℕ, zero, suc, ◌+◌, ◌-◌, ◌≡◌, ◌≤◌, ◌<◌, ◌⊎◌, inl, inr, Bool, true, false, Some, List, [], ◌∷◌, ◌++◌, refl, sym, ap, ◌∙◌, subst, arith}
 use Rattle.std.proofs.lemmas.Bool.{cases_eq, cases_lt, cases_Bool, cond-true, cond-false}
-use Rattle.cluster_laws.specs.Files.{Files, CellOf, RightTo}
+use Rattle.cluster_laws.specs.Files.{Files, RightTo}
 use Rattle.cluster_laws.specs.Book.{at, W, kept_by}
 use Rattle.cluster_laws.specs.Mirror.{Near, FreeIsFree, placed}
 use Rattle.cluster_laws.specs.History.{living, saids, Legal, Life, gones, cut_at, AreLives}
-use Rattle.cluster_laws.specs.Log.{Untouched, Last}
+use Rattle.cluster_laws.specs.Laws.{head_cuts, AreLosses}
+use Rattle.cluster_laws.specs.Log.{Untouched, Last, Calm}
 use Rattle.cluster_laws.specs.World.{World, Sound, Run, Stop, Goes, Publishes}
-use Rattle.cluster_laws.specs.Laws.{head_cuts}
 use Rattle.cluster_laws.proofs.Cells.{split, inside, none-some, ltb-true, at-same, at-other, at-cases, whose-none, whose-some, laid-none, laid-some}
 use Rattle.cluster_laws.proofs.Publishing.{kept_by-append}
 use Rattle.cluster_laws.proofs.Logging.{steady, last-says}
 use Rattle.cluster_laws.proofs.Running.{run_keeps}
-use Rattle.cluster_laws.proofs.Remaining.{remains_legal, cut_at-lives, Above-lower}
+use Rattle.cluster_laws.proofs.Remaining.{remains_legal, cut_at-lives, Above-lower, image_same, cut_at-losses}
 use Rattle.cluster_events.proofs.Eventing.{run-append}
 use Rattle.cluster_parts.specs.Parts.{published_one, published_next, published_below, PublishedFrom, cut_of, IsLive, NoneLive, Shows, EverySetMayStop, AllIsPublished, AllMayStop}
 
@@ -128,16 +128,38 @@ module _ (F : Files) where
       pub told : saids F (living F (w'.items ++ gones F ls)) ≡ kept_by F cut ((w'.book).kept)
       told = remains.1 ∙ ap (λ z. kept_by F z ((w'.book).kept)) (λ k i. cut_at-lives ((w'.book).published) cut ls (λ i. (let e = all' i in let h = high i in omega arith)) lives' i k)
 
+    -- what is left where lives lose by the rule
+    module _ (cut : ℕ → ℕ) (ls : List Life) (low : (i : ℕ) → (w.book).low i ≤ cut i) (high : (i : ℕ) → cut i ≤ (w.book).answered i)
+        (losses : AreLosses F (w.book) ((w.book).answered) cut ls) where
+      left : (i : ℕ) → (cut i ≤ cut_at ((w.book).answered) ls i) × (cut_at ((w.book).answered) ls i ≤ (w.book).answered i)
+          × Calm F (w.book) i (cut i) (cut_at ((w.book).answered) ls i)
+      left = cut_at-losses F (w.book) ((w.book).answered) cut ls high (λ i. omega arith) losses
+
+      image : W F (w.book) (cut_at ((w.book).answered) ls) ≡ W F (w.book) cut
+      image = image_same F (w.book) (s.whole) cut (cut_at ((w.book).answered) ls) (λ i. (low i, (left i).0, (left i).1, (left i).2))
+
+      published-is : (w'.book).published ≡ (w.book).answered
+      published-is = λ k i. all' i k
+
+      remains' : Legal F (w'.items ++ gones F ls) ((w'.book).start) × (saids F (living F (w'.items ++ gones F ls)) ≡ kept_by F (cut_at ((w'.book).published) ls) ((w'.book).kept))
+      remains' = remains_legal F w' ls sound'
+          (Above-lower ((w'.book).low) cut ls (λ i. (let e = ap (λ f. f i) ((same-below w n).low) in let h = low i in omega arith)) (losses.above))
+
       pub legal : Legal F (w'.items ++ gones F ls) ((w.book).start)
-      legal = subst (λ z. Legal F (w'.items ++ gones F ls) z) ((same-below w n).start) (remains.0)
+      legal = subst (λ z. Legal F (w'.items ++ gones F ls) z) ((same-below w n).start) (remains'.0)
+
+      told-left : saids F (living F (w'.items ++ gones F ls)) ≡ kept_by F (cut_at ((w.book).answered) ls) ((w'.book).kept)
+      told-left = remains'.1 ∙ ap (λ z. kept_by F (cut_at z ls) ((w'.book).kept)) published-is
 
       pub tree : (t : F.Tree) × F.Stands (W F (w.book) cut) t × RightTo F (saids F (living F (w'.items ++ gones F ls))) ((w.book).start) t
       tree =
-          let r = (sound'.whole).right cut (λ i. (let e = low-same i in let a = all' i in let b = ap (λ f. f i) ((same-below w n).answered) in let l = low i in let h = high i in (omega arith, omega arith)))
-          (λ i. (let e = all' i in let h = high i in omega arith)) in (
+          let rest = cut_at ((w.book).answered) ls in
+          let r = (sound'.whole).right rest (λ i. (let e = ap (λ f. f i) ((same-below w n).low) in let b = ap (λ f. f i) ((same-below w n).answered) in let l = low i in let h = (left i).0 in let k = (left i).1 in (omega arith, omega arith)))
+          (λ i. (let e = all' i in let h = (left i).1 in omega arith)) in (
             r.0,
-            subst (λ z. F.Stands (z cut) (r.0)) ((same-below w n).image) (r.1),
-            subst (λ z. RightTo F z ((w.book).start) (r.0)) (sym told) (subst (λ z. RightTo F (kept_by F cut ((w'.book).kept)) z (r.0)) ((same-below w n).start) (r.2)),
+            subst (λ z. F.Stands z (r.0)) (ap (λ z. z rest) ((same-below w n).image) ∙ image) (r.1),
+            subst (λ z. RightTo F z ((w.book).start) (r.0)) (sym told-left)
+                (subst (λ z. RightTo F (kept_by F rest ((w'.book).kept)) z (r.0)) ((same-below w n).start) (r.2)),
           )
 
   pub all_published : AllIsPublished F
@@ -207,11 +229,11 @@ module _ (F : Files) where
           true-false e f = cc
 
           unflushed : (o : ℕ) → (w.book).owner b ≡ Some o → (i : ℕ) (l : Last F (w.book) i (head_cuts F (w.disk) choice i) ((w.book).answered i) b)
-              → r b ≡ (l.cell).content → Near F (r b) ((w.book).says o ((w.book).answered o) b)
+              → Near F (r b) (l.cell) → Near F (r b) ((w.book).says o ((w.book).answered o) b)
           unflushed o own i l e =
               let mine : (w.book).owner b ≡ Some i = owner-of-last i b l in
               let last = last-says F (w.book) (s.whole) i b mine (head_cuts F (w.disk) choice i) ((w.book).answered i) (heads-low i) (omega arith) l in
-              subst (λ k. Near F (r b) ((w.book).says k ((w.book).answered k) b)) (inside (sym mine ∙ own)) (inl (ap (λ (x : CellOf F). x.content) last ∙ sym e))
+              subst (λ k. Near F (r b) ((w.book).says k ((w.book).answered k) b)) (inside (sym mine ∙ own)) (subst (λ x. Near F (r b) x) (sym last) e)
 
       pub near : Near F (r b) (W F (w.book) (cut_of F w stops choice) b)
       near = elim (split ((w.book).owner b)) [

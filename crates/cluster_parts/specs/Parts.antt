@@ -1,16 +1,16 @@
 -- The invariant of the cluster part by part, as images, journals, caches and locks show it: for every set of nodes that might stop, and every choice of
 -- the headers in flight.
-use Rattle.std.specs.Prelude.{ℕ, zero, suc, ◌-◌, ◌≡◌, ◌≤◌, ◌<◌, ◌⊎◌, ⊤, Bool, true, false, not, if◌then◌else◌, None, Some, List, [], ◌∷◌, ◌++◌}
-use Rattle.cluster_laws.specs.Files.{Files, CellOf, LockOf, RightTo, State, Un, Sh, Df, Ex}
+use Rattle.std.specs.Prelude.{ℕ, zero, suc, ◌-◌, ◌≡◌, ◌≤◌, ◌<◌, ◌⊎◌, Bool, true, false, not, if◌then◌else◌, None, Some, List, [], ◌∷◌, ◌++◌}
+use Rattle.cluster_laws.specs.Files.{Files, CellOf, Part, LockOf, RightTo, State, Un, Sh, Df, Ex}
 use Rattle.cluster_laws.specs.Book.{W, InBox, publish}
-use Rattle.cluster_laws.specs.Mirror.{IsReplay, FreeIsFree, placed}
+use Rattle.cluster_laws.specs.Mirror.{Near, IsReplay, FreeIsFree, placed}
 use Rattle.cluster_laws.specs.History.{Called, living, saids, Legal, Life, gones, AreLives}
 use Rattle.cluster_laws.specs.Log.{Untouched, Last}
 use Rattle.cluster_laws.specs.World.{World, Sound, Run}
-use Rattle.cluster_laws.specs.Laws.{head_cuts}
+use Rattle.cluster_laws.specs.Laws.{head_cuts, AreLosses}
 use Rattle.lock_laws.specs.Lock.{goes, leq, eff, has_report}
 use Rattle.cluster_laws.specs.World as world
-use Rattle.cluster_events.specs.Cluster.{Cluster, BookOf, Together, Event, Works, GoesDown}
+use Rattle.cluster_events.specs.Cluster.{Cluster, BookOf, Together, Event, Works, GoesDown, Stops}
 
 -- ---- the history and the image where a set of nodes stops
 
@@ -41,9 +41,9 @@ PublishedFrom F n w = (i : ℕ) → n ≤ i → (w.book).published i ≡ (w.book
 abbrev pub cut_of : (F : Files) → World F → (ℕ → Bool) → (ℕ → Bool) → ℕ → ℕ
 cut_of F w stops choice i = if stops i then head_cuts F (w.disk) choice i else (w.book).answered i
 
--- the block is unflushed at a node that doesn't stop, with this content
+-- the block is unflushed at a node that doesn't stop, with this content, or free and with any
 abbrev pub IsUnflushed : (F : Files) → World F → (ℕ → Bool) → (ℕ → Bool) → ℕ → F.Content → Type 0
-IsUnflushed F w stops choice b d = (i : ℕ) × (stops i ≡ false) × ((l : Last F (w.book) i (head_cuts F (w.disk) choice i) ((w.book).answered i) b) × (d ≡ (l.cell).content))
+IsUnflushed F w stops choice b d = (i : ℕ) × (stops i ≡ false) × ((l : Last F (w.book) i (head_cuts F (w.disk) choice i) ((w.book).answered i) b) × Near F d (l.cell))
 
 abbrev pub NoneUnflushed : (F : Files) → World F → (ℕ → Bool) → (ℕ → Bool) → ℕ → Type 0
 NoneUnflushed F w stops choice b = (i : ℕ) → stops i ≡ false → Untouched F (w.book) i (head_cuts F (w.disk) choice i) ((w.book).answered i) b
@@ -60,8 +60,8 @@ abbrev pub Shows : (F : Files) → World F → (ℕ → Bool) → (ℕ → Bool)
 Shows F w stops choice r = (b : ℕ) → IsUnflushed F w stops choice b (r b)
     ⊎ (NoneUnflushed F w stops choice b × (IsLive F w choice b (r b) ⊎ (NoneLive F w choice b × (r b ≡ (w.disk).blocks b))))
 
--- The first part. The history is the published items, then the answered calls of each node that aren't published, then a loss for each life of a node
--- that stops: it is legal, and the image stands for the tree at its end.
+-- The first part. The history is the published items, then the answered calls of each node that aren't published, then a loss by the rule for each life of a node
+-- that stops, which may keep calls behind the accepted head's that change nothing: it is legal, and the image stands for the tree at its end.
 pub record IsRight (F : Files) (w : World F) (n : ℕ) (stops choice : ℕ → Bool) (ls : List Life) : Type 0 where
   pub legal : Legal F ((published_below F n w).items ++ gones F ls) ((w.book).start)
   pub tree : F.Tree
@@ -71,7 +71,7 @@ pub record IsRight (F : Files) (w : World F) (n : ℕ) (stops choice : ℕ → B
 
 abbrev pub EverySetMayStop : Files → Type 0
 EverySetMayStop F = (w : World F) (n : ℕ) (stops choice : ℕ → Bool) (ls : List Life) → Sound F w → PublishedFrom F n w
-    → AreLives ((w.book).answered) (cut_of F w stops choice) ls → IsRight F w n stops choice ls
+    → AreLosses F (w.book) ((w.book).answered) (cut_of F w stops choice) ls → IsRight F w n stops choice ls
 
 -- the calls that are published for it are steps
 abbrev pub AllIsPublished : Files → Type 0
@@ -134,25 +134,25 @@ abbrev pub MasterKnows : (F : Files) → Cluster F → Type 0
 MasterKnows F c = (i : ℕ) (l : F.Lock) → (c.locks l i).taken ≡ true → has_report ((c.locks l i).up) ≡ false
     → (leq (eff (c.locks l i)) ((c.locks l i).table) ≡ true) × ((s : State) → (c.locks l i).down ≡ Some s → leq s ((c.locks l i).table) ≡ true)
 
--- and who is fenced has nothing in flight
-abbrev pub FencedAreQuiet : (F : Files) → Cluster F → Type 0
-FencedAreQuiet F c = (i b : ℕ) → c.fenced i ≡ true → ((c.world).disk).flight i b ≡ None
-
 pub record LockParts (F : Files) (c : Cluster F) : Type 0 where
   pub states : StatesGo F c
   pub master : MasterKnows F c
-  pub fenced : FencedAreQuiet F c
 
 abbrev pub LockPartsHold : Files → Type 0
 LockPartsHold F = (c : Cluster F) → Together F c → LockParts F c
 
--- The rest of the seventh, of headers: while a header of a journal is in flight, nothing is in flight to a block of it.
-abbrev pub HeadersFlyAlone : (F : Files) → Cluster F → Type 0
-HeadersFlyAlone F c = (i r b : ℕ) (v : F.Content) → ((c.world).disk).flight r b ≡ Some v → (BookOf F c).owner b ≡ Some i
-    → ((c.world).disk).heads i true ≡ ((c.world).disk).heads i false
+-- The rest of the seventh, of who writes. A write home in flight is of the journal's own node or of one that replays its slot, and so is a header; while a header
+-- is in flight nothing is in flight to a block of its journal; who is fenced has neither in flight.
+pub record WritesAreOwn (F : Files) (c : Cluster F) : Type 0 where
+  pub homes : (i r b : ℕ) (v : F.Content) → ((c.world).disk).flight r b ≡ Some v → (BookOf F c).owner b ≡ Some i
+      → (c.header_of i ≡ None) × ((r ≡ i) ⊎ (c.waits i ≡ true))
+  pub headers : (i r : ℕ) → c.header_of i ≡ Some r → (r ≡ i) ⊎ (c.waits i ≡ true)
+  -- the journal has two heads only while a header of it is in flight
+  pub one_head : (i : ℕ) → c.header_of i ≡ None → ((c.world).disk).heads i true ≡ ((c.world).disk).heads i false
+  pub fenced : (i : ℕ) → c.fenced i ≡ true → ((b : ℕ) → ((c.world).disk).flight i b ≡ None) × ((k : ℕ) → c.header_of k ≡ Some i → ⊥)
 
-abbrev pub HeadersGoOnAlone : Files → Type 0
-HeadersGoOnAlone F = (c c' : Cluster F) → Event F c c' → Together F c → HeadersFlyAlone F c → HeadersFlyAlone F c'
+abbrev pub WritersHold : Files → Type 0
+WritersHold F = (c : Cluster F) → Together F c → WritesAreOwn F c
 
 -- ---- in which states a node may have a block cached
 
@@ -163,17 +163,32 @@ may_cache Sh plain = true
 may_cache Df plain = not plain
 may_cache Ex plain = true
 
-abbrev pub CachesAllow : (F : Files) → (CellOf F → Bool) → Cluster F → Type 0
-CachesAllow F plain c = (j b : ℕ) (x : CellOf F) → (BookOf F c).cache j b ≡ Some x → may_cache ((BookOf F c).state j (LockOf F x)) (plain x) ≡ true
+-- `own` is what each node keeps for all its calls. The book's cache has beside it what is kept beside one call: what a read under a deferred lock gave.
+abbrev pub CachesAllow : (F : Files) → (CellOf F → Bool) → (ℕ → Part F) → Cluster F → Type 0
+CachesAllow F plain own c = (j b : ℕ) (x : CellOf F) → own j b ≡ Some x
+    → ((BookOf F c).cache j b ≡ Some x) × (may_cache ((BookOf F c).state j (LockOf F x)) (plain x) ≡ true)
 
--- what a node has to mind for that: a call puts nothing in the cache but what it writes, a block is read in a state that may cache it, and what a lower
--- state may not cache is dropped
-abbrev pub StateMinds : (F : Files) (plain : CellOf F → Bool) (c c' : Cluster F) → Event F c c' → Type 0
-StateMinds F plain c _ (Works _ (world.Answers j said v change cache no_sync a) may) = (b : ℕ) (x : CellOf F) → change b ≡ None → cache b ≡ Some x → (BookOf F c).cache j b ≡ Some x
-StateMinds F plain c _ (Works _ (world.Reads j b held) may) =
-    may_cache ((BookOf F c).state j (LockOf F (W F (BookOf F c) ((BookOf F c).answered) b))) (plain (W F (BookOf F c) ((BookOf F c).answered) b)) ≡ true
-StateMinds F plain c _ (GoesDown i locks cache here h all clean cached) = (b : ℕ) (x : CellOf F) → cache b ≡ Some x → may_cache ((locks (LockOf F x) i).state) (plain x) ≡ true
-StateMinds F plain c _ _ = ⊤
+-- What a node keeps after an event it kept before; or its call wrote it; or it read it in a state that may cache it. What the event takes out of the cache, and
+-- what a lower state may not cache, it keeps no more.
+abbrev pub KeptFrom : (F : Files) (plain : CellOf F → Bool) (own : ℕ → Part F) (c c' : Cluster F) → Event F c c' → ℕ → ℕ → CellOf F → Type 0
+KeptFrom F plain own c _ (Works _ (world.Answers k said v change cache no_sync a) may) j b x =
+    ((j ≡ k → ⊥) × (own j b ≡ Some x)) ⊎ ((j ≡ k) × (cache b ≡ Some x) × ((own j b ≡ Some x) ⊎ (change b ≡ Some x)))
+KeptFrom F plain own c _ (Works _ (world.Reads k n held) may) j b x = (own j b ≡ Some x)
+    ⊎ ((j ≡ k) × (b ≡ n) × (x ≡ W F (BookOf F c) ((BookOf F c).answered) n) × (may_cache ((BookOf F c).state j (LockOf F x)) (plain x) ≡ true))
+KeptFrom F plain own c _ (Works _ (world.Shrinks k cache forgets) may) j b x = (own j b ≡ Some x) × (j ≡ k → cache j b ≡ Some x)
+KeptFrom F plain own c _ (GoesDown i locks cache here h all clean cached) j b x = (own j b ≡ Some x)
+    × (j ≡ i → (cache b ≡ Some x) × (may_cache ((locks (LockOf F x) i).state) (plain x) ≡ true))
+KeptFrom F plain own c _ (Stops i here runs all) j b x = (own j b ≡ Some x) × (j ≡ i → ⊥)
+KeptFrom F plain own c _ _ j b x = own j b ≡ Some x
+
+-- what nodes have to mind for that
+abbrev pub StateMinds : (F : Files) (plain : CellOf F → Bool) (own own' : ℕ → Part F) (c c' : Cluster F) → Event F c c' → Type 0
+StateMinds F plain own own' c c' event = (j b : ℕ) (x : CellOf F) → own' j b ≡ Some x → KeptFrom F plain own c c' event j b x
 
 abbrev pub StateMindedKeeps : Files → Type 0
-StateMindedKeeps F = (plain : CellOf F → Bool) (c c' : Cluster F) (event : Event F c c') → Together F c → StateMinds F plain c c' event → CachesAllow F plain c → CachesAllow F plain c'
+StateMindedKeeps F = (plain : CellOf F → Bool) (own own' : ℕ → Part F) (c c' : Cluster F) (event : Event F c c') → Together F c → StateMinds F plain own own' c c' event
+    → CachesAllow F plain own c → CachesAllow F plain own' c'
+
+-- at a start nothing is kept
+abbrev pub StartAllows : Files → Type 0
+StartAllows F = (plain : CellOf F → Bool) (c : Cluster F) → CachesAllow F plain (λ j b. None) c

@@ -1,7 +1,7 @@
 //! The invariant of the cluster part by part: for every set of nodes that might stop and every choice of the headers in flight.
 #![tactic(auto)]
 
-ghost use Rattle.cluster_parts.specs.Parts.{EverySetMayStop, AllIsPublished, AllMayStop, PartsHold, LockPartsHold, StateMindedKeeps, HeadersGoOnAlone};
+ghost use Rattle.cluster_parts.specs.Parts.{EverySetMayStop, AllIsPublished, AllMayStop, PartsHold, LockPartsHold, StartAllows, StateMindedKeeps, WritersHold};
 
 use cluster_laws::System;
 
@@ -21,17 +21,18 @@ pub fn journals_and_caches_agree<S: System>()
     ensures { PartsHold S.files }
 {}
 
-/// A law, the fifth and the eighth: held states go together, and a master's table has at least what nodes hold. Who is fenced has nothing in flight.
+/// A law, the fifth and the eighth: held states go together, and a master's table has at least what nodes hold.
 pub fn locks_agree<S: System>()
     ensures { LockPartsHold S.files }
 {}
 
-/// A law, the rest of the sixth: what is cached is under a state that may cache it.
+/// A law, the rest of the sixth: what a node keeps for all its calls is cached, and under a state that may cache it.
 pub fn states_allow_caches<S: System>()
-    ensures { StateMindedKeeps S.files }
+    ensures start { StartAllows S.files }
+    ensures kept { StateMindedKeeps S.files }
 {}
 
-/// A law, the rest of the seventh, of headers: while one is in flight, nothing is in flight to a block of its journal.
+/// A law, the rest of the seventh: whose writes home and headers are in flight; while a header is, nothing is to a block of its journal; who is fenced has none.
 pub fn headers_fly_alone<S: System>()
-    ensures { HeadersGoOnAlone S.files }
+    ensures { WritersHold S.files }
 {}

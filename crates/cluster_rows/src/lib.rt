@@ -1,7 +1,7 @@
 //! The table of items, of the events that make them; which head a loss counts from; and each front of a run's items.
 #![tactic(auto)]
 
-ghost use Rattle.cluster_rows.specs.Rows.{RowsHold, CleanRow, ViewsAreSeen, CalmStays};
+ghost use Rattle.cluster_rows.specs.Rows.{RowsHold, CleanRow, ViewsAreSeen, CalmStays, HeldStays};
 ghost use Rattle.cluster_rows.specs.Marks.{HeadsAreMarked, EveryFrontIsPassed};
 
 use cluster_laws::System;
@@ -12,10 +12,11 @@ pub fn items_are_disciplined<S: System>()
     ensures clean { CleanRow S.files }
 {}
 
-/// A law: what a node saw that answered nospace is what every image has that a stop might leave.
+/// A law: what a node saw that answered nospace is what every image has that a stop might leave, and what it held exclusive stays so until its item.
 pub fn full_is_seen<S: System>()
     ensures seen { ViewsAreSeen S.files }
     ensures calm { CalmStays S.files }
+    ensures held { HeldStays S.files }
 {}
 
 /// A law: each head, and so each loss, counts from a header of its life, or from the last call before it.

@@ -1,7 +1,7 @@
 -- Tries touch one node; what turns allow keeps what holds.
 use Rattle.std.proofs.Common.{ℕ, zero, suc, ◌≡◌, ◌≤◌, ◌<◌, ◌⊎◌, inl, inr, None, Some, List, [], ◌∷◌, refl, sym, ap, ◌∙◌, subst, arith}
-use Rattle.std.specs.Prelude.{slice_get, slice_set}
-use Rattle.std.proofs.lemmas.Bool.{cases_eq}
+use Rattle.std.specs.Prelude.{slice_get, slice_set, length}
+use Rattle.std.proofs.lemmas.Bool.{cases_eq, cases_lt}
 use Rattle.cluster_laws.specs.Files.{Files, CellOf, Part}
 use Rattle.cluster_laws.specs.Book.{at, taken, tried}
 use Rattle.cluster_laws.specs.World.{World, nothing, Step, Answers, Syncs, Publishes, Begins, Ends, Writes, Lands, Settles, Lower, Grants, Reads, Shrinks, Loses, Run, Stop, Goes}
@@ -11,7 +11,7 @@ use Rattle.cluster_laws.proofs.Running.{told-kept}
 use Rattle.cluster_events.specs.Cluster.{Cluster, BookOf}
 use Rattle.cluster_events.proofs.Eventing.{events_keep, events_are_steps}
 use Rattle.cluster_rows.proofs.Marking.{run-grows}
-use Rattle.cluster_turns.specs.Turns.{SameNode, OnlyOf, TriesAreAlone, Ties, Holds, MayAlone, MayPaired, TurnsKeep, EventsGrow}
+use Rattle.cluster_turns.specs.Turns.{SameNode, OnlyOf, TriesAreAlone, Ties, AreLocal, Holds, AreTied, MayPaired, Alone, Paired, TurnsKeep, EventsGrow}
 
 -- ---- tries
 
@@ -48,7 +48,7 @@ module _ (F : Files) (c : Cluster F) (j : ℕ) (said : F.Said) (v change cache :
 
   pub only : OnlyOf F j c After
   only = record {
-    wire = record { disk = refl; items = refl; kept = refl; published = refl; start = refl; locks = refl; runs = refl; waits = refl; fenced = refl; past = refl };
+    wire = record { disk = refl; items = refl; kept = refl; published = refl; start = refl; locks = refl; runs = refl; waits = refl; fenced = refl; header_of = refl; unlost = refl; past = refl };
     others = of-other;
   }
 
@@ -59,7 +59,7 @@ tries_alone F = record {
       (λ i ne. refl);
   syncs = λ c j said sure t same. only F c j said (nothing F) (nothing F) ((BookOf F c).cache j) sure (λ b x e. absurd (none-some refl e)) same;
   shrinks = λ c j cache forgets. record {
-    wire = record { disk = refl; items = refl; kept = refl; published = refl; start = refl; locks = refl; runs = refl; waits = refl; fenced = refl; past = refl };
+    wire = record { disk = refl; items = refl; kept = refl; published = refl; start = refl; locks = refl; runs = refl; waits = refl; fenced = refl; header_of = refl; unlost = refl; past = refl };
     others = λ i ne. record {
       keeps = λ b own. own;
       no_more = λ b own. own;
@@ -91,42 +91,135 @@ set-same [] p y v e = absurd (none-some refl e)
 set-same (x ∷ xs) zero y v e = inside e
 set-same (x ∷ xs) (suc p) y v e = set-same xs p y v e
 
+set-length : {V : Type 0} (xs : List V) (p : ℕ) (y : V) → length (slice_set xs p y) ≡ length xs
+set-length [] p y = refl
+set-length (x ∷ xs) zero y = refl
+set-length (x ∷ xs) (suc p) y = ap suc (set-length xs p y)
+
+set-back : {V : Type 0} (xs : List V) (p : ℕ) (y : V) → slice_get xs p ≡ Some y → slice_set xs p y ≡ xs
+set-back [] p y e = refl
+set-back (x ∷ xs) zero y e = ap (λ z. z ∷ xs) (sym (inside e))
+set-back (x ∷ xs) (suc p) y e = ap (λ zs. x ∷ zs) (set-back xs p y e)
+
+get-below : {V : Type 0} (xs : List V) (p : ℕ) (v : V) → slice_get xs p ≡ Some v → p < length xs
+get-below [] p v e = absurd (none-some refl e)
+get-below (x ∷ xs) zero v e = omega arith
+get-below (x ∷ xs) (suc p) v e = let h = get-below xs p v e in omega arith
+
+get-some : {V : Type 0} (xs : List V) (p : ℕ) → p < length xs → (v : V) × (slice_get xs p ≡ Some v)
+get-some [] p h = absurd (omega arith)
+get-some (x ∷ xs) zero h = (x, refl)
+get-some (x ∷ xs) (suc p) h = get-some xs p (omega arith)
+
 -- ---- turns
 
-module _ (F : Files) (T : Ties F) where
-  alone : (parts : List T.Value) (i : ℕ) (old new : T.Value) → i < T.nodes → Holds F T parts → slice_get parts i ≡ Some old → MayAlone F T i old new
-      → Holds F T (slice_set parts i new)
-  alone parts i old new below h got may =
-      let m = may (h.cluster) (h.together) (h.node i old below got) in
-      record {
+module _ (F : Files) (T : Ties F) (L : AreLocal F T) where
+  -- whose value stands at a place
+  node-place : (parts : List T.Value) (p i : ℕ) (v : T.Value) → Holds F T parts → slice_get parts p ≡ Some v → T.which v ≡ Some i → p ≡ i
+  node-place parts p i v h got is =
+      let short = get-below parts p v got in let count = h.count in
+      elim (cases_lt p (T.nodes)) [
+        | inl below ↦ inside (sym (L.is_node p (h.cluster) (h.shown) v (h.node p v below got)) ∙ is)
+        | inr not_below ↦ absurd (none-some (L.is_wire (h.cluster) (h.shown) v (h.wire v (subst (λ z. slice_get parts z ≡ Some v) (omega arith) got))) is)
+      ]
+
+  wire-place : (parts : List T.Value) (p : ℕ) (v : T.Value) → Holds F T parts → slice_get parts p ≡ Some v → T.which v ≡ None → p ≡ T.nodes
+  wire-place parts p v h got is =
+      let short = get-below parts p v got in let count = h.count in
+      elim (cases_lt p (T.nodes)) [
+        | inl below ↦ absurd (none-some is (L.is_node p (h.cluster) (h.shown) v (h.node p v below got)))
+        | inr not_below ↦ omega arith
+      ]
+
+  all-tied : (parts : List T.Value) (h : Holds F T parts) → AreTied F T (h.cluster) (h.shown)
+  all-tied parts h j below = let count = h.count in let got = get-some parts j (omega arith) in (got.0, h.node j (got.0) below (got.1))
+
+  alone : (parts : List T.Value) (p : ℕ) (old new : T.Value) → Holds F T parts → slice_get parts p ≡ Some old → Alone F T old new → Holds F T (slice_set parts p new)
+  alone parts p old new h got (inl same) = subst (λ z. Holds F T (slice_set parts p z)) same (subst (Holds F T) (sym (set-back parts p old got)) h)
+  alone parts p old new h got (inr may) =
+      let i = may.0 in
+      let is_i = node-place parts p i old h got (may.1) in
+      let here : slice_get parts i ≡ Some old = subst (λ z. slice_get parts z ≡ Some old) is_i got in
+      let below : i < T.nodes = may.2 in
+      let m = may.3 (h.cluster) (h.shown) (h.together) (h.node i old below here) in
+      subst (λ z. Holds F T (slice_set parts z new)) (sym is_i) (record {
+        count = set-length parts i new ∙ h.count;
         cluster = m.0;
+        shown = h.shown;
         together = events_keep F (h.cluster) (m.0) (m.1) (h.together);
         node = λ j v low e. elim (cases_eq j i) [
-          | inl same ↦ subst (λ z. T.IsNode z (m.0) v) (sym same)
-              (subst (λ z. T.IsNode i (m.0) z) (set-same parts i new v (subst (λ z. slice_get (slice_set parts i new) z ≡ Some v) same e)) (m.3))
-          | inr ne ↦ T.node_local j (h.cluster) (m.0) v ((m.2).others j ne) (h.node j v low (sym (set-other parts i j new ne) ∙ e))
+          | inl same ↦ subst (λ z. T.IsNode z (m.0) (h.shown) v) (sym same)
+              (subst (λ z. T.IsNode i (m.0) (h.shown) z) (set-same parts i new v (subst (λ z. slice_get (slice_set parts i new) z ≡ Some v) same e)) (m.3))
+          | inr ne ↦ L.node_local j i (h.cluster) (m.0) (h.shown) v ne (m.2) (h.node j v low (sym (set-other parts i j new ne) ∙ e))
         ];
-        wire = λ v e. T.wire_local (h.cluster) (m.0) v ((m.2).wire) (h.wire v (sym (set-other parts i (T.nodes) new (λ same. absurd (omega (arith, same, below)))) ∙ e));
-      }
+        wire = λ v e. L.wire_local i (h.cluster) (m.0) (h.shown) v (m.2)
+            (h.wire v (sym (set-other parts i (T.nodes) new (λ same. absurd (omega (arith, same, below)))) ∙ e));
+      })
 
-  paired : (parts : List T.Value) (i : ℕ) (old old_wire new new_wire : T.Value) → i < T.nodes → Holds F T parts
+  -- of any parts that have the new values at these places, and the old ones elsewhere
+  paired : (parts after : List T.Value) (i : ℕ) (old old_wire new new_wire : T.Value) → i < T.nodes → Holds F T parts
       → slice_get parts i ≡ Some old → slice_get parts (T.nodes) ≡ Some old_wire → MayPaired F T i old old_wire new new_wire
-      → Holds F T (slice_set (slice_set parts i new) (T.nodes) new_wire)
-  paired parts i old old_wire new new_wire below h got got_wire may =
-      let m = may (h.cluster) (h.together) (h.node i old below got) (h.wire old_wire got_wire) in
+      → length after ≡ length parts
+      → ((v : T.Value) → slice_get after i ≡ Some v → new ≡ v) → ((v : T.Value) → slice_get after (T.nodes) ≡ Some v → new_wire ≡ v)
+      → ((j : ℕ) → (j ≡ i → ⊥) → (j ≡ T.nodes → ⊥) → slice_get after j ≡ slice_get parts j) → Holds F T after
+  paired parts after i old old_wire new new_wire below h got got_wire may long at_i at_wire rest =
+      let m = may (h.cluster) (h.shown) (h.together) (all-tied parts h) (h.node i old below got) (h.wire old_wire got_wire) in
       record {
+        count = long ∙ h.count;
         cluster = m.0;
-        together = events_keep F (h.cluster) (m.0) (m.1) (h.together);
-        node = λ j v low e. (let e' = sym (set-other (slice_set parts i new) (T.nodes) j new_wire (λ same. absurd (omega (arith, same, low)))) ∙ e in elim (cases_eq j i) [
-          | inl same ↦ subst (λ z. T.IsNode z (m.0) v) (sym same)
-              (subst (λ z. T.IsNode i (m.0) z) (set-same parts i new v (subst (λ z. slice_get (slice_set parts i new) z ≡ Some v) same e')) (m.3))
-          | inr ne ↦ m.2 j v ne (h.node j v low (sym (set-other parts i j new ne) ∙ e'))
-        ]);
-        wire = λ v e. subst (λ z. T.IsWire (m.0) z) (set-same (slice_set parts i new) (T.nodes) new_wire v e) (m.4);
+        shown = m.1;
+        together = events_keep F (h.cluster) (m.0) (m.2) (h.together);
+        node = λ j v low e. elim (cases_eq j i) [
+          | inl same ↦ subst (λ z. T.IsNode z (m.0) (m.1) v) (sym same)
+              (subst (λ z. T.IsNode i (m.0) (m.1) z) (at_i v (subst (λ z. slice_get after z ≡ Some v) same e)) (m.4))
+          | inr ne ↦ m.3 j v low ne (h.node j v low (sym (rest j ne (λ same. absurd (omega (arith, same, low)))) ∙ e))
+        ];
+        wire = λ v e. subst (λ z. T.IsWire (m.0) (m.1) z) (at_wire v e) (m.5);
       }
 
-  pub turns : TurnsKeep F T
-  turns = record { alone = alone; paired = paired }
+  -- the value at a place that was set first, and another after it
+  under : (parts : List T.Value) (a b : ℕ) (x y v : T.Value) → (a ≡ b → ⊥) → slice_get (slice_set (slice_set parts a x) b y) a ≡ Some v → x ≡ v
+  under parts a b x y v ne e = set-same parts a x v (sym (set-other (slice_set parts a x) b a y ne) ∙ e)
+
+  both : (parts : List T.Value) (a b : ℕ) (old_a old_b new_a new_b : T.Value) → (a ≡ b → ⊥) → Holds F T parts
+      → slice_get parts a ≡ Some old_a → slice_get parts b ≡ Some old_b → Paired F T old_a old_b new_a new_b → Holds F T (slice_set (slice_set parts a new_a) b new_b)
+  both parts a b old_a old_b new_a new_b ne h got_a got_b (inl m) =
+      let wire = m.0 in let i = (m.3).0 in let is = (m.3).1 in let below = (m.3).2 in let may = (m.3).3 in
+      let is_i : a ≡ i = node-place parts a i old_a h got_a is in
+      let is_wire : b ≡ T.nodes = wire-place parts b old_b h got_b wire in
+      paired parts _ i old_a old_b new_a new_b below h (subst (λ z. slice_get parts z ≡ Some old_a) is_i got_a) (subst (λ z. slice_get parts z ≡ Some old_b) is_wire got_b) may
+      (set-length (slice_set parts a new_a) b new_b ∙ set-length parts a new_a)
+      (λ v e. under parts a b new_a new_b v ne (subst (λ z. slice_get (slice_set (slice_set parts a new_a) b new_b) z ≡ Some v) (sym is_i) e))
+      (λ v e. set-same (slice_set parts a new_a) b new_b v (subst (λ z. slice_get (slice_set (slice_set parts a new_a) b new_b) z ≡ Some v) (sym is_wire) e))
+      (λ j no_i no_wire. set-other (slice_set parts a new_a) b j new_b (λ e. no_wire (e ∙ is_wire)) ∙ set-other parts a j new_a (λ e. no_i (e ∙ is_i)))
+  both parts a b old_a old_b new_a new_b ne h got_a got_b (inr m) =
+      let wire = m.0 in let i = (m.3).0 in let is = (m.3).1 in let below = (m.3).2 in let may = (m.3).3 in
+      let is_i : b ≡ i = node-place parts b i old_b h got_b is in
+      let is_wire : a ≡ T.nodes = wire-place parts a old_a h got_a wire in
+      paired parts _ i old_b old_a new_b new_a below h (subst (λ z. slice_get parts z ≡ Some old_b) is_i got_b) (subst (λ z. slice_get parts z ≡ Some old_a) is_wire got_a) may
+      (set-length (slice_set parts a new_a) b new_b ∙ set-length parts a new_a)
+      (λ v e. set-same (slice_set parts a new_a) b new_b v (subst (λ z. slice_get (slice_set (slice_set parts a new_a) b new_b) z ≡ Some v) (sym is_i) e))
+      (λ v e. under parts a b new_a new_b v ne (subst (λ z. slice_get (slice_set (slice_set parts a new_a) b new_b) z ≡ Some v) (sym is_wire) e))
+      (λ j no_i no_wire. set-other (slice_set parts a new_a) b j new_b (λ e. no_i (e ∙ is_i)) ∙ set-other parts a j new_a (λ e. no_wire (e ∙ is_wire)))
+
+  alone-grows : (old new : T.Value) → Alone F T old new → T.Grows old new
+  alone-grows old new (inl same) = subst (λ z. T.Grows old z) same (L.grows_reflexive old)
+  alone-grows old new (inr may) = may.4
+
+  paired-grows : (old_a old_b new_a new_b : T.Value) → Paired F T old_a old_b new_a new_b → T.Grows old_a new_a × T.Grows old_b new_b
+  paired-grows old_a old_b new_a new_b (inl with_wire) = (with_wire.1, with_wire.2)
+  paired-grows old_a old_b new_a new_b (inr with_wire) = (with_wire.2, with_wire.1)
+
+pub turns : (F : Files) (T : Ties F) → TurnsKeep F T
+turns F T local = record {
+  alone_keeps = alone F T local;
+  paired_keeps = both F T local;
+  unchanged_alone = λ v. inl refl;
+  alone_grows = alone-grows F T local;
+  paired_grows = paired-grows F T local;
+  grows_reflexive = local.grows_reflexive;
+  grows_transitive = local.grows_transitive;
+}
 
 -- ---- what grows
 

@@ -1,6 +1,6 @@
 -- The cluster behind turns: a value for each node, and one for the wire between them. What each value has to say of the cluster, and which changes a seat may
 -- make: an event that one node makes alone, or one that it makes with the wire.
-use Rattle.std.specs.Prelude.{ℕ, ◌≡◌, ◌≤◌, ◌<◌, Some, List, ◌++◌, slice_get, slice_set}
+use Rattle.std.specs.Prelude.{ℕ, suc, ◌≡◌, ◌≢◌, ◌≤◌, ◌<◌, ◌⊎◌, Option, None, Some, List, ◌++◌, length, slice_get, slice_set}
 use Rattle.cluster_laws.specs.Files.{Files, Part}
 use Rattle.cluster_laws.specs.Book.{tried, relocked}
 use Rattle.cluster_laws.specs.Locks.{Forgets}
@@ -27,7 +27,7 @@ pub record SameNode (F : Files) (i : ℕ) (c c' : Cluster F) : Type 0 where
   pub cache : (BookOf F c').cache i ≡ (BookOf F c).cache i
   pub sure : (c'.world).sure i ≡ (c.world).sure i
 
--- what lies between the nodes: the disk, the items, messages and the lists of who runs, waits and is fenced
+-- what lies between the nodes: the disk and who has a header in flight, the items and which losses are left, messages, and the lists of who runs, waits and is fenced
 pub record SameWire (F : Files) (c c' : Cluster F) : Type 0 where
   pub disk : (c'.world).disk ≡ (c.world).disk
   pub items : (c'.world).items ≡ (c.world).items
@@ -38,6 +38,8 @@ pub record SameWire (F : Files) (c c' : Cluster F) : Type 0 where
   pub runs : c'.runs ≡ c.runs
   pub waits : c'.waits ≡ c.waits
   pub fenced : c'.fenced ≡ c.fenced
+  pub header_of : c'.header_of ≡ c.header_of
+  pub unlost : c'.unlost ≡ c.unlost
   pub past : c'.past ≡ c.past
 
 -- only this node's own has changed
@@ -56,39 +58,83 @@ pub record TriesAreAlone (F : Files) : Type 0 where
 
 -- ---- the values behind the turns
 
--- what each value has to say of the cluster, by what its node or the wire has of it
+-- what each value has to say of the cluster
 pub record Ties (F : Files) : Type 1 where
   pub Value : Type 0
-  -- the nodes are parts 0 to nodes - 1, and the wire is the next
+  -- what node and wire agree on beside the cluster: how far the wire has shown each node the lines of its clients
+  pub Shown : Type 0
+  -- the nodes are parts 0 to nodes - 1, and the wire is the next, the last
   pub nodes : ℕ
-  pub IsNode : ℕ → Cluster F → Value → Type 0
-  pub IsWire : Cluster F → Value → Type 0
-  pub node_local : (i : ℕ) (c c' : Cluster F) (v : Value) → SameNode F i c c' → IsNode i c v → IsNode i c' v
-  pub wire_local : (c c' : Cluster F) (v : Value) → SameWire F c c' → IsWire c v → IsWire c' v
+  pub IsNode : ℕ → Cluster F → Shown → Value → Type 0
+  pub IsWire : Cluster F → Shown → Value → Type 0
+  -- the node whose value it is; the wire's is no node's
+  pub which : Value → Option ℕ
+  -- the second value is the first, or one that the first grew into
+  pub Grows : Value → Value → Type 0
+
+-- A node's value may speak of all that its node has and of all that lies between the nodes: who runs and waits, heads, locks, items. An event that another
+-- node makes alone changes none of it.
+pub record AreLocal (F : Files) (T : Ties F) : Type 0 where
+  pub is_node : (i : ℕ) (c : Cluster F) (s : T.Shown) (v : T.Value) → T.IsNode i c s v → T.which v ≡ Some i
+  pub is_wire : (c : Cluster F) (s : T.Shown) (v : T.Value) → T.IsWire c s v → T.which v ≡ None
+  pub node_local : (i j : ℕ) (c c' : Cluster F) (s : T.Shown) (v : T.Value) → (i ≡ j → ⊥) → OnlyOf F j c c' → T.IsNode i c s v → T.IsNode i c' s v
+  pub wire_local : (j : ℕ) (c c' : Cluster F) (s : T.Shown) (v : T.Value) → OnlyOf F j c c' → T.IsWire c s v → T.IsWire c' s v
+  pub grows_reflexive : (v : T.Value) → T.Grows v v
+  pub grows_transitive : (u v w : T.Value) → T.Grows u v → T.Grows v w → T.Grows u w
 
 -- there is a cluster that holds what every event keeps, and that the values are tied to
 pub record Holds (F : Files) (T : Ties F) (parts : List T.Value) : Type 0 where
+  pub count : length parts ≡ suc (T.nodes)
   pub cluster : Cluster F
+  pub shown : T.Shown
   pub together : Together F cluster
-  pub node : (i : ℕ) (v : T.Value) → i < T.nodes → slice_get parts i ≡ Some v → T.IsNode i cluster v
-  pub wire : (v : T.Value) → slice_get parts (T.nodes) ≡ Some v → T.IsWire cluster v
+  pub node : (i : ℕ) (v : T.Value) → i < T.nodes → slice_get parts i ≡ Some v → T.IsNode i cluster shown v
+  pub wire : (v : T.Value) → slice_get parts (T.nodes) ≡ Some v → T.IsWire cluster shown v
 
--- A change that node i may make alone: none, or events that change only what is its own, whatever the rest of the cluster is.
+-- each node has a value that is tied to the cluster
+abbrev pub AreTied : (F : Files) (T : Ties F) → Cluster F → T.Shown → Type 0
+AreTied F T c s = (j : ℕ) → j < T.nodes → (v : T.Value) × T.IsNode j c s v
+
+-- A change that node i may make alone: events that change only what is its own, whatever the rest of the cluster is.
 abbrev pub MayAlone : (F : Files) (T : Ties F) → ℕ → T.Value → T.Value → Type 0
-MayAlone F T i old new = (c : Cluster F) → Together F c → T.IsNode i c old → (c' : Cluster F) × Events F c c' × OnlyOf F i c c' × T.IsNode i c' new
+MayAlone F T i old new = (c : Cluster F) (s : T.Shown) → Together F c → T.IsNode i c s old
+    → (c' : Cluster F) × Events F c c' × OnlyOf F i c c' × T.IsNode i c' s new
 
--- Changes that it may make with the wire: events after which every other node's value still fits.
+-- Changes that it may make with the wire: events after which every other node's value still fits. That every node has a value that fits tells what the wire
+-- knows of other nodes: that they have no line open, where all are to stop.
 abbrev pub MayPaired : (F : Files) (T : Ties F) → ℕ → T.Value → T.Value → T.Value → T.Value → Type 0
-MayPaired F T i old old_wire new new_wire = (c : Cluster F) → Together F c → T.IsNode i c old → T.IsWire c old_wire
-    → (c' : Cluster F) × Events F c c' × ((j : ℕ) (v : T.Value) → (j ≡ i → ⊥) → T.IsNode j c v → T.IsNode j c' v) × T.IsNode i c' new × T.IsWire c' new_wire
+MayPaired F T i old old_wire new new_wire = (c : Cluster F) (s : T.Shown) → Together F c → AreTied F T c s → T.IsNode i c s old → T.IsWire c s old_wire
+    → (c' : Cluster F) × (s' : T.Shown) × Events F c c' × ((j : ℕ) (v : T.Value) → j < T.nodes → (j ≡ i → ⊥) → T.IsNode j c s v → T.IsNode j c' s' v)
+    × T.IsNode i c' s' new × T.IsWire c' s' new_wire
 
--- what the rule of turns asks for
-pub record TurnsKeep (F : Files) (T : Ties F) : Type 0 where
-  pub alone : (parts : List T.Value) (i : ℕ) (old new : T.Value) → i < T.nodes → Holds F T parts → slice_get parts i ≡ Some old → MayAlone F T i old new
-      → Holds F T (slice_set parts i new)
-  pub paired : (parts : List T.Value) (i : ℕ) (old old_wire new new_wire : T.Value) → i < T.nodes → Holds F T parts
-      → slice_get parts i ≡ Some old → slice_get parts (T.nodes) ≡ Some old_wire → MayPaired F T i old old_wire new new_wire
-      → Holds F T (slice_set (slice_set parts i new) (T.nodes) new_wire)
+-- ---- the rule of turns
+
+-- a value stays, or a node's becomes what it may become alone
+abbrev pub Alone : (F : Files) (T : Ties F) → T.Value → T.Value → Type 0
+Alone F T old new = (old ≡ new) ⊎ ((i : ℕ) × (T.which old ≡ Some i) × (i < T.nodes) × MayAlone F T i old new × T.Grows old new)
+
+-- a node's value, and the wire's after it
+abbrev pub WithWire : (F : Files) (T : Ties F) → T.Value → T.Value → T.Value → T.Value → Type 0
+WithWire F T old old_wire new new_wire = (T.which old_wire ≡ None) × T.Grows old new × T.Grows old_wire new_wire
+    × ((i : ℕ) × (T.which old ≡ Some i) × (i < T.nodes) × MayPaired F T i old old_wire new new_wire)
+
+-- in either order
+abbrev pub Paired : (F : Files) (T : Ties F) → T.Value → T.Value → T.Value → T.Value → Type 0
+Paired F T old_a old_b new_a new_b = WithWire F T old_a old_b new_a new_b ⊎ WithWire F T old_b old_a new_b new_a
+
+-- what a rule of turns owes, member by member, with `Holds`, `Alone`, `Paired` and `Grows` as its words
+pub record RuleOfTurns (F : Files) (T : Ties F) : Type 0 where
+  pub alone_keeps : (parts : List T.Value) (p : ℕ) (old new : T.Value) → Holds F T parts → slice_get parts p ≡ Some old → Alone F T old new → Holds F T (slice_set parts p new)
+  pub paired_keeps : (parts : List T.Value) (a b : ℕ) (old_a old_b new_a new_b : T.Value) → a ≢ b → Holds F T parts
+      → slice_get parts a ≡ Some old_a → slice_get parts b ≡ Some old_b → Paired F T old_a old_b new_a new_b → Holds F T (slice_set (slice_set parts a new_a) b new_b)
+  pub unchanged_alone : (v : T.Value) → Alone F T v v
+  pub alone_grows : (old new : T.Value) → Alone F T old new → T.Grows old new
+  pub paired_grows : (old_a old_b new_a new_b : T.Value) → Paired F T old_a old_b new_a new_b → T.Grows old_a new_a × T.Grows old_b new_b
+  pub grows_reflexive : (v : T.Value) → T.Grows v v
+  pub grows_transitive : (u v w : T.Value) → T.Grows u v → T.Grows v w → T.Grows u w
+
+abbrev pub TurnsKeep : (F : Files) → Ties F → Type 0
+TurnsKeep F T = AreLocal F T → RuleOfTurns F T
 
 -- ---- what grows
 

@@ -2,7 +2,9 @@
 #![tactic(auto)]
 
 ghost use Rattle.cluster_laws.specs.Files.{Files};
+ghost use Rattle.std.specs.Prelude.{ℕ};
 ghost use Rattle.cluster_turns.specs.Turns.{Ties, TriesAreAlone, TurnsKeep, EventsGrow};
+ghost use Rattle.cluster_turns.specs.Counting.{CountsAreTies};
 
 /// The values behind the turns, one for each node and one for the wire, and what they say of the cluster.
 pub trait TurnedParts {
@@ -18,9 +20,14 @@ pub fn a_try_is_alone<P: TurnedParts>()
     ensures { TriesAreAlone P.files }
 {}
 
-/// A law: what a seat may change alone, and what with the wire, keeps what holds of all parts, whatever the others are.
+/// A law: what a seat may change alone, and what with the wire, meets each member of a rule of turns, whatever the other parts are.
 pub fn turns_keep<P: TurnedParts>()
     ensures { TurnsKeep P.files P.ties }
+{}
+
+/// A law: there are such values, and with them a line `crash all` may be carried out.
+pub fn all_may_crash<P: TurnedParts>()
+    ensures { (nodes : ℕ) → CountsAreTies P.files nodes }
 {}
 
 /// A law: items and answered calls only grow.

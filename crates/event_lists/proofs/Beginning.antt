@@ -78,6 +78,9 @@ module _ (F : Files) (s : Start F) (is : IsStart F s) where
     gone = is.gone;
     clean = λ clean l. ap (λ z. if z && s.waits (s.past) then Ex else Un) (eq-eqb (s.past) (s.past) refl) ∙ ap (λ z. if z then Ex else Un) clean;
     fenced = λ i. refl;
+    resting = λ r b. refl;
+    headers = λ i. (refl, refl);
+    unlost = λ i. refl;
   }
 
 pub dirty_start : (F : Files) → StartsFromDisk F

@@ -1,63 +1,89 @@
 -- The stages of a demotion, and an unmount.
-use Rattle.std.proofs.Common.{ℕ, suc, ◌≡◌, ◌≤◌, ◌<◌, ◌⊎◌, inl, inr, Bool, true, false, None, Some, refl, sym, ap, ◌∙◌, arith}
-use Rattle.std.proofs.lemmas.Bool.{cases_Bool, cond-true, cond-false}
+use Rattle.std.proofs.Common.{ℕ, suc, ◌≡◌, ◌≤◌, ◌<◌, ◌⊎◌, inl, inr, Bool, true, false, None, Some, refl, sym, ap, ◌∙◌, subst}
+use Rattle.std.proofs.lemmas.Bool.{cases_eq, cases_Bool, cond-true, cond-false}
 use Rattle.cluster_laws.specs.Files.{Files, Ex}
-use Rattle.cluster_laws.specs.Book.{flushed, settled}
-use Rattle.cluster_laws.specs.Mirror.{Head, headed, either, chosen}
-use Rattle.cluster_laws.specs.World.{World, Begins, Ends, Settles}
-use Rattle.cluster_laws.proofs.Cells.{none-some, at-same}
+use Rattle.cluster_laws.specs.Book.{at, flushed, settled}
+use Rattle.cluster_laws.specs.Mirror.{headed, either, chosen}
+use Rattle.cluster_laws.specs.World.{Begins, Ends, Settles}
+use Rattle.cluster_laws.proofs.Cells.{none-some, at-same, at-other}
 use Rattle.cluster_laws.proofs.Logging.{header_heads, given_back, given, stays, never_under}
-use Rattle.cluster_events.specs.Cluster.{BookOf, NothingUnder, Works, GoesDown, Done, Then}
+use Rattle.cluster_events.specs.Cluster.{Cluster, BookOf, NothingUnder, Event, Events, Works, GoesDown, Done, Then}
 use Rattle.event_lists.specs.Stops.{with_world}
-use Rattle.event_lists.specs.Demotions.{DiskOf, CommitIsEvents, FlushFlushes, RevokesAreHeader, StagesRelease, ReleaseIsEvents, CleanIsHeader, CleanReleases}
+use Rattle.event_lists.specs.Demotions.{DiskOf, committed, CommitIsEvents, FlushFlushes, RevokesAreHeader, HomeIsRevoked, StagesRelease, ReleaseIsEvents, CleanIsHeader, CleanReleases}
 
 module _ (F : Files) where
   -- ---- a header and its barrier
 
-  pub commit : CommitIsEvents F
-  commit c i u h t single writer header = (
-    with_world F c landed,
-    record {
-      events = Then c (with_world F c begun) _ (Works begun (Begins i h single (header_heads F (BookOf F c) (DiskOf F c) i u h ((t.world).whole) ((t.world).mirror) header)) (writer, header.none_flying))
-          (Then (with_world F c begun) (with_world F c landed) _ (Works landed (Ends i true) tt) (Done (with_world F c landed)));
-      low = at-same ((BookOf F c).low) i _ ∙ ap (λ (z : Head F). z.cut) new ∙ header.cut;
-      heads = after;
-      rest = (refl, refl, refl, refl, refl);
-    },
-  )
-    where
-      begun : World F
-      begun = record (c.world) { disk = headed F (DiskOf F c) i h }
+  at-again : {A : Type 0} (f : ℕ → A) (i : ℕ) (x y : A) (k : ℕ) → at (at f i x) i y k ≡ at f i y k
+  at-again f i x y k = elim (cases_eq k i) [
+    | inl e ↦ subst (λ z. at (at f i x) i y z ≡ at f i y z) (sym e) (at-same (at f i x) i y ∙ sym (at-same f i y))
+    | inr ne ↦ at-other (at f i x) i y k ne ∙ at-other f i x k ne ∙ sym (at-other f i y k ne)
+  ]
 
-      landed : World F
-      landed = record (c.world) {
-        book = flushed F (BookOf F c) i (((headed F (DiskOf F c) i h).heads i true).cut);
-        disk = chosen F (headed F (DiskOf F c) i h) i true;
+  pub commit : CommitIsEvents F
+  commit c i u h t unheaded writer header = subst (λ z. Events F c z) same (Then c begun _ first (Then begun landed _ second (Done landed)))
+    where
+      begun : Cluster F
+      begun = record c {
+        world = record (c.world) { disk = headed F (DiskOf F c) i h };
+        header_of = at (c.header_of) i (Some (writer.0));
       }
+
+      landed : Cluster F
+      landed = record c {
+        world = record (c.world) {
+          book = flushed F (BookOf F c) i (((headed F (DiskOf F c) i h).heads i true).cut);
+          disk = chosen F (headed F (DiskOf F c) i h) i true;
+        };
+        header_of = at (at (c.header_of) i (Some (writer.0))) i None;
+      }
+
+      first : Event F c begun
+      first = Works (begun.world) (Begins i h (t.headers i unheaded) (header_heads F (BookOf F c) (DiskOf F c) i u h ((t.world).whole) ((t.world).mirror) header))
+          (writer, unheaded, header.none_flying)
+
+      second : Event F begun landed
+      second = Works (landed.world) (Ends i true) (writer.0, at-same (c.header_of) i (Some (writer.0)), inl refl)
 
       new : (headed F (DiskOf F c) i h).heads i true ≡ h
       new = ap (λ f. f true) (at-same ((DiskOf F c).heads) i (either ((DiskOf F c).heads i false) h))
 
-      after : (d : Bool) → (chosen F (headed F (DiskOf F c) i h) i true).heads i d ≡ h
-      after false = ap (λ f. f false) (at-same ((headed F (DiskOf F c) i h).heads) i _) ∙ new
-      after true = ap (λ f. f true) (at-same ((headed F (DiskOf F c) i h).heads) i _) ∙ new
+      after : (k : ℕ) → (chosen F (headed F (DiskOf F c) i h) i true).heads k ≡ at ((DiskOf F c).heads) i (λ d. h) k
+      after k = elim (cases_eq k i) [
+        | inl e ↦ subst (λ z. (chosen F (headed F (DiskOf F c) i h) i true).heads z ≡ at ((DiskOf F c).heads) i (λ d. h) z) (sym e)
+            (at-same ((headed F (DiskOf F c) i h).heads) i _ ∙ (λ z d. both d z) ∙ sym (at-same ((DiskOf F c).heads) i (λ d. h)))
+        | inr ne ↦ at-other ((headed F (DiskOf F c) i h).heads) i _ k ne ∙ at-other ((DiskOf F c).heads) i _ k ne ∙ sym (at-other ((DiskOf F c).heads) i (λ d. h) k ne)
+      ]
+        where
+          both : (d : Bool) → either ((headed F (DiskOf F c) i h).heads i true) ((headed F (DiskOf F c) i h).heads i true) d ≡ h
+          both false = new
+          both true = new
+
+      same : landed ≡ committed F c i h
+      same = λ z. record c {
+        world = record (c.world) {
+          book = flushed F (BookOf F c) i ((new z).cut);
+          disk = record (DiskOf F c) { heads = λ k. after k z };
+        };
+        header_of = λ k. at-again (c.header_of) i (Some (writer.0)) None k z;
+      }
 
   pub flushes : FlushFlushes F
-  flushes B i l e n b x low high change = absurd (omega (arith, e))
+  flushes B i l untouched n b x low high change = absurd (none-some (untouched b n low high) change)
 
   pub revokes : RevokesAreHeader F
-  revokes B D i p mirror low home none_flying = record {
+  revokes B D i u h p header untouched home = record {
     header = record {
-      cut = mirror.alone i;
-      range = (omega arith, low);
-      each = λ b. inl (
-        (λ n lo hi. absurd (omega arith)),
-        elim (cases_Bool (p b)) [
-          | inl e ↦ inr (cond-true _ _ _ e, λ v live. home b v e live)
-          | inr e ↦ inl (cond-false _ _ _ e)
-        ],
-      );
-      none_flying = none_flying;
+      cut = header.cut;
+      range = header.range;
+      each = λ b. elim (cases_Bool (p b)) [
+        | inl e ↦ inl (untouched b e, inr (cond-true _ _ _ e, λ v live. home b v e live))
+        | inr e ↦ elim (header.each b) [
+          | inl same ↦ inl (same.0, elim (same.1) [ inl was ↦ inl (cond-false _ _ _ e ∙ was) | inr gone ↦ inr (cond-false _ _ _ e ∙ gone.0, gone.1) ])
+          | inr last ↦ inr (last.0, elim (last.1) [ inl logged ↦ inl (cond-false _ _ _ e ∙ logged) | inr free ↦ inr free ])
+        ]
+      ];
+      none_flying = header.none_flying;
     };
     revoked = λ l all b v live under. elim (cases_Bool (p b)) [
       | inl e ↦ none-some (cond-true _ _ _ e) live
@@ -67,6 +93,9 @@ module _ (F : Files) where
     where
       true-false : {z : Bool} → z ≡ true → z ≡ false → ⊥
       true-false e f = cc
+
+  pub home_revoked : HomeIsRevoked F
+  home_revoked B D i u h p l header home untouched under = revokes B D i u h p header untouched (λ b v e live. (home b v live (under b v e live)).0)
 
   pub stages : StagesRelease F
   stages B D i l flushed revoked = record { unlive = revoked; untouched = flushed }
@@ -82,6 +111,8 @@ module _ (F : Files) where
           (Then (with_world F c (record (c.world) { book = settled F (BookOf F c) i back })) _ _ (GoesDown i locks cache here weakens all clean' cached) (Done _));
       now = refl;
       states = λ l. ap (λ f. f l) (at-same ((BookOf F c).state) i _);
+      low = refl;
+      items = refl;
       disk = refl;
     },
   )
@@ -117,15 +148,15 @@ module _ (F : Files) where
   -- ---- an unmount
 
   pub clean_header : CleanIsHeader F
-  clean_header B D i mirror all low home none_flying = record {
+  clean_header B D i u range untouched home none_flying = record {
     cut = refl;
-    range = (omega (arith, all), omega (arith, all, low));
-    each = λ b. inl ((λ n lo hi. absurd (omega (arith, all))), inr (refl, λ v live. home b v live));
+    range = range;
+    each = λ b. inl (untouched b, inr (refl, λ v live. home b v live));
     none_flying = none_flying;
   }
 
   pub clean_releases : CleanReleases F
-  clean_releases B D i l all dead = record {
+  clean_releases B D i l untouched dead = record {
     unlive = λ d b v live under. none-some (dead d b) live;
-    untouched = λ n b x low high change. absurd (omega (arith, all));
+    untouched = λ n b x low high change. absurd (none-some (untouched b n low high) change);
   }

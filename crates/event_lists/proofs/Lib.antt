@@ -2,3 +2,5 @@ pub mod Stopping
 pub mod Recovering
 pub mod Demoting
 pub mod Beginning
+pub mod Homing
+pub mod Staging

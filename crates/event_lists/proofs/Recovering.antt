@@ -1,17 +1,18 @@
 -- A slot is recovered, as a list of events.
-use Rattle.std.proofs.Common.{ℕ, zero, suc, ◌+◌, ◌-◌, ◌≡◌, ◌≤◌, ◌<◌, ◌⊎◌, inl, inr, Bool, true, false, ◌&&◌, None, Some, [], ◌∷◌, ◌++◌, refl, sym, ap, ◌∙◌, subst, arith}
+use Rattle.std.proofs.Common.{ℕ, zero, suc, ◌+◌, ◌-◌, ◌≡◌, ◌≤◌, ◌<◌, ◌⊎◌, inl, inr, Bool, true, false, ◌&&◌, None, Some, refl, sym, ap, ◌∙◌, subst, arith}
 use Rattle.std.specs.Prelude.{not}
 use Rattle.std.proofs.lemmas.Bool.{cases_eq, cases_Bool, cond-true, cond-false}
 use Rattle.cluster_laws.specs.Files.{Files, Un}
 use Rattle.cluster_laws.specs.Book.{at, Book, settled, lost}
-use Rattle.cluster_laws.specs.Mirror.{renumbered}
-use Rattle.cluster_laws.specs.History.{Gone}
+use Rattle.cluster_laws.specs.Mirror.{Head, renumbered}
 use Rattle.cluster_laws.specs.Log.{Calm}
 use Rattle.cluster_laws.specs.World.{Loses, Settles}
 use Rattle.cluster_laws.proofs.Cells.{none-some, at-same}
+use Rattle.cluster_laws.proofs.Ringing.{ring_goes_over}
 use Rattle.cluster_laws.proofs.Logging.{owned_by, owned_by-true, owned_by-false, given_back, given, stays}
-use Rattle.cluster_events.specs.Cluster.{Cluster, BookOf, Works, Recovers, PastEnds, Done, Then}
-use Rattle.event_lists.specs.Stops.{with_world, KeptIsFound, RecoveryIsEvents, StartRecoveryIsEvents, PastIsEvents}
+use Rattle.cluster_events.specs.Cluster.{Cluster, BookOf, Event, Works, Recovers, PastEnds, Done, Then}
+use Rattle.event_lists.proofs.Stopping.{events-append}
+use Rattle.event_lists.specs.Stops.{with_world, after_loss, KeptIsFound, LossIsEvents, RecoveryIsEvents, StartRecoveryIsEvents, PastIsEvents}
 
 waits-acts : (runs waits : Bool) → waits ≡ true → (runs && not waits) ≡ false
 waits-acts true waits e = ap not e
@@ -54,24 +55,25 @@ module _ (F : Files) where
     | inr e ↦ owned_by-false (B.owner b) i e (sym (cond-false _ _ _ e) ∙ h)
   ]
 
-  abbrev after_lost : Cluster F → ℕ → ℕ → Cluster F
-  after_lost c i k = with_world F c (record (c.world) {
-    book = lost F (BookOf F c) i k;
-    disk = renumbered F ((c.world).disk) i ((BookOf F c).answered i);
-    items = (c.world).items ++ (Gone i ((BookOf F c).low i) k ∷ []);
-  })
+  pub loss : LossIsEvents F
+  loss c i k t ended keeps unheaded =
+      let q = t.quiet i (waits-acts (c.runs i) (c.waits i) (ended.waits)) in
+      let cut : (((c.world).disk).heads i true).cut ≡ (BookOf F c).low i = ap (λ (z : Head F). z.cut) (t.headers i unheaded) ∙ ((t.world).mirror).alone i in
+      let event : Event F c (after_loss F c i k) = Works ((after_loss F c i k).world) (Loses i k (q.0) (keeps.above) (keeps.below) (keeps.calm) (keeps.next) (q.1) cut)
+      (ended.waits, ended.over, (ended.lives, ended.unlost)) in
+      Then c (after_loss F c i k) _ event (Done (after_loss F c i k))
 
   abbrev after_settled : Cluster F → ℕ → (ℕ → Bool) → Cluster F
   after_settled c i p = with_world F c (record (c.world) { book = settled F (BookOf F c) i p })
 
   pub recovery : RecoveryIsEvents F
-  recovery c i k t here wait keeps single dead = (
+  recovery c i k t here ended last keeps unheaded dead = (
     _,
     record {
-      events = Then c (after_lost c i k) _ (Works _ (Loses i k (q.0) (keeps.above) (keeps.below) (keeps.calm) (keeps.next) (q.1) single) wait)
-          (Then (after_lost c i k) (after_settled (after_lost c i k) i (its (BookOf F c) i)) _
+      events = events-append F c (after_loss F c i k) _ (loss c i k t ended keeps unheaded)
+          (Then (after_loss F c i k) (after_settled (after_loss F c i k) i (its (BookOf F c) i)) _
           (Works _ (Settles i (its (BookOf F c) i) (q.0) (λ b e. owned_by-true ((BookOf F c).owner b) i e) untouched dead') tt)
-          (Then (after_settled (after_lost c i k) i (its (BookOf F c) i)) _ _ (Recovers i here wait nothing_left) (Done _)));
+          (Then (after_settled (after_loss F c i k) i (its (BookOf F c) i)) _ _ (Recovers i here (ended.waits) nothing_left unheaded told) (Done _)));
       slot = at-same (c.waits) i false;
       items = refl;
       blocks = nothing_left;
@@ -81,7 +83,10 @@ module _ (F : Files) where
   )
     where
       q : ((BookOf F c).published i ≡ (BookOf F c).answered i) × ((b : ℕ) → (BookOf F c).cache i b ≡ None)
-      q = t.quiet i (waits-acts (c.runs i) (c.waits i) wait)
+      q = t.quiet i (waits-acts (c.runs i) (c.waits i) (ended.waits))
+
+      told : at (c.unlost) i (c.unlost i - 1) i ≡ 0
+      told = at-same (c.unlost) i (c.unlost i - 1) ∙ (let u = ended.unlost in omega (arith, u, last))
 
       untouched : (n b : ℕ) → its (BookOf F c) i b ≡ true → at ((BookOf F c).low) i ((BookOf F c).answered i) i ≤ n → n < (BookOf F c).answered i → (BookOf F c).change i (suc n) b ≡ None
       untouched n b e low high = let low' : (BookOf F c).answered i ≤ n = subst (λ z. z ≤ n) (at-same ((BookOf F c).low) i ((BookOf F c).answered i)) low in absurd (omega arith)
@@ -95,15 +100,16 @@ module _ (F : Files) where
   -- ---- a slot that waited since the start
 
   pub start_recovery : StartRecoveryIsEvents F
-  start_recovery c i t here wait empty flushed = (
+  start_recovery c R k i t here wait speaks none_live empty unheaded told flushed = (
     _,
     record {
       events = Then c (after_settled c (c.past) back) _
           (Works _ (Settles (c.past) back all (λ b e. (gave b e).0) (λ n b e. (gave b e).3 n) dead) tt)
-          (Then (after_settled c (c.past) back) _ _ (Recovers i here wait still_empty) (Done _));
+          (Then (after_settled c (c.past) back) _ _ (Recovers i here wait still_empty unheaded told) (Done _));
       slot = at-same (c.waits) i false;
       items = refl;
       past = left;
+      rings = ring_goes_over F ((c.world).disk) R k i none_live;
     },
   )
     where
@@ -139,11 +145,11 @@ module _ (F : Files) where
       ]
 
   pub past_ends : PastIsEvents F
-  past_ends c t wait flushed dead = (
+  past_ends c t wait flushed unheaded dead = (
     _,
     Then c (after_settled c (c.past) (its (BookOf F c) (c.past))) _
         (Works _ (Settles (c.past) (its (BookOf F c) (c.past)) all (λ b e. owned_by-true ((BookOf F c).owner b) (c.past) e) (λ n b e low high. absurd (omega (arith, flushed, low, high))) (λ d b e. dead d b)) tt)
-        (Then (after_settled c (c.past) (its (BookOf F c) (c.past))) _ _ (PastEnds wait (its-none (BookOf F c) (c.past))) (Done _)),
+        (Then (after_settled c (c.past) (its (BookOf F c) (c.past))) _ _ (PastEnds wait (its-none (BookOf F c) (c.past)) unheaded) (Done _)),
     at-same (c.waits) (c.past) false,
     λ l. ap (λ f. f l) (at-same ((BookOf F c).state) (c.past) (λ l. Un)),
   )

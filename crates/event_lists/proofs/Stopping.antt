@@ -1,15 +1,15 @@
 -- A crash of a set of nodes, and a fence, as lists of events.
-use Rattle.std.proofs.Common.{ℕ, zero, suc, ◌+◌, ◌-◌, ◌≡◌, ◌≤◌, inl, inr, true, false, None, List, [], ◌∷◌, refl, sym, ap, ◌∙◌, subst, arith}
+use Rattle.std.proofs.Common.{ℕ, zero, suc, ◌+◌, ◌-◌, ◌≡◌, ◌≤◌, inl, inr, true, false, None, Some, List, [], ◌∷◌, refl, sym, ap, ◌∙◌, subst, arith}
 use Rattle.cluster_laws.specs.Files.{Files}
 use Rattle.cluster_laws.specs.Book.{at, flushed}
 use Rattle.cluster_laws.specs.Mirror.{ended, chosen, either}
-use Rattle.cluster_laws.specs.World.{World, Publishes, Lands, Ends}
-use Rattle.cluster_laws.proofs.Cells.{at-same, at-cases}
-use Rattle.cluster_events.specs.Cluster.{Cluster, BookOf, Event, Works, Stops, Fences, Events, Done, Then, Together}
+use Rattle.cluster_laws.specs.World.{Publishes, Lands, Ends}
+use Rattle.cluster_laws.proofs.Cells.{none-some, at-same, at-other, at-cases}
+use Rattle.cluster_events.specs.Cluster.{Cluster, BookOf, worked, Event, Works, Stops, Fences, Events, Done, Then, Together}
 use Rattle.cluster_events.proofs.Eventing.{event_keeps, events_keep}
 use Rattle.cluster_parts.specs.Parts.{published_one, published_next, published_of}
 use Rattle.cluster_parts.proofs.Stopping.{next-published, same-next}
-use Rattle.event_lists.specs.Stops.{with_world, halted, crashed, NoneIs, AreMembers, IsIn, CrashIsEvents, CrashAfterWrite, Header, decided, after_fence, IsDecided, FenceIsEvents}
+use Rattle.event_lists.specs.Stops.{with_world, halted, crashed, NoneIs, AreMembers, IsIn, CrashIsEvents, CrashAfterWrite, Header, decided, after_fence, IsDecided, AreHeadersOf, FenceIsEvents}
 
 pub events-append : (F : Files) (a b c : Cluster F) → Events F a b → Events F b c → Events F a c
 events-append F a _ c (Done _) more = more
@@ -67,53 +67,68 @@ module _ (F : Files) where
 
   pub crash_after : CrashAfterWrite F
   crash_after c v step i t here runs may =
-      let event : Event F c (with_world F c v) = Works v step may in
-      Then c (with_world F c v) _ event (crash-events (with_world F c v) (i ∷ []) (event_keeps F c (with_world F c v) event t) (here, tt) (runs, tt))
+      let event : Event F c (worked F c v step may) = Works v step may in
+      Then c (worked F c v step may) _ event (crash-events (worked F c v step may) (i ∷ []) (event_keeps F c (worked F c v step may) event t) (here, tt) (runs, tt))
 
   -- ---- fences
 
-  decided-events : (c : Cluster F) (hs : List Header) → Events F c (with_world F c (decided F (c.world) hs))
-  decided-events c [] = Done c
-  decided-events c (h ∷ hs) =
-      let w : World F = record (c.world) {
-        book = flushed F ((c.world).book) (h.journal) ((((c.world).disk).heads (h.journal) (h.is_new)).cut);
-        disk = chosen F ((c.world).disk) (h.journal) (h.is_new);
-      } in
-      Then c (with_world F c w) _ (Works w (Ends (h.journal) (h.is_new)) tt) (decided-events (with_world F c w) hs)
+  abbrev one : Cluster F → Header → Cluster F
+  one c h = record c {
+    world = record (c.world) {
+      book = flushed F (BookOf F c) (h.journal) ((((c.world).disk).heads (h.journal) (h.is_new)).cut);
+      disk = chosen F ((c.world).disk) (h.journal) (h.is_new);
+    };
+    header_of = at (c.header_of) (h.journal) None;
+  }
 
-  decided-flight : (w : World F) (hs : List Header) → ((decided F w hs).disk).flight ≡ (w.disk).flight
-  decided-flight w [] = refl
-  decided-flight w (h ∷ hs) = decided-flight (record w {
-    book = flushed F (w.book) (h.journal) (((w.disk).heads (h.journal) (h.is_new)).cut);
-    disk = chosen F (w.disk) (h.journal) (h.is_new);
-  }) hs
+  decided-events : (c : Cluster F) (i : ℕ) (hs : List Header) → c.runs i ≡ false → AreHeadersOf i (c.header_of) hs → Events F c (decided F c hs)
+  decided-events c i [] out of = Done c
+  decided-events c i (h ∷ hs) out of =
+      let event : Event F c (one c h) = Works ((one c h).world) (Ends (h.journal) (h.is_new)) (i, of.0, inr out) in
+      Then c (one c h) _ event (decided-events (one c h) i hs out (of.1))
 
-  decided-stays : (w : World F) (hs : List Header) (k : ℕ) → (w.disk).heads k true ≡ (w.disk).heads k false → ((decided F w hs).disk).heads k true ≡ ((decided F w hs).disk).heads k false
-  decided-stays w [] k e = e
-  decided-stays w (h ∷ hs) k e = decided-stays (record w {
-    book = flushed F (w.book) (h.journal) (((w.disk).heads (h.journal) (h.is_new)).cut);
-    disk = chosen F (w.disk) (h.journal) (h.is_new);
-  }) hs k (at-cases (λ f. f true ≡ f false) ((w.disk).heads) (h.journal) (either ((w.disk).heads (h.journal) (h.is_new)) ((w.disk).heads (h.journal) (h.is_new))) k (λ s. refl) (λ ne. e))
+  decided-flight : (c : Cluster F) (hs : List Header) → (((decided F c hs).world).disk).flight ≡ ((c.world).disk).flight
+  decided-flight c [] = refl
+  decided-flight c (h ∷ hs) = decided-flight (one c h) hs
 
-  decided-heads : (w : World F) (hs : List Header) (k : ℕ) → IsDecided k hs → ((decided F w hs).disk).heads k true ≡ ((decided F w hs).disk).heads k false
-  decided-heads w [] k h = absurd h
-  decided-heads w (h ∷ hs) k (inl e) = decided-stays (record w {
-    book = flushed F (w.book) (h.journal) (((w.disk).heads (h.journal) (h.is_new)).cut);
-    disk = chosen F (w.disk) (h.journal) (h.is_new);
-  }) hs k (at-cases (λ f. f true ≡ f false) ((w.disk).heads) (h.journal) (either ((w.disk).heads (h.journal) (h.is_new)) ((w.disk).heads (h.journal) (h.is_new))) k (λ s. refl) (λ ne. absurd (ne e)))
-  decided-heads w (h ∷ hs) k (inr more) = decided-heads (record w {
-    book = flushed F (w.book) (h.journal) (((w.disk).heads (h.journal) (h.is_new)).cut);
-    disk = chosen F (w.disk) (h.journal) (h.is_new);
-  }) hs k more
+  decided-runs : (c : Cluster F) (hs : List Header) → ((decided F c hs).runs ≡ c.runs) × ((decided F c hs).fenced ≡ c.fenced)
+  decided-runs c [] = (refl, refl)
+  decided-runs c (h ∷ hs) = decided-runs (one c h) hs
+
+  decided-stays : (c : Cluster F) (hs : List Header) (k : ℕ) → ((c.world).disk).heads k true ≡ ((c.world).disk).heads k false
+      → (((decided F c hs).world).disk).heads k true ≡ (((decided F c hs).world).disk).heads k false
+  decided-stays c [] k e = e
+  decided-stays c (h ∷ hs) k e = decided-stays (one c h) hs k
+      (at-cases (λ f. f true ≡ f false) (((c.world).disk).heads) (h.journal) (either (((c.world).disk).heads (h.journal) (h.is_new)) (((c.world).disk).heads (h.journal) (h.is_new))) k (λ s. refl) (λ ne. e))
+
+  decided-heads : (c : Cluster F) (hs : List Header) (k : ℕ) → IsDecided k hs → (((decided F c hs).world).disk).heads k true ≡ (((decided F c hs).world).disk).heads k false
+  decided-heads c [] k h = absurd h
+  decided-heads c (h ∷ hs) k (inl e) = decided-stays (one c h) hs k
+      (at-cases (λ f. f true ≡ f false) (((c.world).disk).heads) (h.journal) (either (((c.world).disk).heads (h.journal) (h.is_new)) (((c.world).disk).heads (h.journal) (h.is_new))) k (λ s. refl) (λ ne. absurd (ne e)))
+  decided-heads c (h ∷ hs) k (inr more) = decided-heads (one c h) hs k more
+
+  -- a header that is still in flight was so before, and is none of these
+  decided-of : (c : Cluster F) (hs : List Header) (k i : ℕ) → (decided F c hs).header_of k ≡ Some i → (c.header_of k ≡ Some i) × (IsDecided k hs → ⊥)
+  decided-of c [] k i has = (has, λ none. none)
+  decided-of c (h ∷ hs) k i has =
+      let was = decided-of (one c h) hs k i has in
+      let other : k ≡ h.journal → ⊥ = (λ e. none-some (subst (λ z. at (c.header_of) (h.journal) None z ≡ None) (sym e) (at-same (c.header_of) (h.journal) None)) (was.0)) in
+      (sym (at-other (c.header_of) (h.journal) None k other) ∙ was.0, λ among. elim among [ inl e ↦ other e | inr more ↦ was.1 more ])
 
   pub fence : FenceIsEvents F
-  fence c i x headers out unfenced outcome =
-      let w : World F = record (c.world) { disk = ended F ((c.world).disk) i x } in
-      let none : (b : ℕ) → ((decided F w headers).disk).flight i b ≡ None = (λ b. ap (λ f. f i b) (decided-flight w headers) ∙ ap (λ f. f b) (at-same (((c.world).disk).flight) i (λ b. None))) in
+  fence c i x headers out unfenced outcome of all =
+      let c1 : Cluster F = record c { world = record (c.world) { disk = ended F ((c.world).disk) i x } } in
+      let c2 = decided F c1 headers in
+      let still = decided-runs c1 headers in
+      let none : (b : ℕ) → ((c2.world).disk).flight i b ≡ None = (λ b. ap (λ f. f i b) (decided-flight c1 headers) ∙ ap (λ f. f b) (at-same (((c.world).disk).flight) i (λ b. None))) in
+      let unheaded : (k : ℕ) → c2.header_of k ≡ Some i → ⊥ = (λ k has. (let was = decided-of c1 headers k i has in was.1 (all k (was.0)))) in
+      let first : Event F c c1 = Works (c1.world) (Lands i x outcome) (inr out) in
+      let last : Event F c2 (record c2 { fenced = at (c2.fenced) i true }) = Fences i (ap (λ f. f i) (still.0) ∙ out) (ap (λ f. f i) (still.1) ∙ unfenced) (none, unheaded) in
+      let same : record c2 { fenced = at (c2.fenced) i true } ≡ after_fence F c i x headers = ap (λ f. record c2 { fenced = at f i true }) (still.1) in
       record {
-        events = Then c (with_world F c w) _ (Works w (Lands i x outcome) tt)
-            (events-append F (with_world F c w) (with_world F c (decided F w headers)) (after_fence F c i x headers) (decided-events (with_world F c w) headers)
-            (Then (with_world F c (decided F w headers)) (after_fence F c i x headers) _ (Fences i out unfenced none) (Done (after_fence F c i x headers))));
+        events = Then c c1 _ first (events-append F c1 c2 (after_fence F c i x headers) (decided-events c1 i headers out of)
+            (subst (λ z. Events F c2 z) same (Then c2 (record c2 { fenced = at (c2.fenced) i true }) _ last (Done _))));
         flight = none;
-        heads = decided-heads w headers;
+        heads = decided-heads c1 headers;
+        unheaded = unheaded;
       }

@@ -63,6 +63,8 @@ started F s = record {
   runs = s.runs;
   waits = s.waits;
   fenced = λ i. false;
+  header_of = λ i. None;
+  unlost = λ i. 0;
   past = s.past;
 }
 

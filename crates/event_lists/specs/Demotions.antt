@@ -1,9 +1,9 @@
--- A demotion in its stages, and an unmount, as lists of events.
+-- A demotion in its stages, and an unmount in its.
 use Rattle.std.specs.Prelude.{ℕ, suc, ◌≡◌, ◌≤◌, ◌<◌, ◌⊎◌, Bool, true, false, if◌then◌else◌, None, Some}
 use Rattle.cluster_laws.specs.Files.{Files, CellOf, Part, LockOf, Un, Ex}
-use Rattle.cluster_laws.specs.Book.{Book}
-use Rattle.cluster_laws.specs.Mirror.{Head, Disk, Mirror}
-use Rattle.cluster_laws.specs.Log.{IsHeader, MayGo}
+use Rattle.cluster_laws.specs.Book.{at, Book, flushed}
+use Rattle.cluster_laws.specs.Mirror.{Head, Disk}
+use Rattle.cluster_laws.specs.Log.{Untouched, IsHeader, MayGo}
 use Rattle.cluster_events.specs.Cluster.{HasIdleWriter, Cluster, BookOf, Weakens, Events, Together}
 use Rattle.lock_laws.specs.Lock.{Node}
 
@@ -28,37 +28,45 @@ IsRevoked F B D i l = (d : Bool) (b : ℕ) (v : F.Content) → (D.heads i d).liv
 
 -- ---- a header with its barrier: of a flush, of revokes, alone, or clean
 
-pub record IsCommit (F : Files) (c : Cluster F) (i u : ℕ) (h : Head F) (c' : Cluster F) : Type 0 where
-  pub events : Events F c c'
-  pub low : (BookOf F c').low i ≡ u
-  pub heads : (d : Bool) → (DiskOf F c').heads i d ≡ h
-  pub rest : ((BookOf F c').answered ≡ (BookOf F c).answered) × ((BookOf F c').published ≡ (BookOf F c).published) × ((BookOf F c').says ≡ (BookOf F c).says)
-      × ((BookOf F c').state ≡ (BookOf F c).state) × ((DiskOf F c').blocks ≡ (DiskOf F c).blocks)
+-- the journal then has the calls that the header says, and this head
+abbrev pub committed : (F : Files) → Cluster F → ℕ → Head F → Cluster F
+committed F c i h = record c {
+  world = record (c.world) { book = flushed F (BookOf F c) i (h.cut); disk = record (DiskOf F c) { heads = at ((DiskOf F c).heads) i (λ d. h) } };
+  header_of = at (c.header_of) i None;
+}
 
 abbrev pub CommitIsEvents : Files → Type 0
-CommitIsEvents F = (c : Cluster F) (i u : ℕ) (h : Head F) → Together F c → (DiskOf F c).heads i true ≡ (DiskOf F c).heads i false → HasIdleWriter F c i
-    → IsHeader F (BookOf F c) (DiskOf F c) i u h → (c' : Cluster F) × IsCommit F c i u h c'
+CommitIsEvents F = (c : Cluster F) (i u : ℕ) (h : Head F) → Together F c → c.header_of i ≡ None → HasIdleWriter F c i
+    → IsHeader F (BookOf F c) (DiskOf F c) i u h → Events F c (committed F c i h)
 
--- a flush up to the last call is past the flush of every lock
+-- a journal without whose calls no block was touched is past the flush of every lock: so it is behind a flush up to the last call, and stays with reads and syncs
+-- that are answered later (calls that change no tree touch no block)
 abbrev pub FlushFlushes : Files → Type 0
-FlushFlushes F = (B : Book F) (i : ℕ) (l : F.Lock) → B.low i ≡ B.answered i → IsFlushed F B i l
+FlushFlushes F = (B : Book F) (i : ℕ) (l : F.Lock) → ((b : ℕ) → Untouched F B i (B.low i) (B.answered i) b) → IsFlushed F B i l
 
 -- the head without these blocks
 abbrev pub without_live : (F : Files) → Head F → (ℕ → Bool) → Head F
 without_live F h p = record { cut = h.cut; live = λ b. if p b then None else h.live b }
 
--- Revokes: of blocks that are home, and nothing of the node in flight, the header that leaves them out may go, and it leaves no block live under a lock
--- all of whose live blocks are among them.
-pub record RevokesGo (F : Files) (B : Book F) (D : Disk F) (i : ℕ) (p : ℕ → Bool) : Type 0 where
-  pub header : IsHeader F B D i (B.low i) (without_live F (D.heads i false) p)
-  pub revoked : (l : F.Lock) → ((b : ℕ) (v : F.Content) → (D.heads i false).live b ≡ Some v → LockOf F (B.says i (B.low i) b) ≡ l → p b ≡ true)
-      → (b : ℕ) (v : F.Content) → (without_live F (D.heads i false) p).live b ≡ Some v → LockOf F (B.says i (B.low i) b) ≡ l → ⊥
+-- Revokes: where a header with the calls up to u may go, so may one that leaves out blocks that are home and that none of these calls touches; and it leaves no
+-- block live under a lock all of whose live blocks are among them.
+pub record RevokesGo (F : Files) (B : Book F) (D : Disk F) (i u : ℕ) (h : Head F) (p : ℕ → Bool) : Type 0 where
+  pub header : IsHeader F B D i u (without_live F h p)
+  pub revoked : (l : F.Lock) → ((b : ℕ) (v : F.Content) → h.live b ≡ Some v → LockOf F (B.says i u b) ≡ l → p b ≡ true)
+      → (b : ℕ) (v : F.Content) → (without_live F h p).live b ≡ Some v → LockOf F (B.says i u b) ≡ l → ⊥
 
 abbrev pub RevokesAreHeader : Files → Type 0
-RevokesAreHeader F = (B : Book F) (D : Disk F) (i : ℕ) (p : ℕ → Bool) → Mirror F B D → B.low i ≤ B.published i
+RevokesAreHeader F = (B : Book F) (D : Disk F) (i u : ℕ) (h : Head F) (p : ℕ → Bool) → IsHeader F B D i u h
+    → ((b : ℕ) → p b ≡ true → Untouched F B i (B.low i) u b)
     → ((b : ℕ) (v : F.Content) → p b ≡ true → (D.heads i false).live b ≡ Some v → D.blocks b ≡ v)
-    → ((r b : ℕ) (v : F.Content) → D.flight r b ≡ Some v → B.owner b ≡ Some i → ⊥)
-    → RevokesGo F B D i p
+    → RevokesGo F B D i u h p
+
+-- past its barrier so may the live blocks under the lock be left out
+abbrev pub HomeIsRevoked : Files → Type 0
+HomeIsRevoked F = (B : Book F) (D : Disk F) (i u : ℕ) (h : Head F) (p : ℕ → Bool) (l : F.Lock) → IsHeader F B D i u h → IsAtHome F B D i l
+    → ((b : ℕ) → p b ≡ true → Untouched F B i (B.low i) u b)
+    → ((b : ℕ) (v : F.Content) → p b ≡ true → (D.heads i false).live b ≡ Some v → LockOf F (B.says i (B.low i) b) ≡ l)
+    → RevokesGo F B D i u h p
 
 -- past flush and revokes the lock may go
 abbrev pub StagesRelease : Files → Type 0
@@ -70,6 +78,8 @@ pub record IsRelease (F : Files) (c : Cluster F) (i : ℕ) (locks : F.Lock → �
   pub events : Events F c c'
   pub now : c'.locks ≡ locks
   pub states : (l : F.Lock) → (BookOf F c').state i l ≡ (locks l i).state
+  pub low : (BookOf F c').low i ≡ (BookOf F c).low i
+  pub items : (c'.world).items ≡ (c.world).items
   pub disk : (c'.world).disk ≡ (c.world).disk
 
 abbrev pub ReleaseIsEvents : Files → Type 0
@@ -81,12 +91,14 @@ ReleaseIsEvents F = (c : Cluster F) (i : ℕ) (locks : F.Lock → ℕ → Node) 
 
 -- ---- an unmount
 
--- All calls are in the journal and every live block is home, so the clean header may go; with it no block is live, and every lock may go.
+-- The clean header carries a number up to which the calls that aren't in the journal touch no block: in an unmount that of the node's last call, in a replay that of
+-- the accepted head. Every live block is home. With it no block is live, and every lock may go.
 abbrev pub CleanIsHeader : Files → Type 0
-CleanIsHeader F = (B : Book F) (D : Disk F) (i : ℕ) → Mirror F B D → B.low i ≡ B.answered i → B.low i ≤ B.published i
+CleanIsHeader F = (B : Book F) (D : Disk F) (i u : ℕ) → (B.low i ≤ u) × (u ≤ B.published i) → ((b : ℕ) → Untouched F B i (B.low i) u b)
     → ((b : ℕ) (v : F.Content) → (D.heads i false).live b ≡ Some v → D.blocks b ≡ v)
     → ((r b : ℕ) (v : F.Content) → D.flight r b ≡ Some v → B.owner b ≡ Some i → ⊥)
-    → IsHeader F B D i (B.answered i) (record { cut = B.answered i; live = λ b. None })
+    → IsHeader F B D i u (record { cut = u; live = λ b. None })
 
 abbrev pub CleanReleases : Files → Type 0
-CleanReleases F = (B : Book F) (D : Disk F) (i : ℕ) (l : F.Lock) → B.low i ≡ B.answered i → ((d : Bool) (b : ℕ) → (D.heads i d).live b ≡ None) → MayGo F B D i l
+CleanReleases F = (B : Book F) (D : Disk F) (i : ℕ) (l : F.Lock) → ((b : ℕ) → Untouched F B i (B.low i) (B.answered i) b) → ((d : Bool) (b : ℕ) → (D.heads i d).live b ≡ None)
+    → MayGo F B D i l

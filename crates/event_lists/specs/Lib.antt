@@ -1,3 +1,5 @@
 pub mod Stops
 pub mod Demotions
 pub mod Begins
+pub mod Homes
+pub mod Stages

@@ -1,13 +1,14 @@
 -- Crashes, fences and what ends a life, as lists of events.
-use Rattle.std.specs.Prelude.{ℕ, suc, ◌≡◌, ◌≤◌, ◌⊎◌, ⊤, Bool, true, false, None, Some, List, [], ◌∷◌, ◌++◌}
+use Rattle.std.specs.Prelude.{ℕ, suc, ◌-◌, ◌≡◌, ◌≤◌, ◌⊎◌, ⊤, Bool, true, false, Option, None, Some, List, [], ◌∷◌, ◌++◌}
 use Rattle.cluster_laws.specs.Files.{Files, Un}
-use Rattle.cluster_laws.specs.Book.{at, Book, relocked, flushed}
-use Rattle.cluster_laws.specs.Mirror.{ended, chosen}
+use Rattle.cluster_laws.specs.Book.{at, Book, relocked, flushed, lost}
+use Rattle.cluster_laws.specs.Mirror.{ended, chosen, renumbered}
+use Rattle.cluster_laws.specs.Rings.{Rings}
 use Rattle.cluster_laws.specs.History.{Gone}
 use Rattle.cluster_laws.specs.Log.{Calm}
 use Rattle.cluster_laws.specs.World.{World, nothing}
 use Rattle.cluster_laws.specs.World as world
-use Rattle.cluster_events.specs.Cluster.{Cluster, BookOf, MayWork, stopped, Events, Together}
+use Rattle.cluster_events.specs.Cluster.{Cluster, BookOf, MayWork, worked, stopped, Events, Together}
 use Rattle.cluster_parts.specs.Parts.{published_of}
 
 -- ---- a crash: all that the node answered is published, its cache is gone, and its slot waits
@@ -24,6 +25,7 @@ halted F c i = record c {
   runs = at (c.runs) i false;
   waits = at (c.waits) i true;
   fenced = at (c.fenced) i false;
+  unlost = at (c.unlost) i (suc (c.unlost i));
 }
 
 -- of these nodes, one after the other
@@ -56,8 +58,8 @@ CrashIsEvents F = (c : Cluster F) (is : List ℕ) → Together F c → NoneIs (c
 
 -- an armed crash stands behind its node's write, and so does a withdraw behind the last write of its node, where it had one
 abbrev pub CrashAfterWrite : Files → Type 0
-CrashAfterWrite F = (c : Cluster F) (v : World F) (step : world.Step F (c.world) v) (i : ℕ) → Together F c → (i ≡ c.past → ⊥) → c.runs i ≡ true → MayWork F c v step
-    → Events F c (crashed F (with_world F c v) (i ∷ []))
+CrashAfterWrite F = (c : Cluster F) (v : World F) (step : world.Step F (c.world) v) (i : ℕ) → Together F c → (i ≡ c.past → ⊥) → c.runs i ≡ true
+    → (may : MayWork F c v step) → Events F c (crashed F (worked F c v step may) (i ∷ []))
 
 -- ---- a fence: each write home in flight becomes what it becomes, and each header is on the disk or never will be
 
@@ -65,29 +67,40 @@ pub record Header : Type 0 where
   pub journal : ℕ
   pub is_new : Bool
 
-abbrev pub decided : (F : Files) → World F → List Header → World F
-decided F w [] = w
-decided F w (h ∷ hs) = decided F (record w {
-  book = flushed F (w.book) (h.journal) (((w.disk).heads (h.journal) (h.is_new)).cut);
-  disk = chosen F (w.disk) (h.journal) (h.is_new);
+abbrev pub decided : (F : Files) → Cluster F → List Header → Cluster F
+decided F c [] = c
+decided F c (h ∷ hs) = decided F (record c {
+  world = record (c.world) {
+    book = flushed F (BookOf F c) (h.journal) ((((c.world).disk).heads (h.journal) (h.is_new)).cut);
+    disk = chosen F ((c.world).disk) (h.journal) (h.is_new);
+  };
+  header_of = at (c.header_of) (h.journal) None;
 }) hs
 
 -- the node's own header and the clean header that it had in flight for a slot are decided
 abbrev pub after_fence : (F : Files) → Cluster F → ℕ → (ℕ → F.Content) → List Header → Cluster F
-after_fence F c i x headers = record c { world = decided F (record (c.world) { disk = ended F ((c.world).disk) i x }) headers; fenced = at (c.fenced) i true }
+after_fence F c i x headers = record (decided F (record c { world = record (c.world) { disk = ended F ((c.world).disk) i x } }) headers) { fenced = at (c.fenced) i true }
 
 abbrev pub IsDecided : ℕ → List Header → Type 0
 IsDecided i [] = ⊥
 IsDecided i (h ∷ hs) = (i ≡ h.journal) ⊎ IsDecided i hs
 
+-- each is a header that node i has in flight, once
+abbrev pub AreHeadersOf : ℕ → (ℕ → Option ℕ) → List Header → Type 0
+AreHeadersOf i of [] = ⊤
+AreHeadersOf i of (h ∷ hs) = (of (h.journal) ≡ Some i) × AreHeadersOf i (at of (h.journal) None) hs
+
 pub record IsFence (F : Files) (c : Cluster F) (i : ℕ) (headers : List Header) (c' : Cluster F) : Type 0 where
   pub events : Events F c c'
   pub flight : (b : ℕ) → ((c'.world).disk).flight i b ≡ None
   pub heads : (k : ℕ) → IsDecided k headers → ((c'.world).disk).heads k true ≡ ((c'.world).disk).heads k false
+  pub unheaded : (k : ℕ) → c'.header_of k ≡ Some i → ⊥
 
+-- whatever becomes of each write home, and of each header that the node has in flight
 abbrev pub FenceIsEvents : Files → Type 0
 FenceIsEvents F = (c : Cluster F) (i : ℕ) (x : ℕ → F.Content) (headers : List Header) → c.runs i ≡ false → c.fenced i ≡ false
     → ((b : ℕ) → (x b ≡ ((c.world).disk).blocks b) ⊎ ((v : F.Content) × (((c.world).disk).flight i b ≡ Some v)))
+    → AreHeadersOf i (c.header_of) headers → ((k : ℕ) → c.header_of k ≡ Some i → IsDecided k headers)
     → IsFence F c i headers (after_fence F c i x headers)
 
 -- ---- a slot is recovered: its journal was replayed and is clean
@@ -102,6 +115,27 @@ pub record Keeps (F : Files) (B : Book F) (i k : ℕ) : Type 0 where
 abbrev pub KeptIsFound : Files → Type 0
 KeptIsFound F = (c : Cluster F) (i : ℕ) → Together F c → (k : ℕ) × Keeps F (BookOf F c) i k
 
+-- a life of the node has ended, was fenced, and has no loss yet
+pub record HasEndedLife (F : Files) (c : Cluster F) (i : ℕ) : Type 0 where
+  pub waits : c.waits i ≡ true
+  pub over : (c.runs i ≡ true) ⊎ (c.fenced i ≡ true)
+  pub lives : ℕ
+  pub unlost : c.unlost i ≡ suc lives
+
+-- its loss is told
+abbrev pub after_loss : (F : Files) → Cluster F → ℕ → ℕ → Cluster F
+after_loss F c i k = record c {
+  world = record (c.world) {
+    book = lost F (BookOf F c) i k;
+    disk = renumbered F ((c.world).disk) i ((BookOf F c).answered i);
+    items = (c.world).items ++ (Gone i ((BookOf F c).low i) k ∷ []);
+  };
+  unlost = at (c.unlost) i (c.unlost i - 1);
+}
+
+abbrev pub LossIsEvents : Files → Type 0
+LossIsEvents F = (c : Cluster F) (i k : ℕ) → Together F c → HasEndedLife F c i → Keeps F (BookOf F c) i k → c.header_of i ≡ None → Events F c (after_loss F c i k)
+
 pub record IsRecovered (F : Files) (c : Cluster F) (i k : ℕ) (c' : Cluster F) : Type 0 where
   pub events : Events F c c'
   pub slot : c'.waits i ≡ false
@@ -110,26 +144,32 @@ pub record IsRecovered (F : Files) (c : Cluster F) (i k : ℕ) (c' : Cluster F) 
   pub locks : (l : F.Lock) → (BookOf F c').state i l ≡ Un
   pub disk : (((c'.world).disk).blocks ≡ ((c.world).disk).blocks) × (((c'.world).disk).flight ≡ ((c.world).disk).flight)
 
+-- with the loss of its last life that ended; those before it had theirs
 abbrev pub RecoveryIsEvents : Files → Type 0
-RecoveryIsEvents F = (c : Cluster F) (i k : ℕ) → Together F c → (i ≡ c.past → ⊥) → c.waits i ≡ true → Keeps F (BookOf F c) i k
-    → (((c.world).disk).heads i true).cut ≡ (BookOf F c).low i
+RecoveryIsEvents F = (c : Cluster F) (i k : ℕ) → Together F c → (i ≡ c.past → ⊥) → (ended : HasEndedLife F c i) → ended.lives ≡ 0 → Keeps F (BookOf F c) i k
+    → c.header_of i ≡ None
     → ((d : Bool) (b : ℕ) → (((c.world).disk).heads i d).live b ≡ None)
     → (c' : Cluster F) × IsRecovered F c i k c'
 
--- a slot that waited since the start has no loss: what its journal had is the past's. The past keeps no block that isn't live in its journals
-pub record IsStartRecovered (F : Files) (c : Cluster F) (i : ℕ) (c' : Cluster F) : Type 0 where
+-- a slot that waited since the start has no loss: what its journal, ring k, had is the past's. No block is live in it any more, so it goes over to its node. The past
+-- keeps no block that isn't live in its journals
+pub record IsStartRecovered (F : Files) (c : Cluster F) (R : Rings F ((c.world).disk)) (k i : ℕ) (c' : Cluster F) : Type 0 where
   pub events : Events F c c'
   pub slot : c'.waits i ≡ false
   pub items : (c'.world).items ≡ (c.world).items
   pub past : (b : ℕ) → (BookOf F c').owner b ≡ Some (c.past) → (d : Bool) × (v : F.Content) × ((((c'.world).disk).heads (c.past) d).live b ≡ Some v)
+  pub rings : (R' : Rings F ((c'.world).disk)) × (R'.speaks k ≡ i) × ((r : ℕ) → (r ≡ k → ⊥) → R'.speaks r ≡ R.speaks r) × (R'.live ≡ R.live) × (R'.one ≡ R.one)
 
 abbrev pub StartRecoveryIsEvents : Files → Type 0
-StartRecoveryIsEvents F = (c : Cluster F) (i : ℕ) → Together F c → (i ≡ c.past → ⊥) → c.waits i ≡ true → ((b : ℕ) → (BookOf F c).owner b ≡ Some i → ⊥)
+StartRecoveryIsEvents F = (c : Cluster F) (R : Rings F ((c.world).disk)) (k i : ℕ) → Together F c → (i ≡ c.past → ⊥) → c.waits i ≡ true
+    → R.speaks k ≡ c.past → ((d : Bool) (b : ℕ) → R.live k d b ≡ None)
+    → ((b : ℕ) → (BookOf F c).owner b ≡ Some i → ⊥) → c.header_of i ≡ None → c.unlost i ≡ 0
     → (BookOf F c).low (c.past) ≡ (BookOf F c).answered (c.past)
-    → (c' : Cluster F) × IsStartRecovered F c i c'
+    → (c' : Cluster F) × IsStartRecovered F c R k i c'
 
 -- with the last of them the past ends, where no journal has a block live for it
 abbrev pub PastIsEvents : Files → Type 0
 PastIsEvents F = (c : Cluster F) → Together F c → c.waits (c.past) ≡ true → (BookOf F c).low (c.past) ≡ (BookOf F c).answered (c.past)
+    → c.header_of (c.past) ≡ None
     → ((d : Bool) (b : ℕ) → (((c.world).disk).heads (c.past) d).live b ≡ None)
     → (c' : Cluster F) × Events F c c' × (c'.waits (c.past) ≡ false) × ((l : F.Lock) → (BookOf F c').state (c.past) l ≡ Un)

@@ -1,8 +1,10 @@
 //! What can happen to a cluster as lists of its events: crashes, fences, recoveries, demotions in their stages, unmounts.
 #![tactic(auto)]
 
-ghost use Rattle.event_lists.specs.Stops.{CrashIsEvents, CrashAfterWrite, FenceIsEvents, KeptIsFound, RecoveryIsEvents, StartRecoveryIsEvents, PastIsEvents};
-ghost use Rattle.event_lists.specs.Demotions.{CommitIsEvents, FlushFlushes, RevokesAreHeader, StagesRelease, ReleaseIsEvents, CleanIsHeader, CleanReleases};
+ghost use Rattle.event_lists.specs.Stops.{CrashIsEvents, CrashAfterWrite, FenceIsEvents, KeptIsFound, LossIsEvents, RecoveryIsEvents, StartRecoveryIsEvents, PastIsEvents};
+ghost use Rattle.event_lists.specs.Demotions.{CommitIsEvents, FlushFlushes, RevokesAreHeader, HomeIsRevoked, StagesRelease, ReleaseIsEvents, CleanIsHeader, CleanReleases};
+ghost use Rattle.event_lists.specs.Homes.{HomeIsEvents, HomeIsAtHome, DemotionIsEvents, UnmountIsEvents};
+ghost use Rattle.event_lists.specs.Stages.{StagesStay};
 ghost use Rattle.event_lists.specs.Begins.{StartsFromDisk};
 
 use cluster_laws::System;
@@ -18,9 +20,10 @@ pub fn a_fence_is_events<S: System>()
     ensures { FenceIsEvents S.files }
 {}
 
-/// A law: a slot is recovered, with the number that its loss keeps; one that waited since the start; and the past ends with the last of these.
+/// A law: the loss of a life that ended, with the number that it keeps; a slot is recovered; one that waited since the start; and the past ends with the last.
 pub fn a_recovery_is_events<S: System>()
     ensures kept { KeptIsFound S.files }
+    ensures loss { LossIsEvents S.files }
     ensures slot { RecoveryIsEvents S.files }
     ensures start { StartRecoveryIsEvents S.files }
     ensures past { PastIsEvents S.files }
@@ -35,8 +38,30 @@ pub fn a_commit_is_events<S: System>()
 pub fn a_demotion_is_stages<S: System>()
     ensures flush { FlushFlushes S.files }
     ensures revokes { RevokesAreHeader S.files }
+    ensures home { HomeIsRevoked S.files }
     ensures stages { StagesRelease S.files }
     ensures release { ReleaseIsEvents S.files }
+{}
+
+/// A law: writes home with their barrier; behind it every live block under a lock that was put home is at home.
+pub fn home_writes_are_events<S: System>()
+    ensures home { HomeIsEvents S.files }
+    ensures at_home { HomeIsAtHome S.files }
+{}
+
+/// A law: a stage that a demotion has reached stays through every event, but for those that set it back.
+pub fn stages_stay<S: System>()
+    ensures { StagesStay S.files }
+{}
+
+/// A law: a demotion, from its flush to its release.
+pub fn a_demotion_is_events<S: System>()
+    ensures { DemotionIsEvents S.files }
+{}
+
+/// A law: an unmount, from its flush until every lock is down.
+pub fn an_unmount_is_events<S: System>()
+    ensures { UnmountIsEvents S.files }
 {}
 
 /// A law: an unmount's clean header may go, and behind it every lock.

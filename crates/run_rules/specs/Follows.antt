@@ -1,5 +1,5 @@
 -- The items of a run follow its script.
-use Rattle.std.specs.Prelude.{ℕ, suc, ◌≡◌, ◌⊎◌, ◌+◌, ◌-◌, ◌<◌, ◌≤◌, ◌==◌, Bool, true, false, IsTrue, min, List, [], ◌∷◌, length, take, slice_get, Some, if◌then◌else◌, ⊤, IsBitSet, count_by}
+use Rattle.std.specs.Prelude.{ℕ, suc, ◌≡◌, ◌⊎◌, ◌+◌, ◌-◌, ◌<◌, ◌≤◌, ◌==◌, Bool, false, IsTrue, min, List, [], ◌∷◌, length, take, slice_get, Some, if◌then◌else◌, ⊤, IsBitSet, count_by}
 use Rattle.std.specs.Str.{bytes_eq}
 use Rattle.file_tree.specs.declared.call.Call.{Call}
 use Rattle.cluster_history.specs.declared.Item.{Item}

@@ -5,7 +5,6 @@ use Rattle.cluster_history.specs.History.{Legal}
 use Rattle.file_tree.specs.declared.call.Call.TheVariants as call
 use Rattle.file_tree.specs.declared.reply.Reply.TheVariants as reply
 use Rattle.script_lang.specs.Script.{ScriptValue}
-use Rattle.script_lang.specs.declared.script.Client.{Client}
 use Rattle.script_lang.specs.declared.script.Line.TheVariants as line
 use Rattle.trace_text.specs.declared.item.TraceItem.{TraceItem}
 use Rattle.trace_text.specs.declared.item.TraceItem.TheVariants as trace

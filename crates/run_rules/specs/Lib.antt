@@ -2,3 +2,4 @@ pub mod Follows
 pub mod History
 pub mod Laws
 pub mod Lives
+pub mod Heads

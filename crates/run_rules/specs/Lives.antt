@@ -1,5 +1,5 @@
 -- The lives of a node in a trace, and which of its calls the journal of a stopped one has: the number that the accepted head says, told by the items.
-use Rattle.std.specs.Prelude.{ℕ, suc, ◌≡◌, ◌+◌, ◌-◌, ◌==◌, ◌&&◌, Bool, true, false, if◌then◌else◌, Option, None, Some, List, [], ◌∷◌, ◌++◌, take, drop, slice_get}
+use Rattle.std.specs.Prelude.{ℕ, suc, ◌≡◌, ◌+◌, ◌-◌, ◌==◌, ◌&&◌, ◌||◌, not, nat_lt, Bool, true, false, if◌then◌else◌, Option, None, Some, List, [], ◌∷◌, ◌++◌, take, drop, slice_get}
 use Rattle.cluster_history.specs.declared.Item.{Item}
 use Rattle.cluster_history.specs.declared.Item.TheVariants as item
 use Rattle.cluster_history.specs.Losses.{LossIsRight}
@@ -13,13 +13,17 @@ pub record Life : Type 0 where
   pub node : ℕ
   pub join : ℕ
 
--- the accepted head of a node's journal: on the disk right after the fence that ended the life, or, where no such fence stands, on the disk that is asked of
+-- the accepted head of a node's journal, as a disk has it
 pub record AcceptedHead : Type 0 where
   pub block : ℕ
   pub sequence : ℕ
   pub is_clean : Bool
-  -- it was written in this life and has no item: as the last operation before a withdraw, or at the end of a run
-  pub is_unnamed : Bool
+
+-- What disks say of a trace: each node's accepted head on the run's disk behind so many items, and on the disk that is asked of, an outcome there. What is said below
+-- of heads and losses is nothing without a tie to these disks; whoever cites it gives that.
+pub record DiskHeads : Type 0 where
+  pub behind : ℕ → ℕ → AcceptedHead
+  pub now : ℕ → AcceptedHead
 
 -- the number of the node's last call in these items, where that before them was this
 abbrev pub last_number : ℕ → ℕ → List TraceItem → ℕ
@@ -42,6 +46,34 @@ items_of life items = to_its_end life.node (drop (life.join + 1) items)
 abbrev pub base_of : Life → List TraceItem → ℕ
 base_of life items = last_number life.node 0 (take life.join items)
 
+-- ---- the head that a life left
+
+-- how many items stand up to and with the node's next fence, where so many stood before these
+abbrev pub fenced_behind : ℕ → ℕ → List TraceItem → Option ℕ
+fenced_behind node p [] = None
+fenced_behind node p (trace.Fence i ∷ is) = if i == node then Some (suc p) else fenced_behind node (suc p) is
+fenced_behind node p (_ ∷ is) = fenced_behind node (suc p) is
+
+abbrev pub head_behind : Option ℕ → DiskHeads → ℕ → AcceptedHead
+head_behind (Some p) disks node = disks.behind node p
+head_behind None disks node = disks.now node
+
+-- on the disk right after the fence that ended the life, or, where no such fence stands, on the disk that is asked of
+abbrev pub head_of : DiskHeads → Life → List TraceItem → AcceptedHead
+head_of disks life items = head_behind (fenced_behind life.node (life.join + 1) (drop (life.join + 1) items)) disks life.node
+
+-- a replay's write to the block stands there, and no commit of the node behind it: a head at that block is the clean header of this replay
+abbrev pub is_replays : ℕ → ℕ → Bool → List TraceItem → Bool
+is_replays node block now [] = now
+is_replays node block now (trace.WriteReplay i b ∷ is) = is_replays node block (now || (b == block)) is
+is_replays node block now (trace.Commit i sequence upto ∷ is) = is_replays node block (now && not (i == node)) is
+is_replays node block now (_ ∷ is) = is_replays node block now is
+
+-- the head was written in this life, by the node's own journal: its sequence is above that of the head at the join, and it isn't the clean header of a replay
+abbrev pub is_own : AcceptedHead → DiskHeads → Life → List TraceItem → Bool
+is_own h disks life items =
+    nat_lt (disks.behind life.node life.join).sequence h.sequence && not (is_replays life.node h.block false (drop (life.join + 1) items))
+
 -- ---- the first case: an item tells it
 
 -- what the life's item says that wrote this head
@@ -51,7 +83,7 @@ named node h (trace.WriteHead i block sequence upto ∷ is) = if (i == node) && 
 named node h (trace.WriteClean i block sequence upto ∷ is) = if (i == node) && ((block == h.block) && (sequence == h.sequence)) then Some upto else named node h is
 named node h (_ ∷ is) = named node h is
 
--- ---- the second: a head without an item, that isn't clean
+-- ---- the second: a head of this life without an item, that isn't clean. It was written as the last operation before a withdraw, or at the end of a run
 
 -- what such a head has: what the last head had, or, from the first write to the log behind that on, all calls before this write
 pub record Unnamed : Type 0 where
@@ -69,16 +101,17 @@ unnamed node s (_ ∷ is) = unnamed node s is
 
 -- ---- the number
 
-abbrev pub upto_by : Option ℕ → AcceptedHead → Life → List TraceItem → ℕ
-upto_by (Some upto) h life items = upto
-upto_by None h life items =
-    if h.is_unnamed then (if h.is_clean then last_number life.node 0 items
+abbrev pub upto_by : Option ℕ → AcceptedHead → DiskHeads → Life → List TraceItem → ℕ
+upto_by (Some upto) h disks life items = upto
+upto_by None h disks life items =
+    if is_own h disks life items then (if h.is_clean then last_number life.node 0 items
     else unnamed life.node (record { upto = base_of life items; is_logged = false; last = base_of life items }) (items_of life items))
     else base_of life items
 
--- the number of the last call that the head has: what its item says; without an item what went before it; and the base where no head of this life is accepted
-abbrev pub upto_of : AcceptedHead → Life → List TraceItem → ℕ
-upto_of h life items = upto_by (named life.node h (items_of life items)) h life items
+-- the number of the last call that the head has which the life left: what its item says; without an item what went before it; and the base where no head of this
+-- life is accepted
+abbrev pub upto_of : DiskHeads → Life → List TraceItem → ℕ
+upto_of disks life items = upto_by (named life.node (head_of disks life items) (items_of life items)) (head_of disks life items) disks life items
 
 -- ---- lives and their losses
 
@@ -105,10 +138,11 @@ life_at node n (l ∷ ls) = if l.node == node then (if n == 0 then Some l else l
 abbrev pub life_lost : ℕ → List TraceItem → Option Life
 life_lost node before = life_at node (losses_of node before) (lives_of before)
 
--- each loss keeps what the head of its life's journal had, and, beyond that, calls that change nothing
-abbrev pub TraceKeptRight : List Client → (ℕ → AcceptedHead) → List TraceItem → Type 0
-TraceKeptRight clients heads items = (p node kept : ℕ) (life : Life) → slice_get items p ≡ Some (trace.Lost node kept) → life_lost node (take p items) ≡ Some life
-    → LossIsRight (history_of clients (take p items)) node (upto_of (heads p) life (take p items)) kept
+-- each loss is that of a life, and keeps what the head had that this life left, and, beyond that, calls that change nothing
+abbrev pub TraceKeptRight : List Client → (ℕ → ℕ → AcceptedHead) → List TraceItem → Type 0
+TraceKeptRight clients behind items = (p node kept : ℕ) → slice_get items p ≡ Some (trace.Lost node kept)
+    → (life : Life) × (life_lost node (take p items) ≡ Some life)
+    × LossIsRight (history_of clients (take p items)) node (upto_of (record { behind = behind; now = λ i. behind i p }) life (take p items)) kept
 
 -- ---- what remains of the items at a stop of everything
 
@@ -123,6 +157,6 @@ losses_for upto [] = []
 losses_for upto (l ∷ ls) = item.Lost l.node (upto l) ∷ losses_for upto ls
 
 -- the history of the items, with a loss for each life that has none, which keeps what its journal has
-abbrev pub remains : List Client → (Life → AcceptedHead) → List TraceItem → List Item
-remains clients head items =
-    history_of clients items ++ losses_for (λ l. upto_of (head l) l items) (without_loss (λ i. losses_of i items) (lives_of items))
+abbrev pub remains : List Client → DiskHeads → List TraceItem → List Item
+remains clients disks items =
+    history_of clients items ++ losses_for (λ l. upto_of disks l items) (without_loss (λ i. losses_of i items) (lives_of items))

@@ -3,6 +3,7 @@
 #![tactic(auto)]
 
 ghost use Rattle.run_rules.specs.Laws.{CrashLinesAreCarriedOut, NothingFollows, NothingIsLegal};
+ghost use Rattle.run_rules.specs.Heads.{RowsOfHeads, EachLossHasALife};
 
 /// A law: a run that has no items yet follows its script, whatever that is, is numbered, and is legal.
 pub fn nothing_is_a_history()
@@ -13,4 +14,10 @@ pub fn nothing_is_a_history()
 /// A law: a run that passes over a crash line, as one of `crash 1` and `c: list /` that only lists, doesn't follow its script.
 pub fn crash_lines_are_carried_out()
     ensures { CrashLinesAreCarriedOut }
+{}
+
+/// A law: the number that a loss counts from, in worked rows, one for each of its cases; and a loss without a life is refused.
+pub fn heads_tell_what_they_have()
+    ensures rows { RowsOfHeads }
+    ensures lives { EachLossHasALife }
 {}

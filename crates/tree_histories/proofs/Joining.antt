@@ -19,7 +19,7 @@ use Rattle.cluster_laws.specs.History.{Item, Called, Gone, any_drops, living, sa
 use Rattle.cluster_laws.specs.Contents.{places}
 use Rattle.cluster_laws.specs.Laws.{head_cuts}
 use Rattle.cluster_laws.proofs.Running.{sound_start, run_keeps, every_run}
-use Rattle.cluster_laws.proofs.Remaining.{prefix_clause}
+use Rattle.cluster_laws.proofs.Remaining.{prefix_clause, at_the_end}
 use Rattle.cluster_laws.proofs.Bridging.{free_cells}
 use Rattle.cluster_events.proofs.Eventing.{events_are_steps, starts_together}
 use Rattle.tree_histories.specs.Trees.{Told, replied, Images, rules_of, Trees, item_of, history_of, upto_at, HistoriesAgree, EveryTreeRun, EveryTreeCluster}
@@ -262,6 +262,11 @@ module _ (I : Images) where
                   (tree-same (w.items ++ gones (Trees I) ls) ((w.book).start) (q.0) (q.2))
                   (rings r full (places (W (Trees I) (w.book) (head_cuts (Trees I) (w.disk) choice))) (q.0) (q.1) good near),
             ));
+        at_the_end = λ free rings calm choice x r full outcome replay good near. (
+            let q = at_the_end (Trees I) w choice x r s (free_cells (rules_of I) free) calm outcome replay in
+            subst (λ t. I.StandsFor full (places (W (Trees I) (w.book) ((w.book).published))) t)
+            (tree-same (w.items) ((w.book).start) (q.0) (q.2))
+            (rings r full (places (W (Trees I) (w.book) ((w.book).published))) (q.0) (q.1) good near));
       }
 
   pub every_tree_cluster : EveryTreeCluster I

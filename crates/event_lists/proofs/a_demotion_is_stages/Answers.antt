@@ -1,4 +1,4 @@
-use Rattle.event_lists.proofs.Demoting.{flushes, revokes, stages, releases}
+use Rattle.event_lists.proofs.Demoting.{flushes, revokes, home_revoked, stages, releases}
 use Rattle.event_lists.proofs.a_demotion_is_stages.Goals as goal
 
 pub returns-clause-flush : goal.returns-clause-flush
@@ -12,3 +12,6 @@ returns-clause-stages g c = stages _
 
 pub returns-clause-release : goal.returns-clause-release
 returns-clause-release g c = releases _
+
+pub returns-clause-home : goal.returns-clause-home
+returns-clause-home g c = home_revoked _

@@ -1,4 +1,4 @@
-use Rattle.event_lists.proofs.Recovering.{kept_found, recovery, start_recovery, past_ends}
+use Rattle.event_lists.proofs.Recovering.{kept_found, loss, recovery, start_recovery, past_ends}
 use Rattle.event_lists.proofs.a_recovery_is_events.Goals as goal
 
 pub returns-clause-kept : goal.returns-clause-kept
@@ -12,3 +12,6 @@ returns-clause-start g c = start_recovery _
 
 pub returns-clause-past : goal.returns-clause-past
 returns-clause-past g c = past_ends _
+
+pub returns-clause-loss : goal.returns-clause-loss
+returns-clause-loss g c = loss _

@@ -1,6 +1,6 @@
 use Rattle.std.proofs.Common.{◌≡◌, ◌≤◌, ℕ, zero, suc, refl, arith, lit<}
 use Rattle.std.specs.Prelude.{IsBitSet}
-use Rattle.run_rules.specs.Follows.{Follows, Standing, Stopped, standing}
+use Rattle.run_rules.specs.Follows.{Stopped, standing}
 use Rattle.run_rules.specs.Laws.{crash_and_list, list_alone}
 use Rattle.run_rules.proofs.crash_lines_are_carried_out.Goals as goal
 

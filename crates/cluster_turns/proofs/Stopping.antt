@@ -1,0 +1,121 @@
+-- Counts are ties, and with them all nodes may stop at once.
+use Rattle.std.proofs.Common.{ℕ, suc, ◌≡◌, ◌<◌, inl, inr, true, false, Bool, None, Some, List, [], ◌∷◌, refl, sym, ap, ◌∙◌, subst, arith, not, ◌&&◌}
+use Rattle.cluster_laws.specs.Files.{Files}
+use Rattle.cluster_laws.specs.Book.{at, relocked}
+use Rattle.cluster_laws.specs.World.{nothing}
+use Rattle.cluster_events.specs.Cluster.{Cluster, BookOf, with_book, stopped, Together, Event, Stops, Events, Done, Then}
+use Rattle.cluster_turns.specs.Turns.{OnlyOf, AreLocal, MayPaired}
+use Rattle.cluster_turns.specs.Counting.{Count, OfNode, OfWire, node_of, CountsWire, IsCountOfNode, IsCountOfWire, AreBelow, running, AllRun, counting, CountsAreTies}
+
+module _ (F : Files) (nodes : ℕ) where
+  of-node : (i : ℕ) (c : Cluster F) (s : ℕ → ℕ) (v : Count) → IsCountOfNode F i c s v → node_of v ≡ Some i
+  of-node i c s (OfNode k answered shown) is = ap Some (is.node)
+  of-node i c s (OfWire shown published runs) is = elim is [ ]
+
+  of-wire : (c : Cluster F) (s : ℕ → ℕ) (v : Count) → IsCountOfWire F nodes c s v → node_of v ≡ None
+  of-wire c s (OfNode node answered shown) is = elim is [ ]
+  of-wire c s (OfWire shown published runs) is = refl
+
+  node-stays : (i j : ℕ) (c c' : Cluster F) (s : ℕ → ℕ) (v : Count) → (i ≡ j → ⊥) → OnlyOf F j c c' → IsCountOfNode F i c s v → IsCountOfNode F i c' s v
+  node-stays i j c c' s (OfWire shown published runs) ne only is = elim is [ ]
+  node-stays i j c c' s (OfNode k answered shown) ne only is = record {
+    node = is.node;
+    answered = is.answered ∙ sym ((only.others i ne).answered);
+    shown = is.shown;
+    order = is.order;
+    acting = elim (is.acting) [
+      | inl all ↦ inl all
+      | inr acting ↦ inr (ap (λ f. f i && not (c'.waits i)) ((only.wire).runs) ∙ ap (λ f. c.runs i && not (f i)) ((only.wire).waits) ∙ acting)
+    ];
+  }
+
+  wire-stays : (j : ℕ) (c c' : Cluster F) (s : ℕ → ℕ) (v : Count) → OnlyOf F j c c' → IsCountOfWire F nodes c s v → IsCountOfWire F nodes c' s v
+  wire-stays j c c' s (OfNode node answered shown) only is = elim is [ ]
+  wire-stays j c c' s (OfWire shown published runs) only is = record {
+    shown = is.shown;
+    published = is.published ∙ sym ((only.wire).published);
+    runs = is.runs ∙ sym ((only.wire).runs);
+    past = λ i below e. is.past i below (e ∙ (only.wire).past);
+  }
+
+  local : AreLocal F (counting F nodes)
+  local = record {
+    is_node = of-node;
+    is_wire = of-wire;
+    node_local = node-stays;
+    wire_local = wire-stays;
+    grows_reflexive = λ v. refl;
+    grows_transitive = λ u v w first second. first ∙ second;
+  }
+
+  -- all these nodes stop
+  record IsStopped (c : Cluster F) (is : List ℕ) (c' : Cluster F) : Type 0 where
+    events : Events F c c'
+    answered : (BookOf F c').answered ≡ (BookOf F c).answered
+    published : (BookOf F c').published ≡ (BookOf F c).published
+    runs : c'.runs ≡ running (c.runs) is
+    past : c'.past ≡ c.past
+
+  abbrev halt : Cluster F → ℕ → Cluster F
+  halt c i = record c {
+    world = with_book F c (relocked F (BookOf F c) ((BookOf F c).state) (at ((BookOf F c).cache) i (nothing F)));
+    locks = λ l. at (c.locks l) i (stopped (c.locks l i));
+    runs = at (c.runs) i false;
+    waits = at (c.waits) i true;
+    fenced = at (c.fenced) i false;
+    unlost = at (c.unlost) i (suc (c.unlost i));
+  }
+
+  stop : (c : Cluster F) (is : List ℕ) → ((k : ℕ) → k < nodes → (BookOf F c).published k ≡ (BookOf F c).answered k) → ((k : ℕ) → k < nodes → k ≡ c.past → ⊥)
+      → AreBelow nodes is → AllRun (c.runs) is → (c' : Cluster F) × IsStopped c is c'
+  stop c [] all here below run = (c, record { events = Done c; answered = refl; published = refl; runs = refl; past = refl })
+  stop c (i ∷ is) all here below run =
+      let event : Event F c (halt c i) = Stops i (here i (below.0)) (run.0) (all i (below.0)) in
+      let next = stop (halt c i) is all here (below.1) (run.1) in
+      let n = next.1 in
+      (next.0, record { events = Then c (halt c i) (next.0) event (n.events); answered = n.answered; published = n.published; runs = n.runs; past = n.past })
+
+  -- who has answered no more than is published has answered all that it was shown
+  counted : (c : Cluster F) (s shown : ℕ → ℕ) (runs : ℕ → Bool) (k : ℕ) → Together F c → CountsWire F nodes c s shown shown runs → (v : Count) → IsCountOfNode F k c s v
+      → ((BookOf F c).published k ≡ (BookOf F c).answered k) × ((BookOf F c).answered k ≡ s k)
+  counted c s shown runs k t wire (OfWire seen published others) is = elim is [ ]
+  counted c s shown runs k t wire (OfNode node answered seen) is =
+      let a = is.answered in let m = is.shown in let o = is.order in
+      let p : shown k ≡ (BookOf F c).published k = ap (λ f. f k) (wire.published) in
+      let q : shown k ≡ s k = ap (λ f. f k) (wire.shown) in
+      let b = ((t.world).whole).published_answered k in
+      ((omega arith), (omega arith))
+
+  -- what is said of a node stays where it has answered all that it was shown
+  still : (c c' : Cluster F) (s : ℕ → ℕ) (k : ℕ) (v : Count) → (BookOf F c').answered ≡ (BookOf F c).answered → (BookOf F c).answered k ≡ s k
+      → IsCountOfNode F k c s v → IsCountOfNode F k c' s v
+  still c c' s k (OfWire shown published runs) same all is = elim is [ ]
+  still c c' s k (OfNode node answered shown) same all is = record {
+    node = is.node;
+    answered = is.answered ∙ sym (ap (λ f. f k) same);
+    shown = is.shown;
+    order = is.order;
+    acting = inl (is.answered ∙ all ∙ sym (is.shown));
+  }
+
+  all-stop : (i : ℕ) (own : Count) (is : List ℕ) (shown : ℕ → ℕ) (runs : ℕ → Bool) → i < nodes → AreBelow nodes is → AllRun runs is
+      → MayPaired F (counting F nodes) i own (OfWire shown shown runs) own (OfWire shown shown (running runs is))
+  all-stop i own is shown runs low below run c s t tied is_own wire =
+      let known = λ (k : ℕ) (l : k < nodes). counted c s shown runs k t wire ((tied k l).0) ((tied k l).1) in
+      let end = stop c is (λ k l. (known k l).0) (wire.past) below (subst (λ f. AllRun f is) (wire.runs) run) in
+      let e = end.1 in (
+        end.0,
+        s,
+        e.events,
+        (λ j v l ne h. still c (end.0) s j v (e.answered) ((known j l).1) h),
+        still c (end.0) s i own (e.answered) ((known i low).1) is_own,
+        record {
+          shown = wire.shown;
+          published = wire.published ∙ sym (e.published);
+          runs = ap (λ f. running f is) (wire.runs) ∙ sym (e.runs);
+          past = λ k l same. wire.past k l (same ∙ e.past);
+        },
+      )
+
+pub counts_are_ties : (F : Files) (nodes : ℕ) → CountsAreTies F nodes
+counts_are_ties F nodes = record { local = local F nodes; crash_all = all-stop F nodes }
