@@ -4,8 +4,6 @@
 mod end_status;
 mod image;
 mod input;
-#[cfg(test)]
-mod make_tests;
 mod mounting;
 mod output;
 mod places;
@@ -16,8 +14,6 @@ mod show;
 mod status;
 mod status_text;
 mod streams;
-#[cfg(test)]
-mod tests;
 mod top;
 mod words;
 
