@@ -18,5 +18,6 @@ mod top;
 mod words;
 
 pub use image_mount::Field;
-pub use status::{Part, Status, Waits, Which};
+pub use glock_names::Waits;
+pub use status::{Part, Status, Which};
 pub use top::{Ended, gfs2run, gfs2run_alone};
