@@ -20,3 +20,4 @@ pub mod Table
 pub mod Order
 pub mod Listing
 pub mod JournalNames
+pub mod Reached

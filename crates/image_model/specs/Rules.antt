@@ -1,6 +1,6 @@
 -- What breaks which rule at which block: of any image, without a table of owners.
 -- Two rules come with the replay of journals: that of a bad chunk, 17, and that of a block that is live in two journals, 20.
-use Rattle.std.specs.Prelude.{ℕ, suc, ◌≡◌, ◌≢◌, ◌+◌, ◌-◌, ◌*◌, ◌/◌, ◌%◌, ◌<◌, ◌≤◌, true, false, List, length, codes, slice_get, flat_map, Contains, None, Some}
+use Rattle.std.specs.Prelude.{ℕ, suc, ◌≡◌, ◌≢◌, ◌⊎◌, ◌+◌, ◌-◌, ◌*◌, ◌/◌, ◌%◌, ◌<◌, ◌≤◌, true, false, List, length, codes, slice_get, flat_map, Contains, None, Some}
 use Rattle.std.specs.List.Sorted.{IsStrictlyIncreasing}
 use Rattle.file_tree.specs.Names.{IsName}
 use Rattle.file_tree.specs.Apply.{file_limit}
@@ -11,7 +11,7 @@ use Rattle.gfs2_layout.specs.Area.{Slot, name_of, slots_of, IsArea}
 use Rattle.gfs2_layout.specs.declared.rindex.Rindex.{Rindex}
 use Rattle.gfs2_layout.specs.Bitmap.{state_at}
 use Rattle.image_model.specs.Claims.{every, Claims, IsInodeAt, HasInode, HasDirectory, HasLeaf, HasArea, master_of, IsRindex, IsJindex, HasGroup, HasJournal, IsUnder}
-use Rattle.image_model.specs.Groups.{groups_in, entry_length, IsGroupAt, IsListed, end_of, IsDataOf, IsNear, GroupFits, group_blocks, bitmap_of, group_header, states_in, state_of, count_of}
+use Rattle.image_model.specs.Groups.{groups_in, entry_length, IsGroupAt, IsListed, end_of, IsHeaderOf, IsDataOf, IsNear, GroupFits, group_blocks, bitmap_of, group_header, states_in, state_of, count_of}
 use Rattle.gfs2_layout.specs.Inode.{Leads, entry_block, dinode_in, height_in, is_directory_in, is_hashed_in, fan, span, content_block, content_of, content_count, table_count, depth_in, entry, index_bits, leaf_in, leaf_area, linear_area, top_bits, head_of}
 use Rattle.image_model.specs.Image.{Image, superblock_in}
 use Rattle.gfs2_layout.specs.Headers.{HasHeader}
@@ -168,3 +168,17 @@ pub data Breaks (im : Image) : ℕ → ℕ → Type 0 where
   bare : (b : ℕ) → superblock_place im.size < b → b < im.count → ((g : Rindex) → HasGroup im g → ¬ (IsNear g b)) → Breaks im 18 b
   -- 19: a dinode's `blocks` isn't the count
   blocks_count : (a : ℕ) (blocks : List ℕ) → HasInode im a → AreWithin im a blocks → (dinode_in (every im a)).blocks ≢ 1 + length blocks → Breaks im 19 a
+
+-- What may be told of a block: it breaks the rule, and the device has it; but for a superblock for which the device is too short.
+pub record IsBroken (im : Image) (rule b : ℕ) : Type 0 where
+  pub breaks : Breaks im rule b
+  pub there : (b < im.count) ⊎ ((rule ≡ 1) × (b ≡ superblock_place im.size))
+
+-- A block to which a look over the image comes: the superblock's, one that is claimed, one of the content of an inode that is
+-- claimed, one of a group, and one above the superblock that no group has and none leaves behind it.
+pub data IsReached (im : Image) : ℕ → Type 0 where
+  the_superblock : IsReached im (superblock_place im.size)
+  by_claim : (by b : ℕ) (o : Owner) → Claims im by b o → IsReached im b
+  of_content : (a i : ℕ) → HasInode im a → IsReached im (content_block (every im a) i)
+  in_group : (g : Rindex) (b : ℕ) → HasGroup im g → (b ≡ g.address) ⊎ (IsHeaderOf g b ⊎ IsDataOf g b) → IsReached im b
+  left_out : (b : ℕ) → superblock_place im.size < b → ((g : Rindex) → HasGroup im g → ¬ (IsNear g b)) → IsReached im b
