@@ -4,6 +4,7 @@ use Rattle.std.specs.List.{AllByRecursion}
 use Rattle.profile_limits.specs.Limits.{most_blocks, most_groups}
 use Rattle.gfs2_layout.specs.Bitmap.{bitmap_room}
 use Rattle.gfs2_layout.specs.Device.{IsBlockSize, superblock_place}
+use Rattle.gfs2_layout.specs.declared.rindex.Rindex.{Rindex}
 use Rattle.glock_names.specs.declared.State.{State}
 use Rattle.glock_names.specs.declared.LockName.{LockName}
 use Rattle.glock_names.specs.declared.views.Group.{Group}
@@ -18,6 +19,10 @@ pub record Seen : Type 0 where
   pub block_at : ℕ → Option (List ℕ)
 
 -- ---- the groups, such as mounting accepts
+
+-- the group of an entry in the list of groups
+abbrev pub group_of_entry : Rindex → Group
+group_of_entry g = record { addr = g.address; length = g.length; first = g.data0; count = g.data_blocks }
 
 -- the first block behind a group's data blocks
 abbrev pub end_of : Group → ℕ
@@ -36,11 +41,15 @@ abbrev pub Rise : ℕ → ℕ → List Group → Type 0
 Rise size least [] = ⊤
 Rise size least (g ∷ gs) = IsFit size g × (least ≤ g.addr) × Rise size (end_of g) gs
 
+-- at most 64, one behind another, the last of them ending within the blocks that a device has at most
+pub record AreGroups (size : ℕ) (groups : List Group) : Type 0 where
+  pub few : length groups ≤ most_groups
+  pub rise : Rise size 0 groups
+  pub end : AllByRecursion (λ g. end_of g ≤ most_blocks) groups
+
 -- ---- what holds of every view
 
 pub record IsView (v : Seen) : Type 0 where
   pub block_size : IsBlockSize v.size
   pub whole : (b : ℕ) (bytes : List ℕ) → v.block_at b ≡ Some bytes → length bytes ≡ v.size
-  pub few_groups : length v.groups ≤ most_groups
-  pub groups_rise : Rise v.size 0 v.groups
-  pub groups_end : AllByRecursion (λ g. end_of g ≤ most_blocks) v.groups
+  pub groups : AreGroups v.size v.groups
