@@ -12,7 +12,7 @@ use Rattle.cluster_program.specs.declared.status.Status.{Status}
 use Rattle.cluster_program.specs.declared.status.Status.TheVariants as status
 use Rattle.cluster_program.specs.declared.status.Which.{Which}
 use Rattle.cluster_program.specs.World.{Inputs, Outputs}
-use Rattle.cluster_program.specs.Course.{Course, RefusesWords, MakesImage, NoScript, Makes, IsTooLarge, IsTooSmall, LacksMemory, HasFailed, HasMade, AsksToRun, AsksToMake, plan_for, RunsScript, LacksScript, SourceFailed, Refused, RefusedEarly, NotBuiltYet, RunEnds, IsDone, NotMounted, CallFailed, CallRefused, CallLeadsOut, NoRoom, AsksToShow, Shows, HasShown, ShowsNone, TreeFailed, TreeRefused, TreeLeadsOut, NothingHeld, ShowsImage}
+use Rattle.cluster_program.specs.Course.{Course, RefusesWords, MakesImage, NoScript, Makes, IsTooLarge, IsTooSmall, LacksMemory, HasFailed, HasMade, AsksToRun, AsksToMake, plan_for, RunsScript, LacksScript, SourceFailed, Refused, RefusedEarly, NotBuiltYet, RunEnds, IsDone, NotMounted, CallFailed, CallRefused, CallDamaged, NoRoom, AsksToShow, Shows, HasShown, ShowsNone, TreeFailed, TreeRefused, TreeDamaged, NothingHeld, ShowsImage}
 use Rattle.cluster_program.specs.Mounting.{MountEnds, DiskFails, LiesOutside, IsDamaged, IsDirty, IsHashed, HasOtherRoot, LacksRoom}
 use Rattle.cluster_program.specs.Report.{Becomes, Stays, WithoutMemory, Fails, Reports}
 use Rattle.cluster_program.specs.Command.{NoneRose, IsMountable, IsRunnable, IsShowable, IsMakeable, IsComplete}
@@ -78,7 +78,7 @@ module _ (words : List (List ℕ)) (given left : Inputs) (sinks sinks_now : Outp
   of_show may lines own (ShowsNone own' ends) = of_mount may own ends
   of_show may lines own (TreeFailed root block x y up begins reads) = absurd (none.disk 0 (rose (given.disk_faults 0) (left.disk_faults 0) x y up))
   of_show may lines own (TreeRefused root block other begins refuses) = absurd (other may.tree may.flat)
-  of_show may lines own (TreeLeadsOut root block other begins refuses breaks) = absurd (other may.tree may.flat)
+  of_show may lines own (TreeDamaged root block rule why is other begins refuses breaks) = absurd (other may.tree may.flat)
   of_show may lines own NothingHeld = inr refl
 
   of_run : IsMountable given.disk → (s : ScriptValue) (items : List TraceItem) (own : Status) → RunEnds given.disk given.disk_faults left.disk_faults s items own → IsWhole own
@@ -86,7 +86,7 @@ module _ (words : List (List ℕ)) (given left : Inputs) (sinks sinks_now : Outp
   of_run may s items own (NotMounted own' none_yet ends) = of_mount may own ends
   of_run may s items own (CallFailed root block x y up begins reads) = absurd (none.disk 1 (rose (given.disk_faults 1) (left.disk_faults 1) x y up))
   of_run may s items own (CallRefused root block other begins refuses) = absurd (other may.tree may.flat)
-  of_run may s items own (CallLeadsOut root block other begins refuses breaks) = absurd (other may.tree may.flat)
+  of_run may s items own (CallDamaged root block rule why is other begins refuses breaks) = absurd (other may.tree may.flat)
   of_run may s items own NoRoom = inr refl
 
   -- an image that fits its device

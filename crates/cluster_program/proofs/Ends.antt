@@ -13,7 +13,7 @@ use Rattle.cluster_program.specs.declared.status.Status.TheVariants as status
 use Rattle.cluster_program.specs.declared.status.Which.{Which}
 use Rattle.cluster_program.specs.declared.status.Which.TheVariants as which
 use Rattle.cluster_program.specs.World.{Inputs, Outputs}
-use Rattle.cluster_program.specs.Course.{Course, RefusesWords, MakesImage, NoScript, Makes, IsTooLarge, IsTooSmall, LacksMemory, HasFailed, HasMade, RunsScript, LacksScript, SourceFailed, Refused, RefusedEarly, NotBuiltYet, RunEnds, IsDone, NotMounted, CallFailed, CallRefused, CallLeadsOut, NoRoom, Shows, HasShown, ShowsNone, TreeFailed, TreeRefused, TreeLeadsOut, NothingHeld, ShowsImage, words_refusal, refusal_of, is_built}
+use Rattle.cluster_program.specs.Course.{Course, RefusesWords, MakesImage, NoScript, Makes, IsTooLarge, IsTooSmall, LacksMemory, HasFailed, HasMade, RunsScript, LacksScript, SourceFailed, Refused, RefusedEarly, NotBuiltYet, RunEnds, IsDone, NotMounted, CallFailed, CallRefused, CallDamaged, NoRoom, Shows, HasShown, ShowsNone, TreeFailed, TreeRefused, TreeDamaged, NothingHeld, ShowsImage, words_refusal, refusal_of, is_built}
 use Rattle.cluster_program.specs.Mounting.{MountEnds, DiskFails, LiesOutside, IsDamaged, IsDirty, IsHashed, HasOtherRoot, LacksRoom}
 use Rattle.cluster_program.specs.Report.{Becomes, Stays, WithoutMemory, Fails, Reports}
 use Rattle.cluster_program.specs.Command.{FaultHasCause}
@@ -57,7 +57,7 @@ module _ (given left : Inputs) (sinks sinks_now : Outputs) where
   show_fault lines own (ShowsNone own' ends) = mount_fault own ends
   show_fault lines own (TreeFailed root block x y up begins reads) = up
   show_fault lines own (TreeRefused root block other begins refuses) = tt
-  show_fault lines own (TreeLeadsOut root block other begins refuses breaks) = tt
+  show_fault lines own (TreeDamaged root block rule why is other begins refuses breaks) = tt
   show_fault lines own NothingHeld = tt
 
   run_fault : (s : ScriptValue) (items : List TraceItem) (own : Status) → RunEnds given.disk given.disk_faults left.disk_faults s items own → FaultHasCause given left sinks sinks_now own
@@ -65,7 +65,7 @@ module _ (given left : Inputs) (sinks sinks_now : Outputs) where
   run_fault s items own (NotMounted own' none ends) = mount_fault own ends
   run_fault s items own (CallFailed root block x y up begins reads) = up
   run_fault s items own (CallRefused root block other begins refuses) = tt
-  run_fault s items own (CallLeadsOut root block other begins refuses breaks) = tt
+  run_fault s items own (CallDamaged root block rule why is other begins refuses breaks) = tt
   run_fault s items own NoRoom = tt
 
   make_fault : (make : MakeWords) (own : Status) → Makes make given left own → FaultHasCause given left sinks sinks_now own

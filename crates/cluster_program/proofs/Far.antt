@@ -1,23 +1,27 @@
--- A number of a block outside the disk breaks a rule at the block in which it stands.
-use Rattle.std.proofs.Common.{◌≡◌, ℕ, ◌%◌, ◌/◌, ◌≤◌, Bool, true, false, ◌&&◌, ◌==◌, List, ◌∷◌, [], map, Some, inl, inr, refl, sym, ap, ◌∙◌, subst}
-use Rattle.std.specs.Prelude.{IsTrue, Contains, find, filter, if◌then◌else◌, Option}
+-- What a call refuses in the root breaks a rule there: a number of a block outside the disk, and a name that is none.
+use Rattle.std.proofs.Common.{◌≡◌, ◌≢◌, ◌⊎◌, ℕ, ◌%◌, ◌/◌, ◌<◌, ◌≤◌, length, arith, Bool, true, false, ◌&&◌, ◌==◌, List, ◌∷◌, [], map, Some, inl, inr, refl, sym, ap, ◌∙◌, subst}
+use Rattle.std.specs.Prelude.{codes, IsTrue, not, Contains, find, filter, if◌then◌else◌, Option}
+use Rattle.std.specs.List.{AllByRecursion}
 use Rattle.std.specs.Str.{bytes_eq}
+use Rattle.std.proofs.lemmas.Bool.{both_ways, cases_Bool, cases_eq, cases_lt}
 use Rattle.std.proofs.lemmas.Slice.Eq.{bytes_eq-Decides}
+use Rattle.file_tree.specs.Names.{IsName, IsNameByte}
 use Rattle.file_tree.specs.declared.call.Call.{Call}
 use Rattle.gfs2_layout.specs.Area.{Slot, slots_of, name_of, has_name, first_named}
 use Rattle.gfs2_layout.specs.Device.{superblock_place}
 use Rattle.gfs2_layout.specs.Inode.{is_directory_in, is_hashed_in, linear_area, dinode_in}
 use Rattle.gfs2_layout.specs.Records.{Record, record_of, records_in, is_dots}
 use Rattle.gfs2_layout.specs.Structures.{dinode_of, is_directory, is_in_use}
-use Rattle.image_model.specs.Claims.{every, Claims, root, in_dinode}
+use Rattle.image_model.specs.Claims.{every, Claims, root, in_dinode, HasDirectory, behind_dinode}
 use Rattle.image_model.specs.Image.{Image, image_of, superblock_in}
 use Rattle.image_model.specs.Owners.{Root, Named}
-use Rattle.image_model.specs.Rules.{Breaks, beyond_device}
+use Rattle.image_model.specs.Rules.{Breaks, beyond_device, no_name}
 use Rattle.image_model.proofs.Members.{IsIn, contained, in_filter}
 use Rattle.shared_disk.specs.Disk.{DiskState}
-use Rattle.single_node.specs.Blocks.{CallRefuses, FarFile}
-use Rattle.single_node.specs.Flat.{HasFlatRoot, root_of, stuffed_part}
-use Rattle.single_node.specs.declared.end.Refusal.TheVariants as why
+use Rattle.single_node.specs.Blocks.{CallRefuses, BadFile, FarFile, BadName}
+use Rattle.single_node.specs.Flat.{HasFlatRoot, HasItsFileName, root_of, stuffed_part, names_a_file}
+use Rattle.single_node.specs.declared.end.Refusal.{Refusal}
+use Rattle.cluster_program.specs.Early.{broken_rule}
 use Rattle.single_node.proofs.Files.{both, name_is_no_dot}
 
 pub far_root : (d : DiskState) → d.count ≤ root_of d → Breaks (image_of d) 2 (superblock_place d.size)
@@ -61,6 +65,93 @@ module _ (d : DiskState) (block : List ℕ) (has : HasFlatRoot d block) where
       beyond_device (root_of d) s.head.inum.address (Named (root_of d) (name_of s))
       (in_dinode (superblock_place d.size) (root_of d) Root (record_of s) root refl is_dir is_linear record_in (ap is_dots same ∙ plain)) far
 
-pub far_file : (d : DiskState) (block : List ℕ) (call : Call) (b : ℕ) → HasFlatRoot d block → CallRefuses d block call b why.LeadsOut → Breaks (image_of d) 2 b
-far_file d block call b has (FarFile far reads outside is) =
-    subst (Breaks (image_of d) 2) (sym is) (far_record d block has reads.name reads.slot (name_is_no_dot reads.name reads.is_name) reads.found (subst (λ (n : ℕ). d.count ≤ n) reads.leads outside))
+-- ---- names that are none
+
+bytes_cases : (bytes : List ℕ) → AllByRecursion IsNameByte bytes ⊎ (AllByRecursion IsNameByte bytes → ⊥)
+bytes_cases [] = inl tt
+bytes_cases (b ∷ bytes) = elim (cases_eq b 0) [
+  | inl zero ↦ inr (λ all. all.0.0 zero)
+  | inr some ↦ elim (cases_eq b 47) [
+    | inl slash ↦ inr (λ all. all.0.1 slash)
+    | inr plain ↦ elim (bytes_cases bytes) [
+      | inl more ↦ inl ((some, plain), more)
+      | inr bad ↦ inr (λ all. bad all.1)
+    ]
+  ]
+]
+
+bytes_same : (a b : List ℕ) → (a ≡ b) ⊎ (a ≢ b)
+bytes_same a b = elim (cases_Bool (bytes_eq a b)) [
+  | inl so ↦ inl ((bytes_eq-Decides a b).0 so)
+  | inr non ↦ inr (λ same. both_ways (bytes_eq a b) non ((bytes_eq-Decides a b).1 same))
+]
+
+name_cases : (name : List ℕ) → IsName name ⊎ (IsName name → ⊥)
+name_cases name = elim (cases_lt 0 (length name)) [
+  | inr none ↦ inr (λ is. let never : ⊥ = omega (arith, none, is.some) in never)
+  | inl some ↦ elim (cases_lt 255 (length name)) [
+    | inl long ↦ inr (λ is. let never : ⊥ = omega (arith, long, is.short) in never)
+    | inr short ↦ elim (bytes_cases name) [
+      | inr bad ↦ inr (λ is. bad is.plain)
+      | inl plain ↦ elim (bytes_same name (codes ".")) [
+        | inl dot ↦ inr (λ is. is.not_dot dot)
+        | inr not_dot ↦ elim (bytes_same name (codes "..")) [
+          | inl dots ↦ inr (λ is. is.not_dots dots)
+          | inr not_dots ↦ inl (record { some = omega (arith, some); short = omega (arith, short); plain = plain; not_dot = not_dot; not_dots = not_dots })
+        ]
+      ]
+    ]
+  ]
+]
+
+-- a record of a file whose name is none
+record IsBadlyNamed (ss : List Slot) : Type 0 where
+  pub slot : Slot
+  pub there : IsIn slot ss
+  pub of_file : names_a_file slot ≡ true
+  pub bad : IsName (name_of slot) → ⊥
+
+behind : {s : Slot} {ss : List Slot} → IsBadlyNamed ss → IsBadlyNamed (s ∷ ss)
+behind bad = record { slot = bad.slot; there = inr bad.there; of_file = bad.of_file; bad = bad.bad }
+
+badly_named : (ss : List Slot) → (AllByRecursion HasItsFileName ss → ⊥) → IsBadlyNamed ss
+badly_named [] lacks = absurd (lacks tt)
+badly_named (s ∷ ss) lacks = elim (cases_Bool (names_a_file s)) [
+  | inr plain ↦ behind (badly_named ss (λ all. lacks ((λ names. absurd (subst IsTrue plain names)), all)))
+  | inl of_file ↦ elim (name_cases (name_of s)) [
+    | inl is ↦ behind (badly_named ss (λ all. lacks ((λ names. is), all)))
+    | inr bad ↦ record { slot = s; there = inl refl; of_file = of_file; bad = bad }
+  ]
+]
+
+module _ (d : DiskState) (block : List ℕ) (has : HasFlatRoot d block) where
+  in_root : HasDirectory (image_of d) (root_of d)
+  in_root = record { inode = (Root, record { by = superblock_place d.size; claimed = root; dinode = refl }); dir = is_dir d block has }
+
+  unnamed_record : (AllByRecursion HasItsFileName (slots_of (stuffed_part block)) → ⊥) → Breaks (image_of d) 9 (root_of d)
+  unfolding records_in
+  unnamed_record lacks =
+      let of = badly_named (slots_of (stuffed_part block)) lacks in
+      let named = both _ _ of.of_file in
+      let there = contained (record_of of.slot) _ (in_map record_of of.slot _ (in_filter (λ t. is_in_use t.head) of.slot (slots_of (stuffed_part block)) of.there named.0)) in
+      let record_in = subst (λ (b : List ℕ). Contains (records_in (stuffed_part b)) (record_of of.slot)) has.block_is there in
+      no_name (root_of d) (root_of d) (record_of of.slot) (_, behind_dinode in_root (is_linear d block has), record_in) (not_true (is_dots (name_of of.slot)) named.1) of.bad
+    where
+      not_true : (b : Bool) → not b ≡ true → b ≡ false
+      not_true true e = cc
+      not_true false e = refl
+
+-- what a call refuses breaks this rule, where it breaks one
+pub refused_breaks : (d : DiskState) (block : List ℕ) (call : Call) (b : ℕ) (r : Refusal) (rule : ℕ) → broken_rule r ≡ Some rule → HasFlatRoot d block → CallRefuses d block call b r → Breaks (image_of d) rule b
+refused_breaks d block call b _ rule is has (BadFile reads inside lacks) = cc
+refused_breaks d block call b _ rule is has (FarFile far reads outside at) =
+    subst (λ n. Breaks (image_of d) n b) (two is)
+    (subst (Breaks (image_of d) 2) (sym at) (far_record d block has reads.name reads.slot (name_is_no_dot reads.name reads.is_name) reads.found (subst (λ (n : ℕ). d.count ≤ n) reads.leads outside)))
+  where
+    two : Some 2 ≡ Some rule → 2 ≡ rule
+    two e = cc
+refused_breaks d block call b _ rule is has (BadName lists at lacks) =
+    subst (λ n. Breaks (image_of d) n b) (nine is) (subst (Breaks (image_of d) 9) (sym at) (unnamed_record d block has lacks))
+  where
+    nine : Some 9 ≡ Some rule → 9 ≡ rule
+    nine e = cc

@@ -21,6 +21,7 @@ use Rattle.shared_disk.specs.Disk.{DiskState}
 use Rattle.single_node.specs.Blocks.{RootRefused, OtherRoot, FarRoot}
 use Rattle.single_node.specs.Ends.{EndHasCause, IfNotRead, IfDiskFailed}
 use Rattle.single_node.specs.Flat.{HasSuperBlock, HasRoot, HasFlatRoot, IsFlatDirectory, root_of}
+use Rattle.single_node.specs.declared.end.Refusal.{Refusal}
 use Rattle.single_node.specs.declared.end.Refusal.TheVariants as why
 use Rattle.single_node.specs.declared.end.RunEnd.{RunEnd}
 use Rattle.single_node.specs.declared.end.RunEnd.TheVariants as end
@@ -61,6 +62,14 @@ root_end d mid first before now address (end.NotRead block why.LeadsOut) same la
   where
     far : (d : DiskState) (address block : ℕ) → address ≡ root_of d → RootRefused d address block why.LeadsOut → Breaks (image_of d) 2 block
     far d address block at (FarRoot is outside) = subst (Breaks (image_of d) 2) (sym is) (far_root d (subst (λ (a : ℕ). d.count ≤ a) at outside))
+root_end d mid first before now address (end.NotRead block why.BadName) same law at earlier cause refused failed =
+    let never : IsTrue d.tells → ⊥ = λ tells. no_name_read d address block why.BadName refl (subst (λ (s : DiskState). IsTrue s.tells → RootRefused s address block why.BadName) same refused tells) in
+    IsDamaged block 9 (λ tells. absurd (never tells)) (λ tells tree stands. never tells)
+  where
+    -- reading the root looks at none of its names
+    no_name_read : (d : DiskState) (address block : ℕ) (r : Refusal) → r ≡ why.BadName → RootRefused d address block r → ⊥
+    no_name_read d address block _ is (OtherRoot here inside other) = cc
+    no_name_read d address block _ is (FarRoot here outside) = cc
 root_end d mid first before now address end.NoMemory same law at earlier cause refused failed = LacksRoom
 
 -- ---- what the superblock is

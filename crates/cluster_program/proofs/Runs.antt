@@ -1,5 +1,5 @@
 -- How a run of a script ends.
-use Rattle.std.proofs.Common.{◌≡◌, ℕ, ◌≤◌, List, [], length, IsTrue, Some, sym, ◌∙◌, subst, arith}
+use Rattle.std.proofs.Common.{◌≡◌, ℕ, ◌≤◌, List, [], length, IsTrue, Some, refl, sym, ◌∙◌, subst, arith}
 use Rattle.fault_counts.specs.Causes.{WentUp}
 use Rattle.file_tree.specs.Tree.{Tree}
 use Rattle.file_tree.specs.declared.call.Call.{Call}
@@ -21,15 +21,15 @@ use Rattle.single_node.specs.declared.end.RunEnd.{RunEnd}
 use Rattle.single_node.specs.declared.end.RunEnd.TheVariants as end
 use Rattle.cluster_program.specs.declared.status.Status.{Status}
 use Rattle.cluster_program.specs.declared.status.Status.TheVariants as status
-use Rattle.cluster_program.specs.Course.{Runs, RunEnds, IsDone, NotMounted, CallFailed, CallRefused, CallLeadsOut, NoRoom, AtCall}
+use Rattle.cluster_program.specs.Course.{Runs, RunEnds, IsDone, NotMounted, CallFailed, CallRefused, CallDamaged, NoRoom, AtCall}
 use Rattle.single_node.specs.Blocks.{CallReads, CallRefuses, RefusesWhatIsTold, IsCallThat}
 use Rattle.single_node.specs.Run.{IsRunUpTo, IsWholeRun, IsRunOf, NotJoined, Taken, Unmounted}
 use Rattle.image_model.specs.Image.{image_of}
 use Rattle.image_model.specs.Rules.{Breaks}
 use Rattle.image_mount.specs.Mounted.{MountedValue, IsMounted}
 use Rattle.cluster_program.specs.Mounting.{OfImage, IsLeftClean, IsMountedClean, MountEnds, DiskFails, LiesOutside, IsDamaged, IsDirty, IsHashed, HasOtherRoot, LacksRoom}
-use Rattle.cluster_program.specs.Early.{status_of_end}
-use Rattle.cluster_program.proofs.Far.{far_file}
+use Rattle.cluster_program.specs.Early.{broken_rule, status_of_end}
+use Rattle.cluster_program.proofs.Far.{refused_breaks}
 
 -- a count went up within a longer time too
 pub longer : (first before now x y : ℕ) → first ≤ before → WentUp before now x y → WentUp first now x y
@@ -56,12 +56,20 @@ at_root disk root s items block why begins there = record {
   holds = of_call {Q = λ call. IsTrue disk.tells → CallRefuses disk root call block why} there.next (λ call refuses tells. refuses tells (begins tells)) there.holds;
 }
 
-call_leads_out : (disk : DiskState) (root : List ℕ) (block : ℕ) (l : Line) → HasFlatRoot disk root → IsTrue disk.tells
-    → IsCallThat (λ call. IsTrue disk.tells → CallRefuses disk root call block why.LeadsOut) l → Breaks (image_of disk) 2 block
-call_leads_out disk root block (line.Call client call) has tells refuses = far_file disk root call block has (refuses tells)
-call_leads_out disk root block line.Wait has tells refuses = absurd refuses
-call_leads_out disk root block (line.Crash nodes) has tells refuses = absurd refuses
-call_leads_out disk root block (line.Join node) has tells refuses = absurd refuses
+call_breaks : (disk : DiskState) (root : List ℕ) (block : ℕ) (r : Refusal) (rule : ℕ) → broken_rule r ≡ Some rule → (l : Line) → HasFlatRoot disk root → IsTrue disk.tells
+    → IsCallThat (λ call. IsTrue disk.tells → CallRefuses disk root call block r) l → Breaks (image_of disk) rule block
+call_breaks disk root block r rule is (line.Call client call) has tells refuses = refused_breaks disk root call block r rule is has (refuses tells)
+call_breaks disk root block r rule is line.Wait has tells refuses = absurd refuses
+call_breaks disk root block r rule is (line.Crash nodes) has tells refuses = absurd refuses
+call_breaks disk root block r rule is (line.Join node) has tells refuses = absurd refuses
+
+-- an end in a call that met what breaks a rule
+call_damaged : (disk mid : DiskState) (first now : ℕ → ℕ) (s : ScriptValue) (items : List TraceItem) (root : List ℕ) (block rule : ℕ) (r : Refusal) → broken_rule r ≡ Some rule → mid ≡ disk
+    → (IsTrue disk.tells → HasFlatRoot disk root) → ((tree : Tree) → IsStart mid root tree → ⊥) → AtCall mid root s items (λ call. RefusesWhatIsTold mid root call block r)
+    → RunEnds disk first now s items (status.Damaged block rule)
+call_damaged disk mid first now s items root block rule r is same begins other refused =
+    let here = at_root disk root s items block r begins (subst (λ (d : DiskState). AtCall d root s items (λ call. RefusesWhatIsTold d root call block r)) same refused) in
+    CallDamaged root block rule r is (λ tree flat. other tree (may_start disk mid root tree same begins flat)) begins here (λ tells. call_breaks disk root block r rule is here.next (begins tells) tells here.holds)
 
 -- an end in a call, of a run on the same disk
 pub call_end : (disk mid : DiskState) (first before now : ℕ → ℕ) (s : ScriptValue) (items : List TraceItem) (root : List ℕ) (e : RunEnd) → mid ≡ disk
@@ -77,8 +85,9 @@ call_end disk mid first before now s items root (end.NotRead block why.Form) sam
     let here = subst (λ (d : DiskState). AtCall d root s items (λ call. RefusesWhatIsTold d root call block why.Form)) same refused in
     CallRefused root block (λ tree flat. other tree (may_start disk mid root tree same begins flat)) begins (at_root disk root s items block why.Form begins here)
 call_end disk mid first before now s items root (end.NotRead block why.LeadsOut) same begins earlier cause other refused failed =
-    let here = at_root disk root s items block why.LeadsOut begins (subst (λ (d : DiskState). AtCall d root s items (λ call. RefusesWhatIsTold d root call block why.LeadsOut)) same refused) in
-    CallLeadsOut root block (λ tree flat. other tree (may_start disk mid root tree same begins flat)) begins here (λ tells. call_leads_out disk root block here.next (begins tells) tells here.holds)
+    call_damaged disk mid first now s items root block 2 why.LeadsOut refl same begins other refused
+call_end disk mid first before now s items root (end.NotRead block why.BadName) same begins earlier cause other refused failed =
+    call_damaged disk mid first now s items root block 9 why.BadName refl same begins other refused
 call_end disk mid first before now s items root end.NoMemory same begins earlier cause other refused failed = NoRoom
 
 -- ---- the same items, from what may be a start now
@@ -142,6 +151,7 @@ pub never_done : (e : RunEnd) → status_of_end e ≡ status.Done → ⊥
 never_done (end.DiskFailed node block rise) is = cc
 never_done (end.NotRead block why.Form) is = cc
 never_done (end.NotRead block why.LeadsOut) is = cc
+never_done (end.NotRead block why.BadName) is = cc
 never_done end.NoMemory is = cc
 
 pub mount_never_done : (disk : DiskState) (first now : ℕ → ℕ) (own : Status) → MountEnds disk first now own → own ≡ status.Done → ⊥

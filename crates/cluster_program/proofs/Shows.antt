@@ -14,13 +14,13 @@ use Rattle.single_node.specs.declared.end.Refusal.TheVariants as why
 use Rattle.single_node.specs.declared.end.RunEnd.{RunEnd}
 use Rattle.single_node.specs.declared.end.RunEnd.TheVariants as end
 use Rattle.single_node.proofs.Blocks.{none_refused}
-use Rattle.cluster_program.specs.Course.{Shows, HasShown, ShowsNone, TreeFailed, TreeRefused, TreeLeadsOut, NothingHeld, clean_of}
-use Rattle.cluster_program.specs.Early.{status_of_end}
+use Rattle.cluster_program.specs.Course.{Shows, HasShown, ShowsNone, TreeFailed, TreeRefused, TreeDamaged, NothingHeld, clean_of}
+use Rattle.cluster_program.specs.Early.{broken_rule, status_of_end}
 use Rattle.cluster_program.specs.Mounting.{OfImage, MountEnds, DiskFails, LiesOutside, IsDamaged, IsDirty, IsHashed, HasOtherRoot, LacksRoom, IsLeftClean}
 use Rattle.cluster_program.specs.Report.{IsSinkFault}
 use Rattle.cluster_program.specs.declared.status.Status.{Status}
 use Rattle.cluster_program.specs.declared.status.Status.TheVariants as status
-use Rattle.cluster_program.proofs.Far.{far_file}
+use Rattle.cluster_program.proofs.Far.{refused_breaks}
 use Rattle.cluster_program.proofs.Runs.{longer, may_start}
 
 -- of the root that was read
@@ -32,6 +32,11 @@ never_flat : (d : DiskState) (root : List ℕ) (block : ℕ) (r : Refusal) → (
 never_flat d root block r begins (call, refuses) tree flat =
     none_refused d root call block r tree (may_start d d root tree refl begins flat) (refuses flat.tells (begins flat.tells))
 
+tree_damaged : (d : DiskState) (first now : ℕ → ℕ) (root : List ℕ) (block rule : ℕ) (r : Refusal) → broken_rule r ≡ Some rule → (IsTrue d.tells → HasFlatRoot d root) → TreeRefuses d root block r
+    → Shows d first now [] (status.Damaged block rule)
+tree_damaged d first now root block rule r is begins here =
+    TreeDamaged root block rule r is (never_flat d root block r begins here) begins here (λ tells. refused_breaks d root here.0 block r rule is (begins tells) (here.1 tells (begins tells)))
+
 pub tree_end : (d mid : DiskState) (first before now : ℕ → ℕ) (root : List ℕ) (e : RunEnd) → mid ≡ d → (IsTrue d.tells → HasFlatRoot d root) → ((j : ℕ) → first j ≤ before j) → EndHasCause 0 before now e
     → IfNotRead e (λ b r. TreeRefuses mid root b r) → IfDiskFailed e (λ b. TreeReads root b) → Shows d first now [] (status_of_end e)
 tree_end d mid first before now root (end.DiskFailed node block rise) same begins earlier cause refused failed =
@@ -41,8 +46,9 @@ tree_end d mid first before now root (end.NotRead block why.Form) same begins ea
     let here = subst (λ (s : DiskState). TreeRefuses s root block why.Form) same refused in
     TreeRefused root block (never_flat d root block why.Form begins here) begins here
 tree_end d mid first before now root (end.NotRead block why.LeadsOut) same begins earlier cause refused failed =
-    let here = subst (λ (s : DiskState). TreeRefuses s root block why.LeadsOut) same refused in
-    TreeLeadsOut root block (never_flat d root block why.LeadsOut begins here) begins here (λ tells. far_file d root here.0 block (begins tells) (here.1 tells (begins tells)))
+    tree_damaged d first now root block 2 why.LeadsOut refl begins (subst (λ (s : DiskState). TreeRefuses s root block why.LeadsOut) same refused)
+tree_end d mid first before now root (end.NotRead block why.BadName) same begins earlier cause refused failed =
+    tree_damaged d first now root block 9 why.BadName refl begins (subst (λ (s : DiskState). TreeRefuses s root block why.BadName) same refused)
 tree_end d mid first before now root end.NoMemory same begins earlier cause refused failed = NothingHeld
 
 module _ (d mid : DiskState) (first now : ℕ → ℕ) (m : MountedValue) (root empty journals lines : List ℕ) (clean : List Bool) (same : mid ≡ d) (mounted : OfImage d (λ im. IsMounted im m)) (left_clean : IsLeftClean m)
@@ -72,5 +78,5 @@ no_sink_fault d first now lines own (ShowsNone own' ends) = no_mount_fault d fir
     no_mount_fault d first now own LacksRoom never = never
 no_sink_fault d first now lines own (TreeFailed root block x y up begins reads) = λ never. never
 no_sink_fault d first now lines own (TreeRefused root block other begins refuses) = λ never. never
-no_sink_fault d first now lines own (TreeLeadsOut root block other begins refuses breaks) = λ never. never
+no_sink_fault d first now lines own (TreeDamaged root block rule why is other begins refuses breaks) = λ never. never
 no_sink_fault d first now lines own NothingHeld = λ never. never

@@ -27,7 +27,9 @@ use Rattle.shared_disk.specs.Disk.{DiskState}
 use Rattle.single_node.specs.Flat.{IsFlat, HasFlatRoot, IsStart}
 use Rattle.single_node.specs.Blocks.{CallReads, CallRefuses, EndsAtCall}
 use Rattle.single_node.specs.Shown.{TreeReads, TreeRefuses}
+use Rattle.single_node.specs.declared.end.Refusal.{Refusal}
 use Rattle.single_node.specs.declared.end.Refusal.TheVariants as refusal
+use Rattle.cluster_program.specs.Early.{broken_rule}
 use Rattle.image_model.specs.Rules.{Breaks}
 use Rattle.image_model.specs.Stands.{Stands}
 use Rattle.image_mount.specs.Mounted.{Journal, MountedValue, IsMounted}
@@ -139,8 +141,8 @@ abbrev pub AtCall : DiskState → List ℕ → ScriptValue → List TraceItem �
 AtCall disk root s items P = EndsAtCall P s.clients s.lines items (IsStart disk root)
 
 -- How a run ends: each line is answered and the node has unmounted; the image was not mounted, before the first item; the
--- disk failed in a call, behind the lines above it; a call met, likewise, a block of a form that is not built, or a number
--- of a block outside the disk; or there was no memory.
+-- disk failed in a call, behind the lines above it; a call met, likewise, a block of a form that is not built, or one
+-- that breaks a rule: it has the number of a block outside the disk, or a name that is none; or there was no memory.
 pub data RunEnds (disk : DiskState) (faults faults_now : ℕ → ℕ) (s : ScriptValue) (items : List TraceItem) : Status → Type 0 where
   IsDone : AllAnswered items s → IsWholeRun s.clients s.lines items (IsFlat disk) → RunEnds disk faults faults_now s items status.Done
   NotMounted : (own : Status) → items ≡ [] → MountEnds disk faults faults_now own → RunEnds disk faults faults_now s items own
@@ -149,9 +151,9 @@ pub data RunEnds (disk : DiskState) (faults faults_now : ℕ → ℕ) (s : Scrip
   CallRefused : (root : List ℕ) (block : ℕ) → ((tree : Tree) → IsFlat disk tree → ⊥) → (IsTrue disk.tells → HasFlatRoot disk root)
       → AtCall disk root s items (λ call. IsTrue disk.tells → CallRefuses disk root call block refusal.Form)
       → RunEnds disk faults faults_now s items (status.NotBuilt (part.Block block))
-  CallLeadsOut : (root : List ℕ) (block : ℕ) → ((tree : Tree) → IsFlat disk tree → ⊥) → (IsTrue disk.tells → HasFlatRoot disk root)
-      → AtCall disk root s items (λ call. IsTrue disk.tells → CallRefuses disk root call block refusal.LeadsOut) → OfImage disk (λ im. Breaks im 2 block)
-      → RunEnds disk faults faults_now s items (status.Damaged block 2)
+  CallDamaged : (root : List ℕ) (block rule : ℕ) (why : Refusal) → broken_rule why ≡ Some rule → ((tree : Tree) → IsFlat disk tree → ⊥) → (IsTrue disk.tells → HasFlatRoot disk root)
+      → AtCall disk root s items (λ call. IsTrue disk.tells → CallRefuses disk root call block why) → OfImage disk (λ im. Breaks im rule block)
+      → RunEnds disk faults faults_now s items (status.Damaged block rule)
   NoRoom : RunEnds disk faults faults_now s items status.NoMemory
 
 pub record Runs (disk disk_now : DiskState) (faults faults_now : ℕ → ℕ) (s : ScriptValue) (items : List TraceItem) (own : Status) : Type 0 where
@@ -174,10 +176,10 @@ pub record Runs (disk disk_now : DiskState) (faults faults_now : ℕ → ℕ) (s
 abbrev pub clean_of : MountedValue → List Bool
 clean_of m = map (λ (j : Journal). j.head.clean) m.journals
 
--- What `show` prints, and how it ends: the image was mounted, and its journals were left clean; a line for each of them and the lines of the tree that a flat image holds, and of that
--- which the image stands for; or nothing, since the image was
--- not mounted, the disk failed at a file, a file is of a form that is not built or its number is one of a block outside the disk,
--- or there was no memory.
+-- What `show` prints, and how it ends: the image was mounted, and its journals were left clean; a line for each of them and
+-- the lines of the tree that a flat image holds, and of that which the image stands for; or nothing, since the image was not
+-- mounted, the disk failed at a file, a file is of a form that is not built, the root has the number of a block outside the
+-- disk or a name that is none, or there was no memory.
 pub data Shows (disk : DiskState) (faults faults_now : ℕ → ℕ) : List ℕ → Status → Type 0 where
   HasShown : (m : MountedValue) (lines : List ℕ) → OfImage disk (λ im. IsMounted im m) → IsLeftClean m
       → ((tree : Tree) → IsFlat disk tree → lines ≡ journal_lines 0 (clean_of m) ++ tree_lines [] tree)
@@ -187,8 +189,8 @@ pub data Shows (disk : DiskState) (faults faults_now : ℕ → ℕ) : List ℕ �
       → Shows disk faults faults_now [] (status.DeviceFault 0 (Some block) x y)
   TreeRefused : (root : List ℕ) (block : ℕ) → ((tree : Tree) → IsFlat disk tree → ⊥) → (IsTrue disk.tells → HasFlatRoot disk root)
       → TreeRefuses disk root block refusal.Form → Shows disk faults faults_now [] (status.NotBuilt (part.Block block))
-  TreeLeadsOut : (root : List ℕ) (block : ℕ) → ((tree : Tree) → IsFlat disk tree → ⊥) → (IsTrue disk.tells → HasFlatRoot disk root)
-      → TreeRefuses disk root block refusal.LeadsOut → OfImage disk (λ im. Breaks im 2 block) → Shows disk faults faults_now [] (status.Damaged block 2)
+  TreeDamaged : (root : List ℕ) (block rule : ℕ) (why : Refusal) → broken_rule why ≡ Some rule → ((tree : Tree) → IsFlat disk tree → ⊥) → (IsTrue disk.tells → HasFlatRoot disk root)
+      → TreeRefuses disk root block why → OfImage disk (λ im. Breaks im rule block) → Shows disk faults faults_now [] (status.Damaged block rule)
   NothingHeld : Shows disk faults faults_now [] status.NoMemory
 
 -- ---- the command: refusals come in this order, each before anything that follows it is touched; its items are those of a run, its lines those of a show

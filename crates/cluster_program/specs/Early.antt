@@ -1,9 +1,10 @@
 -- What status an early end of a part has.
-use Rattle.std.specs.Prelude.{Some}
+use Rattle.std.specs.Prelude.{ℕ, Option, None, Some}
 use Rattle.script_lang.specs.declared.parser.ScriptRefusal.{ScriptRefusal}
 use Rattle.script_lang.specs.declared.parser.ScriptRefusal.TheVariants as refusal
 use Rattle.image_mount.specs.declared.fault.MountFault.{MountFault}
 use Rattle.image_mount.specs.declared.fault.MountFault.TheVariants as fault
+use Rattle.single_node.specs.declared.end.Refusal.{Refusal}
 use Rattle.single_node.specs.declared.end.Refusal.TheVariants as why
 use Rattle.single_node.specs.declared.end.RunEnd.{RunEnd}
 use Rattle.single_node.specs.declared.end.RunEnd.TheVariants as end
@@ -13,11 +14,20 @@ use Rattle.cluster_program.specs.declared.status.Status.{Status}
 use Rattle.cluster_program.specs.declared.status.Status.TheVariants as status
 use Rattle.cluster_program.specs.declared.status.Part.TheVariants as part
 
+-- the rule that a refused block breaks, where it breaks one
+abbrev pub broken_rule : Refusal → Option ℕ
+broken_rule why.Form = None
+broken_rule why.LeadsOut = Some 2
+broken_rule why.BadName = Some 9
+
+abbrev pub status_of_refused : ℕ → Option ℕ → Status
+status_of_refused block None = status.NotBuilt (part.Block block)
+status_of_refused block (Some rule) = status.Damaged block rule
+
 -- of a run
 abbrev pub status_of_end : RunEnd → Status
 status_of_end (end.DiskFailed node block rise) = status.DeviceFault node (Some block) rise.before rise.after
-status_of_end (end.NotRead block why.Form) = status.NotBuilt (part.Block block)
-status_of_end (end.NotRead block why.LeadsOut) = status.Damaged block 2
+status_of_end (end.NotRead block why) = status_of_refused block (broken_rule why)
 status_of_end end.NoMemory = status.NoMemory
 
 -- of a mount

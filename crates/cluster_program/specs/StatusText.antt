@@ -12,7 +12,7 @@ use Rattle.cluster_program.specs.declared.status.Part.{Part}
 use Rattle.cluster_program.specs.declared.status.Part.TheVariants as part
 use Rattle.image_mount.specs.declared.field.Field.{Field}
 use Rattle.image_mount.specs.declared.field.Field.TheVariants as field
-use Rattle.cluster_program.specs.declared.status.Waits.{Waits}
+use Rattle.glock_names.specs.declared.Waits.{Waits}
 
 abbrev pub field_text : Field → List ℕ
 field_text field.FsFormat = codes "fs_format"

@@ -56,6 +56,10 @@ pub(crate) fn status_of_end(end: RunEnd) -> Status
             block,
             why: Refusal::LeadsOut,
         } => Status::Damaged { block, rule: 2 },
+        RunEnd::NotRead {
+            block,
+            why: Refusal::BadName,
+        } => Status::Damaged { block, rule: 9 },
         RunEnd::NoMemory => Status::NoMemory,
     }
 }

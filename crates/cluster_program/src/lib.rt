@@ -4,8 +4,6 @@
 mod end_status;
 mod image;
 mod input;
-#[cfg(test)]
-mod make_tests;
 mod mounting;
 mod output;
 mod places;
@@ -16,11 +14,10 @@ mod show;
 mod status;
 mod status_text;
 mod streams;
-#[cfg(test)]
-mod tests;
 mod top;
 mod words;
 
 pub use image_mount::Field;
-pub use status::{Part, Status, Waits, Which};
+pub use glock_names::Waits;
+pub use status::{Part, Status, Which};
 pub use top::{Ended, gfs2run, gfs2run_alone};

@@ -19,16 +19,6 @@ pub enum Part {
     Block { block: u64 },
 }
 
-/// A client, by its place in the script from 0, that waits for a lock in a state, and the nodes that hold it:
-/// bit i is that of node i.
-#[derive(Clone, Copy, Debug, PartialEq, Eq)]
-pub struct Waits {
-    pub client: u32,
-    pub lock: LockName,
-    pub state: State,
-    pub holders: u16,
-}
-
 /// How a command ended.
 #[derive(Drop)]
 pub enum Status {

@@ -24,3 +24,8 @@ packed (a ∷ []) = byte_of a 0 0 0 ∷ []
 packed (a ∷ b ∷ []) = byte_of a b 0 0 ∷ []
 packed (a ∷ b ∷ c ∷ []) = byte_of a b c 0 ∷ []
 packed (a ∷ b ∷ c ∷ d ∷ rest) = byte_of a b c d ∷ packed rest
+
+-- how many blocks the bitmap of a group of this length, in blocks of this size, has bits for: its first block begins with a
+-- header of 128 bytes, and each further one with a header of 24
+abbrev pub bitmap_room : ℕ → ℕ → ℕ
+bitmap_room size len = 4 * (size - 128 + (len - 1) * (size - 24))

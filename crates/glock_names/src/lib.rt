@@ -34,7 +34,8 @@ pub struct LockName {
     pub number: u64,
 }
 
-/// A client whose line waits for a glock. Bit i of `holders` is set where node i stands in its way.
+/// A client, by its place in the script from 0, whose line waits for a glock in a state. Bit i of `holders` is set where node
+/// i stands in its way.
 #[derive(Clone, Copy, Debug, PartialEq, Eq)]
 pub struct Waits {
     pub client: u32,

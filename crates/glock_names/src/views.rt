@@ -28,7 +28,8 @@ pub trait View {
         ensures some { IfSome result (λ bytes. (seen self.now).block_at block ≡ Some bytes.now) }
         ensures none { IfNone result ((seen self.now).block_at block ≡ None) };
 
-    /// The resource groups, at most 64.
+    /// The resource groups, such as mounting accepts: at most 64, one behind another above the superblock, each with bits for
+    /// its data blocks, and the last of them ends within the blocks that a device has at most.
     fn groups(&self) -> &[Group]
         ensures { result.now ≡ (seen self.now).groups };
 

@@ -105,6 +105,21 @@ module _ (im : Image) (owners : Owners) (l : Layout) (laid : IsLaid im owners l)
   pub rindex_dinode : is_dinode (owners l.rindex) ≡ true
   rindex_dinode = ap is_dinode (leads_row l.master (codes "rindex") l.rindex (child_leads l.master (codes "rindex") l.rindex laid.system.rindex))
 
+  directory_thing : (h : Holding) → thing_of h ≡ ADir → is_directory_in h ≡ true
+  directory_thing h e = elim (cases_Bool (is_directory_in h)) [
+    | inl dir ↦ dir
+    | inr plain ↦ absurd (differ (sym (cond-false _ _ _ plain) ∙ e))
+  ]
+    where
+      differ : AFile (content_of h) ≡ ADir → ⊥
+      differ e = cc
+
+  pub jindex_directory : is_directory_in (every im l.jindex) ≡ true
+  jindex_directory =
+      let dinode = ap is_dinode (leads_row l.master (codes "jindex") l.jindex (child_leads l.master (codes "jindex") l.jindex laid.system.jindex)) in
+      sym (directory_is im owners l laid l.jindex dinode)
+      ∙ directory_thing (holding im owners l.jindex) (ap (λ (n : Node). n.thing) (sym (cond-true _ (node_of (holding im owners l.jindex)) no_node dinode)) ∙ laid.system.directory)
+
   file_content : (h : Holding) (bytes : List ℕ) → thing_of h ≡ AFile bytes → (is_directory_in h ≡ false) × (content_of h ≡ bytes)
   file_content h bytes e = elim (cases_Bool (is_directory_in h)) [
     | inl dir ↦ absurd (differ (sym (cond-true _ _ _ dir) ∙ e))
@@ -136,5 +151,4 @@ module _ (im : Image) (owners : Owners) (l : Layout) (laid : IsLaid im owners l)
   pub journal_is : (j d : ℕ) → HasJournal im j d → (is_dinode (owners d) ≡ true) × IsJournal (holding im owners d)
   journal_is j d has =
       let way : LeadsTo im l.jindex (journal_name j) d = subst (λ a. LeadsTo im a (journal_name j) d) (jindex_is has.0 has.1) has.2 in
-      let at = laid.system.others (journal_name j) d (leads_child_of l.jindex (journal_name j) d way) in
-      (ap is_dinode (leads_row l.jindex (journal_name j) d way), laid.system.rings at.0 d at.1)
+      (ap is_dinode (leads_row l.jindex (journal_name j) d way), laid.system.rings j d (leads_child_of l.jindex (journal_name j) d way))

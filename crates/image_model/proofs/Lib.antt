@@ -19,3 +19,5 @@ pub mod Nothing
 pub mod Table
 pub mod Order
 pub mod Listing
+pub mod JournalNames
+pub mod Reached

@@ -12,7 +12,8 @@ use Rattle.gfs2_layout.specs.declared.rindex.Rindex.{Rindex}
 use Rattle.gfs2_layout.specs.Device.{superblock_place}
 use Rattle.image_model.specs.Claims.{every, IsRindex, HasGroup}
 use Rattle.gfs2_layout.specs.Inode.{content_of}
-use Rattle.image_model.specs.Groups.{groups_in, entry_length, IsGroupAt, IsListed, IsNear, GroupFits, bitmap_room, end_of}
+use Rattle.gfs2_layout.specs.Bitmap.{bitmap_room}
+use Rattle.image_model.specs.Groups.{groups_in, entry_length, IsGroupAt, IsListed, IsNear, GroupFits, end_of}
 use Rattle.image_model.specs.Image.{Image}
 use Rattle.image_model.specs.Listing.{RiseFrom, end_after}
 use Rattle.image_model.specs.Rules.{Breaks, unfit, not_rising, bare}

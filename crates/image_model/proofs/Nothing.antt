@@ -9,7 +9,7 @@ use Rattle.image_model.specs.Owners.{Owners, parent_of}
 use Rattle.image_model.specs.Stands.{Layout, IsLaid, Stands}
 use Rattle.image_model.specs.Rules
 use Rattle.image_model.specs.Rules.{Breaks}
-use Rattle.image_model.proofs.Facts.{has_dinode, inode_row, has_rindex, has_jindex}
+use Rattle.image_model.proofs.Facts.{has_dinode, inode_row, has_rindex, has_jindex, jindex_directory}
 use Rattle.image_model.proofs.Unbroken.{header_there, on_device, in_a_group, one_owner, has_group, bits_right, free_counted, dinodes_counted}
 use Rattle.image_model.proofs.UnbrokenInodes as inodes
 use Rattle.image_model.proofs.UnbrokenRecords as records
@@ -27,7 +27,6 @@ module _ (im : Image) (owners : Owners) (l : Layout) (laid : IsLaid im owners l)
   laid_breaks_nothing _ _ (Rules.other_data_blocks g has d) = d (has_group im owners l laid g has).data_blocks
   laid_breaks_nothing _ _ (Rules.other_bitbytes g has d) = d (has_group im owners l laid g has).bitbytes
   laid_breaks_nothing _ _ (Rules.wrong_bits g b has of wrong) = bits_right im owners l laid g b has of wrong
-  laid_breaks_nothing _ _ (Rules.has_wrong_bits g b has of wrong) = bits_right im owners l laid g b has of wrong
   laid_breaks_nothing _ _ (Rules.free_count g has d) = d (free_counted im owners l laid g has)
   laid_breaks_nothing _ _ (Rules.dinode_count g has d) = d (dinodes_counted im owners l laid g has)
   laid_breaks_nothing _ _ (Rules.other_address a has d) = d (inodes.address_is im owners l laid a has)
@@ -71,7 +70,7 @@ module _ (im : Image) (owners : Owners) (l : Layout) (laid : IsLaid im owners l)
   laid_breaks_nothing _ _ (Rules.leaf_hash a x by hash place r claim there d) = d (inodes.leaf_hashes im owners l laid a x (by, hash, place, claim) r there)
   laid_breaks_nothing _ _ (Rules.comes_again a hash x by by' place later claim other low) = absurd (omega (arith, low, inodes.chain_once im owners l laid a hash x by by' place later claim other))
   laid_breaks_nothing _ _ (Rules.leads_back a hash x by by' place later claim other low) = absurd (omega (arith, low, inodes.chain_once im owners l laid a hash x by by' place later claim other))
-  laid_breaks_nothing _ _ (Rules.no_jindex none) = none l.jindex (has_jindex im owners l laid)
+  laid_breaks_nothing _ _ (Rules.no_jindex none) = none l.jindex (has_jindex im owners l laid) (jindex_directory im owners l laid)
   laid_breaks_nothing _ _ (Rules.headless j d has none) = system.journal_headed im owners l laid j d has none
   laid_breaks_nothing _ _ (Rules.no_rindex none) = none l.rindex (has_rindex im owners l laid)
   laid_breaks_nothing _ _ (Rules.part_of_entry d is e) = e (system.list_whole im owners l laid d is)

@@ -76,13 +76,6 @@ module _ (im : Image) (owners owners' : Owners) (l l' : Layout) (laid : IsLaid i
       bytes : {x y : List ℕ} → AFile x ≡ AFile y → x ≡ y
       bytes e = cc
 
-  -- the journals of one are journals of the other
-  pub journals_same : (j d : ℕ) → IsJournalAt l j d → (k : ℕ) × IsJournalAt l' k d
-  journals_same j d at =
-      let child : (flat_of im owners' l'.jindex).child (journal_name j) ≡ Some d = (λ i. (sym same i (sym jindexes_same i)).child (journal_name j)) ∙ laid.system.journals j d at in
-      let other = laid'.system.others (journal_name j) d child in
-      (other.0, other.1)
-
   -- each block has one owner
   pub owners_same : (b : ℕ) → owners b ≡ owners' b
   owners_same b = elim (used_or_not (owners b)) [

@@ -5,7 +5,7 @@ use Rattle.gfs2_layout.specs.Bytes.{slice}
 use Rattle.gfs2_layout.specs.Structures.{rindex_of, group_of}
 use Rattle.gfs2_layout.specs.declared.rindex.Rindex.{Rindex}
 use Rattle.gfs2_layout.specs.declared.group_header.GroupHeader.{GroupHeader}
-use Rattle.gfs2_layout.specs.Bitmap.{state_at}
+use Rattle.gfs2_layout.specs.Bitmap.{state_at, bitmap_room}
 use Rattle.gfs2_layout.specs.Headers.{HasHeader}
 use Rattle.gfs2_layout.specs.Device.{superblock_place}
 use Rattle.image_model.specs.Image.{Image, Blocks}
@@ -47,10 +47,6 @@ pub record IsDataOf (g : Rindex) (b : ℕ) : Type 0 where
 pub record IsNear (g : Rindex) (b : ℕ) : Type 0 where
   pub low : g.address ≤ b
   pub high : b < end_of g + 3
-
--- how many blocks the bitmap of a group of this length has bits for: its first block has a header of 128 bytes
-abbrev pub bitmap_room : ℕ → ℕ → ℕ
-bitmap_room size len = 4 * (size - 128 + (len - 1) * (size - 24))
 
 -- a group that lies on the device, above the superblock, and whose bitmap has bits for its data blocks
 pub record GroupFits (im : Image) (g : Rindex) : Type 0 where

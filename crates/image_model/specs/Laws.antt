@@ -5,7 +5,7 @@ use Rattle.file_tree.specs.Tree.{Tree}
 use Rattle.image_model.specs.Image.{Image}
 use Rattle.image_model.specs.Claims.{every, Claims}
 use Rattle.image_model.specs.Journals.{IsJournal}
-use Rattle.image_model.specs.Rules.{Breaks}
+use Rattle.image_model.specs.Rules.{Breaks, IsReached}
 use Rattle.gfs2_layout.specs.declared.dinode.Dinode.{Dinode}
 use Rattle.gfs2_layout.specs.Journal.{ring_of, head_in}
 use Rattle.image_model.specs.Owners.{Owner, Owners, Below, Chained, is_dinode, IsUsed, holding}
@@ -25,6 +25,10 @@ OneTable = (im : Image) (owners other : Owners) (l m : Layout) → IsLaid im own
 -- an image that stands for a tree breaks no rule
 abbrev pub NothingBreaks : Type 0
 NothingBreaks = (im : Image) (t : Tree) → Stands im t → (rule b : ℕ) → Breaks im rule b → ⊥
+
+-- a look over the image comes to each block that breaks a rule
+abbrev pub BrokenAreReached : Type 0
+BrokenAreReached = (im : Image) (rule b : ℕ) → Breaks im rule b → IsReached im b
 
 -- the records of a directory in another order are a directory's too, and each name leads where it led
 abbrev pub AnyOrder : Type 0

@@ -1,6 +1,6 @@
 -- What breaks which rule at which block: of any image, without a table of owners.
 -- Two rules come with the replay of journals: that of a bad chunk, 17, and that of a block that is live in two journals, 20.
-use Rattle.std.specs.Prelude.{ℕ, suc, ◌≡◌, ◌≢◌, ◌+◌, ◌-◌, ◌*◌, ◌/◌, ◌%◌, ◌<◌, ◌≤◌, true, false, nat_lt, if◌then◌else◌, List, length, codes, slice_get, flat_map, Contains, None, Some}
+use Rattle.std.specs.Prelude.{ℕ, suc, ◌≡◌, ◌≢◌, ◌⊎◌, ◌+◌, ◌-◌, ◌*◌, ◌/◌, ◌%◌, ◌<◌, ◌≤◌, true, false, List, length, codes, slice_get, flat_map, Contains, None, Some}
 use Rattle.std.specs.List.Sorted.{IsStrictlyIncreasing}
 use Rattle.file_tree.specs.Names.{IsName}
 use Rattle.file_tree.specs.Apply.{file_limit}
@@ -11,7 +11,7 @@ use Rattle.gfs2_layout.specs.Area.{Slot, name_of, slots_of, IsArea}
 use Rattle.gfs2_layout.specs.declared.rindex.Rindex.{Rindex}
 use Rattle.gfs2_layout.specs.Bitmap.{state_at}
 use Rattle.image_model.specs.Claims.{every, Claims, IsInodeAt, HasInode, HasDirectory, HasLeaf, HasArea, master_of, IsRindex, IsJindex, HasGroup, HasJournal, IsUnder}
-use Rattle.image_model.specs.Groups.{groups_in, entry_length, IsGroupAt, IsListed, end_of, IsDataOf, IsNear, GroupFits, group_blocks, bitmap_of, group_header, states_in, state_of, count_of}
+use Rattle.image_model.specs.Groups.{groups_in, entry_length, IsGroupAt, IsListed, end_of, IsHeaderOf, IsDataOf, IsNear, GroupFits, group_blocks, bitmap_of, group_header, states_in, state_of, count_of}
 use Rattle.gfs2_layout.specs.Inode.{Leads, entry_block, dinode_in, height_in, is_directory_in, is_hashed_in, fan, span, content_block, content_of, content_count, table_count, depth_in, entry, index_bits, leaf_in, leaf_area, linear_area, top_bits, head_of}
 use Rattle.image_model.specs.Image.{Image, superblock_in}
 use Rattle.gfs2_layout.specs.Headers.{HasHeader}
@@ -37,12 +37,6 @@ IsOutside im c = (g : Rindex) → HasGroup im g → ¬ (IsDataOf g c)
 
 abbrev pub bits_of : Image → Rindex → ℕ → ℕ
 bits_of im g b = state_at (bitmap_of (group_blocks im.at g)) (b - g.data0)
-
--- the block of the group's bitmap that has the bits of a data block
-abbrev pub bits_block : ℕ → Rindex → ℕ → ℕ
-bits_block size g b =
-    let byte = (b - g.data0) / 4 in
-    if nat_lt byte (size - 128) then g.address else g.address + 1 + (byte - (size - 128)) / (size - 24)
 
 abbrev pub states_at : Image → Rindex → List ℕ
 states_at im g = states_in (group_blocks im.at g) g.data_blocks
@@ -96,9 +90,8 @@ pub data Breaks (im : Image) : ℕ → ℕ → Type 0 where
   other_data0 : (g : Rindex) → HasGroup im g → (group_header (group_blocks im.at g)).data0 ≢ g.data0 → Breaks im 4 g.address
   other_data_blocks : (g : Rindex) → HasGroup im g → (group_header (group_blocks im.at g)).data_blocks ≢ g.data_blocks → Breaks im 4 g.address
   other_bitbytes : (g : Rindex) → HasGroup im g → (group_header (group_blocks im.at g)).bitbytes ≢ g.bitbytes → Breaks im 4 g.address
-  -- 5: a block's bits are wrong; the block itself, or that of the bitmap which has the bits
+  -- 5: a block's bits are wrong
   wrong_bits : (g : Rindex) (b : ℕ) → HasGroup im g → IsDataOf g b → HasWrongBits im g b → Breaks im 5 b
-  has_wrong_bits : (g : Rindex) (b : ℕ) → HasGroup im g → IsDataOf g b → HasWrongBits im g b → Breaks im 5 (bits_block im.size g b)
   -- 6: a group's free blocks or dinodes aren't the count of its bits
   free_count : (g : Rindex) → HasGroup im g → (group_header (group_blocks im.at g)).free ≢ count_of 0 (states_at im g) → Breaks im 6 g.address
   dinode_count : (g : Rindex) → HasGroup im g → (group_header (group_blocks im.at g)).dinodes ≢ count_of 3 (states_at im g) → Breaks im 6 g.address
@@ -162,8 +155,8 @@ pub data Breaks (im : Image) : ℕ → ℕ → Type 0 where
   -- 15: a chain of leaves returns to itself; the leaf that comes again, or the one that leads to it
   comes_again : (a hash x by by' place later : ℕ) → Claims im by x (Chained a hash place) → Claims im by' x (Chained a hash later) → place < later → Breaks im 15 x
   leads_back : (a hash x by by' place later : ℕ) → Claims im by x (Chained a hash place) → Claims im by' x (Chained a hash later) → place < later → Breaks im 15 by'
-  -- 16: a journal has no accepted header; or there is no directory of journals
-  no_jindex : ((d : ℕ) → IsJindex im d → ⊥) → Breaks im 16 (master_of im)
+  -- 16: a journal has no accepted header; or there is no directory of journals: nothing that has its name is a directory
+  no_jindex : ((d : ℕ) → IsJindex im d → is_directory_in (every im d) ≡ true → ⊥) → Breaks im 16 (master_of im)
   headless : (j d : ℕ) → HasJournal im j d → head_in (ring_of (every im d)) ≡ None → Breaks im 16 d
   -- 18: the list of groups is missing, has a part of an entry or more entries than the device has blocks, groups don't fit, rise or lie apart, or a block above the superblock's is in none and isn't one of at most three behind one
   no_rindex : ((d : ℕ) → IsRindex im d → ⊥) → Breaks im 18 (master_of im)
@@ -175,3 +168,17 @@ pub data Breaks (im : Image) : ℕ → ℕ → Type 0 where
   bare : (b : ℕ) → superblock_place im.size < b → b < im.count → ((g : Rindex) → HasGroup im g → ¬ (IsNear g b)) → Breaks im 18 b
   -- 19: a dinode's `blocks` isn't the count
   blocks_count : (a : ℕ) (blocks : List ℕ) → HasInode im a → AreWithin im a blocks → (dinode_in (every im a)).blocks ≢ 1 + length blocks → Breaks im 19 a
+
+-- What may be told of a block: it breaks the rule, and the device has it; but for a superblock for which the device is too short.
+pub record IsBroken (im : Image) (rule b : ℕ) : Type 0 where
+  pub breaks : Breaks im rule b
+  pub there : (b < im.count) ⊎ ((rule ≡ 1) × (b ≡ superblock_place im.size))
+
+-- A block to which a look over the image comes: the superblock's, one that is claimed, one of the content of an inode that is
+-- claimed, one of a group, and one above the superblock that no group has and none leaves behind it.
+pub data IsReached (im : Image) : ℕ → Type 0 where
+  the_superblock : IsReached im (superblock_place im.size)
+  by_claim : (by b : ℕ) (o : Owner) → Claims im by b o → IsReached im b
+  of_content : (a i : ℕ) → HasInode im a → IsReached im (content_block (every im a) i)
+  in_group : (g : Rindex) (b : ℕ) → HasGroup im g → (b ≡ g.address) ⊎ (IsHeaderOf g b ⊎ IsDataOf g b) → IsReached im b
+  left_out : (b : ℕ) → superblock_place im.size < b → ((g : Rindex) → HasGroup im g → ¬ (IsNear g b)) → IsReached im b

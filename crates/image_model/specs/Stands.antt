@@ -1,5 +1,5 @@
 -- An image stands for a tree.
-use Rattle.std.specs.Prelude.{ℕ, ◌≡◌, ◌⊎◌, ◌+◌, ◌%◌, ◌<◌, ◌≤◌, ◌==◌, ◌&&◌, not, true, false, if◌then◌else◌, List, length, count_by, codes, slice_get, Contains, Some}
+use Rattle.std.specs.Prelude.{ℕ, ◌≡◌, ◌⊎◌, ◌+◌, ◌%◌, ◌<◌, ◌≤◌, ◌==◌, ◌&&◌, not, true, false, if◌then◌else◌, List, length, count_by, codes, slice_get, Contains, None, Some}
 use Rattle.std.specs.Str.{bytes_eq}
 use Rattle.file_tree.specs.Tree.{Tree}
 use Rattle.file_tree.specs.Names.{IsName}
@@ -19,7 +19,8 @@ use Rattle.gfs2_layout.specs.Holding.{Holding}
 use Rattle.gfs2_layout.specs.Records.{Record, is_dots}
 use Rattle.image_model.specs.Nodes.{node_of}
 
--- what a mount finds: the two top directories, the two system files in the master directory, the groups, the journals' dinodes in order
+-- what a mount finds: the two top directories, the two system files in the master directory, the groups, the dinodes of the
+-- journals in order, from `journal0` on
 pub record Layout : Type 0 where
   pub root : ℕ
   pub master : ℕ
@@ -105,15 +106,17 @@ pub record IsGroupList (groups : List Rindex) (bytes : List ℕ) : Type 0 where
   pub whole : length bytes % entry_length ≡ 0
   pub listed : groups_in bytes ≡ groups
 
--- the master directory leads to `rindex`, the list of groups, and to `jindex`, a directory with `journal0`, `journal1` and so on, and with no other name
+-- The master directory leads to `rindex`, the list of groups, and to `jindex`, a directory in which each name of a journal
+-- leads to one. Those from `journal0` on, as far as there is no gap, are the layout's. What other names there are is a matter
+-- of the profile.
 pub record IsSystem (f : Flat) (holds : ℕ → Holding) (l : Layout) : Type 0 where
   pub rindex : (f l.master).child (codes "rindex") ≡ Some l.rindex
   pub groups : (bytes : List ℕ) × ((f l.rindex).thing ≡ AFile bytes) × IsGroupList l.groups bytes
   pub jindex : (f l.master).child (codes "jindex") ≡ Some l.jindex
   pub directory : (f l.jindex).thing ≡ ADir
   pub journals : (j d : ℕ) → IsJournalAt l j d → (f l.jindex).child (journal_name j) ≡ Some d
-  pub others : (name : List ℕ) (d : ℕ) → (f l.jindex).child name ≡ Some d → (j : ℕ) × IsJournalAt l j d × (name ≡ journal_name j)
-  pub rings : (j d : ℕ) → IsJournalAt l j d → IsJournal (holds d)
+  pub last : (f l.jindex).child (journal_name (length l.journals)) ≡ None
+  pub rings : (j d : ℕ) → (f l.jindex).child (journal_name j) ≡ Some d → IsJournal (holds d)
 
 -- an inode is found from the root, or from the master directory
 abbrev pub IsFound : Flat → Layout → ℕ → Type 0

@@ -1,5 +1,5 @@
 //! What the definitions of images mean. The functions do nothing: their contracts are the laws.
-ghost use Rattle.image_model.specs.Laws.{AnyOrder, HoldingsAreOwned, JournalsReadAlike, NothingBreaks, OneTable, OneTree, OwnersClaim};
+ghost use Rattle.image_model.specs.Laws.{AnyOrder, BrokenAreReached, HoldingsAreOwned, JournalsReadAlike, NothingBreaks, OneTable, OneTree, OwnersClaim};
 
 /// A law: an image stands for at most one tree.
 pub fn images_stand_for_one_tree()
@@ -14,6 +14,11 @@ pub fn blocks_have_one_owner()
 /// A law: in an image that stands for a tree, no block breaks a rule.
 pub fn what_stands_breaks_nothing()
     ensures { NothingBreaks }
+{}
+
+/// A law: a look over an image comes to each block that breaks a rule.
+pub fn broken_blocks_are_reached()
+    ensures { BrokenAreReached }
 {}
 
 /// A law: whether records are a directory's, and where a name leads, doesn't hang on their order.

@@ -168,11 +168,6 @@ module _ (im : Image) (owners : Owners) (l : Layout) (laid : IsLaid im owners l)
         omega (arith, are.0, inside.journals.few),
         subst (AreJournalNames records) (sym are.0) are,
       )
-  none_outside _ _ (outside.no_journals m groups file) =
-      let file' = subst (λ a. is_directory_in (every im a) ≡ false) (one_jindex m groups.list.master) file in
-      let at = slice_get-get_or l.journals 0 0 inside.journals.some in
-      let way = inside.journals.there 0 _ at in
-      led_by_file im l.jindex (journal_name 0) _ file' way
   none_outside _ _ (outside.journal m j d names at bad) =
       let here = journal_is m j d names at in
       bad (inside.journal here.0 d here.1)

@@ -4,12 +4,13 @@ use Rattle.std.specs.Prelude.{map, slice_get, Result, IfErr, IsErrAnd}
 use Rattle.std.specs.List.{All}
 use Rattle.std.proofs.lemmas.List.{length-map}
 use Rattle.std.proofs.lemmas.Option.{slice_get_within, get_or_from_slice_get}
+use Rattle.glock_names.specs.Views.{group_of_entry}
 use Rattle.gfs2_layout.specs.declared.log_header.LogHeader.{LogHeader}
 use Rattle.glock_names.specs.declared.steps.Entry.{Entry}
 use Rattle.image_model.specs.Image.{Image, image_of}
 use Rattle.image_model.specs.Stands.{Layout, IsJournalAt}
 use Rattle.image_mount.specs.Found.{HasFormat, HasNames}
-use Rattle.image_mount.specs.Mounted.{Journal, MountedValue, IsMounted, IsOfProfile, IsJournalOf, group_of_entry}
+use Rattle.image_mount.specs.Mounted.{Journal, MountedValue, IsMounted, IsOfProfile, IsJournalOf}
 use Rattle.image_mount.specs.Refusals.{RefusesRightly, IsExcused}
 use Rattle.image_mount.specs.Rings.{IsSearched, AreRings, AreJournals, IsLowJournal, IsRingOf}
 use Rattle.image_mount.specs.System.{IsSystemOf, layout_of}

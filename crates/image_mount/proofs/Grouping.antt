@@ -14,7 +14,8 @@ use Rattle.gfs2_layout.specs.declared.dinode.Dinode.{Dinode}
 use Rattle.gfs2_layout.specs.declared.rindex.Rindex.{Rindex}
 use Rattle.dinode_tree.specs.Reading.{content_range, AreWholeBefore}
 use Rattle.image_model.specs.Claims.{every, HasGroup, IsRindex}
-use Rattle.image_model.specs.Groups.{groups_in, bitmap_room, IsGroupAt, IsListed, IsNear, GroupFits, GroupsFit, end_of}
+use Rattle.gfs2_layout.specs.Bitmap.{bitmap_room}
+use Rattle.image_model.specs.Groups.{groups_in, IsGroupAt, IsListed, IsNear, GroupFits, GroupsFit, end_of}
 use Rattle.image_model.specs.Image.{Image}
 use Rattle.image_model.specs.Listing.{RiseFrom, end_after}
 use Rattle.image_model.specs.Profile.{group_length}

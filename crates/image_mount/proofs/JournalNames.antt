@@ -1,26 +1,17 @@
--- The names of journals, and how many records have them.
-use Rattle.std.proofs.Common.{◌≡◌, ◌≢◌, inl, inr, ℕ, zero, suc, ◌+◌, ◌<◌, ◌≤◌, ◌||◌, Bool, true, false, List, [], ◌∷◌, ◌++◌, get_or, refl, sym, ap, ◌∙◌, arith, cond}
-use Rattle.std.specs.Prelude.{codes, count_by, not, Contains}
+-- How many records have the names of journals.
+use Rattle.std.proofs.Common.{◌≡◌, ◌≢◌, inl, inr, ℕ, zero, suc, ◌+◌, ◌<◌, ◌≤◌, ◌||◌, Bool, true, false, List, [], ◌∷◌, refl, sym, ap, ◌∙◌, arith, cond}
+use Rattle.std.specs.Prelude.{count_by, not, Contains}
 use Rattle.std.specs.Str.{bytes_eq}
 use Rattle.std.proofs.lemmas.Bool.{true≢false, cases_Bool}
-use Rattle.std.proofs.lemmas.Fmt.{decimal_digit}
 use Rattle.std.proofs.lemmas.List.Sums.{sum_by-cons}
 use Rattle.std.proofs.lemmas.Slice.Eq.{bytes_eq-Decides}
 use Rattle.gfs2_layout.specs.Records.{Record, is_dots}
 use Rattle.image_model.specs.Journals.{journal_name}
 use Rattle.image_model.specs.Stands.{name_count as times}
 use Rattle.image_model.proofs.Counts.{count_some}
+use Rattle.image_model.proofs.JournalNames.{one_number}
 use Rattle.image_model.proofs.Members.{IsIn, is_in, contained}
 use Rattle.image_mount.specs.Found.{name_count}
-
--- a name of one digit
-pub digit_name : (j : ℕ) → j < 10 → journal_name j ≡ codes "journal" ++ (48 + j) ∷ []
-digit_name j low = ap (λ digits. codes "journal" ++ digits) (decimal_digit j low)
-
-pub one_number : (i j : ℕ) → i < 10 → j < 10 → journal_name i ≡ journal_name j → i ≡ j
-one_number i j low low' same =
-    let e : codes "journal" ++ (48 + i) ∷ [] ≡ codes "journal" ++ (48 + j) ∷ [] = sym (digit_name i low) ∙ same ∙ digit_name j low' in
-    omega (arith, ap (λ name. get_or name 7 0) e)
 
 pub name_leads : (j : ℕ) → is_dots (journal_name j) ≡ false
 name_leads j = refl

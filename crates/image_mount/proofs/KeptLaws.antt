@@ -31,7 +31,7 @@ view_kept k x i left view there whole = record {
     | inl both ↦ ap length both.1 ∙ whole
     | inr old ↦ view.whole b bytes old
   ];
-  few_groups = view.few_groups;
+  groups = view.groups;
 }
 
 -- where nothing is kept

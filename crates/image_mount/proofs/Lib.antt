@@ -26,3 +26,4 @@ pub mod Ending
 pub mod Grouping
 pub mod Records
 pub mod Wanted
+pub mod ViewGroups

@@ -28,7 +28,7 @@ use Rattle.image_mount.specs.declared.listing.Named.{Named as Item}
 use Rattle.image_mount.specs.declared.master.Master.{Master as MasterValue}
 use Rattle.image_mount.specs.declared.system.System.{System}
 use Rattle.image_mount.proofs.Causes.{told, lacks}
-use Rattle.image_mount.proofs.JournalNames.{one_number}
+use Rattle.image_model.proofs.JournalNames.{one_number}
 use Rattle.image_mount.proofs.Names.{contains_at, mapped_at, from_mapped}
 
 module _ (old now : DiskState) (same : now ≡ old) where

@@ -3,6 +3,7 @@ use Rattle.std.proofs.Common.{◌≡◌, ◌≢◌, ◌⊎◌, inl, inr, ℕ, �
 use Rattle.std.specs.Prelude.{map, not, codes, slice_get}
 use Rattle.std.specs.Option.{option_map}
 use Rattle.std.specs.Str.{bytes_eq}
+use Rattle.std.proofs.lemmas.Bool.{both_ways}
 use Rattle.std.proofs.lemmas.Slice.Eq.{bytes_eq-Decides}
 use Rattle.gfs2_layout.specs.Device.{superblock_place}
 use Rattle.gfs2_layout.specs.Inode.{dinode_in, is_directory_in}
@@ -78,7 +79,7 @@ module _ (im : Image) (f : MountFault) (at : ℕ) (items : List Item) (format : 
   lacks_rindex is none = told im f at 18 is format (subst (Breaks im 18) (sym same) (no_rindex (λ d way. never_led (codes "rindex") d none way)))
 
   pub lacks_jindex : f ≡ fault.Damaged at 16 → ((i : ℕ) (n : Item) → slice_get items i ≡ Some n → n.name.now ≢ codes "jindex") → RefusesRightly im f
-  lacks_jindex is none = told im f at 16 is format (subst (Breaks im 16) (sym same) (no_jindex (λ d way. never_led (codes "jindex") d none way)))
+  lacks_jindex is none = told im f at 16 is format (subst (Breaks im 16) (sym same) (no_jindex (λ d way dir. never_led (codes "jindex") d none way)))
 
 -- ---- other names
 
@@ -133,6 +134,11 @@ pub link_in : (im : Image) (at : ℕ) (items : List Item) (name : List ℕ) (ite
 unfolding among_found
 link_in im at items name item link same are plain named there is =
     subst (IsLinkOf im name) (sym is) (subst (λ a. IsNamedIn im a item.block name item.entry) same (named_in im at items name item.entry are.all are.distinct plain (among_found items name item named there)))
+
+-- what is named as the directory of journals is a file
+pub file_of_journals : (im : Image) (at : ℕ) (link : Link) → at ≡ master_of im → IsLinkOf im (codes "jindex") link → is_directory_in (every im link.entry.addr) ≡ false → Breaks im 16 at
+file_of_journals im at link same named file =
+    subst (Breaks im 16) (sym same) (no_jindex (λ d is dir. both_ways (is_directory_in (every im d)) (ap (λ a. is_directory_in (every im a)) (named.only d is) ∙ file) dir))
 
 -- the directory of journals is a hashed one
 pub hashed_jindex : (im : Image) (inode : Inode) (link : Link) → HasFormat im → IsLinkOf im (codes "jindex") link → inode.block ≡ link.entry.addr → inode.dinode ≡ dinode_in (every im inode.block)

@@ -1,6 +1,7 @@
 -- What is told of an image that is mounted.
 use Rattle.std.specs.Prelude.{ℕ, ◌≡◌, List, length, map, slice_get, Some}
 use Rattle.std.specs.List.{range_with_len}
+use Rattle.glock_names.specs.Views.{AreGroups, group_of_entry}
 use Rattle.glock_names.specs.declared.views.Group.{Group}
 use Rattle.gfs2_layout.specs.Inode.{content_block}
 use Rattle.gfs2_layout.specs.Journal.{ring_of, head_in}
@@ -25,9 +26,6 @@ pub record MountedValue : Type 0 where
   pub groups : List Group
   pub journals : List Journal
 
-abbrev pub group_of_entry : Rindex → Group
-group_of_entry g = record { addr = g.address; length = g.length; first = g.data0; count = g.data_blocks }
-
 -- the journal whose dinode is in block d, as every block of the image tells it
 pub record IsJournalOf (im : Image) (d : ℕ) (journal : Journal) : Type 0 where
   pub dinode : journal.dinode ≡ d
@@ -50,3 +48,7 @@ pub record IsOfProfile (im : Image) : Type 0 where
   pub layout : Layout
   pub laid : IsLaid im owners layout
   pub profile : IsInProfile im layout
+
+-- what is mounted has groups such as every view has
+abbrev pub GroupsAreAsSeen : Type 0
+GroupsAreAsSeen = (im : Image) (m : MountedValue) → IsMounted im m → AreGroups im.size m.groups

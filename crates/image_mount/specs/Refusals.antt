@@ -1,9 +1,9 @@
 -- Why an image is not mounted.
-use Rattle.std.specs.Prelude.{ℕ, ◌≡◌, ◌≢◌, ◌⊎◌, ⊤, false, ◌/◌, ◌%◌, ◌^◌, ◌<◌, ◌≤◌, List, length, Some}
+use Rattle.std.specs.Prelude.{ℕ, ◌≡◌, ◌≢◌, ◌⊎◌, ⊤, ◌/◌, ◌%◌, ◌^◌, ◌<◌, ◌≤◌, List, length, Some}
 use Rattle.profile_limits.specs.Limits.{least_journal_blocks, most_blocks, most_group_blocks, most_groups, most_journal_blocks, most_journals}
 use Rattle.fault_counts.specs.Causes.{WentUp}
 use Rattle.gfs2_layout.specs.Device.{superblock_place}
-use Rattle.gfs2_layout.specs.Inode.{dinode_in, is_directory_in}
+use Rattle.gfs2_layout.specs.Inode.{dinode_in}
 use Rattle.gfs2_layout.specs.Journal.{ring_of, head_in}
 use Rattle.gfs2_layout.specs.Records.{Record}
 use Rattle.gfs2_layout.specs.declared.log_header.LogHeader.{LogHeader}
@@ -45,8 +45,6 @@ pub data IsOutside (im : Image) : Field → ℕ → Type 0 where
   -- how many names `jindex` has, where they aren't those of one to eight journals
   journals : (l : Layout) (records : List Record) → HasGroups im l → HasRecords im l.jindex records
       → ((1 ≤ name_count records) × (name_count records ≤ most_journals) × AreJournalNames records (name_count records) → ⊥) → IsOutside im field.Journals (name_count records)
-  -- `jindex` is a file, which has no names
-  no_journals : (l : Layout) → HasGroups im l → is_directory_in (every im l.jindex) ≡ false → IsOutside im field.Journals 0
   -- how many blocks a journal has
   journal : (l : Layout) (j d : ℕ) → HasNames im l → IsJournalAt l j d → ((least_journal_blocks ≤ (ring_of (every im d)).places) × ((ring_of (every im d)).places ≤ most_journal_blocks) → ⊥)
       → IsOutside im field.Journal (ring_of (every im d)).places

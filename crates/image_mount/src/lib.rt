@@ -9,6 +9,7 @@ mod groups;
 mod inodes;
 mod journals;
 mod kept_blocks;
+mod laws;
 mod leaf;
 mod leaves;
 mod listing;
@@ -20,6 +21,7 @@ mod system;
 
 pub use fault::MountFault;
 pub use field::Field;
+pub use laws::mounted_groups_are_as_seen;
 pub use mounted::{JournalMap, Mounted};
 pub use mounting::mount_image;
 

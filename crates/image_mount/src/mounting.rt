@@ -1,9 +1,10 @@
 ghost use Rattle.std.specs.Prelude.{◌≡◌, ◌≤◌, ℕ, [], map, IsTrue, OnOk, IfOk, IfErr};
 ghost use Rattle.shared_disk.specs.Disk.{IsIdle};
 ghost use Rattle.shared_disk.specs.Disk.{ReadsOnly};
+ghost use Rattle.glock_names.specs.Views.{group_of_entry};
 ghost use Rattle.gfs2_layout.specs.Device.{IsBlockSize};
 ghost use Rattle.image_model.specs.Image.{Image, image_of};
-ghost use Rattle.image_mount.specs.Mounted.{IsMounted, IsOfProfile, group_of_entry};
+ghost use Rattle.image_mount.specs.Mounted.{IsMounted, IsOfProfile};
 ghost use Rattle.image_mount.specs.Refusals.{RefusesRightly, HasRisen, IsExcused};
 ghost use Rattle.image_mount.specs.Rings.{IsSearched};
 ghost use Rattle.image_mount.specs.Searching.{IsSteady, IsWorking};

@@ -178,7 +178,7 @@ fn list_journals(
     let inode = Inode::read(table, jindex.from, jindex.entry.addr)?;
     inode.check_record(&jindex.entry)?;
     if !inode.dinode.is_directory() {
-        return Err(Stop::Refused(outside(Field::Journals, 0)));
+        return Err(Stop::Refused(damaged(master, 16)));
     }
     if inode.is_hashed() {
         return Err(Stop::Refused(MountFault::NotBuilt { block: inode.block }));

@@ -20,7 +20,7 @@ use Rattle.image_model.specs.Image.{Image}
 use Rattle.image_model.specs.Owners.{Owner}
 use Rattle.image_reader.specs.Owning.{owner_of}
 use Rattle.image_reader.specs.Reading.{image_at, states_of, IsTrueOf}
-use Rattle.image_model.specs.Rules.{Breaks, bits_of, bits_block, states_at, HasWrongBits, of_owner, stray, no_header, of_group, of_bitmap, other_data0, other_data_blocks, other_bitbytes, has_wrong_bits, free_count, dinode_count}
+use Rattle.image_model.specs.Rules.{Breaks, bits_of, states_at, HasWrongBits, of_owner, stray, no_header, of_group, of_bitmap, other_data0, other_data_blocks, other_bitbytes, wrong_bits, free_count, dinode_count}
 use Rattle.image_reader.specs.declared.blocks.Block.{Block}
 use Rattle.image_reader.specs.declared.blocks.Blocks.{Blocks}
 use Rattle.image_reader.specs.declared.image.ImageFault.{ImageFault}
@@ -118,14 +118,14 @@ wrong im g b entries (Some claim) all there other =
     of_owner from.0 (owner_of claim) from.1 other
 
 pub wrong_state : (im : Image) (g : Rindex) (n : ℕ) (entries : List (Option Claim)) (entry : Option Claim) (bits : List ℕ) (fault : ImageFault) (at state told_state : ℕ)
-    → fault ≡ Damaged at 5 → at ≡ bits_block im.size g (g.data0 + n) → HasGroup im g → n < g.data_blocks → AreAllClaims im entries → slice_get entries (g.data0 + n) ≡ Some entry
+    → fault ≡ Damaged at 5 → at ≡ g.data0 + n → HasGroup im g → n < g.data_blocks → AreAllClaims im entries → slice_get entries (g.data0 + n) ≡ Some entry
     → bits ≡ bits_in im g g.length → state ≡ state_at bits n → told_state ≡ state_by entry → state ≢ told_state → IsTrueOf im fault
 wrong_state im g n entries entry bits fault at state told_state is at_is has within all there bits_is state_is by_is other =
     let b = g.data0 + n in
     let place : b - g.data0 ≡ n = omega arith in
     let says : bits_of im g b ≡ state = ap (state_at (bitmap_of (group_blocks im.at g))) place ∙ ap (λ l. state_at l n) (sym bits_is) ∙ sym state_is in
     let of_data : IsDataOf g b = record { low = omega arith; high = omega (arith, within) } in
-    told im fault at 5 is (subst (Breaks im 5) (sym at_is) (has_wrong_bits g b has of_data (wrong im g b entries entry all there (λ e. other (sym says ∙ e ∙ sym by_is)))))
+    told im fault at 5 is (subst (Breaks im 5) (sym at_is) (wrong_bits g b has of_data (wrong im g b entries entry all there (λ e. other (sym says ∙ e ∙ sym by_is)))))
 
 -- ---- counts
 

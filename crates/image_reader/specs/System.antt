@@ -1,5 +1,6 @@
 -- What is looked for among the system's files.
-use Rattle.std.specs.Prelude.{ℕ, ◌≡◌, ◌<◌, List}
+use Rattle.std.specs.Prelude.{ℕ, ◌≡◌, ◌<◌, true, List}
+use Rattle.gfs2_layout.specs.Structures.{is_directory}
 use Rattle.image_reader.specs.Found.{IsEntryAt}
 use Rattle.image_reader.specs.declared.directory.Found.{Found}
 use Rattle.image_reader.specs.declared.inode.Inode.{Inode}
@@ -16,3 +17,7 @@ pub record IsNamedAmong (found : List Found) (parent : ℕ) (name : List ℕ) (i
 -- the first so many have no entry with this name of the directory in block `parent`
 abbrev pub HasNoneNamed : List Found → ℕ → ℕ → List ℕ → Type 0
 HasNoneNamed found n parent name = (i : ℕ) (f : Found) → i < n → IsEntryAt found i f → f.parent ≡ parent → f.name ≡ name → ⊥
+
+-- the first so many have no directory with this name in the directory in block `parent`
+abbrev pub HasNoDirectoryNamed : List Found → ℕ → ℕ → List ℕ → Type 0
+HasNoDirectoryNamed found n parent name = (i : ℕ) (f : Found) → i < n → IsEntryAt found i f → f.parent ≡ parent → f.name ≡ name → is_directory f.inode.dinode ≡ true → ⊥

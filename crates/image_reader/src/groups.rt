@@ -6,7 +6,6 @@ ghost use Rattle.gfs2_layout.specs.Structures.{rindex_of};
 ghost use Rattle.gfs2_layout.specs.declared.rindex.Rindex.{Rindex as IndexEntry};
 ghost use Rattle.image_model.specs.Claims.{every, IsRindex, HasGroup};
 ghost use Rattle.image_model.specs.Listing.{RiseFrom, end_after};
-ghost use Rattle.image_model.specs.Rules.{bits_block as block_of_bits};
 ghost use Rattle.image_model.specs.Groups.{groups_in, GroupFits, IsListed, IsDataOf, count_of, end_of as first_behind};
 ghost use Rattle.image_reader.specs.Reading.{image_at, states_of, IsTrueOf};
 
@@ -207,21 +206,6 @@ fn read_bitmap(alloc: Global, image: &Blocks<'_>, group: &Rindex) -> Result<Vec<
     Ok(bits)
 }
 
-// The block of the group's bitmap that has the bits of data block n.
-fn bits_block(image: &Blocks<'_>, group: &Rindex, n: u32) -> u64
-    requires fits { GroupFits (image_at image.now) group.now }
-    requires within { n < group.now.data_blocks }
-    ensures { result ≡ block_of_bits image.now.size group.now (group.now.data0 + n) }
-{
-    let byte = u64::from(n / 4);
-    let size = image.size as u64;
-    if byte < size - 128 {
-        return group.address;
-    }
-    let further = (byte - (size - 128)) / (size - 24);
-    group.address.saturating_add(1 + further)
-}
-
 // That the bits of the data blocks are the states by their owners.
 fn check_bits(
     image: &Blocks<'_>,
@@ -238,9 +222,9 @@ fn check_bits(
     ensures damaged { IfErr result (IsTrueOf (image_at image.now)) }
 {
     for n in 0..group.data_blocks {
-        let block = (group.data0 + u64::from(n)) as usize;
-        if state_at(bits, n) != state_of(&owners.entries[block]) {
-            return Err(damaged(bits_block(image, group, n), 5));
+        let block = group.data0 + u64::from(n);
+        if state_at(bits, n) != state_of(&owners.entries[block as usize]) {
+            return Err(damaged(block, 5));
         }
     }
     Ok(())

@@ -4,7 +4,7 @@ ghost use Rattle.image_model.specs.Claims.{Claims, HasJournal, IsJindex, master_
 ghost use Rattle.image_reader.specs.Found.{IsTreeOf};
 ghost use Rattle.image_model.specs.Journals.{journal_name};
 ghost use Rattle.image_model.specs.Owners.{Named};
-ghost use Rattle.image_reader.specs.System.{IsNamedAmong, HasNoneNamed};
+ghost use Rattle.image_reader.specs.System.{IsNamedAmong, HasNoneNamed, HasNoDirectoryNamed};
 ghost use Rattle.image_reader.specs.Reading.{image_at, IsDinodeBlock, IsTrueOf};
 
 use crate::blocks::Block;
@@ -71,6 +71,20 @@ pub(crate) fn named<'a>(found: &[Found<'a>], parent: u64, name: &[u8]) -> Option
     None
 }
 
+// The first directory to which a name leads from a directory, among the inodes that were found.
+fn named_directory<'a>(found: &[Found<'a>], parent: u64, name: &[u8]) -> Option<Inode<'a>>
+    ensures some { IfSome result (IsNamedAmong found.now parent name.now) }
+    ensures none { IfNone result (HasNoDirectoryNamed found.now (length found.now) parent name.now) }
+{
+    for entry in found {
+        let here = entry.parent == parent && entry.name.bytes() == name;
+        if here && entry.inode.dinode.is_directory() {
+            return Some(entry.inode);
+        }
+    }
+    None
+}
+
 // That an entry, if it is a journal of the directory in block `jindex`, is whole.
 fn check_entry(jindex: u64, entry: &Found<'_>) -> Result<(), ImageFault>
     requires jindex { IsJindex (image_at entry.now.inode.block.image) jindex }
@@ -86,15 +100,15 @@ fn check_entry(jindex: u64, entry: &Found<'_>) -> Result<(), ImageFault>
     }
 }
 
-/// That each journal of the directory `jindex` is whole. `system` is what was found from the master
-/// directory on.
+/// That the master directory names a directory `jindex`, and that each journal in it is whole. `system` is what was found
+/// from the master directory on.
 pub(crate) fn check_journals<'a>(top: &Inode<'a>, system: &[Found<'a>]) -> Result<(), ImageFault>
     requires tree { IsTreeOf top.now.block.image top.now system.now }
     requires master { top.now.block.number ≡ master_of (image_at top.now.block.image) }
     ensures damaged { IfErr result (IsTrueOf (image_at top.now.block.image)) }
 {
     let master = top.block.number;
-    let Some(jindex) = named(system, master, b"jindex") else {
+    let Some(jindex) = named_directory(system, master, b"jindex") else {
         return Err(damaged(master, 16));
     };
     for entry in system {

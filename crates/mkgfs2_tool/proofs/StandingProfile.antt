@@ -22,7 +22,7 @@ use Rattle.mkgfs2_tool.proofs.StandingPlan.{ground, ground_is}
 use Rattle.mkgfs2_tool.proofs.StandingOwners.{owner, spot, owner_master, owner_root}
 use Rattle.mkgfs2_tool.proofs.StandingInodes.{held, image, AreMade, file_own}
 use Rattle.mkgfs2_tool.proofs.StandingRings.{places_are, new_head, new_journal}
-use Rattle.mkgfs2_tool.proofs.StandingSystem.{inodes, directories, within, names, found, system, short, reads, root_is, master_only, journal_at}
+use Rattle.mkgfs2_tool.proofs.StandingSystem.{inodes, directories, within, names, found, system, short, reads, root_is, master_only, journal_at, jindex_others}
 use Rattle.image_model.specs.Owners.{Named, up_of}
 use Rattle.image_model.specs.Stands.{flat_of}
 use Rattle.mkgfs2_tool.proofs.StandingWhose.{owner_top}
@@ -102,7 +102,7 @@ module _ (p : Plan) (fit : IsFitting p) (known : Known p) (at : Blocks) (made : 
     some = subst (λ n. 1 ≤ n) (sym length_is) fit.plan.some_journals;
     few = subst (λ n. n ≤ 8) (sym length_is) fit.plan.journals;
     there = λ j d e. let at_j = journal_at p fit known at made j d e in subst (LeadsTo (image p at) (data_address p (journals_place p)) (journal_name j)) (sym at_j.1) (journal_leads j at_j.0);
-    others = λ name d way. laid.system.others name d (leads_child (data_address p (journals_place p)) name d way);
+    others = λ name d way. jindex_others p fit known at made name d (leads_child (data_address p (journals_place p)) name d way);
   }
     where
       length_is : length (new_layout p).journals ≡ p.journals

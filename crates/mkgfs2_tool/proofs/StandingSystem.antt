@@ -1,9 +1,10 @@
 -- The inodes of a new image, and where names lead.
 use Rattle.std.proofs.Common.{ℕ, zero, suc, ◌≡◌, ◌+◌, ◌<◌, ◌≤◌, ◌⊎◌, inl, inr, Bool, true, false, List, [], ◌∷◌, map, Option, None, Some, codes, refl, sym, ap, ◌∙◌, subst, arith}
-use Rattle.std.specs.Prelude.{◌/◌, ◌%◌, ◌==◌, ◌&&◌, not, Contains, option_and_then, cond}
+use Rattle.std.specs.Prelude.{length, ◌/◌, ◌%◌, ◌==◌, ◌&&◌, not, Contains, option_and_then, cond}
 use Rattle.std.specs.Option.{option_map}
 use Rattle.std.proofs.lemmas.Bool.{cond-true, cond-false, eqb-true, true≢false}
 use Rattle.std.proofs.lemmas.List.Sums.{sum_by-cons}
+use Rattle.std.proofs.lemmas.List.FromFn.{length-map-range_with_len}
 use Rattle.file_tree.specs.Tree.{dir, none}
 use Rattle.gfs2_layout.specs.Structures.{is_directory, is_regular}
 use Rattle.gfs2_layout.specs.declared.dinode.Dinode.{Dinode}
@@ -39,6 +40,7 @@ use Rattle.mkgfs2_tool.proofs.StandingList.{list_content, list_is}
 use Rattle.mkgfs2_tool.proofs.StandingRecords.{entry_record}
 use Rattle.mkgfs2_tool.proofs.StandingDirs.{IsDirectoryAt, dir_is, dir_sound, dir_number, dir_entries, dir_links, dir_records, master_at, root_at, journals_at}
 use Rattle.mkgfs2_tool.proofs.StandingNames.{record_name, name_is, is_journal_name, is_jindex_name, is_rindex_name, named_once, journal_records, journals_apart, dots_apart, journal_found, IsOfJournal, of_journal, length_journals, no_directories, got_at, get_at}
+use Rattle.image_model.proofs.JournalNames.{one_number}
 use Rattle.image_model.proofs.Reach.{Leading, IsNamedChild, leading, named_child}
 
 used_dinode : (o : Owner) → is_dinode o ≡ true → IsUsed o
@@ -424,12 +426,24 @@ module _ (p : Plan) (fit : IsFitting p) (known : Known p) (at : Blocks) (made : 
     jindex = master_jindex;
     directory = dir_thing (journals_place p) 4 (2 + p.journals) 2 (journals_entries p) (journals_at p fit known);
     journals = λ j d e. let at_j = journal_at j d e in jindex_journal j at_j.0 ∙ ap Some (sym at_j.1);
-    others = λ name d e. other name d (jindex_only name d e);
-    rings = λ j d e. let at_j = journal_at j d e in subst (λ n. IsJournal (held p at n)) (sym at_j.1) (new_journal p fit known at made j at_j.0);
+    last = none_last ((flat jindex).child (journal_name (length (new_layout p).journals))) refl;
+    rings = λ j d e. let q = jindex_only (journal_name j) d e in subst (λ n. IsJournal (held p at n)) (sym q.is) (new_journal p fit known at made q.j q.low);
   }
     where
-      other : (name : List ℕ) (d : ℕ) → IsJournalNamed name d → (j : ℕ) × IsJournalAt (new_layout p) j d × (name ≡ journal_name j)
-      other name d q = (q.j, subst (IsJournalAt (new_layout p) q.j) (sym q.is) (at_journal q.j q.low), q.named)
+      count_is : length (new_layout p).journals ≡ p.journals
+      count_is = length-map-range_with_len (λ j. data_address p (journal_place p j)) 0 p.journals
+
+      none_last : (o : Option ℕ) → (flat jindex).child (journal_name (length (new_layout p).journals)) ≡ o → (flat jindex).child (journal_name (length (new_layout p).journals)) ≡ None
+      none_last None e = e
+      none_last (Some d) e =
+          let q = jindex_only (journal_name (length (new_layout p).journals)) d e in
+          let few = few_journals q.j q.low in
+          let same = one_number (length (new_layout p).journals) q.j (omega (arith, count_is, fit.plan.journals)) (omega (arith, q.low, fit.plan.journals)) q.named in
+          absurd (omega (arith, same, count_is, q.low))
+
+  -- each name in the directory of journals is that of one of the layout's
+  pub jindex_others : (name : List ℕ) (d : ℕ) → (flat jindex).child name ≡ Some d → (j : ℕ) × IsJournalAt (new_layout p) j d × (name ≡ journal_name j)
+  jindex_others name d e = let q = jindex_only name d e in (q.j, subst (IsJournalAt (new_layout p) q.j) (sym q.is) (at_journal q.j q.low), q.named)
 
   pub names : (a : ℕ) (u : Up) → up_of (owner p a) ≡ Some u → (flat u.parent).child u.name ≡ Some a
   names a u e = each (whose p fit known a)

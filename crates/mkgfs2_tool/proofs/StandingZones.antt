@@ -2,7 +2,8 @@
 use Rattle.std.proofs.Common.{ℕ, ◌≡◌, ◌+◌, ◌-◌, ◌*◌, ◌/◌, ◌<◌, ◌≤◌, ◌⊎◌, inl, inr, Some, refl, sym, ap, ◌∙◌, subst, arith}
 use Rattle.std.proofs.lemmas.Bool.{cases_lt}
 use Rattle.gfs2_layout.specs.declared.rindex.Rindex.{Rindex}
-use Rattle.image_model.specs.Groups.{IsGroupAt, IsListed, end_of, IsHeaderOf, IsDataOf, IsNear, bitmap_room, GroupFits, GroupsFit}
+use Rattle.gfs2_layout.specs.Bitmap.{bitmap_room}
+use Rattle.image_model.specs.Groups.{IsGroupAt, IsListed, end_of, IsHeaderOf, IsDataOf, IsNear, GroupFits, GroupsFit}
 use Rattle.image_model.specs.Image.{Blocks}
 use Rattle.image_model.specs.Owners.{InGroup, Free, Nobody, IsUsed}
 use Rattle.image_model.specs.Stands.{IsZoned}

@@ -47,7 +47,7 @@ module _ (root : List ℕ) (path : List (List ℕ)) (name : List ℕ) (at count 
 -- ---- the names of a list
 
 pub refuses_name : (d : DiskState) (root : List ℕ) (path : List (List ℕ)) (block : ℕ) (why : Refusal)
-    → (why ≡ refusal.Form) × (path ≡ []) × (block ≡ (dinode_of root).num.address) × (AllByRecursion HasItsFileName (slots_of (stuffed_part root)) → ⊥) → HasFlatRoot d root → CallRefuses d root (calls.List path) block why
+    → (why ≡ refusal.BadName) × (path ≡ []) × (block ≡ (dinode_of root).num.address) × (AllByRecursion HasItsFileName (slots_of (stuffed_part root)) → ⊥) → HasFlatRoot d root → CallRefuses d root (calls.List path) block why
 refuses_name d root path block why (form, none, is, lacks) has =
     subst (CallRefuses d root (calls.List path) block) (sym form) (BadName (ap calls.List none) (is ∙ root_address_is d root has) lacks)
 

@@ -2,13 +2,14 @@
 use Rattle.std.proofs.Common.{◌≡◌, ℕ, true, false, List, ◌∷◌, sym, ap, ◌∙◌, subst}
 use Rattle.std.specs.Prelude.{Option, Some, MatchOption, not}
 use Rattle.std.specs.List.{AllByRecursion}
+use Rattle.gfs2_layout.specs.Records.{is_dots}
 use Rattle.file_tree.specs.Tree.{names_in, with_name, file}
 use Rattle.file_tree.specs.Names.{IsName}
 use Rattle.file_tree.proofs.NameLists.{names_in-set}
 use Rattle.gfs2_layout.specs.Structures.{is_in_use}
 use Rattle.gfs2_layout.specs.declared.dirent.Dirent.{Dirent}
 use Rattle.gfs2_layout.specs.Area.{Slot, slots_of, slot_at, name_of, IsFirstRecord}
-use Rattle.single_node.specs.Flat.{is_dot, names_a_file, files_of, file_bytes, HasItsFileName}
+use Rattle.single_node.specs.Flat.{names_a_file, files_of, file_bytes, HasItsFileName}
 use Rattle.single_node.proofs.Files.{both}
 
 abbrev pub AreNamesOf : List (List ℕ) → List Slot → Type 0
@@ -27,7 +28,7 @@ put_slot s ss names is are block_at =
 
 module _ (area name rest : List ℕ) (head : Dirent) (first : IsFirstRecord area head name rest) where
   is_its_name : names_a_file (slot_at area) ≡ true → name ≡ name_of (slot_at area)
-  is_its_name is = first.shown.name_is (both (is_in_use (slot_at area).head) (not (is_dot (name_of (slot_at area)))) is).0
+  is_its_name is = first.shown.name_is (both (is_in_use (slot_at area).head) (not (is_dots (name_of (slot_at area)))) is).0
 
   -- past a record that names no file
   pub names_past : (names : List (List ℕ)) → names_a_file (slot_at area) ≡ false → AreNamesOf names (slots_of rest) → AreNamesOf names (slots_of area)

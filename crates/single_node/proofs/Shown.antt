@@ -9,9 +9,10 @@ use Rattle.std.specs.declared.cmp.Ordering.{Ordering}
 use Rattle.std.specs.declared.cmp.Ordering.TheVariants.{Less, Equal, Greater}
 use Rattle.std.proofs.lemmas.Cmp.{nat_list_cmp_total}
 use Rattle.std.proofs.lemmas.List.{take_all, length-take, length-drop, append_assoc, append-nil}
+use Rattle.gfs2_layout.specs.Records.{is_dots}
 use Rattle.gfs2_layout.specs.Area.{Slot, slots_of, name_of, first_named}
 use Rattle.gfs2_layout.specs.Structures.{dinode_of, dinode_length, is_in_use}
-use Rattle.single_node.specs.Flat.{file_bytes, stuffed_part, is_dot, names_a_file, files_of}
+use Rattle.single_node.specs.Flat.{file_bytes, stuffed_part, names_a_file, files_of}
 use Rattle.single_node.specs.Shown.{line_at, shown_line, LeadsFirstToFile, LeadFirstToFiles}
 use Rattle.single_node.proofs.Files.{both, found_file, look-files_of}
 use Rattle.file_tree.specs.Tree.{Tree, Entries, file, dir, none, entry, look, set, name_order, by_order, names_in, IsBelowFirst}
@@ -164,18 +165,18 @@ names_stand (entry n t es) = (λ gone. let both : Some t ≡ None = sym (look_se
 
 -- the name has a record, and is neither `.` nor `..`
 abbrev IsFoundIn : List Slot → List ℕ → Type 0
-IsFoundIn ss n = (is_dot n ≡ false) × (first_named n ss ≡ None → ⊥)
+IsFoundIn ss n = (is_dots n ≡ false) × (first_named n ss ≡ None → ⊥)
 
 module _ (block_at : ℕ → List ℕ) (n : List ℕ) where
-  pub no_dot : (ss : List Slot) → Stands (files_of block_at ss) n → is_dot n ≡ false
+  pub no_dot : (ss : List Slot) → Stands (files_of block_at ss) n → is_dots n ≡ false
   no_dot [] there = absurd (there refl)
   no_dot (s ∷ ss) there = by_kind (no_dot ss) (names_a_file s) refl
     where
-      by_name : (Stands (files_of block_at ss) n → is_dot n ≡ false) → (b : Bool) → bytes_eq n (name_of s) ≡ b → names_a_file s ≡ true → Stands (set (files_of block_at ss) (name_of s) (file (file_bytes (block_at s.head.inum.address)))) n → is_dot n ≡ false
-      by_name later true e is stands = ap is_dot ((bytes_eq-Decides n (name_of s)).0 e) ∙ not_true (is_dot (name_of s)) (both (is_in_use s.head) (not (is_dot (name_of s))) is).1
+      by_name : (Stands (files_of block_at ss) n → is_dots n ≡ false) → (b : Bool) → bytes_eq n (name_of s) ≡ b → names_a_file s ≡ true → Stands (set (files_of block_at ss) (name_of s) (file (file_bytes (block_at s.head.inum.address)))) n → is_dots n ≡ false
+      by_name later true e is stands = ap is_dots ((bytes_eq-Decides n (name_of s)).0 e) ∙ not_true (is_dots (name_of s)) (both (is_in_use s.head) (not (is_dots (name_of s))) is).1
       by_name later false e is stands = later (λ gone. stands (look-set (files_of block_at ss) (name_of s) (file (file_bytes (block_at s.head.inum.address))) n ∙ rw e gone))
 
-      by_kind : (Stands (files_of block_at ss) n → is_dot n ≡ false) → (b : Bool) → names_a_file s ≡ b → is_dot n ≡ false
+      by_kind : (Stands (files_of block_at ss) n → is_dots n ≡ false) → (b : Bool) → names_a_file s ≡ b → is_dots n ≡ false
       by_kind later true is = by_name later (bytes_eq n (name_of s)) refl is (subst (λ (es : Entries). Stands es n) (rw is refl) there)
       by_kind later false is = later (subst (λ (es : Entries). Stands es n) (rw is refl) there)
 

@@ -14,7 +14,7 @@ use Rattle.gfs2_layout.specs.Area.{Slot, slots_of, name_of, first_named, has_nam
 use Rattle.gfs2_layout.specs.Structures.{dinode_of, dinode_length, is_directory, is_regular, is_in_use}
 use Rattle.gfs2_layout.specs.declared.dinode.Dinode.{Dinode}
 use Rattle.gfs2_layout.specs.Holding.{Itself, bytes_at}
-use Rattle.gfs2_layout.specs.Inode.{dinode_in, height_in, is_directory_in, is_hashed_in, content_of, records_of}
+use Rattle.gfs2_layout.specs.Inode.{dinode_in, has_hash_flag, height_in, is_directory_in, is_hashed_in, content_of, records_of}
 use Rattle.gfs2_layout.specs.Records.{Record, record_of, records_in, record_named, child_named, is_dots}
 use Rattle.image_model.specs.Image.{Image, image_of}
 use Rattle.image_model.specs.Owners.{Owners, Root, is_dinode, holding}
@@ -25,7 +25,7 @@ use Rattle.image_model.specs.Laws.{HoldingsAreOwned}
 use Rattle.image_model.proofs.Members.{IsIn, in_filter, contained}
 use Rattle.image_model.proofs.Counts.{all_in, count_some}
 use Rattle.image_model.proofs.Trees.{same_trees}
-use Rattle.single_node.specs.Flat.{HasSuperBlock, HasRoot, HasFile, LeadsToFile, IsFlat, HaveOwnNames, is_dot, names_a_file, files_of, file_bytes, stuffed_part, root_of, root_slots}
+use Rattle.single_node.specs.Flat.{HasSuperBlock, HasRoot, HasFile, LeadsToFile, IsFlat, HaveOwnNames, names_a_file, files_of, file_bytes, stuffed_part, root_of, root_slots}
 use Rattle.single_node.specs.Laws.{StandingRootsAreFlat, StandingNamesAreFlat}
 use Rattle.single_node.specs.Shown.{LeadFirstToFiles}
 use Rattle.single_node.proofs.Files.{both, false_from, bytes_eq-comm, found_file, found_holds, look-files_of, named_is_file}
@@ -73,7 +73,7 @@ twice s t ss h used also same =
     omega (arith, itself, other, count_first (name_of s) s ss used)
 
 is_used : (s : Slot) → names_a_file s ≡ true → is_in_use s.head ≡ true
-is_used s is = (both (is_in_use s.head) (not (is_dot (name_of s))) is).0
+is_used s is = (both (is_in_use s.head) (not (is_dots (name_of s))) is).0
 
 own_names : (ss : List Slot) → ((name : List ℕ) → name_count (used_records ss) name ≤ 1) → HaveOwnNames ss
 own_names [] once = tt
@@ -90,7 +90,7 @@ first_of_own (t ∷ ss) own s (inl e) is =
     let used : is_in_use t.head ≡ true = ap (λ (u : Slot). is_in_use u.head) (sym e) ∙ is_used s is in
     subst (λ (u : Slot). first_named (name_of u) (t ∷ ss) ≡ Some u) (sym e) (rw (used, (bytes_eq-Decides (name_of t) (name_of t)).1 refl) refl)
 first_of_own (t ∷ ss) own s (inr h) is =
-    let plain = not_true (is_dot (name_of s)) (both (is_in_use s.head) (not (is_dot (name_of s))) is).1 in
+    let plain = not_true (is_dots (name_of s)) (both (is_in_use s.head) (not (is_dots (name_of s))) is).1 in
     let other : has_name (name_of s) t ≡ false
     = false_from (has_name (name_of s) t) (λ named.
     all_in (λ (u : Slot). IsTrue (names_a_file u) → name_of t ≢ name_of u) s ss (own.0 (named_is_file (name_of s) t plain named)) h is
@@ -124,13 +124,13 @@ entries_are stay block_at (s ∷ ss) all = each (entries_are stay block_at ss al
     each more false is = rw is more
 
 -- `.` and `..` name no file
-dots_lead_nowhere : (block_at : ℕ → List ℕ) (n : List ℕ) (ss : List Slot) → is_dot n ≡ true → look (files_of block_at ss) n ≡ None
+dots_lead_nowhere : (block_at : ℕ → List ℕ) (n : List ℕ) (ss : List Slot) → is_dots n ≡ true → look (files_of block_at ss) n ≡ None
 dots_lead_nowhere block_at n ss dot = each (look (files_of block_at ss) n) refl
   where
     each : (o : Option Tree) → look (files_of block_at ss) n ≡ o → look (files_of block_at ss) n ≡ None
     each None e = e
     each (Some u) e =
-        let plain : is_dot n ≡ false = no_dot block_at n ss (λ gone. let both_are : Some u ≡ None = sym e ∙ gone in cc) in
+        let plain : is_dots n ≡ false = no_dot block_at n ss (λ gone. let both_are : Some u ≡ None = sym e ∙ gone in cc) in
         let differ : true ≡ false = sym dot ∙ plain in cc
 
 -- ---- what the inodes say
@@ -167,7 +167,7 @@ module _ (im : Image) (owners : Owners) (held : HoldingsAreOwned) (a : ℕ) (the
     no_child name = (λ i. (node_is i).child name) ∙ cond-false _ _ None is_file
 
   -- a directory in one block
-  module _ (directory : is_directory (dinode_of (im.at a)) ≡ true) (linear : (dinode_of (im.at a)).flags / 2 % 2 ≡ 0) where
+  module _ (directory : is_directory (dinode_of (im.at a)) ≡ true) (linear : has_hash_flag (dinode_of (im.at a)) ≡ false) where
     is_dir : is_directory_in (holding im owners a) ≡ true
     is_dir = ap is_directory dinode_is ∙ directory
 
@@ -184,10 +184,10 @@ module _ (im : Image) (owners : Owners) (held : HoldingsAreOwned) (a : ℕ) (the
     dir_child : (name : List ℕ) → (flat_of im owners a).child name ≡ (cond (is_dots name) None (child_named (records_of (holding im owners a)) name))
     dir_child name = (λ i. (node_is i).child name) ∙ cond-true _ _ None is_dir
 
-    dot_child : (name : List ℕ) → is_dot name ≡ true → (flat_of im owners a).child name ≡ None
+    dot_child : (name : List ℕ) → is_dots name ≡ true → (flat_of im owners a).child name ≡ None
     dot_child name dot = dir_child name ∙ cond-true _ None _ dot
 
-    name_child : (name : List ℕ) → is_dot name ≡ false
+    name_child : (name : List ℕ) → is_dots name ≡ false
         → (flat_of im owners a).child name ≡ option_map (λ r. r.address) (option_map record_of (first_named name (slots_of (stuffed_part (im.at a)))))
     name_child name plain =
         dir_child name ∙ cond-false _ None _ plain
@@ -236,7 +236,7 @@ module _ (d : DiskState) (t : Tree) (root : HasRoot d) (stands : Stands (image_o
   leads_down : (s : Slot) → IsIn s (root_slots d) → IsTrue (names_a_file s) → LeadsDown (heads_of (image_of d) owners) owners (root_of d) (record_of s)
   leads_down s h is =
       the_directory.down (record_of s) (contained (record_of s) (used_records (root_slots d)) (record_in s (root_slots d) h (is_used s is)))
-      (not_true (is_dot (name_of s)) (both (is_in_use s.head) (not (is_dot (name_of s))) is).1)
+      (not_true (is_dots (name_of s)) (both (is_in_use s.head) (not (is_dots (name_of s))) is).1)
 
   are_entries : AreEntries (files_of d.block_at (root_slots d))
   are_entries = entries_are stay d.block_at (root_slots d)
@@ -263,7 +263,7 @@ module _ (d : DiskState) (t : Tree) (root : HasRoot d) (stands : Stands (image_o
     of_dinodes = all_of IsOfDinode (root_slots d) (λ s h is.
         (all_in (λ (u : Slot). IsTrue (names_a_file u) → HasFile d u.head.inum.address) s (root_slots d) files h is, ap is_dinode (leads_down s h is).owner))
 
-    found_below : (n : List ℕ) → is_dot n ≡ false → (ns : Path) (o : Option Slot) → first_named n (root_slots d) ≡ o
+    found_below : (n : List ℕ) → is_dots n ≡ false → (ns : Path) (o : Option Slot) → first_named n (root_slots d) ≡ o
         → tree_below (found_file d.block_at o) ns ≡ inode_below flat (option_map (λ r. r.address) (option_map record_of o)) ns
     found_below n plain ns None e = refl
     found_below n plain ns (Some s) e =
@@ -274,7 +274,7 @@ module _ (d : DiskState) (t : Tree) (root : HasRoot d) (stands : Stands (image_o
         below_file flat s.head.inum.address (file_bytes (d.block_at s.head.inum.address))
         (file_thing (image_of d) owners held s.head.inum.address so.1 regular stuffed) (no_child (image_of d) owners held s.head.inum.address so.1 regular stuffed) ns
 
-    same_below : (n : List ℕ) (ns : Path) (b : Bool) → is_dot n ≡ b → tree_below (look (files_of d.block_at (root_slots d)) n) ns ≡ inode_below flat ((flat (root_of d)).child n) ns
+    same_below : (n : List ℕ) (ns : Path) (b : Bool) → is_dots n ≡ b → tree_below (look (files_of d.block_at (root_slots d)) n) ns ≡ inode_below flat ((flat (root_of d)).child n) ns
     same_below n ns true dot =
         ap (λ (o : Option Tree). tree_below o ns) (dots_lead_nowhere d.block_at n (root_slots d) dot)
         ∙ sym (ap (λ (o : Option ℕ). inode_below flat o ns) (dot_child (image_of d) owners held (root_of d) root_there root.directory.directory root.directory.linear n dot))
@@ -285,7 +285,7 @@ module _ (d : DiskState) (t : Tree) (root : HasRoot d) (stands : Stands (image_o
 
     same_at : (path : Path) → thing_at (dir (files_of d.block_at (root_slots d))) path ≡ thing_from flat (root_of d) path
     same_at [] = ap (λ (x : Thing). Some x) (sym (dir_thing (image_of d) owners held (root_of d) root_there root.directory.directory root.directory.linear))
-    same_at (n ∷ ns) = same_below n ns (is_dot n) refl
+    same_at (n ∷ ns) = same_below n ns (is_dots n) refl
 
     pub is_flat : IsTrue d.tells → ((node : ℕ) → d.in_flight node ≡ []) → HasSuperBlock d → IsFlat d t
     is_flat tells idle super = record {
@@ -301,7 +301,7 @@ module _ (d : DiskState) (t : Tree) (root : HasRoot d) (stands : Stands (image_o
   -- where no name is there twice, it is enough that first records lead to files
   all_lead : LeadFirstToFiles d (d.block_at (root_of d)) → AllByRecursion (λ s. IsTrue (names_a_file s) → HasFile d s.head.inum.address) (root_slots d)
   all_lead firsts = all_of (λ s. IsTrue (names_a_file s) → HasFile d s.head.inum.address) (root_slots d)
-      (λ s h is. firsts (name_of s) (not_true (is_dot (name_of s)) (both (is_in_use s.head) (not (is_dot (name_of s))) is).1) s (first_of_own (root_slots d) own s h is))
+      (λ s h is. firsts (name_of s) (not_true (is_dots (name_of s)) (both (is_in_use s.head) (not (is_dots (name_of s))) is).1) s (first_of_own (root_slots d) own s h is))
 
 pub names_are_flat : HoldingsAreOwned → ((es : Entries) (name : List ℕ) (tree : Tree) → AreEntries es → IsName name → IsTree tree → AreEntries (set es name tree)) → StandingNamesAreFlat
 names_are_flat held stay d t tells idle block begins firsts stands =

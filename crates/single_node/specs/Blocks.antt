@@ -43,7 +43,7 @@ pub data FileRefused (d : DiskState) (from address block : ℕ) : Refusal → Ty
 pub data CallRefuses (d : DiskState) (root : List ℕ) (call : Call) (block : ℕ) : Refusal → Type 0 where
   BadFile : CallReads root call block → block < d.count → (HasFile d block → ⊥) → CallRefuses d root call block refusal.Form
   FarFile : (far : ℕ) → CallReads root call far → d.count ≤ far → block ≡ root_of d → CallRefuses d root call block refusal.LeadsOut
-  BadName : call ≡ calls.List [] → block ≡ root_of d → (AllByRecursion HasItsFileName (slots_of (stuffed_part root)) → ⊥) → CallRefuses d root call block refusal.Form
+  BadName : call ≡ calls.List [] → block ≡ root_of d → (AllByRecursion HasItsFileName (slots_of (stuffed_part root)) → ⊥) → CallRefuses d root call block refusal.BadName
 
 -- so, where the disk tells its blocks and this is its root
 abbrev pub RefusesWhatIsTold : DiskState → List ℕ → Call → ℕ → Refusal → Type 0

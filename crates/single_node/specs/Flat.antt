@@ -1,7 +1,9 @@
 -- Flat images: the root is one block of records, and each of its files is one block of content.
-use Rattle.std.specs.Prelude.{ℕ, ◌≡◌, ◌≢◌, ⊤, ◌+◌, ◌/◌, ◌%◌, ◌<◌, ◌≤◌, ◌&&◌, ◌||◌, not, Bool, IsTrue, if◌then◌else◌, List, [], ◌∷◌, take, drop, codes, None}
+use Rattle.std.specs.Prelude.{ℕ, ◌≡◌, ◌≢◌, ⊤, ◌+◌, ◌/◌, ◌%◌, ◌<◌, ◌≤◌, ◌&&◌, not, Bool, IsTrue, if◌then◌else◌, List, [], ◌∷◌, take, drop, codes, None}
 use Rattle.std.specs.List.{AllByRecursion}
 use Rattle.std.specs.Str.{bytes_eq}
+use Rattle.gfs2_layout.specs.Inode.{has_hash_flag}
+use Rattle.gfs2_layout.specs.Records.{is_dots}
 use Rattle.file_tree.specs.Tree.{Tree, Entries, file, dir, none, set}
 use Rattle.file_tree.specs.Names.{IsName}
 use Rattle.gfs2_layout.specs.Device.{superblock_place}
@@ -38,12 +40,9 @@ stuffed_part block = drop dinode_length block
 abbrev pub file_bytes : List ℕ → List ℕ
 file_bytes block = take (dinode_of block).size (stuffed_part block)
 
-abbrev pub is_dot : List ℕ → Bool
-is_dot name = bytes_eq name (codes ".") || bytes_eq name (codes "..")
-
 -- a record in use, but for `.` and `..`
 abbrev pub names_a_file : Slot → Bool
-names_a_file s = is_in_use s.head && not (is_dot (name_of s))
+names_a_file s = is_in_use s.head && not (is_dots (name_of s))
 
 -- a record that names a file has a name
 abbrev pub HasItsFileName : Slot → Type 0
@@ -58,7 +57,7 @@ pub record IsFlatDirectory (size address : ℕ) (block : List ℕ) : Type 0 wher
   pub dinode : IsStuffed address block
   pub directory : IsTrue (is_directory (dinode_of block))
   pub whole : (dinode_of block).size + dinode_length ≡ size
-  pub linear : (dinode_of block).flags / 2 % 2 ≡ 0
+  pub linear : has_hash_flag (dinode_of block) ≡ false
   pub area : IsArea (stuffed_part block)
   pub files : AllByRecursion IsOfFile (slots_of (stuffed_part block))
 

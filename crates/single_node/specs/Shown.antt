@@ -1,11 +1,12 @@
 -- What is shown of a flat root, and what shows it refuses.
 use Rattle.std.specs.Prelude.{ℕ, ◌≡◌, ◌∷◌, false, List, [], Option, None, Some}
+use Rattle.gfs2_layout.specs.Records.{is_dots}
 use Rattle.file_tree.specs.declared.call.Call.{Call}
 use Rattle.gfs2_layout.specs.Area.{Slot, slots_of, first_named}
 use Rattle.shared_disk.specs.Disk.{DiskState}
 use Rattle.show_text.specs.Show.{file_line}
 use Rattle.single_node.specs.Blocks.{CallReads, RefusesWhatIsTold}
-use Rattle.single_node.specs.Flat.{HasFile, file_bytes, is_dot, stuffed_part}
+use Rattle.single_node.specs.Flat.{HasFile, file_bytes, stuffed_part}
 use Rattle.single_node.specs.declared.end.Refusal.{Refusal}
 
 -- the line of a name's file
@@ -22,7 +23,7 @@ LeadsFirstToFile d root name = (s : Slot) → first_named name (slots_of (stuffe
 
 -- each name but `.` and `..` does so
 abbrev pub LeadFirstToFiles : DiskState → List ℕ → Type 0
-LeadFirstToFiles d root = (name : List ℕ) → is_dot name ≡ false → LeadsFirstToFile d root name
+LeadFirstToFiles d root = (name : List ℕ) → is_dots name ≡ false → LeadsFirstToFile d root name
 
 -- what a call at the root would read, and what it would refuse
 abbrev pub TreeReads : List ℕ → ℕ → Type 0

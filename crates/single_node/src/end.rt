@@ -9,6 +9,8 @@ pub enum Refusal {
     Form,
     /// It has the number of a block that is outside the disk.
     LeadsOut,
+    /// It has a record of a file whose name is none.
+    BadName,
 }
 
 /// Why a run ended before its script did.

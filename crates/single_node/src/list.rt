@@ -48,7 +48,7 @@ pub(crate) fn list_call(alloc: Global, root: &Root, path: &Path) -> Result<Reply
     requires plain { length path.now ≤ 1 }
     ensures reply { IfOk result (λ reply. (disk : DiskState) (tree : Tree) → IsFlat disk tree → HasFlatRoot disk root.now
         → reply ≡ list_reply (walk tree path.now)) }
-    ensures block { IfErr result (λ end. IfNotRead end (λ b why. (why ≡ Refusal.Form) × (path.now ≡ []) × (b ≡ (dinode_of root.now).num.address)
+    ensures block { IfErr result (λ end. IfNotRead end (λ b why. (why ≡ Refusal.BadName) × (path.now ≡ []) × (b ≡ (dinode_of root.now).num.address)
         × (AllByRecursion HasItsFileName (slots_of (stuffed_part root.now)) → ⊥))) }
     ensures failed { IfErr result (λ end. IfDiskFailed end (λ _. ⊥)) }
     ensures cause { IfErr result (λ end. (faults : ℕ → ℕ) → EndHasCause 1 faults faults end) }
@@ -59,7 +59,7 @@ pub(crate) fn list_call(alloc: Global, root: &Root, path: &Path) -> Result<Reply
             Ok(Some(names)) => Ok(Reply::Names(names)),
             Ok(None) => Err(RunEnd::NotRead {
                 block: root.address(),
-                why: Refusal::Form,
+                why: Refusal::BadName,
             }),
             Err(_) => Err(RunEnd::NoMemory),
         };

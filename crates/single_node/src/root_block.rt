@@ -1,5 +1,6 @@
 ghost use Rattle.std.specs.Prelude.{◌≡◌, ◌/◌, ◌%◌, ◌<◌, ◌≤◌, ◌↔◌, ℕ, length, IsTrue, OnOk, IfOk, IfErr, MatchOption};
 ghost use Rattle.std.specs.List.{AllByRecursion};
+ghost use Rattle.gfs2_layout.specs.Records.{is_dots};
 ghost use Rattle.gfs2_layout.specs.Structures.{dinode_of};
 ghost use Rattle.gfs2_layout.specs.Area.{Slot, slots_of, IsShown, IsArea};
 ghost use Rattle.gfs2_layout.specs.Device.{IsBlockSize};
@@ -7,7 +8,7 @@ ghost use Rattle.shared_disk.specs.Disk.{IsIdle};
 ghost use Rattle.shared_disk.specs.Disk.{ReadsOnly};
 ghost use Rattle.single_node.specs.Ends.{EndHasCause, IfNotRead, IfDiskFailed};
 ghost use Rattle.single_node.specs.Blocks.{RootRefused};
-ghost use Rattle.single_node.specs.Flat.{IsStuffed, IsFlatDirectory, HasSuperBlock, HasFlatRoot, IsOfFile, names_a_file, stuffed_part, root_of, is_dot};
+ghost use Rattle.single_node.specs.Flat.{IsStuffed, IsFlatDirectory, HasSuperBlock, HasFlatRoot, IsOfFile, names_a_file, stuffed_part, root_of};
 
 use crate::fetch::fetch;
 use crate::{Refusal, RunEnd};
@@ -31,7 +32,7 @@ pub(crate) fn stuffed_dinode(block: &[u8], address: u64) -> Option<Dinode>
 }
 
 fn is_dot_name(name: &[u8]) -> bool
-    ensures { result ≡ is_dot name.now }
+    ensures { result ≡ is_dots name.now }
 {
     name == b".".as_slice() || name == b"..".as_slice()
 }

@@ -131,7 +131,7 @@ fn names_of(alloc: Global, root: &Root) -> Result<NameList, RunEnd>
         Ok(Some(names)) => Ok(names),
         Ok(None) => Err(RunEnd::NotRead {
             block: root.address(),
-            why: Refusal::Form,
+            why: Refusal::BadName,
         }),
         Err(_) => Err(RunEnd::NoMemory),
     }

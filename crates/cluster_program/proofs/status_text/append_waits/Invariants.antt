@@ -1,7 +1,7 @@
 use Rattle.std.proofs.Common.{◌≡◌, ◌++◌, length}
 use Rattle.std.specs.List.{flat_map}
 use Rattle.cluster_program.specs.StatusText.{waits_text, ended}
-use Rattle.cluster_program.specs.declared.status.Waits.{Waits}
+use Rattle.glock_names.specs.declared.Waits.{Waits}
 use Rattle.cluster_program.proofs.status_text.append_waits.Given as goal
 
 abbrev pub invariant-loop-rest : goal.invariant-loop-rest

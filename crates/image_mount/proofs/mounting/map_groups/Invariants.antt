@@ -1,6 +1,6 @@
 use Rattle.std.proofs.Common.{◌≡◌, take}
 use Rattle.std.specs.Prelude.{map}
-use Rattle.image_mount.specs.Mounted.{group_of_entry}
+use Rattle.glock_names.specs.Views.{group_of_entry}
 use Rattle.image_mount.proofs.mounting.map_groups.Given as goal
 
 abbrev pub invariant-loop-entry : goal.invariant-loop-entry

@@ -1,6 +1,6 @@
 use Rattle.std.proofs.Common.{IsTrue, ap, subst, sym, ◌∙◌, refl, arith}
 use Rattle.std.specs.Prelude.{map}
-use Rattle.image_mount.specs.Mounted.{group_of_entry}
+use Rattle.glock_names.specs.Views.{group_of_entry}
 use Rattle.image_model.specs.Image.{image_of}
 use Rattle.image_mount.specs.Refusals.{RefusesRightly}
 use Rattle.image_mount.specs.Rings.{AreRings}

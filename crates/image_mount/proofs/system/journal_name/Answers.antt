@@ -1,5 +1,5 @@
 use Rattle.std.proofs.Common.{sym, arith}
-use Rattle.image_mount.proofs.JournalNames.{digit_name}
+use Rattle.image_model.proofs.JournalNames.{digit_name}
 use Rattle.image_mount.proofs.system.journal_name.Goals as goal
 
 pub returns : goal.returns

@@ -6,14 +6,12 @@ use Rattle.image_model.specs.Claims.{every, master_of}
 use Rattle.image_model.specs.Owners.{Named}
 use Rattle.image_model.specs.Rules.{HasRecordIn, HasRecords}
 use Rattle.image_mount.specs.Listing.{said, AreRecordsOf}
-use Rattle.image_mount.specs.Refusals as outside
 use Rattle.image_mount.specs.System.{AreJournalsAmong, AreJournalsOf}
-use Rattle.image_mount.specs.declared.field.Field.TheVariants as field
-use Rattle.image_mount.proofs.Causes.{told_outside}
+use Rattle.image_mount.proofs.Causes.{told}
 use Rattle.image_mount.proofs.Numbered.{journals_of}
 use Rattle.image_mount.proofs.Records.{has_records}
 use Rattle.image_mount.proofs.Stops.{passed, stopped}
-use Rattle.image_mount.proofs.SystemFiles.{directory_in, hashed_jindex, not_directory}
+use Rattle.image_mount.proofs.SystemFiles.{directory_in, file_of_journals, hashed_jindex, not_directory}
 use Rattle.image_mount.proofs.system.list_journals.Goals as goal
 
 pub returns-in_err-check_record-clause-stops : goal.returns-in_err-check_record-clause-stops
@@ -25,8 +23,9 @@ returns-in_err-check_record-clause-stops c im l read groups at same named =
 
 pub returns-then-not-is_directory-clause-stops : goal.returns-then-not-is_directory-clause-stops
 returns-then-not-is_directory-clause-stops c im l read groups at same named =
-    let dinode = c.in_ok-inode.ensures.found im read ∙ ap (λ a. dinode_in (every im a)) (sym at) in
-    told_outside im _ field.Journals 0 c.outside.ensures (outside.no_journals l groups (not_directory im l.jindex c.in_ok-inode.inode.dinode c.is_directory.result dinode c.is_directory.ensures c.if-not-is_directory.true))
+    told im _ c.args.master 16 c.damaged.ensures groups.list.master.format
+    (file_of_journals im c.args.master c.args.jindex.now same named
+    (not_directory im c.args.jindex.now.entry.addr c.in_ok-inode.inode.dinode c.is_directory.result (c.in_ok-inode.ensures.found im read) c.is_directory.ensures c.if-not-is_directory.true))
 
 pub returns-then-is_hashed-clause-stops : goal.returns-then-is_hashed-clause-stops
 returns-then-is_hashed-clause-stops c im l read groups at same named =

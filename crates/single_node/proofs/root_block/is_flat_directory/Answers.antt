@@ -1,4 +1,4 @@
-use Rattle.std.proofs.Common.{◌/◌, ◌%◌, List, ℕ, sym, ap, ◌∙◌, subst, arith, refl}
+use Rattle.std.proofs.Common.{◌/◌, ◌%◌, ◌==◌, List, ℕ, sym, ap, ◌∙◌, subst, arith, refl}
 use Rattle.std.specs.List.{AllByRecursion}
 use Rattle.std.proofs.lemmas.List.{take_rest}
 use Rattle.gfs2_layout.specs.declared.dinode.Dinode.{Dinode}
@@ -22,7 +22,7 @@ returns c =
         dinode = stuffed.1;
         directory = ap is_directory (sym stuffed.0) ∙ sym c.if-not-is_directory.ensures;
         whole = omega (arith, c.if-not-whole.false, c.requires, ap (λ (d : Dinode). d.size) stuffed.0);
-        linear = ap (λ (d : Dinode). d.flags / 2 % 2) (sym stuffed.0) ∙ c.if-dinode-ne0.false;
+        linear = ap (λ (n : ℕ). n == 1) (ap (λ (d : Dinode). d.flags / 2 % 2) (sym stuffed.0) ∙ c.if-dinode-ne0.false);
         area = subst IsArea part (c.if-not-is_area.ensures.0 refl);
         files = subst (λ (a : List ℕ). AllByRecursion IsOfFile (slots_of a)) part (told.0 yes);
       },

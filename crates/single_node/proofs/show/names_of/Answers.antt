@@ -12,4 +12,4 @@ pub returns-in-Ok-None-clause-block : goal.returns-in-Ok-None-clause-block
 returns-in-Ok-None-clause-block c disk =
     let area = c.behind_dinode.ensures.part ∙ ap (λ (b : List ℕ). stuffed_part b) c.block.ensures in
     let lacks = none_told _ c.in-Ok-None.field-0 c.in-Ok-None.field-0-is c.in-Ok-None.ensures in
-    (calls.List [], λ tells has. refuses_name disk c.args.root.now [] c.address.result refusal.Form (refl, refl, c.address.ensures, λ all. lacks (subst (λ (a : List ℕ). AllByRecursion HasItsFileName (slots_of a)) (sym area) all)) has)
+    (calls.List [], λ tells has. refuses_name disk c.args.root.now [] c.address.result refusal.BadName (refl, refl, c.address.ensures, λ all. lacks (subst (λ (a : List ℕ). AllByRecursion HasItsFileName (slots_of a)) (sym area) all)) has)

@@ -9,6 +9,6 @@ invariant_of-result c =
     let view : IsView (seen_of (record { size = c.args.size; entries = c.loop-block.entries.items; places = c.loop-block.places.items; left = c.args.count })) = record {
       block_size = c.requires;
       whole = λ b bytes got. absurd (none_kept c.loop-block.entries.items b bytes c.loop-block.invariant.none got);
-      few_groups = omega (arith);
+      groups = record { few = omega (arith); rise = tt; end = tt };
     } in
     (view, grind (arith), grind (arith))

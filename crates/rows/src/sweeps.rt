@@ -1,0 +1,246 @@
+// A disk that fails at each of its calls in turn.
+use crate::commands::Command;
+use crate::images::Image;
+use crate::numbers::number_word;
+use crate::places::range_of;
+use crate::running::{Left, carry_out};
+use crate::wanted::{Text, Wanted, tell};
+use anyhow::{Context, Result, ensure};
+use std::alloc::Global;
+
+// A call of the disk: whose it is, the block, and how many lines are answered before.
+#[derive(Clone, Copy, Drop)]
+struct Call {
+    node: u64,
+    answered: u64,
+    block: Option<u64>,
+}
+
+// Adds the calls of a word: a block or a range of them, each block twice behind `x2`, or `-` for a barrier.
+fn add_word(
+    calls: &mut Vec<Call>,
+    image: &Image,
+    node: u64,
+    answered: u64,
+    word: &str,
+) -> Result<()> {
+    if word == "-" {
+        calls.push(Call {
+            node,
+            answered,
+            block: None,
+        })?;
+        return Ok(());
+    }
+    let (word, times) = match word.strip_suffix("x2") {
+        Some(word) => (word, 2),
+        None => (word, 1),
+    };
+    let (first, last) = range_of(image, word)?;
+    for block in first..=last.min(1_000_000) {
+        for _ in 0..times {
+            calls.push(Call {
+                node,
+                answered,
+                block: Some(block),
+            })?;
+        }
+    }
+    Ok(())
+}
+
+// Adds the calls of a line, as `node 0: BLOCKS` or `node 1 after 2: BLOCKS`.
+fn add_line(calls: &mut Vec<Call>, image: &Image, line: &str) -> Result<()> {
+    let (whose, blocks) = line.split_once(": ").context("a sweep without blocks")?;
+    let whose = whose
+        .strip_prefix("node ")
+        .context("a sweep without a node")?;
+    let (node, answered) = whose.split_once(" after ").unwrap_or((whose, "0"));
+    let node = number_word(node).context("no node")?;
+    let answered = number_word(answered).context("no number of lines")?;
+    for word in blocks.split(' ') {
+        add_word(calls, image, node, answered, word)?;
+    }
+    Ok(())
+}
+
+// So many lines of a text.
+fn put_front(out: &mut Vec<u8>, text: &[u8], count: u64) -> Result<()> {
+    let mut lines = 0u64;
+    for byte in text {
+        if lines >= count {
+            return Ok(());
+        }
+        out.push(*byte)?;
+        if *byte == b'\n' {
+            lines = lines.saturating_add(1);
+        }
+    }
+    Ok(())
+}
+
+fn fault_line(alloc: Global, call: &Call) -> Result<String> {
+    let node = call.node;
+    match call.block {
+        Some(block) => Ok(format!(in alloc;
+            "device fault: node {node} block {block} count 0 to 1\n"
+        )?),
+        None => Ok(format!(in alloc; "device fault: node {node} block - count 0 to 1\n")?),
+    }
+}
+
+fn all_of(bytes: Vec<u8>) -> Text {
+    Text { bytes, least: None }
+}
+
+// What is left where this call fails: before a node's first call only the fault is told, and then also what was answered.
+fn wanted_at(alloc: Global, whole: &Wanted, call: &Call) -> Result<Wanted> {
+    let mut out = Vec::new(alloc);
+    let mut trace = Vec::new(alloc);
+    if call.node > 0 {
+        put_front(&mut out, &whole.out.bytes, call.answered)?;
+        let counts = format!(in alloc;
+            "calls {} lost 0 commits 0 crashes 0 dirty 0\n",
+            call.answered
+        )?;
+        out.extend_from_slice(counts.as_bytes())?;
+        put_front(
+            &mut trace,
+            &whole.trace.bytes,
+            call.answered.saturating_add(1),
+        )?;
+    }
+    out.extend_from_slice(fault_line(alloc, call)?.as_bytes())?;
+    Ok(Wanted {
+        status: 5,
+        out: all_of(out),
+        trace: all_of(trace),
+    })
+}
+
+fn carry(
+    alloc: Global,
+    image: &Image,
+    bytes: Vec<u8>,
+    command: &Command<'_>,
+    call: u64,
+) -> Result<Left> {
+    let fails = command.given.fails.with_disk(alloc, call)?;
+    carry_out(alloc, image.size, bytes, &command.given, &fails)
+}
+
+// Where a call failed, the command is carried out again on what was left, and ends as it should, with the image that it
+// should leave.
+fn check_again(
+    alloc: Global,
+    image: &Image,
+    command: &Command<'_>,
+    left: Left,
+    made: &[u8],
+    report: &mut String,
+    before: &str,
+) -> Result<()> {
+    let left = carry_out(
+        alloc,
+        image.size,
+        left.bytes,
+        &command.given,
+        &command.given.fails,
+    )?;
+    tell(report, before, &command.wanted, &left)?;
+    if left.bytes.as_slice() != made {
+        writeln!(report, "  {before}the image that is made again is another")?;
+    }
+    Ok(())
+}
+
+fn calls_of(alloc: Global, image: &Image, lines: &[&str]) -> Result<Vec<Call>> {
+    let mut calls = Vec::new(alloc);
+    for line in lines {
+        if *line != "again" {
+            add_line(&mut calls, image, line)?;
+        }
+    }
+    Ok(calls)
+}
+
+fn heading(alloc: Global, size: u32, number: u64) -> Result<String> {
+    Ok(format!(in alloc; "at {size}, call {number}: ")?)
+}
+
+fn bytes_of(left: Left) -> Vec<u8> {
+    left.bytes
+}
+
+fn says_again(lines: &[&str]) -> bool {
+    for line in lines {
+        if *line == "again" {
+            return true;
+        }
+    }
+    false
+}
+
+/// Tells in what a command differs where each of these calls of the disk fails in turn, on this image; and where one call more
+/// is to fail, to which it doesn't come. With a line `again`, the command is then carried out again; without one, it leaves the image as it is.
+pub(crate) fn sweep(
+    alloc: Global,
+    base: &Image,
+    image: &Image,
+    command: &Command<'_>,
+    lines: &[&str],
+    made: &[u8],
+    report: &mut String,
+) -> Result<()> {
+    let calls = calls_of(alloc, base, lines)?;
+    let is_again = says_again(lines);
+    let mut number = 0u64;
+    let mut bytes = image.bytes.to_vec(alloc)?;
+    for call in &calls {
+        number = number.saturating_add(1);
+        let before = heading(alloc, image.size, number)?;
+        let left = carry(alloc, image, bytes, command, number)?;
+        let wanted = wanted_at(alloc, &command.wanted, call)?;
+        tell(report, before.as_str(), &wanted, &left)?;
+        bytes = if is_again {
+            check_again(alloc, image, command, left, made, report, before.as_str())?;
+            image.bytes.to_vec(alloc)?
+        } else {
+            bytes_of(left)
+        };
+        if !report.is_empty() {
+            return Ok(());
+        }
+    }
+    if bytes.as_slice() != image.bytes.as_slice() {
+        writeln!(report, "  at {}: a sweep left another image", image.size)?;
+    }
+    check_calls(alloc, image, command, number, report)
+}
+
+/// Tells in what a command differs where one call more of the disk is to fail than these, so many; and that the last of them
+/// is made.
+pub(crate) fn check_calls(
+    alloc: Global,
+    image: &Image,
+    command: &Command<'_>,
+    count: u64,
+    report: &mut String,
+) -> Result<()> {
+    let before = format!(in alloc; "at {}, behind call {count}: ", image.size)?;
+    let left = carry(
+        alloc,
+        image,
+        image.bytes.to_vec(alloc)?,
+        command,
+        count.saturating_add(1),
+    )?;
+    tell(report, before.as_str(), &command.wanted, &left)?;
+    if count > 0 {
+        let left = carry(alloc, image, left.bytes, command, count)?;
+        if left.status != 5 && command.given.fails.disk.is_empty() {
+            writeln!(report, "  at {}: call {count} is not made", image.size)?;
+        }
+    }
+    Ok(())
+}
