@@ -1,7 +1,7 @@
-//! What ties a node's cache to its glocks, and these to their demotions: laws over lists of calls on all of them.
+//! What ties a node's cache to its glocks, and these to their demotions and to the holder: laws over lists of calls on them.
 #![tactic(auto)]
 
-ghost use Rattle.std.specs.Prelude.{◌≡◌, ◌≤◌, ℕ, true, false, List, ◌∷◌, Some};
+ghost use Rattle.std.specs.Prelude.{◌≡◌, ◌≤◌, ℕ, true, false, List, [], ◌∷◌, Some};
 ghost use Rattle.std.specs.FinMap.{empty, get};
 ghost use Rattle.std.specs.List.{list_any};
 ghost use Rattle.glock_names.specs.declared.LockName.{LockName};
@@ -13,7 +13,9 @@ ghost use Rattle.demotion.specs.declared.stages.Stage.TheVariants.{Release};
 ghost use Rattle.demotion.specs.Stages.{stage_of};
 ghost use Rattle.glock_machine.specs.Table.{Table, glock_of};
 ghost use Rattle.glock_machine.specs.Calls.{Act, On, Touch, is_grant, deeds_on, after_all};
+ghost use Rattle.dlm_holder.specs.Holdings.{Holdings};
 ghost use Rattle.kept_laws.specs.Kept.{Kept, Call, AllFit, Fits, Goes};
+ghost use Rattle.kept_laws.specs.Told.{Told, Agree, AgreeAfter, MayAllBeTold};
 
 /// A law: whatever is called on glocks and cache, every cell is one that the state of its lock lets the node cache. It is so of
 /// an empty cache, whatever is held.
@@ -45,4 +47,11 @@ pub fn locks_go_flushed()
     ensures { (lock : LockName) (number : ℕ) (acts : List Act) (t now : Table) (u : Under) → now ≡ after_all (On lock (Touch number) ∷ acts) t
         → list_any is_grant (deeds_on lock acts) ≡ false → (glock_of now lock).state ≡ Ex
         → u.touched ≡ (glock_of now lock).touched → stage_of Ex u ≡ Release → number ≤ u.flushed }
+{}
+
+/// A law: where a grant and a lower are told to the glocks in a state, and to the holder in its mode, each lock is held there in
+/// the mode of its state. It is so at the start, where nothing is held.
+pub fn holders_and_glocks_agree()
+    ensures kept { (all : List Told) (t : Table) (h : Holdings) → MayAllBeTold all → Agree t h → AgreeAfter all t h }
+    ensures begun { Agree (record { locks = empty; unmounting = false }) [] }
 {}
