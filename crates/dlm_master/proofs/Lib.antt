@@ -6,3 +6,4 @@ pub mod CallbackLaws
 pub mod TurnLaws
 pub mod SoundLaws
 pub mod BlockLaws
+pub mod TakeLaws

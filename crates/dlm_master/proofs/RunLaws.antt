@@ -23,7 +23,7 @@ no-way : {A : Type 0} → false ≡ true → A
 no-way e = absurd (let f : false ≡ true = e in cc)
 
 -- what others hold goes with this mode of a node
-abbrev Goes : ℕ → Mode → List Claim → Type 0
+abbrev pub Goes : ℕ → Mode → List Claim → Type 0
 Goes node mode cs = AllByRecursion (λ d. node ≢ d.node → go_together mode d.mode ≡ true) cs
 
 -- a claim that goes with the others may be put
@@ -55,7 +55,7 @@ together-now cs node mode all goes = by (is_null mode)
     by false = together-with cs (claim node mode) all goes
 
 -- where nothing is in the way, the mode goes with what others hold
-way-goes : (cs : List Claim) (node : ℕ) (mode : Mode) → in_way cs node mode ≡ None → Goes node mode cs
+pub way-goes : (cs : List Claim) (node : ℕ) (mode : Mode) → in_way cs node mode ≡ None → Goes node mode cs
 way-goes [] node mode e = tt
 way-goes (x ∷ xs) node mode e = by (stands_in_way node mode x) refl (way-goes xs node mode)
   where
@@ -167,7 +167,7 @@ cause-none true waiting held conversions requests node mode e = absurd (let f : 
 cause-none false waiting held conversions requests node mode e =
     map-none _ (or-none (option_map Held (in_way held node mode)) _ (or-none (option_map Slot (least_of waiting)) _ e).1).0
 
-none-is : (o : Option ℕ) → is_none o ≡ true → o ≡ None
+pub none-is : (o : Option ℕ) → is_none o ≡ true → o ≡ None
 none-is None e = refl
 none-is (Some n) e = no-way e
 

@@ -15,7 +15,8 @@ use Rattle.dlm_master.specs.LockState.{LockState, TurnState}
 use Rattle.dlm_master.specs.Locks.{claim, is_free, turn, conversion_turns, all_turns, after_grants}
 use Rattle.dlm_master.specs.Tables.{holds_covered}
 use Rattle.dlm_master.specs.Laws.{IsSo, IsSound, IsSplit, Nobody, IsGranted, Stays, EachWaits, NoWaiterIsLost}
-use Rattle.dlm_master.proofs.ClaimLaws.{one-now, mode-away, mode-here, all-both, of-not, turned, one-left, one-right, one-apart}
+use Rattle.dlm_master.proofs.ClaimLaws.{one-now, mode-away, mode-here, all-both, of-not, turned, all-join, one-left, one-right, one-apart}
+use Rattle.dlm_master.proofs.RunLaws.{way-goes, none-is}
 use Rattle.dlm_master.proofs.CauseLaws.{way-so}
 
 no-way : {A : Type 0} → false ≡ true → A
@@ -23,33 +24,37 @@ no-way e = absurd (let f : false ≡ true = e in cc)
 
 -- ---- splits
 
-pub split-on : (xs ys granted more staying behind : List Claim) → IsSplit xs granted staying → IsSplit ys more behind → IsSplit (xs ++ ys) (granted ++ more) (staying ++ behind)
-split-on _ ys _ more _ behind Nobody s = s
-split-on _ ys _ more _ behind (IsGranted x xs granted staying r) s = IsGranted x (xs ++ ys) (granted ++ more) (staying ++ behind) (split-on xs ys granted more staying behind r s)
-split-on _ ys _ more _ behind (Stays x xs granted staying r) s = Stays x (xs ++ ys) (granted ++ more) (staying ++ behind) (split-on xs ys granted more staying behind r s)
+pub split-on : {passed : List Claim} (xs ys granted more staying behind : List Claim) → IsSplit passed xs granted staying → IsSplit (passed ++ staying) ys more behind
+    → IsSplit passed (xs ++ ys) (granted ++ more) (staying ++ behind)
+split-on _ ys _ more _ behind (Nobody passed) s = subst (λ (p : List Claim). IsSplit p ys more behind) (append-nil passed) s
+split-on _ ys _ more _ behind (IsGranted passed x xs granted staying goes r) s =
+    IsGranted passed x (xs ++ ys) (granted ++ more) (staying ++ behind) goes (split-on xs ys granted more staying behind r s)
+split-on _ ys _ more _ behind (Stays passed x xs granted staying r) s =
+    Stays passed x (xs ++ ys) (granted ++ more) (staying ++ behind)
+    (split-on xs ys granted more staying behind r (subst (λ (p : List Claim). IsSplit p ys more behind) (sym (append_assoc passed (x ∷ []) staying)) s))
 
 -- what holds of all who wait holds of those who are granted and of those who stay
-pub split-all : (P : Claim → Type 0) (ws granted staying : List Claim) → IsSplit ws granted staying → AllByRecursion P ws → AllByRecursion P granted × AllByRecursion P staying
-split-all P _ _ _ Nobody all = (tt, tt)
-split-all P _ _ _ (IsGranted w ws granted staying r) all = let rest = split-all P ws granted staying r all.1 in ((all.0, rest.0), rest.1)
-split-all P _ _ _ (Stays w ws granted staying r) all = let rest = split-all P ws granted staying r all.1 in (rest.0, (all.0, rest.1))
+pub split-all : (P : Claim → Type 0) {passed : List Claim} (ws granted staying : List Claim) → IsSplit passed ws granted staying → AllByRecursion P ws → AllByRecursion P granted × AllByRecursion P staying
+split-all P _ _ _ (Nobody passed) all = (tt, tt)
+split-all P _ _ _ (IsGranted passed w ws granted staying goes r) all = let rest = split-all P ws granted staying r all.1 in ((all.0, rest.0), rest.1)
+split-all P _ _ _ (Stays passed w ws granted staying r) all = let rest = split-all P ws granted staying r all.1 in (rest.0, (all.0, rest.1))
 
-pub split-one : (ws granted staying : List Claim) → IsSplit ws granted staying → OneEach ws → OneEach granted × OneEach staying
-split-one _ _ _ Nobody one = (tt, tt)
-split-one _ _ _ (IsGranted w ws granted staying r) one =
+pub split-one : {passed : List Claim} (ws granted staying : List Claim) → IsSplit passed ws granted staying → OneEach ws → OneEach granted × OneEach staying
+split-one _ _ _ (Nobody passed) one = (tt, tt)
+split-one _ _ _ (IsGranted passed w ws granted staying goes r) one =
     let rest = split-one ws granted staying r one.1 in
-    ((((split-all (λ d. is_of w.node d ≡ false) ws granted staying r one.0).0), rest.0), rest.1)
-split-one _ _ _ (Stays w ws granted staying r) one =
+    (((split-all (λ d. is_of w.node d ≡ false) ws granted staying r one.0).0, rest.0), rest.1)
+split-one _ _ _ (Stays passed w ws granted staying r) one =
     let rest = split-one ws granted staying r one.1 in
     (rest.0, ((split-all (λ d. is_of w.node d ≡ false) ws granted staying r one.0).1, rest.1))
 
 -- who stays is another node than who is granted
-pub split-apart : (ws granted staying : List Claim) → IsSplit ws granted staying → OneEach ws → AllByRecursion (λ w. Absent w.node granted) staying
-split-apart _ _ _ Nobody one = tt
-split-apart _ _ _ (IsGranted w ws granted staying r) one =
+pub split-apart : {passed : List Claim} (ws granted staying : List Claim) → IsSplit passed ws granted staying → OneEach ws → AllByRecursion (λ w. Absent w.node granted) staying
+split-apart _ _ _ (Nobody passed) one = tt
+split-apart _ _ _ (IsGranted passed w ws granted staying goes r) one =
     all-both (λ d. is_of w.node d ≡ false) (λ d. Absent d.node granted) (λ d. Absent d.node (w ∷ granted)) (λ d e rest. (turned d.node w.node e, rest)) staying
     (split-all (λ d. is_of w.node d ≡ false) ws granted staying r one.0).1 (split-apart ws granted staying r one.1)
-split-apart _ _ _ (Stays w ws granted staying r) one = (
+split-apart _ _ _ (Stays passed w ws granted staying r) one = (
   (split-all (λ d. is_of w.node d ≡ false) ws granted staying r one.0).0,
   split-apart ws granted staying r one.1,
 )
@@ -70,26 +75,39 @@ turn-either P before t w granted stays = by (is_free before t w) refl
     by true e = granted e
     by false e = stays e
 
--- what the turns of these waiters do
-pub record Turned (t u : TurnState) (ws : List Claim) : Type 0 where
+-- who is granted goes with those who stay before it
+free-goes : (before : List Claim) (t : TurnState) (w : Claim) → is_free before t w ≡ true
+    → AllByRecursion (λ v. w.node ≢ v.node → go_together w.mode v.mode ≡ true) (before ++ t.staying)
+free-goes before t w e =
+    let first = two _ _ e in
+    let second = two _ _ first.0 in
+    all-join (λ v. w.node ≢ v.node → go_together w.mode v.mode ≡ true) before t.staying
+    (way-goes before w.node w.mode (none-is _ second.1)) (way-goes t.staying w.node w.mode (none-is _ first.1))
+  where
+    two : (a b : Bool) → (a && b) ≡ true → (a ≡ true) × (b ≡ true)
+    two true b e = (refl, e)
+    two false b e = no-way e
+
+-- what the turns of these waiters do, before whom those stay
+pub record Turned (before : List Claim) (t u : TurnState) (ws : List Claim) : Type 0 where
   pub given : List Claim
   pub left : List Claim
   pub grants : u.granted ≡ t.granted ++ given
   pub stays : u.staying ≡ t.staying ++ left
   pub holds : u.held ≡ fold (λ cs w. now_holding cs w.node w.mode) t.held given
-  pub split : IsSplit ws given left
+  pub split : IsSplit (before ++ t.staying) ws given left
 
-pub turns : (before : List Claim) (t : TurnState) (ws : List Claim) → Turned t (fold (turn before) t ws) ws
-turns before t [] = record { given = []; left = []; grants = sym (append-nil t.granted); stays = sym (append-nil t.staying); holds = refl; split = Nobody }
+pub turns : (before : List Claim) (t : TurnState) (ws : List Claim) → Turned before t (fold (turn before) t ws) ws
+turns before t [] = record { given = []; left = []; grants = sym (append-nil t.granted); stays = sym (append-nil t.staying); holds = refl; split = Nobody (before ++ t.staying) }
 turns before t (w ∷ ws) =
-    turn-either (λ u. Turned t (fold (turn before) u ws) (w ∷ ws)) before t w
+    turn-either (λ u. Turned before t (fold (turn before) u ws) (w ∷ ws)) before t w
     (λ e. let r = turns before (grant t w) ws in record {
       given = w ∷ r.given;
       left = r.left;
       grants = r.grants ∙ append_assoc t.granted (w ∷ []) r.given;
       stays = r.stays;
       holds = r.holds;
-      split = IsGranted w ws r.given r.left r.split;
+      split = IsGranted (before ++ t.staying) w ws r.given r.left (free-goes before t w e) r.split;
     })
     (λ e. let r = turns before (stay t w) ws in record {
       given = r.given;
@@ -97,7 +115,7 @@ turns before t (w ∷ ws) =
       grants = r.grants;
       stays = r.stays ∙ append_assoc t.staying (w ∷ []) r.left;
       holds = r.holds;
-      split = Stays w ws r.given r.left r.split;
+      split = Stays (before ++ t.staying) w ws r.given r.left (subst (λ (p : List Claim). IsSplit p ws r.given r.left) (sym (append_assoc before t.staying (w ∷ []))) r.split);
     })
 
 -- ---- who is in the way
@@ -227,13 +245,13 @@ AllWait held earlier [] = ⊤
 AllWait held earlier (w ∷ ws) = (waits held earlier w ≡ true) × AllWait held (earlier ++ w ∷ []) ws
 
 -- each covers what its node holds
-abbrev Rise : List Claim → List Claim → Type 0
+abbrev pub Rise : List Claim → List Claim → Type 0
 Rise held ws = AllByRecursion (λ v. is_at_least v.mode (mode_at held v.node) ≡ true) ws
 
 mode_at-away : (held : List Claim) (v w : Claim) → is_of v.node w ≡ false → mode_at (now_holding held v.node v.mode) w.node ≡ mode_at held w.node
 mode_at-away held v w e = ap (λ (o : Option Mode). unwrap_or o Nl) (mode-away held v.node v.mode w.node (of-not w.node v.node e))
 
-rise-now : (held : List Claim) (v : Claim) (ws : List Claim) → Absent v.node ws → Rise held ws → Rise (now_holding held v.node v.mode) ws
+pub rise-now : (held : List Claim) (v : Claim) (ws : List Claim) → Absent v.node ws → Rise held ws → Rise (now_holding held v.node v.mode) ws
 rise-now held v ws =
     all-both (λ d. is_of v.node d ≡ false) (λ d. is_at_least d.mode (mode_at held d.node) ≡ true) (λ d. is_at_least d.mode (mode_at (now_holding held v.node v.mode) d.node) ≡ true)
     (λ d away covers. ap (is_at_least d.mode) (mode_at-away held v d away) ∙ covers) ws
@@ -322,8 +340,8 @@ pub record AllTurned (l : LockState) : Type 0 where
   pub granted : (all_turns l).granted ≡ first ++ second
   pub between : (conversion_turns l).held ≡ fold (λ cs w. now_holding cs w.node w.mode) l.held first
   pub held : (all_turns l).held ≡ fold (λ cs w. now_holding cs w.node w.mode) (conversion_turns l).held second
-  pub conversions : IsSplit l.conversions first (conversion_turns l).staying
-  pub requests : IsSplit l.requests second (all_turns l).staying
+  pub conversions : IsSplit [] l.conversions first (conversion_turns l).staying
+  pub requests : IsSplit (conversion_turns l).staying l.requests second (all_turns l).staying
 
 pub all-turned : (l : LockState) → AllTurned l
 all-turned l =
@@ -335,11 +353,12 @@ all-turned l =
       granted = b.grants ∙ ap (λ (g : List Claim). g ++ b.given) a.grants;
       between = a.holds;
       held = b.holds;
-      conversions = subst (λ (s : List Claim). IsSplit l.conversions a.given s) (sym a.stays) a.split;
-      requests = subst (λ (s : List Claim). IsSplit l.requests b.given s) (sym b.stays) b.split;
+      conversions = subst (λ (s : List Claim). IsSplit [] l.conversions a.given s) (sym a.stays) a.split;
+      requests = subst (λ (s : List Claim). IsSplit (conversion_turns l).staying l.requests b.given s) (sym b.stays)
+          (subst (λ (p : List Claim). IsSplit p l.requests b.given b.left) (append-nil (conversion_turns l).staying) b.split);
     }
 
-rise-of : (held cs : List Claim) → AllByRecursion (λ w. holds_covered (mode_of_node held w.node) w.mode ≡ true) cs → Rise held cs
+pub rise-of : (held cs : List Claim) → AllByRecursion (λ w. holds_covered (mode_of_node held w.node) w.mode ≡ true) cs → Rise held cs
 rise-of held [] all = tt
 rise-of held (c ∷ cs) all = (by (mode_of_node held c.node) all.0, rise-of held cs all.1)
   where
@@ -347,7 +366,7 @@ rise-of held (c ∷ cs) all = (by (mode_of_node held c.node) all.0, rise-of held
     by None e = no-way e
     by (Some had) e = e
 
-covers-null : (mode : Mode) → is_at_least mode Nl ≡ true
+pub covers-null : (mode : Mode) → is_at_least mode Nl ≡ true
 covers-null Nl = refl
 covers-null Cr = refl
 covers-null Cw = refl
@@ -355,7 +374,7 @@ covers-null Pr = refl
 covers-null Pw = refl
 covers-null Ex = refl
 
-rise-none : (held cs : List Claim) → AllByRecursion (λ w. mode_of_node held w.node ≡ None) cs → Rise held cs
+pub rise-none : (held cs : List Claim) → AllByRecursion (λ w. mode_of_node held w.node ≡ None) cs → Rise held cs
 rise-none held [] all = tt
 rise-none held (c ∷ cs) all = (ap (λ (o : Option Mode). is_at_least c.mode (unwrap_or o Nl)) all.0 ∙ covers-null c.mode, rise-none held cs all.1)
 
@@ -365,7 +384,7 @@ rise-given held given ws =
     all-both (λ w. Absent w.node given) (λ w. is_at_least w.mode (mode_at held w.node) ≡ true) (λ w. is_at_least w.mode (mode_at (fold (λ cs w. now_holding cs w.node w.mode) held given) w.node) ≡ true)
     (λ w away covers. ap (λ (o : Option Mode). is_at_least w.mode (unwrap_or o Nl)) (held-away held given w.node away) ∙ covers) ws
 
-absent-given : (ws granted staying requests : List Claim) → IsSplit ws granted staying → AllByRecursion (λ d. Absent d.node ws) requests → AllByRecursion (λ d. Absent d.node granted) requests
+absent-given : {passed : List Claim} (ws granted staying requests : List Claim) → IsSplit passed ws granted staying → AllByRecursion (λ d. Absent d.node ws) requests → AllByRecursion (λ d. Absent d.node granted) requests
 absent-given ws granted staying [] split all = tt
 absent-given ws granted staying (r ∷ requests) split all =
     ((split-all (λ d. is_of r.node d ≡ false) ws granted staying split all.0).0, absent-given ws granted staying requests split all.1)

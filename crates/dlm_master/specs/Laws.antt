@@ -1,5 +1,5 @@
 -- What holds of every lock at its master, and after every list of calls.
-use Rattle.std.specs.Prelude.{ℕ, ◌≡◌, ◌≢◌, ◌<◌, ◌⊎◌, ⊤, Bool, true, false, not, List, [], ◌∷◌, ◌++◌, Option, None, Some, Contains, filter}
+use Rattle.std.specs.Prelude.{ℕ, ◌≡◌, ◌≢◌, ◌<◌, ◌==◌, ◌⊎◌, ⊤, Bool, true, false, not, List, [], ◌∷◌, ◌++◌, Option, None, Some, Contains, filter}
 use Rattle.std.specs.List.{AllByRecursion}
 use Rattle.dlm_modes.specs.declared.Mode.{Mode}
 use Rattle.dlm_modes.specs.Modes.{go_together, is_at_least}
@@ -11,7 +11,7 @@ use Rattle.dlm_master.specs.Claims.{is_of, mode_of_node, mode_at, Absent, OneEac
 use Rattle.dlm_master.specs.LockState.{LockState}
 use Rattle.dlm_master.specs.Locks.{free_lock, claim, cause_of, all_turns, after_grants, callback_to}
 use Rattle.dlm_master.specs.Tables.{holds_covered}
-use Rattle.dlm_master.specs.Runs.{Call, Run, after, MayCall, after_all, MayCallAll}
+use Rattle.dlm_master.specs.Runs.{Call, Lowers, Run, after, MayCall, after_all, MayCallAll}
 
 -- ---- a wait names a cause that is so
 
@@ -51,13 +51,28 @@ pub record SoundLocksStaySound : Type 0 where
   pub free : IsSound free_lock
   pub stays : (r : Run) (calls : List Call) → MayCallAll r calls → IsSound r.lock → IsSound (after_all r calls).lock
 
+-- ---- a table has at least what a node was granted and hasn't lowered
+
+abbrev pub is_lower_of : Call → ℕ → Bool
+is_lower_of (Lowers other mode value) node = other == node
+is_lower_of call node = false
+
+-- no call but a node's own lower leaves the table less of the node than it had
+abbrev pub OnlyLowersTake : Type 0
+OnlyLowersTake = (r : Run) (call : Call) (node : ℕ) → MayCall r call → IsSound r.lock → is_lower_of call node ≡ false
+    → is_at_least (mode_at (after r call).lock.held node) (mode_at r.lock.held node) ≡ true
+
 -- ---- no waiter is lost
 
--- of those who wait these are granted and these stay, both in the order of their arrival
-pub data IsSplit : List Claim → List Claim → List Claim → Type 0 where
-  Nobody : IsSplit [] [] []
-  IsGranted : (w : Claim) (waiters granted staying : List Claim) → IsSplit waiters granted staying → IsSplit (w ∷ waiters) (w ∷ granted) staying
-  Stays : (w : Claim) (waiters granted staying : List Claim) → IsSplit waiters granted staying → IsSplit (w ∷ waiters) granted (w ∷ staying)
+-- of those who wait, behind some who stay, these are granted and these stay, both in the order of their arrival; and who is granted
+-- goes with each other who stays before it
+pub data IsSplit : List Claim → List Claim → List Claim → List Claim → Type 0 where
+  Nobody : (passed : List Claim) → IsSplit passed [] [] []
+  IsGranted : (passed : List Claim) (w : Claim) (waiters granted staying : List Claim)
+      → AllByRecursion (λ v. w.node ≢ v.node → go_together w.mode v.mode ≡ true) passed
+      → IsSplit passed waiters granted staying → IsSplit passed (w ∷ waiters) (w ∷ granted) staying
+  Stays : (passed : List Claim) (w : Claim) (waiters granted staying : List Claim)
+      → IsSplit (passed ++ w ∷ []) waiters granted staying → IsSplit passed (w ∷ waiters) granted (w ∷ staying)
 
 -- each who waits there has a cause: a holder, or one who waits before it
 abbrev pub EachWaits : List Claim → List Claim → List Claim → Type 0
@@ -70,8 +85,8 @@ pub record LosesNobody (l : LockState) : Type 0 where
   pub converted : List Claim
   pub requested : List Claim
   pub granted : (all_turns l).granted ≡ converted ++ requested
-  pub conversions : IsSplit l.conversions converted (after_grants l).conversions
-  pub requests : IsSplit l.requests requested (after_grants l).requests
+  pub conversions : IsSplit [] l.conversions converted (after_grants l).conversions
+  pub requests : IsSplit (after_grants l).conversions l.requests requested (after_grants l).requests
   -- each of them holds the lock as it asked for it, nobody else's hold has changed, and who stays has a cause
   pub given : IsSound l → AllByRecursion (λ w. mode_at (after_grants l).held w.node ≡ w.mode) (all_turns l).granted
   pub others : (node : ℕ) → Absent node (all_turns l).granted → mode_of_node (after_grants l).held node ≡ mode_of_node l.held node

@@ -1,7 +1,7 @@
 //! A master's table of locks: who holds each, who waits for it, and what the lock carries.
 #![tactic(auto)]
 
-ghost use Rattle.dlm_master.specs.Laws.{CauseIsSo, SoundLocksStaySound, NoWaiterIsLost, NoneWhileBlocked, GrantsKeepTogether, CallbacksAreDue};
+ghost use Rattle.dlm_master.specs.Laws.{CauseIsSo, SoundLocksStaySound, OnlyLowersTake, NoWaiterIsLost, NoneWhileBlocked, GrantsKeepTogether, CallbacksAreDue};
 
 mod beside;
 mod claims;
@@ -24,8 +24,14 @@ pub fn sound_locks_stay_sound()
     ensures { SoundLocksStaySound }
 {}
 
-/// A law: when those who wait take their turns, each is granted or stays, in the order of the arrival; who is granted holds the
-/// lock so, nobody else's hold has changed, and who stays has a cause.
+/// A law: no call but a node's own lower leaves the table less of the node than it had. So a table has at least what a node was
+/// granted and hasn't lowered, of conversions too.
+pub fn only_lowers_take()
+    ensures { OnlyLowersTake }
+{}
+
+/// A law: when those who wait take their turns, each is granted or stays, in the order of the arrival. Who is granted goes with
+/// each who stays before it, and holds the lock as it asked for it; nobody else's hold has changed; and who stays has a cause.
 pub fn no_waiter_is_lost()
     ensures { NoWaiterIsLost }
 {}

@@ -57,6 +57,6 @@ is-strongest-state = record {
   covered = covered;
   strongest = strongest;
   goes = λ mode other p.
-    together-turned other (mode_for (state_in mode)) (together-weaker other mode (mode_for (state_in mode)) (together-turned mode other p) (covered mode));
+      together-turned other (mode_for (state_in mode)) (together-weaker other mode (mode_for (state_in mode)) (together-turned mode other p) (covered mode));
   back = back;
 }

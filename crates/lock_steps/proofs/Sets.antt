@@ -4,32 +4,16 @@ use Rattle.std.specs.Prelude.{◌||◌, not, find, ◌^◌}
 use Rattle.std.specs.List.{AllByRecursion, list_all}
 use Rattle.std.specs.Int.Bits.{and_zero_l}
 use Rattle.fencing.specs.NodeSets.{has, all_nodes, least_of}
+use Rattle.fencing.proofs.LeastLaws as all_nodes_have
 use Rattle.lock_steps.proofs.Basics.{true-false}
 
 -- what holds of all nodes of the list holds of the nodes 0 to 8
 pub of-all : (P : ℕ → Type 0) → AllByRecursion P all_nodes → (k : ℕ) → k ≤ 8 → P k
-of-all P all zero h = all.0
-of-all P all (suc zero) h = all.1.0
-of-all P all (suc (suc zero)) h = all.1.1.0
-of-all P all (suc (suc (suc zero))) h = all.1.1.1.0
-of-all P all (suc (suc (suc (suc zero)))) h = all.1.1.1.1.0
-of-all P all (suc (suc (suc (suc (suc zero))))) h = all.1.1.1.1.1.0
-of-all P all (suc (suc (suc (suc (suc (suc zero)))))) h = all.1.1.1.1.1.1.0
-of-all P all (suc (suc (suc (suc (suc (suc (suc zero))))))) h = all.1.1.1.1.1.1.1.0
-of-all P all (suc (suc (suc (suc (suc (suc (suc (suc zero)))))))) h = all.1.1.1.1.1.1.1.1.0
-of-all P all (suc (suc (suc (suc (suc (suc (suc (suc (suc k))))))))) h = absurd (omega arith)
-
-find-none : (p : ℕ → Bool) (ks : List ℕ) → find p ks ≡ None → AllByRecursion (λ k. p k ≡ false) ks
-find-none p [] e = tt
-find-none p (k ∷ ks) e = by (p k) refl (find-none p ks)
-  where
-    by : (b : Bool) → p k ≡ b → (find p ks ≡ None → AllByRecursion (λ k. p k ≡ false) ks) → (p k ≡ false) × AllByRecursion (λ k. p k ≡ false) ks
-    by true h rest = absurd (let f : Some k ≡ None = rw h at e in cc)
-    by false h rest = (h, rest (rw h at e))
+of-all P all k h = all_nodes_have.of-all P all k (omega arith)
 
 -- a set without a least node has none
 pub least-none : (set : ℕ) → least_of set ≡ None → (k : ℕ) → k ≤ 8 → has set k ≡ false
-least-none set e = of-all (λ k. has set k ≡ false) (find-none (has set) all_nodes e)
+least-none set e k h = all_nodes_have.least-none set k e (omega arith)
 
 pub zero-has : (k : ℕ) → has 0 k ≡ false
 zero-has k = ap (λ (n : ℕ). not (nat_eq n 0)) (and_zero_l (2 ^ k))

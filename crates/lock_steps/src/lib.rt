@@ -72,7 +72,7 @@ pub fn requests_find_nothing()
     ensures { RequestsFindNothing }
 {}
 
-/// A law: who lowers a lock has at least that mode by the table.
+/// A law: who lowers a lock has at least that mode by the table, and waits for nothing.
 pub fn lowers_only_lower()
     ensures { LowersOnlyLower }
 {}
