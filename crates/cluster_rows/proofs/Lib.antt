@@ -1,2 +1,3 @@
 pub mod Rowing
 pub mod Marking
+pub mod Losing

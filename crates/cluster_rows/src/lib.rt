@@ -2,7 +2,7 @@
 #![tactic(auto)]
 
 ghost use Rattle.cluster_rows.specs.Rows.{RowsHold, CleanRow, ViewsAreSeen, CalmStays, HeldStays};
-ghost use Rattle.cluster_rows.specs.Marks.{HeadsAreMarked, EveryFrontIsPassed};
+ghost use Rattle.cluster_rows.specs.Marks.{HeadsAreMarked, LossesAreMarked, EveryFrontIsPassed};
 
 use cluster_laws::System;
 
@@ -19,9 +19,10 @@ pub fn full_is_seen<S: System>()
     ensures held { HeldStays S.files }
 {}
 
-/// A law: each head, and so each loss, counts from a header of its life, or from the last call before it.
+/// A law: each head has the number of a header of its life, or of the last call before it; and each loss is that of a life, and counts from such a head of it.
 pub fn losses_count_from_heads<S: System>()
-    ensures { HeadsAreMarked S.files }
+    ensures heads { HeadsAreMarked S.files }
+    ensures losses { LossesAreMarked S.files }
 {}
 
 /// A law: a run passes each front of its items.
