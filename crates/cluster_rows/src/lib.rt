@@ -2,6 +2,7 @@
 #![tactic(auto)]
 
 ghost use Rattle.cluster_rows.specs.Rows.{RowsHold, CleanRow, ViewsAreSeen, CalmStays, HeldStays};
+ghost use Rattle.cluster_rows.specs.Asks.{GrantsAreAsked};
 ghost use Rattle.cluster_rows.specs.Marks.{HeadsAreMarked, LossesAreMarked, EveryFrontIsPassed};
 
 use cluster_laws::System;
@@ -10,6 +11,11 @@ use cluster_laws::System;
 pub fn items_are_disciplined<S: System>()
     ensures rows { RowsHold S.files }
     ensures clean { CleanRow S.files }
+{}
+
+/// A law: a grant that is under way is of the state that the node last asked for.
+pub fn grants_are_asked<S: System>()
+    ensures { GrantsAreAsked S.files }
 {}
 
 /// A law: what a node saw that answered nospace is what every image has that a stop might leave, and what it held exclusive stays so until its item.
