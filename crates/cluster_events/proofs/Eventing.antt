@@ -24,7 +24,7 @@ pub waits-acts : (runs waits : Bool) → waits ≡ true → (runs && not waits) 
 waits-acts true waits e = ap not e
 waits-acts false waits e = refl
 
-stopped-acts : (runs waits : Bool) → runs ≡ false → (runs && not waits) ≡ false
+pub stopped-acts : (runs waits : Bool) → runs ≡ false → (runs && not waits) ≡ false
 stopped-acts runs waits e = ap (λ b. b && not waits) e
 
 acts-runs : (runs waits : Bool) → (runs && not waits) ≡ false → waits ≡ false → runs ≡ false

@@ -78,9 +78,11 @@ MayWork F c _ (world.Reads j b held) = (acts F c j ≡ true)
 MayWork F c _ (world.Writes r b v i live) = WritesFor F c r i × (c.header_of i ≡ None)
 -- a barrier leaves what was written; a fence, once the node has stopped, any bytes
 MayWork F c _ (world.Lands r x settles) = ((b : ℕ) → x b ≡ laid (((c.world).disk).flight r b) (((c.world).disk).blocks b)) ⊎ (c.runs r ≡ false)
--- by a node with nothing in flight, while no header of the journal is in flight, nor anything to a block of it
+-- by a node with nothing in flight, while no header of the journal is in flight, nor anything to a block of it. While its slot waits it is a replay's clean header,
+-- with the number of the accepted head
 MayWork F c _ (world.Begins i h single heads) = HasIdleWriter F c i × (c.header_of i ≡ None)
     × ((r b : ℕ) (v : F.Content) → ((c.world).disk).flight r b ≡ Some v → (BookOf F c).owner b ≡ Some i → ⊥)
+    × (c.waits i ≡ true → h.cut ≡ (BookOf F c).low i)
 -- its writer's barrier puts it on the disk; a fence, once the writer has stopped, finds it there or not
 MayWork F c _ (world.Ends i d) = (r : ℕ) × (c.header_of i ≡ Some r) × ((d ≡ true) ⊎ (c.runs r ≡ false))
 -- of a life that has ended and has no loss yet, and was fenced: it is, or the node has joined since

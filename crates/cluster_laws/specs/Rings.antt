@@ -25,8 +25,13 @@ EveryDisk R = (u w : World (files_of R)) → BeginsAt (files_of R) u → Run (fi
 
 pub record Rings (F : Files) (D : Disk F) : Type 0 where
   pub speaks : ℕ → ℕ
+  -- several journals speak for the past alone
+  pub past : ℕ
+  pub lone : (r k : ℕ) → speaks r ≡ speaks k → (speaks r ≡ past → ⊥) → r ≡ k
   -- the live blocks of each journal, by the old head and by the one in flight
   pub live : ℕ → Bool → ℕ → Option F.Content
+  -- no block is live in two journals
+  pub apart : (r k : ℕ) (c d : Bool) (b : ℕ) (u v : F.Content) → live r c b ≡ Some u → live k d b ≡ Some v → r ≡ k
   -- of those that speak for one node at most this has a header in flight
   pub one : ℕ → ℕ
   pub single : (r : ℕ) → (one (speaks r) ≡ r → ⊥) → live r true ≡ live r false
@@ -43,19 +48,20 @@ IsReplayOfRings F D R choice x r = (b : ℕ) → ((k : ℕ) × (v : F.Content) �
 abbrev pub RingsReplay : Files → Type 0
 RingsReplay F = (D : Disk F) (R : Rings F D) (choice : ℕ → Bool) (x r : ℕ → F.Content) → IsReplayOfRings F D R choice x r → IsReplay F D (λ i. choice (R.one i)) x r
 
--- a journal that has nothing live goes over to another node: a slot is recovered that waited since the start
+-- a journal that has nothing live goes over to another node, which has none yet: a slot is recovered that waited since the start
 abbrev pub RingGoesOver : Files → Type 0
-RingGoesOver F = (D : Disk F) (R : Rings F D) (k i : ℕ) → ((c : Bool) (b : ℕ) → R.live k c b ≡ None)
+RingGoesOver F = (D : Disk F) (R : Rings F D) (k i : ℕ) → ((c : Bool) (b : ℕ) → R.live k c b ≡ None) → ((r : ℕ) → R.speaks r ≡ i → r ≡ k)
     → (R' : Rings F D) × (R'.speaks k ≡ i) × ((r : ℕ) → (r ≡ k → ⊥) → R'.speaks r ≡ R.speaks r) × (R'.live ≡ R.live) × (R'.one ≡ R.one)
 
 -- a header for journal k begins, and no other of its node's is in flight: it is a header of the node, with what the new head and the node's
--- other journals have live. For the past so is the clean header of a replay
+-- other journals have live; what the new head has live no other journal has. For the past so is the clean header of a replay
 abbrev pub RingBegins : Files → Type 0
 RingBegins F = (D : Disk F) (R : Rings F D) (k : ℕ) (new : ℕ → Option F.Content) (h : Head F)
     → ((r : ℕ) → R.speaks r ≡ R.speaks k → R.live r true ≡ R.live r false)
     → ((b : ℕ) (v : F.Content) → h.live b ≡ Some v → (new b ≡ Some v) ⊎ ((r : ℕ) × (r ≡ k → ⊥) × (R.speaks r ≡ R.speaks k) × (R.live r false b ≡ Some v)))
     → ((b : ℕ) (v : F.Content) → new b ≡ Some v → h.live b ≡ Some v)
     → ((r b : ℕ) (v : F.Content) → (r ≡ k → ⊥) → R.speaks r ≡ R.speaks k → R.live r false b ≡ Some v → h.live b ≡ Some v)
+    → ((r b : ℕ) (c : Bool) (u v : F.Content) → (r ≡ k → ⊥) → new b ≡ Some u → R.live r c b ≡ Some v → ⊥)
     → (R' : Rings F (headed F D (R.speaks k) h)) × (R'.speaks ≡ R.speaks) × (R'.live ≡ at (R.live) k (either (R.live k false) new))
 
 -- a header of node i ends: each of its journals is as it turned out
@@ -67,7 +73,7 @@ RingEnds F = (D : Disk F) (R : Rings F D) (i : ℕ) (c : Bool)
 -- a slot is recovered that waited since the start: the past p gives back what no journal has live any more, and the journal goes over
 abbrev pub StartSlotRecovered : Files → Type 0
 StartSlotRecovered F = (w : World F) (R : Rings F (w.disk)) (p k i : ℕ) → Sound F w → (w.book).published p ≡ (w.book).answered p → (w.book).low p ≡ (w.book).answered p
-    → ((c : Bool) (b : ℕ) → R.live k c b ≡ None)
+    → ((c : Bool) (b : ℕ) → R.live k c b ≡ None) → ((r : ℕ) → R.speaks r ≡ i → r ≡ k)
     → (q : ℕ → Bool) × Sound F (record w { book = settled F (w.book) p q })
     × ((b : ℕ) → (settled F (w.book) p q).owner b ≡ Some p → (c : Bool) × (v : F.Content) × (((w.disk).heads p c).live b ≡ Some v))
     × ((R' : Rings F (w.disk)) × (R'.speaks k ≡ i) × ((r : ℕ) → (r ≡ k → ⊥) → R'.speaks r ≡ R.speaks r) × (R'.live ≡ R.live) × (R'.one ≡ R.one))

@@ -1,2 +1,4 @@
 pub mod Rowing
 pub mod Marking
+pub mod Losing
+pub mod Asking

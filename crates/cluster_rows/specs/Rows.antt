@@ -50,7 +50,7 @@ pub record LostRow (F : Files) (c : Cluster F) (i k : ℕ) : Type 0 where
   pub ended : (m : ℕ) × (c.unlost i ≡ suc m)
   pub right : LossIsRight F ((c.world).items) i ((BookOf F c).low i) k
 
--- grant: an ask of the node stands, no slot waits, and the state goes with every other node's, stopped nodes and the past among them
+-- grant: an ask of the node stands (for this state: `GrantsAreAsked`), no slot waits, and the state goes with every other node's, stopped nodes and the past among them
 pub record GrantRow (F : Files) (c : Cluster F) (i : ℕ) (l : F.Lock) (s : State) : Type 0 where
   pub asked : (c.locks l i).asked ≡ true
   pub none_waits : (k : ℕ) → c.waits k ≡ false

@@ -21,7 +21,7 @@ module _ (F : Files) where
   ]
 
   pub commit : CommitIsEvents F
-  commit c i u h t unheaded writer header = subst (λ z. Events F c z) same (Then c begun _ first (Then begun landed _ second (Done landed)))
+  commit c i u h t unheaded writer replays header = subst (λ z. Events F c z) same (Then c begun _ first (Then begun landed _ second (Done landed)))
     where
       begun : Cluster F
       begun = record c {
@@ -40,7 +40,7 @@ module _ (F : Files) where
 
       first : Event F c begun
       first = Works (begun.world) (Begins i h (t.headers i unheaded) (header_heads F (BookOf F c) (DiskOf F c) i u h ((t.world).whole) ((t.world).mirror) header))
-          (writer, unheaded, header.none_flying)
+          (writer, unheaded, header.none_flying, λ waits. header.cut ∙ replays waits)
 
       second : Event F begun landed
       second = Works (landed.world) (Ends i true) (writer.0, at-same (c.header_of) i (Some (writer.0)), inl refl)

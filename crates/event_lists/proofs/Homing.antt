@@ -19,6 +19,9 @@ use Rattle.event_lists.proofs.Stopping.{events-append}
 use Rattle.event_lists.proofs.Demoting.{commit, home_revoked, releases, clean_header}
 
 module _ (F : Files) where
+  never : {A : Type 0} {b : Bool} → b ≡ false → b ≡ true → A
+  never e f = cc
+
   -- ---- writes home
 
   -- the blocks are in flight
@@ -177,7 +180,7 @@ module _ (F : Files) where
         let first = (at_home.1).events in
         let c1 = with_disk F c (at_home.0) in
         let t1 = events_keep F c c1 first t in
-        let second = commit F c1 i ((BookOf F c).answered i) h t1 (rest.unheaded) (i, (rest.runs, inl refl), ((at_home.1).landed, (rest.idle).1)) header in
+        let second = commit F c1 i ((BookOf F c).answered i) h t1 (rest.unheaded) (i, (rest.runs, inl refl), ((at_home.1).landed, (rest.idle).1)) (never (rest.awake)) header in
         let c2 = committed F c1 i h in
         let t2 = events_keep F c1 c2 second t1 in
         let end = releases F c2 i locks cache t2 (rest.here) weakens (rest.all) (λ m ex. elim (left m ex) [ inl stays ↦ inl stays | inr none ↦ inr (may m none) ]) cached in (
@@ -255,7 +258,7 @@ module _ (F : Files) where
       × ((b : ℕ) → Untouched F (BookOf F (committed F c i h)) i ((BookOf F (committed F c i h)).low i) ((BookOf F c).answered i) b)
       × ((DiskOf F (committed F c i h)).heads i false ≡ h)
   flushed-first c i h t rest header =
-      let events = commit F c i ((BookOf F c).answered i) h t (rest.unheaded) (i, (rest.runs, inl refl), rest.idle) header in (
+      let events = commit F c i ((BookOf F c).answered i) h t (rest.unheaded) (i, (rest.runs, inl refl), rest.idle) (never (rest.awake)) header in (
         events,
         events_keep F c (committed F c i h) events t,
         record {

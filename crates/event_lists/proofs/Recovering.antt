@@ -100,7 +100,7 @@ module _ (F : Files) where
   -- ---- a slot that waited since the start
 
   pub start_recovery : StartRecoveryIsEvents F
-  start_recovery c R k i t here wait speaks none_live empty unheaded told flushed = (
+  start_recovery c R k i t here wait speaks none_live alone empty unheaded told flushed = (
     _,
     record {
       events = Then c (after_settled c (c.past) back) _
@@ -109,7 +109,7 @@ module _ (F : Files) where
       slot = at-same (c.waits) i false;
       items = refl;
       past = left;
-      rings = ring_goes_over F ((c.world).disk) R k i none_live;
+      rings = ring_goes_over F ((c.world).disk) R k i none_live alone;
     },
   )
     where

@@ -37,7 +37,7 @@ committed F c i h = record c {
 
 abbrev pub CommitIsEvents : Files → Type 0
 CommitIsEvents F = (c : Cluster F) (i u : ℕ) (h : Head F) → Together F c → c.header_of i ≡ None → HasIdleWriter F c i
-    → IsHeader F (BookOf F c) (DiskOf F c) i u h → Events F c (committed F c i h)
+    → (c.waits i ≡ true → u ≡ (BookOf F c).low i) → IsHeader F (BookOf F c) (DiskOf F c) i u h → Events F c (committed F c i h)
 
 -- a journal without whose calls no block was touched is past the flush of every lock: so it is behind a flush up to the last call, and stays with reads and syncs
 -- that are answered later (calls that change no tree touch no block)

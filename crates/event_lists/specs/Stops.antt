@@ -162,7 +162,7 @@ pub record IsStartRecovered (F : Files) (c : Cluster F) (R : Rings F ((c.world).
 
 abbrev pub StartRecoveryIsEvents : Files → Type 0
 StartRecoveryIsEvents F = (c : Cluster F) (R : Rings F ((c.world).disk)) (k i : ℕ) → Together F c → (i ≡ c.past → ⊥) → c.waits i ≡ true
-    → R.speaks k ≡ c.past → ((d : Bool) (b : ℕ) → R.live k d b ≡ None)
+    → R.speaks k ≡ c.past → ((d : Bool) (b : ℕ) → R.live k d b ≡ None) → ((r : ℕ) → R.speaks r ≡ i → r ≡ k)
     → ((b : ℕ) → (BookOf F c).owner b ≡ Some i → ⊥) → c.header_of i ≡ None → c.unlost i ≡ 0
     → (BookOf F c).low (c.past) ≡ (BookOf F c).answered (c.past)
     → (c' : Cluster F) × IsStartRecovered F c R k i c'

@@ -75,7 +75,8 @@ item_of I (Gone i upto kept) = item.Lost i kept
 abbrev pub history_of : (I : Images) → List (Item (Trees I)) → List its.Item
 history_of I items = map (item_of I) items
 
--- the number in the head of the loss at this place
+-- the number in the head of the loss at this place, which the machine's item has beside what a trace prints. It is that of a header of the life that was lost, or the
+-- number of the last call before this life (`LossesAreMarked` of cluster_rows)
 abbrev pub upto_at : (I : Images) → List (Item (Trees I)) → ℕ → ℕ
 upto_at I [] p = 0
 upto_at I (Called k ∷ is) zero = 0

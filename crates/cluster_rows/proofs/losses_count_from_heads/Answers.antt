@@ -1,5 +1,8 @@
-use Rattle.cluster_rows.proofs.Marking.{heads_marked}
+use Rattle.cluster_rows.proofs.Losing.{heads_marked, losses_marked}
 use Rattle.cluster_rows.proofs.losses_count_from_heads.Goals as goal
 
-pub returns : goal.returns
-returns g c = heads_marked _
+pub returns-clause-heads : goal.returns-clause-heads
+returns-clause-heads g c = heads_marked _
+
+pub returns-clause-losses : goal.returns-clause-losses
+returns-clause-losses g c = losses_marked _
