@@ -117,7 +117,7 @@ behind bad = record { slot = bad.slot; there = inr bad.there; of_file = bad.of_f
 badly_named : (ss : List Slot) → (AllByRecursion HasItsFileName ss → ⊥) → IsBadlyNamed ss
 badly_named [] lacks = absurd (lacks tt)
 badly_named (s ∷ ss) lacks = elim (cases_Bool (names_a_file s)) [
-  | inr plain ↦ behind (badly_named ss (λ all. lacks ((λ names. absurd (subst IsTrue plain names)), all)))
+  | inr plain ↦ behind (badly_named ss (λ all. lacks ((λ names. absurd (both_ways (names_a_file s) plain names)), all)))
   | inl of_file ↦ elim (name_cases (name_of s)) [
     | inl is ↦ behind (badly_named ss (λ all. lacks ((λ names. is), all)))
     | inr bad ↦ record { slot = s; there = inl refl; of_file = of_file; bad = bad }
