@@ -4,7 +4,7 @@
 ghost use Rattle.lock_steps.specs.Modes.{GoAsModes, CoverAsModes, HaveModesOfTheirOwn};
 ghost use Rattle.lock_steps.specs.Runs.{EveryRunIsCompatible, EveryTableCovers};
 ghost use Rattle.lock_steps.specs.Example.{ListCanBeMade};
-ghost use Rattle.lock_steps.specs.Exact.{TablesAreExact, RequestsFindNothing, LowersOnlyLower};
+ghost use Rattle.lock_steps.specs.Exact.{TablesAreExact, RequestsFindNothing, LowersOnlyLower, ReportsFindARebuild, HoldersAskForNothing};
 ghost use Rattle.lock_steps.specs.Laws.{MailIsNoStep, HolderCallsAreSteps, TableCallsAreSteps, MemberCallsAreSteps, EveryListIsSteps, EveryListIsRight, GrantsWait};
 
 /// A law: states go together and are at most one another as their modes.
@@ -75,6 +75,16 @@ pub fn requests_find_nothing()
 /// A law: who lowers a lock has at least that mode by the table, and waits for nothing.
 pub fn lowers_only_lower()
     ensures { LowersOnlyLower }
+{}
+
+/// A law: who reports is heard while the rebuild isn't done, and waits for nothing, as the rebuild's call requires.
+pub fn reports_find_a_rebuild()
+    ensures { ReportsFindARebuild }
+{}
+
+/// A law: of a member that holds the lock no ask stands, as the holder's call to lower it requires.
+pub fn holders_ask_for_nothing()
+    ensures { HoldersAskForNothing }
 {}
 
 /// A law: the calls can be made, from a start that there is. So what holds of every list of them isn't said of none.
