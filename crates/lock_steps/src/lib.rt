@@ -46,7 +46,7 @@ pub fn a_member_call_is_steps()
     ensures { MemberCallsAreSteps }
 {}
 
-/// A law: every list of calls from the start is a list of steps of the lock.
+/// A law: every list of calls from the start is a list of steps of the lock. Conversions aren't among the calls.
 pub fn every_list_is_steps()
     ensures { EveryListIsSteps }
 {}
@@ -87,7 +87,7 @@ pub fn holders_ask_for_nothing()
     ensures { HoldersAskForNothing }
 {}
 
-/// A law: the calls can be made, from a start that there is. So what holds of every list of them isn't said of none.
+/// A law: a list of calls can be made, from a start that there is: one node asks for a lock, and is granted it.
 pub fn a_list_can_be_made()
     ensures { ListCanBeMade }
 {}
