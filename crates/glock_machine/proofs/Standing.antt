@@ -19,7 +19,7 @@ use Rattle.glock_machine.specs.Wants.{is_wanted, with_want, is_unserved, unserve
 use Rattle.glock_machine.specs.Table.{Table, new_glock, glock_of, changed, common, wanted, unwanted, granted, pinned, unpinned, called_back, still_called, lowered, touched, down_of, may_ask}
 use Rattle.glock_machine.specs.Calls.{Deed, Want, Unwant, Pin, Unpin, Granted, Callback, Down, Touch, done, MayBeDone, all_done, is_grant, is_callback, is_down, Act, On, Unmount, after, after_all, Come, deeds_on, PinnedThroughout, Stands, CallStands, GoesFarEnough, HasTouch, KeepsWant, WantStands, last_granted}
 use Rattle.glock_machine.proofs.Locks.{key_total, key_exact}
-use Rattle.glock_machine.proofs.Below.{common_first, common_second}
+use Rattle.glock_machine.proofs.Below.{common_first, common_second, common_greatest}
 
 -- ---- one lock among all
 
@@ -430,6 +430,25 @@ first_call keep g none low =
   where
     allowed : common (unwrap_or g.called g.state) keep ≡ keep
     allowed = ap (λ o. common (unwrap_or o g.state) keep) none ∙ ap (λ b. cond b keep (cond (leq g.state keep) g.state Un)) (below_leq keep g.state low)
+
+pub second_call : (keep kept left allowed : State) (g : Glock) → g.called ≡ Some kept → (called_back keep g).called ≡ Some left
+    → leq allowed kept ≡ true → leq allowed keep ≡ true → leq allowed left ≡ true
+second_call keep kept left allowed g is now h k = by (leq g.state (allowed_of keep g)) now
+  where
+    low : leq allowed (allowed_of keep g) ≡ true
+    low = subst (λ o. leq allowed (common (unwrap_or o g.state) keep) ≡ true) (sym is) (common_greatest kept keep allowed h k)
+
+    by : (b : Bool) → (cond b g (record g { called = Some (allowed_of keep g); was_called = true })).called ≡ Some left → leq allowed left ≡ true
+    by true e = subst (λ s. leq allowed s ≡ true) (ap (λ o. unwrap_or o kept) (sym is ∙ e)) h
+    by false e = subst (λ s. leq allowed s ≡ true) (ap (λ o. unwrap_or o left) e) low
+
+pub lower_call : (to kept left allowed : State) (g : Glock) → g.called ≡ Some kept → (lowered to g).called ≡ Some left
+    → leq allowed kept ≡ true → leq allowed to ≡ true → leq allowed left ≡ true
+lower_call to kept left allowed g is now h k = by (leq to kept) (ap (still_called to) (sym is) ∙ now)
+  where
+    by : (b : Bool) → cond b None (Some (common kept to)) ≡ Some left → leq allowed left ≡ true
+    by true e = cc
+    by false e = subst (λ s. leq allowed s ≡ true) (ap (λ o. unwrap_or o left) e) (common_greatest kept to allowed h k)
 
 -- ---- what may be asked for
 

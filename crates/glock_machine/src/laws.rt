@@ -6,7 +6,7 @@ ghost use Rattle.glock_names.specs.declared.LockName.{LockName};
 ghost use Rattle.glock_names.specs.declared.State.{State};
 ghost use Rattle.glock_names.specs.declared.State.TheVariants.{Un};
 ghost use Rattle.glock_names.specs.StateOrder.{leq, is_below};
-ghost use Rattle.glock_machine.specs.Table.{Table, glock_of, common, pinned, unpinned, called_back, may_ask};
+ghost use Rattle.glock_machine.specs.Table.{Table, glock_of, common, pinned, unpinned, called_back, lowered, may_ask};
 ghost use Rattle.glock_machine.specs.declared.glock.Glock.{Glock};
 ghost use Rattle.glock_machine.specs.Calls.{Deed, Act, On, Want, Granted, Callback, Down, Touch, Come, after, after_all, all_done, deeds_on, is_grant, is_callback, is_down, PinnedThroughout, CallStands, GoesFarEnough, HasTouch, KeepsWant, WantStands, last_granted};
 
@@ -56,12 +56,16 @@ pub fn last_touches_were_made()
         → (last ≡ 0) ⊎ HasTouch last (deeds_on lock acts) }
 {}
 
-/// A law: a callback asks for no more than it says. The first stands as it was given; and of two states what both allow is at
-/// most what is kept of them.
+/// A law: a callback asks for no more than it says. The first stands as it was given; of a second one that comes, and of a lower
+/// that doesn't go far enough, what stands then is no less than what both allow; for `common` is the greatest of such states.
 pub fn callbacks_ask_no_more()
     ensures first { (keep : State) (g : Glock) → g.called ≡ None → is_below keep g.state ≡ true
         → called_back keep g ≡ record g { called = Some keep; was_called = true } }
-    ensures both { (a b allowed : State) → leq allowed a ≡ true → leq allowed b ≡ true → leq allowed (common a b) ≡ true }
+    ensures second { (keep kept left allowed : State) (g : Glock) → g.called ≡ Some kept → (called_back keep g).called ≡ Some left
+        → leq allowed kept ≡ true → leq allowed keep ≡ true → leq allowed left ≡ true }
+    ensures lower { (to kept left allowed : State) (g : Glock) → g.called ≡ Some kept → (lowered to g).called ≡ Some left
+        → leq allowed kept ≡ true → leq allowed to ≡ true → leq allowed left ≡ true }
+    ensures greatest { (a b allowed : State) → leq allowed a ≡ true → leq allowed b ≡ true → leq allowed (common a b) ≡ true }
 {}
 
 /// A law: an unpin takes one pin back, as long as no more are counted than fit.
