@@ -112,7 +112,7 @@ pub record TreeHeadline (I : Images) (w : World (Trees I)) : Type 0 where
       → AreLives ((w.book).published) (head_cuts (Trees I) (w.disk) choice) ls
       → history.Legal (history_of I (w.items ++ gones (Trees I) ls)) ((w.book).start)
       × I.StandsFor full (places (W (Trees I) (w.book) (head_cuts (Trees I) (w.disk) choice))) (tree_of (history_of I (w.items ++ gones (Trees I) ls)) ((w.book).start))
-  -- where no call behind the number of its node's head changes anything, as at the end of a run, no loss is needed: the image stands for the tree of the history
+  -- where no call behind the number of its node's head changes anything, as where each node unmounted, no loss is needed: the image stands for the tree of the history
   -- as it is
   pub at_the_end : FreeDoesNotMatter (rules_of I) → RingsDoNotMatter (rules_of I) → (choice : ℕ → Bool) (x r full : ℕ → I.Content)
       → ((p node client number : ℕ) (call : Call) (reply : Reply) → slice_get (history_of I (w.items)) p ≡ Some (item.Call node client number call reply)
