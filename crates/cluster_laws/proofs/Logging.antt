@@ -6,7 +6,7 @@ use Rattle.cluster_laws.specs.Files.{Files, CellOf, Part, LockOf, Touches, State
 use Rattle.cluster_laws.specs.Book.{Book, W, Whole, settled, relocked}
 use Rattle.cluster_laws.specs.Mirror.{Near, Head, Disk, Mirror, Heads}
 use Rattle.cluster_laws.specs.Locks.{Lowers}
-use Rattle.cluster_laws.specs.Log.{Untouched, Last, Calm, IsHeader, MayGo, NumbersStand, GoesDown}
+use Rattle.cluster_laws.specs.Log.{Untouched, Last, Calm, IsHeader, IsFlushed, IsRevoked, MayGo, NumbersStand, GoesDown}
 use Rattle.cluster_laws.proofs.Cells.{split, inside, none-some, laid-none, laid-some, whose-none, whose-some}
 use Rattle.cluster_laws.proofs.Settling.{whole_settled, one}
 use Rattle.cluster_laws.proofs.Locking.{whole_lowered, seen_by_lock}
@@ -228,22 +228,21 @@ module _ (F : Files) (B : Book F) (D : Disk F) (whole : Whole F B) (mirror : Mir
 
 -- ---- the test that a node makes
 
-pub number_tells : (F : Files) (B : Book F) (D : Disk F) (i : ℕ) (l : F.Lock) (since last : F.Lock → ℕ) → Whole F B → NumbersStand F B i since last
-    → ((c : Bool) (b : ℕ) (v : F.Content) → (D.heads i c).live b ≡ Some v → LockOf F (B.says i (B.low i) b) ≡ l → ⊥)
-    → last l ≤ B.low i → MayGo F B D i l
-number_tells F B D i l since last whole numbers unlive low = record {
-  unlive = unlive;
-  untouched = λ n b x lo hi h. elim (cases_lt n (since l)) [
-    | inl before ↦ numbers.none_before n b x l lo before h
-    | inr after ↦ (
-      λ e. never n lo after hi (subst (λ z. Touches F (B.change i (suc n)) z) e ((whole.logged i n lo hi).tracks b x h).1),
-      λ e. never n lo after hi (subst (λ z. Touches F (B.change i (suc n)) z) e ((whole.logged i n lo hi).tracks b x h).0),
-    )
-  ];
-}
+pub number_flushes : (F : Files) (B : Book F) (i : ℕ) (l : F.Lock) (since last : F.Lock → ℕ) → Whole F B → NumbersStand F B i since last → last l ≤ B.low i → IsFlushed F B i l
+number_flushes F B i l since last whole numbers low = λ n b x lo hi h. elim (cases_lt n (since l)) [
+  | inl before ↦ numbers.none_before n b x l lo before h
+  | inr after ↦ (
+    λ e. never n lo after hi (subst (λ z. Touches F (B.change i (suc n)) z) e ((whole.logged i n lo hi).tracks b x h).1),
+    λ e. never n lo after hi (subst (λ z. Touches F (B.change i (suc n)) z) e ((whole.logged i n lo hi).tracks b x h).0),
+  )
+]
   where
     never : (n : ℕ) → B.low i ≤ n → since l ≤ n → n < B.answered i → Touches F (B.change i (suc n)) l → ⊥
     never n lo after hi t = let p = numbers.touched n l lo after hi t in absurd (omega arith)
+
+pub number_tells : (F : Files) (B : Book F) (D : Disk F) (i : ℕ) (l : F.Lock) (since last : F.Lock → ℕ) → Whole F B → NumbersStand F B i since last
+    → IsRevoked F B D i l → last l ≤ B.low i → MayGo F B D i l
+number_tells F B D i l since last whole numbers unlive low = record { unlive = unlive; untouched = number_flushes F B i l since last whole numbers low }
 
 pub calm_untouched : (F : Files) (B : Book F) (i lo hi b : ℕ) → Whole F B → B.low i ≤ lo → hi ≤ B.answered i → Calm F B i lo hi → Untouched F B i lo hi b
 calm_untouched F B i lo hi b whole low high quiet n l h = ((whole.logged i n (omega arith) (omega arith)).tells).empty (quiet n l h) b

@@ -1,10 +1,10 @@
 -- Histories with losses that are not there yet: they are legal, and keep what the cut keeps.
-use Rattle.std.proofs.Common.{ℕ, ◌≡◌, ◌≤◌, ◌<◌, ◌⊎◌, inl, inr, Bool, true, false, ◌&&◌, List, [], ◌∷◌, ◌++◌, refl, sym, ap, ◌∙◌, subst, arith}
+use Rattle.std.proofs.Common.{ℕ, suc, ◌+◌, ◌≡◌, ◌≤◌, ◌<◌, ◌⊎◌, inl, inr, Bool, true, false, ◌&&◌, List, [], ◌∷◌, ◌++◌, refl, sym, ap, ◌∙◌, subst, arith}
 use Rattle.std.specs.Prelude.{nat_lt, if◌then◌else◌}
 use Rattle.std.proofs.lemmas.Bool.{cases_eq, cases_lt, cases_Bool, cond-true, cond-false, eq-eqb}
 use Rattle.cluster_laws.specs.Files.{Files, RightTo}
 use Rattle.cluster_laws.specs.Book.{at, Kept, Book, W, InBox, kept_by, Numbered, dropped, Whole}
-use Rattle.cluster_laws.specs.History.{Item, Gone, living, saids, Legal, Life, gones, least, cut_at, Above, HasLife, AreLives}
+use Rattle.cluster_laws.specs.History.{Item, Called, Gone, living, saids, Legal, Each, calls_of, Fitting, Life, gones, least, cut_at, Above, HasLife, AreLives}
 use Rattle.cluster_laws.specs.Log.{Calm}
 use Rattle.cluster_laws.specs.World.{World, Sound}
 use Rattle.cluster_laws.specs.Mirror.{Near, IsOutcome, IsReplay, FreeIsFree, placed}
@@ -12,7 +12,7 @@ use Rattle.cluster_laws.specs.Laws.{RemainsLegal, PrefixClause, HasLoss, AreLoss
 use Rattle.cluster_laws.proofs.Logging.{steady, calm_untouched}
 use Rattle.cluster_laws.proofs.Cells.{split, whose-none, whose-some, ltb-true, ltb-false, eqb-false, at-same, at-other, at-cases}
 use Rattle.cluster_laws.proofs.Replaying.{near, stands_for_what_remains}
-use Rattle.cluster_laws.proofs.Histories.{living-gone, Legal-more}
+use Rattle.cluster_laws.proofs.Histories.{living-gone, Legal-more, calls_of-called, calls_of-gone}
 
 -- the kept calls of a cut, with their nodes and numbers
 keep : (F : Files) → (ℕ → ℕ) → List (Kept F) → List (Kept F)
@@ -189,7 +189,49 @@ cut_at-losses F B published cut ls below top losses i = (
   ],
 )
 
-module _ (F : Files) (w : World F) (s : Sound F w) (free : FreeIsFree F) (calm : NothingIsUnflushed F w) where
+-- ---- each number up to a node's last has its item
+
+Each-both : (F : Files) (P Q : Kept F → Type 0) (xs : List (Item F)) → Each F P xs → Each F Q xs → Each F (λ k. P k × Q k) xs
+Each-both F P Q [] p q = tt
+Each-both F P Q (Called k ∷ xs) p q = ((p.0, q.0), Each-both F P Q xs (p.1) (q.1))
+Each-both F P Q (Gone i upto kept ∷ xs) p q = Each-both F P Q xs p q
+
+call-found : (F : Files) (P : Kept F → Type 0) (before rest items : List (Item F)) (i n : ℕ) → items ≡ before ++ rest → Fitting F items → Each F P rest
+    → calls_of F i before ≤ n → n < calls_of F i before + calls_of F i rest → (k : Kept F) × P k × (k.node ≡ i) × (k.number ≡ suc n)
+call-found F P before [] items i n e fits each low high = absurd (omega arith)
+call-found F P before (Gone j upto kept ∷ rest) items i n e fits each low high =
+    let same = calls_of-gone F i j upto kept before in
+    call-found F P (before ++ (Gone j upto kept ∷ [])) rest items i n (e ∙ sym (append_assoc before (Gone j upto kept ∷ []) rest)) fits each (omega (arith, same, low)) (omega (arith, same, high))
+call-found F P before (Called k ∷ rest) items i n e fits each low high = elim (cases_eq (k.node) i) [
+  | inl here ↦ (let test = eq-eqb (k.node) i here in
+      let now = calls_of-called F i k before ∙ cond-true _ _ _ test in
+      let all : calls_of F i (Called k ∷ rest) ≡ suc (calls_of F i rest) = cond-true _ _ _ test in
+      elim (cases_eq (calls_of F i before) n) [
+        | inl first ↦ (k, each.0, here, fits before rest (Called k) e ∙ ap (λ z. suc (calls_of F z before)) here ∙ ap suc first)
+        | inr later ↦ call-found F P (before ++ (Called k ∷ [])) rest items i n (e ∙ sym (append_assoc before (Called k ∷ []) rest)) fits (each.1)
+            (omega (arith, now, low, later)) (omega (arith, now, all, high))
+      ])
+  | inr other ↦ (let test = eqb-false (k.node) i other in
+      let now = calls_of-called F i k before ∙ cond-false _ _ _ test in
+      let all : calls_of F i (Called k ∷ rest) ≡ calls_of F i rest = cond-false _ _ _ test in
+      call-found F P (before ++ (Called k ∷ [])) rest items i n (e ∙ sym (append_assoc before (Called k ∷ []) rest)) fits (each.1)
+      (omega (arith, now, low)) (omega (arith, now, all, high)))
+]
+
+module _ (F : Files) (w : World F) (s : Sound F w) (free : FreeIsFree F) (choice : ℕ → Bool) (flushed : NothingIsUnflushed F w choice) where
+  calm : (i : ℕ) → Calm F (w.book) i (head_cuts F (w.disk) choice i) ((w.book).published i)
+  calm i n low high =
+      let count = s.counted i in
+      let found = call-found F (λ k. (head_cuts F (w.disk) choice (k.node) < k.number → F.Changes (k.said) ≡ false)
+      × ((k.number ≤ (w.book).published (k.node)) × (k.said ≡ (w.book).told (k.node) (k.number)))) [] (w.items) (w.items) i n refl (s.fits)
+      (Each-both F _ _ (w.items) flushed (s.heard)) (omega arith) (omega (arith, count, high)) in
+      let k = found.0 in
+      let node : k.node ≡ i = found.2 in
+      let number : k.number ≡ suc n = found.3 in
+      let above : head_cuts F (w.disk) choice (k.node) < k.number = subst (λ z. head_cuts F (w.disk) choice z < k.number) (sym node) (omega (arith, number, low)) in
+      let said : k.said ≡ (w.book).told i (suc n) = ((found.1).1).1 ∙ ap (λ z. (w.book).told z (k.number)) node ∙ ap ((w.book).told i) number in
+      sym (ap (F.Changes) said) ∙ (found.1).0 above
+
   -- the image of all published calls stands for the tree of the history
   all-stands : (t : F.Tree) × F.Stands (W F (w.book) ((w.book).published)) t × RightTo F (saids F (living F (w.items))) ((w.book).start) t
   all-stands =
@@ -200,17 +242,17 @@ module _ (F : Files) (w : World F) (s : Sound F w) (free : FreeIsFree F) (calm :
             (sym (saids-keep F ((w.book).published) ((w.book).kept)) ∙ ap (saids F) (keep-all F ((w.book).published) ((w.book).kept) ((s.whole).numbered)) ∙ ap (saids F) (sym (s.told))) (right.2),
       )
 
-  -- it is the image of the heads, whichever they are
-  same-image : (choice : ℕ → Bool) → W F (w.book) ((w.book).published) ≡ W F (w.book) (λ i. ((w.disk).heads i (choice i)).cut)
-  same-image choice = image_same F (w.book) (s.whole) (λ i. ((w.disk).heads i (choice i)).cut) ((w.book).published)
-      (λ i. (let c = (s.mirror).cuts i (choice i) in let p = c.0 in (c.0, c.1, (s.whole).published_answered i, λ n low high. calm i n (omega arith) high)))
+  -- it is the image of the heads
+  same-image : W F (w.book) ((w.book).published) ≡ W F (w.book) (λ i. ((w.disk).heads i (choice i)).cut)
+  same-image = image_same F (w.book) (s.whole) (λ i. ((w.disk).heads i (choice i)).cut) ((w.book).published)
+      (λ i. (let c = (s.mirror).cuts i (choice i) in (c.0, c.1, (s.whole).published_answered i, calm i)))
 
-  pub end-stands : (choice : ℕ → Bool) (x r : ℕ → F.Content) → IsOutcome F (w.disk) x → IsReplay F (w.disk) choice x r
+  pub end-stands : (x r : ℕ → F.Content) → IsOutcome F (w.disk) x → IsReplay F (w.disk) choice x r
       → (t : F.Tree) × F.Stands (placed F r (W F (w.book) ((w.book).published))) t × RightTo F (saids F (living F (w.items))) ((w.book).start) t
-  end-stands choice x r outcome replay = (
+  end-stands x r outcome replay = (
     all-stands.0,
     free (W F (w.book) ((w.book).published)) (placed F r (W F (w.book) ((w.book).published))) (all-stands.0) (all-stands.1)
-        (λ b. elim (subst (λ m. Near F (r b) (m b)) (sym (same-image choice)) (near F (w.book) (w.disk) (s.mirror) choice x r outcome replay b)) [
+        (λ b. elim (subst (λ m. Near F (r b) (m b)) (sym same-image) (near F (w.book) (w.disk) (s.mirror) choice x r outcome replay b)) [
           | inl e ↦ inl (ap (λ d. record { content = d; place = (W F (w.book) ((w.book).published) b).place }) e)
           | inr f ↦ inr (f, refl)
         ]),
@@ -218,7 +260,7 @@ module _ (F : Files) (w : World F) (s : Sound F w) (free : FreeIsFree F) (calm :
   )
 
 pub at_the_end : (F : Files) → AtTheEnd F
-at_the_end F w choice x r s free calm outcome replay = end-stands F w s free calm choice x r outcome replay
+at_the_end F w choice x r s free flushed outcome replay = end-stands F w s free choice flushed x r outcome replay
 
 pub image_at_the_end : (F : Files) → ImageAtTheEnd F
-image_at_the_end F w s free calm still none = end-stands F w s free calm (λ i. false) ((w.disk).blocks) ((w.disk).blocks) (λ b. inl refl) (λ b. inr ((λ i. none i false b), refl))
+image_at_the_end F w choice s free flushed still none = end-stands F w s free choice flushed ((w.disk).blocks) ((w.disk).blocks) (λ b. inl refl) (λ b. inr ((λ i. none i b), refl))

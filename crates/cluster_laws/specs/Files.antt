@@ -76,7 +76,8 @@ abbrev pub Guards : (F : Files) → (F.Lock → State) → Part F → Part F →
 Guards F held v c = (m : Image F) (t : F.Tree) (b : ℕ) (y : CellOf F) → Agrees F v m → F.Stands m t → c b ≡ Some y
     → (held (LockOf F (m b)) ≡ Ex) × (held (LockOf F y) ≡ Ex)
 
--- the locks that a change touches: those of the blocks that it writes, as they are afterwards, and those of the inodes whose dinodes it frees
+-- the locks that a change touches: those of the blocks that it writes, as they are afterwards, and the inode lock of each block that it frees, also of one that was no
+-- dinode: the node may still hold that lock
 abbrev pub Touches : (F : Files) → Part F → F.Lock → Type 0
 Touches F c l = (n : ℕ) × (y : CellOf F) × (c n ≡ Some y)
     × (((F.IsFree (y.place) → ⊥) × (LockOf F y ≡ l)) ⊎ (F.IsFree (y.place) × (F.inode n ≡ l)))

@@ -4,8 +4,8 @@ use Rattle.cluster_laws.specs.Files.{Files, Part, LockOf, RightTo, State, Un, Ex
 use Rattle.cluster_laws.specs.Book.{Book, Whole, W, Seen, tried, publish, flushed, settled, relocked, kept_by, lost}
 use Rattle.cluster_laws.specs.Locks.{Lowers, Raises, read_into}
 use Rattle.cluster_laws.specs.Mirror.{Near, Head, Heads, Disk, Mirror, IsOutcome, IsReplay, FreeIsFree, placed, renumbered}
-use Rattle.cluster_laws.specs.History.{Legal, living, saids, Life, gones, cut_at, Above, AreLives, Gone}
-use Rattle.cluster_laws.specs.Log.{Untouched, Calm, IsHeader, MayGo, NumbersStand, GoOn, GoesDown}
+use Rattle.cluster_laws.specs.History.{Legal, living, saids, Each, Life, gones, cut_at, Above, AreLives, Gone}
+use Rattle.cluster_laws.specs.Log.{Untouched, Calm, IsHeader, IsFlushed, IsRevoked, MayGo, NumbersStand, GoOn, GoesDown}
 use Rattle.cluster_laws.specs.Notes.{Note, NoteStands, Caches, CachesAfter, CacheMinds, NoteMinds, NeedsBlock}
 use Rattle.cluster_laws.specs.World.{World, Answering, Step, Answers, Sound}
 
@@ -46,11 +46,14 @@ abbrev pub ReleaseKeeps : Files → Type 0
 ReleaseKeeps F = (B : Book F) (D : Disk F) (i : ℕ) (state : ℕ → F.Lock → State) (cache : ℕ → Part F) → Whole F B → Mirror F B D → GoesDown F B D i state cache
     → (p : ℕ → Bool) × Whole F (relocked F (settled F B i p) state cache) × Mirror F (relocked F (settled F B i p) state cache) D
 
--- the test that a node makes: no live block was under the lock at its flush, and the last call since its grant that touched it is in the journal
+-- the test that a node makes: the last call since its grant that touched the lock is in the journal, so the lock is past its flush, whatever calls were answered since
+abbrev pub NumberFlushes : Files → Type 0
+NumberFlushes F = (B : Book F) (i : ℕ) (l : F.Lock) (since last : F.Lock → ℕ) → Whole F B → NumbersStand F B i since last → last l ≤ B.low i → IsFlushed F B i l
+
+-- and where no live block is under it, it may go
 abbrev pub NumberTells : Files → Type 0
 NumberTells F = (B : Book F) (D : Disk F) (i : ℕ) (l : F.Lock) (since last : F.Lock → ℕ) → Whole F B → NumbersStand F B i since last
-    → ((c : Bool) (b : ℕ) (v : F.Content) → (D.heads i c).live b ≡ Some v → LockOf F (B.says i (B.low i) b) ≡ l → ⊥)
-    → last l ≤ B.low i → MayGo F B D i l
+    → IsRevoked F B D i l → last l ≤ B.low i → MayGo F B D i l
 
 -- calls that change no tree touch no block
 abbrev pub CalmIsUntouched : Files → Type 0
@@ -150,19 +153,19 @@ PrefixClause F = (w : World F) (choice : ℕ → Bool) (x r : ℕ → F.Content)
     → Legal F (w.items ++ gones F ls) ((w.book).start)
     × ((t : F.Tree) × F.Stands (placed F r (W F (w.book) (head_cuts F (w.disk) choice))) t × RightTo F (saids F (living F (w.items ++ gones F ls))) ((w.book).start) t)
 
--- no published call that isn't in the accepted head of its node's journal changes anything
-abbrev pub NothingIsUnflushed : (F : Files) → World F → Type 0
-NothingIsUnflushed F w = (i : ℕ) → Calm F (w.book) i ((w.book).low i) ((w.book).published i)
+-- no published call behind the number of its node's head changes anything, whichever heads these are
+abbrev pub NothingIsUnflushed : (F : Files) → World F → (ℕ → Bool) → Type 0
+NothingIsUnflushed F w choice = Each F (λ k. head_cuts F (w.disk) choice (k.node) < k.number → F.Changes (k.said) ≡ false) (w.items)
 
--- Then there is nothing to lose: each outcome of the disk, replayed, stands for the tree of the history as it is. So it is at the end of a run, where each node
--- unmounted or only read.
+-- Then there is nothing to lose: each outcome of the disk, replayed, stands for the tree of the history as it is. So it is where each node unmounted or only read; that
+-- a run ends so is for its core to show.
 abbrev pub AtTheEnd : Files → Type 0
-AtTheEnd F = (w : World F) (choice : ℕ → Bool) (x r : ℕ → F.Content) → Sound F w → FreeIsFree F → NothingIsUnflushed F w
+AtTheEnd F = (w : World F) (choice : ℕ → Bool) (x r : ℕ → F.Content) → Sound F w → FreeIsFree F → NothingIsUnflushed F w choice
     → IsOutcome F (w.disk) x → IsReplay F (w.disk) choice x r
     → (t : F.Tree) × F.Stands (placed F r (W F (w.book) ((w.book).published))) t × RightTo F (saids F (living F (w.items))) ((w.book).start) t
 
 -- and with nothing live and nothing in flight it is the image on the disk itself
 abbrev pub ImageAtTheEnd : Files → Type 0
-ImageAtTheEnd F = (w : World F) → Sound F w → FreeIsFree F → NothingIsUnflushed F w → ((r b : ℕ) → (w.disk).flight r b ≡ None)
-    → ((i : ℕ) (c : Bool) (b : ℕ) → ((w.disk).heads i c).live b ≡ None)
+ImageAtTheEnd F = (w : World F) (choice : ℕ → Bool) → Sound F w → FreeIsFree F → NothingIsUnflushed F w choice → ((r b : ℕ) → (w.disk).flight r b ≡ None)
+    → ((i b : ℕ) → ((w.disk).heads i (choice i)).live b ≡ None)
     → (t : F.Tree) × F.Stands (placed F ((w.disk).blocks) (W F (w.book) ((w.book).published))) t × RightTo F (saids F (living F (w.items))) ((w.book).start) t

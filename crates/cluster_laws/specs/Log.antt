@@ -32,12 +32,19 @@ pub record IsHeader (F : Files) (B : Book F) (D : Disk F) (i u : ℕ) (h : Head 
       ⊎ ((l : Last F B i (B.low i) u b) × ((h.live b ≡ Some ((l.cell).content)) ⊎ F.IsFree ((l.cell).place)))
   pub none_flying : (r b : ℕ) (v : F.Content) → D.flight r b ≡ Some v → B.owner b ≡ Some i → ⊥
 
--- the lock may go down from exclusive: no live block is under it, and no call that isn't in the journal changed or freed a
--- block that was under it before the call or is after it
+-- the lock is past its flush: no call that isn't in the journal changed or freed a block that was under it before the call or is after it
+abbrev pub IsFlushed : (F : Files) → Book F → ℕ → F.Lock → Type 0
+IsFlushed F B i l = (n b : ℕ) (x : CellOf F) → B.low i ≤ n → n < B.answered i → B.change i (suc n) b ≡ Some x
+    → (LockOf F x ≡ l → ⊥) × (LockOf F (B.says i n b) ≡ l → ⊥)
+
+-- it is past its revokes: no live block is under it, whichever header is accepted
+abbrev pub IsRevoked : (F : Files) → Book F → Disk F → ℕ → F.Lock → Type 0
+IsRevoked F B D i l = (c : Bool) (b : ℕ) (v : F.Content) → (D.heads i c).live b ≡ Some v → LockOf F (B.says i (B.low i) b) ≡ l → ⊥
+
+-- past both the lock may go down from exclusive
 pub record MayGo (F : Files) (B : Book F) (D : Disk F) (i : ℕ) (l : F.Lock) : Type 0 where
-  pub unlive : (c : Bool) (b : ℕ) (v : F.Content) → (D.heads i c).live b ≡ Some v → LockOf F (B.says i (B.low i) b) ≡ l → ⊥
-  pub untouched : (n b : ℕ) (x : CellOf F) → B.low i ≤ n → n < B.answered i → B.change i (suc n) b ≡ Some x
-      → (LockOf F x ≡ l → ⊥) × (LockOf F (B.says i n b) ≡ l → ⊥)
+  pub unlive : IsRevoked F B D i l
+  pub untouched : IsFlushed F B i l
 
 -- What a node keeps of each lock that it holds: the number of the last call since its grant that touched it. `since` is the number of the node's last call at that
 -- grant, which the node needn't keep.

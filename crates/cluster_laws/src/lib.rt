@@ -2,7 +2,7 @@
 #![tactic(auto)]
 
 ghost use Rattle.cluster_laws.specs.Files.{Files};
-ghost use Rattle.cluster_laws.specs.Laws.{TryKeeps, PublishKeeps, FlushKeeps, DownKeeps, GrantKeeps, ReadSees, Remains, StepKeeps, HeaderHeads, ReleaseKeeps, NumberTells, NotedReads, TryKeepsNotes, ReadKeepsNotes, StepKeepsNotes, NotesStand, NumbersKeep, CalmIsUntouched, ReadIsRight, RemainsLegal, PrefixClause, AtTheEnd, ImageAtTheEnd, RecoveredKeeps};
+ghost use Rattle.cluster_laws.specs.Laws.{TryKeeps, PublishKeeps, FlushKeeps, DownKeeps, GrantKeeps, ReadSees, Remains, StepKeeps, HeaderHeads, ReleaseKeeps, NumberFlushes, NumberTells, NotedReads, TryKeepsNotes, ReadKeepsNotes, StepKeepsNotes, NotesStand, NumbersKeep, CalmIsUntouched, ReadIsRight, RemainsLegal, PrefixClause, AtTheEnd, ImageAtTheEnd, RecoveredKeeps};
 ghost use Rattle.cluster_laws.specs.World.{EveryRun};
 ghost use Rattle.cluster_laws.specs.Rings.{EveryDisk, RingsReplay, RingGoesOver, RingBegins, RingEnds, StartSlotRecovered, PastEnds};
 ghost use Rattle.cluster_laws.specs.Notes.{NeedsAreDone};
@@ -70,9 +70,10 @@ pub fn a_release_keeps<S: System>()
     ensures { ReleaseKeeps S.files }
 {}
 
-/// A law: what a node keeps of a lock, the number of the last call since its grant that touched it, tells that it may go down.
+/// A law: what a node keeps of a lock, the number of the last call since its grant that touched it, tells that it is past its flush, and that it may go down.
 pub fn a_number_tells<S: System>()
-    ensures { NumberTells S.files }
+    ensures flush { NumberFlushes S.files }
+    ensures go { NumberTells S.files }
 {}
 
 /// A law: what a read gives is what the images have.

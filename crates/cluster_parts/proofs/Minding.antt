@@ -10,7 +10,8 @@ use Rattle.cluster_laws.specs.World as world
 use Rattle.cluster_laws.proofs.Cells.{none-some, at-same, at-other, at-cases, seen_in, full}
 use Rattle.cluster_events.specs.Cluster.{Cluster, acts, BookOf, restated, MayWork, Event, Works, Mails, IsGranted, GoesDown, Stops, Fences, Views, Joins, Recovers, PastEnds, Together}
 use Rattle.cluster_events.proofs.Locking.{receives-held}
-use Rattle.cluster_parts.specs.Parts.{may_cache, CachesAllow, KeptFrom, StateMindedKeeps, StartAllows}
+use Rattle.glock_names.specs.StateOrder.{may_cache}
+use Rattle.cluster_parts.specs.Parts.{CachesAllow, KeptFrom, StateMindedKeeps, StartAllows}
 
 un-may : {A : Type 0} (s : State) (plain : Bool) → may_cache s plain ≡ true → s ≡ Un → A
 un-may s plain may e = absurd (let f : false ≡ true = subst (λ z. may_cache z plain ≡ true) e may in cc)

@@ -1,16 +1,17 @@
 -- The invariant of the cluster part by part, as images, journals, caches and locks show it: for every set of nodes that might stop, and every choice of
 -- the headers in flight.
-use Rattle.std.specs.Prelude.{ℕ, zero, suc, ◌-◌, ◌≡◌, ◌≤◌, ◌<◌, ◌⊎◌, Bool, true, false, not, if◌then◌else◌, None, Some, List, [], ◌∷◌, ◌++◌}
-use Rattle.cluster_laws.specs.Files.{Files, CellOf, Part, LockOf, RightTo, State, Un, Sh, Df, Ex}
+use Rattle.std.specs.Prelude.{ℕ, zero, suc, ◌-◌, ◌≡◌, ◌≤◌, ◌<◌, ◌⊎◌, Bool, true, false, if◌then◌else◌, None, Some, List, [], ◌∷◌, ◌++◌}
+use Rattle.cluster_laws.specs.Files.{Files, CellOf, Part, LockOf, RightTo, State, Un, Ex}
 use Rattle.cluster_laws.specs.Book.{W, InBox, publish}
 use Rattle.cluster_laws.specs.Mirror.{Near, IsReplay, FreeIsFree, placed}
 use Rattle.cluster_laws.specs.History.{Called, living, saids, Legal, Life, gones, AreLives}
 use Rattle.cluster_laws.specs.Log.{Untouched, Last}
 use Rattle.cluster_laws.specs.World.{World, Sound, Run}
 use Rattle.cluster_laws.specs.Laws.{head_cuts, AreLosses}
-use Rattle.lock_laws.specs.Lock.{goes, leq, eff, has_report}
+use Rattle.glock_names.specs.StateOrder.{leq, may_cache}
+use Rattle.lock_laws.specs.Lock.{goes, eff, has_report}
 use Rattle.cluster_laws.specs.World as world
-use Rattle.cluster_events.specs.Cluster.{Cluster, BookOf, Together, Event, Works, GoesDown, Stops}
+use Rattle.cluster_events.specs.Cluster.{Cluster, BookOf, HeadersFlyAlone, Together, Event, Works, GoesDown, Stops}
 
 -- ---- the history and the image where a set of nodes stops
 
@@ -141,11 +142,10 @@ pub record LockParts (F : Files) (c : Cluster F) : Type 0 where
 abbrev pub LockPartsHold : Files → Type 0
 LockPartsHold F = (c : Cluster F) → Together F c → LockParts F c
 
--- The rest of the seventh, of who writes. A write home in flight is of the journal's own node or of one that replays its slot, and so is a header; while a header
--- is in flight nothing is in flight to a block of its journal; who is fenced has neither in flight.
+-- The rest of the seventh, of who writes. A write home in flight is of the journal's own node, or the journal's slot waits, and so is a header; while a header is in
+-- flight nothing is in flight to a block of its journal; who is fenced has neither in flight.
 pub record WritesAreOwn (F : Files) (c : Cluster F) : Type 0 where
-  pub homes : (i r b : ℕ) (v : F.Content) → ((c.world).disk).flight r b ≡ Some v → (BookOf F c).owner b ≡ Some i
-      → (c.header_of i ≡ None) × ((r ≡ i) ⊎ (c.waits i ≡ true))
+  pub homes : HeadersFlyAlone F c
   pub headers : (i r : ℕ) → c.header_of i ≡ Some r → (r ≡ i) ⊎ (c.waits i ≡ true)
   -- the journal has two heads only while a header of it is in flight
   pub one_head : (i : ℕ) → c.header_of i ≡ None → ((c.world).disk).heads i true ≡ ((c.world).disk).heads i false
@@ -154,14 +154,7 @@ pub record WritesAreOwn (F : Files) (c : Cluster F) : Type 0 where
 abbrev pub WritersHold : Files → Type 0
 WritersHold F = (c : Cluster F) → Together F c → WritesAreOwn F c
 
--- ---- in which states a node may have a block cached
-
--- under a deferred lock all but the plain content of files
-abbrev pub may_cache : State → Bool → Bool
-may_cache Un plain = false
-may_cache Sh plain = true
-may_cache Df plain = not plain
-may_cache Ex plain = true
+-- ---- in which states a node may have a block cached: `may_cache`, under a deferred lock all but the plain content of files
 
 -- `own` is what each node keeps for all its calls. The book's cache has beside it what is kept beside one call: what a read under a deferred lock gave.
 abbrev pub CachesAllow : (F : Files) → (CellOf F → Bool) → (ℕ → Part F) → Cluster F → Type 0

@@ -11,7 +11,7 @@ use Rattle.cluster_laws.specs.World as world
 use Rattle.cluster_laws.proofs.Cells.{at-same, at-other, at-cases}
 use Rattle.cluster_events.specs.Cluster.{Cluster, BookOf, acts, worked, MayWork, Starts, Together, Event, Works, Mails, IsGranted, GoesDown, Stops, Fences, Views, Joins, Recovers, PastEnds, Events, Done, Then}
 use Rattle.cluster_events.proofs.Eventing.{event_keeps, events_keep, starts_together, waits-acts, stopped-acts}
-use Rattle.cluster_rows.specs.Marks.{Marks, rest_of, marked, marks_of, starting_marks, IsOneOf, IsOneOfFirst, HeadsAreMarked, LossesAreMarked}
+use Rattle.cluster_rows.specs.Marks.{Marks, rest_of, marked, marks_of, starting_marks, IsOneOf, IsOneOfFirst, HeadsAreMarked, EndedHeadsAreMarked, LossesAreMarked}
 
 -- ---- lists of marks
 
@@ -361,6 +361,15 @@ module _ (F : Files) where
   heads_marked a c events i d s a' =
       let inv = run-keeps a c events starting_marks (starts_together F a s) (start-known a s) in
       let w = acting (c.runs i) (c.waits i) a' in (inv.known i).running (w.1) (w.0) d
+
+  pub ended_marked : EndedHeadsAreMarked F
+  ended_marked a c events i m d s lives =
+      let inv = run-keeps a c events starting_marks (starts_together F a s) (start-known a s) in
+      let some : length ((marks_of F a c events starting_marks).ended i) ≡ suc m = sym ((inv.known i).count) ∙ lives in
+      elim (cases_Bool (c.waits i)) [
+        | inl waits ↦ queue-first ((BookOf F c).answered i) m (cuts c i) ((marks_of F a c events starting_marks).ended i) some ((inv.known i).waiting waits) d
+        | inr awake ↦ absurd (let e : 0 ≡ suc m = sym (ap length ((inv.known i).none awake)) ∙ some in cc)
+      ]
 
   -- ---- which event adds a loss
 

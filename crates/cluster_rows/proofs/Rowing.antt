@@ -150,7 +150,7 @@ module _ (F : Files) (c : Cluster F) (t : Together F c) where
   rows _ (Works _ (world.Syncs j said does still calm) may) = answer j may
   rows _ (Works _ (world.Publishes i some) may) = (publishing i some, ap suc ((t.world).counted i))
   rows _ (Works _ (world.Begins i h single heads) may) = record {
-    idle = may.0;
+    writer = ((may.0).0, at-same (c.header_of) i (Some ((may.0).0)), (may.0).1, (may.0).2);
     risen = (let e = ((t.world).mirror).alone i in let p = (heads.cut).0 in omega (arith, e));
     within = (let e = (t.world).counted i in let p = (heads.cut).1 in omega (arith, e));
   }

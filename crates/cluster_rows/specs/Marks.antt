@@ -1,5 +1,5 @@
 -- Which head a loss's number is that of; and that a run passes each front of its items.
-use Rattle.std.specs.Prelude.{ℕ, ◌≡◌, ◌≤◌, ◌⊎◌, Bool, true, if◌then◌else◌, List, [], ◌∷◌, ◌++◌, length, take}
+use Rattle.std.specs.Prelude.{ℕ, suc, ◌≡◌, ◌≤◌, ◌⊎◌, Bool, true, if◌then◌else◌, List, [], ◌∷◌, ◌++◌, length, take}
 use Rattle.cluster_laws.specs.Files.{Files}
 use Rattle.cluster_laws.specs.Book.{at}
 use Rattle.cluster_laws.specs.History.{Gone}
@@ -44,6 +44,12 @@ IsOneOfFirst n (ms ∷ mss) = IsOneOf n ms
 abbrev pub HeadsAreMarked : Files → Type 0
 HeadsAreMarked F = (a c : Cluster F) (events : Events F a c) (i : ℕ) (d : Bool) → Starts F a → acts F c i ≡ true
     → IsOneOf ((((c.world).disk).heads i d).cut) ((marks_of F a c events starting_marks).now i)
+
+-- and of one that has a life that ended and has no loss yet, that of a header of its earliest such life, or the base of that life: so is what stands for it at a stop
+-- of everything
+abbrev pub EndedHeadsAreMarked : Files → Type 0
+EndedHeadsAreMarked F = (a c : Cluster F) (events : Events F a c) (i m : ℕ) (d : Bool) → Starts F a → c.unlost i ≡ suc m
+    → IsOneOfFirst ((((c.world).disk).heads i d).cut) ((marks_of F a c events starting_marks).ended i)
 
 -- Whichever event adds a loss: it is that of the node's earliest life that has ended and has none; its number is that of the accepted head, and this is a header of
 -- that life, or its base.

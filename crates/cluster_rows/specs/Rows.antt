@@ -9,7 +9,7 @@ use Rattle.cluster_laws.specs.World.{World, Sound}
 use Rattle.cluster_laws.specs.World as world
 use Rattle.lock_laws.specs.Lock.{Node, goes, leq}
 use Rattle.lock_laws.specs.Lock as lock
-use Rattle.cluster_events.specs.Cluster.{HasIdleWriter, Cluster, BookOf, Sends, OfOne, Receives, NoGrant, Takes, Event, Works, Mails, IsGranted, GoesDown, Stops, Fences, Joins, Recovers, Together}
+use Rattle.cluster_events.specs.Cluster.{WritesFor, IsIdle, Cluster, BookOf, Sends, OfOne, Receives, NoGrant, Takes, Event, Works, Mails, IsGranted, GoesDown, Stops, Fences, Joins, Recovers, Together}
 
 -- the lock that covers the block is the same question in each image that a stop might leave: each cut of the box
 abbrev pub InEach : (F : Files) → Cluster F → ℕ → (F.Lock → Type 0) → Type 0
@@ -29,9 +29,10 @@ AnswerRow F c j = (c.runs j ≡ true) × (c.waits j ≡ false)
 abbrev pub CallRow : (F : Files) → Cluster F → ℕ → Type 0
 CallRow F c i = suc ((BookOf F c).published i) ≡ suc (calls_of F i ((c.world).items))
 
--- head: its writer had no write home and no header in flight; the number of the last call isn't below that of the accepted head, and isn't above the node's last
-pub record HeadRow (F : Files) (c : Cluster F) (i : ℕ) (h : Head F) : Type 0 where
-  pub idle : HasIdleWriter F c i
+-- head: the node that has it in flight then had no write home and no header in flight, and writes for the journal; the number of the last call isn't below that of
+-- the accepted head, and isn't above the node's last
+pub record HeadRow (F : Files) (c c' : Cluster F) (i : ℕ) (h : Head F) : Type 0 where
+  pub writer : (r : ℕ) × (c'.header_of i ≡ Some r) × WritesFor F c r i × IsIdle F c r
   pub risen : (((c.world).disk).heads i false).cut ≤ h.cut
   pub within : h.cut ≤ calls_of F i ((c.world).items)
 
@@ -95,7 +96,7 @@ abbrev pub Row : (F : Files) (c c' : Cluster F) → Event F c c' → Type 0
 Row F c _ (Works _ (world.Answers j said v change cache no_sync a) may) = AnswerRow F c j
 Row F c _ (Works _ (world.Syncs j said does still calm) may) = AnswerRow F c j
 Row F c _ (Works _ (world.Publishes i some) may) = AnswerRow F c i × CallRow F c i
-Row F c _ (Works _ (world.Begins i h single heads) may) = HeadRow F c i h
+Row F c c' (Works _ (world.Begins i h single heads) may) = HeadRow F c c' i h
 Row F c _ (Works _ (world.Writes r b v i live) may) = HomeRow F c r b v i
 Row F c _ (Mails locks h) = (l : F.Lock) → AsksRow F c l (locks l) (h l)
 Row F c _ (Works _ (world.Reads j b held) may) = AnswerRow F c j × ReadRow F c j b

@@ -3,7 +3,7 @@
 
 ghost use Rattle.cluster_rows.specs.Rows.{RowsHold, CleanRow, ViewsAreSeen, CalmStays, HeldStays};
 ghost use Rattle.cluster_rows.specs.Asks.{GrantsAreAsked};
-ghost use Rattle.cluster_rows.specs.Marks.{HeadsAreMarked, LossesAreMarked, EveryFrontIsPassed};
+ghost use Rattle.cluster_rows.specs.Marks.{HeadsAreMarked, EndedHeadsAreMarked, LossesAreMarked, EveryFrontIsPassed};
 
 use cluster_laws::System;
 
@@ -28,6 +28,7 @@ pub fn full_is_seen<S: System>()
 /// A law: each head has the number of a header of its life, or of the last call before it; and each loss is that of a life, and counts from such a head of it.
 pub fn losses_count_from_heads<S: System>()
     ensures heads { HeadsAreMarked S.files }
+    ensures ended { EndedHeadsAreMarked S.files }
     ensures losses { LossesAreMarked S.files }
 {}
 

@@ -1,15 +1,17 @@
 -- The stages of a demotion, and an unmount.
-use Rattle.std.proofs.Common.{ℕ, suc, ◌≡◌, ◌≤◌, ◌<◌, ◌⊎◌, inl, inr, Bool, true, false, None, Some, refl, sym, ap, ◌∙◌, subst}
+use Rattle.std.proofs.Common.{ℕ, zero, suc, ◌+◌, ◌-◌, ◌≡◌, ◌≤◌, ◌<◌, ◌⊎◌, inl, inr, Bool, true, false, None, Some, refl, sym, ap, ◌∙◌, subst, arith}
 use Rattle.std.proofs.lemmas.Bool.{cases_eq, cases_Bool, cond-true, cond-false}
-use Rattle.cluster_laws.specs.Files.{Files, Ex}
-use Rattle.cluster_laws.specs.Book.{at, flushed, settled}
-use Rattle.cluster_laws.specs.Mirror.{headed, either, chosen}
+use Rattle.cluster_laws.specs.Files.{Files, LockOf, Ex}
+use Rattle.cluster_laws.specs.Book.{at, Book, Whole, flushed, settled}
+use Rattle.cluster_laws.specs.Mirror.{Head, headed, either, chosen}
+use Rattle.cluster_laws.specs.Log.{Untouched, IsFlushed}
 use Rattle.cluster_laws.specs.World.{Begins, Ends, Settles}
-use Rattle.cluster_laws.proofs.Cells.{none-some, at-same, at-other}
-use Rattle.cluster_laws.proofs.Logging.{header_heads, given_back, given, stays, never_under}
+use Rattle.cluster_laws.proofs.Cells.{split, none-some, at-same, at-other}
+use Rattle.cluster_laws.proofs.Logging.{header_heads, given_back, given, stays, never_under, steady, last-says}
 use Rattle.cluster_events.specs.Cluster.{Cluster, BookOf, NothingUnder, Event, Events, Works, GoesDown, Done, Then}
+use Rattle.event_lists.specs.Gives.{DiskOf, GivesBack, released}
 use Rattle.event_lists.specs.Stops.{with_world}
-use Rattle.event_lists.specs.Demotions.{DiskOf, committed, CommitIsEvents, FlushFlushes, RevokesAreHeader, HomeIsRevoked, StagesRelease, ReleaseIsEvents, CleanIsHeader, CleanReleases}
+use Rattle.event_lists.specs.Demotions.{committed, without_live, CommitIsEvents, FlushFlushes, FlushedIsUntouched, HeaderKeepsStages, RevokesAreHeader, HomeIsRevoked, RevokesRevoke, StagesRelease, ReleaseIsEvents, CleanIsHeader, CleanReleases}
 
 module _ (F : Files) where
   -- ---- a header and its barrier
@@ -71,31 +73,66 @@ module _ (F : Files) where
   pub flushes : FlushFlushes F
   flushes B i l untouched n b x low high change = absurd (none-some (untouched b n low high) change)
 
+  untouched-under : (B : Book F) (i : ℕ) (l : F.Lock) (b : ℕ) → Whole F B → IsFlushed F B i l → B.owner b ≡ Some i → LockOf F (B.says i (B.low i) b) ≡ l
+      → (d : ℕ) → B.low i + d ≤ B.answered i → Untouched F B i (B.low i) (B.low i + d) b
+  untouched-under B i l b whole flushed own under zero high n lo hi = absurd (omega arith)
+  untouched-under B i l b whole flushed own under (suc d) high n lo hi =
+      let before : Untouched F B i (B.low i) (B.low i + d) b = untouched-under B i l b whole flushed own under d (omega arith) in
+      elim (cases_eq n (B.low i + d)) [
+        | inl e ↦ elim (split (B.change i (suc n) b)) [
+          | inl none ↦ none
+          | inr some ↦ absurd ((flushed n b (some.0) lo (omega arith) (some.1)).1
+              (ap (LockOf F) (steady F B whole i b own (B.low i) n (omega arith) lo (omega arith) (λ m l h. before m l (omega arith))) ∙ under))
+        ]
+        | inr ne ↦ before n lo (omega arith)
+      ]
+
+  pub flushed_untouched : FlushedIsUntouched F
+  flushed_untouched B i u b l whole flushed own under top n lo hi = untouched-under B i l b whole flushed own under (u - B.low i) (omega arith) n lo (omega arith)
+
+  pub header_stages : HeaderKeepsStages F
+  header_stages B D i u h l whole header flushed b v live under = elim (header.each b) [
+    | inl same ↦ elim (same.1) [ inl was ↦ sym was ∙ live | inr gone ↦ absurd (none-some (gone.0) live) ]
+    | inr last ↦ (
+        let t = last.0 in let lo = t.above in let hi = t.below in
+        let own = (whole.logged i (t.call) lo (omega arith)).touched b (t.cell) (t.changes) in
+        absurd (elim under [
+          | inl before ↦ none-some (flushed_untouched B i u b l whole flushed own before top (t.call) lo hi) (t.changes)
+          | inr after ↦ (flushed (t.call) b (t.cell) lo (omega arith) (t.changes)).0 (ap (LockOf F) (sym (last-says F B whole i b own (B.low i) u (omega arith) top t)) ∙ after)
+        ]))
+  ]
+    where
+      top : u ≤ B.answered i
+      top = let p = (header.range).1 in let q = whole.published_answered i in omega arith
+
   pub revokes : RevokesAreHeader F
   revokes B D i u h p header untouched home = record {
-    header = record {
-      cut = header.cut;
-      range = header.range;
-      each = λ b. elim (cases_Bool (p b)) [
-        | inl e ↦ inl (untouched b e, inr (cond-true _ _ _ e, λ v live. home b v e live))
-        | inr e ↦ elim (header.each b) [
-          | inl same ↦ inl (same.0, elim (same.1) [ inl was ↦ inl (cond-false _ _ _ e ∙ was) | inr gone ↦ inr (cond-false _ _ _ e ∙ gone.0, gone.1) ])
-          | inr last ↦ inr (last.0, elim (last.1) [ inl logged ↦ inl (cond-false _ _ _ e ∙ logged) | inr free ↦ inr free ])
-        ]
-      ];
-      none_flying = header.none_flying;
-    };
-    revoked = λ l all b v live under. elim (cases_Bool (p b)) [
-      | inl e ↦ none-some (cond-true _ _ _ e) live
-      | inr e ↦ true-false (all b v (sym (cond-false _ _ _ e) ∙ live) under) e
+    cut = header.cut;
+    range = header.range;
+    each = λ b. elim (cases_Bool (p b)) [
+      | inl e ↦ inl (untouched b e, inr (cond-true _ _ _ e, λ v live. home b v e live))
+      | inr e ↦ elim (header.each b) [
+        | inl same ↦ inl (same.0, elim (same.1) [ inl was ↦ inl (cond-false _ _ _ e ∙ was) | inr gone ↦ inr (cond-false _ _ _ e ∙ gone.0, gone.1) ])
+        | inr last ↦ inr (last.0, elim (last.1) [ inl logged ↦ inl (cond-false _ _ _ e ∙ logged) | inr free ↦ inr free ])
+      ]
     ];
+    none_flying = header.none_flying;
   }
+
+  pub home_revoked : HomeIsRevoked F
+  home_revoked B D i u h p l header home untouched under = revokes B D i u h p header untouched (λ b v e live. (home false b v live (under b v e live)).0)
+
+  pub revokes_revoke : RevokesRevoke F
+  revokes_revoke c i h p l all d b v live under = elim (cases_Bool (p b)) [
+    | inl e ↦ none-some (cond-true _ _ _ e) live'
+    | inr e ↦ true-false (all b v (sym (cond-false _ _ _ e) ∙ live') (ap (λ z. LockOf F ((BookOf F c).says i z b)) (sym (at-same ((BookOf F c).low) i (h.cut))) ∙ under)) e
+  ]
     where
       true-false : {z : Bool} → z ≡ true → z ≡ false → ⊥
       true-false e f = cc
 
-  pub home_revoked : HomeIsRevoked F
-  home_revoked B D i u h p l header home untouched under = revokes B D i u h p header untouched (λ b v e live. (home b v live (under b v e live)).0)
+      live' : (without_live F h p).live b ≡ Some v
+      live' = sym (ap (λ f. (f d).live b) (at-same ((DiskOf F c).heads) i (λ d. without_live F h p))) ∙ live
 
   pub stages : StagesRelease F
   stages B D i l flushed revoked = record { unlive = revoked; untouched = flushed }
@@ -103,19 +140,13 @@ module _ (F : Files) where
   -- ---- the release
 
   pub releases : ReleaseIsEvents F
-  releases c i locks cache t here weakens all clean cached = (
-    _,
-    record {
-      events = Then c (with_world F c (record (c.world) { book = settled F (BookOf F c) i back })) _
-          (Works _ (Settles i back all (λ b e. (gave b e).0) (λ n b e. (gave b e).3 n) dead) tt)
-          (Then (with_world F c (record (c.world) { book = settled F (BookOf F c) i back })) _ _ (GoesDown i locks cache here weakens all clean' cached) (Done _));
-      now = refl;
-      states = λ l. ap (λ f. f l) (at-same ((BookOf F c).state) i _);
-      low = refl;
-      items = refl;
-      disk = refl;
-    },
-  )
+  releases c i locks cache t here weakens all clean cached = record {
+    back = back;
+    gives = record { own = λ b e. (gave b e).0; unlive = dead; untouched = λ b e. (gave b e).3; rest = stays F (BookOf F c) (DiskOf F c) ((t.world).whole) ((t.world).mirror) i };
+    events = Then c (with_world F c (record (c.world) { book = settled F (BookOf F c) i back })) _
+        (Works _ (Settles i back all (λ b e. (gave b e).0) (λ n b e. (gave b e).3 n) dead) tt)
+        (Then (with_world F c (record (c.world) { book = settled F (BookOf F c) i back })) _ _ (GoesDown i locks cache here weakens all clean' cached) (Done _));
+  }
     where
       back : ℕ → Bool
       back = given_back F (BookOf F c) (DiskOf F c) ((t.world).whole) ((t.world).mirror) i

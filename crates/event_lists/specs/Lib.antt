@@ -1,3 +1,4 @@
+pub mod Gives
 pub mod Stops
 pub mod Demotions
 pub mod Begins

@@ -1,6 +1,6 @@
 -- Crashes, fences and what ends a life, as lists of events.
 use Rattle.std.specs.Prelude.{ℕ, suc, ◌-◌, ◌≡◌, ◌≤◌, ◌⊎◌, ⊤, Bool, true, false, Option, None, Some, List, [], ◌∷◌, ◌++◌}
-use Rattle.cluster_laws.specs.Files.{Files, Un}
+use Rattle.cluster_laws.specs.Files.{Files}
 use Rattle.cluster_laws.specs.Book.{at, Book, relocked, flushed, lost}
 use Rattle.cluster_laws.specs.Mirror.{ended, chosen, renumbered}
 use Rattle.cluster_laws.specs.Rings.{Rings}
@@ -8,8 +8,9 @@ use Rattle.cluster_laws.specs.History.{Gone}
 use Rattle.cluster_laws.specs.Log.{Calm}
 use Rattle.cluster_laws.specs.World.{World, nothing}
 use Rattle.cluster_laws.specs.World as world
-use Rattle.cluster_events.specs.Cluster.{Cluster, BookOf, MayWork, worked, stopped, Events, Together}
+use Rattle.cluster_events.specs.Cluster.{Cluster, BookOf, MayWork, worked, stopped, Starts, Events, Together}
 use Rattle.cluster_parts.specs.Parts.{published_of}
+use Rattle.event_lists.specs.Gives.{recovered, IsRecovered}
 
 -- ---- a crash: all that the node answered is published, its cache is gone, and its slot waits
 
@@ -136,40 +137,36 @@ after_loss F c i k = record c {
 abbrev pub LossIsEvents : Files → Type 0
 LossIsEvents F = (c : Cluster F) (i k : ℕ) → Together F c → HasEndedLife F c i → Keeps F (BookOf F c) i k → c.header_of i ≡ None → Events F c (after_loss F c i k)
 
-pub record IsRecovered (F : Files) (c : Cluster F) (i k : ℕ) (c' : Cluster F) : Type 0 where
-  pub events : Events F c c'
-  pub slot : c'.waits i ≡ false
-  pub items : (c'.world).items ≡ (c.world).items ++ (Gone i ((BookOf F c).low i) k ∷ [])
-  pub blocks : (b : ℕ) → (BookOf F c').owner b ≡ Some i → ⊥
-  pub locks : (l : F.Lock) → (BookOf F c').state i l ≡ Un
-  pub disk : (((c'.world).disk).blocks ≡ ((c.world).disk).blocks) × (((c'.world).disk).flight ≡ ((c.world).disk).flight)
-
--- with the loss of its last life that ended; those before it had theirs
+-- with the loss of its last life that ended; those before it had theirs. The node's blocks are nobody's then
 abbrev pub RecoveryIsEvents : Files → Type 0
 RecoveryIsEvents F = (c : Cluster F) (i k : ℕ) → Together F c → (i ≡ c.past → ⊥) → (ended : HasEndedLife F c i) → ended.lives ≡ 0 → Keeps F (BookOf F c) i k
     → c.header_of i ≡ None
     → ((d : Bool) (b : ℕ) → (((c.world).disk).heads i d).live b ≡ None)
-    → (c' : Cluster F) × IsRecovered F c i k c'
+    → IsRecovered F c (after_loss F c i k) i i
 
 -- a slot that waited since the start has no loss: what its journal, ring k, had is the past's. No block is live in it any more, so it goes over to its node. The past
 -- keeps no block that isn't live in its journals
-pub record IsStartRecovered (F : Files) (c : Cluster F) (R : Rings F ((c.world).disk)) (k i : ℕ) (c' : Cluster F) : Type 0 where
-  pub events : Events F c c'
-  pub slot : c'.waits i ≡ false
-  pub items : (c'.world).items ≡ (c.world).items
-  pub past : (b : ℕ) → (BookOf F c').owner b ≡ Some (c.past) → (d : Bool) × (v : F.Content) × ((((c'.world).disk).heads (c.past) d).live b ≡ Some v)
-  pub rings : (R' : Rings F ((c'.world).disk)) × (R'.speaks k ≡ i) × ((r : ℕ) → (r ≡ k → ⊥) → R'.speaks r ≡ R.speaks r) × (R'.live ≡ R.live) × (R'.one ≡ R.one)
+pub record IsStartRecovered (F : Files) (c : Cluster F) (R : Rings F ((c.world).disk)) (k i : ℕ) : Type 0 where
+  pub slot : IsRecovered F c c (c.past) i
+  pub past : (b : ℕ) → (BookOf F (recovered F c (c.past) i (slot.back))).owner b ≡ Some (c.past)
+      → (d : Bool) × (v : F.Content) × ((((c.world).disk).heads (c.past) d).live b ≡ Some v)
+  pub rings : (R' : Rings F ((c.world).disk)) × (R'.speaks k ≡ i) × ((r : ℕ) → (r ≡ k → ⊥) → R'.speaks r ≡ R.speaks r) × (R'.live ≡ R.live) × (R'.one ≡ R.one)
 
+-- the past answers no call, so its journal has all
+abbrev pub PastIsSilent : Files → Type 0
+PastIsSilent F = (a c : Cluster F) → Starts F a → Events F a c → (BookOf F c).low (c.past) ≡ (BookOf F c).answered (c.past)
+
+-- while a slot waits since the start the past's does
 abbrev pub StartRecoveryIsEvents : Files → Type 0
-StartRecoveryIsEvents F = (c : Cluster F) (R : Rings F ((c.world).disk)) (k i : ℕ) → Together F c → (i ≡ c.past → ⊥) → c.waits i ≡ true
+StartRecoveryIsEvents F = (c : Cluster F) (R : Rings F ((c.world).disk)) (k i : ℕ) → Together F c → (i ≡ c.past → ⊥) → c.waits i ≡ true → c.waits (c.past) ≡ true
     → R.speaks k ≡ c.past → ((d : Bool) (b : ℕ) → R.live k d b ≡ None) → ((r : ℕ) → R.speaks r ≡ i → r ≡ k)
-    → ((b : ℕ) → (BookOf F c).owner b ≡ Some i → ⊥) → c.header_of i ≡ None → c.unlost i ≡ 0
+    → c.header_of i ≡ None → c.unlost i ≡ 0
     → (BookOf F c).low (c.past) ≡ (BookOf F c).answered (c.past)
-    → (c' : Cluster F) × IsStartRecovered F c R k i c'
+    → IsStartRecovered F c R k i
 
 -- with the last of them the past ends, where no journal has a block live for it
 abbrev pub PastIsEvents : Files → Type 0
 PastIsEvents F = (c : Cluster F) → Together F c → c.waits (c.past) ≡ true → (BookOf F c).low (c.past) ≡ (BookOf F c).answered (c.past)
     → c.header_of (c.past) ≡ None
     → ((d : Bool) (b : ℕ) → (((c.world).disk).heads (c.past) d).live b ≡ None)
-    → (c' : Cluster F) × Events F c c' × (c'.waits (c.past) ≡ false) × ((l : F.Lock) → (BookOf F c').state (c.past) l ≡ Un)
+    → IsRecovered F c c (c.past) (c.past)

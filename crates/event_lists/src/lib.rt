@@ -1,9 +1,9 @@
 //! What can happen to a cluster as lists of its events: crashes, fences, recoveries, demotions in their stages, unmounts.
 #![tactic(auto)]
 
-ghost use Rattle.event_lists.specs.Stops.{CrashIsEvents, CrashAfterWrite, FenceIsEvents, KeptIsFound, LossIsEvents, RecoveryIsEvents, StartRecoveryIsEvents, PastIsEvents};
-ghost use Rattle.event_lists.specs.Demotions.{CommitIsEvents, FlushFlushes, RevokesAreHeader, HomeIsRevoked, StagesRelease, ReleaseIsEvents, CleanIsHeader, CleanReleases};
-ghost use Rattle.event_lists.specs.Homes.{HomeIsEvents, HomeIsAtHome, DemotionIsEvents, UnmountIsEvents};
+ghost use Rattle.event_lists.specs.Stops.{CrashIsEvents, CrashAfterWrite, FenceIsEvents, KeptIsFound, LossIsEvents, RecoveryIsEvents, PastIsSilent, StartRecoveryIsEvents, PastIsEvents};
+ghost use Rattle.event_lists.specs.Demotions.{CommitIsEvents, FlushFlushes, FlushedIsUntouched, HeaderKeepsStages, RevokesAreHeader, HomeIsRevoked, RevokesRevoke, StagesRelease, ReleaseIsEvents, CleanIsHeader, CleanReleases};
+ghost use Rattle.event_lists.specs.Homes.{HomeIsEvents, HomeIsAtHome, FlushedIsReleased, DemotionIsEvents, UnmountIsEvents};
 ghost use Rattle.event_lists.specs.Stages.{StagesStay};
 ghost use Rattle.event_lists.specs.Begins.{StartsFromDisk};
 
@@ -20,11 +20,13 @@ pub fn a_fence_is_events<S: System>()
     ensures { FenceIsEvents S.files }
 {}
 
-/// A law: the loss of a life that ended, with the number that it keeps; a slot is recovered; one that waited since the start; and the past ends with the last.
+/// A law: the loss of a life that ended, with the number that it keeps; a slot is recovered, and where the cluster comes to by it; one that waited since the start, whose
+/// journal's calls the past has all; and the past ends with the last.
 pub fn a_recovery_is_events<S: System>()
     ensures kept { KeptIsFound S.files }
     ensures loss { LossIsEvents S.files }
     ensures slot { RecoveryIsEvents S.files }
+    ensures silent { PastIsSilent S.files }
     ensures start { StartRecoveryIsEvents S.files }
     ensures past { PastIsEvents S.files }
 {}
@@ -34,11 +36,14 @@ pub fn a_commit_is_events<S: System>()
     ensures { CommitIsEvents S.files }
 {}
 
-/// A law: the stages of a demotion, one after the other, let the lock go.
+/// A law: the stages of a demotion, one after the other, let the lock go, whatever calls and headers of other locks come between.
 pub fn a_demotion_is_stages<S: System>()
     ensures flush { FlushFlushes S.files }
+    ensures untouched { FlushedIsUntouched S.files }
+    ensures headers { HeaderKeepsStages S.files }
     ensures revokes { RevokesAreHeader S.files }
     ensures home { HomeIsRevoked S.files }
+    ensures revoked { RevokesRevoke S.files }
     ensures stages { StagesRelease S.files }
     ensures release { ReleaseIsEvents S.files }
 {}
@@ -54,12 +59,14 @@ pub fn stages_stay<S: System>()
     ensures { StagesStay S.files }
 {}
 
-/// A law: a demotion, from its flush to its release.
+/// A law: a demotion, from its flush to its release, and where the cluster comes to by it. Where nothing is live under the locks that go, nothing but the flush comes
+/// before the release, and where nothing is unflushed not even that: so also in an unmount.
 pub fn a_demotion_is_events<S: System>()
-    ensures { DemotionIsEvents S.files }
+    ensures whole { DemotionIsEvents S.files }
+    ensures flushed { FlushedIsReleased S.files }
 {}
 
-/// A law: an unmount, from its flush until every lock is down.
+/// A law: an unmount, from its flush until every lock is down, and where the cluster comes to by it.
 pub fn an_unmount_is_events<S: System>()
     ensures { UnmountIsEvents S.files }
 {}

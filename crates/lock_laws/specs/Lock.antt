@@ -2,6 +2,7 @@
 use Rattle.std.specs.Prelude.{ℕ, ◌≡◌, ◌⊎◌, ⊤, Bool, true, false, ◌==◌, if◌then◌else◌, Option, None, Some, List, [], ◌∷◌, ◌++◌}
 pub use Rattle.glock_names.specs.declared.State.{State}
 pub use Rattle.glock_names.specs.declared.State.TheVariants.{Un, Sh, Df, Ex}
+pub use Rattle.glock_names.specs.StateOrder.{leq}
 
 -- whether both may be held at once
 abbrev pub goes : State → State → Bool
@@ -10,13 +11,6 @@ goes a Un = true
 goes Sh Sh = true
 goes Df Df = true
 goes _ _ = false
-
-abbrev pub leq : State → State → Bool
-leq Un b = true
-leq a Ex = true
-leq Sh Sh = true
-leq Df Df = true
-leq _ _ = false
 
 -- from a node to the master
 pub data Message : Type 0 where

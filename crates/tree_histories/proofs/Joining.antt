@@ -167,6 +167,18 @@ module _ (I : Images) where
   each-get P (Called k ∷ is) (suc p) node client number call reply h e = each-get P is p node client number call reply (h.1) e
   each-get P (Gone i upto kept ∷ is) (suc p) node client number call reply h e = each-get P is p node client number call reply h e
 
+  -- what a history says of each of its calls
+  each-all : (cut : ℕ → ℕ) (is : Items)
+      → ((p node client number : ℕ) (call : Call) (reply : Reply) → slice_get (history_of I is) p ≡ Some (item.Call node client number call reply) → cut node < number
+      → changes.Changes (record { call = call; reply = reply }) ≡ false)
+      → Each (Trees I) (λ k. cut (k.node) < k.number → changes.Changes (replied (k.said)) ≡ false) is
+  each-all cut [] all = tt
+  each-all cut (Called k ∷ is) all = (
+    all 0 (k.node) (k.said.client) (k.number) (k.said.call) (k.said.reply) refl,
+    each-all cut is (λ p node client number call reply e. all (suc p) node client number call reply e),
+  )
+  each-all cut (Gone i upto kept ∷ is) all = each-all cut is (λ p node client number call reply e. all (suc p) node client number call reply e)
+
   abbrev the_upto : Item (Trees I) → ℕ
   the_upto (Called k) = 0
   the_upto (Gone i upto kept) = upto
@@ -262,8 +274,8 @@ module _ (I : Images) where
                   (tree-same (w.items ++ gones (Trees I) ls) ((w.book).start) (q.0) (q.2))
                   (rings r full (places (W (Trees I) (w.book) (head_cuts (Trees I) (w.disk) choice))) (q.0) (q.1) good near),
             ));
-        at_the_end = λ free rings calm choice x r full outcome replay good near. (
-            let q = at_the_end (Trees I) w choice x r s (free_cells (rules_of I) free) calm outcome replay in
+        at_the_end = λ free rings choice x r full flushed outcome replay good near. (
+            let q = at_the_end (Trees I) w choice x r s (free_cells (rules_of I) free) (each-all (head_cuts (Trees I) (w.disk) choice) (w.items) flushed) outcome replay in
             subst (λ t. I.StandsFor full (places (W (Trees I) (w.book) ((w.book).published))) t)
             (tree-same (w.items) ((w.book).start) (q.0) (q.2))
             (rings r full (places (W (Trees I) (w.book) ((w.book).published))) (q.0) (q.1) good near));

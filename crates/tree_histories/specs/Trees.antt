@@ -19,7 +19,7 @@ use Rattle.cluster_laws.specs.History.{Item, Called, Gone, living, saids, Legal,
 use Rattle.cluster_laws.specs.World.{World, BeginsAt, Run}
 use Rattle.cluster_laws.specs.Contents.{Rules, files_of, places, FreeDoesNotMatter}
 use Rattle.cluster_laws.specs.Rings.{RingsDoNotMatter}
-use Rattle.cluster_laws.specs.Laws.{head_cuts, NothingIsUnflushed}
+use Rattle.cluster_laws.specs.Laws.{head_cuts}
 use Rattle.cluster_events.specs.Cluster.{Cluster, Starts, Events}
 
 -- a call of a client, and its reply
@@ -112,9 +112,11 @@ pub record TreeHeadline (I : Images) (w : World (Trees I)) : Type 0 where
       → AreLives ((w.book).published) (head_cuts (Trees I) (w.disk) choice) ls
       → history.Legal (history_of I (w.items ++ gones (Trees I) ls)) ((w.book).start)
       × I.StandsFor full (places (W (Trees I) (w.book) (head_cuts (Trees I) (w.disk) choice))) (tree_of (history_of I (w.items ++ gones (Trees I) ls)) ((w.book).start))
-  -- where no published call that isn't in a journal changes anything, as at the end of a run, no loss is needed: the image stands for the tree of the history
+  -- where no call behind the number of its node's head changes anything, as where each node unmounted, no loss is needed: the image stands for the tree of the history
   -- as it is
-  pub at_the_end : FreeDoesNotMatter (rules_of I) → RingsDoNotMatter (rules_of I) → NothingIsUnflushed (Trees I) w → (choice : ℕ → Bool) (x r full : ℕ → I.Content)
+  pub at_the_end : FreeDoesNotMatter (rules_of I) → RingsDoNotMatter (rules_of I) → (choice : ℕ → Bool) (x r full : ℕ → I.Content)
+      → ((p node client number : ℕ) (call : Call) (reply : Reply) → slice_get (history_of I (w.items)) p ≡ Some (item.Call node client number call reply)
+      → head_cuts (Trees I) (w.disk) choice node < number → changes.Changes (record { call = call; reply = reply }) ≡ false)
       → IsOutcome (Trees I) (w.disk) x → IsReplay (Trees I) (w.disk) choice x r → I.RingsAreGood full → ((b : ℕ) → (r b ≡ full b) ⊎ I.IsRing b)
       → I.StandsFor full (places (W (Trees I) (w.book) ((w.book).published))) (tree_of (history_of I (w.items)) ((w.book).start))
 

@@ -1,4 +1,4 @@
-use Rattle.event_lists.proofs.Recovering.{kept_found, loss, recovery, start_recovery, past_ends}
+use Rattle.event_lists.proofs.Recovering.{kept_found, loss, recovery, past_silent, start_recovery, past_ends}
 use Rattle.event_lists.proofs.a_recovery_is_events.Goals as goal
 
 pub returns-clause-kept : goal.returns-clause-kept
@@ -15,3 +15,6 @@ returns-clause-past g c = past_ends _
 
 pub returns-clause-loss : goal.returns-clause-loss
 returns-clause-loss g c = loss _
+
+pub returns-clause-silent : goal.returns-clause-silent
+returns-clause-silent g c = past_silent _
