@@ -2,7 +2,7 @@
 use Rattle.std.proofs.Common.{◌≡◌, ◌≢◌, ◌↔◌, inl, inr, Bool, false, ℕ, zero, suc, ◌+◌, ◌<◌, List, [], ◌∷◌, ◌++◌, length, take, get_or, Some, IsTrue, refl, sym, ap, subst, ◌∙◌, arith}
 use Rattle.std.specs.Prelude.{codes, map, Contains, slice_get}
 use Rattle.std.specs.List.{All}
-use Rattle.std.proofs.lemmas.Option.{slice_get-get_or}
+use Rattle.std.proofs.lemmas.Option.{slice_get-get_or, slice_get_within, get_or_from_slice_get}
 use Rattle.std.proofs.lemmas.List.{map-append}
 use Rattle.std.proofs.lemmas.List.Elements.{All-push}
 use Rattle.dinode_tree.specs.declared.locating.Located.{Located}
@@ -129,7 +129,7 @@ pub twice_master : (im : Image) (system : System) (j : ℕ) (entry : Entry) (f :
 twice_master im system j entry f looked at same is =
     let there : entry.addr ≡ master_of im = same ∙ ap (λ (s : SuperBlock). s.master.address) looked.superblock in
     let claim = subst (λ b. Claims im (superblock_place im.size) b Master) (sym there) master in
-    told im f entry.addr 3 is looked.names.groups.list.master.format
+    told im f entry.addr 3 is looked.names.groups.list.master.format (subst (λ n. n < im.count) (sym same) looked.master_inside)
     (two_owners entry.addr system.jindex (superblock_place im.size) (Named system.jindex (journal_name j)) Master (looked.journals.each j entry at).claimed claim (λ e. no_name e))
   where
     no_name : Named system.jindex (journal_name j) ≡ Master → ⊥
@@ -140,7 +140,7 @@ pub twice_list : (im : Image) (system : System) (j : ℕ) (entry : Entry) (f : M
 twice_list im system j entry f looked at same is =
     let list = looked.names.groups.list.master.rindex in
     let claim = subst (λ b. Claims im list.0 b (Named (master_of im) (codes "rindex"))) (sym same) list.1 in
-    told im f entry.addr 3 is looked.names.groups.list.master.format
+    told im f entry.addr 3 is looked.names.groups.list.master.format (subst (λ n. n < im.count) (sym same) looked.rindex_inside)
     (two_owners entry.addr system.jindex list.0 (Named system.jindex (journal_name j)) (Named (master_of im) (codes "rindex")) (looked.journals.each j entry at).claimed claim
     (λ e. absurd (omega (arith, ap (λ name. get_or name 0 0) (same_name system.jindex (master_of im) (journal_name j) (codes "rindex") e)))))
 
@@ -161,10 +161,18 @@ twice_journal im system j entry rings f looked at are there is =
     let claim = subst (λ b. Claims im system.jindex b (Named system.jindex (journal_name i))) other.2 (looked.journals.each i other.0 early.1).claimed in
     let few = looked.journals.few in
     let low = within system.journals.items j entry at in
-    told im f entry.addr 3 is looked.names.groups.list.master.format
+    told im f entry.addr 3 is looked.names.groups.list.master.format dinode_inside
     (two_owners entry.addr system.jindex system.jindex (Named system.jindex (journal_name j)) (Named system.jindex (journal_name i)) (looked.journals.each j entry at).claimed claim
     (λ e. absurd (omega (arith, early.0, one_number j i (omega (arith, few, low)) (omega (arith, few, low, early.0)) (same_name system.jindex system.jindex (journal_name j) (journal_name i) e)))))
   where
+    dinode_inside : entry.addr < im.count
+    dinode_inside = ring_inside (from_mapped (λ (r : Ring). r.dinode) rings there.0 entry.addr (contains_at _ entry.addr there))
+      where
+        ring_inside : (r : Ring) × (slice_get rings there.0 ≡ Some r) × (r.dinode ≡ entry.addr) → entry.addr < im.count
+        ring_inside one =
+            let is_ring = subst (λ (r : Ring). IsRingOf im r.dinode r.blocks.items) (get_or_from_slice_get rings there.0 one.0 one.0 one.1) (are.each there.0 one.0 (slice_get_within rings there.0 one.0 one.1)) in
+            subst (λ n. n < im.count) one.2 is_ring.places.inside
+
     within : (xs : List Entry) (k : ℕ) (x : Entry) → slice_get xs k ≡ Some x → k < length xs
     within [] k x e = cc
     within (y ∷ xs) zero x e = omega arith

@@ -1,5 +1,5 @@
 -- The system files that were found, as a layout of the image.
-use Rattle.std.proofs.Common.{◌≡◌, ℕ, List, [], length, Vec, Global, refl, sym, ap, subst, arith}
+use Rattle.std.proofs.Common.{◌≡◌, ◌<◌, ℕ, List, [], length, Vec, Global, refl, sym, ap, subst, arith}
 use Rattle.std.specs.Prelude.{map}
 use Rattle.std.proofs.lemmas.List.{length-map}
 use Rattle.gfs2_layout.specs.declared.rindex.Rindex.{Rindex}
@@ -46,9 +46,9 @@ module _ (im : Image) (sb : SuperBlock) (files : SystemFiles) (format : HasForma
     short = are.short;
   }
 
-  pub system_of : (groups : Vec Rindex Global) (journals : Vec Entry Global) → AreGroups im files.rindex.entry.addr groups.items → AreJournalsOf im files.jindex.entry.addr journals.items
+  pub system_of : (groups : Vec Rindex Global) (journals : Vec Entry Global) → sb.master.address < im.count → AreGroups im files.rindex.entry.addr groups.items → AreJournalsOf im files.jindex.entry.addr journals.items
       → IsSystemOf im (record { superblock = sb; rindex = files.rindex.entry.addr; groups = groups; jindex = files.jindex.entry.addr; journals = journals })
-  system_of groups journals are names =
+  system_of groups journals inside are names =
       let addresses = map (λ (e : Entry). e.addr) journals.items in
       let count : length addresses ≡ length journals.items = length-map journals.items (λ (e : Entry). e.addr) in
       record {
@@ -64,5 +64,7 @@ module _ (im : Image) (sb : SuperBlock) (files : SystemFiles) (format : HasForma
         };
         master = λ name d way. of.others name d (subst (λ a. LeadsTo im a name d) same_master way);
         one_rindex = λ d is. of.rindex.only d is;
+        master_inside = inside;
+        rindex_inside = are.inside;
         journals = names;
       }

@@ -1,5 +1,5 @@
 -- The list of groups, as it is found and read.
-use Rattle.std.specs.Prelude.{ℕ, ◌≡◌, ◌≤◌, ◌%◌, List, length, codes}
+use Rattle.std.specs.Prelude.{ℕ, ◌≡◌, ◌<◌, ◌≤◌, ◌%◌, List, length, codes}
 use Rattle.gfs2_layout.specs.Inode.{dinode_in, content_of}
 use Rattle.gfs2_layout.specs.Records.{Record}
 use Rattle.gfs2_layout.specs.declared.rindex.Rindex.{Rindex}
@@ -21,6 +21,7 @@ pub record IsNamedIn (im : Image) (a from : ℕ) (name : List ℕ) (entry : Entr
   pub only : (d : ℕ) → LeadsTo im a name d → d ≡ entry.addr
   pub row : Record
   pub there : HasRecordIn im a from row
+  pub inside : from < im.count
   pub is : IsEntryOf entry row
 
 -- what the record of `rindex` in the master directory says
@@ -35,6 +36,7 @@ pub record IsListLink (im : Image) (link : Link) : Type 0 where
 pub record IsListOf (im : Image) (size count list : ℕ) (listed : List Rindex) : Type 0 where
   pub block_size : size ≡ im.size
   pub blocks : count ≡ im.count
+  pub inside : list < im.count
   pub layout : Layout
   pub found : HasList im layout
   pub rindex : layout.rindex ≡ list
@@ -43,6 +45,7 @@ pub record IsListOf (im : Image) (size count list : ℕ) (listed : List Rindex) 
 
 -- these groups are listed there, fit the image, and are within the profile
 pub record AreGroups (im : Image) (list : ℕ) (groups : List Rindex) : Type 0 where
+  pub inside : list < im.count
   pub whole : (dinode_in (every im list)).size % entry_length ≡ 0
   pub listed : groups_in (content_of (every im list)) ≡ groups
   pub some : 1 ≤ length groups

@@ -62,6 +62,7 @@ pub record IsNext (im : Image) (done : List ℕ) (system : System) (journal : En
 
 -- the journal with its dinode in block d has so many places
 pub record HasPlaces (im : Image) (d places : ℕ) : Type 0 where
+  pub inside : d < im.count
   pub count : places ≡ (ring_of (every im d)).places
   pub fits : Fits (every im d)
   pub large : 512 ≤ im.size
@@ -70,6 +71,7 @@ pub record HasPlaces (im : Image) (d places : ℕ) : Type 0 where
 
 -- the block of content with index `place` is where the pointer in block `from` leads
 pub record IsPlaceAt (im : Image) (d place : ℕ) (located : Located) : Type 0 where
+  pub inside : located.from < im.count
   pub block : located.block ≡ content_block (every im d) place
   pub leads : (k : ℕ) × Leads (every im d) located.from k 0 place located.block
 

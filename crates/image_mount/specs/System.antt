@@ -96,4 +96,6 @@ pub record IsSystemOf (im : Image) (s : System) : Type 0 where
   pub names : HasNames im (layout_of s)
   pub master : HasPlainMaster im (layout_of s)
   pub one_rindex : (d : ℕ) → IsRindex im d → d ≡ s.rindex
+  pub master_inside : s.superblock.master.address < im.count
+  pub rindex_inside : s.rindex < im.count
   pub journals : AreJournalsOf im s.jindex s.journals.items

@@ -47,7 +47,7 @@ struct SystemFiles {
 // The files that these records of the master directory name.
 fn files_among(records: &[Named<'_>], master: u64) -> Result<SystemFiles, MountFault>
     ensures found { (im : Image) → ArePlainRecords im master records.now → master ≡ master_of im → IfOk result (AreFilesOf im) }
-    ensures refused { (im : Image) → HasFormat im → AreAllRecords im master records.now → master ≡ master_of im → IfErr result (RefusesRightly im) }
+    ensures refused { (im : Image) → HasFormat im → master < im.count → AreAllRecords im master records.now → master ≡ master_of im → IfErr result (RefusesRightly im) }
     ensures steady { IfErr result IsSteady }
 {
     let Some(rindex) = find(records, b"rindex") else {
@@ -169,9 +169,9 @@ fn list_journals(
     master: u64,
     jindex: &Link,
 ) -> Result<Vec<Entry>, Stop>
-    ensures found { (im : Image) (l : Layout) → IsRead im table.now → HasGroups im l → l.jindex ≡ jindex.now.entry.addr → master ≡ master_of im → IsLinkOf im (codes "jindex") jindex.now
+    ensures found { (im : Image) (l : Layout) → IsRead im table.now → HasGroups im l → l.jindex ≡ jindex.now.entry.addr → master ≡ master_of im → master < im.count → IsLinkOf im (codes "jindex") jindex.now
         → IfOk result (λ journals. AreJournalsOf im jindex.now.entry.addr journals.items) }
-    ensures stops { (im : Image) (l : Layout) → IsRead im table.now → HasGroups im l → l.jindex ≡ jindex.now.entry.addr → master ≡ master_of im → IsLinkOf im (codes "jindex") jindex.now
+    ensures stops { (im : Image) (l : Layout) → IsRead im table.now → HasGroups im l → l.jindex ≡ jindex.now.entry.addr → master ≡ master_of im → master < im.count → IsLinkOf im (codes "jindex") jindex.now
         → IfErr result (StopsRightly im) }
     ensures lacks { IfErr result (LacksBlock table.now) }
 {

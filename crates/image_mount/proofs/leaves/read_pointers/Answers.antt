@@ -3,25 +3,25 @@ use Rattle.gfs2_layout.specs.Inode.{dinode_in, is_hashed_in}
 use Rattle.gfs2_layout.specs.declared.dinode.Dinode.{Dinode}
 use Rattle.image_model.specs.Claims.{every}
 use Rattle.image_model.specs.Owners.{Master}
-use Rattle.image_mount.proofs.Masters.{table_short, kept_master, master_claim, master_inode, master_read, table_is}
+use Rattle.image_mount.proofs.Masters.{from_inside, table_short, kept_master, master_claim, master_inode, master_read, table_is}
 use Rattle.image_mount.proofs.Stops.{passed, stopped}
 use Rattle.image_mount.proofs.leaves.read_pointers.Goals as goal
 
 pub returns-in_err-kept-clause-stops : goal.returns-in_err-kept-clause-stops
-returns-in_err-kept-clause-stops c im read is hashed = passed im _ _ c.from_residual.ensures.1 (c.in_err-kept.ensures.stops im Master read (master_claim im c.args.inode.now is) refl is.format)
+returns-in_err-kept-clause-stops c im read is hashed = passed im _ _ c.from_residual.ensures.1 (c.in_err-kept.ensures.stops im Master read (master_claim im c.args.inode.now is) refl is.format (from_inside im c.args.inode.now is))
 
 pub returns-in_err-depth-clause-stops : goal.returns-in_err-depth-clause-stops
 returns-in_err-depth-clause-stops c im read is hashed =
     let kept = kept_master im c.args.inode.now c.in_ok-kept.kept is c.in_ok-kept.ensures.block c.in_ok-kept.ensures.from (c.in_ok-kept.ensures.found im read) in
     stopped im _ _ c.from_residual-in_err-depth.ensures.1
-    (c.in_err-depth.ensures.refused im kept.dinode (c.block_size.ensures.value ∙ read.size) kept.format
+    (c.in_err-depth.ensures.refused im kept.dinode (c.block_size.ensures.value ∙ read.size) kept.format kept.inside
     (master_inode im c.in_ok-kept.kept kept, ap (λ a. is_hashed_in (every im a)) c.in_ok-kept.ensures.block ∙ hashed))
 
 pub returns-in_err-bytes-clause-stops : goal.returns-in_err-bytes-clause-stops
 returns-in_err-bytes-clause-stops c im read is hashed =
     let kept = kept_master im c.args.inode.now c.in_ok-kept.kept is c.in_ok-kept.ensures.block c.in_ok-kept.ensures.from (c.in_ok-kept.ensures.found im read) in
     passed im _ _ c.from_residual-in_err-bytes.ensures.1
-    (c.in_err-bytes.ensures.stops im Master read (master_claim im c.in_ok-kept.kept kept) refl kept.format (master_read im c.in_ok-kept.kept kept))
+    (c.in_err-bytes.ensures.stops im Master read (master_claim im c.in_ok-kept.kept kept) refl kept.format (from_inside im c.in_ok-kept.kept kept) (master_read im c.in_ok-kept.kept kept))
 
 pub invariant_of-result : goal.invariant_of-result
 invariant_of-result c = record { deep = c.in_ok-depth.ensures.deep; whole = c.in_ok-bytes.ensures.whole c.in_ok-kept.ensures.kept (c.in_ok-depth.ensures.bytes ∙ sym (table_short c.in_ok-depth.depth c.in_ok-depth.ensures.deep)) ∙ table_short c.in_ok-depth.depth c.in_ok-depth.ensures.deep }

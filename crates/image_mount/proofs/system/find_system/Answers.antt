@@ -1,6 +1,6 @@
-use Rattle.std.proofs.Common.{[], refl}
+use Rattle.std.proofs.Common.{◌<◌, [], refl, sym, subst, ◌∙◌}
 use Rattle.image_mount.proofs.Stops.{passed}
-use Rattle.image_mount.proofs.Systems.{list_link, groups_found, system_of}
+use Rattle.image_mount.proofs.Systems.{list_link, groups_found, same_master, system_of}
 use Rattle.image_mount.proofs.system.find_system.Goals as goal
 
 pub returns-in_err-files-clause-stops : goal.returns-in_err-files-clause-stops
@@ -15,15 +15,17 @@ returns-in_err-groups-clause-stops c im read count is plain =
 pub returns-in_err-journals-clause-stops : goal.returns-in_err-journals-clause-stops
 returns-in_err-journals-clause-stops c im read count is plain =
     let sb = c.args.master.now.superblock in
+    let inside = is.inode.inside in
     let files = c.in_ok-files.ensures.found im read is.inode plain in
     let groups = c.in_ok-groups.ensures.found im read count (list_link im sb c.in_ok-files.files is.inode.format is.superblock files) in
     passed im _ _ c.from_residual-in_err-journals.ensures.1
-    (c.in_err-journals.ensures.stops im _ read (groups_found im sb c.in_ok-files.files is.inode.format is.superblock files c.in_ok-groups.groups.items [] groups) refl is.inode.block files.jindex)
+    (c.in_err-journals.ensures.stops im _ read (groups_found im sb c.in_ok-files.files is.inode.format is.superblock files c.in_ok-groups.groups.items [] groups) refl is.inode.block inside files.jindex)
 
 pub returns-clause-found : goal.returns-clause-found
 returns-clause-found c im read count is plain =
     let sb = c.args.master.now.superblock in
+    let inside = is.inode.inside in
     let files = c.in_ok-files.ensures.found im read is.inode plain in
     let groups = c.in_ok-groups.ensures.found im read count (list_link im sb c.in_ok-files.files is.inode.format is.superblock files) in
-    let journals = c.in_ok-journals.ensures.found im _ read (groups_found im sb c.in_ok-files.files is.inode.format is.superblock files c.in_ok-groups.groups.items [] groups) refl is.inode.block files.jindex in
-    system_of im sb c.in_ok-files.files is.inode.format is.superblock files c.in_ok-groups.groups c.in_ok-journals.journals groups journals
+    let journals = c.in_ok-journals.ensures.found im _ read (groups_found im sb c.in_ok-files.files is.inode.format is.superblock files c.in_ok-groups.groups.items [] groups) refl is.inode.block inside files.jindex in
+    system_of im sb c.in_ok-files.files is.inode.format is.superblock files c.in_ok-groups.groups c.in_ok-journals.journals (subst (λ n. n < im.count) (is.inode.block ∙ sym (same_master im sb c.in_ok-files.files is.inode.format is.superblock files)) inside) groups journals
