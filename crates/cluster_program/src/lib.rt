@@ -17,7 +17,7 @@ mod streams;
 mod top;
 mod words;
 
-pub use image_mount::Field;
 pub use glock_names::Waits;
+pub use image_mount::Field;
 pub use status::{Part, Status, Which};
 pub use top::{Ended, gfs2run, gfs2run_alone};

@@ -1,7 +1,7 @@
 ghost use Rattle.std.specs.Prelude.{◌≡◌};
 ghost use Rattle.cluster_program.specs.StatusText.{status_number};
 
-use glock_names::{LockName, State};
+use glock_names::{LockName, State, Waits};
 use image_mount::Field;
 
 /// One of the two sinks.

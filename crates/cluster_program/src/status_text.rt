@@ -7,7 +7,7 @@ ghost use Rattle.cluster_program.specs.Orders.{names_node};
 ghost use Rattle.cluster_program.specs.StatusText.{field_text, rise_text, block_text, device_text, name_of, holder_text, holders_text, waits_text, part_text, ended, line_text, status_lines};
 
 use crate::status::{Part, Status, Which};
-use glock_names::{LockName, State};
+use glock_names::{LockName, State, Waits};
 use image_mount::Field;
 use no_memory::NoMemory;
 use script_lang::Client;

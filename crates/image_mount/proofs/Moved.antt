@@ -19,6 +19,7 @@ use Rattle.image_mount.specs.Refusals.{RefusesRightly}
 use Rattle.image_mount.specs.Rings.{IsSearched, IsJournalIn, IsNext, HasPlaces, IsPlaceAt, AreBlocksOf, IsRingOf, AreRings}
 use Rattle.image_mount.specs.Searching.{IsWorking}
 use Rattle.image_mount.specs.Leaves.{IsMasterIn}
+use Rattle.image_mount.specs.Looks.{IsTrueEntry}
 use Rattle.image_mount.specs.System.{IsMasterOf, IsNamedBy, IsSystemOf, layout_of}
 use Rattle.image_mount.specs.Kept.{Kept, bytes_of}
 use Rattle.image_mount.specs.declared.fault.MountFault.{MountFault}
@@ -190,8 +191,9 @@ take_more xs j x at = let e : j + 1 ≡ suc j = omega arith in ap (λ n. take n 
     all (y ∷ xs) (suc j) x at = ap (λ zs. y ∷ zs) (all xs j x at)
 
 pub rings_more : (im : Image) (journals : List Entry) (j : ℕ) (entry : Entry) (old new : List Ring) (ring : Ring) → AreRings im (take j journals) old → slice_get journals j ≡ Some entry → ring.dinode ≡ entry.addr
-    → IsRingOf im entry.addr ring.blocks.items → new ≡ old ++ ring ∷ [] → AreRings im (take (j + 1) journals) new
-rings_more im journals j entry old new ring are at dinode of is = record {
+    → IsRingOf im entry.addr ring.blocks.items → IsTrueEntry im entry → new ≡ old ++ ring ∷ [] → AreRings im (take (j + 1) journals) new
+rings_more im journals j entry old new ring are at dinode of true_of is = record {
+  entries = subst (All (IsTrueEntry im)) (sym (take_more journals j entry at)) (All-push (IsTrueEntry im) (take j journals) entry are.entries true_of);
   dinodes = ap (map (λ (r : Ring). r.dinode)) is ∙ map-append (λ (r : Ring). r.dinode) old (ring ∷ []) ∙ ap (λ xs. xs ++ ring.dinode ∷ []) are.dinodes
       ∙ ap (λ d. map (λ (e : Entry). e.addr) (take j journals) ++ d ∷ []) dinode ∙ sym (map-append (λ (e : Entry). e.addr) (take j journals) (entry ∷ []))
       ∙ ap (map (λ (e : Entry). e.addr)) (sym (take_more journals j entry at));
@@ -223,3 +225,7 @@ pub next_after : (im : Image) (system : System) (j : ℕ) (entry : Entry) (rings
 next_after im system j entry rings now b looked at apart other test failed same =
     next_in im system j entry (map (λ (r : Ring). r.dinode) rings) looked at apart other
     (λ there. lacks b test failed (subst (λ rs. Contains (map (λ (r : Ring). r.dinode) rs) entry.addr) (sym same) there))
+
+-- the record of a journal that was looked for, of a disk that holds what it held
+pub entry_true : (old now : DiskState) (entry : Entry) → now ≡ old → (IsTrue now.tells → IsTrueEntry (image_of now) entry) → IsTrue old.tells → IsTrueEntry (image_of old) entry
+entry_true old now entry same more = subst (λ (s : DiskState). IsTrue s.tells → IsTrueEntry (image_of s) entry) same more

@@ -109,6 +109,9 @@ inode_of im inode parent is = record { by = inode.from; claimed = is.claimed; di
 
 -- ---- where a name leads
 
+some_record : (r s : Record) → Some r ≡ Some s → r ≡ s
+some_record r s e = cc
+
 address_of : (m n : Named) (r : Record) → Some m ≡ Some n → said m ≡ r → r.address ≡ n.entry.addr
 address_of m n r same is = ap (λ (q : Record). q.address) (sym is) ∙ ap (λ (x : Named). x.entry.addr) (some_is m n same)
   where
@@ -140,6 +143,15 @@ module _ (im : Image) (a : ℕ) (records : List Named) (are : AreAllRecords im a
       let is : one.0 ≡ i = distinct one.0 i led.0 (said n) first second led.2 in
       sym led.3 ∙ address_of one.1.0 n led.0 (sym one.1.1 ∙ ap (slice_get records) is ∙ at) one.1.2
 
+  -- no other record has its name
+  one_row : (x : ℕ) (r : Record) → HasRecordIn im a x r → r.name ≡ n.name.now → r ≡ said n
+  one_row x r has named =
+      let one = are.all x r has in
+      let first : slice_get (map said records) one.0 ≡ Some r = slice_get-map said records one.0 ∙ ap (option_map said) one.1.1 ∙ ap Some one.1.2 in
+      let second : slice_get (map said records) i ≡ Some (said n) = slice_get-map said records i ∙ ap (option_map said) at in
+      let is : one.0 ≡ i = distinct one.0 i r (said n) first second named in
+      some_record r (said n) (sym first ∙ ap (slice_get (map said records)) is ∙ second)
+
   -- what the record with a name leads to, it alone leads to by that name
   pub named_in : is_dots n.name.now ≡ false → IsNamedIn im a n.block n.name.now n.entry
   named_in plain = record {
@@ -147,6 +159,8 @@ module _ (im : Image) (a : ℕ) (records : List Named) (are : AreAllRecords im a
     only = λ d leads. only_to leads.0 d leads.1;
     row = said n;
     there = are.each i n at;
+    named = refl;
+    one = one_row;
     inside = are.inside i n at;
     is = record { number = refl; address = refl; kind = refl };
   }

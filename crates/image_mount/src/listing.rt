@@ -11,6 +11,7 @@ ghost use Rattle.image_model.specs.Image.{Image};
 ghost use Rattle.image_model.specs.Rules.{Breaks, HasRecordIn};
 ghost use Rattle.image_model.specs.Stands.{directory_count};
 ghost use Rattle.image_mount.specs.Found.{HasFormat, name_count, first_other as first_beside};
+ghost use Rattle.image_mount.specs.Looks.{IsSized};
 ghost use Rattle.image_mount.specs.Refusals.{RefusesRightly};
 ghost use Rattle.image_mount.specs.Searching.{IsRead, IsSteady, StopsRightly, LacksBlock};
 ghost use Rattle.image_mount.specs.Listing.{said, said_by, said_in, link_of, AreCountedIn, AreRecordsOf, AreDistinct, IsDirectoryIn};
@@ -266,6 +267,7 @@ pub(crate) fn list_records<'a>(
     ensures here { IfOk result (λ records. All (λ n. n.block ≡ inode.now.block) records.items) }
     ensures found { (im : Image) → IsRead im table.now → IsDirectoryIn im inode.now parent → IfOk result (λ records. AreRecordsOf im inode.now.block (map said records.items)) }
     ensures distinct { IfOk result (λ records. AreDistinct (map said records.items)) }
+    ensures sized { (im : Image) → IsRead im table.now → IsDirectoryIn im inode.now parent → OnOk result (IsSized im inode.now.block) }
     ensures stops { (im : Image) → IsRead im table.now → IsDirectoryIn im inode.now parent → IfErr result (StopsRightly im) }
     ensures lacks { IfErr result (LacksBlock table.now) }
 {

@@ -9,6 +9,7 @@ ghost use Rattle.image_model.specs.Stands.{Layout};
 ghost use Rattle.image_mount.specs.Found.{HasFormat, HasGroups};
 ghost use Rattle.image_mount.specs.Leaves.{IsMasterIn};
 ghost use Rattle.image_mount.specs.Listing.{said, AreAllRecords};
+ghost use Rattle.image_mount.specs.Looks.{IsSized, IsTrueEntry};
 ghost use Rattle.image_mount.specs.Refusals.{RefusesRightly};
 ghost use Rattle.image_mount.specs.declared.fault.MountFault.TheVariants as fault_of;
 ghost use Rattle.image_mount.specs.Searching.{IsRead, IsSteady, StopsRightly, LacksBlock};
@@ -71,6 +72,7 @@ fn system_files(
     names: &[Named<'_>],
 ) -> Result<SystemFiles, Stop>
     ensures found { (im : Image) → IsRead im table.now → IsMasterIn im inode.now → (is_hashed_in (every im inode.now.block) ≡ true → ArePlainRecords im inode.now.block names.now) → IfOk result (AreFilesOf im) }
+    ensures sized { (im : Image) → IsRead im table.now → IsMasterIn im inode.now → is_hashed_in (every im inode.now.block) ≡ false → OnOk result (IsSized im inode.now.block) }
     ensures stops { (im : Image) → IsRead im table.now → IsMasterIn im inode.now → (is_hashed_in (every im inode.now.block) ≡ true → ArePlainRecords im inode.now.block names.now) → IfErr result (StopsRightly im) }
     ensures lacks { IfErr result (LacksBlock table.now) }
 {
@@ -171,6 +173,7 @@ fn list_journals(
 ) -> Result<Vec<Entry>, Stop>
     ensures found { (im : Image) (l : Layout) → IsRead im table.now → HasGroups im l → l.jindex ≡ jindex.now.entry.addr → master ≡ master_of im → master < im.count → IsLinkOf im (codes "jindex") jindex.now
         → IfOk result (λ journals. AreJournalsOf im jindex.now.entry.addr journals.items) }
+    ensures repeats { (im : Image) → IsRead im table.now → OnOk result (IsTrueEntry im jindex.now.entry) }
     ensures stops { (im : Image) (l : Layout) → IsRead im table.now → HasGroups im l → l.jindex ≡ jindex.now.entry.addr → master ≡ master_of im → master < im.count → IsLinkOf im (codes "jindex") jindex.now
         → IfErr result (StopsRightly im) }
     ensures lacks { IfErr result (LacksBlock table.now) }

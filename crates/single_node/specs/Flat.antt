@@ -1,5 +1,5 @@
 -- Flat images: the root is one block of records, and each of its files is one block of content.
-use Rattle.std.specs.Prelude.{ℕ, ◌≡◌, ◌≢◌, ⊤, ◌+◌, ◌/◌, ◌%◌, ◌<◌, ◌≤◌, ◌&&◌, not, Bool, IsTrue, if◌then◌else◌, List, [], ◌∷◌, take, drop, codes, None}
+use Rattle.std.specs.Prelude.{ℕ, ◌≡◌, ◌≢◌, ⊤, ◌+◌, ◌/◌, ◌%◌, ◌<◌, ◌≤◌, ◌&&◌, not, Bool, false, IsTrue, if◌then◌else◌, List, [], ◌∷◌, take, drop, codes, None}
 use Rattle.std.specs.List.{AllByRecursion}
 use Rattle.std.specs.Str.{bytes_eq}
 use Rattle.gfs2_layout.specs.Inode.{has_hash_flag}

@@ -1,5 +1,5 @@
 use Rattle.std.proofs.Common.{◌≡◌, ◌<◌, inl, ◌%◌, length, refl, sym, ap, subst, ◌∙◌, arith}
-use Rattle.gfs2_layout.specs.Inode.{dinode_in}
+use Rattle.gfs2_layout.specs.Inode.{dinode_in, Fits}
 use Rattle.gfs2_layout.specs.declared.dinode.Dinode.{Dinode}
 use Rattle.std.specs.Prelude.{codes}
 use Rattle.image_model.specs.Claims.{every, Claims, IsRindex, master_of}
@@ -64,6 +64,10 @@ returns-clause-found c im read of_count is =
     let value = c.deref-2.ensures.value in
     groups_are im inode.block c.args.rindex.now.entry.addr c.deref-2.result.now c.in_ok-groups.groups.items value c.in_ok-inode.ensures.block (record {
       inside = list.inside;
+      looked = record {
+        fits = subst (λ a. Fits (every im a)) (sym c.in_ok-inode.ensures.block) (c.in_ok-inode.ensures.fits im read);
+        sized = c.in_ok-bytes.ensures.sized im dinode (c.block_size-size.ensures.value ∙ read.size);
+      };
       whole = whole;
       listed = list_groups im _ _ _ _ list;
       some = groups_some c.deref-2.result.now content c.in_ok-bytes.bytes listed (c.in_ok-content.ensures.length im read size) c.in_ok-bytes.ensures.least;
@@ -71,3 +75,8 @@ returns-clause-found c im read of_count is =
       fit = c.in_ok-check_groups.ensures.fit im list;
       short = c.in_ok-check_groups.ensures.short;
     })
+
+pub returns-clause-repeats : goal.returns-clause-repeats
+returns-clause-repeats c im read =
+    let inode = c.in_ok-inode.inode in
+    c.in_ok-check_record.ensures.repeats im (c.in_ok-inode.ensures.found im read ∙ ap (λ a. dinode_in (every im a)) (sym c.in_ok-inode.ensures.block))

@@ -3,6 +3,7 @@ use Rattle.gfs2_layout.specs.Inode.{dinode_in, is_hashed_in}
 use Rattle.gfs2_layout.specs.declared.dinode.Dinode.{Dinode}
 use Rattle.image_model.specs.Claims.{every}
 use Rattle.image_model.specs.Owners.{Master}
+use Rattle.image_mount.proofs.Looks.{table_sized}
 use Rattle.image_mount.proofs.Masters.{from_inside, table_short, kept_master, master_claim, master_inode, master_read, table_is}
 use Rattle.image_mount.proofs.Stops.{passed, stopped}
 use Rattle.image_mount.proofs.leaves.read_pointers.Goals as goal
@@ -31,3 +32,5 @@ returns-clause-found c im read is hashed =
     let kept = kept_master im c.args.inode.now c.in_ok-kept.kept is c.in_ok-kept.ensures.block c.in_ok-kept.ensures.from (c.in_ok-kept.ensures.found im read) in
     let size : (dinode_in (every im c.in_ok-kept.kept.block)).size ≡ 8 * 2 ^ c.in_ok-depth.depth = ap (λ (d : Dinode). d.size) (sym kept.dinode) ∙ c.in_ok-depth.ensures.bytes in
     table_is im c.args.inode.now c.in_ok-kept.kept _ is c.in_ok-kept.ensures.block hashed kept (c.in_ok-depth.ensures.depth) size (c.in_ok-bytes.ensures.found im read (size ∙ sym (table_short c.in_ok-depth.depth c.in_ok-depth.ensures.deep)))
+    (table_sized im c.in_ok-kept.kept.block c.block_size.result c.in_ok-depth.depth c.in_ok-kept.kept.dinode kept.dinode (c.block_size.ensures.value ∙ read.size) c.in_ok-depth.ensures.depth c.in_ok-depth.ensures.bytes
+    c.in_ok-depth.ensures.least c.in_ok-depth.ensures.greatest)

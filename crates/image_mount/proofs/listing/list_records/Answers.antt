@@ -1,9 +1,10 @@
-use Rattle.std.proofs.Common.{◌≡◌, refl, sym, subst}
+use Rattle.std.proofs.Common.{◌≡◌, refl, sym, subst, ◌∙◌}
 use Rattle.std.specs.Prelude.{map}
 use Rattle.std.specs.List.{All}
 use Rattle.image_mount.specs.Listing.{said, AreRecordsOf}
 use Rattle.image_mount.specs.declared.listing.Named.{Named}
 use Rattle.image_mount.proofs.Causes.{linear_of}
+use Rattle.image_mount.proofs.Looks.{linear_sized}
 use Rattle.image_mount.proofs.Records.{area_in, area_of, has_directory, records_of}
 use Rattle.image_mount.proofs.Stops.{passed, stopped}
 use Rattle.image_mount.proofs.Wanted.{wanted}
@@ -34,3 +35,7 @@ returns-clause-found c im read is =
     let a = c.args.inode.now.block in
     let area = area_of im a c.in_ok-bytes.bytes.now _ (read.same _ _ c.in_ok-bytes.ensures.bytes) refl in
     records_of im a _ _ (has_directory im c.args.inode.now c.args.parent is) (linear_of im a _ is.dinode c.requires.linear) area c.in_ok-records.ensures.found
+
+pub returns-clause-sized : goal.returns-clause-sized
+returns-clause-sized c im read is =
+    linear_sized im c.args.inode.now.block c.block_size.result c.args.inode.now.dinode is.dinode (c.block_size.ensures.value ∙ read.size) c.requires.linear c.in_ok-check_linear.ensures.linear

@@ -1,7 +1,10 @@
 use Rattle.std.proofs.Common.{◌≡◌, true, None, sym, ap, subst, ◌∙◌, arith}
 use Rattle.std.specs.Prelude.{map}
 use Rattle.std.specs.Option.{option_map}
+use Rattle.std.proofs.lemmas.Bool.{both_ways}
+use Rattle.gfs2_layout.specs.Inode.{is_hashed_in}
 use Rattle.gfs2_layout.specs.Records.{Record}
+use Rattle.image_model.specs.Claims.{every}
 use Rattle.image_mount.specs.Found.{first_other}
 use Rattle.image_mount.specs.Listing.{said, is_hashed_by, AreAllRecords}
 use Rattle.image_mount.specs.System.{ArePlainRecords}
@@ -55,3 +58,11 @@ returns-clause-found c im read is plain =
       plain = plain_items items (no_other items c.first_other.result found none);
     } in
     c.in_ok-files-2.ensures.found im (subst (ArePlainRecords im a) (sym c.deref-2.ensures.value) plain_here) is.block
+
+pub returns-then-is_hashed-clause-sized : goal.returns-then-is_hashed-clause-sized
+returns-then-is_hashed-clause-sized c im read is plain =
+    let hashed : is_hashed_by c.args.inode.now.dinode ≡ true = sym c.is_hashed.ensures ∙ c.if-is_hashed.true in
+    absurd (both_ways (is_hashed_in (every im c.args.inode.now.block)) plain (hashed_as im c.args.inode.now.block _ true is.dinode hashed))
+
+pub returns-clause-sized : goal.returns-clause-sized
+returns-clause-sized c im read is plain = c.in_ok-records.ensures.sized im read (master_directory im c.args.inode.now is)

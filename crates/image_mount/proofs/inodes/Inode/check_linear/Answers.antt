@@ -10,3 +10,6 @@ pub returns-then-self-from-clause-refused : goal.returns-then-self-from-clause-r
 returns-then-self-from-clause-refused c im read of format low has =
     wrong_size im _ c.args.self.now.block c.args.size c.args.self.now.dinode c.damaged-then-self-from.ensures read of c.requires.size format low has c.requires.linear
     (λ e. c.if-self-from.true (omega (arith, e, c.from.ensures, c.requires.size)))
+
+pub returns-clause-linear : goal.returns-clause-linear
+returns-clause-linear c = (c.if-self-ne0.false, omega (arith, c.if-self-from.false, c.from.ensures, c.requires.size))

@@ -19,3 +19,9 @@ returns-then-from-count-clause-refused c im read of format low hashed =
 pub returns-then-self-count-clause-refused : goal.returns-then-self-count-clause-refused
 returns-then-self-count-clause-refused c im read of format low hashed =
     table_misfit im _ c.args.self.now.block c.args.size c.args.self.now.dinode c.damaged-then-self-count.ensures read of format low hashed c.pointers_of-count.result c.pointers_of-count.ensures c.if-self-count.true
+
+pub returns-clause-least : goal.returns-clause-least
+returns-clause-least c = omega (arith, c.if-count-from.false, c.from.ensures, c.pointers_of-count.ensures)
+
+pub returns-clause-greatest : goal.returns-clause-greatest
+returns-clause-greatest c = omega (arith, c.if-from-count.false, c.from-2.ensures, c.pointers_of-count.ensures)
