@@ -1,6 +1,6 @@
 -- Sets of nodes.
-use Rattle.std.proofs.Common.{ℕ, zero, suc, ◌≡◌, ◌≤◌, Bool, true, false, None, Some, List, [], ◌∷◌, refl, ap, nat_eq, arith}
-use Rattle.std.specs.Prelude.{◌||◌, not, find, ◌^◌}
+use Rattle.std.proofs.Common.{ℕ, ◌≡◌, ◌≤◌, Bool, true, false, None, List, [], ◌∷◌, refl, ap, nat_eq, arith}
+use Rattle.std.specs.Prelude.{◌||◌, not, ◌^◌}
 use Rattle.std.specs.List.{AllByRecursion, list_all}
 use Rattle.std.specs.Int.Bits.{and_zero_l}
 use Rattle.fencing.specs.NodeSets.{has, all_nodes, least_of}

@@ -87,7 +87,8 @@ pub fn holders_ask_for_nothing()
     ensures { HoldersAskForNothing }
 {}
 
-/// A law: a list of calls can be made, from a start that there is: one node asks for a lock, and is granted it.
+/// A law: a list of calls can be made, from a start that there is: a node is granted a lock, the other one stops, the first one
+/// tells what it holds in the next view, the stopped slot is recovered, and the node lets the lock go and is granted it again.
 pub fn a_list_can_be_made()
     ensures { ListCanBeMade }
 {}
