@@ -14,6 +14,7 @@ from the rules alone. Each row is a line of numbers.
 35 kind number state         it went down                42 kind number state 0|1    may it be asked for?
 37 kind number state pinned touched wants called         what is kept of it (wants: 1 sh, 2 df, 4 ex; called: 0 none)
 38 kind number state         which goes down next (kind 0: none)
+43 kind number kind number state      which does behind this lock
 39                           the node unmounts
 40 state touched flushed live away in_flight stage      the stage of a demotion (0 flush .. 4 release)
 50 slot taken                a frame is taken            51 slot byte                a frame is filled
@@ -151,8 +152,8 @@ def glocks(draw):
         elif what in (4, 5):
             row(32, *name)
             lock.pins = max(0, lock.pins - 1)
-        elif what in (6, 7) and lock.called() is None and held != EX:
-            state = draw.choice(sorted(s for s in BELOW if s != held and held in BELOW[s]))
+        elif what in (6, 7) and held == UN:
+            state = draw.choice((SH, DF, EX))
             row(33, *name, state)
             lock.items.append(("grant", state))
             clients = [None if want is not None and want[0] == name and want[1] in BELOW[state] else want for want in clients]
@@ -197,7 +198,10 @@ def glocks(draw):
             row(42, *name, state, locks[name].may_ask(state))
         elif what in (13, 14):
             down = sorted(name for name in locks if goes(name) is not None)
-            row(38, *(down[0] + (goes(down[0]),) if down else (0, 0, 0)))
+            if what == 14:
+                down = [other for other in down if other > name]
+            first = down[0] + (goes(down[0]),) if down else (0, 0, 0)
+            row(*((38,) if what == 13 else (43, *name)), *first)
         elif what >= 3:
             touch_lock(draw, name, what)
 

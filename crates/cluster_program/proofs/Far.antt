@@ -15,7 +15,7 @@ use Rattle.gfs2_layout.specs.Structures.{dinode_of, is_directory, is_in_use}
 use Rattle.image_model.specs.Claims.{every, Claims, root, in_dinode, HasDirectory, behind_dinode}
 use Rattle.image_model.specs.Image.{Image, image_of, superblock_in}
 use Rattle.image_model.specs.Owners.{Root, Named}
-use Rattle.image_model.specs.Rules.{Breaks, beyond_device, no_name}
+use Rattle.image_model.specs.Rules.{Breaks, IsBrokenBlock, beyond_device, no_name}
 use Rattle.image_model.proofs.Members.{IsIn, contained, in_filter}
 use Rattle.shared_disk.specs.Disk.{DiskState}
 use Rattle.single_node.specs.Blocks.{CallRefuses, BadFile, FarFile, BadName}
@@ -24,8 +24,8 @@ use Rattle.single_node.specs.declared.end.Refusal.{Refusal}
 use Rattle.cluster_program.specs.Early.{broken_rule}
 use Rattle.single_node.proofs.Files.{both, name_is_no_dot}
 
-pub far_root : (d : DiskState) → d.count ≤ root_of d → Breaks (image_of d) 2 (superblock_place d.size)
-far_root d far = beyond_device (superblock_place d.size) (root_of d) Root root far
+pub far_root : (d : DiskState) → superblock_place d.size < d.count → d.count ≤ root_of d → IsBrokenBlock (image_of d) 2 (superblock_place d.size)
+far_root d inside far = record { breaks = beyond_device (superblock_place d.size) (root_of d) Root root far; there = inl inside }
 
 -- ---- a record of the root
 
@@ -117,7 +117,7 @@ behind bad = record { slot = bad.slot; there = inr bad.there; of_file = bad.of_f
 badly_named : (ss : List Slot) → (AllByRecursion HasItsFileName ss → ⊥) → IsBadlyNamed ss
 badly_named [] lacks = absurd (lacks tt)
 badly_named (s ∷ ss) lacks = elim (cases_Bool (names_a_file s)) [
-  | inr plain ↦ behind (badly_named ss (λ all. lacks ((λ names. absurd (subst IsTrue plain names)), all)))
+  | inr plain ↦ behind (badly_named ss (λ all. lacks ((λ names. absurd (both_ways (names_a_file s) plain names)), all)))
   | inl of_file ↦ elim (name_cases (name_of s)) [
     | inl is ↦ behind (badly_named ss (λ all. lacks ((λ names. is), all)))
     | inr bad ↦ record { slot = s; there = inl refl; of_file = of_file; bad = bad }
@@ -141,17 +141,21 @@ module _ (d : DiskState) (block : List ℕ) (has : HasFlatRoot d block) where
       not_true true e = cc
       not_true false e = refl
 
+-- the root's block is on the device
+in_root_block : (d : DiskState) (block : List ℕ) (b rule : ℕ) → HasFlatRoot d block → b ≡ root_of d → Breaks (image_of d) rule (root_of d) → IsBrokenBlock (image_of d) rule b
+in_root_block d block b rule has at breaks = subst (IsBrokenBlock (image_of d) rule) (sym at) (record { breaks = breaks; there = inl has.root.inside })
+
 -- what a call refuses breaks this rule, where it breaks one
-pub refused_breaks : (d : DiskState) (block : List ℕ) (call : Call) (b : ℕ) (r : Refusal) (rule : ℕ) → broken_rule r ≡ Some rule → HasFlatRoot d block → CallRefuses d block call b r → Breaks (image_of d) rule b
+pub refused_breaks : (d : DiskState) (block : List ℕ) (call : Call) (b : ℕ) (r : Refusal) (rule : ℕ) → broken_rule r ≡ Some rule → HasFlatRoot d block → CallRefuses d block call b r → IsBrokenBlock (image_of d) rule b
 refused_breaks d block call b _ rule is has (BadFile reads inside lacks) = cc
 refused_breaks d block call b _ rule is has (FarFile far reads outside at) =
-    subst (λ n. Breaks (image_of d) n b) (two is)
-    (subst (Breaks (image_of d) 2) (sym at) (far_record d block has reads.name reads.slot (name_is_no_dot reads.name reads.is_name) reads.found (subst (λ (n : ℕ). d.count ≤ n) reads.leads outside)))
+    in_root_block d block b rule has at
+    (subst (λ n. Breaks (image_of d) n (root_of d)) (two is) (far_record d block has reads.name reads.slot (name_is_no_dot reads.name reads.is_name) reads.found (subst (λ (n : ℕ). d.count ≤ n) reads.leads outside)))
   where
     two : Some 2 ≡ Some rule → 2 ≡ rule
     two e = cc
 refused_breaks d block call b _ rule is has (BadName lists at lacks) =
-    subst (λ n. Breaks (image_of d) n b) (nine is) (subst (Breaks (image_of d) 9) (sym at) (unnamed_record d block has lacks))
+    in_root_block d block b rule has at (subst (λ n. Breaks (image_of d) n (root_of d)) (nine is) (unnamed_record d block has lacks))
   where
     nine : Some 9 ≡ Some rule → 9 ≡ rule
     nine e = cc

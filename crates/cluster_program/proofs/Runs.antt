@@ -25,7 +25,7 @@ use Rattle.cluster_program.specs.Course.{Runs, RunEnds, IsDone, NotMounted, Call
 use Rattle.single_node.specs.Blocks.{CallReads, CallRefuses, RefusesWhatIsTold, IsCallThat}
 use Rattle.single_node.specs.Run.{IsRunUpTo, IsWholeRun, IsRunOf, NotJoined, Taken, Unmounted}
 use Rattle.image_model.specs.Image.{image_of}
-use Rattle.image_model.specs.Rules.{Breaks}
+use Rattle.image_model.specs.Rules.{IsBrokenBlock}
 use Rattle.image_mount.specs.Mounted.{MountedValue, IsMounted}
 use Rattle.cluster_program.specs.Mounting.{OfImage, IsLeftClean, IsMountedClean, MountEnds, DiskFails, LiesOutside, IsDamaged, IsDirty, IsHashed, HasOtherRoot, LacksRoom}
 use Rattle.cluster_program.specs.Early.{broken_rule, status_of_end}
@@ -57,7 +57,7 @@ at_root disk root s items block why begins there = record {
 }
 
 call_breaks : (disk : DiskState) (root : List ℕ) (block : ℕ) (r : Refusal) (rule : ℕ) → broken_rule r ≡ Some rule → (l : Line) → HasFlatRoot disk root → IsTrue disk.tells
-    → IsCallThat (λ call. IsTrue disk.tells → CallRefuses disk root call block r) l → Breaks (image_of disk) rule block
+    → IsCallThat (λ call. IsTrue disk.tells → CallRefuses disk root call block r) l → IsBrokenBlock (image_of disk) rule block
 call_breaks disk root block r rule is (line.Call client call) has tells refuses = refused_breaks disk root call block r rule is has (refuses tells)
 call_breaks disk root block r rule is line.Wait has tells refuses = absurd refuses
 call_breaks disk root block r rule is (line.Crash nodes) has tells refuses = absurd refuses

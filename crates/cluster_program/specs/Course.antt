@@ -30,7 +30,7 @@ use Rattle.single_node.specs.Shown.{TreeReads, TreeRefuses}
 use Rattle.single_node.specs.declared.end.Refusal.{Refusal}
 use Rattle.single_node.specs.declared.end.Refusal.TheVariants as refusal
 use Rattle.cluster_program.specs.Early.{broken_rule}
-use Rattle.image_model.specs.Rules.{Breaks}
+use Rattle.image_model.specs.Rules.{IsBrokenBlock}
 use Rattle.image_model.specs.Stands.{Stands}
 use Rattle.image_mount.specs.Mounted.{Journal, MountedValue, IsMounted}
 use Rattle.show_text.specs.Show.{journal_lines, tree_lines}
@@ -152,7 +152,7 @@ pub data RunEnds (disk : DiskState) (faults faults_now : ℕ → ℕ) (s : Scrip
       → AtCall disk root s items (λ call. IsTrue disk.tells → CallRefuses disk root call block refusal.Form)
       → RunEnds disk faults faults_now s items (status.NotBuilt (part.Block block))
   CallDamaged : (root : List ℕ) (block rule : ℕ) (why : Refusal) → broken_rule why ≡ Some rule → ((tree : Tree) → IsFlat disk tree → ⊥) → (IsTrue disk.tells → HasFlatRoot disk root)
-      → AtCall disk root s items (λ call. IsTrue disk.tells → CallRefuses disk root call block why) → OfImage disk (λ im. Breaks im rule block)
+      → AtCall disk root s items (λ call. IsTrue disk.tells → CallRefuses disk root call block why) → OfImage disk (λ im. IsBrokenBlock im rule block)
       → RunEnds disk faults faults_now s items (status.Damaged block rule)
   NoRoom : RunEnds disk faults faults_now s items status.NoMemory
 
@@ -190,7 +190,7 @@ pub data Shows (disk : DiskState) (faults faults_now : ℕ → ℕ) : List ℕ �
   TreeRefused : (root : List ℕ) (block : ℕ) → ((tree : Tree) → IsFlat disk tree → ⊥) → (IsTrue disk.tells → HasFlatRoot disk root)
       → TreeRefuses disk root block refusal.Form → Shows disk faults faults_now [] (status.NotBuilt (part.Block block))
   TreeDamaged : (root : List ℕ) (block rule : ℕ) (why : Refusal) → broken_rule why ≡ Some rule → ((tree : Tree) → IsFlat disk tree → ⊥) → (IsTrue disk.tells → HasFlatRoot disk root)
-      → TreeRefuses disk root block why → OfImage disk (λ im. Breaks im rule block) → Shows disk faults faults_now [] (status.Damaged block rule)
+      → TreeRefuses disk root block why → OfImage disk (λ im. IsBrokenBlock im rule block) → Shows disk faults faults_now [] (status.Damaged block rule)
   NothingHeld : Shows disk faults faults_now [] status.NoMemory
 
 -- ---- the command: refusals come in this order, each before anything that follows it is touched; its items are those of a run, its lines those of a show

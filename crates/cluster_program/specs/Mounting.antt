@@ -4,7 +4,7 @@ use Rattle.fault_counts.specs.Causes.{WentUp}
 use Rattle.file_tree.specs.Tree.{Tree}
 use Rattle.image_model.specs.Image.{Image, image_of}
 use Rattle.image_model.specs.Claims.{IsJindex}
-use Rattle.image_model.specs.Rules.{Breaks, IsHashedAt}
+use Rattle.image_model.specs.Rules.{IsBrokenBlock, IsHashedAt}
 use Rattle.image_model.specs.Stands.{Stands}
 use Rattle.image_mount.specs.Mounted.{Journal, MountedValue, IsMounted, IsOfProfile}
 use Rattle.image_mount.specs.Refusals.{IsOutside, IsReached}
@@ -48,7 +48,7 @@ pub data MountEnds (disk : DiskState) (faults faults_now : ℕ → ℕ) : Status
   DiskFails : (block x y : ℕ) → WentUp (faults 0) (faults_now 0) x y → OfImage disk (λ im. IsReached im block) → MountEnds disk faults faults_now (status.DeviceFault 0 (Some block) x y)
   LiesOutside : (what : Field) (value : ℕ) → OfImage disk (λ im. IsOutside im what value) → OfImage disk (λ im. IsOfProfile im → ⊥)
       → MountEnds disk faults faults_now (status.NotProfile what value)
-  IsDamaged : (block rule : ℕ) → OfImage disk (λ im. Breaks im rule block) → OfImage disk NeverStands → MountEnds disk faults faults_now (status.Damaged block rule)
+  IsDamaged : (block rule : ℕ) → OfImage disk (λ im. IsBrokenBlock im rule block) → OfImage disk NeverStands → MountEnds disk faults faults_now (status.Damaged block rule)
   IsDirty : (block : ℕ) → OfImage disk (λ im. HasDirtyJournal im block) → MountEnds disk faults faults_now (status.NotBuilt (part.Block block))
   IsHashed : (block : ℕ) → OfImage disk (λ im. IsJindex im block × IsHashedAt im block) → MountEnds disk faults faults_now (status.NotBuilt (part.Block block))
   HasOtherRoot : (block : ℕ) → (IsTrue disk.tells → (block ≡ root_of disk) × (HasRoot disk → ⊥)) → MountEnds disk faults faults_now (status.NotBuilt (part.Block block))

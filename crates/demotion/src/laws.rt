@@ -23,7 +23,8 @@ pub fn cut_stages_are_taken_up()
     ensures { (stage : Stage) (u : Under) → AreDoneBefore stage u → rank stage ≤ rank (stage_of State.Ex u) }
 {}
 
-/// A law: where a stage's work is done too, a later one has come. So there are four works at most before the release.
+/// A law: where a stage's work is done too, a later one has come. So there are four works at most before the release, where
+/// nothing else changes what is under the lock.
 pub fn stages_come_in_order()
     ensures { (stage : Stage) (u : Under) → AreDoneBefore stage u → IsPast stage u → rank stage < rank (stage_of State.Ex u) }
 {}

@@ -2,7 +2,7 @@ ghost use Rattle.std.specs.Prelude.{ℕ, ◌≡◌, ◌+◌, ◌-◌, ◌/◌, �
 ghost use Rattle.gfs2_layout.specs.Holding.{Holding};
 ghost use Rattle.gfs2_layout.specs.Inode.{unit, carried, content_block, content_count, Fits};
 ghost use Rattle.glock_names.specs.Steps.{IfIs, IfNeedBlock, IfDamaged, OnlyDamaged};
-ghost use Rattle.dinode_tree.specs.Shown.{IsShown};
+ghost use Rattle.dinode_tree.specs.Shown.{IsShown, IsOfView};
 ghost use Rattle.dinode_tree.specs.Broken.{IsBroken};
 ghost use Rattle.dinode_tree.specs.Reading.{IsInRange, AreWholeBefore, IsNeeded};
 ghost use Rattle.dinode_tree.specs.Walking.{held, IsIn, IsOf, IsLink, laid_range, ArePieces};
@@ -40,6 +40,7 @@ fn carried_by<'a, V: View>(
     ensures carried { (h : Holding) (index : ℕ) → IsShown (V.seen view.now) inode.now.block h → IsLink h index link.now → IfIs result (λ piece. piece.now ≡ carried h (content_block h index)) }
     ensures needed { (h : Holding) (index : ℕ) → IsShown (V.seen view.now) inode.now.block h → IsLink h index link.now → IfNeedBlock result (IsNeeded (V.seen view.now) h (λ i. i ≡ index) 0) }
     ensures damaged { (h : Holding) (index : ℕ) → IsShown (V.seen view.now) inode.now.block h → IsLink h index link.now → OnlyDamaged result (IsBroken h) }
+    ensures kept { OnlyDamaged result (IsOfView (V.seen view.now)) }
 {
     let Some(bytes) = block_of(view, link.block) else {
         return Ok(Step::NeedBlock(missing_block(inode, link)));
@@ -64,6 +65,7 @@ pub(crate) fn piece<'a, V: View>(
     ensures carried { (h : Holding) → IsShown (V.seen view.now) inode.now.block h → IfIs result (λ piece. piece.now ≡ carried h (content_block h index)) }
     ensures needed { (h : Holding) → IsShown (V.seen view.now) inode.now.block h → IfNeedBlock result (IsNeeded (V.seen view.now) h (λ i. i ≡ index) 0) }
     ensures damaged { (h : Holding) → IsShown (V.seen view.now) inode.now.block h → OnlyDamaged result (IsBroken h) }
+    ensures kept { OnlyDamaged result (IsOfView (V.seen view.now)) }
 {
     match find(view, inode, index)? {
         Step::Is(Some(link)) => carried_by(view, inode, &link),
@@ -90,6 +92,7 @@ fn part<'a, V: View>(
     ensures pieces { (h : Holding) → IsShown (V.seen view.now) inode.now.block h → ArePieces h (at / unit h) → IfIs result (λ part. ArePieces h ((at + length part.now) / unit h)) }
     ensures needed { (h : Holding) → IsShown (V.seen view.now) inode.now.block h → IfNeedBlock result (IsNeeded (V.seen view.now) h (λ i. i ≡ at / unit h) 0) }
     ensures damaged { (h : Holding) → IsShown (V.seen view.now) inode.now.block h → OnlyDamaged result (IsBroken h) }
+    ensures kept { OnlyDamaged result (IsOfView (V.seen view.now)) }
 {
     let unit = inode.unit() as u64;
     match piece(view, inode, at / unit)? {
@@ -119,6 +122,7 @@ pub(crate) fn blocks_range<V: View>(
     ensures length { IfIs result (λ bytes. length bytes.items ≡ end - at) }
     ensures needed { (h : Holding) → IsShown (V.seen view.now) inode.now.block h → IfNeedBlock result (IsNeeded (V.seen view.now) h (IsInRange h at (end - at)) 0) }
     ensures damaged { (h : Holding) → IsShown (V.seen view.now) inode.now.block h → IfDamaged result (IsBroken h) }
+    ensures kept { IfDamaged result (IsOfView (V.seen view.now)) }
 {
     let mut bytes = Vec::with_capacity(alloc, (end - at) as usize)?;
     let mut next = at;

@@ -27,6 +27,7 @@ impl<'a> Inode<'a> {
     ghost use Rattle.gfs2_layout.specs.Inode.{unit, content_count, Fits};
     ghost use Rattle.dinode_tree.specs.Reading.{inode_lock};
     ghost use Rattle.dinode_tree.specs.Walking.{held, IsOf};
+    ghost use Rattle.dinode_tree.specs.Shown.{IsAtBlock};
     ghost use Rattle.dinode_tree.specs.Broken.{IsBroken};
     ghost use Rattle.glock_names.specs.Steps.{OnlyDamaged};
 
@@ -38,6 +39,7 @@ impl<'a> Inode<'a> {
         ensures bytes { IfOk result (λ inode. inode.bytes.now ≡ bytes.now) }
         ensures header { OnOk result (HasHeader 4 400 bytes.now) }
         ensures damaged { (h : Holding) → h.own ≡ block → bytes_at h h.own ≡ bytes.now → OnlyDamaged result (IsBroken h) }
+        ensures own { OnlyDamaged result (IsAtBlock block) }
     {
         if !has_header(bytes, 4, 400) {
             return Err(damaged(block, 1));
@@ -57,6 +59,7 @@ impl<'a> Inode<'a> {
         ensures address { OnOk result (self.now.dinode.num.address ≡ self.now.block) }
         ensures number { OnOk result (self.now.dinode.num.number ≢ 0) }
         ensures damaged { (h : Holding) → IsOf h self.now → OnlyDamaged result (IsBroken h) }
+        ensures own { OnlyDamaged result (IsAtBlock self.now.block) }
     {
         if self.dinode.num.address != self.block {
             return Err(damaged(self.block, 7));
@@ -71,6 +74,7 @@ impl<'a> Inode<'a> {
     pub fn check_mode(&self) -> Result<(), CallFault>
         ensures mode { OnOk result ((is_directory self.now.dinode ≡ true) ⊎ (is_regular self.now.dinode ≡ true)) }
         ensures damaged { (h : Holding) → IsOf h self.now → OnlyDamaged result (IsBroken h) }
+        ensures own { OnlyDamaged result (IsAtBlock self.now.block) }
     {
         if self.dinode.is_directory() || self.dinode.is_regular() {
             return Ok(());
@@ -82,6 +86,7 @@ impl<'a> Inode<'a> {
     pub fn check_fits(&self) -> Result<(), CallFault>
         ensures fits { OnOk result (Fits (held self.now)) }
         ensures damaged { (h : Holding) → IsOf h self.now → OnlyDamaged result (IsBroken h) }
+        ensures own { OnlyDamaged result (IsAtBlock self.now.block) }
     {
         if self.dinode.height > 10 {
             return Err(damaged(self.block, 8));
@@ -96,6 +101,7 @@ impl<'a> Inode<'a> {
         requires { self.now.dinode.height ≡ 0 }
         ensures fits { OnOk result (Fits (held self.now)) }
         ensures damaged { (h : Holding) → IsOf h self.now → OnlyDamaged result (IsBroken h) }
+        ensures own { OnlyDamaged result (IsAtBlock self.now.block) }
     {
         if self.dinode.size > (self.bytes.len() - DINODE_LENGTH) as u64 {
             return Err(damaged(self.block, 8));
@@ -108,6 +114,7 @@ impl<'a> Inode<'a> {
         requires low { level ≤ 9 }
         ensures fits { OnOk result (Fits (held self.now)) }
         ensures damaged { (h : Holding) → IsOf h self.now → OnlyDamaged result (IsBroken h) }
+        ensures own { OnlyDamaged result (IsAtBlock self.now.block) }
     {
         let count = self.content_count();
         if count == 0 {

@@ -3,7 +3,7 @@ ghost use Rattle.gfs2_layout.specs.Holding.{Holding, bytes_at};
 ghost use Rattle.gfs2_layout.specs.Structures.{is_regular};
 ghost use Rattle.gfs2_layout.specs.Inode.{content_count};
 ghost use Rattle.glock_names.specs.Steps.{IfIs, IfNeedBlock, OnlyDamaged};
-ghost use Rattle.dinode_tree.specs.Shown.{IsShown};
+ghost use Rattle.dinode_tree.specs.Shown.{IsShown, IsOfView, IsAtBlock};
 ghost use Rattle.dinode_tree.specs.Broken.{IsBroken};
 ghost use Rattle.dinode_tree.specs.Reading.{IsNeeded, inode_lock};
 ghost use Rattle.dinode_tree.specs.Walking.{held, IsIn, IsOf, IsLink, IsStep};
@@ -42,6 +42,7 @@ fn first_link(inode: &Inode<'_>, index: u64) -> Result<Option<Link>, CallFault>
     ensures least { IfOk result (λ found. IfSome found (λ link. link.way.left ≤ link.way.index)) }
     ensures step { (h : Holding) → IsOf h inode.now → IfOk result (IsStep h index) }
     ensures damaged { (h : Holding) → IsOf h inode.now → OnlyDamaged result (IsBroken h) }
+    ensures own { OnlyDamaged result (IsAtBlock inode.now.block) }
 {
     if inode.dinode.height == 0 {
         return Ok(None);
@@ -90,6 +91,7 @@ fn link_below(inode: &Inode<'_>, bytes: &[u8], link: &Link) -> Result<Option<Lin
     ensures least { IfOk result (λ found. IfSome found (λ next. next.way.left ≤ next.way.index)) }
     ensures step { (h : Holding) (index : ℕ) → IsOf h inode.now → bytes_at h link.now.block ≡ bytes.now → IsLink h index link.now → IfOk result (IsStep h index) }
     ensures damaged { (h : Holding) (index : ℕ) → IsOf h inode.now → bytes_at h link.now.block ≡ bytes.now → IsLink h index link.now → OnlyDamaged result (IsBroken h) }
+    ensures own { OnlyDamaged result (IsAtBlock inode.now.block) }
 {
     let level = link.way.level - 1;
     let (k, left) = split(bytes.len(), level, link.way.left);
@@ -119,6 +121,7 @@ fn next_link<V: View>(
     ensures step { (h : Holding) (index : ℕ) → IsShown (V.seen view.now) inode.now.block h → IsLink h index link.now → IfIs result (IsStep h index) }
     ensures needed { (h : Holding) (index : ℕ) → IsShown (V.seen view.now) inode.now.block h → IsLink h index link.now → IfNeedBlock result (IsNeeded (V.seen view.now) h (λ i. i ≡ index) 1) }
     ensures damaged { (h : Holding) (index : ℕ) → IsShown (V.seen view.now) inode.now.block h → IsLink h index link.now → OnlyDamaged result (IsBroken h) }
+    ensures kept { OnlyDamaged result (IsOfView (V.seen view.now)) }
 {
     let Some(bytes) = block_of(view, link.block) else {
         return Ok(Step::NeedBlock(missing_block(inode, link)));
@@ -142,6 +145,7 @@ pub(crate) fn find<V: View>(
     ensures step { (h : Holding) → IsShown (V.seen view.now) inode.now.block h → IfIs result (IsStep h index) }
     ensures needed { (h : Holding) → IsShown (V.seen view.now) inode.now.block h → IfNeedBlock result (IsNeeded (V.seen view.now) h (λ i. i ≡ index) 1) }
     ensures damaged { (h : Holding) → IsShown (V.seen view.now) inode.now.block h → OnlyDamaged result (IsBroken h) }
+    ensures kept { OnlyDamaged result (IsOfView (V.seen view.now)) }
 {
     let mut link = match first_link(inode, index)? {
         Some(link) => link,

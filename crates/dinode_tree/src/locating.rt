@@ -3,7 +3,7 @@ ghost use Rattle.std.specs.Option.{option_map};
 ghost use Rattle.gfs2_layout.specs.Holding.{Holding};
 ghost use Rattle.gfs2_layout.specs.Inode.{Leads, dinode_in, Fits};
 ghost use Rattle.glock_names.specs.Steps.{IfIs, IfNeedBlock, OnlyDamaged};
-ghost use Rattle.dinode_tree.specs.Shown.{IsShown};
+ghost use Rattle.dinode_tree.specs.Shown.{IsShown, HasBlock, IsOfView};
 ghost use Rattle.dinode_tree.specs.Broken.{IsBroken};
 ghost use Rattle.dinode_tree.specs.Walking.{IsIn, missing_dinode};
 ghost use Rattle.dinode_tree.specs.Reading.{block_at, IsNeeded};
@@ -26,9 +26,11 @@ pub struct Located {
 pub fn read_dinode<V: View>(view: &V, dinode: u64) -> Result<Step<Dinode>, CallFault>
     ensures found { (h : Holding) → IsShown (V.seen view.now) dinode h → IfIs result (λ d. d ≡ dinode_in h) }
     ensures fits { (h : Holding) → IsShown (V.seen view.now) dinode h → IfIs result (λ d. Fits h) }
+    ensures there { IfIs result (λ d. HasBlock (V.seen view.now) dinode) }
     ensures needed { IfNeedBlock result (λ missing. missing ≡ missing_dinode dinode) }
     ensures absent { IfNeedBlock result (λ missing. (V.seen view.now).block_at dinode ≡ None) }
     ensures damaged { (h : Holding) → IsShown (V.seen view.now) dinode h → OnlyDamaged result (IsBroken h) }
+    ensures kept { OnlyDamaged result (IsOfView (V.seen view.now)) }
 {
     match look(view, dinode)? {
         Step::Is(inode) => Ok(Step::Is(inode.dinode)),
@@ -47,6 +49,7 @@ fn located_in<V: View>(
     ensures leads { (h : Holding) → IsShown (V.seen view.now) inode.now.block h → IfIs result (λ found. IfSome found (λ l. (k : ℕ) × Leads h l.from k 0 index l.block)) }
     ensures needed { (h : Holding) → IsShown (V.seen view.now) inode.now.block h → IfNeedBlock result (IsNeeded (V.seen view.now) h (λ i. i ≡ index) 1) }
     ensures damaged { (h : Holding) → IsShown (V.seen view.now) inode.now.block h → OnlyDamaged result (IsBroken h) }
+    ensures kept { OnlyDamaged result (IsOfView (V.seen view.now)) }
 {
     match find(view, inode, index)? {
         Step::Is(Some(link)) => Ok(Step::Is(Some(Located {
@@ -68,6 +71,7 @@ pub fn locate<V: View>(
     ensures leads { (h : Holding) → IsShown (V.seen view.now) dinode h → IfIs result (λ found. IfSome found (λ l. (k : ℕ) × Leads h l.from k 0 index l.block)) }
     ensures needed { (h : Holding) → IsShown (V.seen view.now) dinode h → IfNeedBlock result (IsNeeded (V.seen view.now) h (λ i. i ≡ index) 1) }
     ensures damaged { (h : Holding) → IsShown (V.seen view.now) dinode h → OnlyDamaged result (IsBroken h) }
+    ensures kept { OnlyDamaged result (IsOfView (V.seen view.now)) }
 {
     match look(view, dinode)? {
         Step::Is(inode) => located_in(view, &inode, index),

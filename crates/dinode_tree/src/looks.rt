@@ -4,7 +4,7 @@ ghost use Rattle.gfs2_layout.specs.Structures.{is_directory, is_regular};
 ghost use Rattle.gfs2_layout.specs.Holding.{Holding};
 ghost use Rattle.gfs2_layout.specs.Inode.{Fits};
 ghost use Rattle.glock_names.specs.Steps.{IfIs, IfNeedBlock, OnlyDamaged};
-ghost use Rattle.dinode_tree.specs.Shown.{IsShown};
+ghost use Rattle.dinode_tree.specs.Shown.{IsShown, IsOfView};
 ghost use Rattle.dinode_tree.specs.Broken.{IsBroken};
 ghost use Rattle.dinode_tree.specs.Walking.{held, IsIn, missing_dinode};
 
@@ -24,6 +24,7 @@ pub(crate) fn look<V: View>(view: &V, dinode: u64) -> Result<Step<Inode<'_>>, Ca
     ensures needed { IfNeedBlock result (λ missing. missing ≡ missing_dinode dinode) }
     ensures absent { IfNeedBlock result (λ missing. (V.seen view.now).block_at dinode ≡ None) }
     ensures damaged { (h : Holding) → IsShown (V.seen view.now) dinode h → OnlyDamaged result (IsBroken h) }
+    ensures kept { OnlyDamaged result (IsOfView (V.seen view.now)) }
 {
     let Some(bytes) = block_of(view, dinode) else {
         return Ok(Step::NeedBlock(Missing {

@@ -2,7 +2,7 @@ ghost use Rattle.std.specs.Prelude.{◌≡◌, ◌+◌, ◌-◌, min, length};
 ghost use Rattle.gfs2_layout.specs.Holding.{Holding};
 ghost use Rattle.gfs2_layout.specs.Inode.{dinode_in, Fits};
 ghost use Rattle.glock_names.specs.Steps.{IfIs, IfNeedBlock, IfDamaged, OnlyDamaged};
-ghost use Rattle.dinode_tree.specs.Shown.{IsShown};
+ghost use Rattle.dinode_tree.specs.Shown.{IsShown, IsOfView};
 ghost use Rattle.dinode_tree.specs.Broken.{IsBroken};
 ghost use Rattle.dinode_tree.specs.Walking.{held, IsIn};
 ghost use Rattle.dinode_tree.specs.Reading.{block_at, content_range, IsInRange, AreWholeBefore, IsNeeded};
@@ -24,6 +24,7 @@ fn place_in<V: View>(
     ensures found { (h : Holding) → IsShown (V.seen view.now) inode.now.block h → IfIs result (λ found. found ≡ block_at h index) }
     ensures needed { (h : Holding) → IsShown (V.seen view.now) inode.now.block h → IfNeedBlock result (IsNeeded (V.seen view.now) h (λ i. i ≡ index) 1) }
     ensures damaged { (h : Holding) → IsShown (V.seen view.now) inode.now.block h → OnlyDamaged result (IsBroken h) }
+    ensures kept { OnlyDamaged result (IsOfView (V.seen view.now)) }
 {
     match find(view, inode, index)? {
         Step::Is(Some(link)) => Ok(Step::Is(Some(link.block))),
@@ -41,6 +42,7 @@ pub fn place<V: View>(view: &V, dinode: u64, index: u64) -> Result<Step<Option<u
     ensures found { (h : Holding) → IsShown (V.seen view.now) dinode h → IfIs result (λ found. found ≡ block_at h index) }
     ensures needed { (h : Holding) → IsShown (V.seen view.now) dinode h → IfNeedBlock result (IsNeeded (V.seen view.now) h (λ i. i ≡ index) 1) }
     ensures damaged { (h : Holding) → IsShown (V.seen view.now) dinode h → OnlyDamaged result (IsBroken h) }
+    ensures kept { OnlyDamaged result (IsOfView (V.seen view.now)) }
 {
     match look(view, dinode)? {
         Step::Is(inode) => place_in(view, &inode, index),
@@ -69,6 +71,7 @@ fn range_in<V: View>(
     ensures length { IfIs result (λ bytes. length bytes.items ≡ min len (inode.now.dinode.size - at)) }
     ensures needed { (h : Holding) → IsShown (V.seen view.now) inode.now.block h → IfNeedBlock result (IsNeeded (V.seen view.now) h (IsInRange h at len) 0) }
     ensures damaged { (h : Holding) → IsShown (V.seen view.now) inode.now.block h → IfDamaged result (IsBroken h) }
+    ensures kept { IfDamaged result (IsOfView (V.seen view.now)) }
 {
     let end = end_of(inode, at, len);
     if at >= end {
@@ -95,6 +98,7 @@ pub fn read_range<V: View>(
     ensures length { (h : Holding) → IsShown (V.seen view.now) dinode h → IfIs result (λ bytes. length bytes.items ≡ min len ((dinode_in h).size - at)) }
     ensures needed { (h : Holding) → IsShown (V.seen view.now) dinode h → IfNeedBlock result (IsNeeded (V.seen view.now) h (IsInRange h at len) 0) }
     ensures damaged { (h : Holding) → IsShown (V.seen view.now) dinode h → IfDamaged result (IsBroken h) }
+    ensures kept { IfDamaged result (IsOfView (V.seen view.now)) }
 {
     match look(view, dinode)? {
         Step::Is(inode) => range_in(alloc, view, &inode, at, len),

@@ -39,7 +39,7 @@ covered-after (IsGranted other mode value ∷ calls) h lock before may covers =
     by false = covers
 covered-after (Lowers other mode ∷ calls) h lock before may covers =
     covered-after calls (lowered_to h other mode) lock before may.1 (elim (same_lock_tells other lock) [
-      | inl same ↦ rw (mode-written h other lock (record (holding_of h other) { mode = mode }), same.0) (covers-through before (mode_in h lock) mode covers (subst (λ (l : LockName). is_at_least (mode_in h l) mode ≡ true) same.1 may.0))
+      | inl same ↦ rw (mode-written h other lock (record (holding_of h other) { mode = mode }), same.0) (covers-through before (mode_in h lock) mode covers (subst (λ (l : LockName). is_at_least (mode_in h l) mode ≡ true) same.1 may.0.0))
       | inr apart ↦ rw (mode-written h other lock (record (holding_of h other) { mode = mode }), apart.0) covers
     ])
 covered-after (DropsAsk other ∷ calls) h lock before may covers =

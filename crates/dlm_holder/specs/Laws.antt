@@ -1,12 +1,12 @@
 -- Lists of calls of a holder, and what was granted in them.
-use Rattle.std.specs.Prelude.{◌≡◌, ⊤, true, List, [], ◌∷◌, if◌then◌else◌}
+use Rattle.std.specs.Prelude.{◌≡◌, ⊤, true, List, [], ◌∷◌, None, if◌then◌else◌}
 use Rattle.glock_names.specs.declared.LockName.{LockName}
 use Rattle.glock_names.specs.LockMaps.{same_lock}
 use Rattle.dlm_modes.specs.declared.Mode.{Mode}
 use Rattle.dlm_modes.specs.declared.Mode.TheVariants.{Nl}
 use Rattle.dlm_modes.specs.declared.ValueBlock.{ValueBlock}
 use Rattle.dlm_modes.specs.Modes.{is_at_least}
-use Rattle.dlm_holder.specs.Holdings.{Holdings, mode_in, asked_for, granted_to, lowered_to, ask_dropped}
+use Rattle.dlm_holder.specs.Holdings.{Holdings, mode_in, wanted_in, asked_for, granted_to, lowered_to, ask_dropped}
 
 pub data Call : Type 0 where
   Asks : LockName → Mode → Call
@@ -20,9 +20,10 @@ after h (IsGranted lock mode value) = granted_to h lock mode value
 after h (Lowers lock mode) = lowered_to h lock mode
 after h (DropsAsk lock) = ask_dropped h lock
 
--- a node lowers a lock only to what its mode covers
+-- a node lowers a lock only to what its mode covers; and it asks for a lock, or lowers it, only while no ask of it stands
 abbrev pub MayCall : Holdings → Call → Type 0
-MayCall h (Lowers lock mode) = is_at_least (mode_in h lock) mode ≡ true
+MayCall h (Asks lock mode) = wanted_in h lock ≡ None
+MayCall h (Lowers lock mode) = (is_at_least (mode_in h lock) mode ≡ true) × (wanted_in h lock ≡ None)
 MayCall h call = ⊤
 
 -- the calls, one after another

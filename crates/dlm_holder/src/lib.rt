@@ -1,7 +1,7 @@
 //! What one node holds of the lock manager's locks: never more than was granted to it.
 #![tactic(auto)]
 
-ghost use Rattle.std.specs.Prelude.{◌≡◌, [], true, is_ok, OnOk, OnErr};
+ghost use Rattle.std.specs.Prelude.{◌≡◌, [], true, None, is_ok, OnOk, OnErr};
 ghost use Rattle.dlm_modes.specs.Modes.{is_at_least};
 ghost use Rattle.glock_names.specs.LockMaps.{lock_in};
 ghost use Rattle.dlm_holder.specs.Holdings.{holding_of, mode_in, wanted_in, value_in, knows, asked_for, granted_to, lowered_to, ask_dropped};
@@ -71,9 +71,10 @@ impl Holder {
         }
     }
 
-    /// Notes that the node asks for the lock in this mode, and makes the room that its grants and lowers need. After want of
-    /// memory, which a lock that was asked for before doesn't need, nothing has changed.
+    /// Notes that the node, of which no ask for the lock stands, asks for it in this mode, and makes the room that its grants and
+    /// lowers need. After want of memory, which a lock that was asked for before doesn't need, nothing has changed.
     pub fn asked(&mut self, lock: LockName, mode: Mode) -> Result<(), NoMemory>
+        requires idle { wanted_in self.old lock ≡ None }
         ensures ok { OnOk result (self.new ≡ asked_for self.old lock mode) }
         ensures err { OnErr result (self.new ≡ self.old) }
         ensures again { knows self.old lock ≡ true → is_ok result ≡ true }
@@ -106,10 +107,12 @@ impl Holder {
         );
     }
 
-    /// The node keeps the lock in this mode only. It takes no memory.
+    /// The node, of which no ask for the lock stands, keeps it in this mode only. While an ask stands its master may grant it a mode
+    /// at any time, and a lower that comes behind the ask would take from that grant. It takes no memory.
     pub fn down(&mut self, lock: LockName, mode: Mode)
         requires known { knows self.old lock ≡ true }
         requires covered { is_at_least (mode_in self.old lock) mode ≡ true }
+        requires idle { wanted_in self.old lock ≡ None }
         ensures { self.new ≡ lowered_to self.old lock mode }
     {
         let Some(holding) = self.locks.get_mut(&lock) else {

@@ -10,6 +10,10 @@ const VALUE: ValueBlock = ValueBlock {
     valid: true,
 };
 
+fn asked(holder: &mut Holder, mode: Mode) -> bool {
+    holder.wanted(LOCK).is_none() && holder.asked(LOCK, mode).is_ok()
+}
+
 fn granted(holder: &mut Holder, mode: Mode) {
     if holder.was_asked(LOCK) {
         holder.granted(LOCK, mode, VALUE);
@@ -17,7 +21,10 @@ fn granted(holder: &mut Holder, mode: Mode) {
 }
 
 fn down(holder: &mut Holder, mode: Mode) {
-    if holder.was_asked(LOCK) && covers(holder.mode(LOCK), mode) {
+    if !holder.was_asked(LOCK) || holder.wanted(LOCK).is_some() {
+        return;
+    }
+    if covers(holder.mode(LOCK), mode) {
         holder.down(LOCK, mode);
     }
 }
@@ -32,7 +39,7 @@ fn drop_ask(holder: &mut Holder) {
 fn a_lock_is_asked_for_granted_and_lowered(rt: HostRuntime) {
     let mut holder = Holder::new(rt.alloc());
     assert!(rt; !holder.was_asked(LOCK));
-    assert!(rt; holder.asked(LOCK, Mode::Ex).is_ok());
+    assert!(rt; asked(&mut holder, Mode::Ex));
     assert_eq!(rt; holder.wanted(LOCK), Some(Mode::Ex));
     assert_eq!(rt; holder.mode(LOCK), Mode::Nl);
     assert_eq!(rt; holder.value(LOCK), ValueBlock::new());
@@ -42,7 +49,7 @@ fn a_lock_is_asked_for_granted_and_lowered(rt: HostRuntime) {
     assert_eq!(rt; holder.value(LOCK), VALUE);
     down(&mut holder, Mode::Pr);
     assert_eq!(rt; holder.mode(LOCK), Mode::Pr);
-    assert!(rt; holder.asked(LOCK, Mode::Ex).is_ok());
+    assert!(rt; asked(&mut holder, Mode::Ex));
     drop_ask(&mut holder);
     assert_eq!(rt; holder.wanted(LOCK), None);
     assert_eq!(rt; holder.mode(LOCK), Mode::Pr);

@@ -80,7 +80,7 @@ sound-now l node mode value waits s =
       holds_none = none-now l.held node mode l.requests away.1 s.holds_none;
     }
 
-sound-requested : (cause : Option Cause) (l : LockState) (node : ℕ) (mode : Mode) → mode_of_node l.held node ≡ None → is_waiting l node ≡ false → IsSound l → IsSound (requested cause l node mode)
+pub sound-requested : (cause : Option Cause) (l : LockState) (node : ℕ) (mode : Mode) → mode_of_node l.held node ≡ None → is_waiting l node ≡ false → IsSound l → IsSound (requested cause l node mode)
 sound-requested None l node mode none waits s = sound-now l node mode l.value waits s
 sound-requested (Some c) l node mode none waits s =
     let away = idle l node waits in record {
@@ -94,7 +94,7 @@ sound-requested (Some c) l node mode none waits s =
       holds_none = all-join (λ w. mode_of_node l.held w.node ≡ None) l.requests (claim node mode ∷ []) s.holds_none (none, tt);
     }
 
-sound-converted : (cause : Option Cause) (l : LockState) (node : ℕ) (mode : Mode) → holds_covered (mode_of_node l.held node) mode ≡ true → is_waiting l node ≡ false → IsSound l → IsSound (converted cause l node mode)
+pub sound-converted : (cause : Option Cause) (l : LockState) (node : ℕ) (mode : Mode) → holds_covered (mode_of_node l.held node) mode ≡ true → is_waiting l node ≡ false → IsSound l → IsSound (converted cause l node mode)
 sound-converted None l node mode covers waits s = sound-now l node mode l.value waits s
 sound-converted (Some c) l node mode covers waits s =
     let away = idle l node waits in record {

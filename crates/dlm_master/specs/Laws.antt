@@ -51,13 +51,13 @@ pub record SoundLocksStaySound : Type 0 where
   pub free : IsSound free_lock
   pub stays : (r : Run) (calls : List Call) → MayCallAll r calls → IsSound r.lock → IsSound (after_all r calls).lock
 
--- ---- a table has at least what a node was granted and hasn't lowered
+-- ---- only a node's own lower takes from it
 
 abbrev pub is_lower_of : Call → ℕ → Bool
 is_lower_of (Lowers other mode value) node = other == node
 is_lower_of call node = false
 
--- no call but a node's own lower leaves the table less of the node than it had
+-- no call of these but a node's own lower leaves the table less of the node than it had
 abbrev pub OnlyLowersTake : Type 0
 OnlyLowersTake = (r : Run) (call : Call) (node : ℕ) → MayCall r call → IsSound r.lock → is_lower_of call node ≡ false
     → is_at_least (mode_at (after r call).lock.held node) (mode_at r.lock.held node) ≡ true
@@ -101,7 +101,7 @@ NoWaiterIsLost = (l : LockState) → LosesNobody l
 abbrev pub IsBlocked : Run → Type 0
 IsBlocked r = (r.rebuild ≡ true) ⊎ ((node : ℕ) × (node < 16) × (has r.waiting node ≡ true))
 
--- a call then leaves each node what it held, or less
+-- a call of these then leaves each node what it held, or less
 abbrev pub NoneWhileBlocked : Type 0
 NoneWhileBlocked = (r : Run) (call : Call) (node : ℕ) → IsBlocked r → MayCall r call → OneEach r.lock.held
     → is_at_least (mode_at r.lock.held node) (mode_at (after r call).lock.held node) ≡ true

@@ -24,19 +24,20 @@ pub fn sound_locks_stay_sound()
     ensures { SoundLocksStaySound }
 {}
 
-/// A law: no call but a node's own lower leaves the table less of the node than it had. So a table has at least what a node was
-/// granted and hasn't lowered, of conversions too.
+/// A law: of a sound lock no request, conversion or grant leaves the table less of a node than it had, nor does another node's
+/// lower.
 pub fn only_lowers_take()
     ensures { OnlyLowersTake }
 {}
 
 /// A law: when those who wait take their turns, each is granted or stays, in the order of the arrival. Who is granted goes with
-/// each who stays before it, and holds the lock as it asked for it; nobody else's hold has changed; and who stays has a cause.
+/// each who stays before it; nobody else's hold has changed; and, of a sound lock, who is granted holds it as it asked for it and who
+/// stays has a cause.
 pub fn no_waiter_is_lost()
     ensures { NoWaiterIsLost }
 {}
 
-/// A law: while a rebuild isn't done or a slot waits no call lets a node hold more than it held.
+/// A law: while a rebuild isn't done or a slot waits no request, conversion, lower or grant lets a node hold more than it held.
 pub fn none_is_granted_while_blocked()
     ensures { NoneWhileBlocked }
 {}

@@ -118,9 +118,11 @@ impl Master {
         found.down(node, mode, value);
     }
 
-    /// A node tells a new master what it holds. Of several reports of a node for a lock the last one counts, and one in `Nl`
-    /// says that it holds none. After want of memory nothing has changed.
+    /// A node, which waits for nothing on the lock, tells a master whose rebuild isn't done what it holds. Of several reports of a
+    /// node for a lock the last one counts, and one in `Nl` says that it holds none. After want of memory nothing has changed.
     pub fn report(&mut self, node: u8, lock: LockName, mode: Mode) -> Result<(), NoMemory>
+        requires rebuild { self.old.rebuild ≡ true }
+        requires idle { waits_for self.old node lock ≡ false }
         ensures ok { OnOk result (self.new ≡ after_report self.old node lock mode) }
         ensures err { OnErr result (self.new ≡ self.old) }
     {

@@ -1,15 +1,17 @@
 -- A rebuilt table has each node's last report.
-use Rattle.std.proofs.Common.{ℕ, ◌≡◌, List, [], ◌∷◌, Option, None, cond, refl, ap, ◌∙◌}
+use Rattle.std.proofs.Common.{ℕ, ◌≡◌, true, List, [], ◌∷◌, Option, None, cond, refl, ap, ◌∙◌}
 use Rattle.std.specs.Prelude.{◌==◌, unwrap_or}
 use Rattle.dlm_modes.specs.declared.Mode.{Mode}
 use Rattle.dlm_modes.specs.declared.Mode.TheVariants.{Nl}
 use Rattle.dlm_modes.specs.Modes.{go_together, not_valid}
 use Rattle.dlm_master.specs.Claims.{mode_of_node, mode_at, OneEach}
 use Rattle.dlm_master.specs.LockState.{LockState}
-use Rattle.dlm_master.specs.Locks.{free_lock}
+use Rattle.dlm_master.specs.Locks.{free_lock, request_cause, convert_cause}
+use Rattle.dlm_master.specs.Laws.{IsSound}
 use Rattle.dlm_master.proofs.ClaimLaws.{mode-now, one-now}
 use Rattle.dlm_master.proofs.RunLaws.{together-of}
-use Rattle.dlm_rebuild.specs.Runs.{Call, Reports, Lowers, Requests, Converts, after, after_all, told, last_told, RebuiltFromReports}
+use Rattle.dlm_master.proofs.SoundLaws.{sound-now, sound-requested, sound-converted, sound-locks-stay-sound}
+use Rattle.dlm_rebuild.specs.Runs.{Call, Reports, Lowers, Requests, Converts, after, after_all, MayCallAll, told, last_told, RebuiltFromReports}
 
 reports-from : (calls : List Call) (l : LockState) (node : ℕ) (before : Option Mode) → OneEach l.held → mode_of_node l.held node ≡ before
     → mode_of_node (after_all l calls).held node ≡ last_told calls node before
@@ -37,6 +39,15 @@ once-from (Lowers node mode ∷ calls) l one = once-from calls (after l (Lowers 
 once-from (Requests node mode ∷ calls) l one = once-from calls (after l (Requests node mode)) one
 once-from (Converts node mode ∷ calls) l one = once-from calls (after l (Converts node mode)) one
 
+sound-from : (calls : List Call) (l : LockState) → MayCallAll l calls → IsSound l → IsSound (after_all l calls)
+sound-from [] l may s = s
+sound-from (Reports node mode ∷ calls) l may s = sound-from calls (after l (Reports node mode)) may.1 (sound-now l node mode l.value may.0 s)
+sound-from (Lowers node mode ∷ calls) l may s = sound-from calls (after l (Lowers node mode)) may.1 (sound-now l node mode l.value may.0.1 s)
+sound-from (Requests node mode ∷ calls) l may s =
+    sound-from calls (after l (Requests node mode)) may.1 (sound-requested (request_cause true 0 l node mode) l node mode may.0.0 may.0.1 s)
+sound-from (Converts node mode ∷ calls) l may s =
+    sound-from calls (after l (Converts node mode)) may.1 (sound-converted (convert_cause true 0 l node mode) l node mode may.0.0 may.0.1 s)
+
 pub rebuilt : RebuiltFromReports
 rebuilt calls =
     let reports : (node : ℕ) → mode_of_node (after_all free_lock calls).held node ≡ last_told calls node None = λ node. reports-from calls free_lock node None tt refl in
@@ -48,4 +59,5 @@ rebuilt calls =
           (λ i k ne. ap (λ (o : Option Mode). go_together (unwrap_or o Nl) (mode_at (after_all free_lock calls).held k)) (reports i)
           ∙ (ap (λ (o : Option Mode). go_together (unwrap_or (last_told calls i None) Nl) (unwrap_or o Nl)) (reports k) ∙ goes i k ne));
       value = value-from calls free_lock refl;
+      sound = λ may. sound-from calls free_lock may sound-locks-stay-sound.free;
     }

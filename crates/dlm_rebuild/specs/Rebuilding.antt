@@ -1,15 +1,16 @@
 -- A table of locks that is made anew.
-use Rattle.std.specs.Prelude.{ℕ, ◌==◌, ◌%◌, ◌||◌, Bool, true, false, not, [], Option, None, length, slice_get, if◌then◌else◌}
+use Rattle.std.specs.Prelude.{ℕ, ◌≡◌, ◌==◌, ◌%◌, ◌||◌, Bool, true, false, not, [], Option, None, length, slice_get, if◌then◌else◌}
 use Rattle.std.specs.List.{list_all}
 use Rattle.crc_words.specs.Remainder.{crc32_of}
 use Rattle.glock_names.specs.declared.LockName.{LockName}
 use Rattle.glock_names.specs.Names.{name_bytes}
 use Rattle.dlm_modes.specs.declared.Mode.{Mode}
+use Rattle.dlm_modes.specs.Modes.{not_valid}
 use Rattle.fencing.specs.NodeSets.{has, with_node, nodes_of, all_nodes}
 use Rattle.dlm_master.specs.declared.claims.Answer.{Answer}
 use Rattle.dlm_master.specs.declared.claims.Answer.TheVariants.{Waiting}
 use Rattle.dlm_master.specs.declared.claims.Cause.TheVariants.{Rebuild}
-use Rattle.dlm_master.specs.Tables.{MasterState, after_request, after_convert, after_down, after_report}
+use Rattle.dlm_master.specs.Tables.{MasterState, lock_of, after_request, after_convert, after_down, after_report}
 
 -- the members of the view, those that have told all that they hold, and what was told so far
 pub record RebuildState : Type 0 where
@@ -17,11 +18,20 @@ pub record RebuildState : Type 0 where
   pub ended : ℕ
   pub master : MasterState
 
+-- no lock's value is valid
+abbrev pub NoneValid : MasterState → Type 0
+NoneValid m = (lock : LockName) → (lock_of m lock).value ≡ not_valid
+
+-- a rebuild that isn't done: what reports bring of values isn't kept
+abbrev pub IsUnderWay : MasterState → Type 0
+IsUnderWay m = (m.rebuild ≡ true) × NoneValid m
+
+-- nobody has told anything, nor which slots wait, so that each counts as one that does
 abbrev pub begun : ℕ → ℕ → RebuildState
 begun generation members = record {
   members = members;
   ended = 0;
-  master = record { generation = generation; rebuild = true; waiting = 0; table = [] };
+  master = record { generation = generation; rebuild = true; waiting = 65535; table = [] };
 }
 
 abbrev pub with_report : RebuildState → ℕ → LockName → Mode → RebuildState

@@ -1,11 +1,13 @@
 -- Lists of calls on one lock while its table is made anew.
-use Rattle.std.specs.Prelude.{ℕ, ◌≡◌, ◌≢◌, ◌==◌, true, List, [], ◌∷◌, Option, None, Some, unwrap_or, if◌then◌else◌}
+use Rattle.std.specs.Prelude.{ℕ, ◌≡◌, ◌≢◌, ◌==◌, ⊤, true, false, List, [], ◌∷◌, Option, None, Some, unwrap_or, if◌then◌else◌}
 use Rattle.dlm_modes.specs.declared.Mode.{Mode}
 use Rattle.dlm_modes.specs.declared.Mode.TheVariants.{Nl}
 use Rattle.dlm_modes.specs.Modes.{go_together, not_valid}
 use Rattle.dlm_master.specs.Claims.{is_null, mode_of_node, OneEach, Together}
 use Rattle.dlm_master.specs.LockState.{LockState}
-use Rattle.dlm_master.specs.Locks.{free_lock, request_cause, requested, convert_cause, converted, lowered, reported}
+use Rattle.dlm_master.specs.Locks.{free_lock, is_waiting, request_cause, requested, convert_cause, converted, lowered, reported}
+use Rattle.dlm_master.specs.Tables.{holds_above, holds_covered}
+use Rattle.dlm_master.specs.Laws.{IsSound}
 
 -- a node tells what it holds, or lowers it; or it asks for the lock, or for another mode
 pub data Call : Type 0 where
@@ -21,9 +23,20 @@ after l (Lowers node mode) = lowered l node mode None
 after l (Requests node mode) = requested (request_cause true 0 l node mode) l node mode
 after l (Converts node mode) = converted (convert_cause true 0 l node mode) l node mode
 
+-- what the calls require
+abbrev pub MayCall : LockState → Call → Type 0
+MayCall l (Reports node mode) = is_waiting l node ≡ false
+MayCall l (Lowers node mode) = (holds_above (mode_of_node l.held node) mode ≡ true) × (is_waiting l node ≡ false)
+MayCall l (Requests node mode) = (mode_of_node l.held node ≡ None) × (is_waiting l node ≡ false)
+MayCall l (Converts node mode) = (holds_covered (mode_of_node l.held node) mode ≡ true) × (is_waiting l node ≡ false)
+
 abbrev pub after_all : LockState → List Call → LockState
 after_all l [] = l
 after_all l (call ∷ calls) = after_all (after l call) calls
+
+abbrev pub MayCallAll : LockState → List Call → Type 0
+MayCallAll l [] = ⊤
+MayCallAll l (call ∷ calls) = MayCall l call × MayCallAll (after l call) calls
 
 -- what a node that tells this mode holds: nothing in Nl
 abbrev pub told : Mode → Option Mode
@@ -44,6 +57,8 @@ pub record HasLastReports (calls : List Call) : Type 0 where
   pub together : ((i k : ℕ) → i ≢ k → go_together (unwrap_or (last_told calls i None) Nl) (unwrap_or (last_told calls k None) Nl) ≡ true)
       → Together (after_all free_lock calls).held
   pub value : (after_all free_lock calls).value ≡ not_valid
+  -- and where each call met what it requires the lock is sound, as the laws of a master want it
+  pub sound : MayCallAll free_lock calls → IsSound (after_all free_lock calls)
 
 abbrev pub RebuiltFromReports : Type 0
 RebuiltFromReports = (calls : List Call) → HasLastReports calls

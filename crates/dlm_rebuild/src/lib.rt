@@ -5,7 +5,7 @@ ghost use Rattle.std.specs.Prelude.{◌≡◌, ◌<◌, ◌||◌, true, false, n
 ghost use Rattle.std.specs.List.{list_all};
 ghost use Rattle.fencing.specs.NodeSets.{has, all_nodes};
 ghost use Rattle.dlm_master.specs.Tables.{held_by, waits_for, holds_above, holds_covered};
-ghost use Rattle.dlm_rebuild.specs.Rebuilding.{begun, with_report, with_end, with_waiting, not_yet, is_done as done, master_after, after_request_in, after_convert_in, after_down_in, master_for};
+ghost use Rattle.dlm_rebuild.specs.Rebuilding.{NoneValid, begun, with_report, with_end, with_waiting, not_yet, is_done as done, master_after, after_request_in, after_convert_in, after_down_in, master_for};
 ghost use Rattle.dlm_rebuild.specs.Runs.{RebuiltFromReports};
 
 use crc_words::crc32;
@@ -53,23 +53,22 @@ pub struct Rebuild {
 }
 
 impl Model for Rebuild {
-    ghost use Rattle.std.specs.Prelude.{◌≡◌, true};
-    ghost use Rattle.dlm_rebuild.specs.Rebuilding.{RebuildState};
+    ghost use Rattle.dlm_rebuild.specs.Rebuilding.{RebuildState, IsUnderWay};
 
     ghost Value = { RebuildState };
 
     ghost view = { λ r. record { members = r.members; ended = r.ended; master = r.master } };
 
-    ghost invariant = { λ r. r.master.rebuild ≡ true };
+    ghost invariant = { λ r. IsUnderWay r.master };
 }
 
 impl Rebuild {
-    /// No member of the view has told anything yet.
+    /// No member of the view has told anything yet. Until `blocked` tells which slots wait, each counts as one that does.
     pub fn new(alloc: Global, generation: u64, members: u16) -> Rebuild
         ensures { result ≡ begun generation members }
     {
         let mut master = Master::new(alloc, generation);
-        master.blocked(true, 0);
+        master.blocked(true, u16::MAX);
         Rebuild {
             members,
             ended: 0,
@@ -84,7 +83,7 @@ impl Rebuild {
         self.master.blocked(true, waiting);
     }
 
-    /// A member tells what it holds of a lock. Of several reports of a node for a lock the last one counts, and one in `Nl` says
+    /// A member, which waits for nothing on the lock, tells what it holds of it. Of several reports of a node for a lock the last one counts, and one in `Nl` says
     /// that it holds none. The value that it has of the lock may be older than one that was lowered since, and isn't kept. After
     /// want of memory nothing has changed.
     pub fn report(
@@ -94,6 +93,7 @@ impl Rebuild {
         mode: Mode,
         _value: ValueBlock,
     ) -> Result<(), NoMemory>
+        requires idle { waits_for self.old.master node lock ≡ false }
         ensures ok { OnOk result (self.new ≡ with_report self.old node lock mode) }
         ensures err { OnErr result (self.new ≡ self.old) }
     {
@@ -130,7 +130,8 @@ impl Rebuild {
         self.master.convert(node, lock, mode)
     }
 
-    /// A node, which waits for nothing on the lock, lowers it after it has reported it. No value is kept before the rebuild is done. It takes no memory.
+    /// A node, which waits for nothing on the lock, lowers it after it has reported it. No value is kept before the rebuild is done.
+    /// It takes no memory.
     pub fn down(&mut self, node: u8, lock: LockName, mode: Mode)
         requires above { holds_above (held_by self.old.master node lock) mode ≡ true }
         requires idle { waits_for self.old.master node lock ≡ false }
@@ -160,11 +161,12 @@ impl Rebuild {
         all_within(self.members, self.ended)
     }
 
-    /// The master with the table that the members told, once each of them has ended, which grants nothing while a slot waits;
-    /// else the rebuild as it is. It takes no memory.
+    /// The master with the table that the members told, once each of them has ended, which grants nothing while a slot waits, and
+    /// in which no value is valid; else the rebuild as it is. It takes no memory.
     pub fn complete(self) -> Result<Master, Rebuild>
         ensures done { is_ok result ≡ done self }
         ensures ok { IfOk result (λ m. m ≡ master_after self) }
+        ensures values { IfOk result NoneValid }
         ensures err { IfErr result (λ r. r ≡ self) }
     {
         if !self.is_done() {

@@ -30,6 +30,10 @@ fn the_master_is_the_one_at_the_place_of_the_checksum(rt: HostRuntime) {
     }
 }
 
+fn report(rebuild: &mut Rebuild, node: u8, mode: Mode) -> bool {
+    !rebuild.waits(node, LOCK) && rebuild.report(node, LOCK, mode, ValueBlock::new()).is_ok()
+}
+
 fn request(rebuild: &mut Rebuild, node: u8, mode: Mode) -> Option<Answer> {
     if rebuild.waits(node, LOCK) {
         return None;
@@ -65,13 +69,12 @@ fn down(rebuild: &mut Rebuild, node: u8, mode: Mode) -> bool {
 
 #[test]
 fn a_table_is_made_anew(rt: HostRuntime) -> Result<(), Fail> {
-    let value = ValueBlock::new();
     let waits = Some(Answer::Waiting(Cause::Rebuild));
     let mut rebuild = Rebuild::new(rt.alloc(), 3, 0b110);
-    assert!(rt; rebuild.report(1, LOCK, Mode::Ex, value).is_ok());
+    assert!(rt; report(&mut rebuild, 1, Mode::Ex));
     assert!(rt; down(&mut rebuild, 1, Mode::Pr));
-    assert!(rt; rebuild.report(2, LOCK, Mode::Cw, value).is_ok());
-    assert!(rt; rebuild.report(2, LOCK, Mode::Nl, value).is_ok());
+    assert!(rt; report(&mut rebuild, 2, Mode::Cw));
+    assert!(rt; report(&mut rebuild, 2, Mode::Nl));
     assert_eq!(rt; rebuild.held(2, LOCK), None);
     assert_eq!(rt; request(&mut rebuild, 2, Mode::Pr), waits);
     assert_eq!(rt; convert(&mut rebuild, 1, Mode::Ex), waits);

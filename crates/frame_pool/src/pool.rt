@@ -6,7 +6,8 @@ use no_memory::NoMemory;
 use std::alloc::{AllocError, Global};
 use std::marker::Model;
 
-/// A frame that is out: its number in its pool, from 0.
+/// A frame that is out: its number in its pool, from 0. One that is dropped and not given back stays out for good, so that its
+/// pool has one fewer to take from then on.
 #[derive(Drop)]
 pub struct Frame {
     number: u32,

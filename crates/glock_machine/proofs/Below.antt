@@ -1,12 +1,12 @@
 -- What a callback lets a node keep is weaker than what it holds, whatever is called; and so is the state to which a lock goes down.
-use Rattle.std.proofs.Common.{◌≡◌, ◌∙◌, Bool, true, false, cond, Option, None, Some, refl, sym, ap, subst, true≢false}
-use Rattle.std.specs.Prelude.{◌||◌, nat_lt, unwrap_or, option_and_then}
+use Rattle.std.proofs.Common.{◌≡◌, ◌∙◌, Bool, true, false, cond, not, Option, None, Some, refl, sym, ap, subst, true≢false}
+use Rattle.std.specs.Prelude.{◌&&◌, ◌||◌, nat_lt, unwrap_or, option_and_then}
 use Rattle.std.specs.Ordering.{eq_by_cmp}
 use Rattle.std.specs.FinMap.{FinMap, get, insert, empty, get-empty, get-insert}
 use Rattle.glock_names.specs.declared.State.{State}
-use Rattle.glock_names.specs.declared.State.TheVariants.{Un}
+use Rattle.glock_names.specs.declared.State.TheVariants.{Un, Sh, Df, Ex}
 use Rattle.glock_names.specs.StateOrder.{leq, is_below}
-use Rattle.glock_names.proofs.StateOrders.{leq_itself, leq_through, below_leq, below_not, below_from}
+use Rattle.glock_names.proofs.StateOrders.{leq_itself, leq_through, below_leq, below_from}
 use Rattle.glock_machine.specs.declared.glock.Glock.{Glock}
 use Rattle.glock_machine.specs.Keys.{Key, key_cmp}
 use Rattle.glock_machine.specs.Wants.{with_want, any_unserved}
@@ -23,6 +23,37 @@ common_first a b = by (leq b a) refl (leq a b) refl
     by false is true at = leq_itself a
     by false is false at = refl
 
+-- and what is no stronger than either is no stronger than it
+pub common_greatest : (a b c : State) → leq c a ≡ true → leq c b ≡ true → leq c (common a b) ≡ true
+common_greatest Un Un c h k = h
+common_greatest Un Sh c h k = h
+common_greatest Un Df c h k = h
+common_greatest Un Ex c h k = h
+common_greatest Sh Un c h k = k
+common_greatest Sh Sh c h k = h
+common_greatest Sh Ex c h k = h
+common_greatest Df Un c h k = k
+common_greatest Df Df c h k = h
+common_greatest Df Ex c h k = h
+common_greatest Ex Un c h k = k
+common_greatest Ex Sh c h k = k
+common_greatest Ex Df c h k = k
+common_greatest Ex Ex c h k = h
+common_greatest Sh Df c h k = apart c h k
+  where
+    apart : (c : State) → leq c Sh ≡ true → leq c Df ≡ true → leq c Un ≡ true
+    apart Un h k = refl
+    apart Sh h k = absurd (true≢false (sym k))
+    apart Df h k = absurd (true≢false (sym h))
+    apart Ex h k = h
+common_greatest Df Sh c h k = apart c h k
+  where
+    apart : (c : State) → leq c Df ≡ true → leq c Sh ≡ true → leq c Un ≡ true
+    apart Un h k = refl
+    apart Sh h k = absurd (true≢false (sym h))
+    apart Df h k = absurd (true≢false (sym k))
+    apart Ex h k = h
+
 pub common_second : (a b : State) → leq (common a b) b ≡ true
 common_second a b = by (leq b a) refl (leq a b) refl
   where
@@ -34,10 +65,6 @@ common_second a b = by (leq b a) refl (leq a b) refl
 false_where : (b : Bool) → (b ≡ true → ⊥) → b ≡ false
 false_where true h = absurd (h refl)
 false_where false h = refl
-
-pub below_through : (a b c : State) → is_below a b ≡ true → is_below b c ≡ true → is_below a c ≡ true
-below_through a b c h k = below_from a c (leq_through a b c (below_leq a b h) (below_leq b c k))
-    (false_where (leq c a) (λ e. true≢false (sym (leq_through c a b e (below_leq a b h)) ∙ below_not b c k)))
 
 -- ---- what each call leaves
 
@@ -52,8 +79,20 @@ module _ (g : Glock) where
       by true = h
       by false = h
 
-  pub granted_below : (state : State) → is_below g.state state ≡ true → IsCalledBelow g → IsCalledBelow (granted state g)
-  granted_below state rises h keep e = below_through keep g.state state (h keep e) rises
+  -- nothing is weaker than unlocked, so no callback stands where nothing is held
+  pub none_called : g.state ≡ Un → IsCalledBelow g → g.called ≡ None
+  none_called free h = by g.called h
+    where
+      never : (b : Bool) → (b && not true) ≡ false
+      never true = refl
+      never false = refl
+
+      by : (o : Option State) → ((keep : State) → o ≡ Some keep → is_below keep g.state ≡ true) → o ≡ None
+      by None h' = refl
+      by (Some keep) h' = absurd (true≢false (sym (h' keep refl) ∙ ap (is_below keep) free ∙ never (leq keep Un)))
+
+  pub granted_below : (state : State) → g.state ≡ Un → IsCalledBelow g → IsCalledBelow (granted state g)
+  granted_below state free h keep e = let no : None ≡ Some keep = sym (none_called free h) ∙ e in cc
 
   allowed_low : (o : Option State) → ((keep : State) → o ≡ Some keep → is_below keep g.state ≡ true) → leq (unwrap_or o g.state) g.state ≡ true
   allowed_low None h = leq_itself g.state

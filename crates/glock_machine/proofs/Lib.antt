@@ -1,3 +1,4 @@
 pub mod Below
 pub mod Locks
 pub mod Standing
+pub mod Behind

@@ -2,7 +2,7 @@
 use Rattle.std.proofs.Common.{◌≡◌, Bool, true, false, cond, List, [], ◌∷◌, Option, None, Some, is_some, refl, sym, ap, subst, ◌∙◌, true≢false}
 use Rattle.std.specs.declared.cmp.Ordering.{Ordering}
 use Rattle.std.specs.declared.cmp.Ordering.TheVariants.{Less, Equal, Greater}
-use Rattle.std.specs.Ordering.{nat_cmp, ordering_then, ordering_reverse, eq_by_cmp, is_eq}
+use Rattle.std.specs.Ordering.{nat_cmp, ordering_then, ordering_reverse, eq_by_cmp, is_eq, is_lt}
 use Rattle.std.specs.Cmp.{IsTotalOrder, nat_cmp_total, then_total}
 use Rattle.std.specs.Map.{lookup}
 use Rattle.std.specs.FinMap.{IsAntisymmetric, from_entries, get, insert, nat_cmp-IsAntisymmetric}
@@ -52,11 +52,20 @@ module _ {V : Type 0} where
       → from_entries {R = key_cmp} fs ≡ insert (from_entries es) k v
   locks_insert = seen_insert key_total key_exact (eq_by_cmp key_cmp) (λ a b. refl)
 
--- ---- the first of the entries that goes down
+-- ---- the first of the entries that goes down, where the key may have a say in whether one does
 
-abbrev pub first_down : Bool → List (Key × Glock) → Option (Key × State)
-first_down u [] = None
-first_down u (e ∷ es) = option_map_or (λ to. Some (e.0, to)) (down_of u e.1) (first_down u es)
+abbrev pub Down : Type 0
+Down = Key → Glock → Option State
+
+abbrev pub any_down : Bool → Down
+any_down u k = down_of u
+
+abbrev pub down_behind : Key → Bool → Down
+down_behind after u k g = cond (is_lt (key_cmp after k)) (down_of u g) None
+
+abbrev pub first_down : Down → List (Key × Glock) → Option (Key × State)
+first_down down [] = None
+first_down down (e ∷ es) = option_map_or (λ to. Some (e.0, to)) (down e.0 e.1) (first_down down es)
 
 reversed : (a b : Key) → key_cmp a b ≡ Less → key_cmp b a ≡ Greater
 reversed a b e = key_total.antisymm b a ∙ ap ordering_reverse e
@@ -85,51 +94,47 @@ found_in P q (e ∷ es) h all = by (is_eq (key_cmp q e.0)) refl h (λ h'. found_
     by true is h' rest = subst P (sym (equal_keys q e.0 is)) all.0
     by false is h' rest = rest h'
 
-module _ (u : Bool) where
+module _ (down : Down) where
   abbrev Found : List (Key × Glock) → Key → Option State
-  Found es q = option_and_then (down_of u) (lookup (λ x. is_eq (key_cmp q x)) es)
+  Found es q = option_and_then (down q) (lookup (λ x. is_eq (key_cmp q x)) es)
 
-  first_in : (P : Key → Type 0) (k : Key) (to : State) (es : List (Key × Glock)) → first_down u es ≡ Some (k, to) → AllByRecursion P (keys_of es) → P k
+  first_in : (P : Key → Type 0) (k : Key) (to : State) (es : List (Key × Glock)) → first_down down es ≡ Some (k, to) → AllByRecursion P (keys_of es) → P k
   first_in P k to [] h all = cc
-  first_in P k to (e ∷ es) h all = by (down_of u e.1) h (λ h'. first_in P k to es h' all.1)
+  first_in P k to (e ∷ es) h all = by (down e.0 e.1) h (λ h'. first_in P k to es h' all.1)
     where
-      by : (o : Option State) → option_map_or (λ t. Some (e.0, t)) o (first_down u es) ≡ Some (k, to) → (first_down u es ≡ Some (k, to) → P k) → P k
+      by : (o : Option State) → option_map_or (λ t. Some (e.0, t)) o (first_down down es) ≡ Some (k, to) → (first_down down es ≡ Some (k, to) → P k) → P k
       by None h' rest = rest h'
       by (Some t) h' rest = let same : e.0 ≡ k = (some_pair e.0 k t to h').0 in subst P same all.0
 
-  pub goes_at : (es : List (Key × Glock)) → IsStrictlySortedBy key_cmp (keys_of es) → (k : Key) (to : State) → first_down u es ≡ Some (k, to) → Found es k ≡ Some to
+  pub goes_at : (es : List (Key × Glock)) → IsStrictlySortedBy key_cmp (keys_of es) → (k : Key) (to : State) → first_down down es ≡ Some (k, to) → Found es k ≡ Some to
   unfolding IsStrictlySortedBy
   goes_at [] s k to h = cc
-  goes_at (e ∷ es) s k to h = by (down_of u e.1) refl h (goes_at es s.1 k to)
+  goes_at (e ∷ es) s k to h = by (down e.0 e.1) refl h (goes_at es s.1 k to)
     where
-      by : (o : Option State) → down_of u e.1 ≡ o → option_map_or (λ t. Some (e.0, t)) o (first_down u es) ≡ Some (k, to)
-          → (first_down u es ≡ Some (k, to) → Found es k ≡ Some to) → Found (e ∷ es) k ≡ Some to
+      by : (o : Option State) → down e.0 e.1 ≡ o → option_map_or (λ t. Some (e.0, t)) o (first_down down es) ≡ Some (k, to)
+          → (first_down down es ≡ Some (k, to) → Found es k ≡ Some to) → Found (e ∷ es) k ≡ Some to
       by None is h' rest =
           let above : key_cmp k e.0 ≡ Greater = reversed e.0 k (first_in (λ y. key_cmp e.0 y ≡ Less) k to es h' s.0) in
-          ap (λ o. option_and_then (down_of u) (cond (is_eq o) (Some e.1) (lookup (λ x. is_eq (key_cmp k x)) es))) above ∙ rest h'
+          ap (λ o. option_and_then (down k) (cond (is_eq o) (Some e.1) (lookup (λ x. is_eq (key_cmp k x)) es))) above ∙ rest h'
       by (Some t) is h' rest =
           let same : e.0 ≡ k = (some_pair e.0 k t to h').0 in
           let at : is_eq (key_cmp k e.0) ≡ true = subst (λ x. is_eq (key_cmp x e.0) ≡ true) same (own_key e.0) in
-          ap (λ b. option_and_then (down_of u) (cond b (Some e.1) (lookup (λ x. is_eq (key_cmp k x)) es))) at ∙ is ∙ ap Some (some_pair e.0 k t to h').1
+          ap (λ b. option_and_then (down k) (cond b (Some e.1) (lookup (λ x. is_eq (key_cmp k x)) es))) at ∙ ap (λ x. down x e.1) (sym same) ∙ is ∙ ap Some (some_pair e.0 k t to h').1
 
-  pub least_at : (es : List (Key × Glock)) → IsStrictlySortedBy key_cmp (keys_of es) → (k : Key) (to : State) → first_down u es ≡ Some (k, to)
+  pub least_at : (es : List (Key × Glock)) → IsStrictlySortedBy key_cmp (keys_of es) → (k : Key) (to : State) → first_down down es ≡ Some (k, to)
       → (q : Key) → is_some (Found es q) ≡ true → key_cmp q k ≡ Less → ⊥
   unfolding IsStrictlySortedBy
   least_at [] s k to h q goes less = true≢false (sym goes)
-  least_at (e ∷ es) s k to h q goes less = by (down_of u e.1) refl h (is_eq (key_cmp q e.0)) refl goes (λ h' g. least_at es s.1 k to h' q g less)
+  least_at (e ∷ es) s k to h q goes less = by (down e.0 e.1) refl h (is_eq (key_cmp q e.0)) refl goes (λ h' g. least_at es s.1 k to h' q g less)
     where
-      none_found : (o : Option Glock) → o ≡ None → is_some (option_and_then (down_of u) o) ≡ true → ⊥
-      none_found None is g = true≢false (sym g)
-      none_found (Some x) is g = cc
-
-      some_found : (o : Option Glock) → is_some (option_and_then (down_of u) o) ≡ true → is_some o ≡ true
+      some_found : (o : Option Glock) → is_some (option_and_then (down q) o) ≡ true → is_some o ≡ true
       some_found None g = g
       some_found (Some x) g = refl
 
-      by : (o : Option State) → down_of u e.1 ≡ o → option_map_or (λ t. Some (e.0, t)) o (first_down u es) ≡ Some (k, to)
-          → (t : Bool) → is_eq (key_cmp q e.0) ≡ t → is_some (option_and_then (down_of u) (cond t (Some e.1) (lookup (λ x. is_eq (key_cmp q x)) es))) ≡ true
-          → (first_down u es ≡ Some (k, to) → is_some (Found es q) ≡ true → ⊥) → ⊥
-      by None is h' true at g rest = true≢false (sym g ∙ ap is_some is)
+      by : (o : Option State) → down e.0 e.1 ≡ o → option_map_or (λ t. Some (e.0, t)) o (first_down down es) ≡ Some (k, to)
+          → (t : Bool) → is_eq (key_cmp q e.0) ≡ t → is_some (option_and_then (down q) (cond t (Some e.1) (lookup (λ x. is_eq (key_cmp q x)) es))) ≡ true
+          → (first_down down es ≡ Some (k, to) → is_some (Found es q) ≡ true → ⊥) → ⊥
+      by None is h' true at g rest = true≢false (sym g ∙ ap is_some (ap (λ x. down x e.1) (equal_keys q e.0 at) ∙ is))
       by None is h' false at g rest = rest h' g
       by (Some t) is h' true at g rest =
           let same : e.0 ≡ k = (some_pair e.0 k t to h').0 in
@@ -140,12 +145,13 @@ module _ (u : Bool) where
           let above : key_cmp q e.0 ≡ Greater = reversed e.0 q (found_in (λ y. key_cmp e.0 y ≡ Less) q es (some_found _ g) s.0) in
           let not : Less ≡ Greater = sym less ∙ subst (λ x. key_cmp q x ≡ Greater) same above in cc
 
-  pub nothing_at : (es : List (Key × Glock)) → first_down u es ≡ None → (q : Key) → Found es q ≡ None
+  pub nothing_at : (es : List (Key × Glock)) → first_down down es ≡ None → (q : Key) → Found es q ≡ None
   nothing_at [] h q = refl
-  nothing_at (e ∷ es) h q = by (down_of u e.1) refl h (is_eq (key_cmp q e.0)) (λ h'. nothing_at es h' q)
+  nothing_at (e ∷ es) h q = by (down e.0 e.1) refl h (is_eq (key_cmp q e.0)) refl (λ h'. nothing_at es h' q)
     where
-      by : (o : Option State) → down_of u e.1 ≡ o → option_map_or (λ t. Some (e.0, t)) o (first_down u es) ≡ None
-          → (t : Bool) → (first_down u es ≡ None → Found es q ≡ None) → option_and_then (down_of u) (cond t (Some e.1) (lookup (λ x. is_eq (key_cmp q x)) es)) ≡ None
-      by None is h' true rest = is
-      by None is h' false rest = rest h'
-      by (Some t) is h' b rest = cc
+      by : (o : Option State) → down e.0 e.1 ≡ o → option_map_or (λ t. Some (e.0, t)) o (first_down down es) ≡ None
+          → (t : Bool) → is_eq (key_cmp q e.0) ≡ t → (first_down down es ≡ None → Found es q ≡ None)
+          → option_and_then (down q) (cond t (Some e.1) (lookup (λ x. is_eq (key_cmp q x)) es)) ≡ None
+      by None is h' true at rest = ap (λ x. down x e.1) (equal_keys q e.0 at) ∙ is
+      by None is h' false at rest = rest h'
+      by (Some t) is h' b at rest = cc

@@ -1,29 +1,29 @@
 -- What stays of a lock while calls come.
-use Rattle.std.proofs.Common.{◌≡◌, ◌⊎◌, inl, inr, ◌∙◌, ℕ, ◌≤◌, Bool, true, false, cond, ltb, not, List, [], ◌∷◌, Option, None, Some, refl, sym, ap, subst, true≢false, arith}
-use Rattle.std.proofs.lemmas.Bool.{ltb-true}
-use Rattle.std.specs.Prelude.{◌&&◌, ◌||◌, ⊤, max, nat_lt, unwrap_or, option_and_then}
-use Rattle.std.specs.FinMap.{get}
+use Rattle.std.proofs.Common.{◌≡◌, ◌⊎◌, inl, inr, ◌∙◌, ℕ, ◌+◌, ◌-◌, ◌≤◌, ◌<◌, Bool, true, false, cond, ltb, not, List, [], ◌∷◌, Option, None, Some, refl, sym, ap, subst, true≢false, arith}
+use Rattle.std.proofs.lemmas.Bool.{ltb-true, cases_lt}
+use Rattle.std.specs.Prelude.{◌&&◌, ◌||◌, ⊤, min, max, nat_lt, unwrap_or, option_and_then}
+use Rattle.std.specs.FinMap.{get, empty, get-empty}
 use Rattle.std.specs.List.{list_any}
 use Rattle.finite_maps.proofs.Keys.{inserted_at, inserted_apart}
 use Rattle.glock_names.specs.declared.LockName.{LockName}
 use Rattle.glock_names.specs.declared.State.{State}
 use Rattle.glock_names.specs.declared.State.TheVariants.{Un, Sh, Df, Ex}
 use Rattle.glock_names.specs.LockMaps.{same_lock}
-use Rattle.glock_names.specs.StateOrder.{leq}
+use Rattle.glock_names.specs.StateOrder.{leq, is_below}
 use Rattle.glock_names.proofs.LockMapLaws.{same_lock_tells}
-use Rattle.glock_names.proofs.StateOrders.{leq_itself, leq_through, below_leq}
+use Rattle.glock_names.proofs.StateOrders.{leq_itself, leq_least, leq_through, below_leq, below_not}
 use Rattle.glock_machine.specs.declared.glock.Glock.{Glock}
 use Rattle.glock_machine.specs.declared.wants.Wants.{Wants}
-use Rattle.glock_machine.specs.Keys.{key_of}
+use Rattle.glock_machine.specs.Keys.{key_of, key_cmp}
 use Rattle.glock_machine.specs.Wants.{is_wanted, with_want, is_unserved, unserved, any_unserved}
 use Rattle.glock_machine.specs.Table.{Table, new_glock, glock_of, changed, common, wanted, unwanted, granted, pinned, unpinned, called_back, still_called, lowered, touched, down_of, may_ask}
-use Rattle.glock_machine.specs.Calls.{Deed, Want, Unwant, Pin, Unpin, Granted, Callback, Down, Touch, done, MayBeDone, all_done, is_grant, is_callback, is_down, Act, On, Unmount, after, after_all, Come, deeds_on, PinnedThroughout, Stands, CallStands, GoesFarEnough, KeepsWant, WantStands, last_granted}
+use Rattle.glock_machine.specs.Calls.{Deed, Want, Unwant, Pin, Unpin, Granted, Callback, Down, Touch, done, MayBeDone, all_done, is_grant, is_callback, is_down, Act, On, Unmount, after, after_all, Come, deeds_on, PinnedThroughout, Stands, CallStands, GoesFarEnough, HasTouch, KeepsWant, WantStands, last_granted}
 use Rattle.glock_machine.proofs.Locks.{key_total, key_exact}
-use Rattle.glock_machine.proofs.Below.{common_first, common_second}
+use Rattle.glock_machine.proofs.Below.{common_first, common_second, common_greatest}
 
 -- ---- one lock among all
 
-at_own : (lock : LockName) (f : Glock → Glock) (t : Table) → glock_of (changed f t lock) lock ≡ f (glock_of t lock)
+pub at_own : (lock : LockName) (f : Glock → Glock) (t : Table) → glock_of (changed f t lock) lock ≡ f (glock_of t lock)
 at_own lock f t = ap (λ o. unwrap_or o new_glock) (inserted_at key_total key_exact t.locks (key_of lock) (f (glock_of t lock)))
 
 at_same : (lock other : LockName) (f : Glock → Glock) (t : Table) → other ≡ lock → glock_of (changed f t other) lock ≡ f (glock_of t lock)
@@ -115,7 +115,7 @@ one_stays low (Want state) g may pin h = subst (λ s. leq low s ≡ true) (sym (
 one_stays low (Unwant state) g may pin h = h
 one_stays low Pin g may pin h = h
 one_stays low Unpin g may pin h = h
-one_stays low (Granted state) g may pin h = leq_through low g.state state h (below_leq g.state state may)
+one_stays low (Granted state) g may pin h = leq_through low g.state state h (subst (λ s. leq s state ≡ true) (sym may.0) (leq_least state))
 one_stays low (Callback keep) g may pin h = subst (λ s. leq low s ≡ true) (sym (call_leaves (λ (x : Glock). x.state) keep g refl)) h
 one_stays low (Down to) g may pin h = absurd (not_down g.pins pin may.0)
 one_stays low (Touch number) g may pin h = h
@@ -369,6 +369,87 @@ touches_stay lock number acts t none =
     max_first : (a b : ℕ) → a ≤ max a b
     max_first a b = omega arith
 
+-- the number that is kept is what it was, or 0, or one of theirs
+made_by : (deeds : List Deed) (g : Glock) → ((all_done deeds g).touched ≡ g.touched) ⊎ (((all_done deeds g).touched ≡ 0) ⊎ HasTouch (all_done deeds g).touched deeds)
+made_by [] g = inl refl
+made_by (Want state ∷ deeds) g = subst (λ n. ((all_done deeds (wanted state g)).touched ≡ n) ⊎ (((all_done deeds (wanted state g)).touched ≡ 0) ⊎ HasTouch (all_done deeds (wanted state g)).touched deeds))
+    (want_leaves (λ (x : Glock). x.touched) state g refl) (made_by deeds (wanted state g))
+made_by (Unwant state ∷ deeds) g = made_by deeds (unwanted state g)
+made_by (Pin ∷ deeds) g = made_by deeds (pinned g)
+made_by (Unpin ∷ deeds) g = made_by deeds (unpinned g)
+made_by (Granted state ∷ deeds) g = by (made_by deeds (granted state g))
+  where
+    by : {P Q R : Type 0} → P ⊎ (P ⊎ R) → Q ⊎ (P ⊎ R)
+    by (inl e) = inr (inl e)
+    by (inr h) = inr h
+made_by (Callback keep ∷ deeds) g = subst (λ n. ((all_done deeds (called_back keep g)).touched ≡ n) ⊎ (((all_done deeds (called_back keep g)).touched ≡ 0) ⊎ HasTouch (all_done deeds (called_back keep g)).touched deeds))
+    (call_leaves (λ (x : Glock). x.touched) keep g refl) (made_by deeds (called_back keep g))
+made_by (Down to ∷ deeds) g = made_by deeds (lowered to g)
+made_by (Touch number ∷ deeds) g = by (made_by deeds (touched number g)) (either_max number g.touched)
+  where
+    last : ℕ
+    last = (all_done deeds (touched number g)).touched
+
+    either_max : (a b : ℕ) → (max a b ≡ a) ⊎ (max a b ≡ b)
+    either_max a b = greater (cases_lt a b)
+      where
+        greater : (a < b) ⊎ (b ≤ a) → (max a b ≡ a) ⊎ (max a b ≡ b)
+        greater (inl h) = inr (omega (arith, h))
+        greater (inr h) = inl (omega (arith, h))
+
+    by : (last ≡ max number g.touched) ⊎ ((last ≡ 0) ⊎ HasTouch last deeds) → (max number g.touched ≡ number) ⊎ (max number g.touched ≡ g.touched)
+        → (last ≡ g.touched) ⊎ ((last ≡ 0) ⊎ ((number ≡ last) ⊎ HasTouch last deeds))
+    by (inl e) (inl own) = inr (inr (inl (sym (e ∙ own))))
+    by (inl e) (inr old) = inl (e ∙ old)
+    by (inr (inl none)) m = inr (inl none)
+    by (inr (inr other)) m = inr (inr (inr other))
+
+pub were_made : (lock : LockName) (first : State) (acts : List Act) (t : Table)
+    → (last : ℕ) → last ≡ (glock_of (after_all (On lock (Granted first) ∷ acts) t) lock).touched → (last ≡ 0) ⊎ HasTouch last (deeds_on lock acts)
+were_made lock first acts t last is = subst (λ n. (n ≡ 0) ⊎ HasTouch n (deeds_on lock acts)) (sym (is ∙ at)) (by (made_by (deeds_on lock acts) (granted first (glock_of t lock))))
+  where
+    at : (glock_of (after_all (On lock (Granted first) ∷ acts) t) lock).touched ≡ (all_done (deeds_on lock acts) (granted first (glock_of t lock))).touched
+    at = ap (λ (g : Glock). g.touched) (stand_apart lock acts (changed (granted first) t lock) ∙ ap (all_done (deeds_on lock acts)) (at_own lock (granted first) t))
+
+    by : {P R : Type 0} → P ⊎ (P ⊎ R) → P ⊎ R
+    by (inl e) = inl e
+    by (inr h) = h
+
+-- ---- pins, and a callback by itself
+
+pub pin_back : (g : Glock) → g.pins < 4294967295 → unpinned (pinned g) ≡ g
+pin_back g h = λ i. record g { pins = back i }
+  where
+    back : (min (g.pins + 1) 4294967295 - 1) ≡ g.pins
+    back = omega (arith, h)
+
+pub first_call : (keep : State) (g : Glock) → g.called ≡ None → is_below keep g.state ≡ true → called_back keep g ≡ record g { called = Some keep; was_called = true }
+first_call keep g none low =
+    (λ i. cond (leq g.state (allowed i)) g (record g { called = Some (allowed i); was_called = true }))
+    ∙ ap (λ b. cond b g (record g { called = Some keep; was_called = true })) (below_not keep g.state low)
+  where
+    allowed : common (unwrap_or g.called g.state) keep ≡ keep
+    allowed = ap (λ o. common (unwrap_or o g.state) keep) none ∙ ap (λ b. cond b keep (cond (leq g.state keep) g.state Un)) (below_leq keep g.state low)
+
+pub second_call : (keep kept left allowed : State) (g : Glock) → g.called ≡ Some kept → (called_back keep g).called ≡ Some left
+    → leq allowed kept ≡ true → leq allowed keep ≡ true → leq allowed left ≡ true
+second_call keep kept left allowed g is now h k = by (leq g.state (allowed_of keep g)) now
+  where
+    low : leq allowed (allowed_of keep g) ≡ true
+    low = subst (λ o. leq allowed (common (unwrap_or o g.state) keep) ≡ true) (sym is) (common_greatest kept keep allowed h k)
+
+    by : (b : Bool) → (cond b g (record g { called = Some (allowed_of keep g); was_called = true })).called ≡ Some left → leq allowed left ≡ true
+    by true e = subst (λ s. leq allowed s ≡ true) (ap (λ o. unwrap_or o kept) (sym is ∙ e)) h
+    by false e = subst (λ s. leq allowed s ≡ true) (ap (λ o. unwrap_or o left) e) low
+
+pub lower_call : (to kept left allowed : State) (g : Glock) → g.called ≡ Some kept → (lowered to g).called ≡ Some left
+    → leq allowed kept ≡ true → leq allowed to ≡ true → leq allowed left ≡ true
+lower_call to kept left allowed g is now h k = by (leq to kept) (ap (still_called to) (sym is) ∙ now)
+  where
+    by : (b : Bool) → cond b None (Some (common kept to)) ≡ Some left → leq allowed left ≡ true
+    by true e = cc
+    by false e = subst (λ s. leq allowed s ≡ true) (ap (λ o. unwrap_or o left) e) (common_greatest kept to allowed h k)
+
 -- ---- what may be asked for
 
 uncalled_on : (is : Option State) (deed : Deed) (g : Glock) → is_grant deed ≡ false → is_down deed ≡ false → g.uncalled ≡ is → (done deed g).uncalled ≡ is
@@ -410,30 +491,43 @@ uncalled_then lock to later t is grants downs h =
     (stays (λ (g : Glock). g.uncalled ≡ is) is_grant is_down (uncalled_on is) (deeds_on lock later) (glock_of (changed (lowered to) t lock) lock) grants downs
     (subst (λ (g : Glock). g.uncalled ≡ is) (sym (at_own lock (lowered to) t)) h))
 
-and_not : (a b : Bool) → b ≡ true → (a && not b) ≡ false
-and_not a b h = ap (λ x. a && not x) h ∙ by a
-  where
-    by : (a : Bool) → (a && false) ≡ false
-    by true = refl
-    by false = refl
-
-pub bars_asks : (lock : LockName) (first to state : State) (between later : List Act) (t : Table)
+pub bars_asks : (lock : LockName) (first to state : State) (between later : List Act) (t before : Table)
+    → before ≡ after_all (On lock (Granted first) ∷ between) t
     → list_any is_grant (deeds_on lock between) ≡ false → list_any is_callback (deeds_on lock between) ≡ false
     → list_any is_grant (deeds_on lock later) ≡ false → list_any is_down (deeds_on lock later) ≡ false
-    → leq state (glock_of (after_all (On lock (Granted first) ∷ between) t) lock).state ≡ true
-    → may_ask state (glock_of (after_all later (after (On lock (Down to)) (after_all (On lock (Granted first) ∷ between) t))) lock) ≡ false
-bars_asks lock first to state between later t grants calls more downs low =
-    and_not (leq (glock_of (after_all later (after (On lock (Down to)) before)) lock).state Un) _
-    (subst (λ o. leq state (unwrap_or o Un) ≡ true) (sym (uncalled_then lock to later before (Some (glock_of before lock).state) more downs
-    (ap (λ b. cond b None (Some (glock_of before lock).state)) quiet))) low)
+    → (g : Glock) → g ≡ glock_of (after_all later (after (On lock (Down to)) before)) lock
+    → may_ask state g ≡ (leq g.state Un && not (leq state (glock_of before lock).state))
+bars_asks lock first to state between later t before at grants calls more downs g is =
+    ap (λ o. leq g.state Un && not (leq state (unwrap_or o Un))) (ap (λ (x : Glock). x.uncalled) is
+    ∙ uncalled_then lock to later before (Some (glock_of before lock).state) more downs
+    (ap (λ b. cond b None (Some (glock_of before lock).state)) quiet))
   where
-    before : Table
-    before = after_all (On lock (Granted first) ∷ between) t
-
     quiet : (glock_of before lock).was_called ≡ false
-    quiet = subst (λ (g : Glock). g.was_called ≡ false) (sym (stand_apart lock between (changed (granted first) t lock)))
+    quiet = subst (λ (x : Table). (glock_of x lock).was_called ≡ false) (sym at)
+        (subst (λ (g : Glock). g.was_called ≡ false) (sym (stand_apart lock between (changed (granted first) t lock)))
         (stays (λ (g : Glock). g.was_called ≡ false) is_grant is_callback never_called (deeds_on lock between) (glock_of (changed (granted first) t lock) lock) grants calls
-        (subst (λ (g : Glock). g.was_called ≡ false) (sym (at_own lock (granted first) t)) refl))
+        (subst (λ (g : Glock). g.was_called ≡ false) (sym (at_own lock (granted first) t)) refl)))
+
+never_down : (deed : Deed) (g : Glock) → is_down deed ≡ false → is_down deed ≡ false → g.uncalled ≡ None → (done deed g).uncalled ≡ None
+never_down (Granted state) g p q h = refl
+never_down (Want state) g p q h = uncalled_on None (Want state) g refl q h
+never_down (Unwant state) g p q h = h
+never_down Pin g p q h = h
+never_down Unpin g p q h = h
+never_down (Callback keep) g p q h = uncalled_on None (Callback keep) g refl q h
+never_down (Down to) g p q h = absurd (true≢false q)
+never_down (Touch number) g p q h = h
+
+pub new_are_free : (lock : LockName) (state : State) (acts : List Act) → list_any is_down (deeds_on lock acts) ≡ false
+    → (g : Glock) → g ≡ glock_of (after_all acts (record { locks = empty; unmounting = false })) lock
+    → may_ask state g ≡ (leq g.state Un && not (leq state Un))
+new_are_free lock state acts none g is =
+    ap (λ o. leq g.state Un && not (leq state (unwrap_or o Un))) (ap (λ (x : Glock). x.uncalled) (is ∙ stand_apart lock acts begun)
+    ∙ stays (λ (x : Glock). x.uncalled ≡ None) is_down is_down never_down (deeds_on lock acts) (glock_of begun lock) none none
+    (ap (λ (o : Option Glock). (unwrap_or o new_glock).uncalled) (get-empty key_cmp (key_of lock))))
+  where
+    begun : Table
+    begun = record { locks = empty; unmounting = false }
 
 not_low : (keep : State) (g : Glock) → leq g.state keep ≡ false → leq g.state (allowed_of keep g) ≡ false
 not_low keep g n = by (leq g.state (allowed_of keep g)) refl

@@ -33,9 +33,9 @@ done (Callback keep) g = called_back keep g
 done (Down to) g = lowered to g
 done (Touch number) g = touched number g
 
--- a grant makes the lock stronger; it goes down to what is weaker, where it isn't pinned; every other call may come at any time
+-- a grant comes where nothing of the lock is held; it goes down to what is weaker, where it isn't pinned; every other call may come at any time
 abbrev pub MayBeDone : Deed → Glock → Type 0
-MayBeDone (Granted state) g = is_below g.state state ≡ true
+MayBeDone (Granted state) g = (g.state ≡ Un) × (is_below Un state ≡ true)
 MayBeDone (Down to) g = (g.pins ≡ 0) × (is_below to g.state ≡ true)
 MayBeDone _ g = ⊤
 
@@ -115,6 +115,12 @@ KeepsWant state (_ ∷ deeds) = KeepsWant state deeds
 pub record WantStands (state : State) (lock : LockName) (t : Table) : Type 0 where
   pub wanted : is_wanted (glock_of t lock).wants state ≡ true
   pub goes : leq (glock_of t lock).state Un ≡ false → leq state (glock_of t lock).state ≡ false → (glock_of t lock).pins ≡ 0 → goes_to t lock ≡ Some Un
+
+-- one of these calls touched the lock under this number
+abbrev pub HasTouch : ℕ → List Deed → Type 0
+HasTouch number [] = ⊥
+HasTouch number (Touch other ∷ deeds) = (other ≡ number) ⊎ HasTouch number deeds
+HasTouch number (_ ∷ deeds) = HasTouch number deeds
 
 -- the state of the last grant among these calls, or what was held before them
 abbrev pub last_granted : List Deed → State → State

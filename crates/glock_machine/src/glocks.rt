@@ -3,6 +3,7 @@ use crate::glock::{
     Glock, NEW, called_back, down_of, granted, lowered, may_ask, pinned, touched, unpinned,
     unwanted, wanted,
 };
+use crate::keys::down_behind;
 use crate::wants::is_wanted;
 use glock_names::{LockName, State};
 use no_memory::NoMemory;
@@ -10,7 +11,8 @@ use std::alloc::Global;
 use std::collections::BTreeMap;
 use std::marker::Model;
 
-/// A node's glocks. A call costs a look-up or two in a tree; `next_down` looks at the locks in rising order.
+/// A node's glocks. A call costs up to three look-ups in a tree; `next_down` and `next_down_after` look at the locks in rising
+/// order.
 #[derive(Drop)]
 pub struct Glocks {
     locks: BTreeMap<(u8, u64), Glock>,
@@ -32,9 +34,10 @@ impl Model for Glocks {
 }
 
 impl Glocks {
-    ghost use Rattle.std.specs.Prelude.{◌≡◌, ◌≢◌, ◌↔◌, ℕ, ◌<◌, true, false, None, Some, IsSome, IsNone, IfSome, OnOk, OnErr, IsTrue, is_some, nat_lt};
+    ghost use Rattle.std.specs.Prelude.{◌≡◌, ◌≢◌, ◌↔◌, ℕ, ◌<◌, true, false, None, Some, IsSome, IsNone, IfSome, OnOk, OnErr, IsTrue, is_some, is_ok, nat_lt};
     ghost use Rattle.glock_names.specs.declared.LockName.{LockName};
     ghost use Rattle.glock_names.specs.StateOrder.{is_below};
+    ghost use Rattle.glock_names.specs.declared.State.TheVariants.{Un};
     ghost use Rattle.std.specs.declared.cmp.Ordering.TheVariants.{Less};
     ghost use Rattle.std.specs.FinMap as map;
     ghost use Rattle.glock_machine.specs.Keys.{key_of, lock_cmp};
@@ -72,12 +75,18 @@ impl Glocks {
         *place = glock;
     }
 
-    /// A call of the node wants the lock in this state, beside what other calls want. Makes the room for all other calls on it.
+    /// A call of the node wants the lock in this state, beside what other calls want. Makes the room for all other calls on it, so
+    /// that it takes memory only where the lock was never wanted.
     pub fn want(&mut self, lock: LockName, state: State) -> Result<(), NoMemory>
         ensures ok { OnOk result (self.new ≡ changed (wanted state) self.old lock) }
         ensures err { OnErr result (self.new ≡ self.old) }
+        ensures again { WasWanted self.old lock → is_ok result ≡ true }
     {
         let glock = wanted(self.glock(lock), state);
+        if self.was_wanted(lock) {
+            self.put(lock, glock);
+            return Ok(());
+        }
         self.locks.insert((lock.kind, lock.number), glock)?;
         Ok(())
     }
@@ -145,11 +154,13 @@ impl Glocks {
         0 < self.glock(lock).pins
     }
 
-    /// The lock manager granted the lock in this state, which is stronger than what the node held.
+    /// The lock manager granted the lock in this state. The node held nothing of it, since it asks only then; so no callback stands.
     pub fn granted(&mut self, lock: LockName, state: State)
         requires wanted { WasWanted self.old lock }
-        requires rises { is_below (glock_of self.old lock).state state ≡ true }
-        ensures { self.new ≡ changed (granted state) self.old lock }
+        requires free { (glock_of self.old lock).state ≡ Un }
+        requires rises { is_below Un state ≡ true }
+        ensures value { self.new ≡ changed (granted state) self.old lock }
+        ensures uncalled { (glock_of self.new lock).called ≡ None }
     {
         let glock = self.glock(lock);
         self.put(lock, granted(glock, state));
@@ -208,6 +219,24 @@ impl Glocks {
     {
         for (key, glock) in self.locks.iter() {
             if let Some(to) = down_of(self.unmounting, glock) {
+                let (kind, number) = *key;
+                return Some((LockName { kind, number }, to));
+            }
+        }
+        None
+    }
+
+    /// The least lock behind this one, by kind and number, of those that go down, and the weaker state to which it does. So a node
+    /// comes past a lock whose demotion has other work to do to the next one.
+    pub fn next_down_after(&self, after: LockName) -> Option<(LockName, State)>
+        ensures none { IsNone result ↔ ((lock : LockName) → lock_cmp after lock ≡ Less → goes_to self.now lock ≡ None) }
+        ensures goes { IfSome result (λ r. goes_to self.now r.0 ≡ Some r.1) }
+        ensures behind { IfSome result (λ r. lock_cmp after r.0 ≡ Less) }
+        ensures least { IfSome result (λ r. (lock : LockName) → lock_cmp after lock ≡ Less → IsSome (goes_to self.now lock) → lock_cmp lock r.0 ≢ Less) }
+        ensures weaker { IfSome result (λ r. is_below r.1 (glock_of self.now r.0).state ≡ true) }
+    {
+        for (key, glock) in self.locks.iter() {
+            if let Some(to) = down_behind(after, self.unmounting, key, glock) {
                 let (kind, number) = *key;
                 return Some((LockName { kind, number }, to));
             }

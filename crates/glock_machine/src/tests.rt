@@ -11,7 +11,7 @@ fn callbacks_wait_for_pins(rt: HostRuntime) -> Result<(), Fail> {
     for lock in [group, inode] {
         assert!(rt; glocks.want(lock, State::Ex).is_ok());
         assert!(rt; glocks.was_wanted(lock));
-        assert!(rt; is_below(glocks.state(lock), State::Ex));
+        assert!(rt; glocks.state(lock) == State::Un);
         glocks.granted(lock, State::Ex);
     }
     assert!(rt; glocks.was_wanted(inode));
@@ -26,6 +26,8 @@ fn callbacks_wait_for_pins(rt: HostRuntime) -> Result<(), Fail> {
     assert!(rt; glocks.was_wanted(inode));
     glocks.unpin(inode);
     assert!(rt; glocks.next_down() == Some((inode, State::Sh)));
+    assert!(rt; glocks.next_down_after(inode) == Some((group, State::Un)));
+    assert!(rt; glocks.next_down_after(group).is_none());
     for (number, last) in [(7, 7), (5, 7)] {
         assert!(rt; glocks.was_wanted(inode));
         glocks.touch(inode, number);
@@ -43,7 +45,7 @@ fn wants_of_two_calls_stand(rt: HostRuntime) -> Result<(), Fail> {
     assert!(rt; glocks.want(file, State::Ex).is_ok() && glocks.want(file, State::Df).is_ok());
     assert!(rt; glocks.may_ask(file, State::Df) && !glocks.may_ask(file, State::Un));
     assert!(rt; glocks.was_wanted(file));
-    assert!(rt; is_below(glocks.state(file), State::Df));
+    assert!(rt; glocks.state(file) == State::Un);
     glocks.granted(file, State::Df);
     assert!(rt; glocks.is_wanted(file, State::Ex) && !glocks.is_wanted(file, State::Df));
     assert!(rt; glocks.next_down() == Some((file, State::Un)));

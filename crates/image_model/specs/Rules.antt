@@ -170,7 +170,7 @@ pub data Breaks (im : Image) : ℕ → ℕ → Type 0 where
   blocks_count : (a : ℕ) (blocks : List ℕ) → HasInode im a → AreWithin im a blocks → (dinode_in (every im a)).blocks ≢ 1 + length blocks → Breaks im 19 a
 
 -- What may be told of a block: it breaks the rule, and the device has it; but for a superblock for which the device is too short.
-pub record IsBroken (im : Image) (rule b : ℕ) : Type 0 where
+pub record IsBrokenBlock (im : Image) (rule b : ℕ) : Type 0 where
   pub breaks : Breaks im rule b
   pub there : (b < im.count) ⊎ ((rule ≡ 1) × (b ≡ superblock_place im.size))
 

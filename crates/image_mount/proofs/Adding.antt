@@ -124,10 +124,10 @@ distinct_more found new y distinct is other i j r s at at' same =
     last_or (w ∷ xs) x (suc k) z e = elim (last_or xs x k z e) [ inl here ↦ inl here | inr there ↦ inr (ap suc there.0, there.1) ]
 
 -- a name that was found already
-pub twice_found : (im : Image) (a block k i : ℕ) (f : MountFault) (initial records found : List Named) (d n : Named) → HasFormat im → f ≡ fault.Damaged block 10
+pub twice_found : (im : Image) (a block k i : ℕ) (f : MountFault) (initial records found : List Named) (d n : Named) → HasFormat im → block < im.count → f ≡ fault.Damaged block 10
     → All (λ m. HasRecordIn im a m.block (said m) × (m.block ≢ block)) initial → All (λ m. HasRecordIn im a block (said m)) records → AreDistinct (map said records) → IsAdded initial records k found
     → k < length records → slice_get found i ≡ Some n → n.name.now ≡ (get_or records k d).name.now → RefusesRightly im f
-twice_found im a block k i f initial records found d n format is before here distinct added low at named =
+twice_found im a block k i f initial records found d n format inside is before here distinct added low at named =
     let mine = get_or records k d in
     elim (which_at initial found (map standing (take k records)) added i n at) [
       | inl old ↦
@@ -138,7 +138,7 @@ twice_found im a block k i f initial records found d n format is before here dis
           let has : HasRecordIn im a m.block (said m) = subst (λ (x : Named). HasRecordIn im a x.block (said x)) same is_there.0 in
           let apart : m.block ≢ block = subst (λ (x : Named). x.block ≢ block) same is_there.1 in
           let name : (said mine).name ≡ (said m).name = sym named ∙ sym (ap (λ (p : Record × ℕ). p.0.name) old.2) in
-          told im f block 10 is format (twice a block m.block (said mine) (said m) (here k d low) has (λ e. apart (sym e)) name)
+          told im f block 10 is format inside (twice a block m.block (said mine) (said m) (here k d low) has (λ e. apart (sym e)) name)
       | inr new ↦
           let m = from_mapped standing (take k records) new.0 (standing n) new.1 in
           let within : new.0 < k = taken_within records k new.0 m.0 m.1 in

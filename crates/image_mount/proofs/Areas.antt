@@ -1,5 +1,5 @@
 -- The records of an area, as they are read one after another.
-use Rattle.std.proofs.Common.{◌≡◌, ◌≢◌, ℕ, suc, List, [], ◌∷◌, ◌++◌, Bool, true, IsTrue, refl, sym, ap, subst, ◌∙◌, arith, append_assoc}
+use Rattle.std.proofs.Common.{◌≡◌, ◌≢◌, ◌<◌, ℕ, suc, List, [], ◌∷◌, ◌++◌, Bool, true, IsTrue, refl, sym, ap, subst, ◌∙◌, arith, append_assoc}
 use Rattle.std.specs.Prelude.{map, filter, Contains}
 use Rattle.std.proofs.lemmas.List.{map-append, append-nil}
 use Rattle.std.proofs.lemmas.List.Elements.{filter-append}
@@ -54,9 +54,9 @@ next_in area rest behind records s half first = subst (λ xs. Contains xs s) (sy
 is_true : {b : Bool} → b ≡ true → IsTrue b
 is_true e = grind (arith, e)
 
-pub wrong_hash : (im : Image) (f : MountFault) (a block hash : ℕ) (area name : List ℕ) (head : Dirent) (s : Slot) → f ≡ fault.Damaged block 9 → IsShown head name s → HasFormat im → HasArea im a block area
+pub wrong_hash : (im : Image) (f : MountFault) (a block hash : ℕ) (area name : List ℕ) (head : Dirent) (s : Slot) → f ≡ fault.Damaged block 9 → IsShown head name s → HasFormat im → block < im.count → HasArea im a block area
     → Contains (slots_of area) s → is_in_use head ≡ true → hash ≡ crc32_of name → head.hash ≢ hash → RefusesRightly im f
-wrong_hash im f a block hash area name head s is at format has there used hash_is other =
+wrong_hash im f a block hash area name head s is at format low has there used hash_is other =
     let use_s : is_in_use s.head ≡ true = ap is_in_use (sym at.head_is) ∙ used in
-    told im f block 9 is format (other_hash a block area s has there use_s
+    told im f block 9 is format low (other_hash a block area s has there use_s
     (λ e. other (ap (λ (d : Dirent). d.hash) at.head_is ∙ e ∙ sym (ap crc32_of (at.name_is (is_true use_s))) ∙ sym hash_is)))

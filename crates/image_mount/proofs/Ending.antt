@@ -10,6 +10,8 @@ use Rattle.glock_names.specs.declared.steps.Entry.{Entry}
 use Rattle.image_model.specs.Image.{Image, image_of}
 use Rattle.image_model.specs.Stands.{Layout, IsJournalAt}
 use Rattle.image_mount.specs.Found.{HasFormat, HasNames}
+use Rattle.image_model.specs.Journals.{journal_name}
+use Rattle.image_mount.specs.Looks.{HasTrueRecord, IsTrueEntry}
 use Rattle.image_mount.specs.Mounted.{Journal, MountedValue, IsMounted, IsOfProfile, IsJournalOf}
 use Rattle.image_mount.specs.Refusals.{RefusesRightly, IsExcused}
 use Rattle.image_mount.specs.Rings.{IsSearched, AreRings, AreJournals, IsLowJournal, IsRingOf}
@@ -20,6 +22,7 @@ use Rattle.image_mount.specs.declared.fault.MountFault.{MountFault}
 use Rattle.image_mount.specs.declared.journals.Ring.{Ring}
 use Rattle.image_mount.specs.declared.system.System.{System}
 use Rattle.image_mount.proofs.Accepts.{excused}
+use Rattle.image_mount.proofs.Looks.{true_record}
 use Rattle.image_mount.proofs.Names.{mapped_at, from_mapped}
 use Rattle.image_mount.proofs.Stops.{handed}
 
@@ -64,6 +67,20 @@ mounted im system rings journals m looked are found super groups same = record {
         let journal = journal_at j d at in
         let low = journal.2.1 in
         subst (λ (h : LogHeader). h.sequence < 2 ^ 63) (same_some journal.0.head head (sym journal.2.0.head ∙ is)) low;
+  };
+  looked = record {
+    rindex_record = looked.rindex_record;
+    jindex_record = looked.jindex_record;
+    journal_records = λ j d at.
+        let entry = from_mapped (λ (e : Entry). e.addr) system.journals.items j d at in
+        let low = slice_get_within system.journals.items j entry.0 entry.1 in
+        let is_true = subst (IsTrueEntry im) (get_or_from_slice_get system.journals.items j entry.0 entry.0 entry.1) (are.entries j entry.0 low) in
+        subst (HasTrueRecord im system.jindex (journal_name j)) entry.2 (true_record im system.jindex system.jindex (journal_name j) entry.0 (looked.journals.each j entry.0 entry.1) is_true);
+    master = looked.master_looked;
+    rindex = looked.rindex_looked;
+    jindex = looked.journals.looked;
+    journals = λ j d at. (ring_at j d at).2.places.looked;
+    whole = λ j d at. (ring_at j d at).2.places.whole;
   };
   superblock = super ∙ looked.superblock;
   groups = groups;

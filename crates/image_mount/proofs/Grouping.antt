@@ -150,9 +150,9 @@ wrong_count im f l a d is has at read whole other =
     let of_size : P d.size = subst P (sym size) (λ w o. outside.groups l has w o) in
     told_outside im f field.Groups (d.size / 96) is (of_size whole other)
 
-pub wrong_part : (im : Image) (f : MountFault) (l : Layout) (a : ℕ) (d : Dinode) → f ≡ fault.Damaged a 18 → HasMaster im l → l.rindex ≡ a → d ≡ dinode_in (every im a) → d.size % 96 ≢ 0 → RefusesRightly im f
-wrong_part im f l a d is has at read other =
-    told im f a 18 is has.format (part_of_entry a (subst (IsRindex im) at has.rindex) (λ e. other (ap (λ (x : Dinode). x.size % 96) read ∙ e)))
+pub wrong_part : (im : Image) (f : MountFault) (l : Layout) (a : ℕ) (d : Dinode) → f ≡ fault.Damaged a 18 → HasMaster im l → a < im.count → l.rindex ≡ a → d ≡ dinode_in (every im a) → d.size % 96 ≢ 0 → RefusesRightly im f
+wrong_part im f l a d is has inside at read other =
+    told im f a 18 is has.format inside (part_of_entry a (subst (IsRindex im) at has.rindex) (λ e. other (ap (λ (x : Dinode). x.size % 96) read ∙ e)))
 
 cut : (h : Holding) → take (dinode_in h).size (content_of h) ≡ content_of h
 unfolding content_of
@@ -163,13 +163,14 @@ pub content_all : (im : Image) (a n : ℕ) (bytes : List ℕ) → (dinode_in (ev
 content_all im a n bytes size read = read ∙ ap (λ k. take k (content_of (every im a))) (sym size) ∙ cut (every im a)
 
 -- what was read there is the list
-pub list_of : (im : Image) (size count a : ℕ) (link : Link) (groups : List Rindex) (content : List ℕ) → IsListLink im link → size ≡ im.size → count ≡ im.count → a ≡ link.entry.addr
+pub list_of : (im : Image) (size count a : ℕ) (link : Link) (groups : List Rindex) (content : List ℕ) → IsListLink im link → size ≡ im.size → count ≡ im.count → a ≡ link.entry.addr → a < im.count
     → (dinode_in (every im a)).size % 96 ≡ 0 → content ≡ content_of (every im a) → groups ≡ groups_in content → IsListOf im size count a groups
-list_of im size count a link groups content is of_size of_count at whole read listed =
+list_of im size count a link groups content is of_size of_count at inside whole read listed =
     let here : a ≡ is.layout.rindex = at ∙ sym is.rindex in
     record {
       block_size = of_size;
       blocks = of_count;
+      inside = inside;
       layout = with_groups is.layout groups;
       found = record {
         master = master_with im is.layout groups is.found;

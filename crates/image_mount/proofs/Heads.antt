@@ -112,7 +112,7 @@ module _ (im : Image) (d : ℕ) (blocks now : List ℕ) (best : Option LogHeader
 
   pub headless_told : (l : Layout) (j : ℕ) (f : MountFault) → HasNames im l → IsJournalAt l j d → best ≡ None → f ≡ fault.Damaged d 16 → RefusesRightly im f
   headless_told l j f names at none is =
-      told im f d 16 is names.groups.list.master.format (headless j d (l.jindex, names.groups.list.master.jindex, names.there j d at) (sym head_of_ring ∙ none))
+      told im f d 16 is names.groups.list.master.format ring.places.inside (headless j d (l.jindex, names.groups.list.master.jindex, names.there j d at) (sym head_of_ring ∙ none))
 
   pub late_told : (l : Layout) (j : ℕ) (f : MountFault) (head : LogHeader) → HasNames im l → IsJournalAt l j d → best ≡ Some head → 2 ^ 63 ≤ head.sequence → f ≡ fault.NotProfile field.Sequence head.sequence → RefusesRightly im f
   late_told l j f head names at some high is = told_outside im f field.Sequence head.sequence is (outside.sequence l j d head names at (sym head_of_ring ∙ some) high)

@@ -37,11 +37,11 @@ use Rattle.image_mount.proofs.Names.{at_contains}
 pub hashed_at : (im : Image) (a : ℕ) (d : Dinode) → d ≡ dinode_in (every im a) → HasDirectory im a → is_hashed_by d ≡ true → IsHashedAt im a
 hashed_at im a d read directory hashed = (directory.inode, hashed_as im a d true read hashed)
 
-module _ (im : Image) (f : MountFault) (a size : ℕ) (d : Dinode) (is : f ≡ fault.Damaged a 13) (read : d ≡ dinode_in (every im a)) (of : size ≡ im.size) (format : HasFormat im) (hashed : IsHashedAt im a) where
+module _ (im : Image) (f : MountFault) (a size : ℕ) (d : Dinode) (is : f ≡ fault.Damaged a 13) (read : d ≡ dinode_in (every im a)) (of : size ≡ im.size) (format : HasFormat im) (inside : a < im.count) (hashed : IsHashedAt im a) where
   pub table_large : 8 * size < 2 ^ d.depth → RefusesRightly im f
   table_large high =
       let here : 8 * im.size < 2 ^ d.depth = subst (λ s. 8 * s < 2 ^ d.depth) of high in
-      told im f a 13 is format (table_too_large a hashed (subst (λ (x : Dinode). 8 * im.size < 2 ^ x.depth) read here))
+      told im f a 13 is format inside (table_too_large a hashed (subst (λ (x : Dinode). 8 * im.size < 2 ^ x.depth) read here))
 
   pub table_deep : size ≤ 4096 → 15 < d.depth → RefusesRightly im f
   table_deep most deep =
@@ -51,26 +51,26 @@ module _ (im : Image) (f : MountFault) (a size : ℕ) (d : Dinode) (is : f ≡ f
   pub table_small : (count : ℕ) → count ≡ 2 ^ d.depth → count < size / 16 → RefusesRightly im f
   table_small count counted low =
       let here : 2 ^ d.depth < im.size / 16 = subst (λ n. n < im.size / 16) counted (subst (λ s. count < s / 16) of low) in
-      told im f a 13 is format (table_too_small a hashed (subst (λ (x : Dinode). 2 ^ x.depth < im.size / 16) read here))
+      told im f a 13 is format inside (table_too_small a hashed (subst (λ (x : Dinode). 2 ^ x.depth < im.size / 16) read here))
 
   pub table_misfit : (count : ℕ) → count ≡ 2 ^ d.depth → d.size ≢ 8 * count → RefusesRightly im f
   table_misfit count counted other =
       let here : d.size ≢ 8 * 2 ^ d.depth = subst (λ n. d.size ≢ 8 * n) counted other in
-      told im f a 13 is format (table_size a hashed (subst (λ (x : Dinode). x.size ≢ 8 * 2 ^ x.depth) read here))
+      told im f a 13 is format inside (table_size a hashed (subst (λ (x : Dinode). x.size ≢ 8 * 2 ^ x.depth) read here))
 
 -- ---- the head of a leaf
 
-module _ (im : Image) (f : MountFault) (a x : ℕ) (format : HasFormat im) (leaf : HasLeaf im a x) where
+module _ (im : Image) (f : MountFault) (a x : ℕ) (format : HasFormat im) (inside : x < im.count) (leaf : HasLeaf im a x) where
   pub leaf_header : f ≡ fault.Damaged x 1 → ¬ (HasHeader 6 600 (im.at x)) → RefusesRightly im f
-  leaf_header is lacks = told im f x 1 is format (no_header x 6 600 (needs_leaf a x leaf) lacks)
+  leaf_header is lacks = told im f x 1 is format inside (no_header x 6 600 (needs_leaf a x leaf) lacks)
 
   pub leaf_format : (bytes : List ℕ) → f ≡ fault.Damaged x 14 → im.at x ≡ bytes → 104 ≤ length bytes → HasHeader 6 600 bytes → ((l : Leaf) → leaf_read bytes ≡ Ok l → ⊥) → RefusesRightly im f
   leaf_format bytes is same long header fails =
-      told im f x 14 is format (records_format a x leaf (λ e. fails (leaf_of bytes) (leaf_well bytes long header (ap (u32_at 28) (sym same) ∙ e))))
+      told im f x 14 is format inside (records_format a x leaf (λ e. fails (leaf_of bytes) (leaf_well bytes long header (ap (u32_at 28) (sym same) ∙ e))))
 
   pub leaf_deep : (depth : ℕ) (head : Leaf) → f ≡ fault.Damaged x 14 → head ≡ leaf_of (im.at x) → depth ≡ depth_in (every im a) → depth < head.depth → RefusesRightly im f
   leaf_deep depth head is read deep_is deep =
-      told im f x 14 is format (leaf_too_deep a x leaf (omega (arith, deep, deep_is, ap (λ (l : Leaf). l.depth) read)))
+      told im f x 14 is format inside (leaf_too_deep a x leaf (omega (arith, deep, deep_is, ap (λ (l : Leaf). l.depth) read)))
 
 pub leaf_head : (im : Image) (x : ℕ) (bytes : List ℕ) (leaf : Leaf) (result : Result Leaf LayoutFault) → im.at x ≡ bytes → result ≡ Ok leaf → result ≡ leaf_read bytes → leaf ≡ leaf_of (im.at x)
 leaf_head im x bytes leaf result same ok is = leaf_reads bytes leaf result ok is ∙ ap leaf_of (sym same)
@@ -80,12 +80,12 @@ pub leaf_there : (im : Image) (a : ℕ) (at : LeafAt) → IsLeafIn im a at → H
 leaf_there im a at is = (is.claimed.0, at.hash, at.place, is.claimed.1)
 
 -- the next of a chain is another one's depth
-pub depth_differs : (im : Image) (a : ℕ) (tail : LeafAt) (head : Leaf) (f : MountFault) → HasFormat im → IsLeafIn im a tail → tail.head.next ≢ 0 → f ≡ fault.Damaged tail.head.next 14 → head ≡ leaf_of (im.at tail.head.next)
+pub depth_differs : (im : Image) (a : ℕ) (tail : LeafAt) (head : Leaf) (f : MountFault) → HasFormat im → IsLeafIn im a tail → tail.head.next ≢ 0 → tail.head.next < im.count → f ≡ fault.Damaged tail.head.next 14 → head ≡ leaf_of (im.at tail.head.next)
     → head.depth ≢ tail.head.depth → RefusesRightly im f
-depth_differs im a tail head f format is more told_at read other =
+depth_differs im a tail head f format is more inside told_at read other =
     let next : tail.head.next ≡ (leaf_in (every im a) tail.block).next = ap (λ (l : Leaf). l.next) is.head in
     let there : head ≡ leaf_in (every im a) (leaf_in (every im a) tail.block).next = read ∙ ap (λ n. leaf_of (im.at n)) next in
-    told im f (leaf_in (every im a) tail.block).next 14 (told_at ∙ ap (λ n. fault.Damaged n 14) next) format
+    told im f (leaf_in (every im a) tail.block).next 14 (told_at ∙ ap (λ n. fault.Damaged n 14) next) format (subst (λ n. n < im.count) next inside)
     (chain_depth a tail.block (leaf_there im a tail is) (λ e. more (next ∙ e)) (λ e. other (ap (λ (l : Leaf). l.depth) there ∙ e ∙ sym (ap (λ (l : Leaf). l.depth) is.head))))
 
 -- the next of a chain
@@ -94,11 +94,12 @@ behind_claim im a tail is more =
     let next : tail.head.next ≡ (leaf_in (every im a) tail.block).next = ap (λ (l : Leaf). l.next) is.head in
     subst (λ n. Claims im tail.block n (Chained a tail.hash (tail.place + 1))) (sym next) (next_leaf is.claimed.0 tail.block a tail.hash tail.place is.claimed.1 (λ e. more (next ∙ e)))
 
-pub behind_is : (im : Image) (a : ℕ) (tail at : LeafAt) → IsLeafIn im a tail → tail.head.next ≢ 0 → at.head ≡ leaf_of (im.at tail.head.next) → at.block ≡ tail.head.next → at.hash ≡ tail.hash → at.place ≡ tail.place + 1
+pub behind_is : (im : Image) (a : ℕ) (tail at : LeafAt) → IsLeafIn im a tail → tail.head.next ≢ 0 → tail.head.next < im.count → at.head ≡ leaf_of (im.at tail.head.next) → at.block ≡ tail.head.next → at.hash ≡ tail.hash → at.place ≡ tail.place + 1
     → at.pointer ≡ tail.pointer → at.behind ≡ tail.behind → IsLeafIn im a at
-behind_is im a tail at is more read block hash place pointer behind =
+behind_is im a tail at is more inside read block hash place pointer behind =
     let next : tail.head.next ≡ (leaf_in (every im a) tail.block).next = ap (λ (l : Leaf). l.next) is.head in
     record {
+      inside = subst (λ n. n < im.count) (sym block) inside;
       head = read ∙ ap (λ n. leaf_of (im.at n)) (sym block);
       claimed = (tail.block, transport (λ k. Claims im tail.block (sym block k) (Chained a (sym hash k) (sym place k))) (behind_claim im a tail is more));
       chain = transport (λ k. IsInChain (every im a) (sym pointer k) (sym place k) ((sym next ∙ sym block) k)) (chain_next tail.place tail.block is.chain (λ e. more (next ∙ e)));
@@ -115,7 +116,7 @@ behind_is im a tail at is more read block hash place pointer behind =
 pub wrong_count : (im : Image) (a : ℕ) (at : LeafAt) (f : MountFault) (records : List Named) (entries : ℕ) → HasFormat im → IsLeafIn im a at → f ≡ fault.Damaged at.block 14 → entries ≡ at.head.entries
     → map said records ≡ records_in (drop 104 (im.at at.block)) → length records ≢ entries → RefusesRightly im f
 wrong_count im a at f records entries format is told_at entries_is read other =
-    told im f at.block 14 told_at format
+    told im f at.block 14 told_at format is.inside
     (leaf_entries a at.block (leaf_there im a at is) (λ e. other (sym (length-map records said) ∙ ap length read ∙ sym e ∙ sym (ap (λ (l : Leaf). l.entries) is.head) ∙ sym entries_is)))
 
 pub wrong_hash : (im : Image) (a : ℕ) (at : LeafAt) (f : MountFault) (records : List Named) (k shift crc : ℕ) (d : Named) (name : List ℕ) → HasFormat im → IsLeafIn im a at → f ≡ fault.Damaged at.block 14
@@ -128,7 +129,7 @@ wrong_hash im a at f records k shift crc d name format is told_at read low name_
     let hash : crc ≡ crc32_of r.name = crc_is ∙ ap crc32_of name_is in
     let wrong : crc32_of r.name / 2 ^ (32 - (leaf_in (every im a) at.block).depth) ≢ at.hash / 2 ^ (32 - (leaf_in (every im a) at.block).depth)
     = subst (λ s. crc32_of r.name / 2 ^ s ≢ at.hash / 2 ^ s) depth (subst (λ n. n / 2 ^ shift ≢ at.hash / 2 ^ shift) hash other) in
-    told im f at.block 14 told_at format (leaf_hash a at.block is.claimed.0 at.hash at.place r is.claimed.1 there wrong)
+    told im f at.block 14 told_at format is.inside (leaf_hash a at.block is.claimed.0 at.hash at.place r is.claimed.1 there wrong)
 
 -- what stands behind a leaf's head
 pub taken_leaf : (bytes : List ℕ) → take (length bytes - 104) (drop 104 bytes) ≡ drop 104 bytes

@@ -93,10 +93,10 @@ passed_by im a walk tail t j place is before = subst (λ o. IsPassed o walk.inde
 
 -- what is said of a record that was found, by what it says and where it stands
 abbrev IsFoundAt : Image → ℕ → List (Option Claim) → Record × ℕ → Type 0
-IsFoundAt im a entries p = HasRecordIn im a p.1 p.0 × ((hash place : ℕ) × HasClaim entries p.1 (Chained a hash place)) × (is_other p.0 ≡ false)
+IsFoundAt im a entries p = HasRecordIn im a p.1 p.0 × ((hash place : ℕ) × HasClaim entries p.1 (Chained a hash place)) × (is_other p.0 ≡ false) × (p.1 < im.count)
 
 found_record : (im : Image) (a : ℕ) (entries : List (Option Claim)) (n : Named) → IsFoundAt im a entries (standing n) → IsFoundIn im a entries n
-found_record im a entries n is = record { stands = is.0; leaf = is.1; plain = is.2 }
+found_record im a entries n is = record { stands = is.0; inside = is.3; leaf = is.1; plain = is.2 }
 
 module _ (im : Image) (a : ℕ) (es new : List (Option Claim)) (x hash place : ℕ) (claim : Claim) (owner : owner_of claim ≡ Chained a hash place) where
   leaves_more : (records later : List Record) → AreLeavesOf im a es records → IsEntered es new x claim true → later ≡ records ++ leaf_records (every im a) x → AreLeavesOf im a new later
@@ -302,12 +302,12 @@ module _ (im : Image) (walk : LeafWalk) (at : LeafAt) (of : IsNextLeaf im walk a
           | inl old ↦
               let f = of.walked.found k old.0 old.1 in
               found_record im (master_of im) later.owners.entries.items n (subst (IsFoundAt im (master_of im) later.owners.entries.items) old.2
-              (f.stands, (f.leaf.0, f.leaf.1, kept later claim owner index true entered old.0.block (Chained (master_of im) f.leaf.0 f.leaf.1) f.leaf.2), f.plain))
+              (f.stands, (f.leaf.0, f.leaf.1, kept later claim owner index true entered old.0.block (Chained (master_of im) f.leaf.0 f.leaf.1) f.leaf.2), f.plain, f.inside))
           | inr new ↦
               let r = from_mapped (λ (q : Record). (q, at.block)) rs new.0 (standing n) new.1 in
               let area = of_leaf at.block (of.leaf.claimed.0, at.hash, at.place, of.leaf.claimed.1) in
               found_record im (master_of im) later.owners.entries.items n (subst (IsFoundAt im (master_of im) later.owners.entries.items) r.2
-              ((leaf_area h at.block, area, at_contains rs new.0 r.0 r.1), (at.hash, at.place, mine_now), none_by_name is_other rs new.0 r.0 plain r.1))
+              ((leaf_area h at.block, area, at_contains rs new.0 r.0 r.1), (at.hash, at.place, mine_now), none_by_name is_other rs new.0 r.0 plain r.1, of.leaf.inside))
         ];
         distinct = distinct;
         leaves = leaves_more im (master_of im) walk.owners.entries.items later.owners.entries.items at.block at.hash at.place claim owner (map said walk.records.items) (map said later.records.items) of.walked.leaves entered
@@ -351,6 +351,7 @@ pub all_found : (im : Image) (a : ℕ) (walk : LeafWalk) → IsHashedAt im a →
 all_found im a walk hashed directory w all = record {
   directory = directory;
   each = λ i n at. (w.found i n at).stands;
+  inside = λ i n at. (w.found i n at).inside;
   all = λ x r has. from x has.0 has.1 r has.2;
 }
   where
@@ -425,10 +426,10 @@ module _ (im : Image) (inode : Inode) (table : HashTable) (walk : LeafWalk) (of 
 -- ---- a leaf that is entered
 
 -- a block that is claimed otherwise
-pub clash_told : (im : Image) (entries : List (Option Claim)) (x by : ℕ) (claim : Claim) (found : ImageFault) → HasFormat im → AreClaims im entries → Claims im by x (owner_of claim) → IsClash entries x claim found
+pub clash_told : (im : Image) (entries : List (Option Claim)) (x by : ℕ) (claim : Claim) (found : ImageFault) → HasFormat im → x < im.count → AreClaims im entries → Claims im by x (owner_of claim) → IsClash entries x claim found
     → RefusesRightly im (of_image found)
-clash_told im entries x by claim (image.Damaged block rule) format claims claimed c = (clash im entries x by claim (image.Damaged block rule) claims claimed c, inr format)
-clash_told im entries x by claim image.NoMemory format claims claimed c = tt
+clash_told im entries x by claim (image.Damaged block rule) format inside claims claimed c = (clash im entries x by claim (image.Damaged block rule) inside claims claimed c, inr format)
+clash_told im entries x by claim image.NoMemory format inside claims claimed c = tt
 
 pub first_told : (im : Image) (walk : LeafWalk) (at : LeafAt) → IsNextLeaf im walk at → IsFirstTold im at
 first_told im walk at of = record { format = of.format; hashed = of.hashed; leaf = of.leaf; before = none_before im walk at of }

@@ -26,4 +26,5 @@ pub mod Ending
 pub mod Grouping
 pub mod Records
 pub mod Wanted
+pub mod Looks
 pub mod ViewGroups

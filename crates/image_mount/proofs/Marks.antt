@@ -1,5 +1,5 @@
 -- What is known of the blocks that are kept and of those that are places of journals, as more are read and found.
-use Rattle.std.proofs.Common.{◌≡◌, ◌≢◌, inl, inr, ℕ, zero, suc, ◌+◌, ◌≤◌, Bool, true, false, List, [], ◌∷◌, ◌++◌, Option, None, Some, refl, sym, ap, subst, ◌∙◌, arith}
+use Rattle.std.proofs.Common.{◌≡◌, ◌≢◌, inl, inr, ℕ, zero, suc, ◌+◌, ◌<◌, ◌≤◌, Bool, true, false, List, [], ◌∷◌, ◌++◌, Option, None, Some, refl, sym, ap, subst, ◌∙◌, arith}
 use Rattle.std.specs.Prelude.{Contains, slice_get, slice_set, IsTrue, Result, Ok, Err, OnOk, IfOk, is_ok}
 use Rattle.std.specs.List.{All}
 use Rattle.std.proofs.lemmas.Bool.{cases_eq}
@@ -36,19 +36,19 @@ use Rattle.image_mount.proofs.KeptLaws.{get_kept}
 pub beyond_super : (im : Image) (f : MountFault) (block : ℕ) → f ≡ fault.Damaged block 1 → block ≡ superblock_place im.size → im.count ≤ block → RefusesRightly im f
 beyond_super im f block is at high =
     let breaks : Breaks im 1 block = subst (Breaks im 1) (sym at) (no_superblock (omega (arith, high, at))) in
-    subst (RefusesRightly im) (sym is) (breaks, inl at)
+    subst (RefusesRightly im) (sym is) (record { breaks = breaks; there = inr (refl, at) }, inl at)
 
 pub beyond_all : (im : Image) (f : MountFault) (block from : ℕ) → f ≡ fault.Damaged from 2 → IsWanted im block from → im.count ≤ block → block ≢ superblock_place im.size → RefusesRightly im f
 beyond_all im f block from is wanted high other = elim wanted [
   | inl super ↦ absurd (other super)
-  | inr by ↦ told im f from 2 is by.0 (beyond_device from block by.1.0 by.1.1 high)
+  | inr by ↦ told im f from 2 is by.0 by.1.3 (beyond_device from block by.1.0 by.1.1 high)
 ]
 
-pub place_wanted : (im : Image) (f : MountFault) (block from : ℕ) (done : List ℕ) (d n : ℕ) → f ≡ fault.Damaged block 3 → IsWanted im block from → IsPlace im done d n block → RefusesRightly im f
-place_wanted im f block from done d n is wanted place = elim wanted [
+pub place_wanted : (im : Image) (f : MountFault) (block from : ℕ) (done : List ℕ) (d n : ℕ) → f ≡ fault.Damaged block 3 → block < im.count → IsWanted im block from → IsPlace im done d n block → RefusesRightly im f
+place_wanted im f block from done d n is inside wanted place = elim wanted [
   | inl super ↦ absurd (place.apart super)
   | inr by ↦
-      told im f block 3 is by.0 (two_owners block from place.by by.1.0 (Below place.inode place.by place.pointer 0 place.index) by.1.1 place.claimed
+      told im f block 3 is by.0 inside (two_owners block from place.by by.1.0 (Below place.inode place.by place.pointer 0 place.index) by.1.1 place.claimed
       (λ e. place.plain (by.1.2 place.inode place.by place.pointer place.index e)))
 ]
 
@@ -155,31 +155,31 @@ module _ (im : Image) (done : List ℕ) (system : System) (journal : Entry) (nex
 
   pub place_beyond : (f : MountFault) (place : ℕ) (located : Located) → f ≡ fault.Damaged located.from 2 → IsPlaceAt im journal.addr place located → im.count ≤ located.block → RefusesRightly im f
   place_beyond f place located is at high =
-      told im f located.from 2 is format (beyond_device located.from located.block (Below journal.addr located.from at.leads.0 0 place) (place_claim place located at) high)
+      told im f located.from 2 is format at.inside (beyond_device located.from located.block (Below journal.addr located.from at.leads.0 0 place) (place_claim place located at) high)
 
   pub place_outside : (f : MountFault) (place : ℕ) (located : Located) → f ≡ fault.Damaged located.from 2 → IsPlaceAt im journal.addr place located → IsOutside im located.block → RefusesRightly im f
   place_outside f place located is at out =
-      told im f located.from 2 is format (beyond_groups located.from located.block (Below journal.addr located.from at.leads.0 0 place) (place_claim place located at) out)
+      told im f located.from 2 is format at.inside (beyond_groups located.from located.block (Below journal.addr located.from at.leads.0 0 place) (place_claim place located at) out)
 
   one_place : (a b k i d c j p : ℕ) → Below a b k 0 i ≡ Below d c j 0 p → (a ≡ d) × (i ≡ p)
   one_place a b k i d c j p e = (cc, cc)
 
-  pub place_again : (f : MountFault) (place : ℕ) (located : Located) → f ≡ fault.Damaged located.block 3 → IsPlaceAt im journal.addr place located → IsPlace im done journal.addr place located.block
+  pub place_again : (f : MountFault) (place : ℕ) (located : Located) → f ≡ fault.Damaged located.block 3 → located.block < im.count → IsPlaceAt im journal.addr place located → IsPlace im done journal.addr place located.block
       → RefusesRightly im f
-  place_again f place located is at old =
-      told im f located.block 3 is format
+  place_again f place located is inside at old =
+      told im f located.block 3 is format inside
       (two_owners located.block old.by located.from (Below old.inode old.by old.pointer 0 old.index) (Below journal.addr located.from at.leads.0 0 place) old.claimed (place_claim place located at)
       (λ e. let same = one_place old.inode old.by old.pointer old.index journal.addr located.from at.leads.0 place e in elim old.of [
         | inl before ↦ next.new (subst (Contains done) same.0 before)
         | inr here ↦ absurd (omega (arith, same.1, here.1))
       ]))
 
-  pub place_kept : (f : MountFault) (place : ℕ) (located : Located) (by : ℕ) → f ≡ fault.Damaged located.block 3 → IsPlaceAt im journal.addr place located → IsWanted im located.block by
+  pub place_kept : (f : MountFault) (place : ℕ) (located : Located) (by : ℕ) → f ≡ fault.Damaged located.block 3 → located.block < im.count → IsPlaceAt im journal.addr place located → IsWanted im located.block by
       → located.block ≢ superblock_place im.size → RefusesRightly im f
-  place_kept f place located by is at wanted apart = elim wanted [
+  place_kept f place located by is inside at wanted apart = elim wanted [
     | inl super ↦ absurd (apart super)
     | inr from ↦
-        told im f located.block 3 is format
+        told im f located.block 3 is format inside
         (two_owners located.block by located.from from.1.0 (Below journal.addr located.from at.leads.0 0 place) from.1.1 (place_claim place located at)
         (λ e. next.plain (from.1.2 journal.addr located.from at.leads.0 place e)))
   ]

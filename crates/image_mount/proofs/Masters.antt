@@ -21,6 +21,7 @@ use Rattle.image_reader.proofs.Chains.{same_bits, run_some}
 use Rattle.image_reader.proofs.Pieces.{pieces_cover}
 use Rattle.image_mount.specs.Found.{IsInChain, chain_head}
 use Rattle.image_mount.specs.Leaves.{IsMasterIn, IsTableOf, IsLeafIn}
+use Rattle.image_mount.specs.Looks.{IsTableSized}
 use Rattle.image_mount.specs.Refusals.{RefusesRightly}
 use Rattle.image_mount.specs.Searching.{IsSystemFile}
 use Rattle.image_mount.specs.declared.fault.MountFault.{MountFault}
@@ -34,6 +35,10 @@ use Rattle.image_mount.proofs.SystemFiles.{is_master}
 module _ (im : Image) (inode : Inode) (is : IsMasterIn im inode) where
   pub master_claim : Claims im inode.from inode.block Master
   master_claim = is_master im inode.from inode.block is.from is.block
+
+  -- its number stands in the superblock
+  pub from_inside : inode.from < im.count
+  from_inside = subst (λ n. n < im.count) (sym is.from) is.format.super.inside
 
   pub master_inode : HasInode im inode.block
   master_inode = (Master, record { by = inode.from; claimed = master_claim; dinode = refl })
@@ -52,6 +57,7 @@ kept_master im inode kept is block from dinode = record {
   from = from ∙ is.from;
   dinode = dinode ∙ ap (λ a. dinode_in (every im a)) (sym block);
   fits = subst (λ a. Fits (every im a)) (sym block) is.fits;
+  inside = subst (λ a. a < im.count) (sym block) is.inside;
   directory = ap (λ a. is_directory_in (every im a)) block ∙ is.directory;
 }
 
@@ -64,13 +70,14 @@ table_short depth low =
     omega (arith, p)
 
 pub table_is : (im : Image) (inode kept : Inode) (table : HashTable) → IsMasterIn im inode → kept.block ≡ inode.block → is_hashed_in (every im inode.block) ≡ true → IsMasterIn im kept → table.depth ≡ kept.dinode.depth
-    → (dinode_in (every im kept.block)).size ≡ 8 * 2 ^ table.depth → table.bytes.items ≡ content_of (every im kept.block) → IsTableOf im inode table
-table_is im inode kept table is block hashed again depth size content = record {
+    → (dinode_in (every im kept.block)).size ≡ 8 * 2 ^ table.depth → table.bytes.items ≡ content_of (every im kept.block) → IsTableSized im kept.block → IsTableOf im inode table
+table_is im inode kept table is block hashed again depth size content sized = record {
   master = is;
   hashed = hashed;
   depth = depth ∙ ap (λ (d : Dinode). d.depth) again.dinode ∙ ap (λ a. depth_in (every im a)) block;
   content = content ∙ ap (λ a. content_of (every im a)) block;
   size = ap (λ a. (dinode_in (every im a)).size) (sym block) ∙ size;
+  sized = subst (IsTableSized im) block sized;
 }
 
 module _ (im : Image) (inode : Inode) (table : HashTable) (of : IsTableOf im inode table) where
@@ -83,10 +90,10 @@ module _ (im : Image) (inode : Inode) (table : HashTable) (of : IsTableOf im ino
   pub in_table : (i : ℕ) → i < 2 ^ table.depth → i < table_count (every im inode.block)
   in_table i low = subst (λ d. i < 2 ^ d) of.depth low
 
-  pub no_leaf_told : (i by number : ℕ) (f : MountFault) → i < 2 ^ table.depth → by ≡ entry_block (every im inode.block) i → number ≡ u64_at (8 * i) table.bytes.items → number ≡ 0 → f ≡ fault.Damaged by 14
+  pub no_leaf_told : (i by number : ℕ) (f : MountFault) → i < 2 ^ table.depth → by ≡ entry_block (every im inode.block) i → number ≡ u64_at (8 * i) table.bytes.items → number ≡ 0 → by < im.count → f ≡ fault.Damaged by 14
       → RefusesRightly im f
-  no_leaf_told i by number f low by_is number_is none is =
-      told im f (entry_block (every im inode.block) i) 14 (is ∙ ap (λ n. fault.Damaged n 14) by_is) of.master.format
+  no_leaf_told i by number f low by_is number_is none inside is =
+      told im f (entry_block (every im inode.block) i) 14 (is ∙ ap (λ n. fault.Damaged n 14) by_is) of.master.format (subst (λ n. n < im.count) by_is inside)
       (no_leaf inode.block i table_hashed (in_table i low) (sym (entry_is i) ∙ sym number_is ∙ none))
 
   pub first_claim : (i by number : ℕ) → i < 2 ^ table.depth → by ≡ entry_block (every im inode.block) i → number ≡ u64_at (8 * i) table.bytes.items
@@ -108,24 +115,25 @@ module _ (im : Image) (inode : Inode) (table : HashTable) (of : IsTableOf im ino
     pub hash_by_run : (j : ℕ) → number ≡ entry (every im inode.block) j → j / run * 2 ^ (32 - head.depth) ≡ first_hash (every im inode.block) j
     hash_by_run j at = λ k. j / (run_is ∙ (λ m. 2 ^ (of.depth m - depth_of j at m))) k * 2 ^ (32 - depth_of j at k)
 
-    pub missing_told : (j : ℕ) (f : MountFault) → j < 2 ^ table.depth → i - i % run ≤ j → j < i - i % run + run → u64_at (8 * j) table.bytes.items ≢ number → f ≡ fault.Damaged number 14 → RefusesRightly im f
-    missing_told j f below start end other is =
+    pub missing_told : (j : ℕ) (f : MountFault) → j < 2 ^ table.depth → i - i % run ≤ j → j < i - i % run + run → u64_at (8 * j) table.bytes.items ≢ number → number < im.count → f ≡ fault.Damaged number 14 → RefusesRightly im f
+    missing_told j f below start end other inside is =
         let h = every im inode.block in
         let bits = same_bits i j run (run_some run (table.depth - head.depth) run_is) start end in
         let here : run ≡ 2 ^ (depth_in h - (leaf_in h (entry h i)).depth) = run_is ∙ (λ k. 2 ^ (of.depth k - depth_of i at_pointer k)) in
         let same : index_bits h (leaf_in h (entry h i)).depth j ≡ index_bits h (leaf_in h (entry h i)).depth i = subst (λ r. j / r ≡ i / r) here bits in
-        told im f (entry h i) 14 (is ∙ ap (λ n. fault.Damaged n 14) at_pointer) of.master.format
+        told im f (entry h i) 14 (is ∙ ap (λ n. fault.Damaged n 14) at_pointer) of.master.format (subst (λ n. n < im.count) at_pointer inside)
         (pointer_missing inode.block i j table_hashed (in_table i low) (in_table j below) same (λ e. other (entry_is j ∙ e ∙ sym at_pointer)))
 
     -- the leaf of a pointer, where its whole run leads to it
-    pub leaf_is : (at : LeafAt) (by hash : ℕ) → by ≡ entry_block (every im inode.block) i → hash ≡ i / run * 2 ^ (32 - head.depth) → at.block ≡ number → at.head ≡ head → at.hash ≡ hash → at.place ≡ 0 → at.pointer ≡ i
+    pub leaf_is : (at : LeafAt) (by hash : ℕ) → number < im.count → by ≡ entry_block (every im inode.block) i → hash ≡ i / run * 2 ^ (32 - head.depth) → at.block ≡ number → at.head ≡ head → at.hash ≡ hash → at.place ≡ 0 → at.pointer ≡ i
         → at.behind ≡ i - i % run + run → i < at.behind → at.behind ≤ 2 ^ table.depth
         → ((j : ℕ) → i - i % run ≤ j → j < i - i % run + run → u64_at (8 * j) table.bytes.items ≡ number) → IsLeafIn im inode.block at
-    leaf_is at by hash by_is hash_is block head_same hash_same place pointer behind some within all =
+    leaf_is at by hash inside by_is hash_is block head_same hash_same place pointer behind some within all =
         let h = every im inode.block in
         let mine : at.hash ≡ first_hash h i = hash_same ∙ hash_is ∙ hash_by_run i at_pointer in
         let some_run = run_some run (table.depth - head.depth) run_is in
         record {
+          inside = subst (λ n. n < im.count) (sym block) inside;
           head = head_same ∙ head_is ∙ ap (λ n. leaf_of (im.at n)) (sym block);
           claimed = (by, transport (λ k. Claims im by (sym block k) (Chained inode.block (sym mine k) (sym place k))) (first_claim i by number low by_is number_is));
           chain = transport (λ k. IsInChain h (sym pointer k) (sym place k) ((sym at_pointer ∙ sym block) k)) (chain_head (in_table i low));

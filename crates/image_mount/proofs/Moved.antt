@@ -2,7 +2,7 @@
 use Rattle.std.proofs.Common.{◌≡◌, ◌≢◌, ◌↔◌, inl, inr, Bool, false, ℕ, zero, suc, ◌+◌, ◌<◌, List, [], ◌∷◌, ◌++◌, length, take, get_or, Some, IsTrue, refl, sym, ap, subst, ◌∙◌, arith}
 use Rattle.std.specs.Prelude.{codes, map, Contains, slice_get}
 use Rattle.std.specs.List.{All}
-use Rattle.std.proofs.lemmas.Option.{slice_get-get_or}
+use Rattle.std.proofs.lemmas.Option.{slice_get-get_or, slice_get_within, get_or_from_slice_get}
 use Rattle.std.proofs.lemmas.List.{map-append}
 use Rattle.std.proofs.lemmas.List.Elements.{All-push}
 use Rattle.dinode_tree.specs.declared.locating.Located.{Located}
@@ -19,6 +19,7 @@ use Rattle.image_mount.specs.Refusals.{RefusesRightly}
 use Rattle.image_mount.specs.Rings.{IsSearched, IsJournalIn, IsNext, HasPlaces, IsPlaceAt, AreBlocksOf, IsRingOf, AreRings}
 use Rattle.image_mount.specs.Searching.{IsWorking}
 use Rattle.image_mount.specs.Leaves.{IsMasterIn}
+use Rattle.image_mount.specs.Looks.{IsTrueEntry}
 use Rattle.image_mount.specs.System.{IsMasterOf, IsNamedBy, IsSystemOf, layout_of}
 use Rattle.image_mount.specs.Kept.{Kept, bytes_of}
 use Rattle.image_mount.specs.declared.fault.MountFault.{MountFault}
@@ -129,7 +130,7 @@ pub twice_master : (im : Image) (system : System) (j : ℕ) (entry : Entry) (f :
 twice_master im system j entry f looked at same is =
     let there : entry.addr ≡ master_of im = same ∙ ap (λ (s : SuperBlock). s.master.address) looked.superblock in
     let claim = subst (λ b. Claims im (superblock_place im.size) b Master) (sym there) master in
-    told im f entry.addr 3 is looked.names.groups.list.master.format
+    told im f entry.addr 3 is looked.names.groups.list.master.format (subst (λ n. n < im.count) (sym same) looked.master_inside)
     (two_owners entry.addr system.jindex (superblock_place im.size) (Named system.jindex (journal_name j)) Master (looked.journals.each j entry at).claimed claim (λ e. no_name e))
   where
     no_name : Named system.jindex (journal_name j) ≡ Master → ⊥
@@ -140,7 +141,7 @@ pub twice_list : (im : Image) (system : System) (j : ℕ) (entry : Entry) (f : M
 twice_list im system j entry f looked at same is =
     let list = looked.names.groups.list.master.rindex in
     let claim = subst (λ b. Claims im list.0 b (Named (master_of im) (codes "rindex"))) (sym same) list.1 in
-    told im f entry.addr 3 is looked.names.groups.list.master.format
+    told im f entry.addr 3 is looked.names.groups.list.master.format (subst (λ n. n < im.count) (sym same) looked.rindex_inside)
     (two_owners entry.addr system.jindex list.0 (Named system.jindex (journal_name j)) (Named (master_of im) (codes "rindex")) (looked.journals.each j entry at).claimed claim
     (λ e. absurd (omega (arith, ap (λ name. get_or name 0 0) (same_name system.jindex (master_of im) (journal_name j) (codes "rindex") e)))))
 
@@ -161,10 +162,18 @@ twice_journal im system j entry rings f looked at are there is =
     let claim = subst (λ b. Claims im system.jindex b (Named system.jindex (journal_name i))) other.2 (looked.journals.each i other.0 early.1).claimed in
     let few = looked.journals.few in
     let low = within system.journals.items j entry at in
-    told im f entry.addr 3 is looked.names.groups.list.master.format
+    told im f entry.addr 3 is looked.names.groups.list.master.format dinode_inside
     (two_owners entry.addr system.jindex system.jindex (Named system.jindex (journal_name j)) (Named system.jindex (journal_name i)) (looked.journals.each j entry at).claimed claim
     (λ e. absurd (omega (arith, early.0, one_number j i (omega (arith, few, low)) (omega (arith, few, low, early.0)) (same_name system.jindex system.jindex (journal_name j) (journal_name i) e)))))
   where
+    dinode_inside : entry.addr < im.count
+    dinode_inside = ring_inside (from_mapped (λ (r : Ring). r.dinode) rings there.0 entry.addr (contains_at _ entry.addr there))
+      where
+        ring_inside : (r : Ring) × (slice_get rings there.0 ≡ Some r) × (r.dinode ≡ entry.addr) → entry.addr < im.count
+        ring_inside one =
+            let is_ring = subst (λ (r : Ring). IsRingOf im r.dinode r.blocks.items) (get_or_from_slice_get rings there.0 one.0 one.0 one.1) (are.each there.0 one.0 (slice_get_within rings there.0 one.0 one.1)) in
+            subst (λ n. n < im.count) one.2 is_ring.places.inside
+
     within : (xs : List Entry) (k : ℕ) (x : Entry) → slice_get xs k ≡ Some x → k < length xs
     within [] k x e = cc
     within (y ∷ xs) zero x e = omega arith
@@ -182,8 +191,9 @@ take_more xs j x at = let e : j + 1 ≡ suc j = omega arith in ap (λ n. take n 
     all (y ∷ xs) (suc j) x at = ap (λ zs. y ∷ zs) (all xs j x at)
 
 pub rings_more : (im : Image) (journals : List Entry) (j : ℕ) (entry : Entry) (old new : List Ring) (ring : Ring) → AreRings im (take j journals) old → slice_get journals j ≡ Some entry → ring.dinode ≡ entry.addr
-    → IsRingOf im entry.addr ring.blocks.items → new ≡ old ++ ring ∷ [] → AreRings im (take (j + 1) journals) new
-rings_more im journals j entry old new ring are at dinode of is = record {
+    → IsRingOf im entry.addr ring.blocks.items → IsTrueEntry im entry → new ≡ old ++ ring ∷ [] → AreRings im (take (j + 1) journals) new
+rings_more im journals j entry old new ring are at dinode of true_of is = record {
+  entries = subst (All (IsTrueEntry im)) (sym (take_more journals j entry at)) (All-push (IsTrueEntry im) (take j journals) entry are.entries true_of);
   dinodes = ap (map (λ (r : Ring). r.dinode)) is ∙ map-append (λ (r : Ring). r.dinode) old (ring ∷ []) ∙ ap (λ xs. xs ++ ring.dinode ∷ []) are.dinodes
       ∙ ap (λ d. map (λ (e : Entry). e.addr) (take j journals) ++ d ∷ []) dinode ∙ sym (map-append (λ (e : Entry). e.addr) (take j journals) (entry ∷ []))
       ∙ ap (map (λ (e : Entry). e.addr)) (sym (take_more journals j entry at));
@@ -215,3 +225,7 @@ pub next_after : (im : Image) (system : System) (j : ℕ) (entry : Entry) (rings
 next_after im system j entry rings now b looked at apart other test failed same =
     next_in im system j entry (map (λ (r : Ring). r.dinode) rings) looked at apart other
     (λ there. lacks b test failed (subst (λ rs. Contains (map (λ (r : Ring). r.dinode) rs) entry.addr) (sym same) there))
+
+-- the record of a journal that was looked for, of a disk that holds what it held
+pub entry_true : (old now : DiskState) (entry : Entry) → now ≡ old → (IsTrue now.tells → IsTrueEntry (image_of now) entry) → IsTrue old.tells → IsTrueEntry (image_of old) entry
+entry_true old now entry same more = subst (λ (s : DiskState). IsTrue s.tells → IsTrueEntry (image_of s) entry) same more

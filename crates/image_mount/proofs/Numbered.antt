@@ -12,6 +12,7 @@ use Rattle.image_model.specs.Journals.{journal_name}
 use Rattle.image_model.specs.Rules.{HasRecords}
 use Rattle.image_model.specs.Stands.{Layout}
 use Rattle.image_mount.specs.Groups.{IsNamedIn}
+use Rattle.image_mount.specs.Looks.{IsLookedAt}
 use Rattle.image_mount.specs.Found.{HasGroups, name_count, AreJournalNames}
 use Rattle.image_mount.specs.Listing.{said, AreRecordsOf, AreDistinct}
 use Rattle.image_mount.specs.Refusals.{RefusesRightly}
@@ -84,9 +85,10 @@ journals_among items journals n count same counted some few length_is among name
     no_entry : Entry
     no_entry = record { number = 0; addr = 0; kind = 0 }
 
-pub journals_of : (im : Image) (a : ℕ) (items : List Item) (journals : List Entry) → AreRecordsOf im a (map said items) → All (λ n. n.block ≡ a) items → AreDistinct (map said items)
+pub journals_of : (im : Image) (a : ℕ) (items : List Item) (journals : List Entry) → a < im.count → IsLookedAt im a → AreRecordsOf im a (map said items) → All (λ n. n.block ≡ a) items → AreDistinct (map said items)
     → AreJournalsAmong items journals → AreJournalsOf im a journals
-journals_of im a items journals are here distinct among = record {
+journals_of im a items journals inside looked are here distinct among = record {
+  looked = looked;
   some = among.some;
   few = among.few;
   named = λ records has. subst (λ rs. AreJournalNames rs (length journals)) (sym (records_same im a records (map said items) are has)) among.named;
@@ -109,7 +111,7 @@ journals_of im a items journals are here distinct among = record {
     named j entry at =
         let there = among.each j entry at in
         let block : there.item.block ≡ a = ap (λ (n : Item). n.block) (sym (get_or_from_slice_get items there.index there.item there.item there.there)) ∙ here there.index there.item (slice_get_within items there.index there.item there.there) in
-        subst (λ x. IsNamedIn im a x (journal_name j) entry) block (named_in im a items (journal_name j) entry (all_records im a items are here) distinct (name_leads j) there)
+        subst (λ x. IsNamedIn im a x (journal_name j) entry) block (named_in im a items (journal_name j) entry (all_records im a items inside are here) distinct (name_leads j) there)
 
 -- ---- what is said of an option, where it is known which one it is
 

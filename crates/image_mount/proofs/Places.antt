@@ -79,14 +79,14 @@ within_reach im d places place has low = each (height_in (every im d)) refl
 
     each : (n : ℕ) → height_in (every im d) ≡ n → place < reach im.size n
     each zero is =
-        let stuffed = has.fits.stuffed is in
+        let stuffed = has.looked.fits.stuffed is in
         let none : bytes / im.size ≡ 0 = div-eq_of_lt (omega (arith, stuffed)) in
         absurd (omega (arith, none, has.count, has.least))
     each (suc level) is =
         let bounds = unit_bounds im d has.large in
         let few = fewer bytes im.size (unit (every im d)) bounds.0 bounds.1 in
         let all = whole_pieces bytes (unit (every im d)) bounds.0 in
-        omega (arith, low, has.count, few, all, has.fits.under level is)
+        omega (arith, low, has.count, few, all, has.looked.fits.under level is)
 
 -- ---- a journal by its record
 
@@ -99,10 +99,10 @@ journal_format im jindex journal of = of.names.groups.list.master.format
 pub journal_inode : (im : Image) (jindex : ℕ) (journal : Entry) → IsJournalIn im jindex journal → HasInode im journal.addr
 journal_inode im jindex journal of = (Named jindex (journal_name of.index), record { by = jindex; claimed = of.named.claimed; dinode = refl })
 
-pub wrong_part : (im : Image) (jindex : ℕ) (journal : Entry) (f : MountFault) (d size : ℕ) (dinode : Dinode) → IsJournalIn im jindex journal → f ≡ fault.Damaged d 8 → d ≡ journal.addr
+pub wrong_part : (im : Image) (jindex : ℕ) (journal : Entry) (f : MountFault) (d size : ℕ) (dinode : Dinode) → IsJournalIn im jindex journal → f ≡ fault.Damaged d 8 → d ≡ journal.addr → d < im.count
     → dinode ≡ dinode_in (every im journal.addr) → size ≡ im.size → dinode.size % size ≢ 0 → RefusesRightly im f
-wrong_part im jindex journal f d size dinode of is at read sized part =
-    told im f journal.addr 8 (is ∙ ap (λ b. fault.Damaged b 8) at) (journal_format im jindex journal of)
+wrong_part im jindex journal f d size dinode of is at inside read sized part =
+    told im f journal.addr 8 (is ∙ ap (λ b. fault.Damaged b 8) at) (journal_format im jindex journal of) (subst (λ n. n < im.count) at inside)
     (journal_part of.index journal.addr (journal_of im jindex journal of) (λ e. part (ap (λ (x : Dinode). x.size % size) read ∙ ap (λ n. (dinode_in (every im journal.addr)).size % n) sized ∙ e)))
 
 pub wrong_places : (im : Image) (jindex : ℕ) (journal : Entry) (f : MountFault) (places : ℕ) → IsJournalIn im jindex journal → f ≡ fault.NotProfile field.Journal places
@@ -114,18 +114,18 @@ wrong_places im jindex journal f places of is count wrong =
 pub wrong_hole : (im : Image) (jindex : ℕ) (journal : Entry) (f : MountFault) (places place : ℕ) → IsJournalIn im jindex journal → f ≡ fault.Damaged journal.addr 8 → HasPlaces im journal.addr places
     → place < places → None ≡ block_at (every im journal.addr) place → RefusesRightly im f
 wrong_hole im jindex journal f places place of is has low hole =
-    told im f journal.addr 8 is (journal_format im jindex journal of)
+    told im f journal.addr 8 is (journal_format im jindex journal of) has.inside
     (journal_hole of.index journal.addr place (journal_of im jindex journal of) (omega (arith, low, has.count)) (hole_block (every im journal.addr) place hole (within_reach im journal.addr places place has low)))
 
 -- ---- blocks that are wanted on the way to a place
 
 pub journal_wanted : (im : Image) (jindex : ℕ) (journal : Entry) → IsJournalIn im jindex journal → IsWanted im journal.addr jindex
 journal_wanted im jindex journal of =
-    inr (journal_format im jindex journal of, (Named jindex (journal_name of.index), of.named.claimed, dinode_leads im (Named jindex (journal_name of.index)) refl))
+    inr (journal_format im jindex journal of, (Named jindex (journal_name of.index), of.named.claimed, dinode_leads im (Named jindex (journal_name of.index)) refl, of.named.inside))
 
 pub above_wanted : (im : Image) (jindex : ℕ) (journal : Entry) (v : Seen) (place : ℕ) (m : Missing) → IsJournalIn im jindex journal → IsNeeded v (every im journal.addr) (λ i. i ≡ place) 1 m
-    → m.block ≢ journal.addr → IsWanted im m.block m.from
-above_wanted im jindex journal v place m of needed other = each needed.way
+    → m.from < im.count → m.block ≢ journal.addr → IsWanted im m.block m.from
+above_wanted im jindex journal v place m of needed inside other = each needed.way
   where
     at : (k level first : ℕ) → 1 ≤ level → Leads (every im journal.addr) m.from k level first m.block → IsWanted im m.block m.from
     at k zero first least leads = absurd (omega arith)
@@ -136,6 +136,7 @@ above_wanted im jindex journal v place m of needed other = each needed.way
             Below journal.addr m.from k (suc level) first,
             below jindex journal.addr (Named jindex (journal_name of.index)) m.from k (suc level) first m.block of.named.claimed refl leads,
             above_leads im journal.addr m.from k level first,
+            inside,
           ),
         )
 

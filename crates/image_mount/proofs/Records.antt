@@ -1,5 +1,5 @@
 -- The records of a directory.
-use Rattle.std.proofs.Common.{◌≡◌, ◌≢◌, ℕ, ◌-◌, false, List, length, take, drop, get_or, Some, refl, sym, ap, subst, ◌∙◌}
+use Rattle.std.proofs.Common.{◌≡◌, ◌<◌, ◌≢◌, ℕ, ◌-◌, false, List, length, take, drop, get_or, Some, refl, sym, ap, subst, ◌∙◌}
 use Rattle.std.specs.Prelude.{map, slice_get, codes, Contains}
 use Rattle.std.specs.List.{All}
 use Rattle.std.proofs.lemmas.Option.{slice_get-get_or, slice_get-map, slice_get_within, get_or_from_slice_get}
@@ -74,12 +74,15 @@ module _ (im : Image) (a : ℕ) (records : List Named) (are : AreRecordsOf im a 
       from _ _ (of_leaf x leaf) there = absurd (not_both (is_hashed_in (every im a)) (leaf_is_hashed im leaf.0 x a leaf.1 leaf.2 leaf.3) are.linear)
 
 -- those that were read behind a dinode, each with its block
-pub all_records : (im : Image) (a : ℕ) (records : List Named) → AreRecordsOf im a (map said records) → All (λ n. n.block ≡ a) records → AreAllRecords im a records
-all_records im a records are here = record {
+pub all_records : (im : Image) (a : ℕ) (records : List Named) → a < im.count → AreRecordsOf im a (map said records) → All (λ n. n.block ≡ a) records → AreAllRecords im a records
+all_records im a records inside are here = record {
   directory = are.directory;
   each = λ i n at.
       let there : n.block ≡ a = ap (λ (m : Named). m.block) (sym (get_or_from_slice_get records i n n at)) ∙ here i n (slice_get_within records i n at) in
       subst (λ x. HasRecordIn im a x (said n)) (sym there) (record_in im a records are i n at);
+  inside = λ i n at.
+      let there : n.block ≡ a = ap (λ (m : Named). m.block) (sym (get_or_from_slice_get records i n n at)) ∙ here i n (slice_get_within records i n at) in
+      subst (λ x. x < im.count) (sym there) inside;
   all = complete im a records are;
 }
 
@@ -105,6 +108,9 @@ pub inode_of : (im : Image) (inode : Inode) (parent : ℕ) (is : IsDirectoryIn i
 inode_of im inode parent is = record { by = inode.from; claimed = is.claimed; dinode = is.is_inode }
 
 -- ---- where a name leads
+
+some_record : (r s : Record) → Some r ≡ Some s → r ≡ s
+some_record r s e = cc
 
 address_of : (m n : Named) (r : Record) → Some m ≡ Some n → said m ≡ r → r.address ≡ n.entry.addr
 address_of m n r same is = ap (λ (q : Record). q.address) (sym is) ∙ ap (λ (x : Named). x.entry.addr) (some_is m n same)
@@ -137,6 +143,15 @@ module _ (im : Image) (a : ℕ) (records : List Named) (are : AreAllRecords im a
       let is : one.0 ≡ i = distinct one.0 i led.0 (said n) first second led.2 in
       sym led.3 ∙ address_of one.1.0 n led.0 (sym one.1.1 ∙ ap (slice_get records) is ∙ at) one.1.2
 
+  -- no other record has its name
+  one_row : (x : ℕ) (r : Record) → HasRecordIn im a x r → r.name ≡ n.name.now → r ≡ said n
+  one_row x r has named =
+      let one = are.all x r has in
+      let first : slice_get (map said records) one.0 ≡ Some r = slice_get-map said records one.0 ∙ ap (option_map said) one.1.1 ∙ ap Some one.1.2 in
+      let second : slice_get (map said records) i ≡ Some (said n) = slice_get-map said records i ∙ ap (option_map said) at in
+      let is : one.0 ≡ i = distinct one.0 i r (said n) first second named in
+      some_record r (said n) (sym first ∙ ap (slice_get (map said records)) is ∙ second)
+
   -- what the record with a name leads to, it alone leads to by that name
   pub named_in : is_dots n.name.now ≡ false → IsNamedIn im a n.block n.name.now n.entry
   named_in plain = record {
@@ -144,5 +159,8 @@ module _ (im : Image) (a : ℕ) (records : List Named) (are : AreAllRecords im a
     only = λ d leads. only_to leads.0 d leads.1;
     row = said n;
     there = are.each i n at;
+    named = refl;
+    one = one_row;
+    inside = are.inside i n at;
     is = record { number = refl; address = refl; kind = refl };
   }

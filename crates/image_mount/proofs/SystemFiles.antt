@@ -1,5 +1,5 @@
 -- The files that the master directory names.
-use Rattle.std.proofs.Common.{◌≡◌, ◌≢◌, ◌⊎◌, inl, inr, ℕ, ◌||◌, ◌&&◌, Bool, true, false, List, Option, None, Some, refl, sym, ap, subst, ◌∙◌}
+use Rattle.std.proofs.Common.{◌≡◌, ◌≢◌, ◌⊎◌, ◌<◌, inl, inr, ℕ, ◌||◌, ◌&&◌, Bool, true, false, List, Option, None, Some, refl, sym, ap, subst, ◌∙◌}
 use Rattle.std.specs.Prelude.{map, not, codes, slice_get}
 use Rattle.std.specs.Option.{option_map}
 use Rattle.std.specs.Str.{bytes_eq}
@@ -33,14 +33,16 @@ use Rattle.image_mount.proofs.Names.{mapped_at, mapped_none, mapped_some, named_
 -- ---- an inode that is claimed, and is a directory
 
 pub directory_in : (im : Image) (inode : Inode) (by addr parent : ℕ) (o : Owner) → HasFormat im → Claims im by addr o → is_dinode o ≡ true → inode.block ≡ addr → inode.from ≡ by
-    → inode.dinode ≡ dinode_in (every im addr) → is_directory inode.dinode ≡ true → parent ≡ parent_of addr o → IsDirectoryIn im inode parent
-directory_in im inode by addr parent o format claimed dinode at from read directory above = record {
+    → inode.dinode ≡ dinode_in (every im addr) → is_directory inode.dinode ≡ true → addr < im.count → by < im.count → parent ≡ parent_of addr o → IsDirectoryIn im inode parent
+directory_in im inode by addr parent o format claimed dinode at from read directory inside by_inside above = record {
   format = format;
   owner = o;
   claimed = subst (λ a. Claims im inode.from a o) (sym at) (subst (λ b. Claims im b addr o) (sym from) claimed);
   is_inode = dinode;
   dinode = read ∙ ap (λ a. dinode_in (every im a)) (sym at);
   directory = directory;
+  inside = subst (λ a. a < im.count) (sym at) inside;
+  from_inside = subst (λ b. b < im.count) (sym from) by_inside;
   above = above ∙ ap (λ a. parent_of a o) (sym at);
 }
 
@@ -59,27 +61,29 @@ master_directory im inode is = record {
   is_inode = refl;
   dinode = is.dinode;
   directory = ap is_directory is.dinode ∙ is.directory;
+  inside = is.inside;
+  from_inside = subst (λ b. b < im.count) (sym is.from) is.format.super.inside;
   above = refl;
 }
 
 -- ---- what the master directory lacks
 
-pub master_file : (im : Image) (f : MountFault) (at : ℕ) → f ≡ fault.Damaged at 18 → HasFormat im → at ≡ master_of im → is_directory_in (every im at) ≡ false → RefusesRightly im f
-master_file im f at is format same file =
-    told im f at 18 is format
+pub master_file : (im : Image) (f : MountFault) (at : ℕ) → f ≡ fault.Damaged at 18 → HasFormat im → at < im.count → at ≡ master_of im → is_directory_in (every im at) ≡ false → RefusesRightly im f
+master_file im f at is format low same file =
+    told im f at 18 is format low
     (subst (Breaks im 18) (sym same) (no_rindex (λ d way. led_by_file im (master_of im) (codes "rindex") d (subst (λ a. is_directory_in (every im a) ≡ false) same file) way)))
 
-module _ (im : Image) (f : MountFault) (at : ℕ) (items : List Item) (format : HasFormat im) (same : at ≡ master_of im) (are : AreAllRecords im at items) where
+module _ (im : Image) (f : MountFault) (at : ℕ) (items : List Item) (format : HasFormat im) (inside : at < im.count) (same : at ≡ master_of im) (are : AreAllRecords im at items) where
   never_led : (name : List ℕ) (d : ℕ) → ((i : ℕ) (n : Item) → slice_get items i ≡ Some n → n.name.now ≢ name) → LeadsTo im (master_of im) name d → ⊥
   never_led name d none way =
       let led = led_among im at items name d are (subst (λ a. LeadsTo im a name d) (sym same) way) in
       none_among items name led.entry led.among none
 
   pub lacks_rindex : f ≡ fault.Damaged at 18 → ((i : ℕ) (n : Item) → slice_get items i ≡ Some n → n.name.now ≢ codes "rindex") → RefusesRightly im f
-  lacks_rindex is none = told im f at 18 is format (subst (Breaks im 18) (sym same) (no_rindex (λ d way. never_led (codes "rindex") d none way)))
+  lacks_rindex is none = told im f at 18 is format inside (subst (Breaks im 18) (sym same) (no_rindex (λ d way. never_led (codes "rindex") d none way)))
 
   pub lacks_jindex : f ≡ fault.Damaged at 16 → ((i : ℕ) (n : Item) → slice_get items i ≡ Some n → n.name.now ≢ codes "jindex") → RefusesRightly im f
-  lacks_jindex is none = told im f at 16 is format (subst (Breaks im 16) (sym same) (no_jindex (λ d way dir. never_led (codes "jindex") d none way)))
+  lacks_jindex is none = told im f at 16 is format inside (subst (Breaks im 16) (sym same) (no_jindex (λ d way dir. never_led (codes "jindex") d none way)))
 
 -- ---- other names
 

@@ -1,15 +1,18 @@
 -- Blocks that a search wants, in which the image has what it looks for.
-use Rattle.std.proofs.Common.{◌≡◌, ℕ, suc, true, List, None, Some, inr, sym, ap, subst, ◌∙◌}
+use Rattle.std.proofs.Common.{◌≡◌, ◌<◌, ℕ, suc, true, List, None, Some, inr, sym, ap, subst, ◌∙◌}
 use Rattle.dinode_tree.specs.Reading.{IsNeeded, IsOnWay, the_dinode, led_to}
+use Rattle.gfs2_layout.specs.Inode.{Leads}
 use Rattle.glock_names.specs.declared.steps.Missing.{Missing}
 use Rattle.image_model.specs.Claims.{every, Claims, below}
 use Rattle.image_model.specs.Image.{Image}
 use Rattle.image_model.specs.Owners.{Owner, Below, Chained, is_dinode}
 use Rattle.image_mount.specs.Found.{HasFormat}
-use Rattle.image_mount.specs.Searching.{StopsRightly, IsLeading, IsSystemFile}
+use Rattle.image_mount.specs.Searching.{StopsRightly, IsLeading, IsRead, IsSystemFile}
 use Rattle.image_mount.specs.Kept.{Kept, seen_of}
 use Rattle.image_mount.specs.declared.stop.Stop.{Stop}
 use Rattle.image_mount.specs.declared.stop.Stop.TheVariants as stop
+use Rattle.image_mount.proofs.Shown.{needed_inside}
+use Rattle.image_mount.proofs.Steps.{seen_in}
 
 -- ---- owners by which a block is read
 
@@ -34,8 +37,8 @@ list_leads im a b k level first list d c j other e = subst (IsSystemFile im) (sa
 -- ---- blocks that are wanted
 
 -- the block of an inode that is claimed is wanted by its number there
-pub wanted : (im : Image) (block from : ℕ) (o : Owner) (s : Stop) → s ≡ stop.Reads block from → Claims im from block o → is_dinode o ≡ true → HasFormat im → StopsRightly im s
-wanted im block from o s is claimed dinode format = subst (StopsRightly im) (sym is) (inr (format, (o, claimed, dinode_leads im o dinode)))
+pub wanted : (im : Image) (block from : ℕ) (o : Owner) (s : Stop) → s ≡ stop.Reads block from → Claims im from block o → is_dinode o ≡ true → HasFormat im → from < im.count → StopsRightly im s
+wanted im block from o s is claimed dinode format inside = subst (StopsRightly im) (sym is) (inr (format, (o, claimed, dinode_leads im o dinode, inside)))
 
 -- a leaf is no content
 pub leaf_leads : (im : Image) (a hash place : ℕ) → IsLeading im (Chained a hash place)
@@ -45,15 +48,24 @@ leaf_leads im a hash place d b k first e = absurd (apart a hash place d b k firs
     apart a hash place d b k first e = cc
 
 -- a leaf is wanted by its number in its directory
-pub leaf_wanted : (im : Image) (by x a hash place : ℕ) (s : Stop) → s ≡ stop.Reads x by → Claims im by x (Chained a hash place) → HasFormat im → StopsRightly im s
-leaf_wanted im by x a hash place s is claimed format = subst (StopsRightly im) (sym is) (inr (format, (Chained a hash place, claimed, leaf_leads im a hash place)))
+pub leaf_wanted : (im : Image) (by x a hash place : ℕ) (s : Stop) → s ≡ stop.Reads x by → Claims im by x (Chained a hash place) → HasFormat im → by < im.count → StopsRightly im s
+leaf_wanted im by x a hash place s is claimed format inside = subst (StopsRightly im) (sym is) (inr (format, (Chained a hash place, claimed, leaf_leads im a hash place, inside)))
+
+-- a block of content of a system file is wanted by its number in the block that leads to it
+pub content_wanted : (im : Image) (by a from k index block : ℕ) (o : Owner) (s : Stop) → s ≡ stop.Reads block from → Claims im by a o → is_dinode o ≡ true → HasFormat im → IsSystemFile im a
+    → Leads (every im a) from k 0 index block → from < im.count → StopsRightly im s
+content_wanted im by a from k index block o s is claimed dinode format list leads inside =
+    subst (StopsRightly im) (sym is) (inr (format, (Below a from k 0 index, below by a o from k 0 index block claimed dinode leads, list_leads im a from k 0 index list, inside)))
 
 -- a block that is missing below the dinode of a system file, which is kept
-pub wanted_below : (im : Image) (k : Kept) (by a : ℕ) (o : Owner) (bytes : List ℕ) (P : ℕ → Type 0) (least : ℕ) (m : Missing) (s : Stop) → s ≡ stop.Reads m.block m.from → Claims im by a o → is_dinode o ≡ true
-    → HasFormat im → IsSystemFile im a → (seen_of k).block_at a ≡ Some bytes → IsNeeded (seen_of k) (every im a) P least m → StopsRightly im s
-wanted_below im k by a o bytes P least m s is claimed dinode format list kept needed = subst (StopsRightly im) (sym is) (inr (format, on_way needed.way))
+pub wanted_below : (im : Image) (k : Kept) (by a : ℕ) (o : Owner) (bytes : List ℕ) (P Q : ℕ → Type 0) (least : ℕ) (m : Missing) (s : Stop) → s ≡ stop.Reads m.block m.from → Claims im by a o → is_dinode o ≡ true
+    → HasFormat im → IsSystemFile im a → (seen_of k).block_at a ≡ Some bytes → IsNeeded (seen_of k) (every im a) P least m → IsNeeded (seen_of k) (seen_in (seen_of k) a) Q least m → IsRead im k → StopsRightly im s
+wanted_below im k by a o bytes P Q least m s is claimed dinode format list kept needed seen read = subst (StopsRightly im) (sym is) (inr (format, on_way needed.way))
   where
-    on_way : IsOnWay (every im a) P least m → (p : Owner) × Claims im m.from m.block p × IsLeading im p
+    inside : m.from < im.count
+    inside = needed_inside im k a Q least m read seen (λ same. absurd (let none : Some bytes ≡ None = sym kept ∙ ap (seen_of k).block_at (sym same) ∙ needed.absent in cc))
+
+    on_way : IsOnWay (every im a) P least m → (p : Owner) × Claims im m.from m.block p × IsLeading im p × (m.from < im.count)
     on_way (the_dinode same from plain) = let none : Some bytes ≡ None = sym kept ∙ ap (seen_of k).block_at (sym same) ∙ needed.absent in cc
     on_way (led_to i j level first wants low leads before within plain) =
-        (Below a m.from j level first, below by a o m.from j level first m.block claimed dinode leads, list_leads im a m.from j level first list)
+        (Below a m.from j level first, below by a o m.from j level first m.block claimed dinode leads, list_leads im a m.from j level first list, inside)

@@ -1,5 +1,5 @@
 -- The list of groups, as it is found and read.
-use Rattle.std.specs.Prelude.{ℕ, ◌≡◌, ◌≤◌, ◌%◌, List, length, codes}
+use Rattle.std.specs.Prelude.{ℕ, ◌≡◌, ◌<◌, ◌≤◌, ◌%◌, List, length, codes}
 use Rattle.gfs2_layout.specs.Inode.{dinode_in, content_of}
 use Rattle.gfs2_layout.specs.Records.{Record}
 use Rattle.gfs2_layout.specs.declared.rindex.Rindex.{Rindex}
@@ -13,6 +13,7 @@ use Rattle.image_model.specs.Rules.{HasRecordIn}
 use Rattle.image_model.specs.Stands.{Layout}
 use Rattle.image_mount.specs.Found.{HasList, HasMaster}
 use Rattle.image_mount.specs.Listing.{IsEntryOf}
+use Rattle.image_mount.specs.Looks.{IsLookedAt}
 use Rattle.image_mount.specs.declared.listing.Link.{Link}
 
 -- what a record of this name says, in block `from` of the directory with its dinode in block a: by it alone the name leads on
@@ -21,6 +22,9 @@ pub record IsNamedIn (im : Image) (a from : ℕ) (name : List ℕ) (entry : Entr
   pub only : (d : ℕ) → LeadsTo im a name d → d ≡ entry.addr
   pub row : Record
   pub there : HasRecordIn im a from row
+  pub named : row.name ≡ name
+  pub one : (x : ℕ) (r : Record) → HasRecordIn im a x r → r.name ≡ name → r ≡ row
+  pub inside : from < im.count
   pub is : IsEntryOf entry row
 
 -- what the record of `rindex` in the master directory says
@@ -35,6 +39,7 @@ pub record IsListLink (im : Image) (link : Link) : Type 0 where
 pub record IsListOf (im : Image) (size count list : ℕ) (listed : List Rindex) : Type 0 where
   pub block_size : size ≡ im.size
   pub blocks : count ≡ im.count
+  pub inside : list < im.count
   pub layout : Layout
   pub found : HasList im layout
   pub rindex : layout.rindex ≡ list
@@ -43,6 +48,8 @@ pub record IsListOf (im : Image) (size count list : ℕ) (listed : List Rindex) 
 
 -- these groups are listed there, fit the image, and are within the profile
 pub record AreGroups (im : Image) (list : ℕ) (groups : List Rindex) : Type 0 where
+  pub inside : list < im.count
+  pub looked : IsLookedAt im list
   pub whole : (dinode_in (every im list)).size % entry_length ≡ 0
   pub listed : groups_in (content_of (every im list)) ≡ groups
   pub some : 1 ≤ length groups

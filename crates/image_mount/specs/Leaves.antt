@@ -15,6 +15,7 @@ use Rattle.image_reader.specs.declared.hash_table.HashTable.{HashTable}
 use Rattle.image_reader.specs.declared.owners.Claim.{Claim}
 use Rattle.image_mount.specs.Found.{HasFormat, IsInChain, ComesBefore, is_other, first_other}
 use Rattle.image_mount.specs.Listing.{said, AreDistinct}
+use Rattle.image_mount.specs.Looks.{IsTableSized}
 use Rattle.image_mount.specs.declared.inodes.Inode.{Inode}
 use Rattle.image_mount.specs.declared.leaf.LeafAt.{LeafAt}
 use Rattle.image_mount.specs.declared.leaf.LeafWalk.{LeafWalk}
@@ -27,6 +28,7 @@ pub record IsMasterIn (im : Image) (inode : Inode) : Type 0 where
   pub from : inode.from ≡ superblock_place im.size
   pub dinode : inode.dinode ≡ dinode_in (every im inode.block)
   pub fits : Fits (every im inode.block)
+  pub inside : inode.block < im.count
   pub directory : is_directory_in (every im inode.block) ≡ true
 
 -- the master directory is a hashed one, and this is its table
@@ -36,11 +38,13 @@ pub record IsTableOf (im : Image) (inode : Inode) (table : HashTable) : Type 0 w
   pub depth : table.depth ≡ depth_in (every im inode.block)
   pub content : table.bytes.items ≡ content_of (every im inode.block)
   pub size : (dinode_in (every im inode.block)).size ≡ 8 * 2 ^ table.depth
+  pub sized : IsTableSized im inode.block
 
 -- ---- a leaf
 
 -- the directory in block a has this leaf, at its place in the chain of a pointer; the pointers from that one to `behind` lead to the chain
 pub record IsLeafIn (im : Image) (a : ℕ) (at : LeafAt) : Type 0 where
+  pub inside : at.block < im.count
   pub head : at.head ≡ leaf_in (every im a) at.block
   pub claimed : (by : ℕ) × Claims im by at.block (Chained a at.hash at.place)
   pub chain : IsInChain (every im a) at.pointer at.place at.block
@@ -76,6 +80,7 @@ pub record AreLeavesOf (im : Image) (a : ℕ) (entries : List (Option Claim)) (r
 -- a record that was found stands in a leaf that is claimed
 pub record IsFoundIn (im : Image) (a : ℕ) (entries : List (Option Claim)) (n : Named) : Type 0 where
   pub stands : HasRecordIn im a n.block (said n)
+  pub inside : n.block < im.count
   pub leaf : (hash place : ℕ) × HasClaim entries n.block (Chained a hash place)
   pub plain : is_other (said n) ≡ false
 

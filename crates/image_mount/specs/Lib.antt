@@ -8,3 +8,4 @@ pub mod Leaves
 pub mod Groups
 pub mod System
 pub mod Rings
+pub mod Looks

@@ -1,5 +1,5 @@
 -- The records of a directory, as the code has them.
-use Rattle.std.specs.Prelude.{ℕ, ◌≡◌, ◌&&◌, Bool, true, false, List, length, map, filter, slice_get, Some}
+use Rattle.std.specs.Prelude.{ℕ, ◌≡◌, ◌<◌, ◌&&◌, Bool, true, false, List, length, map, filter, slice_get, Some}
 use Rattle.gfs2_layout.specs.Area.{Slot}
 use Rattle.gfs2_layout.specs.Inode.{dinode_in, has_hash_flag, is_hashed_in, linear_area}
 use Rattle.gfs2_layout.specs.Records.{Record, record_of, records_in}
@@ -57,10 +57,11 @@ pub record AreRecordsOf (im : Image) (a : ℕ) (records : List Record) : Type 0 
   pub linear : is_hashed_in (every im a) ≡ false
   pub all : records ≡ records_in (linear_area (every im a))
 
--- these are all records of a directory, each with the block that it stands in
+-- these are all records of a directory, each with the block that it stands in, which is on the device
 pub record AreAllRecords (im : Image) (a : ℕ) (records : List Named) : Type 0 where
   pub directory : HasDirectory im a
   pub each : (i : ℕ) (n : Named) → slice_get records i ≡ Some n → HasRecordIn im a n.block (said n)
+  pub inside : (i : ℕ) (n : Named) → slice_get records i ≡ Some n → n.block < im.count
   pub all : (x : ℕ) (r : Record) → HasRecordIn im a x r → (i : ℕ) × ((n : Named) × (slice_get records i ≡ Some n) × (said n ≡ r))
 
 -- a directory has so many records, and so many directories among them
@@ -71,7 +72,7 @@ AreCountedIn im a records = (all : List Record) × HasRecords im a all × (lengt
 abbrev pub AreDistinct : List Record → Type 0
 AreDistinct records = (i j : ℕ) (r s : Record) → slice_get records i ≡ Some r → slice_get records j ≡ Some s → r.name ≡ s.name → i ≡ j
 
--- a directory that is claimed in the image, below the one with its dinode in block `parent`, and its dinode
+-- a directory that is claimed in the image and lies on the device, below the one with its dinode in block `parent`, and its dinode
 pub record IsDirectoryIn (im : Image) (inode : Inode) (parent : ℕ) : Type 0 where
   pub format : HasFormat im
   pub owner : Owner
@@ -79,4 +80,6 @@ pub record IsDirectoryIn (im : Image) (inode : Inode) (parent : ℕ) : Type 0 wh
   pub is_inode : is_dinode owner ≡ true
   pub dinode : inode.dinode ≡ dinode_in (every im inode.block)
   pub directory : is_directory inode.dinode ≡ true
+  pub inside : inode.block < im.count
+  pub from_inside : inode.from < im.count
   pub above : parent ≡ parent_of inode.block owner

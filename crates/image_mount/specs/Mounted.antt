@@ -14,6 +14,7 @@ use Rattle.image_model.specs.Owners.{Owners}
 use Rattle.image_model.specs.Profile.{IsInProfile}
 use Rattle.image_model.specs.Stands.{Layout, IsLaid, IsJournalAt}
 use Rattle.image_mount.specs.Found.{HasNames}
+use Rattle.image_mount.specs.Looks.{IsLookedOver}
 
 -- a journal: the block of its dinode, the block at each of its places, and its head
 pub record Journal : Type 0 where
@@ -32,11 +33,12 @@ pub record IsJournalOf (im : Image) (d : ℕ) (journal : Journal) : Type 0 where
   pub blocks : journal.blocks ≡ map (content_block (every im d)) (range_with_len 0 (ring_of (every im d)).places)
   pub head : head_in (ring_of (every im d)) ≡ Some journal.head
 
--- What the image tells is what was mounted, and it is within the profile.
+-- What the image tells is what was mounted, and it is within the profile; and what was looked at is right.
 pub record IsMounted (im : Image) (m : MountedValue) : Type 0 where
   pub layout : Layout
   pub found : HasNames im layout
   pub profile : IsInProfile im layout
+  pub looked : IsLookedOver im layout
   pub superblock : m.superblock ≡ superblock_in im
   pub groups : m.groups ≡ map group_of_entry layout.groups
   pub count : length m.journals ≡ length layout.journals

@@ -12,7 +12,7 @@ use Rattle.image_model.specs.Groups.{entry_length, GroupsFit}
 use Rattle.image_model.specs.Image.{Image, superblock_in}
 use Rattle.image_model.specs.Owners.{Owner}
 use Rattle.image_model.specs.Profile.{group_length}
-use Rattle.image_model.specs.Rules.{Breaks, HasRecords, IsHashedAt}
+use Rattle.image_model.specs.Rules.{IsBrokenBlock, HasRecords, IsHashedAt}
 use Rattle.image_model.specs.Stands.{Layout, IsJournalAt}
 use Rattle.image_mount.specs.Found.{HasSuper, HasFormat, IsFirstOther, HasList, HasMaster, HasGroups, name_count, AreJournalNames, HasNames}
 use Rattle.image_reader.specs.declared.image.ImageFault.{ImageFault}
@@ -59,7 +59,7 @@ IsReached im b = (b ≡ superblock_place im.size) ⊎ ((by : ℕ) × ((o : Owner
 -- The cause of each refusal in the image. A broken rule behind the superblock is told only where the formats are those of the profile.
 abbrev pub RefusesRightly : Image → MountFault → Type 0
 RefusesRightly im (fault.NotProfile what value) = IsOutside im what value
-RefusesRightly im (fault.Damaged block rule) = Breaks im rule block × ((block ≡ superblock_place im.size) ⊎ HasFormat im)
+RefusesRightly im (fault.Damaged block rule) = IsBrokenBlock im rule block × ((block ≡ superblock_place im.size) ⊎ HasFormat im)
 RefusesRightly im (fault.DeviceFault block before after) = IsReached im block
 RefusesRightly im (fault.NotBuilt block) = IsJindex im block × IsHashedAt im block × HasFormat im
 RefusesRightly im fault.NoMemory = ⊤

@@ -1,10 +1,10 @@
 -- What is known of the image while the journals are looked for.
-use Rattle.std.specs.Prelude.{ℕ, ◌≡◌, ◌≢◌, ◌⊎◌, ◌^◌, ◌<◌, ◌≤◌, true, List, length, map, Contains, slice_get, slice_index, Some}
+use Rattle.std.specs.Prelude.{ℕ, ◌≡◌, ◌≢◌, ◌⊎◌, ◌^◌, ◌%◌, ◌<◌, ◌≤◌, true, List, length, map, Contains, slice_get, slice_index, Some}
 use Rattle.profile_limits.specs.Limits.{least_journal_blocks, most_journal_blocks}
 use Rattle.std.specs.List.{All, range_with_len}
 use Rattle.dinode_tree.specs.declared.locating.Located.{Located}
 use Rattle.gfs2_layout.specs.Device.{superblock_place}
-use Rattle.gfs2_layout.specs.Inode.{Leads, Fits, content_block}
+use Rattle.gfs2_layout.specs.Inode.{Leads, dinode_in, content_block}
 use Rattle.gfs2_layout.specs.Journal.{ring_of, head_in}
 use Rattle.gfs2_layout.specs.Journal.{Ring as JournalRing}
 use Rattle.gfs2_layout.specs.declared.log_header.LogHeader.{LogHeader}
@@ -15,6 +15,7 @@ use Rattle.image_model.specs.Journals.{journal_name}
 use Rattle.image_model.specs.Owners.{Below}
 use Rattle.image_model.specs.Stands.{Layout, IsJournalAt}
 use Rattle.image_mount.specs.Found.{HasNames}
+use Rattle.image_mount.specs.Looks.{IsTrueEntry, IsLookedAt}
 use Rattle.image_mount.specs.Mounted.{Journal, IsJournalOf}
 use Rattle.image_mount.specs.Refusals.{IsReached}
 use Rattle.image_mount.specs.Searching.{IsSystemFile, IsWanted}
@@ -62,14 +63,17 @@ pub record IsNext (im : Image) (done : List ℕ) (system : System) (journal : En
 
 -- the journal with its dinode in block d has so many places
 pub record HasPlaces (im : Image) (d places : ℕ) : Type 0 where
+  pub inside : d < im.count
   pub count : places ≡ (ring_of (every im d)).places
-  pub fits : Fits (every im d)
+  pub looked : IsLookedAt im d
+  pub whole : (dinode_in (every im d)).size % im.size ≡ 0
   pub large : 512 ≤ im.size
   pub most : places ≤ most_journal_blocks
   pub least : least_journal_blocks ≤ places
 
 -- the block of content with index `place` is where the pointer in block `from` leads
 pub record IsPlaceAt (im : Image) (d place : ℕ) (located : Located) : Type 0 where
+  pub inside : located.from < im.count
   pub block : located.block ≡ content_block (every im d) place
   pub leads : (k : ℕ) × Leads (every im d) located.from k 0 place located.block
 
@@ -83,10 +87,11 @@ pub record IsRingOf (im : Image) (d : ℕ) (blocks : List ℕ) : Type 0 where
   pub places : HasPlaces im d (ring_of (every im d)).places
   pub are : AreBlocksOf im d (ring_of (every im d)).places blocks
 
--- each of these journals has its ring
+-- each of these journals has its ring, and its record is true of its dinode
 pub record AreRings (im : Image) (journals : List Entry) (rings : List Ring) : Type 0 where
   pub dinodes : map (λ (ring : Ring). ring.dinode) rings ≡ map (λ (e : Entry). e.addr) journals
   pub each : All (λ (ring : Ring). IsRingOf im ring.dinode ring.blocks.items) rings
+  pub entries : All (IsTrueEntry im) journals
 
 -- what is mounted of a journal, whose sequence is one of the profile
 pub record IsLowJournal (im : Image) (journal : Journal) : Type 0 where

@@ -1,5 +1,5 @@
 -- What a search in the blocks that are kept knows of the image, and why it stops.
-use Rattle.std.specs.Prelude.{ℕ, ◌≡◌, ◌⊎◌, ⊤, IsTrue, List, length, None, Some}
+use Rattle.std.specs.Prelude.{ℕ, ◌≡◌, ◌<◌, ◌⊎◌, ⊤, IsTrue, List, length, None, Some}
 use Rattle.gfs2_layout.specs.Device.{superblock_place}
 use Rattle.glock_names.specs.declared.steps.CallFault.{CallFault}
 use Rattle.glock_names.specs.declared.steps.CallFault.TheVariants as call
@@ -34,9 +34,9 @@ IsSystemFile im d = IsRindex im d ⊎ (d ≡ master_of im)
 abbrev pub IsLeading : Image → Owner → Type 0
 IsLeading im o = (d b k first : ℕ) → o ≡ Below d b k 0 first → IsSystemFile im d
 
--- the superblock is to be read, or a block that is claimed by its number in block `from`: of content that of the list of groups and the master directory alone
+-- the superblock is to be read, or a block that is claimed by its number in block `from` of the device: of content that of the list of groups and the master directory alone
 abbrev pub IsWanted : Image → ℕ → ℕ → Type 0
-IsWanted im block from = (block ≡ superblock_place im.size) ⊎ (HasFormat im × ((o : Owner) × Claims im from block o × IsLeading im o))
+IsWanted im block from = (block ≡ superblock_place im.size) ⊎ (HasFormat im × ((o : Owner) × Claims im from block o × IsLeading im o × (from < im.count)))
 
 -- the image is refused for a cause that it has, or a block is wanted
 abbrev pub StopsRightly : Image → Stop → Type 0

@@ -13,6 +13,7 @@ ghost use Rattle.image_model.specs.Stands.{Layout};
 ghost use Rattle.image_mount.specs.Found.{HasFormat, HasMaster};
 ghost use Rattle.image_mount.specs.Groups.{IsListLink, IsListOf, AreGroups};
 ghost use Rattle.image_mount.specs.Listing.{HasKeptDinode};
+ghost use Rattle.image_mount.specs.Looks.{IsSized, IsTrueEntry};
 ghost use Rattle.image_mount.specs.Refusals.{RefusesRightly};
 ghost use Rattle.image_mount.specs.Searching.{IsRead, IsSteady, IsSystemFile, StopsRightly, LacksBlock};
 ghost use Rattle.profile_limits.specs.Limits.{most_blocks};
@@ -183,7 +184,8 @@ fn list_length(inode: &Inode, size: u32) -> Result<u32, MountFault>
     ensures whole { OnOk result (inode.now.dinode.size % 96 ≡ 0) }
     ensures least { IfOk result (λ bytes. 96 ≤ bytes) }
     ensures short { IfOk result (λ bytes. bytes ≤ 6144) }
-    ensures refused { (im : Image) (l : Layout) → HasMaster im l → l.rindex ≡ inode.now.block → inode.now.dinode ≡ dinode_in (every im inode.now.block) → size ≡ im.size → IfErr result (RefusesRightly im) }
+    ensures sized { (im : Image) → inode.now.dinode ≡ dinode_in (every im inode.now.block) → size ≡ im.size → OnOk result (IsSized im inode.now.block) }
+    ensures refused { (im : Image) (l : Layout) → HasMaster im l → inode.now.block < im.count → l.rindex ≡ inode.now.block → inode.now.dinode ≡ dinode_in (every im inode.now.block) → size ≡ im.size → IfErr result (RefusesRightly im) }
     ensures steady { IfErr result IsSteady }
 {
     let bytes = inode.dinode.size;
@@ -211,7 +213,7 @@ pub(crate) fn read_whole(
     ensures length { (im : Image) → IsRead im table.now → (dinode_in (every im inode.now.block)).size ≡ bytes → IfOk result (λ content. length content.items ≡ bytes) }
     ensures whole { HasKeptDinode table.now inode.now → inode.now.dinode.size ≡ bytes → IfOk result (λ content. length content.items ≡ bytes) }
     ensures most { IfOk result (λ content. length content.items ≤ bytes) }
-    ensures stops { (im : Image) (o : Owner) → IsRead im table.now → Claims im inode.now.from inode.now.block o → is_dinode o ≡ true → HasFormat im → IsSystemFile im inode.now.block → IfErr result (StopsRightly im) }
+    ensures stops { (im : Image) (o : Owner) → IsRead im table.now → Claims im inode.now.from inode.now.block o → is_dinode o ≡ true → HasFormat im → inode.now.from < im.count → IsSystemFile im inode.now.block → IfErr result (StopsRightly im) }
     ensures lacks { IfErr result (LacksBlock table.now) }
 {
     // The dinode is kept, and what is missing is a block below it.
@@ -232,6 +234,7 @@ pub(crate) fn list_groups(
 ) -> Result<Vec<Rindex>, Stop>
     ensures found { (im : Image) → IsRead im table.now → count ≡ im.count → IsListLink im rindex.now → IfOk result (λ groups. AreGroups im rindex.now.entry.addr groups.items) }
     ensures length { IfOk result (λ groups. length groups.items ≤ 64) }
+    ensures repeats { (im : Image) → IsRead im table.now → OnOk result (IsTrueEntry im rindex.now.entry) }
     ensures stops { (im : Image) → IsRead im table.now → count ≡ im.count → IsListLink im rindex.now → IfErr result (StopsRightly im) }
     ensures lacks { IfErr result (LacksBlock table.now) }
 {

@@ -1,12 +1,13 @@
-ghost use Rattle.std.specs.Prelude.{ℕ, ◌≡◌, ◌≤◌, ◌+◌, ◌*◌, ◌^◌, true, false, length, if◌then◌else◌, IfOk, OnOk, IfErr};
+ghost use Rattle.std.specs.Prelude.{ℕ, ◌≡◌, ◌<◌, ◌≤◌, ◌+◌, ◌*◌, ◌/◌, ◌^◌, true, false, length, if◌then◌else◌, IfOk, OnOk, IfErr};
 ghost use Rattle.gfs2_layout.specs.Inode.{dinode_in, is_directory_in, is_hashed_in, head_of, has_hash_flag, Fits};
-ghost use Rattle.gfs2_layout.specs.Structures.{is_directory};
+ghost use Rattle.gfs2_layout.specs.Structures.{is_directory, dinode_length};
 ghost use Rattle.gfs2_layout.specs.Records.{Record};
 ghost use Rattle.image_model.specs.Claims.{every, HasInode, HasDirectory, Claims};
 ghost use Rattle.image_model.specs.Image.{Image};
 ghost use Rattle.image_model.specs.Owners.{Owner, is_dinode};
 ghost use Rattle.image_model.specs.Rules.{HasRecordIn, IsHashedAt};
 ghost use Rattle.image_mount.specs.Found.{HasFormat};
+ghost use Rattle.image_mount.specs.Looks.{IsSized, IsTrueEntry};
 ghost use Rattle.image_mount.specs.Refusals.{RefusesRightly};
 ghost use Rattle.image_mount.specs.Searching.{IsRead, IsSteady, StopsRightly, LacksBlock};
 ghost use Rattle.image_mount.specs.Listing.{HasKeptDinode, IsEntryOf, is_hashed_by};
@@ -36,7 +37,8 @@ impl Inode {
         ensures found { (im : Image) → IsRead im table.now → IfOk result (λ inode. inode.dinode ≡ dinode_in (every im block)) }
         ensures kept { IfOk result (HasKeptDinode table.now) }
         ensures fits { (im : Image) → IsRead im table.now → OnOk result (Fits (every im block)) }
-        ensures stops { (im : Image) (o : Owner) → IsRead im table.now → Claims im from block o → is_dinode o ≡ true → HasFormat im → IfErr result (StopsRightly im) }
+        ensures inside { (im : Image) → IsRead im table.now → OnOk result (block < im.count) }
+        ensures stops { (im : Image) (o : Owner) → IsRead im table.now → Claims im from block o → is_dinode o ≡ true → HasFormat im → from < im.count → IfErr result (StopsRightly im) }
         ensures lacks { IfErr result (LacksBlock table.now) }
     {
         match read_dinode(table, block)? {
@@ -59,7 +61,8 @@ impl Inode {
     /// That a record in block `from` repeats the kind and the formal number of this inode, to which it leads.
     pub fn check_record(&self, entry: &Entry) -> Result<(), MountFault>
         requires { entry.now.addr ≡ self.now.block }
-        ensures refused { (im : Image) (a : ℕ) (r : Record) → self.now.dinode ≡ dinode_in (every im self.now.block) → HasFormat im → HasRecordIn im a self.now.from r → IsEntryOf entry.now r → IfErr result (RefusesRightly im) }
+        ensures refused { (im : Image) (a : ℕ) (r : Record) → self.now.dinode ≡ dinode_in (every im self.now.block) → HasFormat im → self.now.from < im.count → HasRecordIn im a self.now.from r → IsEntryOf entry.now r → IfErr result (RefusesRightly im) }
+        ensures repeats { (im : Image) → self.now.dinode ≡ dinode_in (every im self.now.block) → OnOk result (IsTrueEntry im entry.now) }
         ensures steady { IfErr result IsSteady }
     {
         if entry.kind != self.kind() {
@@ -82,7 +85,8 @@ impl Inode {
     pub fn check_linear(&self, size: u32) -> Result<(), MountFault>
         requires size { 512 ≤ size }
         requires linear { is_hashed_by self.now.dinode ≡ false }
-        ensures refused { (im : Image) → self.now.dinode ≡ dinode_in (every im self.now.block) → size ≡ im.size → HasFormat im → HasDirectory im self.now.block → IfErr result (RefusesRightly im) }
+        ensures refused { (im : Image) → self.now.dinode ≡ dinode_in (every im self.now.block) → size ≡ im.size → HasFormat im → self.now.block < im.count → HasDirectory im self.now.block → IfErr result (RefusesRightly im) }
+        ensures linear { OnOk result ((self.now.dinode.height ≡ 0) × (dinode_length + self.now.dinode.size ≡ size)) }
         ensures steady { IfErr result IsSteady }
     {
         if self.dinode.height != 0 {
@@ -101,7 +105,9 @@ impl Inode {
         ensures deep { IfOk result (λ depth. depth ≤ 15) }
         ensures depth { IfOk result (λ depth. depth ≡ self.now.dinode.depth) }
         ensures bytes { IfOk result (λ depth. self.now.dinode.size ≡ 8 * 2 ^ depth) }
-        ensures refused { (im : Image) → self.now.dinode ≡ dinode_in (every im self.now.block) → size ≡ im.size → HasFormat im → IsHashedAt im self.now.block → IfErr result (RefusesRightly im) }
+        ensures least { IfOk result (λ depth. size / 16 ≤ 2 ^ depth) }
+        ensures greatest { IfOk result (λ depth. 2 ^ depth ≤ 8 * size) }
+        ensures refused { (im : Image) → self.now.dinode ≡ dinode_in (every im self.now.block) → size ≡ im.size → HasFormat im → self.now.block < im.count → IsHashedAt im self.now.block → IfErr result (RefusesRightly im) }
         ensures steady { IfErr result IsSteady }
     {
         let depth = self.dinode.depth;
@@ -125,7 +131,8 @@ impl Inode {
     pub fn check_directory(&self, size: u32) -> Result<(), MountFault>
         requires size { 512 ≤ size }
         requires most { size ≤ 4096 }
-        ensures refused { (im : Image) → self.now.dinode ≡ dinode_in (every im self.now.block) → size ≡ im.size → HasFormat im → HasDirectory im self.now.block → IfErr result (RefusesRightly im) }
+        ensures refused { (im : Image) → self.now.dinode ≡ dinode_in (every im self.now.block) → size ≡ im.size → HasFormat im → self.now.block < im.count → HasDirectory im self.now.block → IfErr result (RefusesRightly im) }
+        ensures sized { (im : Image) → self.now.dinode ≡ dinode_in (every im self.now.block) → size ≡ im.size → OnOk result (IsSized im self.now.block) }
         ensures steady { IfErr result IsSteady }
     {
         if self.is_hashed() {

@@ -10,6 +10,7 @@ ghost use Rattle.image_model.specs.Claims.{every};
 ghost use Rattle.image_model.specs.Image.{Image, image_of};
 ghost use Rattle.image_model.specs.Stands.{Layout, IsJournalAt};
 ghost use Rattle.image_mount.specs.Found.{HasNames};
+ghost use Rattle.image_mount.specs.Looks.{IsTrueEntry};
 ghost use Rattle.image_mount.specs.Refusals.{HasRisen, IsReached, RefusesRightly};
 ghost use Rattle.image_mount.specs.Rings.{IsSearched, IsJournalIn, IsNext, HasPlaces, IsPlaceAt, AreBlocksOf, IsRingOf, AreRings, AreJournals, IsHeadOf, ring_at};
 ghost use Rattle.image_mount.specs.Searching.{IsRead, IsSteady, IsWorking, LacksBlock, StopsRightly};
@@ -45,6 +46,7 @@ pub(crate) struct Ring {
 // How many places a journal has, which is a file of whole blocks.
 fn place_count(table: &KeptBlocks, jindex: u64, journal: &Entry) -> Result<u64, Stop>
     ensures found { (im : Image) → IsRead im table.now → IfOk result (HasPlaces im journal.now.addr) }
+    ensures repeats { (im : Image) → IsRead im table.now → OnOk result (IsTrueEntry im journal.now) }
     ensures stops { (im : Image) → IsRead im table.now → IsJournalIn im jindex journal.now → IfErr result (StopsRightly im) }
     ensures lacks { IfErr result (LacksBlock table.now) }
 {
@@ -74,6 +76,7 @@ fn count_places<D: SharedDisk>(
     requires work { IsWorking (D.state disk.old) table.old }
     ensures work { OnOk result (IsWorking (D.state disk.new) table.new) }
     ensures found { IfOk result (λ places. IsTrue (D.state disk.old).tells → HasPlaces (image_of (D.state disk.old)) journal.now.addr places) }
+    ensures repeats { OnOk result (IsTrue (D.state disk.old).tells → IsTrueEntry (image_of (D.state disk.old)) journal.now) }
     ensures searched { OnOk result ((done : List ℕ) (d n : ℕ) → IsTrue (D.state disk.old).tells → IsJournalIn (image_of (D.state disk.old)) jindex journal.now → IsSearched (image_of (D.state disk.old)) done d n table.old
         → IsSearched (image_of (D.state disk.old)) done d n table.new) }
     ensures refused { (done : List ℕ) (d n : ℕ) → IsTrue (D.state disk.old).tells → IsJournalIn (image_of (D.state disk.old)) jindex journal.now → IsSearched (image_of (D.state disk.old)) done d n table.old
@@ -204,6 +207,7 @@ fn find_ring<D: SharedDisk>(
     requires work { IsWorking (D.state disk.old) table.old }
     ensures work { OnOk result (IsWorking (D.state disk.new) table.new) }
     ensures dinode { IfOk result (λ ring. ring.dinode ≡ journal.now.addr) }
+    ensures repeats { OnOk result (IsTrue (D.state disk.old).tells → IsTrueEntry (image_of (D.state disk.old)) journal.now) }
     ensures found { IfOk result (λ ring. (done : List ℕ) → IsTrue (D.state disk.old).tells → IsNext (image_of (D.state disk.old)) done system.now journal.now → IsSearched (image_of (D.state disk.old)) done 0 0 table.old
         → IsRingOf (image_of (D.state disk.old)) journal.now.addr ring.blocks.items) }
     ensures searched { OnOk result ((done : List ℕ) → IsTrue (D.state disk.old).tells → IsNext (image_of (D.state disk.old)) done system.now journal.now → IsSearched (image_of (D.state disk.old)) done 0 0 table.old

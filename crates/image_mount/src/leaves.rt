@@ -24,7 +24,7 @@ use crate::leaf::{LeafAt, LeafWalk};
 use crate::listing::{Named, check_names, check_twice, find, first_other, read_area};
 use crate::stop::{Stop, damaged, outside, reads};
 use crc_words::crc32;
-use dinode_tree::{has_header, place};
+use dinode_tree::{has_header, locate};
 use gfs2_layout::Leaf;
 use glock_names::{Step, View};
 use image_reader::{Claim, HashTable, Owners};
@@ -54,6 +54,7 @@ pub(crate) fn read_pointers(
 fn entry_block(table: &KeptBlocks, inode: &Inode, pointers: &HashTable, i: u64) -> Result<u64, Stop>
     requires { i < 2 ^ pointers.now.depth }
     ensures found { (im : Image) → IsRead im table.now → IsTableOf im inode.now pointers.now → IfOk result (λ block. block ≡ block_of_entry (every im inode.now.block) i) }
+    ensures inside { (im : Image) → IsRead im table.now → IsTableOf im inode.now pointers.now → IfOk result (λ block. block < im.count) }
     ensures stops { (im : Image) → IsRead im table.now → IsTableOf im inode.now pointers.now → IfErr result (StopsRightly im) }
     ensures lacks { IfErr result (LacksBlock table.now) }
 {
@@ -63,8 +64,12 @@ fn entry_block(table: &KeptBlocks, inode: &Inode, pointers: &HashTable, i: u64) 
     // The dinode is kept, and what is missing is a block below it.
     table.get(inode.block, inode.from)?;
     let unit = u64::from(table.block_size()) - 24;
-    match place(table, inode.block, 8 * i / unit)? {
-        Step::Is(Some(block)) => Ok(block),
+    match locate(table, inode.block, 8 * i / unit)? {
+        Step::Is(Some(located)) => {
+            // It is kept too, since the table was read.
+            table.get(located.block, located.from)?;
+            Ok(located.block)
+        }
         Step::Is(None) => Ok(inode.block),
         Step::NeedBlock(missing) => Err(reads(&missing)),
     }
@@ -74,8 +79,9 @@ fn entry_block(table: &KeptBlocks, inode: &Inode, pointers: &HashTable, i: u64) 
 fn read_head(table: &KeptBlocks, by: u64, number: u64, depth: u16) -> Result<Leaf, Stop>
     ensures found { (im : Image) → IsRead im table.now → IfOk result (λ leaf. leaf ≡ leaf_of (im.at number)) }
     ensures low { IfOk result (λ leaf. leaf.depth ≤ depth) }
+    ensures inside { (im : Image) → IsRead im table.now → OnOk result (number < im.count) }
     ensures kept { OnOk result ((seen_of table.now).block_at number ≢ None) }
-    ensures stops { (im : Image) (a hash place : ℕ) → IsRead im table.now → HasFormat im → depth ≡ depth_in (every im a) → Claims im by number (Chained a hash place) → IfErr result (StopsRightly im) }
+    ensures stops { (im : Image) (a hash place : ℕ) → IsRead im table.now → HasFormat im → by < im.count → depth ≡ depth_in (every im a) → Claims im by number (Chained a hash place) → IfErr result (StopsRightly im) }
     ensures lacks { IfErr result (LacksBlock table.now) }
 {
     let bytes = table.get(number, by)?;
@@ -234,7 +240,7 @@ fn add_records(
     requires { All (λ n. is_other (said n) ≡ false) records.now }
     ensures added { OnOk result (map standing found.new.items ≡ map standing found.old.items ++ map standing records.now) }
     ensures distinct { AreDistinct (map said found.old.items) → OnOk result (AreDistinct (map said found.new.items)) }
-    ensures refused { (im : Image) (a : ℕ) → HasFormat im → All (λ n. HasRecordIn im a n.block (said n) × (n.block ≢ block)) found.old.items → All (λ n. HasRecordIn im a block (said n)) records.now
+    ensures refused { (im : Image) (a : ℕ) → HasFormat im → block < im.count → All (λ n. HasRecordIn im a n.block (said n) × (n.block ≢ block)) found.old.items → All (λ n. HasRecordIn im a block (said n)) records.now
         → AreDistinct (map said records.now) → IfErr result (RefusesRightly im) }
     ensures steady { IfErr result IsSteady }
 {

@@ -1,4 +1,4 @@
-ghost use Rattle.std.specs.Prelude.{ℕ, ◌≡◌, ◌≢◌, ◌≤◌, ◌++◌, false, [], ◌∷◌, List, not, length, map, Contains, slice_get, Some, IfOk, OnOk, IfErr, IfSome, IfNone};
+ghost use Rattle.std.specs.Prelude.{ℕ, ◌≡◌, ◌≢◌, ◌<◌, ◌≤◌, ◌++◌, false, [], ◌∷◌, List, not, length, map, Contains, slice_get, Some, IfOk, OnOk, IfErr, IfSome, IfNone};
 ghost use Rattle.std.specs.List.{All};
 ghost use Rattle.std.specs.Option.{option_map};
 ghost use Rattle.gfs2_layout.specs.Records.{Record as RecordValue};
@@ -11,6 +11,7 @@ ghost use Rattle.image_model.specs.Image.{Image};
 ghost use Rattle.image_model.specs.Rules.{Breaks, HasRecordIn};
 ghost use Rattle.image_model.specs.Stands.{directory_count};
 ghost use Rattle.image_mount.specs.Found.{HasFormat, name_count, first_other as first_beside};
+ghost use Rattle.image_mount.specs.Looks.{IsSized};
 ghost use Rattle.image_mount.specs.Refusals.{RefusesRightly};
 ghost use Rattle.image_mount.specs.Searching.{IsRead, IsSteady, StopsRightly, LacksBlock};
 ghost use Rattle.image_mount.specs.Listing.{said, said_by, said_in, link_of, AreCountedIn, AreRecordsOf, AreDistinct, IsDirectoryIn};
@@ -80,7 +81,7 @@ impl<'a> Named<'a> {
     }
 
     fn check_name(&self, block: u64) -> Result<(), MountFault>
-        ensures refused { (im : Image) (a : ℕ) → HasFormat im → HasRecordIn im a block (said self.now) → IfErr result (RefusesRightly im) }
+        ensures refused { (im : Image) (a : ℕ) → HasFormat im → block < im.count → HasRecordIn im a block (said self.now) → IfErr result (RefusesRightly im) }
         ensures steady { IfErr result IsSteady }
     {
         if is_dots(self.name) || is_name(self.name) {
@@ -94,7 +95,7 @@ impl<'a> Named<'a> {
 fn add<'a>(records: &mut Vec<Named<'a>>, record: &Record<'a>, block: u64) -> Result<(), MountFault>
     ensures here { All (λ n. n.block ≡ block) records.old.items → OnOk result (All (λ n. n.block ≡ block) records.new.items) }
     ensures added { (s : Slot) → IsShown record.now.head record.now.name.now s → OnOk result (map said records.new.items ≡ map said records.old.items ++ said_in (s ∷ [])) }
-    ensures refused { (im : Image) (a : ℕ) (area : List ℕ) (s : Slot) → IsShown record.now.head record.now.name.now s → HasFormat im → HasArea im a block area → Contains (slots_of area) s → IfErr result (RefusesRightly im) }
+    ensures refused { (im : Image) (a : ℕ) (area : List ℕ) (s : Slot) → IsShown record.now.head record.now.name.now s → HasFormat im → block < im.count → HasArea im a block area → Contains (slots_of area) s → IfErr result (RefusesRightly im) }
     ensures steady { IfErr result IsSteady }
 {
     if !record.head.is_in_use() {
@@ -115,7 +116,7 @@ pub(crate) fn read_area<'a>(
 ) -> Result<Vec<Named<'a>>, MountFault>
     ensures here { IfOk result (λ records. All (λ n. n.block ≡ block) records.items) }
     ensures found { IfOk result (λ records. map said records.items ≡ records_in area.now) }
-    ensures refused { (im : Image) (a : ℕ) → HasFormat im → HasArea im a block area.now → IfErr result (RefusesRightly im) }
+    ensures refused { (im : Image) (a : ℕ) → HasFormat im → block < im.count → HasArea im a block area.now → IfErr result (RefusesRightly im) }
     ensures steady { IfErr result IsSteady }
 {
     if !is_area(area) {
@@ -132,7 +133,7 @@ pub(crate) fn read_area<'a>(
 
 /// That each record has a name, or is `.` or `..`.
 pub(crate) fn check_names(records: &[Named<'_>], block: u64) -> Result<(), MountFault>
-    ensures refused { (im : Image) (a : ℕ) → HasFormat im → All (λ n. HasRecordIn im a block (said n)) records.now → IfErr result (RefusesRightly im) }
+    ensures refused { (im : Image) (a : ℕ) → HasFormat im → block < im.count → All (λ n. HasRecordIn im a block (said n)) records.now → IfErr result (RefusesRightly im) }
     ensures steady { IfErr result IsSteady }
 {
     for record in records {
@@ -171,7 +172,7 @@ pub(crate) fn first_other(records: &[Named<'_>]) -> Option<u64>
 /// That no name comes twice.
 pub(crate) fn check_twice(records: &[Named<'_>], block: u64) -> Result<(), MountFault>
     ensures distinct { OnOk result (AreDistinct (map said records.now)) }
-    ensures refused { (im : Image) (a : ℕ) (area : List ℕ) → HasFormat im → HasArea im a block area → map said records.now ≡ records_in area → IfErr result (RefusesRightly im) }
+    ensures refused { (im : Image) (a : ℕ) (area : List ℕ) → HasFormat im → block < im.count → HasArea im a block area → map said records.now ≡ records_in area → IfErr result (RefusesRightly im) }
     ensures steady { IfErr result IsSteady }
 {
     for i in 0..records.len() {
@@ -190,7 +191,7 @@ pub(crate) fn check_dot(
     name: &[u8],
     leads: u64,
 ) -> Result<(), MountFault>
-    ensures refused { (im : Image) → HasFormat im → (((i : ℕ) (n : Named) → slice_get records.now i ≡ Some n → n.name.now ≢ name.now) → Breaks im 10 block)
+    ensures refused { (im : Image) → HasFormat im → block < im.count → (((i : ℕ) (n : Named) → slice_get records.now i ≡ Some n → n.name.now ≢ name.now) → Breaks im 10 block)
         → ((i : ℕ) (n : Named) → slice_get records.now i ≡ Some n → n.name.now ≡ name.now → n.entry.addr ≢ leads → Breaks im 10 block)
         → IfErr result (RefusesRightly im) }
     ensures steady { IfErr result IsSteady }
@@ -229,7 +230,7 @@ fn count_directories(records: &[Named<'_>]) -> u64
 
 /// That a directory's links and entries are the count of its records.
 pub(crate) fn check_counts(inode: &Inode, records: &[Named<'_>]) -> Result<(), MountFault>
-    ensures refused { (im : Image) → HasFormat im → inode.now.dinode ≡ dinode_in (every im inode.now.block) → AreCountedIn im inode.now.block (map said records.now) → IfErr result (RefusesRightly im) }
+    ensures refused { (im : Image) → HasFormat im → inode.now.block < im.count → inode.now.dinode ≡ dinode_in (every im inode.now.block) → AreCountedIn im inode.now.block (map said records.now) → IfErr result (RefusesRightly im) }
     ensures steady { IfErr result IsSteady }
 {
     if u64::from(inode.dinode.entries) != records.len() as u64 {
@@ -266,6 +267,7 @@ pub(crate) fn list_records<'a>(
     ensures here { IfOk result (λ records. All (λ n. n.block ≡ inode.now.block) records.items) }
     ensures found { (im : Image) → IsRead im table.now → IsDirectoryIn im inode.now parent → IfOk result (λ records. AreRecordsOf im inode.now.block (map said records.items)) }
     ensures distinct { IfOk result (λ records. AreDistinct (map said records.items)) }
+    ensures sized { (im : Image) → IsRead im table.now → IsDirectoryIn im inode.now parent → OnOk result (IsSized im inode.now.block) }
     ensures stops { (im : Image) → IsRead im table.now → IsDirectoryIn im inode.now parent → IfErr result (StopsRightly im) }
     ensures lacks { IfErr result (LacksBlock table.now) }
 {

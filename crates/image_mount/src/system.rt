@@ -9,6 +9,7 @@ ghost use Rattle.image_model.specs.Stands.{Layout};
 ghost use Rattle.image_mount.specs.Found.{HasFormat, HasGroups};
 ghost use Rattle.image_mount.specs.Leaves.{IsMasterIn};
 ghost use Rattle.image_mount.specs.Listing.{said, AreAllRecords};
+ghost use Rattle.image_mount.specs.Looks.{IsSized, IsTrueEntry};
 ghost use Rattle.image_mount.specs.Refusals.{RefusesRightly};
 ghost use Rattle.image_mount.specs.declared.fault.MountFault.TheVariants as fault_of;
 ghost use Rattle.image_mount.specs.Searching.{IsRead, IsSteady, StopsRightly, LacksBlock};
@@ -47,7 +48,7 @@ struct SystemFiles {
 // The files that these records of the master directory name.
 fn files_among(records: &[Named<'_>], master: u64) -> Result<SystemFiles, MountFault>
     ensures found { (im : Image) → ArePlainRecords im master records.now → master ≡ master_of im → IfOk result (AreFilesOf im) }
-    ensures refused { (im : Image) → HasFormat im → AreAllRecords im master records.now → master ≡ master_of im → IfErr result (RefusesRightly im) }
+    ensures refused { (im : Image) → HasFormat im → master < im.count → AreAllRecords im master records.now → master ≡ master_of im → IfErr result (RefusesRightly im) }
     ensures steady { IfErr result IsSteady }
 {
     let Some(rindex) = find(records, b"rindex") else {
@@ -71,6 +72,7 @@ fn system_files(
     names: &[Named<'_>],
 ) -> Result<SystemFiles, Stop>
     ensures found { (im : Image) → IsRead im table.now → IsMasterIn im inode.now → (is_hashed_in (every im inode.now.block) ≡ true → ArePlainRecords im inode.now.block names.now) → IfOk result (AreFilesOf im) }
+    ensures sized { (im : Image) → IsRead im table.now → IsMasterIn im inode.now → is_hashed_in (every im inode.now.block) ≡ false → OnOk result (IsSized im inode.now.block) }
     ensures stops { (im : Image) → IsRead im table.now → IsMasterIn im inode.now → (is_hashed_in (every im inode.now.block) ≡ true → ArePlainRecords im inode.now.block names.now) → IfErr result (StopsRightly im) }
     ensures lacks { IfErr result (LacksBlock table.now) }
 {
@@ -169,9 +171,10 @@ fn list_journals(
     master: u64,
     jindex: &Link,
 ) -> Result<Vec<Entry>, Stop>
-    ensures found { (im : Image) (l : Layout) → IsRead im table.now → HasGroups im l → l.jindex ≡ jindex.now.entry.addr → master ≡ master_of im → IsLinkOf im (codes "jindex") jindex.now
+    ensures found { (im : Image) (l : Layout) → IsRead im table.now → HasGroups im l → l.jindex ≡ jindex.now.entry.addr → master ≡ master_of im → master < im.count → IsLinkOf im (codes "jindex") jindex.now
         → IfOk result (λ journals. AreJournalsOf im jindex.now.entry.addr journals.items) }
-    ensures stops { (im : Image) (l : Layout) → IsRead im table.now → HasGroups im l → l.jindex ≡ jindex.now.entry.addr → master ≡ master_of im → IsLinkOf im (codes "jindex") jindex.now
+    ensures repeats { (im : Image) → IsRead im table.now → OnOk result (IsTrueEntry im jindex.now.entry) }
+    ensures stops { (im : Image) (l : Layout) → IsRead im table.now → HasGroups im l → l.jindex ≡ jindex.now.entry.addr → master ≡ master_of im → master < im.count → IsLinkOf im (codes "jindex") jindex.now
         → IfErr result (StopsRightly im) }
     ensures lacks { IfErr result (LacksBlock table.now) }
 {

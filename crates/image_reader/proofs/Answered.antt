@@ -11,7 +11,7 @@ use Rattle.image_model.proofs.Nothing.{nothing_breaks}
 
 -- no fault is true of an image that stands, but for want of memory
 no_fault : (im : Image) (t : Tree) (fault : ImageFault) → Stands im t → IsTrueOf im fault → fault ≡ NoMemory
-no_fault im t (Damaged block rule) stands true_of = absurd (nothing_breaks im t stands rule block true_of)
+no_fault im t (Damaged block rule) stands true_of = absurd (nothing_breaks im t stands rule block true_of.breaks)
 no_fault im t NoMemory stands true_of = refl
 
 -- the right tree, and faults that are true

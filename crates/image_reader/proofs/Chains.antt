@@ -27,7 +27,7 @@ use Rattle.image_reader.specs.declared.inode.Inode.{Inode}
 use Rattle.image_reader.specs.declared.owners.Claim.{Claim}
 use Rattle.image_reader.specs.declared.walk.Walk.{Walk}
 use Rattle.std.proofs.lemmas.Bool.{cases_lt}
-use Rattle.image_reader.proofs.InodeFaults.{told}
+use Rattle.image_reader.proofs.InodeFaults.{told_at}
 use Rattle.image_reader.proofs.Leaves.{claim_kept, all_claimed}
 
 -- ---- along a chain
@@ -59,9 +59,9 @@ leaf_there image inode by x y hash place own at claimed =
     (by, hash, place, subst (λ (i : Blocks). Claims (image_at i) by y (Chained inode.block.number hash place)) (sym own) (claim_at (image_at image) by x y (Chained inode.block.number hash place) at claimed))
 
 pub depth_differs : (image : Blocks) (inode : Inode) (x y hash place : ℕ) (leaf next : Leaf) (entries : List (Option Claim)) (fault : ImageFault) → inode.block.image ≡ image → leaf ≡ leaf_in (held inode) x
-    → next ≡ leaf_in (held inode) y → y ≡ leaf.next → AreClaims (image_at image) entries → HasClaim entries x (Chained inode.block.number hash place) → leaf.next ≢ 0
+    → next ≡ leaf_in (held inode) y → y ≡ leaf.next → y < image.count → AreClaims (image_at image) entries → HasClaim entries x (Chained inode.block.number hash place) → leaf.next ≢ 0
     → fault ≡ Damaged leaf.next 14 → next.depth ≢ leaf.depth → IsTrueOf (image_at image) fault
-depth_differs image inode x y hash place leaf next entries fault own read next_read at claims has more is other =
+depth_differs image inode x y hash place leaf next entries fault own read next_read at inside claims has more is other =
     let im = image_at image in
     let a = inode.block.number in
     let h = every im a in
@@ -69,7 +69,7 @@ depth_differs image inode x y hash place leaf next entries fault own read next_r
     let leaf_is = leaf_same image inode x leaf own read in
     let goes : leaf.next ≡ (leaf_in h x).next = ap (λ (l : Leaf). l.next) leaf_is in
     let next_is : next ≡ leaf_in h (leaf_in h x).next = leaf_same image inode y next own next_read ∙ ap (leaf_in h) (at ∙ goes) in
-    told im fault (leaf_in h x).next 14 (is ∙ ap (λ n. Damaged n 14) goes)
+    told_at image fault (leaf_in h x).next 14 (is ∙ ap (λ n. Damaged n 14) goes) (subst (λ n. n < image.count) (at ∙ goes) inside)
     (chain_depth a x (from.0, hash, place, from.1) (λ e. more (goes ∙ e)) (λ e. other (ap (λ (l : Leaf). l.depth) next_is ∙ e ∙ sym (ap (λ (l : Leaf). l.depth) leaf_is))))
 
 pub next_is : (inode : Inode) (x y : ℕ) (leaf : Leaf) → leaf ≡ leaf_in (held inode) x → y ≡ leaf.next → (leaf_in (held inode) x).next ≡ y
@@ -99,11 +99,11 @@ in_table inode table i of below = subst (λ d. i < 2 ^ d) of.depth below
 
 pub no_leaf_there : (image : Blocks) (inode : Inode) (table : HashTable) (i by number : ℕ) (fault : ImageFault) → inode.block.image ≡ image → IsHashedAt (image_at image) inode.block.number
     → IsTableOf inode table → i < 2 ^ table.depth → by ≡ entry_block (held inode) i → number ≡ u64_at (8 * i) table.bytes.items → number ≡ 0 → fault ≡ Damaged by 14
-    → IsTrueOf (image_at image) fault
-no_leaf_there image inode table i by number fault own hashed of below by_is number_is none is =
+    → by < inode.block.image.count → IsTrueOf (image_at image) fault
+no_leaf_there image inode table i by number fault own hashed of below by_is number_is none is inside =
     let P : Blocks → Type 0 = λ im. IsHashedAt (image_at im) inode.block.number → IsTrueOf (image_at im) fault in
     let here : P inode.block.image = λ has.
-    told (image_at inode.block.image) fault (entry_block (held inode) i) 14 (is ∙ ap (λ n. Damaged n 14) by_is)
+    told_at inode.block.image fault (entry_block (held inode) i) 14 (is ∙ ap (λ n. Damaged n 14) by_is) (subst (λ n. n < inode.block.image.count) by_is inside)
     (no_leaf inode.block.number i has (in_table inode table i of below) (sym (entry_is inode table i of) ∙ sym number_is ∙ none)) in
     subst P own here hashed
 
@@ -139,8 +139,8 @@ same_bits i j run some low high =
 
 pub missing : (image : Blocks) (inode : Inode) (table : HashTable) (i j number run : ℕ) (leaf : Leaf) (fault : ImageFault) → inode.block.image ≡ image → IsHashedAt (image_at image) inode.block.number
     → IsTableOf inode table → i < 2 ^ table.depth → j < 2 ^ table.depth → number ≡ u64_at (8 * i) table.bytes.items → leaf ≡ leaf_in (held inode) number → run ≡ 2 ^ (table.depth - leaf.depth)
-    → j / run ≡ i / run → u64_at (8 * j) table.bytes.items ≢ number → fault ≡ Damaged number 14 → IsTrueOf (image_at image) fault
-missing image inode table i j number run leaf fault own hashed of below j_below number_is leaf_is run_is bits other is =
+    → j / run ≡ i / run → u64_at (8 * j) table.bytes.items ≢ number → fault ≡ Damaged number 14 → number < inode.block.image.count → IsTrueOf (image_at image) fault
+missing image inode table i j number run leaf fault own hashed of below j_below number_is leaf_is run_is bits other is inside =
     let h = held inode in
     let at : number ≡ entry h i = number_is ∙ entry_is inode table i of in
     let depth : leaf.depth ≡ (leaf_in h (entry h i)).depth = ap (λ (l : Leaf). l.depth) (leaf_is ∙ ap (leaf_in h) at) in
@@ -148,7 +148,7 @@ missing image inode table i j number run leaf fault own hashed of below j_below 
     let same : index_bits h (leaf_in h (entry h i)).depth j ≡ index_bits h (leaf_in h (entry h i)).depth i = subst (λ r. j / r ≡ i / r) run_here bits in
     let P : Blocks → Type 0 = λ im. IsHashedAt (image_at im) inode.block.number → IsTrueOf (image_at im) fault in
     let here : P inode.block.image = λ has.
-    told (image_at inode.block.image) fault (entry h i) 14 (is ∙ ap (λ n. Damaged n 14) at)
+    told_at inode.block.image fault (entry h i) 14 (is ∙ ap (λ n. Damaged n 14) at) (subst (λ n. n < inode.block.image.count) at inside)
     (pointer_missing inode.block.number i j has (in_table inode table i of below) (in_table inode table j of j_below) same (λ e. other (entry_is inode table j of ∙ e ∙ sym at))) in
     subst P own here hashed
 

@@ -17,7 +17,8 @@ use Rattle.image_reader.specs.declared.blocks.Blocks.{Blocks}
 use Rattle.image_reader.specs.declared.inode.Inode.{Inode}
 use Rattle.image_reader.specs.declared.image.ImageFault.{ImageFault}
 use Rattle.image_reader.specs.declared.image.ImageFault.TheVariants.{Damaged}
-use Rattle.image_reader.proofs.InodeFaults.{told}
+use Rattle.image_reader.proofs.InodeFaults.{told_at}
+use Rattle.image_reader.proofs.Inside.{pointer_inside}
 use Rattle.image_reader.proofs.Spans.{span_some}
 
 -- ---- numbers that are cut off
@@ -142,4 +143,4 @@ leads_out im a b level c here leads out =
 pub led_out : (inode : Inode) (fault : ImageFault) (b level c : ℕ) → fault ≡ Damaged b 2 → IsDinodeBlock inode.block
     → ((k first : ℕ) × Leads (held inode) b k level first c) → inode.block.image.count ≤ c → IsTrueOf (image_at inode.block.image) fault
 led_out inode fault b level c is here leads out =
-    told _ fault b 2 is (leads_out (image_at inode.block.image) inode.block.number b level c here leads (omega (arith, out, inode.block.image.counted)))
+    told_at inode.block.image fault b 2 is (pointer_inside inode b leads.0 level leads.1 c leads.2) (leads_out (image_at inode.block.image) inode.block.number b level c here leads (omega (arith, out, inode.block.image.counted)))

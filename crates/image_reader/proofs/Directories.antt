@@ -25,7 +25,7 @@ use Rattle.image_reader.specs.declared.image.ImageFault.TheVariants.{Damaged}
 use Rattle.image_reader.specs.declared.inode.Inode.{Inode}
 use Rattle.image_reader.specs.declared.owners.Claim.{Claim}
 use Rattle.image_reader.proofs.Chains.{claim_of}
-use Rattle.image_reader.proofs.InodeFaults.{told, said}
+use Rattle.image_reader.proofs.InodeFaults.{told_of, said}
 use Rattle.image_reader.proofs.Leaves.{tally_first}
 use Rattle.image_model.proofs.Members.{contained, is_in, in_flat_map}
 use Rattle.image_reader.proofs.Pieces.{dinode_is}
@@ -57,13 +57,13 @@ linear_area_there image inode bytes own dir plain is =
 
 pub wrong_height : (inode : Inode) (fault : ImageFault) → fault ≡ Damaged inode.block.number 8 → HasDirectory (image_at inode.block.image) inode.block.number → is_hashed_in (held inode) ≡ false
     → inode.dinode.height ≢ 0 → IsTrueOf (image_at inode.block.image) fault
-wrong_height inode fault is dir plain high = told _ fault _ _ is (linear_height inode.block.number dir plain (said inode (λ d. d.height ≢ 0) high))
+wrong_height inode fault is dir plain high = told_of inode.block fault _ is (linear_height inode.block.number dir plain (said inode (λ d. d.height ≢ 0) high))
 
 pub wrong_size : (inode : Inode) (fault : ImageFault) (room : ℕ) → fault ≡ Damaged inode.block.number 8 → HasDirectory (image_at inode.block.image) inode.block.number → is_hashed_in (held inode) ≡ false
     → room ≡ inode.block.image.size - 232 → inode.dinode.size ≢ room → IsTrueOf (image_at inode.block.image) fault
 wrong_size inode fault room is dir plain room_is other =
     let wrong : 232 + inode.dinode.size ≢ inode.block.image.size = λ e. other (omega (arith, e, room_is)) in
-    told _ fault _ _ is (linear_size inode.block.number dir plain (said inode (λ d. 232 + d.size ≢ inode.block.image.size) wrong))
+    told_of inode.block fault _ is (linear_size inode.block.number dir plain (said inode (λ d. 232 + d.size ≢ inode.block.image.size) wrong))
 
 -- ---- leaves are those of a hashed directory
 
@@ -154,23 +154,23 @@ record_listed im a _ _ area _ r (from_leaves leaves dir hashed are) (of_leaf x l
 module _ (inode : Inode) (tally : Tally) (fault : ImageFault) (dir : HasDirectory (image_at inode.block.image) inode.block.number)
     (whole : IsWholeTally (image_at inode.block.image) inode.block.number tally) where
   pub dot_missing : fault ≡ Damaged inode.block.number 10 → tally.dot ≡ false → IsTrueOf (image_at inode.block.image) fault
-  dot_missing is none = told _ fault _ _ is (no_dot inode.block.number dir (λ x r has named.
+  dot_missing is none = told_of inode.block fault _ is (no_dot inode.block.number dir (λ x r has named.
       whole.counted.dot none r (record_listed (image_at inode.block.image) inode.block.number x whole.records [] has.0 r whole.all has.1 has.2) named))
 
   pub dots_missing : fault ≡ Damaged inode.block.number 10 → tally.dots ≡ false → IsTrueOf (image_at inode.block.image) fault
-  dots_missing is none = told _ fault _ _ is (no_dots inode.block.number dir (λ x r has named.
+  dots_missing is none = told_of inode.block fault _ is (no_dots inode.block.number dir (λ x r has named.
       whole.counted.dots none r (record_listed (image_at inode.block.image) inode.block.number x whole.records [] has.0 r whole.all has.1 has.2) named))
 
   pub links_wrong : (links sum : ℕ) → fault ≡ Damaged inode.block.number 12 → links ≡ inode.dinode.nlink → links < 2 ^ 64 → sum ≡ min (tally.directories + 2) (2 ^ 64 - 1) → links ≢ sum
       → IsTrueOf (image_at inode.block.image) fault
   links_wrong links sum is links_is small sum_is other =
       let wrong : inode.dinode.nlink ≢ 2 + directory_count whole.records = λ e. other (omega (arith, e, links_is, small, sum_is, whole.counted.directories)) in
-      told _ fault _ _ is (directory_links inode.block.number whole.records whole.all (said inode (λ d. d.nlink ≢ 2 + directory_count whole.records) wrong))
+      told_of inode.block fault _ is (directory_links inode.block.number whole.records whole.all (said inode (λ d. d.nlink ≢ 2 + directory_count whole.records) wrong))
 
   pub entries_wrong : (entries : ℕ) → fault ≡ Damaged inode.block.number 12 → entries ≡ inode.dinode.entries → entries < 2 ^ 64 → entries ≢ tally.entries → IsTrueOf (image_at inode.block.image) fault
   entries_wrong entries is entries_is small other =
       let wrong : inode.dinode.entries ≢ length whole.records = λ e. other (omega (arith, e, entries_is, small, whole.counted.entries)) in
-      told _ fault _ _ is (entry_count inode.block.number whole.records whole.all (said inode (λ d. d.entries ≢ length whole.records) wrong))
+      told_of inode.block fault _ is (entry_count inode.block.number whole.records whole.all (said inode (λ d. d.entries ≢ length whole.records) wrong))
 
 pub claims_later : (i j : Blocks) (entries : List (Option Claim)) → i ≡ j → AreClaims (image_at i) entries → AreClaims (image_at j) entries
 claims_later i j entries same are = subst (λ (b : Blocks). AreClaims (image_at b) entries) same are

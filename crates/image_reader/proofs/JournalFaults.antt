@@ -12,7 +12,7 @@ use Rattle.image_model.specs.Rules.{journal_hole, journal_part, headless}
 use Rattle.image_reader.specs.declared.image.ImageFault.{ImageFault}
 use Rattle.image_reader.specs.declared.image.ImageFault.TheVariants.{Damaged}
 use Rattle.image_reader.specs.declared.inode.Inode.{Inode}
-use Rattle.image_reader.proofs.InodeFaults.{told}
+use Rattle.image_reader.proofs.InodeFaults.{told_of}
 use Rattle.image_model.proofs.Lengths.{whole_pieces}
 use Rattle.image_reader.proofs.Pieces.{dinode_is}
 
@@ -40,12 +40,12 @@ is_within inode place low =
 pub part_of_block : (inode : Inode) (fault : ImageFault) → fault ≡ Damaged inode.block.number 8 → (j : ℕ) × HasJournal (image_at inode.block.image) j inode.block.number
     → inode.dinode.size % inode.block.image.size ≢ 0 → IsTrueOf (image_at inode.block.image) fault
 part_of_block inode fault is has other =
-    told _ fault inode.block.number 8 is (journal_part has.0 inode.block.number has.1 (λ e. other (ap (λ n. n % inode.block.image.size) (size_is inode) ∙ e)))
+    told_of inode.block fault _ is (journal_part has.0 inode.block.number has.1 (λ e. other (ap (λ n. n % inode.block.image.size) (size_is inode) ∙ e)))
 
 pub has_hole : (inode : Inode) (fault : ImageFault) (place : ℕ) → fault ≡ Damaged inode.block.number 8 → (j : ℕ) × HasJournal (image_at inode.block.image) j inode.block.number
     → place < inode.dinode.size / inode.block.image.size → content_block (held inode) place ≡ 0 → IsTrueOf (image_at inode.block.image) fault
 has_hole inode fault place is has low hole =
-    told _ fault inode.block.number 8 is (journal_hole has.0 inode.block.number place has.1 (subst (λ n. place < n / inode.block.image.size) (size_is inode) low) hole)
+    told_of inode.block fault _ is (journal_hole has.0 inode.block.number place has.1 (subst (λ n. place < n / inode.block.image.size) (size_is inode) low) hole)
 
 -- ---- a journal without a head
 
@@ -63,5 +63,5 @@ pub no_head : (inode : Inode) (fault : ImageFault) (n : ℕ) → fault ≡ Damag
 unfolding head_in
 no_head inode fault n is has all none =
     let places : (dinode_in (held inode)).size / inode.block.image.size ≤ n = subst (λ k. k / inode.block.image.size ≤ n) (size_is inode) all in
-    told _ fault inode.block.number 16 is (headless has.0 inode.block.number has.1
+    told_of inode.block fault _ is (headless has.0 inode.block.number has.1
     (none_best (ring_of (held inode)) 0 (ring_of (held inode)).places (λ q from below. none q (omega (arith, below, places)))))

@@ -29,7 +29,8 @@ use Rattle.image_reader.specs.declared.image.ImageFault.{ImageFault}
 use Rattle.image_reader.specs.declared.image.ImageFault.TheVariants.{Damaged}
 use Rattle.image_reader.specs.declared.inode.Inode.{Inode}
 use Rattle.image_reader.proofs.Going.{record_in_area}
-use Rattle.image_reader.proofs.InodeFaults.{told, said}
+use Rattle.image_reader.proofs.Inside.{block_inside, record_inside}
+use Rattle.image_reader.proofs.InodeFaults.{told_at, told_of, said}
 use Rattle.image_reader.proofs.Pieces.{dinode_is, pieces_cover}
 
 -- ---- the table
@@ -37,7 +38,7 @@ use Rattle.image_reader.proofs.Pieces.{dinode_is, pieces_cover}
 pub table_large : (inode : Inode) (fault : ImageFault) → fault ≡ Damaged inode.block.number 13 → IsHashedAt (image_at inode.block.image) inode.block.number
     → 8 * inode.block.image.size < 2 ^ inode.dinode.depth → IsTrueOf (image_at inode.block.image) fault
 table_large inode fault is here high =
-    told _ fault _ _ is (table_too_large inode.block.number here (said inode (λ d. 8 * inode.block.image.size < 2 ^ d.depth) high))
+    told_of inode.block fault _ is (table_too_large inode.block.number here (said inode (λ d. 8 * inode.block.image.size < 2 ^ d.depth) high))
 
 pub table_deep : (inode : Inode) (fault : ImageFault) → fault ≡ Damaged inode.block.number 13 → IsHashedAt (image_at inode.block.image) inode.block.number
     → 15 < inode.dinode.depth → IsTrueOf (image_at inode.block.image) fault
@@ -48,12 +49,12 @@ table_deep inode fault is here deep =
 pub table_small : (inode : Inode) (fault : ImageFault) (count : ℕ) → fault ≡ Damaged inode.block.number 13 → IsHashedAt (image_at inode.block.image) inode.block.number
     → count ≡ 2 ^ inode.dinode.depth → count < inode.block.image.size / 16 → IsTrueOf (image_at inode.block.image) fault
 table_small inode fault count is here count_is low =
-    told _ fault _ _ is (table_too_small inode.block.number here (said inode (λ d. 2 ^ d.depth < inode.block.image.size / 16) (subst (λ n. n < inode.block.image.size / 16) count_is low)))
+    told_of inode.block fault _ is (table_too_small inode.block.number here (said inode (λ d. 2 ^ d.depth < inode.block.image.size / 16) (subst (λ n. n < inode.block.image.size / 16) count_is low)))
 
 pub table_misfit : (inode : Inode) (fault : ImageFault) (count : ℕ) → fault ≡ Damaged inode.block.number 13 → IsHashedAt (image_at inode.block.image) inode.block.number
     → count ≡ 2 ^ inode.dinode.depth → inode.dinode.size ≢ 8 * count → IsTrueOf (image_at inode.block.image) fault
 table_misfit inode fault count is here count_is other =
-    told _ fault _ _ is (table_size inode.block.number here (said inode (λ d. d.size ≢ 8 * 2 ^ d.depth) (subst (λ n. inode.dinode.size ≢ 8 * n) count_is other)))
+    told_of inode.block fault _ is (table_size inode.block.number here (said inode (λ d. d.size ≢ 8 * 2 ^ d.depth) (subst (λ n. inode.dinode.size ≢ 8 * n) count_is other)))
 
 pub depth_is : (inode : Inode) → inode.dinode.depth ≡ depth_in (held inode)
 depth_is inode = ap (λ (d : Dinode). d.depth) (dinode_is inode)
@@ -98,7 +99,7 @@ pub leaf_header : (inode : Inode) (block : Block) (fault : ImageFault) → block
     → HasLeaf (image_at inode.block.image) inode.block.number block.number → ¬ (HasHeader 6 600 ((image_at block.image).at block.number)) → IsTrueOf (image_at inode.block.image) fault
 leaf_header inode block fault same is leaf lacks =
     let P : Blocks → Type 0 = λ i. ¬ (HasHeader 6 600 ((image_at i).at block.number)) in
-    told _ fault _ _ is (no_header block.number 6 600 (needs_leaf inode.block.number block.number leaf) (subst P same lacks))
+    told_at inode.block.image fault _ _ is (block_inside block inode.block.image same) (no_header block.number 6 600 (needs_leaf inode.block.number block.number leaf) (subst P same lacks))
 
 pub header_well : (needed kind format : ℕ) (bytes : List ℕ) → needed ≤ length bytes → HasHeader kind format bytes → header_fault needed kind format bytes ≡ None
 header_well needed kind format bytes long header = grind (arith, nat_tests, header.magic_is, header.kind_is, header.format_is)
@@ -124,7 +125,7 @@ leaf_format inode block fault bytes same is leaf bytes_is long header fails =
     let P : Blocks → Type 0 = λ i. u32_at 28 ((image_at i).at block.number) ≢ 1200 in
     let wrong : u32_at 28 ((image_at block.image).at block.number) ≢ 1200 = λ e.
     fails (leaf_of bytes) (leaf_well bytes long (subst (HasHeader 6 600) (sym bytes_is) header) (ap (u32_at 28) bytes_is ∙ e)) in
-    told _ fault _ _ is (records_format inode.block.number block.number leaf (subst P same wrong))
+    told_at inode.block.image fault _ _ is (block_inside block inode.block.image same) (records_format inode.block.number block.number leaf (subst P same wrong))
 
 pub leaf_at : (inode : Inode) (block : Block) (bytes : List ℕ) (leaf : Leaf) → block.image ≡ inode.block.image → bytes ≡ (image_at block.image).at block.number → leaf ≡ leaf_of bytes
     → leaf ≡ leaf_in (held inode) block.number
@@ -132,10 +133,10 @@ leaf_at inode block bytes leaf same bytes_is is =
     is ∙ ap leaf_of bytes_is ∙ ap (λ (i : Blocks). leaf_of ((image_at i).at block.number)) same
 
 pub leaf_deep : (inode : Inode) (fault : ImageFault) (x depth : ℕ) (leaf : Leaf) → fault ≡ Damaged x 14 → HasLeaf (image_at inode.block.image) inode.block.number x
-    → leaf ≡ leaf_in (held inode) x → depth ≡ depth_in (held inode) → depth < leaf.depth → IsTrueOf (image_at inode.block.image) fault
-leaf_deep inode fault x depth leaf is has read depth_same deep =
+    → x < inode.block.image.count → leaf ≡ leaf_in (held inode) x → depth ≡ depth_in (held inode) → depth < leaf.depth → IsTrueOf (image_at inode.block.image) fault
+leaf_deep inode fault x depth leaf is has inside read depth_same deep =
     let high : depth_in (held inode) < (leaf_in (held inode) x).depth = omega (arith, deep, depth_same, ap (λ (l : Leaf). l.depth) read) in
-    told _ fault _ _ is (leaf_too_deep inode.block.number x has high)
+    told_at inode.block.image fault _ _ is inside (leaf_too_deep inode.block.number x has high)
 
 -- ---- hashes
 
@@ -170,7 +171,7 @@ hash_astray inode fault by x hash place shift leaf area rest later head name is 
     } in
     let here = record_in_area inode.block.image inode.block.number x head name later at used in
     let wrong : crc32_of name / 2 ^ (32 - (leaf_in (held inode) x).depth) ≢ hash / 2 ^ (32 - (leaf_in (held inode) x).depth) = subst (λ n. crc32_of name / 2 ^ n ≢ hash / 2 ^ n) depth other in
-    told im fault x 14 is (leaf_hash inode.block.number x by hash place (said_by head name) claimed here wrong)
+    told_at inode.block.image fault x 14 is (record_inside inode.block.image inode.block.number x (said_by head name) (leaf_area (held inode) x, of_leaf x (by, hash, place, claimed), here)) (leaf_hash inode.block.number x by hash place (said_by head name) claimed here wrong)
 
 -- ---- the records of a leaf
 
@@ -196,5 +197,5 @@ leaf_miscounted image inode block leaf fault bytes none own by hash place own_im
     let leaf_is : leaf ≡ leaf_in (every (image_at image) a) x = read ∙ ap (λ (i : Blocks). leaf_of ((image_at i).at x)) own_image in
     let wrong : leaf.entries ≢ length (records_in bytes) = λ e. other (omega (arith, e, zero_entries, counted.entries, small)) in
     let P : Leaf → List ℕ → Type 0 = λ l bs. l.entries ≢ length (records_in bs) in
-    told (image_at image) fault x 14 fault_is
+    told_at image fault x 14 fault_is (block_inside block image (same ∙ own_image))
     (leaf_entries a x (by, hash, place, claimed) (subst (P (leaf_in (every (image_at image) a) x)) bytes_is (subst (λ l. P l bytes) leaf_is wrong)))

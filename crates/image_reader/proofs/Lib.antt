@@ -14,6 +14,7 @@ pub mod SystemFaults
 pub mod Pieces
 pub mod States
 pub mod InodeFaults
+pub mod Inside
 pub mod WalkFaults
 pub mod Pointing
 pub mod RecordFaults

@@ -18,7 +18,8 @@ use Rattle.image_reader.specs.declared.image.ImageFault.{ImageFault}
 use Rattle.image_reader.specs.declared.image.ImageFault.TheVariants.{Damaged}
 use Rattle.image_reader.specs.declared.inode.Inode.{Inode}
 use Rattle.image_reader.specs.declared.walk.Pointers.{Pointers}
-use Rattle.image_reader.proofs.InodeFaults.{told}
+use Rattle.image_reader.proofs.InodeFaults.{told, told_at, told_of}
+use Rattle.image_reader.proofs.Inside.{block_inside}
 use Rattle.image_reader.proofs.Pieces.{dinode_is}
 use Rattle.image_reader.proofs.Spans.{capped_product}
 
@@ -69,7 +70,7 @@ first_past m f k s before first count is sum small past =
 pub leads_past : (inode : Inode) (fault : ImageFault) (b k level first c : ℕ) → fault ≡ Damaged inode.block.number 8 → IsDinodeBlock inode.block
     → Leads (held inode) b k level first c → content_count (held inode) ≤ first → IsTrueOf (image_at inode.block.image) fault
 leads_past inode fault b k level first c is here leads past =
-    told _ fault _ _ is (past_end inode.block.number b k level first c here leads past)
+    told_of inode.block fault _ is (past_end inode.block.number b k level first c here leads past)
 
 -- what leads to a block claims it
 pub claims_below : (inode : Inode) (b k level first c : ℕ) → IsDinodeBlock inode.block → Leads (held inode) b k level first c
@@ -77,15 +78,15 @@ pub claims_below : (inode : Inode) (b k level first c : ℕ) → IsDinodeBlock i
 claims_below inode b k level first c here leads =
     below here.1.by inode.block.number here.0 b k level first c here.1.claimed here.1.dinode leads
 
-pub lacks_indirect : (im : Image) (fault : ImageFault) (by a b k level first x : ℕ) → fault ≡ Damaged x 1 → Claims im by x (Below a b k (suc level) first)
+pub lacks_indirect : (im : Image) (fault : ImageFault) (by a b k level first x : ℕ) → fault ≡ Damaged x 1 → x < im.count → Claims im by x (Below a b k (suc level) first)
     → ¬ (HasHeader 5 500 (im.at x)) → IsTrueOf im fault
-lacks_indirect im fault by a b k level first x is claimed lacks = told im fault x 1 is (no_header x 5 500 (of_indirect by a x b k level first claimed) lacks)
+lacks_indirect im fault by a b k level first x is inside claimed lacks = told im fault x 1 is inside (no_header x 5 500 (of_indirect by a x b k level first claimed) lacks)
 
-pub lacks_table : (inode : Inode) (fault : ImageFault) (x : ℕ) → fault ≡ Damaged x 1 → IsContentOf inode x → is_directory inode.dinode ≡ true
+pub lacks_table : (inode : Inode) (fault : ImageFault) (x : ℕ) → fault ≡ Damaged x 1 → x < inode.block.image.count → IsContentOf inode x → is_directory inode.dinode ≡ true
     → ¬ (HasHeader 7 700 ((image_at inode.block.image).at x)) → IsTrueOf (image_at inode.block.image) fault
-lacks_table inode fault x is (by, b, k, first, claimed) directory lacks =
+lacks_table inode fault x is inside (by, b, k, first, claimed) directory lacks =
     let said : is_directory_in (held inode) ≡ true = ap is_directory (sym (dinode_is inode)) ∙ directory in
-    told _ fault x 1 is (no_header x 7 700 (of_table by inode.block.number x b k first claimed said) lacks)
+    told_at inode.block.image fault x 1 is inside (no_header x 7 700 (of_table by inode.block.number x b k first claimed said) lacks)
 
 -- ---- of one image under two names
 
@@ -93,7 +94,7 @@ pub lacks_table_at : (inode : Inode) (block : Block) (fault : ImageFault) → bl
     → IsContentOf inode block.number → is_directory inode.dinode ≡ true → ¬ (HasHeader 7 700 ((image_at block.image).at block.number)) → IsTrueOf (image_at inode.block.image) fault
 lacks_table_at inode block fault same is content directory lacks =
     let P : Blocks → Type 0 = λ i. ¬ (HasHeader 7 700 ((image_at i).at block.number)) in
-    lacks_table inode fault block.number is content directory (subst P same lacks)
+    lacks_table inode fault block.number is (block_inside block inode.block.image same) content directory (subst P same lacks)
 
 pub err_of : {A : Type 0} → (i j : Blocks) (r : Result A ImageFault) → i ≡ j → IfErr r (IsTrueOf (image_at i)) → IfErr r (IsTrueOf (image_at j))
 err_of i j r same true_of = subst (λ (x : Blocks). IfErr r (IsTrueOf (image_at x))) same true_of
@@ -109,7 +110,7 @@ pub lacks_indirect_at : (image : Blocks) (block : Block) (fault : ImageFault) (b
 lacks_indirect_at image block fault by a b k level first x same at is claimed lacks =
     let P : Blocks → Type 0 = λ i. ¬ (HasHeader 5 500 ((image_at i).at block.number)) in
     let Q : ℕ → Type 0 = λ n. ¬ (HasHeader 5 500 ((image_at image).at n)) in
-    lacks_indirect (image_at image) fault by a b k level first x is claimed (subst Q at (subst P same lacks))
+    lacks_indirect (image_at image) fault by a b k level first x is (omega (arith, block_inside block image same, at, image.counted)) claimed (subst Q at (subst P same lacks))
 
 -- what a block of pointers leads to is reached
 pub reached_below : (inode : Inode) (p : Pointers) (b k number level : ℕ) → p.block.image ≡ inode.block.image → p.block.number ≡ number → p.start ≡ 24 → p.level + 1 ≡ level

@@ -21,7 +21,8 @@ use Rattle.image_reader.specs.declared.directory.Found.{Found}
 use Rattle.image_reader.specs.declared.image.ImageFault.{ImageFault}
 use Rattle.image_reader.specs.declared.image.ImageFault.TheVariants.{Damaged}
 use Rattle.image_reader.specs.declared.inode.Inode.{Inode}
-use Rattle.image_reader.proofs.InodeFaults.{told}
+use Rattle.image_reader.proofs.InodeFaults.{broken, told_at}
+use Rattle.image_reader.proofs.Inside.{record_inside, slot_inside}
 use Rattle.image_reader.proofs.Pieces.{dinode_is}
 
 -- a record of another kind than its inode
@@ -30,7 +31,7 @@ pub wrong_kind : (inode : Inode) (head : Dirent) (fault : ImageFault) (by kind :
 wrong_kind inode head fault by kind is has at kind_is other =
     let im = image_at inode.block.image in
     let P : ℕ → Type 0 = λ b. head.kind ≢ kind_of (head_of (every im b)) in
-    told im fault by 11 is (other_kind has.0 by (said_by head has.1.0) has.1.1 (subst P (sym at) (λ e. other (e ∙ sym kind_is))))
+    told_at inode.block.image fault by 11 is (record_inside inode.block.image has.0 by (said_by head has.1.0) has.1.1) (other_kind has.0 by (said_by head has.1.0) has.1.1 (subst P (sym at) (λ e. other (e ∙ sym kind_is))))
 
 -- a record with another formal number
 pub wrong_formal_number : (inode : Inode) (head : Dirent) (fault : ImageFault) (by : ℕ) → fault ≡ Damaged by 11 → ((a : ℕ) × ((name : List ℕ) × HasRecordAt inode.block.image a by head name))
@@ -39,12 +40,12 @@ wrong_formal_number inode head fault by is has at other =
     let im = image_at inode.block.image in
     let P : ℕ → Type 0 = λ b. head.inum.number ≢ (head_of (every im b)).number in
     let same : inode.dinode.num.number ≡ (head_of (held inode)).number = ap (λ (d : Dinode). d.num.number) (dinode_is inode) in
-    told im fault by 11 is (other_number has.0 by (said_by head has.1.0) has.1.1 (subst P (sym at) (λ e. other (e ∙ sym same))))
+    told_at inode.block.image fault by 11 is (record_inside inode.block.image has.0 by (said_by head has.1.0) has.1.1) (other_number has.0 by (said_by head has.1.0) has.1.1 (subst P (sym at) (λ e. other (e ∙ sym same))))
 
 -- a name that isn't one
 pub wrong_name : (image : Blocks) (fault : ImageFault) (a by : ℕ) (head : Dirent) (name : List ℕ) → fault ≡ Damaged by 9 → HasRecordAt image a by head name → is_dots name ≡ false
     → ¬ (IsName name) → IsTrueOf (image_at image) fault
-wrong_name image fault a by head name is has plain lacks = told (image_at image) fault by 9 is (no_name a by (said_by head name) has plain lacks)
+wrong_name image fault a by head name is has plain lacks = told_at image fault by 9 is (record_inside image a by (said_by head name) has) (no_name a by (said_by head name) has plain lacks)
 
 -- a record claims the block that it names
 claims_by_area : (im : Image) (a x : ℕ) (area : List ℕ) (r : Record) → HasInode im a → HasArea im a x area → Contains (records_in area) r → is_dots r.name ≡ false
@@ -98,4 +99,4 @@ pub wrong_hash : (image : Blocks) (fault : ImageFault) (a by : ℕ) (head : Dire
 wrong_hash image fault a by head name hash is at hash_is other =
     let same : (d : Dirent) (n : List ℕ) → head ≡ d → name ≡ n → d.hash ≢ crc32_of n = λ d n e f g.
     other (ap (λ (x : Dirent). x.hash) e ∙ g ∙ sym (ap crc32_of f) ∙ sym hash_is) in
-    told (image_at image) fault by 9 is (other_hash a by at.area at.slot at.has at.there at.used (same at.slot.head (name_of at.slot) at.head_is at.name_is))
+    told_at image fault by 9 is (slot_inside image a by at.area at.slot at.has at.there) (other_hash a by at.area at.slot at.has at.there at.used (same at.slot.head (name_of at.slot) at.head_is at.name_is))

@@ -16,7 +16,7 @@ use Rattle.image_reader.specs.declared.directory.Found.{Found}
 use Rattle.image_reader.specs.declared.image.ImageFault.{ImageFault}
 use Rattle.image_reader.specs.declared.image.ImageFault.TheVariants.{Damaged}
 use Rattle.image_reader.specs.declared.inode.Inode.{Inode}
-use Rattle.image_reader.proofs.InodeFaults.{told}
+use Rattle.image_reader.proofs.InodeFaults.{told_of}
 use Rattle.image_reader.proofs.Listed.{get_at, got_low, got_one}
 use Rattle.image_reader.proofs.Pieces.{dinode_is}
 
@@ -48,7 +48,7 @@ pub no_journals : (top : Inode) (found : List Found) (fault : ImageFault) → fa
     → top.block.number ≡ master_of (image_at top.block.image) → HasNoDirectoryNamed found (length found) top.block.number (codes "jindex") → IsTrueOf (image_at top.block.image) fault
 no_journals top found fault is tree master none =
     let im = image_at top.block.image in
-    told im fault top.block.number 16 is (subst (Breaks im 16) (sym master) (no_jindex (λ d has. nothing d (subst (λ a. LeadsTo im a (codes "jindex") d) (sym master) has))))
+    told_of top.block fault 16 is (subst (Breaks im 16) (sym master) (no_jindex (λ d has. nothing d (subst (λ a. LeadsTo im a (codes "jindex") d) (sym master) has))))
   where
     nothing : (d : ℕ) → LeadsTo (image_at top.block.image) top.block.number (codes "jindex") d → is_directory_in (every (image_at top.block.image) d) ≡ true → ⊥
     nothing d has dir =

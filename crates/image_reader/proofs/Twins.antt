@@ -1,5 +1,5 @@
 -- Two records of one directory that have one name, and lead to two blocks.
-use Rattle.std.proofs.Common.{◌≡◌, ◌≢◌, true, false, ℕ, ◌≤◌, List, length, Option, inl, inr, refl, sym, ap, subst, ◌∙◌, arith}
+use Rattle.std.proofs.Common.{◌≡◌, ◌≢◌, true, false, ℕ, ◌<◌, ◌≤◌, List, length, Option, inl, inr, refl, sym, ap, subst, ◌∙◌, arith}
 use Rattle.std.specs.Prelude.{Contains, slice_get}
 use Rattle.std.specs.List.{All}
 use Rattle.gfs2_layout.specs.Inode.{is_hashed_in, linear_area, leaf_area}
@@ -11,7 +11,7 @@ use Rattle.image_reader.specs.Going.{GoesOn}
 use Rattle.image_model.specs.Image.{Image}
 use Rattle.image_model.specs.Owners.{Owner, Named}
 use Rattle.image_reader.specs.Reading.{image_at}
-use Rattle.image_model.specs.Rules.{Breaks, twice, twice_in_area}
+use Rattle.image_model.specs.Rules.{Breaks, IsBrokenBlock, HasRecordIn, twice, twice_in_area}
 use Rattle.image_reader.specs.Untouched.{AreTwinsBroken}
 use Rattle.image_reader.specs.declared.blocks.Blocks.{Blocks}
 use Rattle.image_reader.specs.declared.directory.Found.{Found}
@@ -19,6 +19,8 @@ use Rattle.image_reader.specs.declared.directory.Visit.{Visit}
 use Rattle.image_reader.specs.declared.owners.Claim.{Claim}
 use Rattle.image_reader.proofs.Directories.{leaf_is_hashed, not_both}
 use Rattle.image_reader.proofs.Going.{in_get}
+use Rattle.image_reader.proofs.InodeFaults.{broken}
+use Rattle.image_reader.proofs.Inside.{record_inside}
 use Rattle.image_reader.proofs.Listed.{got_low, got_is}
 use Rattle.image_model.proofs.Members.{is_in}
 use Rattle.image_reader.proofs.WalkFaults.{same_or_not, some_is}
@@ -49,6 +51,12 @@ name_in im _ _ _ _ (in_leaf by x a hash place r claimed there dots) = record {
   named = refl;
   address = refl;
 }
+
+-- the record's block is on the device
+name_inside : (im : Image) (image : Blocks) (x b a : ℕ) (name : List ℕ) → image_at image ≡ im → IsNameIn im a x b name → x < im.count
+name_inside im image x b a name same is =
+    let P : Image → Type 0 = λ i. HasRecordIn i a x is.entry → x < i.count in
+    subst P same (λ has. omega (arith, record_inside image a x is.entry has, image.counted)) (is.area, is.has, is.there)
 
 -- a block has one area of a directory
 data IsAreaAt (im : Image) (a x : ℕ) (area : List ℕ) : Type 0 where
@@ -82,13 +90,14 @@ twins_break im a x y b c name first second apart = elim (same_or_not y x) [
 
 -- the name is that of an entry from a record in another block
 pub twin_breaks : (im : Image) (image : Blocks) (f : Found) (parent y c : ℕ) (name : List ℕ) → image_at image ≡ im → IsFoundIn image f → Claims im y c (Named parent name) → f.parent ≡ parent → y ≢ f.by → f.name ≡ name
-    → Breaks im 10 y
+    → IsBrokenBlock im 10 y
 twin_breaks im image f parent y c name same is claimed parent_is other name_is =
     let first = name_in im f.by f.inode.block.number parent name
     (subst (λ i. Claims i f.by f.inode.block.number (Named parent name)) same
     (subst (λ n. Claims (image_at image) f.by f.inode.block.number (Named parent n)) name_is (subst (λ n. Claims (image_at image) f.by f.inode.block.number (Named n f.name)) parent_is is.claimed))) in
     let second = name_in im y c parent name claimed in
-    twice parent y f.by second.entry first.entry (second.area, second.has, second.there) (first.area, first.has, first.there) other (second.named ∙ sym first.named)
+    broken im y 10 (name_inside im image y c parent name same second)
+    (twice parent y f.by second.entry first.entry (second.area, second.has, second.there) (first.area, first.has, first.there) other (second.named ∙ sym first.named))
 
 pub found_at : (image : Blocks) (found : List Found) (i : ℕ) (f : Found) → All (IsFoundIn image) found → IsEntryAt found i f → IsFoundIn image f
 found_at image found i f all there = subst (IsFoundIn image) (got_is found i f f there) (all i f (got_low found i f there))
@@ -100,8 +109,10 @@ twins_broken image P visit old new before after all on i j f g low lower there o
     let a = visit.inode.block.number in
     let f_is = found_at image after i f all there in
     let g_is = found_at image after j g all other in
-    twins_break (image_at image) a f.by g.by f.inode.block.number g.inode.block.number f.name
-    (of_directory i f low there f_is f.name refl) (of_directory j g lower other g_is f.name (sym named)) apart
+    let first = of_directory i f low there f_is f.name refl in
+    let second = of_directory j g lower other g_is f.name (sym named) in
+    broken (image_at image) g.by 10 (name_inside (image_at image) image g.by g.inode.block.number a f.name refl second)
+    (twins_break (image_at image) a f.by g.by f.inode.block.number g.inode.block.number f.name first second apart)
   where
     of_directory : (k : ℕ) (h : Found) → length before ≤ k → IsEntryAt after k h → IsFoundIn image h → (name : List ℕ) → h.name ≡ name
         → IsNameIn (image_at image) visit.inode.block.number h.by h.inode.block.number name

@@ -20,7 +20,7 @@ use Rattle.image_reader.specs.declared.image.ImageFault.TheVariants.{Damaged}
 use Rattle.image_reader.specs.declared.inode.Inode.{Inode}
 use Rattle.image_reader.specs.declared.owners.Claim.{Claim}
 use Rattle.image_reader.proofs.Directories.{leaf_is_hashed, not_both}
-use Rattle.image_reader.proofs.InodeFaults.{told, said}
+use Rattle.image_reader.proofs.InodeFaults.{told_of, said}
 use Rattle.image_reader.proofs.Pieces.{dinode_is}
 use Rattle.image_model.proofs.Rows.{and_left}
 
@@ -50,13 +50,13 @@ file_found image visit entries found own file =
 pub wrong_links : (inode : Inode) (fault : ImageFault) → fault ≡ Damaged inode.block.number 12 → IsDinodeBlock inode.block → is_directory inode.dinode ≡ false → inode.dinode.nlink ≢ 1
     → IsTrueOf (image_at inode.block.image) fault
 wrong_links inode fault is here file other =
-    told _ fault _ _ is (file_links inode.block.number here (said inode (λ d. is_directory d ≡ false) file) (said inode (λ d. d.nlink ≢ 1) other))
+    told_of inode.block fault _ is (file_links inode.block.number here (said inode (λ d. is_directory d ≡ false) file) (said inode (λ d. d.nlink ≢ 1) other))
 
 pub wrong_blocks : (inode : Inode) (fault : ImageFault) (beside : ℕ) → fault ≡ Damaged inode.block.number 19 → IsDinodeBlock inode.block → IsBlockCount (image_at inode.block.image) inode.block.number beside
     → inode.dinode.blocks ≢ 1 + beside → IsTrueOf (image_at inode.block.image) fault
 wrong_blocks inode fault beside is here count other =
     let wrong : inode.dinode.blocks ≢ 1 + length count.blocks = λ e. other (omega (arith, e, count.counted)) in
-    told _ fault _ _ is (blocks_count inode.block.number count.blocks here count.all (said inode (λ d. d.blocks ≢ 1 + length count.blocks) wrong))
+    told_of inode.block fault _ is (blocks_count inode.block.number count.blocks here count.all (said inode (λ d. d.blocks ≢ 1 + length count.blocks) wrong))
 
 -- ---- an inode that fits
 

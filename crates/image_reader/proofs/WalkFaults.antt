@@ -1,5 +1,5 @@
 -- What claiming a block finds broken.
-use Rattle.std.proofs.Common.{◌≡◌, ◌≢◌, ◌⊎◌, Bool, true, false, ℕ, zero, suc, [], ◌∷◌, ◌++◌, ◌≤◌, List, Bor, Option, Some, None, inl, inr, refl, sym, ap, subst, ◌∙◌, arith}
+use Rattle.std.proofs.Common.{◌≡◌, ◌≢◌, ◌⊎◌, Bool, true, false, ℕ, zero, suc, [], ◌∷◌, ◌++◌, ◌<◌, ◌≤◌, List, Bor, Option, Some, None, inl, inr, refl, sym, ap, subst, ◌∙◌, arith}
 use Rattle.std.specs.Prelude.{if◌then◌else◌, Contains, MatchOption, slice_get, slice_set}
 use Rattle.std.specs.List.{All}
 use Rattle.std.proofs.lemmas.Bool.{cases_lt}
@@ -17,25 +17,25 @@ use Rattle.image_reader.specs.declared.image.ImageFault.{ImageFault}
 use Rattle.image_reader.specs.declared.image.ImageFault.TheVariants.{Damaged}
 use Rattle.image_reader.specs.declared.owners.Claim.{Claim}
 use Rattle.image_reader.specs.declared.walk.Walk.{Walk}
-use Rattle.image_reader.proofs.InodeFaults.{told}
+use Rattle.image_reader.proofs.InodeFaults.{told, told_at}
 
 -- ---- outside the device, or the groups
 
-pub beyond : (walk : Walk) (fault : ImageFault) (by number : ℕ) (o : Owner) → fault ≡ Damaged by 2 → Claims (image_at walk.image) by number o
+pub beyond : (walk : Walk) (fault : ImageFault) (by number : ℕ) (o : Owner) → fault ≡ Damaged by 2 → by < walk.image.count → Claims (image_at walk.image) by number o
     → walk.image.count ≤ number → IsTrueOf (image_at walk.image) fault
-beyond walk fault by number o is claimed past =
+beyond walk fault by number o is inside claimed past =
     let counted = walk.image.counted in
-    told _ fault _ _ is (beyond_device by number o claimed (omega (arith, counted, past)))
+    told_at walk.image fault _ _ is inside (beyond_device by number o claimed (omega (arith, counted, past)))
 
 outside_of : (im : Image) (groups : Option (Bor (List Rindex))) (number : ℕ) → MatchOption groups (Unit {0}) (λ known. (g : Rindex) → HasGroup im g → Contains known.now g)
     → MatchOption groups ⊥ (λ known. All (λ g. ¬ (IsDataOf g number)) known.now) → IsOutside im number
 outside_of im None number all outside = absurd outside
 outside_of im (Some known) number all outside = λ g has inside. All-contains (λ g. ¬ (IsDataOf g number)) known.now g outside (all g has) inside
 
-pub past_groups : (walk : Walk) (fault : ImageFault) (by number : ℕ) (o : Owner) → fault ≡ Damaged by 2 → Claims (image_at walk.image) by number o
+pub past_groups : (walk : Walk) (fault : ImageFault) (by number : ℕ) (o : Owner) → fault ≡ Damaged by 2 → by < walk.image.count → Claims (image_at walk.image) by number o
     → IsSound walk → IsOutsideKnown walk number → IsTrueOf (image_at walk.image) fault
-past_groups walk fault by number o is claimed sound outside =
-    told _ fault _ _ is (beyond_groups by number o claimed (outside_of (image_at walk.image) walk.groups number sound.groups outside))
+past_groups walk fault by number o is inside claimed sound outside =
+    told_at walk.image fault _ _ is inside (beyond_groups by number o claimed (outside_of (image_at walk.image) walk.groups number sound.groups outside))
 
 -- ---- claimed twice
 
@@ -58,13 +58,13 @@ chain_breaks im x from by (Chained a hash place) (Chained b more later) first se
     in_order im x from by a hash place later first (subst (Claims im by x) same second) (λ e. other (e ∙ sym same))
 chain_breaks im x from by _ _ first second other one = absurd one
 
-pub clash : (im : Image) (entries : List (Option Claim)) (x by : ℕ) (claim : Claim) (fault : ImageFault) → AreClaims im entries → Claims im by x (owner_of claim)
+pub clash : (im : Image) (entries : List (Option Claim)) (x by : ℕ) (claim : Claim) (fault : ImageFault) → x < im.count → AreClaims im entries → Claims im by x (owner_of claim)
     → IsClash entries x claim fault → IsTrueOf im fault
-clash im entries x by claim fault claims claimed c =
+clash im entries x by claim fault inside claims claimed c =
     let old = claims x c.old c.there in
     elim c.told [
-      | inl three ↦ told im fault x 3 three (two_owners x old.0 by (owner_of c.old) (owner_of claim) old.1 claimed c.other)
-      | inr fifteen ↦ told im fault x 15 fifteen.0 (chain_breaks im x old.0 by (owner_of c.old) (owner_of claim) old.1 claimed c.other fifteen.1)
+      | inl three ↦ told im fault x 3 three inside (two_owners x old.0 by (owner_of c.old) (owner_of claim) old.1 claimed c.other)
+      | inr fifteen ↦ told im fault x 15 fifteen.0 inside (chain_breaks im x old.0 by (owner_of c.old) (owner_of claim) old.1 claimed c.other fifteen.1)
     ]
 
 -- ---- entering a claim

@@ -5,16 +5,17 @@ use Rattle.gfs2_layout.specs.Bitmap.{state_at}
 use Rattle.image_model.specs.Claims.{every, HasInode}
 use Rattle.image_model.specs.Image.{Image, image_in}
 use Rattle.gfs2_layout.specs.Holding.{Holding}
-use Rattle.image_model.specs.Rules.{Breaks}
+use Rattle.image_model.specs.Rules.{IsBrokenBlock}
 use Rattle.image_reader.specs.declared.blocks.Blocks.{Blocks}
 use Rattle.image_reader.specs.declared.blocks.Block.{Block}
 use Rattle.image_reader.specs.declared.inode.Inode.{Inode}
 use Rattle.image_reader.specs.declared.image.ImageFault.{ImageFault}
 use Rattle.image_reader.specs.declared.image.ImageFault.TheVariants.{Damaged, NoMemory}
 
--- a fault is true of the image: the block breaks the rule. Want of memory says nothing
+-- a fault is true of the image: the block breaks the rule, and is on the device but for a superblock that it is too short for.
+-- Want of memory says nothing
 abbrev pub IsTrueOf : Image → ImageFault → Type 0
-IsTrueOf im (Damaged block rule) = Breaks im rule block
+IsTrueOf im (Damaged block rule) = IsBrokenBlock im rule block
 IsTrueOf im NoMemory = Unit {0}
 
 abbrev pub image_at : Blocks → Image

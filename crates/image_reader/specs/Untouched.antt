@@ -9,7 +9,7 @@ use Rattle.image_model.specs.Image.{Image}
 use Rattle.image_model.specs.Owners.{Owner, Below, is_dinode}
 use Rattle.image_reader.specs.Leaves.{HasClaim}
 use Rattle.image_reader.specs.Owning.{owner_of}
-use Rattle.image_model.specs.Rules.{Breaks}
+use Rattle.image_model.specs.Rules.{Breaks, IsBrokenBlock}
 use Rattle.image_reader.specs.declared.directory.Found.{Found}
 use Rattle.image_reader.specs.declared.owners.Claim.{Claim}
 
@@ -40,7 +40,7 @@ AreNamedApart first found = (i j : ℕ) (f g : Found) → first ≤ i → first 
 
 -- two of them that have one name break the rule of names, each in its block
 abbrev pub AreTwinsBroken : Image → ℕ → List Found → Type 0
-AreTwinsBroken im first found = (i j : ℕ) (f g : Found) → first ≤ i → first ≤ j → IsEntryAt found i f → IsEntryAt found j g → f.name ≡ g.name → i ≢ j → Breaks im 10 g.by
+AreTwinsBroken im first found = (i j : ℕ) (f g : Found) → first ≤ i → first ≤ j → IsEntryAt found i f → IsEntryAt found j g → f.name ≡ g.name → i ≢ j → IsBrokenBlock im 10 g.by
 
 -- nothing is claimed by this owner
 abbrev pub IsUnclaimed : Owner → List (Option Claim) → Type 0

@@ -233,7 +233,7 @@ impl<'a> Walk<'a> {
     ghost use Rattle.gfs2_layout.specs.Inode.{Fits, is_hashed_in, linear_area};
     ghost use Rattle.image_reader.specs.Complete.{AllAreFound, HasNoLeaf, IsWholeTally};
     ghost use Rattle.gfs2_layout.specs.Records.{is_dots, records_in};
-    ghost use Rattle.image_model.specs.Rules.{Breaks};
+    ghost use Rattle.image_model.specs.Rules.{IsBrokenBlock};
 
     // `.` or `..`, which leads to the directory with this address.
     fn check_dot(
@@ -243,7 +243,7 @@ impl<'a> Walk<'a> {
         head: &Dirent,
         address: u64,
     ) -> Result<(), ImageFault>
-        requires wrong { head.now.inum.address ≢ address → Breaks (image_at self.now.image) 10 visit.now.inode.block.number }
+        requires wrong { head.now.inum.address ≢ address → IsBrokenBlock (image_at self.now.image) 10 visit.now.inode.block.number }
         requires inode { HasInode (image_at self.now.image) address }
         requires inside { address < self.now.image.count }
         requires has { (a : ℕ) × ((name : List ℕ) × HasRecordAt self.now.image a by head.now name) }

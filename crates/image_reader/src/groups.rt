@@ -66,6 +66,7 @@ fn fits(image: &Blocks<'_>, group: &Rindex) -> bool
 // The group of the first entry, which fits and begins no earlier than the one before it ends.
 fn next_group(image: &Blocks<'_>, by: u64, entry: &[u8], end: u64) -> Result<Rindex, ImageFault>
     requires rindex { IsRindex (image_at image.now) by }
+    requires inside { by < image.now.count }
     requires entry { length entry.now ≡ 96 }
     requires there { (groups : List IndexEntry) × ((more : List IndexEntry) × (groups_in (content_of (every (image_at image.now) by)) ≡ groups ++ (rindex_of entry.now ∷ more)) × (end_after 0 groups ≡ end)) }
     ensures group { IfOk result (λ group. group ≡ rindex_of entry.now) }
@@ -94,6 +95,7 @@ pub(crate) fn list_groups(
     content: &[u8],
 ) -> Result<Vec<Rindex>, ImageFault>
     requires rindex { IsRindex (image_at image.now) by }
+    requires inside { by < image.now.count }
     requires content { content.now ≡ content_of (every (image_at image.now) by) }
     ensures listed { IfOk result (λ groups. groups.items ≡ groups_in content.now) }
     ensures rise { IfOk result (λ groups. RiseFrom (image_at image.now) 0 groups.items) }

@@ -85,6 +85,7 @@ impl<'a> Inode<'a> {
         requires small { i < 2 ^ 16 }
         ensures damaged { IfErr result (IsTrueOf (image_at self.now.block.image)) }
         ensures block { IfOk result (λ b. b ≡ entry_block (held self.now) i) }
+        ensures inside { IfOk result (λ b. b < self.now.block.image.count) }
     {
         if self.dinode.height == 0 {
             return Ok(self.block.number);
@@ -184,6 +185,7 @@ impl<'a> Walk<'a> {
         requires going { IsGoing self.old visit.now found.old.items }
         requires over { AreLeavesOver visit.now self.old.owners.entries.items tally.old found.old.items }
         requires leaf { IsLeafOf visit.now.inode at.now }
+        requires inside { by < self.old.image.count }
         requires claimed { Claims (image_at self.old.image) by at.now.block.number (Chained visit.now.inode.block.number at.now.hash at.now.place) }
         ensures damaged { IfErr result (IsTrueOf (image_at self.old.image)) }
         ensures going { OnOk result (IsGoing self.new visit.now found.new.items) }
@@ -306,6 +308,7 @@ impl<'a> Walk<'a> {
     ) -> Result<(), ImageFault>
         requires leaves { AreLeavesGoing self.old visit.now tally.old found.old.items None }
         requires leaf { IsLeafOf visit.now.inode first }
+        requires inside { by < self.old.image.count }
         requires claimed { Claims (image_at self.old.image) by first.block.number (Chained visit.now.inode.block.number first.hash first.place) }
         requires depth { depth ≡ depth_in (held visit.now.inode) }
         requires place { first.place ≡ 0 }

@@ -12,7 +12,7 @@ ghost use Rattle.image_model.specs.Image.{image_in, superblock_in};
 ghost use Rattle.image_reader.specs.ReadTree.{GivesTree};
 ghost use Rattle.image_model.specs.Stands.{Stands};
 ghost use Rattle.image_reader.specs.Reading.{image_at, held, IsTrueOf};
-ghost use Rattle.gfs2_layout.specs.Device.{IsBlockSize};
+ghost use Rattle.gfs2_layout.specs.Device.{IsBlockSize, superblock_place};
 
 use crate::assembly::assemble;
 use crate::blocks::Blocks;
@@ -35,6 +35,7 @@ const FILE_LIMIT: u64 = 67_108_864;
 fn read_superblock(image: &Blocks<'_>) -> Result<SuperBlock, ImageFault>
     ensures damaged { IfErr result (IsTrueOf (image_at image.now)) }
     ensures value { IfOk result (λ superblock. superblock ≡ superblock_in (image_at image.now)) }
+    ensures there { OnOk result (superblock_place image.now.size < image.now.count) }
 {
     let place = image.superblock_place();
     let Some(block) = image.get(place) else {
@@ -49,6 +50,7 @@ fn read_superblock(image: &Blocks<'_>) -> Result<SuperBlock, ImageFault>
 // The file that lists the groups, which the master directory names.
 fn find_rindex<'a>(walk: &mut Walk<'a>, master: u64) -> Result<Inode<'a>, ImageFault>
     requires sound { IsSound walk.old }
+    requires there { superblock_place walk.old.image.size < walk.old.image.count }
     requires empty { IsEmpty walk.old.owners.entries.items }
     requires master { master ≡ master_of (image_at walk.old.image) }
     ensures rindex { IfOk result (λ rindex. IsRindex (image_at walk.old.image) rindex.block.number) }
@@ -84,7 +86,8 @@ fn check_entries(rindex: &Inode<'_>) -> Result<(), ImageFault>
 
 // The groups, read from the file `rindex` of the master directory before anything else is gone over.
 fn find_groups(alloc: Global, image: Blocks<'_>, master: u64) -> Result<Vec<Rindex>, ImageFault>
-    requires { master ≡ master_of (image_at image) }
+    requires there { superblock_place image.size < image.count }
+    requires master { master ≡ master_of (image_at image) }
     ensures fit { IfOk result (λ groups. All (GroupFits (image_at image.entry)) groups.items) }
     ensures listed { IfOk result (λ groups. All (HasGroup (image_at image.entry)) groups.items) }
     ensures known { IfOk result (λ groups. (g : IndexEntry) → HasGroup (image_at image.entry) g → Contains groups.items g) }
@@ -140,6 +143,7 @@ fn read_from<'a>(
     superblock: &SuperBlock,
     groups: &'a [Rindex],
 ) -> Result<Tree, ImageFault>
+    requires there { superblock_place image.size < image.count }
     requires superblock { superblock.now ≡ superblock_in (image_at image) }
     requires fit { All (GroupFits (image_at image)) groups.now }
     requires listed { All (HasGroup (image_at image)) groups.now }

@@ -133,6 +133,7 @@ impl<'a> Walk<'a> {
     /// A top directory, which is claimed first.
     pub fn top(&mut self, number: u64, claim: Claim<'a>) -> Result<Visit<'a>, ImageFault>
         requires sound { IsSound self.old }
+        requires there { superblock_place self.old.image.size < self.old.image.count }
         requires top { (owner_of claim ≡ Root) ⊎ (owner_of claim ≡ Master) }
         requires claimed { Claims (image_at self.old.image) (superblock_place self.old.image.size) number (owner_of claim) }
         requires owned { AreOwned self.old.owners.entries.items }

@@ -123,6 +123,7 @@ impl<'a> Walk<'a> {
         claim: Claim<'a>,
     ) -> Result<Option<Block<'a>>, ImageFault>
         requires sound { IsSound self.old }
+        requires inside { by < self.old.image.count }
         requires claimed { Claims (image_at self.old.image) by number (owner_of claim) }
         ensures sound { IsSound self.new }
         ensures damaged { IfErr result (IsTrueOf (image_at self.old.image)) }

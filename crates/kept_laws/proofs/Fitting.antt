@@ -6,11 +6,11 @@ use Rattle.std.specs.Ordering.{nat_cmp, eq_by_cmp}
 use Rattle.std.specs.Cmp.{nat_cmp_total}
 use Rattle.std.specs.FinMap.{get, empty, get-empty, get-insert, get-remove}
 use Rattle.glock_names.specs.declared.LockName.{LockName}
+use Rattle.glock_names.specs.declared.State.{State}
 use Rattle.glock_names.specs.declared.State.TheVariants.{Un, Sh, Df, Ex}
 use Rattle.glock_names.specs.LockMaps.{same_lock}
 use Rattle.glock_names.specs.StateOrder.{may_cache}
 use Rattle.glock_names.proofs.LockMapLaws.{same_lock_tells}
-use Rattle.glock_names.proofs.StateOrders.{below_leq, cache_on}
 use Rattle.block_cache.specs.declared.cache.Cell.{Cell}
 use Rattle.block_cache.specs.Cells.{Cells, kept_if, stays, DropsLock}
 use Rattle.block_cache.specs.Calls as cache
@@ -22,7 +22,7 @@ use Rattle.glock_machine.specs.declared.glock.Glock.{Glock}
 use Rattle.glock_machine.specs.Table.{Table, glock_of}
 use Rattle.glock_machine.specs.Calls as glocks
 use Rattle.glock_machine.proofs.Standing.{stand_apart, state_stays, touches_stay}
-use Rattle.kept_laws.specs.Kept.{Kept, Call, OnLocks, OnCache, AllFit, Fits, Minds, Leaves, Goes}
+use Rattle.kept_laws.specs.Kept.{Kept, Call, OnLocks, OnCache, Flushes, AllFit, Fits, Minds, Leaves, Goes, on_locks}
 
 -- ---- a call on the locks
 
@@ -34,9 +34,9 @@ fits_on lock (glocks.Want state) k b cell at e minds may h = subst (λ s. may_ca
 fits_on lock (glocks.Unwant state) k b cell at e minds may h = h
 fits_on lock glocks.Pin k b cell at e minds may h = h
 fits_on lock glocks.Unpin k b cell at e minds may h = h
-fits_on lock (glocks.Granted state) k b cell at e minds may h = cache_on (glock_of k.locks lock).state state cell.plain (below_leq (glock_of k.locks lock).state state may) h
+fits_on lock (glocks.Granted state) k b cell at e minds may h = absurd (true≢false (sym h ∙ ap (λ s. may_cache s cell.plain) may.0))
 fits_on lock (glocks.Callback keep) k b cell at e minds may h = subst (λ s. may_cache s cell.plain ≡ true) (sym (state_stays (glocks.Callback keep) (glock_of k.locks lock) refl refl)) h
-fits_on lock (glocks.Down to) k b cell at e minds may h = minds b cell at e
+fits_on lock (glocks.Down to) k b cell at e minds may h = minds.0 b cell at e
 fits_on lock (glocks.Touch number) k b cell at e minds may h = h
 
 act_fits : (act : glocks.Act) (k : Kept) → Minds (OnLocks act) k → glocks.MayCome act k.locks → AllFit k
@@ -90,18 +90,19 @@ cache_fits (cache.DropBlock block) k cells minds is fit b cell at =
 
 one_fits : (call : Call) (old new : Kept) → Minds call old → Leaves call old new → AllFit old → AllFit new
 one_fits (OnLocks act) old new minds leaves fit b cell at =
-    subst (λ (t : Table). may_cache (glock_of t cell.lock).state cell.plain ≡ true) (sym leaves.1)
-    (act_fits act old minds leaves.0 fit b cell (sym (ap (λ m. get m b) leaves.2) ∙ at))
+    subst (λ (k : Kept). may_cache (glock_of k.locks cell.lock).state cell.plain ≡ true) (sym leaves.1)
+    (act_fits act old minds leaves.0 fit b cell (sym (ap (λ (k : Kept). get k.cells b) leaves.1) ∙ at))
 one_fits (OnCache act) old new minds leaves fit b cell at =
-    subst (λ (t : Table). may_cache (glock_of t cell.lock).state cell.plain ≡ true) (sym leaves.0)
-    (cache_fits act old new.cells minds leaves.1 fit b cell at)
+    subst (λ (k : Kept). may_cache (glock_of k.locks cell.lock).state cell.plain ≡ true) (sym leaves.1)
+    (cache_fits act old new.cells minds leaves.0 fit b cell at)
+one_fits (Flushes number) old new minds leaves fit b cell at = subst AllFit (sym leaves.1) fit b cell at
 
 pub all_fit : (calls : List Call) (old new : Kept) → AllFit old → Goes calls old new → AllFit new
 all_fit [] old new fit goes = subst AllFit (sym goes) fit
 all_fit (call ∷ calls) old new fit goes = all_fit calls goes.0 new (one_fits call old goes.0 goes.1 goes.2 fit) goes.3
 
-pub none_fit : (locks : Table) → AllFit (record { locks = locks; cells = empty })
-none_fit locks b cell at = let no : None ≡ Some cell = sym (get-empty nat_cmp b) ∙ at in cc
+pub none_fit : (locks : Table) (flushed : ℕ) → AllFit (record { locks = locks; cells = empty; flushed = flushed })
+none_fit locks flushed b cell at = let no : None ≡ Some cell = sym (get-empty nat_cmp b) ∙ at in cc
 
 -- ---- what a state that may cache nothing, or no content, says of a cell
 
@@ -139,10 +140,23 @@ shared_fits cells lock b cell at e = refl
 
 -- ---- flushed before the release
 
-pub go_flushed : (lock : LockName) (number : ℕ) (acts : List glocks.Act) (t now : Table) (u : Under) → now ≡ glocks.after_all (glocks.On lock (glocks.Touch number) ∷ acts) t
-    → list_any glocks.is_grant (glocks.deeds_on lock acts) ≡ false → (glock_of now lock).state ≡ Ex
-    → u.touched ≡ (glock_of now lock).touched → stage_of Ex u ≡ Release → number ≤ u.flushed
-go_flushed lock number acts t now u is none ex touched released =
-    let kept : number ≤ (glock_of now lock).touched = subst (λ (x : Table). number ≤ (glock_of x lock).touched) (sym is) (touches_stay lock number acts t none) in
-    let flushed : u.touched ≤ u.flushed = (safe Ex u released).flushed refl in
+locks_then : (calls : List Call) (old new : Kept) → Goes calls old new → new.locks ≡ glocks.after_all (on_locks calls) old.locks
+locks_then [] old new goes = ap (λ (k : Kept). k.locks) goes
+locks_then (OnLocks act ∷ calls) old new goes = locks_then calls goes.0 new goes.3 ∙ ap (λ (k : Kept). glocks.after_all (on_locks calls) k.locks) goes.2.1
+locks_then (OnCache act ∷ calls) old new goes = locks_then calls goes.0 new goes.3 ∙ ap (λ (k : Kept). glocks.after_all (on_locks calls) k.locks) goes.2.1
+locks_then (Flushes number ∷ calls) old new goes = locks_then calls goes.0 new goes.3 ∙ ap (λ (k : Kept). glocks.after_all (on_locks calls) k.locks) goes.2.1
+
+pub go_flushed : (lock : LockName) (number : ℕ) (to : State) (calls : List Call) (old touched now : Kept)
+    → Leaves (OnLocks (glocks.On lock (glocks.Touch number))) old touched → Goes calls touched now
+    → list_any glocks.is_grant (glocks.deeds_on lock (on_locks calls)) ≡ false
+    → (glock_of now.locks lock).state ≡ Ex → Minds (OnLocks (glocks.On lock (glocks.Down to))) now → number ≤ now.flushed
+go_flushed lock number to calls old touched now leaves goes none ex minds =
+    let u : Under = minds.1.0 in
+    let at : now.locks ≡ glocks.after_all (glocks.On lock (glocks.Touch number) ∷ on_locks calls) old.locks =
+    locks_then calls touched now goes ∙ ap (λ (k : Kept). glocks.after_all (on_locks calls) k.locks) leaves.1 in
+    let kept : number ≤ (glock_of now.locks lock).touched =
+    subst (λ (t : Table). number ≤ (glock_of t lock).touched) (sym at) (touches_stay lock number (on_locks calls) old.locks none) in
+    let tells : u.touched ≡ (glock_of now.locks lock).touched = minds.1.1 in
+    let head : u.flushed ≡ now.flushed = minds.1.2 in
+    let flushed : u.touched ≤ u.flushed = (safe Ex u (subst (λ s. stage_of s u ≡ Release) ex minds.1.3)).flushed refl in
     omega arith

@@ -44,7 +44,7 @@ impl Kept {
             10 => self.revokes.add(a, b).is_ok(),
             11 => self.revokes.cancels(a, b) == (c == 1),
             20..=23 => self.play_cache(row),
-            30 | 38 | 39 => self.play_glocks(row),
+            30 | 38 | 39 | 43 => self.play_glocks(row),
             31..=37 | 41 | 42 => play_glock(&mut self.glocks, row),
             40 => stage_is(row),
             50 => self.take_frame(a, b),
@@ -79,14 +79,12 @@ impl Kept {
     }
 
     fn play_glocks(&mut self, row: &Row) -> bool {
-        let [what, a, b, c, ..] = *row;
+        let [what, a, b, c, d, e, ..] = *row;
         let lock = lock_of(a, b);
         match what {
             30 => self.glocks.want(lock, state_of(c)).is_ok(),
-            38 => match self.glocks.next_down() {
-                Some((next, to)) => next == lock && to == state_of(c),
-                None => a == 0,
-            },
+            38 => goes_next(self.glocks.next_down(), a, b, c),
+            43 => goes_next(self.glocks.next_down_after(lock), c, d, e),
             _ => {
                 self.glocks.unmount();
                 true
@@ -132,6 +130,14 @@ impl Kept {
     }
 }
 
+// Whether the lock that goes down is this one, to this state; none where its kind is 0.
+fn goes_next(next: Option<(LockName, State)>, kind: u64, number: u64, to: u64) -> bool {
+    match next {
+        Some((lock, state)) => lock == lock_of(kind, number) && state == state_of(to),
+        None => kind == 0,
+    }
+}
+
 fn play_glock(glocks: &mut Glocks, row: &Row) -> bool {
     let [what, a, b, c, d, ..] = *row;
     let lock = lock_of(a, b);
@@ -153,7 +159,7 @@ fn play_glock(glocks: &mut Glocks, row: &Row) -> bool {
 }
 
 fn grant(glocks: &mut Glocks, lock: LockName, state: State) -> bool {
-    if !glocks.was_wanted(lock) || !is_below(glocks.state(lock), state) {
+    if !glocks.was_wanted(lock) || glocks.state(lock) != State::Un || !is_below(State::Un, state) {
         return false;
     }
     glocks.granted(lock, state);

@@ -6,7 +6,9 @@ use Rattle.glock_names.specs.declared.LockName.{LockName}
 use Rattle.glock_names.specs.States.{mode_for}
 use Rattle.dlm_modes.specs.declared.Mode.{Mode}
 use Rattle.dlm_modes.specs.Modes.{is_at_least}
+use Rattle.dlm_holder.specs.Holdings.{wanted_in}
 use Rattle.mail_queues.specs.declared.Body.TheVariants.{Request, Down}
+use Rattle.mail_queues.specs.declared.Body.TheVariants as body
 use Rattle.dlm_master.specs.declared.claims.Claim.{Claim}
 use Rattle.dlm_master.specs.Claims.{mode_of_node}
 use Rattle.dlm_master.specs.LockState.{LockState}
@@ -20,13 +22,13 @@ use Rattle.lock_steps.specs.Parts.{Parts}
 use Rattle.lock_steps.specs.Ties.{Tell, tell_of, Fits, Tied, tells, grants, sight, present}
 use Rattle.lock_steps.specs.Ties as ties
 use Rattle.lock_steps.specs.Laws.{Begins, Calls}
-use Rattle.lock_steps.specs.Exact.{told_last, TablesAreExact, RequestsFindNothing, LowersOnlyLower}
+use Rattle.lock_steps.specs.Exact.{told_last, TablesAreExact, RequestsFindNothing, LowersOnlyLower, ReportsFindARebuild, HoldersAskForNothing}
 use Rattle.lock_steps.proofs.Modes.{cover-as-modes}
 use Rattle.lock_steps.proofs.Running.{steps-sound}
 use Rattle.lock_steps.proofs.Basics.{true-false, at-here, at-away}
 use Rattle.lock_steps.proofs.Tying.{eff-runs, eff-waits}
-use Rattle.lock_steps.proofs.Tabling.{tied-of, first, has-taken, is-ask, is-down}
-use Rattle.lock_steps.proofs.Holding.{says-request, says-down}
+use Rattle.lock_steps.proofs.Tabling.{tied-of, first, has-taken, is-ask, is-down, is-report}
+use Rattle.lock_steps.proofs.Holding.{says-request, says-down, says-report}
 use Rattle.lock_steps.proofs.Listing.{list-steps}
 
 some-none : {A : Type 0} {o : Option State} {s : State} → o ≡ None → o ≡ Some s → A
@@ -62,6 +64,20 @@ settled-same (Lowered u ∷ q) t r d = true-false refl d
 settled-same (End ∷ q) t r d = settled-same q t r d
 settled-same (Asked u ∷ q) t r d = settled-same q t r d
 
+report-ask : (q : List machine.Message) (s : State) → has_report (q ++ Asked s ∷ []) ≡ has_report q
+report-ask [] s = refl
+report-ask (Report t ∷ q) s = refl
+report-ask (End ∷ q) s = report-ask q s
+report-ask (Lowered t ∷ q) s = report-ask q s
+report-ask (Asked t ∷ q) s = report-ask q s
+
+report-down : (q : List machine.Message) (s : State) → has_report (q ++ Lowered s ∷ []) ≡ has_report q
+report-down [] s = refl
+report-down (Report t ∷ q) s = refl
+report-down (End ∷ q) s = report-down q s
+report-down (Lowered t ∷ q) s = report-down q s
+report-down (Asked t ∷ q) s = report-down q s
+
 ask-down : (q : List machine.Message) (s : State) → has_ask (q ++ Lowered s ∷ []) ≡ has_ask q
 ask-down [] s = refl
 ask-down (Report t ∷ q) s = ask-down q s
@@ -83,15 +99,17 @@ record Exact (n : Node) : Type 0 where
   asking : has_ask (n.up) ≡ true → settled (n.up) (n.table) ≡ Un
   wanting : (s : State) → n.wants ≡ Some s → settled (n.up) (n.table) ≡ Un
   granted : (s : State) → n.down ≡ Some s → settled (n.up) (n.table) ≡ s
+  reported : (s : State) → n.wants ≡ Some s → has_report (n.up) ≡ false
 
 -- a message that was taken changes nothing of it
 heard-same : (n : Node) (m : machine.Message) (q : List machine.Message) (table : State) (heard : Bool) → n.up ≡ m ∷ q → settled q table ≡ settled (m ∷ q) (n.table) → has_ask q ≡ has_ask (m ∷ q)
-    → Exact n → Exact (record n { table = table; heard = heard; up = q })
-heard-same n m q table heard e same asks x = record {
+    → (has_report (m ∷ q) ≡ false → has_report q ≡ false) → Exact n → Exact (record n { table = table; heard = heard; up = q })
+heard-same n m q table heard e same asks told x = record {
   idle = λ a b c d. along ∙ x.idle a b c d;
   asking = λ a. along ∙ x.asking (ap has_ask e ∙ (sym asks ∙ a));
   wanting = λ s w. along ∙ x.wanting s w;
   granted = λ s w. along ∙ x.granted s w;
+  reported = λ s w. told (sym (ap has_report e) ∙ x.reported s w);
 }
   where
     along : settled q table ≡ settled (n.up) (n.table)
@@ -103,17 +121,22 @@ move-exact n _ (Asks s member fresh taken runs un idle) f x = record {
   asking = λ a. settled-ask (n.up) (n.table) s ∙ (x.idle member fresh taken idle ∙ (eff-runs n runs ∙ un));
   wanting = λ t w. settled-ask (n.up) (n.table) s ∙ x.wanting t w;
   granted = λ t w. settled-ask (n.up) (n.table) s ∙ x.granted t w;
+  reported = λ t w. report-ask (n.up) s ∙ x.reported t w;
 }
-move-exact n _ (HearsReport s q e) f x = heard-same n (Report s) q s (n.heard) e refl refl x
-move-exact n _ (HearsEnd q e) f x = heard-same n End q (n.table) true e refl refl x
-move-exact n _ (HearsDown s q e) f x = heard-same n (Lowered s) q s (n.heard) e refl refl x
+move-exact n _ (HearsReport s q e) f x = heard-same n (Report s) q s (n.heard) e refl refl (λ r. true-false refl r) x
+move-exact n _ (HearsEnd q e) f x = heard-same n End q (n.table) true e refl refl (λ r. r) x
+move-exact n _ (HearsDown s q e) f x = heard-same n (Lowered s) q s (n.heard) e refl refl (λ r. r) x
 move-exact n _ (HearsAsk s q e) f x = record {
   idle = λ a b c d. along ∙ x.idle a b c d;
   asking = λ a. along ∙ x.asking (ap has_ask e);
   wanting = λ t w. along ∙ x.asking (ap has_ask e);
   granted = λ t w. along ∙ x.granted t w;
+  reported = λ t w. order.0;
 }
   where
+    order : machine.InOrder (Asked s ∷ q)
+    order = subst machine.InOrder e f.in_order
+
     along : settled q (n.table) ≡ settled (n.up) (n.table)
     along = sym (ap (λ (u : List machine.Message). settled u (n.table)) e)
 move-exact n _ (Receives s e member fresh runs) f x = record {
@@ -121,13 +144,15 @@ move-exact n _ (Receives s e member fresh runs) f x = record {
   asking = x.asking;
   wanting = x.wanting;
   granted = λ t w. some-none refl w;
+  reported = x.reported;
 }
-move-exact n _ (Drops s e) f x = record { idle = x.idle; asking = x.asking; wanting = x.wanting; granted = λ t w. some-none refl w }
+move-exact n _ (Drops s e) f x = record { idle = x.idle; asking = x.asking; wanting = x.wanting; granted = λ t w. some-none refl w; reported = x.reported }
 move-exact n _ (Lowers s member fresh taken runs low held) f x = record {
   idle = λ a b c d. settled-down (n.up) (n.table) s ∙ sym (eff-runs (record n { state = s; up = n.up ++ Lowered s ∷ [] }) runs);
   asking = λ a. true-false (sym (ask-down (n.up) s) ∙ a) quiet.0;
   wanting = λ t w. some-none quiet.1 w;
   granted = λ t w. some-none quiet.2 w;
+  reported = λ t w. some-none quiet.1 w;
 }
   where
     not-asked : n.asked ≡ false
@@ -140,10 +165,11 @@ move-exact n _ (TakesView member roll untaken) f x = record {
   asking = λ a. true-false a refl;
   wanting = λ t w. some-none (f.bare untaken).2 w;
   granted = λ t w. some-none (f.bare untaken).1 w;
+  reported = λ t w. some-none (f.bare untaken).2 w;
 }
-move-exact n _ Stops f x = record { idle = λ a b c d. true-false a refl; asking = x.asking; wanting = x.wanting; granted = x.granted }
-move-exact n _ (IsRecovered waits) f x = record { idle = λ a b c d. x.idle a b c d ∙ eff-waits n waits; asking = x.asking; wanting = x.wanting; granted = x.granted }
-move-exact n _ (Joins out) f x = record { idle = λ a b c d. true-false refl b; asking = x.asking; wanting = x.wanting; granted = x.granted }
+move-exact n _ Stops f x = record { idle = λ a b c d. true-false a refl; asking = x.asking; wanting = x.wanting; granted = x.granted; reported = x.reported }
+move-exact n _ (IsRecovered waits) f x = record { idle = λ a b c d. x.idle a b c d ∙ eff-waits n waits; asking = x.asking; wanting = x.wanting; granted = x.granted; reported = x.reported }
+move-exact n _ (Joins out) f x = record { idle = λ a b c d. true-false refl b; asking = x.asking; wanting = x.wanting; granted = x.granted; reported = x.reported }
 
 anew-exact : (n : Node) → Exact (anew n)
 anew-exact n = record {
@@ -151,6 +177,7 @@ anew-exact n = record {
   asking = λ a. true-false a refl;
   wanting = λ t w. some-none refl w;
   granted = λ t w. some-none refl w;
+  reported = λ t w. some-none refl w;
 }
 
 granted-exact : (n : Node) (s : State) → Fine n → (n.roll ≡ true → n.heard ≡ true) → n.wants ≡ Some s → Exact (record n { table = s; wants = None; down = Some s })
@@ -159,6 +186,7 @@ granted-exact n s f ready w = record {
   asking = λ a. true-false a (f.wanting s w).1;
   wanting = λ t v. some-none refl v;
   granted = λ t v. settled-same (n.up) s no-report (f.wanting s w).0 ∙ inside v;
+  reported = λ t v. some-none refl v;
 }
   where
     inside : {a b : State} → Some a ≡ Some b → a ≡ b
@@ -196,6 +224,7 @@ starts-exact runs waits = record {
   asking = λ a. true-false a refl;
   wanting = λ t w. some-none refl w;
   granted = λ t w. some-none refl w;
+  reported = λ t w. some-none refl w;
 }
 
 -- ---- the parts
@@ -270,3 +299,41 @@ lowers-lower lock p q k mode value rest b calls x hand =
       ap (λ (t : Mode). is_at_least t mode) f.table ∙ (ap (is_at_least (mode_for (n.table))) a.2 ∙ (sym (cover-as-modes a.0 (n.table)) ∙ ok.0)),
       waits-not (present q lock) k (e.tied).table.never_converted (f.wants ∙ ap (option_map mode_for) (wants-none n ((e.sound).fine k) (ap has_down up))),
     )
+
+-- of whom a report is under way the machine wants nothing
+reports-want-none : (n : Node) → Exact n → has_report (n.up) ≡ true → n.wants ≡ None
+reports-want-none n x report = by (n.wants) refl
+  where
+    by : (o : Option State) → n.wants ≡ o → n.wants ≡ None
+    by None e = e
+    by (Some s) e = true-false report (x.reported s e)
+
+pub reports-find : ReportsFindARebuild
+reports-find lock p q k mode value rest b calls x hand =
+    let e = ends lock p q b calls in
+    let f = (e.tied).nodes k x in
+    let n : Node = e.state k in
+    let fine : Fine n = (e.sound).fine k in
+    let same = tied-of lock q e.state e.tied in
+    let c = first lock q (present q lock) q.post e.state k (body.Report lock mode value) (ties.Reports mode) rest same e.sound x hand (says-report lock mode value) refl in
+    let a = is-report c.0 mode c.3 in
+    let up : n.up ≡ Report a.0 ∷ c.1 = c.2 ∙ ap (λ (m : machine.Message). m ∷ c.1) a.1 in
+    let report : has_report (n.up) ≡ true = ap has_report up in
+    let taken : q.taken k ≡ true = has-taken lock q (present q lock) q.post e.state k (body.Report lock mode value) (ties.Reports mode) rest same e.sound x hand (says-report lock mode value) refl in
+    let roll : n.roll ≡ true = elim (cases_Bool (n.roll)) [ inl is ↦ is | inr out ↦ true-false (sym f.taken ∙ taken) (fine.outside out).1 ] in (
+      elim (cases_Bool (q.table.master.rebuild)) [
+        | inl is ↦ is
+        | inr done ↦ true-false report (fine.heard (sym f.heard ∙ (e.tied).done done k x (f.roll ∙ roll)))
+      ],
+      waits-not (present q lock) k (e.tied).table.never_converted (f.wants ∙ ap (option_map mode_for) (reports-want-none n (e.exact k) report)),
+    )
+
+pub holders-ask-nothing : HoldersAskForNothing
+holders-ask-nothing lock p q k b calls x member holds =
+    let e = ends lock p q b calls in
+    let f = (e.tied).nodes k x in
+    by f ((e.sound).fine k) (wanted_in (q.holders k) lock) refl
+  where
+    by : {n : Node} → Fits (sight lock q k) n → Fine n → (o : Option Mode) → wanted_in (q.holders k) lock ≡ o → wanted_in (q.holders k) lock ≡ None
+    by f fine None none = none
+    by f fine (Some mode) some = absurd (holds (f.mode member ∙ ap mode_for (fine.asked (sym (f.asked member) ∙ ap is_some some))))

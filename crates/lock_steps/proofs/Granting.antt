@@ -15,7 +15,7 @@ use Rattle.dlm_master.specs.Tables.{is_blocked, request_waits}
 use Rattle.lock_laws.specs.Lock.{Node}
 use Rattle.lock_steps.specs.Parts.{Parts, Post, way, now_says, with_left}
 use Rattle.lock_steps.specs.Ties.{sight, Tied, in_view, grants, present}
-use Rattle.lock_steps.specs.Calls.{MailCall, HolderCall, TableCall, MemberCall, reply, grant_letter}
+use Rattle.lock_steps.specs.Calls.{KnowsSlots, MailCall, HolderCall, TableCall, MemberCall, reply, grant_letter}
 use Rattle.lock_steps.specs.Calls as calls
 use Rattle.lock_steps.specs.Laws.{Call, OfMail, OfHolder, OfTable, OfMembers, MayGrant, GrantsWait}
 use Rattle.lock_steps.proofs.Basics.{true-false, pairs}
@@ -42,11 +42,11 @@ left-empty {A} says p a b m rest i k hand none = elim (pairs i k a b) [
     by (Some x) e empty = absurd (let f : x ∷ filter_map says (way (with_left p a b rest) a b) ≡ [] = sym (rw e refl) ∙ (sym (ap (filter_map says) (left-here p a b m rest hand)) ∙ empty) in cc)
 
 -- a master that may grant
-may-grant : (lock : LockName) (p : Parts) (l : ℕ → Node) → Tied lock p l → p.table.master.rebuild ≡ false → ((i : ℕ) → i ≤ 8 → has p.table.master.waiting i ≡ false) → MayGrant p
-may-grant lock p l tied done none = record {
+may-grant : (lock : LockName) (p : Parts) (l : ℕ → Node) → Tied lock p l → KnowsSlots p → p.table.master.rebuild ≡ false → ((i : ℕ) → i ≤ 8 → has p.table.master.waiting i ≡ false) → MayGrant p
+may-grant lock p l tied knows done none = record {
   rebuilt = done;
   heard = tied.done done;
-  runs = λ i x. elim (cases_Bool (has p.membership.waiting i)) [ inl waits ↦ true-false (tied.told done i x waits) (none i x) | inr runs ↦ runs ];
+  runs = λ i x. elim (cases_Bool (has p.membership.waiting i)) [ inl waits ↦ true-false (knows done i x waits) (none i x) | inr runs ↦ runs ];
 }
 
 mute-one : (lock : LockName) (p : Parts) (b : Body) → grants lock b ≡ None → filter_map (in_view p.membership.generation (grants lock)) (now_says p b ∷ []) ≡ []
@@ -55,8 +55,8 @@ mute-one lock p b e = says-none (in_view p.membership.generation (grants lock)) 
 holder-waits : (lock : LockName) (p q : Parts) (k : ℕ) → HolderCall lock p q → (sight lock p k).down ≡ [] → (sight lock q k).down ≡ []
 holder-waits lock p _ k (calls.Asks j s acts from) none =
     letters-mute (in_view p.membership.generation (grants lock)) p.post j p.master (now_says p (Request lock (mode_for s)) ∷ []) p.master k (mute-one lock p (Request lock (mode_for s)) refl) ∙ none
-holder-waits lock p _ k (calls.IsGranted j mode value rest acts hand) none = left-empty (in_view p.membership.generation (grants lock)) p.post p.master j _ rest p.master k hand none
-holder-waits lock p _ k (calls.Lowers j s value acts covered some) none =
+holder-waits lock p _ k (calls.IsGranted j mode value rest acts runs hand) none = left-empty (in_view p.membership.generation (grants lock)) p.post p.master j _ rest p.master k hand none
+holder-waits lock p _ k (calls.Lowers j s value acts covered some idle) none =
     letters-mute (in_view p.membership.generation (grants lock)) p.post j p.master (now_says p (Down lock (mode_for s) value) ∷ []) p.master k (mute-one lock p (Down lock (mode_for s) value) refl) ∙ none
 holder-waits lock p _ k (calls.Drops from to m rest x y hand mute) none = left-empty (in_view p.membership.generation (grants lock)) p.post from to m rest p.master k hand none
 holder-waits lock p _ k (calls.Writes from to letters x y old up down) none =
@@ -64,7 +64,7 @@ holder-waits lock p _ k (calls.Writes from to letters x y old up down) none =
 holder-waits lock p _ k (calls.HoldsElsewhere j other holding ne) none = none
 
 member-waits : (lock : LockName) (p q : Parts) (l : ℕ → Node) (k : ℕ) → k ≤ 8 → Tied lock p l → MemberCall lock p q → (sight lock p k).down ≡ [] → (sight lock q k).down ≡ []
-member-waits lock p _ l k x tied (calls.Stops j waiting y told) none = none
+member-waits lock p _ l k x tied (calls.Stops j y) none = none
 member-waits lock p _ l k x tied (calls.Fences j) none = none
 member-waits lock p _ l k x tied (calls.IsRecovered j y waits) none = none
 member-waits lock p _ l k x tied (calls.Joins j y out) none = none
@@ -73,33 +73,33 @@ member-waits lock p _ l k x tied (calls.TakesView j h letters over y member roll
     letters-mute (in_view p.membership.generation (grants lock)) p.post j p.master letters p.master k mute ∙ none
 
 table-waits : (lock : LockName) (p q : Parts) (l : ℕ → Node) (k : ℕ) → Tied lock p l → TableCall lock p q → (sight lock p k).down ≡ [] → (sight lock q k).down ≢ [] → MayGrant p
-table-waits lock p _ l k tied (calls.Requested j mode rest x hand new idle) none some = by (request_waits p.table.master j lock mode) refl some
+table-waits lock p _ l k tied (calls.Requested j mode rest x hand new idle knows) none some = by (request_waits p.table.master j lock mode) refl some
   where
     by : (c : Option Cause) → request_waits p.table.master j lock mode ≡ c
         → filter_map (in_view p.membership.generation (grants lock)) (way (reply p j lock mode c (with_left p.post j p.master rest)) p.master k) ≢ [] → MayGrant p
     by None e some =
         let free = no-cause p.table.master.rebuild p.table.master.waiting (present p lock).held (present p lock).conversions (present p lock).requests j mode e in
-        may-grant lock p l tied free.0 (least-none p.table.master.waiting free.1)
+        may-grant lock p l tied knows free.0 (least-none p.table.master.waiting free.1)
     by (Some cause) e some = absurd (some (left-empty (in_view p.membership.generation (grants lock)) p.post j p.master _ rest p.master k hand none))
 table-waits lock p _ l k tied (calls.Lowered j mode said kept rest x hand above idle) none some =
     absurd (some (left-empty (in_view p.membership.generation (grants lock)) p.post j p.master _ rest p.master k hand none))
 table-waits lock p _ l k tied (calls.LoweredAlready j mode said rest x hand already) none some =
     absurd (some (left-empty (in_view p.membership.generation (grants lock)) p.post j p.master _ rest p.master k hand none))
 table-waits lock p _ l k tied (calls.TableElsewhere other t ne) none some = absurd (some none)
-table-waits lock p _ l k tied (calls.Reported j mode value rest x hand) none some =
+table-waits lock p _ l k tied (calls.Reported j mode value rest x hand under idle) none some =
     absurd (some (left-empty (in_view p.membership.generation (grants lock)) p.post j p.master _ rest p.master k hand none))
 table-waits lock p _ l k tied (calls.Ended j rest x hand) none some =
     absurd (some (left-empty (in_view p.membership.generation (grants lock)) p.post j p.master _ rest p.master k hand none))
-table-waits lock p _ l k tied calls.GrantsNext none some = by (is_blocked p.table.master) refl some
+table-waits lock p _ l k tied (calls.GrantsNext knows) none some = by (is_blocked p.table.master) refl some
   where
     by : (b : Bool) → is_blocked p.table.master ≡ b
         → filter_map (in_view p.membership.generation (grants lock)) (way (cond b p.post (fold (grant_letter p lock) p.post (all_turns (present p lock)).granted)) p.master k) ≢ [] → MayGrant p
     by true e some = absurd (some none)
     by false e some =
         let parts = or_parts p.table.master.rebuild (not (p.table.master.waiting == 0)) e in
-        may-grant lock p l tied parts.0 (λ i x. ap (λ (n : ℕ). has n i) (not-zero p.table.master.waiting parts.1) ∙ zero-has i)
-table-waits lock p _ l k tied (calls.Completes ended told) none some = absurd (some none)
-table-waits lock p _ l k tied (calls.Blocks waiting told) none some = absurd (some none)
+        may-grant lock p l tied knows parts.0 (λ i x. ap (λ (n : ℕ). has n i) (not-zero p.table.master.waiting parts.1) ∙ zero-has i)
+table-waits lock p _ l k tied (calls.Completes ended) none some = absurd (some none)
+table-waits lock p _ l k tied (calls.Blocks waiting) none some = absurd (some none)
 
 call-waits : (lock : LockName) (p q : Parts) (l : ℕ → Node) (k : ℕ) → Tied lock p l → Call lock p q → k ≤ 8 → (sight lock p k).down ≡ [] → (sight lock q k).down ≢ [] → MayGrant p
 call-waits lock p _ l k tied (OfMail post call) x none some =

@@ -12,7 +12,7 @@ use Rattle.dlm_modes.specs.declared.ValueBlock.{ValueBlock}
 use Rattle.dlm_modes.specs.Modes.{is_at_least}
 use Rattle.mail_queues.specs.declared.Message.{Message}
 use Rattle.mail_queues.specs.declared.Body.{Body}
-use Rattle.mail_queues.specs.declared.Body.TheVariants.{Request, Down, Grant}
+use Rattle.mail_queues.specs.declared.Body.TheVariants.{Request, Down, Grant, Report}
 use Rattle.dlm_holder.specs.Holdings.{Holdings, holding_of, mode_in, wanted_in, asked_for, granted_to, lowered_to}
 use Rattle.dlm_holder.specs.declared.Holding.{Holding}
 use Rattle.lock_laws.specs.Lock.{State, Un, Node, eff, at, leq, Sound, Moves}
@@ -37,6 +37,9 @@ says-request lock m = cond-true _ _ _ (same-self lock)
 
 pub says-down : (lock : LockName) (m : Mode) (v : Option (List ℕ)) → tells lock (Down lock m v) ≡ Some (ties.Lowers m)
 says-down lock m v = cond-true _ _ _ (same-self lock)
+
+pub says-report : (lock : LockName) (m : Mode) (v : ValueBlock) → tells lock (Report lock m v) ≡ Some (ties.Reports m)
+says-report lock m v = cond-true _ _ _ (same-self lock)
 
 says-grant : (lock : LockName) (m : Mode) (v : ValueBlock) → grants lock (Grant lock m v) ≡ Some m
 says-grant lock m v = cond-true _ _ _ (same-self lock)
@@ -79,7 +82,6 @@ module _ (lock : LockName) (p : Parts) (l : ℕ → Node) (k : ℕ) (h : Holding
     master = tied.master;
     table = tied.table;
     done = tied.done;
-    told = tied.told;
     unheard = tied.unheard;
     mail = λ i j x y. letters-all (λ m. m.generation ≤ p.membership.generation) p.post k p.master (now_says p b ∷ []) i j (omega arith, tt) (tied.mail i j x y);
   }
@@ -111,7 +113,6 @@ module _ (lock : LockName) (p : Parts) (l : ℕ → Node) (k : ℕ) (within : k 
     master = tied.master;
     table = tied.table;
     done = tied.done;
-    told = tied.told;
     unheard = tied.unheard;
     mail = λ i j x y. left-all (λ m. m.generation ≤ p.membership.generation) p.post p.master k m rest i j hand (tied.mail i j x y);
   }
@@ -147,7 +148,7 @@ holder-steps lock p _ l (calls.Asks k s acts from) sound tied =
             (no-grant lock p l k h b (ties.Asks (mode_for s)) (machine.Asked s) n acts tied (says-request lock (mode_for s)) refl refl) ∙ f.down;
       });
     }
-holder-steps lock p _ l (calls.IsGranted k mode value rest acts hand) sound tied =
+holder-steps lock p _ l (calls.IsGranted k mode value rest acts none hand) sound tied =
     let f = tied.nodes k acts.node in
     let runs : (l k).waits ≡ false = sym f.waits ∙ acts.runs in
     let msg : Message = now_says p (Grant lock mode value) in
@@ -175,7 +176,7 @@ holder-steps lock p _ l (calls.IsGranted k mode value rest acts hand) sound tied
         down = c.3;
       });
     }
-holder-steps lock p _ l (calls.Lowers k s value acts covered some) sound tied =
+holder-steps lock p _ l (calls.Lowers k s value acts covered some idle) sound tied =
     let f = tied.nodes k acts.node in
     let runs : (l k).waits ≡ false = sym f.waits ∙ acts.runs in
     let is : mode_in (p.holders k) lock ≡ mode_for ((l k).state) = held-state lock p l k acts tied in
@@ -250,7 +251,6 @@ holder-steps lock p _ l (calls.Drops from to m rest x y hand mute) sound tied = 
             master = tied.master;
             table = tied.table;
             done = tied.done;
-            told = tied.told;
             unheard = tied.unheard;
             mail = λ i j u v. left-all (λ m. m.generation ≤ p.membership.generation) p.post p.master to m rest i j hand (tied.mail i j u v);
           };
@@ -278,7 +278,6 @@ holder-steps lock p _ l (calls.HoldsElsewhere k other holding ne) sound tied = r
     master = tied.master;
     table = tied.table;
     done = tied.done;
-    told = tied.told;
     unheard = tied.unheard;
     mail = tied.mail;
   };

@@ -83,7 +83,6 @@ begins-tied lock p b = record {
   master = b.master;
   table = subst IsTable (sym b.table) (record { never_converted = refl; held_once = tt; never_null = tt; asked_once = tt; nodes = tt });
   done = λ e k x m. b.ended k x ∙ (sym (b.members k x) ∙ m);
-  told = λ e. b.told;
   unheard = λ k x e. ap (λ (t : LockState). unwrap_or (mode_of_node t.held k) Nl) b.table;
   mail = λ i k x y. subst (AllByRecursion (λ m. m.generation ≤ p.membership.generation)) (sym (b.mail i k x y)) tt;
 }

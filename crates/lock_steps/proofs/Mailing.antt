@@ -23,7 +23,6 @@ mail-is-none lock p post l call tied =
       master = tied.master;
       table = tied.table;
       done = tied.done;
-      told = tied.told;
       unheard = tied.unheard;
       mail = λ i k x y. subst (AllByRecursion (λ m. m.generation ≤ p.membership.generation)) (sym (same i k x y)) (tied.mail i k x y);
     }

@@ -110,7 +110,6 @@ module _ (lock : LockName) (p : Parts) (l : ℕ → Node) (k : ℕ) (h : Holding
     master = tied.master;
     table = tied.table;
     done = tied.done;
-    told = tied.told;
     unheard = λ i y e. elim (cases_eq i k) [
       | inl is ↦ true-false (ap (at p.taken k true) is ∙ at-here p.taken k true) e
       | inr ne ↦ tied.unheard i y (sym (at-away p.taken k true i ne) ∙ e)
@@ -121,10 +120,10 @@ module _ (lock : LockName) (p : Parts) (l : ℕ → Node) (k : ℕ) (h : Holding
 -- ---- the calls
 
 pub member-steps : MemberCallsAreSteps
-member-steps lock p _ l (Stops k waiting x told) sound tied =
+member-steps lock p _ l (Stops k x) sound tied =
     let f = tied.nodes k x in
     let n : Node = record (l k) { member = false; waits = true } in
-    let q : Parts = record p { membership = stopped p.membership k; table = record p.table { master = record p.table.master { waiting = waiting } } } in
+    let q : Parts = record p { membership = stopped p.membership k } in
     record {
       state = at l k n;
       steps = one-step l (at l k n) (Moves k n machine.Stops);
@@ -151,7 +150,6 @@ member-steps lock p _ l (Stops k waiting x told) sound tied =
         master = tied.master;
         table = tied.table;
         done = tied.done;
-        told = told;
         unheard = tied.unheard;
         mail = tied.mail;
       };
@@ -165,7 +163,6 @@ member-steps lock p _ l (Fences k) sound tied = record {
     master = tied.master;
     table = tied.table;
     done = tied.done;
-    told = tied.told;
     unheard = tied.unheard;
     mail = tied.mail;
   };
@@ -198,10 +195,6 @@ member-steps lock p _ l (IsRecovered k x waits) sound tied =
         master = tied.master;
         table = tied.table;
         done = tied.done;
-        told = λ e i y h. elim (cases_eq i k) [
-          | inl is ↦ true-false h (subst (λ (j : ℕ). has (without_node p.membership.waiting k) j ≡ false) (sym is) (without-here p.membership.waiting k x))
-          | inr ne ↦ tied.told e i y (sym (without-away p.membership.waiting k i x y ne) ∙ h)
-        ];
         unheard = tied.unheard;
         mail = tied.mail;
       };
@@ -243,7 +236,6 @@ member-steps lock p _ l (Joins k x out) sound tied =
         master = tied.master;
         table = tied.table;
         done = tied.done;
-        told = tied.told;
         unheard = tied.unheard;
         mail = tied.mail;
       };
@@ -270,7 +262,6 @@ member-steps lock p _ l (Changes master x is) sound tied = record {
     master = x;
     table = record { never_converted = refl; held_once = tt; never_null = tt; asked_once = tt; nodes = tt };
     done = λ e. true-false refl e;
-    told = λ e. true-false refl e;
     unheard = λ i y e. refl;
     mail = λ i k y z. all-older p.membership.generation (way p.post i k) (tied.mail i k y z);
   };

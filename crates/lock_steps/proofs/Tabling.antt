@@ -57,15 +57,14 @@ tied-of lock p l tied = record { nodes = tied.nodes; others = tied.others; table
 
 -- and back, where only the lock has changed in the table
 pub tied-with : (lock : LockName) (p : Parts) (r : RebuildState) (post : Post) (l l' : ℕ → Node) → Tied lock p l → TiedOf lock p (lock_of r.master lock) post l'
-    → r.members ≡ p.table.members → r.ended ≡ p.table.ended → r.master.rebuild ≡ p.table.master.rebuild → r.master.waiting ≡ p.table.master.waiting
+    → r.members ≡ p.table.members → r.ended ≡ p.table.ended → r.master.rebuild ≡ p.table.master.rebuild
     → Tied lock (record p { table = r; post = post }) l'
-tied-with lock p r post l l' tied now members ended rebuild waiting = record {
+tied-with lock p r post l l' tied now members ended rebuild = record {
   nodes = λ i x. subst (λ (s : Sight). Fits s (l' i)) (same i) (now.nodes i x);
   others = now.others;
   master = tied.master;
   table = now.table;
   done = λ e i x m. ap (λ (n : ℕ). has n i) ended ∙ tied.done (sym rebuild ∙ e) i x (ap (λ (n : ℕ). has n i) (sym members) ∙ m);
-  told = λ e i x w. ap (λ (n : ℕ). has n i) waiting ∙ tied.told (sym rebuild ∙ e) i x w;
   unheard = now.unheard;
   mail = now.mail;
 }
@@ -121,7 +120,7 @@ is-down (machine.Report s) mode e = absurd (let f : ties.Lowers mode ≡ ties.Re
 is-down (machine.Asked s) mode e = absurd (let f : ties.Lowers mode ≡ ties.Asks (mode_for s) = e in cc)
 is-down machine.End mode e = absurd (let f : ties.Lowers mode ≡ ties.Ends = e in cc)
 
-is-report : (m : machine.Message) (mode : Mode) → ties.Reports mode ≡ tell_of m → (s : State) × (m ≡ machine.Report s) × (mode ≡ mode_for s)
+pub is-report : (m : machine.Message) (mode : Mode) → ties.Reports mode ≡ tell_of m → (s : State) × (m ≡ machine.Report s) × (mode ≡ mode_for s)
 is-report (machine.Report s) mode e = let f : ties.Reports mode ≡ ties.Reports (mode_for s) = e in (s, refl, (cc))
 is-report (machine.Lowered s) mode e = absurd (let f : ties.Reports mode ≡ ties.Lowers (mode_for s) = e in cc)
 is-report (machine.Asked s) mode e = absurd (let f : ties.Reports mode ≡ ties.Asks (mode_for s) = e in cc)

@@ -29,7 +29,7 @@ use Rattle.lock_steps.specs.Runs.{Steps, Stays, AndThen}
 use Rattle.lock_steps.specs.Parts.{Parts, Post, way, with_left}
 use Rattle.lock_steps.specs.Ties.{Sight, sight, Fits, IsNobody, Tied, in_view, tells, grants, present}
 use Rattle.lock_steps.specs.Ties as ties
-use Rattle.lock_steps.specs.Calls.{Requested, Lowered, Reported, Ended, GrantsNext, Completes, Blocks, LoweredAlready, TableElsewhere, reply, grant_letter}
+use Rattle.lock_steps.specs.Calls.{KnowsSlots, Requested, Lowered, Reported, Ended, GrantsNext, Completes, Blocks, LoweredAlready, TableElsewhere, reply, grant_letter}
 use Rattle.lock_steps.specs.Laws.{Follows, TableCallsAreSteps}
 use Rattle.lock_steps.proofs.Running.{one-step, steps-join}
 use Rattle.lock_steps.proofs.Basics.{true-false, up-to}
@@ -49,7 +49,7 @@ wrote lock p l t post tied r = record {
   state = r.state;
   steps = one-step l r.state r.step;
   tied = tied-with lock p (record p.table { master = with_state p.table.master lock t }) post l r.state tied
-      (subst (λ (u : LockState). TiedOf lock p u post r.state) (sym (written p.table.master lock t)) r.tied) refl refl refl refl;
+      (subst (λ (u : LockState). TiedOf lock p u post r.state) (sym (written p.table.master lock t)) r.tied) refl refl refl;
 }
 
 -- ---- who may grant
@@ -61,10 +61,10 @@ module _ (lock : LockName) (p : Parts) (l : ℕ → Node) (tied : Tied lock p l)
     | inr x ↦ true-false e (now.others i x).roll
   ]
 
-  none-waits : ((i : ℕ) → i ≤ 8 → has p.table.master.waiting i ≡ false) → (i : ℕ) → (l' i).waits ≡ false
-  none-waits none i = elim (up-to i) [
+  none-waits : KnowsSlots p → ((i : ℕ) → i ≤ 8 → has p.table.master.waiting i ≡ false) → (i : ℕ) → (l' i).waits ≡ false
+  none-waits knows none i = elim (up-to i) [
     | inl x ↦ sym (now.nodes i x).waits ∙ elim (cases_Bool (has p.membership.waiting i)) [
-      | inl waits ↦ true-false (tied.told done i x waits) (none i x)
+      | inl waits ↦ true-false (knows done i x waits) (none i x)
       | inr runs ↦ runs
     ]
     | inr x ↦ (now.others i x).waits
@@ -81,7 +81,7 @@ record Turned (lock : LockName) (p : Parts) (value : ValueBlock) (t : TurnState)
   steps : Steps l state
   tied : TiedOf lock p (turning value t []) (fold (grant_letter p lock) p.post t.granted) state
 
-module _ (lock : LockName) (p : Parts) (l0 : ℕ → Node) (base : Tied lock p l0) (done : p.table.master.rebuild ≡ false)
+module _ (lock : LockName) (p : Parts) (l0 : ℕ → Node) (base : Tied lock p l0) (knows : KnowsSlots p) (done : p.table.master.rebuild ≡ false)
     (none : (i : ℕ) → i ≤ 8 → has p.table.master.waiting i ≡ false) (value : ValueBlock) where
   turns : (ws : List Claim) (t : TurnState) (l : ℕ → Node) → Sound l → TiedOf lock p (turning value t ws) (fold (grant_letter p lock) p.post t.granted) l
       → Turned lock p value (fold (turn []) t ws) l
@@ -96,7 +96,7 @@ module _ (lock : LockName) (p : Parts) (l0 : ℕ → Node) (base : Tied lock p l
           let r = is-granted lock p (turning value t (w ∷ ws)) (fold (grant_letter p lock) p.post t.granted) l t.staying ws w base.master tied sound refl
           (none-is (in_way t.held w.node w.mode) (first-true _ _ (first-true _ _ free)))
           (all-heard lock p l0 base done (turning value t (w ∷ ws)) (fold (grant_letter p lock) p.post t.granted) l tied)
-          (none-waits lock p l0 base done (turning value t (w ∷ ws)) (fold (grant_letter p lock) p.post t.granted) l tied none) in
+          (none-waits lock p l0 base done (turning value t (w ∷ ws)) (fold (grant_letter p lock) p.post t.granted) l tied knows none) in
           let next : TurnState = record { held = now_holding t.held w.node w.mode; staying = t.staying; granted = t.granted ++ w ∷ [] } in
           let more = rest next r.state (step_keeps l r.state r.step sound).0
           (subst (λ (q : Post). TiedOf lock p (turning value next ws) q r.state) (sym (fold-append (grant_letter p lock) p.post t.granted (w ∷ []))) r.tied) in
@@ -125,29 +125,22 @@ turned-rebuild m lock = by (is_none (at_lock m.table lock))
     by true = refl
     by false = refl
 
-turned-waiting : (m : MasterState) (lock : LockName) → (after_turns m lock).waiting ≡ m.waiting
-turned-waiting m lock = by (is_none (at_lock m.table lock))
-  where
-    by : (b : Bool) → (cond b m (with_state m lock (after_grants (lock_of m lock)))).waiting ≡ m.waiting
-    by true = refl
-    by false = refl
-
 pub not-zero : (n : ℕ) → not (n == 0) ≡ false → n ≡ 0
 not-zero n e = elim (eqb_tells n 0) [ inl z ↦ z.1 | inr ne ↦ true-false refl (sym (ap not ne.0) ∙ e) ]
 
-grants-next : (lock : LockName) (p : Parts) (l : ℕ → Node) → Sound l → Tied lock p l → is_blocked p.table.master ≡ false
+grants-next : (lock : LockName) (p : Parts) (l : ℕ → Node) → Sound l → Tied lock p l → KnowsSlots p → is_blocked p.table.master ≡ false
     → Follows lock l (record p {
       table = record p.table { master = after_turns p.table.master lock };
       post = fold (grant_letter p lock) p.post (all_turns (present p lock)).granted;
     })
-grants-next lock p l sound tied free =
+grants-next lock p l sound tied knows free =
     let m : MasterState = p.table.master in
     let t : LockState = present p lock in
     let u : LockState = record t { conversions = [] } in
     let same : t ≡ u = λ i. record t { conversions = (tied.table).never_converted i } in
     let start : TurnState = record { held = t.held; staying = []; granted = [] } in
     let parts = or_parts m.rebuild (not (m.waiting == 0)) free in
-    let r = turns lock p l tied parts.0 (λ i x. ap (λ (n : ℕ). has n i) (not-zero m.waiting parts.1) ∙ zero-has i) t.value t.requests start l sound
+    let r = turns lock p l tied knows parts.0 (λ i x. ap (λ (n : ℕ). has n i) (not-zero m.waiting parts.1) ∙ zero-has i) t.value t.requests start l sound
     (subst (λ (v : LockState). TiedOf lock p v p.post l) same (tied-of lock p l tied)) in
     let plain : TiedOf lock p (after_grants u) (fold (grant_letter p lock) p.post (all_turns u).granted) r.state =
     subst (λ (cs : List Claim). TiedOf lock p (record (after_grants u) { requests = cs }) (fold (grant_letter p lock) p.post (all_turns u).granted) r.state)
@@ -159,7 +152,7 @@ grants-next lock p l sound tied free =
       steps = r.steps;
       tied = tied-with lock p (record p.table { master = after_turns m lock }) (fold (grant_letter p lock) p.post (all_turns t).granted) l r.state tied
           (subst (λ (v : LockState). TiedOf lock p v (fold (grant_letter p lock) p.post (all_turns t).granted) r.state) (sym (turned-lock m lock)) real)
-          refl refl (turned-rebuild m lock) (turned-waiting m lock);
+          refl refl (turned-rebuild m lock);
     }
 
 -- a node whose reports have ended changes nothing at another
@@ -172,7 +165,7 @@ ended-other lock p k rest i ne up down j = record (sight lock p i) { heard = sym
 -- ---- the calls
 
 pub table-steps : TableCallsAreSteps
-table-steps lock p _ l (Requested k mode rest x hand new idle) sound tied = by (request_waits p.table.master k lock mode) refl
+table-steps lock p _ l (Requested k mode rest x hand new idle knows) sound tied = by (request_waits p.table.master k lock mode) refl
   where
     none : mode_of_node (present p lock).requests k ≡ None
     none = is-nothing (mode_of_node (present p lock).requests k) (or_parts (is_some (mode_of_node (present p lock).conversions k)) (is_some (mode_of_node (present p lock).requests k)) idle).1
@@ -194,7 +187,7 @@ table-steps lock p _ l (Requested k mode rest x hand new idle) sound tied = by (
         let t : LockState = record (present p lock) { requests = (present p lock).requests ++ claim k mode ∷ [] } in
         let g = is-granted lock p t (with_left p.post k p.master rest) a.state (present p lock).requests [] (claim k mode) tied.master a.tied (step_keeps l a.state a.step sound).0 refl free.2
         (all-heard lock p l tied free.0 t (with_left p.post k p.master rest) a.state a.tied)
-        (none-waits lock p l tied free.0 t (with_left p.post k p.master rest) a.state a.tied (least-none p.table.master.waiting free.1)) in
+        (none-waits lock p l tied free.0 t (with_left p.post k p.master rest) a.state a.tied knows (least-none p.table.master.waiting free.1)) in
         let u : LockState = record (present p lock) { held = now_holding (present p lock).held k mode } in
         record {
           state = g.state;
@@ -203,7 +196,7 @@ table-steps lock p _ l (Requested k mode rest x hand new idle) sound tied = by (
               (subst (λ (v : LockState). TiedOf lock p v (grant_letter p lock (with_left p.post k p.master rest) (claim k mode)) g.state) (sym (written p.table.master lock u))
               (subst (λ (cs : List Claim). TiedOf lock p (record (present p lock) { held = now_holding (present p lock).held k mode; requests = cs })
               (grant_letter p lock (with_left p.post k p.master rest) (claim k mode)) g.state) (append-nil (present p lock).requests) g.tied))
-              refl refl refl refl;
+              refl refl refl;
         }
 table-steps lock p _ l (Lowered k mode said kept rest x hand above idle) sound tied =
     wrote lock p l (record (present p lock) { held = now_holding (present p lock).held k mode; value = value_after (mode_of_node (present p lock).held k) kept (present p lock).value })
@@ -214,9 +207,9 @@ table-steps lock p _ l (LoweredAlready k mode said rest x hand already) sound ti
     record {
       state = r.state;
       steps = one-step l r.state r.step;
-      tied = tied-with lock p p.table (with_left p.post k p.master rest) l r.state tied r.tied refl refl refl refl;
+      tied = tied-with lock p p.table (with_left p.post k p.master rest) l r.state tied r.tied refl refl refl;
     }
-table-steps lock p _ l (Reported k mode value rest x hand) sound tied =
+table-steps lock p _ l (Reported k mode value rest x hand under idle) sound tied =
     wrote lock p l (record (present p lock) { held = now_holding (present p lock).held k mode }) (with_left p.post k p.master rest) tied
     (hears-report lock p (present p lock) p.post l k mode value rest (tied-of lock p l tied) sound x hand)
 table-steps lock p _ l (Ended k rest x hand) sound tied =
@@ -253,12 +246,11 @@ table-steps lock p _ l (Ended k rest x hand) sound tied =
           | inl is ↦ subst (λ (j : ℕ). has (with_node p.table.ended k) j ≡ true) (sym is) (adds-one p.table.ended k k).0
           | inr ne ↦ (adds-one p.table.ended k i).1 ne ∙ tied.done e i y m
         ];
-        told = tied.told;
         unheard = tied.unheard;
         mail = mail-left lock p (present p lock) p.post l k End ties.Ends rest same sound x hand refl refl;
       };
     }
-table-steps lock p _ l GrantsNext sound tied = by (is_blocked p.table.master) refl
+table-steps lock p _ l (GrantsNext knows) sound tied = by (is_blocked p.table.master) refl
   where
     by : (b : Bool) → is_blocked p.table.master ≡ b
         → Follows lock l (record p {
@@ -266,8 +258,8 @@ table-steps lock p _ l GrantsNext sound tied = by (is_blocked p.table.master) re
           post = cond b p.post (fold (grant_letter p lock) p.post (all_turns (present p lock)).granted);
         })
     by true e = record { state = l; steps = Stays; tied = tied }
-    by false e = grants-next lock p l sound tied e
-table-steps lock p _ l (Completes ended told) sound tied = record {
+    by false e = grants-next lock p l sound tied knows e
+table-steps lock p _ l (Completes ended) sound tied = record {
   state = l;
   steps = Stays;
   tied = record {
@@ -276,12 +268,11 @@ table-steps lock p _ l (Completes ended told) sound tied = record {
     master = tied.master;
     table = tied.table;
     done = λ e. all-ended p.table.members p.table.ended ended;
-    told = λ e. told;
     unheard = tied.unheard;
     mail = tied.mail;
   };
 }
-table-steps lock p _ l (Blocks waiting told) sound tied = record {
+table-steps lock p _ l (Blocks waiting) sound tied = record {
   state = l;
   steps = Stays;
   tied = record {
@@ -290,7 +281,6 @@ table-steps lock p _ l (Blocks waiting told) sound tied = record {
     master = tied.master;
     table = tied.table;
     done = tied.done;
-    told = told;
     unheard = tied.unheard;
     mail = tied.mail;
   };
@@ -301,5 +291,5 @@ table-steps lock p _ l (TableElsewhere other t ne) sound tied =
       state = l;
       steps = Stays;
       tied = tied-with lock p (record p.table { master = with_state p.table.master other t }) p.post l l tied
-          (subst (λ (u : LockState). TiedOf lock p u p.post l) (sym same) (tied-of lock p l tied)) refl refl refl refl;
+          (subst (λ (u : LockState). TiedOf lock p u p.post l) (sym same) (tied-of lock p l tied)) refl refl refl;
     }

@@ -72,7 +72,6 @@ no-step lock p post l tied up down mail = record {
   master = tied.master;
   table = tied.table;
   done = tied.done;
-  told = tied.told;
   unheard = tied.unheard;
   mail = mail;
 }

@@ -26,6 +26,14 @@ use Rattle.lock_laws.specs.Lock.{State, at}
 use Rattle.lock_steps.specs.Parts.{Parts, Post, now_says, at_pair, with_letters, with_left}
 use Rattle.lock_steps.specs.Ties.{Reports, Ends, tells, grants, in_view, present, sight}
 
+-- no node's slot waits
+abbrev pub NoneWaits : Parts → Type 0
+NoneWaits p = (k : ℕ) → k ≤ 8 → has p.membership.waiting k ≡ false
+
+-- a master that isn't rebuilt any more has been told of every slot that waits
+abbrev pub KnowsSlots : Parts → Type 0
+KnowsSlots p = p.table.master.rebuild ≡ false → (k : ℕ) → k ≤ 8 → has p.membership.waiting k ≡ true → has p.table.master.waiting k ≡ true
+
 -- ---- the mail
 
 pub data MailCall (p : Post) : Post → Type 0 where
@@ -66,11 +74,12 @@ pub data HolderCall (lock : LockName) (p : Parts) : Parts → Type 0 where
         holders = at p.holders k (asked_for (p.holders k) lock (mode_for s));
         post = with_letters p.post k p.master (now_says p (Request lock (mode_for s)) ∷ []);
       })
-  -- `Holder::granted`
-  IsGranted : (k : ℕ) (mode : Mode) (value : ValueBlock) (rest : List Message) → Acts p k → p.post.took p.master k ≡ now_says p (Grant lock mode value) ∷ rest
+  -- `Holder::granted`, while no slot waits
+  IsGranted : (k : ℕ) (mode : Mode) (value : ValueBlock) (rest : List Message) → Acts p k → NoneWaits p → p.post.took p.master k ≡ now_says p (Grant lock mode value) ∷ rest
       → HolderCall lock p (record p { holders = at p.holders k (granted_to (p.holders k) lock mode value); post = with_left p.post p.master k rest })
   -- `Holder::down`
   Lowers : (k : ℕ) (s : State) (value : Option (List ℕ)) → Acts p k → is_at_least (mode_in (p.holders k) lock) (mode_for s) ≡ true → mode_in (p.holders k) lock ≢ Nl
+      → wanted_in (p.holders k) lock ≡ None
       → HolderCall lock p (record p {
         holders = at p.holders k (lowered_to (p.holders k) lock (mode_for s));
         post = with_letters p.post k p.master (now_says p (Down lock (mode_for s) value) ∷ []);
@@ -102,9 +111,9 @@ abbrev pub grant_letter : Parts → LockName → Post → Claim → Post
 grant_letter p lock post c = with_letters post p.master c.node (now_says p (Grant lock c.mode (present p lock).value) ∷ [])
 
 pub data TableCall (lock : LockName) (p : Parts) : Parts → Type 0 where
-  -- `Master::request`, `Rebuild::request`
+  -- `Rebuild::request`; and `Master::request`, of a master that knows which slots wait
   Requested : (k : ℕ) (mode : Mode) (rest : List Message) → k ≤ 8 → p.post.took k p.master ≡ now_says p (Request lock mode) ∷ rest
-      → held_by p.table.master k lock ≡ None → waits_for p.table.master k lock ≡ false
+      → held_by p.table.master k lock ≡ None → waits_for p.table.master k lock ≡ false → KnowsSlots p
       → TableCall lock p (record p {
         table = after_request_in p.table k lock mode;
         post = reply p k lock mode (request_waits p.table.master k lock mode) (with_left p.post k p.master rest);
@@ -119,21 +128,20 @@ pub data TableCall (lock : LockName) (p : Parts) : Parts → Type 0 where
       → TableCall lock p (record p { post = with_left p.post k p.master rest })
   -- `Rebuild::report`
   Reported : (k : ℕ) (mode : Mode) (value : ValueBlock) (rest : List Message) → k ≤ 8 → p.post.took k p.master ≡ now_says p (Report lock mode value) ∷ rest
+      → p.table.master.rebuild ≡ true → waits_for p.table.master k lock ≡ false
       → TableCall lock p (record p { table = with_report p.table k lock mode; post = with_left p.post k p.master rest })
   -- `Rebuild::end`
   Ended : (k : ℕ) (rest : List Message) → k ≤ 8 → p.post.took k p.master ≡ now_says p End ∷ rest
       → TableCall lock p (record p { table = with_end p.table k; post = with_left p.post k p.master rest })
-  -- `Master::next_grants`, and a letter to each who is granted
-  GrantsNext : TableCall lock p (record p {
+  -- `Master::next_grants`, of a master that knows which slots wait, and a letter to each who is granted
+  GrantsNext : KnowsSlots p → TableCall lock p (record p {
     table = record p.table { master = after_next p.table.master lock };
     post = if is_blocked p.table.master then p.post else fold (grant_letter p lock) p.post (all_turns (present p lock)).granted;
   })
-  -- `Rebuild::complete`, of a rebuild that knows which slots wait
-  Completes : is_done p.table ≡ true → ((k : ℕ) → k ≤ 8 → has p.membership.waiting k ≡ true → has p.table.master.waiting k ≡ true)
-      → TableCall lock p (record p { table = record p.table { master = master_after p.table } })
-  -- `Rebuild::blocked`; and `Master::blocked`, which tells each slot that waits
-  Blocks : (waiting : ℕ) → (p.table.master.rebuild ≡ false → (k : ℕ) → k ≤ 8 → has p.membership.waiting k ≡ true → has waiting k ≡ true)
-      → TableCall lock p (record p { table = record p.table { master = record p.table.master { waiting = waiting } } })
+  -- `Rebuild::complete`
+  Completes : is_done p.table ≡ true → TableCall lock p (record p { table = record p.table { master = master_after p.table } })
+  -- `Rebuild::blocked`, `Master::blocked`
+  Blocks : (waiting : ℕ) → TableCall lock p (record p { table = record p.table { master = record p.table.master { waiting = waiting } } })
   -- a call on another lock
   TableElsewhere : (other : LockName) (t : LockState) → lock ≢ other
       → TableCall lock p (record p { table = record p.table { master = with_state p.table.master other t } })
@@ -151,10 +159,8 @@ pub data SaysAll (lock : LockName) (p : Parts) (k : ℕ) (letters : List Message
   TellsNone : mode_in (p.holders k) lock ≡ Nl → filter_map (in_view p.membership.generation (tells lock)) letters ≡ Ends ∷ [] → SaysAll lock p k letters
 
 pub data MemberCall (lock : LockName) (p : Parts) : Parts → Type 0 where
-  -- `Membership::stop`; a master that isn't rebuilt is told at once that the slot waits, by `Master::blocked`
-  Stops : (k waiting : ℕ) → k ≤ 8
-      → (p.table.master.rebuild ≡ false → (i : ℕ) → i ≤ 8 → has (stopped p.membership k).waiting i ≡ true → has waiting i ≡ true)
-      → MemberCall lock p (record p { membership = stopped p.membership k; table = record p.table { master = record p.table.master { waiting = waiting } } })
+  -- `Membership::stop`. The lock's master is told later, in a call of its own
+  Stops : (k : ℕ) → k ≤ 8 → MemberCall lock p (record p { membership = stopped p.membership k })
   -- `Membership::fence`
   Fences : (k : ℕ) → MemberCall lock p (record p { membership = fenced_too p.membership k })
   -- `Membership::recovered`

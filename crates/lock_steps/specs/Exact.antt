@@ -1,11 +1,13 @@
 -- What a table has of a node once all that is under way has come.
-use Rattle.std.specs.Prelude.{ℕ, ◌≡◌, ◌≤◌, true, false, List, [], ◌∷◌, Option, None}
+use Rattle.std.specs.Prelude.{ℕ, ◌≡◌, ◌≢◌, ◌≤◌, true, false, List, [], ◌∷◌, Option, None}
 use Rattle.glock_names.specs.declared.LockName.{LockName}
 use Rattle.dlm_modes.specs.declared.Mode.{Mode}
+use Rattle.dlm_modes.specs.declared.Mode.TheVariants.{Nl}
+use Rattle.dlm_modes.specs.declared.ValueBlock.{ValueBlock}
 use Rattle.dlm_modes.specs.Modes.{is_at_least}
 use Rattle.fencing.specs.NodeSets.{has}
 use Rattle.mail_queues.specs.declared.Message.{Message}
-use Rattle.mail_queues.specs.declared.Body.TheVariants.{Request, Down}
+use Rattle.mail_queues.specs.declared.Body.TheVariants.{Request, Down, Report}
 use Rattle.dlm_holder.specs.Holdings.{mode_in, wanted_in}
 use Rattle.dlm_master.specs.Tables.{held_by, waits_for}
 use Rattle.lock_steps.specs.Parts.{Parts, now_says}
@@ -37,3 +39,14 @@ abbrev pub LowersOnlyLower : Type 0
 LowersOnlyLower = (lock : LockName) (p q : Parts) (k : ℕ) (mode : Mode) (value : Option (List ℕ)) (rest : List Message) → Begins lock p → Calls lock p q → k ≤ 8
     → q.post.took k q.master ≡ now_says q (Down lock mode value) ∷ rest
     → (is_at_least ((sight lock q k).table) mode ≡ true) × (waits_for q.table.master k lock ≡ false)
+
+-- and who reports waits for nothing, and is heard while the rebuild isn't done
+abbrev pub ReportsFindARebuild : Type 0
+ReportsFindARebuild = (lock : LockName) (p q : Parts) (k : ℕ) (mode : Mode) (value : ValueBlock) (rest : List Message) → Begins lock p → Calls lock p q → k ≤ 8
+    → q.post.took k q.master ≡ now_says q (Report lock mode value) ∷ rest
+    → (q.table.master.rebuild ≡ true) × (waits_for q.table.master k lock ≡ false)
+
+-- at a node too: of a member that holds the lock no ask stands, so that it may lower it
+abbrev pub HoldersAskForNothing : Type 0
+HoldersAskForNothing = (lock : LockName) (p q : Parts) (k : ℕ) → Begins lock p → Calls lock p q → k ≤ 8 → has q.membership.members k ≡ true
+    → mode_in (q.holders k) lock ≢ Nl → wanted_in (q.holders k) lock ≡ None

@@ -10,7 +10,7 @@ use Rattle.lock_laws.specs.Lock.{Node, Sound, starting}
 use Rattle.lock_steps.specs.Runs.{Steps}
 use Rattle.lock_steps.specs.Parts.{Parts, Post, way}
 use Rattle.lock_steps.specs.Ties.{Tied, sight, present}
-use Rattle.lock_steps.specs.Calls.{MailCall, HolderCall, TableCall, MemberCall}
+use Rattle.lock_steps.specs.Calls.{NoneWaits, MailCall, HolderCall, TableCall, MemberCall}
 
 -- the parts after a call are the machine after a list of its steps
 pub record Follows (lock : LockName) (l : ℕ → Node) (p : Parts) : Type 0 where
@@ -42,15 +42,13 @@ pub data Calls (lock : LockName) (p : Parts) : Parts → Type 0 where
   NoCall : Calls lock p p
   AndCall : (q r : Parts) → Calls lock p q → Call lock q r → Calls lock p r
 
--- the start: nothing is asked for, held or under way, and the master of the first view, which needs no reports, knows which slots
--- wait
+-- the start: nothing is asked for, held or under way, and the master of the first view needs no reports
 pub record Begins (lock : LockName) (p : Parts) : Type 0 where
   pub master : p.master ≤ 8
   pub holders : (k : ℕ) → k ≤ 8 → p.holders k ≡ []
   pub table : present p lock ≡ free_lock
   pub members : (k : ℕ) → k ≤ 8 → has p.table.members k ≡ has p.membership.members k
   pub ended : (k : ℕ) → k ≤ 8 → has p.table.ended k ≡ has p.membership.members k
-  pub told : (k : ℕ) → k ≤ 8 → has p.membership.waiting k ≡ true → has p.table.master.waiting k ≡ true
   pub fresh : (k : ℕ) → k ≤ 8 → p.fresh k ≡ false
   pub taken : (k : ℕ) → k ≤ 8 → p.taken k ≡ has p.membership.members k
   pub mail : (i k : ℕ) → i ≤ 8 → k ≤ 8 → way p.post i k ≡ []
@@ -79,7 +77,7 @@ EveryListIsRight = (lock : LockName) (p q : Parts) → Begins lock p → Calls l
 pub record MayGrant (p : Parts) : Type 0 where
   pub rebuilt : p.table.master.rebuild ≡ false
   pub heard : (i : ℕ) → i ≤ 8 → has p.table.members i ≡ true → has p.table.ended i ≡ true
-  pub runs : (i : ℕ) → i ≤ 8 → has p.membership.waiting i ≡ false
+  pub runs : NoneWaits p
 
 -- after every list of calls, whichever call then sets a grant on its way to a node makes it only where that is so
 abbrev pub GrantsWait : Type 0

@@ -9,7 +9,7 @@ use Rattle.dlm_holder.specs.Holdings.{Holdings}
 use Rattle.dlm_rebuild.specs.Rebuilding.{RebuildState}
 
 -- the mail, and what nodes have in hand of it: of each ordered pair the messages that the second has taken and not acted on,
--- and those that the first has still to send
+-- and those that the first has still to send. What a node that joined drops before its next view counts as taken and not acted on
 pub record Post : Type 0 where
   pub mail : List QueueState
   pub took : ℕ → ℕ → List Message
@@ -21,7 +21,8 @@ way p from to = p.took from to ++ (messages_of p.mail from to ++ p.sends from to
 
 pub record Parts : Type 0 where
   pub membership : Membership
-  -- the node that is the lock's master in the present view, and its table: that of a rebuild, and then of the master it became
+  -- the node that is the lock's master in the present view, and its table: that of a rebuild, and then of the master it became.
+  -- Until that node takes the view, it is what `Rebuild::new` will give there
   pub master : ℕ
   pub table : RebuildState
   -- what each node holds

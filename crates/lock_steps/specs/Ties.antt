@@ -137,9 +137,8 @@ pub record Tied (lock : LockName) (p : Parts) (l : ℕ → Node) : Type 0 where
   pub others : (k : ℕ) → 8 < k → IsNobody (l k)
   pub master : p.master ≤ 8
   pub table : IsTable (present p lock)
-  -- a master that isn't rebuilt any more has heard every member of the view, and knows of every slot that waits
+  -- a master that isn't rebuilt any more has heard every member of the view
   pub done : p.table.master.rebuild ≡ false → (k : ℕ) → k ≤ 8 → has p.table.members k ≡ true → has p.table.ended k ≡ true
-  pub told : p.table.master.rebuild ≡ false → (k : ℕ) → k ≤ 8 → has p.membership.waiting k ≡ true → has p.table.master.waiting k ≡ true
   -- of a node that hasn't taken the present view nothing is in the table
   pub unheard : (k : ℕ) → k ≤ 8 → p.taken k ≡ false → (sight lock p k).table ≡ Nl
   -- nothing is under way that is newer than the present view

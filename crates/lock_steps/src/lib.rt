@@ -4,7 +4,7 @@
 ghost use Rattle.lock_steps.specs.Modes.{GoAsModes, CoverAsModes, HaveModesOfTheirOwn};
 ghost use Rattle.lock_steps.specs.Runs.{EveryRunIsCompatible, EveryTableCovers};
 ghost use Rattle.lock_steps.specs.Example.{ListCanBeMade};
-ghost use Rattle.lock_steps.specs.Exact.{TablesAreExact, RequestsFindNothing, LowersOnlyLower};
+ghost use Rattle.lock_steps.specs.Exact.{TablesAreExact, RequestsFindNothing, LowersOnlyLower, ReportsFindARebuild, HoldersAskForNothing};
 ghost use Rattle.lock_steps.specs.Laws.{MailIsNoStep, HolderCallsAreSteps, TableCallsAreSteps, MemberCallsAreSteps, EveryListIsSteps, EveryListIsRight, GrantsWait};
 
 /// A law: states go together and are at most one another as their modes.
@@ -46,7 +46,7 @@ pub fn a_member_call_is_steps()
     ensures { MemberCallsAreSteps }
 {}
 
-/// A law: every list of calls from the start is a list of steps of the lock.
+/// A law: every list of calls from the start is a list of steps of the lock. Conversions aren't among the calls.
 pub fn every_list_is_steps()
     ensures { EveryListIsSteps }
 {}
@@ -77,7 +77,17 @@ pub fn lowers_only_lower()
     ensures { LowersOnlyLower }
 {}
 
-/// A law: the calls can be made, from a start that there is. So what holds of every list of them isn't said of none.
+/// A law: who reports is heard while the rebuild isn't done, and waits for nothing, as the rebuild's call requires.
+pub fn reports_find_a_rebuild()
+    ensures { ReportsFindARebuild }
+{}
+
+/// A law: of a member that holds the lock no ask stands, as the holder's call to lower it requires.
+pub fn holders_ask_for_nothing()
+    ensures { HoldersAskForNothing }
+{}
+
+/// A law: a list of calls can be made, from a start that there is: one node asks for a lock, and is granted it.
 pub fn a_list_can_be_made()
     ensures { ListCanBeMade }
 {}

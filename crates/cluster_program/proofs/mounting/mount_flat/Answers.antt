@@ -29,7 +29,9 @@ returns-in-Ok-read_root-clause-root g c tells =
 pub returns-in-Err-read_root-clause-ends : goal.returns-in-Err-read_root-clause-ends
 returns-in-Err-read_root-clause-ends g c =
     let d = g.D.SharedDisk.state c.args.disk.now in
-    let at : IsTrue d.tells → c.mounted.inside.sb.root.address ≡ root_of d = λ tells. ap (λ (m : MountedValue). m.superblock.root.address) c.mounted.view_is ∙ (superblock_is d c.in-Ok.mounted c.requires.size (c.in-Ok.ensures.mounted tells)).1 in
+    let at : IsTrue d.tells → HasSuperBlock d × (c.mounted.inside.sb.root.address ≡ root_of d) = λ tells.
+    let told = superblock_is d c.in-Ok.mounted c.requires.size (c.in-Ok.ensures.mounted tells) in
+    (told.0, ap (λ (m : MountedValue). m.superblock.root.address) c.mounted.view_is ∙ told.1) in
     subst (MountEnds _ _ _) (sym c.status_of_end.ensures)
     (root_end d (g.D.SharedDisk.state c.mount_image.new.disk) (g.D.SharedDisk.faults c.args.disk.now) (g.D.SharedDisk.faults c.mount_image.new.disk) (g.D.SharedDisk.faults c.read_root.new.disk) c.mounted.inside.sb.root.address
     c.in-Err-read_root.end c.in-Ok.ensures.reads.same c.what_stands_breaks_nothing.ensures at c.in-Ok.ensures.reads.later c.in-Err-read_root.ensures.cause c.in-Err-read_root.ensures.block c.in-Err-read_root.ensures.failed)

@@ -1,5 +1,6 @@
 use Rattle.dinode_tree.proofs.Dinodes.{lacks}
 use Rattle.dinode_tree.proofs.Pointers.{lacks_indirect, needed_link}
+use Rattle.dinode_tree.proofs.Stepping.{handed_kept}
 use Rattle.dinode_tree.proofs.links.next_link.Goals as goal
 
 pub returns-in_default-clause-needed : goal.returns-in_default-clause-needed
@@ -10,3 +11,7 @@ pub returns-then-not-has_header-clause-damaged : goal.returns-then-not-has_heade
 returns-then-not-has_header-clause-damaged g c h index shown is =
     lacks_indirect (g.V.View.seen c.args.view.now) h _ index c.args.link.now c.in-Some.bytes.now _ shown is c.requires.above c.in-Some.ensures.some c.damaged.ensures
     (lacks c.has_header.result c.has_header.ensures c.if-not-has_header.true)
+
+pub returns-in_err-found-clause-kept : goal.returns-in_err-found-clause-kept
+returns-in_err-found-clause-kept g c =
+    handed_kept _ (g.V.View.seen c.args.view.now) c.args.inode.now.block c.args.inode.now.bytes.now _ c.from_residual.ensures.1 c.requires.seen.bytes c.in_err-found.ensures.own

@@ -18,4 +18,4 @@ returns-then-block-count-2-clause-refused c im done d n size count wanted known 
 
 pub returns-then-is_place-clause-refused : goal.returns-then-is_place-clause-refused
 returns-then-is_place-clause-refused c im done d n size count wanted known =
-    place_wanted im _ c.args.block c.args.from done d n c.damaged-then-is_place.ensures wanted (known.marked c.args.block (c.is_place.ensures.0 c.if-is_place.true))
+    place_wanted im _ c.args.block c.args.from done d n c.damaged-then-is_place.ensures (omega (arith, c.if-block-count-2.false, count)) wanted (known.marked c.args.block (c.is_place.ensures.0 c.if-is_place.true))

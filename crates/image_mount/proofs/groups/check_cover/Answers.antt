@@ -29,7 +29,7 @@ returns-then-bare-group-clause-refused c im list is from =
     let rise = subst (RiseFrom im covered.end) more covered.rise in
     let ahead = subst (AllByRecursion (far im groups b)) (sym more) (ahead_of im groups b _ _ _ rise c.if-bare-group.true) in
     let within : b < im.count = omega (arith, c.if-bare-group.true, rise.0.inside, rise.0.first, rise.0.some) in
-    told im _ b 18 c.damaged.ensures (list_format im _ _ _ _ is) (bare_at im groups b k covered (list_known im _ _ list groups is) within (omega (arith, within, list_few im _ _ _ _ is)) ahead)
+    told im _ b 18 c.damaged.ensures (list_format im _ _ _ _ is) within (bare_at im groups b k covered (list_known im _ _ list groups is) within (omega (arith, within, list_few im _ _ _ _ is)) ahead)
 
 pub loop-group-preserved : goal.loop-group-preserved
 loop-group-preserved c = record {
@@ -46,7 +46,7 @@ returns-then-bare-device-clause-refused c im list is from =
     let b = c.loop-group.bare in
     let none = none_left (far im groups b) (drop k groups) (omega (arith, length-drop k groups, c.loop-group-test.false)) in
     let within : b < im.count = omega (arith, c.if-bare-device.true, is.blocks) in
-    told im _ b 18 c.damaged-then-bare-device.ensures (list_format im _ _ _ _ is)
+    told im _ b 18 c.damaged-then-bare-device.ensures (list_format im _ _ _ _ is) within
     (bare_at im groups b k (c.loop-group.invariant.covered im list is from) (list_known im _ _ list groups is) within (omega (arith, within, list_few im _ _ _ _ is)) none)
 
 pub returns-clause-fit : goal.returns-clause-fit

@@ -1,5 +1,5 @@
-use Rattle.std.proofs.Common.{◌≡◌, inl, ◌%◌, length, refl, sym, ap, subst, ◌∙◌, arith}
-use Rattle.gfs2_layout.specs.Inode.{dinode_in}
+use Rattle.std.proofs.Common.{◌≡◌, ◌<◌, inl, ◌%◌, length, refl, sym, ap, subst, ◌∙◌, arith}
+use Rattle.gfs2_layout.specs.Inode.{dinode_in, Fits}
 use Rattle.gfs2_layout.specs.declared.dinode.Dinode.{Dinode}
 use Rattle.std.specs.Prelude.{codes}
 use Rattle.image_model.specs.Claims.{every, Claims, IsRindex, master_of}
@@ -16,7 +16,15 @@ returns-in_err-check_record-clause-stops c im read of_count is =
     let inode = c.in_ok-inode.inode in
     let dinode : inode.dinode ≡ dinode_in (every im inode.block) = c.in_ok-inode.ensures.found im read ∙ ap (λ a. dinode_in (every im a)) (sym c.in_ok-inode.ensures.block) in
     stopped im _ _ c.from_residual-in_err-check_record.ensures.1
-    (c.in_err-check_record.ensures.refused im (master_of im) is.named.row dinode is.found.format (subst (λ x. HasRecordIn im (master_of im) x is.named.row) (sym c.in_ok-inode.ensures.from) is.named.there) is.named.is)
+    (c.in_err-check_record.ensures.refused im (master_of im) is.named.row dinode is.found.format (subst (λ n. n < im.count) (sym c.in_ok-inode.ensures.from) is.named.inside) (subst (λ x. HasRecordIn im (master_of im) x is.named.row) (sym c.in_ok-inode.ensures.from) is.named.there) is.named.is)
+
+pub returns-in_err-bytes-clause-stops : goal.returns-in_err-bytes-clause-stops
+returns-in_err-bytes-clause-stops c im read of_count is =
+    let inode = c.in_ok-inode.inode in
+    let block = c.in_ok-inode.ensures.block in
+    let dinode : inode.dinode ≡ dinode_in (every im inode.block) = c.in_ok-inode.ensures.found im read ∙ ap (λ a. dinode_in (every im a)) (sym block) in
+    stopped im _ _ c.from_residual-in_err-bytes.ensures.1
+    (c.in_err-bytes.ensures.refused im is.layout is.found (subst (λ n. n < im.count) (sym block) (c.in_ok-inode.ensures.inside im read)) (is.rindex ∙ sym block) dinode (c.block_size-size.ensures.value ∙ read.size))
 
 pub returns-in_err-content-clause-stops : goal.returns-in_err-content-clause-stops
 returns-in_err-content-clause-stops c im read of_count is =
@@ -25,7 +33,7 @@ returns-in_err-content-clause-stops c im read of_count is =
     passed im _ _ c.from_residual-in_err-content.ensures.1
     (c.in_err-content.ensures.stops im (Named (master_of im) (codes "rindex")) read
     (subst (λ a. Claims im inode.from a (Named (master_of im) (codes "rindex"))) (sym at) (subst (λ b. Claims im b c.args.rindex.now.entry.addr (Named (master_of im) (codes "rindex"))) (sym c.in_ok-inode.ensures.from) is.named.claimed))
-    refl is.found.format (inl (subst (IsRindex im) (is.rindex ∙ sym at) is.found.rindex)))
+    refl is.found.format (subst (λ n. n < im.count) (sym c.in_ok-inode.ensures.from) is.named.inside) (inl (subst (IsRindex im) (is.rindex ∙ sym at) is.found.rindex)))
 
 pub returns-in_err-groups-clause-stops : goal.returns-in_err-groups-clause-stops
 returns-in_err-groups-clause-stops c im read of_count is = stopped im _ _ c.from_residual-in_err-groups.ensures.1 (subst (RefusesRightly im) (sym c.in_err-groups.ensures.memory) tt)
@@ -38,7 +46,7 @@ returns-in_err-check_groups-clause-stops c im read of_count is =
     let whole : (dinode_in (every im inode.block)).size % 96 ≡ 0 = ap (λ (d : Dinode). d.size % 96) (sym dinode) ∙ c.in_ok-bytes.ensures.whole in
     let content = c.in_ok-content.content.items in
     let listed : c.deref-2.result.now ≡ groups_in content = c.deref-2.ensures.value ∙ c.in_ok-groups.ensures.found ∙ ap groups_in c.deref.ensures.value in
-    let list = list_of im c.block_size-size.result c.args.count inode.block c.args.rindex.now c.deref-2.result.now content is (c.block_size-size.ensures.value ∙ read.size) of_count c.in_ok-inode.ensures.block whole
+    let list = list_of im c.block_size-size.result c.args.count inode.block c.args.rindex.now c.deref-2.result.now content is (c.block_size-size.ensures.value ∙ read.size) of_count c.in_ok-inode.ensures.block (subst (λ n. n < im.count) (sym c.in_ok-inode.ensures.block) (c.in_ok-inode.ensures.inside im read)) whole
     (c.in_ok-content.ensures.found im read size) listed in
     stopped im _ _ c.from_residual-in_err-check_groups.ensures.1
     (c.in_err-check_groups.ensures.refused im list (groups_some c.deref-2.result.now content c.in_ok-bytes.bytes listed (c.in_ok-content.ensures.length im read size) c.in_ok-bytes.ensures.least))
@@ -51,10 +59,15 @@ returns-clause-found c im read of_count is =
     let whole : (dinode_in (every im inode.block)).size % 96 ≡ 0 = ap (λ (d : Dinode). d.size % 96) (sym dinode) ∙ c.in_ok-bytes.ensures.whole in
     let content = c.in_ok-content.content.items in
     let listed : c.deref-2.result.now ≡ groups_in content = c.deref-2.ensures.value ∙ c.in_ok-groups.ensures.found ∙ ap groups_in c.deref.ensures.value in
-    let list = list_of im c.block_size-size.result c.args.count inode.block c.args.rindex.now c.deref-2.result.now content is (c.block_size-size.ensures.value ∙ read.size) of_count c.in_ok-inode.ensures.block whole
+    let list = list_of im c.block_size-size.result c.args.count inode.block c.args.rindex.now c.deref-2.result.now content is (c.block_size-size.ensures.value ∙ read.size) of_count c.in_ok-inode.ensures.block (subst (λ n. n < im.count) (sym c.in_ok-inode.ensures.block) (c.in_ok-inode.ensures.inside im read)) whole
     (c.in_ok-content.ensures.found im read size) listed in
     let value = c.deref-2.ensures.value in
     groups_are im inode.block c.args.rindex.now.entry.addr c.deref-2.result.now c.in_ok-groups.groups.items value c.in_ok-inode.ensures.block (record {
+      inside = list.inside;
+      looked = record {
+        fits = subst (λ a. Fits (every im a)) (sym c.in_ok-inode.ensures.block) (c.in_ok-inode.ensures.fits im read);
+        sized = c.in_ok-bytes.ensures.sized im dinode (c.block_size-size.ensures.value ∙ read.size);
+      };
       whole = whole;
       listed = list_groups im _ _ _ _ list;
       some = groups_some c.deref-2.result.now content c.in_ok-bytes.bytes listed (c.in_ok-content.ensures.length im read size) c.in_ok-bytes.ensures.least;
@@ -62,3 +75,8 @@ returns-clause-found c im read of_count is =
       fit = c.in_ok-check_groups.ensures.fit im list;
       short = c.in_ok-check_groups.ensures.short;
     })
+
+pub returns-clause-repeats : goal.returns-clause-repeats
+returns-clause-repeats c im read =
+    let inode = c.in_ok-inode.inode in
+    c.in_ok-check_record.ensures.repeats im (c.in_ok-inode.ensures.found im read ∙ ap (λ a. dinode_in (every im a)) (sym c.in_ok-inode.ensures.block))

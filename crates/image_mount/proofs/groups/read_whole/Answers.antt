@@ -15,14 +15,14 @@ use Rattle.image_mount.specs.Kept.{seen_of}
 use Rattle.image_mount.proofs.groups.read_whole.Goals as goal
 
 pub returns-in_err-get-clause-stops : goal.returns-in_err-get-clause-stops
-returns-in_err-get-clause-stops c im o read claimed dinode format list =
-    passed im _ _ c.from_residual.ensures.1 (wanted im c.args.inode.now.block c.args.inode.now.from o _ c.in_err-get.ensures.stops claimed dinode format)
+returns-in_err-get-clause-stops c im o read claimed dinode format low list =
+    passed im _ _ c.from_residual.ensures.1 (wanted im c.args.inode.now.block c.args.inode.now.from o _ c.in_err-get.ensures.stops claimed dinode format low)
 
 pub returns-in_err-content-clause-stops : goal.returns-in_err-content-clause-stops
-returns-in_err-content-clause-stops c im o read claimed dinode format list =
+returns-in_err-content-clause-stops c im o read claimed dinode format low list =
     stopped im _ _ c.from_residual-in_err-content.ensures.1
-    (call_told im c.args.inode.now.block c.in_err-content.field-0.0 (inode_at im c.args.inode.now.from c.args.inode.now.block o claimed dinode) format
-    (c.in_err-content.ensures.damaged (every im c.args.inode.now.block) (shown im c.args.table.now c.args.inode.now.block read)))
+    (call_told im c.args.table.now c.args.inode.now.block c.in_err-content.field-0.0 (inode_at im c.args.inode.now.from c.args.inode.now.block o claimed dinode) format read
+    (c.in_err-content.ensures.damaged (every im c.args.inode.now.block) (shown im c.args.table.now c.args.inode.now.block read)) c.in_err-content.ensures.kept)
 
 pub returns-in-Is-clause-found : goal.returns-in-Is-clause-found
 returns-in-Is-clause-found c im read size =
@@ -54,10 +54,11 @@ returns-in-Is-clause-most c =
     omega (arith, is, min-le_left c.args.bytes rest)
 
 pub returns-in-NeedBlock-clause-stops : goal.returns-in-NeedBlock-clause-stops
-returns-in-NeedBlock-clause-stops c im o read claimed dinode format list =
+returns-in-NeedBlock-clause-stops c im o read claimed dinode format low list =
     let a = c.args.inode.now.block in
-    wanted_below im c.args.table.now c.args.inode.now.from a o _ _ 0 c.in-NeedBlock.missing _ c.reads.ensures claimed dinode format list c.in_ok-get.ensures.bytes
+    wanted_below im c.args.table.now c.args.inode.now.from a o _ _ _ 0 c.in-NeedBlock.missing _ c.reads.ensures claimed dinode format list c.in_ok-get.ensures.bytes
     (needed_at c.in_ok-content.field-0 c.in-NeedBlock.missing _ c.in-NeedBlock.is (c.in_ok-content.ensures.needed (every im a) (shown im c.args.table.now a read)))
+    (needed_at c.in_ok-content.field-0 c.in-NeedBlock.missing _ c.in-NeedBlock.is (c.in_ok-content.ensures.needed (seen_in (seen_of c.args.table.now) a) (shown_by (seen_of c.args.table.now) a))) read
 
 pub returns-in-NeedBlock-clause-lacks : goal.returns-in-NeedBlock-clause-lacks
 returns-in-NeedBlock-clause-lacks c =

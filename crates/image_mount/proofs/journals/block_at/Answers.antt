@@ -9,7 +9,7 @@ use Rattle.image_model.specs.Claims.{every}
 use Rattle.image_mount.specs.Searching.{StopsRightly}
 use Rattle.image_mount.specs.Kept.{seen_of}
 use Rattle.image_mount.proofs.Places.{found_block, wrong_hole, journal_format, journal_inode, journal_wanted, above_wanted}
-use Rattle.image_mount.proofs.Shown.{shown, damage_told}
+use Rattle.image_mount.proofs.Shown.{shown, damage_told, kept_on, leads_kept, needed_inside}
 use Rattle.image_mount.proofs.Steps.{answer_at, needed_at, seen_in, shown_by, lacks_needed}
 use Rattle.image_mount.proofs.Stops.{stopped}
 use Rattle.image_mount.proofs.journals.block_at.Goals as goal
@@ -18,14 +18,17 @@ pub returns-in_err-located-clause-stops : goal.returns-in_err-located-clause-sto
 returns-in_err-located-clause-stops c im places read of has low =
     let d = c.args.journal.now.addr in
     stopped im _ _ c.from_residual.ensures.1
-    (damage_told im d c.in_err-located.field-0.0 (journal_inode im c.args.jindex c.args.journal.now of) (journal_format im c.args.jindex c.args.journal.now of)
-    (c.in_err-located.ensures.damaged (every im d) (shown im c.args.table.now d read)))
+    (damage_told im c.args.table.now d c.in_err-located.field-0.0 (journal_inode im c.args.jindex c.args.journal.now of) (journal_format im c.args.jindex c.args.journal.now of) read
+    (c.in_err-located.ensures.damaged (every im d) (shown im c.args.table.now d read)) c.in_err-located.ensures.kept)
 
 pub returns-in-Is-Some-clause-found : goal.returns-in-Is-Some-clause-found
 returns-in-Is-Some-clause-found c im read =
     let d = c.args.journal.now.addr in
+    let v = seen_of c.args.table.now in
     let is = c.in-Is-Some.is ∙ ap Is c.in-Is-Some.field-0-is in
+    let seen = answer_at c.in_ok-located.field-0 (Some c.in-Is-Some.located) (λ o. IfSome o (λ (l : Located). (k : ℕ) × Leads (seen_in v d) l.from k 0 c.args.place l.block)) is (c.in_ok-located.ensures.leads (seen_in v d) (shown_by v d)) in
     record {
+      inside = kept_on im c.args.table.now c.in-Is-Some.located.from read (leads_kept c.args.table.now d c.in-Is-Some.located.from seen.0 0 c.args.place c.in-Is-Some.located.block seen.1);
       block = found_block (every im d) c.args.place c.in-Is-Some.located.block
           (answer_at c.in_ok-located.field-0 (Some c.in-Is-Some.located) (λ o. option_map (λ (l : Located). l.block) o ≡ block_at (every im d) c.args.place) is
           (c.in_ok-located.ensures.found (every im d) (shown im c.args.table.now d read)));
@@ -52,10 +55,12 @@ returns-in-NeedBlock-clause-lacks c =
 
 pub returns-in-NeedBlock-2-clause-stops : goal.returns-in-NeedBlock-2-clause-stops
 returns-in-NeedBlock-2-clause-stops c im places read of has low =
+    let v = seen_of c.args.table.now in
     let d = c.args.journal.now.addr in
+    let needed = needed_at c.in_ok-located.field-0 c.in-NeedBlock.missing _ c.in-NeedBlock.is (c.in_ok-located.ensures.needed (seen_in v d) (shown_by v d)) in
     subst (StopsRightly im) (sym c.reads.ensures)
-    (above_wanted im c.args.jindex c.args.journal.now (seen_of c.args.table.now) c.args.place c.in-NeedBlock.missing of
-    (needed_at c.in_ok-located.field-0 c.in-NeedBlock.missing _ c.in-NeedBlock.is (c.in_ok-located.ensures.needed (every im d) (shown im c.args.table.now d read))) c.if-missing-journal.false)
+    (above_wanted im c.args.jindex c.args.journal.now v c.args.place c.in-NeedBlock.missing of
+    (needed_at c.in_ok-located.field-0 c.in-NeedBlock.missing _ c.in-NeedBlock.is (c.in_ok-located.ensures.needed (every im d) (shown im c.args.table.now d read))) (needed_inside im c.args.table.now d _ 1 c.in-NeedBlock.missing read needed c.if-missing-journal.false) c.if-missing-journal.false)
 
 pub returns-in-NeedBlock-2-clause-lacks : goal.returns-in-NeedBlock-2-clause-lacks
 returns-in-NeedBlock-2-clause-lacks c =

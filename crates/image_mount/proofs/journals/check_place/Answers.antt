@@ -1,4 +1,4 @@
-use Rattle.std.proofs.Common.{◌≡◌, ◌≢◌, Some, true, sym, ◌∙◌, arith}
+use Rattle.std.proofs.Common.{◌≡◌, ◌≢◌, ◌<◌, Some, true, sym, ◌∙◌, arith}
 use Rattle.gfs2_layout.specs.Device.{superblock_place}
 use Rattle.image_mount.specs.Kept.{seen_of}
 use Rattle.image_mount.proofs.Marks.{place_beyond, place_outside, place_again, place_kept, outside_groups, above_super, some_ok}
@@ -20,13 +20,14 @@ returns-then-is_place-clause-refused c im done journal place read next known at 
     let system = c.args.system.now in
     let located = c.args.located.now in
     let inside : c.is_data.result ≡ true = grind (arith, c.if-not-is_data.false) in
+    let low : located.block < im.count = omega (arith, c.if-located-count.false, c.count.ensures, read.count) in
     let apart : located.block ≢ superblock_place im.size = above_super im system located.block c.deref.result.now next.looked c.deref.ensures.value (c.is_data.ensures.inside inside) in
     elim c.then-is_place.branch [
-      | then-is_place-via-then-is_place w ↦ place_again im done system journal next _ place located c.damaged-then-is_place.ensures at (known.marked located.block (c.is_place.ensures.0 w.if-is_place.true))
+      | then-is_place-via-then-is_place w ↦ place_again im done system journal next _ place located c.damaged-then-is_place.ensures low at (known.marked located.block (c.is_place.ensures.0 w.if-is_place.true))
       | then-is_place-via-else-is_place+then-is_ok w ↦
           let kept = some_ok w.get.result (λ bytes. (seen_of c.args.table.now).block_at located.block ≡ Some bytes.now) (sym w.is_ok.ensures.value ∙ w.if-is_ok.true) w.get.ensures.bytes in
           let wanted = known.wanted located.block kept.0.now kept.1 in
-          place_kept im done system journal next _ place located wanted.0 c.damaged-then-is_place.ensures at wanted.1 apart
+          place_kept im done system journal next _ place located wanted.0 c.damaged-then-is_place.ensures low at wanted.1 apart
     ]
 
 pub returns-clause-apart : goal.returns-clause-apart

@@ -25,3 +25,6 @@ returns-in_err-go_on-in-Err-clause-refused g c done d n tells of known =
 
 pub returns-in-Ok-clause-found : goal.returns-in-Ok-clause-found
 returns-in-Ok-clause-found g c tells = c.in-Ok.ensures.found _ (read_now _ _ _ c.loop-places.invariant.reads.same tells c.loop-places.invariant.work)
+
+pub returns-in-Ok-clause-repeats : goal.returns-in-Ok-clause-repeats
+returns-in-Ok-clause-repeats g c tells = c.in-Ok.ensures.repeats _ (read_now _ _ _ c.loop-places.invariant.reads.same tells c.loop-places.invariant.work)

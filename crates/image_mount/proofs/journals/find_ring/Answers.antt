@@ -40,3 +40,6 @@ returns-clause-searched g c done tells next known =
     searched_done im done d c.in_ok-places.places c.find_blocks.new.table
     (blocks_told _ _ counted.reads.same done c.args.system.now c.args.journal.now c.in_ok-places.places c.count_places.new.table (λ (i : Image). IsSearched i done d c.in_ok-places.places c.find_blocks.new.table) (c.in_ok-blocks.ensures.searched done)
     tells next (counted.found tells) begun)
+
+pub returns-clause-repeats : goal.returns-clause-repeats
+returns-clause-repeats g c tells = c.in_ok-places.ensures.repeats tells

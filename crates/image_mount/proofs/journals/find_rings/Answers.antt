@@ -4,7 +4,7 @@ use Rattle.image_model.specs.Image.{Image, image_of}
 use Rattle.image_mount.specs.Refusals.{RefusesRightly}
 use Rattle.image_mount.specs.Rings.{IsSearched}
 use Rattle.image_mount.specs.declared.journals.Ring.{Ring}
-use Rattle.image_mount.proofs.Moved.{twice_list, twice_master, twice_journal, at_item, next_after, ring_told, ring_found, ring_searched, rings_more, rings_inside, inside_now, dinodes_more}
+use Rattle.image_mount.proofs.Moved.{twice_list, twice_master, twice_journal, at_item, next_after, ring_told, ring_found, ring_searched, rings_more, rings_inside, inside_now, dinodes_more, entry_true}
 use Rattle.image_mount.proofs.Stops.{refused}
 use Rattle.image_mount.proofs.journals.find_rings.Goals as goal
 use Rattle.shared_disk.proofs.ReadLaws.{reads_on}
@@ -59,7 +59,7 @@ loop-journal-preserved g c =
           let at = at_item c.deref-journal-items.result.now system.journals.items k _ c.deref-journal-items.ensures.value c.loop-journal-test.true in
           let next = next_after im system k _ c.loop-journal.rings.items c.deref.result.now c.has_dinode.result looked at c.if-journal-system.false c.if-journal-system-2.false c.has_dinode.ensures c.if-has_dinode.false c.deref.ensures.value in
           let of = ring_found _ _ inv.reads.same done system _ c.loop-journal.table ring.blocks.items (read.found done) tells next (inv.searched tells looked known) in
-          rings_more im system.journals.items k _ rings _ ring (inv.found tells looked known) at read.dinode of items;
+          rings_more im system.journals.items k _ rings _ ring (inv.found tells looked known) at read.dinode of (entry_true _ _ _ inv.reads.same read.repeats tells) items;
       searched = λ tells looked known.
           let at = at_item c.deref-journal-items.result.now system.journals.items k _ c.deref-journal-items.ensures.value c.loop-journal-test.true in
           let next = next_after im system k _ c.loop-journal.rings.items c.deref.result.now c.has_dinode.result looked at c.if-journal-system.false c.if-journal-system-2.false c.has_dinode.ensures c.if-has_dinode.false c.deref.ensures.value in

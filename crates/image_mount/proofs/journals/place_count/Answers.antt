@@ -1,11 +1,16 @@
-use Rattle.std.proofs.Common.{◌≡◌, ◌/◌, sym, ap, subst, ◌∙◌, arith}
+use Rattle.std.proofs.Common.{◌≡◌, ◌<◌, ◌/◌, ◌%◌, sym, ap, subst, ◌∙◌, arith}
 use Rattle.gfs2_layout.specs.Inode.{dinode_in}
-use Rattle.image_model.specs.Claims.{every}
+use Rattle.gfs2_layout.specs.Structures.{is_directory}
+use Rattle.image_model.specs.Claims.{every, HasInode}
+use Rattle.image_model.proofs.Lengths.{size_large}
 use Rattle.image_model.specs.Rules.{HasRecordIn}
-use Rattle.image_mount.proofs.Places.{wrong_part, wrong_places, journal_format}
+use Rattle.image_mount.proofs.Places.{wrong_part, wrong_places, journal_format, journal_inode}
 use Rattle.image_mount.proofs.Stops.{stopped}
 use Rattle.gfs2_layout.specs.Journal.{ring_of}
 use Rattle.gfs2_layout.specs.declared.dinode.Dinode.{Dinode}
+use Rattle.image_mount.specs.Looks.{IsSized}
+use Rattle.image_mount.proofs.Looks.{file_sized}
+use Rattle.image_mount.proofs.journals.place_count.Goals.{then-is_directory+in_ok-check_directory, else-is_directory}
 use Rattle.image_mount.proofs.journals.place_count.Goals as goal
 use Rattle.image_mount.proofs.journals.place_count.Goals.{then-places-lt-LEAST_PLACES-via-then-places-lt-LEAST_PLACES, then-places-lt-LEAST_PLACES-via-else-places-lt-LEAST_PLACES+then-places-gt-MOST_PLACES}
 
@@ -15,12 +20,12 @@ returns-in_err-check_record-clause-stops c im read of =
     let dinode : inode.dinode ≡ dinode_in (every im inode.block) = c.in_ok-inode.ensures.found im read ∙ ap (λ a. dinode_in (every im a)) (sym c.in_ok-inode.ensures.block) in
     stopped im _ _ c.from_residual-in_err-check_record.ensures.1
     (c.in_err-check_record.ensures.refused im c.args.jindex of.named.row dinode (journal_format im c.args.jindex c.args.journal.now of)
-    (subst (λ x. HasRecordIn im c.args.jindex x of.named.row) (sym c.in_ok-inode.ensures.from) of.named.there) of.named.is)
+    (subst (λ n. n < im.count) (sym c.in_ok-inode.ensures.from) of.named.inside) (subst (λ x. HasRecordIn im c.args.jindex x of.named.row) (sym c.in_ok-inode.ensures.from) of.named.there) of.named.is)
 
 pub returns-then-inode-from-ne0-clause-stops : goal.returns-then-inode-from-ne0-clause-stops
 returns-then-inode-from-ne0-clause-stops c im read of =
     let inode = c.in_ok-inode.inode in
-    wrong_part im c.args.jindex c.args.journal.now _ inode.block c.from.result inode.dinode of c.damaged.ensures c.in_ok-inode.ensures.block (c.in_ok-inode.ensures.found im read)
+    wrong_part im c.args.jindex c.args.journal.now _ inode.block c.from.result inode.dinode of c.damaged.ensures c.in_ok-inode.ensures.block (subst (λ n. n < im.count) (sym c.in_ok-inode.ensures.block) (c.in_ok-inode.ensures.inside im read)) (c.in_ok-inode.ensures.found im read)
     (c.from.ensures ∙ c.block_size-size.ensures.value ∙ read.size) c.if-inode-from-ne0.true
 
 pub returns-then-places-lt-LEAST_PLACES-clause-stops : goal.returns-then-places-lt-LEAST_PLACES-clause-stops
@@ -34,3 +39,41 @@ returns-then-places-lt-LEAST_PLACES-clause-stops c im read of =
       | then-places-lt-LEAST_PLACES-via-then-places-lt-LEAST_PLACES w ↦ absurd (omega (arith, both.0, w.if-places-lt-LEAST_PLACES.true))
       | then-places-lt-LEAST_PLACES-via-else-places-lt-LEAST_PLACES+then-places-gt-MOST_PLACES w ↦ absurd (omega (arith, both.1, w.if-places-gt-MOST_PLACES.true))
     ])
+
+pub returns-in_err-check_directory-clause-stops : goal.returns-in_err-check_directory-clause-stops
+returns-in_err-check_directory-clause-stops c im read of =
+    let inode = c.in_ok-inode.inode in
+    let block = c.in_ok-inode.ensures.block in
+    let dinode : inode.dinode ≡ dinode_in (every im inode.block) = c.in_ok-inode.ensures.found im read ∙ ap (λ a. dinode_in (every im a)) (sym block) in
+    stopped im _ _ c.from_residual-in_err-check_directory.ensures.1
+    (c.in_err-check_directory.ensures.refused im dinode (c.block_size-size.ensures.value ∙ read.size) (journal_format im c.args.jindex c.args.journal.now of)
+    (subst (λ n. n < im.count) (sym block) (c.in_ok-inode.ensures.inside im read))
+    (record {
+      inode = subst (HasInode im) (sym block) (journal_inode im c.args.jindex c.args.journal.now of);
+      dir = ap is_directory (sym dinode) ∙ sym c.is_directory.ensures ∙ c.if-is_directory.true;
+    }))
+
+pub returns-clause-found : goal.returns-clause-found
+returns-clause-found c im read =
+    let inode = c.in_ok-inode.inode in
+    let block = c.in_ok-inode.ensures.block in
+    let dinode : inode.dinode ≡ dinode_in (every im inode.block) = c.in_ok-inode.ensures.found im read ∙ ap (λ a. dinode_in (every im a)) (sym block) in
+    let sized : c.from-2.result ≡ im.size = c.from-2.ensures ∙ c.block_size-size.ensures.value ∙ read.size in
+    let sized_there : IsSized im inode.block = elim c.if-is_directory.branch [
+      | then-is_directory+in_ok-check_directory w ↦ w.in_ok-check_directory.ensures.sized im dinode (c.block_size-size.ensures.value ∙ read.size)
+      | else-is_directory w ↦ file_sized im inode.block (ap is_directory (sym dinode) ∙ sym c.is_directory.ensures ∙ w.if-is_directory.false)
+    ] in
+    let sized_here = subst (IsSized im) block sized_there in
+    record {
+      inside = c.in_ok-inode.ensures.inside im read;
+      count = ap (λ n. inode.dinode.size / n) sized ∙ ap (λ (d : Dinode). d.size / im.size) (c.in_ok-inode.ensures.found im read);
+      looked = record { fits = c.in_ok-inode.ensures.fits im read; sized = sized_here };
+      whole = ap (λ (d : Dinode). d.size % im.size) (sym (c.in_ok-inode.ensures.found im read)) ∙ sym (ap (λ n. inode.dinode.size % n) (c.from.ensures ∙ c.block_size-size.ensures.value ∙ read.size)) ∙ c.if-inode-from-ne0.false;
+      large = omega (arith, size_large _ c.block_size-size.ensures.view.block_size, read.size);
+      most = c.if-places-gt-MOST_PLACES.false;
+      least = c.if-places-lt-LEAST_PLACES.false;
+    }
+
+pub returns-clause-repeats : goal.returns-clause-repeats
+returns-clause-repeats c im read =
+    c.in_ok-check_record.ensures.repeats im (c.in_ok-inode.ensures.found im read ∙ ap (λ a. dinode_in (every im a)) (sym c.in_ok-inode.ensures.block))

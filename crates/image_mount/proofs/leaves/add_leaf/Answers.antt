@@ -38,7 +38,7 @@ returns-clause-added c =
 
 pub returns-clause-refused : goal.returns-clause-refused
 returns-clause-refused c im told same others =
-    c.add_records.ensures.refused im (master_of im) told.format others
+    c.add_records.ensures.refused im (master_of im) told.format told.leaf.inside others
     (subst (All (λ (n : Named). HasRecordIn im (master_of im) c.args.at.now.block (said n))) (sym c.deref-2.ensures.value)
     (leaf_listed im (master_of im) c.args.at.now c.args.bytes.now c.in_ok-records.records.items told.leaf same c.in_ok-records.ensures.found))
     (subst (λ xs. AreDistinct (map said xs)) (sym c.deref-2.ensures.value) c.in_ok-records.ensures.distinct)

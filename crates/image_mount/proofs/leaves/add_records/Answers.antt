@@ -7,9 +7,9 @@ pub loop-record-init : goal.loop-record-init
 loop-record-init c = record { added = added_start c.args.found.now.items c.args.records.now; low = omega arith; distinct = λ d. d }
 
 pub returns-then-is_some-clause-refused : goal.returns-then-is_some-clause-refused
-returns-then-is_some-clause-refused c im a format before here distinct =
+returns-then-is_some-clause-refused c im a format low before here distinct =
     let f = found_some c.deref.result.now _ c.find.result (sym c.is_some.ensures ∙ c.if-is_some.true) c.find.ensures.there c.find.ensures.named in
-    twice_found im a c.args.block c.loop-record.record-index f.1.0 _ c.args.found.now.items c.args.records.now c.loop-record.found.items _ f.0 format c.damaged.ensures before here distinct
+    twice_found im a c.args.block c.loop-record.record-index f.1.0 _ c.args.found.now.items c.args.records.now c.loop-record.found.items _ f.0 format low c.damaged.ensures before here distinct
     (c.loop-record.invariant.added) (omega (arith, c.loop-record-test.true)) (ap (λ l. slice_get l f.1.0) (sym c.deref.ensures.value) ∙ f.1.1.0) f.1.1.1
 
 pub loop-record-preserved : goal.loop-record-preserved

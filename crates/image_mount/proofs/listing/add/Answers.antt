@@ -4,6 +4,6 @@ use Rattle.image_mount.proofs.Areas.{wrong_hash}
 use Rattle.image_mount.proofs.listing.add.Goals as goal
 
 pub returns-then-record-crc32-clause-refused : goal.returns-then-record-crc32-clause-refused
-returns-then-record-crc32-clause-refused c im a area s at format has there =
+returns-then-record-crc32-clause-refused c im a area s at format low has there =
     let used : is_in_use c.args.record.now.head ≡ true = grind (arith, c.is_in_use.ensures, c.if-not-is_in_use.false) in
-    wrong_hash im _ a c.args.block c.crc32.result area c.args.record.now.name.now c.args.record.now.head s c.damaged.ensures at format has there used c.crc32.ensures c.if-record-crc32.true
+    wrong_hash im _ a c.args.block c.crc32.result area c.args.record.now.name.now c.args.record.now.head s c.damaged.ensures at format low has there used c.crc32.ensures c.if-record-crc32.true

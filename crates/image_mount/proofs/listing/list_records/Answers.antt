@@ -1,19 +1,25 @@
-use Rattle.std.proofs.Common.{◌≡◌, refl, sym, subst}
+use Rattle.std.proofs.Common.{◌≡◌, refl, sym, subst, ◌∙◌}
 use Rattle.std.specs.Prelude.{map}
 use Rattle.std.specs.List.{All}
 use Rattle.image_mount.specs.Listing.{said, AreRecordsOf}
 use Rattle.image_mount.specs.declared.listing.Named.{Named}
 use Rattle.image_mount.proofs.Causes.{linear_of}
+use Rattle.image_mount.proofs.Looks.{linear_sized}
 use Rattle.image_mount.proofs.Records.{area_in, area_of, has_directory, records_of}
-use Rattle.image_mount.proofs.Stops.{stopped}
+use Rattle.image_mount.proofs.Stops.{passed, stopped}
+use Rattle.image_mount.proofs.Wanted.{wanted}
 use Rattle.image_mount.proofs.listing.list_records.Goals as goal
+
+pub returns-in_err-bytes-clause-stops : goal.returns-in_err-bytes-clause-stops
+returns-in_err-bytes-clause-stops c im read is =
+    passed im _ _ c.from_residual.ensures.1 (wanted im c.args.inode.now.block c.args.inode.now.from is.owner _ c.in_err-bytes.ensures.stops is.claimed is.is_inode is.format is.from_inside)
 
 pub returns-in_err-records-clause-stops : goal.returns-in_err-records-clause-stops
 returns-in_err-records-clause-stops c im read is =
     let a = c.args.inode.now.block in
     let area = area_of im a c.in_ok-bytes.bytes.now _ (read.same _ _ c.in_ok-bytes.ensures.bytes) refl in
     stopped im _ _ c.from_residual-in_err-records.ensures.1
-    (c.in_err-records.ensures.refused im a is.format (area_in im a _ (has_directory im c.args.inode.now c.args.parent is) (linear_of im a _ is.dinode c.requires.linear) area))
+    (c.in_err-records.ensures.refused im a is.format is.inside (area_in im a _ (has_directory im c.args.inode.now c.args.parent is) (linear_of im a _ is.dinode c.requires.linear) area))
 
 pub returns-in_err-check_records-clause-stops : goal.returns-in_err-check_records-clause-stops
 returns-in_err-check_records-clause-stops c im read is =
@@ -29,3 +35,7 @@ returns-clause-found c im read is =
     let a = c.args.inode.now.block in
     let area = area_of im a c.in_ok-bytes.bytes.now _ (read.same _ _ c.in_ok-bytes.ensures.bytes) refl in
     records_of im a _ _ (has_directory im c.args.inode.now c.args.parent is) (linear_of im a _ is.dinode c.requires.linear) area c.in_ok-records.ensures.found
+
+pub returns-clause-sized : goal.returns-clause-sized
+returns-clause-sized c im read is =
+    linear_sized im c.args.inode.now.block c.block_size.result c.args.inode.now.dinode is.dinode (c.block_size.ensures.value ∙ read.size) c.requires.linear c.in_ok-check_linear.ensures.linear

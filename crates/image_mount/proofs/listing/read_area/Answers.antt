@@ -6,14 +6,14 @@ use Rattle.image_mount.proofs.Stops.{refused}
 use Rattle.image_mount.proofs.listing.read_area.Goals as goal
 
 pub returns-then-not-is_area-clause-refused : goal.returns-then-not-is_area-clause-refused
-returns-then-not-is_area-clause-refused c im a format has =
-    told im _ c.args.block 9 c.damaged.ensures format (unfilled a c.args.block c.args.area.now has (lacks c.is_area.result c.is_area.ensures c.if-not-is_area.true))
+returns-then-not-is_area-clause-refused c im a format low has =
+    told im _ c.args.block 9 c.damaged.ensures format low (unfilled a c.args.block c.args.area.now has (lacks c.is_area.result c.is_area.ensures c.if-not-is_area.true))
 
 pub returns-in_err-add-clause-refused : goal.returns-in_err-add-clause-refused
-returns-in_err-add-clause-refused c im a format has =
+returns-in_err-add-clause-refused c im a format low has =
     let first = c.in-Some.ensures in
     refused im _ _ c.from_residual.ensures.1
-    (c.in_err-add.ensures.refused im a c.args.area.now (slot_at c.loop-record.rest.now) first.shown format has
+    (c.in_err-add.ensures.refused im a c.args.area.now (slot_at c.loop-record.rest.now) first.shown format low has
     (next_in c.args.area.now c.loop-record.rest.now c.in-Some.behind.now _ (slot_at c.loop-record.rest.now) c.loop-record.invariant.half first.slots))
 
 pub loop-record-preserved : goal.loop-record-preserved

@@ -1,7 +1,8 @@
-use Rattle.std.proofs.Common.{◌≡◌, refl, ap, sym, ◌∙◌}
+use Rattle.std.proofs.Common.{◌≡◌, ◌<◌, true, refl, ap, sym, subst, ◌∙◌, arith}
 use Rattle.gfs2_layout.specs.Device.{superblock_place}
 use Rattle.gfs2_layout.specs.declared.superblock.SuperBlock.{SuperBlock}
-use Rattle.gfs2_layout.specs.Inode.{dinode_in}
+use Rattle.gfs2_layout.specs.Inode.{dinode_in, Fits}
+use Rattle.gfs2_layout.specs.Structures.{is_directory}
 use Rattle.image_model.specs.Claims.{every, master_of}
 use Rattle.image_model.specs.Owners.{Master}
 use Rattle.image_mount.proofs.Stops.{passed}
@@ -12,7 +13,7 @@ pub returns-in_err-inode-clause-stops : goal.returns-in_err-inode-clause-stops
 returns-in_err-inode-clause-stops c im read few =
     let place : c.superblock_block-place.result ≡ superblock_place im.size = c.superblock_block-place.ensures ∙ ap superblock_place (c.block_size.ensures.value ∙ read.size) in
     let same : c.in_ok-superblock.superblock.master.address ≡ master_of im = ap (λ (s : SuperBlock). s.master.address) (c.in_ok-superblock.ensures.found im read) in
-    passed im _ _ c.from_residual-in_err-inode.ensures.1 (c.in_err-inode.ensures.stops im Master read (is_master im _ _ place same) refl (c.in_ok-superblock.ensures.format im read few))
+    passed im _ _ c.from_residual-in_err-inode.ensures.1 (c.in_err-inode.ensures.stops im Master read (is_master im _ _ place same) refl (c.in_ok-superblock.ensures.format im read few) (subst (λ n. n < im.count) (sym place) (c.in_ok-superblock.ensures.format im read few).super.inside))
 
 pub returns-then-not-is_directory-clause-stops : goal.returns-then-not-is_directory-clause-stops
 returns-then-not-is_directory-clause-stops c im read few =
@@ -20,5 +21,26 @@ returns-then-not-is_directory-clause-stops c im read few =
     let same : c.in_ok-superblock.superblock.master.address ≡ master_of im = ap (λ (s : SuperBlock). s.master.address) (c.in_ok-superblock.ensures.found im read) in
     let dinode = c.in_ok-inode.ensures.found im read in
     let at = c.in_ok-inode.ensures.block in
-    master_file im _ inode.block c.damaged.ensures (c.in_ok-superblock.ensures.format im read few) (at ∙ same)
+    master_file im _ inode.block c.damaged.ensures (c.in_ok-superblock.ensures.format im read few) (subst (λ n. n < im.count) (sym at) (c.in_ok-inode.ensures.inside im read)) (at ∙ same)
     (not_directory im inode.block inode.dinode c.is_directory.result (dinode ∙ ap (λ a. dinode_in (every im a)) (sym at)) c.is_directory.ensures c.if-not-is_directory.true)
+
+pub returns-clause-found : goal.returns-clause-found
+returns-clause-found c im read few =
+    let inode = c.in_ok-inode.inode in
+    let place : c.superblock_block-place.result ≡ superblock_place im.size = c.superblock_block-place.ensures ∙ ap superblock_place (c.block_size.ensures.value ∙ read.size) in
+    let same : c.in_ok-superblock.superblock.master.address ≡ master_of im = ap (λ (s : SuperBlock). s.master.address) (c.in_ok-superblock.ensures.found im read) in
+    let at = c.in_ok-inode.ensures.block in
+    let dinode : inode.dinode ≡ dinode_in (every im inode.block) = c.in_ok-inode.ensures.found im read ∙ ap (λ a. dinode_in (every im a)) (sym at) in
+    let yes : is_directory inode.dinode ≡ true = sym c.is_directory.ensures ∙ grind (arith, c.if-not-is_directory.false) in
+    record {
+      superblock = c.in_ok-superblock.ensures.found im read;
+      inode = record {
+        format = c.in_ok-superblock.ensures.format im read few;
+        block = at ∙ same;
+        from = c.in_ok-inode.ensures.from ∙ place;
+        dinode = dinode;
+        fits = subst (λ a. Fits (every im a)) (sym at) (c.in_ok-inode.ensures.fits im read);
+        inside = subst (λ n. n < im.count) (sym at) (c.in_ok-inode.ensures.inside im read);
+        directory = ap is_directory (sym dinode) ∙ yes;
+      };
+    }

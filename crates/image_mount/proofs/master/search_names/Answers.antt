@@ -23,4 +23,4 @@ returns-clause-found g c tells is hashed =
     let inode = c.args.inode.now in
     let of = c.in_ok-pointers.ensures.found tells is hashed in
     let walk = walked_by _ _ c.in_ok-pointers.ensures.reads.same inode c.in_ok-pointers.pointers c.in_ok-walk.walk c.in_ok-walk.ensures.found tells of in
-    walk_plain (image_of (g.D.SharedDisk.state c.args.disk.now)) inode c.in_ok-pointers.pointers c.in_ok-walk.walk of walk c.in_ok-walk.ensures.ended
+    (walk_plain (image_of (g.D.SharedDisk.state c.args.disk.now)) inode c.in_ok-pointers.pointers c.in_ok-walk.walk of walk c.in_ok-walk.ensures.ended, of.sized)

@@ -4,11 +4,11 @@ use Rattle.image_mount.proofs.SystemFiles.{lacks_jindex, lacks_rindex, link_in, 
 use Rattle.image_mount.proofs.system.files_among.Goals as goal
 
 pub returns-in_default-clause-refused : goal.returns-in_default-clause-refused
-returns-in_default-clause-refused c im format are same = lacks_rindex im _ c.args.master c.args.records.now format same are c.damaged.ensures c.in_default.ensures.none
+returns-in_default-clause-refused c im format low are same = lacks_rindex im _ c.args.master c.args.records.now format low same are c.damaged.ensures c.in_default.ensures.none
 
 pub returns-in_default-find-clause-refused : goal.returns-in_default-find-clause-refused
-returns-in_default-find-clause-refused c im format are same =
-    lacks_jindex im _ c.args.master c.args.records.now format same are c.damaged-in_default-find.ensures c.in_default-find.ensures.none
+returns-in_default-find-clause-refused c im format low are same =
+    lacks_jindex im _ c.args.master c.args.records.now format low same are c.damaged-in_default-find.ensures c.in_default-find.ensures.none
 
 pub returns-clause-found : goal.returns-clause-found
 returns-clause-found c im are same =

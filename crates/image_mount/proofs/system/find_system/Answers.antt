@@ -1,29 +1,36 @@
-use Rattle.std.proofs.Common.{[], refl}
+use Rattle.std.proofs.Common.{◌<◌, [], refl, sym, subst, ◌∙◌}
+use Rattle.image_mount.specs.Looks.{IsLookedAt}
+use Rattle.image_mount.proofs.Looks.{either_sized}
 use Rattle.image_mount.proofs.Stops.{passed}
-use Rattle.image_mount.proofs.Systems.{list_link, groups_found, system_of}
+use Rattle.image_mount.proofs.Systems.{list_link, groups_found, same_master, system_of}
 use Rattle.image_mount.proofs.system.find_system.Goals as goal
 
 pub returns-in_err-files-clause-stops : goal.returns-in_err-files-clause-stops
-returns-in_err-files-clause-stops c im read count is plain = passed im _ _ c.from_residual.ensures.1 (c.in_err-files.ensures.stops im read is.inode plain)
+returns-in_err-files-clause-stops c im read count is plain = passed im _ _ c.from_residual.ensures.1 (c.in_err-files.ensures.stops im read is.inode (λ hashed. (plain hashed).0))
 
 pub returns-in_err-groups-clause-stops : goal.returns-in_err-groups-clause-stops
 returns-in_err-groups-clause-stops c im read count is plain =
-    let files = c.in_ok-files.ensures.found im read is.inode plain in
+    let files = c.in_ok-files.ensures.found im read is.inode (λ hashed. (plain hashed).0) in
     passed im _ _ c.from_residual-in_err-groups.ensures.1
     (c.in_err-groups.ensures.stops im read count (list_link im c.args.master.now.superblock c.in_ok-files.files is.inode.format is.superblock files))
 
 pub returns-in_err-journals-clause-stops : goal.returns-in_err-journals-clause-stops
 returns-in_err-journals-clause-stops c im read count is plain =
     let sb = c.args.master.now.superblock in
-    let files = c.in_ok-files.ensures.found im read is.inode plain in
+    let inside = is.inode.inside in
+    let files = c.in_ok-files.ensures.found im read is.inode (λ hashed. (plain hashed).0) in
     let groups = c.in_ok-groups.ensures.found im read count (list_link im sb c.in_ok-files.files is.inode.format is.superblock files) in
     passed im _ _ c.from_residual-in_err-journals.ensures.1
-    (c.in_err-journals.ensures.stops im _ read (groups_found im sb c.in_ok-files.files is.inode.format is.superblock files c.in_ok-groups.groups.items [] groups) refl is.inode.block files.jindex)
+    (c.in_err-journals.ensures.stops im _ read (groups_found im sb c.in_ok-files.files is.inode.format is.superblock files c.in_ok-groups.groups.items [] groups) refl is.inode.block inside files.jindex)
 
 pub returns-clause-found : goal.returns-clause-found
 returns-clause-found c im read count is plain =
     let sb = c.args.master.now.superblock in
-    let files = c.in_ok-files.ensures.found im read is.inode plain in
+    let inside = is.inode.inside in
+    let files = c.in_ok-files.ensures.found im read is.inode (λ hashed. (plain hashed).0) in
     let groups = c.in_ok-groups.ensures.found im read count (list_link im sb c.in_ok-files.files is.inode.format is.superblock files) in
-    let journals = c.in_ok-journals.ensures.found im _ read (groups_found im sb c.in_ok-files.files is.inode.format is.superblock files c.in_ok-groups.groups.items [] groups) refl is.inode.block files.jindex in
-    system_of im sb c.in_ok-files.files is.inode.format is.superblock files c.in_ok-groups.groups c.in_ok-journals.journals groups journals
+    let at = is.inode.block ∙ sym (same_master im sb c.in_ok-files.files is.inode.format is.superblock files) in
+    let journals = c.in_ok-journals.ensures.found im _ read (groups_found im sb c.in_ok-files.files is.inode.format is.superblock files c.in_ok-groups.groups.items [] groups) refl is.inode.block inside files.jindex in
+    system_of im sb c.in_ok-files.files is.inode.format is.superblock files c.in_ok-groups.groups c.in_ok-journals.journals (subst (λ n. n < im.count) at inside)
+    (subst (IsLookedAt im) at (record { fits = is.inode.fits; sized = either_sized im c.args.master.now.inode.block (λ hashed. (plain hashed).1) (c.in_ok-files.ensures.sized im read is.inode) }))
+    (c.in_ok-groups.ensures.repeats im read) (c.in_ok-journals.ensures.repeats im read) groups journals

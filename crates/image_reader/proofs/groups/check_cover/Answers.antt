@@ -25,7 +25,7 @@ returns-then-bare-group c =
     let rise = subst (RiseFrom im c.loop-group.invariant.end) more c.loop-group.invariant.rise in
     let ahead = subst (AllByRecursion (far im groups b)) (sym more) (ahead_of im groups b _ _ _ rise c.if-bare-group.true) in
     let within : b < im.count = omega (arith, c.if-bare-group.true, rise.0.inside, rise.0.first, rise.0.some) in
-    record { damaged = told im _ b 18 c.damaged.ensures (bare_at im groups b k c.loop-group.invariant c.requires.known within (omega (arith, within, c.args.image.now.few)) ahead) }
+    record { damaged = told im _ b 18 c.damaged.ensures within (bare_at im groups b k c.loop-group.invariant c.requires.known within (omega (arith, within, c.args.image.now.few)) ahead) }
 
 pub loop-group-preserved : goal.loop-group-preserved
 loop-group-preserved c =
@@ -40,4 +40,4 @@ returns-then-bare-image c =
     let b = c.loop-group.bare in
     let none = none_left (far im groups b) (drop k groups) (omega (arith, length-drop k groups, c.loop-group-test.false)) in
     let within : b < im.count = omega (arith, c.if-bare-image.true, c.args.image.now.counted) in
-    record { damaged = told im _ b 18 c.damaged-then-bare-image.ensures (bare_at im groups b k c.loop-group.invariant c.requires.known within (omega (arith, c.if-bare-image.true, c.args.image.now.few)) none) }
+    record { damaged = told im _ b 18 c.damaged-then-bare-image.ensures within (bare_at im groups b k c.loop-group.invariant c.requires.known within (omega (arith, c.if-bare-image.true, c.args.image.now.few)) none) }

@@ -11,7 +11,7 @@ returns-then-not-has_header-clause-damaged c =
 pub returns-then-not-repeats-clause-damaged : goal.returns-then-not-repeats-clause-damaged
 returns-then-not-repeats-clause-damaged c =
     let read = header_read c.args.image.now c.in-Some.block c.args.group.now c.in-Ok.header c.bytes.result.now c.requires.fits c.in-Some.ensures.some.0 c.in-Some.ensures.some.1 c.bytes.ensures.value (sym c.in-Ok.is ∙ c.read.ensures) in
-    other_header _ c.args.group.now c.in-Ok.header _ c.damaged-then-not-repeats.ensures c.requires.listed read (lacking _ _ c.if-not-repeats.true c.repeats.ensures)
+    other_header _ c.args.group.now c.in-Ok.header _ c.damaged-then-not-repeats.ensures c.requires.fits c.requires.listed read (lacking _ _ c.if-not-repeats.true c.repeats.ensures)
 
 pub returns-clause-header : goal.returns-clause-header
 returns-clause-header c =

@@ -1,4 +1,4 @@
-use Rattle.std.proofs.Common.{List, sym, ap, subst, ◌∙◌}
+use Rattle.std.proofs.Common.{◌<◌, List, sym, ap, subst, ◌∙◌}
 use Rattle.gfs2_layout.specs.Device.{superblock_place}
 use Rattle.std.specs.Prelude.{codes, length}
 use Rattle.std.specs.List.{All}
@@ -12,7 +12,8 @@ use Rattle.image_reader.specs.declared.directory.Found.{Found}
 use Rattle.image_reader.specs.declared.image.ImageFault.TheVariants.{Damaged}
 use Rattle.image_model.specs.Owners.{Master}
 use Rattle.image_reader.specs.Reading.{image_at}
-use Rattle.image_reader.proofs.InodeFaults.{told}
+use Rattle.image_reader.proofs.InodeFaults.{told_at}
+use Rattle.image_reader.proofs.Inside.{block_inside}
 use Rattle.image_reader.proofs.MasterFound.{none_found, found_rindex, found_in, only_rindex}
 use Rattle.image_reader.proofs.tree.find_rindex.Goals as goal
 
@@ -58,4 +59,5 @@ returns-clause-damaged c =
     let true_of = subst (λ (b : Blocks). All (IsFoundIn b) c.go_over.new.found.items) (c.go_over.ensures.same ∙ c.top.ensures.same) going.true_of in
     let all = subst (λ (b : Blocks). AllAreFound (image_at b) c.in_ok-top.top c.go_over.new.self.owners.entries.items c.go_over.new.found.items) c.top.ensures.same c.in_ok-go_over.ensures.all in
     let none = subst (λ m. HasNoneNamed c.go_over.new.found.items (length c.go_over.new.found.items) m (codes "rindex")) c.requires.master (subst (λ (l : List Found). HasNoneNamed l (length l) c.args.master (codes "rindex")) c.deref.ensures.value c.in-None.ensures.none) in
-    told (image_at image) _ (master_of (image_at image)) 18 (c.damaged.ensures ∙ ap (λ n. Damaged n 18) c.requires.master) (none_found image c.in_ok-top.top c.go_over.new.self.owners.entries.items c.new-found.result.items c.go_over.new.found.items c.new-found.ensures.items at true_of c.in_ok-go_over.ensures.on.finds all none)
+    told_at image _ (master_of (image_at image)) 18 (c.damaged.ensures ∙ ap (λ n. Damaged n 18) c.requires.master)
+    (subst (λ n. n < image.count) at (block_inside c.in_ok-top.top.inode.block image c.in_ok-top.ensures.image)) (none_found image c.in_ok-top.top c.go_over.new.self.owners.entries.items c.new-found.result.items c.go_over.new.found.items c.new-found.ensures.items at true_of c.in_ok-go_over.ensures.on.finds all none)

@@ -1,6 +1,6 @@
 use Rattle.std.proofs.Common.{◌≢◌, sym, arith}
 use Rattle.image_reader.specs.Reading.{image_at}
-use Rattle.image_reader.proofs.InodeFaults.{told}
+use Rattle.image_reader.proofs.InodeFaults.{told_broken}
 use Rattle.image_reader.proofs.Listed.{get_at}
 use Rattle.image_reader.proofs.NamesApart.{no_names, twin_at, one_name_more, was_there, was_new}
 use Rattle.image_reader.proofs.visiting.check_names.Goals as goal
@@ -15,7 +15,7 @@ returns-then-not-branch-clause-damaged c image broken =
     let twin = twin_at c.args.first c.loop-place.place c.args.found.now c.loop-place.names c.loop-place.invariant f there c.bytes.result c.bytes.ensures.bytes
     (was_there c.in_ok-insert.field-0 _ c.in_ok-insert.ensures.added c.if-not-branch.true) in
     let apart : twin.index ≢ c.loop-place.place = λ e. absurd (omega (arith, e, twin.before)) in
-    told (image_at image) c.damaged.result f.by 10 c.damaged.ensures
+    told_broken (image_at image) c.damaged.result f.by 10 c.damaged.ensures
     (broken twin.index c.loop-place.place twin.entry f twin.low c.loop-place.invariant.low twin.there there (sym twin.named) apart)
 
 pub loop-place-preserved : goal.loop-place-preserved

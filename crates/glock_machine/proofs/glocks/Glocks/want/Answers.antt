@@ -16,3 +16,6 @@ invariant_of-self-2 c =
     subst AreCalledBelow (sym (locks_insert _ _ (key_of c.args.lock) _ (c.in_ok-insert.ensures.updates.0)))
     (all_below_insert (from_entries {R = key_cmp} c.self.inside.locks.entries) (key_of c.args.lock) c.wanted-glock.result c.self.invariant
     (subst IsCalledBelow (sym c.wanted-glock.ensures) (wanted_below c.glock.result c.args.state c.glock.ensures.below)))
+
+pub put-requires-clause-below : goal.put-requires-clause-below
+put-requires-clause-below c = subst IsCalledBelow (sym c.wanted-glock.ensures) (wanted_below c.glock.result c.args.state c.glock.ensures.below)

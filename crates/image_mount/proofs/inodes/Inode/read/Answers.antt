@@ -3,7 +3,8 @@ use Rattle.image_mount.proofs.Wanted.{dinode_leads}
 use Rattle.image_model.specs.Claims.{every}
 use Rattle.gfs2_layout.specs.Inode.{dinode_in, Fits}
 use Rattle.std.proofs.Common.{◌≡◌, [], ap, ◌∙◌}
-use Rattle.image_mount.proofs.Shown.{shown, inode_at, damage_told}
+use Rattle.image_mount.proofs.Shown.{shown, inode_at, damage_told, kept_on}
+use Rattle.dinode_tree.specs.Shown.{HasBlock}
 use Rattle.image_mount.proofs.Steps.{answer_at, seen_in, shown_by}
 use Rattle.image_mount.specs.Kept.{seen_of}
 use Rattle.gfs2_layout.specs.Structures.{dinode_of}
@@ -12,10 +13,10 @@ use Rattle.image_mount.proofs.Stops.{stopped}
 use Rattle.image_mount.proofs.inodes.Inode.read.Goals as goal
 
 pub returns-in_err-dinode-clause-stops : goal.returns-in_err-dinode-clause-stops
-returns-in_err-dinode-clause-stops c im o read claimed dinode format =
+returns-in_err-dinode-clause-stops c im o read claimed dinode format low =
     stopped im _ _ c.from_residual.ensures.1
-    (damage_told im c.args.block c.in_err-dinode.field-0.0 (inode_at im c.args.from c.args.block o claimed dinode) format
-    (c.in_err-dinode.ensures.damaged (every im c.args.block) (shown im c.args.table.now c.args.block read)))
+    (damage_told im c.args.table.now c.args.block c.in_err-dinode.field-0.0 (inode_at im c.args.from c.args.block o claimed dinode) format read
+    (c.in_err-dinode.ensures.damaged (every im c.args.block) (shown im c.args.table.now c.args.block read)) c.in_err-dinode.ensures.kept)
 
 pub returns-in-Is-clause-found : goal.returns-in-Is-clause-found
 returns-in-Is-clause-found c im read =
@@ -33,4 +34,8 @@ returns-in-Is-clause-fits c im read =
     answer_at c.in_ok-dinode.field-0 c.in-Is.dinode (λ d. Fits (every im c.args.block)) c.in-Is.is (c.in_ok-dinode.ensures.fits (every im c.args.block) (shown im c.args.table.now c.args.block read))
 
 pub returns-in-NeedBlock-clause-stops : goal.returns-in-NeedBlock-clause-stops
-returns-in-NeedBlock-clause-stops c im o read claimed dinode format = inr (format, (o, claimed, dinode_leads im o dinode))
+returns-in-NeedBlock-clause-stops c im o read claimed dinode format low = inr (format, (o, claimed, dinode_leads im o dinode, low))
+
+pub returns-in-Is-clause-inside : goal.returns-in-Is-clause-inside
+returns-in-Is-clause-inside c im read =
+    kept_on im c.args.table.now c.args.block read (answer_at c.in_ok-dinode.field-0 c.in-Is.dinode (λ d. HasBlock (seen_of c.args.table.now) c.args.block) c.in-Is.is c.in_ok-dinode.ensures.there)

@@ -1,5 +1,6 @@
 use Rattle.std.proofs.Common.{◌∙◌, arith}
 use Rattle.image_reader.proofs.InodeFaults.{lacking}
+use Rattle.image_reader.proofs.Inside.{block_inside}
 use Rattle.image_reader.proofs.LeafFaults.{leaf_header, leaf_format, leaf_reads, leaf_at, leaf_deep}
 use Rattle.image_reader.proofs.inode.Inode.read_leaf.Goals as goal
 
@@ -14,6 +15,6 @@ returns-in_default-clause-damaged c =
 
 pub returns-then-leaf-depth-clause-damaged : goal.returns-then-leaf-depth-clause-damaged
 returns-then-leaf-depth-clause-damaged c =
-    leaf_deep c.args.self.now _ c.args.block.now.number c.args.depth c.in-Ok.leaf c.damaged-then-leaf-depth.ensures c.requires.leaf
+    leaf_deep c.args.self.now _ c.args.block.now.number c.args.depth c.in-Ok.leaf c.damaged-then-leaf-depth.ensures c.requires.leaf (block_inside c.args.block.now c.args.self.now.block.image c.requires.of_image)
     (leaf_at c.args.self.now c.args.block.now c.bytes.result.now c.in-Ok.leaf c.requires.of_image c.bytes.ensures.value (leaf_reads c.bytes.result.now c.in-Ok.leaf c.read.result c.in-Ok.is c.read.ensures))
     c.requires.depth c.if-leaf-depth.true

@@ -1,9 +1,11 @@
-use Rattle.std.proofs.Common.{ℕ, ◌+◌, ◌-◌, ◌%◌, ◌<◌, ◌≤◌, ◌∙◌, ap, subst, arith}
+use Rattle.std.proofs.Common.{ℕ, ◌+◌, ◌-◌, ◌%◌, ◌<◌, ◌≤◌, ◌∙◌, sym, ap, subst, arith}
+use Rattle.image_reader.specs.declared.blocks.Blocks.{Blocks}
 use Rattle.gfs2_layout.specs.Inode.{leaf_in}
 use Rattle.image_reader.specs.Leaves.{HasClaim}
 use Rattle.image_model.specs.Owners.{Chained}
 use Rattle.image_reader.specs.Reading.{held, image_at}
 use Rattle.image_reader.proofs.Chains.{first_claim, no_leaf_there, low_index, missing, headed_run, hash_claim, start_whole, same_bits, leaf_there, claim_at, run_some}
+use Rattle.image_reader.proofs.Inside.{block_inside}
 use Rattle.image_reader.proofs.Spans.{aligned_run}
 use Rattle.image_reader.proofs.WalkFaults.{beyond}
 use Rattle.image_reader.proofs.walk.Walk.bucket.Goals as goal
@@ -14,7 +16,7 @@ entry_block-requires-clause-small c = low_index c.args.i c.args.table.now.depth 
 pub returns-then-number-eq0-clause-damaged : goal.returns-then-number-eq0-clause-damaged
 returns-then-number-eq0-clause-damaged c =
     no_leaf_there c.args.self.now.image c.args.visit.now.inode c.args.table.now c.args.i c.in_ok-by.by c.pointer-number.result _ c.requires.leaves.going.visited.same c.requires.hashed c.requires.table c.requires.within
-    c.in_ok-by.ensures.block c.pointer-number.ensures c.if-number-eq0.true c.damaged.ensures
+    c.in_ok-by.ensures.block c.pointer-number.ensures c.if-number-eq0.true c.damaged.ensures c.in_ok-by.ensures.inside
 
 pub leads_to-requires : goal.leads_to-requires
 leads_to-requires c =
@@ -24,7 +26,7 @@ leads_to-requires c =
 
 pub returns-in_default-clause-damaged : goal.returns-in_default-clause-damaged
 returns-in_default-clause-damaged c =
-    beyond c.args.self.now _ c.in_ok-by.by c.pointer-number.result _ c.damaged-in_default.ensures
+    beyond c.args.self.now _ c.in_ok-by.by c.pointer-number.result _ c.damaged-in_default.ensures (subst (λ (i : Blocks). c.in_ok-by.by < i.count) c.requires.leaves.going.visited.same c.in_ok-by.ensures.inside)
     (first_claim c.args.self.now.image c.args.visit.now c.args.table.now c.args.i c.in_ok-by.by c.pointer-number.result c.requires.leaves.going.visited c.requires.hashed c.requires.table c.requires.within
     c.in_ok-by.ensures.block c.pointer-number.ensures) c.in_default.ensures.none
 
@@ -43,6 +45,10 @@ returns-then-not-leads_to-clause-damaged c =
     missing c.args.self.now.image c.args.visit.now.inode c.args.table.now c.args.i no.0 c.pointer-number.result c.run-run.result c.in_ok-leaf.leaf _ c.requires.leaves.going.visited.same c.requires.hashed
     c.requires.table c.requires.within (omega (arith, room, no.1.1)) c.pointer-number.ensures (c.in_ok-leaf.ensures.read ∙ ap (leaf_in (held c.args.visit.now.inode)) c.in-Some.ensures.some.0) c.run-run.ensures
     (same_bits c.args.i no.0 c.run-run.result some no.1.0 no.1.1) no.1.2 c.damaged-then-not-leads_to.ensures
+    (subst (λ n. n < c.args.visit.now.inode.block.image.count) c.in-Some.ensures.some.0 (block_inside c.in-Some.block c.args.visit.now.inode.block.image (c.in-Some.ensures.some.1 ∙ sym c.requires.leaves.going.visited.same)))
+
+pub head-requires-clause-inside : goal.head-requires-clause-inside
+head-requires-clause-inside c = subst (λ (i : Blocks). c.in_ok-by.by < i.count) c.requires.leaves.going.visited.same c.in_ok-by.ensures.inside
 
 pub head-requires-clause-claimed : goal.head-requires-clause-claimed
 head-requires-clause-claimed c =

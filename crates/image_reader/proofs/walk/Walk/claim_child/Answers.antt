@@ -1,10 +1,12 @@
-use Rattle.std.proofs.Common.{◌-◌, ◌∙◌, ◌∷◌, true, false, sym, subst, refl}
+use Rattle.std.proofs.Common.{◌-◌, ◌<◌, ◌∙◌, ◌∷◌, true, false, sym, subst, refl}
 use Rattle.std.proofs.lemmas.List.Elements.{All-same, All-push}
 use Rattle.image_reader.specs.Walking.{IsReached}
 use Rattle.gfs2_layout.specs.Inode.{header_length}
 use Rattle.image_reader.specs.Descending.{AreDescended, IsGroupOf}
 use Rattle.image_reader.specs.Reading.{held}
+use Rattle.image_reader.specs.declared.blocks.Blocks.{Blocks}
 use Rattle.image_reader.proofs.Descending.{is_entered, descended_flat, descended_deep}
+use Rattle.image_reader.proofs.Inside.{pointer_inside}
 use Rattle.image_reader.proofs.InodeFaults.{lacking}
 use Rattle.image_reader.proofs.Pointing.{claims_of, claims_below, content_claimed, lacks_indirect_leads, leads_on}
 use Rattle.image_reader.specs.Going.{TakesOnly}
@@ -16,6 +18,11 @@ pub claim-requires-clause-claimed : goal.claim-requires-clause-claimed
 claim-requires-clause-claimed c =
     claims_of c.args.inode.now.block.image c.args.self.now.image _ _ _ c.requires.of_image
     (claims_below c.args.inode.now c.args.pointers.now.block.number c.args.k c.args.pointers.now.level c.args.first c.args.number c.requires.inode c.requires.leads)
+
+pub claim-requires-clause-inside : goal.claim-requires-clause-inside
+claim-requires-clause-inside c =
+    subst (λ (i : Blocks). c.args.pointers.now.block.number < i.count) c.requires.of_image
+    (pointer_inside c.args.inode.now c.args.pointers.now.block.number c.args.k c.args.pointers.now.level c.args.first c.args.number c.requires.leads)
 
 pub check_content-requires-clause-claimed : goal.check_content-requires-clause-claimed
 check_content-requires-clause-claimed c =

@@ -1,10 +1,11 @@
 use Rattle.std.proofs.Common.{◌∙◌, List, sym, refl, ap, subst}
 use Rattle.std.specs.List.{All}
-use Rattle.image_reader.specs.Finding.{IsFoundIn}
+use Rattle.image_reader.specs.Finding.{said_by, IsFoundIn}
 use Rattle.image_reader.specs.Going.{IsGoing, IsNameOf, GoesOn}
 use Rattle.image_reader.specs.Found.{HasEntry}
 use Rattle.image_reader.specs.declared.directory.Found.{Found}
 use Rattle.image_reader.specs.declared.blocks.Block.{Block}
+use Rattle.image_reader.proofs.Inside.{record_inside}
 use Rattle.image_reader.proofs.InodeFaults.{lacking}
 use Rattle.image_reader.proofs.RecordFaults.{wrong_name, claims_named, claims_read, named_inode, found_of}
 use Rattle.image_reader.proofs.Going.{going_known, going_found, goes_found, goes_known, last_entry, ok_hold}
@@ -18,6 +19,10 @@ returns-then-not-is_name-clause-damaged c =
 pub claim-requires-clause-claimed : goal.claim-requires-clause-claimed
 claim-requires-clause-claimed c =
     claims_named c.args.self.now.image c.args.visit.now.inode.block.number c.args.by c.args.record.now.head c.args.record.now.name.now (c.requires.going.visited.owner, c.requires.going.visited.at) c.requires.has c.requires.name
+
+pub claim-requires-clause-inside : goal.claim-requires-clause-inside
+claim-requires-clause-inside c =
+    record_inside c.args.self.now.image c.args.visit.now.inode.block.number c.args.by (said_by c.args.record.now.head c.args.record.now.name.now) c.requires.has
 
 pub read-requires : goal.read-requires
 read-requires c =

@@ -1,15 +1,17 @@
 use Rattle.std.proofs.Common.{refl, arith, ◌∙◌, sym}
 use Rattle.image_reader.specs.Going.{IsNameOf}
-use Rattle.image_reader.specs.Reading.{image_at}
 use Rattle.image_model.specs.Rules.{unfilled}
-use Rattle.image_reader.proofs.InodeFaults.{told, lacking}
+use Rattle.image_reader.proofs.InodeFaults.{told_at, lacking}
+use Rattle.image_reader.proofs.Inside.{area_inside}
 use Rattle.image_reader.proofs.Going.{stays, goes_then, over_start, over_more, all_counted, all_found, slot_before, area_at}
 use Rattle.image_reader.proofs.walk.Walk.records.Goals as goal
 
 pub returns-then-not-is_area-clause-damaged : goal.returns-then-not-is_area-clause-damaged
 returns-then-not-is_area-clause-damaged c =
-    told (image_at c.args.self.now.image) _ c.args.area.now.block 9 c.damaged.ensures
-    (unfilled c.args.visit.now.inode.block.number c.args.area.now.block c.args.area.now.bytes.now c.requires.area (lacking _ _ c.if-not-is_area.true c.is_area.ensures))
+    let lacks = lacking _ _ c.if-not-is_area.true c.is_area.ensures in
+    told_at c.args.self.now.image _ c.args.area.now.block 9 c.damaged.ensures
+    (area_inside c.args.self.now.image c.args.visit.now.inode.block.number c.args.area.now.block c.args.area.now.bytes.now c.requires.area lacks)
+    (unfilled c.args.visit.now.inode.block.number c.args.area.now.block c.args.area.now.bytes.now c.requires.area lacks)
 
 pub loop-record-init : goal.loop-record-init
 loop-record-init c = record {

@@ -1,4 +1,4 @@
-use Rattle.std.proofs.Common.{ℕ, sym, subst}
+use Rattle.std.proofs.Common.{ℕ, ◌<◌, sym, subst}
 use Rattle.std.specs.Prelude.{is_some}
 use Rattle.image_reader.proofs.Going.{ok_hold}
 use Rattle.image_reader.proofs.TopClaims.{top_entire, top_only, top_owned, top_untouched}
@@ -17,7 +17,7 @@ of_top-requires c =
 pub returns-in_default-clause-damaged : goal.returns-in_default-clause-damaged
 returns-in_default-clause-damaged c =
     let P : ℕ → Type 0 = λ n. Claims (image_at c.args.self.now.image) n c.args.number (owner_of c.args.claim) in
-    beyond c.args.self.now _ c.superblock_place-by.result c.args.number (owner_of c.args.claim) c.damaged.ensures (subst P (sym c.superblock_place-by.ensures) c.requires.claimed) c.in_default.ensures.none
+    beyond c.args.self.now _ c.superblock_place-by.result c.args.number (owner_of c.args.claim) c.damaged.ensures (subst (λ n. n < c.args.self.now.image.count) (sym c.superblock_place-by.ensures) c.requires.there) (subst P (sym c.superblock_place-by.ensures) c.requires.claimed) c.in_default.ensures.none
 
 pub returns-in-Ok-clause-owned : goal.returns-in-Ok-clause-owned
 returns-in-Ok-clause-owned c = ok_hold c.of_top.result _ (top_owned c.args.number c.args.self.now.owners.entries.items c.claim.new.self.owners.entries.items c.args.claim c.requires.top c.requires.owned c.requires.unclaimed (is_some c.in-Ok.field-0) c.in-Ok.ensures.entered)
