@@ -91,8 +91,17 @@ module _ (F : Files) where
   flushed_untouched B i u b l whole flushed own under top n lo hi = untouched-under B i l b whole flushed own under (u - B.low i) (omega arith) n lo (omega arith)
 
   pub header_stages : HeaderKeepsStages F
-  header_stages B D i u h l whole header flushed b v live under = elim (header.each b) [
-    | inl same ↦ elim (same.1) [ inl was ↦ sym was ∙ live | inr gone ↦ absurd (none-some (gone.0) live) ]
+  header_stages B D i u h l whole mirror header flushed b v live under = elim (header.each b) [
+    | inl same ↦ elim (same.1) [
+      | inl was ↦ (let old : (D.heads i false).live b ≡ Some v = sym was ∙ live in (
+        old,
+        elim under [
+          | inl before ↦ before
+          | inr after ↦ ap (LockOf F) (sym (steady F B whole i b (mirror.lives i false b v old) (B.low i) u (omega arith) ((header.range).0) top (same.0))) ∙ after
+        ],
+      ))
+      | inr gone ↦ absurd (none-some (gone.0) live)
+    ]
     | inr last ↦ (
         let t = last.0 in let lo = t.above in let hi = t.below in
         let own = (whole.logged i (t.call) lo (omega arith)).touched b (t.cell) (t.changes) in

@@ -2,7 +2,7 @@
 use Rattle.std.specs.Prelude.{ℕ, ◌≡◌, ◌≤◌, ◌⊎◌, Bool, true, false, if◌then◌else◌, None, Some}
 use Rattle.cluster_laws.specs.Files.{Files, CellOf, Part, LockOf, Un, Ex}
 use Rattle.cluster_laws.specs.Book.{at, Book, Whole, flushed}
-use Rattle.cluster_laws.specs.Mirror.{Head, Disk}
+use Rattle.cluster_laws.specs.Mirror.{Head, Disk, Mirror}
 use Rattle.cluster_laws.specs.Log.{Untouched, IsHeader, IsFlushed, IsRevoked, MayGo}
 use Rattle.cluster_events.specs.Cluster.{HasIdleWriter, Cluster, BookOf, Weakens, Events, Together}
 use Rattle.lock_laws.specs.Lock.{Node}
@@ -39,10 +39,11 @@ abbrev pub FlushedIsUntouched : Files → Type 0
 FlushedIsUntouched F = (B : Book F) (i u b : ℕ) (l : F.Lock) → Whole F B → IsFlushed F B i l → B.owner b ≡ Some i → LockOf F (B.says i (B.low i) b) ≡ l
     → u ≤ B.answered i → Untouched F B i (B.low i) u b
 
--- so a header that begins, whatever it is for, has live under the lock only what the journal has, at the old number and at its own
+-- so a header that begins, whatever it is for, has live under the lock, at the old number or at its own, only what the journal has live under it
 abbrev pub HeaderKeepsStages : Files → Type 0
-HeaderKeepsStages F = (B : Book F) (D : Disk F) (i u : ℕ) (h : Head F) (l : F.Lock) → Whole F B → IsHeader F B D i u h → IsFlushed F B i l
-    → (b : ℕ) (v : F.Content) → h.live b ≡ Some v → (LockOf F (B.says i (B.low i) b) ≡ l) ⊎ (LockOf F (B.says i u b) ≡ l) → (D.heads i false).live b ≡ Some v
+HeaderKeepsStages F = (B : Book F) (D : Disk F) (i u : ℕ) (h : Head F) (l : F.Lock) → Whole F B → Mirror F B D → IsHeader F B D i u h → IsFlushed F B i l
+    → (b : ℕ) (v : F.Content) → h.live b ≡ Some v → (LockOf F (B.says i (B.low i) b) ≡ l) ⊎ (LockOf F (B.says i u b) ≡ l)
+    → ((D.heads i false).live b ≡ Some v) × (LockOf F (B.says i (B.low i) b) ≡ l)
 
 -- the head without these blocks
 abbrev pub without_live : (F : Files) → Head F → (ℕ → Bool) → Head F
