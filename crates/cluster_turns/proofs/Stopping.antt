@@ -1,10 +1,15 @@
 -- Counts are ties, and with them all nodes may stop at once.
 use Rattle.std.proofs.Common.{ℕ, suc, ◌≡◌, ◌<◌, inl, inr, true, false, Bool, None, Some, List, [], ◌∷◌, refl, sym, ap, ◌∙◌, subst, arith, not, ◌&&◌}
-use Rattle.cluster_laws.specs.Files.{Files}
-use Rattle.cluster_laws.specs.Book.{at, relocked}
-use Rattle.cluster_laws.specs.World.{nothing}
-use Rattle.cluster_events.specs.Cluster.{Cluster, BookOf, with_book, stopped, Together, Event, Stops, Events, Done, Then}
-use Rattle.cluster_turns.specs.Turns.{OnlyOf, AreLocal, MayPaired}
+use Rattle.cluster_laws.specs.Files.{Files, Does}
+use Rattle.cluster_laws.specs.Book.{at, tried, relocked}
+use Rattle.cluster_laws.specs.World.{nothing, Syncs}
+use Rattle.cluster_events.specs.Cluster.{Cluster, BookOf, acts, with_book, stopped, Together, Event, Works, Stops, Events, Done, Then}
+use Rattle.cluster_laws.specs.Log.{Calm}
+use Rattle.cluster_laws.proofs.Cells.{at-same, at-other}
+use Rattle.cluster_laws.proofs.Running.{told-kept}
+use Rattle.std.proofs.lemmas.Bool.{cases_eq}
+use Rattle.cluster_turns.proofs.Turning.{tries_alone}
+use Rattle.cluster_turns.specs.Turns.{MayAlone, OnlyOf, AreLocal, MayPaired}
 use Rattle.cluster_turns.specs.Counting.{Count, OfNode, OfWire, node_of, CountsWire, IsCountOfNode, IsCountOfWire, AreBelow, running, AllRun, counting, CountsAreTies}
 
 module _ (F : Files) (nodes : ℕ) where
@@ -15,6 +20,12 @@ module _ (F : Files) (nodes : ℕ) where
   of-wire : (c : Cluster F) (s : ℕ → ℕ) (v : Count) → IsCountOfWire F nodes c s v → node_of v ≡ None
   of-wire c s (OfNode node answered shown) is = elim is [ ]
   of-wire c s (OfWire shown published runs) is = refl
+
+  -- that is said of the node's calls alone
+  calm-same : (c c' : Cluster F) (i : ℕ) → (BookOf F c').low i ≡ (BookOf F c).low i → (BookOf F c').answered i ≡ (BookOf F c).answered i
+      → (BookOf F c').told i ≡ (BookOf F c).told i → Calm F (BookOf F c) i ((BookOf F c).low i) ((BookOf F c).answered i)
+      → Calm F (BookOf F c') i ((BookOf F c').low i) ((BookOf F c').answered i)
+  calm-same c c' i low answered told calm n lo hi = ap (λ f. F.Changes (f (suc n))) told ∙ calm n (omega arith) (omega arith)
 
   node-stays : (i j : ℕ) (c c' : Cluster F) (s : ℕ → ℕ) (v : Count) → (i ≡ j → ⊥) → OnlyOf F j c c' → IsCountOfNode F i c s v → IsCountOfNode F i c' s v
   node-stays i j c c' s (OfWire shown published runs) ne only is = elim is [ ]
@@ -27,6 +38,7 @@ module _ (F : Files) (nodes : ℕ) where
       | inl all ↦ inl all
       | inr acting ↦ inr (ap (λ f. f i && not (c'.waits i)) ((only.wire).runs) ∙ ap (λ f. c.runs i && not (f i)) ((only.wire).waits) ∙ acting)
     ];
+    calm = calm-same c c' i ((only.others i ne).low) ((only.others i ne).answered) ((only.others i ne).told) (is.calm);
   }
 
   wire-stays : (j : ℕ) (c c' : Cluster F) (s : ℕ → ℕ) (v : Count) → OnlyOf F j c c' → IsCountOfWire F nodes c s v → IsCountOfWire F nodes c' s v
@@ -52,6 +64,8 @@ module _ (F : Files) (nodes : ℕ) where
   record IsStopped (c : Cluster F) (is : List ℕ) (c' : Cluster F) : Type 0 where
     events : Events F c c'
     answered : (BookOf F c').answered ≡ (BookOf F c).answered
+    low : (BookOf F c').low ≡ (BookOf F c).low
+    told : (BookOf F c').told ≡ (BookOf F c).told
     published : (BookOf F c').published ≡ (BookOf F c).published
     runs : c'.runs ≡ running (c.runs) is
     past : c'.past ≡ c.past
@@ -68,12 +82,12 @@ module _ (F : Files) (nodes : ℕ) where
 
   stop : (c : Cluster F) (is : List ℕ) → ((k : ℕ) → k < nodes → (BookOf F c).published k ≡ (BookOf F c).answered k) → ((k : ℕ) → k < nodes → k ≡ c.past → ⊥)
       → AreBelow nodes is → AllRun (c.runs) is → (c' : Cluster F) × IsStopped c is c'
-  stop c [] all here below run = (c, record { events = Done c; answered = refl; published = refl; runs = refl; past = refl })
+  stop c [] all here below run = (c, record { events = Done c; answered = refl; low = refl; told = refl; published = refl; runs = refl; past = refl })
   stop c (i ∷ is) all here below run =
       let event : Event F c (halt c i) = Stops i (here i (below.0)) (run.0) (all i (below.0)) in
       let next = stop (halt c i) is all here (below.1) (run.1) in
       let n = next.1 in
-      (next.0, record { events = Then c (halt c i) (next.0) event (n.events); answered = n.answered; published = n.published; runs = n.runs; past = n.past })
+      (next.0, record { events = Then c (halt c i) (next.0) event (n.events); answered = n.answered; low = n.low; told = n.told; published = n.published; runs = n.runs; past = n.past })
 
   -- who has answered no more than is published has answered all that it was shown
   counted : (c : Cluster F) (s shown : ℕ → ℕ) (runs : ℕ → Bool) (k : ℕ) → Together F c → CountsWire F nodes c s shown shown runs → (v : Count) → IsCountOfNode F k c s v
@@ -87,15 +101,17 @@ module _ (F : Files) (nodes : ℕ) where
       ((omega arith), (omega arith))
 
   -- what is said of a node stays where it has answered all that it was shown
-  still : (c c' : Cluster F) (s : ℕ → ℕ) (k : ℕ) (v : Count) → (BookOf F c').answered ≡ (BookOf F c).answered → (BookOf F c).answered k ≡ s k
+  still : (c c' : Cluster F) (s : ℕ → ℕ) (k : ℕ) (v : Count) → (BookOf F c').answered ≡ (BookOf F c).answered → (BookOf F c').low ≡ (BookOf F c).low
+      → (BookOf F c').told ≡ (BookOf F c).told → (BookOf F c).answered k ≡ s k
       → IsCountOfNode F k c s v → IsCountOfNode F k c' s v
-  still c c' s k (OfWire shown published runs) same all is = elim is [ ]
-  still c c' s k (OfNode node answered shown) same all is = record {
+  still c c' s k (OfWire shown published runs) same low told all is = elim is [ ]
+  still c c' s k (OfNode node answered shown) same low told all is = record {
     node = is.node;
     answered = is.answered ∙ sym (ap (λ f. f k) same);
     shown = is.shown;
     order = is.order;
     acting = inl (is.answered ∙ all ∙ sym (is.shown));
+    calm = calm-same c c' k (ap (λ f. f k) low) (ap (λ f. f k) same) (ap (λ f. f k) told) (is.calm);
   }
 
   all-stop : (i : ℕ) (own : Count) (is : List ℕ) (shown : ℕ → ℕ) (runs : ℕ → Bool) → i < nodes → AreBelow nodes is → AllRun runs is
@@ -107,8 +123,8 @@ module _ (F : Files) (nodes : ℕ) where
         end.0,
         s,
         e.events,
-        (λ j v l ne h. still c (end.0) s j v (e.answered) ((known j l).1) h),
-        still c (end.0) s i own (e.answered) ((known i low).1) is_own,
+        (λ j v l ne h. still c (end.0) s j v (e.answered) (e.low) (e.told) ((known j l).1) h),
+        still c (end.0) s i own (e.answered) (e.low) (e.told) ((known i low).1) is_own,
         record {
           shown = wire.shown;
           published = wire.published ∙ sym (e.published);
@@ -117,5 +133,46 @@ module _ (F : Files) (nodes : ℕ) where
         },
       )
 
+  -- ---- a sync alone
+
+  sync-alone : (i a n : ℕ) (said : F.Said) → i < nodes → Does F (nothing F) said (nothing F) → F.Changes said ≡ false → a < n
+      → MayAlone F (counting F nodes) i (OfNode i a n) (OfNode i (suc a) n)
+  sync-alone i a n said below does still unanswered c s t is = (
+    after,
+    Then c after after event (Done after),
+    (tries_alone F).syncs c i said (at ((c.world).sure) i (suc ((BookOf F c).answered i))) t (λ k ne. at-other ((c.world).sure) i _ k ne),
+    record {
+      node = refl;
+      answered = ap suc (is.answered) ∙ sym (at-same ((BookOf F c).answered) i (suc ((BookOf F c).answered i)));
+      shown = is.shown;
+      order = omega arith;
+      acting = inr acting;
+      calm = calm';
+    },
+  )
+    where
+      after : Cluster F
+      after = record c {
+        world = record (c.world) {
+          book = tried F (BookOf F c) i said (nothing F) (nothing F) ((BookOf F c).cache i);
+          sure = at ((c.world).sure) i (suc ((BookOf F c).answered i));
+        };
+      }
+
+      acting : acts F c i ≡ true
+      acting = elim (is.acting) [ inl all ↦ absurd (omega arith) | inr may ↦ may ]
+
+      event : Event F c after
+      event = Works (after.world) (Syncs i said does still (is.calm)) acting
+
+      calm' : Calm F (BookOf F after) i ((BookOf F c).low i) ((BookOf F after).answered i)
+      calm' m low high =
+          let top = at-same ((BookOf F c).answered) i (suc ((BookOf F c).answered i)) in
+          elim (cases_eq m ((BookOf F c).answered i)) [
+            | inl e ↦ ap (λ f. F.Changes (f (suc m))) (at-same ((BookOf F c).told) i _)
+                ∙ ap (F.Changes) (ap (λ z. at ((BookOf F c).told i) (suc ((BookOf F c).answered i)) said (suc z)) e ∙ at-same ((BookOf F c).told i) (suc ((BookOf F c).answered i)) said) ∙ still
+            | inr ne ↦ ap (F.Changes) (told-kept F (BookOf F c) i said i (suc m) (omega (arith, ne, top, high))) ∙ is.calm m low (omega (arith, ne, top, high))
+          ]
+
 pub counts_are_ties : (F : Files) (nodes : ℕ) → CountsAreTies F nodes
-counts_are_ties F nodes = record { local = local F nodes; crash_all = all-stop F nodes }
+counts_are_ties F nodes = record { local = local F nodes; sync_alone = sync-alone F nodes; crash_all = all-stop F nodes }

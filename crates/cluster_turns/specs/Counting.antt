@@ -1,10 +1,12 @@
 -- A small choice of values, at which the premises of the turns are met: a node's value counts the calls that it answered and the lines that it was shown, and
 -- the wire's says what is published, who runs, and what it has shown to whom.
-use Rattle.std.specs.Prelude.{ℕ, ◌≡◌, ◌≤◌, ◌<◌, ◌⊎◌, ⊤, Bool, true, false, Option, None, Some, List, [], ◌∷◌}
-use Rattle.cluster_laws.specs.Files.{Files}
+use Rattle.std.specs.Prelude.{ℕ, suc, ◌≡◌, ◌≤◌, ◌<◌, ◌⊎◌, ⊤, Bool, true, false, Option, None, Some, List, [], ◌∷◌}
+use Rattle.cluster_laws.specs.Files.{Files, Does}
+use Rattle.cluster_laws.specs.Log.{Calm}
+use Rattle.cluster_laws.specs.World.{nothing}
 use Rattle.cluster_laws.specs.Book.{at}
 use Rattle.cluster_events.specs.Cluster.{Cluster, BookOf, acts}
-use Rattle.cluster_turns.specs.Turns.{Ties, AreLocal, MayPaired}
+use Rattle.cluster_turns.specs.Turns.{Ties, AreLocal, MayAlone, MayPaired}
 
 pub data Count : Type 0 where
   OfNode : (node answered shown : ℕ) → Count
@@ -14,13 +16,15 @@ abbrev pub node_of : Count → Option ℕ
 node_of (OfNode i answered shown) = Some i
 node_of (OfWire shown published runs) = None
 
--- it answers at most what it was shown; while a line is open it is a member whose slot doesn't wait
+-- it answers at most what it was shown; while a line is open it is a member whose slot doesn't wait; and nothing that it answered is unflushed and changes
+-- anything
 pub record CountsNode (F : Files) (i : ℕ) (c : Cluster F) (s : ℕ → ℕ) (j a n : ℕ) : Type 0 where
   pub node : j ≡ i
   pub answered : a ≡ (BookOf F c).answered i
   pub shown : n ≡ s i
   pub order : a ≤ n
   pub acting : (a ≡ n) ⊎ (acts F c i ≡ true)
+  pub calm : Calm F (BookOf F c) i ((BookOf F c).low i) ((BookOf F c).answered i)
 
 pub record CountsWire (F : Files) (nodes : ℕ) (c : Cluster F) (s n p : ℕ → ℕ) (r : ℕ → Bool) : Type 0 where
   pub shown : n ≡ s
@@ -61,9 +65,11 @@ counting F nodes = record {
   Grows = λ u v. node_of u ≡ node_of v;
 }
 
--- Such values are ties. And where every line that was shown is published, a seat at one node may stop all these nodes at once, with its own value and the wire's:
+-- Such values are ties. A node with an open line may answer a sync alone, by its own value, whatever the rest of the cluster is. And where every line that was shown is published, a seat at one node may stop all these nodes at once, with its own value and the wire's:
 -- a line `crash all`. What each other node answered can't be read off these two values; that its value fits tells it.
 pub record CountsAreTies (F : Files) (nodes : ℕ) : Type 0 where
   pub local : AreLocal F (counting F nodes)
+  pub sync_alone : (i a n : ℕ) (said : F.Said) → i < nodes → Does F (nothing F) said (nothing F) → F.Changes said ≡ false → a < n
+      → MayAlone F (counting F nodes) i (OfNode i a n) (OfNode i (suc a) n)
   pub crash_all : (i : ℕ) (own : Count) (is : List ℕ) (shown : ℕ → ℕ) (runs : ℕ → Bool) → i < nodes → AreBelow nodes is → AllRun runs is
       → MayPaired F (counting F nodes) i own (OfWire shown shown runs) own (OfWire shown shown (running runs is))

@@ -25,7 +25,7 @@ pub fn turns_keep<P: TurnedParts>()
     ensures { TurnsKeep P.files P.ties }
 {}
 
-/// A law: there are such values, and with them a line `crash all` may be carried out.
+/// A law: there are such values. With them a sync may be answered alone, and a line `crash all` may be carried out.
 pub fn all_may_crash<P: TurnedParts>()
     ensures { (nodes : ℕ) → CountsAreTies P.files nodes }
 {}
