@@ -1,3 +1,4 @@
+pub mod Calling
 pub mod Stopping
 pub mod Recovering
 pub mod Demoting

@@ -4,3 +4,4 @@ pub mod Demotions
 pub mod Begins
 pub mod Homes
 pub mod Stages
+pub mod Calls

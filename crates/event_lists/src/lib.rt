@@ -1,4 +1,4 @@
-//! What can happen to a cluster as lists of its events: crashes, fences, recoveries, demotions in their stages, unmounts.
+//! What can happen to a cluster as lists of its events: crashes, fences, recoveries, demotions in their stages, unmounts; and steps of the lock manager as events.
 #![tactic(auto)]
 
 ghost use Rattle.event_lists.specs.Stops.{CrashIsEvents, CrashAfterWrite, FenceIsEvents, KeptIsFound, LossIsEvents, RecoveryIsEvents, PastIsSilent, StartRecoveryIsEvents, PastIsEvents};
@@ -6,6 +6,7 @@ ghost use Rattle.event_lists.specs.Demotions.{CommitIsEvents, FlushFlushes, Flus
 ghost use Rattle.event_lists.specs.Homes.{HomeIsEvents, HomeIsAtHome, FlushedIsReleased, DemotionIsEvents, UnmountIsEvents};
 ghost use Rattle.event_lists.specs.Stages.{StagesStay};
 ghost use Rattle.event_lists.specs.Begins.{StartsFromDisk};
+ghost use Rattle.event_lists.specs.Calls.{LockStepsFit};
 
 use cluster_laws::System;
 
@@ -80,4 +81,9 @@ pub fn an_unmount_is_stages<S: System>()
 /// A law: a disk whose journals may be dirty is a start. What they have live is the past's, which holds every lock while a slot waits.
 pub fn a_dirty_start_starts<S: System>()
     ensures { StartsFromDisk S.files }
+{}
+
+/// A law: steps of the lock manager, one at each lock or none, are events: messages as they are, grants that are taken and downs as what these events ask of each lock.
+pub fn lock_steps_are_events<S: System>()
+    ensures { LockStepsFit S.files }
 {}
