@@ -42,8 +42,8 @@ pub record IsMountedClean (im : Image) : Type 0 where
   pub clean : IsLeftClean value
 
 -- Why an image isn't mounted: the disk failed at a block to which mounting came; a field is outside the profile; a block of the
--- device breaks a rule, or it is too short for a superblock; and what is not built: the replay of a journal, a hashed directory of journals, and a root that is no linear directory
--- of files.
+-- device breaks a rule, or it is too short for a superblock; and what is not built: the replay of a journal, a hashed directory of
+-- journals, and a root that is no linear directory of files.
 pub data MountEnds (disk : DiskState) (faults faults_now : ℕ → ℕ) : Status → Type 0 where
   DiskFails : (block x y : ℕ) → WentUp (faults 0) (faults_now 0) x y → OfImage disk (λ im. IsReached im block) → MountEnds disk faults faults_now (status.DeviceFault 0 (Some block) x y)
   LiesOutside : (what : Field) (value : ℕ) → OfImage disk (λ im. IsOutside im what value) → OfImage disk (λ im. IsOfProfile im → ⊥)

@@ -1,7 +1,8 @@
 -- What is read of an inode.
-use Rattle.std.specs.Prelude.{ℕ, zero, suc, ◌≡◌, ◌+◌, ◌*◌, ◌/◌, ◌<◌, ◌≤◌, ◌==◌, ◌&&◌, nat_lt, false, if◌then◌else◌, List, length, take, drop, Option, None, Some}
+use Rattle.std.specs.Prelude.{ℕ, zero, suc, ◌≡◌, ◌≢◌, ◌⊎◌, true, ◌+◌, ◌*◌, ◌/◌, ◌<◌, ◌≤◌, ◌==◌, ◌&&◌, nat_lt, false, if◌then◌else◌, List, length, take, drop, Option, None, Some}
+use Rattle.gfs2_layout.specs.Headers.{HasHeader}
 use Rattle.gfs2_layout.specs.Holding.{Holding, bytes_at}
-use Rattle.gfs2_layout.specs.Inode.{Leads, dinode_in, height_in, fan, span, unit, content_block, content_count, content_of}
+use Rattle.gfs2_layout.specs.Inode.{Leads, Fits, dinode_in, is_directory_in, height_in, fan, span, unit, content_block, content_count, content_of}
 use Rattle.gfs2_layout.specs.Structures.{dinode_length, is_regular}
 use Rattle.glock_names.specs.Views.{Seen}
 use Rattle.glock_names.specs.declared.LockName.{LockName}
@@ -57,3 +58,13 @@ pub record IsNeeded (v : Seen) (h : Holding) (wanted : ℕ → Type 0) (least : 
   pub lock : m.lock ≡ inode_lock h.own
   pub absent : v.block_at m.block ≡ None
   pub way : IsOnWay h wanted least m
+
+-- ---- a dinode that was looked at
+
+-- it has its header, its own address, a formal number and a mode, and its content fits it or its height
+pub record IsRightDinode (h : Holding) : Type 0 where
+  pub header : HasHeader 4 400 (bytes_at h h.own)
+  pub address : (dinode_in h).num.address ≡ h.own
+  pub number : (dinode_in h).num.number ≢ 0
+  pub mode : (is_directory_in h ≡ true) ⊎ (is_regular (dinode_in h) ≡ true)
+  pub fits : Fits h

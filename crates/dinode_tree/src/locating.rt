@@ -6,7 +6,7 @@ ghost use Rattle.glock_names.specs.Steps.{IfIs, IfNeedBlock, OnlyDamaged};
 ghost use Rattle.dinode_tree.specs.Shown.{IsShown, HasBlock, IsOfView};
 ghost use Rattle.dinode_tree.specs.Broken.{IsBroken};
 ghost use Rattle.dinode_tree.specs.Walking.{IsIn, missing_dinode};
-ghost use Rattle.dinode_tree.specs.Reading.{block_at, IsNeeded};
+ghost use Rattle.dinode_tree.specs.Reading.{block_at, IsNeeded, IsRightDinode};
 
 use crate::inode::Inode;
 use crate::links::find;
@@ -26,6 +26,7 @@ pub struct Located {
 pub fn read_dinode<V: View>(view: &V, dinode: u64) -> Result<Step<Dinode>, CallFault>
     ensures found { (h : Holding) → IsShown (V.seen view.now) dinode h → IfIs result (λ d. d ≡ dinode_in h) }
     ensures fits { (h : Holding) → IsShown (V.seen view.now) dinode h → IfIs result (λ d. Fits h) }
+    ensures right { (h : Holding) → IsShown (V.seen view.now) dinode h → IfIs result (λ d. IsRightDinode h) }
     ensures there { IfIs result (λ d. HasBlock (V.seen view.now) dinode) }
     ensures needed { IfNeedBlock result (λ missing. missing ≡ missing_dinode dinode) }
     ensures absent { IfNeedBlock result (λ missing. (V.seen view.now).block_at dinode ≡ None) }

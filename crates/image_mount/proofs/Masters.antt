@@ -5,10 +5,10 @@ use Rattle.std.proofs.lemmas.Bool.{cases_Bool, cond-true, cond-false, eq-eqb, ne
 use Rattle.std.proofs.Math.Nat.{div-lt_iff_lt-mul}
 use Rattle.std.proofs.Math.Path.{transport}
 use Rattle.std.proofs.Math.Pow.{pow_mono}
-use Rattle.dinode_tree.specs.Reading.{reach, block_at}
+use Rattle.dinode_tree.specs.Reading.{IsRightDinode, reach, block_at}
 use Rattle.gfs2_layout.specs.Bytes.{u64_at}
 use Rattle.gfs2_layout.specs.Holding.{Holding}
-use Rattle.gfs2_layout.specs.Inode.{dinode_in, depth_in, is_directory_in, is_hashed_in, height_in, unit, content_block, content_count, content_of, pieces, table_count, entry, entry_block, index_bits, first_hash, leaf_in, Fits}
+use Rattle.gfs2_layout.specs.Inode.{dinode_in, depth_in, is_directory_in, is_hashed_in, height_in, unit, content_block, content_count, content_of, pieces, table_count, entry, entry_block, index_bits, first_hash, leaf_in}
 use Rattle.gfs2_layout.specs.Structures.{leaf_of}
 use Rattle.gfs2_layout.specs.declared.dinode.Dinode.{Dinode}
 use Rattle.gfs2_layout.specs.declared.leaf.Leaf.{Leaf}
@@ -56,7 +56,7 @@ kept_master im inode kept is block from dinode = record {
   block = block ∙ is.block;
   from = from ∙ is.from;
   dinode = dinode ∙ ap (λ a. dinode_in (every im a)) (sym block);
-  fits = subst (λ a. Fits (every im a)) (sym block) is.fits;
+  right = subst (λ a. IsRightDinode (every im a)) (sym block) is.right;
   inside = subst (λ a. a < im.count) (sym block) is.inside;
   directory = ap (λ a. is_directory_in (every im a)) block ∙ is.directory;
 }
@@ -189,7 +189,7 @@ module _ (im : Image) (inode : Inode) (table : HashTable) (of : IsTableOf im ino
       where
         each : (n : ℕ) → height_in (every im inode.block) ≡ n → 8 * i / (size - 24) < reach im.size n
         each zero is = absurd (some (height_is ∙ is))
-        each (suc level) is = omega (arith, index_within, of.master.fits.under level is)
+        each (suc level) is = omega (arith, index_within, of.master.right.fits.under level is)
 
     -- the block of the table with this index, or none
     pub block_there : (b : ℕ) → inode.dinode.height ≢ 0 → Some b ≡ block_at (every im inode.block) (8 * i / (size - 24)) → b ≡ entry_block (every im inode.block) i

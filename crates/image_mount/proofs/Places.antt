@@ -79,14 +79,14 @@ within_reach im d places place has low = each (height_in (every im d)) refl
 
     each : (n : ℕ) → height_in (every im d) ≡ n → place < reach im.size n
     each zero is =
-        let stuffed = has.looked.fits.stuffed is in
+        let stuffed = has.looked.dinode.fits.stuffed is in
         let none : bytes / im.size ≡ 0 = div-eq_of_lt (omega (arith, stuffed)) in
         absurd (omega (arith, none, has.count, has.least))
     each (suc level) is =
         let bounds = unit_bounds im d has.large in
         let few = fewer bytes im.size (unit (every im d)) bounds.0 bounds.1 in
         let all = whole_pieces bytes (unit (every im d)) bounds.0 in
-        omega (arith, low, has.count, few, all, has.looked.fits.under level is)
+        omega (arith, low, has.count, few, all, has.looked.dinode.fits.under level is)
 
 -- ---- a journal by its record
 

@@ -2,7 +2,8 @@
 use Rattle.std.specs.Prelude.{ℕ, ◌≡◌, ◌≢◌, ◌⊎◌, ◌+◌, ◌-◌, ◌*◌, ◌^◌, ◌<◌, ◌≤◌, true, false, List, length, map, flat_map, Contains, Option, None, Some, IfSome, slice_get}
 use Rattle.std.specs.List.Sorted.{IsStrictlyIncreasing}
 use Rattle.gfs2_layout.specs.Device.{superblock_place}
-use Rattle.gfs2_layout.specs.Inode.{dinode_in, is_directory_in, is_hashed_in, content_of, depth_in, table_count, entry, first_hash, leaf_in, Fits}
+use Rattle.dinode_tree.specs.Reading.{IsRightDinode}
+use Rattle.gfs2_layout.specs.Inode.{dinode_in, is_directory_in, is_hashed_in, content_of, depth_in, table_count, entry, first_hash, leaf_in}
 use Rattle.gfs2_layout.specs.Records.{Record}
 use Rattle.image_model.specs.Claims.{every, Claims, master_of}
 use Rattle.image_model.specs.Image.{Image}
@@ -27,7 +28,7 @@ pub record IsMasterIn (im : Image) (inode : Inode) : Type 0 where
   pub block : inode.block ≡ master_of im
   pub from : inode.from ≡ superblock_place im.size
   pub dinode : inode.dinode ≡ dinode_in (every im inode.block)
-  pub fits : Fits (every im inode.block)
+  pub right : IsRightDinode (every im inode.block)
   pub inside : inode.block < im.count
   pub directory : is_directory_in (every im inode.block) ≡ true
 

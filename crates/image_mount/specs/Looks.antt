@@ -1,7 +1,8 @@
 -- What mounting looked at in an image that it mounted, beside what it found there: the records by which the system files are found,
 -- and the sizes that their dinodes say. What docs/MOUNT.md lists beyond this is only tested, as it says.
 use Rattle.std.specs.Prelude.{ℕ, ◌≡◌, ◌+◌, ◌*◌, ◌/◌, ◌%◌, ◌≤◌, true, false, List, codes}
-use Rattle.gfs2_layout.specs.Inode.{Fits, dinode_in, head_of, height_in, is_directory_in, is_hashed_in, table_count}
+use Rattle.dinode_tree.specs.Reading.{IsRightDinode}
+use Rattle.gfs2_layout.specs.Inode.{dinode_in, head_of, height_in, is_directory_in, is_hashed_in, table_count}
 use Rattle.gfs2_layout.specs.Records.{Record}
 use Rattle.gfs2_layout.specs.Structures.{dinode_length}
 use Rattle.glock_names.specs.declared.steps.Entry.{Entry}
@@ -45,9 +46,9 @@ pub record IsSized (im : Image) (a : ℕ) : Type 0 where
   pub linear : is_directory_in (every im a) ≡ true → is_hashed_in (every im a) ≡ false → IsLinearSized im a
   pub hashed : is_hashed_in (every im a) ≡ true → IsTableSized im a
 
--- its content fits it, too
+-- its dinode is right, too: header, address, number, mode, and content that fits
 pub record IsLookedAt (im : Image) (a : ℕ) : Type 0 where
-  pub fits : Fits (every im a)
+  pub dinode : IsRightDinode (every im a)
   pub sized : IsSized im a
 
 -- ---- all of it
@@ -57,7 +58,7 @@ pub record IsLookedOver (im : Image) (l : Layout) : Type 0 where
   pub rindex_record : HasTrueRecord im l.master (codes "rindex") l.rindex
   pub jindex_record : HasTrueRecord im l.master (codes "jindex") l.jindex
   pub journal_records : (j d : ℕ) → IsJournalAt l j d → HasTrueRecord im l.jindex (journal_name j) d
-  -- the inodes have their sizes, and a journal is whole blocks
+  -- the dinodes are right, directories have their sizes, and a journal is whole blocks
   pub master : IsLookedAt im l.master
   pub rindex : IsLookedAt im l.rindex
   pub jindex : IsLookedAt im l.jindex

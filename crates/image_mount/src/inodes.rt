@@ -1,4 +1,5 @@
 ghost use Rattle.std.specs.Prelude.{ℕ, ◌≡◌, ◌<◌, ◌≤◌, ◌+◌, ◌*◌, ◌/◌, ◌^◌, true, false, length, if◌then◌else◌, IfOk, OnOk, IfErr};
+ghost use Rattle.dinode_tree.specs.Reading.{IsRightDinode};
 ghost use Rattle.gfs2_layout.specs.Inode.{dinode_in, is_directory_in, is_hashed_in, head_of, has_hash_flag, Fits};
 ghost use Rattle.gfs2_layout.specs.Structures.{is_directory, dinode_length};
 ghost use Rattle.gfs2_layout.specs.Records.{Record};
@@ -37,6 +38,7 @@ impl Inode {
         ensures found { (im : Image) → IsRead im table.now → IfOk result (λ inode. inode.dinode ≡ dinode_in (every im block)) }
         ensures kept { IfOk result (HasKeptDinode table.now) }
         ensures fits { (im : Image) → IsRead im table.now → OnOk result (Fits (every im block)) }
+        ensures right { (im : Image) → IsRead im table.now → OnOk result (IsRightDinode (every im block)) }
         ensures inside { (im : Image) → IsRead im table.now → OnOk result (block < im.count) }
         ensures stops { (im : Image) (o : Owner) → IsRead im table.now → Claims im from block o → is_dinode o ≡ true → HasFormat im → from < im.count → IfErr result (StopsRightly im) }
         ensures lacks { IfErr result (LacksBlock table.now) }

@@ -1,5 +1,6 @@
 use Rattle.std.proofs.Common.{◌≡◌, ◌<◌, inl, ◌%◌, length, refl, sym, ap, subst, ◌∙◌, arith}
-use Rattle.gfs2_layout.specs.Inode.{dinode_in, Fits}
+use Rattle.gfs2_layout.specs.Inode.{dinode_in}
+use Rattle.dinode_tree.specs.Reading.{IsRightDinode}
 use Rattle.gfs2_layout.specs.declared.dinode.Dinode.{Dinode}
 use Rattle.std.specs.Prelude.{codes}
 use Rattle.image_model.specs.Claims.{every, Claims, IsRindex, master_of}
@@ -65,7 +66,7 @@ returns-clause-found c im read of_count is =
     groups_are im inode.block c.args.rindex.now.entry.addr c.deref-2.result.now c.in_ok-groups.groups.items value c.in_ok-inode.ensures.block (record {
       inside = list.inside;
       looked = record {
-        fits = subst (λ a. Fits (every im a)) (sym c.in_ok-inode.ensures.block) (c.in_ok-inode.ensures.fits im read);
+        dinode = subst (λ a. IsRightDinode (every im a)) (sym c.in_ok-inode.ensures.block) (c.in_ok-inode.ensures.right im read);
         sized = c.in_ok-bytes.ensures.sized im dinode (c.block_size-size.ensures.value ∙ read.size);
       };
       whole = whole;

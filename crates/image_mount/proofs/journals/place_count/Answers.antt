@@ -67,7 +67,7 @@ returns-clause-found c im read =
     record {
       inside = c.in_ok-inode.ensures.inside im read;
       count = ap (λ n. inode.dinode.size / n) sized ∙ ap (λ (d : Dinode). d.size / im.size) (c.in_ok-inode.ensures.found im read);
-      looked = record { fits = c.in_ok-inode.ensures.fits im read; sized = sized_here };
+      looked = record { dinode = c.in_ok-inode.ensures.right im read; sized = sized_here };
       whole = ap (λ (d : Dinode). d.size % im.size) (sym (c.in_ok-inode.ensures.found im read)) ∙ sym (ap (λ n. inode.dinode.size % n) (c.from.ensures ∙ c.block_size-size.ensures.value ∙ read.size)) ∙ c.if-inode-from-ne0.false;
       large = omega (arith, size_large _ c.block_size-size.ensures.view.block_size, read.size);
       most = c.if-places-gt-MOST_PLACES.false;

@@ -1,7 +1,8 @@
 use Rattle.std.proofs.Common.{◌≡◌, ◌<◌, true, refl, ap, sym, subst, ◌∙◌, arith}
 use Rattle.gfs2_layout.specs.Device.{superblock_place}
 use Rattle.gfs2_layout.specs.declared.superblock.SuperBlock.{SuperBlock}
-use Rattle.gfs2_layout.specs.Inode.{dinode_in, Fits}
+use Rattle.gfs2_layout.specs.Inode.{dinode_in}
+use Rattle.dinode_tree.specs.Reading.{IsRightDinode}
 use Rattle.gfs2_layout.specs.Structures.{is_directory}
 use Rattle.image_model.specs.Claims.{every, master_of}
 use Rattle.image_model.specs.Owners.{Master}
@@ -39,7 +40,7 @@ returns-clause-found c im read few =
         block = at ∙ same;
         from = c.in_ok-inode.ensures.from ∙ place;
         dinode = dinode;
-        fits = subst (λ a. Fits (every im a)) (sym at) (c.in_ok-inode.ensures.fits im read);
+        right = subst (λ a. IsRightDinode (every im a)) (sym at) (c.in_ok-inode.ensures.right im read);
         inside = subst (λ n. n < im.count) (sym at) (c.in_ok-inode.ensures.inside im read);
         directory = ap is_directory (sym dinode) ∙ yes;
       };

@@ -32,5 +32,5 @@ returns-clause-found c im read count is plain =
     let at = is.inode.block ∙ sym (same_master im sb c.in_ok-files.files is.inode.format is.superblock files) in
     let journals = c.in_ok-journals.ensures.found im _ read (groups_found im sb c.in_ok-files.files is.inode.format is.superblock files c.in_ok-groups.groups.items [] groups) refl is.inode.block inside files.jindex in
     system_of im sb c.in_ok-files.files is.inode.format is.superblock files c.in_ok-groups.groups c.in_ok-journals.journals (subst (λ n. n < im.count) at inside)
-    (subst (IsLookedAt im) at (record { fits = is.inode.fits; sized = either_sized im c.args.master.now.inode.block (λ hashed. (plain hashed).1) (c.in_ok-files.ensures.sized im read is.inode) }))
+    (subst (IsLookedAt im) at (record { dinode = is.inode.right; sized = either_sized im c.args.master.now.inode.block (λ hashed. (plain hashed).1) (c.in_ok-files.ensures.sized im read is.inode) }))
     (c.in_ok-groups.ensures.repeats im read) (c.in_ok-journals.ensures.repeats im read) groups journals

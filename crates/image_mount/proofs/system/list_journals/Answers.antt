@@ -1,6 +1,7 @@
 use Rattle.std.proofs.Common.{◌≡◌, ◌<◌, true, sym, ap, subst, refl, ◌∙◌, arith}
 use Rattle.std.specs.Prelude.{codes, map}
-use Rattle.gfs2_layout.specs.Inode.{dinode_in, Fits}
+use Rattle.gfs2_layout.specs.Inode.{dinode_in}
+use Rattle.dinode_tree.specs.Reading.{IsRightDinode}
 use Rattle.gfs2_layout.specs.Structures.{is_directory}
 use Rattle.image_model.specs.Claims.{every, master_of}
 use Rattle.image_model.specs.Owners.{Named}
@@ -63,7 +64,7 @@ returns-clause-found c im l read groups at same low named =
     let are : AreRecordsOf im inode.block (map said items) = c.in_ok-records.ensures.found im read directory in
     let among = subst (λ xs. AreJournalsAmong xs c.in_ok-journals.journals.items) c.deref.ensures.value c.in_ok-journals.ensures.found in
     subst (λ a. AreJournalsOf im a c.in_ok-journals.journals.items) c.in_ok-inode.ensures.block (journals_of im inode.block items c.in_ok-journals.journals.items directory.inside
-    (record { fits = subst (λ a. Fits (every im a)) (sym c.in_ok-inode.ensures.block) (c.in_ok-inode.ensures.fits im read); sized = c.in_ok-records.ensures.sized im read directory }) are c.in_ok-records.ensures.here c.in_ok-records.ensures.distinct among)
+    (record { dinode = subst (λ a. IsRightDinode (every im a)) (sym c.in_ok-inode.ensures.block) (c.in_ok-inode.ensures.right im read); sized = c.in_ok-records.ensures.sized im read directory }) are c.in_ok-records.ensures.here c.in_ok-records.ensures.distinct among)
 
 pub returns-clause-repeats : goal.returns-clause-repeats
 returns-clause-repeats c im read =

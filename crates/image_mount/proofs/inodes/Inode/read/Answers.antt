@@ -5,6 +5,7 @@ use Rattle.gfs2_layout.specs.Inode.{dinode_in, Fits}
 use Rattle.std.proofs.Common.{◌≡◌, [], ap, ◌∙◌}
 use Rattle.image_mount.proofs.Shown.{shown, inode_at, damage_told, kept_on}
 use Rattle.dinode_tree.specs.Shown.{HasBlock}
+use Rattle.dinode_tree.specs.Reading.{IsRightDinode}
 use Rattle.image_mount.proofs.Steps.{answer_at, seen_in, shown_by}
 use Rattle.image_mount.specs.Kept.{seen_of}
 use Rattle.gfs2_layout.specs.Structures.{dinode_of}
@@ -39,3 +40,7 @@ returns-in-NeedBlock-clause-stops c im o read claimed dinode format low = inr (f
 pub returns-in-Is-clause-inside : goal.returns-in-Is-clause-inside
 returns-in-Is-clause-inside c im read =
     kept_on im c.args.table.now c.args.block read (answer_at c.in_ok-dinode.field-0 c.in-Is.dinode (λ d. HasBlock (seen_of c.args.table.now) c.args.block) c.in-Is.is c.in_ok-dinode.ensures.there)
+
+pub returns-in-Is-clause-right : goal.returns-in-Is-clause-right
+returns-in-Is-clause-right c im read =
+    answer_at c.in_ok-dinode.field-0 c.in-Is.dinode (λ d. IsRightDinode (every im c.args.block)) c.in-Is.is (c.in_ok-dinode.ensures.right (every im c.args.block) (shown im c.args.table.now c.args.block read))
