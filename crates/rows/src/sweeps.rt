@@ -237,7 +237,7 @@ pub(crate) fn check_calls(
     )?;
     tell(report, before.as_str(), &command.wanted, &left)?;
     if count > 0 {
-        let left = carry(alloc, image, left.bytes, command, count)?;
+        let left = carry(alloc, image, image.bytes.to_vec(alloc)?, command, count)?;
         if left.status != 5 && command.given.fails.disk.is_empty() {
             writeln!(report, "  at {}: call {count} is not made", image.size)?;
         }
