@@ -1,2 +1,2 @@
-pub mod LockMapLaws
 pub mod StateOrders
+pub mod LockMapLaws
