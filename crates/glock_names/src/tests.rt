@@ -1,7 +1,7 @@
 // A lock's bytes, and two views: one over nothing, and one over a map from block numbers to bytes.
 ghost use Rattle.std.specs.Prelude.{◌≡◌};
 
-use crate::{Group, LockName, State, View};
+use crate::{Group, LockName, State, View, is_at_most, is_below, may_cache};
 use std::collections::BTreeMap;
 use std::process::Abort;
 use std::test::Fail;
@@ -117,4 +117,23 @@ fn a_view_has_the_whole_blocks_that_it_was_given(rt: HostRuntime) -> Result<(), 
     assert_eq!(rt; Nothing.block_size(), 512);
     assert_eq!(rt; Nothing.groups().len(), 0);
     Ok(())
+}
+
+#[test]
+fn states_have_an_order(rt: HostRuntime) {
+    let states = [State::Un, State::Sh, State::Df, State::Ex];
+    // for each of these the states at which it is at most, and what of content and of other blocks it lets cache
+    for (a, at_most, content, other) in [
+        (State::Un, [true, true, true, true], false, false),
+        (State::Sh, [false, true, false, true], true, true),
+        (State::Df, [false, false, true, true], false, true),
+        (State::Ex, [false, false, false, true], true, true),
+    ] {
+        for (b, is) in states.iter().zip(at_most) {
+            assert_eq!(rt; is_at_most(a, *b), is);
+            assert_eq!(rt; is_below(a, *b), is && a != *b);
+        }
+        assert_eq!(rt; may_cache(a, true), content);
+        assert_eq!(rt; may_cache(a, false), other);
+    }
 }
