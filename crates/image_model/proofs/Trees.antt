@@ -48,7 +48,7 @@ less_other : {A : Type 0} (n m : List ℕ) (a b : A) → name_order n m ≡ Less
 less_other n m a b e = rw e
 
 -- a name below the first isn't there
-below_all : (es : Entries) (n : List ℕ) → IsBelowFirst n es → AreEntries es → look es n ≡ None
+pub below_all : (es : Entries) (n : List ℕ) → IsBelowFirst n es → AreEntries es → look es n ≡ None
 below_all none n low are = refl
 below_all (entry m t es) n low are = less_other n m (Some t) (look es n) low ∙ below_all es n (below_rest es m n are.1 low) are.3
   where
@@ -56,7 +56,7 @@ below_all (entry m t es) n low are = less_other n m (Some t) (look es n) low ∙
     below_rest none m n low less = tt
     below_rest (entry k u fs) m n low less = order_trans n m k less low
 
-look_eq : {A : Type 0} (n m : List ℕ) (a b : A) → n ≡ m → if_equal (name_order n m) a b ≡ a
+pub look_eq : {A : Type 0} (n m : List ℕ) (a b : A) → n ≡ m → if_equal (name_order n m) a b ≡ a
 look_eq n m a b e = ap (λ z. if_equal (name_order z m) a b) e ∙ look_self m a b
 
 -- what stands at a path below a tree that may be there

@@ -1,0 +1,4 @@
+pub mod Flats
+pub mod Directories
+pub mod Changes
+pub mod Laws
