@@ -48,7 +48,7 @@ is_subdirectory r = not (is_dots r.name) && r.kind == 4
 directories_append : (rs ss : List Record) → directory_count (rs ++ ss) ≡ directory_count rs + directory_count ss
 directories_append rs ss = sum_by-append (λ r. cond (is_subdirectory r) 1 0) rs ss
 
-directories_any_order : (rs ss : List Record) → IsPermutation rs ss → directory_count rs ≡ directory_count ss
+pub directories_any_order : (rs ss : List Record) → IsPermutation rs ss → directory_count rs ≡ directory_count ss
 directories_any_order rs ss order = sym (sum_by-IsPermutation (λ r. cond (is_subdirectory r) 1 0) rs ss order)
 
 pub records_go_and_come : RecordsGoAndCome

@@ -1,5 +1,9 @@
 pub mod TreePaths
 pub mod FlatPaths
 pub mod Directories
+pub mod Bare
 pub mod Frame
 pub mod Laid
+pub mod Nodes
+pub mod FileChange
+pub mod NameAdded

@@ -1,4 +1,5 @@
 pub mod Flats
 pub mod Directories
 pub mod Changes
+pub mod Instances
 pub mod Laws
