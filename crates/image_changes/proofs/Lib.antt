@@ -5,5 +5,7 @@ pub mod Bare
 pub mod Frame
 pub mod Laid
 pub mod Nodes
+pub mod Standing
 pub mod FileChange
 pub mod NameAdded
+pub mod NameRemoved

@@ -25,6 +25,7 @@ use Rattle.image_changes.proofs.Bare.{bare_lacks, bare_directory}
 use Rattle.image_changes.proofs.Directories.{Lacks, same_has, has_stays, records_go_and_come, child_lacks, lacks_child, child_stays, child_comes, once_more, one_lacks, names_any_order}
 use Rattle.image_changes.proofs.Frame.{row_kept, same_dinode, head_same}
 use Rattle.image_changes.proofs.Laid.{root_named, child_rows, follow_dinode, laid_after, up_row, row_up, row_dinode}
+use Rattle.image_changes.proofs.Standing.{parent_dinode}
 use Rattle.image_changes.proofs.Nodes.{among_in, in_among, not_among, node_none, file_thing, file_child, dir_thing, dir_child, dots_child, plain_name, bare_reads, no_system, master_stays, untouched_flat, rows_kept}
 
 no_content : (h : Holding) → (dinode_in h).size ≡ 0 → content_of h ≡ []
@@ -98,20 +99,13 @@ module _ (im im' : Image) (o o' : Owners) (l : Layout) (p : ℕ) (name : List �
   once' : (m : List ℕ) → name_count (records_at im' o' p) m ≤ 1
   once' = once_more (records_at im o p) (records_at im' o' p) [] is.entry is.exchanged before.once rest_lacks
 
-  parent_dinode : is_dinode (o (parent_of p (o p))) ≡ true
-  parent_dinode = each (o p) refl
-    where
-      each : (x : Owner) → o p ≡ x → is_dinode (o (parent_of p x)) ≡ true
-      each (Named q n) e = (child_rows im o l stands.laid q p n (stands.laid.names p (record { parent = q; name = n }) (row_up (o p) q n e))).0
-      each x e = dinode
-
   parent_directory : IsDirectory (heads_of im' o') o' p (records_at im' o' p) (dinode_at im' o' p)
   parent_directory = records_go_and_come (heads_of im o) (heads_of im' o') o o' p (records_at im o p) (records_at im' o' p) [] (is.entry ∷ []) (dinode_at im o p) (dinode_at im' o' p)
       before is.exchanged is.counted
       (has_stays (heads_of im' o') _ _ [] (is.entry ∷ []) (codes ".") p is.exchanged refl (same_has (heads_of im o) (heads_of im' o') _ (codes ".") p (head_stays p dinode) before.dot))
       (subst (λ x. HasRecord (heads_of im' o') (records_at im' o' p) (codes "..") (parent_of p x)) (sym is.parent_row)
       (has_stays (heads_of im' o') _ _ [] (is.entry ∷ []) (codes "..") (parent_of p (o p)) is.exchanged refl
-      (same_has (heads_of im o) (heads_of im' o') _ (codes "..") (parent_of p (o p)) (head_stays (parent_of p (o p)) parent_dinode) before.dots)))
+      (same_has (heads_of im o) (heads_of im' o') _ (codes "..") (parent_of p (o p)) (head_stays (parent_of p (o p)) (parent_dinode im o l stands.laid p dinode)) before.dots)))
       once'
       (λ r at plain. down r (is_in r (is.entry ∷ []) at))
       (λ r at plain. agree r plain (is_in r is.exchanged.rest at))
