@@ -84,13 +84,16 @@ follow_kept f f' (n ∷ r) s top x at same =
 -- ---- an inode to which no path leads
 
 pub unreached : Unreached
-unreached f f' top a others far = (same, λ t reads. record { tree = reads.tree; same = λ q. things q ∙ reads.same q })
+unreached f f' top each = (same, λ t reads. record { tree = reads.tree; same = λ q. things q ∙ reads.same q })
   where
+    reached : (q : Path) (y : ℕ) → follow f top q ≡ Some y → f' y ≡ f y
+    reached q y at = elim (each y) [ inl e ↦ e | inr far ↦ absurd (far q at) ]
+
     same : (q : Path) → follow f' top q ≡ follow f top q
-    same q = follow_kept f f' q [] top top refl (λ s y at. ap (λ (n : Node). n.child) (others y (λ e. far s (at ∙ ap Some e))))
+    same q = follow_kept f f' q [] top top refl (λ s y at. ap (λ (n : Node). n.child) (reached s y at))
 
     things : (q : Path) → thing_from f' top q ≡ thing_from f top q
-    things q = ap (option_and_then (λ b. Some (f' b).thing)) (same q) ∙ after_same _ _ (follow f top q) (λ b at. ap (λ (n : Node). Some n.thing) (others b (λ e. far q (at ∙ ap Some e))))
+    things q = ap (option_and_then (λ b. Some (f' b).thing)) (same q) ∙ after_same _ _ (follow f top q) (λ b at. ap (λ (n : Node). Some n.thing) (reached q b at))
 
 -- ---- an inode changes its thing alone
 

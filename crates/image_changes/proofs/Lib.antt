@@ -9,3 +9,4 @@ pub mod Standing
 pub mod FileChange
 pub mod NameAdded
 pub mod NameRemoved
+pub mod NameMoved

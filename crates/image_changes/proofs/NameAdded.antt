@@ -165,7 +165,10 @@ module _ (im im' : Image) (o o' : Owners) (l : Layout) (p : ℕ) (name : List �
   not_there top so q e = other a (follow_dinode im o l stands.laid q top a so e) refl
 
   unreached_at : (top : ℕ) → is_dinode (o top) ≡ true → ((q : Path) → follow made top q ≡ follow (flat_of im o) top q) × ((v : Tree) → ReadsAs (flat_of im o) top v → ReadsAs made top v)
-  unreached_at top so = unreached (flat_of im o) made top a made_other (not_there top so)
+  unreached_at top so = unreached (flat_of im o) made top each
+    where
+      each : (x : ℕ) → (made x ≡ flat_of im o x) ⊎ ((q : Path) → follow (flat_of im o) top q ≢ Some x)
+      each x = elim (cases_eq x a) [ inl e ↦ inr (λ q f. not_there top so q (f ∙ ap Some e)) | inr d ↦ inl (made_other x d) ]
 
   differs : LeadsElsewhere made (flat_of im' o') p name
   differs = record { things = things; others = children }

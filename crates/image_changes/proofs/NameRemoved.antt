@@ -182,7 +182,10 @@ module _ (im im' : Image) (o o' : Owners) (l : Layout) (p : ℕ) (name : List �
       ]
 
   left : ((q : Path) → follow (flat_of im' o') l.root q ≡ follow unnamed l.root q) × ((v : Tree) → ReadsAs unnamed l.root v → ReadsAs (flat_of im' o') l.root v)
-  left = unreached unnamed (flat_of im' o') l.root a after_gone far
+  left = unreached unnamed (flat_of im' o') l.root each
+    where
+      each : (x : ℕ) → (flat_of im' o' x ≡ unnamed x) ⊎ ((q : Path) → follow unnamed l.root q ≢ Some x)
+      each x = elim (cases_eq x a) [ inl e ↦ inr (λ q f. far q (f ∙ ap Some e)) | inr d ↦ inl (after_gone x d) ]
 
   -- ---- what is owed of names
 

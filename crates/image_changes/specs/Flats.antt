@@ -30,9 +30,9 @@ pub record LeadsElsewhere (f f' : Flat) (a : ℕ) (name : List ℕ) : Type 0 whe
 abbrev pub in_directory : Path → List ℕ → Path
 in_directory path name = path ++ (name ∷ [])
 
--- an inode to which no path leads says something else: each path leads where it led, and the tree is the same
+-- each inode is as before, or no path leads to it: each path leads where it led, and the tree is the same
 abbrev pub Unreached : Type 0
-Unreached = (f f' : Flat) (top a : ℕ) → SameBut a f f' → ((path : Path) → follow f top path ≢ Some a)
+Unreached = (f f' : Flat) (top : ℕ) → ((a : ℕ) → (f' a ≡ f a) ⊎ ((path : Path) → follow f top path ≢ Some a))
     → ((path : Path) → follow f' top path ≡ follow f top path) × ((t : Tree) → ReadsAs f top t → ReadsAs f' top t)
 
 -- a file gets other bytes: each path leads where it led, and the tree has the bytes at the file's
