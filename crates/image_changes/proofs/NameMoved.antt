@@ -752,7 +752,7 @@ module _ (im im' : Image) (o o' : Owners) (l : Layout) (p : ℕ) (name : List �
 
           regular : (is_directory_at im o a ≡ true) ⊎ (is_regular (dinode_at im o a) ≡ true) → is_regular (dinode_at im o a) ≡ true
           regular (inl is_dir) = absurd (true≢false (sym is_dir ∙ plain_a))
-          regular (inr file) = file
+          regular (inr e) = e
 
           each : IsItself im im' o o' p q a → (dinode_at im' o' a).size ≤ file_limit
           each (as_before only same) = subst (λ h. (dinode_in h).size ≤ file_limit) (sym same) (stands.laid.short (in_directory path name) a to_a (regular (stands.laid.inodes a dinode_a).mode))
