@@ -53,6 +53,15 @@ plain_file h e = elim (cases_Bool (is_directory_in h)) [
   | inl dir ↦ absurd (omega (arith, eqb-true _ 4 dir, eqb-true _ 8 e))
 ]
 
+-- groups fit an image by its size alone
+pub fits_still : (im im' : Image) (groups : List Rindex) → im'.size ≡ im.size → im'.count ≡ im.count → GroupsFit im groups → GroupsFit im' groups
+fits_still im im' groups size count fit = record {
+  each = λ g at. let f = fit.each g at in
+      record { above = rw size f.above; some = f.some; first = f.first; whole = f.whole; bits = rw size f.bits; inside = rw count f.inside };
+  rise = fit.rise;
+  rest = λ b high low. fit.rest b (subst (λ n. superblock_place n < b) size high) (subst (λ n. b < n) count low);
+}
+
 -- ---- what names lead to, where directories are right
 
 -- what a name in an inode leads to is named there
@@ -137,12 +146,7 @@ module _ (im im' : Image) (o o' : Owners) (l : Layout) (touched : ℕ → Bool) 
       block = ap (λ n. im'.at (superblock_place n)) change.size ∙ own (superblock_place im.size) (laid.zoned.low (superblock_place im.size) (omega arith))
 
   fit_after : GroupsFit im' l.groups
-  fit_after = record {
-    each = λ g at. let f = laid.fit.each g at in
-        record { above = rw change.size f.above; some = f.some; first = f.first; whole = f.whole; bits = rw change.size f.bits; inside = rw change.count f.inside };
-    rise = laid.fit.rise;
-    rest = λ b high low. laid.fit.rest b (subst (λ n. superblock_place n < b) change.size high) (subst (λ n. b < n) change.count low);
-  }
+  fit_after = fits_still im im' l.groups change.size change.count laid.fit
 
   -- ---- zones
 

@@ -10,3 +10,6 @@ pub mod FileChange
 pub mod NameAdded
 pub mod NameRemoved
 pub mod NameMoved
+pub mod Layouts
+pub mod FileContent
+pub mod Contents

@@ -2,4 +2,5 @@ pub mod Flats
 pub mod Directories
 pub mod Changes
 pub mod Instances
+pub mod Contents
 pub mod Laws

@@ -98,13 +98,13 @@ module _ (im : Image) (owners : Owners) (large : 512 ≤ im.size) (a : ℕ) (din
         differ : (d : Dinode) → is_directory d ≡ true → is_regular d ≡ true → ⊥
         differ d e f = absurd (omega (arith, eqb-true (d.mode / 4096 % 16) 4 e, eqb-true (d.mode / 4096 % 16) 8 f))
 
-    place_low : (p : ℕ) → p < (ring_of (holding im owners a)).places → p < content_count (holding im owners a)
+    pub place_low : (p : ℕ) → p < (ring_of (holding im owners a)).places → p < content_count (holding im owners a)
     place_low p low =
         let e : unit (holding im owners a) ≡ im.size = cond-false _ _ _ plain in
         subst (λ each. p < pieces (dinode_in (holding im owners a)).size each) (sym e) (omega (arith, low, whole_pieces (dinode_in (holding im owners a)).size im.size (omega (arith, large))))
 
     -- a journal with a place has its content below the dinode
-    place_high : (p : ℕ) → p < (ring_of (holding im owners a)).places → (level : ℕ) × (height_in (holding im owners a) ≡ suc level)
+    pub place_high : (p : ℕ) → p < (ring_of (holding im owners a)).places → (level : ℕ) × (height_in (holding im owners a) ≡ suc level)
     place_high p low = each (height_in (holding im owners a)) refl
       where
         each : (n : ℕ) → height_in (holding im owners a) ≡ n → (level : ℕ) × (height_in (holding im owners a) ≡ suc level)

@@ -16,7 +16,7 @@ use Rattle.image_model.specs.Claims.{every}
 use Rattle.image_model.proofs.Members.{IsIn, from_range}
 use Rattle.image_model.proofs.Held.{own_block, block_same}
 
-positive : (i m k : ℕ) → i < m * k → 0 < k
+pub positive : (i m k : ℕ) → i < m * k → 0 < k
 positive i m k h = elim (cases_eq k 0) [
   | inl e ↦ absurd (omega (arith, subst (λ z. i < m * z) e h, mul-zero m))
   | inr d ↦ omega (arith, d)

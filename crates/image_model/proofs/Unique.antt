@@ -23,7 +23,7 @@ used_or_not (Below a b k level first) = inl tt
 used_or_not (Chained a hash place) = inl tt
 
 -- a block that isn't in use is no inode's, and no inode is in it
-unused_part : (a b : ℕ) (o : Owner) → (IsUsed o → ⊥) → part_in a b o ≡ None
+pub unused_part : (a b : ℕ) (o : Owner) → (IsUsed o → ⊥) → part_in a b o ≡ None
 unused_part a b Super un = refl
 unused_part a b (InGroup g) un = refl
 unused_part a b (Free g) un = refl

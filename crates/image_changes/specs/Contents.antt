@@ -1,0 +1,55 @@
+-- Contents of blocks that don't matter: of free blocks, of a file's blocks of content to the rules of its inode, and of the places of
+-- journals.
+use Rattle.std.specs.Prelude.{ℕ, ◌≡◌, ◌≢◌, ◌⊎◌, ◌<◌, true, List, length, Some}
+use Rattle.file_tree.specs.Tree.{Tree}
+use Rattle.gfs2_layout.specs.Holding.{Part, Pointed, Holding, part_at, bytes_at}
+use Rattle.gfs2_layout.specs.Inode.{dinode_in, IsInode}
+use Rattle.gfs2_layout.specs.Journal.{Ring, ring_of, IsClean}
+use Rattle.gfs2_layout.specs.Structures.{is_regular}
+use Rattle.image_model.specs.Image.{Image}
+use Rattle.image_model.specs.Owners.{Owner, Owners, Free, Below, holding}
+use Rattle.image_model.specs.Stands.{Layout, IsJournalAt, IsLaid}
+use Rattle.image_changes.specs.Instances.{StandsBy}
+
+-- ---- within an inode
+
+-- the inode has the same blocks, and the same bytes in each but those of its blocks of content
+pub record SameButContent (h h' : Holding) : Type 0 where
+  pub size : h'.size ≡ h.size
+  pub count : h'.count ≡ h.count
+  pub own : h'.own ≡ h.own
+  pub parts : (b : ℕ) → part_at h' b ≡ part_at h b
+  pub lengths : (b : ℕ) → length (bytes_at h' b) ≡ length (bytes_at h b)
+  pub bytes : (b : ℕ) → ((above k first : ℕ) → part_at h b ≢ Some (Pointed above k 0 first)) → bytes_at h' b ≡ bytes_at h b
+
+-- the rules of a regular file don't look at what its blocks of content have
+abbrev pub ContentDoesNotMatter : Type 0
+ContentDoesNotMatter = (h h' : Holding) → is_regular (dinode_in h) ≡ true → ((above k first : ℕ) → part_at h h.own ≢ Some (Pointed above k 0 first))
+    → SameButContent h h' → IsInode h → IsInode h'
+
+-- ---- within an image
+
+-- as many blocks of that size, each whole
+pub record IsAsLarge (im im' : Image) : Type 0 where
+  pub size : im'.size ≡ im.size
+  pub count : im'.count ≡ im.count
+  pub whole : (b : ℕ) → b < im.count → length (im'.at b) ≡ im.size
+
+-- the contents of free blocks don't matter
+abbrev pub FreeBlocksDoNotMatter : Type 0
+FreeBlocksDoNotMatter = (im im' : Image) (o : Owners) (l : Layout) (t : Tree) → IsAsLarge im im' → ((b : ℕ) → (im'.at b ≡ im.at b) ⊎ ((g : ℕ) × (o b ≡ Free g)))
+    → StandsBy im o l t → StandsBy im' o l t
+
+-- the block is a place of a journal: one of its blocks of content
+abbrev pub IsPlace : Owners → Layout → ℕ → Type 0
+IsPlace o l b = (j d above k first : ℕ) × IsJournalAt l j d × (o b ≡ Below d above k 0 first)
+
+-- A journal that can be read: it has an accepted head, and no chunk from its tail to its head is bad. Of a clean head there is none,
+-- and that is asked as long as only clean journals are read.
+abbrev pub IsReadable : Ring → Type 0
+IsReadable ring = IsClean ring
+
+-- the contents of the places of journals don't matter, where each journal can be read
+abbrev pub PlacesDoNotMatter : Type 0
+PlacesDoNotMatter = (im im' : Image) (o : Owners) (l : Layout) (t : Tree) → IsAsLarge im im' → ((b : ℕ) → (im'.at b ≡ im.at b) ⊎ IsPlace o l b)
+    → ((j d : ℕ) → IsJournalAt l j d → IsReadable (ring_of (holding im' o d))) → StandsBy im o l t → StandsBy im' o l t
