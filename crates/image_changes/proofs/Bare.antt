@@ -1,20 +1,19 @@
 -- Directories without a name.
-use Rattle.std.proofs.Common.{◌≡◌, ◌≢◌, ℕ, ◌+◌, ◌≤◌, ◌⊎◌, inl, inr, Bool, true, false, ◌||◌, List, [], ◌∷◌, ◌++◌, length, Option, None, Some, refl, sym, ap, ◌∙◌, subst, arith, cond}
+use Rattle.std.proofs.Common.{◌≡◌, ◌≢◌, ℕ, ◌+◌, ◌≤◌, inl, inr, Bool, true, false, List, [], ◌∷◌, length, None, refl, sym, ap, ◌∙◌, subst, arith, cond}
 use Rattle.std.specs.Prelude.{codes, Contains, not, ◌&&◌, ◌==◌}
 use Rattle.std.specs.Str.{bytes_eq}
-use Rattle.std.specs.List.Sorted.{IsPermutation}
-use Rattle.std.proofs.lemmas.Bool.{cases_Bool, cond-true, cond-false, or_cases, or_parts, true≢false}
+use Rattle.std.proofs.lemmas.Bool.{cases_Bool, cond-true, cond-false, or_parts, true≢false}
 use Rattle.std.proofs.lemmas.Slice.Eq.{bytes_eq-Decides}
 use Rattle.std.proofs.lemmas.List.Sorted.{IsPermutation-sym, Contains-permutation, length_permutation}
 use Rattle.std.proofs.lemmas.List.Sums.{sum_by-cons}
 use Rattle.gfs2_layout.specs.declared.dinode.Dinode.{Dinode}
 use Rattle.gfs2_layout.specs.Inode.{Head}
 use Rattle.gfs2_layout.specs.Records.{Record, is_dots, child_named}
-use Rattle.image_model.specs.Owners.{Owner, Owners, Named, parent_of}
-use Rattle.image_model.specs.Stands.{HasRecord, LeadsDown, IsDirectory, name_count, directory_count}
+use Rattle.image_model.specs.Owners.{Owners, Named, parent_of}
+use Rattle.image_model.specs.Stands.{HasRecord, IsDirectory, name_count, directory_count}
 use Rattle.image_model.proofs.Members.{IsIn, contained, is_in}
 use Rattle.image_changes.specs.Directories.{IsBare}
-use Rattle.image_changes.proofs.Directories.{Lacks, named_itself, named_other, names_cons, names_any_order, lacks_child, one_lacks, directories_any_order}
+use Rattle.image_changes.proofs.Directories.{Lacks, named_other, names_cons, names_any_order, lacks_child, directories_any_order}
 
 -- a name that is neither `.` nor `..`
 pub not_dots : (name : List ℕ) → is_dots name ≡ false → (name ≢ codes ".") × (name ≢ codes "..")
@@ -42,9 +41,12 @@ module _ (heads : ℕ → Head) (a parent : ℕ) (records : List Record) (d : Di
   pub bare_lacks : (name : List ℕ) → is_dots name ≡ false → Lacks records name
   bare_lacks name plain =
       let h = not_dots name plain in
-      omega (arith, counted name,
-      cond-false {A = ℕ} (bytes_eq name bare.dot.name) 1 0 (named_other name bare.dot.name (λ e. h.0 (e ∙ bare.dot_is.0))),
-      cond-false {A = ℕ} (bytes_eq name bare.dots.name) 1 0 (named_other name bare.dots.name (λ e. h.1 (e ∙ bare.dots_is.0))))
+      omega (
+        arith,
+        counted name,
+        cond-false {A = ℕ} (bytes_eq name bare.dot.name) 1 0 (named_other name bare.dot.name (λ e. h.0 (e ∙ bare.dot_is.0))),
+        cond-false {A = ℕ} (bytes_eq name bare.dots.name) 1 0 (named_other name bare.dots.name (λ e. h.1 (e ∙ bare.dots_is.0))),
+      )
 
   apart : (name : List ℕ) → bytes_eq name bare.dot.name ≡ true → bytes_eq name bare.dots.name ≡ true → ⊥
   apart name e f = dots_differ (sym bare.dot_is.0 ∙ sym ((bytes_eq-Decides name bare.dot.name).0 e) ∙ (bytes_eq-Decides name bare.dots.name).0 f ∙ bare.dots_is.0)
@@ -119,5 +121,10 @@ names_nothing heads o a records d is two name plain = lacks_child records name (
     each (x ∷ (y ∷ (z ∷ zs))) dot dots e = absurd (omega (arith, e))
     each (x ∷ (y ∷ [])) dot dots e =
         let are = pair x y dot dots in
-        omega (arith, names_cons x (y ∷ []) name, names_cons y [] name,
-        cond-false {A = ℕ} (bytes_eq name x.name) 1 0 (dots_lack x name plain are.0), cond-false {A = ℕ} (bytes_eq name y.name) 1 0 (dots_lack y name plain are.1))
+        omega (
+          arith,
+          names_cons x (y ∷ []) name,
+          names_cons y [] name,
+          cond-false {A = ℕ} (bytes_eq name x.name) 1 0 (dots_lack x name plain are.0),
+          cond-false {A = ℕ} (bytes_eq name y.name) 1 0 (dots_lack y name plain are.1),
+        )

@@ -1,23 +1,21 @@
 -- Directories whose records go and come.
-use Rattle.std.proofs.Common.{◌≡◌, ◌≢◌, ℕ, zero, suc, ◌+◌, ◌<◌, ◌≤◌, ◌⊎◌, inl, inr, Bool, true, false, List, [], ◌∷◌, ◌++◌, length, Option, None, Some, refl, sym, ap, ◌∙◌, subst, arith, length-append, cond}
-use Rattle.std.specs.Prelude.{codes, Contains, find, not, ◌&&◌, ◌==◌}
+use Rattle.std.proofs.Common.{◌≡◌, ◌≢◌, ℕ, ◌+◌, ◌≤◌, ◌⊎◌, inl, inr, Bool, true, false, List, [], ◌∷◌, ◌++◌, Option, None, Some, refl, sym, ap, ◌∙◌, subst, arith, length-append, cond}
+use Rattle.std.specs.Prelude.{codes, Contains, not, ◌&&◌, ◌==◌}
 use Rattle.std.specs.Option.{option_map}
 use Rattle.std.specs.Str.{bytes_eq}
 use Rattle.std.specs.List.Sorted.{IsPermutation}
-use Rattle.std.proofs.lemmas.Bool.{cases_Bool, cond-true, cond-false, true≢false}
+use Rattle.std.proofs.lemmas.Bool.{cases_Bool, cond-true, cond-false}
 use Rattle.std.proofs.lemmas.Slice.Eq.{bytes_eq-Decides}
 use Rattle.std.proofs.lemmas.List.Sorted.{IsPermutation-sym, Contains-permutation, sum_by-IsPermutation, length_permutation}
 use Rattle.std.proofs.lemmas.List.Sums.{sum_by-cons, sum_by-append}
-use Rattle.gfs2_layout.specs.declared.dinode.Dinode.{Dinode}
 use Rattle.gfs2_layout.specs.Inode.{Head}
 use Rattle.gfs2_layout.specs.Records.{Record, is_dots, record_named, child_named}
 use Rattle.image_model.specs.Owners.{Owners, parent_of}
-use Rattle.image_model.specs.Stands.{kind_of, IsRecordOf, HasRecord, LeadsDown, IsDirectory, name_count, directory_count}
-use Rattle.image_model.proofs.Held.{none_some, some_same}
-use Rattle.image_model.proofs.Members.{IsIn, contained, is_in, in_left, in_right, in_either}
+use Rattle.image_model.specs.Stands.{kind_of, IsRecordOf, HasRecord, LeadsDown, name_count, directory_count}
+use Rattle.image_model.proofs.Members.{IsIn, contained, is_in, in_right, in_either}
 use Rattle.image_model.proofs.Counts.{count_some}
 use Rattle.image_model.proofs.Order.{child_any_order}
-use Rattle.image_changes.specs.Directories.{IsExchanged, IsCounted, IsBare, LooksAtNames, RecordsGoAndCome}
+use Rattle.image_changes.specs.Directories.{IsExchanged, LooksAtNames, RecordsGoAndCome}
 
 -- ---- heads and owners that agree
 
@@ -57,10 +55,24 @@ records_go_and_come heads heads' o o' a old new gone come d d' is exchanged coun
   dots = dots;
   once = once;
   down = λ r at plain. each r plain (in_either r come exchanged.rest (is_in r _ (Contains-permutation new (come ++ exchanged.rest) r exchanged.after at)));
-  entries = omega (arith, is.entries, counted.entries, length_permutation old (gone ++ exchanged.rest) exchanged.before, length_permutation new (come ++ exchanged.rest) exchanged.after,
-      length-append gone exchanged.rest, length-append come exchanged.rest);
-  links = omega (arith, is.links, counted.links, directories_any_order old (gone ++ exchanged.rest) exchanged.before, directories_any_order new (come ++ exchanged.rest) exchanged.after,
-      directories_append gone exchanged.rest, directories_append come exchanged.rest);
+  entries = omega (
+    arith,
+    is.entries,
+    counted.entries,
+    length_permutation old (gone ++ exchanged.rest) exchanged.before,
+    length_permutation new (come ++ exchanged.rest) exchanged.after,
+    length-append gone exchanged.rest,
+    length-append come exchanged.rest,
+  );
+  links = omega (
+    arith,
+    is.links,
+    counted.links,
+    directories_any_order old (gone ++ exchanged.rest) exchanged.before,
+    directories_any_order new (come ++ exchanged.rest) exchanged.after,
+    directories_append gone exchanged.rest,
+    directories_append come exchanged.rest,
+  );
 }
   where
     each : (r : Record) → is_dots r.name ≡ false → IsIn r come ⊎ IsIn r exchanged.rest → LeadsDown heads' o' a r
@@ -162,8 +174,15 @@ once_more old new gone r exchanged once none name = elim (cases_Bool (bytes_eq n
       let e : name ≡ r.name = (bytes_eq-Decides name r.name).0 so in
       omega (arith, names_any_order new (r ∷ exchanged.rest) name exchanged.after, names_cons r exchanged.rest name, cond-true {A = ℕ} (bytes_eq name r.name) 1 0 so, ap (name_count exchanged.rest) e, none)
   | inr non ↦
-      omega (arith, names_any_order new (r ∷ exchanged.rest) name exchanged.after, names_cons r exchanged.rest name, cond-false {A = ℕ} (bytes_eq name r.name) 1 0 non,
-      once name, names_any_order old _ name exchanged.before, names_append gone exchanged.rest name)
+      omega (
+        arith,
+        names_any_order new (r ∷ exchanged.rest) name exchanged.after,
+        names_cons r exchanged.rest name,
+        cond-false {A = ℕ} (bytes_eq name r.name) 1 0 non,
+        once name,
+        names_any_order old _ name exchanged.before,
+        names_append gone exchanged.rest name,
+      )
 ]
 
 -- where none comes

@@ -1,13 +1,13 @@
 -- A file's content changes, whatever blocks it takes or gives back: the image stands for the tree with the new bytes.
-use Rattle.std.proofs.Common.{◌≡◌, ◌≢◌, ℕ, ◌≤◌, ◌⊎◌, inl, inr, Bool, true, false, List, [], ◌∷◌, Option, None, Some, refl, sym, ap, ◌∙◌, subst}
+use Rattle.std.proofs.Common.{◌≡◌, ◌≢◌, ℕ, ◌≤◌, ◌⊎◌, inl, inr, true, false, [], ◌∷◌, Some, refl, sym, ap, ◌∙◌, subst}
 use Rattle.std.proofs.lemmas.Bool.{cases_eq, true≢false}
 use Rattle.file_tree.specs.Tree.{Tree, file}
 use Rattle.file_tree.specs.Apply.{file_limit, put_at}
 use Rattle.gfs2_layout.specs.Inode.{Head, dinode_in, is_directory_in, content_of}
-use Rattle.image_model.specs.Flat.{Path, Node, follow, ReadsAs}
+use Rattle.image_model.specs.Flat.{Path, follow, ReadsAs}
 use Rattle.image_model.specs.Image.{Image}
 use Rattle.image_model.specs.Owners.{Owners, Root, Up, up_of, is_dinode, holding}
-use Rattle.image_model.specs.Stands.{Layout, flat_of, heads_of, IsFound}
+use Rattle.image_model.specs.Stands.{Layout, flat_of, IsFound}
 use Rattle.image_model.proofs.Held.{none_some}
 use Rattle.image_model.proofs.Members.{IsIn}
 use Rattle.image_changes.specs.Changes.{KeepsNames}
@@ -15,7 +15,7 @@ use Rattle.image_changes.specs.Instances.{StandsBy, IsAt, among, IsFileChanged, 
 use Rattle.image_changes.proofs.FlatPaths.{file_rewritten}
 use Rattle.image_changes.proofs.Frame.{row_kept, same_dinode}
 use Rattle.image_changes.proofs.Laid.{root_named, follow_dinode, laid_after, up_row, row_dinode}
-use Rattle.image_changes.proofs.Nodes.{among_in, in_among, not_among, file_thing, file_child, no_system, master_stays, untouched_flat, rows_kept}
+use Rattle.image_changes.proofs.Nodes.{among_in, in_among, not_among, file_thing, file_child, no_system, untouched_flat, rows_kept}
 
 module _ (im im' : Image) (o o' : Owners) (l : Layout) (a : ℕ) (path : Path) (t : Tree) (stands : StandsBy im o l t) (at : IsAt im o l path a) (is : IsFileChanged im im' o o' l a) where
   only : (y : ℕ) → IsIn y (a ∷ []) → y ≡ a

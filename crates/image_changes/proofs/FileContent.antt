@@ -1,6 +1,6 @@
 -- The rules of a regular file don't look at what its blocks of content have.
-use Rattle.std.proofs.Common.{◌≡◌, ◌≢◌, ℕ, zero, suc, ◌+◌, ◌*◌, ◌/◌, ◌%◌, ◌<◌, ◌≤◌, ◌⊎◌, inl, inr, Bool, true, false, List, length, Option, None, Some, refl, sym, ap, ◌∙◌, subst, arith}
-use Rattle.std.specs.Prelude.{◌-◌, ◌==◌, ◌&&◌, if◌then◌else◌, is_some, count_by}
+use Rattle.std.proofs.Common.{◌≡◌, ◌≢◌, ℕ, zero, suc, ◌+◌, ◌*◌, ◌/◌, ◌%◌, ◌<◌, ◌≤◌, ◌⊎◌, inl, inr, true, false, Option, None, Some, refl, sym, ap, ◌∙◌, subst, arith}
+use Rattle.std.specs.Prelude.{◌-◌, ◌&&◌, if◌then◌else◌, is_some, count_by}
 use Rattle.std.specs.List.{range_with_len}
 use Rattle.std.proofs.lemmas.Bool.{cases_eq, cond-true, cond-false, eq-eqb, ne_eqb, true≢false}
 use Rattle.std.proofs.lemmas.Nat.{div_below}
@@ -9,8 +9,8 @@ use Rattle.gfs2_layout.specs.Bytes.{u64_at}
 use Rattle.gfs2_layout.specs.Headers.{HasHeader}
 use Rattle.gfs2_layout.specs.Structures.{dinode_of, dinode_length, is_directory, is_regular}
 use Rattle.gfs2_layout.specs.declared.dinode.Dinode.{Dinode}
-use Rattle.gfs2_layout.specs.Holding.{Part, Itself, Pointed, InChain, Cell, Holding, cell_part, part_at, bytes_at}
-use Rattle.gfs2_layout.specs.Inode.{dinode_in, height_in, has_hash_flag, is_directory_in, is_hashed_in, header_length, fan, span, pointer, descend, content_block, unit, pieces, content_count, IsChild, IsPointed, by_dinode, by_block, HasTree, Fits, IsLinear, IsHashed, block_count, EachPointer, IsInode}
+use Rattle.gfs2_layout.specs.Holding.{Part, Pointed, Cell, Holding, cell_part, part_at, bytes_at}
+use Rattle.gfs2_layout.specs.Inode.{dinode_in, height_in, has_hash_flag, is_directory_in, is_hashed_in, header_length, fan, span, pointer, descend, content_block, pieces, content_count, IsChild, IsPointed, by_dinode, by_block, HasTree, block_count, IsInode}
 use Rattle.image_model.proofs.Held.{some_same}
 use Rattle.image_changes.specs.Contents.{SameButContent, ContentDoesNotMatter}
 use Rattle.image_changes.proofs.Laid.{plain_file}
@@ -104,7 +104,7 @@ module _ (h h' : Holding) (regular : is_regular (dinode_in h) ≡ true) (own : (
       let to : pointer h' header_length c (i / span h'.size level) ≡ pointer h header_length c (i / span h.size level) = ap (pointer h' header_length c) at ∙ block_pointer c g.0 g.1 level g.2 g.3 (i / span h.size level) in
       let child = is.tree.inner c g.0 g.1 level g.2 g.3 (i / span h.size level) (div_below i (span h.size level) (fan h.size header_length) pos low) in
       let next = descend_after level (pointer h header_length c (i / span h.size level)) (i % span h.size level) (omega (arith, pos))
-          (reached (pointer h header_length c (i / span h.size level)) (λ some. (c, i / span h.size level, g.2 + (i / span h.size level) * span h.size level, (child some).part))) in
+      (reached (pointer h header_length c (i / span h.size level)) (λ some. (c, i / span h.size level, g.2 + (i / span h.size level) * span h.size level, (child some).part))) in
       elim (cases_eq c 0) [
         | inl e ↦ cond-true _ 0 _ (eq-eqb c 0 e) ∙ sym (cond-true _ 0 _ (eq-eqb c 0 e))
         | inr d ↦ cond-false _ 0 _ (ne_eqb c 0 d) ∙ (λ j. descend h' level (to j) (rest j)) ∙ next ∙ sym (cond-false _ 0 _ (ne_eqb c 0 d))
@@ -125,7 +125,7 @@ module _ (h h' : Holding) (regular : is_regular (dinode_in h) ≡ true) (own : (
       let to : pointer h' dinode_length h'.own (i / span h'.size level) ≡ pointer h dinode_length h.own (i / span h.size level) = ap (pointer h' dinode_length h'.own) at ∙ own_pointer (i / span h.size level) in
       let child = is.tree.top level high (i / span h.size level) (div_below i (span h.size level) (fan h.size dinode_length) pos low) in
       let next = descend_after level (pointer h dinode_length h.own (i / span h.size level)) (i % span h.size level) (omega (arith, pos))
-          (reached (pointer h dinode_length h.own (i / span h.size level)) (λ some. (h.own, i / span h.size level, (i / span h.size level) * span h.size level, (child some).part))) in
+      (reached (pointer h dinode_length h.own (i / span h.size level)) (λ some. (h.own, i / span h.size level, (i / span h.size level) * span h.size level, (child some).part))) in
       rw (less, less') ((λ j. descend h' level (to j) (rest j)) ∙ next)
     where
       reached : (x : ℕ) → (x ≢ 0 → (b k first : ℕ) × (part_at h x ≡ Some (Pointed b k level first))) → (x ≡ 0) ⊎ ((b k first : ℕ) × (part_at h x ≡ Some (Pointed b k level first)))

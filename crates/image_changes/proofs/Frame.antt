@@ -1,9 +1,8 @@
 -- What a change leaves alone: an inode that it doesn't touch has the blocks that it had, and so says what it said.
-use Rattle.std.proofs.Common.{◌≡◌, ◌≢◌, ℕ, ◌⊎◌, inl, inr, Bool, true, false, List, Option, None, Some, refl, sym, ap, ◌∙◌, subst}
+use Rattle.std.proofs.Common.{◌≡◌, ℕ, ◌⊎◌, inl, inr, Bool, true, false, Option, None, refl, sym, ap, ◌∙◌, subst}
 use Rattle.std.specs.Prelude.{if◌then◌else◌, ◌==◌}
-use Rattle.std.proofs.lemmas.Bool.{cases_Bool, cases_eq, cond-true, cond-false, ne_eqb, true≢false}
-use Rattle.gfs2_layout.specs.Holding.{Part, Itself, Pointed, InChain, Cell, Holding}
-use Rattle.gfs2_layout.specs.Inode.{Head, head_of}
+use Rattle.std.proofs.lemmas.Bool.{cases_Bool, cond-false, ne_eqb, true≢false}
+use Rattle.gfs2_layout.specs.Inode.{head_of}
 use Rattle.image_model.specs.Flat.{no_node}
 use Rattle.image_model.specs.Image.{Image}
 use Rattle.image_model.specs.Nodes.{node_of}

@@ -1,29 +1,29 @@
 -- The general law: an image that stands, with a change of few blocks that keeps its names, is laid out right.
-use Rattle.std.proofs.Common.{◌≡◌, ◌≢◌, ℕ, ◌+◌, ◌<◌, ◌≤◌, ◌⊎◌, inl, inr, Bool, true, false, List, [], ◌∷◌, length, Option, None, Some, refl, sym, ap, ◌∙◌, subst, arith}
-use Rattle.std.specs.Prelude.{codes, Contains, option_and_then}
-use Rattle.std.proofs.lemmas.Bool.{cases_Bool, cases_lt, cond-true, cond-false, eqb-true, true≢false}
-use Rattle.file_tree.specs.Names.{IsName}
+use Rattle.std.proofs.Common.{◌≡◌, ℕ, ◌<◌, ◌≤◌, ◌⊎◌, inl, inr, Bool, true, false, List, [], ◌∷◌, length, None, Some, refl, sym, ap, ◌∙◌, subst, arith}
+use Rattle.std.specs.Prelude.{codes}
+use Rattle.std.proofs.lemmas.Bool.{cases_Bool, cases_lt, cond-true, cond-false, eqb-true}
 use Rattle.file_tree.specs.Apply.{file_limit}
 use Rattle.gfs2_layout.specs.Device.{IsBlockSize, superblock_place}
 use Rattle.gfs2_layout.specs.Headers.{HasHeader}
-use Rattle.gfs2_layout.specs.Structures.{superblock_of, is_regular, is_directory}
+use Rattle.gfs2_layout.specs.Structures.{superblock_of, is_regular}
 use Rattle.gfs2_layout.specs.declared.dinode.Dinode.{Dinode}
 use Rattle.gfs2_layout.specs.declared.rindex.Rindex.{Rindex}
 use Rattle.gfs2_layout.specs.Holding.{Holding}
 use Rattle.gfs2_layout.specs.Inode.{Head, IsInode, dinode_in, is_directory_in, records_of}
 use Rattle.gfs2_layout.specs.Records.{Record, is_dots}
-use Rattle.image_model.specs.Flat.{Path, Thing, Node, Flat, no_node, follow}
-use Rattle.image_model.specs.Nodes.{node_of, child_of}
-use Rattle.image_model.specs.Groups.{GroupsFit, IsListed, IsDataOf, IsHeaderOf}
-use Rattle.image_model.specs.Image.{Image, IsImage, superblock_in}
+use Rattle.image_model.specs.Flat.{Path, Node, no_node, follow}
+use Rattle.image_model.specs.Nodes.{node_of}
+use Rattle.image_model.specs.Groups.{GroupsFit, IsListed, IsDataOf}
+use Rattle.image_model.specs.Image.{Image, IsImage}
 use Rattle.image_model.specs.Journals.{journal_name, IsJournal}
-use Rattle.image_model.specs.Owners.{Owner, Owners, Super, InGroup, Free, Nobody, Root, Master, Named, Below, Chained, Up, up_of, parent_of, is_dinode, IsUsed, IsWithin, holding}
-use Rattle.image_model.specs.Stands.{Layout, IsJournalAt, IsSuper, IsZoned, flat_of, heads_of, kind_of, IsRecordOf, HasRecord, LeadsDown, IsDirectory, IsSystem, IsFound, AreShort, IsLaid}
+use Rattle.image_model.specs.Owners.{Owner, Owners, Super, InGroup, Free, Nobody, Root, Master, Named, Below, Chained, Up, up_of, parent_of, is_dinode, IsUsed, holding}
+use Rattle.image_model.specs.Stands.{Layout, IsSuper, IsZoned, flat_of, heads_of, kind_of, IsRecordOf, HasRecord, LeadsDown, IsDirectory, IsSystem, IsFound, AreShort, IsLaid}
 use Rattle.image_model.proofs.Held.{none_some, some_same}
-use Rattle.image_model.proofs.Reach.{Leading, named_child}
+use Rattle.image_model.proofs.Reach.{named_child}
 use Rattle.image_model.proofs.Table.{lies, in_header, in_data, in_none}
 use Rattle.image_changes.specs.Changes.{IsOf, Becomes, kept, of_group, changed, IsChange, KeepsNames}
 use Rattle.image_changes.specs.Flats.{IsNamed}
+use Rattle.image_changes.specs.Laws.{StaysLaid}
 use Rattle.image_changes.proofs.FlatPaths.{one_top, follow_kept, after_some}
 use Rattle.image_changes.proofs.Frame.{row_kept, same_dinode, same_holding, flat_same, head_same, within_after}
 
@@ -393,3 +393,6 @@ module _ (im im' : Image) (o o' : Owners) (l : Layout) (touched : ℕ → Bool) 
     system = system_after;
     short = short_after;
   }
+
+pub stays_laid : StaysLaid
+stays_laid = laid_after

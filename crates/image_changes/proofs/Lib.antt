@@ -12,4 +12,5 @@ pub mod NameRemoved
 pub mod NameMoved
 pub mod Layouts
 pub mod FileContent
-pub mod Contents
+pub mod Unminded
+pub mod States

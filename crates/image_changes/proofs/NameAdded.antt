@@ -1,32 +1,31 @@
 -- A directory gets a name, and a new inode: the image stands for the tree with it.
-use Rattle.std.proofs.Common.{◌≡◌, ◌≢◌, ℕ, ◌+◌, ◌≤◌, ◌⊎◌, inl, inr, Bool, true, false, List, [], ◌∷◌, ◌++◌, take, Option, None, Some, refl, sym, ap, ◌∙◌, subst, append_assoc, arith}
-use Rattle.std.specs.Prelude.{codes, Contains, option_and_then, ◌==◌, if◌then◌else◌}
+use Rattle.std.proofs.Common.{◌≡◌, ◌≢◌, ℕ, ◌≤◌, ◌⊎◌, inl, inr, true, false, List, [], ◌∷◌, ◌++◌, None, Some, refl, sym, ap, ◌∙◌, subst, append_assoc, arith}
+use Rattle.std.specs.Prelude.{codes, option_and_then, ◌==◌, if◌then◌else◌}
 use Rattle.std.proofs.lemmas.Bool.{cases_Bool, cases_eq, cond-true, cond-false, eq-eqb, ne_eqb, true≢false}
 use Rattle.file_tree.specs.Tree.{Tree, file, dir, none}
 use Rattle.file_tree.specs.Names.{IsName}
 use Rattle.file_tree.specs.Apply.{file_limit, put_at}
 use Rattle.gfs2_layout.specs.Holding.{Holding}
-use Rattle.gfs2_layout.specs.Inode.{Head, dinode_in, is_directory_in, content_of, records_of}
+use Rattle.gfs2_layout.specs.Inode.{Head, dinode_in, content_of}
 use Rattle.gfs2_layout.specs.Records.{Record, is_dots, child_named}
-use Rattle.image_model.specs.Flat.{Path, AFile, ADir, thing_in, Node, Flat, no_node, follow, ReadsAs}
+use Rattle.image_model.specs.Flat.{Path, AFile, thing_in, Node, Flat, follow, ReadsAs}
 use Rattle.image_model.specs.Image.{Image}
-use Rattle.image_model.specs.Owners.{Owner, Owners, Root, Named, Up, up_of, parent_of, is_dinode, holding}
+use Rattle.image_model.specs.Owners.{Owners, Named, Up, up_of, parent_of, is_dinode, holding}
 use Rattle.image_model.specs.Stands.{Layout, flat_of, heads_of, IsRecordOf, HasRecord, LeadsDown, IsDirectory, IsFound, name_count}
 use Rattle.image_model.proofs.Held.{none_some, some_same}
 use Rattle.image_model.proofs.Members.{IsIn, contained, is_in}
 use Rattle.std.proofs.lemmas.List.Sorted.{IsPermutation-sym, Contains-permutation}
 use Rattle.image_changes.specs.Changes.{KeepsNames}
-use Rattle.image_changes.specs.Directories.{IsExchanged, IsBare}
-use Rattle.image_changes.specs.Flats.{IsNamed, IsBeside, SameBut, LeadsElsewhere, in_directory}
+use Rattle.image_changes.specs.Flats.{IsNamed, IsBeside, LeadsElsewhere, in_directory}
 use Rattle.image_changes.specs.Instances.{StandsBy, IsAt, among, dinode_at, records_at, is_directory_at, IsNew, empty_file, empty_directory, IsNameAdded, NameIsAdded}
 use Rattle.image_changes.proofs.TreePaths.{under, out, split}
 use Rattle.image_changes.proofs.FlatPaths.{follow-append, unreached, name_leads}
 use Rattle.image_changes.proofs.Bare.{bare_lacks, bare_directory}
 use Rattle.image_changes.proofs.Directories.{Lacks, same_has, has_stays, records_go_and_come, child_lacks, lacks_child, child_stays, child_comes, once_more, one_lacks, names_any_order}
 use Rattle.image_changes.proofs.Frame.{row_kept, same_dinode, head_same}
-use Rattle.image_changes.proofs.Laid.{root_named, child_rows, follow_dinode, laid_after, up_row, row_up, row_dinode}
+use Rattle.image_changes.proofs.Laid.{root_named, follow_dinode, laid_after, up_row, row_up, row_dinode}
 use Rattle.image_changes.proofs.Standing.{parent_dinode}
-use Rattle.image_changes.proofs.Nodes.{among_in, in_among, not_among, node_none, file_thing, file_child, dir_thing, dir_child, dots_child, plain_name, bare_reads, no_system, master_stays, untouched_flat, rows_kept}
+use Rattle.image_changes.proofs.Nodes.{among_in, not_among, node_none, file_thing, file_child, dir_thing, dir_child, dots_child, plain_name, bare_reads, no_system, master_stays, untouched_flat, rows_kept}
 
 no_content : (h : Holding) → (dinode_in h).size ≡ 0 → content_of h ≡ []
 unfolding content_of

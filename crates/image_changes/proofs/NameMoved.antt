@@ -1,5 +1,5 @@
 -- A name is moved, and what stood at the target is no more: the image stands for the tree with what was below the old name at the new one.
-use Rattle.std.proofs.Common.{◌≡◌, ◌≢◌, ℕ, ◌+◌, ◌≤◌, ◌⊎◌, inl, inr, Bool, true, false, List, [], ◌∷◌, ◌++◌, length, Option, None, Some, refl, sym, ap, ◌∙◌, subst, append_assoc, append-nil, length-append, arith}
+use Rattle.std.proofs.Common.{◌≡◌, ◌≢◌, ℕ, ◌≤◌, ◌⊎◌, inl, inr, true, false, List, [], ◌∷◌, ◌++◌, length, None, Some, refl, sym, ap, ◌∙◌, subst, append_assoc, length-append, arith}
 use Rattle.std.specs.Prelude.{codes, Contains, option_and_then}
 use Rattle.std.specs.Str.{bytes_eq}
 use Rattle.std.proofs.lemmas.Bool.{cases_Bool, cases_eq, cond-true, true≢false}
@@ -11,12 +11,11 @@ use Rattle.file_tree.specs.Apply.{file_limit, put_at, remove_at}
 use Rattle.gfs2_layout.specs.Inode.{Head, dinode_in, records_of}
 use Rattle.gfs2_layout.specs.Structures.{is_regular}
 use Rattle.gfs2_layout.specs.Records.{Record, is_dots, child_named}
-use Rattle.gfs2_layout.specs.declared.dinode.Dinode.{Dinode}
-use Rattle.image_model.specs.Flat.{Path, Thing, ADir, Node, Flat, thing_in, child_in, tree_at, thing_at, thing_from, follow, ReadsAs}
+use Rattle.image_model.specs.Flat.{Path, Node, Flat, thing_in, child_in, tree_at, thing_at, thing_from, follow, ReadsAs}
 use Rattle.image_model.specs.Nodes.{node_of}
 use Rattle.image_model.specs.Image.{Image}
-use Rattle.image_model.specs.Owners.{Owner, Owners, Root, Named, Up, up_of, parent_of, is_dinode, holding}
-use Rattle.image_model.specs.Stands.{Layout, flat_of, heads_of, IsRecordOf, HasRecord, LeadsDown, IsDirectory, IsFound, IsLaid, name_count}
+use Rattle.image_model.specs.Owners.{Owners, Named, Up, up_of, parent_of, is_dinode}
+use Rattle.image_model.specs.Stands.{Layout, flat_of, heads_of, IsRecordOf, HasRecord, LeadsDown, IsDirectory, IsFound, name_count}
 use Rattle.image_model.proofs.Counts.{count_some}
 use Rattle.image_model.proofs.Held.{none_some, some_same}
 use Rattle.image_model.proofs.Members.{IsIn, contained, is_in, in_right}
@@ -28,11 +27,11 @@ use Rattle.image_changes.specs.Instances.{StandsBy, IsAt, among, dinode_at, reco
 use Rattle.image_changes.proofs.TreePaths.{under, out, split, beside_above, not_beside_self, not_beside_under, child_is_tree}
 use Rattle.image_changes.proofs.FlatPaths.{after_some, after_same, one_path, follow-append, follow_kept, unreached, name_gone, name_leads}
 use Rattle.image_changes.proofs.Bare.{not_dots}
-use Rattle.image_changes.proofs.Directories.{Lacks, named_itself, same_has, has_stays, looks_at_names, records_go_and_come, child_lacks, lacks_child, child_stays, child_goes, child_comes, once_more, once_less, one_lacks, names_any_order, names_append, names_cons}
+use Rattle.image_changes.proofs.Directories.{Lacks, named_itself, same_has, has_stays, looks_at_names, records_go_and_come, child_lacks, child_stays, child_goes, child_comes, once_more, once_less, one_lacks, names_any_order, names_append, names_cons}
 use Rattle.image_changes.proofs.Frame.{row_kept, same_dinode, head_same}
-use Rattle.image_changes.proofs.Laid.{plain_file, root_named, child_rows, follow_dinode, laid_after, up_row, row_up, row_dinode}
+use Rattle.image_changes.proofs.Laid.{root_named, child_rows, follow_dinode, laid_after, up_row, row_up, row_dinode}
 use Rattle.image_changes.proofs.Standing.{has_child_directory, childless, parent_dinode, parent_has, not_own_child, rest_differs}
-use Rattle.image_changes.proofs.Nodes.{among_in, in_among, not_among, node_there, node_none, file_child, dir_thing, dir_child, dots_child, plain_name, leading, leading_there, leading_other, leads_elsewhere, leads_there, no_system, master_stays, untouched_flat, rows_kept}
+use Rattle.image_changes.proofs.Nodes.{among_in, in_among, not_among, node_there, dir_thing, dir_child, dots_child, plain_name, leading, leading_other, leads_elsewhere, leads_there, no_system, master_stays, untouched_flat, rows_kept}
 
 -- ---- trees and paths
 
@@ -99,8 +98,13 @@ module _ (im : Image) (o o' : Owners) (q : ℕ) (name : List ℕ) where
   target_rest : (cs : List ℕ) (rs : List Record) → IsTarget im o o' q name cs rs → (new gone come : List Record) (exchanged : IsExchanged (records_at im o q) new gone come)
       → ((m : List ℕ) → name_count (records_at im o q) m ≤ 1) → ((r : Record) → IsIn r rs → IsIn r gone) → Lacks exchanged.rest name
   target_rest _ _ (absent none) new gone come exchanged once there = omega (arith, names_any_order (records_at im o q) _ name exchanged.before, names_append gone exchanged.rest name, child_lacks (records_at im o q) name none)
-  target_rest _ _ (replaced c r row gone bare named) new went come exchanged once there = omega (arith, names_any_order (records_at im o q) _ name exchanged.before, names_append went exchanged.rest name, once name,
-      count_some (λ s. bytes_eq name s.name) r went (there r (inl refl)) (subst (λ m. bytes_eq name m ≡ true) (sym named) (named_itself name)))
+  target_rest _ _ (replaced c r row gone bare named) new went come exchanged once there = omega (
+    arith,
+    names_any_order (records_at im o q) _ name exchanged.before,
+    names_append went exchanged.rest name,
+    once name,
+    count_some (λ s. bytes_eq name s.name) r went (there r (inl refl)) (subst (λ m. bytes_eq name m ≡ true) (sym named) (named_itself name)),
+  )
 
 module _ (im im' : Image) (o o' : Owners) (l : Layout) (p : ℕ) (name : List ℕ) (q : ℕ) (name' : List ℕ) (a : ℕ) (path path' : Path) (t u : Tree)
     (stands : StandsBy im o l t) (at : IsAt im o l path p) (at' : IsAt im o l path' q) (sub : tree_at t (in_directory path name) ≡ Some u)
@@ -342,8 +346,10 @@ module _ (im im' : Image) (o o' : Owners) (l : Layout) (p : ℕ) (name : List �
       whole = directory_after p dinode_p directory_p is.from_row p_not_gone (is.old ∷ is.target) (is.new ∷ []) exchanged counted
           (both_lack (codes ".") (old_plain (codes ".") refl) (target_plain (codes ".") refl)) (both_lack (codes "..") (old_plain (codes "..") refl) (target_plain (codes "..") refl)) once'
           (λ r h. subst (λ x. LeadsDown (heads_of im' o') o' x r) (sym e) (new_down r h))
-          (λ r h. ((λ _. λ same. rest_differs (records_at im o p) (records_at im' o' p) (is.old ∷ is.target) (is.new ∷ []) exchanged once r is.old (inl refl) h (same ∙ sym is.old_named)),
-          (λ _. λ same. absurd (omega (arith, subst (Lacks exchanged.rest) (sym same) rest, count_some (λ s. bytes_eq r.name s.name) r exchanged.rest h (named_itself r.name))))))
+          (λ r h. (
+            (λ _. λ same. rest_differs (records_at im o p) (records_at im' o' p) (is.old ∷ is.target) (is.new ∷ []) exchanged once r is.old (inl refl) h (same ∙ sym is.old_named)),
+            (λ _. λ same. absurd (omega (arith, subst (Lacks exchanged.rest) (sym same) rest, count_some (λ s. bytes_eq r.name s.name) r exchanged.rest h (named_itself r.name)))),
+          ))
 
       leads : child_named (records_at im' o' p) name' ≡ Some a
       leads = subst (λ m. child_named (records_at im' o' p) m ≡ Some is.new.address) is.new_named (child_comes (records_at im o p) (records_at im' o' p) (is.old ∷ is.target) is.new exchanged once') ∙ ap Some is.true_of.address
@@ -439,8 +445,13 @@ module _ (im im' : Image) (o o' : Owners) (l : Layout) (p : ℕ) (name : List �
           dots_apart e = absurd (omega (arith, ap length e))
 
           lacks : Lacks exchanged.rest new.name
-          lacks = omega (arith, names_any_order (records_at im o a) (old ∷ exchanged.rest) new.name exchanged.before, names_cons old exchanged.rest new.name, (before a dinode_a so).once new.name,
-              cond-true {A = ℕ} (bytes_eq new.name old.name) 1 0 (subst (λ m. bytes_eq new.name m ≡ true) (new_named ∙ sym old_named) (named_itself new.name)))
+          lacks = omega (
+            arith,
+            names_any_order (records_at im o a) (old ∷ exchanged.rest) new.name exchanged.before,
+            names_cons old exchanged.rest new.name,
+            (before a dinode_a so).once new.name,
+            cond-true {A = ℕ} (bytes_eq new.name old.name) 1 0 (subst (λ m. bytes_eq new.name m ≡ true) (new_named ∙ sym old_named) (named_itself new.name)),
+          )
 
           come : (r : Record) → is_dots r.name ≡ false → IsIn r (new ∷ []) → ⊥
           come r plain (inl e) = true≢false (sym (ap is_dots (ap (λ (s : Record). s.name) e ∙ new_named)) ∙ plain)
@@ -601,7 +612,7 @@ module _ (im im' : Image) (o o' : Owners) (l : Layout) (p : ℕ) (name : List �
             | inr d' ↦ named_q m d (inr d') ∙ sym (less q m (inr d')) ∙ sym (more q m (inr d))
             | inl same ↦
                 let none : (flat_of im' o' q).child m ≡ None = subst (λ k. (flat_of im' o' q).child k ≡ None) (sym same) (subst (λ z. (flat_of im' o' z).child name ≡ None) e
-                    (dir_child im' o' p (stays p dinode_p p_not_gone) directory_p' name plain ∙ after.gone (inr (same_name e)))) in
+                (dir_child im' o' p (stays p dinode_p p_not_gone) directory_p' name plain ∙ after.gone (inr (same_name e)))) in
                 let none' : (unnamed q).child m ≡ None = subst (λ k. (unnamed q).child k ≡ None) (sym same) (subst (λ z. (unnamed z).child name ≡ None) e (leads_there (flat_of im o) p name None)) in
                 none ∙ sym none' ∙ sym (more q m (inr d))
           ]
@@ -734,7 +745,7 @@ module _ (im im' : Image) (o o' : Owners) (l : Layout) (p : ℕ) (name : List �
           through s e =
               let step = after_some (λ b. follow (flat_of im o) b s) ((flat_of im o q).child name') x e in
               let here : IsIn step.0 is.removed = target_is im o o' q name' is.removed is.target is.stood step.0 (sym (dir_child im o q dinode_q is.directory name' plain') ∙ step.1)
-                  (λ c row. some_same (sym (stands.laid.names c (record { parent = q; name = name' }) (row_up (o c) q name' row)) ∙ step.1)) in
+              (λ c row. some_same (sym (stands.laid.names c (record { parent = q; name = name' }) (row_up (o c) q name' row)) ∙ step.1)) in
               at_end step.0 here s step.2
             where
               at_end : (c : ℕ) → IsIn c is.removed → (s : Path) → follow (flat_of im o) c s ≡ Some x → ⊥

@@ -1,33 +1,30 @@
 -- A directory loses a name, and the inode that it named is no more: the image stands for the tree without it.
-use Rattle.std.proofs.Common.{◌≡◌, ◌≢◌, ℕ, ◌+◌, ◌≤◌, ◌⊎◌, inl, inr, Bool, true, false, List, [], ◌∷◌, ◌++◌, length, Option, None, Some, refl, sym, ap, ◌∙◌, subst, append_assoc, append-nil, length-append, arith}
-use Rattle.std.specs.Prelude.{codes, Contains, option_and_then}
-use Rattle.std.specs.Str.{bytes_eq}
-use Rattle.std.proofs.lemmas.Bool.{cases_Bool, cases_eq, cond-true, cond-false, true≢false}
+use Rattle.std.proofs.Common.{◌≡◌, ◌≢◌, ℕ, ◌≤◌, ◌⊎◌, inl, inr, true, false, List, [], ◌∷◌, ◌++◌, None, Some, refl, sym, ap, ◌∙◌, subst, append_assoc}
+use Rattle.std.specs.Prelude.{codes, option_and_then}
+use Rattle.std.proofs.lemmas.Bool.{cases_Bool, cases_eq, true≢false}
 use Rattle.std.proofs.lemmas.List.Sorted.{IsPermutation-sym, Contains-permutation}
 use Rattle.file_tree.specs.Tree.{Tree}
-use Rattle.file_tree.specs.Apply.{file_limit, remove_at}
+use Rattle.file_tree.specs.Apply.{remove_at}
 use Rattle.gfs2_layout.specs.Inode.{Head}
 use Rattle.gfs2_layout.specs.Records.{Record, is_dots, child_named}
-use Rattle.image_model.specs.Flat.{Path, Node, Flat, follow, ReadsAs}
+use Rattle.image_model.specs.Flat.{Path, Flat, follow, ReadsAs}
 use Rattle.image_model.specs.Image.{Image}
-use Rattle.image_model.specs.Owners.{Owner, Owners, Named, Up, up_of, parent_of, is_dinode}
-use Rattle.image_model.specs.Stands.{Layout, flat_of, heads_of, HasRecord, LeadsDown, IsDirectory, IsFound, IsLaid, name_count}
-use Rattle.image_model.proofs.Counts.{count_some}
+use Rattle.image_model.specs.Owners.{Owners, Named, Up, up_of, parent_of, is_dinode}
+use Rattle.image_model.specs.Stands.{Layout, flat_of, heads_of, HasRecord, IsDirectory, IsFound, name_count}
 use Rattle.image_model.proofs.Held.{none_some, some_same}
 use Rattle.image_model.proofs.Members.{IsIn, contained, is_in}
 use Rattle.image_model.proofs.Trees.{same_or_not}
 use Rattle.image_changes.specs.Changes.{KeepsNames}
-use Rattle.image_changes.specs.Directories.{IsExchanged}
-use Rattle.image_changes.specs.Flats.{IsBeside, SameBut, IsNamed, in_directory}
-use Rattle.image_changes.specs.Instances.{StandsBy, IsAt, among, dinode_at, records_at, is_directory_at, IsChildless, IsNameRemoved, NameIsRemoved}
+use Rattle.image_changes.specs.Flats.{IsBeside, SameBut, in_directory}
+use Rattle.image_changes.specs.Instances.{StandsBy, IsAt, among, dinode_at, records_at, is_directory_at, IsNameRemoved, NameIsRemoved}
 use Rattle.image_changes.proofs.TreePaths.{under, out, split, beside_above, not_beside_self}
 use Rattle.image_changes.proofs.FlatPaths.{one_path, follow-append, unreached, name_gone}
 use Rattle.image_changes.proofs.Bare.{not_dots}
-use Rattle.image_changes.proofs.Directories.{named_itself, same_has, has_stays, records_go_and_come, child_stays, child_goes, once_less, one_lacks, names_any_order, names_append}
+use Rattle.image_changes.proofs.Directories.{same_has, has_stays, records_go_and_come, child_stays, child_goes, once_less, one_lacks}
 use Rattle.image_changes.proofs.Frame.{row_kept, same_dinode, head_same}
 use Rattle.image_changes.proofs.Laid.{root_named, child_rows, follow_dinode, laid_after, up_row, row_up, row_dinode}
 use Rattle.image_changes.proofs.Standing.{has_child_directory, childless, parent_dinode, parent_has, not_own_child, rest_differs}
-use Rattle.image_changes.proofs.Nodes.{among_in, not_among, file_child, dir_thing, dir_child, dots_child, leading, leading_there, leading_other, leads_elsewhere, leads_there, no_system, master_stays, untouched_flat, rows_kept}
+use Rattle.image_changes.proofs.Nodes.{among_in, not_among, dir_thing, dir_child, dots_child, leading, leading_other, leads_elsewhere, leads_there, no_system, master_stays, untouched_flat, rows_kept}
 
 module _ (im im' : Image) (o o' : Owners) (l : Layout) (p : ℕ) (name : List ℕ) (a : ℕ) (path : Path) (t : Tree)
     (stands : StandsBy im o l t) (at : IsAt im o l path p) (is : IsNameRemoved im im' o o' l p name a) where
@@ -128,7 +125,7 @@ module _ (im im' : Image) (o o' : Owners) (l : Layout) (p : ℕ) (name : List �
       agree r plain at =
           let owner = (before.down r (Contains-permutation _ (records_at im o p) r (IsPermutation-sym _ _ is.exchanged.before) (contained r (is.entry ∷ is.exchanged.rest) (inr at))) plain).owner in
           let other : r.address ≢ a = λ e. rest_differs (records_at im o p) (records_at im' o' p) (is.entry ∷ []) [] is.exchanged before.once r is.entry (inl refl) at
-              (same_name r (sym owner ∙ ap o e ∙ is.row) ∙ sym is.named) in
+          (same_name r (sym owner ∙ ap o e ∙ is.row) ∙ sym is.named) in
           let so = row_dinode (o r.address) p r.name owner in
           (row_stays r.address so other, head_stays r.address so other)
 

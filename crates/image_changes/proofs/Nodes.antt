@@ -1,29 +1,26 @@
 -- What the inodes of an image say as nodes, and what is common to the changes that touch a few of them.
-use Rattle.std.proofs.Common.{◌≡◌, ◌≢◌, ℕ, ◌⊎◌, inl, inr, Bool, true, false, ◌||◌, List, [], ◌∷◌, ◌++◌, length, Option, None, Some, refl, sym, ap, ◌∙◌, subst}
-use Rattle.std.specs.Prelude.{codes, Contains, ◌==◌, if◌then◌else◌}
+use Rattle.std.proofs.Common.{◌≡◌, ◌≢◌, ℕ, ◌⊎◌, inl, inr, Bool, true, false, ◌||◌, List, [], ◌∷◌, Option, None, Some, refl, sym, ap, ◌∙◌, subst}
+use Rattle.std.specs.Prelude.{codes, ◌==◌, if◌then◌else◌}
 use Rattle.std.specs.Str.{bytes_eq}
 use Rattle.std.proofs.lemmas.Slice.Eq.{bytes_eq-Decides}
-use Rattle.std.proofs.lemmas.Bool.{cases_Bool, cases_eq, cond-true, cond-false, eq-eqb, ne_eqb, eqb-true, eqb-false, or_cases, or_parts, true≢false}
+use Rattle.std.proofs.lemmas.Bool.{cases_Bool, cases_eq, cond-true, cond-false, eq-eqb, ne_eqb, eqb-true, or_cases, true≢false}
 use Rattle.file_tree.specs.Tree.{Tree, file, dir, none}
 use Rattle.file_tree.specs.Names.{IsName}
-use Rattle.file_tree.specs.Apply.{file_limit}
-use Rattle.gfs2_layout.specs.Holding.{Holding}
-use Rattle.gfs2_layout.specs.Inode.{Head, dinode_in, is_directory_in, content_of, records_of}
-use Rattle.gfs2_layout.specs.Records.{Record, is_dots, child_named}
-use Rattle.image_model.specs.Flat.{Path, Thing, AFile, ADir, thing_in, thing_at, Node, Flat, no_node, follow, thing_from, ReadsAs}
+use Rattle.gfs2_layout.specs.Inode.{is_directory_in, content_of, records_of}
+use Rattle.gfs2_layout.specs.Records.{is_dots, child_named}
+use Rattle.image_model.specs.Flat.{Path, AFile, ADir, thing_in, thing_at, Node, Flat, no_node, follow, thing_from, ReadsAs}
 use Rattle.image_model.specs.Image.{Image}
-use Rattle.image_model.specs.Nodes.{node_of, child_of}
-use Rattle.image_model.specs.Owners.{Owner, Owners, Root, Named, Up, up_of, is_dinode, holding}
-use Rattle.image_model.specs.Stands.{Layout, flat_of, heads_of, IsDirectory, IsFound, IsLaid}
-use Rattle.image_model.proofs.Held.{none_some, some_same}
+use Rattle.image_model.specs.Nodes.{node_of}
+use Rattle.image_model.specs.Owners.{Owners, Named, is_dinode, holding}
+use Rattle.image_model.specs.Stands.{Layout, flat_of, IsLaid}
 use Rattle.image_model.proofs.Members.{IsIn}
 use Rattle.image_changes.specs.Changes.{IsChange}
-use Rattle.image_changes.specs.Flats.{IsNamed, SameBut, LeadsElsewhere}
+use Rattle.image_changes.specs.Flats.{LeadsElsewhere}
 use Rattle.image_changes.specs.Instances.{among}
 use Rattle.image_changes.proofs.Directories.{named_itself, named_other}
-use Rattle.image_changes.proofs.FlatPaths.{follow_kept, after_some}
-use Rattle.image_changes.proofs.Frame.{row_kept, same_dinode, flat_same}
-use Rattle.image_changes.proofs.Laid.{apart, follow_dinode, up_row, row_dinode}
+use Rattle.image_changes.proofs.FlatPaths.{follow_kept}
+use Rattle.image_changes.proofs.Frame.{row_kept, flat_same}
+use Rattle.image_changes.proofs.Laid.{apart, follow_dinode, row_dinode}
 
 -- ---- one of a few
 

@@ -1,12 +1,12 @@
 -- What holds of names in any image that is laid out right, and of records of which some are gone.
-use Rattle.std.proofs.Common.{◌≡◌, ◌≢◌, ℕ, ◌+◌, ◌≤◌, inl, inr, Bool, true, false, List, [], ◌∷◌, ◌++◌, length, Option, None, Some, refl, sym, ap, ◌∙◌, subst, length-append, arith}
+use Rattle.std.proofs.Common.{◌≡◌, ◌≢◌, ℕ, ◌≤◌, inl, inr, true, List, [], ◌∷◌, length, None, Some, refl, sym, ap, ◌∙◌, subst, length-append, arith}
 use Rattle.std.specs.Prelude.{option_and_then}
 use Rattle.std.specs.Str.{bytes_eq}
 use Rattle.std.proofs.lemmas.Bool.{cases_Bool}
 use Rattle.gfs2_layout.specs.Records.{Record, is_dots}
-use Rattle.image_model.specs.Flat.{Path, follow}
+use Rattle.image_model.specs.Flat.{Path}
 use Rattle.image_model.specs.Image.{Image}
-use Rattle.image_model.specs.Owners.{Owner, Owners, Named, Up, up_of, parent_of, is_dinode}
+use Rattle.image_model.specs.Owners.{Owner, Owners, Named, up_of, parent_of, is_dinode}
 use Rattle.image_model.specs.Stands.{Layout, flat_of, heads_of, IsLaid, name_count}
 use Rattle.image_model.proofs.Counts.{count_some}
 use Rattle.image_model.proofs.Held.{none_some}
@@ -65,6 +65,11 @@ module _ (im : Image) (o : Owners) (l : Layout) (laid : IsLaid im o l) where
 -- of records one of which is gone none that is left has its name
 pub rest_differs : (old new gone come : List Record) (exchanged : IsExchanged old new gone come) → ((name : List ℕ) → name_count old name ≤ 1) → (r g : Record) → IsIn g gone → IsIn r exchanged.rest
     → r.name ≢ g.name
-rest_differs old new gone come exchanged once r g at at' e = absurd (omega (arith, once g.name, names_any_order old _ g.name exchanged.before, names_append gone exchanged.rest g.name,
-    count_some (λ s. bytes_eq g.name s.name) g gone at (named_itself g.name),
-    count_some (λ s. bytes_eq g.name s.name) r exchanged.rest at' (subst (λ m. bytes_eq g.name m ≡ true) (sym e) (named_itself g.name))))
+rest_differs old new gone come exchanged once r g at at' e = absurd (omega (
+  arith,
+  once g.name,
+  names_any_order old _ g.name exchanged.before,
+  names_append gone exchanged.rest g.name,
+  count_some (λ s. bytes_eq g.name s.name) g gone at (named_itself g.name),
+  count_some (λ s. bytes_eq g.name s.name) r exchanged.rest at' (subst (λ m. bytes_eq g.name m ≡ true) (sym e) (named_itself g.name)),
+))

@@ -1,5 +1,5 @@
 -- What stands at each path of a tree with another tree put in, or with a name taken out.
-use Rattle.std.proofs.Common.{◌≡◌, ◌≢◌, ℕ, ◌⊎◌, inl, inr, List, [], ◌∷◌, ◌++◌, Option, None, Some, refl, sym, ap, ◌∙◌, subst}
+use Rattle.std.proofs.Common.{◌≡◌, ◌≢◌, ℕ, inl, inr, List, [], ◌∷◌, ◌++◌, Option, None, Some, refl, sym, ap, ◌∙◌, subst}
 use Rattle.std.specs.Option.{option_and_then}
 use Rattle.std.specs.declared.cmp.Ordering.{Ordering}
 use Rattle.std.specs.declared.cmp.Ordering.TheVariants.{Less, Equal, Greater}
@@ -8,7 +8,7 @@ use Rattle.file_tree.specs.Apply.{put_at, remove_at, entries_of, child_of}
 use Rattle.file_tree.specs.Names.{IsName}
 use Rattle.file_tree.proofs.MapLaws.{same_order}
 use Rattle.file_tree.proofs.Places.{well_formed_set}
-use Rattle.image_model.specs.Flat.{Path, Thing, AFile, ADir, thing_in, child_in, tree_at, thing_at}
+use Rattle.image_model.specs.Flat.{Path, Thing, ADir, thing_in, child_in, tree_at, thing_at}
 use Rattle.std.specs.Cmp.Lexicographic.{nat_list_cmp_total}
 use Rattle.image_model.proofs.Trees.{same_or_not, look_self, look_other, look_eq, below_all}
 use Rattle.image_changes.specs.Flats.{IsBeside, in_directory}

@@ -1,17 +1,13 @@
 -- What a change of few blocks is, of an image that stands: its inodes are touched, or as before.
-use Rattle.std.specs.Prelude.{ℕ, ◌≡◌, ◌≢◌, ◌⊎◌, ◌+◌, ◌<◌, ◌≤◌, ◌==◌, ◌||◌, Bool, true, false, if◌then◌else◌, List, [], ◌∷◌, ◌++◌, length, codes, Contains, None, Some}
-use Rattle.std.specs.List.Sorted.{IsPermutation}
-use Rattle.file_tree.specs.Names.{IsName}
+use Rattle.std.specs.Prelude.{ℕ, ◌≡◌, ◌⊎◌, ◌<◌, ◌≤◌, Bool, true, false, List, length, Some}
 use Rattle.file_tree.specs.Apply.{file_limit}
-use Rattle.gfs2_layout.specs.declared.dinode.Dinode.{Dinode}
 use Rattle.gfs2_layout.specs.declared.rindex.Rindex.{Rindex}
-use Rattle.gfs2_layout.specs.Inode.{Head, IsInode, dinode_in, is_directory_in, records_of}
-use Rattle.gfs2_layout.specs.Records.{Record, is_dots}
+use Rattle.gfs2_layout.specs.Inode.{IsInode, dinode_in, is_directory_in, records_of}
 use Rattle.image_model.specs.Flat.{Path, follow}
 use Rattle.image_model.specs.Groups.{IsListed, IsDataOf, group_blocks, states_of, IsGroup}
 use Rattle.image_model.specs.Image.{Image}
-use Rattle.image_model.specs.Owners.{Owner, Owners, Super, InGroup, Free, Nobody, Root, Master, Named, Below, Chained, Up, up_of, parent_of, is_dinode, IsWithin, holding}
-use Rattle.image_model.specs.Stands.{Layout, flat_of, heads_of, IsRecordOf, HasRecord, LeadsDown, IsDirectory, IsFound, name_count, directory_count}
+use Rattle.image_model.specs.Owners.{Owner, Owners, InGroup, Free, Root, Named, Below, Chained, Up, up_of, is_dinode, IsWithin, holding}
+use Rattle.image_model.specs.Stands.{Layout, flat_of, heads_of, IsDirectory, IsFound}
 
 -- ---- blocks
 

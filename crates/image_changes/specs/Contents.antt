@@ -1,14 +1,14 @@
 -- Contents of blocks that don't matter: of free blocks, of a file's blocks of content to the rules of its inode, and of the places of
 -- journals.
-use Rattle.std.specs.Prelude.{ℕ, ◌≡◌, ◌≢◌, ◌⊎◌, ◌<◌, true, List, length, Some}
+use Rattle.std.specs.Prelude.{ℕ, ◌≡◌, ◌≢◌, ◌⊎◌, ◌<◌, true, length, Some}
 use Rattle.file_tree.specs.Tree.{Tree}
-use Rattle.gfs2_layout.specs.Holding.{Part, Pointed, Holding, part_at, bytes_at}
+use Rattle.gfs2_layout.specs.Holding.{Pointed, Holding, part_at, bytes_at}
 use Rattle.gfs2_layout.specs.Inode.{dinode_in, IsInode}
 use Rattle.gfs2_layout.specs.Journal.{Ring, ring_of, IsClean}
 use Rattle.gfs2_layout.specs.Structures.{is_regular}
 use Rattle.image_model.specs.Image.{Image}
-use Rattle.image_model.specs.Owners.{Owner, Owners, Free, Below, holding}
-use Rattle.image_model.specs.Stands.{Layout, IsJournalAt, IsLaid}
+use Rattle.image_model.specs.Owners.{Owners, Free, Below, holding}
+use Rattle.image_model.specs.Stands.{Layout, IsJournalAt}
 use Rattle.image_changes.specs.Instances.{StandsBy}
 
 -- ---- within an inode

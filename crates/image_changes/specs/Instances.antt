@@ -1,5 +1,5 @@
 -- Four changes of an image that stands: a file's content changes; a name is added, removed, or moved.
-use Rattle.std.specs.Prelude.{ℕ, ◌≡◌, ◌≢◌, ◌⊎◌, ◌≤◌, ◌==◌, ◌||◌, Bool, true, false, List, [], ◌∷◌, codes, None, Some}
+use Rattle.std.specs.Prelude.{ℕ, ◌≡◌, ◌≢◌, ◌≤◌, ◌==◌, ◌||◌, Bool, true, false, List, [], ◌∷◌, codes, None, Some}
 use Rattle.file_tree.specs.Tree.{Tree, file, dir, none}
 use Rattle.file_tree.specs.Names.{IsName}
 use Rattle.file_tree.specs.Apply.{file_limit, put_at, remove_at}

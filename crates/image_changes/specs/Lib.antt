@@ -3,4 +3,5 @@ pub mod Directories
 pub mod Changes
 pub mod Instances
 pub mod Contents
+pub mod States
 pub mod Laws

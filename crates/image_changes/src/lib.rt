@@ -1,24 +1,21 @@
-//! What a change of few blocks does to a whole image. The functions do nothing: their contracts are the laws.
+//! What a change of few blocks does to a whole image that stands for a tree. The functions do nothing: their contracts are the laws.
 #![tactic(auto)]
 
-ghost use Rattle.image_changes.specs.Flats.{Unreached, FileRewritten, NameGone, NameLeads};
+mod contents;
+mod instances;
+mod paths;
+mod pieces;
 
-/// A law: what an inode says to which no path leads doesn't matter.
-pub fn unreached_inodes_do_not_matter()
-    ensures { Unreached }
-{}
-
-/// A law: where a file gets other bytes, the tree has them at its path.
-pub fn a_file_is_rewritten()
-    ensures { FileRewritten }
-{}
-
-/// A law: where a name is gone, the tree lacks what was there.
-pub fn a_name_is_gone()
-    ensures { NameGone }
-{}
-
-/// A law: where a name leads to another inode, the tree has there what the inode reads as.
-pub fn a_name_leads_to_a_tree()
-    ensures { NameLeads }
-{}
+pub use contents::{
+    an_image_has_one_layout, content_of_files_does_not_matter, free_blocks_do_not_matter,
+    places_of_journals_do_not_matter,
+};
+pub use instances::{
+    a_file_changes, a_name_is_added, a_name_is_moved, a_name_is_removed, a_small_change_stays_laid,
+};
+pub use paths::{
+    a_file_is_rewritten, a_name_is_gone, a_name_leads_to_a_tree, unreached_inodes_do_not_matter,
+};
+pub use pieces::{
+    a_directory_looks_at_what_it_names, a_state_is_put, records_go_and_come, untouched_groups_stay,
+};

@@ -1,8 +1,8 @@
 -- Contents of free blocks and of the places of journals don't matter.
-use Rattle.std.proofs.Common.{◌≡◌, ◌≢◌, ℕ, zero, suc, ◌+◌, ◌/◌, ◌%◌, ◌<◌, ◌≤◌, ◌⊎◌, inl, inr, Bool, true, false, List, [], ◌∷◌, length, Option, None, Some, slice_get, refl, sym, ap, ◌∙◌, subst, arith}
+use Rattle.std.proofs.Common.{◌≡◌, ◌≢◌, ℕ, zero, suc, ◌+◌, ◌/◌, ◌%◌, ◌<◌, ◌≤◌, ◌⊎◌, inl, inr, true, false, List, [], ◌∷◌, length, Option, None, Some, slice_get, refl, sym, ap, ◌∙◌, subst, arith}
 use Rattle.std.specs.Prelude.{codes, map, ◌==◌, if◌then◌else◌, option_and_then}
 use Rattle.std.specs.List.{range_with_len}
-use Rattle.std.proofs.lemmas.Bool.{cases_Bool, cases_eq, cond-true, cond-false, eq-eqb, ne_eqb, true≢false}
+use Rattle.std.proofs.lemmas.Bool.{cases_Bool, cases_eq, cond-false, ne_eqb, true≢false}
 use Rattle.file_tree.specs.Tree.{Tree}
 use Rattle.file_tree.specs.Apply.{file_limit}
 use Rattle.gfs2_layout.specs.Device.{IsBlockSize, superblock_place}
@@ -12,26 +12,24 @@ use Rattle.gfs2_layout.specs.declared.dinode.Dinode.{Dinode}
 use Rattle.gfs2_layout.specs.declared.log_header.LogHeader.{LogHeader}
 use Rattle.gfs2_layout.specs.declared.rindex.Rindex.{Rindex}
 use Rattle.gfs2_layout.specs.Journal.{ring_of, head_in}
-use Rattle.gfs2_layout.specs.Holding.{Part, Itself, Pointed, InChain, Cell, Holding, cell_part, cell_bytes, part_at, bytes_at}
-use Rattle.gfs2_layout.specs.Inode.{Head, head_of, dinode_in, is_directory_in, content_of, content_block, records_of, IsInode}
-use Rattle.image_model.specs.Flat.{Path, Thing, AFile, ADir, Node, no_node, follow, ReadsAs}
-use Rattle.image_model.specs.Groups.{IsListed, IsHeaderOf, group_blocks, states_of, IsGroup}
-use Rattle.image_model.specs.Image.{Image, IsImage}
+use Rattle.gfs2_layout.specs.Holding.{Part, Itself, Pointed, cell_part, cell_bytes, part_at, bytes_at}
+use Rattle.gfs2_layout.specs.Inode.{head_of, dinode_in, is_directory_in, content_block, records_of, IsInode}
+use Rattle.image_model.specs.Flat.{Path, AFile, ADir, Node, no_node, follow, ReadsAs}
+use Rattle.image_model.specs.Groups.{IsListed, group_blocks, states_of, IsGroup}
+use Rattle.image_model.specs.Image.{Image}
 use Rattle.image_model.specs.Journals.{journal_name, IsJournal}
 use Rattle.image_model.specs.Nodes.{node_of}
 use Rattle.image_model.proofs.Lengths.{place_low, place_high, size_large}
 use Rattle.image_model.proofs.Reach.{used_low}
 use Rattle.image_model.proofs.Unique.{used_or_not, unused_part}
-use Rattle.image_model.specs.Owners.{Owner, Owners, Super, InGroup, Free, Nobody, Root, Master, Named, Below, Chained, up_of, is_dinode, IsUsed, part_in, cell_of, cell_in, holding}
-use Rattle.image_model.specs.Stands.{Layout, IsJournalAt, IsLaid, IsSuper, IsSystem, IsDirectory, flat_of, heads_of}
+use Rattle.image_model.specs.Owners.{Owner, Owners, Super, InGroup, Free, Master, Named, Below, is_dinode, IsUsed, part_in, cell_of, cell_in, holding}
+use Rattle.image_model.specs.Stands.{Layout, IsJournalAt, IsLaid, IsSystem, IsDirectory, flat_of, heads_of}
 use Rattle.image_model.proofs.Held.{none_some, some_same, own_part, own_block, pointed_part}
-use Rattle.image_model.proofs.Members.{IsIn, from_range}
-use Rattle.image_changes.specs.Contents.{SameButContent, IsAsLarge, IsPlace, IsReadable, FreeBlocksDoNotMatter, PlacesDoNotMatter}
-use Rattle.image_changes.specs.Instances.{StandsBy}
+use Rattle.image_changes.specs.Contents.{SameButContent, IsAsLarge, IsPlace, FreeBlocksDoNotMatter, PlacesDoNotMatter}
 use Rattle.image_changes.proofs.FlatPaths.{unreached, follow_kept}
 use Rattle.image_changes.proofs.FileContent.{file_after, content_block_after}
 use Rattle.image_changes.proofs.Nodes.{file_thing, file_child}
-use Rattle.image_changes.proofs.Laid.{fits_still, apart, child_rows, follow_dinode, row_up, row_dinode, plain_file}
+use Rattle.image_changes.proofs.Laid.{fits_still, apart, child_rows, follow_dinode, row_dinode, plain_file}
 
 pub map_same : {X : Type 0} (f g : ℕ → X) (a n : ℕ) → ((b : ℕ) → a ≤ b → b < a + n → f b ≡ g b) → map f (range_with_len a n) ≡ map g (range_with_len a n)
 map_same f g a zero each = refl

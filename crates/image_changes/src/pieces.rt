@@ -1,0 +1,24 @@
+//! Laws of the parts of an image: directories by their records, and groups by the states of their blocks.
+ghost use Rattle.image_changes.specs.Directories.{LooksAtNames, RecordsGoAndCome};
+ghost use Rattle.image_changes.specs.States.{GroupsStay, StateIsPut};
+
+/// A law: a directory stays one where number and kind of the inodes that it names, of itself and of its parent are the same, and
+/// the owners of those that it names.
+pub fn a_directory_looks_at_what_it_names()
+    ensures { LooksAtNames }
+{}
+
+/// A law: what a directory is after some of its records went and others came, in whatever order they stand.
+pub fn records_go_and_come()
+    ensures { RecordsGoAndCome }
+{}
+
+/// A law: a group whose header and bitmap are as before, and whose blocks keep their states, says what the table of owners does.
+pub fn untouched_groups_stay()
+    ensures { GroupsStay }
+{}
+
+/// A law: a group in whose bitmap one state was put, and whose counts follow, says the states with that one put.
+pub fn a_state_is_put()
+    ensures { StateIsPut }
+{}
