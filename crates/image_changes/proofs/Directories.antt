@@ -1,5 +1,5 @@
 -- Directories whose records go and come.
-use Rattle.std.proofs.Common.{◌≡◌, ◌≢◌, ℕ, ◌+◌, ◌≤◌, ◌⊎◌, inl, inr, Bool, true, false, List, [], ◌∷◌, ◌++◌, Option, None, Some, refl, sym, ap, ◌∙◌, subst, arith, length-append, cond}
+use Rattle.std.proofs.Common.{◌≡◌, ◌≢◌, ℕ, ◌+◌, ◌≤◌, ◌⊎◌, inl, inr, Bool, true, false, List, [], ◌∷◌, ◌++◌, Option, None, Some, refl, sym, ap, ◌∙◌, subst, arith, length-append, cond, length, true≢false}
 use Rattle.std.specs.Prelude.{codes, Contains, not, ◌&&◌, ◌==◌}
 use Rattle.std.specs.Option.{option_map}
 use Rattle.std.specs.Str.{bytes_eq}
@@ -8,14 +8,15 @@ use Rattle.std.proofs.lemmas.Bool.{cases_Bool, cond-true, cond-false}
 use Rattle.std.proofs.lemmas.Slice.Eq.{bytes_eq-Decides}
 use Rattle.std.proofs.lemmas.List.Sorted.{IsPermutation-sym, Contains-permutation, sum_by-IsPermutation, length_permutation}
 use Rattle.std.proofs.lemmas.List.Sums.{sum_by-cons, sum_by-append}
+use Rattle.gfs2_layout.specs.declared.dinode.Dinode.{Dinode}
 use Rattle.gfs2_layout.specs.Inode.{Head}
 use Rattle.gfs2_layout.specs.Records.{Record, is_dots, record_named, child_named}
 use Rattle.image_model.specs.Owners.{Owners, parent_of}
-use Rattle.image_model.specs.Stands.{kind_of, IsRecordOf, HasRecord, LeadsDown, name_count, directory_count}
+use Rattle.image_model.specs.Stands.{kind_of, IsRecordOf, HasRecord, LeadsDown, name_count, directory_count, IsDirectory}
 use Rattle.image_model.proofs.Members.{IsIn, contained, is_in, in_right, in_either}
 use Rattle.image_model.proofs.Counts.{count_some}
 use Rattle.image_model.proofs.Order.{child_any_order}
-use Rattle.image_changes.specs.Directories.{IsExchanged, LooksAtNames, RecordsGoAndCome}
+use Rattle.image_changes.specs.Directories.{IsExchanged, LooksAtNames, RecordsGoAndCome, OtherParent, IsCounted}
 
 -- ---- heads and owners that agree
 
@@ -49,8 +50,14 @@ directories_append rs ss = sum_by-append (λ r. cond (is_subdirectory r) 1 0) rs
 pub directories_any_order : (rs ss : List Record) → IsPermutation rs ss → directory_count rs ≡ directory_count ss
 directories_any_order rs ss order = sym (sum_by-IsPermutation (λ r. cond (is_subdirectory r) 1 0) rs ss order)
 
-pub records_go_and_come : RecordsGoAndCome
-records_go_and_come heads heads' o o' a old new gone come d d' is exchanged counted dot dots once down agree = record {
+-- the same with `.`, `..` and the names given
+pub go_and_come : (heads heads' : ℕ → Head) (o o' : Owners) (a : ℕ) (old new gone come : List Record) (d d' : Dinode) → IsDirectory heads o a old d
+    → (exchanged : IsExchanged old new gone come) → IsCounted d d' gone come
+    → HasRecord heads' new (codes ".") a → HasRecord heads' new (codes "..") (parent_of a (o' a)) → ((name : List ℕ) → name_count new name ≤ 1)
+    → ((r : Record) → Contains come r → is_dots r.name ≡ false → LeadsDown heads' o' a r)
+    → ((r : Record) → Contains exchanged.rest r → is_dots r.name ≡ false → (o' r.address ≡ o r.address) × (heads' r.address ≡ heads r.address))
+    → IsDirectory heads' o' a new d'
+go_and_come heads heads' o o' a old new gone come d d' is exchanged counted dot dots once down agree = record {
   dot = dot;
   dots = dots;
   once = once;
@@ -201,3 +208,76 @@ has_stays heads old new gone come name b exchanged none has = record { entry = h
     there : Contains new has.entry
     there = Contains-permutation (come ++ exchanged.rest) new has.entry (IsPermutation-sym new _ exchanged.after)
         (contained has.entry _ (in_right has.entry come exchanged.rest (in_rest (in_either has.entry gone exchanged.rest (is_in has.entry _ (Contains-permutation old (gone ++ exchanged.rest) has.entry exchanged.before has.there))))))
+
+-- ---- the two laws
+
+-- a record has the name, or the list lacks it
+has_or_lacks : (rs : List Record) (name : List ℕ) → Lacks rs name ⊎ ((r : Record) × IsIn r rs × (r.name ≡ name))
+has_or_lacks [] name = inl refl
+has_or_lacks (r ∷ rs) name = elim (cases_Bool (bytes_eq name r.name)) [
+  | inl so ↦ inr (r, inl refl, sym ((bytes_eq-Decides name r.name).0 so))
+  | inr non ↦ elim (has_or_lacks rs name) [
+    | inl none ↦ inl (omega (arith, names_cons r rs name, cond-false {A = ℕ} (bytes_eq name r.name) 1 0 non, none))
+    | inr some ↦ inr (some.0, inr some.1, some.2)
+  ]
+]
+
+lacks_all : (rs : List Record) (name : List ℕ) → ((r : Record) → IsIn r rs → r.name ≢ name) → Lacks rs name
+lacks_all rs name each = elim (has_or_lacks rs name) [ inl none ↦ none | inr some ↦ absurd (each some.0 some.1 some.2) ]
+
+once_after : (old new gone come : List Record) (exchanged : IsExchanged old new gone come) → ((name : List ℕ) → name_count old name ≤ 1) → ((name : List ℕ) → name_count come name ≤ 1)
+    → ((r s : Record) → Contains come r → Contains exchanged.rest s → r.name ≢ s.name) → (name : List ℕ) → name_count new name ≤ 1
+once_after old new gone come exchanged once come_once apart name = elim (has_or_lacks come name) [
+  | inl none ↦ omega (
+    arith,
+    none,
+    names_any_order new (come ++ exchanged.rest) name exchanged.after,
+    names_append come exchanged.rest name,
+    once name,
+    names_any_order old (gone ++ exchanged.rest) name exchanged.before,
+    names_append gone exchanged.rest name,
+  )
+  | inr some ↦
+      let left : Lacks exchanged.rest name = lacks_all exchanged.rest name (λ s at e. apart some.0 s (contained some.0 come some.1) (contained s exchanged.rest at) (some.2 ∙ sym e)) in
+      omega (arith, left, come_once name, names_any_order new (come ++ exchanged.rest) name exchanged.after, names_append come exchanged.rest name)
+]
+
+dots_lack : (gone : List Record) (name : List ℕ) → is_dots name ≡ true → ((r : Record) → Contains gone r → is_dots r.name ≡ false) → Lacks gone name
+dots_lack gone name dots plain = lacks_all gone name (λ r at e. true≢false (sym (ap is_dots e ∙ dots) ∙ plain r (contained r gone at)))
+
+pub records_go_and_come : RecordsGoAndCome
+records_go_and_come heads heads' o o' a old new gone come d d' is exchanged counted own parent above plain come_once apart down agree =
+    go_and_come heads heads' o o' a old new gone come d d' is exchanged counted
+    (has_stays heads' old new gone come (codes ".") a exchanged (dots_lack gone (codes ".") refl plain) (same_has heads heads' old (codes ".") a own is.dot))
+    (subst (λ b. HasRecord heads' new (codes "..") b) (sym parent)
+    (has_stays heads' old new gone come (codes "..") (parent_of a (o a)) exchanged (dots_lack gone (codes "..") refl plain) (same_has heads heads' old (codes "..") (parent_of a (o a)) above is.dots)))
+    (once_after old new gone come exchanged is.once come_once apart) down agree
+
+pub other_parent : OtherParent
+other_parent heads heads' o o' a old new dots dots' d d' is exchanged counted named named' true_of own agree =
+    go_and_come heads heads' o o' a old new (dots ∷ []) (dots' ∷ []) d d' is exchanged counted
+    (has_stays heads' old new (dots ∷ []) (dots' ∷ []) (codes ".") a exchanged (one_lacks dots (codes ".") (λ e. apart (e ∙ named))) (same_has heads heads' old (codes ".") a own is.dot))
+    (record {
+      entry = dots';
+      there = Contains-permutation (dots' ∷ exchanged.rest) new dots' (IsPermutation-sym _ _ exchanged.after) (contained dots' (dots' ∷ exchanged.rest) (inl refl));
+      named = named';
+      true_of = true_of;
+    })
+    (once_more old new (dots ∷ []) dots' exchanged is.once left)
+    (λ r at plain. absurd (come r plain (is_in r (dots' ∷ []) at))) agree
+  where
+    apart : codes "." ≡ codes ".." → ⊥
+    apart e = absurd (omega (arith, ap length e))
+
+    left : Lacks exchanged.rest dots'.name
+    left = omega (
+      arith,
+      names_any_order old (dots ∷ exchanged.rest) dots'.name exchanged.before,
+      names_cons dots exchanged.rest dots'.name,
+      is.once dots'.name,
+      cond-true {A = ℕ} (bytes_eq dots'.name dots.name) 1 0 (subst (λ m. bytes_eq dots'.name m ≡ true) (named' ∙ sym named) (named_itself dots'.name)),
+    )
+
+    come : (r : Record) → is_dots r.name ≡ false → IsIn r (dots' ∷ []) → ⊥
+    come r plain (inl e) = true≢false (sym (ap is_dots (ap (λ (s : Record). s.name) e ∙ named')) ∙ plain)
+    come r plain (inr h) = h

@@ -9,7 +9,7 @@ use Rattle.gfs2_layout.specs.Bytes.{u64_at}
 use Rattle.gfs2_layout.specs.Headers.{HasHeader}
 use Rattle.gfs2_layout.specs.Structures.{dinode_of, dinode_length, is_directory, is_regular}
 use Rattle.gfs2_layout.specs.declared.dinode.Dinode.{Dinode}
-use Rattle.gfs2_layout.specs.Holding.{Part, Pointed, Cell, Holding, cell_part, part_at, bytes_at}
+use Rattle.gfs2_layout.specs.Holding.{Part, Pointed, Cell, Holding, cell_part, part_at, bytes_at, Itself}
 use Rattle.gfs2_layout.specs.Inode.{dinode_in, height_in, has_hash_flag, is_directory_in, is_hashed_in, header_length, fan, span, pointer, descend, content_block, pieces, content_count, IsChild, IsPointed, by_dinode, by_block, HasTree, block_count, IsInode}
 use Rattle.image_model.proofs.Held.{some_same}
 use Rattle.image_changes.specs.Contents.{SameButContent, ContentDoesNotMatter}
@@ -18,9 +18,12 @@ use Rattle.image_changes.proofs.Laid.{plain_file}
 hashed_no : (h : Holding) → is_directory_in h ≡ false → is_hashed_in h ≡ false
 hashed_no h plain = ap (λ b. b && has_hash_flag (dinode_in h)) plain
 
-module _ (h h' : Holding) (regular : is_regular (dinode_in h) ≡ true) (own : (above k first : ℕ) → part_at h h.own ≢ Some (Pointed above k 0 first)) (same : SameButContent h h') (is : IsInode h) where
+module _ (h h' : Holding) (regular : is_regular (dinode_in h) ≡ true) (own : part_at h h.own ≡ Some Itself) (same : SameButContent h h') (is : IsInode h) where
   own_bytes : bytes_at h' h'.own ≡ bytes_at h h.own
-  own_bytes = ap (bytes_at h') same.own ∙ same.bytes h.own own
+  own_bytes = ap (bytes_at h') same.own ∙ same.bytes h.own (λ above k first e. no above k first (sym own ∙ e))
+    where
+      no : (above k first : ℕ) → Some Itself ≡ Some (Pointed above k 0 first) → ⊥
+      no above k first e = cc
 
   pub dinode_same : dinode_in h' ≡ dinode_in h
   unfolding dinode_in

@@ -9,8 +9,8 @@ use Rattle.image_model.specs.Flat.{Path, Thing, AFile, ADir, thing_in, tree_at, 
 use Rattle.image_model.specs.Owners.{Up}
 use Rattle.image_model.proofs.Held.{none_some, some_same}
 use Rattle.image_model.proofs.Trees.{same_or_not}
-use Rattle.image_changes.specs.Flats.{IsNamed, IsBeside, SameBut, LeadsElsewhere, in_directory, Unreached, FileRewritten, NameGone, NameLeads}
-use Rattle.image_changes.proofs.TreePaths.{child_is_tree, child_is_named, Along, along_into, along_to, not_beside_self, not_beside_under, beside_above, under, out, split, put_under, put_beside, remove_under, remove_beside, put_is_tree, remove_is_tree}
+use Rattle.image_changes.specs.Flats.{IsNamed, SameBut, LeadsElsewhere, in_directory, Unreached, FileRewritten, NameGone, NameLeads}
+use Rattle.image_changes.proofs.TreePaths.{IsBeside, beside_path, child_is_tree, child_is_named, Along, along_into, along_to, not_beside_self, not_beside_under, beside_above, under, out, split, put_under, put_beside, remove_under, remove_beside, put_is_tree, remove_is_tree}
 
 -- ---- an inode has one path
 
@@ -97,9 +97,9 @@ unreached f f' top each = (same, λ t reads. record { tree = reads.tree; same = 
 
 -- ---- an inode changes its thing alone
 
-module _ (f f' : Flat) (a : ℕ) (others : SameBut a f f') (leads : (f a).child ≡ (f' a).child) where
+module _ (f f' : Flat) (a : ℕ) (others : SameBut a f f') (leads : (f' a).child ≡ (f a).child) where
   children_same : (x : ℕ) → (f' x).child ≡ (f x).child
-  children_same x = elim (cases_eq x a) [ inl e ↦ rw e (sym leads) | inr d ↦ ap (λ (z : Node). z.child) (others x d) ]
+  children_same x = elim (cases_eq x a) [ inl e ↦ rw e leads | inr d ↦ ap (λ (z : Node). z.child) (others x d) ]
 
   follow_same : (q : Path) (x : ℕ) → follow f' x q ≡ follow f x q
   follow_same [] x = refl
@@ -210,7 +210,7 @@ nonempty [] n = (n, ([], refl))
 nonempty (k ∷ p) n = (k, (in_directory p n, refl))
 
 pub name_gone : NameGone
-name_gone f f' up top a p n named at differs is gone = (beside_same f f' a n differs up top named p at, reads')
+name_gone f f' up top a p n named at differs is gone = (λ q away. beside_same f f' a n differs up top named p at q (beside_path (in_directory p n) q away), reads')
   where
     reads' : (t : Tree) → ReadsAs f top t → ReadsAs f' top (remove_at (in_directory p n) t)
     reads' t reads = record { tree = remove_is_tree (in_directory p n) t reads.tree way; same = same }
@@ -247,7 +247,7 @@ last_name (j ∷ p) (k ∷ q) n m e = last_name p q n m (inside e)
     inside e = cc
 
 pub name_leads : NameLeads
-name_leads f f' up top a p n b u named at differs is name leads subtree apart = (beside_same f f' a n differs up top named p at, there, reads')
+name_leads f f' up top a p n b u named at differs is name leads subtree apart = (λ q away. beside_same f f' a n differs up top named p at q (beside_path (in_directory p n) q away), there, reads')
   where
     -- below the inode nothing changes
     kept : (q : Path) (y : ℕ) → follow f b q ≡ Some y → (f' y).child ≡ (f y).child

@@ -1,5 +1,5 @@
 -- What a change leaves alone: an inode that it doesn't touch has the blocks that it had, and so says what it said.
-use Rattle.std.proofs.Common.{◌≡◌, ℕ, ◌⊎◌, inl, inr, Bool, true, false, Option, None, refl, sym, ap, ◌∙◌, subst}
+use Rattle.std.proofs.Common.{◌≡◌, ℕ, ◌⊎◌, inl, inr, Bool, true, false, List, Option, None, Some, refl, sym, ap, ◌∙◌, subst}
 use Rattle.std.specs.Prelude.{if◌then◌else◌, ◌==◌}
 use Rattle.std.proofs.lemmas.Bool.{cases_Bool, cond-false, ne_eqb, true≢false}
 use Rattle.gfs2_layout.specs.Inode.{head_of}
@@ -8,7 +8,9 @@ use Rattle.image_model.specs.Image.{Image}
 use Rattle.image_model.specs.Nodes.{node_of}
 use Rattle.image_model.specs.Owners.{Owner, Owners, Super, InGroup, Free, Nobody, Root, Master, Named, Below, Chained, is_dinode, IsWithin, part_in, cell_of, cell_in, holding}
 use Rattle.image_model.specs.Stands.{Layout, flat_of, heads_of}
-use Rattle.image_changes.specs.Changes.{IsOf, Becomes, kept, of_group, changed, IsChange}
+use Rattle.image_model.proofs.Held.{none_some, some_same}
+use Rattle.image_changes.specs.Laws.{UntouchedStay, OthersStay}
+use Rattle.image_changes.specs.Changes.{inode_of, IsOf, Becomes, kept, another_part, of_group, changed, IsChange, inode_lock, lock_in, cover, is_free, place_of}
 
 not_both : {b : Bool} → b ≡ false → b ≡ true → ⊥
 not_both e f = true≢false (sym f ∙ e)
@@ -16,55 +18,85 @@ not_both e f = true≢false (sym f ∙ e)
 other : {X : Type 0} (x a : ℕ) (s : Option X) → (x ≡ a → ⊥) → (if x == a then s else None) ≡ None
 other x a s d = cond-false _ s None (ne_eqb x a d)
 
--- a block that is free or of a touched inode is none of another's
-foreign : (touched : ℕ → Bool) (a b : ℕ) (o : Owner) → touched a ≡ false → IsOf touched b o → part_in a b o ≡ None
-foreign touched a b Super away h = elim h [ ]
-foreign touched a b (InGroup g) away h = elim h [ ]
-foreign touched a b Nobody away h = elim h [ ]
-foreign touched a b Master away h = elim h [ ]
-foreign touched a b (Free g) away h = refl
-foreign touched a b Root away h = other b a _ (λ e. not_both away (ap touched (sym e) ∙ h))
-foreign touched a b (Named parent name) away h = other b a _ (λ e. not_both away (ap touched (sym e) ∙ h))
-foreign touched a b (Below d parent k level first) away h = other d a _ (λ e. not_both away (ap touched (sym e) ∙ h))
-foreign touched a b (Chained d hash place) away h = other d a _ (λ e. not_both away (ap touched (sym e) ∙ h))
+-- a block of another inode, or of none, is none of this inode's
+not_its : (a b : ℕ) (o : Owner) → (inode_of b o ≡ Some a → ⊥) → part_in a b o ≡ None
+not_its a b Super away = refl
+not_its a b (InGroup g) away = refl
+not_its a b (Free g) away = refl
+not_its a b Nobody away = refl
+not_its a b Root away = other b a _ (λ e. away (ap Some e))
+not_its a b Master away = other b a _ (λ e. away (ap Some e))
+not_its a b (Named parent name) away = other b a _ (λ e. away (ap Some e))
+not_its a b (Below d parent k level first) away = other d a _ (λ e. away (ap Some e))
+not_its a b (Chained d hash place) away = other d a _ (λ e. away (ap Some e))
 
--- such a block is no dinode, unless it is a touched one
-of_dinode : (touched : ℕ → Bool) (b : ℕ) (o : Owner) → IsOf touched b o → is_dinode o ≡ true → touched b ≡ true
-of_dinode touched b Super h e = elim h [ ]
-of_dinode touched b (InGroup g) h e = elim h [ ]
-of_dinode touched b Nobody h e = elim h [ ]
-of_dinode touched b Master h e = elim h [ ]
-of_dinode touched b (Free g) h e = absurd (true≢false (sym e))
-of_dinode touched b Root h e = h
-of_dinode touched b (Named parent name) h e = h
-of_dinode touched b (Below d parent k level first) h e = absurd (true≢false (sym e))
-of_dinode touched b (Chained d hash place) h e = absurd (true≢false (sym e))
+pub dinode_its : (b : ℕ) (o : Owner) → is_dinode o ≡ true → inode_of b o ≡ Some b
+dinode_its b Root e = refl
+dinode_its b Master e = refl
+dinode_its b (Named parent name) e = refl
+dinode_its b Super e = absurd (true≢false (sym e))
+dinode_its b (InGroup g) e = absurd (true≢false (sym e))
+dinode_its b (Free g) e = absurd (true≢false (sym e))
+dinode_its b Nobody e = absurd (true≢false (sym e))
+dinode_its b (Below d parent k level first) e = absurd (true≢false (sym e))
+dinode_its b (Chained d hash place) e = absurd (true≢false (sym e))
 
-of_within : (touched : ℕ → Bool) (b a : ℕ) (o : Owner) → IsOf touched b o → IsWithin a o → touched a ≡ true
-of_within touched b a Super h e = elim e [ ]
-of_within touched b a (InGroup g) h e = elim e [ ]
-of_within touched b a Nobody h e = elim e [ ]
-of_within touched b a Master h e = elim e [ ]
-of_within touched b a (Free g) h e = elim e [ ]
-of_within touched b a Root h e = elim e [ ]
-of_within touched b a (Named parent name) h e = elim e [ ]
-of_within touched b a (Below d parent k level first) h e = ap touched (sym e) ∙ h
-of_within touched b a (Chained d hash place) h e = ap touched (sym e) ∙ h
+within_its : (b a : ℕ) (o : Owner) → IsWithin a o → inode_of b o ≡ Some a
+within_its b a (Below d parent k level first) e = ap Some e
+within_its b a (Chained d hash place) e = ap Some e
+within_its b a Super e = elim e [ ]
+within_its b a (InGroup g) e = elim e [ ]
+within_its b a (Free g) e = elim e [ ]
+within_its b a Nobody e = elim e [ ]
+within_its b a Root e = elim e [ ]
+within_its b a Master e = elim e [ ]
+within_its b a (Named parent name) e = elim e [ ]
 
-module _ (im im' : Image) (o o' : Owners) (l : Layout) (touched : ℕ → Bool) (change : IsChange im im' o o' l touched) where
+-- what may be written is a free block, or one of a touched inode
+pub data OfWhat (touched : ℕ → Bool) (b : ℕ) (o : Owner) : Type 0 where
+  free_block : (g : ℕ) → o ≡ Free g → OfWhat touched b o
+  of_inode : (a : ℕ) → inode_of b o ≡ Some a → touched a ≡ true → OfWhat touched b o
+
+pub of_what : (touched : ℕ → Bool) (b : ℕ) (o : Owner) → IsOf touched b o → OfWhat touched b o
+of_what touched b (Free g) h = free_block g refl
+of_what touched b Super h = of_inode h.0 h.1 h.2
+of_what touched b (InGroup g) h = of_inode h.0 h.1 h.2
+of_what touched b Nobody h = of_inode h.0 h.1 h.2
+of_what touched b Root h = of_inode h.0 h.1 h.2
+of_what touched b Master h = of_inode h.0 h.1 h.2
+of_what touched b (Named parent name) h = of_inode h.0 h.1 h.2
+of_what touched b (Below d parent k level first) h = of_inode h.0 h.1 h.2
+of_what touched b (Chained d hash place) h = of_inode h.0 h.1 h.2
+
+-- so it is none of an inode that isn't touched
+pub foreign : (touched : ℕ → Bool) (a b : ℕ) (o : Owner) → touched a ≡ false → OfWhat touched b o → inode_of b o ≡ Some a → ⊥
+foreign touched a b o away (free_block g e) f = none_some (sym (ap (inode_of b) e) ∙ f)
+foreign touched a b o away (of_inode x e t) f = not_both away (ap touched (some_same (sym f ∙ e)) ∙ t)
+
+module _ (im im' : Image) (o o' : Owners) (l : Layout) (touched written : ℕ → Bool) (change : IsChange im im' o o' l touched written) where
+  abbrev BecomesHere : ℕ → Type 0
+  BecomesHere b = Becomes touched change.altered written b (o b) (o' b) (im.at b) (im'.at b)
+
+  group_no : (b g a : ℕ) (x : Owner) → x ≡ InGroup g → inode_of b x ≡ Some a → ⊥
+  group_no b g a x e f = none_some (sym (ap (inode_of b) e) ∙ f)
+
+  -- a block of an inode that isn't touched keeps its row and its bytes
+  pub of_untouched : (a b : ℕ) → touched a ≡ false → (inode_of b (o b) ≡ Some a) ⊎ (inode_of b (o' b) ≡ Some a) → (o' b ≡ o b) × (im'.at b ≡ im.at b)
+  of_untouched a b away which = each (change.blocks b) which
+    where
+      each : BecomesHere b → (inode_of b (o b) ≡ Some a) ⊎ (inode_of b (o' b) ≡ Some a) → (o' b ≡ o b) × (im'.at b ≡ im.at b)
+      each (kept e f) w = (e, f)
+      each (another_part x t e f same) (inl h) = absurd (not_both away (ap touched (some_same (sym h ∙ e)) ∙ t))
+      each (another_part x t e f same) (inr h) = absurd (not_both away (ap touched (some_same (sym h ∙ f)) ∙ t))
+      each (of_group g t w e f) (inl h) = absurd (group_no b g a (o b) e h)
+      each (of_group g t w e f) (inr h) = absurd (group_no b g a (o' b) f h)
+      each (changed w h h') (inl k) = absurd (foreign touched a b (o b) away (of_what touched b (o b) h) k)
+      each (changed w h h') (inr k) = absurd (foreign touched a b (o' b) away (of_what touched b (o' b) h') k)
+
   -- an inode that isn't touched has the owner that it had
   pub row_kept : (a : ℕ) → touched a ≡ false → (is_dinode (o a) ≡ true) ⊎ (is_dinode (o' a) ≡ true) → o' a ≡ o a
-  row_kept a away which = each (change.blocks a) which
-    where
-      group_no : (x : Owner) (g : ℕ) → x ≡ InGroup g → is_dinode x ≡ true → ⊥
-      group_no x g e so = true≢false (sym so ∙ ap is_dinode e)
-
-      each : Becomes touched a (o a) (o' a) (im.at a) (im'.at a) → (is_dinode (o a) ≡ true) ⊎ (is_dinode (o' a) ≡ true) → o' a ≡ o a
-      each (kept e f) w = e
-      each (of_group g e f) (inl so) = absurd (group_no (o a) g e so)
-      each (of_group g e f) (inr so) = absurd (group_no (o' a) g f so)
-      each (changed h h') (inl so) = absurd (not_both away (of_dinode touched a (o a) h so))
-      each (changed h h') (inr so) = absurd (not_both away (of_dinode touched a (o' a) h' so))
+  row_kept a away (inl so) = (of_untouched a a away (inl (dinode_its a (o a) so))).0
+  row_kept a away (inr so) = (of_untouched a a away (inr (dinode_its a (o' a) so))).0
 
   pub same_dinode : (a : ℕ) → touched a ≡ false → is_dinode (o' a) ≡ is_dinode (o a)
   same_dinode a away = elim (cases_Bool (is_dinode (o a))) [
@@ -72,14 +104,21 @@ module _ (im im' : Image) (o o' : Owners) (l : Layout) (touched : ℕ → Bool) 
     | inr non ↦ elim (cases_Bool (is_dinode (o' a))) [ inl so ↦ ap is_dinode (row_kept a away (inr so)) | inr none ↦ none ∙ sym non ]
   ]
 
-  same_cell : (a b : ℕ) → touched a ≡ false → cell_in im' o' a b ≡ cell_in im o a b
+  pub same_cell : (a b : ℕ) → touched a ≡ false → cell_in im' o' a b ≡ cell_in im o a b
   unfolding cell_in
   same_cell a b away = each (change.blocks b)
     where
-      each : Becomes touched b (o b) (o' b) (im.at b) (im'.at b) → cell_of (part_in a b (o' b)) (im'.at b) ≡ cell_of (part_in a b (o b)) (im.at b)
+      none : (x : Owner) → (inode_of b x ≡ Some a → ⊥) → (bytes : List ℕ) → cell_of (part_in a b x) bytes ≡ None
+      none x not bytes = ap (λ p. cell_of p bytes) (not_its a b x not)
+
+      both : (inode_of b (o b) ≡ Some a → ⊥) → (inode_of b (o' b) ≡ Some a → ⊥) → cell_of (part_in a b (o' b)) (im'.at b) ≡ cell_of (part_in a b (o b)) (im.at b)
+      both not not' = none (o' b) not' (im'.at b) ∙ sym (none (o b) not (im.at b))
+
+      each : BecomesHere b → cell_of (part_in a b (o' b)) (im'.at b) ≡ cell_of (part_in a b (o b)) (im.at b)
       each (kept e f) = λ i. cell_of (part_in a b (e i)) (f i)
-      each (of_group g e f) = rw (e, f) refl
-      each (changed h h') = rw (foreign touched a b (o b) away h, foreign touched a b (o' b) away h') refl
+      each (another_part x t e f same) = both (λ h. not_both away (ap touched (some_same (sym h ∙ e)) ∙ t)) (λ h. not_both away (ap touched (some_same (sym h ∙ f)) ∙ t))
+      each (of_group g t w e f) = both (group_no b g a (o b) e) (group_no b g a (o' b) f)
+      each (changed w h h') = both (foreign touched a b (o b) away (of_what touched b (o b) h)) (foreign touched a b (o' b) away (of_what touched b (o' b) h'))
 
   -- an inode that isn't touched has what it had
   pub same_holding : (a : ℕ) → touched a ≡ false → holding im' o' a ≡ holding im o a
@@ -99,10 +138,35 @@ module _ (im im' : Image) (o o' : Owners) (l : Layout) (touched : ℕ → Bool) 
   pub within_after : ((b a : ℕ) → IsWithin a (o b) → is_dinode (o a) ≡ true) → (b a : ℕ) → IsWithin a (o' b) → is_dinode (o' a) ≡ true
   within_after before b a h = elim (cases_Bool (touched a)) [
     | inl here ↦ change.within b a here h
-    | inr away ↦ same_dinode a away ∙ before b a (each away (change.blocks b))
+    | inr away ↦ same_dinode a away ∙ before b a (subst (IsWithin a) (of_untouched a b away (inr (within_its b a (o' b) h))).0 h)
   ]
+
+  -- a block that is neither written nor freed has the bytes that it had, and belongs where it belonged
+  pub place_stays : (b : ℕ) → written b ≡ false → (im'.at b ≡ im.at b) × (place_of l o' b ≡ place_of l o b)
+  place_stays b not = each (change.blocks b)
     where
-      each : touched a ≡ false → Becomes touched b (o b) (o' b) (im.at b) (im'.at b) → IsWithin a (o b)
-      each away (kept e f) = subst (IsWithin a) e h
-      each away (of_group g e f) = absurd (subst (IsWithin a) f h)
-      each away (changed k k') = absurd (not_both away (of_within touched b a (o' b) k' h))
+      of_place : (x : Owner) (a : ℕ) → inode_of b x ≡ Some a → (cover l b x ≡ inode_lock l a) × (is_free x ≡ false)
+      of_place Root a e = (ap (lock_in l) e, refl)
+      of_place Master a e = (ap (lock_in l) e, refl)
+      of_place (Named parent name) a e = (ap (lock_in l) e, refl)
+      of_place (Below d parent k level first) a e = (ap (lock_in l) e, refl)
+      of_place (Chained d hash place) a e = (ap (lock_in l) e, refl)
+      of_place Super a e = absurd (none_some e)
+      of_place (InGroup g) a e = absurd (none_some e)
+      of_place (Free g) a e = absurd (none_some e)
+      of_place Nobody a e = absurd (none_some e)
+
+      each : BecomesHere b → (im'.at b ≡ im.at b) × (place_of l o' b ≡ place_of l o b)
+      each (kept e f) = (f, λ i. record { lock = cover l b (e i); free = is_free (e i) })
+      each (another_part a t e f same) =
+          let was = of_place (o b) a e in
+          let now = of_place (o' b) a f in
+          (same, λ i. record { lock = (now.0 ∙ sym was.0) i; free = (now.1 ∙ sym was.1) i })
+      each (of_group g t w e f) = absurd (not_both not w)
+      each (changed w h h') = absurd (not_both not w)
+
+pub untouched_stay : UntouchedStay
+untouched_stay = same_holding
+
+pub others_stay : OthersStay
+others_stay = place_stays

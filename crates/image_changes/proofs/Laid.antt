@@ -1,5 +1,5 @@
 -- The general law: an image that stands, with a change of few blocks that keeps its names, is laid out right.
-use Rattle.std.proofs.Common.{◌≡◌, ℕ, ◌<◌, ◌≤◌, ◌⊎◌, inl, inr, Bool, true, false, List, [], ◌∷◌, length, None, Some, refl, sym, ap, ◌∙◌, subst, arith}
+use Rattle.std.proofs.Common.{◌≡◌, ℕ, ◌<◌, ◌≤◌, ◌⊎◌, inl, inr, Bool, true, false, List, [], ◌∷◌, length, None, Some, refl, sym, ap, ◌∙◌, subst, arith, slice_get, true≢false}
 use Rattle.std.specs.Prelude.{codes}
 use Rattle.std.proofs.lemmas.Bool.{cases_Bool, cases_lt, cond-true, cond-false, eqb-true}
 use Rattle.file_tree.specs.Apply.{file_limit}
@@ -13,19 +13,20 @@ use Rattle.gfs2_layout.specs.Inode.{Head, IsInode, dinode_in, is_directory_in, r
 use Rattle.gfs2_layout.specs.Records.{Record, is_dots}
 use Rattle.image_model.specs.Flat.{Path, Node, no_node, follow}
 use Rattle.image_model.specs.Nodes.{node_of}
-use Rattle.image_model.specs.Groups.{GroupsFit, IsListed, IsDataOf}
+use Rattle.image_model.specs.Groups.{GroupsFit, IsListed, IsDataOf, group_blocks, states_of, IsGroup}
 use Rattle.image_model.specs.Image.{Image, IsImage}
 use Rattle.image_model.specs.Journals.{journal_name, IsJournal}
 use Rattle.image_model.specs.Owners.{Owner, Owners, Super, InGroup, Free, Nobody, Root, Master, Named, Below, Chained, Up, up_of, parent_of, is_dinode, IsUsed, holding}
-use Rattle.image_model.specs.Stands.{Layout, IsSuper, IsZoned, flat_of, heads_of, kind_of, IsRecordOf, HasRecord, LeadsDown, IsDirectory, IsSystem, IsFound, AreShort, IsLaid}
+use Rattle.image_model.specs.Stands.{Layout, IsSuper, IsZoned, flat_of, heads_of, kind_of, IsRecordOf, HasRecord, LeadsDown, IsDirectory, IsSystem, IsFound, AreShort, IsLaid, IsJournalAt}
 use Rattle.image_model.proofs.Held.{none_some, some_same}
 use Rattle.image_model.proofs.Reach.{named_child}
 use Rattle.image_model.proofs.Table.{lies, in_header, in_data, in_none}
-use Rattle.image_changes.specs.Changes.{IsOf, Becomes, kept, of_group, changed, IsChange, KeepsNames}
+use Rattle.image_changes.specs.Changes.{inode_of, IsOf, Becomes, kept, another_part, of_group, changed, IsChange, KeepsNames, JournalsStay}
 use Rattle.image_changes.specs.Flats.{IsNamed}
 use Rattle.image_changes.specs.Laws.{StaysLaid}
 use Rattle.image_changes.proofs.FlatPaths.{one_top, follow_kept, after_some}
-use Rattle.image_changes.proofs.Frame.{row_kept, same_dinode, same_holding, flat_same, head_same, within_after}
+use Rattle.image_changes.proofs.States.{groups_stay}
+use Rattle.image_changes.proofs.Frame.{OfWhat, free_block, of_inode, of_what, of_untouched, row_kept, same_dinode, same_holding, flat_same, head_same, within_after}
 
 -- ---- owners
 
@@ -51,6 +52,16 @@ pub plain_file : (h : Holding) → is_regular (dinode_in h) ≡ true → is_dire
 plain_file h e = elim (cases_Bool (is_directory_in h)) [
   | inr plain ↦ plain
   | inl dir ↦ absurd (omega (arith, eqb-true _ 4 dir, eqb-true _ 8 e))
+]
+
+-- a block is a data block of one group
+pub one_group : (im : Image) (groups : List Rindex) → GroupsFit im groups → (g h : Rindex) (b : ℕ) → IsListed groups g → IsListed groups h → IsDataOf g b → IsDataOf h b → g.address ≡ h.address
+one_group im groups fit g h b at at' is is' = elim (cases_lt at.0 at'.0) [
+  | inl less ↦ absurd (omega (arith, fit.rise at.0 at'.0 g h at.1 at'.1 less, is.high, is'.low, (fit.each h at').first, (fit.each h at').some))
+  | inr more ↦ elim (cases_lt at'.0 at.0) [
+    | inl less ↦ absurd (omega (arith, fit.rise at'.0 at.0 h g at'.1 at.1 less, is'.high, is.low, (fit.each g at).first, (fit.each g at).some))
+    | inr more' ↦ ap (λ (g : Rindex). g.address) (some_same (sym at.1 ∙ ap (slice_get groups) (omega (arith, more, more')) ∙ at'.1))
+  ]
 ]
 
 -- groups fit an image by its size alone
@@ -107,21 +118,65 @@ module _ (im : Image) (o : Owners) (l : Layout) (laid : IsLaid im o l) where
       let s = after_some (λ b. follow (flat_of im o) b q) ((flat_of im o x).child n) a e in
       follow_dinode q s.0 a (row_dinode (o s.0) x n (child_rows x s.0 n s.1).2) s.2
 
-module _ (im im' : Image) (o o' : Owners) (l : Layout) (touched : ℕ → Bool) (laid : IsLaid im o l) (change : IsChange im im' o o' l touched) (names : KeepsNames im im' o o' l touched) where
+module _ (im im' : Image) (o o' : Owners) (l : Layout) (touched written : ℕ → Bool) (laid : IsLaid im o l) (change : IsChange im im' o o' l touched written) (names : KeepsNames im im' o o' l touched) where
   same_flat : (a : ℕ) → touched a ≡ false → flat_of im' o' a ≡ flat_of im o a
-  same_flat = flat_same im im' o o' l touched change
+  same_flat = flat_same im im' o o' l touched written change
 
   same_held : (a : ℕ) → touched a ≡ false → holding im' o' a ≡ holding im o a
-  same_held = same_holding im im' o o' l touched change
+  same_held = same_holding im im' o o' l touched written change
 
   still : (a : ℕ) → touched a ≡ false → is_dinode (o' a) ≡ is_dinode (o a)
-  still = same_dinode im im' o o' l touched change
+  still = same_dinode im im' o o' l touched written change
+
+  -- a block keeps its owner and its bytes where nobody could touch it
+  nobody_touches : (b : ℕ) (x : Owner) → o b ≡ x → (IsOf touched b x → ⊥) → ((a : ℕ) → inode_of b x ≡ Some a → ⊥) → ((g : ℕ) → x ≡ InGroup g → change.altered g ≡ false) → (o' b ≡ x) × (im'.at b ≡ im.at b)
+  nobody_touches b x row not no_inode unaltered = each (change.blocks b)
+    where
+      each : Becomes touched change.altered written b (o b) (o' b) (im.at b) (im'.at b) → (o' b ≡ x) × (im'.at b ≡ im.at b)
+      each (kept e f) = (e ∙ row, f)
+      each (another_part a t e f same) = absurd (no_inode a (ap (inode_of b) (sym row) ∙ e))
+      each (of_group g t w e f) = absurd (true≢false (sym t ∙ unaltered g (sym row ∙ e)))
+      each (changed w h h') = absurd (not (subst (IsOf touched b) row h))
+
+  super_kept : (b : ℕ) → o b ≡ Super → (o' b ≡ Super) × (im'.at b ≡ im.at b)
+  super_kept b row = nobody_touches b Super row (λ h. none_some h.1) (λ a e. none_some e) (λ g e. absurd (no g e))
+    where
+      no : (g : ℕ) → Super ≡ InGroup g → ⊥
+      no g e = cc
+
+  nobody_kept : (b : ℕ) → o b ≡ Nobody → o' b ≡ Nobody
+  nobody_kept b row = (nobody_touches b Nobody row (λ h. none_some h.1) (λ a e. none_some e) (λ g e. absurd (no g e))).0
+    where
+      no : (g : ℕ) → Nobody ≡ InGroup g → ⊥
+      no g e = cc
+
+  -- a group's header and bitmap stay that, and keep their bytes where the group isn't altered
+  header_kept : (b g : ℕ) → o b ≡ InGroup g → o' b ≡ InGroup g
+  header_kept b g row = each (change.blocks b)
+    where
+      each : Becomes touched change.altered written b (o b) (o' b) (im.at b) (im'.at b) → o' b ≡ InGroup g
+      each (kept e f) = e ∙ row
+      each (another_part a t e f same) = absurd (none_some (ap (inode_of b) (sym row) ∙ e))
+      each (of_group x t w e f) = f ∙ sym e ∙ row
+      each (changed w h h') = absurd (none_some (subst (IsOf touched b) row h).1)
+
+  header_bytes : (b g : ℕ) → o b ≡ InGroup g → change.altered g ≡ false → im'.at b ≡ im.at b
+  header_bytes b g row away = (nobody_touches b (InGroup g) row (λ h. none_some h.1) (λ a e. none_some e) (λ x e. ap change.altered (sym (same_group e)) ∙ away)).1
+    where
+      same_group : {x y : ℕ} → InGroup x ≡ InGroup y → x ≡ y
+      same_group e = cc
 
   image_after : IsImage im'
   image_after = record {
     block_size = subst IsBlockSize (sym change.size) laid.image.block_size;
-    whole = λ b low. change.whole b (subst (λ n. b < n) change.count low) ∙ sym change.size;
+    whole = λ b low. whole b (subst (λ n. b < n) change.count low) (change.blocks b) ∙ sym change.size;
   }
+    where
+      whole : (b : ℕ) → b < im.count → Becomes touched change.altered written b (o b) (o' b) (im.at b) (im'.at b) → length (im'.at b) ≡ im.size
+      whole b low (kept e f) = ap length f ∙ laid.image.whole b low
+      whole b low (another_part a t e f same) = ap length same ∙ laid.image.whole b low
+      whole b low (of_group g t w e f) = change.whole b w low
+      whole b low (changed w h h') = change.whole b w low
 
   super_after : IsSuper im' l
   super_after = record {
@@ -131,67 +186,55 @@ module _ (im im' : Image) (o o' : Owners) (l : Layout) (touched : ℕ → Bool) 
     master = ap (λ b. (superblock_of b).master.address) block ∙ laid.super.master;
   }
     where
-      own : (b : ℕ) → o b ≡ Super → im'.at b ≡ im.at b
-      own b row = each (change.blocks b)
-        where
-          no_group : (g : ℕ) → Super ≡ InGroup g → ⊥
-          no_group g e = cc
-
-          each : Becomes touched b (o b) (o' b) (im.at b) (im'.at b) → im'.at b ≡ im.at b
-          each (kept e f) = f
-          each (of_group g e f) = absurd (no_group g (sym row ∙ e))
-          each (changed h h') = absurd (subst (IsOf touched b) row h)
-
       block : im'.at (superblock_place im'.size) ≡ im.at (superblock_place im.size)
-      block = ap (λ n. im'.at (superblock_place n)) change.size ∙ own (superblock_place im.size) (laid.zoned.low (superblock_place im.size) (omega arith))
+      block = ap (λ n. im'.at (superblock_place n)) change.size ∙ (super_kept (superblock_place im.size) (laid.zoned.low (superblock_place im.size) (omega arith))).1
 
   fit_after : GroupsFit im' l.groups
   fit_after = fits_still im im' l.groups change.size change.count laid.fit
 
-  -- ---- zones
+  groups_after : (g : Rindex) → IsListed l.groups g → IsGroup g (group_blocks im'.at g) (states_of o' g)
+  groups_after g at = elim (cases_Bool (change.altered g.address)) [
+    | inl here ↦ change.groups g at here
+    | inr away ↦ groups_stay im im' o o' g (λ b is. header_bytes b g.address (laid.zoned.headers g at b is) away) (λ b is. change.states g b at away is) (laid.groups g at)
+  ]
 
-  no_group_and_of : (b g : ℕ) → o b ≡ InGroup g → IsOf touched b (o b) → ⊥
-  no_group_and_of b g row h = subst (IsOf touched b) row h
+  -- ---- zones
 
   zoned_after : IsZoned im' l o'
   zoned_after = record {
-    low = λ b low. stays b Super (laid.zoned.low b (subst (λ n. b ≤ superblock_place n) change.size low)) (λ h. h);
-    headers = λ g at b is. header b g.address (laid.zoned.headers g at b is);
+    low = λ b low. (super_kept b (laid.zoned.low b (subst (λ n. b ≤ superblock_place n) change.size low))).0;
+    headers = λ g at b is. header_kept b g.address (laid.zoned.headers g at b is);
     data_blocks = λ g at b is. data_block g at b is (laid.zoned.data_blocks g at b is) (change.blocks b);
     placed = λ b used. place b used (change.blocks b);
-    between = λ b high none. stays b Nobody (laid.zoned.between b (subst (λ n. superblock_place n < b) change.size high) none) (λ h. h);
+    between = λ b high none. nobody_kept b (laid.zoned.between b (subst (λ n. superblock_place n < b) change.size high) none);
   }
     where
-      -- an owner that is never touched stays
-      stays : (b : ℕ) (x : Owner) → o b ≡ x → (IsOf touched b x → ⊥) → o' b ≡ x
-      stays b x row non = each (change.blocks b)
-        where
-          each : Becomes touched b (o b) (o' b) (im.at b) (im'.at b) → o' b ≡ x
-          each (kept e f) = e ∙ row
-          each (of_group g e f) = f ∙ sym e ∙ row
-          each (changed h h') = absurd (non (subst (IsOf touched b) row h))
+      its_used : (b a : ℕ) (x : Owner) → inode_of b x ≡ Some a → IsUsed x
+      its_used b a Root e = tt
+      its_used b a Master e = tt
+      its_used b a (Named p name) e = tt
+      its_used b a (Below d p k level first) e = tt
+      its_used b a (Chained d hash place) e = tt
+      its_used b a Super e = absurd (none_some e)
+      its_used b a (InGroup g) e = absurd (none_some e)
+      its_used b a (Free g) e = absurd (none_some e)
+      its_used b a Nobody e = absurd (none_some e)
 
-      header : (b g : ℕ) → o b ≡ InGroup g → o' b ≡ InGroup g
-      header b g row = stays b (InGroup g) row (λ h. h)
-
-      used_of : (g : Rindex) (b : ℕ) → IsListed l.groups g → IsDataOf g b → (x : Owner) → o' b ≡ x → IsOf touched b x → (x ≡ Free g.address) ⊎ IsUsed x
-      used_of g b at is Super row h = elim h [ ]
-      used_of g b at is (InGroup x) row h = elim h [ ]
-      used_of g b at is Nobody row h = elim h [ ]
-      used_of g b at is Master row h = elim h [ ]
-      used_of g b at is (Free x) row h = inl (ap Free (change.freed g b x at is row))
-      used_of g b at is Root row h = inr tt
-      used_of g b at is (Named p name) row h = inr tt
-      used_of g b at is (Below a p k level first) row h = inr tt
-      used_of g b at is (Chained a hash place) row h = inr tt
+      used_of : (g : Rindex) (b : ℕ) → IsListed l.groups g → IsDataOf g b → written b ≡ true → OfWhat touched b (o' b) → (o' b ≡ Free g.address) ⊎ IsUsed (o' b)
+      used_of g b at is w (of_inode a e t) = inr (its_used b a (o' b) e)
+      used_of g b at is w (free_block x e) =
+          let own = change.freed b x w e in
+          inl (e ∙ ap Free (own.3 ∙ one_group im l.groups laid.fit own.0 g b own.1 at own.2 is))
 
       either : {x y : Owner} (g : ℕ) → x ≡ y → (y ≡ Free g) ⊎ IsUsed y → (x ≡ Free g) ⊎ IsUsed x
       either g e (inl f) = inl (e ∙ f)
       either g e (inr u) = inr (subst IsUsed (sym e) u)
 
-      data_block : (g : Rindex) → IsListed l.groups g → (b : ℕ) → IsDataOf g b → (o b ≡ Free g.address) ⊎ IsUsed (o b) → Becomes touched b (o b) (o' b) (im.at b) (im'.at b) → (o' b ≡ Free g.address) ⊎ IsUsed (o' b)
+      data_block : (g : Rindex) → IsListed l.groups g → (b : ℕ) → IsDataOf g b → (o b ≡ Free g.address) ⊎ IsUsed (o b) → Becomes touched change.altered written b (o b) (o' b) (im.at b) (im'.at b)
+          → (o' b ≡ Free g.address) ⊎ IsUsed (o' b)
       data_block g at b is before (kept e f) = either g.address e before
-      data_block g at b is before (of_group x e f) = absurd (no_header before)
+      data_block g at b is before (another_part a t e f same) = inr (its_used b a (o' b) f)
+      data_block g at b is before (of_group x t w e f) = absurd (no_header before)
         where
           no_free : InGroup x ≡ Free g.address → ⊥
           no_free e = cc
@@ -199,15 +242,12 @@ module _ (im im' : Image) (o o' : Owners) (l : Layout) (touched : ℕ → Bool) 
           no_header : (o b ≡ Free g.address) ⊎ IsUsed (o b) → ⊥
           no_header (inl free) = no_free (sym e ∙ free)
           no_header (inr used) = subst IsUsed e used
-      data_block g at b is before (changed h h') = used_of g b at is (o' b) refl h'
+      data_block g at b is before (changed w h h') = used_of g b at is w (of_what touched b (o' b) h')
 
       -- a free block, or one in use, is a group's data block
-      of_placed : (b : ℕ) (x : Owner) → o b ≡ x → IsOf touched b x → (g : Rindex) × IsListed l.groups g × IsDataOf g b
-      of_placed b Super row h = elim h [ ]
-      of_placed b (InGroup x) row h = elim h [ ]
-      of_placed b Nobody row h = elim h [ ]
-      of_placed b Master row h = elim h [ ]
-      of_placed b (Free x) row h = elim (lies l.groups b) [
+      of_placed : (b : ℕ) → OfWhat touched b (o b) → (g : Rindex) × IsListed l.groups g × IsDataOf g b
+      of_placed b (of_inode a e t) = laid.zoned.placed b (its_used b a (o b) e)
+      of_placed b (free_block x row) = elim (lies l.groups b) [
         | in_header g at is ↦ absurd (differ g.address (sym row ∙ laid.zoned.headers g at b is))
         | in_data g at is ↦ (g, at, is)
         | in_none none ↦ elim (cases_lt (superblock_place im.size) b) [
@@ -224,15 +264,12 @@ module _ (im im' : Image) (o o' : Owners) (l : Layout) (touched : ℕ → Bool) 
 
           super : Free x ≡ Super → ⊥
           super e = cc
-      of_placed b Root row h = laid.zoned.placed b (subst IsUsed (sym row) tt)
-      of_placed b (Named p name) row h = laid.zoned.placed b (subst IsUsed (sym row) tt)
-      of_placed b (Below a p k level first) row h = laid.zoned.placed b (subst IsUsed (sym row) tt)
-      of_placed b (Chained a hash place) row h = laid.zoned.placed b (subst IsUsed (sym row) tt)
 
-      place : (b : ℕ) → IsUsed (o' b) → Becomes touched b (o b) (o' b) (im.at b) (im'.at b) → (g : Rindex) × IsListed l.groups g × IsDataOf g b
+      place : (b : ℕ) → IsUsed (o' b) → Becomes touched change.altered written b (o b) (o' b) (im.at b) (im'.at b) → (g : Rindex) × IsListed l.groups g × IsDataOf g b
       place b used (kept e f) = laid.zoned.placed b (subst IsUsed e used)
-      place b used (of_group g e f) = absurd (subst IsUsed f used)
-      place b used (changed h h') = of_placed b (o b) refl h
+      place b used (another_part a t e f same) = laid.zoned.placed b (its_used b a (o b) e)
+      place b used (of_group g t w e f) = absurd (subst IsUsed f used)
+      place b used (changed w h h') = of_placed b (of_what touched b (o b) h)
 
   -- ---- names and directories
 
@@ -251,7 +288,7 @@ module _ (im im' : Image) (o o' : Owners) (l : Layout) (touched : ℕ → Bool) 
 
   true_after : (b : ℕ) (r : Record) → is_dinode (o b) ≡ true → is_dinode (o' b) ≡ true → IsRecordOf (heads_of im o) b r → IsRecordOf (heads_of im' o') b r
   true_after b r so so' is =
-      let same = head_same im im' o o' l touched change b so so' in
+      let same = head_same im im' o o' l touched written change b so so' in
       record { address = is.address; number = is.number ∙ ap (λ (h : Head). h.number) (sym same); kind = is.kind ∙ ap kind_of (sym same) }
 
   has_after : (b : ℕ) (records : List Record) (name : List ℕ) → is_dinode (o b) ≡ true → is_dinode (o' b) ≡ true
@@ -272,7 +309,7 @@ module _ (im im' : Image) (o o' : Owners) (l : Layout) (touched : ℕ → Bool) 
   }
     where
       row : o' a ≡ o a
-      row = row_kept im im' o o' l touched change a away (inl so)
+      row = row_kept im im' o o' l touched written change a away (inl so)
 
       above : (x : Owner) → o a ≡ x → is_dinode x ≡ true → (is_dinode (o (parent_of a x)) ≡ true) × (is_dinode (o' (parent_of a x)) ≡ true)
       above (Named p name) e is = ((child_rows im o l laid p a name (laid.names a (record { parent = p; name = name }) (row_up (o a) p name e))).0, parent_after a p name (row ∙ e))
@@ -339,10 +376,10 @@ module _ (im im' : Image) (o o' : Owners) (l : Layout) (touched : ℕ → Bool) 
       ring j d e = subst IsJournal (sym (same_held d (names.system (codes "jindex" ∷ journal_name j ∷ []) d (rw (laid.system.jindex, e) refl)))) (laid.system.rings j d e)
 
   master_after : o' l.master ≡ Master
-  master_after = row_kept im im' o o' l touched change l.master (names.system [] l.master refl) (inl (ap is_dinode laid.master)) ∙ laid.master
+  master_after = row_kept im im' o o' l touched written change l.master (names.system [] l.master refl) (inl (ap is_dinode laid.master)) ∙ laid.master
 
   root_directory : is_directory_in (holding im' o' l.root) ≡ true
-  root_directory = ap (λ (h : Head). h.is_dir) (head_same im im' o o' l touched change l.root (ap is_dinode laid.root.0) (ap is_dinode names.root)) ∙ laid.root.1
+  root_directory = ap (λ (h : Head). h.is_dir) (head_same im im' o o' l touched written change l.root (ap is_dinode laid.root.0) (ap is_dinode names.root)) ∙ laid.root.1
 
   row_after : (a b : ℕ) (name : List ℕ) → (flat_of im' o' a).child name ≡ Some b → o' b ≡ Named a name
   row_after a b name e = (child_row im' o' directories_after a b name e).2
@@ -373,13 +410,43 @@ module _ (im im' : Image) (o o' : Owners) (l : Layout) (touched : ℕ → Bool) 
       by_path away file (inl way) = laid.short way.0 a way.1 file
       by_path away file (inr way) = absurd (apart_after path way.0 a e (master_way way.0 ∙ way.1))
 
+  -- ---- journals
+
+  journal_untouched : (j d : ℕ) → IsJournalAt l j d → touched d ≡ false
+  journal_untouched j d at = names.system (codes "jindex" ∷ journal_name j ∷ []) d (rw (laid.system.jindex, laid.system.journals j d at) refl)
+
+  pub journals_stay : JournalsStay im im' o o' l
+  journals_stay = record {
+    rings = λ j d at. same_held d (journal_untouched j d at);
+    places = λ b. (
+      λ place. (
+        place.0,
+        place.1,
+        place.2,
+        place.3,
+        place.4,
+        place.5,
+        sym (of_untouched im im' o o' l touched written change place.1 b (journal_untouched place.0 place.1 place.5) (inr (ap (inode_of b) place.6))).0 ∙ place.6,
+      ),
+      λ place. (
+        place.0,
+        place.1,
+        place.2,
+        place.3,
+        place.4,
+        place.5,
+        (of_untouched im im' o o' l touched written change place.1 b (journal_untouched place.0 place.1 place.5) (inl (ap (inode_of b) place.6))).0 ∙ place.6,
+      ),
+    );
+  }
+
   pub laid_after : IsLaid im' o' l
   laid_after = record {
     image = image_after;
     super = super_after;
     fit = fit_after;
     zoned = zoned_after;
-    groups = change.groups;
+    groups = groups_after;
     root = (names.root, root_directory);
     master = master_after;
     inodes = λ a so. elim (cases_Bool (touched a)) [
@@ -387,7 +454,7 @@ module _ (im im' : Image) (o o' : Owners) (l : Layout) (touched : ℕ → Bool) 
       | inr away ↦ subst IsInode (sym (same_held a away)) (laid.inodes a (sym (still a away) ∙ so))
     ];
     directories = directories_after;
-    within = within_after im im' o o' l touched change laid.within;
+    within = within_after im im' o o' l touched written change laid.within;
     names = names_after;
     found = names.found;
     system = system_after;
@@ -395,4 +462,4 @@ module _ (im im' : Image) (o o' : Owners) (l : Layout) (touched : ℕ → Bool) 
   }
 
 pub stays_laid : StaysLaid
-stays_laid = laid_after
+stays_laid im im' o o' l touched written laid change names = (laid_after im im' o o' l touched written laid change names, journals_stay im im' o o' l touched written laid change names)

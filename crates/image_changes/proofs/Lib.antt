@@ -14,3 +14,4 @@ pub mod Layouts
 pub mod FileContent
 pub mod Unminded
 pub mod States
+pub mod Walks

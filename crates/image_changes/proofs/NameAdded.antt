@@ -1,9 +1,9 @@
 -- A directory gets a name, and a new inode: the image stands for the tree with it.
-use Rattle.std.proofs.Common.{◌≡◌, ◌≢◌, ℕ, ◌≤◌, ◌⊎◌, inl, inr, true, false, List, [], ◌∷◌, ◌++◌, None, Some, refl, sym, ap, ◌∙◌, subst, append_assoc, arith}
+use Rattle.std.proofs.Common.{◌≡◌, ◌≢◌, ℕ, ◌≤◌, ◌⊎◌, inl, inr, true, false, List, [], ◌∷◌, ◌++◌, None, Some, refl, sym, ap, ◌∙◌, subst, append_assoc, arith, Bool}
 use Rattle.std.specs.Prelude.{codes, option_and_then, ◌==◌, if◌then◌else◌}
 use Rattle.std.proofs.lemmas.Bool.{cases_Bool, cases_eq, cond-true, cond-false, eq-eqb, ne_eqb, true≢false}
 use Rattle.file_tree.specs.Tree.{Tree, file, dir, none}
-use Rattle.file_tree.specs.Names.{IsName}
+use Rattle.file_tree.specs.Names.{IsName, leads_to}
 use Rattle.file_tree.specs.Apply.{file_limit, put_at}
 use Rattle.gfs2_layout.specs.Holding.{Holding}
 use Rattle.gfs2_layout.specs.Inode.{Head, dinode_in, content_of}
@@ -15,15 +15,15 @@ use Rattle.image_model.specs.Stands.{Layout, flat_of, heads_of, IsRecordOf, HasR
 use Rattle.image_model.proofs.Held.{none_some, some_same}
 use Rattle.image_model.proofs.Members.{IsIn, contained, is_in}
 use Rattle.std.proofs.lemmas.List.Sorted.{IsPermutation-sym, Contains-permutation}
-use Rattle.image_changes.specs.Changes.{KeepsNames}
-use Rattle.image_changes.specs.Flats.{IsNamed, IsBeside, LeadsElsewhere, in_directory}
+use Rattle.image_changes.specs.Changes.{KeepsNames, JournalsStay}
+use Rattle.image_changes.specs.Flats.{IsNamed, LeadsElsewhere, in_directory}
 use Rattle.image_changes.specs.Instances.{StandsBy, IsAt, among, dinode_at, records_at, is_directory_at, IsNew, empty_file, empty_directory, IsNameAdded, NameIsAdded}
-use Rattle.image_changes.proofs.TreePaths.{under, out, split}
+use Rattle.image_changes.proofs.TreePaths.{IsBeside, leads_beside, under, out, split}
 use Rattle.image_changes.proofs.FlatPaths.{follow-append, unreached, name_leads}
 use Rattle.image_changes.proofs.Bare.{bare_lacks, bare_directory}
-use Rattle.image_changes.proofs.Directories.{Lacks, same_has, has_stays, records_go_and_come, child_lacks, lacks_child, child_stays, child_comes, once_more, one_lacks, names_any_order}
+use Rattle.image_changes.proofs.Directories.{Lacks, same_has, has_stays, go_and_come, child_lacks, lacks_child, child_stays, child_comes, once_more, one_lacks, names_any_order}
 use Rattle.image_changes.proofs.Frame.{row_kept, same_dinode, head_same}
-use Rattle.image_changes.proofs.Laid.{root_named, follow_dinode, laid_after, up_row, row_up, row_dinode}
+use Rattle.image_changes.proofs.Laid.{root_named, follow_dinode, laid_after, journals_stay, up_row, row_up, row_dinode}
 use Rattle.image_changes.proofs.Standing.{parent_dinode}
 use Rattle.image_changes.proofs.Nodes.{among_in, not_among, node_none, file_thing, file_child, dir_thing, dir_child, dots_child, plain_name, bare_reads, no_system, master_stays, untouched_flat, rows_kept}
 
@@ -31,8 +31,8 @@ no_content : (h : Holding) → (dinode_in h).size ≡ 0 → content_of h ≡ []
 unfolding content_of
 no_content h e = rw e refl
 
-module _ (im im' : Image) (o o' : Owners) (l : Layout) (p : ℕ) (name : List ℕ) (a : ℕ) (u : Tree) (path : Path) (t : Tree)
-    (stands : StandsBy im o l t) (at : IsAt im o l path p) (is : IsNameAdded im im' o o' l p name a u) where
+module _ (im im' : Image) (o o' : Owners) (l : Layout) (written : ℕ → Bool) (p : ℕ) (name : List ℕ) (a : ℕ) (u : Tree) (path : Path) (t : Tree)
+    (stands : StandsBy im o l t) (at : IsAt im o l path p) (is : IsNameAdded im im' o o' l written p name a u) where
   abbrev ys : List ℕ
   ys = p ∷ (a ∷ [])
 
@@ -44,12 +44,15 @@ module _ (im im' : Image) (o o' : Owners) (l : Layout) (p : ℕ) (name : List �
   dinode : is_dinode (o p) ≡ true
   dinode = follow_dinode im o l stands.laid path l.root p (ap is_dinode stands.laid.root.0) at
 
+  was_none : is_dinode (o a) ≡ false
+  was_none = ap is_dinode is.was_free.1
+
   -- the new inode isn't one that was there
   other : (x : ℕ) → is_dinode (o x) ≡ true → x ≢ a
-  other x so e = true≢false (sym so ∙ ap (λ z. is_dinode (o z)) e ∙ is.was_none)
+  other x so e = true≢false (sym so ∙ ap (λ z. is_dinode (o z)) e ∙ was_none)
 
   whence : (y : ℕ) → IsIn y ys → ((q : Path) × (follow (flat_of im o) l.root q ≡ Some y)) ⊎ (is_dinode (o y) ≡ false)
-  whence y h = elim (which y h) [ inl e ↦ inl (path, at ∙ ap Some (sym e)) | inr e ↦ inr (ap (λ z. is_dinode (o z)) e ∙ is.was_none) ]
+  whence y h = elim (which y h) [ inl e ↦ inl (path, at ∙ ap Some (sym e)) | inr e ↦ inr (ap (λ z. is_dinode (o z)) e ∙ was_none) ]
 
   away : (x : ℕ) → x ≢ p → x ≢ a → IsIn x ys → ⊥
   away x d d' h = elim (which x h) [ inl e ↦ d e | inr e ↦ d' e ]
@@ -58,7 +61,7 @@ module _ (im im' : Image) (o o' : Owners) (l : Layout) (p : ℕ) (name : List �
   row_stays : (x : ℕ) → is_dinode (o x) ≡ true → o' x ≡ o x
   row_stays x so = elim (cases_eq x p) [
     | inl e ↦ subst (λ z. o' z ≡ o z) (sym e) is.parent_row
-    | inr d ↦ row_kept im im' o o' l (among ys) is.change x (not_among ys x (away x d (other x so))) (inl so)
+    | inr d ↦ row_kept im im' o o' l (among ys) written is.change x (not_among ys x (away x d (other x so))) (inl so)
   ]
 
   stays : (x : ℕ) → is_dinode (o x) ≡ true → is_dinode (o' x) ≡ true
@@ -68,11 +71,11 @@ module _ (im im' : Image) (o o' : Owners) (l : Layout) (p : ℕ) (name : List �
   was : (x : ℕ) → x ≢ a → is_dinode (o' x) ≡ true → is_dinode (o x) ≡ true
   was x d so = elim (cases_eq x p) [
     | inl e ↦ ap (λ z. is_dinode (o z)) e ∙ dinode
-    | inr d' ↦ sym (same_dinode im im' o o' l (among ys) is.change x (not_among ys x (away x d' d))) ∙ so
+    | inr d' ↦ sym (same_dinode im im' o o' l (among ys) written is.change x (not_among ys x (away x d' d))) ∙ so
   ]
 
   head_stays : (x : ℕ) → is_dinode (o x) ≡ true → heads_of im' o' x ≡ heads_of im o x
-  head_stays x so = head_same im im' o o' l (among ys) is.change x so (stays x so)
+  head_stays x so = head_same im im' o o' l (among ys) written is.change x so (stays x so)
 
   dinode_a : is_dinode (o' a) ≡ true
   dinode_a = ap is_dinode is.row
@@ -81,7 +84,7 @@ module _ (im im' : Image) (o o' : Owners) (l : Layout) (p : ℕ) (name : List �
   directory' = ap (λ (h : Head). h.is_dir) (head_stays p dinode) ∙ is.directory
 
   others : (x : ℕ) → x ≢ p → x ≢ a → flat_of im' o' x ≡ flat_of im o x
-  others x d d' = untouched_flat im im' o o' l ys stands.laid is.change whence x (away x d d')
+  others x d d' = untouched_flat im im' o o' l ys written stands.laid is.change whence x (away x d d')
 
   -- ---- the parent's records
 
@@ -99,7 +102,7 @@ module _ (im im' : Image) (o o' : Owners) (l : Layout) (p : ℕ) (name : List �
   once' = once_more (records_at im o p) (records_at im' o' p) [] is.entry is.exchanged before.once rest_lacks
 
   parent_directory : IsDirectory (heads_of im' o') o' p (records_at im' o' p) (dinode_at im' o' p)
-  parent_directory = records_go_and_come (heads_of im o) (heads_of im' o') o o' p (records_at im o p) (records_at im' o' p) [] (is.entry ∷ []) (dinode_at im o p) (dinode_at im' o' p)
+  parent_directory = go_and_come (heads_of im o) (heads_of im' o') o o' p (records_at im o p) (records_at im' o' p) [] (is.entry ∷ []) (dinode_at im o p) (dinode_at im' o' p)
       before is.exchanged is.counted
       (has_stays (heads_of im' o') _ _ [] (is.entry ∷ []) (codes ".") p is.exchanged refl (same_has (heads_of im o) (heads_of im' o') _ (codes ".") p (head_stays p dinode) before.dot))
       (subst (λ x. HasRecord (heads_of im' o') (records_at im' o' p) (codes "..") (parent_of p x)) (sym is.parent_row)
@@ -207,10 +210,10 @@ module _ (im im' : Image) (o o' : Owners) (l : Layout) (p : ℕ) (name : List �
         | inr d ↦ (root_named im o l stands.laid).once x b m (ap (λ (n : Node). n.child m) (sym (made_other x d)) ∙ e)
       ]
 
-  leads : ((q : Path) → IsBeside (in_directory path name) q → follow (flat_of im' o') l.root q ≡ follow made l.root q)
+  led : ((q : Path) → leads_to (in_directory path name) q ≡ false → follow (flat_of im' o') l.root q ≡ follow made l.root q)
       × ((q : Path) → follow (flat_of im' o') l.root (in_directory path name ++ q) ≡ follow made a q)
       × ((v : Tree) → ReadsAs made l.root v → ReadsAs (flat_of im' o') l.root (put_at (in_directory path name) u v))
-  leads = name_leads made (flat_of im' o') (λ b. up_of (o b)) l.root p path name a u named ((unreached_at l.root (ap is_dinode stands.laid.root.0)).0 path ∙ at) differs
+  led = name_leads made (flat_of im' o') (λ b. up_of (o b)) l.root p path name a u named ((unreached_at l.root (ap is_dinode stands.laid.root.0)).0 path ∙ at) differs
       (ap (λ (n : Node). n.thing) (made_other p apart) ∙ dir_thing im o p dinode is.directory) is.is_name child_new
       (bare_reads made a u (λ m. ap (λ (n : Node). n.child m) made_there ∙ leaf m) (thing u is.new).0 (ap (λ (n : Node). n.thing) made_there ∙ (thing u is.new).1))
       not_up
@@ -219,13 +222,18 @@ module _ (im im' : Image) (o o' : Owners) (l : Layout) (p : ℕ) (name : List �
       not_up [] e = apart (sym (some_same e))
       not_up (n ∷ q) e = none_some (sym (ap (option_and_then (λ b. follow made b q)) (ap (λ (k : Node). k.child n) made_there ∙ leaf n)) ∙ e)
 
+  leads : ((q : Path) → IsBeside (in_directory path name) q → follow (flat_of im' o') l.root q ≡ follow made l.root q)
+      × ((q : Path) → follow (flat_of im' o') l.root (in_directory path name ++ q) ≡ follow made a q)
+      × ((v : Tree) → ReadsAs made l.root v → ReadsAs (flat_of im' o') l.root (put_at (in_directory path name) u v))
+  leads = (λ q h. led.0 q (leads_beside (in_directory path name) q h), led.1, led.2)
+
   -- ---- what is owed of names
 
   keeps : KeepsNames im im' o o' l (among ys)
   keeps = record {
-    system = no_system im im' o o' l ys stands.laid is.change whence;
+    system = no_system im im' o o' l ys written stands.laid is.change whence;
     root = row_stays l.root (ap is_dinode stands.laid.root.0) ∙ stands.laid.root.0;
-    rows = rows_kept im im' o o' l ys stands.laid is.change whence rows;
+    rows = rows_kept im im' o o' l ys written stands.laid is.change whence rows;
     directories = λ x here so is_dir. directories x (which x (among_in ys x here)) is_dir;
     names = λ x w here e. names x w (which w.parent (among_in ys w.parent here)) e;
     found = λ x so. found x so;
@@ -233,7 +241,7 @@ module _ (im im' : Image) (o o' : Owners) (l : Layout) (p : ℕ) (name : List �
   }
     where
       not_named : (q : ℕ) (n : List ℕ) → o a ≡ Named q n → ⊥
-      not_named q n e = true≢false (sym (row_dinode (o a) q n e) ∙ is.was_none)
+      not_named q n e = true≢false (sym (row_dinode (o a) q n e) ∙ was_none)
 
       parent_is : (q : ℕ) (n : List ℕ) → Named p name ≡ Named q n → q ≡ p
       parent_is q n e = cc
@@ -269,7 +277,7 @@ module _ (im im' : Image) (o o' : Owners) (l : Layout) (p : ℕ) (name : List �
             let up = same_up w (sym (row_up (o' a) p name is.row) ∙ ap (λ z. up_of (o' z)) (sym here) ∙ e) in
             subst (λ q. (flat_of im' o' q).child w.name ≡ Some x) up.0 (subst (λ m. (flat_of im' o' p).child m ≡ Some x) up.1 (child_new ∙ ap Some (sym here)))
         | inr d ↦ elim parent [
-          | inr e' ↦ absurd (none_some (ap (λ (n : Node). n.child w.name) (sym (node_none im o a is.was_none)) ∙ subst (λ z. (flat_of im o z).child w.name ≡ Some x) e' (old_name x w d e)))
+          | inr e' ↦ absurd (none_some (ap (λ (n : Node). n.child w.name) (sym (node_none im o a was_none)) ∙ subst (λ z. (flat_of im o z).child w.name ≡ Some x) e' (old_name x w d e)))
           | inl e' ↦
               let there = subst (λ z. (flat_of im o z).child w.name ≡ Some x) e' (old_name x w d e) in
               subst (λ z. (flat_of im' o' z).child w.name ≡ Some x) (sym e')
@@ -286,7 +294,7 @@ module _ (im im' : Image) (o o' : Owners) (l : Layout) (p : ℕ) (name : List �
       found x so = elim (cases_eq x a) [
         | inl e ↦ inl (in_directory path name ++ [], leads.1 [] ∙ ap Some (sym e))
         | inr d ↦ elim (stands.laid.found x (was x d so)) [
-          | inr way ↦ inr (way.0, master_stays im im' o o' l ys stands.laid is.change whence way.0 ∙ way.1)
+          | inr way ↦ inr (way.0, master_stays im im' o o' l ys written stands.laid is.change whence way.0 ∙ way.1)
           | inl way ↦ elim (split (in_directory path name) way.0) [
             | under r e ↦ absurd (through_none r x (ap (follow (flat_of im o) l.root) (sym e) ∙ way.1))
             | out h ↦ inl (way.0, leads.0 way.0 h ∙ (unreached_at l.root (ap is_dinode stands.laid.root.0)).0 way.0 ∙ way.1)
@@ -302,11 +310,14 @@ module _ (im im' : Image) (o o' : Owners) (l : Layout) (p : ℕ) (name : List �
           of_new (empty_file not' size) = omega (arith, subst (λ z. (dinode_at im' o' z).size ≡ 0) (sym e) size)
           of_new (empty_directory so bare) = absurd (true≢false (sym so ∙ ap (is_directory_at im' o') (sym e) ∙ not))
 
-  pub added_stands : StandsBy im' o' l (put_at (in_directory path name) u t)
-  added_stands = record {
-    laid = laid_after im im' o o' l (among ys) stands.laid is.change keeps;
-    reads = leads.2 t ((unreached_at l.root (ap is_dinode stands.laid.root.0)).1 t stands.reads);
-  }
+  pub added_stands : StandsBy im' o' l (put_at (in_directory path name) u t) × JournalsStay im im' o o' l
+  added_stands = (
+    record {
+      laid = laid_after im im' o o' l (among ys) written stands.laid is.change keeps;
+      reads = leads.2 t ((unreached_at l.root (ap is_dinode stands.laid.root.0)).1 t stands.reads);
+    },
+    journals_stay im im' o o' l (among ys) written stands.laid is.change keeps,
+  )
 
 pub name_is_added : NameIsAdded
 name_is_added = added_stands

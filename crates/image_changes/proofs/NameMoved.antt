@@ -1,18 +1,17 @@
 -- A name is moved, and what stood at the target is no more: the image stands for the tree with what was below the old name at the new one.
-use Rattle.std.proofs.Common.{◌≡◌, ◌≢◌, ℕ, ◌≤◌, ◌⊎◌, inl, inr, true, false, List, [], ◌∷◌, ◌++◌, length, None, Some, refl, sym, ap, ◌∙◌, subst, append_assoc, length-append, arith}
+use Rattle.std.proofs.Common.{◌≡◌, ◌≢◌, ℕ, ◌≤◌, ◌⊎◌, inl, inr, true, false, List, [], ◌∷◌, ◌++◌, length, None, Some, refl, sym, ap, ◌∙◌, subst, append_assoc, length-append, arith, Bool}
 use Rattle.std.specs.Prelude.{codes, Contains, option_and_then}
 use Rattle.std.specs.Str.{bytes_eq}
 use Rattle.std.proofs.lemmas.Bool.{cases_Bool, cases_eq, cond-true, true≢false}
 use Rattle.std.proofs.lemmas.List.Sorted.{IsPermutation-sym, Contains-permutation}
 use Rattle.std.specs.List.Sorted.{IsPermutation}
 use Rattle.file_tree.specs.Tree.{Tree, file, dir, look, IsTree}
-use Rattle.file_tree.specs.Names.{IsName}
+use Rattle.file_tree.specs.Names.{IsName, leads_to}
 use Rattle.file_tree.specs.Apply.{file_limit, put_at, remove_at}
-use Rattle.gfs2_layout.specs.Inode.{Head, dinode_in, records_of}
+use Rattle.gfs2_layout.specs.Inode.{Head}
 use Rattle.gfs2_layout.specs.Structures.{is_regular}
 use Rattle.gfs2_layout.specs.Records.{Record, is_dots, child_named}
-use Rattle.image_model.specs.Flat.{Path, Node, Flat, thing_in, child_in, tree_at, thing_at, thing_from, follow, ReadsAs}
-use Rattle.image_model.specs.Nodes.{node_of}
+use Rattle.image_model.specs.Flat.{Path, Node, Flat, thing_in, child_in, tree_at, thing_at, thing_from, follow, ReadsAs, AFile}
 use Rattle.image_model.specs.Image.{Image}
 use Rattle.image_model.specs.Owners.{Owners, Named, Up, up_of, parent_of, is_dinode}
 use Rattle.image_model.specs.Stands.{Layout, flat_of, heads_of, IsRecordOf, HasRecord, LeadsDown, IsDirectory, IsFound, name_count}
@@ -20,28 +19,28 @@ use Rattle.image_model.proofs.Counts.{count_some}
 use Rattle.image_model.proofs.Held.{none_some, some_same}
 use Rattle.image_model.proofs.Members.{IsIn, contained, is_in, in_right}
 use Rattle.image_model.proofs.Trees.{same_or_not}
-use Rattle.image_changes.specs.Changes.{KeepsNames}
+use Rattle.image_changes.specs.Changes.{KeepsNames, JournalsStay}
 use Rattle.image_changes.specs.Directories.{IsExchanged, IsCounted}
-use Rattle.image_changes.specs.Flats.{IsBeside, IsNamed, in_directory}
-use Rattle.image_changes.specs.Instances.{StandsBy, IsAt, among, dinode_at, records_at, is_directory_at, IsChildless, IsTarget, absent, replaced, IsRecordMoved, within, between, IsItself, as_before, turned, IsNameMoved, NameIsMoved}
-use Rattle.image_changes.proofs.TreePaths.{under, out, split, beside_above, not_beside_self, not_beside_under, child_is_tree}
+use Rattle.image_changes.specs.Flats.{IsNamed, in_directory}
+use Rattle.image_changes.specs.Instances.{StandsBy, IsAt, among, dinode_at, records_at, is_directory_at, IsChildless, IsTarget, absent, replaced, IsRecordMoved, within, between, IsItself, SaysTheSame, as_before, reparented, IsNameMoved, NameIsMoved}
+use Rattle.image_changes.proofs.TreePaths.{IsBeside, beside_path, leads_beside, beside_shorter, under, out, split, beside_above, not_beside_self, not_beside_under, child_is_tree}
 use Rattle.image_changes.proofs.FlatPaths.{after_some, after_same, one_path, follow-append, follow_kept, unreached, name_gone, name_leads}
 use Rattle.image_changes.proofs.Bare.{not_dots}
-use Rattle.image_changes.proofs.Directories.{Lacks, named_itself, same_has, has_stays, looks_at_names, records_go_and_come, child_lacks, child_stays, child_goes, child_comes, once_more, once_less, one_lacks, names_any_order, names_append, names_cons}
+use Rattle.image_changes.proofs.Directories.{Lacks, named_itself, same_has, has_stays, go_and_come, child_lacks, child_stays, child_goes, child_comes, once_more, once_less, one_lacks, names_any_order, names_append, names_cons}
 use Rattle.image_changes.proofs.Frame.{row_kept, same_dinode, head_same}
-use Rattle.image_changes.proofs.Laid.{root_named, child_rows, follow_dinode, laid_after, up_row, row_up, row_dinode}
+use Rattle.image_changes.proofs.Laid.{root_named, child_rows, follow_dinode, laid_after, journals_stay, up_row, row_up, row_dinode}
 use Rattle.image_changes.proofs.Standing.{has_child_directory, childless, parent_dinode, parent_has, not_own_child, rest_differs}
-use Rattle.image_changes.proofs.Nodes.{among_in, in_among, not_among, node_there, dir_thing, dir_child, dots_child, plain_name, leading, leading_other, leads_elsewhere, leads_there, no_system, master_stays, untouched_flat, rows_kept}
+use Rattle.image_changes.proofs.Nodes.{among_in, in_among, not_among, file_thing, dir_thing, dir_child, dots_child, plain_name, leading, leading_other, leads_elsewhere, leads_there, no_system, master_stays, untouched_flat, rows_kept, file_child}
 
 -- ---- trees and paths
 
-tree_below : (t u : Tree) (p r : Path) → tree_at t p ≡ Some u → tree_at t (p ++ r) ≡ tree_at u r
+pub tree_below : (t u : Tree) (p r : Path) → tree_at t p ≡ Some u → tree_at t (p ++ r) ≡ tree_at u r
 tree_below t u [] r e = ap (λ z. tree_at z r) (some_same e)
 tree_below t u (n ∷ p) r e =
     let s = after_some (λ v. tree_at v p) (child_in t n) u e in
     ap (option_and_then (λ v. tree_at v (p ++ r))) s.1 ∙ tree_below s.0 u p r s.2
 
-below_is_tree : (t u : Tree) (p : Path) → IsTree t → tree_at t p ≡ Some u → IsTree u
+pub below_is_tree : (t u : Tree) (p : Path) → IsTree t → tree_at t p ≡ Some u → IsTree u
 below_is_tree t u [] is e = subst IsTree (some_same e) is
 below_is_tree (file bytes) u (n ∷ p) is e = absurd (none_some e)
 below_is_tree (dir es) u (n ∷ p) is e =
@@ -106,11 +105,20 @@ module _ (im : Image) (o o' : Owners) (q : ℕ) (name : List ℕ) where
     count_some (λ s. bytes_eq name s.name) r went (there r (inl refl)) (subst (λ m. bytes_eq name m ≡ true) (sym named) (named_itself name)),
   )
 
-module _ (im im' : Image) (o o' : Owners) (l : Layout) (p : ℕ) (name : List ℕ) (q : ℕ) (name' : List ℕ) (a : ℕ) (path path' : Path) (t u : Tree)
+module _ (im im' : Image) (o o' : Owners) (l : Layout) (written : ℕ → Bool) (p : ℕ) (name : List ℕ) (q : ℕ) (name' : List ℕ) (a : ℕ) (path path' : Path) (t u : Tree)
     (stands : StandsBy im o l t) (at : IsAt im o l path p) (at' : IsAt im o l path' q) (sub : tree_at t (in_directory path name) ≡ Some u)
-    (beside : IsBeside (in_directory path name) path') (differ : in_directory path name ≢ in_directory path' name') (is : IsNameMoved im im' o o' l p name q name' a) where
+    (inside : leads_to (in_directory path name) (in_directory path' name') ≡ false) (is : IsNameMoved im im' o o' l written p name q name' a) where
   abbrev ys : List ℕ
   ys = p ∷ (q ∷ (a ∷ is.removed))
+
+  beside_target : IsBeside (in_directory path name) (in_directory path' name')
+  beside_target = beside_path (in_directory path name) (in_directory path' name') inside
+
+  beside : IsBeside (in_directory path name) path'
+  beside = beside_shorter (in_directory path name) path' (name' ∷ []) beside_target
+
+  differ : in_directory path name ≢ in_directory path' name'
+  differ e = not_beside_self (in_directory path name) (subst (IsBeside (in_directory path name)) (sym e) beside_target)
 
   one : (s r : Path) (x : ℕ) → IsAt im o l s x → IsAt im o l r x → s ≡ r
   one s r x e f = one_path (flat_of im o) (λ b. up_of (o b)) l.root (root_named im o l stands.laid) s r x e f
@@ -201,7 +209,7 @@ module _ (im im' : Image) (o o' : Owners) (l : Layout) (p : ℕ) (name : List �
     | inl e ↦ subst (λ z. o' z ≡ o z) (sym e) is.from_row
     | inr dp ↦ elim (cases_eq x q) [
       | inl e ↦ subst (λ z. o' z ≡ o z) (sym e) is.to_row
-      | inr dq ↦ row_kept im im' o o' l (among ys) is.change x (not_among ys x (away x dp dq d not)) (inl so)
+      | inr dq ↦ row_kept im im' o o' l (among ys) written is.change x (not_among ys x (away x dp dq d not)) (inl so)
     ]
   ]
 
@@ -218,13 +226,13 @@ module _ (im im' : Image) (o o' : Owners) (l : Layout) (p : ℕ) (name : List �
       | inl e ↦ ap (λ z. is_dinode (o z)) e ∙ dinode_q
       | inr dq ↦ elim (cases_eq x a) [
         | inl e ↦ ap (λ z. is_dinode (o z)) e ∙ dinode_a
-        | inr d ↦ sym (same_dinode im im' o o' l (among ys) is.change x (not_among ys x (away x dp dq d (not_gone x so)))) ∙ so
+        | inr d ↦ sym (same_dinode im im' o o' l (among ys) written is.change x (not_among ys x (away x dp dq d (not_gone x so)))) ∙ so
       ]
     ]
   ]
 
   head_stays : (x : ℕ) → is_dinode (o x) ≡ true → (IsIn x is.removed → ⊥) → heads_of im' o' x ≡ heads_of im o x
-  head_stays x so not = head_same im im' o o' l (among ys) is.change x so (stays x so not)
+  head_stays x so not = head_same im im' o o' l (among ys) written is.change x so (stays x so not)
 
   directory_p' : is_directory_at im' o' p ≡ true
   directory_p' = ap (λ (h : Head). h.is_dir) (head_stays p dinode_p p_not_gone) ∙ directory_p
@@ -233,7 +241,7 @@ module _ (im im' : Image) (o o' : Owners) (l : Layout) (p : ℕ) (name : List �
   directory_q' = ap (λ (h : Head). h.is_dir) (head_stays q dinode_q q_not_gone) ∙ is.directory
 
   others : (x : ℕ) → x ≢ p → x ≢ q → x ≢ a → (IsIn x is.removed → ⊥) → flat_of im' o' x ≡ flat_of im o x
-  others x d d' d'' not = untouched_flat im im' o o' l ys stands.laid is.change whence x (away x d d' d'' not)
+  others x d d' d'' not = untouched_flat im im' o o' l ys written stands.laid is.change whence x (away x d d' d'' not)
 
   -- ---- directories
 
@@ -262,7 +270,7 @@ module _ (im im' : Image) (o o' : Owners) (l : Layout) (p : ℕ) (name : List �
       → ((r : Record) → IsIn r exchanged.rest → (x ≡ p → r.name ≢ name) × (x ≡ q → r.name ≢ name'))
       → IsDirectory (heads_of im' o') o' x (records_at im' o' x) (dinode_at im' o' x)
   directory_after x dinode so row not gone come exchanged counted no_dot no_dots once' down apart =
-      records_go_and_come (heads_of im o) (heads_of im' o') o o' x (records_at im o x) (records_at im' o' x) gone come (dinode_at im o x) (dinode_at im' o' x)
+      go_and_come (heads_of im o) (heads_of im' o') o o' x (records_at im o x) (records_at im' o' x) gone come (dinode_at im o x) (dinode_at im' o' x)
       (before x dinode so) exchanged counted
       (has_stays (heads_of im' o') _ _ gone come (codes ".") x exchanged no_dot (same_has (heads_of im o) (heads_of im' o') _ (codes ".") x (head_stays x dinode not) (before x dinode so).dot))
       (subst (λ y. HasRecord (heads_of im' o') (records_at im' o' x) (codes "..") (parent_of x y)) (sym row)
@@ -422,11 +430,20 @@ module _ (im im' : Image) (o o' : Owners) (l : Layout) (p : ℕ) (name : List �
       parent_was = ap (parent_of a) is.row
 
       each : IsItself im im' o o' p q a → IsDirectory (heads_of im' o') o' a (records_at im' o' a) (dinode_at im' o' a)
-      each (as_before only same) = subst (λ h. IsDirectory (heads_of im' o') o' a (records_of h) (dinode_in h)) (sym same)
-          (looks_at_names (heads_of im o) (heads_of im' o') o o' a (records_at im o a) (dinode_at im o a) (head_stays a dinode_a a_not_gone) (parent_now ∙ sym (only so) ∙ sym parent_was)
-          (subst (λ x. heads_of im' o' x ≡ heads_of im o x) (sym parent_was) (head_stays p dinode_p p_not_gone)) (λ r at plain. own_names r plain at so) (before a dinode_a so))
-      each (turned old new is_dir exchanged counted old_named new_named true_of) =
-          records_go_and_come (heads_of im o) (heads_of im' o') o o' a (records_at im o a) (records_at im' o' a) (old ∷ []) (new ∷ []) (dinode_at im o a) (dinode_at im' o' a)
+      each (as_before only same) =
+          let exchanged = same.records so in
+          let lack : (m : List ℕ) → Lacks [] m = λ m. refl in
+          go_and_come (heads_of im o) (heads_of im' o') o o' a (records_at im o a) (records_at im' o' a) [] [] (dinode_at im o a) (dinode_at im' o' a)
+          (before a dinode_a so) exchanged (same.counted so)
+          (has_stays (heads_of im' o') _ _ [] [] (codes ".") a exchanged (lack (codes ".")) (same_has (heads_of im o) (heads_of im' o') _ (codes ".") a (head_stays a dinode_a a_not_gone) (before a dinode_a so).dot))
+          (subst (λ x. HasRecord (heads_of im' o') (records_at im' o' a) (codes "..") x) (parent_was ∙ only so ∙ sym parent_now)
+          (has_stays (heads_of im' o') _ _ [] [] (codes "..") (parent_of a (o a)) exchanged (lack (codes ".."))
+          (same_has (heads_of im o) (heads_of im' o') _ (codes "..") (parent_of a (o a)) (subst (λ x. heads_of im' o' x ≡ heads_of im o x) (sym parent_was) (head_stays p dinode_p p_not_gone)) (before a dinode_a so).dots)))
+          (once_less (records_at im o a) (records_at im' o' a) [] exchanged (before a dinode_a so).once)
+          (λ r at plain. absurd (is_in r [] at))
+          (λ r at plain. own_names r plain (Contains-permutation exchanged.rest (records_at im o a) r (IsPermutation-sym _ _ exchanged.before) at) so)
+      each (reparented old new is_dir exchanged counted old_named new_named true_of) =
+          go_and_come (heads_of im o) (heads_of im' o') o o' a (records_at im o a) (records_at im' o' a) (old ∷ []) (new ∷ []) (dinode_at im o a) (dinode_at im' o' a)
           (before a dinode_a so) exchanged counted
           (has_stays (heads_of im' o') _ _ (old ∷ []) (new ∷ []) (codes ".") a exchanged (one_lacks old (codes ".") (λ e. dots_apart (e ∙ old_named)))
           (same_has (heads_of im o) (heads_of im' o') _ (codes ".") a (head_stays a dinode_a a_not_gone) (before a dinode_a so).dot))
@@ -457,30 +474,37 @@ module _ (im im' : Image) (o o' : Owners) (l : Layout) (p : ℕ) (name : List �
           come r plain (inl e) = true≢false (sym (ap is_dots (ap (λ (s : Record). s.name) e ∙ new_named)) ∙ plain)
           come r plain (inr h) = h
 
+  -- where no name of the directory goes or comes, each leads where it led
+  child_stays_at : (so : is_directory_at im o a ≡ true) (gone come : List Record) → IsExchanged (records_at im o a) (records_at im' o' a) gone come
+      → ((m : List ℕ) → is_dots m ≡ false → Lacks gone m × Lacks come m) → (m : List ℕ) → (flat_of im' o' a).child m ≡ (flat_of im o a).child m
+  child_stays_at so gone come exchanged lack m = elim (cases_Bool (is_dots m)) [
+    | inl dots ↦ dots_child im' o' a dinode_a' (same_kind ∙ so) m dots ∙ sym (dots_child im o a dinode_a so m dots)
+    | inr plain ↦ dir_child im' o' a dinode_a' (same_kind ∙ so) m plain
+        ∙ child_stays (records_at im o a) (records_at im' o' a) gone come exchanged (before a dinode_a so).once (itself_directory so).once m (lack m plain).0 (lack m plain).1
+        ∙ sym (dir_child im o a dinode_a so m plain)
+  ]
+
+  file_same : is_directory_at im o a ≡ false → SaysTheSame im im' o o' a → flat_of im' o' a ≡ flat_of im o a
+  file_same not same = λ i. record {
+    thing = (file_thing im' o' a dinode_a' (same_kind ∙ not) ∙ ap AFile (same.content not) ∙ sym (file_thing im o a dinode_a not)) i;
+    child = λ m. (file_child im' o' a dinode_a' (same_kind ∙ not) m ∙ sym (file_child im o a dinode_a not m)) i;
+  }
+
   itself_flat : flat_of im' o' a ≡ flat_of im o a
   itself_flat = each is.itself
     where
       each : IsItself im im' o o' p q a → flat_of im' o' a ≡ flat_of im o a
-      each (as_before only same) = node_there im' o' a dinode_a' ∙ ap node_of same ∙ sym (node_there im o a dinode_a)
-      each (turned old new so exchanged counted old_named new_named true_of) = λ i. record { thing = thing_same i; child = λ m. child_same m i }
+      each (as_before only same) = elim (cases_Bool (is_directory_at im o a)) [
+        | inr not ↦ file_same not same
+        | inl so ↦ λ i. record { thing = (dir_thing im' o' a dinode_a' (same_kind ∙ so) ∙ sym (dir_thing im o a dinode_a so)) i; child = λ m. child_stays_at so [] [] (same.records so) (λ m plain. (refl, refl)) m i }
+      ]
+      each (reparented old new so exchanged counted old_named new_named true_of) = λ i. record {
+        thing = (dir_thing im' o' a dinode_a' (same_kind ∙ so) ∙ sym (dir_thing im o a dinode_a so)) i;
+        child = λ m. child_stays_at so (old ∷ []) (new ∷ []) exchanged (λ m plain. (one_lacks old m (not_dotdot m plain old old_named), one_lacks new m (not_dotdot m plain new new_named))) m i;
+      }
         where
-          so' : is_directory_at im' o' a ≡ true
-          so' = same_kind ∙ so
-
-          thing_same : (flat_of im' o' a).thing ≡ (flat_of im o a).thing
-          thing_same = dir_thing im' o' a dinode_a' so' ∙ sym (dir_thing im o a dinode_a so)
-
           not_dotdot : (m : List ℕ) → is_dots m ≡ false → (r : Record) → r.name ≡ codes ".." → m ≢ r.name
           not_dotdot m plain r named e = (not_dots m plain).1 (e ∙ named)
-
-          child_same : (m : List ℕ) → (flat_of im' o' a).child m ≡ (flat_of im o a).child m
-          child_same m = elim (cases_Bool (is_dots m)) [
-            | inl dots ↦ dots_child im' o' a dinode_a' so' m dots ∙ sym (dots_child im o a dinode_a so m dots)
-            | inr plain ↦ dir_child im' o' a dinode_a' so' m plain
-                ∙ child_stays (records_at im o a) (records_at im' o' a) (old ∷ []) (new ∷ []) exchanged (before a dinode_a so).once (itself_directory so).once m
-                (one_lacks old m (not_dotdot m plain old old_named)) (one_lacks new m (not_dotdot m plain new new_named))
-                ∙ sym (dir_child im o a dinode_a so m plain)
-          ]
 
   -- ---- the flat volumes: the old name is gone, then the new one leads to the inode, and then the target is no more
 
@@ -496,10 +520,14 @@ module _ (im im' : Image) (o o' : Owners) (l : Layout) (p : ℕ) (name : List �
   more : (x : ℕ) (m : List ℕ) → (x ≢ q) ⊎ (m ≢ name') → (renamed x).child m ≡ (unnamed x).child m
   more = (leads_elsewhere unnamed q name' (Some a)).others
 
+  went : ((r : Path) → leads_to (in_directory path name) r ≡ false → follow unnamed l.root r ≡ follow (flat_of im o) l.root r)
+      × ((v : Tree) → ReadsAs (flat_of im o) l.root v → ReadsAs unnamed l.root (remove_at (in_directory path name) v))
+  went = name_gone (flat_of im o) unnamed (λ b. up_of (o b)) l.root p path name (root_named im o l stands.laid) at (leads_elsewhere (flat_of im o) p name None)
+      (dir_thing im o p dinode_p directory_p) (leads_there (flat_of im o) p name None)
+
   gone : ((r : Path) → IsBeside (in_directory path name) r → follow unnamed l.root r ≡ follow (flat_of im o) l.root r)
       × ((v : Tree) → ReadsAs (flat_of im o) l.root v → ReadsAs unnamed l.root (remove_at (in_directory path name) v))
-  gone = name_gone (flat_of im o) unnamed (λ b. up_of (o b)) l.root p path name (root_named im o l stands.laid) at (leads_elsewhere (flat_of im o) p name None)
-      (dir_thing im o p dinode_p directory_p) (leads_there (flat_of im o) p name None)
+  gone = (λ r h. went.0 r (leads_beside (in_directory path name) r h), went.1)
 
   not_under : (r : Path) → follow unnamed l.root (in_directory path name ++ r) ≡ None
   not_under r = ap (follow unnamed l.root) (append_assoc path (name ∷ []) r)
@@ -545,12 +573,17 @@ module _ (im im' : Image) (o o' : Owners) (l : Layout) (p : ℕ) (name : List �
         ]
       ]
 
+  led : ((r : Path) → leads_to (in_directory path' name') r ≡ false → follow renamed l.root r ≡ follow unnamed l.root r)
+      × ((r : Path) → follow renamed l.root (in_directory path' name' ++ r) ≡ follow unnamed a r)
+      × ((v : Tree) → ReadsAs unnamed l.root v → ReadsAs renamed l.root (put_at (in_directory path' name') u v))
+  led = name_leads unnamed renamed (λ b. up_of (o b)) l.root q path' name' a u unnamed_named (gone.0 path' beside ∙ at') (leads_elsewhere unnamed q name' (Some a))
+      ((leads_elsewhere (flat_of im o) p name None).things q ∙ dir_thing im o q dinode_q is.directory) is.is_name (leads_there unnamed q name' (Some a)) subtree
+      (λ r e. below_not_q r (sym (below_same r) ∙ e))
+
   leads : ((r : Path) → IsBeside (in_directory path' name') r → follow renamed l.root r ≡ follow unnamed l.root r)
       × ((r : Path) → follow renamed l.root (in_directory path' name' ++ r) ≡ follow unnamed a r)
       × ((v : Tree) → ReadsAs unnamed l.root v → ReadsAs renamed l.root (put_at (in_directory path' name') u v))
-  leads = name_leads unnamed renamed (λ b. up_of (o b)) l.root q path' name' a u unnamed_named (gone.0 path' beside ∙ at') (leads_elsewhere unnamed q name' (Some a))
-      ((leads_elsewhere (flat_of im o) p name None).things q ∙ dir_thing im o q dinode_q is.directory) is.is_name (leads_there unnamed q name' (Some a)) subtree
-      (λ r e. below_not_q r (sym (below_same r) ∙ e))
+  leads = (λ r h. led.0 r (leads_beside (in_directory path' name') r h), led.1, led.2)
 
   -- no path leads to what was removed
   far : (c : ℕ) → IsIn c is.removed → (r : Path) → follow renamed l.root r ≢ Some c
@@ -645,9 +678,9 @@ module _ (im im' : Image) (o o' : Owners) (l : Layout) (p : ℕ) (name : List �
 
   keeps : KeepsNames im im' o o' l (among ys)
   keeps = record {
-    system = no_system im im' o o' l ys stands.laid is.change whence;
+    system = no_system im im' o o' l ys written stands.laid is.change whence;
     root = row_stays l.root (ap is_dinode stands.laid.root.0) root_not_a root_not_gone ∙ stands.laid.root.0;
-    rows = rows_kept im im' o o' l ys stands.laid is.change whence rows;
+    rows = rows_kept im im' o o' l ys written stands.laid is.change whence rows;
     directories = λ x here so is_dir. directories x (among_in ys x here) so is_dir;
     names = λ x w here e. names x w e;
     found = λ x so. found x so;
@@ -728,7 +761,7 @@ module _ (im im' : Image) (o o' : Owners) (l : Layout) (p : ℕ) (name : List �
 
       found : (x : ℕ) → is_dinode (o' x) ≡ true → IsFound (flat_of im' o') l x
       found x so = elim (stands.laid.found x (was x so)) [
-        | inr way ↦ inr (way.0, master_stays im im' o o' l ys stands.laid is.change whence way.0 ∙ way.1)
+        | inr way ↦ inr (way.0, master_stays im im' o o' l ys written stands.laid is.change whence way.0 ∙ way.1)
         | inl way ↦ elim (split (in_directory path name) way.0) [
           | under s e ↦
               let below : follow (flat_of im o) a s ≡ Some x = sym (follow-append (flat_of im o) (in_directory path name) s l.root a to_a) ∙ ap (follow (flat_of im o) l.root) (sym e) ∙ way.1 in
@@ -766,14 +799,17 @@ module _ (im im' : Image) (o o' : Owners) (l : Layout) (p : ℕ) (name : List �
           regular (inr e) = e
 
           each : IsItself im im' o o' p q a → (dinode_at im' o' a).size ≤ file_limit
-          each (as_before only same) = subst (λ h. (dinode_in h).size ≤ file_limit) (sym same) (stands.laid.short (in_directory path name) a to_a (regular (stands.laid.inodes a dinode_a).mode))
-          each (turned old new so exchanged counted old_named new_named true_of) = absurd (true≢false (sym so ∙ plain_a))
+          each (as_before only same) = subst (λ n. n ≤ file_limit) (sym (same.size plain_a)) (stands.laid.short (in_directory path name) a to_a (regular (stands.laid.inodes a dinode_a).mode))
+          each (reparented old new so exchanged counted old_named new_named true_of) = absurd (true≢false (sym so ∙ plain_a))
 
-  pub moved_stands : StandsBy im' o' l (put_at (in_directory path' name') u (remove_at (in_directory path name) t))
-  moved_stands = record {
-    laid = laid_after im im' o o' l (among ys) stands.laid is.change keeps;
-    reads = left.1 _ (leads.2 _ (gone.1 t stands.reads));
-  }
+  pub moved_stands : StandsBy im' o' l (put_at (in_directory path' name') u (remove_at (in_directory path name) t)) × JournalsStay im im' o o' l
+  moved_stands = (
+    record {
+      laid = laid_after im im' o o' l (among ys) written stands.laid is.change keeps;
+      reads = left.1 _ (leads.2 _ (gone.1 t stands.reads));
+    },
+    journals_stay im im' o o' l (among ys) written stands.laid is.change keeps,
+  )
 
 pub name_is_moved : NameIsMoved
 name_is_moved = moved_stands

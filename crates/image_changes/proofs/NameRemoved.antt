@@ -1,9 +1,10 @@
 -- A directory loses a name, and the inode that it named is no more: the image stands for the tree without it.
-use Rattle.std.proofs.Common.{◌≡◌, ◌≢◌, ℕ, ◌≤◌, ◌⊎◌, inl, inr, true, false, List, [], ◌∷◌, ◌++◌, None, Some, refl, sym, ap, ◌∙◌, subst, append_assoc}
+use Rattle.std.proofs.Common.{◌≡◌, ◌≢◌, ℕ, ◌≤◌, ◌⊎◌, inl, inr, true, false, List, [], ◌∷◌, ◌++◌, None, Some, refl, sym, ap, ◌∙◌, subst, append_assoc, Bool}
 use Rattle.std.specs.Prelude.{codes, option_and_then}
 use Rattle.std.proofs.lemmas.Bool.{cases_Bool, cases_eq, true≢false}
 use Rattle.std.proofs.lemmas.List.Sorted.{IsPermutation-sym, Contains-permutation}
 use Rattle.file_tree.specs.Tree.{Tree}
+use Rattle.file_tree.specs.Names.{leads_to}
 use Rattle.file_tree.specs.Apply.{remove_at}
 use Rattle.gfs2_layout.specs.Inode.{Head}
 use Rattle.gfs2_layout.specs.Records.{Record, is_dots, child_named}
@@ -14,20 +15,20 @@ use Rattle.image_model.specs.Stands.{Layout, flat_of, heads_of, HasRecord, IsDir
 use Rattle.image_model.proofs.Held.{none_some, some_same}
 use Rattle.image_model.proofs.Members.{IsIn, contained, is_in}
 use Rattle.image_model.proofs.Trees.{same_or_not}
-use Rattle.image_changes.specs.Changes.{KeepsNames}
-use Rattle.image_changes.specs.Flats.{IsBeside, SameBut, in_directory}
+use Rattle.image_changes.specs.Changes.{KeepsNames, JournalsStay}
+use Rattle.image_changes.specs.Flats.{SameBut, in_directory}
 use Rattle.image_changes.specs.Instances.{StandsBy, IsAt, among, dinode_at, records_at, is_directory_at, IsNameRemoved, NameIsRemoved}
-use Rattle.image_changes.proofs.TreePaths.{under, out, split, beside_above, not_beside_self}
+use Rattle.image_changes.proofs.TreePaths.{IsBeside, leads_beside, under, out, split, beside_above, not_beside_self}
 use Rattle.image_changes.proofs.FlatPaths.{one_path, follow-append, unreached, name_gone}
 use Rattle.image_changes.proofs.Bare.{not_dots}
-use Rattle.image_changes.proofs.Directories.{same_has, has_stays, records_go_and_come, child_stays, child_goes, once_less, one_lacks}
+use Rattle.image_changes.proofs.Directories.{same_has, has_stays, go_and_come, child_stays, child_goes, once_less, one_lacks}
 use Rattle.image_changes.proofs.Frame.{row_kept, same_dinode, head_same}
-use Rattle.image_changes.proofs.Laid.{root_named, child_rows, follow_dinode, laid_after, up_row, row_up, row_dinode}
+use Rattle.image_changes.proofs.Laid.{root_named, child_rows, follow_dinode, laid_after, journals_stay, up_row, row_up, row_dinode}
 use Rattle.image_changes.proofs.Standing.{has_child_directory, childless, parent_dinode, parent_has, not_own_child, rest_differs}
 use Rattle.image_changes.proofs.Nodes.{among_in, not_among, dir_thing, dir_child, dots_child, leading, leading_other, leads_elsewhere, leads_there, no_system, master_stays, untouched_flat, rows_kept}
 
-module _ (im im' : Image) (o o' : Owners) (l : Layout) (p : ℕ) (name : List ℕ) (a : ℕ) (path : Path) (t : Tree)
-    (stands : StandsBy im o l t) (at : IsAt im o l path p) (is : IsNameRemoved im im' o o' l p name a) where
+module _ (im im' : Image) (o o' : Owners) (l : Layout) (written : ℕ → Bool) (p : ℕ) (name : List ℕ) (a : ℕ) (path : Path) (t : Tree)
+    (stands : StandsBy im o l t) (at : IsAt im o l path p) (is : IsNameRemoved im im' o o' l written p name a) where
   abbrev ys : List ℕ
   ys = p ∷ (a ∷ [])
 
@@ -72,7 +73,7 @@ module _ (im im' : Image) (o o' : Owners) (l : Layout) (p : ℕ) (name : List �
   row_stays : (x : ℕ) → is_dinode (o x) ≡ true → x ≢ a → o' x ≡ o x
   row_stays x so d = elim (cases_eq x p) [
     | inl e ↦ subst (λ z. o' z ≡ o z) (sym e) is.parent_row
-    | inr d' ↦ row_kept im im' o o' l (among ys) is.change x (not_among ys x (away x d' d)) (inl so)
+    | inr d' ↦ row_kept im im' o o' l (among ys) written is.change x (not_among ys x (away x d' d)) (inl so)
   ]
 
   stays : (x : ℕ) → is_dinode (o x) ≡ true → x ≢ a → is_dinode (o' x) ≡ true
@@ -81,17 +82,17 @@ module _ (im im' : Image) (o o' : Owners) (l : Layout) (p : ℕ) (name : List �
   was : (x : ℕ) → is_dinode (o' x) ≡ true → is_dinode (o x) ≡ true
   was x so = elim (cases_eq x p) [
     | inl e ↦ ap (λ z. is_dinode (o z)) e ∙ dinode
-    | inr d' ↦ sym (same_dinode im im' o o' l (among ys) is.change x (not_among ys x (away x d' (not_a x so)))) ∙ so
+    | inr d' ↦ sym (same_dinode im im' o o' l (among ys) written is.change x (not_among ys x (away x d' (not_a x so)))) ∙ so
   ]
 
   head_stays : (x : ℕ) → is_dinode (o x) ≡ true → x ≢ a → heads_of im' o' x ≡ heads_of im o x
-  head_stays x so d = head_same im im' o o' l (among ys) is.change x so (stays x so d)
+  head_stays x so d = head_same im im' o o' l (among ys) written is.change x so (stays x so d)
 
   directory' : is_directory_at im' o' p ≡ true
   directory' = ap (λ (h : Head). h.is_dir) (head_stays p dinode apart) ∙ directory
 
   others : (x : ℕ) → x ≢ p → x ≢ a → flat_of im' o' x ≡ flat_of im o x
-  others x d d' = untouched_flat im im' o o' l ys stands.laid is.change whence x (away x d d')
+  others x d d' = untouched_flat im im' o o' l ys written stands.laid is.change whence x (away x d d')
 
   -- ---- the parent's records
 
@@ -107,7 +108,7 @@ module _ (im im' : Image) (o o' : Owners) (l : Layout) (p : ℕ) (name : List �
   parent_directory : IsDirectory (heads_of im' o') o' p (records_at im' o' p) (dinode_at im' o' p)
   parent_directory =
       let lacks = not_dots name plain in
-      records_go_and_come (heads_of im o) (heads_of im' o') o o' p (records_at im o p) (records_at im' o' p) (is.entry ∷ []) [] (dinode_at im o p) (dinode_at im' o' p)
+      go_and_come (heads_of im o) (heads_of im' o') o o' p (records_at im o p) (records_at im' o' p) (is.entry ∷ []) [] (dinode_at im o p) (dinode_at im' o' p)
       before is.exchanged is.counted
       (has_stays (heads_of im' o') _ _ (is.entry ∷ []) [] (codes ".") p is.exchanged (one_lacks is.entry (codes ".") (λ e. lacks.0 (sym is.named ∙ sym e)))
       (same_has (heads_of im o) (heads_of im' o') _ (codes ".") p (head_stays p dinode apart) before.dot))
@@ -146,10 +147,14 @@ module _ (im im' : Image) (o o' : Owners) (l : Layout) (p : ℕ) (name : List �
   abbrev unnamed : Flat
   unnamed = leading (flat_of im o) p name None
 
+  went : ((q : Path) → leads_to (in_directory path name) q ≡ false → follow unnamed l.root q ≡ follow (flat_of im o) l.root q)
+      × ((v : Tree) → ReadsAs (flat_of im o) l.root v → ReadsAs unnamed l.root (remove_at (in_directory path name) v))
+  went = name_gone (flat_of im o) unnamed (λ b. up_of (o b)) l.root p path name (root_named im o l stands.laid) at (leads_elsewhere (flat_of im o) p name None)
+      (dir_thing im o p dinode directory) (leads_there (flat_of im o) p name None)
+
   gone : ((q : Path) → IsBeside (in_directory path name) q → follow unnamed l.root q ≡ follow (flat_of im o) l.root q)
       × ((v : Tree) → ReadsAs (flat_of im o) l.root v → ReadsAs unnamed l.root (remove_at (in_directory path name) v))
-  gone = name_gone (flat_of im o) unnamed (λ b. up_of (o b)) l.root p path name (root_named im o l stands.laid) at (leads_elsewhere (flat_of im o) p name None)
-      (dir_thing im o p dinode directory) (leads_there (flat_of im o) p name None)
+  gone = (λ q h. went.0 q (leads_beside (in_directory path name) q h), went.1)
 
   not_under : (r : Path) → follow unnamed l.root (in_directory path name ++ r) ≡ None
   not_under r = ap (follow unnamed l.root) (append_assoc path (name ∷ []) r)
@@ -188,9 +193,9 @@ module _ (im im' : Image) (o o' : Owners) (l : Layout) (p : ℕ) (name : List �
 
   keeps : KeepsNames im im' o o' l (among ys)
   keeps = record {
-    system = no_system im im' o o' l ys stands.laid is.change whence;
+    system = no_system im im' o o' l ys written stands.laid is.change whence;
     root = row_stays l.root (ap is_dinode stands.laid.root.0) root_other ∙ stands.laid.root.0;
-    rows = rows_kept im im' o o' l ys stands.laid is.change whence rows;
+    rows = rows_kept im im' o o' l ys written stands.laid is.change whence rows;
     directories = λ x here so is_dir. subst (λ z. IsDirectory (heads_of im' o') o' z (records_at im' o' z) (dinode_at im' o' z)) (sym (parent x here so)) parent_directory;
     names = λ x w here e. names x w (which w.parent (among_in ys w.parent here)) e;
     found = λ x so. found x so;
@@ -237,18 +242,21 @@ module _ (im im' : Image) (o o' : Owners) (l : Layout) (p : ℕ) (name : List �
 
       found : (x : ℕ) → is_dinode (o' x) ≡ true → IsFound (flat_of im' o') l x
       found x so = elim (stands.laid.found x (was x so)) [
-        | inr way ↦ inr (way.0, master_stays im im' o o' l ys stands.laid is.change whence way.0 ∙ way.1)
+        | inr way ↦ inr (way.0, master_stays im im' o o' l ys written stands.laid is.change whence way.0 ∙ way.1)
         | inl way ↦ elim (split (in_directory path name) way.0) [
           | under r e ↦ absurd (not_a x so (below_a r x (sym (follow-append (flat_of im o) (in_directory path name) r l.root a to_a) ∙ ap (follow (flat_of im o) l.root) (sym e) ∙ way.1)))
           | out h ↦ inl (way.0, left.0 way.0 ∙ gone.0 way.0 h ∙ way.1)
         ]
       ]
 
-  pub removed_stands : StandsBy im' o' l (remove_at (in_directory path name) t)
-  removed_stands = record {
-    laid = laid_after im im' o o' l (among ys) stands.laid is.change keeps;
-    reads = left.1 (remove_at (in_directory path name) t) (gone.1 t stands.reads);
-  }
+  pub removed_stands : StandsBy im' o' l (remove_at (in_directory path name) t) × JournalsStay im im' o o' l
+  removed_stands = (
+    record {
+      laid = laid_after im im' o o' l (among ys) written stands.laid is.change keeps;
+      reads = left.1 (remove_at (in_directory path name) t) (gone.1 t stands.reads);
+    },
+    journals_stay im im' o o' l (among ys) written stands.laid is.change keeps,
+  )
 
 pub name_is_removed : NameIsRemoved
 name_is_removed = removed_stands

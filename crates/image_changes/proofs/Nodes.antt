@@ -125,7 +125,7 @@ bare_reads f a u leaf (inr e) is = subst (ReadsAs f a) (sym e) (record { tree = 
 
 -- ---- what is common to the changes that touch a few inodes
 
-module _ (im im' : Image) (o o' : Owners) (l : Layout) (ys : List ℕ) (laid : IsLaid im o l) (change : IsChange im im' o o' l (among ys))
+module _ (im im' : Image) (o o' : Owners) (l : Layout) (ys : List ℕ) (written : ℕ → Bool) (laid : IsLaid im o l) (change : IsChange im im' o o' l (among ys) written)
     (whence : (y : ℕ) → IsIn y ys → ((path : Path) × (follow (flat_of im o) l.root path ≡ Some y)) ⊎ (is_dinode (o y) ≡ false)) where
   -- none is a system file
   pub no_system : (path : Path) (a : ℕ) → follow (flat_of im o) l.master path ≡ Some a → among ys a ≡ false
@@ -138,16 +138,16 @@ module _ (im im' : Image) (o o' : Owners) (l : Layout) (ys : List ℕ) (laid : I
   -- what is found from the master directory is found there afterwards
   pub master_stays : (path : Path) → follow (flat_of im' o') l.master path ≡ follow (flat_of im o) l.master path
   master_stays path = follow_kept (flat_of im o) (flat_of im' o') path [] l.master l.master refl
-      (λ q y at. ap (λ (n : Node). n.child) (flat_same im im' o o' l (among ys) change y (no_system q y at)))
+      (λ q y at. ap (λ (n : Node). n.child) (flat_same im im' o o' l (among ys) written change y (no_system q y at)))
 
   pub untouched_flat : (a : ℕ) → (IsIn a ys → ⊥) → flat_of im' o' a ≡ flat_of im o a
-  untouched_flat a away = flat_same im im' o o' l (among ys) change a (not_among ys a away)
+  untouched_flat a away = flat_same im im' o o' l (among ys) written change a (not_among ys a away)
 
   -- a name in an inode that isn't touched leads where it led
   pub rows_kept : ((y : ℕ) → IsIn y ys → (o' y ≡ o y) ⊎ ((p : ℕ) (name : List ℕ) → (o y ≡ Named p name) ⊎ (o' y ≡ Named p name) → IsIn p ys))
       → (b p : ℕ) (name : List ℕ) → among ys p ≡ false → (o b ≡ Named p name) ⊎ (o' b ≡ Named p name) → o' b ≡ o b
   rows_kept each b p name away which = elim (cases_Bool (among ys b)) [
-    | inr other ↦ row_kept im im' o o' l (among ys) change b other (dinodes which)
+    | inr other ↦ row_kept im im' o o' l (among ys) written change b other (dinodes which)
     | inl here ↦ elim (each b (among_in ys b here)) [ inl e ↦ e | inr to ↦ absurd (away_from ys p away (to p name which)) ]
   ]
     where

@@ -1,14 +1,20 @@
 -- Groups that a change leaves alone, and the state of a block put.
-use Rattle.std.proofs.Common.{◌≡◌, ◌≢◌, ℕ, zero, suc, ◌+◌, ◌*◌, ◌<◌, ◌==◌, List, ◌∷◌, length, get_or, set, sym, ap, ◌∙◌, subst, arith, cond}
+use Rattle.std.proofs.Common.{refl, ◌≡◌, ◌≢◌, ℕ, zero, suc, ◌+◌, ◌*◌, ◌<◌, ◌==◌, List, ◌∷◌, length, get_or, set, sym, ap, ◌∙◌, subst, arith, cond, ◌≤◌}
 use Rattle.std.specs.Prelude.{map, slice_set}
 use Rattle.std.specs.List.{range_with_len}
+use Rattle.std.proofs.lemmas.List.{ext_get_or}
 use Rattle.std.proofs.lemmas.List.Sums.{sum_by-set}
 use Rattle.std.proofs.lemmas.List.FromFn.{length-map-range_with_len}
+use Rattle.gfs2_layout.specs.declared.group_header.GroupHeader.{GroupHeader}
+use Rattle.gfs2_layout.specs.Headers.{HasHeader}
 use Rattle.gfs2_layout.specs.Bitmap.{state_at, with_state}
 use Rattle.gfs2_layout.proofs.BitmapLaws.{state_same, state_other}
 use Rattle.image_model.specs.Groups.{group_blocks, bitmap_of, group_header, states_of, state_of, count_of, IsGroup}
-use Rattle.image_changes.specs.States.{GroupsStay, one_if, StateIsPut}
-use Rattle.image_changes.proofs.Unminded.{map_same}
+use Rattle.image_changes.specs.States.{GroupsStay, one_if, StateIsPut, OtherGeneration, TableSays}
+
+pub map_same : {X : Type 0} (f g : ℕ → X) (a n : ℕ) → ((b : ℕ) → a ≤ b → b < a + n → f b ≡ g b) → map f (range_with_len a n) ≡ map g (range_with_len a n)
+map_same f g a zero each = refl
+map_same f g a (suc n) each = λ i. each a (omega arith) (omega arith) i ∷ map_same f g (a + 1) n (λ b low high. each b (omega (arith, low)) (omega (arith, high))) i
 
 pub groups_stay : GroupsStay
 groups_stay im im' o o' g headers states is = subst (λ blocks. IsGroup g blocks (states_of o' g)) (sym (map_same im'.at im.at g.address g.length (λ b low high. headers b (record { low = low; high = high }))))
@@ -71,3 +77,19 @@ state_is_put g old new states i state is low inside four put = record {
     count x before after e f =
         let old_is : one_if (get_or states i 0 == x) ≡ one_if (state_at (bitmap_of old) i == x) = ap (λ s. one_if (s == x)) was in
         omega (arith, e, f, counts_put x states i state long, old_is)
+
+pub other_generation : OtherGeneration
+other_generation g old new states n is header more same bits = record {
+  header = header;
+  more = λ k low high. subst (HasHeader 3 300) (sym (more k low)) (is.more k low high);
+  data0 = ap (λ (h : GroupHeader). h.data0) same ∙ is.data0;
+  data_blocks = ap (λ (h : GroupHeader). h.data_blocks) same ∙ is.data_blocks;
+  bitbytes = ap (λ (h : GroupHeader). h.bitbytes) same ∙ is.bitbytes;
+  bits = ap (λ b. map (state_at b) (range_with_len 0 g.data_blocks)) bits ∙ is.bits;
+  free = ap (λ (h : GroupHeader). h.free) same ∙ is.free;
+  dinodes = ap (λ (h : GroupHeader). h.dinodes) same ∙ is.dinodes;
+}
+
+pub table_says : TableSays
+table_says o g states long each = ext_get_or 0 states (states_of o g) (long ∙ sym (length-map-range_with_len (λ b. state_of (o b)) g.data0 g.data_blocks))
+    (λ i low. each i (subst (λ n. i < n) long low) ∙ sym (get_map (λ b. state_of (o b)) g.data0 g.data_blocks i 0 (subst (λ n. i < n) long low)))

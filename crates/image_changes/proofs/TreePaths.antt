@@ -1,17 +1,21 @@
 -- What stands at each path of a tree with another tree put in, or with a name taken out.
-use Rattle.std.proofs.Common.{◌≡◌, ◌≢◌, ℕ, inl, inr, List, [], ◌∷◌, ◌++◌, Option, None, Some, refl, sym, ap, ◌∙◌, subst}
+use Rattle.std.proofs.Common.{◌≡◌, ◌≢◌, ℕ, inl, inr, List, [], ◌∷◌, ◌++◌, Option, None, Some, refl, sym, ap, ◌∙◌, subst, false, ◌⊎◌}
 use Rattle.std.specs.Option.{option_and_then}
 use Rattle.std.specs.declared.cmp.Ordering.{Ordering}
 use Rattle.std.specs.declared.cmp.Ordering.TheVariants.{Less, Equal, Greater}
 use Rattle.file_tree.specs.Tree.{Tree, Entries, file, dir, none, entry, look, set, without, name_order, if_equal, by_order, IsBelowFirst, IsTree, AreEntries}
 use Rattle.file_tree.specs.Apply.{put_at, remove_at, entries_of, child_of}
-use Rattle.file_tree.specs.Names.{IsName}
+use Rattle.std.specs.Prelude.{◌&&◌}
+use Rattle.std.specs.Str.{bytes_eq}
+use Rattle.std.proofs.lemmas.Bool.{cases_Bool, true≢false}
+use Rattle.std.proofs.lemmas.Slice.Eq.{bytes_eq-Decides}
+use Rattle.file_tree.specs.Names.{IsName, leads_to}
 use Rattle.file_tree.proofs.MapLaws.{same_order}
 use Rattle.file_tree.proofs.Places.{well_formed_set}
 use Rattle.image_model.specs.Flat.{Path, Thing, ADir, thing_in, child_in, tree_at, thing_at}
 use Rattle.std.specs.Cmp.Lexicographic.{nat_list_cmp_total}
 use Rattle.image_model.proofs.Trees.{same_or_not, look_self, look_other, look_eq, below_all}
-use Rattle.image_changes.specs.Flats.{IsBeside, in_directory}
+use Rattle.image_changes.specs.Flats.{in_directory}
 
 -- ---- a directory with a name put in
 
@@ -91,6 +95,29 @@ well_formed_without (entry k u es) n are = elim (same_or_not n k) [
 
 -- ---- paths
 
+-- the second path doesn't go through the first
+abbrev pub IsBeside : Path → Path → Type 0
+IsBeside [] q = ⊥
+IsBeside (n ∷ p) [] = Unit {0}
+IsBeside (n ∷ p) (m ∷ q) = (m ≢ n) ⊎ ((m ≡ n) × IsBeside p q)
+
+pub beside_path : (p q : Path) → leads_to p q ≡ false → IsBeside p q
+beside_path [] q e = absurd (true≢false e)
+beside_path (n ∷ p) [] e = tt
+beside_path (n ∷ p) (m ∷ q) e = elim (cases_Bool (bytes_eq n m)) [
+  | inr non ↦ inl (λ same. true≢false (sym ((bytes_eq-Decides n m).1 (sym same)) ∙ non))
+  | inl so ↦ inr (sym ((bytes_eq-Decides n m).0 so), beside_path p q (ap (λ b. b && leads_to p q) (sym so) ∙ e))
+]
+
+pub leads_beside : (p q : Path) → IsBeside p q → leads_to p q ≡ false
+leads_beside [] q h = absurd h
+leads_beside (n ∷ p) [] h = refl
+leads_beside (n ∷ p) (m ∷ q) (inl d) = elim (cases_Bool (bytes_eq n m)) [
+  | inl so ↦ absurd (d (sym ((bytes_eq-Decides n m).0 so)))
+  | inr non ↦ ap (λ b. b && leads_to p q) non
+]
+leads_beside (n ∷ p) (m ∷ q) (inr h) = ap (λ b. b && leads_to p q) ((bytes_eq-Decides n m).1 (sym h.0)) ∙ leads_beside p q h.1
+
 -- each name of the path but the last leads on to a directory, and the tree itself is one
 abbrev pub Along : Tree → Path → Type 0
 Along t [] = Unit {0}
@@ -138,6 +165,12 @@ not_beside_under (n ∷ p) r (inr h) = not_beside_under p r h.1
 pub beside_above : (p r : Path) (n : List ℕ) → IsBeside (p ++ n ∷ r) p
 beside_above [] r n = tt
 beside_above (m ∷ p) r n = inr (refl, beside_above p r n)
+
+pub beside_shorter : (p q r : Path) → IsBeside p (q ++ r) → IsBeside p q
+beside_shorter [] q r h = h
+beside_shorter (n ∷ p) [] r h = tt
+beside_shorter (n ∷ p) (m ∷ q) r (inl d) = inl d
+beside_shorter (n ∷ p) (m ∷ q) r (inr h) = inr (h.0, beside_shorter p q r h.1)
 
 pub data Split (p q : Path) : Type 0 where
   under : (r : Path) → q ≡ p ++ r → Split p q

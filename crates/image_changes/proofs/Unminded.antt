@@ -1,7 +1,6 @@
 -- Contents of free blocks and of the places of journals don't matter.
-use Rattle.std.proofs.Common.{◌≡◌, ◌≢◌, ℕ, zero, suc, ◌+◌, ◌/◌, ◌%◌, ◌<◌, ◌≤◌, ◌⊎◌, inl, inr, true, false, List, [], ◌∷◌, length, Option, None, Some, slice_get, refl, sym, ap, ◌∙◌, subst, arith}
-use Rattle.std.specs.Prelude.{codes, map, ◌==◌, if◌then◌else◌, option_and_then}
-use Rattle.std.specs.List.{range_with_len}
+use Rattle.std.proofs.Common.{◌≡◌, ◌≢◌, ℕ, zero, suc, ◌/◌, ◌%◌, ◌<◌, ◌≤◌, ◌⊎◌, inl, inr, true, false, List, [], ◌∷◌, length, Option, None, Some, slice_get, refl, sym, ap, ◌∙◌, subst, arith}
+use Rattle.std.specs.Prelude.{codes, ◌==◌, if◌then◌else◌, option_and_then}
 use Rattle.std.proofs.lemmas.Bool.{cases_Bool, cases_eq, cond-false, ne_eqb, true≢false}
 use Rattle.file_tree.specs.Tree.{Tree}
 use Rattle.file_tree.specs.Apply.{file_limit}
@@ -25,21 +24,19 @@ use Rattle.image_model.proofs.Unique.{used_or_not, unused_part}
 use Rattle.image_model.specs.Owners.{Owner, Owners, Super, InGroup, Free, Master, Named, Below, is_dinode, IsUsed, part_in, cell_of, cell_in, holding}
 use Rattle.image_model.specs.Stands.{Layout, IsJournalAt, IsLaid, IsSystem, IsDirectory, flat_of, heads_of}
 use Rattle.image_model.proofs.Held.{none_some, some_same, own_part, own_block, pointed_part}
-use Rattle.image_changes.specs.Contents.{SameButContent, IsAsLarge, IsPlace, FreeBlocksDoNotMatter, PlacesDoNotMatter}
+use Rattle.image_changes.specs.Changes.{IsRingPlace}
+use Rattle.image_changes.specs.Contents.{SameButContent, OnlyPlacesChange, IsAsLarge, FreeBlocksDoNotMatter, PlacesDoNotMatter}
 use Rattle.image_changes.proofs.FlatPaths.{unreached, follow_kept}
 use Rattle.image_changes.proofs.FileContent.{file_after, content_block_after}
+use Rattle.image_changes.proofs.States.{map_same}
 use Rattle.image_changes.proofs.Nodes.{file_thing, file_child}
 use Rattle.image_changes.proofs.Laid.{fits_still, apart, child_rows, follow_dinode, row_dinode, plain_file}
 
-pub map_same : {X : Type 0} (f g : ℕ → X) (a n : ℕ) → ((b : ℕ) → a ≤ b → b < a + n → f b ≡ g b) → map f (range_with_len a n) ≡ map g (range_with_len a n)
-map_same f g a zero each = refl
-map_same f g a (suc n) each = λ i. each a (omega arith) (omega arith) i ∷ map_same f g (a + 1) n (λ b low high. each b (omega (arith, low)) (omega (arith, high))) i
-
 module _ (im im' : Image) (o : Owners) (l : Layout) (large : IsAsLarge im im')
-    (bytes : (b : ℕ) → (im'.at b ≡ im.at b) ⊎ (((g : ℕ) × (o b ≡ Free g)) ⊎ IsPlace o l b))
+    (bytes : (b : ℕ) → (im'.at b ≡ im.at b) ⊎ (((g : ℕ) × (o b ≡ Free g)) ⊎ IsRingPlace o l b))
     (headed : (j d : ℕ) → IsJournalAt l j d → (head : LogHeader) × (head_in (ring_of (holding im' o d)) ≡ Some head)) (laid : IsLaid im o l) where
   -- a block of any other owner has the bytes that it had
-  kept : (b : ℕ) → ((g : ℕ) → o b ≢ Free g) → (IsPlace o l b → ⊥) → im'.at b ≡ im.at b
+  kept : (b : ℕ) → ((g : ℕ) → o b ≢ Free g) → (IsRingPlace o l b → ⊥) → im'.at b ≡ im.at b
   kept b not not' = elim (bytes b) [ inl e ↦ e | inr (inl free) ↦ absurd (not free.0 free.1) | inr (inr place) ↦ absurd (not' place) ]
 
   dinode_kept : (a : ℕ) → is_dinode (o a) ≡ true → im'.at a ≡ im.at a
@@ -118,18 +115,31 @@ module _ (im im' : Image) (o : Owners) (l : Layout) (large : IsAsLarge im im')
         ]
       ]
 
-  own_not : (j d : ℕ) → IsJournalAt l j d → (above k first : ℕ) → part_at (holding im o d) d ≢ Some (Pointed above k 0 first)
-  own_not j d at above k first e = no (sym (own_part im o d (journal_dinode j d at)) ∙ e)
-    where
-      no : Some Itself ≡ Some (Pointed above k 0 first) → ⊥
-      no e = cc
+  own_is : (j d : ℕ) → IsJournalAt l j d → part_at (holding im o d) d ≡ Some Itself
+  own_is j d at = own_part im o d (journal_dinode j d at)
 
   journal_inode : (j d : ℕ) → (at : IsJournalAt l j d) → IsInode (holding im' o d)
-  journal_inode j d at = file_after (holding im o d) (holding im' o d) (journal_row j d at).0.file (own_not j d at) (journal_same j d at) (laid.inodes d (journal_dinode j d at))
+  journal_inode j d at = file_after (holding im o d) (holding im' o d) (journal_row j d at).0.file (own_is j d at) (journal_same j d at) (laid.inodes d (journal_dinode j d at))
 
   dinode_same : (a : ℕ) → is_dinode (o a) ≡ true → dinode_in (holding im' o a) ≡ dinode_in (holding im o a)
   unfolding dinode_in
   dinode_same a so = ap dinode_of (own_block im' o a so ∙ dinode_kept a so ∙ sym (own_block im o a so))
+
+  -- the places of its ring are the blocks that they were
+  place_kept : (j d : ℕ) → (at : IsJournalAt l j d) → (p : ℕ) → p < (ring_of (holding im o d)).places → content_block (holding im' o d) p ≡ content_block (holding im o d) p
+  place_kept j d at p low =
+      let large' = size_large im.size laid.image.block_size in
+      let sound = laid.inodes d (journal_dinode j d at) in
+      let high = place_high im o large' d (journal_dinode j d at) sound (journal_row j d at).0 p low in
+      let inside = place_low im o large' d (journal_dinode j d at) sound (journal_row j d at).0 p low in
+      content_block_after (holding im o d) (holding im' o d) (journal_row j d at).0.file (own_is j d at) (journal_same j d at) sound high.0 high.1 p (omega (arith, inside, sound.fits.under high.0 high.1))
+
+  pub only_places : OnlyPlacesChange im im' o l
+  only_places = record {
+    others = λ a other. same_holding a (λ of. other of.0 of.1);
+    places = λ j d p at low. place_kept j d at p low;
+    as_many = λ j d at. λ i. (dinode_same d (journal_dinode j d at) i).size / large.size i;
+  }
 
   journal_after : (j d : ℕ) → IsJournalAt l j d → IsJournal (holding im' o d)
   journal_after j d at =
@@ -142,16 +152,8 @@ module _ (im im' : Image) (o : Owners) (l : Layout) (large : IsAsLarge im im')
         headed = headed j d at;
       }
     where
-      sound : IsInode (holding im o d)
-      sound = laid.inodes d (journal_dinode j d at)
-
       filled : (p : ℕ) → p < (ring_of (holding im o d)).places → content_block (holding im' o d) p ≢ 0
-      filled p low e =
-          let large' = size_large im.size laid.image.block_size in
-          let high = place_high im o large' d (journal_dinode j d at) sound (journal_row j d at).0 p low in
-          let inside = place_low im o large' d (journal_dinode j d at) sound (journal_row j d at).0 p low in
-          (journal_row j d at).0.filled p low
-          (sym (content_block_after (holding im o d) (holding im' o d) (journal_row j d at).0.file (own_not j d at) (journal_same j d at) sound high.0 high.1 p (omega (arith, inside, sound.fits.under high.0 high.1))) ∙ e)
+      filled p low e = (journal_row j d at).0.filled p low (sym (place_kept j d at p low) ∙ e)
 
   -- ---- each inode
 
@@ -324,12 +326,15 @@ module _ (im im' : Image) (o : Owners) (l : Layout) (large : IsAsLarge im im')
 -- ---- the two laws
 
 pub places_do_not_matter : PlacesDoNotMatter
-places_do_not_matter im im' o l t large bytes readable stands = record {
-  laid = laid_still im im' o l large which headed stands.laid;
-  reads = reads_still im im' o l large which headed stands.laid t stands.reads;
-}
+places_do_not_matter im im' o l t large bytes readable stands = (
+  record {
+    laid = laid_still im im' o l large which headed stands.laid;
+    reads = reads_still im im' o l large which headed stands.laid t stands.reads;
+  },
+  only_places im im' o l large which headed stands.laid,
+)
   where
-    which : (b : ℕ) → (im'.at b ≡ im.at b) ⊎ (((g : ℕ) × (o b ≡ Free g)) ⊎ IsPlace o l b)
+    which : (b : ℕ) → (im'.at b ≡ im.at b) ⊎ (((g : ℕ) × (o b ≡ Free g)) ⊎ IsRingPlace o l b)
     which b = elim (bytes b) [ inl e ↦ inl e | inr place ↦ inr (inr place) ]
 
     headed : (j d : ℕ) → IsJournalAt l j d → (head : LogHeader) × (head_in (ring_of (holding im' o d)) ≡ Some head)
@@ -348,12 +353,15 @@ free_holding im im' o large bytes a = λ i. record { size = large.size i; count 
     cell b = free_cell im im' o a b (bytes b)
 
 pub free_blocks_do_not_matter : FreeBlocksDoNotMatter
-free_blocks_do_not_matter im im' o l t large bytes stands = record {
-  laid = laid_still im im' o l large which headed stands.laid;
-  reads = reads_still im im' o l large which headed stands.laid t stands.reads;
-}
+free_blocks_do_not_matter im im' o l t large bytes stands = (
+  record {
+    laid = laid_still im im' o l large which headed stands.laid;
+    reads = reads_still im im' o l large which headed stands.laid t stands.reads;
+  },
+  free_holding im im' o large bytes,
+)
   where
-    which : (b : ℕ) → (im'.at b ≡ im.at b) ⊎ (((g : ℕ) × (o b ≡ Free g)) ⊎ IsPlace o l b)
+    which : (b : ℕ) → (im'.at b ≡ im.at b) ⊎ (((g : ℕ) × (o b ≡ Free g)) ⊎ IsRingPlace o l b)
     which b = elim (bytes b) [ inl e ↦ inl e | inr free ↦ inr (inl free) ]
 
     headed : (j d : ℕ) → IsJournalAt l j d → (head : LogHeader) × (head_in (ring_of (holding im' o d)) ≡ Some head)

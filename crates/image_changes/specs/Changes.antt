@@ -1,41 +1,53 @@
 -- What a change of few blocks is, of an image that stands: its inodes are touched, or as before.
-use Rattle.std.specs.Prelude.{ℕ, ◌≡◌, ◌⊎◌, ◌<◌, ◌≤◌, Bool, true, false, List, length, Some}
+use Rattle.std.specs.Prelude.{ℕ, ◌≡◌, ◌⊎◌, ◌<◌, ◌≤◌, ◌==◌, Bool, true, false, if◌then◌else◌, List, length, Option, None, Some}
+use Rattle.std.specs.List.{list_any}
 use Rattle.file_tree.specs.Apply.{file_limit}
 use Rattle.gfs2_layout.specs.declared.rindex.Rindex.{Rindex}
 use Rattle.gfs2_layout.specs.Inode.{IsInode, dinode_in, is_directory_in, records_of}
 use Rattle.image_model.specs.Flat.{Path, follow}
-use Rattle.image_model.specs.Groups.{IsListed, IsDataOf, group_blocks, states_of, IsGroup}
+use Rattle.glock_names.specs.declared.LockName.{LockName}
+use Rattle.image_model.specs.Groups.{IsListed, IsDataOf, group_blocks, states_of, state_of, IsGroup}
 use Rattle.image_model.specs.Image.{Image}
-use Rattle.image_model.specs.Owners.{Owner, Owners, InGroup, Free, Root, Named, Below, Chained, Up, up_of, is_dinode, IsWithin, holding}
-use Rattle.image_model.specs.Stands.{Layout, flat_of, heads_of, IsDirectory, IsFound}
+use Rattle.image_model.specs.Owners.{Owner, Owners, InGroup, Free, Root, Master, Named, Below, Chained, Up, up_of, is_dinode, IsWithin, holding}
+use Rattle.image_model.specs.Stands.{Layout, IsJournalAt, flat_of, heads_of, IsDirectory, IsFound}
 
 -- ---- blocks
+
+-- the inode of which the block is one
+abbrev pub inode_of : ℕ → Owner → Option ℕ
+inode_of b Root = Some b
+inode_of b Master = Some b
+inode_of b (Named parent name) = Some b
+inode_of b (Below a parent k level first) = Some a
+inode_of b (Chained a hash place) = Some a
+inode_of b _ = None
 
 -- a block of this owner is a free one, or one of these inodes'
 abbrev pub IsOf : (ℕ → Bool) → ℕ → Owner → Type 0
 IsOf touched b (Free g) = Unit {0}
-IsOf touched b Root = touched b ≡ true
-IsOf touched b (Named parent name) = touched b ≡ true
-IsOf touched b (Below a parent k level first) = touched a ≡ true
-IsOf touched b (Chained a hash place) = touched a ≡ true
-IsOf touched b _ = ⊥
+IsOf touched b o = (a : ℕ) × (inode_of b o ≡ Some a) × (touched a ≡ true)
 
--- What becomes of a block: it is as before, or stays a group's header or bitmap, or goes from a touched inode or the free blocks
--- to a touched inode or the free blocks.
-pub data Becomes (touched : ℕ → Bool) (b : ℕ) (o o' : Owner) (bytes bytes' : List ℕ) : Type 0 where
-  kept : o' ≡ o → bytes' ≡ bytes → Becomes touched b o o' bytes bytes'
-  of_group : (g : ℕ) → o ≡ InGroup g → o' ≡ InGroup g → Becomes touched b o o' bytes bytes'
-  changed : IsOf touched b o → IsOf touched b o' → Becomes touched b o o' bytes bytes'
+-- What becomes of a block: it is as before; it has another part in a touched inode; it is written, and stays a group's header or
+-- bitmap; or it is written or freed, and goes from the free blocks or a touched inode to the free blocks or a touched inode.
+pub data Becomes (touched altered written : ℕ → Bool) (b : ℕ) (o o' : Owner) (bytes bytes' : List ℕ) : Type 0 where
+  kept : o' ≡ o → bytes' ≡ bytes → Becomes touched altered written b o o' bytes bytes'
+  another_part : (a : ℕ) → touched a ≡ true → inode_of b o ≡ Some a → inode_of b o' ≡ Some a → bytes' ≡ bytes → Becomes touched altered written b o o' bytes bytes'
+  of_group : (g : ℕ) → altered g ≡ true → written b ≡ true → o ≡ InGroup g → o' ≡ InGroup g → Becomes touched altered written b o o' bytes bytes'
+  changed : written b ≡ true → IsOf touched b o → IsOf touched b o' → Becomes touched altered written b o o' bytes bytes'
 
--- The blocks of an image change, and with them the table of owners. Each group says what the new table does, and each touched
--- inode is sound, and has its number and kind as long as it is there.
-pub record IsChange (im im' : Image) (o o' : Owners) (l : Layout) (touched : ℕ → Bool) : Type 0 where
+-- The blocks of an image change, and with them the table of owners: none but what is written or freed, and rows of touched inodes.
+-- What is written is whole; what is freed is its own group's. An altered group says what the table does afterwards, and each other
+-- group's blocks keep their states. Each touched inode that is there is sound, no block is one of an inode that isn't there, and an
+-- inode that stays keeps its number and kind.
+pub record IsChange (im im' : Image) (o o' : Owners) (l : Layout) (touched written : ℕ → Bool) : Type 0 where
+  pub altered : ℕ → Bool  -- groups, by the blocks of their headers
   pub size : im'.size ≡ im.size
   pub count : im'.count ≡ im.count
-  pub whole : (b : ℕ) → b < im.count → length (im'.at b) ≡ im.size
-  pub blocks : (b : ℕ) → Becomes touched b (o b) (o' b) (im.at b) (im'.at b)
-  pub freed : (g : Rindex) (b x : ℕ) → IsListed l.groups g → IsDataOf g b → o' b ≡ Free x → x ≡ g.address
-  pub groups : (g : Rindex) → IsListed l.groups g → IsGroup g (group_blocks im'.at g) (states_of o' g)
+  pub blocks : (b : ℕ) → Becomes touched altered written b (o b) (o' b) (im.at b) (im'.at b)
+  pub whole : (b : ℕ) → written b ≡ true → b < im.count → length (im'.at b) ≡ im.size
+  pub freed : (b x : ℕ) → written b ≡ true → o' b ≡ Free x → (g : Rindex) × IsListed l.groups g × IsDataOf g b × (x ≡ g.address)
+  pub groups : (g : Rindex) → IsListed l.groups g → altered g.address ≡ true → IsGroup g (group_blocks im'.at g) (states_of o' g)
+  pub states : (g : Rindex) (b : ℕ) → IsListed l.groups g → altered g.address ≡ false → IsDataOf g b → state_of (o' b) ≡ state_of (o b)
   pub inodes : (a : ℕ) → touched a ≡ true → is_dinode (o' a) ≡ true → IsInode (holding im' o' a)
   pub within : (b a : ℕ) → touched a ≡ true → IsWithin a (o' b) → is_dinode (o' a) ≡ true
   pub heads : (a : ℕ) → touched a ≡ true → is_dinode (o a) ≡ true → is_dinode (o' a) ≡ true → heads_of im' o' a ≡ heads_of im o a
@@ -54,3 +66,40 @@ pub record KeepsNames (im im' : Image) (o o' : Owners) (l : Layout) (touched : �
   pub names : (a : ℕ) (u : Up) → touched u.parent ≡ true → up_of (o' a) ≡ Some u → (flat_of im' o' u.parent).child u.name ≡ Some a
   pub found : (a : ℕ) → is_dinode (o' a) ≡ true → IsFound (flat_of im' o') l a
   pub short : (a : ℕ) → touched a ≡ true → is_dinode (o' a) ≡ true → is_directory_in (holding im' o' a) ≡ false → (dinode_in (holding im' o' a)).size ≤ file_limit
+
+-- ---- where blocks belong
+
+-- the lock that covers an inode's blocks: that of its dinode; those of a journal are their node's, and no lock covers them
+abbrev pub inode_lock : Layout → ℕ → Option LockName
+inode_lock l a = if list_any (λ d. d == a) l.journals then None else Some (record { kind = 2; number = a })
+
+abbrev pub lock_in : Layout → Option ℕ → Option LockName
+lock_in l None = None
+lock_in l (Some a) = inode_lock l a
+
+-- the lock that covers a block, by its owner: an inode's, or its group's; the superblock's and blocks of nobody have none
+abbrev pub cover : Layout → ℕ → Owner → Option LockName
+cover l b (InGroup g) = Some (record { kind = 3; number = g })
+cover l b (Free g) = Some (record { kind = 3; number = g })
+cover l b o = lock_in l (inode_of b o)
+
+abbrev pub is_free : Owner → Bool
+is_free (Free g) = true
+is_free _ = false
+
+-- where a block belongs: under which lock, and whether it is a free block of a group
+pub record Place : Type 0 where
+  pub lock : Option LockName
+  pub free : Bool
+
+abbrev pub place_of : Layout → Owners → ℕ → Place
+place_of l o b = record { lock = cover l b (o b); free = is_free (o b) }
+
+-- the block is a place of a journal's ring: one of its blocks of content
+abbrev pub IsRingPlace : Owners → Layout → ℕ → Type 0
+IsRingPlace o l b = (j d above k first : ℕ) × IsJournalAt l j d × (o b ≡ Below d above k 0 first)
+
+-- the journals have what they had, and their rings' places are the same
+pub record JournalsStay (im im' : Image) (o o' : Owners) (l : Layout) : Type 0 where
+  pub rings : (j d : ℕ) → IsJournalAt l j d → holding im' o' d ≡ holding im o d
+  pub places : (b : ℕ) → (IsRingPlace o' l b → IsRingPlace o l b) × (IsRingPlace o l b → IsRingPlace o' l b)

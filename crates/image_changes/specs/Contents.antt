@@ -2,13 +2,14 @@
 -- journals.
 use Rattle.std.specs.Prelude.{ℕ, ◌≡◌, ◌≢◌, ◌⊎◌, ◌<◌, true, length, Some}
 use Rattle.file_tree.specs.Tree.{Tree}
-use Rattle.gfs2_layout.specs.Holding.{Pointed, Holding, part_at, bytes_at}
-use Rattle.gfs2_layout.specs.Inode.{dinode_in, IsInode}
+use Rattle.gfs2_layout.specs.Holding.{Pointed, Holding, part_at, bytes_at, Itself}
+use Rattle.gfs2_layout.specs.Inode.{dinode_in, content_block, IsInode}
 use Rattle.gfs2_layout.specs.Journal.{Ring, ring_of, IsClean}
 use Rattle.gfs2_layout.specs.Structures.{is_regular}
 use Rattle.image_model.specs.Image.{Image}
-use Rattle.image_model.specs.Owners.{Owners, Free, Below, holding}
+use Rattle.image_model.specs.Owners.{Owners, Free, holding}
 use Rattle.image_model.specs.Stands.{Layout, IsJournalAt}
+use Rattle.image_changes.specs.Changes.{IsRingPlace}
 use Rattle.image_changes.specs.Instances.{StandsBy}
 
 -- ---- within an inode
@@ -24,7 +25,7 @@ pub record SameButContent (h h' : Holding) : Type 0 where
 
 -- the rules of a regular file don't look at what its blocks of content have
 abbrev pub ContentDoesNotMatter : Type 0
-ContentDoesNotMatter = (h h' : Holding) → is_regular (dinode_in h) ≡ true → ((above k first : ℕ) → part_at h h.own ≢ Some (Pointed above k 0 first))
+ContentDoesNotMatter = (h h' : Holding) → is_regular (dinode_in h) ≡ true → part_at h h.own ≡ Some Itself
     → SameButContent h h' → IsInode h → IsInode h'
 
 -- ---- within an image
@@ -38,18 +39,21 @@ pub record IsAsLarge (im im' : Image) : Type 0 where
 -- the contents of free blocks don't matter
 abbrev pub FreeBlocksDoNotMatter : Type 0
 FreeBlocksDoNotMatter = (im im' : Image) (o : Owners) (l : Layout) (t : Tree) → IsAsLarge im im' → ((b : ℕ) → (im'.at b ≡ im.at b) ⊎ ((g : ℕ) × (o b ≡ Free g)))
-    → StandsBy im o l t → StandsBy im' o l t
-
--- the block is a place of a journal: one of its blocks of content
-abbrev pub IsPlace : Owners → Layout → ℕ → Type 0
-IsPlace o l b = (j d above k first : ℕ) × IsJournalAt l j d × (o b ≡ Below d above k 0 first)
+    → StandsBy im o l t → StandsBy im' o l t × ((a : ℕ) → holding im' o a ≡ holding im o a)
 
 -- A journal that can be read: it has an accepted head, and no chunk from its tail to its head is bad. Of a clean head there is none,
 -- and that is asked as long as only clean journals are read.
 abbrev pub IsReadable : Ring → Type 0
 IsReadable ring = IsClean ring
 
+-- each inode but the journals has what it had, and each place of a journal's ring is the block that it was
+pub record OnlyPlacesChange (im im' : Image) (o : Owners) (l : Layout) : Type 0 where
+  pub others : (a : ℕ) → ((j : ℕ) → IsJournalAt l j a → ⊥) → holding im' o a ≡ holding im o a
+  pub places : (j d p : ℕ) → IsJournalAt l j d → p < (ring_of (holding im o d)).places → content_block (holding im' o d) p ≡ content_block (holding im o d) p
+  pub as_many : (j d : ℕ) → IsJournalAt l j d → (ring_of (holding im' o d)).places ≡ (ring_of (holding im o d)).places
+
 -- the contents of the places of journals don't matter, where each journal can be read
 abbrev pub PlacesDoNotMatter : Type 0
-PlacesDoNotMatter = (im im' : Image) (o : Owners) (l : Layout) (t : Tree) → IsAsLarge im im' → ((b : ℕ) → (im'.at b ≡ im.at b) ⊎ IsPlace o l b)
-    → ((j d : ℕ) → IsJournalAt l j d → IsReadable (ring_of (holding im' o d))) → StandsBy im o l t → StandsBy im' o l t
+PlacesDoNotMatter = (im im' : Image) (o : Owners) (l : Layout) (t : Tree) → IsAsLarge im im' → ((b : ℕ) → (im'.at b ≡ im.at b) ⊎ IsRingPlace o l b)
+    → ((j d : ℕ) → IsJournalAt l j d → IsReadable (ring_of (holding im' o d))) → StandsBy im o l t
+    → StandsBy im' o l t × OnlyPlacesChange im im' o l

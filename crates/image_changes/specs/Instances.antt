@@ -1,18 +1,18 @@
 -- Four changes of an image that stands: a file's content changes; a name is added, removed, or moved.
 use Rattle.std.specs.Prelude.{ℕ, ◌≡◌, ◌≢◌, ◌≤◌, ◌==◌, ◌||◌, Bool, true, false, List, [], ◌∷◌, codes, None, Some}
 use Rattle.file_tree.specs.Tree.{Tree, file, dir, none}
-use Rattle.file_tree.specs.Names.{IsName}
+use Rattle.file_tree.specs.Names.{IsName, leads_to}
 use Rattle.file_tree.specs.Apply.{file_limit, put_at, remove_at}
 use Rattle.gfs2_layout.specs.declared.dinode.Dinode.{Dinode}
 use Rattle.gfs2_layout.specs.Inode.{dinode_in, is_directory_in, content_of, records_of}
 use Rattle.gfs2_layout.specs.Records.{Record, child_named}
 use Rattle.image_model.specs.Flat.{Path, follow, tree_at, ReadsAs}
 use Rattle.image_model.specs.Image.{Image}
-use Rattle.image_model.specs.Owners.{Owners, Named, is_dinode, holding}
+use Rattle.image_model.specs.Owners.{Owners, Free, Named, is_dinode, holding}
 use Rattle.image_model.specs.Stands.{Layout, IsLaid, IsRecordOf, flat_of, heads_of}
-use Rattle.image_changes.specs.Changes.{IsChange}
+use Rattle.image_changes.specs.Changes.{IsChange, JournalsStay}
 use Rattle.image_changes.specs.Directories.{IsExchanged, IsCounted, IsBare}
-use Rattle.image_changes.specs.Flats.{IsBeside, in_directory}
+use Rattle.image_changes.specs.Flats.{in_directory}
 
 -- by this table the image is laid out right, and its root reads as the tree
 pub record StandsBy (im : Image) (o : Owners) (l : Layout) (t : Tree) : Type 0 where
@@ -39,15 +39,15 @@ is_directory_at im o a = is_directory_in (holding im o a)
 
 -- ---- a file's content changes, and with it perhaps the blocks that it has
 
-pub record IsFileChanged (im im' : Image) (o o' : Owners) (l : Layout) (a : ℕ) : Type 0 where
-  pub change : IsChange im im' o o' l (among (a ∷ []))
+pub record IsFileChanged (im im' : Image) (o o' : Owners) (l : Layout) (written : ℕ → Bool) (a : ℕ) : Type 0 where
+  pub change : IsChange im im' o o' l (among (a ∷ [])) written
   pub row : o' a ≡ o a
   pub file : is_directory_at im o a ≡ false
   pub short : (dinode_at im' o' a).size ≤ file_limit
 
 abbrev pub FileChanges : Type 0
-FileChanges = (im im' : Image) (o o' : Owners) (l : Layout) (a : ℕ) (path : Path) (t : Tree) → StandsBy im o l t → IsAt im o l path a
-    → IsFileChanged im im' o o' l a → StandsBy im' o' l (put_at path (file (content_of (holding im' o' a))) t)
+FileChanges = (im im' : Image) (o o' : Owners) (l : Layout) (written : ℕ → Bool) (a : ℕ) (path : Path) (t : Tree) → StandsBy im o l t → IsAt im o l path a
+    → IsFileChanged im im' o o' l written a → StandsBy im' o' l (put_at path (file (content_of (holding im' o' a))) t) × JournalsStay im im' o o' l
 
 -- ---- a name is added: that of a file without content or of a directory without a name, whose dinode is a block that was free
 
@@ -55,9 +55,9 @@ pub data IsNew (im : Image) (o : Owners) (parent a : ℕ) : Tree → Type 0 wher
   empty_file : is_directory_at im o a ≡ false → (dinode_at im o a).size ≡ 0 → IsNew im o parent a (file [])
   empty_directory : is_directory_at im o a ≡ true → IsBare (heads_of im o) a parent (records_at im o a) (dinode_at im o a) → IsNew im o parent a (dir none)
 
-pub record IsNameAdded (im im' : Image) (o o' : Owners) (l : Layout) (parent : ℕ) (name : List ℕ) (a : ℕ) (u : Tree) : Type 0 where
-  pub change : IsChange im im' o o' l (among (parent ∷ (a ∷ [])))
-  pub was_none : is_dinode (o a) ≡ false
+pub record IsNameAdded (im im' : Image) (o o' : Owners) (l : Layout) (written : ℕ → Bool) (parent : ℕ) (name : List ℕ) (a : ℕ) (u : Tree) : Type 0 where
+  pub change : IsChange im im' o o' l (among (parent ∷ (a ∷ []))) written
+  pub was_free : (g : ℕ) × (o a ≡ Free g)
   pub parent_row : o' parent ≡ o parent
   pub row : o' a ≡ Named parent name
   pub is_name : IsName name
@@ -71,8 +71,8 @@ pub record IsNameAdded (im im' : Image) (o o' : Owners) (l : Layout) (parent : �
   pub new : IsNew im' o' parent a u
 
 abbrev pub NameIsAdded : Type 0
-NameIsAdded = (im im' : Image) (o o' : Owners) (l : Layout) (parent : ℕ) (name : List ℕ) (a : ℕ) (u : Tree) (path : Path) (t : Tree) → StandsBy im o l t
-    → IsAt im o l path parent → IsNameAdded im im' o o' l parent name a u → StandsBy im' o' l (put_at (in_directory path name) u t)
+NameIsAdded = (im im' : Image) (o o' : Owners) (l : Layout) (written : ℕ → Bool) (parent : ℕ) (name : List ℕ) (a : ℕ) (u : Tree) (path : Path) (t : Tree) → StandsBy im o l t
+    → IsAt im o l path parent → IsNameAdded im im' o o' l written parent name a u → StandsBy im' o' l (put_at (in_directory path name) u t) × JournalsStay im im' o o' l
 
 -- ---- a name is removed: that of a file or of a directory that has `.` and `..` alone, which is no inode any more
 
@@ -80,8 +80,8 @@ NameIsAdded = (im im' : Image) (o o' : Owners) (l : Layout) (parent : ℕ) (name
 abbrev pub IsChildless : Image → Owners → ℕ → Type 0
 IsChildless im o a = is_directory_at im o a ≡ true → (dinode_at im o a).entries ≡ 2
 
-pub record IsNameRemoved (im im' : Image) (o o' : Owners) (l : Layout) (parent : ℕ) (name : List ℕ) (a : ℕ) : Type 0 where
-  pub change : IsChange im im' o o' l (among (parent ∷ (a ∷ [])))
+pub record IsNameRemoved (im im' : Image) (o o' : Owners) (l : Layout) (written : ℕ → Bool) (parent : ℕ) (name : List ℕ) (a : ℕ) : Type 0 where
+  pub change : IsChange im im' o o' l (among (parent ∷ (a ∷ []))) written
   pub parent_row : o' parent ≡ o parent
   pub row : o a ≡ Named parent name
   pub gone : is_dinode (o' a) ≡ false
@@ -92,8 +92,8 @@ pub record IsNameRemoved (im im' : Image) (o o' : Owners) (l : Layout) (parent :
   pub counted : IsCounted (dinode_at im o parent) (dinode_at im' o' parent) (entry ∷ []) []
 
 abbrev pub NameIsRemoved : Type 0
-NameIsRemoved = (im im' : Image) (o o' : Owners) (l : Layout) (parent : ℕ) (name : List ℕ) (a : ℕ) (path : Path) (t : Tree) → StandsBy im o l t
-    → IsAt im o l path parent → IsNameRemoved im im' o o' l parent name a → StandsBy im' o' l (remove_at (in_directory path name) t)
+NameIsRemoved = (im im' : Image) (o o' : Owners) (l : Layout) (written : ℕ → Bool) (parent : ℕ) (name : List ℕ) (a : ℕ) (path : Path) (t : Tree) → StandsBy im o l t
+    → IsAt im o l path parent → IsNameRemoved im im' o o' l written parent name a → StandsBy im' o' l (remove_at (in_directory path name) t) × JournalsStay im im' o o' l
 
 -- ---- a name is moved: the inode keeps what is below it, and what stood at the target is no more
 
@@ -111,17 +111,24 @@ pub data IsRecordMoved (im im' : Image) (o o' : Owners) (from to : ℕ) (old new
       → IsExchanged (records_at im o to) (records_at im' o' to) target (new ∷ []) → IsCounted (dinode_at im o to) (dinode_at im' o' to) target (new ∷ [])
       → IsRecordMoved im im' o o' from to old new target
 
--- the inode itself is as before, or is a directory whose `..` is that of the new parent
+-- an inode says what it said: its times and the like don't matter, nor where its blocks are
+pub record SaysTheSame (im im' : Image) (o o' : Owners) (a : ℕ) : Type 0 where
+  pub content : is_directory_at im o a ≡ false → content_of (holding im' o' a) ≡ content_of (holding im o a)
+  pub size : is_directory_at im o a ≡ false → (dinode_at im' o' a).size ≡ (dinode_at im o a).size
+  pub records : is_directory_at im o a ≡ true → IsExchanged (records_at im o a) (records_at im' o' a) [] []
+  pub counted : is_directory_at im o a ≡ true → IsCounted (dinode_at im o a) (dinode_at im' o' a) [] []
+
+-- the inode itself says what it said, or is a directory with another parent, which its `..` names
 pub data IsItself (im im' : Image) (o o' : Owners) (from to a : ℕ) : Type 0 where
-  as_before : (is_directory_at im o a ≡ true → from ≡ to) → holding im' o' a ≡ holding im o a → IsItself im im' o o' from to a
-  turned : (old new : Record) → is_directory_at im o a ≡ true → IsExchanged (records_at im o a) (records_at im' o' a) (old ∷ []) (new ∷ [])
+  as_before : (is_directory_at im o a ≡ true → from ≡ to) → SaysTheSame im im' o o' a → IsItself im im' o o' from to a
+  reparented : (old new : Record) → is_directory_at im o a ≡ true → IsExchanged (records_at im o a) (records_at im' o' a) (old ∷ []) (new ∷ [])
       → IsCounted (dinode_at im o a) (dinode_at im' o' a) (old ∷ []) (new ∷ []) → old.name ≡ codes ".." → new.name ≡ codes ".."
       → IsRecordOf (heads_of im' o') to new → IsItself im im' o o' from to a
 
-pub record IsNameMoved (im im' : Image) (o o' : Owners) (l : Layout) (from : ℕ) (name : List ℕ) (to : ℕ) (name' : List ℕ) (a : ℕ) : Type 0 where
+pub record IsNameMoved (im im' : Image) (o o' : Owners) (l : Layout) (written : ℕ → Bool) (from : ℕ) (name : List ℕ) (to : ℕ) (name' : List ℕ) (a : ℕ) : Type 0 where
   pub removed : List ℕ
   pub target : List Record
-  pub change : IsChange im im' o o' l (among (from ∷ (to ∷ (a ∷ removed))))
+  pub change : IsChange im im' o o' l (among (from ∷ (to ∷ (a ∷ removed)))) written
   pub from_row : o' from ≡ o from
   pub to_row : o' to ≡ o to
   pub row : o a ≡ Named from name
@@ -138,8 +145,8 @@ pub record IsNameMoved (im im' : Image) (o o' : Owners) (l : Layout) (from : ℕ
   pub itself : IsItself im im' o o' from to a
 
 abbrev pub NameIsMoved : Type 0
-NameIsMoved = (im im' : Image) (o o' : Owners) (l : Layout) (from : ℕ) (name : List ℕ) (to : ℕ) (name' : List ℕ) (a : ℕ) (path path' : Path) (t u : Tree)
+NameIsMoved = (im im' : Image) (o o' : Owners) (l : Layout) (written : ℕ → Bool) (from : ℕ) (name : List ℕ) (to : ℕ) (name' : List ℕ) (a : ℕ) (path path' : Path) (t u : Tree)
     → StandsBy im o l t → IsAt im o l path from → IsAt im o l path' to → tree_at t (in_directory path name) ≡ Some u
-    → IsBeside (in_directory path name) path' → in_directory path name ≢ in_directory path' name'
-    → IsNameMoved im im' o o' l from name to name' a
-    → StandsBy im' o' l (put_at (in_directory path' name') u (remove_at (in_directory path name) t))
+    → leads_to (in_directory path name) (in_directory path' name') ≡ false
+    → IsNameMoved im im' o o' l written from name to name' a
+    → StandsBy im' o' l (put_at (in_directory path' name') u (remove_at (in_directory path name) t)) × JournalsStay im im' o o' l

@@ -1,13 +1,24 @@
 -- Laws of what a change of few blocks does to a whole image.
-use Rattle.std.specs.Prelude.{ℕ, ◌≡◌, Bool}
+use Rattle.std.specs.Prelude.{ℕ, ◌≡◌, Bool, false}
 use Rattle.image_model.specs.Image.{Image}
-use Rattle.image_model.specs.Owners.{Owners}
+use Rattle.image_model.specs.Owners.{Owners, holding}
 use Rattle.image_model.specs.Stands.{Layout, IsLaid}
-use Rattle.image_changes.specs.Changes.{IsChange, KeepsNames}
+use Rattle.image_changes.specs.Changes.{IsChange, KeepsNames, JournalsStay, place_of}
 
--- an image that is laid out right stays so under a change of few blocks that keeps its names
+-- an image that is laid out right stays so under a change of few blocks that keeps its names, and its journals stay
 abbrev pub StaysLaid : Type 0
-StaysLaid = (im im' : Image) (o o' : Owners) (l : Layout) (touched : ℕ → Bool) → IsLaid im o l → IsChange im im' o o' l touched → KeepsNames im im' o o' l touched → IsLaid im' o' l
+StaysLaid = (im im' : Image) (o o' : Owners) (l : Layout) (touched written : ℕ → Bool) → IsLaid im o l → IsChange im im' o o' l touched written
+    → KeepsNames im im' o o' l touched → IsLaid im' o' l × JournalsStay im im' o o' l
+
+-- an inode that isn't touched has what it had
+abbrev pub UntouchedStay : Type 0
+UntouchedStay = (im im' : Image) (o o' : Owners) (l : Layout) (touched written : ℕ → Bool) → IsChange im im' o o' l touched written
+    → (a : ℕ) → touched a ≡ false → holding im' o' a ≡ holding im o a
+
+-- a block that is neither written nor freed has the bytes that it had, and belongs where it belonged
+abbrev pub OthersStay : Type 0
+OthersStay = (im im' : Image) (o o' : Owners) (l : Layout) (touched written : ℕ → Bool) → IsChange im im' o o' l touched written
+    → (b : ℕ) → written b ≡ false → (im'.at b ≡ im.at b) × (place_of l o' b ≡ place_of l o b)
 
 -- an image has one layout
 abbrev pub OneLayout : Type 0

@@ -4,4 +4,5 @@ pub mod Changes
 pub mod Instances
 pub mod Contents
 pub mod States
+pub mod Walks
 pub mod Laws

@@ -15,7 +15,7 @@ GroupsStay = (im im' : Image) (o o' : Owners) (g : Rindex) → ((b : ℕ) → Is
 abbrev pub one_if : Bool → ℕ
 one_if b = if b then 1 else 0
 
--- the state of data block i is put: the bitmap has it, the header's counts follow, and all else of the headers stays
+-- the state of data block i is put: the bitmap has it, the header's counts follow, and what the header repeats of the entry stays
 pub record IsStatePut (g : Rindex) (old new : List (List ℕ)) (i state : ℕ) : Type 0 where
   pub header : HasHeader 2 200 (slice_index_or new 0 [])
   pub more : (k : ℕ) → 0 < k → k < g.length → HasHeader 3 300 (slice_index_or new k [])
@@ -30,3 +30,14 @@ pub record IsStatePut (g : Rindex) (old new : List (List ℕ)) (i state : ℕ) :
 abbrev pub StateIsPut : Type 0
 StateIsPut = (g : Rindex) (old new : List (List ℕ)) (states : List ℕ) (i state : ℕ) → IsGroup g old states → i < g.data_blocks → i < 4 * length (bitmap_of old) → state < 4
     → IsStatePut g old new i state → IsGroup g new (slice_set states i state)
+
+-- a group's header is written with another number of its last inode, and all else of the group stays: it says the same states
+abbrev pub OtherGeneration : Type 0
+OtherGeneration = (g : Rindex) (old new : List (List ℕ)) (states : List ℕ) (n : ℕ) → IsGroup g old states → HasHeader 2 200 (slice_index_or new 0 [])
+    → ((k : ℕ) → 0 < k → slice_index_or new k [] ≡ slice_index_or old k []) → group_header new ≡ record (group_header old) { igeneration = n }
+    → bitmap_of new ≡ bitmap_of old → IsGroup g new states
+
+-- states that are, block by block, those of the owners are the table's
+abbrev pub TableSays : Type 0
+TableSays = (o : Owners) (g : Rindex) (states : List ℕ) → length states ≡ g.data_blocks
+    → ((i : ℕ) → i < g.data_blocks → slice_index_or states i 0 ≡ state_of (o (g.data0 + i))) → states ≡ states_of o g

@@ -1,11 +1,22 @@
 //! The general law of a change of few blocks, and its four cases.
 ghost use Rattle.image_changes.specs.Instances.{FileChanges, NameIsAdded, NameIsMoved, NameIsRemoved};
-ghost use Rattle.image_changes.specs.Laws.{StaysLaid};
+ghost use Rattle.image_changes.specs.Laws.{OthersStay, StaysLaid, UntouchedStay};
 
 /// A law: an image that is laid out right stays so under a change of few blocks, of which each touched inode, directory and
 /// group is right and which keeps its names.
 pub fn a_small_change_stays_laid()
     ensures { StaysLaid }
+{}
+
+/// A law: an inode that a change doesn't touch has what it had.
+pub fn untouched_inodes_stay()
+    ensures { UntouchedStay }
+{}
+
+/// A law: a block that a change neither writes nor frees has the bytes that it had, is under the lock that it was under, and is
+/// free where it was.
+pub fn other_blocks_stay()
+    ensures { OthersStay }
 {}
 
 /// A law: with other content in a file, and perhaps other blocks for it, the image stands for the tree with that content.

@@ -12,10 +12,13 @@ pub use contents::{
 };
 pub use instances::{
     a_file_changes, a_name_is_added, a_name_is_moved, a_name_is_removed, a_small_change_stays_laid,
+    other_blocks_stay, untouched_inodes_stay,
 };
 pub use paths::{
-    a_file_is_rewritten, a_name_is_gone, a_name_leads_to_a_tree, unreached_inodes_do_not_matter,
+    a_file_is_rewritten, a_name_is_gone, a_name_leads_to_a_tree, paths_end_with_a_name,
+    unreached_inodes_do_not_matter, walks_end_at_absent_names, walks_find_inodes,
 };
 pub use pieces::{
-    a_directory_looks_at_what_it_names, a_state_is_put, records_go_and_come, untouched_groups_stay,
+    a_directory_gets_another_parent, a_directory_looks_at_what_it_names, a_generation_is_no_state,
+    a_state_is_put, records_go_and_come, states_are_those_of_owners, untouched_groups_stay,
 };

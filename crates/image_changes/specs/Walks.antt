@@ -1,0 +1,33 @@
+-- What a walk along a path finds, by the inodes: how a call's reply is read off the image.
+use Rattle.std.specs.Prelude.{ℕ, ◌≡◌, true, false, List, ◌∷◌, ◌++◌, None, Some}
+use Rattle.file_tree.specs.Tree.{Tree}
+use Rattle.file_tree.specs.Names.{parent_of, last_of}
+use Rattle.file_tree.specs.Apply.{Found, Refused, walk}
+use Rattle.file_tree.specs.declared.reply.Reply.TheVariants.{NotFound, NotDir}
+use Rattle.image_model.specs.Flat.{Path, tree_at, ReadsAs}
+use Rattle.image_model.specs.Image.{Image}
+use Rattle.image_model.specs.Owners.{Owners}
+use Rattle.image_model.specs.Stands.{Layout, flat_of}
+use Rattle.image_changes.specs.Flats.{in_directory}
+use Rattle.image_changes.specs.Instances.{StandsBy, IsAt, is_directory_at}
+
+-- a walk to an inode's path finds the tree that the inode reads as
+pub record FindsIt (im : Image) (o : Owners) (t : Tree) (path : Path) (a : ℕ) : Type 0 where
+  pub tree : Tree
+  pub walks : walk t path ≡ Found tree
+  pub there : tree_at t path ≡ Some tree
+  pub reads : ReadsAs (flat_of im o) a tree
+
+abbrev pub WalksFind : Type 0
+WalksFind = (im : Image) (o : Owners) (l : Layout) (t : Tree) (path : Path) (a : ℕ) → StandsBy im o l t → IsAt im o l path a → FindsIt im o t path a
+
+-- where the next name leads nowhere, a walk that goes on is refused: as not found in a directory, and as no directory in a file
+abbrev pub WalksEnd : Type 0
+WalksEnd = (im : Image) (o : Owners) (l : Layout) (t : Tree) (path : Path) (a : ℕ) (name : List ℕ) (rest : Path) → StandsBy im o l t → IsAt im o l path a
+    → (flat_of im o a).child name ≡ None
+    → (is_directory_at im o a ≡ true → walk t (path ++ (name ∷ rest)) ≡ Refused NotFound)
+    × (is_directory_at im o a ≡ false → walk t (path ++ (name ∷ rest)) ≡ Refused NotDir)
+
+-- a path of names ends with its last in the directory at its parent
+abbrev pub PathsEnd : Type 0
+PathsEnd = (name : List ℕ) (rest : Path) → name ∷ rest ≡ in_directory (parent_of (name ∷ rest)) (last_of (name ∷ rest))
