@@ -22,7 +22,7 @@ no-some : {A : Type 0} {B : Type 0} {a : A} → None ≡ Some a → B
 no-some {A} {B} {a} e = absurd (let f : None ≡ Some a = e in cc)
 
 -- the number of a life that was fenced is fixed
-fenced-value : (i : ℕ) (behind : ℕ → AcceptedHead) (l : Life) (items : List TraceItem) (h k : AcceptedHead) (p : ℕ) → fence i l items ≡ Some p → value i behind l items h ≡ value i behind l items k
+pub fenced-value : (i : ℕ) (behind : ℕ → AcceptedHead) (l : Life) (items : List TraceItem) (h k : AcceptedHead) (p : ℕ) → fence i l items ≡ Some p → value i behind l items h ≡ value i behind l items k
 fenced-value i behind l items h k p e =
     ap (λ (o : Option ℕ). value_of (behind l.join).sequence i (mine i l items) (base i l items) (last_number i 0 items) (kept_head behind o h)) e
     ∙ sym (ap (λ (o : Option ℕ). value_of (behind l.join).sequence i (mine i l items) (base i l items) (last_number i 0 items) (kept_head behind o k)) e)

@@ -5,3 +5,5 @@ pub mod Growing
 pub mod Saying
 pub mod Ending
 pub mod Telling
+pub mod Tracing
+pub mod Remaining

@@ -13,7 +13,7 @@ use Rattle.head_laws.proofs.Items.{true-false, eqb-other, eqb-self}
 use Rattle.head_laws.proofs.Values.{value, value-is}
 use Rattle.head_laws.proofs.Goods.{Good, Inv, open-runs}
 use Rattle.head_laws.proofs.Saying.{says, writes-log, writes-replay, answers, begins, begins-last, commits}
-use Rattle.head_laws.proofs.Ending.{waits-value, replays, replays-past, ends, stops, is-fenced, joins, loses, is-recovered}
+use Rattle.head_laws.proofs.Ending.{waits-value, fenced-value, replays, replays-past, ends, stops, is-fenced, joins, loses, is-recovered}
 
 no-some : {A : Type 0} {B : Type 0} {a : A} → None ≡ Some a → B
 no-some {A} {B} {a} e = absurd (let f : None ≡ Some a = e in cc)
@@ -88,6 +88,13 @@ are-told i behind j items inv = record {
               | inr a ↦ absurd (let u : j.unlost ≡ 0 = inv.settled a in omega (arith, low, m, u))
             ]
       ];
+  fixed = λ l h some who is.
+      let g = inv.lives (losses_of i items) l is (omega arith) in
+      let c = g.closed (elim (eqb_tells j.unlost 0) [ inl none ↦ absurd (some none.1) | inr some ↦ let u = some.1 in omega (arith, u) ]) in
+      let f = c.fenced (inr who) in
+      value-is i behind l items h g.node ∙ (fenced-value i (behind i) l items h (j.name false) f.0 f.1
+      ∙ (c.told false ∙ ap (λ (b : Bool). cond b (j.cut false) j.last) (eqb-self (losses_of i items))));
+  rests = λ none stopped d. inv.even none (inl stopped) d;
   count = inv.count;
 }
 
