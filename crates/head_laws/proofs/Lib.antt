@@ -7,3 +7,4 @@ pub mod Ending
 pub mod Telling
 pub mod Tracing
 pub mod Remaining
+pub mod Example

@@ -1,6 +1,7 @@
 //! Which head a loss counts from, by the items of the trace.
 #![tactic(auto)]
 
+ghost use Rattle.head_laws.specs.Example.{JournalCanLive};
 ghost use Rattle.head_laws.specs.Laws.{HeadsAreTold};
 ghost use Rattle.head_laws.specs.Traces.{LossesAreRight, RemainsStand};
 
@@ -22,4 +23,9 @@ pub fn losses_are_right<T: TreeImages>()
 /// which is legal.
 pub fn remains_stand<T: TreeImages>()
     ensures { RemainsStand T.images }
+{}
+
+/// A law: the events can be: a node stops behind a header that has no item, its journal is replayed, and it joins again.
+pub fn a_journal_can_live()
+    ensures { JournalCanLive }
 {}
