@@ -4,7 +4,7 @@ use Rattle.std.specs.Prelude.{nat_lt, if◌then◌else◌}
 use Rattle.std.proofs.lemmas.Bool.{cases_eq, cases_lt, cases_Bool, cond-true, cond-false, eq-eqb}
 use Rattle.cluster_laws.specs.Files.{Files, RightTo}
 use Rattle.cluster_laws.specs.Book.{at, Kept, Book, W, InBox, kept_by, Numbered, dropped, Whole}
-use Rattle.cluster_laws.specs.History.{Item, Called, Gone, living, saids, Legal, Each, calls_of, Fitting, Life, gones, least, cut_at, Above, HasLife, AreLives}
+use Rattle.cluster_laws.specs.History.{Item, Called, Gone, living, saids, Legal, Each, calls_of, Fitting, Loss, gones, least, cut_at, Above, HasLife, AreLives}
 use Rattle.cluster_laws.specs.Log.{Calm}
 use Rattle.cluster_laws.specs.World.{World, Sound}
 use Rattle.cluster_laws.specs.Mirror.{Near, IsOutcome, IsReplay, FreeIsFree, placed}
@@ -81,7 +81,7 @@ append-nil [] = refl
 append-nil (x ∷ xs) = ap (λ z. x ∷ z) (append-nil xs)
 
 module _ (F : Files) (B : Book F) (whole : Whole F B) where
-  more : (now : ℕ → ℕ) (ls : List Life) (items : List (Item F)) → InBox F B now → ((i : ℕ) → now i ≤ B.published i) → Above (B.low) ls
+  more : (now : ℕ → ℕ) (ls : List Loss) (items : List (Item F)) → InBox F B now → ((i : ℕ) → now i ≤ B.published i) → Above (B.low) ls
       → Legal F items (B.start) → living F items ≡ keep F now (B.kept)
       → Legal F (items ++ gones F ls) (B.start) × (saids F (living F (items ++ gones F ls)) ≡ kept_by F (cut_at now ls) (B.kept))
   more now [] items in_box below above legal told =
@@ -109,20 +109,20 @@ remains_legal F w ls s above =
 
 -- ---- lives that leave exactly what a cut has
 
-cut_at-above : (cut now : ℕ → ℕ) (ls : List Life) → ((i : ℕ) → cut i ≤ now i) → Above cut ls → (i : ℕ) → cut i ≤ cut_at now ls i
+cut_at-above : (cut now : ℕ → ℕ) (ls : List Loss) → ((i : ℕ) → cut i ≤ now i) → Above cut ls → (i : ℕ) → cut i ≤ cut_at now ls i
 cut_at-above cut now [] below above i = below i
 cut_at-above cut now (l ∷ ls) below above i = cut_at-above cut (at now (l.node) (least (now (l.node)) (l.kept))) ls
     (λ j. at-cases (λ z. cut j ≤ z) now (l.node) (least (now (l.node)) (l.kept)) j
     (λ e. subst (λ m. cut m ≤ least (now (l.node)) (l.kept)) (sym e) (least-above (cut (l.node)) (now (l.node)) (l.kept) (below (l.node)) (above.0))) (λ ne. below j)) (above.1) i
 
-cut_at-below : (now : ℕ → ℕ) (ls : List Life) (i : ℕ) → cut_at now ls i ≤ now i
+cut_at-below : (now : ℕ → ℕ) (ls : List Loss) (i : ℕ) → cut_at now ls i ≤ now i
 cut_at-below now [] i = omega arith
 cut_at-below now (l ∷ ls) i =
     let p = cut_at-below (at now (l.node) (least (now (l.node)) (l.kept))) ls i in
     let q : at now (l.node) (least (now (l.node)) (l.kept)) i ≤ now i = at-cases (λ z. z ≤ now i) now (l.node) (least (now (l.node)) (l.kept)) i
     (λ e. subst (λ m. least (now (l.node)) (l.kept) ≤ now m) (sym e) (least-first (now (l.node)) (l.kept))) (λ ne. omega arith) in omega arith
 
-cut_at-life : (cut now : ℕ → ℕ) (ls : List Life) (i : ℕ) → HasLife cut i ls → cut_at now ls i ≤ cut i
+cut_at-life : (cut now : ℕ → ℕ) (ls : List Loss) (i : ℕ) → HasLife cut i ls → cut_at now ls i ≤ cut i
 cut_at-life cut now [] i h = absurd h
 cut_at-life cut now (l ∷ ls) i (inl h) =
     let p = cut_at-below (at now (l.node) (least (now (l.node)) (l.kept))) ls i in
@@ -131,14 +131,14 @@ cut_at-life cut now (l ∷ ls) i (inl h) =
     let e = h.1 in omega arith
 cut_at-life cut now (l ∷ ls) i (inr h) = cut_at-life cut (at now (l.node) (least (now (l.node)) (l.kept))) ls i h
 
-pub cut_at-lives : (published cut : ℕ → ℕ) (ls : List Life) → ((i : ℕ) → cut i ≤ published i) → AreLives published cut ls → (i : ℕ) → cut_at published ls i ≡ cut i
+pub cut_at-lives : (published cut : ℕ → ℕ) (ls : List Loss) → ((i : ℕ) → cut i ≤ published i) → AreLives published cut ls → (i : ℕ) → cut_at published ls i ≡ cut i
 cut_at-lives published cut ls below lives i =
     let p = cut_at-above cut published ls below (lives.above) i in elim (lives.every i) [
       | inl all ↦ (let q = cut_at-below published ls i in omega arith)
       | inr life ↦ (let q = cut_at-life cut published ls i life in omega arith)
     ]
 
-pub Above-lower : (low cut : ℕ → ℕ) (ls : List Life) → ((i : ℕ) → low i ≤ cut i) → Above cut ls → Above low ls
+pub Above-lower : (low cut : ℕ → ℕ) (ls : List Loss) → ((i : ℕ) → low i ≤ cut i) → Above cut ls → Above low ls
 Above-lower low cut [] h above = tt
 Above-lower low cut (l ∷ ls) h above = (let p = h (l.node) in let q = above.0 in omega arith, Above-lower low cut ls h (above.1))
 
@@ -166,7 +166,7 @@ image_same F B whole a b between = λ i k. at_block k i
           ∙ sym (whose-some _ _ (some.1)))
     ]
 
-cut_at-loss : (F : Files) (B : Book F) (cut now : ℕ → ℕ) (ls : List Life) (i : ℕ) → HasLoss F B cut i ls
+cut_at-loss : (F : Files) (B : Book F) (cut now : ℕ → ℕ) (ls : List Loss) (i : ℕ) → HasLoss F B cut i ls
     → (k : ℕ) × (cut_at now ls i ≤ k) × (k ≤ B.answered i) × Calm F B i (cut i) k
 cut_at-loss F B cut now [] i h = absurd h
 cut_at-loss F B cut now (l ∷ ls) i (inl h) =
@@ -177,7 +177,7 @@ cut_at-loss F B cut now (l ∷ ls) i (inl h) =
 cut_at-loss F B cut now (l ∷ ls) i (inr h) = cut_at-loss F B cut (at now (l.node) (least (now (l.node)) (l.kept))) ls i h
 
 -- what such losses leave of a node is the cut, or more that changes nothing
-pub cut_at-losses : (F : Files) (B : Book F) (published cut : ℕ → ℕ) (ls : List Life) → ((i : ℕ) → cut i ≤ published i) → ((i : ℕ) → published i ≤ B.answered i)
+pub cut_at-losses : (F : Files) (B : Book F) (published cut : ℕ → ℕ) (ls : List Loss) → ((i : ℕ) → cut i ≤ published i) → ((i : ℕ) → published i ≤ B.answered i)
     → AreLosses F B published cut ls → (i : ℕ)
     → (cut i ≤ cut_at published ls i) × (cut_at published ls i ≤ published i) × Calm F B i (cut i) (cut_at published ls i)
 cut_at-losses F B published cut ls below top losses i = (

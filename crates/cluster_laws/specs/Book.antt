@@ -1,10 +1,7 @@
 -- The book of cuts: what each block has, as a function of how many calls of its owner are kept.
+pub use Rattle.lock_laws.specs.Lock.{at}
 use Rattle.std.specs.Prelude.{ℕ, ◌≡◌, ◌≤◌, ◌<◌, ◌⊎◌, ⊤, suc, Bool, ◌==◌, ◌&&◌, nat_lt, if◌then◌else◌, Option, None, Some, List, [], ◌∷◌, ◌++◌}
 use Rattle.cluster_laws.specs.Files.{Files, CellOf, Image, Part, LockOf, laid, Does, Tells, Touches, RightTo, State, Un, Ex}
-
--- a function with one value given anew
-abbrev pub at : {A : Type 0} → (ℕ → A) → ℕ → A → ℕ → A
-at f j x i = if i == j then x else f i
 
 -- a published call
 pub record Kept (F : Files) : Type 0 where

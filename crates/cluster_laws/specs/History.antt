@@ -85,11 +85,11 @@ KeptRight F items = (before after : List (Item F)) (i upto kept : ℕ) → items
 -- ---- what remains where lives are cut off
 
 -- a loss for each life that ended, with its node and the number that is kept
-pub record Life : Type 0 where
+pub record Loss : Type 0 where
   pub node : ℕ
   pub kept : ℕ
 
-abbrev pub gones : (F : Files) → List Life → List (Item F)
+abbrev pub gones : (F : Files) → List Loss → List (Item F)
 gones F [] = []
 gones F (l ∷ ls) = Gone (l.node) (l.kept) (l.kept) ∷ gones F ls
 
@@ -97,21 +97,21 @@ abbrev pub least : ℕ → ℕ → ℕ
 least a b = if nat_lt b a then b else a
 
 -- the cut that is left. A second life of a node that keeps no less than is left changes nothing
-abbrev pub cut_at : (ℕ → ℕ) → List Life → ℕ → ℕ
+abbrev pub cut_at : (ℕ → ℕ) → List Loss → ℕ → ℕ
 cut_at now [] = now
 cut_at now (l ∷ ls) = cut_at (at now (l.node) (least (now (l.node)) (l.kept))) ls
 
 -- each keeps what its node's journal has
-abbrev pub Above : (ℕ → ℕ) → List Life → Type 0
+abbrev pub Above : (ℕ → ℕ) → List Loss → Type 0
 Above low [] = ⊤
 Above low (l ∷ ls) = (low (l.node) ≤ l.kept) × Above low ls
 
 -- of this node the losses of one life keep exactly what the cut has
-abbrev pub HasLife : (ℕ → ℕ) → ℕ → List Life → Type 0
+abbrev pub HasLife : (ℕ → ℕ) → ℕ → List Loss → Type 0
 HasLife cut i [] = ⊥
 HasLife cut i (l ∷ ls) = ((l.node ≡ i) × (l.kept ≡ cut i)) ⊎ HasLife cut i ls
 
 -- lives whose losses leave exactly what the cut has, of nodes that have published so much: in any order, several of one node among them
-pub record AreLives (published cut : ℕ → ℕ) (ls : List Life) : Type 0 where
+pub record AreLives (published cut : ℕ → ℕ) (ls : List Loss) : Type 0 where
   pub above : Above cut ls
   pub every : (i : ℕ) → (published i ≤ cut i) ⊎ HasLife cut i ls

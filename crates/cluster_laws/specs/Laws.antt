@@ -4,7 +4,7 @@ use Rattle.cluster_laws.specs.Files.{Files, Part, LockOf, RightTo, State, Un, Ex
 use Rattle.cluster_laws.specs.Book.{Book, Whole, W, Seen, tried, publish, flushed, settled, relocked, kept_by, lost}
 use Rattle.cluster_laws.specs.Locks.{Lowers, Raises, read_into}
 use Rattle.cluster_laws.specs.Mirror.{Near, Head, Heads, Disk, Mirror, IsOutcome, IsReplay, FreeIsFree, placed, renumbered}
-use Rattle.cluster_laws.specs.History.{Legal, living, saids, Each, Life, gones, cut_at, Above, AreLives, Gone}
+use Rattle.cluster_laws.specs.History.{Legal, living, saids, Each, Loss, gones, cut_at, Above, AreLives, Gone}
 use Rattle.cluster_laws.specs.Log.{Untouched, Calm, IsHeader, IsFlushed, IsRevoked, MayGo, NumbersStand, GoOn, GoesDown}
 use Rattle.cluster_laws.specs.Notes.{Note, NoteStands, Caches, CachesAfter, CacheMinds, NoteMinds, NeedsBlock}
 use Rattle.cluster_laws.specs.World.{World, Answering, Step, Answers, Sound}
@@ -67,7 +67,7 @@ ReadIsRight F = (B : Book F) (D : Disk F) (j b : ℕ) → Whole F B → Mirror F
 
 -- the history with losses of any lives, several of one node among them, is legal, and keeps what the cut that is left keeps
 abbrev pub RemainsLegal : Files → Type 0
-RemainsLegal F = (w : World F) (ls : List Life) → Sound F w → Above ((w.book).low) ls
+RemainsLegal F = (w : World F) (ls : List Loss) → Sound F w → Above ((w.book).low) ls
     → Legal F (w.items ++ gones F ls) ((w.book).start)
     × (saids F (living F (w.items ++ gones F ls)) ≡ kept_by F (cut_at ((w.book).published) ls) ((w.book).kept))
 
@@ -136,19 +136,19 @@ abbrev pub head_cuts : (F : Files) → Disk F → (ℕ → Bool) → ℕ → ℕ
 head_cuts F D choice i = (D.heads i (choice i)).cut
 
 -- of this node the losses of one life keep what the rule of losses keeps: the number that the cut has, or more that changes nothing
-abbrev pub HasLoss : (F : Files) → Book F → (ℕ → ℕ) → ℕ → List Life → Type 0
+abbrev pub HasLoss : (F : Files) → Book F → (ℕ → ℕ) → ℕ → List Loss → Type 0
 HasLoss F B cut i [] = ⊥
 HasLoss F B cut i (l ∷ ls) = ((l.node ≡ i) × (l.kept ≤ B.answered i) × Calm F B i (cut i) (l.kept)) ⊎ HasLoss F B cut i ls
 
 -- a loss for each node that has published more than the cut keeps, by the rule; several of one node among them, in any order
-pub record AreLosses (F : Files) (B : Book F) (published cut : ℕ → ℕ) (ls : List Life) : Type 0 where
+pub record AreLosses (F : Files) (B : Book F) (published cut : ℕ → ℕ) (ls : List Loss) : Type 0 where
   pub above : Above cut ls
   pub every : (i : ℕ) → (published i ≤ cut i) ⊎ HasLoss F B cut i ls
 
 -- the prefix clause: whatever becomes of the writes in flight and of the headers, the history with a loss for each life that has none is legal, and
 -- the disk, its journals replayed, stands for the tree at its end
 abbrev pub PrefixClause : Files → Type 0
-PrefixClause F = (w : World F) (choice : ℕ → Bool) (x r : ℕ → F.Content) (ls : List Life) → Sound F w → FreeIsFree F
+PrefixClause F = (w : World F) (choice : ℕ → Bool) (x r : ℕ → F.Content) (ls : List Loss) → Sound F w → FreeIsFree F
     → IsOutcome F (w.disk) x → IsReplay F (w.disk) choice x r → AreLives ((w.book).published) (head_cuts F (w.disk) choice) ls
     → Legal F (w.items ++ gones F ls) ((w.book).start)
     × ((t : F.Tree) × F.Stands (placed F r (W F (w.book) (head_cuts F (w.disk) choice))) t × RightTo F (saids F (living F (w.items ++ gones F ls))) ((w.book).start) t)

@@ -4,7 +4,7 @@ use Rattle.std.proofs.lemmas.Bool.{cases_eq, cases_lt, cases_Bool, cond-true, co
 use Rattle.cluster_laws.specs.Files.{Files, RightTo}
 use Rattle.cluster_laws.specs.Book.{at, W, kept_by}
 use Rattle.cluster_laws.specs.Mirror.{Near, FreeIsFree, placed}
-use Rattle.cluster_laws.specs.History.{living, saids, Legal, Life, gones, cut_at, AreLives}
+use Rattle.cluster_laws.specs.History.{living, saids, Legal, Loss, gones, cut_at, AreLives}
 use Rattle.cluster_laws.specs.Laws.{head_cuts, AreLosses}
 use Rattle.cluster_laws.specs.Log.{Untouched, Last, Calm}
 use Rattle.cluster_laws.specs.World.{World, Sound, Run, Stop, Goes, Publishes}
@@ -114,7 +114,7 @@ module _ (F : Files) where
     sound' = run_keeps F w w' run' s
 
     -- what is left of the history where lives leave exactly what a cut has
-    module _ (cut : ℕ → ℕ) (ls : List Life) (low : (i : ℕ) → (w.book).low i ≤ cut i) (high : (i : ℕ) → cut i ≤ (w.book).answered i)
+    module _ (cut : ℕ → ℕ) (ls : List Loss) (low : (i : ℕ) → (w.book).low i ≤ cut i) (high : (i : ℕ) → cut i ≤ (w.book).answered i)
         (lives : AreLives ((w.book).answered) cut ls) where
       low-same : (i : ℕ) → (w'.book).low i ≡ (w.book).low i
       low-same i = ap (λ f. f i) ((same-below w n).low)
@@ -129,7 +129,7 @@ module _ (F : Files) where
       told = remains.1 ∙ ap (λ z. kept_by F z ((w'.book).kept)) (λ k i. cut_at-lives ((w'.book).published) cut ls (λ i. (let e = all' i in let h = high i in omega arith)) lives' i k)
 
     -- what is left where lives lose by the rule
-    module _ (cut : ℕ → ℕ) (ls : List Life) (low : (i : ℕ) → (w.book).low i ≤ cut i) (high : (i : ℕ) → cut i ≤ (w.book).answered i)
+    module _ (cut : ℕ → ℕ) (ls : List Loss) (low : (i : ℕ) → (w.book).low i ≤ cut i) (high : (i : ℕ) → cut i ≤ (w.book).answered i)
         (losses : AreLosses F (w.book) ((w.book).answered) cut ls) where
       left : (i : ℕ) → (cut i ≤ cut_at ((w.book).answered) ls i) × (cut_at ((w.book).answered) ls i ≤ (w.book).answered i)
           × Calm F (w.book) i (cut i) (cut_at ((w.book).answered) ls i)

@@ -4,7 +4,7 @@ use Rattle.std.specs.Prelude.{ℕ, zero, suc, ◌-◌, ◌≡◌, ◌≤◌, ◌
 use Rattle.cluster_laws.specs.Files.{Files, CellOf, Part, LockOf, RightTo, State, Un, Ex}
 use Rattle.cluster_laws.specs.Book.{W, InBox, publish}
 use Rattle.cluster_laws.specs.Mirror.{Near, IsReplay, FreeIsFree, placed}
-use Rattle.cluster_laws.specs.History.{Called, living, saids, Legal, Life, gones, AreLives}
+use Rattle.cluster_laws.specs.History.{Called, living, saids, Legal, Loss, gones, AreLives}
 use Rattle.cluster_laws.specs.Log.{Untouched, Last}
 use Rattle.cluster_laws.specs.World.{World, Sound, Run}
 use Rattle.cluster_laws.specs.Laws.{head_cuts, AreLosses}
@@ -63,7 +63,7 @@ Shows F w stops choice r = (b : ℕ) → IsUnflushed F w stops choice b (r b)
 
 -- The first part. The history is the published items, then the answered calls of each node that aren't published, then a loss by the rule for each life of a node
 -- that stops, which may keep calls behind the accepted head's that change nothing: it is legal, and the image stands for the tree at its end.
-pub record IsRight (F : Files) (w : World F) (n : ℕ) (stops choice : ℕ → Bool) (ls : List Life) : Type 0 where
+pub record IsRight (F : Files) (w : World F) (n : ℕ) (stops choice : ℕ → Bool) (ls : List Loss) : Type 0 where
   pub legal : Legal F ((published_below F n w).items ++ gones F ls) ((w.book).start)
   pub tree : F.Tree
   pub answers : RightTo F (saids F (living F ((published_below F n w).items ++ gones F ls))) ((w.book).start) tree
@@ -71,7 +71,7 @@ pub record IsRight (F : Files) (w : World F) (n : ℕ) (stops choice : ℕ → B
   pub shown : FreeIsFree F → (r : ℕ → F.Content) → Shows F w stops choice r → F.Stands (placed F r (W F (w.book) (cut_of F w stops choice))) tree
 
 abbrev pub EverySetMayStop : Files → Type 0
-EverySetMayStop F = (w : World F) (n : ℕ) (stops choice : ℕ → Bool) (ls : List Life) → Sound F w → PublishedFrom F n w
+EverySetMayStop F = (w : World F) (n : ℕ) (stops choice : ℕ → Bool) (ls : List Loss) → Sound F w → PublishedFrom F n w
     → AreLosses F (w.book) ((w.book).answered) (cut_of F w stops choice) ls → IsRight F w n stops choice ls
 
 -- the calls that are published for it are steps
@@ -81,13 +81,13 @@ AllIsPublished F = (w : World F) (n : ℕ) → Sound F w → PublishedFrom F n w
 
 -- The second part. Where every node stops, the image is the disk replayed, and the calls that aren't published are none of its history: no such call is
 -- part of a flush.
-pub record IsReplayed (F : Files) (w : World F) (n : ℕ) (choice : ℕ → Bool) (ls : List Life) : Type 0 where
+pub record IsReplayed (F : Files) (w : World F) (n : ℕ) (choice : ℕ → Bool) (ls : List Loss) : Type 0 where
   pub image : (r : ℕ → F.Content) → IsReplay F (w.disk) choice ((w.disk).blocks) r → Shows F w (λ i. true) choice r
   pub history : saids F (living F ((published_below F n w).items ++ gones F ls)) ≡ saids F (living F (w.items ++ gones F ls))
   pub flushed : (i : ℕ) → head_cuts F (w.disk) choice i ≤ (w.book).published i
 
 abbrev pub AllMayStop : Files → Type 0
-AllMayStop F = (w : World F) (n : ℕ) (choice : ℕ → Bool) (ls : List Life) → Sound F w → PublishedFrom F n w
+AllMayStop F = (w : World F) (n : ℕ) (choice : ℕ → Bool) (ls : List Loss) → Sound F w → PublishedFrom F n w
     → AreLives ((w.book).answered) (head_cuts F (w.disk) choice) ls → IsReplayed F w n choice ls
 
 -- ---- journals, caches, writes in flight

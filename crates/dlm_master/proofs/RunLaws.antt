@@ -151,6 +151,19 @@ together-of (x ∷ xs) one goes = (
       ]
     ]
 
+-- and back
+pub together-at : (cs : List Claim) → Together cs → (i k : ℕ) → i ≢ k → go_together (mode_at cs i) (mode_at cs k) ≡ true
+together-at cs all i k ne = by (mode_of_node cs i) refl (mode_of_node cs k) refl
+  where
+    by : (a : Option Mode) → mode_of_node cs i ≡ a → (b : Option Mode) → mode_of_node cs k ≡ b → go_together (mode_at cs i) (mode_at cs k) ≡ true
+    by None e b f = ap (λ (o : Option Mode). go_together (unwrap_or o Nl) (mode_at cs k)) e
+    by (Some m) e None f = together-turned (mode_at cs k) (mode_at cs i) (ap (λ (o : Option Mode). go_together (unwrap_or o Nl) (mode_at cs i)) f)
+    by (Some m) e (Some n) f =
+        let d = at-node (λ d. i ≢ d.node → go_together m d.mode ≡ true) cs k n (held-goes cs i m all e) f in
+        ap (λ (o : Option Mode). go_together (unwrap_or o Nl) (mode_at cs k)) e
+        ∙ (ap (λ (o : Option Mode). go_together m (unwrap_or o Nl)) f
+        ∙ (ap (go_together m) (sym d.3) ∙ d.1 (λ q. ne (q ∙ d.2))))
+
 -- ---- why a node needn't wait
 
 or-none : (a b : Option Cause) → or_else a b ≡ None → (a ≡ None) × (b ≡ None)

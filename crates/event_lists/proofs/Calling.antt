@@ -1,10 +1,10 @@
 -- Steps of the lock manager as events.
-use Rattle.std.proofs.Common.{ℕ, ◌≡◌, inl, inr, false, None, [], ◌∷◌, ◌++◌, refl, sym, subst}
+use Rattle.std.proofs.Common.{ℕ, ◌≡◌, inl, inr, false, None, [], ◌∷◌, ◌++◌, refl, sym, ◌∙◌, subst}
 use Rattle.cluster_laws.specs.Files.{Files}
-use Rattle.cluster_events.specs.Cluster.{Sends, Rests, OfOne, Granted, Receives, NoGrant, Takes, Weakens, Keeps, GoesTo, Mails}
+use Rattle.cluster_events.specs.Cluster.{Sends, Rests, OfOne, Granted, Receives, NoGrant, Takes, Weakens, Keeps, GoesTo, Works, Mails, IsGranted, GoesDown, Stops, Fences, Views, Joins, Recovers, PastEnds}
 use Rattle.lock_laws.specs.Lock.{Node}
 use Rattle.lock_laws.specs.Lock as lock
-use Rattle.event_lists.specs.Calls.{IsMail, IsTaken, IsLowered, LockStepsFit}
+use Rattle.event_lists.specs.Calls.{IsMail, IsTaken, IsLowered, LockStepsFit, LocksMakeSteps}
 
 sends : (l n : ℕ → Node) (step : lock.Step l n) → IsMail l n step → Sends l n
 sends l _ (lock.Moves k _ (lock.Asks s member fresh taken waits un asked)) is = OfOne k _ (lock.Asks s member fresh taken waits un asked) refl refl refl
@@ -71,3 +71,17 @@ lock_steps_fit F c locks = record {
     | inr one ↦ lowers i (c.locks l) (locks l) (one.0) (one.1)
   ];
 }
+
+-- ---- events of all locks at once
+
+pub locks_make : (F : Files) → LocksMakeSteps F
+locks_make F c _ (Stops i here runs all) t = λ l. (lock.Moves i _ lock.Stops, refl)
+locks_make F c _ Views t = λ l. (lock.Changes, tt)
+locks_make F c _ (Joins i here out fenced waits) t = λ l. (lock.Moves i _ (lock.Joins (t.members i l ∙ out)), refl)
+locks_make F c _ (Recovers i here wait nothing_left unheaded told) t = λ l. (lock.Moves i _ (lock.IsRecovered (t.waiting i l ∙ wait)), refl)
+locks_make F c _ (PastEnds wait nothing_left unheaded) t = λ l. (lock.Moves (c.past) _ (lock.IsRecovered (t.waiting (c.past) l ∙ wait)), refl)
+locks_make F c _ (Works w step may) t = tt
+locks_make F c _ (Mails locks sent) t = tt
+locks_make F c _ (IsGranted i locks here none taken) t = tt
+locks_make F c _ (GoesDown i locks cache here weakens all clean cached) t = tt
+locks_make F c _ (Fences i out unfenced idle) t = tt

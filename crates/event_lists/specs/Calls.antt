@@ -1,7 +1,7 @@
 -- A step of the lock manager at some locks, one at each, is among the cluster's events.
 use Rattle.std.specs.Prelude.{ℕ, ◌≡◌, ◌⊎◌, ⊤}
 use Rattle.cluster_laws.specs.Files.{Files}
-use Rattle.cluster_events.specs.Cluster.{Cluster, Receives, Weakens, Event}
+use Rattle.cluster_events.specs.Cluster.{Cluster, Receives, Weakens, Event, Stops, Views, Joins, Recovers, PastEnds, Together}
 use Rattle.lock_laws.specs.Lock.{Node}
 use Rattle.lock_laws.specs.Lock as lock
 
@@ -39,3 +39,37 @@ pub record StepsAreOfEvents (F : Files) (c : Cluster F) (locks : F.Lock → ℕ 
 
 abbrev pub LockStepsFit : Files → Type 0
 LockStepsFit F = (c : Cluster F) (locks : F.Lock → ℕ → Node) → StepsAreOfEvents F c locks
+
+-- ---- what is of all locks at once: a stop, a view, a join and a recovery
+
+abbrev pub IsStop : ℕ → (l n : ℕ → Node) → lock.Step l n → Type 0
+IsStop i l _ (lock.Moves k _ lock.Stops) = k ≡ i
+IsStop i l _ _ = ⊥
+
+abbrev pub IsView : (l n : ℕ → Node) → lock.Step l n → Type 0
+IsView l _ lock.Changes = ⊤
+IsView l _ _ = ⊥
+
+abbrev pub IsJoin : ℕ → (l n : ℕ → Node) → lock.Step l n → Type 0
+IsJoin i l _ (lock.Moves k _ (lock.Joins out)) = k ≡ i
+IsJoin i l _ _ = ⊥
+
+abbrev pub IsRecovery : ℕ → (l n : ℕ → Node) → lock.Step l n → Type 0
+IsRecovery i l _ (lock.Moves k _ (lock.IsRecovered waits)) = k ≡ i
+IsRecovery i l _ _ = ⊥
+
+-- each lock makes such a step
+abbrev pub EachMakes : (F : Files) (c c' : Cluster F) → ((l n : ℕ → Node) → lock.Step l n → Type 0) → Type 0
+EachMakes F c c' Is = (l : F.Lock) → (step : lock.Step (c.locks l) (c'.locks l)) × Is (c.locks l) (c'.locks l) step
+
+abbrev pub AllMake : (F : Files) (c c' : Cluster F) → Event F c c' → Type 0
+AllMake F c c' (Stops i here runs all) = EachMakes F c c' (IsStop i)
+AllMake F c c' Views = EachMakes F c c' IsView
+AllMake F c c' (Joins i here out fenced waits) = EachMakes F c c' (IsJoin i)
+AllMake F c c' (Recovers i here wait nothing_left unheaded told) = EachMakes F c c' (IsRecovery i)
+AllMake F c c' (PastEnds wait nothing_left unheaded) = EachMakes F c c' (IsRecovery (c.past))
+AllMake F c c' _ = ⊤
+
+-- in each of these events each lock makes the step of that name
+abbrev pub LocksMakeSteps : Files → Type 0
+LocksMakeSteps F = (c c' : Cluster F) (event : Event F c c') → Together F c → AllMake F c c' event

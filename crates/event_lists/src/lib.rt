@@ -6,7 +6,7 @@ ghost use Rattle.event_lists.specs.Demotions.{CommitIsEvents, FlushFlushes, Flus
 ghost use Rattle.event_lists.specs.Homes.{HomeIsEvents, HomeIsAtHome, FlushedIsReleased, DemotionIsEvents, UnmountIsEvents};
 ghost use Rattle.event_lists.specs.Stages.{StagesStay};
 ghost use Rattle.event_lists.specs.Begins.{StartsFromDisk};
-ghost use Rattle.event_lists.specs.Calls.{LockStepsFit};
+ghost use Rattle.event_lists.specs.Calls.{LockStepsFit, LocksMakeSteps};
 
 use cluster_laws::System;
 
@@ -86,4 +86,9 @@ pub fn a_dirty_start_starts<S: System>()
 /// A law: steps of the lock manager, one at each lock or none, are events: messages as they are, grants that are taken and downs as what these events ask of each lock.
 pub fn lock_steps_are_events<S: System>()
     ensures { LockStepsFit S.files }
+{}
+
+/// A law: a stop, a view, a join and a recovery are of all locks at once: each lock makes the step of that name.
+pub fn each_lock_makes_its_step<S: System>()
+    ensures { LocksMakeSteps S.files }
 {}

@@ -125,6 +125,7 @@ pub record Sound (l : ℕ → Node) : Type 0 where
 
 -- ---- events
 
+-- a function with one value given anew
 abbrev pub at : {A : Type 0} → (ℕ → A) → ℕ → A → ℕ → A
 at f j x i = if i == j then x else f i
 

@@ -20,7 +20,7 @@ use Rattle.lock_steps.specs.Parts.{Parts, way, with_letters}
 use Rattle.lock_steps.specs.Ties.{Tell, tell_of, Sight, sight, Fits, IsNobody, Tied, in_view, tells, grants}
 use Rattle.lock_steps.specs.Ties as ties
 use Rattle.lock_steps.specs.Calls.{Stops, Fences, IsRecovered, Joins, Changes, TakesView, AskOver, Dropped, NoAsk, SaysAll, TellsHeld, TellsNone}
-use Rattle.lock_steps.specs.Laws.{Follows, MemberCallsAreSteps}
+use Rattle.lock_steps.specs.Laws.{Follows, MemberCallsAreSteps, MemberCallsMoveAllLocks}
 use Rattle.lock_steps.proofs.Running.{one-step}
 use Rattle.lock_steps.proofs.Basics.{true-false, eqb-other, at-here, at-away}
 use Rattle.lock_steps.proofs.Ways.{letters-say, letters-mute, letters-away, letters-all}
@@ -323,3 +323,13 @@ member-steps lock p _ l (TakesView k h letters over x member roll untaken old sa
             down = letters-mute (in_view p.membership.generation (grants lock)) p.post k p.master letters p.master k mute ∙ f.down;
           });
         }
+
+-- the step that each lock makes
+pub move-all : MemberCallsMoveAllLocks
+unfolding member-steps
+move-all lock p l sound tied = record {
+  stops = λ k x. (member-steps lock p _ l (Stops k x) sound tied).tied;
+  recovered = λ k x waits. (member-steps lock p _ l (IsRecovered k x waits) sound tied).tied;
+  joins = λ k x out. (member-steps lock p _ l (Joins k x out) sound tied).tied;
+  view = λ master x is. (member-steps lock p _ l (Changes master x is) sound tied).tied;
+}

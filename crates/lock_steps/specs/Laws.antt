@@ -1,12 +1,14 @@
 -- Each call of the lock manager's parts is a step of the lock, or a few, or none.
-use Rattle.std.specs.Prelude.{ℕ, ◌≡◌, ◌≢◌, ◌≤◌, Bool, true, false, []}
+use Rattle.std.specs.Prelude.{ℕ, ◌≡◌, ◌≢◌, ◌≤◌, Bool, true, false, [], Some}
 use Rattle.std.specs.List.{AllByRecursion}
 use Rattle.glock_names.specs.declared.LockName.{LockName}
 use Rattle.dlm_modes.specs.Modes.{go_together, is_at_least}
 use Rattle.fencing.specs.NodeSets.{has}
+use Rattle.fencing.specs.Members.{stopped, recovered_too, admitted, in_next_view}
 use Rattle.dlm_holder.specs.Holdings.{mode_in}
 use Rattle.dlm_master.specs.Locks.{free_lock}
-use Rattle.lock_laws.specs.Lock.{Node, Sound, starting}
+use Rattle.dlm_rebuild.specs.Rebuilding.{begun, master_for}
+use Rattle.lock_laws.specs.Lock.{Un, Node, Sound, at, anew, starting}
 use Rattle.lock_steps.specs.Runs.{Steps}
 use Rattle.lock_steps.specs.Parts.{Parts, Post, way}
 use Rattle.lock_steps.specs.Ties.{Tied, sight, present}
@@ -29,6 +31,25 @@ TableCallsAreSteps = (lock : LockName) (p q : Parts) (l : ℕ → Node) → Tabl
 
 abbrev pub MemberCallsAreSteps : Type 0
 MemberCallsAreSteps = (lock : LockName) (p q : Parts) (l : ℕ → Node) → MemberCall lock p q → Sound l → Tied lock p l → Follows lock l q
+
+-- Which step it is where it is one of all locks at once: whatever the lock, the step of the call's name.
+pub record MoveAllLocks (lock : LockName) (p : Parts) (l : ℕ → Node) : Type 0 where
+  pub stops : (k : ℕ) → k ≤ 8 → Tied lock (record p { membership = stopped p.membership k }) (at l k (record (l k) { member = false; waits = true }))
+  pub recovered : (k : ℕ) → k ≤ 8 → has p.membership.waiting k ≡ true
+      → Tied lock (record p { membership = recovered_too p.membership k }) (at l k (record (l k) { waits = false; state = Un }))
+  pub joins : (k : ℕ) → k ≤ 8 → has p.membership.members k ≡ false
+      → Tied lock (record p { membership = admitted p.membership k; holders = at p.holders k []; fresh = at p.fresh k true }) (at l k (record (l k) { member = true; fresh = true; asked = false }))
+  pub view : (master : ℕ) → master ≤ 8 → master_for p.membership.members lock ≡ Some master
+      → Tied lock (record p {
+        membership = in_next_view p.membership;
+        master = master;
+        table = begun (in_next_view p.membership).generation p.membership.members;
+        fresh = λ k. false;
+        taken = λ k. false;
+      }) (λ k. anew (l k))
+
+abbrev pub MemberCallsMoveAllLocks : Type 0
+MemberCallsMoveAllLocks = (lock : LockName) (p : Parts) (l : ℕ → Node) → Sound l → Tied lock p l → MoveAllLocks lock p l
 
 -- ---- every list of calls
 

@@ -5,7 +5,7 @@ ghost use Rattle.lock_steps.specs.Modes.{GoAsModes, CoverAsModes, HaveModesOfThe
 ghost use Rattle.lock_steps.specs.Runs.{EveryRunIsCompatible, EveryTableCovers};
 ghost use Rattle.lock_steps.specs.Example.{ListCanBeMade};
 ghost use Rattle.lock_steps.specs.Exact.{TablesAreExact, RequestsFindNothing, LowersOnlyLower, ReportsFindARebuild, HoldersAskForNothing};
-ghost use Rattle.lock_steps.specs.Laws.{MailIsNoStep, HolderCallsAreSteps, TableCallsAreSteps, MemberCallsAreSteps, EveryListIsSteps, EveryListIsRight, GrantsWait};
+ghost use Rattle.lock_steps.specs.Laws.{MailIsNoStep, HolderCallsAreSteps, TableCallsAreSteps, MemberCallsAreSteps, MemberCallsMoveAllLocks, EveryListIsSteps, EveryListIsRight, GrantsWait};
 
 /// A law: states go together and are at most one another as their modes.
 pub fn states_are_modes()
@@ -44,6 +44,11 @@ pub fn a_table_call_is_steps()
 /// A law: a stop, a fence, a recovery, a join and a new view are a step of each lock, or none.
 pub fn a_member_call_is_steps()
     ensures { MemberCallsAreSteps }
+{}
+
+/// A law: a stop, a recovery, a join and a new view are of all locks at once: whatever the lock, it makes the step of that name.
+pub fn a_member_call_moves_all_locks()
+    ensures { MemberCallsMoveAllLocks }
 {}
 
 /// A law: every list of calls from the start is a list of steps of the lock. Conversions aren't among the calls.

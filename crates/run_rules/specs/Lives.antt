@@ -72,7 +72,7 @@ is_replays node block now (_ ∷ is) = is_replays node block now is
 -- the head was written in this life, by the node's own journal: its sequence is above that of the head at the join, and it isn't the clean header of a replay
 abbrev pub is_own : AcceptedHead → DiskHeads → Life → List TraceItem → Bool
 is_own h disks life items =
-    nat_lt (disks.behind life.node life.join).sequence h.sequence && not (is_replays life.node h.block false (drop (life.join + 1) items))
+    nat_lt (disks.behind life.node life.join).sequence h.sequence && not (is_replays life.node h.block false (items_of life items))
 
 -- ---- the first case: an item tells it
 

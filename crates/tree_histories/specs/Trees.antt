@@ -15,7 +15,7 @@ use Rattle.cluster_history.specs.Losses as losses
 use Rattle.cluster_laws.specs.Files.{Files, RightTo, OthersLeaveTrees}
 use Rattle.cluster_laws.specs.Book.{W}
 use Rattle.cluster_laws.specs.Mirror.{IsOutcome, IsReplay}
-use Rattle.cluster_laws.specs.History.{Item, Called, Gone, living, saids, Legal, KeepsSynced, IsNumbered, KeptRight, Life, gones, AreLives}
+use Rattle.cluster_laws.specs.History.{Item, Called, Gone, living, saids, Legal, KeepsSynced, IsNumbered, KeptRight, Loss, gones, AreLives}
 use Rattle.cluster_laws.specs.World.{World, BeginsAt, Run}
 use Rattle.cluster_laws.specs.Contents.{Rules, files_of, places, FreeDoesNotMatter}
 use Rattle.cluster_laws.specs.Rings.{RingsDoNotMatter}
@@ -107,7 +107,7 @@ pub record TreeHeadline (I : Images) (w : World (Trees I)) : Type 0 where
       → head_cuts (Trees I) (w.disk) choice node < earlier → earlier ≤ number → changes.Changes (record { call = call; reply = reply }) ≡ false
   -- each outcome of the disk, whichever heads its journals then have, replayed, with rings that are good: the history with a loss for each life that
   -- has none is legal, and this image stands for the tree at its end
-  pub remains : FreeDoesNotMatter (rules_of I) → RingsDoNotMatter (rules_of I) → (choice : ℕ → Bool) (x r full : ℕ → I.Content) (ls : List Life)
+  pub remains : FreeDoesNotMatter (rules_of I) → RingsDoNotMatter (rules_of I) → (choice : ℕ → Bool) (x r full : ℕ → I.Content) (ls : List Loss)
       → IsOutcome (Trees I) (w.disk) x → IsReplay (Trees I) (w.disk) choice x r → I.RingsAreGood full → ((b : ℕ) → (r b ≡ full b) ⊎ I.IsRing b)
       → AreLives ((w.book).published) (head_cuts (Trees I) (w.disk) choice) ls
       → history.Legal (history_of I (w.items ++ gones (Trees I) ls)) ((w.book).start)

@@ -1,0 +1,102 @@
+-- A list of calls that can be made.
+use Rattle.std.proofs.Common.{ℕ, zero, suc, ◌≡◌, ◌≤◌, ◌+◌, refl, sym, ap, List, [], ◌∷◌, ◌++◌, None, get_or, set, get_or-set_other, arith}
+use Rattle.std.specs.Prelude.{◌*◌, replicate}
+use Rattle.std.specs.List.{filter_map}
+use Rattle.dlm_modes.specs.Modes.{not_valid}
+use Rattle.dlm_modes.specs.declared.Mode.TheVariants.{Nl, Pr, Ex}
+use Rattle.mail_queues.specs.State.{QueueState}
+use Rattle.mail_queues.specs.Queues.{messages_of, queue_of}
+use Rattle.mail_queues.specs.declared.Body.{Body}
+use Rattle.mail_queues.specs.declared.Body.TheVariants.{Request, Grant, Down}
+use Rattle.mail_queues.specs.declared.Message.{Message}
+use Rattle.lock_steps.specs.Ties.{in_view, grants}
+use Rattle.lock_steps.specs.Calls.{Sends, Receives, TellsItself}
+use Rattle.conversion_laws.specs.Parts.{call_of}
+use Rattle.conversion_laws.specs.Calls.{Asks, Raises, Lowers, IsGranted, Requested, Converted, Lowered, GrantsNext, OfMail, OfNode, OfMaster, NoCall, AndCall}
+use Rattle.conversion_laws.specs.Laws.{Begins}
+use Rattle.conversion_laws.specs.Example.{a_lock, all_new, ListCanBeMade}
+
+-- ---- the mail, empty and with one message
+
+abbrev no_queue : QueueState
+no_queue = record { messages = []; room = 0 }
+
+abbrev no_mail : List QueueState
+no_mail = replicate 81 no_queue
+
+-- a mail in which each queue is empty has no messages
+empty : (n i : ℕ) → get_or (replicate n no_queue) i no_queue ≡ no_queue
+empty zero i = refl
+empty (suc n) zero = refl
+empty (suc n) (suc i) = empty n i
+
+nothing-comes : (from to : ℕ) → messages_of no_mail from to ≡ []
+nothing-comes from to = ap (λ (q : QueueState). q.messages) (empty 81 (9 * from + to))
+
+begins : Begins a_lock all_new
+begins = record {
+  master = omega arith;
+  table = refl;
+  held = λ k x. refl;
+  wanted = λ k x. refl;
+  calls = λ k x. ap (λ (ms : List Message). filter_map (in_view 1 (call_of a_lock k)) (ms ++ [])) (nothing-comes k 0);
+  grants = λ k x. ap (λ (ms : List Message). filter_map (in_view 1 (grants a_lock)) (ms ++ [])) (nothing-comes 0 k);
+}
+
+abbrev one_letter : ℕ → ℕ → Message → List QueueState
+one_letter from to m = set no_mail (9 * from + to) (record { messages = m ∷ []; room = 0 })
+
+others : (from to : ℕ) (m : Message) → to ≤ 8 → (i k : ℕ) → i ≤ 8 → k ≤ 8 → (i ≡ from → k ≡ to → ⊥) → queue_of (one_letter from to m) i k ≡ queue_of no_mail i k
+others from to m t i k x y ne =
+    let other : 9 * i + k ≡ 9 * from + to → ⊥ = λ e. ne (omega (arith, e)) (omega (arith, e)) in
+    get_or-set_other no_mail _ _ _ _ other
+
+-- a message of the view
+abbrev says : Body → Message
+says body = record { generation = 1; body = body }
+
+abbrev asks : Message
+asks = says (Request a_lock Pr)
+
+abbrev granted : Message
+granted = says (Grant a_lock Pr not_valid)
+
+abbrev lowers : Message
+lowers = says (Down a_lock Nl None)
+
+pub can-be-made : ListCanBeMade
+can-be-made = (
+  _,
+  _,
+  begins,
+  AndCall _ _ (AndCall _ _ (AndCall _ _ (AndCall _ _ (AndCall _ _ (AndCall _ _ (AndCall _ _ (AndCall _ _ (AndCall _ _ (AndCall _ _
+      (AndCall _ _ (AndCall _ _ (AndCall _ _ (AndCall _ _ (AndCall _ _ NoCall
+      (OfNode _ (Asks 0 Pr (omega arith) refl refl)))
+      (OfMail _ (TellsItself 0 asks [] (omega arith) refl refl)))
+      (OfMaster _ (Requested 0 Pr [] (omega arith) refl)))
+      (OfMail _ (TellsItself 0 granted [] (omega arith) refl refl)))
+      (OfNode _ (IsGranted 0 Pr not_valid [] (omega arith) refl)))
+      (OfNode _ (Asks 1 Pr (omega arith) refl refl)))
+      (OfMail _ (Sends 1 0 asks [] (one_letter 1 0 asks) (omega arith) (omega arith) refl (record { queue = refl; others = others 1 0 asks (omega arith) }))))
+      (OfMail _ (Receives 1 0 asks no_mail (omega arith) (omega arith) refl (record { queue = refl; others = λ i k x y ne. sym (others 1 0 asks (omega arith) i k x y ne) }))))
+      (OfMaster _ (Requested 1 Pr [] (omega arith) refl)))
+      (OfMail _ (Sends 0 1 granted [] (one_letter 0 1 granted) (omega arith) (omega arith) refl (record { queue = refl; others = others 0 1 granted (omega arith) }))))
+      (OfMail _ (Receives 0 1 granted no_mail (omega arith) (omega arith) refl (record { queue = refl; others = λ i k x y ne. sym (others 0 1 granted (omega arith) i k x y ne) }))))
+      (OfNode _ (IsGranted 1 Pr not_valid [] (omega arith) refl)))
+      (OfNode _ (Raises 0 Ex (omega arith) (λ e. absurd (let f : Pr ≡ Nl = e in cc)) refl refl)))
+      (OfMail _ (TellsItself 0 _ [] (omega arith) refl refl)))
+      (OfMaster _ (Converted 0 Ex [] (omega arith) refl)),
+  refl,
+  refl,
+  refl,
+  AndCall _ _ (AndCall _ _ (AndCall _ _ (AndCall _ _ (AndCall _ _ (AndCall _ _ (AndCall _ _ NoCall
+      (OfNode _ (Lowers 1 Nl None (omega arith) refl refl refl)))
+      (OfMail _ (Sends 1 0 lowers [] (one_letter 1 0 lowers) (omega arith) (omega arith) refl (record { queue = refl; others = others 1 0 lowers (omega arith) }))))
+      (OfMail _ (Receives 1 0 lowers no_mail (omega arith) (omega arith) refl (record { queue = refl; others = λ i k x y ne. sym (others 1 0 lowers (omega arith) i k x y ne) }))))
+      (OfMaster _ (Lowered 1 Nl None [] (omega arith) refl refl)))
+      (OfMaster _ GrantsNext))
+      (OfMail _ (TellsItself 0 _ [] (omega arith) refl refl)))
+      (OfNode _ (IsGranted 0 Ex not_valid [] (omega arith) refl)),
+  refl,
+  refl,
+)

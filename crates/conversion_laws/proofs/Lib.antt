@@ -1,0 +1,5 @@
+pub mod Stages
+pub mod Nodes
+pub mod Masters
+pub mod Listing
+pub mod Example

@@ -1,0 +1,111 @@
+-- The calls on one lock while the members stay the same, each with the definition that its contract cites.
+use Rattle.std.specs.Prelude.{ℕ, ◌≡◌, ◌≢◌, ◌≤◌, true, Bool, List, [], ◌∷◌, Option, None, Some, fold, if◌then◌else◌}
+use Rattle.std.specs.List.{filter_map}
+use Rattle.glock_names.specs.declared.LockName.{LockName}
+use Rattle.glock_names.specs.LockMaps.{with_lock}
+use Rattle.dlm_modes.specs.declared.Mode.{Mode}
+use Rattle.dlm_modes.specs.declared.Mode.TheVariants.{Nl}
+use Rattle.dlm_modes.specs.declared.ValueBlock.{ValueBlock}
+use Rattle.dlm_modes.specs.Modes.{is_at_least}
+use Rattle.mail_queues.specs.declared.Message.{Message}
+use Rattle.mail_queues.specs.declared.Body.{Body}
+use Rattle.mail_queues.specs.declared.Body.TheVariants.{Request, Convert, Down, Grant}
+use Rattle.dlm_holder.specs.declared.Holding.{Holding}
+use Rattle.dlm_holder.specs.Holdings.{Holdings, knows, mode_in, wanted_in, asked_for, granted_to, lowered_to}
+use Rattle.dlm_master.specs.declared.claims.Claim.{Claim}
+use Rattle.dlm_master.specs.declared.claims.Cause.{Cause}
+use Rattle.dlm_master.specs.LockState.{LockState}
+use Rattle.dlm_master.specs.Locks.{all_turns}
+use Rattle.dlm_master.specs.Tables.{held_by, holds_above, is_blocked, request_waits, convert_waits, with_state, after_request, after_convert, after_down, after_next}
+use Rattle.lock_laws.specs.Lock.{at}
+use Rattle.lock_steps.specs.Parts.{Post, with_letters, with_left}
+use Rattle.lock_steps.specs.Ties.{in_view, grants}
+use Rattle.lock_steps.specs.Calls.{MailCall}
+use Rattle.conversion_laws.specs.Parts.{Parts, now_says, call_of, lock_in_table, table_mode}
+
+-- ---- a node, whose conditions are about its own holder alone
+
+-- the node has this now, and writes this to the lock's master
+abbrev pub tells : Parts → ℕ → Holdings → Body → Parts
+tells p k h body = record p { holders = at p.holders k h; post = with_letters p.post k p.master (now_says p body ∷ []) }
+
+pub data NodeCall (lock : LockName) (p : Parts) : Parts → Type 0 where
+  -- `Holder::asked`: a node that holds nothing of the lock, and has no other ask for it, requests it
+  Asks : (k : ℕ) (mode : Mode) → k ≤ 8 → mode_in (p.holders k) lock ≡ Nl → wanted_in (p.holders k) lock ≡ None
+      → NodeCall lock p (tells p k (asked_for (p.holders k) lock mode) (Request lock mode))
+  -- `Holder::asked`: a node that holds the lock asks for a mode that covers what it holds, in a conversion
+  Raises : (k : ℕ) (mode : Mode) → k ≤ 8 → mode_in (p.holders k) lock ≢ Nl → is_at_least mode (mode_in (p.holders k) lock) ≡ true → wanted_in (p.holders k) lock ≡ None
+      → NodeCall lock p (tells p k (asked_for (p.holders k) lock mode) (Convert lock mode))
+  -- `Holder::down`: a node of which no ask stands lowers it
+  Lowers : (k : ℕ) (mode : Mode) (value : Option (List ℕ)) → k ≤ 8 → knows (p.holders k) lock ≡ true → is_at_least (mode_in (p.holders k) lock) mode ≡ true → wanted_in (p.holders k) lock ≡ None
+      → NodeCall lock p (tells p k (lowered_to (p.holders k) lock mode) (Down lock mode value))
+  -- `Holder::granted`
+  IsGranted : (k : ℕ) (mode : Mode) (value : ValueBlock) (rest : List Message) → k ≤ 8 → p.post.took p.master k ≡ now_says p (Grant lock mode value) ∷ rest
+      → NodeCall lock p (record p { holders = at p.holders k (granted_to (p.holders k) lock mode value); post = with_left p.post p.master k rest })
+  -- a message is dropped that makes no call at the lock's master: one of another view or lock, a callback, or a grant
+  Drops : (from to : ℕ) (m : Message) (rest : List Message) → from ≤ 8 → to ≤ 8 → p.post.took from to ≡ m ∷ rest
+      → (to ≡ p.master → in_view p.table.generation (call_of lock from) m ≡ None)
+      → NodeCall lock p (record p { post = with_left p.post from to rest })
+  -- letters are written that say nothing of this lock, to its master or from it: of other locks, callbacks, and all that goes between
+  -- other nodes
+  Writes : (from to : ℕ) (letters : List Message) → from ≤ 8 → to ≤ 8
+      → (to ≡ p.master → filter_map (in_view p.table.generation (call_of lock from)) letters ≡ [])
+      → (from ≡ p.master → filter_map (in_view p.table.generation (grants lock)) letters ≡ [])
+      → NodeCall lock p (record p { post = with_letters p.post from to letters })
+  -- a call on another lock
+  HoldsElsewhere : (k : ℕ) (other : LockName) (holding : Holding) → lock ≢ other
+      → NodeCall lock p (record p { holders = at p.holders k (with_lock (p.holders k) other holding) })
+
+-- ---- the lock's master
+
+-- the letter to a node that is granted the lock in this mode
+abbrev pub grant_letter : Parts → LockName → Post → Claim → Post
+grant_letter p lock post c = with_letters post p.master c.node (now_says p (Grant lock c.mode (lock_in_table lock p).value) ∷ [])
+
+-- it goes to a node that needn't wait
+abbrev pub reply : Parts → LockName → Claim → Option Cause → Post → Post
+reply p lock c None post = grant_letter p lock post c
+reply p lock c (Some cause) post = post
+
+-- on a message in hand. That the first two, and the third where it lowers, meet what the calls require is a law: `MeetCalls`
+pub data MasterCall (lock : LockName) (p : Parts) : Parts → Type 0 where
+  -- `Master::request`
+  Requested : (k : ℕ) (mode : Mode) (rest : List Message) → k ≤ 8 → p.post.took k p.master ≡ now_says p (Request lock mode) ∷ rest
+      → MasterCall lock p (record p {
+        table = after_request p.table k lock mode;
+        post = reply p lock (record { node = k; mode = mode }) (request_waits p.table k lock mode) (with_left p.post k p.master rest);
+      })
+  -- `Master::convert`
+  Converted : (k : ℕ) (mode : Mode) (rest : List Message) → k ≤ 8 → p.post.took k p.master ≡ now_says p (Convert lock mode) ∷ rest
+      → MasterCall lock p (record p {
+        table = after_convert p.table k lock mode;
+        post = reply p lock (record { node = k; mode = mode }) (convert_waits p.table k lock mode) (with_left p.post k p.master rest);
+      })
+  -- `Master::down`
+  Lowered : (k : ℕ) (mode : Mode) (value : Option (List ℕ)) (rest : List Message) → k ≤ 8 → p.post.took k p.master ≡ now_says p (Down lock mode value) ∷ rest
+      → holds_above (held_by p.table k lock) mode ≡ true
+      → MasterCall lock p (record p { table = after_down p.table k lock mode value; post = with_left p.post k p.master rest })
+  -- a node lowers the lock to what the table has of it already: nothing is called
+  LoweredAlready : (k : ℕ) (mode : Mode) (value : Option (List ℕ)) (rest : List Message) → k ≤ 8 → p.post.took k p.master ≡ now_says p (Down lock mode value) ∷ rest
+      → table_mode lock p k ≡ mode
+      → MasterCall lock p (record p { post = with_left p.post k p.master rest })
+  -- `Master::next_grants`, and a letter to each who is granted
+  GrantsNext : MasterCall lock p (record p {
+    table = after_next p.table lock;
+    post = if is_blocked p.table then p.post else fold (grant_letter p lock) p.post (all_turns (lock_in_table lock p)).granted;
+  })
+  -- `Master::blocked`
+  Blocks : (rebuild : Bool) (waiting : ℕ) → MasterCall lock p (record p { table = record p.table { rebuild = rebuild; waiting = waiting } })
+  -- a call on another lock
+  TableElsewhere : (other : LockName) (t : LockState) → lock ≢ other → MasterCall lock p (record p { table = with_state p.table other t })
+
+-- ---- lists of calls
+
+pub data Call (lock : LockName) (p : Parts) : Parts → Type 0 where
+  OfMail : (post : Post) → MailCall p.post post → Call lock p (record p { post = post })
+  OfNode : (q : Parts) → NodeCall lock p q → Call lock p q
+  OfMaster : (q : Parts) → MasterCall lock p q → Call lock p q
+
+pub data Calls (lock : LockName) (p : Parts) : Parts → Type 0 where
+  NoCall : Calls lock p p
+  AndCall : (q r : Parts) → Calls lock p q → Call lock q r → Calls lock p r

@@ -1,0 +1,69 @@
+-- What holds of a lock after every list of calls, conversions in all six modes among them.
+use Rattle.std.specs.Prelude.{ℕ, ◌≡◌, ◌≢◌, ◌≤◌, ◌⊎◌, true, false, List, [], ◌∷◌, Option, None, Some}
+use Rattle.std.specs.List.{AllByRecursion}
+use Rattle.glock_names.specs.declared.LockName.{LockName}
+use Rattle.dlm_modes.specs.declared.Mode.{Mode}
+use Rattle.dlm_modes.specs.declared.Mode.TheVariants.{Nl}
+use Rattle.dlm_modes.specs.declared.ValueBlock.{ValueBlock}
+use Rattle.dlm_modes.specs.Modes.{go_together, is_at_least}
+use Rattle.mail_queues.specs.declared.Message.{Message}
+use Rattle.mail_queues.specs.declared.Body.TheVariants.{Request, Convert, Down, Grant}
+use Rattle.dlm_holder.specs.Holdings.{knows, mode_in, wanted_in}
+use Rattle.dlm_master.specs.Locks.{free_lock}
+use Rattle.dlm_master.specs.Tables.{held_by, waits_for, holds_above, holds_covered}
+use Rattle.conversion_laws.specs.Parts.{Parts, now_says, calls_coming, grants_coming, lock_in_table, table_mode, asks_of, held_or_coming}
+use Rattle.conversion_laws.specs.Calls.{Call, Calls}
+
+-- the start: nothing of the lock is held, asked for, or under way
+pub record Begins (lock : LockName) (p : Parts) : Type 0 where
+  pub master : p.master ≤ 8
+  pub table : lock_in_table lock p ≡ free_lock
+  pub held : (k : ℕ) → k ≤ 8 → mode_in (p.holders k) lock ≡ Nl
+  pub wanted : (k : ℕ) → k ≤ 8 → wanted_in (p.holders k) lock ≡ None
+  pub calls : (k : ℕ) → k ≤ 8 → calls_coming lock p k ≡ []
+  pub grants : (k : ℕ) → k ≤ 8 → grants_coming lock p k ≡ []
+
+-- ---- the table, and what nodes hold
+
+pub record AreRight (lock : LockName) (p : Parts) : Type 0 where
+  -- the table has of each node at least what it holds, and what is granted to it and on its way
+  pub covers : (k : ℕ) → k ≤ 8 → AllByRecursion (λ mode. is_at_least (table_mode lock p k) mode ≡ true) (held_or_coming lock p k)
+  -- what one node holds or is granted goes with what another holds or is granted
+  pub compatible : (i k : ℕ) → i ≤ 8 → k ≤ 8 → i ≢ k
+      → AllByRecursion (λ a. AllByRecursion (λ b. go_together a b ≡ true) (held_or_coming lock p k)) (held_or_coming lock p i)
+  -- at most one ask of a node is in progress, and it is the one that its holder has
+  pub one_ask : (k : ℕ) → k ≤ 8 → (asks_of lock p k ≡ []) ⊎ ((mode : Mode) × (asks_of lock p k ≡ mode ∷ []) × (wanted_in (p.holders k) lock ≡ Some mode))
+  -- of a node that has asked for nothing and of which no call is coming, the table has just what it holds
+  pub exact : (k : ℕ) → k ≤ 8 → wanted_in (p.holders k) lock ≡ None → calls_coming lock p k ≡ [] → table_mode lock p k ≡ mode_in (p.holders k) lock
+
+abbrev pub EveryListIsRight : Type 0
+EveryListIsRight = (lock : LockName) (p q : Parts) → Begins lock p → Calls lock p q → AreRight lock q
+
+-- ---- a holder is never stronger than granted
+
+-- a call leaves a node what it holds or less; or it takes the grant that was on its way, and leaves it that
+pub data RisesByGrant (lock : LockName) (p q : Parts) (k : ℕ) : Type 0 where
+  Rises : grants_coming lock p k ≡ mode_in (q.holders k) lock ∷ grants_coming lock q k → RisesByGrant lock p q k
+  Keeps : is_at_least (mode_in (p.holders k) lock) (mode_in (q.holders k) lock) ≡ true → RisesByGrant lock p q k
+
+abbrev pub HoldersRiseByGrants : Type 0
+HoldersRiseByGrants = (lock : LockName) (p q : Parts) (k : ℕ) → Call lock p q → RisesByGrant lock p q k
+
+-- ---- a message in hand meets what the call requires that it makes
+
+pub record MeetCalls (lock : LockName) (p : Parts) : Type 0 where
+  -- who requests the lock holds nothing by the table, and waits for nothing
+  pub requests : (k : ℕ) (mode : Mode) (rest : List Message) → k ≤ 8 → p.post.took k p.master ≡ now_says p (Request lock mode) ∷ rest
+      → (held_by p.table k lock ≡ None) × (waits_for p.table k lock ≡ false)
+  -- who converts it holds a mode by the table that the new one covers, and waits for nothing
+  pub conversions : (k : ℕ) (mode : Mode) (rest : List Message) → k ≤ 8 → p.post.took k p.master ≡ now_says p (Convert lock mode) ∷ rest
+      → (holds_covered (held_by p.table k lock) mode ≡ true) × (waits_for p.table k lock ≡ false)
+  -- who lowers it holds a mode above that by the table, or just that mode; and waits for nothing
+  pub lowers : (k : ℕ) (mode : Mode) (value : Option (List ℕ)) (rest : List Message) → k ≤ 8 → p.post.took k p.master ≡ now_says p (Down lock mode value) ∷ rest
+      → ((holds_above (held_by p.table k lock) mode ≡ true) ⊎ (table_mode lock p k ≡ mode)) × (waits_for p.table k lock ≡ false)
+  -- who is granted it has asked for it, in this mode
+  pub grants : (k : ℕ) (mode : Mode) (value : ValueBlock) (rest : List Message) → k ≤ 8 → p.post.took p.master k ≡ now_says p (Grant lock mode value) ∷ rest
+      → (knows (p.holders k) lock ≡ true) × (wanted_in (p.holders k) lock ≡ Some mode)
+
+abbrev pub MessagesMeetCalls : Type 0
+MessagesMeetCalls = (lock : LockName) (p q : Parts) → Begins lock p → Calls lock p q → MeetCalls lock q

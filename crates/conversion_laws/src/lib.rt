@@ -1,0 +1,28 @@
+//! One lock, its master, a holder for each node and the mail between them, with conversions in all six modes.
+#![tactic(auto)]
+
+ghost use Rattle.conversion_laws.specs.Example.{ListCanBeMade};
+ghost use Rattle.conversion_laws.specs.Laws.{EveryListIsRight, HoldersRiseByGrants, MessagesMeetCalls};
+
+/// A law: after every list of calls the table has of each node at least what it holds and is granted, and what nodes hold and are
+/// granted goes together.
+pub fn every_list_is_right()
+    ensures { EveryListIsRight }
+{}
+
+/// A law: a node comes to hold more only by a grant that was on its way to it, and then just that.
+pub fn holders_rise_by_grants()
+    ensures { HoldersRiseByGrants }
+{}
+
+/// A law: a message in hand meets what the call requires that it makes: at the master a request, a conversion and a lower, at a node
+/// a grant.
+pub fn messages_meet_calls()
+    ensures { MessagesMeetCalls }
+{}
+
+/// A law: a list of calls can be made, from a start that there is: two nodes hold a lock, one of them waits for another mode, and is
+/// granted it when the other one lowers it.
+pub fn a_list_can_be_made()
+    ensures { ListCanBeMade }
+{}

@@ -1,0 +1,568 @@
+-- Heads of replays, heads that come to the disk, and lives that begin and end.
+use Rattle.std.proofs.Common.{ℕ, suc, ◌≡◌, ◌≢◌, ◌<◌, ◌≤◌, ◌+◌, ◌⊎◌, inl, inr, Bool, true, false, cond, Option, None, Some, List, [], ◌∷◌, ◌++◌, length, take, drop, refl, sym, ap, ◌∙◌, subst, arith, append-nil, length-append}
+use Rattle.std.specs.Prelude.{◌==◌, ◌&&◌, ◌||◌, not, nat_lt}
+use Rattle.std.proofs.lemmas.Bool.{le-ltb, ltb-true, ltb-false, cases_Bool}
+use Rattle.std.proofs.lemmas.Bool.Decides.{eqb_tells}
+use Rattle.std.proofs.Math.Seq.{drop-append-add, take-append_seam}
+use Rattle.trace_text.specs.declared.item.TraceItem.{TraceItem}
+use Rattle.trace_text.specs.declared.item.TraceItem.TheVariants as trace
+use Rattle.run_rules.specs.Lives.{Life, AcceptedHead, last_number, to_its_end, fenced_behind, is_replays, items_of, named, lives_from, lives_of, losses_of, life_at}
+use Rattle.cluster_laws.specs.Mirror.{either}
+use Rattle.head_laws.specs.Journals.{Journal, present, IsEnd, IsNoted}
+use Rattle.head_laws.specs.Laws.{lives_count}
+use Rattle.head_laws.proofs.Items.{true-false, eqb-other, eqb-self, first_of_two, last-on, ended, ended-on, end-open, lives-more, losses-on, count-on, life-newest, rest-on}
+use Rattle.head_laws.proofs.Values.{rest, mine, base, fence, own, value_of, kept_head, value, fence-more, closed-value, NotOwn, HeadsWithin, NoHeads, within-none, waiting-value, mine-open}
+use Rattle.head_laws.proofs.Goods.{target, Closed, Waiting, Acting, Open, Good, Inv, open-runs, none-open, none-closed}
+use Rattle.head_laws.proofs.Growing.{Keeps, Still, losses-same, life-same, count-same, longer, over-on, going-on, fence-same, base-more, closed-same, closed-on, open-value, waiting-on}
+
+inside : {A : Type 0} {a b : A} → Some a ≡ Some b → a ≡ b
+inside e = cc
+
+no-some : {A : Type 0} {B : Type 0} {a : A} → None ≡ Some a → B
+no-some {A} {B} {a} e = absurd (let f : None ≡ Some a = e in cc)
+
+-- the number of a life that was fenced is fixed
+pub fenced-value : (i : ℕ) (behind : ℕ → AcceptedHead) (l : Life) (items : List TraceItem) (h k : AcceptedHead) (p : ℕ) → fence i l items ≡ Some p → value i behind l items h ≡ value i behind l items k
+fenced-value i behind l items h k p e =
+    ap (λ (o : Option ℕ). value_of (behind l.join).sequence i (mine i l items) (base i l items) (last_number i 0 items) (kept_head behind o h)) e
+    ∙ sym (ap (λ (o : Option ℕ). value_of (behind l.join).sequence i (mine i l items) (base i l items) (last_number i 0 items) (kept_head behind o k)) e)
+
+-- while the slot waits, the present life's number is that of the node's last call
+pub waits-value : (i : ℕ) (behind : ℕ → AcceptedHead) (j : Journal) (items : List TraceItem) (l : Life) (d : Bool) → l.join < length items → last_number i 0 items ≡ j.last → Open i behind j items l
+    → Waiting i behind j items l → value i behind l items (j.name d) ≡ j.last
+waits-value i behind j items l d within number o w =
+    open-value i behind l items (trace.View 0) within (j.name d) o.going o.unfenced
+    ∙ (waiting-value (behind l.join).sequence i (rest l items) (base i l items) (last_number i 0 items) (j.name d) w.heads (w.base ∙ sym number) (w.kind d) ∙ number)
+
+noted-here : (i : ℕ) (behind : ℕ → AcceptedHead) (j : Journal) (items : List TraceItem) (inv : Inv i behind j items) (n : ℕ) (l : Life) (h : AcceptedHead) → life_at i n (lives_of items) ≡ Some l
+    → losses_of i items + j.unlost ≤ n → l.node ≡ i → ended i (rest l items) ≡ false → IsNoted i j items h → own (behind l.join).sequence i (rest l items) h ≡ false
+noted-here i behind j items inv n l h is low node going noted =
+    let who = open-runs i behind j items inv n l is low in
+    let now : present i j items ≡ Some l = ap (λ (m : ℕ). life_at i m (lives_of items)) (sym who.1) ∙ is in
+    let stands : is_replays i h.block false (rest l items) ≡ true = ap (is_replays i h.block false) (sym (ap (λ (k : ℕ). mine k l items) node ∙ mine-open i l items going)) ∙ noted who.0 l now in
+    ap (λ (b : Bool). nat_lt (behind l.join).sequence h.sequence && not b) stands ∙ off (nat_lt (behind l.join).sequence h.sequence)
+  where
+    off : (b : Bool) → (b && false) ≡ false
+    off true = refl
+    off false = refl
+
+-- ---- a replay's header
+
+abbrev pub replayed : Journal → ℕ → AcceptedHead → Bool → Journal
+replayed j r h silent = record j { cut = either (j.cut false) (j.cut false); name = either (j.name false) h; flies = Some r; silent = silent }
+
+pub replays : (i : ℕ) (behind : ℕ → AcceptedHead) (j : Journal) (items : List TraceItem) (r : ℕ) (h : AcceptedHead) (silent : Bool) → j.waits ≡ true → (j.fenced ≡ true) ⊎ (j.runs ≡ true) → j.flies ≡ None
+    → h.is_clean ≡ true → (j.name false).sequence ≤ h.sequence → (silent ≡ true → (r ≡ i) × (j.runs ≡ true)) → (silent ≡ false → IsNoted i j items h) → Inv i behind j items → Inv i behind (replayed j r h silent) items
+replays i behind j items r h silent waits who alone clean later own-last noted inv = record {
+  number = inv.number;
+  count = inv.count;
+  settled = inv.settled;
+  single = λ e. no-some (sym e);
+  others = λ s e ne. refl;
+  even = λ u why d. evens u why d;
+  silent = λ e. (ap (λ (n : ℕ). Some n) (own-last e).0, (own-last e).1);
+  lives = λ n l is low.
+      let g = inv.lives n l is low in
+      record {
+        node = g.node;
+        within = g.within;
+        closed = λ c. closes n l (g.closed c);
+        present = λ p. opens n l is p g.node (g.present p);
+      };
+}
+  where
+    evens : j.unlost ≡ 0 → (j.runs ≡ false) ⊎ (j.waits ≡ true) → (d : Bool) → either (j.cut false) (j.cut false) d ≡ j.last
+    evens u why false = inv.even u why false
+    evens u why true = inv.even u why false
+
+    closes : (n : ℕ) (l : Life) → Closed i behind j items n l → Closed i behind (replayed j r h silent) items n l
+    closes n l c = record { over = c.over; told = told; fenced = c.fenced }
+      where
+        told : (d : Bool) → value i behind l items (either (j.name false) h d) ≡ cond (n == losses_of i items) (either (j.cut false) (j.cut false) d) j.last
+        told false = c.told false
+        told true =
+            let f = c.fenced (elim who [ inl e ↦ inr (inr e) | inr e ↦ inr (inl e) ]) in
+            fenced-value i behind l items h (j.name false) f.0 f.1 ∙ c.told false
+
+    opens : (n : ℕ) (l : Life) → life_at i n (lives_of items) ≡ Some l → losses_of i items + j.unlost ≤ n → l.node ≡ i → Open i behind j items l → Open i behind (replayed j r h silent) items l
+    opens n l is low node o = record {
+      going = o.going;
+      unfenced = o.unfenced;
+      above = above;
+      waiting = λ w. record { heads = (o.waiting waits).heads; base = (o.waiting waits).base; kind = kind; own = owns };
+      acting = λ a. true-false waits a;
+    }
+      where
+        above : (d : Bool) → (behind l.join).sequence ≤ (either (j.name false) h d).sequence
+        above false = o.above false
+        above true = let a : (behind l.join).sequence ≤ (j.name false).sequence = o.above false in omega (arith, later)
+
+        kind : (d : Bool) → (nat_lt (behind l.join).sequence (either (j.name false) h d).sequence ≡ false) ⊎ ((either (j.name false) h d).is_clean ≡ true)
+        kind false = (o.waiting waits).kind false
+        kind true = inr clean
+
+        owns : (d : Bool) → (own (behind l.join).sequence i (rest l items) (either (j.name false) h d) ≡ false) ⊎ (silent ≡ true)
+        owns false = elim ((o.waiting waits).own false) [
+          | inl off ↦ inl off
+          | inr s ↦ no-some (sym alone ∙ (inv.silent s).0)
+        ]
+        owns true = elim (cases_Bool silent) [
+          | inl s ↦ inr s
+          | inr loud ↦ inl (noted-here i behind j items inv n l h is low node o.going (noted loud))
+        ]
+
+abbrev pub past_replayed : Journal → AcceptedHead → Journal
+past_replayed j h = record j { name = λ d. h }
+
+pub replays-past : (i : ℕ) (behind : ℕ → AcceptedHead) (j : Journal) (items : List TraceItem) (h : AcceptedHead) → j.waits ≡ true → (j.fenced ≡ true) ⊎ (j.runs ≡ true) → j.flies ≡ None
+    → h.is_clean ≡ true → (j.name false).sequence ≤ h.sequence → IsNoted i j items h → Inv i behind j items → Inv i behind (past_replayed j h) items
+replays-past i behind j items h waits who alone clean later noted inv = record {
+  number = inv.number;
+  count = inv.count;
+  settled = inv.settled;
+  single = λ e. ((inv.single e).0, refl);
+  others = inv.others;
+  even = inv.even;
+  silent = inv.silent;
+  lives = λ n l is low.
+      let g = inv.lives n l is low in
+      record {
+        node = g.node;
+        within = g.within;
+        closed = λ c. closes n l (g.closed c);
+        present = λ p. opens n l is p g.node (g.present p);
+      };
+}
+  where
+    closes : (n : ℕ) (l : Life) → Closed i behind j items n l → Closed i behind (past_replayed j h) items n l
+    closes n l c = record {
+      over = c.over;
+      told = λ d. (let f = c.fenced (elim who [ inl e ↦ inr (inr e) | inr e ↦ inr (inl e) ]) in fenced-value i behind l items h (j.name d) f.0 f.1 ∙ c.told d);
+      fenced = c.fenced;
+    }
+
+    opens : (n : ℕ) (l : Life) → life_at i n (lives_of items) ≡ Some l → losses_of i items + j.unlost ≤ n → l.node ≡ i → Open i behind j items l → Open i behind (past_replayed j h) items l
+    opens n l is low node o = record {
+      going = o.going;
+      unfenced = o.unfenced;
+      above = λ d. (let a : (behind l.join).sequence ≤ (j.name false).sequence = o.above false in omega (arith, later));
+      waiting = λ w. record {
+        heads = (o.waiting waits).heads;
+        base = (o.waiting waits).base;
+        kind = λ d. inr clean;
+        own = λ d. inl (noted-here i behind j items inv n l h is low node o.going noted);
+      };
+      acting = λ a. true-false waits a;
+    }
+
+-- ---- a header is on the disk, or never will be
+
+abbrev pub chosen : Journal → Bool → Journal
+chosen j d = record j { cut = λ e. j.cut d; name = λ e. j.name d; flies = None }
+
+pub ends : (i : ℕ) (behind : ℕ → AcceptedHead) (j : Journal) (items : List TraceItem) (d : Bool) → (j.runs ≡ true → (j.silent ≡ false) × (j.waits ≡ false → d ≡ true)) → Inv i behind j items
+    → Inv i behind (chosen j d) items
+ends i behind j items d may inv = record {
+  number = inv.number;
+  count = inv.count;
+  settled = inv.settled;
+  single = λ e. (refl, refl);
+  others = λ r e ne. refl;
+  even = λ u why e. inv.even u why d;
+  silent = λ s. true-false s (may (inv.silent s).1).0;
+  lives = λ n l is low.
+      let g = inv.lives n l is low in
+      record {
+        node = g.node;
+        within = g.within;
+        closed = λ c. record { over = (g.closed c).over; told = λ e. (g.closed c).told d; fenced = (g.closed c).fenced };
+        present = λ p. opens l (open-runs i behind j items inv n l is p).0 (g.present p);
+      };
+}
+  where
+    acts : (l : Life) → (d : Bool) → d ≡ true → j.silent ≡ false → Acting i behind j items l → Acting i behind (chosen j d) items l
+    acts l false e loud a = true-false e refl
+    acts l true e loud a = record {
+      told = λ f. a.told true;
+      heads = a.heads;
+      accepted = elim a.flying [ inl s ↦ s | inr s ↦ true-false s loud ];
+      flying = a.flying;
+      item = λ f. no-some f;
+    }
+
+    opens : (l : Life) → j.runs ≡ true → Open i behind j items l → Open i behind (chosen j d) items l
+    opens l runs o = record {
+      going = o.going;
+      unfenced = o.unfenced;
+      above = λ e. o.above d;
+      waiting = λ w. record { heads = (o.waiting w).heads; base = (o.waiting w).base; kind = λ e. (o.waiting w).kind d; own = λ e. (o.waiting w).own d };
+      acting = λ a. acts l d ((may runs).1 a) (may runs).0 (o.acting a);
+    }
+
+-- ---- the node stops
+
+record EndItem (i : ℕ) (x : TraceItem) : Type 0 where
+  over : ended i (x ∷ []) ≡ true
+  nothing : to_its_end i (x ∷ []) ≡ []
+  fence : (p : ℕ) → fenced_behind i p (x ∷ []) ≡ None
+  losses : losses_of i (x ∷ []) ≡ 0
+  last : (m : ℕ) → last_number i m (x ∷ []) ≡ m
+  keeps : Keeps i x
+
+end-item : (i : ℕ) (x : TraceItem) → IsEnd i x → EndItem i x
+end-item i (trace.Crash k) e = record {
+  over = rw (ap (λ (n : ℕ). n == i) e ∙ eqb-self i) refl;
+  nothing = rw (ap (λ (n : ℕ). n == i) e ∙ eqb-self i) refl;
+  fence = λ p. refl;
+  losses = refl;
+  last = λ m. refl;
+  keeps = record { life = λ p n ls. ap (life_at i n) (append-nil ls); count = λ p. refl };
+}
+end-item i (trace.Withdraw k before after) e = record {
+  over = rw (ap (λ (n : ℕ). n == i) e ∙ eqb-self i) refl;
+  nothing = rw (ap (λ (n : ℕ). n == i) e ∙ eqb-self i) refl;
+  fence = λ p. refl;
+  losses = refl;
+  last = λ m. refl;
+  keeps = record { life = λ p n ls. ap (life_at i n) (append-nil ls); count = λ p. refl };
+}
+end-item i x e = absurd e
+
+abbrev pub halted : Journal → Journal
+halted j = record j { runs = false; waits = true; fenced = false; unlost = suc j.unlost; silent = false }
+
+pub stops : (i : ℕ) (behind : ℕ → AcceptedHead) (j : Journal) (items : List TraceItem) (x : TraceItem) → IsEnd i x → j.runs ≡ true → Inv i behind j items → Inv i behind (halted j) (items ++ x ∷ [])
+stops i behind j items x is-end runs inv = record {
+  number = last-same ∙ inv.number;
+  count = count-same i items x e.keeps ∙ (inv.count ∙ (let b : cond {A = ℕ} j.runs 1 0 ≡ 1 = ap (λ (t : Bool). cond t 1 0) runs in omega (arith, b, same)));
+  settled = λ f. true-false refl f;
+  single = inv.single;
+  others = inv.others;
+  even = λ u why d. absurd (omega (arith, u));
+  silent = λ s. true-false s refl;
+  lives = λ n l is low.
+      let old : life_at i n (lives_of items) ≡ Some l = sym (life-same i items x e.keeps n) ∙ is in
+      let g = inv.lives n l old (omega (arith, low, same)) in
+      record {
+        node = g.node;
+        within = longer items x l.join g.within;
+        closed = λ h. elim (cases_Bool (nat_lt n (losses_of i items + j.unlost))) [
+          | inl below ↦ closes n l g.within (g.closed (ltb-true n (losses_of i items + j.unlost) below))
+          | inr above ↦ let at = ltb-false n (losses_of i items + j.unlost) above in ends-now n l g.within (open-runs i behind j items inv n l old at).1 (g.present at)
+        ];
+        present = λ h. (let at = open-runs i behind j items inv n l old (omega (arith, h, same)) in let m : n ≡ losses_of i items + j.unlost = at.1 in absurd (omega (arith, h, same, m)));
+      };
+}
+  where
+    e : EndItem i x
+    e = end-item i x is-end
+
+    same : losses_of i (items ++ x ∷ []) ≡ losses_of i items
+    same = losses-same i items x (end-item i x is-end).losses
+
+    last-same : last_number i 0 (items ++ x ∷ []) ≡ last_number i 0 items
+    last-same = last-on i 0 items (x ∷ []) ∙ (end-item i x is-end).last (last_number i 0 items)
+
+    closes : (n : ℕ) (l : Life) → l.join < length items → Closed i behind j items n l → Closed i behind (halted j) (items ++ x ∷ []) n l
+    closes n l within c =
+        let d = closed-on i behind l items x within j n (end-item i x is-end).fence (losses-same i items x (end-item i x is-end).losses)
+        (last-on i 0 items (x ∷ []) ∙ (end-item i x is-end).last (last_number i 0 items)) c in
+        record { over = d.over; told = d.told; fenced = λ needs. d.fenced (inr (inl runs)) }
+
+    ends-now : (n : ℕ) (l : Life) → l.join < length items → n ≡ losses_of i items + j.unlost → Open i behind j items l → Closed i behind (halted j) (items ++ x ∷ []) n l
+    ends-now n l within at o = record {
+      over = ap (ended i) (rest-on l items (x ∷ []) within) ∙ (ended-on i (rest l items) (x ∷ []) ∙ (ap (λ (b : Bool). b || ended i (x ∷ [])) o.going ∙ (end-item i x is-end).over));
+      told = λ d. moved d ∙ (was d ∙ ap (λ (m : ℕ). cond (n == m) (j.cut d) j.last) (sym (losses-same i items x (end-item i x is-end).losses)));
+      fenced = λ needs. elim needs [
+        | inl low ↦ absurd (let s = losses-same i items x (end-item i x is-end).losses in omega (arith, low, at, s))
+        | inr other ↦ elim other [ inl r ↦ true-false r refl | inr f ↦ true-false f refl ]
+      ];
+    }
+      where
+        whole : mine i l (items ++ x ∷ []) ≡ mine i l items
+        whole = ap (to_its_end i) (rest-on l items (x ∷ []) within)
+            ∙ (end-open i (rest l items) (x ∷ []) o.going ∙ (ap (λ (es : List TraceItem). rest l items ++ es) (end-item i x is-end).nothing
+            ∙ (append-nil (rest l items) ∙ sym (mine-open i l items o.going))))
+
+        moved : (d : Bool) → value i behind l (items ++ x ∷ []) (j.name d) ≡ value i behind l items (j.name d)
+        moved d = λ t. value_of (behind l.join).sequence i (whole t) (base-more i behind l items x within t)
+            ((last-on i 0 items (x ∷ []) ∙ (end-item i x is-end).last (last_number i 0 items)) t)
+            (kept_head behind (fence-same i behind l items x within (end-item i x is-end).fence t) (j.name d))
+
+        was : (d : Bool) → value i behind l items (j.name d) ≡ cond (n == losses_of i items) (j.cut d) j.last
+        was d = elim (cases_Bool (j.waits)) [
+          | inl w ↦ waits-value i behind j items l d within inv.number o (o.waiting w) ∙ sym (elim (eqb_tells n (losses_of i items)) [
+            | inl q ↦ let none : j.unlost ≡ 0 = (let a = q.1 in omega (arith, at, a)) in ap (λ (b : Bool). cond b (j.cut d) j.last) q.0 ∙ inv.even none (inr w) d
+            | inr q ↦ ap (λ (b : Bool). cond b (j.cut d) j.last) q.0
+          ])
+          | inr a ↦ (o.acting a).told d ∙ sym (let none : j.unlost ≡ 0 = inv.settled a in let q : n ≡ losses_of i items = omega (arith, at, none) in
+              ap (λ (b : Bool). cond b (j.cut d) j.last) (ap (λ (m : ℕ). m == losses_of i items) q ∙ eqb-self (losses_of i items)))
+        ]
+
+-- ---- it is fenced
+
+fence-keeps : (i : ℕ) → Keeps i (trace.Fence i)
+fence-keeps i = record { life = λ p n ls. ap (life_at i n) (append-nil ls); count = λ p. refl }
+
+pub is-fenced : (i : ℕ) (behind : ℕ → AcceptedHead) (j : Journal) (items : List TraceItem) → j.runs ≡ false → (j.flies ≡ Some i → ⊥) → behind (suc (length items)) ≡ j.name false → Inv i behind j items
+    → Inv i behind (record j { fenced = true }) (items ++ trace.Fence i ∷ [])
+is-fenced i behind j items stopped resting at inv = record {
+  number = last-on i 0 items (trace.Fence i ∷ []) ∙ inv.number;
+  count = count-same i items (trace.Fence i) (fence-keeps i) ∙ (inv.count ∙ ap (λ (m : ℕ). m + (j.unlost + cond j.runs 1 0)) (sym same));
+  settled = inv.settled;
+  single = inv.single;
+  others = inv.others;
+  even = inv.even;
+  silent = inv.silent;
+  lives = λ n l is low.
+      let old : life_at i n (lives_of items) ≡ Some l = sym (life-same i items (trace.Fence i) (fence-keeps i) n) ∙ is in
+      let g = inv.lives n l old (omega (arith, low, same)) in
+      record {
+        node = g.node;
+        within = longer items (trace.Fence i) l.join g.within;
+        closed = λ h. closes n l g.within (g.closed (omega (arith, h, same)));
+        present = λ h. none-open i behind j items inv n l old stopped (omega (arith, h, same));
+      };
+}
+  where
+    same : losses_of i (items ++ trace.Fence i ∷ []) ≡ losses_of i items
+    same = losses-same i items (trace.Fence i) refl
+
+    cuts : (d : Bool) → j.cut false ≡ j.cut d
+    cuts false = refl
+    cuts true = by j.flies refl
+      where
+        by : (o : Option ℕ) → j.flies ≡ o → j.cut false ≡ j.cut true
+        by None e = sym (inv.single e).0
+        by (Some r) e = sym (inv.others r e (λ q. resting (e ∙ ap (λ (n : ℕ). Some n) q)))
+
+    this-fence : (p : ℕ) → fenced_behind i p (trace.Fence i ∷ []) ≡ Some (suc p)
+    this-fence p = rw (eqb-self i) refl
+
+    closes : (n : ℕ) (l : Life) → l.join < length items → Closed i behind j items n l → Closed i behind (record j { fenced = true }) (items ++ trace.Fence i ∷ []) n l
+    closes n l within c = record {
+      over = over-on i behind l items (trace.Fence i) within c.over;
+      told = λ d. closed-value i behind l items (trace.Fence i ∷ []) (j.name d) within c.over (last-on i 0 items (trace.Fence i ∷ []))
+          ∙ (by d (fence i l items) refl ∙ ap (λ (m : ℕ). cond (n == m) (j.cut d) j.last) (sym (losses-same i items (trace.Fence i) refl)));
+      fenced = λ needs. there (fence i l items) refl;
+    }
+      where
+        more : fence i l (items ++ trace.Fence i ∷ []) ≡ first_of_two (fence i l items) (Some (suc (length items)))
+        more = fence-more i l items (trace.Fence i ∷ []) within ∙ ap (first_of_two (fence i l items)) (this-fence (length items))
+
+        there : (o : Option ℕ) → fence i l items ≡ o → (p : ℕ) × (fence i l (items ++ trace.Fence i ∷ []) ≡ Some p)
+        there (Some p) e = (p, more ∙ ap (λ (o : Option ℕ). first_of_two o (Some (suc (length items)))) e)
+        there None e = (suc (length items), more ∙ ap (λ (o : Option ℕ). first_of_two o (Some (suc (length items)))) e)
+
+        by : (d : Bool) (o : Option ℕ) → fence i l items ≡ o
+            → value_of (behind l.join).sequence i (mine i l items) (base i l items) (last_number i 0 items) (kept_head behind (fence i l (items ++ trace.Fence i ∷ [])) (j.name d)) ≡ cond (n == losses_of i items) (j.cut d) j.last
+        by d (Some p) e =
+            ap (λ (o : Option ℕ). value_of (behind l.join).sequence i (mine i l items) (base i l items) (last_number i 0 items) (kept_head behind o (j.name d)))
+            (more ∙ (ap (λ (o : Option ℕ). first_of_two o (Some (suc (length items)))) e ∙ sym e)) ∙ c.told d
+        by d None e =
+            ap (λ (o : Option ℕ). value_of (behind l.join).sequence i (mine i l items) (base i l items) (last_number i 0 items) (kept_head behind o (j.name d)))
+            (more ∙ ap (λ (o : Option ℕ). first_of_two o (Some (suc (length items)))) e)
+            ∙ (ap (value_of (behind l.join).sequence i (mine i l items) (base i l items) (last_number i 0 items)) at
+            ∙ (sym (ap (λ (o : Option ℕ). value_of (behind l.join).sequence i (mine i l items) (base i l items) (last_number i 0 items) (kept_head behind o (j.name false))) e)
+            ∙ (c.told false ∙ ap (λ (m : ℕ). cond (n == losses_of i items) m j.last) (cuts d))))
+
+-- ---- it joins
+
+abbrev pub admitted : Journal → Journal
+admitted j = record j { runs = true; fenced = false }
+
+pub joins : (i : ℕ) (behind : ℕ → AcceptedHead) (j : Journal) (items : List TraceItem) → j.runs ≡ false → (j.fenced ≡ true) ⊎ (j.unlost ≡ 0) → j.flies ≡ None → behind (length items) ≡ j.name false
+    → Inv i behind j items → Inv i behind (admitted j) (items ++ trace.Join i ∷ [])
+joins i behind j items stopped free alone at inv = record {
+  number = last-on i 0 items (trace.Join i ∷ []) ∙ inv.number;
+  count = counted;
+  settled = inv.settled;
+  single = inv.single;
+  others = inv.others;
+  even = λ u why d. elim why [ inl f ↦ true-false refl f | inr w ↦ inv.even u (inr w) d ];
+  silent = λ s. no-some (sym alone ∙ (inv.silent s).0);
+  lives = λ n l is low. elim (life-newest i n (lives_of items) new l (eqb-self i) (sym (ap (life_at i n) (lives-more items (trace.Join i ∷ []))) ∙ is)) [
+    | inl old ↦
+        let g = inv.lives n l old (omega (arith, low, same)) in
+        record {
+          node = g.node;
+          within = longer items (trace.Join i) l.join g.within;
+          closed = λ h. closes n l g.within (omega (arith, low, same)) (omega (arith, h, same)) (g.closed (omega (arith, h, same)));
+          present = λ h. none-open i behind j items inv n l old stopped (omega (arith, h, same));
+        }
+    | inr fresh ↦ subst (Good i behind (admitted j) (items ++ trace.Join i ∷ []) n) (sym fresh.1) (begins n fresh.0)
+  ];
+}
+  where
+    new : Life
+    new = record { node = i; join = length items }
+
+    same : losses_of i (items ++ trace.Join i ∷ []) ≡ losses_of i items
+    same = losses-same i items (trace.Join i) refl
+
+    counted : lives_count i (lives_of (items ++ trace.Join i ∷ [])) ≡ losses_of i (items ++ trace.Join i ∷ []) + (j.unlost + 1)
+    counted =
+        let a = ap (lives_count i) (lives-more items (trace.Join i ∷ [])) in
+        let b = count-on i (lives_of items) (lives_from (length items) (trace.Join i ∷ [])) in
+        let c : lives_count i (lives_from (length items) (trace.Join i ∷ [])) ≡ 1 = ap (λ (t : Bool). cond t 1 0 + 0) (eqb-self i) in
+        let d : lives_count i (lives_of items) ≡ losses_of i items + (j.unlost + 0) = inv.count ∙ ap (λ (t : Bool). losses_of i items + (j.unlost + cond t 1 0)) stopped in
+        let s = losses-same i items (trace.Join i) refl in
+        a ∙ (b ∙ omega (arith, c, d, s))
+
+    closes : (n : ℕ) (l : Life) → l.join < length items → losses_of i items ≤ n → n < losses_of i items + j.unlost → Closed i behind j items n l
+        → Closed i behind (admitted j) (items ++ trace.Join i ∷ []) n l
+    closes n l within low high c =
+        let d = closed-on i behind l items (trace.Join i) within j n (λ p. refl) (losses-same i items (trace.Join i) refl) (last-on i 0 items (trace.Join i ∷ [])) c in
+        record {
+          over = d.over;
+          told = d.told;
+          fenced = λ needs. elim free [ inl f ↦ d.fenced (inr (inr f)) | inr none ↦ absurd (omega (arith, low, high, none)) ];
+        }
+
+    begins : (n : ℕ) → n ≡ lives_count i (lives_of items) → Good i behind (admitted j) (items ++ trace.Join i ∷ []) n (record { node = i; join = length items })
+    begins n at-end = record {
+      node = refl;
+      within = let e = length-append items (trace.Join i ∷ []) in omega (arith, e);
+      closed = λ h. absurd (let c : lives_count i (lives_of items) ≡ losses_of i items + (j.unlost + cond j.runs 1 0) = inv.count in let s = losses-same i items (trace.Join i) refl in omega (arith, h, s, c, at-end));
+      present = λ h. record {
+        going = ap (ended i) nothing;
+        unfenced = ap (fenced_behind i (length items + 1)) nothing;
+        above = above;
+        waiting = λ w. record {
+          heads = subst (NoHeads i) (sym nothing) tt;
+          base = ap (last_number i 0) (take-append_seam items (trace.Join i ∷ [])) ∙ inv.number;
+          kind = λ d. inl (old d);
+          own = λ d. inl (ap (λ (b : Bool). b && not (is_replays i (j.name d).block false (rest l (items ++ trace.Join i ∷ [])))) (old d));
+        };
+        acting = λ a. record {
+          told = λ d. value-here d ∙ sym (inv.even (inv.settled a) (inl stopped) d);
+          heads = subst (λ (es : List TraceItem). HeadsWithin i (j.name true).sequence es) (sym nothing) tt;
+          accepted = NotOwn (ap (λ (b : Bool). b && not (is_replays i (j.name false).block false (rest l (items ++ trace.Join i ∷ [])))) (old false));
+          flying = inl (NotOwn (ap (λ (b : Bool). b && not (is_replays i (j.name true).block false (rest l (items ++ trace.Join i ∷ [])))) (old true)));
+          item = λ f. no-some (sym alone ∙ f);
+        };
+      };
+    }
+      where
+        l : Life
+        l = record { node = i; join = length items }
+
+        nothing : drop (length items + 1) (items ++ trace.Join i ∷ []) ≡ []
+        nothing = drop-append-add items (trace.Join i ∷ []) 1
+
+        seen : (d : Bool) → (j.name d).sequence ≡ (behind (length items)).sequence
+        seen false = ap (λ (h : AcceptedHead). h.sequence) (sym at)
+        seen true = ap (λ (h : AcceptedHead). h.sequence) ((inv.single alone).1 ∙ sym at)
+
+        above : (d : Bool) → (behind (length items)).sequence ≤ (j.name d).sequence
+        above d = let e = seen d in omega (arith, e)
+
+        old : (d : Bool) → nat_lt (behind (length items)).sequence (j.name d).sequence ≡ false
+        old d = le-ltb (behind (length items)).sequence (j.name d).sequence (let e = seen d in omega (arith, e))
+
+        value-here : (d : Bool) → value i behind (record { node = i; join = length items }) (items ++ trace.Join i ∷ []) (j.name d) ≡ j.last
+        value-here d =
+            (λ t. value_of (behind (length items)).sequence i (to_its_end i (nothing t)) (last_number i 0 (take-append_seam items (trace.Join i ∷ []) t))
+            (last-on i 0 items (trace.Join i ∷ []) t) (kept_head behind (fenced_behind i (length items + 1) (nothing t)) (j.name d)))
+            ∙ (waiting-value (behind (length items)).sequence i [] (last_number i 0 items) (last_number i 0 items) (j.name d) tt refl (inl (old d)) ∙ inv.number)
+
+-- ---- a life is lost, and the slot recovered
+
+lost-keeps : (i kept : ℕ) → Keeps i (trace.Lost i kept)
+lost-keeps i kept = record { life = λ p n ls. ap (life_at i n) (append-nil ls); count = λ p. refl }
+
+abbrev pub bereft : Journal → ℕ → Journal
+bereft j m = record j { unlost = m; cut = λ d. j.last }
+
+pub loses : (i : ℕ) (behind : ℕ → AcceptedHead) (j : Journal) (items : List TraceItem) (m kept : ℕ) → j.waits ≡ true → j.unlost ≡ suc m → Inv i behind j items → Inv i behind (bereft j m) (items ++ trace.Lost i kept ∷ [])
+loses i behind j items m kept waits some inv = record {
+  number = last-on i 0 items (trace.Lost i kept ∷ []) ∙ inv.number;
+  count = count-same i items (trace.Lost i kept) (lost-keeps i kept) ∙ (inv.count ∙ omega (arith, one-more, some));
+  settled = λ f. true-false waits f;
+  single = λ e. (refl, (inv.single e).1);
+  others = λ r e ne. refl;
+  even = λ u why d. refl;
+  silent = inv.silent;
+  lives = λ n l is low.
+      let old : life_at i n (lives_of items) ≡ Some l = sym (life-same i items (trace.Lost i kept) (lost-keeps i kept) n) ∙ is in
+      let g = inv.lives n l old (omega (arith, low, one-more)) in
+      record {
+        node = g.node;
+        within = longer items (trace.Lost i kept) l.join g.within;
+        closed = λ h. closes n l g.within (omega (arith, low, one-more)) (g.closed (omega (arith, h, one-more, some)));
+        present = λ h. opens l g.within (g.present (omega (arith, h, one-more, some)));
+      };
+}
+  where
+    one-more : losses_of i (items ++ trace.Lost i kept ∷ []) ≡ losses_of i items + 1
+    one-more = losses-on i items (trace.Lost i kept ∷ []) ∙ ap (λ (b : Bool). losses_of i items + (cond b 1 0 + 0)) (eqb-self i)
+
+    last-same : last_number i 0 (items ++ trace.Lost i kept ∷ []) ≡ last_number i 0 items
+    last-same = last-on i 0 items (trace.Lost i kept ∷ [])
+
+    closes : (n : ℕ) (l : Life) → l.join < length items → losses_of i items + 1 ≤ n → Closed i behind j items n l → Closed i behind (bereft j m) (items ++ trace.Lost i kept ∷ []) n l
+    closes n l within low c = record {
+      over = over-on i behind l items (trace.Lost i kept) within c.over;
+      told = λ d. closed-same i behind l items (trace.Lost i kept) within (j.name d) c.over (last-on i 0 items (trace.Lost i kept ∷ [])) (λ p. refl)
+          ∙ (c.told d ∙ (ap (λ (b : Bool). cond b (j.cut d) j.last) (eqb-other n (losses_of i items) (λ q. absurd (omega (arith, low, q)))) ∙ always (n == losses_of i (items ++ trace.Lost i kept ∷ []))));
+      fenced = λ needs.
+          let f = c.fenced (elim needs [
+            | inl h ↦ inl (let o = losses-on i items (trace.Lost i kept ∷ []) ∙ ap (λ (b : Bool). losses_of i items + (cond b 1 0 + 0)) (eqb-self i) in omega (arith, h, o, some))
+            | inr other ↦ inr other
+          ]) in
+          (f.0, fence-same i behind l items (trace.Lost i kept) within (λ p. refl) ∙ f.1);
+    }
+      where
+        always : (b : Bool) → j.last ≡ cond b j.last j.last
+        always true = refl
+        always false = refl
+
+    opens : (l : Life) → l.join < length items → Open i behind j items l → Open i behind (bereft j m) (items ++ trace.Lost i kept ∷ []) l
+    opens l within o = record {
+      going = going-on i behind l items (trace.Lost i kept) within o.going refl;
+      unfenced = fence-same i behind l items (trace.Lost i kept) within (λ p. refl) ∙ o.unfenced;
+      above = o.above;
+      waiting = λ w. (let u = waiting-on i behind l items (trace.Lost i kept) within j (λ b. refl) tt (o.waiting w) in record { heads = u.heads; base = u.base; kind = u.kind; own = u.own });
+      acting = λ a. true-false waits a;
+    }
+
+pub is-recovered : (i : ℕ) (behind : ℕ → AcceptedHead) (j : Journal) (items : List TraceItem) → j.waits ≡ true → j.unlost ≡ 0 → j.flies ≡ None → Inv i behind j items
+    → Inv i behind (record j { waits = false }) items
+is-recovered i behind j items waits none alone inv = record {
+  number = inv.number;
+  count = inv.count;
+  settled = λ e. none;
+  single = inv.single;
+  others = inv.others;
+  even = λ u why d. inv.even u (inr waits) d;
+  silent = inv.silent;
+  lives = λ n l is low.
+      let g = inv.lives n l is low in
+      record {
+        node = g.node;
+        within = g.within;
+        closed = λ h. absurd (omega (arith, low, h, none));
+        present = λ h.
+            let o = g.present h in
+            let w = o.waiting waits in
+            record {
+              going = o.going;
+              unfenced = o.unfenced;
+              above = o.above;
+              waiting = λ f. true-false f refl;
+              acting = λ f. record {
+                told = λ d. waits-value i behind j items l d g.within inv.number o w ∙ sym (inv.even none (inr waits) d);
+                heads = within-none i (j.name true).sequence (rest l items) w.heads;
+                accepted = NotOwn (loud l false w);
+                flying = inl (NotOwn (loud l true w));
+                item = λ e. no-some (sym alone ∙ e);
+              };
+            };
+      };
+}
+  where
+    loud : (l : Life) (d : Bool) → Waiting i behind j items l → own (behind l.join).sequence i (rest l items) (j.name d) ≡ false
+    loud l d w = elim (w.own d) [
+      | inl off ↦ off
+      | inr s ↦ no-some (sym alone ∙ (inv.silent s).0)
+    ]

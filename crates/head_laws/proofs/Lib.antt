@@ -1,0 +1,10 @@
+pub mod Items
+pub mod Values
+pub mod Goods
+pub mod Growing
+pub mod Saying
+pub mod Ending
+pub mod Telling
+pub mod Tracing
+pub mod Remaining
+pub mod Example

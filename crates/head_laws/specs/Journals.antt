@@ -1,0 +1,129 @@
+-- A node's journal as the disk has it, the node's lives, and the items of a trace that tell of them.
+use Rattle.std.specs.Prelude.{ℕ, suc, ◌≡◌, ◌≢◌, ◌≤◌, ◌⊎◌, ◌+◌, ⊤, Bool, true, false, Option, None, Some, List, ◌∷◌, [], ◌++◌, length}
+use Rattle.file_tree.specs.declared.call.Call.{Call}
+use Rattle.file_tree.specs.declared.reply.Reply.{Reply}
+use Rattle.trace_text.specs.declared.item.TraceItem.{TraceItem}
+use Rattle.trace_text.specs.declared.item.TraceItem.TheVariants as trace
+use Rattle.run_rules.specs.Lives.{Life, AcceptedHead, items_of, base_of, is_replays, unnamed, lives_of, losses_of, life_at}
+use Rattle.cluster_laws.specs.Mirror.{either}
+
+pub record Journal : Type 0 where
+  -- the node has joined and not stopped; its slot waits for replay; it was fenced since its stop
+  pub runs : Bool
+  pub waits : Bool
+  pub fenced : Bool
+  -- how many of its lives have ended and have no loss yet
+  pub unlost : ℕ
+  -- the number of its last call
+  pub last : ℕ
+  -- of the accepted head (false) and of the one in flight (true), the number of the last call that it has, and its name; where none is in flight both are one
+  pub cut : Bool → ℕ
+  pub name : Bool → AcceptedHead
+  -- who has a header for it in flight
+  pub flies : Option ℕ
+  -- the node's last write in this life has no item
+  pub silent : Bool
+
+-- the node's present life
+abbrev pub present : ℕ → Journal → List TraceItem → Option Life
+present node j items = life_at node (losses_of node items + j.unlost) (lives_of items)
+
+-- a header's item
+abbrev pub head_item : Bool → ℕ → ℕ → ℕ → ℕ → TraceItem
+head_item true node block sequence upto = trace.WriteClean node block sequence upto
+head_item false node block sequence upto = trace.WriteHead node block sequence upto
+
+-- what a header of this life without an item has: a clean one all calls, another those before the first write to the log behind the last header
+abbrev pub unnamed_upto : Bool → ℕ → ℕ → Life → List TraceItem → ℕ
+unnamed_upto true node last life items = last
+unnamed_upto false node last life items = unnamed node (record { upto = base_of life items; is_logged = false; last = base_of life items }) (items_of life items)
+
+-- the item says nothing of the node's calls, headers and lives
+abbrev pub IsOther : ℕ → TraceItem → Type 0
+IsOther node (trace.Join i) = i ≢ node
+IsOther node (trace.WriteLog i block) = i ≢ node
+IsOther node (trace.WriteHead i block sequence upto) = i ≢ node
+IsOther node (trace.WriteClean i block sequence upto) = i ≢ node
+IsOther node (trace.WriteReplay i block) = ⊥
+IsOther node (trace.Commit i sequence upto) = i ≢ node
+IsOther node (trace.Call i name number call reply) = i ≢ node
+IsOther node (trace.Crash i) = i ≢ node
+IsOther node (trace.Withdraw i before after) = i ≢ node
+IsOther node (trace.Fence i) = i ≢ node
+IsOther node (trace.Lost i kept) = i ≢ node
+IsOther node _ = ⊤
+
+-- the item ends a life of the node
+abbrev pub IsEnd : ℕ → TraceItem → Type 0
+IsEnd node (trace.Crash i) = i ≡ node
+IsEnd node (trace.Withdraw i before after) = i ≡ node
+IsEnd node _ = ⊥
+
+-- where the node runs, a replay's write to this head's block stands in its present life
+abbrev pub IsNoted : ℕ → Journal → List TraceItem → AcceptedHead → Type 0
+IsNoted node j items h = j.runs ≡ true → (l : Life) → present node j items ≡ Some l → is_replays node h.block false (items_of l items) ≡ true
+
+-- One thing happens to the journal, or one item of the trace says something; behind so many items the accepted head of the node's journal is this on the disk.
+pub data Event (node : ℕ) (behind : ℕ → AcceptedHead) (j : Journal) (items : List TraceItem) : Journal → List TraceItem → Type 0 where
+  -- an item of something else; a write to the log; a replay's write, which is to no place of a header without an item
+  Says : (x : TraceItem) → IsOther node x → Event node behind j items j (items ++ x ∷ [])
+  WritesLog : (block : ℕ) → j.silent ≡ false → Event node behind j items j (items ++ trace.WriteLog node block ∷ [])
+  WritesReplay : (r block : ℕ) → (j.silent ≡ true → block ≢ (j.name true).block) → Event node behind j items j (items ++ trace.WriteReplay r block ∷ [])
+  -- a call is answered, and not behind a clean header
+  Answers : (name : List ℕ) (number : ℕ) (call : Call) (reply : Reply) → j.runs ≡ true → j.waits ≡ false → (j.silent ≡ true → (j.name true).is_clean ≡ false)
+      → Event node behind j items (record j { last = number }) (items ++ trace.Call node name number call reply ∷ [])
+  -- the node begins a header, with its item, or as the last that it does in this life
+  Begins : (clean : Bool) (block upto : ℕ) → j.runs ≡ true → j.waits ≡ false → j.silent ≡ false → j.flies ≡ None
+      → Event node behind j items (record j {
+        cut = either (j.cut false) upto;
+        name = either (j.name false) (record { block = block; sequence = suc (j.name false).sequence; is_clean = clean });
+        flies = Some node;
+      }) (items ++ head_item clean node block (suc (j.name false).sequence) upto ∷ [])
+  BeginsLast : (clean : Bool) (block upto : ℕ) → j.runs ≡ true → j.waits ≡ false → j.silent ≡ false → j.flies ≡ None
+      → ((l : Life) → present node j items ≡ Some l → (upto ≡ unnamed_upto clean node j.last l items) × (is_replays node block false (items_of l items) ≡ false))
+      → Event node behind j items (record j {
+        cut = either (j.cut false) upto;
+        name = either (j.name false) (record { block = block; sequence = suc (j.name false).sequence; is_clean = clean });
+        flies = Some node;
+        silent = true;
+      }) items
+  -- a clean header of a replay, once the node is fenced. Where it runs again, the header's item stands; or it is the last that the node itself does in this life
+  Replays : (r : ℕ) (h : AcceptedHead) → j.waits ≡ true → (j.fenced ≡ true) ⊎ (j.runs ≡ true) → j.flies ≡ None → h.is_clean ≡ true → (j.name false).sequence ≤ h.sequence
+      → IsNoted node j items h
+      → Event node behind j items (record j { cut = either (j.cut false) (j.cut false); name = either (j.name false) h; flies = Some r }) items
+  ReplaysLast : (h : AcceptedHead) → j.waits ≡ true → j.runs ≡ true → j.silent ≡ false → j.flies ≡ None → h.is_clean ≡ true → (j.name false).sequence ≤ h.sequence
+      → Event node behind j items (record j { cut = either (j.cut false) (j.cut false); name = either (j.name false) h; flies = Some node; silent = true }) items
+  -- where the slot waits since the start: such a header of the ring that speaks for the past
+  ReplaysPast : (h : AcceptedHead) → j.waits ≡ true → (j.fenced ≡ true) ⊎ (j.runs ≡ true) → j.flies ≡ None → h.is_clean ≡ true → (j.name false).sequence ≤ h.sequence → IsNoted node j items h
+      → Event node behind j items (record j { name = λ d. h }) items
+  -- a header is on the disk, or never will be; a commit says the first of the node's own
+  Ends : (d : Bool) → (j.runs ≡ true → (j.silent ≡ false) × (j.waits ≡ false → d ≡ true))
+      → Event node behind j items (record j { cut = λ e. j.cut d; name = λ e. j.name d; flies = None }) items
+  Commits : (sequence upto : ℕ) → j.runs ≡ true → j.waits ≡ false → j.silent ≡ false → j.flies ≡ Some node
+      → Event node behind j items (record j { cut = λ e. j.cut true; name = λ e. j.name true; flies = None }) (items ++ trace.Commit node sequence upto ∷ [])
+  -- the node stops, and is fenced
+  Stops : (x : TraceItem) → IsEnd node x → j.runs ≡ true
+      → Event node behind j items (record j { runs = false; waits = true; fenced = false; unlost = suc j.unlost; silent = false }) (items ++ x ∷ [])
+  IsFenced : j.runs ≡ false → j.fenced ≡ false → (j.flies ≡ Some node → ⊥) → behind (suc (length items)) ≡ j.name false
+      → Event node behind j items (record j { fenced = true }) (items ++ trace.Fence node ∷ [])
+  -- it joins, with no header of its journal in flight
+  Joins : j.runs ≡ false → (j.fenced ≡ true) ⊎ (j.unlost ≡ 0) → j.flies ≡ None → behind (length items) ≡ j.name false
+      → Event node behind j items (record j { runs = true; fenced = false }) (items ++ trace.Join node ∷ [])
+  -- a life that ended is lost; the journal counts as having all calls that are left. With the last of them the slot is recovered
+  Loses : (m kept : ℕ) → j.waits ≡ true → j.unlost ≡ suc m → (j.runs ≡ true) ⊎ (j.fenced ≡ true)
+      → Event node behind j items (record j { unlost = m; cut = λ d. j.last }) (items ++ trace.Lost node kept ∷ [])
+  IsRecovered : j.waits ≡ true → j.unlost ≡ 0 → j.flies ≡ None → Event node behind j items (record j { waits = false }) items
+
+pub data Events (node : ℕ) (behind : ℕ → AcceptedHead) (j : Journal) (items : List TraceItem) : Journal → List TraceItem → Type 0 where
+  Done : Events node behind j items j items
+  Then : (k l : Journal) (more most : List TraceItem) → Events node behind j items k more → Event node behind k more l most → Events node behind j items l most
+
+-- before the first join: the node has answered nothing, and its journal has one head
+pub record IsNew (j : Journal) : Type 0 where
+  pub runs : j.runs ≡ false
+  pub unlost : j.unlost ≡ 0
+  pub last : j.last ≡ 0
+  pub cut : (d : Bool) → j.cut d ≡ 0
+  pub name : j.name true ≡ j.name false
+  pub flies : j.flies ≡ None
+  pub silent : j.silent ≡ false

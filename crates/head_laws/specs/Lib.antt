@@ -1,0 +1,4 @@
+pub mod Journals
+pub mod Laws
+pub mod Traces
+pub mod Example

@@ -1,0 +1,31 @@
+//! Which head a loss counts from, by the items of the trace.
+#![tactic(auto)]
+
+ghost use Rattle.head_laws.specs.Example.{JournalCanLive};
+ghost use Rattle.head_laws.specs.Laws.{HeadsAreTold};
+ghost use Rattle.head_laws.specs.Traces.{LossesAreRight, RemainsStand};
+
+use tree_histories::TreeImages;
+
+/// A law: of a node's earliest life without a loss the number that the items tell is that of its journal's head, whichever header turns
+/// out to be accepted; of each later one it is the number of the node's last call.
+pub fn heads_are_told()
+    ensures { HeadsAreTold }
+{}
+
+/// A law: over every list of events of a cluster, with their items, each loss is that of a life and right, where the number that it
+/// counts from is what the items tell of the head which the life left.
+pub fn losses_are_right<T: TreeImages>()
+    ensures { LossesAreRight T.images }
+{}
+
+/// A law: each outcome of the disk, whichever heads the journals then have, replayed, stands for the tree of what remains of the items,
+/// which is legal.
+pub fn remains_stand<T: TreeImages>()
+    ensures { RemainsStand T.images }
+{}
+
+/// A law: the events can be: a node stops behind a header that has no item, its journal is replayed, and it joins again.
+pub fn a_journal_can_live()
+    ensures { JournalCanLive }
+{}
