@@ -18,6 +18,7 @@ use Rattle.image_model.specs.Owners.{Below, Named}
 use Rattle.image_model.specs.Rules.{Breaks, no_superblock, beyond_device, beyond_groups, two_owners, IsOutside}
 use Rattle.image_model.specs.Journals.{journal_name}
 use Rattle.image_mount.specs.Found.{HasFormat}
+use Rattle.image_mount.specs.Looks.{IsInGroups}
 use Rattle.image_mount.specs.Refusals.{RefusesRightly}
 use Rattle.image_mount.specs.Rings.{IsPlace, IsSearched, IsNext, IsPlaceAt}
 use Rattle.image_mount.specs.Searching.{IsWanted, StopsRightly}
@@ -29,6 +30,7 @@ use Rattle.image_mount.specs.declared.stop.Stop.{Stop}
 use Rattle.image_mount.specs.declared.stop.Stop.TheVariants as stop
 use Rattle.image_mount.specs.declared.system.System.{System}
 use Rattle.image_mount.proofs.Causes.{told}
+use Rattle.image_mount.proofs.Names.{contains_at}
 use Rattle.image_mount.proofs.KeptLaws.{get_kept}
 
 -- ---- a block that is wanted is not read
@@ -205,6 +207,11 @@ searched_on (Ok x) s block from old new is more = λ im done d n stops known. mo
 searched_on (Err e) s block from old new is more = tt
 
 -- ---- blocks of groups
+
+pub in_groups : (groups same : List Rindex) (b : ℕ) → groups ≡ same → (g : Rindex) × Contains groups g × IsDataOf g b → IsInGroups same b
+in_groups groups same b is inside =
+    let there = subst (λ gs. Contains gs inside.0) is inside.1 in
+    (inside.0, (there.0, contains_at same inside.0 there), inside.2)
 
 pub outside_groups : (im : Image) (system : System) (b : ℕ) (groups : List Rindex) → IsSystemOf im system → groups ≡ system.groups.items → All (λ g. ¬ (IsDataOf g b)) groups → IsOutside im b
 outside_groups im system b groups looked same none g has inside =

@@ -9,7 +9,7 @@ ghost use Rattle.image_model.specs.Stands.{Layout};
 ghost use Rattle.image_mount.specs.Found.{HasFormat, HasGroups};
 ghost use Rattle.image_mount.specs.Leaves.{IsMasterIn};
 ghost use Rattle.image_mount.specs.Listing.{said, AreAllRecords};
-ghost use Rattle.image_mount.specs.Looks.{IsSized, IsTrueEntry};
+ghost use Rattle.image_mount.specs.Looks.{IsSized, IsSoundDirectory, IsTrueEntry};
 ghost use Rattle.image_mount.specs.Refusals.{RefusesRightly};
 ghost use Rattle.image_mount.specs.declared.fault.MountFault.TheVariants as fault_of;
 ghost use Rattle.image_mount.specs.Searching.{IsRead, IsSteady, StopsRightly, LacksBlock};
@@ -73,6 +73,7 @@ fn system_files(
 ) -> Result<SystemFiles, Stop>
     ensures found { (im : Image) → IsRead im table.now → IsMasterIn im inode.now → (is_hashed_in (every im inode.now.block) ≡ true → ArePlainRecords im inode.now.block names.now) → IfOk result (AreFilesOf im) }
     ensures sized { (im : Image) → IsRead im table.now → IsMasterIn im inode.now → is_hashed_in (every im inode.now.block) ≡ false → OnOk result (IsSized im inode.now.block) }
+    ensures sound { (im : Image) → IsRead im table.now → IsMasterIn im inode.now → is_hashed_in (every im inode.now.block) ≡ false → OnOk result (IsSoundDirectory im inode.now.block inode.now.block) }
     ensures stops { (im : Image) → IsRead im table.now → IsMasterIn im inode.now → (is_hashed_in (every im inode.now.block) ≡ true → ArePlainRecords im inode.now.block names.now) → IfErr result (StopsRightly im) }
     ensures lacks { IfErr result (LacksBlock table.now) }
 {

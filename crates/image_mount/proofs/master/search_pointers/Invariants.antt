@@ -1,4 +1,4 @@
-use Rattle.std.proofs.Common.{◌≡◌, ◌≤◌, ℕ, [], true, IsTrue}
+use Rattle.std.proofs.Common.{◌≡◌, [], true, IsTrue}
 use Rattle.gfs2_layout.specs.Inode.{is_hashed_in}
 use Rattle.image_model.specs.Claims.{every}
 use Rattle.image_mount.specs.Leaves.{IsMasterIn}

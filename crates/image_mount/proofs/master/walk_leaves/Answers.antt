@@ -1,4 +1,4 @@
-use Rattle.std.proofs.Common.{◌^◌, ◌≤◌, [], refl, ap, arith, ◌∙◌}
+use Rattle.std.proofs.Common.{◌^◌, ◌≤◌, [], ap, arith, ◌∙◌}
 use Rattle.image_model.specs.Claims.{master_of}
 use Rattle.image_model.specs.Image.{image_of}
 use Rattle.shared_disk.specs.Disk.{DiskState}

@@ -1,4 +1,4 @@
-use Rattle.std.proofs.Common.{◌≡◌, ◌≤◌, ◌+◌, ◌^◌, ℕ, [], IsTrue, vec_len}
+use Rattle.std.proofs.Common.{◌≡◌, ◌≤◌, ◌+◌, ◌^◌, [], IsTrue, vec_len}
 use Rattle.image_model.specs.Claims.{master_of}
 use Rattle.image_model.specs.Image.{image_of}
 use Rattle.image_mount.specs.Leaves.{IsTableOf, IsWalked, steps_left}

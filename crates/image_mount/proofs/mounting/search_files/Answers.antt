@@ -1,4 +1,4 @@
-use Rattle.std.proofs.Common.{[], arith, ◌∙◌}
+use Rattle.std.proofs.Common.{[]}
 use Rattle.image_model.specs.Image.{image_of}
 use Rattle.image_mount.proofs.Marks.{go_refused}
 use Rattle.image_mount.proofs.Stops.{refused}

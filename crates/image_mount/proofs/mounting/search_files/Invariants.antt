@@ -1,4 +1,4 @@
-use Rattle.std.proofs.Common.{◌≡◌, ◌≤◌, ℕ, [], IsTrue}
+use Rattle.std.proofs.Common.{[], IsTrue}
 use Rattle.image_model.specs.Image.{image_of}
 use Rattle.image_mount.specs.Rings.{IsSearched}
 use Rattle.image_mount.specs.Searching.{IsWorking}
