@@ -1,5 +1,5 @@
 -- What mounting tells in the end.
-use Rattle.std.proofs.Common.{◌≡◌, ℕ, ◌^◌, ◌<◌, ◌≤◌, List, [], length, Some, IsTrue, sym, ap, subst, ◌∙◌}
+use Rattle.std.proofs.Common.{◌≢◌, ◌≡◌, ℕ, ◌^◌, ◌<◌, ◌≤◌, List, [], length, Some, IsTrue, sym, ap, subst, ◌∙◌}
 use Rattle.std.specs.Prelude.{map, slice_get, Result, IfErr, IsErrAnd}
 use Rattle.std.specs.List.{All}
 use Rattle.std.proofs.lemmas.List.{length-map}
@@ -14,12 +14,12 @@ use Rattle.image_model.specs.Image.{Image, image_of}
 use Rattle.image_model.specs.Stands.{Layout, IsJournalAt}
 use Rattle.image_mount.specs.Found.{HasFormat, HasNames}
 use Rattle.image_model.specs.Journals.{journal_name}
-use Rattle.image_mount.specs.Looks.{HasTrueRecord, IsInGroups, IsPlaceOf, IsSoundDirectory, IsTrueEntry}
-use Rattle.image_mount.specs.Marked.{times_in}
+use Rattle.image_mount.specs.Looks.{HasTrueRecord, IsInGroups, IsPlaceOf, IsSoundDirectory, IsSystemDinode, IsTrueEntry, of_journal, of_jindex, of_master, of_rindex}
+use Rattle.image_mount.specs.Marked.{IsKept, times_in}
 use Rattle.image_mount.specs.Mounted.{Journal, MountedValue, IsMounted, IsOfProfile, IsJournalOf}
 use Rattle.image_mount.specs.Refusals.{RefusesRightly, IsExcused}
 use Rattle.image_mount.specs.Rings.{IsSearched, AreRings, AreJournals, IsLowJournal, IsRingOf, all_places}
-use Rattle.image_mount.specs.System.{IsSystemOf, layout_of}
+use Rattle.image_mount.specs.System.{HasDinodes, IsSystemOf, layout_of}
 use Rattle.image_mount.specs.Kept.{Kept}
 use Rattle.shared_disk.specs.Disk.{DiskState}
 use Rattle.image_mount.specs.declared.fault.MountFault.{MountFault}
@@ -45,8 +45,11 @@ same_some x y e = cc
 -- what was found is what is mounted
 pub mounted : (im : Image) (system : System) (rings : List Ring) (journals : List Journal) (m : MountedValue) → IsSystemOf im system → AreRings im system.journals.items rings → AreJournals im rings journals
     → All (λ (r : Ring). All (IsInGroups system.groups.items) r.blocks.items) rings → ((b : ℕ) → times_in (all_places rings) b ≤ 1)
+    → All (λ (r : Ring). (r.dinode ≢ system.superblock.master.address) × (r.dinode ≢ system.rindex)) rings
+    → (k : Kept) → HasDinodes im k system → All (λ (r : Ring). IsKept k r.dinode) rings
+    → ((j p b : ℕ) (r : Ring) → slice_get rings j ≡ Some r → slice_get r.blocks.items p ≡ Some b → ¬ (IsKept k b))
     → m.superblock ≡ system.superblock → m.groups ≡ map group_of_entry system.groups.items → m.journals ≡ journals → IsMounted im m
-mounted im system rings journals m looked are found placed once super groups same = record {
+mounted im system rings journals m looked are found placed once own k dinodes_kept rings_kept unkept super groups same = record {
   layout = l;
   found = looked.names;
   profile = record {
@@ -91,6 +94,9 @@ mounted im system rings journals m looked are found placed once super groups sam
     master_records = looked.master_sound;
     master_leaves = looked.master_leaves;
     jindex_records = subst (IsSoundDirectory im system.jindex) (sym (ap (λ (s : SuperBlock). s.master.address) looked.superblock)) looked.journals.sound;
+    own = λ j d at.
+        let ring = from_mapped (λ (r : Ring). r.dinode) rings j d (ap (λ ds. slice_get ds j) are.dinodes ∙ at) in
+        subst (λ x. (x ≢ system.superblock.master.address) × (x ≢ system.rindex)) ring.2 (all_at (λ (r : Ring). (r.dinode ≢ system.superblock.master.address) × (r.dinode ≢ system.rindex)) rings j ring.0 own ring.1);
     places = λ j p b place.
         let here = place_at j p b place in
         all_at (IsInGroups system.groups.items) here.0.blocks.items p b (all_at (λ (r : Ring). All (IsInGroups system.groups.items) r.blocks.items) rings j here.0 placed here.1) here.2;
@@ -98,6 +104,7 @@ mounted im system rings journals m looked are found placed once super groups sam
         let here = place_at j p b place in
         let there = place_at i q b other in
         places_apart rings j i p q b here.0 there.0 (once b) here.1 there.1 here.2 there.2;
+    beside = λ j p b place dinode. let here = place_at j p b place in unkept j p b here.0 here.1 here.2 (dinode_kept b dinode);
   };
   superblock = super ∙ looked.superblock;
   groups = groups;
@@ -122,6 +129,14 @@ mounted im system rings journals m looked are found placed once super groups sam
         let low = slice_get_within rings j ring.0 ring.1 in
         let of = subst (λ (r : Ring). IsRingOf im r.dinode r.blocks.items) (get_or_from_slice_get rings j ring.0 ring.0 ring.1) (are.each j ring.0 low) in
         (ring.0, ring.1, subst (λ x. IsRingOf im x ring.0.blocks.items) ring.2 of)
+
+    dinode_kept : (b : ℕ) → IsSystemDinode l b → IsKept k b
+    dinode_kept _ of_master = subst (IsKept k) (sym (ap (λ (s : SuperBlock). s.master.address) looked.superblock)) dinodes_kept.master
+    dinode_kept _ of_rindex = dinodes_kept.rindex
+    dinode_kept _ of_jindex = dinodes_kept.jindex
+    dinode_kept _ (of_journal j d at) =
+        let ring = from_mapped (λ (r : Ring). r.dinode) rings j d (ap (λ ds. slice_get ds j) are.dinodes ∙ at) in
+        subst (IsKept k) ring.2 (all_at (λ (r : Ring). IsKept k r.dinode) rings j ring.0 rings_kept ring.1)
 
     place_at : (j p b : ℕ) → IsPlaceOf im l j p b → (ring : Ring) × (slice_get rings j ≡ Some ring) × (slice_get ring.blocks.items p ≡ Some b)
     place_at j p b place =

@@ -1,11 +1,14 @@
 -- Places of journals that are marked one by one: each block is marked once.
-use Rattle.std.proofs.Common.{◌≡◌, ◌≢◌, inl, inr, ℕ, zero, suc, ◌+◌, ◌==◌, ◌<◌, ◌≤◌, Bool, true, false, List, [], ◌∷◌, ◌++◌, length, Option, None, Some, refl, sym, ap, ◌∙◌, arith}
+use Rattle.std.proofs.Common.{◌≡◌, ◌≢◌, inl, inr, ℕ, zero, suc, ◌+◌, ◌==◌, ◌<◌, ◌≤◌, Bool, true, false, List, [], ◌∷◌, ◌++◌, length, get_or, Option, None, Some, refl, sym, ap, subst, ◌∙◌, arith}
 use Rattle.std.specs.Prelude.{cond, slice_get, slice_set}
+use Rattle.std.specs.List.{All}
+use Rattle.std.proofs.lemmas.Option.{slice_get_within}
 use Rattle.std.proofs.lemmas.Bool.{cases_eq, cond-true, cond-false, eq-eqb, ne_eqb}
+use Rattle.std.proofs.lemmas.List.Elements.{All-push}
 use Rattle.std.proofs.lemmas.List.Concat.{flat_map-append}
 use Rattle.std.proofs.lemmas.List.Sums.{sum_by-append, sum_by-cons}
-use Rattle.image_mount.specs.Kept.{Kept}
-use Rattle.image_mount.specs.Marked.{AreMarked, marks_of, one_if, times_in}
+use Rattle.image_mount.specs.Kept.{Kept, bytes_of, seen_of}
+use Rattle.image_mount.specs.Marked.{AreMarked, AreUnkept, IsGrown, IsKept, marks_of, one_if, times_in}
 use Rattle.image_mount.specs.Rings.{all_places}
 use Rattle.image_mount.specs.declared.journals.Ring.{Ring}
 
@@ -119,3 +122,73 @@ places_apart (x ∷ xs) (suc j) zero p q b r s few at at' here there =
 places_apart (x ∷ xs) (suc j) (suc i) p q b r s few at at' here there =
     let more = places_apart xs j i p q b r s (omega (arith, few, sum_by-append (λ (m : ℕ). cond {A = ℕ} (m == b) 1 0) x.blocks.items (all_places xs))) at at' here there in
     (ap suc more.0, more.1)
+
+-- ---- what is kept, as more is
+
+pub grown_none : (k : Kept) → IsGrown k k
+grown_none k = record { stays = λ b kept. kept; unkept = λ none. none }
+
+pub grown_on : (a b c : Kept) → IsGrown a b → IsGrown b c → IsGrown a c
+grown_on a b c first second = record { stays = λ n kept. second.stays n (first.stays n kept); unkept = λ none. second.unkept (first.unkept none) }
+
+kept_here : (entries : List (Option (List ℕ))) (i : ℕ) (x : List ℕ) → slice_get entries i ≡ Some None → bytes_of (slice_get (slice_set entries i (Some x)) i) ≢ None
+kept_here entries i x free e = let here : bytes_of (slice_get (slice_set entries i (Some x)) i) ≡ Some x = ap bytes_of (got_here entries i (Some x) (slice_get_within entries i None free)) in no_some x (sym e ∙ here)
+  where
+    no_some : (y : List ℕ) → None ≡ Some y → ⊥
+    no_some y e = cc
+
+-- one more block is kept, which is no place
+pub grown_kept : (old new : Kept) (b : ℕ) (x : List ℕ) → slice_get old.entries b ≡ Some None → new.entries ≡ slice_set old.entries b (Some x) → new.places ≡ old.places → marks_of old b ≡ 0 → IsGrown old new
+grown_kept old new b x free is same unmarked = record {
+  stays = λ n kept. elim (cases_eq b n) [
+    | inl e ↦ subst (IsKept new) e (λ none. kept_here old.entries b x free (ap (λ es. bytes_of (slice_get es b)) (sym is) ∙ none))
+    | inr other ↦ λ none. kept (sym (there n other) ∙ none)
+  ];
+  unkept = λ none n mark.
+      let before : marks_of old n ≡ 1 = ap (λ ps. one_if (slice_get ps n)) (sym same) ∙ mark in
+      elim (cases_eq b n) [
+        | inl e ↦ absurd (omega (arith, unmarked, before, ap (marks_of old) e))
+        | inr other ↦ there n other ∙ none n before
+      ];
+}
+  where
+    there : (n : ℕ) → b ≢ n → bytes_of (slice_get new.entries n) ≡ bytes_of (slice_get old.entries n)
+    there n other = ap (λ es. bytes_of (slice_get es n)) is ∙ ap bytes_of (got_other old.entries b n (Some x) other)
+
+-- one more is a place, which isn't kept
+pub grown_marked : (old new : Kept) (b : ℕ) → new.entries ≡ old.entries → new.places ≡ slice_set old.places b true → (seen_of old).block_at b ≡ None → IsGrown old new
+grown_marked old new b same is free = record {
+  stays = λ n kept none. kept (sym (there n) ∙ none);
+  unkept = λ none n mark. elim (cases_eq b n) [
+    | inl e ↦ there n ∙ ap (seen_of old).block_at (sym e) ∙ free
+    | inr other ↦
+        let before : marks_of old n ≡ 1 = ap one_if (sym (got_other old.places b n true other) ∙ ap (λ ps. slice_get ps n) (sym is)) ∙ mark in
+        there n ∙ none n before
+  ];
+}
+  where
+    there : (n : ℕ) → (seen_of new).block_at n ≡ (seen_of old).block_at n
+    there n = ap (λ es. bytes_of (slice_get es n)) same
+
+pub unkept_new : (k : Kept) → All (λ place. place ≡ false) k.places → AreUnkept k
+unkept_new k unmarked b mark = absurd (omega (arith, mark, none_marked k.places unmarked b))
+  where
+    none_marked : (places : List Bool) → All (λ place. place ≡ false) places → (b : ℕ) → one_if (slice_get places b) ≡ 0
+    none_marked [] all b = refl
+    none_marked (e ∷ es) all zero = let e0 = all 0 false (omega arith) in ap (λ p. one_if (Some p)) e0
+    none_marked (e ∷ es) all (suc b) = none_marked es (λ k d low. all (suc k) d (omega (arith, low))) b
+
+-- a place of these journals is marked, and so isn't kept
+pub place_unkept : (old new : Kept) (rings : List Ring) (j p b : ℕ) (ring : Ring) → AreMarked old new (all_places rings) → AreUnkept new → slice_get rings j ≡ Some ring → slice_get ring.blocks.items p ≡ Some b → ¬ (IsKept new b)
+place_unkept old new rings j p b ring are none at there kept = kept (none b (omega (arith, are b, times_among rings j p b ring at there, once (slice_get new.places b))))
+
+-- the dinodes of journals stay, and one more is there
+pub rings_kept : (a b : Kept) (old new : List Ring) (ring : Ring) → IsGrown a b → All (λ (r : Ring). IsKept a r.dinode) old → IsKept b ring.dinode → new ≡ old ++ ring ∷ [] → All (λ (r : Ring). IsKept b r.dinode) new
+rings_kept a b old new ring grown kept here is =
+    subst (All (λ (r : Ring). IsKept b r.dinode)) (sym is) (All-push (λ (r : Ring). IsKept b r.dinode) old ring (λ k d low. grown.stays (get_or old k d).dinode (kept k d low)) here)
+
+pub has_kept : (k : Kept) (b : ℕ) → (bytes : List ℕ) × ((seen_of k).block_at b ≡ Some bytes) → IsKept k b
+has_kept k b has none = no_some has.0 (sym none ∙ has.1)
+  where
+    no_some : (y : List ℕ) → None ≡ Some y → ⊥
+    no_some y e = cc

@@ -1,6 +1,6 @@
 -- What a call over a disk tells, in the words of what the disk held before.
 use Rattle.std.proofs.Common.{◌≡◌, ◌≢◌, ◌↔◌, inl, inr, Bool, false, ℕ, zero, suc, ◌+◌, ◌<◌, List, [], ◌∷◌, ◌++◌, length, take, get_or, Some, IsTrue, refl, sym, ap, subst, ◌∙◌, arith}
-use Rattle.std.specs.Prelude.{codes, map, Contains, slice_get}
+use Rattle.std.specs.Prelude.{codes, map, Contains, slice_get, Result, Ok, Err, IfOk, OnOk}
 use Rattle.std.specs.List.{All}
 use Rattle.std.proofs.lemmas.Option.{slice_get-get_or, slice_get_within, get_or_from_slice_get}
 use Rattle.std.proofs.lemmas.List.{map-append}
@@ -21,7 +21,8 @@ use Rattle.image_mount.specs.Rings.{IsSearched, IsJournalIn, IsNext, HasPlaces, 
 use Rattle.image_mount.specs.Searching.{IsWorking}
 use Rattle.image_mount.specs.Leaves.{IsMasterIn}
 use Rattle.image_mount.specs.Looks.{IsTrueEntry}
-use Rattle.image_mount.specs.System.{IsMasterOf, IsNamedBy, IsSystemOf, layout_of}
+use Rattle.image_mount.specs.Marked.{IsGrown, IsKept}
+use Rattle.image_mount.specs.System.{HasDinodes, IsMasterOf, IsNamedBy, IsSystemOf, layout_of}
 use Rattle.image_mount.specs.Kept.{Kept, bytes_of}
 use Rattle.image_mount.specs.declared.fault.MountFault.{MountFault}
 use Rattle.image_mount.specs.declared.fault.MountFault.TheVariants as fault
@@ -89,6 +90,15 @@ module _ (old now : DiskState) (same : now ≡ old) where
       → IsTrue old.tells → IsMasterOf (image_of old) at → IsNamedBy (image_of old) at names → IsSearched (image_of old) [] 0 0 k → IsSearched (image_of old) [] 0 0 new
   files_searched at names k new more =
       subst (λ (s : DiskState). IsTrue s.tells → IsMasterOf (image_of s) at → IsNamedBy (image_of s) at names → IsSearched (image_of s) [] 0 0 k → IsSearched (image_of s) [] 0 0 new) same more
+
+-- the dinodes that were kept stay, and those of the files are
+pub dinodes_of : (im : Image) (a b : Kept) (W V : Type 0) (r : Result System MountFault) → OnOk r (IsGrown a b) → IfOk r (λ s. IsKept b s.rindex) → IfOk r (λ s. IsKept b s.jindex) → (W → V → IsKept a (master_of im))
+    → IfOk r (λ s. W → V → HasDinodes im b s)
+dinodes_of im a b W V (Ok s) grown rindex jindex known = λ w v. record { master = grown.stays (master_of im) (known w v); rindex = rindex; jindex = jindex }
+dinodes_of im a b W V (Err f) grown rindex jindex known = tt
+
+pub stay_kept : (im : Image) (a b : Kept) (s : System) → IsGrown a b → HasDinodes im a s → HasDinodes im b s
+stay_kept im a b s grown has = record { master = grown.stays (master_of im) has.master; rindex = grown.stays s.rindex has.rindex; jindex = grown.stays s.jindex has.jindex }
 
 -- a block that is marked is kept as it was
 pub working_marked : (s : DiskState) (k new : Kept) → IsWorking s k → new.entries ≡ k.entries → new.size ≡ k.size → IsWorking s new
@@ -231,6 +241,13 @@ at_item xs ys i d same low = ap (λ zs. slice_get zs i) (sym same) ∙ slice_get
 
 pub inside_now : (old now : DiskState) (blocks : List ℕ) → now ≡ old → All (λ b. b < now.count) blocks → All (λ b. b < old.count) blocks
 inside_now old now blocks same = subst (λ (s : DiskState). All (λ b. b < s.count) blocks) same
+
+-- no journal is another of the files, with one more
+pub rings_own : (m r : ℕ) (old new : List Ring) (ring : Ring) (addr : ℕ) → All (λ (x : Ring). (x.dinode ≢ m) × (x.dinode ≢ r)) old → ring.dinode ≡ addr → addr ≢ m → addr ≢ r → new ≡ old ++ ring ∷ []
+    → All (λ (x : Ring). (x.dinode ≢ m) × (x.dinode ≢ r)) new
+rings_own m r old new ring addr before dinode apart other is =
+    subst (All (λ (x : Ring). (x.dinode ≢ m) × (x.dinode ≢ r))) (sym is)
+    (All-push (λ (x : Ring). (x.dinode ≢ m) × (x.dinode ≢ r)) old ring before ((λ e. apart (sym dinode ∙ e)), (λ e. other (sym dinode ∙ e))))
 
 -- what holds of the places of each journal, with one more
 pub rings_with : (P : ℕ → Type 0) (old new : List Ring) (ring : Ring) → All (λ (r : Ring). All P r.blocks.items) old → All P ring.blocks.items → new ≡ old ++ ring ∷ [] → All (λ (r : Ring). All P r.blocks.items) new

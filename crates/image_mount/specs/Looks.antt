@@ -123,6 +123,13 @@ pub record IsPlaceOf (im : Image) (l : Layout) (j p b : ℕ) : Type 0 where
   pub low : p < (ring_of (every im dinode)).places
   pub is : content_block (every im dinode) p ≡ b
 
+-- the block has the dinode of the master directory, of `rindex`, of `jindex` or of a journal
+pub data IsSystemDinode (l : Layout) : ℕ → Type 0 where
+  of_master : IsSystemDinode l l.master
+  of_rindex : IsSystemDinode l l.rindex
+  of_jindex : IsSystemDinode l l.jindex
+  of_journal : (j d : ℕ) → IsJournalAt l j d → IsSystemDinode l d
+
 -- ---- all of it
 
 pub record IsLookedOver (im : Image) (l : Layout) : Type 0 where
@@ -141,6 +148,10 @@ pub record IsLookedOver (im : Image) (l : Layout) : Type 0 where
   pub jindex_records : IsSoundDirectory im l.jindex l.master
   -- so are the table and the leaves of a master directory that is a hashed one
   pub master_leaves : is_hashed_in (every im l.master) ≡ true → HasSoundLeaves im l.master
+  -- no journal is the master directory or the list of groups
+  pub own : (j d : ℕ) → IsJournalAt l j d → (d ≢ l.master) × (d ≢ l.rindex)
   -- each place of a journal has a data block of a group, and no block is at two places
   pub places : (j p b : ℕ) → IsPlaceOf im l j p b → IsInGroups l.groups b
   pub apart : (j i p q b : ℕ) → IsPlaceOf im l j p b → IsPlaceOf im l i q b → (j ≡ i) × (p ≡ q)
+  -- nor is a dinode of these files at one
+  pub beside : (j p b : ℕ) → IsPlaceOf im l j p b → ¬ (IsSystemDinode l b)

@@ -11,8 +11,10 @@ use Rattle.image_model.specs.Rules.{HasRecordIn, HasRecords}
 use Rattle.image_model.specs.Stands.{Layout}
 use Rattle.image_mount.specs.Found.{is_other, AreJournalNames, HasNames}
 use Rattle.image_mount.specs.Groups.{IsNamedIn}
+use Rattle.image_mount.specs.Kept.{Kept}
 use Rattle.image_mount.specs.Leaves.{IsMasterIn}
 use Rattle.image_mount.specs.Looks.{HasSoundLeaves, HasTrueRecord, IsLookedAt, IsSoundDirectory, IsTableSized}
+use Rattle.image_mount.specs.Marked.{IsKept}
 use Rattle.image_mount.specs.Listing.{said, AreAllRecords, AreDistinct}
 use Rattle.image_mount.specs.declared.master.Master.{Master}
 use Rattle.image_mount.specs.declared.listing.Link.{Link}
@@ -99,6 +101,12 @@ layout_of s = record {
   groups = s.groups.items;
   journals = map (λ (e : Entry). e.addr) s.journals.items;
 }
+
+-- the dinodes of the master directory, of the list of groups and of the directory of journals are kept
+pub record HasDinodes (im : Image) (k : Kept) (s : System) : Type 0 where
+  pub master : IsKept k (master_of im)
+  pub rindex : IsKept k s.rindex
+  pub jindex : IsKept k s.jindex
 
 -- the system files were looked at, as far as the journals' records
 pub record IsSystemOf (im : Image) (s : System) : Type 0 where

@@ -14,6 +14,7 @@ ghost use Rattle.image_mount.specs.Found.{HasFormat, HasMaster};
 ghost use Rattle.image_mount.specs.Groups.{IsListLink, IsListOf, AreGroups};
 ghost use Rattle.image_mount.specs.Listing.{HasKeptDinode};
 ghost use Rattle.image_mount.specs.Looks.{IsSized, IsTrueEntry};
+ghost use Rattle.image_mount.specs.Marked.{IsKept};
 ghost use Rattle.image_mount.specs.Refusals.{RefusesRightly};
 ghost use Rattle.image_mount.specs.Searching.{IsRead, IsSteady, IsSystemFile, StopsRightly, LacksBlock};
 ghost use Rattle.profile_limits.specs.Limits.{most_blocks};
@@ -235,6 +236,7 @@ pub(crate) fn list_groups(
     ensures found { (im : Image) → IsRead im table.now → count ≡ im.count → IsListLink im rindex.now → IfOk result (λ groups. AreGroups im rindex.now.entry.addr groups.items) }
     ensures length { IfOk result (λ groups. length groups.items ≤ 64) }
     ensures repeats { (im : Image) → IsRead im table.now → OnOk result (IsTrueEntry im rindex.now.entry) }
+    ensures there { OnOk result (IsKept table.now rindex.now.entry.addr) }
     ensures stops { (im : Image) → IsRead im table.now → count ≡ im.count → IsListLink im rindex.now → IfErr result (StopsRightly im) }
     ensures lacks { IfErr result (LacksBlock table.now) }
 {

@@ -7,7 +7,7 @@ use Rattle.shared_disk.specs.Disk.{DiskState}
 use Rattle.image_mount.specs.Rings.{AreBlocksOf, IsSearched}
 use Rattle.image_mount.specs.Looks.{IsInGroups}
 use Rattle.image_mount.specs.Marked.{AreMarked}
-use Rattle.image_mount.proofs.Marked.{marked_on, marked_over}
+use Rattle.image_mount.proofs.Marked.{grown_on, marked_on, marked_over}
 use Rattle.image_mount.proofs.Marks.{place_claim, is_place, marked_more}
 use Rattle.image_mount.proofs.Moved.{place_refused, place_searched, place_at, working_marked}
 use Rattle.image_mount.proofs.Places.{blocks_more}
@@ -50,6 +50,7 @@ loop-place-preserved g c =
       marked = subst (AreMarked c.args.table.now c.mark.new.self) (sym items)
           (marked_on c.args.table.now c.find_block.new.table c.mark.new.self c.loop-place.blocks.items (located.block ∷ []) (marked_over c.args.table.now c.loop-place.table c.find_block.new.table c.loop-place.blocks.items inv.marked found.places)
           (c.mark.ensures.marked c.in_ok-check_place.ensures.unmarked));
+      grown = grown_on _ _ _ inv.grown (grown_on _ _ _ found.grown (c.mark.ensures.grown c.in_ok-check_place.ensures.free));
       count = omega (arith, ap length items, length_push c.loop-place.blocks.items located.block, inv.count);
       found = λ done tells next has known.
           let at = place_at _ _ inv.reads.same d c.loop-place.place located found.found tells in

@@ -1,12 +1,13 @@
-use Rattle.std.proofs.Common.{◌<◌, subst}
+use Rattle.std.proofs.Common.{sym, ◌<◌, subst}
 use Rattle.std.specs.Prelude.{map, Contains}
 use Rattle.image_model.specs.Image.{Image, image_of}
 use Rattle.image_mount.specs.Looks.{IsInGroups}
+use Rattle.image_mount.specs.Marked.{IsKept}
 use Rattle.image_mount.specs.Refusals.{RefusesRightly}
 use Rattle.image_mount.specs.Rings.{IsSearched}
 use Rattle.image_mount.specs.declared.journals.Ring.{Ring}
-use Rattle.image_mount.proofs.Marked.{marked_ring}
-use Rattle.image_mount.proofs.Moved.{twice_list, twice_master, twice_journal, at_item, next_after, ring_told, ring_found, ring_searched, rings_more, rings_with, inside_now, dinodes_more, entry_true}
+use Rattle.image_mount.proofs.Marked.{grown_on, marked_ring, rings_kept}
+use Rattle.image_mount.proofs.Moved.{twice_list, twice_master, twice_journal, at_item, next_after, ring_told, ring_found, ring_searched, rings_more, rings_own, rings_with, inside_now, dinodes_more, entry_true}
 use Rattle.image_mount.proofs.Stops.{refused}
 use Rattle.image_mount.proofs.journals.find_rings.Goals as goal
 use Rattle.shared_disk.proofs.ReadLaws.{reads_on}
@@ -58,6 +59,9 @@ loop-journal-preserved g c =
       work = read.work;
       inside = rings_with (λ b. b < s.count) rings _ ring inv.inside (inside_now _ _ ring.blocks.items inv.reads.same read.inside) items;
       placed = rings_with (IsInGroups system.groups.items) rings _ ring inv.placed read.placed items;
+      own = rings_own system.superblock.master.address system.rindex rings _ ring _ inv.own read.dinode c.if-journal-system.false c.if-journal-system-2.false items;
+      grown = grown_on c.args.table.now c.loop-journal.table c.find_ring.new.table inv.grown read.grown;
+      kept = rings_kept c.loop-journal.table c.find_ring.new.table rings _ ring read.grown inv.kept (subst (IsKept c.find_ring.new.table) (sym read.dinode) read.there) items;
       marked = marked_ring c.args.table.now c.loop-journal.table c.find_ring.new.table rings _ ring inv.marked read.marked items;
       found = λ tells looked known.
           let at = at_item c.deref-journal-items.result.now system.journals.items k _ c.deref-journal-items.ensures.value c.loop-journal-test.true in

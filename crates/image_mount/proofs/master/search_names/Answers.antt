@@ -4,6 +4,7 @@ use Rattle.image_model.specs.Image.{image_of}
 use Rattle.image_mount.specs.Listing.{said, is_hashed_by, AreAllRecords, AreCountedIn, AreRowsOf}
 use Rattle.image_mount.proofs.Causes.{hashed_as}
 use Rattle.image_mount.proofs.LeafWalks.{came_all, walk_counted, walk_found, walk_leaves, walk_plain, walked_by}
+use Rattle.image_mount.proofs.Marked.{grown_none, grown_on}
 use Rattle.image_mount.proofs.Masters.{table_hashed}
 use Rattle.image_mount.proofs.SoundLeaves.{hashed_sound}
 use Rattle.image_mount.proofs.Stops.{refused}
@@ -35,3 +36,9 @@ returns-clause-found g c tells is hashed =
       sound = hashed_sound im inode inode.block c.in_ok-walk.walk is.dinode (table_hashed im inode pointers of) walk (came_all im inode pointers c.in_ok-walk.walk of walk ended) (walk_found im inode pointers c.in_ok-walk.walk of walk ended)
           (walk_counted im inode pointers c.in_ok-walk.walk of walk ended) (subst (AreRowsOf inode inode.block) c.deref.ensures.value c.in_ok-check_hashed.ensures.rows);
     }
+
+pub returns-then-not-is_hashed-clause-grown : goal.returns-then-not-is_hashed-clause-grown
+returns-then-not-is_hashed-clause-grown g c = grown_none c.args.table.now
+
+pub returns-clause-grown : goal.returns-clause-grown
+returns-clause-grown g c = grown_on c.args.table.now c.search_pointers.new.table c.walk_leaves.new.table c.in_ok-pointers.ensures.grown c.in_ok-walk.ensures.grown
