@@ -104,6 +104,7 @@ mounted im system rings journals m looked are found placed once own k dinodes_ke
         let here = place_at j p b place in
         let there = place_at i q b other in
         places_apart rings j i p q b here.0 there.0 (once b) here.1 there.1 here.2 there.2;
+    ways = λ j d p at low. (ring_at j d at).2.are.headed p low;
     beside = λ j p b place dinode. let here = place_at j p b place in unkept j p b here.0 here.1 here.2 (dinode_kept b dinode);
   };
   superblock = super ∙ looked.superblock;

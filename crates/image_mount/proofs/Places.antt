@@ -10,7 +10,7 @@ use Rattle.std.proofs.lemmas.List.Elements.{All-push}
 use Rattle.std.proofs.lemmas.List.FromFn.{get_or-map-range_with_len, length-range_with_len, map-range_with_len_more}
 use Rattle.std.proofs.lemmas.Option.{slice_get-get_or}
 use Rattle.std.proofs.Math.Nat.{div-eq_of_lt, div-mul-le_self, mul-le-mul_left}
-use Rattle.dinode_tree.specs.Reading.{IsNeeded, IsOnWay, the_dinode, led_to, block_at, reach, target}
+use Rattle.dinode_tree.specs.Reading.{IsHeadedWay, IsNeeded, IsOnWay, the_dinode, led_to, block_at, reach, target}
 use Rattle.dinode_tree.specs.declared.locating.Located.{Located}
 use Rattle.gfs2_layout.specs.Inode.{Leads, dinode_in, height_in, is_directory_in, header_length, unit, content_block}
 use Rattle.gfs2_layout.specs.Journal.{ring_of}
@@ -149,13 +149,17 @@ above_wanted im jindex journal v place m of needed inside other = each needed.wa
 -- ---- one more place
 
 pub blocks_none : (im : Image) (d : ℕ) → AreBlocksOf im d 0 []
-blocks_none im d = record { all = refl; reached = λ k x low. absurd (omega (arith, low)) }
+blocks_none im d = record { all = refl; reached = λ k x low. absurd (omega (arith, low)); headed = λ p low. absurd (omega (arith, low)) }
 
 pub blocks_more : (im : Image) (d n by k : ℕ) (located : Located) (old new : List ℕ) → AreBlocksOf im d n old → IsPlaceAt im d n located → located.block < im.count → Claims im by located.block (Below d by k 0 n) → new ≡ old ++ located.block ∷ []
     → AreBlocksOf im d (n + 1) new
 blocks_more im d n by k located old new are at low claim is = record {
   all = is ∙ ap (λ xs. xs ++ located.block ∷ []) are.all ∙ ap (λ b. map (content_block (every im d)) (range_with_len 0 n) ++ b ∷ []) at.block
       ∙ sym (map-range_with_len_more (content_block (every im d)) 0 n n (omega arith));
+  headed = λ p below. elim (cases_eq p n) [
+    | inl same ↦ subst (IsHeadedWay (every im d)) (sym same) at.headed
+    | inr other ↦ are.headed p (omega (arith, below, other))
+  ];
   reached = subst (All (IsReached im)) (sym is) (All-push (IsReached im) old located.block are.reached (record { inside = low; claimed = inr (by, (Below d by k 0 n, claim)) }));
 }
 

@@ -2,7 +2,7 @@
 -- the sizes that their dinodes say, the records of the directories, and the blocks at the places of journals. What docs/MOUNT.md
 -- lists beyond this is only tested, as it says.
 use Rattle.std.specs.Prelude.{ℕ, ◌≡◌, ◌≢◌, ◌+◌, ◌*◌, ◌/◌, ◌%◌, ◌<◌, ◌≤◌, true, false, List, length, codes, Contains}
-use Rattle.dinode_tree.specs.Reading.{IsRightDinode}
+use Rattle.dinode_tree.specs.Reading.{IsHeadedWay, IsRightDinode}
 use Rattle.file_tree.specs.Names.{IsName}
 use Rattle.gfs2_layout.specs.Holding.{Holding}
 use Rattle.gfs2_layout.specs.Inode.{content_block, dinode_in, entry, head_of, height_in, index_bits, is_directory_in, is_hashed_in, leaf_in, table_count, IsLeaf}
@@ -153,5 +153,7 @@ pub record IsLookedOver (im : Image) (l : Layout) : Type 0 where
   -- each place of a journal has a data block of a group, and no block is at two places
   pub places : (j p b : ℕ) → IsPlaceOf im l j p b → IsInGroups l.groups b
   pub apart : (j i p q b : ℕ) → IsPlaceOf im l j p b → IsPlaceOf im l i q b → (j ≡ i) × (p ≡ q)
-  -- nor is a dinode of these files at one
+  -- the blocks of pointers on the way to it have their headers
+  pub ways : (j d p : ℕ) → IsJournalAt l j d → p < (ring_of (every im d)).places → IsHeadedWay (every im d) p
+  -- no dinode of these files is at one
   pub beside : (j p b : ℕ) → IsPlaceOf im l j p b → ¬ (IsSystemDinode l b)

@@ -2,6 +2,7 @@
 use Rattle.std.specs.Prelude.{ℕ, ◌≡◌, ◌≢◌, ◌⊎◌, ◌^◌, ◌%◌, ◌<◌, ◌≤◌, true, List, length, map, flat_map, Contains, slice_get, slice_index, Some}
 use Rattle.profile_limits.specs.Limits.{least_journal_blocks, most_journal_blocks}
 use Rattle.std.specs.List.{All, range_with_len}
+use Rattle.dinode_tree.specs.Reading.{IsHeadedWay}
 use Rattle.dinode_tree.specs.declared.locating.Located.{Located}
 use Rattle.gfs2_layout.specs.Device.{superblock_place}
 use Rattle.gfs2_layout.specs.Inode.{Leads, dinode_in, content_block}
@@ -77,11 +78,13 @@ pub record IsPlaceAt (im : Image) (d place : ℕ) (located : Located) : Type 0 w
   pub inside : located.from < im.count
   pub block : located.block ≡ content_block (every im d) place
   pub leads : (k : ℕ) × Leads (every im d) located.from k 0 place located.block
+  pub headed : IsHeadedWay (every im d) place
 
 -- the blocks at the first so many places of a journal
 pub record AreBlocksOf (im : Image) (d n : ℕ) (blocks : List ℕ) : Type 0 where
   pub all : blocks ≡ map (content_block (every im d)) (range_with_len 0 n)
   pub reached : All (IsReached im) blocks
+  pub headed : (p : ℕ) → p < n → IsHeadedWay (every im d) p
 
 -- the blocks at all places of the journal with its dinode in block d
 pub record IsRingOf (im : Image) (d : ℕ) (blocks : List ℕ) : Type 0 where
