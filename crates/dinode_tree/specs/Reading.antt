@@ -34,6 +34,14 @@ IsHeadedWay h i =
     let level = height_in h - 1 in
     IsHeadedDown h level (pointer h dinode_length h.own (i / span h.size level)) (i % span h.size level)
 
+-- the block of content with index i, where there is one, has such a way; a directory's has a header of its own
+abbrev pub IsHeadedAt : Holding → ℕ → Type 0
+IsHeadedAt h i = (b : ℕ) → block_at h i ≡ Some b → IsHeadedWay h i × (is_directory_in h ≡ true → HasHeader 7 700 (bytes_at h b))
+
+-- so have those that begin between two bytes of the content
+abbrev pub AreHeaded : Holding → ℕ → ℕ → Type 0
+AreHeaded h at end = (i : ℕ) → at ≤ i * unit h → i * unit h < end → IsHeadedAt h i
+
 -- ---- ranges of the content
 
 -- the bytes of the content from `at` on, so many of them or up to its end

@@ -91,6 +91,7 @@ mounted im system rings journals m looked are found placed once own k dinodes_ke
     jindex = looked.journals.looked;
     journals = λ j d at. (ring_at j d at).2.places.looked;
     whole = λ j d at. (ring_at j d at).2.places.whole;
+    list = looked.rindex_headed;
     master_records = looked.master_sound;
     master_leaves = looked.master_leaves;
     jindex_records = subst (IsSoundDirectory im system.jindex) (sym (ap (λ (s : SuperBlock). s.master.address) looked.superblock)) looked.journals.sound;

@@ -502,6 +502,7 @@ module _ (im : Image) (inode : Inode) (table : HashTable) (walk : LeafWalk) (of 
 
   pub walk_leaves : HasSoundLeaves im inode.block
   walk_leaves = record {
+    table = of.headed;
     pointers = λ i low. w.pointed i (omega (arith, low, ended.1, ap (λ d. 2 ^ d) of.depth));
     leaves = λ by x hash place claimed. (w.sound x hash place (came_all by x hash place claimed)).leaf;
     depths = λ by x hash place claimed more.

@@ -21,7 +21,7 @@ use Rattle.image_reader.proofs.Chains.{same_bits, run_some}
 use Rattle.image_reader.proofs.Pieces.{pieces_cover}
 use Rattle.image_mount.specs.Found.{IsInChain, chain_head}
 use Rattle.image_mount.specs.Leaves.{IsMasterIn, IsTableOf, IsLeafHead, IsLeafIn}
-use Rattle.image_mount.specs.Looks.{IsInRun, IsTableSized, LeadsToLeaf}
+use Rattle.image_mount.specs.Looks.{HasHeadedContent, IsInRun, IsTableSized, LeadsToLeaf}
 use Rattle.image_mount.specs.Refusals.{RefusesRightly}
 use Rattle.image_mount.specs.Searching.{IsSystemFile}
 use Rattle.image_mount.specs.declared.fault.MountFault.{MountFault}
@@ -70,14 +70,15 @@ table_short depth low =
     omega (arith, p)
 
 pub table_is : (im : Image) (inode kept : Inode) (table : HashTable) → IsMasterIn im inode → kept.block ≡ inode.block → is_hashed_in (every im inode.block) ≡ true → IsMasterIn im kept → table.depth ≡ kept.dinode.depth
-    → (dinode_in (every im kept.block)).size ≡ 8 * 2 ^ table.depth → table.bytes.items ≡ content_of (every im kept.block) → IsTableSized im kept.block → IsTableOf im inode table
-table_is im inode kept table is block hashed again depth size content sized = record {
+    → (dinode_in (every im kept.block)).size ≡ 8 * 2 ^ table.depth → table.bytes.items ≡ content_of (every im kept.block) → IsTableSized im kept.block → HasHeadedContent im kept.block → IsTableOf im inode table
+table_is im inode kept table is block hashed again depth size content sized headed = record {
   master = is;
   hashed = hashed;
   depth = depth ∙ ap (λ (d : Dinode). d.depth) again.dinode ∙ ap (λ a. depth_in (every im a)) block;
   content = content ∙ ap (λ a. content_of (every im a)) block;
   size = ap (λ a. (dinode_in (every im a)).size) (sym block) ∙ size;
   sized = subst (IsTableSized im) block sized;
+  headed = subst (HasHeadedContent im) block headed;
 }
 
 -- what has the same bits stands in the same run

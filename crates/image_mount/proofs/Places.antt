@@ -66,7 +66,7 @@ hole_block h i e low = elim (cases_eq (content_block h i) 0) [
 fewer : (n size unit : ℕ) → 0 < unit → unit ≤ size → n / size ≤ n / unit
 fewer n size unit some low = le-div (n / size) n unit some (omega (arith, mul-le-mul_left (n / size) low, div-mul-le_self n size))
 
-unit_bounds : (im : Image) (d : ℕ) → 512 ≤ im.size → (0 < unit (every im d)) × (unit (every im d) ≤ im.size)
+pub unit_bounds : (im : Image) (d : ℕ) → 512 ≤ im.size → (0 < unit (every im d)) × (unit (every im d) ≤ im.size)
 unit_bounds im d large = elim (cases_Bool (is_directory_in (every im d))) [
   | inl dir ↦ let e : unit (every im d) ≡ im.size - header_length = cond-true _ _ _ dir in (omega (arith, e, large), omega (arith, e))
   | inr file ↦ let e : unit (every im d) ≡ im.size = cond-false _ _ _ file in (omega (arith, e, large), omega (arith, e))

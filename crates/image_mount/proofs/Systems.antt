@@ -73,6 +73,7 @@ module _ (im : Image) (sb : SuperBlock) (files : SystemFiles) (format : HasForma
         master_sound = sound;
         master_leaves = leaves;
         rindex_looked = are.looked;
+        rindex_headed = are.headed;
         master_inside = inside;
         rindex_inside = are.inside;
         journals = names;

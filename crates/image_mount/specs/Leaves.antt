@@ -20,7 +20,7 @@ use Rattle.image_reader.specs.declared.hash_table.HashTable.{HashTable}
 use Rattle.image_reader.specs.declared.owners.Claim.{Claim}
 use Rattle.image_mount.specs.Found.{HasFormat, IsInChain, ComesBefore, is_other, first_other}
 use Rattle.image_mount.specs.Listing.{said, AreDistinct}
-use Rattle.image_mount.specs.Looks.{IsInRun, IsSoundArea, IsTableSized, LeadsToLeaf}
+use Rattle.image_mount.specs.Looks.{HasHeadedContent, IsInRun, IsSoundArea, IsTableSized, LeadsToLeaf}
 use Rattle.image_mount.specs.declared.inodes.Inode.{Inode}
 use Rattle.image_mount.specs.declared.leaf.LeafAt.{LeafAt}
 use Rattle.image_mount.specs.declared.leaf.LeafWalk.{LeafWalk}
@@ -44,6 +44,7 @@ pub record IsTableOf (im : Image) (inode : Inode) (table : HashTable) : Type 0 w
   pub content : table.bytes.items ≡ content_of (every im inode.block)
   pub size : (dinode_in (every im inode.block)).size ≡ 8 * 2 ^ table.depth
   pub sized : IsTableSized im inode.block
+  pub headed : HasHeadedContent im inode.block
 
 -- ---- a leaf
 

@@ -2,10 +2,10 @@
 -- the sizes that their dinodes say, the records of the directories, and the blocks at the places of journals. What docs/MOUNT.md
 -- lists beyond this is only tested, as it says.
 use Rattle.std.specs.Prelude.{ℕ, ◌≡◌, ◌≢◌, ◌+◌, ◌*◌, ◌/◌, ◌%◌, ◌<◌, ◌≤◌, true, false, List, length, codes, Contains}
-use Rattle.dinode_tree.specs.Reading.{IsHeadedWay, IsRightDinode}
+use Rattle.dinode_tree.specs.Reading.{IsHeadedAt, IsHeadedWay, IsRightDinode}
 use Rattle.file_tree.specs.Names.{IsName}
 use Rattle.gfs2_layout.specs.Holding.{Holding}
-use Rattle.gfs2_layout.specs.Inode.{content_block, dinode_in, entry, head_of, height_in, index_bits, is_directory_in, is_hashed_in, leaf_in, table_count, IsLeaf}
+use Rattle.gfs2_layout.specs.Inode.{content_block, content_count, dinode_in, entry, head_of, height_in, index_bits, is_directory_in, is_hashed_in, leaf_in, table_count, IsLeaf}
 use Rattle.gfs2_layout.specs.Journal.{ring_of}
 use Rattle.gfs2_layout.specs.Records.{Record, records_in, is_dots, IsRecordArea}
 use Rattle.gfs2_layout.specs.Structures.{dinode_length}
@@ -59,6 +59,12 @@ pub record IsLookedAt (im : Image) (a : ℕ) : Type 0 where
   pub dinode : IsRightDinode (every im a)
   pub sized : IsSized im a
 
+-- ---- the way to content
+
+-- the blocks on the way to each block of content have their headers, and so has each block of a directory's table
+abbrev pub HasHeadedContent : Image → ℕ → Type 0
+HasHeadedContent im a = (i : ℕ) → i < content_count (every im a) → IsHeadedAt (every im a) i
+
 -- ---- the records of a directory
 
 -- the records of an area fill it and have the hashes of their names, each is `.`, `..` or has a name, and no name comes twice
@@ -102,6 +108,7 @@ pub record LeadsToLeaf (h : Holding) (i : ℕ) : Type 0 where
   pub run : (j : ℕ) → j < table_count h → IsInRun h i j → entry h j ≡ entry h i
 
 pub record HasSoundLeaves (im : Image) (a : ℕ) : Type 0 where
+  pub table : HasHeadedContent im a
   pub pointers : (i : ℕ) → i < table_count (every im a) → LeadsToLeaf (every im a) i
   pub leaves : (by x hash place : ℕ) → Claims im by x (Chained a hash place) → IsLeaf (every im a) hash x
   -- along a chain the depth is one
@@ -143,6 +150,8 @@ pub record IsLookedOver (im : Image) (l : Layout) : Type 0 where
   pub jindex : IsLookedAt im l.jindex
   pub journals : (j d : ℕ) → IsJournalAt l j d → IsLookedAt im d
   pub whole : (j d : ℕ) → IsJournalAt l j d → (dinode_in (every im d)).size % im.size ≡ 0
+  -- the blocks on the way to the list of groups have their headers
+  pub list : HasHeadedContent im l.rindex
   -- the records of the two directories are right
   pub master_records : IsSoundDirectory im l.master l.master
   pub jindex_records : IsSoundDirectory im l.jindex l.master

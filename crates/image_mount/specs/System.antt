@@ -13,7 +13,7 @@ use Rattle.image_mount.specs.Found.{is_other, AreJournalNames, HasNames}
 use Rattle.image_mount.specs.Groups.{IsNamedIn}
 use Rattle.image_mount.specs.Kept.{Kept}
 use Rattle.image_mount.specs.Leaves.{IsMasterIn}
-use Rattle.image_mount.specs.Looks.{HasSoundLeaves, HasTrueRecord, IsLookedAt, IsSoundDirectory, IsTableSized}
+use Rattle.image_mount.specs.Looks.{HasHeadedContent, HasSoundLeaves, HasTrueRecord, IsLookedAt, IsSoundDirectory, IsTableSized}
 use Rattle.image_mount.specs.Marked.{IsKept}
 use Rattle.image_mount.specs.Listing.{said, AreAllRecords, AreDistinct}
 use Rattle.image_mount.specs.declared.master.Master.{Master}
@@ -120,6 +120,7 @@ pub record IsSystemOf (im : Image) (s : System) : Type 0 where
   pub master_sound : IsSoundDirectory im s.superblock.master.address s.superblock.master.address
   pub master_leaves : is_hashed_in (every im s.superblock.master.address) ≡ true → HasSoundLeaves im s.superblock.master.address
   pub rindex_looked : IsLookedAt im s.rindex
+  pub rindex_headed : HasHeadedContent im s.rindex
   pub master_inside : s.superblock.master.address < im.count
   pub rindex_inside : s.rindex < im.count
   pub journals : AreJournalsOf im s.jindex s.journals.items
