@@ -1,6 +1,6 @@
 -- What mounting looked at in an image that it mounted, beside what it found there: the records by which the system files are found,
--- the sizes that their dinodes say, the records of the directories, and the blocks at the places of journals. What docs/MOUNT.md
--- lists beyond this is only tested, as it says.
+-- their dinodes and the sizes that these say, the way to their content, the records and leaves of the directories, and the blocks at
+-- the places of journals. What docs/MOUNT.md lists beyond this is only tested, as it says.
 use Rattle.std.specs.Prelude.{ℕ, ◌≡◌, ◌≢◌, ◌+◌, ◌*◌, ◌/◌, ◌%◌, ◌<◌, ◌≤◌, true, false, List, length, codes, Contains}
 use Rattle.dinode_tree.specs.Reading.{IsHeadedAt, IsHeadedWay, IsRightDinode}
 use Rattle.file_tree.specs.Names.{IsName}
