@@ -1,11 +1,11 @@
 -- What the blocks of content of an inode carry.
 use Rattle.std.proofs.Common.{◌≡◌, ◌≢◌, true, ℕ, suc, ◌+◌, ◌-◌, ◌*◌, ◌/◌, ◌%◌, ◌<◌, ◌≤◌, min, inl, inr, List, [], ◌++◌, length, take, drop, Option, Some, None, refl, sym, ap, ap₂, subst, ◌∙◌, arith, length-drop, length-take, drop-drop, div-add-mod'}
-use Rattle.std.proofs.lemmas.Bool.{cond-true, cond-false, eq-eqb, ne_eqb, cases_eq}
+use Rattle.std.proofs.lemmas.Bool.{cond-true, cond-false, eq-eqb, ne_eqb, cases_eq, cases_lt}
 use Rattle.std.proofs.lemmas.List.{length-replicate}
 use Rattle.std.specs.Prelude.{replicate}
 use Rattle.gfs2_layout.specs.Headers.{HasHeader}
 use Rattle.gfs2_layout.specs.Holding.{Holding, bytes_at}
-use Rattle.gfs2_layout.specs.Inode.{Leads, dinode_in, height_in, fan, span, descend, unit, carried, content_block, content_count, content_of, Fits}
+use Rattle.gfs2_layout.specs.Inode.{Leads, dinode_in, is_directory_in, height_in, fan, span, descend, unit, carried, content_block, content_count, content_of, Fits}
 use Rattle.gfs2_layout.specs.Structures.{dinode_length, is_directory}
 use Rattle.gfs2_layout.specs.declared.dinode.Dinode.{Dinode}
 use Rattle.glock_names.specs.Steps.{IsDamage}
@@ -14,15 +14,16 @@ use Rattle.glock_names.specs.declared.steps.CallFault.{CallFault}
 use Rattle.glock_names.specs.declared.steps.CallFault.TheVariants.{Damaged}
 use Rattle.glock_names.specs.declared.steps.Missing.{Missing}
 use Rattle.dinode_tree.specs.Broken.{IsBroken, no_header, of_table}
-use Rattle.dinode_tree.specs.Reading.{reach, block_at, content_range, AreWholeBefore, IsInRange, IsNeeded, IsOnWay, the_dinode, led_to}
+use Rattle.dinode_tree.specs.Reading.{AreHeaded, IsHeadedAt, IsHeadedWay, reach, block_at, content_range, AreWholeBefore, IsInRange, IsNeeded, IsOnWay, the_dinode, led_to}
 use Rattle.dinode_tree.specs.Shown.{IsShown}
 use Rattle.dinode_tree.specs.Walking.{held, IsIn, IsOf, IsLink, IsStep, carried_all, laid_out, laid_range, ArePieces}
 use Rattle.dinode_tree.specs.declared.inode.Inode.{Inode}
 use Rattle.dinode_tree.specs.declared.ways.Link.{Link}
 use Rattle.dinode_tree.proofs.Dinodes.{told, dinode_is, held_is, height_held, height_same, size_same, count_same, unit_same, unit_large, unit_most}
-use Rattle.dinode_tree.proofs.Pointers.{leads_somewhere, some_within, same_bytes, shown_of}
+use Rattle.dinode_tree.proofs.Pointers.{leads_somewhere, none_past, some_within, same_bytes, shown_of}
 use Rattle.dinode_tree.proofs.Ranges.{range_of_piece, joined_ranges, range_to_end, piece_before, piece_within, before_end}
 use Rattle.std.proofs.lemmas.Nat.{mod_below}
+use Rattle.std.proofs.Math.Nat.{mul-le-mul_right}
 
 -- ---- one block of content
 
@@ -198,3 +199,57 @@ nothing_read h at = let none : at - at ≡ 0 = omega arith in sym (ap (λ k. tak
 pub appended : (h : Holding) (at next : ℕ) (bytes part : List ℕ) → at ≤ next → bytes ≡ laid_range h at next → part ≡ laid_range h next (next + length part)
     → bytes ++ part ≡ laid_range h at (next + length part)
 appended h at next bytes part low read is = ap₂ ◌++◌ read is ∙ joined_ranges (laid_out h) at next (next + length part) low (omega arith)
+
+-- ---- headers
+
+-- the block to which a link leads, whose own header was looked at
+pub link_headed : (h : Holding) (index : ℕ) (link : Link) → link.way.level ≡ 0 → IsLink h index link → IsHeadedWay h index → (is_directory_in h ≡ true → HasHeader 7 700 (bytes_at h link.block)) → IsHeadedAt h index
+link_headed h index link content is way table b at =
+    let block : content_block h index ≡ link.block = is.block ∙ ap (λ l. descend h l link.block link.way.left) content in
+    let there : block_at h index ≡ Some link.block = some_within h index link.block is.within block (leads_somewhere h _ _ _ _ _ is.leads.1) in
+    (way, λ directory. subst (λ n. HasHeader 7 700 (bytes_at h n)) (same link.block b (sym there ∙ at)) (table directory))
+  where
+    same : (x y : ℕ) → Some x ≡ Some y → x ≡ y
+    same x y e = cc
+
+pub none_headed : (h : Holding) (index : ℕ) → block_at h index ≡ None → IsHeadedAt h index
+none_headed h index none b at = absurd (no b (sym none ∙ at))
+  where
+    no : (x : ℕ) → None ≡ Some x → ⊥
+    no x e = cc
+
+-- a part ends with its block of content
+pub part_short : (u at end from to : ℕ) (piece : List ℕ) → 0 < u → from ≡ at % u → to ≡ min u (from + (end - at)) → at + length (take (to - from) (drop from piece)) ≤ (at / u + 1) * u
+part_short u at end from to piece some from_is to_is =
+    let split : at / u * u + at % u ≡ at = div-add-mod' at u in
+    let wide : (at / u + 1) * u ≡ at / u * u + u = omega arith in
+    omega (arith, split, wide, from_is, to_is, length-take (to - from) (drop from piece), mod_below at u some)
+
+-- one more part
+pub headed_more : (h : Holding) (at next more : ℕ) → 0 < unit h → AreHeaded h at next → IsHeadedAt h (next / unit h) → next + more ≤ (next / unit h + 1) * unit h → AreHeaded h at (next + more)
+headed_more h at next more some before here short i low high = elim (cases_lt (i * unit h) next) [
+  | inl less ↦ before i low less
+  | inr past ↦
+      let u = unit h in
+      let q = next / u in
+      let split : q * u + next % u ≡ next = div-add-mod' next u in
+      let above : q ≤ i = elim (cases_lt i q) [
+        | inr enough ↦ enough
+        | inl few ↦
+            let rises : (i + 1) * u ≤ q * u = mul-le-mul_right u (omega (arith, few)) in
+            let wide : (i + 1) * u ≡ i * u + u = omega arith in
+            absurd (omega (arith, rises, wide, split, past, some))
+      ] in
+      let below : i ≤ q = elim (cases_lt q i) [
+        | inr enough ↦ enough
+        | inl many ↦
+            let rises : (q + 1) * u ≤ i * u = mul-le-mul_right u (omega (arith, many)) in
+            absurd (omega (arith, rises, high, short))
+      ] in
+      let same : q ≡ i = omega (arith, above, below) in
+      subst (IsHeadedAt h) same here
+]
+
+-- content that stands behind its dinode is in no block
+pub stuffed_headed : (h : Holding) (at end : ℕ) → height_in h ≡ 0 → AreHeaded h at end
+stuffed_headed h at end none i low high = none_headed h i (none_past h i (subst (λ n. reach h.size n ≤ i) (sym none) (omega arith)))

@@ -14,7 +14,7 @@ use Rattle.glock_names.specs.declared.steps.CallFault.{CallFault}
 use Rattle.glock_names.specs.declared.steps.CallFault.TheVariants.{Damaged}
 use Rattle.glock_names.specs.declared.steps.Missing.{Missing}
 use Rattle.dinode_tree.specs.Broken.{IsBroken, no_header, of_indirect, past_end}
-use Rattle.dinode_tree.specs.Reading.{reach, target, block_at, inode_lock, IsNeeded, led_to}
+use Rattle.dinode_tree.specs.Reading.{IsHeadedDown, IsHeadedWay, reach, target, block_at, inode_lock, IsNeeded, led_to}
 use Rattle.dinode_tree.specs.Shown.{IsShown}
 use Rattle.dinode_tree.specs.Walking.{held, IsIn, IsOf, IsLink, IsStep}
 use Rattle.dinode_tree.specs.declared.inode.Inode.{Inode}
@@ -85,6 +85,14 @@ module _ (h : Holding) (large : 512 ≤ h.size) (index level : ℕ) (high : heig
   top_block : content_block h index ≡ descend h level p left
   top_block = descend_top h level index high ∙ ap₂ (descend h level) (ap (pointer h dinode_length h.own) (sym k_is) ∙ sym p_is) (sym left_is)
 
+  top_headed : IsHeadedDown h level p left → IsHeadedWay h index
+  top_headed down =
+      let same : height_in h - 1 ≡ level = omega (arith, high) in
+      let pointed : p ≡ pointer h dinode_length h.own (index / span h.size level) = p_is ∙ ap (pointer h dinode_length h.own) k_is in
+      let here : IsHeadedDown h level (pointer h dinode_length h.own (index / span h.size level)) (index % span h.size level)
+      = subst (λ i. IsHeadedDown h level (pointer h dinode_length h.own (index / span h.size level)) i) left_is (subst (λ b. IsHeadedDown h level b left) pointed down) in
+      subst (λ l. IsHeadedDown h l (pointer h dinode_length h.own (index / span h.size l)) (index % span h.size l)) (sym same) here
+
   pub top_none : p ≡ 0 → block_at h index ≡ None
   top_none none = none_at_hole h index (top_block ∙ ap (λ b. descend h level b left) none ∙ descend_zero h level left)
 
@@ -106,8 +114,8 @@ module _ (h : Holding) (large : 512 ≤ h.size) (index level : ℕ) (high : heig
 
 -- a pointer on the way, from what it leads to
 pub link_of : (h : Holding) (way : Way) (p k : ℕ) → way.left ≤ way.index → way.left < span h.size way.level → Leads h way.from k way.level (way.index - way.left) p
-    → way.index < reach h.size (height_in h) → content_block h way.index ≡ descend h way.level p way.left → IsLink h way.index (record { way = way; block = p })
-link_of h way p k least small leads low is = record { wanted = refl; least = least; left = small; leads = (k, leads); within = low; block = is }
+    → way.index < reach h.size (height_in h) → content_block h way.index ≡ descend h way.level p way.left → (IsHeadedDown h way.level p way.left → IsHeadedWay h way.index) → IsLink h way.index (record { way = way; block = p })
+link_of h way p k least small leads low is headed = record { wanted = refl; least = least; left = small; leads = (k, leads); within = low; block = is; headed = headed }
 
 -- the dinode's own pointer
 module _ (h : Holding) (inode : Inode) (o : IsOf h inode) (way : Way) (from_is : way.from ≡ inode.block) (high : inode.dinode.height ≡ suc way.level) (k p : ℕ)
@@ -147,7 +155,7 @@ module _ (h : Holding) (inode : Inode) (o : IsOf h inode) (way : Way) (from_is :
       (subst (λ n. n < span h.size way.level) (sym left_h) (mod-lt way.index (span_some h.size way.level large)))
       (first_leads low some)
       (top_within h large way.index way.level high_h k way.left p k_h left_h p_h (subst (λ n. k < fan n 232) (sym o.size) low))
-      (top_block h large way.index way.level high_h k way.left p k_h left_h p_h)
+      (top_block h large way.index way.level high_h k way.left p k_h left_h p_h) (top_headed h large way.index way.level high_h k way.left p k_h left_h p_h)
 
 -- the pointer of an indirect block
 module _ (h : Holding) (large : 512 ≤ h.size) (index : ℕ) (link : Link) (is : IsLink h index link) (way : Way) (from_is : way.from ≡ link.block) (index_is : way.index ≡ link.way.index)
@@ -168,6 +176,13 @@ module _ (h : Holding) (large : 512 ≤ h.size) (index : ℕ) (link : Link) (is 
       is.block ∙ ap (λ l. descend h l link.block link.way.left) high ∙ descend_one h way.level link.block link.way.left next_some
       ∙ ap₂ (descend h way.level) (ap (pointer h header_length link.block) (sym k_is) ∙ sym next_p) (sym left_is)
 
+  next_headed : HasHeader 5 500 bytes → IsHeadedDown h way.level p way.left → IsHeadedWay h index
+  next_headed header down =
+      let pointed : p ≡ pointer h header_length link.block (link.way.left / span h.size way.level) = next_p ∙ ap (pointer h header_length link.block) k_is in
+      let here : IsHeadedDown h way.level (pointer h header_length link.block (link.way.left / span h.size way.level)) (link.way.left % span h.size way.level)
+      = subst (λ i. IsHeadedDown h way.level (pointer h header_length link.block (link.way.left / span h.size way.level)) i) left_is (subst (λ b. IsHeadedDown h way.level b way.left) pointed down) in
+      is.headed (subst (λ l. IsHeadedDown h l link.block link.way.left) (sym high) (subst (HasHeader 5 500) (sym same) header, here))
+
   pub next_none : p ≡ 0 → block_at h index ≡ None
   next_none none = none_at_hole h index (next_block ∙ ap (λ b. descend h way.level b way.left) none ∙ descend_zero h way.level way.left)
 
@@ -187,12 +202,17 @@ module _ (h : Holding) (large : 512 ≤ h.size) (index : ℕ) (link : Link) (is 
       subst (λ b. Leads h b k way.level (way.index - way.left) p) (sym from_is)
       (subst (λ f. Leads h link.block k way.level f p) at (subst (Leads h link.block k way.level (index - link.way.left + k * span h.size way.level)) (sym next_p) leads))
 
-  pub next_link_is : p ≢ 0 → IsLink h index (record { way = way; block = p })
-  next_link_is some =
+  pub next_link_is : HasHeader 5 500 bytes → p ≢ 0 → IsLink h index (record { way = way; block = p })
+  next_link_is header some =
       let small : way.left < span h.size way.level = subst (λ n. n < span h.size way.level) (sym left_is) (mod-lt link.way.left (span_some h.size way.level large)) in
       let made : IsLink h way.index (record { way = way; block = p }) =
-      link_of h way p k (omega (arith, rest_below link.way.left _ way.left left_is, is.least, index_h)) small (next_leads some) (subst (λ n. n < reach h.size (height_in h)) (sym index_h) is.within) (ap (content_block h) index_h ∙ next_block) in
+      link_of h way p k (omega (arith, rest_below link.way.left _ way.left left_is, is.least, index_h)) small (next_leads some) (subst (λ n. n < reach h.size (height_in h)) (sym index_h) is.within) (ap (content_block h) index_h ∙ next_block)
+      (λ down. subst (IsHeadedWay h) (sym index_h) (next_headed header down)) in
       subst (λ n. IsLink h n (record { way = way; block = p })) index_h made
+
+-- a link to content has its way behind it
+pub all_headed : (h : Holding) (index : ℕ) (link : Link) → link.way.level ≡ 0 → IsLink h index link → IsHeadedWay h index
+all_headed h index link low is = is.headed (subst (λ l. IsHeadedDown h l link.block link.way.left) (sym low) tt)
 
 -- ---- what following a pointer gives
 

@@ -1,8 +1,8 @@
 -- What is read of an inode.
-use Rattle.std.specs.Prelude.{ℕ, zero, suc, ◌≡◌, ◌≢◌, ◌⊎◌, true, ◌+◌, ◌*◌, ◌/◌, ◌<◌, ◌≤◌, ◌==◌, ◌&&◌, nat_lt, false, if◌then◌else◌, List, length, take, drop, Option, None, Some}
+use Rattle.std.specs.Prelude.{ℕ, zero, suc, ◌≡◌, ◌≢◌, ◌⊎◌, ⊤, true, ◌+◌, ◌-◌, ◌*◌, ◌/◌, ◌%◌, ◌<◌, ◌≤◌, ◌==◌, ◌&&◌, nat_lt, false, if◌then◌else◌, List, length, take, drop, Option, None, Some}
 use Rattle.gfs2_layout.specs.Headers.{HasHeader}
 use Rattle.gfs2_layout.specs.Holding.{Holding, bytes_at}
-use Rattle.gfs2_layout.specs.Inode.{Leads, Fits, dinode_in, is_directory_in, height_in, fan, span, unit, content_block, content_count, content_of}
+use Rattle.gfs2_layout.specs.Inode.{Leads, Fits, dinode_in, is_directory_in, header_length, height_in, fan, pointer, span, unit, content_block, content_count, content_of}
 use Rattle.gfs2_layout.specs.Structures.{dinode_length, is_regular}
 use Rattle.glock_names.specs.Views.{Seen}
 use Rattle.glock_names.specs.declared.LockName.{LockName}
@@ -22,6 +22,25 @@ target pointer = if pointer == 0 then None else Some pointer
 -- the block of content with index i; none is a hole, or lies past what the pointers reach
 abbrev pub block_at : Holding → ℕ → Option ℕ
 block_at h i = if nat_lt i (reach h.size (height_in h)) then target (content_block h i) else None
+
+-- each indirect block from block b down, so many levels, to the block of content with index i below it has its header
+abbrev pub IsHeadedDown : Holding → ℕ → ℕ → ℕ → Type 0
+IsHeadedDown h zero b i = ⊤
+IsHeadedDown h (suc level) b i = HasHeader 5 500 (bytes_at h b) × IsHeadedDown h level (pointer h header_length b (i / span h.size level)) (i % span h.size level)
+
+-- so has each on the way from the dinode to the block of content with index i
+abbrev pub IsHeadedWay : Holding → ℕ → Type 0
+IsHeadedWay h i =
+    let level = height_in h - 1 in
+    IsHeadedDown h level (pointer h dinode_length h.own (i / span h.size level)) (i % span h.size level)
+
+-- the block of content with index i, where there is one, has such a way; a directory's has a header of its own
+abbrev pub IsHeadedAt : Holding → ℕ → Type 0
+IsHeadedAt h i = (b : ℕ) → block_at h i ≡ Some b → IsHeadedWay h i × (is_directory_in h ≡ true → HasHeader 7 700 (bytes_at h b))
+
+-- so have those that begin between two bytes of the content
+abbrev pub AreHeaded : Holding → ℕ → ℕ → Type 0
+AreHeaded h at end = (i : ℕ) → at ≤ i * unit h → i * unit h < end → IsHeadedAt h i
 
 -- ---- ranges of the content
 

@@ -6,7 +6,7 @@ use Rattle.gfs2_layout.specs.Inode.{Leads, height_in, span, descend, unit, carri
 use Rattle.gfs2_layout.specs.Structures.{dinode_length}
 use Rattle.glock_names.specs.Views.{Seen}
 use Rattle.glock_names.specs.declared.steps.Missing.{Missing}
-use Rattle.dinode_tree.specs.Reading.{reach, block_at, inode_lock}
+use Rattle.dinode_tree.specs.Reading.{IsHeadedDown, IsHeadedWay, reach, block_at, inode_lock}
 use Rattle.dinode_tree.specs.declared.inode.Inode.{Inode}
 use Rattle.dinode_tree.specs.declared.ways.Link.{Link}
 
@@ -33,6 +33,7 @@ pub record IsLink (h : Holding) (index : ℕ) (link : Link) : Type 0 where
   pub leads : (k : ℕ) × Leads h link.way.from k link.way.level (index - link.way.left) link.block
   pub within : index < reach h.size (height_in h)
   pub block : content_block h index ≡ descend h link.way.level link.block link.way.left
+  pub headed : IsHeadedDown h link.way.level link.block link.way.left → IsHeadedWay h index
 
 -- none: there is no such block of content
 abbrev pub IsStep : Holding → ℕ → Option Link → Type 0

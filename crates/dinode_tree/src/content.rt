@@ -1,10 +1,11 @@
-ghost use Rattle.std.specs.Prelude.{ℕ, ◌≡◌, ◌+◌, ◌-◌, ◌/◌, ◌<◌, ◌≤◌, length, replicate, IfOk};
-ghost use Rattle.gfs2_layout.specs.Holding.{Holding};
-ghost use Rattle.gfs2_layout.specs.Inode.{unit, carried, content_block, content_count, Fits};
+ghost use Rattle.std.specs.Prelude.{ℕ, ◌≡◌, ◌+◌, ◌-◌, ◌*◌, ◌/◌, ◌<◌, ◌≤◌, true, length, replicate, IfOk};
+ghost use Rattle.gfs2_layout.specs.Headers.{HasHeader};
+ghost use Rattle.gfs2_layout.specs.Holding.{Holding, bytes_at};
+ghost use Rattle.gfs2_layout.specs.Inode.{is_directory_in, unit, carried, content_block, content_count, Fits};
 ghost use Rattle.glock_names.specs.Steps.{IfIs, IfNeedBlock, IfDamaged, OnlyDamaged};
 ghost use Rattle.dinode_tree.specs.Shown.{IsShown, IsOfView};
 ghost use Rattle.dinode_tree.specs.Broken.{IsBroken};
-ghost use Rattle.dinode_tree.specs.Reading.{IsInRange, AreWholeBefore, IsNeeded};
+ghost use Rattle.dinode_tree.specs.Reading.{AreHeaded, IsHeadedAt, IsInRange, AreWholeBefore, IsNeeded};
 ghost use Rattle.dinode_tree.specs.Walking.{held, IsIn, IsOf, IsLink, laid_range, ArePieces};
 ghost use Rattle.gfs2_layout.specs.Structures.{dinode_length};
 
@@ -38,6 +39,7 @@ fn carried_by<'a, V: View>(
     requires content { link.now.way.level ≡ 0 }
     ensures length { IfIs result (λ piece. length piece.now ≡ unit (held inode.now)) }
     ensures carried { (h : Holding) (index : ℕ) → IsShown (V.seen view.now) inode.now.block h → IsLink h index link.now → IfIs result (λ piece. piece.now ≡ carried h (content_block h index)) }
+    ensures table { (h : Holding) (index : ℕ) → IsShown (V.seen view.now) inode.now.block h → IsLink h index link.now → IfIs result (λ piece. is_directory_in h ≡ true → HasHeader 7 700 (bytes_at h link.now.block)) }
     ensures needed { (h : Holding) (index : ℕ) → IsShown (V.seen view.now) inode.now.block h → IsLink h index link.now → IfNeedBlock result (IsNeeded (V.seen view.now) h (λ i. i ≡ index) 0) }
     ensures damaged { (h : Holding) (index : ℕ) → IsShown (V.seen view.now) inode.now.block h → IsLink h index link.now → OnlyDamaged result (IsBroken h) }
     ensures kept { OnlyDamaged result (IsOfView (V.seen view.now)) }
@@ -63,6 +65,7 @@ pub(crate) fn piece<'a, V: View>(
     requires within { index < content_count (held inode.now) }
     ensures length { IfIs result (λ piece. length piece.now ≡ unit (held inode.now)) }
     ensures carried { (h : Holding) → IsShown (V.seen view.now) inode.now.block h → IfIs result (λ piece. piece.now ≡ carried h (content_block h index)) }
+    ensures headed { (h : Holding) → IsShown (V.seen view.now) inode.now.block h → IfIs result (λ piece. IsHeadedAt h index) }
     ensures needed { (h : Holding) → IsShown (V.seen view.now) inode.now.block h → IfNeedBlock result (IsNeeded (V.seen view.now) h (λ i. i ≡ index) 0) }
     ensures damaged { (h : Holding) → IsShown (V.seen view.now) inode.now.block h → OnlyDamaged result (IsBroken h) }
     ensures kept { OnlyDamaged result (IsOfView (V.seen view.now)) }
@@ -90,6 +93,8 @@ fn part<'a, V: View>(
     ensures least { IfIs result (λ part. at + length part.now ≤ end) }
     ensures read { (h : Holding) → IsShown (V.seen view.now) inode.now.block h → ArePieces h (at / unit h) → IfIs result (λ part. part.now ≡ laid_range h at (at + length part.now)) }
     ensures pieces { (h : Holding) → IsShown (V.seen view.now) inode.now.block h → ArePieces h (at / unit h) → IfIs result (λ part. ArePieces h ((at + length part.now) / unit h)) }
+    ensures headed { (h : Holding) → IsShown (V.seen view.now) inode.now.block h → IfIs result (λ part. IsHeadedAt h (at / unit h)) }
+    ensures short { (h : Holding) → IsShown (V.seen view.now) inode.now.block h → IfIs result (λ part. at + length part.now ≤ (at / unit h + 1) * unit h) }
     ensures needed { (h : Holding) → IsShown (V.seen view.now) inode.now.block h → IfNeedBlock result (IsNeeded (V.seen view.now) h (λ i. i ≡ at / unit h) 0) }
     ensures damaged { (h : Holding) → IsShown (V.seen view.now) inode.now.block h → OnlyDamaged result (IsBroken h) }
     ensures kept { OnlyDamaged result (IsOfView (V.seen view.now)) }
@@ -120,6 +125,7 @@ pub(crate) fn blocks_range<V: View>(
     requires within { end ≤ inode.now.dinode.size }
     ensures found { (h : Holding) → IsShown (V.seen view.now) inode.now.block h → AreWholeBefore h at → IfIs result (λ bytes. bytes.items ≡ laid_range h at end) }
     ensures length { IfIs result (λ bytes. length bytes.items ≡ end - at) }
+    ensures headed { (h : Holding) → IsShown (V.seen view.now) inode.now.block h → IfIs result (λ bytes. AreHeaded h at end) }
     ensures needed { (h : Holding) → IsShown (V.seen view.now) inode.now.block h → IfNeedBlock result (IsNeeded (V.seen view.now) h (IsInRange h at (end - at)) 0) }
     ensures damaged { (h : Holding) → IsShown (V.seen view.now) inode.now.block h → IfDamaged result (IsBroken h) }
     ensures kept { IfDamaged result (IsOfView (V.seen view.now)) }

@@ -1,11 +1,12 @@
 ghost use Rattle.std.specs.Prelude.{ℕ, ◌≡◌, ◌≢◌, ◌-◌, ◌<◌, ◌≤◌, ◌==◌, ◌&&◌, IfOk, IfErr, OnErr, IfSome, IfNone, length};
+ghost use Rattle.gfs2_layout.specs.Headers.{HasHeader};
 ghost use Rattle.gfs2_layout.specs.Holding.{Holding, bytes_at};
 ghost use Rattle.gfs2_layout.specs.Structures.{is_regular};
 ghost use Rattle.gfs2_layout.specs.Inode.{content_count};
 ghost use Rattle.glock_names.specs.Steps.{IfIs, IfNeedBlock, OnlyDamaged};
 ghost use Rattle.dinode_tree.specs.Shown.{IsShown, IsOfView, IsAtBlock};
 ghost use Rattle.dinode_tree.specs.Broken.{IsBroken};
-ghost use Rattle.dinode_tree.specs.Reading.{IsNeeded, inode_lock};
+ghost use Rattle.dinode_tree.specs.Reading.{IsHeadedWay, IsNeeded, inode_lock};
 ghost use Rattle.dinode_tree.specs.Walking.{held, IsIn, IsOf, IsLink, IsStep};
 
 use crate::blocks::{block_of, damaged};
@@ -89,7 +90,7 @@ fn link_below(inode: &Inode<'_>, bytes: &[u8], link: &Link) -> Result<Option<Lin
     requires size { length bytes.now ≡ length inode.now.bytes.now }
     ensures lower { IfOk result (λ found. IfSome found (λ next. next.way.level < link.now.way.level)) }
     ensures least { IfOk result (λ found. IfSome found (λ next. next.way.left ≤ next.way.index)) }
-    ensures step { (h : Holding) (index : ℕ) → IsOf h inode.now → bytes_at h link.now.block ≡ bytes.now → IsLink h index link.now → IfOk result (IsStep h index) }
+    ensures step { (h : Holding) (index : ℕ) → IsOf h inode.now → bytes_at h link.now.block ≡ bytes.now → HasHeader 5 500 bytes.now → IsLink h index link.now → IfOk result (IsStep h index) }
     ensures damaged { (h : Holding) (index : ℕ) → IsOf h inode.now → bytes_at h link.now.block ≡ bytes.now → IsLink h index link.now → OnlyDamaged result (IsBroken h) }
     ensures own { OnlyDamaged result (IsAtBlock inode.now.block) }
 {
@@ -142,6 +143,7 @@ pub(crate) fn find<V: View>(
 ) -> Result<Step<Option<Link>>, CallFault>
     requires { IsIn (V.seen view.now) inode.now }
     ensures level { IfIs result (λ found. IfSome found (λ link. link.way.level ≡ 0)) }
+    ensures headed { (h : Holding) → IsShown (V.seen view.now) inode.now.block h → IfIs result (λ found. IfSome found (λ link. IsHeadedWay h index)) }
     ensures step { (h : Holding) → IsShown (V.seen view.now) inode.now.block h → IfIs result (IsStep h index) }
     ensures needed { (h : Holding) → IsShown (V.seen view.now) inode.now.block h → IfNeedBlock result (IsNeeded (V.seen view.now) h (λ i. i ≡ index) 1) }
     ensures damaged { (h : Holding) → IsShown (V.seen view.now) inode.now.block h → OnlyDamaged result (IsBroken h) }

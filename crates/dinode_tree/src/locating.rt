@@ -6,7 +6,7 @@ ghost use Rattle.glock_names.specs.Steps.{IfIs, IfNeedBlock, OnlyDamaged};
 ghost use Rattle.dinode_tree.specs.Shown.{IsShown, HasBlock, IsOfView};
 ghost use Rattle.dinode_tree.specs.Broken.{IsBroken};
 ghost use Rattle.dinode_tree.specs.Walking.{IsIn, missing_dinode};
-ghost use Rattle.dinode_tree.specs.Reading.{block_at, IsNeeded, IsRightDinode};
+ghost use Rattle.dinode_tree.specs.Reading.{block_at, IsHeadedWay, IsNeeded, IsRightDinode};
 
 use crate::inode::Inode;
 use crate::links::find;
@@ -48,6 +48,7 @@ fn located_in<V: View>(
     requires { IsIn (V.seen view.now) inode.now }
     ensures found { (h : Holding) → IsShown (V.seen view.now) inode.now.block h → IfIs result (λ found. option_map (λ (l : Located). l.block) found ≡ block_at h index) }
     ensures leads { (h : Holding) → IsShown (V.seen view.now) inode.now.block h → IfIs result (λ found. IfSome found (λ l. (k : ℕ) × Leads h l.from k 0 index l.block)) }
+    ensures headed { (h : Holding) → IsShown (V.seen view.now) inode.now.block h → IfIs result (λ found. IfSome found (λ l. IsHeadedWay h index)) }
     ensures needed { (h : Holding) → IsShown (V.seen view.now) inode.now.block h → IfNeedBlock result (IsNeeded (V.seen view.now) h (λ i. i ≡ index) 1) }
     ensures damaged { (h : Holding) → IsShown (V.seen view.now) inode.now.block h → OnlyDamaged result (IsBroken h) }
     ensures kept { OnlyDamaged result (IsOfView (V.seen view.now)) }
@@ -62,7 +63,8 @@ fn located_in<V: View>(
     }
 }
 
-/// The block of content with this index, as `place` gives it, with the block in which its number stands.
+/// The block of content with this index, as `place` gives it, with the block in which its number stands. Each indirect block
+/// on the way to it has its header.
 pub fn locate<V: View>(
     view: &V,
     dinode: u64,
@@ -70,6 +72,7 @@ pub fn locate<V: View>(
 ) -> Result<Step<Option<Located>>, CallFault>
     ensures found { (h : Holding) → IsShown (V.seen view.now) dinode h → IfIs result (λ found. option_map (λ (l : Located). l.block) found ≡ block_at h index) }
     ensures leads { (h : Holding) → IsShown (V.seen view.now) dinode h → IfIs result (λ found. IfSome found (λ l. (k : ℕ) × Leads h l.from k 0 index l.block)) }
+    ensures headed { (h : Holding) → IsShown (V.seen view.now) dinode h → IfIs result (λ found. IfSome found (λ l. IsHeadedWay h index)) }
     ensures needed { (h : Holding) → IsShown (V.seen view.now) dinode h → IfNeedBlock result (IsNeeded (V.seen view.now) h (λ i. i ≡ index) 1) }
     ensures damaged { (h : Holding) → IsShown (V.seen view.now) dinode h → OnlyDamaged result (IsBroken h) }
     ensures kept { OnlyDamaged result (IsOfView (V.seen view.now)) }

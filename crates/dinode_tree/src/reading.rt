@@ -5,7 +5,7 @@ ghost use Rattle.glock_names.specs.Steps.{IfIs, IfNeedBlock, IfDamaged, OnlyDama
 ghost use Rattle.dinode_tree.specs.Shown.{IsShown, IsOfView};
 ghost use Rattle.dinode_tree.specs.Broken.{IsBroken};
 ghost use Rattle.dinode_tree.specs.Walking.{held, IsIn};
-ghost use Rattle.dinode_tree.specs.Reading.{block_at, content_range, IsInRange, AreWholeBefore, IsNeeded};
+ghost use Rattle.dinode_tree.specs.Reading.{AreHeaded, block_at, content_range, IsInRange, AreWholeBefore, IsNeeded};
 
 use crate::content::{blocks_range, stuffed_range};
 use crate::inode::Inode;
@@ -69,6 +69,7 @@ fn range_in<V: View>(
     requires fits { Fits (held inode.now) }
     ensures found { (h : Holding) → IsShown (V.seen view.now) inode.now.block h → AreWholeBefore h at → IfIs result (λ bytes. bytes.items ≡ content_range h at len) }
     ensures length { IfIs result (λ bytes. length bytes.items ≡ min len (inode.now.dinode.size - at)) }
+    ensures headed { (h : Holding) → IsShown (V.seen view.now) inode.now.block h → IfIs result (λ bytes. AreHeaded h at (min (at + len) inode.now.dinode.size)) }
     ensures needed { (h : Holding) → IsShown (V.seen view.now) inode.now.block h → IfNeedBlock result (IsNeeded (V.seen view.now) h (IsInRange h at len) 0) }
     ensures damaged { (h : Holding) → IsShown (V.seen view.now) inode.now.block h → IfDamaged result (IsBroken h) }
     ensures kept { IfDamaged result (IsOfView (V.seen view.now)) }
@@ -96,6 +97,7 @@ pub fn read_range<V: View>(
 ) -> Result<Step<Vec<u8>>, CallFault>
     ensures found { (h : Holding) → IsShown (V.seen view.now) dinode h → AreWholeBefore h at → IfIs result (λ bytes. bytes.items ≡ content_range h at len) }
     ensures length { (h : Holding) → IsShown (V.seen view.now) dinode h → IfIs result (λ bytes. length bytes.items ≡ min len ((dinode_in h).size - at)) }
+    ensures headed { (h : Holding) → IsShown (V.seen view.now) dinode h → IfIs result (λ bytes. AreHeaded h at (min (at + len) (dinode_in h).size)) }
     ensures needed { (h : Holding) → IsShown (V.seen view.now) dinode h → IfNeedBlock result (IsNeeded (V.seen view.now) h (IsInRange h at len) 0) }
     ensures damaged { (h : Holding) → IsShown (V.seen view.now) dinode h → IfDamaged result (IsBroken h) }
     ensures kept { IfDamaged result (IsOfView (V.seen view.now)) }

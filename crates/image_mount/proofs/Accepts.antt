@@ -4,7 +4,7 @@ use Rattle.std.specs.Prelude.{not, Contains, slice_get}
 use Rattle.std.proofs.lemmas.Bool.{true≢false, cond-true}
 use Rattle.std.proofs.lemmas.List.FromFn.{length-map-range_with_len}
 use Rattle.std.proofs.lemmas.Option.{slice_get-get_or}
-use Rattle.gfs2_layout.specs.Inode.{dinode_in, is_directory_in, content_of, entry_block, first_hash, leaf_area, linear_area}
+use Rattle.gfs2_layout.specs.Inode.{dinode_in, content_of, entry_block, first_hash, leaf_area, linear_area}
 use Rattle.gfs2_layout.specs.Records.{Record, records_in, is_dots}
 use Rattle.gfs2_layout.specs.declared.dinode.Dinode.{Dinode}
 use Rattle.image_model.specs.Claims.{every, Claims, LeadsTo, master_of, first_leaf, next_leaf, in_dinode, in_leaf}
@@ -33,7 +33,6 @@ use Rattle.image_mount.specs.Refusals as outside
 use Rattle.image_mount.specs.declared.fault.MountFault.{MountFault}
 use Rattle.image_mount.specs.declared.fault.MountFault.TheVariants as fault
 use Rattle.image_mount.specs.declared.field.Field.{Field}
-use Rattle.image_mount.proofs.Names.{led_by_file}
 use Rattle.image_mount.proofs.JournalNames.{count_named}
 use Rattle.image_model.proofs.Rows.{and_left as both_left}
 
@@ -168,10 +167,10 @@ module _ (im : Image) (owners : Owners) (l : Layout) (laid : IsLaid im owners l)
         omega (arith, are.0, inside.journals.few),
         subst (AreJournalNames records) (sym are.0) are,
       )
-  none_outside _ _ (outside.journal m j d names at bad) =
+  none_outside _ _ (outside.journal m j d names before at bad) =
       let here = journal_is m j d names at in
       bad (inside.journal here.0 d here.1)
-  none_outside _ _ (outside.sequence m j d head names at is high) =
+  none_outside _ _ (outside.sequence m j d head names sized before at is high) =
       let here = journal_is m j d names at in
       absurd (omega (arith, high, inside.sequence here.0 d head here.1 is))
 

@@ -1,21 +1,25 @@
 -- What mounting tells in the end.
-use Rattle.std.proofs.Common.{◌≡◌, ℕ, ◌^◌, ◌<◌, List, [], length, Some, IsTrue, sym, ap, subst, ◌∙◌}
+use Rattle.std.proofs.Common.{◌≢◌, ◌≡◌, ℕ, ◌^◌, ◌<◌, ◌≤◌, List, [], length, Some, IsTrue, sym, ap, subst, ◌∙◌}
 use Rattle.std.specs.Prelude.{map, slice_get, Result, IfErr, IsErrAnd}
 use Rattle.std.specs.List.{All}
 use Rattle.std.proofs.lemmas.List.{length-map}
 use Rattle.std.proofs.lemmas.Option.{slice_get_within, get_or_from_slice_get}
 use Rattle.glock_names.specs.Views.{group_of_entry}
 use Rattle.gfs2_layout.specs.declared.log_header.LogHeader.{LogHeader}
+use Rattle.gfs2_layout.specs.declared.superblock.SuperBlock.{SuperBlock}
 use Rattle.glock_names.specs.declared.steps.Entry.{Entry}
+use Rattle.gfs2_layout.specs.Journal.{ring_of}
+use Rattle.image_model.specs.Claims.{every}
 use Rattle.image_model.specs.Image.{Image, image_of}
 use Rattle.image_model.specs.Stands.{Layout, IsJournalAt}
 use Rattle.image_mount.specs.Found.{HasFormat, HasNames}
 use Rattle.image_model.specs.Journals.{journal_name}
-use Rattle.image_mount.specs.Looks.{HasTrueRecord, IsTrueEntry}
+use Rattle.image_mount.specs.Looks.{HasTrueRecord, IsInGroups, IsPlaceOf, IsSoundDirectory, IsSystemDinode, IsTrueEntry, of_journal, of_jindex, of_master, of_rindex}
+use Rattle.image_mount.specs.Marked.{IsKept, times_in}
 use Rattle.image_mount.specs.Mounted.{Journal, MountedValue, IsMounted, IsOfProfile, IsJournalOf}
 use Rattle.image_mount.specs.Refusals.{RefusesRightly, IsExcused}
-use Rattle.image_mount.specs.Rings.{IsSearched, AreRings, AreJournals, IsLowJournal, IsRingOf}
-use Rattle.image_mount.specs.System.{IsSystemOf, layout_of}
+use Rattle.image_mount.specs.Rings.{IsSearched, AreRings, AreJournals, IsLowJournal, IsRingOf, all_places}
+use Rattle.image_mount.specs.System.{HasDinodes, IsSystemOf, layout_of}
 use Rattle.image_mount.specs.Kept.{Kept}
 use Rattle.shared_disk.specs.Disk.{DiskState}
 use Rattle.image_mount.specs.declared.fault.MountFault.{MountFault}
@@ -23,7 +27,9 @@ use Rattle.image_mount.specs.declared.journals.Ring.{Ring}
 use Rattle.image_mount.specs.declared.system.System.{System}
 use Rattle.image_mount.proofs.Accepts.{excused}
 use Rattle.image_mount.proofs.Looks.{true_record}
-use Rattle.image_mount.proofs.Names.{mapped_at, from_mapped}
+use Rattle.image_mount.proofs.Marked.{places_apart}
+use Rattle.image_mount.proofs.Names.{all_at, mapped_at, from_mapped}
+use Rattle.image_mount.proofs.Places.{block_there}
 use Rattle.image_mount.proofs.Stops.{handed}
 
 -- a refusal that is handed on, where the disk tells
@@ -38,8 +44,12 @@ same_some x y e = cc
 
 -- what was found is what is mounted
 pub mounted : (im : Image) (system : System) (rings : List Ring) (journals : List Journal) (m : MountedValue) → IsSystemOf im system → AreRings im system.journals.items rings → AreJournals im rings journals
+    → All (λ (r : Ring). All (IsInGroups system.groups.items) r.blocks.items) rings → ((b : ℕ) → times_in (all_places rings) b ≤ 1)
+    → All (λ (r : Ring). (r.dinode ≢ system.superblock.master.address) × (r.dinode ≢ system.rindex)) rings
+    → (k : Kept) → HasDinodes im k system → All (λ (r : Ring). IsKept k r.dinode) rings
+    → ((j p b : ℕ) (r : Ring) → slice_get rings j ≡ Some r → slice_get r.blocks.items p ≡ Some b → ¬ (IsKept k b))
     → m.superblock ≡ system.superblock → m.groups ≡ map group_of_entry system.groups.items → m.journals ≡ journals → IsMounted im m
-mounted im system rings journals m looked are found super groups same = record {
+mounted im system rings journals m looked are found placed once own k dinodes_kept rings_kept unkept super groups same = record {
   layout = l;
   found = looked.names;
   profile = record {
@@ -81,6 +91,22 @@ mounted im system rings journals m looked are found super groups same = record {
     jindex = looked.journals.looked;
     journals = λ j d at. (ring_at j d at).2.places.looked;
     whole = λ j d at. (ring_at j d at).2.places.whole;
+    list = looked.rindex_headed;
+    master_records = looked.master_sound;
+    master_leaves = looked.master_leaves;
+    jindex_records = subst (IsSoundDirectory im system.jindex) (sym (ap (λ (s : SuperBlock). s.master.address) looked.superblock)) looked.journals.sound;
+    own = λ j d at.
+        let ring = from_mapped (λ (r : Ring). r.dinode) rings j d (ap (λ ds. slice_get ds j) are.dinodes ∙ at) in
+        subst (λ x. (x ≢ system.superblock.master.address) × (x ≢ system.rindex)) ring.2 (all_at (λ (r : Ring). (r.dinode ≢ system.superblock.master.address) × (r.dinode ≢ system.rindex)) rings j ring.0 own ring.1);
+    places = λ j p b place.
+        let here = place_at j p b place in
+        all_at (IsInGroups system.groups.items) here.0.blocks.items p b (all_at (λ (r : Ring). All (IsInGroups system.groups.items) r.blocks.items) rings j here.0 placed here.1) here.2;
+    apart = λ j i p q b place other.
+        let here = place_at j p b place in
+        let there = place_at i q b other in
+        places_apart rings j i p q b here.0 there.0 (once b) here.1 there.1 here.2 there.2;
+    ways = λ j d p at low. (ring_at j d at).2.are.headed p low;
+    beside = λ j p b place dinode. let here = place_at j p b place in unkept j p b here.0 here.1 here.2 (dinode_kept b dinode);
   };
   superblock = super ∙ looked.superblock;
   groups = groups;
@@ -105,6 +131,19 @@ mounted im system rings journals m looked are found super groups same = record {
         let low = slice_get_within rings j ring.0 ring.1 in
         let of = subst (λ (r : Ring). IsRingOf im r.dinode r.blocks.items) (get_or_from_slice_get rings j ring.0 ring.0 ring.1) (are.each j ring.0 low) in
         (ring.0, ring.1, subst (λ x. IsRingOf im x ring.0.blocks.items) ring.2 of)
+
+    dinode_kept : (b : ℕ) → IsSystemDinode l b → IsKept k b
+    dinode_kept _ of_master = subst (IsKept k) (sym (ap (λ (s : SuperBlock). s.master.address) looked.superblock)) dinodes_kept.master
+    dinode_kept _ of_rindex = dinodes_kept.rindex
+    dinode_kept _ of_jindex = dinodes_kept.jindex
+    dinode_kept _ (of_journal j d at) =
+        let ring = from_mapped (λ (r : Ring). r.dinode) rings j d (ap (λ ds. slice_get ds j) are.dinodes ∙ at) in
+        subst (IsKept k) ring.2 (all_at (λ (r : Ring). IsKept k r.dinode) rings j ring.0 rings_kept ring.1)
+
+    place_at : (j p b : ℕ) → IsPlaceOf im l j p b → (ring : Ring) × (slice_get rings j ≡ Some ring) × (slice_get ring.blocks.items p ≡ Some b)
+    place_at j p b place =
+        let ring = ring_at j place.dinode place.at in
+        (ring.0, ring.1, block_there im place.dinode (ring_of (every im place.dinode)).places ring.0.blocks.items p ring.2.are place.low ∙ ap Some place.is)
 
     journal_at : (j d : ℕ) → IsJournalAt l j d → (journal : Journal) × (slice_get journals j ≡ Some journal) × (IsJournalOf im d journal × (journal.head.sequence < 2 ^ 63))
     journal_at j d at =

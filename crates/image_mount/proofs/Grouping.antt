@@ -5,14 +5,14 @@ use Rattle.std.specs.List.{AllByRecursion}
 use Rattle.std.proofs.lemmas.Bool.{cases_lt}
 use Rattle.std.proofs.lemmas.List.{drop_more, take-append-drop, take-take, take_all}
 use Rattle.std.proofs.lemmas.Option.{slice_get-get_or}
-use Rattle.std.proofs.Math.Nat.{zero-div}
+use Rattle.std.proofs.Math.Nat.{div-mul-le_self, mul-le-mul_right, zero-div}
 use Rattle.std.proofs.Math.Seq.{take-suc}
 use Rattle.gfs2_layout.specs.Device.{superblock_place}
 use Rattle.gfs2_layout.specs.Holding.{Holding}
 use Rattle.gfs2_layout.specs.Inode.{dinode_in, content_of, unit}
 use Rattle.gfs2_layout.specs.declared.dinode.Dinode.{Dinode}
 use Rattle.gfs2_layout.specs.declared.rindex.Rindex.{Rindex}
-use Rattle.dinode_tree.specs.Reading.{content_range, AreWholeBefore}
+use Rattle.dinode_tree.specs.Reading.{AreHeaded, content_range, AreWholeBefore}
 use Rattle.image_model.specs.Claims.{every, HasGroup, IsRindex}
 use Rattle.gfs2_layout.specs.Bitmap.{bitmap_room}
 use Rattle.image_model.specs.Groups.{groups_in, IsGroupAt, IsListed, IsNear, GroupFits, GroupsFit, end_of}
@@ -24,6 +24,7 @@ use Rattle.image_model.specs.Stands.{Layout}
 use Rattle.image_model.proofs.Listing.{all_fit, all_above, rise_more, end_more, unfit_entry, early_entry, groups_count}
 use Rattle.image_mount.specs.Found.{HasFormat, HasMaster}
 use Rattle.image_mount.specs.Groups.{IsListLink, IsListOf, AreGroups}
+use Rattle.image_mount.specs.Looks.{HasHeadedContent}
 use Rattle.image_mount.specs.Refusals.{IsOutside, RefusesRightly}
 use Rattle.image_mount.specs.Refusals as outside
 use Rattle.image_mount.specs.declared.fault.MountFault.{MountFault}
@@ -31,6 +32,7 @@ use Rattle.image_mount.specs.declared.listing.Link.{Link}
 use Rattle.image_mount.specs.declared.fault.MountFault.TheVariants as fault
 use Rattle.image_mount.specs.declared.field.Field.TheVariants as field
 use Rattle.image_mount.proofs.Causes.{told, told_outside}
+use Rattle.image_mount.proofs.Places.{unit_bounds}
 
 -- ---- what is known of the list
 
@@ -217,3 +219,14 @@ fits_if im g size len sum end room above some first sum_is end_is inside few who
       }),
       (λ fits. omega (arith, fits.bits, same)),
     )
+
+-- the blocks of content begin before its end
+pub content_headed : (im : Image) (a bytes : ℕ) → 512 ≤ im.size → (dinode_in (every im a)).size ≡ bytes → AreHeaded (every im a) 0 (min (0 + bytes) (dinode_in (every im a)).size) → HasHeadedContent im a
+content_headed im a bytes large size all i low =
+    let h = every im a in
+    let u = unit h in
+    let n = (dinode_in h).size in
+    let some : 0 < u = (unit_bounds im a large).0 in
+    let rises : (i + 1) * u ≤ (n + u - 1) / u * u = mul-le-mul_right u (omega (arith, low)) in
+    let wide : (i + 1) * u ≡ i * u + u = omega arith in
+    all i (omega arith) (omega (arith, rises, wide, div-mul-le_self (n + u - 1) u, size, some))

@@ -1,6 +1,6 @@
 -- The head of a journal, found from its first place on.
 use Rattle.std.proofs.Common.{◌≡◌, ◌≢◌, ◌^◌, ◌++◌, [], ◌∷◌, ℕ, zero, suc, ◌+◌, ◌<◌, ◌≤◌, List, length, Option, None, Some, get_or, refl, sym, ap, subst, ◌∙◌, arith}
-use Rattle.std.specs.Prelude.{map, Ok, Err}
+use Rattle.std.specs.Prelude.{map, slice_get, take, Ok, Err}
 use Rattle.std.specs.List.{All, range_with_len}
 use Rattle.std.proofs.lemmas.Bool.{cond-true, cond-false, eq-eqb, ne_eqb}
 use Rattle.std.proofs.lemmas.Bool.Decides.{nat_tests}
@@ -18,7 +18,7 @@ use Rattle.image_model.specs.Rules.{headless}
 use Rattle.image_model.specs.Stands.{Layout, IsJournalAt}
 use Rattle.image_mount.specs.Found.{HasNames}
 use Rattle.image_mount.specs.Mounted.{Journal}
-use Rattle.image_mount.specs.Refusals.{RefusesRightly, IsReached}
+use Rattle.image_mount.specs.Refusals.{RefusesRightly, HasLowHead, IsJournalSized, IsReached}
 use Rattle.image_mount.specs.Refusals as outside
 use Rattle.image_mount.specs.Rings.{ring_at, AreBlocksOf, IsRingOf, IsHeadOf, IsLowJournal, AreJournals}
 use Rattle.image_mount.specs.Searching.{FailsAt}
@@ -27,6 +27,7 @@ use Rattle.image_mount.specs.declared.fault.MountFault.TheVariants as fault
 use Rattle.image_mount.specs.declared.field.Field.TheVariants as field
 use Rattle.image_mount.specs.declared.journals.Ring.{Ring as JournalRing}
 use Rattle.image_mount.proofs.Causes.{told, told_outside}
+use Rattle.image_mount.proofs.Names.{all_at, from_mapped, mapped_at, taken_at}
 
 better_none : (x : Option LogHeader) → better x None ≡ x
 better_none None = refl
@@ -114,8 +115,9 @@ module _ (im : Image) (d : ℕ) (blocks now : List ℕ) (best : Option LogHeader
   headless_told l j f names at none is =
       told im f d 16 is names.groups.list.master.format ring.places.inside (headless j d (l.jindex, names.groups.list.master.jindex, names.there j d at) (sym head_of_ring ∙ none))
 
-  pub late_told : (l : Layout) (j : ℕ) (f : MountFault) (head : LogHeader) → HasNames im l → IsJournalAt l j d → best ≡ Some head → 2 ^ 63 ≤ head.sequence → f ≡ fault.NotProfile field.Sequence head.sequence → RefusesRightly im f
-  late_told l j f head names at some high is = told_outside im f field.Sequence head.sequence is (outside.sequence l j d head names at (sym head_of_ring ∙ some) high)
+  pub late_told : (l : Layout) (j : ℕ) (f : MountFault) (head : LogHeader) → HasNames im l → ((i c : ℕ) → IsJournalAt l i c → IsJournalSized im c) → ((i c : ℕ) → i < j → IsJournalAt l i c → HasLowHead im c) → IsJournalAt l j d → best ≡ Some head → 2 ^ 63 ≤ head.sequence → f ≡ fault.NotProfile field.Sequence head.sequence → RefusesRightly im f
+  late_told l j f head names sized before at some high is =
+      told_outside im f field.Sequence head.sequence is (outside.sequence l j d head names sized before at (sym head_of_ring ∙ some) high)
 
   pub head_is : (head : LogHeader) → best ≡ Some head → head.sequence < 2 ^ 63 → IsHeadOf im d head
   head_is head some low = record { head_is = sym head_of_ring ∙ some; low = low }
@@ -131,3 +133,13 @@ journals_more im yielded ring head old new are of best is =
           ∙ sym (map-append (λ (r : JournalRing). r.dinode) yielded (ring ∷ []));
       each = subst (All (IsLowJournal im)) (sym is) (All-push (IsLowJournal im) old journal are.each low);
     }
+
+-- each journal whose head was found has one that is low
+pub heads_before : (im : Image) (yielded rings : List JournalRing) (journals : List Journal) (k i d : ℕ) → AreJournals im yielded journals → yielded ≡ take k rings → i < k
+    → slice_get (map (λ (r : JournalRing). r.dinode) rings) i ≡ Some d → HasLowHead im d
+heads_before im yielded rings journals k i d are taken low at =
+    let ring = from_mapped (λ (r : JournalRing). r.dinode) rings i d at in
+    let there : slice_get yielded i ≡ Some ring.0 = ap (λ rs. slice_get rs i) taken ∙ taken_at rings k i ring.0 low ring.1 in
+    let journal = from_mapped (λ (j : Journal). j.dinode) journals i d (ap (λ ds. slice_get ds i) are.dinodes ∙ mapped_at (λ (r : JournalRing). r.dinode) yielded i ring.0 there ∙ ap Some ring.2) in
+    let of = all_at (IsLowJournal im) journals i journal.0 are.each journal.1 in
+    subst (HasLowHead im) journal.2 (record { head = journal.0.head; is = of.is.head; low = of.low })

@@ -1,18 +1,20 @@
 -- What the table and the leaves of a hashed directory break, as mounting finds it.
-use Rattle.std.proofs.Common.{◌≡◌, ◌≢◌, ℕ, ◌+◌, ◌-◌, ◌*◌, ◌/◌, ◌^◌, ◌<◌, ◌≤◌, true, List, length, take, drop, get_or, Result, Ok, refl, sym, ap, subst, ◌∙◌, arith}
+use Rattle.std.proofs.Common.{◌≡◌, ◌≢◌, inl, inr, Option, None, Some, ℕ, ◌+◌, ◌-◌, ◌*◌, ◌/◌, ◌^◌, ◌<◌, ◌≤◌, true, List, length, take, drop, get_or, Result, Ok, refl, sym, ap, subst, ◌∙◌, arith}
 use Rattle.std.specs.Prelude.{map, slice_get}
 use Rattle.std.specs.List.{All}
 use Rattle.std.proofs.Math.Path.{transport}
 use Rattle.std.proofs.Math.Pow.{pow_mono}
+use Rattle.std.proofs.lemmas.Bool.{cases_eq, cond-false, ne_eqb}
 use Rattle.std.proofs.lemmas.List.{length-map}
 use Rattle.crc_words.specs.Remainder.{crc32_of}
 use Rattle.gfs2_layout.specs.Bytes.{u32_at}
 use Rattle.gfs2_layout.specs.Headers.{HasHeader}
-use Rattle.gfs2_layout.specs.Inode.{dinode_in, depth_in, entry, first_hash, leaf_in}
-use Rattle.gfs2_layout.specs.Records.{records_in}
-use Rattle.gfs2_layout.specs.Structures.{leaf_of, leaf_read}
+use Rattle.gfs2_layout.specs.Inode.{dinode_in, depth_in, entry, first_hash, leaf_in, leaf_area, top_bits, IsLeaf}
+use Rattle.gfs2_layout.specs.Records.{Record, records_in, IsRecordArea}
+use Rattle.gfs2_layout.specs.Structures.{answer, or_else, header_fault, leaf_of, leaf_read, records_fault}
 use Rattle.gfs2_layout.specs.declared.dinode.Dinode.{Dinode}
 use Rattle.gfs2_layout.specs.declared.fault.LayoutFault.{LayoutFault}
+use Rattle.gfs2_layout.specs.declared.fault.LayoutFault.TheVariants.{Value}
 use Rattle.gfs2_layout.specs.declared.leaf.Leaf.{Leaf}
 use Rattle.image_model.specs.Claims.{every, Claims, HasArea, HasLeaf, HasDirectory, next_leaf}
 use Rattle.image_model.specs.Claims.{of_leaf}
@@ -21,8 +23,9 @@ use Rattle.image_model.specs.Owners.{Chained}
 use Rattle.image_model.specs.Rules.{HasRecordIn, IsHashedAt, table_too_small, table_too_large, table_size, records_format, leaf_too_deep, leaf_hash, leaf_entries, chain_depth, no_header, of_leaf as needs_leaf}
 use Rattle.image_reader.proofs.LeafFaults.{leaf_reads, leaf_well}
 use Rattle.image_mount.specs.Found.{HasFormat, IsInChain, chain_next}
-use Rattle.image_mount.specs.Leaves.{IsLeafIn}
+use Rattle.image_mount.specs.Leaves.{HasHashOf, IsLeafHead, IsLeafIn}
 use Rattle.image_mount.specs.Listing.{said, is_hashed_by}
+use Rattle.image_mount.specs.Looks.{IsInRun, LeadsToLeaf}
 use Rattle.image_mount.specs.Refusals.{RefusesRightly}
 use Rattle.image_mount.specs.declared.fault.MountFault.{MountFault}
 use Rattle.image_mount.specs.declared.fault.MountFault.TheVariants as fault
@@ -30,7 +33,7 @@ use Rattle.image_mount.specs.declared.leaf.LeafAt.{LeafAt}
 use Rattle.image_mount.specs.declared.listing.Named.{Named}
 use Rattle.image_mount.proofs.Causes.{told, hashed_as}
 use Rattle.image_mount.proofs.Twice.{all_taken, at_said}
-use Rattle.image_mount.proofs.Names.{at_contains}
+use Rattle.image_mount.proofs.Names.{all_at, at_contains, contains_at, from_mapped}
 
 -- ---- the table
 
@@ -94,13 +97,15 @@ behind_claim im a tail is more =
     let next : tail.head.next ≡ (leaf_in (every im a) tail.block).next = ap (λ (l : Leaf). l.next) is.head in
     subst (λ n. Claims im tail.block n (Chained a tail.hash (tail.place + 1))) (sym next) (next_leaf is.claimed.0 tail.block a tail.hash tail.place is.claimed.1 (λ e. more (next ∙ e)))
 
-pub behind_is : (im : Image) (a : ℕ) (tail at : LeafAt) → IsLeafIn im a tail → tail.head.next ≢ 0 → tail.head.next < im.count → at.head ≡ leaf_of (im.at tail.head.next) → at.block ≡ tail.head.next → at.hash ≡ tail.hash → at.place ≡ tail.place + 1
+pub behind_is : (im : Image) (a : ℕ) (tail at : LeafAt) → IsLeafIn im a tail → IsLeafHead im a tail.head.next → tail.head.next ≢ 0 → tail.head.next < im.count → at.head ≡ leaf_of (im.at tail.head.next) → at.block ≡ tail.head.next → at.hash ≡ tail.hash → at.place ≡ tail.place + 1
     → at.pointer ≡ tail.pointer → at.behind ≡ tail.behind → IsLeafIn im a at
-behind_is im a tail at is more inside read block hash place pointer behind =
+behind_is im a tail at is well more inside read block hash place pointer behind =
     let next : tail.head.next ≡ (leaf_in (every im a) tail.block).next = ap (λ (l : Leaf). l.next) is.head in
     record {
       inside = subst (λ n. n < im.count) (sym block) inside;
       head = read ∙ ap (λ n. leaf_of (im.at n)) (sym block);
+      well = subst (IsLeafHead im a) (sym block) well;
+      pointed = subst (LeadsToLeaf (every im a)) (sym pointer) is.pointed;
       claimed = (tail.block, transport (λ k. Claims im tail.block (sym block k) (Chained a (sym hash k) (sym place k))) (behind_claim im a tail is more));
       chain = transport (λ k. IsInChain (every im a) (sym pointer k) (sym place k) ((sym next ∙ sym block) k)) (chain_next tail.place tail.block is.chain (λ e. more (next ∙ e)));
       hash = hash ∙ is.hash ∙ ap (first_hash (every im a)) (sym pointer);
@@ -108,7 +113,7 @@ behind_is im a tail at is more inside read block hash place pointer behind =
       within = omega (arith, is.within, behind);
       run = λ j low high.
           let here = is.run j (omega (arith, low, pointer)) (omega (arith, high, behind)) in
-          (here.0 ∙ ap (entry (every im a)) (sym pointer), here.1 ∙ sym hash);
+          (here.0 ∙ ap (entry (every im a)) (sym pointer), here.1 ∙ sym hash, subst (λ p. IsInRun (every im a) p j) (sym pointer) here.2);
     }
 
 -- ---- the records of a leaf
@@ -145,3 +150,48 @@ leaf_listed im a at bytes records is same read k d low =
     let n = get_or records k d in
     let area = leaf_area_in im a at bytes (drop 104 bytes) is same refl in
     (drop 104 bytes, area, at_contains (records_in (drop 104 bytes)) k (said n) (ap (λ l. slice_get l k) (sym read) ∙ at_said records k d low))
+
+-- ---- a leaf that was looked at
+
+-- what reads well has the format of its records
+some_fault : (o : Option LayoutFault) (f : LayoutFault) (s x : Leaf) → answer (or_else o (Some f)) s ≡ Ok x → ⊥
+some_fault None f s x e = cc
+some_fault (Some g) f s x e = cc
+
+format_read : (bytes : List ℕ) (leaf : Leaf) → Ok leaf ≡ leaf_read bytes → u32_at 28 bytes ≡ 1200
+format_read bytes leaf reads = elim (cases_eq (u32_at 28 bytes) 1200) [
+  | inl same ↦ same
+  | inr other ↦
+      let wrong : records_fault bytes ≡ Some (Value 28 (u32_at 28 bytes)) = cond-false _ _ _ (ne_eqb (u32_at 28 bytes) 1200 other) in
+      absurd (some_fault (header_fault 104 6 600 bytes) (Value 28 (u32_at 28 bytes)) (leaf_of bytes) leaf (ap (λ o. answer (or_else (header_fault 104 6 600 bytes) o) (leaf_of bytes)) (sym wrong) ∙ sym reads))
+]
+
+pub head_well : (im : Image) (a x depth : ℕ) (bytes : List ℕ) (leaf : Leaf) → im.at x ≡ bytes → HasHeader 6 600 bytes → Ok leaf ≡ leaf_read bytes → leaf ≡ leaf_of (im.at x) → depth ≡ depth_in (every im a) → leaf.depth ≤ depth
+    → IsLeafHead im a x
+head_well im a x depth bytes leaf same header reads read deep low = record {
+  header = subst (HasHeader 6 600) (sym same) header;
+  records_format = ap (u32_at 28) same ∙ format_read bytes leaf reads;
+  depth = omega (arith, low, deep, ap (λ (l : Leaf). l.depth) read);
+}
+
+pub hash_of : (at : LeafAt) (n : Named) (name : List ℕ) (crc shift : ℕ) → name ≡ n.name.now → crc ≡ crc32_of name → shift ≡ 32 - at.head.depth → crc / 2 ^ shift ≡ at.hash / 2 ^ shift → HasHashOf at n
+hash_of at n name crc shift name_is crc_is shifted same =
+    subst (λ s. crc32_of n.name.now / 2 ^ s ≡ at.hash / 2 ^ s) shifted (subst (λ m. m / 2 ^ shift ≡ at.hash / 2 ^ shift) (crc_is ∙ ap crc32_of name_is) same)
+
+pub leaf_sound : (im : Image) (a : ℕ) (at : LeafAt) (bytes : List ℕ) (records : List Named) → IsLeafIn im a at → im.at at.block ≡ bytes → map said records ≡ records_in (drop 104 bytes) → IsRecordArea (drop 104 bytes)
+    → length records ≡ at.head.entries → All (HasHashOf at) records → IsLeaf (every im a) at.hash at.block
+leaf_sound im a at bytes records is same read filled counted hashed =
+    let rows : map said records ≡ records_in (leaf_area (every im a) at.block) = read ∙ ap (λ b. records_in (drop 104 b)) (sym same) in
+    record {
+      header = is.well.header;
+      records_format = is.well.records_format;
+      depth = is.well.depth;
+      area = subst (λ b. IsRecordArea (drop 104 b)) (sym same) filled;
+      entries = ap (λ (l : Leaf). l.entries) (sym is.head) ∙ sym counted ∙ sym (length-map records said) ∙ ap length rows;
+      hashes = λ r there.
+          let at_r = contains_at (records_in (leaf_area (every im a) at.block)) r there in
+          let row = from_mapped said records there.0 r (ap (λ rs. slice_get rs there.0) rows ∙ at_r) in
+          let has = all_at (HasHashOf at) records there.0 row.0 hashed row.1 in
+          subst (λ d. top_bits d (crc32_of r.name) ≡ top_bits d at.hash) (ap (λ (l : Leaf). l.depth) is.head)
+          (subst (λ n. top_bits at.head.depth (crc32_of n) ≡ top_bits at.head.depth at.hash) (ap (λ (q : Record). q.name) row.2) has);
+    }

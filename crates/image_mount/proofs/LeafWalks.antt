@@ -4,11 +4,11 @@ use Rattle.std.specs.Prelude.{if◌then◌else◌, map, flat_map, Contains, IfSo
 use Rattle.std.specs.List.{All}
 use Rattle.std.specs.Option.{option_map}
 use Rattle.std.proofs.Math.Path.{transport}
-use Rattle.std.proofs.lemmas.Bool.{cases_lt}
+use Rattle.std.proofs.lemmas.Bool.{cases_eq, cases_lt}
 use Rattle.std.proofs.lemmas.Grind.{flat_map-append}
 use Rattle.std.proofs.lemmas.Option.{slice_get-get_or}
 use Rattle.gfs2_layout.specs.Holding.{Holding}
-use Rattle.gfs2_layout.specs.Inode.{entry, first_hash, is_hashed_in, leaf_in, leaf_area, table_count}
+use Rattle.gfs2_layout.specs.Inode.{entry, first_hash, index_bits, is_hashed_in, leaf_in, leaf_area, table_count}
 use Rattle.gfs2_layout.specs.Records.{Record, records_in}
 use Rattle.gfs2_layout.specs.declared.leaf.Leaf.{Leaf}
 use Rattle.image_model.specs.Claims.{every, Claims, HasArea, HasDirectory, master_of, behind_dinode, of_leaf}
@@ -33,8 +33,9 @@ use Rattle.image_model.proofs.Rising.{rising}
 use Rattle.image_reader.proofs.WalkFaults.{clash, empty_claims, entered_if}
 use Rattle.image_mount.specs.Found.{HasFormat, IsFirstOther, IsInChain, chain_head, ComesBefore, is_other, first_other, in_leaf}
 use Rattle.image_mount.specs.Found.{chain_next as chain_behind}
-use Rattle.image_mount.specs.Leaves.{IsLeafIn, IsPassed, block_of, IsListed, AreLeavesOf, IsFoundIn, IsOpen, IsWalked, IsClosed, ComesNext, IsNextLeaf, IsFirstTold, IsTableOf, HasEnded}
+use Rattle.image_mount.specs.Leaves.{AreDeep, IsBehind, IsSoundLeaf, IsLeafIn, IsPassed, block_of, IsListed, AreLeavesOf, IsFoundIn, IsOpen, IsWalked, IsClosed, ComesNext, IsNextLeaf, IsFirstTold, IsTableOf, HasEnded}
 use Rattle.image_mount.specs.Listing.{said, standing, AreAllRecords, AreCountedIn, AreDistinct}
+use Rattle.image_mount.specs.Looks.{HasSoundLeaves, IsInRun, LeadsToLeaf}
 use Rattle.image_mount.specs.Refusals.{IsOutside, RefusesRightly, of_image}
 use Rattle.image_mount.specs.Refusals as outside
 use Rattle.image_mount.specs.System.{ArePlainRecords}
@@ -85,6 +86,50 @@ closed_chained h entries (Some t) chained heads closed = chained_end h entries t
 opened_heads : (im : Image) (a : ℕ) (walk : LeafWalk) (tail : Option LeafAt) → IfSome tail (IsOpen im a walk) → IfSome tail (λ t. t.head ≡ leaf_in (every im a) t.block)
 opened_heads im a walk None is = tt
 opened_heads im a walk (Some t) is = is.is.head
+
+-- where none is open that has a next, each that is claimed has its next one as deep
+deep_closed : (h : Holding) (entries : List (Option Claim)) (tail : Option LeafAt) → AreDeep h entries (block_of tail) → IfSome tail (λ t. t.head ≡ leaf_in h t.block) → IsClosed tail → AreDeep h entries None
+deep_closed h entries None deep heads closed x hash place has not_open more = deep x hash place has not_open more
+deep_closed h entries (Some t) deep heads closed x hash place has not_open more = elim (cases_eq t.block x) [
+  | inl e ↦ absurd (more (ap (λ n. (leaf_in h n).next) (sym e) ∙ ap (λ (l : Leaf). l.next) (sym heads) ∙ closed))
+  | inr other ↦ deep x hash place has (λ e. other (same_number t.block x e)) more
+]
+  where
+    same_number : (m n : ℕ) → Some m ≡ Some n → m ≡ n
+    same_number m n e = cc
+
+-- and so where the next of the open one is as deep
+deep_behind : (h : Holding) (entries : List (Option Claim)) (t at : LeafAt) → AreDeep h entries (Some t.block) → t.head ≡ leaf_in h t.block → IsBehind t at → at.head ≡ leaf_in h at.block → AreDeep h entries None
+deep_behind h entries t at deep head b at_head x hash place has not_open more = elim (cases_eq t.block x) [
+  | inl e ↦
+      let next : (leaf_in h t.block).next ≡ at.block = ap (λ (l : Leaf). l.next) (sym head) ∙ sym b.block in
+      subst (λ n. (leaf_in h (leaf_in h n).next).depth ≡ (leaf_in h n).depth) e
+      (ap (λ n. (leaf_in h n).depth) next ∙ ap (λ (l : Leaf). l.depth) (sym at_head) ∙ b.depth ∙ ap (λ (l : Leaf). l.depth) head)
+  | inr other ↦ deep x hash place has (λ e. other (same_number t.block x e)) more
+]
+  where
+    same_number : (m n : ℕ) → Some m ≡ Some n → m ≡ n
+    same_number m n e = cc
+
+-- the other pointers of a run lead to the same leaf
+run_pointed : (h : Holding) (i j : ℕ) → LeadsToLeaf h i → entry h j ≡ entry h i → IsInRun h i j → LeadsToLeaf h j
+run_pointed h i j p same here = record {
+  some = λ e. p.some (sym same ∙ e);
+  run = λ m low in_run.
+      let there : index_bits h (leaf_in h (entry h i)).depth m ≡ index_bits h (leaf_in h (entry h i)).depth j
+      = subst (λ b. index_bits h (leaf_in h b).depth m ≡ index_bits h (leaf_in h b).depth j) same in_run in
+      p.run m low (there ∙ here) ∙ sym same;
+}
+
+-- a block is claimed in one way
+one_claim : (entries : List (Option Claim)) (x a hash place hash' place' : ℕ) → HasClaim entries x (Chained a hash place) → HasClaim entries x (Chained a hash' place') → (hash ≡ hash') × (place ≡ place')
+one_claim entries x a hash place hash' place' first second = one hash place hash' place' (sym first.owner ∙ ap owner_of (same first.claim second.claim (sym first.there ∙ second.there)) ∙ second.owner)
+  where
+    same : (c d : Claim) → Some (Some c) ≡ Some (Some d) → c ≡ d
+    same c d e = cc
+
+    one : (m p n q : ℕ) → Chained a m p ≡ Chained a n q → (m ≡ n) × (p ≡ q)
+    one m p n q e = (cc, cc)
 
 passed_by : (im : Image) (a : ℕ) (walk : LeafWalk) (tail : Option LeafAt) (t : LeafAt) (j place : ℕ) → tail ≡ Some t → ComesBefore j place t.pointer (t.place + 1) → IsPassed tail walk.index j place
 passed_by im a walk tail t j place is before = subst (λ o. IsPassed o walk.index j place) (sym is) before
@@ -185,6 +230,24 @@ module _ (im : Image) (walk : LeafWalk) (at : LeafAt) (of : IsNextLeaf im walk a
             (subst (λ b. HasClaim walk.owners.entries.items b (Chained (master_of im) is.leaf.0 is.leaf.1)) e is.leaf.2),
       )
 
+  -- each leaf that is claimed so far has its next one as deep
+  deep_now : AreDeep (every im (master_of im)) walk.owners.entries.items None
+  deep_now = elim of.next [
+    | inl behind ↦
+        let opened = at_some walk.tail behind.0 (IsOpen im (master_of im) walk) behind.1 of.walked.opened in
+        deep_behind (every im (master_of im)) walk.owners.entries.items behind.0 at (subst (λ o. AreDeep (every im (master_of im)) walk.owners.entries.items (block_of o)) behind.1 of.walked.deep) opened.is.head behind.2 of.leaf.head
+    | inr begins ↦ deep_closed (every im (master_of im)) walk.owners.entries.items walk.tail of.walked.deep (opened_heads im (master_of im) walk walk.tail of.walked.opened) begins.0
+  ]
+
+  pointed_now : (later : LeafWalk) → later.index ≡ at.behind → (j : ℕ) → j < later.index → LeadsToLeaf (every im (master_of im)) j
+  pointed_now later index j low = elim (cases_lt j walk.index) [
+    | inl before ↦ of.walked.pointed j before
+    | inr past ↦ elim of.next [
+      | inl behind ↦ absurd (omega (arith, low, index, behind.2.behind, past, at_some walk.tail behind.0 (λ (u : LeafAt). u.behind ≡ walk.index) behind.1 walk.behind))
+      | inr begins ↦ let run = of.leaf.run j (omega (arith, past, begins.1)) (omega (arith, low, index)) in run_pointed (every im (master_of im)) at.pointer j of.leaf.pointed run.0 run.2
+    ]
+  ]
+
   module _ (later : LeafWalk) (claim : Claim) (owner : owner_of claim ≡ Chained (master_of im) at.hash at.place) (index : later.index ≡ at.behind) (fresh : Bool)
       (entered : IsEntered walk.owners.entries.items later.owners.entries.items at.block claim fresh) where
     on : ClaimsOnly (λ (o : Owner). o ≡ owner_of claim) walk.owners.entries.items later.owners.entries.items
@@ -247,6 +310,9 @@ module _ (im : Image) (walk : LeafWalk) (at : LeafAt) (of : IsNextLeaf im walk a
         passed = λ j place y before chain.
             let low : j < later.index = subst (λ o. IsPassed o later.index j place) tail before in
             entered_along h later.owners.entries.items j place y now (headed j low) chain;
+        sound = λ x hash place has. of.walked.sound x hash place (subst (λ es. HasClaim es x (Chained (master_of im) hash place)) same_entries has);
+        pointed = pointed_now later index;
+        deep = λ x hash place has not_open more. deep_now x hash place (subst (λ es. HasClaim es x (Chained (master_of im) hash place)) same_entries has) (λ e. no_some x e) more;
         listed = λ x hash place has. subst (IsListed im (master_of im) x) (sym records) (of.walked.listed x hash place (subst (λ es. HasClaim es x (Chained (master_of im) hash place)) same_entries has));
         found = λ k n there. subst (λ es. IsFoundIn im (master_of im) es n) (sym same_entries) (of.walked.found k n (ap (λ l. slice_get l k) (sym records) ∙ there));
         distinct = subst (λ xs. AreDistinct (map said xs)) (sym records) of.walked.distinct;
@@ -257,8 +323,8 @@ module _ (im : Image) (walk : LeafWalk) (at : LeafAt) (of : IsNextLeaf im walk a
   pub walked_fresh : (later : LeafWalk) (claim : Claim) → owner_of claim ≡ Chained (master_of im) at.hash at.place → later.index ≡ at.behind
       → IsEntered walk.owners.entries.items later.owners.entries.items at.block claim true → later.tail ≡ Some at
       → map standing later.records.items ≡ map standing walk.records.items ++ map (λ (r : Record). (r, at.block)) (leaf_records (every im (master_of im)) at.block)
-      → first_other (leaf_records (every im (master_of im)) at.block) ≡ None → AreDistinct (map said later.records.items) → IsWalked im (master_of im) later
-  walked_fresh later claim owner index entered tail added plain distinct =
+      → first_other (leaf_records (every im (master_of im)) at.block) ≡ None → AreDistinct (map said later.records.items) → IsSoundLeaf im (master_of im) at.hash at.block → IsWalked im (master_of im) later
+  walked_fresh later claim owner index entered tail added plain distinct sound =
       let h = every im (master_of im) in
       let rs = leaf_records h at.block in
       let only = leaves_entered (master_of im) walk.owners.entries.items later.owners.entries.items at.block claim true entered in
@@ -288,6 +354,17 @@ module _ (im : Image) (walk : LeafWalk) (at : LeafAt) (of : IsNextLeaf im walk a
                   let same : at.block ≡ y = chain_same h at.pointer at.place at.block y of.leaf.chain (transport (λ k. IsInChain h (itself.0 k) (itself.1 k) y) chain) in
                   transport (λ k. HasClaim later.owners.entries.items (same k) (Chained (master_of im) ((of.leaf.hash ∙ ap (first_hash h) (sym itself.0)) k) (sym itself.1 k))) mine_now
             ];
+        sound = λ x hash place has. elim (only x hash place has) [
+          | inl was ↦ of.walked.sound x hash place was
+          | inr e ↦
+              let same = one_claim later.owners.entries.items at.block (master_of im) at.hash at.place hash place mine_now (subst (λ n. HasClaim later.owners.entries.items n (Chained (master_of im) hash place)) e has) in
+              subst (λ n. IsSoundLeaf im (master_of im) hash n) (sym e) (subst (λ m. IsSoundLeaf im (master_of im) m at.block) same.0 sound)
+        ];
+        pointed = pointed_now later index;
+        deep = λ x hash place has not_open more. elim (only x hash place has) [
+          | inl was ↦ deep_now x hash place was (λ e. no_some x e) more
+          | inr e ↦ absurd (subst (λ o. o ≢ Some x) (ap block_of tail) not_open (ap Some (sym e)))
+        ];
         listed = λ x hash place has r there. elim (only x hash place has) [
           | inl was ↦
               let one = of.walked.listed x hash place was r there in
@@ -377,6 +454,9 @@ walked_new im a walk empty records index tail =
       chained = λ x hash place has not_open more. absurd (none x (Chained a hash place) has);
       opened = subst (λ o. IfSome o (IsOpen im a walk)) (sym tail) tt;
       passed = λ j place y before chain. absurd (omega (arith, index, subst (λ o. IsPassed o walk.index j place) tail before));
+      sound = λ x hash place has. absurd (none x (Chained a hash place) has);
+      pointed = λ j low. absurd (omega (arith, low, index));
+      deep = λ x hash place has not_open more. absurd (none x (Chained a hash place) has);
       listed = λ x hash place has. absurd (none x (Chained a hash place) has);
       found = λ k n at. absurd (no_record k n at);
       distinct = λ i j r s at other same. absurd (let n = from_mapped said walk.records.items i r at in no_record i n.0 n.1);
@@ -411,7 +491,7 @@ pub walked_by : (old now : DiskState) → now ≡ old → (inode : Inode) (table
 walked_by old now same inode table walk more = subst (λ (s : DiskState). IsTrue s.tells → IsTableOf (image_of s) inode table → IsWalked (image_of s) inode.block walk) same more
 
 module _ (im : Image) (inode : Inode) (table : HashTable) (walk : LeafWalk) (of : IsTableOf im inode table) (w : IsWalked im inode.block walk) (ended : HasEnded walk (2 ^ table.depth)) where
-  came_all : AreAllLeaves im inode.block walk
+  pub came_all : AreAllLeaves im inode.block walk
   came_all = all_leaves im inode.block (2 ^ table.depth) walk w ended (ap (λ d. 2 ^ d) of.depth)
 
   pub walk_found : AreAllRecords im inode.block walk.records.items
@@ -419,6 +499,17 @@ module _ (im : Image) (inode : Inode) (table : HashTable) (walk : LeafWalk) (of 
 
   pub walk_counted : AreCountedIn im inode.block (map said walk.records.items)
   walk_counted = counted_in im inode.block walk (table_hashed im inode table of) (master_has im inode of.master) w came_all
+
+  pub walk_leaves : HasSoundLeaves im inode.block
+  walk_leaves = record {
+    table = of.headed;
+    pointers = λ i low. w.pointed i (omega (arith, low, ended.1, ap (λ d. 2 ^ d) of.depth));
+    leaves = λ by x hash place claimed. (w.sound x hash place (came_all by x hash place claimed)).leaf;
+    depths = λ by x hash place claimed more.
+        deep_closed (every im inode.block) walk.owners.entries.items walk.tail w.deep (opened_heads im inode.block walk walk.tail w.opened) ended.0 x hash place (came_all by x hash place claimed) (λ e. no_some x e) more;
+    once = λ by by' x hash hash' place place' first second.
+        one_claim walk.owners.entries.items x inode.block hash place hash' place' (came_all by x hash place first) (came_all by' x hash' place' second);
+  }
 
   pub walk_plain : ArePlainRecords im inode.block walk.records.items
   walk_plain = plain_records im inode.block walk (table_hashed im inode table of) (master_has im inode of.master) w came_all

@@ -28,3 +28,6 @@ pub mod Records
 pub mod Wanted
 pub mod Looks
 pub mod ViewGroups
+pub mod Marked
+pub mod Sound
+pub mod SoundLeaves

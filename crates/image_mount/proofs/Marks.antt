@@ -1,6 +1,6 @@
 -- What is known of the blocks that are kept and of those that are places of journals, as more are read and found.
 use Rattle.std.proofs.Common.{◌≡◌, ◌≢◌, inl, inr, ℕ, zero, suc, ◌+◌, ◌<◌, ◌≤◌, Bool, true, false, List, [], ◌∷◌, ◌++◌, Option, None, Some, refl, sym, ap, subst, ◌∙◌, arith}
-use Rattle.std.specs.Prelude.{Contains, slice_get, slice_set, IsTrue, Result, Ok, Err, OnOk, IfOk, is_ok}
+use Rattle.std.specs.Prelude.{Contains, slice_get, slice_set, IsTrue, Result, Ok, Err, OnOk, IfErr, IfOk, is_ok}
 use Rattle.std.specs.List.{All}
 use Rattle.std.proofs.lemmas.Bool.{cases_eq}
 use Rattle.std.proofs.lemmas.Option.{slice_get-get_or, slice_get_within, get_or_from_slice_get}
@@ -18,17 +18,19 @@ use Rattle.image_model.specs.Owners.{Below, Named}
 use Rattle.image_model.specs.Rules.{Breaks, no_superblock, beyond_device, beyond_groups, two_owners, IsOutside}
 use Rattle.image_model.specs.Journals.{journal_name}
 use Rattle.image_mount.specs.Found.{HasFormat}
+use Rattle.image_mount.specs.Looks.{IsInGroups}
 use Rattle.image_mount.specs.Refusals.{RefusesRightly}
 use Rattle.image_mount.specs.Rings.{IsPlace, IsSearched, IsNext, IsPlaceAt}
-use Rattle.image_mount.specs.Searching.{IsWanted, StopsRightly}
+use Rattle.image_mount.specs.Searching.{IsWanted, LacksBlock, StopsRightly}
 use Rattle.image_mount.specs.System.{IsSystemOf}
-use Rattle.image_mount.specs.Kept.{Kept, bytes_of}
+use Rattle.image_mount.specs.Kept.{Kept, bytes_of, seen_of}
 use Rattle.image_mount.specs.declared.fault.MountFault.{MountFault}
 use Rattle.image_mount.specs.declared.fault.MountFault.TheVariants as fault
 use Rattle.image_mount.specs.declared.stop.Stop.{Stop}
 use Rattle.image_mount.specs.declared.stop.Stop.TheVariants as stop
 use Rattle.image_mount.specs.declared.system.System.{System}
 use Rattle.image_mount.proofs.Causes.{told}
+use Rattle.image_mount.proofs.Names.{contains_at}
 use Rattle.image_mount.proofs.KeptLaws.{get_kept}
 
 -- ---- a block that is wanted is not read
@@ -206,6 +208,11 @@ searched_on (Err e) s block from old new is more = tt
 
 -- ---- blocks of groups
 
+pub in_groups : (groups same : List Rindex) (b : ℕ) → groups ≡ same → (g : Rindex) × Contains groups g × IsDataOf g b → IsInGroups same b
+in_groups groups same b is inside =
+    let there = subst (λ gs. Contains gs inside.0) is inside.1 in
+    (inside.0, (there.0, contains_at same inside.0 there), inside.2)
+
 pub outside_groups : (im : Image) (system : System) (b : ℕ) (groups : List Rindex) → IsSystemOf im system → groups ≡ system.groups.items → All (λ g. ¬ (IsDataOf g b)) groups → IsOutside im b
 outside_groups im system b groups looked same none g has inside =
     let list : groups_in (content_of (every im has.0)) ≡ groups
@@ -220,6 +227,11 @@ above_super im system b groups looked same inside e =
     let there = subst (λ gs. Contains gs g) same inside.1 in
     let fits = looked.names.groups.fit.each g (there.0, slice_get-get_or system.groups.items there.0 g there.1 ∙ ap Some there.2) in
     absurd (omega (arith, e, fits.above, fits.first, inside.2.low))
+
+-- a block that isn't there isn't kept
+pub free_block : {T : Type 0} (k : Kept) (block from : ℕ) (r : Result T Stop) → is_ok r ≡ false → IfErr r (λ s. s ≡ stop.Reads block from) → IfErr r (LacksBlock k) → (seen_of k).block_at block ≡ None
+free_block k block from (Ok x) e is lacks_it = absurd (let no : true ≡ false = e in cc)
+free_block k block from (Err s) e is lacks_it = subst (LacksBlock k) is lacks_it
 
 -- what is said of an answer holds of one
 pub some_ok : {T E : Type 0} (r : Result T E) (P : T → Type 0) → is_ok r ≡ true → IfOk r P → (x : T) × P x

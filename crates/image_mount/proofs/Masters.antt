@@ -2,7 +2,7 @@
 use Rattle.std.proofs.Common.{◌≡◌, ◌≢◌, inl, inr, ℕ, zero, suc, cond, ◌+◌, ◌-◌, ◌*◌, ◌/◌, ◌%◌, ◌^◌, ◌<◌, ◌≤◌, ◌==◌, true, None, Some, refl, sym, ap, subst, ◌∙◌, arith}
 use Rattle.std.specs.Prelude.{nat_lt}
 use Rattle.std.proofs.lemmas.Bool.{cases_Bool, cond-true, cond-false, eq-eqb, ne_eqb}
-use Rattle.std.proofs.Math.Nat.{div-lt_iff_lt-mul}
+use Rattle.std.proofs.Math.Nat.{div-add-mod', div-lt_iff_lt-mul}
 use Rattle.std.proofs.Math.Path.{transport}
 use Rattle.std.proofs.Math.Pow.{pow_mono}
 use Rattle.dinode_tree.specs.Reading.{IsRightDinode, reach, block_at}
@@ -20,8 +20,8 @@ use Rattle.image_reader.specs.declared.hash_table.HashTable.{HashTable}
 use Rattle.image_reader.proofs.Chains.{same_bits, run_some}
 use Rattle.image_reader.proofs.Pieces.{pieces_cover}
 use Rattle.image_mount.specs.Found.{IsInChain, chain_head}
-use Rattle.image_mount.specs.Leaves.{IsMasterIn, IsTableOf, IsLeafIn}
-use Rattle.image_mount.specs.Looks.{IsTableSized}
+use Rattle.image_mount.specs.Leaves.{IsMasterIn, IsTableOf, IsLeafHead, IsLeafIn}
+use Rattle.image_mount.specs.Looks.{HasHeadedContent, IsInRun, IsTableSized, LeadsToLeaf}
 use Rattle.image_mount.specs.Refusals.{RefusesRightly}
 use Rattle.image_mount.specs.Searching.{IsSystemFile}
 use Rattle.image_mount.specs.declared.fault.MountFault.{MountFault}
@@ -70,15 +70,25 @@ table_short depth low =
     omega (arith, p)
 
 pub table_is : (im : Image) (inode kept : Inode) (table : HashTable) → IsMasterIn im inode → kept.block ≡ inode.block → is_hashed_in (every im inode.block) ≡ true → IsMasterIn im kept → table.depth ≡ kept.dinode.depth
-    → (dinode_in (every im kept.block)).size ≡ 8 * 2 ^ table.depth → table.bytes.items ≡ content_of (every im kept.block) → IsTableSized im kept.block → IsTableOf im inode table
-table_is im inode kept table is block hashed again depth size content sized = record {
+    → (dinode_in (every im kept.block)).size ≡ 8 * 2 ^ table.depth → table.bytes.items ≡ content_of (every im kept.block) → IsTableSized im kept.block → HasHeadedContent im kept.block → IsTableOf im inode table
+table_is im inode kept table is block hashed again depth size content sized headed = record {
   master = is;
   hashed = hashed;
   depth = depth ∙ ap (λ (d : Dinode). d.depth) again.dinode ∙ ap (λ a. depth_in (every im a)) block;
   content = content ∙ ap (λ a. content_of (every im a)) block;
   size = ap (λ a. (dinode_in (every im a)).size) (sym block) ∙ size;
   sized = subst (IsTableSized im) block sized;
+  headed = subst (HasHeadedContent im) block headed;
 }
+
+-- what has the same bits stands in the same run
+bits_within : (i j run : ℕ) → 0 < run → j / run ≡ i / run → (i - i % run ≤ j) × (j < i - i % run + run)
+bits_within i j run some same =
+    let split_i : i / run * run + i % run ≡ i = div-add-mod' i run in
+    let split_j : j / run * run + j % run ≡ j = div-add-mod' j run in
+    let one : j / run * run ≡ i / run * run = ap (λ q. q * run) same in
+    let rest : j % run < run = omega (arith, some) in
+    (omega (arith, split_i, split_j, one), omega (arith, split_i, split_j, one, rest))
 
 module _ (im : Image) (inode : Inode) (table : HashTable) (of : IsTableOf im inode table) where
   pub table_hashed : IsHashedAt im inode.block
@@ -125,16 +135,18 @@ module _ (im : Image) (inode : Inode) (table : HashTable) (of : IsTableOf im ino
         (pointer_missing inode.block i j table_hashed (in_table i low) (in_table j below) same (λ e. other (entry_is j ∙ e ∙ sym at_pointer)))
 
     -- the leaf of a pointer, where its whole run leads to it
-    pub leaf_is : (at : LeafAt) (by hash : ℕ) → number < im.count → by ≡ entry_block (every im inode.block) i → hash ≡ i / run * 2 ^ (32 - head.depth) → at.block ≡ number → at.head ≡ head → at.hash ≡ hash → at.place ≡ 0 → at.pointer ≡ i
+    pub leaf_is : (at : LeafAt) (by hash : ℕ) → IsLeafHead im inode.block number → number ≢ 0 → number < im.count → by ≡ entry_block (every im inode.block) i → hash ≡ i / run * 2 ^ (32 - head.depth) → at.block ≡ number → at.head ≡ head → at.hash ≡ hash → at.place ≡ 0 → at.pointer ≡ i
         → at.behind ≡ i - i % run + run → i < at.behind → at.behind ≤ 2 ^ table.depth
         → ((j : ℕ) → i - i % run ≤ j → j < i - i % run + run → u64_at (8 * j) table.bytes.items ≡ number) → IsLeafIn im inode.block at
-    leaf_is at by hash inside by_is hash_is block head_same hash_same place pointer behind some within all =
+    leaf_is at by hash well some_number inside by_is hash_is block head_same hash_same place pointer behind some within all =
         let h = every im inode.block in
         let mine : at.hash ≡ first_hash h i = hash_same ∙ hash_is ∙ hash_by_run i at_pointer in
         let some_run = run_some run (table.depth - head.depth) run_is in
+        let run_there : run ≡ 2 ^ (depth_in h - (leaf_in h (entry h i)).depth) = run_is ∙ (λ k. 2 ^ (of.depth k - depth_of i at_pointer k)) in
         record {
           inside = subst (λ n. n < im.count) (sym block) inside;
           head = head_same ∙ head_is ∙ ap (λ n. leaf_of (im.at n)) (sym block);
+          well = subst (IsLeafHead im inode.block) (sym block) well;
           claimed = (by, transport (λ k. Claims im by (sym block k) (Chained inode.block (sym mine k) (sym place k))) (first_claim i by number low by_is number_is));
           chain = transport (λ k. IsInChain h (sym pointer k) (sym place k) ((sym at_pointer ∙ sym block) k)) (chain_head (in_table i low));
           hash = mine ∙ ap (first_hash h) (sym pointer);
@@ -148,7 +160,14 @@ module _ (im : Image) (inode : Inode) (table : HashTable) (of : IsTableOf im ino
               let bits = same_bits i j run some_run start end in (
                 sym there ∙ at_pointer ∙ ap (entry h) (sym pointer),
                 sym (hash_by_run j there) ∙ ap (λ n. n * 2 ^ (32 - head.depth)) bits ∙ sym hash_is ∙ sym hash_same,
+                subst (λ p. IsInRun h p j) (sym pointer) (subst (λ r. j / r ≡ i / r) run_there bits),
               );
+          pointed = subst (LeadsToLeaf h) (sym pointer) (record {
+            some = λ e. some_number (at_pointer ∙ e);
+            run = λ j below in_run.
+                let ends = bits_within i j run some_run (subst (λ r. j / r ≡ i / r) (sym run_there) in_run) in
+                sym (entry_is j) ∙ all j ends.0 ends.1 ∙ at_pointer;
+          });
         }
 
 -- ---- the block that has a pointer

@@ -1,6 +1,6 @@
 -- What a call over a disk tells, in the words of what the disk held before.
 use Rattle.std.proofs.Common.{◌≡◌, ◌≢◌, ◌↔◌, inl, inr, Bool, false, ℕ, zero, suc, ◌+◌, ◌<◌, List, [], ◌∷◌, ◌++◌, length, take, get_or, Some, IsTrue, refl, sym, ap, subst, ◌∙◌, arith}
-use Rattle.std.specs.Prelude.{codes, map, Contains, slice_get}
+use Rattle.std.specs.Prelude.{codes, map, Contains, slice_get, Result, Ok, Err, IfOk, OnOk}
 use Rattle.std.specs.List.{All}
 use Rattle.std.proofs.lemmas.Option.{slice_get-get_or, slice_get_within, get_or_from_slice_get}
 use Rattle.std.proofs.lemmas.List.{map-append}
@@ -14,13 +14,15 @@ use Rattle.image_model.specs.Image.{Image, image_of}
 use Rattle.image_model.specs.Journals.{journal_name}
 use Rattle.image_model.specs.Owners.{Master, Named}
 use Rattle.image_model.specs.Rules.{two_owners}
+use Rattle.image_model.specs.Stands.{IsJournalAt}
 use Rattle.shared_disk.specs.Disk.{DiskState}
-use Rattle.image_mount.specs.Refusals.{RefusesRightly}
+use Rattle.image_mount.specs.Refusals.{IsJournalSized, RefusesRightly}
 use Rattle.image_mount.specs.Rings.{IsSearched, IsJournalIn, IsNext, HasPlaces, IsPlaceAt, AreBlocksOf, IsRingOf, AreRings}
 use Rattle.image_mount.specs.Searching.{IsWorking}
 use Rattle.image_mount.specs.Leaves.{IsMasterIn}
 use Rattle.image_mount.specs.Looks.{IsTrueEntry}
-use Rattle.image_mount.specs.System.{IsMasterOf, IsNamedBy, IsSystemOf, layout_of}
+use Rattle.image_mount.specs.Marked.{IsGrown, IsKept}
+use Rattle.image_mount.specs.System.{HasDinodes, IsMasterOf, IsNamedBy, IsSystemOf, layout_of}
 use Rattle.image_mount.specs.Kept.{Kept, bytes_of}
 use Rattle.image_mount.specs.declared.fault.MountFault.{MountFault}
 use Rattle.image_mount.specs.declared.fault.MountFault.TheVariants as fault
@@ -30,7 +32,7 @@ use Rattle.image_mount.specs.declared.master.Master.{Master as MasterValue}
 use Rattle.image_mount.specs.declared.system.System.{System}
 use Rattle.image_mount.proofs.Causes.{told, lacks}
 use Rattle.image_model.proofs.JournalNames.{one_number}
-use Rattle.image_mount.proofs.Names.{contains_at, mapped_at, from_mapped}
+use Rattle.image_mount.proofs.Names.{all_at, contains_at, mapped_at, from_mapped, taken_at}
 
 module _ (old now : DiskState) (same : now ≡ old) where
   pub place_refused : (jindex : ℕ) (journal : Entry) (places place : ℕ) (k : Kept) (f : MountFault) (done : List ℕ) (d n : ℕ)
@@ -79,11 +81,24 @@ module _ (old now : DiskState) (same : now ≡ old) where
   names_searched at k new more tells is =
       subst (λ (s : DiskState). IsTrue s.tells → IsMasterIn (image_of s) at.inode → IsSearched (image_of s) [] 0 0 k → IsSearched (image_of s) [] 0 0 new) same more tells is.inode
 
+  pub files_told : (at : MasterValue) (names : List Item) (P : Image → Type 0) → (IsTrue now.tells → IsMasterOf (image_of now) at → IsNamedBy (image_of now) at names → P (image_of now))
+      → IsTrue old.tells → IsMasterOf (image_of old) at → IsNamedBy (image_of old) at names → P (image_of old)
+  files_told at names P more = subst (λ (s : DiskState). IsTrue s.tells → IsMasterOf (image_of s) at → IsNamedBy (image_of s) at names → P (image_of s)) same more
+
   pub files_searched : (at : MasterValue) (names : List Item) (k new : Kept)
       → (IsTrue now.tells → IsMasterOf (image_of now) at → IsNamedBy (image_of now) at names → IsSearched (image_of now) [] 0 0 k → IsSearched (image_of now) [] 0 0 new)
       → IsTrue old.tells → IsMasterOf (image_of old) at → IsNamedBy (image_of old) at names → IsSearched (image_of old) [] 0 0 k → IsSearched (image_of old) [] 0 0 new
   files_searched at names k new more =
       subst (λ (s : DiskState). IsTrue s.tells → IsMasterOf (image_of s) at → IsNamedBy (image_of s) at names → IsSearched (image_of s) [] 0 0 k → IsSearched (image_of s) [] 0 0 new) same more
+
+-- the dinodes that were kept stay, and those of the files are
+pub dinodes_of : (im : Image) (a b : Kept) (W V : Type 0) (r : Result System MountFault) → OnOk r (IsGrown a b) → IfOk r (λ s. IsKept b s.rindex) → IfOk r (λ s. IsKept b s.jindex) → (W → V → IsKept a (master_of im))
+    → IfOk r (λ s. W → V → HasDinodes im b s)
+dinodes_of im a b W V (Ok s) grown rindex jindex known = λ w v. record { master = grown.stays (master_of im) (known w v); rindex = rindex; jindex = jindex }
+dinodes_of im a b W V (Err f) grown rindex jindex known = tt
+
+pub stay_kept : (im : Image) (a b : Kept) (s : System) → IsGrown a b → HasDinodes im a s → HasDinodes im b s
+stay_kept im a b s grown has = record { master = grown.stays (master_of im) has.master; rindex = grown.stays s.rindex has.rindex; jindex = grown.stays s.jindex has.jindex }
 
 -- a block that is marked is kept as it was
 pub working_marked : (s : DiskState) (k new : Kept) → IsWorking s k → new.entries ≡ k.entries → new.size ≡ k.size → IsWorking s new
@@ -100,21 +115,37 @@ ring_is im d places blocks has are = record { places = subst (HasPlaces im d) ha
 
 -- ---- a journal that is looked for
 
-pub journal_in : (im : Image) (system : System) (j : ℕ) (entry : Entry) → IsSystemOf im system → slice_get system.journals.items j ≡ Some entry → IsJournalIn im system.jindex entry
-journal_in im system j entry looked at = record {
+-- a journal whose ring was found is as large as it may be
+pub ring_sized : (im : Image) (rings : List Ring) (i d : ℕ) → All (λ (r : Ring). IsRingOf im r.dinode r.blocks.items) rings → slice_get (map (λ (r : Ring). r.dinode) rings) i ≡ Some d → IsJournalSized im d
+ring_sized im rings i d all at =
+    let ring = from_mapped (λ (r : Ring). r.dinode) rings i d at in
+    let of = all_at (λ (r : Ring). IsRingOf im r.dinode r.blocks.items) rings i ring.0 all ring.1 in
+    subst (IsJournalSized im) ring.2 (of.places.least, of.places.most)
+
+-- so are those before the next
+sized_before : (im : Image) (system : System) (j i d : ℕ) (rings : List Ring) → AreRings im (take j system.journals.items) rings → i < j → IsJournalAt (layout_of system) i d → IsJournalSized im d
+sized_before im system j i d rings are low at =
+    let entry = from_mapped (λ (e : Entry). e.addr) system.journals.items i d at in
+    ring_sized im rings i d are.each
+    (ap (λ ds. slice_get ds i) are.dinodes ∙ mapped_at (λ (e : Entry). e.addr) (take j system.journals.items) i entry.0 (taken_at system.journals.items j i entry.0 low entry.1) ∙ ap Some entry.2)
+
+pub journal_in : (im : Image) (system : System) (j : ℕ) (entry : Entry) (rings : List Ring) → IsSystemOf im system → AreRings im (take j system.journals.items) rings → slice_get system.journals.items j ≡ Some entry
+    → IsJournalIn im system.jindex entry
+journal_in im system j entry rings looked are at = record {
   layout = layout_of system;
   names = looked.names;
   jindex_is = refl;
   index = j;
+  before = λ i d low there. sized_before im system j i d rings are low there;
   at = mapped_at (λ (e : Entry). e.addr) system.journals.items j entry at;
   named = looked.journals.each j entry at;
 }
 
-pub next_in : (im : Image) (system : System) (j : ℕ) (entry : Entry) (done : List ℕ) → IsSystemOf im system → slice_get system.journals.items j ≡ Some entry → entry.addr ≢ system.superblock.master.address → entry.addr ≢ system.rindex
+pub next_in : (im : Image) (system : System) (j : ℕ) (entry : Entry) (rings : List Ring) (done : List ℕ) → IsSystemOf im system → AreRings im (take j system.journals.items) rings → slice_get system.journals.items j ≡ Some entry → entry.addr ≢ system.superblock.master.address → entry.addr ≢ system.rindex
     → ¬ (Contains done entry.addr) → IsNext im done system entry
-next_in im system j entry done looked at apart other new = record {
+next_in im system j entry rings done looked are at apart other new = record {
   looked = looked;
-  named = journal_in im system j entry looked at;
+  named = journal_in im system j entry rings looked are at;
   plain = λ file. elim file [
     | inl list ↦ other (looked.one_rindex entry.addr list)
     | inr same ↦ apart (same ∙ sym (ap (λ (s : SuperBlock). s.master.address) looked.superblock))
@@ -211,19 +242,26 @@ at_item xs ys i d same low = ap (λ zs. slice_get zs i) (sym same) ∙ slice_get
 pub inside_now : (old now : DiskState) (blocks : List ℕ) → now ≡ old → All (λ b. b < now.count) blocks → All (λ b. b < old.count) blocks
 inside_now old now blocks same = subst (λ (s : DiskState). All (λ b. b < s.count) blocks) same
 
-pub rings_inside : (n : ℕ) (old new : List Ring) (ring : Ring) → All (λ (r : Ring). All (λ b. b < n) r.blocks.items) old → All (λ b. b < n) ring.blocks.items → new ≡ old ++ ring ∷ []
-    → All (λ (r : Ring). All (λ b. b < n) r.blocks.items) new
-rings_inside n old new ring before here is = subst (All (λ (r : Ring). All (λ b. b < n) r.blocks.items)) (sym is) (All-push (λ (r : Ring). All (λ b. b < n) r.blocks.items) old ring before here)
+-- no journal is another of the files, with one more
+pub rings_own : (m r : ℕ) (old new : List Ring) (ring : Ring) (addr : ℕ) → All (λ (x : Ring). (x.dinode ≢ m) × (x.dinode ≢ r)) old → ring.dinode ≡ addr → addr ≢ m → addr ≢ r → new ≡ old ++ ring ∷ []
+    → All (λ (x : Ring). (x.dinode ≢ m) × (x.dinode ≢ r)) new
+rings_own m r old new ring addr before dinode apart other is =
+    subst (All (λ (x : Ring). (x.dinode ≢ m) × (x.dinode ≢ r))) (sym is)
+    (All-push (λ (x : Ring). (x.dinode ≢ m) × (x.dinode ≢ r)) old ring before ((λ e. apart (sym dinode ∙ e)), (λ e. other (sym dinode ∙ e))))
+
+-- what holds of the places of each journal, with one more
+pub rings_with : (P : ℕ → Type 0) (old new : List Ring) (ring : Ring) → All (λ (r : Ring). All P r.blocks.items) old → All P ring.blocks.items → new ≡ old ++ ring ∷ [] → All (λ (r : Ring). All P r.blocks.items) new
+rings_with P old new ring before here is = subst (All (λ (r : Ring). All P r.blocks.items)) (sym is) (All-push (λ (r : Ring). All P r.blocks.items) old ring before here)
 
 pub ring_of_turn : (im : Image) (rings : List Ring) (k : ℕ) (ring : Ring) → k < length rings → ring ≡ get_or rings k ring → All (λ (r : Ring). IsRingOf im r.dinode r.blocks.items) rings
     → IsRingOf im ring.dinode ring.blocks.items
 ring_of_turn im rings k ring low is all = subst (λ (r : Ring). IsRingOf im r.dinode r.blocks.items) (sym is) (all k ring low)
 
 -- the journal after those whose rings were found
-pub next_after : (im : Image) (system : System) (j : ℕ) (entry : Entry) (rings now : List Ring) (b : Bool) → IsSystemOf im system → slice_get system.journals.items j ≡ Some entry → entry.addr ≢ system.superblock.master.address
+pub next_after : (im : Image) (system : System) (j : ℕ) (entry : Entry) (rings now : List Ring) (b : Bool) → IsSystemOf im system → AreRings im (take j system.journals.items) rings → slice_get system.journals.items j ≡ Some entry → entry.addr ≢ system.superblock.master.address
     → entry.addr ≢ system.rindex → IsTrue b ↔ Contains (map (λ (r : Ring). r.dinode) now) entry.addr → b ≡ false → now ≡ rings → IsNext im (map (λ (r : Ring). r.dinode) rings) system entry
-next_after im system j entry rings now b looked at apart other test failed same =
-    next_in im system j entry (map (λ (r : Ring). r.dinode) rings) looked at apart other
+next_after im system j entry rings now b looked are at apart other test failed same =
+    next_in im system j entry rings (map (λ (r : Ring). r.dinode) rings) looked are at apart other
     (λ there. lacks b test failed (subst (λ rs. Contains (map (λ (r : Ring). r.dinode) rs) entry.addr) (sym same) there))
 
 -- the record of a journal that was looked for, of a disk that holds what it held

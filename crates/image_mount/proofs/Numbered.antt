@@ -6,13 +6,13 @@ use Rattle.std.proofs.lemmas.Bool.{cases_eq}
 use Rattle.std.proofs.lemmas.Option.{slice_get-get_or, slice_get_within, get_or_from_slice_get}
 use Rattle.gfs2_layout.specs.Records.{Record, is_dots}
 use Rattle.glock_names.specs.declared.steps.Entry.{Entry}
-use Rattle.image_model.specs.Claims.{LeadsTo}
+use Rattle.image_model.specs.Claims.{LeadsTo, master_of}
 use Rattle.image_model.specs.Image.{Image}
 use Rattle.image_model.specs.Journals.{journal_name}
 use Rattle.image_model.specs.Rules.{HasRecords}
 use Rattle.image_model.specs.Stands.{Layout}
 use Rattle.image_mount.specs.Groups.{IsNamedIn}
-use Rattle.image_mount.specs.Looks.{IsLookedAt}
+use Rattle.image_mount.specs.Looks.{IsLookedAt, IsSoundDirectory}
 use Rattle.image_mount.specs.Found.{HasGroups, name_count, AreJournalNames}
 use Rattle.image_mount.specs.Listing.{said, AreRecordsOf, AreDistinct}
 use Rattle.image_mount.specs.Refusals.{RefusesRightly}
@@ -85,10 +85,11 @@ journals_among items journals n count same counted some few length_is among name
     no_entry : Entry
     no_entry = record { number = 0; addr = 0; kind = 0 }
 
-pub journals_of : (im : Image) (a : ℕ) (items : List Item) (journals : List Entry) → a < im.count → IsLookedAt im a → AreRecordsOf im a (map said items) → All (λ n. n.block ≡ a) items → AreDistinct (map said items)
+pub journals_of : (im : Image) (a : ℕ) (items : List Item) (journals : List Entry) → a < im.count → IsLookedAt im a → IsSoundDirectory im a (master_of im) → AreRecordsOf im a (map said items) → All (λ n. n.block ≡ a) items → AreDistinct (map said items)
     → AreJournalsAmong items journals → AreJournalsOf im a journals
-journals_of im a items journals inside looked are here distinct among = record {
+journals_of im a items journals inside looked sound are here distinct among = record {
   looked = looked;
+  sound = sound;
   some = among.some;
   few = among.few;
   named = λ records has. subst (λ rs. AreJournalNames rs (length journals)) (sym (records_same im a records (map said items) are has)) among.named;

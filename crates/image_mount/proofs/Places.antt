@@ -1,14 +1,16 @@
 -- The places of a journal, as they are found one by one.
-use Rattle.std.proofs.Common.{◌≡◌, ◌≢◌, inl, inr, ℕ, zero, suc, ◌+◌, ◌-◌, ◌/◌, ◌%◌, ◌==◌, ◌<◌, ◌≤◌, true, List, [], ◌∷◌, ◌++◌, None, Some, refl, sym, ap, subst, ◌∙◌, arith}
-use Rattle.std.specs.Prelude.{map, nat_lt}
+use Rattle.std.proofs.Common.{◌≡◌, ◌≢◌, inl, inr, ℕ, zero, suc, ◌+◌, ◌-◌, ◌/◌, ◌%◌, ◌==◌, ◌<◌, ◌≤◌, true, List, [], ◌∷◌, ◌++◌, length, get_or, None, Some, refl, sym, ap, subst, ◌∙◌, arith}
+use Rattle.std.specs.Prelude.{map, nat_lt, slice_get}
 use Rattle.std.specs.List.{All, range_with_len}
 use Rattle.std.proofs.lemmas.Bool.{cases_Bool, cases_eq, cond-true, cond-false, ne_eqb}
 use Rattle.std.proofs.lemmas.Bool.Decides.{nat_tests}
 use Rattle.std.proofs.lemmas.Nat.{le-div}
+use Rattle.std.proofs.lemmas.List.{length-map}
 use Rattle.std.proofs.lemmas.List.Elements.{All-push}
-use Rattle.std.proofs.lemmas.List.FromFn.{map-range_with_len_more}
+use Rattle.std.proofs.lemmas.List.FromFn.{get_or-map-range_with_len, length-range_with_len, map-range_with_len_more}
+use Rattle.std.proofs.lemmas.Option.{slice_get-get_or}
 use Rattle.std.proofs.Math.Nat.{div-eq_of_lt, div-mul-le_self, mul-le-mul_left}
-use Rattle.dinode_tree.specs.Reading.{IsNeeded, IsOnWay, the_dinode, led_to, block_at, reach, target}
+use Rattle.dinode_tree.specs.Reading.{IsHeadedWay, IsNeeded, IsOnWay, the_dinode, led_to, block_at, reach, target}
 use Rattle.dinode_tree.specs.declared.locating.Located.{Located}
 use Rattle.gfs2_layout.specs.Inode.{Leads, dinode_in, height_in, is_directory_in, header_length, unit, content_block}
 use Rattle.gfs2_layout.specs.Journal.{ring_of}
@@ -64,7 +66,7 @@ hole_block h i e low = elim (cases_eq (content_block h i) 0) [
 fewer : (n size unit : ℕ) → 0 < unit → unit ≤ size → n / size ≤ n / unit
 fewer n size unit some low = le-div (n / size) n unit some (omega (arith, mul-le-mul_left (n / size) low, div-mul-le_self n size))
 
-unit_bounds : (im : Image) (d : ℕ) → 512 ≤ im.size → (0 < unit (every im d)) × (unit (every im d) ≤ im.size)
+pub unit_bounds : (im : Image) (d : ℕ) → 512 ≤ im.size → (0 < unit (every im d)) × (unit (every im d) ≤ im.size)
 unit_bounds im d large = elim (cases_Bool (is_directory_in (every im d))) [
   | inl dir ↦ let e : unit (every im d) ≡ im.size - header_length = cond-true _ _ _ dir in (omega (arith, e, large), omega (arith, e))
   | inr file ↦ let e : unit (every im d) ≡ im.size = cond-false _ _ _ file in (omega (arith, e, large), omega (arith, e))
@@ -109,7 +111,7 @@ pub wrong_places : (im : Image) (jindex : ℕ) (journal : Entry) (f : MountFault
     → places ≡ (ring_of (every im journal.addr)).places → ((512 ≤ places) × (places ≤ 65536) → ⊥) → RefusesRightly im f
 wrong_places im jindex journal f places of is count wrong =
     told_outside im f field.Journal (ring_of (every im journal.addr)).places (is ∙ ap (fault.NotProfile field.Journal) count)
-    (outside.journal of.layout of.index journal.addr of.names of.at (λ both. wrong (omega (arith, both.0, count), omega (arith, both.1, count))))
+    (outside.journal of.layout of.index journal.addr of.names of.before of.at (λ both. wrong (omega (arith, both.0, count), omega (arith, both.1, count))))
 
 pub wrong_hole : (im : Image) (jindex : ℕ) (journal : Entry) (f : MountFault) (places place : ℕ) → IsJournalIn im jindex journal → f ≡ fault.Damaged journal.addr 8 → HasPlaces im journal.addr places
     → place < places → None ≡ block_at (every im journal.addr) place → RefusesRightly im f
@@ -147,12 +149,23 @@ above_wanted im jindex journal v place m of needed inside other = each needed.wa
 -- ---- one more place
 
 pub blocks_none : (im : Image) (d : ℕ) → AreBlocksOf im d 0 []
-blocks_none im d = record { all = refl; reached = λ k x low. absurd (omega (arith, low)) }
+blocks_none im d = record { all = refl; reached = λ k x low. absurd (omega (arith, low)); headed = λ p low. absurd (omega (arith, low)) }
 
-pub blocks_more : (im : Image) (d n by k : ℕ) (located : Located) (old new : List ℕ) → AreBlocksOf im d n old → IsPlaceAt im d n located → Claims im by located.block (Below d by k 0 n) → new ≡ old ++ located.block ∷ []
+pub blocks_more : (im : Image) (d n by k : ℕ) (located : Located) (old new : List ℕ) → AreBlocksOf im d n old → IsPlaceAt im d n located → located.block < im.count → Claims im by located.block (Below d by k 0 n) → new ≡ old ++ located.block ∷ []
     → AreBlocksOf im d (n + 1) new
-blocks_more im d n by k located old new are at claim is = record {
+blocks_more im d n by k located old new are at low claim is = record {
   all = is ∙ ap (λ xs. xs ++ located.block ∷ []) are.all ∙ ap (λ b. map (content_block (every im d)) (range_with_len 0 n) ++ b ∷ []) at.block
       ∙ sym (map-range_with_len_more (content_block (every im d)) 0 n n (omega arith));
-  reached = subst (All (IsReached im)) (sym is) (All-push (IsReached im) old located.block are.reached (inr (by, (Below d by k 0 n, claim))));
+  headed = λ p below. elim (cases_eq p n) [
+    | inl same ↦ subst (IsHeadedWay (every im d)) (sym same) at.headed
+    | inr other ↦ are.headed p (omega (arith, below, other))
+  ];
+  reached = subst (All (IsReached im)) (sym is) (All-push (IsReached im) old located.block are.reached (record { inside = low; claimed = inr (by, (Below d by k 0 n, claim)) }));
 }
+
+-- the block at a place is that of content
+pub block_there : (im : Image) (d n : ℕ) (blocks : List ℕ) (p : ℕ) → AreBlocksOf im d n blocks → p < n → slice_get blocks p ≡ Some (content_block (every im d) p)
+block_there im d n blocks p are low =
+    let count : length blocks ≡ n = ap length are.all ∙ length-map (range_with_len 0 n) (content_block (every im d)) ∙ length-range_with_len 0 n in
+    slice_get-get_or blocks p 0 (omega (arith, count, low))
+    ∙ ap Some (ap (λ bs. get_or bs p 0) are.all ∙ get_or-map-range_with_len (content_block (every im d)) 0 n p p 0 low (omega arith))

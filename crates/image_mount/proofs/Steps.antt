@@ -1,5 +1,5 @@
 -- A call's answer, where it is known which one it is.
-use Rattle.std.proofs.Common.{◌≡◌, ℕ, [], Some, Ok, refl, sym, ap, subst}
+use Rattle.std.proofs.Common.{◌≡◌, ℕ, [], Some, refl, sym, ap, subst}
 use Rattle.std.specs.Prelude.{unwrap_or}
 use Rattle.gfs2_layout.specs.Holding.{Holding, Itself}
 use Rattle.glock_names.specs.Views.{Seen}
@@ -9,10 +9,7 @@ use Rattle.image_mount.specs.Searching.{LacksBlock}
 use Rattle.image_mount.specs.Kept.{Kept, seen_of}
 use Rattle.image_mount.specs.declared.stop.Stop.{Stop}
 use Rattle.image_mount.specs.declared.stop.Stop.TheVariants as stop
-use Rattle.glock_names.specs.Steps.{IfNeedBlock, IfIs}
 use Rattle.glock_names.specs.declared.steps.Missing.{Missing}
-use Rattle.glock_names.specs.declared.steps.Step.{Step}
-use Rattle.glock_names.specs.declared.steps.Step.TheVariants.{Is, NeedBlock}
 pub use Rattle.dinode_tree.proofs.Stepping.{needed_at, answer_at}
 
 -- ---- what a view shows by itself

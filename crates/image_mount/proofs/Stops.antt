@@ -1,6 +1,6 @@
 -- A search that stops where a call in it did.
 use Rattle.std.proofs.Common.{◌≡◌, sym, subst}
-use Rattle.std.specs.Prelude.{Result, Ok, Err, IfErr, OnOk, IsErrAnd}
+use Rattle.std.specs.Prelude.{Result, Ok, Err, IfErr, IfOk, OnOk, IsErrAnd}
 use Rattle.image_model.specs.Image.{Image}
 use Rattle.image_mount.specs.Refusals.{RefusesRightly}
 use Rattle.image_mount.specs.Searching.{StopsRightly}
@@ -24,6 +24,11 @@ passed {T} im r s is right = handed {T = T} r (λ t. t ≡ s) (StopsRightly im) 
 -- a refusal that is handed on
 pub refused : {T : Type 0} (im : Image) (r : Result T MountFault) (f : MountFault) → IsErrAnd r (λ g. g ≡ f) → RefusesRightly im f → IfErr r (RefusesRightly im)
 refused {T} im r f is right = handed {T = T} r (λ g. g ≡ f) (RefusesRightly im) is (λ g e. subst (RefusesRightly im) (sym e) right)
+
+-- what holds of an answer
+pub given : {T E : Type 0} (r : Result T E) (P Q : T → Type 0) → IfOk r P → ((x : T) → P x → Q x) → IfOk r Q
+given (Ok x) P Q p so = so x p
+given (Err f) P Q p so = tt
 
 -- what holds where a call succeeded
 pub held : {T E : Type 0} (r : Result T E) (P Q : Type 0) → OnOk r P → (P → Q) → OnOk r Q

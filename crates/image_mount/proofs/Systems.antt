@@ -1,11 +1,12 @@
 -- The system files that were found, as a layout of the image.
-use Rattle.std.proofs.Common.{◌≡◌, ◌<◌, ℕ, List, [], length, Vec, Global, refl, sym, ap, subst, arith}
+use Rattle.std.proofs.Common.{◌≡◌, ◌<◌, ℕ, true, List, [], length, Vec, Global, refl, sym, ap, subst, arith}
 use Rattle.std.specs.Prelude.{codes, map}
 use Rattle.std.proofs.lemmas.List.{length-map}
 use Rattle.gfs2_layout.specs.declared.rindex.Rindex.{Rindex}
 use Rattle.gfs2_layout.specs.declared.superblock.SuperBlock.{SuperBlock}
 use Rattle.glock_names.specs.declared.steps.Entry.{Entry}
-use Rattle.image_model.specs.Claims.{Claims, LeadsTo, master_of}
+use Rattle.gfs2_layout.specs.Inode.{is_hashed_in}
+use Rattle.image_model.specs.Claims.{every, Claims, LeadsTo, master_of}
 use Rattle.image_model.specs.Image.{Image, superblock_in}
 use Rattle.image_model.specs.Journals.{journal_name}
 use Rattle.image_model.specs.Owners.{Named}
@@ -15,7 +16,7 @@ use Rattle.image_mount.specs.Found.{HasFormat, HasMaster, HasGroups, AreJournalN
 use Rattle.image_mount.specs.Groups.{IsListLink, AreGroups}
 use Rattle.image_mount.specs.System.{AreFilesOf, AreJournalsOf, IsSystemOf}
 use Rattle.image_mount.specs.declared.system.SystemFiles.{SystemFiles}
-use Rattle.image_mount.specs.Looks.{HasTrueRecord, IsLookedAt, IsTrueEntry}
+use Rattle.image_mount.specs.Looks.{HasSoundLeaves, HasTrueRecord, IsLookedAt, IsSoundDirectory, IsTrueEntry}
 use Rattle.image_mount.proofs.Looks.{true_record}
 use Rattle.image_mount.proofs.Names.{from_mapped}
 
@@ -48,9 +49,9 @@ module _ (im : Image) (sb : SuperBlock) (files : SystemFiles) (format : HasForma
     short = are.short;
   }
 
-  pub system_of : (groups : Vec Rindex Global) (journals : Vec Entry Global) → sb.master.address < im.count → IsLookedAt im sb.master.address → IsTrueEntry im files.rindex.entry → IsTrueEntry im files.jindex.entry → AreGroups im files.rindex.entry.addr groups.items → AreJournalsOf im files.jindex.entry.addr journals.items
+  pub system_of : (groups : Vec Rindex Global) (journals : Vec Entry Global) → sb.master.address < im.count → IsLookedAt im sb.master.address → IsSoundDirectory im sb.master.address sb.master.address → (is_hashed_in (every im sb.master.address) ≡ true → HasSoundLeaves im sb.master.address) → IsTrueEntry im files.rindex.entry → IsTrueEntry im files.jindex.entry → AreGroups im files.rindex.entry.addr groups.items → AreJournalsOf im files.jindex.entry.addr journals.items
       → IsSystemOf im (record { superblock = sb; rindex = files.rindex.entry.addr; groups = groups; jindex = files.jindex.entry.addr; journals = journals })
-  system_of groups journals inside looked rindex jindex are names =
+  system_of groups journals inside looked sound leaves rindex jindex are names =
       let addresses = map (λ (e : Entry). e.addr) journals.items in
       let count : length addresses ≡ length journals.items = length-map journals.items (λ (e : Entry). e.addr) in
       record {
@@ -69,7 +70,10 @@ module _ (im : Image) (sb : SuperBlock) (files : SystemFiles) (format : HasForma
         rindex_record = subst (λ a. HasTrueRecord im a (codes "rindex") files.rindex.entry.addr) (sym same_master) (true_record im (master_of im) files.rindex.from (codes "rindex") files.rindex.entry of.rindex rindex);
         jindex_record = subst (λ a. HasTrueRecord im a (codes "jindex") files.jindex.entry.addr) (sym same_master) (true_record im (master_of im) files.jindex.from (codes "jindex") files.jindex.entry of.jindex jindex);
         master_looked = looked;
+        master_sound = sound;
+        master_leaves = leaves;
         rindex_looked = are.looked;
+        rindex_headed = are.headed;
         master_inside = inside;
         rindex_inside = are.inside;
         journals = names;

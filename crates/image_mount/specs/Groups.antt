@@ -13,7 +13,7 @@ use Rattle.image_model.specs.Rules.{HasRecordIn}
 use Rattle.image_model.specs.Stands.{Layout}
 use Rattle.image_mount.specs.Found.{HasList, HasMaster}
 use Rattle.image_mount.specs.Listing.{IsEntryOf}
-use Rattle.image_mount.specs.Looks.{IsLookedAt}
+use Rattle.image_mount.specs.Looks.{HasHeadedContent, IsLookedAt}
 use Rattle.image_mount.specs.declared.listing.Link.{Link}
 
 -- what a record of this name says, in block `from` of the directory with its dinode in block a: by it alone the name leads on
@@ -50,6 +50,7 @@ pub record IsListOf (im : Image) (size count list : ℕ) (listed : List Rindex) 
 pub record AreGroups (im : Image) (list : ℕ) (groups : List Rindex) : Type 0 where
   pub inside : list < im.count
   pub looked : IsLookedAt im list
+  pub headed : HasHeadedContent im list
   pub whole : (dinode_in (every im list)).size % entry_length ≡ 0
   pub listed : groups_in (content_of (every im list)) ≡ groups
   pub some : 1 ≤ length groups

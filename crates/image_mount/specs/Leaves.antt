@@ -1,9 +1,13 @@
 -- The walk over the leaves of a hashed directory, as the code has it.
 use Rattle.std.specs.Prelude.{ℕ, ◌≡◌, ◌≢◌, ◌⊎◌, ◌+◌, ◌-◌, ◌*◌, ◌^◌, ◌<◌, ◌≤◌, true, false, List, length, map, flat_map, Contains, Option, None, Some, IfSome, slice_get}
 use Rattle.std.specs.List.Sorted.{IsStrictlyIncreasing}
+use Rattle.crc_words.specs.Remainder.{crc32_of}
+use Rattle.gfs2_layout.specs.Bytes.{u32_at}
 use Rattle.gfs2_layout.specs.Device.{superblock_place}
+use Rattle.gfs2_layout.specs.Headers.{HasHeader}
+use Rattle.gfs2_layout.specs.Holding.{Holding}
 use Rattle.dinode_tree.specs.Reading.{IsRightDinode}
-use Rattle.gfs2_layout.specs.Inode.{dinode_in, is_directory_in, is_hashed_in, content_of, depth_in, table_count, entry, first_hash, leaf_in}
+use Rattle.gfs2_layout.specs.Inode.{dinode_in, is_directory_in, is_hashed_in, content_of, depth_in, table_count, entry, first_hash, leaf_in, leaf_area, top_bits, IsLeaf}
 use Rattle.gfs2_layout.specs.Records.{Record}
 use Rattle.image_model.specs.Claims.{every, Claims, master_of}
 use Rattle.image_model.specs.Image.{Image}
@@ -16,7 +20,7 @@ use Rattle.image_reader.specs.declared.hash_table.HashTable.{HashTable}
 use Rattle.image_reader.specs.declared.owners.Claim.{Claim}
 use Rattle.image_mount.specs.Found.{HasFormat, IsInChain, ComesBefore, is_other, first_other}
 use Rattle.image_mount.specs.Listing.{said, AreDistinct}
-use Rattle.image_mount.specs.Looks.{IsTableSized}
+use Rattle.image_mount.specs.Looks.{HasHeadedContent, IsInRun, IsSoundArea, IsTableSized, LeadsToLeaf}
 use Rattle.image_mount.specs.declared.inodes.Inode.{Inode}
 use Rattle.image_mount.specs.declared.leaf.LeafAt.{LeafAt}
 use Rattle.image_mount.specs.declared.leaf.LeafWalk.{LeafWalk}
@@ -40,19 +44,37 @@ pub record IsTableOf (im : Image) (inode : Inode) (table : HashTable) : Type 0 w
   pub content : table.bytes.items ≡ content_of (every im inode.block)
   pub size : (dinode_in (every im inode.block)).size ≡ 8 * 2 ^ table.depth
   pub sized : IsTableSized im inode.block
+  pub headed : HasHeadedContent im inode.block
 
 -- ---- a leaf
+
+-- the head of a leaf of the directory in block a: its header, the format of its records, and a depth that is at most the table's
+pub record IsLeafHead (im : Image) (a x : ℕ) : Type 0 where
+  pub header : HasHeader 6 600 (im.at x)
+  pub records_format : u32_at 28 (im.at x) ≡ 1200
+  pub depth : (leaf_in (every im a) x).depth ≤ depth_in (every im a)
 
 -- the directory in block a has this leaf, at its place in the chain of a pointer; the pointers from that one to `behind` lead to the chain
 pub record IsLeafIn (im : Image) (a : ℕ) (at : LeafAt) : Type 0 where
   pub inside : at.block < im.count
   pub head : at.head ≡ leaf_in (every im a) at.block
+  pub well : IsLeafHead im a at.block
   pub claimed : (by : ℕ) × Claims im by at.block (Chained a at.hash at.place)
   pub chain : IsInChain (every im a) at.pointer at.place at.block
   pub hash : at.hash ≡ first_hash (every im a) at.pointer
   pub some : at.pointer < at.behind
   pub within : at.behind ≤ table_count (every im a)
-  pub run : (j : ℕ) → at.pointer ≤ j → j < at.behind → (entry (every im a) j ≡ entry (every im a) at.pointer) × (first_hash (every im a) j ≡ at.hash)
+  pub run : (j : ℕ) → at.pointer ≤ j → j < at.behind → (entry (every im a) j ≡ entry (every im a) at.pointer) × (first_hash (every im a) j ≡ at.hash) × IsInRun (every im a) at.pointer j
+  pub pointed : LeadsToLeaf (every im a) at.pointer
+
+-- the record has the hash of the leaf's chain, as far as the leaf is deep
+abbrev pub HasHashOf : LeafAt → Named → Type 0
+HasHashOf at n = top_bits at.head.depth (crc32_of n.name.now) ≡ top_bits at.head.depth at.hash
+
+-- the block is a leaf of the chain for the hashes from this one on, whose records are right
+pub record IsSoundLeaf (im : Image) (a hash x : ℕ) : Type 0 where
+  pub area : IsSoundArea (leaf_area (every im a) x)
+  pub leaf : IsLeaf (every im a) hash x
 
 -- ---- the walk
 
@@ -90,6 +112,11 @@ pub record IsOpen (im : Image) (a : ℕ) (walk : LeafWalk) (at : LeafAt) : Type 
   pub is : IsLeafIn im a at
   pub claimed : HasClaim walk.owners.entries.items at.block (Chained a at.hash at.place)
 
+-- each leaf that is claimed has its next one as deep as itself; but for one, where one is open
+abbrev pub AreDeep : Holding → List (Option Claim) → Option ℕ → Type 0
+AreDeep h entries opened = (x hash place : ℕ) → HasClaim entries x (Chained h.own hash place) → opened ≢ Some x → (leaf_in h x).next ≢ 0
+    → (leaf_in h (leaf_in h x).next).depth ≡ (leaf_in h x).depth
+
 -- how far a walk over the leaves of the directory in block a has come
 pub record IsWalked (im : Image) (a : ℕ) (walk : LeafWalk) : Type 0 where
   pub claims : AreClaims im walk.owners.entries.items
@@ -100,6 +127,9 @@ pub record IsWalked (im : Image) (a : ℕ) (walk : LeafWalk) : Type 0 where
   pub passed : (j place y : ℕ) → IsPassed walk.tail walk.index j place → IsInChain (every im a) j place y → HasClaim walk.owners.entries.items y (Chained a (first_hash (every im a) j) place)
   pub listed : (x hash place : ℕ) → HasClaim walk.owners.entries.items x (Chained a hash place) → IsListed im a x walk.records.items
   pub found : (k : ℕ) (n : Named) → slice_get walk.records.items k ≡ Some n → IsFoundIn im a walk.owners.entries.items n
+  pub sound : (x hash place : ℕ) → HasClaim walk.owners.entries.items x (Chained a hash place) → IsSoundLeaf im a hash x
+  pub pointed : (j : ℕ) → j < walk.index → LeadsToLeaf (every im a) j
+  pub deep : AreDeep (every im a) walk.owners.entries.items (block_of walk.tail)
   pub distinct : AreDistinct (map said walk.records.items)
   pub leaves : AreLeavesOf im a walk.owners.entries.items (map said walk.records.items)
 
@@ -116,6 +146,7 @@ pub record IsBehind (tail at : LeafAt) : Type 0 where
   pub place : at.place ≡ tail.place + 1
   pub pointer : at.pointer ≡ tail.pointer
   pub behind : at.behind ≡ tail.behind
+  pub depth : at.head.depth ≡ tail.head.depth
 
 -- the leaf to which a walk comes next: behind that which is open, or the first of the next pointer's chain
 abbrev pub ComesNext : LeafWalk → LeafAt → Type 0

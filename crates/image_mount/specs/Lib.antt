@@ -9,3 +9,4 @@ pub mod Groups
 pub mod System
 pub mod Rings
 pub mod Looks
+pub mod Marked

@@ -1,8 +1,9 @@
 -- The records of a directory, as the code has them.
-use Rattle.std.specs.Prelude.{ℕ, ◌≡◌, ◌<◌, ◌&&◌, Bool, true, false, List, length, map, filter, slice_get, Some}
+use Rattle.std.specs.Prelude.{ℕ, ◌≡◌, ◌+◌, ◌<◌, ◌&&◌, Bool, true, false, List, length, map, filter, codes, slice_get, Some}
+use Rattle.file_tree.specs.Names.{IsName}
 use Rattle.gfs2_layout.specs.Area.{Slot}
 use Rattle.gfs2_layout.specs.Inode.{dinode_in, has_hash_flag, is_hashed_in, linear_area}
-use Rattle.gfs2_layout.specs.Records.{Record, record_of, records_in}
+use Rattle.gfs2_layout.specs.Records.{Record, record_of, records_in, is_dots}
 use Rattle.gfs2_layout.specs.Structures.{dinode_of, is_directory, is_in_use}
 use Rattle.gfs2_layout.specs.declared.dinode.Dinode.{Dinode}
 use Rattle.gfs2_layout.specs.declared.dirent.Dirent.{Dirent}
@@ -67,6 +68,25 @@ pub record AreAllRecords (im : Image) (a : ℕ) (records : List Named) : Type 0 
 -- a directory has so many records, and so many directories among them
 abbrev pub AreCountedIn : Image → ℕ → List Record → Type 0
 AreCountedIn im a records = (all : List Record) × HasRecords im a all × (length all ≡ length records) × (directory_count all ≡ directory_count records)
+
+-- the record is `.`, `..`, or has a name
+abbrev pub HasItsOwnName : Named → Type 0
+HasItsOwnName n = is_dots n.name.now ≡ false → IsName n.name.now
+
+-- one of these has this name, and leads to this block
+pub record LeadsAmong (records : List Named) (name : List ℕ) (block : ℕ) : Type 0 where
+  pub index : ℕ
+  pub row : Named
+  pub there : slice_get records index ≡ Some row
+  pub named : row.name.now ≡ name
+  pub leads : row.entry.addr ≡ block
+
+-- these have the two dots of a directory with this dinode, below the one in block `parent`, and are as many as it says
+pub record AreRowsOf (inode : Inode) (parent : ℕ) (records : List Named) : Type 0 where
+  pub dot : LeadsAmong records (codes ".") inode.block
+  pub dots : LeadsAmong records (codes "..") parent
+  pub entries : inode.dinode.entries ≡ length records
+  pub links : inode.dinode.nlink ≡ 2 + directory_count (map said records)
 
 -- no name comes twice
 abbrev pub AreDistinct : List Record → Type 0

@@ -1,12 +1,11 @@
 -- What is told of an image that is mounted.
-use Rattle.std.specs.Prelude.{ℕ, ◌≡◌, List, length, map, slice_get, Some}
-use Rattle.std.specs.List.{range_with_len}
-use Rattle.glock_names.specs.Views.{AreGroups, group_of_entry}
+use Rattle.std.specs.Prelude.{ℕ, ◌≡◌, ◌≤◌, List, length, map, slice_get, Some}
+use Rattle.std.specs.List.{AllByRecursion, range_with_len}
+use Rattle.glock_names.specs.Views.{AreGroups, end_of, group_of_entry}
 use Rattle.glock_names.specs.declared.views.Group.{Group}
 use Rattle.gfs2_layout.specs.Inode.{content_block}
 use Rattle.gfs2_layout.specs.Journal.{ring_of, head_in}
 use Rattle.gfs2_layout.specs.declared.log_header.LogHeader.{LogHeader}
-use Rattle.gfs2_layout.specs.declared.rindex.Rindex.{Rindex}
 use Rattle.gfs2_layout.specs.declared.superblock.SuperBlock.{SuperBlock}
 use Rattle.image_model.specs.Claims.{every}
 use Rattle.image_model.specs.Image.{Image, superblock_in}
@@ -51,6 +50,6 @@ pub record IsOfProfile (im : Image) : Type 0 where
   pub laid : IsLaid im owners layout
   pub profile : IsInProfile im layout
 
--- what is mounted has groups such as every view has
+-- what is mounted has groups such as every view has, and each of them ends on the device
 abbrev pub GroupsAreAsSeen : Type 0
-GroupsAreAsSeen = (im : Image) (m : MountedValue) → IsMounted im m → AreGroups im.size m.groups
+GroupsAreAsSeen = (im : Image) (m : MountedValue) → IsMounted im m → AreGroups im.size m.groups × AllByRecursion (λ g. end_of g ≤ im.count) m.groups

@@ -22,8 +22,19 @@ use Rattle.image_mount.specs.declared.field.Field.TheVariants as field
 use Rattle.image_mount.specs.declared.fault.MountFault.{MountFault}
 use Rattle.image_mount.specs.declared.fault.MountFault.TheVariants as fault
 
+-- how many blocks the journal with its dinode in block d has is within
+abbrev pub IsJournalSized : Image → ℕ → Type 0
+IsJournalSized im d = (least_journal_blocks ≤ (ring_of (every im d)).places) × ((ring_of (every im d)).places ≤ most_journal_blocks)
+
+-- so is the sequence of its head
+pub record HasLowHead (im : Image) (d : ℕ) : Type 0 where
+  pub head : LogHeader
+  pub is : head_in (ring_of (every im d)) ≡ Some head
+  pub low : head.sequence < 2 ^ 63
+
 -- A field in which the image is outside the profile, with what it says there. Mounting looks at the fields in this order, so
--- each is told only where those before it are within.
+-- each is told only where those before it are within. It looks how many blocks each journal in turn has, and then at each
+-- head in turn.
 pub data IsOutside (im : Image) : Field → ℕ → Type 0 where
   device : most_blocks < im.count → IsOutside im field.Device im.count
   fs_format : HasSuper im → (superblock_in im).fs_format ≢ 1801 → IsOutside im field.FsFormat (superblock_in im).fs_format
@@ -46,15 +57,16 @@ pub data IsOutside (im : Image) : Field → ℕ → Type 0 where
   journals : (l : Layout) (records : List Record) → HasGroups im l → HasRecords im l.jindex records
       → ((1 ≤ name_count records) × (name_count records ≤ most_journals) × AreJournalNames records (name_count records) → ⊥) → IsOutside im field.Journals (name_count records)
   -- how many blocks a journal has
-  journal : (l : Layout) (j d : ℕ) → HasNames im l → IsJournalAt l j d → ((least_journal_blocks ≤ (ring_of (every im d)).places) × ((ring_of (every im d)).places ≤ most_journal_blocks) → ⊥)
+  journal : (l : Layout) (j d : ℕ) → HasNames im l → ((i c : ℕ) → i < j → IsJournalAt l i c → IsJournalSized im c) → IsJournalAt l j d → (IsJournalSized im d → ⊥)
       → IsOutside im field.Journal (ring_of (every im d)).places
   -- the sequence of a journal's head
-  sequence : (l : Layout) (j d : ℕ) (head : LogHeader) → HasNames im l → IsJournalAt l j d → head_in (ring_of (every im d)) ≡ Some head → 2 ^ 63 ≤ head.sequence
-      → IsOutside im field.Sequence head.sequence
+  sequence : (l : Layout) (j d : ℕ) (head : LogHeader) → HasNames im l → ((i c : ℕ) → IsJournalAt l i c → IsJournalSized im c) → ((i c : ℕ) → i < j → IsJournalAt l i c → HasLowHead im c)
+      → IsJournalAt l j d → head_in (ring_of (every im d)) ≡ Some head → 2 ^ 63 ≤ head.sequence → IsOutside im field.Sequence head.sequence
 
--- a block that mounting reads: the superblock, or one that it leads to
-abbrev pub IsReached : Image → ℕ → Type 0
-IsReached im b = (b ≡ superblock_place im.size) ⊎ ((by : ℕ) × ((o : Owner) × Claims im by b o))
+-- a block that may be read: the device has it, and it is the superblock or one that is reached from it
+pub record IsReached (im : Image) (b : ℕ) : Type 0 where
+  pub inside : b < im.count
+  pub claimed : (b ≡ superblock_place im.size) ⊎ ((by : ℕ) × ((o : Owner) × Claims im by b o))
 
 -- The cause of each refusal in the image. A broken rule behind the superblock is told only where the formats are those of the profile.
 abbrev pub RefusesRightly : Image → MountFault → Type 0

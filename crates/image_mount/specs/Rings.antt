@@ -1,7 +1,8 @@
 -- What is known of the image while the journals are looked for.
-use Rattle.std.specs.Prelude.{ℕ, ◌≡◌, ◌≢◌, ◌⊎◌, ◌^◌, ◌%◌, ◌<◌, ◌≤◌, true, List, length, map, Contains, slice_get, slice_index, Some}
+use Rattle.std.specs.Prelude.{ℕ, ◌≡◌, ◌≢◌, ◌⊎◌, ◌^◌, ◌%◌, ◌<◌, ◌≤◌, true, List, length, map, flat_map, Contains, slice_get, slice_index, Some}
 use Rattle.profile_limits.specs.Limits.{least_journal_blocks, most_journal_blocks}
 use Rattle.std.specs.List.{All, range_with_len}
+use Rattle.dinode_tree.specs.Reading.{IsHeadedWay}
 use Rattle.dinode_tree.specs.declared.locating.Located.{Located}
 use Rattle.gfs2_layout.specs.Device.{superblock_place}
 use Rattle.gfs2_layout.specs.Inode.{Leads, dinode_in, content_block}
@@ -17,7 +18,7 @@ use Rattle.image_model.specs.Stands.{Layout, IsJournalAt}
 use Rattle.image_mount.specs.Found.{HasNames}
 use Rattle.image_mount.specs.Looks.{IsTrueEntry, IsLookedAt}
 use Rattle.image_mount.specs.Mounted.{Journal, IsJournalOf}
-use Rattle.image_mount.specs.Refusals.{IsReached}
+use Rattle.image_mount.specs.Refusals.{IsJournalSized, IsReached}
 use Rattle.image_mount.specs.Searching.{IsSystemFile, IsWanted}
 use Rattle.image_mount.specs.Groups.{IsNamedIn}
 use Rattle.image_mount.specs.System.{IsSystemOf}
@@ -45,12 +46,13 @@ pub record IsSearched (im : Image) (done : List ℕ) (d n : ℕ) (k : Kept) : Ty
   pub wanted : AreWanted im k
   pub marked : (b : ℕ) → slice_get k.places b ≡ Some true → IsPlace im done d n b
 
--- a journal by its record in the directory of journals, whose dinode is in this block
+-- a journal by its record in the directory of journals, whose dinode is in this block; those before it are as large as they may be
 pub record IsJournalIn (im : Image) (jindex : ℕ) (journal : Entry) : Type 0 where
   pub layout : Layout
   pub names : HasNames im layout
   pub jindex_is : layout.jindex ≡ jindex
   pub index : ℕ
+  pub before : (i d : ℕ) → i < index → IsJournalAt layout i d → IsJournalSized im d
   pub at : IsJournalAt layout index journal.addr
   pub named : IsNamedIn im jindex jindex (journal_name index) journal
 
@@ -76,11 +78,13 @@ pub record IsPlaceAt (im : Image) (d place : ℕ) (located : Located) : Type 0 w
   pub inside : located.from < im.count
   pub block : located.block ≡ content_block (every im d) place
   pub leads : (k : ℕ) × Leads (every im d) located.from k 0 place located.block
+  pub headed : IsHeadedWay (every im d) place
 
 -- the blocks at the first so many places of a journal
 pub record AreBlocksOf (im : Image) (d n : ℕ) (blocks : List ℕ) : Type 0 where
   pub all : blocks ≡ map (content_block (every im d)) (range_with_len 0 n)
   pub reached : All (IsReached im) blocks
+  pub headed : (p : ℕ) → p < n → IsHeadedWay (every im d) p
 
 -- the blocks at all places of the journal with its dinode in block d
 pub record IsRingOf (im : Image) (d : ℕ) (blocks : List ℕ) : Type 0 where
@@ -92,6 +96,10 @@ pub record AreRings (im : Image) (journals : List Entry) (rings : List Ring) : T
   pub dinodes : map (λ (ring : Ring). ring.dinode) rings ≡ map (λ (e : Entry). e.addr) journals
   pub each : All (λ (ring : Ring). IsRingOf im ring.dinode ring.blocks.items) rings
   pub entries : All (IsTrueEntry im) journals
+
+-- the blocks at the places of all these journals
+abbrev pub all_places : List Ring → List ℕ
+all_places rings = flat_map (λ (ring : Ring). ring.blocks.items) rings
 
 -- what is mounted of a journal, whose sequence is one of the profile
 pub record IsLowJournal (im : Image) (journal : Journal) : Type 0 where

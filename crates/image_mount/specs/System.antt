@@ -11,8 +11,10 @@ use Rattle.image_model.specs.Rules.{HasRecordIn, HasRecords}
 use Rattle.image_model.specs.Stands.{Layout}
 use Rattle.image_mount.specs.Found.{is_other, AreJournalNames, HasNames}
 use Rattle.image_mount.specs.Groups.{IsNamedIn}
+use Rattle.image_mount.specs.Kept.{Kept}
 use Rattle.image_mount.specs.Leaves.{IsMasterIn}
-use Rattle.image_mount.specs.Looks.{HasTrueRecord, IsLookedAt, IsTableSized}
+use Rattle.image_mount.specs.Looks.{HasHeadedContent, HasSoundLeaves, HasTrueRecord, IsLookedAt, IsSoundDirectory, IsTableSized}
+use Rattle.image_mount.specs.Marked.{IsKept}
 use Rattle.image_mount.specs.Listing.{said, AreAllRecords, AreDistinct}
 use Rattle.image_mount.specs.declared.master.Master.{Master}
 use Rattle.image_mount.specs.declared.listing.Link.{Link}
@@ -35,9 +37,16 @@ pub record IsMasterOf (im : Image) (master : Master) : Type 0 where
   pub superblock : master.superblock ≡ superblock_in im
   pub inode : IsMasterIn im master.inode
 
--- these are all records of the master directory, where it is a hashed one, and its table has its size
+-- these are all records of a hashed master directory, its table has its size, and they are right
+pub record AreHashedNames (im : Image) (a : ℕ) (names : List Item) : Type 0 where
+  pub plain : ArePlainRecords im a names
+  pub sized : IsTableSized im a
+  pub sound : IsSoundDirectory im a a
+  pub leaves : HasSoundLeaves im a
+
+-- these are the records of the master directory, where it is a hashed one
 abbrev pub IsNamedBy : Image → Master → List Item → Type 0
-IsNamedBy im master names = is_hashed_in (every im master.inode.block) ≡ true → ArePlainRecords im master.inode.block names × IsTableSized im master.inode.block
+IsNamedBy im master names = is_hashed_in (every im master.inode.block) ≡ true → AreHashedNames im master.inode.block names
 
 -- the files that the master directory names, and it names no others
 pub record AreFilesOf (im : Image) (files : SystemFiles) : Type 0 where
@@ -75,6 +84,7 @@ pub record AreJournalsAmong (items : List Item) (journals : List Entry) : Type 0
 -- these are the journals that the directory in block a names
 pub record AreJournalsOf (im : Image) (a : ℕ) (journals : List Entry) : Type 0 where
   pub looked : IsLookedAt im a
+  pub sound : IsSoundDirectory im a (master_of im)
   pub some : 1 ≤ length journals
   pub few : length journals ≤ 8
   pub named : (records : List Record) → HasRecords im a records → AreJournalNames records (length journals)
@@ -92,6 +102,12 @@ layout_of s = record {
   journals = map (λ (e : Entry). e.addr) s.journals.items;
 }
 
+-- the dinodes of the master directory, of the list of groups and of the directory of journals are kept
+pub record HasDinodes (im : Image) (k : Kept) (s : System) : Type 0 where
+  pub master : IsKept k (master_of im)
+  pub rindex : IsKept k s.rindex
+  pub jindex : IsKept k s.jindex
+
 -- the system files were looked at, as far as the journals' records
 pub record IsSystemOf (im : Image) (s : System) : Type 0 where
   pub superblock : s.superblock ≡ superblock_in im
@@ -101,7 +117,10 @@ pub record IsSystemOf (im : Image) (s : System) : Type 0 where
   pub rindex_record : HasTrueRecord im s.superblock.master.address (codes "rindex") s.rindex
   pub jindex_record : HasTrueRecord im s.superblock.master.address (codes "jindex") s.jindex
   pub master_looked : IsLookedAt im s.superblock.master.address
+  pub master_sound : IsSoundDirectory im s.superblock.master.address s.superblock.master.address
+  pub master_leaves : is_hashed_in (every im s.superblock.master.address) ≡ true → HasSoundLeaves im s.superblock.master.address
   pub rindex_looked : IsLookedAt im s.rindex
+  pub rindex_headed : HasHeadedContent im s.rindex
   pub master_inside : s.superblock.master.address < im.count
   pub rindex_inside : s.rindex < im.count
   pub journals : AreJournalsOf im s.jindex s.journals.items

@@ -3,6 +3,7 @@ ghost use Rattle.gfs2_layout.specs.Device.{IsBlockSize};
 ghost use Rattle.shared_disk.specs.Disk.{IsIdle};
 ghost use Rattle.shared_disk.specs.Disk.{ReadsOnly};
 ghost use Rattle.image_model.specs.Image.{Image, image_of};
+ghost use Rattle.image_mount.specs.Marked.{IsGrown, marks_of};
 ghost use Rattle.image_mount.specs.Refusals.{HasRisen, RefusesRightly};
 ghost use Rattle.image_mount.specs.Rings.{IsSearched};
 ghost use Rattle.image_mount.specs.Searching.{FailsAt, IsWanted, IsWorking, LacksBlock, StopsRightly};
@@ -43,6 +44,7 @@ pub(crate) fn read_into<D: SharedDisk>(
 // Why a block is not read whose number stands in block `from`: it is not on the device, or it is a place of a journal.
 fn check_readable(table: &KeptBlocks, count: u64, block: u64, from: u64) -> Result<(), MountFault>
     ensures inside { OnOk result (block < count) }
+    ensures unmarked { OnOk result (marks_of table.now block ≡ 0) }
     ensures refused { (im : Image) (done : List ℕ) (d n : ℕ) → table.now.size ≡ im.size → count ≡ im.count → IsWanted im block from → IsSearched im done d n table.now → IfErr result (RefusesRightly im) }
     ensures steady { IfErr result (λ fault. (f g : ℕ → ℕ) → HasRisen f g fault) }
 {
@@ -74,6 +76,7 @@ pub(crate) fn fetch<D: SharedDisk>(
         → IfErr result (RefusesRightly (image_of (D.state disk.old))) }
     ensures falls { OnOk result (table.new.left + 1 ≡ table.old.left) }
     ensures places { table.new.places ≡ table.old.places }
+    ensures grown { OnOk result (IsGrown table.old table.new) }
     ensures risen { IfErr result (HasRisen (D.faults disk.old) (D.faults disk.new)) }
     ensures reads { ReadsOnly (D.state disk.old) (D.state disk.new) (D.list disk.old) (D.list disk.new) (D.faults disk.old) (D.faults disk.new) }
 {
@@ -100,6 +103,7 @@ pub(crate) fn go_on<D: SharedDisk>(
         → IfErr result (RefusesRightly (image_of (D.state disk.old))) }
     ensures falls { OnOk result (table.new.left + 1 ≡ table.old.left) }
     ensures places { table.new.places ≡ table.old.places }
+    ensures grown { OnOk result (IsGrown table.old table.new) }
     ensures risen { IfErr result (HasRisen (D.faults disk.old) (D.faults disk.new)) }
     ensures reads { ReadsOnly (D.state disk.old) (D.state disk.new) (D.list disk.old) (D.list disk.new) (D.faults disk.old) (D.faults disk.new) }
 {

@@ -9,6 +9,7 @@ ghost use Rattle.image_model.specs.Owners.{Owner, is_dinode};
 ghost use Rattle.image_model.specs.Rules.{HasRecordIn, IsHashedAt};
 ghost use Rattle.image_mount.specs.Found.{HasFormat};
 ghost use Rattle.image_mount.specs.Looks.{IsSized, IsTrueEntry};
+ghost use Rattle.image_mount.specs.Marked.{IsKept};
 ghost use Rattle.image_mount.specs.Refusals.{RefusesRightly};
 ghost use Rattle.image_mount.specs.Searching.{IsRead, IsSteady, StopsRightly, LacksBlock};
 ghost use Rattle.image_mount.specs.Listing.{HasKeptDinode, IsEntryOf, is_hashed_by};
@@ -40,6 +41,7 @@ impl Inode {
         ensures fits { (im : Image) → IsRead im table.now → OnOk result (Fits (every im block)) }
         ensures right { (im : Image) → IsRead im table.now → OnOk result (IsRightDinode (every im block)) }
         ensures inside { (im : Image) → IsRead im table.now → OnOk result (block < im.count) }
+        ensures there { OnOk result (IsKept table.now block) }
         ensures stops { (im : Image) (o : Owner) → IsRead im table.now → Claims im from block o → is_dinode o ≡ true → HasFormat im → from < im.count → IfErr result (StopsRightly im) }
         ensures lacks { IfErr result (LacksBlock table.now) }
     {

@@ -1,4 +1,4 @@
-ghost use Rattle.std.specs.Prelude.{ℕ, ◌≡◌, ◌≢◌, ◌+◌, ◌<◌, ◌≤◌, ◌↔◌, ◌++◌, [], ◌∷◌, List, Contains, length, map, Some, IsTrue, OnOk, IfOk, IfErr};
+ghost use Rattle.std.specs.Prelude.{ℕ, ◌≡◌, ◌≢◌, ◌+◌, ◌<◌, ◌≤◌, ◌↔◌, ◌++◌, [], ◌∷◌, List, Contains, length, map, None, Some, IsTrue, OnOk, IfOk, IfErr};
 ghost use Rattle.std.specs.List.{All};
 ghost use Rattle.gfs2_layout.specs.Device.{superblock_place};
 ghost use Rattle.gfs2_layout.specs.Inode.{Fits};
@@ -10,9 +10,11 @@ ghost use Rattle.image_model.specs.Claims.{every};
 ghost use Rattle.image_model.specs.Image.{Image, image_of};
 ghost use Rattle.image_model.specs.Stands.{Layout, IsJournalAt};
 ghost use Rattle.image_mount.specs.Found.{HasNames};
-ghost use Rattle.image_mount.specs.Looks.{IsTrueEntry};
-ghost use Rattle.image_mount.specs.Refusals.{HasRisen, IsReached, RefusesRightly};
-ghost use Rattle.image_mount.specs.Rings.{IsSearched, IsJournalIn, IsNext, HasPlaces, IsPlaceAt, AreBlocksOf, IsRingOf, AreRings, AreJournals, IsHeadOf, ring_at};
+ghost use Rattle.image_mount.specs.Kept.{seen_of};
+ghost use Rattle.image_mount.specs.Looks.{IsInGroups, IsTrueEntry};
+ghost use Rattle.image_mount.specs.Marked.{AreMarked, IsGrown, IsKept, marks_of};
+ghost use Rattle.image_mount.specs.Refusals.{HasLowHead, HasRisen, IsJournalSized, IsReached, RefusesRightly};
+ghost use Rattle.image_mount.specs.Rings.{IsSearched, IsJournalIn, IsNext, HasPlaces, IsPlaceAt, AreBlocksOf, IsRingOf, AreRings, AreJournals, IsHeadOf, all_places, ring_at};
 ghost use Rattle.image_mount.specs.Searching.{IsRead, IsSteady, IsWorking, LacksBlock, StopsRightly};
 ghost use Rattle.image_mount.specs.System.{IsSystemOf};
 
@@ -47,6 +49,7 @@ pub(crate) struct Ring {
 fn place_count(table: &KeptBlocks, jindex: u64, journal: &Entry) -> Result<u64, Stop>
     ensures found { (im : Image) → IsRead im table.now → IfOk result (HasPlaces im journal.now.addr) }
     ensures repeats { (im : Image) → IsRead im table.now → OnOk result (IsTrueEntry im journal.now) }
+    ensures there { OnOk result (IsKept table.now journal.now.addr) }
     ensures stops { (im : Image) → IsRead im table.now → IsJournalIn im jindex journal.now → IfErr result (StopsRightly im) }
     ensures lacks { IfErr result (LacksBlock table.now) }
 {
@@ -74,7 +77,10 @@ fn count_places<D: SharedDisk>(
     journal: &Entry,
 ) -> Result<u64, MountFault>
     requires work { IsWorking (D.state disk.old) table.old }
+    ensures there { OnOk result (IsKept table.new journal.now.addr) }
     ensures work { OnOk result (IsWorking (D.state disk.new) table.new) }
+    ensures grown { OnOk result (IsGrown table.old table.new) }
+    ensures places { table.new.places ≡ table.old.places }
     ensures found { IfOk result (λ places. IsTrue (D.state disk.old).tells → HasPlaces (image_of (D.state disk.old)) journal.now.addr places) }
     ensures repeats { OnOk result (IsTrue (D.state disk.old).tells → IsTrueEntry (image_of (D.state disk.old)) journal.now) }
     ensures searched { OnOk result ((done : List ℕ) (d n : ℕ) → IsTrue (D.state disk.old).tells → IsJournalIn (image_of (D.state disk.old)) jindex journal.now → IsSearched (image_of (D.state disk.old)) done d n table.old
@@ -119,6 +125,8 @@ fn find_block<D: SharedDisk>(
 ) -> Result<Located, MountFault>
     requires work { IsWorking (D.state disk.old) table.old }
     ensures work { OnOk result (IsWorking (D.state disk.new) table.new) }
+    ensures grown { OnOk result (IsGrown table.old table.new) }
+    ensures places { table.new.places ≡ table.old.places }
     ensures found { IfOk result (λ located. IsTrue (D.state disk.old).tells → IsPlaceAt (image_of (D.state disk.old)) journal.now.addr place located) }
     ensures searched { OnOk result ((done : List ℕ) (d n places : ℕ) → IsTrue (D.state disk.old).tells → IsJournalIn (image_of (D.state disk.old)) jindex journal.now → HasPlaces (image_of (D.state disk.old)) journal.now.addr places → place < places
         → IsSearched (image_of (D.state disk.old)) done d n table.old → IsSearched (image_of (D.state disk.old)) done d n table.new) }
@@ -138,6 +146,9 @@ fn find_block<D: SharedDisk>(
 // That a place of a journal lies in a group's data blocks, and that its block is neither kept nor another's place.
 fn check_place(table: &KeptBlocks, system: &System, located: &Located) -> Result<(), MountFault>
     ensures inside { OnOk result (located.now.block < length table.now.entries) }
+    ensures placed { OnOk result (IsInGroups system.now.groups.items located.now.block) }
+    ensures unmarked { OnOk result (marks_of table.now located.now.block ≡ 0) }
+    ensures free { OnOk result ((seen_of table.now).block_at located.now.block ≡ None) }
     ensures apart { OnOk result ((im : Image) → IsSystemOf im system.now → located.now.block ≢ superblock_place im.size) }
     ensures refused { (im : Image) (done : List ℕ) (journal : EntryValue) (place : ℕ) → IsRead im table.now → IsNext im done system.now journal → IsSearched im done journal.addr place table.now
         → IsPlaceAt im journal.addr place located.now → IfErr result (RefusesRightly im) }
@@ -163,6 +174,7 @@ fn find_blocks<D: SharedDisk>(
 ) -> Result<Vec<u64>, MountFault>
     requires work { IsWorking (D.state disk.old) table.old }
     ensures work { OnOk result (IsWorking (D.state disk.new) table.new) }
+    ensures grown { OnOk result (IsGrown table.old table.new) }
     ensures found { IfOk result (λ blocks. (done : List ℕ) → IsTrue (D.state disk.old).tells → IsNext (image_of (D.state disk.old)) done system.now journal.now → HasPlaces (image_of (D.state disk.old)) journal.now.addr places
         → IsSearched (image_of (D.state disk.old)) done journal.now.addr 0 table.old → AreBlocksOf (image_of (D.state disk.old)) journal.now.addr places blocks.items) }
     ensures searched { OnOk result ((done : List ℕ) → IsTrue (D.state disk.old).tells → IsNext (image_of (D.state disk.old)) done system.now journal.now → HasPlaces (image_of (D.state disk.old)) journal.now.addr places
@@ -170,6 +182,8 @@ fn find_blocks<D: SharedDisk>(
     ensures refused { (done : List ℕ) → IsTrue (D.state disk.old).tells → IsNext (image_of (D.state disk.old)) done system.now journal.now → HasPlaces (image_of (D.state disk.old)) journal.now.addr places
         → IsSearched (image_of (D.state disk.old)) done journal.now.addr 0 table.old → IfErr result (RefusesRightly (image_of (D.state disk.old))) }
     ensures inside { IfOk result (λ blocks. All (λ b. b < (D.state disk.old).count) blocks.items) }
+    ensures placed { IfOk result (λ blocks. All (IsInGroups system.now.groups.items) blocks.items) }
+    ensures marked { IfOk result (λ blocks. AreMarked table.old table.new blocks.items) }
     ensures count { IfOk result (λ blocks. length blocks.items ≡ places) }
     ensures risen { IfErr result (HasRisen (D.faults disk.old) (D.faults disk.new)) }
     ensures reads { ReadsOnly (D.state disk.old) (D.state disk.new) (D.list disk.old) (D.list disk.new) (D.faults disk.old) (D.faults disk.new) }
@@ -205,7 +219,9 @@ fn find_ring<D: SharedDisk>(
     journal: &Entry,
 ) -> Result<Ring, MountFault>
     requires work { IsWorking (D.state disk.old) table.old }
+    ensures there { OnOk result (IsKept table.new journal.now.addr) }
     ensures work { OnOk result (IsWorking (D.state disk.new) table.new) }
+    ensures grown { OnOk result (IsGrown table.old table.new) }
     ensures dinode { IfOk result (λ ring. ring.dinode ≡ journal.now.addr) }
     ensures repeats { OnOk result (IsTrue (D.state disk.old).tells → IsTrueEntry (image_of (D.state disk.old)) journal.now) }
     ensures found { IfOk result (λ ring. (done : List ℕ) → IsTrue (D.state disk.old).tells → IsNext (image_of (D.state disk.old)) done system.now journal.now → IsSearched (image_of (D.state disk.old)) done 0 0 table.old
@@ -214,6 +230,8 @@ fn find_ring<D: SharedDisk>(
         → IsSearched (image_of (D.state disk.old)) (done ++ journal.now.addr ∷ []) 0 0 table.new) }
     ensures refused { (done : List ℕ) → IsTrue (D.state disk.old).tells → IsNext (image_of (D.state disk.old)) done system.now journal.now → IsSearched (image_of (D.state disk.old)) done 0 0 table.old → IfErr result (RefusesRightly (image_of (D.state disk.old))) }
     ensures inside { IfOk result (λ ring. All (λ b. b < (D.state disk.old).count) ring.blocks.items) }
+    ensures placed { IfOk result (λ ring. All (IsInGroups system.now.groups.items) ring.blocks.items) }
+    ensures marked { IfOk result (λ ring. AreMarked table.old table.new ring.blocks.items) }
     ensures risen { IfErr result (HasRisen (D.faults disk.old) (D.faults disk.new)) }
     ensures reads { ReadsOnly (D.state disk.old) (D.state disk.new) (D.list disk.old) (D.list disk.new) (D.faults disk.old) (D.faults disk.new) }
 {
@@ -232,9 +250,14 @@ pub(crate) fn find_rings<D: SharedDisk>(
 ) -> Result<Vec<Ring>, MountFault>
     requires work { IsWorking (D.state disk.old) table.old }
     ensures work { OnOk result (IsWorking (D.state disk.new) table.new) }
+    ensures grown { OnOk result (IsGrown table.old table.new) }
+    ensures kept { IfOk result (λ rings. All (λ (ring : Ring). IsKept table.new ring.dinode) rings.items) }
     ensures found { IfOk result (λ rings. IsTrue (D.state disk.old).tells → IsSystemOf (image_of (D.state disk.old)) system.now → IsSearched (image_of (D.state disk.old)) [] 0 0 table.old → AreRings (image_of (D.state disk.old)) system.now.journals.items rings.items) }
     ensures refused { IsTrue (D.state disk.old).tells → IsSystemOf (image_of (D.state disk.old)) system.now → IsSearched (image_of (D.state disk.old)) [] 0 0 table.old → IfErr result (RefusesRightly (image_of (D.state disk.old))) }
     ensures inside { IfOk result (λ rings. All (λ (ring : Ring). All (λ b. b < (D.state disk.old).count) ring.blocks.items) rings.items) }
+    ensures placed { IfOk result (λ rings. All (λ (ring : Ring). All (IsInGroups system.now.groups.items) ring.blocks.items) rings.items) }
+    ensures own { IfOk result (λ rings. All (λ (ring : Ring). (ring.dinode ≢ system.now.superblock.master.address) × (ring.dinode ≢ system.now.rindex)) rings.items) }
+    ensures marked { IfOk result (λ rings. AreMarked table.old table.new (all_places rings.items)) }
     ensures risen { IfErr result (HasRisen (D.faults disk.old) (D.faults disk.new)) }
     ensures reads { ReadsOnly (D.state disk.old) (D.state disk.new) (D.list disk.old) (D.list disk.new) (D.faults disk.old) (D.faults disk.new) }
 {
@@ -307,7 +330,8 @@ fn find_head<D: SharedDisk>(
     requires size { length bytes.old ≡ (D.state disk.old).size }
     requires inside { All (λ b. b < (D.state disk.old).count) ring.now.blocks.items }
     ensures found { IfOk result (λ head. IsTrue (D.state disk.old).tells → IsRingOf (image_of (D.state disk.old)) ring.now.dinode ring.now.blocks.items → IsHeadOf (image_of (D.state disk.old)) ring.now.dinode head) }
-    ensures refused { (l : Layout) (j : ℕ) → IsTrue (D.state disk.old).tells → HasNames (image_of (D.state disk.old)) l → IsJournalAt l j ring.now.dinode → IsRingOf (image_of (D.state disk.old)) ring.now.dinode ring.now.blocks.items
+    ensures refused { (l : Layout) (j : ℕ) → IsTrue (D.state disk.old).tells → HasNames (image_of (D.state disk.old)) l → ((i d : ℕ) → IsJournalAt l i d → IsJournalSized (image_of (D.state disk.old)) d)
+        → ((i d : ℕ) → i < j → IsJournalAt l i d → HasLowHead (image_of (D.state disk.old)) d) → IsJournalAt l j ring.now.dinode → IsRingOf (image_of (D.state disk.old)) ring.now.dinode ring.now.blocks.items
         → IfErr result (RefusesRightly (image_of (D.state disk.old))) }
     ensures risen { IfErr result (HasRisen (D.faults disk.old) (D.faults disk.new)) }
     ensures reads { ReadsOnly (D.state disk.old) (D.state disk.new) (D.list disk.old) (D.list disk.new) (D.faults disk.old) (D.faults disk.new) }

@@ -1,4 +1,4 @@
-ghost use Rattle.std.specs.Prelude.{◌≡◌, ◌≢◌, ◌+◌, ◌<◌, ◌≤◌, ⊤, true, false, length, count_by, is_none, slice_set, slice_get, Some, None, IsTrue, ◌↔◌, IfOk, IfErr, IfSome, IfNone, MatchOption};
+ghost use Rattle.std.specs.Prelude.{◌≡◌, ◌≢◌, ◌+◌, ◌<◌, ◌≤◌, [], ◌∷◌, ⊤, true, false, length, count_by, is_none, slice_set, slice_get, Some, None, IsTrue, ◌↔◌, IfOk, IfErr, IfSome, IfNone, MatchOption};
 ghost use Rattle.std.specs.List.{All};
 ghost use Rattle.gfs2_layout.specs.Device.{IsBlockSize};
 
@@ -34,6 +34,7 @@ impl Model for KeptBlocks {
 
 impl KeptBlocks {
     ghost use Rattle.image_mount.specs.Kept.{seen_of};
+    ghost use Rattle.image_mount.specs.Marked.{AreMarked, IsGrown, marks_of};
     ghost use Rattle.image_mount.specs.Searching.{IsSteady, LacksBlock};
     ghost use Rattle.image_mount.specs.declared.fault.MountFault.TheVariants as fault_of;
 
@@ -107,6 +108,8 @@ impl KeptBlocks {
     pub fn mark(&mut self, block: u64)
         requires { block < length self.old.entries }
         ensures places { self.new.places ≡ slice_set self.old.places block true }
+        ensures marked { marks_of self.old block ≡ 0 → AreMarked self.old self.new (block ∷ []) }
+        ensures grown { (seen_of self.old).block_at block ≡ None → IsGrown self.old self.new }
         ensures entries { self.new.entries ≡ self.old.entries }
         ensures size { self.new.size ≡ self.old.size }
         ensures left { self.new.left ≡ self.old.left }

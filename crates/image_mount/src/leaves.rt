@@ -1,6 +1,6 @@
 ghost use Rattle.std.specs.Prelude.{ℕ, ◌≡◌, ◌≢◌, ◌⊎◌, ◌+◌, ◌-◌, ◌*◌, ◌/◌, ◌^◌, ◌<◌, ◌≤◌, ◌++◌, ⊤, true, false, drop, length, map, vec_len, slice_get, is_some, None, Some, IfOk, OnOk, IfErr, IfSome, IfNone};
 ghost use Rattle.std.specs.List.{All};
-ghost use Rattle.gfs2_layout.specs.Inode.{depth_in, entry_block as block_of_entry, is_hashed_in};
+ghost use Rattle.gfs2_layout.specs.Inode.{depth_in, entry_block as block_of_entry, is_hashed_in, IsLeaf};
 ghost use Rattle.gfs2_layout.specs.Records.{records_in};
 ghost use Rattle.gfs2_layout.specs.Structures.{leaf_of};
 ghost use Rattle.image_model.specs.Claims.{every, Claims, master_of};
@@ -9,8 +9,9 @@ ghost use Rattle.image_model.specs.Owners.{Chained};
 ghost use Rattle.image_model.specs.Rules.{HasRecordIn};
 ghost use Rattle.gfs2_layout.specs.Records.{Record};
 ghost use Rattle.image_mount.specs.Found.{HasFormat, is_other, first_other as first_other_in};
-ghost use Rattle.image_mount.specs.Leaves.{IsMasterIn, IsTableOf, IsLeafIn, IsFirstTold, IsNextLeaf, IsWalked, ComesNext, HasEnded, steps_left};
+ghost use Rattle.image_mount.specs.Leaves.{HasHashOf, IsMasterIn, IsTableOf, IsLeafHead, IsLeafIn, IsFirstTold, IsNextLeaf, IsWalked, ComesNext, HasEnded, steps_left};
 ghost use Rattle.image_mount.specs.Listing.{said, standing, AreDistinct};
+ghost use Rattle.image_mount.specs.Looks.{IsSoundArea};
 ghost use Rattle.image_mount.specs.Refusals.{RefusesRightly};
 ghost use Rattle.image_mount.specs.Searching.{IsRead, IsSteady, StopsRightly, LacksBlock};
 ghost use Rattle.image_mount.specs.Kept.{seen_of};
@@ -81,6 +82,7 @@ fn read_head(table: &KeptBlocks, by: u64, number: u64, depth: u16) -> Result<Lea
     ensures low { IfOk result (λ leaf. leaf.depth ≤ depth) }
     ensures inside { (im : Image) → IsRead im table.now → OnOk result (number < im.count) }
     ensures kept { OnOk result ((seen_of table.now).block_at number ≢ None) }
+    ensures well { (im : Image) (a : ℕ) → IsRead im table.now → depth ≡ depth_in (every im a) → OnOk result (IsLeafHead im a number) }
     ensures stops { (im : Image) (a hash place : ℕ) → IsRead im table.now → HasFormat im → by < im.count → depth ≡ depth_in (every im a) → Claims im by number (Chained a hash place) → IfErr result (StopsRightly im) }
     ensures lacks { IfErr result (LacksBlock table.now) }
 {
@@ -101,8 +103,8 @@ fn read_head(table: &KeptBlocks, by: u64, number: u64, depth: u16) -> Result<Lea
 fn leaf_behind(table: &KeptBlocks, tail: &LeafAt, depth: u16) -> Result<LeafAt, Stop>
     requires depth { depth ≤ 15 }
     requires place { tail.now.place + 1 < 2 ^ 64 }
-    ensures behind { IfOk result (λ at. (at.block ≡ tail.now.head.next) × (at.hash ≡ tail.now.hash) × (at.place ≡ tail.now.place + 1) × (at.pointer ≡ tail.now.pointer) × (at.behind ≡ tail.now.behind)) }
-    ensures found { (im : Image) (a : ℕ) → IsRead im table.now → IsLeafIn im a tail.now → tail.now.head.next ≢ 0 → IfOk result (IsLeafIn im a) }
+    ensures behind { IfOk result (λ at. (at.block ≡ tail.now.head.next) × (at.hash ≡ tail.now.hash) × (at.place ≡ tail.now.place + 1) × (at.pointer ≡ tail.now.pointer) × (at.behind ≡ tail.now.behind) × (at.head.depth ≡ tail.now.head.depth)) }
+    ensures found { (im : Image) (a : ℕ) → IsRead im table.now → depth ≡ depth_in (every im a) → IsLeafIn im a tail.now → tail.now.head.next ≢ 0 → IfOk result (IsLeafIn im a) }
     ensures kept { IfOk result (λ at. (seen_of table.now).block_at at.block ≢ None) }
     ensures stops { (im : Image) (a : ℕ) → IsRead im table.now → HasFormat im → depth ≡ depth_in (every im a) → IsLeafIn im a tail.now → tail.now.head.next ≢ 0 → IfErr result (StopsRightly im) }
     ensures lacks { IfErr result (LacksBlock table.now) }
@@ -170,6 +172,7 @@ fn leaf_of_pointer(
 
 // That a leaf's records are as many as its head says.
 fn check_entries(records: &[Named<'_>], at: &LeafAt) -> Result<(), MountFault>
+    ensures counted { OnOk result (length records.now ≡ at.now.head.entries) }
     ensures refused { (im : Image) (a : ℕ) → HasFormat im → IsLeafIn im a at.now → map said records.now ≡ records_in (drop 104 (im.at at.now.block)) → IfErr result (RefusesRightly im) }
     ensures steady { IfErr result IsSteady }
 {
@@ -181,6 +184,7 @@ fn check_entries(records: &[Named<'_>], at: &LeafAt) -> Result<(), MountFault>
 
 // That a leaf's records have the hashes of its chain.
 fn check_hashes(records: &[Named<'_>], at: &LeafAt) -> Result<(), MountFault>
+    ensures hashed { OnOk result (All (HasHashOf at.now) records.now) }
     ensures refused { (im : Image) (a : ℕ) → HasFormat im → IsLeafIn im a at.now → map said records.now ≡ records_in (drop 104 (im.at at.now.block)) → IfErr result (RefusesRightly im) }
     ensures steady { IfErr result IsSteady }
 {
@@ -203,6 +207,8 @@ fn leaf_records<'a>(
     ensures found { IfOk result (λ records. map said records.items ≡ records_in (drop 104 bytes.now)) }
     ensures here { IfOk result (λ records. All (λ n. n.block ≡ at.now.block) records.items) }
     ensures distinct { IfOk result (λ records. AreDistinct (map said records.items)) }
+    ensures sound { OnOk result (IsSoundArea (drop 104 bytes.now)) }
+    ensures leaf { (im : Image) (a : ℕ) → IsLeafIn im a at.now → im.at at.now.block ≡ bytes.now → OnOk result (IsLeaf (every im a) at.now.hash at.now.block) }
     ensures refused { (im : Image) (a : ℕ) → HasFormat im → IsLeafIn im a at.now → im.at at.now.block ≡ bytes.now → IfErr result (RefusesRightly im) }
     ensures steady { IfErr result IsSteady }
 {
@@ -267,6 +273,8 @@ fn add_leaf(
     requires { 104 ≤ length bytes.now }
     ensures added { OnOk result (map standing found.new.items ≡ map standing found.old.items ++ map (λ r. (r, at.now.block)) (records_in (drop 104 bytes.now))) }
     ensures plain { OnOk result (first_other_in (records_in (drop 104 bytes.now)) ≡ None) }
+    ensures sound { OnOk result (IsSoundArea (drop 104 bytes.now)) }
+    ensures leaf { (im : Image) (a : ℕ) → IsLeafIn im a at.now → im.at at.now.block ≡ bytes.now → OnOk result (IsLeaf (every im a) at.now.hash at.now.block) }
     ensures distinct { AreDistinct (map said found.old.items) → OnOk result (AreDistinct (map said found.new.items)) }
     ensures refused { (im : Image) → IsFirstTold im at.now → im.at at.now.block ≡ bytes.now → All (λ n. HasRecordIn im (master_of im) n.block (said n) × (n.block ≢ at.now.block)) found.old.items → IfErr result (RefusesRightly im) }
     ensures steady { IfErr result IsSteady }

@@ -1,20 +1,20 @@
-ghost use Rattle.std.specs.Prelude.{ℕ, ◌≡◌, ◌≢◌, ◌<◌, ◌≤◌, ◌++◌, false, [], ◌∷◌, List, not, length, map, Contains, slice_get, Some, IfOk, OnOk, IfErr, IfSome, IfNone};
+ghost use Rattle.std.specs.Prelude.{ℕ, ◌≡◌, ◌≢◌, ◌+◌, ◌<◌, ◌≤◌, ◌++◌, false, [], ◌∷◌, List, not, length, map, Contains, slice_get, Some, IfOk, OnOk, IfErr, IfSome, IfNone};
 ghost use Rattle.std.specs.List.{All};
 ghost use Rattle.std.specs.Option.{option_map};
 ghost use Rattle.gfs2_layout.specs.Records.{Record as RecordValue};
 ghost use Rattle.gfs2_layout.specs.Area.{Slot, IsShown, slots_of};
 ghost use Rattle.gfs2_layout.specs.Inode.{dinode_in};
 ghost use Rattle.image_mount.specs.Listing.{is_hashed_by};
-ghost use Rattle.gfs2_layout.specs.Records.{records_in, is_dots as has_dots};
+ghost use Rattle.gfs2_layout.specs.Records.{records_in, is_dots as has_dots, HasItsHash, IsRecordArea};
 ghost use Rattle.image_model.specs.Claims.{every, HasArea};
 ghost use Rattle.image_model.specs.Image.{Image};
 ghost use Rattle.image_model.specs.Rules.{Breaks, HasRecordIn};
 ghost use Rattle.image_model.specs.Stands.{directory_count};
 ghost use Rattle.image_mount.specs.Found.{HasFormat, name_count, first_other as first_beside};
-ghost use Rattle.image_mount.specs.Looks.{IsSized};
+ghost use Rattle.image_mount.specs.Looks.{IsSized, IsSoundDirectory};
 ghost use Rattle.image_mount.specs.Refusals.{RefusesRightly};
 ghost use Rattle.image_mount.specs.Searching.{IsRead, IsSteady, StopsRightly, LacksBlock};
-ghost use Rattle.image_mount.specs.Listing.{said, said_by, said_in, link_of, AreCountedIn, AreRecordsOf, AreDistinct, IsDirectoryIn};
+ghost use Rattle.image_mount.specs.Listing.{said, said_by, said_in, link_of, AreCountedIn, AreRecordsOf, AreDistinct, AreRowsOf, HasItsOwnName, IsDirectoryIn, LeadsAmong};
 
 use crate::fault::MountFault;
 use crate::inodes::Inode;
@@ -81,6 +81,7 @@ impl<'a> Named<'a> {
     }
 
     fn check_name(&self, block: u64) -> Result<(), MountFault>
+        ensures named { OnOk result (HasItsOwnName self.now) }
         ensures refused { (im : Image) (a : ℕ) → HasFormat im → block < im.count → HasRecordIn im a block (said self.now) → IfErr result (RefusesRightly im) }
         ensures steady { IfErr result IsSteady }
     {
@@ -95,6 +96,7 @@ impl<'a> Named<'a> {
 fn add<'a>(records: &mut Vec<Named<'a>>, record: &Record<'a>, block: u64) -> Result<(), MountFault>
     ensures here { All (λ n. n.block ≡ block) records.old.items → OnOk result (All (λ n. n.block ≡ block) records.new.items) }
     ensures added { (s : Slot) → IsShown record.now.head record.now.name.now s → OnOk result (map said records.new.items ≡ map said records.old.items ++ said_in (s ∷ [])) }
+    ensures hashed { (s : Slot) → IsShown record.now.head record.now.name.now s → OnOk result (HasItsHash s) }
     ensures refused { (im : Image) (a : ℕ) (area : List ℕ) (s : Slot) → IsShown record.now.head record.now.name.now s → HasFormat im → block < im.count → HasArea im a block area → Contains (slots_of area) s → IfErr result (RefusesRightly im) }
     ensures steady { IfErr result IsSteady }
 {
@@ -116,6 +118,7 @@ pub(crate) fn read_area<'a>(
 ) -> Result<Vec<Named<'a>>, MountFault>
     ensures here { IfOk result (λ records. All (λ n. n.block ≡ block) records.items) }
     ensures found { IfOk result (λ records. map said records.items ≡ records_in area.now) }
+    ensures filled { OnOk result (IsRecordArea area.now) }
     ensures refused { (im : Image) (a : ℕ) → HasFormat im → block < im.count → HasArea im a block area.now → IfErr result (RefusesRightly im) }
     ensures steady { IfErr result IsSteady }
 {
@@ -133,6 +136,7 @@ pub(crate) fn read_area<'a>(
 
 /// That each record has a name, or is `.` or `..`.
 pub(crate) fn check_names(records: &[Named<'_>], block: u64) -> Result<(), MountFault>
+    ensures named { OnOk result (All HasItsOwnName records.now) }
     ensures refused { (im : Image) (a : ℕ) → HasFormat im → block < im.count → All (λ n. HasRecordIn im a block (said n)) records.now → IfErr result (RefusesRightly im) }
     ensures steady { IfErr result IsSteady }
 {
@@ -191,6 +195,7 @@ pub(crate) fn check_dot(
     name: &[u8],
     leads: u64,
 ) -> Result<(), MountFault>
+    ensures there { OnOk result (LeadsAmong records.now name.now leads) }
     ensures refused { (im : Image) → HasFormat im → block < im.count → (((i : ℕ) (n : Named) → slice_get records.now i ≡ Some n → n.name.now ≢ name.now) → Breaks im 10 block)
         → ((i : ℕ) (n : Named) → slice_get records.now i ≡ Some n → n.name.now ≡ name.now → n.entry.addr ≢ leads → Breaks im 10 block)
         → IfErr result (RefusesRightly im) }
@@ -230,6 +235,8 @@ fn count_directories(records: &[Named<'_>]) -> u64
 
 /// That a directory's links and entries are the count of its records.
 pub(crate) fn check_counts(inode: &Inode, records: &[Named<'_>]) -> Result<(), MountFault>
+    ensures entries { OnOk result (inode.now.dinode.entries ≡ length records.now) }
+    ensures links { OnOk result (inode.now.dinode.nlink ≡ 2 + directory_count (map said records.now)) }
     ensures refused { (im : Image) → HasFormat im → inode.now.block < im.count → inode.now.dinode ≡ dinode_in (every im inode.now.block) → AreCountedIn im inode.now.block (map said records.now) → IfErr result (RefusesRightly im) }
     ensures steady { IfErr result IsSteady }
 {
@@ -245,6 +252,8 @@ pub(crate) fn check_counts(inode: &Inode, records: &[Named<'_>]) -> Result<(), M
 // That the records are those of a directory below the one with this dinode.
 fn check_records(inode: &Inode, parent: u64, records: &[Named<'_>]) -> Result<(), MountFault>
     ensures distinct { OnOk result (AreDistinct (map said records.now)) }
+    ensures named { OnOk result (All HasItsOwnName records.now) }
+    ensures rows { OnOk result (AreRowsOf inode.now parent records.now) }
     ensures refused { (im : Image) → IsDirectoryIn im inode.now parent → AreRecordsOf im inode.now.block (map said records.now) → All (λ n. n.block ≡ inode.now.block) records.now → IfErr result (RefusesRightly im) }
     ensures steady { IfErr result IsSteady }
 {
@@ -268,6 +277,7 @@ pub(crate) fn list_records<'a>(
     ensures found { (im : Image) → IsRead im table.now → IsDirectoryIn im inode.now parent → IfOk result (λ records. AreRecordsOf im inode.now.block (map said records.items)) }
     ensures distinct { IfOk result (λ records. AreDistinct (map said records.items)) }
     ensures sized { (im : Image) → IsRead im table.now → IsDirectoryIn im inode.now parent → OnOk result (IsSized im inode.now.block) }
+    ensures sound { (im : Image) → IsRead im table.now → IsDirectoryIn im inode.now parent → OnOk result (IsSoundDirectory im inode.now.block parent) }
     ensures stops { (im : Image) → IsRead im table.now → IsDirectoryIn im inode.now parent → IfErr result (StopsRightly im) }
     ensures lacks { IfErr result (LacksBlock table.now) }
 {

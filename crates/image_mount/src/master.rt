@@ -4,12 +4,12 @@ ghost use Rattle.image_model.specs.Claims.{every};
 ghost use Rattle.image_model.specs.Image.{Image, image_of};
 ghost use Rattle.image_mount.specs.Found.{HasFormat};
 ghost use Rattle.image_mount.specs.Leaves.{IsMasterIn, IsTableOf, IsWalked, HasEnded};
-ghost use Rattle.image_mount.specs.Listing.{said, AreAllRecords, AreCountedIn};
-ghost use Rattle.image_mount.specs.Looks.{IsTableSized};
+ghost use Rattle.image_mount.specs.Listing.{said, AreAllRecords, AreCountedIn, AreRowsOf};
+ghost use Rattle.image_mount.specs.Marked.{IsGrown, IsKept};
 ghost use Rattle.image_mount.specs.Refusals.{HasRisen, RefusesRightly};
 ghost use Rattle.image_mount.specs.Rings.{IsSearched};
 ghost use Rattle.image_mount.specs.Searching.{IsRead, IsSteady, IsWorking, LacksBlock, StopsRightly};
-ghost use Rattle.image_mount.specs.System.{IsMasterOf, ArePlainRecords};
+ghost use Rattle.image_mount.specs.System.{AreHashedNames, IsMasterOf};
 ghost use Rattle.profile_limits.specs.Limits.{most_blocks};
 ghost use Rattle.shared_disk.specs.Disk.{ReadsOnly};
 
@@ -37,6 +37,7 @@ pub(crate) struct Master {
 
 fn find_master(table: &KeptBlocks) -> Result<Master, Stop>
     ensures found { (im : Image) → IsRead im table.now → im.count ≤ most_blocks → IfOk result (IsMasterOf im) }
+    ensures there { IfOk result (λ master. IsKept table.now master.inode.block) }
     ensures stops { (im : Image) → IsRead im table.now → im.count ≤ most_blocks → IfErr result (StopsRightly im) }
     ensures lacks { IfErr result (LacksBlock table.now) }
 {
@@ -56,7 +57,9 @@ pub(crate) fn search_master<D: SharedDisk>(
     table: &mut KeptBlocks,
 ) -> Result<Master, MountFault>
     requires work { IsWorking (D.state disk.old) table.old }
+    ensures there { IfOk result (λ master. IsKept table.new master.inode.block) }
     ensures work { OnOk result (IsWorking (D.state disk.new) table.new) }
+    ensures grown { OnOk result (IsGrown table.old table.new) }
     ensures found { IfOk result (λ master. IsTrue (D.state disk.old).tells → (D.state disk.old).count ≤ most_blocks → IsSearched (image_of (D.state disk.old)) [] 0 0 table.old → IsMasterOf (image_of (D.state disk.old)) master) }
     ensures searched { OnOk result (IsTrue (D.state disk.old).tells → (D.state disk.old).count ≤ most_blocks → IsSearched (image_of (D.state disk.old)) [] 0 0 table.old → IsSearched (image_of (D.state disk.old)) [] 0 0 table.new) }
     ensures refused { IsTrue (D.state disk.old).tells → (D.state disk.old).count ≤ most_blocks → IsSearched (image_of (D.state disk.old)) [] 0 0 table.old → IfErr result (RefusesRightly (image_of (D.state disk.old))) }
@@ -80,6 +83,7 @@ fn search_pointers<D: SharedDisk>(
 ) -> Result<HashTable, MountFault>
     requires work { IsWorking (D.state disk.old) table.old }
     ensures work { OnOk result (IsWorking (D.state disk.new) table.new) }
+    ensures grown { OnOk result (IsGrown table.old table.new) }
     ensures found { IfOk result (λ pointers. IsTrue (D.state disk.old).tells → IsMasterIn (image_of (D.state disk.old)) inode.now → is_hashed_in (every (image_of (D.state disk.old)) inode.now.block) ≡ true → IsTableOf (image_of (D.state disk.old)) inode.now pointers) }
     ensures searched { OnOk result (IsTrue (D.state disk.old).tells → IsMasterIn (image_of (D.state disk.old)) inode.now → is_hashed_in (every (image_of (D.state disk.old)) inode.now.block) ≡ true → IsSearched (image_of (D.state disk.old)) [] 0 0 table.old
         → IsSearched (image_of (D.state disk.old)) [] 0 0 table.new) }
@@ -107,6 +111,7 @@ fn walk_leaves<D: SharedDisk>(
     requires work { IsWorking (D.state disk.old) table.old }
     requires few { (D.state disk.old).count ≤ most_blocks }
     ensures work { OnOk result (IsWorking (D.state disk.new) table.new) }
+    ensures grown { OnOk result (IsGrown table.old table.new) }
     ensures found { IfOk result (λ walk. IsTrue (D.state disk.old).tells → IsTableOf (image_of (D.state disk.old)) inode.now pointers.now → IsWalked (image_of (D.state disk.old)) inode.now.block walk) }
     ensures ended { IfOk result (λ walk. HasEnded walk (2 ^ pointers.now.depth)) }
     ensures searched { OnOk result (IsTrue (D.state disk.old).tells → IsTableOf (image_of (D.state disk.old)) inode.now pointers.now → IsSearched (image_of (D.state disk.old)) [] 0 0 table.old → IsSearched (image_of (D.state disk.old)) [] 0 0 table.new) }
@@ -129,6 +134,7 @@ fn walk_leaves<D: SharedDisk>(
 
 // That the records that were found in all leaves are those of the master directory.
 fn check_hashed(inode: &Inode, records: &[Named<'_>]) -> Result<(), MountFault>
+    ensures rows { OnOk result (AreRowsOf inode.now inode.now.block records.now) }
     ensures refused { (im : Image) → IsMasterIn im inode.now → AreAllRecords im inode.now.block records.now → AreCountedIn im inode.now.block (map said records.now) → IfErr result (RefusesRightly im) }
     ensures steady { IfErr result IsSteady }
 {
@@ -149,7 +155,8 @@ pub(crate) fn search_names<D: SharedDisk>(
     requires work { IsWorking (D.state disk.old) table.old }
     requires few { (D.state disk.old).count ≤ most_blocks }
     ensures work { OnOk result (IsWorking (D.state disk.new) table.new) }
-    ensures found { IfOk result (λ names. IsTrue (D.state disk.old).tells → IsMasterIn (image_of (D.state disk.old)) inode.now → is_hashed_in (every (image_of (D.state disk.old)) inode.now.block) ≡ true → ArePlainRecords (image_of (D.state disk.old)) inode.now.block names.items × IsTableSized (image_of (D.state disk.old)) inode.now.block) }
+    ensures grown { OnOk result (IsGrown table.old table.new) }
+    ensures found { IfOk result (λ names. IsTrue (D.state disk.old).tells → IsMasterIn (image_of (D.state disk.old)) inode.now → is_hashed_in (every (image_of (D.state disk.old)) inode.now.block) ≡ true → AreHashedNames (image_of (D.state disk.old)) inode.now.block names.items) }
     ensures searched { OnOk result (IsTrue (D.state disk.old).tells → IsMasterIn (image_of (D.state disk.old)) inode.now → IsSearched (image_of (D.state disk.old)) [] 0 0 table.old → IsSearched (image_of (D.state disk.old)) [] 0 0 table.new) }
     ensures refused { IsTrue (D.state disk.old).tells → IsMasterIn (image_of (D.state disk.old)) inode.now → IsSearched (image_of (D.state disk.old)) [] 0 0 table.old → IfErr result (RefusesRightly (image_of (D.state disk.old))) }
     ensures risen { IfErr result (HasRisen (D.faults disk.old) (D.faults disk.new)) }

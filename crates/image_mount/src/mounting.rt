@@ -5,10 +5,11 @@ ghost use Rattle.glock_names.specs.Views.{group_of_entry};
 ghost use Rattle.gfs2_layout.specs.Device.{IsBlockSize};
 ghost use Rattle.image_model.specs.Image.{Image, image_of};
 ghost use Rattle.image_mount.specs.Mounted.{IsMounted, IsOfProfile};
+ghost use Rattle.image_mount.specs.Marked.{IsGrown, IsKept};
 ghost use Rattle.image_mount.specs.Refusals.{RefusesRightly, HasRisen, IsExcused};
 ghost use Rattle.image_mount.specs.Rings.{IsSearched};
 ghost use Rattle.image_mount.specs.Searching.{IsSteady, IsWorking};
-ghost use Rattle.image_mount.specs.System.{IsMasterOf, IsNamedBy, IsSystemOf};
+ghost use Rattle.image_mount.specs.System.{HasDinodes, IsMasterOf, IsNamedBy, IsSystemOf};
 ghost use Rattle.profile_limits.specs.Limits.{most_blocks};
 
 use crate::fault::MountFault;
@@ -49,7 +50,10 @@ fn search_files<D: SharedDisk>(
     names: &[Named<'_>],
 ) -> Result<System, MountFault>
     requires work { IsWorking (D.state disk.old) table.old }
+    ensures rindex { IfOk result (λ system. IsKept table.new system.rindex) }
+    ensures jindex { IfOk result (λ system. IsKept table.new system.jindex) }
     ensures work { OnOk result (IsWorking (D.state disk.new) table.new) }
+    ensures grown { OnOk result (IsGrown table.old table.new) }
     ensures found { IfOk result (λ system. IsTrue (D.state disk.old).tells → IsMasterOf (image_of (D.state disk.old)) master.now → IsNamedBy (image_of (D.state disk.old)) master.now names.now → IsSystemOf (image_of (D.state disk.old)) system) }
     ensures searched { OnOk result (IsTrue (D.state disk.old).tells → IsMasterOf (image_of (D.state disk.old)) master.now → IsNamedBy (image_of (D.state disk.old)) master.now names.now → IsSearched (image_of (D.state disk.old)) [] 0 0 table.old → IsSearched (image_of (D.state disk.old)) [] 0 0 table.new) }
     ensures refused { IsTrue (D.state disk.old).tells → IsMasterOf (image_of (D.state disk.old)) master.now → IsNamedBy (image_of (D.state disk.old)) master.now names.now → IsSearched (image_of (D.state disk.old)) [] 0 0 table.old → IfErr result (RefusesRightly (image_of (D.state disk.old))) }
@@ -73,7 +77,9 @@ fn search_system<D: SharedDisk>(
 ) -> Result<System, MountFault>
     requires work { IsWorking (D.state disk.old) table.old }
     requires few { (D.state disk.old).count ≤ most_blocks }
+    ensures dinodes { IfOk result (λ system. IsTrue (D.state disk.old).tells → IsSearched (image_of (D.state disk.old)) [] 0 0 table.old → HasDinodes (image_of (D.state disk.old)) table.new system) }
     ensures work { OnOk result (IsWorking (D.state disk.new) table.new) }
+    ensures grown { OnOk result (IsGrown table.old table.new) }
     ensures found { IfOk result (λ system. IsTrue (D.state disk.old).tells → IsSearched (image_of (D.state disk.old)) [] 0 0 table.old → IsSystemOf (image_of (D.state disk.old)) system) }
     ensures searched { OnOk result (IsTrue (D.state disk.old).tells → IsSearched (image_of (D.state disk.old)) [] 0 0 table.old → IsSearched (image_of (D.state disk.old)) [] 0 0 table.new) }
     ensures refused { IsTrue (D.state disk.old).tells → IsSearched (image_of (D.state disk.old)) [] 0 0 table.old → IfErr result (RefusesRightly (image_of (D.state disk.old))) }
@@ -102,10 +108,10 @@ fn map_groups(alloc: Global, entries: &[Rindex]) -> Result<Vec<Group>, NoMemory>
 }
 
 /// Mounts the image on an idle disk: reads, as the run itself, the superblock, the master directory, the list of groups,
-/// the directory of journals and each journal, and looks at every field of the profile. No block is read twice, and nothing
-/// is written. It costs a read for each block that the system files have, memory for those of them that lead on, and for
-/// an entry a block of the device, or two where the master directory is a hashed one. A look at each of its pointers and
-/// leaves comes on top then.
+/// the directory of journals and each journal, and looks at every field of the profile. Nothing is written, and, as rows
+/// show, no block is read twice. It costs a read for each block that the system files have, memory for those of them that
+/// lead on, and for an entry a block of the device, or two where the master directory is a hashed one. A look at each of
+/// its pointers and leaves comes on top then.
 pub fn mount_image<D: SharedDisk>(alloc: Global, disk: &mut D) -> Result<Mounted, MountFault>
     requires idle { IsIdle (D.state disk.old) }
     requires size { IsBlockSize (D.state disk.old).size }

@@ -9,7 +9,8 @@ ghost use Rattle.image_model.specs.Stands.{Layout};
 ghost use Rattle.image_mount.specs.Found.{HasFormat, HasGroups};
 ghost use Rattle.image_mount.specs.Leaves.{IsMasterIn};
 ghost use Rattle.image_mount.specs.Listing.{said, AreAllRecords};
-ghost use Rattle.image_mount.specs.Looks.{IsSized, IsTrueEntry};
+ghost use Rattle.image_mount.specs.Looks.{IsSized, IsSoundDirectory, IsTrueEntry};
+ghost use Rattle.image_mount.specs.Marked.{IsKept};
 ghost use Rattle.image_mount.specs.Refusals.{RefusesRightly};
 ghost use Rattle.image_mount.specs.declared.fault.MountFault.TheVariants as fault_of;
 ghost use Rattle.image_mount.specs.Searching.{IsRead, IsSteady, StopsRightly, LacksBlock};
@@ -73,6 +74,7 @@ fn system_files(
 ) -> Result<SystemFiles, Stop>
     ensures found { (im : Image) → IsRead im table.now → IsMasterIn im inode.now → (is_hashed_in (every im inode.now.block) ≡ true → ArePlainRecords im inode.now.block names.now) → IfOk result (AreFilesOf im) }
     ensures sized { (im : Image) → IsRead im table.now → IsMasterIn im inode.now → is_hashed_in (every im inode.now.block) ≡ false → OnOk result (IsSized im inode.now.block) }
+    ensures sound { (im : Image) → IsRead im table.now → IsMasterIn im inode.now → is_hashed_in (every im inode.now.block) ≡ false → OnOk result (IsSoundDirectory im inode.now.block inode.now.block) }
     ensures stops { (im : Image) → IsRead im table.now → IsMasterIn im inode.now → (is_hashed_in (every im inode.now.block) ≡ true → ArePlainRecords im inode.now.block names.now) → IfErr result (StopsRightly im) }
     ensures lacks { IfErr result (LacksBlock table.now) }
 {
@@ -174,6 +176,7 @@ fn list_journals(
     ensures found { (im : Image) (l : Layout) → IsRead im table.now → HasGroups im l → l.jindex ≡ jindex.now.entry.addr → master ≡ master_of im → master < im.count → IsLinkOf im (codes "jindex") jindex.now
         → IfOk result (λ journals. AreJournalsOf im jindex.now.entry.addr journals.items) }
     ensures repeats { (im : Image) → IsRead im table.now → OnOk result (IsTrueEntry im jindex.now.entry) }
+    ensures there { OnOk result (IsKept table.now jindex.now.entry.addr) }
     ensures stops { (im : Image) (l : Layout) → IsRead im table.now → HasGroups im l → l.jindex ≡ jindex.now.entry.addr → master ≡ master_of im → master < im.count → IsLinkOf im (codes "jindex") jindex.now
         → IfErr result (StopsRightly im) }
     ensures lacks { IfErr result (LacksBlock table.now) }
@@ -201,6 +204,8 @@ pub(crate) fn find_system(
     names: &[Named<'_>],
 ) -> Result<System, Stop>
     ensures found { (im : Image) → IsRead im table.now → count ≡ im.count → IsMasterOf im master.now → IsNamedBy im master.now names.now → IfOk result (IsSystemOf im) }
+    ensures rindex { IfOk result (λ system. IsKept table.now system.rindex) }
+    ensures jindex { IfOk result (λ system. IsKept table.now system.jindex) }
     ensures stops { (im : Image) → IsRead im table.now → count ≡ im.count → IsMasterOf im master.now → IsNamedBy im master.now names.now → IfErr result (StopsRightly im) }
     ensures lacks { IfErr result (LacksBlock table.now) }
 {

@@ -34,7 +34,8 @@ returns-in-Err-read_root-clause-ends g c =
     (told.0, ap (λ (m : MountedValue). m.superblock.root.address) c.mounted.view_is ∙ told.1) in
     subst (MountEnds _ _ _) (sym c.status_of_end.ensures)
     (root_end d (g.D.SharedDisk.state c.mount_image.new.disk) (g.D.SharedDisk.faults c.args.disk.now) (g.D.SharedDisk.faults c.mount_image.new.disk) (g.D.SharedDisk.faults c.read_root.new.disk) c.mounted.inside.sb.root.address
-    c.in-Err-read_root.end c.in-Ok.ensures.reads.same c.what_stands_breaks_nothing.ensures at c.in-Ok.ensures.reads.later c.in-Err-read_root.ensures.cause c.in-Err-read_root.ensures.block c.in-Err-read_root.ensures.failed)
+    c.in-Err-read_root.end c.in-Ok.ensures.reads.same c.what_stands_breaks_nothing.ensures at c.in-Ok.ensures.reads.later c.in-Err-read_root.ensures.cause c.in-Err-read_root.ensures.block c.in-Err-read_root.ensures.failed
+    c.in-Err-read_root.ensures.within)
 
 pub returns-in-Ok-read_root-clause-clean : goal.returns-in-Ok-read_root-clause-clean
 returns-in-Ok-read_root-clause-clean g c =

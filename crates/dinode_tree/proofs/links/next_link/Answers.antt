@@ -1,5 +1,5 @@
 use Rattle.dinode_tree.proofs.Dinodes.{lacks}
-use Rattle.dinode_tree.proofs.Pointers.{lacks_indirect, needed_link}
+use Rattle.dinode_tree.proofs.Pointers.{lacks_indirect, needed_link, same_bytes, shown_of}
 use Rattle.dinode_tree.proofs.Stepping.{handed_kept}
 use Rattle.dinode_tree.proofs.links.next_link.Goals as goal
 
@@ -15,3 +15,8 @@ returns-then-not-has_header-clause-damaged g c h index shown is =
 pub returns-in_err-found-clause-kept : goal.returns-in_err-found-clause-kept
 returns-in_err-found-clause-kept g c =
     handed_kept _ (g.V.View.seen c.args.view.now) c.args.inode.now.block c.args.inode.now.bytes.now _ c.from_residual.ensures.1 c.requires.seen.bytes c.in_err-found.ensures.own
+
+pub returns-clause-step : goal.returns-clause-step
+returns-clause-step g c h index shown is =
+    (c.in_ok-found.ensures.step h index (shown_of (g.V.View.seen c.args.view.now) h c.args.inode.now shown c.requires.seen)
+    (same_bytes (g.V.View.seen c.args.view.now) h c.args.inode.now.block index c.args.link.now c.in-Some.bytes.now shown is c.in-Some.ensures.some) (c.has_header.ensures.0 c.if-not-has_header.false) is)

@@ -1,5 +1,8 @@
 use Rattle.std.proofs.Common.{◌≡◌, inl, inr, sym, ap, ◌∙◌, arith}
+use Rattle.std.specs.Prelude.{slice_get}
 use Rattle.gfs2_layout.specs.Device.{superblock_place}
+use Rattle.image_mount.proofs.Causes.{lacks}
+use Rattle.image_mount.proofs.Marked.{unmarked}
 use Rattle.image_mount.proofs.Marks.{beyond_super, beyond_all, place_wanted}
 use Rattle.image_mount.proofs.fetching.check_readable.Goals as goal
 
@@ -19,3 +22,6 @@ returns-then-block-count-2-clause-refused c im done d n size count wanted known 
 pub returns-then-is_place-clause-refused : goal.returns-then-is_place-clause-refused
 returns-then-is_place-clause-refused c im done d n size count wanted known =
     place_wanted im _ c.args.block c.args.from done d n c.damaged-then-is_place.ensures (omega (arith, c.if-block-count-2.false, count)) wanted (known.marked c.args.block (c.is_place.ensures.0 c.if-is_place.true))
+
+pub returns-clause-unmarked : goal.returns-clause-unmarked
+returns-clause-unmarked c = unmarked (slice_get c.args.table.now.places c.args.block) (lacks c.is_place.result c.is_place.ensures c.if-is_place.false)

@@ -1,6 +1,7 @@
 use Rattle.std.proofs.Common.{◌≡◌, ◌<◌, ◌∙◌, sym, ap, subst, length, arith}
 use Rattle.image_mount.specs.Refusals.{HasRisen}
 use Rattle.image_model.specs.Image.{image_of}
+use Rattle.image_mount.proofs.Marked.{grown_kept}
 use Rattle.image_mount.proofs.Marks.{searched_more}
 use Rattle.image_mount.proofs.Stops.{handed, refused}
 use Rattle.image_mount.proofs.Working.{not_kept, working_more, refilled}
@@ -31,3 +32,8 @@ pub returns-clause-searched : goal.returns-clause-searched
 returns-clause-searched g c im done d n wanted known =
     let low : c.args.block < length c.args.table.now.entries = omega (arith, c.in_ok-check_readable.ensures.inside, c.blocks-2.ensures.value, c.requires.work.count) in
     searched_more im done d n c.args.table.now _ c.args.block c.args.from _ (not_kept c.args.table.now.entries c.args.block low c.requires.new) c.keep.ensures.kept c.keep.ensures.places wanted known
+
+pub returns-clause-grown : goal.returns-clause-grown
+returns-clause-grown g c =
+    let low : c.args.block < length c.args.table.now.entries = omega (arith, c.in_ok-check_readable.ensures.inside, c.blocks-2.ensures.value, c.requires.work.count) in
+    grown_kept c.args.table.now c.keep.new.self c.args.block _ (not_kept c.args.table.now.entries c.args.block low c.requires.new) c.keep.ensures.kept c.keep.ensures.places c.in_ok-check_readable.ensures.unmarked

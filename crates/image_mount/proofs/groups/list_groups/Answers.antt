@@ -69,6 +69,7 @@ returns-clause-found c im read of_count is =
         dinode = subst (λ a. IsRightDinode (every im a)) (sym c.in_ok-inode.ensures.block) (c.in_ok-inode.ensures.right im read);
         sized = c.in_ok-bytes.ensures.sized im dinode (c.block_size-size.ensures.value ∙ read.size);
       };
+      headed = c.in_ok-content.ensures.headed im read size;
       whole = whole;
       listed = list_groups im _ _ _ _ list;
       some = groups_some c.deref-2.result.now content c.in_ok-bytes.bytes listed (c.in_ok-content.ensures.length im read size) c.in_ok-bytes.ensures.least;

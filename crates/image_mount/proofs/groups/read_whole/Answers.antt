@@ -1,12 +1,12 @@
-use Rattle.std.proofs.Common.{◌≡◌, ◌-◌, [], length, sym, ap, ◌∙◌, arith}
+use Rattle.std.proofs.Common.{◌≡◌, ◌+◌, ◌-◌, [], length, sym, ap, ◌∙◌, arith}
 use Rattle.gfs2_layout.specs.Structures.{dinode_of}
 use Rattle.gfs2_layout.specs.declared.dinode.Dinode.{Dinode}
 use Rattle.std.specs.Prelude.{min, unwrap_or}
 use Rattle.std.proofs.Math.Nat.{min-le_left}
 use Rattle.gfs2_layout.specs.Inode.{dinode_in}
-use Rattle.dinode_tree.specs.Reading.{content_range}
+use Rattle.dinode_tree.specs.Reading.{AreHeaded, content_range}
 use Rattle.image_model.specs.Claims.{every}
-use Rattle.image_mount.proofs.Grouping.{content_all, none_before}
+use Rattle.image_mount.proofs.Grouping.{content_all, content_headed, none_before}
 use Rattle.image_mount.proofs.Shown.{shown, inode_at, call_told}
 use Rattle.image_mount.proofs.Steps.{answer_at, needed_at, seen_in, shown_by, lacks_needed}
 use Rattle.image_mount.proofs.Stops.{passed, stopped}
@@ -66,3 +66,9 @@ returns-in-NeedBlock-clause-lacks c =
     let a = c.args.inode.now.block in
     lacks_needed c.args.table.now (seen_in v a) _ 0 c.in-NeedBlock.missing _ c.reads.ensures
     (needed_at c.in_ok-content.field-0 c.in-NeedBlock.missing _ c.in-NeedBlock.is (c.in_ok-content.ensures.needed (seen_in v a) (shown_by v a)))
+
+pub returns-in-Is-clause-headed : goal.returns-in-Is-clause-headed
+returns-in-Is-clause-headed c im read size =
+    let a = c.args.inode.now.block in
+    content_headed im a c.args.bytes (omega (arith, c.in_ok-get.ensures.least, c.in_ok-get.ensures.whole, read.size)) size
+    (answer_at c.in_ok-content.field-0 c.in-Is.content (λ b. AreHeaded (every im a) 0 (min (0 + c.args.bytes) (dinode_in (every im a)).size)) c.in-Is.is (c.in_ok-content.ensures.headed (every im a) (shown im c.args.table.now a read)))

@@ -1,4 +1,4 @@
-use Rattle.std.proofs.Common.{◌≡◌, ◌≤◌, ℕ, length, IsTrue}
+use Rattle.std.proofs.Common.{◌≡◌, length, IsTrue}
 use Rattle.gfs2_layout.specs.Journal.{best_from}
 use Rattle.image_mount.specs.Rings.{ring_at}
 use Rattle.shared_disk.specs.Disk.{ReadsOnly}

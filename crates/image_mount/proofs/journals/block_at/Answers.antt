@@ -1,7 +1,7 @@
 use Rattle.std.proofs.Common.{◌≡◌, ℕ, Some, None, sym, ap, subst, ◌∙◌}
 use Rattle.std.specs.Prelude.{IfSome}
 use Rattle.std.specs.Option.{option_map}
-use Rattle.dinode_tree.specs.Reading.{block_at}
+use Rattle.dinode_tree.specs.Reading.{IsHeadedWay, block_at}
 use Rattle.dinode_tree.specs.declared.locating.Located.{Located}
 use Rattle.gfs2_layout.specs.Inode.{Leads}
 use Rattle.glock_names.specs.declared.steps.Step.TheVariants.{Is}
@@ -34,6 +34,7 @@ returns-in-Is-Some-clause-found c im read =
           (c.in_ok-located.ensures.found (every im d) (shown im c.args.table.now d read)));
       leads = answer_at c.in_ok-located.field-0 (Some c.in-Is-Some.located) (λ o. IfSome o (λ (l : Located). (k : ℕ) × Leads (every im d) l.from k 0 c.args.place l.block)) is
           (c.in_ok-located.ensures.leads (every im d) (shown im c.args.table.now d read));
+      headed = answer_at c.in_ok-located.field-0 (Some c.in-Is-Some.located) (λ o. IfSome o (λ (l : Located). IsHeadedWay (every im d) c.args.place)) is (c.in_ok-located.ensures.headed (every im d) (shown im c.args.table.now d read));
     }
 
 pub returns-in-Is-None-clause-stops : goal.returns-in-Is-None-clause-stops

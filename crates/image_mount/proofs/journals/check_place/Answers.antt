@@ -1,7 +1,10 @@
 use Rattle.std.proofs.Common.{◌≡◌, ◌≢◌, ◌<◌, Some, true, sym, ◌∙◌, arith}
+use Rattle.std.specs.Prelude.{slice_get}
 use Rattle.gfs2_layout.specs.Device.{superblock_place}
 use Rattle.image_mount.specs.Kept.{seen_of}
-use Rattle.image_mount.proofs.Marks.{place_beyond, place_outside, place_again, place_kept, outside_groups, above_super, some_ok}
+use Rattle.image_mount.proofs.Causes.{lacks}
+use Rattle.image_mount.proofs.Marked.{unmarked}
+use Rattle.image_mount.proofs.Marks.{free_block, in_groups, place_beyond, place_outside, place_again, place_kept, outside_groups, above_super, some_ok}
 use Rattle.image_mount.proofs.journals.check_place.Goals as goal
 use Rattle.image_mount.proofs.journals.check_place.Goals.{then-located-count-via-then-located-count, then-located-count-via-else-located-count+then-not-is_data, then-is_place-via-then-is_place, then-is_place-via-else-is_place+then-is_ok}
 
@@ -34,3 +37,14 @@ pub returns-clause-apart : goal.returns-clause-apart
 returns-clause-apart c im looked =
     let inside : c.is_data.result ≡ true = grind (arith, c.if-not-is_data.false) in
     above_super im c.args.system.now c.args.located.now.block c.deref.result.now looked c.deref.ensures.value (c.is_data.ensures.inside inside)
+
+pub returns-clause-placed : goal.returns-clause-placed
+returns-clause-placed c =
+    let inside : c.is_data.result ≡ true = grind (arith, c.if-not-is_data.false) in
+    in_groups c.deref.result.now c.args.system.now.groups.items c.args.located.now.block c.deref.ensures.value (c.is_data.ensures.inside inside)
+
+pub returns-clause-unmarked : goal.returns-clause-unmarked
+returns-clause-unmarked c = unmarked (slice_get c.args.table.now.places c.args.located.now.block) (lacks c.is_place.result c.is_place.ensures c.if-is_place.false)
+
+pub returns-clause-free : goal.returns-clause-free
+returns-clause-free c = free_block c.args.table.now c.args.located.now.block c.args.located.now.from c.get.result (sym c.is_ok.ensures.value ∙ c.if-is_ok.false) c.get.ensures.stops c.get.ensures.lacks

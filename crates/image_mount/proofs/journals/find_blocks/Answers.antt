@@ -1,10 +1,13 @@
-use Rattle.std.proofs.Common.{◌≡◌, ◌<◌, ◌+◌, length, sym, ap, subst, ◌∙◌, arith}
+use Rattle.std.proofs.Common.{◌≡◌, ◌<◌, ◌+◌, [], ◌∷◌, length, sym, ap, subst, ◌∙◌, arith}
 use Rattle.std.specs.List.{All}
 use Rattle.std.proofs.lemmas.List.{length_push}
 use Rattle.std.proofs.lemmas.List.Elements.{All-push}
 use Rattle.image_model.specs.Image.{image_of}
 use Rattle.shared_disk.specs.Disk.{DiskState}
 use Rattle.image_mount.specs.Rings.{AreBlocksOf, IsSearched}
+use Rattle.image_mount.specs.Looks.{IsInGroups}
+use Rattle.image_mount.specs.Marked.{AreMarked}
+use Rattle.image_mount.proofs.Marked.{grown_on, marked_on, marked_over}
 use Rattle.image_mount.proofs.Marks.{place_claim, is_place, marked_more}
 use Rattle.image_mount.proofs.Moved.{place_refused, place_searched, place_at, working_marked}
 use Rattle.image_mount.proofs.Places.{blocks_more}
@@ -43,10 +46,15 @@ loop-place-preserved g c =
     record {
       work = working_marked _ c.find_block.new.table c.mark.new.self found.work c.mark.ensures.entries c.mark.ensures.size;
       inside = subst (All (λ b. b < s.count)) (sym items) (All-push (λ b. b < s.count) c.loop-place.blocks.items located.block inv.inside low);
+      placed = subst (All (IsInGroups c.args.system.now.groups.items)) (sym items) (All-push (IsInGroups c.args.system.now.groups.items) c.loop-place.blocks.items located.block inv.placed c.in_ok-check_place.ensures.placed);
+      marked = subst (AreMarked c.args.table.now c.mark.new.self) (sym items)
+          (marked_on c.args.table.now c.find_block.new.table c.mark.new.self c.loop-place.blocks.items (located.block ∷ []) (marked_over c.args.table.now c.loop-place.table c.find_block.new.table c.loop-place.blocks.items inv.marked found.places)
+          (c.mark.ensures.marked c.in_ok-check_place.ensures.unmarked));
+      grown = grown_on _ _ _ inv.grown (grown_on _ _ _ found.grown (c.mark.ensures.grown c.in_ok-check_place.ensures.free));
       count = omega (arith, ap length items, length_push c.loop-place.blocks.items located.block, inv.count);
       found = λ done tells next has known.
           let at = place_at _ _ inv.reads.same d c.loop-place.place located found.found tells in
-          blocks_more (image_of s) d c.loop-place.place located.from at.leads.0 located c.loop-place.blocks.items _ (inv.found done tells next has known) at
+          blocks_more (image_of s) d c.loop-place.place located.from at.leads.0 located c.loop-place.blocks.items _ (inv.found done tells next has known) at low
           (place_claim (image_of s) done c.args.system.now c.args.journal.now next c.loop-place.place located at) items;
       searched = λ done tells next has known.
           let at = place_at _ _ inv.reads.same d c.loop-place.place located found.found tells in

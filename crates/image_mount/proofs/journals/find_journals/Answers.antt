@@ -1,17 +1,18 @@
-use Rattle.std.proofs.Common.{◌≡◌, ◌∙◌, IsTrue, length, sym, ap, subst, arith}
+use Rattle.std.proofs.Common.{◌≡◌, ◌<◌, ◌∙◌, ℕ, IsTrue, length, sym, ap, subst}
 use Rattle.std.specs.Prelude.{slice_get}
-use Rattle.std.proofs.lemmas.Iterator.Consumers.{YieldsList-turn}
+use Rattle.std.proofs.lemmas.Iterator.Consumers.{YieldsList-so_far, YieldsList-turn}
 use Rattle.std.proofs.lemmas.Iterator.Adapters.{YieldsList-from_vec}
+use Rattle.std.proofs.lemmas.List.{map-id}
 use Rattle.std.proofs.lemmas.Option.{slice_get_read}
 use Rattle.shared_disk.specs.Disk.{DiskState}
 use Rattle.image_model.specs.Image.{image_of}
 use Rattle.image_model.specs.Stands.{IsJournalAt}
 use Rattle.image_mount.specs.Found.{HasNames}
-use Rattle.image_mount.specs.Refusals.{RefusesRightly}
+use Rattle.image_mount.specs.Refusals.{HasLowHead, IsJournalSized, RefusesRightly}
 use Rattle.image_mount.specs.Rings.{IsRingOf, IsHeadOf}
 use Rattle.image_mount.specs.declared.journals.Ring.{Ring}
-use Rattle.image_mount.proofs.Heads.{journals_more}
-use Rattle.image_mount.proofs.Moved.{ring_of_turn}
+use Rattle.image_mount.proofs.Heads.{heads_before, journals_more}
+use Rattle.image_mount.proofs.Moved.{ring_of_turn, ring_sized}
 use Rattle.image_mount.proofs.Names.{mapped_at}
 use Rattle.image_mount.proofs.Stops.{refused}
 use Rattle.image_mount.proofs.Working.{refilled}
@@ -29,9 +30,13 @@ returns-in_err-head-clause-refused g c l tells names same rings =
     let there = slice_get_read c.args.rings.items _ k ring (sym c.args.rings.ok.0 ∙ c.args.rings.ok.0) turn.0 turn.1 in
     let at : IsJournalAt l k ring.dinode = ap (λ ds. slice_get ds k) (sym same) ∙ mapped_at (λ (r : Ring). r.dinode) c.args.rings.items k ring there in
     let of = ring_of_turn (image_of s) c.args.rings.items k ring turn.0 turn.1 rings in
+    let taken = YieldsList-so_far (YieldsList-from_vec c.args.rings.items gives.0 (gives.1 ∙ c.args.rings.ok.0)) c.loop-ring.yielded _ c.loop-ring.yielded_by in
+    let sized = λ (i d : ℕ) (there : IsJournalAt l i d). ring_sized (image_of s) c.args.rings.items i d rings (ap (λ ds. slice_get ds i) same ∙ there) in
+    let before = λ (i d : ℕ) (low : i < k) (there : IsJournalAt l i d).
+    heads_before (image_of s) c.loop-ring.yielded c.args.rings.items c.loop-ring.journals.items k i d (inv.found tells rings) (sym (map-id c.loop-ring.yielded) ∙ taken) low (ap (λ ds. slice_get ds i) same ∙ there) in
     refused (image_of s) _ _ c.from_residual-in_err-head.ensures.1
-    (subst (λ (t : DiskState). IsTrue t.tells → HasNames (image_of t) l → IsJournalAt l k ring.dinode → IsRingOf (image_of t) ring.dinode ring.blocks.items → RefusesRightly (image_of t) c.in_err-head.field-0.0) inv.reads.same
-    (c.in_err-head.ensures.refused l k) tells names at of)
+    (subst (λ (t : DiskState). IsTrue t.tells → HasNames (image_of t) l → ((i d : ℕ) → IsJournalAt l i d → IsJournalSized (image_of t) d) → ((i d : ℕ) → i < k → IsJournalAt l i d → HasLowHead (image_of t) d) → IsJournalAt l k ring.dinode → IsRingOf (image_of t) ring.dinode ring.blocks.items → RefusesRightly (image_of t) c.in_err-head.field-0.0) inv.reads.same
+    (c.in_err-head.ensures.refused l k) tells names sized before at of)
 
 pub loop-ring-preserved : goal.loop-ring-preserved
 loop-ring-preserved g c =

@@ -1,4 +1,4 @@
-use Rattle.std.proofs.Common.{◌≡◌, ◌≤◌, ℕ, length, IsTrue}
+use Rattle.std.proofs.Common.{◌≡◌, length, IsTrue}
 use Rattle.std.specs.List.{All}
 use Rattle.image_model.specs.Image.{image_of}
 use Rattle.image_mount.specs.Rings.{AreJournals, IsRingOf}

@@ -1,6 +1,7 @@
 use Rattle.image_model.specs.Image.{Image, image_of}
 use Rattle.image_mount.specs.Refusals.{RefusesRightly}
 use Rattle.image_mount.specs.Rings.{AreBlocksOf, IsSearched}
+use Rattle.image_mount.proofs.Marked.{grown_on, marked_under}
 use Rattle.image_mount.proofs.Marks.{searched_done, searched_next}
 use Rattle.image_mount.proofs.Moved.{blocks_told, ring_is}
 use Rattle.image_mount.proofs.Stops.{refused}
@@ -43,3 +44,12 @@ returns-clause-searched g c done tells next known =
 
 pub returns-clause-repeats : goal.returns-clause-repeats
 returns-clause-repeats g c tells = c.in_ok-places.ensures.repeats tells
+
+pub returns-clause-marked : goal.returns-clause-marked
+returns-clause-marked g c = marked_under c.args.table.now c.count_places.new.table c.find_blocks.new.table c.in_ok-blocks.blocks.items c.count_places.ensures.places c.in_ok-blocks.ensures.marked
+
+pub returns-clause-grown : goal.returns-clause-grown
+returns-clause-grown g c = grown_on c.args.table.now c.count_places.new.table c.find_blocks.new.table c.in_ok-places.ensures.grown c.in_ok-blocks.ensures.grown
+
+pub returns-clause-there : goal.returns-clause-there
+returns-clause-there g c = c.in_ok-blocks.ensures.grown.stays c.args.journal.now.addr c.in_ok-places.ensures.there

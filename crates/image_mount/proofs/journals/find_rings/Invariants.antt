@@ -1,8 +1,10 @@
-use Rattle.std.proofs.Common.{◌≡◌, ◌≤◌, ◌<◌, ℕ, [], take, IsTrue}
+use Rattle.std.proofs.Common.{◌≢◌, ◌<◌, [], take, IsTrue}
 use Rattle.std.specs.Prelude.{map}
 use Rattle.std.specs.List.{All}
 use Rattle.image_model.specs.Image.{image_of}
-use Rattle.image_mount.specs.Rings.{IsSearched, AreRings}
+use Rattle.image_mount.specs.Looks.{IsInGroups}
+use Rattle.image_mount.specs.Marked.{AreMarked, IsGrown, IsKept}
+use Rattle.image_mount.specs.Rings.{IsSearched, AreRings, all_places}
 use Rattle.image_mount.specs.Searching.{IsWorking}
 use Rattle.image_mount.specs.System.{IsSystemOf}
 use Rattle.image_mount.specs.declared.journals.Ring.{Ring}
@@ -13,6 +15,11 @@ abbrev pub invariant-loop-journal : goal.invariant-loop-journal
 invariant-loop-journal g l = record {
   work : IsWorking (g.D.SharedDisk.state l.disk) l.table;
   inside : All (λ (ring : Ring). All (λ b. b < (g.D.SharedDisk.state l.initial.disk).count) ring.blocks.items) l.rings.items;
+  placed : All (λ (ring : Ring). All (IsInGroups l.system.groups.items) ring.blocks.items) l.rings.items;
+  own : All (λ (ring : Ring). (ring.dinode ≢ l.system.superblock.master.address) × (ring.dinode ≢ l.system.rindex)) l.rings.items;
+  grown : IsGrown l.initial.table l.table;
+  kept : All (λ (ring : Ring). IsKept l.table ring.dinode) l.rings.items;
+  marked : AreMarked l.initial.table l.table (all_places l.rings.items);
   found : IsTrue (g.D.SharedDisk.state l.initial.disk).tells → IsSystemOf (image_of (g.D.SharedDisk.state l.initial.disk)) l.system → IsSearched (image_of (g.D.SharedDisk.state l.initial.disk)) [] 0 0 l.initial.table → AreRings (image_of (g.D.SharedDisk.state l.initial.disk)) (take l.journal-index l.system.journals.items) l.rings.items;
   searched : IsTrue (g.D.SharedDisk.state l.initial.disk).tells → IsSystemOf (image_of (g.D.SharedDisk.state l.initial.disk)) l.system → IsSearched (image_of (g.D.SharedDisk.state l.initial.disk)) [] 0 0 l.initial.table → IsSearched (image_of (g.D.SharedDisk.state l.initial.disk)) (map (λ (ring : Ring). ring.dinode) l.rings.items) 0 0 l.table;
   reads : ReadsOnly (g.D.SharedDisk.state l.initial.disk) (g.D.SharedDisk.state l.disk) (g.D.SharedDisk.list l.initial.disk) (g.D.SharedDisk.list l.disk) (g.D.SharedDisk.faults l.initial.disk) (g.D.SharedDisk.faults l.disk);

@@ -42,3 +42,6 @@ returns-clause-refused c im told same others =
     (subst (All (λ (n : Named). HasRecordIn im (master_of im) c.args.at.now.block (said n))) (sym c.deref-2.ensures.value)
     (leaf_listed im (master_of im) c.args.at.now c.args.bytes.now c.in_ok-records.records.items told.leaf same c.in_ok-records.ensures.found))
     (subst (λ xs. AreDistinct (map said xs)) (sym c.deref-2.ensures.value) c.in_ok-records.ensures.distinct)
+
+pub returns-clause-leaf : goal.returns-clause-leaf
+returns-clause-leaf c im a is same = held c.add_records.result _ _ c.add_records.ensures.added (λ added. c.in_ok-records.ensures.leaf im a is same)

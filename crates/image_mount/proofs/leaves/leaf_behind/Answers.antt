@@ -12,4 +12,4 @@ returns-then-head-tail-clause-stops c im a read format depth is more =
     depth_differs im a c.args.tail.now c.in_ok-head.head _ format is more (c.in_ok-head.ensures.inside im read) c.damaged.ensures (c.in_ok-head.ensures.found im read) c.if-head-tail.true
 
 pub returns-clause-found : goal.returns-clause-found
-returns-clause-found c im a read is more = behind_is im a c.args.tail.now _ is more (c.in_ok-head.ensures.inside im read) (c.in_ok-head.ensures.found im read) refl refl refl refl refl
+returns-clause-found c im a read depth is more = behind_is im a c.args.tail.now _ is (c.in_ok-head.ensures.well im a read depth) more (c.in_ok-head.ensures.inside im read) (c.in_ok-head.ensures.found im read) refl refl refl refl refl

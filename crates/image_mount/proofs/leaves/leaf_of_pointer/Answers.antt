@@ -50,4 +50,4 @@ returns-clause-found c im read of =
     let start : ℕ = c.args.i - c.args.i % c.run-run.result in
     let room = aligned_run start c.run-run.result c.args.pointers.now.depth c.in_ok-head.head.depth c.run-run.ensures (omega (arith, c.requires)) (start_whole c.args.i c.run-run.result some) in
     leaf_is im c.args.inode.now c.args.pointers.now of c.args.i c.pointer-number.result c.run-run.result c.in_ok-head.head c.requires c.pointer-number.ensures (c.in_ok-head.ensures.found im read) c.run-run.ensures
-    _ c.in_ok-by.by c.first_hash_of.result (c.in_ok-head.ensures.inside im read) (c.in_ok-by.ensures.found im read of) c.first_hash_of.ensures refl refl refl refl refl refl (omega (arith, some)) room (c.leads_to.ensures.yes c.if-not-leads_to.false)
+    _ c.in_ok-by.by c.first_hash_of.result (c.in_ok-head.ensures.well im c.args.inode.now.block read of.depth) c.if-number-eq0.false (c.in_ok-head.ensures.inside im read) (c.in_ok-by.ensures.found im read of) c.first_hash_of.ensures refl refl refl refl refl refl (omega (arith, some)) room (c.leads_to.ensures.yes c.if-not-leads_to.false)

@@ -1,8 +1,12 @@
-use Rattle.std.proofs.Common.{drop, sym, ap, ◌∙◌}
+use Rattle.std.proofs.Common.{drop, length, sym, ap, subst, ◌∙◌}
 use Rattle.std.specs.Prelude.{map}
-use Rattle.gfs2_layout.specs.Records.{records_in}
-use Rattle.image_mount.specs.Listing.{said}
-use Rattle.image_mount.proofs.LeafCauses.{leaf_area_in, leaf_listed, taken_leaf}
+use Rattle.std.specs.List.{All}
+use Rattle.gfs2_layout.specs.Records.{records_in, IsRecordArea}
+use Rattle.image_mount.specs.Leaves.{HasHashOf}
+use Rattle.image_mount.specs.Listing.{said, AreDistinct, HasItsOwnName}
+use Rattle.image_mount.specs.Looks.{IsSoundArea}
+use Rattle.image_mount.proofs.LeafCauses.{leaf_area_in, leaf_listed, leaf_sound, taken_leaf}
+use Rattle.image_mount.proofs.Sound.{sound_area}
 use Rattle.image_mount.proofs.Stops.{refused}
 use Rattle.image_mount.proofs.leaves.leaf_records.Goals as goal
 
@@ -36,3 +40,18 @@ returns-in_err-check_hashes-clause-refused c im a format is same =
 
 pub returns-clause-found : goal.returns-clause-found
 returns-clause-found c = c.in_ok-records.ensures.found ∙ ap records_in (taken_leaf c.args.bytes.now)
+
+pub returns-clause-sound : goal.returns-clause-sound
+returns-clause-sound c =
+    let items = c.in_ok-records.records.items in
+    let taken = taken_leaf c.args.bytes.now in
+    subst IsSoundArea taken
+    (sound_area _ items c.in_ok-records.ensures.filled c.in_ok-records.ensures.found (subst (All HasItsOwnName) c.deref.ensures.value c.in_ok-check_names.ensures.named)
+    (subst (λ rs. AreDistinct (map said rs)) c.deref-2.ensures.value c.in_ok-check_twice.ensures.distinct))
+
+pub returns-clause-leaf : goal.returns-clause-leaf
+returns-clause-leaf c im a is same =
+    let items = c.in_ok-records.records.items in
+    let taken = taken_leaf c.args.bytes.now in
+    leaf_sound im a c.args.at.now c.args.bytes.now items is same (c.in_ok-records.ensures.found ∙ ap records_in taken) (subst IsRecordArea taken c.in_ok-records.ensures.filled)
+    (ap length (sym c.deref-3.ensures.value) ∙ c.in_ok-check_entries.ensures.counted) (subst (All (HasHashOf c.args.at.now)) c.deref-4.ensures.value c.in_ok-check_hashes.ensures.hashed)

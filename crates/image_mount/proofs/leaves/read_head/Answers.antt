@@ -1,7 +1,7 @@
 use Rattle.std.proofs.Common.{sym, subst, ◌∙◌, arith}
 use Rattle.gfs2_layout.specs.Headers.{HasHeader}
 use Rattle.image_mount.proofs.Causes.{has, lacks}
-use Rattle.image_mount.proofs.LeafCauses.{leaf_deep, leaf_format, leaf_head, leaf_header}
+use Rattle.image_mount.proofs.LeafCauses.{head_well, leaf_deep, leaf_format, leaf_head, leaf_header}
 use Rattle.image_mount.proofs.Shown.{kept_on}
 use Rattle.image_mount.proofs.Stops.{passed}
 use Rattle.image_mount.proofs.Wanted.{leaf_wanted}
@@ -36,3 +36,9 @@ returns-clause-found c im read =
 
 pub returns-clause-inside : goal.returns-clause-inside
 returns-clause-inside c im read = kept_on im c.args.table.now c.args.number read (c.in_ok-bytes.bytes.now, c.in_ok-bytes.ensures.bytes)
+
+pub returns-clause-well : goal.returns-clause-well
+returns-clause-well c im a read depth =
+    let same = read.same _ _ c.in_ok-bytes.ensures.bytes in
+    head_well im a c.args.number c.args.depth c.in_ok-bytes.bytes.now c.in-Ok.leaf same (has c.has_header.result c.has_header.ensures c.if-not-has_header.false) (sym c.in-Ok.is ∙ c.read.ensures)
+    (leaf_head im c.args.number c.in_ok-bytes.bytes.now c.in-Ok.leaf _ same c.in-Ok.is c.read.ensures) depth c.if-leaf-depth.false

@@ -34,3 +34,4 @@ returns-clause-found c im read is hashed =
     table_is im c.args.inode.now c.in_ok-kept.kept _ is c.in_ok-kept.ensures.block hashed kept (c.in_ok-depth.ensures.depth) size (c.in_ok-bytes.ensures.found im read (size ∙ sym (table_short c.in_ok-depth.depth c.in_ok-depth.ensures.deep)))
     (table_sized im c.in_ok-kept.kept.block c.block_size.result c.in_ok-depth.depth c.in_ok-kept.kept.dinode kept.dinode (c.block_size.ensures.value ∙ read.size) c.in_ok-depth.ensures.depth c.in_ok-depth.ensures.bytes
     c.in_ok-depth.ensures.least c.in_ok-depth.ensures.greatest)
+    (c.in_ok-bytes.ensures.headed im read (size ∙ sym (table_short c.in_ok-depth.depth c.in_ok-depth.ensures.deep)))

@@ -1,11 +1,13 @@
 use Rattle.std.proofs.Common.{◌≡◌, refl, sym, subst, ◌∙◌}
 use Rattle.std.specs.Prelude.{map}
 use Rattle.std.specs.List.{All}
-use Rattle.image_mount.specs.Listing.{said, AreRecordsOf}
+use Rattle.image_mount.specs.Listing.{said, AreDistinct, AreRecordsOf, AreRowsOf, HasItsOwnName}
+use Rattle.image_mount.specs.Looks.{IsSoundArea}
 use Rattle.image_mount.specs.declared.listing.Named.{Named}
 use Rattle.image_mount.proofs.Causes.{linear_of}
 use Rattle.image_mount.proofs.Looks.{linear_sized}
-use Rattle.image_mount.proofs.Records.{area_in, area_of, has_directory, records_of}
+use Rattle.image_mount.proofs.Records.{all_records, area_in, area_of, counted, has_directory, records_of}
+use Rattle.image_mount.proofs.Sound.{linear_sound, sound_area}
 use Rattle.image_mount.proofs.Stops.{passed, stopped}
 use Rattle.image_mount.proofs.Wanted.{wanted}
 use Rattle.image_mount.proofs.listing.list_records.Goals as goal
@@ -39,3 +41,17 @@ returns-clause-found c im read is =
 pub returns-clause-sized : goal.returns-clause-sized
 returns-clause-sized c im read is =
     linear_sized im c.args.inode.now.block c.block_size.result c.args.inode.now.dinode is.dinode (c.block_size.ensures.value ∙ read.size) c.requires.linear c.in_ok-check_linear.ensures.linear
+
+pub returns-clause-sound : goal.returns-clause-sound
+returns-clause-sound c im read is =
+    let inode = c.args.inode.now in
+    let a = inode.block in
+    let items = c.in_ok-records.records.items in
+    let area = area_of im a c.in_ok-bytes.bytes.now _ (read.same _ _ c.in_ok-bytes.ensures.bytes) refl in
+    let are = records_of im a _ _ (has_directory im inode c.args.parent is) (linear_of im a _ is.dinode c.requires.linear) area c.in_ok-records.ensures.found in
+    let checked = c.in_ok-check_records.ensures in
+    let named : All HasItsOwnName items = subst (All HasItsOwnName) c.deref.ensures.value checked.named in
+    let rows : AreRowsOf inode c.args.parent items = subst (AreRowsOf inode c.args.parent) c.deref.ensures.value checked.rows in
+    let distinct : AreDistinct (map said items) = subst (λ rs. AreDistinct (map said rs)) c.deref.ensures.value checked.distinct in
+    linear_sound im inode c.args.parent items is.dinode are (all_records im a items is.inside are c.in_ok-records.ensures.here) (counted im a items are) c.in_ok-records.ensures.here
+    (subst IsSoundArea area (sound_area _ items c.in_ok-records.ensures.filled c.in_ok-records.ensures.found named distinct)) distinct rows

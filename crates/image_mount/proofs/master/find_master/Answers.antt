@@ -6,6 +6,7 @@ use Rattle.dinode_tree.specs.Reading.{IsRightDinode}
 use Rattle.gfs2_layout.specs.Structures.{is_directory}
 use Rattle.image_model.specs.Claims.{every, master_of}
 use Rattle.image_model.specs.Owners.{Master}
+use Rattle.image_mount.specs.Marked.{IsKept}
 use Rattle.image_mount.proofs.Stops.{passed}
 use Rattle.image_mount.proofs.SystemFiles.{is_master, master_file, not_directory}
 use Rattle.image_mount.proofs.master.find_master.Goals as goal
@@ -45,3 +46,6 @@ returns-clause-found c im read few =
         directory = ap is_directory (sym dinode) ∙ yes;
       };
     }
+
+pub returns-clause-there : goal.returns-clause-there
+returns-clause-there c = subst (IsKept c.args.table.now) (sym c.in_ok-inode.ensures.block) c.in_ok-inode.ensures.there

@@ -1,9 +1,12 @@
 use Rattle.std.proofs.Common.{◌≡◌, true, sym, subst, ◌∙◌, arith}
 use Rattle.std.specs.Prelude.{map}
 use Rattle.image_model.specs.Image.{image_of}
-use Rattle.image_mount.specs.Listing.{said, is_hashed_by, AreAllRecords, AreCountedIn}
+use Rattle.image_mount.specs.Listing.{said, is_hashed_by, AreAllRecords, AreCountedIn, AreRowsOf}
 use Rattle.image_mount.proofs.Causes.{hashed_as}
-use Rattle.image_mount.proofs.LeafWalks.{walk_counted, walk_found, walk_plain, walked_by}
+use Rattle.image_mount.proofs.LeafWalks.{came_all, walk_counted, walk_found, walk_leaves, walk_plain, walked_by}
+use Rattle.image_mount.proofs.Marked.{grown_none, grown_on}
+use Rattle.image_mount.proofs.Masters.{table_hashed}
+use Rattle.image_mount.proofs.SoundLeaves.{hashed_sound}
 use Rattle.image_mount.proofs.Stops.{refused}
 use Rattle.image_mount.proofs.master.search_names.Goals as goal
 
@@ -20,7 +23,22 @@ returns-in_err-check_hashed-clause-refused g c tells is known =
 
 pub returns-clause-found : goal.returns-clause-found
 returns-clause-found g c tells is hashed =
+    let im = image_of (g.D.SharedDisk.state c.args.disk.now) in
     let inode = c.args.inode.now in
+    let pointers = c.in_ok-pointers.pointers in
     let of = c.in_ok-pointers.ensures.found tells is hashed in
-    let walk = walked_by _ _ c.in_ok-pointers.ensures.reads.same inode c.in_ok-pointers.pointers c.in_ok-walk.walk c.in_ok-walk.ensures.found tells of in
-    (walk_plain (image_of (g.D.SharedDisk.state c.args.disk.now)) inode c.in_ok-pointers.pointers c.in_ok-walk.walk of walk c.in_ok-walk.ensures.ended, of.sized)
+    let ended = c.in_ok-walk.ensures.ended in
+    let walk = walked_by _ _ c.in_ok-pointers.ensures.reads.same inode pointers c.in_ok-walk.walk c.in_ok-walk.ensures.found tells of in
+    record {
+      plain = walk_plain im inode pointers c.in_ok-walk.walk of walk ended;
+      sized = of.sized;
+      leaves = walk_leaves im inode pointers c.in_ok-walk.walk of walk ended;
+      sound = hashed_sound im inode inode.block c.in_ok-walk.walk is.dinode (table_hashed im inode pointers of) walk (came_all im inode pointers c.in_ok-walk.walk of walk ended) (walk_found im inode pointers c.in_ok-walk.walk of walk ended)
+          (walk_counted im inode pointers c.in_ok-walk.walk of walk ended) (subst (AreRowsOf inode inode.block) c.deref.ensures.value c.in_ok-check_hashed.ensures.rows);
+    }
+
+pub returns-then-not-is_hashed-clause-grown : goal.returns-then-not-is_hashed-clause-grown
+returns-then-not-is_hashed-clause-grown g c = grown_none c.args.table.now
+
+pub returns-clause-grown : goal.returns-clause-grown
+returns-clause-grown g c = grown_on c.args.table.now c.search_pointers.new.table c.walk_leaves.new.table c.in_ok-pointers.ensures.grown c.in_ok-walk.ensures.grown

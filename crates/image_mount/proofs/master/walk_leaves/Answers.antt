@@ -1,10 +1,11 @@
-use Rattle.std.proofs.Common.{◌^◌, ◌≤◌, [], refl, ap, arith, ◌∙◌}
+use Rattle.std.proofs.Common.{◌^◌, ◌≤◌, [], ap, arith, ◌∙◌}
 use Rattle.image_model.specs.Claims.{master_of}
 use Rattle.image_model.specs.Image.{image_of}
 use Rattle.shared_disk.specs.Disk.{DiskState}
 use Rattle.image_mount.proofs.LeafWalks.{next_leaf_in, walked_at}
 use Rattle.image_mount.specs.Leaves.{ComesNext, IsLeafIn}
 use Rattle.image_mount.specs.declared.leaf.LeafAt.{LeafAt}
+use Rattle.image_mount.proofs.Marked.{grown_none, grown_on}
 use Rattle.image_mount.proofs.Marks.{go_refused}
 use Rattle.image_mount.proofs.Numbered.{at_some}
 use Rattle.image_mount.proofs.Shown.{kept_inside}
@@ -16,6 +17,7 @@ use Rattle.image_mount.proofs.master.walk_leaves.Goals as goal
 pub loop-at-init : goal.loop-at-init
 loop-at-init g c = record {
   work = c.requires.work;
+  grown = grown_none c.args.table.now;
   count = c.in_ok-walk.ensures.count ∙ c.blocks-2.ensures.value;
   within = omega (arith, c.in_ok-walk.ensures.index);
   walked = λ tells of. c.in_ok-walk.ensures.walked (image_of (g.D.SharedDisk.state c.args.disk.now)) (master_of (image_of (g.D.SharedDisk.state c.args.disk.now)));
@@ -43,6 +45,7 @@ loop-at-preserved-in-Continue-branch-2 g c =
     let entered = c.in_ok-enter-in-Ok.ensures in
     record {
       work = inv.work;
+      grown = inv.grown;
       count = entered.count ∙ inv.count;
       within = omega (arith, entered.index, at_some c.in-Ok-Some.field-0 c.in-Ok-Some.at (λ (a : LeafAt). a.behind ≤ 2 ^ c.args.pointers.now.depth) c.in-Ok-Some.field-0-is c.in-Ok-Some.ensures.run);
       walked = λ tells of.
@@ -78,6 +81,7 @@ loop-at-preserved g c =
     let next = c.in_ok-go_on-in-Err.ensures in
     record {
       work = next.work;
+      grown = grown_on _ _ _ inv.grown next.grown;
       count = inv.count;
       within = inv.within;
       walked = inv.walked;

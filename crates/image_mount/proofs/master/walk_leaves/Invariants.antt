@@ -1,15 +1,17 @@
-use Rattle.std.proofs.Common.{◌≡◌, ◌≤◌, ◌+◌, ◌^◌, ℕ, [], IsTrue, vec_len}
+use Rattle.std.proofs.Common.{◌≡◌, ◌≤◌, ◌+◌, ◌^◌, [], IsTrue, vec_len}
 use Rattle.image_model.specs.Claims.{master_of}
 use Rattle.image_model.specs.Image.{image_of}
 use Rattle.image_mount.specs.Leaves.{IsTableOf, IsWalked, steps_left}
 use Rattle.image_mount.specs.Rings.{IsSearched}
 use Rattle.image_mount.specs.Searching.{IsWorking}
+use Rattle.image_mount.specs.Marked.{IsGrown}
 use Rattle.shared_disk.specs.Disk.{ReadsOnly}
 use Rattle.image_mount.proofs.master.walk_leaves.Given as goal
 
 abbrev pub invariant-loop-at : goal.invariant-loop-at
 invariant-loop-at g l = record {
   work : IsWorking (g.D.SharedDisk.state l.disk) l.table;
+  grown : IsGrown l.initial.table l.table;
   count : vec_len l.walk.owners.entries ≡ (g.D.SharedDisk.state l.initial.disk).count;
   within : l.walk.index ≤ 2 ^ l.pointers.depth;
   walked : IsTrue (g.D.SharedDisk.state l.initial.disk).tells → IsTableOf (image_of (g.D.SharedDisk.state l.initial.disk)) l.inode l.pointers → IsWalked (image_of (g.D.SharedDisk.state l.initial.disk)) (master_of (image_of (g.D.SharedDisk.state l.initial.disk))) l.walk;

@@ -3,9 +3,11 @@ use Rattle.std.specs.Prelude.{map}
 use Rattle.glock_names.specs.Views.{group_of_entry}
 use Rattle.image_model.specs.Image.{image_of}
 use Rattle.image_mount.specs.Refusals.{RefusesRightly}
-use Rattle.image_mount.specs.Rings.{AreRings}
+use Rattle.image_mount.specs.Rings.{AreRings, all_places}
 use Rattle.image_mount.specs.System.{layout_of}
+use Rattle.image_mount.proofs.Marked.{marked_once, place_unkept, unkept_new}
 use Rattle.image_mount.proofs.Marks.{searched_new}
+use Rattle.image_mount.proofs.Moved.{stay_kept}
 use Rattle.image_mount.proofs.Ending.{refused_where, excused_where, mounted, rings_told, journals_refused, journals_found}
 use Rattle.image_mount.proofs.Working.{working_new}
 use Rattle.image_mount.proofs.mounting.mount_image.Goals as goal
@@ -48,4 +50,10 @@ returns-clause-mounted g c tells =
     let looked = (c.in_ok-system.ensures.found tells (searched_new (image_of (g.D.SharedDisk.state c.args.disk.now)) c.in_ok-table.table c.in_ok-table.ensures.empty c.in_ok-table.ensures.places)) in
     let rings = (rings_told _ _ c.in_ok-system.ensures.reads.same c.in_ok-system.system _ (λ i. AreRings i c.in_ok-system.system.journals.items c.in_ok-rings.rings.items) c.in_ok-rings.ensures.found tells (c.in_ok-system.ensures.found tells (searched_new (image_of (g.D.SharedDisk.state c.args.disk.now)) c.in_ok-table.table c.in_ok-table.ensures.empty c.in_ok-table.ensures.places)) (c.in_ok-system.ensures.searched tells (searched_new (image_of (g.D.SharedDisk.state c.args.disk.now)) c.in_ok-table.table c.in_ok-table.ensures.empty c.in_ok-table.ensures.places))) in
     let journals = journals_found _ _ (c.in_ok-rings.ensures.reads.same ∙ c.in_ok-system.ensures.reads.same) c.in_ok-rings.rings.items c.in_ok-journals.journals.items c.in_ok-journals.ensures.found tells rings.each in
-    mounted (image_of (g.D.SharedDisk.state c.args.disk.now)) c.in_ok-system.system c.in_ok-rings.rings.items c.in_ok-journals.journals.items _ looked rings journals refl (c.in_ok-map_groups.ensures ∙ ap (map group_of_entry) c.deref.ensures.value) refl
+    mounted (image_of (g.D.SharedDisk.state c.args.disk.now)) c.in_ok-system.system c.in_ok-rings.rings.items c.in_ok-journals.journals.items _ looked rings journals c.in_ok-rings.ensures.placed
+    (marked_once c.search_system.new.table c.find_rings.new.table (all_places c.in_ok-rings.rings.items) c.in_ok-rings.ensures.marked) c.in_ok-rings.ensures.own c.find_rings.new.table
+    (stay_kept (image_of (g.D.SharedDisk.state c.args.disk.now)) c.search_system.new.table c.find_rings.new.table c.in_ok-system.system c.in_ok-rings.ensures.grown
+    (c.in_ok-system.ensures.dinodes tells (searched_new (image_of (g.D.SharedDisk.state c.args.disk.now)) c.in_ok-table.table c.in_ok-table.ensures.empty c.in_ok-table.ensures.places)))
+    c.in_ok-rings.ensures.kept
+    (λ j p b ring at there. place_unkept c.search_system.new.table c.find_rings.new.table c.in_ok-rings.rings.items j p b ring c.in_ok-rings.ensures.marked
+    (c.in_ok-rings.ensures.grown.unkept (c.in_ok-system.ensures.grown.unkept (unkept_new c.in_ok-table.table c.in_ok-table.ensures.places))) at there) refl (c.in_ok-map_groups.ensures ∙ ap (map group_of_entry) c.deref.ensures.value) refl

@@ -1,5 +1,6 @@
-use Rattle.std.proofs.Common.{[], arith, ◌∙◌}
+use Rattle.std.proofs.Common.{[]}
 use Rattle.image_model.specs.Image.{image_of}
+use Rattle.image_mount.proofs.Marked.{grown_on}
 use Rattle.image_mount.proofs.Marks.{go_refused}
 use Rattle.image_mount.proofs.Stops.{refused}
 use Rattle.image_mount.proofs.Working.{read_now}
@@ -12,6 +13,7 @@ loop-system-preserved g c =
     let next = c.in_ok-go_on-in-Err.ensures in
     record {
       work = next.work;
+      grown = grown_on _ _ _ inv.grown next.grown;
       searched = λ tells is named known.
           next.searched (image_of (g.D.SharedDisk.state c.args.disk.now)) [] 0 0 (c.in-Err.ensures.stops (image_of (g.D.SharedDisk.state c.args.disk.now)) (read_now _ _ _ inv.reads.same tells inv.work) c.blocks-count.ensures.value is named) (inv.searched tells is named known);
       reads = reads_on inv.reads next.reads;

@@ -7,6 +7,7 @@ use Rattle.image_model.specs.Claims.{every, master_of}
 use Rattle.image_model.specs.Owners.{Named}
 use Rattle.image_model.specs.Rules.{HasRecordIn, HasRecords}
 use Rattle.image_mount.specs.Listing.{said, AreRecordsOf}
+use Rattle.image_mount.specs.Looks.{IsSoundDirectory}
 use Rattle.image_mount.specs.System.{AreJournalsAmong, AreJournalsOf}
 use Rattle.image_mount.proofs.Causes.{told}
 use Rattle.image_mount.proofs.Numbered.{journals_of}
@@ -64,7 +65,7 @@ returns-clause-found c im l read groups at same low named =
     let are : AreRecordsOf im inode.block (map said items) = c.in_ok-records.ensures.found im read directory in
     let among = subst (λ xs. AreJournalsAmong xs c.in_ok-journals.journals.items) c.deref.ensures.value c.in_ok-journals.ensures.found in
     subst (λ a. AreJournalsOf im a c.in_ok-journals.journals.items) c.in_ok-inode.ensures.block (journals_of im inode.block items c.in_ok-journals.journals.items directory.inside
-    (record { dinode = subst (λ a. IsRightDinode (every im a)) (sym c.in_ok-inode.ensures.block) (c.in_ok-inode.ensures.right im read); sized = c.in_ok-records.ensures.sized im read directory }) are c.in_ok-records.ensures.here c.in_ok-records.ensures.distinct among)
+    (record { dinode = subst (λ a. IsRightDinode (every im a)) (sym c.in_ok-inode.ensures.block) (c.in_ok-inode.ensures.right im read); sized = c.in_ok-records.ensures.sized im read directory }) (subst (IsSoundDirectory im inode.block) same (c.in_ok-records.ensures.sound im read directory)) are c.in_ok-records.ensures.here c.in_ok-records.ensures.distinct among)
 
 pub returns-clause-repeats : goal.returns-clause-repeats
 returns-clause-repeats c im read =

@@ -66,3 +66,11 @@ returns-then-is_hashed-clause-sized c im read is plain =
 
 pub returns-clause-sized : goal.returns-clause-sized
 returns-clause-sized c im read is plain = c.in_ok-records.ensures.sized im read (master_directory im c.args.inode.now is)
+
+pub returns-then-is_hashed-clause-sound : goal.returns-then-is_hashed-clause-sound
+returns-then-is_hashed-clause-sound c im read is plain =
+    let hashed : is_hashed_by c.args.inode.now.dinode ≡ true = sym c.is_hashed.ensures ∙ c.if-is_hashed.true in
+    absurd (both_ways (is_hashed_in (every im c.args.inode.now.block)) plain (hashed_as im c.args.inode.now.block _ true is.dinode hashed))
+
+pub returns-clause-sound : goal.returns-clause-sound
+returns-clause-sound c im read is plain = c.in_ok-records.ensures.sound im read (master_directory im c.args.inode.now is)

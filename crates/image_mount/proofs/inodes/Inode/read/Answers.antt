@@ -3,6 +3,7 @@ use Rattle.image_mount.proofs.Wanted.{dinode_leads}
 use Rattle.image_model.specs.Claims.{every}
 use Rattle.gfs2_layout.specs.Inode.{dinode_in, Fits}
 use Rattle.std.proofs.Common.{◌≡◌, [], ap, ◌∙◌}
+use Rattle.image_mount.proofs.Marked.{has_kept}
 use Rattle.image_mount.proofs.Shown.{shown, inode_at, damage_told, kept_on}
 use Rattle.dinode_tree.specs.Shown.{HasBlock}
 use Rattle.dinode_tree.specs.Reading.{IsRightDinode}
@@ -44,3 +45,7 @@ returns-in-Is-clause-inside c im read =
 pub returns-in-Is-clause-right : goal.returns-in-Is-clause-right
 returns-in-Is-clause-right c im read =
     answer_at c.in_ok-dinode.field-0 c.in-Is.dinode (λ d. IsRightDinode (every im c.args.block)) c.in-Is.is (c.in_ok-dinode.ensures.right (every im c.args.block) (shown im c.args.table.now c.args.block read))
+
+pub returns-in-Is-clause-there : goal.returns-in-Is-clause-there
+returns-in-Is-clause-there c =
+    has_kept c.args.table.now c.args.block (answer_at c.in_ok-dinode.field-0 c.in-Is.dinode (λ d. HasBlock (seen_of c.args.table.now) c.args.block) c.in-Is.is c.in_ok-dinode.ensures.there)

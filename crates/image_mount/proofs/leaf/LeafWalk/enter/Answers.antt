@@ -3,6 +3,8 @@ use Rattle.std.specs.Prelude.{map}
 use Rattle.gfs2_layout.specs.Records.{Record, records_in}
 use Rattle.image_mount.specs.Found.{first_other}
 use Rattle.image_mount.specs.Listing.{standing}
+use Rattle.image_model.specs.Claims.{master_of}
+use Rattle.image_mount.specs.Looks.{IsSoundArea}
 use Rattle.image_model.specs.Owners.{Chained}
 use Rattle.image_reader.specs.Owning.{IsEntered}
 use Rattle.image_mount.proofs.LeafWalks.{clash_told, fell, first_told, others_stand, owned_by, short_kept, walked_fresh, walked_known}
@@ -38,4 +40,4 @@ returns-clause-walked c im of same bytes =
     let there = ap (λ b. records_in (drop 104 b)) (sym bytes) in
     walked_fresh im c.args.self.now c.args.at.now of _ _ (ap (λ a. Chained a c.args.at.now.hash c.args.at.now.place) same) refl entered refl
     (c.in_ok-add_leaf.ensures.added ∙ ap (λ rs. map standing c.args.self.now.records.items ++ map (λ (r : Record). (r, c.args.at.now.block)) rs) there) (ap first_other (sym there) ∙ c.in_ok-add_leaf.ensures.plain)
-    (c.in_ok-add_leaf.ensures.distinct of.walked.distinct)
+    (c.in_ok-add_leaf.ensures.distinct of.walked.distinct) (record { area = subst (λ b. IsSoundArea (drop 104 b)) (sym bytes) c.in_ok-add_leaf.ensures.sound; leaf = c.in_ok-add_leaf.ensures.leaf im (master_of im) of.leaf bytes })
