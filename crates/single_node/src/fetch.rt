@@ -21,6 +21,7 @@ pub(crate) fn fetch<D: SharedDisk>(
     ensures inside { OnOk result (block < (D.state disk.old).count) }
     ensures outside { IfErr result (λ end. IfNotRead end (λ b why. (b ≡ from) × (why ≡ Refusal.LeadsOut) × ((D.state disk.old).count ≤ block))) }
     ensures failed { IfErr result (λ end. IfDiskFailed end (λ b. b ≡ block)) }
+    ensures within { IfErr result (λ end. IfDiskFailed end (λ b. b < (D.state disk.old).count)) }
     ensures reads { ReadsOnly (D.state disk.old) (D.state disk.new) (D.list disk.old) (D.list disk.new) (D.faults disk.old) (D.faults disk.new) }
     ensures cause { IfErr result (EndHasCause node (D.faults disk.old) (D.faults disk.new)) }
 {

@@ -128,6 +128,7 @@ fn fill_root<D: SharedDisk>(disk: &mut D, address: u64, block: &mut [u8]) -> Res
     ensures root { OnOk result (IsFlatDirectory (D.state disk.old).size address block.new) }
     ensures block { IfErr result (λ end. IfNotRead end (λ b why. IsTrue (D.state disk.old).tells → RootRefused (D.state disk.old) address b why)) }
     ensures failed { IfErr result (λ end. IfDiskFailed end (λ b. b ≡ address)) }
+    ensures within { IfErr result (λ end. IfDiskFailed end (λ b. b < (D.state disk.old).count)) }
     ensures reads { ReadsOnly (D.state disk.old) (D.state disk.new) (D.list disk.old) (D.list disk.new) (D.faults disk.old) (D.faults disk.new) }
     ensures cause { IfErr result (EndHasCause 0 (D.faults disk.old) (D.faults disk.new)) }
 {
@@ -155,6 +156,7 @@ pub fn read_root<D: SharedDisk>(alloc: Global, disk: &mut D, address: u64) -> Re
     ensures area { IfOk result (λ block. (length block ≡ (D.state disk.old).size) × IsArea (stuffed_part block)) }
     ensures block { IfErr result (λ end. IfNotRead end (λ b why. IsTrue (D.state disk.old).tells → RootRefused (D.state disk.old) address b why)) }
     ensures failed { IfErr result (λ end. IfDiskFailed end (λ b. b ≡ address)) }
+    ensures within { IfErr result (λ end. IfDiskFailed end (λ b. b < (D.state disk.old).count)) }
     ensures reads { ReadsOnly (D.state disk.old) (D.state disk.new) (D.list disk.old) (D.list disk.new) (D.faults disk.old) (D.faults disk.new) }
     ensures cause { IfErr result (EndHasCause 0 (D.faults disk.old) (D.faults disk.new)) }
 {
