@@ -1,7 +1,7 @@
 -- A command that may be carried out is, but for want of memory.
-use Rattle.std.proofs.Common.{◌≡◌, ◌⊎◌, inl, inr, ℕ, ◌≤◌, ◌<◌, true, false, List, ◌++◌, refl, sym, ap, ◌∙◌, subst, arith, append-nil}
+use Rattle.std.proofs.Common.{◌≡◌, ◌⊎◌, inl, inr, ℕ, ◌≤◌, true, false, List, ◌++◌, refl, sym, ap, ◌∙◌, subst, arith, append-nil}
 use Rattle.profile_limits.specs.Limits.{most_blocks}
-use Rattle.std.specs.Prelude.{Option, Some, None, Result, Ok}
+use Rattle.std.specs.Prelude.{Option, Some, None, Ok}
 use Rattle.std.specs.Io.KnownBytes.{Consumes, IsAtEnd}
 use Rattle.fault_counts.specs.Causes.{Rose, WentUp}
 use Rattle.trace_text.specs.declared.item.TraceItem.{TraceItem}
@@ -12,8 +12,8 @@ use Rattle.cluster_program.specs.declared.status.Status.{Status}
 use Rattle.cluster_program.specs.declared.status.Status.TheVariants as status
 use Rattle.cluster_program.specs.declared.status.Which.{Which}
 use Rattle.cluster_program.specs.World.{Inputs, Outputs}
-use Rattle.cluster_program.specs.Course.{Course, RefusesWords, MakesImage, NoScript, Makes, IsTooLarge, IsTooSmall, LacksMemory, HasFailed, HasMade, AsksToRun, AsksToMake, plan_for, RunsScript, LacksScript, SourceFailed, Refused, RefusedEarly, NotBuiltYet, RunEnds, IsDone, NotMounted, CallFailed, CallRefused, CallDamaged, NoRoom, AsksToShow, Shows, HasShown, ShowsNone, TreeFailed, TreeRefused, TreeDamaged, NothingHeld, ShowsImage}
-use Rattle.cluster_program.specs.Mounting.{MountEnds, DiskFails, LiesOutside, IsDamaged, IsDirty, IsHashed, HasOtherRoot, LacksRoom}
+use Rattle.cluster_program.specs.Course.{Course, RefusesWords, MakesImage, NoScript, Makes, IsTooLarge, IsTooSmall, LacksMemory, HasFailed, HasMade, plan_for, RunsScript, LacksScript, SourceFailed, Refused, RefusedEarly, NotBuiltYet, RunEnds, IsDone, NotMounted, CallFailed, CallRefused, CallDamaged, NoRoom, Shows, HasShown, ShowsNone, TreeFailed, TreeRefused, TreeDamaged, NothingHeld, ShowsImage}
+use Rattle.cluster_program.specs.Mounting.{MountEnds, DiskFails, LiesOutside, IsDamaged, IsDirty, IsHashed, HasFarRoot, HasOtherRoot, LacksRoom}
 use Rattle.cluster_program.specs.Report.{Becomes, Stays, WithoutMemory, Fails, Reports}
 use Rattle.cluster_program.specs.Command.{NoneRose, IsMountable, IsRunnable, IsShowable, IsMakeable, IsComplete}
 use Rattle.mkgfs2_tool.specs.Order.{fits}
@@ -70,21 +70,22 @@ module _ (words : List (List ℕ)) (given left : Inputs) (sinks sinks_now : Outp
       let it = dirty may.flat.tells in
       let both : true ≡ false = sym (may.clean it.0 it.1.0 it.1.1.0 it.1.1.1.0 it.1.1.1.1) ∙ it.1.1.1.2 in cc
   of_mount may own (IsHashed block hashed) = absurd (may.linear block (hashed may.flat.tells).0 (hashed may.flat.tells).1)
-  of_mount may own (HasOtherRoot block other) = absurd ((other may.flat.tells).1 may.flat.root)
+  of_mount may own (HasFarRoot block clean far breaks never) = absurd (never may.flat.tells may.tree may.stands)
+  of_mount may own (HasOtherRoot block clean other) = absurd ((other may.flat.tells).2 may.flat.root)
   of_mount may own LacksRoom = inr refl
 
   of_show : IsMountable given.disk → (lines : List ℕ) (own : Status) → Shows given.disk given.disk_faults left.disk_faults lines own → IsWhole own
-  of_show may lines own (HasShown m lines' mounted clean are stands) = inl refl
+  of_show may lines own (HasShown m lines' shown mounted clean are flat stands) = inl refl
   of_show may lines own (ShowsNone own' ends) = of_mount may own ends
-  of_show may lines own (TreeFailed root block x y up begins reads) = absurd (none.disk 0 (rose (given.disk_faults 0) (left.disk_faults 0) x y up))
-  of_show may lines own (TreeRefused root block other begins refuses) = absurd (other may.tree may.flat)
-  of_show may lines own (TreeDamaged root block rule why is other begins refuses breaks) = absurd (other may.tree may.flat)
+  of_show may lines own (TreeFailed root block x y clean up within begins reads) = absurd (none.disk 0 (rose (given.disk_faults 0) (left.disk_faults 0) x y up))
+  of_show may lines own (TreeRefused root block clean other begins refuses) = absurd (other may.tree may.flat)
+  of_show may lines own (TreeDamaged root block rule why clean is other begins refuses breaks) = absurd (other may.tree may.flat)
   of_show may lines own NothingHeld = inr refl
 
   of_run : IsMountable given.disk → (s : ScriptValue) (items : List TraceItem) (own : Status) → RunEnds given.disk given.disk_faults left.disk_faults s items own → IsWhole own
   of_run may s items own (IsDone all whole) = inl refl
   of_run may s items own (NotMounted own' none_yet ends) = of_mount may own ends
-  of_run may s items own (CallFailed root block x y up begins reads) = absurd (none.disk 1 (rose (given.disk_faults 1) (left.disk_faults 1) x y up))
+  of_run may s items own (CallFailed root block x y up within begins reads) = absurd (none.disk 1 (rose (given.disk_faults 1) (left.disk_faults 1) x y up))
   of_run may s items own (CallRefused root block other begins refuses) = absurd (other may.tree may.flat)
   of_run may s items own (CallDamaged root block rule why is other begins refuses breaks) = absurd (other may.tree may.flat)
   of_run may s items own NoRoom = inr refl

@@ -1,11 +1,10 @@
 -- No journal is left dirty by a run of one node that writes nothing.
-use Rattle.std.proofs.Common.{◌≡◌, ◌⊎◌, inl, inr, ℕ, zero, suc, ◌+◌, List, [], ◌∷◌, ◌++◌, Bool, true, false, cond, Some, refl, sym, ap, ◌∙◌, subst, arith}
-use Rattle.std.specs.Prelude.{◌==◌, ◌≢◌, count_by, not, slice_get, IsTrue}
+use Rattle.std.proofs.Common.{◌≡◌, ◌⊎◌, inl, inr, ℕ, suc, ◌+◌, List, [], ◌∷◌, ◌++◌, Bool, true, false, cond, Some, refl, sym, ap, ◌∙◌, subst, arith}
+use Rattle.std.specs.Prelude.{◌≢◌, count_by, not, slice_get}
 use Rattle.std.specs.List.{range_with_len}
 use Rattle.std.proofs.lemmas.Bool.{cond-false}
 use Rattle.std.proofs.lemmas.List.Sums.{sum_by-cons}
-use Rattle.image_model.specs.Image.{Image}
-use Rattle.image_mount.specs.Mounted.{Journal, MountedValue, IsMounted}
+use Rattle.image_mount.specs.Mounted.{Journal, MountedValue}
 use Rattle.shared_disk.specs.Disk.{DiskState}
 use Rattle.script_lang.specs.Script.{ScriptValue}
 use Rattle.script_lang.specs.declared.script.Client.{Client}
@@ -13,8 +12,8 @@ use Rattle.single_node.specs.Run.{AnsweredCall, items_from}
 use Rattle.trace_text.specs.declared.item.TraceItem.{TraceItem}
 use Rattle.trace_text.specs.declared.item.TraceItem.TheVariants as trace
 use Rattle.cluster_program.specs.World.{Inputs}
-use Rattle.cluster_program.specs.Course.{Course, RefusesWords, MakesImage, ShowsImage, NoScript, RunsScript, Runs}
-use Rattle.cluster_program.specs.Dirty.{dirty_in, dirty_by, is_left_dirty, IsDirtyCount, OfTheImage, OfTheItems, NothingRan}
+use Rattle.cluster_program.specs.Course.{Course, RefusesWords, MakesImage, ShowsImage, NoScript, RunsScript}
+use Rattle.cluster_program.specs.Dirty.{dirty_in, is_left_dirty, IsDirtyCount, OfTheImage, OfTheItems, NothingRan}
 use Rattle.cluster_program.specs.Mounting.{OfImage, IsLeftClean, IsMountedClean}
 use Rattle.cluster_program.specs.Out.{is_done}
 use Rattle.cluster_program.specs.declared.status.Status.{Status}

@@ -14,7 +14,7 @@ use Rattle.cluster_program.specs.declared.status.Which.{Which}
 use Rattle.cluster_program.specs.declared.status.Which.TheVariants as which
 use Rattle.cluster_program.specs.World.{Inputs, Outputs}
 use Rattle.cluster_program.specs.Course.{Course, RefusesWords, MakesImage, NoScript, Makes, IsTooLarge, IsTooSmall, LacksMemory, HasFailed, HasMade, RunsScript, LacksScript, SourceFailed, Refused, RefusedEarly, NotBuiltYet, RunEnds, IsDone, NotMounted, CallFailed, CallRefused, CallDamaged, NoRoom, Shows, HasShown, ShowsNone, TreeFailed, TreeRefused, TreeDamaged, NothingHeld, ShowsImage, words_refusal, refusal_of, is_built}
-use Rattle.cluster_program.specs.Mounting.{MountEnds, DiskFails, LiesOutside, IsDamaged, IsDirty, IsHashed, HasOtherRoot, LacksRoom}
+use Rattle.cluster_program.specs.Mounting.{MountEnds, DiskFails, LiesOutside, IsDamaged, IsDirty, IsHashed, HasFarRoot, HasOtherRoot, LacksRoom}
 use Rattle.cluster_program.specs.Report.{Becomes, Stays, WithoutMemory, Fails, Reports}
 use Rattle.cluster_program.specs.Command.{FaultHasCause}
 
@@ -49,21 +49,22 @@ module _ (given left : Inputs) (sinks sinks_now : Outputs) where
   mount_fault own (IsDamaged block rule breaks never) = tt
   mount_fault own (IsDirty block dirty) = tt
   mount_fault own (IsHashed block hashed) = tt
-  mount_fault own (HasOtherRoot block other) = tt
+  mount_fault own (HasFarRoot block clean far breaks never) = tt
+  mount_fault own (HasOtherRoot block clean other) = tt
   mount_fault own LacksRoom = tt
 
   show_fault : (lines : List ℕ) (own : Status) → Shows given.disk given.disk_faults left.disk_faults lines own → FaultHasCause given left sinks sinks_now own
-  show_fault lines own (HasShown m lines' mounted clean are stands) = tt
+  show_fault lines own (HasShown m lines' shown mounted clean are flat stands) = tt
   show_fault lines own (ShowsNone own' ends) = mount_fault own ends
-  show_fault lines own (TreeFailed root block x y up begins reads) = up
-  show_fault lines own (TreeRefused root block other begins refuses) = tt
-  show_fault lines own (TreeDamaged root block rule why is other begins refuses breaks) = tt
+  show_fault lines own (TreeFailed root block x y clean up within begins reads) = up
+  show_fault lines own (TreeRefused root block clean other begins refuses) = tt
+  show_fault lines own (TreeDamaged root block rule why clean is other begins refuses breaks) = tt
   show_fault lines own NothingHeld = tt
 
   run_fault : (s : ScriptValue) (items : List TraceItem) (own : Status) → RunEnds given.disk given.disk_faults left.disk_faults s items own → FaultHasCause given left sinks sinks_now own
   run_fault s items own (IsDone all whole) = tt
   run_fault s items own (NotMounted own' none ends) = mount_fault own ends
-  run_fault s items own (CallFailed root block x y up begins reads) = up
+  run_fault s items own (CallFailed root block x y up within begins reads) = up
   run_fault s items own (CallRefused root block other begins refuses) = tt
   run_fault s items own (CallDamaged root block rule why is other begins refuses breaks) = tt
   run_fault s items own NoRoom = tt

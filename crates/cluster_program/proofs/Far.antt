@@ -1,6 +1,6 @@
 -- What a call refuses in the root breaks a rule there: a number of a block outside the disk, and a name that is none.
-use Rattle.std.proofs.Common.{◌≡◌, ◌≢◌, ◌⊎◌, ℕ, ◌%◌, ◌/◌, ◌<◌, ◌≤◌, length, arith, Bool, true, false, ◌&&◌, ◌==◌, List, ◌∷◌, [], map, Some, inl, inr, refl, sym, ap, ◌∙◌, subst}
-use Rattle.std.specs.Prelude.{codes, IsTrue, not, Contains, find, filter, if◌then◌else◌, Option}
+use Rattle.std.proofs.Common.{◌≡◌, ◌≢◌, ◌⊎◌, ℕ, ◌<◌, ◌≤◌, length, arith, Bool, true, false, List, ◌∷◌, [], map, Some, inl, inr, refl, sym, ap, ◌∙◌, subst}
+use Rattle.std.specs.Prelude.{codes, not, Contains, find, if◌then◌else◌}
 use Rattle.std.specs.List.{AllByRecursion}
 use Rattle.std.specs.Str.{bytes_eq}
 use Rattle.std.proofs.lemmas.Bool.{both_ways, cases_Bool, cases_eq, cases_lt}
@@ -9,11 +9,11 @@ use Rattle.file_tree.specs.Names.{IsName, IsNameByte}
 use Rattle.file_tree.specs.declared.call.Call.{Call}
 use Rattle.gfs2_layout.specs.Area.{Slot, slots_of, name_of, has_name, first_named}
 use Rattle.gfs2_layout.specs.Device.{superblock_place}
-use Rattle.gfs2_layout.specs.Inode.{is_directory_in, is_hashed_in, linear_area, dinode_in}
-use Rattle.gfs2_layout.specs.Records.{Record, record_of, records_in, is_dots}
-use Rattle.gfs2_layout.specs.Structures.{dinode_of, is_directory, is_in_use}
-use Rattle.image_model.specs.Claims.{every, Claims, root, in_dinode, HasDirectory, behind_dinode}
-use Rattle.image_model.specs.Image.{Image, image_of, superblock_in}
+use Rattle.gfs2_layout.specs.Inode.{is_directory_in, is_hashed_in, dinode_in}
+use Rattle.gfs2_layout.specs.Records.{record_of, records_in, is_dots}
+use Rattle.gfs2_layout.specs.Structures.{is_in_use}
+use Rattle.image_model.specs.Claims.{every, root, in_dinode, HasDirectory, behind_dinode}
+use Rattle.image_model.specs.Image.{image_of}
 use Rattle.image_model.specs.Owners.{Root, Named}
 use Rattle.image_model.specs.Rules.{Breaks, IsBrokenBlock, beyond_device, no_name}
 use Rattle.image_model.proofs.Members.{IsIn, contained, in_filter}

@@ -1,20 +1,20 @@
 -- How mkfs ends, as the top call tells it.
-use Rattle.std.proofs.Common.{◌≡◌, ℕ, ◌≤◌, ◌<◌, Bool, true, false, List, refl, sym, ap, ◌∙◌, subst, arith}
+use Rattle.std.proofs.Common.{◌≡◌, ℕ, ◌≤◌, true, List, refl, sym, ap, ◌∙◌, subst, arith}
 use Rattle.profile_limits.specs.Limits.{most_blocks}
-use Rattle.std.specs.Prelude.{Option, None, Some, Result, Ok, Err, nat_le, ◌&&◌, if◌then◌else◌}
+use Rattle.std.specs.Prelude.{Option, None, Some, Result, Ok, Err}
 use Rattle.std.proofs.lemmas.Bool.Decides.{nat_tests}
 use Rattle.shared_disk.specs.Disk.{DiskState, Operation}
 use Rattle.command_words.specs.Limits.{IsMakeWithin}
 use Rattle.command_words.specs.declared.command.MakeWords.{MakeWords}
 use Rattle.mkgfs2_tool.specs.Making.{bad_option, is_between, IsFaultOf}
-use Rattle.mkgfs2_tool.specs.Outcomes.{Ending, IsRefused, IsTooSmall, IsTried, PlanEnding, LacksMemory, HasFailed, HasMade, IsUntouched}
+use Rattle.mkgfs2_tool.specs.Outcomes.{Ending, IsRefused, IsTooSmall, IsTried, LacksMemory, HasFailed, HasMade, IsUntouched}
 use Rattle.mkgfs2_tool.specs.declared.options.MakeOptions.{MakeOptions}
 use Rattle.mkgfs2_tool.specs.declared.options.Opt.{Opt}
 use Rattle.mkgfs2_tool.specs.declared.options.MakeFault.{MakeFault}
 use Rattle.mkgfs2_tool.specs.declared.options.MakeFault.TheVariants as fault
 use Rattle.cluster_program.specs.Course as course
 use Rattle.cluster_program.specs.Course.{Makes, options_of}
-use Rattle.cluster_program.specs.World.{Inputs, inputs}
+use Rattle.cluster_program.specs.World.{inputs}
 use Rattle.cluster_program.specs.declared.status.Status.{Status}
 use Rattle.cluster_program.specs.declared.status.Status.TheVariants as status
 

@@ -1,5 +1,5 @@
 -- How a run of a script ends.
-use Rattle.std.proofs.Common.{◌≡◌, ℕ, ◌≤◌, List, [], length, IsTrue, Some, refl, sym, ◌∙◌, subst, arith}
+use Rattle.std.proofs.Common.{◌≡◌, ℕ, ◌<◌, ◌≤◌, List, [], length, IsTrue, Some, refl, sym, ◌∙◌, subst, arith}
 use Rattle.fault_counts.specs.Causes.{WentUp}
 use Rattle.file_tree.specs.Tree.{Tree}
 use Rattle.file_tree.specs.declared.call.Call.{Call}
@@ -21,13 +21,14 @@ use Rattle.single_node.specs.declared.end.RunEnd.{RunEnd}
 use Rattle.single_node.specs.declared.end.RunEnd.TheVariants as end
 use Rattle.cluster_program.specs.declared.status.Status.{Status}
 use Rattle.cluster_program.specs.declared.status.Status.TheVariants as status
-use Rattle.cluster_program.specs.Course.{Runs, RunEnds, IsDone, NotMounted, CallFailed, CallRefused, CallDamaged, NoRoom, AtCall}
+use Rattle.cluster_program.specs.Course.{Runs, RunEnds, IsDone, CallFailed, CallRefused, CallDamaged, NoRoom, AtCall}
 use Rattle.single_node.specs.Blocks.{CallReads, CallRefuses, RefusesWhatIsTold, IsCallThat}
 use Rattle.single_node.specs.Run.{IsRunUpTo, IsWholeRun, IsRunOf, NotJoined, Taken, Unmounted}
 use Rattle.image_model.specs.Image.{image_of}
 use Rattle.image_model.specs.Rules.{IsBrokenBlock}
+use Rattle.image_model.specs.Stands.{Stands}
 use Rattle.image_mount.specs.Mounted.{MountedValue, IsMounted}
-use Rattle.cluster_program.specs.Mounting.{OfImage, IsLeftClean, IsMountedClean, MountEnds, DiskFails, LiesOutside, IsDamaged, IsDirty, IsHashed, HasOtherRoot, LacksRoom}
+use Rattle.cluster_program.specs.Mounting.{OfImage, IsLeftClean, IsMountedClean, MountEnds, DiskFails, LiesOutside, IsDamaged, IsDirty, IsHashed, HasFarRoot, HasOtherRoot, LacksRoom}
 use Rattle.cluster_program.specs.Early.{broken_rule, status_of_end}
 use Rattle.cluster_program.proofs.Far.{refused_breaks}
 
@@ -76,19 +77,19 @@ pub call_end : (disk mid : DiskState) (first before now : ℕ → ℕ) (s : Scri
     → (IsTrue disk.tells → HasFlatRoot disk root) → ((j : ℕ) → first j ≤ before j) → EndHasCause 1 before now e
     → IfNotRead e (λ _ _. (tree : Tree) → IsStart mid root tree → ⊥)
     → IfNotRead e (λ b r. AtCall mid root s items (λ call. RefusesWhatIsTold mid root call b r))
-    → IfDiskFailed e (λ b. AtCall mid root s items (λ call. CallReads root call b)) → RunEnds disk first now s items (status_of_end e)
-call_end disk mid first before now s items root (end.DiskFailed node block rise) same begins earlier cause other refused failed =
-    let here = CallFailed root block rise.before rise.after (longer (first 1) (before 1) (now 1) rise.before rise.after (earlier 1) cause.1) begins
+    → IfDiskFailed e (λ b. AtCall mid root s items (λ call. CallReads root call b)) → IfDiskFailed e (λ b. b < mid.count) → RunEnds disk first now s items (status_of_end e)
+call_end disk mid first before now s items root (end.DiskFailed node block rise) same begins earlier cause other refused failed within =
+    let here = CallFailed root block rise.before rise.after (longer (first 1) (before 1) (now 1) rise.before rise.after (earlier 1) cause.1) (subst (λ (d : DiskState). block < d.count) same within) begins
     (subst (λ (d : DiskState). AtCall d root s items (λ call. CallReads root call block)) same failed) in
     subst (λ (n : ℕ). RunEnds disk first now s items (status.DeviceFault n (Some block) rise.before rise.after)) (sym cause.0) here
-call_end disk mid first before now s items root (end.NotRead block why.Form) same begins earlier cause other refused failed =
+call_end disk mid first before now s items root (end.NotRead block why.Form) same begins earlier cause other refused failed within =
     let here = subst (λ (d : DiskState). AtCall d root s items (λ call. RefusesWhatIsTold d root call block why.Form)) same refused in
     CallRefused root block (λ tree flat. other tree (may_start disk mid root tree same begins flat)) begins (at_root disk root s items block why.Form begins here)
-call_end disk mid first before now s items root (end.NotRead block why.LeadsOut) same begins earlier cause other refused failed =
+call_end disk mid first before now s items root (end.NotRead block why.LeadsOut) same begins earlier cause other refused failed within =
     call_damaged disk mid first now s items root block 2 why.LeadsOut refl same begins other refused
-call_end disk mid first before now s items root (end.NotRead block why.BadName) same begins earlier cause other refused failed =
+call_end disk mid first before now s items root (end.NotRead block why.BadName) same begins earlier cause other refused failed within =
     call_damaged disk mid first now s items root block 9 why.BadName refl same begins other refused
-call_end disk mid first before now s items root end.NoMemory same begins earlier cause other refused failed = NoRoom
+call_end disk mid first before now s items root end.NoMemory same begins earlier cause other refused failed within = NoRoom
 
 -- ---- the same items, from what may be a start now
 
@@ -110,6 +111,9 @@ pub done_end : (disk mid : DiskState) (faults faults_now : ℕ → ℕ) (s : Scr
 done_end disk mid faults faults_now s items root same begins all whole =
     IsDone all (whole_from s.clients s.lines (IsStart mid root) (IsFlat disk) (λ tree flat. may_start disk mid root tree same begins flat) items whole)
 
+abbrev StandsFor : DiskState → Tree → Type 0
+StandsFor disk tree = OfImage disk (λ im. Stands im tree)
+
 -- nothing has happened
 pub no_items : (disk disk_now : DiskState) (faults faults_now : ℕ → ℕ) (s : ScriptValue) (items : List TraceItem) (own : Status) → disk_now ≡ disk → items ≡ []
     → RunEnds disk faults faults_now s items own → Runs disk disk_now faults faults_now s items own
@@ -119,7 +123,8 @@ no_items disk disk_now faults faults_now s items own same none ends = record {
   members = subst NoneStopped (sym none) tt;
   none_lost = subst (λ (is : List TraceItem). NoneLost (history_of s.clients is)) (sym none) tt;
   legal = λ tree flat. subst (λ (is : List TraceItem). Legal (history_of s.clients is) tree) (sym none) (nothing_is_legal tree);
-  stands = λ tree flat. subst (λ (is : List TraceItem). IsFlat disk_now (tree_of (history_of s.clients is) tree)) (sym none) (subst (λ (d : DiskState). IsFlat d tree) (sym same) flat);
+  flat_at_end = λ tree flat. subst (λ (is : List TraceItem). IsFlat disk_now (tree_of (history_of s.clients is) tree)) (sym none) (subst (λ (d : DiskState). IsFlat d tree) (sym same) flat);
+  stands = λ tree stands. subst (λ (is : List TraceItem). StandsFor disk_now (tree_of (history_of s.clients is) tree)) (sym none) (subst (λ (d : DiskState). StandsFor d tree) (sym same) stands);
   mounted = λ some. absurd (some none);
   ends = ends;
 }
@@ -132,7 +137,7 @@ pub ran : (disk mid disk_now : DiskState) (faults faults_now : ℕ → ℕ) (s :
     → mid ≡ disk → disk_now ≡ mid → (IsTrue disk.tells → HasFlatRoot disk root) → OfImage disk IsMountedClean
     → IsRunOf s.clients s.lines items (IsStart mid root) → HoldsHistory s items → NoneStopped items → NoneLost (history_of s.clients items)
     → ((tree : Tree) → IsStart mid root tree → Legal (history_of s.clients items) tree)
-    → ((tree : Tree) → IsStart mid root tree → tree_of (history_of s.clients items) tree ≡ tree)
+    → ((tree : Tree) → tree_of (history_of s.clients items) tree ≡ tree)
     → RunEnds disk faults faults_now s items own → Runs disk disk_now faults faults_now s items own
 ran disk mid disk_now faults faults_now s items own root same kept begins mounted run history members none_lost legal tree_is ends = record {
   run = run_from s.clients s.lines (IsStart mid root) (IsFlat disk) (λ tree flat. may_start disk mid root tree same begins flat) items run;
@@ -140,8 +145,8 @@ ran disk mid disk_now faults faults_now s items own root same kept begins mounte
   members = members;
   none_lost = none_lost;
   legal = λ tree flat. legal tree (may_start disk mid root tree same begins flat);
-  stands = λ tree flat.
-      subst (IsFlat disk_now) (sym (tree_is tree (may_start disk mid root tree same begins flat))) (subst (λ (d : DiskState). IsFlat d tree) (sym (kept ∙ same)) flat);
+  flat_at_end = λ tree flat. subst (IsFlat disk_now) (sym (tree_is tree)) (subst (λ (d : DiskState). IsFlat d tree) (sym (kept ∙ same)) flat);
+  stands = λ tree stands. subst (StandsFor disk_now) (sym (tree_is tree)) (subst (λ (d : DiskState). StandsFor d tree) (sym (kept ∙ same)) stands);
   mounted = λ some. mounted;
   ends = ends;
 }
@@ -160,5 +165,6 @@ mount_never_done disk first now own (LiesOutside what value outside never) is = 
 mount_never_done disk first now own (IsDamaged block rule breaks never) is = cc
 mount_never_done disk first now own (IsDirty block dirty) is = cc
 mount_never_done disk first now own (IsHashed block hashed) is = cc
-mount_never_done disk first now own (HasOtherRoot block other) is = cc
+mount_never_done disk first now own (HasFarRoot block clean far breaks never) is = cc
+mount_never_done disk first now own (HasOtherRoot block clean other) is = cc
 mount_never_done disk first now own LacksRoom is = cc

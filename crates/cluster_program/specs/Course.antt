@@ -34,7 +34,7 @@ use Rattle.image_model.specs.Rules.{IsBrokenBlock}
 use Rattle.image_model.specs.Stands.{Stands}
 use Rattle.image_mount.specs.Mounted.{Journal, MountedValue, IsMounted}
 use Rattle.show_text.specs.Show.{journal_lines, tree_lines}
-use Rattle.cluster_program.specs.Mounting.{OfImage, NeverStands, MountEnds, IsLeftClean, IsMountedClean}
+use Rattle.cluster_program.specs.Mounting.{OfImage, MountEnds, IsLeftClean, IsMountedClean}
 use Rattle.single_node.specs.Run.{IsRunOf, IsWholeRun}
 use Rattle.cluster_program.specs.World.{Inputs}
 use Rattle.cluster_program.specs.declared.status.Status.{Status}
@@ -141,12 +141,12 @@ abbrev pub AtCall : DiskState → List ℕ → ScriptValue → List TraceItem �
 AtCall disk root s items P = EndsAtCall P s.clients s.lines items (IsStart disk root)
 
 -- How a run ends: each line is answered and the node has unmounted; the image was not mounted, before the first item; the
--- disk failed in a call, behind the lines above it; a call met, likewise, a block of a form that is not built, or one
--- that breaks a rule: it has the number of a block outside the disk, or a name that is none; or there was no memory.
+-- disk failed in a call, behind the lines above it, at a block that it has; a call met, likewise, a block of a form that is not
+-- built, or one that breaks a rule: it has the number of a block outside the disk, or a name that is none; or there was no memory.
 pub data RunEnds (disk : DiskState) (faults faults_now : ℕ → ℕ) (s : ScriptValue) (items : List TraceItem) : Status → Type 0 where
   IsDone : AllAnswered items s → IsWholeRun s.clients s.lines items (IsFlat disk) → RunEnds disk faults faults_now s items status.Done
   NotMounted : (own : Status) → items ≡ [] → MountEnds disk faults faults_now own → RunEnds disk faults faults_now s items own
-  CallFailed : (root : List ℕ) (block x y : ℕ) → WentUp (faults 1) (faults_now 1) x y → (IsTrue disk.tells → HasFlatRoot disk root)
+  CallFailed : (root : List ℕ) (block x y : ℕ) → WentUp (faults 1) (faults_now 1) x y → block < disk.count → (IsTrue disk.tells → HasFlatRoot disk root)
       → AtCall disk root s items (λ call. CallReads root call block) → RunEnds disk faults faults_now s items (status.DeviceFault 1 (Some block) x y)
   CallRefused : (root : List ℕ) (block : ℕ) → ((tree : Tree) → IsFlat disk tree → ⊥) → (IsTrue disk.tells → HasFlatRoot disk root)
       → AtCall disk root s items (λ call. IsTrue disk.tells → CallRefuses disk root call block refusal.Form)
@@ -163,9 +163,11 @@ pub record Runs (disk disk_now : DiskState) (faults faults_now : ℕ → ℕ) (s
   pub history : HoldsHistory s items
   pub members : NoneStopped items
   pub none_lost : NoneLost (history_of s.clients items)
-  -- where the image is flat: every reply is that of its tree, which takes the calls one by one, and the image stands for the tree at the end
+  -- where the image is flat: every reply is that of its tree, which takes the calls one by one, and the image is flat of the tree at the end
   pub legal : (tree : Tree) → IsFlat disk tree → Legal (history_of s.clients items) tree
-  pub stands : (tree : Tree) → IsFlat disk tree → IsFlat disk_now (tree_of (history_of s.clients items) tree)
+  pub flat_at_end : (tree : Tree) → IsFlat disk tree → IsFlat disk_now (tree_of (history_of s.clients items) tree)
+  -- an image that stands for a tree, flat or not, stands for the tree of the history at the end
+  pub stands : (tree : Tree) → OfImage disk (λ im. Stands im tree) → OfImage disk_now (λ im. Stands im (tree_of (history_of s.clients items) tree))
   -- no item stands before the image was mounted and each of its journals was found clean
   pub mounted : items ≢ [] → OfImage disk IsMountedClean
   pub ends : RunEnds disk faults faults_now s items own
@@ -176,20 +178,22 @@ pub record Runs (disk disk_now : DiskState) (faults faults_now : ℕ → ℕ) (s
 abbrev pub clean_of : MountedValue → List Bool
 clean_of m = map (λ (j : Journal). j.head.clean) m.journals
 
--- What `show` prints, and how it ends: the image was mounted, and its journals were left clean; a line for each of them and
--- the lines of the tree that a flat image holds, and of that which the image stands for; or nothing, since the image was not
--- mounted, the disk failed at a file, a file is of a form that is not built, the root has the number of a block outside the
--- disk or a name that is none, or there was no memory.
+-- What `show` prints, and how it ends: the image was mounted, and its journals were left clean; a line for each of them, whatever
+-- its tree, and behind these the lines of the tree that a flat image holds, and of that which the image stands for; or nothing,
+-- since the image was not mounted, or there was no memory, or, of an image that was mounted with clean journals, the disk failed at
+-- a file, in a block that it has, a file is of a form that is not built, or the root has the number of a block outside the disk or
+-- a name that is none.
 pub data Shows (disk : DiskState) (faults faults_now : ℕ → ℕ) : List ℕ → Status → Type 0 where
-  HasShown : (m : MountedValue) (lines : List ℕ) → OfImage disk (λ im. IsMounted im m) → IsLeftClean m
-      → ((tree : Tree) → IsFlat disk tree → lines ≡ journal_lines 0 (clean_of m) ++ tree_lines [] tree)
-      → OfImage disk (λ im. (tree : Tree) → Stands im tree → lines ≡ journal_lines 0 (clean_of m) ++ tree_lines [] tree) → Shows disk faults faults_now lines status.Done
+  HasShown : (m : MountedValue) (lines shown : List ℕ) → OfImage disk (λ im. IsMounted im m) → IsLeftClean m → lines ≡ journal_lines 0 (clean_of m) ++ shown
+      → ((tree : Tree) → IsFlat disk tree → shown ≡ tree_lines [] tree) → OfImage disk (λ im. (tree : Tree) → Stands im tree → shown ≡ tree_lines [] tree)
+      → Shows disk faults faults_now lines status.Done
   ShowsNone : (own : Status) → MountEnds disk faults faults_now own → Shows disk faults faults_now [] own
-  TreeFailed : (root : List ℕ) (block x y : ℕ) → WentUp (faults 0) (faults_now 0) x y → (IsTrue disk.tells → HasFlatRoot disk root) → TreeReads root block
-      → Shows disk faults faults_now [] (status.DeviceFault 0 (Some block) x y)
-  TreeRefused : (root : List ℕ) (block : ℕ) → ((tree : Tree) → IsFlat disk tree → ⊥) → (IsTrue disk.tells → HasFlatRoot disk root)
+  TreeFailed : (root : List ℕ) (block x y : ℕ) → OfImage disk IsMountedClean → WentUp (faults 0) (faults_now 0) x y → block < disk.count
+      → (IsTrue disk.tells → HasFlatRoot disk root) → TreeReads root block → Shows disk faults faults_now [] (status.DeviceFault 0 (Some block) x y)
+  TreeRefused : (root : List ℕ) (block : ℕ) → OfImage disk IsMountedClean → ((tree : Tree) → IsFlat disk tree → ⊥) → (IsTrue disk.tells → HasFlatRoot disk root)
       → TreeRefuses disk root block refusal.Form → Shows disk faults faults_now [] (status.NotBuilt (part.Block block))
-  TreeDamaged : (root : List ℕ) (block rule : ℕ) (why : Refusal) → broken_rule why ≡ Some rule → ((tree : Tree) → IsFlat disk tree → ⊥) → (IsTrue disk.tells → HasFlatRoot disk root)
+  TreeDamaged : (root : List ℕ) (block rule : ℕ) (why : Refusal) → OfImage disk IsMountedClean → broken_rule why ≡ Some rule → ((tree : Tree) → IsFlat disk tree → ⊥)
+      → (IsTrue disk.tells → HasFlatRoot disk root)
       → TreeRefuses disk root block why → OfImage disk (λ im. IsBrokenBlock im rule block) → Shows disk faults faults_now [] (status.Damaged block rule)
   NothingHeld : Shows disk faults faults_now [] status.NoMemory
 

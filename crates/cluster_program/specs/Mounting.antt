@@ -1,14 +1,15 @@
 -- How a command ends that can't mount the image.
-use Rattle.std.specs.Prelude.{ℕ, ◌≡◌, false, true, IsTrue, Some, slice_get}
+use Rattle.std.specs.Prelude.{ℕ, ◌≡◌, ◌<◌, ◌≤◌, false, true, IsTrue, Some, slice_get}
 use Rattle.fault_counts.specs.Causes.{WentUp}
 use Rattle.file_tree.specs.Tree.{Tree}
 use Rattle.image_model.specs.Image.{Image, image_of}
-use Rattle.image_model.specs.Claims.{IsJindex}
-use Rattle.image_model.specs.Rules.{IsBrokenBlock, IsHashedAt}
+use Rattle.image_model.specs.Rules.{IsBrokenBlock}
 use Rattle.image_model.specs.Stands.{Stands}
 use Rattle.image_mount.specs.Mounted.{Journal, MountedValue, IsMounted, IsOfProfile}
-use Rattle.image_mount.specs.Refusals.{IsOutside, IsReached}
+use Rattle.image_mount.specs.Refusals.{IsOutside, IsReached, RefusesRightly}
 use Rattle.image_mount.specs.declared.field.Field.{Field}
+use Rattle.image_mount.specs.declared.fault.MountFault.TheVariants as fault
+use Rattle.gfs2_layout.specs.Device.{superblock_place}
 use Rattle.shared_disk.specs.Disk.{DiskState}
 use Rattle.single_node.specs.Flat.{HasRoot, root_of}
 use Rattle.cluster_program.specs.declared.status.Status.{Status}
@@ -41,15 +42,21 @@ pub record IsMountedClean (im : Image) : Type 0 where
   pub mounted : IsMounted im value
   pub clean : IsLeftClean value
 
--- Why an image isn't mounted: the disk failed at a block to which mounting came; a field is outside the profile; a block of the
--- device breaks a rule, or it is too short for a superblock; and what is not built: the replay of a journal, a hashed directory of
--- journals, and a root that is no linear directory of files.
+-- Why an image isn't mounted: the disk failed at a block that is reached; a field is outside the profile; a block of the device
+-- breaks a rule, or it is too short for a superblock, and behind the superblock that is told only where the formats are those of
+-- the profile; and what is not built: the replay of a journal, and, with such formats, a hashed directory of journals. Of an image
+-- that was mounted with clean journals: the superblock has the number of a root outside the device; and, what is not built, the
+-- root is a block of the device that is no linear directory of files.
 pub data MountEnds (disk : DiskState) (faults faults_now : ℕ → ℕ) : Status → Type 0 where
   DiskFails : (block x y : ℕ) → WentUp (faults 0) (faults_now 0) x y → OfImage disk (λ im. IsReached im block) → MountEnds disk faults faults_now (status.DeviceFault 0 (Some block) x y)
   LiesOutside : (what : Field) (value : ℕ) → OfImage disk (λ im. IsOutside im what value) → OfImage disk (λ im. IsOfProfile im → ⊥)
       → MountEnds disk faults faults_now (status.NotProfile what value)
-  IsDamaged : (block rule : ℕ) → OfImage disk (λ im. IsBrokenBlock im rule block) → OfImage disk NeverStands → MountEnds disk faults faults_now (status.Damaged block rule)
+  IsDamaged : (block rule : ℕ) → OfImage disk (λ im. RefusesRightly im (fault.Damaged block rule)) → OfImage disk NeverStands
+      → MountEnds disk faults faults_now (status.Damaged block rule)
   IsDirty : (block : ℕ) → OfImage disk (λ im. HasDirtyJournal im block) → MountEnds disk faults faults_now (status.NotBuilt (part.Block block))
-  IsHashed : (block : ℕ) → OfImage disk (λ im. IsJindex im block × IsHashedAt im block) → MountEnds disk faults faults_now (status.NotBuilt (part.Block block))
-  HasOtherRoot : (block : ℕ) → (IsTrue disk.tells → (block ≡ root_of disk) × (HasRoot disk → ⊥)) → MountEnds disk faults faults_now (status.NotBuilt (part.Block block))
+  IsHashed : (block : ℕ) → OfImage disk (λ im. RefusesRightly im (fault.NotBuilt block)) → MountEnds disk faults faults_now (status.NotBuilt (part.Block block))
+  HasFarRoot : (block : ℕ) → OfImage disk IsMountedClean → (IsTrue disk.tells → (block ≡ superblock_place disk.size) × (disk.count ≤ root_of disk))
+      → OfImage disk (λ im. IsBrokenBlock im 2 block) → OfImage disk NeverStands → MountEnds disk faults faults_now (status.Damaged block 2)
+  HasOtherRoot : (block : ℕ) → OfImage disk IsMountedClean → (IsTrue disk.tells → (block ≡ root_of disk) × (block < disk.count) × (HasRoot disk → ⊥))
+      → MountEnds disk faults faults_now (status.NotBuilt (part.Block block))
   LacksRoom : MountEnds disk faults faults_now status.NoMemory

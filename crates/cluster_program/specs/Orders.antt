@@ -1,16 +1,13 @@
 -- Which line of the script a crash, or a join after the start, carries out.
-use Rattle.std.specs.Prelude.{ℕ, zero, suc, ◌/◌, ◌%◌, ◌^◌, ◌==◌, ◌&&◌, ◌||◌, not, nat_le, nat_lt, min, Bool, true, false, List, [], ◌∷◌, length, take, count_by, Option, None, Some, if◌then◌else◌}
+use Rattle.std.specs.Prelude.{ℕ, zero, suc, ◌==◌, ◌&&◌, ◌||◌, not, nat_le, nat_lt, min, Bool, true, false, List, [], ◌∷◌, length, take, count_by, Option, None, Some, if◌then◌else◌}
 use Rattle.trace_text.specs.declared.item.TraceItem.{TraceItem}
 use Rattle.trace_text.specs.declared.item.TraceItem.TheVariants as trace
 use Rattle.script_lang.specs.declared.script.Armed.{Armed}
 use Rattle.script_lang.specs.declared.script.Line.{Line}
 use Rattle.script_lang.specs.declared.script.Line.TheVariants as line
 use Rattle.script_lang.specs.Script.{ScriptValue}
+use Rattle.fencing.specs.NodeSets.{has}
 use Rattle.run_rules.specs.Follows.{is_write_of, answered, above}
-
--- the node's bit is set
-abbrev pub names_node : ℕ → ℕ → Bool
-names_node nodes node = nodes / 2 ^ node % 2 == 1
 
 -- ---- a crash that was armed: it comes directly behind the write of its node that it waits for
 
@@ -28,7 +25,7 @@ is_of_armed (a ∷ as') node before =
 
 -- this line orders item p; the first joins are those of the start
 abbrev pub orders : ScriptValue → ℕ → TraceItem → Line → Bool
-orders s p (trace.Crash node) (line.Crash nodes) = names_node nodes node
+orders s p (trace.Crash node) (line.Crash nodes) = has nodes node
 orders s p (trace.Join node) (line.Join joined) = (joined == node) && nat_le s.nodes p
 orders s p _ _ = false
 

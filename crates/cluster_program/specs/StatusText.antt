@@ -4,7 +4,7 @@ use Rattle.std.specs.List.{flat_map}
 use Rattle.text_words.specs.Words.{word, number}
 use Rattle.trace_text.specs.Text.{lock_text, state_text}
 use Rattle.script_lang.specs.declared.script.Client.{Client}
-use Rattle.cluster_program.specs.Orders.{names_node}
+use Rattle.fencing.specs.NodeSets.{has}
 use Rattle.cluster_program.specs.declared.status.Status.{Status}
 use Rattle.cluster_program.specs.declared.status.Status.TheVariants as status
 use Rattle.cluster_program.specs.declared.status.Which.TheVariants as which
@@ -49,7 +49,7 @@ name_of (Some c) = c.name
 
 -- the node, where it is one of these
 abbrev pub holder_text : ℕ → ℕ → List ℕ
-holder_text nodes node = if names_node nodes node then number node else []
+holder_text nodes node = if has nodes node then number node else []
 
 abbrev pub holders_text : ℕ → List ℕ
 holders_text nodes = flat_map (holder_text nodes) (1 ∷ 2 ∷ 3 ∷ 4 ∷ 5 ∷ 6 ∷ 7 ∷ 8 ∷ [])

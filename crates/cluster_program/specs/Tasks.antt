@@ -1,10 +1,10 @@
 -- The commands that are built, as the top call tells them apart.
-use Rattle.std.specs.Prelude.{ℕ, ◌≡◌, List, ⊤}
+use Rattle.std.specs.Prelude.{ℕ, ◌≡◌, List}
 use Rattle.command_words.specs.Limits.{IsMakeWithin}
 use Rattle.command_words.specs.declared.command.Command.{Command}
 use Rattle.command_words.specs.declared.command.Command.TheVariants as command
 use Rattle.command_words.specs.declared.command.RunWords.{RunWords}
-use Rattle.cluster_program.specs.Course.{AsksToMake, AsksToShow, AsksToRun, has_many_journals}
+use Rattle.cluster_program.specs.Course.{AsksToMake, AsksToShow, AsksToRun}
 use Rattle.cluster_program.specs.declared.words.Task.{Task}
 use Rattle.cluster_program.specs.declared.words.Task.TheVariants as task
 

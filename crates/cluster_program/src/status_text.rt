@@ -1,12 +1,12 @@
-ghost use Rattle.std.specs.Prelude.{◌≡◌, ◌++◌, ◌/◌, ◌%◌, ◌^◌, ◌==◌, ◌∷◌, ◌≤◌, ℕ, IfOk, slice_get, codes, IsTrue};
+ghost use Rattle.std.specs.Prelude.{◌≡◌, ◌++◌, ◌∷◌, ◌≤◌, ℕ, IfOk, slice_get, codes, IsTrue};
 ghost use Rattle.std.specs.List.{flat_map};
 ghost use Rattle.script_lang.specs.declared.script.Client.{Client as TheClient};
 ghost use Rattle.text_words.specs.Words.{word, number};
 ghost use Rattle.trace_text.specs.Text.{lock_text, state_text};
-ghost use Rattle.cluster_program.specs.Orders.{names_node};
 ghost use Rattle.cluster_program.specs.StatusText.{field_text, rise_text, block_text, device_text, name_of, holder_text, holders_text, waits_text, part_text, ended, line_text, status_lines};
 
 use crate::status::{Part, Status, Which};
+use fencing::has_node;
 use glock_names::{LockName, State, Waits};
 use image_mount::Field;
 use no_memory::NoMemory;
@@ -152,7 +152,7 @@ fn append_holder(text: &mut Vec<u8>, nodes: u16, node: u8) -> Result<(), NoMemor
     requires { node ≤ 8 }
     ensures { IfOk result (λ _. text.new.items ≡ text.old.items ++ holder_text nodes node) }
 {
-    if nodes / (1 << node) % 2 == 1 {
+    if has_node(nodes, node) {
         append_number(text, u64::from(node))
     } else {
         Ok(())

@@ -5,7 +5,8 @@ use Rattle.std.specs.List.{range_with_len}
 use Rattle.mkgfs2_tool.specs.Order.{master_place, journals_place}
 use Rattle.mkgfs2_tool.specs.Making.{IsFitting}
 use Rattle.mkgfs2_tool.specs.Blocks.{area_length}
-use Rattle.mkgfs2_tool.specs.Directories.{AreNamed, IsNamed, Fit, name_of, least_length, record_bytes, records, entry, journal_entry, journals_entries, most_entries, directory_kind}
+use Rattle.gfs2_layout.specs.Putting.{least_length}
+use Rattle.mkgfs2_tool.specs.Directories.{AreNamed, IsNamed, Fit, name_of, record_bytes, records, entry, journal_entry, journals_entries, most_entries, directory_kind}
 use Rattle.mkgfs2_tool.specs.declared.plan.Plan.{Plan}
 use Rattle.mkgfs2_tool.specs.declared.directory.Name.TheVariants as name
 use Rattle.mkgfs2_tool.specs.declared.directory.Entry.{Entry}

@@ -15,7 +15,8 @@ use Rattle.gfs2_layout.specs.declared.dirent.Dirent.{Dirent}
 use Rattle.gfs2_layout.specs.declared.fault.LayoutFault.{LayoutFault}
 use Rattle.gfs2_layout.specs.declared.fault.LayoutFault.TheVariants.{Value}
 use Rattle.gfs2_layout.specs.Records.{Record, record_of, records_in, HasItsHash, IsRecordArea}
-use Rattle.mkgfs2_tool.specs.Directories.{name_of as name_in, least_length, head_of, record_bytes, records, Fit}
+use Rattle.gfs2_layout.specs.Putting.{least_length}
+use Rattle.mkgfs2_tool.specs.Directories.{name_of as name_in, head_of, record_bytes, records, Fit}
 use Rattle.mkgfs2_tool.specs.declared.directory.Entry.{Entry}
 use Rattle.mkgfs2_tool.proofs.StandingBytes.{answer_ok, take_put, behind_put}
 use Rattle.mkgfs2_tool.proofs.StandingGiven.{Given, length_put, zeros_are_bytes}

@@ -1,10 +1,12 @@
 -- The records of a new directory, which lie one after another in its dinode's block.
-use Rattle.std.specs.Prelude.{ℕ, ◌<◌, ◌≤◌, ⊤, ◌+◌, ◌-◌, ◌*◌, ◌/◌, List, [], ◌∷◌, ◌++◌, length, map, replicate, codes}
+use Rattle.std.specs.Prelude.{ℕ, ◌<◌, ◌≤◌, ⊤, ◌+◌, ◌-◌, List, [], ◌∷◌, ◌++◌, length, map, replicate, codes}
 use Rattle.std.specs.List.{range_with_len, AllByRecursion}
 use Rattle.crc_words.specs.Remainder.{crc32_of}
 use Rattle.gfs2_layout.specs.Bytes.{put_at}
+use Rattle.gfs2_layout.specs.Putting.{least_length}
 use Rattle.gfs2_layout.specs.Writing.{dirent_put}
 use Rattle.gfs2_layout.specs.declared.dirent.Dirent.{Dirent}
+use Rattle.profile_limits.specs.Limits.{most_journals}
 use Rattle.mkgfs2_tool.specs.Groups.{data_address}
 use Rattle.mkgfs2_tool.specs.Order.{master_place, root_place, group_list_place, journals_place, journal_place}
 use Rattle.mkgfs2_tool.specs.declared.plan.Plan.{Plan}
@@ -30,10 +32,6 @@ name_bytes (name.Journal j) = codes "journal" ++ (48 + j) ∷ []
 abbrev pub name_of : Entry → List ℕ
 name_of e = name_bytes e.name
 
--- the least length of a record with a name of so many bytes: 40 bytes before it, in whole words of eight
-abbrev pub least_length : ℕ → ℕ
-least_length name = (40 + name + 7) / 8 * 8
-
 abbrev pub head_of : Entry → ℕ → Dirent
 head_of e room = record {
   inum = record { number = e.number; address = e.address };
@@ -54,9 +52,9 @@ records room [] = []
 records room (e ∷ []) = record_bytes e room
 records room (e ∷ f ∷ es) = record_bytes e (least_length (length (name_of e))) ++ records (room - least_length (length (name_of e))) (f ∷ es)
 
--- a journal's number has one digit
+-- a journal's number is one of those that an image may have
 abbrev pub HasName : Name → Type 0
-HasName (name.Journal j) = j < 8
+HasName (name.Journal j) = j < most_journals
 HasName _ = ⊤
 
 abbrev pub IsNamed : Entry → Type 0

@@ -61,7 +61,7 @@ IsPartOf (Content n) = n < 2 ^ 38
 
 abbrev pub IsUseOf : Use → Type 0
 IsUseOf (GroupList part) = IsPartOf part
-IsUseOf (Journal j part) = (j < 8) × IsPartOf part
+IsUseOf (Journal j part) = (j < most_journals) × IsPartOf part
 IsUseOf _ = ⊤
 
 -- a fault of the disk, told with the block, if it was at one, and with the rise of node 0's count

@@ -1,8 +1,9 @@
 ghost use Rattle.std.specs.Prelude.{◌≡◌, ◌≢◌, ◌+◌, ◌-◌, ◌*◌, ◌/◌, ◌^◌, ◌<◌, ◌≤◌, length, replicate, take, drop};
-ghost use Rattle.mkgfs2_tool.specs.Directories.{IsNamed, AreNamed, Fit, name_of, least_length as least_length_of, record_bytes, records};
+ghost use Rattle.gfs2_layout.specs.Putting.{least_length as least_length_of};
+ghost use Rattle.mkgfs2_tool.specs.Directories.{IsNamed, AreNamed, Fit, name_of, record_bytes, records};
 
 use crate::bytes::put_bytes;
-use gfs2_layout::{Dirent, Inum};
+use gfs2_layout::{Dirent, Inum, least_length};
 
 /// The name of an entry of a new image's directories.
 #[derive(Clone, Copy, Debug, PartialEq, Eq)]
@@ -48,13 +49,13 @@ pub(crate) struct Entry {
     pub kind: u16,
 }
 
-fn least_length(name: usize) -> usize
+// The least length of a record with a name of so many bytes.
+fn record_length(name: usize) -> usize
     requires { name ≤ 8 }
     ensures value { result ≡ least_length_of name }
-    ensures bound { result ≤ 48 }
     ensures room { 40 + name ≤ result }
 {
-    (40 + name + 7) / 8 * 8
+    least_length(name as u16) as usize
 }
 
 // Makes one record of all these bytes.
@@ -93,7 +94,7 @@ pub(crate) fn put_records(area: &mut [u8], entries: &[Entry])
         if later.is_empty() {
             put_record(area, *entry);
         } else {
-            let (first, rest) = area.split_at_mut(least_length(entry.name.bytes().len()));
+            let (first, rest) = area.split_at_mut(record_length(entry.name.bytes().len()));
             put_record(first, *entry);
             put_records(rest, later);
         }

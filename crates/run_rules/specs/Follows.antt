@@ -1,6 +1,7 @@
 -- The items of a run follow its script.
-use Rattle.std.specs.Prelude.{ℕ, suc, ◌≡◌, ◌⊎◌, ◌+◌, ◌-◌, ◌<◌, ◌≤◌, ◌==◌, Bool, false, IsTrue, min, List, [], ◌∷◌, length, take, slice_get, Some, if◌then◌else◌, ⊤, IsBitSet, count_by}
+use Rattle.std.specs.Prelude.{ℕ, suc, ◌≡◌, ◌⊎◌, ◌+◌, ◌-◌, ◌<◌, ◌≤◌, ◌==◌, Bool, false, IsTrue, min, List, [], ◌∷◌, length, take, slice_get, Some, if◌then◌else◌, ⊤, count_by}
 use Rattle.std.specs.Str.{bytes_eq}
+use Rattle.fencing.specs.NodeSets.{has}
 use Rattle.file_tree.specs.declared.call.Call.{Call}
 use Rattle.cluster_history.specs.declared.Item.{Item}
 use Rattle.cluster_history.specs.declared.Item.TheVariants as item
@@ -109,7 +110,7 @@ abbrev pub IsKthWrite : List TraceItem → ℕ → ℕ → ℕ → Type 0
 IsKthWrite items node k p = (it : TraceItem) × (slice_get items p ≡ Some it) × IsTrue (is_write_of node it) × (count_by (is_write_of node) (take (p + 1) items) ≡ k)
 
 abbrev pub CrashesBy : ScriptValue → List TraceItem → ℕ → ℕ → Order → Type 0
-CrashesBy s items p node (ByLine l) = (nodes : ℕ) × (slice_get s.lines l ≡ Some (line.Crash nodes)) × IsBitSet nodes node × IsAfterAbove s items l p
+CrashesBy s items p node (ByLine l) = (nodes : ℕ) × (slice_get s.lines l ≡ Some (line.Crash nodes)) × IsTrue (has nodes node) × IsAfterAbove s items l p
 CrashesBy s items p node (ByArmed a) = (armed : Armed) × (slice_get s.armed a ≡ Some armed) × (armed.node ≡ node) × (0 < p) × IsKthWrite items node armed.write (p - 1)
 
 abbrev pub JoinsBy : ScriptValue → List TraceItem → ℕ → ℕ → Order → Type 0
@@ -118,7 +119,7 @@ JoinsBy s items p node (ByArmed a) = ⊥
 
 -- at the place of a crash line each node that it names is stopped, and at that of a join line its node is a member
 abbrev pub StandsAt : ScriptValue → List TraceItem → Line → ℕ → Type 0
-StandsAt s items (line.Crash nodes) p = (node : ℕ) → IsBitSet nodes node → node ≤ s.nodes → standing items node p ≡ Stopped
+StandsAt s items (line.Crash nodes) p = (node : ℕ) → IsTrue (has nodes node) → node ≤ s.nodes → standing items node p ≡ Stopped
 StandsAt s items (line.Join node) p = standing items node p ≡ Member
 StandsAt s items _ p = ⊥
 

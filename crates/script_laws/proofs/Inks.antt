@@ -49,9 +49,18 @@ line-word l w one two = all-append in_line l (32 ∷ w) one (ink-line w two)
 digit_ink : (n : ℕ) → is_ink (48 + n) ≡ true
 digit_ink n = let high : 32 < 48 + n = omega arith in grind (arith, nat_tests)
 
+all-decimal : (p : ℕ → Bool) → ((d : ℕ) → d < 10 → p (48 + d) ≡ true) → (n : ℕ) → n < 2 ^ 64 → list_all p (decimal n) ≡ true
+all-decimal p digit n small =
+    decimal_by_steps (λ m ds. list_all p ds ≡ true) (λ m below. both _ _ (digit m below) refl) (λ m ds above all. all-append p ds ((48 + m % 10) ∷ []) all (both _ _ (digit (m % 10) (omega arith)) refl)) n small
+
 pub ink-decimal : (n : ℕ) → n < 2 ^ 64 → Ink (decimal n)
-ink-decimal n small =
-    decimal_by_steps (λ m ds. Ink ds) (λ m below. both _ _ (digit_ink m) refl) (λ m ds above ink. all-append is_ink ds ((48 + m % 10) ∷ []) ink (both _ _ (digit_ink (m % 10)) refl)) n small
+ink-decimal n small = all-decimal is_ink (λ d below. digit_ink d) n small
+
+digit_no_colon : (d : ℕ) → d < 10 → not (48 + d == 58) ≡ true
+digit_no_colon d below = let other : (48 + d == 58) ≡ false = grind (arith, nat_tests) in rw other refl
+
+pub no_colon-decimal : (n : ℕ) → n < 2 ^ 64 → list_all (λ b. not (b == 58)) (decimal n) ≡ true
+no_colon-decimal n small = all-decimal (λ b. not (b == 58)) digit_no_colon n small
 
 -- ---- digits of bytes
 

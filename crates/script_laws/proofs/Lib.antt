@@ -7,6 +7,7 @@ pub mod ScriptsBack
 pub mod Rows
 pub mod Stops
 pub mod Walk
+pub mod Strange
 pub mod Begins
 pub mod FreshNames
 pub mod Stages

@@ -1,12 +1,12 @@
 -- Where the reading of a text stops, and why.
-use Rattle.std.proofs.Common.{◌≡◌, ◌⊎◌, ℕ, suc, ◌+◌, ◌-◌, ◌<◌, ◌≤◌, ◌==◌, Bool, true, false, if◌then◌else◌, List, [], ◌∷◌, ◌++◌, length, take, drop, refl, sym, ap, ◌∙◌, subst, arith}
+use Rattle.std.proofs.Common.{◌≡◌, ℕ, suc, ◌+◌, ◌-◌, ◌<◌, ◌≤◌, ◌==◌, Bool, true, false, if◌then◌else◌, List, [], ◌∷◌, ◌++◌, length, take, drop, refl, sym, ap, ◌∙◌, subst, arith}
 use Rattle.std.specs.Prelude.{◌||◌, nat_lt}
 use Rattle.std.proofs.lemmas.Bool.Decides.{nat_tests}
 use Rattle.std.proofs.lemmas.List.{take-append-drop}
 use Rattle.script_lang.specs.Script.{ScriptValue}
 use Rattle.script_lang.specs.Words.{lines_in, words_in, column_of, LineRead, Got, Wrong}
 use Rattle.script_lang.specs.Grammar.{script_limit, line_limit, nothing, has_byte_past_limit, line_read, script_from, script_read, Script, Bad}
-use Rattle.script_laws.specs.Places.{AlikeWith, column_in, bytes_in, IsCutOff, NoScript}
+use Rattle.script_laws.specs.Places.{AlikeWith, bytes_in, NoScript}
 use Rattle.script_laws.proofs.ScriptsBack.{Reach}
 use Rattle.script_laws.proofs.Stops.{stops-line}
 
@@ -128,11 +128,6 @@ module _ (text : List ℕ) (line column : ℕ) (bad : Refused (length text) noth
 
   pub lines_from : drop (line - 1) (lines_in text) ≡ bad.back
   lines_from = (λ i. drop (before_line i) (bad.parts i)) ∙ drop-front bad.front bad.back
-
-  -- which word is told, and that it is wrong
-  pub record WrongAt (word : ℕ) : Type 0 where
-    pub told : column ≡ column_in word bad.back
-    pub stops : IsCutOff text line ⊎ NoScript text line word
 
   -- another text with the same lines before this one goes on from the same script
   another : (other : List ℕ) (u : ScriptValue) → take (line - 1) (lines_in text) ≡ take (line - 1) (lines_in other) → script_read other ≡ Script u

@@ -15,9 +15,10 @@ use Rattle.number_words.proofs.Decimals.{number_within}
 use Rattle.file_tree.specs.PathFaults.{IsBytes}
 use Rattle.file_tree.specs.PathText.{path_text}
 use Rattle.file_tree.proofs.Parsing.{path_read-again}
-use Rattle.script_lang.specs.Words.{lines_in, words_in, path_of, path_in, bytes_of, hex_in, within_transfer, transfer_limit, content_from, content_in, LineRead, Got, a_word}
+use Rattle.script_lang.specs.Words.{lines_in, words_in, path_of, path_in, bytes_of, hex_in, within_transfer, transfer_limit, filled, content_from, content_in, LineRead, Got, a_word}
+use Rattle.script_laws.specs.Fills.{FillsBytes}
 use Rattle.script_laws.specs.Printing.{IsBytePath}
-use Rattle.script_laws.proofs.Inks.{is_ink, in_line, Ink, InLine, no_colon-lower}
+use Rattle.script_laws.proofs.Inks.{is_ink, in_line, Ink, InLine, no_colon-lower, no_colon-decimal}
 
 -- ---- the words of a line
 
@@ -27,22 +28,36 @@ no_space b is = grind (arith, nat_tests)
 no_newline : (b : ℕ) → in_line b ≡ true → (b == 10) ≡ false
 no_newline b is = grind (arith, nat_tests)
 
+-- the parts of a text between separators
+module _ (separator : ℕ) where
+  abbrev parts_in : List ℕ → List (List ℕ)
+  parts_in l = slice_split (λ b. b == separator) l
+
+  abbrev HasParts : List ℕ → Type 0
+  HasParts l = (w : List ℕ) × ((ws : List (List ℕ)) × (parts_in l ≡ w ∷ ws))
+
+  some_parts : (l : List ℕ) → HasParts l
+  some_parts [] = ([], ([], refl))
+  some_parts (b ∷ bs) = by_test (b == separator) refl (some_parts bs)
+    where
+      by_test : (t : Bool) → (b == separator) ≡ t → HasParts bs → HasParts (b ∷ bs)
+      by_test true e more = ([], (parts_in bs, rw e refl))
+      by_test false e more = (b ∷ more.0, (more.1.0, rw e (ap (onto_first b) more.1.1)))
+
+  parts-parts : (l r : List ℕ) → parts_in (l ++ separator ∷ r) ≡ parts_in l ++ parts_in r
+  parts-parts [] r = let same : (separator == separator) ≡ true = grind (arith, nat_tests) in rw same refl
+  parts-parts (b ∷ bs) r = by_test (b == separator) refl (parts-parts bs r) (some_parts bs)
+    where
+      by_test : (t : Bool) → (b == separator) ≡ t → parts_in (bs ++ separator ∷ r) ≡ parts_in bs ++ parts_in r → HasParts bs → parts_in (b ∷ bs ++ separator ∷ r) ≡ parts_in (b ∷ bs) ++ parts_in r
+      by_test true e more some = rw e (ap (λ (ws : List (List ℕ)). [] ∷ ws) more)
+      by_test false e more some = rw e (ap (onto_first b) (more ∙ ap (λ (ws : List (List ℕ)). ws ++ parts_in r) some.1.1) ∙ ap (λ (ws : List (List ℕ)). onto_first b ws ++ parts_in r) (sym some.1.1))
+
 pub some_words : (l : List ℕ) → (w : List ℕ) × ((ws : List (List ℕ)) × (words_in l ≡ w ∷ ws))
-some_words [] = ([], ([], refl))
-some_words (b ∷ bs) = by_test (b == 32) refl (some_words bs)
-  where
-    by_test : (t : Bool) → (b == 32) ≡ t → (w : List ℕ) × ((ws : List (List ℕ)) × (words_in bs ≡ w ∷ ws)) → (w : List ℕ) × ((ws : List (List ℕ)) × (words_in (b ∷ bs) ≡ w ∷ ws))
-    by_test true e more = ([], (words_in bs, rw e refl))
-    by_test false e more = (b ∷ more.0, (more.1.0, rw e (ap (onto_first b) more.1.1)))
+some_words l = some_parts 32 l
 
 -- a space parts the words
 pub words-parts : (l r : List ℕ) → words_in (l ++ 32 ∷ r) ≡ words_in l ++ words_in r
-words-parts [] r = refl
-words-parts (b ∷ bs) r = by_test (b == 32) refl (words-parts bs r) (some_words bs)
-  where
-    by_test : (t : Bool) → (b == 32) ≡ t → words_in (bs ++ 32 ∷ r) ≡ words_in bs ++ words_in r → (w : List ℕ) × ((ws : List (List ℕ)) × (words_in bs ≡ w ∷ ws)) → words_in (b ∷ bs ++ 32 ∷ r) ≡ words_in (b ∷ bs) ++ words_in r
-    by_test true e more some = rw e (ap (λ (ws : List (List ℕ)). [] ∷ ws) more)
-    by_test false e more some = rw e (ap (onto_first b) (more ∙ ap (λ (ws : List (List ℕ)). ws ++ words_in r) some.1.1) ∙ ap (λ (ws : List (List ℕ)). onto_first b ws ++ words_in r) (sym some.1.1))
+words-parts l r = parts-parts 32 l r
 
 pub words-last : (w : List ℕ) → Ink w → words_in w ≡ w ∷ []
 words-last [] ink = refl
@@ -101,6 +116,21 @@ content-back bytes are some few =
     let below : nat_le (length bytes) transfer_limit ≡ true = grind (arith, nat_tests) in
     let fits : within_transfer (Some bytes) ≡ Some bytes = rw (above, below) refl in
     ap (content_from (encode_lower bytes)) (one_part (encode_lower bytes) (no_colon-lower bytes are)) ∙ ap within_transfer (hex-back bytes are) ∙ fits
+
+fill_parts : (digits count : List ℕ) → list_all (λ b. not (b == 58)) digits ≡ true → list_all (λ b. not (b == 58)) count ≡ true
+    → slice_split (λ b. b == 58) (codes "fill:" ++ digits ++ codes ":" ++ count) ≡ codes "fill" ∷ digits ∷ count ∷ []
+fill_parts digits count one two =
+    ap (slice_split (λ b. b == 58)) (append_assoc (codes "fill:" ++ digits) (codes ":") count)
+    ∙ parts-parts 58 (codes "fill") (digits ++ 58 ∷ count)
+    ∙ ap (λ (ws : List (List ℕ)). codes "fill" ∷ ws) (parts-parts 58 digits count ∙ (λ i. one_part digits one i ++ one_part count two i))
+
+pub fill-back : FillsBytes
+fill-back byte n is some few =
+    let digits = encode_lower (byte ∷ []) in
+    let one : IsBytes (byte ∷ []) = (is, tt) in
+    let small : n < 2 ^ 64 = omega (arith, few) in
+    ap (content_from (codes "fill:" ++ digits ++ codes ":" ++ decimal n)) (fill_parts digits (decimal n) (no_colon-lower (byte ∷ []) one) (no_colon-decimal n small))
+    ∙ (λ i. filled (hex-back (byte ∷ []) one i) (number-back 1 transfer_limit n (omega arith) some few i))
 
 -- ---- a word, and then the rest
 

@@ -71,6 +71,10 @@ pub record SomeScript (text : List ℕ) (line word : ℕ) : Type 0 where
 abbrev pub NoScript : List ℕ → ℕ → ℕ → Type 0
 NoScript text line word = (other : List ℕ) (s : ScriptValue) → GoesOnWith line word text other → script_read other ≡ Script s → ⊥
 
+-- the word of number k, from 0, in line l, or the one behind its last word, is the word of this number in this line, or stands before it
+abbrev pub IsUpTo : List ℕ → ℕ → ℕ → ℕ → ℕ → Type 0
+IsUpTo text line word l k = (1 ≤ l) × (k ≤ words_at (drop (l - 1) (lines_in text))) × ((l < line) ⊎ ((l ≡ line) × (k ≤ word)))
+
 -- at this place is the first wrong word
 pub record IsFirstWrong (text : List ℕ) (line column : ℕ) : Type 0 where
   -- one of the text's lines, or the one behind the last, and one of its words, or the one behind the last
@@ -79,10 +83,10 @@ pub record IsFirstWrong (text : List ℕ) (line column : ℕ) : Type 0 where
   pub word : ℕ
   pub within_words : word ≤ words_at (drop (line - 1) (lines_in text))
   pub told : column ≡ column_in word (drop (line - 1) (lines_in text))
-  -- no script goes on from it; but a line in which the limit of bytes comes is told at its first word, whichever word that is
-  pub stops : IsCutOff text line ⊎ NoScript text line word
-  -- some script goes on from the words before it, where the limit of bytes leaves room for one
-  pub begins : HasRoom text line column → SomeScript text line word
+  -- no script goes on from it; or it is the first word of a line in which the limit of bytes comes, whatever that word is
+  pub stops : (IsCutOff text line × (word ≡ 0)) ⊎ NoScript text line word
+  -- some script goes on from the words before each word up to it, where the limit of bytes leaves room for one
+  pub begins : (l k : ℕ) → IsUpTo text line word l k → HasRoom text l (column_in k (drop (l - 1) (lines_in text))) → SomeScript text l k
 
 abbrev pub FirstWrongIsTold : Type 0
 FirstWrongIsTold = (text : List ℕ) (line column : ℕ) → script_read text ≡ Bad line column → IsFirstWrong text line column

@@ -1,5 +1,6 @@
 pub mod FlightLaws
 pub mod BlockLaws
+pub mod PlaceLaws
 pub mod SettleLaws
 pub mod NodeLaws
 pub mod OperationLaws

@@ -1,26 +1,24 @@
 -- What a disk keeps for its nodes, after a change at one node.
-use Rattle.std.proofs.Common.{◌≡◌, ◌≢◌, ℕ, zero, suc, ◌+◌, ◌<◌, ◌≤◌, Bool, true, false, cond, List, [], ◌∷◌, length, map, take, set, get_or, replicate, ltb, refl, sym, ap, ◌∙◌, inl, inr, subst, arith}
-use Rattle.std.specs.Prelude.{None, Some}
+use Rattle.std.proofs.Common.{◌≡◌, ◌≢◌, ℕ, zero, suc, ◌+◌, ◌*◌, ◌<◌, ◌≤◌, Bool, true, false, cond, List, [], ◌∷◌, length, map, set, get_or, replicate, ltb, refl, sym, ap, ◌∙◌, inl, inr, subst, arith}
+use Rattle.std.specs.Prelude.{None, Some, vec_capacity}
 use Rattle.std.specs.List.{AllByRecursion}
-use Rattle.std.proofs.lemmas.List.{get_or-map, get_or-set_same, get_or-set_other, length-map, length-set, map-set, length-take-le, with_items_is}
+use Rattle.std.proofs.lemmas.List.{get_or-map, get_or-set_same, get_or-set_other, length-map, length-set, map-set}
 use Rattle.std.proofs.lemmas.Bool.{ltb-true, ltb-false}
 use Rattle.std.proofs.lemmas.Bool.Decides.{eqb_tells}
 use Rattle.shared_disk.specs.Disk.{Flight, flight_to, with_flight, AreRising, AreFlights}
-use Rattle.shared_disk.specs.Flights.{flight_in, flights_in, AreSized}
+use Rattle.shared_disk.specs.Places.{flight_at, AreThere}
 use Rattle.shared_disk.specs.Nodes.{NodeStates, AreNodes, IsQueue, queued, flights_of}
-use Rattle.std.specs.Vec.{with_items}
 use Rattle.shared_disk.specs.declared.nodes.Queue.{Queue}
-use Rattle.shared_disk.specs.declared.flights.Slot.{Slot}
 use Rattle.shared_disk.proofs.FlightLaws.{rising_head, rising_tail, rising_cons, strictly, all_weaken}
 
-pub queues_empty : (size n : ℕ) (qs : List Queue) → length qs ≡ n → AllByRecursion (λ q. IsQueue size q × (queued q ≡ [])) qs → map queued qs ≡ replicate n []
+pub queues_empty : (size n : ℕ) (qs : List Queue) → length qs ≡ n → AllByRecursion (λ q. IsQueue size q × (queued size q ≡ [])) qs → map (queued size) qs ≡ replicate n []
 queues_empty size zero [] e h = refl
 queues_empty size (suc n) [] e h = absurd (omega arith)
 queues_empty size zero (q ∷ qs) e h = absurd (omega arith)
 queues_empty size (suc n) (q ∷ qs) e h = rw (h.0.1, queues_empty size n qs (omega arith) h.1) refl
 
-pub queues_sound : (size : ℕ) (qs : List Queue) → AllByRecursion (λ q. IsQueue size q × (queued q ≡ [])) qs → AllByRecursion (IsQueue size) qs
-queues_sound size qs h = all_weaken (λ (q : Queue). IsQueue size q × (queued q ≡ [])) (IsQueue size) (λ q p. p.0) qs h
+pub queues_sound : (size : ℕ) (qs : List Queue) → AllByRecursion (λ q. IsQueue size q × (queued size q ≡ [])) qs → AllByRecursion (IsQueue size) qs
+queues_sound size qs h = all_weaken (λ (q : Queue). IsQueue size q × (queued size q ≡ [])) (IsQueue size) (λ q p. p.0) qs h
 
 pub none_at : (n node : ℕ) → flights_of (replicate n []) node ≡ []
 none_at zero node = refl
@@ -50,8 +48,8 @@ nodes_with n node fs sound within new = record {
 }
 
 -- the flights that a node's queue holds
-pub queue_at : (qs : List Queue) (node : ℕ) (q : Queue) → node < length qs → q ≡ get_or qs node q → flights_of (map queued qs) node ≡ queued q
-queue_at qs node q within is = get_or-map queued qs node q [] within ∙ ap queued (sym is)
+pub queue_at : (size : ℕ) (qs : List Queue) (node : ℕ) (q : Queue) → node < length qs → q ≡ get_or qs node q → flights_of (map (queued size) qs) node ≡ queued size q
+queue_at size qs node q within is = get_or-map (queued size) qs node q [] within ∙ ap (queued size) (sym is)
 
 some_none : (bytes : List ℕ) → Some bytes ≡ None → ⊥
 some_none bytes e = cc
@@ -93,47 +91,42 @@ flights_with count size fs new h free within same = record {
   sizes = all_with (λ (f : Flight). length f.bytes ≡ size) fs new h.sizes same;
 }
 
-pub length_queued : (q : Queue) (size : ℕ) → IsQueue size q → length (queued q) ≡ q.used
-length_queued q size sound = length-map (take q.used q.slots.items) flight_in ∙ length-take-le q.used q.slots.items (omega (arith, sound.slots, sound.used))
+pub length_queued : (size : ℕ) (q : Queue) → length (queued size q) ≡ length q.places.items
+length_queued size q = length-map q.places.items (flight_at size q.bytes.items)
 
 -- a queue is changed, and its flights are these
-pub queue_set : (n : NodeStates) (qs : List Queue) (node : ℕ) (q : Queue) → AreNodes (record n { flights = map queued qs }) → node ≤ 8 → AreFlights n.count n.size (queued q) → AreNodes (record n { flights = map queued (set qs node q) })
-queue_set n qs node q sound within new =
+pub queue_set : (n : NodeStates) (size : ℕ) (qs : List Queue) (node : ℕ) (q : Queue) → AreNodes (record n { flights = map (queued size) qs }) → node ≤ 8 → AreFlights n.count n.size (queued size q)
+    → AreNodes (record n { flights = map (queued size) (set qs node q) })
+queue_set n size qs node q sound within new =
     let P : List (List Flight) → Type 0 = λ l. AreNodes (record n { flights = l }) in
-    subst P (sym (map-set queued qs node q)) (nodes_with (record n { flights = map queued qs }) node (queued q) sound within new)
+    subst P (sym (map-set (queued size) qs node q)) (nodes_with (record n { flights = map (queued size) qs }) node (queued size q) sound within new)
 
-pub view_set : (n now : NodeStates) (qs : List Queue) (node : ℕ) (q : Queue) (fs : List Flight) → record n { flights = map queued qs } ≡ now → queued q ≡ fs → record n { flights = map queued (set qs node q) } ≡ record now { flights = set now.flights node fs }
-view_set n now qs node q fs view is =
-    ap (λ (l : List (List Flight)). record n { flights = l }) (map-set queued qs node q ∙ ap (λ (l : List Flight). set (map queued qs) node l) is)
+pub view_set : (n now : NodeStates) (size : ℕ) (qs : List Queue) (node : ℕ) (q : Queue) (fs : List Flight) → record n { flights = map (queued size) qs } ≡ now → queued size q ≡ fs
+    → record n { flights = map (queued size) (set qs node q) } ≡ record now { flights = set now.flights node fs }
+view_set n now size qs node q fs view is =
+    ap (λ (l : List (List Flight)). record n { flights = l }) (map-set (queued size) qs node q ∙ ap (λ (l : List Flight). set (map (queued size) qs) node l) is)
     ∙ ap (λ (v : NodeStates). record v { flights = set v.flights node fs }) view
 
--- a node's queue with one more write, in the slots that were filled and put in order
+-- a node's queue with one more write, whose bytes stand behind the others
 pub record PutsIn (size : ℕ) (q q' : Queue) (new : Flight) : Type 0 where
-  pub slots : length q'.slots.items ≡ length q.slots.items
-  pub used : q'.used ≡ q.used + 1
-  pub sizes : AreSized size q'.slots.items
-  pub flights : queued q' ≡ with_flight (queued q) new
+  pub whole : length q'.bytes.items ≡ length q'.places.items * size
+  pub there : AreThere size q'.bytes.items q'.places.items
+  pub count : length q'.places.items ≡ length q.places.items + 1
+  pub room : vec_capacity q.places ≤ vec_capacity q'.places
+  pub bytes_room : vec_capacity q.bytes ≤ vec_capacity q'.bytes
+  pub flights : queued size q' ≡ with_flight (queued size q) new
 
-pub queue_more : (size : ℕ) (q q' : Queue) (new : Flight) → IsQueue size q → PutsIn size q q' new → length (queued q) < 512 → IsQueue size q'
+pub queue_more : (size : ℕ) (q q' : Queue) (new : Flight) → IsQueue size q → PutsIn size q q' new → length (queued size q) < 512 → IsQueue size q'
 queue_more size q q' new was puts room = record {
-  slots = puts.slots ∙ was.slots;
-  used = omega (arith, room, length_queued q size was, puts.used);
-  sizes = puts.sizes;
+  whole = puts.whole;
+  there = puts.there;
+  few = omega (arith, room, length_queued size q, puts.count);
+  room = omega (arith, was.room, puts.room);
+  bytes_room = omega (arith, was.bytes_room, puts.bytes_room);
 }
 
-pub sound_more : (count size : ℕ) (q q' : Queue) (new : Flight) → PutsIn size q q' new → AreFlights count size (queued q) → flight_to (queued q) new.block ≡ None → new.block < count → length new.bytes ≡ size → AreFlights count size (queued q')
+pub sound_more : (count size : ℕ) (q q' : Queue) (new : Flight) → PutsIn size q q' new → AreFlights count size (queued size q) → flight_to (queued size q) new.block ≡ None → new.block < count → length new.bytes ≡ size
+    → AreFlights count size (queued size q')
 sound_more count size q q' new puts was free within same =
     let P : List Flight → Type 0 = AreFlights count size in
-    subst P (sym puts.flights) (flights_with count size (queued q) new was free within same)
-
-pub put_queue : (size : ℕ) (q : Queue) (was now : List Slot) (new : Flight) → was ≡ q.slots.items → length was ≡ q.slots.len → length now ≡ length was → length new.bytes ≡ size → AreSized (length new.bytes) now → flights_in (take (q.used + 1) now) ≡ with_flight (flights_in (take q.used was)) new → PutsIn size q (record { slots = with_items q.slots now; used = q.used + 1 }) new
-put_queue size q was now new is len same sized sizes flights =
-    let kept : (with_items q.slots now).items ≡ now = with_items_is q.slots now (same ∙ len) in
-    let P : List Slot → Type 0 = λ l. AreSized size l in
-    let Q : ℕ → Type 0 = λ n. AreSized n now in
-    record {
-      slots = ap (λ (l : List Slot). length l) kept ∙ same ∙ ap (λ (l : List Slot). length l) is;
-      used = refl;
-      sizes = subst P (sym kept) (subst Q sized sizes);
-      flights = ap (λ (l : List Slot). flights_in (take (q.used + 1) l)) kept ∙ flights ∙ ap (λ (l : List Slot). with_flight (flights_in (take q.used l)) new) is;
-    }
+    subst P (sym puts.flights) (flights_with count size (queued size q) new was free within same)

@@ -9,15 +9,17 @@ use Rattle.shared_disk.specs.declared.disk.Settle.{Settle}
 use Rattle.shared_disk.specs.declared.outcomes.Outcome.{Outcome}
 use Rattle.std.proofs.Common.{take, get_or, ◌-◌}
 use Rattle.std.proofs.lemmas.List.{take_rest}
-use Rattle.shared_disk.specs.Flights.{flight_in, flights_in}
+use Rattle.shared_disk.specs.Blocks.{block_in}
+use Rattle.shared_disk.specs.Places.{flight_at, flights_at, AreThere}
 use Rattle.shared_disk.specs.Outcomes.{AreOfSize}
-use Rattle.shared_disk.specs.declared.flights.Slot.{Slot}
+use Rattle.shared_disk.specs.declared.places.Place.{Place}
 use Rattle.shared_disk.specs.declared.disk.Settle.TheVariants.{Old as SettleOld, New as SettleNew, Torn}
 use Rattle.shared_disk.specs.declared.outcomes.Outcome.TheVariants.{Old, New, Bytes}
 use Rattle.shared_disk.specs.Disk.{DiskState, IsOutcome}
-use Rattle.shared_disk.specs.Operations.{as_in}
+use Rattle.shared_disk.specs.Operations.{as_in, now_at}
 use Rattle.std.proofs.Common.{◌++◌}
 use Rattle.std.proofs.lemmas.List.{length-append, length-take, length-drop}
+use Rattle.shared_disk.proofs.PlaceLaws.{nowhere}
 use Rattle.shared_disk.proofs.FlightLaws.{equal, not_equal, rising_head, rising_tail, rising_cons, all_weaken}
 
 pub not_to : (block : ℕ) (fs : List Flight) → AllByRecursion (λ g. block < g.block) fs → flight_to fs block ≡ None
@@ -72,27 +74,40 @@ settle_step order os g h f fs rising put k =
     ∙ written_same h (with_value g f.block new.bytes) rest k (put k)
     ∙ sym (written_first g new rest k (not_to f.block rest (became_above order (drop 1 os) g f.block fs above)))
 
--- the same over slots, of which the first was put or settled
-pub flights_rest : (count size : ℕ) (xs : List Slot) → 1 ≤ length xs → AreFlights count size (flights_in xs) → AreFlights count size (flights_in (take (length xs - 1) (drop 1 xs)))
-flights_rest count size [] some h = absurd (omega arith)
-flights_rest count size (x ∷ xs) some h =
-    let P : List Slot → Type 0 = λ l. AreFlights count size (flights_in l) in
-    subst P (sym (take_rest (x ∷ xs) 1)) (flights_tail count size (flight_in x) (flights_in xs) h)
+-- the same over places, of which the first was put or settled
+pub flights_rest : (count size : ℕ) (bytes : List ℕ) (xs : List Place) → 1 ≤ length xs → AreFlights count size (flights_at size bytes xs) → AreFlights count size (flights_at size bytes (take (length xs - 1) (drop 1 xs)))
+flights_rest count size bytes [] some h = absurd (omega arith)
+flights_rest count size bytes (x ∷ xs) some h =
+    let P : List Place → Type 0 = λ l. AreFlights count size (flights_at size bytes l) in
+    subst P (sym (take_rest (x ∷ xs) 1)) (flights_tail count size (flight_at size bytes x) (flights_at size bytes xs) h)
 
-pub put_loop : (g h end : ℕ → List ℕ) (xs : List Slot) (first : Slot) → 1 ≤ length xs → AreRising (flights_in xs) → first ≡ get_or xs 0 first → ((k : ℕ) → h k ≡ with_value g first.block first.bytes.items k) → ((k : ℕ) → written g (flights_in xs) k ≡ end k) → (k : ℕ) → written h (flights_in (take (length xs - 1) (drop 1 xs))) k ≡ end k
-put_loop g h end [] first some rising is put same k = absurd (omega arith)
-put_loop g h end (x ∷ xs) first some rising is put same k =
-    ap (λ (l : List Slot). written h (flights_in l) k) (take_rest (x ∷ xs) 1)
-    ∙ put_step g h (flight_in x) (flights_in xs) rising (λ i. put i ∙ ap (λ (s : Slot). with_value g s.block s.bytes.items i) is) k
+pub there_rest : (size : ℕ) (bytes : List ℕ) (xs : List Place) → AreThere size bytes xs → AreThere size bytes (take (length xs - 1) (drop 1 xs))
+there_rest size bytes [] there = tt
+there_rest size bytes (x ∷ xs) there = subst (AreThere size bytes) (sym (take_rest (x ∷ xs) 1)) there.1
+
+pub put_loop : (size : ℕ) (bytes : List ℕ) (g h end : ℕ → List ℕ) (xs : List Place) → 1 ≤ length xs → AreRising (flights_at size bytes xs)
+    → ((k : ℕ) → h k ≡ with_value g (get_or xs 0 nowhere).block (block_in size bytes (get_or xs 0 nowhere).number) k) → ((k : ℕ) → written g (flights_at size bytes xs) k ≡ end k) → (k : ℕ)
+    → written h (flights_at size bytes (take (length xs - 1) (drop 1 xs))) k ≡ end k
+put_loop size bytes g h end [] some rising put same k = absurd (omega arith)
+put_loop size bytes g h end (x ∷ xs) some rising put same k =
+    ap (λ (l : List Place). written h (flights_at size bytes l) k) (take_rest (x ∷ xs) 1)
+    ∙ put_step g h (flight_at size bytes x) (flights_at size bytes xs) rising put k
     ∙ same k
 
-pub settle_loop : (order : Settle) (os os' : List Outcome) (g h end : ℕ → List ℕ) (xs : List Slot) (first : Slot) → 1 ≤ length xs → AreRising (flights_in xs) → first ≡ get_or xs 0 first → os' ≡ drop 1 os → ((k : ℕ) → h k ≡ with_value g first.block (fate order os (g first.block) first.bytes.items) k) → ((k : ℕ) → written g (became order os g (flights_in xs)) k ≡ end k) → (k : ℕ) → written h (became order os' h (flights_in (take (length xs - 1) (drop 1 xs)))) k ≡ end k
-settle_loop order os os' g h end [] first some rising is left put same k = absurd (omega arith)
-settle_loop order os os' g h end (x ∷ xs) first some rising is left put same k =
-    ap (λ (l : List Slot). written h (became order os' h (flights_in l)) k) (take_rest (x ∷ xs) 1)
-    ∙ ap (λ (l : List Outcome). written h (became order l h (flights_in xs)) k) left
-    ∙ settle_step order os g h (flight_in x) (flights_in xs) rising (λ i. put i ∙ ap (λ (s : Slot). with_value g s.block (fate order os (g s.block) s.bytes.items) i) is) k
+pub settle_loop : (size : ℕ) (bytes : List ℕ) (order : Settle) (os os' : List Outcome) (g h end : ℕ → List ℕ) (xs : List Place) → 1 ≤ length xs → AreRising (flights_at size bytes xs) → os' ≡ drop 1 os
+    → ((k : ℕ) → h k ≡ with_value g (get_or xs 0 nowhere).block (fate order os (g (get_or xs 0 nowhere).block) (block_in size bytes (get_or xs 0 nowhere).number)) k)
+    → ((k : ℕ) → written g (became order os g (flights_at size bytes xs)) k ≡ end k) → (k : ℕ) → written h (became order os' h (flights_at size bytes (take (length xs - 1) (drop 1 xs)))) k ≡ end k
+settle_loop size bytes order os os' g h end [] some rising left put same k = absurd (omega arith)
+settle_loop size bytes order os os' g h end (x ∷ xs) some rising left put same k =
+    ap (λ (l : List Place). written h (became order os' h (flights_at size bytes l)) k) (take_rest (x ∷ xs) 1)
+    ∙ ap (λ (l : List Outcome). written h (became order l h (flights_at size bytes xs)) k) left
+    ∙ settle_step order os g h (flight_at size bytes x) (flights_at size bytes xs) rising put k
     ∙ same k
+
+-- what stands in the blocks of writes, from their places alone
+pub now_is : (h : ℕ → List ℕ) (size : ℕ) (bytes : List ℕ) (xs : List Place) → map (now_at h) xs ≡ map (as_in h) (flights_at size bytes xs)
+now_is h size bytes [] = refl
+now_is h size bytes (x ∷ xs) = ap (λ (l : List Flight). now_at h x ∷ l) (now_is h size bytes xs)
 
 pub outcomes_rest : (size : ℕ) (os os' : List Outcome) → os' ≡ drop 1 os → AreOfSize size os → AreOfSize size os'
 outcomes_rest size [] os' is h = let P : List Outcome → Type 0 = λ l. AreOfSize size l in subst P (sym is) tt

@@ -2,6 +2,7 @@ pub mod Disk
 pub mod Causes
 pub mod Flights
 pub mod Blocks
+pub mod Places
 pub mod Settling
 pub mod Outcomes
 pub mod Nodes

@@ -1,8 +1,8 @@
 -- What a disk keeps for its nodes.
-use Rattle.std.specs.Prelude.{ℕ, ◌≡◌, ◌≤◌, Bool, false, List, [], length, take, replicate, slice_index, slice_index_or, slice_set}
+use Rattle.std.specs.Prelude.{ℕ, ◌≡◌, ◌*◌, ◌≤◌, Bool, false, List, [], length, replicate, slice_index, slice_index_or, slice_set, vec_capacity}
 use Rattle.fault_counts.specs.Causes.{raised_once}
 use Rattle.shared_disk.specs.Disk.{DiskState, Flight, AreFlights}
-use Rattle.shared_disk.specs.Flights.{flights_in, AreSized}
+use Rattle.shared_disk.specs.Places.{flights_at, AreThere}
 use Rattle.shared_disk.specs.declared.nodes.Queue.{Queue}
 
 -- how many blocks of how many bytes there are; for each node its writes in flight, whether it is
@@ -45,15 +45,17 @@ with_fence n node is_fenced = record n { fenced = slice_set n.fenced node is_fen
 abbrev pub with_fault : NodeStates → ℕ → NodeStates
 with_fault n node = record n { faults = slice_set n.faults node (raised_once (faults_of n node)) }
 
--- the writes in flight that a node's slots hold
-abbrev pub queued : Queue → List Flight
-queued q = flights_in (take q.used q.slots.items)
+-- the writes in flight of a node
+abbrev pub queued : ℕ → Queue → List Flight
+queued size q = flights_at size q.bytes.items q.places.items
 
--- a queue has 512 slots, each with a buffer of one block
+-- a queue has its bytes one after another, and room for 512 writes
 pub record IsQueue (size : ℕ) (q : Queue) : Type 0 where
-  pub slots : length q.slots.items ≡ 512
-  pub used : q.used ≤ 512
-  pub sizes : AreSized size q.slots.items
+  pub whole : length q.bytes.items ≡ length q.places.items * size
+  pub there : AreThere size q.bytes.items q.places.items
+  pub few : length q.places.items ≤ 512
+  pub room : 512 ≤ vec_capacity q.places
+  pub bytes_room : 512 * size ≤ vec_capacity q.bytes
 
 -- what holds of the nodes of every disk
 pub record AreNodes (n : NodeStates) : Type 0 where

@@ -2,6 +2,7 @@
 use Rattle.std.specs.Prelude.{ℕ, ◌≡◌, ◌+◌, ◌≤◌, List, [], ◌∷◌, ◌++◌, length, take, drop, Option, None, Some, nat_lt, if◌then◌else◌, vec_capacity}
 use Rattle.shared_disk.specs.Disk.{Flight, Operation, Write, Barrier, Fence}
 use Rattle.shared_disk.specs.Flights.{flights_in, AreSized}
+use Rattle.shared_disk.specs.declared.places.Place.{Place}
 use Rattle.shared_disk.specs.declared.operations.Kept.{Kept}
 use Rattle.shared_disk.specs.declared.operations.Kept.TheVariants.{Written, Flushed, Settled}
 use Rattle.shared_disk.specs.declared.operations.Operations.{Operations}
@@ -58,6 +59,10 @@ pub record IsKept (o : Operations) : Type 0 where
   pub within : o.entries ≤ o.limit
   pub takes : takes_in o.kept.items ≡ o.used
   pub entries : entries_in (list_kept o) ≡ o.entries
+
+-- what stands in the block of a write that was in flight there
+abbrev pub now_at : (ℕ → List ℕ) → Place → Flight
+now_at block_at p = record { block = p.block; bytes = block_at p.block }
 
 -- a flight that has become what stands in its block
 abbrev pub as_in : (ℕ → List ℕ) → Flight → Flight

@@ -2,11 +2,11 @@ ghost use Rattle.std.specs.Prelude.{◌≡◌, ◌*◌, ◌^◌, ◌<◌, ◌≤
 ghost use Rattle.std.specs.List.{AllByRecursion};
 ghost use Rattle.shared_disk.specs.Disk.{IsIdle};
 ghost use Rattle.shared_disk.specs.Files.{file_state};
-ghost use Rattle.shared_disk.specs.Flights.{AreSized};
+ghost use Rattle.shared_disk.specs.Places.{AreThere};
 ghost use Rattle.shared_disk.specs.Nodes.{NodeStates, faults_of, fresh};
 
-use crate::flights::Slot;
 use crate::nodes::Nodes;
+use crate::places::{Place, bytes_at};
 use crate::{DiskError, Settle, SharedDisk};
 use std::alloc::Global;
 use std::fs::{File, OpenFile, OpenOptions};
@@ -22,8 +22,8 @@ pub enum OpenError {
     NoMemory,
 }
 
-/// The whole blocks of a regular file or a block device; bytes past them are left alone. What is in flight is in memory, taken
-/// at opening, until a barrier or a fence writes it to the file. It tells nothing of its blocks.
+/// The whole blocks of a regular file or a block device; bytes past them are left alone. What is in flight is in memory, reserved
+/// at opening and touched by the first write, until a barrier or a fence writes it to the file. It tells nothing of its blocks.
 /// A read costs a binary search and one read of the system, a barrier or a fence one write of the
 /// system per write in flight, and a barrier one sync.
 #[derive(Drop)]
@@ -53,11 +53,13 @@ fn offset(block: u64, size: u32) -> u64
 }
 
 // Writes each write in flight to its place in the file.
-fn write_flights(file: &File, size: u32, slots: &[Slot]) -> io::Result<()>
-    requires { AllByRecursion (λ s. s.block * size < 2 ^ 64) slots.now }
+fn write_flights(file: &File, size: u32, places: &[Place], bytes: &[u8]) -> io::Result<()>
+    requires within { AllByRecursion (λ p. p.block * size < 2 ^ 64) places.now }
+    requires there { AreThere size bytes.now places.now }
 {
-    for slot in slots {
-        file.write_all_at(&slot.bytes, offset(slot.block, size))?;
+    for place in places {
+        let new = bytes_at(bytes, size as usize, place.number);
+        file.write_all_at(new, offset(place.block, size))?;
     }
     Ok(())
 }
@@ -76,21 +78,20 @@ fn tear(file: &File, at: u64, new: &[u8], count: usize, scratch: &mut [u8]) -> i
 fn settle_flight(
     file: &File,
     size: u32,
-    slot: &Slot,
+    block: u64,
+    new: &[u8],
     order: Settle,
     scratch: &mut [u8],
 ) -> io::Result<()>
-    requires within { slot.now.block * size < 2 ^ 64 }
-    requires size { length slot.now.bytes.items ≡ size }
+    requires within { block * size < 2 ^ 64 }
+    requires size { length new.now ≡ size }
     requires scratch { length scratch.old ≡ size }
 {
-    let at = offset(slot.block, size);
+    let at = offset(block, size);
     match order {
         Settle::Old => Ok(()),
-        Settle::Torn(count) if count < size => {
-            tear(file, at, &slot.bytes, count as usize, scratch)
-        }
-        _ => file.write_all_at(&slot.bytes, at),
+        Settle::Torn(count) if count < size => tear(file, at, new, count as usize, scratch),
+        _ => file.write_all_at(new, at),
     }
 }
 
@@ -98,16 +99,18 @@ fn settle_flight(
 fn settle_flights(
     file: &File,
     size: u32,
-    slots: &[Slot],
+    places: &[Place],
+    bytes: &[u8],
     order: Settle,
     scratch: &mut [u8],
 ) -> io::Result<()>
-    requires within { AllByRecursion (λ s. s.block * size < 2 ^ 64) slots.now }
-    requires sizes { AreSized size slots.now }
+    requires within { AllByRecursion (λ p. p.block * size < 2 ^ 64) places.now }
+    requires there { AreThere size bytes.now places.now }
     requires scratch { length scratch.old ≡ size }
 {
-    for slot in slots {
-        settle_flight(file, size, slot, order, scratch)?;
+    for place in places {
+        let new = bytes_at(bytes, size as usize, place.number);
+        settle_flight(file, size, place.block, new, order, scratch)?;
     }
     Ok(())
 }
@@ -227,7 +230,8 @@ impl SharedDisk for FileDisk {
             return Err(DiskError::Fenced);
         }
         let size = self.nodes.block_size();
-        if write_flights(&self.file, size, self.nodes.in_flight(node)).is_err() {
+        let (places, bytes) = self.nodes.in_flight(node);
+        if write_flights(&self.file, size, places, bytes).is_err() {
             return Err(self.nodes.fail(node));
         }
         if self.file.sync_data().is_err() {
@@ -239,8 +243,8 @@ impl SharedDisk for FileDisk {
 
     fn fence(&mut self, node: u8, order: Settle) -> Result<(), DiskError> {
         let size = self.nodes.block_size();
-        let slots = self.nodes.in_flight(node);
-        if settle_flights(&self.file, size, slots, order, &mut self.scratch).is_err() {
+        let (places, bytes) = self.nodes.in_flight(node);
+        if settle_flights(&self.file, size, places, bytes, order, &mut self.scratch).is_err() {
             return Err(self.nodes.fail(0));
         }
         self.nodes.clear(node);

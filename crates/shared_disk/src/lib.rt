@@ -8,6 +8,7 @@ mod memory;
 mod nodes;
 mod operations;
 mod outcomes;
+mod places;
 mod reads;
 #[cfg(test)]
 mod tests;

@@ -19,7 +19,7 @@ use std::marker::Model;
 
 /// A disk in memory, which tells its state. Its listed calls fail, counted from 1 over all nodes.
 /// All memory is taken when it is made. A read costs a binary search and one copy, a write that and
-/// a move of the slots past its place, a barrier or a fence one copy per write in flight, and two
+/// a move of the places past its own, a barrier or a fence one copy per write in flight, and two
 /// where the list of operations is told; the search for a call among those that fail comes to each.
 #[derive(Drop)]
 pub struct MemDisk {
@@ -114,10 +114,10 @@ fn settle_row(
     ensures outcome { IsOutcome (disk_of true (block_in nodes.now.size row.old) nodes.now) node (became order outcomes.now (block_in nodes.now.size row.old) (flights_of nodes.now.flights node)) }
 {
     let size = nodes.block_size() as usize;
-    let slots = nodes.in_flight(node);
-    settle_blocks(row, size, slots, outcomes, order);
-    note_fence(operations, node, row, size, slots);
-    slots.len()
+    let (places, bytes) = nodes.in_flight(node);
+    settle_blocks(row, size, places, bytes, outcomes, order);
+    note_fence(operations, node, row, size, places);
+    places.len()
 }
 
 impl MemDisk {
@@ -207,7 +207,8 @@ impl MemDisk {
         } }
     {
         let size = self.nodes.block_size() as usize;
-        put_blocks(&mut self.bytes, size, self.nodes.in_flight(node));
+        let (places, bytes) = self.nodes.in_flight(node);
+        put_blocks(&mut self.bytes, size, places, bytes);
         note_barrier(&mut self.operations, node);
         self.nodes.clear(node);
     }

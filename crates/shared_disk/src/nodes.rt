@@ -1,34 +1,35 @@
 ghost use Rattle.std.specs.Prelude.{◌≡◌, ◌<◌, ◌≤◌, [], false, length, slice_index_or, IfOk, None, is_some, unwrap_or};
 ghost use Rattle.std.specs.List.{AllByRecursion};
 ghost use Rattle.shared_disk.specs.Disk.{flight_to, with_flight};
-ghost use Rattle.shared_disk.specs.Flights.{flights_in, AreSized};
+ghost use Rattle.shared_disk.specs.Places.{flights_at, AreThere};
 ghost use Rattle.shared_disk.specs.Nodes.{NodeStates, AreNodes, IsQueue, queued, flights_of, faults_of, fresh, with_flights, with_fence, with_fault};
 
 use crate::DiskError;
-use crate::flights::{Slot, copy_flight, make_slots, put_flight};
+use crate::places::{Place, copy_flight, put_flight};
 use fault_counts::raised;
 use std::alloc::{AllocError, Global};
 use std::marker::Model;
 
-/// The writes in flight of one node: the first `used` slots, by rising block. The rest are spare.
+/// The writes in flight of one node by rising block, and their bytes one after another as they came. Room for 512 is
+/// reserved when it is made, and nobody touches it before the first write.
 #[derive(Drop)]
 pub struct Queue {
-    pub slots: Vec<Slot>,
-    pub used: usize,
+    pub places: Vec<Place>,
+    pub bytes: Vec<u8>,
 }
 
-fn make_queue(alloc: Global, size: usize) -> Result<Queue, AllocError>
-    ensures { IfOk result (λ q. IsQueue size q × (queued q ≡ [])) }
+fn make_queue(alloc: Global, size: u32) -> Result<Queue, AllocError>
+    ensures { IfOk result (λ q. IsQueue size q × (queued size q ≡ [])) }
 {
     Ok(Queue {
-        slots: make_slots(alloc, 512, size)?,
-        used: 0,
+        places: Vec::with_capacity(alloc, 512)?,
+        bytes: Vec::with_capacity(alloc, 512 * size as usize)?,
     })
 }
 
-fn make_queues(alloc: Global, size: usize) -> Result<Vec<Queue>, AllocError>
+fn make_queues(alloc: Global, size: u32) -> Result<Vec<Queue>, AllocError>
     ensures count { IfOk result (λ v. length v.items ≡ 9) }
-    ensures queues { IfOk result (λ v. AllByRecursion (λ q. IsQueue size q × (queued q ≡ [])) v.items) }
+    ensures queues { IfOk result (λ v. AllByRecursion (λ q. IsQueue size q × (queued size q ≡ [])) v.items) }
 {
     let mut queues = Vec::with_capacity(alloc, 9)?;
     for _ in 0..9usize {
@@ -57,13 +58,13 @@ impl Model for Nodes {
     ghost view = { λ n. record {
       count = n.count;
       size = n.size;
-      flights = map queued n.queues.items;
+      flights = map (queued n.size) n.queues.items;
       fenced = n.fenced;
       faults = n.faults;
     } };
 
     ghost invariant = { λ n. AllByRecursion (IsQueue n.size) n.queues.items
-        × AreNodes (record { count = n.count; size = n.size; flights = map queued n.queues.items; fenced = n.fenced; faults = n.faults }) };
+        × AreNodes (record { count = n.count; size = n.size; flights = map (queued n.size) n.queues.items; fenced = n.fenced; faults = n.faults }) };
 }
 
 impl Nodes {
@@ -73,7 +74,7 @@ impl Nodes {
         Ok(Nodes {
             count,
             size,
-            queues: make_queues(alloc, size as usize)?,
+            queues: make_queues(alloc, size)?,
             fenced: [false; 9],
             faults: [0; 9],
         })
@@ -116,10 +117,10 @@ impl Nodes {
         ensures bytes { into.new ≡ unwrap_or (flight_to (flights_of self.now.flights node) block) into.old }
     {
         let queue = &self.queues[node as usize];
-        copy_flight(&queue.slots[..queue.used], block, into)
+        copy_flight(&queue.places, &queue.bytes, block, into)
     }
 
-    /// Puts a write in flight: a binary search, a copy, and a move of the slots past its place.
+    /// Puts a write in flight: a binary search, a copy, and a move of the places past its own.
     pub fn put(&mut self, node: u8, block: u64, bytes: &[u8])
         requires node { node ≤ 8 }
         requires block { block < self.old.count }
@@ -129,20 +130,19 @@ impl Nodes {
         ensures { self.new ≡ with_flights self.old node (with_flight (flights_of self.old.flights node) (record { block = block; bytes = bytes.now })) }
     {
         let queue = &mut self.queues[node as usize];
-        put_flight(&mut queue.slots, queue.used, block, bytes);
-        queue.used += 1;
+        put_flight(&mut queue.places, &mut queue.bytes, block, bytes);
     }
 
-    /// The node's writes in flight, by rising block.
-    pub fn in_flight(&self, node: u8) -> &[Slot]
+    /// The node's writes in flight, by rising block, and the bytes among which theirs stand.
+    pub fn in_flight(&self, node: u8) -> (&[Place], &[u8])
         requires { node ≤ 8 }
-        ensures flights { flights_in result.now ≡ flights_of self.now.flights node }
-        ensures sizes { AreSized self.now.size result.now }
-        ensures few { length result.now ≤ 512 }
+        ensures flights { flights_at self.now.size result.1.now result.0.now ≡ flights_of self.now.flights node }
+        ensures there { AreThere self.now.size result.1.now result.0.now }
+        ensures few { length result.0.now ≤ 512 }
         ensures sound { AreNodes self.now }
     {
         let queue = &self.queues[node as usize];
-        &queue.slots[..queue.used]
+        (queue.places.as_slice(), queue.bytes.as_slice())
     }
 
     /// Lets go the node's writes in flight.
@@ -150,7 +150,9 @@ impl Nodes {
         requires { node ≤ 8 }
         ensures { self.new ≡ with_flights self.old node [] }
     {
-        self.queues[node as usize].used = 0;
+        let queue = &mut self.queues[node as usize];
+        queue.places.clear();
+        queue.bytes.clear();
     }
 
     /// Fences the node, or ends its fence.

@@ -1,10 +1,12 @@
 ghost use Rattle.std.specs.Prelude.{◌≡◌, ◌+◌, ◌*◌, ◌/◌, ◌<◌, ◌≤◌, ℕ, List, [], ◌∷◌, ◌++◌, length, map, take, IfOk, Option, None, Some, nat_lt, if◌then◌else◌};
-ghost use Rattle.shared_disk.specs.Disk.{Write, Barrier, Fence, AreFlights};
+ghost use Rattle.std.specs.List.{AllByRecursion};
+ghost use Rattle.shared_disk.specs.Disk.{Write, Barrier, Fence};
 ghost use Rattle.shared_disk.specs.Flights.{flights_in, AreSized};
 ghost use Rattle.shared_disk.specs.Blocks.{block_in};
-ghost use Rattle.shared_disk.specs.Operations.{IsKept, SameRoom, list_told, with_operation, as_in};
+ghost use Rattle.shared_disk.specs.Operations.{IsKept, SameRoom, list_told, with_operation, now_at};
 
 use crate::flights::{Slot, fill_slot, make_slots};
+use crate::places::Place;
 use std::alloc::{AllocError, Global};
 
 /// An operation that is kept: a write with one flight, a barrier, or a fence with so many flights.
@@ -59,16 +61,16 @@ fn keep_block(kept: &mut [Slot], place: usize, row: &[u8], size: usize, block: u
 }
 
 // Keeps what each of these blocks holds in the row, in slots from `used` on.
-fn keep_blocks(kept: &mut [Slot], used: usize, row: &[u8], size: usize, slots: &[Slot])
-    requires room { used + length slots.now ≤ length kept.old }
+fn keep_blocks(kept: &mut [Slot], used: usize, row: &[u8], size: usize, places: &[Place])
+    requires room { used + length places.now ≤ length kept.old }
     requires sizes { AreSized size kept.old }
-    requires flights { AreFlights (length row.now / size) size (flights_in slots.now) }
-    ensures flights { flights_in (take (used + length slots.now) kept.new) ≡ flights_in (take used kept.old) ++ map (as_in (block_in size row.now)) (flights_in slots.now) }
+    requires within { AllByRecursion (λ p. p.block < length row.now / size) places.now }
+    ensures flights { flights_in (take (used + length places.now) kept.new) ≡ flights_in (take used kept.old) ++ map (now_at (block_in size row.now)) places.now }
     ensures sizes { AreSized size kept.new }
 {
     let mut at = used;
-    for slot in slots {
-        keep_block(kept, at, row, size, slot.block);
+    for place in places {
+        keep_block(kept, at, row, size, place.block);
         at += 1;
     }
 }
@@ -107,24 +109,24 @@ pub fn note_barrier(operations: &mut Operations, node: u8)
 }
 
 /// Adds a fence to the list, whose flights have become what the row holds. One copy per flight.
-pub fn note_fence(operations: &mut Operations, node: u8, row: &[u8], size: usize, slots: &[Slot])
+pub fn note_fence(operations: &mut Operations, node: u8, row: &[u8], size: usize, places: &[Place])
     requires kept { IsKept operations.old }
     requires size { size ≡ operations.old.size }
-    requires flights { AreFlights (length row.now / size) size (flights_in slots.now) }
-    requires few { length slots.now ≤ 512 }
-    ensures told { list_told operations.new ≡ with_operation operations.old.limit (list_told operations.old) (Fence node (map (as_in (block_in size row.now)) (flights_in slots.now))) }
+    requires within { AllByRecursion (λ p. p.block < length row.now / size) places.now }
+    requires few { length places.now ≤ 512 }
+    ensures told { list_told operations.new ≡ with_operation operations.old.limit (list_told operations.old) (Fence node (map (now_at (block_in size row.now)) places.now)) }
     ensures room { SameRoom operations.old operations.new }
     ensures kept { IsKept operations.new }
 {
-    let entries = 1 + slots.len();
+    let entries = 1 + places.len();
     if !operations.told || operations.entries + entries >= operations.limit as usize {
         operations.told = false;
         return;
     }
-    keep_blocks(&mut operations.slots, operations.used, row, size, slots);
-    operations.used += slots.len();
+    keep_blocks(&mut operations.slots, operations.used, row, size, places);
+    operations.used += places.len();
     operations
         .kept
-        .push_reserved(Kept::Settled(node, slots.len()));
+        .push_reserved(Kept::Settled(node, places.len()));
     operations.entries += entries;
 }

@@ -1,12 +1,12 @@
 ghost use Rattle.std.specs.Prelude.{◌≡◌, ◌+◌, ◌*◌, ◌/◌, ◌<◌, ◌≤◌, ℕ, length, drop, take};
 ghost use Rattle.shared_disk.specs.Disk.{written, with_value, AreFlights};
-ghost use Rattle.shared_disk.specs.Flights.{flight_in, flights_in};
+ghost use Rattle.shared_disk.specs.Places.{flights_at, AreThere};
 ghost use Rattle.shared_disk.specs.Settling.{ordered};
 ghost use Rattle.shared_disk.specs.Outcomes.{outcome_of, fate, became, IsOfSize, AreOfSize};
 ghost use Rattle.shared_disk.specs.Blocks.{block_in};
 
 use crate::Settle;
-use crate::flights::Slot;
+use crate::places::{Place, bytes_at};
 
 /// What a write in flight becomes at a fence: what was there stays (`Old`), what was written comes
 /// (`New`), or these bytes, of one block's length, do (`Bytes`).
@@ -67,34 +67,43 @@ fn past_first(outcomes: &[Outcome]) -> &[Outcome]
 }
 
 // Puts a block into the row.
-fn put_block(row: &mut [u8], size: usize, slot: &Slot)
-    requires size { length slot.now.bytes.items ≡ size }
-    requires within { slot.now.block < length row.old / size }
-    ensures { (k : ℕ) → block_in size row.new k ≡ with_value (block_in size row.old) slot.now.block slot.now.bytes.items k }
+fn put_block(row: &mut [u8], size: usize, block: u64, new: &[u8])
+    requires size { length new.now ≡ size }
+    requires within { block < length row.old / size }
+    ensures { (k : ℕ) → block_in size row.new k ≡ with_value (block_in size row.old) block new.now k }
 {
-    let from = slot.block as usize * size;
-    row[from..from + size].copy_from_slice(&slot.bytes);
+    let from = block as usize * size;
+    row[from..from + size].copy_from_slice(new);
 }
 
 // Settles a write over its old block in the row.
-fn settle_block(row: &mut [u8], size: usize, slot: &Slot, outcomes: &[Outcome], order: Settle)
-    requires size { length slot.now.bytes.items ≡ size }
-    requires within { slot.now.block < length row.old / size }
+fn settle_block(
+    row: &mut [u8],
+    size: usize,
+    block: u64,
+    new: &[u8],
+    outcomes: &[Outcome],
+    order: Settle,
+)
+    requires size { length new.now ≡ size }
+    requires within { block < length row.old / size }
     requires outcomes { AreOfSize size outcomes.now }
-    ensures { (k : ℕ) → block_in size row.new k ≡ with_value (block_in size row.old) slot.now.block (fate order outcomes.now (block_in size row.old slot.now.block) slot.now.bytes.items) k }
+    ensures { (k : ℕ) → block_in size row.new k ≡ with_value (block_in size row.old) block (fate order outcomes.now (block_in size row.old block) new.now) k }
 {
-    let from = slot.block as usize * size;
-    settle(&mut row[from..from + size], &slot.bytes, outcomes, order);
+    let from = block as usize * size;
+    settle(&mut row[from..from + size], new, outcomes, order);
 }
 
 /// Puts each write in flight to its place in the row of blocks. One copy per write.
-pub fn put_blocks(row: &mut [u8], size: usize, slots: &[Slot])
-    requires { AreFlights (length row.old / size) size (flights_in slots.now) }
-    ensures { (k : ℕ) → block_in size row.new k ≡ written (block_in size row.old) (flights_in slots.now) k }
+pub fn put_blocks(row: &mut [u8], size: usize, places: &[Place], bytes: &[u8])
+    requires flights { AreFlights (length row.old / size) size (flights_at size bytes.now places.now) }
+    requires there { AreThere size bytes.now places.now }
+    ensures { (k : ℕ) → block_in size row.new k ≡ written (block_in size row.old) (flights_at size bytes.now places.now) k }
 {
-    let mut rest = slots;
-    while let [slot, after @ ..] = rest {
-        put_block(row, size, slot);
+    let mut rest = places;
+    while let [place, after @ ..] = rest {
+        let new = bytes_at(bytes, size, place.number);
+        put_block(row, size, place.block, new);
         rest = after;
     }
 }
@@ -103,18 +112,21 @@ pub fn put_blocks(row: &mut [u8], size: usize, slots: &[Slot])
 pub fn settle_blocks(
     row: &mut [u8],
     size: usize,
-    slots: &[Slot],
+    places: &[Place],
+    bytes: &[u8],
     outcomes: &[Outcome],
     order: Settle,
 )
-    requires flights { AreFlights (length row.old / size) size (flights_in slots.now) }
+    requires flights { AreFlights (length row.old / size) size (flights_at size bytes.now places.now) }
+    requires there { AreThere size bytes.now places.now }
     requires outcomes { AreOfSize size outcomes.now }
-    ensures { (k : ℕ) → block_in size row.new k ≡ written (block_in size row.old) (became order outcomes.now (block_in size row.old) (flights_in slots.now)) k }
+    ensures { (k : ℕ) → block_in size row.new k ≡ written (block_in size row.old) (became order outcomes.now (block_in size row.old) (flights_at size bytes.now places.now)) k }
 {
-    let mut rest = slots;
+    let mut rest = places;
     let mut left = outcomes;
-    while let [slot, after @ ..] = rest {
-        settle_block(row, size, slot, left, order);
+    while let [place, after @ ..] = rest {
+        let new = bytes_at(bytes, size, place.number);
+        settle_block(row, size, place.block, new, left, order);
         rest = after;
         left = past_first(left);
     }

@@ -7,6 +7,7 @@ use Rattle.std.proofs.lemmas.List.{take_all, append-nil, length-map}
 use Rattle.file_tree.specs.Tree.{Tree}
 use Rattle.file_tree.specs.Apply.{apply, Answer}
 use Rattle.file_tree.specs.declared.call.Call.{Call}
+use Rattle.file_tree.specs.declared.call.Call.TheVariants as call
 use Rattle.file_tree.specs.declared.reply.Reply.{Reply}
 use Rattle.file_tree.specs.declared.reply.Reply.TheVariants as reply
 use Rattle.cluster_history.specs.declared.Item.{Item}
@@ -19,7 +20,7 @@ use Rattle.script_lang.specs.declared.script.Client.{Client}
 use Rattle.script_lang.specs.declared.script.Line.{Line}
 use Rattle.script_lang.specs.declared.script.Line.TheVariants as line
 use Rattle.script_lang.specs.Script.{ScriptValue, call_by, calls_by}
-use Rattle.script_lang.specs.OneNode.{IsOneNode, IsOneNodeLine, HaveOwnClientNames}
+use Rattle.script_lang.specs.OneNode.{IsRootCall, IsOneNode, IsOneNodeLine, HaveOwnClientNames}
 use Rattle.run_rules.specs.Follows.{Follows, ByLine, history_of, call_items, above, answered, IsAfterAbove, IsOrderLine, IsOnItsNode}
 use Rattle.run_rules.specs.History.{HoldsHistory, NoneStopped, AllAnswered}
 use Rattle.run_rules.proofs.Nothing.{nothing_follows, nothing_is_legal}
@@ -39,6 +40,10 @@ IsEnd end = (end ≡ []) ⊎ (end ≡ trace.Unmount 1 ∷ [])
 -- the calls are those of clients that there are
 abbrev pub AreOf : List Client → List AnsweredCall → Type 0
 AreOf clients rs = AllByRecursion (λ (r : AnsweredCall). r.client < length clients) rs
+
+-- they read and list at the root
+abbrev AreRootCalls : List AnsweredCall → Type 0
+AreRootCalls rs = AllByRecursion (λ (r : AnsweredCall). IsRootCall r.call) rs
 
 -- ---- the history
 
@@ -132,16 +137,23 @@ module _ (t : Tree) where
       let same = same_tree r all.0 in
       (inl (all.0 ∙ ap (λ (u : Tree). record { reply = r.reply; tree = u }) (sym same)), subst (AllAnswer (map without_client rs)) (sym same) (all_answer rs all.1))
 
-  tree_stays : (rs : List AnsweredCall) → AllByRecursion (IsReadOnly t) rs → tree_after (map without_client rs) t ≡ t
-  tree_stays [] all = refl
-  tree_stays (r ∷ rs) all = ap (tree_after (map without_client rs)) (same_tree r all.0) ∙ tree_stays rs all.1
-
   legal : (rs : List AnsweredCall) → AllByRecursion (IsReadOnly t) rs → Legal (calls_from 1 rs) t
   legal rs all k within =
       subst (λ (ss : List Replied). AllAnswer ss t) (sym (ap alive (take_from 1 k rs) ∙ alive_from 1 (take k rs))) (all_answer (take k rs) (all_take (IsReadOnly t) k rs all))
 
-  pub tree_is : (rs : List AnsweredCall) → AllByRecursion (IsReadOnly t) rs → tree_of (calls_from 1 rs) t ≡ t
-  tree_is rs all = ap (λ (ss : List Replied). tree_after ss t) (alive_from 1 rs) ∙ tree_stays rs all
+  -- ---- reads and lists leave it as it is, whatever they are answered
+
+  stays : (c : Call) → IsRootCall c → (apply c t).tree ≡ t
+  stays (call.Read path at count) plain = refl
+  stays (call.List path) plain = refl
+  stays _ plain = absurd plain
+
+  all_stay : (rs : List AnsweredCall) → AreRootCalls rs → tree_after (map without_client rs) t ≡ t
+  all_stay [] all = refl
+  all_stay (r ∷ rs) all = ap (tree_after (map without_client rs)) (after_same (without_client r) t (stays r.call all.0)) ∙ all_stay rs all.1
+
+  pub tree_is : (rs : List AnsweredCall) → AreRootCalls rs → tree_of (calls_from 1 rs) t ≡ t
+  tree_is rs all = ap (λ (ss : List Replied). tree_after ss t) (alive_from 1 rs) ∙ all_stay rs all
 
 -- ---- numbered, and without a loss
 
@@ -200,14 +212,24 @@ module _ (s : ScriptValue) (form : IsOneNode s) (count : ℕ) (rs : List Answere
   abbrev asked : List Line
   asked = map its_line rs
 
-  are_of : AreOf s.clients rs
-  are_of =
+  are_lines : AllByRecursion (λ (r : AnsweredCall). IsOneNodeLine s (its_line r)) rs
+  are_lines =
       let taken = all_filter (IsOneNodeLine s) is_call_line (take count s.lines) (all_take (IsOneNodeLine s) count s.lines form.lines) in
-      belongs rs (all_map (IsOneNodeLine s) its_line rs (subst (AllByRecursion (IsOneNodeLine s)) (sym calls) taken))
+      all_map (IsOneNodeLine s) its_line rs (subst (AllByRecursion (IsOneNodeLine s)) (sym calls) taken)
+
+  are_of : AreOf s.clients rs
+  are_of = belongs rs are_lines
     where
       belongs : (ts : List AnsweredCall) → AllByRecursion (λ (r : AnsweredCall). IsOneNodeLine s (its_line r)) ts → AreOf s.clients ts
       belongs [] of = tt
       belongs (r ∷ ts) of = (of.0.0, belongs ts of.1)
+
+  are_root_calls : AreRootCalls rs
+  are_root_calls = read_or_list rs are_lines
+    where
+      read_or_list : (ts : List AnsweredCall) → AllByRecursion (λ (r : AnsweredCall). IsOneNodeLine s (its_line r)) ts → AreRootCalls ts
+      read_or_list [] of = tt
+      read_or_list (r ∷ ts) of = (of.0.1, read_or_list ts of.1)
 
   on_its_node : (it : TraceItem) → IsLater s.clients it → IsOnItsNode s.clients it
   on_its_node it (inl (n, r, below, is)) =
@@ -327,8 +349,8 @@ module _ (s : ScriptValue) (form : IsOneNode s) (count : ℕ) (rs : List Answere
   pub legal_holds : (t : Tree) → AllByRecursion (IsReadOnly t) rs → Legal (history_of s.clients items) t
   legal_holds t reads = subst (λ (h : List Item). Legal h t) its_history (legal t rs reads)
 
-  pub tree_holds : (t : Tree) → AllByRecursion (IsReadOnly t) rs → tree_of (history_of s.clients items) t ≡ t
-  tree_holds t reads = ap (λ (h : List Item). tree_of h t) (sym its_history) ∙ tree_is t rs reads
+  pub tree_holds : (t : Tree) → tree_of (history_of s.clients items) t ≡ t
+  tree_holds t = ap (λ (h : List Item). tree_of h t) (sym its_history) ∙ tree_is t rs are_root_calls
 
   pub nothing_lost : NoneLost (history_of s.clients items)
   nothing_lost = subst NoneLost its_history (none_lost 1 rs)
@@ -348,7 +370,7 @@ module _ (s : ScriptValue) (form : IsOneNode s) (count : ℕ) (rs : List Answere
 pub record Owes (s : ScriptValue) (items : List TraceItem) (IsStart : Tree → Type 0) : Type 0 where
   pub history : HoldsHistory s items
   pub legal : (t : Tree) → IsStart t → Legal (history_of s.clients items) t
-  pub tree : (t : Tree) → IsStart t → tree_of (history_of s.clients items) t ≡ t
+  pub tree : (t : Tree) → tree_of (history_of s.clients items) t ≡ t
   pub members : NoneStopped items
   pub none_lost : NoneLost (history_of s.clients items)
 
@@ -357,7 +379,7 @@ module _ (s : ScriptValue) (form : IsOneNode s) (items : List TraceItem) (IsStar
   owes_none none = subst (λ (is : List TraceItem). Owes s is IsStart) (sym none) (record {
     history = nothing_follows s;
     legal = λ t start. nothing_is_legal t;
-    tree = λ t start. refl;
+    tree = λ t. refl;
     members = tt;
     none_lost = tt;
   })
@@ -370,7 +392,7 @@ module _ (s : ScriptValue) (form : IsOneNode s) (items : List TraceItem) (IsStar
   owes_from count before end is_end are so = subst (λ (is : List TraceItem). Owes s is IsStart) (items_are count before end are so) (record {
     history = holds s form count so.answered so.calls end is_end;
     legal = λ t start. legal_holds s form count so.answered so.calls end is_end t (so.reads t start);
-    tree = λ t start. tree_holds s form count so.answered so.calls end is_end t (so.reads t start);
+    tree = tree_holds s form count so.answered so.calls end is_end;
     members = none_stopped s form count so.answered so.calls end is_end;
     none_lost = nothing_lost s form count so.answered so.calls end is_end;
   })

@@ -13,7 +13,7 @@ use Rattle.gfs2_layout.specs.Records.{is_dots}
 use Rattle.gfs2_layout.specs.Area.{Slot, slots_of, name_of, first_named}
 use Rattle.gfs2_layout.specs.Structures.{dinode_of, dinode_length, is_in_use}
 use Rattle.single_node.specs.Flat.{file_bytes, stuffed_part, names_a_file, files_of}
-use Rattle.single_node.specs.Shown.{line_at, shown_line, LeadsFirstToFile, LeadFirstToFiles}
+use Rattle.single_node.specs.Shown.{line_at, shown_line, IsLonger, LeadsFirstToFile, LeadFirstToFiles}
 use Rattle.single_node.proofs.Files.{both, found_file, look-files_of}
 use Rattle.file_tree.specs.Tree.{Tree, Entries, file, dir, none, entry, look, set, name_order, by_order, names_in, IsBelowFirst}
 use Rattle.file_tree.proofs.MapLaws.{same_order, look-entry, look-set}
@@ -22,6 +22,17 @@ use Rattle.image_model.proofs.Members.{IsIn}
 use Rattle.image_model.proofs.Counts.{all_in}
 use Rattle.shared_disk.specs.Disk.{DiskState}
 use Rattle.show_text.specs.Show.{file_line, dir_line, tree_lines, entry_lines}
+
+-- ---- a text that goes on
+
+pub no_more : (text : List ℕ) → IsLonger text text
+no_more text = ([], sym (append-nil text))
+
+pub some_more : (before more now : List ℕ) → now ≡ before ++ more → IsLonger before now
+some_more before more now is = (more, is)
+
+pub more_and_more : (before now then : List ℕ) → IsLonger before now → IsLonger now then → IsLonger before then
+more_and_more before now then (first, is) (second, is_then) = (first ++ second, is_then ∙ ap (λ (text : List ℕ). text ++ second) is ∙ append_assoc before first second)
 
 -- ---- names in order
 

@@ -1,5 +1,5 @@
 -- What is shown of a flat root, and what shows it refuses.
-use Rattle.std.specs.Prelude.{ℕ, ◌≡◌, ◌∷◌, false, List, [], Option, None, Some}
+use Rattle.std.specs.Prelude.{ℕ, ◌≡◌, ◌∷◌, ◌++◌, false, List, [], Option, None, Some}
 use Rattle.gfs2_layout.specs.Records.{is_dots}
 use Rattle.file_tree.specs.declared.call.Call.{Call}
 use Rattle.gfs2_layout.specs.Area.{Slot, slots_of, first_named}
@@ -24,6 +24,10 @@ LeadsFirstToFile d root name = (s : Slot) → first_named name (slots_of (stuffe
 -- each name but `.` and `..` does so
 abbrev pub LeadFirstToFiles : DiskState → List ℕ → Type 0
 LeadFirstToFiles d root = (name : List ℕ) → is_dots name ≡ false → LeadsFirstToFile d root name
+
+-- what stood in the text stands there yet, with more behind it
+abbrev pub IsLonger : List ℕ → List ℕ → Type 0
+IsLonger before now = (more : List ℕ) × (now ≡ before ++ more)
 
 -- what a call at the root would read, and what it would refuse
 abbrev pub TreeReads : List ℕ → ℕ → Type 0

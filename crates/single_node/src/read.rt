@@ -1,4 +1,4 @@
-ghost use Rattle.std.specs.Prelude.{◌≡◌, ◌≤◌, ℕ, length, IsTrue, IfOk, IfErr};
+ghost use Rattle.std.specs.Prelude.{◌≡◌, ◌<◌, ◌≤◌, ℕ, length, IsTrue, IfOk, IfErr};
 ghost use Rattle.file_tree.specs.Tree.{Tree};
 ghost use Rattle.file_tree.specs.Apply.{read_reply, walk};
 ghost use Rattle.gfs2_layout.specs.Area.{IsArea};
@@ -40,6 +40,7 @@ pub(crate) fn read_call<D: SharedDisk>(
         → reply ≡ read_reply (walk tree path.now) at count) }
     ensures block { IfErr result (λ end. IfNotRead end (λ b why. RefusesWhatIsTold (D.state disk.old) root.now (calls.Read path.now at count) b why)) }
     ensures failed { IfErr result (λ end. IfDiskFailed end (λ b. CallReads root.now (calls.Read path.now at count) b)) }
+    ensures within { IfErr result (λ end. IfDiskFailed end (λ b. b < (D.state disk.old).count)) }
     ensures reads { ReadsOnly (D.state disk.old) (D.state disk.new) (D.list disk.old) (D.list disk.new) (D.faults disk.old) (D.faults disk.new) }
     ensures cause { IfErr result (EndHasCause 1 (D.faults disk.old) (D.faults disk.new)) }
 {

@@ -45,6 +45,7 @@ fn reply_to<D: SharedDisk>(
         → apply call.now tree ≡ record { reply = reply; tree = tree }) }
     ensures block { IfErr result (λ end. IfNotRead end (λ b why. RefusesWhatIsTold (D.state disk.old) root.now call.now b why)) }
     ensures failed { IfErr result (λ end. IfDiskFailed end (λ b. CallReads root.now call.now b)) }
+    ensures within { IfErr result (λ end. IfDiskFailed end (λ b. b < (D.state disk.old).count)) }
     ensures reads { ReadsOnly (D.state disk.old) (D.state disk.new) (D.list disk.old) (D.list disk.new) (D.faults disk.old) (D.faults disk.new) }
     ensures cause { IfErr result (EndHasCause 1 (D.faults disk.old) (D.faults disk.new)) }
 {
@@ -114,6 +115,7 @@ fn take_line<D: SharedDisk>(
     ensures kept { OnErr result (items.new.items ≡ items.old.items) }
     ensures block { IfErr result (λ end. IfNotRead end (λ b why. IsCallThat (λ call. RefusesWhatIsTold (D.state disk.old) root.now call b why) line.now)) }
     ensures failed { IfErr result (λ end. IfDiskFailed end (λ b. IsCallThat (λ call. CallReads root.now call b) line.now)) }
+    ensures within { IfErr result (λ end. IfDiskFailed end (λ b. b < (D.state disk.old).count)) }
     ensures reads { ReadsOnly (D.state disk.old) (D.state disk.new) (D.list disk.old) (D.list disk.new) (D.faults disk.old) (D.faults disk.new) }
     ensures cause { IfErr result (EndHasCause 1 (D.faults disk.old) (D.faults disk.new)) }
 {
@@ -151,6 +153,7 @@ fn take_lines<D: SharedDisk>(
     ensures whole { OnOk result (IsRunUpTo clients.now lines.now (length lines.now) items.new.items (IsStart (D.state disk.old) root.now)) }
     ensures block { IfErr result (λ end. IfNotRead end (λ b why. EndsAtCall (λ call. RefusesWhatIsTold (D.state disk.old) root.now call b why) clients.now lines.now items.new.items (IsStart (D.state disk.old) root.now))) }
     ensures failed { IfErr result (λ end. IfDiskFailed end (λ b. EndsAtCall (λ call. CallReads root.now call b) clients.now lines.now items.new.items (IsStart (D.state disk.old) root.now))) }
+    ensures within { IfErr result (λ end. IfDiskFailed end (λ b. b < (D.state disk.old).count)) }
     ensures reads { ReadsOnly (D.state disk.old) (D.state disk.new) (D.list disk.old) (D.list disk.new) (D.faults disk.old) (D.faults disk.new) }
     ensures cause { IfErr result (EndHasCause 1 (D.faults disk.old) (D.faults disk.new)) }
 {
@@ -184,6 +187,7 @@ fn run_lines<D: SharedDisk>(
     ensures whole { OnOk result (IsWholeRun clients.now lines.now items.new.items (IsStart (D.state disk.old) root.now)) }
     ensures block { IfErr result (λ end. IfNotRead end (λ b why. EndsAtCall (λ call. RefusesWhatIsTold (D.state disk.old) root.now call b why) clients.now lines.now items.new.items (IsStart (D.state disk.old) root.now))) }
     ensures failed { IfErr result (λ end. IfDiskFailed end (λ b. EndsAtCall (λ call. CallReads root.now call b) clients.now lines.now items.new.items (IsStart (D.state disk.old) root.now))) }
+    ensures within { IfErr result (λ end. IfDiskFailed end (λ b. b < (D.state disk.old).count)) }
     ensures reads { ReadsOnly (D.state disk.old) (D.state disk.new) (D.list disk.old) (D.list disk.new) (D.faults disk.old) (D.faults disk.new) }
     ensures cause { IfErr result (EndHasCause 1 (D.faults disk.old) (D.faults disk.new)) }
 {
@@ -221,8 +225,7 @@ pub fn run_script<D: SharedDisk>(
     requires none { items.old.items ≡ [] }
     ensures history { HoldsHistory script.now items.new.items }
     ensures legal { (tree : Tree) → IsStart (D.state disk.old) root.now tree → Legal (history_of script.now.clients items.new.items) tree }
-    ensures tree { (tree : Tree) → IsStart (D.state disk.old) root.now tree
-        → tree_of (history_of script.now.clients items.new.items) tree ≡ tree }
+    ensures tree { (tree : Tree) → tree_of (history_of script.now.clients items.new.items) tree ≡ tree }
     ensures run { IsRunOf script.now.clients script.now.lines items.new.items (IsStart (D.state disk.old) root.now) }
     ensures whole { OnOk result (IsWholeRun script.now.clients script.now.lines items.new.items (IsStart (D.state disk.old) root.now)) }
     ensures members { NoneStopped items.new.items }
@@ -231,6 +234,7 @@ pub fn run_script<D: SharedDisk>(
     ensures other { IfErr result (λ end. IfNotRead end (λ _ _. (tree : Tree) → IsStart (D.state disk.old) root.now tree → ⊥)) }
     ensures block { IfErr result (λ end. IfNotRead end (λ b why. EndsAtCall (λ call. RefusesWhatIsTold (D.state disk.old) root.now call b why) script.now.clients script.now.lines items.new.items (IsStart (D.state disk.old) root.now))) }
     ensures failed { IfErr result (λ end. IfDiskFailed end (λ b. EndsAtCall (λ call. CallReads root.now call b) script.now.clients script.now.lines items.new.items (IsStart (D.state disk.old) root.now))) }
+    ensures within { IfErr result (λ end. IfDiskFailed end (λ b. b < (D.state disk.old).count)) }
     ensures reads { ReadsOnly (D.state disk.old) (D.state disk.new) (D.list disk.old) (D.list disk.new) (D.faults disk.old) (D.faults disk.new) }
     ensures cause { IfErr result (EndHasCause 1 (D.faults disk.old) (D.faults disk.new)) }
 {

@@ -9,7 +9,7 @@ ghost use Rattle.shared_disk.specs.Disk.{ReadsOnly};
 ghost use Rattle.show_text.specs.Show.{tree_lines, file_line, dir_line};
 ghost use Rattle.single_node.specs.Ends.{EndHasCause, IfNotRead, IfDiskFailed};
 ghost use Rattle.single_node.specs.Flat.{IsStart, files_of, stuffed_part};
-ghost use Rattle.single_node.specs.Shown.{shown_line, LeadsFirstToFile, LeadFirstToFiles, TreeReads, TreeRefuses};
+ghost use Rattle.single_node.specs.Shown.{shown_line, IsLonger, LeadsFirstToFile, LeadFirstToFiles, TreeReads, TreeRefuses};
 
 use crate::list::file_names;
 use crate::root_block::Root;
@@ -64,10 +64,12 @@ fn append_named<D: SharedDisk>(
     requires area { IsArea (stuffed_part root.now) }
     requires from { from ≡ (dinode_of root.now).num.address }
     requires there { first_named name.now (slots_of (stuffed_part root.now)) ≡ None → ⊥ }
+    ensures longer { OnOk result (IsLonger text.old.items text.new.items) }
     ensures line { OnOk result (IsTrue (D.state disk.old).tells → text.new.items ≡ text.old.items ++ shown_line (D.state disk.old).block_at root.now name.now) }
     ensures file { IfOk result (λ _. IsTrue (D.state disk.old).tells → LeadsFirstToFile (D.state disk.old) root.now name.now) }
     ensures block { IfErr result (λ end. IfNotRead end (λ b why. TreeRefuses (D.state disk.old) root.now b why)) }
     ensures failed { IfErr result (λ end. IfDiskFailed end (λ b. TreeReads root.now b)) }
+    ensures within { IfErr result (λ end. IfDiskFailed end (λ b. b < (D.state disk.old).count)) }
     ensures reads { ReadsOnly (D.state disk.old) (D.state disk.new) (D.list disk.old) (D.list disk.new) (D.faults disk.old) (D.faults disk.new) }
     ensures cause { IfErr result (EndHasCause 0 (D.faults disk.old) (D.faults disk.new)) }
 {
@@ -102,10 +104,12 @@ fn append_files<D: SharedDisk>(
     requires area { IsArea (stuffed_part root.now) }
     requires from { from ≡ (dinode_of root.now).num.address }
     requires there { AllByRecursion (λ n. first_named n (slots_of (stuffed_part root.now)) ≡ None → ⊥) names.now }
+    ensures longer { OnOk result (IsLonger text.old.items text.new.items) }
     ensures lines { OnOk result (IsTrue (D.state disk.old).tells → text.new.items ≡ text.old.items ++ flat_map (shown_line (D.state disk.old).block_at root.now) names.now) }
     ensures files { IfOk result (λ _. IsTrue (D.state disk.old).tells → AllByRecursion (LeadsFirstToFile (D.state disk.old) root.now) names.now) }
     ensures block { IfErr result (λ end. IfNotRead end (λ b why. TreeRefuses (D.state disk.old) root.now b why)) }
     ensures failed { IfErr result (λ end. IfDiskFailed end (λ b. TreeReads root.now b)) }
+    ensures within { IfErr result (λ end. IfDiskFailed end (λ b. b < (D.state disk.old).count)) }
     ensures reads { ReadsOnly (D.state disk.old) (D.state disk.new) (D.list disk.old) (D.list disk.new) (D.faults disk.old) (D.faults disk.new) }
     ensures cause { IfErr result (EndHasCause 0 (D.faults disk.old) (D.faults disk.new)) }
 {
@@ -149,10 +153,12 @@ pub fn append_tree<D: SharedDisk>(
     requires size { IsBlockSize (D.state disk.old).size }
     requires root { length root.now ≡ (D.state disk.old).size }
     requires area { IsArea (stuffed_part root.now) }
+    ensures longer { OnOk result (IsLonger text.old.items text.new.items) }
     ensures lines { OnOk result ((tree : Tree) → IsStart (D.state disk.old) root.now tree → text.new.items ≡ text.old.items ++ tree_lines [] tree) }
     ensures files { IfOk result (λ _. IsTrue (D.state disk.old).tells → LeadFirstToFiles (D.state disk.old) root.now) }
     ensures block { IfErr result (λ end. IfNotRead end (λ b why. TreeRefuses (D.state disk.old) root.now b why)) }
     ensures failed { IfErr result (λ end. IfDiskFailed end (λ b. TreeReads root.now b)) }
+    ensures within { IfErr result (λ end. IfDiskFailed end (λ b. b < (D.state disk.old).count)) }
     ensures reads { ReadsOnly (D.state disk.old) (D.state disk.new) (D.list disk.old) (D.list disk.new) (D.faults disk.old) (D.faults disk.new) }
     ensures cause { IfErr result (EndHasCause 0 (D.faults disk.old) (D.faults disk.new)) }
 {

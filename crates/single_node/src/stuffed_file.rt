@@ -87,6 +87,7 @@ pub(crate) fn read_file<D: SharedDisk>(
     ensures file { IfOk result (λ _. IsTrue (D.state disk.old).tells → HasFile (D.state disk.old) address) }
     ensures block { IfErr result (λ end. IfNotRead end (λ b why. IsTrue (D.state disk.old).tells → FileRefused (D.state disk.old) from address b why)) }
     ensures failed { IfErr result (λ end. IfDiskFailed end (λ b. b ≡ address)) }
+    ensures within { IfErr result (λ end. IfDiskFailed end (λ b. b < (D.state disk.old).count)) }
     ensures reads { ReadsOnly (D.state disk.old) (D.state disk.new) (D.list disk.old) (D.list disk.new) (D.faults disk.old) (D.faults disk.new) }
     ensures cause { IfErr result (EndHasCause node (D.faults disk.old) (D.faults disk.new)) }
 {

@@ -1,4 +1,4 @@
-use Rattle.std.proofs.Common.{ℕ, ◌≡◌, ◌<◌, List, refl, sym, ap, subst, ◌∙◌, arith}
+use Rattle.std.proofs.Common.{ℕ, ◌≡◌, ◌<◌, List, refl, sym, subst, arith}
 use Rattle.std.specs.Prelude.{Option}
 use Rattle.shared_disk.specs.Disk.{DiskState, Operation}
 use Rattle.command_words.specs.declared.command.MakeWords.{MakeWords}

@@ -1,4 +1,4 @@
-use Rattle.std.proofs.Common.{◌≡◌, ap, ◌∙◌, Err}
+use Rattle.std.proofs.Common.{ap, ◌∙◌, Err}
 use Rattle.cluster_program.proofs.Images.{status_of, makes_so, never_bad_so}
 use Rattle.cluster_program.proofs.image.make_on.Goals as goal
 

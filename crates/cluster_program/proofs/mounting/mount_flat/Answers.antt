@@ -1,11 +1,16 @@
 use Rattle.std.proofs.Common.{◌≡◌, ℕ, List, true, Some, slice_get, sym, ap, ◌∙◌, subst}
 use Rattle.std.specs.Prelude.{IsTrue}
 use Rattle.image_mount.specs.Mounted.{Journal, MountedValue}
-use Rattle.shared_disk.specs.Disk.{DiskState}
-use Rattle.single_node.specs.Flat.{HasFlatRoot, HasSuperBlock, root_of}
+use Rattle.single_node.specs.Flat.{HasSuperBlock, root_of}
 use Rattle.cluster_program.specs.Mounting.{MountEnds, IsDirty}
 use Rattle.cluster_program.proofs.Mounts.{mount_end, root_end, root_there, superblock_is}
+use Rattle.cluster_program.proofs.Runs.{mounted_clean}
 use Rattle.cluster_program.proofs.mounting.mount_flat.Goals as goal
+
+-- each of these journals, and so of what was mounted, was left clean
+left_clean : {journals mounted : List Journal} → journals ≡ mounted → ((j : ℕ) (journal : Journal) → slice_get journals j ≡ Some journal → journal.head.clean ≡ true)
+    → (j : ℕ) (journal : Journal) → slice_get mounted j ≡ Some journal → journal.head.clean ≡ true
+left_clean same clean = subst (λ (js : List Journal). (j : ℕ) (journal : Journal) → slice_get js j ≡ Some journal → journal.head.clean ≡ true) same clean
 
 pub returns-in-Err-clause-ends : goal.returns-in-Err-clause-ends
 returns-in-Err-clause-ends g c =
@@ -32,12 +37,14 @@ returns-in-Err-read_root-clause-ends g c =
     let at : IsTrue d.tells → HasSuperBlock d × (c.mounted.inside.sb.root.address ≡ root_of d) = λ tells.
     let told = superblock_is d c.in-Ok.mounted c.requires.size (c.in-Ok.ensures.mounted tells) in
     (told.0, ap (λ (m : MountedValue). m.superblock.root.address) c.mounted.view_is ∙ told.1) in
+    let journals = c.deref.ensures.value ∙ ap (λ (m : MountedValue). m.journals) c.mounted.view_is in
+    let clean = mounted_clean d c.in-Ok.mounted c.in-Ok.ensures.mounted (left_clean journals c.in_default.ensures) in
     subst (MountEnds _ _ _) (sym c.status_of_end.ensures)
     (root_end d (g.D.SharedDisk.state c.mount_image.new.disk) (g.D.SharedDisk.faults c.args.disk.now) (g.D.SharedDisk.faults c.mount_image.new.disk) (g.D.SharedDisk.faults c.read_root.new.disk) c.mounted.inside.sb.root.address
-    c.in-Err-read_root.end c.in-Ok.ensures.reads.same c.what_stands_breaks_nothing.ensures at c.in-Ok.ensures.reads.later c.in-Err-read_root.ensures.cause c.in-Err-read_root.ensures.block c.in-Err-read_root.ensures.failed
+    c.in-Err-read_root.end c.in-Ok.ensures.reads.same c.what_stands_breaks_nothing.ensures clean at c.in-Ok.ensures.reads.later c.in-Err-read_root.ensures.cause c.in-Err-read_root.ensures.block c.in-Err-read_root.ensures.failed
     c.in-Err-read_root.ensures.within)
 
 pub returns-in-Ok-read_root-clause-clean : goal.returns-in-Ok-read_root-clause-clean
 returns-in-Ok-read_root-clause-clean g c =
     let journals = c.deref.ensures.value ∙ ap (λ (m : MountedValue). m.journals) c.mounted.view_is in
-    subst (λ (js : List Journal). (j : ℕ) (journal : Journal) → slice_get js j ≡ Some journal → journal.head.clean ≡ true) journals c.in_default.ensures
+    left_clean journals c.in_default.ensures

@@ -28,7 +28,7 @@ pub returns-clause-runs : goal.returns-clause-runs
 returns-clause-runs g c =
     let ends = call_end (g.D.SharedDisk.state c.args.disk.now) (g.D.SharedDisk.state c.mount_flat.new.disk) (g.D.SharedDisk.faults c.args.disk.now) (g.D.SharedDisk.faults c.mount_flat.new.disk)
     (g.D.SharedDisk.faults c.run_script.new.disk) c.args.script.now c.run_script.new.items.items c.in-Ok.image.root c.in-Err-run_script.end c.in-Ok.ensures.reads.same c.in-Ok.ensures.root c.in-Ok.ensures.reads.later
-    c.in-Err-run_script.ensures.cause c.in-Err-run_script.ensures.other c.in-Err-run_script.ensures.block c.in-Err-run_script.ensures.failed in
+    c.in-Err-run_script.ensures.cause c.in-Err-run_script.ensures.other c.in-Err-run_script.ensures.block c.in-Err-run_script.ensures.failed c.in-Err-run_script.ensures.within in
     ran _ (g.D.SharedDisk.state c.mount_flat.new.disk) _ _ _ c.args.script.now c.run_script.new.items.items c.status_of_end.result c.in-Ok.image.root c.in-Ok.ensures.reads.same c.run_script.ensures.reads.same
     c.in-Ok.ensures.root (mounted_clean (g.D.SharedDisk.state c.args.disk.now) c.in-Ok.image.mounted c.in-Ok.ensures.mounted c.in-Ok.ensures.clean) c.run_script.ensures.run c.run_script.ensures.history c.run_script.ensures.members c.run_script.ensures.none_lost c.run_script.ensures.legal c.run_script.ensures.tree
     (subst (RunEnds _ _ _ c.args.script.now c.run_script.new.items.items) (sym c.status_of_end.ensures) ends)

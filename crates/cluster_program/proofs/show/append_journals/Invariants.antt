@@ -1,4 +1,4 @@
-use Rattle.std.proofs.Common.{◌≡◌, ◌++◌, List, map, drop, length, ◌≤◌}
+use Rattle.std.proofs.Common.{◌≡◌, ◌++◌, map, drop}
 use Rattle.image_mount.specs.Mounted.{Journal}
 use Rattle.show_text.specs.Show.{journal_lines}
 use Rattle.cluster_program.proofs.show.append_journals.Given as goal

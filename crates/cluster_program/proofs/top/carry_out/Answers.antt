@@ -1,5 +1,5 @@
 use Rattle.std.proofs.Common.{◌≡◌, ℕ, List, refl, subst, map}
-use Rattle.std.specs.Prelude.{string_bytes, None, Some}
+use Rattle.std.specs.Prelude.{string_bytes, Some}
 use Rattle.cluster_program.specs.Course.{RefusesWords, MakesImage, ShowsImage, AsksToMake, AsksToShow, words_refusal}
 use Rattle.command_words.specs.declared.command.MakeWords.{MakeWords}
 use Rattle.cluster_program.specs.Tasks.{Asks}

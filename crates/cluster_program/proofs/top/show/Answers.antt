@@ -1,4 +1,4 @@
-use Rattle.std.proofs.Common.{sym, subst}
+use Rattle.std.proofs.Common.{subst}
 use Rattle.cluster_program.specs.Report.{IsSinkFault}
 use Rattle.cluster_program.proofs.Shows.{no_sink_fault}
 use Rattle.cluster_program.proofs.top.show.Goals as goal

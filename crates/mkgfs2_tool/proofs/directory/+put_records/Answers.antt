@@ -1,6 +1,7 @@
 use Rattle.std.proofs.Common.{ℕ, ◌≡◌, ◌≢◌, ◌-◌, ◌++◌, List, length, take, drop, sym, arith, rules}
 use Rattle.std.proofs.lemmas.Bool.Decides.{nat_tests}
-use Rattle.mkgfs2_tool.specs.Directories.{name_of, least_length, record_bytes, records}
+use Rattle.gfs2_layout.specs.Putting.{least_length}
+use Rattle.mkgfs2_tool.specs.Directories.{name_of, record_bytes, records}
 use Rattle.mkgfs2_tool.specs.declared.directory.Entry.{Entry}
 use Rattle.mkgfs2_tool.proofs.RecordLaws.{FirstOfSeveral, first_of_several}
 use Rattle.mkgfs2_tool.proofs.directory.+put_records.Goals as goal

@@ -6,5 +6,5 @@ use Rattle.shared_disk.proofs.nodes.make_queues.Given as goal
 abbrev pub invariant-loop : goal.invariant-loop
 invariant-loop l = record {
   count : length l.queues.items ≡ l.counter;
-  queues : AllByRecursion (λ q. IsQueue l.size q × (queued q ≡ [])) l.queues.items;
+  queues : AllByRecursion (λ q. IsQueue l.size q × (queued l.size q ≡ [])) l.queues.items;
 }

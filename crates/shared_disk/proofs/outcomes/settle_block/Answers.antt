@@ -9,13 +9,12 @@ pub returns : goal.returns
 returns c = λ k.
     let row = c.args.row.now in
     let size = c.args.size in
-    let block = c.args.slot.now.block in
+    let block = c.args.block in
     let new = c.settle.new.block in
     let e : block * size + size - block * size ≡ size = omega arith in
-    let settled : new ≡ fate c.args.order c.args.outcomes.now (block_in size row block) c.args.slot.now.bytes.items =
+    let settled : new ≡ fate c.args.order c.args.outcomes.now (block_in size row block) c.args.new.now =
     c.settle.ensures
-    ∙ ap (λ (n : ℕ). fate c.args.order c.args.outcomes.now (take n (drop (block * size) row)) c.deref.result.now) e
-    ∙ ap (λ (b : List ℕ). fate c.args.order c.args.outcomes.now (block_in size row block) b) c.deref.ensures.value in
+    ∙ ap (λ (n : ℕ). fate c.args.order c.args.outcomes.now (take n (drop (block * size) row)) c.args.new.now) e in
     let same : length new ≡ size = c.settle.auto.block ∙ ap (λ (n : ℕ). length (take n (drop (block * size) row))) e ∙ block_length block size row c.requires.within in
     block_put block size (block * size + size - block * size) row new c.requires.within same e k
     ∙ ap (λ (b : List ℕ). with_value (block_in size row) block b k) settled

@@ -1,9 +1,10 @@
-use Rattle.std.proofs.Common.{◌≡◌, ◌/◌, ℕ, length, sym, subst, arith}
+use Rattle.std.proofs.Common.{◌≡◌, ◌/◌, ℕ, List, length, get_or, sym, ap, ◌∙◌, subst, arith}
 use Rattle.shared_disk.specs.Blocks.{block_in}
-use Rattle.shared_disk.specs.Disk.{written, AreFlights}
-use Rattle.shared_disk.specs.Flights.{flights_in}
-use Rattle.shared_disk.specs.Outcomes.{became}
-use Rattle.shared_disk.proofs.SettleLaws.{flights_rest, settle_loop, outcomes_rest}
+use Rattle.shared_disk.specs.Disk.{written, with_value, AreFlights}
+use Rattle.shared_disk.specs.Places.{flights_at}
+use Rattle.shared_disk.specs.Outcomes.{fate, became}
+use Rattle.shared_disk.proofs.PlaceLaws.{nowhere}
+use Rattle.shared_disk.proofs.SettleLaws.{flights_rest, there_rest, settle_loop, outcomes_rest}
 use Rattle.shared_disk.proofs.outcomes.settle_blocks.Goals as goal
 
 pub loop-rest-preserved : goal.loop-rest-preserved
@@ -13,9 +14,11 @@ loop-rest-preserved c =
     let was = c.loop-rest.invariant in
     let row' = c.settle_block.new.row in
     let kept : length row' ≡ length c.loop-rest.row = c.settle_block.auto.row in
-    let P : ℕ → Type 0 = λ n. AreFlights (n / size) size (flights_in rest) in
+    let P : ℕ → Type 0 = λ n. AreFlights (n / size) size (flights_at size c.args.bytes.now rest) in
     record {
-      flights = flights_rest _ size rest (omega arith) (subst P (sym kept) was.flights);
+      flights = flights_rest _ size c.args.bytes.now rest (omega arith) (subst P (sym kept) was.flights);
       outcomes = outcomes_rest size c.loop-rest.left.now c.past_first-left.result.now c.past_first-left.ensures was.outcomes;
-      same_end = settle_loop c.args.order c.loop-rest.left.now c.past_first-left.result.now (block_in size c.loop-rest.row) (block_in size row') (λ k. written (block_in size c.args.row.now) (became c.args.order c.args.outcomes.now (block_in size c.args.row.now) (flights_in c.args.slots.now)) k) rest c.slot-item.result (omega arith) was.flights.rise c.slot-item.is c.past_first-left.ensures c.settle_block.ensures was.same_end;
+      there = there_rest size c.args.bytes.now rest was.there;
+      same_end = settle_loop size c.args.bytes.now c.args.order c.loop-rest.left.now c.past_first-left.result.now (block_in size c.loop-rest.row) (block_in size row') (λ k. written (block_in size c.args.row.now) (became c.args.order c.args.outcomes.now (block_in size c.args.row.now) (flights_at size c.args.bytes.now c.args.places.now)) k) rest (omega arith) was.flights.rise c.past_first-left.ensures
+          (λ k. c.settle_block.ensures k ∙ ap (λ (b : List ℕ). with_value (block_in size c.loop-rest.row) (get_or rest 0 nowhere).block (fate c.args.order c.loop-rest.left.now (block_in size c.loop-rest.row (get_or rest 0 nowhere).block) b) k) c.bytes_at-new.ensures) was.same_end;
     }

@@ -1,5 +1,7 @@
-use Rattle.std.proofs.Common.{refl, sym, ◌∙◌, List, subst, arith}
+use Rattle.std.proofs.Common.{◌<◌, sym, List, subst}
 use Rattle.trace_text.specs.declared.item.TraceItem.{TraceItem}
+use Rattle.shared_disk.specs.Disk.{DiskState}
+use Rattle.single_node.specs.Ends.{IfDiskFailed}
 use Rattle.single_node.specs.Flat.{IsStart}
 use Rattle.single_node.specs.Run.{IsRunUpTo}
 use Rattle.single_node.proofs.Blocks.{refused_at, failed_at}
@@ -28,6 +30,9 @@ pub returns-in-Err-clause-failed : goal.returns-in-Err-clause-failed
 returns-in-Err-clause-failed g c =
     failed_at _ (g.D.SharedDisk.state c.args.disk.now) c.args.root.now c.args.clients.now c.args.lines.now c.loop-line.line-index c.line-item.result c.line-item.result c.loop-line.items.items _ c.in-Err.end
     c.loop-line.invariant.reads.same c.loop-line-test.true c.line-item.is c.loop-line.invariant.run c.in-Err.ensures.kept c.in-Err.ensures.failed
+
+pub returns-in-Err-clause-within : goal.returns-in-Err-clause-within
+returns-in-Err-clause-within g c = subst (λ (d : DiskState). IfDiskFailed c.in-Err.end (λ b. b < d.count)) c.loop-line.invariant.reads.same c.in-Err.ensures.within
 
 pub loop-line-preserved : goal.loop-line-preserved
 loop-line-preserved g c =

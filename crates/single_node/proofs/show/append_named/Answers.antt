@@ -4,7 +4,7 @@ use Rattle.single_node.specs.Flat.{file_bytes}
 use Rattle.single_node.specs.Shown.{TreeReads, TreeRefuses}
 use Rattle.single_node.proofs.Blocks.{reads_file, refuses_file}
 use Rattle.single_node.proofs.Ends.{not_read_weaker, disk_failed_weaker}
-use Rattle.single_node.proofs.Shown.{whole_file, its_line}
+use Rattle.single_node.proofs.Shown.{some_more, whole_file, its_line}
 use Rattle.single_node.proofs.Walks.{first_is, block_size_bounds}
 use Rattle.single_node.proofs.show.append_named.Goals as goal
 
@@ -24,6 +24,9 @@ returns-in-Err-clause-failed g c =
     disk_failed_weaker {Q = λ b. TreeReads c.args.root.now b} c.in-Err.end
     (λ b is. (calls.Read (c.args.name.now ∷ []) 0 (2 ^ 32 - 1), reads_file c.args.root.now (c.args.name.now ∷ []) c.args.name.now 0 (2 ^ 32 - 1) s c.in-Some.address c.bytes.ensures.name refl first there b is))
     c.in-Err.ensures.failed
+
+pub returns-in-Ok-append_content-clause-longer : goal.returns-in-Ok-append_content-clause-longer
+returns-in-Ok-append_content-clause-longer g c = some_more c.args.text.now.items _ c.append_content.new.text.items c.in-Ok-append_content.ensures
 
 pub returns-in-Ok-append_content-clause-line : goal.returns-in-Ok-append_content-clause-line
 returns-in-Ok-append_content-clause-line g c tells =

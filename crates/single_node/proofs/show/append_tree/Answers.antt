@@ -5,7 +5,7 @@ use Rattle.gfs2_layout.specs.Area.{slots_of}
 use Rattle.single_node.specs.Ends.{IfNotRead}
 use Rattle.single_node.specs.Flat.{files_of, stuffed_part}
 use Rattle.single_node.specs.Shown.{LeadsFirstToFile, TreeRefuses}
-use Rattle.single_node.proofs.Shown.{names_there, lines_of_root, tree_text, firsts_lead}
+use Rattle.single_node.proofs.Shown.{some_more, more_and_more, names_there, lines_of_root, tree_text, firsts_lead}
 use Rattle.single_node.proofs.Walks.{tree_is}
 use Rattle.single_node.proofs.show.append_tree.Goals as goal
 
@@ -14,6 +14,10 @@ append_files-requires-clause-there g c =
     let none_at : ℕ → List ℕ = λ b. [] in
     names_there none_at c.block.result.now c.names-2.result.now
     (c.names-2.ensures ∙ c.in_ok-names.ensures.names none_at ∙ ap (λ (b : List ℕ). names_in (files_of none_at (slots_of (stuffed_part b)))) (sym c.block.ensures))
+
+pub returns-in-Ok-clause-longer : goal.returns-in-Ok-clause-longer
+returns-in-Ok-clause-longer g c =
+    more_and_more c.args.text.now.items c.append_root.new.text.items c.append_files.new.text.items (some_more c.args.text.now.items _ c.append_root.new.text.items c.in_ok-append_root.ensures) c.in-Ok.ensures.longer
 
 pub returns-in-Ok-clause-lines : goal.returns-in-Ok-clause-lines
 returns-in-Ok-clause-lines g c tree start =
