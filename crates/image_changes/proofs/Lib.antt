@@ -15,3 +15,4 @@ pub mod FileContent
 pub mod Unminded
 pub mod States
 pub mod Walks
+pub mod Doing

@@ -6,3 +6,4 @@ pub mod Contents
 pub mod States
 pub mod Walks
 pub mod Laws
+pub mod Does

@@ -2,6 +2,7 @@
 #![tactic(auto)]
 
 mod contents;
+mod does;
 mod instances;
 mod paths;
 mod pieces;
@@ -10,6 +11,7 @@ pub use contents::{
     an_image_has_one_layout, content_of_files_does_not_matter, free_blocks_do_not_matter,
     places_of_journals_do_not_matter,
 };
+pub use does::a_change_of_nothing_does;
 pub use instances::{
     a_file_changes, a_name_is_added, a_name_is_moved, a_name_is_removed, a_small_change_stays_laid,
     other_blocks_stay, untouched_inodes_stay,
