@@ -1,6 +1,6 @@
 -- Each event of a cluster, with what the trace tells of it, is a step of each journal.
-use Rattle.std.proofs.Common.{ℕ, suc, ◌≡◌, ◌≢◌, ◌<◌, ◌≤◌, ◌+◌, ◌⊎◌, inl, inr, Bool, true, false, cond, Option, None, Some, List, [], ◌∷◌, ◌++◌, length, refl, sym, ap, ◌∙◌, subst, arith, append-nil}
-use Rattle.std.specs.Prelude.{◌==◌, ◌-◌, ◌&&◌, not}
+use Rattle.std.proofs.Common.{ℕ, suc, ◌≡◌, ◌<◌, inl, inr, Bool, true, false, None, Some, List, [], ◌∷◌, ◌++◌, refl, sym, ap, ◌∙◌, subst, arith, append-nil}
+use Rattle.std.specs.Prelude.{◌-◌, ◌&&◌, not}
 use Rattle.std.proofs.lemmas.Bool.{cases_eq, cases_Bool}
 use Rattle.cluster_history.specs.declared.Item.{Item}
 use Rattle.cluster_history.specs.declared.Item.TheVariants as item
@@ -8,7 +8,7 @@ use Rattle.trace_text.specs.declared.item.TraceItem.{TraceItem}
 use Rattle.trace_text.specs.declared.item.TraceItem.TheVariants as trace
 use Rattle.script_lang.specs.declared.script.Client.{Client}
 use Rattle.run_rules.specs.Follows as run
-use Rattle.run_rules.specs.Lives.{Life, AcceptedHead}
+use Rattle.run_rules.specs.Lives.{AcceptedHead}
 use Rattle.cluster_laws.specs.Book.{at, flushed}
 use Rattle.cluster_laws.specs.Mirror.{Head, Heads, either, headed, chosen}
 use Rattle.cluster_laws.specs.History.{Called, Gone}
@@ -21,8 +21,8 @@ use Rattle.tree_histories.specs.Trees.{Images, Trees, item_of, history_of}
 use Rattle.head_laws.specs.Journals.{Journal, head_item, IsEnd, IsOther}
 use Rattle.head_laws.specs.Journals as journals
 use Rattle.head_laws.specs.Traces.{Told, journal_of, Happens, Rests, Does, Step}
-use Rattle.head_laws.specs.Tellings.{Beside, told_of, Changed, with_name, next_name, BeginTold, Own, OwnLast, Replay, ReplayLast, EndTold, Settled, Committed, CallTold, Tells, MaySay, TellingIsStep}
-use Rattle.head_laws.proofs.Items.{true-false, eqb-other, eqb-self}
+use Rattle.head_laws.specs.Tellings.{Beside, told_of, Changed, next_name, BeginTold, Own, OwnLast, Replay, ReplayLast, EndTold, Settled, Committed, Tells, MaySay, TellingIsStep}
+use Rattle.head_laws.proofs.Items.{true-false}
 use Rattle.head_laws.proofs.Tracing.{history-on, history-more}
 
 inside : {A : Type 0} {a b : A} → Some a ≡ Some b → a ≡ b

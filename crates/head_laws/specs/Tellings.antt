@@ -6,11 +6,11 @@ use Rattle.script_lang.specs.declared.script.Client.{Client}
 use Rattle.run_rules.specs.Follows as run
 use Rattle.run_rules.specs.Lives.{Life, AcceptedHead, is_replays, items_of}
 use Rattle.cluster_laws.specs.Book.{at}
-use Rattle.cluster_laws.specs.Mirror.{Head, either}
+use Rattle.cluster_laws.specs.Mirror.{either}
 use Rattle.cluster_laws.specs.World as world
-use Rattle.cluster_events.specs.Cluster.{Cluster, MayWork, BookOf, Together, Event, Works, Stops, Fences, Joins, PastEnds}
+use Rattle.cluster_events.specs.Cluster.{Cluster, Together, Event, Works, Stops, Fences, Joins, PastEnds}
 use Rattle.tree_histories.specs.Trees.{Images, Trees, history_of}
-use Rattle.head_laws.specs.Journals.{Journal, present, head_item, unnamed_upto, IsEnd, IsNoted}
+use Rattle.head_laws.specs.Journals.{present, head_item, unnamed_upto, IsEnd, IsNoted}
 use Rattle.head_laws.specs.Traces.{Told, journal_of, Step}
 
 -- what there is beside the cluster: the names of heads, who is silent, and the items
