@@ -1,7 +1,7 @@
 -- The laws over every list of calls.
-use Rattle.std.proofs.Common.{ℕ, ◌≡◌, ◌≢◌, ◌≤◌, inl, inr, true, Option, None, Some, List, [], ◌∷◌, ◌++◌, is_some, refl, sym, ap, ◌∙◌, subst}
+use Rattle.std.proofs.Common.{ℕ, ◌≡◌, inl, inr, true, Option, None, Some, List, [], ◌∷◌, ◌++◌, is_some, refl, sym, ap, ◌∙◌, subst}
 use Rattle.std.specs.Prelude.{unwrap_or}
-use Rattle.std.specs.List.{AllByRecursion, filter_map}
+use Rattle.std.specs.List.{AllByRecursion}
 use Rattle.std.proofs.lemmas.Bool.{cases_eq, cond-true}
 use Rattle.glock_names.specs.declared.LockName.{LockName}
 use Rattle.glock_names.specs.LockMaps.{at_lock, with_lock}
@@ -21,11 +21,11 @@ use Rattle.lock_laws.specs.Lock.{at}
 use Rattle.lock_steps.specs.Ties.{in_view, grants}
 use Rattle.lock_steps.proofs.Basics.{same-self, at-here, at-away}
 use Rattle.lock_steps.proofs.Tying.{now-says, holding-is, holding-away}
-use Rattle.conversion_laws.specs.Parts.{Parts, now_says, calls_coming, grants_coming, lock_in_table, table_mode, held_or_coming}
+use Rattle.conversion_laws.specs.Parts.{Parts, now_says, grants_coming, lock_in_table, table_mode, held_or_coming}
 use Rattle.conversion_laws.specs.Calls.{NodeCall, Call, OfMail, OfNode, OfMaster, Calls, NoCall, AndCall}
 use Rattle.conversion_laws.specs.Calls as calls
 use Rattle.conversion_laws.specs.Laws.{Begins, AreRight, EveryListIsRight, RisesByGrant, Rises, Keeps, HoldersRiseByGrants, MeetCalls, MessagesMeetCalls}
-use Rattle.conversion_laws.proofs.Stages.{Sight, Stage, Tells, sees, covered, exact, one-ask, was-asked}
+use Rattle.conversion_laws.proofs.Stages.{Tells, sees, covered, exact, one-ask, was-asked}
 use Rattle.conversion_laws.proofs.Nodes.{sight, Inv, mail-keeps-inv, node-keeps, grant-first}
 use Rattle.conversion_laws.proofs.Masters.{master-keeps, meets-request, meets-conversion, meets-lower}
 

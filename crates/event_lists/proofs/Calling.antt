@@ -1,5 +1,5 @@
 -- Steps of the lock manager as events.
-use Rattle.std.proofs.Common.{ℕ, ◌≡◌, inl, inr, false, None, [], ◌∷◌, ◌++◌, refl, sym, ◌∙◌, subst}
+use Rattle.std.proofs.Common.{ℕ, inl, inr, false, None, [], ◌∷◌, ◌++◌, refl, sym, ◌∙◌, subst}
 use Rattle.cluster_laws.specs.Files.{Files}
 use Rattle.cluster_events.specs.Cluster.{Sends, Rests, OfOne, Granted, Receives, NoGrant, Takes, Weakens, Keeps, GoesTo, Works, Mails, IsGranted, GoesDown, Stops, Fences, Views, Joins, Recovers, PastEnds}
 use Rattle.lock_laws.specs.Lock.{Node}

@@ -3,13 +3,13 @@ use Rattle.std.proofs.Common.{ℕ, zero, suc, ◌+◌, ◌-◌, ◌≡◌, ◌�
 use Rattle.std.proofs.lemmas.Bool.{cases_eq, cases_Bool, cond-true, cond-false}
 use Rattle.cluster_laws.specs.Files.{Files, LockOf, Ex}
 use Rattle.cluster_laws.specs.Book.{at, Book, Whole, flushed, settled}
-use Rattle.cluster_laws.specs.Mirror.{Head, headed, either, chosen}
+use Rattle.cluster_laws.specs.Mirror.{headed, either, chosen}
 use Rattle.cluster_laws.specs.Log.{Untouched, IsFlushed}
 use Rattle.cluster_laws.specs.World.{Begins, Ends, Settles}
 use Rattle.cluster_laws.proofs.Cells.{split, none-some, at-same, at-other}
 use Rattle.cluster_laws.proofs.Logging.{header_heads, given_back, given, stays, never_under, steady, last-says}
 use Rattle.cluster_events.specs.Cluster.{Cluster, BookOf, NothingUnder, Event, Events, Works, GoesDown, Done, Then}
-use Rattle.event_lists.specs.Gives.{DiskOf, GivesBack, released}
+use Rattle.event_lists.specs.Gives.{DiskOf}
 use Rattle.event_lists.specs.Stops.{with_world}
 use Rattle.event_lists.specs.Demotions.{committed, without_live, CommitIsEvents, FlushFlushes, FlushedIsUntouched, HeaderKeepsStages, RevokesAreHeader, HomeIsRevoked, RevokesRevoke, StagesRelease, ReleaseIsEvents, CleanIsHeader, CleanReleases}
 

@@ -7,7 +7,7 @@ use Rattle.cluster_laws.specs.Mirror.{Head, Disk, either, headed}
 use Rattle.cluster_laws.specs.Log.{Untouched, Last, IsHeader, IsFlushed, IsRevoked, MayGo}
 use Rattle.cluster_laws.specs.World.{World, Answering, nothing, Sound}
 use Rattle.cluster_laws.specs.World as world
-use Rattle.cluster_laws.proofs.Cells.{inside, none-some, at-same, at-other, at-cases, whose-some}
+use Rattle.cluster_laws.proofs.Cells.{inside, none-some, at-other, at-cases, whose-some}
 use Rattle.cluster_laws.proofs.Logging.{steady, last-says, never_under}
 use Rattle.cluster_laws.proofs.Trying.{says-old}
 use Rattle.cluster_laws.proofs.Running.{step_keeps, sync_answers}

@@ -1,19 +1,19 @@
 -- Heads of replays, heads that come to the disk, and lives that begin and end.
-use Rattle.std.proofs.Common.{ℕ, suc, ◌≡◌, ◌≢◌, ◌<◌, ◌≤◌, ◌+◌, ◌⊎◌, inl, inr, Bool, true, false, cond, Option, None, Some, List, [], ◌∷◌, ◌++◌, length, take, drop, refl, sym, ap, ◌∙◌, subst, arith, append-nil, length-append}
+use Rattle.std.proofs.Common.{ℕ, suc, ◌≡◌, ◌<◌, ◌≤◌, ◌+◌, ◌⊎◌, inl, inr, Bool, true, false, cond, Option, None, Some, List, [], ◌∷◌, ◌++◌, length, drop, refl, sym, ap, ◌∙◌, subst, arith, append-nil, length-append}
 use Rattle.std.specs.Prelude.{◌==◌, ◌&&◌, ◌||◌, not, nat_lt}
 use Rattle.std.proofs.lemmas.Bool.{le-ltb, ltb-true, ltb-false, cases_Bool}
 use Rattle.std.proofs.lemmas.Bool.Decides.{eqb_tells}
 use Rattle.std.proofs.Math.Seq.{drop-append-add, take-append_seam}
 use Rattle.trace_text.specs.declared.item.TraceItem.{TraceItem}
 use Rattle.trace_text.specs.declared.item.TraceItem.TheVariants as trace
-use Rattle.run_rules.specs.Lives.{Life, AcceptedHead, last_number, to_its_end, fenced_behind, is_replays, items_of, named, lives_from, lives_of, losses_of, life_at}
+use Rattle.run_rules.specs.Lives.{Life, AcceptedHead, last_number, to_its_end, fenced_behind, is_replays, lives_from, lives_of, losses_of, life_at}
 use Rattle.cluster_laws.specs.Mirror.{either}
 use Rattle.head_laws.specs.Journals.{Journal, present, IsEnd, IsNoted}
 use Rattle.head_laws.specs.Laws.{lives_count}
 use Rattle.head_laws.proofs.Items.{true-false, eqb-other, eqb-self, first_of_two, last-on, ended, ended-on, end-open, lives-more, losses-on, count-on, life-newest, rest-on}
 use Rattle.head_laws.proofs.Values.{rest, mine, base, fence, own, value_of, kept_head, value, fence-more, closed-value, NotOwn, HeadsWithin, NoHeads, within-none, waiting-value, mine-open}
-use Rattle.head_laws.proofs.Goods.{target, Closed, Waiting, Acting, Open, Good, Inv, open-runs, none-open, none-closed}
-use Rattle.head_laws.proofs.Growing.{Keeps, Still, losses-same, life-same, count-same, longer, over-on, going-on, fence-same, base-more, closed-same, closed-on, open-value, waiting-on}
+use Rattle.head_laws.proofs.Goods.{Closed, Waiting, Acting, Open, Good, Inv, open-runs, none-open}
+use Rattle.head_laws.proofs.Growing.{Keeps, losses-same, life-same, count-same, longer, over-on, going-on, fence-same, base-more, closed-same, closed-on, open-value, waiting-on}
 
 inside : {A : Type 0} {a b : A} → Some a ≡ Some b → a ≡ b
 inside e = cc

@@ -1,12 +1,11 @@
 -- What holds of a node's journal, its lives and the items.
-use Rattle.std.proofs.Common.{ℕ, suc, ◌≡◌, ◌≢◌, ◌<◌, ◌≤◌, ◌+◌, ◌⊎◌, inl, inr, Bool, true, false, cond, Option, None, Some, List, [], ◌∷◌, ◌++◌, length, refl, sym, ap, ◌∙◌, subst, arith}
+use Rattle.std.proofs.Common.{ℕ, suc, ◌≡◌, ◌<◌, ◌≤◌, ◌+◌, ◌⊎◌, Bool, true, false, cond, None, Some, List, length, refl, arith}
 use Rattle.std.specs.Prelude.{◌==◌, nat_lt}
-use Rattle.std.proofs.lemmas.Bool.Decides.{eqb_tells}
 use Rattle.trace_text.specs.declared.item.TraceItem.{TraceItem}
 use Rattle.run_rules.specs.Lives.{Life, AcceptedHead, last_number, lives_of, losses_of, life_at, named}
 use Rattle.head_laws.specs.Journals.{Journal}
 use Rattle.head_laws.specs.Laws.{lives_count}
-use Rattle.head_laws.proofs.Items.{true-false, eqb-other, ended, life-below}
+use Rattle.head_laws.proofs.Items.{true-false, ended, life-below}
 use Rattle.head_laws.proofs.Values.{rest, base, fence, value, own, Stable, HeadsWithin, NoHeads}
 
 -- of a life that ended: its number is the head's, where it is the earliest without a loss, and else that of the node's last call

@@ -1,6 +1,6 @@
 -- What one more item changes of a node's lives: nothing, where it is of something else.
-use Rattle.std.proofs.Common.{ℕ, suc, ◌≡◌, ◌≢◌, ◌<◌, ◌≤◌, ◌+◌, ◌⊎◌, inl, inr, Bool, true, false, cond, Option, None, Some, List, [], ◌∷◌, ◌++◌, length, refl, sym, ap, ◌∙◌, subst, arith, length-append, append-nil}
-use Rattle.std.specs.Prelude.{◌==◌, ◌||◌, nat_lt}
+use Rattle.std.proofs.Common.{ℕ, ◌≡◌, ◌<◌, ◌⊎◌, inl, inr, Bool, true, false, cond, Option, None, List, [], ◌∷◌, ◌++◌, length, refl, sym, ap, ◌∙◌, subst, arith, length-append}
+use Rattle.std.specs.Prelude.{◌==◌, ◌||◌}
 use Rattle.std.proofs.lemmas.List.{take-append-le}
 use Rattle.trace_text.specs.declared.item.TraceItem.{TraceItem}
 use Rattle.run_rules.specs.Lives.{Life, AcceptedHead, last_number, fenced_behind, is_replays, named, unnamed, Unnamed, lives_from, lives_of, losses_of, life_at}
@@ -8,7 +8,7 @@ use Rattle.head_laws.specs.Journals.{Journal}
 use Rattle.head_laws.specs.Laws.{lives_count}
 use Rattle.head_laws.proofs.Items.{true-false, first_of_two, first-none, named-on, replays-on, ended, ended-on, lives-more, losses-on, count-on, rest-on, unnamed-on, noted, Plain}
 use Rattle.head_laws.proofs.Values.{rest, mine, base, fence, own, value_of, kept_head, value, fence-more, mine-open, closed-value, Stable, stable-value, stable-on, same-value, own-same, own-off, HeadsWithin, NoHeads, within-on, none-on}
-use Rattle.head_laws.proofs.Goods.{target, Closed, Waiting, Acting}
+use Rattle.head_laws.proofs.Goods.{Closed, Waiting, Acting}
 
 -- the item begins no life of the node
 pub record Keeps (i : ℕ) (x : TraceItem) : Type 0 where

@@ -1,11 +1,11 @@
 -- What functions of items say of more items.
-use Rattle.std.proofs.Common.{ℕ, zero, suc, ◌≡◌, ◌≢◌, ◌<◌, ◌≤◌, ◌+◌, ◌⊎◌, inl, inr, Bool, true, false, cond, Option, None, Some, List, [], ◌∷◌, ◌++◌, length, take, drop, refl, sym, ap, ◌∙◌, subst, arith, append-nil, eq-eqb}
-use Rattle.std.specs.Prelude.{◌==◌, ◌&&◌, ◌||◌, not, nat_lt, ◌-◌}
+use Rattle.std.proofs.Common.{ℕ, suc, ◌≡◌, ◌<◌, ◌+◌, ◌⊎◌, inl, inr, Bool, true, false, cond, Option, None, Some, List, [], ◌∷◌, ◌++◌, length, drop, refl, sym, ap, ◌∙◌, arith, append-nil, eq-eqb}
+use Rattle.std.specs.Prelude.{◌==◌, ◌&&◌, ◌||◌, not, ◌-◌}
 use Rattle.std.proofs.lemmas.Bool.Decides.{eqb_tells}
 use Rattle.std.proofs.lemmas.List.{drop-append-le, take-append-le}
 use Rattle.trace_text.specs.declared.item.TraceItem.{TraceItem}
 use Rattle.trace_text.specs.declared.item.TraceItem.TheVariants as trace
-use Rattle.run_rules.specs.Lives.{Life, AcceptedHead, last_number, to_its_end, items_of, base_of, fenced_behind, is_replays, named, Unnamed, unnamed, lives_from, lives_of, losses_of, life_at}
+use Rattle.run_rules.specs.Lives.{Life, AcceptedHead, last_number, to_its_end, base_of, fenced_behind, is_replays, named, Unnamed, unnamed, lives_from, lives_of, losses_of, life_at}
 use Rattle.head_laws.specs.Journals.{IsOther}
 use Rattle.head_laws.specs.Laws.{lives_count}
 

@@ -8,3 +8,4 @@ pub mod Telling
 pub mod Tracing
 pub mod Remaining
 pub mod Example
+pub mod Happening

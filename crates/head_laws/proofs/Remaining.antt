@@ -1,25 +1,24 @@
 -- What remains of a trace.
-use Rattle.std.proofs.Common.{ℕ, suc, ◌≡◌, ◌<◌, ◌≤◌, ◌+◌, ◌⊎◌, inl, inr, Bool, true, false, cond, Option, None, Some, List, [], ◌∷◌, ◌++◌, map, refl, sym, ap, ◌∙◌, subst, arith}
+use Rattle.std.proofs.Common.{ℕ, suc, ◌≡◌, ◌≤◌, ◌+◌, ◌⊎◌, inl, inr, Bool, true, false, cond, None, Some, List, [], ◌∷◌, ◌++◌, refl, sym, ap, ◌∙◌, subst, arith}
 use Rattle.std.specs.Prelude.{◌==◌, ◌-◌, ⊤, nat_lt}
 use Rattle.std.proofs.lemmas.Bool.{ltb-true, ltb-false, cases_Bool}
 use Rattle.std.proofs.lemmas.Bool.Decides.{eqb_tells}
 use Rattle.cluster_history.specs.declared.Item.{Item}
 use Rattle.cluster_history.specs.declared.Item.TheVariants as item
 use Rattle.cluster_history.specs.History.{Legal, tree_of}
-use Rattle.script_lang.specs.declared.script.Client.{Client}
 use Rattle.run_rules.specs.Follows as run
-use Rattle.run_rules.specs.Lives.{Life, AcceptedHead, DiskHeads, upto_of, losses_of, lives_of, life_at, without_loss, losses_for, remains}
+use Rattle.run_rules.specs.Lives.{Life, DiskHeads, upto_of, losses_of, lives_of, life_at, without_loss, losses_for, remains}
 use Rattle.cluster_laws.specs.Book.{W}
 use Rattle.cluster_laws.specs.Contents.{places}
 use Rattle.cluster_laws.specs.History.{Loss, gones, Above, HasLife, AreLives}
 use Rattle.cluster_laws.specs.Laws.{head_cuts}
-use Rattle.cluster_events.specs.Cluster.{Cluster, Together}
+use Rattle.cluster_events.specs.Cluster.{Cluster}
 use Rattle.cluster_events.proofs.Eventing.{every_cluster}
 use Rattle.tree_histories.specs.Trees.{Images, Trees, history_of}
 use Rattle.tree_histories.proofs.Joining.{every_tree_cluster}
-use Rattle.head_laws.specs.Laws.{lives_count, AreTold}
-use Rattle.head_laws.specs.Traces.{Told, journal_of, Steps, Begins, RemainsStand}
-use Rattle.head_laws.proofs.Items.{true-false, eqb-other, life-there, life-below}
+use Rattle.head_laws.specs.Laws.{lives_count}
+use Rattle.head_laws.specs.Traces.{RemainsStand}
+use Rattle.head_laws.proofs.Items.{eqb-other, life-there}
 use Rattle.head_laws.proofs.Tracing.{history-is, history-more, events-of, told, upto-now}
 
 -- ---- the lives without a loss

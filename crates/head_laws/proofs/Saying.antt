@@ -1,8 +1,7 @@
 -- Items that come while a node's lives go on: of something else, of the log, of replays, of calls and of headers.
 use Rattle.std.proofs.Common.{ℕ, suc, ◌≡◌, ◌≢◌, ◌<◌, ◌≤◌, ◌+◌, ◌⊎◌, inl, inr, Bool, true, false, cond, Option, None, Some, List, [], ◌∷◌, ◌++◌, length, refl, sym, ap, ◌∙◌, subst, arith, append-nil}
-use Rattle.std.specs.Prelude.{◌==◌, ◌&&◌, ◌||◌, not, nat_lt}
+use Rattle.std.specs.Prelude.{◌==◌, ◌&&◌, ◌||◌, not}
 use Rattle.std.proofs.lemmas.Bool.{lt-ltb}
-use Rattle.std.proofs.lemmas.Bool.Decides.{eqb_tells}
 use Rattle.trace_text.specs.declared.item.TraceItem.{TraceItem}
 use Rattle.trace_text.specs.declared.item.TraceItem.TheVariants as trace
 use Rattle.file_tree.specs.declared.call.Call.{Call}
@@ -10,10 +9,10 @@ use Rattle.file_tree.specs.declared.reply.Reply.{Reply}
 use Rattle.run_rules.specs.Lives.{Life, AcceptedHead, last_number, fenced_behind, is_replays, items_of, named, unnamed, Unnamed, lives_of, losses_of, life_at}
 use Rattle.cluster_laws.specs.Mirror.{either}
 use Rattle.head_laws.specs.Journals.{Journal, present, head_item, unnamed_upto, IsOther}
-use Rattle.head_laws.proofs.Items.{true-false, eqb-other, eqb-self, first_of_two, named-on, replays-on, last-on, noted, ended, rest-on, Plain, plain}
-use Rattle.head_laws.proofs.Values.{rest, mine, base, fence, own, quiet_value, value_by, value_of, value, Stable, ByItem, NotOwn, stable-value, stable-on, own-off, HeadsWithin, NoHeads, within-none, within-more, within-on, named-none, mine-open}
-use Rattle.head_laws.proofs.Goods.{Closed, Waiting, Acting, Open, Good, Inv, open-runs, none-closed}
-use Rattle.head_laws.proofs.Growing.{Keeps, Still, plain-still, losses-same, life-same, count-same, longer, over-on, going-on, fence-same, closed-on, open-value, open-value-on, named-same, replays-more, waiting-on, acting-on, quiet-on}
+use Rattle.head_laws.proofs.Items.{true-false, eqb-other, eqb-self, first_of_two, named-on, last-on, noted, ended, rest-on, plain}
+use Rattle.head_laws.proofs.Values.{rest, mine, base, own, quiet_value, value_by, value, Stable, ByItem, stable-value, stable-on, own-off, HeadsWithin, NoHeads, within-none, within-more, within-on, named-none, mine-open}
+use Rattle.head_laws.proofs.Goods.{Acting, Open, Inv, open-runs, none-closed}
+use Rattle.head_laws.proofs.Growing.{Keeps, Still, plain-still, losses-same, life-same, count-same, longer, going-on, fence-same, closed-on, open-value, open-value-on, named-same, replays-more, waiting-on, acting-on, quiet-on}
 
 inside : {A : Type 0} {a b : A} → Some a ≡ Some b → a ≡ b
 inside e = cc

@@ -1,17 +1,17 @@
 -- The law over every list of events.
-use Rattle.std.proofs.Common.{ℕ, suc, ◌≡◌, ◌<◌, ◌≤◌, ◌+◌, ◌⊎◌, inl, inr, Bool, true, false, cond, Option, None, Some, List, [], ◌∷◌, ◌++◌, length, refl, sym, ap, ◌∙◌, subst, arith}
-use Rattle.std.specs.Prelude.{◌==◌, nat_lt}
+use Rattle.std.proofs.Common.{ℕ, ◌≡◌, ◌+◌, inl, inr, Bool, true, false, cond, None, Some, List, [], refl, sym, ap, ◌∙◌, subst, arith}
+use Rattle.std.specs.Prelude.{nat_lt}
 use Rattle.std.proofs.lemmas.Bool.{ltb-true, ltb-false, cases_Bool}
 use Rattle.std.proofs.lemmas.Bool.Decides.{eqb_tells}
 use Rattle.trace_text.specs.declared.item.TraceItem.{TraceItem}
-use Rattle.run_rules.specs.Lives.{Life, AcceptedHead, upto_of, lives_of, losses_of, life_at}
+use Rattle.run_rules.specs.Lives.{AcceptedHead, losses_of}
 use Rattle.cluster_laws.specs.Mirror.{either}
 use Rattle.head_laws.specs.Journals.{Journal, Event, Events, Done, Then, IsNew}
 use Rattle.head_laws.specs.Journals as journals
-use Rattle.head_laws.specs.Laws.{with_head, AreTold, HeadsAreTold}
+use Rattle.head_laws.specs.Laws.{AreTold, HeadsAreTold}
 use Rattle.head_laws.proofs.Items.{true-false, eqb-other, eqb-self}
-use Rattle.head_laws.proofs.Values.{value, value-is}
-use Rattle.head_laws.proofs.Goods.{Good, Inv, open-runs}
+use Rattle.head_laws.proofs.Values.{value-is}
+use Rattle.head_laws.proofs.Goods.{Inv, open-runs}
 use Rattle.head_laws.proofs.Saying.{says, writes-log, writes-replay, answers, begins, begins-last, commits}
 use Rattle.head_laws.proofs.Ending.{waits-value, fenced-value, replays, replays-past, ends, stops, is-fenced, joins, loses, is-recovered}
 

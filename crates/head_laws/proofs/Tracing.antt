@@ -1,10 +1,10 @@
 -- The losses of a trace.
-use Rattle.std.proofs.Common.{ℕ, zero, suc, ◌≡◌, ◌<◌, ◌≤◌, ◌+◌, ◌⊎◌, inl, inr, Bool, true, false, cond, Option, None, Some, List, [], ◌∷◌, ◌++◌, length, take, drop, refl, sym, ap, ◌∙◌, subst, arith, length-append}
-use Rattle.std.specs.Prelude.{◌==◌, ◌-◌, nat_lt, map, slice_get}
+use Rattle.std.proofs.Common.{ℕ, zero, suc, ◌≡◌, ◌<◌, ◌+◌, ◌⊎◌, inl, inr, true, false, Option, None, Some, List, [], ◌∷◌, ◌++◌, length, take, drop, refl, sym, ap, ◌∙◌, subst, arith, length-append}
+use Rattle.std.specs.Prelude.{nat_lt, slice_get}
 use Rattle.std.proofs.lemmas.Bool.{ltb-true, ltb-false, cases_Bool}
-use Rattle.std.proofs.lemmas.Option.{slice_get_within, slice_get_past}
+use Rattle.std.proofs.lemmas.Option.{slice_get_within}
 use Rattle.std.proofs.lemmas.List.{take-append-le}
-use Rattle.std.proofs.Math.Seq.{drop-append_seam, take-append_seam}
+use Rattle.std.proofs.Math.Seq.{take-append_seam}
 use Rattle.cluster_history.specs.declared.Item.{Item}
 use Rattle.cluster_history.specs.declared.Item.TheVariants as item
 use Rattle.cluster_history.specs.Losses.{LossIsRight}
@@ -12,7 +12,7 @@ use Rattle.trace_text.specs.declared.item.TraceItem.{TraceItem}
 use Rattle.trace_text.specs.declared.item.TraceItem.TheVariants as trace
 use Rattle.script_lang.specs.declared.script.Client.{Client}
 use Rattle.run_rules.specs.Follows as run
-use Rattle.run_rules.specs.Lives.{Life, AcceptedHead, DiskHeads, upto_of, upto_by, head_of, head_behind, fenced_behind, items_of, named, losses_of, lives_of, life_at, life_lost, TraceKeptRight}
+use Rattle.run_rules.specs.Lives.{Life, AcceptedHead, DiskHeads, upto_of, upto_by, head_of, head_behind, fenced_behind, items_of, named, losses_of, lives_of, life_lost, TraceKeptRight}
 use Rattle.cluster_laws.specs.Book.{Kept}
 use Rattle.cluster_laws.specs.History.{Called, Gone}
 use Rattle.cluster_laws.specs.History as machine
@@ -24,9 +24,9 @@ use Rattle.tree_histories.specs.Trees.{Images, Trees, item_of, history_of, upto_
 use Rattle.tree_histories.proofs.Joining.{every_tree_cluster}
 use Rattle.head_laws.specs.Journals.{Journal, Event, Events, IsNew}
 use Rattle.head_laws.specs.Journals as journals
-use Rattle.head_laws.specs.Laws.{with_head, AreTold, lives_count}
+use Rattle.head_laws.specs.Laws.{with_head, AreTold}
 use Rattle.head_laws.specs.Traces.{Told, journal_of, Happens, Rests, Does, Step, Steps, Done, Then, Begins, LossesAreRight}
-use Rattle.head_laws.proofs.Items.{true-false, life-there}
+use Rattle.head_laws.proofs.Items.{life-there}
 use Rattle.head_laws.proofs.Telling.{heads-are-told}
 
 -- ---- lists

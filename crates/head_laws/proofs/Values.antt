@@ -1,13 +1,13 @@
 -- The number that the items tell of a life, as a function of its items, its base and its head.
-use Rattle.std.proofs.Common.{ℕ, suc, ◌≡◌, ◌≢◌, ◌<◌, ◌≤◌, ◌+◌, ◌-◌, ◌⊎◌, inl, inr, Bool, true, false, cond, Option, None, Some, List, [], ◌∷◌, ◌++◌, length, take, drop, refl, sym, ap, ◌∙◌, subst, arith, append-nil, length-drop}
-use Rattle.std.specs.Prelude.{◌==◌, ◌&&◌, ◌||◌, ⊤, not, nat_lt}
+use Rattle.std.proofs.Common.{ℕ, ◌≡◌, ◌<◌, ◌≤◌, ◌+◌, ◌-◌, ◌⊎◌, inl, inr, Bool, true, false, cond, Option, None, Some, List, [], ◌∷◌, ◌++◌, length, take, drop, refl, sym, ap, ◌∙◌, subst, arith, append-nil, length-drop}
+use Rattle.std.specs.Prelude.{◌==◌, ◌&&◌, ⊤, not, nat_lt}
 use Rattle.std.proofs.lemmas.Bool.Decides.{eqb_tells}
 use Rattle.std.proofs.lemmas.List.{take-append-le}
 use Rattle.trace_text.specs.declared.item.TraceItem.{TraceItem}
 use Rattle.trace_text.specs.declared.item.TraceItem.TheVariants as trace
-use Rattle.run_rules.specs.Lives.{Life, AcceptedHead, last_number, to_its_end, items_of, base_of, fenced_behind, head_behind, is_replays, named, unnamed, Unnamed, upto_by, upto_of}
+use Rattle.run_rules.specs.Lives.{Life, AcceptedHead, last_number, to_its_end, fenced_behind, head_behind, is_replays, named, unnamed, upto_by, upto_of}
 use Rattle.head_laws.specs.Laws.{with_head}
-use Rattle.head_laws.proofs.Items.{true-false, eqb-other, first_of_two, first-none, named-on, replays-on, last-on, unnamed-on, noted, ended, end-closed, end-open, fence-on, rest-on, base-on}
+use Rattle.head_laws.proofs.Items.{true-false, eqb-other, first_of_two, ended, end-closed, end-open, fence-on, rest-on}
 
 -- ---- a life among the items
 

@@ -2,3 +2,4 @@ pub mod Journals
 pub mod Laws
 pub mod Traces
 pub mod Example
+pub mod Tellings

@@ -1,5 +1,5 @@
 -- The items of a trace of a cluster over the file tree, as far as they tell of heads and losses.
-use Rattle.std.specs.Prelude.{ℕ, ◌≡◌, ◌⊎◌, Bool, List, [], ◌∷◌, ◌++◌}
+use Rattle.std.specs.Prelude.{ℕ, ◌≡◌, ◌⊎◌, Bool, List, []}
 use Rattle.cluster_history.specs.History.{Legal, tree_of}
 use Rattle.trace_text.specs.declared.item.TraceItem.{TraceItem}
 use Rattle.script_lang.specs.declared.script.Client.{Client}

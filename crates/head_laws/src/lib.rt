@@ -3,6 +3,7 @@
 
 ghost use Rattle.head_laws.specs.Example.{JournalCanLive};
 ghost use Rattle.head_laws.specs.Laws.{HeadsAreTold};
+ghost use Rattle.head_laws.specs.Tellings.{TellingIsStep};
 ghost use Rattle.head_laws.specs.Traces.{LossesAreRight, RemainsStand};
 
 use tree_histories::TreeImages;
@@ -11,6 +12,11 @@ use tree_histories::TreeImages;
 /// out to be accepted; of each later one it is the number of the node's last call.
 pub fn heads_are_told()
     ensures { HeadsAreTold }
+{}
+
+/// A law: each event of a cluster, with what a trace tells of it, is a step of each journal, and so is an item without an event.
+pub fn telling_is_a_step<T: TreeImages>()
+    ensures { TellingIsStep T.images }
 {}
 
 /// A law: over every list of events of a cluster, with their items, each loss is that of a life and right, where the number that it

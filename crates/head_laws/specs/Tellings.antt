@@ -1,0 +1,107 @@
+-- What a trace has to tell of each event of a cluster, and which items come without one.
+use Rattle.std.specs.Prelude.{ℕ, suc, ◌≡◌, ◌≢◌, ◌≤◌, ◌⊎◌, ⊤, Bool, true, false, None, Some, List, [], ◌∷◌, ◌++◌, length}
+use Rattle.trace_text.specs.declared.item.TraceItem.{TraceItem}
+use Rattle.trace_text.specs.declared.item.TraceItem.TheVariants as trace
+use Rattle.script_lang.specs.declared.script.Client.{Client}
+use Rattle.run_rules.specs.Follows as run
+use Rattle.run_rules.specs.Lives.{Life, AcceptedHead, is_replays, items_of}
+use Rattle.cluster_laws.specs.Book.{at}
+use Rattle.cluster_laws.specs.Mirror.{either}
+use Rattle.cluster_laws.specs.World as world
+use Rattle.cluster_events.specs.Cluster.{Cluster, Together, Event, Works, Stops, Fences, Joins, PastEnds}
+use Rattle.tree_histories.specs.Trees.{Images, Trees, history_of}
+use Rattle.head_laws.specs.Journals.{present, head_item, unnamed_upto, IsEnd, IsNoted}
+use Rattle.head_laws.specs.Traces.{Told, journal_of, Step}
+
+-- what there is beside the cluster: the names of heads, who is silent, and the items
+pub record Beside : Type 0 where
+  pub names : ℕ → Bool → AcceptedHead
+  pub silent : ℕ → Bool
+  pub items : List TraceItem
+
+abbrev pub told_of : (I : Images) → Cluster (Trees I) → Beside → Told I
+told_of I c b = record { cluster = c; names = b.names; silent = b.silent; items = b.items }
+
+-- it is this now, and these items came
+pub record Changed (I : Images) (t : Told I) (u : Beside) (names : ℕ → Bool → AcceptedHead) (silent : ℕ → Bool) (more : List TraceItem) : Type 0 where
+  pub named : u.names ≡ names
+  pub silenced : u.silent ≡ silent
+  pub said : u.items ≡ t.items ++ more
+
+-- the header that goes in flight for a journal behind its accepted one
+abbrev pub with_name : (I : Images) → Told I → ℕ → AcceptedHead → ℕ → Bool → AcceptedHead
+with_name I t i h = at (t.names) i (either (t.names i false) h)
+
+abbrev pub next_name : (I : Images) → Told I → ℕ → Bool → ℕ → AcceptedHead
+next_name I t i clean block = record { block = block; sequence = suc ((t.names i false).sequence); is_clean = clean }
+
+-- a header begins
+pub data BeginTold (I : Images) (t : Told I) (u : Beside) (writer i cut : ℕ) : Type 0 where
+  -- of a node's own journal, with its item; or without, as the last that the node writes in this life: then it has the calls that the items tell
+  Own : (clean : Bool) (block : ℕ) → (t.cluster).waits i ≡ false → t.silent i ≡ false
+      → Changed I t u (with_name I t i (next_name I t i clean block)) (t.silent) (head_item clean i block (suc ((t.names i false).sequence)) cut ∷ []) → BeginTold I t u writer i cut
+  OwnLast : (clean : Bool) (block : ℕ) → (t.cluster).waits i ≡ false → t.silent i ≡ false
+      → ((l : Life) → present i (journal_of I t i) (t.items) ≡ Some l
+      → (cut ≡ unnamed_upto clean i ((((t.cluster).world).book).published i) l (t.items)) × (is_replays i block false (items_of l (t.items)) ≡ false))
+      → Changed I t u (with_name I t i (next_name I t i clean block)) (at (t.silent) i true) [] → BeginTold I t u writer i cut
+  -- of a replay, once the node is fenced: where that runs again its item stands; or it is the last that the node writes itself
+  Replay : (h : AcceptedHead) → (t.cluster).waits i ≡ true → ((t.cluster).fenced i ≡ true) ⊎ ((t.cluster).runs i ≡ true) → h.is_clean ≡ true → (t.names i false).sequence ≤ h.sequence
+      → IsNoted i (journal_of I t i) (t.items) h → Changed I t u (with_name I t i h) (t.silent) [] → BeginTold I t u writer i cut
+  ReplayLast : (h : AcceptedHead) → (t.cluster).waits i ≡ true → writer ≡ i → t.silent i ≡ false → h.is_clean ≡ true → (t.names i false).sequence ≤ h.sequence
+      → Changed I t u (with_name I t i h) (at (t.silent) i true) [] → BeginTold I t u writer i cut
+
+-- a header is on the disk or never will be: not one without an item while its node runs; with a commit it is the node's own
+pub data EndTold (I : Images) (t : Told I) (u : Beside) (i : ℕ) (d : Bool) : Type 0 where
+  Settled : ((t.cluster).runs i ≡ true → t.silent i ≡ false) → Changed I t u (at (t.names) i (λ e. t.names i d)) (t.silent) [] → EndTold I t u i d
+  Committed : (sequence upto : ℕ) → (t.cluster).runs i ≡ true → (t.cluster).waits i ≡ false → t.silent i ≡ false → d ≡ true
+      → Changed I t u (at (t.names) i (λ e. t.names i d)) (t.silent) (trace.Commit i sequence upto ∷ []) → EndTold I t u i d
+
+-- a call's item; it comes behind no clean header without an item
+pub record CallTold (I : Images) (clients : List Client) (t : Told I) (u : Beside) (i : ℕ) : Type 0 where
+  pub name : List ℕ
+  pub client : run.place_of clients name ≡ ((((t.cluster).world).book).told i (suc ((((t.cluster).world).book).published i))).client
+  pub dirty : t.silent i ≡ true → (t.names i true).is_clean ≡ false
+  pub changed : Changed I t u (t.names) (t.silent)
+      (trace.Call i name (suc ((((t.cluster).world).book).published i)) (((((t.cluster).world).book).told i (suc ((((t.cluster).world).book).published i))).call)
+      (((((t.cluster).world).book).told i (suc ((((t.cluster).world).book).published i))).reply) ∷ [])
+
+-- what the trace has of an event; of most nothing that tells of calls, heads and lives
+abbrev pub Tells : (I : Images) (clients : List Client) (behind : ℕ → ℕ → AcceptedHead) (t : Told I) (u : Beside) (d : Cluster (Trees I)) → Event (Trees I) (t.cluster) d → Type 0
+Tells I clients behind t u _ (Works _ (world.Publishes i some) may) = CallTold I clients t u i
+Tells I clients behind t u _ (Works _ (world.Begins i h single heads) may) = BeginTold I t u ((may.0).0) i (h.cut)
+Tells I clients behind t u _ (Works _ (world.Ends i d) may) = EndTold I t u i d
+Tells I clients behind t u _ (Works _ (world.Loses i k all above below calm next none single) may) = Changed I t u (t.names) (t.silent) (trace.Lost i k ∷ [])
+Tells I clients behind t u _ (Stops i here runs all) = (x : TraceItem) × IsEnd i x × Changed I t u (t.names) (at (t.silent) i false) (x ∷ [])
+-- the disk right behind the fence, and at a join
+Tells I clients behind t u _ (Fences i out unfenced idle) = (behind i (suc (length (t.items))) ≡ t.names i false) × Changed I t u (t.names) (t.silent) (trace.Fence i ∷ [])
+Tells I clients behind t u _ (Joins i here out fenced waits) =
+    ((t.cluster).header_of i ≡ None) × (behind i (length (t.items)) ≡ t.names i false) × Changed I t u (t.names) (t.silent) (trace.Join i ∷ [])
+-- the past has no lives
+Tells I clients behind t u _ (PastEnds waits nothing unheaded) = ((t.cluster).unlost ((t.cluster).past) ≡ 0) × Changed I t u (t.names) (t.silent) []
+Tells I clients behind t u _ _ = Changed I t u (t.names) (t.silent) []
+
+-- an item without an event. A replay's write is to no place of a header without an item
+abbrev pub MaySay : (I : Images) → Told I → TraceItem → Type 0
+MaySay I t (trace.WriteLog i block) = t.silent i ≡ false
+MaySay I t (trace.WriteReplay r block) = (i : ℕ) → t.silent i ≡ true → block ≢ (t.names i true).block
+MaySay I t (trace.Join i) = ⊥
+MaySay I t (trace.WriteHead i block sequence upto) = ⊥
+MaySay I t (trace.WriteClean i block sequence upto) = ⊥
+MaySay I t (trace.Commit i sequence upto) = ⊥
+MaySay I t (trace.Call i name number call reply) = ⊥
+MaySay I t (trace.Crash i) = ⊥
+MaySay I t (trace.Withdraw i before after) = ⊥
+MaySay I t (trace.Fence i) = ⊥
+MaySay I t (trace.Lost i kept) = ⊥
+MaySay I t _ = ⊤
+
+-- So each event of the cluster, and each such item, is a step of each journal.
+pub record TellingIsStep (I : Images) : Type 0 where
+  pub event : (clients : List Client) (behind : ℕ → ℕ → AcceptedHead) (t : Told I) (u : Beside) (d : Cluster (Trees I)) (event : Event (Trees I) (t.cluster) d) → Together (Trees I) (t.cluster)
+      → run.history_of clients (t.items) ≡ history_of I (((t.cluster).world).items) → Tells I clients behind t u d event → Step I clients behind t (told_of I d u)
+  pub item : (clients : List Client) (behind : ℕ → ℕ → AcceptedHead) (t : Told I) (x : TraceItem) → run.history_of clients (t.items) ≡ history_of I (((t.cluster).world).items)
+      → MaySay I t x → Step I clients behind t (record t { items = t.items ++ x ∷ [] })
+  -- the clean header of a replay of the past's ring comes to the disk
+  pub past : (clients : List Client) (behind : ℕ → ℕ → AcceptedHead) (t : Told I) (i : ℕ) (h : AcceptedHead) → run.history_of clients (t.items) ≡ history_of I (((t.cluster).world).items)
+      → (t.cluster).waits i ≡ true → ((t.cluster).fenced i ≡ true) ⊎ ((t.cluster).runs i ≡ true) → (t.cluster).header_of i ≡ None → h.is_clean ≡ true → (t.names i false).sequence ≤ h.sequence
+      → IsNoted i (journal_of I t i) (t.items) h → Step I clients behind t (record t { names = at (t.names) i (λ d. h) })
