@@ -68,7 +68,7 @@ module _ (words : List (List ℕ)) (given left : Inputs) (sinks sinks_now : Outp
   of_mount may own (IsDamaged block rule breaks never) = absurd (never may.flat.tells may.tree may.stands)
   of_mount may own (IsDirty block dirty) =
       let it = dirty may.flat.tells in
-      let both : true ≡ false = sym (may.clean it.0 it.1.0 it.1.1.0 it.1.1.1.0 it.1.1.1.1) ∙ it.1.1.1.2 in cc
+      let both : true ≡ false = sym (may.clean it.0 it.1 it.2.place it.2.journal it.2.there) ∙ it.2.dirty in cc
   of_mount may own (IsHashed block hashed) = absurd (may.linear block (hashed may.flat.tells).0 (hashed may.flat.tells).1)
   of_mount may own (HasFarRoot block clean far breaks never) = absurd (never may.flat.tells may.tree may.stands)
   of_mount may own (HasOtherRoot block clean other) = absurd ((other may.flat.tells).2 may.flat.root)

@@ -1,5 +1,5 @@
 -- How a command ends that can't mount the image.
-use Rattle.std.specs.Prelude.{ℕ, ◌≡◌, ◌<◌, ◌≤◌, false, true, IsTrue, Some, slice_get}
+use Rattle.std.specs.Prelude.{ℕ, ◌≡◌, ◌<◌, ◌≤◌, false, true, IsTrue, List, Some, slice_get}
 use Rattle.fault_counts.specs.Causes.{WentUp}
 use Rattle.file_tree.specs.Tree.{Tree}
 use Rattle.image_model.specs.Image.{Image, image_of}
@@ -24,9 +24,18 @@ OfImage disk P = IsTrue disk.tells → P (image_of disk)
 abbrev pub NeverStands : Image → Type 0
 NeverStands im = (tree : Tree) → Stands im tree → ⊥
 
--- the journal whose dinode is in this block was not left clean
+-- the first of these journals that was not left clean has its dinode in this block
+pub record IsFirstDirty (journals : List Journal) (block : ℕ) : Type 0 where
+  pub place : ℕ
+  pub journal : Journal
+  pub there : slice_get journals place ≡ Some journal
+  pub dirty : journal.head.clean ≡ false
+  pub dinode : journal.dinode ≡ block
+  pub before : (j : ℕ) (earlier : Journal) → j < place → slice_get journals j ≡ Some earlier → earlier.head.clean ≡ true
+
+-- so of what was mounted from the image
 abbrev pub HasDirtyJournal : Image → ℕ → Type 0
-HasDirtyJournal im block = (m : MountedValue) × (IsMounted im m × ((j : ℕ) × ((journal : Journal) × (slice_get m.journals j ≡ Some journal) × (journal.head.clean ≡ false) × (journal.dinode ≡ block))))
+HasDirtyJournal im block = (m : MountedValue) × IsMounted im m × IsFirstDirty m.journals block
 
 -- each journal of what was mounted was left clean
 abbrev pub IsLeftClean : MountedValue → Type 0

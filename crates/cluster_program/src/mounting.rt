@@ -1,4 +1,4 @@
-ghost use Rattle.std.specs.Prelude.{◌≡◌, ◌≤◌, ℕ, IsTrue, IfOk, IfErr, MatchOption, length, slice_get, Some, false, true};
+ghost use Rattle.std.specs.Prelude.{◌≡◌, ◌≤◌, ℕ, IsTrue, IfOk, IfErr, MatchOption, length, slice_get, Some, true};
 ghost use Rattle.gfs2_layout.specs.Area.{IsArea};
 ghost use Rattle.gfs2_layout.specs.Device.{IsBlockSize};
 ghost use Rattle.image_model.specs.Image.{image_of};
@@ -6,7 +6,7 @@ ghost use Rattle.image_mount.specs.Mounted.{Journal, IsMounted};
 ghost use Rattle.shared_disk.specs.Disk.{IsIdle};
 ghost use Rattle.shared_disk.specs.Disk.{ReadsOnly};
 ghost use Rattle.single_node.specs.Flat.{HasFlatRoot, stuffed_part};
-ghost use Rattle.cluster_program.specs.Mounting.{MountEnds, IsLeftClean};
+ghost use Rattle.cluster_program.specs.Mounting.{MountEnds, IsFirstDirty, IsLeftClean};
 
 use crate::end_status::{not_built, not_mounted, status_of_end};
 use crate::status::Status;
@@ -26,7 +26,7 @@ pub(crate) struct FlatImage {
 // The dinode of the first journal that was not left clean.
 fn dirty_journal(journals: &[JournalMap]) -> Option<u64>
     ensures { MatchOption result ((j : ℕ) (journal : Journal) → slice_get journals.now j ≡ Some journal → journal.head.clean ≡ true)
-        (λ block. (j : ℕ) × ((journal : Journal) × (slice_get journals.now j ≡ Some journal) × (journal.head.clean ≡ false) × (journal.dinode ≡ block))) }
+        (IsFirstDirty journals.now) }
 {
     for journal in journals {
         if !journal.head.clean {

@@ -2,7 +2,7 @@ use Rattle.std.proofs.Common.{◌≡◌, ℕ, List, true, Some, slice_get, sym, 
 use Rattle.std.specs.Prelude.{IsTrue}
 use Rattle.image_mount.specs.Mounted.{Journal, MountedValue}
 use Rattle.single_node.specs.Flat.{HasSuperBlock, root_of}
-use Rattle.cluster_program.specs.Mounting.{MountEnds, IsDirty}
+use Rattle.cluster_program.specs.Mounting.{MountEnds, IsDirty, IsFirstDirty}
 use Rattle.cluster_program.proofs.Mounts.{mount_end, root_end, root_there, superblock_is}
 use Rattle.cluster_program.proofs.Runs.{mounted_clean}
 use Rattle.cluster_program.proofs.mounting.mount_flat.Goals as goal
@@ -19,10 +19,9 @@ returns-in-Err-clause-ends g c =
 
 pub returns-in-Some-clause-ends : goal.returns-in-Some-clause-ends
 returns-in-Some-clause-ends g c =
-    let it = c.in-Some.ensures in
     let journals = c.deref.ensures.value ∙ ap (λ (m : MountedValue). m.journals) c.mounted.view_is in
-    let there = subst (λ (js : List Journal). slice_get js it.0 ≡ Some it.1.0) journals it.1.1 in
-    subst (MountEnds _ _ _) (sym c.not_built.ensures) (IsDirty c.in-Some.block (λ tells. (c.in-Ok.mounted, (c.in-Ok.ensures.mounted tells, (it.0, (it.1.0, there, it.1.2, it.1.3))))))
+    let first = subst (λ (js : List Journal). IsFirstDirty js c.in-Some.block) journals c.in-Some.ensures in
+    subst (MountEnds _ _ _) (sym c.not_built.ensures) (IsDirty c.in-Some.block (λ tells. (c.in-Ok.mounted, c.in-Ok.ensures.mounted tells, first)))
 
 pub returns-in-Ok-read_root-clause-root : goal.returns-in-Ok-read_root-clause-root
 returns-in-Ok-read_root-clause-root g c tells =
