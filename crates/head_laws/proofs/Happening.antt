@@ -20,10 +20,12 @@ use Rattle.cluster_events.specs.Cluster as cluster
 use Rattle.tree_histories.specs.Trees.{Images, Trees, item_of, history_of}
 use Rattle.head_laws.specs.Journals.{Journal, head_item, IsEnd, IsOther}
 use Rattle.head_laws.specs.Journals as journals
-use Rattle.head_laws.specs.Traces.{Told, journal_of, Happens, Rests, Does, Step}
-use Rattle.head_laws.specs.Tellings.{Beside, told_of, Changed, next_name, BeginTold, Own, OwnLast, Replay, ReplayLast, EndTold, Settled, Committed, Tells, MaySay, TellingIsStep}
+use Rattle.head_laws.specs.Traces.{Told, journal_of, Happens, Rests, Does, Step, Steps, Done, Then, Begins}
+use Rattle.head_laws.specs.Tellings.{Beside, told_of, Changed, next_name, BeginTold, Own, OwnLast, Replay, ReplayLast, EndTold, Settled, Committed, Tells, MaySay, TellingIsStep, MayLand, Tellings, AnEvent, AnItem}
+use Rattle.head_laws.specs.Tellings as tellings
 use Rattle.head_laws.proofs.Items.{true-false}
-use Rattle.head_laws.proofs.Tracing.{history-on, history-more}
+use Rattle.head_laws.proofs.Tracing.{history-on, history-more, history-is, events-of}
+use Rattle.cluster_events.proofs.Eventing.{every_cluster}
 
 inside : {A : Type 0} {a b : A} → Some a ≡ Some b → a ≡ b
 inside e = cc
@@ -393,22 +395,48 @@ module _ (I : Images) (clients : List Client) (behind : ℕ → ℕ → Accepted
   no-history (trace.Lost i kept) may = absurd may
   no-history x may = refl
 
+-- ---- a header of the past's ring
+
+past-lands : (I : Images) (clients : List Client) (behind : ℕ → ℕ → AcceptedHead) (t : Told I) (i : ℕ) (h : AcceptedHead) → run.history_of clients (t.items) ≡ history_of I (((t.cluster).world).items)
+    → MayLand I t i h → Step I clients behind t (record t { names = at (t.names) i (λ d. h) })
+past-lands I clients behind t i h base may = record {
+  event = inl refl;
+  journals = λ k. elim (cases_eq k i) [
+    | inl e ↦ subst (λ (k : ℕ). Happens k (behind k) (journal_of I t k) (t.items) (journal_of I (record t { names = at (t.names) i (λ d. h) }) k) (t.items)) (sym e)
+        (subst (λ (f : Bool → AcceptedHead). Happens i (behind i) (journal_of I t i) (t.items) (record (journal_of I t i) { name = f }) (t.items)) (sym (at-same (t.names) i (λ d. h)))
+        (Does _ _ (journals.ReplaysPast h may.waits may.over may.alone may.clean may.later may.noted)))
+    | inr ne ↦ subst (λ (f : Bool → AcceptedHead). Happens k (behind k) (journal_of I t k) (t.items) (record (journal_of I t k) { name = f }) (t.items)) (sym (at-other (t.names) i (λ d. h) k ne)) Rests
+  ];
+  history = base;
+}
+
+item-step : (I : Images) (clients : List Client) (behind : ℕ → ℕ → AcceptedHead) (t : Told I) (x : TraceItem) → run.history_of clients (t.items) ≡ history_of I (((t.cluster).world).items)
+    → MaySay I t x → Step I clients behind t (record t { items = t.items ++ x ∷ [] })
+item-step I clients behind t x base may = record {
+  event = inl refl;
+  journals = says I clients behind t x may;
+  history = history-on clients (t.items) (x ∷ []) ∙ (ap (λ (h : List Item). run.history_of clients (t.items) ++ h) (no-history I clients behind t x may) ∙ (append-nil (run.history_of clients (t.items)) ∙ base));
+}
+
+-- ---- every run
+
+every-run : (I : Images) (clients : List Client) (behind : ℕ → ℕ → AcceptedHead) (a t : Told I) → Begins I clients behind a → Tellings I clients behind a t → Steps I clients behind a t
+every-run I clients behind a _ begins tellings.Nothing = Done
+every-run I clients behind a _ begins (AnEvent t u d event before told) =
+    let so_far = every-run I clients behind a t begins before in
+    let together = (every_cluster (Trees I) (a.cluster) (t.cluster) (begins.starts) (events-of I clients behind a t so_far)).0 in
+    Then t (told_of I d u) so_far (steps I clients behind t u together (history-is I clients behind a t begins so_far) d event told)
+every-run I clients behind a _ begins (AnItem t x before may) =
+    let so_far = every-run I clients behind a t begins before in
+    Then t _ so_far (item-step I clients behind t x (history-is I clients behind a t begins so_far) may)
+every-run I clients behind a _ begins (tellings.Lands t i h before may) =
+    let so_far = every-run I clients behind a t begins before in
+    Then t _ so_far (past-lands I clients behind t i h (history-is I clients behind a t begins so_far) may)
+
 pub telling-is-step : (I : Images) → TellingIsStep I
 telling-is-step I = record {
   event = λ clients behind t u d event together base told. steps I clients behind t u together base d event told;
-  item = λ clients behind t x base may. record {
-    event = inl refl;
-    journals = says I clients behind t x may;
-    history = history-on clients (t.items) (x ∷ []) ∙ (ap (λ (h : List Item). run.history_of clients (t.items) ++ h) (no-history I clients behind t x may) ∙ (append-nil (run.history_of clients (t.items)) ∙ base));
-  };
-  past = λ clients behind t i h base waits who alone clean later noted. record {
-    event = inl refl;
-    journals = λ k. elim (cases_eq k i) [
-      | inl e ↦ subst (λ (k : ℕ). Happens k (behind k) (journal_of I t k) (t.items) (journal_of I (record t { names = at (t.names) i (λ d. h) }) k) (t.items)) (sym e)
-          (subst (λ (f : Bool → AcceptedHead). Happens i (behind i) (journal_of I t i) (t.items) (record (journal_of I t i) { name = f }) (t.items)) (sym (at-same (t.names) i (λ d. h)))
-          (Does _ _ (journals.ReplaysPast h waits who alone clean later noted)))
-      | inr ne ↦ subst (λ (f : Bool → AcceptedHead). Happens k (behind k) (journal_of I t k) (t.items) (record (journal_of I t k) { name = f }) (t.items)) (sym (at-other (t.names) i (λ d. h) k ne)) Rests
-    ];
-    history = base;
-  };
+  item = λ clients behind t x base may. item-step I clients behind t x base may;
+  past = λ clients behind t i h base may. past-lands I clients behind t i h base may;
+  every = λ clients behind a t begins tellings. every-run I clients behind a t begins tellings;
 }

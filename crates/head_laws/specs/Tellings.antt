@@ -11,7 +11,7 @@ use Rattle.cluster_laws.specs.World as world
 use Rattle.cluster_events.specs.Cluster.{Cluster, Together, Event, Works, Stops, Fences, Joins, PastEnds}
 use Rattle.tree_histories.specs.Trees.{Images, Trees, history_of}
 use Rattle.head_laws.specs.Journals.{present, head_item, unnamed_upto, IsEnd, IsNoted}
-use Rattle.head_laws.specs.Traces.{Told, journal_of, Step}
+use Rattle.head_laws.specs.Traces.{Told, journal_of, Step, Steps, Begins}
 
 -- what there is beside the cluster: the names of heads, who is silent, and the items
 pub record Beside : Type 0 where
@@ -95,13 +95,29 @@ MaySay I t (trace.Fence i) = ⊥
 MaySay I t (trace.Lost i kept) = ⊥
 MaySay I t _ = ⊤
 
--- So each event of the cluster, and each such item, is a step of each journal.
+-- the clean header of a replay of the past's ring may come to the disk
+pub record MayLand (I : Images) (t : Told I) (i : ℕ) (h : AcceptedHead) : Type 0 where
+  pub waits : (t.cluster).waits i ≡ true
+  pub over : ((t.cluster).fenced i ≡ true) ⊎ ((t.cluster).runs i ≡ true)
+  pub alone : (t.cluster).header_of i ≡ None
+  pub clean : h.is_clean ≡ true
+  pub later : (t.names i false).sequence ≤ h.sequence
+  pub noted : IsNoted i (journal_of I t i) (t.items) h
+
+-- a run, with all that its trace has of it
+pub data Tellings (I : Images) (clients : List Client) (behind : ℕ → ℕ → AcceptedHead) (a : Told I) : Told I → Type 0 where
+  Nothing : Tellings I clients behind a a
+  AnEvent : (t : Told I) (u : Beside) (d : Cluster (Trees I)) (event : Event (Trees I) (t.cluster) d) → Tellings I clients behind a t → Tells I clients behind t u d event
+      → Tellings I clients behind a (told_of I d u)
+  AnItem : (t : Told I) (x : TraceItem) → Tellings I clients behind a t → MaySay I t x → Tellings I clients behind a (record t { items = t.items ++ x ∷ [] })
+  Lands : (t : Told I) (i : ℕ) (h : AcceptedHead) → Tellings I clients behind a t → MayLand I t i h → Tellings I clients behind a (record t { names = at (t.names) i (λ d. h) })
+
+-- So each event of the cluster, and each such item, is a step of each journal; and every run is a list of steps.
 pub record TellingIsStep (I : Images) : Type 0 where
   pub event : (clients : List Client) (behind : ℕ → ℕ → AcceptedHead) (t : Told I) (u : Beside) (d : Cluster (Trees I)) (event : Event (Trees I) (t.cluster) d) → Together (Trees I) (t.cluster)
       → run.history_of clients (t.items) ≡ history_of I (((t.cluster).world).items) → Tells I clients behind t u d event → Step I clients behind t (told_of I d u)
   pub item : (clients : List Client) (behind : ℕ → ℕ → AcceptedHead) (t : Told I) (x : TraceItem) → run.history_of clients (t.items) ≡ history_of I (((t.cluster).world).items)
       → MaySay I t x → Step I clients behind t (record t { items = t.items ++ x ∷ [] })
-  -- the clean header of a replay of the past's ring comes to the disk
   pub past : (clients : List Client) (behind : ℕ → ℕ → AcceptedHead) (t : Told I) (i : ℕ) (h : AcceptedHead) → run.history_of clients (t.items) ≡ history_of I (((t.cluster).world).items)
-      → (t.cluster).waits i ≡ true → ((t.cluster).fenced i ≡ true) ⊎ ((t.cluster).runs i ≡ true) → (t.cluster).header_of i ≡ None → h.is_clean ≡ true → (t.names i false).sequence ≤ h.sequence
-      → IsNoted i (journal_of I t i) (t.items) h → Step I clients behind t (record t { names = at (t.names) i (λ d. h) })
+      → MayLand I t i h → Step I clients behind t (record t { names = at (t.names) i (λ d. h) })
+  pub every : (clients : List Client) (behind : ℕ → ℕ → AcceptedHead) (a t : Told I) → Begins I clients behind a → Tellings I clients behind a t → Steps I clients behind a t

@@ -14,7 +14,8 @@ pub fn heads_are_told()
     ensures { HeadsAreTold }
 {}
 
-/// A law: each event of a cluster, with what a trace tells of it, is a step of each journal, and so is an item without an event.
+/// A law: each event of a cluster, with what a trace tells of it, is a step of each journal, and so is an item without an event; and
+/// every run with such a trace is a list of steps.
 pub fn telling_is_a_step<T: TreeImages>()
     ensures { TellingIsStep T.images }
 {}
