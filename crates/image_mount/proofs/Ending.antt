@@ -1,5 +1,5 @@
 -- What mounting tells in the end.
-use Rattle.std.proofs.Common.{◌≢◌, ◌≡◌, ℕ, ◌^◌, ◌<◌, ◌≤◌, List, [], length, Some, IsTrue, sym, ap, subst, ◌∙◌}
+use Rattle.std.proofs.Common.{refl, ◌≢◌, ◌≡◌, ℕ, ◌^◌, ◌<◌, ◌≤◌, List, [], length, Some, IsTrue, sym, ap, subst, ◌∙◌}
 use Rattle.std.specs.Prelude.{map, slice_get, Result, IfErr, IsErrAnd}
 use Rattle.std.specs.List.{All}
 use Rattle.std.proofs.lemmas.List.{length-map}
@@ -8,6 +8,7 @@ use Rattle.glock_names.specs.Views.{group_of_entry}
 use Rattle.gfs2_layout.specs.declared.log_header.LogHeader.{LogHeader}
 use Rattle.gfs2_layout.specs.declared.superblock.SuperBlock.{SuperBlock}
 use Rattle.glock_names.specs.declared.steps.Entry.{Entry}
+use Rattle.gfs2_layout.specs.Inode.{content_block}
 use Rattle.gfs2_layout.specs.Journal.{ring_of}
 use Rattle.image_model.specs.Claims.{every}
 use Rattle.image_model.specs.Image.{Image, image_of}
@@ -15,10 +16,10 @@ use Rattle.image_model.specs.Stands.{Layout, IsJournalAt}
 use Rattle.image_mount.specs.Found.{HasFormat, HasNames}
 use Rattle.image_model.specs.Journals.{journal_name}
 use Rattle.image_mount.specs.Looks.{HasTrueRecord, IsInGroups, IsPlaceOf, IsSoundDirectory, IsSystemDinode, IsTrueEntry, of_journal, of_jindex, of_master, of_rindex}
-use Rattle.image_mount.specs.Marked.{IsKept, times_in}
+use Rattle.image_mount.specs.Marked.{IsKept, IsKeptWay, times_in}
 use Rattle.image_mount.specs.Mounted.{Journal, MountedValue, IsMounted, IsOfProfile, IsJournalOf}
 use Rattle.image_mount.specs.Refusals.{RefusesRightly, IsExcused}
-use Rattle.image_mount.specs.Rings.{IsSearched, AreRings, AreJournals, IsLowJournal, IsRingOf, all_places}
+use Rattle.image_mount.specs.Rings.{AreKeptWays, IsSearched, AreRings, AreJournals, IsLowJournal, IsRingOf, all_places}
 use Rattle.image_mount.specs.System.{HasDinodes, IsSystemOf, layout_of}
 use Rattle.image_mount.specs.Kept.{Kept}
 use Rattle.shared_disk.specs.Disk.{DiskState}
@@ -27,6 +28,7 @@ use Rattle.image_mount.specs.declared.journals.Ring.{Ring}
 use Rattle.image_mount.specs.declared.system.System.{System}
 use Rattle.image_mount.proofs.Accepts.{excused}
 use Rattle.image_mount.proofs.Looks.{true_record}
+use Rattle.image_mount.proofs.KeptWays.{off_way}
 use Rattle.image_mount.proofs.Marked.{places_apart}
 use Rattle.image_mount.proofs.Names.{all_at, mapped_at, from_mapped}
 use Rattle.image_mount.proofs.Places.{block_there}
@@ -47,9 +49,10 @@ pub mounted : (im : Image) (system : System) (rings : List Ring) (journals : Lis
     → All (λ (r : Ring). All (IsInGroups system.groups.items) r.blocks.items) rings → ((b : ℕ) → times_in (all_places rings) b ≤ 1)
     → All (λ (r : Ring). (r.dinode ≢ system.superblock.master.address) × (r.dinode ≢ system.rindex)) rings
     → (k : Kept) → HasDinodes im k system → All (λ (r : Ring). IsKept k r.dinode) rings
+    → All (λ (r : Ring). AreKeptWays im k r.dinode r.blocks.items) rings
     → ((j p b : ℕ) (r : Ring) → slice_get rings j ≡ Some r → slice_get r.blocks.items p ≡ Some b → ¬ (IsKept k b))
     → m.superblock ≡ system.superblock → m.groups ≡ map group_of_entry system.groups.items → m.journals ≡ journals → IsMounted im m
-mounted im system rings journals m looked are found placed once own k dinodes_kept rings_kept unkept super groups same = record {
+mounted im system rings journals m looked are found placed once own k dinodes_kept rings_kept ways_kept unkept super groups same = record {
   layout = l;
   found = looked.names;
   profile = record {
@@ -106,6 +109,13 @@ mounted im system rings journals m looked are found placed once own k dinodes_ke
         let there = place_at i q b other in
         places_apart rings j i p q b here.0 there.0 (once b) here.1 there.1 here.2 there.2;
     ways = λ j d p at low. (ring_at j d at).2.are.headed p low;
+    clear = λ j p b place i d q at low.
+        let here = place_at j p b place in
+        let ring = from_mapped (λ (r : Ring). r.dinode) rings i d (ap (λ ds. slice_get ds i) are.dinodes ∙ at) in
+        let to = place_at i q (content_block (every im d) q) (record { dinode = d; at = at; low = low; is = refl }) in
+        let way = all_at (λ (r : Ring). AreKeptWays im k r.dinode r.blocks.items) rings i to.0 ways_kept to.1 q (slice_get_within to.0.blocks.items q (content_block (every im d) q) to.2) in
+        let dinode : to.0.dinode ≡ d = ap (λ (r : Ring). r.dinode) (same_some to.0 ring.0 (sym to.1 ∙ ring.1)) ∙ ring.2 in
+        off_way k b (unkept j p b here.0 here.1 here.2) (every im d) q (subst (λ x. IsKeptWay k (every im x) q) dinode way);
     beside = λ j p b place dinode. let here = place_at j p b place in unkept j p b here.0 here.1 here.2 (dinode_kept b dinode);
   };
   superblock = super ∙ looked.superblock;

@@ -31,3 +31,4 @@ pub mod ViewGroups
 pub mod Marked
 pub mod Sound
 pub mod SoundLeaves
+pub mod KeptWays

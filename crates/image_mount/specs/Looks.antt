@@ -1,11 +1,11 @@
 -- What mounting looked at in an image that it mounted, beside what it found there: the records by which the system files are found,
 -- their dinodes and the sizes that these say, the way to their content, the records and leaves of the directories, and the blocks at
 -- the places of journals. What docs/MOUNT.md lists beyond this is only tested, as it says.
-use Rattle.std.specs.Prelude.{ℕ, ◌≡◌, ◌≢◌, ◌+◌, ◌*◌, ◌/◌, ◌%◌, ◌<◌, ◌≤◌, true, false, List, length, codes, Contains}
+use Rattle.std.specs.Prelude.{ℕ, zero, suc, ⊤, ◌≡◌, ◌≢◌, ◌+◌, ◌-◌, ◌*◌, ◌/◌, ◌%◌, ◌<◌, ◌≤◌, true, false, List, length, codes, Contains}
 use Rattle.dinode_tree.specs.Reading.{IsHeadedAt, IsHeadedWay, IsRightDinode}
 use Rattle.file_tree.specs.Names.{IsName}
 use Rattle.gfs2_layout.specs.Holding.{Holding}
-use Rattle.gfs2_layout.specs.Inode.{content_block, content_count, dinode_in, entry, head_of, height_in, index_bits, is_directory_in, is_hashed_in, leaf_in, table_count, IsLeaf}
+use Rattle.gfs2_layout.specs.Inode.{content_block, content_count, dinode_in, entry, head_of, header_length, height_in, index_bits, is_directory_in, is_hashed_in, leaf_in, pointer, span, table_count, IsLeaf}
 use Rattle.gfs2_layout.specs.Journal.{ring_of}
 use Rattle.gfs2_layout.specs.Records.{Record, records_in, is_dots, IsRecordArea}
 use Rattle.gfs2_layout.specs.Structures.{dinode_length}
@@ -130,6 +130,17 @@ pub record IsPlaceOf (im : Image) (l : Layout) (j p b : ℕ) : Type 0 where
   pub low : p < (ring_of (every im dinode)).places
   pub is : content_block (every im dinode) p ≡ b
 
+-- block b is none of the indirect blocks from block c down, so many levels, to the block of content with index i below it
+abbrev pub IsOffDown : ℕ → Holding → ℕ → ℕ → ℕ → Type 0
+IsOffDown b h zero c i = ⊤
+IsOffDown b h (suc level) c i = (c ≢ b) × IsOffDown b h level (pointer h header_length c (i / span h.size level)) (i % span h.size level)
+
+-- nor of those on the way from the dinode to the block of content with index i
+abbrev pub IsOffWay : ℕ → Holding → ℕ → Type 0
+IsOffWay b h i =
+    let level = height_in h - 1 in
+    IsOffDown b h level (pointer h dinode_length h.own (i / span h.size level)) (i % span h.size level)
+
 -- the block has the dinode of the master directory, of `rindex`, of `jindex` or of a journal
 pub data IsSystemDinode (l : Layout) : ℕ → Type 0 where
   of_master : IsSystemDinode l l.master
@@ -164,5 +175,7 @@ pub record IsLookedOver (im : Image) (l : Layout) : Type 0 where
   pub apart : (j i p q b : ℕ) → IsPlaceOf im l j p b → IsPlaceOf im l i q b → (j ≡ i) × (p ≡ q)
   -- the blocks of pointers on the way to it have their headers
   pub ways : (j d p : ℕ) → IsJournalAt l j d → p < (ring_of (every im d)).places → IsHeadedWay (every im d) p
-  -- no dinode of these files is at one
+  -- no block of pointers on the way to a place of a journal is at one
+  pub clear : (j p b : ℕ) → IsPlaceOf im l j p b → (i d q : ℕ) → IsJournalAt l i d → q < (ring_of (every im d)).places → IsOffWay b (every im d) q
+  -- nor is a dinode of these files
   pub beside : (j p b : ℕ) → IsPlaceOf im l j p b → ¬ (IsSystemDinode l b)

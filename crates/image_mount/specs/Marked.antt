@@ -1,5 +1,8 @@
 -- The places of journals, as they are marked one by one.
-use Rattle.std.specs.Prelude.{ℕ, ◌≡◌, ◌≢◌, ◌+◌, ◌==◌, Bool, true, false, List, Option, None, Some, count_by, slice_get}
+use Rattle.std.specs.Prelude.{ℕ, zero, suc, ⊤, ◌≡◌, ◌≢◌, ◌+◌, ◌-◌, ◌/◌, ◌%◌, ◌==◌, Bool, true, false, List, Option, None, Some, count_by, slice_get}
+use Rattle.gfs2_layout.specs.Holding.{Holding}
+use Rattle.gfs2_layout.specs.Inode.{header_length, height_in, pointer, span}
+use Rattle.gfs2_layout.specs.Structures.{dinode_length}
 use Rattle.image_mount.specs.Kept.{Kept, seen_of}
 
 abbrev pub one_if : Option Bool → ℕ
@@ -14,6 +17,17 @@ marks_of k b = one_if (slice_get k.places b)
 -- the block was read and is kept
 abbrev pub IsKept : Kept → ℕ → Type 0
 IsKept k b = (seen_of k).block_at b ≢ None
+
+-- each indirect block from block b down, so many levels, to the block of content with index i below it is kept
+abbrev pub IsKeptDown : Kept → Holding → ℕ → ℕ → ℕ → Type 0
+IsKeptDown k h zero b i = ⊤
+IsKeptDown k h (suc level) b i = IsKept k b × IsKeptDown k h level (pointer h header_length b (i / span h.size level)) (i % span h.size level)
+
+-- so is each on the way from the dinode to the block of content with index i
+abbrev pub IsKeptWay : Kept → Holding → ℕ → Type 0
+IsKeptWay k h i =
+    let level = height_in h - 1 in
+    IsKeptDown k h level (pointer h dinode_length h.own (i / span h.size level)) (i % span h.size level)
 
 -- no block that is a place is kept
 abbrev pub AreUnkept : Kept → Type 0

@@ -23,6 +23,7 @@ use Rattle.image_mount.specs.Searching.{IsSystemFile, IsWanted}
 use Rattle.image_mount.specs.Groups.{IsNamedIn}
 use Rattle.image_mount.specs.System.{IsSystemOf}
 use Rattle.image_mount.specs.Kept.{Kept, seen_of}
+use Rattle.image_mount.specs.Marked.{IsKeptWay}
 use Rattle.image_mount.specs.declared.journals.Ring.{Ring}
 use Rattle.image_mount.specs.declared.system.System.{System}
 
@@ -96,6 +97,10 @@ pub record AreRings (im : Image) (journals : List Entry) (rings : List Ring) : T
   pub dinodes : map (λ (ring : Ring). ring.dinode) rings ≡ map (λ (e : Entry). e.addr) journals
   pub each : All (λ (ring : Ring). IsRingOf im ring.dinode ring.blocks.items) rings
   pub entries : All (IsTrueEntry im) journals
+
+-- what leads to each of these places of the journal with its dinode in block d is kept
+abbrev pub AreKeptWays : Image → Kept → ℕ → List ℕ → Type 0
+AreKeptWays im k d blocks = (p : ℕ) → p < length blocks → IsKeptWay k (every im d) p
 
 -- the blocks at the places of all these journals
 abbrev pub all_places : List Ring → List ℕ

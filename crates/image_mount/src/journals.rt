@@ -12,9 +12,9 @@ ghost use Rattle.image_model.specs.Stands.{Layout, IsJournalAt};
 ghost use Rattle.image_mount.specs.Found.{HasNames};
 ghost use Rattle.image_mount.specs.Kept.{seen_of};
 ghost use Rattle.image_mount.specs.Looks.{IsInGroups, IsTrueEntry};
-ghost use Rattle.image_mount.specs.Marked.{AreMarked, IsGrown, IsKept, marks_of};
+ghost use Rattle.image_mount.specs.Marked.{AreMarked, IsGrown, IsKept, IsKeptWay, marks_of};
 ghost use Rattle.image_mount.specs.Refusals.{HasLowHead, HasRisen, IsJournalSized, IsReached, RefusesRightly};
-ghost use Rattle.image_mount.specs.Rings.{IsSearched, IsJournalIn, IsNext, HasPlaces, IsPlaceAt, AreBlocksOf, IsRingOf, AreRings, AreJournals, IsHeadOf, all_places, ring_at};
+ghost use Rattle.image_mount.specs.Rings.{AreKeptWays, IsSearched, IsJournalIn, IsNext, HasPlaces, IsPlaceAt, AreBlocksOf, IsRingOf, AreRings, AreJournals, IsHeadOf, all_places, ring_at};
 ghost use Rattle.image_mount.specs.Searching.{IsRead, IsSteady, IsWorking, LacksBlock, StopsRightly};
 ghost use Rattle.image_mount.specs.System.{IsSystemOf};
 
@@ -101,6 +101,7 @@ fn count_places<D: SharedDisk>(
 // The block at a place of a journal, which has no hole.
 fn block_at(table: &KeptBlocks, jindex: u64, journal: &Entry, place: u64) -> Result<Located, Stop>
     ensures found { (im : Image) → IsRead im table.now → IfOk result (IsPlaceAt im journal.now.addr place) }
+    ensures ways { (im : Image) → IsRead im table.now → IsKept table.now journal.now.addr → OnOk result (IsKeptWay table.now (every im journal.now.addr) place) }
     ensures stops { (im : Image) (places : ℕ) → IsRead im table.now → IsJournalIn im jindex journal.now → HasPlaces im journal.now.addr places → place < places → IfErr result (StopsRightly im) }
     ensures lacks { IfErr result (LacksBlock table.now) }
 {
@@ -126,6 +127,7 @@ fn find_block<D: SharedDisk>(
     requires work { IsWorking (D.state disk.old) table.old }
     ensures work { OnOk result (IsWorking (D.state disk.new) table.new) }
     ensures grown { OnOk result (IsGrown table.old table.new) }
+    ensures ways { OnOk result (IsTrue (D.state disk.old).tells → IsKept table.old journal.now.addr → IsKeptWay table.new (every (image_of (D.state disk.old)) journal.now.addr) place) }
     ensures places { table.new.places ≡ table.old.places }
     ensures found { IfOk result (λ located. IsTrue (D.state disk.old).tells → IsPlaceAt (image_of (D.state disk.old)) journal.now.addr place located) }
     ensures searched { OnOk result ((done : List ℕ) (d n places : ℕ) → IsTrue (D.state disk.old).tells → IsJournalIn (image_of (D.state disk.old)) jindex journal.now → HasPlaces (image_of (D.state disk.old)) journal.now.addr places → place < places
@@ -175,6 +177,7 @@ fn find_blocks<D: SharedDisk>(
     requires work { IsWorking (D.state disk.old) table.old }
     ensures work { OnOk result (IsWorking (D.state disk.new) table.new) }
     ensures grown { OnOk result (IsGrown table.old table.new) }
+    ensures ways { OnOk result (IsTrue (D.state disk.old).tells → IsKept table.old journal.now.addr → (p : ℕ) → p < places → IsKeptWay table.new (every (image_of (D.state disk.old)) journal.now.addr) p) }
     ensures found { IfOk result (λ blocks. (done : List ℕ) → IsTrue (D.state disk.old).tells → IsNext (image_of (D.state disk.old)) done system.now journal.now → HasPlaces (image_of (D.state disk.old)) journal.now.addr places
         → IsSearched (image_of (D.state disk.old)) done journal.now.addr 0 table.old → AreBlocksOf (image_of (D.state disk.old)) journal.now.addr places blocks.items) }
     ensures searched { OnOk result ((done : List ℕ) → IsTrue (D.state disk.old).tells → IsNext (image_of (D.state disk.old)) done system.now journal.now → HasPlaces (image_of (D.state disk.old)) journal.now.addr places
@@ -222,6 +225,7 @@ fn find_ring<D: SharedDisk>(
     ensures there { OnOk result (IsKept table.new journal.now.addr) }
     ensures work { OnOk result (IsWorking (D.state disk.new) table.new) }
     ensures grown { OnOk result (IsGrown table.old table.new) }
+    ensures ways { IfOk result (λ ring. IsTrue (D.state disk.old).tells → AreKeptWays (image_of (D.state disk.old)) table.new journal.now.addr ring.blocks.items) }
     ensures dinode { IfOk result (λ ring. ring.dinode ≡ journal.now.addr) }
     ensures repeats { OnOk result (IsTrue (D.state disk.old).tells → IsTrueEntry (image_of (D.state disk.old)) journal.now) }
     ensures found { IfOk result (λ ring. (done : List ℕ) → IsTrue (D.state disk.old).tells → IsNext (image_of (D.state disk.old)) done system.now journal.now → IsSearched (image_of (D.state disk.old)) done 0 0 table.old
@@ -251,6 +255,7 @@ pub(crate) fn find_rings<D: SharedDisk>(
     requires work { IsWorking (D.state disk.old) table.old }
     ensures work { OnOk result (IsWorking (D.state disk.new) table.new) }
     ensures grown { OnOk result (IsGrown table.old table.new) }
+    ensures ways { IfOk result (λ rings. IsTrue (D.state disk.old).tells → All (λ (ring : Ring). AreKeptWays (image_of (D.state disk.old)) table.new ring.dinode ring.blocks.items) rings.items) }
     ensures kept { IfOk result (λ rings. All (λ (ring : Ring). IsKept table.new ring.dinode) rings.items) }
     ensures found { IfOk result (λ rings. IsTrue (D.state disk.old).tells → IsSystemOf (image_of (D.state disk.old)) system.now → IsSearched (image_of (D.state disk.old)) [] 0 0 table.old → AreRings (image_of (D.state disk.old)) system.now.journals.items rings.items) }
     ensures refused { IsTrue (D.state disk.old).tells → IsSystemOf (image_of (D.state disk.old)) system.now → IsSearched (image_of (D.state disk.old)) [] 0 0 table.old → IfErr result (RefusesRightly (image_of (D.state disk.old))) }

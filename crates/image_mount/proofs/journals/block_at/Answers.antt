@@ -8,6 +8,7 @@ use Rattle.glock_names.specs.declared.steps.Step.TheVariants.{Is}
 use Rattle.image_model.specs.Claims.{every}
 use Rattle.image_mount.specs.Searching.{StopsRightly}
 use Rattle.image_mount.specs.Kept.{seen_of}
+use Rattle.image_mount.proofs.KeptWays.{kept_way}
 use Rattle.image_mount.proofs.Places.{found_block, wrong_hole, journal_format, journal_inode, journal_wanted, above_wanted}
 use Rattle.image_mount.proofs.Shown.{shown, damage_told, kept_on, leads_kept, needed_inside}
 use Rattle.image_mount.proofs.Steps.{answer_at, needed_at, seen_in, shown_by, lacks_needed}
@@ -69,3 +70,11 @@ returns-in-NeedBlock-2-clause-lacks c =
     let d = c.args.journal.now.addr in
     lacks_needed c.args.table.now (seen_in v d) _ 1 c.in-NeedBlock.missing _ c.reads.ensures
     (needed_at c.in_ok-located.field-0 c.in-NeedBlock.missing _ c.in-NeedBlock.is (c.in_ok-located.ensures.needed (seen_in v d) (shown_by v d)))
+
+pub returns-in-Is-Some-clause-ways : goal.returns-in-Is-Some-clause-ways
+returns-in-Is-Some-clause-ways c im read kept =
+    let d = c.args.journal.now.addr in
+    let v = seen_of c.args.table.now in
+    let is = c.in-Is-Some.is ∙ ap Is c.in-Is-Some.field-0-is in
+    kept_way im c.args.table.now d read c.args.place kept
+    (answer_at c.in_ok-located.field-0 (Some c.in-Is-Some.located) (λ o. IfSome o (λ (l : Located). IsHeadedWay (seen_in v d) c.args.place)) is (c.in_ok-located.ensures.headed (seen_in v d) (shown_by v d)))

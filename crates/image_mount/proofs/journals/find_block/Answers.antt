@@ -28,3 +28,8 @@ returns-in_err-go_on-in-Err-clause-refused g c done d n places tells of has low 
 
 pub returns-in-Ok-clause-found : goal.returns-in-Ok-clause-found
 returns-in-Ok-clause-found g c tells = c.in-Ok.ensures.found _ (read_now _ _ _ c.loop-located.invariant.reads.same tells c.loop-located.invariant.work)
+
+pub returns-in-Ok-clause-ways : goal.returns-in-Ok-clause-ways
+returns-in-Ok-clause-ways g c tells kept =
+    let inv = c.loop-located.invariant in
+    c.in-Ok.ensures.ways (image_of (g.D.SharedDisk.state c.args.disk.now)) (read_now _ _ _ inv.reads.same tells inv.work) (inv.grown.stays c.args.journal.now.addr kept)

@@ -7,6 +7,9 @@ use Rattle.shared_disk.specs.Disk.{DiskState}
 use Rattle.image_mount.specs.Rings.{AreBlocksOf, IsSearched}
 use Rattle.image_mount.specs.Looks.{IsInGroups}
 use Rattle.image_mount.specs.Marked.{AreMarked}
+use Rattle.image_mount.specs.Marked.{IsKept}
+use Rattle.image_model.specs.Claims.{every}
+use Rattle.image_mount.proofs.KeptWays.{way_stays, way_told, ways_more}
 use Rattle.image_mount.proofs.Marked.{grown_on, marked_on, marked_over}
 use Rattle.image_mount.proofs.Marks.{place_claim, is_place, marked_more}
 use Rattle.image_mount.proofs.Moved.{place_refused, place_searched, place_at, working_marked}
@@ -50,6 +53,10 @@ loop-place-preserved g c =
       marked = subst (AreMarked c.args.table.now c.mark.new.self) (sym items)
           (marked_on c.args.table.now c.find_block.new.table c.mark.new.self c.loop-place.blocks.items (located.block ∷ []) (marked_over c.args.table.now c.loop-place.table c.find_block.new.table c.loop-place.blocks.items inv.marked found.places)
           (c.mark.ensures.marked c.in_ok-check_place.ensures.unmarked));
+      ways = λ tells kept.
+          let marked_now = c.mark.ensures.grown c.in_ok-check_place.ensures.free in
+          let here = way_told _ _ c.find_block.new.table d c.loop-place.place (IsKept c.loop-place.table d) inv.reads.same found.ways tells (inv.grown.stays d kept) in
+          ways_more (image_of s) c.loop-place.table c.mark.new.self (grown_on _ _ _ found.grown marked_now) d c.loop-place.place (inv.ways tells kept) (way_stays c.find_block.new.table c.mark.new.self marked_now (every (image_of s) d) c.loop-place.place here);
       grown = grown_on _ _ _ inv.grown (grown_on _ _ _ found.grown (c.mark.ensures.grown c.in_ok-check_place.ensures.free));
       count = omega (arith, ap length items, length_push c.loop-place.blocks.items located.block, inv.count);
       found = λ done tells next has known.
@@ -74,3 +81,7 @@ pub returns-clause-searched : goal.returns-clause-searched
 returns-clause-searched g c done tells next has known =
     let all : c.loop-place.place ≡ c.args.places = omega (arith, c.loop-place-test.false, c.loop-place.auto.place-end) in
     subst (λ n. IsSearched (image_of (g.D.SharedDisk.state c.args.disk.now)) done c.args.journal.now.addr n c.loop-place.table) all (c.loop-place.invariant.searched done tells next has known)
+
+pub returns-clause-ways : goal.returns-clause-ways
+returns-clause-ways g c tells kept p low =
+    c.loop-place.invariant.ways tells kept p (omega (arith, low, c.loop-place-test.false))

@@ -1,8 +1,9 @@
 use Rattle.std.proofs.Common.{◌≡◌, ◌<◌, ℕ, List, length, IsTrue}
 use Rattle.std.specs.List.{All}
+use Rattle.image_model.specs.Claims.{every}
 use Rattle.image_model.specs.Image.{image_of}
 use Rattle.image_mount.specs.Looks.{IsInGroups}
-use Rattle.image_mount.specs.Marked.{AreMarked, IsGrown}
+use Rattle.image_mount.specs.Marked.{AreMarked, IsGrown, IsKept, IsKeptWay}
 use Rattle.image_mount.specs.Rings.{IsNext, IsSearched, HasPlaces, AreBlocksOf}
 use Rattle.image_mount.specs.Searching.{IsWorking}
 use Rattle.shared_disk.specs.Disk.{ReadsOnly}
@@ -13,6 +14,7 @@ invariant-loop-place g l = record {
   work : IsWorking (g.D.SharedDisk.state l.disk) l.table;
   inside : All (λ b. b < (g.D.SharedDisk.state l.initial.disk).count) l.blocks.items;
   placed : All (IsInGroups l.system.groups.items) l.blocks.items;
+  ways : IsTrue (g.D.SharedDisk.state l.initial.disk).tells → IsKept l.initial.table l.journal.addr → (p : ℕ) → p < l.place → IsKeptWay l.table (every (image_of (g.D.SharedDisk.state l.initial.disk)) l.journal.addr) p;
   grown : IsGrown l.initial.table l.table;
   marked : AreMarked l.initial.table l.table l.blocks.items;
   count : length l.blocks.items ≡ l.place;

@@ -1,6 +1,9 @@
+use Rattle.std.proofs.Common.{arith}
 use Rattle.image_model.specs.Image.{Image, image_of}
 use Rattle.image_mount.specs.Refusals.{RefusesRightly}
 use Rattle.image_mount.specs.Rings.{AreBlocksOf, IsSearched}
+use Rattle.image_mount.specs.Marked.{IsKept}
+use Rattle.image_mount.proofs.KeptWays.{ways_told}
 use Rattle.image_mount.proofs.Marked.{grown_on, marked_under}
 use Rattle.image_mount.proofs.Marks.{searched_done, searched_next}
 use Rattle.image_mount.proofs.Moved.{blocks_told, ring_is}
@@ -53,3 +56,9 @@ returns-clause-grown g c = grown_on c.args.table.now c.count_places.new.table c.
 
 pub returns-clause-there : goal.returns-clause-there
 returns-clause-there g c = c.in_ok-blocks.ensures.grown.stays c.args.journal.now.addr c.in_ok-places.ensures.there
+
+pub returns-clause-ways : goal.returns-clause-ways
+returns-clause-ways g c tells p low =
+    let d = c.args.journal.now.addr in
+    ways_told _ _ c.find_blocks.new.table d c.in_ok-places.places (IsKept c.count_places.new.table d) c.in_ok-places.ensures.reads.same c.in_ok-blocks.ensures.ways tells c.in_ok-places.ensures.there p
+    (omega (arith, low, c.in_ok-blocks.ensures.count))

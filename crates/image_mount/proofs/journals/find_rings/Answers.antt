@@ -6,6 +6,7 @@ use Rattle.image_mount.specs.Marked.{IsKept}
 use Rattle.image_mount.specs.Refusals.{RefusesRightly}
 use Rattle.image_mount.specs.Rings.{IsSearched}
 use Rattle.image_mount.specs.declared.journals.Ring.{Ring}
+use Rattle.image_mount.proofs.KeptWays.{ring_ways_told, rings_ways}
 use Rattle.image_mount.proofs.Marked.{grown_on, marked_ring, rings_kept}
 use Rattle.image_mount.proofs.Moved.{twice_list, twice_master, twice_journal, at_item, next_after, ring_told, ring_found, ring_searched, rings_more, rings_own, rings_with, inside_now, dinodes_more, entry_true}
 use Rattle.image_mount.proofs.Stops.{refused}
@@ -60,6 +61,8 @@ loop-journal-preserved g c =
       inside = rings_with (λ b. b < s.count) rings _ ring inv.inside (inside_now _ _ ring.blocks.items inv.reads.same read.inside) items;
       placed = rings_with (IsInGroups system.groups.items) rings _ ring inv.placed read.placed items;
       own = rings_own system.superblock.master.address system.rindex rings _ ring _ inv.own read.dinode c.if-journal-system.false c.if-journal-system-2.false items;
+      ways = λ tells.
+          rings_ways im c.loop-journal.table c.find_ring.new.table read.grown rings _ ring _ (inv.ways tells) read.dinode (ring_ways_told _ _ c.find_ring.new.table _ ring.blocks.items inv.reads.same read.ways tells) items;
       grown = grown_on c.args.table.now c.loop-journal.table c.find_ring.new.table inv.grown read.grown;
       kept = rings_kept c.loop-journal.table c.find_ring.new.table rings _ ring read.grown inv.kept (subst (IsKept c.find_ring.new.table) (sym read.dinode) read.there) items;
       marked = marked_ring c.args.table.now c.loop-journal.table c.find_ring.new.table rings _ ring inv.marked read.marked items;

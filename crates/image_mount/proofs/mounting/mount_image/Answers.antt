@@ -5,6 +5,7 @@ use Rattle.image_model.specs.Image.{image_of}
 use Rattle.image_mount.specs.Refusals.{RefusesRightly}
 use Rattle.image_mount.specs.Rings.{AreRings, all_places}
 use Rattle.image_mount.specs.System.{layout_of}
+use Rattle.image_mount.proofs.KeptWays.{rings_ways_told}
 use Rattle.image_mount.proofs.Marked.{marked_once, place_unkept, unkept_new}
 use Rattle.image_mount.proofs.Marks.{searched_new}
 use Rattle.image_mount.proofs.Moved.{stay_kept}
@@ -55,5 +56,6 @@ returns-clause-mounted g c tells =
     (stay_kept (image_of (g.D.SharedDisk.state c.args.disk.now)) c.search_system.new.table c.find_rings.new.table c.in_ok-system.system c.in_ok-rings.ensures.grown
     (c.in_ok-system.ensures.dinodes tells (searched_new (image_of (g.D.SharedDisk.state c.args.disk.now)) c.in_ok-table.table c.in_ok-table.ensures.empty c.in_ok-table.ensures.places)))
     c.in_ok-rings.ensures.kept
+    (rings_ways_told _ _ c.find_rings.new.table c.in_ok-rings.rings.items c.in_ok-system.ensures.reads.same c.in_ok-rings.ensures.ways tells)
     (λ j p b ring at there. place_unkept c.search_system.new.table c.find_rings.new.table c.in_ok-rings.rings.items j p b ring c.in_ok-rings.ensures.marked
     (c.in_ok-rings.ensures.grown.unkept (c.in_ok-system.ensures.grown.unkept (unkept_new c.in_ok-table.table c.in_ok-table.ensures.places))) at there) refl (c.in_ok-map_groups.ensures ∙ ap (map group_of_entry) c.deref.ensures.value) refl
