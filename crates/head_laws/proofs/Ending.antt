@@ -8,7 +8,7 @@ use Rattle.trace_text.specs.declared.item.TraceItem.{TraceItem}
 use Rattle.trace_text.specs.declared.item.TraceItem.TheVariants as trace
 use Rattle.run_rules.specs.Lives.{Life, AcceptedHead, last_number, to_its_end, fenced_behind, is_replays, lives_from, lives_of, losses_of, life_at}
 use Rattle.cluster_laws.specs.Mirror.{either}
-use Rattle.head_laws.specs.Journals.{Journal, present, IsEnd, IsNoted}
+use Rattle.head_laws.specs.Journals.{Journal, present, IsEnd, IsNoted, EachIsFenced}
 use Rattle.head_laws.specs.Laws.{lives_count}
 use Rattle.head_laws.proofs.Items.{true-false, eqb-other, eqb-self, first_of_two, last-on, ended, ended-on, end-open, lives-more, losses-on, count-on, life-newest, rest-on}
 use Rattle.head_laws.proofs.Values.{rest, mine, base, fence, own, value_of, kept_head, value, fence-more, closed-value, NotOwn, HeadsWithin, NoHeads, within-none, waiting-value, mine-open}
@@ -34,6 +34,14 @@ waits-value i behind j items l d within number o w =
     open-value i behind l items (trace.View 0) within (j.name d) o.going o.unfenced
     ∙ (waiting-value (behind l.join).sequence i (rest l items) (base i l items) (last_number i 0 items) (j.name d) w.heads (w.base ∙ sym number) (w.kind d) ∙ number)
 
+-- a life that ended and has no loss was fenced
+was-fenced : (i : ℕ) (behind : ℕ → AcceptedHead) (j : Journal) (items : List TraceItem) (n : ℕ) (l : Life) → EachIsFenced j → losses_of i items ≤ n → n < losses_of i items + j.unlost
+    → Closed i behind j items n l → (p : ℕ) × (fence i l items ≡ Some p)
+was-fenced i behind j items n l who low high c = elim who [
+  | inl e ↦ c.fenced (inr (inr e))
+  | inr e ↦ elim e [ inl runs ↦ c.fenced (inr (inl runs)) | inr none ↦ absurd (omega (arith, low, high, none)) ]
+]
+
 noted-here : (i : ℕ) (behind : ℕ → AcceptedHead) (j : Journal) (items : List TraceItem) (inv : Inv i behind j items) (n : ℕ) (l : Life) (h : AcceptedHead) → life_at i n (lives_of items) ≡ Some l
     → losses_of i items + j.unlost ≤ n → l.node ≡ i → ended i (rest l items) ≡ false → IsNoted i j items h → own (behind l.join).sequence i (rest l items) h ≡ false
 noted-here i behind j items inv n l h is low node going noted =
@@ -51,7 +59,7 @@ noted-here i behind j items inv n l h is low node going noted =
 abbrev pub replayed : Journal → ℕ → AcceptedHead → Bool → Journal
 replayed j r h silent = record j { cut = either (j.cut false) (j.cut false); name = either (j.name false) h; flies = Some r; silent = silent }
 
-pub replays : (i : ℕ) (behind : ℕ → AcceptedHead) (j : Journal) (items : List TraceItem) (r : ℕ) (h : AcceptedHead) (silent : Bool) → j.waits ≡ true → (j.fenced ≡ true) ⊎ (j.runs ≡ true) → j.flies ≡ None
+pub replays : (i : ℕ) (behind : ℕ → AcceptedHead) (j : Journal) (items : List TraceItem) (r : ℕ) (h : AcceptedHead) (silent : Bool) → j.waits ≡ true → EachIsFenced j → j.flies ≡ None
     → h.is_clean ≡ true → (j.name false).sequence ≤ h.sequence → (silent ≡ true → (r ≡ i) × (j.runs ≡ true)) → (silent ≡ false → IsNoted i j items h) → Inv i behind j items → Inv i behind (replayed j r h silent) items
 replays i behind j items r h silent waits who alone clean later own-last noted inv = record {
   number = inv.number;
@@ -66,7 +74,7 @@ replays i behind j items r h silent waits who alone clean later own-last noted i
       record {
         node = g.node;
         within = g.within;
-        closed = λ c. closes n l (g.closed c);
+        closed = λ c. closes n l low c (g.closed c);
         present = λ p. opens n l is p g.node (g.present p);
       };
 }
@@ -75,13 +83,13 @@ replays i behind j items r h silent waits who alone clean later own-last noted i
     evens u why false = inv.even u why false
     evens u why true = inv.even u why false
 
-    closes : (n : ℕ) (l : Life) → Closed i behind j items n l → Closed i behind (replayed j r h silent) items n l
-    closes n l c = record { over = c.over; told = told; fenced = c.fenced }
+    closes : (n : ℕ) (l : Life) → losses_of i items ≤ n → n < losses_of i items + j.unlost → Closed i behind j items n l → Closed i behind (replayed j r h silent) items n l
+    closes n l low high c = record { over = c.over; told = told; fenced = c.fenced }
       where
         told : (d : Bool) → value i behind l items (either (j.name false) h d) ≡ cond (n == losses_of i items) (either (j.cut false) (j.cut false) d) j.last
         told false = c.told false
         told true =
-            let f = c.fenced (elim who [ inl e ↦ inr (inr e) | inr e ↦ inr (inl e) ]) in
+            let f = was-fenced i behind j items n l who low high c in
             fenced-value i behind l items h (j.name false) f.0 f.1 ∙ c.told false
 
     opens : (n : ℕ) (l : Life) → life_at i n (lives_of items) ≡ Some l → losses_of i items + j.unlost ≤ n → l.node ≡ i → Open i behind j items l → Open i behind (replayed j r h silent) items l
@@ -114,7 +122,7 @@ replays i behind j items r h silent waits who alone clean later own-last noted i
 abbrev pub past_replayed : Journal → AcceptedHead → Journal
 past_replayed j h = record j { name = λ d. h }
 
-pub replays-past : (i : ℕ) (behind : ℕ → AcceptedHead) (j : Journal) (items : List TraceItem) (h : AcceptedHead) → j.waits ≡ true → (j.fenced ≡ true) ⊎ (j.runs ≡ true) → j.flies ≡ None
+pub replays-past : (i : ℕ) (behind : ℕ → AcceptedHead) (j : Journal) (items : List TraceItem) (h : AcceptedHead) → j.waits ≡ true → EachIsFenced j → j.flies ≡ None
     → h.is_clean ≡ true → (j.name false).sequence ≤ h.sequence → IsNoted i j items h → Inv i behind j items → Inv i behind (past_replayed j h) items
 replays-past i behind j items h waits who alone clean later noted inv = record {
   number = inv.number;
@@ -129,15 +137,15 @@ replays-past i behind j items h waits who alone clean later noted inv = record {
       record {
         node = g.node;
         within = g.within;
-        closed = λ c. closes n l (g.closed c);
+        closed = λ c. closes n l low c (g.closed c);
         present = λ p. opens n l is p g.node (g.present p);
       };
 }
   where
-    closes : (n : ℕ) (l : Life) → Closed i behind j items n l → Closed i behind (past_replayed j h) items n l
-    closes n l c = record {
+    closes : (n : ℕ) (l : Life) → losses_of i items ≤ n → n < losses_of i items + j.unlost → Closed i behind j items n l → Closed i behind (past_replayed j h) items n l
+    closes n l low high c = record {
       over = c.over;
-      told = λ d. (let f = c.fenced (elim who [ inl e ↦ inr (inr e) | inr e ↦ inr (inl e) ]) in fenced-value i behind l items h (j.name d) f.0 f.1 ∙ c.told d);
+      told = λ d. (let f = was-fenced i behind j items n l who low high c in fenced-value i behind l items h (j.name d) f.0 f.1 ∙ c.told d);
       fenced = c.fenced;
     }
 

@@ -9,3 +9,4 @@ pub mod Tracing
 pub mod Remaining
 pub mod Example
 pub mod Happening
+pub mod DirtyStart

@@ -47,7 +47,7 @@ event-keeps i behind j _ items _ (journals.Replays r h waits who alone clean lat
     by false s = subst (λ (b : Bool). Inv i behind (record j { cut = either (j.cut false) (j.cut false); name = either (j.name false) h; flies = Some r; silent = b }) items) (sym s)
         (replays i behind j items r h false waits who alone clean later (λ e. true-false e refl) (λ e. noted) inv)
 event-keeps i behind j _ items _ (journals.ReplaysLast h waits runs loud alone clean later) inv =
-    replays i behind j items i h true waits (inr runs) alone clean later (λ e. (refl, runs)) (λ e. true-false refl e) inv
+    replays i behind j items i h true waits (inr (inl runs)) alone clean later (λ e. (refl, runs)) (λ e. true-false refl e) inv
 event-keeps i behind j _ items _ (journals.ReplaysPast h waits who alone clean later noted) inv = replays-past i behind j items h waits who alone clean later noted inv
 event-keeps i behind j _ items _ (journals.Ends d may) inv = ends i behind j items d may inv
 event-keeps i behind j _ items _ (journals.Commits sequence upto runs acts loud flies) inv = commits i behind j items sequence upto runs acts loud flies inv

@@ -59,6 +59,10 @@ IsEnd node (trace.Crash i) = i ≡ node
 IsEnd node (trace.Withdraw i before after) = i ≡ node
 IsEnd node _ = ⊥
 
+-- each life that ended and has no loss was fenced: the node was since its stop, or runs again, or there is none, as before its first join
+abbrev pub EachIsFenced : Journal → Type 0
+EachIsFenced j = (j.fenced ≡ true) ⊎ ((j.runs ≡ true) ⊎ (j.unlost ≡ 0))
+
 -- where the node runs, a replay's write to this head's block stands in its present life
 abbrev pub IsNoted : ℕ → Journal → List TraceItem → AcceptedHead → Type 0
 IsNoted node j items h = j.runs ≡ true → (l : Life) → present node j items ≡ Some l → is_replays node h.block false (items_of l items) ≡ true
@@ -87,14 +91,14 @@ pub data Event (node : ℕ) (behind : ℕ → AcceptedHead) (j : Journal) (items
         flies = Some node;
         silent = true;
       }) items
-  -- a clean header of a replay, once the node is fenced. Where it runs again, the header's item stands; or it is the last that the node itself does in this life
-  Replays : (r : ℕ) (h : AcceptedHead) → j.waits ≡ true → (j.fenced ≡ true) ⊎ (j.runs ≡ true) → j.flies ≡ None → h.is_clean ≡ true → (j.name false).sequence ≤ h.sequence
+  -- a clean header of a replay, once each life without a loss is fenced. Where the node runs, the header's item stands; or it is the last that the node itself does in this life
+  Replays : (r : ℕ) (h : AcceptedHead) → j.waits ≡ true → EachIsFenced j → j.flies ≡ None → h.is_clean ≡ true → (j.name false).sequence ≤ h.sequence
       → IsNoted node j items h
       → Event node behind j items (record j { cut = either (j.cut false) (j.cut false); name = either (j.name false) h; flies = Some r }) items
   ReplaysLast : (h : AcceptedHead) → j.waits ≡ true → j.runs ≡ true → j.silent ≡ false → j.flies ≡ None → h.is_clean ≡ true → (j.name false).sequence ≤ h.sequence
       → Event node behind j items (record j { cut = either (j.cut false) (j.cut false); name = either (j.name false) h; flies = Some node; silent = true }) items
   -- where the slot waits since the start: such a header of the ring that speaks for the past
-  ReplaysPast : (h : AcceptedHead) → j.waits ≡ true → (j.fenced ≡ true) ⊎ (j.runs ≡ true) → j.flies ≡ None → h.is_clean ≡ true → (j.name false).sequence ≤ h.sequence → IsNoted node j items h
+  ReplaysPast : (h : AcceptedHead) → j.waits ≡ true → EachIsFenced j → j.flies ≡ None → h.is_clean ≡ true → (j.name false).sequence ≤ h.sequence → IsNoted node j items h
       → Event node behind j items (record j { name = λ d. h }) items
   -- a header is on the disk, or never will be; a commit says the first of the node's own
   Ends : (d : Bool) → (j.runs ≡ true → (j.silent ≡ false) × (j.waits ≡ false → d ≡ true))

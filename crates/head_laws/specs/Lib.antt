@@ -3,3 +3,4 @@ pub mod Laws
 pub mod Traces
 pub mod Example
 pub mod Tellings
+pub mod DirtyStart

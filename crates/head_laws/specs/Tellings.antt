@@ -10,7 +10,7 @@ use Rattle.cluster_laws.specs.Mirror.{either}
 use Rattle.cluster_laws.specs.World as world
 use Rattle.cluster_events.specs.Cluster.{Cluster, Together, Event, Works, Stops, Fences, Joins, PastEnds}
 use Rattle.tree_histories.specs.Trees.{Images, Trees, history_of}
-use Rattle.head_laws.specs.Journals.{present, head_item, unnamed_upto, IsEnd, IsNoted}
+use Rattle.head_laws.specs.Journals.{present, head_item, unnamed_upto, IsEnd, IsNoted, EachIsFenced}
 use Rattle.head_laws.specs.Traces.{Told, journal_of, Step, Steps, Begins}
 
 -- what there is beside the cluster: the names of heads, who is silent, and the items
@@ -44,8 +44,8 @@ pub data BeginTold (I : Images) (t : Told I) (u : Beside) (writer i cut : ℕ) :
       → ((l : Life) → present i (journal_of I t i) (t.items) ≡ Some l
       → (cut ≡ unnamed_upto clean i ((((t.cluster).world).book).published i) l (t.items)) × (is_replays i block false (items_of l (t.items)) ≡ false))
       → Changed I t u (with_name I t i (next_name I t i clean block)) (at (t.silent) i true) [] → BeginTold I t u writer i cut
-  -- of a replay, once the node is fenced: where that runs again its item stands; or it is the last that the node writes itself
-  Replay : (h : AcceptedHead) → (t.cluster).waits i ≡ true → ((t.cluster).fenced i ≡ true) ⊎ ((t.cluster).runs i ≡ true) → h.is_clean ≡ true → (t.names i false).sequence ≤ h.sequence
+  -- of a replay, once each life of the node without a loss is fenced, as of the past, which has none: where the node runs the item stands; or it is the last that the node writes itself
+  Replay : (h : AcceptedHead) → (t.cluster).waits i ≡ true → EachIsFenced (journal_of I t i) → h.is_clean ≡ true → (t.names i false).sequence ≤ h.sequence
       → IsNoted i (journal_of I t i) (t.items) h → Changed I t u (with_name I t i h) (t.silent) [] → BeginTold I t u writer i cut
   ReplayLast : (h : AcceptedHead) → (t.cluster).waits i ≡ true → writer ≡ i → t.silent i ≡ false → h.is_clean ≡ true → (t.names i false).sequence ≤ h.sequence
       → Changed I t u (with_name I t i h) (at (t.silent) i true) [] → BeginTold I t u writer i cut
@@ -98,7 +98,7 @@ MaySay I t _ = ⊤
 -- the clean header of a replay of the past's ring may come to the disk
 pub record MayLand (I : Images) (t : Told I) (i : ℕ) (h : AcceptedHead) : Type 0 where
   pub waits : (t.cluster).waits i ≡ true
-  pub over : ((t.cluster).fenced i ≡ true) ⊎ ((t.cluster).runs i ≡ true)
+  pub over : EachIsFenced (journal_of I t i)
   pub alone : (t.cluster).header_of i ≡ None
   pub clean : h.is_clean ≡ true
   pub later : (t.names i false).sequence ≤ h.sequence

@@ -1,6 +1,7 @@
 //! Which head a loss counts from, by the items of the trace.
 #![tactic(auto)]
 
+ghost use Rattle.head_laws.specs.DirtyStart.{DirtyStartIsTold};
 ghost use Rattle.head_laws.specs.Example.{JournalCanLive};
 ghost use Rattle.head_laws.specs.Laws.{HeadsAreTold};
 ghost use Rattle.head_laws.specs.Tellings.{TellingIsStep};
@@ -35,4 +36,10 @@ pub fn remains_stand<T: TreeImages>()
 /// A law: the events can be: a node stops behind a header that has no item, its journal is replayed, and it joins again.
 pub fn a_journal_can_live()
     ensures { JournalCanLive }
+{}
+
+/// A law: a run from a dirty start can be told: the one live block of node 1's journal goes home, the clean header comes to the disk, and
+/// the slot is recovered, with the items of this.
+pub fn a_dirty_start_can_be_told<T: TreeImages>()
+    ensures { DirtyStartIsTold T.images }
 {}
