@@ -38,7 +38,7 @@ use Rattle.image_mount.proofs.KeptLaws.{get_kept}
 pub beyond_super : (im : Image) (f : MountFault) (block : ℕ) → f ≡ fault.Damaged block 1 → block ≡ superblock_place im.size → im.count ≤ block → RefusesRightly im f
 beyond_super im f block is at high =
     let breaks : Breaks im 1 block = subst (Breaks im 1) (sym at) (no_superblock (omega (arith, high, at))) in
-    subst (RefusesRightly im) (sym is) (record { breaks = breaks; there = inr (refl, at) }, inl at)
+    subst (RefusesRightly im) (sym is) (record { breaks = breaks; there = inr (refl, at) }, inl (refl, at))
 
 pub beyond_all : (im : Image) (f : MountFault) (block from : ℕ) → f ≡ fault.Damaged from 2 → IsWanted im block from → im.count ≤ block → block ≢ superblock_place im.size → RefusesRightly im f
 beyond_all im f block from is wanted high other = elim wanted [

@@ -50,4 +50,4 @@ lacks_super im bytes e place f at same long read inside is =
     let lacks : ¬ (HasHeader 1 100 (im.at (superblock_place im.size))) = λ has.
     answered_err (header_fault 272 1 100 bytes) (superblock_of bytes) e read (header_well 272 1 100 bytes long (subst (HasHeader 1 100) (ap im.at (sym at) ∙ same) has)) in
     let breaks : Breaks im 1 (superblock_place im.size) = no_header (superblock_place im.size) 1 100 of_superblock lacks in
-    subst (RefusesRightly im) (sym is) (record { breaks = subst (Breaks im 1) (sym at) breaks; there = inl inside }, inl at)
+    subst (RefusesRightly im) (sym is) (record { breaks = subst (Breaks im 1) (sym at) breaks; there = inl inside }, inl (refl, at))

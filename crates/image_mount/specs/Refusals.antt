@@ -68,10 +68,10 @@ pub record IsReached (im : Image) (b : ℕ) : Type 0 where
   pub inside : b < im.count
   pub claimed : (b ≡ superblock_place im.size) ⊎ ((by : ℕ) × ((o : Owner) × Claims im by b o))
 
--- The cause of each refusal in the image. A broken rule behind the superblock is told only where the formats are those of the profile.
+-- The cause of each refusal in the image. But for a superblock that lacks its header, or isn't there, a broken rule is told only where the formats are those of the profile.
 abbrev pub RefusesRightly : Image → MountFault → Type 0
 RefusesRightly im (fault.NotProfile what value) = IsOutside im what value
-RefusesRightly im (fault.Damaged block rule) = IsBrokenBlock im rule block × ((block ≡ superblock_place im.size) ⊎ HasFormat im)
+RefusesRightly im (fault.Damaged block rule) = IsBrokenBlock im rule block × (((rule ≡ 1) × (block ≡ superblock_place im.size)) ⊎ HasFormat im)
 RefusesRightly im (fault.DeviceFault block before after) = IsReached im block
 RefusesRightly im (fault.NotBuilt block) = IsJindex im block × IsHashedAt im block × HasFormat im
 RefusesRightly im fault.NoMemory = ⊤
