@@ -23,7 +23,8 @@ use Rattle.lock_steps.specs.Ties.{in_view, grants}
 use Rattle.lock_steps.specs.Calls.{MailCall}
 use Rattle.conversion_laws.specs.Parts.{Parts, now_says, call_of, lock_in_table, table_mode}
 
--- ---- a node, whose conditions are about its own holder alone
+-- ---- a node. Its asks and lowers have conditions on its own holder alone; what is dropped and written besides makes no call at the
+-- master and is no grant of it
 
 -- the node has this now, and writes this to the lock's master
 abbrev pub tells : Parts → ℕ → Holdings → Body → Parts
