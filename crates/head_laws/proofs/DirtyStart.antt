@@ -1,24 +1,24 @@
 -- A run from a dirty start, event by event.
-use Rattle.std.proofs.Common.{ℕ, suc, ◌≡◌, ◌≤◌, ◌<◌, ◌⊎◌, inl, inr, Bool, true, false, Option, None, Some, List, [], ◌∷◌, ◌++◌, refl, sym, ap, ◌∙◌, subst, arith}
+use Rattle.std.proofs.Common.{ℕ, ◌≡◌, ◌⊎◌, inl, inr, Bool, true, false, Option, None, Some, List, [], ◌∷◌, ◌++◌, refl, sym, ap, ◌∙◌, subst, arith}
 use Rattle.std.specs.Prelude.{◌==◌, ◌||◌, if◌then◌else◌}
-use Rattle.std.proofs.lemmas.Bool.{cases_eq, cases_Bool}
+use Rattle.std.proofs.lemmas.Bool.{cases_eq}
 use Rattle.file_tree.specs.Tree.{Tree}
 use Rattle.trace_text.specs.declared.item.TraceItem.{TraceItem}
 use Rattle.trace_text.specs.declared.item.TraceItem.TheVariants as trace
 use Rattle.script_lang.specs.declared.script.Client.{Client}
 use Rattle.run_rules.specs.Lives.{Life, AcceptedHead, items_of, is_replays}
 use Rattle.cluster_laws.specs.Files.{Files, Image, Un, laid}
-use Rattle.cluster_laws.specs.Book.{at, Book, flushed, settled, relocked}
+use Rattle.cluster_laws.specs.Book.{at, flushed, settled, relocked}
 use Rattle.cluster_laws.specs.Mirror.{Head, Heads, either, ended, flown, headed, chosen}
 use Rattle.cluster_laws.specs.World as world
 use Rattle.cluster_laws.specs.World.{World}
 use Rattle.cluster_events.specs.Cluster.{Cluster, Event, BookOf, with_book, freed}
 use Rattle.cluster_events.specs.Cluster as cluster
-use Rattle.event_lists.specs.Begins.{Start, IsStart, started, owner_of}
+use Rattle.event_lists.specs.Begins.{IsStart, owner_of}
 use Rattle.event_lists.proofs.Beginning.{dirty_start as starts}
 use Rattle.tree_histories.specs.Trees as trees
 use Rattle.tree_histories.specs.Trees.{Images, Trees}
-use Rattle.head_laws.specs.Example.{head, clean}
+use Rattle.head_laws.specs.Example.{clean}
 use Rattle.head_laws.specs.Journals.{Journal, Events, IsNew, IsNoted, Says, Joins, Done, Then}
 use Rattle.head_laws.specs.Traces.{Told, journal_of, Begins}
 use Rattle.head_laws.specs.Tellings.{Beside, told_of, Changed, Replay, Settled, Tellings, Nothing, AnEvent, AnItem, Lands}

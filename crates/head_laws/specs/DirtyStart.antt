@@ -1,5 +1,5 @@
 -- That a run from a dirty start can be told. Node 1's journal has one block live, which is the past's; node 1 replays it, and its slot is recovered.
-use Rattle.std.specs.Prelude.{ℕ, ◌≡◌, ◌==◌, ◌||◌, ⊤, true, false, None, Some, List, [], ◌∷◌, if◌then◌else◌}
+use Rattle.std.specs.Prelude.{ℕ, ◌≡◌, ◌==◌, ◌||◌, false, None, Some, List, [], ◌∷◌, if◌then◌else◌}
 use Rattle.file_tree.specs.Tree.{Tree}
 use Rattle.trace_text.specs.declared.item.TraceItem.{TraceItem}
 use Rattle.trace_text.specs.declared.item.TraceItem.TheVariants as trace
