@@ -1,16 +1,17 @@
 -- Who is called back, and how far.
-use Rattle.std.proofs.Common.{ℕ, ◌≡◌, Bool, true, false, List, [], ◌∷◌, ◌++◌, None, Some, cond, refl, sym, ap, ◌∙◌}
-use Rattle.std.specs.Prelude.{◌&&◌, not, fold, filter}
-use Rattle.std.specs.List.{list_all}
+use Rattle.std.proofs.Common.{ℕ, zero, suc, ◌≡◌, Bool, true, false, List, [], ◌∷◌, ◌++◌, Option, None, Some, cond, refl, sym, ap, ◌∙◌, subst, arith}
+use Rattle.std.specs.Prelude.{◌==◌, ◌&&◌, not, fold, filter, map, Contains}
+use Rattle.std.specs.List.{list_all, filter_map, cons_option}
 use Rattle.dlm_modes.specs.declared.Mode.{Mode}
 use Rattle.dlm_modes.specs.declared.Mode.TheVariants.{Nl, Cr, Cw, Pr, Pw, Ex}
 use Rattle.dlm_modes.specs.Modes.{go_together, is_at_least}
 use Rattle.dlm_modes.proofs.ModeLaws.{covers-itself, covers-through}
 use Rattle.dlm_master.specs.declared.claims.Claim.{Claim}
-use Rattle.dlm_master.specs.Claims.{is_of}
+use Rattle.dlm_master.specs.Claims.{is_of, Absent, OneEach}
 use Rattle.dlm_master.specs.LockState.{LockState}
-use Rattle.dlm_master.specs.Locks.{most_beside, most_below, kept_beside, may_keep}
-use Rattle.dlm_master.specs.Laws.{other_waiters, GoesWithAll, IsMostKept, CallbacksAreDue}
+use Rattle.dlm_master.specs.Locks.{claim, most_beside, most_below, kept_beside, may_keep, callback_to}
+use Rattle.dlm_master.specs.Laws.{other_waiters, GoesWithAll, IsMostKept, IsCalledRightly, CallbacksAreDue}
+use Rattle.dlm_master.proofs.ClaimLaws.{of-not}
 
 no-way : {A : Type 0} → false ≡ true → A
 no-way e = absurd (let f : false ≡ true = e in cc)
@@ -199,10 +200,17 @@ two : (a b : Bool) → (a && b) ≡ true → (a ≡ true) × (b ≡ true)
 two true b e = (refl, e)
 two false b e = no-way e
 
-pub callbacks-are-due : CallbacksAreDue
-callbacks-are-due l c = record {
+-- what is said of a holder's callback
+record IsSaid (l : LockState) (c : Claim) : Type 0 where
+  spared : GoesWithAll (other_waiters l c.node) c.mode → callback_to l c ≡ None
+  called : (GoesWithAll (other_waiters l c.node) c.mode → ⊥) → callback_to l c ≡ Some (c.node, may_keep l c)
+  most : IsMostKept c.mode (may_keep l c) (other_waiters l c.node)
+
+is-said : (l : LockState) (c : Claim) → IsSaid l c
+is-said l c = record {
   spared = λ all. ap (λ b. cond b None (Some (c.node, may_keep l c))) (covers-all all);
-  called = λ not_all. (may_keep l c, ap (λ b. cond b None (Some (c.node, may_keep l c))) (covers-less not_all), most);
+  called = λ not_all. ap (λ b. cond b None (Some (c.node, may_keep l c))) (covers-less not_all);
+  most = most;
 }
   where
     at-own : is_at_least (may_keep l c) c.mode ≡ list_all (λ (w : Claim). go_together c.mode w.mode) (other_waiters l c.node)
@@ -227,3 +235,89 @@ callbacks-are-due l c = record {
       goes = goes-all (other_waiters l c.node) (may_keep l c) kept.1;
       most = λ mode below all. may-keep l c mode ∙ (ap (λ b. b && list_all (λ (w : Claim). go_together mode w.mode) (other_waiters l c.node)) below ∙ all-goes (other_waiters l c.node) mode all);
     }
+
+-- ---- all who are called back
+
+-- a holder is called back as itself
+as-itself : (l : LockState) (c : Claim) (b : ℕ × Mode) → callback_to l c ≡ Some b → b.0 ≡ c.node
+as-itself l c b e = by (is_at_least (may_keep l c) c.mode) e
+  where
+    by : (x : Bool) → cond x None (Some (c.node, may_keep l c)) ≡ Some b → b.0 ≡ c.node
+    by true e = absurd (let f : None ≡ Some b = e in cc)
+    by false e = let same : (c.node, may_keep l c) ≡ b = cc in sym (ap (λ (b : ℕ × Mode). b.0) same)
+
+-- what is called is told to some holder
+from-holder : (l : LockState) (cs : List Claim) (b : ℕ × Mode) → Contains (filter_map (callback_to l) cs) b → (c : Claim) × Contains cs c × (callback_to l c ≡ Some b)
+from-holder l [] b (k, h, e) = absurd (omega arith)
+from-holder l (c ∷ cs) b there = by (callback_to l c) refl there (from-holder l cs b)
+  where
+    later : (d : Claim) × Contains cs d × (callback_to l d ≡ Some b) → (d : Claim) × Contains (c ∷ cs) d × (callback_to l d ≡ Some b)
+    later (d, (k, h, e), said) = (d, (suc k, omega arith, e), said)
+
+    by : (o : Option (ℕ × Mode)) → callback_to l c ≡ o → Contains (cons_option o (filter_map (callback_to l) cs)) b
+        → (Contains (filter_map (callback_to l) cs) b → (d : Claim) × Contains cs d × (callback_to l d ≡ Some b)) → (d : Claim) × Contains (c ∷ cs) d × (callback_to l d ≡ Some b)
+    by None said there rest = later (rest there)
+    by (Some a) said (zero, h, e) rest = (c, (0, omega arith, refl), said ∙ ap (λ (b : ℕ × Mode). Some b) e)
+    by (Some a) said (suc k, h, e) rest = later (rest (k, omega arith, e))
+
+-- each holder's callback is among them
+to-holder : (l : LockState) (cs : List Claim) (c : Claim) (b : ℕ × Mode) → Contains cs c → callback_to l c ≡ Some b → Contains (filter_map (callback_to l) cs) b
+to-holder l [] c b (k, h, e) said = absurd (omega arith)
+to-holder l (d ∷ ds) c b (zero, h, e) said = subst (λ (o : Option (ℕ × Mode)). Contains (cons_option o (filter_map (callback_to l) ds)) b) (sym (ap (callback_to l) e ∙ said)) (0, omega arith, refl)
+to-holder l (d ∷ ds) c b (suc k, h, e) said = by (callback_to l d) (to-holder l ds c b (k, omega arith, e) said)
+  where
+    by : (o : Option (ℕ × Mode)) → Contains (filter_map (callback_to l) ds) b → Contains (cons_option o (filter_map (callback_to l) ds)) b
+    by None there = there
+    by (Some a) (k, h, e) = (suc k, omega arith, e)
+
+-- a node that isn't there
+not-there : (cs : List Claim) (c : Claim) → Absent c.node cs → Contains cs c → ⊥
+not-there [] c all (k, h, e) = omega arith
+not-there (d ∷ ds) c all (zero, h, e) = of-not d.node c.node all.0 (ap (λ (c : Claim). c.node) e)
+not-there (d ∷ ds) c all (suc k, h, e) = not-there ds c all.1 (k, omega arith, e)
+
+-- of a node there is one claim
+one-claim : (cs : List Claim) (c d : Claim) → OneEach cs → Contains cs c → Contains cs d → c.node ≡ d.node → c ≡ d
+one-claim [] c d one (k, h, e) there same = absurd (omega arith)
+one-claim (x ∷ xs) c d one (zero, h, e) (zero, g, f) same = sym e ∙ f
+one-claim (x ∷ xs) c d one (zero, h, e) (suc k, g, f) same =
+    absurd (not-there xs d (subst (λ (n : ℕ). Absent n xs) (ap (λ (c : Claim). c.node) e ∙ same) one.0) (k, omega arith, f))
+one-claim (x ∷ xs) c d one (suc k, h, e) (zero, g, f) same =
+    absurd (not-there xs c (subst (λ (n : ℕ). Absent n xs) (ap (λ (c : Claim). c.node) f ∙ sym same) one.0) (k, omega arith, e))
+one-claim (x ∷ xs) c d one (suc k, h, e) (suc j, g, f) same = one-claim xs c d one.1 (k, omega arith, e) (j, omega arith, f) same
+
+abbrev as_claims : List (ℕ × Mode) → List Claim
+as_claims = map (λ b. claim b.0 b.1)
+
+called-absent : (l : LockState) (cs : List Claim) (node : ℕ) → Absent node cs → Absent node (as_claims (filter_map (callback_to l) cs))
+called-absent l [] node all = tt
+called-absent l (c ∷ cs) node all = by (callback_to l c) refl (called-absent l cs node all.1)
+  where
+    by : (o : Option (ℕ × Mode)) → callback_to l c ≡ o → Absent node (as_claims (filter_map (callback_to l) cs)) → Absent node (as_claims (cons_option o (filter_map (callback_to l) cs)))
+    by None said rest = rest
+    by (Some b) said rest = (ap (λ (n : ℕ). n == node) (as-itself l c b said) ∙ all.0, rest)
+
+called-once : (l : LockState) (cs : List Claim) → OneEach cs → OneEach (as_claims (filter_map (callback_to l) cs))
+called-once l [] one = tt
+called-once l (c ∷ cs) one = by (callback_to l c) refl (called-once l cs one.1)
+  where
+    by : (o : Option (ℕ × Mode)) → callback_to l c ≡ o → OneEach (as_claims (filter_map (callback_to l) cs)) → OneEach (as_claims (cons_option o (filter_map (callback_to l) cs)))
+    by None said rest = rest
+    by (Some b) said rest = (subst (λ (n : ℕ). Absent n (as_claims (filter_map (callback_to l) cs))) (sym (as-itself l c b said)) (called-absent l cs c.node one.0), rest)
+
+rightly : (l : LockState) (c : Claim) → OneEach l.held → Contains l.held c → IsCalledRightly l c
+rightly l c one there =
+    let said = is-said l c in
+    record {
+      spared = λ all keep called. let from = from-holder l l.held (c.node, keep) called in
+          let same : c ≡ from.0 = one-claim l.held c from.0 one there from.1 (as-itself l from.0 (c.node, keep) from.2) in
+          absurd (let f : None ≡ Some (c.node, keep) = sym (said.spared all) ∙ (ap (callback_to l) same ∙ from.2) in cc);
+      called = λ not_all. (may_keep l c, to-holder l l.held c (c.node, may_keep l c) there (said.called not_all), said.most);
+    }
+
+pub callbacks-are-due : CallbacksAreDue
+callbacks-are-due = record {
+  holders = rightly;
+  once = λ l one. called-once l l.held one;
+  only = λ l node all. called-absent l l.held node all;
+}

@@ -1,5 +1,5 @@
 -- A cause that is named is so, and where none is named none is.
-use Rattle.std.proofs.Common.{ℕ, zero, suc, ◌≡◌, ◌≢◌, ◌<◌, Bool, true, false, List, [], ◌∷◌, ◌++◌, length, Option, None, Some, inl, inr, ◌⊎◌, refl, sym, ap, ◌∙◌, subst, arith}
+use Rattle.std.proofs.Common.{ℕ, zero, suc, ◌≡◌, ◌≢◌, ◌<◌, Bool, true, false, List, [], ◌∷◌, ◌++◌, length, Option, None, Some, inl, inr, ◌⊎◌, refl, sym, ap, ◌∙◌, subst, append-nil, arith}
 use Rattle.std.specs.Prelude.{◌&&◌, not, find, option_map, Contains, slice_index_or}
 use Rattle.std.proofs.lemmas.Bool.Decides.{eqb_tells}
 use Rattle.dlm_modes.specs.Modes.{go_together}
@@ -9,8 +9,8 @@ use Rattle.dlm_master.specs.declared.claims.Claim.{Claim}
 use Rattle.dlm_master.specs.declared.claims.Cause.{Cause}
 use Rattle.dlm_master.specs.declared.claims.Cause.TheVariants.{Held, Behind, Rebuild, Slot}
 use Rattle.dlm_master.specs.Claims.{is_of, stands_in_way, in_way}
-use Rattle.dlm_master.specs.Locks.{claim, or_else, cause_of}
-use Rattle.dlm_master.specs.Laws.{IsInWay, IsSo, CauseIsSo}
+use Rattle.dlm_master.specs.Locks.{claim, or_else, cause_of, convert_cause}
+use Rattle.dlm_master.specs.Laws.{IsInWay, IsSo, IsRightCause, CauseIsSo}
 
 no-way : {A : Type 0} → false ≡ true → A
 no-way e = absurd (let f : false ≡ true = e in cc)
@@ -130,12 +130,14 @@ way-left xs ys n asker (mode, there, ne, apart) = (mode, contains-left xs ys (cl
 way-right : (xs ys : List Claim) (n : ℕ) (asker : Claim) → IsInWay ys n asker → IsInWay (xs ++ ys) n asker
 way-right xs ys n asker (mode, there, ne, apart) = (mode, contains-right xs ys (claim n mode) there, ne, apart)
 
-pub cause-is-so : CauseIsSo
-cause-is-so true waiting held conversions requests asker = record {
+-- whoever asks, before whom these convert and these wait
+right-cause : (rebuild : Bool) (waiting : ℕ) (held conversions requests : List Claim) (asker : Claim)
+    → IsRightCause rebuild waiting held (conversions ++ requests) asker (cause_of rebuild waiting held conversions requests asker.node asker.mode)
+right-cause true waiting held conversions requests asker = record {
   so = λ cause e. subst (IsSo true waiting held (conversions ++ requests) asker) (inside e) refl;
   all = λ e. some-none e;
 }
-cause-is-so false waiting held conversions requests asker = record { so = so; all = all }
+right-cause false waiting held conversions requests asker = record { so = so; all = all }
   where
     so : (cause : Cause) → cause_of false waiting held conversions requests asker.node asker.mode ≡ Some cause → IsSo false waiting held (conversions ++ requests) asker cause
     so cause e =
@@ -158,3 +160,10 @@ cause-is-so false waiting held conversions requests asker = record { so = so; al
           | inl c ↦ way-none conversions asker n before (mode, c, ne, apart)
           | inr c ↦ way-none requests asker n behind (mode, c, ne, apart)
         ]
+
+pub cause-is-so : CauseIsSo
+cause-is-so = record {
+  requests = λ rebuild waiting l asker. right-cause rebuild waiting l.held l.conversions l.requests asker;
+  converts = λ rebuild waiting l asker. subst (λ (cs : List Claim). IsRightCause rebuild waiting l.held cs asker (convert_cause rebuild waiting l asker.node asker.mode))
+      (append-nil l.conversions) (right-cause rebuild waiting l.held l.conversions [] asker);
+}

@@ -3,6 +3,7 @@ pub mod TableLaws
 pub mod RunLaws
 pub mod CauseLaws
 pub mod CallbackLaws
+pub mod RunTables
 pub mod TurnLaws
 pub mod SoundLaws
 pub mod BlockLaws

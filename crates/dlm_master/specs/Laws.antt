@@ -1,6 +1,7 @@
 -- What holds of every lock at its master, and after every list of calls.
-use Rattle.std.specs.Prelude.{ℕ, ◌≡◌, ◌≢◌, ◌<◌, ◌==◌, ◌⊎◌, ⊤, Bool, true, false, not, List, [], ◌∷◌, ◌++◌, Option, None, Some, Contains, filter}
+use Rattle.std.specs.Prelude.{ℕ, ◌≡◌, ◌≢◌, ◌<◌, ◌==◌, ◌⊎◌, ⊤, Bool, true, false, not, List, [], ◌∷◌, ◌++◌, Option, None, Some, Contains, filter, map}
 use Rattle.std.specs.List.{AllByRecursion}
+use Rattle.glock_names.specs.declared.LockName.{LockName}
 use Rattle.dlm_modes.specs.declared.Mode.{Mode}
 use Rattle.dlm_modes.specs.Modes.{go_together, is_at_least}
 use Rattle.fencing.specs.NodeSets.{has}
@@ -9,9 +10,9 @@ use Rattle.dlm_master.specs.declared.claims.Cause.{Cause}
 use Rattle.dlm_master.specs.declared.claims.Cause.TheVariants.{Held, Behind, Rebuild, Slot}
 use Rattle.dlm_master.specs.Claims.{is_of, mode_of_node, mode_at, Absent, OneEach, NeverNull, Together}
 use Rattle.dlm_master.specs.LockState.{LockState}
-use Rattle.dlm_master.specs.Locks.{free_lock, claim, cause_of, all_turns, after_grants, callback_to}
-use Rattle.dlm_master.specs.Tables.{holds_covered}
-use Rattle.dlm_master.specs.Runs.{Call, Lowers, Run, after, MayCall, after_all, MayCallAll}
+use Rattle.dlm_master.specs.Locks.{free_lock, claim, request_cause, convert_cause, all_turns, after_grants, callbacks_of}
+use Rattle.dlm_master.specs.Tables.{MasterState, with_state, holds_covered, after_request, after_convert, after_down, after_next}
+use Rattle.dlm_master.specs.Runs.{Call, Requests, Converts, Lowers, Grants, Run, run_of, after, MayCall, after_all, MayCallAll}
 
 -- ---- a wait names a cause that is so
 
@@ -31,10 +32,12 @@ pub record IsRightCause (rebuild : Bool) (waiting : ℕ) (held earlier : List Cl
   pub so : (cause : Cause) → named ≡ Some cause → IsSo rebuild waiting held earlier asker cause
   pub all : named ≡ None → (cause : Cause) → IsSo rebuild waiting held earlier asker cause → ⊥
 
--- whoever asks, before whom these convert and these wait
-abbrev pub CauseIsSo : Type 0
-CauseIsSo = (rebuild : Bool) (waiting : ℕ) (held conversions requests : List Claim) (asker : Claim)
-    → IsRightCause rebuild waiting held (conversions ++ requests) asker (cause_of rebuild waiting held conversions requests asker.node asker.mode)
+-- whoever asks: before a request are all who wait, before a conversion those who convert
+pub record CauseIsSo : Type 0 where
+  pub requests : (rebuild : Bool) (waiting : ℕ) (l : LockState) (asker : Claim)
+      → IsRightCause rebuild waiting l.held (l.conversions ++ l.requests) asker (request_cause rebuild waiting l asker.node asker.mode)
+  pub converts : (rebuild : Bool) (waiting : ℕ) (l : LockState) (asker : Claim)
+      → IsRightCause rebuild waiting l.held l.conversions asker (convert_cause rebuild waiting l asker.node asker.mode)
 
 -- ---- what calls leave of a lock
 
@@ -129,9 +132,23 @@ pub record IsMostKept (had keep : Mode) (waiters : List Claim) : Type 0 where
 
 -- a holder that goes with all other waiters isn't called back; another is, with the most that it may keep
 pub record IsCalledRightly (l : LockState) (c : Claim) : Type 0 where
-  pub spared : GoesWithAll (other_waiters l c.node) c.mode → callback_to l c ≡ None
+  pub spared : GoesWithAll (other_waiters l c.node) c.mode → (keep : Mode) → Contains (callbacks_of l) (c.node, keep) → ⊥
   pub called : (GoesWithAll (other_waiters l c.node) c.mode → ⊥)
-      → (keep : Mode) × (callback_to l c ≡ Some (c.node, keep)) × IsMostKept c.mode keep (other_waiters l c.node)
+      → (keep : Mode) × Contains (callbacks_of l) (c.node, keep) × IsMostKept c.mode keep (other_waiters l c.node)
 
-abbrev pub CallbacksAreDue : Type 0
-CallbacksAreDue = (l : LockState) (c : Claim) → IsCalledRightly l c
+-- so it is with each holder of a lock that nobody holds twice; nobody is called back twice, and nobody but holders
+pub record CallbacksAreDue : Type 0 where
+  pub holders : (l : LockState) (c : Claim) → OneEach l.held → Contains l.held c → IsCalledRightly l c
+  pub once : (l : LockState) → OneEach l.held → OneEach (map (λ b. claim b.0 b.1) (callbacks_of l))
+  pub only : (l : LockState) (node : ℕ) → Absent node l.held → Absent node (map (λ b. claim b.0 b.1) (callbacks_of l))
+
+-- ---- what the calls do to a table they do to its locks
+
+pub record TablesAreRuns : Type 0 where
+  pub requests : (m : MasterState) (node : ℕ) (lock : LockName) (mode : Mode) → run_of (after_request m node lock mode) lock ≡ after (run_of m lock) (Requests node mode)
+  pub converts : (m : MasterState) (node : ℕ) (lock : LockName) (mode : Mode) → run_of (after_convert m node lock mode) lock ≡ after (run_of m lock) (Converts node mode)
+  pub lowers : (m : MasterState) (node : ℕ) (lock : LockName) (mode : Mode) (value : Option (List ℕ))
+      → run_of (after_down m node lock mode value) lock ≡ after (run_of m lock) (Lowers node mode value)
+  pub grants : (m : MasterState) (lock : LockName) → run_of (after_next m lock) lock ≡ after (run_of m lock) Grants
+  -- and to no other lock
+  pub elsewhere : (m : MasterState) (lock other : LockName) (l : LockState) → lock ≢ other → run_of (with_state m other l) lock ≡ run_of m lock

@@ -1,5 +1,5 @@
 -- What the calls do to one lock.
-use Rattle.std.specs.Prelude.{ℕ, ◌&&◌, Bool, true, false, List, [], ◌∷◌, ◌++◌, Option, None, Some, is_some, is_none, option_map, fold, map, ◌||◌, if◌then◌else◌}
+use Rattle.std.specs.Prelude.{ℕ, ◌==◌, ◌&&◌, Bool, true, false, not, List, [], ◌∷◌, ◌++◌, Option, None, Some, is_some, is_none, option_map, fold, map, ◌||◌, if◌then◌else◌}
 use Rattle.std.specs.List.{filter_map}
 use Rattle.dlm_modes.specs.declared.Mode.{Mode}
 use Rattle.dlm_modes.specs.declared.Mode.TheVariants.{Nl, Cr, Cw, Pr, Pw, Ex}
@@ -86,6 +86,10 @@ abbrev pub reported : LockState → ℕ → Mode → LockState
 reported l node mode = record l { held = now_holding l.held node mode }
 
 -- ---- who is granted next
+
+-- nothing is granted while a rebuild isn't done or a slot waits
+abbrev pub holds_back : Bool → ℕ → Bool
+holds_back rebuild waiting = rebuild || not (waiting == 0)
 
 -- nothing is in the way of the waiter: no holder, nobody who waits before all these, and none of these before it
 abbrev pub is_free : List Claim → TurnState → Claim → Bool

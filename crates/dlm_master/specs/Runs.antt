@@ -1,10 +1,11 @@
 -- Lists of calls on one lock of a master.
-use Rattle.std.specs.Prelude.{ℕ, ◌≡◌, ◌==◌, ◌||◌, ⊤, Bool, true, false, not, List, [], ◌∷◌, Option, None, if◌then◌else◌}
+use Rattle.std.specs.Prelude.{ℕ, ◌≡◌, ⊤, Bool, true, false, List, [], ◌∷◌, Option, None, if◌then◌else◌}
+use Rattle.glock_names.specs.declared.LockName.{LockName}
 use Rattle.dlm_modes.specs.declared.Mode.{Mode}
 use Rattle.dlm_master.specs.Claims.{mode_of_node}
 use Rattle.dlm_master.specs.LockState.{LockState}
-use Rattle.dlm_master.specs.Locks.{free_lock, is_waiting, request_cause, requested, convert_cause, converted, lowered, after_grants}
-use Rattle.dlm_master.specs.Tables.{holds_above, holds_covered}
+use Rattle.dlm_master.specs.Locks.{free_lock, is_waiting, request_cause, requested, convert_cause, converted, lowered, holds_back, after_grants}
+use Rattle.dlm_master.specs.Tables.{MasterState, lock_of, holds_above, holds_covered}
 
 -- a call on the lock: a node asks for it, or for another mode, or lowers it; the waiters take their turns; or it is said
 -- whether a rebuild isn't done and which slots wait
@@ -25,12 +26,16 @@ pub record Run : Type 0 where
 abbrev pub started : Run
 started = record { rebuild = false; waiting = 0; lock = free_lock }
 
+-- a lock of a master's table, and what keeps the master from granting it
+abbrev pub run_of : MasterState → LockName → Run
+run_of m lock = record { rebuild = m.rebuild; waiting = m.waiting; lock = lock_of m lock }
+
 -- what the calls do, as their contracts say
 abbrev pub after : Run → Call → Run
 after r (Requests node mode) = record r { lock = requested (request_cause r.rebuild r.waiting r.lock node mode) r.lock node mode }
 after r (Converts node mode) = record r { lock = converted (convert_cause r.rebuild r.waiting r.lock node mode) r.lock node mode }
 after r (Lowers node mode value) = record r { lock = lowered r.lock node mode value }
-after r Grants = if r.rebuild || not (r.waiting == 0) then r else record r { lock = after_grants r.lock }
+after r Grants = if holds_back r.rebuild r.waiting then r else record r { lock = after_grants r.lock }
 after r (Blocks rebuild waiting) = record { rebuild = rebuild; waiting = waiting; lock = r.lock }
 
 -- what the calls require

@@ -1,5 +1,5 @@
 -- A master's table of locks.
-use Rattle.std.specs.Prelude.{ℕ, ◌==◌, ◌||◌, Bool, false, not, List, [], Option, None, Some, unwrap_or, is_none, if◌then◌else◌}
+use Rattle.std.specs.Prelude.{ℕ, Bool, false, List, [], Option, None, Some, unwrap_or, is_none, if◌then◌else◌}
 use Rattle.glock_names.specs.declared.LockName.{LockName}
 use Rattle.glock_names.specs.LockMaps.{at_lock, with_lock}
 use Rattle.dlm_modes.specs.declared.Mode.{Mode}
@@ -8,7 +8,7 @@ use Rattle.dlm_modes.specs.declared.ValueBlock.{ValueBlock}
 use Rattle.dlm_master.specs.declared.claims.Cause.{Cause}
 use Rattle.dlm_master.specs.Claims.{mode_of_node}
 use Rattle.dlm_master.specs.LockState.{LockState}
-use Rattle.dlm_master.specs.Locks.{free_lock, is_waiting, request_cause, requested, convert_cause, converted, lowered, reported, grants_of, after_grants}
+use Rattle.dlm_master.specs.Locks.{free_lock, is_waiting, request_cause, requested, convert_cause, converted, lowered, reported, holds_back, grants_of, after_grants}
 
 -- the number of the view, whether a rebuild isn't done, the nodes whose slots wait, and a finite map from the locks, in the
 -- order in which the master came to know them
@@ -44,7 +44,7 @@ holds_covered (Some held) mode = is_at_least mode held
 
 -- no grant is to be made
 abbrev pub is_blocked : MasterState → Bool
-is_blocked m = m.rebuild || not (m.waiting == 0)
+is_blocked m = holds_back m.rebuild m.waiting
 
 abbrev pub request_waits : MasterState → ℕ → LockName → Mode → Option Cause
 request_waits m node lock mode = request_cause m.rebuild m.waiting (lock_of m lock) node mode

@@ -1,7 +1,7 @@
 //! A master's table of locks: who holds each, who waits for it, and what the lock carries.
 #![tactic(auto)]
 
-ghost use Rattle.dlm_master.specs.Laws.{CauseIsSo, SoundLocksStaySound, OnlyLowersTake, NoWaiterIsLost, NoneWhileBlocked, GrantsKeepTogether, CallbacksAreDue};
+ghost use Rattle.dlm_master.specs.Laws.{CauseIsSo, SoundLocksStaySound, OnlyLowersTake, NoWaiterIsLost, NoneWhileBlocked, GrantsKeepTogether, CallbacksAreDue, TablesAreRuns};
 
 mod beside;
 mod claims;
@@ -13,7 +13,7 @@ pub use claims::{Answer, Cause, Claim};
 pub use lock::Lock;
 pub use master::Master;
 
-/// A law: a cause that is named is so, and where none is named nothing is in the way.
+/// A law: the cause that is named to who requests or converts is so, and where none is named nothing is in the way.
 pub fn a_wait_names_a_cause_that_is_so()
     ensures { CauseIsSo }
 {}
@@ -47,8 +47,14 @@ pub fn grants_keep_together()
     ensures { GrantsKeepTogether }
 {}
 
-/// A law: a holder is called back exactly where its mode doesn't go with another node's that waits, and it is told the strongest
-/// mode of those that it has which goes with all of them.
+/// A law: a holder is called back exactly where its mode doesn't go with another node's that waits, once, and it is told the
+/// strongest mode of those that it has which goes with all of them; nobody else is called back.
 pub fn callbacks_are_due()
     ensures { CallbacksAreDue }
+{}
+
+/// A law: what requests, conversions, lowers and grants do to a master's table they do to the lock in it as the other laws say, and
+/// to no other lock.
+pub fn tables_are_runs()
+    ensures { TablesAreRuns }
 {}
