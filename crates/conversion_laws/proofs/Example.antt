@@ -9,6 +9,7 @@ use Rattle.mail_queues.specs.Queues.{messages_of, queue_of}
 use Rattle.mail_queues.specs.declared.Body.{Body}
 use Rattle.mail_queues.specs.declared.Body.TheVariants.{Request, Grant, Down}
 use Rattle.mail_queues.specs.declared.Message.{Message}
+use Rattle.dlm_master.proofs.SoundLaws.{sound-locks-stay-sound}
 use Rattle.lock_steps.specs.Ties.{in_view, grants}
 use Rattle.lock_steps.specs.Calls.{Sends, Receives, TellsItself}
 use Rattle.conversion_laws.specs.Parts.{call_of}
@@ -36,8 +37,11 @@ nothing-comes from to = ap (λ (q : QueueState). q.messages) (empty 81 (9 * from
 begins : Begins a_lock all_new
 begins = record {
   master = omega arith;
-  table = refl;
+  sound = sound-locks-stay-sound.free;
+  together = tt;
   held = λ k x. refl;
+  conversions = refl;
+  requests = refl;
   wanted = λ k x. refl;
   calls = λ k x. ap (λ (ms : List Message). filter_map (in_view 1 (call_of a_lock k)) (ms ++ [])) (nothing-comes k 0);
   grants = λ k x. ap (λ (ms : List Message). filter_map (in_view 1 (grants a_lock)) (ms ++ [])) (nothing-comes 0 k);

@@ -1,30 +1,33 @@
 -- The laws over every list of calls.
-use Rattle.std.proofs.Common.{ℕ, ◌≡◌, inl, inr, true, Option, None, Some, List, [], ◌∷◌, ◌++◌, is_some, refl, sym, ap, ◌∙◌, subst}
+use Rattle.std.proofs.Common.{ℕ, ◌≡◌, ◌≢◌, ◌⊎◌, ◌<◌, ◌≤◌, inl, inr, true, Option, None, Some, List, [], ◌∷◌, ◌++◌, is_some, refl, sym, ap, ◌∙◌, subst}
 use Rattle.std.specs.Prelude.{unwrap_or}
 use Rattle.std.specs.List.{AllByRecursion}
 use Rattle.std.proofs.lemmas.Bool.{cases_eq, cond-true}
 use Rattle.glock_names.specs.declared.LockName.{LockName}
 use Rattle.glock_names.specs.LockMaps.{at_lock, with_lock}
 use Rattle.dlm_modes.specs.declared.Mode.{Mode}
+use Rattle.dlm_modes.specs.declared.Mode.TheVariants.{Nl, Cr, Cw, Pr, Pw, Ex}
 use Rattle.dlm_modes.specs.Modes.{go_together, is_at_least}
 use Rattle.dlm_modes.proofs.ModeLaws.{covers-itself, together-turned, together-weaker}
 use Rattle.mail_queues.specs.declared.Message.{Message}
 use Rattle.mail_queues.specs.declared.Body.TheVariants.{Grant}
 use Rattle.dlm_holder.specs.declared.Holding.{Holding}
 use Rattle.dlm_holder.specs.Holdings.{Holdings, nothing, holding_of, knows, mode_in, wanted_in, asked_for, granted_to, lowered_to}
+use Rattle.dlm_master.specs.declared.claims.Claim.{Claim}
 use Rattle.dlm_master.specs.Claims.{mode_of_node, mode_at, Together}
 use Rattle.dlm_master.specs.LockState.{LockState}
 use Rattle.dlm_master.specs.Laws.{IsSound}
 use Rattle.dlm_master.proofs.RunLaws.{together-at}
-use Rattle.dlm_master.proofs.SoundLaws.{sound-locks-stay-sound}
+use Rattle.dlm_rebuild.specs.Runs as rebuilds
+use Rattle.dlm_rebuild.proofs.RunLaws.{rebuilt as rebuilt-from-reports}
 use Rattle.lock_laws.specs.Lock.{at}
 use Rattle.lock_steps.specs.Ties.{in_view, grants}
-use Rattle.lock_steps.proofs.Basics.{same-self, at-here, at-away}
+use Rattle.lock_steps.proofs.Basics.{up-to, same-self, at-here, at-away}
 use Rattle.lock_steps.proofs.Tying.{now-says, holding-is, holding-away}
 use Rattle.conversion_laws.specs.Parts.{Parts, now_says, grants_coming, lock_in_table, table_mode, held_or_coming}
 use Rattle.conversion_laws.specs.Calls.{NodeCall, Call, OfMail, OfNode, OfMaster, Calls, NoCall, AndCall}
 use Rattle.conversion_laws.specs.Calls as calls
-use Rattle.conversion_laws.specs.Laws.{Begins, AreRight, EveryListIsRight, RisesByGrant, Rises, Keeps, HoldersRiseByGrants, MeetCalls, MessagesMeetCalls}
+use Rattle.conversion_laws.specs.Laws.{Begins, AreRight, EveryListIsRight, FollowsView, ViewsFollow, RisesByGrant, Rises, Keeps, HoldersRiseByGrants, MeetCalls, MessagesMeetCalls}
 use Rattle.conversion_laws.proofs.Stages.{Tells, sees, covered, exact, one-ask, was-asked}
 use Rattle.conversion_laws.proofs.Nodes.{sight, Inv, mail-keeps-inv, node-keeps, grant-first}
 use Rattle.conversion_laws.proofs.Masters.{master-keeps, meets-request, meets-conversion, meets-lower}
@@ -34,11 +37,11 @@ use Rattle.conversion_laws.proofs.Masters.{master-keeps, meets-request, meets-co
 starts : (lock : LockName) (p : Parts) → Begins lock p → Inv lock p
 starts lock p b = record {
   master = b.master;
-  sound = subst IsSound (sym b.table) sound-locks-stay-sound.free;
-  together = subst (λ (l : LockState). Together l.held) (sym b.table) tt;
+  sound = b.sound;
+  together = b.together;
   stages = λ k x. sees (record { wanted = None; mode = mode_in (p.holders k) lock; table = mode_in (p.holders k) lock; waits = None; coming = []; granted = [] }) (sight lock p k)
-      (sym (b.wanted k x)) refl (b.held k x ∙ sym (ap (λ (l : LockState). mode_at l.held k) b.table))
-      (sym (ap (λ (l : LockState). mode_of_node (l.conversions ++ l.requests) k) b.table)) (sym (b.calls k x)) (sym (b.grants k x))
+      (sym (b.wanted k x)) refl (sym (b.held k x))
+      (sym (ap (λ (cs : List Claim). mode_of_node (cs ++ (lock_in_table lock p).requests) k) b.conversions ∙ ap (λ (cs : List Claim). mode_of_node cs k) b.requests)) (sym (b.calls k x)) (sym (b.grants k x))
       (Tells (refl, refl) refl refl);
 }
 
@@ -67,6 +70,8 @@ go-all t u (a ∷ ns) bs goes all more = (each bs more, go-all t u ns bs goes al
 
 are-right : (lock : LockName) (p : Parts) → Inv lock p → AreRight lock p
 are-right lock p inv = record {
+  sound = inv.sound;
+  together = inv.together;
   covers = λ k x. covered (sight lock p k) (inv.stages k x);
   compatible = λ i k x y ne. go-all (table_mode lock p i) (table_mode lock p k) (held_or_coming lock p i) (held_or_coming lock p k)
       (together-at (lock_in_table lock p).held inv.together i k ne)
@@ -77,6 +82,61 @@ are-right lock p inv = record {
 
 pub every-list : EveryListIsRight
 every-list lock p q b calls = are-right lock q (calls-keep lock p q calls (starts lock p b))
+
+-- ---- views
+
+null-goes : (mode : Mode) → go_together mode Nl ≡ true
+null-goes mode = together-turned Nl mode refl
+
+told-is : (mode : Mode) → unwrap_or (rebuilds.told mode) Nl ≡ mode
+told-is Nl = refl
+told-is Cr = refl
+told-is Cw = refl
+told-is Pr = refl
+told-is Pw = refl
+told-is Ex = refl
+
+pub views-follow : ViewsFollow
+views-follow lock p q right f = record {
+  master = f.master;
+  sound = subst IsSound (sym f.table) (rebuilt.sound f.may);
+  together = subst (λ (l : LockState). Together l.held) (sym f.table) (rebuilt.together goes);
+  held = λ k x. ap (λ (l : LockState). mode_at l.held k) f.table
+      ∙ (ap (λ (o : Option Mode). unwrap_or o Nl) (rebuilt.reports k ∙ f.told k x) ∙ told-is (mode_in (q.holders k) lock));
+  conversions = f.conversions;
+  requests = f.requests;
+  wanted = f.wanted;
+  calls = f.calls;
+  grants = f.grants;
+}
+  where
+    rebuilt : rebuilds.HasLastReports f.reports
+    rebuilt = rebuilt-from-reports f.reports
+
+    last : ℕ → Mode
+    last k = unwrap_or (rebuilds.last_told f.reports k None) Nl
+
+    last-here : (k : ℕ) → k ≤ 8 → last k ≡ mode_in (q.holders k) lock
+    last-here k x = ap (λ (o : Option Mode). unwrap_or o Nl) (f.told k x) ∙ told-is (mode_in (q.holders k) lock)
+
+    last-far : (k : ℕ) → 8 < k → last k ≡ Nl
+    last-far k x = ap (λ (o : Option Mode). unwrap_or o Nl) (f.others k x)
+
+    weaker : (i k : ℕ) → i ≤ 8 → k ≤ 8 → i ≢ k → go_together (mode_in (q.holders i) lock) (mode_in (q.holders k) lock) ≡ true
+    weaker i k x y ne =
+        let a : Mode = mode_in (p.holders i) lock in
+        let b : Mode = mode_in (p.holders k) lock in
+        let c : Mode = mode_in (q.holders i) lock in
+        let one : go_together c b ≡ true = together-turned b c (together-weaker b a c (together-turned a b (right.compatible i k x y ne).0.0) (f.kept i x)) in
+        together-weaker c b (mode_in (q.holders k) lock) one (f.kept k y)
+
+    goes : (i k : ℕ) → i ≢ k → go_together (last i) (last k) ≡ true
+    goes i k ne = by (up-to i) (up-to k)
+      where
+        by : (i ≤ 8) ⊎ (8 < i) → (k ≤ 8) ⊎ (8 < k) → go_together (last i) (last k) ≡ true
+        by (inl x) (inl y) = ap (λ (m : Mode). go_together m (last k)) (last-here i x) ∙ (ap (go_together (mode_in (q.holders i) lock)) (last-here k y) ∙ weaker i k x y ne)
+        by (inr x) w = ap (λ (m : Mode). go_together m (last k)) (last-far i x)
+        by (inl x) (inr y) = ap (go_together (last i)) (last-far k y) ∙ null-goes (last i)
 
 -- ---- messages in hand
 

@@ -1,6 +1,6 @@
 -- What the master does to the invariant.
 use Rattle.std.proofs.Common.{ℕ, ◌≡◌, ◌≢◌, ◌⊎◌, ◌≤◌, inl, inr, Bool, true, false, Option, None, Some, List, [], ◌∷◌, ◌++◌, cond, refl, sym, ap, ◌∙◌, subst, append_assoc, append-nil}
-use Rattle.std.specs.Prelude.{◌||◌, ◌==◌, fold, is_none, is_some, option_to_list, unwrap_or}
+use Rattle.std.specs.Prelude.{◌||◌, ◌==◌, fold, map, is_none, is_some, option_to_list, unwrap_or}
 use Rattle.std.specs.List.{AllByRecursion, filter_map}
 use Rattle.std.proofs.lemmas.Bool.{cases_eq, cond-true}
 use Rattle.std.proofs.lemmas.Bool.Decides.{eqb_tells}
@@ -17,9 +17,9 @@ use Rattle.dlm_master.specs.declared.claims.Claim.{Claim}
 use Rattle.dlm_master.specs.declared.claims.Cause.{Cause}
 use Rattle.dlm_master.specs.Claims.{is_of, mode_of_node, mode_at, now_holding, Absent, OneEach, Together}
 use Rattle.dlm_master.specs.LockState.{LockState}
-use Rattle.dlm_master.specs.Locks.{free_lock, claim, is_waiting, requested, converted, lowered, all_turns, after_grants}
+use Rattle.dlm_master.specs.Locks.{free_lock, claim, is_waiting, requested, converted, lowered, answer_by, all_turns, after_grants, grants_of}
 use Rattle.dlm_master.specs.Tables.{holds_above, holds_covered, lock_of, with_state, is_blocked, request_waits, convert_waits, after_turns}
-use Rattle.dlm_master.specs.Runs.{Run}
+use Rattle.dlm_master.specs.Runs.{run_of}
 use Rattle.dlm_master.specs.Runs as runs
 use Rattle.dlm_master.specs.Laws.{IsSound, IsSplit, Nobody, IsGranted, Stays, LosesNobody}
 use Rattle.dlm_master.proofs.ClaimLaws.{absent-mode, absent-along, all-left, all-right, none-of}
@@ -33,7 +33,7 @@ use Rattle.lock_steps.proofs.Basics.{true-false, same-self}
 use Rattle.lock_steps.proofs.Tying.{now-says, says-one, says-none}
 use Rattle.lock_steps.proofs.Ways.{letters-say, letters-mute, letters-away, left-says, left-mute, left-away}
 use Rattle.lock_steps.proofs.Claims.{now-here, now-away, among-here, among-away}
-use Rattle.lock_steps.proofs.Turning.{written}
+use Rattle.dlm_master.proofs.RunTables.{written}
 use Rattle.conversion_laws.specs.Parts.{Parts, now_says, call_of, calls_coming, grants_coming, lock_in_table, table_mode}
 use Rattle.conversion_laws.specs.Calls.{MasterCall, grant_letter, reply}
 use Rattle.conversion_laws.specs.Calls as calls
@@ -64,14 +64,11 @@ wrote lock p l post inv good stages =
 
 -- ---- what the master's calls keep
 
-abbrev run_of : LockName → Parts → Run
-run_of lock p = record { rebuild = p.table.rebuild; waiting = p.table.waiting; lock = lock_in_table lock p }
-
-kept : (lock : LockName) (p : Parts) (call : runs.Call) → Inv lock p → runs.MayCall (run_of lock p) call
-    → IsSound (runs.after (run_of lock p) call).lock × Together (runs.after (run_of lock p) call).lock.held
+kept : (lock : LockName) (p : Parts) (call : runs.Call) → Inv lock p → runs.MayCall (run_of p.table lock) call
+    → IsSound (runs.after (run_of p.table lock) call).lock × Together (runs.after (run_of p.table lock) call).lock.held
 kept lock p call inv may = (
-  sound-locks-stay-sound.stays (run_of lock p) (call ∷ []) (may, tt) inv.sound,
-  grants-keep-together (run_of lock p) (call ∷ []) (may, tt) inv.together,
+  sound-locks-stay-sound.stays (run_of p.table lock) (call ∷ []) (may, tt) inv.sound,
+  grants-keep-together (run_of p.table lock) (call ∷ []) (may, tt) inv.together,
 )
 
 -- ---- what the table has of a node
@@ -134,11 +131,21 @@ module _ (lock : LockName) (p : Parts) (k : ℕ) (b : Body) (c : runs.Call) (res
 
 -- ---- a letter that grants
 
+-- to a waiter
+abbrev claim_letter : Parts → LockName → Post → Claim → Post
+claim_letter p lock post w = grant_letter p lock post (w.node, w.mode, (lock_in_table lock p).value)
+
+-- and to each who is granted
+granted-letters : (lock : LockName) (p : Parts) (ws : List Claim) (post : Post)
+    → fold (grant_letter p lock) post (map (λ c. (c.node, c.mode, (lock_in_table lock p).value)) ws) ≡ fold (claim_letter p lock) post ws
+granted-letters lock p [] post = refl
+granted-letters lock p (w ∷ ws) post = granted-letters lock p ws (claim_letter p lock post w)
+
 module _ (lock : LockName) (p : Parts) (post : Post) (w : Claim) where
   abbrev letter : List Message
   letter = now_says p (Grant lock w.mode (lock_in_table lock p).value) ∷ []
 
-  grant-says : filter_map (in_view p.table.generation (grants lock)) (way (grant_letter p lock post w) p.master w.node)
+  grant-says : filter_map (in_view p.table.generation (grants lock)) (way (claim_letter p lock post w) p.master w.node)
       ≡ filter_map (in_view p.table.generation (grants lock)) (way post p.master w.node) ++ w.mode ∷ []
   grant-says =
       letters-say (in_view p.table.generation (grants lock)) post p.master w.node letter
@@ -146,11 +153,11 @@ module _ (lock : LockName) (p : Parts) (post : Post) (w : Claim) where
       (says-one (in_view p.table.generation (grants lock)) (now_says p (Grant lock w.mode (lock_in_table lock p).value)) w.mode
       (now-says (grants lock) p.table.generation (Grant lock w.mode (lock_in_table lock p).value) ∙ cond-true _ _ _ (same-self lock)))
 
-  grant-away : (j : ℕ) → (j ≡ w.node → ⊥) → filter_map (in_view p.table.generation (grants lock)) (way (grant_letter p lock post w) p.master j)
+  grant-away : (j : ℕ) → (j ≡ w.node → ⊥) → filter_map (in_view p.table.generation (grants lock)) (way (claim_letter p lock post w) p.master j)
       ≡ filter_map (in_view p.table.generation (grants lock)) (way post p.master j)
   grant-away j ne = ap (filter_map (in_view p.table.generation (grants lock))) (letters-away post p.master w.node letter p.master j (λ e f. ne f))
 
-  grant-mute : (j : ℕ) → filter_map (in_view p.table.generation (call_of lock j)) (way (grant_letter p lock post w) j p.master)
+  grant-mute : (j : ℕ) → filter_map (in_view p.table.generation (call_of lock j)) (way (claim_letter p lock post w) j p.master)
       ≡ filter_map (in_view p.table.generation (call_of lock j)) (way post j p.master)
   grant-mute j = letters-mute (in_view p.table.generation (call_of lock j)) post p.master w.node letter j p.master
       (says-none (in_view p.table.generation (call_of lock j)) (now_says p (Grant lock w.mode (lock_in_table lock p).value))
@@ -169,14 +176,14 @@ module _ (lock : LockName) (p : Parts) (k : ℕ) (mode : Mode) (b : Body) (c : r
 
   -- it is granted at once
   pub granted-now : IsSound (record l { held = now_holding l.held k mode }) × Together (now_holding l.held k mode)
-      → Inv lock (record p { table = with_state p.table lock (record l { held = now_holding l.held k mode }); post = grant_letter p lock behind (claim k mode) })
-  granted-now good = wrote lock p (record l { held = now_holding l.held k mode }) (grant_letter p lock behind (claim k mode)) inv good (λ j x. elim (cases_eq j k) [
-    | inl e ↦ subst (λ (i : ℕ). Stage (seen lock p (record l { held = now_holding l.held k mode }) (grant_letter p lock behind (claim k mode)) i)) (sym e)
-        (sees _ (seen lock p (record l { held = now_holding l.held k mode }) (grant_letter p lock behind (claim k mode)) k) refl refl
+      → Inv lock (record p { table = with_state p.table lock (record l { held = now_holding l.held k mode }); post = claim_letter p lock behind (claim k mode) })
+  granted-now good = wrote lock p (record l { held = now_holding l.held k mode }) (claim_letter p lock behind (claim k mode)) inv good (λ j x. elim (cases_eq j k) [
+    | inl e ↦ subst (λ (i : ℕ). Stage (seen lock p (record l { held = now_holding l.held k mode }) (claim_letter p lock behind (claim k mode)) i)) (sym e)
+        (sees _ (seen lock p (record l { held = now_holding l.held k mode }) (claim_letter p lock behind (claim k mode)) k) refl refl
         (sym (now-here l.held k mode inv.sound.held_once)) refl (sym (grant-mute lock p behind (claim k mode) k))
         (sym (grant-says lock p behind (claim k mode) ∙ ap (λ (ms : List Mode). ms ++ mode ∷ []) (grants-same lock p k b c rest hand said mute k)))
         (stages.then-granted (sight lock p k) mode _ heard))
-    | inr ne ↦ sees (sight lock p j) (seen lock p (record l { held = now_holding l.held k mode }) (grant_letter p lock behind (claim k mode)) j) refl refl
+    | inr ne ↦ sees (sight lock p j) (seen lock p (record l { held = now_holding l.held k mode }) (claim_letter p lock behind (claim k mode)) j) refl refl
         (sym (now-away l.held k mode j ne)) refl
         (sym (grant-mute lock p behind (claim k mode) j ∙ calls-same lock p k b c rest hand said mute j ne))
         (sym (grant-away lock p behind (claim k mode) j ne ∙ grants-same lock p k b c rest hand said mute j))
@@ -200,7 +207,7 @@ module _ (lock : LockName) (p : Parts) (k : ℕ) (mode : Mode) (b : Body) (c : r
 record Finds (lock : LockName) (p : Parts) (k : ℕ) (mode : Mode) (b : Body) (c : runs.Call) (rest : List Message) (hand : p.post.took k p.master ≡ now_says p b ∷ rest)
     (said : call_of lock k b ≡ Some c) (mute : grants lock b ≡ None) : Type 0 where
   heard : IsHeard (sight lock p k) mode (calls_left lock p k b c rest hand said mute)
-  may : runs.MayCall (run_of lock p) c
+  may : runs.MayCall (run_of p.table lock) c
 
 finds-request : (lock : LockName) (p : Parts) (k : ℕ) (mode : Mode) (rest : List Message) → Inv lock p → k ≤ 8 → (hand : p.post.took k p.master ≡ now_says p (Request lock mode) ∷ rest)
     → Finds lock p k mode (Request lock mode) (runs.Requests k mode) rest hand (cond-true _ _ _ (same-self lock)) refl
@@ -222,11 +229,11 @@ finds-conversion lock p k mode rest inv x hand =
 
 -- a request or a conversion that is met
 pub meets-request : (lock : LockName) (p : Parts) (k : ℕ) (mode : Mode) (rest : List Message) → Inv lock p → k ≤ 8 → p.post.took k p.master ≡ now_says p (Request lock mode) ∷ rest
-    → runs.MayCall (run_of lock p) (runs.Requests k mode)
+    → runs.MayCall (run_of p.table lock) (runs.Requests k mode)
 meets-request lock p k mode rest inv x hand = (finds-request lock p k mode rest inv x hand).may
 
 pub meets-conversion : (lock : LockName) (p : Parts) (k : ℕ) (mode : Mode) (rest : List Message) → Inv lock p → k ≤ 8 → p.post.took k p.master ≡ now_says p (Convert lock mode) ∷ rest
-    → runs.MayCall (run_of lock p) (runs.Converts k mode)
+    → runs.MayCall (run_of p.table lock) (runs.Converts k mode)
 meets-conversion lock p k mode rest inv x hand = (finds-conversion lock p k mode rest inv x hand).may
 
 -- a lower
@@ -299,24 +306,24 @@ given-node held (w ∷ ws) k mode all e = by (eqb_tells w.node k) (given-node he
 
 -- the letters to all who are granted
 module _ (lock : LockName) (p : Parts) (j : ℕ) where
-  letters-mute-all : (ws : List Claim) (post : Post) → filter_map (in_view p.table.generation (call_of lock j)) (way (fold (grant_letter p lock) post ws) j p.master)
+  letters-mute-all : (ws : List Claim) (post : Post) → filter_map (in_view p.table.generation (call_of lock j)) (way (fold (claim_letter p lock) post ws) j p.master)
       ≡ filter_map (in_view p.table.generation (call_of lock j)) (way post j p.master)
   letters-mute-all [] post = refl
-  letters-mute-all (w ∷ ws) post = letters-mute-all ws (grant_letter p lock post w) ∙ grant-mute lock p post w j
+  letters-mute-all (w ∷ ws) post = letters-mute-all ws (claim_letter p lock post w) ∙ grant-mute lock p post w j
 
-  letters-say-all : (ws : List Claim) (post : Post) → OneEach ws → filter_map (in_view p.table.generation (grants lock)) (way (fold (grant_letter p lock) post ws) p.master j)
+  letters-say-all : (ws : List Claim) (post : Post) → OneEach ws → filter_map (in_view p.table.generation (grants lock)) (way (fold (claim_letter p lock) post ws) p.master j)
       ≡ filter_map (in_view p.table.generation (grants lock)) (way post p.master j) ++ option_to_list (mode_of_node ws j)
   letters-say-all [] post one = sym (append-nil _)
-  letters-say-all (w ∷ ws) post one = letters-say-all ws (grant_letter p lock post w) one.1 ∙ by (eqb_tells w.node j)
+  letters-say-all (w ∷ ws) post one = letters-say-all ws (claim_letter p lock post w) one.1 ∙ by (eqb_tells w.node j)
     where
       by : (((w.node == j) ≡ true) × (w.node ≡ j)) ⊎ (((w.node == j) ≡ false) × (w.node ≢ j))
-          → filter_map (in_view p.table.generation (grants lock)) (way (grant_letter p lock post w) p.master j) ++ option_to_list (mode_of_node ws j)
+          → filter_map (in_view p.table.generation (grants lock)) (way (claim_letter p lock post w) p.master j) ++ option_to_list (mode_of_node ws j)
           ≡ filter_map (in_view p.table.generation (grants lock)) (way post p.master j) ++ option_to_list (mode_of_node (w ∷ ws) j)
       by (inl is) =
-          ap (λ (o : Option Mode). filter_map (in_view p.table.generation (grants lock)) (way (grant_letter p lock post w) p.master j) ++ option_to_list o)
+          ap (λ (o : Option Mode). filter_map (in_view p.table.generation (grants lock)) (way (claim_letter p lock post w) p.master j) ++ option_to_list o)
           (absent-mode ws j (absent-along ws w.node j is.1 one.0))
           ∙ (append-nil _
-          ∙ (subst (λ (i : ℕ). filter_map (in_view p.table.generation (grants lock)) (way (grant_letter p lock post w) p.master i)
+          ∙ (subst (λ (i : ℕ). filter_map (in_view p.table.generation (grants lock)) (way (claim_letter p lock post w) p.master i)
           ≡ filter_map (in_view p.table.generation (grants lock)) (way post p.master i) ++ w.mode ∷ []) is.1 (grant-says lock p post w)
           ∙ rw is.0 refl))
       by (inr ne) = ap (λ (ms : List Mode). ms ++ option_to_list (mode_of_node ws j)) (grant-away lock p post w j (λ e. ne.1 (sym e))) ∙ rw ne.0 refl
@@ -335,7 +342,7 @@ module _ (lock : LockName) (p : Parts) (inv : Inv lock p) where
   split = subst (λ (g : List Claim). IsSplit [] (now.conversions ++ now.requests) g ((after_grants now).conversions ++ (after_grants now).requests)) (sym lost.granted)
       (split-on now.conversions now.requests lost.converted lost.requested (after_grants now).conversions (after_grants now).requests lost.conversions lost.requests)
 
-  turned : (j : ℕ) → j ≤ 8 → Stage (seen lock p (after_grants now) (fold (grant_letter p lock) p.post given) j)
+  turned : (j : ℕ) → j ≤ 8 → Stage (seen lock p (after_grants now) (fold (claim_letter p lock) p.post given) j)
   turned j x = by (mode_of_node given j) refl
     where
       tells : (mode_of_node given j ≡ None → mode_of_node ((after_grants now).conversions ++ (after_grants now).requests) j ≡ mode_of_node (now.conversions ++ now.requests) j)
@@ -346,37 +353,37 @@ module _ (lock : LockName) (p : Parts) (inv : Inv lock p) where
       one : OneEach given
       one = (split-one (now.conversions ++ now.requests) given ((after_grants now).conversions ++ (after_grants now).requests) split inv.sound.waits_once).0
 
-      by : (o : Option Mode) → mode_of_node given j ≡ o → Stage (seen lock p (after_grants now) (fold (grant_letter p lock) p.post given) j)
-      by None e = sees (sight lock p j) (seen lock p (after_grants now) (fold (grant_letter p lock) p.post given) j) refl refl
+      by : (o : Option Mode) → mode_of_node given j ≡ o → Stage (seen lock p (after_grants now) (fold (claim_letter p lock) p.post given) j)
+      by None e = sees (sight lock p j) (seen lock p (after_grants now) (fold (claim_letter p lock) p.post given) j) refl refl
           (sym (ap (λ (o : Option Mode). unwrap_or o Nl) (lost.others j (none-of given j e))))
           (sym (tells.0 e)) (sym (letters-mute-all lock p j given p.post))
           (sym (letters-say-all lock p j given p.post one ∙ (ap (λ (o : Option Mode). grants_coming lock p j ++ option_to_list o) e ∙ append-nil _)))
           (inv.stages j x)
-      by (Some mode) e = sees _ (seen lock p (after_grants now) (fold (grant_letter p lock) p.post given) j) refl refl
+      by (Some mode) e = sees _ (seen lock p (after_grants now) (fold (claim_letter p lock) p.post given) j) refl refl
           (sym (given-node (after_grants now).held given j mode (lost.given inv.sound) e))
           (sym (tells.1 mode e).1) (sym (letters-mute-all lock p j given p.post))
           (sym (letters-say-all lock p j given p.post one ∙ ap (λ (o : Option Mode). grants_coming lock p j ++ option_to_list o) e))
           (stages.is-granted (sight lock p j) mode (inv.stages j x) (tells.1 mode e).0)
 
-  grants-next : Inv lock (record p { table = after_turns p.table lock; post = fold (grant_letter p lock) p.post given })
+  grants-next : Inv lock (record p { table = after_turns p.table lock; post = fold (claim_letter p lock) p.post given })
   grants-next = by (at_lock p.table.table lock) refl
     where
       good : IsSound (after_grants now) × Together (after_grants now).held
       good = (sound-grants now inv.sound, grants-keep now inv.together)
 
       by : (o : Option LockState) → at_lock p.table.table lock ≡ o
-          → Inv lock (record p { table = cond (is_none (at_lock p.table.table lock)) p.table (with_state p.table lock (after_grants now)); post = fold (grant_letter p lock) p.post given })
-      by (Some t) e = subst (λ (b : Bool). Inv lock (record p { table = cond b p.table (with_state p.table lock (after_grants now)); post = fold (grant_letter p lock) p.post given }))
-          (sym (ap is_none e)) (wrote lock p (after_grants now) (fold (grant_letter p lock) p.post given) inv good turned)
+          → Inv lock (record p { table = cond (is_none (at_lock p.table.table lock)) p.table (with_state p.table lock (after_grants now)); post = fold (claim_letter p lock) p.post given })
+      by (Some t) e = subst (λ (b : Bool). Inv lock (record p { table = cond b p.table (with_state p.table lock (after_grants now)); post = fold (claim_letter p lock) p.post given }))
+          (sym (ap is_none e)) (wrote lock p (after_grants now) (fold (claim_letter p lock) p.post given) inv good turned)
       by None e =
           let free : now ≡ free_lock = lock-free p.table.table lock e in
           let same : after_grants now ≡ now = ap after_grants free ∙ sym free in
-          subst (λ (b : Bool). Inv lock (record p { table = cond b p.table (with_state p.table lock (after_grants now)); post = fold (grant_letter p lock) p.post given }))
+          subst (λ (b : Bool). Inv lock (record p { table = cond b p.table (with_state p.table lock (after_grants now)); post = fold (claim_letter p lock) p.post given }))
           (sym (ap is_none e)) (record {
             master = inv.master;
             sound = inv.sound;
             together = inv.together;
-            stages = λ j x. subst (λ (u : LockState). Stage (seen lock p u (fold (grant_letter p lock) p.post given) j)) same (turned j x);
+            stages = λ j x. subst (λ (u : LockState). Stage (seen lock p u (fold (claim_letter p lock) p.post given) j)) same (turned j x);
           })
 
 -- ---- the calls
@@ -388,7 +395,7 @@ master-keeps lock p _ (calls.Requested k mode rest x hand) inv = by (request_wai
     f = finds-request lock p k mode rest inv x hand
 
     by : (c : Option Cause) → IsSound (requested c (lock_in_table lock p) k mode) × Together (requested c (lock_in_table lock p) k mode).held
-        → Inv lock (record p { table = with_state p.table lock (requested c (lock_in_table lock p) k mode); post = reply p lock (claim k mode) c (with_left p.post k p.master rest) })
+        → Inv lock (record p { table = with_state p.table lock (requested c (lock_in_table lock p) k mode); post = reply p lock k mode (answer_by c (lock_in_table lock p)) (with_left p.post k p.master rest) })
     by None good = granted-now lock p k mode (Request lock mode) (runs.Requests k mode) rest inv x hand (cond-true _ _ _ (same-self lock)) refl f.heard good
     by (Some cause) good =
         let joined = append_assoc (lock_in_table lock p).conversions (lock_in_table lock p).requests (claim k mode ∷ []) in
@@ -402,7 +409,7 @@ master-keeps lock p _ (calls.Converted k mode rest x hand) inv = by (convert_wai
     f = finds-conversion lock p k mode rest inv x hand
 
     by : (c : Option Cause) → IsSound (converted c (lock_in_table lock p) k mode) × Together (converted c (lock_in_table lock p) k mode).held
-        → Inv lock (record p { table = with_state p.table lock (converted c (lock_in_table lock p) k mode); post = reply p lock (claim k mode) c (with_left p.post k p.master rest) })
+        → Inv lock (record p { table = with_state p.table lock (converted c (lock_in_table lock p) k mode); post = reply p lock k mode (answer_by c (lock_in_table lock p)) (with_left p.post k p.master rest) })
     by None good = granted-now lock p k mode (Convert lock mode) (runs.Converts k mode) rest inv x hand (cond-true _ _ _ (same-self lock)) refl f.heard good
     by (Some cause) good =
         let joined = append_assoc (lock_in_table lock p).conversions (claim k mode ∷ []) (lock_in_table lock p).requests in
@@ -442,10 +449,11 @@ master-keeps lock p _ calls.GrantsNext inv = by (is_blocked p.table)
   where
     by : (b : Bool) → Inv lock (record p {
       table = cond b p.table (after_turns p.table lock);
-      post = cond b p.post (fold (grant_letter p lock) p.post (all_turns (lock_in_table lock p)).granted);
+      post = fold (grant_letter p lock) p.post (cond b [] (grants_of (lock_in_table lock p)));
     })
     by true = inv
-    by false = grants-next lock p inv
+    by false = subst (λ (post : Post). Inv lock (record p { table = after_turns p.table lock; post = post }))
+        (sym (granted-letters lock p (all_turns (lock_in_table lock p)).granted p.post)) (grants-next lock p inv)
 master-keeps lock p _ (calls.Blocks rebuild waiting) inv = record { master = inv.master; sound = inv.sound; together = inv.together; stages = inv.stages }
 master-keeps lock p _ (calls.TableElsewhere other t ne) inv =
     let same : lock_of (with_state p.table other t) lock ≡ lock_in_table lock p = ap (λ (o : Option LockState). unwrap_or o free_lock) (at_lock-with_other p.table.table other lock t ne) in

@@ -1,5 +1,5 @@
 -- The calls on one lock while the members stay the same, each with the definition that its contract cites.
-use Rattle.std.specs.Prelude.{ℕ, ◌≡◌, ◌≢◌, ◌≤◌, true, Bool, List, [], ◌∷◌, Option, None, Some, fold, if◌then◌else◌}
+use Rattle.std.specs.Prelude.{ℕ, ◌≡◌, ◌≢◌, ◌≤◌, true, Bool, List, [], ◌∷◌, Option, None, fold}
 use Rattle.std.specs.List.{filter_map}
 use Rattle.glock_names.specs.declared.LockName.{LockName}
 use Rattle.glock_names.specs.LockMaps.{with_lock}
@@ -12,11 +12,11 @@ use Rattle.mail_queues.specs.declared.Body.{Body}
 use Rattle.mail_queues.specs.declared.Body.TheVariants.{Request, Convert, Down, Grant}
 use Rattle.dlm_holder.specs.declared.Holding.{Holding}
 use Rattle.dlm_holder.specs.Holdings.{Holdings, knows, mode_in, wanted_in, asked_for, granted_to, lowered_to}
-use Rattle.dlm_master.specs.declared.claims.Claim.{Claim}
-use Rattle.dlm_master.specs.declared.claims.Cause.{Cause}
+use Rattle.dlm_master.specs.declared.claims.Answer.{Answer}
+use Rattle.dlm_master.specs.declared.claims.Answer.TheVariants.{Granted, Waiting}
 use Rattle.dlm_master.specs.LockState.{LockState}
-use Rattle.dlm_master.specs.Locks.{all_turns}
-use Rattle.dlm_master.specs.Tables.{held_by, holds_above, is_blocked, request_waits, convert_waits, with_state, after_request, after_convert, after_down, after_next}
+use Rattle.dlm_master.specs.Locks.{answer_by}
+use Rattle.dlm_master.specs.Tables.{held_by, holds_above, request_waits, convert_waits, with_state, after_request, after_convert, after_down, next_of, after_next}
 use Rattle.lock_laws.specs.Lock.{at}
 use Rattle.lock_steps.specs.Parts.{Post, with_letters, with_left}
 use Rattle.lock_steps.specs.Ties.{in_view, grants}
@@ -59,14 +59,14 @@ pub data NodeCall (lock : LockName) (p : Parts) : Parts → Type 0 where
 
 -- ---- the lock's master
 
--- the letter to a node that is granted the lock in this mode
-abbrev pub grant_letter : Parts → LockName → Post → Claim → Post
-grant_letter p lock post c = with_letters post p.master c.node (now_says p (Grant lock c.mode (lock_in_table lock p).value) ∷ [])
+-- the letter to a node that is granted the lock in this mode, with this value
+abbrev pub grant_letter : Parts → LockName → Post → ℕ × Mode × ValueBlock → Post
+grant_letter p lock post grant = with_letters post p.master grant.0 (now_says p (Grant lock grant.1 grant.2) ∷ [])
 
--- it goes to a node that needn't wait
-abbrev pub reply : Parts → LockName → Claim → Option Cause → Post → Post
-reply p lock c None post = grant_letter p lock post c
-reply p lock c (Some cause) post = post
+-- it goes to a node whose answer is a grant
+abbrev pub reply : Parts → LockName → ℕ → Mode → Answer → Post → Post
+reply p lock k mode (Granted value) post = grant_letter p lock post (k, mode, value)
+reply p lock k mode (Waiting cause) post = post
 
 -- on a message in hand. That the first two, and the third where it lowers, meet what the calls require is a law: `MeetCalls`
 pub data MasterCall (lock : LockName) (p : Parts) : Parts → Type 0 where
@@ -74,13 +74,13 @@ pub data MasterCall (lock : LockName) (p : Parts) : Parts → Type 0 where
   Requested : (k : ℕ) (mode : Mode) (rest : List Message) → k ≤ 8 → p.post.took k p.master ≡ now_says p (Request lock mode) ∷ rest
       → MasterCall lock p (record p {
         table = after_request p.table k lock mode;
-        post = reply p lock (record { node = k; mode = mode }) (request_waits p.table k lock mode) (with_left p.post k p.master rest);
+        post = reply p lock k mode (answer_by (request_waits p.table k lock mode) (lock_in_table lock p)) (with_left p.post k p.master rest);
       })
   -- `Master::convert`
   Converted : (k : ℕ) (mode : Mode) (rest : List Message) → k ≤ 8 → p.post.took k p.master ≡ now_says p (Convert lock mode) ∷ rest
       → MasterCall lock p (record p {
         table = after_convert p.table k lock mode;
-        post = reply p lock (record { node = k; mode = mode }) (convert_waits p.table k lock mode) (with_left p.post k p.master rest);
+        post = reply p lock k mode (answer_by (convert_waits p.table k lock mode) (lock_in_table lock p)) (with_left p.post k p.master rest);
       })
   -- `Master::down`
   Lowered : (k : ℕ) (mode : Mode) (value : Option (List ℕ)) (rest : List Message) → k ≤ 8 → p.post.took k p.master ≡ now_says p (Down lock mode value) ∷ rest
@@ -93,7 +93,7 @@ pub data MasterCall (lock : LockName) (p : Parts) : Parts → Type 0 where
   -- `Master::next_grants`, and a letter to each who is granted
   GrantsNext : MasterCall lock p (record p {
     table = after_next p.table lock;
-    post = if is_blocked p.table then p.post else fold (grant_letter p lock) p.post (all_turns (lock_in_table lock p)).granted;
+    post = fold (grant_letter p lock) p.post (next_of p.table lock);
   })
   -- `Master::blocked`
   Blocks : (rebuild : Bool) (waiting : ℕ) → MasterCall lock p (record p { table = record p.table { rebuild = rebuild; waiting = waiting } })

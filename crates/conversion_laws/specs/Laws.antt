@@ -1,24 +1,30 @@
 -- What holds of a lock after every list of calls, conversions in all six modes among them.
-use Rattle.std.specs.Prelude.{ℕ, ◌≡◌, ◌≢◌, ◌≤◌, ◌⊎◌, true, false, List, [], ◌∷◌, Option, None, Some}
+use Rattle.std.specs.Prelude.{ℕ, ◌≡◌, ◌≢◌, ◌<◌, ◌≤◌, ◌⊎◌, true, false, List, [], ◌∷◌, Option, None, Some}
 use Rattle.std.specs.List.{AllByRecursion}
 use Rattle.glock_names.specs.declared.LockName.{LockName}
 use Rattle.dlm_modes.specs.declared.Mode.{Mode}
-use Rattle.dlm_modes.specs.declared.Mode.TheVariants.{Nl}
 use Rattle.dlm_modes.specs.declared.ValueBlock.{ValueBlock}
 use Rattle.dlm_modes.specs.Modes.{go_together, is_at_least}
 use Rattle.mail_queues.specs.declared.Message.{Message}
 use Rattle.mail_queues.specs.declared.Body.TheVariants.{Request, Convert, Down, Grant}
 use Rattle.dlm_holder.specs.Holdings.{knows, mode_in, wanted_in}
+use Rattle.dlm_master.specs.Claims.{Together}
+use Rattle.dlm_master.specs.Laws.{IsSound}
 use Rattle.dlm_master.specs.Locks.{free_lock}
 use Rattle.dlm_master.specs.Tables.{held_by, waits_for, holds_above, holds_covered}
+use Rattle.dlm_rebuild.specs.Runs as rebuilds
 use Rattle.conversion_laws.specs.Parts.{Parts, now_says, calls_coming, grants_coming, lock_in_table, table_mode, asks_of, held_or_coming}
 use Rattle.conversion_laws.specs.Calls.{Call, Calls}
 
--- the start: nothing of the lock is held, asked for, or under way
+-- the start: the table has of each node just what it holds, in modes that go together; nobody asks, and nothing of the lock is under
+-- way. So it is where nobody holds the lock, and where a view begins (`ViewsFollow`)
 pub record Begins (lock : LockName) (p : Parts) : Type 0 where
   pub master : p.master ≤ 8
-  pub table : lock_in_table lock p ≡ free_lock
-  pub held : (k : ℕ) → k ≤ 8 → mode_in (p.holders k) lock ≡ Nl
+  pub sound : IsSound (lock_in_table lock p)
+  pub together : Together (lock_in_table lock p).held
+  pub held : (k : ℕ) → k ≤ 8 → table_mode lock p k ≡ mode_in (p.holders k) lock
+  pub conversions : (lock_in_table lock p).conversions ≡ []
+  pub requests : (lock_in_table lock p).requests ≡ []
   pub wanted : (k : ℕ) → k ≤ 8 → wanted_in (p.holders k) lock ≡ None
   pub calls : (k : ℕ) → k ≤ 8 → calls_coming lock p k ≡ []
   pub grants : (k : ℕ) → k ≤ 8 → grants_coming lock p k ≡ []
@@ -26,6 +32,9 @@ pub record Begins (lock : LockName) (p : Parts) : Type 0 where
 -- ---- the table, and what nodes hold
 
 pub record AreRight (lock : LockName) (p : Parts) : Type 0 where
+  -- the table has nobody twice, and its modes go together
+  pub sound : IsSound (lock_in_table lock p)
+  pub together : Together (lock_in_table lock p).held
   -- the table has of each node at least what it holds, and what is granted to it and on its way
   pub covers : (k : ℕ) → k ≤ 8 → AllByRecursion (λ mode. is_at_least (table_mode lock p k) mode ≡ true) (held_or_coming lock p k)
   -- what one node holds or is granted goes with what another holds or is granted
@@ -38,6 +47,28 @@ pub record AreRight (lock : LockName) (p : Parts) : Type 0 where
 
 abbrev pub EveryListIsRight : Type 0
 EveryListIsRight = (lock : LockName) (p q : Parts) → Begins lock p → Calls lock p q → AreRight lock q
+
+-- ---- a view follows another
+
+-- the start of a view, behind these parts of the old one: each node holds what it held or less, as nothing in a new life; its ask is
+-- over; and a rebuild has heard reports, by which the table was made
+pub record FollowsView (lock : LockName) (p q : Parts) : Type 0 where
+  pub master : q.master ≤ 8
+  pub kept : (k : ℕ) → k ≤ 8 → is_at_least (mode_in (p.holders k) lock) (mode_in (q.holders k) lock) ≡ true
+  pub wanted : (k : ℕ) → k ≤ 8 → wanted_in (q.holders k) lock ≡ None
+  pub calls : (k : ℕ) → k ≤ 8 → calls_coming lock q k ≡ []
+  pub grants : (k : ℕ) → k ≤ 8 → grants_coming lock q k ≡ []
+  pub reports : List rebuilds.Call
+  pub may : rebuilds.MayCallAll free_lock reports
+  pub table : lock_in_table lock q ≡ rebuilds.after_all free_lock reports
+  -- each node told last what it holds
+  pub told : (k : ℕ) → k ≤ 8 → rebuilds.last_told reports k None ≡ rebuilds.told (mode_in (q.holders k) lock)
+  pub others : (k : ℕ) → 8 < k → rebuilds.last_told reports k None ≡ None
+  pub conversions : (lock_in_table lock q).conversions ≡ []
+  pub requests : (lock_in_table lock q).requests ≡ []
+
+abbrev pub ViewsFollow : Type 0
+ViewsFollow = (lock : LockName) (p q : Parts) → AreRight lock p → FollowsView lock p q → Begins lock q
 
 -- ---- a holder is never stronger than granted
 

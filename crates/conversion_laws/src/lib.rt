@@ -2,12 +2,18 @@
 #![tactic(auto)]
 
 ghost use Rattle.conversion_laws.specs.Example.{ListCanBeMade};
-ghost use Rattle.conversion_laws.specs.Laws.{EveryListIsRight, HoldersRiseByGrants, MessagesMeetCalls};
+ghost use Rattle.conversion_laws.specs.Laws.{EveryListIsRight, ViewsFollow, HoldersRiseByGrants, MessagesMeetCalls};
 
 /// A law: after every list of calls the table has of each node at least what it holds and is granted, and what nodes hold and are
 /// granted goes together.
 pub fn every_list_is_right()
     ensures { EveryListIsRight }
+{}
+
+/// A law: where a view ends and the next one begins with a table that is made of what each node reports, the list of calls goes on: its
+/// start is one of those from which the laws are.
+pub fn views_follow()
+    ensures { ViewsFollow }
 {}
 
 /// A law: a node comes to hold more only by a grant that was on its way to it, and then just that.
