@@ -77,6 +77,11 @@ class Lock:
         self.hold(node, mode)
         return "down"
 
+    def report(self, node, mode):
+        self.rebuild, self.slots = True, []
+        self.hold(node, mode)
+        return "reported"
+
     def next_grants(self):
         told = []
         if not self.rebuild and not self.slots:
@@ -119,8 +124,8 @@ def row():
     yield lock.next_grants()
 
 
-def random_calls(seed):
-    """24 calls of the nodes 1 to 4 on two locks of one master, by seed."""
+def drawing(seed):
+    """Numbers below a count that follow from a seed."""
     x = seed
 
     def draw(count):
@@ -128,6 +133,31 @@ def random_calls(seed):
         x = (x * 6364136223846793005 + 1442695040888963407) % 2**64
         return (x >> 33) % count
 
+    return draw
+
+
+def random_conversions(seed):
+    """Three nodes report to a rebuild that they hold the lock, in Cr or Pr; then 24 calls, most of them on conversions, by seed."""
+    draw, lock = drawing(seed), Lock()
+    for node in (1, 2, 3):
+        yield lock.report(node, MODES[1 + 2 * draw(2)])
+    for _ in range(24):
+        kind, node, mode, byte = draw(8), 1 + draw(3), MODES[draw(6)], draw(256)
+        if kind < 3:
+            yield lock.request(node, mode) if lock.mode(node) is None else lock.convert(node, mode)
+        elif kind < 5:
+            yield lock.down(node, mode, byte if byte % 2 == 1 else None)
+        elif kind < 7:
+            yield lock.next_grants()
+        else:
+            lock.rebuild, lock.slots = byte % 4 == 0, [node] if byte % 4 == 1 else []
+            yield "blocked"
+    yield lock.callbacks()
+
+
+def random_calls(seed):
+    """24 calls of the nodes 1 to 4 on two locks of one master, by seed."""
+    draw = drawing(seed)
     locks = Lock(), Lock()
     for _ in range(24):
         kind, node, mode, byte, lock = draw(8), 1 + draw(4), MODES[draw(6)], draw(256), locks[draw(4) // 3]
@@ -151,7 +181,7 @@ def random_calls(seed):
 def lines():
     yield from row()
     for hundred in range(100):
-        text = "".join(line + "\n" for seed in range(100 * hundred, 100 * hundred + 100) for line in random_calls(seed))
+        text = "".join(line + "\n" for seed in range(100 * hundred, 100 * hundred + 100) for line in (random_conversions if seed % 5 < 2 else random_calls)(seed))
         yield f"{zlib.crc32(text.encode()):08x}"
 
 

@@ -243,16 +243,94 @@ fn call(out: &mut String, master: &mut Master, draw: &mut Draw) -> Result<(), No
     }
 }
 
-/// The checksum of the answers of a hundred lists of 24 calls each.
+// A node that tells a rebuild that isn't done what it holds.
+fn report(
+    out: &mut String,
+    master: &mut Master,
+    lock: LockName,
+    claim: Claim,
+) -> Result<(), NoMemory> {
+    let Claim { node, mode } = claim;
+    master.blocked(true, 0);
+    if master.waits(node, lock) {
+        writeln!(out, "-")?;
+        return Ok(());
+    }
+    master.report(node, lock, mode)?;
+    writeln!(out, "reported")?;
+    Ok(())
+}
+
+// A node that holds the lock asks for another mode, and one that doesn't for the lock.
+fn ask(
+    out: &mut String,
+    master: &mut Master,
+    lock: LockName,
+    claim: Claim,
+) -> Result<(), NoMemory> {
+    match master.held(claim.node, lock) {
+        None => request(out, master, lock, claim),
+        Some(_) => convert(out, master, lock, claim),
+    }
+}
+
+fn conversion_call(out: &mut String, master: &mut Master, draw: &mut Draw) -> Result<(), NoMemory> {
+    let kind = draw.below(8);
+    let node = 1 + draw.below(3) as u8;
+    let mode = mode_at(draw.below(6));
+    let byte = draw.below(256) as u8;
+    let claim = Claim { node, mode };
+    if kind < 3 {
+        ask(out, master, LOCK, claim)
+    } else if kind < 5 {
+        let value = if byte % 2 == 1 {
+            Some(value_of(byte))
+        } else {
+            None
+        };
+        down(out, master, LOCK, claim, value)
+    } else if kind < 7 {
+        next_grants(out, master, LOCK)
+    } else {
+        block(out, master, node, byte)
+    }
+}
+
+// Three nodes report to a rebuild that they hold the lock, in Cr or Pr; then 24 calls on that lock, most of them on conversions.
+fn conversions(out: &mut String, alloc: Global, seed: u64) -> Result<(), NoMemory> {
+    let mut master = Master::new(alloc, 1);
+    let mut draw = Draw { x: seed };
+    for node in 1..4u8 {
+        let mode = mode_at(1 + 2 * draw.below(2));
+        report(out, &mut master, LOCK, Claim { node, mode })?;
+    }
+    for _ in 0..24u64 {
+        conversion_call(out, &mut master, &mut draw)?;
+    }
+    callbacks(out, &master, LOCK)
+}
+
+// 24 calls of four nodes on two locks.
+fn calls(out: &mut String, alloc: Global, seed: u64) -> Result<(), NoMemory> {
+    let mut master = Master::new(alloc, 1);
+    let mut draw = Draw { x: seed };
+    for _ in 0..24u64 {
+        call(out, &mut master, &mut draw)?;
+    }
+    Ok(())
+}
+
+/// The checksum of the answers of a hundred lists of calls, forty of them on conversions.
 pub fn hundred(alloc: Global, place: u64) -> Result<u32, NoMemory>
     requires { place < 100 }
 {
     let mut text = String::new(alloc);
     for k in 0..100u64 {
-        let mut master = Master::new(alloc, 1);
-        let mut draw = Draw { x: 100 * place + k };
-        for _ in 0..24u64 {
-            call(&mut text, &mut master, &mut draw)?;
+        let seed = 100 * place + k;
+        if seed % 5 < 2 {
+            conversions(&mut text, alloc, seed)?;
+        } else {
+            calls(&mut text, alloc, seed)?;
         }
     }
     Ok(crc32(text.as_bytes()))
