@@ -27,7 +27,7 @@ use Rattle.lock_steps.proofs.Tying.{now-says, holding-is, holding-away}
 use Rattle.conversion_laws.specs.Parts.{Parts, now_says, grants_coming, lock_in_table, table_mode, held_or_coming}
 use Rattle.conversion_laws.specs.Calls.{NodeCall, Call, OfMail, OfNode, OfMaster, Calls, NoCall, AndCall}
 use Rattle.conversion_laws.specs.Calls as calls
-use Rattle.conversion_laws.specs.Laws.{Begins, AreRight, EveryListIsRight, FollowsView, ViewsFollow, RisesByGrant, Rises, Keeps, HoldersRiseByGrants, MeetCalls, MessagesMeetCalls}
+use Rattle.conversion_laws.specs.Laws.{Begins, AreRight, EveryListIsRight, ViewsFollow, RisesByGrant, Rises, Keeps, HoldersRiseByGrants, MeetCalls, MessagesMeetCalls}
 use Rattle.conversion_laws.proofs.Stages.{Tells, sees, covered, exact, one-ask, was-asked}
 use Rattle.conversion_laws.proofs.Nodes.{sight, Inv, mail-keeps-inv, node-keeps, grant-first}
 use Rattle.conversion_laws.proofs.Masters.{master-keeps, meets-request, meets-conversion, meets-lower}
