@@ -6,7 +6,7 @@ use Rattle.file_tree.specs.Tree.{Tree}
 use Rattle.trace_text.specs.declared.item.TraceItem.{TraceItem}
 use Rattle.trace_text.specs.declared.item.TraceItem.TheVariants as trace
 use Rattle.script_lang.specs.declared.script.Client.{Client}
-use Rattle.run_rules.specs.Lives.{Life, AcceptedHead, items_of, is_replays}
+use Rattle.run_rules.specs.Lives.{Life, AcceptedHead, own_from}
 use Rattle.cluster_laws.specs.Files.{Files, Image, Un, laid}
 use Rattle.cluster_laws.specs.Book.{at, flushed, settled, relocked}
 use Rattle.cluster_laws.specs.Mirror.{Head, Heads, either, ended, flown, headed, chosen}
@@ -19,10 +19,10 @@ use Rattle.event_lists.proofs.Beginning.{dirty_start as starts}
 use Rattle.tree_histories.specs.Trees as trees
 use Rattle.tree_histories.specs.Trees.{Images, Trees}
 use Rattle.head_laws.specs.Example.{clean}
-use Rattle.head_laws.specs.Journals.{Journal, Events, IsNew, IsNoted, Says, Joins, Done, Then}
+use Rattle.head_laws.specs.Journals.{Journal, Events, IsNew, IsFirst, Says, Joins, Done, Then}
 use Rattle.head_laws.specs.Traces.{Told, journal_of, Begins}
 use Rattle.head_laws.specs.Tellings.{Beside, told_of, Changed, Replay, Settled, Tellings, Nothing, AnEvent, AnItem, Lands}
-use Rattle.head_laws.specs.DirtyStart.{dirty_start, heads_at_start, dirty_begin, dirty_run, DirtyStartIsTold}
+use Rattle.head_laws.specs.DirtyStart.{dirty_start, disk_heads, dirty_begin, dirty_run, DirtyStartIsTold}
 use Rattle.head_laws.proofs.Items.{eqb-other}
 
 no-way : {A : Type 0} → false ≡ true → A
@@ -66,12 +66,12 @@ module _ (I : Images) (clients : List Client) (m : Image (Trees I)) (t : Tree) (
       rest b q (inl e) is = none-some (subst (λ (k : ℕ). at {A = Option I.Content} (λ k. None) 5 (Some v) k ≡ None) e is) refl
       rest b q (inr ne) is = sym (ap (λ (q : Bool). if q then d else (m b).content) (eqb-other b 5 ne))
 
-  joined : (i : ℕ) → (j : Journal) × IsNew j × Events i (λ p. heads_at_start i) j [] (journal_of I a i) (trace.Join 1 ∷ [])
+  joined : (i : ℕ) → (j : Journal) × IsNew j × Events i (disk_heads i) j [] (journal_of I a i) (trace.Join 1 ∷ [])
   joined i = elim (cases_eq i 1) [
-    | inl e ↦ subst (λ (k : ℕ). (j : Journal) × IsNew j × Events k (λ p. heads_at_start k) j [] (journal_of I a k) (trace.Join 1 ∷ [])) (sym e) (
+    | inl e ↦ subst (λ (k : ℕ). (j : Journal) × IsNew j × Events k (disk_heads k) j [] (journal_of I a k) (trace.Join 1 ∷ [])) (sym e) (
       record (journal_of I a 1) { runs = false },
       record { runs = refl; unlost = refl; last = refl; cut = λ c. refl; name = refl; flies = refl; silent = refl },
-      Then _ _ _ _ Done (Joins refl (inr refl) refl refl),
+      Then _ _ _ _ Done (Joins refl (inr refl) (inl refl) refl),
     )
     | inr ne ↦ (
       journal_of I a i,
@@ -80,7 +80,7 @@ module _ (I : Images) (clients : List Client) (m : Image (Trees I)) (t : Tree) (
     )
   ]
 
-  begins : F.Stands m t → Begins I clients (λ i p. heads_at_start i) a
+  begins : F.Stands m t → Begins I clients disk_heads a
   begins stands = record { starts = starts F (dirty_start I m t d said) (is-start stands); joined = joined; history = refl }
 
   -- ---- what comes, where the past has this header and these blocks go home
@@ -248,39 +248,37 @@ module _ (I : Images) (clients : List Client) (m : Image (Trees I)) (t : Tree) (
   unsaid : (t : Told I) (names : ℕ → Bool → AcceptedHead) → t.items ≡ t.items ++ [] → Changed I t (untold t names) names (t.silent) []
   unsaid t names same = record { named = refl; silenced = refl; said = same }
 
-  abbrev behind : ℕ → ℕ → AcceptedHead
-  behind i p = heads_at_start i
-
-  at_home : Tellings I clients behind a t3
+  at_home : Tellings I clients disk_heads a t3
   at_home =
       AnItem _ (trace.WriteReplay 1 31)
       (AnEvent t2 (untold t2 (t2.names)) c2 lands
       (AnItem _ (trace.Barrier 1)
       (AnEvent t1 (untold t1 (t1.names)) c1 writes
-      (AnItem a (trace.WriteReplay 1 5) Nothing (λ i s. no-way s))
+      (AnItem a (trace.WriteReplay 1 5) Nothing tt)
       (unsaid t1 (t1.names) refl)) tt)
-      (unsaid t2 (t2.names) refl)) (λ i s. no-way s)
+      (unsaid t2 (t2.names) refl)) tt
 
-  noted : IsNoted 1 (journal_of I t5 1) (t5.items) (clean 31 9)
-  noted runs l is = subst (λ (k : Life). is_replays 1 31 false (items_of k (t5.items)) ≡ true) (inside is) refl
-
-  is_clean : Tellings I clients behind a t6
+  is_clean : Tellings I clients disk_heads a t6
   is_clean =
       Lands t5 1 (clean 31 9)
       (AnEvent t4 (untold t4 names5) c4 ends-clean
       (AnItem _ (trace.Barrier 1)
       (AnEvent t3 (untold t3 names4) c3 begins-clean at_home
-      (Replay (clean 31 9) refl (inr (inr refl)) refl (omega arith) (λ runs. no-way runs) (unsaid t3 names4 refl))) tt)
+      (Replay (clean 31 9) refl (inr (inr refl)) (unsaid t3 names4 refl))) tt)
       (Settled (λ runs. refl) (unsaid t4 names5 refl)))
-      (record { waits = refl; over = inr (inl refl); alone = refl; clean = refl; later = omega arith; noted = noted })
+      (record { waits = refl; over = inr (inl refl); alone = refl })
 
-  is_told : Tellings I clients behind a t9
+  -- behind the item that the slot is recovered the disk has the clean header
+  its-first : IsFirst 1 (disk_heads 1) (journal_of I t7 1) (t7.items)
+  its-first runs l is = subst (λ (k : Life). disk_heads 1 (own_from k (t7.items)) ≡ clean 31 9) (inside is) refl
+
+  is_told : Tellings I clients disk_heads a t9
   is_told =
       AnEvent t8 (untold t8 (t8.names)) c7 past-ends
       (AnEvent t7 (untold t7 (t7.names)) c6 recovers
       (AnItem _ (trace.Recovered 1 1)
-      (AnEvent t6 (untold t6 (t6.names)) c5 settles is_clean (unsaid t6 (t6.names) refl)) tt)
-      (unsaid t7 (t7.names) refl))
+      (AnEvent t6 (untold t6 (t6.names)) c5 settles is_clean (unsaid t6 (t6.names) refl)) refl)
+      (its-first, unsaid t7 (t7.names) refl))
       (refl, unsaid t8 (t8.names) refl)
 
   nobody-waits : (i : ℕ) → (c7.waits i) ≡ false
@@ -291,8 +289,8 @@ module _ (I : Images) (clients : List Client) (m : Image (Trees I)) (t : Tree) (
       by true false = refl
       by false false = refl
 
-  pub dirty-start : F.Stands m t → Begins I clients behind a
-      × ((e : Told I) × Tellings I clients behind a e × (e.items ≡ dirty_run) × ((i : ℕ) → (e.cluster).waits i ≡ false) × (e.names 1 false ≡ clean 31 9))
+  pub dirty-start : F.Stands m t → Begins I clients disk_heads a
+      × ((e : Told I) × Tellings I clients disk_heads a e × (e.items ≡ dirty_run) × ((i : ℕ) → (e.cluster).waits i ≡ false) × (e.names 1 false ≡ clean 31 9))
   dirty-start stands = (begins stands, (t9, is_told, refl, nobody-waits, refl))
 
 pub dirty-start-is-told : (I : Images) → DirtyStartIsTold I

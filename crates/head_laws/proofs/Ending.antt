@@ -1,17 +1,17 @@
 -- Heads of replays, heads that come to the disk, and lives that begin and end.
 use Rattle.std.proofs.Common.{ℕ, suc, ◌≡◌, ◌<◌, ◌≤◌, ◌+◌, ◌⊎◌, inl, inr, Bool, true, false, cond, Option, None, Some, List, [], ◌∷◌, ◌++◌, length, drop, refl, sym, ap, ◌∙◌, subst, arith, append-nil, length-append}
-use Rattle.std.specs.Prelude.{◌==◌, ◌&&◌, ◌||◌, not, nat_lt}
+use Rattle.std.specs.Prelude.{◌==◌, ◌||◌, nat_lt}
 use Rattle.std.proofs.lemmas.Bool.{le-ltb, ltb-true, ltb-false, cases_Bool}
 use Rattle.std.proofs.lemmas.Bool.Decides.{eqb_tells}
 use Rattle.std.proofs.Math.Seq.{drop-append-add, take-append_seam}
 use Rattle.trace_text.specs.declared.item.TraceItem.{TraceItem}
 use Rattle.trace_text.specs.declared.item.TraceItem.TheVariants as trace
-use Rattle.run_rules.specs.Lives.{Life, AcceptedHead, last_number, to_its_end, fenced_behind, is_replays, lives_from, lives_of, losses_of, life_at}
+use Rattle.run_rules.specs.Lives.{Life, AcceptedHead, last_number, to_its_end, fenced_behind, recovered_behind, or_else, own_from, lives_from, lives_of, losses_of, life_at}
 use Rattle.cluster_laws.specs.Mirror.{either}
-use Rattle.head_laws.specs.Journals.{Journal, present, IsEnd, IsNoted, EachIsFenced}
+use Rattle.head_laws.specs.Journals.{Journal, present, IsEnd, IsFirst, EachIsFenced}
 use Rattle.head_laws.specs.Laws.{lives_count}
 use Rattle.head_laws.proofs.Items.{true-false, eqb-other, eqb-self, first_of_two, last-on, ended, ended-on, end-open, lives-more, losses-on, count-on, life-newest, rest-on}
-use Rattle.head_laws.proofs.Values.{rest, mine, base, fence, own, value_of, kept_head, value, fence-more, closed-value, NotOwn, HeadsWithin, NoHeads, within-none, waiting-value, mine-open}
+use Rattle.head_laws.proofs.Values.{rest, mine, base, first, fence, own, value_of, kept_head, value, fence-more, closed-value, NotOwn, HeadsWithin, IsIdle, within-none, waiting-value, mine-open}
 use Rattle.head_laws.proofs.Goods.{Closed, Waiting, Acting, Open, Good, Inv, open-runs, none-open}
 use Rattle.head_laws.proofs.Growing.{Keeps, losses-same, life-same, count-same, longer, over-on, going-on, fence-same, base-more, closed-same, closed-on, open-value, waiting-on}
 
@@ -24,58 +24,46 @@ no-some {A} {B} {a} e = absurd (let f : None ≡ Some a = e in cc)
 -- the number of a life that was fenced is fixed
 pub fenced-value : (i : ℕ) (behind : ℕ → AcceptedHead) (l : Life) (items : List TraceItem) (h k : AcceptedHead) (p : ℕ) → fence i l items ≡ Some p → value i behind l items h ≡ value i behind l items k
 fenced-value i behind l items h k p e =
-    ap (λ (o : Option ℕ). value_of (behind l.join).sequence i (mine i l items) (base i l items) (last_number i 0 items) (kept_head behind o h)) e
-    ∙ sym (ap (λ (o : Option ℕ). value_of (behind l.join).sequence i (mine i l items) (base i l items) (last_number i 0 items) (kept_head behind o k)) e)
+    ap (λ (o : Option ℕ). value_of (first i behind l items) i (mine i l items) (base i l items) (last_number i 0 items) (kept_head behind o h)) e
+    ∙ sym (ap (λ (o : Option ℕ). value_of (first i behind l items) i (mine i l items) (base i l items) (last_number i 0 items) (kept_head behind o k)) e)
 
--- while the slot waits, the present life's number is that of the node's last call
-pub waits-value : (i : ℕ) (behind : ℕ → AcceptedHead) (j : Journal) (items : List TraceItem) (l : Life) (d : Bool) → l.join < length items → last_number i 0 items ≡ j.last → Open i behind j items l
-    → Waiting i behind j items l → value i behind l items (j.name d) ≡ j.last
-waits-value i behind j items l d within number o w =
-    open-value i behind l items (trace.View 0) within (j.name d) o.going o.unfenced
-    ∙ (waiting-value (behind l.join).sequence i (rest l items) (base i l items) (last_number i 0 items) (j.name d) w.heads (w.base ∙ sym number) (w.kind d) ∙ number)
+-- while the slot waits, the present life's number is that of the node's last call, whichever head is accepted
+pub waits-value : (i : ℕ) (behind : ℕ → AcceptedHead) (j : Journal) (items : List TraceItem) (l : Life) (h : AcceptedHead) → l.join < length items → last_number i 0 items ≡ j.last → Open i behind j items l
+    → Waiting i behind j items l → value i behind l items h ≡ j.last
+waits-value i behind j items l h within number o w =
+    open-value i behind l items (trace.View 0) within h o.going o.unfenced
+    ∙ (waiting-value (first i behind l items) i (rest l items) (base i l items) (last_number i 0 items) h w.idle (w.base ∙ sym number) ∙ number)
 
 -- a life that ended and has no loss was fenced
-was-fenced : (i : ℕ) (behind : ℕ → AcceptedHead) (j : Journal) (items : List TraceItem) (n : ℕ) (l : Life) → EachIsFenced j → losses_of i items ≤ n → n < losses_of i items + j.unlost
+pub was-fenced : (i : ℕ) (behind : ℕ → AcceptedHead) (j : Journal) (items : List TraceItem) (n : ℕ) (l : Life) → EachIsFenced j → losses_of i items ≤ n → n < losses_of i items + j.unlost
     → Closed i behind j items n l → (p : ℕ) × (fence i l items ≡ Some p)
 was-fenced i behind j items n l who low high c = elim who [
   | inl e ↦ c.fenced (inr (inr e))
   | inr e ↦ elim e [ inl runs ↦ c.fenced (inr (inl runs)) | inr none ↦ absurd (omega (arith, low, high, none)) ]
 ]
 
-noted-here : (i : ℕ) (behind : ℕ → AcceptedHead) (j : Journal) (items : List TraceItem) (inv : Inv i behind j items) (n : ℕ) (l : Life) (h : AcceptedHead) → life_at i n (lives_of items) ≡ Some l
-    → losses_of i items + j.unlost ≤ n → l.node ≡ i → ended i (rest l items) ≡ false → IsNoted i j items h → own (behind l.join).sequence i (rest l items) h ≡ false
-noted-here i behind j items inv n l h is low node going noted =
-    let who = open-runs i behind j items inv n l is low in
-    let now : present i j items ≡ Some l = ap (λ (m : ℕ). life_at i m (lives_of items)) (sym who.1) ∙ is in
-    let stands : is_replays i h.block false (rest l items) ≡ true = ap (is_replays i h.block false) (sym (ap (λ (k : ℕ). mine k l items) node ∙ mine-open i l items going)) ∙ noted who.0 l now in
-    ap (λ (b : Bool). nat_lt (behind l.join).sequence h.sequence && not b) stands ∙ off (nat_lt (behind l.join).sequence h.sequence)
-  where
-    off : (b : Bool) → (b && false) ≡ false
-    off true = refl
-    off false = refl
-
 -- ---- a replay's header
 
-abbrev pub replayed : Journal → ℕ → AcceptedHead → Bool → Journal
-replayed j r h silent = record j { cut = either (j.cut false) (j.cut false); name = either (j.name false) h; flies = Some r; silent = silent }
+abbrev pub replayed : Journal → ℕ → AcceptedHead → Journal
+replayed j r h = record j { cut = either (j.cut false) (j.cut false); name = either (j.name false) h; flies = Some r }
 
-pub replays : (i : ℕ) (behind : ℕ → AcceptedHead) (j : Journal) (items : List TraceItem) (r : ℕ) (h : AcceptedHead) (silent : Bool) → j.waits ≡ true → EachIsFenced j → j.flies ≡ None
-    → h.is_clean ≡ true → (j.name false).sequence ≤ h.sequence → (silent ≡ true → (r ≡ i) × (j.runs ≡ true)) → (silent ≡ false → IsNoted i j items h) → Inv i behind j items → Inv i behind (replayed j r h silent) items
-replays i behind j items r h silent waits who alone clean later own-last noted inv = record {
+pub replays : (i : ℕ) (behind : ℕ → AcceptedHead) (j : Journal) (items : List TraceItem) (r : ℕ) (h : AcceptedHead) → j.waits ≡ true → EachIsFenced j → j.flies ≡ None
+    → Inv i behind j items → Inv i behind (replayed j r h) items
+replays i behind j items r h waits who alone inv = record {
   number = inv.number;
   count = inv.count;
   settled = inv.settled;
   single = λ e. no-some (sym e);
   others = λ s e ne. refl;
   even = λ u why d. evens u why d;
-  silent = λ e. (ap (λ (n : ℕ). Some n) (own-last e).0, (own-last e).1);
+  silent = λ e. no-some (sym alone ∙ (inv.silent e).0);
   lives = λ n l is low.
       let g = inv.lives n l is low in
       record {
         node = g.node;
         within = g.within;
         closed = λ c. closes n l low c (g.closed c);
-        present = λ p. opens n l is p g.node (g.present p);
+        present = λ p. (let o = g.present p in record { going = o.going; unfenced = o.unfenced; waiting = λ w. still (o.waiting w); acting = λ a. true-false waits a });
       };
 }
   where
@@ -83,7 +71,7 @@ replays i behind j items r h silent waits who alone clean later own-last noted i
     evens u why false = inv.even u why false
     evens u why true = inv.even u why false
 
-    closes : (n : ℕ) (l : Life) → losses_of i items ≤ n → n < losses_of i items + j.unlost → Closed i behind j items n l → Closed i behind (replayed j r h silent) items n l
+    closes : (n : ℕ) (l : Life) → losses_of i items ≤ n → n < losses_of i items + j.unlost → Closed i behind j items n l → Closed i behind (replayed j r h) items n l
     closes n l low high c = record { over = c.over; told = told; fenced = c.fenced }
       where
         told : (d : Bool) → value i behind l items (either (j.name false) h d) ≡ cond (n == losses_of i items) (either (j.cut false) (j.cut false) d) j.last
@@ -92,39 +80,15 @@ replays i behind j items r h silent waits who alone clean later own-last noted i
             let f = was-fenced i behind j items n l who low high c in
             fenced-value i behind l items h (j.name false) f.0 f.1 ∙ c.told false
 
-    opens : (n : ℕ) (l : Life) → life_at i n (lives_of items) ≡ Some l → losses_of i items + j.unlost ≤ n → l.node ≡ i → Open i behind j items l → Open i behind (replayed j r h silent) items l
-    opens n l is low node o = record {
-      going = o.going;
-      unfenced = o.unfenced;
-      above = above;
-      waiting = λ w. record { heads = (o.waiting waits).heads; base = (o.waiting waits).base; kind = kind; own = owns };
-      acting = λ a. true-false waits a;
-    }
-      where
-        above : (d : Bool) → (behind l.join).sequence ≤ (either (j.name false) h d).sequence
-        above false = o.above false
-        above true = let a : (behind l.join).sequence ≤ (j.name false).sequence = o.above false in omega (arith, later)
-
-        kind : (d : Bool) → (nat_lt (behind l.join).sequence (either (j.name false) h d).sequence ≡ false) ⊎ ((either (j.name false) h d).is_clean ≡ true)
-        kind false = (o.waiting waits).kind false
-        kind true = inr clean
-
-        owns : (d : Bool) → (own (behind l.join).sequence i (rest l items) (either (j.name false) h d) ≡ false) ⊎ (silent ≡ true)
-        owns false = elim ((o.waiting waits).own false) [
-          | inl off ↦ inl off
-          | inr s ↦ no-some (sym alone ∙ (inv.silent s).0)
-        ]
-        owns true = elim (cases_Bool silent) [
-          | inl s ↦ inr s
-          | inr loud ↦ inl (noted-here i behind j items inv n l h is low node o.going (noted loud))
-        ]
+    still : {l : Life} → Waiting i behind j items l → Waiting i behind (replayed j r h) items l
+    still w = record { idle = w.idle; base = w.base }
 
 abbrev pub past_replayed : Journal → AcceptedHead → Journal
 past_replayed j h = record j { name = λ d. h }
 
 pub replays-past : (i : ℕ) (behind : ℕ → AcceptedHead) (j : Journal) (items : List TraceItem) (h : AcceptedHead) → j.waits ≡ true → EachIsFenced j → j.flies ≡ None
-    → h.is_clean ≡ true → (j.name false).sequence ≤ h.sequence → IsNoted i j items h → Inv i behind j items → Inv i behind (past_replayed j h) items
-replays-past i behind j items h waits who alone clean later noted inv = record {
+    → Inv i behind j items → Inv i behind (past_replayed j h) items
+replays-past i behind j items h waits who alone inv = record {
   number = inv.number;
   count = inv.count;
   settled = inv.settled;
@@ -138,7 +102,7 @@ replays-past i behind j items h waits who alone clean later noted inv = record {
         node = g.node;
         within = g.within;
         closed = λ c. closes n l low c (g.closed c);
-        present = λ p. opens n l is p g.node (g.present p);
+        present = λ p. (let o = g.present p in record { going = o.going; unfenced = o.unfenced; waiting = λ w. still (o.waiting w); acting = λ a. true-false waits a });
       };
 }
   where
@@ -149,19 +113,8 @@ replays-past i behind j items h waits who alone clean later noted inv = record {
       fenced = c.fenced;
     }
 
-    opens : (n : ℕ) (l : Life) → life_at i n (lives_of items) ≡ Some l → losses_of i items + j.unlost ≤ n → l.node ≡ i → Open i behind j items l → Open i behind (past_replayed j h) items l
-    opens n l is low node o = record {
-      going = o.going;
-      unfenced = o.unfenced;
-      above = λ d. (let a : (behind l.join).sequence ≤ (j.name false).sequence = o.above false in omega (arith, later));
-      waiting = λ w. record {
-        heads = (o.waiting waits).heads;
-        base = (o.waiting waits).base;
-        kind = λ d. inr clean;
-        own = λ d. inl (noted-here i behind j items inv n l h is low node o.going noted);
-      };
-      acting = λ a. true-false waits a;
-    }
+    still : {l : Life} → Waiting i behind j items l → Waiting i behind (past_replayed j h) items l
+    still w = record { idle = w.idle; base = w.base }
 
 -- ---- a header is on the disk, or never will be
 
@@ -193,6 +146,7 @@ ends i behind j items d may inv = record {
     acts l true e loud a = record {
       told = λ f. a.told true;
       heads = a.heads;
+      above = λ f. a.above true;
       accepted = elim a.flying [ inl s ↦ s | inr s ↦ true-false s loud ];
       flying = a.flying;
       item = λ f. no-some f;
@@ -202,8 +156,7 @@ ends i behind j items d may inv = record {
     opens l runs o = record {
       going = o.going;
       unfenced = o.unfenced;
-      above = λ e. o.above d;
-      waiting = λ w. record { heads = (o.waiting w).heads; base = (o.waiting w).base; kind = λ e. (o.waiting w).kind d; own = λ e. (o.waiting w).own d };
+      waiting = λ w. record { idle = (o.waiting w).idle; base = (o.waiting w).base };
       acting = λ a. acts l d ((may runs).1 a) (may runs).0 (o.acting a);
     }
 
@@ -293,13 +246,13 @@ stops i behind j items x is-end runs inv = record {
             ∙ (append-nil (rest l items) ∙ sym (mine-open i l items o.going))))
 
         moved : (d : Bool) → value i behind l (items ++ x ∷ []) (j.name d) ≡ value i behind l items (j.name d)
-        moved d = λ t. value_of (behind l.join).sequence i (whole t) (base-more i behind l items x within t)
+        moved d = λ t. value_of (behind (or_else (recovered_behind i (l.join + 1) (whole t)) l.join)).sequence i (whole t) (base-more i behind l items x within t)
             ((last-on i 0 items (x ∷ []) ∙ (end-item i x is-end).last (last_number i 0 items)) t)
             (kept_head behind (fence-same i behind l items x within (end-item i x is-end).fence t) (j.name d))
 
         was : (d : Bool) → value i behind l items (j.name d) ≡ cond (n == losses_of i items) (j.cut d) j.last
         was d = elim (cases_Bool (j.waits)) [
-          | inl w ↦ waits-value i behind j items l d within inv.number o (o.waiting w) ∙ sym (elim (eqb_tells n (losses_of i items)) [
+          | inl w ↦ waits-value i behind j items l (j.name d) within inv.number o (o.waiting w) ∙ sym (elim (eqb_tells n (losses_of i items)) [
             | inl q ↦ let none : j.unlost ≡ 0 = (let a = q.1 in omega (arith, at, a)) in ap (λ (b : Bool). cond b (j.cut d) j.last) q.0 ∙ inv.even none (inr w) d
             | inr q ↦ ap (λ (b : Bool). cond b (j.cut d) j.last) q.0
           ])
@@ -363,15 +316,15 @@ is-fenced i behind j items stopped resting at inv = record {
         there None e = (suc (length items), more ∙ ap (λ (o : Option ℕ). first_of_two o (Some (suc (length items)))) e)
 
         by : (d : Bool) (o : Option ℕ) → fence i l items ≡ o
-            → value_of (behind l.join).sequence i (mine i l items) (base i l items) (last_number i 0 items) (kept_head behind (fence i l (items ++ trace.Fence i ∷ [])) (j.name d)) ≡ cond (n == losses_of i items) (j.cut d) j.last
+            → value_of (first i behind l items) i (mine i l items) (base i l items) (last_number i 0 items) (kept_head behind (fence i l (items ++ trace.Fence i ∷ [])) (j.name d)) ≡ cond (n == losses_of i items) (j.cut d) j.last
         by d (Some p) e =
-            ap (λ (o : Option ℕ). value_of (behind l.join).sequence i (mine i l items) (base i l items) (last_number i 0 items) (kept_head behind o (j.name d)))
+            ap (λ (o : Option ℕ). value_of (first i behind l items) i (mine i l items) (base i l items) (last_number i 0 items) (kept_head behind o (j.name d)))
             (more ∙ (ap (λ (o : Option ℕ). first_of_two o (Some (suc (length items)))) e ∙ sym e)) ∙ c.told d
         by d None e =
-            ap (λ (o : Option ℕ). value_of (behind l.join).sequence i (mine i l items) (base i l items) (last_number i 0 items) (kept_head behind o (j.name d)))
+            ap (λ (o : Option ℕ). value_of (first i behind l items) i (mine i l items) (base i l items) (last_number i 0 items) (kept_head behind o (j.name d)))
             (more ∙ ap (λ (o : Option ℕ). first_of_two o (Some (suc (length items)))) e)
-            ∙ (ap (value_of (behind l.join).sequence i (mine i l items) (base i l items) (last_number i 0 items)) at
-            ∙ (sym (ap (λ (o : Option ℕ). value_of (behind l.join).sequence i (mine i l items) (base i l items) (last_number i 0 items) (kept_head behind o (j.name false))) e)
+            ∙ (ap (value_of (first i behind l items) i (mine i l items) (base i l items) (last_number i 0 items)) at
+            ∙ (sym (ap (λ (o : Option ℕ). value_of (first i behind l items) i (mine i l items) (base i l items) (last_number i 0 items) (kept_head behind o (j.name false))) e)
             ∙ (c.told false ∙ ap (λ (m : ℕ). cond (n == losses_of i items) m j.last) (cuts d))))
 
 -- ---- it joins
@@ -379,8 +332,8 @@ is-fenced i behind j items stopped resting at inv = record {
 abbrev pub admitted : Journal → Journal
 admitted j = record j { runs = true; fenced = false }
 
-pub joins : (i : ℕ) (behind : ℕ → AcceptedHead) (j : Journal) (items : List TraceItem) → j.runs ≡ false → (j.fenced ≡ true) ⊎ (j.unlost ≡ 0) → j.flies ≡ None → behind (length items) ≡ j.name false
-    → Inv i behind j items → Inv i behind (admitted j) (items ++ trace.Join i ∷ [])
+pub joins : (i : ℕ) (behind : ℕ → AcceptedHead) (j : Journal) (items : List TraceItem) → j.runs ≡ false → (j.fenced ≡ true) ⊎ (j.unlost ≡ 0) → (j.flies ≡ None) ⊎ (j.waits ≡ true)
+    → behind (length items) ≡ j.name false → Inv i behind j items → Inv i behind (admitted j) (items ++ trace.Join i ∷ [])
 joins i behind j items stopped free alone at inv = record {
   number = last-on i 0 items (trace.Join i ∷ []) ∙ inv.number;
   count = counted;
@@ -388,7 +341,7 @@ joins i behind j items stopped free alone at inv = record {
   single = inv.single;
   others = inv.others;
   even = λ u why d. elim why [ inl f ↦ true-false refl f | inr w ↦ inv.even u (inr w) d ];
-  silent = λ s. no-some (sym alone ∙ (inv.silent s).0);
+  silent = λ s. true-false (inv.silent s).1 stopped;
   lives = λ n l is low. elim (life-newest i n (lives_of items) new l (eqb-self i) (sym (ap (life_at i n) (lives-more items (trace.Join i ∷ []))) ∙ is)) [
     | inl old ↦
         let g = inv.lives n l old (omega (arith, low, same)) in
@@ -435,19 +388,14 @@ joins i behind j items stopped free alone at inv = record {
       present = λ h. record {
         going = ap (ended i) nothing;
         unfenced = ap (fenced_behind i (length items + 1)) nothing;
-        above = above;
-        waiting = λ w. record {
-          heads = subst (NoHeads i) (sym nothing) tt;
-          base = ap (last_number i 0) (take-append_seam items (trace.Join i ∷ [])) ∙ inv.number;
-          kind = λ d. inl (old d);
-          own = λ d. inl (ap (λ (b : Bool). b && not (is_replays i (j.name d).block false (rest l (items ++ trace.Join i ∷ [])))) (old d));
-        };
+        waiting = λ w. record { idle = subst (IsIdle i) (sym nothing) tt; base = ap (last_number i 0) (take-append_seam items (trace.Join i ∷ [])) ∙ inv.number };
         acting = λ a. record {
           told = λ d. value-here d ∙ sym (inv.even (inv.settled a) (inl stopped) d);
           heads = subst (λ (es : List TraceItem). HeadsWithin i (j.name true).sequence es) (sym nothing) tt;
-          accepted = NotOwn (ap (λ (b : Bool). b && not (is_replays i (j.name false).block false (rest l (items ++ trace.Join i ∷ [])))) (old false));
-          flying = inl (NotOwn (ap (λ (b : Bool). b && not (is_replays i (j.name true).block false (rest l (items ++ trace.Join i ∷ [])))) (old true)));
-          item = λ f. no-some (sym alone ∙ f);
+          above = above a;
+          accepted = NotOwn (old a false);
+          flying = inl (NotOwn (old a true));
+          item = λ f. no-some (sym (unflown a) ∙ f);
         };
       };
     }
@@ -458,21 +406,27 @@ joins i behind j items stopped free alone at inv = record {
         nothing : drop (length items + 1) (items ++ trace.Join i ∷ []) ≡ []
         nothing = drop-append-add items (trace.Join i ∷ []) 1
 
-        seen : (d : Bool) → (j.name d).sequence ≡ (behind (length items)).sequence
-        seen false = ap (λ (h : AcceptedHead). h.sequence) (sym at)
-        seen true = ap (λ (h : AcceptedHead). h.sequence) ((inv.single alone).1 ∙ sym at)
+        at-join : first i behind (record { node = i; join = length items }) (items ++ trace.Join i ∷ []) ≡ (behind (length items)).sequence
+        at-join = ap (λ (es : List TraceItem). (behind (or_else (recovered_behind i (length items + 1) (to_its_end i es)) (length items))).sequence) nothing
 
-        above : (d : Bool) → (behind (length items)).sequence ≤ (j.name d).sequence
-        above d = let e = seen d in omega (arith, e)
+        unflown : j.waits ≡ false → j.flies ≡ None
+        unflown a = elim alone [ inl none ↦ none | inr w ↦ true-false w a ]
 
-        old : (d : Bool) → nat_lt (behind (length items)).sequence (j.name d).sequence ≡ false
-        old d = le-ltb (behind (length items)).sequence (j.name d).sequence (let e = seen d in omega (arith, e))
+        seen : j.waits ≡ false → (d : Bool) → (j.name d).sequence ≡ (behind (length items)).sequence
+        seen a false = ap (λ (h : AcceptedHead). h.sequence) (sym at)
+        seen a true = ap (λ (h : AcceptedHead). h.sequence) ((inv.single (unflown a)).1 ∙ sym at)
+
+        above : j.waits ≡ false → (d : Bool) → first i behind (record { node = i; join = length items }) (items ++ trace.Join i ∷ []) ≤ (j.name d).sequence
+        above a d = let e = seen a d in let f = at-join in omega (arith, e, f)
+
+        old : j.waits ≡ false → (d : Bool) → own (first i behind (record { node = i; join = length items }) (items ++ trace.Join i ∷ [])) (j.name d) ≡ false
+        old a d = le-ltb (first i behind (record { node = i; join = length items }) (items ++ trace.Join i ∷ [])) (j.name d).sequence (let e = seen a d in let f = at-join in omega (arith, e, f))
 
         value-here : (d : Bool) → value i behind (record { node = i; join = length items }) (items ++ trace.Join i ∷ []) (j.name d) ≡ j.last
         value-here d =
-            (λ t. value_of (behind (length items)).sequence i (to_its_end i (nothing t)) (last_number i 0 (take-append_seam items (trace.Join i ∷ []) t))
+            (λ t. value_of (first i behind (record { node = i; join = length items }) (items ++ trace.Join i ∷ [])) i (to_its_end i (nothing t)) (last_number i 0 (take-append_seam items (trace.Join i ∷ []) t))
             (last-on i 0 items (trace.Join i ∷ []) t) (kept_head behind (fenced_behind i (length items + 1) (nothing t)) (j.name d)))
-            ∙ (waiting-value (behind (length items)).sequence i [] (last_number i 0 items) (last_number i 0 items) (j.name d) tt refl (inl (old d)) ∙ inv.number)
+            ∙ (waiting-value (first i behind (record { node = i; join = length items }) (items ++ trace.Join i ∷ [])) i [] (last_number i 0 items) (last_number i 0 items) (j.name d) tt refl ∙ inv.number)
 
 -- ---- a life is lost, and the slot recovered
 
@@ -529,14 +483,13 @@ loses i behind j items m kept waits some inv = record {
     opens l within o = record {
       going = going-on i behind l items (trace.Lost i kept) within o.going refl;
       unfenced = fence-same i behind l items (trace.Lost i kept) within (λ p. refl) ∙ o.unfenced;
-      above = o.above;
-      waiting = λ w. (let u = waiting-on i behind l items (trace.Lost i kept) within j (λ b. refl) tt (o.waiting w) in record { heads = u.heads; base = u.base; kind = u.kind; own = u.own });
+      waiting = λ w. (let u = waiting-on i behind l items (trace.Lost i kept) within j tt (o.waiting w) in record { idle = u.idle; base = u.base });
       acting = λ a. true-false waits a;
     }
 
-pub is-recovered : (i : ℕ) (behind : ℕ → AcceptedHead) (j : Journal) (items : List TraceItem) → j.waits ≡ true → j.unlost ≡ 0 → j.flies ≡ None → Inv i behind j items
+pub is-recovered : (i : ℕ) (behind : ℕ → AcceptedHead) (j : Journal) (items : List TraceItem) → j.waits ≡ true → j.unlost ≡ 0 → j.flies ≡ None → IsFirst i behind j items → Inv i behind j items
     → Inv i behind (record j { waits = false }) items
-is-recovered i behind j items waits none alone inv = record {
+is-recovered i behind j items waits none alone its-first inv = record {
   number = inv.number;
   count = inv.count;
   settled = λ e. none;
@@ -553,24 +506,31 @@ is-recovered i behind j items waits none alone inv = record {
         present = λ h.
             let o = g.present h in
             let w = o.waiting waits in
+            let who = open-runs i behind j items inv n l is h in
+            let now : present i j items ≡ Some l = ap (λ (m : ℕ). life_at i m (lives_of items)) (sym who.1) ∙ is in
+            let seen = same-first l g.node (its-first who.0 l now) in
             record {
               going = o.going;
               unfenced = o.unfenced;
-              above = o.above;
               waiting = λ f. true-false f refl;
               acting = λ f. record {
-                told = λ d. waits-value i behind j items l d g.within inv.number o w ∙ sym (inv.even none (inr waits) d);
-                heads = within-none i (j.name true).sequence (rest l items) w.heads;
-                accepted = NotOwn (loud l false w);
-                flying = inl (NotOwn (loud l true w));
+                told = λ d. waits-value i behind j items l (j.name d) g.within inv.number o w ∙ sym (inv.even none (inr waits) d);
+                heads = within-none i (j.name true).sequence (rest l items) w.idle;
+                above = λ d. (let e = seen d in omega (arith, e));
+                accepted = NotOwn (old l false (seen false));
+                flying = inl (NotOwn (old l true (seen true)));
                 item = λ e. no-some (sym alone ∙ e);
               };
             };
       };
 }
   where
-    loud : (l : Life) (d : Bool) → Waiting i behind j items l → own (behind l.join).sequence i (rest l items) (j.name d) ≡ false
-    loud l d w = elim (w.own d) [
-      | inl off ↦ off
-      | inr s ↦ no-some (sym alone ∙ (inv.silent s).0)
-    ]
+    same-first : (l : Life) → l.node ≡ i → behind (own_from l items) ≡ j.name false → (d : Bool) → first i behind l items ≡ (j.name d).sequence
+    same-first l node e d = ap (λ (k : ℕ). first k behind l items) (sym node) ∙ (ap (λ (h : AcceptedHead). h.sequence) e ∙ by d)
+      where
+        by : (d : Bool) → (j.name false).sequence ≡ (j.name d).sequence
+        by false = refl
+        by true = ap (λ (h : AcceptedHead). h.sequence) (sym (inv.single alone).1)
+
+    old : (l : Life) (d : Bool) → first i behind l items ≡ (j.name d).sequence → own (first i behind l items) (j.name d) ≡ false
+    old l d e = le-ltb (first i behind l items) (j.name d).sequence (omega (arith, e))

@@ -1,11 +1,11 @@
 -- Two lives of a journal.
-use Rattle.std.proofs.Common.{◌≡◌, true, false, None, Some, refl, subst, inl, inr, List, [], ◌∷◌, arith}
+use Rattle.std.proofs.Common.{◌≡◌, true, false, None, Some, refl, subst, inl, inr, List, [], ◌∷◌}
 use Rattle.std.specs.Prelude.{codes}
 use Rattle.file_tree.specs.declared.call.Call.TheVariants as calls
 use Rattle.file_tree.specs.declared.reply.Reply.TheVariants as replies
 use Rattle.trace_text.specs.declared.item.TraceItem.{TraceItem}
 use Rattle.trace_text.specs.declared.item.TraceItem.TheVariants as trace
-use Rattle.run_rules.specs.Lives.{Life, items_of, is_replays}
+use Rattle.run_rules.specs.Lives.{Life}
 use Rattle.head_laws.specs.Journals.{unnamed_upto, Answers, WritesLog, Begins, Commits, BeginsLast, Stops, Ends, IsFenced, Replays, Loses, IsRecovered, Joins, Done, Then}
 use Rattle.head_laws.specs.Example.{clean, JournalCanLive}
 
@@ -23,8 +23,8 @@ so_far = trace.Join 1 ∷ trace.Call 1 (codes "c") 1 calls.Sync replies.Ok ∷ t
 abbrev first : Life
 first = record { node = 1; join = 0 }
 
-last : (l : Life) → first ≡ l → (2 ≡ unnamed_upto false 1 2 l so_far) × (is_replays 1 44 false (items_of l so_far) ≡ false)
-last l e = subst (λ (k : Life). (2 ≡ unnamed_upto false 1 2 k so_far) × (is_replays 1 44 false (items_of k so_far) ≡ false)) e (refl, refl)
+last : (l : Life) → first ≡ l → 2 ≡ unnamed_upto false 1 2 l so_far
+last l e = subst (λ (k : Life). 2 ≡ unnamed_upto false 1 2 k so_far) e refl
 
 pub can-live : JournalCanLive
 can-live = (
@@ -32,7 +32,7 @@ can-live = (
   record { runs = refl; unlost = refl; last = refl; cut = λ d. refl; name = refl; flies = refl; silent = refl },
   Then _ _ _ _ (Then _ _ _ _ (Then _ _ _ _ (Then _ _ _ _ (Then _ _ _ _ (Then _ _ _ _ (Then _ _ _ _ (Then _ _ _ _ (Then _ _ _ _
       (Then _ _ _ _ (Then _ _ _ _ (Then _ _ _ _ (Then _ _ _ _ (Then _ _ _ _ (Then _ _ _ _ (Then _ _ _ _ Done
-      (Joins refl (inr refl) refl refl))
+      (Joins refl (inr refl) (inl refl) refl))
       (Answers (codes "c") 1 calls.Sync replies.Ok refl refl (λ s. no-way s)))
       (WritesLog 40 refl))
       (Begins false 42 1 refl refl refl refl))
@@ -43,11 +43,11 @@ can-live = (
       (Stops (trace.Withdraw 1 4 5) refl refl))
       (Ends true (λ r. no-way r)))
       (IsFenced refl refl (λ f. absurd (let g : None ≡ Some 1 = f in cc)) refl))
-      (Replays 2 (clean 45 11) refl (inl refl) refl refl (omega arith) (λ r l is. no-way r)))
+      (Replays 2 (clean 45 11) refl (inl refl) refl))
       (Ends true (λ r. no-way r)))
       (Loses 0 2 refl refl (inr refl)))
-      (IsRecovered refl refl refl))
-      (Joins refl (inl refl) refl refl),
+      (IsRecovered refl refl refl (λ r l is. no-way r)))
+      (Joins refl (inl refl) (inl refl) refl),
   refl,
   refl,
   refl,

@@ -1,12 +1,12 @@
 -- What holds of a node's journal, its lives and the items.
 use Rattle.std.proofs.Common.{ℕ, suc, ◌≡◌, ◌<◌, ◌≤◌, ◌+◌, ◌⊎◌, Bool, true, false, cond, None, Some, List, length, refl, arith}
-use Rattle.std.specs.Prelude.{◌==◌, nat_lt}
+use Rattle.std.specs.Prelude.{◌==◌}
 use Rattle.trace_text.specs.declared.item.TraceItem.{TraceItem}
 use Rattle.run_rules.specs.Lives.{Life, AcceptedHead, last_number, lives_of, losses_of, life_at, named}
 use Rattle.head_laws.specs.Journals.{Journal}
 use Rattle.head_laws.specs.Laws.{lives_count}
 use Rattle.head_laws.proofs.Items.{true-false, ended, life-below}
-use Rattle.head_laws.proofs.Values.{rest, base, fence, value, own, Stable, HeadsWithin, NoHeads}
+use Rattle.head_laws.proofs.Values.{rest, base, first, fence, value, Stable, HeadsWithin, IsIdle}
 
 -- of a life that ended: its number is the head's, where it is the earliest without a loss, and else that of the node's last call
 abbrev pub target : ℕ → Journal → List TraceItem → ℕ → Bool → ℕ
@@ -19,23 +19,21 @@ pub record Closed (i : ℕ) (behind : ℕ → AcceptedHead) (j : Journal) (items
 
 -- of the present life, while the slot waits
 pub record Waiting (i : ℕ) (behind : ℕ → AcceptedHead) (j : Journal) (items : List TraceItem) (l : Life) : Type 0 where
-  pub heads : NoHeads i (rest l items)
+  pub idle : IsIdle i (rest l items)
   pub base : base i l items ≡ j.last
-  pub kind : (d : Bool) → (nat_lt (behind l.join).sequence (j.name d).sequence ≡ false) ⊎ ((j.name d).is_clean ≡ true)
-  pub own : (d : Bool) → (own (behind l.join).sequence i (rest l items) (j.name d) ≡ false) ⊎ (j.silent ≡ true)
 
 -- and while it doesn't
 pub record Acting (i : ℕ) (behind : ℕ → AcceptedHead) (j : Journal) (items : List TraceItem) (l : Life) : Type 0 where
   pub told : (d : Bool) → value i behind l items (j.name d) ≡ j.cut d
   pub heads : HeadsWithin i (j.name true).sequence (rest l items)
-  pub accepted : Stable (behind l.join).sequence i (rest l items) (j.name false)
-  pub flying : Stable (behind l.join).sequence i (rest l items) (j.name true) ⊎ (j.silent ≡ true)
+  pub above : (d : Bool) → first i behind l items ≤ (j.name d).sequence
+  pub accepted : Stable (first i behind l items) i (rest l items) (j.name false)
+  pub flying : Stable (first i behind l items) i (rest l items) (j.name true) ⊎ (j.silent ≡ true)
   pub item : j.flies ≡ Some i → ((u : ℕ) × (named i (j.name true) (rest l items) ≡ Some u)) ⊎ (j.silent ≡ true)
 
 pub record Open (i : ℕ) (behind : ℕ → AcceptedHead) (j : Journal) (items : List TraceItem) (l : Life) : Type 0 where
   pub going : ended i (rest l items) ≡ false
   pub unfenced : fence i l items ≡ None
-  pub above : (d : Bool) → (behind l.join).sequence ≤ (j.name d).sequence
   pub waiting : j.waits ≡ true → Waiting i behind j items l
   pub acting : j.waits ≡ false → Acting i behind j items l
 

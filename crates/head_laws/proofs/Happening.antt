@@ -1,7 +1,9 @@
 -- Each event of a cluster, with what the trace tells of it, is a step of each journal.
-use Rattle.std.proofs.Common.{ℕ, suc, ◌≡◌, ◌<◌, inl, inr, Bool, true, false, None, Some, List, [], ◌∷◌, ◌++◌, refl, sym, ap, ◌∙◌, subst, arith, append-nil}
-use Rattle.std.specs.Prelude.{◌-◌, ◌&&◌, not}
-use Rattle.std.proofs.lemmas.Bool.{cases_eq, cases_Bool}
+use Rattle.std.proofs.Common.{ℕ, suc, ◌≡◌, ◌<◌, ◌≤◌, ◌⊎◌, inl, inr, Bool, true, false, Option, None, Some, List, [], ◌∷◌, ◌++◌, refl, sym, ap, ◌∙◌, subst, arith, length, take, append-nil, length-append}
+use Rattle.std.specs.Prelude.{◌-◌, ◌&&◌, not, nat_lt}
+use Rattle.std.proofs.lemmas.Bool.{cases_eq, cases_Bool, ltb-true, ltb-false}
+use Rattle.std.proofs.lemmas.List.{take-append-le}
+use Rattle.std.proofs.Math.Seq.{take-append_seam}
 use Rattle.cluster_history.specs.declared.Item.{Item}
 use Rattle.cluster_history.specs.declared.Item.TheVariants as item
 use Rattle.trace_text.specs.declared.item.TraceItem.{TraceItem}
@@ -20,11 +22,11 @@ use Rattle.cluster_events.specs.Cluster as cluster
 use Rattle.tree_histories.specs.Trees.{Images, Trees, item_of, history_of}
 use Rattle.head_laws.specs.Journals.{Journal, head_item, IsEnd, IsOther}
 use Rattle.head_laws.specs.Journals as journals
-use Rattle.head_laws.specs.Traces.{Told, journal_of, Happens, Rests, Does, Step, Steps, Done, Then, Begins}
-use Rattle.head_laws.specs.Tellings.{Beside, told_of, Changed, next_name, BeginTold, Own, OwnLast, Replay, ReplayLast, EndTold, Settled, Committed, Tells, MaySay, TellingIsStep, MayLand, Tellings, AnEvent, AnItem}
+use Rattle.head_laws.specs.Traces.{Told, journal_of, Happens, Rests, Does, Step, Steps, Done, Then, Begins, MayLand}
+use Rattle.head_laws.specs.Tellings.{Beside, told_of, Changed, next_name, BeginTold, Own, OwnLast, Replay, EndTold, Settled, Committed, Tells, MaySay, TellingIsStep, Tellings, AnEvent, AnItem, IsPassed, FrontsArePassed}
 use Rattle.head_laws.specs.Tellings as tellings
 use Rattle.head_laws.proofs.Items.{true-false}
-use Rattle.head_laws.proofs.Tracing.{history-on, history-more, history-is, events-of}
+use Rattle.head_laws.proofs.Tracing.{history-on, history-more, history-is, events-of, grows}
 use Rattle.cluster_events.proofs.Eventing.{every_cluster}
 
 inside : {A : Type 0} {a b : A} → Some a ≡ Some b → a ≡ b
@@ -231,7 +233,7 @@ module _ (I : Images) (clients : List Client) (behind : ℕ → ℕ → Accepted
     replayed-cut : c.waits i ≡ true → (((c.world).disk).heads i false).cut ≡ h.cut
     replayed-cut waits = ((together.world).mirror).alone i ∙ sym ((may.3) waits)
 
-    begins : BeginTold I t u ((may.0).0) i (h.cut) → Step I clients behind t (told_of I flown u)
+    begins : BeginTold I t u i (h.cut) → Step I clients behind t (told_of I flown u)
     begins (Own clean block acts loud ch) =
         step-by I clients behind t u flown begun i _ _ _ ch
         (record (journal_of I t i) { cut = either (((c.world).disk).heads i false).cut (h.cut); name = either (t.names i false) (next_name I t i clean block); flies = Some i })
@@ -248,21 +250,12 @@ module _ (I : Images) (clients : List Client) (behind : ℕ → ℕ → Accepted
         (away (either (t.names i false) (next_name I t i clean block)) (at (t.silent) i true) (λ k ne. sym (at-other (t.silent) i true k ne)))
         (λ k ne. Nothing)
         (same-history I clients t u _ _ [] ch base flown refl refl)
-    begins (Replay name waits who clean later noted ch) =
+    begins (Replay name waits who ch) =
         step-by I clients behind t u flown begun i _ _ [] ch
         (record (journal_of I t i) { cut = either (((c.world).disk).heads i false).cut (((c.world).disk).heads i false).cut; name = either (t.names i false) name; flies = Some ((may.0).0) })
         (same-journal _ _ refl refl refl refl refl (ap (either (((c.world).disk).heads i false).cut) (replayed-cut waits) ∙ cuts) (sym (at-same (t.names) i (either (t.names i false) name))) (flies ((may.0).0) refl) refl)
-        (unspoken i (behind i) (journal_of I t i) _ (t.items) (journals.Replays ((may.0).0) name waits who (may.1) clean later noted))
+        (unspoken i (behind i) (journal_of I t i) _ (t.items) (journals.Replays ((may.0).0) name waits who (may.1)))
         (away (either (t.names i false) name) (t.silent) (λ k ne. refl))
-        (λ k ne. Nothing)
-        (same-history I clients t u _ _ [] ch base flown refl refl)
-    begins (ReplayLast name waits own loud clean later ch) =
-        step-by I clients behind t u flown begun i _ _ [] ch
-        (record (journal_of I t i) { cut = either (((c.world).disk).heads i false).cut (((c.world).disk).heads i false).cut; name = either (t.names i false) name; flies = Some i; silent = true })
-        (same-journal _ _ refl refl refl refl refl (ap (either (((c.world).disk).heads i false).cut) (replayed-cut waits) ∙ cuts) (sym (at-same (t.names) i (either (t.names i false) name))) (flies i own)
-        (sym (at-same (t.silent) i true)))
-        (unspoken i (behind i) (journal_of I t i) _ (t.items) (journals.ReplaysLast name waits (writer-runs own) loud (may.1) clean later))
-        (away (either (t.names i false) name) (at (t.silent) i true) (λ k ne. sym (at-other (t.silent) i true k ne)))
         (λ k ne. Nothing)
         (same-history I clients t u _ _ [] ch base flown refl refl)
 
@@ -306,6 +299,17 @@ module _ (I : Images) (clients : List Client) (behind : ℕ → ℕ → Accepted
         others (λ k ne. Other (trace.Commit i sequence upto) (λ e. ne (sym e)))
         (same-history I clients t u _ _ _ ch base settled refl refl)
 
+  -- who is fenced has no header in flight; another has one for its journal only while its slot waits
+  unflown : (i : ℕ) → c.fenced i ≡ true → (c.header_of i ≡ None) ⊎ (c.waits i ≡ true)
+  unflown i fenced = by (c.header_of i) refl
+    where
+      by : (o : Option ℕ) → c.header_of i ≡ o → (c.header_of i ≡ None) ⊎ (c.waits i ≡ true)
+      by None e = inl e
+      by (Some r) e = elim (together.writers i r e) [
+        | inl own ↦ absurd (((together.settled i fenced).1).1 i (e ∙ ap (λ (n : ℕ). Some n) own))
+        | inr waits ↦ inr waits
+      ]
+
   steps : (d : Cluster (Trees I)) (event : Event (Trees I) (t.cluster) d) → Tells I clients behind t u d event → Step I clients behind t (told_of I d u)
   steps _ (cluster.Works w (world.Answers j said v change cache no_sync a) may) ch = quiet I clients behind t u base _ (cluster.Works w (world.Answers j said v change cache no_sync a) may) ch (λ k. refl) refl
   steps _ (cluster.Works w (world.Syncs j said does still calm) may) ch = quiet I clients behind t u base _ (cluster.Works w (world.Syncs j said does still calm) may) ch (λ k. refl) refl
@@ -320,15 +324,15 @@ module _ (I : Images) (clients : List Client) (behind : ℕ → ℕ → Accepted
   steps _ (cluster.IsGranted i locks here none taken) ch = quiet I clients behind t u base _ (cluster.IsGranted i locks here none taken) ch (λ k. refl) refl
   steps _ (cluster.GoesDown i locks cache here weakens all clean cached) ch = quiet I clients behind t u base _ (cluster.GoesDown i locks cache here weakens all clean cached) ch (λ k. refl) refl
   steps _ cluster.Views ch = quiet I clients behind t u base _ cluster.Views ch (λ k. refl) refl
-  steps _ (cluster.Recovers i here wait nothing_left unheaded told) ch =
+  steps _ (cluster.Recovers i here wait nothing_left unheaded told) (its-first, ch) =
       step-same I clients behind t u _ (cluster.Recovers i here wait nothing_left unheaded told) i (t.names) (t.silent) [] ch base refl refl (record (journal_of I t i) { waits = false })
       (same-journal _ _ refl (sym (at-same (c.waits) i false)) refl refl refl refl refl refl refl)
-      (unspoken i (behind i) (journal_of I t i) _ (t.items) (journals.IsRecovered wait told unheaded))
+      (unspoken i (behind i) (journal_of I t i) _ (t.items) (journals.IsRecovered wait told unheaded its-first))
       (λ k ne. same-journal _ _ refl (sym (at-other (c.waits) i false k ne)) refl refl refl refl refl refl refl) (λ k ne. Nothing)
   steps _ (cluster.PastEnds wait nothing_left unheaded) (none, ch) =
       step-same I clients behind t u _ (cluster.PastEnds wait nothing_left unheaded) (c.past) (t.names) (t.silent) [] ch base refl refl (record (journal_of I t (c.past)) { waits = false })
       (same-journal _ _ refl (sym (at-same (c.waits) (c.past) false)) refl refl refl refl refl refl refl)
-      (unspoken (c.past) (behind (c.past)) (journal_of I t (c.past)) _ (t.items) (journals.IsRecovered wait none unheaded))
+      (unspoken (c.past) (behind (c.past)) (journal_of I t (c.past)) _ (t.items) (journals.IsRecovered wait none unheaded (λ runs l is. true-false runs together.gone)))
       (λ k ne. same-journal _ _ refl (sym (at-other (c.waits) (c.past) false k ne)) refl refl refl refl refl refl refl) (λ k ne. Nothing)
   steps _ (cluster.Stops i here runs all) (x, is-end, ch) =
       step-same I clients behind t u _ (cluster.Stops i here runs all) i (t.names) (at (t.silent) i false) (x ∷ []) ch base (end-history clients i x is-end) refl
@@ -341,9 +345,9 @@ module _ (I : Images) (clients : List Client) (behind : ℕ → ℕ → Accepted
       step-same I clients behind t u _ (cluster.Fences i out unfenced idle) i (t.names) (t.silent) (trace.Fence i ∷ []) ch base refl refl (record (journal_of I t i) { fenced = true })
       (same-journal _ _ refl refl (sym (at-same (c.fenced) i true)) refl refl refl refl refl refl) (journals.IsFenced out unfenced (idle.1 i) disk)
       (λ k ne. same-journal _ _ refl refl (sym (at-other (c.fenced) i true k ne)) refl refl refl refl refl refl) (λ k ne. Other (trace.Fence i) (λ e. ne (sym e)))
-  steps _ (cluster.Joins i here out fenced waits) (alone, disk, ch) =
+  steps _ (cluster.Joins i here out fenced waits) (disk, ch) =
       step-same I clients behind t u _ (cluster.Joins i here out fenced waits) i (t.names) (t.silent) (trace.Join i ∷ []) ch base refl refl (record (journal_of I t i) { runs = true; fenced = false })
-      (same-journal _ _ (sym (at-same (c.runs) i true)) refl (sym (at-same (c.fenced) i false)) refl refl refl refl refl refl) (journals.Joins out (inl fenced) alone disk)
+      (same-journal _ _ (sym (at-same (c.runs) i true)) refl (sym (at-same (c.fenced) i false)) refl refl refl refl refl refl) (journals.Joins out (inl fenced) (unflown i fenced) disk)
       (λ k ne. same-journal _ _ (sym (at-other (c.runs) i true k ne)) refl (sym (at-other (c.fenced) i false k ne)) refl refl refl refl refl refl) (λ k ne. Other (trace.Join i) (λ e. ne (sym e)))
   steps _ (cluster.Works w (world.Publishes i some) may) told =
       let who = who-acts I c together i some in
@@ -376,9 +380,15 @@ module _ (I : Images) (clients : List Client) (behind : ℕ → ℕ → Accepted
     | inr ne ↦ Does _ _ (journals.Says (trace.WriteLog i block) (λ e. ne (sym e)))
   ]
 
+  recovered-says : (i r : ℕ) → (t.cluster).waits i ≡ true → (k : ℕ) → Happens k (behind k) (journal_of I t k) (t.items) (journal_of I t k) (t.items ++ trace.Recovered i r ∷ [])
+  recovered-says i r waits k = elim (cases_eq k i) [
+    | inl e ↦ subst (λ (k : ℕ). Happens k (behind k) (journal_of I t k) (t.items) (journal_of I t k) (t.items ++ trace.Recovered i r ∷ [])) (sym e) (Does _ _ (journals.SaysRecovered r waits))
+    | inr ne ↦ Does _ _ (journals.Says (trace.Recovered i r) (λ e. ne (sym e)))
+  ]
+
   says : (x : TraceItem) → MaySay I t x → (k : ℕ) → Happens k (behind k) (journal_of I t k) (t.items) (journal_of I t k) (t.items ++ x ∷ [])
   says (trace.WriteLog i block) may k = log-says i block may k
-  says (trace.WriteReplay r block) may k = Does _ _ (journals.WritesReplay r block (may k))
+  says (trace.Recovered i r) may k = recovered-says i r may k
   says (trace.Join i) may k = absurd may
   says (trace.WriteHead i block sequence upto) may k = absurd may
   says (trace.WriteClean i block sequence upto) may k = absurd may
@@ -398,13 +408,13 @@ module _ (I : Images) (clients : List Client) (behind : ℕ → ℕ → Accepted
 -- ---- a header of the past's ring
 
 past-lands : (I : Images) (clients : List Client) (behind : ℕ → ℕ → AcceptedHead) (t : Told I) (i : ℕ) (h : AcceptedHead) → run.history_of clients (t.items) ≡ history_of I (((t.cluster).world).items)
-    → MayLand I t i h → Step I clients behind t (record t { names = at (t.names) i (λ d. h) })
+    → MayLand I t i → Step I clients behind t (record t { names = at (t.names) i (λ d. h) })
 past-lands I clients behind t i h base may = record {
   event = inl refl;
   journals = λ k. elim (cases_eq k i) [
     | inl e ↦ subst (λ (k : ℕ). Happens k (behind k) (journal_of I t k) (t.items) (journal_of I (record t { names = at (t.names) i (λ d. h) }) k) (t.items)) (sym e)
         (subst (λ (f : Bool → AcceptedHead). Happens i (behind i) (journal_of I t i) (t.items) (record (journal_of I t i) { name = f }) (t.items)) (sym (at-same (t.names) i (λ d. h)))
-        (Does _ _ (journals.ReplaysPast h may.waits may.over may.alone may.clean may.later may.noted)))
+        (Does _ _ (journals.ReplaysPast h may.waits may.over may.alone)))
     | inr ne ↦ subst (λ (f : Bool → AcceptedHead). Happens k (behind k) (journal_of I t k) (t.items) (record (journal_of I t k) { name = f }) (t.items)) (sym (at-other (t.names) i (λ d. h) k ne)) Rests
   ];
   history = base;
@@ -440,3 +450,49 @@ telling-is-step I = record {
   past = λ clients behind t i h base may. past-lands I clients behind t i h base may;
   every = λ clients behind a t begins tellings. every-run I clients behind a t begins tellings;
 }
+
+-- ---- each front
+
+take-all : (n : ℕ) (xs : List TraceItem) → n ≡ length xs → xs ≡ take n xs
+take-all n xs e = sym (ap (λ (m : ℕ). take m xs) e ∙ (ap (take (length xs)) (sym (append-nil xs)) ∙ take-append_seam xs []))
+
+module _ (I : Images) (clients : List Client) (behind : ℕ → ℕ → AcceptedHead) (a : Told I) where
+  -- a run with one thing more
+  more-passed : (t v : Told I) (n : ℕ) → (n ≤ length (t.items) → IsPassed I clients behind a t n) → Tellings I clients behind a v
+      → ((b : Told I) → Tellings I clients behind b t → Tellings I clients behind b v)
+      → (v.items ≡ t.items) ⊎ ((x : TraceItem) × (v.items ≡ t.items ++ x ∷ [])) → n ≤ length (v.items) → IsPassed I clients behind a v n
+  more-passed t v n passed whole on (inl same) high =
+      let p = passed (let e = ap length same in omega (arith, e, high)) in
+      record { between = p.between; before = p.before; after = on (p.between) (p.after); items = p.items ∙ ap (take n) (sym same) }
+  more-passed t v n passed whole on (inr (x, more)) high = elim (cases_Bool (nat_lt (length (t.items)) n)) [
+    | inl above ↦
+        let low = ltb-true (length (t.items)) n above in
+        let size = ap length more ∙ length-append (t.items) (x ∷ []) in
+        record { between = v; before = whole; after = tellings.Nothing; items = take-all n (v.items) (omega (arith, low, size, high)) }
+    | inr below ↦
+        let low = ltb-false (length (t.items)) n below in
+        let p = passed low in
+        record {
+          between = p.between;
+          before = p.before;
+          after = on (p.between) (p.after);
+          items = p.items ∙ (sym (take-append-le n (t.items) (x ∷ []) low) ∙ ap (take n) (sym more));
+        }
+  ]
+
+  passes : (t : Told I) (n : ℕ) → Begins I clients behind a → Tellings I clients behind a t → length (a.items) ≤ n → n ≤ length (t.items) → IsPassed I clients behind a t n
+  passes _ n begins tellings.Nothing low high =
+      record { between = a; before = tellings.Nothing; after = tellings.Nothing; items = take-all n (a.items) (omega (arith, low, high)) }
+  passes _ n begins (AnEvent t u d event before told) low high =
+      let so_far = every-run I clients behind a t begins before in
+      let together = (every_cluster (Trees I) (a.cluster) (t.cluster) (begins.starts) (events-of I clients behind a t so_far)).0 in
+      let step = steps I clients behind t u together (history-is I clients behind a t begins so_far) d event told in
+      more-passed t (told_of I d u) n (λ h. passes t n begins before low h) (AnEvent t u d event before told) (λ b run. AnEvent t u d event run told)
+      (grows I 0 (behind 0) (journal_of I t 0) (journal_of I (told_of I d u) 0) (t.items) (u.items) (step.journals 0)) high
+  passes _ n begins (AnItem t x before may) low high =
+      more-passed t (record t { items = t.items ++ x ∷ [] }) n (λ h. passes t n begins before low h) (AnItem t x before may) (λ b run. AnItem t x run may) (inr (x, refl)) high
+  passes _ n begins (tellings.Lands t i h before may) low high =
+      more-passed t (record t { names = at (t.names) i (λ d. h) }) n (λ g. passes t n begins before low g) (tellings.Lands t i h before may) (λ b run. tellings.Lands t i h run may) (inl refl) high
+
+pub fronts-passed : (I : Images) → FrontsArePassed I
+fronts-passed I clients behind a t n begins run low high = passes I clients behind a t n begins run low high

@@ -1,11 +1,11 @@
 -- What functions of items say of more items.
 use Rattle.std.proofs.Common.{ℕ, suc, ◌≡◌, ◌<◌, ◌+◌, ◌⊎◌, inl, inr, Bool, true, false, cond, Option, None, Some, List, [], ◌∷◌, ◌++◌, length, drop, refl, sym, ap, ◌∙◌, arith, append-nil, eq-eqb}
-use Rattle.std.specs.Prelude.{◌==◌, ◌&&◌, ◌||◌, not, ◌-◌}
+use Rattle.std.specs.Prelude.{◌==◌, ◌&&◌, ◌||◌, ◌-◌}
 use Rattle.std.proofs.lemmas.Bool.Decides.{eqb_tells}
 use Rattle.std.proofs.lemmas.List.{drop-append-le, take-append-le}
 use Rattle.trace_text.specs.declared.item.TraceItem.{TraceItem}
 use Rattle.trace_text.specs.declared.item.TraceItem.TheVariants as trace
-use Rattle.run_rules.specs.Lives.{Life, AcceptedHead, last_number, to_its_end, base_of, fenced_behind, is_replays, named, Unnamed, unnamed, lives_from, lives_of, losses_of, life_at}
+use Rattle.run_rules.specs.Lives.{Life, AcceptedHead, last_number, to_its_end, base_of, fenced_behind, recovered_behind, named, Unnamed, unnamed, lives_from, lives_of, losses_of, life_at}
 use Rattle.head_laws.specs.Journals.{IsOther}
 use Rattle.head_laws.specs.Laws.{lives_count}
 
@@ -45,11 +45,11 @@ named-on node h (trace.WriteClean i block sequence upto ∷ xs) ys = by ((i == n
     by false e = e
 named-on node h (x ∷ xs) ys = named-on node h xs ys
 
-pub replays-on : (node block : ℕ) (now : Bool) (xs ys : List TraceItem) → is_replays node block now (xs ++ ys) ≡ is_replays node block (is_replays node block now xs) ys
-replays-on node block now [] ys = refl
-replays-on node block now (trace.WriteReplay i b ∷ xs) ys = replays-on node block (now || (b == block)) xs ys
-replays-on node block now (trace.Commit i sequence upto ∷ xs) ys = replays-on node block (now && not (i == node)) xs ys
-replays-on node block now (x ∷ xs) ys = replays-on node block now xs ys
+-- items that say of no recovery of the node
+pub recovered-more : (node p : ℕ) (xs ys : List TraceItem) → ((q : ℕ) → recovered_behind node q ys ≡ None) → recovered_behind node p (xs ++ ys) ≡ recovered_behind node p xs
+recovered-more node p [] ys none = none p
+recovered-more node p (trace.Recovered i r ∷ xs) ys none = ap (λ (o : Option ℕ). cond (i == node) (Some (suc p)) o) (recovered-more node (suc p) xs ys none)
+recovered-more node p (x ∷ xs) ys none = recovered-more node (suc p) xs ys none
 
 pub last-on : (node now : ℕ) (xs ys : List TraceItem) → last_number node now (xs ++ ys) ≡ last_number node (last_number node now xs) ys
 last-on node now [] ys = refl
@@ -244,7 +244,7 @@ base-on l xs ys within = ap (last_number l.node 0) (take-append-le l.join xs ys 
 
 pub record Plain (node : ℕ) (x : TraceItem) : Type 0 where
   pub named : (h : AcceptedHead) → named node h (x ∷ []) ≡ None
-  pub replays : (block : ℕ) (now : Bool) → is_replays node block now (x ∷ []) ≡ now
+  pub first : (p : ℕ) → recovered_behind node p (x ∷ []) ≡ None
   pub last : (now : ℕ) → last_number node now (x ∷ []) ≡ now
   pub notes : (s : Unnamed) → (noted node s (x ∷ [])).upto ≡ s.upto
   pub ended : ended node (x ∷ []) ≡ false
@@ -256,7 +256,7 @@ pub record Plain (node : ℕ) (x : TraceItem) : Type 0 where
 pub plain : (node : ℕ) (x : TraceItem) → IsOther node x → Plain node x
 plain node (trace.Join i) o = record {
   named = λ h. refl;
-  replays = λ block now. refl;
+  first = λ p. refl;
   last = λ now. refl;
   notes = λ s. refl;
   ended = refl;
@@ -267,7 +267,7 @@ plain node (trace.Join i) o = record {
 }
 plain node (trace.WriteLog i block) o = record {
   named = λ h. refl;
-  replays = λ block now. refl;
+  first = λ p. refl;
   last = λ now. refl;
   notes = λ s. rw (eqb-other i node o) refl;
   ended = refl;
@@ -278,7 +278,7 @@ plain node (trace.WriteLog i block) o = record {
 }
 plain node (trace.WriteHead i block sequence upto) o = record {
   named = λ h. rw (eqb-other i node o) refl;
-  replays = λ block now. refl;
+  first = λ p. refl;
   last = λ now. refl;
   notes = λ s. rw (eqb-other i node o) refl;
   ended = refl;
@@ -289,7 +289,7 @@ plain node (trace.WriteHead i block sequence upto) o = record {
 }
 plain node (trace.WriteClean i block sequence upto) o = record {
   named = λ h. rw (eqb-other i node o) refl;
-  replays = λ block now. refl;
+  first = λ p. refl;
   last = λ now. refl;
   notes = λ s. refl;
   ended = refl;
@@ -298,10 +298,9 @@ plain node (trace.WriteClean i block sequence upto) o = record {
   life = λ p n ls. ap (life_at node n) (append-nil ls);
   count = λ p. refl;
 }
-plain node (trace.WriteReplay i block) o = absurd o
 plain node (trace.Commit i sequence upto) o = record {
   named = λ h. refl;
-  replays = λ block now. rw (eqb-other i node o) (and-true now);
+  first = λ p. refl;
   last = λ now. refl;
   notes = λ s. refl;
   ended = refl;
@@ -310,13 +309,9 @@ plain node (trace.Commit i sequence upto) o = record {
   life = λ p n ls. ap (life_at node n) (append-nil ls);
   count = λ p. refl;
 }
-  where
-    and-true : (b : Bool) → (b && true) ≡ b
-    and-true true = refl
-    and-true false = refl
 plain node (trace.Call i name number call reply) o = record {
   named = λ h. refl;
-  replays = λ block now. refl;
+  first = λ p. refl;
   last = λ now. rw (eqb-other i node o) refl;
   notes = λ s. rw (eqb-other i node o) refl;
   ended = refl;
@@ -327,7 +322,7 @@ plain node (trace.Call i name number call reply) o = record {
 }
 plain node (trace.Crash i) o = record {
   named = λ h. refl;
-  replays = λ block now. refl;
+  first = λ p. refl;
   last = λ now. refl;
   notes = λ s. refl;
   ended = rw (eqb-other i node o) refl;
@@ -338,7 +333,7 @@ plain node (trace.Crash i) o = record {
 }
 plain node (trace.Withdraw i before after) o = record {
   named = λ h. refl;
-  replays = λ block now. refl;
+  first = λ p. refl;
   last = λ now. refl;
   notes = λ s. refl;
   ended = rw (eqb-other i node o) refl;
@@ -349,7 +344,7 @@ plain node (trace.Withdraw i before after) o = record {
 }
 plain node (trace.Fence i) o = record {
   named = λ h. refl;
-  replays = λ block now. refl;
+  first = λ p. refl;
   last = λ now. refl;
   notes = λ s. refl;
   ended = refl;
@@ -360,7 +355,7 @@ plain node (trace.Fence i) o = record {
 }
 plain node (trace.Lost i kept) o = record {
   named = λ h. refl;
-  replays = λ block now. refl;
+  first = λ p. refl;
   last = λ now. refl;
   notes = λ s. refl;
   ended = refl;
@@ -369,9 +364,20 @@ plain node (trace.Lost i kept) o = record {
   life = λ p n ls. ap (life_at node n) (append-nil ls);
   count = λ p. refl;
 }
+plain node (trace.Recovered i r) o = record {
+  named = λ h. refl;
+  first = λ p. rw (eqb-other i node o) refl;
+  last = λ now. refl;
+  notes = λ s. refl;
+  ended = refl;
+  fence = λ p. refl;
+  losses = refl;
+  life = λ p n ls. ap (life_at node n) (append-nil ls);
+  count = λ p. refl;
+}
 plain node x o = record {
   named = λ h. refl;
-  replays = λ block now. refl;
+  first = λ p. refl;
   last = λ now. refl;
   notes = λ s. refl;
   ended = refl;

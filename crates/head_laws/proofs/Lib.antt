@@ -10,3 +10,4 @@ pub mod Remaining
 pub mod Example
 pub mod Happening
 pub mod DirtyStart
+pub mod Joined

@@ -1,13 +1,14 @@
 -- What remains of a trace.
-use Rattle.std.proofs.Common.{ℕ, suc, ◌≡◌, ◌≤◌, ◌+◌, ◌⊎◌, inl, inr, Bool, true, false, cond, None, Some, List, [], ◌∷◌, ◌++◌, refl, sym, ap, ◌∙◌, subst, arith}
-use Rattle.std.specs.Prelude.{◌==◌, ◌-◌, ⊤, nat_lt}
+use Rattle.std.proofs.Common.{ℕ, suc, ◌≡◌, ◌<◌, ◌≤◌, ◌+◌, ◌⊎◌, inl, inr, Bool, true, false, cond, None, Some, List, [], ◌∷◌, ◌++◌, refl, sym, ap, ◌∙◌, subst, arith}
+use Rattle.std.specs.Prelude.{◌==◌, ◌-◌, ⊤, nat_lt, slice_get}
 use Rattle.std.proofs.lemmas.Bool.{ltb-true, ltb-false, cases_Bool}
 use Rattle.std.proofs.lemmas.Bool.Decides.{eqb_tells}
 use Rattle.cluster_history.specs.declared.Item.{Item}
 use Rattle.cluster_history.specs.declared.Item.TheVariants as item
 use Rattle.cluster_history.specs.History.{Legal, tree_of}
+use Rattle.script_lang.specs.declared.script.Client.{Client}
 use Rattle.run_rules.specs.Follows as run
-use Rattle.run_rules.specs.Lives.{Life, DiskHeads, upto_of, losses_of, lives_of, life_at, without_loss, losses_for, remains}
+use Rattle.run_rules.specs.Lives.{Life, AcceptedHead, DiskHeads, upto_of, losses_of, lives_of, life_at, without_loss, losses_for, remains}
 use Rattle.cluster_laws.specs.Book.{W}
 use Rattle.cluster_laws.specs.Contents.{places}
 use Rattle.cluster_laws.specs.History.{Loss, gones, Above, HasLife, AreLives}
@@ -16,8 +17,8 @@ use Rattle.cluster_events.specs.Cluster.{Cluster}
 use Rattle.cluster_events.proofs.Eventing.{every_cluster}
 use Rattle.tree_histories.specs.Trees.{Images, Trees, history_of}
 use Rattle.tree_histories.proofs.Joining.{every_tree_cluster}
-use Rattle.head_laws.specs.Laws.{lives_count}
-use Rattle.head_laws.specs.Traces.{RemainsStand}
+use Rattle.head_laws.specs.Laws.{lives_count, with_head, MayBe}
+use Rattle.head_laws.specs.Traces.{Told, journal_of, Begins, Steps, HeadsMayBe, SyncsStand, RemainsStand}
 use Rattle.head_laws.proofs.Items.{eqb-other, life-there}
 use Rattle.head_laws.proofs.Tracing.{history-is, history-more, events-of, told, upto-now}
 
@@ -136,30 +137,67 @@ node-of i n (m ∷ ls) l is = by (eqb_tells m.node i) (node-of i (n - 1) ls l) (
 
 -- ---- what remains
 
+may-be : (I : Images) (t : Told I) (choice : ℕ → Bool) (now : ℕ → AcceptedHead) → HeadsMayBe I t choice now → (i : ℕ) → MayBe (journal_of I t i) (choice i) (now i)
+may-be I t choice now heads i = elim (heads i) [ inl e ↦ inl e | inr m ↦ inr (m.waits, m.over) ]
+
+module _ (I : Images) (clients : List Client) (behind : ℕ → ℕ → AcceptedHead) (a t : Told I) (begins : Begins I clients behind a) (steps : Steps I clients behind a t)
+    (choice : ℕ → Bool) (now : ℕ → AcceptedHead) (heads : HeadsMayBe I t choice now) where
+  abbrev c : Cluster (Trees I)
+  c = t.cluster
+
+  abbrev disks : DiskHeads
+  disks = record { behind = behind; now = now }
+
+  abbrev upto : Life → ℕ
+  upto l = upto_of (record { behind = behind; now = now }) l (t.items)
+
+  abbrev cut : ℕ → ℕ
+  cut = head_cuts (Trees I) ((c.world).disk) choice
+
+  -- the number that the items tell is that of the journal's head, or of the node's last call
+  first-is : (i : ℕ) (l : Life) → l.node ≡ i → life_at i (losses_of i (t.items)) (lives_of (t.items)) ≡ Some l → upto l ≡ cut i
+  first-is i l node is =
+      upto-now disks l (t.items) ∙ (ap (λ (k : ℕ). upto_of (with_head behind (now k)) l (t.items)) node
+      ∙ (told I clients behind a t begins steps i).first l (choice i) (now i) (may-be I t choice now heads i) is)
+
+  later-is : (l : Life) (n : ℕ) → losses_of l.node (t.items) < n → life_at l.node n (lives_of (t.items)) ≡ Some l → upto l ≡ ((c.world).book).published l.node
+  later-is l n later is =
+      upto-now disks l (t.items)
+      ∙ (told I clients behind a t begins steps l.node).later n l (choice l.node) (now l.node) (may-be I t choice now heads l.node) later is
+
+  pub keeps-cut : (l : Life) (n : ℕ) → losses_of l.node (t.items) ≤ n → life_at l.node n (lives_of (t.items)) ≡ Some l → cut l.node ≤ upto l
+  keeps-cut l n low is = elim (cases_Bool (nat_lt (losses_of l.node (t.items)) n)) [
+    | inl later ↦
+        let e = later-is l n (ltb-true (losses_of l.node (t.items)) n later) is in
+        let sound = ((every_cluster (Trees I) (a.cluster) c (begins.starts) (events-of I clients behind a t steps)).0).world in
+        let h = ((sound.mirror).cuts l.node (choice l.node)).1 in omega (arith, e, h)
+    | inr first ↦
+        let same : n ≡ losses_of l.node (t.items) = (let h = ltb-false (losses_of l.node (t.items)) n first in omega (arith, h, low)) in
+        let e = first-is l.node l refl (ap (λ (m : ℕ). life_at l.node m (lives_of (t.items))) (sym same) ∙ is) in
+        omega (arith, e)
+  ]
+
+pub syncs-stand : (I : Images) → SyncsStand I
+syncs-stand I clients behind a t begins steps choice now heads p q n client other number earlier call reply l low is sync is-call above below =
+    let events = events-of I clients behind a t steps in
+    let same = history-is I clients behind a t begins steps in
+    let h = keeps-cut I clients behind a t begins steps choice now heads l n low is in
+    (every_tree_cluster I (a.cluster) (t.cluster) (begins.starts) events).synced choice p q l.node client other number earlier call reply
+    (ap (λ (xs : List Item). slice_get xs p) (sym same) ∙ sync) (ap (λ (xs : List Item). slice_get xs q) (sym same) ∙ is-call) (omega (arith, h, above)) below
+
 pub remains-stand : (I : Images) → RemainsStand I
-remains-stand I clients behind a t begins steps free rings choice x r full outcome replay good near =
+remains-stand I clients behind a t begins steps free rings choice now heads x r full outcome replay good near =
     let c : Cluster (Trees I) = t.cluster in
     let events = events-of I clients behind a t steps in
     let headline = every_tree_cluster I (a.cluster) c (begins.starts) events in
-    let sound = ((every_cluster (Trees I) (a.cluster) c (begins.starts) events).0).world in
-    let disks : DiskHeads = record { behind = behind; now = λ i. t.names i (choice i) } in
+    let disks : DiskHeads = record { behind = behind; now = now } in
     let upto : Life → ℕ = λ l. upto_of disks l (t.items) in
     let left : ℕ → ℕ = λ i. losses_of i (t.items) in
     let ls = without_loss left (lives_of (t.items)) in
     let cut : ℕ → ℕ = head_cuts (Trees I) ((c.world).disk) choice in
     let published : ℕ → ℕ = ((c.world).book).published in
     let lives : AreLives published cut (losses_with upto ls) = record {
-      above = above-all cut upto ls (without-all (λ l. cut l.node ≤ upto l) left (lives_of (t.items)) (λ n l is low.
-          let tells = told I clients behind a t begins steps l.node in
-          elim (cases_Bool (nat_lt (left l.node) n)) [
-            | inl later ↦
-                let e : upto l ≡ published l.node = upto-now disks l (t.items) ∙ tells.later n l (choice l.node) (ltb-true (left l.node) n later) is in
-                let h = ((sound.mirror).cuts l.node (choice l.node)).1 in omega (arith, e, h)
-            | inr first ↦
-                let same : n ≡ left l.node = (let h = ltb-false (left l.node) n first in omega (arith, h, low)) in
-                let e : upto l ≡ cut l.node = upto-now disks l (t.items) ∙ tells.first l (choice l.node) (ap (λ (m : ℕ). life_at l.node m (lives_of (t.items))) (sym same) ∙ is) in
-                omega (arith, e)
-          ]));
+      above = above-all cut upto ls (without-all (λ l. cut l.node ≤ upto l) left (lives_of (t.items)) (λ n l is low. keeps-cut I clients behind a t begins steps choice now heads l n low is));
       every = λ i.
           let tells = told I clients behind a t begins steps i in
           elim (cases_Bool (nat_lt (left i) (lives_count i (lives_of (t.items))))) [
@@ -167,7 +205,7 @@ remains-stand I clients behind a t begins steps free rings choice x r full outco
                 let there = life-there i (left i) (lives_of (t.items)) (ltb-true (left i) (lives_count i (lives_of (t.items))) some) in
                 let node : (there.0).node ≡ i = node-of i (left i) (lives_of (t.items)) (there.0) (there.1) in
                 inr (has-one cut upto ls i (there.0) (first-in left (lives_of (t.items)) i (there.0) (there.1)) node
-                (upto-now disks (there.0) (t.items) ∙ (ap (λ (k : ℕ). upto_of (record { behind = behind; now = λ m. t.names k (choice k) }) (there.0) (t.items)) node ∙ tells.first (there.0) (choice i) (there.1))))
+                (first-is I clients behind a t begins steps choice now heads i (there.0) node (there.1)))
             | inr none ↦
                 let h = ltb-false (left i) (lives_count i (lives_of (t.items))) none in
                 let count = tells.count in

@@ -150,24 +150,23 @@ module _ (I : Images) where
   history-is clients behind a v begins (Then u _ before step) = step.history
 
   -- one item more at most
-  grows : (i : ℕ) (behind : ℕ → AcceptedHead) (j k : Journal) (xs ys : List TraceItem) → Happens i behind j xs k ys → (ys ≡ xs) ⊎ ((x : TraceItem) × (ys ≡ xs ++ x ∷ []))
+  pub grows : (i : ℕ) (behind : ℕ → AcceptedHead) (j k : Journal) (xs ys : List TraceItem) → Happens i behind j xs k ys → (ys ≡ xs) ⊎ ((x : TraceItem) × (ys ≡ xs ++ x ∷ []))
   grows i behind j _ xs _ Rests = inl refl
   grows i behind j _ xs _ (Does _ _ (journals.Says x o)) = inr (x, refl)
   grows i behind j _ xs _ (Does _ _ (journals.WritesLog block loud)) = inr (_, refl)
-  grows i behind j _ xs _ (Does _ _ (journals.WritesReplay r block apart)) = inr (_, refl)
+  grows i behind j _ xs _ (Does _ _ (journals.SaysRecovered r waits)) = inr (_, refl)
   grows i behind j _ xs _ (Does _ _ (journals.Answers name number call reply runs acts dirty)) = inr (_, refl)
   grows i behind j _ xs _ (Does _ _ (journals.Begins clean block upto runs acts loud alone)) = inr (_, refl)
   grows i behind j _ xs _ (Does _ _ (journals.BeginsLast clean block upto runs acts loud alone told)) = inl refl
-  grows i behind j _ xs _ (Does _ _ (journals.Replays r h waits who alone clean later noted)) = inl refl
-  grows i behind j _ xs _ (Does _ _ (journals.ReplaysLast h waits runs loud alone clean later)) = inl refl
-  grows i behind j _ xs _ (Does _ _ (journals.ReplaysPast h waits who alone clean later noted)) = inl refl
+  grows i behind j _ xs _ (Does _ _ (journals.Replays r h waits who alone)) = inl refl
+  grows i behind j _ xs _ (Does _ _ (journals.ReplaysPast h waits who alone)) = inl refl
   grows i behind j _ xs _ (Does _ _ (journals.Ends d may)) = inl refl
   grows i behind j _ xs _ (Does _ _ (journals.Commits sequence upto runs acts loud flies)) = inr (_, refl)
   grows i behind j _ xs _ (Does _ _ (journals.Stops x is runs)) = inr (x, refl)
   grows i behind j _ xs _ (Does _ _ (journals.IsFenced stopped unfenced resting at)) = inr (_, refl)
   grows i behind j _ xs _ (Does _ _ (journals.Joins stopped free alone at)) = inr (_, refl)
   grows i behind j _ xs _ (Does _ _ (journals.Loses m kept waits some over)) = inr (_, refl)
-  grows i behind j _ xs _ (Does _ _ (journals.IsRecovered waits none alone)) = inl refl
+  grows i behind j _ xs _ (Does _ _ (journals.IsRecovered waits none alone its-first)) = inl refl
 
 -- ---- the number on any disks
 

@@ -1,5 +1,5 @@
 -- That a run from a dirty start can be told. Node 1's journal has one block live, which is the past's; node 1 replays it, and its slot is recovered.
-use Rattle.std.specs.Prelude.{ℕ, ◌≡◌, ◌==◌, ◌||◌, false, None, Some, List, [], ◌∷◌, if◌then◌else◌}
+use Rattle.std.specs.Prelude.{ℕ, ◌≡◌, ◌==◌, ◌&&◌, ◌||◌, false, None, Some, List, [], ◌∷◌, if◌then◌else◌}
 use Rattle.file_tree.specs.Tree.{Tree}
 use Rattle.trace_text.specs.declared.item.TraceItem.{TraceItem}
 use Rattle.trace_text.specs.declared.item.TraceItem.TheVariants as trace
@@ -43,9 +43,13 @@ dirty_begin I m t d said = record {
 abbrev pub dirty_run : List TraceItem
 dirty_run = trace.Join 1 ∷ trace.WriteReplay 1 5 ∷ trace.Barrier 1 ∷ trace.WriteReplay 1 31 ∷ trace.Barrier 1 ∷ trace.Recovered 1 1 ∷ []
 
+-- what the disk has behind so many of these items
+abbrev pub disk_heads : ℕ → ℕ → AcceptedHead
+disk_heads i p = if (p == 6) && (i == 1) then clean 31 9 else heads_at_start i
+
 -- over any image that stands for a tree
 abbrev pub DirtyStartIsTold : Images → Type 0
 DirtyStartIsTold I = (clients : List Client) (m : Image (Trees I)) (t : Tree) (d : I.Content) (said : trees.Told) → (Trees I).Stands m t
-    → Begins I clients (λ i p. heads_at_start i) (dirty_begin I m t d said)
-    × ((e : Told I) × Tellings I clients (λ i p. heads_at_start i) (dirty_begin I m t d said) e
+    → Begins I clients disk_heads (dirty_begin I m t d said)
+    × ((e : Told I) × Tellings I clients disk_heads (dirty_begin I m t d said) e
     × (e.items ≡ dirty_run) × ((i : ℕ) → (e.cluster).waits i ≡ false) × (e.names 1 false ≡ clean 31 9))

@@ -1,10 +1,10 @@
 -- A node's journal as the disk has it, the node's lives, and the items of a trace that tell of them.
-use Rattle.std.specs.Prelude.{ℕ, suc, ◌≡◌, ◌≢◌, ◌≤◌, ◌⊎◌, ◌+◌, ⊤, Bool, true, false, Option, None, Some, List, ◌∷◌, [], ◌++◌, length}
+use Rattle.std.specs.Prelude.{ℕ, suc, ◌≡◌, ◌≢◌, ◌⊎◌, ◌+◌, ⊤, Bool, true, false, Option, None, Some, List, ◌∷◌, [], ◌++◌, length}
 use Rattle.file_tree.specs.declared.call.Call.{Call}
 use Rattle.file_tree.specs.declared.reply.Reply.{Reply}
 use Rattle.trace_text.specs.declared.item.TraceItem.{TraceItem}
 use Rattle.trace_text.specs.declared.item.TraceItem.TheVariants as trace
-use Rattle.run_rules.specs.Lives.{Life, AcceptedHead, items_of, base_of, is_replays, unnamed, lives_of, losses_of, life_at}
+use Rattle.run_rules.specs.Lives.{Life, AcceptedHead, items_of, base_of, own_from, unnamed, lives_of, losses_of, life_at}
 use Rattle.cluster_laws.specs.Mirror.{either}
 
 pub record Journal : Type 0 where
@@ -44,13 +44,13 @@ IsOther node (trace.Join i) = i ≢ node
 IsOther node (trace.WriteLog i block) = i ≢ node
 IsOther node (trace.WriteHead i block sequence upto) = i ≢ node
 IsOther node (trace.WriteClean i block sequence upto) = i ≢ node
-IsOther node (trace.WriteReplay i block) = ⊥
 IsOther node (trace.Commit i sequence upto) = i ≢ node
 IsOther node (trace.Call i name number call reply) = i ≢ node
 IsOther node (trace.Crash i) = i ≢ node
 IsOther node (trace.Withdraw i before after) = i ≢ node
 IsOther node (trace.Fence i) = i ≢ node
 IsOther node (trace.Lost i kept) = i ≢ node
+IsOther node (trace.Recovered i r) = i ≢ node
 IsOther node _ = ⊤
 
 -- the item ends a life of the node
@@ -63,16 +63,16 @@ IsEnd node _ = ⊥
 abbrev pub EachIsFenced : Journal → Type 0
 EachIsFenced j = (j.fenced ≡ true) ⊎ ((j.runs ≡ true) ⊎ (j.unlost ≡ 0))
 
--- where the node runs, a replay's write to this head's block stands in its present life
-abbrev pub IsNoted : ℕ → Journal → List TraceItem → AcceptedHead → Type 0
-IsNoted node j items h = j.runs ≡ true → (l : Life) → present node j items ≡ Some l → is_replays node h.block false (items_of l items) ≡ true
+-- where the node runs, the journal's head is the one that the disk had where the present life's own headers begin
+abbrev pub IsFirst : ℕ → (ℕ → AcceptedHead) → Journal → List TraceItem → Type 0
+IsFirst node behind j items = j.runs ≡ true → (l : Life) → present node j items ≡ Some l → behind (own_from l items) ≡ j.name false
 
 -- One thing happens to the journal, or one item of the trace says something; behind so many items the accepted head of the node's journal is this on the disk.
 pub data Event (node : ℕ) (behind : ℕ → AcceptedHead) (j : Journal) (items : List TraceItem) : Journal → List TraceItem → Type 0 where
-  -- an item of something else; a write to the log; a replay's write, which is to no place of a header without an item
+  -- an item of something else; a write to the log; that the slot is recovered
   Says : (x : TraceItem) → IsOther node x → Event node behind j items j (items ++ x ∷ [])
   WritesLog : (block : ℕ) → j.silent ≡ false → Event node behind j items j (items ++ trace.WriteLog node block ∷ [])
-  WritesReplay : (r block : ℕ) → (j.silent ≡ true → block ≢ (j.name true).block) → Event node behind j items j (items ++ trace.WriteReplay r block ∷ [])
+  SaysRecovered : (r : ℕ) → j.waits ≡ true → Event node behind j items j (items ++ trace.Recovered node r ∷ [])
   -- a call is answered, and not behind a clean header
   Answers : (name : List ℕ) (number : ℕ) (call : Call) (reply : Reply) → j.runs ≡ true → j.waits ≡ false → (j.silent ≡ true → (j.name true).is_clean ≡ false)
       → Event node behind j items (record j { last = number }) (items ++ trace.Call node name number call reply ∷ [])
@@ -84,22 +84,18 @@ pub data Event (node : ℕ) (behind : ℕ → AcceptedHead) (j : Journal) (items
         flies = Some node;
       }) (items ++ head_item clean node block (suc (j.name false).sequence) upto ∷ [])
   BeginsLast : (clean : Bool) (block upto : ℕ) → j.runs ≡ true → j.waits ≡ false → j.silent ≡ false → j.flies ≡ None
-      → ((l : Life) → present node j items ≡ Some l → (upto ≡ unnamed_upto clean node j.last l items) × (is_replays node block false (items_of l items) ≡ false))
+      → ((l : Life) → present node j items ≡ Some l → upto ≡ unnamed_upto clean node j.last l items)
       → Event node behind j items (record j {
         cut = either (j.cut false) upto;
         name = either (j.name false) (record { block = block; sequence = suc (j.name false).sequence; is_clean = clean });
         flies = Some node;
         silent = true;
       }) items
-  -- a clean header of a replay, once each life without a loss is fenced. Where the node runs, the header's item stands; or it is the last that the node itself does in this life
-  Replays : (r : ℕ) (h : AcceptedHead) → j.waits ≡ true → EachIsFenced j → j.flies ≡ None → h.is_clean ≡ true → (j.name false).sequence ≤ h.sequence
-      → IsNoted node j items h
+  -- a header of a replay, by whomever, with an item or without, once each life without a loss is fenced
+  Replays : (r : ℕ) (h : AcceptedHead) → j.waits ≡ true → EachIsFenced j → j.flies ≡ None
       → Event node behind j items (record j { cut = either (j.cut false) (j.cut false); name = either (j.name false) h; flies = Some r }) items
-  ReplaysLast : (h : AcceptedHead) → j.waits ≡ true → j.runs ≡ true → j.silent ≡ false → j.flies ≡ None → h.is_clean ≡ true → (j.name false).sequence ≤ h.sequence
-      → Event node behind j items (record j { cut = either (j.cut false) (j.cut false); name = either (j.name false) h; flies = Some node; silent = true }) items
   -- where the slot waits since the start: such a header of the ring that speaks for the past
-  ReplaysPast : (h : AcceptedHead) → j.waits ≡ true → EachIsFenced j → j.flies ≡ None → h.is_clean ≡ true → (j.name false).sequence ≤ h.sequence → IsNoted node j items h
-      → Event node behind j items (record j { name = λ d. h }) items
+  ReplaysPast : (h : AcceptedHead) → j.waits ≡ true → EachIsFenced j → j.flies ≡ None → Event node behind j items (record j { name = λ d. h }) items
   -- a header is on the disk, or never will be; a commit says the first of the node's own
   Ends : (d : Bool) → (j.runs ≡ true → (j.silent ≡ false) × (j.waits ≡ false → d ≡ true))
       → Event node behind j items (record j { cut = λ e. j.cut d; name = λ e. j.name d; flies = None }) items
@@ -110,13 +106,13 @@ pub data Event (node : ℕ) (behind : ℕ → AcceptedHead) (j : Journal) (items
       → Event node behind j items (record j { runs = false; waits = true; fenced = false; unlost = suc j.unlost; silent = false }) (items ++ x ∷ [])
   IsFenced : j.runs ≡ false → j.fenced ≡ false → (j.flies ≡ Some node → ⊥) → behind (suc (length items)) ≡ j.name false
       → Event node behind j items (record j { fenced = true }) (items ++ trace.Fence node ∷ [])
-  -- it joins, with no header of its journal in flight
-  Joins : j.runs ≡ false → (j.fenced ≡ true) ⊎ (j.unlost ≡ 0) → j.flies ≡ None → behind (length items) ≡ j.name false
+  -- it joins. A header of its journal may be in flight, while its slot waits
+  Joins : j.runs ≡ false → (j.fenced ≡ true) ⊎ (j.unlost ≡ 0) → (j.flies ≡ None) ⊎ (j.waits ≡ true) → behind (length items) ≡ j.name false
       → Event node behind j items (record j { runs = true; fenced = false }) (items ++ trace.Join node ∷ [])
   -- a life that ended is lost; the journal counts as having all calls that are left. With the last of them the slot is recovered
   Loses : (m kept : ℕ) → j.waits ≡ true → j.unlost ≡ suc m → (j.runs ≡ true) ⊎ (j.fenced ≡ true)
       → Event node behind j items (record j { unlost = m; cut = λ d. j.last }) (items ++ trace.Lost node kept ∷ [])
-  IsRecovered : j.waits ≡ true → j.unlost ≡ 0 → j.flies ≡ None → Event node behind j items (record j { waits = false }) items
+  IsRecovered : j.waits ≡ true → j.unlost ≡ 0 → j.flies ≡ None → IsFirst node behind j items → Event node behind j items (record j { waits = false }) items
 
 pub data Events (node : ℕ) (behind : ℕ → AcceptedHead) (j : Journal) (items : List TraceItem) : Journal → List TraceItem → Type 0 where
   Done : Events node behind j items j items

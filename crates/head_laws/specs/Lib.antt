@@ -4,3 +4,4 @@ pub mod Traces
 pub mod Example
 pub mod Tellings
 pub mod DirtyStart
+pub mod Joined

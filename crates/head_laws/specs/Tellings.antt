@@ -1,17 +1,17 @@
 -- What a trace has to tell of each event of a cluster, and which items come without one.
-use Rattle.std.specs.Prelude.{ℕ, suc, ◌≡◌, ◌≢◌, ◌≤◌, ⊤, Bool, true, false, None, Some, List, [], ◌∷◌, ◌++◌, length}
+use Rattle.std.specs.Prelude.{ℕ, suc, ◌≡◌, ◌≤◌, ⊤, Bool, true, false, Some, List, [], ◌∷◌, ◌++◌, length, take}
 use Rattle.trace_text.specs.declared.item.TraceItem.{TraceItem}
 use Rattle.trace_text.specs.declared.item.TraceItem.TheVariants as trace
 use Rattle.script_lang.specs.declared.script.Client.{Client}
 use Rattle.run_rules.specs.Follows as run
-use Rattle.run_rules.specs.Lives.{Life, AcceptedHead, is_replays, items_of}
+use Rattle.run_rules.specs.Lives.{Life, AcceptedHead}
 use Rattle.cluster_laws.specs.Book.{at}
 use Rattle.cluster_laws.specs.Mirror.{either}
 use Rattle.cluster_laws.specs.World as world
-use Rattle.cluster_events.specs.Cluster.{Cluster, Together, Event, Works, Stops, Fences, Joins, PastEnds}
+use Rattle.cluster_events.specs.Cluster.{Cluster, Together, Event, Works, Stops, Fences, Joins, Recovers, PastEnds}
 use Rattle.tree_histories.specs.Trees.{Images, Trees, history_of}
-use Rattle.head_laws.specs.Journals.{present, head_item, unnamed_upto, IsEnd, IsNoted, EachIsFenced}
-use Rattle.head_laws.specs.Traces.{Told, journal_of, Step, Steps, Begins}
+use Rattle.head_laws.specs.Journals.{present, head_item, unnamed_upto, IsEnd, IsFirst, EachIsFenced}
+use Rattle.head_laws.specs.Traces.{Told, journal_of, Step, Steps, Begins, MayLand}
 
 -- what there is beside the cluster: the names of heads, who is silent, and the items
 pub record Beside : Type 0 where
@@ -36,19 +36,15 @@ abbrev pub next_name : (I : Images) → Told I → ℕ → Bool → ℕ → Acce
 next_name I t i clean block = record { block = block; sequence = suc ((t.names i false).sequence); is_clean = clean }
 
 -- a header begins
-pub data BeginTold (I : Images) (t : Told I) (u : Beside) (writer i cut : ℕ) : Type 0 where
+pub data BeginTold (I : Images) (t : Told I) (u : Beside) (i cut : ℕ) : Type 0 where
   -- of a node's own journal, with its item; or without, as the last that the node writes in this life: then it has the calls that the items tell
   Own : (clean : Bool) (block : ℕ) → (t.cluster).waits i ≡ false → t.silent i ≡ false
-      → Changed I t u (with_name I t i (next_name I t i clean block)) (t.silent) (head_item clean i block (suc ((t.names i false).sequence)) cut ∷ []) → BeginTold I t u writer i cut
+      → Changed I t u (with_name I t i (next_name I t i clean block)) (t.silent) (head_item clean i block (suc ((t.names i false).sequence)) cut ∷ []) → BeginTold I t u i cut
   OwnLast : (clean : Bool) (block : ℕ) → (t.cluster).waits i ≡ false → t.silent i ≡ false
-      → ((l : Life) → present i (journal_of I t i) (t.items) ≡ Some l
-      → (cut ≡ unnamed_upto clean i ((((t.cluster).world).book).published i) l (t.items)) × (is_replays i block false (items_of l (t.items)) ≡ false))
-      → Changed I t u (with_name I t i (next_name I t i clean block)) (at (t.silent) i true) [] → BeginTold I t u writer i cut
-  -- of a replay, once each life of the node without a loss is fenced, as of the past, which has none: where the node runs the item stands; or it is the last that the node writes itself
-  Replay : (h : AcceptedHead) → (t.cluster).waits i ≡ true → EachIsFenced (journal_of I t i) → h.is_clean ≡ true → (t.names i false).sequence ≤ h.sequence
-      → IsNoted i (journal_of I t i) (t.items) h → Changed I t u (with_name I t i h) (t.silent) [] → BeginTold I t u writer i cut
-  ReplayLast : (h : AcceptedHead) → (t.cluster).waits i ≡ true → writer ≡ i → t.silent i ≡ false → h.is_clean ≡ true → (t.names i false).sequence ≤ h.sequence
-      → Changed I t u (with_name I t i h) (at (t.silent) i true) [] → BeginTold I t u writer i cut
+      → ((l : Life) → present i (journal_of I t i) (t.items) ≡ Some l → cut ≡ unnamed_upto clean i ((((t.cluster).world).book).published i) l (t.items))
+      → Changed I t u (with_name I t i (next_name I t i clean block)) (at (t.silent) i true) [] → BeginTold I t u i cut
+  -- of a replay, once each life of the node without a loss is fenced, as of the past, which has none
+  Replay : (h : AcceptedHead) → (t.cluster).waits i ≡ true → EachIsFenced (journal_of I t i) → Changed I t u (with_name I t i h) (t.silent) [] → BeginTold I t u i cut
 
 -- a header is on the disk or never will be: not one without an item while its node runs; with a commit it is the node's own
 pub data EndTold (I : Images) (t : Told I) (u : Beside) (i : ℕ) (d : Bool) : Type 0 where
@@ -68,22 +64,24 @@ pub record CallTold (I : Images) (clients : List Client) (t : Told I) (u : Besid
 -- what the trace has of an event; of most nothing that tells of calls, heads and lives
 abbrev pub Tells : (I : Images) (clients : List Client) (behind : ℕ → ℕ → AcceptedHead) (t : Told I) (u : Beside) (d : Cluster (Trees I)) → Event (Trees I) (t.cluster) d → Type 0
 Tells I clients behind t u _ (Works _ (world.Publishes i some) may) = CallTold I clients t u i
-Tells I clients behind t u _ (Works _ (world.Begins i h single heads) may) = BeginTold I t u ((may.0).0) i (h.cut)
+Tells I clients behind t u _ (Works _ (world.Begins i h single heads) may) = BeginTold I t u i (h.cut)
 Tells I clients behind t u _ (Works _ (world.Ends i d) may) = EndTold I t u i d
 Tells I clients behind t u _ (Works _ (world.Loses i k all above below calm next none single) may) = Changed I t u (t.names) (t.silent) (trace.Lost i k ∷ [])
 Tells I clients behind t u _ (Stops i here runs all) = (x : TraceItem) × IsEnd i x × Changed I t u (t.names) (at (t.silent) i false) (x ∷ [])
 -- the disk right behind the fence, and at a join
 Tells I clients behind t u _ (Fences i out unfenced idle) = (behind i (suc (length (t.items))) ≡ t.names i false) × Changed I t u (t.names) (t.silent) (trace.Fence i ∷ [])
 Tells I clients behind t u _ (Joins i here out fenced waits) =
-    ((t.cluster).header_of i ≡ None) × (behind i (length (t.items)) ≡ t.names i false) × Changed I t u (t.names) (t.silent) (trace.Join i ∷ [])
+    (behind i (length (t.items)) ≡ t.names i false) × Changed I t u (t.names) (t.silent) (trace.Join i ∷ [])
+-- of a node that runs: the disk behind the item that its slot is recovered, or behind its join
+Tells I clients behind t u _ (Recovers i here wait nothing unheaded told) = IsFirst i (behind i) (journal_of I t i) (t.items) × Changed I t u (t.names) (t.silent) []
 -- the past has no lives
 Tells I clients behind t u _ (PastEnds waits nothing unheaded) = ((t.cluster).unlost ((t.cluster).past) ≡ 0) × Changed I t u (t.names) (t.silent) []
 Tells I clients behind t u _ _ = Changed I t u (t.names) (t.silent) []
 
--- an item without an event. A replay's write is to no place of a header without an item
+-- an item without an event. That a slot is recovered is said while it waits
 abbrev pub MaySay : (I : Images) → Told I → TraceItem → Type 0
 MaySay I t (trace.WriteLog i block) = t.silent i ≡ false
-MaySay I t (trace.WriteReplay r block) = (i : ℕ) → t.silent i ≡ true → block ≢ (t.names i true).block
+MaySay I t (trace.Recovered i r) = (t.cluster).waits i ≡ true
 MaySay I t (trace.Join i) = ⊥
 MaySay I t (trace.WriteHead i block sequence upto) = ⊥
 MaySay I t (trace.WriteClean i block sequence upto) = ⊥
@@ -95,22 +93,13 @@ MaySay I t (trace.Fence i) = ⊥
 MaySay I t (trace.Lost i kept) = ⊥
 MaySay I t _ = ⊤
 
--- the clean header of a replay of the past's ring may come to the disk
-pub record MayLand (I : Images) (t : Told I) (i : ℕ) (h : AcceptedHead) : Type 0 where
-  pub waits : (t.cluster).waits i ≡ true
-  pub over : EachIsFenced (journal_of I t i)
-  pub alone : (t.cluster).header_of i ≡ None
-  pub clean : h.is_clean ≡ true
-  pub later : (t.names i false).sequence ≤ h.sequence
-  pub noted : IsNoted i (journal_of I t i) (t.items) h
-
 -- a run, with all that its trace has of it
 pub data Tellings (I : Images) (clients : List Client) (behind : ℕ → ℕ → AcceptedHead) (a : Told I) : Told I → Type 0 where
   Nothing : Tellings I clients behind a a
   AnEvent : (t : Told I) (u : Beside) (d : Cluster (Trees I)) (event : Event (Trees I) (t.cluster) d) → Tellings I clients behind a t → Tells I clients behind t u d event
       → Tellings I clients behind a (told_of I d u)
   AnItem : (t : Told I) (x : TraceItem) → Tellings I clients behind a t → MaySay I t x → Tellings I clients behind a (record t { items = t.items ++ x ∷ [] })
-  Lands : (t : Told I) (i : ℕ) (h : AcceptedHead) → Tellings I clients behind a t → MayLand I t i h → Tellings I clients behind a (record t { names = at (t.names) i (λ d. h) })
+  Lands : (t : Told I) (i : ℕ) (h : AcceptedHead) → Tellings I clients behind a t → MayLand I t i → Tellings I clients behind a (record t { names = at (t.names) i (λ d. h) })
 
 -- So each event of the cluster, and each such item, is a step of each journal; and every run is a list of steps.
 pub record TellingIsStep (I : Images) : Type 0 where
@@ -119,5 +108,17 @@ pub record TellingIsStep (I : Images) : Type 0 where
   pub item : (clients : List Client) (behind : ℕ → ℕ → AcceptedHead) (t : Told I) (x : TraceItem) → run.history_of clients (t.items) ≡ history_of I (((t.cluster).world).items)
       → MaySay I t x → Step I clients behind t (record t { items = t.items ++ x ∷ [] })
   pub past : (clients : List Client) (behind : ℕ → ℕ → AcceptedHead) (t : Told I) (i : ℕ) (h : AcceptedHead) → run.history_of clients (t.items) ≡ history_of I (((t.cluster).world).items)
-      → MayLand I t i h → Step I clients behind t (record t { names = at (t.names) i (λ d. h) })
+      → MayLand I t i → Step I clients behind t (record t { names = at (t.names) i (λ d. h) })
   pub every : (clients : List Client) (behind : ℕ → ℕ → AcceptedHead) (a t : Told I) → Begins I clients behind a → Tellings I clients behind a t → Steps I clients behind a t
+
+-- a front of the items is that of a run, from which this one goes on
+pub record IsPassed (I : Images) (clients : List Client) (behind : ℕ → ℕ → AcceptedHead) (a t : Told I) (n : ℕ) : Type 0 where
+  pub between : Told I
+  pub before : Tellings I clients behind a between
+  pub after : Tellings I clients behind between t
+  pub items : between.items ≡ take n (t.items)
+
+-- So what holds of every run with its trace holds at each front of the items behind the first joins.
+abbrev pub FrontsArePassed : Images → Type 0
+FrontsArePassed I = (clients : List Client) (behind : ℕ → ℕ → AcceptedHead) (a t : Told I) (n : ℕ) → Begins I clients behind a → Tellings I clients behind a t
+    → length (a.items) ≤ n → n ≤ length (t.items) → IsPassed I clients behind a t n

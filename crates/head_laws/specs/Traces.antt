@@ -1,10 +1,16 @@
 -- The items of a trace of a cluster over the file tree, as far as they tell of heads and losses.
-use Rattle.std.specs.Prelude.{ℕ, ◌≡◌, ◌⊎◌, Bool, List, []}
+use Rattle.std.specs.Prelude.{ℕ, ◌≡◌, ◌<◌, ◌≤◌, ◌⊎◌, Bool, true, false, None, Some, List, [], slice_get}
+use Rattle.file_tree.specs.declared.call.Call.{Call}
+use Rattle.file_tree.specs.declared.call.Call.TheVariants as calls
+use Rattle.file_tree.specs.declared.reply.Reply.{Reply}
+use Rattle.file_tree.specs.declared.reply.Reply.TheVariants as replies
+use Rattle.cluster_history.specs.declared.Item.TheVariants as item
+use Rattle.cluster_history.specs.Changes.{Changes}
 use Rattle.cluster_history.specs.History.{Legal, tree_of}
 use Rattle.trace_text.specs.declared.item.TraceItem.{TraceItem}
 use Rattle.script_lang.specs.declared.script.Client.{Client}
 use Rattle.run_rules.specs.Follows as run
-use Rattle.run_rules.specs.Lives.{AcceptedHead, TraceKeptRight, remains}
+use Rattle.run_rules.specs.Lives.{Life, AcceptedHead, TraceKeptRight, upto_of, losses_of, lives_of, life_at, remains}
 use Rattle.cluster_laws.specs.Book.{W}
 use Rattle.cluster_laws.specs.Mirror.{IsOutcome, IsReplay}
 use Rattle.cluster_laws.specs.Contents.{places, FreeDoesNotMatter}
@@ -13,7 +19,7 @@ use Rattle.cluster_laws.specs.Laws.{head_cuts}
 use Rattle.cluster_events.specs.Cluster.{Cluster, Starts}
 use Rattle.cluster_events.specs.Cluster as cluster
 use Rattle.tree_histories.specs.Trees.{Images, rules_of, Trees, history_of}
-use Rattle.head_laws.specs.Journals.{Journal, Event, Events, IsNew}
+use Rattle.head_laws.specs.Journals.{Journal, Event, Events, IsNew, EachIsFenced}
 
 -- a cluster, the names of its journals' heads, which nodes wrote their last without an item, and the items so far
 pub record Told (I : Images) : Type 0 where
@@ -61,11 +67,30 @@ pub record Begins (I : Images) (clients : List Client) (behind : ℕ → ℕ →
 abbrev pub LossesAreRight : Images → Type 0
 LossesAreRight I = (clients : List Client) (behind : ℕ → ℕ → AcceptedHead) (a t : Told I) → Begins I clients behind a → Steps I clients behind a t → TraceKeptRight clients behind (t.items)
 
+-- a header of a replay of the past's ring may come to the disk
+pub record MayLand (I : Images) (t : Told I) (i : ℕ) : Type 0 where
+  pub waits : (t.cluster).waits i ≡ true
+  pub over : EachIsFenced (journal_of I t i)
+  pub alone : (t.cluster).header_of i ≡ None
+
+-- these may be the accepted heads, by the choice of each journal, or where such a header came
+abbrev pub HeadsMayBe : (I : Images) → Told I → (ℕ → Bool) → (ℕ → AcceptedHead) → Type 0
+HeadsMayBe I t choice now = (i : ℕ) → (now i ≡ t.names i (choice i)) ⊎ MayLand I t i
+
+-- No call of a node changes anything that is behind the number that the items tell of a life without a loss, and up to a sync that was answered Ok.
+abbrev pub SyncsStand : Images → Type 0
+SyncsStand I = (clients : List Client) (behind : ℕ → ℕ → AcceptedHead) (a t : Told I) → Begins I clients behind a → Steps I clients behind a t
+    → (choice : ℕ → Bool) (now : ℕ → AcceptedHead) → HeadsMayBe I t choice now → (p q n client other number earlier : ℕ) (call : Call) (reply : Reply) (l : Life)
+    → losses_of l.node (t.items) ≤ n → life_at l.node n (lives_of (t.items)) ≡ Some l
+    → slice_get (run.history_of clients (t.items)) p ≡ Some (item.Call l.node client number calls.Sync replies.Ok)
+    → slice_get (run.history_of clients (t.items)) q ≡ Some (item.Call l.node other earlier call reply)
+    → upto_of (record { behind = behind; now = now }) l (t.items) < earlier → earlier ≤ number → Changes (record { call = call; reply = reply }) ≡ false
+
 -- Each outcome of the disk, whichever heads the journals then have, replayed, stands for the tree of what remains of the items, which is legal.
 abbrev pub RemainsStand : Images → Type 0
 RemainsStand I = (clients : List Client) (behind : ℕ → ℕ → AcceptedHead) (a t : Told I) → Begins I clients behind a → Steps I clients behind a t
-    → FreeDoesNotMatter (rules_of I) → RingsDoNotMatter (rules_of I) → (choice : ℕ → Bool) (x r full : ℕ → I.Content)
+    → FreeDoesNotMatter (rules_of I) → RingsDoNotMatter (rules_of I) → (choice : ℕ → Bool) (now : ℕ → AcceptedHead) → HeadsMayBe I t choice now → (x r full : ℕ → I.Content)
     → IsOutcome (Trees I) (((t.cluster).world).disk) x → IsReplay (Trees I) (((t.cluster).world).disk) choice x r → I.RingsAreGood full → ((b : ℕ) → (r b ≡ full b) ⊎ I.IsRing b)
-    → Legal (remains clients (record { behind = behind; now = λ i. t.names i (choice i) }) (t.items)) ((((t.cluster).world).book).start)
+    → Legal (remains clients (record { behind = behind; now = now }) (t.items)) ((((t.cluster).world).book).start)
     × I.StandsFor full (places (W (Trees I) (((t.cluster).world).book) (head_cuts (Trees I) (((t.cluster).world).disk) choice)))
-    (tree_of (remains clients (record { behind = behind; now = λ i. t.names i (choice i) }) (t.items)) ((((t.cluster).world).book).start))
+    (tree_of (remains clients (record { behind = behind; now = now }) (t.items)) ((((t.cluster).world).book).start))

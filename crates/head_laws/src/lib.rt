@@ -3,9 +3,10 @@
 
 ghost use Rattle.head_laws.specs.DirtyStart.{DirtyStartIsTold};
 ghost use Rattle.head_laws.specs.Example.{JournalCanLive};
+ghost use Rattle.head_laws.specs.Joined.{JournalIsJoinedEarly};
 ghost use Rattle.head_laws.specs.Laws.{HeadsAreTold};
-ghost use Rattle.head_laws.specs.Tellings.{TellingIsStep};
-ghost use Rattle.head_laws.specs.Traces.{LossesAreRight, RemainsStand};
+ghost use Rattle.head_laws.specs.Tellings.{FrontsArePassed, TellingIsStep};
+ghost use Rattle.head_laws.specs.Traces.{LossesAreRight, RemainsStand, SyncsStand};
 
 use tree_histories::TreeImages;
 
@@ -33,6 +34,18 @@ pub fn remains_stand<T: TreeImages>()
     ensures { RemainsStand T.images }
 {}
 
+/// A law: no call of a node changes anything that is behind the number that the items tell of a life without a loss, and up to a sync
+/// that was answered Ok.
+pub fn syncs_stand<T: TreeImages>()
+    ensures { SyncsStand T.images }
+{}
+
+/// A law: each front of a run's items, behind the first joins, is that of a run from which this one goes on; so what holds of every run
+/// holds at each front.
+pub fn fronts_are_passed<T: TreeImages>()
+    ensures { FrontsArePassed T.images }
+{}
+
 /// A law: the events can be: a node stops behind a header that has no item, its journal is replayed, and it joins again.
 pub fn a_journal_can_live()
     ensures { JournalCanLive }
@@ -42,4 +55,10 @@ pub fn a_journal_can_live()
 /// the slot is recovered, with the items of this.
 pub fn a_dirty_start_can_be_told<T: TreeImages>()
     ensures { DirtyStartIsTold T.images }
+{}
+
+/// A law: the events can be where a node joins while a replay's header of its journal is in flight, which has no item: the node's second
+/// life keeps what stood before its join.
+pub fn a_journal_can_be_joined_early()
+    ensures { JournalIsJoinedEarly }
 {}

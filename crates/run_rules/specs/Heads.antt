@@ -1,5 +1,5 @@
 -- Worked rows of lives, of the heads that they left and of what these have.
-use Rattle.std.specs.Prelude.{ℕ, ◌≡◌, ◌==◌, true, false, if◌then◌else◌, Some, codes, List, [], ◌∷◌, ◌++◌}
+use Rattle.std.specs.Prelude.{ℕ, ◌≡◌, ◌==◌, nat_lt, true, false, if◌then◌else◌, Some, codes, List, [], ◌∷◌, ◌++◌}
 use Rattle.file_tree.specs.declared.call.Call.TheVariants as calls
 use Rattle.file_tree.specs.declared.reply.Reply.TheVariants as replies
 use Rattle.trace_text.specs.declared.item.TraceItem.{TraceItem}
@@ -33,6 +33,20 @@ cut_off = trace.Join 1 ∷ trace.WriteHead 1 42 9 0 ∷ trace.Call 1 (codes "c")
 abbrev pub replayed : List TraceItem
 replayed = trace.Join 1 ∷ trace.WriteReplay 1 31 ∷ trace.Barrier 1 ∷ trace.Recovered 1 1 ∷ trace.Call 1 (codes "c") 1 calls.Sync replies.Ok ∷ trace.WriteLog 1 33 ∷ trace.Crash 1 ∷ []
 
+-- Node 2 stops while the clean header of its replay of node 1's journal is in flight, and node 1 joins before node 2 is fenced; the header is on the disk then.
+abbrev pub joined_early : List TraceItem
+joined_early = trace.Join 1 ∷ trace.Join 2 ∷ trace.Call 1 (codes "c") 1 calls.Sync replies.Ok ∷ trace.Crash 1 ∷ trace.Fence 1 ∷ trace.WriteReplay 2 44 ∷ trace.Crash 2 ∷ trace.Join 1
+    ∷ trace.Fence 2 ∷ trace.Recovered 1 1 ∷ trace.Lost 1 1 ∷ trace.Call 1 (codes "c") 2 calls.Sync replies.Ok ∷ trace.WriteLog 1 45 ∷ trace.Crash 1 ∷ []
+
+-- From a dirty start: node 2's last write before its withdraw, which has no item, is the clean header of its replay of node 1's journal.
+abbrev pub without_item : List TraceItem
+without_item = trace.Join 1 ∷ trace.Join 2 ∷ trace.WriteReplay 2 5 ∷ trace.Barrier 2 ∷ trace.Withdraw 2 4 5 ∷ trace.Fence 2 ∷ trace.Recovered 1 1
+    ∷ trace.Call 1 (codes "c") 1 calls.Sync replies.Ok ∷ trace.WriteLog 1 45 ∷ trace.Crash 1 ∷ []
+
+-- behind fewer items than these the disk has one head, and then another
+abbrev pub heads_from : ℕ → AcceptedHead → AcceptedHead → DiskHeads
+heads_from n old h = record { behind = λ node p. if nat_lt p n then old else h; now = λ node. h }
+
 -- a second life
 abbrev pub twice : List TraceItem
 twice = run ++ trace.Recovered 1 2 ∷ trace.Lost 1 1 ∷ trace.Join 1 ∷ []
@@ -45,8 +59,13 @@ pub record RowsOfHeads : Type 0 where
   -- a head without an item has the calls before the first write to the log behind the last head; a clean one has all
   pub unnamed : upto_of (left_head (head 45 10)) first cut_off ≡ 1
   pub clean : upto_of (left_head (record { block = 45; sequence = 10; is_clean = true })) first cut_off ≡ 2
-  -- the clean header of a replay in this life is none of it
+  -- the clean header of a replay in this life is none of its own
   pub replays : upto_of (left_head (record { block = 31; sequence = 9; is_clean = true })) first replayed ≡ 0
+  -- also where the node joined while it was in flight, or it has no item
+  pub early : upto_of (heads_from 9 (head 42 9) (record { block = 44; sequence = 10; is_clean = true })) (record { node = 1; join = 7 }) joined_early ≡ 1
+  pub silent : upto_of (heads_from 6 (head 42 8) (record { block = 43; sequence = 9; is_clean = true })) first without_item ≡ 0
+  -- a header behind the recovery is the life's own
+  pub behind : upto_of (record { behind = λ node p. record { block = 43; sequence = 9; is_clean = true }; now = λ node. head 46 10 }) first without_item ≡ 1
   -- the base of a second life is the last number before it; the next loss of node 1 is that of this life
   pub second : upto_of (left_head at_join) (record { node = 1; join = 16 }) twice ≡ 3
   pub lives : lives_of twice ≡ first ∷ record { node = 2; join = 1 } ∷ record { node = 1; join = 16 } ∷ []

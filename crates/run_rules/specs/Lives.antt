@@ -1,5 +1,5 @@
 -- The lives of a node in a trace, and which of its calls the journal of a stopped one has: the number that the accepted head says, told by the items.
-use Rattle.std.specs.Prelude.{ℕ, suc, ◌≡◌, ◌+◌, ◌-◌, ◌==◌, ◌&&◌, ◌||◌, not, nat_lt, Bool, true, false, if◌then◌else◌, Option, None, Some, List, [], ◌∷◌, ◌++◌, take, drop, slice_get}
+use Rattle.std.specs.Prelude.{ℕ, suc, ◌≡◌, ◌+◌, ◌-◌, ◌==◌, ◌&&◌, nat_lt, Bool, true, false, if◌then◌else◌, Option, None, Some, List, [], ◌∷◌, ◌++◌, take, drop, slice_get}
 use Rattle.cluster_history.specs.declared.Item.{Item}
 use Rattle.cluster_history.specs.declared.Item.TheVariants as item
 use Rattle.cluster_history.specs.Losses.{LossIsRight}
@@ -62,17 +62,24 @@ head_behind None disks node = disks.now node
 abbrev pub head_of : DiskHeads → Life → List TraceItem → AcceptedHead
 head_of disks life items = head_behind (fenced_behind life.node (life.join + 1) (drop (life.join + 1) items)) disks life.node
 
--- a replay's write to the block stands there, and no commit of the node behind it: a head at that block is the clean header of this replay
-abbrev pub is_replays : ℕ → ℕ → Bool → List TraceItem → Bool
-is_replays node block now [] = now
-is_replays node block now (trace.WriteReplay i b ∷ is) = is_replays node block (now || (b == block)) is
-is_replays node block now (trace.Commit i sequence upto ∷ is) = is_replays node block (now && not (i == node)) is
-is_replays node block now (_ ∷ is) = is_replays node block now is
+-- how many items stand up to and with the first `recovered` of the node, where so many stood before these
+abbrev pub recovered_behind : ℕ → ℕ → List TraceItem → Option ℕ
+recovered_behind node p [] = None
+recovered_behind node p (trace.Recovered i r ∷ is) = if i == node then Some (suc p) else recovered_behind node (suc p) is
+recovered_behind node p (_ ∷ is) = recovered_behind node (suc p) is
 
--- the head was written in this life, by the node's own journal: its sequence is above that of the head at the join, and it isn't the clean header of a replay
+abbrev pub or_else : Option ℕ → ℕ → ℕ
+or_else (Some p) join = p
+or_else None join = join
+
+-- From where on headers are the life's own: behind the recovery of its slot, where that is in the life, and else at its join. Until then a header of the node's journal
+-- is one of an earlier life, or of a replay.
+abbrev pub own_from : Life → List TraceItem → ℕ
+own_from life items = or_else (recovered_behind life.node (life.join + 1) (items_of life items)) life.join
+
+-- the head was written in this life, by the node's own journal: its sequence is above that of the head which the disk had then
 abbrev pub is_own : AcceptedHead → DiskHeads → Life → List TraceItem → Bool
-is_own h disks life items =
-    nat_lt (disks.behind life.node life.join).sequence h.sequence && not (is_replays life.node h.block false (items_of life items))
+is_own h disks life items = nat_lt (disks.behind life.node (own_from life items)).sequence h.sequence
 
 -- ---- the first case: an item tells it
 
