@@ -1,6 +1,6 @@
 -- The laws over every list of calls.
 use Rattle.std.proofs.Common.{ℕ, ◌≡◌, ◌≢◌, ◌⊎◌, ◌<◌, ◌≤◌, inl, inr, true, Option, None, Some, List, [], ◌∷◌, ◌++◌, is_some, refl, sym, ap, ◌∙◌, subst}
-use Rattle.std.specs.Prelude.{unwrap_or}
+use Rattle.std.specs.Prelude.{⊤, unwrap_or}
 use Rattle.std.specs.List.{AllByRecursion}
 use Rattle.std.proofs.lemmas.Bool.{cases_eq, cond-true}
 use Rattle.glock_names.specs.declared.LockName.{LockName}
@@ -25,17 +25,17 @@ use Rattle.lock_steps.specs.Ties.{in_view, grants}
 use Rattle.lock_steps.proofs.Basics.{up-to, same-self, at-here, at-away}
 use Rattle.lock_steps.proofs.Tying.{now-says, holding-is, holding-away}
 use Rattle.conversion_laws.specs.Parts.{Parts, now_says, grants_coming, lock_in_table, table_mode, held_or_coming}
-use Rattle.conversion_laws.specs.Calls.{NodeCall, Call, OfMail, OfNode, OfMaster, Calls, NoCall, AndCall}
+use Rattle.conversion_laws.specs.Calls.{NodeCall, Call, OfMail, OfNode, OfMaster, Calls, NoCall, AndCall, CallDropsNone, DropNone}
 use Rattle.conversion_laws.specs.Calls as calls
-use Rattle.conversion_laws.specs.Laws.{Begins, AreRight, EveryListIsRight, ViewsFollow, RisesByGrant, Rises, Keeps, HoldersRiseByGrants, MeetCalls, MessagesMeetCalls}
-use Rattle.conversion_laws.proofs.Stages.{Tells, sees, covered, exact, one-ask, was-asked}
+use Rattle.conversion_laws.specs.Laws.{Begins, AreRight, EveryListIsRight, NoAskIsLost, ViewsFollow, RisesByGrant, Rises, Keeps, HoldersRiseByGrants, MeetCalls, MessagesMeetCalls}
+use Rattle.conversion_laws.proofs.Stages.{Tells, sees, covered, exact, one-ask, still-asked, was-asked}
 use Rattle.conversion_laws.proofs.Nodes.{sight, Inv, mail-keeps-inv, node-keeps, grant-first}
 use Rattle.conversion_laws.proofs.Masters.{master-keeps, meets-request, meets-conversion, meets-lower}
 
 -- ---- the invariant
 
-starts : (lock : LockName) (p : Parts) → Begins lock p → Inv lock p
-starts lock p b = record {
+starts : {lossy : Type 0} (lock : LockName) (p : Parts) → Begins lock p → Inv lossy lock p
+starts {lossy} lock p b = record {
   master = b.master;
   sound = b.sound;
   together = b.together;
@@ -45,14 +45,26 @@ starts lock p b = record {
       (Tells (refl, refl) refl refl);
 }
 
-call-keeps : (lock : LockName) (p q : Parts) → Call lock p q → Inv lock p → Inv lock q
-call-keeps lock p _ (OfMail post call) inv = mail-keeps-inv lock p post call inv
-call-keeps lock p q (OfNode _ call) inv = node-keeps lock p q call inv
-call-keeps lock p q (OfMaster _ call) inv = master-keeps lock p q call inv
+call-keeps : {lossy : Type 0} (lock : LockName) (p q : Parts) (call : Call lock p q) → lossy ⊎ CallDropsNone lock p q call → Inv lossy lock p → Inv lossy lock q
+call-keeps {lossy} lock p _ (OfMail post call) may inv = mail-keeps-inv lock p post call inv
+call-keeps {lossy} lock p q (OfNode _ call) may inv = node-keeps lock p q call may inv
+call-keeps {lossy} lock p q (OfMaster _ call) may inv = master-keeps lock p q call inv
 
-calls-keep : (lock : LockName) (p q : Parts) → Calls lock p q → Inv lock p → Inv lock q
-calls-keep lock p _ NoCall inv = inv
-calls-keep lock p _ (AndCall q r before call) inv = call-keeps lock q r call (calls-keep lock p q before inv)
+calls-keep : {lossy : Type 0} (lock : LockName) (p q : Parts) (calls : Calls lock p q) → lossy ⊎ DropNone lock p q calls → Inv lossy lock p → Inv lossy lock q
+calls-keep {lossy} lock p _ NoCall may inv = inv
+calls-keep {lossy} lock p _ (AndCall q r before call) may inv = call-keeps lock q r call (last may) (calls-keep lock p q before (first may) inv)
+  where
+    last : lossy ⊎ (DropNone lock p q before × CallDropsNone lock q r call) → lossy ⊎ CallDropsNone lock q r call
+    last (inl l) = inl l
+    last (inr both) = inr both.1
+
+    first : lossy ⊎ (DropNone lock p q before × CallDropsNone lock q r call) → lossy ⊎ DropNone lock p q before
+    first (inl l) = inl l
+    first (inr both) = inr both.0
+
+-- grants may be lost
+reaches : (lock : LockName) (p q : Parts) → Calls lock p q → Begins lock p → Inv ⊤ lock q
+reaches lock p q calls b = calls-keep lock p q calls (inl tt) (starts lock p b)
 
 -- ---- the table, and what nodes hold
 
@@ -68,8 +80,8 @@ go-all t u (a ∷ ns) bs goes all more = (each bs more, go-all t u ns bs goes al
       each bs more.1,
     )
 
-are-right : (lock : LockName) (p : Parts) → Inv lock p → AreRight lock p
-are-right lock p inv = record {
+are-right : {lossy : Type 0} (lock : LockName) (p : Parts) → Inv lossy lock p → AreRight lock p
+are-right {lossy} lock p inv = record {
   sound = inv.sound;
   together = inv.together;
   covers = λ k x. covered (sight lock p k) (inv.stages k x);
@@ -81,7 +93,12 @@ are-right lock p inv = record {
 }
 
 pub every-list : EveryListIsRight
-every-list lock p q b calls = are-right lock q (calls-keep lock p q calls (starts lock p b))
+every-list lock p q b calls = are-right lock q (reaches lock p q calls b)
+
+pub no-ask-is-lost : NoAskIsLost
+no-ask-is-lost lock p q calls b none k x mode e =
+    let inv : Inv ⊥ lock q = calls-keep lock p q calls (inr none) (starts lock p b) in
+    still-asked (sight lock q k) (inv.stages k x) mode e
 
 -- ---- views
 
@@ -147,8 +164,8 @@ knows-it h lock mode e = by (at_lock h lock) refl
     by None f = absurd (let g : None ≡ Some mode = sym (ap (λ (o : Option Holding). (unwrap_or o nothing).wanted) f) ∙ e in cc)
     by (Some x) f = ap is_some f
 
-meet-calls : (lock : LockName) (p : Parts) → Inv lock p → MeetCalls lock p
-meet-calls lock p inv = record {
+meet-calls : {lossy : Type 0} (lock : LockName) (p : Parts) → Inv lossy lock p → MeetCalls lock p
+meet-calls {lossy} lock p inv = record {
   requests = λ k mode rest x hand. meets-request lock p k mode rest inv x hand;
   conversions = λ k mode rest x hand. meets-conversion lock p k mode rest inv x hand;
   lowers = λ k mode value rest x hand. meets-lower lock p k mode value rest inv x hand;
@@ -160,7 +177,7 @@ meet-calls lock p inv = record {
 }
 
 pub messages-meet : MessagesMeetCalls
-messages-meet lock p q b calls = meet-calls lock q (calls-keep lock p q calls (starts lock p b))
+messages-meet lock p q b calls = meet-calls lock q (reaches lock p q calls b)
 
 -- ---- holders rise by grants
 
@@ -191,7 +208,8 @@ node-rises lock p q k (calls.IsGranted j mode value rest x hand) = elim (cases_e
       ∙ ap (λ (y : Holding). y.mode) (holding-is (p.holders j) lock (record { mode = mode; wanted = None; value = value }))))))
   | inr ne ↦ Keeps (changes lock p q.holders k (at-away p.holders j (granted_to (p.holders j) lock mode value) k ne))
 ]
-node-rises lock p q k (calls.Drops from to m rest x y hand quiet) = Keeps (covers-itself (mode_in (p.holders k) lock))
+node-rises lock p q k (calls.DropsGrant j mode value rest x hand) = Keeps (covers-itself (mode_in (p.holders k) lock))
+node-rises lock p q k (calls.Drops from to m rest x y hand quiet mute) = Keeps (covers-itself (mode_in (p.holders k) lock))
 node-rises lock p q k (calls.Writes from to letters x y calls grants) = Keeps (covers-itself (mode_in (p.holders k) lock))
 node-rises lock p q k (calls.HoldsElsewhere j other holding ne) = keeps-at lock p q j (with_lock (p.holders j) other holding) k refl
     (ap (λ (y : Holding). is_at_least (mode_in (p.holders j) lock) y.mode) (holding-away (p.holders j) lock other holding ne) ∙ covers-itself (mode_in (p.holders j) lock))

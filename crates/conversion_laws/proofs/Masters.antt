@@ -51,22 +51,22 @@ seen lock p l post j = record (sight lock p j) {
   granted = filter_map (in_view p.table.generation (grants lock)) (way post p.master j);
 }
 
-wrote : (lock : LockName) (p : Parts) (l : LockState) (post : Post) → Inv lock p → IsSound l × Together l.held → ((j : ℕ) → j ≤ 8 → Stage (seen lock p l post j))
-    → Inv lock (record p { table = with_state p.table lock l; post = post })
-wrote lock p l post inv good stages =
+wrote : {lossy : Type 0} (lock : LockName) (p : Parts) (l : LockState) (post : Post) → Inv lossy lock p → IsSound l × Together l.held → ((j : ℕ) → j ≤ 8 → Stage lossy (seen lock p l post j))
+    → Inv lossy lock (record p { table = with_state p.table lock l; post = post })
+wrote {lossy} lock p l post inv good stages =
     let is : lock_of (with_state p.table lock l) lock ≡ l = written p.table lock l in
     record {
       master = inv.master;
       sound = subst IsSound (sym is) good.0;
       together = subst (λ (u : LockState). Together u.held) (sym is) good.1;
-      stages = λ j x. subst (λ (u : LockState). Stage (seen lock p u post j)) (sym is) (stages j x);
+      stages = λ j x. subst (λ (u : LockState). Stage lossy (seen lock p u post j)) (sym is) (stages j x);
     }
 
 -- ---- what the master's calls keep
 
-kept : (lock : LockName) (p : Parts) (call : runs.Call) → Inv lock p → runs.MayCall (run_of p.table lock) call
+kept : {lossy : Type 0} (lock : LockName) (p : Parts) (call : runs.Call) → Inv lossy lock p → runs.MayCall (run_of p.table lock) call
     → IsSound (runs.after (run_of p.table lock) call).lock × Together (runs.after (run_of p.table lock) call).lock.held
-kept lock p call inv may = (
+kept {lossy} lock p call inv may = (
   sound-locks-stay-sound.stays (run_of p.table lock) (call ∷ []) (may, tt) inv.sound,
   grants-keep-together (run_of p.table lock) (call ∷ []) (may, tt) inv.together,
 )
@@ -165,7 +165,7 @@ module _ (lock : LockName) (p : Parts) (post : Post) (w : Claim) where
 
 -- ---- an ask that comes to the table
 
-module _ (lock : LockName) (p : Parts) (k : ℕ) (mode : Mode) (b : Body) (c : runs.Call) (rest : List Message) (inv : Inv lock p) (within : k ≤ 8)
+module _ {lossy : Type 0} (lock : LockName) (p : Parts) (k : ℕ) (mode : Mode) (b : Body) (c : runs.Call) (rest : List Message) (inv : Inv lossy lock p) (within : k ≤ 8)
     (hand : p.post.took k p.master ≡ now_says p b ∷ rest) (said : call_of lock k b ≡ Some c) (mute : grants lock b ≡ None)
     (heard : IsHeard (sight lock p k) mode (calls_left lock p k b c rest hand said mute)) where
   abbrev l : LockState
@@ -176,9 +176,9 @@ module _ (lock : LockName) (p : Parts) (k : ℕ) (mode : Mode) (b : Body) (c : r
 
   -- it is granted at once
   pub granted-now : IsSound (record l { held = now_holding l.held k mode }) × Together (now_holding l.held k mode)
-      → Inv lock (record p { table = with_state p.table lock (record l { held = now_holding l.held k mode }); post = claim_letter p lock behind (claim k mode) })
+      → Inv lossy lock (record p { table = with_state p.table lock (record l { held = now_holding l.held k mode }); post = claim_letter p lock behind (claim k mode) })
   granted-now good = wrote lock p (record l { held = now_holding l.held k mode }) (claim_letter p lock behind (claim k mode)) inv good (λ j x. elim (cases_eq j k) [
-    | inl e ↦ subst (λ (i : ℕ). Stage (seen lock p (record l { held = now_holding l.held k mode }) (claim_letter p lock behind (claim k mode)) i)) (sym e)
+    | inl e ↦ subst (λ (i : ℕ). Stage lossy (seen lock p (record l { held = now_holding l.held k mode }) (claim_letter p lock behind (claim k mode)) i)) (sym e)
         (sees _ (seen lock p (record l { held = now_holding l.held k mode }) (claim_letter p lock behind (claim k mode)) k) refl refl
         (sym (now-here l.held k mode inv.sound.held_once)) refl (sym (grant-mute lock p behind (claim k mode) k))
         (sym (grant-says lock p behind (claim k mode) ∙ ap (λ (ms : List Mode). ms ++ mode ∷ []) (grants-same lock p k b c rest hand said mute k)))
@@ -193,9 +193,9 @@ module _ (lock : LockName) (p : Parts) (k : ℕ) (mode : Mode) (b : Body) (c : r
   -- it waits
   pub waits-now : (conversions requests : List Claim) → IsSound (record l { conversions = conversions; requests = requests }) × Together l.held
       → mode_of_node (conversions ++ requests) k ≡ Some mode → ((j : ℕ) → (j ≡ k → ⊥) → mode_of_node (conversions ++ requests) j ≡ mode_of_node (l.conversions ++ l.requests) j)
-      → Inv lock (record p { table = with_state p.table lock (record l { conversions = conversions; requests = requests }); post = behind })
+      → Inv lossy lock (record p { table = with_state p.table lock (record l { conversions = conversions; requests = requests }); post = behind })
   waits-now conversions requests good here away = wrote lock p (record l { conversions = conversions; requests = requests }) behind inv good (λ j x. elim (cases_eq j k) [
-    | inl e ↦ subst (λ (i : ℕ). Stage (seen lock p (record l { conversions = conversions; requests = requests }) behind i)) (sym e)
+    | inl e ↦ subst (λ (i : ℕ). Stage lossy (seen lock p (record l { conversions = conversions; requests = requests }) behind i)) (sym e)
         (sees _ (seen lock p (record l { conversions = conversions; requests = requests }) behind k) refl refl refl (sym here) refl
         (sym (grants-same lock p k b c rest hand said mute k)) (stages.then-waits (sight lock p k) mode _ heard))
     | inr ne ↦ sees (sight lock p j) (seen lock p (record l { conversions = conversions; requests = requests }) behind j) refl refl refl (sym (away j ne))
@@ -209,15 +209,15 @@ record Finds (lock : LockName) (p : Parts) (k : ℕ) (mode : Mode) (b : Body) (c
   heard : IsHeard (sight lock p k) mode (calls_left lock p k b c rest hand said mute)
   may : runs.MayCall (run_of p.table lock) c
 
-finds-request : (lock : LockName) (p : Parts) (k : ℕ) (mode : Mode) (rest : List Message) → Inv lock p → k ≤ 8 → (hand : p.post.took k p.master ≡ now_says p (Request lock mode) ∷ rest)
+finds-request : {lossy : Type 0} (lock : LockName) (p : Parts) (k : ℕ) (mode : Mode) (rest : List Message) → Inv lossy lock p → k ≤ 8 → (hand : p.post.took k p.master ≡ now_says p (Request lock mode) ∷ rest)
     → Finds lock p k mode (Request lock mode) (runs.Requests k mode) rest hand (cond-true _ _ _ (same-self lock)) refl
-finds-request lock p k mode rest inv x hand =
+finds-request {lossy} lock p k mode rest inv x hand =
     let h = stages.hears-request (sight lock p k) k mode _ (inv.stages k x) (call-first lock p k (Request lock mode) (runs.Requests k mode) rest hand (cond-true _ _ _ (same-self lock)) refl) in
     record { heard = h.0; may = (null-none (lock_in_table lock p).held k inv.sound.never_null h.1, waits-not (lock_in_table lock p) k h.0.waits) }
 
-finds-conversion : (lock : LockName) (p : Parts) (k : ℕ) (mode : Mode) (rest : List Message) → Inv lock p → k ≤ 8 → (hand : p.post.took k p.master ≡ now_says p (Convert lock mode) ∷ rest)
+finds-conversion : {lossy : Type 0} (lock : LockName) (p : Parts) (k : ℕ) (mode : Mode) (rest : List Message) → Inv lossy lock p → k ≤ 8 → (hand : p.post.took k p.master ≡ now_says p (Convert lock mode) ∷ rest)
     → Finds lock p k mode (Convert lock mode) (runs.Converts k mode) rest hand (cond-true _ _ _ (same-self lock)) refl
-finds-conversion lock p k mode rest inv x hand =
+finds-conversion {lossy} lock p k mode rest inv x hand =
     let h = stages.hears-conversion (sight lock p k) k mode _ (inv.stages k x) (call-first lock p k (Convert lock mode) (runs.Converts k mode) rest hand (cond-true _ _ _ (same-self lock)) refl) in
     record {
       heard = h.0;
@@ -228,31 +228,31 @@ finds-conversion lock p k mode rest inv x hand =
     }
 
 -- a request or a conversion that is met
-pub meets-request : (lock : LockName) (p : Parts) (k : ℕ) (mode : Mode) (rest : List Message) → Inv lock p → k ≤ 8 → p.post.took k p.master ≡ now_says p (Request lock mode) ∷ rest
+pub meets-request : {lossy : Type 0} (lock : LockName) (p : Parts) (k : ℕ) (mode : Mode) (rest : List Message) → Inv lossy lock p → k ≤ 8 → p.post.took k p.master ≡ now_says p (Request lock mode) ∷ rest
     → runs.MayCall (run_of p.table lock) (runs.Requests k mode)
-meets-request lock p k mode rest inv x hand = (finds-request lock p k mode rest inv x hand).may
+meets-request {lossy} lock p k mode rest inv x hand = (finds-request lock p k mode rest inv x hand).may
 
-pub meets-conversion : (lock : LockName) (p : Parts) (k : ℕ) (mode : Mode) (rest : List Message) → Inv lock p → k ≤ 8 → p.post.took k p.master ≡ now_says p (Convert lock mode) ∷ rest
+pub meets-conversion : {lossy : Type 0} (lock : LockName) (p : Parts) (k : ℕ) (mode : Mode) (rest : List Message) → Inv lossy lock p → k ≤ 8 → p.post.took k p.master ≡ now_says p (Convert lock mode) ∷ rest
     → runs.MayCall (run_of p.table lock) (runs.Converts k mode)
-meets-conversion lock p k mode rest inv x hand = (finds-conversion lock p k mode rest inv x hand).may
+meets-conversion {lossy} lock p k mode rest inv x hand = (finds-conversion lock p k mode rest inv x hand).may
 
 -- a lower
-record FindsLower (lock : LockName) (p : Parts) (k : ℕ) (mode : Mode) (q : List runs.Call) : Type 0 where
+record FindsLower (lossy : Type 0) (lock : LockName) (p : Parts) (k : ℕ) (mode : Mode) (q : List runs.Call) : Type 0 where
   covers : is_at_least (table_mode lock p k) mode ≡ true
   idle : is_waiting (lock_in_table lock p) k ≡ false
-  stage : Stage (record (sight lock p k) { table = mode; coming = q })
+  stage : Stage lossy (record (sight lock p k) { table = mode; coming = q })
 
-finds-lower : (lock : LockName) (p : Parts) (k : ℕ) (mode : Mode) (value : Option (List ℕ)) (rest : List Message) → Inv lock p → k ≤ 8
+finds-lower : {lossy : Type 0} (lock : LockName) (p : Parts) (k : ℕ) (mode : Mode) (value : Option (List ℕ)) (rest : List Message) → Inv lossy lock p → k ≤ 8
     → p.post.took k p.master ≡ now_says p (Down lock mode value) ∷ rest
-    → FindsLower lock p k mode (filter_map (in_view p.table.generation (call_of lock k)) (way (with_left p.post k p.master rest) k p.master))
-finds-lower lock p k mode value rest inv x hand =
+    → FindsLower lossy lock p k mode (filter_map (in_view p.table.generation (call_of lock k)) (way (with_left p.post k p.master rest) k p.master))
+finds-lower {lossy} lock p k mode value rest inv x hand =
     let h = stages.hears-lower (sight lock p k) k mode value _ (inv.stages k x) (call-first lock p k (Down lock mode value) (runs.Lowers k mode value) rest hand (cond-true _ _ _ (same-self lock)) refl) in
     record { covers = h.0; idle = waits-not (lock_in_table lock p) k h.1; stage = h.2 }
 
-pub meets-lower : (lock : LockName) (p : Parts) (k : ℕ) (mode : Mode) (value : Option (List ℕ)) (rest : List Message) → Inv lock p → k ≤ 8
+pub meets-lower : {lossy : Type 0} (lock : LockName) (p : Parts) (k : ℕ) (mode : Mode) (value : Option (List ℕ)) (rest : List Message) → Inv lossy lock p → k ≤ 8
     → p.post.took k p.master ≡ now_says p (Down lock mode value) ∷ rest
     → ((holds_above (mode_of_node (lock_in_table lock p).held k) mode ≡ true) ⊎ (table_mode lock p k ≡ mode)) × (is_waiting (lock_in_table lock p) k ≡ false)
-meets-lower lock p k mode value rest inv x hand =
+meets-lower {lossy} lock p k mode value rest inv x hand =
     let f = finds-lower lock p k mode value rest inv x hand in
     (above-or-same (mode_of_node (lock_in_table lock p).held k) mode f.covers, f.idle)
 
@@ -328,7 +328,7 @@ module _ (lock : LockName) (p : Parts) (j : ℕ) where
           ∙ rw is.0 refl))
       by (inr ne) = ap (λ (ms : List Mode). ms ++ option_to_list (mode_of_node ws j)) (grant-away lock p post w j (λ e. ne.1 (sym e))) ∙ rw ne.0 refl
 
-module _ (lock : LockName) (p : Parts) (inv : Inv lock p) where
+module _ {lossy : Type 0} (lock : LockName) (p : Parts) (inv : Inv lossy lock p) where
   abbrev now : LockState
   now = lock_in_table lock p
 
@@ -342,7 +342,7 @@ module _ (lock : LockName) (p : Parts) (inv : Inv lock p) where
   split = subst (λ (g : List Claim). IsSplit [] (now.conversions ++ now.requests) g ((after_grants now).conversions ++ (after_grants now).requests)) (sym lost.granted)
       (split-on now.conversions now.requests lost.converted lost.requested (after_grants now).conversions (after_grants now).requests lost.conversions lost.requests)
 
-  turned : (j : ℕ) → j ≤ 8 → Stage (seen lock p (after_grants now) (fold (claim_letter p lock) p.post given) j)
+  turned : (j : ℕ) → j ≤ 8 → Stage lossy (seen lock p (after_grants now) (fold (claim_letter p lock) p.post given) j)
   turned j x = by (mode_of_node given j) refl
     where
       tells : (mode_of_node given j ≡ None → mode_of_node ((after_grants now).conversions ++ (after_grants now).requests) j ≡ mode_of_node (now.conversions ++ now.requests) j)
@@ -353,7 +353,7 @@ module _ (lock : LockName) (p : Parts) (inv : Inv lock p) where
       one : OneEach given
       one = (split-one (now.conversions ++ now.requests) given ((after_grants now).conversions ++ (after_grants now).requests) split inv.sound.waits_once).0
 
-      by : (o : Option Mode) → mode_of_node given j ≡ o → Stage (seen lock p (after_grants now) (fold (claim_letter p lock) p.post given) j)
+      by : (o : Option Mode) → mode_of_node given j ≡ o → Stage lossy (seen lock p (after_grants now) (fold (claim_letter p lock) p.post given) j)
       by None e = sees (sight lock p j) (seen lock p (after_grants now) (fold (claim_letter p lock) p.post given) j) refl refl
           (sym (ap (λ (o : Option Mode). unwrap_or o Nl) (lost.others j (none-of given j e))))
           (sym (tells.0 e)) (sym (letters-mute-all lock p j given p.post))
@@ -365,37 +365,37 @@ module _ (lock : LockName) (p : Parts) (inv : Inv lock p) where
           (sym (letters-say-all lock p j given p.post one ∙ ap (λ (o : Option Mode). grants_coming lock p j ++ option_to_list o) e))
           (stages.is-granted (sight lock p j) mode (inv.stages j x) (tells.1 mode e).0)
 
-  grants-next : Inv lock (record p { table = after_turns p.table lock; post = fold (claim_letter p lock) p.post given })
+  grants-next : Inv lossy lock (record p { table = after_turns p.table lock; post = fold (claim_letter p lock) p.post given })
   grants-next = by (at_lock p.table.table lock) refl
     where
       good : IsSound (after_grants now) × Together (after_grants now).held
       good = (sound-grants now inv.sound, grants-keep now inv.together)
 
       by : (o : Option LockState) → at_lock p.table.table lock ≡ o
-          → Inv lock (record p { table = cond (is_none (at_lock p.table.table lock)) p.table (with_state p.table lock (after_grants now)); post = fold (claim_letter p lock) p.post given })
-      by (Some t) e = subst (λ (b : Bool). Inv lock (record p { table = cond b p.table (with_state p.table lock (after_grants now)); post = fold (claim_letter p lock) p.post given }))
+          → Inv lossy lock (record p { table = cond (is_none (at_lock p.table.table lock)) p.table (with_state p.table lock (after_grants now)); post = fold (claim_letter p lock) p.post given })
+      by (Some t) e = subst (λ (b : Bool). Inv lossy lock (record p { table = cond b p.table (with_state p.table lock (after_grants now)); post = fold (claim_letter p lock) p.post given }))
           (sym (ap is_none e)) (wrote lock p (after_grants now) (fold (claim_letter p lock) p.post given) inv good turned)
       by None e =
           let free : now ≡ free_lock = lock-free p.table.table lock e in
           let same : after_grants now ≡ now = ap after_grants free ∙ sym free in
-          subst (λ (b : Bool). Inv lock (record p { table = cond b p.table (with_state p.table lock (after_grants now)); post = fold (claim_letter p lock) p.post given }))
+          subst (λ (b : Bool). Inv lossy lock (record p { table = cond b p.table (with_state p.table lock (after_grants now)); post = fold (claim_letter p lock) p.post given }))
           (sym (ap is_none e)) (record {
             master = inv.master;
             sound = inv.sound;
             together = inv.together;
-            stages = λ j x. subst (λ (u : LockState). Stage (seen lock p u (fold (claim_letter p lock) p.post given) j)) same (turned j x);
+            stages = λ j x. subst (λ (u : LockState). Stage lossy (seen lock p u (fold (claim_letter p lock) p.post given) j)) same (turned j x);
           })
 
 -- ---- the calls
 
-pub master-keeps : (lock : LockName) (p q : Parts) → MasterCall lock p q → Inv lock p → Inv lock q
-master-keeps lock p _ (calls.Requested k mode rest x hand) inv = by (request_waits p.table k lock mode) (kept lock p (runs.Requests k mode) inv f.may)
+pub master-keeps : {lossy : Type 0} (lock : LockName) (p q : Parts) → MasterCall lock p q → Inv lossy lock p → Inv lossy lock q
+master-keeps {lossy} lock p _ (calls.Requested k mode rest x hand) inv = by (request_waits p.table k lock mode) (kept lock p (runs.Requests k mode) inv f.may)
   where
     f : Finds lock p k mode (Request lock mode) (runs.Requests k mode) rest hand (cond-true _ _ _ (same-self lock)) refl
     f = finds-request lock p k mode rest inv x hand
 
     by : (c : Option Cause) → IsSound (requested c (lock_in_table lock p) k mode) × Together (requested c (lock_in_table lock p) k mode).held
-        → Inv lock (record p { table = with_state p.table lock (requested c (lock_in_table lock p) k mode); post = reply p lock k mode (answer_by c (lock_in_table lock p)) (with_left p.post k p.master rest) })
+        → Inv lossy lock (record p { table = with_state p.table lock (requested c (lock_in_table lock p) k mode); post = reply p lock k mode (answer_by c (lock_in_table lock p)) (with_left p.post k p.master rest) })
     by None good = granted-now lock p k mode (Request lock mode) (runs.Requests k mode) rest inv x hand (cond-true _ _ _ (same-self lock)) refl f.heard good
     by (Some cause) good =
         let joined = append_assoc (lock_in_table lock p).conversions (lock_in_table lock p).requests (claim k mode ∷ []) in
@@ -403,33 +403,33 @@ master-keeps lock p _ (calls.Requested k mode rest x hand) inv = by (request_wai
         (subst (λ (cs : List Claim). mode_of_node cs k ≡ Some mode) joined (among-here ((lock_in_table lock p).conversions ++ (lock_in_table lock p).requests) [] (claim k mode) (subst OneEach (sym joined) good.0.waits_once)))
         (λ j ne. subst (λ (cs : List Claim). mode_of_node cs j ≡ mode_of_node ((lock_in_table lock p).conversions ++ (lock_in_table lock p).requests) j) joined
         (among-away ((lock_in_table lock p).conversions ++ (lock_in_table lock p).requests) [] (claim k mode) j ne ∙ ap (λ (cs : List Claim). mode_of_node cs j) (append-nil ((lock_in_table lock p).conversions ++ (lock_in_table lock p).requests))))
-master-keeps lock p _ (calls.Converted k mode rest x hand) inv = by (convert_waits p.table k lock mode) (kept lock p (runs.Converts k mode) inv f.may)
+master-keeps {lossy} lock p _ (calls.Converted k mode rest x hand) inv = by (convert_waits p.table k lock mode) (kept lock p (runs.Converts k mode) inv f.may)
   where
     f : Finds lock p k mode (Convert lock mode) (runs.Converts k mode) rest hand (cond-true _ _ _ (same-self lock)) refl
     f = finds-conversion lock p k mode rest inv x hand
 
     by : (c : Option Cause) → IsSound (converted c (lock_in_table lock p) k mode) × Together (converted c (lock_in_table lock p) k mode).held
-        → Inv lock (record p { table = with_state p.table lock (converted c (lock_in_table lock p) k mode); post = reply p lock k mode (answer_by c (lock_in_table lock p)) (with_left p.post k p.master rest) })
+        → Inv lossy lock (record p { table = with_state p.table lock (converted c (lock_in_table lock p) k mode); post = reply p lock k mode (answer_by c (lock_in_table lock p)) (with_left p.post k p.master rest) })
     by None good = granted-now lock p k mode (Convert lock mode) (runs.Converts k mode) rest inv x hand (cond-true _ _ _ (same-self lock)) refl f.heard good
     by (Some cause) good =
         let joined = append_assoc (lock_in_table lock p).conversions (claim k mode ∷ []) (lock_in_table lock p).requests in
         waits-now lock p k mode (Convert lock mode) (runs.Converts k mode) rest inv x hand (cond-true _ _ _ (same-self lock)) refl f.heard ((lock_in_table lock p).conversions ++ claim k mode ∷ []) (lock_in_table lock p).requests good
         (subst (λ (cs : List Claim). mode_of_node cs k ≡ Some mode) (sym joined) (among-here (lock_in_table lock p).conversions (lock_in_table lock p).requests (claim k mode) (subst OneEach joined good.0.waits_once)))
         (λ j ne. subst (λ (cs : List Claim). mode_of_node cs j ≡ mode_of_node ((lock_in_table lock p).conversions ++ (lock_in_table lock p).requests) j) (sym joined) (among-away (lock_in_table lock p).conversions (lock_in_table lock p).requests (claim k mode) j ne))
-master-keeps lock p _ (calls.Lowered k mode value rest x hand above) inv =
+master-keeps {lossy} lock p _ (calls.Lowered k mode value rest x hand above) inv =
     let l : LockState = lock_in_table lock p in
     let f = finds-lower lock p k mode value rest inv x hand in
     let u : LockState = lowered l k mode value in
     let post : Post = with_left p.post k p.master rest in
     wrote lock p u post inv (kept lock p (runs.Lowers k mode value) inv (above, f.idle)) (λ j y. elim (cases_eq j k) [
-      | inl e ↦ subst (λ (i : ℕ). Stage (seen lock p u post i)) (sym e)
+      | inl e ↦ subst (λ (i : ℕ). Stage lossy (seen lock p u post i)) (sym e)
           (sees _ (seen lock p u post k) refl refl (sym (now-here l.held k mode inv.sound.held_once)) refl refl
           (sym (grants-same lock p k (Down lock mode value) (runs.Lowers k mode value) rest hand (cond-true _ _ _ (same-self lock)) refl k)) f.stage)
       | inr ne ↦ sees (sight lock p j) (seen lock p u post j) refl refl (sym (now-away l.held k mode j ne)) refl
           (sym (calls-same lock p k (Down lock mode value) (runs.Lowers k mode value) rest hand (cond-true _ _ _ (same-self lock)) refl j ne))
           (sym (grants-same lock p k (Down lock mode value) (runs.Lowers k mode value) rest hand (cond-true _ _ _ (same-self lock)) refl j)) (inv.stages j y)
     ])
-master-keeps lock p _ (calls.LoweredAlready k mode value rest x hand already) inv =
+master-keeps {lossy} lock p _ (calls.LoweredAlready k mode value rest x hand already) inv =
     let f = finds-lower lock p k mode value rest inv x hand in
     let q : Parts = record p { post = with_left p.post k p.master rest } in
     record {
@@ -437,7 +437,7 @@ master-keeps lock p _ (calls.LoweredAlready k mode value rest x hand already) in
       sound = inv.sound;
       together = inv.together;
       stages = λ j y. elim (cases_eq j k) [
-        | inl e ↦ subst (λ (i : ℕ). Stage (sight lock q i)) (sym e)
+        | inl e ↦ subst (λ (i : ℕ). Stage lossy (sight lock q i)) (sym e)
             (sees _ (sight lock q k) refl refl (sym already) refl refl
             (sym (grants-same lock p k (Down lock mode value) (runs.Lowers k mode value) rest hand (cond-true _ _ _ (same-self lock)) refl k)) f.stage)
         | inr ne ↦ sees (sight lock p j) (sight lock q j) refl refl refl refl
@@ -445,21 +445,21 @@ master-keeps lock p _ (calls.LoweredAlready k mode value rest x hand already) in
             (sym (grants-same lock p k (Down lock mode value) (runs.Lowers k mode value) rest hand (cond-true _ _ _ (same-self lock)) refl j)) (inv.stages j y)
       ];
     }
-master-keeps lock p _ calls.GrantsNext inv = by (is_blocked p.table)
+master-keeps {lossy} lock p _ calls.GrantsNext inv = by (is_blocked p.table)
   where
-    by : (b : Bool) → Inv lock (record p {
+    by : (b : Bool) → Inv lossy lock (record p {
       table = cond b p.table (after_turns p.table lock);
       post = fold (grant_letter p lock) p.post (cond b [] (grants_of (lock_in_table lock p)));
     })
     by true = inv
-    by false = subst (λ (post : Post). Inv lock (record p { table = after_turns p.table lock; post = post }))
+    by false = subst (λ (post : Post). Inv lossy lock (record p { table = after_turns p.table lock; post = post }))
         (sym (granted-letters lock p (all_turns (lock_in_table lock p)).granted p.post)) (grants-next lock p inv)
-master-keeps lock p _ (calls.Blocks rebuild waiting) inv = record { master = inv.master; sound = inv.sound; together = inv.together; stages = inv.stages }
-master-keeps lock p _ (calls.TableElsewhere other t ne) inv =
+master-keeps {lossy} lock p _ (calls.Blocks rebuild waiting) inv = record { master = inv.master; sound = inv.sound; together = inv.together; stages = inv.stages }
+master-keeps {lossy} lock p _ (calls.TableElsewhere other t ne) inv =
     let same : lock_of (with_state p.table other t) lock ≡ lock_in_table lock p = ap (λ (o : Option LockState). unwrap_or o free_lock) (at_lock-with_other p.table.table other lock t ne) in
     record {
       master = inv.master;
       sound = subst IsSound (sym same) inv.sound;
       together = subst (λ (u : LockState). Together u.held) (sym same) inv.together;
-      stages = λ j x. subst (λ (u : LockState). Stage (seen lock p u p.post j)) (sym same) (inv.stages j x);
+      stages = λ j x. subst (λ (u : LockState). Stage lossy (seen lock p u p.post j)) (sym same) (inv.stages j x);
     }

@@ -1,5 +1,5 @@
 -- The calls on one lock while the members stay the same, each with the definition that its contract cites.
-use Rattle.std.specs.Prelude.{ℕ, ◌≡◌, ◌≢◌, ◌≤◌, true, Bool, List, [], ◌∷◌, Option, None, fold}
+use Rattle.std.specs.Prelude.{ℕ, ◌≡◌, ◌≢◌, ◌≤◌, ⊤, true, Bool, List, [], ◌∷◌, Option, None, fold}
 use Rattle.std.specs.List.{filter_map}
 use Rattle.glock_names.specs.declared.LockName.{LockName}
 use Rattle.glock_names.specs.LockMaps.{with_lock}
@@ -43,9 +43,13 @@ pub data NodeCall (lock : LockName) (p : Parts) : Parts → Type 0 where
   -- `Holder::granted`
   IsGranted : (k : ℕ) (mode : Mode) (value : ValueBlock) (rest : List Message) → k ≤ 8 → p.post.took p.master k ≡ now_says p (Grant lock mode value) ∷ rest
       → NodeCall lock p (record p { holders = at p.holders k (granted_to (p.holders k) lock mode value); post = with_left p.post p.master k rest })
-  -- a message is dropped that makes no call at the lock's master: one of another view or lock, a callback, or a grant
+  -- a grant is dropped
+  DropsGrant : (k : ℕ) (mode : Mode) (value : ValueBlock) (rest : List Message) → k ≤ 8 → p.post.took p.master k ≡ now_says p (Grant lock mode value) ∷ rest
+      → NodeCall lock p (record p { post = with_left p.post p.master k rest })
+  -- a message is dropped that makes no call at the lock's master and is no grant of it: one of another view or lock, or a callback
   Drops : (from to : ℕ) (m : Message) (rest : List Message) → from ≤ 8 → to ≤ 8 → p.post.took from to ≡ m ∷ rest
       → (to ≡ p.master → in_view p.table.generation (call_of lock from) m ≡ None)
+      → (from ≡ p.master → in_view p.table.generation (grants lock) m ≡ None)
       → NodeCall lock p (record p { post = with_left p.post from to rest })
   -- letters are written that say nothing of this lock, to its master or from it: of other locks, callbacks, and all that goes between
   -- other nodes
@@ -110,3 +114,16 @@ pub data Call (lock : LockName) (p : Parts) : Parts → Type 0 where
 pub data Calls (lock : LockName) (p : Parts) : Parts → Type 0 where
   NoCall : Calls lock p p
   AndCall : (q r : Parts) → Calls lock p q → Call lock q r → Calls lock p r
+
+-- no grant is dropped: by this call of a node, by this call, by these calls
+abbrev pub NodeDropsNone : (lock : LockName) (p q : Parts) → NodeCall lock p q → Type 0
+NodeDropsNone lock p _ (DropsGrant k mode value rest small hand) = ⊥
+NodeDropsNone lock p _ call = ⊤
+
+abbrev pub CallDropsNone : (lock : LockName) (p q : Parts) → Call lock p q → Type 0
+CallDropsNone lock p _ (OfNode q call) = NodeDropsNone lock p q call
+CallDropsNone lock p _ call = ⊤
+
+abbrev pub DropNone : (lock : LockName) (p q : Parts) → Calls lock p q → Type 0
+DropNone lock p _ NoCall = ⊤
+DropNone lock p _ (AndCall q r before call) = DropNone lock p q before × CallDropsNone lock q r call

@@ -14,7 +14,7 @@ use Rattle.dlm_master.specs.Locks.{free_lock}
 use Rattle.dlm_master.specs.Tables.{held_by, waits_for, holds_above, holds_covered}
 use Rattle.dlm_rebuild.specs.Runs as rebuilds
 use Rattle.conversion_laws.specs.Parts.{Parts, now_says, calls_coming, grants_coming, lock_in_table, table_mode, asks_of, held_or_coming}
-use Rattle.conversion_laws.specs.Calls.{Call, Calls}
+use Rattle.conversion_laws.specs.Calls.{Call, Calls, DropNone}
 
 -- the start: the table has of each node just what it holds, in modes that go together; nobody asks, and nothing of the lock is under
 -- way. So it is where nobody holds the lock, and where a view begins (`ViewsFollow`)
@@ -47,6 +47,13 @@ pub record AreRight (lock : LockName) (p : Parts) : Type 0 where
 
 abbrev pub EveryListIsRight : Type 0
 EveryListIsRight = (lock : LockName) (p q : Parts) → Begins lock p → Calls lock p q → AreRight lock q
+
+-- ---- no ask is lost
+
+-- where no grant is dropped the ask that a holder has is in progress: it comes to the master, waits there, or is granted and on its way
+abbrev pub NoAskIsLost : Type 0
+NoAskIsLost = (lock : LockName) (p q : Parts) (calls : Calls lock p q) → Begins lock p → DropNone lock p q calls
+    → (k : ℕ) → k ≤ 8 → (mode : Mode) → wanted_in (q.holders k) lock ≡ Some mode → asks_of lock q k ≡ mode ∷ []
 
 -- ---- a view follows another
 
