@@ -4,6 +4,7 @@ pub mod RunLaws
 pub mod CauseLaws
 pub mod CallbackLaws
 pub mod RunTables
+pub mod ValueLaws
 pub mod TurnLaws
 pub mod SoundLaws
 pub mod BlockLaws

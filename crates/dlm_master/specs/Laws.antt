@@ -3,16 +3,18 @@ use Rattle.std.specs.Prelude.{ℕ, ◌≡◌, ◌≢◌, ◌<◌, ◌==◌, ◌�
 use Rattle.std.specs.List.{AllByRecursion}
 use Rattle.glock_names.specs.declared.LockName.{LockName}
 use Rattle.dlm_modes.specs.declared.Mode.{Mode}
+use Rattle.dlm_modes.specs.declared.ValueBlock.{ValueBlock}
 use Rattle.dlm_modes.specs.Modes.{go_together, is_at_least}
 use Rattle.fencing.specs.NodeSets.{has}
 use Rattle.dlm_master.specs.declared.claims.Claim.{Claim}
 use Rattle.dlm_master.specs.declared.claims.Cause.{Cause}
 use Rattle.dlm_master.specs.declared.claims.Cause.TheVariants.{Held, Behind, Rebuild, Slot}
+use Rattle.dlm_master.specs.declared.claims.Answer.TheVariants.{Granted}
 use Rattle.dlm_master.specs.Claims.{is_of, mode_of_node, mode_at, Absent, OneEach, NeverNull, Together}
 use Rattle.dlm_master.specs.LockState.{LockState}
-use Rattle.dlm_master.specs.Locks.{free_lock, claim, request_cause, convert_cause, all_turns, after_grants, callbacks_of}
+use Rattle.dlm_master.specs.Locks.{free_lock, claim, request_cause, convert_cause, answer_by, all_turns, after_grants, grants_of, callbacks_of}
 use Rattle.dlm_master.specs.Tables.{MasterState, with_state, holds_covered, after_request, after_convert, after_down, after_next}
-use Rattle.dlm_master.specs.Runs.{Call, Requests, Converts, Lowers, Grants, Run, run_of, after, MayCall, after_all, MayCallAll}
+use Rattle.dlm_master.specs.Runs.{Call, Requests, Converts, Lowers, Grants, Run, run_of, after, MayCall, after_all, MayCallAll, last_value}
 
 -- ---- a wait names a cause that is so
 
@@ -141,6 +143,17 @@ pub record CallbacksAreDue : Type 0 where
   pub holders : (l : LockState) (c : Claim) → OneEach l.held → Contains l.held c → IsCalledRightly l c
   pub once : (l : LockState) → OneEach l.held → OneEach (map (λ b. claim b.0 b.1) (callbacks_of l))
   pub only : (l : LockState) (node : ℕ) → Absent node l.held → Absent node (map (λ b. claim b.0 b.1) (callbacks_of l))
+
+-- ---- the value that was written last stands
+
+-- after every list of calls the lock has it, and whoever is granted the lock then is told it
+pub record LastValueStands (r : Run) (calls : List Call) : Type 0 where
+  pub value : (after_all r calls).lock.value ≡ last_value r calls r.lock.value
+  pub answers : (cause : Option Cause) (value : ValueBlock) → answer_by cause (after_all r calls).lock ≡ Granted value → value ≡ last_value r calls r.lock.value
+  pub grants : AllByRecursion (λ (grant : ℕ × Mode × ValueBlock). grant.2 ≡ last_value r calls r.lock.value) (grants_of (after_all r calls).lock)
+
+abbrev pub EveryLastValueStands : Type 0
+EveryLastValueStands = (r : Run) (calls : List Call) → LastValueStands r calls
 
 -- ---- what the calls do to a table they do to its locks
 

@@ -1,8 +1,11 @@
 -- Lists of calls on one lock of a master.
-use Rattle.std.specs.Prelude.{ℕ, ◌≡◌, ⊤, Bool, true, false, List, [], ◌∷◌, Option, None, if◌then◌else◌}
+use Rattle.std.specs.Prelude.{ℕ, ◌≡◌, ⊤, Bool, true, false, List, [], ◌∷◌, Option, None, Some, option_map, unwrap_or, if◌then◌else◌}
 use Rattle.glock_names.specs.declared.LockName.{LockName}
 use Rattle.dlm_modes.specs.declared.Mode.{Mode}
-use Rattle.dlm_master.specs.Claims.{mode_of_node}
+use Rattle.dlm_modes.specs.declared.Mode.TheVariants.{Pw}
+use Rattle.dlm_modes.specs.declared.ValueBlock.{ValueBlock}
+use Rattle.dlm_modes.specs.Modes.{is_at_least}
+use Rattle.dlm_master.specs.Claims.{mode_of_node, mode_at}
 use Rattle.dlm_master.specs.LockState.{LockState}
 use Rattle.dlm_master.specs.Locks.{free_lock, is_waiting, request_cause, requested, convert_cause, converted, lowered, holds_back, after_grants}
 use Rattle.dlm_master.specs.Tables.{MasterState, lock_of, holds_above, holds_covered}
@@ -53,3 +56,17 @@ after_all r (call ∷ calls) = after_all (after r call) calls
 abbrev pub MayCallAll : Run → List Call → Type 0
 MayCallAll r [] = ⊤
 MayCallAll r (call ∷ calls) = MayCall r call × MayCallAll (after r call) calls
+
+-- a value that somebody has written
+abbrev pub valid_value : List ℕ → ValueBlock
+valid_value bytes = record { bytes = bytes; valid = true }
+
+-- what a call writes as the lock's value: what a node gives that lowers the lock from Pw or above
+abbrev pub written_by : Run → Call → Option (List ℕ)
+written_by r (Lowers node mode (Some bytes)) = if is_at_least (mode_at r.lock.held node) Pw then Some bytes else None
+written_by r call = None
+
+-- the value that the calls wrote last, or the one before them
+abbrev pub last_value : Run → List Call → ValueBlock → ValueBlock
+last_value r [] before = before
+last_value r (call ∷ calls) before = last_value (after r call) calls (unwrap_or (option_map valid_value (written_by r call)) before)

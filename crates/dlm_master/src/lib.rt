@@ -1,7 +1,7 @@
 //! A master's table of locks: who holds each, who waits for it, and what the lock carries.
 #![tactic(auto)]
 
-ghost use Rattle.dlm_master.specs.Laws.{CauseIsSo, SoundLocksStaySound, OnlyLowersTake, NoWaiterIsLost, NoneWhileBlocked, GrantsKeepTogether, CallbacksAreDue, TablesAreRuns};
+ghost use Rattle.dlm_master.specs.Laws.{CauseIsSo, SoundLocksStaySound, OnlyLowersTake, NoWaiterIsLost, NoneWhileBlocked, GrantsKeepTogether, CallbacksAreDue, EveryLastValueStands, TablesAreRuns};
 
 mod beside;
 mod claims;
@@ -51,6 +51,12 @@ pub fn grants_keep_together()
 /// strongest mode of those that it has which goes with all of them; nobody else is called back.
 pub fn callbacks_are_due()
     ensures { CallbacksAreDue }
+{}
+
+/// A law: after every list of calls a lock has the value that was written last, by a node that lowered it from `Pw` or `Ex`, and
+/// whoever is granted it is told this value.
+pub fn the_last_value_stands()
+    ensures { EveryLastValueStands }
 {}
 
 /// A law: what requests, conversions, lowers and grants do to a master's table they do to the lock in it as the other laws say, and
