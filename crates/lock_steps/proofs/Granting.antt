@@ -10,7 +10,7 @@ use Rattle.mail_queues.specs.declared.Message.{Message}
 use Rattle.mail_queues.specs.declared.Body.{Body}
 use Rattle.mail_queues.specs.declared.Body.TheVariants.{Request, Down}
 use Rattle.dlm_master.specs.declared.claims.Cause.{Cause}
-use Rattle.dlm_master.specs.Locks.{all_turns}
+use Rattle.dlm_master.specs.Locks.{answer_by, grants_of}
 use Rattle.dlm_master.specs.Tables.{is_blocked, request_waits}
 use Rattle.lock_laws.specs.Lock.{Node}
 use Rattle.lock_steps.specs.Parts.{Parts, Post, way, now_says, with_left}
@@ -76,7 +76,7 @@ table-waits : (lock : LockName) (p q : Parts) (l : ℕ → Node) (k : ℕ) → T
 table-waits lock p _ l k tied (calls.Requested j mode rest x hand new idle knows) none some = by (request_waits p.table.master j lock mode) refl some
   where
     by : (c : Option Cause) → request_waits p.table.master j lock mode ≡ c
-        → filter_map (in_view p.membership.generation (grants lock)) (way (reply p j lock mode c (with_left p.post j p.master rest)) p.master k) ≢ [] → MayGrant p
+        → filter_map (in_view p.membership.generation (grants lock)) (way (reply p lock j mode (answer_by c (present p lock)) (with_left p.post j p.master rest)) p.master k) ≢ [] → MayGrant p
     by None e some =
         let free = no-cause p.table.master.rebuild p.table.master.waiting (present p lock).held (present p lock).conversions (present p lock).requests j mode e in
         may-grant lock p l tied knows free.0 (least-none p.table.master.waiting free.1)
@@ -93,7 +93,7 @@ table-waits lock p _ l k tied (calls.Ended j rest x hand) none some =
 table-waits lock p _ l k tied (calls.GrantsNext knows) none some = by (is_blocked p.table.master) refl some
   where
     by : (b : Bool) → is_blocked p.table.master ≡ b
-        → filter_map (in_view p.membership.generation (grants lock)) (way (cond b p.post (fold (grant_letter p lock) p.post (all_turns (present p lock)).granted)) p.master k) ≢ [] → MayGrant p
+        → filter_map (in_view p.membership.generation (grants lock)) (way (fold (grant_letter p lock) p.post (cond b [] (grants_of (present p lock)))) p.master k) ≢ [] → MayGrant p
     by true e some = absurd (some none)
     by false e some =
         let parts = or_parts p.table.master.rebuild (not (p.table.master.waiting == 0)) e in

@@ -298,11 +298,15 @@ wanted-state (Some s) mode e = let f : Some mode ≡ Some (mode_for s) = e in (s
 no-state : (o : Option State) → o ≡ None → option_to_list (option_map mode_for o) ≡ []
 no-state o e = ap (λ (x : Option State). option_to_list (option_map mode_for x)) e
 
+-- the letter to a waiter
+abbrev pub claim_letter : Parts → LockName → Post → Claim → Post
+claim_letter p lock post w = grant_letter p lock post (w.node, w.mode, (present p lock).value)
+
 -- a waiter whom no holder is in the way of is granted what it waits for
 pub is-granted : (lock : LockName) (p : Parts) (t : LockState) (post : Post) (l : ℕ → Node) (before after : List Claim) (w : Claim)
     → p.master ≤ 8 → TiedOf lock p t post l → Sound l → t.requests ≡ before ++ w ∷ after → in_way t.held w.node w.mode ≡ None
     → ((i : ℕ) → (l i).roll ≡ true → (l i).heard ≡ true) → ((i : ℕ) → (l i).waits ≡ false)
-    → Reaches lock p (record t { held = now_holding t.held w.node w.mode; requests = before ++ after }) (grant_letter p lock post w) l
+    → Reaches lock p (record t { held = now_holding t.held w.node w.mode; requests = before ++ after }) (claim_letter p lock post w) l
 is-granted lock p t post l before after w m8 tied sound is free ready runs =
     let k : ℕ = w.node in
     let one : OneEach (before ++ w ∷ after) = subst OneEach is (tied.table).asked_once in
@@ -328,7 +332,7 @@ is-granted lock p t post l before after w m8 tied sound is free ready runs =
     record {
       state = at l k n;
       step = Grants k s ready runs want.1 (λ i ne. goes-with i ne s want.2);
-      tied = one-of lock p t (record t { held = now_holding t.held w.node w.mode; requests = before ++ after }) post (grant_letter p lock post w) l k n tied x
+      tied = one-of lock p t (record t { held = now_holding t.held w.node w.mode; requests = before ++ after }) post (claim_letter p lock post w) l k n tied x
           (record {
             member = f.member;
             fresh = f.fresh;

@@ -1,6 +1,6 @@
 -- The calls of a master or of a rebuild.
 use Rattle.std.proofs.Common.{ℕ, ◌≡◌, ◌≤◌, inl, inr, Bool, true, false, Option, None, Some, List, [], ◌∷◌, ◌++◌, cond, refl, sym, ap, ◌∙◌, subst, append_assoc}
-use Rattle.std.specs.Prelude.{◌==◌, not, fold, is_none, is_some, unwrap_or}
+use Rattle.std.specs.Prelude.{◌==◌, not, fold, map, is_none, is_some, unwrap_or}
 use Rattle.std.specs.List.{filter_map}
 use Rattle.std.proofs.lemmas.Bool.{cases_eq, cases_Bool, or_parts}
 use Rattle.std.proofs.lemmas.Bool.Decides.{eqb_tells}
@@ -8,7 +8,7 @@ use Rattle.std.proofs.lemmas.List.{append-nil}
 use Rattle.std.proofs.lemmas.List.Sums.{fold-append}
 use Rattle.glock_names.specs.declared.LockName.{LockName}
 use Rattle.glock_names.specs.LockMaps.{at_lock}
-use Rattle.glock_names.proofs.LockMapLaws.{at_lock-with_same, at_lock-with_other}
+use Rattle.glock_names.proofs.LockMapLaws.{at_lock-with_other}
 use Rattle.dlm_modes.specs.declared.Mode.{Mode}
 use Rattle.dlm_modes.specs.declared.ValueBlock.{ValueBlock}
 use Rattle.fencing.specs.NodeSets.{has, with_node}
@@ -19,8 +19,9 @@ use Rattle.dlm_master.specs.declared.claims.Claim.{Claim}
 use Rattle.dlm_master.specs.declared.claims.Cause.{Cause}
 use Rattle.dlm_master.specs.Claims.{mode_of_node, now_holding, in_way}
 use Rattle.dlm_master.specs.LockState.{LockState, TurnState}
-use Rattle.dlm_master.specs.Locks.{free_lock, claim, requested, value_after, is_free, turn, all_turns, after_grants}
+use Rattle.dlm_master.specs.Locks.{free_lock, claim, requested, value_after, is_free, turn, all_turns, after_grants, grants_of, answer_by}
 use Rattle.dlm_master.specs.Tables.{MasterState, lock_of, with_state, is_blocked, request_waits, after_turns}
+use Rattle.dlm_master.proofs.RunTables.{written, turned-lock}
 use Rattle.dlm_rebuild.specs.Rebuilding.{with_end}
 use Rattle.lock_laws.specs.Lock.{State, Node, at, Sound, Step, Moves}
 use Rattle.lock_laws.specs.Lock as machine
@@ -36,11 +37,7 @@ use Rattle.lock_steps.proofs.Basics.{true-false, up-to}
 use Rattle.lock_steps.proofs.Tying.{one-node, no-other}
 use Rattle.lock_steps.proofs.Claims.{no-cause, none-is, first-true}
 use Rattle.lock_steps.proofs.Sets.{least-none, zero-has, all-ended}
-use Rattle.lock_steps.proofs.Tabling.{TiedOf, tied-of, tied-with, first, down-left, up-left, mail-left, is-end, Reaches, hears-ask, hears-down, hears-no-change, hears-report, is-granted}
-
--- the lock that was written in a master's map
-pub written : (m : MasterState) (lock : LockName) (t : LockState) → lock_of (with_state m lock t) lock ≡ t
-written m lock t = ap (λ (o : Option LockState). unwrap_or o free_lock) (at_lock-with_same m.table lock t)
+use Rattle.lock_steps.proofs.Tabling.{TiedOf, tied-of, tied-with, first, down-left, up-left, mail-left, is-end, Reaches, hears-ask, hears-down, hears-no-change, hears-report, claim_letter, is-granted}
 
 -- a call that writes the lock and takes one step
 wrote : (lock : LockName) (p : Parts) (l : ℕ → Node) (t : LockState) (post : Post) → Tied lock p l → Reaches lock p t post l
@@ -79,44 +76,40 @@ turning value t ws = record { held = t.held; conversions = []; requests = t.stay
 record Turned (lock : LockName) (p : Parts) (value : ValueBlock) (t : TurnState) (l : ℕ → Node) : Type 0 where
   state : ℕ → Node
   steps : Steps l state
-  tied : TiedOf lock p (turning value t []) (fold (grant_letter p lock) p.post t.granted) state
+  tied : TiedOf lock p (turning value t []) (fold (claim_letter p lock) p.post t.granted) state
 
 module _ (lock : LockName) (p : Parts) (l0 : ℕ → Node) (base : Tied lock p l0) (knows : KnowsSlots p) (done : p.table.master.rebuild ≡ false)
     (none : (i : ℕ) → i ≤ 8 → has p.table.master.waiting i ≡ false) (value : ValueBlock) where
-  turns : (ws : List Claim) (t : TurnState) (l : ℕ → Node) → Sound l → TiedOf lock p (turning value t ws) (fold (grant_letter p lock) p.post t.granted) l
+  turns : (ws : List Claim) (t : TurnState) (l : ℕ → Node) → Sound l → TiedOf lock p (turning value t ws) (fold (claim_letter p lock) p.post t.granted) l
       → Turned lock p value (fold (turn []) t ws) l
   turns [] t l sound tied = record { state = l; steps = Stays; tied = tied }
   turns (w ∷ ws) t l sound tied = by (is_free [] t w) refl (turns ws)
     where
       by : (b : Bool) → is_free [] t w ≡ b
-          → ((t : TurnState) (l : ℕ → Node) → Sound l → TiedOf lock p (turning value t ws) (fold (grant_letter p lock) p.post t.granted) l → Turned lock p value (fold (turn []) t ws) l)
+          → ((t : TurnState) (l : ℕ → Node) → Sound l → TiedOf lock p (turning value t ws) (fold (claim_letter p lock) p.post t.granted) l → Turned lock p value (fold (turn []) t ws) l)
           → Turned lock p value (fold (turn []) (cond b (let s : TurnState = record { held = now_holding t.held w.node w.mode; staying = t.staying; granted = t.granted ++ w ∷ [] } in s)
           (let s : TurnState = record { held = t.held; staying = t.staying ++ w ∷ []; granted = t.granted } in s)) ws) l
       by true free rest =
-          let r = is-granted lock p (turning value t (w ∷ ws)) (fold (grant_letter p lock) p.post t.granted) l t.staying ws w base.master tied sound refl
+          let r = is-granted lock p (turning value t (w ∷ ws)) (fold (claim_letter p lock) p.post t.granted) l t.staying ws w base.master tied sound refl
           (none-is (in_way t.held w.node w.mode) (first-true _ _ (first-true _ _ free)))
-          (all-heard lock p l0 base done (turning value t (w ∷ ws)) (fold (grant_letter p lock) p.post t.granted) l tied)
-          (none-waits lock p l0 base done (turning value t (w ∷ ws)) (fold (grant_letter p lock) p.post t.granted) l tied knows none) in
+          (all-heard lock p l0 base done (turning value t (w ∷ ws)) (fold (claim_letter p lock) p.post t.granted) l tied)
+          (none-waits lock p l0 base done (turning value t (w ∷ ws)) (fold (claim_letter p lock) p.post t.granted) l tied knows none) in
           let next : TurnState = record { held = now_holding t.held w.node w.mode; staying = t.staying; granted = t.granted ++ w ∷ [] } in
           let more = rest next r.state (step_keeps l r.state r.step sound).0
-          (subst (λ (q : Post). TiedOf lock p (turning value next ws) q r.state) (sym (fold-append (grant_letter p lock) p.post t.granted (w ∷ []))) r.tied) in
+          (subst (λ (q : Post). TiedOf lock p (turning value next ws) q r.state) (sym (fold-append (claim_letter p lock) p.post t.granted (w ∷ []))) r.tied) in
           record { state = more.state; steps = steps-join l r.state more.state (one-step l r.state r.step) more.steps; tied = more.tied }
       by false held rest =
           let next : TurnState = record { held = t.held; staying = t.staying ++ w ∷ []; granted = t.granted } in
-          rest next l sound (subst (λ (cs : List Claim). TiedOf lock p (record (turning value t []) { requests = cs }) (fold (grant_letter p lock) p.post t.granted) l)
+          rest next l sound (subst (λ (cs : List Claim). TiedOf lock p (record (turning value t []) { requests = cs }) (fold (claim_letter p lock) p.post t.granted) l)
           (sym (append_assoc t.staying (w ∷ []) ws)) tied)
 
--- ---- where the waiters have taken their turns
+-- the letters to all who are granted the lock
+granted-letters : (lock : LockName) (p : Parts) (ws : List Claim) (post : Post)
+    → fold (grant_letter p lock) post (map (λ c. (c.node, c.mode, (present p lock).value)) ws) ≡ fold (claim_letter p lock) post ws
+granted-letters lock p [] post = refl
+granted-letters lock p (w ∷ ws) post = granted-letters lock p ws (claim_letter p lock post w)
 
-turned-lock : (m : MasterState) (lock : LockName) → lock_of (after_turns m lock) lock ≡ after_grants (lock_of m lock)
-turned-lock m lock = by (at_lock m.table lock) refl
-  where
-    by : (o : Option LockState) → at_lock m.table lock ≡ o
-        → lock_of (cond (is_none (at_lock m.table lock)) m (with_state m lock (after_grants (lock_of m lock)))) lock ≡ after_grants (lock_of m lock)
-    by None e = ap (λ (b : Bool). lock_of (cond b m (with_state m lock (after_grants (lock_of m lock)))) lock) (ap is_none e)
-        ∙ (ap (λ (o : Option LockState). unwrap_or o free_lock) e ∙ sym (ap (λ (o : Option LockState). after_grants (unwrap_or o free_lock)) e))
-    by (Some t) e = ap (λ (b : Bool). lock_of (cond b m (with_state m lock (after_grants (lock_of m lock)))) lock) (ap is_none e)
-        ∙ written m lock (after_grants (lock_of m lock))
+-- ---- where the waiters have taken their turns
 
 turned-rebuild : (m : MasterState) (lock : LockName) → (after_turns m lock).rebuild ≡ m.rebuild
 turned-rebuild m lock = by (is_none (at_lock m.table lock))
@@ -131,7 +124,7 @@ not-zero n e = elim (eqb_tells n 0) [ inl z ↦ z.1 | inr ne ↦ true-false refl
 grants-next : (lock : LockName) (p : Parts) (l : ℕ → Node) → Sound l → Tied lock p l → KnowsSlots p → is_blocked p.table.master ≡ false
     → Follows lock l (record p {
       table = record p.table { master = after_turns p.table.master lock };
-      post = fold (grant_letter p lock) p.post (all_turns (present p lock)).granted;
+      post = fold (claim_letter p lock) p.post (all_turns (present p lock)).granted;
     })
 grants-next lock p l sound tied knows free =
     let m : MasterState = p.table.master in
@@ -142,16 +135,16 @@ grants-next lock p l sound tied knows free =
     let parts = or_parts m.rebuild (not (m.waiting == 0)) free in
     let r = turns lock p l tied knows parts.0 (λ i x. ap (λ (n : ℕ). has n i) (not-zero m.waiting parts.1) ∙ zero-has i) t.value t.requests start l sound
     (subst (λ (v : LockState). TiedOf lock p v p.post l) same (tied-of lock p l tied)) in
-    let plain : TiedOf lock p (after_grants u) (fold (grant_letter p lock) p.post (all_turns u).granted) r.state =
-    subst (λ (cs : List Claim). TiedOf lock p (record (after_grants u) { requests = cs }) (fold (grant_letter p lock) p.post (all_turns u).granted) r.state)
+    let plain : TiedOf lock p (after_grants u) (fold (claim_letter p lock) p.post (all_turns u).granted) r.state =
+    subst (λ (cs : List Claim). TiedOf lock p (record (after_grants u) { requests = cs }) (fold (claim_letter p lock) p.post (all_turns u).granted) r.state)
     (append-nil (all_turns u).staying) r.tied in
-    let real : TiedOf lock p (after_grants t) (fold (grant_letter p lock) p.post (all_turns t).granted) r.state =
-    subst (λ (v : LockState). TiedOf lock p (after_grants v) (fold (grant_letter p lock) p.post (all_turns v).granted) r.state) (sym same) plain in
+    let real : TiedOf lock p (after_grants t) (fold (claim_letter p lock) p.post (all_turns t).granted) r.state =
+    subst (λ (v : LockState). TiedOf lock p (after_grants v) (fold (claim_letter p lock) p.post (all_turns v).granted) r.state) (sym same) plain in
     record {
       state = r.state;
       steps = r.steps;
-      tied = tied-with lock p (record p.table { master = after_turns m lock }) (fold (grant_letter p lock) p.post (all_turns t).granted) l r.state tied
-          (subst (λ (v : LockState). TiedOf lock p v (fold (grant_letter p lock) p.post (all_turns t).granted) r.state) (sym (turned-lock m lock)) real)
+      tied = tied-with lock p (record p.table { master = after_turns m lock }) (fold (claim_letter p lock) p.post (all_turns t).granted) l r.state tied
+          (subst (λ (v : LockState). TiedOf lock p v (fold (claim_letter p lock) p.post (all_turns t).granted) r.state) (sym (turned-lock m lock)) real)
           refl refl (turned-rebuild m lock);
     }
 
@@ -177,7 +170,7 @@ table-steps lock p _ l (Requested k mode rest x hand new idle knows) sound tied 
     by : (c : Option Cause) → request_waits p.table.master k lock mode ≡ c
         → Follows lock l (record p {
           table = record p.table { master = with_state p.table.master lock (requested c (present p lock) k mode) };
-          post = reply p k lock mode c (with_left p.post k p.master rest);
+          post = reply p lock k mode (answer_by c (present p lock)) (with_left p.post k p.master rest);
         })
     by (Some cause) e = wrote lock p l (requested (Some cause) (present p lock) k mode) (with_left p.post k p.master rest) tied
         (hears-ask lock p (present p lock) p.post l k mode rest (tied-of lock p l tied) sound x hand none)
@@ -192,10 +185,10 @@ table-steps lock p _ l (Requested k mode rest x hand new idle knows) sound tied 
         record {
           state = g.state;
           steps = AndThen a.state g.state (one-step l a.state a.step) g.step;
-          tied = tied-with lock p (record p.table { master = with_state p.table.master lock u }) (grant_letter p lock (with_left p.post k p.master rest) (claim k mode)) l g.state tied
-              (subst (λ (v : LockState). TiedOf lock p v (grant_letter p lock (with_left p.post k p.master rest) (claim k mode)) g.state) (sym (written p.table.master lock u))
+          tied = tied-with lock p (record p.table { master = with_state p.table.master lock u }) (claim_letter p lock (with_left p.post k p.master rest) (claim k mode)) l g.state tied
+              (subst (λ (v : LockState). TiedOf lock p v (claim_letter p lock (with_left p.post k p.master rest) (claim k mode)) g.state) (sym (written p.table.master lock u))
               (subst (λ (cs : List Claim). TiedOf lock p (record (present p lock) { held = now_holding (present p lock).held k mode; requests = cs })
-              (grant_letter p lock (with_left p.post k p.master rest) (claim k mode)) g.state) (append-nil (present p lock).requests) g.tied))
+              (claim_letter p lock (with_left p.post k p.master rest) (claim k mode)) g.state) (append-nil (present p lock).requests) g.tied))
               refl refl refl;
         }
 table-steps lock p _ l (Lowered k mode said kept rest x hand above idle) sound tied =
@@ -255,10 +248,11 @@ table-steps lock p _ l (GrantsNext knows) sound tied = by (is_blocked p.table.ma
     by : (b : Bool) → is_blocked p.table.master ≡ b
         → Follows lock l (record p {
           table = record p.table { master = cond b p.table.master (after_turns p.table.master lock) };
-          post = cond b p.post (fold (grant_letter p lock) p.post (all_turns (present p lock)).granted);
+          post = fold (grant_letter p lock) p.post (cond b [] (grants_of (present p lock)));
         })
     by true e = record { state = l; steps = Stays; tied = tied }
-    by false e = grants-next lock p l sound tied knows e
+    by false e = subst (λ (post : Post). Follows lock l (record p { table = record p.table { master = after_turns p.table.master lock }; post = post }))
+        (sym (granted-letters lock p (all_turns (present p lock)).granted p.post)) (grants-next lock p l sound tied knows e)
 table-steps lock p _ l (Completes ended) sound tied = record {
   state = l;
   steps = Stays;

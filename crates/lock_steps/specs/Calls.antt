@@ -1,5 +1,5 @@
 -- The calls of the lock manager's parts on one lock, each with what its contract says.
-use Rattle.std.specs.Prelude.{ℕ, ◌≡◌, ◌≢◌, ◌≤◌, true, false, List, [], ◌∷◌, ◌++◌, Option, None, Some, fold, if◌then◌else◌}
+use Rattle.std.specs.Prelude.{ℕ, ◌≡◌, ◌≢◌, ◌≤◌, true, false, List, [], ◌∷◌, ◌++◌, Option, None, Some, fold}
 use Rattle.std.specs.List.{AllByRecursion, filter_map}
 use Rattle.glock_names.specs.declared.LockName.{LockName}
 use Rattle.glock_names.specs.LockMaps.{with_lock}
@@ -16,11 +16,11 @@ use Rattle.mail_queues.specs.State.{QueueState}
 use Rattle.mail_queues.specs.Queues.{messages_of, IsQueueNow}
 use Rattle.dlm_holder.specs.declared.Holding.{Holding}
 use Rattle.dlm_holder.specs.Holdings.{Holdings, mode_in, wanted_in, asked_for, granted_to, lowered_to, ask_dropped}
-use Rattle.dlm_master.specs.declared.claims.Claim.{Claim}
-use Rattle.dlm_master.specs.declared.claims.Cause.{Cause}
+use Rattle.dlm_master.specs.declared.claims.Answer.{Answer}
+use Rattle.dlm_master.specs.declared.claims.Answer.TheVariants.{Granted, Waiting}
 use Rattle.dlm_master.specs.LockState.{LockState}
-use Rattle.dlm_master.specs.Locks.{all_turns}
-use Rattle.dlm_master.specs.Tables.{held_by, waits_for, holds_above, is_blocked, request_waits, with_state, after_down, after_next}
+use Rattle.dlm_master.specs.Locks.{answer_by}
+use Rattle.dlm_master.specs.Tables.{held_by, waits_for, holds_above, request_waits, with_state, after_down, next_of, after_next}
 use Rattle.dlm_rebuild.specs.Rebuilding.{begun, with_report, with_end, after_request_in, is_done, master_after, master_for}
 use Rattle.lock_laws.specs.Lock.{State, at}
 use Rattle.lock_steps.specs.Parts.{Parts, Post, now_says, at_pair, with_letters, with_left}
@@ -101,14 +101,14 @@ pub data HolderCall (lock : LockName) (p : Parts) : Parts → Type 0 where
 
 -- ---- the lock's table, of a master or of a rebuild
 
--- the letter to a node that is granted the lock at once
-abbrev pub reply : Parts → ℕ → LockName → Mode → Option Cause → Post → Post
-reply p k lock mode None post = with_letters post p.master k (now_says p (Grant lock mode (present p lock).value) ∷ [])
-reply p k lock mode (Some cause) post = post
+-- the letter to a node that is granted the lock in this mode, with this value
+abbrev pub grant_letter : Parts → LockName → Post → ℕ × Mode × ValueBlock → Post
+grant_letter p lock post grant = with_letters post p.master grant.0 (now_says p (Grant lock grant.1 grant.2) ∷ [])
 
--- and those to all who are granted it when the waiters take their turns
-abbrev pub grant_letter : Parts → LockName → Post → Claim → Post
-grant_letter p lock post c = with_letters post p.master c.node (now_says p (Grant lock c.mode (present p lock).value) ∷ [])
+-- it goes to a node whose answer is a grant
+abbrev pub reply : Parts → LockName → ℕ → Mode → Answer → Post → Post
+reply p lock k mode (Granted value) post = grant_letter p lock post (k, mode, value)
+reply p lock k mode (Waiting cause) post = post
 
 pub data TableCall (lock : LockName) (p : Parts) : Parts → Type 0 where
   -- `Rebuild::request`; and `Master::request`, of a master that knows which slots wait
@@ -116,7 +116,7 @@ pub data TableCall (lock : LockName) (p : Parts) : Parts → Type 0 where
       → held_by p.table.master k lock ≡ None → waits_for p.table.master k lock ≡ false → KnowsSlots p
       → TableCall lock p (record p {
         table = after_request_in p.table k lock mode;
-        post = reply p k lock mode (request_waits p.table.master k lock mode) (with_left p.post k p.master rest);
+        post = reply p lock k mode (answer_by (request_waits p.table.master k lock mode) (present p lock)) (with_left p.post k p.master rest);
       })
   -- `Master::down`, `Rebuild::down`
   Lowered : (k : ℕ) (mode : Mode) (said kept : Option (List ℕ)) (rest : List Message) → k ≤ 8 → p.post.took k p.master ≡ now_says p (Down lock mode said) ∷ rest
@@ -136,7 +136,7 @@ pub data TableCall (lock : LockName) (p : Parts) : Parts → Type 0 where
   -- `Master::next_grants`, of a master that knows which slots wait, and a letter to each who is granted
   GrantsNext : KnowsSlots p → TableCall lock p (record p {
     table = record p.table { master = after_next p.table.master lock };
-    post = if is_blocked p.table.master then p.post else fold (grant_letter p lock) p.post (all_turns (present p lock)).granted;
+    post = fold (grant_letter p lock) p.post (next_of p.table.master lock);
   })
   -- `Rebuild::complete`
   Completes : is_done p.table ≡ true → TableCall lock p (record p { table = record p.table { master = master_after p.table } })
