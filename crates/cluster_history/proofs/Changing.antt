@@ -4,9 +4,10 @@ use Rattle.std.specs.Prelude.{not, if◌then◌else◌, nat_lt}
 use Rattle.std.proofs.lemmas.Bool.{cond-true}
 use Rattle.file_tree.specs.Tree.{Tree, file, dir, none, entry, look}
 use Rattle.file_tree.specs.Names.{parent_of, last_of, leads_to, is_same_path}
-use Rattle.file_tree.specs.Apply.{Answer, Walked, Found, Refused, walk, refuse, file_limit, put_at, overwritten, resized, add, add_to, unlink, unlink_at, rmdir, rmdir_at, write_at, truncate_at, rename, move_from, move_into, apply}
+use Rattle.file_tree.specs.Apply.{Answer, Walked, Found, Refused, walk, refuse, file_limit, put_at, overwritten, resized, add, add_to, unlink, unlink_at, rmdir, rmdir_at, write_at, truncate_at, rename, move_from, move_into, move_unless, refusal_at, apply}
 use Rattle.file_tree.specs.declared.call.Call.{Call}
 use Rattle.file_tree.specs.declared.call.Call.TheVariants as calls
+use Rattle.file_tree.specs.declared.reply.Reply.{Reply}
 use Rattle.file_tree.specs.declared.reply.Reply.TheVariants as replies
 use Rattle.cluster_history.specs.Changes.{may_change, is_ok, OthersLeaveTheTree}
 
@@ -62,14 +63,14 @@ truncate_at-leaves (Found (dir es)) t path size = inl refl
 truncate_at-leaves (Found (file bytes)) t path size = either (nat_lt file_limit size) (refuse replies.TooBig t)
     (record { reply = replies.Ok; tree = put_at path (file (resized size bytes)) t }) t (inl refl) (inr refl)
 
-moved : (o : Option Tree) (t t' : Tree) → Leaves (elim o [ None ↦ record { reply = replies.Ok; tree = t' } | Some there ↦ refuse replies.Exists t ]) t
-moved None t t' = inr refl
-moved (Some u) t t' = inl refl
+move_unless-leaves : (o : Option Reply) (t : Tree) (from to : List (List ℕ)) (m : Tree) → Leaves (move_unless o t from to m) t
+move_unless-leaves None t from to m = inr refl
+move_unless-leaves (Some r) t from to m = inl refl
 
 move_into-leaves : (w : Walked) (t : Tree) (from to : List (List ℕ)) (m : Tree) → Leaves (move_into w t from to m) t
 move_into-leaves (Refused r) t from to m = inl refl
 move_into-leaves (Found (file bytes)) t from to m = inl refl
-move_into-leaves (Found (dir es)) t from to m = moved (look es (last_of to)) t _
+move_into-leaves (Found (dir es)) t from to m = move_unless-leaves (refusal_at m (look es (last_of to))) t from to m
 
 move_from-leaves : (w : Walked) (t : Tree) (from to : List (List ℕ)) → Leaves (move_from w t from to) t
 move_from-leaves (Refused r) t from to = inl refl

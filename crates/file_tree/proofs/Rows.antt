@@ -46,6 +46,61 @@ row_moves : replies_of (calls.Mkdir d ∷ calls.Rename d (codes "d" ∷ codes "e
     ≡ replies.Ok ∷ replies.Inside ∷ replies.Ok ∷ replies.Ok ∷ replies.NotFound ∷ replies.Names (codes "e" ∷ []) ∷ []
 row_moves = refl
 
+-- ---- rename, each case once
+
+abbrev b : List (List ℕ)
+b = codes "b" ∷ []
+
+abbrev e : List (List ℕ)
+e = codes "e" ∷ []
+
+abbrev d_x : List (List ℕ)
+d_x = codes "d" ∷ codes "x" ∷ []
+
+-- files `a` and `b`, a directory `d` with a file `x`, and an empty one, `e`
+abbrev some : Tree
+some = dir (entry (codes "a") (file (codes "1")) (entry (codes "b") (file (codes "2"))
+    (entry (codes "d") (dir (entry (codes "x") (file (codes "3")) none)) (entry (codes "e") (dir none) none))))
+
+-- a file over a file, which is gone
+row_file_over_file : apply (calls.Rename a b) some ≡ record {
+  reply = replies.Ok;
+  tree = dir (entry (codes "b") (file (codes "1"))
+      (entry (codes "d") (dir (entry (codes "x") (file (codes "3")) none)) (entry (codes "e") (dir none) none)));
+}
+row_file_over_file = refl
+
+-- a directory over an empty one
+row_dir_over_empty : apply (calls.Rename d e) some ≡ record {
+  reply = replies.Ok;
+  tree = dir (entry (codes "a") (file (codes "1")) (entry (codes "b") (file (codes "2"))
+      (entry (codes "e") (dir (entry (codes "x") (file (codes "3")) none)) none)));
+}
+row_dir_over_empty = refl
+
+-- a file of another directory over a file
+row_moved_up : apply (calls.Rename d_x a) some ≡ record {
+  reply = replies.Ok;
+  tree = dir (entry (codes "a") (file (codes "3")) (entry (codes "b") (file (codes "2"))
+      (entry (codes "d") (dir none) (entry (codes "e") (dir none) none))));
+}
+row_moved_up = refl
+
+-- a directory over one with names, a file over directories, a directory over a file; to itself, which a directory with names may be
+row_moves_over : replies_of (calls.Rename e d ∷ calls.Rename a d ∷ calls.Rename a e ∷ calls.Rename d a ∷ calls.Rename a a ∷ calls.Rename d d ∷ []) some
+    ≡ replies.NotEmpty ∷ replies.IsDir ∷ replies.IsDir ∷ replies.NotDir ∷ replies.Ok ∷ replies.Ok ∷ []
+row_moves_over = refl
+
+-- below itself, whether the parent is there or not; over what it lies in, as a file and as a directory
+row_moves_inside : replies_of (calls.Rename d d_a ∷ calls.Rename d (codes "d" ∷ codes "y" ∷ codes "z" ∷ []) ∷ calls.Rename a (codes "a" ∷ codes "y" ∷ []) ∷ calls.Rename d_x d ∷ calls.Mkdir (codes "d" ∷ codes "f" ∷ []) ∷ calls.Rename (codes "d" ∷ codes "f" ∷ []) d ∷ []) some
+    ≡ replies.Inside ∷ replies.Inside ∷ replies.Inside ∷ replies.IsDir ∷ replies.Ok ∷ replies.NotEmpty ∷ []
+row_moves_inside = refl
+
+-- the walk to the first path comes first, then the one to the second one's parent
+row_moves_past : replies_of (calls.Rename (codes "y" ∷ []) (codes "y" ∷ []) ∷ calls.Rename (codes "y" ∷ []) (codes "z" ∷ codes "z" ∷ []) ∷ calls.Rename a (codes "y" ∷ codes "z" ∷ []) ∷ calls.Rename a (codes "b" ∷ codes "z" ∷ []) ∷ calls.Rename a (codes "b" ∷ codes "z" ∷ codes "z" ∷ []) ∷ []) some
+    ≡ replies.NotFound ∷ replies.NotFound ∷ replies.NotFound ∷ replies.NotDir ∷ replies.NotDir ∷ []
+row_moves_past = refl
+
 -- what is done to the root or where a name is there already
 row_root : replies_of (calls.Create [] ∷ calls.Unlink [] ∷ calls.Rmdir [] ∷ calls.Write [] 0 (codes "x") ∷ calls.Truncate [] 0 ∷ calls.Rename [] a ∷ calls.Rename a [] ∷ calls.Create a ∷ calls.Mkdir a ∷ calls.Rmdir a ∷ calls.Sync ∷ []) hello
     ≡ replies.Exists ∷ replies.IsDir ∷ replies.Inside ∷ replies.IsDir ∷ replies.IsDir ∷ replies.Inside ∷ replies.Exists ∷ replies.Exists ∷ replies.Exists ∷ replies.NotDir ∷ replies.Ok ∷ []

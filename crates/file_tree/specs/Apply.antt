@@ -134,15 +134,30 @@ list_reply (Refused r) = r
 list_reply (Found (file bytes)) = reply.NotDir
 list_reply (Found (dir es)) = reply.Names (names_in es)
 
--- ---- rename: the target must not be there
+-- ---- rename: a file may replace a file, and a directory an empty directory
+
+-- what refuses that the first tree goes where the second one stands
+abbrev pub refusal_over : Tree → Tree → Option Reply
+refusal_over (file bytes) (file old) = None
+refusal_over (file bytes) (dir es) = Some reply.IsDir
+refusal_over (dir fs) (file old) = Some reply.NotDir
+refusal_over (dir fs) (dir none) = None
+refusal_over (dir fs) (dir (entry n u es)) = Some reply.NotEmpty
+
+-- nothing does where nothing stands
+abbrev pub refusal_at : Tree → Option Tree → Option Reply
+refusal_at moved None = None
+refusal_at moved (Some there) = refusal_over moved there
+
+-- what stood at the second path is gone, and the moved tree stands there
+abbrev pub move_unless : Option Reply → Tree → List (List ℕ) → List (List ℕ) → Tree → Answer
+move_unless (Some r) t from to moved = refuse r t
+move_unless None t from to moved = record { reply = reply.Ok; tree = put_at to moved (remove_at from t) }
 
 abbrev pub move_into : Walked → Tree → List (List ℕ) → List (List ℕ) → Tree → Answer
 move_into (Refused r) t from to moved = refuse r t
 move_into (Found (file bytes)) t from to moved = refuse reply.NotDir t
-move_into (Found (dir es)) t from to moved = elim (look es (last_of to)) [
-  | None ↦ record { reply = reply.Ok; tree = put_at to moved (remove_at from t) }
-  | Some there ↦ refuse reply.Exists t
-]
+move_into (Found (dir es)) t from to moved = move_unless (refusal_at moved (look es (last_of to))) t from to moved
 
 abbrev pub move_from : Walked → Tree → List (List ℕ) → List (List ℕ) → Answer
 move_from (Refused r) t from to = refuse r t

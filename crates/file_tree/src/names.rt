@@ -107,7 +107,8 @@ impl Path {
 
     /// The names in order.
     pub fn names(&self) -> &[Name]
-        ensures { result.now ≡ self.now }
+        ensures names { result.now ≡ self.now }
+        ensures short { path_length self.now ≤ 1024 }
     {
         self.names.as_slice()
     }
