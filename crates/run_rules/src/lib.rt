@@ -3,7 +3,7 @@
 #![tactic(auto)]
 
 ghost use Rattle.run_rules.specs.Laws.{CrashLinesAreCarriedOut, NothingFollows, NothingIsLegal};
-ghost use Rattle.run_rules.specs.Heads.{RowsOfHeads, EachLossHasALife};
+ghost use Rattle.run_rules.specs.Heads.{RowsOfHeads, RowsOfRecoveries, EachLossHasALife};
 
 /// A law: a run that has no items yet follows its script, whatever that is, is numbered, and is legal.
 pub fn nothing_is_a_history()
@@ -20,4 +20,9 @@ pub fn crash_lines_are_carried_out()
 pub fn heads_tell_what_they_have()
     ensures rows { RowsOfHeads }
     ensures lives { EachLossHasALife }
+{}
+
+/// A law: which items tell of recoveries and losses as they have to, in worked rows.
+pub fn recoveries_are_told()
+    ensures { RowsOfRecoveries }
 {}
