@@ -4,8 +4,8 @@ use Rattle.std.specs.Prelude.{IsErrAnd}
 use Rattle.glock_names.specs.declared.steps.CallFault.{CallFault}
 use Rattle.glock_names.specs.declared.steps.CallFault.TheVariants.{Damaged, NoMemory}
 use Rattle.glock_names.specs.Steps.{IfNeedBlock, IfIs, IsDamage, OnlyDamaged}
-use Rattle.glock_names.specs.Views.{Seen}
-use Rattle.dinode_tree.specs.Shown.{IsOfView, IsAtBlock}
+use Rattle.glock_names.specs.Views.{Seen, IsOfView}
+use Rattle.dinode_tree.specs.Shown.{IsAtBlock}
 use Rattle.glock_names.specs.declared.steps.Missing.{Missing}
 use Rattle.glock_names.specs.declared.steps.Step.{Step}
 use Rattle.glock_names.specs.declared.steps.Step.TheVariants.{Is, NeedBlock}

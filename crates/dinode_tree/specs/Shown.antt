@@ -17,14 +17,6 @@ pub record IsShown (v : Seen) (a : ℕ) (h : Holding) : Type 0 where
   pub led_to : (b k level first c : ℕ) → Leads h b k level first c → IsSome (h.cell c)
   pub same : IsAsSeen v h
 
--- the view has the block
-abbrev pub HasBlock : Seen → ℕ → Type 0
-HasBlock v b = (bytes : List ℕ) × (v.block_at b ≡ Some bytes)
-
--- the block of which a rule is told is one that the view has
-abbrev pub IsOfView : Seen → ℕ → ℕ → Type 0
-IsOfView v rule b = HasBlock v b
-
 -- the block of which a rule is told is this one
 abbrev pub IsAtBlock : ℕ → ℕ → ℕ → Type 0
 IsAtBlock a rule b = b ≡ a

@@ -3,19 +3,19 @@ ghost use Rattle.gfs2_layout.specs.Headers.{HasHeader};
 ghost use Rattle.gfs2_layout.specs.Holding.{Holding, bytes_at};
 ghost use Rattle.gfs2_layout.specs.Inode.{is_directory_in, unit, carried, content_block, content_count, Fits};
 ghost use Rattle.glock_names.specs.Steps.{IfIs, IfNeedBlock, IfDamaged, OnlyDamaged};
-ghost use Rattle.dinode_tree.specs.Shown.{IsShown, IsOfView};
+ghost use Rattle.dinode_tree.specs.Shown.{IsShown};
+ghost use Rattle.glock_names.specs.Views.{IsOfView};
 ghost use Rattle.dinode_tree.specs.Broken.{IsBroken};
 ghost use Rattle.dinode_tree.specs.Reading.{AreHeaded, IsHeadedAt, IsInRange, AreWholeBefore, IsNeeded};
 ghost use Rattle.dinode_tree.specs.Walking.{held, IsIn, IsOf, IsLink, laid_range, ArePieces};
 ghost use Rattle.gfs2_layout.specs.Structures.{dinode_length};
 
-use crate::blocks::{block_of, damaged};
+use crate::blocks::damaged;
 use crate::inode::Inode;
 use crate::links::{find, missing_block};
-use crate::numbers::has_header;
 use crate::ways::Link;
-use gfs2_layout::DINODE_LENGTH;
-use glock_names::{CallFault, Step, View};
+use gfs2_layout::{DINODE_LENGTH, has_header};
+use glock_names::{CallFault, Step, View, block_of};
 use no_memory::NoMemory;
 use std::alloc::Global;
 

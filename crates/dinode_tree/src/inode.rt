@@ -3,8 +3,8 @@ ghost use Rattle.gfs2_layout.specs.Structures.{dinode_of};
 ghost use Rattle.gfs2_layout.specs.Holding.{Holding, bytes_at};
 
 use crate::blocks::{damaged, lock_of};
-use crate::numbers::{fan, has_header, split};
-use gfs2_layout::{DINODE_LENGTH, Dinode};
+use crate::numbers::{fan, split};
+use gfs2_layout::{DINODE_LENGTH, Dinode, has_header};
 use glock_names::{CallFault, LockName};
 
 /// Where the pointers of a dinode begin, and those of an indirect block.

@@ -19,5 +19,4 @@ pub use laws::{
     sound_inodes_are_whole, sound_inodes_break_nothing,
 };
 pub use locating::{Located, locate, read_dinode};
-pub use numbers::has_header;
 pub use reading::{place, read_range};

@@ -4,17 +4,18 @@ ghost use Rattle.gfs2_layout.specs.Holding.{Holding, bytes_at};
 ghost use Rattle.gfs2_layout.specs.Structures.{is_regular};
 ghost use Rattle.gfs2_layout.specs.Inode.{content_count};
 ghost use Rattle.glock_names.specs.Steps.{IfIs, IfNeedBlock, OnlyDamaged};
-ghost use Rattle.dinode_tree.specs.Shown.{IsShown, IsOfView, IsAtBlock};
+ghost use Rattle.dinode_tree.specs.Shown.{IsShown, IsAtBlock};
+ghost use Rattle.glock_names.specs.Views.{IsOfView};
 ghost use Rattle.dinode_tree.specs.Broken.{IsBroken};
 ghost use Rattle.dinode_tree.specs.Reading.{IsHeadedWay, IsNeeded, inode_lock};
 ghost use Rattle.dinode_tree.specs.Walking.{held, IsIn, IsOf, IsLink, IsStep};
 
-use crate::blocks::{block_of, damaged};
+use crate::blocks::damaged;
 use crate::inode::{IN_BLOCK, Inode};
-use crate::numbers::{fan, has_header, number_at, split};
+use crate::numbers::{fan, number_at, split};
 use crate::ways::{Link, Way};
-use gfs2_layout::DINODE_LENGTH;
-use glock_names::{CallFault, Missing, Step, View};
+use gfs2_layout::{DINODE_LENGTH, has_header};
+use glock_names::{CallFault, Missing, Step, View, block_of};
 
 // The link of a pointer; None where it leads nowhere. What it leads to is to begin before the inode's end.
 fn follow(inode: &Inode<'_>, pointer: u64, way: Way) -> Result<Option<Link>, CallFault>

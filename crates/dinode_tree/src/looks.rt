@@ -4,13 +4,14 @@ ghost use Rattle.gfs2_layout.specs.Structures.{is_directory, is_regular};
 ghost use Rattle.gfs2_layout.specs.Holding.{Holding};
 ghost use Rattle.gfs2_layout.specs.Inode.{Fits};
 ghost use Rattle.glock_names.specs.Steps.{IfIs, IfNeedBlock, OnlyDamaged};
-ghost use Rattle.dinode_tree.specs.Shown.{IsShown, IsOfView};
+ghost use Rattle.dinode_tree.specs.Shown.{IsShown};
+ghost use Rattle.glock_names.specs.Views.{IsOfView};
 ghost use Rattle.dinode_tree.specs.Broken.{IsBroken};
 ghost use Rattle.dinode_tree.specs.Walking.{held, IsIn, missing_dinode};
 
-use crate::blocks::{block_of, lock_of};
+use crate::blocks::lock_of;
 use crate::inode::Inode;
-use glock_names::{CallFault, Missing, Step, View};
+use glock_names::{CallFault, Missing, Step, View, block_of};
 
 /// Looks at a dinode: at its header, its address and number, its mode, and whether its size fits it or its height.
 pub(crate) fn look<V: View>(view: &V, dinode: u64) -> Result<Step<Inode<'_>>, CallFault>

@@ -1,9 +1,6 @@
-ghost use Rattle.std.specs.Prelude.{◌≡◌, ◌+◌, ◌-◌, ◌/◌, ◌%◌, ◌^◌, ◌≤◌, IfSome, IfNone, IsTrue, ◌↔◌, length};
+ghost use Rattle.std.specs.Prelude.{◌≡◌, ◌+◌, ◌-◌, ◌/◌, ◌%◌, ◌^◌, ◌≤◌, IfSome, IfNone, length};
 ghost use Rattle.gfs2_layout.specs.Bytes.{u64_at};
-ghost use Rattle.gfs2_layout.specs.Headers.{HasHeader};
 ghost use Rattle.gfs2_layout.specs.Inode.{fan as fan_of, span as span_of};
-
-use gfs2_layout::MetaHeader;
 
 /// The number in the eight bytes at a place.
 #[tactic(auto, unfolding(gfs2_layout::specs::Bytes::number_at))]
@@ -14,17 +11,6 @@ pub(crate) fn number_at(bytes: &[u8], at: usize) -> u64
     let mut part = [0u8; 8];
     part.copy_from_slice(&bytes[at..at + 8]);
     u64::from_be_bytes(part)
-}
-
-/// Whether a block begins with the magic, this kind and this format.
-pub fn has_header(bytes: &[u8], kind: u32, format: u32) -> bool
-    requires { 24 ≤ length bytes.now }
-    ensures { IsTrue result ↔ HasHeader kind format bytes.now }
-{
-    match MetaHeader::read(bytes) {
-        Ok(header) => header.kind == kind && header.format == format,
-        Err(_) => false,
-    }
 }
 
 /// How many pointers a block of so many bytes has from byte `start` on.

@@ -38,10 +38,10 @@ impl<'a, V: View> Model for Draft<'a, V> {
 }
 
 impl<'a, V: View> Draft<'a, V> {
-    ghost use Rattle.std.specs.Prelude.{◌≡◌, length, OnOk, OnErr, IfOk};
+    ghost use Rattle.std.specs.Prelude.{◌≡◌, length, option_map, OnOk, OnErr, IfOk};
     ghost use Rattle.std.specs.FinMap as map;
     ghost use Rattle.drafts.specs.declared.fate.Fate.TheVariants.{Put, Freed};
-    ghost use Rattle.drafts.specs.Fates.{blocks_in, locks_in, freed_in};
+    ghost use Rattle.drafts.specs.Fates.{blocks_in, locks_in, freed_in, seen_with};
 
     /// Nothing is written or freed yet. Takes no memory.
     pub fn new(alloc: Global, view: &'a V) -> Self
@@ -79,6 +79,17 @@ impl<'a, V: View> Draft<'a, V> {
     {
         self.fates.insert(block, Fate::Freed)?;
         Ok(())
+    }
+
+    /// A copy of a block as the draft sees it, to be changed and put; None where it isn't seen. Costs the copy and a look-up in
+    /// a tree.
+    pub fn copy(&self, block: u64) -> Result<Option<Vec<u8>>, NoMemory>
+        ensures { IfOk result (λ copied. option_map (λ copy. copy.items) copied ≡ (seen_with (V.seen self.now.view) self.now.fates).block_at block) }
+    {
+        match self.block(block) {
+            Some(bytes) => Ok(Some(Vec::from_slice(self.alloc, bytes)?)),
+            None => Ok(None),
+        }
     }
 
     /// What was written and what was freed, by rising block.

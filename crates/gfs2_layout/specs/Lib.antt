@@ -8,6 +8,7 @@ pub mod Putting
 pub mod Bitmap
 pub mod Device
 pub mod Headers
+pub mod Groups
 pub mod Holding
 pub mod Records
 pub mod Inode

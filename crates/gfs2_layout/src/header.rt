@@ -1,4 +1,5 @@
-ghost use Rattle.std.specs.Prelude.{◌≡◌, ◌≤◌, length, drop, Ok, IfNone};
+ghost use Rattle.std.specs.Prelude.{◌≡◌, ◌≤◌, ◌↔◌, length, drop, Ok, IfNone, IsTrue};
+ghost use Rattle.gfs2_layout.specs.Headers.{HasHeader};
 ghost use Rattle.gfs2_layout.specs.Structures.{header_fault};
 
 use crate::LayoutFault;
@@ -81,4 +82,15 @@ pub(crate) fn fault_of_header(
         return Some(LayoutFault::Format(found));
     }
     None
+}
+
+/// Whether a block begins with the magic, this kind and this format.
+pub fn has_header(bytes: &[u8], kind: u32, format: u32) -> bool
+    requires { 24 ≤ length bytes.now }
+    ensures { IsTrue result ↔ HasHeader kind format bytes.now }
+{
+    match MetaHeader::read(bytes) {
+        Ok(header) => header.kind == kind && header.format == format,
+        Err(_) => false,
+    }
 }

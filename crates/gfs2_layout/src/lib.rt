@@ -27,7 +27,7 @@ pub use dinode::{DINODE_LENGTH, Dinode};
 pub use dirent::Dirent;
 pub use fault::LayoutFault;
 pub use group_header::GroupHeader;
-pub use header::MetaHeader;
+pub use header::{MetaHeader, has_header};
 pub use inum::Inum;
 pub use laws::{
     areas_are_their_records, areas_join, packed_states_are_read, put_records_are_found,

@@ -1,5 +1,5 @@
 -- What a node sees of the file system while it works on a call.
-use Rattle.std.specs.Prelude.{ℕ, ◌≡◌, ◌+◌, ◌%◌, ◌<◌, ◌≤◌, ⊤, List, [], ◌∷◌, length, Option, Some}
+use Rattle.std.specs.Prelude.{ℕ, ◌≡◌, ◌+◌, ◌%◌, ◌<◌, ◌≤◌, ⊤, Contains, List, [], ◌∷◌, length, Option, Some}
 use Rattle.std.specs.List.{AllByRecursion}
 use Rattle.profile_limits.specs.Limits.{most_blocks, most_groups}
 use Rattle.gfs2_layout.specs.Bitmap.{bitmap_room}
@@ -18,11 +18,23 @@ pub record Seen : Type 0 where
   pub state_of : LockName → State
   pub block_at : ℕ → Option (List ℕ)
 
+-- the view has the block
+abbrev pub HasBlock : Seen → ℕ → Type 0
+HasBlock v b = (bytes : List ℕ) × (v.block_at b ≡ Some bytes)
+
+-- the block of which a rule is told is one that the view has
+abbrev pub IsOfView : Seen → ℕ → ℕ → Type 0
+IsOfView v rule b = HasBlock v b
+
 -- ---- the groups, such as mounting accepts
 
 -- the group of an entry in the list of groups
 abbrev pub group_of_entry : Rindex → Group
 group_of_entry g = record { addr = g.address; length = g.length; first = g.data0; count = g.data_blocks }
+
+-- the group is one of the view's
+abbrev pub HasGroup : Seen → Group → Type 0
+HasGroup v g = Contains v.groups g
 
 -- the first block behind a group's data blocks
 abbrev pub end_of : Group → ℕ

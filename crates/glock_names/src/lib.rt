@@ -12,7 +12,7 @@ mod views;
 use dlm_modes::Mode;
 pub use order::{is_at_most, is_below, may_cache};
 pub use steps::{CallFault, Entry, Missing, Step};
-pub use views::{Group, View};
+pub use views::{Group, View, block_of};
 
 #[cfg(test)]
 mod tests;

@@ -12,8 +12,9 @@ pub struct Missing {
     pub block: u64,
     /// Whether the block is content of a regular file.
     pub plain: bool,
-    /// The block in which the number of this one stands, or this one itself where it is the dinode that the call names.
-    /// Where the number leads out of the device or of every group's data blocks, that is the damaged block.
+    /// The block in which the number of this one stands, or this one itself where it is the dinode that the call names, or
+    /// of a group's header and bitmap. Where the number leads out of the device or of every group's data blocks, that is the
+    /// damaged block.
     pub from: u64,
 }
 

@@ -1,4 +1,4 @@
-ghost use Rattle.std.specs.Prelude.{◌≡◌, Some, None, IfSome, IfNone};
+ghost use Rattle.std.specs.Prelude.{◌≡◌, ◌≤◌, Some, None, IfSome, IfNone, length};
 ghost use Rattle.glock_names.specs.Views.{Seen, IsView};
 
 use crate::{LockName, State};
@@ -41,4 +41,17 @@ pub trait View {
     fn block_size(&self) -> u32
         ensures value { result ≡ (seen self.now).size }
         ensures view { IsView (seen self.now) };
+}
+
+/// The bytes of a block, if the view has it: from 512 to 4,096.
+pub fn block_of<V: View>(view: &V, block: u64) -> Option<&[u8]>
+    ensures some { IfSome result (λ bytes. (V.seen view.now).block_at block ≡ Some bytes.now) }
+    ensures none { IfNone result ((V.seen view.now).block_at block ≡ None) }
+    ensures size { IfSome result (λ bytes. (V.seen view.now).size ≡ length bytes.now) }
+    ensures least { IfSome result (λ bytes. 512 ≤ length bytes.now) }
+    ensures most { IfSome result (λ bytes. length bytes.now ≤ 4096) }
+    ensures view { IsView (V.seen view.now) }
+{
+    let _size = view.block_size();
+    view.block(block)
 }

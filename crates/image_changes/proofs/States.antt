@@ -9,8 +9,9 @@ use Rattle.gfs2_layout.specs.declared.group_header.GroupHeader.{GroupHeader}
 use Rattle.gfs2_layout.specs.Headers.{HasHeader}
 use Rattle.gfs2_layout.specs.Bitmap.{state_at, with_state}
 use Rattle.gfs2_layout.proofs.BitmapLaws.{state_same, state_other}
-use Rattle.image_model.specs.Groups.{group_blocks, bitmap_of, group_header, states_of, state_of, count_of, IsGroup}
-use Rattle.image_changes.specs.States.{GroupsStay, one_if, StateIsPut, OtherGeneration, TableSays}
+use Rattle.gfs2_layout.specs.Groups.{bitmap_of, group_header, count_of, one_if}
+use Rattle.image_model.specs.Groups.{group_blocks, states_of, state_of, IsGroup}
+use Rattle.image_changes.specs.States.{GroupsStay, StateIsPut, OtherGeneration, TableSays}
 
 pub map_same : {X : Type 0} (f g : ℕ → X) (a n : ℕ) → ((b : ℕ) → a ≤ b → b < a + n → f b ≡ g b) → map f (range_with_len a n) ≡ map g (range_with_len a n)
 map_same f g a zero each = refl
@@ -58,10 +59,10 @@ get_map f a (suc n) (suc i) d low = get_map f (a + 1) n i d (omega (arith, low))
 pub state_is_put : StateIsPut
 state_is_put g old new states i state is low inside four put = record {
   header = put.header;
-  more = put.more;
-  data0 = put.data0 ∙ is.data0;
-  data_blocks = put.data_blocks ∙ is.data_blocks;
-  bitbytes = put.bitbytes ∙ is.bitbytes;
+  more = λ k low high. put.more k low (is.more k low high);
+  data0 = ap (λ (h : GroupHeader). h.data0) put.others ∙ is.data0;
+  data_blocks = ap (λ (h : GroupHeader). h.data_blocks) put.others ∙ is.data_blocks;
+  bitbytes = ap (λ (h : GroupHeader). h.bitbytes) put.others ∙ is.bitbytes;
   bits = states_put (bitmap_of old) (bitmap_of new) g.data_blocks i state low inside four put.bits ∙ ap (λ s. slice_set s i state) is.bits;
   free = count 0 ((group_header old).free) ((group_header new).free) is.free put.free;
   dinodes = count 3 ((group_header old).dinodes) ((group_header new).dinodes) is.dinodes put.dinodes;

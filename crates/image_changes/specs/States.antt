@@ -1,9 +1,9 @@
 -- Groups: those that a change leaves alone, and one in which the state of a block is put.
-use Rattle.std.specs.Prelude.{ℕ, ◌≡◌, ◌+◌, ◌*◌, ◌<◌, ◌==◌, Bool, if◌then◌else◌, List, [], length, slice_index_or, slice_set}
-use Rattle.gfs2_layout.specs.Bitmap.{state_at, with_state}
+use Rattle.std.specs.Prelude.{ℕ, ◌≡◌, ◌+◌, ◌*◌, ◌<◌, List, [], length, slice_index_or, slice_set}
 use Rattle.gfs2_layout.specs.Headers.{HasHeader}
 use Rattle.gfs2_layout.specs.declared.rindex.Rindex.{Rindex}
-use Rattle.image_model.specs.Groups.{IsHeaderOf, IsDataOf, group_blocks, bitmap_of, group_header, states_of, state_of, IsGroup}
+use Rattle.gfs2_layout.specs.Groups.{bitmap_of, group_header, IsStatePut}
+use Rattle.image_model.specs.Groups.{IsHeaderOf, IsDataOf, group_blocks, states_of, state_of, IsGroup}
 use Rattle.image_model.specs.Image.{Image}
 use Rattle.image_model.specs.Owners.{Owners}
 
@@ -12,24 +12,10 @@ abbrev pub GroupsStay : Type 0
 GroupsStay = (im im' : Image) (o o' : Owners) (g : Rindex) → ((b : ℕ) → IsHeaderOf g b → im'.at b ≡ im.at b) → ((b : ℕ) → IsDataOf g b → state_of (o' b) ≡ state_of (o b))
     → IsGroup g (group_blocks im.at g) (states_of o g) → IsGroup g (group_blocks im'.at g) (states_of o' g)
 
-abbrev pub one_if : Bool → ℕ
-one_if b = if b then 1 else 0
-
--- the state of data block i is put: the bitmap has it, the header's counts follow, and what the header repeats of the entry stays
-pub record IsStatePut (g : Rindex) (old new : List (List ℕ)) (i state : ℕ) : Type 0 where
-  pub header : HasHeader 2 200 (slice_index_or new 0 [])
-  pub more : (k : ℕ) → 0 < k → k < g.length → HasHeader 3 300 (slice_index_or new k [])
-  pub data0 : (group_header new).data0 ≡ (group_header old).data0
-  pub data_blocks : (group_header new).data_blocks ≡ (group_header old).data_blocks
-  pub bitbytes : (group_header new).bitbytes ≡ (group_header old).bitbytes
-  pub bits : bitmap_of new ≡ with_state (bitmap_of old) i state
-  pub free : (group_header new).free + one_if (state_at (bitmap_of old) i == 0) ≡ (group_header old).free + one_if (state == 0)
-  pub dinodes : (group_header new).dinodes + one_if (state_at (bitmap_of old) i == 3) ≡ (group_header old).dinodes + one_if (state == 3)
-
--- such a group says the states with that one put
+-- a group with the state of a data block put says the states with that one put
 abbrev pub StateIsPut : Type 0
 StateIsPut = (g : Rindex) (old new : List (List ℕ)) (states : List ℕ) (i state : ℕ) → IsGroup g old states → i < g.data_blocks → i < 4 * length (bitmap_of old) → state < 4
-    → IsStatePut g old new i state → IsGroup g new (slice_set states i state)
+    → IsStatePut old new i state → IsGroup g new (slice_set states i state)
 
 -- a group's header is written with another number of its last inode, and all else of the group stays: it says the same states
 abbrev pub OtherGeneration : Type 0

@@ -7,7 +7,8 @@ use Rattle.gfs2_layout.specs.Bitmap.{state_at}
 use Rattle.gfs2_layout.specs.Headers.{HasHeader}
 use Rattle.gfs2_layout.specs.Holding.{Pointed, InChain}
 use Rattle.image_model.specs.Owners.{Owner, Owners, Super, InGroup, Free, Nobody, Root, Master, Named, Below, Chained, is_dinode, IsWithin}
-use Rattle.image_model.specs.Groups.{IsListed, IsDataOf, group_blocks, group_header, bitmap_of, states_of, state_of, count_of, IsGroup}
+use Rattle.gfs2_layout.specs.Groups.{group_header, bitmap_of, count_of}
+use Rattle.image_model.specs.Groups.{IsListed, IsDataOf, group_blocks, states_of, state_of, IsGroup}
 use Rattle.image_model.specs.Stands.{Layout, IsLaid}
 use Rattle.image_model.specs.Claims.{Claims, HasGroup}
 use Rattle.image_model.specs.Rules.{Needs, of_superblock, of_group, of_bitmap, of_dinode, of_indirect, of_table, of_leaf, IsOutside, bits_of, states_at, HasWrongBits, of_owner, unlinked, stray}

@@ -1,11 +1,11 @@
 -- Resource groups: where they lie, and what their headers and bitmaps say. A group is given by its entry in the list of groups.
-use Rattle.std.specs.Prelude.{ℕ, ◌≡◌, ◌+◌, ◌-◌, ◌*◌, ◌/◌, ◌<◌, ◌≤◌, ◌==◌, List, [], ◌∷◌, ◌++◌, length, drop, map, flat_map, count_by, slice_get, slice_index_or, Some}
+use Rattle.std.specs.Prelude.{ℕ, ◌≡◌, ◌+◌, ◌-◌, ◌*◌, ◌/◌, ◌<◌, ◌≤◌, List, [], length, map, slice_get, slice_index_or, Some}
 use Rattle.std.specs.List.{range_with_len}
 use Rattle.gfs2_layout.specs.Bytes.{slice}
-use Rattle.gfs2_layout.specs.Structures.{rindex_of, group_of}
+use Rattle.gfs2_layout.specs.Structures.{rindex_of}
 use Rattle.gfs2_layout.specs.declared.rindex.Rindex.{Rindex}
-use Rattle.gfs2_layout.specs.declared.group_header.GroupHeader.{GroupHeader}
-use Rattle.gfs2_layout.specs.Bitmap.{state_at, bitmap_room}
+use Rattle.gfs2_layout.specs.Bitmap.{bitmap_room}
+use Rattle.gfs2_layout.specs.Groups.{group_header, states_in, count_of}
 use Rattle.gfs2_layout.specs.Headers.{HasHeader}
 use Rattle.gfs2_layout.specs.Device.{superblock_place}
 use Rattle.image_model.specs.Image.{Image, Blocks}
@@ -69,17 +69,6 @@ pub record GroupsFit (im : Image) (groups : List Rindex) : Type 0 where
 abbrev pub group_blocks : Blocks → Rindex → List (List ℕ)
 group_blocks at g = map at (range_with_len g.address g.length)
 
-abbrev pub bitmap_of : List (List ℕ) → List ℕ
-bitmap_of [] = []
-bitmap_of (header ∷ more) = drop 128 header ++ flat_map (λ bytes. drop 24 bytes) more
-
-abbrev pub group_header : List (List ℕ) → GroupHeader
-group_header blocks = group_of (slice_index_or blocks 0 [])
-
--- the states that the bits say, of each data block in order
-abbrev pub states_in : List (List ℕ) → ℕ → List ℕ
-states_in blocks count = map (state_at (bitmap_of blocks)) (range_with_len 0 count)
-
 -- the state of a block by its owner: 0 free, 3 a dinode, 1 any other that is used
 abbrev pub state_of : Owner → ℕ
 state_of (Free g) = 0
@@ -91,9 +80,6 @@ state_of _ = 1
 -- the states of the group's data blocks by their owners
 abbrev pub states_of : Owners → Rindex → List ℕ
 states_of owners g = map (λ b. state_of (owners b)) (range_with_len g.data0 g.data_blocks)
-
-abbrev pub count_of : ℕ → List ℕ → ℕ
-count_of state states = count_by (λ s. s == state) states
 
 -- the header repeats the entry, the bits say these states, and the header has their counts. The header's checksum is not looked at
 pub record IsGroup (g : Rindex) (blocks : List (List ℕ)) (states : List ℕ) : Type 0 where

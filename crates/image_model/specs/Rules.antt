@@ -11,7 +11,8 @@ use Rattle.gfs2_layout.specs.Area.{Slot, name_of, slots_of, IsArea}
 use Rattle.gfs2_layout.specs.declared.rindex.Rindex.{Rindex}
 use Rattle.gfs2_layout.specs.Bitmap.{state_at}
 use Rattle.image_model.specs.Claims.{every, Claims, IsInodeAt, HasInode, HasDirectory, HasLeaf, HasArea, master_of, IsRindex, IsJindex, HasGroup, HasJournal, IsUnder}
-use Rattle.image_model.specs.Groups.{groups_in, entry_length, IsGroupAt, IsListed, end_of, IsHeaderOf, IsDataOf, IsNear, GroupFits, group_blocks, bitmap_of, group_header, states_in, state_of, count_of}
+use Rattle.gfs2_layout.specs.Groups.{bitmap_of, group_header, states_in, count_of}
+use Rattle.image_model.specs.Groups.{groups_in, entry_length, IsGroupAt, IsListed, end_of, IsHeaderOf, IsDataOf, IsNear, GroupFits, group_blocks, state_of}
 use Rattle.gfs2_layout.specs.Inode.{Leads, entry_block, dinode_in, height_in, is_directory_in, is_hashed_in, fan, span, content_block, content_of, content_count, table_count, depth_in, entry, index_bits, leaf_in, leaf_area, linear_area, top_bits, head_of}
 use Rattle.image_model.specs.Image.{Image, superblock_in}
 use Rattle.gfs2_layout.specs.Headers.{HasHeader}

@@ -11,7 +11,8 @@ use Rattle.dinode_tree.specs.Broken.{IsBroken, of_dinode, of_indirect, of_table}
 use Rattle.dinode_tree.specs.Broken as broken
 use Rattle.dinode_tree.specs.Reading.{IsNeeded, IsOnWay, the_dinode, led_to}
 use Rattle.glock_names.specs.declared.steps.Missing.{Missing}
-use Rattle.dinode_tree.specs.Shown.{IsShown, HasBlock, IsOfView}
+use Rattle.dinode_tree.specs.Shown.{IsShown}
+use Rattle.glock_names.specs.Views.{HasBlock, IsOfView}
 use Rattle.image_model.specs.Claims.{every, Claims, below, HasInode}
 use Rattle.image_model.specs.Image.{Image}
 use Rattle.image_model.specs.Owners.{Owner, is_dinode}

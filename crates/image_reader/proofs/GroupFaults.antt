@@ -15,7 +15,8 @@ use Rattle.gfs2_layout.specs.declared.group_header.GroupHeader.{GroupHeader}
 use Rattle.gfs2_layout.specs.declared.rindex.Rindex.{Rindex}
 use Rattle.image_reader.specs.Bitmaps.{header_of, Repeats, bits_in, state_by, AreAllClaims}
 use Rattle.image_model.specs.Claims.{HasGroup}
-use Rattle.image_model.specs.Groups.{GroupFits, IsDataOf, bitmap_of, group_blocks, count_of}
+use Rattle.gfs2_layout.specs.Groups.{bitmap_of, count_of}
+use Rattle.image_model.specs.Groups.{GroupFits, IsDataOf, group_blocks}
 use Rattle.image_model.specs.Image.{Image}
 use Rattle.image_model.specs.Owners.{Owner}
 use Rattle.image_reader.specs.Owning.{owner_of}

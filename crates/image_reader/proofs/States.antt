@@ -2,7 +2,7 @@
 use Rattle.std.proofs.Common.{◌≡◌, ℕ, ◌+◌, ◌==◌, cond, List, arith}
 use Rattle.std.proofs.lemmas.List.FromFn.{sum_by-map-range_with_len_more}
 use Rattle.gfs2_layout.specs.Bitmap.{state_at}
-use Rattle.image_model.specs.Groups.{count_of}
+use Rattle.gfs2_layout.specs.Groups.{count_of}
 use Rattle.image_reader.specs.Reading.{states_of}
 
 -- one more block

@@ -4,7 +4,8 @@ use Rattle.std.specs.List.{range_with_len}
 use Rattle.gfs2_layout.specs.declared.group_header.GroupHeader.{GroupHeader}
 use Rattle.gfs2_layout.specs.declared.rindex.Rindex.{Rindex}
 use Rattle.image_model.specs.Claims.{Claims}
-use Rattle.image_model.specs.Groups.{state_of, bitmap_of, group_blocks, group_header}
+use Rattle.gfs2_layout.specs.Groups.{bitmap_of, group_header}
+use Rattle.image_model.specs.Groups.{state_of, group_blocks}
 use Rattle.image_model.specs.Image.{Image}
 use Rattle.image_model.specs.Owners.{Owner}
 use Rattle.image_reader.specs.Owning.{owner_of, AreClaims}

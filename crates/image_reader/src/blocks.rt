@@ -3,7 +3,7 @@ ghost use Rattle.gfs2_layout.specs.Bytes.{u64_at};
 ghost use Rattle.gfs2_layout.specs.Structures.{dinode_length};
 
 use crate::image::{Image, ImageFault, damaged};
-use gfs2_layout::{MetaHeader, superblock_block};
+use gfs2_layout::{has_header, superblock_block};
 
 /// The blocks of an image, which are borrowed.
 #[derive(Clone, Copy)]
@@ -106,10 +106,7 @@ impl<'a> Block<'a> {
     pub fn has_header(&self, kind: u32, format: u32) -> bool
         ensures { IsTrue result ↔ HasHeader kind format ((image_at self.now.image).at self.now.number) }
     {
-        match MetaHeader::read(self.bytes()) {
-            Ok(header) => header.kind == kind && header.format == format,
-            Err(_) => false,
-        }
+        has_header(self.bytes(), kind, format)
     }
 
     /// That it begins so.

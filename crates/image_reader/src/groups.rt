@@ -6,7 +6,8 @@ ghost use Rattle.gfs2_layout.specs.Structures.{rindex_of};
 ghost use Rattle.gfs2_layout.specs.declared.rindex.Rindex.{Rindex as IndexEntry};
 ghost use Rattle.image_model.specs.Claims.{every, IsRindex, HasGroup};
 ghost use Rattle.image_model.specs.Listing.{RiseFrom, end_after};
-ghost use Rattle.image_model.specs.Groups.{groups_in, GroupFits, IsListed, IsDataOf, count_of, end_of as first_behind};
+ghost use Rattle.gfs2_layout.specs.Groups.{count_of};
+ghost use Rattle.image_model.specs.Groups.{groups_in, GroupFits, IsListed, IsDataOf, end_of as first_behind};
 ghost use Rattle.image_reader.specs.Reading.{image_at, states_of, IsTrueOf};
 
 use crate::blocks::Blocks;

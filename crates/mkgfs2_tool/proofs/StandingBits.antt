@@ -13,7 +13,7 @@ use Rattle.gfs2_layout.specs.Structures.{group_of, header_fault}
 use Rattle.gfs2_layout.specs.Writing.{group_fields, group_put, header_put}
 use Rattle.gfs2_layout.specs.declared.group_header.GroupHeader.{GroupHeader}
 use Rattle.gfs2_layout.specs.declared.header.MetaHeader.{MetaHeader}
-use Rattle.image_model.specs.Groups.{bitmap_of}
+use Rattle.gfs2_layout.specs.Groups.{bitmap_of}
 use Rattle.gfs2_layout.specs.Headers.{HasHeader}
 use Rattle.image_model.specs.Image.{Blocks}
 use Rattle.mkgfs2_tool.specs.Groups.{last_group, group_address, group_blocks, headers_of, data_blocks, data_before}

@@ -10,7 +10,8 @@ use Rattle.gfs2_layout.specs.Structures.{group_of}
 use Rattle.gfs2_layout.specs.Writing.{group_fields}
 use Rattle.gfs2_layout.specs.declared.group_header.GroupHeader.{GroupHeader}
 use Rattle.gfs2_layout.specs.declared.rindex.Rindex.{Rindex}
-use Rattle.image_model.specs.Groups.{group_blocks, bitmap_of, group_header, states_in, state_of, states_of, count_of, IsGroup, IsListed}
+use Rattle.gfs2_layout.specs.Groups.{bitmap_of, group_header, states_in, count_of}
+use Rattle.image_model.specs.Groups.{group_blocks, state_of, states_of, IsGroup, IsListed}
 use Rattle.gfs2_layout.specs.Headers.{HasHeader}
 use Rattle.image_model.specs.Image.{Blocks}
 use Rattle.mkgfs2_tool.specs.Groups.{last_group, group_address, group_blocks as blocks_of, headers_of, first_data, data_blocks, data_before}

@@ -1,5 +1,5 @@
 use Rattle.std.proofs.Common.{◌≡◌, ◌≤◌}
-use Rattle.image_model.specs.Groups.{count_of}
+use Rattle.gfs2_layout.specs.Groups.{count_of}
 use Rattle.image_reader.specs.Reading.{states_of}
 use Rattle.image_reader.proofs.groups.count_states.Given as goal
 

@@ -5,7 +5,7 @@ use Rattle.gfs2_layout.specs.Inode.{dinode_in, Fits}
 use Rattle.std.proofs.Common.{◌≡◌, [], ap, ◌∙◌}
 use Rattle.image_mount.proofs.Marked.{has_kept}
 use Rattle.image_mount.proofs.Shown.{shown, inode_at, damage_told, kept_on}
-use Rattle.dinode_tree.specs.Shown.{HasBlock}
+use Rattle.glock_names.specs.Views.{HasBlock}
 use Rattle.dinode_tree.specs.Reading.{IsRightDinode}
 use Rattle.image_mount.proofs.Steps.{answer_at, seen_in, shown_by}
 use Rattle.image_mount.specs.Kept.{seen_of}
