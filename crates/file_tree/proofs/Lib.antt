@@ -1,3 +1,4 @@
+pub mod Slices
 pub mod Entries
 pub mod Places
 pub mod MapLaws
@@ -12,3 +13,7 @@ pub mod Faults
 pub mod Parsing
 pub mod FaultsRead
 pub mod Rows
+pub mod Directories
+pub mod WalkLaws
+pub mod MoveLaws
+pub mod Contents

@@ -1,10 +1,11 @@
 -- A directory as a map from names to trees.
-use Rattle.std.proofs.Common.{◌≡◌, ℕ, Bool, true, false, List, Option, Some, None, refl, sym, ap, subst, ◌∙◌}
+use Rattle.std.proofs.Common.{◌≡◌, ◌≢◌, ℕ, inl, inr, Bool, true, false, List, Option, Some, refl, sym, ap, ◌∙◌}
 use Rattle.std.specs.Prelude.{if◌then◌else◌}
 use Rattle.std.specs.Ordering.{is_eq}
 use Rattle.std.specs.Str.{bytes_eq}
 use Rattle.std.specs.declared.cmp.Ordering.{Ordering}
 use Rattle.std.specs.declared.cmp.Ordering.TheVariants.{Less, Equal, Greater}
+use Rattle.std.proofs.lemmas.Bool.{cases_Bool}
 use Rattle.std.proofs.lemmas.Map.Text.{is_eq-slice_cmp}
 use Rattle.std.proofs.lemmas.Slice.Eq.{bytes_eq-Decides}
 use Rattle.file_tree.specs.Tree.{Tree, Entries, none, entry, name_order, if_equal, by_order, look, set}
@@ -49,3 +50,25 @@ by_place k u es n t m Greater is more =
 pub look-set : (es : Entries) (n : List ℕ) (t : Tree) (m : List ℕ) → look (set es n t) m ≡ (if bytes_eq m n then Some t else look es m)
 look-set none n t m = look-entry n t none m
 look-set (entry k u es) n t m = by_place k u es n t m (name_order n k) refl (look-set es n t m)
+
+-- ---- a name beside itself, and beside another one
+
+is_equal : (r : Ordering) → is_eq r ≡ true → r ≡ Equal
+is_equal Less e = cc
+is_equal Equal e = refl
+is_equal Greater e = cc
+
+pub order_self : (n : List ℕ) → name_order n n ≡ Equal
+order_self n = is_equal _ (order_same n n refl)
+
+pub look_self : {A : Type 0} (n : List ℕ) (a b : A) → if_equal (name_order n n) a b ≡ a
+look_self n a b = rw (order_self n) refl
+
+pub look_eq : {A : Type 0} (n m : List ℕ) (a b : A) → n ≡ m → if_equal (name_order n m) a b ≡ a
+look_eq n m a b e = ap (λ z. if_equal (name_order z m) a b) e ∙ look_self m a b
+
+unequal_test : (n m : List ℕ) → n ≢ m → bytes_eq n m ≡ false
+unequal_test n m d = elim (cases_Bool (bytes_eq n m)) [ inl e ↦ absurd (d ((bytes_eq-Decides n m).0 e)) | inr e ↦ e ]
+
+pub look_other : {A : Type 0} (n m : List ℕ) (a b : A) → n ≢ m → if_equal (name_order n m) a b ≡ b
+look_other n m a b d = by_test (name_order n m) a b ∙ ap (λ (t : Bool). if t then a else b) (is_eq-slice_cmp n m ∙ unequal_test n m d)

@@ -1,5 +1,5 @@
 -- The place of a name among names that rise.
-use Rattle.std.proofs.Common.{◌≡◌, ◌≢◌, ℕ, zero, suc, ◌+◌, ◌<◌, ◌≤◌, Bool, true, false, List, [], ◌∷◌, length, get_or, Option, Result, Ok, Err, Some, None, IfOk, IfErr, refl, sym, ap, subst, ◌∙◌, arith}
+use Rattle.std.proofs.Common.{◌≡◌, ◌≢◌, ℕ, zero, suc, ◌+◌, ◌<◌, ◌≤◌, List, [], ◌∷◌, length, get_or, Option, Result, Ok, Err, Some, None, IfOk, IfErr, refl, ap, subst, ◌∙◌, arith}
 use Rattle.std.specs.List.Sorted.{IsSearchInRange, IsBinarySearchResult, IsNonDecreasingBy, IsSortedBy}
 use Rattle.std.specs.Ordering.{ordering_index, ordering_reverse, is_lt}
 use Rattle.std.specs.Cmp.Lexicographic.{nat_list_cmp_total}
@@ -8,20 +8,21 @@ use Rattle.std.specs.declared.cmp.Ordering.TheVariants.{Less, Equal, Greater}
 use Rattle.std.proofs.lemmas.List.Sorted.{searchable_from_sorted}
 use Rattle.file_tree.specs.Tree.{Tree, Entries, none, entry, name_order, if_equal, look, set, IsBelowFirst, IsTree, AreEntries}
 use Rattle.file_tree.specs.Names.{IsName}
-use Rattle.file_tree.specs.Held.{entries_held, IsPlace, NamesRise}
+use Rattle.file_tree.specs.Held.{entries_held, IsPlace, IsEntryAt, NamesRise}
 use Rattle.file_tree.specs.declared.tree.Entry.{Entry}
+use Rattle.file_tree.proofs.MapLaws.{same_order}
 
 reversed : (n m : List ℕ) (o : Ordering) → name_order n m ≡ o → name_order m n ≡ ordering_reverse o
 reversed n m o is = nat_list_cmp_total.antisymm m n ∙ ap ordering_reverse is
 
 -- ---- names that rise
 
-below_rest : (es : Entries) (m n : List ℕ) → IsBelowFirst m es → name_order n m ≡ Less → IsBelowFirst n es
+pub below_rest : (es : Entries) (m n : List ℕ) → IsBelowFirst m es → name_order n m ≡ Less → IsBelowFirst n es
 below_rest none m n low less = tt
 below_rest (entry k u es) m n low less = nat_list_cmp_total.trans n m k less low
 
 -- a name below the first is not there
-below_all : (es : Entries) (n : List ℕ) → IsBelowFirst n es → NamesRise es → look es n ≡ None
+pub below_all : (es : Entries) (n : List ℕ) → IsBelowFirst n es → NamesRise es → look es n ≡ None
 below_all none n low rise = refl
 below_all (entry m t es) n low rise = rw low (below_all es n (below_rest es m n rise.0 low) rise.1)
 
@@ -41,6 +42,22 @@ there_at (e ∷ es) (suc i) n below is = by_first (name_order n e.name) (look (e
     by_first Less rest some = some
     by_first Equal rest some = λ none. cc
     by_first Greater rest some = some
+
+-- a name below the first is below each
+below_each : (es : List Entry) (i : ℕ) (m : List ℕ) (d : Entry) → IsBelowFirst m (entries_held es) → NamesRise (entries_held es) → i < length es
+    → name_order m (get_or es i d).name ≡ Less
+below_each [] i m d low rise below = absurd (omega arith)
+below_each (e ∷ es) zero m d low rise below = low
+below_each (e ∷ es) (suc i) m d low rise below = below_each es i m d (below_rest (entries_held es) e.name m rise.0 low) rise.1 (omega arith)
+
+-- where an entry has the name, all before it have lower ones
+entry_at : (es : List Entry) (i : ℕ) (n : List ℕ) (d : Entry) → NamesRise (entries_held es) → i < length es → name_order (get_or es i d).name n ≡ Equal → IsEntryAt es i n
+entry_at [] i n d rise below is = absurd (omega arith)
+entry_at (e ∷ es) zero n d rise below is = reversed e.name n Equal is
+entry_at (e ∷ es) (suc i) n d rise below is = (
+  reversed e.name n Less (subst (λ m. name_order e.name m ≡ Less) (same_order (get_or es i d).name n is) (below_each es i e.name d rise.0 rise.1 (omega arith))),
+  entry_at es i n d rise.1 (omega arith) is,
+)
 
 -- between those below it and those above it is its place
 pub place_between : (es : List Entry) (i : ℕ) (n : List ℕ) → i ≤ length es
@@ -77,16 +94,22 @@ comparisons_rise es n rise = searchable_from_sorted nat_list_cmp_total (λ (e : 
 -- what a binary search by name answers
 pub record IsSearched (es : List Entry) (n : List ℕ) (r : Result ℕ ℕ) : Type 0 where
   pub there : IfOk r (λ i. look (entries_held es) n ≢ None)
+  pub at : IfOk r (λ i. IsEntryAt es i n)
+  pub inside : IfOk r (λ i. i < length es)
   pub absent : IfErr r (λ i. look (entries_held es) n ≡ None)
   pub place : IfErr r (λ i. IsPlace es i n)
   pub within : IfErr r (λ i. i ≤ length es)
 
 pub searched : (es : List Entry) (n : List ℕ) (r : Result ℕ ℕ) → NamesRise (entries_held es) → IsSearchInRange r (length es) → IsBinarySearchResult (order_to n) es r → IsSearched es n r
-searched es n (Ok i) rise range equal = record { there = there_at es i n range equal; absent = tt; place = tt; within = tt }
+searched es n (Ok i) rise range equal = record { there = there_at es i n range equal; at = first es rise range equal; inside = range; absent = tt; place = tt; within = tt }
+  where
+    first : (es : List Entry) → NamesRise (entries_held es) → i < length es → ((d : Entry) → name_order (get_or es i d).name n ≡ Equal) → IsEntryAt es i n
+    first [] rise below is = absurd (omega arith)
+    first (e ∷ es) rise below is = entry_at (e ∷ es) i n e rise below (is e)
 searched es n (Err i) rise range parted =
     let parts = parted (comparisons_rise es n rise) in
     let place : IsPlace es i n = place_between es i n range (λ k d below. parts.0 k d (omega arith) below) (λ k d from below. parts.1 k d from below) in
-    record { there = tt; absent = absent_at es i n rise place; place = place; within = range }
+    record { there = tt; at = tt; inside = tt; absent = absent_at es i n rise place; place = place; within = range }
 
 -- ---- a name that is set
 

@@ -1,6 +1,6 @@
 -- The tree that a node in memory stands for.
 use Rattle.std.specs.Prelude.{ℕ, zero, suc, ◌≡◌, ⊤, List, [], ◌∷◌}
-use Rattle.std.specs.declared.cmp.Ordering.TheVariants.{Less, Greater}
+use Rattle.std.specs.declared.cmp.Ordering.TheVariants.{Less, Equal, Greater}
 use Rattle.file_tree.specs.Tree.{Tree, Entries, file, dir, none, entry, name_order, IsBelowFirst}
 use Rattle.file_tree.specs.declared.tree.Node.{Node}
 use Rattle.file_tree.specs.declared.tree.Node.TheVariants.{File, Dir}
@@ -29,3 +29,9 @@ IsPlace [] zero name = ⊤
 IsPlace [] (suc place) name = ⊥
 IsPlace (e ∷ es) zero name = name_order name e.name ≡ Less
 IsPlace (e ∷ es) (suc place) name = (name_order name e.name ≡ Greater) × IsPlace es place name
+
+-- the entry at this place has the name, and all before it lower ones
+abbrev pub IsEntryAt : List Entry → ℕ → List ℕ → Type 0
+IsEntryAt [] place name = ⊥
+IsEntryAt (e ∷ es) zero name = name_order name e.name ≡ Equal
+IsEntryAt (e ∷ es) (suc place) name = (name_order name e.name ≡ Greater) × IsEntryAt es place name

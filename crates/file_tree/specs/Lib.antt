@@ -7,3 +7,4 @@ pub mod TreeFalls
 pub mod PathText
 pub mod CallText
 pub mod PathFaults
+pub mod Walks

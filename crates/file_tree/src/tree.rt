@@ -1,7 +1,7 @@
-ghost use Rattle.std.specs.Prelude.{◌≡◌, ◌≢◌, ◌≤◌, ◌↔◌, length, IfOk, IfErr, OnOk, OnErr, None, IsTrue};
+ghost use Rattle.std.specs.Prelude.{◌≡◌, ◌≢◌, ◌<◌, ◌≤◌, ◌↔◌, length, IfOk, IfErr, OnOk, OnErr, None, IsTrue};
 ghost use Rattle.file_tree.specs.Tree.{file, dir, none, look, set, IsDir};
 ghost use Rattle.file_tree.specs.Apply.{entries_of};
-ghost use Rattle.file_tree.specs.Held.{entries_held, IsPlace, NamesRise};
+ghost use Rattle.file_tree.specs.Held.{entries_held, IsEntryAt, IsPlace, NamesRise};
 
 use crate::{Content, Name, NoMemory};
 use std::alloc::Global;
@@ -101,6 +101,8 @@ impl Tree {
 fn place_of(entries: &[Entry], name: &[u8]) -> Result<usize, usize>
     requires { NamesRise (entries_held entries.now) }
     ensures there { IfOk result (λ _. look (entries_held entries.now) name.now ≢ None) }
+    ensures at { IfOk result (λ place. IsEntryAt entries.now place name.now) }
+    ensures inside { IfOk result (λ place. place < length entries.now) }
     ensures absent { IfErr result (λ _. look (entries_held entries.now) name.now ≡ None) }
     ensures place { IfErr result (λ place. IsPlace entries.now place name.now) }
     ensures within { IfErr result (λ place. place ≤ length entries.now) }
@@ -155,5 +157,12 @@ fn copy_entries(entries: &Vec<Entry>) -> Result<Vec<Entry>, NoMemory>
     Ok(all)
 }
 
+mod apply;
+mod changes;
+mod edits;
+mod files;
+mod moves;
+mod paths;
+mod reads;
 #[cfg(test)]
 mod tests;

@@ -1,4 +1,4 @@
-use Rattle.std.proofs.Common.{◌≡◌, ℕ, List, sym, ap, ◌∙◌}
+use Rattle.std.proofs.Common.{ℕ, List, sym, ap, ◌∙◌}
 use Rattle.file_tree.specs.Tree.{name_order}
 use Rattle.file_tree.proofs.NameLists.{there}
 use Rattle.file_tree.proofs.names.place_among.Goals as goal

@@ -1,5 +1,4 @@
 use Rattle.std.proofs.Common.{◌≡◌, ℕ, List, sym, ap, ◌∙◌, subst}
-use Rattle.std.specs.Prelude.{insert}
 use Rattle.file_tree.specs.Tree.{set}
 use Rattle.file_tree.specs.Held.{entries_held, IsPlace, NamesRise}
 use Rattle.file_tree.specs.declared.tree.Entry.{Entry}
