@@ -7,6 +7,7 @@ use Rattle.trace_text.specs.declared.item.TraceItem.{TraceItem}
 use Rattle.trace_text.specs.declared.item.TraceItem.TheVariants as trace
 use Rattle.script_lang.specs.declared.script.Client.{Client}
 use Rattle.run_rules.specs.Lives.{Life, AcceptedHead, own_from}
+use Rattle.run_rules.specs.Recoveries.{is_recovering, recoveries_are_told}
 use Rattle.cluster_laws.specs.Files.{Files, Image, Un, laid}
 use Rattle.cluster_laws.specs.Book.{at, flushed, settled, relocked}
 use Rattle.cluster_laws.specs.Mirror.{Head, Heads, either, ended, flown, headed, chosen}
@@ -21,7 +22,7 @@ use Rattle.tree_histories.specs.Trees.{Images, Trees}
 use Rattle.head_laws.specs.Example.{clean}
 use Rattle.head_laws.specs.Journals.{Journal, Events, IsNew, IsFirst, Says, Joins, Done, Then}
 use Rattle.head_laws.specs.Traces.{Told, journal_of, Begins}
-use Rattle.head_laws.specs.Tellings.{Beside, told_of, Changed, Replay, Settled, Tellings, Nothing, AnEvent, AnItem, Lands}
+use Rattle.head_laws.specs.Tellings.{Beside, told_of, place_of, slots_of, GoesOn, Changed, Replay, Settled, Tellings, Nothing, AnEvent, AnItem, Lands}
 use Rattle.head_laws.specs.DirtyStart.{dirty_start, disk_heads, dirty_begin, dirty_run, DirtyStartIsTold}
 use Rattle.head_laws.proofs.Items.{eqb-other}
 
@@ -248,15 +249,20 @@ module _ (I : Images) (clients : List Client) (m : Image (Trees I)) (t : Tree) (
   unsaid : (t : Told I) (names : ℕ → Bool → AcceptedHead) → t.items ≡ t.items ++ [] → Changed I t (untold t names) names (t.silent) []
   unsaid t names same = record { named = refl; silenced = refl; said = same }
 
+  -- no slot's recovery is being told, or it goes on
+  goes : (t : Told I) (more : List TraceItem) → recoveries_are_told (slots_of I t) more ≡ true
+      → ((i : ℕ) → is_recovering i (place_of (t.items)) ≡ true → is_recovering i (place_of (t.items ++ more)) ≡ true) → GoesOn I t (t.items ++ more)
+  goes t more told through = record { more = more; said = refl; told = told; through = λ i waits is. through i is }
+
   at_home : Tellings I clients disk_heads a t3
   at_home =
       AnItem _ (trace.WriteReplay 1 31)
       (AnEvent t2 (untold t2 (t2.names)) c2 lands
       (AnItem _ (trace.Barrier 1)
       (AnEvent t1 (untold t1 (t1.names)) c1 writes
-      (AnItem a (trace.WriteReplay 1 5) Nothing tt)
-      (unsaid t1 (t1.names) refl)) tt)
-      (unsaid t2 (t2.names) refl)) tt
+      (AnItem a (trace.WriteReplay 1 5) Nothing tt (goes a (trace.WriteReplay 1 5 ∷ []) refl (λ i e. no-way e)))
+      (unsaid t1 (t1.names) refl) (goes t1 [] refl (λ i e. e))) tt (goes (told_of I c1 (untold t1 (t1.names))) (trace.Barrier 1 ∷ []) refl (λ i e. no-way e)))
+      (unsaid t2 (t2.names) refl) (goes t2 [] refl (λ i e. e))) tt (goes (told_of I c2 (untold t2 (t2.names))) (trace.WriteReplay 1 31 ∷ []) refl (λ i e. no-way e))
 
   is_clean : Tellings I clients disk_heads a t6
   is_clean =
@@ -264,8 +270,9 @@ module _ (I : Images) (clients : List Client) (m : Image (Trees I)) (t : Tree) (
       (AnEvent t4 (untold t4 names5) c4 ends-clean
       (AnItem _ (trace.Barrier 1)
       (AnEvent t3 (untold t3 names4) c3 begins-clean at_home
-      (Replay (clean 31 9) refl (inr (inr refl)) (unsaid t3 names4 refl))) tt)
-      (Settled (λ runs. refl) (unsaid t4 names5 refl)))
+      (Replay (clean 31 9) refl (inr (inr refl)) (unsaid t3 names4 refl)) (goes t3 [] refl (λ i e. e)))
+      tt (goes (told_of I c3 (untold t3 names4)) (trace.Barrier 1 ∷ []) refl (λ i e. no-way e)))
+      (Settled (λ runs. refl) (unsaid t4 names5 refl)) (goes t4 [] refl (λ i e. e)))
       (record { waits = refl; over = inr (inl refl); alone = refl })
 
   -- behind the item that the slot is recovered the disk has the clean header
@@ -277,9 +284,10 @@ module _ (I : Images) (clients : List Client) (m : Image (Trees I)) (t : Tree) (
       AnEvent t8 (untold t8 (t8.names)) c7 past-ends
       (AnEvent t7 (untold t7 (t7.names)) c6 recovers
       (AnItem _ (trace.Recovered 1 1)
-      (AnEvent t6 (untold t6 (t6.names)) c5 settles is_clean (unsaid t6 (t6.names) refl)) refl)
-      (its-first, unsaid t7 (t7.names) refl))
-      (refl, unsaid t8 (t8.names) refl)
+      (AnEvent t6 (untold t6 (t6.names)) c5 settles is_clean (unsaid t6 (t6.names) refl) (goes t6 [] refl (λ i e. e)))
+      (refl, (λ e. absurd (omega (arith, e)))) (goes (told_of I c5 (untold t6 (t6.names))) (trace.Recovered 1 1 ∷ []) refl (λ i e. no-way e)))
+      (refl, its-first, unsaid t7 (t7.names) refl) (goes t7 [] refl (λ i e. e)))
+      (refl, unsaid t8 (t8.names) refl) (goes t8 [] refl (λ i e. e))
 
   nobody-waits : (i : ℕ) → (c7.waits i) ≡ false
   nobody-waits i = by (i == 1) (i == 9)

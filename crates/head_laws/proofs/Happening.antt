@@ -324,7 +324,7 @@ module _ (I : Images) (clients : List Client) (behind : ℕ → ℕ → Accepted
   steps _ (cluster.IsGranted i locks here none taken) ch = quiet I clients behind t u base _ (cluster.IsGranted i locks here none taken) ch (λ k. refl) refl
   steps _ (cluster.GoesDown i locks cache here weakens all clean cached) ch = quiet I clients behind t u base _ (cluster.GoesDown i locks cache here weakens all clean cached) ch (λ k. refl) refl
   steps _ cluster.Views ch = quiet I clients behind t u base _ cluster.Views ch (λ k. refl) refl
-  steps _ (cluster.Recovers i here wait nothing_left unheaded told) (its-first, ch) =
+  steps _ (cluster.Recovers i here wait nothing_left unheaded told) (said, its-first, ch) =
       step-same I clients behind t u _ (cluster.Recovers i here wait nothing_left unheaded told) i (t.names) (t.silent) [] ch base refl refl (record (journal_of I t i) { waits = false })
       (same-journal _ _ refl (sym (at-same (c.waits) i false)) refl refl refl refl refl refl refl)
       (unspoken i (behind i) (journal_of I t i) _ (t.items) (journals.IsRecovered wait told unheaded its-first))
@@ -388,7 +388,7 @@ module _ (I : Images) (clients : List Client) (behind : ℕ → ℕ → Accepted
 
   says : (x : TraceItem) → MaySay I t x → (k : ℕ) → Happens k (behind k) (journal_of I t k) (t.items) (journal_of I t k) (t.items ++ x ∷ [])
   says (trace.WriteLog i block) may k = log-says i block may k
-  says (trace.Recovered i r) may k = recovered-says i r may k
+  says (trace.Recovered i r) may k = recovered-says i r (may.0) k
   says (trace.Join i) may k = absurd may
   says (trace.WriteHead i block sequence upto) may k = absurd may
   says (trace.WriteClean i block sequence upto) may k = absurd may
@@ -432,11 +432,11 @@ item-step I clients behind t x base may = record {
 
 every-run : (I : Images) (clients : List Client) (behind : ℕ → ℕ → AcceptedHead) (a t : Told I) → Begins I clients behind a → Tellings I clients behind a t → Steps I clients behind a t
 every-run I clients behind a _ begins tellings.Nothing = Done
-every-run I clients behind a _ begins (AnEvent t u d event before told) =
+every-run I clients behind a _ begins (AnEvent t u d event before told goes) =
     let so_far = every-run I clients behind a t begins before in
     let together = (every_cluster (Trees I) (a.cluster) (t.cluster) (begins.starts) (events-of I clients behind a t so_far)).0 in
     Then t (told_of I d u) so_far (steps I clients behind t u together (history-is I clients behind a t begins so_far) d event told)
-every-run I clients behind a _ begins (AnItem t x before may) =
+every-run I clients behind a _ begins (AnItem t x before may goes) =
     let so_far = every-run I clients behind a t begins before in
     Then t _ so_far (item-step I clients behind t x (history-is I clients behind a t begins so_far) may)
 every-run I clients behind a _ begins (tellings.Lands t i h before may) =
@@ -483,14 +483,14 @@ module _ (I : Images) (clients : List Client) (behind : ℕ → ℕ → Accepted
   passes : (t : Told I) (n : ℕ) → Begins I clients behind a → Tellings I clients behind a t → length (a.items) ≤ n → n ≤ length (t.items) → IsPassed I clients behind a t n
   passes _ n begins tellings.Nothing low high =
       record { between = a; before = tellings.Nothing; after = tellings.Nothing; items = take-all n (a.items) (omega (arith, low, high)) }
-  passes _ n begins (AnEvent t u d event before told) low high =
+  passes _ n begins (AnEvent t u d event before told goes) low high =
       let so_far = every-run I clients behind a t begins before in
       let together = (every_cluster (Trees I) (a.cluster) (t.cluster) (begins.starts) (events-of I clients behind a t so_far)).0 in
       let step = steps I clients behind t u together (history-is I clients behind a t begins so_far) d event told in
-      more-passed t (told_of I d u) n (λ h. passes t n begins before low h) (AnEvent t u d event before told) (λ b run. AnEvent t u d event run told)
+      more-passed t (told_of I d u) n (λ h. passes t n begins before low h) (AnEvent t u d event before told goes) (λ b run. AnEvent t u d event run told goes)
       (grows I 0 (behind 0) (journal_of I t 0) (journal_of I (told_of I d u) 0) (t.items) (u.items) (step.journals 0)) high
-  passes _ n begins (AnItem t x before may) low high =
-      more-passed t (record t { items = t.items ++ x ∷ [] }) n (λ h. passes t n begins before low h) (AnItem t x before may) (λ b run. AnItem t x run may) (inr (x, refl)) high
+  passes _ n begins (AnItem t x before may goes) low high =
+      more-passed t (record t { items = t.items ++ x ∷ [] }) n (λ h. passes t n begins before low h) (AnItem t x before may goes) (λ b run. AnItem t x run may goes) (inr (x, refl)) high
   passes _ n begins (tellings.Lands t i h before may) low high =
       more-passed t (record t { names = at (t.names) i (λ d. h) }) n (λ g. passes t n begins before low g) (tellings.Lands t i h before may) (λ b run. tellings.Lands t i h run may) (inl refl) high
 

@@ -1,5 +1,5 @@
 -- That a run from a dirty start can be told. Node 1's journal has one block live, which is the past's; node 1 replays it, and its slot is recovered.
-use Rattle.std.specs.Prelude.{ℕ, ◌≡◌, ◌==◌, ◌&&◌, ◌||◌, false, None, Some, List, [], ◌∷◌, if◌then◌else◌}
+use Rattle.std.specs.Prelude.{ℕ, ◌≡◌, ◌==◌, nat_lt, ◌&&◌, ◌||◌, false, None, Some, List, [], ◌∷◌, if◌then◌else◌}
 use Rattle.file_tree.specs.Tree.{Tree}
 use Rattle.trace_text.specs.declared.item.TraceItem.{TraceItem}
 use Rattle.trace_text.specs.declared.item.TraceItem.TheVariants as trace
@@ -43,9 +43,9 @@ dirty_begin I m t d said = record {
 abbrev pub dirty_run : List TraceItem
 dirty_run = trace.Join 1 ∷ trace.WriteReplay 1 5 ∷ trace.Barrier 1 ∷ trace.WriteReplay 1 31 ∷ trace.Barrier 1 ∷ trace.Recovered 1 1 ∷ []
 
--- what the disk has behind so many of these items
+-- what the disk has behind so many of these items: behind the second barrier the clean header
 abbrev pub disk_heads : ℕ → ℕ → AcceptedHead
-disk_heads i p = if (p == 6) && (i == 1) then clean 31 9 else heads_at_start i
+disk_heads i p = if nat_lt 4 p && (i == 1) then clean 31 9 else heads_at_start i
 
 -- over any image that stands for a tree
 abbrev pub DirtyStartIsTold : Images → Type 0

@@ -1,10 +1,11 @@
 -- What a trace has to tell of each event of a cluster, and which items come without one.
-use Rattle.std.specs.Prelude.{ℕ, suc, ◌≡◌, ◌≤◌, ⊤, Bool, true, false, Some, List, [], ◌∷◌, ◌++◌, length, take}
+use Rattle.std.specs.Prelude.{ℕ, suc, ◌≡◌, ◌≤◌, ⊤, Bool, true, false, ◌&&◌, not, Some, List, [], ◌∷◌, ◌++◌, length, take}
 use Rattle.trace_text.specs.declared.item.TraceItem.{TraceItem}
 use Rattle.trace_text.specs.declared.item.TraceItem.TheVariants as trace
 use Rattle.script_lang.specs.declared.script.Client.{Client}
 use Rattle.run_rules.specs.Follows as run
 use Rattle.run_rules.specs.Lives.{Life, AcceptedHead}
+use Rattle.run_rules.specs.Recoveries.{Place, Slots, is_recovering, slots_after, recoveries_are_told, at_start}
 use Rattle.cluster_laws.specs.Book.{at}
 use Rattle.cluster_laws.specs.Mirror.{either}
 use Rattle.cluster_laws.specs.World as world
@@ -27,6 +28,21 @@ pub record Changed (I : Images) (t : Told I) (u : Beside) (names : ℕ → Bool 
   pub named : u.names ≡ names
   pub silenced : u.silent ≡ silent
   pub said : u.items ≡ t.items ++ more
+
+-- where the items are
+abbrev pub place_of : List TraceItem → Place
+place_of items = (slots_after (at_start (λ i. false)) items).place
+
+-- who is a member, and whose slot waits and isn't being told to be recovered
+abbrev pub slots_of : (I : Images) → Told I → Slots
+slots_of I t = record { members = (t.cluster).runs; waits = λ i. (t.cluster).waits i && not (is_recovering i (place_of (t.items))); place = place_of (t.items) }
+
+-- With these items recoveries are told as they have to be; and from the item that a slot is recovered on, until it is, only its losses come.
+pub record GoesOn (I : Images) (t : Told I) (next : List TraceItem) : Type 0 where
+  pub more : List TraceItem
+  pub said : next ≡ t.items ++ more
+  pub told : recoveries_are_told (slots_of I t) more ≡ true
+  pub through : (i : ℕ) → (t.cluster).waits i ≡ true → is_recovering i (place_of (t.items)) ≡ true → is_recovering i (place_of next) ≡ true
 
 -- the header that goes in flight for a journal behind its accepted one
 abbrev pub with_name : (I : Images) → Told I → ℕ → AcceptedHead → ℕ → Bool → AcceptedHead
@@ -72,16 +88,17 @@ Tells I clients behind t u _ (Stops i here runs all) = (x : TraceItem) × IsEnd 
 Tells I clients behind t u _ (Fences i out unfenced idle) = (behind i (suc (length (t.items))) ≡ t.names i false) × Changed I t u (t.names) (t.silent) (trace.Fence i ∷ [])
 Tells I clients behind t u _ (Joins i here out fenced waits) =
     (behind i (length (t.items)) ≡ t.names i false) × Changed I t u (t.names) (t.silent) (trace.Join i ∷ [])
--- of a node that runs: the disk behind the item that its slot is recovered, or behind its join
-Tells I clients behind t u _ (Recovers i here wait nothing unheaded told) = IsFirst i (behind i) (journal_of I t i) (t.items) × Changed I t u (t.names) (t.silent) []
+-- the item stands that the slot is recovered, and its losses; of a node that runs the disk is told behind this item
+Tells I clients behind t u _ (Recovers i here wait nothing unheaded told) =
+    (is_recovering i (place_of (t.items)) ≡ true) × IsFirst i (behind i) (journal_of I t i) (t.items) × Changed I t u (t.names) (t.silent) []
 -- the past has no lives
 Tells I clients behind t u _ (PastEnds waits nothing unheaded) = ((t.cluster).unlost ((t.cluster).past) ≡ 0) × Changed I t u (t.names) (t.silent) []
 Tells I clients behind t u _ _ = Changed I t u (t.names) (t.silent) []
 
--- an item without an event. That a slot is recovered is said while it waits
+-- an item without an event. That a slot is recovered is said while it waits, and not of the past's
 abbrev pub MaySay : (I : Images) → Told I → TraceItem → Type 0
 MaySay I t (trace.WriteLog i block) = t.silent i ≡ false
-MaySay I t (trace.Recovered i r) = (t.cluster).waits i ≡ true
+MaySay I t (trace.Recovered i r) = ((t.cluster).waits i ≡ true) × (i ≡ (t.cluster).past → ⊥)
 MaySay I t (trace.Join i) = ⊥
 MaySay I t (trace.WriteHead i block sequence upto) = ⊥
 MaySay I t (trace.WriteClean i block sequence upto) = ⊥
@@ -97,8 +114,8 @@ MaySay I t _ = ⊤
 pub data Tellings (I : Images) (clients : List Client) (behind : ℕ → ℕ → AcceptedHead) (a : Told I) : Told I → Type 0 where
   Nothing : Tellings I clients behind a a
   AnEvent : (t : Told I) (u : Beside) (d : Cluster (Trees I)) (event : Event (Trees I) (t.cluster) d) → Tellings I clients behind a t → Tells I clients behind t u d event
-      → Tellings I clients behind a (told_of I d u)
-  AnItem : (t : Told I) (x : TraceItem) → Tellings I clients behind a t → MaySay I t x → Tellings I clients behind a (record t { items = t.items ++ x ∷ [] })
+      → GoesOn I t (u.items) → Tellings I clients behind a (told_of I d u)
+  AnItem : (t : Told I) (x : TraceItem) → Tellings I clients behind a t → MaySay I t x → GoesOn I t (t.items ++ x ∷ []) → Tellings I clients behind a (record t { items = t.items ++ x ∷ [] })
   Lands : (t : Told I) (i : ℕ) (h : AcceptedHead) → Tellings I clients behind a t → MayLand I t i → Tellings I clients behind a (record t { names = at (t.names) i (λ d. h) })
 
 -- So each event of the cluster, and each such item, is a step of each journal; and every run is a list of steps.

@@ -35,6 +35,10 @@ after_item s (trace.Recovered i r) = record { members = s.members; waits = set s
 after_item s (trace.Lost i kept) = record { members = s.members; waits = s.waits; place = if is_recovering i s.place then s.place else Ending }
 after_item s _ = record { members = s.members; waits = s.waits; place = Elsewhere }
 
+abbrev pub slots_after : Slots → List TraceItem → Slots
+slots_after s [] = s
+slots_after s (x ∷ xs) = slots_after (after_item s x) xs
+
 abbrev pub none_below : (ℕ → Bool) → ℕ → Bool
 none_below members zero = true
 none_below members (suc n) = not (members n) && none_below members n
