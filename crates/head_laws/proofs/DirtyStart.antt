@@ -82,7 +82,7 @@ module _ (I : Images) (clients : List Client) (m : Image (Trees I)) (t : Tree) (
   ]
 
   begins : F.Stands m t → Begins I clients disk_heads a
-  begins stands = record { starts = starts F (dirty_start I m t d said) (is-start stands); joined = joined; history = refl }
+  begins stands = record { starts = starts F (dirty_start I m t d said) (is-start stands); joined = joined; joins = tt }
 
   -- ---- what comes, where the past has this header and these blocks go home
 

@@ -310,7 +310,7 @@ module _ (I : Images) (clients : List Client) (behind : ℕ → ℕ → Accepted
         | inr waits ↦ inr waits
       ]
 
-  steps : (d : Cluster (Trees I)) (event : Event (Trees I) (t.cluster) d) → Tells I clients behind t u d event → Step I clients behind t (told_of I d u)
+  pub steps : (d : Cluster (Trees I)) (event : Event (Trees I) (t.cluster) d) → Tells I clients behind t u d event → Step I clients behind t (told_of I d u)
   steps _ (cluster.Works w (world.Answers j said v change cache no_sync a) may) ch = quiet I clients behind t u base _ (cluster.Works w (world.Answers j said v change cache no_sync a) may) ch (λ k. refl) refl
   steps _ (cluster.Works w (world.Syncs j said does still calm) may) ch = quiet I clients behind t u base _ (cluster.Works w (world.Syncs j said does still calm) may) ch (λ k. refl) refl
   steps _ (cluster.Works w (world.Writes r b v i live) may) ch = quiet I clients behind t u base _ (cluster.Works w (world.Writes r b v i live) may) ch (λ k. refl) refl
@@ -407,7 +407,7 @@ module _ (I : Images) (clients : List Client) (behind : ℕ → ℕ → Accepted
 
 -- ---- a header of the past's ring
 
-past-lands : (I : Images) (clients : List Client) (behind : ℕ → ℕ → AcceptedHead) (t : Told I) (i : ℕ) (h : AcceptedHead) → run.history_of clients (t.items) ≡ history_of I (((t.cluster).world).items)
+pub past-lands : (I : Images) (clients : List Client) (behind : ℕ → ℕ → AcceptedHead) (t : Told I) (i : ℕ) (h : AcceptedHead) → run.history_of clients (t.items) ≡ history_of I (((t.cluster).world).items)
     → MayLand I t i → Step I clients behind t (record t { names = at (t.names) i (λ d. h) })
 past-lands I clients behind t i h base may = record {
   event = inl refl;
@@ -420,7 +420,7 @@ past-lands I clients behind t i h base may = record {
   history = base;
 }
 
-item-step : (I : Images) (clients : List Client) (behind : ℕ → ℕ → AcceptedHead) (t : Told I) (x : TraceItem) → run.history_of clients (t.items) ≡ history_of I (((t.cluster).world).items)
+pub item-step : (I : Images) (clients : List Client) (behind : ℕ → ℕ → AcceptedHead) (t : Told I) (x : TraceItem) → run.history_of clients (t.items) ≡ history_of I (((t.cluster).world).items)
     → MaySay I t x → Step I clients behind t (record t { items = t.items ++ x ∷ [] })
 item-step I clients behind t x base may = record {
   event = inl refl;
@@ -430,7 +430,7 @@ item-step I clients behind t x base may = record {
 
 -- ---- every run
 
-every-run : (I : Images) (clients : List Client) (behind : ℕ → ℕ → AcceptedHead) (a t : Told I) → Begins I clients behind a → Tellings I clients behind a t → Steps I clients behind a t
+pub every-run : (I : Images) (clients : List Client) (behind : ℕ → ℕ → AcceptedHead) (a t : Told I) → Begins I clients behind a → Tellings I clients behind a t → Steps I clients behind a t
 every-run I clients behind a _ begins tellings.Nothing = Done
 every-run I clients behind a _ begins (AnEvent t u d event before told goes) =
     let so_far = every-run I clients behind a t begins before in

@@ -9,5 +9,6 @@ pub mod Tracing
 pub mod Remaining
 pub mod Example
 pub mod Happening
+pub mod Recoveries
 pub mod DirtyStart
 pub mod Joined

@@ -25,7 +25,7 @@ use Rattle.tree_histories.proofs.Joining.{every_tree_cluster}
 use Rattle.head_laws.specs.Journals.{Journal, Event, Events, IsNew}
 use Rattle.head_laws.specs.Journals as journals
 use Rattle.head_laws.specs.Laws.{with_head, AreTold}
-use Rattle.head_laws.specs.Traces.{Told, journal_of, Happens, Rests, Does, Step, Steps, Done, Then, Begins, LossesAreRight}
+use Rattle.head_laws.specs.Traces.{Told, journal_of, Happens, Rests, Does, Step, Steps, Done, Then, AreJoins, Begins, LossesAreRight}
 use Rattle.head_laws.proofs.Items.{life-there}
 use Rattle.head_laws.proofs.Telling.{heads-are-told}
 
@@ -58,6 +58,12 @@ history-on clients [] ys = refl
 history-on clients (trace.Call node name number call reply ∷ xs) ys = ap (λ (is : List Item). item.Call node (run.place_of clients name) number call reply ∷ is) (history-on clients xs ys)
 history-on clients (trace.Lost node kept ∷ xs) ys = ap (λ (is : List Item). item.Lost node kept ∷ is) (history-on clients xs ys)
 history-on clients (x ∷ xs) ys = history-on clients xs ys
+
+-- joins are no part of it
+join-history : (clients : List Client) (xs : List TraceItem) → AreJoins xs → run.history_of clients xs ≡ []
+join-history clients [] joins = refl
+join-history clients (trace.Join i ∷ xs) joins = join-history clients xs joins
+join-history clients (x ∷ xs) joins = absurd joins
 
 no-losses : {B : Type 0} (clients : List Client) (xs : List TraceItem) (p node kept : ℕ) → run.history_of clients xs ≡ [] → slice_get xs p ≡ Some (trace.Lost node kept) → B
 no-losses clients [] p node kept none is = absurd (let f : None ≡ Some (trace.Lost node kept) = is in cc)
@@ -146,7 +152,7 @@ module _ (I : Images) where
 
   pub history-is : (clients : List Client) (behind : ℕ → ℕ → AcceptedHead) (a t : Told I) → Begins I clients behind a → Steps I clients behind a t
       → run.history_of clients (t.items) ≡ history_of I (((t.cluster).world).items)
-  history-is clients behind a _ begins Done = begins.history ∙ sym (ap (history_of I) (((begins.starts).world).unheard).0)
+  history-is clients behind a _ begins Done = join-history clients (a.items) (begins.joins) ∙ sym (ap (history_of I) (((begins.starts).world).unheard).0)
   history-is clients behind a v begins (Then u _ before step) = step.history
 
   -- one item more at most
@@ -234,7 +240,7 @@ module _ (I : Images) (clients : List Client) (behind : ℕ → ℕ → Accepted
       )
 
 pub losses-right : (I : Images) → LossesAreRight I
-losses-right I clients behind a _ begins Done = λ p node kept is. no-losses clients (a.items) p node kept (begins.history) is
+losses-right I clients behind a _ begins Done = λ p node kept is. no-losses clients (a.items) p node kept (join-history clients (a.items) (begins.joins)) is
 losses-right I clients behind a v begins (Then u _ before step) =
     by (grows I 0 (behind 0) (journal_of I u 0) (journal_of I v 0) (u.items) (v.items) (step.journals 0)) (losses-right I clients behind a u begins before)
   where

@@ -128,6 +128,14 @@ pub record TellingIsStep (I : Images) : Type 0 where
       → MayLand I t i → Step I clients behind t (record t { names = at (t.names) i (λ d. h) })
   pub every : (clients : List Client) (behind : ℕ → ℕ → AcceptedHead) (a t : Told I) → Begins I clients behind a → Tellings I clients behind a t → Steps I clients behind a t
 
+-- So, by the items alone, each recovery is told by one item of the least member, and each loss stands behind it or at the run's end; and a slot that doesn't wait doesn't
+-- by the items: its recovery was told.
+pub record RecoveriesAreTold (I : Images) : Type 0 where
+  pub items : (clients : List Client) (behind : ℕ → ℕ → AcceptedHead) (a t : Told I) → Begins I clients behind a → Tellings I clients behind a t
+      → recoveries_are_told (at_start ((a.cluster).waits)) (t.items) ≡ true
+  pub slots : (clients : List Client) (behind : ℕ → ℕ → AcceptedHead) (a t : Told I) (i : ℕ) → Begins I clients behind a → Tellings I clients behind a t → (i ≡ (t.cluster).past → ⊥)
+      → (t.cluster).waits i ≡ false → (slots_after (at_start ((a.cluster).waits)) (t.items)).waits i ≡ false
+
 -- a front of the items is that of a run, from which this one goes on
 pub record IsPassed (I : Images) (clients : List Client) (behind : ℕ → ℕ → AcceptedHead) (a t : Told I) (n : ℕ) : Type 0 where
   pub between : Told I

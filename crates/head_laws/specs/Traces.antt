@@ -1,5 +1,5 @@
 -- The items of a trace of a cluster over the file tree, as far as they tell of heads and losses.
-use Rattle.std.specs.Prelude.{ℕ, ◌≡◌, ◌<◌, ◌≤◌, ◌⊎◌, Bool, true, false, None, Some, List, [], slice_get}
+use Rattle.std.specs.Prelude.{ℕ, ◌≡◌, ◌<◌, ◌≤◌, ◌⊎◌, ⊤, Bool, true, false, None, Some, List, [], ◌∷◌, slice_get}
 use Rattle.file_tree.specs.declared.call.Call.{Call}
 use Rattle.file_tree.specs.declared.call.Call.TheVariants as calls
 use Rattle.file_tree.specs.declared.reply.Reply.{Reply}
@@ -8,6 +8,7 @@ use Rattle.cluster_history.specs.declared.Item.TheVariants as item
 use Rattle.cluster_history.specs.Changes.{Changes}
 use Rattle.cluster_history.specs.History.{Legal, tree_of}
 use Rattle.trace_text.specs.declared.item.TraceItem.{TraceItem}
+use Rattle.trace_text.specs.declared.item.TraceItem.TheVariants as trace
 use Rattle.script_lang.specs.declared.script.Client.{Client}
 use Rattle.run_rules.specs.Follows as run
 use Rattle.run_rules.specs.Lives.{Life, AcceptedHead, TraceKeptRight, upto_of, losses_of, lives_of, life_at, remains}
@@ -57,11 +58,16 @@ pub data Steps (I : Images) (clients : List Client) (behind : ℕ → ℕ → Ac
   Done : Steps I clients behind t t
   Then : (u v : Told I) → Steps I clients behind t u → Step I clients behind u v → Steps I clients behind t v
 
+abbrev pub AreJoins : List TraceItem → Type 0
+AreJoins [] = ⊤
+AreJoins (trace.Join i ∷ is) = AreJoins is
+AreJoins (x ∷ is) = ⊥
+
 -- a start of the cluster, behind the first joins: each node's journal comes by these items from one that nobody had joined
 pub record Begins (I : Images) (clients : List Client) (behind : ℕ → ℕ → AcceptedHead) (t : Told I) : Type 0 where
   pub starts : Starts (Trees I) (t.cluster)
   pub joined : (i : ℕ) → (j : Journal) × IsNew j × Events i (behind i) j [] (journal_of I t i) (t.items)
-  pub history : run.history_of clients (t.items) ≡ []
+  pub joins : AreJoins (t.items)
 
 -- each loss is that of a life, and right by the number that the items tell of the head which the life left
 abbrev pub LossesAreRight : Images → Type 0

@@ -5,7 +5,7 @@ ghost use Rattle.head_laws.specs.DirtyStart.{DirtyStartIsTold};
 ghost use Rattle.head_laws.specs.Example.{JournalCanLive};
 ghost use Rattle.head_laws.specs.Joined.{JournalIsJoinedEarly};
 ghost use Rattle.head_laws.specs.Laws.{HeadsAreTold};
-ghost use Rattle.head_laws.specs.Tellings.{FrontsArePassed, TellingIsStep};
+ghost use Rattle.head_laws.specs.Tellings.{FrontsArePassed, RecoveriesAreTold, TellingIsStep};
 ghost use Rattle.head_laws.specs.Traces.{LossesAreRight, RemainsStand, SyncsStand};
 
 use tree_histories::TreeImages;
@@ -38,6 +38,12 @@ pub fn remains_stand<T: TreeImages>()
 /// that was answered Ok.
 pub fn syncs_stand<T: TreeImages>()
     ensures { SyncsStand T.images }
+{}
+
+/// A law: by the items of every run each recovery is told by one of them, by the least member, and each loss stands behind it or at the run's
+/// end; and a slot that doesn't wait had its recovery told.
+pub fn recoveries_are_told<T: TreeImages>()
+    ensures { RecoveriesAreTold T.images }
 {}
 
 /// A law: each front of a run's items, behind the first joins, is that of a run from which this one goes on; so what holds of every run
