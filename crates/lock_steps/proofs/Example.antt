@@ -8,7 +8,7 @@ use Rattle.lock_laws.specs.Lock.{Ex, Sh, Un}
 use Rattle.mail_queues.specs.declared.Body.{Body}
 use Rattle.mail_queues.specs.declared.Body.TheVariants.{Report, End}
 use Rattle.mail_queues.specs.declared.Message.{Message}
-use Rattle.lock_steps.specs.Calls.{Acts, Asks, IsGranted, Lowers, Requested, Lowered, Reported, Ended, Completes, Blocks, TellsItself, Stops, Changes, TakesView, IsRecovered, NoAsk, TellsHeld}
+use Rattle.lock_steps.specs.Calls.{Acts, Asks, IsGranted, Lowers, Requested, Lowered, Reported, Ended, Completes, Blocks, TellsItself, Stops, Fences, Changes, TakesView, IsRecovered, NoAsk, TellsHeld}
 use Rattle.lock_steps.specs.Laws.{Begins, OfMail, OfHolder, OfTable, OfMembers, NoCall, AndCall}
 use Rattle.lock_steps.proofs.Sets.{zero-has}
 use Rattle.lock_steps.specs.Example.{a_lock, two_nodes, ListCanBeMade}
@@ -48,9 +48,10 @@ can-be-made = (
       (OfMail _ (TellsItself 0 _ [] (omega arith) refl refl)))
       (OfHolder _ (IsGranted 0 mode.Ex not_valid [] (record { node = omega arith; member = refl; settled = refl; taken = refl; runs = refl }) (λ k x. zero-has k) refl)),
   refl,
-  AndCall _ _ (AndCall _ _ (AndCall _ _ (AndCall _ _ (AndCall _ _ (AndCall _ _ (AndCall _ _ (AndCall _ _ (AndCall _ _ (AndCall _ _
+  AndCall _ _ (AndCall _ _ (AndCall _ _ (AndCall _ _ (AndCall _ _ (AndCall _ _ (AndCall _ _ (AndCall _ _ (AndCall _ _ (AndCall _ _ (AndCall _ _
       (AndCall _ _ (AndCall _ _ (AndCall _ _ (AndCall _ _ (AndCall _ _ (AndCall _ _ (AndCall _ _ (AndCall _ _ NoCall
       (OfMembers _ (Stops 1 (omega arith))))
+      (OfMembers _ (Fences 1)))
       (OfMembers _ (Changes 0 (omega arith) (alone _))))
       (OfMembers _ (TakesView 0 _ (says (Report a_lock mode.Ex not_valid) ∷ says End ∷ []) (NoAsk refl) (omega arith) refl refl refl (omega arith, (omega arith, tt)) (TellsHeld refl) refl)))
       (OfMail _ (TellsItself 0 _ (says End ∷ []) (omega arith) refl refl)))

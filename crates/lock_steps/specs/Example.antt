@@ -1,5 +1,5 @@
 -- That the calls can be made: a cluster of the nodes 0 and 1, of which node 0 is the lock's master, at its start; a list of calls
--- after which node 0 holds the lock exclusive; and one that goes on from there, through the stop of node 1, the next view, a rebuild
+-- after which node 0 holds the lock exclusive; and one that goes on from there, through the stop of node 1, its fence, the next view, a rebuild
 -- in which node 0 tells what it holds, and the recovery of node 1's slot, after which node 0 has let the lock go and holds it shared.
 use Rattle.std.specs.Prelude.{◌≡◌, false, []}
 use Rattle.glock_names.specs.declared.LockName.{LockName}
@@ -26,5 +26,5 @@ two_nodes = record {
 abbrev pub ListCanBeMade : Type 0
 ListCanBeMade = (q : Parts) × (p : Parts) × Begins a_lock two_nodes
     × Calls a_lock two_nodes q × (mode_in (q.holders 0) a_lock ≡ Ex)
-    × Calls a_lock q p × (p.membership ≡ record { generation = 2; members = 1; fenced = 0; waiting = 0 })
+    × Calls a_lock q p × (p.membership ≡ record { generation = 2; members = 1; fenced = 2; waiting = 0 })
     × (p.table.master.rebuild ≡ false) × (mode_in (p.holders 0) a_lock ≡ Pr)
