@@ -273,7 +273,7 @@ module _ (I : Images) (clients : List Client) (m : Image (Trees I)) (t : Tree) (
       (Replay (clean 31 9) refl (inr (inr refl)) (unsaid t3 names4 refl)) (goes t3 [] refl (λ i e. e)))
       tt (goes (told_of I c3 (untold t3 names4)) (trace.Barrier 1 ∷ []) refl (λ i e. no-way e)))
       (Settled (λ runs. refl) (unsaid t4 names5 refl)) (goes t4 [] refl (λ i e. e)))
-      (record { waits = refl; over = inr (inl refl); alone = refl })
+      (record { waits = refl; over = inl (inr (inl refl)); alone = refl })
 
   -- behind the item that the slot is recovered the disk has the clean header
   its-first : IsFirst 1 (disk_heads 1) (journal_of I t7 1) (t7.items)

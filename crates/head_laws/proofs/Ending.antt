@@ -1,6 +1,6 @@
 -- Heads of replays, heads that come to the disk, and lives that begin and end.
-use Rattle.std.proofs.Common.{ℕ, suc, ◌≡◌, ◌<◌, ◌≤◌, ◌+◌, ◌⊎◌, inl, inr, Bool, true, false, cond, Option, None, Some, List, [], ◌∷◌, ◌++◌, length, drop, refl, sym, ap, ◌∙◌, subst, arith, append-nil, length-append}
-use Rattle.std.specs.Prelude.{◌==◌, ◌||◌, nat_lt}
+use Rattle.std.proofs.Common.{ℕ, zero, suc, ◌≡◌, ◌<◌, ◌≤◌, ◌+◌, ◌⊎◌, inl, inr, Bool, true, false, cond, Option, None, Some, List, [], ◌∷◌, ◌++◌, length, take, drop, refl, sym, ap, ◌∙◌, subst, arith, append-nil, length-append}
+use Rattle.std.specs.Prelude.{◌==◌, ◌||◌, ◌-◌, nat_lt}
 use Rattle.std.proofs.lemmas.Bool.{le-ltb, ltb-true, ltb-false, cases_Bool}
 use Rattle.std.proofs.lemmas.Bool.Decides.{eqb_tells}
 use Rattle.std.proofs.Math.Seq.{drop-append-add, take-append_seam}
@@ -8,10 +8,10 @@ use Rattle.trace_text.specs.declared.item.TraceItem.{TraceItem}
 use Rattle.trace_text.specs.declared.item.TraceItem.TheVariants as trace
 use Rattle.run_rules.specs.Lives.{Life, AcceptedHead, last_number, to_its_end, fenced_behind, recovered_behind, or_else, own_from, lives_from, lives_of, losses_of, life_at}
 use Rattle.cluster_laws.specs.Mirror.{either}
-use Rattle.head_laws.specs.Journals.{Journal, present, IsEnd, IsFirst, EachIsFenced}
+use Rattle.head_laws.specs.Journals.{DoesNothing, Journal, present, IsEnd, IsFirst, EachIsFenced, NoHeadMatters}
 use Rattle.head_laws.specs.Laws.{lives_count}
 use Rattle.head_laws.proofs.Items.{true-false, eqb-other, eqb-self, first_of_two, last-on, ended, ended-on, end-open, lives-more, losses-on, count-on, life-newest, rest-on}
-use Rattle.head_laws.proofs.Values.{rest, mine, base, first, fence, own, value_of, kept_head, value, fence-more, closed-value, NotOwn, HeadsWithin, IsIdle, within-none, waiting-value, mine-open}
+use Rattle.head_laws.proofs.Values.{rest, mine, base, first, fence, own, value_of, kept_head, value, fence-more, closed-value, NotOwn, HeadsWithin, within-none, waiting-value, mine-open}
 use Rattle.head_laws.proofs.Goods.{Closed, Waiting, Acting, Open, Good, Inv, open-runs, none-open}
 use Rattle.head_laws.proofs.Growing.{Keeps, losses-same, life-same, count-same, longer, over-on, going-on, fence-same, base-more, closed-same, closed-on, open-value, waiting-on}
 
@@ -40,6 +40,68 @@ pub was-fenced : (i : ℕ) (behind : ℕ → AcceptedHead) (j : Journal) (items 
 was-fenced i behind j items n l who low high c = elim who [
   | inl e ↦ c.fenced (inr (inr e))
   | inr e ↦ elim e [ inl runs ↦ c.fenced (inr (inl runs)) | inr none ↦ absurd (omega (arith, low, high, none)) ]
+]
+
+-- ---- a life in which the node did nothing
+
+nothing-ends : (i : ℕ) (xs : List TraceItem) → DoesNothing i xs → DoesNothing i (to_its_end i xs)
+nothing-ends i [] none = none
+nothing-ends i (trace.Crash k ∷ xs) none = by (k == i) (nothing-ends i xs none)
+  where
+    by : (b : Bool) → DoesNothing i (to_its_end i xs) → DoesNothing i (cond b [] (trace.Crash k ∷ to_its_end i xs))
+    by true e = tt
+    by false e = e
+nothing-ends i (trace.Withdraw k before now ∷ xs) none = by (k == i) (nothing-ends i xs none)
+  where
+    by : (b : Bool) → DoesNothing i (to_its_end i xs) → DoesNothing i (cond b [] (trace.Withdraw k before now ∷ to_its_end i xs))
+    by true e = tt
+    by false e = e
+nothing-ends i (trace.Call k name number call reply ∷ xs) none = (none.0, nothing-ends i xs none.1)
+nothing-ends i (trace.WriteHead k block sequence upto ∷ xs) none = (none.0, nothing-ends i xs none.1)
+nothing-ends i (trace.WriteClean k block sequence upto ∷ xs) none = (none.0, nothing-ends i xs none.1)
+nothing-ends i (x ∷ xs) none = nothing-ends i xs none
+
+nothing-behind : (i : ℕ) (xs : List TraceItem) (n : ℕ) → DoesNothing i (drop n xs) → DoesNothing i (drop (suc n) xs)
+nothing-behind i [] n none = tt
+nothing-behind i (x ∷ xs) (suc n) none = nothing-behind i xs n none
+nothing-behind i (x ∷ xs) zero none = by x none
+  where
+    by : (x : TraceItem) → DoesNothing i (x ∷ xs) → DoesNothing i xs
+    by (trace.Call k name number call reply) none = none.1
+    by (trace.WriteHead k block sequence upto) none = none.1
+    by (trace.WriteClean k block sequence upto) none = none.1
+    by x none = none
+
+nothing-last : (i m : ℕ) (xs : List TraceItem) → DoesNothing i xs → last_number i m xs ≡ m
+nothing-last i m [] none = refl
+nothing-last i m (trace.Call k name number call reply ∷ xs) none = ap (λ (b : Bool). last_number i (cond b number m) xs) (eqb-other k i none.0) ∙ nothing-last i m xs none.1
+nothing-last i m (trace.WriteHead k block sequence upto ∷ xs) none = nothing-last i m xs none.1
+nothing-last i m (trace.WriteClean k block sequence upto ∷ xs) none = nothing-last i m xs none.1
+nothing-last i m (x ∷ xs) none = nothing-last i m xs none
+
+base-last : (i m n : ℕ) (xs : List TraceItem) → DoesNothing i (drop n xs) → last_number i m (take n xs) ≡ last_number i m xs
+base-last i m zero [] none = refl
+base-last i m (suc n) [] none = refl
+base-last i m zero (x ∷ xs) none = sym (nothing-last i m (x ∷ xs) none)
+base-last i m (suc n) (trace.Call k name number call reply ∷ xs) none = base-last i (cond (k == i) number m) n xs none
+base-last i m (suc n) (x ∷ xs) none = base-last i m n xs none
+
+-- its number is that of the node's last call, with any head
+nothing-value : (i : ℕ) (behind : ℕ → AcceptedHead) (l : Life) (items : List TraceItem) (h : AcceptedHead) → DoesNothing i (drop l.join items) → value i behind l items h ≡ last_number i 0 items
+nothing-value i behind l items h none =
+    waiting-value (first i behind l items) i (mine i l items) (base i l items) (last_number i 0 items) (kept_head behind (fence i l items) h)
+    (nothing-ends i (rest l items) (let e : suc l.join ≡ l.join + 1 = omega arith in subst (λ (n : ℕ). DoesNothing i (drop n items)) e (nothing-behind i items l.join none))) (base-last i 0 l.join items none)
+
+-- a life that ended has the same number with any head, where none matters
+pub any-value : (i : ℕ) (behind : ℕ → AcceptedHead) (j : Journal) (items : List TraceItem) (n : ℕ) (l : Life) (h k : AcceptedHead) → NoHeadMatters i j items
+    → life_at i n (lives_of items) ≡ Some l → losses_of i items ≤ n → n < losses_of i items + j.unlost → Closed i behind j items n l → value i behind l items h ≡ value i behind l items k
+any-value i behind j items n l h k (inl who) is low high c = let f = was-fenced i behind j items n l who low high c in fenced-value i behind l items h k f.0 f.1
+any-value i behind j items n l h k (inr nothing) is low high c = elim (cases_Bool (nat_lt (suc n) (losses_of i items + j.unlost))) [
+  | inl earlier ↦ let f = c.fenced (inl (ltb-true (suc n) (losses_of i items + j.unlost) earlier)) in fenced-value i behind l items h k f.0 f.1
+  | inr newest ↦
+      let e : losses_of i items + j.unlost - 1 ≡ n = (let m = ltb-false (suc n) (losses_of i items + j.unlost) newest in omega (arith, m, high)) in
+      let none = nothing l (ap (λ (m : ℕ). life_at i m (lives_of items)) e ∙ is) in
+      nothing-value i behind l items h none ∙ sym (nothing-value i behind l items k none)
 ]
 
 -- ---- a replay's header
@@ -86,7 +148,7 @@ replays i behind j items r h waits who alone inv = record {
 abbrev pub past_replayed : Journal → AcceptedHead → Journal
 past_replayed j h = record j { name = λ d. h }
 
-pub replays-past : (i : ℕ) (behind : ℕ → AcceptedHead) (j : Journal) (items : List TraceItem) (h : AcceptedHead) → j.waits ≡ true → EachIsFenced j → j.flies ≡ None
+pub replays-past : (i : ℕ) (behind : ℕ → AcceptedHead) (j : Journal) (items : List TraceItem) (h : AcceptedHead) → j.waits ≡ true → NoHeadMatters i j items → j.flies ≡ None
     → Inv i behind j items → Inv i behind (past_replayed j h) items
 replays-past i behind j items h waits who alone inv = record {
   number = inv.number;
@@ -101,15 +163,15 @@ replays-past i behind j items h waits who alone inv = record {
       record {
         node = g.node;
         within = g.within;
-        closed = λ c. closes n l low c (g.closed c);
+        closed = λ c. closes n l is low c (g.closed c);
         present = λ p. (let o = g.present p in record { going = o.going; unfenced = o.unfenced; waiting = λ w. still (o.waiting w); acting = λ a. true-false waits a });
       };
 }
   where
-    closes : (n : ℕ) (l : Life) → losses_of i items ≤ n → n < losses_of i items + j.unlost → Closed i behind j items n l → Closed i behind (past_replayed j h) items n l
-    closes n l low high c = record {
+    closes : (n : ℕ) (l : Life) → life_at i n (lives_of items) ≡ Some l → losses_of i items ≤ n → n < losses_of i items + j.unlost → Closed i behind j items n l → Closed i behind (past_replayed j h) items n l
+    closes n l is low high c = record {
       over = c.over;
-      told = λ d. (let f = was-fenced i behind j items n l who low high c in fenced-value i behind l items h (j.name d) f.0 f.1 ∙ c.told d);
+      told = λ d. any-value i behind j items n l h (j.name d) who is low high c ∙ c.told d;
       fenced = c.fenced;
     }
 
@@ -388,7 +450,7 @@ joins i behind j items stopped free alone at inv = record {
       present = λ h. record {
         going = ap (ended i) nothing;
         unfenced = ap (fenced_behind i (length items + 1)) nothing;
-        waiting = λ w. record { idle = subst (IsIdle i) (sym nothing) tt; base = ap (last_number i 0) (take-append_seam items (trace.Join i ∷ [])) ∙ inv.number };
+        waiting = λ w. record { idle = subst (DoesNothing i) (sym nothing) tt; base = ap (last_number i 0) (take-append_seam items (trace.Join i ∷ [])) ∙ inv.number };
         acting = λ a. record {
           told = λ d. value-here d ∙ sym (inv.even (inv.settled a) (inl stopped) d);
           heads = subst (λ (es : List TraceItem). HeadsWithin i (j.name true).sequence es) (sym nothing) tt;

@@ -3,10 +3,10 @@ use Rattle.std.proofs.Common.{ℕ, suc, ◌≡◌, ◌<◌, ◌≤◌, ◌+◌, 
 use Rattle.std.specs.Prelude.{◌==◌}
 use Rattle.trace_text.specs.declared.item.TraceItem.{TraceItem}
 use Rattle.run_rules.specs.Lives.{Life, AcceptedHead, last_number, lives_of, losses_of, life_at, named}
-use Rattle.head_laws.specs.Journals.{Journal}
+use Rattle.head_laws.specs.Journals.{DoesNothing, Journal}
 use Rattle.head_laws.specs.Laws.{lives_count}
 use Rattle.head_laws.proofs.Items.{true-false, ended, life-below}
-use Rattle.head_laws.proofs.Values.{rest, base, first, fence, value, Stable, HeadsWithin, IsIdle}
+use Rattle.head_laws.proofs.Values.{rest, base, first, fence, value, Stable, HeadsWithin}
 
 -- of a life that ended: its number is the head's, where it is the earliest without a loss, and else that of the node's last call
 abbrev pub target : ℕ → Journal → List TraceItem → ℕ → Bool → ℕ
@@ -19,7 +19,7 @@ pub record Closed (i : ℕ) (behind : ℕ → AcceptedHead) (j : Journal) (items
 
 -- of the present life, while the slot waits
 pub record Waiting (i : ℕ) (behind : ℕ → AcceptedHead) (j : Journal) (items : List TraceItem) (l : Life) : Type 0 where
-  pub idle : IsIdle i (rest l items)
+  pub idle : DoesNothing i (rest l items)
   pub base : base i l items ≡ j.last
 
 -- and while it doesn't

@@ -4,10 +4,10 @@ use Rattle.std.specs.Prelude.{◌==◌, ◌||◌}
 use Rattle.std.proofs.lemmas.List.{take-append-le}
 use Rattle.trace_text.specs.declared.item.TraceItem.{TraceItem}
 use Rattle.run_rules.specs.Lives.{Life, AcceptedHead, last_number, fenced_behind, recovered_behind, or_else, named, unnamed, Unnamed, lives_from, lives_of, losses_of, life_at}
-use Rattle.head_laws.specs.Journals.{Journal}
+use Rattle.head_laws.specs.Journals.{DoesNothing, Journal}
 use Rattle.head_laws.specs.Laws.{lives_count}
 use Rattle.head_laws.proofs.Items.{true-false, first_of_two, first-none, named-on, recovered-more, ended, ended-on, lives-more, losses-on, count-on, rest-on, unnamed-on, noted, Plain}
-use Rattle.head_laws.proofs.Values.{rest, mine, base, own_place, first, fence, value_of, kept_head, value, fence-more, mine-open, closed-value, Stable, stable-value, stable-on, same-value, HeadsWithin, IsIdle, within-on, none-on}
+use Rattle.head_laws.proofs.Values.{rest, mine, base, own_place, first, fence, value_of, kept_head, value, fence-more, mine-open, closed-value, Stable, stable-value, stable-on, same-value, HeadsWithin, within-on, none-on}
 use Rattle.head_laws.proofs.Goods.{Closed, Waiting, Acting}
 
 -- the item begins no life of the node
@@ -103,9 +103,9 @@ module _ (i : ℕ) (behind : ℕ → AcceptedHead) (l : Life) (items : List Trac
   pub named-same : (h : AcceptedHead) → named i h (x ∷ []) ≡ None → named i h (rest l items ++ x ∷ []) ≡ named i h (rest l items)
   named-same h none = named-on i h (rest l items) (x ∷ []) ∙ (ap (first_of_two (named i h (rest l items))) none ∙ first-none (named i h (rest l items)))
 
-  pub waiting-on : (j : Journal) → IsIdle i (x ∷ []) → Waiting i behind j items l → Waiting i behind j (items ++ x ∷ []) l
+  pub waiting-on : (j : Journal) → DoesNothing i (x ∷ []) → Waiting i behind j items l → Waiting i behind j (items ++ x ∷ []) l
   waiting-on j none w = record {
-    idle = subst (IsIdle i) (sym (rest-on l items (x ∷ []) within)) (none-on i (rest l items) (x ∷ []) w.idle none);
+    idle = subst (DoesNothing i) (sym (rest-on l items (x ∷ []) within)) (none-on i (rest l items) (x ∷ []) w.idle none);
     base = base-more ∙ w.base;
   }
 

@@ -12,3 +12,4 @@ pub mod Happening
 pub mod Recoveries
 pub mod DirtyStart
 pub mod Joined
+pub mod Unsettled

@@ -137,7 +137,7 @@ node-of i n (m ∷ ls) l is = by (eqb_tells m.node i) (node-of i (n - 1) ls l) (
 
 -- ---- what remains
 
-may-be : (I : Images) (t : Told I) (choice : ℕ → Bool) (now : ℕ → AcceptedHead) → HeadsMayBe I t choice now → (i : ℕ) → MayBe (journal_of I t i) (choice i) (now i)
+may-be : (I : Images) (t : Told I) (choice : ℕ → Bool) (now : ℕ → AcceptedHead) → HeadsMayBe I t choice now → (i : ℕ) → MayBe i (journal_of I t i) (t.items) (choice i) (now i)
 may-be I t choice now heads i = elim (heads i) [ inl e ↦ inl e | inr m ↦ inr (m.waits, m.over) ]
 
 module _ (I : Images) (clients : List Client) (behind : ℕ → ℕ → AcceptedHead) (a t : Told I) (begins : Begins I clients behind a) (steps : Steps I clients behind a t)

@@ -8,9 +8,9 @@ use Rattle.file_tree.specs.declared.call.Call.{Call}
 use Rattle.file_tree.specs.declared.reply.Reply.{Reply}
 use Rattle.run_rules.specs.Lives.{Life, AcceptedHead, last_number, named, unnamed, Unnamed, lives_of, life_at}
 use Rattle.cluster_laws.specs.Mirror.{either}
-use Rattle.head_laws.specs.Journals.{Journal, present, head_item, unnamed_upto, IsOther}
+use Rattle.head_laws.specs.Journals.{DoesNothing, Journal, present, head_item, unnamed_upto, IsOther}
 use Rattle.head_laws.proofs.Items.{true-false, eqb-other, eqb-self, first_of_two, named-on, last-on, noted, rest-on, plain}
-use Rattle.head_laws.proofs.Values.{rest, mine, base, first, own, quiet_value, value_by, value, ByItem, HeadsWithin, IsIdle, within-none, within-more, within-on, named-none, mine-open}
+use Rattle.head_laws.proofs.Values.{rest, mine, base, first, own, quiet_value, value_by, value, ByItem, HeadsWithin, within-none, within-more, within-on, named-none, mine-open}
 use Rattle.head_laws.proofs.Goods.{Acting, Open, Inv, open-runs, none-closed}
 use Rattle.head_laws.proofs.Growing.{Keeps, Still, plain-still, losses-same, life-same, count-same, longer, going-on, fence-same, first-same, closed-on, open-value, open-value-on, named-same, stable-more, stable-told, waiting-on, acting-on, quiet-on}
 
@@ -46,7 +46,7 @@ module _ (i : ℕ) (behind : ℕ → AcceptedHead) (j : Journal) (items : List T
   }
 
 module _ (i : ℕ) (behind : ℕ → AcceptedHead) (j : Journal) (l : Life) (items : List TraceItem) (x : TraceItem) (within : l.join < length items) (still : Still i x)
-    (unnamed-by : (d : Bool) → named i (j.name d) (x ∷ []) ≡ None) (idle : IsIdle i (x ∷ [])) where
+    (unnamed-by : (d : Bool) → named i (j.name d) (x ∷ []) ≡ None) (idle : DoesNothing i (x ∷ [])) where
   pub open-on : (Open i behind j items l → j.silent ≡ true → value i behind l (items ++ x ∷ []) (j.name true) ≡ value i behind l items (j.name true)) → Open i behind j items l → Open i behind j (items ++ x ∷ []) l
   open-on quiet o = record {
     going = going-on i behind l items x within o.going still.ended;
@@ -55,7 +55,7 @@ module _ (i : ℕ) (behind : ℕ → AcceptedHead) (j : Journal) (l : Life) (ite
     acting = λ a. acting-on i behind l items x within j o.going o.unfenced still unnamed-by (within-none i (j.name true).sequence (x ∷ []) idle) (quiet o) (o.acting a);
   }
 
-other-idle : (i : ℕ) (x : TraceItem) → IsOther i x → IsIdle i (x ∷ [])
+other-idle : (i : ℕ) (x : TraceItem) → IsOther i x → DoesNothing i (x ∷ [])
 other-idle i (trace.WriteHead k block sequence upto) o = (o, tt)
 other-idle i (trace.WriteClean k block sequence upto) o = (o, tt)
 other-idle i (trace.Call k name number call reply) o = (o, tt)

@@ -4,7 +4,7 @@ use Rattle.std.specs.Prelude.{nat_lt}
 use Rattle.std.proofs.lemmas.Bool.{ltb-true, ltb-false, cases_Bool}
 use Rattle.std.proofs.lemmas.Bool.Decides.{eqb_tells}
 use Rattle.trace_text.specs.declared.item.TraceItem.{TraceItem}
-use Rattle.run_rules.specs.Lives.{Life, AcceptedHead, losses_of}
+use Rattle.run_rules.specs.Lives.{Life, AcceptedHead, lives_of, losses_of, life_at}
 use Rattle.head_laws.specs.Journals.{Journal, Event, Events, Done, Then, IsNew}
 use Rattle.head_laws.specs.Journals as journals
 use Rattle.head_laws.specs.Laws.{MayBe, AreTold, HeadsAreTold}
@@ -12,7 +12,7 @@ use Rattle.head_laws.proofs.Items.{true-false, eqb-other, eqb-self}
 use Rattle.head_laws.proofs.Values.{value, value-is}
 use Rattle.head_laws.proofs.Goods.{Closed, Inv, open-runs}
 use Rattle.head_laws.proofs.Saying.{says, writes-log, says-recovered, answers, begins, begins-last, commits}
-use Rattle.head_laws.proofs.Ending.{waits-value, fenced-value, was-fenced, replays, replays-past, ends, stops, is-fenced, joins, loses, is-recovered}
+use Rattle.head_laws.proofs.Ending.{waits-value, fenced-value, any-value, replays, replays-past, ends, stops, is-fenced, joins, loses, is-recovered}
 
 -- ---- the invariant
 
@@ -52,15 +52,15 @@ events-keep i behind j items l most (Then k _ more _ before event) inv = event-k
 -- ---- what it says
 
 -- where the slot doesn't wait, the accepted head is one of the two
-is-one : (j : Journal) (d : Bool) (h : AcceptedHead) → MayBe j d h → j.waits ≡ false → h ≡ j.name d
-is-one j d h (inl e) acts = e
-is-one j d h (inr landing) acts = true-false (landing.0) acts
+is-one : (i : ℕ) (j : Journal) (items : List TraceItem) (d : Bool) (h : AcceptedHead) → MayBe i j items d h → j.waits ≡ false → h ≡ j.name d
+is-one i j items d h (inl e) acts = e
+is-one i j items d h (inr landing) acts = true-false (landing.0) acts
 
 -- a life that ended has the same number with any head that may be accepted
-may-value : (i : ℕ) (behind : ℕ → AcceptedHead) (j : Journal) (items : List TraceItem) (n : ℕ) (l : Life) (d : Bool) (h : AcceptedHead) → MayBe j d h → losses_of i items ≤ n
-    → n < losses_of i items + j.unlost → Closed i behind j items n l → value i behind l items h ≡ value i behind l items (j.name d)
-may-value i behind j items n l d h (inl e) low high c = ap (value i behind l items) e
-may-value i behind j items n l d h (inr landing) low high c = let f = was-fenced i behind j items n l (landing.1) low high c in fenced-value i behind l items h (j.name d) f.0 f.1
+may-value : (i : ℕ) (behind : ℕ → AcceptedHead) (j : Journal) (items : List TraceItem) (n : ℕ) (l : Life) (d : Bool) (h : AcceptedHead) → MayBe i j items d h
+    → life_at i n (lives_of items) ≡ Some l → losses_of i items ≤ n → n < losses_of i items + j.unlost → Closed i behind j items n l → value i behind l items h ≡ value i behind l items (j.name d)
+may-value i behind j items n l d h (inl e) is low high c = ap (value i behind l items) e
+may-value i behind j items n l d h (inr landing) is low high c = any-value i behind j items n l h (j.name d) (landing.1) is low high c
 
 pub are-told : (i : ℕ) (behind : ℕ → ℕ → AcceptedHead) (j : Journal) (items : List TraceItem) → Inv i (behind i) j items → AreTold i behind j items
 are-told i behind j items inv = record {
@@ -69,11 +69,11 @@ are-told i behind j items inv = record {
       value-is i behind l items h g.node ∙ elim (eqb_tells j.unlost 0) [
         | inl none ↦ let o = g.present (let u = none.1 in omega (arith, u)) in elim (cases_Bool j.waits) [
           | inl w ↦ waits-value i (behind i) j items l h g.within inv.number o (o.waiting w) ∙ sym (inv.even none.1 (inr w) d)
-          | inr a ↦ ap (value i (behind i) l items) (is-one j d h may a) ∙ (o.acting a).told d
+          | inr a ↦ ap (value i (behind i) l items) (is-one i j items d h may a) ∙ (o.acting a).told d
         ]
         | inr some ↦
             let high : losses_of i items < losses_of i items + j.unlost = (let u = some.1 in omega (arith, u)) in
-            may-value i (behind i) j items (losses_of i items) l d h may (omega arith) high (g.closed high)
+            may-value i (behind i) j items (losses_of i items) l d h may is (omega arith) high (g.closed high)
             ∙ ((g.closed high).told d ∙ ap (λ (b : Bool). cond b (j.cut d) j.last) (eqb-self (losses_of i items)))
       ];
   later = λ n l d h may low is.
@@ -81,7 +81,7 @@ are-told i behind j items inv = record {
       value-is i behind l items h g.node ∙ elim (cases_Bool (nat_lt n (losses_of i items + j.unlost))) [
         | inl below ↦
             let high = ltb-true n (losses_of i items + j.unlost) below in
-            may-value i (behind i) j items n l d h may (omega (arith, low)) high (g.closed high)
+            may-value i (behind i) j items n l d h may is (omega (arith, low)) high (g.closed high)
             ∙ ((g.closed high).told d ∙ ap (λ (b : Bool). cond b (j.cut d) j.last) (eqb-other n (losses_of i items) (λ q. absurd (omega (arith, low, q)))))
         | inr above ↦
             let at = ltb-false n (losses_of i items + j.unlost) above in

@@ -6,6 +6,7 @@ use Rattle.std.proofs.lemmas.List.{take-append-le}
 use Rattle.trace_text.specs.declared.item.TraceItem.{TraceItem}
 use Rattle.trace_text.specs.declared.item.TraceItem.TheVariants as trace
 use Rattle.run_rules.specs.Lives.{Life, AcceptedHead, last_number, to_its_end, fenced_behind, head_behind, recovered_behind, or_else, named, Unnamed, unnamed, upto_by, upto_of}
+use Rattle.head_laws.specs.Journals.{DoesNothing}
 use Rattle.head_laws.specs.Laws.{with_head}
 use Rattle.head_laws.proofs.Items.{eqb-other, first_of_two, ended, end-closed, end-open, fence-on, rest-on}
 
@@ -131,15 +132,7 @@ HeadsWithin i q (trace.WriteHead k block sequence upto ∷ is) = (k ≡ i → se
 HeadsWithin i q (trace.WriteClean k block sequence upto ∷ is) = (k ≡ i → sequence ≤ q) × HeadsWithin i q is
 HeadsWithin i q (x ∷ is) = HeadsWithin i q is
 
--- neither a header nor a call of the node
-abbrev pub IsIdle : ℕ → List TraceItem → Type 0
-IsIdle i [] = ⊤
-IsIdle i (trace.Call k name number call reply ∷ is) = (k ≡ i → ⊥) × IsIdle i is
-IsIdle i (trace.WriteHead k block sequence upto ∷ is) = (k ≡ i → ⊥) × IsIdle i is
-IsIdle i (trace.WriteClean k block sequence upto ∷ is) = (k ≡ i → ⊥) × IsIdle i is
-IsIdle i (x ∷ is) = IsIdle i is
-
-pub within-none : (i q : ℕ) (is : List TraceItem) → IsIdle i is → HeadsWithin i q is
+pub within-none : (i q : ℕ) (is : List TraceItem) → DoesNothing i is → HeadsWithin i q is
 within-none i q [] none = tt
 within-none i q (trace.Call k name number call reply ∷ is) none = within-none i q is none.1
 within-none i q (trace.WriteHead k block sequence upto ∷ is) none = ((λ e. absurd (none.0 e)), within-none i q is none.1)
@@ -158,7 +151,7 @@ within-on i q (trace.WriteHead k block sequence upto ∷ xs) ys all more = (all.
 within-on i q (trace.WriteClean k block sequence upto ∷ xs) ys all more = (all.0, within-on i q xs ys all.1 more)
 within-on i q (x ∷ xs) ys all more = within-on i q xs ys all more
 
-pub none-on : (i : ℕ) (xs ys : List TraceItem) → IsIdle i xs → IsIdle i ys → IsIdle i (xs ++ ys)
+pub none-on : (i : ℕ) (xs ys : List TraceItem) → DoesNothing i xs → DoesNothing i ys → DoesNothing i (xs ++ ys)
 none-on i [] ys all more = more
 none-on i (trace.Call k name number call reply ∷ xs) ys all more = (all.0, none-on i xs ys all.1 more)
 none-on i (trace.WriteHead k block sequence upto ∷ xs) ys all more = (all.0, none-on i xs ys all.1 more)
@@ -183,7 +176,7 @@ named-none i q h (trace.WriteHead k block sequence upto ∷ is) all later = rw (
 named-none i q h (trace.WriteClean k block sequence upto ∷ is) all later = rw (not-named i q k block sequence h all.0 later) (named-none i q h is all.1 later)
 named-none i q h (x ∷ is) all later = named-none i q h is all later
 
-pub none-named : (i : ℕ) (h : AcceptedHead) (is : List TraceItem) → IsIdle i is → named i h is ≡ None
+pub none-named : (i : ℕ) (h : AcceptedHead) (is : List TraceItem) → DoesNothing i is → named i h is ≡ None
 none-named i h [] all = refl
 none-named i h (trace.Call k name number call reply ∷ is) all = none-named i h is all.1
 none-named i h (trace.WriteHead k block sequence upto ∷ is) all = rw (eqb-other k i all.0) (none-named i h is all.1)
@@ -194,7 +187,7 @@ abbrev idle_note : ℕ → Bool → Unnamed
 idle_note b logged = record { upto = b; is_logged = logged; last = b }
 
 -- what an unnamed header has where the node does nothing
-idle-unnamed : (i b : ℕ) (logged : Bool) (is : List TraceItem) → IsIdle i is → unnamed i (idle_note b logged) is ≡ b
+idle-unnamed : (i b : ℕ) (logged : Bool) (is : List TraceItem) → DoesNothing i is → unnamed i (idle_note b logged) is ≡ b
 idle-unnamed i b logged [] idle = refl
 idle-unnamed i b logged (trace.Call k name number call reply ∷ is) idle = rw (eqb-other k i idle.0) (idle-unnamed i b logged is idle.1)
 idle-unnamed i b logged (trace.WriteHead k block sequence upto ∷ is) idle = rw (eqb-other k i idle.0) (idle-unnamed i b logged is idle.1)
@@ -209,7 +202,7 @@ idle-unnamed i b logged (trace.WriteLog k block ∷ is) idle = by (k == i) logge
 idle-unnamed i b logged (x ∷ is) idle = idle-unnamed i b logged is idle
 
 -- of a life in which the node did nothing, the number of each head is that of the node's last call
-pub waiting-value : (sq i : ℕ) (es : List TraceItem) (b last : ℕ) (h : AcceptedHead) → IsIdle i es → b ≡ last → value_of sq i es b last h ≡ last
+pub waiting-value : (sq i : ℕ) (es : List TraceItem) (b last : ℕ) (h : AcceptedHead) → DoesNothing i es → b ≡ last → value_of sq i es b last h ≡ last
 waiting-value sq i es b last h idle same =
     ap (λ (o : Option ℕ). value_by o (own sq h) (quiet_value i es b last h.is_clean) b) (none-named i h es idle) ∙ by (own sq h) h.is_clean
   where

@@ -1,5 +1,5 @@
 -- A node's journal as the disk has it, the node's lives, and the items of a trace that tell of them.
-use Rattle.std.specs.Prelude.{ℕ, suc, ◌≡◌, ◌≢◌, ◌⊎◌, ◌+◌, ⊤, Bool, true, false, Option, None, Some, List, ◌∷◌, [], ◌++◌, length}
+use Rattle.std.specs.Prelude.{ℕ, suc, ◌≡◌, ◌≢◌, ◌⊎◌, ◌+◌, ◌-◌, ⊤, Bool, true, false, Option, None, Some, List, ◌∷◌, [], ◌++◌, length, drop}
 use Rattle.file_tree.specs.declared.call.Call.{Call}
 use Rattle.file_tree.specs.declared.reply.Reply.{Reply}
 use Rattle.trace_text.specs.declared.item.TraceItem.{TraceItem}
@@ -63,6 +63,23 @@ IsEnd node _ = ⊥
 abbrev pub EachIsFenced : Journal → Type 0
 EachIsFenced j = (j.fenced ≡ true) ⊎ ((j.runs ≡ true) ⊎ (j.unlost ≡ 0))
 
+-- neither a call nor a header of the node
+abbrev pub DoesNothing : ℕ → List TraceItem → Type 0
+DoesNothing node [] = ⊤
+DoesNothing node (trace.Call i name number call reply ∷ is) = (i ≡ node → ⊥) × DoesNothing node is
+DoesNothing node (trace.WriteHead i block sequence upto ∷ is) = (i ≡ node → ⊥) × DoesNothing node is
+DoesNothing node (trace.WriteClean i block sequence upto ∷ is) = (i ≡ node → ⊥) × DoesNothing node is
+DoesNothing node (x ∷ is) = DoesNothing node is
+
+-- the node's last life that ended
+abbrev pub last_ended : ℕ → Journal → List TraceItem → Option Life
+last_ended node j items = life_at node (losses_of node items + j.unlost - 1) (lives_of items)
+
+-- Which head the journal has matters to no life that ended and has no loss: each was fenced; or all but the last were, and from its join on the node did nothing, as where
+-- its slot waited all along.
+abbrev pub NoHeadMatters : ℕ → Journal → List TraceItem → Type 0
+NoHeadMatters node j items = EachIsFenced j ⊎ ((l : Life) → last_ended node j items ≡ Some l → DoesNothing node (drop l.join items))
+
 -- where the node runs, the journal's head is the one that the disk had where the present life's own headers begin
 abbrev pub IsFirst : ℕ → (ℕ → AcceptedHead) → Journal → List TraceItem → Type 0
 IsFirst node behind j items = j.runs ≡ true → (l : Life) → present node j items ≡ Some l → behind (own_from l items) ≡ j.name false
@@ -94,8 +111,8 @@ pub data Event (node : ℕ) (behind : ℕ → AcceptedHead) (j : Journal) (items
   -- a header of a replay, by whomever, with an item or without, once each life without a loss is fenced
   Replays : (r : ℕ) (h : AcceptedHead) → j.waits ≡ true → EachIsFenced j → j.flies ≡ None
       → Event node behind j items (record j { cut = either (j.cut false) (j.cut false); name = either (j.name false) h; flies = Some r }) items
-  -- where the slot waits since the start: such a header of the ring that speaks for the past
-  ReplaysPast : (h : AcceptedHead) → j.waits ≡ true → EachIsFenced j → j.flies ≡ None → Event node behind j items (record j { name = λ d. h }) items
+  -- where the slot waits since the start: such a header of the ring that speaks for the past comes to the disk, at the latest by the fence
+  ReplaysPast : (h : AcceptedHead) → j.waits ≡ true → NoHeadMatters node j items → j.flies ≡ None → Event node behind j items (record j { name = λ d. h }) items
   -- a header is on the disk, or never will be; a commit says the first of the node's own
   Ends : (d : Bool) → (j.runs ≡ true → (j.silent ≡ false) × (j.waits ≡ false → d ≡ true))
       → Event node behind j items (record j { cut = λ e. j.cut d; name = λ e. j.name d; flies = None }) items

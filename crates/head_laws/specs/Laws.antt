@@ -2,7 +2,7 @@
 use Rattle.std.specs.Prelude.{ℕ, ◌≡◌, ◌<◌, ◌⊎◌, ◌+◌, ◌==◌, Bool, true, false, Some, List, [], ◌∷◌, if◌then◌else◌}
 use Rattle.trace_text.specs.declared.item.TraceItem.{TraceItem}
 use Rattle.run_rules.specs.Lives.{Life, AcceptedHead, DiskHeads, upto_of, lives_of, losses_of, life_at}
-use Rattle.head_laws.specs.Journals.{Journal, Events, IsNew, EachIsFenced}
+use Rattle.head_laws.specs.Journals.{Journal, Events, IsNew, NoHeadMatters}
 
 -- how many lives of the node are among these
 abbrev pub lives_count : ℕ → List Life → ℕ
@@ -13,15 +13,15 @@ lives_count node (l ∷ ls) = (if l.node == node then 1 else 0) + lives_count no
 abbrev pub with_head : (ℕ → ℕ → AcceptedHead) → AcceptedHead → DiskHeads
 with_head behind h = record { behind = behind; now = λ i. h }
 
--- the accepted head may be this: that of the two; or any, while the slot waits and each life without a loss is fenced, as the clean header of a replay that is in flight
-abbrev pub MayBe : Journal → Bool → AcceptedHead → Type 0
-MayBe j d h = (h ≡ j.name d) ⊎ ((j.waits ≡ true) × EachIsFenced j)
+-- the accepted head may be this: that of the two; or any, while the slot waits and it matters to no life that ended, as the clean header of a replay that is in flight
+abbrev pub MayBe : ℕ → Journal → List TraceItem → Bool → AcceptedHead → Type 0
+MayBe node j items d h = (h ≡ j.name d) ⊎ ((j.waits ≡ true) × NoHeadMatters node j items)
 
 pub record AreTold (node : ℕ) (behind : ℕ → ℕ → AcceptedHead) (j : Journal) (items : List TraceItem) : Type 0 where
   -- of the earliest life without a loss it is that of the journal's head, whichever of the two turns out to be accepted
-  pub first : (l : Life) (d : Bool) (h : AcceptedHead) → MayBe j d h → life_at node (losses_of node items) (lives_of items) ≡ Some l → upto_of (with_head behind h) l items ≡ j.cut d
+  pub first : (l : Life) (d : Bool) (h : AcceptedHead) → MayBe node j items d h → life_at node (losses_of node items) (lives_of items) ≡ Some l → upto_of (with_head behind h) l items ≡ j.cut d
   -- of each later one, in which the slot waited, it is the number of the node's last call: nothing is lost with it
-  pub later : (n : ℕ) (l : Life) (d : Bool) (h : AcceptedHead) → MayBe j d h → losses_of node items < n → life_at node n (lives_of items) ≡ Some l → upto_of (with_head behind h) l items ≡ j.last
+  pub later : (n : ℕ) (l : Life) (d : Bool) (h : AcceptedHead) → MayBe node j items d h → losses_of node items < n → life_at node n (lives_of items) ≡ Some l → upto_of (with_head behind h) l items ≡ j.last
   -- once a life that ended is fenced, or its node has joined again, no other disk matters to it
   pub fixed : (l : Life) (h : AcceptedHead) → (j.unlost ≡ 0 → ⊥) → (j.runs ≡ true) ⊎ (j.fenced ≡ true) → life_at node (losses_of node items) (lives_of items) ≡ Some l
       → upto_of (with_head behind h) l items ≡ j.cut false

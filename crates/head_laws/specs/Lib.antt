@@ -5,3 +5,4 @@ pub mod Example
 pub mod Tellings
 pub mod DirtyStart
 pub mod Joined
+pub mod Unsettled

@@ -20,7 +20,7 @@ use Rattle.cluster_laws.specs.Laws.{head_cuts}
 use Rattle.cluster_events.specs.Cluster.{Cluster, Starts}
 use Rattle.cluster_events.specs.Cluster as cluster
 use Rattle.tree_histories.specs.Trees.{Images, rules_of, Trees, history_of}
-use Rattle.head_laws.specs.Journals.{Journal, Event, Events, IsNew, EachIsFenced}
+use Rattle.head_laws.specs.Journals.{Journal, Event, Events, IsNew, NoHeadMatters}
 
 -- a cluster, the names of its journals' heads, which nodes wrote their last without an item, and the items so far
 pub record Told (I : Images) : Type 0 where
@@ -76,7 +76,7 @@ LossesAreRight I = (clients : List Client) (behind : ℕ → ℕ → AcceptedHea
 -- a header of a replay of the past's ring may come to the disk
 pub record MayLand (I : Images) (t : Told I) (i : ℕ) : Type 0 where
   pub waits : (t.cluster).waits i ≡ true
-  pub over : EachIsFenced (journal_of I t i)
+  pub over : NoHeadMatters i (journal_of I t i) (t.items)
   pub alone : (t.cluster).header_of i ≡ None
 
 -- these may be the accepted heads, by the choice of each journal, or where such a header came

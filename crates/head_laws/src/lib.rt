@@ -6,6 +6,7 @@ ghost use Rattle.head_laws.specs.Example.{JournalCanLive};
 ghost use Rattle.head_laws.specs.Joined.{JournalIsJoinedEarly};
 ghost use Rattle.head_laws.specs.Laws.{HeadsAreTold};
 ghost use Rattle.head_laws.specs.Tellings.{FrontsArePassed, RecoveriesAreTold, TellingIsStep};
+ghost use Rattle.head_laws.specs.Unsettled.{HeadIsUnsettled};
 ghost use Rattle.head_laws.specs.Traces.{LossesAreRight, RemainsStand, SyncsStand};
 
 use tree_histories::TreeImages;
@@ -67,4 +68,10 @@ pub fn a_dirty_start_can_be_told<T: TreeImages>()
 /// life keeps what stood before its join.
 pub fn a_journal_can_be_joined_early()
     ensures { JournalIsJoinedEarly }
+{}
+
+/// A law: the events can be where a node crashes while the clean header of the ring that it had at the start is in flight: until the fence
+/// both heads may be, with one number, and from there on either is told.
+pub fn a_head_can_be_unsettled()
+    ensures { HeadIsUnsettled }
 {}
