@@ -3,7 +3,7 @@ use Rattle.std.proofs.Common.{◌≡◌, List, true, false, Option, None, Some, 
 use Rattle.std.specs.Prelude.{unwrap_or}
 use Rattle.std.specs.Option.{option_copied_mut}
 use Rattle.std.specs.Map.{set_value}
-use Rattle.indexmap.specs.IndexMap.{IndexMap, insert_entry}
+use Rattle.indexmap.specs.IndexMap.{insert_entry}
 use denote.MutBor.{MutBor}
 use Rattle.glock_names.specs.declared.LockName.{LockName}
 use Rattle.glock_names.specs.LockMaps.{same_lock, at_lock, with_lock}
@@ -32,23 +32,3 @@ put-back before now later lock r found change e value is w =
     w ∙ (set_value-with_lock before lock found.now (change found.now) there
     ∙ (ap (λ (h : List (LockName × Holding)). with_lock h lock (change found.now)) e
     ∙ ap (λ (o : Option Holding). with_lock now lock (change (unwrap_or o nothing))) (sym there ∙ ap (λ (h : List (LockName × Holding)). at_lock h lock) e)))
-
-pub absent : (es : List (LockName × Holding)) (lock : LockName) (r : Option (MutBor Holding)) → option_copied_mut r ≡ at_lock es lock → r ≡ None → at_lock es lock ≡ None
-absent es lock r value is = sym value ∙ ap option_copied_mut is
-
-pub entries-of : {S : Type 0} (a b : IndexMap LockName Holding S) → a ≡ b → a.entries ≡ b.entries
-entries-of {S} a b e = ap (λ (m : IndexMap LockName Holding S). m.entries) e
-
--- a write of a lock that the map doesn't have
-pub put-new : (before now map later : List (LockName × Holding)) (lock : LockName) (change : Holding → Holding)
-    → before ≡ now → map ≡ before → at_lock before lock ≡ None → later ≡ insert_entry same_lock map lock (change nothing)
-    → later ≡ with_lock now lock (change (unwrap_or (at_lock now lock) nothing))
-put-new before now map later lock change e same gone w =
-    w ∙ (writes map lock (change nothing)
-    ∙ (ap (λ (h : List (LockName × Holding)). with_lock h lock (change nothing)) (same ∙ e)
-    ∙ ap (λ (o : Option Holding). with_lock now lock (change (unwrap_or o nothing))) (sym gone ∙ ap (λ (h : List (LockName × Holding)). at_lock h lock) e)))
-
--- a lock that the map doesn't have isn't known
-pub unknown : {A : Type 0} (before now : List (LockName × Holding)) (lock : LockName) → before ≡ now → at_lock before lock ≡ None → knows now lock ≡ true → A
-unknown {A} before now lock e gone known =
-    absurd (let f : false ≡ true = sym (ap is_some gone) ∙ (ap (λ (h : List (LockName × Holding)). knows h lock) e ∙ known) in cc)

@@ -52,6 +52,21 @@ impl Model for Holder {
     ghost view = { λ h. h.locks.entries };
 }
 
+// An ask for the lock in this mode stands: one look-up, also where the lock is new.
+fn note_ask(
+    locks: &mut IndexMap<LockName, Holding>,
+    lock: LockName,
+    mode: Mode,
+) -> Result<(), NoMemory>
+    ensures ok { OnOk result (locks.new.entries ≡ asked_for locks.old.entries lock mode) }
+    ensures err { OnErr result (locks.new.entries ≡ locks.old.entries) }
+    ensures again { knows locks.old.entries lock ≡ true → is_ok result ≡ true }
+{
+    let holding = locks.entry(lock)?.or_insert(NOTHING);
+    holding.wanted = Some(mode);
+    Ok(())
+}
+
 impl Holder {
     /// The node has asked for nothing.
     pub fn new(alloc: Global) -> Holder
@@ -79,17 +94,7 @@ impl Holder {
         ensures err { OnErr result (self.new ≡ self.old) }
         ensures again { knows self.old lock ≡ true → is_ok result ≡ true }
     {
-        match self.locks.get_mut(&lock) {
-            Some(holding) => holding.wanted = Some(mode),
-            None => {
-                let asked = Holding {
-                    wanted: Some(mode),
-                    ..NOTHING
-                };
-                self.locks.insert(lock, asked)?;
-            }
-        }
-        Ok(())
+        note_ask(&mut self.locks, lock, mode)
     }
 
     /// The node is granted the lock in this mode, with the lock's value. It takes no memory.

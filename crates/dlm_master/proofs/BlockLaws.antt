@@ -34,7 +34,7 @@ blocked-cause false waiting held conversions requests n m (inr (node, small, the
     by (Some slot) e = (Slot slot, ap (λ (o : Option ℕ). or_else (option_map Slot o) (or_else (option_map Held (in_way held n m)) (or_else (option_map Behind (in_way conversions n m)) (option_map Behind (in_way requests n m))))) e)
 
 -- and no turns are taken
-blocked-turns : (r : Run) → IsBlocked r → (r.rebuild || not (r.waiting == 0)) ≡ true
+pub blocked-turns : (r : Run) → IsBlocked r → (r.rebuild || not (r.waiting == 0)) ≡ true
 blocked-turns r (inl e) = ap (λ b. b || not (r.waiting == 0)) e
 blocked-turns r (inr (node, small, there)) = elim (eqb_tells r.waiting 0) [
   | inl zero ↦ no-way (sym (ap (λ (n : ℕ). has n node) zero.1 ∙ ap (λ (n : ℕ). not (nat_eq n 0)) (and_zero_l (2 ^ node))) ∙ there)

@@ -1,15 +1,16 @@
 -- What a write of the map of locks does to a master's state.
-use Rattle.std.proofs.Common.{◌≡◌, true, false, List, Option, None, Some, Result, Ok, Err, OnOk, OnErr, is_some, refl, sym, ap, ◌∙◌}
+use Rattle.std.proofs.Common.{◌≡◌, Bool, true, false, List, [], ◌∷◌, length, take, Option, None, Some, Result, Ok, Err, OnOk, OnErr, is_some, refl, sym, ap, ◌∙◌}
 use Rattle.std.specs.Prelude.{unwrap_or}
+use Rattle.std.proofs.Math.Seq.{take-length}
 use Rattle.std.specs.Option.{option_copied_mut}
 use Rattle.std.specs.Map.{set_value}
-use Rattle.indexmap.specs.IndexMap.{IndexMap, insert_entry}
+use Rattle.indexmap.specs.IndexMap.{insert_entry}
 use denote.MutBor.{MutBor}
 use Rattle.glock_names.specs.declared.LockName.{LockName}
-use Rattle.glock_names.specs.LockMaps.{same_lock, at_lock}
+use Rattle.glock_names.specs.LockMaps.{same_lock, at_lock, with_lock}
 use Rattle.glock_names.proofs.LockMapLaws.{with_lock-unique, set_value-with_lock, set_value-same}
 use Rattle.dlm_master.specs.LockState.{LockState}
-use Rattle.dlm_master.specs.Locks.{free_lock}
+use Rattle.dlm_master.specs.Locks.{free_lock, known_or_free}
 use Rattle.dlm_modes.specs.declared.Mode.{Mode}
 use Rattle.dlm_master.specs.Tables.{MasterState, with_state, holds_above}
 
@@ -42,16 +43,18 @@ pub put-same : (m now : MasterState) (lock : LockName) (old new : LockState) (la
 put-same m now lock old new later e there same w =
     ap (λ (t : Table). let s : MasterState = record m { table = t } in s) (w ∙ (ap (set_value (same_lock lock) m.table) same ∙ set_value-same m.table lock old there)) ∙ e
 
-pub entries-of : {S : Type 0} (a b : IndexMap LockName LockState S) → a ≡ b → a.entries ≡ b.entries
-entries-of {S} a b e = ap (λ (m : IndexMap LockName LockState S). m.entries) e
+-- what `insert` writes
+pub writes : (es : Table) (lock : LockName) (x : LockState) → insert_entry same_lock es lock x ≡ with_lock es lock x
+writes = with_lock-unique (insert_entry same_lock) (λ lock x. refl) (λ e es lock x. refl)
 
--- the state after a new lock came into the map
-pub put-new : (m : MasterState) (lock : LockName) (new : LockState) (before later : Table) → before ≡ m.table → later ≡ insert_entry same_lock before lock new
-    → (let s : MasterState = record m { table = later } in s) ≡ with_state m lock new
-put-new m lock new before later e w =
-    ap (λ (t : Table). let s : MasterState = record m { table = t } in s)
-    (w ∙ (ap (λ (t : Table). insert_entry same_lock t lock new) e
-    ∙ with_lock-unique (insert_entry same_lock) (λ lock x. refl) (λ e es lock x. refl) m.table lock new))
+-- after a write of what the map had of the lock, or of a free one, the entries that it had are as they were
+pub taken-back : (es : Table) (lock : LockName) → take (length es) (with_lock es lock (known_or_free es lock)) ≡ es
+taken-back [] lock = refl
+taken-back (e ∷ es) lock = by (same_lock lock e.0) refl (taken-back es lock)
+  where
+    by : (b : Bool) → same_lock lock e.0 ≡ b → take (length es) (with_lock es lock (known_or_free es lock)) ≡ es → take (length (e ∷ es)) (with_lock (e ∷ es) lock (known_or_free (e ∷ es) lock)) ≡ e ∷ es
+    by true h rest = rw h (ap (λ (t : Table). e ∷ t) (take-length es))
+    by false h rest = rw h (ap (λ (t : Table). e ∷ t) rest)
 
 pub on-ok : {A E : Type 0} (r : Result A E) (P Q : Type 0) → (P → Q) → OnOk r P → OnOk r Q
 on-ok (Ok x) P Q f p = f p

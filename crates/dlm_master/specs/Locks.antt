@@ -1,6 +1,8 @@
 -- What the calls do to one lock.
-use Rattle.std.specs.Prelude.{ℕ, ◌==◌, ◌&&◌, Bool, true, false, not, List, [], ◌∷◌, ◌++◌, Option, None, Some, is_some, is_none, option_map, fold, map, ◌||◌, if◌then◌else◌}
+use Rattle.std.specs.Prelude.{ℕ, ◌==◌, ◌&&◌, Bool, true, false, not, List, [], ◌∷◌, ◌++◌, Option, None, Some, is_some, is_none, option_map, fold, map, length, unwrap_or, ◌||◌, if◌then◌else◌}
 use Rattle.std.specs.List.{filter_map}
+use Rattle.glock_names.specs.declared.LockName.{LockName}
+use Rattle.glock_names.specs.LockMaps.{at_lock}
 use Rattle.dlm_modes.specs.declared.Mode.{Mode}
 use Rattle.dlm_modes.specs.declared.Mode.TheVariants.{Nl, Cr, Cw, Pr, Pw, Ex}
 use Rattle.dlm_modes.specs.declared.ValueBlock.{ValueBlock}
@@ -17,6 +19,10 @@ use Rattle.dlm_master.specs.LockState.{LockState, TurnState}
 -- nobody holds the lock, and nobody has written its value
 abbrev pub free_lock : LockState
 free_lock = record { held = []; conversions = []; requests = []; value = not_valid }
+
+-- the lock in a map of locks: free where the map doesn't have it
+abbrev pub known_or_free : List (LockName × LockState) → LockName → LockState
+known_or_free table lock = unwrap_or (at_lock table lock) free_lock
 
 -- ---- why a node has to wait
 
@@ -36,6 +42,10 @@ cause_of rebuild waiting held conversions requests node mode =
 -- whether the node waits for the lock
 abbrev pub is_waiting : LockState → ℕ → Bool
 is_waiting l node = is_some (mode_of_node l.conversions node) || is_some (mode_of_node l.requests node)
+
+-- whether any node waits for it
+abbrev pub is_awaited : LockState → Bool
+is_awaited l = not (length l.conversions == 0) || not (length l.requests == 0)
 
 -- ---- request and convert
 

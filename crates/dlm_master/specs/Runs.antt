@@ -1,14 +1,14 @@
 -- Lists of calls on one lock of a master.
-use Rattle.std.specs.Prelude.{ℕ, ◌≡◌, ⊤, Bool, true, false, List, [], ◌∷◌, Option, None, Some, option_map, unwrap_or, if◌then◌else◌}
+use Rattle.std.specs.Prelude.{ℕ, ⊤, Bool, true, false, List, [], ◌∷◌, Option, None, Some, option_map, unwrap_or, if◌then◌else◌}
 use Rattle.glock_names.specs.declared.LockName.{LockName}
 use Rattle.dlm_modes.specs.declared.Mode.{Mode}
 use Rattle.dlm_modes.specs.declared.Mode.TheVariants.{Pw}
 use Rattle.dlm_modes.specs.declared.ValueBlock.{ValueBlock}
 use Rattle.dlm_modes.specs.Modes.{is_at_least}
-use Rattle.dlm_master.specs.Claims.{mode_of_node, mode_at}
+use Rattle.dlm_master.specs.Claims.{mode_at}
 use Rattle.dlm_master.specs.LockState.{LockState}
-use Rattle.dlm_master.specs.Locks.{free_lock, is_waiting, request_cause, requested, convert_cause, converted, lowered, holds_back, after_grants}
-use Rattle.dlm_master.specs.Tables.{MasterState, lock_of, holds_above, holds_covered}
+use Rattle.dlm_master.specs.Locks.{free_lock, request_cause, requested, convert_cause, converted, lowered, holds_back, after_grants}
+use Rattle.dlm_master.specs.Tables.{MasterState, lock_of, HoldsNone, IsIdle, IsCovered, IsAbove}
 
 -- a call on the lock: a node asks for it, or for another mode, or lowers it; the waiters take their turns; or it is said
 -- whether a rebuild isn't done and which slots wait
@@ -43,9 +43,9 @@ after r (Blocks rebuild waiting) = record { rebuild = rebuild; waiting = waiting
 
 -- what the calls require
 abbrev pub MayCall : Run → Call → Type 0
-MayCall r (Requests node mode) = (mode_of_node r.lock.held node ≡ None) × (is_waiting r.lock node ≡ false)
-MayCall r (Converts node mode) = (holds_covered (mode_of_node r.lock.held node) mode ≡ true) × (is_waiting r.lock node ≡ false)
-MayCall r (Lowers node mode value) = (holds_above (mode_of_node r.lock.held node) mode ≡ true) × (is_waiting r.lock node ≡ false)
+MayCall r (Requests node mode) = HoldsNone r.lock node × IsIdle r.lock node
+MayCall r (Converts node mode) = IsCovered r.lock node mode × IsIdle r.lock node
+MayCall r (Lowers node mode value) = IsAbove r.lock node mode × IsIdle r.lock node
 MayCall r Grants = ⊤
 MayCall r (Blocks rebuild waiting) = ⊤
 

@@ -1,5 +1,5 @@
 -- A master's table of locks.
-use Rattle.std.specs.Prelude.{ℕ, Bool, false, List, [], Option, None, Some, unwrap_or, is_none, if◌then◌else◌}
+use Rattle.std.specs.Prelude.{ℕ, ◌≡◌, Bool, true, false, List, [], Option, None, Some, is_none, if◌then◌else◌}
 use Rattle.glock_names.specs.declared.LockName.{LockName}
 use Rattle.glock_names.specs.LockMaps.{at_lock, with_lock}
 use Rattle.dlm_modes.specs.declared.Mode.{Mode}
@@ -8,7 +8,7 @@ use Rattle.dlm_modes.specs.declared.ValueBlock.{ValueBlock}
 use Rattle.dlm_master.specs.declared.claims.Cause.{Cause}
 use Rattle.dlm_master.specs.Claims.{mode_of_node}
 use Rattle.dlm_master.specs.LockState.{LockState}
-use Rattle.dlm_master.specs.Locks.{free_lock, is_waiting, request_cause, requested, convert_cause, converted, lowered, reported, holds_back, grants_of, after_grants}
+use Rattle.dlm_master.specs.Locks.{known_or_free, is_waiting, request_cause, requested, convert_cause, converted, lowered, reported, holds_back, grants_of, after_grants}
 
 -- the number of the view, whether a rebuild isn't done, the nodes whose slots wait, and a finite map from the locks, in the
 -- order in which the master came to know them
@@ -19,7 +19,7 @@ pub record MasterState : Type 0 where
   pub table : List (LockName × LockState)
 
 abbrev pub lock_of : MasterState → LockName → LockState
-lock_of m lock = unwrap_or (at_lock m.table lock) free_lock
+lock_of m lock = known_or_free m.table lock
 
 -- the same tables, and this of the lock
 abbrev pub with_state : MasterState → LockName → LockState → MasterState
@@ -41,6 +41,26 @@ holds_above (Some held) mode = is_above held mode
 abbrev pub holds_covered : Option Mode → Mode → Bool
 holds_covered None mode = false
 holds_covered (Some held) mode = is_at_least mode held
+
+-- ---- what the calls require of a lock
+
+-- the node holds none of it
+abbrev pub HoldsNone : LockState → ℕ → Type 0
+HoldsNone l node = mode_of_node l.held node ≡ None
+
+-- it waits for nothing on it
+abbrev pub IsIdle : LockState → ℕ → Type 0
+IsIdle l node = is_waiting l node ≡ false
+
+-- it holds it in a mode that this one covers
+abbrev pub IsCovered : LockState → ℕ → Mode → Type 0
+IsCovered l node mode = holds_covered (mode_of_node l.held node) mode ≡ true
+
+-- it holds it in a mode above this one
+abbrev pub IsAbove : LockState → ℕ → Mode → Type 0
+IsAbove l node mode = holds_above (mode_of_node l.held node) mode ≡ true
+
+-- ---- what the calls do
 
 -- no grant is to be made
 abbrev pub is_blocked : MasterState → Bool

@@ -7,10 +7,10 @@ mod beside;
 mod claims;
 mod lock;
 mod master;
+mod table;
 mod turns;
 
 pub use claims::{Answer, Cause, Claim};
-pub use lock::Lock;
 pub use master::Master;
 
 /// A law: the cause that is named to who requests or converts is so, and where none is named nothing is in the way.

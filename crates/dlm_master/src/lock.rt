@@ -1,6 +1,6 @@
 ghost use Rattle.std.specs.Prelude.{◌≡◌, true, is_some, OnOk, OnErr, IfOk};
 ghost use Rattle.dlm_master.specs.Claims.{mode_of_node as mode_of_claim};
-ghost use Rattle.dlm_master.specs.Locks.{free_lock, is_waiting as waits, request_cause, convert_cause, answer_by, requested, converted, lowered, reported, after_grants, grants_of, callback_to as callback_for, callbacks_of};
+ghost use Rattle.dlm_master.specs.Locks.{free_lock, is_waiting as waits, is_awaited as awaited, request_cause, convert_cause, answer_by, requested, converted, lowered, reported, after_grants, grants_of, callback_to as callback_for, callbacks_of};
 
 use crate::beside::{kept, value_after};
 use crate::claims::{Answer, Blocked, Claim, cause_for, hold, lower_claim, mode_of_node};
@@ -12,7 +12,7 @@ use std::marker::Model;
 
 /// A lock at its master.
 #[derive(Drop)]
-pub struct Lock {
+pub(crate) struct Lock {
     held: Vec<Claim>,
     conversions: Vec<Claim>,
     requests: Vec<Claim>,
@@ -55,6 +55,12 @@ impl Lock {
     {
         mode_of_node(&self.conversions, node).is_some()
             || mode_of_node(&self.requests, node).is_some()
+    }
+
+    pub(crate) fn is_awaited(&self) -> bool
+        ensures { result ≡ awaited self.now }
+    {
+        !self.conversions.is_empty() || !self.requests.is_empty()
     }
 
     pub(crate) fn request(&mut self, blocked: Blocked, claim: Claim) -> Result<Answer, NoMemory>
@@ -146,6 +152,9 @@ impl Lock {
         ensures ok { OnOk result (self.new ≡ after_grants self.old) }
         ensures err { OnErr result (self.new ≡ self.old) }
     {
+        if !self.is_awaited() {
+            return Ok(Vec::new(alloc));
+        }
         let (lock, grants) = self.take_turns(alloc)?;
         *self = lock;
         Ok(grants)

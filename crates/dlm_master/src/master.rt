@@ -1,10 +1,11 @@
-ghost use Rattle.std.specs.Prelude.{◌≡◌, [], true, false, None, IfOk, OnOk, OnErr};
+ghost use Rattle.std.specs.Prelude.{◌≡◌, [], true, false, IfOk, OnOk, OnErr};
 ghost use Rattle.glock_names.specs.LockMaps.{lock_in};
-ghost use Rattle.dlm_master.specs.Locks.{answer_by, grants_of, callbacks_of};
-ghost use Rattle.dlm_master.specs.Tables.{lock_of, held_by, waits_for, holds_above, holds_covered, request_waits, convert_waits, after_request, after_convert, after_down, after_report, after_turns, next_of, after_next};
+ghost use Rattle.dlm_master.specs.Locks.{answer_by, is_awaited as awaited, grants_of, callbacks_of};
+ghost use Rattle.dlm_master.specs.Tables.{lock_of, held_by, waits_for, HoldsNone, IsIdle, IsCovered, IsAbove, request_waits, convert_waits, after_request, after_convert, after_down, after_report, after_turns, next_of, after_next};
 
 use crate::claims::{Answer, Blocked, Claim};
 use crate::lock::Lock;
+use crate::table::{report_in, request_in};
 use dlm_modes::{Mode, ValueBlock};
 use glock_names::LockName;
 use indexmap::IndexMap;
@@ -12,8 +13,8 @@ use no_memory::NoMemory;
 use std::alloc::Global;
 use std::marker::Model;
 
-/// The locks of which a node is the master, in one view. Each call makes one lookup by name, and a second where a lock comes new
-/// into the table; it goes over the nodes that hold or await that lock, and over no other lock.
+/// The locks of which a node is the master, in one view. Each call makes one look-up by name, also where a lock comes new into the
+/// table; it goes over the nodes that hold or await that lock, and over no other lock.
 #[derive(Drop)]
 pub struct Master {
     generation: u64,
@@ -72,29 +73,20 @@ impl Master {
 
     /// A node, which holds none of the lock and waits for nothing on it, asks for it. After want of memory nothing has changed.
     pub fn request(&mut self, node: u8, lock: LockName, mode: Mode) -> Result<Answer, NoMemory>
-        requires none { held_by self.old node lock ≡ None }
-        requires idle { waits_for self.old node lock ≡ false }
+        requires none { HoldsNone (lock_of self.old lock) node }
+        requires idle { IsIdle (lock_of self.old lock) node }
         ensures answer { IfOk result (λ a. a ≡ answer_by (request_waits self.old node lock mode) (lock_of self.old lock)) }
         ensures ok { OnOk result (self.new ≡ after_request self.old node lock mode) }
         ensures err { OnErr result (self.new ≡ self.old) }
     {
-        let claim = Claim { node, mode };
-        match self.locks.get_mut(&lock) {
-            Some(found) => found.request(self.blocked, claim),
-            None => {
-                let mut fresh = Lock::new(*self.locks.allocator());
-                let answer = fresh.request(self.blocked, claim)?;
-                self.locks.insert(lock, fresh)?;
-                Ok(answer)
-            }
-        }
+        request_in(&mut self.locks, lock, self.blocked, Claim { node, mode })
     }
 
     /// A node, which holds the lock in a mode that this one covers and waits for nothing on it, asks for this mode. After want of
     /// memory nothing has changed.
     pub fn convert(&mut self, node: u8, lock: LockName, mode: Mode) -> Result<Answer, NoMemory>
-        requires covers { holds_covered (held_by self.old node lock) mode ≡ true }
-        requires idle { waits_for self.old node lock ≡ false }
+        requires covers { IsCovered (lock_of self.old lock) node mode }
+        requires idle { IsIdle (lock_of self.old lock) node }
         ensures answer { IfOk result (λ a. a ≡ answer_by (convert_waits self.old node lock mode) (lock_of self.old lock)) }
         ensures ok { OnOk result (self.new ≡ after_convert self.old node lock mode) }
         ensures err { OnErr result (self.new ≡ self.old) }
@@ -108,8 +100,8 @@ impl Master {
     /// A node, which holds the lock in a mode above this one and waits for nothing on it, keeps this mode only. A value that it
     /// gives is kept, and is valid from then on, where it held the lock in `Pw` or `Ex`. It takes no memory.
     pub fn down(&mut self, node: u8, lock: LockName, mode: Mode, value: Option<[u8; 32]>)
-        requires above { holds_above (held_by self.old node lock) mode ≡ true }
-        requires idle { waits_for self.old node lock ≡ false }
+        requires above { IsAbove (lock_of self.old lock) node mode }
+        requires idle { IsIdle (lock_of self.old lock) node }
         ensures { self.new ≡ after_down self.old node lock mode value }
     {
         let Some(found) = self.locks.get_mut(&lock) else {
@@ -122,19 +114,11 @@ impl Master {
     /// node for a lock the last one counts, and one in `Nl` says that it holds none. After want of memory nothing has changed.
     pub fn report(&mut self, node: u8, lock: LockName, mode: Mode) -> Result<(), NoMemory>
         requires rebuild { self.old.rebuild ≡ true }
-        requires idle { waits_for self.old node lock ≡ false }
+        requires idle { IsIdle (lock_of self.old lock) node }
         ensures ok { OnOk result (self.new ≡ after_report self.old node lock mode) }
         ensures err { OnErr result (self.new ≡ self.old) }
     {
-        match self.locks.get_mut(&lock) {
-            Some(found) => found.report(node, mode),
-            None => {
-                let mut fresh = Lock::new(*self.locks.allocator());
-                fresh.report(node, mode)?;
-                self.locks.insert(lock, fresh)?;
-                Ok(())
-            }
-        }
+        report_in(&mut self.locks, lock, node, mode)
     }
 
     // The waiters of the lock take their turns.
@@ -181,6 +165,16 @@ impl Master {
         match self.locks.get(&lock) {
             None => false,
             Some(found) => found.is_waiting(node),
+        }
+    }
+
+    /// Whether any node waits for the lock.
+    pub fn is_awaited(&self, lock: LockName) -> bool
+        ensures { result ≡ awaited (lock_of self.now lock) }
+    {
+        match self.locks.get(&lock) {
+            None => false,
+            Some(found) => found.is_awaited(),
         }
     }
 

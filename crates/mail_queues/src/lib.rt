@@ -10,7 +10,7 @@ mod queue;
 use dlm_modes::{MailWord, Mode, ValueBlock};
 use glock_names::LockName;
 use no_memory::NoMemory;
-pub use queue::Queue;
+use queue::Queue;
 use std::alloc::Global;
 use std::array;
 use std::marker::Model;

@@ -8,7 +8,7 @@ use std::marker::Model;
 
 /// A queue of messages, with the room that was made for more.
 #[derive(Drop)]
-pub struct Queue {
+pub(crate) struct Queue {
     waiting: VecDeque<Message>,
 }
 
@@ -23,7 +23,7 @@ impl Model for Queue {
 }
 
 impl Queue {
-    pub fn new(alloc: Global) -> Queue
+    pub(crate) fn new(alloc: Global) -> Queue
         ensures { result.messages ≡ [] }
     {
         Queue {
@@ -31,19 +31,19 @@ impl Queue {
         }
     }
 
-    pub fn is_empty(&self) -> bool
+    pub(crate) fn is_empty(&self) -> bool
         ensures { IsTrue result ↔ (self.now.messages ≡ []) }
     {
         self.waiting.is_empty()
     }
 
-    pub fn room(&self) -> usize
+    pub(crate) fn room(&self) -> usize
         ensures { result ≡ self.now.room }
     {
         self.waiting.capacity() - self.waiting.len()
     }
 
-    pub fn send(&mut self, message: Message) -> Result<(), NoMemory>
+    pub(crate) fn send(&mut self, message: Message) -> Result<(), NoMemory>
         ensures ok { OnOk result (self.new.messages ≡ self.old.messages ++ message ∷ []) }
         ensures err { OnErr result (self.new.messages ≡ self.old.messages) }
         ensures room { self.old.room ≤ self.new.room + 1 }
@@ -55,7 +55,7 @@ impl Queue {
         Ok(())
     }
 
-    pub fn reserve(&mut self, more: usize) -> Result<(), NoMemory>
+    pub(crate) fn reserve(&mut self, more: usize) -> Result<(), NoMemory>
         ensures ok { OnOk result (more ≤ self.new.room) }
         ensures roomy { more ≤ self.old.room → is_ok result ≡ true }
         ensures keeps { self.new.messages ≡ self.old.messages }
@@ -65,7 +65,7 @@ impl Queue {
         Ok(())
     }
 
-    pub fn send_reserved(&mut self, message: Message)
+    pub(crate) fn send_reserved(&mut self, message: Message)
         requires { 0 < self.old.room }
         ensures sent { self.new.messages ≡ self.old.messages ++ message ∷ [] }
         ensures room { self.old.room ≤ self.new.room + 1 }
@@ -73,7 +73,7 @@ impl Queue {
         let _ = self.waiting.push_back(message);
     }
 
-    pub fn receive(&mut self) -> Option<Message>
+    pub(crate) fn receive(&mut self) -> Option<Message>
         ensures first { self.old.messages ≡ option_to_list result ++ self.new.messages }
         ensures none { IfNone result (self.old.messages ≡ []) }
         ensures room { self.old.room ≤ self.new.room }
