@@ -1,12 +1,13 @@
 -- Lists of calls on one lock while its table is made anew.
-use Rattle.std.specs.Prelude.{ℕ, ◌≡◌, ◌≢◌, ◌==◌, ⊤, true, false, List, [], ◌∷◌, Option, None, Some, unwrap_or, if◌then◌else◌}
+use Rattle.std.specs.Prelude.{ℕ, ◌≡◌, ◌≢◌, ◌==◌, ⊤, true, List, [], ◌∷◌, Option, None, Some, unwrap_or, if◌then◌else◌}
 use Rattle.dlm_modes.specs.declared.Mode.{Mode}
 use Rattle.dlm_modes.specs.declared.Mode.TheVariants.{Nl}
 use Rattle.dlm_modes.specs.Modes.{go_together, not_valid}
+use Rattle.dlm_master.specs.declared.claims.Claim.{Claim}
 use Rattle.dlm_master.specs.Claims.{is_null, mode_of_node, OneEach, Together}
 use Rattle.dlm_master.specs.LockState.{LockState}
-use Rattle.dlm_master.specs.Locks.{free_lock, is_waiting, request_cause, requested, convert_cause, converted, lowered, reported}
-use Rattle.dlm_master.specs.Tables.{holds_above, holds_covered}
+use Rattle.dlm_master.specs.Locks.{free_lock, claim, request_cause, requested, convert_cause, converted, lowered, reported}
+use Rattle.dlm_master.specs.Tables.{HoldsNone, IsIdle, IsCovered, IsAbove}
 use Rattle.dlm_master.specs.Laws.{IsSound}
 
 -- a node tells what it holds, or lowers it; or it asks for the lock, or for another mode
@@ -25,10 +26,10 @@ after l (Converts node mode) = converted (convert_cause true 0 l node mode) l no
 
 -- what the calls require
 abbrev pub MayCall : LockState → Call → Type 0
-MayCall l (Reports node mode) = is_waiting l node ≡ false
-MayCall l (Lowers node mode) = (holds_above (mode_of_node l.held node) mode ≡ true) × (is_waiting l node ≡ false)
-MayCall l (Requests node mode) = (mode_of_node l.held node ≡ None) × (is_waiting l node ≡ false)
-MayCall l (Converts node mode) = (holds_covered (mode_of_node l.held node) mode ≡ true) × (is_waiting l node ≡ false)
+MayCall l (Reports node mode) = IsIdle l node
+MayCall l (Lowers node mode) = IsAbove l node mode × IsIdle l node
+MayCall l (Requests node mode) = HoldsNone l node × IsIdle l node
+MayCall l (Converts node mode) = IsCovered l node mode × IsIdle l node
 
 abbrev pub after_all : LockState → List Call → LockState
 after_all l [] = l
@@ -49,6 +50,17 @@ last_told (Reports other mode ∷ calls) node before = last_told calls node (if 
 last_told (Lowers other mode ∷ calls) node before = last_told calls node (if other == node then told mode else before)
 last_told (call ∷ calls) node before = last_told calls node before
 
+-- the conversions among the calls, and the requests, in the order of their arrival
+abbrev pub conversions_in : List Call → List Claim
+conversions_in [] = []
+conversions_in (Converts node mode ∷ calls) = claim node mode ∷ conversions_in calls
+conversions_in (call ∷ calls) = conversions_in calls
+
+abbrev pub requests_in : List Call → List Claim
+requests_in [] = []
+requests_in (Requests node mode ∷ calls) = claim node mode ∷ requests_in calls
+requests_in (call ∷ calls) = requests_in calls
+
 -- after every list of calls the table has of each node what it told last, nobody was granted anything, and no value is valid
 pub record HasLastReports (calls : List Call) : Type 0 where
   pub reports : (node : ℕ) → mode_of_node (after_all free_lock calls).held node ≡ last_told calls node None
@@ -56,6 +68,9 @@ pub record HasLastReports (calls : List Call) : Type 0 where
   pub once : OneEach (after_all free_lock calls).held
   pub together : ((i k : ℕ) → i ≢ k → go_together (unwrap_or (last_told calls i None) Nl) (unwrap_or (last_told calls k None) Nl) ≡ true)
       → Together (after_all free_lock calls).held
+  -- who asked waits, in the order of the arrival
+  pub conversions : (after_all free_lock calls).conversions ≡ conversions_in calls
+  pub requests : (after_all free_lock calls).requests ≡ requests_in calls
   pub value : (after_all free_lock calls).value ≡ not_valid
   -- and where each call met what it requires the lock is sound, as the laws of a master want it
   pub sound : MayCallAll free_lock calls → IsSound (after_all free_lock calls)

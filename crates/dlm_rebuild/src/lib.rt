@@ -4,7 +4,7 @@
 ghost use Rattle.std.specs.Prelude.{◌≡◌, ◌<◌, ◌||◌, true, false, not, None, IfOk, IfErr, OnOk, OnErr, is_ok};
 ghost use Rattle.std.specs.List.{list_all};
 ghost use Rattle.fencing.specs.NodeSets.{has, all_nodes};
-ghost use Rattle.dlm_master.specs.Tables.{held_by, waits_for, holds_above, holds_covered};
+ghost use Rattle.dlm_master.specs.Tables.{lock_of, held_by, waits_for, HoldsNone, IsIdle, IsCovered, IsAbove};
 ghost use Rattle.dlm_rebuild.specs.Rebuilding.{NoneValid, begun, with_report, with_end, with_waiting, not_yet, is_done as done, master_after, after_request_in, after_convert_in, after_down_in, master_for};
 ghost use Rattle.dlm_rebuild.specs.Runs.{RebuiltFromReports};
 
@@ -83,9 +83,9 @@ impl Rebuild {
         self.master.blocked(true, waiting);
     }
 
-    /// A member, which waits for nothing on the lock, tells what it holds of it. Of several reports of a node for a lock the last one counts, and one in `Nl` says
-    /// that it holds none. The value that it has of the lock may be older than one that was lowered since, and isn't kept. After
-    /// want of memory nothing has changed.
+    /// A member, which waits for nothing on the lock, tells what it holds of it. Of several reports of a node for a lock the last one
+    /// counts, and one in `Nl` says that it holds none. The value that it has of the lock may be older than one that was lowered
+    /// since, and isn't kept. After want of memory nothing has changed.
     pub fn report(
         &mut self,
         node: u8,
@@ -93,7 +93,7 @@ impl Rebuild {
         mode: Mode,
         _value: ValueBlock,
     ) -> Result<(), NoMemory>
-        requires idle { waits_for self.old.master node lock ≡ false }
+        requires idle { IsIdle (lock_of self.old.master lock) node }
         ensures ok { OnOk result (self.new ≡ with_report self.old node lock mode) }
         ensures err { OnErr result (self.new ≡ self.old) }
     {
@@ -110,8 +110,8 @@ impl Rebuild {
 
     /// A node asks for a lock while the rebuild isn't done, as in `Master::request`: it waits for the rebuild.
     pub fn request(&mut self, node: u8, lock: LockName, mode: Mode) -> Result<Answer, NoMemory>
-        requires none { held_by self.old.master node lock ≡ None }
-        requires idle { waits_for self.old.master node lock ≡ false }
+        requires none { HoldsNone (lock_of self.old.master lock) node }
+        requires idle { IsIdle (lock_of self.old.master lock) node }
         ensures waits { IfOk result (λ a. a ≡ not_yet) }
         ensures ok { OnOk result (self.new ≡ after_request_in self.old node lock mode) }
         ensures err { OnErr result (self.new ≡ self.old) }
@@ -121,8 +121,8 @@ impl Rebuild {
 
     /// A holder asks for another mode while the rebuild isn't done, as in `Master::convert`: it waits for the rebuild.
     pub fn convert(&mut self, node: u8, lock: LockName, mode: Mode) -> Result<Answer, NoMemory>
-        requires covers { holds_covered (held_by self.old.master node lock) mode ≡ true }
-        requires idle { waits_for self.old.master node lock ≡ false }
+        requires covers { IsCovered (lock_of self.old.master lock) node mode }
+        requires idle { IsIdle (lock_of self.old.master lock) node }
         ensures waits { IfOk result (λ a. a ≡ not_yet) }
         ensures ok { OnOk result (self.new ≡ after_convert_in self.old node lock mode) }
         ensures err { OnErr result (self.new ≡ self.old) }
@@ -133,8 +133,8 @@ impl Rebuild {
     /// A node, which waits for nothing on the lock, lowers it after it has reported it. No value is kept before the rebuild is done.
     /// It takes no memory.
     pub fn down(&mut self, node: u8, lock: LockName, mode: Mode)
-        requires above { holds_above (held_by self.old.master node lock) mode ≡ true }
-        requires idle { waits_for self.old.master node lock ≡ false }
+        requires above { IsAbove (lock_of self.old.master lock) node mode }
+        requires idle { IsIdle (lock_of self.old.master lock) node }
         ensures { self.new ≡ after_down_in self.old node lock mode }
     {
         self.master.down(node, lock, mode, None);
@@ -180,7 +180,7 @@ impl Rebuild {
 }
 
 /// A law: after every list of calls a table that is made anew has of each node what it told last, in modes that go together
-/// where these do, and no value in it is valid.
+/// where these do; who asked meanwhile waits, in the order of the arrival; and no value in it is valid.
 pub fn a_rebuilt_table_has_the_last_reports()
     ensures { RebuiltFromReports }
 {}
