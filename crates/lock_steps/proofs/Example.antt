@@ -63,7 +63,7 @@ can-be-made = (
       (OfTable _ (Blocks 0)))
       (OfHolder _ (Lowers 0 Un None (record { node = omega arith; member = refl; settled = refl; taken = refl; runs = refl }) refl (λ e. absurd (let f : mode.Ex ≡ mode.Nl = e in cc)) refl)))
       (OfMail _ (TellsItself 0 _ [] (omega arith) refl refl)))
-      (OfTable _ (Lowered 0 mode.Nl None None [] (omega arith) refl refl refl)))
+      (OfTable _ (Lowered 0 mode.Nl None [] (omega arith) refl refl refl)))
       (OfHolder _ (Asks 0 Sh (record { node = omega arith; member = refl; settled = refl; taken = refl; runs = refl }) (record { nothing = refl; idle = refl }))))
       (OfMail _ (TellsItself 0 _ [] (omega arith) refl refl)))
       (OfTable _ (Requested 0 mode.Pr [] (omega arith) refl refl refl (λ e k x w. w))))

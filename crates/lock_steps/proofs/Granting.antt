@@ -81,7 +81,7 @@ table-waits lock p _ l k tied (calls.Requested j mode rest x hand new idle knows
         let free = no-cause p.table.master.rebuild p.table.master.waiting (present p lock).held (present p lock).conversions (present p lock).requests j mode e in
         may-grant lock p l tied knows free.0 (least-none p.table.master.waiting free.1)
     by (Some cause) e some = absurd (some (left-empty (in_view p.membership.generation (grants lock)) p.post j p.master _ rest p.master k hand none))
-table-waits lock p _ l k tied (calls.Lowered j mode said kept rest x hand above idle) none some =
+table-waits lock p _ l k tied (calls.Lowered j mode said rest x hand above idle) none some =
     absurd (some (left-empty (in_view p.membership.generation (grants lock)) p.post j p.master _ rest p.master k hand none))
 table-waits lock p _ l k tied (calls.LoweredAlready j mode said rest x hand already) none some =
     absurd (some (left-empty (in_view p.membership.generation (grants lock)) p.post j p.master _ rest p.master k hand none))

@@ -30,7 +30,7 @@ use Rattle.lock_steps.specs.Runs.{Steps, Stays, AndThen}
 use Rattle.lock_steps.specs.Parts.{Parts, Post, way, with_left}
 use Rattle.lock_steps.specs.Ties.{Sight, sight, Fits, IsNobody, Tied, in_view, tells, grants, present}
 use Rattle.lock_steps.specs.Ties as ties
-use Rattle.lock_steps.specs.Calls.{KnowsSlots, Requested, Lowered, Reported, Ended, GrantsNext, Completes, Blocks, LoweredAlready, TableElsewhere, reply, grant_letter}
+use Rattle.lock_steps.specs.Calls.{KnowsSlots, Requested, Lowered, Reported, Ended, GrantsNext, Completes, Blocks, LoweredAlready, TableElsewhere, reply, grant_letter, kept_value}
 use Rattle.lock_steps.specs.Laws.{Follows, TableCallsAreSteps}
 use Rattle.lock_steps.proofs.Running.{one-step, steps-join}
 use Rattle.lock_steps.proofs.Basics.{true-false, up-to}
@@ -191,10 +191,10 @@ table-steps lock p _ l (Requested k mode rest x hand new idle knows) sound tied 
               (claim_letter p lock (with_left p.post k p.master rest) (claim k mode)) g.state) (append-nil (present p lock).requests) g.tied))
               refl refl refl;
         }
-table-steps lock p _ l (Lowered k mode said kept rest x hand above idle) sound tied =
-    wrote lock p l (record (present p lock) { held = now_holding (present p lock).held k mode; value = value_after (mode_of_node (present p lock).held k) kept (present p lock).value })
+table-steps lock p _ l (Lowered k mode said rest x hand above idle) sound tied =
+    wrote lock p l (record (present p lock) { held = now_holding (present p lock).held k mode; value = value_after (mode_of_node (present p lock).held k) (kept_value p said) (present p lock).value })
     (with_left p.post k p.master rest) tied
-    (hears-down lock p (present p lock) (value_after (mode_of_node (present p lock).held k) kept (present p lock).value) p.post l k mode said rest (tied-of lock p l tied) sound x hand)
+    (hears-down lock p (present p lock) (value_after (mode_of_node (present p lock).held k) (kept_value p said) (present p lock).value) p.post l k mode said rest (tied-of lock p l tied) sound x hand)
 table-steps lock p _ l (LoweredAlready k mode said rest x hand already) sound tied =
     let r = hears-no-change lock p (present p lock) p.post l k mode said rest (tied-of lock p l tied) sound x hand already in
     record {

@@ -1,5 +1,5 @@
 -- The calls of the lock manager's parts on one lock, each with what its contract says.
-use Rattle.std.specs.Prelude.{ℕ, ◌≡◌, ◌≢◌, ◌≤◌, true, false, List, [], ◌∷◌, ◌++◌, Option, None, Some, fold}
+use Rattle.std.specs.Prelude.{ℕ, ◌≡◌, ◌≢◌, ◌≤◌, true, false, List, [], ◌∷◌, ◌++◌, Option, None, Some, fold, if◌then◌else◌}
 use Rattle.std.specs.List.{AllByRecursion, filter_map}
 use Rattle.glock_names.specs.declared.LockName.{LockName}
 use Rattle.glock_names.specs.LockMaps.{with_lock}
@@ -110,6 +110,10 @@ abbrev pub reply : Parts → LockName → ℕ → Mode → Answer → Post → P
 reply p lock k mode (Granted value) post = grant_letter p lock post (k, mode, value)
 reply p lock k mode (Waiting cause) post = post
 
+-- of the value that the message of a lower gives a master keeps all, and a rebuild nothing
+abbrev pub kept_value : Parts → Option (List ℕ) → Option (List ℕ)
+kept_value p said = if p.table.master.rebuild then None else said
+
 pub data TableCall (lock : LockName) (p : Parts) : Parts → Type 0 where
   -- `Rebuild::request`; and `Master::request`, of a master that knows which slots wait
   Requested : (k : ℕ) (mode : Mode) (rest : List Message) → k ≤ 8 → p.post.took k p.master ≡ now_says p (Request lock mode) ∷ rest
@@ -119,9 +123,9 @@ pub data TableCall (lock : LockName) (p : Parts) : Parts → Type 0 where
         post = reply p lock k mode (answer_by (request_waits p.table.master k lock mode) (present p lock)) (with_left p.post k p.master rest);
       })
   -- `Master::down`, `Rebuild::down`
-  Lowered : (k : ℕ) (mode : Mode) (said kept : Option (List ℕ)) (rest : List Message) → k ≤ 8 → p.post.took k p.master ≡ now_says p (Down lock mode said) ∷ rest
+  Lowered : (k : ℕ) (mode : Mode) (said : Option (List ℕ)) (rest : List Message) → k ≤ 8 → p.post.took k p.master ≡ now_says p (Down lock mode said) ∷ rest
       → holds_above (held_by p.table.master k lock) mode ≡ true → waits_for p.table.master k lock ≡ false
-      → TableCall lock p (record p { table = record p.table { master = after_down p.table.master k lock mode kept }; post = with_left p.post k p.master rest })
+      → TableCall lock p (record p { table = record p.table { master = after_down p.table.master k lock mode (kept_value p said) }; post = with_left p.post k p.master rest })
   -- a node lowers the lock to what the table has of it already: nothing is called
   LoweredAlready : (k : ℕ) (mode : Mode) (said : Option (List ℕ)) (rest : List Message) → k ≤ 8 → p.post.took k p.master ≡ now_says p (Down lock mode said) ∷ rest
       → (sight lock p k).table ≡ mode
