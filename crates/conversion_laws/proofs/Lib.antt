@@ -1,5 +1,6 @@
 pub mod Stages
 pub mod Nodes
 pub mod Masters
+pub mod Blocking
 pub mod Listing
 pub mod Example

@@ -27,9 +27,10 @@ use Rattle.lock_steps.proofs.Tying.{now-says, holding-is, holding-away}
 use Rattle.conversion_laws.specs.Parts.{Parts, now_says, grants_coming, lock_in_table, table_mode, held_or_coming}
 use Rattle.conversion_laws.specs.Calls.{NodeCall, Call, OfMail, OfNode, OfMaster, Calls, NoCall, AndCall, CallDropsNone, DropNone}
 use Rattle.conversion_laws.specs.Calls as calls
-use Rattle.conversion_laws.specs.Laws.{Begins, AreRight, EveryListIsRight, NoAskIsLost, ViewsFollow, RisesByGrant, Rises, Keeps, HoldersRiseByGrants, MeetCalls, MessagesMeetCalls}
+use Rattle.conversion_laws.specs.Laws.{Begins, AreRight, EveryListIsRight, NoAskIsLost, NoneWhileBlocked, ViewsFollow, RisesByGrant, Rises, Keeps, HoldersRiseByGrants, MeetCalls, MessagesMeetCalls}
 use Rattle.conversion_laws.proofs.Stages.{Tells, sees, covered, exact, one-ask, still-asked, was-asked}
 use Rattle.conversion_laws.proofs.Nodes.{sight, Inv, mail-keeps-inv, node-keeps, grant-first}
+use Rattle.conversion_laws.proofs.Blocking.{grants-nothing}
 use Rattle.conversion_laws.proofs.Masters.{master-keeps, meets-request, meets-conversion, meets-lower}
 
 -- ---- the invariant
@@ -178,6 +179,9 @@ meet-calls {lossy} lock p inv = record {
 
 pub messages-meet : MessagesMeetCalls
 messages-meet lock p q b calls = meet-calls lock q (reaches lock p q calls b)
+
+pub none-while-blocked : NoneWhileBlocked
+none-while-blocked lock a p q k b calls blocked call x = grants-nothing lock p q k (reaches lock a p calls b) blocked call x
 
 -- ---- holders rise by grants
 

@@ -1,5 +1,5 @@
 -- What holds of a lock after every list of calls, conversions in all six modes among them.
-use Rattle.std.specs.Prelude.{ℕ, ◌≡◌, ◌≢◌, ◌<◌, ◌≤◌, ◌⊎◌, true, false, List, [], ◌∷◌, Option, None, Some}
+use Rattle.std.specs.Prelude.{ℕ, ◌≡◌, ◌≢◌, ◌<◌, ◌≤◌, ◌⊎◌, true, false, List, [], ◌∷◌, ◌++◌, Option, None, Some}
 use Rattle.std.specs.List.{AllByRecursion}
 use Rattle.glock_names.specs.declared.LockName.{LockName}
 use Rattle.dlm_modes.specs.declared.Mode.{Mode}
@@ -9,7 +9,8 @@ use Rattle.mail_queues.specs.declared.Message.{Message}
 use Rattle.mail_queues.specs.declared.Body.TheVariants.{Request, Convert, Down, Grant}
 use Rattle.dlm_holder.specs.Holdings.{knows, mode_in, wanted_in}
 use Rattle.dlm_master.specs.Claims.{Together}
-use Rattle.dlm_master.specs.Laws.{IsSound}
+use Rattle.dlm_master.specs.Laws.{IsSound, IsBlocked}
+use Rattle.dlm_master.specs.Runs.{run_of}
 use Rattle.dlm_master.specs.Locks.{free_lock}
 use Rattle.dlm_master.specs.Tables.{held_by, waits_for, holds_above, holds_covered}
 use Rattle.dlm_rebuild.specs.Runs as rebuilds
@@ -54,6 +55,19 @@ EveryListIsRight = (lock : LockName) (p q : Parts) → Begins lock p → Calls l
 abbrev pub NoAskIsLost : Type 0
 NoAskIsLost = (lock : LockName) (p q : Parts) (calls : Calls lock p q) → Begins lock p → DropNone lock p q calls
     → (k : ℕ) → k ≤ 8 → (mode : Mode) → wanted_in (q.holders k) lock ≡ Some mode → asks_of lock q k ≡ mode ∷ []
+
+-- ---- nobody is granted anything while the master is blocked
+
+-- a call leaves the table no more of the node than it had, and sets no grant on its way to it: those that were are, all or all but the
+-- first ones
+pub record GrantsNothing (lock : LockName) (p q : Parts) (k : ℕ) : Type 0 where
+  pub table : is_at_least (table_mode lock p k) (table_mode lock q k) ≡ true
+  pub gone : List Mode
+  pub letters : grants_coming lock p k ≡ gone ++ grants_coming lock q k
+
+-- so does each call, after every list of calls, while a rebuild isn't done or a slot waits
+abbrev pub NoneWhileBlocked : Type 0
+NoneWhileBlocked = (lock : LockName) (a p q : Parts) (k : ℕ) → Begins lock a → Calls lock a p → IsBlocked (run_of p.table lock) → Call lock p q → k ≤ 8 → GrantsNothing lock p q k
 
 -- ---- a view follows another
 

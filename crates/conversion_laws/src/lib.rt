@@ -2,7 +2,7 @@
 #![tactic(auto)]
 
 ghost use Rattle.conversion_laws.specs.Example.{ListCanBeMade};
-ghost use Rattle.conversion_laws.specs.Laws.{EveryListIsRight, NoAskIsLost, ViewsFollow, HoldersRiseByGrants, MessagesMeetCalls};
+ghost use Rattle.conversion_laws.specs.Laws.{EveryListIsRight, NoAskIsLost, NoneWhileBlocked, ViewsFollow, HoldersRiseByGrants, MessagesMeetCalls};
 
 /// A law: after every list of calls the table has of each node at least what it holds and is granted, and what nodes hold and are
 /// granted goes together.
@@ -13,6 +13,12 @@ pub fn every_list_is_right()
 /// A law: where no grant is dropped, the ask that a holder has comes to the master, waits there, or is granted and on its way.
 pub fn no_ask_is_lost()
     ensures { NoAskIsLost }
+{}
+
+/// A law: while a rebuild isn't done or a slot waits, no call grants anything: none leaves the table more of a node than it had, and
+/// none sets a grant on its way.
+pub fn none_is_granted_while_blocked()
+    ensures { NoneWhileBlocked }
 {}
 
 /// A law: where a view ends and the next one begins with a table that is made of what each node reports, the list of calls goes on: its
