@@ -5,7 +5,7 @@ ghost use Rattle.drafts.specs.Fates.{block_with, blocks_in, locks_in, freed_in};
 
 use crate::{Change, Fate, Written};
 use file_tree::Content;
-use glock_names::{Group, LockName, State, View};
+use glock_names::{Group, LockName, State, View, block_of};
 use no_memory::NoMemory;
 use std::alloc::Global;
 use std::collections::BTreeMap;
@@ -38,7 +38,7 @@ impl<'a, V: View> Model for Draft<'a, V> {
 }
 
 impl<'a, V: View> Draft<'a, V> {
-    ghost use Rattle.std.specs.Prelude.{◌≡◌, length, option_map, OnOk, OnErr, IfOk};
+    ghost use Rattle.std.specs.Prelude.{◌≡◌, length, option_map, OnOk, OnErr, IfOk, IfSome};
     ghost use Rattle.std.specs.FinMap as map;
     ghost use Rattle.drafts.specs.declared.fate.Fate.TheVariants.{Put, Freed};
     ghost use Rattle.drafts.specs.Fates.{blocks_in, locks_in, freed_in, seen_with};
@@ -84,9 +84,10 @@ impl<'a, V: View> Draft<'a, V> {
     /// A copy of a block as the draft sees it, to be changed and put; None where it isn't seen. Costs the copy and a look-up in
     /// a tree.
     pub fn copy(&self, block: u64) -> Result<Option<Vec<u8>>, NoMemory>
-        ensures { IfOk result (λ copied. option_map (λ copy. copy.items) copied ≡ (seen_with (V.seen self.now.view) self.now.fates).block_at block) }
+        ensures bytes { IfOk result (λ copied. option_map (λ copy. copy.items) copied ≡ (seen_with (V.seen self.now.view) self.now.fates).block_at block) }
+        ensures size { IfOk result (λ copied. IfSome copied (λ copy. length copy.items ≡ (V.seen self.now.view).size)) }
     {
-        match self.block(block) {
+        match block_of(self, block) {
             Some(bytes) => Ok(Some(Vec::from_slice(self.alloc, bytes)?)),
             None => Ok(None),
         }

@@ -13,3 +13,4 @@ pub mod ReadBack
 pub mod ReadBackMore
 pub mod ReadOwn
 pub mod ReadLaws
+pub mod HeaderLaws
