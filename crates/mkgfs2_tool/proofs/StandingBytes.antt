@@ -14,7 +14,6 @@ use Rattle.gfs2_layout.specs.declared.header.MetaHeader.{MetaHeader}
 use Rattle.gfs2_layout.specs.declared.fault.LayoutFault.{LayoutFault}
 use Rattle.gfs2_layout.specs.declared.fault.LayoutFault.TheVariants.{Short, Magic, Kind, Format}
 use Rattle.gfs2_layout.specs.Headers.{HasHeader}
-
 -- ---- answers
 
 pub use Rattle.gfs2_layout.proofs.HeaderLaws.{answer_ok, some_none, header_from}
