@@ -1,6 +1,6 @@
 -- Each event keeps what holds of the cluster, and is a list of the machine's steps.
 use Rattle.std.proofs.Common.{ℕ, ◌≡◌, ◌<◌, ◌⊎◌, inl, inr, suc, Bool, true, false, ◌&&◌, None, Some, refl, sym, ap, ◌∙◌, subst, arith}
-use Rattle.std.specs.Prelude.{not}
+use Rattle.std.specs.Prelude.{not, ◌-◌}
 use Rattle.std.proofs.lemmas.Bool.{cases_eq, cases_Bool, cond-true, cond-false}
 use Rattle.cluster_laws.specs.Files.{Files, CellOf, Part, LockOf, Un, Ex}
 use Rattle.cluster_laws.specs.Book.{at, taken, relocked}
@@ -14,7 +14,7 @@ use Rattle.cluster_laws.proofs.Running.{step_keeps, every_run, sound_start}
 use Rattle.lock_laws.specs.Lock.{Node, Holds, starting, Compatible}
 use Rattle.lock_laws.specs.Lock as lock
 use Rattle.lock_laws.proofs.Keeping.{alone, starts}
-use Rattle.cluster_events.specs.Cluster.{Cluster, IsIdle, headers_after, worked, HeadersFlyAlone, acts, BookOf, Sends, Receives, Weakens, MayWork, with_book, restated, NothingUnder, stopped, freed, joined, Works, Mails, IsGranted, GoesDown, Stops, Fences, Views, Joins, Recovers, PastEnds, Events, Done, Then, Together, StartIsTogether, EventKeeps, EventIsSteps, EveryCluster}
+use Rattle.cluster_events.specs.Cluster.{Cluster, IsIdle, headers_after, unlost_after, worked, HeadersFlyAlone, acts, BookOf, Sends, Receives, Weakens, MayWork, with_book, restated, NothingUnder, stopped, freed, joined, Works, Mails, IsGranted, GoesDown, Stops, Fences, Views, Joins, Recovers, PastEnds, Events, Done, Then, Together, StartIsTogether, EventKeeps, EventIsSteps, EveryCluster}
 use Rattle.cluster_events.proofs.Locking.{un-or-held, un-ex, makes-sound, makes-idle, sends-makes, sends-state, sends-waits, sends-member, receives-makes, receives-same, receives-other, receives-held, weakens-makes, weakens-same, weakens-other, weakens-ex, weakens-un}
 
 true-false : {b : Bool} → b ≡ true → b ≡ false → ⊥
@@ -218,6 +218,23 @@ module _ (F : Files) (c : Cluster F) (t : Together F c) where
   unheaded-step _ (world.Shrinks j cache forgets) may i idle none k has = none k has
   unheaded-step _ (world.Loses j m all above below calm next empty single) may i idle none k has = none k has
 
+  -- the past has no life to lose
+  lifeless-step : (v : World F) (step : world.Step F w v) → MayWork F c v step → unlost_after F c v step (c.past) ≡ 0
+  lifeless-step _ (world.Loses k m all above below calm next none single) may =
+      at-cases (λ z. z ≡ 0) (c.unlost) k (c.unlost k - 1) (c.past) (λ e. (let n : c.unlost k ≡ 0 = ap (c.unlost) (sym e) ∙ t.lifeless in omega (arith, n))) (λ ne. t.lifeless)
+  lifeless-step _ (world.Answers j said view change cache no_sync a) may = t.lifeless
+  lifeless-step _ (world.Syncs j said does still calm) may = t.lifeless
+  lifeless-step _ (world.Publishes k some) may = t.lifeless
+  lifeless-step _ (world.Begins k h single heads) may = t.lifeless
+  lifeless-step _ (world.Ends k b) may = t.lifeless
+  lifeless-step _ (world.Writes r b v k live) may = t.lifeless
+  lifeless-step _ (world.Lands r x settles) may = t.lifeless
+  lifeless-step _ (world.Settles k p all own one dead) may = t.lifeless
+  lifeless-step _ (world.Lower k state cache lowers) may = t.lifeless
+  lifeless-step _ (world.Grants k state raises) may = t.lifeless
+  lifeless-step _ (world.Reads j b held) may = t.lifeless
+  lifeless-step _ (world.Shrinks k cache forgets) may = t.lifeless
+
   pub works : (v : World F) (step : world.Step F w v) (may : MayWork F c v step) → Together F (worked F c v step may)
   works v step may = record {
     world = step_keeps F w v step (t.world);
@@ -226,6 +243,7 @@ module _ (F : Files) (c : Cluster F) (t : Together F c) where
     members = t.members;
     waiting = t.waiting;
     gone = t.gone;
+    lifeless = lifeless-step v step may;
     idle = t.idle;
     ended = λ none l. ap (λ f. f (c.past) l) (state-step v step may) ∙ t.ended none l;
     quiet = quiet-step v step may;
@@ -243,6 +261,7 @@ module _ (F : Files) (c : Cluster F) (t : Together F c) where
     members = λ i l. sends-member _ _ (h l) i ∙ t.members i l;
     waiting = λ i l. sends-waits _ _ (h l) i ∙ t.waiting i l;
     gone = t.gone;
+    lifeless = t.lifeless;
     idle = λ wait l. makes-idle (c.past) _ _ (sends-makes _ _ (h l)) (sends-waits _ _ (h l) (c.past) ∙ t.waiting (c.past) l ∙ wait) (t.idle wait l);
     ended = t.ended;
     quiet = t.quiet;
@@ -260,6 +279,7 @@ module _ (F : Files) (c : Cluster F) (t : Together F c) where
     members = t.members;
     waiting = t.waiting;
     gone = t.gone;
+    lifeless = t.lifeless;
     idle = λ wait l i. ((t.idle wait l i).0, refl);
     ended = t.ended;
     quiet = t.quiet;
@@ -330,6 +350,7 @@ module _ (F : Files) (c : Cluster F) (t : Together F c) where
       members = λ k l. receives-same (λ n. n.member) (λ n s. refl) i _ _ (h l) k ∙ t.members k l;
       waiting = waits';
       gone = t.gone;
+      lifeless = t.lifeless;
       idle = idle';
       ended = λ over l. ap (λ f. f l) (at-other ((BookOf F c).state) i _ (c.past) (λ e. here (sym e))) ∙ t.ended over l;
       quiet = t.quiet;
@@ -380,6 +401,7 @@ module _ (F : Files) (c : Cluster F) (t : Together F c) where
       members = λ k l. weakens-same (λ n. n.member) (λ n m a b. a) i _ _ (h l) k ∙ t.members k l;
       waiting = down-waits;
       gone = t.gone;
+      lifeless = t.lifeless;
       idle = λ wait l. makes-idle (c.past) _ _ (weakens-makes i _ _ (h l)) (down-waits (c.past) l ∙ wait) (t.idle wait l);
       ended = λ over l. ap (λ f. f l) (at-other ((BookOf F c).state) i _ (c.past) (λ e. here (sym e))) ∙ t.ended over l;
       quiet = λ k idle. (let q = t.quiet k idle in (
@@ -418,6 +440,7 @@ module _ (F : Files) (c : Cluster F) (t : Together F c) where
       members = λ j l. at-both (λ n m. n.member ≡ m) (c.locks l) (stopped (c.locks l i)) (c.runs) false j refl (t.members j l);
       waiting = λ j l. at-both (λ n m. n.waits ≡ m) (c.locks l) (stopped (c.locks l i)) (c.waits) true j refl (t.waiting j l);
       gone = at-cases (λ z. z ≡ false) (c.runs) i false (c.past) (λ e. refl) (λ ne. t.gone);
+      lifeless = at-other (c.unlost) i (suc (c.unlost i)) (c.past) (λ e. here (sym e)) ∙ t.lifeless;
       idle = λ wait l k. (let q = t.idle (sym (at-other (c.waits) i true (c.past) (λ e. here (sym e))) ∙ wait) l in
           at-cases (λ n. (n.state ≡ Un) × (n.down ≡ None)) (c.locks l) i (stopped (c.locks l i)) k (λ e. q i) (λ ne. q k));
       ended = λ over l. t.ended (sym (at-other (c.waits) i true (c.past) (λ e. here (sym e))) ∙ over) l;
@@ -458,6 +481,7 @@ module _ (F : Files) (c : Cluster F) (t : Together F c) where
     members = t.members;
     waiting = t.waiting;
     gone = t.gone;
+    lifeless = t.lifeless;
     idle = t.idle;
     ended = t.ended;
     quiet = t.quiet;
@@ -483,6 +507,7 @@ module _ (F : Files) (c : Cluster F) (t : Together F c) where
       ];
       waiting = λ j l. at-cases (λ n. n.waits ≡ c.waits j) (c.locks l) i (joined (c.locks l i)) j (λ e. ap (λ z. (c.locks l z).waits) (sym e) ∙ t.waiting j l) (λ ne. t.waiting j l);
       gone = at-other (c.runs) i true (c.past) (λ e. here (sym e)) ∙ t.gone;
+      lifeless = t.lifeless;
       idle = λ wait l k. (let q = t.idle wait l in
           at-cases (λ n. (n.state ≡ Un) × (n.down ≡ None)) (c.locks l) i (joined (c.locks l i)) k (λ e. q i) (λ ne. q k));
       ended = t.ended;
@@ -539,6 +564,7 @@ module _ (F : Files) (c : Cluster F) (t : Together F c) where
           | inr ne ↦ ap (λ (n : Node). n.waits) (at-other (c.locks l) i (freed (c.locks l i)) j ne) ∙ t.waiting j l ∙ sym (at-other (c.waits) i false j ne)
         ];
         gone = t.gone;
+        lifeless = t.lifeless;
         idle = λ past l k. elim (cases_eq (c.past) i) [
           | inl e ↦ absurd (true-false past (subst (λ z. at (c.waits) i false z ≡ false) (sym e) (at-same (c.waits) i false)))
           | inr ne ↦ (let q = t.idle (sym (at-other (c.waits) i false (c.past) ne) ∙ past) l in
@@ -619,6 +645,7 @@ starts_together F c s = record {
   members = λ i l. ap (λ (n : Node). n.member) (s.locks l i);
   waiting = λ i l. ap (λ (n : Node). n.waits) (s.locks l i);
   gone = s.gone;
+  lifeless = s.unlost (c.past);
   idle = λ wait l i. (ap (λ (n : Node). n.state) (s.locks l i), ap (λ (n : Node). n.down) (s.locks l i));
   ended = s.clean;
   quiet = λ i idle. (let n = (s.world).numbers i in (n.1 ∙ sym (n.2), λ b. (s.world).uncached i b));

@@ -186,7 +186,9 @@ pub record Together (F : Files) (c : Cluster F) : Type 0 where
   pub tied : (i : ℕ) (l : F.Lock) → (i ≡ c.past → ⊥) → (BookOf F c).state i l ≡ (c.locks l i).state
   pub members : (i : ℕ) (l : F.Lock) → (c.locks l i).member ≡ c.runs i
   pub waiting : (i : ℕ) (l : F.Lock) → (c.locks l i).waits ≡ c.waits i
+  -- the past doesn't run, and no life of it ended
   pub gone : c.runs (c.past) ≡ false
+  pub lifeless : c.unlost (c.past) ≡ 0
   -- while a slot waits since the start nobody holds a lock or is granted one
   pub idle : c.waits (c.past) ≡ true → (l : F.Lock) (i : ℕ) → ((c.locks l i).state ≡ Un) × ((c.locks l i).down ≡ None)
   -- after that the past holds nothing

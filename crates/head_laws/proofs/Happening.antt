@@ -329,10 +329,10 @@ module _ (I : Images) (clients : List Client) (behind : ℕ → ℕ → Accepted
       (same-journal _ _ refl (sym (at-same (c.waits) i false)) refl refl refl refl refl refl refl)
       (unspoken i (behind i) (journal_of I t i) _ (t.items) (journals.IsRecovered wait told unheaded its-first))
       (λ k ne. same-journal _ _ refl (sym (at-other (c.waits) i false k ne)) refl refl refl refl refl refl refl) (λ k ne. Nothing)
-  steps _ (cluster.PastEnds wait nothing_left unheaded) (none, ch) =
+  steps _ (cluster.PastEnds wait nothing_left unheaded) ch =
       step-same I clients behind t u _ (cluster.PastEnds wait nothing_left unheaded) (c.past) (t.names) (t.silent) [] ch base refl refl (record (journal_of I t (c.past)) { waits = false })
       (same-journal _ _ refl (sym (at-same (c.waits) (c.past) false)) refl refl refl refl refl refl refl)
-      (unspoken (c.past) (behind (c.past)) (journal_of I t (c.past)) _ (t.items) (journals.IsRecovered wait none unheaded (λ runs l is. true-false runs together.gone)))
+      (unspoken (c.past) (behind (c.past)) (journal_of I t (c.past)) _ (t.items) (journals.IsRecovered wait together.lifeless unheaded (λ runs l is. true-false runs together.gone)))
       (λ k ne. same-journal _ _ refl (sym (at-other (c.waits) (c.past) false k ne)) refl refl refl refl refl refl refl) (λ k ne. Nothing)
   steps _ (cluster.Stops i here runs all) (x, is-end, ch) =
       step-same I clients behind t u _ (cluster.Stops i here runs all) i (t.names) (at (t.silent) i false) (x ∷ []) ch base (end-history clients i x is-end) refl

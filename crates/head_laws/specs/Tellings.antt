@@ -9,7 +9,7 @@ use Rattle.run_rules.specs.Recoveries.{Place, Slots, is_recovering, slots_after,
 use Rattle.cluster_laws.specs.Book.{at}
 use Rattle.cluster_laws.specs.Mirror.{either}
 use Rattle.cluster_laws.specs.World as world
-use Rattle.cluster_events.specs.Cluster.{Cluster, Together, Event, Works, Stops, Fences, Joins, Recovers, PastEnds}
+use Rattle.cluster_events.specs.Cluster.{Cluster, Together, Event, Works, Stops, Fences, Joins, Recovers}
 use Rattle.tree_histories.specs.Trees.{Images, Trees, history_of}
 use Rattle.head_laws.specs.Journals.{present, head_item, unnamed_upto, IsEnd, IsFirst, EachIsFenced}
 use Rattle.head_laws.specs.Traces.{Told, journal_of, Step, Steps, Begins, MayLand}
@@ -91,8 +91,6 @@ Tells I clients behind t u _ (Joins i here out fenced waits) =
 -- the item stands that the slot is recovered, and its losses; of a node that runs the disk is told behind this item
 Tells I clients behind t u _ (Recovers i here wait nothing unheaded told) =
     (is_recovering i (place_of (t.items)) ≡ true) × IsFirst i (behind i) (journal_of I t i) (t.items) × Changed I t u (t.names) (t.silent) []
--- the past has no lives
-Tells I clients behind t u _ (PastEnds waits nothing unheaded) = ((t.cluster).unlost ((t.cluster).past) ≡ 0) × Changed I t u (t.names) (t.silent) []
 Tells I clients behind t u _ _ = Changed I t u (t.names) (t.silent) []
 
 -- an item without an event. That a slot is recovered is said while it waits, and not of the past's
