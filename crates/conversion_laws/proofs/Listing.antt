@@ -24,7 +24,7 @@ use Rattle.lock_laws.specs.Lock.{at}
 use Rattle.lock_steps.specs.Ties.{in_view, grants}
 use Rattle.lock_steps.proofs.Basics.{up-to, same-self, at-here, at-away}
 use Rattle.lock_steps.proofs.Tying.{now-says, holding-is, holding-away}
-use Rattle.conversion_laws.specs.Parts.{Parts, now_says, grants_coming, lock_in_table, table_mode, held_or_coming}
+use Rattle.conversion_laws.specs.Parts.{LockParts, now_says, grants_coming, lock_in_table, table_mode, held_or_coming}
 use Rattle.conversion_laws.specs.Calls.{NodeCall, Call, OfMail, OfNode, OfMaster, Calls, NoCall, AndCall, CallDropsNone, DropNone}
 use Rattle.conversion_laws.specs.Calls as calls
 use Rattle.conversion_laws.specs.Laws.{Begins, AreRight, EveryListIsRight, NoAskIsLost, NoneWhileBlocked, ViewsFollow, RisesByGrant, Rises, Keeps, HoldersRiseByGrants, MeetCalls, MessagesMeetCalls}
@@ -35,7 +35,7 @@ use Rattle.conversion_laws.proofs.Masters.{master-keeps, meets-request, meets-co
 
 -- ---- the invariant
 
-starts : {lossy : Type 0} (lock : LockName) (p : Parts) → Begins lock p → Inv lossy lock p
+starts : {lossy : Type 0} (lock : LockName) (p : LockParts) → Begins lock p → Inv lossy lock p
 starts {lossy} lock p b = record {
   master = b.master;
   sound = b.sound;
@@ -46,12 +46,12 @@ starts {lossy} lock p b = record {
       (Tells (refl, refl) refl refl);
 }
 
-call-keeps : {lossy : Type 0} (lock : LockName) (p q : Parts) (call : Call lock p q) → lossy ⊎ CallDropsNone lock p q call → Inv lossy lock p → Inv lossy lock q
+call-keeps : {lossy : Type 0} (lock : LockName) (p q : LockParts) (call : Call lock p q) → lossy ⊎ CallDropsNone lock p q call → Inv lossy lock p → Inv lossy lock q
 call-keeps {lossy} lock p _ (OfMail post call) may inv = mail-keeps-inv lock p post call inv
 call-keeps {lossy} lock p q (OfNode _ call) may inv = node-keeps lock p q call may inv
 call-keeps {lossy} lock p q (OfMaster _ call) may inv = master-keeps lock p q call inv
 
-calls-keep : {lossy : Type 0} (lock : LockName) (p q : Parts) (calls : Calls lock p q) → lossy ⊎ DropNone lock p q calls → Inv lossy lock p → Inv lossy lock q
+calls-keep : {lossy : Type 0} (lock : LockName) (p q : LockParts) (calls : Calls lock p q) → lossy ⊎ DropNone lock p q calls → Inv lossy lock p → Inv lossy lock q
 calls-keep {lossy} lock p _ NoCall may inv = inv
 calls-keep {lossy} lock p _ (AndCall q r before call) may inv = call-keeps lock q r call (last may) (calls-keep lock p q before (first may) inv)
   where
@@ -64,7 +64,7 @@ calls-keep {lossy} lock p _ (AndCall q r before call) may inv = call-keeps lock 
     first (inr both) = inr both.0
 
 -- grants may be lost
-reaches : (lock : LockName) (p q : Parts) → Calls lock p q → Begins lock p → Inv ⊤ lock q
+reaches : (lock : LockName) (p q : LockParts) → Calls lock p q → Begins lock p → Inv ⊤ lock q
 reaches lock p q calls b = calls-keep lock p q calls (inl tt) (starts lock p b)
 
 -- ---- the table, and what nodes hold
@@ -81,7 +81,7 @@ go-all t u (a ∷ ns) bs goes all more = (each bs more, go-all t u ns bs goes al
       each bs more.1,
     )
 
-are-right : {lossy : Type 0} (lock : LockName) (p : Parts) → Inv lossy lock p → AreRight lock p
+are-right : {lossy : Type 0} (lock : LockName) (p : LockParts) → Inv lossy lock p → AreRight lock p
 are-right {lossy} lock p inv = record {
   sound = inv.sound;
   together = inv.together;
@@ -165,7 +165,7 @@ knows-it h lock mode e = by (at_lock h lock) refl
     by None f = absurd (let g : None ≡ Some mode = sym (ap (λ (o : Option Holding). (unwrap_or o nothing).wanted) f) ∙ e in cc)
     by (Some x) f = ap is_some f
 
-meet-calls : {lossy : Type 0} (lock : LockName) (p : Parts) → Inv lossy lock p → MeetCalls lock p
+meet-calls : {lossy : Type 0} (lock : LockName) (p : LockParts) → Inv lossy lock p → MeetCalls lock p
 meet-calls {lossy} lock p inv = record {
   requests = λ k mode rest x hand. meets-request lock p k mode rest inv x hand;
   conversions = λ k mode rest x hand. meets-conversion lock p k mode rest inv x hand;
@@ -186,11 +186,11 @@ none-while-blocked lock a p q k b calls blocked call x = grants-nothing lock p q
 -- ---- holders rise by grants
 
 -- a node whose holding changes in this way, at a call of a node
-changes : (lock : LockName) (p : Parts) (holders : ℕ → Holdings) (k : ℕ) → holders k ≡ p.holders k → is_at_least (mode_in (p.holders k) lock) (mode_in (holders k) lock) ≡ true
+changes : (lock : LockName) (p : LockParts) (holders : ℕ → Holdings) (k : ℕ) → holders k ≡ p.holders k → is_at_least (mode_in (p.holders k) lock) (mode_in (holders k) lock) ≡ true
 changes lock p holders k e = ap (λ (h : Holdings). is_at_least (mode_in (p.holders k) lock) (mode_in h lock)) e ∙ covers-itself (mode_in (p.holders k) lock)
 
 -- one node's holding changes, and another's stays as it is
-keeps-at : (lock : LockName) (p q : Parts) (j : ℕ) (h : Holdings) (k : ℕ) → q.holders ≡ at p.holders j h → is_at_least (mode_in (p.holders j) lock) (mode_in h lock) ≡ true → RisesByGrant lock p q k
+keeps-at : (lock : LockName) (p q : LockParts) (j : ℕ) (h : Holdings) (k : ℕ) → q.holders ≡ at p.holders j h → is_at_least (mode_in (p.holders j) lock) (mode_in h lock) ≡ true → RisesByGrant lock p q k
 keeps-at lock p q j h k is low = Keeps (ap (λ (f : ℕ → Holdings). is_at_least (mode_in (p.holders k) lock) (mode_in (f k) lock)) is ∙ elim (cases_eq k j) [
   | inl e ↦ subst (λ (i : ℕ). is_at_least (mode_in (p.holders i) lock) (mode_in (at p.holders j h i) lock) ≡ true) (sym e)
       (ap (λ (x : Holdings). is_at_least (mode_in (p.holders j) lock) (mode_in x lock)) (at-here p.holders j h) ∙ low)
@@ -200,7 +200,7 @@ keeps-at lock p q j h k is low = Keeps (ap (λ (f : ℕ → Holdings). is_at_lea
 same-mode : (lock : LockName) (h : Holdings) (x : Holding) → x.mode ≡ mode_in h lock → is_at_least (mode_in h lock) (mode_in (with_lock h lock x) lock) ≡ true
 same-mode lock h x e = ap (λ (y : Holding). is_at_least (mode_in h lock) y.mode) (holding-is h lock x) ∙ (ap (is_at_least (mode_in h lock)) e ∙ covers-itself (mode_in h lock))
 
-node-rises : (lock : LockName) (p q : Parts) (k : ℕ) → NodeCall lock p q → RisesByGrant lock p q k
+node-rises : (lock : LockName) (p q : LockParts) (k : ℕ) → NodeCall lock p q → RisesByGrant lock p q k
 node-rises lock p q k (calls.Asks j mode x null none) = keeps-at lock p q j (asked_for (p.holders j) lock mode) k refl (same-mode lock (p.holders j) (record (holding_of (p.holders j) lock) { wanted = Some mode }) refl)
 node-rises lock p q k (calls.Raises j mode x some covers none) = keeps-at lock p q j (asked_for (p.holders j) lock mode) k refl (same-mode lock (p.holders j) (record (holding_of (p.holders j) lock) { wanted = Some mode }) refl)
 node-rises lock p q k (calls.Lowers j mode value x known covers none) = keeps-at lock p q j (lowered_to (p.holders j) lock mode) k refl

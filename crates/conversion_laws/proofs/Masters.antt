@@ -34,7 +34,7 @@ use Rattle.lock_steps.proofs.Tying.{now-says, says-one, says-none}
 use Rattle.lock_steps.proofs.Ways.{letters-say, letters-mute, letters-away, left-says, left-mute, left-away}
 use Rattle.lock_steps.proofs.Claims.{now-here, now-away, among-here, among-away}
 use Rattle.dlm_master.proofs.RunTables.{written}
-use Rattle.conversion_laws.specs.Parts.{Parts, now_says, call_of, calls_coming, grants_coming, lock_in_table, table_mode}
+use Rattle.conversion_laws.specs.Parts.{LockParts, now_says, call_of, calls_coming, grants_coming, lock_in_table, table_mode}
 use Rattle.conversion_laws.specs.Calls.{MasterCall, grant_letter, reply}
 use Rattle.conversion_laws.specs.Calls as calls
 use Rattle.conversion_laws.proofs.Stages.{Sight, Stage, IsHeard, sees}
@@ -43,7 +43,7 @@ use Rattle.conversion_laws.proofs.Nodes.{sight, Inv}
 
 -- ---- what is seen where this is the lock in the table, and this is under way
 
-abbrev seen : LockName → Parts → LockState → Post → ℕ → Sight
+abbrev seen : LockName → LockParts → LockState → Post → ℕ → Sight
 seen lock p l post j = record (sight lock p j) {
   table = mode_at l.held j;
   waits = mode_of_node (l.conversions ++ l.requests) j;
@@ -51,7 +51,7 @@ seen lock p l post j = record (sight lock p j) {
   granted = filter_map (in_view p.table.generation (grants lock)) (way post p.master j);
 }
 
-wrote : {lossy : Type 0} (lock : LockName) (p : Parts) (l : LockState) (post : Post) → Inv lossy lock p → IsSound l × Together l.held → ((j : ℕ) → j ≤ 8 → Stage lossy (seen lock p l post j))
+wrote : {lossy : Type 0} (lock : LockName) (p : LockParts) (l : LockState) (post : Post) → Inv lossy lock p → IsSound l × Together l.held → ((j : ℕ) → j ≤ 8 → Stage lossy (seen lock p l post j))
     → Inv lossy lock (record p { table = with_state p.table lock l; post = post })
 wrote {lossy} lock p l post inv good stages =
     let is : lock_of (with_state p.table lock l) lock ≡ l = written p.table lock l in
@@ -64,7 +64,7 @@ wrote {lossy} lock p l post inv good stages =
 
 -- ---- what the master's calls keep
 
-kept : {lossy : Type 0} (lock : LockName) (p : Parts) (call : runs.Call) → Inv lossy lock p → runs.MayCall (run_of p.table lock) call
+kept : {lossy : Type 0} (lock : LockName) (p : LockParts) (call : runs.Call) → Inv lossy lock p → runs.MayCall (run_of p.table lock) call
     → IsSound (runs.after (run_of p.table lock) call).lock × Together (runs.after (run_of p.table lock) call).lock.held
 kept {lossy} lock p call inv may = (
   sound-locks-stay-sound.stays (run_of p.table lock) (call ∷ []) (may, tt) inv.sound,
@@ -110,7 +110,7 @@ above-or-same (Some had) mode covers = above-or-is had mode covers
 
 -- ---- a message in hand
 
-module _ (lock : LockName) (p : Parts) (k : ℕ) (b : Body) (c : runs.Call) (rest : List Message) (hand : p.post.took k p.master ≡ now_says p b ∷ rest)
+module _ (lock : LockName) (p : LockParts) (k : ℕ) (b : Body) (c : runs.Call) (rest : List Message) (hand : p.post.took k p.master ≡ now_says p b ∷ rest)
     (said : call_of lock k b ≡ Some c) (mute : grants lock b ≡ None) where
   abbrev pub left : Post
   left = with_left p.post k p.master rest
@@ -132,16 +132,16 @@ module _ (lock : LockName) (p : Parts) (k : ℕ) (b : Body) (c : runs.Call) (res
 -- ---- a letter that grants
 
 -- to a waiter
-abbrev claim_letter : Parts → LockName → Post → Claim → Post
+abbrev claim_letter : LockParts → LockName → Post → Claim → Post
 claim_letter p lock post w = grant_letter p lock post (w.node, w.mode, (lock_in_table lock p).value)
 
 -- and to each who is granted
-granted-letters : (lock : LockName) (p : Parts) (ws : List Claim) (post : Post)
+granted-letters : (lock : LockName) (p : LockParts) (ws : List Claim) (post : Post)
     → fold (grant_letter p lock) post (map (λ c. (c.node, c.mode, (lock_in_table lock p).value)) ws) ≡ fold (claim_letter p lock) post ws
 granted-letters lock p [] post = refl
 granted-letters lock p (w ∷ ws) post = granted-letters lock p ws (claim_letter p lock post w)
 
-module _ (lock : LockName) (p : Parts) (post : Post) (w : Claim) where
+module _ (lock : LockName) (p : LockParts) (post : Post) (w : Claim) where
   abbrev letter : List Message
   letter = now_says p (Grant lock w.mode (lock_in_table lock p).value) ∷ []
 
@@ -165,7 +165,7 @@ module _ (lock : LockName) (p : Parts) (post : Post) (w : Claim) where
 
 -- ---- an ask that comes to the table
 
-module _ {lossy : Type 0} (lock : LockName) (p : Parts) (k : ℕ) (mode : Mode) (b : Body) (c : runs.Call) (rest : List Message) (inv : Inv lossy lock p) (within : k ≤ 8)
+module _ {lossy : Type 0} (lock : LockName) (p : LockParts) (k : ℕ) (mode : Mode) (b : Body) (c : runs.Call) (rest : List Message) (inv : Inv lossy lock p) (within : k ≤ 8)
     (hand : p.post.took k p.master ≡ now_says p b ∷ rest) (said : call_of lock k b ≡ Some c) (mute : grants lock b ≡ None)
     (heard : IsHeard (sight lock p k) mode (calls_left lock p k b c rest hand said mute)) where
   abbrev l : LockState
@@ -204,18 +204,18 @@ module _ {lossy : Type 0} (lock : LockName) (p : Parts) (k : ℕ) (mode : Mode) 
 
 -- ---- what the messages in hand find
 
-record Finds (lock : LockName) (p : Parts) (k : ℕ) (mode : Mode) (b : Body) (c : runs.Call) (rest : List Message) (hand : p.post.took k p.master ≡ now_says p b ∷ rest)
+record Finds (lock : LockName) (p : LockParts) (k : ℕ) (mode : Mode) (b : Body) (c : runs.Call) (rest : List Message) (hand : p.post.took k p.master ≡ now_says p b ∷ rest)
     (said : call_of lock k b ≡ Some c) (mute : grants lock b ≡ None) : Type 0 where
   heard : IsHeard (sight lock p k) mode (calls_left lock p k b c rest hand said mute)
   may : runs.MayCall (run_of p.table lock) c
 
-finds-request : {lossy : Type 0} (lock : LockName) (p : Parts) (k : ℕ) (mode : Mode) (rest : List Message) → Inv lossy lock p → k ≤ 8 → (hand : p.post.took k p.master ≡ now_says p (Request lock mode) ∷ rest)
+finds-request : {lossy : Type 0} (lock : LockName) (p : LockParts) (k : ℕ) (mode : Mode) (rest : List Message) → Inv lossy lock p → k ≤ 8 → (hand : p.post.took k p.master ≡ now_says p (Request lock mode) ∷ rest)
     → Finds lock p k mode (Request lock mode) (runs.Requests k mode) rest hand (cond-true _ _ _ (same-self lock)) refl
 finds-request {lossy} lock p k mode rest inv x hand =
     let h = stages.hears-request (sight lock p k) k mode _ (inv.stages k x) (call-first lock p k (Request lock mode) (runs.Requests k mode) rest hand (cond-true _ _ _ (same-self lock)) refl) in
     record { heard = h.0; may = (null-none (lock_in_table lock p).held k inv.sound.never_null h.1, waits-not (lock_in_table lock p) k h.0.waits) }
 
-finds-conversion : {lossy : Type 0} (lock : LockName) (p : Parts) (k : ℕ) (mode : Mode) (rest : List Message) → Inv lossy lock p → k ≤ 8 → (hand : p.post.took k p.master ≡ now_says p (Convert lock mode) ∷ rest)
+finds-conversion : {lossy : Type 0} (lock : LockName) (p : LockParts) (k : ℕ) (mode : Mode) (rest : List Message) → Inv lossy lock p → k ≤ 8 → (hand : p.post.took k p.master ≡ now_says p (Convert lock mode) ∷ rest)
     → Finds lock p k mode (Convert lock mode) (runs.Converts k mode) rest hand (cond-true _ _ _ (same-self lock)) refl
 finds-conversion {lossy} lock p k mode rest inv x hand =
     let h = stages.hears-conversion (sight lock p k) k mode _ (inv.stages k x) (call-first lock p k (Convert lock mode) (runs.Converts k mode) rest hand (cond-true _ _ _ (same-self lock)) refl) in
@@ -228,28 +228,28 @@ finds-conversion {lossy} lock p k mode rest inv x hand =
     }
 
 -- a request or a conversion that is met
-pub meets-request : {lossy : Type 0} (lock : LockName) (p : Parts) (k : ℕ) (mode : Mode) (rest : List Message) → Inv lossy lock p → k ≤ 8 → p.post.took k p.master ≡ now_says p (Request lock mode) ∷ rest
+pub meets-request : {lossy : Type 0} (lock : LockName) (p : LockParts) (k : ℕ) (mode : Mode) (rest : List Message) → Inv lossy lock p → k ≤ 8 → p.post.took k p.master ≡ now_says p (Request lock mode) ∷ rest
     → runs.MayCall (run_of p.table lock) (runs.Requests k mode)
 meets-request {lossy} lock p k mode rest inv x hand = (finds-request lock p k mode rest inv x hand).may
 
-pub meets-conversion : {lossy : Type 0} (lock : LockName) (p : Parts) (k : ℕ) (mode : Mode) (rest : List Message) → Inv lossy lock p → k ≤ 8 → p.post.took k p.master ≡ now_says p (Convert lock mode) ∷ rest
+pub meets-conversion : {lossy : Type 0} (lock : LockName) (p : LockParts) (k : ℕ) (mode : Mode) (rest : List Message) → Inv lossy lock p → k ≤ 8 → p.post.took k p.master ≡ now_says p (Convert lock mode) ∷ rest
     → runs.MayCall (run_of p.table lock) (runs.Converts k mode)
 meets-conversion {lossy} lock p k mode rest inv x hand = (finds-conversion lock p k mode rest inv x hand).may
 
 -- a lower
-record FindsLower (lossy : Type 0) (lock : LockName) (p : Parts) (k : ℕ) (mode : Mode) (q : List runs.Call) : Type 0 where
+record FindsLower (lossy : Type 0) (lock : LockName) (p : LockParts) (k : ℕ) (mode : Mode) (q : List runs.Call) : Type 0 where
   covers : is_at_least (table_mode lock p k) mode ≡ true
   idle : is_waiting (lock_in_table lock p) k ≡ false
   stage : Stage lossy (record (sight lock p k) { table = mode; coming = q })
 
-finds-lower : {lossy : Type 0} (lock : LockName) (p : Parts) (k : ℕ) (mode : Mode) (value : Option (List ℕ)) (rest : List Message) → Inv lossy lock p → k ≤ 8
+finds-lower : {lossy : Type 0} (lock : LockName) (p : LockParts) (k : ℕ) (mode : Mode) (value : Option (List ℕ)) (rest : List Message) → Inv lossy lock p → k ≤ 8
     → p.post.took k p.master ≡ now_says p (Down lock mode value) ∷ rest
     → FindsLower lossy lock p k mode (filter_map (in_view p.table.generation (call_of lock k)) (way (with_left p.post k p.master rest) k p.master))
 finds-lower {lossy} lock p k mode value rest inv x hand =
     let h = stages.hears-lower (sight lock p k) k mode value _ (inv.stages k x) (call-first lock p k (Down lock mode value) (runs.Lowers k mode value) rest hand (cond-true _ _ _ (same-self lock)) refl) in
     record { covers = h.0; idle = waits-not (lock_in_table lock p) k h.1; stage = h.2 }
 
-pub meets-lower : {lossy : Type 0} (lock : LockName) (p : Parts) (k : ℕ) (mode : Mode) (value : Option (List ℕ)) (rest : List Message) → Inv lossy lock p → k ≤ 8
+pub meets-lower : {lossy : Type 0} (lock : LockName) (p : LockParts) (k : ℕ) (mode : Mode) (value : Option (List ℕ)) (rest : List Message) → Inv lossy lock p → k ≤ 8
     → p.post.took k p.master ≡ now_says p (Down lock mode value) ∷ rest
     → ((holds_above (mode_of_node (lock_in_table lock p).held k) mode ≡ true) ⊎ (table_mode lock p k ≡ mode)) × (is_waiting (lock_in_table lock p) k ≡ false)
 meets-lower {lossy} lock p k mode value rest inv x hand =
@@ -305,7 +305,7 @@ given-node held (w ∷ ws) k mode all e = by (eqb_tells w.node k) (given-node he
     by (inr ne) rest = rest (rw ne.0 at e)
 
 -- the letters to all who are granted
-module _ (lock : LockName) (p : Parts) (j : ℕ) where
+module _ (lock : LockName) (p : LockParts) (j : ℕ) where
   letters-mute-all : (ws : List Claim) (post : Post) → filter_map (in_view p.table.generation (call_of lock j)) (way (fold (claim_letter p lock) post ws) j p.master)
       ≡ filter_map (in_view p.table.generation (call_of lock j)) (way post j p.master)
   letters-mute-all [] post = refl
@@ -328,7 +328,7 @@ module _ (lock : LockName) (p : Parts) (j : ℕ) where
           ∙ rw is.0 refl))
       by (inr ne) = ap (λ (ms : List Mode). ms ++ option_to_list (mode_of_node ws j)) (grant-away lock p post w j (λ e. ne.1 (sym e))) ∙ rw ne.0 refl
 
-module _ {lossy : Type 0} (lock : LockName) (p : Parts) (inv : Inv lossy lock p) where
+module _ {lossy : Type 0} (lock : LockName) (p : LockParts) (inv : Inv lossy lock p) where
   abbrev now : LockState
   now = lock_in_table lock p
 
@@ -388,7 +388,7 @@ module _ {lossy : Type 0} (lock : LockName) (p : Parts) (inv : Inv lossy lock p)
 
 -- ---- the calls
 
-pub master-keeps : {lossy : Type 0} (lock : LockName) (p q : Parts) → MasterCall lock p q → Inv lossy lock p → Inv lossy lock q
+pub master-keeps : {lossy : Type 0} (lock : LockName) (p q : LockParts) → MasterCall lock p q → Inv lossy lock p → Inv lossy lock q
 master-keeps {lossy} lock p _ (calls.Requested k mode rest x hand) inv = by (request_waits p.table k lock mode) (kept lock p (runs.Requests k mode) inv f.may)
   where
     f : Finds lock p k mode (Request lock mode) (runs.Requests k mode) rest hand (cond-true _ _ _ (same-self lock)) refl
@@ -431,7 +431,7 @@ master-keeps {lossy} lock p _ (calls.Lowered k mode value rest x hand above) inv
     ])
 master-keeps {lossy} lock p _ (calls.LoweredAlready k mode value rest x hand already) inv =
     let f = finds-lower lock p k mode value rest inv x hand in
-    let q : Parts = record p { post = with_left p.post k p.master rest } in
+    let q : LockParts = record p { post = with_left p.post k p.master rest } in
     record {
       master = inv.master;
       sound = inv.sound;

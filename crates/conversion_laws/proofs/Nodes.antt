@@ -20,13 +20,13 @@ use Rattle.lock_steps.specs.Calls.{MailCall}
 use Rattle.lock_steps.proofs.Basics.{same-self, at-here, at-away, pairs}
 use Rattle.lock_steps.proofs.Tying.{now-says, says-one, says-none, holding-is, holding-away}
 use Rattle.lock_steps.proofs.Ways.{letters-say, letters-mute, letters-away, left-says, left-mute, left-away, letters-quiet-from, mail-keeps}
-use Rattle.conversion_laws.specs.Parts.{Parts, now_says, call_of, calls_coming, grants_coming, lock_in_table, table_mode}
+use Rattle.conversion_laws.specs.Parts.{LockParts, now_says, call_of, calls_coming, grants_coming, lock_in_table, table_mode}
 use Rattle.conversion_laws.specs.Calls.{NodeCall, NodeDropsNone, tells}
 use Rattle.conversion_laws.specs.Calls as calls
 use Rattle.conversion_laws.proofs.Stages.{Sight, Stage, sees}
 use Rattle.conversion_laws.proofs.Stages as stages
 
-abbrev pub sight : LockName → Parts → ℕ → Sight
+abbrev pub sight : LockName → LockParts → ℕ → Sight
 sight lock p k = record {
   wanted = wanted_in (p.holders k) lock;
   mode = mode_in (p.holders k) lock;
@@ -36,20 +36,20 @@ sight lock p k = record {
   granted = grants_coming lock p k;
 }
 
-pub record Inv (lossy : Type 0) (lock : LockName) (p : Parts) : Type 0 where
+pub record Inv (lossy : Type 0) (lock : LockName) (p : LockParts) : Type 0 where
   pub master : p.master ≤ 8
   pub sound : IsSound (lock_in_table lock p)
   pub together : Together (lock_in_table lock p).held
   pub stages : (k : ℕ) → k ≤ 8 → Stage lossy (sight lock p k)
 
 -- the table stays as it is
-unchanged : {lossy : Type 0} (lock : LockName) (p : Parts) (holders : ℕ → Holdings) (post : Post) → Inv lossy lock p
+unchanged : {lossy : Type 0} (lock : LockName) (p : LockParts) (holders : ℕ → Holdings) (post : Post) → Inv lossy lock p
     → ((k : ℕ) → k ≤ 8 → Stage lossy (sight lock (record p { holders = holders; post = post }) k)) → Inv lossy lock (record p { holders = holders; post = post })
 unchanged {lossy} lock p holders post inv stages = record { master = inv.master; sound = inv.sound; together = inv.together; stages = stages }
 
 -- ---- the mail
 
-pub mail-keeps-inv : {lossy : Type 0} (lock : LockName) (p : Parts) (post : Post) → MailCall p.post post → Inv lossy lock p → Inv lossy lock (record p { post = post })
+pub mail-keeps-inv : {lossy : Type 0} (lock : LockName) (p : LockParts) (post : Post) → MailCall p.post post → Inv lossy lock p → Inv lossy lock (record p { post = post })
 mail-keeps-inv {lossy} lock p post call inv = unchanged lock p p.holders post inv (λ k x.
     sees (sight lock p k) (sight lock (record p { post = post }) k) refl refl refl refl
     (ap (filter_map (in_view p.table.generation (call_of lock k))) (sym (mail-keeps p.post post call k p.master x inv.master)))
@@ -58,7 +58,7 @@ mail-keeps-inv {lossy} lock p post call inv = unchanged lock p p.holders post in
 
 -- ---- a node writes to the master
 
-module _ {lossy : Type 0} (lock : LockName) (p : Parts) (k : ℕ) (h : Holdings) (b : Body) (c : runs.Call) (inv : Inv lossy lock p) (said : call_of lock k b ≡ Some c) (mute : grants lock b ≡ None) where
+module _ {lossy : Type 0} (lock : LockName) (p : LockParts) (k : ℕ) (h : Holdings) (b : Body) (c : runs.Call) (inv : Inv lossy lock p) (said : call_of lock k b ≡ Some c) (mute : grants lock b ≡ None) where
   abbrev letters : List Message
   letters = now_says p b ∷ []
 
@@ -95,10 +95,10 @@ module _ {lossy : Type 0} (lock : LockName) (p : Parts) (k : ℕ) (h : Holdings)
 
 -- ---- a grant is taken, or any message dropped
 
-abbrev less : Parts → ℕ → ℕ → List Message → Parts
+abbrev less : LockParts → ℕ → ℕ → List Message → LockParts
 less p from to rest = record p { post = with_left p.post from to rest }
 
-module _ (lock : LockName) (p : Parts) (from to : ℕ) (m : Message) (rest : List Message) (hand : p.post.took from to ≡ m ∷ rest)
+module _ (lock : LockName) (p : LockParts) (from to : ℕ) (m : Message) (rest : List Message) (hand : p.post.took from to ≡ m ∷ rest)
     (quiet : to ≡ p.master → in_view p.table.generation (call_of lock from) m ≡ None) where
   -- the calls that come are the same
   pub calls-left : (j : ℕ) → filter_map (in_view p.table.generation (call_of lock j)) (way (with_left p.post from to rest) j p.master) ≡ calls_coming lock p j
@@ -108,7 +108,7 @@ module _ (lock : LockName) (p : Parts) (from to : ℕ) (m : Message) (rest : Lis
     | inr ne ↦ ap (filter_map (in_view p.table.generation (call_of lock j))) (left-away p.post from to rest j p.master ne)
   ]
 
-module _ (lock : LockName) (p : Parts) (k : ℕ) (m : Message) (rest : List Message) (mode : Mode) (hand : p.post.took p.master k ≡ m ∷ rest)
+module _ (lock : LockName) (p : LockParts) (k : ℕ) (m : Message) (rest : List Message) (mode : Mode) (hand : p.post.took p.master k ≡ m ∷ rest)
     (grant : in_view p.table.generation (grants lock) m ≡ Some mode) where
   abbrev left : List Mode
   left = filter_map (in_view p.table.generation (grants lock)) (way (with_left p.post p.master k rest) p.master k)
@@ -127,7 +127,7 @@ module _ (lock : LockName) (p : Parts) (k : ℕ) (m : Message) (rest : List Mess
 
 -- ---- the calls
 
-pub node-keeps : {lossy : Type 0} (lock : LockName) (p q : Parts) (call : NodeCall lock p q) → lossy ⊎ NodeDropsNone lock p q call → Inv lossy lock p → Inv lossy lock q
+pub node-keeps : {lossy : Type 0} (lock : LockName) (p q : LockParts) (call : NodeCall lock p q) → lossy ⊎ NodeDropsNone lock p q call → Inv lossy lock p → Inv lossy lock q
 node-keeps {lossy} lock p _ (calls.Asks k mode x null none) may inv =
     let h : Holdings = asked_for (p.holders k) lock mode in
     let now : holding_of h lock ≡ record (holding_of (p.holders k) lock) { wanted = Some mode } = holding-is (p.holders k) lock (record (holding_of (p.holders k) lock) { wanted = Some mode }) in
@@ -148,7 +148,7 @@ node-keeps {lossy} lock p _ (calls.IsGranted k mode value rest x hand) may inv =
     let grant : in_view p.table.generation (grants lock) m ≡ Some mode = now-says (grants lock) p.table.generation (Grant lock mode value) ∙ cond-true _ _ _ (same-self lock) in
     let h : Holdings = granted_to (p.holders k) lock mode value in
     let now : holding_of h lock ≡ record { mode = mode; wanted = None; value = value } = holding-is (p.holders k) lock (record { mode = mode; wanted = None; value = value }) in
-    let q : Parts = record p { holders = at p.holders k h; post = with_left p.post p.master k rest } in
+    let q : LockParts = record p { holders = at p.holders k h; post = with_left p.post p.master k rest } in
     let quiet : (from : ℕ) → in_view p.table.generation (call_of lock from) m ≡ None = λ from. now-says (call_of lock from) p.table.generation (Grant lock mode value) in
     let first = grant-first lock p k m rest mode hand grant in
     unchanged lock p (at p.holders k h) (with_left p.post p.master k rest) inv (λ j y. elim (cases_eq j k) [
@@ -178,7 +178,7 @@ node-keeps {lossy} lock p _ (calls.DropsGrant k mode value rest x hand) may inv 
     quiet : (from : ℕ) → in_view p.table.generation (call_of lock from) m ≡ None
     quiet from = now-says (call_of lock from) p.table.generation (Grant lock mode value)
 
-    q : Parts
+    q : LockParts
     q = less p p.master k rest
 
     lost-it : lossy ⊎ ⊥ → lossy

@@ -21,16 +21,16 @@ use Rattle.lock_laws.specs.Lock.{at}
 use Rattle.lock_steps.specs.Parts.{Post, with_letters, with_left}
 use Rattle.lock_steps.specs.Ties.{in_view, grants}
 use Rattle.lock_steps.specs.Calls.{MailCall}
-use Rattle.conversion_laws.specs.Parts.{Parts, now_says, call_of, lock_in_table, table_mode}
+use Rattle.conversion_laws.specs.Parts.{LockParts, now_says, call_of, lock_in_table, table_mode}
 
 -- ---- a node. Its asks and lowers have conditions on its own holder alone; what is dropped and written besides makes no call at the
 -- master and is no grant of it
 
 -- the node has this now, and writes this to the lock's master
-abbrev pub tells : Parts → ℕ → Holdings → Body → Parts
+abbrev pub tells : LockParts → ℕ → Holdings → Body → LockParts
 tells p k h body = record p { holders = at p.holders k h; post = with_letters p.post k p.master (now_says p body ∷ []) }
 
-pub data NodeCall (lock : LockName) (p : Parts) : Parts → Type 0 where
+pub data NodeCall (lock : LockName) (p : LockParts) : LockParts → Type 0 where
   -- `Holder::asked`: a node that holds nothing of the lock, and has no other ask for it, requests it
   Asks : (k : ℕ) (mode : Mode) → k ≤ 8 → mode_in (p.holders k) lock ≡ Nl → wanted_in (p.holders k) lock ≡ None
       → NodeCall lock p (tells p k (asked_for (p.holders k) lock mode) (Request lock mode))
@@ -64,16 +64,16 @@ pub data NodeCall (lock : LockName) (p : Parts) : Parts → Type 0 where
 -- ---- the lock's master
 
 -- the letter to a node that is granted the lock in this mode, with this value
-abbrev pub grant_letter : Parts → LockName → Post → ℕ × Mode × ValueBlock → Post
+abbrev pub grant_letter : LockParts → LockName → Post → ℕ × Mode × ValueBlock → Post
 grant_letter p lock post grant = with_letters post p.master grant.0 (now_says p (Grant lock grant.1 grant.2) ∷ [])
 
 -- it goes to a node whose answer is a grant
-abbrev pub reply : Parts → LockName → ℕ → Mode → Answer → Post → Post
+abbrev pub reply : LockParts → LockName → ℕ → Mode → Answer → Post → Post
 reply p lock k mode (Granted value) post = grant_letter p lock post (k, mode, value)
 reply p lock k mode (Waiting cause) post = post
 
 -- on a message in hand. That the first two, and the third where it lowers, meet what the calls require is a law: `MeetCalls`
-pub data MasterCall (lock : LockName) (p : Parts) : Parts → Type 0 where
+pub data MasterCall (lock : LockName) (p : LockParts) : LockParts → Type 0 where
   -- `Master::request`
   Requested : (k : ℕ) (mode : Mode) (rest : List Message) → k ≤ 8 → p.post.took k p.master ≡ now_says p (Request lock mode) ∷ rest
       → MasterCall lock p (record p {
@@ -106,24 +106,24 @@ pub data MasterCall (lock : LockName) (p : Parts) : Parts → Type 0 where
 
 -- ---- lists of calls
 
-pub data Call (lock : LockName) (p : Parts) : Parts → Type 0 where
+pub data Call (lock : LockName) (p : LockParts) : LockParts → Type 0 where
   OfMail : (post : Post) → MailCall p.post post → Call lock p (record p { post = post })
-  OfNode : (q : Parts) → NodeCall lock p q → Call lock p q
-  OfMaster : (q : Parts) → MasterCall lock p q → Call lock p q
+  OfNode : (q : LockParts) → NodeCall lock p q → Call lock p q
+  OfMaster : (q : LockParts) → MasterCall lock p q → Call lock p q
 
-pub data Calls (lock : LockName) (p : Parts) : Parts → Type 0 where
+pub data Calls (lock : LockName) (p : LockParts) : LockParts → Type 0 where
   NoCall : Calls lock p p
-  AndCall : (q r : Parts) → Calls lock p q → Call lock q r → Calls lock p r
+  AndCall : (q r : LockParts) → Calls lock p q → Call lock q r → Calls lock p r
 
 -- no grant is dropped: by this call of a node, by this call, by these calls
-abbrev pub NodeDropsNone : (lock : LockName) (p q : Parts) → NodeCall lock p q → Type 0
+abbrev pub NodeDropsNone : (lock : LockName) (p q : LockParts) → NodeCall lock p q → Type 0
 NodeDropsNone lock p _ (DropsGrant k mode value rest small hand) = ⊥
 NodeDropsNone lock p _ call = ⊤
 
-abbrev pub CallDropsNone : (lock : LockName) (p q : Parts) → Call lock p q → Type 0
+abbrev pub CallDropsNone : (lock : LockName) (p q : LockParts) → Call lock p q → Type 0
 CallDropsNone lock p _ (OfNode q call) = NodeDropsNone lock p q call
 CallDropsNone lock p _ call = ⊤
 
-abbrev pub DropNone : (lock : LockName) (p q : Parts) → Calls lock p q → Type 0
+abbrev pub DropNone : (lock : LockName) (p q : LockParts) → Calls lock p q → Type 0
 DropNone lock p _ NoCall = ⊤
 DropNone lock p _ (AndCall q r before call) = DropNone lock p q before × CallDropsNone lock q r call

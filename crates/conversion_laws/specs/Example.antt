@@ -5,14 +5,14 @@ use Rattle.glock_names.specs.declared.LockName.{LockName}
 use Rattle.dlm_modes.specs.declared.Mode.TheVariants.{Nl, Pr, Ex}
 use Rattle.dlm_holder.specs.Holdings.{mode_in}
 use Rattle.dlm_master.specs.Claims.{mode_of_node}
-use Rattle.conversion_laws.specs.Parts.{Parts, lock_in_table}
+use Rattle.conversion_laws.specs.Parts.{LockParts, lock_in_table}
 use Rattle.conversion_laws.specs.Calls.{Calls}
 use Rattle.conversion_laws.specs.Laws.{Begins}
 
 abbrev pub a_lock : LockName
 a_lock = record { kind = 2; number = 24 }
 
-abbrev pub all_new : Parts
+abbrev pub all_new : LockParts
 all_new = record {
   master = 0;
   table = record { generation = 1; rebuild = false; waiting = 0; table = [] };
@@ -21,7 +21,7 @@ all_new = record {
 }
 
 abbrev pub ListCanBeMade : Type 0
-ListCanBeMade = (q : Parts) × (p : Parts) × Begins a_lock all_new
+ListCanBeMade = (q : LockParts) × (p : LockParts) × Begins a_lock all_new
     × Calls a_lock all_new q × (mode_in (q.holders 0) a_lock ≡ Pr) × (mode_in (q.holders 1) a_lock ≡ Pr)
     × (mode_of_node (lock_in_table a_lock q).conversions 0 ≡ Some Ex)
     × Calls a_lock q p × (mode_in (p.holders 0) a_lock ≡ Ex) × (mode_in (p.holders 1) a_lock ≡ Nl)

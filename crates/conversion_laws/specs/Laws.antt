@@ -14,12 +14,12 @@ use Rattle.dlm_master.specs.Runs.{run_of}
 use Rattle.dlm_master.specs.Locks.{free_lock}
 use Rattle.dlm_master.specs.Tables.{held_by, waits_for, holds_above, holds_covered}
 use Rattle.dlm_rebuild.specs.Runs as rebuilds
-use Rattle.conversion_laws.specs.Parts.{Parts, now_says, calls_coming, grants_coming, lock_in_table, table_mode, asks_of, held_or_coming}
+use Rattle.conversion_laws.specs.Parts.{LockParts, now_says, calls_coming, grants_coming, lock_in_table, table_mode, asks_of, held_or_coming}
 use Rattle.conversion_laws.specs.Calls.{Call, Calls, DropNone}
 
 -- the start: the table has of each node just what it holds, in modes that go together; nobody asks, and nothing of the lock is under
 -- way. So it is where nobody holds the lock, and where a view begins (`ViewsFollow`)
-pub record Begins (lock : LockName) (p : Parts) : Type 0 where
+pub record Begins (lock : LockName) (p : LockParts) : Type 0 where
   pub master : p.master ≤ 8
   pub sound : IsSound (lock_in_table lock p)
   pub together : Together (lock_in_table lock p).held
@@ -32,7 +32,7 @@ pub record Begins (lock : LockName) (p : Parts) : Type 0 where
 
 -- ---- the table, and what nodes hold
 
-pub record AreRight (lock : LockName) (p : Parts) : Type 0 where
+pub record AreRight (lock : LockName) (p : LockParts) : Type 0 where
   -- the table has nobody twice, and its modes go together
   pub sound : IsSound (lock_in_table lock p)
   pub together : Together (lock_in_table lock p).held
@@ -47,13 +47,13 @@ pub record AreRight (lock : LockName) (p : Parts) : Type 0 where
   pub exact : (k : ℕ) → k ≤ 8 → wanted_in (p.holders k) lock ≡ None → calls_coming lock p k ≡ [] → table_mode lock p k ≡ mode_in (p.holders k) lock
 
 abbrev pub EveryListIsRight : Type 0
-EveryListIsRight = (lock : LockName) (p q : Parts) → Begins lock p → Calls lock p q → AreRight lock q
+EveryListIsRight = (lock : LockName) (p q : LockParts) → Begins lock p → Calls lock p q → AreRight lock q
 
 -- ---- no ask is lost
 
 -- where no grant is dropped the ask that a holder has is in progress: it comes to the master, waits there, or is granted and on its way
 abbrev pub NoAskIsLost : Type 0
-NoAskIsLost = (lock : LockName) (p q : Parts) (calls : Calls lock p q) → Begins lock p → DropNone lock p q calls
+NoAskIsLost = (lock : LockName) (p q : LockParts) (calls : Calls lock p q) → Begins lock p → DropNone lock p q calls
     → (k : ℕ) → k ≤ 8 → (mode : Mode) → wanted_in (q.holders k) lock ≡ Some mode → asks_of lock q k ≡ mode ∷ []
 
 -- ---- nobody is granted anything while the master is blocked
@@ -73,7 +73,7 @@ NoneWhileBlocked = (lock : LockName) (a p q : Parts) (k : ℕ) → Begins lock a
 
 -- the start of a view, behind these parts of the old one: each node holds what it held or less, as nothing in a new life; its ask is
 -- over; and a rebuild has heard reports, by which the table was made
-pub record FollowsView (lock : LockName) (p q : Parts) : Type 0 where
+pub record FollowsView (lock : LockName) (p q : LockParts) : Type 0 where
   pub master : q.master ≤ 8
   pub kept : (k : ℕ) → k ≤ 8 → is_at_least (mode_in (p.holders k) lock) (mode_in (q.holders k) lock) ≡ true
   pub wanted : (k : ℕ) → k ≤ 8 → wanted_in (q.holders k) lock ≡ None
@@ -89,21 +89,21 @@ pub record FollowsView (lock : LockName) (p q : Parts) : Type 0 where
   pub requests : (lock_in_table lock q).requests ≡ []
 
 abbrev pub ViewsFollow : Type 0
-ViewsFollow = (lock : LockName) (p q : Parts) → AreRight lock p → FollowsView lock p q → Begins lock q
+ViewsFollow = (lock : LockName) (p q : LockParts) → AreRight lock p → FollowsView lock p q → Begins lock q
 
 -- ---- a holder is never stronger than granted
 
 -- a call leaves a node what it holds or less; or it takes the grant that was on its way, and leaves it that
-pub data RisesByGrant (lock : LockName) (p q : Parts) (k : ℕ) : Type 0 where
+pub data RisesByGrant (lock : LockName) (p q : LockParts) (k : ℕ) : Type 0 where
   Rises : grants_coming lock p k ≡ mode_in (q.holders k) lock ∷ grants_coming lock q k → RisesByGrant lock p q k
   Keeps : is_at_least (mode_in (p.holders k) lock) (mode_in (q.holders k) lock) ≡ true → RisesByGrant lock p q k
 
 abbrev pub HoldersRiseByGrants : Type 0
-HoldersRiseByGrants = (lock : LockName) (p q : Parts) (k : ℕ) → Call lock p q → RisesByGrant lock p q k
+HoldersRiseByGrants = (lock : LockName) (p q : LockParts) (k : ℕ) → Call lock p q → RisesByGrant lock p q k
 
 -- ---- a message in hand meets what the call requires that it makes
 
-pub record MeetCalls (lock : LockName) (p : Parts) : Type 0 where
+pub record MeetCalls (lock : LockName) (p : LockParts) : Type 0 where
   -- who requests the lock holds nothing by the table, and waits for nothing
   pub requests : (k : ℕ) (mode : Mode) (rest : List Message) → k ≤ 8 → p.post.took k p.master ≡ now_says p (Request lock mode) ∷ rest
       → (held_by p.table k lock ≡ None) × (waits_for p.table k lock ≡ false)
@@ -118,4 +118,4 @@ pub record MeetCalls (lock : LockName) (p : Parts) : Type 0 where
       → (knows (p.holders k) lock ≡ true) × (wanted_in (p.holders k) lock ≡ Some mode)
 
 abbrev pub MessagesMeetCalls : Type 0
-MessagesMeetCalls = (lock : LockName) (p q : Parts) → Begins lock p → Calls lock p q → MeetCalls lock q
+MessagesMeetCalls = (lock : LockName) (p q : LockParts) → Begins lock p → Calls lock p q → MeetCalls lock q

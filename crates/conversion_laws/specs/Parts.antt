@@ -15,7 +15,7 @@ use Rattle.dlm_master.specs.Runs.{Call, Requests, Converts, Lowers}
 use Rattle.lock_steps.specs.Parts.{Post, way}
 use Rattle.lock_steps.specs.Ties.{in_view, grants}
 
-pub record Parts : Type 0 where
+pub record LockParts : Type 0 where
   -- the node that is the lock's master, and its table
   pub master : ℕ
   pub table : MasterState
@@ -24,7 +24,7 @@ pub record Parts : Type 0 where
   pub post : Post
 
 -- the message of the view that says this
-abbrev pub now_says : Parts → Body → Message
+abbrev pub now_says : LockParts → Body → Message
 now_says p body = record { generation = p.table.generation; body = body }
 
 -- the call of the lock's master that a node's message makes, if it makes one
@@ -39,22 +39,22 @@ call_of lock k End = None
 call_of lock k View = None
 
 -- the calls that a node's messages will make, the first one first
-abbrev pub calls_coming : LockName → Parts → ℕ → List Call
+abbrev pub calls_coming : LockName → LockParts → ℕ → List Call
 calls_coming lock p k = filter_map (in_view p.table.generation (call_of lock k)) (way p.post k p.master)
 
 -- the modes that are granted to a node and on their way
-abbrev pub grants_coming : LockName → Parts → ℕ → List Mode
+abbrev pub grants_coming : LockName → LockParts → ℕ → List Mode
 grants_coming lock p k = filter_map (in_view p.table.generation (grants lock)) (way p.post p.master k)
 
 -- the lock in the table, and what the table has of a node
-abbrev pub lock_in_table : LockName → Parts → LockState
+abbrev pub lock_in_table : LockName → LockParts → LockState
 lock_in_table lock p = lock_of p.table lock
 
-abbrev pub table_mode : LockName → Parts → ℕ → Mode
+abbrev pub table_mode : LockName → LockParts → ℕ → Mode
 table_mode lock p k = mode_at (lock_in_table lock p).held k
 
 -- the mode for which a node waits, if it does
-abbrev pub waiting_mode : LockName → Parts → ℕ → Option Mode
+abbrev pub waiting_mode : LockName → LockParts → ℕ → Option Mode
 waiting_mode lock p k = mode_of_node ((lock_in_table lock p).conversions ++ (lock_in_table lock p).requests) k
 
 -- the modes that these calls ask for
@@ -65,9 +65,9 @@ asked_in (Converts k mode ∷ calls) = mode ∷ asked_in calls
 asked_in (call ∷ calls) = asked_in calls
 
 -- the asks of a node: those that come to the master, that waits there, and that is granted and on its way
-abbrev pub asks_of : LockName → Parts → ℕ → List Mode
+abbrev pub asks_of : LockName → LockParts → ℕ → List Mode
 asks_of lock p k = asked_in (calls_coming lock p k) ++ option_to_list (waiting_mode lock p k) ++ grants_coming lock p k
 
 -- what a node holds, and what is granted to it and on its way
-abbrev pub held_or_coming : LockName → Parts → ℕ → List Mode
+abbrev pub held_or_coming : LockName → LockParts → ℕ → List Mode
 held_or_coming lock p k = mode_in (p.holders k) lock ∷ grants_coming lock p k

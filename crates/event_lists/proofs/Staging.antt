@@ -15,7 +15,7 @@ use Rattle.cluster_laws.proofs.Numbering.{own-answered, own-change, last-change}
 use Rattle.cluster_events.specs.Cluster.{Cluster, BookOf, MayWork, Event, Works, Mails, IsGranted, GoesDown, Stops, Fences, Views, Joins, Recovers, PastEnds, Together}
 use Rattle.event_lists.specs.Gives.{DiskOf}
 use Rattle.event_lists.specs.Demotions.{IsAtHome}
-use Rattle.event_lists.specs.Stages.{TouchesLock, HeaderMinds, WritesUnder, StagesStay}
+use Rattle.event_lists.specs.Stages.{TouchesLock, HeaderMinds, WritesHomeUnder, StagesStay}
 
 -- ---- what a try leaves
 
@@ -225,7 +225,7 @@ module _ (F : Files) (c : Cluster F) (t : Together F c) (i : ℕ) (l : F.Lock) (
   Rests w = (e : Bool) (b : ℕ) (v : F.Content) → (D.heads i e).live b ≡ Some v → LockOf F (B.says i ((D.heads i e).cut) b) ≡ l → (D.blocks b ≡ v) × ((r : ℕ) → D.flight r b ≡ None)
       → ((w.disk).blocks b ≡ v) × ((r : ℕ) → (w.disk).flight r b ≡ None)
 
-  rests-on : (v : World F) (step : world.Step F (c.world) v) (may : MayWork F c v step) → (WritesUnder F c _ (Works v step may) i l → ⊥) → Rests v
+  rests-on : (v : World F) (step : world.Step F (c.world) v) (may : MayWork F c v step) → (WritesHomeUnder F c _ (Works v step may) i l → ⊥) → Rests v
   rests-on _ (world.Answers j said view change cache no_sync a) may free e b v live under home = home
   rests-on _ (world.Syncs j said does still calm) may free e b v live under home = home
   rests-on _ (world.Publishes k some) may free e b v live under home = home
@@ -259,7 +259,7 @@ module _ (F : Files) (c : Cluster F) (t : Together F c) (i : ℕ) (l : F.Lock) (
   rests-on _ (world.Shrinks k cache forgets) may free e b v live under home = home
   rests-on _ (world.Loses k m all above below calm next none alone) may free e b v live under home = home
 
-  rests : (c' : Cluster F) (event : Event F c c') → (WritesUnder F c c' event i l → ⊥) → Rests (c'.world)
+  rests : (c' : Cluster F) (event : Event F c c') → (WritesHomeUnder F c c' event i l → ⊥) → Rests (c'.world)
   rests _ (Works v step may) free = rests-on v step may free
   rests _ (Mails locks h) free = λ e b v live under home. home
   rests _ (IsGranted k locks here none h) free = λ e b v live under home. home

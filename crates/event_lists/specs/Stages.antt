@@ -18,14 +18,14 @@ HeaderMinds F c _ (Works _ (world.Begins k h single heads) may) i = k ≡ i → 
 HeaderMinds F c _ _ i = ⊤
 
 -- a live block of journal i under the lock is written home once more
-abbrev pub WritesUnder : (F : Files) (c c' : Cluster F) → Event F c c' → ℕ → F.Lock → Type 0
-WritesUnder F c _ (Works _ (world.Writes r b v k live) may) i l = (k ≡ i) × (LockOf F ((BookOf F c).says i ((BookOf F c).low i) b) ≡ l)
-WritesUnder F c _ _ i l = ⊥
+abbrev pub WritesHomeUnder : (F : Files) (c c' : Cluster F) → Event F c c' → ℕ → F.Lock → Type 0
+WritesHomeUnder F c _ (Works _ (world.Writes r b v k live) may) i l = (k ≡ i) × (LockOf F ((BookOf F c).says i ((BookOf F c).low i) b) ≡ l)
+WritesHomeUnder F c _ _ i l = ⊥
 
 -- Past its flush a lock keeps the later stages while headers of the journal, for other locks, begin, are in flight, and end.
 pub record StagesKeep (F : Files) (c c' : Cluster F) (event : Event F c c') (i : ℕ) (l : F.Lock) : Type 0 where
   pub flushed : (TouchesLock F c c' event i l → ⊥) → IsFlushed F (BookOf F c) i l → IsFlushed F (BookOf F c') i l
-  pub at_home : HeaderMinds F c c' event i → (WritesUnder F c c' event i l → ⊥) → IsFlushed F (BookOf F c) i l
+  pub at_home : HeaderMinds F c c' event i → (WritesHomeUnder F c c' event i l → ⊥) → IsFlushed F (BookOf F c) i l
       → IsAtHome F (BookOf F c) (DiskOf F c) i l → IsAtHome F (BookOf F c') (DiskOf F c') i l
   pub revoked : HeaderMinds F c c' event i → IsFlushed F (BookOf F c) i l
       → IsRevoked F (BookOf F c) (DiskOf F c) i l → IsRevoked F (BookOf F c') (DiskOf F c') i l

@@ -20,9 +20,9 @@ use Rattle.event_lists.proofs.Beginning.{dirty_start as starts}
 use Rattle.tree_histories.specs.Trees as trees
 use Rattle.tree_histories.specs.Trees.{Images, Trees}
 use Rattle.head_laws.specs.Example.{clean}
-use Rattle.head_laws.specs.Journals.{Journal, Events, IsNew, IsFirst, Says, Joins, Done, Then}
-use Rattle.head_laws.specs.Traces.{Told, journal_of, Begins}
-use Rattle.head_laws.specs.Tellings.{Beside, told_of, place_of, slots_of, GoesOn, Changed, Replay, Settled, Tellings, Nothing, AnEvent, AnItem, Lands}
+use Rattle.head_laws.specs.Journals.{Journal, JournalEvents, IsNew, IsFirst, Says, Joins, Done, Then}
+use Rattle.head_laws.specs.Traces.{Traced, journal_of, Begins}
+use Rattle.head_laws.specs.Tellings.{Beside, traced_of, place_of, slots_of, GoesOn, Changed, Replay, Settled, Tellings, Nothing, AnEvent, AnItem, Lands}
 use Rattle.head_laws.specs.DirtyStart.{dirty_start, disk_heads, dirty_begin, dirty_run, DirtyStartIsTold}
 use Rattle.head_laws.proofs.Items.{eqb-other}
 
@@ -42,7 +42,7 @@ module _ (I : Images) (clients : List Client) (m : Image (Trees I)) (t : Tree) (
   abbrev v : I.Content
   v = (m 5).content
 
-  abbrev a : Told I
+  abbrev a : Traced I
   a = dirty_begin I m t d said
 
   abbrev c0 : Cluster F
@@ -67,9 +67,9 @@ module _ (I : Images) (clients : List Client) (m : Image (Trees I)) (t : Tree) (
       rest b q (inl e) is = none-some (subst (λ (k : ℕ). at {A = Option I.Content} (λ k. None) 5 (Some v) k ≡ None) e is) refl
       rest b q (inr ne) is = sym (ap (λ (q : Bool). if q then d else (m b).content) (eqb-other b 5 ne))
 
-  joined : (i : ℕ) → (j : Journal) × IsNew j × Events i (disk_heads i) j [] (journal_of I a i) (trace.Join 1 ∷ [])
+  joined : (i : ℕ) → (j : Journal) × IsNew j × JournalEvents i (disk_heads i) j [] (journal_of I a i) (trace.Join 1 ∷ [])
   joined i = elim (cases_eq i 1) [
-    | inl e ↦ subst (λ (k : ℕ). (j : Journal) × IsNew j × Events k (disk_heads k) j [] (journal_of I a k) (trace.Join 1 ∷ [])) (sym e) (
+    | inl e ↦ subst (λ (k : ℕ). (j : Journal) × IsNew j × JournalEvents k (disk_heads k) j [] (journal_of I a k) (trace.Join 1 ∷ [])) (sym e) (
       record (journal_of I a 1) { runs = false },
       record { runs = refl; unlost = refl; last = refl; cut = λ c. refl; name = refl; flies = refl; silent = refl },
       Then _ _ _ _ Done (Joins refl (inr refl) (inl refl) refl),
@@ -205,52 +205,52 @@ module _ (I : Images) (clients : List Client) (m : Image (Trees I)) (t : Tree) (
 
   -- ---- what is told of them
 
-  abbrev is_said : Told I → TraceItem → Told I
+  abbrev is_said : Traced I → TraceItem → Traced I
   is_said t x = record t { items = t.items ++ x ∷ [] }
 
   -- no item comes
-  abbrev untold : Told I → (ℕ → Bool → AcceptedHead) → Beside
+  abbrev untold : Traced I → (ℕ → Bool → AcceptedHead) → Beside
   untold t names = record { names = names; silent = t.silent; items = t.items }
 
-  abbrev t1 : Told I
+  abbrev t1 : Traced I
   t1 = is_said a (trace.WriteReplay 1 5)
 
-  abbrev t2 : Told I
-  t2 = is_said (told_of I c1 (untold t1 (t1.names))) (trace.Barrier 1)
+  abbrev t2 : Traced I
+  t2 = is_said (traced_of I c1 (untold t1 (t1.names))) (trace.Barrier 1)
 
-  abbrev t3 : Told I
-  t3 = is_said (told_of I c2 (untold t2 (t2.names))) (trace.WriteReplay 1 31)
+  abbrev t3 : Traced I
+  t3 = is_said (traced_of I c2 (untold t2 (t2.names))) (trace.WriteReplay 1 31)
 
   abbrev names4 : ℕ → Bool → AcceptedHead
   names4 = at (t3.names) 9 (either (t3.names 9 false) (clean 31 9))
 
-  abbrev t4 : Told I
-  t4 = is_said (told_of I c3 (untold t3 names4)) (trace.Barrier 1)
+  abbrev t4 : Traced I
+  t4 = is_said (traced_of I c3 (untold t3 names4)) (trace.Barrier 1)
 
   abbrev names5 : ℕ → Bool → AcceptedHead
   names5 = at names4 9 (λ e. names4 9 true)
 
-  abbrev t5 : Told I
-  t5 = told_of I c4 (untold t4 names5)
+  abbrev t5 : Traced I
+  t5 = traced_of I c4 (untold t4 names5)
 
   -- it is the header of node 1's journal
-  abbrev t6 : Told I
+  abbrev t6 : Traced I
   t6 = record t5 { names = at names5 1 (λ e. clean 31 9) }
 
-  abbrev t7 : Told I
-  t7 = is_said (told_of I c5 (untold t6 (t6.names))) (trace.Recovered 1 1)
+  abbrev t7 : Traced I
+  t7 = is_said (traced_of I c5 (untold t6 (t6.names))) (trace.Recovered 1 1)
 
-  abbrev t8 : Told I
-  t8 = told_of I c6 (untold t7 (t7.names))
+  abbrev t8 : Traced I
+  t8 = traced_of I c6 (untold t7 (t7.names))
 
-  abbrev t9 : Told I
-  t9 = told_of I c7 (untold t8 (t8.names))
+  abbrev t9 : Traced I
+  t9 = traced_of I c7 (untold t8 (t8.names))
 
-  unsaid : (t : Told I) (names : ℕ → Bool → AcceptedHead) → t.items ≡ t.items ++ [] → Changed I t (untold t names) names (t.silent) []
+  unsaid : (t : Traced I) (names : ℕ → Bool → AcceptedHead) → t.items ≡ t.items ++ [] → Changed I t (untold t names) names (t.silent) []
   unsaid t names same = record { named = refl; silenced = refl; said = same }
 
   -- no slot's recovery is being told, or it goes on
-  goes : (t : Told I) (more : List TraceItem) → recoveries_are_told (slots_of I t) more ≡ true
+  goes : (t : Traced I) (more : List TraceItem) → recoveries_are_told (slots_of I t) more ≡ true
       → ((i : ℕ) → is_recovering i (place_of (t.items)) ≡ true → is_recovering i (place_of (t.items ++ more)) ≡ true) → GoesOn I t (t.items ++ more)
   goes t more told through = record { more = more; said = refl; told = told; through = λ i waits is. through i is }
 
@@ -261,8 +261,8 @@ module _ (I : Images) (clients : List Client) (m : Image (Trees I)) (t : Tree) (
       (AnItem _ (trace.Barrier 1)
       (AnEvent t1 (untold t1 (t1.names)) c1 writes
       (AnItem a (trace.WriteReplay 1 5) Nothing tt (goes a (trace.WriteReplay 1 5 ∷ []) refl (λ i e. no-way e)))
-      (unsaid t1 (t1.names) refl) (goes t1 [] refl (λ i e. e))) tt (goes (told_of I c1 (untold t1 (t1.names))) (trace.Barrier 1 ∷ []) refl (λ i e. no-way e)))
-      (unsaid t2 (t2.names) refl) (goes t2 [] refl (λ i e. e))) tt (goes (told_of I c2 (untold t2 (t2.names))) (trace.WriteReplay 1 31 ∷ []) refl (λ i e. no-way e))
+      (unsaid t1 (t1.names) refl) (goes t1 [] refl (λ i e. e))) tt (goes (traced_of I c1 (untold t1 (t1.names))) (trace.Barrier 1 ∷ []) refl (λ i e. no-way e)))
+      (unsaid t2 (t2.names) refl) (goes t2 [] refl (λ i e. e))) tt (goes (traced_of I c2 (untold t2 (t2.names))) (trace.WriteReplay 1 31 ∷ []) refl (λ i e. no-way e))
 
   is_clean : Tellings I clients disk_heads a t6
   is_clean =
@@ -271,7 +271,7 @@ module _ (I : Images) (clients : List Client) (m : Image (Trees I)) (t : Tree) (
       (AnItem _ (trace.Barrier 1)
       (AnEvent t3 (untold t3 names4) c3 begins-clean at_home
       (Replay (clean 31 9) refl (inr (inr refl)) (unsaid t3 names4 refl)) (goes t3 [] refl (λ i e. e)))
-      tt (goes (told_of I c3 (untold t3 names4)) (trace.Barrier 1 ∷ []) refl (λ i e. no-way e)))
+      tt (goes (traced_of I c3 (untold t3 names4)) (trace.Barrier 1 ∷ []) refl (λ i e. no-way e)))
       (Settled (λ runs. refl) (unsaid t4 names5 refl)) (goes t4 [] refl (λ i e. e)))
       (record { waits = refl; over = inl (inr (inl refl)); alone = refl })
 
@@ -285,7 +285,7 @@ module _ (I : Images) (clients : List Client) (m : Image (Trees I)) (t : Tree) (
       (AnEvent t7 (untold t7 (t7.names)) c6 recovers
       (AnItem _ (trace.Recovered 1 1)
       (AnEvent t6 (untold t6 (t6.names)) c5 settles is_clean (unsaid t6 (t6.names) refl) (goes t6 [] refl (λ i e. e)))
-      (refl, (λ e. absurd (omega (arith, e)))) (goes (told_of I c5 (untold t6 (t6.names))) (trace.Recovered 1 1 ∷ []) refl (λ i e. no-way e)))
+      (refl, (λ e. absurd (omega (arith, e)))) (goes (traced_of I c5 (untold t6 (t6.names))) (trace.Recovered 1 1 ∷ []) refl (λ i e. no-way e)))
       (refl, its-first, unsaid t7 (t7.names) refl) (goes t7 [] refl (λ i e. e)))
       (unsaid t8 (t8.names) refl) (goes t8 [] refl (λ i e. e))
 
@@ -298,7 +298,7 @@ module _ (I : Images) (clients : List Client) (m : Image (Trees I)) (t : Tree) (
       by false false = refl
 
   pub dirty-start : F.Stands m t → Begins I clients disk_heads a
-      × ((e : Told I) × Tellings I clients disk_heads a e × (e.items ≡ dirty_run) × ((i : ℕ) → (e.cluster).waits i ≡ false) × (e.names 1 false ≡ clean 31 9))
+      × ((e : Traced I) × Tellings I clients disk_heads a e × (e.items ≡ dirty_run) × ((i : ℕ) → (e.cluster).waits i ≡ false) × (e.names 1 false ≡ clean 31 9))
   dirty-start stands = (begins stands, (t9, is_told, refl, nobody-waits, refl))
 
 pub dirty-start-is-told : (I : Images) → DirtyStartIsTold I

@@ -22,8 +22,8 @@ use Rattle.cluster_events.specs.Cluster as cluster
 use Rattle.tree_histories.specs.Trees.{Images, Trees, item_of, history_of}
 use Rattle.head_laws.specs.Journals.{Journal, head_item, IsEnd, IsOther}
 use Rattle.head_laws.specs.Journals as journals
-use Rattle.head_laws.specs.Traces.{Told, journal_of, Happens, Rests, Does, Step, Steps, Done, Then, Begins, MayLand}
-use Rattle.head_laws.specs.Tellings.{Beside, told_of, Changed, next_name, BeginTold, Own, OwnLast, Replay, EndTold, Settled, Committed, Tells, MaySay, TellingIsStep, Tellings, AnEvent, AnItem, IsPassed, FrontsArePassed}
+use Rattle.head_laws.specs.Traces.{Traced, journal_of, Happens, Rests, Does, TracedStep, TracedSteps, Done, Then, Begins, MayLand}
+use Rattle.head_laws.specs.Tellings.{Beside, traced_of, Changed, next_name, BeginTold, Own, OwnLast, Replay, EndTold, Settled, Committed, Tells, MaySay, TellingIsStep, Tellings, AnEvent, AnItem, IsPassed, FrontsArePassed}
 use Rattle.head_laws.specs.Tellings as tellings
 use Rattle.head_laws.proofs.Items.{true-false}
 use Rattle.head_laws.proofs.Tracing.{history-on, history-more, history-is, events-of, grows}
@@ -51,33 +51,33 @@ one-of a = λ t d. by d t
     by false = refl
     by true = refl
 
-module _ (I : Images) (behind : ℕ → ℕ → AcceptedHead) (t : Told I) (u : Beside) (names : ℕ → Bool → AcceptedHead) (silent : ℕ → Bool) (more : List TraceItem) (ch : Changed I t u names silent more)
+module _ (I : Images) (behind : ℕ → ℕ → AcceptedHead) (t : Traced I) (u : Beside) (names : ℕ → Bool → AcceptedHead) (silent : ℕ → Bool) (more : List TraceItem) (ch : Changed I t u names silent more)
     (d : Cluster (Trees I)) (k : ℕ) where
   -- the journal, with these names
   abbrev now : Journal
-  now = journal_of I (told_of I d (record { names = names; silent = silent; items = u.items })) k
+  now = journal_of I (traced_of I d (record { names = names; silent = silent; items = u.items })) k
 
-  arrives : Happens k (behind k) (journal_of I t k) (t.items) now (t.items ++ more) → Happens k (behind k) (journal_of I t k) (t.items) (journal_of I (told_of I d u) k) (u.items)
+  arrives : Happens k (behind k) (journal_of I t k) (t.items) now (t.items ++ more) → Happens k (behind k) (journal_of I t k) (t.items) (journal_of I (traced_of I d u) k) (u.items)
   arrives h =
       let p : (let b : Beside = record { names = names; silent = silent; items = u.items } in b) ≡ u = λ s. record { names = sym ch.named s; silent = sym ch.silenced s; items = u.items } in
-      subst (λ (is : List TraceItem). Happens k (behind k) (journal_of I t k) (t.items) (journal_of I (told_of I d u) k) is) (sym ch.said)
-      (subst (λ (b : Beside). Happens k (behind k) (journal_of I t k) (t.items) (journal_of I (told_of I d b) k) (t.items ++ more)) p h)
+      subst (λ (is : List TraceItem). Happens k (behind k) (journal_of I t k) (t.items) (journal_of I (traced_of I d u) k) is) (sym ch.said)
+      (subst (λ (b : Beside). Happens k (behind k) (journal_of I t k) (t.items) (journal_of I (traced_of I d b) k) (t.items ++ more)) p h)
 
-  does : (j : Journal) → j ≡ now → journals.Event k (behind k) (journal_of I t k) (t.items) j (t.items ++ more) → Happens k (behind k) (journal_of I t k) (t.items) (journal_of I (told_of I d u) k) (u.items)
+  does : (j : Journal) → j ≡ now → journals.JournalEvent k (behind k) (journal_of I t k) (t.items) j (t.items ++ more) → Happens k (behind k) (journal_of I t k) (t.items) (journal_of I (traced_of I d u) k) (u.items)
   does j e event = arrives (subst (λ (j : Journal). Happens k (behind k) (journal_of I t k) (t.items) j (t.items ++ more)) e (Does j (t.items ++ more) event))
 
-  rests : journal_of I t k ≡ now → more ≡ [] → Happens k (behind k) (journal_of I t k) (t.items) (journal_of I (told_of I d u) k) (u.items)
+  rests : journal_of I t k ≡ now → more ≡ [] → Happens k (behind k) (journal_of I t k) (t.items) (journal_of I (traced_of I d u) k) (u.items)
   rests e none = arrives (subst (λ (j : Journal). Happens k (behind k) (journal_of I t k) (t.items) j (t.items ++ more)) e
       (subst (λ (is : List TraceItem). Happens k (behind k) (journal_of I t k) (t.items) (journal_of I t k) is) (sym (ap (λ (m : List TraceItem). t.items ++ m) none ∙ append-nil (t.items))) Rests))
 
   -- an event that has no item
-  silently : (j : Journal) → j ≡ now → more ≡ [] → journals.Event k (behind k) (journal_of I t k) (t.items) j (t.items) → Happens k (behind k) (journal_of I t k) (t.items) (journal_of I (told_of I d u) k) (u.items)
+  silently : (j : Journal) → j ≡ now → more ≡ [] → journals.JournalEvent k (behind k) (journal_of I t k) (t.items) j (t.items) → Happens k (behind k) (journal_of I t k) (t.items) (journal_of I (traced_of I d u) k) (u.items)
   silently j e none event =
-      does j e (subst (λ (is : List TraceItem). journals.Event k (behind k) (journal_of I t k) (t.items) j is) (sym (ap (λ (m : List TraceItem). t.items ++ m) none ∙ append-nil (t.items))) event)
+      does j e (subst (λ (is : List TraceItem). journals.JournalEvent k (behind k) (journal_of I t k) (t.items) j is) (sym (ap (λ (m : List TraceItem). t.items ++ m) none ∙ append-nil (t.items))) event)
 
 -- ---- the history
 
-module _ (I : Images) (clients : List Client) (t : Told I) (u : Beside) (names : ℕ → Bool → AcceptedHead) (silent : ℕ → Bool) (more : List TraceItem) (ch : Changed I t u names silent more)
+module _ (I : Images) (clients : List Client) (t : Traced I) (u : Beside) (names : ℕ → Bool → AcceptedHead) (silent : ℕ → Bool) (more : List TraceItem) (ch : Changed I t u names silent more)
     (base : run.history_of clients (t.items) ≡ history_of I (((t.cluster).world).items)) where
   same-history : (d : Cluster (Trees I)) → run.history_of clients more ≡ [] → ((d.world).items ≡ ((t.cluster).world).items) → run.history_of clients (u.items) ≡ history_of I ((d.world).items)
   same-history d none same =
@@ -93,10 +93,10 @@ module _ (I : Images) (clients : List Client) (t : Told I) (u : Beside) (names :
 
 -- ---- events of which no item tells
 
-module _ (I : Images) (clients : List Client) (behind : ℕ → ℕ → AcceptedHead) (t : Told I) (u : Beside) (base : run.history_of clients (t.items) ≡ history_of I (((t.cluster).world).items)) where
+module _ (I : Images) (clients : List Client) (behind : ℕ → ℕ → AcceptedHead) (t : Traced I) (u : Beside) (base : run.history_of clients (t.items) ≡ history_of I (((t.cluster).world).items)) where
   quiet : (d : Cluster (Trees I)) → Event (Trees I) (t.cluster) d → Changed I t u (t.names) (t.silent) []
-      → ((k : ℕ) → journal_of I t k ≡ journal_of I (told_of I d (record { names = t.names; silent = t.silent; items = u.items })) k) → ((d.world).items ≡ ((t.cluster).world).items)
-      → Step I clients behind t (told_of I d u)
+      → ((k : ℕ) → journal_of I t k ≡ journal_of I (traced_of I d (record { names = t.names; silent = t.silent; items = u.items })) k) → ((d.world).items ≡ ((t.cluster).world).items)
+      → TracedStep I clients behind t (traced_of I d u)
   quiet d event ch same items = record {
     event = inr event;
     journals = λ k. rests I behind t u (t.names) (t.silent) [] ch d k (same k) refl;
@@ -104,12 +104,12 @@ module _ (I : Images) (clients : List Client) (behind : ℕ → ℕ → Accepted
   }
 
 -- one node's journal, and the others'
-by-node : (I : Images) (clients : List Client) (behind : ℕ → ℕ → AcceptedHead) (t : Told I) (u : Beside) (d : Cluster (Trees I)) (i : ℕ)
-    → Happens i (behind i) (journal_of I t i) (t.items) (journal_of I (told_of I d u) i) (u.items)
-    → ((k : ℕ) → (k ≡ i → ⊥) → Happens k (behind k) (journal_of I t k) (t.items) (journal_of I (told_of I d u) k) (u.items))
-    → (k : ℕ) → Happens k (behind k) (journal_of I t k) (t.items) (journal_of I (told_of I d u) k) (u.items)
+by-node : (I : Images) (clients : List Client) (behind : ℕ → ℕ → AcceptedHead) (t : Traced I) (u : Beside) (d : Cluster (Trees I)) (i : ℕ)
+    → Happens i (behind i) (journal_of I t i) (t.items) (journal_of I (traced_of I d u) i) (u.items)
+    → ((k : ℕ) → (k ≡ i → ⊥) → Happens k (behind k) (journal_of I t k) (t.items) (journal_of I (traced_of I d u) k) (u.items))
+    → (k : ℕ) → Happens k (behind k) (journal_of I t k) (t.items) (journal_of I (traced_of I d u) k) (u.items)
 by-node I clients behind t u d i here away k = elim (cases_eq k i) [
-  | inl e ↦ subst (λ (k : ℕ). Happens k (behind k) (journal_of I t k) (t.items) (journal_of I (told_of I d u) k) (u.items)) (sym e) here
+  | inl e ↦ subst (λ (k : ℕ). Happens k (behind k) (journal_of I t k) (t.items) (journal_of I (traced_of I d u) k) (u.items)) (sym e) here
   | inr ne ↦ away k ne
 ]
 
@@ -146,7 +146,7 @@ head-history clients false i block sequence upto = refl
 -- ---- the events
 
 abbrev node_journal : (I : Images) → Cluster (Trees I) → (ℕ → Bool → AcceptedHead) → (ℕ → Bool) → ℕ → Journal
-node_journal I d names silent k = journal_of I (told_of I d (record { names = names; silent = silent; items = [] })) k
+node_journal I d names silent k = journal_of I (traced_of I d (record { names = names; silent = silent; items = [] })) k
 
 -- what another node sees of the items
 data Away (k : ℕ) : List TraceItem → Type 0 where
@@ -154,14 +154,14 @@ data Away (k : ℕ) : List TraceItem → Type 0 where
   Other : (x : TraceItem) → IsOther k x → Away k (x ∷ [])
 
 -- an event that has no item
-unspoken : (k : ℕ) (behind : ℕ → AcceptedHead) (j l : Journal) (items : List TraceItem) → journals.Event k behind j items l items → journals.Event k behind j items l (items ++ [])
-unspoken k behind j l items event = subst (λ (is : List TraceItem). journals.Event k behind j items l is) (sym (append-nil items)) event
+unspoken : (k : ℕ) (behind : ℕ → AcceptedHead) (j l : Journal) (items : List TraceItem) → journals.JournalEvent k behind j items l items → journals.JournalEvent k behind j items l (items ++ [])
+unspoken k behind j l items event = subst (λ (is : List TraceItem). journals.JournalEvent k behind j items l is) (sym (append-nil items)) event
 
-module _ (I : Images) (clients : List Client) (behind : ℕ → ℕ → AcceptedHead) (t : Told I) (u : Beside) (d : Cluster (Trees I)) (event : Event (Trees I) (t.cluster) d) (i : ℕ)
+module _ (I : Images) (clients : List Client) (behind : ℕ → ℕ → AcceptedHead) (t : Traced I) (u : Beside) (d : Cluster (Trees I)) (event : Event (Trees I) (t.cluster) d) (i : ℕ)
     (names : ℕ → Bool → AcceptedHead) (silent : ℕ → Bool) (more : List TraceItem) (ch : Changed I t u names silent more) where
-  step-by : (j : Journal) → j ≡ node_journal I d names silent i → journals.Event i (behind i) (journal_of I t i) (t.items) j (t.items ++ more)
+  step-by : (j : Journal) → j ≡ node_journal I d names silent i → journals.JournalEvent i (behind i) (journal_of I t i) (t.items) j (t.items ++ more)
       → ((k : ℕ) → (k ≡ i → ⊥) → journal_of I t k ≡ node_journal I d names silent k) → ((k : ℕ) → (k ≡ i → ⊥) → Away k more) → run.history_of clients (u.items) ≡ history_of I ((d.world).items)
-      → Step I clients behind t (told_of I d u)
+      → TracedStep I clients behind t (traced_of I d u)
   step-by j here what same away history = record {
     event = inr event;
     journals = by-node I clients behind t u d i (does I behind t u names silent more ch d i j here what) (λ k ne. others k (same k ne) more (away k ne) ch);
@@ -169,23 +169,23 @@ module _ (I : Images) (clients : List Client) (behind : ℕ → ℕ → Accepted
   }
     where
       others : (k : ℕ) → journal_of I t k ≡ node_journal I d names silent k → (more : List TraceItem) → Away k more → Changed I t u names silent more
-          → Happens k (behind k) (journal_of I t k) (t.items) (journal_of I (told_of I d u) k) (u.items)
+          → Happens k (behind k) (journal_of I t k) (t.items) (journal_of I (traced_of I d u) k) (u.items)
       others k e _ Nothing ch = rests I behind t u names silent [] ch d k e refl
       others k e _ (Other x o) ch = does I behind t u names silent (x ∷ []) ch d k (journal_of I t k) e (journals.Says x o)
 
   -- with no item of the history, or one
   step-same : run.history_of clients (t.items) ≡ history_of I (((t.cluster).world).items) → run.history_of clients more ≡ [] → ((d.world).items ≡ ((t.cluster).world).items)
-      → (j : Journal) → j ≡ node_journal I d names silent i → journals.Event i (behind i) (journal_of I t i) (t.items) j (t.items ++ more)
-      → ((k : ℕ) → (k ≡ i → ⊥) → journal_of I t k ≡ node_journal I d names silent k) → ((k : ℕ) → (k ≡ i → ⊥) → Away k more) → Step I clients behind t (told_of I d u)
+      → (j : Journal) → j ≡ node_journal I d names silent i → journals.JournalEvent i (behind i) (journal_of I t i) (t.items) j (t.items ++ more)
+      → ((k : ℕ) → (k ≡ i → ⊥) → journal_of I t k ≡ node_journal I d names silent k) → ((k : ℕ) → (k ≡ i → ⊥) → Away k more) → TracedStep I clients behind t (traced_of I d u)
   step-same base none items j here what same away = step-by j here what same away (same-history I clients t u names silent more ch base d none items)
 
   step-one : run.history_of clients (t.items) ≡ history_of I (((t.cluster).world).items) → (x : Item) (w : machine.Item (Trees I)) → run.history_of clients more ≡ x ∷ [] → item_of I w ≡ x
       → ((d.world).items ≡ ((t.cluster).world).items ++ (w ∷ []))
-      → (j : Journal) → j ≡ node_journal I d names silent i → journals.Event i (behind i) (journal_of I t i) (t.items) j (t.items ++ more)
-      → ((k : ℕ) → (k ≡ i → ⊥) → journal_of I t k ≡ node_journal I d names silent k) → ((k : ℕ) → (k ≡ i → ⊥) → Away k more) → Step I clients behind t (told_of I d u)
+      → (j : Journal) → j ≡ node_journal I d names silent i → journals.JournalEvent i (behind i) (journal_of I t i) (t.items) j (t.items ++ more)
+      → ((k : ℕ) → (k ≡ i → ⊥) → journal_of I t k ≡ node_journal I d names silent k) → ((k : ℕ) → (k ≡ i → ⊥) → Away k more) → TracedStep I clients behind t (traced_of I d u)
   step-one base x w one is grown j here what same away = step-by j here what same away (one-more I clients t u names silent more ch base d x w one is grown)
 
-module _ (I : Images) (clients : List Client) (behind : ℕ → ℕ → AcceptedHead) (t : Told I) (u : Beside) (together : Together (Trees I) (t.cluster))
+module _ (I : Images) (clients : List Client) (behind : ℕ → ℕ → AcceptedHead) (t : Traced I) (u : Beside) (together : Together (Trees I) (t.cluster))
     (base : run.history_of clients (t.items) ≡ history_of I (((t.cluster).world).items)) where
   abbrev c : Cluster (Trees I)
   c = t.cluster
@@ -233,7 +233,7 @@ module _ (I : Images) (clients : List Client) (behind : ℕ → ℕ → Accepted
     replayed-cut : c.waits i ≡ true → (((c.world).disk).heads i false).cut ≡ h.cut
     replayed-cut waits = ((together.world).mirror).alone i ∙ sym ((may.3) waits)
 
-    begins : BeginTold I t u i (h.cut) → Step I clients behind t (told_of I flown u)
+    begins : BeginTold I t u i (h.cut) → TracedStep I clients behind t (traced_of I flown u)
     begins (Own clean block acts loud ch) =
         step-by I clients behind t u flown begun i _ _ _ ch
         (record (journal_of I t i) { cut = either (((c.world).disk).heads i false).cut (h.cut); name = either (t.names i false) (next_name I t i clean block); flies = Some i })
@@ -282,7 +282,7 @@ module _ (I : Images) (clients : List Client) (behind : ℕ → ℕ → Accepted
     others k ne = same-journal _ _ refl refl refl refl refl (cut-away i (either (((c.world).disk).heads i d) (((c.world).disk).heads i d)) k ne) (sym (at-other (t.names) i (λ e. t.names i d) k ne))
         (sym (at-other (c.header_of) i None k ne)) refl
 
-    ends : EndTold I t u i d → Step I clients behind t (told_of I settled u)
+    ends : EndTold I t u i d → TracedStep I clients behind t (traced_of I settled u)
     ends (Settled loud ch) =
         step-by I clients behind t u settled over i _ _ [] ch
         (record (journal_of I t i) { cut = λ e. (((c.world).disk).heads i d).cut; name = λ e. t.names i d; flies = None })
@@ -310,7 +310,7 @@ module _ (I : Images) (clients : List Client) (behind : ℕ → ℕ → Accepted
         | inr waits ↦ inr waits
       ]
 
-  pub steps : (d : Cluster (Trees I)) (event : Event (Trees I) (t.cluster) d) → Tells I clients behind t u d event → Step I clients behind t (told_of I d u)
+  pub steps : (d : Cluster (Trees I)) (event : Event (Trees I) (t.cluster) d) → Tells I clients behind t u d event → TracedStep I clients behind t (traced_of I d u)
   steps _ (cluster.Works w (world.Answers j said v change cache no_sync a) may) ch = quiet I clients behind t u base _ (cluster.Works w (world.Answers j said v change cache no_sync a) may) ch (λ k. refl) refl
   steps _ (cluster.Works w (world.Syncs j said does still calm) may) ch = quiet I clients behind t u base _ (cluster.Works w (world.Syncs j said does still calm) may) ch (λ k. refl) refl
   steps _ (cluster.Works w (world.Writes r b v i live) may) ch = quiet I clients behind t u base _ (cluster.Works w (world.Writes r b v i live) may) ch (λ k. refl) refl
@@ -373,7 +373,7 @@ module _ (I : Images) (clients : List Client) (behind : ℕ → ℕ → Accepted
 
 -- ---- items without an event
 
-module _ (I : Images) (clients : List Client) (behind : ℕ → ℕ → AcceptedHead) (t : Told I) where
+module _ (I : Images) (clients : List Client) (behind : ℕ → ℕ → AcceptedHead) (t : Traced I) where
   log-says : (i block : ℕ) → t.silent i ≡ false → (k : ℕ) → Happens k (behind k) (journal_of I t k) (t.items) (journal_of I t k) (t.items ++ trace.WriteLog i block ∷ [])
   log-says i block loud k = elim (cases_eq k i) [
     | inl e ↦ subst (λ (k : ℕ). Happens k (behind k) (journal_of I t k) (t.items) (journal_of I t k) (t.items ++ trace.WriteLog i block ∷ [])) (sym e) (Does _ _ (journals.WritesLog block loud))
@@ -407,8 +407,8 @@ module _ (I : Images) (clients : List Client) (behind : ℕ → ℕ → Accepted
 
 -- ---- a header of the past's ring
 
-pub past-lands : (I : Images) (clients : List Client) (behind : ℕ → ℕ → AcceptedHead) (t : Told I) (i : ℕ) (h : AcceptedHead) → run.history_of clients (t.items) ≡ history_of I (((t.cluster).world).items)
-    → MayLand I t i → Step I clients behind t (record t { names = at (t.names) i (λ d. h) })
+pub past-lands : (I : Images) (clients : List Client) (behind : ℕ → ℕ → AcceptedHead) (t : Traced I) (i : ℕ) (h : AcceptedHead) → run.history_of clients (t.items) ≡ history_of I (((t.cluster).world).items)
+    → MayLand I t i → TracedStep I clients behind t (record t { names = at (t.names) i (λ d. h) })
 past-lands I clients behind t i h base may = record {
   event = inl refl;
   journals = λ k. elim (cases_eq k i) [
@@ -420,8 +420,8 @@ past-lands I clients behind t i h base may = record {
   history = base;
 }
 
-pub item-step : (I : Images) (clients : List Client) (behind : ℕ → ℕ → AcceptedHead) (t : Told I) (x : TraceItem) → run.history_of clients (t.items) ≡ history_of I (((t.cluster).world).items)
-    → MaySay I t x → Step I clients behind t (record t { items = t.items ++ x ∷ [] })
+pub item-step : (I : Images) (clients : List Client) (behind : ℕ → ℕ → AcceptedHead) (t : Traced I) (x : TraceItem) → run.history_of clients (t.items) ≡ history_of I (((t.cluster).world).items)
+    → MaySay I t x → TracedStep I clients behind t (record t { items = t.items ++ x ∷ [] })
 item-step I clients behind t x base may = record {
   event = inl refl;
   journals = says I clients behind t x may;
@@ -430,12 +430,12 @@ item-step I clients behind t x base may = record {
 
 -- ---- every run
 
-pub every-run : (I : Images) (clients : List Client) (behind : ℕ → ℕ → AcceptedHead) (a t : Told I) → Begins I clients behind a → Tellings I clients behind a t → Steps I clients behind a t
+pub every-run : (I : Images) (clients : List Client) (behind : ℕ → ℕ → AcceptedHead) (a t : Traced I) → Begins I clients behind a → Tellings I clients behind a t → TracedSteps I clients behind a t
 every-run I clients behind a _ begins tellings.Nothing = Done
 every-run I clients behind a _ begins (AnEvent t u d event before told goes) =
     let so_far = every-run I clients behind a t begins before in
     let together = (every_cluster (Trees I) (a.cluster) (t.cluster) (begins.starts) (events-of I clients behind a t so_far)).0 in
-    Then t (told_of I d u) so_far (steps I clients behind t u together (history-is I clients behind a t begins so_far) d event told)
+    Then t (traced_of I d u) so_far (steps I clients behind t u together (history-is I clients behind a t begins so_far) d event told)
 every-run I clients behind a _ begins (AnItem t x before may goes) =
     let so_far = every-run I clients behind a t begins before in
     Then t _ so_far (item-step I clients behind t x (history-is I clients behind a t begins so_far) may)
@@ -456,10 +456,10 @@ telling-is-step I = record {
 take-all : (n : ℕ) (xs : List TraceItem) → n ≡ length xs → xs ≡ take n xs
 take-all n xs e = sym (ap (λ (m : ℕ). take m xs) e ∙ (ap (take (length xs)) (sym (append-nil xs)) ∙ take-append_seam xs []))
 
-module _ (I : Images) (clients : List Client) (behind : ℕ → ℕ → AcceptedHead) (a : Told I) where
+module _ (I : Images) (clients : List Client) (behind : ℕ → ℕ → AcceptedHead) (a : Traced I) where
   -- a run with one thing more
-  more-passed : (t v : Told I) (n : ℕ) → (n ≤ length (t.items) → IsPassed I clients behind a t n) → Tellings I clients behind a v
-      → ((b : Told I) → Tellings I clients behind b t → Tellings I clients behind b v)
+  more-passed : (t v : Traced I) (n : ℕ) → (n ≤ length (t.items) → IsPassed I clients behind a t n) → Tellings I clients behind a v
+      → ((b : Traced I) → Tellings I clients behind b t → Tellings I clients behind b v)
       → (v.items ≡ t.items) ⊎ ((x : TraceItem) × (v.items ≡ t.items ++ x ∷ [])) → n ≤ length (v.items) → IsPassed I clients behind a v n
   more-passed t v n passed whole on (inl same) high =
       let p = passed (let e = ap length same in omega (arith, e, high)) in
@@ -480,15 +480,15 @@ module _ (I : Images) (clients : List Client) (behind : ℕ → ℕ → Accepted
         }
   ]
 
-  passes : (t : Told I) (n : ℕ) → Begins I clients behind a → Tellings I clients behind a t → length (a.items) ≤ n → n ≤ length (t.items) → IsPassed I clients behind a t n
+  passes : (t : Traced I) (n : ℕ) → Begins I clients behind a → Tellings I clients behind a t → length (a.items) ≤ n → n ≤ length (t.items) → IsPassed I clients behind a t n
   passes _ n begins tellings.Nothing low high =
       record { between = a; before = tellings.Nothing; after = tellings.Nothing; items = take-all n (a.items) (omega (arith, low, high)) }
   passes _ n begins (AnEvent t u d event before told goes) low high =
       let so_far = every-run I clients behind a t begins before in
       let together = (every_cluster (Trees I) (a.cluster) (t.cluster) (begins.starts) (events-of I clients behind a t so_far)).0 in
       let step = steps I clients behind t u together (history-is I clients behind a t begins so_far) d event told in
-      more-passed t (told_of I d u) n (λ h. passes t n begins before low h) (AnEvent t u d event before told goes) (λ b run. AnEvent t u d event run told goes)
-      (grows I 0 (behind 0) (journal_of I t 0) (journal_of I (told_of I d u) 0) (t.items) (u.items) (step.journals 0)) high
+      more-passed t (traced_of I d u) n (λ h. passes t n begins before low h) (AnEvent t u d event before told goes) (λ b run. AnEvent t u d event run told goes)
+      (grows I 0 (behind 0) (journal_of I t 0) (journal_of I (traced_of I d u) 0) (t.items) (u.items) (step.journals 0)) high
   passes _ n begins (AnItem t x before may goes) low high =
       more-passed t (record t { items = t.items ++ x ∷ [] }) n (λ h. passes t n begins before low h) (AnItem t x before may goes) (λ b run. AnItem t x run may goes) (inr (x, refl)) high
   passes _ n begins (tellings.Lands t i h before may) low high =

@@ -14,10 +14,10 @@ use Rattle.cluster_events.specs.Cluster.{Cluster}
 use Rattle.cluster_events.specs.Cluster as cluster
 use Rattle.cluster_events.proofs.Eventing.{every_cluster}
 use Rattle.tree_histories.specs.Trees.{Images, Trees}
-use Rattle.head_laws.specs.Journals.{Journal, Event, Events, IsNew, IsOther, IsEnd, head_item, Done, Then}
+use Rattle.head_laws.specs.Journals.{Journal, JournalEvent, JournalEvents, IsNew, IsOther, IsEnd, head_item, Done, Then}
 use Rattle.head_laws.specs.Journals as journals
-use Rattle.head_laws.specs.Traces.{Told, journal_of, Happens, Rests, Does, Step, AreJoins, Begins}
-use Rattle.head_laws.specs.Tellings.{Beside, told_of, place_of, slots_of, GoesOn, Tells, MaySay, Tellings, AnEvent, AnItem, RecoveriesAreTold}
+use Rattle.head_laws.specs.Traces.{Traced, journal_of, Happens, Rests, Does, TracedStep, AreJoins, Begins}
+use Rattle.head_laws.specs.Tellings.{Beside, traced_of, place_of, slots_of, GoesOn, Tells, MaySay, Tellings, AnEvent, AnItem, RecoveriesAreTold}
 use Rattle.head_laws.specs.Tellings as tellings
 use Rattle.head_laws.proofs.Items.{true-false, eqb-other, eqb-self}
 use Rattle.head_laws.proofs.Tracing.{same-last, no-more, grows, history-is, events-of}
@@ -167,7 +167,7 @@ module _ (P : Type 0) (s0 : Slots) (i : ℕ) where
       by (trace.Withdraw k before now) e = let q = ap (λ (m : ℕ). i == m) e ∙ eqb-self i in (ap (λ (b : Bool). cond b false ((S items).members i)) q, ap (λ (b : Bool). cond b true ((S items).waits i)) q)
       by x e = absurd e
 
-  event-agrees : (behind : ℕ → AcceptedHead) (j k : Journal) (items more : List TraceItem) → Event i behind j items k more
+  event-agrees : (behind : ℕ → AcceptedHead) (j k : Journal) (items more : List TraceItem) → JournalEvent i behind j items k more
       → (j.waits ≡ true → is_recovering i ((S items).place) ≡ true → is_recovering i ((S more).place) ≡ true)
       → (P → j.waits ≡ true → k.waits ≡ false → (S items).waits i ≡ false) → Agrees P i (S items) j → Agrees P i (S more) k
   event-agrees behind j _ items _ (journals.Says x o) through recovered a = leaves j j items x refl refl (other-members i (S items) x o) (other-waits i (S items) x o) through a
@@ -214,7 +214,7 @@ module _ (P : Type 0) (s0 : Slots) (i : ℕ) where
 
 -- ---- from a journal that nobody has joined: who is a member
 
-event-members : (s0 : Slots) (i : ℕ) (behind : ℕ → AcceptedHead) (j k : Journal) (items more : List TraceItem) → Event i behind j items k more
+event-members : (s0 : Slots) (i : ℕ) (behind : ℕ → AcceptedHead) (j k : Journal) (items more : List TraceItem) → JournalEvent i behind j items k more
     → (slots_after s0 items).members i ≡ j.runs → (slots_after s0 more).members i ≡ k.runs
 event-members s0 i behind j k items more event e = by j k items more event e
   where
@@ -226,7 +226,7 @@ event-members s0 i behind j k items more event e = by j k items more event e
     end s (trace.Withdraw k before now) e = ap (λ (b : Bool). cond b false (s.members i)) (ap (λ (m : ℕ). i == m) e ∙ eqb-self i)
     end s x e = absurd e
 
-    by : (j k : Journal) (items more : List TraceItem) → Event i behind j items k more → (slots_after s0 items).members i ≡ j.runs → (slots_after s0 more).members i ≡ k.runs
+    by : (j k : Journal) (items more : List TraceItem) → JournalEvent i behind j items k more → (slots_after s0 items).members i ≡ j.runs → (slots_after s0 more).members i ≡ k.runs
     by j _ items _ (journals.Says x o) e = on items x (j.runs) (other-members i (slots_after s0 items) x o ∙ e)
     by j _ items _ (journals.WritesLog block loud) e = on items (trace.WriteLog i block) (j.runs) e
     by j _ items _ (journals.SaysRecovered r waits) e = on items (trace.Recovered i r) (j.runs) e
@@ -244,7 +244,7 @@ event-members s0 i behind j k items more event e = by j k items more event e
     by j _ items _ (journals.Loses m kept waits some over) e = on items (trace.Lost i kept) (j.runs) e
     by j _ items _ (journals.IsRecovered waits none alone its-first) e = e
 
-events-members : (s0 : Slots) (i : ℕ) (behind : ℕ → AcceptedHead) (j : Journal) (items : List TraceItem) (k : Journal) (more : List TraceItem) → Events i behind j items k more
+events-members : (s0 : Slots) (i : ℕ) (behind : ℕ → AcceptedHead) (j : Journal) (items : List TraceItem) (k : Journal) (more : List TraceItem) → JournalEvents i behind j items k more
     → (slots_after s0 items).members i ≡ j.runs → (slots_after s0 more).members i ≡ k.runs
 events-members s0 i behind j items _ _ Done e = e
 events-members s0 i behind j items l most (Then k _ more _ before event) e = event-members s0 i behind k l more most event (events-members s0 i behind j items k more before e)
@@ -297,7 +297,7 @@ module _ (I : Images) (clients : List Client) (behind : ℕ → ℕ → Accepted
   past-same c _ (cluster.PastEnds wait nothing_left unheaded) = refl
 
   -- a slot ends to wait where its recovery is told, or it is the past's
-  ends-to-wait : (t : Told I) (u : Beside) (d : Cluster (Trees I)) (event : cluster.Event (Trees I) (t.cluster) d) → Tells I clients behind t u d event → (i : ℕ) → (t.cluster).waits i ≡ true
+  ends-to-wait : (t : Traced I) (u : Beside) (d : Cluster (Trees I)) (event : cluster.Event (Trees I) (t.cluster) d) → Tells I clients behind t u d event → (i : ℕ) → (t.cluster).waits i ≡ true
       → d.waits i ≡ false → (is_recovering i (place_of (t.items)) ≡ true) ⊎ (i ≡ (t.cluster).past)
   ends-to-wait t u _ (cluster.Works w step may) told i w0 f = true-false w0 f
   ends-to-wait t u _ (cluster.Mails locks sent) told i w f = true-false w f
@@ -319,14 +319,14 @@ module _ (I : Images) (clients : List Client) (behind : ℕ → ℕ → Accepted
     | inr ne ↦ true-false (at-other ((t.cluster).waits) ((t.cluster).past) false i ne ∙ w) f
   ]
 
-  module _ (a : Told I) (begins : Begins I clients behind a) where
+  module _ (a : Traced I) (begins : Begins I clients behind a) where
     abbrev s0 : Slots
     s0 = at_start ((a.cluster).waits)
 
-    abbrev SlotsOf : Told I → Slots
+    abbrev SlotsOf : Traced I → Slots
     SlotsOf t = slots_after s0 (t.items)
 
-    record Inv (t : Told I) : Type 0 where
+    record Inv (t : Traced I) : Type 0 where
       past : (t.cluster).past ≡ (a.cluster).past
       told : recoveries_are_told s0 (t.items) ≡ true
       agrees : (i : ℕ) → Agrees (i ≡ (a.cluster).past → ⊥) i (SlotsOf t) (journal_of I t i)
@@ -346,7 +346,7 @@ module _ (I : Images) (clients : List Client) (behind : ℕ → ℕ → Accepted
     }
 
     -- the machine's slots and the items'
-    allows : (t : Told I) → Inv t → Allows (slots_of I t) (SlotsOf t)
+    allows : (t : Traced I) → Inv t → Allows (slots_of I t) (SlotsOf t)
     allows t inv = record {
       members = λ i. (inv.agrees i).members;
       place = its-place (t.items);
@@ -359,7 +359,7 @@ module _ (I : Images) (clients : List Client) (behind : ℕ → ℕ → Accepted
     }
 
     -- at most one item comes
-    next-told : (t : Told I) (next : List TraceItem) → Inv t → GoesOn I t next → (next ≡ t.items) ⊎ ((x : TraceItem) × (next ≡ t.items ++ x ∷ [])) → recoveries_are_told s0 next ≡ true
+    next-told : (t : Traced I) (next : List TraceItem) → Inv t → GoesOn I t next → (next ≡ t.items) ⊎ ((x : TraceItem) × (next ≡ t.items ++ x ∷ [])) → recoveries_are_told s0 next ≡ true
     next-told t next inv goes (inl same) = ap (recoveries_are_told s0) same ∙ inv.told
     next-told t next inv goes (inr (x, more)) =
         ap (recoveries_are_told s0) more
@@ -373,7 +373,7 @@ module _ (I : Images) (clients : List Client) (behind : ℕ → ℕ → Accepted
         may : may_come (slots_of I t) x ≡ true
         may = one (goes.more) (sym (goes.said) ∙ more) (goes.told)
 
-    next : (t u : Told I) → Inv t → GoesOn I t (u.items) → Step I clients behind t u → (u.cluster).past ≡ (t.cluster).past
+    next : (t u : Traced I) → Inv t → GoesOn I t (u.items) → TracedStep I clients behind t u → (u.cluster).past ≡ (t.cluster).past
         → ((i : ℕ) → (t.cluster).waits i ≡ true → (u.cluster).waits i ≡ false → (is_recovering i (place_of (t.items)) ≡ true) ⊎ (i ≡ (t.cluster).past)) → Inv u
     next t u inv goes step past ends = record {
       past = past ∙ inv.past;
@@ -387,12 +387,12 @@ module _ (I : Images) (clients : List Client) (behind : ℕ → ℕ → Accepted
           (inv.agrees i);
     }
 
-    every : (t : Told I) → Tellings I clients behind a t → Inv t
+    every : (t : Traced I) → Tellings I clients behind a t → Inv t
     every _ tellings.Nothing = starts
     every _ (AnEvent t u d event before told goes) =
         let so_far = every-run I clients behind a t begins before in
         let together = (every_cluster (Trees I) (a.cluster) (t.cluster) (begins.starts) (events-of I clients behind a t so_far)).0 in
-        next t (told_of I d u) (every t before) goes (steps I clients behind t u together (history-is I clients behind a t begins so_far) d event told)
+        next t (traced_of I d u) (every t before) goes (steps I clients behind t u together (history-is I clients behind a t begins so_far) d event told)
         (past-same (t.cluster) d event) (ends-to-wait t u d event told)
     every _ (AnItem t x before may goes) =
         let so_far = every-run I clients behind a t begins before in

@@ -18,7 +18,7 @@ use Rattle.cluster_events.proofs.Eventing.{every_cluster}
 use Rattle.tree_histories.specs.Trees.{Images, Trees, history_of}
 use Rattle.tree_histories.proofs.Joining.{every_tree_cluster}
 use Rattle.head_laws.specs.Laws.{lives_count, with_head, MayBe}
-use Rattle.head_laws.specs.Traces.{Told, journal_of, Begins, Steps, HeadsMayBe, SyncsStand, RemainsStand}
+use Rattle.head_laws.specs.Traces.{Traced, journal_of, Begins, TracedSteps, HeadsMayBe, SyncsStand, RemainsStand}
 use Rattle.head_laws.proofs.Items.{eqb-other, life-there}
 use Rattle.head_laws.proofs.Tracing.{history-is, history-more, events-of, told, upto-now}
 
@@ -137,10 +137,10 @@ node-of i n (m ∷ ls) l is = by (eqb_tells m.node i) (node-of i (n - 1) ls l) (
 
 -- ---- what remains
 
-may-be : (I : Images) (t : Told I) (choice : ℕ → Bool) (now : ℕ → AcceptedHead) → HeadsMayBe I t choice now → (i : ℕ) → MayBe i (journal_of I t i) (t.items) (choice i) (now i)
+may-be : (I : Images) (t : Traced I) (choice : ℕ → Bool) (now : ℕ → AcceptedHead) → HeadsMayBe I t choice now → (i : ℕ) → MayBe i (journal_of I t i) (t.items) (choice i) (now i)
 may-be I t choice now heads i = elim (heads i) [ inl e ↦ inl e | inr m ↦ inr (m.waits, m.over) ]
 
-module _ (I : Images) (clients : List Client) (behind : ℕ → ℕ → AcceptedHead) (a t : Told I) (begins : Begins I clients behind a) (steps : Steps I clients behind a t)
+module _ (I : Images) (clients : List Client) (behind : ℕ → ℕ → AcceptedHead) (a t : Traced I) (begins : Begins I clients behind a) (steps : TracedSteps I clients behind a t)
     (choice : ℕ → Bool) (now : ℕ → AcceptedHead) (heads : HeadsMayBe I t choice now) where
   abbrev c : Cluster (Trees I)
   c = t.cluster

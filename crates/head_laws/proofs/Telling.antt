@@ -5,7 +5,7 @@ use Rattle.std.proofs.lemmas.Bool.{ltb-true, ltb-false, cases_Bool}
 use Rattle.std.proofs.lemmas.Bool.Decides.{eqb_tells}
 use Rattle.trace_text.specs.declared.item.TraceItem.{TraceItem}
 use Rattle.run_rules.specs.Lives.{Life, AcceptedHead, lives_of, losses_of, life_at}
-use Rattle.head_laws.specs.Journals.{Journal, Event, Events, Done, Then, IsNew}
+use Rattle.head_laws.specs.Journals.{Journal, JournalEvent, JournalEvents, Done, Then, IsNew}
 use Rattle.head_laws.specs.Journals as journals
 use Rattle.head_laws.specs.Laws.{MayBe, AreTold, HeadsAreTold}
 use Rattle.head_laws.proofs.Items.{true-false, eqb-other, eqb-self}
@@ -28,7 +28,7 @@ starts i behind j new = record {
   lives = λ n l is low. absurd (let f : None ≡ Some l = is in cc);
 }
 
-event-keeps : (i : ℕ) (behind : ℕ → AcceptedHead) (j k : Journal) (items more : List TraceItem) → Event i behind j items k more → Inv i behind j items → Inv i behind k more
+event-keeps : (i : ℕ) (behind : ℕ → AcceptedHead) (j k : Journal) (items more : List TraceItem) → JournalEvent i behind j items k more → Inv i behind j items → Inv i behind k more
 event-keeps i behind j _ items _ (journals.Says x o) inv = says i behind j items x o inv
 event-keeps i behind j _ items _ (journals.WritesLog block loud) inv = writes-log i behind j items block loud inv
 event-keeps i behind j _ items _ (journals.SaysRecovered r waits) inv = says-recovered i behind j items r waits inv
@@ -45,7 +45,7 @@ event-keeps i behind j _ items _ (journals.Joins stopped free alone at) inv = jo
 event-keeps i behind j _ items _ (journals.Loses m kept waits some over) inv = loses i behind j items m kept waits some inv
 event-keeps i behind j _ items _ (journals.IsRecovered waits none alone its-first) inv = is-recovered i behind j items waits none alone its-first inv
 
-events-keep : (i : ℕ) (behind : ℕ → AcceptedHead) (j : Journal) (items : List TraceItem) (k : Journal) (more : List TraceItem) → Events i behind j items k more → Inv i behind j items → Inv i behind k more
+events-keep : (i : ℕ) (behind : ℕ → AcceptedHead) (j : Journal) (items : List TraceItem) (k : Journal) (more : List TraceItem) → JournalEvents i behind j items k more → Inv i behind j items → Inv i behind k more
 events-keep i behind j items _ _ Done inv = inv
 events-keep i behind j items l most (Then k _ more _ before event) inv = event-keeps i behind k l more most event (events-keep i behind j items k more before inv)
 

@@ -22,10 +22,10 @@ use Rattle.cluster_events.specs.Cluster as cluster
 use Rattle.cluster_events.proofs.Eventing.{every_cluster}
 use Rattle.tree_histories.specs.Trees.{Images, Trees, item_of, history_of, upto_at}
 use Rattle.tree_histories.proofs.Joining.{every_tree_cluster}
-use Rattle.head_laws.specs.Journals.{Journal, Event, Events, IsNew}
+use Rattle.head_laws.specs.Journals.{Journal, JournalEvent, JournalEvents, IsNew}
 use Rattle.head_laws.specs.Journals as journals
 use Rattle.head_laws.specs.Laws.{with_head, AreTold}
-use Rattle.head_laws.specs.Traces.{Told, journal_of, Happens, Rests, Does, Step, Steps, Done, Then, AreJoins, Begins, LossesAreRight}
+use Rattle.head_laws.specs.Traces.{Traced, journal_of, Happens, Rests, Does, TracedStep, TracedSteps, Done, Then, AreJoins, Begins, LossesAreRight}
 use Rattle.head_laws.proofs.Items.{life-there}
 use Rattle.head_laws.proofs.Telling.{heads-are-told}
 
@@ -127,7 +127,7 @@ module _ (I : Images) where
   more-events a _ c (cluster.Done _) event = cluster.Then a c c event (cluster.Done c)
   more-events a b c (cluster.Then _ m _ first rest) event = cluster.Then a m c first (more-events m b c rest event)
 
-  pub events-of : (clients : List Client) (behind : ℕ → ℕ → AcceptedHead) (a t : Told I) → Steps I clients behind a t → cluster.Events (Trees I) (a.cluster) (t.cluster)
+  pub events-of : (clients : List Client) (behind : ℕ → ℕ → AcceptedHead) (a t : Traced I) → TracedSteps I clients behind a t → cluster.Events (Trees I) (a.cluster) (t.cluster)
   events-of clients behind a _ Done = cluster.Done (a.cluster)
   events-of clients behind a v (Then u _ before step) = by (step.event) (events-of clients behind a u before)
     where
@@ -136,21 +136,21 @@ module _ (I : Images) where
       by (inr event) events = more-events (a.cluster) (u.cluster) (v.cluster) events event
 
   -- what happened to a node's journal since nobody had joined it
-  then-more : (i : ℕ) (behind : ℕ → AcceptedHead) (j k l : Journal) (xs ys zs : List TraceItem) → Events i behind j xs k ys → Happens i behind k ys l zs → Events i behind j xs l zs
+  then-more : (i : ℕ) (behind : ℕ → AcceptedHead) (j k l : Journal) (xs ys zs : List TraceItem) → JournalEvents i behind j xs k ys → Happens i behind k ys l zs → JournalEvents i behind j xs l zs
   then-more i behind j k _ xs ys _ events Rests = events
   then-more i behind j k l xs ys zs events (Does _ _ event) = journals.Then k l ys zs events event
 
-  pub journal-events : (clients : List Client) (behind : ℕ → ℕ → AcceptedHead) (a t : Told I) → Begins I clients behind a → Steps I clients behind a t → (i : ℕ)
-      → (j : Journal) × IsNew j × Events i (behind i) j [] (journal_of I t i) (t.items)
+  pub journal-events : (clients : List Client) (behind : ℕ → ℕ → AcceptedHead) (a t : Traced I) → Begins I clients behind a → TracedSteps I clients behind a t → (i : ℕ)
+      → (j : Journal) × IsNew j × JournalEvents i (behind i) j [] (journal_of I t i) (t.items)
   journal-events clients behind a _ begins Done i = begins.joined i
   journal-events clients behind a v begins (Then u _ before step) i =
       let r = journal-events clients behind a u begins before i in
       (r.0, r.1, then-more i (behind i) (r.0) (journal_of I u i) (journal_of I v i) [] (u.items) (v.items) (r.2) (step.journals i))
 
-  pub told : (clients : List Client) (behind : ℕ → ℕ → AcceptedHead) (a t : Told I) → Begins I clients behind a → Steps I clients behind a t → (i : ℕ) → AreTold i behind (journal_of I t i) (t.items)
+  pub told : (clients : List Client) (behind : ℕ → ℕ → AcceptedHead) (a t : Traced I) → Begins I clients behind a → TracedSteps I clients behind a t → (i : ℕ) → AreTold i behind (journal_of I t i) (t.items)
   told clients behind a t begins steps i = let r = journal-events clients behind a t begins steps i in heads-are-told i behind (r.0) (journal_of I t i) (t.items) (r.1) (r.2)
 
-  pub history-is : (clients : List Client) (behind : ℕ → ℕ → AcceptedHead) (a t : Told I) → Begins I clients behind a → Steps I clients behind a t
+  pub history-is : (clients : List Client) (behind : ℕ → ℕ → AcceptedHead) (a t : Traced I) → Begins I clients behind a → TracedSteps I clients behind a t
       → run.history_of clients (t.items) ≡ history_of I (((t.cluster).world).items)
   history-is clients behind a _ begins Done = join-history clients (a.items) (begins.joins) ∙ sym (ap (history_of I) (((begins.starts).world).unheard).0)
   history-is clients behind a v begins (Then u _ before step) = step.history
@@ -195,7 +195,7 @@ abbrev Right : List Client → (ℕ → ℕ → AcceptedHead) → ℕ → ℕ �
 Right clients behind p node kept before = (life : Life) × (life_lost node before ≡ Some life)
     × LossIsRight (run.history_of clients before) node (upto_of (record { behind = behind; now = λ i. behind i p }) life before) kept
 
-module _ (I : Images) (clients : List Client) (behind : ℕ → ℕ → AcceptedHead) (a u v : Told I) (begins : Begins I clients behind a) (before : Steps I clients behind a u) (step : Step I clients behind u v)
+module _ (I : Images) (clients : List Client) (behind : ℕ → ℕ → AcceptedHead) (a u v : Traced I) (begins : Begins I clients behind a) (before : TracedSteps I clients behind a u) (step : TracedStep I clients behind u v)
     (node kept : ℕ) (grown : v.items ≡ u.items ++ trace.Lost node kept ∷ []) where
   abbrev now : List Item
   now = history_of I (((u.cluster).world).items)

@@ -11,7 +11,7 @@ use Rattle.event_lists.specs.Begins.{Start, started}
 use Rattle.tree_histories.specs.Trees as trees
 use Rattle.tree_histories.specs.Trees.{Images, Trees}
 use Rattle.head_laws.specs.Example.{head, clean}
-use Rattle.head_laws.specs.Traces.{Told, Begins}
+use Rattle.head_laws.specs.Traces.{Traced, Begins}
 use Rattle.head_laws.specs.Tellings.{Tellings}
 
 -- block 5 has something else on the disk
@@ -31,7 +31,7 @@ dirty_start I m t d said = record {
 abbrev pub heads_at_start : ℕ → AcceptedHead
 heads_at_start i = if (i == 1) || (i == 9) then head 30 8 else clean 20 3
 
-abbrev pub dirty_begin : (I : Images) → Image (Trees I) → Tree → I.Content → trees.Told → Told I
+abbrev pub dirty_begin : (I : Images) → Image (Trees I) → Tree → I.Content → trees.Told → Traced I
 dirty_begin I m t d said = record {
   cluster = started (Trees I) (dirty_start I m t d said);
   names = λ i e. heads_at_start i;
@@ -51,5 +51,5 @@ disk_heads i p = if nat_lt 4 p && (i == 1) then clean 31 9 else heads_at_start i
 abbrev pub DirtyStartIsTold : Images → Type 0
 DirtyStartIsTold I = (clients : List Client) (m : Image (Trees I)) (t : Tree) (d : I.Content) (said : trees.Told) → (Trees I).Stands m t
     → Begins I clients disk_heads (dirty_begin I m t d said)
-    × ((e : Told I) × Tellings I clients disk_heads (dirty_begin I m t d said) e
+    × ((e : Traced I) × Tellings I clients disk_heads (dirty_begin I m t d said) e
     × (e.items ≡ dirty_run) × ((i : ℕ) → (e.cluster).waits i ≡ false) × (e.names 1 false ≡ clean 31 9))

@@ -7,7 +7,7 @@ use Rattle.trace_text.specs.declared.item.TraceItem.{TraceItem}
 use Rattle.trace_text.specs.declared.item.TraceItem.TheVariants as trace
 use Rattle.run_rules.specs.Lives.{AcceptedHead, upto_of}
 use Rattle.run_rules.specs.Recoveries.{at_start, recoveries_are_told}
-use Rattle.head_laws.specs.Journals.{Journal, Events, IsNew}
+use Rattle.head_laws.specs.Journals.{Journal, JournalEvents, IsNew}
 use Rattle.head_laws.specs.Laws.{with_head}
 
 abbrev pub head : ℕ → ℕ → AcceptedHead
@@ -43,7 +43,7 @@ abbrev pub on_disk : ℕ → ℕ → AcceptedHead
 on_disk node p = if nat_lt p 8 then clean 30 8 else if nat_lt p 15 then head 33 9 else if nat_lt p 19 then head 36 10 else clean 37 11
 
 abbrev pub JournalCanLive : Type 0
-JournalCanLive = (j : Journal) × IsNew new_journal × Events 1 (on_disk 1) new_journal [] j two_lives
+JournalCanLive = (j : Journal) × IsNew new_journal × JournalEvents 1 (on_disk 1) new_journal [] j two_lives
     × (j.runs ≡ true) × (j.waits ≡ false) × (j.cut false ≡ 2)
     × (upto_of (with_head on_disk (clean 37 11)) (record { node = 1; join = 0 }) (take 20 two_lives) ≡ 2)
     × (upto_of (with_head on_disk (clean 37 11)) (record { node = 1; join = 21 }) two_lives ≡ 2)

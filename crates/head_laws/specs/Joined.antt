@@ -6,7 +6,7 @@ use Rattle.trace_text.specs.declared.item.TraceItem.{TraceItem}
 use Rattle.trace_text.specs.declared.item.TraceItem.TheVariants as trace
 use Rattle.run_rules.specs.Lives.{AcceptedHead, upto_of}
 use Rattle.run_rules.specs.Recoveries.{at_start, recoveries_are_told}
-use Rattle.head_laws.specs.Journals.{Journal, Events, IsNew}
+use Rattle.head_laws.specs.Journals.{Journal, JournalEvents, IsNew}
 use Rattle.head_laws.specs.Laws.{with_head}
 use Rattle.head_laws.specs.Example.{head, clean, new_journal, resizes}
 
@@ -21,6 +21,6 @@ abbrev pub early_disk : ℕ → ℕ → AcceptedHead
 early_disk node p = if nat_lt p 8 then clean 30 8 else if nat_lt p 16 then head 33 9 else clean 34 10
 
 abbrev pub JournalIsJoinedEarly : Type 0
-JournalIsJoinedEarly = (j : Journal) × IsNew new_journal × Events 1 (early_disk 1) new_journal [] j joined_early × (j.runs ≡ true) × (j.waits ≡ false)
+JournalIsJoinedEarly = (j : Journal) × IsNew new_journal × JournalEvents 1 (early_disk 1) new_journal [] j joined_early × (j.runs ≡ true) × (j.waits ≡ false)
     × (upto_of (with_head early_disk (clean 34 10)) (record { node = 1; join = 14 }) joined_early ≡ 1)
     × (recoveries_are_told (at_start (λ i. false)) joined_early ≡ true)

@@ -85,24 +85,24 @@ abbrev pub IsFirst : ℕ → (ℕ → AcceptedHead) → Journal → List TraceIt
 IsFirst node behind j items = j.runs ≡ true → (l : Life) → present node j items ≡ Some l → behind (own_from l items) ≡ j.name false
 
 -- One thing happens to the journal, or one item of the trace says something; behind so many items the accepted head of the node's journal is this on the disk.
-pub data Event (node : ℕ) (behind : ℕ → AcceptedHead) (j : Journal) (items : List TraceItem) : Journal → List TraceItem → Type 0 where
+pub data JournalEvent (node : ℕ) (behind : ℕ → AcceptedHead) (j : Journal) (items : List TraceItem) : Journal → List TraceItem → Type 0 where
   -- an item of something else; a write to the log; that the slot is recovered
-  Says : (x : TraceItem) → IsOther node x → Event node behind j items j (items ++ x ∷ [])
-  WritesLog : (block : ℕ) → j.silent ≡ false → Event node behind j items j (items ++ trace.WriteLog node block ∷ [])
-  SaysRecovered : (r : ℕ) → j.waits ≡ true → Event node behind j items j (items ++ trace.Recovered node r ∷ [])
+  Says : (x : TraceItem) → IsOther node x → JournalEvent node behind j items j (items ++ x ∷ [])
+  WritesLog : (block : ℕ) → j.silent ≡ false → JournalEvent node behind j items j (items ++ trace.WriteLog node block ∷ [])
+  SaysRecovered : (r : ℕ) → j.waits ≡ true → JournalEvent node behind j items j (items ++ trace.Recovered node r ∷ [])
   -- a call is answered, and not behind a clean header
   Answers : (name : List ℕ) (number : ℕ) (call : Call) (reply : Reply) → j.runs ≡ true → j.waits ≡ false → (j.silent ≡ true → (j.name true).is_clean ≡ false)
-      → Event node behind j items (record j { last = number }) (items ++ trace.Call node name number call reply ∷ [])
+      → JournalEvent node behind j items (record j { last = number }) (items ++ trace.Call node name number call reply ∷ [])
   -- the node begins a header, with its item, or as the last that it does in this life
   Begins : (clean : Bool) (block upto : ℕ) → j.runs ≡ true → j.waits ≡ false → j.silent ≡ false → j.flies ≡ None
-      → Event node behind j items (record j {
+      → JournalEvent node behind j items (record j {
         cut = either (j.cut false) upto;
         name = either (j.name false) (record { block = block; sequence = suc (j.name false).sequence; is_clean = clean });
         flies = Some node;
       }) (items ++ head_item clean node block (suc (j.name false).sequence) upto ∷ [])
   BeginsLast : (clean : Bool) (block upto : ℕ) → j.runs ≡ true → j.waits ≡ false → j.silent ≡ false → j.flies ≡ None
       → ((l : Life) → present node j items ≡ Some l → upto ≡ unnamed_upto clean node j.last l items)
-      → Event node behind j items (record j {
+      → JournalEvent node behind j items (record j {
         cut = either (j.cut false) upto;
         name = either (j.name false) (record { block = block; sequence = suc (j.name false).sequence; is_clean = clean });
         flies = Some node;
@@ -110,30 +110,30 @@ pub data Event (node : ℕ) (behind : ℕ → AcceptedHead) (j : Journal) (items
       }) items
   -- a header of a replay, by whomever, with an item or without, once each life without a loss is fenced
   Replays : (r : ℕ) (h : AcceptedHead) → j.waits ≡ true → EachIsFenced j → j.flies ≡ None
-      → Event node behind j items (record j { cut = either (j.cut false) (j.cut false); name = either (j.name false) h; flies = Some r }) items
+      → JournalEvent node behind j items (record j { cut = either (j.cut false) (j.cut false); name = either (j.name false) h; flies = Some r }) items
   -- where the slot waits since the start: such a header of the ring that speaks for the past comes to the disk, at the latest by the fence
-  ReplaysPast : (h : AcceptedHead) → j.waits ≡ true → NoHeadMatters node j items → j.flies ≡ None → Event node behind j items (record j { name = λ d. h }) items
+  ReplaysPast : (h : AcceptedHead) → j.waits ≡ true → NoHeadMatters node j items → j.flies ≡ None → JournalEvent node behind j items (record j { name = λ d. h }) items
   -- a header is on the disk, or never will be; a commit says the first of the node's own
   Ends : (d : Bool) → (j.runs ≡ true → (j.silent ≡ false) × (j.waits ≡ false → d ≡ true))
-      → Event node behind j items (record j { cut = λ e. j.cut d; name = λ e. j.name d; flies = None }) items
+      → JournalEvent node behind j items (record j { cut = λ e. j.cut d; name = λ e. j.name d; flies = None }) items
   Commits : (sequence upto : ℕ) → j.runs ≡ true → j.waits ≡ false → j.silent ≡ false → j.flies ≡ Some node
-      → Event node behind j items (record j { cut = λ e. j.cut true; name = λ e. j.name true; flies = None }) (items ++ trace.Commit node sequence upto ∷ [])
+      → JournalEvent node behind j items (record j { cut = λ e. j.cut true; name = λ e. j.name true; flies = None }) (items ++ trace.Commit node sequence upto ∷ [])
   -- the node stops, and is fenced
   Stops : (x : TraceItem) → IsEnd node x → j.runs ≡ true
-      → Event node behind j items (record j { runs = false; waits = true; fenced = false; unlost = suc j.unlost; silent = false }) (items ++ x ∷ [])
+      → JournalEvent node behind j items (record j { runs = false; waits = true; fenced = false; unlost = suc j.unlost; silent = false }) (items ++ x ∷ [])
   IsFenced : j.runs ≡ false → j.fenced ≡ false → (j.flies ≡ Some node → ⊥) → behind (suc (length items)) ≡ j.name false
-      → Event node behind j items (record j { fenced = true }) (items ++ trace.Fence node ∷ [])
+      → JournalEvent node behind j items (record j { fenced = true }) (items ++ trace.Fence node ∷ [])
   -- it joins. A header of its journal may be in flight, while its slot waits
   Joins : j.runs ≡ false → (j.fenced ≡ true) ⊎ (j.unlost ≡ 0) → (j.flies ≡ None) ⊎ (j.waits ≡ true) → behind (length items) ≡ j.name false
-      → Event node behind j items (record j { runs = true; fenced = false }) (items ++ trace.Join node ∷ [])
+      → JournalEvent node behind j items (record j { runs = true; fenced = false }) (items ++ trace.Join node ∷ [])
   -- a life that ended is lost; the journal counts as having all calls that are left. With the last of them the slot is recovered
   Loses : (m kept : ℕ) → j.waits ≡ true → j.unlost ≡ suc m → (j.runs ≡ true) ⊎ (j.fenced ≡ true)
-      → Event node behind j items (record j { unlost = m; cut = λ d. j.last }) (items ++ trace.Lost node kept ∷ [])
-  IsRecovered : j.waits ≡ true → j.unlost ≡ 0 → j.flies ≡ None → IsFirst node behind j items → Event node behind j items (record j { waits = false }) items
+      → JournalEvent node behind j items (record j { unlost = m; cut = λ d. j.last }) (items ++ trace.Lost node kept ∷ [])
+  IsRecovered : j.waits ≡ true → j.unlost ≡ 0 → j.flies ≡ None → IsFirst node behind j items → JournalEvent node behind j items (record j { waits = false }) items
 
-pub data Events (node : ℕ) (behind : ℕ → AcceptedHead) (j : Journal) (items : List TraceItem) : Journal → List TraceItem → Type 0 where
-  Done : Events node behind j items j items
-  Then : (k l : Journal) (more most : List TraceItem) → Events node behind j items k more → Event node behind k more l most → Events node behind j items l most
+pub data JournalEvents (node : ℕ) (behind : ℕ → AcceptedHead) (j : Journal) (items : List TraceItem) : Journal → List TraceItem → Type 0 where
+  Done : JournalEvents node behind j items j items
+  Then : (k l : Journal) (more most : List TraceItem) → JournalEvents node behind j items k more → JournalEvent node behind k more l most → JournalEvents node behind j items l most
 
 -- before the first join: the node has answered nothing, and its journal has one head
 pub record IsNew (j : Journal) : Type 0 where

@@ -2,7 +2,7 @@
 use Rattle.std.specs.Prelude.{ℕ, ◌≡◌, ◌<◌, ◌⊎◌, ◌+◌, ◌==◌, Bool, true, false, Some, List, [], ◌∷◌, if◌then◌else◌}
 use Rattle.trace_text.specs.declared.item.TraceItem.{TraceItem}
 use Rattle.run_rules.specs.Lives.{Life, AcceptedHead, DiskHeads, upto_of, lives_of, losses_of, life_at}
-use Rattle.head_laws.specs.Journals.{Journal, Events, IsNew, NoHeadMatters}
+use Rattle.head_laws.specs.Journals.{Journal, JournalEvents, IsNew, NoHeadMatters}
 
 -- how many lives of the node are among these
 abbrev pub lives_count : ℕ → List Life → ℕ
@@ -31,4 +31,4 @@ pub record AreTold (node : ℕ) (behind : ℕ → ℕ → AcceptedHead) (j : Jou
   pub count : lives_count node (lives_of items) ≡ losses_of node items + (j.unlost + (if j.runs then 1 else 0))
 
 abbrev pub HeadsAreTold : Type 0
-HeadsAreTold = (node : ℕ) (behind : ℕ → ℕ → AcceptedHead) (a j : Journal) (items : List TraceItem) → IsNew a → Events node (behind node) a [] j items → AreTold node behind j items
+HeadsAreTold = (node : ℕ) (behind : ℕ → ℕ → AcceptedHead) (a j : Journal) (items : List TraceItem) → IsNew a → JournalEvents node (behind node) a [] j items → AreTold node behind j items

@@ -12,7 +12,7 @@ use Rattle.cluster_laws.specs.World as world
 use Rattle.cluster_events.specs.Cluster.{Cluster, Together, Event, Works, Stops, Fences, Joins, Recovers}
 use Rattle.tree_histories.specs.Trees.{Images, Trees, history_of}
 use Rattle.head_laws.specs.Journals.{present, head_item, unnamed_upto, IsEnd, IsFirst, EachIsFenced}
-use Rattle.head_laws.specs.Traces.{Told, journal_of, Step, Steps, Begins, MayLand}
+use Rattle.head_laws.specs.Traces.{Traced, journal_of, TracedStep, TracedSteps, Begins, MayLand}
 
 -- what there is beside the cluster: the names of heads, who is silent, and the items
 pub record Beside : Type 0 where
@@ -20,11 +20,11 @@ pub record Beside : Type 0 where
   pub silent : ℕ → Bool
   pub items : List TraceItem
 
-abbrev pub told_of : (I : Images) → Cluster (Trees I) → Beside → Told I
-told_of I c b = record { cluster = c; names = b.names; silent = b.silent; items = b.items }
+abbrev pub traced_of : (I : Images) → Cluster (Trees I) → Beside → Traced I
+traced_of I c b = record { cluster = c; names = b.names; silent = b.silent; items = b.items }
 
 -- it is this now, and these items came
-pub record Changed (I : Images) (t : Told I) (u : Beside) (names : ℕ → Bool → AcceptedHead) (silent : ℕ → Bool) (more : List TraceItem) : Type 0 where
+pub record Changed (I : Images) (t : Traced I) (u : Beside) (names : ℕ → Bool → AcceptedHead) (silent : ℕ → Bool) (more : List TraceItem) : Type 0 where
   pub named : u.names ≡ names
   pub silenced : u.silent ≡ silent
   pub said : u.items ≡ t.items ++ more
@@ -34,25 +34,25 @@ abbrev pub place_of : List TraceItem → Place
 place_of items = (slots_after (at_start (λ i. false)) items).place
 
 -- who is a member, and whose slot waits and isn't being told to be recovered
-abbrev pub slots_of : (I : Images) → Told I → Slots
+abbrev pub slots_of : (I : Images) → Traced I → Slots
 slots_of I t = record { members = (t.cluster).runs; waits = λ i. (t.cluster).waits i && not (is_recovering i (place_of (t.items))); place = place_of (t.items) }
 
 -- With these items recoveries are told as they have to be; and from the item that a slot is recovered on, until it is, only its losses come.
-pub record GoesOn (I : Images) (t : Told I) (next : List TraceItem) : Type 0 where
+pub record GoesOn (I : Images) (t : Traced I) (next : List TraceItem) : Type 0 where
   pub more : List TraceItem
   pub said : next ≡ t.items ++ more
   pub told : recoveries_are_told (slots_of I t) more ≡ true
   pub through : (i : ℕ) → (t.cluster).waits i ≡ true → is_recovering i (place_of (t.items)) ≡ true → is_recovering i (place_of next) ≡ true
 
 -- the header that goes in flight for a journal behind its accepted one
-abbrev pub with_name : (I : Images) → Told I → ℕ → AcceptedHead → ℕ → Bool → AcceptedHead
+abbrev pub with_name : (I : Images) → Traced I → ℕ → AcceptedHead → ℕ → Bool → AcceptedHead
 with_name I t i h = at (t.names) i (either (t.names i false) h)
 
-abbrev pub next_name : (I : Images) → Told I → ℕ → Bool → ℕ → AcceptedHead
+abbrev pub next_name : (I : Images) → Traced I → ℕ → Bool → ℕ → AcceptedHead
 next_name I t i clean block = record { block = block; sequence = suc ((t.names i false).sequence); is_clean = clean }
 
 -- a header begins
-pub data BeginTold (I : Images) (t : Told I) (u : Beside) (i cut : ℕ) : Type 0 where
+pub data BeginTold (I : Images) (t : Traced I) (u : Beside) (i cut : ℕ) : Type 0 where
   -- of a node's own journal, with its item; or without, as the last that the node writes in this life: then it has the calls that the items tell
   Own : (clean : Bool) (block : ℕ) → (t.cluster).waits i ≡ false → t.silent i ≡ false
       → Changed I t u (with_name I t i (next_name I t i clean block)) (t.silent) (head_item clean i block (suc ((t.names i false).sequence)) cut ∷ []) → BeginTold I t u i cut
@@ -63,13 +63,13 @@ pub data BeginTold (I : Images) (t : Told I) (u : Beside) (i cut : ℕ) : Type 0
   Replay : (h : AcceptedHead) → (t.cluster).waits i ≡ true → EachIsFenced (journal_of I t i) → Changed I t u (with_name I t i h) (t.silent) [] → BeginTold I t u i cut
 
 -- a header is on the disk or never will be: not one without an item while its node runs; with a commit it is the node's own
-pub data EndTold (I : Images) (t : Told I) (u : Beside) (i : ℕ) (d : Bool) : Type 0 where
+pub data EndTold (I : Images) (t : Traced I) (u : Beside) (i : ℕ) (d : Bool) : Type 0 where
   Settled : ((t.cluster).runs i ≡ true → t.silent i ≡ false) → Changed I t u (at (t.names) i (λ e. t.names i d)) (t.silent) [] → EndTold I t u i d
   Committed : (sequence upto : ℕ) → (t.cluster).runs i ≡ true → (t.cluster).waits i ≡ false → t.silent i ≡ false → d ≡ true
       → Changed I t u (at (t.names) i (λ e. t.names i d)) (t.silent) (trace.Commit i sequence upto ∷ []) → EndTold I t u i d
 
 -- a call's item; it comes behind no clean header without an item
-pub record CallTold (I : Images) (clients : List Client) (t : Told I) (u : Beside) (i : ℕ) : Type 0 where
+pub record CallTold (I : Images) (clients : List Client) (t : Traced I) (u : Beside) (i : ℕ) : Type 0 where
   pub name : List ℕ
   pub client : run.place_of clients name ≡ ((((t.cluster).world).book).told i (suc ((((t.cluster).world).book).published i))).client
   pub dirty : t.silent i ≡ true → (t.names i true).is_clean ≡ false
@@ -78,7 +78,7 @@ pub record CallTold (I : Images) (clients : List Client) (t : Told I) (u : Besid
       (((((t.cluster).world).book).told i (suc ((((t.cluster).world).book).published i))).reply) ∷ [])
 
 -- what the trace has of an event; of most nothing that tells of calls, heads and lives
-abbrev pub Tells : (I : Images) (clients : List Client) (behind : ℕ → ℕ → AcceptedHead) (t : Told I) (u : Beside) (d : Cluster (Trees I)) → Event (Trees I) (t.cluster) d → Type 0
+abbrev pub Tells : (I : Images) (clients : List Client) (behind : ℕ → ℕ → AcceptedHead) (t : Traced I) (u : Beside) (d : Cluster (Trees I)) → Event (Trees I) (t.cluster) d → Type 0
 Tells I clients behind t u _ (Works _ (world.Publishes i some) may) = CallTold I clients t u i
 Tells I clients behind t u _ (Works _ (world.Begins i h single heads) may) = BeginTold I t u i (h.cut)
 Tells I clients behind t u _ (Works _ (world.Ends i d) may) = EndTold I t u i d
@@ -94,7 +94,7 @@ Tells I clients behind t u _ (Recovers i here wait nothing unheaded told) =
 Tells I clients behind t u _ _ = Changed I t u (t.names) (t.silent) []
 
 -- an item without an event. That a slot is recovered is said while it waits, and not of the past's
-abbrev pub MaySay : (I : Images) → Told I → TraceItem → Type 0
+abbrev pub MaySay : (I : Images) → Traced I → TraceItem → Type 0
 MaySay I t (trace.WriteLog i block) = t.silent i ≡ false
 MaySay I t (trace.Recovered i r) = ((t.cluster).waits i ≡ true) × (i ≡ (t.cluster).past → ⊥)
 MaySay I t (trace.Join i) = ⊥
@@ -109,39 +109,39 @@ MaySay I t (trace.Lost i kept) = ⊥
 MaySay I t _ = ⊤
 
 -- a run, with all that its trace has of it
-pub data Tellings (I : Images) (clients : List Client) (behind : ℕ → ℕ → AcceptedHead) (a : Told I) : Told I → Type 0 where
+pub data Tellings (I : Images) (clients : List Client) (behind : ℕ → ℕ → AcceptedHead) (a : Traced I) : Traced I → Type 0 where
   Nothing : Tellings I clients behind a a
-  AnEvent : (t : Told I) (u : Beside) (d : Cluster (Trees I)) (event : Event (Trees I) (t.cluster) d) → Tellings I clients behind a t → Tells I clients behind t u d event
-      → GoesOn I t (u.items) → Tellings I clients behind a (told_of I d u)
-  AnItem : (t : Told I) (x : TraceItem) → Tellings I clients behind a t → MaySay I t x → GoesOn I t (t.items ++ x ∷ []) → Tellings I clients behind a (record t { items = t.items ++ x ∷ [] })
-  Lands : (t : Told I) (i : ℕ) (h : AcceptedHead) → Tellings I clients behind a t → MayLand I t i → Tellings I clients behind a (record t { names = at (t.names) i (λ d. h) })
+  AnEvent : (t : Traced I) (u : Beside) (d : Cluster (Trees I)) (event : Event (Trees I) (t.cluster) d) → Tellings I clients behind a t → Tells I clients behind t u d event
+      → GoesOn I t (u.items) → Tellings I clients behind a (traced_of I d u)
+  AnItem : (t : Traced I) (x : TraceItem) → Tellings I clients behind a t → MaySay I t x → GoesOn I t (t.items ++ x ∷ []) → Tellings I clients behind a (record t { items = t.items ++ x ∷ [] })
+  Lands : (t : Traced I) (i : ℕ) (h : AcceptedHead) → Tellings I clients behind a t → MayLand I t i → Tellings I clients behind a (record t { names = at (t.names) i (λ d. h) })
 
 -- So each event of the cluster, and each such item, is a step of each journal; and every run is a list of steps.
 pub record TellingIsStep (I : Images) : Type 0 where
-  pub event : (clients : List Client) (behind : ℕ → ℕ → AcceptedHead) (t : Told I) (u : Beside) (d : Cluster (Trees I)) (event : Event (Trees I) (t.cluster) d) → Together (Trees I) (t.cluster)
-      → run.history_of clients (t.items) ≡ history_of I (((t.cluster).world).items) → Tells I clients behind t u d event → Step I clients behind t (told_of I d u)
-  pub item : (clients : List Client) (behind : ℕ → ℕ → AcceptedHead) (t : Told I) (x : TraceItem) → run.history_of clients (t.items) ≡ history_of I (((t.cluster).world).items)
-      → MaySay I t x → Step I clients behind t (record t { items = t.items ++ x ∷ [] })
-  pub past : (clients : List Client) (behind : ℕ → ℕ → AcceptedHead) (t : Told I) (i : ℕ) (h : AcceptedHead) → run.history_of clients (t.items) ≡ history_of I (((t.cluster).world).items)
-      → MayLand I t i → Step I clients behind t (record t { names = at (t.names) i (λ d. h) })
-  pub every : (clients : List Client) (behind : ℕ → ℕ → AcceptedHead) (a t : Told I) → Begins I clients behind a → Tellings I clients behind a t → Steps I clients behind a t
+  pub event : (clients : List Client) (behind : ℕ → ℕ → AcceptedHead) (t : Traced I) (u : Beside) (d : Cluster (Trees I)) (event : Event (Trees I) (t.cluster) d) → Together (Trees I) (t.cluster)
+      → run.history_of clients (t.items) ≡ history_of I (((t.cluster).world).items) → Tells I clients behind t u d event → TracedStep I clients behind t (traced_of I d u)
+  pub item : (clients : List Client) (behind : ℕ → ℕ → AcceptedHead) (t : Traced I) (x : TraceItem) → run.history_of clients (t.items) ≡ history_of I (((t.cluster).world).items)
+      → MaySay I t x → TracedStep I clients behind t (record t { items = t.items ++ x ∷ [] })
+  pub past : (clients : List Client) (behind : ℕ → ℕ → AcceptedHead) (t : Traced I) (i : ℕ) (h : AcceptedHead) → run.history_of clients (t.items) ≡ history_of I (((t.cluster).world).items)
+      → MayLand I t i → TracedStep I clients behind t (record t { names = at (t.names) i (λ d. h) })
+  pub every : (clients : List Client) (behind : ℕ → ℕ → AcceptedHead) (a t : Traced I) → Begins I clients behind a → Tellings I clients behind a t → TracedSteps I clients behind a t
 
 -- So, by the items alone, each recovery is told by one item of the least member, and each loss stands behind it or at the run's end; and a slot that doesn't wait doesn't
 -- by the items: its recovery was told.
 pub record RecoveriesAreTold (I : Images) : Type 0 where
-  pub items : (clients : List Client) (behind : ℕ → ℕ → AcceptedHead) (a t : Told I) → Begins I clients behind a → Tellings I clients behind a t
+  pub items : (clients : List Client) (behind : ℕ → ℕ → AcceptedHead) (a t : Traced I) → Begins I clients behind a → Tellings I clients behind a t
       → recoveries_are_told (at_start ((a.cluster).waits)) (t.items) ≡ true
-  pub slots : (clients : List Client) (behind : ℕ → ℕ → AcceptedHead) (a t : Told I) (i : ℕ) → Begins I clients behind a → Tellings I clients behind a t → (i ≡ (t.cluster).past → ⊥)
+  pub slots : (clients : List Client) (behind : ℕ → ℕ → AcceptedHead) (a t : Traced I) (i : ℕ) → Begins I clients behind a → Tellings I clients behind a t → (i ≡ (t.cluster).past → ⊥)
       → (t.cluster).waits i ≡ false → (slots_after (at_start ((a.cluster).waits)) (t.items)).waits i ≡ false
 
 -- a front of the items is that of a run, from which this one goes on
-pub record IsPassed (I : Images) (clients : List Client) (behind : ℕ → ℕ → AcceptedHead) (a t : Told I) (n : ℕ) : Type 0 where
-  pub between : Told I
+pub record IsPassed (I : Images) (clients : List Client) (behind : ℕ → ℕ → AcceptedHead) (a t : Traced I) (n : ℕ) : Type 0 where
+  pub between : Traced I
   pub before : Tellings I clients behind a between
   pub after : Tellings I clients behind between t
   pub items : between.items ≡ take n (t.items)
 
 -- So what holds of every run with its trace holds at each front of the items behind the first joins.
 abbrev pub FrontsArePassed : Images → Type 0
-FrontsArePassed I = (clients : List Client) (behind : ℕ → ℕ → AcceptedHead) (a t : Told I) (n : ℕ) → Begins I clients behind a → Tellings I clients behind a t
+FrontsArePassed I = (clients : List Client) (behind : ℕ → ℕ → AcceptedHead) (a t : Traced I) (n : ℕ) → Begins I clients behind a → Tellings I clients behind a t
     → length (a.items) ≤ n → n ≤ length (t.items) → IsPassed I clients behind a t n

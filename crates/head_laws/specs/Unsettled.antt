@@ -5,7 +5,7 @@ use Rattle.trace_text.specs.declared.item.TraceItem.{TraceItem}
 use Rattle.trace_text.specs.declared.item.TraceItem.TheVariants as trace
 use Rattle.run_rules.specs.Lives.{AcceptedHead, upto_of}
 use Rattle.run_rules.specs.Recoveries.{at_start, recoveries_are_told}
-use Rattle.head_laws.specs.Journals.{Journal, Events, IsNew}
+use Rattle.head_laws.specs.Journals.{Journal, JournalEvents, IsNew}
 use Rattle.head_laws.specs.Laws.{with_head, MayBe}
 use Rattle.head_laws.specs.Example.{head, clean, new_journal}
 
@@ -28,10 +28,10 @@ clean_from n node p = if nat_lt p n then head 30 8 else clean 31 9
 
 -- to such a state on this disk
 abbrev pub IsThrough : (ℕ → AcceptedHead) → Journal → List TraceItem → Type 0
-IsThrough behind j items = (k : Journal) × Events 1 behind j crashed k items × (k.waits ≡ false)
+IsThrough behind j items = (k : Journal) × JournalEvents 1 behind j crashed k items × (k.waits ≡ false)
 
 abbrev pub HeadIsUnsettled : Type 0
-HeadIsUnsettled = (j : Journal) × IsNew dirty_journal × Events 1 (clean_from 7 1) dirty_journal [] j crashed × Events 1 (clean_from 9 1) dirty_journal [] j crashed
+HeadIsUnsettled = (j : Journal) × IsNew dirty_journal × JournalEvents 1 (clean_from 7 1) dirty_journal [] j crashed × JournalEvents 1 (clean_from 9 1) dirty_journal [] j crashed
     × ((d : Bool) (h : AcceptedHead) → MayBe 1 j crashed d h)
     × IsThrough (clean_from 7 1) j landed × IsThrough (clean_from 9 1) j written_anew
     × (upto_of (with_head (clean_from 7) (clean 31 9)) (record { node = 1; join = 0 }) crashed ≡ 0)
