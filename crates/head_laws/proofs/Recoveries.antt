@@ -1,12 +1,12 @@
 -- Recoveries are told as they have to be.
-use Rattle.std.proofs.Common.{ℕ, zero, suc, ◌≡◌, ◌⊎◌, inl, inr, Bool, true, false, cond, List, [], ◌∷◌, ◌++◌, length, refl, sym, ap, ◌∙◌, subst, append-nil}
+use Rattle.std.proofs.Common.{ℕ, zero, suc, ◌≡◌, ◌⊎◌, inl, inr, Bool, true, false, cond, None, Some, List, [], ◌∷◌, ◌++◌, length, refl, sym, ap, ◌∙◌, subst, append-nil, drop}
 use Rattle.std.specs.Prelude.{◌==◌, ◌&&◌, ◌||◌, not}
 use Rattle.std.proofs.lemmas.Bool.{cases_eq, cases_Bool}
 use Rattle.std.proofs.lemmas.Bool.Decides.{eqb_tells}
 use Rattle.trace_text.specs.declared.item.TraceItem.{TraceItem}
 use Rattle.trace_text.specs.declared.item.TraceItem.TheVariants as trace
 use Rattle.script_lang.specs.declared.script.Client.{Client}
-use Rattle.run_rules.specs.Lives.{AcceptedHead}
+use Rattle.run_rules.specs.Lives.{AcceptedHead, recovered_behind}
 use Rattle.run_rules.specs.Recoveries.{Place, Ending, Slots, is_recovering, is_ending, after_item, slots_after, none_below, may_come, recoveries_are_told, at_start}
 use Rattle.cluster_laws.specs.Book.{at}
 use Rattle.cluster_laws.proofs.Cells.{at-same, at-other}
@@ -14,11 +14,13 @@ use Rattle.cluster_events.specs.Cluster.{Cluster}
 use Rattle.cluster_events.specs.Cluster as cluster
 use Rattle.cluster_events.proofs.Eventing.{every_cluster}
 use Rattle.tree_histories.specs.Trees.{Images, Trees}
-use Rattle.head_laws.specs.Journals.{Journal, JournalEvent, JournalEvents, IsNew, IsOther, IsEnd, head_item, Done, Then}
+use Rattle.head_laws.specs.Journals.{Journal, JournalEvent, JournalEvents, IsNew, IsOther, IsEnd, head_item, Done, Then, DoesNothing}
 use Rattle.head_laws.specs.Journals as journals
 use Rattle.head_laws.specs.Traces.{Traced, journal_of, Happens, Rests, Does, TracedStep, AreJoins, Begins}
-use Rattle.head_laws.specs.Tellings.{Beside, traced_of, place_of, slots_of, GoesOn, Tells, MaySay, Tellings, AnEvent, AnItem, RecoveriesAreTold}
+use Rattle.head_laws.specs.Tellings.{Beside, traced_of, place_of, slots_of, GoesOn, Tells, MaySay, Tellings, AnEvent, AnItem, RecoveriesAreTold, StartSlotsStayOpen}
 use Rattle.head_laws.specs.Tellings as tellings
+use Rattle.head_laws.proofs.Values.{none-on}
+use Rattle.head_laws.proofs.Saying.{other-idle}
 use Rattle.head_laws.proofs.Items.{true-false, eqb-other, eqb-self}
 use Rattle.head_laws.proofs.Tracing.{same-last, no-more, grows, history-is, events-of}
 use Rattle.head_laws.proofs.Happening.{steps, item-step, every-run}
@@ -406,10 +408,128 @@ module _ (I : Images) (clients : List Client) (behind : ℕ → ℕ → Accepted
 pub recoveries-told : (I : Images) → RecoveriesAreTold I
 recoveries-told I = record {
   items = λ clients behind a t begins run. (every I clients behind a begins t run).told;
-  slots = λ clients behind a t i begins run here free.
-      let inv = every I clients behind a begins t run in
-      elim (cases_Bool ((slots_after (at_start ((a.cluster).waits)) (t.items)).waits i)) [
-        | inl w ↦ true-false ((inv.agrees i).told (λ e. here (e ∙ sym inv.past)) w) free
-        | inr f ↦ f
-      ];
+  members = λ clients behind a t i begins run. ((every I clients behind a begins t run).agrees i).members;
+  waits = λ clients behind a t i begins run waits. elim (((every I clients behind a begins t run).agrees i).waits waits) [
+    | inl e ↦ inl e
+    | inr e ↦ inr (sym (ap (is_recovering i) (its-place I clients behind a begins (t.items))) ∙ e)
+  ];
+  slots = λ clients behind a t i begins run here free. still-waits I clients behind a t i begins run here free;
 }
+  where
+    still-waits : (I : Images) (clients : List Client) (behind : ℕ → ℕ → AcceptedHead) (a t : Traced I) (i : ℕ) → Begins I clients behind a → Tellings I clients behind a t
+        → (i ≡ (t.cluster).past → ⊥) → (t.cluster).waits i ≡ false → (slots_after (at_start ((a.cluster).waits)) (t.items)).waits i ≡ false
+    still-waits I clients behind a t i begins run here free =
+        let inv = every I clients behind a begins t run in
+        elim (cases_Bool ((slots_after (at_start ((a.cluster).waits)) (t.items)).waits i)) [
+          | inl w ↦ true-false ((inv.agrees i).told (λ e. here (e ∙ sym inv.past)) w) free
+          | inr f ↦ f
+        ]
+
+-- ---- a slot that waits since the start
+
+none-front : (i p : ℕ) (xs ys : List TraceItem) → recovered_behind i p (xs ++ ys) ≡ None → recovered_behind i p xs ≡ None
+none-front i p [] ys none = refl
+none-front i p (trace.Recovered k r ∷ xs) ys none = by (k == i) none (none-front i (suc p) xs ys)
+  where
+    by : (b : Bool) → cond b (Some (suc p)) (recovered_behind i (suc p) (xs ++ ys)) ≡ None → (recovered_behind i (suc p) (xs ++ ys) ≡ None → recovered_behind i (suc p) xs ≡ None)
+        → cond b (Some (suc p)) (recovered_behind i (suc p) xs) ≡ None
+    by true e on = e
+    by false e on = on e
+none-front i p (x ∷ xs) ys none = none-front i (suc p) xs ys none
+
+waits-on : (i p : ℕ) (s : Slots) (xs : List TraceItem) → recovered_behind i p xs ≡ None → s.waits i ≡ true → (slots_after s xs).waits i ≡ true
+waits-on i p s [] none w = w
+waits-on i p s (trace.Join k ∷ xs) none w = waits-on i (suc p) (after_item s (trace.Join k)) xs none w
+waits-on i p s (trace.Crash k ∷ xs) none w = waits-on i (suc p) (after_item s (trace.Crash k)) xs none (by (i == k))
+  where
+    by : (b : Bool) → cond b true (s.waits i) ≡ true
+    by true = refl
+    by false = w
+waits-on i p s (trace.Withdraw k before now ∷ xs) none w = waits-on i (suc p) (after_item s (trace.Withdraw k before now)) xs none (by (i == k))
+  where
+    by : (b : Bool) → cond b true (s.waits i) ≡ true
+    by true = refl
+    by false = w
+waits-on i p s (trace.Recovered k r ∷ xs) none w = elim (eqb_tells k i) [
+  | inl h ↦ absurd (let f : cond (k == i) (Some (suc p)) (recovered_behind i (suc p) xs) ≡ None = none in none-some (sym (ap (λ (b : Bool). cond b (Some (suc p)) (recovered_behind i (suc p) xs)) (h.0)) ∙ f))
+  | inr h ↦ waits-on i (suc p) (after_item s (trace.Recovered k r)) xs (sym (ap (λ (b : Bool). cond b (Some (suc p)) (recovered_behind i (suc p) xs)) (h.0)) ∙ none)
+      (ap (λ (b : Bool). cond b false (s.waits i)) (eqb-other i k (λ e. h.1 (sym e))) ∙ w)
+]
+  where
+    none-some : {n : ℕ} → Some n ≡ None → ⊥
+    none-some e = cc
+waits-on i p s (trace.Lost k kept ∷ xs) none w = waits-on i (suc p) (after_item s (trace.Lost k kept)) xs none w
+waits-on i p s (x ∷ xs) none w = waits-on i (suc p) (after_item s x) xs none w
+
+joins-nothing : (i : ℕ) (xs : List TraceItem) → AreJoins xs → DoesNothing i xs
+joins-nothing i [] joins = tt
+joins-nothing i (trace.Join k ∷ xs) joins = joins-nothing i xs joins
+joins-nothing i (x ∷ xs) joins = absurd joins
+
+nothing-drop : (i n : ℕ) (xs : List TraceItem) → DoesNothing i xs → DoesNothing i (drop n xs)
+nothing-drop i zero xs none = none
+nothing-drop i (suc n) [] none = tt
+nothing-drop i (suc n) (trace.Call k name number call reply ∷ xs) none = nothing-drop i n xs none.1
+nothing-drop i (suc n) (trace.WriteHead k block sequence upto ∷ xs) none = nothing-drop i n xs none.1
+nothing-drop i (suc n) (trace.WriteClean k block sequence upto ∷ xs) none = nothing-drop i n xs none.1
+nothing-drop i (suc n) (x ∷ xs) none = nothing-drop i n xs none
+
+-- while the slot waits the node neither calls nor writes a header
+happens-nothing : (i : ℕ) (behind : ℕ → AcceptedHead) (j k : Journal) (items more : List TraceItem) → Happens i behind j items k more → j.waits ≡ true → DoesNothing i items → DoesNothing i more
+happens-nothing i behind j _ items _ Rests w none = none
+happens-nothing i behind j _ items _ (Does _ _ (journals.Says x o)) w none = none-on i items (x ∷ []) none (other-idle i x o)
+happens-nothing i behind j _ items _ (Does _ _ (journals.WritesLog block loud)) w none = none-on i items (trace.WriteLog i block ∷ []) none tt
+happens-nothing i behind j _ items _ (Does _ _ (journals.SaysRecovered r waits)) w none = none-on i items (trace.Recovered i r ∷ []) none tt
+happens-nothing i behind j _ items _ (Does _ _ (journals.Answers name number call reply runs acts dirty)) w none = true-false w acts
+happens-nothing i behind j _ items _ (Does _ _ (journals.Begins clean block upto runs acts loud alone)) w none = true-false w acts
+happens-nothing i behind j _ items _ (Does _ _ (journals.BeginsLast clean block upto runs acts loud alone told)) w none = none
+happens-nothing i behind j _ items _ (Does _ _ (journals.Replays r h waits who alone)) w none = none
+happens-nothing i behind j _ items _ (Does _ _ (journals.ReplaysPast h waits who alone)) w none = none
+happens-nothing i behind j _ items _ (Does _ _ (journals.Ends d may)) w none = none
+happens-nothing i behind j _ items _ (Does _ _ (journals.Commits sequence upto runs acts loud flies)) w none = none-on i items (trace.Commit i sequence upto ∷ []) none tt
+happens-nothing i behind j _ items _ (Does _ _ (journals.Stops x is runs)) w none = none-on i items (x ∷ []) none (by x is)
+  where
+    by : (x : TraceItem) → IsEnd i x → DoesNothing i (x ∷ [])
+    by (trace.Crash k) e = tt
+    by (trace.Withdraw k before now) e = tt
+    by x e = absurd e
+happens-nothing i behind j _ items _ (Does _ _ (journals.IsFenced stopped unfenced resting there)) w none = none-on i items (trace.Fence i ∷ []) none tt
+happens-nothing i behind j _ items _ (Does _ _ (journals.Joins stopped free alone there)) w none = none-on i items (trace.Join i ∷ []) none tt
+happens-nothing i behind j _ items _ (Does _ _ (journals.Loses m kept waits some over)) w none = none-on i items (trace.Lost i kept ∷ []) none tt
+happens-nothing i behind j _ items _ (Does _ _ (journals.IsRecovered waits none alone its-first)) w nothing = nothing
+
+module _ (I : Images) (clients : List Client) (behind : ℕ → ℕ → AcceptedHead) (a : Traced I) (begins : Begins I clients behind a) (i : ℕ) (dirty : (a.cluster).waits i ≡ true) where
+  start-waits : (t : Traced I) → Tellings I clients behind a t → (i ≡ (t.cluster).past → ⊥) → recovered_behind i 0 (t.items) ≡ None → (t.cluster).waits i ≡ true
+  start-waits t run here none =
+      let inv = every I clients behind a begins t run in
+      (inv.agrees i).told (λ e. here (e ∙ sym inv.past)) (waits-on i 0 (at_start ((a.cluster).waits)) (t.items) none dirty)
+
+  -- none stands in what was before
+  was-none : (t u : Traced I) → TracedStep I clients behind t u → recovered_behind i 0 (u.items) ≡ None → recovered_behind i 0 (t.items) ≡ None
+  was-none t u step none = by (grows I 0 (behind 0) (journal_of I t 0) (journal_of I u 0) (t.items) (u.items) (step.journals 0))
+    where
+      by : (u.items ≡ t.items) ⊎ ((x : TraceItem) × (u.items ≡ t.items ++ x ∷ [])) → recovered_behind i 0 (t.items) ≡ None
+      by (inl same) = sym (ap (recovered_behind i 0) same) ∙ none
+      by (inr (x, more)) = none-front i 0 (t.items) (x ∷ []) (sym (ap (recovered_behind i 0) more) ∙ none)
+
+  start-nothing : (t : Traced I) → Tellings I clients behind a t → (i ≡ (t.cluster).past → ⊥) → recovered_behind i 0 (t.items) ≡ None → DoesNothing i (t.items)
+  start-nothing _ tellings.Nothing here none = joins-nothing i (a.items) (begins.joins)
+  start-nothing _ (AnEvent t u d event before told goes) here none =
+      let so_far = every-run I clients behind a t begins before in
+      let together = (every_cluster (Trees I) (a.cluster) (t.cluster) (begins.starts) (events-of I clients behind a t so_far)).0 in
+      let step = steps I clients behind t u together (history-is I clients behind a t begins so_far) d event told in
+      let there : i ≡ (t.cluster).past → ⊥ = λ e. here (e ∙ sym (past-same I clients behind (t.cluster) d event)) in
+      let was = was-none t (traced_of I d u) step none in
+      happens-nothing i (behind i) (journal_of I t i) (journal_of I (traced_of I d u) i) (t.items) (u.items) (step.journals i) (start-waits t before there was) (start-nothing t before there was)
+  start-nothing _ (AnItem t x before may goes) here none =
+      let so_far = every-run I clients behind a t begins before in
+      let step = item-step I clients behind t x (history-is I clients behind a t begins so_far) may in
+      let was = was-none t (record t { items = t.items ++ x ∷ [] }) step none in
+      happens-nothing i (behind i) (journal_of I t i) (journal_of I t i) (t.items) (t.items ++ x ∷ []) (step.journals i) (start-waits t before here was) (start-nothing t before here was)
+  start-nothing _ (tellings.Lands t k h before may) here none = start-nothing t before here none
+
+pub start-slots-open : (I : Images) → StartSlotsStayOpen I
+start-slots-open I clients behind a t i begins run here dirty none = (
+  start-waits I clients behind a begins i dirty t run here none,
+  inr (λ l is. nothing-drop i l.join (t.items) (start-nothing I clients behind a begins i dirty t run here none)),
+)

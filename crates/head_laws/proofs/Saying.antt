@@ -55,7 +55,7 @@ module _ (i : ℕ) (behind : ℕ → AcceptedHead) (j : Journal) (l : Life) (ite
     acting = λ a. acting-on i behind l items x within j o.going o.unfenced still unnamed-by (within-none i (j.name true).sequence (x ∷ []) idle) (quiet o) (o.acting a);
   }
 
-other-idle : (i : ℕ) (x : TraceItem) → IsOther i x → DoesNothing i (x ∷ [])
+pub other-idle : (i : ℕ) (x : TraceItem) → IsOther i x → DoesNothing i (x ∷ [])
 other-idle i (trace.WriteHead k block sequence upto) o = (o, tt)
 other-idle i (trace.WriteClean k block sequence upto) o = (o, tt)
 other-idle i (trace.Call k name number call reply) o = (o, tt)

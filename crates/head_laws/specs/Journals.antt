@@ -75,8 +75,8 @@ DoesNothing node (x ∷ is) = DoesNothing node is
 abbrev pub last_ended : ℕ → Journal → List TraceItem → Option Life
 last_ended node j items = life_at node (losses_of node items + j.unlost - 1) (lives_of items)
 
--- Which head the journal has matters to no life that ended and has no loss: each was fenced; or all but the last were, and from its join on the node did nothing, as where
--- its slot waited all along.
+-- Which head the journal has matters to no life that ended and has no loss: each was fenced; or the last wasn't yet, but from its join on the node did nothing, as where its
+-- slot waited all along.
 abbrev pub NoHeadMatters : ℕ → Journal → List TraceItem → Type 0
 NoHeadMatters node j items = EachIsFenced j ⊎ ((l : Life) → last_ended node j items ≡ Some l → DoesNothing node (drop l.join items))
 

@@ -1,17 +1,17 @@
 -- What a trace has to tell of each event of a cluster, and which items come without one.
-use Rattle.std.specs.Prelude.{ℕ, suc, ◌≡◌, ◌≤◌, ⊤, Bool, true, false, ◌&&◌, not, Some, List, [], ◌∷◌, ◌++◌, length, take}
+use Rattle.std.specs.Prelude.{ℕ, suc, ◌≡◌, ◌≤◌, ◌⊎◌, ⊤, Bool, true, false, ◌&&◌, not, None, Some, List, [], ◌∷◌, ◌++◌, length, take}
 use Rattle.trace_text.specs.declared.item.TraceItem.{TraceItem}
 use Rattle.trace_text.specs.declared.item.TraceItem.TheVariants as trace
 use Rattle.script_lang.specs.declared.script.Client.{Client}
 use Rattle.run_rules.specs.Follows as run
-use Rattle.run_rules.specs.Lives.{Life, AcceptedHead}
+use Rattle.run_rules.specs.Lives.{Life, AcceptedHead, recovered_behind}
 use Rattle.run_rules.specs.Recoveries.{Place, Slots, is_recovering, slots_after, recoveries_are_told, at_start}
 use Rattle.cluster_laws.specs.Book.{at}
 use Rattle.cluster_laws.specs.Mirror.{either}
 use Rattle.cluster_laws.specs.World as world
 use Rattle.cluster_events.specs.Cluster.{Cluster, Together, Event, Works, Stops, Fences, Joins, Recovers}
 use Rattle.tree_histories.specs.Trees.{Images, Trees, history_of}
-use Rattle.head_laws.specs.Journals.{present, head_item, unnamed_upto, IsEnd, IsFirst, EachIsFenced}
+use Rattle.head_laws.specs.Journals.{present, head_item, unnamed_upto, IsEnd, IsFirst, EachIsFenced, NoHeadMatters}
 use Rattle.head_laws.specs.Traces.{Traced, journal_of, TracedStep, TracedSteps, Begins, MayLand}
 
 -- what there is beside the cluster: the names of heads, who is silent, and the items
@@ -126,13 +126,22 @@ pub record TellingIsStep (I : Images) : Type 0 where
       → MayLand I t i → TracedStep I clients behind t (record t { names = at (t.names) i (λ d. h) })
   pub every : (clients : List Client) (behind : ℕ → ℕ → AcceptedHead) (a t : Traced I) → Begins I clients behind a → Tellings I clients behind a t → TracedSteps I clients behind a t
 
--- So, by the items alone, each recovery is told by one item of the least member, and each loss stands behind it or at the run's end; and a slot that doesn't wait doesn't
--- by the items: its recovery was told.
+-- So, by the items alone, each recovery is told by one item of the least member, and each loss stands behind it or at the run's end. By them the members are those that run,
+-- and a slot waits that does, but while its recovery is being told; one that doesn't wait doesn't by the items: its recovery was told.
 pub record RecoveriesAreTold (I : Images) : Type 0 where
   pub items : (clients : List Client) (behind : ℕ → ℕ → AcceptedHead) (a t : Traced I) → Begins I clients behind a → Tellings I clients behind a t
       → recoveries_are_told (at_start ((a.cluster).waits)) (t.items) ≡ true
+  pub members : (clients : List Client) (behind : ℕ → ℕ → AcceptedHead) (a t : Traced I) (i : ℕ) → Begins I clients behind a → Tellings I clients behind a t
+      → (slots_after (at_start ((a.cluster).waits)) (t.items)).members i ≡ (t.cluster).runs i
+  pub waits : (clients : List Client) (behind : ℕ → ℕ → AcceptedHead) (a t : Traced I) (i : ℕ) → Begins I clients behind a → Tellings I clients behind a t → (t.cluster).waits i ≡ true
+      → ((slots_after (at_start ((a.cluster).waits)) (t.items)).waits i ≡ true) ⊎ (is_recovering i (place_of (t.items)) ≡ true)
   pub slots : (clients : List Client) (behind : ℕ → ℕ → AcceptedHead) (a t : Traced I) (i : ℕ) → Begins I clients behind a → Tellings I clients behind a t → (i ≡ (t.cluster).past → ⊥)
       → (t.cluster).waits i ≡ false → (slots_after (at_start ((a.cluster).waits)) (t.items)).waits i ≡ false
+
+-- A slot that waited at the start waits until its recovery is told, and until then no head of its journal matters: any may come to the disk, at whatever instant.
+abbrev pub StartSlotsStayOpen : Images → Type 0
+StartSlotsStayOpen I = (clients : List Client) (behind : ℕ → ℕ → AcceptedHead) (a t : Traced I) (i : ℕ) → Begins I clients behind a → Tellings I clients behind a t → (i ≡ (t.cluster).past → ⊥)
+    → (a.cluster).waits i ≡ true → recovered_behind i 0 (t.items) ≡ None → ((t.cluster).waits i ≡ true) × NoHeadMatters i (journal_of I t i) (t.items)
 
 -- a front of the items is that of a run, from which this one goes on
 pub record IsPassed (I : Images) (clients : List Client) (behind : ℕ → ℕ → AcceptedHead) (a t : Traced I) (n : ℕ) : Type 0 where

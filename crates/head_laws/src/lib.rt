@@ -5,7 +5,7 @@ ghost use Rattle.head_laws.specs.DirtyStart.{DirtyStartIsTold};
 ghost use Rattle.head_laws.specs.Example.{JournalCanLive};
 ghost use Rattle.head_laws.specs.Joined.{JournalIsJoinedEarly};
 ghost use Rattle.head_laws.specs.Laws.{HeadsAreTold};
-ghost use Rattle.head_laws.specs.Tellings.{FrontsArePassed, RecoveriesAreTold, TellingIsStep};
+ghost use Rattle.head_laws.specs.Tellings.{FrontsArePassed, RecoveriesAreTold, StartSlotsStayOpen, TellingIsStep};
 ghost use Rattle.head_laws.specs.Unsettled.{HeadIsUnsettled};
 ghost use Rattle.head_laws.specs.Traces.{LossesAreRight, RemainsStand, SyncsStand};
 
@@ -45,6 +45,12 @@ pub fn syncs_stand<T: TreeImages>()
 /// end; and a slot that doesn't wait had its recovery told.
 pub fn recoveries_are_told<T: TreeImages>()
     ensures { RecoveriesAreTold T.images }
+{}
+
+/// A law: a slot that waited at the start waits until its recovery is told, and until then no head of its journal matters to any life, at
+/// whatever instant.
+pub fn start_slots_stay_open<T: TreeImages>()
+    ensures { StartSlotsStayOpen T.images }
 {}
 
 /// A law: each front of a run's items, behind the first joins, is that of a run from which this one goes on; so what holds of every run
