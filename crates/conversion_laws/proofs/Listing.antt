@@ -1,5 +1,5 @@
 -- The laws over every list of calls.
-use Rattle.std.proofs.Common.{ℕ, ◌≡◌, ◌≢◌, ◌⊎◌, ◌<◌, ◌≤◌, inl, inr, true, Option, None, Some, List, [], ◌∷◌, ◌++◌, is_some, refl, sym, ap, ◌∙◌, subst}
+use Rattle.std.proofs.Common.{ℕ, ◌≡◌, ◌≢◌, ◌⊎◌, ◌<◌, ◌≤◌, inl, inr, true, false, Option, None, Some, List, [], ◌∷◌, ◌++◌, is_some, refl, sym, ap, ◌∙◌, subst}
 use Rattle.std.specs.Prelude.{⊤, unwrap_or}
 use Rattle.std.specs.List.{AllByRecursion}
 use Rattle.std.proofs.lemmas.Bool.{cases_eq, cond-true}
@@ -9,6 +9,7 @@ use Rattle.dlm_modes.specs.declared.Mode.{Mode}
 use Rattle.dlm_modes.specs.declared.Mode.TheVariants.{Nl, Cr, Cw, Pr, Pw, Ex}
 use Rattle.dlm_modes.specs.Modes.{go_together, is_at_least}
 use Rattle.dlm_modes.proofs.ModeLaws.{covers-itself, together-turned, together-weaker}
+use Rattle.dlm_modes.specs.declared.ValueBlock.{ValueBlock}
 use Rattle.mail_queues.specs.declared.Message.{Message}
 use Rattle.mail_queues.specs.declared.Body.TheVariants.{Grant}
 use Rattle.dlm_holder.specs.declared.Holding.{Holding}
@@ -23,14 +24,16 @@ use Rattle.dlm_rebuild.proofs.RunLaws.{rebuilt as rebuilt-from-reports}
 use Rattle.lock_laws.specs.Lock.{at}
 use Rattle.lock_steps.specs.Ties.{in_view, grants}
 use Rattle.lock_steps.proofs.Basics.{up-to, same-self, at-here, at-away}
+use Rattle.lock_steps.proofs.Ways.{left-says}
 use Rattle.lock_steps.proofs.Tying.{now-says, holding-is, holding-away}
-use Rattle.conversion_laws.specs.Parts.{LockParts, now_says, grants_coming, lock_in_table, table_mode, held_or_coming}
+use Rattle.conversion_laws.specs.Parts.{Parts, now_says, grant_of, grants_coming, valued_grants, lock_in_table, table_mode, held_or_coming}
 use Rattle.conversion_laws.specs.Calls.{NodeCall, Call, OfMail, OfNode, OfMaster, Calls, NoCall, AndCall, CallDropsNone, DropNone}
 use Rattle.conversion_laws.specs.Calls as calls
-use Rattle.conversion_laws.specs.Laws.{Begins, AreRight, EveryListIsRight, NoAskIsLost, NoneWhileBlocked, ViewsFollow, RisesByGrant, Rises, Keeps, HoldersRiseByGrants, MeetCalls, MessagesMeetCalls}
+use Rattle.conversion_laws.specs.Laws.{Begins, AreRight, EveryListIsRight, NoAskIsLost, NoneWhileBlocked, GrantsBringTheValue, ViewsFollow, RisesByGrant, Rises, Keeps, HoldersRiseByGrants, MeetCalls, MessagesMeetCalls}
 use Rattle.conversion_laws.proofs.Stages.{Tells, sees, covered, exact, one-ask, still-asked, was-asked}
 use Rattle.conversion_laws.proofs.Nodes.{sight, Inv, mail-keeps-inv, node-keeps, grant-first}
 use Rattle.conversion_laws.proofs.Blocking.{grants-nothing}
+use Rattle.conversion_laws.proofs.Values.{Valued, none-of-map, modes-of, brings-value, valued-keeps, first-valued}
 use Rattle.conversion_laws.proofs.Masters.{master-keeps, meets-request, meets-conversion, meets-lower}
 
 -- ---- the invariant
@@ -66,6 +69,11 @@ calls-keep {lossy} lock p _ (AndCall q r before call) may inv = call-keeps lock 
 -- grants may be lost
 reaches : (lock : LockName) (p q : LockParts) → Calls lock p q → Begins lock p → Inv ⊤ lock q
 reaches lock p q calls b = calls-keep lock p q calls (inl tt) (starts lock p b)
+
+-- the grants on their way bring the lock's value
+valued-after : (lock : LockName) (p q : Parts) → Calls lock p q → Begins lock p → Valued lock q
+valued-after lock p _ NoCall b = λ k x. subst (AllByRecursion (λ (g : Mode × ValueBlock). go_together g.0 Pw ≡ false → g.1 ≡ (lock_in_table lock p).value)) (sym (none-of-map (λ (g : Mode × ValueBlock). g.0) (valued_grants lock p k) (sym (modes-of lock p k) ∙ b.grants k x))) tt
+valued-after lock p _ (AndCall q r before call) b = valued-keeps lock q r (reaches lock p q before b) call (valued-after lock p q before b)
 
 -- ---- the table, and what nodes hold
 
@@ -165,20 +173,27 @@ knows-it h lock mode e = by (at_lock h lock) refl
     by None f = absurd (let g : None ≡ Some mode = sym (ap (λ (o : Option Holding). (unwrap_or o nothing).wanted) f) ∙ e in cc)
     by (Some x) f = ap is_some f
 
-meet-calls : {lossy : Type 0} (lock : LockName) (p : LockParts) → Inv lossy lock p → MeetCalls lock p
-meet-calls {lossy} lock p inv = record {
+meet-calls : {lossy : Type 0} (lock : LockName) (p : Parts) → Inv lossy lock p → Valued lock p → MeetCalls lock p
+meet-calls {lossy} lock p inv valued = record {
   requests = λ k mode rest x hand. meets-request lock p k mode rest inv x hand;
   conversions = λ k mode rest x hand. meets-conversion lock p k mode rest inv x hand;
   lowers = λ k mode value rest x hand. meets-lower lock p k mode value rest inv x hand;
   grants = λ k mode value rest x hand.
       let m : Message = now_says p (Grant lock mode value) in
       let grant : in_view p.table.generation (grants lock) m ≡ Some mode = now-says (grants lock) p.table.generation (Grant lock mode value) ∙ cond-true _ _ _ (same-self lock) in
-      let asked : wanted_in (p.holders k) lock ≡ Some mode = was-asked (sight lock p k) mode _ (inv.stages k x) (grant-first lock p k m rest mode hand grant) in
-      (knows-it (p.holders k) lock mode asked, asked);
+      let asked : wanted_in (p.holders k) lock ≡ Some mode = was-asked (sight lock p k) mode _ (inv.stages k x) (grant-first lock p k m rest mode hand grant) in (
+        knows-it (p.holders k) lock mode asked,
+        asked,
+        first-valued lock p k (mode, value) _ valued x (left-says (in_view p.table.generation (grant_of lock)) p.post p.master k m rest (mode, value) hand
+            (now-says (grant_of lock) p.table.generation (Grant lock mode value) ∙ cond-true _ _ _ (same-self lock))),
+      );
 }
 
 pub messages-meet : MessagesMeetCalls
-messages-meet lock p q b calls = meet-calls lock q (reaches lock p q calls b)
+messages-meet lock p q b calls = meet-calls lock q (reaches lock p q calls b) (valued-after lock p q calls b)
+
+pub grants-bring-the-value : GrantsBringTheValue
+grants-bring-the-value lock a p q k b calls call x = brings-value lock p q k (reaches lock a p calls b) call x
 
 pub none-while-blocked : NoneWhileBlocked
 none-while-blocked lock a p q k b calls blocked call x = grants-nothing lock p q k (reaches lock a p calls b) blocked call x

@@ -241,13 +241,14 @@ record FindsLower (lossy : Type 0) (lock : LockName) (p : LockParts) (k : ℕ) (
   covers : is_at_least (table_mode lock p k) mode ≡ true
   idle : is_waiting (lock_in_table lock p) k ≡ false
   stage : Stage lossy (record (sight lock p k) { table = mode; coming = q })
+  granted : grants_coming lock p k ≡ []
 
 finds-lower : {lossy : Type 0} (lock : LockName) (p : LockParts) (k : ℕ) (mode : Mode) (value : Option (List ℕ)) (rest : List Message) → Inv lossy lock p → k ≤ 8
     → p.post.took k p.master ≡ now_says p (Down lock mode value) ∷ rest
     → FindsLower lossy lock p k mode (filter_map (in_view p.table.generation (call_of lock k)) (way (with_left p.post k p.master rest) k p.master))
 finds-lower {lossy} lock p k mode value rest inv x hand =
     let h = stages.hears-lower (sight lock p k) k mode value _ (inv.stages k x) (call-first lock p k (Down lock mode value) (runs.Lowers k mode value) rest hand (cond-true _ _ _ (same-self lock)) refl) in
-    record { covers = h.0; idle = waits-not (lock_in_table lock p) k h.1; stage = h.2 }
+    record { covers = h.0; idle = waits-not (lock_in_table lock p) k h.1; stage = h.2; granted = h.3 }
 
 pub meets-lower : {lossy : Type 0} (lock : LockName) (p : LockParts) (k : ℕ) (mode : Mode) (value : Option (List ℕ)) (rest : List Message) → Inv lossy lock p → k ≤ 8
     → p.post.took k p.master ≡ now_says p (Down lock mode value) ∷ rest
@@ -255,6 +256,11 @@ pub meets-lower : {lossy : Type 0} (lock : LockName) (p : LockParts) (k : ℕ) (
 meets-lower {lossy} lock p k mode value rest inv x hand =
     let f = finds-lower lock p k mode value rest inv x hand in
     (above-or-same (mode_of_node (lock_in_table lock p).held k) mode f.covers, f.idle)
+
+-- no grant is behind it
+pub no-grant-behind : {lossy : Type 0} (lock : LockName) (p : Parts) (k : ℕ) (mode : Mode) (value : Option (List ℕ)) (rest : List Message) → Inv lossy lock p → k ≤ 8
+    → p.post.took k p.master ≡ now_says p (Down lock mode value) ∷ rest → grants_coming lock p k ≡ []
+no-grant-behind {lossy} lock p k mode value rest inv x hand = (finds-lower lock p k mode value rest inv x hand).granted
 
 -- ---- the waiters take their turns
 

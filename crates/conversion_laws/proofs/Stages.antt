@@ -108,8 +108,8 @@ telling {lossy} s c q (Receives m wanted coming table covers waits granted) e = 
 telling {lossy} s c q (Dropped may m wanted coming covers waits granted) e = no-cons (sym coming ∙ e)
 
 pub hears-lower : {lossy : Type 0} (s : Sight) (n : ℕ) (mode : Mode) (value : Option (List ℕ)) (q : List Call) → Stage lossy s → s.coming ≡ Lowers n mode value ∷ q
-    → (is_at_least s.table mode ≡ true) × (s.waits ≡ None) × Stage lossy (record s { table = mode; coming = q })
-hears-lower {lossy} s n mode value q stage e = let t = telling s (Lowers n mode value) q stage e in (t.0.0, t.1, Tells t.0.1 t.1 t.2)
+    → (is_at_least s.table mode ≡ true) × (s.waits ≡ None) × Stage lossy (record s { table = mode; coming = q }) × (s.granted ≡ [])
+hears-lower {lossy} s n mode value q stage e = let t = telling s (Lowers n mode value) q stage e in (t.0.0, t.1, Tells t.0.1 t.1 t.2, t.2)
 
 -- an ask that comes to the table
 pub record IsHeard (s : Sight) (mode : Mode) (q : List Call) : Type 0 where

@@ -3,6 +3,7 @@ use Rattle.std.specs.Prelude.{ℕ, ◌≡◌, ◌≢◌, ◌<◌, ◌≤◌, ◌
 use Rattle.std.specs.List.{AllByRecursion}
 use Rattle.glock_names.specs.declared.LockName.{LockName}
 use Rattle.dlm_modes.specs.declared.Mode.{Mode}
+use Rattle.dlm_modes.specs.declared.Mode.TheVariants.{Pw}
 use Rattle.dlm_modes.specs.declared.ValueBlock.{ValueBlock}
 use Rattle.dlm_modes.specs.Modes.{go_together, is_at_least}
 use Rattle.mail_queues.specs.declared.Message.{Message}
@@ -14,7 +15,7 @@ use Rattle.dlm_master.specs.Runs.{run_of}
 use Rattle.dlm_master.specs.Locks.{free_lock}
 use Rattle.dlm_master.specs.Tables.{held_by, waits_for, holds_above, holds_covered}
 use Rattle.dlm_rebuild.specs.Runs as rebuilds
-use Rattle.conversion_laws.specs.Parts.{LockParts, now_says, calls_coming, grants_coming, lock_in_table, table_mode, asks_of, held_or_coming}
+use Rattle.conversion_laws.specs.Parts.{Parts, now_says, calls_coming, grants_coming, valued_grants, lock_in_table, table_mode, asks_of, held_or_coming}
 use Rattle.conversion_laws.specs.Calls.{Call, Calls, DropNone}
 
 -- the start: the table has of each node just what it holds, in modes that go together; nobody asks, and nothing of the lock is under
@@ -62,12 +63,28 @@ NoAskIsLost = (lock : LockName) (p q : LockParts) (calls : Calls lock p q) → B
 -- first ones
 pub record GrantsNothing (lock : LockName) (p q : Parts) (k : ℕ) : Type 0 where
   pub table : is_at_least (table_mode lock p k) (table_mode lock q k) ≡ true
-  pub gone : List Mode
-  pub letters : grants_coming lock p k ≡ gone ++ grants_coming lock q k
+  pub gone : List (Mode × ValueBlock)
+  pub letters : valued_grants lock p k ≡ gone ++ valued_grants lock q k
 
 -- so does each call, after every list of calls, while a rebuild isn't done or a slot waits
 abbrev pub NoneWhileBlocked : Type 0
 NoneWhileBlocked = (lock : LockName) (a p q : Parts) (k : ℕ) → Begins lock a → Calls lock a p → IsBlocked (run_of p.table lock) → Call lock p q → k ≤ 8 → GrantsNothing lock p q k
+
+-- ---- a grant brings the lock's value
+
+-- the grants on their way to the node after a call: of those that were all, or all but the first ones; and those that the call sets on
+-- their way, each of which brings the value that the lock has at its master then, valid or not
+pub record BringsValue (lock : LockName) (p q : Parts) (k : ℕ) : Type 0 where
+  pub gone : List (Mode × ValueBlock)
+  pub kept : List (Mode × ValueBlock)
+  pub fresh : List (Mode × ValueBlock)
+  pub before : valued_grants lock p k ≡ gone ++ kept
+  pub after : valued_grants lock q k ≡ kept ++ fresh
+  pub value : AllByRecursion (λ (grant : Mode × ValueBlock). grant.1 ≡ (lock_in_table lock p).value) fresh
+
+-- so does each call, after every list of calls
+abbrev pub GrantsBringTheValue : Type 0
+GrantsBringTheValue = (lock : LockName) (a p q : Parts) (k : ℕ) → Begins lock a → Calls lock a p → Call lock p q → k ≤ 8 → BringsValue lock p q k
 
 -- ---- a view follows another
 
@@ -113,9 +130,10 @@ pub record MeetCalls (lock : LockName) (p : LockParts) : Type 0 where
   -- who lowers it holds a mode above that by the table, or just that mode; and waits for nothing
   pub lowers : (k : ℕ) (mode : Mode) (value : Option (List ℕ)) (rest : List Message) → k ≤ 8 → p.post.took k p.master ≡ now_says p (Down lock mode value) ∷ rest
       → ((holds_above (held_by p.table k lock) mode ≡ true) ⊎ (table_mode lock p k ≡ mode)) × (waits_for p.table k lock ≡ false)
-  -- who is granted it has asked for it, in this mode
+  -- who is granted it has asked for it, in this mode; and where the mode goes with none that may write the value, the grant brings the
+  -- value that the table has
   pub grants : (k : ℕ) (mode : Mode) (value : ValueBlock) (rest : List Message) → k ≤ 8 → p.post.took p.master k ≡ now_says p (Grant lock mode value) ∷ rest
-      → (knows (p.holders k) lock ≡ true) × (wanted_in (p.holders k) lock ≡ Some mode)
+      → (knows (p.holders k) lock ≡ true) × (wanted_in (p.holders k) lock ≡ Some mode) × (go_together mode Pw ≡ false → value ≡ (lock_in_table lock p).value)
 
 abbrev pub MessagesMeetCalls : Type 0
 MessagesMeetCalls = (lock : LockName) (p q : LockParts) → Begins lock p → Calls lock p q → MeetCalls lock q

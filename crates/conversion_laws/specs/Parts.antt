@@ -4,6 +4,7 @@ use Rattle.std.specs.List.{filter_map}
 use Rattle.glock_names.specs.declared.LockName.{LockName}
 use Rattle.glock_names.specs.LockMaps.{same_lock}
 use Rattle.dlm_modes.specs.declared.Mode.{Mode}
+use Rattle.dlm_modes.specs.declared.ValueBlock.{ValueBlock}
 use Rattle.mail_queues.specs.declared.Message.{Message}
 use Rattle.mail_queues.specs.declared.Body.{Body}
 use Rattle.mail_queues.specs.declared.Body.TheVariants.{Request, Convert, Down, Grant, Callback, Report, End, View}
@@ -38,6 +39,17 @@ call_of lock k (Report other mode value) = None
 call_of lock k End = None
 call_of lock k View = None
 
+-- the grant of the lock that a message of its master makes, if it makes one: the mode, and the lock's value
+abbrev pub grant_of : LockName → Body → Option (Mode × ValueBlock)
+grant_of lock (Grant other mode value) = if same_lock lock other then Some (mode, value) else None
+grant_of lock (Request other mode) = None
+grant_of lock (Convert other mode) = None
+grant_of lock (Down other mode value) = None
+grant_of lock (Callback other mode) = None
+grant_of lock (Report other mode value) = None
+grant_of lock End = None
+grant_of lock View = None
+
 -- the calls that a node's messages will make, the first one first
 abbrev pub calls_coming : LockName → LockParts → ℕ → List Call
 calls_coming lock p k = filter_map (in_view p.table.generation (call_of lock k)) (way p.post k p.master)
@@ -45,6 +57,10 @@ calls_coming lock p k = filter_map (in_view p.table.generation (call_of lock k))
 -- the modes that are granted to a node and on their way
 abbrev pub grants_coming : LockName → LockParts → ℕ → List Mode
 grants_coming lock p k = filter_map (in_view p.table.generation (grants lock)) (way p.post p.master k)
+
+-- each with the value that it brings
+abbrev pub valued_grants : LockName → Parts → ℕ → List (Mode × ValueBlock)
+valued_grants lock p k = filter_map (in_view p.table.generation (grant_of lock)) (way p.post p.master k)
 
 -- the lock in the table, and what the table has of a node
 abbrev pub lock_in_table : LockName → LockParts → LockState

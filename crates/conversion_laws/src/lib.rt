@@ -2,7 +2,7 @@
 #![tactic(auto)]
 
 ghost use Rattle.conversion_laws.specs.Example.{ListCanBeMade};
-ghost use Rattle.conversion_laws.specs.Laws.{EveryListIsRight, NoAskIsLost, NoneWhileBlocked, ViewsFollow, HoldersRiseByGrants, MessagesMeetCalls};
+ghost use Rattle.conversion_laws.specs.Laws.{EveryListIsRight, NoAskIsLost, NoneWhileBlocked, GrantsBringTheValue, ViewsFollow, HoldersRiseByGrants, MessagesMeetCalls};
 
 /// A law: after every list of calls the table has of each node at least what it holds and is granted, and what nodes hold and are
 /// granted goes together.
@@ -21,6 +21,11 @@ pub fn none_is_granted_while_blocked()
     ensures { NoneWhileBlocked }
 {}
 
+/// A law: a grant that a call sets on its way brings the value that the lock has at its master then, valid or not.
+pub fn grants_bring_the_value()
+    ensures { GrantsBringTheValue }
+{}
+
 /// A law: where a view ends and the next one begins with a table that is made of what each node reports, the list of calls goes on: its
 /// start is one of those from which the laws are.
 pub fn views_follow()
@@ -33,7 +38,7 @@ pub fn holders_rise_by_grants()
 {}
 
 /// A law: a message in hand meets what the call requires that it makes: at the master a request, a conversion and a lower, at a node
-/// a grant.
+/// a grant, which brings the lock's value as the master has it still where its mode goes with none that may write it.
 pub fn messages_meet_calls()
     ensures { MessagesMeetCalls }
 {}
