@@ -1,5 +1,5 @@
 -- While the master is blocked no call grants anything.
-use Rattle.std.proofs.Common.{ℕ, ◌≡◌, ◌≤◌, inl, inr, Bool, true, false, Option, Some, None, List, [], ◌∷◌, cond, refl, sym, ap, ◌∙◌, subst}
+use Rattle.std.proofs.Common.{ℕ, ◌≡◌, ◌⊎◌, ◌≤◌, inl, inr, Bool, true, false, Option, Some, None, List, [], ◌∷◌, cond, refl, sym, ap, ◌∙◌, subst}
 use Rattle.std.specs.Prelude.{◌==◌, fold, option_map, unwrap_or}
 use Rattle.std.specs.List.{filter_map}
 use Rattle.std.proofs.lemmas.Bool.{cases_eq, cond-true}
@@ -17,24 +17,25 @@ use Rattle.dlm_holder.specs.Holdings.{Holdings}
 use Rattle.dlm_master.specs.declared.claims.Cause.{Cause}
 use Rattle.dlm_master.specs.Claims.{mode_at}
 use Rattle.dlm_master.specs.LockState.{LockState}
-use Rattle.dlm_master.specs.Locks.{free_lock, answer_by, grants_of}
-use Rattle.dlm_master.specs.Tables.{MasterState, is_blocked, after_request, after_convert, after_down, after_turns}
+use Rattle.dlm_master.specs.Locks.{free_lock, reported, answer_by, grants_of}
+use Rattle.dlm_master.specs.Tables.{MasterState, is_blocked, after_request, after_convert, after_down, after_report, after_turns}
 use Rattle.dlm_master.specs.Runs.{Run, run_of}
 use Rattle.dlm_master.specs.Runs as runs
 use Rattle.dlm_master.specs.Laws.{IsBlocked}
 use Rattle.dlm_master.proofs.BlockLaws.{blocked-cause, blocked-turns, none-while-blocked}
-use Rattle.dlm_master.proofs.RunTables.{tables-are-runs}
+use Rattle.dlm_master.proofs.RunTables.{written, tables-are-runs}
+use Rattle.lock_steps.proofs.Claims.{now-here, now-away}
 use Rattle.lock_steps.specs.Parts.{Post, way, with_letters, with_left}
 use Rattle.lock_steps.specs.Ties.{in_view, grants}
 use Rattle.lock_steps.proofs.Basics.{same-self}
 use Rattle.lock_steps.proofs.Tying.{now-says, says-none}
 use Rattle.lock_steps.proofs.Ways.{letters-mute, left-says, left-mute, left-away, letters-quiet-from, mail-keeps}
-use Rattle.conversion_laws.specs.Parts.{Parts, now_says, grant_of, valued_grants, table_mode}
-use Rattle.conversion_laws.specs.Calls.{NodeCall, MasterCall, Call, OfMail, OfNode, OfMaster, grant_letter, reply}
+use Rattle.conversion_laws.specs.Parts.{Parts, now_says, Reports, grant_of, valued_grants, table_mode}
+use Rattle.conversion_laws.specs.Calls.{NodeCall, MasterCall, Call, OfMail, OfNode, OfMaster, kept_value, grant_letter, reply}
 use Rattle.conversion_laws.specs.Calls as calls
-use Rattle.conversion_laws.specs.Laws.{GrantsNothing}
+use Rattle.conversion_laws.specs.Laws.{GrantsNothing, IsReported}
 use Rattle.conversion_laws.proofs.Nodes.{Inv}
-use Rattle.conversion_laws.proofs.Masters.{meets-request, meets-conversion, meets-lower}
+use Rattle.conversion_laws.proofs.Masters.{call-first, meets-request, meets-conversion, meets-lower}
 
 -- ---- what brings no mode brings no value
 
@@ -80,14 +81,14 @@ mute-all g lock (m ∷ ms) e = by (in_view g (grants lock) m) refl (mute-all g l
 -- nothing of the table changes, and the grants on their way are the same
 pub same : (lock : LockName) (p : Parts) (holders : ℕ → Holdings) (post : Post) (k : ℕ)
     → filter_map (in_view p.table.generation (grant_of lock)) (way post p.master k) ≡ valued_grants lock p k → GrantsNothing lock p (record p { holders = holders; post = post }) k
-same lock p holders post k e = record { table = covers-itself (table_mode lock p k); gone = []; letters = sym e }
+same lock p holders post k e = record { table = inl (covers-itself (table_mode lock p k)); gone = []; letters = sym e }
 
 -- a grant that was on its way to a node is taken or dropped
 less : (lock : LockName) (p : Parts) (holders : ℕ → Holdings) (j : ℕ) (brought : Mode × ValueBlock) (m : Message) (rest : List Message) (k : ℕ) → p.post.took p.master j ≡ m ∷ rest
     → in_view p.table.generation (grant_of lock) m ≡ Some brought → GrantsNothing lock p (record p { holders = holders; post = with_left p.post p.master j rest }) k
 less lock p holders j brought m rest k hand grant = elim (cases_eq k j) [
   | inl e ↦ subst (GrantsNothing lock p (record p { holders = holders; post = with_left p.post p.master j rest })) (sym e)
-      (record { table = covers-itself (table_mode lock p j); gone = brought ∷ []; letters = left-says (in_view p.table.generation (grant_of lock)) p.post p.master j m rest brought hand grant })
+      (record { table = inl (covers-itself (table_mode lock p j)); gone = brought ∷ []; letters = left-says (in_view p.table.generation (grant_of lock)) p.post p.master j m rest brought hand grant })
   | inr ne ↦ same lock p holders (with_left p.post p.master j rest) k
       (ap (filter_map (in_view p.table.generation (grant_of lock))) (left-away p.post p.master j rest p.master k (λ e f. ne f)))
 ]
@@ -102,9 +103,15 @@ grant-says : (lock : LockName) (p : Parts) (mode : Mode) (value : ValueBlock) �
 grant-says lock p mode value = now-says (grant_of lock) p.table.generation (Grant lock mode value) ∙ cond-true _ _ _ (same-self lock)
 
 pub node-grants-nothing : (lock : LockName) (p q : Parts) (k : ℕ) → NodeCall lock p q → GrantsNothing lock p q k
-node-grants-nothing lock p _ k (calls.Asks j mode x null none) = wrote-to lock p j _ (Request lock mode) k refl
-node-grants-nothing lock p _ k (calls.Raises j mode x some covers none) = wrote-to lock p j _ (Convert lock mode) k refl
-node-grants-nothing lock p _ k (calls.Lowers j mode value x known covers none) = wrote-to lock p j _ (Down lock mode value) k refl
+node-grants-nothing lock p _ k (calls.Asks j mode x t null none) = wrote-to lock p j _ (Request lock mode) k refl
+node-grants-nothing lock p _ k (calls.Raises j mode x t some covers none) = wrote-to lock p j _ (Convert lock mode) k refl
+node-grants-nothing lock p _ k (calls.Lowers j mode value x t known covers none) = wrote-to lock p j _ (Down lock mode value) k refl
+node-grants-nothing lock p _ k (calls.LowersBefore j mode x not covers) = same lock p _ p.post k refl
+node-grants-nothing lock p _ k (calls.TakesView j h letters over x not says mute) = record {
+  table = inl (covers-itself (table_mode lock p k));
+  gone = [];
+  letters = sym (letters-mute (in_view p.table.generation (grant_of lock)) p.post j p.master letters p.master k (mute-all p.table.generation lock letters mute));
+}
 node-grants-nothing lock p _ k (calls.IsGranted j mode value rest x hand) = less lock p _ j (mode, value) _ rest k hand (grant-says lock p mode value)
 node-grants-nothing lock p _ k (calls.DropsGrant j mode value rest x hand) = less lock p _ j (mode, value) _ rest k hand (grant-says lock p mode value)
 node-grants-nothing lock p _ k (calls.Drops from to m rest x y hand quiet mute) = same lock p _ (with_left p.post from to rest) k (elim (cases_eq from p.master) [
@@ -128,12 +135,33 @@ pub left-over : (lock : LockName) (p : Parts) (j : ℕ) (b : Body) (rest : List 
     → valued_grants lock p k ≡ filter_map (in_view p.table.generation (grant_of lock)) (way (with_left p.post j p.master rest) p.master k)
 left-over lock p j b rest k hand mute = sym (left-mute (in_view p.table.generation (grant_of lock)) p.post j p.master (now_says p b) rest p.master k hand (now-says (grant_of lock) p.table.generation b ∙ mute))
 
+-- a report comes to the table
+reported-table : {lossy : Type 0} (lock : LockName) (p : Parts) (j : ℕ) (mode : Mode) (value : ValueBlock) (rest : List Message) (k : ℕ) → Inv lossy lock p
+    → p.post.took j p.master ≡ now_says p (Report lock mode value) ∷ rest
+    → (is_at_least (table_mode lock p k) (table_mode lock (record p { table = after_report p.table j lock mode; post = with_left p.post j p.master rest }) k) ≡ true)
+    ⊎ IsReported lock p (record p { table = after_report p.table j lock mode; post = with_left p.post j p.master rest }) k
+reported-table {lossy} lock p j mode value rest k inv hand = elim (cases_eq k j) [
+  | inl e ↦ subst (λ (i : ℕ). (is_at_least (table_mode lock p i) (table_mode lock q i) ≡ true) ⊎ IsReported lock p q i) (sym e) (inr (record {
+    mode = mode;
+    first = call-first lock p j (Report lock mode value) (Reports mode) rest hand (cond-true _ _ _ (same-self lock)) refl;
+    table = ap (λ (u : LockState). mode_at u.held j) (written p.table lock (reported l j mode)) ∙ now-here l.held j mode inv.sound.held_once;
+  }))
+  | inr ne ↦ inl (ap (λ (u : LockState). is_at_least (table_mode lock p k) (mode_at u.held k)) (written p.table lock (reported l j mode))
+      ∙ (ap (is_at_least (table_mode lock p k)) (now-away l.held j mode k ne) ∙ covers-itself (table_mode lock p k)))
+]
+  where
+    l : LockState
+    l = (run_of p.table lock).lock
+
+    q : Parts
+    q = record p { table = after_report p.table j lock mode; post = with_left p.post j p.master rest }
+
 master-grants-nothing : {lossy : Type 0} (lock : LockName) (p q : Parts) (k : ℕ) → Inv lossy lock p → IsBlocked (run_of p.table lock) → MasterCall lock p q → GrantsNothing lock p q k
 master-grants-nothing {lossy} lock p _ k inv blocked (calls.Requested j mode rest x hand) =
     let l : LockState = (run_of p.table lock).lock in
     let c = blocked-cause p.table.rebuild p.table.waiting l.held l.conversions l.requests j mode blocked in
     record {
-      table = less-held lock p (after_request p.table j lock mode) (runs.Requests j mode) k inv blocked (meets-request lock p j mode rest inv x hand) (tables-are-runs.requests p.table j lock mode);
+      table = inl (less-held lock p (after_request p.table j lock mode) (runs.Requests j mode) k inv blocked (meets-request lock p j mode rest inv x hand) (tables-are-runs.requests p.table j lock mode));
       gone = [];
       letters = left-over lock p j (Request lock mode) rest k hand refl
           ∙ sym (ap (λ (o : Option Cause). filter_map (in_view p.table.generation (grant_of lock)) (way (reply p lock j mode (answer_by o l) (with_left p.post j p.master rest)) p.master k)) c.1);
@@ -142,30 +170,39 @@ master-grants-nothing {lossy} lock p _ k inv blocked (calls.Converted j mode res
     let l : LockState = (run_of p.table lock).lock in
     let c = blocked-cause p.table.rebuild p.table.waiting l.held l.conversions [] j mode blocked in
     record {
-      table = less-held lock p (after_convert p.table j lock mode) (runs.Converts j mode) k inv blocked (meets-conversion lock p j mode rest inv x hand) (tables-are-runs.converts p.table j lock mode);
+      table = inl (less-held lock p (after_convert p.table j lock mode) (runs.Converts j mode) k inv blocked (meets-conversion lock p j mode rest inv x hand) (tables-are-runs.converts p.table j lock mode));
       gone = [];
       letters = left-over lock p j (Convert lock mode) rest k hand refl
           ∙ sym (ap (λ (o : Option Cause). filter_map (in_view p.table.generation (grant_of lock)) (way (reply p lock j mode (answer_by o l) (with_left p.post j p.master rest)) p.master k)) c.1);
     }
 master-grants-nothing {lossy} lock p _ k inv blocked (calls.Lowered j mode value rest x hand above) = record {
-  table = less-held lock p (after_down p.table j lock mode value) (runs.Lowers j mode value) k inv blocked (above, (meets-lower lock p j mode value rest inv x hand).1) (tables-are-runs.lowers p.table j lock mode value);
+  table = inl (less-held lock p (after_down p.table j lock mode (kept_value p value)) (runs.Lowers j mode (kept_value p value)) k inv blocked (above, (meets-lower lock p j mode value rest inv x hand).1)
+      (tables-are-runs.lowers p.table j lock mode (kept_value p value)));
   gone = [];
   letters = left-over lock p j (Down lock mode value) rest k hand refl;
 }
 master-grants-nothing {lossy} lock p _ k inv blocked (calls.LoweredAlready j mode value rest x hand already) =
-    record { table = covers-itself (table_mode lock p k); gone = []; letters = left-over lock p j (Down lock mode value) rest k hand refl }
+    record { table = inl (covers-itself (table_mode lock p k)); gone = []; letters = left-over lock p j (Down lock mode value) rest k hand refl }
+master-grants-nothing {lossy} lock p _ k inv blocked (calls.Reported j mode value rest x hand r) = record {
+  table = reported-table lock p j mode value rest k inv hand;
+  gone = [];
+  letters = left-over lock p j (Report lock mode value) rest k hand refl;
+}
+master-grants-nothing {lossy} lock p _ k inv blocked (calls.Ended j rest x hand r) =
+    record { table = inl (covers-itself (table_mode lock p k)); gone = []; letters = left-over lock p j End rest k hand refl }
+master-grants-nothing {lossy} lock p _ k inv blocked (calls.Completes r done) = record { table = inl (covers-itself (table_mode lock p k)); gone = []; letters = refl }
 master-grants-nothing {lossy} lock p _ k inv blocked calls.GrantsNext = by (is_blocked p.table) (blocked-turns (run_of p.table lock) blocked)
   where
     by : (b : Bool) → b ≡ true → GrantsNothing lock p (record p {
       table = cond b p.table (after_turns p.table lock);
       post = fold (grant_letter p lock) p.post (cond b [] (grants_of (run_of p.table lock).lock));
     }) k
-    by true e = record { table = covers-itself (table_mode lock p k); gone = []; letters = refl }
+    by true e = record { table = inl (covers-itself (table_mode lock p k)); gone = []; letters = refl }
     by false e = absurd (let f : false ≡ true = e in cc)
-master-grants-nothing {lossy} lock p _ k inv blocked (calls.Blocks rebuild waiting) = record { table = covers-itself (table_mode lock p k); gone = []; letters = refl }
+master-grants-nothing {lossy} lock p _ k inv blocked (calls.Blocks rebuild waiting stays) = record { table = inl (covers-itself (table_mode lock p k)); gone = []; letters = refl }
 master-grants-nothing {lossy} lock p _ k inv blocked (calls.TableElsewhere other t ne) = record {
-  table = ap (λ (o : Option LockState). is_at_least (table_mode lock p k) (mode_at (unwrap_or o free_lock).held k)) (at_lock-with_other p.table.table other lock t ne)
-      ∙ covers-itself (table_mode lock p k);
+  table = inl (ap (λ (o : Option LockState). is_at_least (table_mode lock p k) (mode_at (unwrap_or o free_lock).held k)) (at_lock-with_other p.table.table other lock t ne)
+      ∙ covers-itself (table_mode lock p k));
   gone = [];
   letters = refl;
 }

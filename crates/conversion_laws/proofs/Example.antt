@@ -1,5 +1,5 @@
 -- A list of calls that can be made.
-use Rattle.std.proofs.Common.{ℕ, zero, suc, ◌≡◌, ◌≤◌, ◌+◌, refl, sym, ap, List, [], ◌∷◌, ◌++◌, None, get_or, set, get_or-set_other, arith}
+use Rattle.std.proofs.Common.{ℕ, true, false, zero, suc, ◌≡◌, ◌≤◌, ◌+◌, refl, sym, ap, List, [], ◌∷◌, ◌++◌, None, get_or, set, get_or-set_other, arith}
 use Rattle.std.specs.Prelude.{◌*◌, replicate}
 use Rattle.std.specs.List.{filter_map}
 use Rattle.dlm_modes.specs.Modes.{not_valid}
@@ -9,12 +9,11 @@ use Rattle.mail_queues.specs.Queues.{messages_of, queue_of}
 use Rattle.mail_queues.specs.declared.Body.{Body}
 use Rattle.mail_queues.specs.declared.Body.TheVariants.{Request, Grant, Down}
 use Rattle.mail_queues.specs.declared.Message.{Message}
-use Rattle.dlm_master.proofs.SoundLaws.{sound-locks-stay-sound}
 use Rattle.lock_steps.specs.Ties.{in_view, grants}
 use Rattle.lock_steps.specs.Calls.{Sends, Receives, TellsItself}
-use Rattle.conversion_laws.specs.Parts.{call_of}
+use Rattle.conversion_laws.specs.Parts.{tell_of}
 use Rattle.conversion_laws.specs.Calls.{Asks, Raises, Lowers, IsGranted, Requested, Converted, Lowered, GrantsNext, OfMail, OfNode, OfMaster, NoCall, AndCall}
-use Rattle.conversion_laws.specs.Laws.{Begins}
+use Rattle.conversion_laws.specs.Laws.{Begins, HasNothing}
 use Rattle.conversion_laws.specs.Example.{a_lock, all_new, ListCanBeMade}
 
 -- ---- the mail, empty and with one message
@@ -37,13 +36,11 @@ nothing-comes from to = ap (λ (q : QueueState). q.messages) (empty 81 (9 * from
 begins : Begins a_lock all_new
 begins = record {
   master = omega arith;
-  sound = sound-locks-stay-sound.free;
-  together = tt;
-  held = λ k x. refl;
-  conversions = refl;
-  requests = refl;
-  wanted = λ k x. refl;
-  calls = λ k x. ap (λ (ms : List Message). filter_map (in_view 1 (call_of a_lock k)) (ms ++ [])) (nothing-comes k 0);
+  table = refl;
+  rebuild = λ r. absurd (let f : false ≡ true = r in cc);
+  nodes = λ k x. HasNothing refl refl refl;
+  together = λ i k x y ne. refl;
+  tells = λ k x. ap (λ (ms : List Message). filter_map (in_view 1 (tell_of a_lock)) (ms ++ [])) (nothing-comes k 0);
   grants = λ k x. ap (λ (ms : List Message). filter_map (in_view 1 (grants a_lock)) (ms ++ [])) (nothing-comes 0 k);
 }
 
@@ -75,26 +72,26 @@ can-be-made = (
   begins,
   AndCall _ _ (AndCall _ _ (AndCall _ _ (AndCall _ _ (AndCall _ _ (AndCall _ _ (AndCall _ _ (AndCall _ _ (AndCall _ _ (AndCall _ _
       (AndCall _ _ (AndCall _ _ (AndCall _ _ (AndCall _ _ (AndCall _ _ NoCall
-      (OfNode _ (Asks 0 Pr (omega arith) refl refl)))
+      (OfNode _ (Asks 0 Pr (omega arith) refl refl refl)))
       (OfMail _ (TellsItself 0 asks [] (omega arith) refl refl)))
       (OfMaster _ (Requested 0 Pr [] (omega arith) refl)))
       (OfMail _ (TellsItself 0 granted [] (omega arith) refl refl)))
       (OfNode _ (IsGranted 0 Pr not_valid [] (omega arith) refl)))
-      (OfNode _ (Asks 1 Pr (omega arith) refl refl)))
+      (OfNode _ (Asks 1 Pr (omega arith) refl refl refl)))
       (OfMail _ (Sends 1 0 asks [] (one_letter 1 0 asks) (omega arith) (omega arith) refl (record { queue = refl; others = others 1 0 asks (omega arith) }))))
       (OfMail _ (Receives 1 0 asks no_mail (omega arith) (omega arith) refl (record { queue = refl; others = λ i k x y ne. sym (others 1 0 asks (omega arith) i k x y ne) }))))
       (OfMaster _ (Requested 1 Pr [] (omega arith) refl)))
       (OfMail _ (Sends 0 1 granted [] (one_letter 0 1 granted) (omega arith) (omega arith) refl (record { queue = refl; others = others 0 1 granted (omega arith) }))))
       (OfMail _ (Receives 0 1 granted no_mail (omega arith) (omega arith) refl (record { queue = refl; others = λ i k x y ne. sym (others 0 1 granted (omega arith) i k x y ne) }))))
       (OfNode _ (IsGranted 1 Pr not_valid [] (omega arith) refl)))
-      (OfNode _ (Raises 0 Ex (omega arith) (λ e. absurd (let f : Pr ≡ Nl = e in cc)) refl refl)))
+      (OfNode _ (Raises 0 Ex (omega arith) refl (λ e. absurd (let f : Pr ≡ Nl = e in cc)) refl refl)))
       (OfMail _ (TellsItself 0 _ [] (omega arith) refl refl)))
       (OfMaster _ (Converted 0 Ex [] (omega arith) refl)),
   refl,
   refl,
   refl,
   AndCall _ _ (AndCall _ _ (AndCall _ _ (AndCall _ _ (AndCall _ _ (AndCall _ _ (AndCall _ _ NoCall
-      (OfNode _ (Lowers 1 Nl None (omega arith) refl refl refl)))
+      (OfNode _ (Lowers 1 Nl None (omega arith) refl refl refl refl)))
       (OfMail _ (Sends 1 0 lowers [] (one_letter 1 0 lowers) (omega arith) (omega arith) refl (record { queue = refl; others = others 1 0 lowers (omega arith) }))))
       (OfMail _ (Receives 1 0 lowers no_mail (omega arith) (omega arith) refl (record { queue = refl; others = λ i k x y ne. sym (others 1 0 lowers (omega arith) i k x y ne) }))))
       (OfMaster _ (Lowered 1 Nl None [] (omega arith) refl refl)))

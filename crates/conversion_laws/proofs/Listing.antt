@@ -1,12 +1,12 @@
 -- The laws over every list of calls.
-use Rattle.std.proofs.Common.{ℕ, ◌≡◌, ◌≢◌, ◌⊎◌, ◌<◌, ◌≤◌, inl, inr, true, false, Option, None, Some, List, [], ◌∷◌, ◌++◌, is_some, refl, sym, ap, ◌∙◌, subst}
+use Rattle.std.proofs.Common.{ℕ, ◌≡◌, ◌≢◌, ◌⊎◌, ◌≤◌, inl, inr, Bool, true, false, Option, None, Some, List, [], ◌∷◌, ◌++◌, is_some, refl, sym, ap, ◌∙◌, subst}
 use Rattle.std.specs.Prelude.{⊤, unwrap_or}
 use Rattle.std.specs.List.{AllByRecursion}
 use Rattle.std.proofs.lemmas.Bool.{cases_eq, cond-true}
 use Rattle.glock_names.specs.declared.LockName.{LockName}
 use Rattle.glock_names.specs.LockMaps.{at_lock, with_lock}
 use Rattle.dlm_modes.specs.declared.Mode.{Mode}
-use Rattle.dlm_modes.specs.declared.Mode.TheVariants.{Nl, Cr, Cw, Pr, Pw, Ex}
+use Rattle.dlm_modes.specs.declared.Mode.TheVariants.{Nl, Pw}
 use Rattle.dlm_modes.specs.Modes.{go_together, is_at_least}
 use Rattle.dlm_modes.proofs.ModeLaws.{covers-itself, together-turned, together-weaker}
 use Rattle.dlm_modes.specs.declared.ValueBlock.{ValueBlock}
@@ -14,39 +14,59 @@ use Rattle.mail_queues.specs.declared.Message.{Message}
 use Rattle.mail_queues.specs.declared.Body.TheVariants.{Grant}
 use Rattle.dlm_holder.specs.declared.Holding.{Holding}
 use Rattle.dlm_holder.specs.Holdings.{Holdings, nothing, holding_of, knows, mode_in, wanted_in, asked_for, granted_to, lowered_to}
-use Rattle.dlm_master.specs.declared.claims.Claim.{Claim}
 use Rattle.dlm_master.specs.Claims.{mode_of_node, mode_at, Together}
 use Rattle.dlm_master.specs.LockState.{LockState}
 use Rattle.dlm_master.specs.Laws.{IsSound}
 use Rattle.dlm_master.proofs.RunLaws.{together-at}
-use Rattle.dlm_rebuild.specs.Runs as rebuilds
-use Rattle.dlm_rebuild.proofs.RunLaws.{rebuilt as rebuilt-from-reports}
+use Rattle.dlm_rebuild.specs.Rebuilding.{RebuildState}
+use Rattle.dlm_master.specs.Tables.{lock_of}
+use Rattle.dlm_master.proofs.SoundLaws.{sound-locks-stay-sound}
+use Rattle.fencing.specs.NodeSets.{has}
+use Rattle.lock_steps.proofs.Sets.{zero-has}
 use Rattle.lock_laws.specs.Lock.{at}
 use Rattle.lock_steps.specs.Ties.{in_view, grants}
-use Rattle.lock_steps.proofs.Basics.{up-to, same-self, at-here, at-away}
+use Rattle.lock_steps.proofs.Basics.{true-false, same-self, at-here, at-away}
 use Rattle.lock_steps.proofs.Ways.{left-says}
 use Rattle.lock_steps.proofs.Tying.{now-says, holding-is, holding-away}
-use Rattle.conversion_laws.specs.Parts.{Parts, now_says, grant_of, grants_coming, valued_grants, lock_in_table, table_mode, held_or_coming}
+use Rattle.conversion_laws.specs.Parts.{Parts, now_says, Tell, tells_coming, grant_of, grants_coming, valued_grants, lock_in_table, table_mode, held_or_coming}
 use Rattle.conversion_laws.specs.Calls.{NodeCall, Call, OfMail, OfNode, OfMaster, Calls, NoCall, AndCall, CallDropsNone, DropNone}
 use Rattle.conversion_laws.specs.Calls as calls
-use Rattle.conversion_laws.specs.Laws.{Begins, AreRight, EveryListIsRight, NoAskIsLost, NoneWhileBlocked, GrantsBringTheValue, ViewsFollow, RisesByGrant, Rises, Keeps, HoldersRiseByGrants, MeetCalls, MessagesMeetCalls}
-use Rattle.conversion_laws.proofs.Stages.{Tells, sees, covered, exact, one-ask, still-asked, was-asked}
-use Rattle.conversion_laws.proofs.Nodes.{sight, Inv, mail-keeps-inv, node-keeps, grant-first}
+use Rattle.conversion_laws.specs.Laws.{BeginsNode, IsToTell, HasNothing, Begins, HasTold, AreRight, EveryListIsRight, NoAskIsLost, NoneWhileBlocked, GrantsBringTheValue, ViewsFollow, RisesByGrant, Rises, Keeps, HoldersRiseByGrants, MeetCalls, MessagesMeetCalls}
+use Rattle.conversion_laws.proofs.Stages.{Leads, Untaken, Tells, stands_by, stands, Stands, AsHeld, AsReported, AsListed, how-it-stands, stands-covered, covered, exact, one-ask, still-asked, was-asked}
+use Rattle.conversion_laws.proofs.Nodes.{sight, StageOf, Inv, over-mode, mail-keeps-inv, node-keeps, grant-first}
 use Rattle.conversion_laws.proofs.Blocking.{grants-nothing}
 use Rattle.conversion_laws.proofs.Values.{Valued, none-of-map, modes-of, brings-value, valued-keeps, first-valued}
-use Rattle.conversion_laws.proofs.Masters.{master-keeps, meets-request, meets-conversion, meets-lower}
+use Rattle.conversion_laws.proofs.Masters.{master-keeps, meets-request, meets-conversion, meets-lower, meets-report}
 
 -- ---- the invariant
 
-starts : {lossy : Type 0} (lock : LockName) (p : LockParts) → Begins lock p → Inv lossy lock p
+-- a node at the start
+starts-node : {lossy : Type 0} (lock : LockName) (p : Parts) → Begins lock p → (k : ℕ) → k ≤ 8 → BeginsNode lock p k
+    → StageOf lossy p (sight lock p k) × (stands (sight lock p k) ≡ mode_in (p.holders k) lock)
+starts-node {lossy} lock p b k x (IsToTell r member ended taken) = (
+  Untaken r taken member ended (ap (λ (l : LockState). mode_at l.held k) b.table) (b.tells k x) (ap (λ (l : LockState). mode_of_node (l.conversions ++ l.requests) k) b.table) (b.grants k x),
+  ap (λ (t : Bool). stands_by t (mode_in (p.holders k) lock) (table_mode lock p k) (tells_coming lock p k)) taken,
+)
+starts-node {lossy} lock p b k x (HasNothing taken null none) =
+    let empty : table_mode lock p k ≡ Nl = ap (λ (l : LockState). mode_at l.held k) b.table in (
+      Tells taken (subst (λ (cs : List Tell). Leads (wanted_in (p.holders k) lock) (table_mode lock p k) cs (mode_in (p.holders k) lock)) (sym (b.tells k x)) (none, empty ∙ sym null))
+          (ap (λ (l : LockState). mode_of_node (l.conversions ++ l.requests) k) b.table) (b.grants k x),
+      ap (λ (t : Bool). stands_by t (mode_in (p.holders k) lock) (table_mode lock p k) (tells_coming lock p k)) taken
+          ∙ (ap (stands_by true (mode_in (p.holders k) lock) (table_mode lock p k)) (b.tells k x) ∙ (empty ∙ sym null)),
+    )
+
+starts : {lossy : Type 0} (lock : LockName) (p : Parts) → Begins lock p → Inv lossy lock p
 starts {lossy} lock p b = record {
   master = b.master;
-  sound = b.sound;
-  together = b.together;
-  stages = λ k x. sees (record { wanted = None; mode = mode_in (p.holders k) lock; table = mode_in (p.holders k) lock; waits = None; coming = []; granted = [] }) (sight lock p k)
-      (sym (b.wanted k x)) refl (sym (b.held k x))
-      (sym (ap (λ (cs : List Claim). mode_of_node (cs ++ (lock_in_table lock p).requests) k) b.conversions ∙ ap (λ (cs : List Claim). mode_of_node cs k) b.requests)) (sym (b.calls k x)) (sym (b.grants k x))
-      (Tells (refl, refl) refl refl);
+  sound = subst IsSound (sym b.table) sound-locks-stay-sound.free;
+  together = subst (λ (l : LockState). Together l.held) (sym b.table) tt;
+  stages = λ k x. (starts-node lock p b k x (b.nodes k x)).0;
+  under = λ r. record {
+    rebuild = b.rebuild r;
+    far = λ j y. ap (λ (l : LockState). mode_at l.held j) b.table;
+    apart = λ i k x y ne. ap (λ (m : Mode). go_together m (stands (sight lock p k))) (starts-node {lossy = lossy} lock p b i x (b.nodes i x)).1
+        ∙ (ap (go_together (mode_in (p.holders i) lock)) (starts-node {lossy = lossy} lock p b k y (b.nodes k y)).1 ∙ b.together i k x y ne);
+  };
 }
 
 call-keeps : {lossy : Type 0} (lock : LockName) (p q : LockParts) (call : Call lock p q) → lossy ⊎ CallDropsNone lock p q call → Inv lossy lock p → Inv lossy lock q
@@ -89,80 +109,65 @@ go-all t u (a ∷ ns) bs goes all more = (each bs more, go-all t u ns bs goes al
       each bs more.1,
     )
 
-are-right : {lossy : Type 0} (lock : LockName) (p : LockParts) → Inv lossy lock p → AreRight lock p
+-- a node that has told all isn't to report
+told-all : (p : Parts) (k : ℕ) → HasTold p k → p.rebuilding ≡ true → has p.ended k ≡ true
+told-all p k (inl over) r = true-false r over
+told-all p k (inr ended) r = ended
+
+-- what two nodes stand for goes together
+stand-apart : {lossy : Type 0} (lock : LockName) (p : Parts) → Inv lossy lock p → (i k : ℕ) → i ≤ 8 → k ≤ 8 → i ≢ k → go_together (stands (sight lock p i)) (stands (sight lock p k)) ≡ true
+stand-apart {lossy} lock p inv i k x y ne = by p.rebuilding refl
+  where
+    listed : p.rebuilding ≡ false → (j : ℕ) → Stands lossy (p.rebuilding ≡ true) (sight lock p j) → stands (sight lock p j) ≡ table_mode lock p j
+    listed e j (AsHeld r same null none) = true-false r e
+    listed e j (AsReported r covers null none) = true-false r e
+    listed e j (AsListed same) = same
+
+    by : (b : Bool) → p.rebuilding ≡ b → go_together (stands (sight lock p i)) (stands (sight lock p k)) ≡ true
+    by true r = (inv.under r).apart i k x y ne
+    by false e = ap (λ (m : Mode). go_together m (stands (sight lock p k))) (listed e i (how-it-stands (sight lock p i) (inv.stages i x)))
+        ∙ (ap (go_together (table_mode lock p i)) (listed e k (how-it-stands (sight lock p k) (inv.stages k y))) ∙ together-at (lock_in_table lock p).held inv.together i k ne)
+
+are-right : {lossy : Type 0} (lock : LockName) (p : Parts) → Inv lossy lock p → AreRight lock p
 are-right {lossy} lock p inv = record {
   sound = inv.sound;
   together = inv.together;
-  covers = λ k x. covered (sight lock p k) (inv.stages k x);
-  compatible = λ i k x y ne. go-all (table_mode lock p i) (table_mode lock p k) (held_or_coming lock p i) (held_or_coming lock p k)
-      (together-at (lock_in_table lock p).held inv.together i k ne)
-      (covered (sight lock p i) (inv.stages i x)) (covered (sight lock p k) (inv.stages k y));
+  covers = λ k x told. covered (sight lock p k) (inv.stages k x) (told-all p k told);
+  compatible = λ i k x y ne. go-all (stands (sight lock p i)) (stands (sight lock p k)) (held_or_coming lock p i) (held_or_coming lock p k)
+      (stand-apart lock p inv i k x y ne) (stands-covered (sight lock p i) (inv.stages i x)) (stands-covered (sight lock p k) (inv.stages k y));
   one_ask = λ k x. one-ask (sight lock p k) (inv.stages k x);
-  exact = λ k x none empty. exact (sight lock p k) (inv.stages k x) none empty;
+  exact = λ k x told none empty. exact (sight lock p k) (inv.stages k x) (told-all p k told) none empty;
 }
 
 pub every-list : EveryListIsRight
 every-list lock p q b calls = are-right lock q (reaches lock p q calls b)
 
 pub no-ask-is-lost : NoAskIsLost
-no-ask-is-lost lock p q calls b none k x mode e =
+no-ask-is-lost lock p q calls b none k x taken mode e =
     let inv : Inv ⊥ lock q = calls-keep lock p q calls (inr none) (starts lock p b) in
-    still-asked (sight lock q k) (inv.stages k x) mode e
+    still-asked (sight lock q k) (inv.stages k x) taken mode e
 
 -- ---- views
-
-null-goes : (mode : Mode) → go_together mode Nl ≡ true
-null-goes mode = together-turned Nl mode refl
-
-told-is : (mode : Mode) → unwrap_or (rebuilds.told mode) Nl ≡ mode
-told-is Nl = refl
-told-is Cr = refl
-told-is Cw = refl
-told-is Pr = refl
-told-is Pw = refl
-told-is Ex = refl
 
 pub views-follow : ViewsFollow
 views-follow lock p q right f = record {
   master = f.master;
-  sound = subst IsSound (sym f.table) (rebuilt.sound f.may);
-  together = subst (λ (l : LockState). Together l.held) (sym f.table) (rebuilt.together goes);
-  held = λ k x. ap (λ (l : LockState). mode_at l.held k) f.table
-      ∙ (ap (λ (o : Option Mode). unwrap_or o Nl) (rebuilt.reports k ∙ f.told k x) ∙ told-is (mode_in (q.holders k) lock));
-  conversions = f.conversions;
-  requests = f.requests;
-  wanted = f.wanted;
-  calls = f.calls;
+  table = ap (λ (r : RebuildState). lock_of r.master lock) f.anew;
+  rebuild = λ r. ap (λ (r : RebuildState). r.master.rebuild) f.anew;
+  nodes = λ k x. node k x (has q.members k) refl;
+  together = λ i k x y ne.
+      let a : Mode = mode_in (p.holders i) lock in
+      let b : Mode = mode_in (p.holders k) lock in
+      let c : Mode = mode_in (q.holders i) lock in
+      let one : go_together c b ≡ true = together-turned b c (together-weaker b a c (together-turned a b (right.compatible i k x y ne).0.0) (f.kept i x)) in
+      together-weaker c b (mode_in (q.holders k) lock) one (f.kept k y);
+  tells = f.tells;
   grants = f.grants;
 }
   where
-    rebuilt : rebuilds.HasLastReports f.reports
-    rebuilt = rebuilt-from-reports f.reports
-
-    last : ℕ → Mode
-    last k = unwrap_or (rebuilds.last_told f.reports k None) Nl
-
-    last-here : (k : ℕ) → k ≤ 8 → last k ≡ mode_in (q.holders k) lock
-    last-here k x = ap (λ (o : Option Mode). unwrap_or o Nl) (f.told k x) ∙ told-is (mode_in (q.holders k) lock)
-
-    last-far : (k : ℕ) → 8 < k → last k ≡ Nl
-    last-far k x = ap (λ (o : Option Mode). unwrap_or o Nl) (f.others k x)
-
-    weaker : (i k : ℕ) → i ≤ 8 → k ≤ 8 → i ≢ k → go_together (mode_in (q.holders i) lock) (mode_in (q.holders k) lock) ≡ true
-    weaker i k x y ne =
-        let a : Mode = mode_in (p.holders i) lock in
-        let b : Mode = mode_in (p.holders k) lock in
-        let c : Mode = mode_in (q.holders i) lock in
-        let one : go_together c b ≡ true = together-turned b c (together-weaker b a c (together-turned a b (right.compatible i k x y ne).0.0) (f.kept i x)) in
-        together-weaker c b (mode_in (q.holders k) lock) one (f.kept k y)
-
-    goes : (i k : ℕ) → i ≢ k → go_together (last i) (last k) ≡ true
-    goes i k ne = by (up-to i) (up-to k)
-      where
-        by : (i ≤ 8) ⊎ (8 < i) → (k ≤ 8) ⊎ (8 < k) → go_together (last i) (last k) ≡ true
-        by (inl x) (inl y) = ap (λ (m : Mode). go_together m (last k)) (last-here i x) ∙ (ap (go_together (mode_in (q.holders i) lock)) (last-here k y) ∙ weaker i k x y ne)
-        by (inr x) w = ap (λ (m : Mode). go_together m (last k)) (last-far i x)
-        by (inl x) (inr y) = ap (go_together (last i)) (last-far k y) ∙ null-goes (last i)
+    node : (k : ℕ) → k ≤ 8 → (b : Bool) → has q.members k ≡ b → BeginsNode lock q k
+    node k x true e = IsToTell f.rebuilding e (ap (λ (r : RebuildState). has r.ended k) f.anew ∙ zero-has k) (f.members k x e)
+    node k x false e = let o = f.others k x e in HasNothing o.0 o.1 o.2
 
 -- ---- messages in hand
 
@@ -178,10 +183,11 @@ meet-calls {lossy} lock p inv valued = record {
   requests = λ k mode rest x hand. meets-request lock p k mode rest inv x hand;
   conversions = λ k mode rest x hand. meets-conversion lock p k mode rest inv x hand;
   lowers = λ k mode value rest x hand. meets-lower lock p k mode value rest inv x hand;
+  reports = λ k mode value rest x hand. meets-report lock p k mode value rest inv x hand;
   grants = λ k mode value rest x hand.
       let m : Message = now_says p (Grant lock mode value) in
       let grant : in_view p.table.generation (grants lock) m ≡ Some mode = now-says (grants lock) p.table.generation (Grant lock mode value) ∙ cond-true _ _ _ (same-self lock) in
-      let asked : wanted_in (p.holders k) lock ≡ Some mode = was-asked (sight lock p k) mode _ (inv.stages k x) (grant-first lock p k m rest mode hand grant) in (
+      let asked : wanted_in (p.holders k) lock ≡ Some mode = (was-asked (sight lock p k) mode _ (inv.stages k x) (grant-first lock p k m rest mode hand grant)).1 in (
         knows-it (p.holders k) lock mode asked,
         asked,
         first-valued lock p k (mode, value) _ valued x (left-says (in_view p.table.generation (grant_of lock)) p.post p.master k m rest (mode, value) hand
@@ -215,11 +221,15 @@ keeps-at lock p q j h k is low = Keeps (ap (λ (f : ℕ → Holdings). is_at_lea
 same-mode : (lock : LockName) (h : Holdings) (x : Holding) → x.mode ≡ mode_in h lock → is_at_least (mode_in h lock) (mode_in (with_lock h lock x) lock) ≡ true
 same-mode lock h x e = ap (λ (y : Holding). is_at_least (mode_in h lock) y.mode) (holding-is h lock x) ∙ (ap (is_at_least (mode_in h lock)) e ∙ covers-itself (mode_in h lock))
 
-node-rises : (lock : LockName) (p q : LockParts) (k : ℕ) → NodeCall lock p q → RisesByGrant lock p q k
-node-rises lock p q k (calls.Asks j mode x null none) = keeps-at lock p q j (asked_for (p.holders j) lock mode) k refl (same-mode lock (p.holders j) (record (holding_of (p.holders j) lock) { wanted = Some mode }) refl)
-node-rises lock p q k (calls.Raises j mode x some covers none) = keeps-at lock p q j (asked_for (p.holders j) lock mode) k refl (same-mode lock (p.holders j) (record (holding_of (p.holders j) lock) { wanted = Some mode }) refl)
-node-rises lock p q k (calls.Lowers j mode value x known covers none) = keeps-at lock p q j (lowered_to (p.holders j) lock mode) k refl
+node-rises : (lock : LockName) (p q : Parts) (k : ℕ) → NodeCall lock p q → RisesByGrant lock p q k
+node-rises lock p q k (calls.Asks j mode x t null none) = keeps-at lock p q j (asked_for (p.holders j) lock mode) k refl (same-mode lock (p.holders j) (record (holding_of (p.holders j) lock) { wanted = Some mode }) refl)
+node-rises lock p q k (calls.Raises j mode x t some covers none) = keeps-at lock p q j (asked_for (p.holders j) lock mode) k refl (same-mode lock (p.holders j) (record (holding_of (p.holders j) lock) { wanted = Some mode }) refl)
+node-rises lock p q k (calls.Lowers j mode value x t known covers none) = keeps-at lock p q j (lowered_to (p.holders j) lock mode) k refl
     (ap (λ (y : Holding). is_at_least (mode_in (p.holders j) lock) y.mode) (holding-is (p.holders j) lock (record (holding_of (p.holders j) lock) { mode = mode })) ∙ covers)
+node-rises lock p q k (calls.LowersBefore j mode x not covers) = keeps-at lock p q j (lowered_to (p.holders j) lock mode) k refl
+    (ap (λ (y : Holding). is_at_least (mode_in (p.holders j) lock) y.mode) (holding-is (p.holders j) lock (record (holding_of (p.holders j) lock) { mode = mode })) ∙ covers)
+node-rises lock p q k (calls.TakesView j h letters over x not says mute) = keeps-at lock p q j h k refl
+    (ap (is_at_least (mode_in (p.holders j) lock)) (over-mode lock (p.holders j) h over) ∙ covers-itself (mode_in (p.holders j) lock))
 node-rises lock p q k (calls.IsGranted j mode value rest x hand) = elim (cases_eq k j) [
   | inl e ↦ subst (RisesByGrant lock p q) (sym e) (Rises (grant-first lock p j (now_says p (Grant lock mode value)) rest mode hand
       (now-says (grants lock) p.table.generation (Grant lock mode value) ∙ cond-true _ _ _ (same-self lock))
@@ -241,5 +251,8 @@ holders-rise lock p q k (OfMaster _ (calls.Converted j mode rest x hand)) = Keep
 holders-rise lock p q k (OfMaster _ (calls.Lowered j mode value rest x hand above)) = Keeps (covers-itself (mode_in (p.holders k) lock))
 holders-rise lock p q k (OfMaster _ (calls.LoweredAlready j mode value rest x hand already)) = Keeps (covers-itself (mode_in (p.holders k) lock))
 holders-rise lock p q k (OfMaster _ calls.GrantsNext) = Keeps (covers-itself (mode_in (p.holders k) lock))
-holders-rise lock p q k (OfMaster _ (calls.Blocks rebuild waiting)) = Keeps (covers-itself (mode_in (p.holders k) lock))
+holders-rise lock p q k (OfMaster _ (calls.Reported j mode value rest x hand r)) = Keeps (covers-itself (mode_in (p.holders k) lock))
+holders-rise lock p q k (OfMaster _ (calls.Ended j rest x hand r)) = Keeps (covers-itself (mode_in (p.holders k) lock))
+holders-rise lock p q k (OfMaster _ (calls.Completes r done)) = Keeps (covers-itself (mode_in (p.holders k) lock))
+holders-rise lock p q k (OfMaster _ (calls.Blocks rebuild waiting stays)) = Keeps (covers-itself (mode_in (p.holders k) lock))
 holders-rise lock p q k (OfMaster _ (calls.TableElsewhere other t ne)) = Keeps (covers-itself (mode_in (p.holders k) lock))

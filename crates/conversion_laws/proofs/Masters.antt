@@ -1,6 +1,6 @@
 -- What the master does to the invariant.
-use Rattle.std.proofs.Common.{ℕ, ◌≡◌, ◌≢◌, ◌⊎◌, ◌≤◌, inl, inr, Bool, true, false, Option, None, Some, List, [], ◌∷◌, ◌++◌, cond, refl, sym, ap, ◌∙◌, subst, append_assoc, append-nil}
-use Rattle.std.specs.Prelude.{◌||◌, ◌==◌, fold, map, is_none, is_some, option_to_list, unwrap_or}
+use Rattle.std.proofs.Common.{ℕ, ◌≡◌, ◌≢◌, ◌⊎◌, ◌<◌, ◌≤◌, arith, inl, inr, Bool, true, false, Option, None, Some, List, [], ◌∷◌, ◌++◌, cond, refl, sym, ap, ◌∙◌, subst, append_assoc, append-nil}
+use Rattle.std.specs.Prelude.{◌||◌, ◌==◌, not, fold, map, is_none, is_some, option_to_list, unwrap_or}
 use Rattle.std.specs.List.{AllByRecursion, filter_map}
 use Rattle.std.proofs.lemmas.Bool.{cases_eq, cond-true}
 use Rattle.std.proofs.lemmas.Bool.Decides.{eqb_tells}
@@ -9,37 +9,43 @@ use Rattle.glock_names.specs.LockMaps.{at_lock}
 use Rattle.glock_names.proofs.LockMapLaws.{at_lock-with_other}
 use Rattle.dlm_modes.specs.declared.Mode.{Mode}
 use Rattle.dlm_modes.specs.declared.Mode.TheVariants.{Nl, Cr, Cw, Pr, Pw, Ex}
-use Rattle.dlm_modes.specs.Modes.{is_at_least, is_above}
+use Rattle.dlm_modes.specs.declared.ValueBlock.{ValueBlock}
+use Rattle.dlm_modes.specs.Modes.{go_together, is_at_least, is_above}
+use Rattle.dlm_modes.proofs.ModeLaws.{covers-itself, together-turned}
+use Rattle.fencing.specs.NodeSets.{with_node}
 use Rattle.mail_queues.specs.declared.Message.{Message}
 use Rattle.mail_queues.specs.declared.Body.{Body}
-use Rattle.mail_queues.specs.declared.Body.TheVariants.{Request, Convert, Down, Grant}
+use Rattle.mail_queues.specs.declared.Body.TheVariants.{Request, Convert, Down, Grant, Report, End}
 use Rattle.dlm_master.specs.declared.claims.Claim.{Claim}
 use Rattle.dlm_master.specs.declared.claims.Cause.{Cause}
 use Rattle.dlm_master.specs.Claims.{is_of, mode_of_node, mode_at, now_holding, Absent, OneEach, Together}
 use Rattle.dlm_master.specs.LockState.{LockState}
-use Rattle.dlm_master.specs.Locks.{free_lock, claim, is_waiting, requested, converted, lowered, answer_by, all_turns, after_grants, grants_of}
+use Rattle.dlm_master.specs.Locks.{free_lock, claim, is_waiting, requested, converted, lowered, reported, answer_by, all_turns, after_grants, grants_of}
 use Rattle.dlm_master.specs.Tables.{holds_above, holds_covered, lock_of, with_state, is_blocked, request_waits, convert_waits, after_turns}
 use Rattle.dlm_master.specs.Runs.{run_of}
 use Rattle.dlm_master.specs.Runs as runs
 use Rattle.dlm_master.specs.Laws.{IsSound, IsSplit, Nobody, IsGranted, Stays, LosesNobody}
-use Rattle.dlm_master.proofs.ClaimLaws.{absent-mode, absent-along, all-left, all-right, none-of}
-use Rattle.dlm_master.proofs.RunLaws.{grants-keep, grants-keep-together}
-use Rattle.dlm_master.proofs.SoundLaws.{null-none, sound-grants, sound-locks-stay-sound}
+use Rattle.dlm_master.proofs.ClaimLaws.{one-now, absent-mode, absent-along, all-left, all-right, none-of}
+use Rattle.dlm_master.proofs.BlockLaws.{blocked-cause}
+use Rattle.dlm_master.proofs.RunLaws.{together-of, together-at, grants-keep, grants-keep-together}
+use Rattle.dlm_master.proofs.SoundLaws.{null-none, sound-now, sound-grants, sound-locks-stay-sound}
 use Rattle.dlm_master.proofs.TableLaws.{lock-free}
 use Rattle.dlm_master.proofs.TurnLaws.{split-on, split-all, split-one, no-waiter-is-lost}
 use Rattle.lock_steps.specs.Parts.{Post, way, with_left}
 use Rattle.lock_steps.specs.Ties.{in_view, grants}
-use Rattle.lock_steps.proofs.Basics.{true-false, same-self}
+use Rattle.lock_steps.proofs.Basics.{true-false, up-to, same-self}
+use Rattle.lock_steps.proofs.Sets.{all-ended}
+use Rattle.lock_steps.proofs.Membering.{with-node-here, with-node-away}
 use Rattle.lock_steps.proofs.Tying.{now-says, says-one, says-none}
 use Rattle.lock_steps.proofs.Ways.{letters-say, letters-mute, letters-away, left-says, left-mute, left-away}
 use Rattle.lock_steps.proofs.Claims.{now-here, now-away, among-here, among-away}
 use Rattle.dlm_master.proofs.RunTables.{written}
-use Rattle.conversion_laws.specs.Parts.{LockParts, now_says, call_of, calls_coming, grants_coming, lock_in_table, table_mode}
-use Rattle.conversion_laws.specs.Calls.{MasterCall, grant_letter, reply}
+use Rattle.conversion_laws.specs.Parts.{Parts, now_says, Tell, Reports, Ends, Lowers, Requests, Converts, tell_of, tells_coming, grants_coming, lock_in_table, table_mode}
+use Rattle.conversion_laws.specs.Calls.{MasterCall, kept_value, grant_letter, reply}
 use Rattle.conversion_laws.specs.Calls as calls
-use Rattle.conversion_laws.proofs.Stages.{Sight, Stage, IsHeard, sees}
+use Rattle.conversion_laws.proofs.Stages.{Sight, IsHeard, IsRead, sees, stands}
 use Rattle.conversion_laws.proofs.Stages as stages
-use Rattle.conversion_laws.proofs.Nodes.{sight, Inv}
+use Rattle.conversion_laws.proofs.Nodes.{sight, Inv, StageOf, Kept, as-same, as-before, kept-as, fades, unchanged}
 
 -- ---- what is seen where this is the lock in the table, and this is under way
 
@@ -47,19 +53,26 @@ abbrev seen : LockName → LockParts → LockState → Post → ℕ → Sight
 seen lock p l post j = record (sight lock p j) {
   table = mode_at l.held j;
   waits = mode_of_node (l.conversions ++ l.requests) j;
-  coming = filter_map (in_view p.table.generation (call_of lock j)) (way post j p.master);
+  coming = filter_map (in_view p.table.generation (tell_of lock)) (way post j p.master);
   granted = filter_map (in_view p.table.generation (grants lock)) (way post p.master j);
 }
 
-wrote : {lossy : Type 0} (lock : LockName) (p : LockParts) (l : LockState) (post : Post) → Inv lossy lock p → IsSound l × Together l.held → ((j : ℕ) → j ≤ 8 → Stage lossy (seen lock p l post j))
+wrote : {lossy : Type 0} (lock : LockName) (p : Parts) (l : LockState) (post : Post) → Inv lossy lock p → IsSound l × Together l.held
+    → (p.rebuilding ≡ true → (j : ℕ) → 8 < j → mode_at l.held j ≡ Nl) → ((j : ℕ) → j ≤ 8 → Kept lossy p (sight lock p j) (seen lock p l post j))
     → Inv lossy lock (record p { table = with_state p.table lock l; post = post })
-wrote {lossy} lock p l post inv good stages =
+wrote {lossy} lock p l post inv good far kept =
     let is : lock_of (with_state p.table lock l) lock ≡ l = written p.table lock l in
     record {
       master = inv.master;
       sound = subst IsSound (sym is) good.0;
       together = subst (λ (u : LockState). Together u.held) (sym is) good.1;
-      stages = λ j x. subst (λ (u : LockState). Stage lossy (seen lock p u post j)) (sym is) (stages j x);
+      stages = λ j x. subst (λ (u : LockState). StageOf lossy p (seen lock p u post j)) (sym is) (kept j x).0;
+      under = λ r. record {
+        rebuild = (inv.under r).rebuild;
+        far = λ j y. subst (λ (u : LockState). mode_at u.held j ≡ Nl) (sym is) (far r j y);
+        apart = λ i k x y ne. subst (λ (u : LockState). go_together (stands (seen lock p u post i)) (stands (seen lock p u post k)) ≡ true) (sym is)
+            (fades (λ j. stands (sight lock p j)) (λ j. stands (seen lock p l post j)) (λ j z. (kept j z).1 r) i k x y ((inv.under r).apart i k x y ne));
+      };
     }
 
 -- ---- what the master's calls keep
@@ -110,24 +123,24 @@ above-or-same (Some had) mode covers = above-or-is had mode covers
 
 -- ---- a message in hand
 
-module _ (lock : LockName) (p : LockParts) (k : ℕ) (b : Body) (c : runs.Call) (rest : List Message) (hand : p.post.took k p.master ≡ now_says p b ∷ rest)
-    (said : call_of lock k b ≡ Some c) (mute : grants lock b ≡ None) where
+module _ (lock : LockName) (p : Parts) (k : ℕ) (b : Body) (c : Tell) (rest : List Message) (hand : p.post.took k p.master ≡ now_says p b ∷ rest)
+    (said : tell_of lock b ≡ Some c) (mute : grants lock b ≡ None) where
   abbrev pub left : Post
   left = with_left p.post k p.master rest
 
-  abbrev pub calls_left : List runs.Call
-  calls_left = filter_map (in_view p.table.generation (call_of lock k)) (way left k p.master)
+  abbrev pub calls_left : List Tell
+  calls_left = filter_map (in_view p.table.generation (tell_of lock)) (way left k p.master)
 
-  pub call-first : calls_coming lock p k ≡ c ∷ calls_left
+  pub call-first : tells_coming lock p k ≡ c ∷ calls_left
   call-first =
-      left-says (in_view p.table.generation (call_of lock k)) p.post k p.master (now_says p b) rest c hand (now-says (call_of lock k) p.table.generation b ∙ said)
+      left-says (in_view p.table.generation (tell_of lock)) p.post k p.master (now_says p b) rest c hand (now-says (tell_of lock) p.table.generation b ∙ said)
 
   pub grants-same : (j : ℕ) → filter_map (in_view p.table.generation (grants lock)) (way left p.master j) ≡ grants_coming lock p j
   grants-same j =
       left-mute (in_view p.table.generation (grants lock)) p.post k p.master (now_says p b) rest p.master j hand (now-says (grants lock) p.table.generation b ∙ mute)
 
-  pub calls-same : (j : ℕ) → (j ≡ k → ⊥) → filter_map (in_view p.table.generation (call_of lock j)) (way left j p.master) ≡ calls_coming lock p j
-  calls-same j ne = ap (filter_map (in_view p.table.generation (call_of lock j))) (left-away p.post k p.master rest j p.master (λ e f. ne e))
+  pub calls-same : (j : ℕ) → (j ≡ k → ⊥) → filter_map (in_view p.table.generation (tell_of lock)) (way left j p.master) ≡ tells_coming lock p j
+  calls-same j ne = ap (filter_map (in_view p.table.generation (tell_of lock))) (left-away p.post k p.master rest j p.master (λ e f. ne e))
 
 -- ---- a letter that grants
 
@@ -157,16 +170,16 @@ module _ (lock : LockName) (p : LockParts) (post : Post) (w : Claim) where
       ≡ filter_map (in_view p.table.generation (grants lock)) (way post p.master j)
   grant-away j ne = ap (filter_map (in_view p.table.generation (grants lock))) (letters-away post p.master w.node letter p.master j (λ e f. ne f))
 
-  grant-mute : (j : ℕ) → filter_map (in_view p.table.generation (call_of lock j)) (way (claim_letter p lock post w) j p.master)
-      ≡ filter_map (in_view p.table.generation (call_of lock j)) (way post j p.master)
-  grant-mute j = letters-mute (in_view p.table.generation (call_of lock j)) post p.master w.node letter j p.master
-      (says-none (in_view p.table.generation (call_of lock j)) (now_says p (Grant lock w.mode (lock_in_table lock p).value))
-      (now-says (call_of lock j) p.table.generation (Grant lock w.mode (lock_in_table lock p).value)))
+  grant-mute : (j : ℕ) → filter_map (in_view p.table.generation (tell_of lock)) (way (claim_letter p lock post w) j p.master)
+      ≡ filter_map (in_view p.table.generation (tell_of lock)) (way post j p.master)
+  grant-mute j = letters-mute (in_view p.table.generation (tell_of lock)) post p.master w.node letter j p.master
+      (says-none (in_view p.table.generation (tell_of lock)) (now_says p (Grant lock w.mode (lock_in_table lock p).value))
+      (now-says (tell_of lock) p.table.generation (Grant lock w.mode (lock_in_table lock p).value)))
 
 -- ---- an ask that comes to the table
 
-module _ {lossy : Type 0} (lock : LockName) (p : LockParts) (k : ℕ) (mode : Mode) (b : Body) (c : runs.Call) (rest : List Message) (inv : Inv lossy lock p) (within : k ≤ 8)
-    (hand : p.post.took k p.master ≡ now_says p b ∷ rest) (said : call_of lock k b ≡ Some c) (mute : grants lock b ≡ None)
+module _ {lossy : Type 0} (lock : LockName) (p : Parts) (k : ℕ) (mode : Mode) (b : Body) (c : Tell) (rest : List Message) (inv : Inv lossy lock p) (within : k ≤ 8)
+    (hand : p.post.took k p.master ≡ now_says p b ∷ rest) (said : tell_of lock b ≡ Some c) (mute : grants lock b ≡ None)
     (heard : IsHeard (sight lock p k) mode (calls_left lock p k b c rest hand said mute)) where
   abbrev l : LockState
   l = lock_in_table lock p
@@ -175,15 +188,17 @@ module _ {lossy : Type 0} (lock : LockName) (p : LockParts) (k : ℕ) (mode : Mo
   behind = with_left p.post k p.master rest
 
   -- it is granted at once
-  pub granted-now : IsSound (record l { held = now_holding l.held k mode }) × Together (now_holding l.held k mode)
+  pub granted-now : (p.rebuilding ≡ true → ⊥) → IsSound (record l { held = now_holding l.held k mode }) × Together (now_holding l.held k mode)
       → Inv lossy lock (record p { table = with_state p.table lock (record l { held = now_holding l.held k mode }); post = claim_letter p lock behind (claim k mode) })
-  granted-now good = wrote lock p (record l { held = now_holding l.held k mode }) (claim_letter p lock behind (claim k mode)) inv good (λ j x. elim (cases_eq j k) [
-    | inl e ↦ subst (λ (i : ℕ). Stage lossy (seen lock p (record l { held = now_holding l.held k mode }) (claim_letter p lock behind (claim k mode)) i)) (sym e)
-        (sees _ (seen lock p (record l { held = now_holding l.held k mode }) (claim_letter p lock behind (claim k mode)) k) refl refl
-        (sym (now-here l.held k mode inv.sound.held_once)) refl (sym (grant-mute lock p behind (claim k mode) k))
-        (sym (grant-says lock p behind (claim k mode) ∙ ap (λ (ms : List Mode). ms ++ mode ∷ []) (grants-same lock p k b c rest hand said mute k)))
-        (stages.then-granted (sight lock p k) mode _ heard))
-    | inr ne ↦ sees (sight lock p j) (seen lock p (record l { held = now_holding l.held k mode }) (claim_letter p lock behind (claim k mode)) j) refl refl
+  granted-now calm good = wrote lock p (record l { held = now_holding l.held k mode }) (claim_letter p lock behind (claim k mode)) inv good (λ r. absurd (calm r)) (λ j x. elim (cases_eq j k) [
+    | inl e ↦ subst (λ (i : ℕ). Kept lossy p (sight lock p i) (seen lock p (record l { held = now_holding l.held k mode }) (claim_letter p lock behind (claim k mode)) i)) (sym e) (
+      sees _ (seen lock p (record l { held = now_holding l.held k mode }) (claim_letter p lock behind (claim k mode)) k) (refl, refl, refl) refl refl
+          (sym (now-here l.held k mode inv.sound.held_once)) refl (sym (grant-mute lock p behind (claim k mode) k))
+          (sym (grant-says lock p behind (claim k mode) ∙ ap (λ (ms : List Mode). ms ++ mode ∷ []) (grants-same lock p k b c rest hand said mute k)))
+          (stages.then-granted (sight lock p k) mode _ heard),
+      λ r. absurd (calm r),
+    )
+    | inr ne ↦ as-before p (sight lock p j) (seen lock p (record l { held = now_holding l.held k mode }) (claim_letter p lock behind (claim k mode)) j) (refl, refl, refl) refl refl
         (sym (now-away l.held k mode j ne)) refl
         (sym (grant-mute lock p behind (claim k mode) j ∙ calls-same lock p k b c rest hand said mute j ne))
         (sym (grant-away lock p behind (claim k mode) j ne ∙ grants-same lock p k b c rest hand said mute j))
@@ -194,31 +209,33 @@ module _ {lossy : Type 0} (lock : LockName) (p : LockParts) (k : ℕ) (mode : Mo
   pub waits-now : (conversions requests : List Claim) → IsSound (record l { conversions = conversions; requests = requests }) × Together l.held
       → mode_of_node (conversions ++ requests) k ≡ Some mode → ((j : ℕ) → (j ≡ k → ⊥) → mode_of_node (conversions ++ requests) j ≡ mode_of_node (l.conversions ++ l.requests) j)
       → Inv lossy lock (record p { table = with_state p.table lock (record l { conversions = conversions; requests = requests }); post = behind })
-  waits-now conversions requests good here away = wrote lock p (record l { conversions = conversions; requests = requests }) behind inv good (λ j x. elim (cases_eq j k) [
-    | inl e ↦ subst (λ (i : ℕ). Stage lossy (seen lock p (record l { conversions = conversions; requests = requests }) behind i)) (sym e)
-        (sees _ (seen lock p (record l { conversions = conversions; requests = requests }) behind k) refl refl refl (sym here) refl
-        (sym (grants-same lock p k b c rest hand said mute k)) (stages.then-waits (sight lock p k) mode _ heard))
-    | inr ne ↦ sees (sight lock p j) (seen lock p (record l { conversions = conversions; requests = requests }) behind j) refl refl refl (sym (away j ne))
+  waits-now conversions requests good here away = wrote lock p (record l { conversions = conversions; requests = requests }) behind inv good (λ r. (inv.under r).far) (λ j x. elim (cases_eq j k) [
+    | inl e ↦ subst (λ (i : ℕ). Kept lossy p (sight lock p i) (seen lock p (record l { conversions = conversions; requests = requests }) behind i)) (sym e) (
+      sees _ (seen lock p (record l { conversions = conversions; requests = requests }) behind k) (refl, refl, refl) refl refl refl (sym here) refl
+          (sym (grants-same lock p k b c rest hand said mute k)) (stages.then-waits (sight lock p k) mode _ heard),
+      as-same p (sight lock p k) (seen lock p (record l { conversions = conversions; requests = requests }) behind k) (stages.then-stands (sight lock p k) mode _ heard),
+    )
+    | inr ne ↦ as-before p (sight lock p j) (seen lock p (record l { conversions = conversions; requests = requests }) behind j) (refl, refl, refl) refl refl refl (sym (away j ne))
         (sym (calls-same lock p k b c rest hand said mute j ne)) (sym (grants-same lock p k b c rest hand said mute j)) (inv.stages j x)
   ])
 
 -- ---- what the messages in hand find
 
-record Finds (lock : LockName) (p : LockParts) (k : ℕ) (mode : Mode) (b : Body) (c : runs.Call) (rest : List Message) (hand : p.post.took k p.master ≡ now_says p b ∷ rest)
-    (said : call_of lock k b ≡ Some c) (mute : grants lock b ≡ None) : Type 0 where
+record Finds (lock : LockName) (p : Parts) (k : ℕ) (mode : Mode) (b : Body) (c : Tell) (a : runs.Call) (rest : List Message) (hand : p.post.took k p.master ≡ now_says p b ∷ rest)
+    (said : tell_of lock b ≡ Some c) (mute : grants lock b ≡ None) : Type 0 where
   heard : IsHeard (sight lock p k) mode (calls_left lock p k b c rest hand said mute)
-  may : runs.MayCall (run_of p.table lock) c
+  may : runs.MayCall (run_of p.table lock) a
 
-finds-request : {lossy : Type 0} (lock : LockName) (p : LockParts) (k : ℕ) (mode : Mode) (rest : List Message) → Inv lossy lock p → k ≤ 8 → (hand : p.post.took k p.master ≡ now_says p (Request lock mode) ∷ rest)
-    → Finds lock p k mode (Request lock mode) (runs.Requests k mode) rest hand (cond-true _ _ _ (same-self lock)) refl
+finds-request : {lossy : Type 0} (lock : LockName) (p : Parts) (k : ℕ) (mode : Mode) (rest : List Message) → Inv lossy lock p → k ≤ 8 → (hand : p.post.took k p.master ≡ now_says p (Request lock mode) ∷ rest)
+    → Finds lock p k mode (Request lock mode) (Requests mode) (runs.Requests k mode) rest hand (cond-true _ _ _ (same-self lock)) refl
 finds-request {lossy} lock p k mode rest inv x hand =
-    let h = stages.hears-request (sight lock p k) k mode _ (inv.stages k x) (call-first lock p k (Request lock mode) (runs.Requests k mode) rest hand (cond-true _ _ _ (same-self lock)) refl) in
+    let h = stages.hears-request (sight lock p k) mode _ (inv.stages k x) (call-first lock p k (Request lock mode) (Requests mode) rest hand (cond-true _ _ _ (same-self lock)) refl) in
     record { heard = h.0; may = (null-none (lock_in_table lock p).held k inv.sound.never_null h.1, waits-not (lock_in_table lock p) k h.0.waits) }
 
-finds-conversion : {lossy : Type 0} (lock : LockName) (p : LockParts) (k : ℕ) (mode : Mode) (rest : List Message) → Inv lossy lock p → k ≤ 8 → (hand : p.post.took k p.master ≡ now_says p (Convert lock mode) ∷ rest)
-    → Finds lock p k mode (Convert lock mode) (runs.Converts k mode) rest hand (cond-true _ _ _ (same-self lock)) refl
+finds-conversion : {lossy : Type 0} (lock : LockName) (p : Parts) (k : ℕ) (mode : Mode) (rest : List Message) → Inv lossy lock p → k ≤ 8 → (hand : p.post.took k p.master ≡ now_says p (Convert lock mode) ∷ rest)
+    → Finds lock p k mode (Convert lock mode) (Converts mode) (runs.Converts k mode) rest hand (cond-true _ _ _ (same-self lock)) refl
 finds-conversion {lossy} lock p k mode rest inv x hand =
-    let h = stages.hears-conversion (sight lock p k) k mode _ (inv.stages k x) (call-first lock p k (Convert lock mode) (runs.Converts k mode) rest hand (cond-true _ _ _ (same-self lock)) refl) in
+    let h = stages.hears-conversion (sight lock p k) mode _ (inv.stages k x) (call-first lock p k (Convert lock mode) (Converts mode) rest hand (cond-true _ _ _ (same-self lock)) refl) in
     record {
       heard = h.0;
       may = (
@@ -237,18 +254,19 @@ pub meets-conversion : {lossy : Type 0} (lock : LockName) (p : LockParts) (k : �
 meets-conversion {lossy} lock p k mode rest inv x hand = (finds-conversion lock p k mode rest inv x hand).may
 
 -- a lower
-record FindsLower (lossy : Type 0) (lock : LockName) (p : LockParts) (k : ℕ) (mode : Mode) (q : List runs.Call) : Type 0 where
+record FindsLower (lossy : Type 0) (lock : LockName) (p : Parts) (k : ℕ) (mode : Mode) (q : List Tell) : Type 0 where
   covers : is_at_least (table_mode lock p k) mode ≡ true
   idle : is_waiting (lock_in_table lock p) k ≡ false
-  stage : Stage lossy (record (sight lock p k) { table = mode; coming = q })
+  stage : StageOf lossy p (record (sight lock p k) { table = mode; coming = q })
   granted : grants_coming lock p k ≡ []
+  less : is_at_least (stands (sight lock p k)) (stands (record (sight lock p k) { table = mode; coming = q })) ≡ true
 
 finds-lower : {lossy : Type 0} (lock : LockName) (p : LockParts) (k : ℕ) (mode : Mode) (value : Option (List ℕ)) (rest : List Message) → Inv lossy lock p → k ≤ 8
     → p.post.took k p.master ≡ now_says p (Down lock mode value) ∷ rest
-    → FindsLower lossy lock p k mode (filter_map (in_view p.table.generation (call_of lock k)) (way (with_left p.post k p.master rest) k p.master))
+    → FindsLower lossy lock p k mode (filter_map (in_view p.table.generation (tell_of lock)) (way (with_left p.post k p.master rest) k p.master))
 finds-lower {lossy} lock p k mode value rest inv x hand =
-    let h = stages.hears-lower (sight lock p k) k mode value _ (inv.stages k x) (call-first lock p k (Down lock mode value) (runs.Lowers k mode value) rest hand (cond-true _ _ _ (same-self lock)) refl) in
-    record { covers = h.0; idle = waits-not (lock_in_table lock p) k h.1; stage = h.2; granted = h.3 }
+    let h = stages.hears-lower (sight lock p k) mode value _ (inv.stages k x) (call-first lock p k (Down lock mode value) (Lowers mode value) rest hand (cond-true _ _ _ (same-self lock)) refl) in
+    record { covers = h.0; idle = waits-not (lock_in_table lock p) k h.1; stage = h.2; granted = h.3; less = h.4 }
 
 pub meets-lower : {lossy : Type 0} (lock : LockName) (p : LockParts) (k : ℕ) (mode : Mode) (value : Option (List ℕ)) (rest : List Message) → Inv lossy lock p → k ≤ 8
     → p.post.took k p.master ≡ now_says p (Down lock mode value) ∷ rest
@@ -261,6 +279,54 @@ meets-lower {lossy} lock p k mode value rest inv x hand =
 pub no-grant-behind : {lossy : Type 0} (lock : LockName) (p : Parts) (k : ℕ) (mode : Mode) (value : Option (List ℕ)) (rest : List Message) → Inv lossy lock p → k ≤ 8
     → p.post.took k p.master ≡ now_says p (Down lock mode value) ∷ rest → grants_coming lock p k ≡ []
 no-grant-behind {lossy} lock p k mode value rest inv x hand = (finds-lower lock p k mode value rest inv x hand).granted
+
+-- a report
+finds-report : {lossy : Type 0} (lock : LockName) (p : Parts) (k : ℕ) (mode : Mode) (value : ValueBlock) (rest : List Message) → Inv lossy lock p → k ≤ 8
+    → p.post.took k p.master ≡ now_says p (Report lock mode value) ∷ rest
+    → IsRead lossy (p.rebuilding ≡ true) (sight lock p k) mode (filter_map (in_view p.table.generation (tell_of lock)) (way (with_left p.post k p.master rest) k p.master))
+finds-report {lossy} lock p k mode value rest inv x hand =
+    stages.hears-report (sight lock p k) mode _ (inv.stages k x) (call-first lock p k (Report lock mode value) (Reports mode) rest hand (cond-true _ _ _ (same-self lock)) refl)
+
+pub meets-report : {lossy : Type 0} (lock : LockName) (p : Parts) (k : ℕ) (mode : Mode) (value : ValueBlock) (rest : List Message) → Inv lossy lock p → k ≤ 8
+    → p.post.took k p.master ≡ now_says p (Report lock mode value) ∷ rest → (p.rebuilding ≡ true) × (is_waiting (lock_in_table lock p) k ≡ false)
+meets-report {lossy} lock p k mode value rest inv x hand = let h = finds-report lock p k mode value rest inv x hand in (h.under, waits-not (lock_in_table lock p) k h.waits)
+
+null-goes : (mode : Mode) → go_together mode Nl ≡ true
+null-goes mode = together-turned Nl mode refl
+
+-- what a node reports goes with what the table has of each other
+module _ {lossy : Type 0} (lock : LockName) (p : Parts) (k : ℕ) (mode : Mode) (inv : Inv lossy lock p) (x : k ≤ 8) (r : p.rebuilding ≡ true) (is : stands (sight lock p k) ≡ mode) where
+  abbrev held : List Claim
+  held = (lock_in_table lock p).held
+
+  goes-near : (i : ℕ) → i ≤ 8 → i ≢ k → go_together mode (mode_at held i) ≡ true
+  goes-near i y ne = by (stages.how-it-stands (sight lock p i) (inv.stages i y))
+    where
+      goes : go_together mode (stands (sight lock p i)) ≡ true
+      goes = ap (λ (t : Mode). go_together t (stands (sight lock p i))) (sym is) ∙ (inv.under r).apart k i x y (λ e. ne (sym e))
+
+      by : stages.Stands lossy (p.rebuilding ≡ true) (sight lock p i) → go_together mode (mode_at held i) ≡ true
+      by (stages.AsHeld o same null none) = ap (go_together mode) null ∙ null-goes mode
+      by (stages.AsReported o covers null none) = ap (go_together mode) null ∙ null-goes mode
+      by (stages.AsListed same) = ap (go_together mode) (sym same) ∙ goes
+
+  goes-with : (i : ℕ) → i ≢ k → go_together mode (mode_at held i) ≡ true
+  goes-with i ne = elim (up-to i) [
+    | inl y ↦ goes-near i y ne
+    | inr y ↦ ap (go_together mode) ((inv.under r).far i y) ∙ null-goes mode
+  ]
+
+  reported-together : Together (now_holding held k mode)
+  reported-together = together-of (now_holding held k mode) (one-now held k mode inv.sound.held_once) (λ i j ne. elim (cases_eq i k) [
+    | inl e ↦ subst (λ (a : ℕ). go_together (mode_at (now_holding held k mode) a) (mode_at (now_holding held k mode) j) ≡ true) (sym e)
+        (ap (λ (m : Mode). go_together m (mode_at (now_holding held k mode) j)) (now-here held k mode inv.sound.held_once)
+        ∙ (ap (go_together mode) (now-away held k mode j (λ f. ne (e ∙ sym f))) ∙ goes-with j (λ f. ne (e ∙ sym f))))
+    | inr away ↦ ap (λ (m : Mode). go_together m (mode_at (now_holding held k mode) j)) (now-away held k mode i away) ∙ elim (cases_eq j k) [
+      | inl e ↦ subst (λ (a : ℕ). go_together (mode_at held i) (mode_at (now_holding held k mode) a) ≡ true) (sym e)
+          (ap (go_together (mode_at held i)) (now-here held k mode inv.sound.held_once) ∙ together-turned mode (mode_at held i) (goes-with i away))
+      | inr also ↦ ap (go_together (mode_at held i)) (now-away held k mode j also) ∙ together-at held inv.together i j ne
+    ]
+  ])
 
 -- ---- the waiters take their turns
 
@@ -311,9 +377,9 @@ given-node held (w ∷ ws) k mode all e = by (eqb_tells w.node k) (given-node he
     by (inr ne) rest = rest (rw ne.0 at e)
 
 -- the letters to all who are granted
-module _ (lock : LockName) (p : LockParts) (j : ℕ) where
-  letters-mute-all : (ws : List Claim) (post : Post) → filter_map (in_view p.table.generation (call_of lock j)) (way (fold (claim_letter p lock) post ws) j p.master)
-      ≡ filter_map (in_view p.table.generation (call_of lock j)) (way post j p.master)
+module _ (lock : LockName) (p : Parts) (j : ℕ) where
+  letters-mute-all : (ws : List Claim) (post : Post) → filter_map (in_view p.table.generation (tell_of lock)) (way (fold (claim_letter p lock) post ws) j p.master)
+      ≡ filter_map (in_view p.table.generation (tell_of lock)) (way post j p.master)
   letters-mute-all [] post = refl
   letters-mute-all (w ∷ ws) post = letters-mute-all ws (claim_letter p lock post w) ∙ grant-mute lock p post w j
 
@@ -334,7 +400,7 @@ module _ (lock : LockName) (p : LockParts) (j : ℕ) where
           ∙ rw is.0 refl))
       by (inr ne) = ap (λ (ms : List Mode). ms ++ option_to_list (mode_of_node ws j)) (grant-away lock p post w j (λ e. ne.1 (sym e))) ∙ rw ne.0 refl
 
-module _ {lossy : Type 0} (lock : LockName) (p : LockParts) (inv : Inv lossy lock p) where
+module _ {lossy : Type 0} (lock : LockName) (p : Parts) (inv : Inv lossy lock p) (calm : p.rebuilding ≡ true → ⊥) where
   abbrev now : LockState
   now = lock_in_table lock p
 
@@ -348,7 +414,7 @@ module _ {lossy : Type 0} (lock : LockName) (p : LockParts) (inv : Inv lossy loc
   split = subst (λ (g : List Claim). IsSplit [] (now.conversions ++ now.requests) g ((after_grants now).conversions ++ (after_grants now).requests)) (sym lost.granted)
       (split-on now.conversions now.requests lost.converted lost.requested (after_grants now).conversions (after_grants now).requests lost.conversions lost.requests)
 
-  turned : (j : ℕ) → j ≤ 8 → Stage lossy (seen lock p (after_grants now) (fold (claim_letter p lock) p.post given) j)
+  turned : (j : ℕ) → j ≤ 8 → StageOf lossy p (seen lock p (after_grants now) (fold (claim_letter p lock) p.post given) j)
   turned j x = by (mode_of_node given j) refl
     where
       tells : (mode_of_node given j ≡ None → mode_of_node ((after_grants now).conversions ++ (after_grants now).requests) j ≡ mode_of_node (now.conversions ++ now.requests) j)
@@ -359,13 +425,13 @@ module _ {lossy : Type 0} (lock : LockName) (p : LockParts) (inv : Inv lossy loc
       one : OneEach given
       one = (split-one (now.conversions ++ now.requests) given ((after_grants now).conversions ++ (after_grants now).requests) split inv.sound.waits_once).0
 
-      by : (o : Option Mode) → mode_of_node given j ≡ o → Stage lossy (seen lock p (after_grants now) (fold (claim_letter p lock) p.post given) j)
-      by None e = sees (sight lock p j) (seen lock p (after_grants now) (fold (claim_letter p lock) p.post given) j) refl refl
+      by : (o : Option Mode) → mode_of_node given j ≡ o → StageOf lossy p (seen lock p (after_grants now) (fold (claim_letter p lock) p.post given) j)
+      by None e = sees (sight lock p j) (seen lock p (after_grants now) (fold (claim_letter p lock) p.post given) j) (refl, refl, refl) refl refl
           (sym (ap (λ (o : Option Mode). unwrap_or o Nl) (lost.others j (none-of given j e))))
           (sym (tells.0 e)) (sym (letters-mute-all lock p j given p.post))
           (sym (letters-say-all lock p j given p.post one ∙ (ap (λ (o : Option Mode). grants_coming lock p j ++ option_to_list o) e ∙ append-nil _)))
           (inv.stages j x)
-      by (Some mode) e = sees _ (seen lock p (after_grants now) (fold (claim_letter p lock) p.post given) j) refl refl
+      by (Some mode) e = sees _ (seen lock p (after_grants now) (fold (claim_letter p lock) p.post given) j) (refl, refl, refl) refl refl
           (sym (given-node (after_grants now).held given j mode (lost.given inv.sound) e))
           (sym (tells.1 mode e).1) (sym (letters-mute-all lock p j given p.post))
           (sym (letters-say-all lock p j given p.post one ∙ ap (λ (o : Option Mode). grants_coming lock p j ++ option_to_list o) e))
@@ -380,7 +446,7 @@ module _ {lossy : Type 0} (lock : LockName) (p : LockParts) (inv : Inv lossy loc
       by : (o : Option LockState) → at_lock p.table.table lock ≡ o
           → Inv lossy lock (record p { table = cond (is_none (at_lock p.table.table lock)) p.table (with_state p.table lock (after_grants now)); post = fold (claim_letter p lock) p.post given })
       by (Some t) e = subst (λ (b : Bool). Inv lossy lock (record p { table = cond b p.table (with_state p.table lock (after_grants now)); post = fold (claim_letter p lock) p.post given }))
-          (sym (ap is_none e)) (wrote lock p (after_grants now) (fold (claim_letter p lock) p.post given) inv good turned)
+          (sym (ap is_none e)) (wrote lock p (after_grants now) (fold (claim_letter p lock) p.post given) inv good (λ r. absurd (calm r)) (λ j x. (turned j x, λ r. absurd (calm r))))
       by None e =
           let free : now ≡ free_lock = lock-free p.table.table lock e in
           let same : after_grants now ≡ now = ap after_grants free ∙ sym free in
@@ -389,83 +455,146 @@ module _ {lossy : Type 0} (lock : LockName) (p : LockParts) (inv : Inv lossy loc
             master = inv.master;
             sound = inv.sound;
             together = inv.together;
-            stages = λ j x. subst (λ (u : LockState). Stage lossy (seen lock p u (fold (claim_letter p lock) p.post given) j)) same (turned j x);
+            under = λ r. absurd (calm r);
+            stages = λ j x. subst (λ (u : LockState). StageOf lossy p (seen lock p u (fold (claim_letter p lock) p.post given) j)) same (turned j x);
           })
 
 -- ---- the calls
 
-pub master-keeps : {lossy : Type 0} (lock : LockName) (p q : LockParts) → MasterCall lock p q → Inv lossy lock p → Inv lossy lock q
-master-keeps {lossy} lock p _ (calls.Requested k mode rest x hand) inv = by (request_waits p.table k lock mode) (kept lock p (runs.Requests k mode) inv f.may)
+not-none : {A : Type 0} {o : Option Cause} → ((cause : Cause) × (o ≡ Some cause)) → o ≡ None → A
+not-none some none = absurd (let f : Some some.0 ≡ None = sym some.1 ∙ none in cc)
+
+-- a node that is no node of the cluster is another
+far-from : (j k : ℕ) → k ≤ 8 → 8 < j → j ≡ k → ⊥
+far-from j k x y e = absurd (let f : k < j = omega (arith, x, y) in omega (arith, f, e))
+
+-- a node has told all
+ended-too : {lossy : Type 0} (lock : LockName) (p : Parts) (n : ℕ) (post : Post) → Inv lossy lock p
+    → ((k : ℕ) → k ≤ 8 → Kept lossy p (sight lock p k) (sight lock (record p { ended = with_node p.ended n; post = post }) k)) → Inv lossy lock (record p { ended = with_node p.ended n; post = post })
+ended-too {lossy} lock p n post inv kept = record {
+  master = inv.master;
+  sound = inv.sound;
+  together = inv.together;
+  stages = λ k x. (kept k x).0;
+  under = λ r. record {
+    rebuild = (inv.under r).rebuild;
+    far = (inv.under r).far;
+    apart = λ i k x y ne. fades (λ j. stands (sight lock p j)) (λ j. stands (sight lock (record p { ended = with_node p.ended n; post = post }) j)) (λ j z. (kept j z).1 r) i k x y ((inv.under r).apart i k x y ne);
+  };
+}
+
+pub master-keeps : {lossy : Type 0} (lock : LockName) (p q : Parts) → MasterCall lock p q → Inv lossy lock p → Inv lossy lock q
+master-keeps {lossy} lock p _ (calls.Requested k mode rest x hand) inv = by (request_waits p.table k lock mode) refl (kept lock p (runs.Requests k mode) inv f.may)
   where
-    f : Finds lock p k mode (Request lock mode) (runs.Requests k mode) rest hand (cond-true _ _ _ (same-self lock)) refl
+    f : Finds lock p k mode (Request lock mode) (Requests mode) (runs.Requests k mode) rest hand (cond-true _ _ _ (same-self lock)) refl
     f = finds-request lock p k mode rest inv x hand
 
-    by : (c : Option Cause) → IsSound (requested c (lock_in_table lock p) k mode) × Together (requested c (lock_in_table lock p) k mode).held
+    by : (c : Option Cause) → request_waits p.table k lock mode ≡ c → IsSound (requested c (lock_in_table lock p) k mode) × Together (requested c (lock_in_table lock p) k mode).held
         → Inv lossy lock (record p { table = with_state p.table lock (requested c (lock_in_table lock p) k mode); post = reply p lock k mode (answer_by c (lock_in_table lock p)) (with_left p.post k p.master rest) })
-    by None good = granted-now lock p k mode (Request lock mode) (runs.Requests k mode) rest inv x hand (cond-true _ _ _ (same-self lock)) refl f.heard good
-    by (Some cause) good =
+    by None e good = granted-now lock p k mode (Request lock mode) (Requests mode) rest inv x hand (cond-true _ _ _ (same-self lock)) refl f.heard
+        (λ r. not-none (blocked-cause p.table.rebuild p.table.waiting (lock_in_table lock p).held (lock_in_table lock p).conversions (lock_in_table lock p).requests k mode (inl (inv.under r).rebuild)) e) good
+    by (Some cause) e good =
         let joined = append_assoc (lock_in_table lock p).conversions (lock_in_table lock p).requests (claim k mode ∷ []) in
-        waits-now lock p k mode (Request lock mode) (runs.Requests k mode) rest inv x hand (cond-true _ _ _ (same-self lock)) refl f.heard (lock_in_table lock p).conversions ((lock_in_table lock p).requests ++ claim k mode ∷ []) good
+        waits-now lock p k mode (Request lock mode) (Requests mode) rest inv x hand (cond-true _ _ _ (same-self lock)) refl f.heard (lock_in_table lock p).conversions ((lock_in_table lock p).requests ++ claim k mode ∷ []) good
         (subst (λ (cs : List Claim). mode_of_node cs k ≡ Some mode) joined (among-here ((lock_in_table lock p).conversions ++ (lock_in_table lock p).requests) [] (claim k mode) (subst OneEach (sym joined) good.0.waits_once)))
         (λ j ne. subst (λ (cs : List Claim). mode_of_node cs j ≡ mode_of_node ((lock_in_table lock p).conversions ++ (lock_in_table lock p).requests) j) joined
         (among-away ((lock_in_table lock p).conversions ++ (lock_in_table lock p).requests) [] (claim k mode) j ne ∙ ap (λ (cs : List Claim). mode_of_node cs j) (append-nil ((lock_in_table lock p).conversions ++ (lock_in_table lock p).requests))))
-master-keeps {lossy} lock p _ (calls.Converted k mode rest x hand) inv = by (convert_waits p.table k lock mode) (kept lock p (runs.Converts k mode) inv f.may)
+master-keeps {lossy} lock p _ (calls.Converted k mode rest x hand) inv = by (convert_waits p.table k lock mode) refl (kept lock p (runs.Converts k mode) inv f.may)
   where
-    f : Finds lock p k mode (Convert lock mode) (runs.Converts k mode) rest hand (cond-true _ _ _ (same-self lock)) refl
+    f : Finds lock p k mode (Convert lock mode) (Converts mode) (runs.Converts k mode) rest hand (cond-true _ _ _ (same-self lock)) refl
     f = finds-conversion lock p k mode rest inv x hand
 
-    by : (c : Option Cause) → IsSound (converted c (lock_in_table lock p) k mode) × Together (converted c (lock_in_table lock p) k mode).held
+    by : (c : Option Cause) → convert_waits p.table k lock mode ≡ c → IsSound (converted c (lock_in_table lock p) k mode) × Together (converted c (lock_in_table lock p) k mode).held
         → Inv lossy lock (record p { table = with_state p.table lock (converted c (lock_in_table lock p) k mode); post = reply p lock k mode (answer_by c (lock_in_table lock p)) (with_left p.post k p.master rest) })
-    by None good = granted-now lock p k mode (Convert lock mode) (runs.Converts k mode) rest inv x hand (cond-true _ _ _ (same-self lock)) refl f.heard good
-    by (Some cause) good =
+    by None e good = granted-now lock p k mode (Convert lock mode) (Converts mode) rest inv x hand (cond-true _ _ _ (same-self lock)) refl f.heard
+        (λ r. not-none (blocked-cause p.table.rebuild p.table.waiting (lock_in_table lock p).held (lock_in_table lock p).conversions [] k mode (inl (inv.under r).rebuild)) e) good
+    by (Some cause) e good =
         let joined = append_assoc (lock_in_table lock p).conversions (claim k mode ∷ []) (lock_in_table lock p).requests in
-        waits-now lock p k mode (Convert lock mode) (runs.Converts k mode) rest inv x hand (cond-true _ _ _ (same-self lock)) refl f.heard ((lock_in_table lock p).conversions ++ claim k mode ∷ []) (lock_in_table lock p).requests good
+        waits-now lock p k mode (Convert lock mode) (Converts mode) rest inv x hand (cond-true _ _ _ (same-self lock)) refl f.heard ((lock_in_table lock p).conversions ++ claim k mode ∷ []) (lock_in_table lock p).requests good
         (subst (λ (cs : List Claim). mode_of_node cs k ≡ Some mode) (sym joined) (among-here (lock_in_table lock p).conversions (lock_in_table lock p).requests (claim k mode) (subst OneEach joined good.0.waits_once)))
         (λ j ne. subst (λ (cs : List Claim). mode_of_node cs j ≡ mode_of_node ((lock_in_table lock p).conversions ++ (lock_in_table lock p).requests) j) (sym joined) (among-away (lock_in_table lock p).conversions (lock_in_table lock p).requests (claim k mode) j ne))
 master-keeps {lossy} lock p _ (calls.Lowered k mode value rest x hand above) inv =
     let l : LockState = lock_in_table lock p in
     let f = finds-lower lock p k mode value rest inv x hand in
-    let u : LockState = lowered l k mode value in
+    let u : LockState = lowered l k mode (kept_value p value) in
     let post : Post = with_left p.post k p.master rest in
-    wrote lock p u post inv (kept lock p (runs.Lowers k mode value) inv (above, f.idle)) (λ j y. elim (cases_eq j k) [
-      | inl e ↦ subst (λ (i : ℕ). Stage lossy (seen lock p u post i)) (sym e)
-          (sees _ (seen lock p u post k) refl refl (sym (now-here l.held k mode inv.sound.held_once)) refl refl
-          (sym (grants-same lock p k (Down lock mode value) (runs.Lowers k mode value) rest hand (cond-true _ _ _ (same-self lock)) refl k)) f.stage)
-      | inr ne ↦ sees (sight lock p j) (seen lock p u post j) refl refl (sym (now-away l.held k mode j ne)) refl
-          (sym (calls-same lock p k (Down lock mode value) (runs.Lowers k mode value) rest hand (cond-true _ _ _ (same-self lock)) refl j ne))
-          (sym (grants-same lock p k (Down lock mode value) (runs.Lowers k mode value) rest hand (cond-true _ _ _ (same-self lock)) refl j)) (inv.stages j y)
+    wrote lock p u post inv (kept lock p (runs.Lowers k mode (kept_value p value)) inv (above, f.idle))
+    (λ r j y. now-away l.held k mode j (far-from j k x y) ∙ (inv.under r).far j y) (λ j y. elim (cases_eq j k) [
+      | inl e ↦ subst (λ (i : ℕ). Kept lossy p (sight lock p i) (seen lock p u post i)) (sym e)
+          (kept-as p (sight lock p k) _ (seen lock p u post k) (refl, refl, refl) refl refl (sym (now-here l.held k mode inv.sound.held_once)) refl refl
+          (sym (grants-same lock p k (Down lock mode value) (Lowers mode value) rest hand (cond-true _ _ _ (same-self lock)) refl k)) (f.stage, λ r. f.less))
+      | inr ne ↦ as-before p (sight lock p j) (seen lock p u post j) (refl, refl, refl) refl refl (sym (now-away l.held k mode j ne)) refl
+          (sym (calls-same lock p k (Down lock mode value) (Lowers mode value) rest hand (cond-true _ _ _ (same-self lock)) refl j ne))
+          (sym (grants-same lock p k (Down lock mode value) (Lowers mode value) rest hand (cond-true _ _ _ (same-self lock)) refl j)) (inv.stages j y)
     ])
 master-keeps {lossy} lock p _ (calls.LoweredAlready k mode value rest x hand already) inv =
     let f = finds-lower lock p k mode value rest inv x hand in
-    let q : LockParts = record p { post = with_left p.post k p.master rest } in
-    record {
-      master = inv.master;
-      sound = inv.sound;
-      together = inv.together;
-      stages = λ j y. elim (cases_eq j k) [
-        | inl e ↦ subst (λ (i : ℕ). Stage lossy (sight lock q i)) (sym e)
-            (sees _ (sight lock q k) refl refl (sym already) refl refl
-            (sym (grants-same lock p k (Down lock mode value) (runs.Lowers k mode value) rest hand (cond-true _ _ _ (same-self lock)) refl k)) f.stage)
-        | inr ne ↦ sees (sight lock p j) (sight lock q j) refl refl refl refl
-            (sym (calls-same lock p k (Down lock mode value) (runs.Lowers k mode value) rest hand (cond-true _ _ _ (same-self lock)) refl j ne))
-            (sym (grants-same lock p k (Down lock mode value) (runs.Lowers k mode value) rest hand (cond-true _ _ _ (same-self lock)) refl j)) (inv.stages j y)
-      ];
-    }
-master-keeps {lossy} lock p _ calls.GrantsNext inv = by (is_blocked p.table)
+    let q : Parts = record p { post = with_left p.post k p.master rest } in
+    unchanged lock p p.holders p.taken (with_left p.post k p.master rest) inv (λ j y. elim (cases_eq j k) [
+      | inl e ↦ subst (λ (i : ℕ). Kept lossy p (sight lock p i) (sight lock q i)) (sym e)
+          (kept-as p (sight lock p k) _ (sight lock q k) (refl, refl, refl) refl refl (sym already) refl refl
+          (sym (grants-same lock p k (Down lock mode value) (Lowers mode value) rest hand (cond-true _ _ _ (same-self lock)) refl k)) (f.stage, λ r. f.less))
+      | inr ne ↦ as-before p (sight lock p j) (sight lock q j) (refl, refl, refl) refl refl refl refl
+          (sym (calls-same lock p k (Down lock mode value) (Lowers mode value) rest hand (cond-true _ _ _ (same-self lock)) refl j ne))
+          (sym (grants-same lock p k (Down lock mode value) (Lowers mode value) rest hand (cond-true _ _ _ (same-self lock)) refl j)) (inv.stages j y)
+    ])
+master-keeps {lossy} lock p _ (calls.Reported k mode value rest x hand r) inv =
+    let l : LockState = lock_in_table lock p in
+    let f = finds-report lock p k mode value rest inv x hand in
+    let u : LockState = reported l k mode in
+    let post : Post = with_left p.post k p.master rest in
+    wrote lock p u post inv (sound-now l k mode l.value (waits-not l k f.waits) inv.sound, reported-together lock p k mode inv x r f.before)
+    (λ r j y. now-away l.held k mode j (far-from j k x y) ∙ (inv.under r).far j y) (λ j y. elim (cases_eq j k) [
+      | inl e ↦ subst (λ (i : ℕ). Kept lossy p (sight lock p i) (seen lock p u post i)) (sym e)
+          (kept-as p (sight lock p k) _ (seen lock p u post k) (refl, refl, refl) refl refl (sym (now-here l.held k mode inv.sound.held_once)) refl refl
+          (sym (grants-same lock p k (Report lock mode value) (Reports mode) rest hand (cond-true _ _ _ (same-self lock)) refl k)) (f.stage, λ s. ap (is_at_least (stands (sight lock p k))) (f.after ∙ sym f.before) ∙ covers-itself (stands (sight lock p k))))
+      | inr ne ↦ as-before p (sight lock p j) (seen lock p u post j) (refl, refl, refl) refl refl (sym (now-away l.held k mode j ne)) refl
+          (sym (calls-same lock p k (Report lock mode value) (Reports mode) rest hand (cond-true _ _ _ (same-self lock)) refl j ne))
+          (sym (grants-same lock p k (Report lock mode value) (Reports mode) rest hand (cond-true _ _ _ (same-self lock)) refl j)) (inv.stages j y)
+    ])
+master-keeps {lossy} lock p _ (calls.Ended k rest x hand r) inv =
+    let q : Parts = record p { ended = with_node p.ended k; post = with_left p.post k p.master rest } in
+    let f = stages.hears-end (sight lock p k) _ (inv.stages k x) (call-first lock p k End Ends rest hand refl refl) in
+    ended-too lock p k (with_left p.post k p.master rest) inv (λ j y. elim (cases_eq j k) [
+      | inl e ↦ subst (λ (i : ℕ). Kept lossy p (sight lock p i) (sight lock q i)) (sym e)
+          (kept-as p (sight lock p k) _ (sight lock q k) (refl, refl, sym (with-node-here p.ended k)) refl refl refl refl refl
+          (sym (grants-same lock p k End Ends rest hand refl refl k)) (f.0, λ s. ap (is_at_least (stands (sight lock p k))) f.1 ∙ covers-itself (stands (sight lock p k))))
+      | inr ne ↦ as-before p (sight lock p j) (sight lock q j) (refl, refl, sym (with-node-away p.ended k j ne)) refl refl refl refl
+          (sym (calls-same lock p k End Ends rest hand refl refl j ne)) (sym (grants-same lock p k End Ends rest hand refl refl j)) (inv.stages j y)
+    ])
+master-keeps {lossy} lock p _ (calls.Completes r done) inv = record {
+  master = inv.master;
+  sound = inv.sound;
+  together = inv.together;
+  stages = λ k x. stages.closes (sight lock p k) (inv.stages k x) (all-ended p.members p.ended done k x) (false ≡ true);
+  under = λ never. true-false never refl;
+}
+master-keeps {lossy} lock p _ calls.GrantsNext inv = by (is_blocked p.table) refl
   where
-    by : (b : Bool) → Inv lossy lock (record p {
+    by : (b : Bool) → is_blocked p.table ≡ b → Inv lossy lock (record p {
       table = cond b p.table (after_turns p.table lock);
       post = fold (grant_letter p lock) p.post (cond b [] (grants_of (lock_in_table lock p)));
     })
-    by true = inv
-    by false = subst (λ (post : Post). Inv lossy lock (record p { table = after_turns p.table lock; post = post }))
-        (sym (granted-letters lock p (all_turns (lock_in_table lock p)).granted p.post)) (grants-next lock p inv)
-master-keeps {lossy} lock p _ (calls.Blocks rebuild waiting) inv = record { master = inv.master; sound = inv.sound; together = inv.together; stages = inv.stages }
+    by true e = inv
+    by false e = subst (λ (post : Post). Inv lossy lock (record p { table = after_turns p.table lock; post = post }))
+        (sym (granted-letters lock p (all_turns (lock_in_table lock p)).granted p.post)) (grants-next lock p inv (λ r. true-false (ap (λ (b : Bool). b || not (p.table.waiting == 0)) (inv.under r).rebuild) e))
+master-keeps {lossy} lock p _ (calls.Blocks rebuild waiting stays) inv = record {
+  master = inv.master;
+  sound = inv.sound;
+  together = inv.together;
+  stages = inv.stages;
+  under = λ r. record { rebuild = stays r; far = (inv.under r).far; apart = (inv.under r).apart };
+}
 master-keeps {lossy} lock p _ (calls.TableElsewhere other t ne) inv =
     let same : lock_of (with_state p.table other t) lock ≡ lock_in_table lock p = ap (λ (o : Option LockState). unwrap_or o free_lock) (at_lock-with_other p.table.table other lock t ne) in
     record {
       master = inv.master;
       sound = subst IsSound (sym same) inv.sound;
       together = subst (λ (u : LockState). Together u.held) (sym same) inv.together;
-      stages = λ j x. subst (λ (u : LockState). Stage lossy (seen lock p u p.post j)) (sym same) (inv.stages j x);
+      stages = λ j x. subst (λ (u : LockState). StageOf lossy p (seen lock p u p.post j)) (sym same) (inv.stages j x);
+      under = λ r. record {
+        rebuild = (inv.under r).rebuild;
+        far = λ j y. subst (λ (u : LockState). mode_at u.held j ≡ Nl) (sym same) ((inv.under r).far j y);
+        apart = λ i k x y ne. subst (λ (u : LockState). go_together (stands (seen lock p u p.post i)) (stands (seen lock p u p.post k)) ≡ true) (sym same) ((inv.under r).apart i k x y ne);
+      };
     }

@@ -10,9 +10,9 @@ use Rattle.dlm_modes.specs.declared.Mode.{Mode}
 use Rattle.dlm_modes.specs.declared.Mode.TheVariants.{Nl, Cr, Cw, Pr, Pw, Ex}
 use Rattle.dlm_modes.specs.declared.ValueBlock.{ValueBlock}
 use Rattle.dlm_modes.specs.Modes.{go_together, is_at_least}
-use Rattle.dlm_modes.proofs.ModeLaws.{together-turned, together-weaker}
+use Rattle.dlm_modes.proofs.ModeLaws.{covers-itself, together-turned, together-weaker}
 use Rattle.mail_queues.specs.declared.Message.{Message}
-use Rattle.mail_queues.specs.declared.Body.TheVariants.{Request, Convert, Down, Grant}
+use Rattle.mail_queues.specs.declared.Body.TheVariants.{Request, Convert, Down, Grant, Report, End}
 use Rattle.dlm_master.specs.declared.claims.Claim.{Claim}
 use Rattle.dlm_master.specs.declared.claims.Cause.{Cause}
 use Rattle.dlm_master.specs.Claims.{mode_of_node}
@@ -27,7 +27,7 @@ use Rattle.lock_steps.proofs.Basics.{true-false, same-self}
 use Rattle.lock_steps.proofs.Tying.{now-says, says-one}
 use Rattle.lock_steps.proofs.Ways.{letters-say, letters-away, mail-keeps}
 use Rattle.conversion_laws.specs.Parts.{Parts, now_says, grant_of, grants_coming, valued_grants, lock_in_table, table_mode}
-use Rattle.conversion_laws.specs.Calls.{NodeCall, MasterCall, Call, OfMail, OfNode, OfMaster, grant_letter, reply}
+use Rattle.conversion_laws.specs.Calls.{NodeCall, MasterCall, Call, OfMail, OfNode, OfMaster, kept_value, grant_letter, reply}
 use Rattle.conversion_laws.specs.Calls as calls
 use Rattle.conversion_laws.specs.Laws.{GrantsNothing, BringsValue}
 use Rattle.conversion_laws.proofs.Stages.{covered}
@@ -123,6 +123,12 @@ master-brings lock p _ k (calls.Lowered j mode value rest x hand above) =
     brings-more lock p _ (with_left p.post j p.master rest) _ k refl (left-over lock p j (Down lock mode value) rest k hand refl) (none-added lock p _ k _)
 master-brings lock p _ k (calls.LoweredAlready j mode value rest x hand already) =
     brings-more lock p _ (with_left p.post j p.master rest) _ k refl (left-over lock p j (Down lock mode value) rest k hand refl) (none-added lock p _ k _)
+master-brings lock p _ k (calls.Reported j mode value rest x hand r) =
+    brings-more lock p _ (with_left p.post j p.master rest) _ k refl (left-over lock p j (Report lock mode value) rest k hand refl) (none-added lock p _ k _)
+master-brings lock p _ k (calls.Ended j rest x hand r) =
+    brings-nothing lock p _ k (record { table = inl (covers-itself (table_mode lock p k)); gone = []; letters = left-over lock p j End rest k hand refl })
+master-brings lock p _ k (calls.Completes r done) =
+    brings-nothing lock p _ k (record { table = inl (covers-itself (table_mode lock p k)); gone = []; letters = refl })
 master-brings lock p _ k calls.GrantsNext = by (is_blocked p.table) (is_none (at_lock p.table.table lock))
   where
     by : (b c : Bool) → BringsValue lock p (record p {
@@ -132,7 +138,7 @@ master-brings lock p _ k calls.GrantsNext = by (is_blocked p.table) (is_none (at
     by true c = brings-more lock p _ p.post _ k refl refl (none-added lock p _ k _)
     by false true = brings-more lock p _ p.post _ k refl refl (letters-added lock p p.post (grants_of (lock_in_table lock p)) k _ (claims-bring _ (all_turns (lock_in_table lock p)).granted))
     by false false = brings-more lock p _ p.post _ k refl refl (letters-added lock p p.post (grants_of (lock_in_table lock p)) k _ (claims-bring _ (all_turns (lock_in_table lock p)).granted))
-master-brings lock p _ k (calls.Blocks rebuild waiting) = brings-more lock p _ p.post _ k refl refl (none-added lock p _ k _)
+master-brings lock p _ k (calls.Blocks rebuild waiting stays) = brings-more lock p _ p.post _ k refl refl (none-added lock p _ k _)
 master-brings lock p _ k (calls.TableElsewhere other t ne) = brings-more lock p _ p.post _ k refl refl (none-added lock p _ k _)
 
 pub brings-value : {lossy : Type 0} (lock : LockName) (p q : Parts) (k : ℕ) → Inv lossy lock p → Call lock p q → k ≤ 8 → BringsValue lock p q k
@@ -211,9 +217,9 @@ none-of-map f [] e = refl
 none-of-map {A} {B} f (x ∷ xs) e = absurd (let h : f x ∷ map f xs ≡ [] = e in cc)
 
 lowered-valued : {lossy : Type 0} (lock : LockName) (p : Parts) (j : ℕ) (mode : Mode) (value : Option (List ℕ)) (rest : List Message) → Inv lossy lock p → j ≤ 8
-    → p.post.took j p.master ≡ now_says p (Down lock mode value) ∷ rest → (given : Option (List ℕ)) (k : ℕ) → k ≤ 8 → AllValued (lock_in_table lock p).value (valued_grants lock p k)
+    → p.post.took j p.master ≡ now_says p (Down lock mode value) ∷ rest → (p.rebuilding ≡ true → ⊥) → (given : Option (List ℕ)) (k : ℕ) → k ≤ 8 → AllValued (lock_in_table lock p).value (valued_grants lock p k)
     → AllValued (value_after (mode_of_node (lock_in_table lock p).held j) given (lock_in_table lock p).value) (valued_grants lock p k)
-lowered-valued {lossy} lock p j mode value rest inv x hand given k y all = by (writes_value (mode_of_node l.held j)) refl
+lowered-valued {lossy} lock p j mode value rest inv x hand calm given k y all = by (writes_value (mode_of_node l.held j)) refl
   where
     l : LockState
     l = lock_in_table lock p
@@ -227,16 +233,18 @@ lowered-valued {lossy} lock p j mode value rest inv x hand given k y all = by (w
       | inl is ↦ subst (AllValued after) (sym (none-of-map (λ (g : Mode × ValueBlock). g.0) (valued_grants lock p k) (sym (modes-of lock p k)
           ∙ (ap (grants_coming lock p) is ∙ no-grant-behind lock p j mode value rest inv x hand)))) tt
       | inr ne ↦ beside-writer (table_mode lock p k) (table_mode lock p j) after (valued_grants lock p k)
-          (subst (λ (ms : List Mode). AllByRecursion (λ mode. is_at_least (table_mode lock p k) mode ≡ true) ms) (modes-of lock p k) (covered (sight lock p k) (inv.stages k y)).1)
+          (subst (λ (ms : List Mode). AllByRecursion (λ mode. is_at_least (table_mode lock p k) mode ≡ true) ms) (modes-of lock p k) (covered (sight lock p k) (inv.stages k y) (λ r. absurd (calm r))).1)
           (together-at l.held inv.together k j ne) (writes-strong (mode_of_node l.held j) e)
     ]
 
 -- ---- the calls
 
 node-leaves : (lock : LockName) (p q : Parts) → NodeCall lock p q → (lock_in_table lock q).value ≡ (lock_in_table lock p).value
-node-leaves lock p _ (calls.Asks j mode x null none) = refl
-node-leaves lock p _ (calls.Raises j mode x some covers none) = refl
-node-leaves lock p _ (calls.Lowers j mode value x known covers none) = refl
+node-leaves lock p _ (calls.Asks j mode x t null none) = refl
+node-leaves lock p _ (calls.Raises j mode x t some covers none) = refl
+node-leaves lock p _ (calls.Lowers j mode value x t known covers none) = refl
+node-leaves lock p _ (calls.LowersBefore j mode x not covers) = refl
+node-leaves lock p _ (calls.TakesView j h letters over x not says mute) = refl
 node-leaves lock p _ (calls.IsGranted j mode value rest x hand) = refl
 node-leaves lock p _ (calls.DropsGrant j mode value rest x hand) = refl
 node-leaves lock p _ (calls.Drops from to m rest x y hand quiet mute) = refl
@@ -264,17 +272,25 @@ valued-keeps {lossy} lock p _ inv (OfMaster _ (calls.Converted j mode rest x han
     valued-still lock p _ k (value-of _ _ (written p.table lock _) ∙ value-converted (convert_waits p.table j lock mode) (lock_in_table lock p) j mode)
     (master-brings lock p _ k (calls.Converted j mode rest x hand)) (all k y)
 valued-keeps {lossy} lock p _ inv (OfMaster _ (calls.Lowered j mode value rest x hand above)) all k y =
-    subst (λ (w : ValueBlock). AllValued w (brought lock p (with_left p.post j p.master rest) k)) (sym (value-of _ _ (written p.table lock (lowered (lock_in_table lock p) j mode value))))
-    (subst (AllValued (lowered (lock_in_table lock p) j mode value).value) (left-over lock p j (Down lock mode value) rest k hand refl)
-    (lowered-valued lock p j mode value rest inv x hand value k y (all k y)))
+    subst (λ (w : ValueBlock). AllValued w (brought lock p (with_left p.post j p.master rest) k)) (sym (value-of _ _ (written p.table lock (lowered (lock_in_table lock p) j mode (kept_value p value)))))
+    (subst (AllValued (lowered (lock_in_table lock p) j mode (kept_value p value)).value) (left-over lock p j (Down lock mode value) rest k hand refl)
+    (by p.rebuilding refl))
+  where
+    by : (b : Bool) → p.rebuilding ≡ b → AllValued (value_after (mode_of_node (lock_in_table lock p).held j) (cond b None value) (lock_in_table lock p).value) (valued_grants lock p k)
+    by true e = all k y
+    by false e = lowered-valued lock p j mode value rest inv x hand (λ r. true-false r e) value k y (all k y)
 valued-keeps {lossy} lock p _ inv (OfMaster _ (calls.LoweredAlready j mode value rest x hand already)) all k y =
     valued-still lock p _ k refl (master-brings lock p _ k (calls.LoweredAlready j mode value rest x hand already)) (all k y)
+valued-keeps {lossy} lock p _ inv (OfMaster _ (calls.Reported j mode value rest x hand r)) all k y =
+    valued-still lock p _ k (value-of _ _ (written p.table lock _)) (master-brings lock p _ k (calls.Reported j mode value rest x hand r)) (all k y)
+valued-keeps {lossy} lock p _ inv (OfMaster _ (calls.Ended j rest x hand r)) all k y = valued-still lock p _ k refl (master-brings lock p _ k (calls.Ended j rest x hand r)) (all k y)
+valued-keeps {lossy} lock p _ inv (OfMaster _ (calls.Completes r done)) all k y = valued-still lock p _ k refl (master-brings lock p _ k (calls.Completes r done)) (all k y)
 valued-keeps {lossy} lock p _ inv (OfMaster _ calls.GrantsNext) all k y = valued-still lock p _ k (by (is_blocked p.table)) (master-brings lock p _ k calls.GrantsNext) (all k y)
   where
     by : (b : Bool) → (lock_of (cond b p.table (after_turns p.table lock)) lock).value ≡ (lock_in_table lock p).value
     by true = refl
     by false = value-of _ _ (turned-lock p.table lock)
-valued-keeps {lossy} lock p _ inv (OfMaster _ (calls.Blocks rebuild waiting)) all k y = valued-still lock p _ k refl (master-brings lock p _ k (calls.Blocks rebuild waiting)) (all k y)
+valued-keeps {lossy} lock p _ inv (OfMaster _ (calls.Blocks rebuild waiting stays)) all k y = valued-still lock p _ k refl (master-brings lock p _ k (calls.Blocks rebuild waiting stays)) (all k y)
 valued-keeps {lossy} lock p _ inv (OfMaster _ (calls.TableElsewhere other t ne)) all k y =
     valued-still lock p _ k (ap (λ (o : Option LockState). (unwrap_or o free_lock).value) (at_lock-with_other p.table.table other lock t ne)) (master-brings lock p _ k (calls.TableElsewhere other t ne)) (all k y)
 

@@ -1,6 +1,6 @@
 -- That the calls can be made: a list after which the nodes 0 and 1 hold a lock in Pr, and node 0, its master, waits for Ex in a
 -- conversion; and one that goes on from there, in which node 1 lowers the lock and node 0 is granted it.
-use Rattle.std.specs.Prelude.{◌≡◌, false, [], Some, replicate}
+use Rattle.std.specs.Prelude.{◌≡◌, true, false, [], Some, replicate}
 use Rattle.glock_names.specs.declared.LockName.{LockName}
 use Rattle.dlm_modes.specs.declared.Mode.TheVariants.{Nl, Pr, Ex}
 use Rattle.dlm_holder.specs.Holdings.{mode_in}
@@ -16,7 +16,11 @@ abbrev pub all_new : LockParts
 all_new = record {
   master = 0;
   table = record { generation = 1; rebuild = false; waiting = 0; table = [] };
+  rebuilding = false;
+  members = 0;
+  ended = 0;
   holders = λ k. [];
+  taken = λ k. true;
   post = record { mail = replicate 81 (record { messages = []; room = 0 }); took = λ i k. []; sends = λ i k. [] };
 }
 

@@ -1,5 +1,5 @@
 -- The lock manager of one lock in one view: its master's table, what each node holds, and what is under way between them.
-use Rattle.std.specs.Prelude.{ℕ, List, [], ◌∷◌, ◌++◌, Option, None, Some, option_to_list, if◌then◌else◌}
+use Rattle.std.specs.Prelude.{ℕ, Bool, List, [], ◌∷◌, ◌++◌, Option, None, Some, option_to_list, if◌then◌else◌}
 use Rattle.std.specs.List.{filter_map}
 use Rattle.glock_names.specs.declared.LockName.{LockName}
 use Rattle.glock_names.specs.LockMaps.{same_lock}
@@ -12,32 +12,49 @@ use Rattle.dlm_holder.specs.Holdings.{Holdings, mode_in}
 use Rattle.dlm_master.specs.Claims.{mode_of_node, mode_at}
 use Rattle.dlm_master.specs.LockState.{LockState}
 use Rattle.dlm_master.specs.Tables.{MasterState, lock_of}
-use Rattle.dlm_master.specs.Runs.{Call, Requests, Converts, Lowers}
+use Rattle.dlm_rebuild.specs.Rebuilding.{RebuildState}
 use Rattle.lock_steps.specs.Parts.{Post, way}
 use Rattle.lock_steps.specs.Ties.{in_view, grants}
 
-pub record LockParts : Type 0 where
-  -- the node that is the lock's master, and its table
+pub record Parts : Type 0 where
+  -- the node that is the lock's master in the view, and its table: that of a rebuild, and then of the master that it became
   pub master : ℕ
   pub table : MasterState
-  -- what each node holds
+  -- whether it is a rebuild's; the members of the view, and those of them that have told all that they hold
+  pub rebuilding : Bool
+  pub members : ℕ
+  pub ended : ℕ
+  -- what each node holds, and whether it has taken the view
   pub holders : ℕ → Holdings
+  pub taken : ℕ → Bool
   pub post : Post
+
+-- the table while it is made anew
+abbrev pub rebuild_of : Parts → RebuildState
+rebuild_of p = record { members = p.members; ended = p.ended; master = p.table }
 
 -- the message of the view that says this
 abbrev pub now_says : LockParts → Body → Message
 now_says p body = record { generation = p.table.generation; body = body }
 
--- the call of the lock's master that a node's message makes, if it makes one
-abbrev pub call_of : LockName → ℕ → Body → Option Call
-call_of lock k (Request other mode) = if same_lock lock other then Some (Requests k mode) else None
-call_of lock k (Convert other mode) = if same_lock lock other then Some (Converts k mode) else None
-call_of lock k (Down other mode value) = if same_lock lock other then Some (Lowers k mode value) else None
-call_of lock k (Grant other mode value) = None
-call_of lock k (Callback other mode) = None
-call_of lock k (Report other mode value) = None
-call_of lock k End = None
-call_of lock k View = None
+-- what a node tells the lock's master, or asks of it: each makes a call there
+pub data Tell : Type 0 where
+  Reports : Mode → Tell
+  Ends : Tell
+  Lowers : Mode → Option (List ℕ) → Tell
+  Requests : Mode → Tell
+  Converts : Mode → Tell
+
+-- what a message tells of the lock, if it does
+abbrev pub tell_of : LockName → Body → Option Tell
+tell_of lock (Request other mode) = if same_lock lock other then Some (Requests mode) else None
+tell_of lock (Convert other mode) = if same_lock lock other then Some (Converts mode) else None
+tell_of lock (Down other mode value) = if same_lock lock other then Some (Lowers mode value) else None
+tell_of lock (Report other mode value) = if same_lock lock other then Some (Reports mode) else None
+tell_of lock End = Some Ends
+tell_of lock (Grant other mode value) = None
+tell_of lock (Callback other mode) = None
+tell_of lock View = None
 
 -- the grant of the lock that a message of its master makes, if it makes one: the mode, and the lock's value
 abbrev pub grant_of : LockName → Body → Option (Mode × ValueBlock)
@@ -50,9 +67,9 @@ grant_of lock (Report other mode value) = None
 grant_of lock End = None
 grant_of lock View = None
 
--- the calls that a node's messages will make, the first one first
-abbrev pub calls_coming : LockName → LockParts → ℕ → List Call
-calls_coming lock p k = filter_map (in_view p.table.generation (call_of lock k)) (way p.post k p.master)
+-- what is coming from a node, the first one first
+abbrev pub tells_coming : LockName → Parts → ℕ → List Tell
+tells_coming lock p k = filter_map (in_view p.table.generation (tell_of lock)) (way p.post k p.master)
 
 -- the modes that are granted to a node and on their way
 abbrev pub grants_coming : LockName → LockParts → ℕ → List Mode
@@ -73,16 +90,18 @@ table_mode lock p k = mode_at (lock_in_table lock p).held k
 abbrev pub waiting_mode : LockName → LockParts → ℕ → Option Mode
 waiting_mode lock p k = mode_of_node ((lock_in_table lock p).conversions ++ (lock_in_table lock p).requests) k
 
--- the modes that these calls ask for
-abbrev pub asked_in : List Call → List Mode
+-- the modes that these ask for
+abbrev pub asked_in : List Tell → List Mode
 asked_in [] = []
-asked_in (Requests k mode ∷ calls) = mode ∷ asked_in calls
-asked_in (Converts k mode ∷ calls) = mode ∷ asked_in calls
-asked_in (call ∷ calls) = asked_in calls
+asked_in (Requests mode ∷ tells) = mode ∷ asked_in tells
+asked_in (Converts mode ∷ tells) = mode ∷ asked_in tells
+asked_in (Reports mode ∷ tells) = asked_in tells
+asked_in (Ends ∷ tells) = asked_in tells
+asked_in (Lowers mode value ∷ tells) = asked_in tells
 
 -- the asks of a node: those that come to the master, that waits there, and that is granted and on its way
-abbrev pub asks_of : LockName → LockParts → ℕ → List Mode
-asks_of lock p k = asked_in (calls_coming lock p k) ++ option_to_list (waiting_mode lock p k) ++ grants_coming lock p k
+abbrev pub asks_of : LockName → Parts → ℕ → List Mode
+asks_of lock p k = asked_in (tells_coming lock p k) ++ option_to_list (waiting_mode lock p k) ++ grants_coming lock p k
 
 -- what a node holds, and what is granted to it and on its way
 abbrev pub held_or_coming : LockName → LockParts → ℕ → List Mode

@@ -38,10 +38,10 @@ without-here set k x = (takes-one set k k (small k x) (small k x)).0
 without-away : (set k i : ℕ) → k ≤ 8 → i ≤ 8 → (i ≡ k → ⊥) → has (without_node set k) i ≡ has set i
 without-away set k i x y ne = (takes-one set k i (small k x) (small i y)).1 ne
 
-with-node-here : (set k : ℕ) → has (with_node set k) k ≡ true
+pub with-node-here : (set k : ℕ) → has (with_node set k) k ≡ true
 with-node-here set k = (adds-one set k k).0
 
-with-node-away : (set k i : ℕ) → (i ≡ k → ⊥) → has (with_node set k) i ≡ has set i
+pub with-node-away : (set k i : ℕ) → (i ≡ k → ⊥) → has (with_node set k) i ≡ has set i
 with-node-away set k i ne = (adds-one set k i).1 ne
 
 -- ---- a new view
