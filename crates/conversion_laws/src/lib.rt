@@ -1,7 +1,7 @@
 //! One lock, its master, a holder for each node and the mail between them, with conversions in all six modes.
 #![tactic(auto)]
 
-ghost use Rattle.conversion_laws.specs.Example.{ListCanBeMade};
+ghost use Rattle.conversion_laws.specs.Example.{ListCanBeMade, RebuildCanBeMade};
 ghost use Rattle.conversion_laws.specs.Laws.{EveryListIsRight, NoAskIsLost, NoneWhileBlocked, GrantsBringTheValue, ViewsFollow, HoldersRiseByGrants, MessagesMeetCalls};
 
 /// A law: after every list of calls the table has of each node at least what it holds and is granted, and what nodes hold and are
@@ -47,4 +47,10 @@ pub fn messages_meet_calls()
 /// granted it when the other one lowers it.
 pub fn a_list_can_be_made()
     ensures { ListCanBeMade }
+{}
+
+/// A law: a table can be made anew with an ask that waits meanwhile: a member that holds a lock tells it and asks for another mode, which
+/// waits; the other member tells that it holds nothing; then the table is complete, and the ask is granted.
+pub fn a_rebuild_can_be_made()
+    ensures { RebuildCanBeMade }
 {}
