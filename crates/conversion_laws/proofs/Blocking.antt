@@ -30,7 +30,7 @@ use Rattle.lock_steps.specs.Ties.{in_view, grants}
 use Rattle.lock_steps.proofs.Basics.{same-self}
 use Rattle.lock_steps.proofs.Tying.{now-says, says-none}
 use Rattle.lock_steps.proofs.Ways.{letters-mute, left-says, left-mute, left-away, letters-quiet-from, mail-keeps}
-use Rattle.conversion_laws.specs.Parts.{Parts, now_says, Reports, grant_of, valued_grants, table_mode}
+use Rattle.conversion_laws.specs.Parts.{LockParts, now_says, Reports, grant_of, valued_grants, table_mode}
 use Rattle.conversion_laws.specs.Calls.{NodeCall, MasterCall, Call, OfMail, OfNode, OfMaster, kept_value, grant_letter, reply}
 use Rattle.conversion_laws.specs.Calls as calls
 use Rattle.conversion_laws.specs.Laws.{GrantsNothing, IsReported}
@@ -79,12 +79,12 @@ mute-all g lock (m ∷ ms) e = by (in_view g (grants lock) m) refl (mute-all g l
 -- ---- the mail and the nodes
 
 -- nothing of the table changes, and the grants on their way are the same
-pub same : (lock : LockName) (p : Parts) (holders : ℕ → Holdings) (post : Post) (k : ℕ)
+pub same : (lock : LockName) (p : LockParts) (holders : ℕ → Holdings) (post : Post) (k : ℕ)
     → filter_map (in_view p.table.generation (grant_of lock)) (way post p.master k) ≡ valued_grants lock p k → GrantsNothing lock p (record p { holders = holders; post = post }) k
 same lock p holders post k e = record { table = inl (covers-itself (table_mode lock p k)); gone = []; letters = sym e }
 
 -- a grant that was on its way to a node is taken or dropped
-less : (lock : LockName) (p : Parts) (holders : ℕ → Holdings) (j : ℕ) (brought : Mode × ValueBlock) (m : Message) (rest : List Message) (k : ℕ) → p.post.took p.master j ≡ m ∷ rest
+less : (lock : LockName) (p : LockParts) (holders : ℕ → Holdings) (j : ℕ) (brought : Mode × ValueBlock) (m : Message) (rest : List Message) (k : ℕ) → p.post.took p.master j ≡ m ∷ rest
     → in_view p.table.generation (grant_of lock) m ≡ Some brought → GrantsNothing lock p (record p { holders = holders; post = with_left p.post p.master j rest }) k
 less lock p holders j brought m rest k hand grant = elim (cases_eq k j) [
   | inl e ↦ subst (GrantsNothing lock p (record p { holders = holders; post = with_left p.post p.master j rest })) (sym e)
@@ -94,15 +94,15 @@ less lock p holders j brought m rest k hand grant = elim (cases_eq k j) [
 ]
 
 -- a node writes to the master
-wrote-to : (lock : LockName) (p : Parts) (j : ℕ) (h : Holdings) (b : Body) (k : ℕ) → grant_of lock b ≡ None → GrantsNothing lock p (calls.tells p j h b) k
+wrote-to : (lock : LockName) (p : LockParts) (j : ℕ) (h : Holdings) (b : Body) (k : ℕ) → grant_of lock b ≡ None → GrantsNothing lock p (calls.tells p j h b) k
 wrote-to lock p j h b k mute = same lock p _ (with_letters p.post j p.master (now_says p b ∷ [])) k
     (letters-mute (in_view p.table.generation (grant_of lock)) p.post j p.master (now_says p b ∷ []) p.master k
     (says-none (in_view p.table.generation (grant_of lock)) (now_says p b) (now-says (grant_of lock) p.table.generation b ∙ mute)))
 
-grant-says : (lock : LockName) (p : Parts) (mode : Mode) (value : ValueBlock) → in_view p.table.generation (grant_of lock) (now_says p (Grant lock mode value)) ≡ Some (mode, value)
+grant-says : (lock : LockName) (p : LockParts) (mode : Mode) (value : ValueBlock) → in_view p.table.generation (grant_of lock) (now_says p (Grant lock mode value)) ≡ Some (mode, value)
 grant-says lock p mode value = now-says (grant_of lock) p.table.generation (Grant lock mode value) ∙ cond-true _ _ _ (same-self lock)
 
-pub node-grants-nothing : (lock : LockName) (p q : Parts) (k : ℕ) → NodeCall lock p q → GrantsNothing lock p q k
+pub node-grants-nothing : (lock : LockName) (p q : LockParts) (k : ℕ) → NodeCall lock p q → GrantsNothing lock p q k
 node-grants-nothing lock p _ k (calls.Asks j mode x t null none) = wrote-to lock p j _ (Request lock mode) k refl
 node-grants-nothing lock p _ k (calls.Raises j mode x t some covers none) = wrote-to lock p j _ (Convert lock mode) k refl
 node-grants-nothing lock p _ k (calls.Lowers j mode value x t known covers none) = wrote-to lock p j _ (Down lock mode value) k refl
@@ -125,18 +125,18 @@ node-grants-nothing lock p _ k (calls.HoldsElsewhere j other holding ne) = same 
 -- ---- the master
 
 -- what a call of the master leaves of a node in the table
-less-held : {lossy : Type 0} (lock : LockName) (p : Parts) (t : MasterState) (call : runs.Call) (k : ℕ) → Inv lossy lock p → IsBlocked (run_of p.table lock) → runs.MayCall (run_of p.table lock) call
+less-held : {lossy : Type 0} (lock : LockName) (p : LockParts) (t : MasterState) (call : runs.Call) (k : ℕ) → Inv lossy lock p → IsBlocked (run_of p.table lock) → runs.MayCall (run_of p.table lock) call
     → run_of t lock ≡ runs.after (run_of p.table lock) call → is_at_least (table_mode lock p k) (table_mode lock (record p { table = t }) k) ≡ true
 less-held lock p t call k inv blocked may is =
     ap (λ (r : Run). is_at_least (table_mode lock p k) (mode_at r.lock.held k)) is ∙ none-while-blocked (run_of p.table lock) call k blocked may inv.sound.held_once
 
 -- a message that grants nothing was in hand
-pub left-over : (lock : LockName) (p : Parts) (j : ℕ) (b : Body) (rest : List Message) (k : ℕ) → p.post.took j p.master ≡ now_says p b ∷ rest → grant_of lock b ≡ None
+pub left-over : (lock : LockName) (p : LockParts) (j : ℕ) (b : Body) (rest : List Message) (k : ℕ) → p.post.took j p.master ≡ now_says p b ∷ rest → grant_of lock b ≡ None
     → valued_grants lock p k ≡ filter_map (in_view p.table.generation (grant_of lock)) (way (with_left p.post j p.master rest) p.master k)
 left-over lock p j b rest k hand mute = sym (left-mute (in_view p.table.generation (grant_of lock)) p.post j p.master (now_says p b) rest p.master k hand (now-says (grant_of lock) p.table.generation b ∙ mute))
 
 -- a report comes to the table
-reported-table : {lossy : Type 0} (lock : LockName) (p : Parts) (j : ℕ) (mode : Mode) (value : ValueBlock) (rest : List Message) (k : ℕ) → Inv lossy lock p
+reported-table : {lossy : Type 0} (lock : LockName) (p : LockParts) (j : ℕ) (mode : Mode) (value : ValueBlock) (rest : List Message) (k : ℕ) → Inv lossy lock p
     → p.post.took j p.master ≡ now_says p (Report lock mode value) ∷ rest
     → (is_at_least (table_mode lock p k) (table_mode lock (record p { table = after_report p.table j lock mode; post = with_left p.post j p.master rest }) k) ≡ true)
     ⊎ IsReported lock p (record p { table = after_report p.table j lock mode; post = with_left p.post j p.master rest }) k
@@ -153,10 +153,10 @@ reported-table {lossy} lock p j mode value rest k inv hand = elim (cases_eq k j)
     l : LockState
     l = (run_of p.table lock).lock
 
-    q : Parts
+    q : LockParts
     q = record p { table = after_report p.table j lock mode; post = with_left p.post j p.master rest }
 
-master-grants-nothing : {lossy : Type 0} (lock : LockName) (p q : Parts) (k : ℕ) → Inv lossy lock p → IsBlocked (run_of p.table lock) → MasterCall lock p q → GrantsNothing lock p q k
+master-grants-nothing : {lossy : Type 0} (lock : LockName) (p q : LockParts) (k : ℕ) → Inv lossy lock p → IsBlocked (run_of p.table lock) → MasterCall lock p q → GrantsNothing lock p q k
 master-grants-nothing {lossy} lock p _ k inv blocked (calls.Requested j mode rest x hand) =
     let l : LockState = (run_of p.table lock).lock in
     let c = blocked-cause p.table.rebuild p.table.waiting l.held l.conversions l.requests j mode blocked in
@@ -207,7 +207,7 @@ master-grants-nothing {lossy} lock p _ k inv blocked (calls.TableElsewhere other
   letters = refl;
 }
 
-pub grants-nothing : {lossy : Type 0} (lock : LockName) (p q : Parts) (k : ℕ) → Inv lossy lock p → IsBlocked (run_of p.table lock) → Call lock p q → k ≤ 8 → GrantsNothing lock p q k
+pub grants-nothing : {lossy : Type 0} (lock : LockName) (p q : LockParts) (k : ℕ) → Inv lossy lock p → IsBlocked (run_of p.table lock) → Call lock p q → k ≤ 8 → GrantsNothing lock p q k
 grants-nothing {lossy} lock p _ k inv blocked (OfMail post call) x =
     same lock p p.holders post k (ap (filter_map (in_view p.table.generation (grant_of lock))) (mail-keeps p.post post call p.master k inv.master x))
 grants-nothing {lossy} lock p q k inv blocked (OfNode _ call) x = node-grants-nothing lock p q k call

@@ -28,7 +28,7 @@ use Rattle.lock_steps.specs.Ties.{in_view, grants}
 use Rattle.lock_steps.proofs.Basics.{true-false, same-self, at-here, at-away}
 use Rattle.lock_steps.proofs.Ways.{left-says}
 use Rattle.lock_steps.proofs.Tying.{now-says, holding-is, holding-away}
-use Rattle.conversion_laws.specs.Parts.{Parts, now_says, Tell, tells_coming, grant_of, grants_coming, valued_grants, lock_in_table, table_mode, held_or_coming}
+use Rattle.conversion_laws.specs.Parts.{LockParts, now_says, Tell, tells_coming, grant_of, grants_coming, valued_grants, lock_in_table, table_mode, held_or_coming}
 use Rattle.conversion_laws.specs.Calls.{NodeCall, Call, OfMail, OfNode, OfMaster, Calls, NoCall, AndCall, CallDropsNone, DropNone}
 use Rattle.conversion_laws.specs.Calls as calls
 use Rattle.conversion_laws.specs.Laws.{BeginsNode, IsToTell, HasNothing, Begins, HasTold, AreRight, EveryListIsRight, NoAskIsLost, NoneWhileBlocked, GrantsBringTheValue, ViewsFollow, RisesByGrant, Rises, Keeps, HoldersRiseByGrants, MeetCalls, MessagesMeetCalls}
@@ -41,7 +41,7 @@ use Rattle.conversion_laws.proofs.Masters.{master-keeps, meets-request, meets-co
 -- ---- the invariant
 
 -- a node at the start
-starts-node : {lossy : Type 0} (lock : LockName) (p : Parts) → Begins lock p → (k : ℕ) → k ≤ 8 → BeginsNode lock p k
+starts-node : {lossy : Type 0} (lock : LockName) (p : LockParts) → Begins lock p → (k : ℕ) → k ≤ 8 → BeginsNode lock p k
     → StageOf lossy p (sight lock p k) × (stands (sight lock p k) ≡ mode_in (p.holders k) lock)
 starts-node {lossy} lock p b k x (IsToTell r member ended taken) = (
   Untaken r taken member ended (ap (λ (l : LockState). mode_at l.held k) b.table) (b.tells k x) (ap (λ (l : LockState). mode_of_node (l.conversions ++ l.requests) k) b.table) (b.grants k x),
@@ -55,7 +55,7 @@ starts-node {lossy} lock p b k x (HasNothing taken null none) =
           ∙ (ap (stands_by true (mode_in (p.holders k) lock) (table_mode lock p k)) (b.tells k x) ∙ (empty ∙ sym null)),
     )
 
-starts : {lossy : Type 0} (lock : LockName) (p : Parts) → Begins lock p → Inv lossy lock p
+starts : {lossy : Type 0} (lock : LockName) (p : LockParts) → Begins lock p → Inv lossy lock p
 starts {lossy} lock p b = record {
   master = b.master;
   sound = subst IsSound (sym b.table) sound-locks-stay-sound.free;
@@ -91,7 +91,7 @@ reaches : (lock : LockName) (p q : LockParts) → Calls lock p q → Begins lock
 reaches lock p q calls b = calls-keep lock p q calls (inl tt) (starts lock p b)
 
 -- the grants on their way bring the lock's value
-valued-after : (lock : LockName) (p q : Parts) → Calls lock p q → Begins lock p → Valued lock q
+valued-after : (lock : LockName) (p q : LockParts) → Calls lock p q → Begins lock p → Valued lock q
 valued-after lock p _ NoCall b = λ k x. subst (AllByRecursion (λ (g : Mode × ValueBlock). go_together g.0 Pw ≡ false → g.1 ≡ (lock_in_table lock p).value)) (sym (none-of-map (λ (g : Mode × ValueBlock). g.0) (valued_grants lock p k) (sym (modes-of lock p k) ∙ b.grants k x))) tt
 valued-after lock p _ (AndCall q r before call) b = valued-keeps lock q r (reaches lock p q before b) call (valued-after lock p q before b)
 
@@ -110,12 +110,12 @@ go-all t u (a ∷ ns) bs goes all more = (each bs more, go-all t u ns bs goes al
     )
 
 -- a node that has told all isn't to report
-told-all : (p : Parts) (k : ℕ) → HasTold p k → p.rebuilding ≡ true → has p.ended k ≡ true
+told-all : (p : LockParts) (k : ℕ) → HasTold p k → p.rebuilding ≡ true → has p.ended k ≡ true
 told-all p k (inl over) r = true-false r over
 told-all p k (inr ended) r = ended
 
 -- what two nodes stand for goes together
-stand-apart : {lossy : Type 0} (lock : LockName) (p : Parts) → Inv lossy lock p → (i k : ℕ) → i ≤ 8 → k ≤ 8 → i ≢ k → go_together (stands (sight lock p i)) (stands (sight lock p k)) ≡ true
+stand-apart : {lossy : Type 0} (lock : LockName) (p : LockParts) → Inv lossy lock p → (i k : ℕ) → i ≤ 8 → k ≤ 8 → i ≢ k → go_together (stands (sight lock p i)) (stands (sight lock p k)) ≡ true
 stand-apart {lossy} lock p inv i k x y ne = by p.rebuilding refl
   where
     listed : p.rebuilding ≡ false → (j : ℕ) → Stands lossy (p.rebuilding ≡ true) (sight lock p j) → stands (sight lock p j) ≡ table_mode lock p j
@@ -128,7 +128,7 @@ stand-apart {lossy} lock p inv i k x y ne = by p.rebuilding refl
     by false e = ap (λ (m : Mode). go_together m (stands (sight lock p k))) (listed e i (how-it-stands (sight lock p i) (inv.stages i x)))
         ∙ (ap (go_together (table_mode lock p i)) (listed e k (how-it-stands (sight lock p k) (inv.stages k y))) ∙ together-at (lock_in_table lock p).held inv.together i k ne)
 
-are-right : {lossy : Type 0} (lock : LockName) (p : Parts) → Inv lossy lock p → AreRight lock p
+are-right : {lossy : Type 0} (lock : LockName) (p : LockParts) → Inv lossy lock p → AreRight lock p
 are-right {lossy} lock p inv = record {
   sound = inv.sound;
   together = inv.together;
@@ -178,7 +178,7 @@ knows-it h lock mode e = by (at_lock h lock) refl
     by None f = absurd (let g : None ≡ Some mode = sym (ap (λ (o : Option Holding). (unwrap_or o nothing).wanted) f) ∙ e in cc)
     by (Some x) f = ap is_some f
 
-meet-calls : {lossy : Type 0} (lock : LockName) (p : Parts) → Inv lossy lock p → Valued lock p → MeetCalls lock p
+meet-calls : {lossy : Type 0} (lock : LockName) (p : LockParts) → Inv lossy lock p → Valued lock p → MeetCalls lock p
 meet-calls {lossy} lock p inv valued = record {
   requests = λ k mode rest x hand. meets-request lock p k mode rest inv x hand;
   conversions = λ k mode rest x hand. meets-conversion lock p k mode rest inv x hand;
@@ -221,7 +221,7 @@ keeps-at lock p q j h k is low = Keeps (ap (λ (f : ℕ → Holdings). is_at_lea
 same-mode : (lock : LockName) (h : Holdings) (x : Holding) → x.mode ≡ mode_in h lock → is_at_least (mode_in h lock) (mode_in (with_lock h lock x) lock) ≡ true
 same-mode lock h x e = ap (λ (y : Holding). is_at_least (mode_in h lock) y.mode) (holding-is h lock x) ∙ (ap (is_at_least (mode_in h lock)) e ∙ covers-itself (mode_in h lock))
 
-node-rises : (lock : LockName) (p q : Parts) (k : ℕ) → NodeCall lock p q → RisesByGrant lock p q k
+node-rises : (lock : LockName) (p q : LockParts) (k : ℕ) → NodeCall lock p q → RisesByGrant lock p q k
 node-rises lock p q k (calls.Asks j mode x t null none) = keeps-at lock p q j (asked_for (p.holders j) lock mode) k refl (same-mode lock (p.holders j) (record (holding_of (p.holders j) lock) { wanted = Some mode }) refl)
 node-rises lock p q k (calls.Raises j mode x t some covers none) = keeps-at lock p q j (asked_for (p.holders j) lock mode) k refl (same-mode lock (p.holders j) (record (holding_of (p.holders j) lock) { wanted = Some mode }) refl)
 node-rises lock p q k (calls.Lowers j mode value x t known covers none) = keeps-at lock p q j (lowered_to (p.holders j) lock mode) k refl

@@ -40,7 +40,7 @@ use Rattle.lock_steps.proofs.Tying.{now-says, says-one, says-none}
 use Rattle.lock_steps.proofs.Ways.{letters-say, letters-mute, letters-away, left-says, left-mute, left-away}
 use Rattle.lock_steps.proofs.Claims.{now-here, now-away, among-here, among-away}
 use Rattle.dlm_master.proofs.RunTables.{written}
-use Rattle.conversion_laws.specs.Parts.{Parts, now_says, Tell, Reports, Ends, Lowers, Requests, Converts, tell_of, tells_coming, grants_coming, lock_in_table, table_mode}
+use Rattle.conversion_laws.specs.Parts.{LockParts, now_says, Tell, Reports, Ends, Lowers, Requests, Converts, tell_of, tells_coming, grants_coming, lock_in_table, table_mode}
 use Rattle.conversion_laws.specs.Calls.{MasterCall, kept_value, grant_letter, reply}
 use Rattle.conversion_laws.specs.Calls as calls
 use Rattle.conversion_laws.proofs.Stages.{Sight, IsHeard, IsRead, sees, stands}
@@ -57,7 +57,7 @@ seen lock p l post j = record (sight lock p j) {
   granted = filter_map (in_view p.table.generation (grants lock)) (way post p.master j);
 }
 
-wrote : {lossy : Type 0} (lock : LockName) (p : Parts) (l : LockState) (post : Post) → Inv lossy lock p → IsSound l × Together l.held
+wrote : {lossy : Type 0} (lock : LockName) (p : LockParts) (l : LockState) (post : Post) → Inv lossy lock p → IsSound l × Together l.held
     → (p.rebuilding ≡ true → (j : ℕ) → 8 < j → mode_at l.held j ≡ Nl) → ((j : ℕ) → j ≤ 8 → Kept lossy p (sight lock p j) (seen lock p l post j))
     → Inv lossy lock (record p { table = with_state p.table lock l; post = post })
 wrote {lossy} lock p l post inv good far kept =
@@ -123,7 +123,7 @@ above-or-same (Some had) mode covers = above-or-is had mode covers
 
 -- ---- a message in hand
 
-module _ (lock : LockName) (p : Parts) (k : ℕ) (b : Body) (c : Tell) (rest : List Message) (hand : p.post.took k p.master ≡ now_says p b ∷ rest)
+module _ (lock : LockName) (p : LockParts) (k : ℕ) (b : Body) (c : Tell) (rest : List Message) (hand : p.post.took k p.master ≡ now_says p b ∷ rest)
     (said : tell_of lock b ≡ Some c) (mute : grants lock b ≡ None) where
   abbrev pub left : Post
   left = with_left p.post k p.master rest
@@ -178,7 +178,7 @@ module _ (lock : LockName) (p : LockParts) (post : Post) (w : Claim) where
 
 -- ---- an ask that comes to the table
 
-module _ {lossy : Type 0} (lock : LockName) (p : Parts) (k : ℕ) (mode : Mode) (b : Body) (c : Tell) (rest : List Message) (inv : Inv lossy lock p) (within : k ≤ 8)
+module _ {lossy : Type 0} (lock : LockName) (p : LockParts) (k : ℕ) (mode : Mode) (b : Body) (c : Tell) (rest : List Message) (inv : Inv lossy lock p) (within : k ≤ 8)
     (hand : p.post.took k p.master ≡ now_says p b ∷ rest) (said : tell_of lock b ≡ Some c) (mute : grants lock b ≡ None)
     (heard : IsHeard (sight lock p k) mode (calls_left lock p k b c rest hand said mute)) where
   abbrev l : LockState
@@ -221,18 +221,18 @@ module _ {lossy : Type 0} (lock : LockName) (p : Parts) (k : ℕ) (mode : Mode) 
 
 -- ---- what the messages in hand find
 
-record Finds (lock : LockName) (p : Parts) (k : ℕ) (mode : Mode) (b : Body) (c : Tell) (a : runs.Call) (rest : List Message) (hand : p.post.took k p.master ≡ now_says p b ∷ rest)
+record Finds (lock : LockName) (p : LockParts) (k : ℕ) (mode : Mode) (b : Body) (c : Tell) (a : runs.Call) (rest : List Message) (hand : p.post.took k p.master ≡ now_says p b ∷ rest)
     (said : tell_of lock b ≡ Some c) (mute : grants lock b ≡ None) : Type 0 where
   heard : IsHeard (sight lock p k) mode (calls_left lock p k b c rest hand said mute)
   may : runs.MayCall (run_of p.table lock) a
 
-finds-request : {lossy : Type 0} (lock : LockName) (p : Parts) (k : ℕ) (mode : Mode) (rest : List Message) → Inv lossy lock p → k ≤ 8 → (hand : p.post.took k p.master ≡ now_says p (Request lock mode) ∷ rest)
+finds-request : {lossy : Type 0} (lock : LockName) (p : LockParts) (k : ℕ) (mode : Mode) (rest : List Message) → Inv lossy lock p → k ≤ 8 → (hand : p.post.took k p.master ≡ now_says p (Request lock mode) ∷ rest)
     → Finds lock p k mode (Request lock mode) (Requests mode) (runs.Requests k mode) rest hand (cond-true _ _ _ (same-self lock)) refl
 finds-request {lossy} lock p k mode rest inv x hand =
     let h = stages.hears-request (sight lock p k) mode _ (inv.stages k x) (call-first lock p k (Request lock mode) (Requests mode) rest hand (cond-true _ _ _ (same-self lock)) refl) in
     record { heard = h.0; may = (null-none (lock_in_table lock p).held k inv.sound.never_null h.1, waits-not (lock_in_table lock p) k h.0.waits) }
 
-finds-conversion : {lossy : Type 0} (lock : LockName) (p : Parts) (k : ℕ) (mode : Mode) (rest : List Message) → Inv lossy lock p → k ≤ 8 → (hand : p.post.took k p.master ≡ now_says p (Convert lock mode) ∷ rest)
+finds-conversion : {lossy : Type 0} (lock : LockName) (p : LockParts) (k : ℕ) (mode : Mode) (rest : List Message) → Inv lossy lock p → k ≤ 8 → (hand : p.post.took k p.master ≡ now_says p (Convert lock mode) ∷ rest)
     → Finds lock p k mode (Convert lock mode) (Converts mode) (runs.Converts k mode) rest hand (cond-true _ _ _ (same-self lock)) refl
 finds-conversion {lossy} lock p k mode rest inv x hand =
     let h = stages.hears-conversion (sight lock p k) mode _ (inv.stages k x) (call-first lock p k (Convert lock mode) (Converts mode) rest hand (cond-true _ _ _ (same-self lock)) refl) in
@@ -254,7 +254,7 @@ pub meets-conversion : {lossy : Type 0} (lock : LockName) (p : LockParts) (k : �
 meets-conversion {lossy} lock p k mode rest inv x hand = (finds-conversion lock p k mode rest inv x hand).may
 
 -- a lower
-record FindsLower (lossy : Type 0) (lock : LockName) (p : Parts) (k : ℕ) (mode : Mode) (q : List Tell) : Type 0 where
+record FindsLower (lossy : Type 0) (lock : LockName) (p : LockParts) (k : ℕ) (mode : Mode) (q : List Tell) : Type 0 where
   covers : is_at_least (table_mode lock p k) mode ≡ true
   idle : is_waiting (lock_in_table lock p) k ≡ false
   stage : StageOf lossy p (record (sight lock p k) { table = mode; coming = q })
@@ -276,18 +276,18 @@ meets-lower {lossy} lock p k mode value rest inv x hand =
     (above-or-same (mode_of_node (lock_in_table lock p).held k) mode f.covers, f.idle)
 
 -- no grant is behind it
-pub no-grant-behind : {lossy : Type 0} (lock : LockName) (p : Parts) (k : ℕ) (mode : Mode) (value : Option (List ℕ)) (rest : List Message) → Inv lossy lock p → k ≤ 8
+pub no-grant-behind : {lossy : Type 0} (lock : LockName) (p : LockParts) (k : ℕ) (mode : Mode) (value : Option (List ℕ)) (rest : List Message) → Inv lossy lock p → k ≤ 8
     → p.post.took k p.master ≡ now_says p (Down lock mode value) ∷ rest → grants_coming lock p k ≡ []
 no-grant-behind {lossy} lock p k mode value rest inv x hand = (finds-lower lock p k mode value rest inv x hand).granted
 
 -- a report
-finds-report : {lossy : Type 0} (lock : LockName) (p : Parts) (k : ℕ) (mode : Mode) (value : ValueBlock) (rest : List Message) → Inv lossy lock p → k ≤ 8
+finds-report : {lossy : Type 0} (lock : LockName) (p : LockParts) (k : ℕ) (mode : Mode) (value : ValueBlock) (rest : List Message) → Inv lossy lock p → k ≤ 8
     → p.post.took k p.master ≡ now_says p (Report lock mode value) ∷ rest
     → IsRead lossy (p.rebuilding ≡ true) (sight lock p k) mode (filter_map (in_view p.table.generation (tell_of lock)) (way (with_left p.post k p.master rest) k p.master))
 finds-report {lossy} lock p k mode value rest inv x hand =
     stages.hears-report (sight lock p k) mode _ (inv.stages k x) (call-first lock p k (Report lock mode value) (Reports mode) rest hand (cond-true _ _ _ (same-self lock)) refl)
 
-pub meets-report : {lossy : Type 0} (lock : LockName) (p : Parts) (k : ℕ) (mode : Mode) (value : ValueBlock) (rest : List Message) → Inv lossy lock p → k ≤ 8
+pub meets-report : {lossy : Type 0} (lock : LockName) (p : LockParts) (k : ℕ) (mode : Mode) (value : ValueBlock) (rest : List Message) → Inv lossy lock p → k ≤ 8
     → p.post.took k p.master ≡ now_says p (Report lock mode value) ∷ rest → (p.rebuilding ≡ true) × (is_waiting (lock_in_table lock p) k ≡ false)
 meets-report {lossy} lock p k mode value rest inv x hand = let h = finds-report lock p k mode value rest inv x hand in (h.under, waits-not (lock_in_table lock p) k h.waits)
 
@@ -295,7 +295,7 @@ null-goes : (mode : Mode) → go_together mode Nl ≡ true
 null-goes mode = together-turned Nl mode refl
 
 -- what a node reports goes with what the table has of each other
-module _ {lossy : Type 0} (lock : LockName) (p : Parts) (k : ℕ) (mode : Mode) (inv : Inv lossy lock p) (x : k ≤ 8) (r : p.rebuilding ≡ true) (is : stands (sight lock p k) ≡ mode) where
+module _ {lossy : Type 0} (lock : LockName) (p : LockParts) (k : ℕ) (mode : Mode) (inv : Inv lossy lock p) (x : k ≤ 8) (r : p.rebuilding ≡ true) (is : stands (sight lock p k) ≡ mode) where
   abbrev held : List Claim
   held = (lock_in_table lock p).held
 
@@ -377,7 +377,7 @@ given-node held (w ∷ ws) k mode all e = by (eqb_tells w.node k) (given-node he
     by (inr ne) rest = rest (rw ne.0 at e)
 
 -- the letters to all who are granted
-module _ (lock : LockName) (p : Parts) (j : ℕ) where
+module _ (lock : LockName) (p : LockParts) (j : ℕ) where
   letters-mute-all : (ws : List Claim) (post : Post) → filter_map (in_view p.table.generation (tell_of lock)) (way (fold (claim_letter p lock) post ws) j p.master)
       ≡ filter_map (in_view p.table.generation (tell_of lock)) (way post j p.master)
   letters-mute-all [] post = refl
@@ -400,7 +400,7 @@ module _ (lock : LockName) (p : Parts) (j : ℕ) where
           ∙ rw is.0 refl))
       by (inr ne) = ap (λ (ms : List Mode). ms ++ option_to_list (mode_of_node ws j)) (grant-away lock p post w j (λ e. ne.1 (sym e))) ∙ rw ne.0 refl
 
-module _ {lossy : Type 0} (lock : LockName) (p : Parts) (inv : Inv lossy lock p) (calm : p.rebuilding ≡ true → ⊥) where
+module _ {lossy : Type 0} (lock : LockName) (p : LockParts) (inv : Inv lossy lock p) (calm : p.rebuilding ≡ true → ⊥) where
   abbrev now : LockState
   now = lock_in_table lock p
 
@@ -469,7 +469,7 @@ far-from : (j k : ℕ) → k ≤ 8 → 8 < j → j ≡ k → ⊥
 far-from j k x y e = absurd (let f : k < j = omega (arith, x, y) in omega (arith, f, e))
 
 -- a node has told all
-ended-too : {lossy : Type 0} (lock : LockName) (p : Parts) (n : ℕ) (post : Post) → Inv lossy lock p
+ended-too : {lossy : Type 0} (lock : LockName) (p : LockParts) (n : ℕ) (post : Post) → Inv lossy lock p
     → ((k : ℕ) → k ≤ 8 → Kept lossy p (sight lock p k) (sight lock (record p { ended = with_node p.ended n; post = post }) k)) → Inv lossy lock (record p { ended = with_node p.ended n; post = post })
 ended-too {lossy} lock p n post inv kept = record {
   master = inv.master;
@@ -483,7 +483,7 @@ ended-too {lossy} lock p n post inv kept = record {
   };
 }
 
-pub master-keeps : {lossy : Type 0} (lock : LockName) (p q : Parts) → MasterCall lock p q → Inv lossy lock p → Inv lossy lock q
+pub master-keeps : {lossy : Type 0} (lock : LockName) (p q : LockParts) → MasterCall lock p q → Inv lossy lock p → Inv lossy lock q
 master-keeps {lossy} lock p _ (calls.Requested k mode rest x hand) inv = by (request_waits p.table k lock mode) refl (kept lock p (runs.Requests k mode) inv f.may)
   where
     f : Finds lock p k mode (Request lock mode) (Requests mode) (runs.Requests k mode) rest hand (cond-true _ _ _ (same-self lock)) refl
@@ -529,7 +529,7 @@ master-keeps {lossy} lock p _ (calls.Lowered k mode value rest x hand above) inv
     ])
 master-keeps {lossy} lock p _ (calls.LoweredAlready k mode value rest x hand already) inv =
     let f = finds-lower lock p k mode value rest inv x hand in
-    let q : Parts = record p { post = with_left p.post k p.master rest } in
+    let q : LockParts = record p { post = with_left p.post k p.master rest } in
     unchanged lock p p.holders p.taken (with_left p.post k p.master rest) inv (λ j y. elim (cases_eq j k) [
       | inl e ↦ subst (λ (i : ℕ). Kept lossy p (sight lock p i) (sight lock q i)) (sym e)
           (kept-as p (sight lock p k) _ (sight lock q k) (refl, refl, refl) refl refl (sym already) refl refl
@@ -553,7 +553,7 @@ master-keeps {lossy} lock p _ (calls.Reported k mode value rest x hand r) inv =
           (sym (grants-same lock p k (Report lock mode value) (Reports mode) rest hand (cond-true _ _ _ (same-self lock)) refl j)) (inv.stages j y)
     ])
 master-keeps {lossy} lock p _ (calls.Ended k rest x hand r) inv =
-    let q : Parts = record p { ended = with_node p.ended k; post = with_left p.post k p.master rest } in
+    let q : LockParts = record p { ended = with_node p.ended k; post = with_left p.post k p.master rest } in
     let f = stages.hears-end (sight lock p k) _ (inv.stages k x) (call-first lock p k End Ends rest hand refl refl) in
     ended-too lock p k (with_left p.post k p.master rest) inv (λ j y. elim (cases_eq j k) [
       | inl e ↦ subst (λ (i : ℕ). Kept lossy p (sight lock p i) (sight lock q i)) (sym e)

@@ -23,7 +23,7 @@ use Rattle.lock_steps.specs.Calls.{MailCall, AskOver, Dropped, NoAsk}
 use Rattle.lock_steps.proofs.Basics.{same-self, at-here, at-away, pairs}
 use Rattle.lock_steps.proofs.Tying.{now-says, says-one, says-none, holding-is, holding-away}
 use Rattle.lock_steps.proofs.Ways.{letters-say, letters-mute, letters-away, left-says, left-mute, left-away, letters-quiet-from, mail-keeps}
-use Rattle.conversion_laws.specs.Parts.{Parts, now_says, Tell, Reports, Ends, Lowers, Requests, Converts, tell_of, tells_coming, grants_coming, lock_in_table, table_mode}
+use Rattle.conversion_laws.specs.Parts.{LockParts, now_says, Tell, Reports, Ends, Lowers, Requests, Converts, tell_of, tells_coming, grants_coming, lock_in_table, table_mode}
 use Rattle.conversion_laws.specs.Calls.{SaysAll, TellsHeld, TellsNone, NodeCall, NodeDropsNone, tells}
 use Rattle.conversion_laws.specs.Calls as calls
 use Rattle.conversion_laws.proofs.Stages.{Sight, Stage, sees, stands_by, stands, stands-more, stands-held}
@@ -43,7 +43,7 @@ sight lock p k = record {
 }
 
 -- the table is made anew
-pub record UnderWay (lock : LockName) (p : Parts) : Type 0 where
+pub record UnderWay (lock : LockName) (p : LockParts) : Type 0 where
   pub rebuild : p.table.rebuild ≡ true
   -- it has nothing of others than the nodes 0 to 8
   pub far : (j : ℕ) → 8 < j → mode_at (lock_in_table lock p).held j ≡ Nl
@@ -51,10 +51,10 @@ pub record UnderWay (lock : LockName) (p : Parts) : Type 0 where
   pub apart : (i k : ℕ) → i ≤ 8 → k ≤ 8 → i ≢ k → go_together (stands (sight lock p i)) (stands (sight lock p k)) ≡ true
 
 -- only while the table is made anew may a node still be to report
-abbrev pub StageOf : Type 0 → Parts → Sight → Type 0
+abbrev pub StageOf : Type 0 → LockParts → Sight → Type 0
 StageOf lossy p s = Stage lossy (p.rebuilding ≡ true) s
 
-pub record Inv (lossy : Type 0) (lock : LockName) (p : Parts) : Type 0 where
+pub record Inv (lossy : Type 0) (lock : LockName) (p : LockParts) : Type 0 where
   pub master : p.master ≤ 8
   pub sound : IsSound (lock_in_table lock p)
   pub together : Together (lock_in_table lock p).held
@@ -62,14 +62,14 @@ pub record Inv (lossy : Type 0) (lock : LockName) (p : Parts) : Type 0 where
   pub under : p.rebuilding ≡ true → UnderWay lock p
 
 -- a node is at a stage, and stands for no more than it stood for, while the table is made anew
-abbrev pub Kept : Type 0 → Parts → Sight → Sight → Type 0
+abbrev pub Kept : Type 0 → LockParts → Sight → Sight → Type 0
 Kept lossy p a b = StageOf lossy p b × (p.rebuilding ≡ true → is_at_least (stands a) (stands b) ≡ true)
 
-pub as-same : (p : Parts) (a b : Sight) → stands b ≡ stands a → p.rebuilding ≡ true → is_at_least (stands a) (stands b) ≡ true
+pub as-same : (p : LockParts) (a b : Sight) → stands b ≡ stands a → p.rebuilding ≡ true → is_at_least (stands a) (stands b) ≡ true
 as-same p a b e under = ap (λ (t : Mode). is_at_least (stands a) t) e ∙ covers-itself (stands a)
 
 -- and so it does where what is seen of it is the same
-pub kept-as : {lossy : Type 0} (p : Parts) (a b c : Sight) → (b.taken ≡ c.taken) × (b.member ≡ c.member) × (b.ended ≡ c.ended) → b.wanted ≡ c.wanted → b.mode ≡ c.mode → b.table ≡ c.table → b.waits ≡ c.waits
+pub kept-as : {lossy : Type 0} (p : LockParts) (a b c : Sight) → (b.taken ≡ c.taken) × (b.member ≡ c.member) × (b.ended ≡ c.ended) → b.wanted ≡ c.wanted → b.mode ≡ c.mode → b.table ≡ c.table → b.waits ≡ c.waits
     → b.coming ≡ c.coming → b.granted ≡ c.granted → Kept lossy p a b → Kept lossy p a c
 kept-as {lossy} p a b c still wanted mode table waits coming granted kept = (
   sees b c still wanted mode table waits coming granted kept.0,
@@ -77,7 +77,7 @@ kept-as {lossy} p a b c still wanted mode table waits coming granted kept = (
 )
 
 -- what is seen of it is what was
-pub as-before : {lossy : Type 0} (p : Parts) (a b : Sight) → (a.taken ≡ b.taken) × (a.member ≡ b.member) × (a.ended ≡ b.ended) → a.wanted ≡ b.wanted → a.mode ≡ b.mode → a.table ≡ b.table → a.waits ≡ b.waits
+pub as-before : {lossy : Type 0} (p : LockParts) (a b : Sight) → (a.taken ≡ b.taken) × (a.member ≡ b.member) × (a.ended ≡ b.ended) → a.wanted ≡ b.wanted → a.mode ≡ b.mode → a.table ≡ b.table → a.waits ≡ b.waits
     → a.coming ≡ b.coming → a.granted ≡ b.granted → StageOf lossy p a → Kept lossy p a b
 as-before {lossy} p a b still wanted mode table waits coming granted stage = (
   sees a b still wanted mode table waits coming granted stage,
@@ -89,7 +89,7 @@ fades old new less i k x y goes =
     together-turned (new k) (new i) (together-weaker (new k) (old i) (new i) (together-turned (old i) (new k) (together-weaker (old i) (old k) (new k) goes (less k y))) (less i x))
 
 -- the table stays as it is
-pub unchanged : {lossy : Type 0} (lock : LockName) (p : Parts) (holders : ℕ → Holdings) (taken : ℕ → Bool) (post : Post) → Inv lossy lock p
+pub unchanged : {lossy : Type 0} (lock : LockName) (p : LockParts) (holders : ℕ → Holdings) (taken : ℕ → Bool) (post : Post) → Inv lossy lock p
     → ((k : ℕ) → k ≤ 8 → Kept lossy p (sight lock p k) (sight lock (record p { holders = holders; taken = taken; post = post }) k)) → Inv lossy lock (record p { holders = holders; taken = taken; post = post })
 unchanged {lossy} lock p holders taken post inv kept = record {
   master = inv.master;
@@ -105,7 +105,7 @@ unchanged {lossy} lock p holders taken post inv kept = record {
 
 -- ---- the mail
 
-pub mail-keeps-inv : {lossy : Type 0} (lock : LockName) (p : Parts) (post : Post) → MailCall p.post post → Inv lossy lock p → Inv lossy lock (record p { post = post })
+pub mail-keeps-inv : {lossy : Type 0} (lock : LockName) (p : LockParts) (post : Post) → MailCall p.post post → Inv lossy lock p → Inv lossy lock (record p { post = post })
 mail-keeps-inv {lossy} lock p post call inv = unchanged lock p p.holders p.taken post inv (λ k x.
     as-before p (sight lock p k) (sight lock (record p { post = post }) k) (refl, refl, refl) refl refl refl refl
     (ap (filter_map (in_view p.table.generation (tell_of lock))) (sym (mail-keeps p.post post call k p.master x inv.master)))
@@ -114,7 +114,7 @@ mail-keeps-inv {lossy} lock p post call inv = unchanged lock p p.holders p.taken
 
 -- ---- a node writes to the master
 
-module _ {lossy : Type 0} (lock : LockName) (p : Parts) (k : ℕ) (h : Holdings) (b : Body) (c : Tell) (inv : Inv lossy lock p) (taken : p.taken k ≡ true) (said : tell_of lock b ≡ Some c)
+module _ {lossy : Type 0} (lock : LockName) (p : LockParts) (k : ℕ) (h : Holdings) (b : Body) (c : Tell) (inv : Inv lossy lock p) (taken : p.taken k ≡ true) (said : tell_of lock b ≡ Some c)
     (other : (m : Mode) → c ≡ Reports m → ⊥) (mute : grants lock b ≡ None) where
   abbrev letters : List Message
   letters = now_says p b ∷ []
@@ -165,7 +165,7 @@ module _ {lossy : Type 0} (lock : LockName) (p : Parts) (k : ℕ) (h : Holdings)
 abbrev less : LockParts → ℕ → ℕ → List Message → LockParts
 less p from to rest = record p { post = with_left p.post from to rest }
 
-module _ (lock : LockName) (p : Parts) (from to : ℕ) (m : Message) (rest : List Message) (hand : p.post.took from to ≡ m ∷ rest)
+module _ (lock : LockName) (p : LockParts) (from to : ℕ) (m : Message) (rest : List Message) (hand : p.post.took from to ≡ m ∷ rest)
     (quiet : to ≡ p.master → in_view p.table.generation (tell_of lock) m ≡ None) where
   -- the calls that come are the same
   pub calls-left : (j : ℕ) → filter_map (in_view p.table.generation (tell_of lock)) (way (with_left p.post from to rest) j p.master) ≡ tells_coming lock p j
@@ -194,7 +194,7 @@ module _ (lock : LockName) (p : LockParts) (k : ℕ) (m : Message) (rest : List 
 
 -- ---- a node takes the view
 
-abbrev viewed : LockName → Parts → ℕ → Holdings → List Message → Parts
+abbrev viewed : LockName → LockParts → ℕ → Holdings → List Message → LockParts
 viewed lock p k h letters = record p { holders = at p.holders k h; taken = at p.taken k true; post = with_letters p.post k p.master letters }
 
 -- its ask is over, and it holds what it held
@@ -206,7 +206,7 @@ pub over-mode : (lock : LockName) (g h : Holdings) → AskOver lock g h → mode
 over-mode lock g _ Dropped = ap (λ (x : Holding). x.mode) (holding-is g lock (record (holding_of g lock) { wanted = None }))
 over-mode lock g _ (NoAsk none) = refl
 
-module _ {lossy : Type 0} (lock : LockName) (p : Parts) (k : ℕ) (h : Holdings) (letters : List Message) (over : AskOver lock (p.holders k) h) (not : p.taken k ≡ false)
+module _ {lossy : Type 0} (lock : LockName) (p : LockParts) (k : ℕ) (h : Holdings) (letters : List Message) (over : AskOver lock (p.holders k) h) (not : p.taken k ≡ false)
     (says : SaysAll lock p k letters) (mute : filter_map (in_view p.table.generation (grants lock)) letters ≡ []) (stage : StageOf lossy p (sight lock p k)) where
   abbrev said : List Tell
   said = filter_map (in_view p.table.generation (tell_of lock)) letters
@@ -250,7 +250,7 @@ module _ {lossy : Type 0} (lock : LockName) (p : Parts) (k : ℕ) (h : Holdings)
 
 -- ---- the calls
 
-pub node-keeps : {lossy : Type 0} (lock : LockName) (p q : Parts) (call : NodeCall lock p q) → lossy ⊎ NodeDropsNone lock p q call → Inv lossy lock p → Inv lossy lock q
+pub node-keeps : {lossy : Type 0} (lock : LockName) (p q : LockParts) (call : NodeCall lock p q) → lossy ⊎ NodeDropsNone lock p q call → Inv lossy lock p → Inv lossy lock q
 node-keeps {lossy} lock p _ (calls.Asks k mode x t null none) may inv =
     let h : Holdings = asked_for (p.holders k) lock mode in
     let now : holding_of h lock ≡ record (holding_of (p.holders k) lock) { wanted = Some mode } = holding-is (p.holders k) lock (record (holding_of (p.holders k) lock) { wanted = Some mode }) in
@@ -269,7 +269,7 @@ node-keeps {lossy} lock p _ (calls.Lowers k mode value x t known covers none) ma
 node-keeps {lossy} lock p _ (calls.LowersBefore k mode x not covers) may inv =
     let h : Holdings = lowered_to (p.holders k) lock mode in
     let now : holding_of h lock ≡ record (holding_of (p.holders k) lock) { mode = mode } = holding-is (p.holders k) lock (record (holding_of (p.holders k) lock) { mode = mode }) in
-    let q : Parts = record p { holders = at p.holders k h } in
+    let q : LockParts = record p { holders = at p.holders k h } in
     let held : mode_in (q.holders k) lock ≡ mode = ap (λ (h : Holdings). mode_in h lock) (at-here p.holders k h) ∙ ap (λ (x : Holding). x.mode) now in
     unchanged lock p (at p.holders k h) p.taken p.post inv (λ j y. elim (cases_eq j k) [
       | inl e ↦ subst (λ (i : ℕ). Kept lossy p (sight lock p i) (sight lock q i)) (sym e) (
@@ -293,7 +293,7 @@ node-keeps {lossy} lock p _ (calls.IsGranted k mode value rest x hand) may inv =
     let grant : in_view p.table.generation (grants lock) m ≡ Some mode = now-says (grants lock) p.table.generation (Grant lock mode value) ∙ cond-true _ _ _ (same-self lock) in
     let h : Holdings = granted_to (p.holders k) lock mode value in
     let now : holding_of h lock ≡ record { mode = mode; wanted = None; value = value } = holding-is (p.holders k) lock (record { mode = mode; wanted = None; value = value }) in
-    let q : Parts = record p { holders = at p.holders k h; post = with_left p.post p.master k rest } in
+    let q : LockParts = record p { holders = at p.holders k h; post = with_left p.post p.master k rest } in
     let quiet : (from : ℕ) → in_view p.table.generation (tell_of lock) m ≡ None = λ from. now-says (tell_of lock) p.table.generation (Grant lock mode value) in
     let first = grant-first lock p k m rest mode hand grant in
     unchanged lock p (at p.holders k h) p.taken (with_left p.post p.master k rest) inv (λ j y. elim (cases_eq j k) [

@@ -26,7 +26,7 @@ use Rattle.lock_steps.specs.Ties.{in_view, grants}
 use Rattle.lock_steps.proofs.Basics.{true-false, same-self}
 use Rattle.lock_steps.proofs.Tying.{now-says, says-one}
 use Rattle.lock_steps.proofs.Ways.{letters-say, letters-away, mail-keeps}
-use Rattle.conversion_laws.specs.Parts.{Parts, now_says, grant_of, grants_coming, valued_grants, lock_in_table, table_mode}
+use Rattle.conversion_laws.specs.Parts.{LockParts, now_says, grant_of, grants_coming, valued_grants, lock_in_table, table_mode}
 use Rattle.conversion_laws.specs.Calls.{NodeCall, MasterCall, Call, OfMail, OfNode, OfMaster, kept_value, grant_letter, reply}
 use Rattle.conversion_laws.specs.Calls as calls
 use Rattle.conversion_laws.specs.Laws.{GrantsNothing, BringsValue}
@@ -38,22 +38,22 @@ use Rattle.conversion_laws.proofs.Blocking.{mode-is, same, node-grants-nothing, 
 -- ---- letters that grant
 
 -- the grants of the lock that come from its master, by this mail
-abbrev brought : LockName → Parts → Post → ℕ → List (Mode × ValueBlock)
+abbrev brought : LockName → LockParts → Post → ℕ → List (Mode × ValueBlock)
 brought lock p post k = filter_map (in_view p.table.generation (grant_of lock)) (way post p.master k)
 
 abbrev AllBring : ValueBlock → List (Mode × ValueBlock) → Type 0
 AllBring value gs = AllByRecursion (λ (g : Mode × ValueBlock). g.1 ≡ value) gs
 
 -- letters that bring this value were added
-record Added (lock : LockName) (p : Parts) (before after : Post) (k : ℕ) (value : ValueBlock) : Type 0 where
+record Added (lock : LockName) (p : LockParts) (before after : Post) (k : ℕ) (value : ValueBlock) : Type 0 where
   fresh : List (Mode × ValueBlock)
   more : brought lock p after k ≡ brought lock p before k ++ fresh
   all : AllBring value fresh
 
-none-added : (lock : LockName) (p : Parts) (post : Post) (k : ℕ) (value : ValueBlock) → Added lock p post post k value
+none-added : (lock : LockName) (p : LockParts) (post : Post) (k : ℕ) (value : ValueBlock) → Added lock p post post k value
 none-added lock p post k value = record { fresh = []; more = sym (append-nil _); all = tt }
 
-letter-added : (lock : LockName) (p : Parts) (post : Post) (grant : ℕ × Mode × ValueBlock) (k : ℕ) (value : ValueBlock) → grant.2 ≡ value → Added lock p post (grant_letter p lock post grant) k value
+letter-added : (lock : LockName) (p : LockParts) (post : Post) (grant : ℕ × Mode × ValueBlock) (k : ℕ) (value : ValueBlock) → grant.2 ≡ value → Added lock p post (grant_letter p lock post grant) k value
 letter-added lock p post grant k value brings = elim (cases_eq k grant.0) [
   | inl e ↦ subst (λ (i : ℕ). Added lock p post (grant_letter p lock post grant) i value) (sym e) (record {
     fresh = (grant.1, grant.2) ∷ [];
@@ -75,7 +75,7 @@ all-on : (value : ValueBlock) (xs ys : List (Mode × ValueBlock)) → AllBring v
 all-on value [] ys a b = b
 all-on value (x ∷ xs) ys a b = (a.0, all-on value xs ys a.1 b)
 
-letters-added : (lock : LockName) (p : Parts) (post : Post) (gs : List (ℕ × Mode × ValueBlock)) (k : ℕ) (value : ValueBlock) → AllByRecursion (λ (g : ℕ × Mode × ValueBlock). g.2 ≡ value) gs
+letters-added : (lock : LockName) (p : LockParts) (post : Post) (gs : List (ℕ × Mode × ValueBlock)) (k : ℕ) (value : ValueBlock) → AllByRecursion (λ (g : ℕ × Mode × ValueBlock). g.2 ≡ value) gs
     → Added lock p post (fold (grant_letter p lock) post gs) k value
 letters-added lock p post [] k value all = none-added lock p post k value
 letters-added lock p post (g ∷ gs) k value all =
@@ -94,11 +94,11 @@ claims-bring value (w ∷ ws) = (refl, claims-bring value ws)
 -- ---- a call
 
 -- a call that sets nothing on its way
-brings-nothing : (lock : LockName) (p q : Parts) (k : ℕ) → GrantsNothing lock p q k → BringsValue lock p q k
+brings-nothing : (lock : LockName) (p q : LockParts) (k : ℕ) → GrantsNothing lock p q k → BringsValue lock p q k
 brings-nothing lock p q k n = record { gone = n.gone; kept = valued_grants lock q k; fresh = []; before = n.letters; after = sym (append-nil _); value = tt }
 
 -- a call of the master, which had a message in hand or none
-brings-more : (lock : LockName) (p : Parts) (t : MasterState) (left post : Post) (k : ℕ) → t.generation ≡ p.table.generation → valued_grants lock p k ≡ brought lock p left k
+brings-more : (lock : LockName) (p : LockParts) (t : MasterState) (left post : Post) (k : ℕ) → t.generation ≡ p.table.generation → valued_grants lock p k ≡ brought lock p left k
     → Added lock p left post k (lock_in_table lock p).value → BringsValue lock p (record p { table = t; post = post }) k
 brings-more lock p t left post k view before a = record {
   gone = [];
@@ -109,12 +109,12 @@ brings-more lock p t left post k view before a = record {
   value = a.all;
 }
 
-reply-added : (lock : LockName) (p : Parts) (j : ℕ) (mode : Mode) (o : Option Cause) (left : Post) (k : ℕ)
+reply-added : (lock : LockName) (p : LockParts) (j : ℕ) (mode : Mode) (o : Option Cause) (left : Post) (k : ℕ)
     → Added lock p left (reply p lock j mode (answer_by o (lock_in_table lock p)) left) k (lock_in_table lock p).value
 reply-added lock p j mode None left k = letter-added lock p left (j, mode, (lock_in_table lock p).value) k (lock_in_table lock p).value refl
 reply-added lock p j mode (Some cause) left k = none-added lock p left k (lock_in_table lock p).value
 
-master-brings : (lock : LockName) (p q : Parts) (k : ℕ) → MasterCall lock p q → BringsValue lock p q k
+master-brings : (lock : LockName) (p q : LockParts) (k : ℕ) → MasterCall lock p q → BringsValue lock p q k
 master-brings lock p _ k (calls.Requested j mode rest x hand) =
     brings-more lock p _ (with_left p.post j p.master rest) _ k refl (left-over lock p j (Request lock mode) rest k hand refl) (reply-added lock p j mode (request_waits p.table j lock mode) (with_left p.post j p.master rest) k)
 master-brings lock p _ k (calls.Converted j mode rest x hand) =
@@ -141,7 +141,7 @@ master-brings lock p _ k calls.GrantsNext = by (is_blocked p.table) (is_none (at
 master-brings lock p _ k (calls.Blocks rebuild waiting stays) = brings-more lock p _ p.post _ k refl refl (none-added lock p _ k _)
 master-brings lock p _ k (calls.TableElsewhere other t ne) = brings-more lock p _ p.post _ k refl refl (none-added lock p _ k _)
 
-pub brings-value : {lossy : Type 0} (lock : LockName) (p q : Parts) (k : ℕ) → Inv lossy lock p → Call lock p q → k ≤ 8 → BringsValue lock p q k
+pub brings-value : {lossy : Type 0} (lock : LockName) (p q : LockParts) (k : ℕ) → Inv lossy lock p → Call lock p q → k ≤ 8 → BringsValue lock p q k
 brings-value {lossy} lock p _ k inv (OfMail post call) x =
     brings-nothing lock p _ k (same lock p p.holders post k (ap (filter_map (in_view p.table.generation (grant_of lock))) (mail-keeps p.post post call p.master k inv.master x)))
 brings-value {lossy} lock p q k inv (OfNode _ call) x = brings-nothing lock p q k (node-grants-nothing lock p q k call)
@@ -155,7 +155,7 @@ IsValued value g = go_together g.0 Pw ≡ false → g.1 ≡ value
 abbrev AllValued : ValueBlock → List (Mode × ValueBlock) → Type 0
 AllValued value gs = AllByRecursion (IsValued value) gs
 
-abbrev pub Valued : LockName → Parts → Type 0
+abbrev pub Valued : LockName → LockParts → Type 0
 Valued lock p = (k : ℕ) → k ≤ 8 → AllByRecursion (λ (g : Mode × ValueBlock). go_together g.0 Pw ≡ false → g.1 ≡ (lock_in_table lock p).value) (valued_grants lock p k)
 
 all-behind : (value : ValueBlock) (xs ys : List (Mode × ValueBlock)) → AllValued value (xs ++ ys) → AllValued value ys
@@ -168,7 +168,7 @@ all-with-fresh value [] (y ∷ ys) a b = ((λ goes. b.0), all-with-fresh value [
 all-with-fresh value (x ∷ xs) ys a b = (a.0, all-with-fresh value xs ys a.1 b)
 
 -- a call that leaves the value
-valued-still : (lock : LockName) (p q : Parts) (k : ℕ) → (lock_in_table lock q).value ≡ (lock_in_table lock p).value → BringsValue lock p q k
+valued-still : (lock : LockName) (p q : LockParts) (k : ℕ) → (lock_in_table lock q).value ≡ (lock_in_table lock p).value → BringsValue lock p q k
     → AllValued (lock_in_table lock p).value (valued_grants lock p k) → AllValued (lock_in_table lock q).value (valued_grants lock q k)
 valued-still lock p q k is b all =
     let v : ValueBlock = (lock_in_table lock p).value in
@@ -185,7 +185,7 @@ module _ {X A B : Type 0} (f : X → Option A) (h : X → Option B) (part : B �
       by None e rest = rw (e, each x ∙ ap (option_map part) e) rest
       by (Some b) e rest = rw (e, each x ∙ ap (option_map part) e) (ap (λ (l : List A). part b ∷ l) rest)
 
-pub modes-of : (lock : LockName) (p : Parts) (k : ℕ) → grants_coming lock p k ≡ map (λ (g : Mode × ValueBlock). g.0) (valued_grants lock p k)
+pub modes-of : (lock : LockName) (p : LockParts) (k : ℕ) → grants_coming lock p k ≡ map (λ (g : Mode × ValueBlock). g.0) (valued_grants lock p k)
 modes-of lock p k = parts-of (in_view p.table.generation (grants lock)) (in_view p.table.generation (grant_of lock)) (λ (g : Mode × ValueBlock). g.0) (mode-is p.table.generation lock) (way p.post p.master k)
 
 -- ---- a lower
@@ -216,7 +216,7 @@ pub none-of-map : {A B : Type 0} (f : A → B) (xs : List A) → map f xs ≡ []
 none-of-map f [] e = refl
 none-of-map {A} {B} f (x ∷ xs) e = absurd (let h : f x ∷ map f xs ≡ [] = e in cc)
 
-lowered-valued : {lossy : Type 0} (lock : LockName) (p : Parts) (j : ℕ) (mode : Mode) (value : Option (List ℕ)) (rest : List Message) → Inv lossy lock p → j ≤ 8
+lowered-valued : {lossy : Type 0} (lock : LockName) (p : LockParts) (j : ℕ) (mode : Mode) (value : Option (List ℕ)) (rest : List Message) → Inv lossy lock p → j ≤ 8
     → p.post.took j p.master ≡ now_says p (Down lock mode value) ∷ rest → (p.rebuilding ≡ true → ⊥) → (given : Option (List ℕ)) (k : ℕ) → k ≤ 8 → AllValued (lock_in_table lock p).value (valued_grants lock p k)
     → AllValued (value_after (mode_of_node (lock_in_table lock p).held j) given (lock_in_table lock p).value) (valued_grants lock p k)
 lowered-valued {lossy} lock p j mode value rest inv x hand calm given k y all = by (writes_value (mode_of_node l.held j)) refl
@@ -239,7 +239,7 @@ lowered-valued {lossy} lock p j mode value rest inv x hand calm given k y all = 
 
 -- ---- the calls
 
-node-leaves : (lock : LockName) (p q : Parts) → NodeCall lock p q → (lock_in_table lock q).value ≡ (lock_in_table lock p).value
+node-leaves : (lock : LockName) (p q : LockParts) → NodeCall lock p q → (lock_in_table lock q).value ≡ (lock_in_table lock p).value
 node-leaves lock p _ (calls.Asks j mode x t null none) = refl
 node-leaves lock p _ (calls.Raises j mode x t some covers none) = refl
 node-leaves lock p _ (calls.Lowers j mode value x t known covers none) = refl
@@ -262,7 +262,7 @@ value-converted (Some cause) l j mode = refl
 value-of : (a b : LockState) → a ≡ b → a.value ≡ b.value
 value-of a b e = ap (λ (l : LockState). l.value) e
 
-pub valued-keeps : {lossy : Type 0} (lock : LockName) (p q : Parts) → Inv lossy lock p → Call lock p q → Valued lock p → Valued lock q
+pub valued-keeps : {lossy : Type 0} (lock : LockName) (p q : LockParts) → Inv lossy lock p → Call lock p q → Valued lock p → Valued lock q
 valued-keeps {lossy} lock p _ inv (OfMail post call) all k y = valued-still lock p _ k refl (brings-value lock p _ k inv (OfMail post call) y) (all k y)
 valued-keeps {lossy} lock p q inv (OfNode _ call) all k y = valued-still lock p q k (node-leaves lock p q call) (brings-value lock p q k inv (OfNode q call) y) (all k y)
 valued-keeps {lossy} lock p _ inv (OfMaster _ (calls.Requested j mode rest x hand)) all k y =
@@ -295,6 +295,6 @@ valued-keeps {lossy} lock p _ inv (OfMaster _ (calls.TableElsewhere other t ne))
     valued-still lock p _ k (ap (λ (o : Option LockState). (unwrap_or o free_lock).value) (at_lock-with_other p.table.table other lock t ne)) (master-brings lock p _ k (calls.TableElsewhere other t ne)) (all k y)
 
 -- the first of them
-pub first-valued : (lock : LockName) (p : Parts) (k : ℕ) (g : Mode × ValueBlock) (gs : List (Mode × ValueBlock)) → Valued lock p → k ≤ 8 → valued_grants lock p k ≡ g ∷ gs
+pub first-valued : (lock : LockName) (p : LockParts) (k : ℕ) (g : Mode × ValueBlock) (gs : List (Mode × ValueBlock)) → Valued lock p → k ≤ 8 → valued_grants lock p k ≡ g ∷ gs
     → go_together g.0 Pw ≡ false → g.1 ≡ (lock_in_table lock p).value
 first-valued lock p k g gs all x e = (subst (AllValued (lock_in_table lock p).value) e (all k x)).0

@@ -22,7 +22,7 @@ use Rattle.lock_laws.specs.Lock.{at}
 use Rattle.lock_steps.specs.Parts.{Post, with_letters, with_left}
 use Rattle.lock_steps.specs.Ties.{in_view, grants}
 use Rattle.lock_steps.specs.Calls.{MailCall, AskOver}
-use Rattle.conversion_laws.specs.Parts.{Parts, rebuild_of, now_says, Reports, Ends, tell_of, lock_in_table, table_mode}
+use Rattle.conversion_laws.specs.Parts.{LockParts, rebuild_of, now_says, Reports, Ends, tell_of, lock_in_table, table_mode}
 
 -- ---- a node. Its asks and lowers have conditions on its own holder alone, and on whether it has taken the view; what is dropped and
 -- written besides makes no call at the master and is no grant of it
@@ -32,11 +32,11 @@ abbrev pub tells : LockParts → ℕ → Holdings → Body → LockParts
 tells p k h body = record p { holders = at p.holders k h; post = with_letters p.post k p.master (now_says p body ∷ []) }
 
 -- what a node tells the master when it takes a view: what it holds, where it holds any, and that this is all
-pub data SaysAll (lock : LockName) (p : Parts) (k : ℕ) (letters : List Message) : Type 0 where
+pub data SaysAll (lock : LockName) (p : LockParts) (k : ℕ) (letters : List Message) : Type 0 where
   TellsHeld : filter_map (in_view p.table.generation (tell_of lock)) letters ≡ Reports (mode_in (p.holders k) lock) ∷ Ends ∷ [] → SaysAll lock p k letters
   TellsNone : mode_in (p.holders k) lock ≡ Nl → filter_map (in_view p.table.generation (tell_of lock)) letters ≡ Ends ∷ [] → SaysAll lock p k letters
 
-pub data NodeCall (lock : LockName) (p : Parts) : Parts → Type 0 where
+pub data NodeCall (lock : LockName) (p : LockParts) : LockParts → Type 0 where
   -- `Holder::asked`: a node that holds nothing of the lock, and has no other ask for it, requests it
   Asks : (k : ℕ) (mode : Mode) → k ≤ 8 → p.taken k ≡ true → mode_in (p.holders k) lock ≡ Nl → wanted_in (p.holders k) lock ≡ None
       → NodeCall lock p (tells p k (asked_for (p.holders k) lock mode) (Request lock mode))
@@ -86,11 +86,11 @@ reply p lock k mode (Granted value) post = grant_letter p lock post (k, mode, va
 reply p lock k mode (Waiting cause) post = post
 
 -- of the value that the message of a lower gives a master keeps all, and a rebuild nothing
-abbrev pub kept_value : Parts → Option (List ℕ) → Option (List ℕ)
+abbrev pub kept_value : LockParts → Option (List ℕ) → Option (List ℕ)
 kept_value p said = if p.rebuilding then None else said
 
 -- on a message in hand. That it meets what the call requires is a law: `MeetCalls`
-pub data MasterCall (lock : LockName) (p : Parts) : Parts → Type 0 where
+pub data MasterCall (lock : LockName) (p : LockParts) : LockParts → Type 0 where
   -- `Master::request`, `Rebuild::request`
   Requested : (k : ℕ) (mode : Mode) (rest : List Message) → k ≤ 8 → p.post.took k p.master ≡ now_says p (Request lock mode) ∷ rest
       → MasterCall lock p (record p {

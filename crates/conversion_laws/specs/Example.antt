@@ -35,7 +35,7 @@ ListCanBeMade = (q : LockParts) × (p : LockParts) × Begins a_lock all_new
 
 -- and, in a view whose table is made anew, one after which node 1, which held the lock in Pr, waits for Ex in a conversion at a table
 -- that isn't done; and one that goes on from there, in which both members have told all, and node 1 is granted it
-abbrev pub next_view : Parts
+abbrev pub next_view : LockParts
 next_view = record {
   master = 0;
   table = (begun 2 3).master;
@@ -48,6 +48,6 @@ next_view = record {
 }
 
 abbrev pub RebuildCanBeMade : Type 0
-RebuildCanBeMade = (q : Parts) × (p : Parts) × Begins a_lock next_view
+RebuildCanBeMade = (q : LockParts) × (p : LockParts) × Begins a_lock next_view
     × Calls a_lock next_view q × (q.rebuilding ≡ true) × (mode_of_node (lock_in_table a_lock q).conversions 1 ≡ Some Ex)
     × Calls a_lock q p × (p.rebuilding ≡ false) × (mode_in (p.holders 1) a_lock ≡ Ex)

@@ -16,18 +16,18 @@ use Rattle.dlm_master.specs.Locks.{free_lock}
 use Rattle.dlm_master.specs.Tables.{HoldsNone, IsIdle, IsCovered, IsAbove}
 use Rattle.dlm_rebuild.specs.Rebuilding.{begun}
 use Rattle.fencing.specs.NodeSets.{has}
-use Rattle.conversion_laws.specs.Parts.{Parts, rebuild_of, now_says, Reports, tells_coming, grants_coming, valued_grants, lock_in_table, table_mode, asks_of, held_or_coming}
+use Rattle.conversion_laws.specs.Parts.{LockParts, rebuild_of, now_says, Reports, tells_coming, grants_coming, valued_grants, lock_in_table, table_mode, asks_of, held_or_coming}
 use Rattle.conversion_laws.specs.Calls.{Call, Calls, DropNone}
 
 -- a node at the start: a member of a view whose table is made anew, which has nothing told yet; or one that holds nothing and asks for
 -- nothing, as each does in the first view
-pub data BeginsNode (lock : LockName) (p : Parts) (k : ℕ) : Type 0 where
+pub data BeginsNode (lock : LockName) (p : LockParts) (k : ℕ) : Type 0 where
   IsToTell : p.rebuilding ≡ true → has p.members k ≡ true → has p.ended k ≡ false → p.taken k ≡ false → BeginsNode lock p k
   HasNothing : p.taken k ≡ true → mode_in (p.holders k) lock ≡ Nl → wanted_in (p.holders k) lock ≡ None → BeginsNode lock p k
 
 -- the start of a view: nothing of the lock is in the table or under way, and what nodes hold goes together. So it is at the first view,
 -- and where another view follows (`ViewsFollow`)
-pub record Begins (lock : LockName) (p : Parts) : Type 0 where
+pub record Begins (lock : LockName) (p : LockParts) : Type 0 where
   pub master : p.master ≤ 8
   pub table : lock_in_table lock p ≡ free_lock
   pub rebuild : p.rebuilding ≡ true → p.table.rebuild ≡ true
@@ -39,10 +39,10 @@ pub record Begins (lock : LockName) (p : Parts) : Type 0 where
 -- ---- the table, and what nodes hold
 
 -- the table isn't made anew any more, or the node has ended
-abbrev pub HasTold : Parts → ℕ → Type 0
+abbrev pub HasTold : LockParts → ℕ → Type 0
 HasTold p k = (p.rebuilding ≡ false) ⊎ (has p.ended k ≡ true)
 
-pub record AreRight (lock : LockName) (p : Parts) : Type 0 where
+pub record AreRight (lock : LockName) (p : LockParts) : Type 0 where
   -- the table has nobody twice, and its modes go together
   pub sound : IsSound (lock_in_table lock p)
   pub together : Together (lock_in_table lock p).held
@@ -64,33 +64,33 @@ EveryListIsRight = (lock : LockName) (p q : LockParts) → Begins lock p → Cal
 -- where no grant is dropped the ask of a node that has taken the view is in progress: it comes to the master, waits there, also while the
 -- table is made anew, or is granted and on its way
 abbrev pub NoAskIsLost : Type 0
-NoAskIsLost = (lock : LockName) (p q : Parts) (calls : Calls lock p q) → Begins lock p → DropNone lock p q calls
+NoAskIsLost = (lock : LockName) (p q : LockParts) (calls : Calls lock p q) → Begins lock p → DropNone lock p q calls
     → (k : ℕ) → k ≤ 8 → q.taken k ≡ true → (mode : Mode) → wanted_in (q.holders k) lock ≡ Some mode → asks_of lock q k ≡ mode ∷ []
 
 -- ---- nobody is granted anything while the master is blocked
 
 -- the node's report comes to the table
-pub record IsReported (lock : LockName) (p q : Parts) (k : ℕ) : Type 0 where
+pub record IsReported (lock : LockName) (p q : LockParts) (k : ℕ) : Type 0 where
   pub mode : Mode
   pub first : tells_coming lock p k ≡ Reports mode ∷ tells_coming lock q k
   pub table : table_mode lock q k ≡ mode
 
 -- a call leaves the table no more of the node than it had, or than it reports; and it sets no grant on its way to the node: those that
 -- were are, all or all but the first ones
-pub record GrantsNothing (lock : LockName) (p q : Parts) (k : ℕ) : Type 0 where
+pub record GrantsNothing (lock : LockName) (p q : LockParts) (k : ℕ) : Type 0 where
   pub table : (is_at_least (table_mode lock p k) (table_mode lock q k) ≡ true) ⊎ IsReported lock p q k
   pub gone : List (Mode × ValueBlock)
   pub letters : valued_grants lock p k ≡ gone ++ valued_grants lock q k
 
 -- so does each call, after every list of calls, while a rebuild isn't done or a slot waits
 abbrev pub NoneWhileBlocked : Type 0
-NoneWhileBlocked = (lock : LockName) (a p q : Parts) (k : ℕ) → Begins lock a → Calls lock a p → IsBlocked (run_of p.table lock) → Call lock p q → k ≤ 8 → GrantsNothing lock p q k
+NoneWhileBlocked = (lock : LockName) (a p q : LockParts) (k : ℕ) → Begins lock a → Calls lock a p → IsBlocked (run_of p.table lock) → Call lock p q → k ≤ 8 → GrantsNothing lock p q k
 
 -- ---- a grant brings the lock's value
 
 -- the grants on their way to the node after a call: of those that were all, or all but the first ones; and those that the call sets on
 -- their way, each of which brings the value that the lock has at its master then, valid or not
-pub record BringsValue (lock : LockName) (p q : Parts) (k : ℕ) : Type 0 where
+pub record BringsValue (lock : LockName) (p q : LockParts) (k : ℕ) : Type 0 where
   pub gone : List (Mode × ValueBlock)
   pub kept : List (Mode × ValueBlock)
   pub fresh : List (Mode × ValueBlock)
@@ -100,13 +100,13 @@ pub record BringsValue (lock : LockName) (p q : Parts) (k : ℕ) : Type 0 where
 
 -- so does each call, after every list of calls
 abbrev pub GrantsBringTheValue : Type 0
-GrantsBringTheValue = (lock : LockName) (a p q : Parts) (k : ℕ) → Begins lock a → Calls lock a p → Call lock p q → k ≤ 8 → BringsValue lock p q k
+GrantsBringTheValue = (lock : LockName) (a p q : LockParts) (k : ℕ) → Begins lock a → Calls lock a p → Call lock p q → k ≤ 8 → BringsValue lock p q k
 
 -- ---- a view follows another
 
 -- the start of a view, behind these parts of the old one: each node holds what it held or less, as nothing in a new life; the table is a
 -- new rebuild's, and no member has taken the view; who is no member holds nothing
-pub record FollowsView (lock : LockName) (p q : Parts) : Type 0 where
+pub record FollowsView (lock : LockName) (p q : LockParts) : Type 0 where
   pub master : q.master ≤ 8
   pub rebuilding : q.rebuilding ≡ true
   pub anew : rebuild_of q ≡ begun q.table.generation q.members

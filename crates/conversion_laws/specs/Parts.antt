@@ -16,7 +16,7 @@ use Rattle.dlm_rebuild.specs.Rebuilding.{RebuildState}
 use Rattle.lock_steps.specs.Parts.{Post, way}
 use Rattle.lock_steps.specs.Ties.{in_view, grants}
 
-pub record Parts : Type 0 where
+pub record LockParts : Type 0 where
   -- the node that is the lock's master in the view, and its table: that of a rebuild, and then of the master that it became
   pub master : ℕ
   pub table : MasterState
@@ -30,7 +30,7 @@ pub record Parts : Type 0 where
   pub post : Post
 
 -- the table while it is made anew
-abbrev pub rebuild_of : Parts → RebuildState
+abbrev pub rebuild_of : LockParts → RebuildState
 rebuild_of p = record { members = p.members; ended = p.ended; master = p.table }
 
 -- the message of the view that says this
@@ -68,7 +68,7 @@ grant_of lock End = None
 grant_of lock View = None
 
 -- what is coming from a node, the first one first
-abbrev pub tells_coming : LockName → Parts → ℕ → List Tell
+abbrev pub tells_coming : LockName → LockParts → ℕ → List Tell
 tells_coming lock p k = filter_map (in_view p.table.generation (tell_of lock)) (way p.post k p.master)
 
 -- the modes that are granted to a node and on their way
@@ -76,7 +76,7 @@ abbrev pub grants_coming : LockName → LockParts → ℕ → List Mode
 grants_coming lock p k = filter_map (in_view p.table.generation (grants lock)) (way p.post p.master k)
 
 -- each with the value that it brings
-abbrev pub valued_grants : LockName → Parts → ℕ → List (Mode × ValueBlock)
+abbrev pub valued_grants : LockName → LockParts → ℕ → List (Mode × ValueBlock)
 valued_grants lock p k = filter_map (in_view p.table.generation (grant_of lock)) (way p.post p.master k)
 
 -- the lock in the table, and what the table has of a node
@@ -100,7 +100,7 @@ asked_in (Ends ∷ tells) = asked_in tells
 asked_in (Lowers mode value ∷ tells) = asked_in tells
 
 -- the asks of a node: those that come to the master, that waits there, and that is granted and on its way
-abbrev pub asks_of : LockName → Parts → ℕ → List Mode
+abbrev pub asks_of : LockName → LockParts → ℕ → List Mode
 asks_of lock p k = asked_in (tells_coming lock p k) ++ option_to_list (waiting_mode lock p k) ++ grants_coming lock p k
 
 -- what a node holds, and what is granted to it and on its way
