@@ -1,3 +1,4 @@
 pub mod LockMapLaws
 pub mod StateLaws
 pub mod StateOrders
+pub mod StepLaws

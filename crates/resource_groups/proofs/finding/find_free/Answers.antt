@@ -1,0 +1,12 @@
+use Rattle.std.proofs.Common.{◌∙◌, arith}
+use Rattle.resource_groups.proofs.Fits.{fit_of, end_below}
+use Rattle.resource_groups.proofs.FreePlaces.{in_group}
+use Rattle.resource_groups.proofs.Parts.{room_is}
+use Rattle.resource_groups.proofs.finding.find_free.Goals as goal
+
+pub find_in_part-requires-clause-within : goal.find_in_part-requires-clause-within
+find_in_part-requires-clause-within g c =
+    let v = g.V.View.seen c.args.view.now in
+    let fit = fit_of v c.args.group.now c.block_size-size.ensures.view c.requires in
+    in_group v.size c.args.group.now.count c.args.group.now.length c.loop-place.part c.loop-place.place fit.some (room_is v.size c.args.group.now.count c.args.group.now.length fit.some fit.bits)
+    (omega (arith, c.loop-place-test.true, c.from.ensures)) c.loop-place.invariant.stands

@@ -1,0 +1,4 @@
+pub mod Shown
+pub mod Finding
+pub mod Counting
+pub mod Putting

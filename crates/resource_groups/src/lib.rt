@@ -1,0 +1,11 @@
+//! The states of a resource group's data blocks, over views and drafts.
+#![tactic(auto)]
+
+mod bits;
+mod blocks;
+mod counting;
+mod finding;
+mod places;
+
+pub use counting::count_free;
+pub use finding::find_free;
