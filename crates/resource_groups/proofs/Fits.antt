@@ -8,7 +8,7 @@ use Rattle.gfs2_layout.specs.Device.{IsBlockSize}
 use Rattle.gfs2_layout.specs.Headers.{HasHeader}
 use Rattle.resource_groups.specs.Shown.{IsHeaderOf, IsShown, IsBroken, no_header, kind_of, format_of}
 
-fit_at : (size least : ℕ) (gs : List Group) (k : ℕ) (g : Group) → Rise size least gs → k < length gs → get_or gs k g ≡ g → IsFit size g
+pub fit_at : (size least : ℕ) (gs : List Group) (k : ℕ) (g : Group) → Rise size least gs → k < length gs → get_or gs k g ≡ g → IsFit size g
 fit_at size least [] k g rise low is = absurd (omega (arith, low))
 fit_at size least (h ∷ gs) zero g rise low is = subst (IsFit size) is rise.0
 fit_at size least (h ∷ gs) (suc k) g rise low is = fit_at size (end_of h) gs k g rise.2 (omega (arith, low)) is

@@ -1,13 +1,13 @@
 -- The least free place, block by block.
-use Rattle.std.proofs.Common.{refl, ◌≡◌, ◌≢◌, ℕ, zero, suc, ◌+◌, ◌-◌, ◌*◌, ◌<◌, ◌≤◌, List, length, min, sym, ap, ◌∙◌, subst, inl, inr, arith}
+use Rattle.std.proofs.Common.{◌≡◌, ℕ, zero, suc, ◌+◌, ◌-◌, ◌*◌, ◌<◌, ◌≤◌, List, length, min, sym, ap, ◌∙◌, subst, inl, inr, arith}
 use Rattle.std.proofs.lemmas.Bool.{cases_lt}
 use Rattle.gfs2_layout.specs.Bitmap.{state_at}
 use Rattle.gfs2_layout.specs.Groups.{bitmap_of}
-use Rattle.glock_names.specs.Views.{Seen, end_of}
+use Rattle.glock_names.specs.Views.{Seen}
 use Rattle.glock_names.specs.declared.steps.Missing.{Missing}
 use Rattle.glock_names.specs.declared.views.Group.{Group}
 use Rattle.resource_groups.specs.Finding.{NoneFrom, IsFirstFree, NoneIsFree, IsLeastFree, IsNeeded}
-use Rattle.resource_groups.specs.Shown.{IsShown, IsDataOf, IsMissing, HasBitsIn, blocks_of, bits_at, first_place}
+use Rattle.resource_groups.specs.Shown.{IsShown, IsMissing, HasBitsIn, blocks_of, bits_at, first_place}
 use Rattle.resource_groups.proofs.Parts.{state_by_block, length_bits, next_place}
 
 abbrev pub bits_of : (ℕ → List ℕ) → Group → List ℕ

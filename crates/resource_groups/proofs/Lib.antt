@@ -1,5 +1,9 @@
 pub mod Fits
+pub mod Apart
 pub mod Bytes
 pub mod Parts
 pub mod FreePlaces
 pub mod Counts
+pub mod Puts
+pub mod Miscounts
+pub mod Setting

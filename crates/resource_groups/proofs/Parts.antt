@@ -1,5 +1,5 @@
 -- The bits of a group, by the blocks in which they stand.
-use Rattle.std.proofs.Common.{refl, ◌≡◌, ◌≢◌, ℕ, zero, suc, ◌+◌, ◌-◌, ◌*◌, ◌/◌, ◌^◌, ◌<◌, ◌≤◌, List, [], ◌∷◌, ◌++◌, length, drop, take, map, get_or, set, sym, ap, ap₂, ◌∙◌, subst, Option, None, Some, Ok, arith, append-nil, append_assoc, take_all, length-drop}
+use Rattle.std.proofs.Common.{refl, ◌≡◌, ◌≢◌, ℕ, zero, suc, ◌+◌, ◌-◌, ◌*◌, ◌/◌, ◌^◌, ◌<◌, ◌≤◌, List, [], ◌∷◌, ◌++◌, length, drop, take, map, get_or, sym, ap, ap₂, ◌∙◌, Option, None, Some, Ok, arith, append_assoc, take_all, length-drop}
 use Rattle.std.specs.Prelude.{◌%◌, flat_map}
 use Rattle.std.specs.List.{range_with_len}
 use Rattle.std.proofs.lemmas.List.{length-append, get_or_append_left, get_or-append-add, map-append}
@@ -13,7 +13,7 @@ use Rattle.gfs2_layout.specs.declared.fault.LayoutFault.{LayoutFault}
 use Rattle.gfs2_layout.specs.declared.group_header.GroupHeader.{GroupHeader}
 use Rattle.glock_names.specs.Views.{Seen}
 use Rattle.glock_names.specs.declared.views.Group.{Group}
-use Rattle.resource_groups.specs.Shown.{IsShown, IsHeaderOf, blocks_of, first_place, bits_at}
+use Rattle.resource_groups.specs.Shown.{IsShown, blocks_of, first_place, bits_at}
 use Rattle.resource_groups.proofs.Fits.{header_block}
 
 -- all that is behind the first so many
@@ -127,7 +127,7 @@ room_is size count (suc len) some low = low
 
 places_apart : (bits rest : List ℕ) (n i : ℕ) → 4 * length bits ≡ n → state_at (bits ++ rest) (n + i) ≡ state_at rest i
 places_apart bits rest n i long =
-    ap₂ (λ j k. get_or (bits ++ rest) j 0 / 4 ^ k % 4) (quarter (length bits)  n i long) (left (length bits) n i long) ∙ ap (λ b. b / 4 ^ (i % 4) % 4) (get_or-append-add bits rest (i / 4) 0)
+    ap₂ (λ j k. get_or (bits ++ rest) j 0 / 4 ^ k % 4) (quarter (length bits) n i long) (left (length bits) n i long) ∙ ap (λ b. b / 4 ^ (i % 4) % 4) (get_or-append-add bits rest (i / 4) 0)
   where
     quarter : (l n i : ℕ) → 4 * l ≡ n → (n + i) / 4 ≡ l + i / 4
     quarter l n i long = omega (arith, long)

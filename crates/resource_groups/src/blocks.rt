@@ -73,6 +73,7 @@ pub(crate) fn bits_of<'a, V: View>(
     ensures bits { (at : ℕ → List ℕ) → IsShown (V.seen view.now) group.now at → IfIs result (λ bits. bits.now ≡ bits_at at group.now part) }
     ensures length { IfIs result (λ bits. first_place (V.seen view.now).size part + 4 * length bits.now ≡ first_place (V.seen view.now).size (part + 1)) }
     ensures most { IfIs result (λ bits. length bits.now ≤ 4096) }
+    ensures there { IfIs result (λ bits. HasBlock (V.seen view.now) (group.now.addr + part)) }
     ensures needed { IfNeedBlock result (IsMissing (V.seen view.now) group.now) }
     ensures which { IfNeedBlock result (λ missing. missing.block ≡ group.now.addr + part) }
     ensures damaged { (at : ℕ → List ℕ) → IsShown (V.seen view.now) group.now at → OnlyDamaged result (IsBroken at group.now) }
@@ -86,10 +87,7 @@ pub(crate) fn bits_of<'a, V: View>(
 }
 
 /// What the group's header says.
-pub(crate) fn header_of<V: View>(
-    view: &V,
-    group: &Group,
-) -> Result<Step<GroupHeader>, CallFault>
+pub(crate) fn header_of<V: View>(view: &V, group: &Group) -> Result<Step<GroupHeader>, CallFault>
     requires { HasGroup (V.seen view.now) group.now }
     ensures header { (at : ℕ → List ℕ) → IsShown (V.seen view.now) group.now at → IfIs result (λ header. header ≡ group_header (blocks_of at group.now)) }
     ensures needed { IfNeedBlock result (IsMissing (V.seen view.now) group.now) }

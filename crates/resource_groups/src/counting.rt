@@ -12,11 +12,7 @@ use crate::places::first_place;
 use glock_names::{CallFault, Group, Step, View};
 
 // How many blocks are free of those whose bits stand in block `part` of a group.
-fn count_in_part<V: View>(
-    view: &V,
-    group: &Group,
-    part: u32,
-) -> Result<Step<u32>, CallFault>
+fn count_in_part<V: View>(view: &V, group: &Group, part: u32) -> Result<Step<u32>, CallFault>
     requires group { HasGroup (V.seen view.now) group.now }
     requires within { part < group.now.length }
     ensures found { (at : ℕ → List ℕ) → IsShown (V.seen view.now) group.now at → IfIs result (λ free.

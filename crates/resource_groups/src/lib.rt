@@ -6,6 +6,8 @@ mod blocks;
 mod counting;
 mod finding;
 mod places;
+mod putting;
 
 pub use counting::count_free;
 pub use finding::find_free;
+pub use putting::set_state;

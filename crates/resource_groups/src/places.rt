@@ -4,6 +4,7 @@ ghost use Rattle.resource_groups.specs.Shown.{first_place as first_in, HasBitsIn
 
 /// How many bytes stand before the bits in a group's first block and in each further one.
 pub(crate) const IN_HEADER: usize = 128;
+
 pub(crate) const IN_BITMAP: usize = 24;
 
 /// The first place whose bits stand in block `part` of a group, from 0.

@@ -1,4 +1,4 @@
-use Rattle.std.proofs.Common.{◌≡◌, ◌+◌, sym, ◌∙◌, subst, ap, arith}
+use Rattle.std.proofs.Common.{◌≡◌, ◌+◌, sym, ◌∙◌, ap, arith}
 use Rattle.resource_groups.proofs.Fits.{fit_of, end_below, lacks_header}
 use Rattle.resource_groups.proofs.blocks.headed_block.Goals as goal
 

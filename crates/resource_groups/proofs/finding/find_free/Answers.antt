@@ -1,5 +1,5 @@
-use Rattle.std.proofs.Common.{◌∙◌, arith}
-use Rattle.resource_groups.proofs.Fits.{fit_of, end_below}
+use Rattle.std.proofs.Common.{arith}
+use Rattle.resource_groups.proofs.Fits.{fit_of}
 use Rattle.resource_groups.proofs.FreePlaces.{in_group}
 use Rattle.resource_groups.proofs.Parts.{room_is}
 use Rattle.resource_groups.proofs.finding.find_free.Goals as goal

@@ -1,4 +1,4 @@
-use Rattle.std.proofs.Common.{◌-◌, ℕ, List, ◌≡◌, ◌+◌, ◌<◌}
+use Rattle.std.proofs.Common.{◌-◌, ℕ, List, ◌+◌, ◌<◌}
 use Rattle.resource_groups.specs.Finding.{NoneIsFree}
 use Rattle.resource_groups.specs.Shown.{IsShown, HasBitsIn}
 use Rattle.resource_groups.proofs.finding.find_free.Given as goal

@@ -1,4 +1,4 @@
-use Rattle.std.proofs.Common.{refl, ℕ, List, ◌+◌, ◌∙◌, sym, ap, subst, arith}
+use Rattle.std.proofs.Common.{refl, ◌+◌, ◌∙◌, sym, ap, subst, arith}
 use Rattle.glock_names.proofs.StepLaws.{answer_at}
 use Rattle.gfs2_layout.specs.Groups.{bitmap_of}
 use Rattle.resource_groups.specs.Finding.{IsFirstFree}
