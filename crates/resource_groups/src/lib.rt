@@ -11,3 +11,6 @@ mod putting;
 pub use counting::count_free;
 pub use finding::find_free;
 pub use putting::set_state;
+
+#[cfg(test)]
+mod tests;
