@@ -1,4 +1,4 @@
--- What private functions of a tree require of a walk, and of a move.
+-- What private functions of a tree want of a walk or a move, and which refusal they answer. The calls' contract is over `apply` alone.
 use Rattle.std.specs.Prelude.{ℕ, ◌≡◌, ◌≢◌, Bool, true, false, List, [], ◌∷◌, Option, None, Some, ⊤}
 use Rattle.file_tree.specs.Tree.{Tree, file, dir, none, entry, look}
 use Rattle.file_tree.specs.Names.{parent_of, leads_to}

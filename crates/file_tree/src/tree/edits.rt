@@ -30,10 +30,7 @@ impl Tree {
     pub(super) fn rises(&self)
         ensures { NamesRise (entries_of self.now) }
     {
-        match &self.node {
-            Node::File(_) => {}
-            Node::Dir(_) => {}
-        }
+        let _ = &self.node;
     }
 
     // What stands one name below, or what refuses the step. It finds the name by halving.
