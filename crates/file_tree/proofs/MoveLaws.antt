@@ -90,6 +90,25 @@ may_below t n p q c e may =
       free = λ moved stood f g. may.free moved stood (ap (λ w. walk_from w p) e ∙ f) (ap (λ w. walk_from w q) e ∙ g);
     }
 
+-- two paths that go on with one name
+pub record GoOn (t : Tree) (from to : List (List ℕ)) (n : List ℕ) (p q : List (List ℕ)) (c : Tree) : Type 0 where
+  pub source : from ≡ n ∷ p
+  pub target : to ≡ n ∷ q
+  pub step : step_to (Found t) n ≡ Found c
+  pub may : MayMove t from to
+
+pub go_below : {t : Tree} {from to : List (List ℕ)} {n : List ℕ} {p q : List (List ℕ)} {c : Tree} → GoOn t from to n p q c → MayMove c p q
+go_below {t = t} {to = to} {n = n} {p = p} {q = q} {c = c} on =
+    may_below t n p q c on.step (subst (λ x. MayMove t (n ∷ p) x) on.target (subst (λ x. MayMove t x to) on.source on.may))
+
+pub go_found : {t : Tree} {from to : List (List ℕ)} {n : List ℕ} {p q : List (List ℕ)} {c : Tree} → GoOn t from to n p q c → (u : Tree) → walk t from ≡ Found u → walk c p ≡ Found u
+go_found {t = t} {p = p} on u e = sym (ap (walk t) on.source ∙ ap (λ w. walk_from w p) on.step) ∙ e
+
+pub go_moved : {t : Tree} {from to : List (List ℕ)} {n : List ℕ} {p q : List (List ℕ)} {c : Tree} → GoOn t from to n p q c → (u x : Tree)
+    → dir (set (entries_of (dir (set (entries_of t) n x))) n (put_at q u (remove_at p c))) ≡ put_at to u (remove_at from t)
+go_moved {t = t} {n = n} {p = p} {q = q} {c = c} on u x =
+    move_step t n p q u x c on.step (go_below on).apart ∙ (λ i. put_at (sym on.target i) u (remove_at (sym on.source i) t))
+
 -- ---- nothing is moved over what it lies in
 
 pub found_there : (w : Walked) → IsThere w → (t : Tree) × (w ≡ Found t)
