@@ -49,7 +49,7 @@ may_come s (trace.Recovered i r) = not (is_ending s.place) && (s.waits i && (s.m
 may_come s (trace.Lost i kept) = is_recovering i s.place || s.waits i
 may_come s _ = not (is_ending s.place)
 
--- each recovery is told by one item, and so are its losses, behind it
+-- Each recovery is told by one item, and a loss comes directly behind its node's, or at the run's end. That each life has its loss isn't said here.
 abbrev pub recoveries_are_told : Slots → List TraceItem → Bool
 recoveries_are_told s [] = true
 recoveries_are_told s (x ∷ xs) = may_come s x && recoveries_are_told (after_item s x) xs
