@@ -468,21 +468,6 @@ not-none some none = absurd (let f : Some some.0 ≡ None = sym some.1 ∙ none 
 far-from : (j k : ℕ) → k ≤ 8 → 8 < j → j ≡ k → ⊥
 far-from j k x y e = absurd (let f : k < j = omega (arith, x, y) in omega (arith, f, e))
 
--- a node has told all
-ended-too : {lossy : Type 0} (lock : LockName) (p : LockParts) (n : ℕ) (post : Post) → Inv lossy lock p
-    → ((k : ℕ) → k ≤ 8 → Kept lossy p (sight lock p k) (sight lock (record p { ended = with_node p.ended n; post = post }) k)) → Inv lossy lock (record p { ended = with_node p.ended n; post = post })
-ended-too {lossy} lock p n post inv kept = record {
-  master = inv.master;
-  sound = inv.sound;
-  together = inv.together;
-  stages = λ k x. (kept k x).0;
-  under = λ r. record {
-    rebuild = (inv.under r).rebuild;
-    far = (inv.under r).far;
-    apart = λ i k x y ne. fades (λ j. stands (sight lock p j)) (λ j. stands (sight lock (record p { ended = with_node p.ended n; post = post }) j)) (λ j z. (kept j z).1 r) i k x y ((inv.under r).apart i k x y ne);
-  };
-}
-
 pub master-keeps : {lossy : Type 0} (lock : LockName) (p q : LockParts) → MasterCall lock p q → Inv lossy lock p → Inv lossy lock q
 master-keeps {lossy} lock p _ (calls.Requested k mode rest x hand) inv = by (request_waits p.table k lock mode) refl (kept lock p (runs.Requests k mode) inv f.may)
   where
@@ -530,7 +515,7 @@ master-keeps {lossy} lock p _ (calls.Lowered k mode value rest x hand above) inv
 master-keeps {lossy} lock p _ (calls.LoweredAlready k mode value rest x hand already) inv =
     let f = finds-lower lock p k mode value rest inv x hand in
     let q : LockParts = record p { post = with_left p.post k p.master rest } in
-    unchanged lock p p.holders p.taken (with_left p.post k p.master rest) inv (λ j y. elim (cases_eq j k) [
+    unchanged lock p p.holders p.taken p.ended (with_left p.post k p.master rest) inv (λ j y. elim (cases_eq j k) [
       | inl e ↦ subst (λ (i : ℕ). Kept lossy p (sight lock p i) (sight lock q i)) (sym e)
           (kept-as p (sight lock p k) _ (sight lock q k) (refl, refl, refl) refl refl (sym already) refl refl
           (sym (grants-same lock p k (Down lock mode value) (Lowers mode value) rest hand (cond-true _ _ _ (same-self lock)) refl k)) (f.stage, λ r. f.less))
@@ -555,7 +540,7 @@ master-keeps {lossy} lock p _ (calls.Reported k mode value rest x hand r) inv =
 master-keeps {lossy} lock p _ (calls.Ended k rest x hand r) inv =
     let q : LockParts = record p { ended = with_node p.ended k; post = with_left p.post k p.master rest } in
     let f = stages.hears-end (sight lock p k) _ (inv.stages k x) (call-first lock p k End Ends rest hand refl refl) in
-    ended-too lock p k (with_left p.post k p.master rest) inv (λ j y. elim (cases_eq j k) [
+    unchanged lock p p.holders p.taken (with_node p.ended k) (with_left p.post k p.master rest) inv (λ j y. elim (cases_eq j k) [
       | inl e ↦ subst (λ (i : ℕ). Kept lossy p (sight lock p i) (sight lock q i)) (sym e)
           (kept-as p (sight lock p k) _ (sight lock q k) (refl, refl, sym (with-node-here p.ended k)) refl refl refl refl refl
           (sym (grants-same lock p k End Ends rest hand refl refl k)) (f.0, λ s. ap (is_at_least (stands (sight lock p k))) f.1 ∙ covers-itself (stands (sight lock p k))))

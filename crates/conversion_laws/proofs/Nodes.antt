@@ -89,9 +89,10 @@ fades old new less i k x y goes =
     together-turned (new k) (new i) (together-weaker (new k) (old i) (new i) (together-turned (old i) (new k) (together-weaker (old i) (old k) (new k) goes (less k y))) (less i x))
 
 -- the table stays as it is
-pub unchanged : {lossy : Type 0} (lock : LockName) (p : LockParts) (holders : ℕ → Holdings) (taken : ℕ → Bool) (post : Post) → Inv lossy lock p
-    → ((k : ℕ) → k ≤ 8 → Kept lossy p (sight lock p k) (sight lock (record p { holders = holders; taken = taken; post = post }) k)) → Inv lossy lock (record p { holders = holders; taken = taken; post = post })
-unchanged {lossy} lock p holders taken post inv kept = record {
+pub unchanged : {lossy : Type 0} (lock : LockName) (p : LockParts) (holders : ℕ → Holdings) (taken : ℕ → Bool) (ended : ℕ) (post : Post) → Inv lossy lock p
+    → ((k : ℕ) → k ≤ 8 → Kept lossy p (sight lock p k) (sight lock (record p { holders = holders; taken = taken; ended = ended; post = post }) k))
+    → Inv lossy lock (record p { holders = holders; taken = taken; ended = ended; post = post })
+unchanged {lossy} lock p holders taken ended post inv kept = record {
   master = inv.master;
   sound = inv.sound;
   together = inv.together;
@@ -99,14 +100,14 @@ unchanged {lossy} lock p holders taken post inv kept = record {
   under = λ r. record {
     rebuild = (inv.under r).rebuild;
     far = (inv.under r).far;
-    apart = λ i k x y ne. fades (λ j. stands (sight lock p j)) (λ j. stands (sight lock (record p { holders = holders; taken = taken; post = post }) j)) (λ j z. (kept j z).1 r) i k x y ((inv.under r).apart i k x y ne);
+    apart = λ i k x y ne. fades (λ j. stands (sight lock p j)) (λ j. stands (sight lock (record p { holders = holders; taken = taken; ended = ended; post = post }) j)) (λ j z. (kept j z).1 r) i k x y ((inv.under r).apart i k x y ne);
   };
 }
 
 -- ---- the mail
 
 pub mail-keeps-inv : {lossy : Type 0} (lock : LockName) (p : LockParts) (post : Post) → MailCall p.post post → Inv lossy lock p → Inv lossy lock (record p { post = post })
-mail-keeps-inv {lossy} lock p post call inv = unchanged lock p p.holders p.taken post inv (λ k x.
+mail-keeps-inv {lossy} lock p post call inv = unchanged lock p p.holders p.taken p.ended post inv (λ k x.
     as-before p (sight lock p k) (sight lock (record p { post = post }) k) (refl, refl, refl) refl refl refl refl
     (ap (filter_map (in_view p.table.generation (tell_of lock))) (sym (mail-keeps p.post post call k p.master x inv.master)))
     (ap (filter_map (in_view p.table.generation (grants lock))) (sym (mail-keeps p.post post call p.master k inv.master x)))
@@ -155,7 +156,7 @@ module _ {lossy : Type 0} (lock : LockName) (p : LockParts) (k : ℕ) (h : Holdi
       (inv.stages j x)
 
   told : StageOf lossy p (record (sight lock p k) { wanted = wanted_in h lock; mode = mode_in h lock; coming = tells_coming lock p k ++ c ∷ [] }) → Inv lossy lock (tells p k h b)
-  told stage = unchanged lock p (at p.holders k h) p.taken (with_letters p.post k p.master letters) inv (λ j x. elim (cases_eq j k) [
+  told stage = unchanged lock p (at p.holders k h) p.taken p.ended (with_letters p.post k p.master letters) inv (λ j x. elim (cases_eq j k) [
     | inl e ↦ subst (λ (i : ℕ). Kept lossy p (sight lock p i) (sight lock (tells p k h b) i)) (sym e) (told-here stage, as-same p (sight lock p k) (sight lock (tells p k h b) k) told-stands)
     | inr ne ↦ told-away j x ne
   ])
@@ -271,7 +272,7 @@ node-keeps {lossy} lock p _ (calls.LowersBefore k mode x not covers) may inv =
     let now : holding_of h lock ≡ record (holding_of (p.holders k) lock) { mode = mode } = holding-is (p.holders k) lock (record (holding_of (p.holders k) lock) { mode = mode }) in
     let q : LockParts = record p { holders = at p.holders k h } in
     let held : mode_in (q.holders k) lock ≡ mode = ap (λ (h : Holdings). mode_in h lock) (at-here p.holders k h) ∙ ap (λ (x : Holding). x.mode) now in
-    unchanged lock p (at p.holders k h) p.taken p.post inv (λ j y. elim (cases_eq j k) [
+    unchanged lock p (at p.holders k h) p.taken p.ended p.post inv (λ j y. elim (cases_eq j k) [
       | inl e ↦ subst (λ (i : ℕ). Kept lossy p (sight lock p i) (sight lock q i)) (sym e) (
         stages.still-untaken (sight lock p k) (wanted_in (q.holders k) lock) (mode_in (q.holders k) lock) (inv.stages k x) not,
         λ r. ap (λ (t : Mode). is_at_least t (stands (sight lock q k))) (ap (λ (b : Bool). stands_by b (mode_in (p.holders k) lock) (table_mode lock p k) (tells_coming lock p k)) not)
@@ -281,7 +282,7 @@ node-keeps {lossy} lock p _ (calls.LowersBefore k mode x not covers) may inv =
           (ap (λ (h : Holdings). wanted_in h lock) (sym (at-away p.holders k h j ne))) (ap (λ (h : Holdings). mode_in h lock) (sym (at-away p.holders k h j ne))) refl refl refl refl (inv.stages j y)
     ])
 node-keeps {lossy} lock p _ (calls.TakesView k h letters over x not says mute) may inv =
-    unchanged lock p (at p.holders k h) (at p.taken k true) (with_letters p.post k p.master letters) inv (λ j y. elim (cases_eq j k) [
+    unchanged lock p (at p.holders k h) (at p.taken k true) p.ended (with_letters p.post k p.master letters) inv (λ j y. elim (cases_eq j k) [
       | inl e ↦ subst (λ (i : ℕ). Kept lossy p (sight lock p i) (sight lock (viewed lock p k h letters) i)) (sym e) (view-taken lock p k h letters over not says mute (inv.stages k x))
       | inr ne ↦ as-before p (sight lock p j) (sight lock (viewed lock p k h letters) j) (sym (at-away p.taken k true j ne), refl, refl)
           (ap (λ (h : Holdings). wanted_in h lock) (sym (at-away p.holders k h j ne))) (ap (λ (h : Holdings). mode_in h lock) (sym (at-away p.holders k h j ne))) refl refl
@@ -296,7 +297,7 @@ node-keeps {lossy} lock p _ (calls.IsGranted k mode value rest x hand) may inv =
     let q : LockParts = record p { holders = at p.holders k h; post = with_left p.post p.master k rest } in
     let quiet : (from : ℕ) → in_view p.table.generation (tell_of lock) m ≡ None = λ from. now-says (tell_of lock) p.table.generation (Grant lock mode value) in
     let first = grant-first lock p k m rest mode hand grant in
-    unchanged lock p (at p.holders k h) p.taken (with_left p.post p.master k rest) inv (λ j y. elim (cases_eq j k) [
+    unchanged lock p (at p.holders k h) p.taken p.ended (with_left p.post p.master k rest) inv (λ j y. elim (cases_eq j k) [
       | inl e ↦ subst (λ (i : ℕ). Kept lossy p (sight lock p i) (sight lock q i)) (sym e) (
         sees _ (sight lock q k) (refl, refl, refl)
             (ap (λ (x : Holding). x.wanted) (sym now) ∙ ap (λ (h : Holdings). wanted_in h lock) (sym (at-here p.holders k h)))
@@ -310,7 +311,7 @@ node-keeps {lossy} lock p _ (calls.IsGranted k mode value rest x hand) may inv =
       | inr ne ↦ away lock p k m rest mode hand grant h j ne (λ e. quiet p.master) (inv.stages j y)
     ])
 node-keeps {lossy} lock p _ (calls.DropsGrant k mode value rest x hand) may inv =
-    unchanged lock p p.holders p.taken (with_left p.post p.master k rest) inv (λ j y. elim (cases_eq j k) [
+    unchanged lock p p.holders p.taken p.ended (with_left p.post p.master k rest) inv (λ j y. elim (cases_eq j k) [
       | inl e ↦ subst (λ (i : ℕ). Kept lossy p (sight lock p i) (sight lock q i)) (sym e) (
         sees _ (sight lock q k) (refl, refl, refl) refl refl refl refl (sym (calls-left lock p p.master k m rest hand (λ e. quiet p.master) k)) refl
             (stages.drops (lost-it may) (sight lock p k) mode (grants_coming lock q k) (inv.stages k x) (grant-first lock p k m rest mode hand grant)),
@@ -336,7 +337,7 @@ node-keeps {lossy} lock p _ (calls.DropsGrant k mode value rest x hand) may inv 
     lost-it (inl l) = l
     lost-it (inr n) = absurd n
 node-keeps {lossy} lock p _ (calls.Drops from to m rest x y hand quiet mute) may inv =
-    unchanged lock p p.holders p.taken (with_left p.post from to rest) inv (λ j z.
+    unchanged lock p p.holders p.taken p.ended (with_left p.post from to rest) inv (λ j z.
     as-before p (sight lock p j) (sight lock (less p from to rest) j) (refl, refl, refl) refl refl refl refl (sym (calls-left lock p from to m rest hand quiet j)) (sym (same j)) (inv.stages j z))
   where
     -- no grant is dropped
@@ -346,7 +347,7 @@ node-keeps {lossy} lock p _ (calls.Drops from to m rest x y hand quiet mute) may
       | inr ne ↦ ap (filter_map (in_view p.table.generation (grants lock))) (left-away p.post from to rest p.master j (λ a b. ne (sym a)))
     ]
 node-keeps {lossy} lock p _ (calls.Writes from to letters x y calls grants') may inv =
-    unchanged lock p p.holders p.taken (with_letters p.post from to letters) inv (λ j z.
+    unchanged lock p p.holders p.taken p.ended (with_letters p.post from to letters) inv (λ j z.
     as-before p (sight lock p j) (sight lock (record p { post = with_letters p.post from to letters }) j) (refl, refl, refl) refl refl refl refl (sym (same j))
     (sym (letters-quiet-from (in_view p.table.generation (grants lock)) p.post from to letters p.master j grants')) (inv.stages j z))
   where
@@ -357,7 +358,7 @@ node-keeps {lossy} lock p _ (calls.Writes from to letters x y calls grants') may
       | inr ne ↦ ap (filter_map (in_view p.table.generation (tell_of lock))) (letters-away p.post from to letters j p.master ne)
     ]
 node-keeps {lossy} lock p _ (calls.HoldsElsewhere k other holding ne) may inv =
-    unchanged lock p (at p.holders k (with_lock (p.holders k) other holding)) p.taken p.post inv (λ j x.
+    unchanged lock p (at p.holders k (with_lock (p.holders k) other holding)) p.taken p.ended p.post inv (λ j x.
     as-before p (sight lock p j) (sight lock (record p { holders = at p.holders k (with_lock (p.holders k) other holding) }) j) (refl, refl, refl)
     (ap (λ (x : Holding). x.wanted) (sym (held j))) (ap (λ (x : Holding). x.mode) (sym (held j))) refl refl refl refl (inv.stages j x))
   where

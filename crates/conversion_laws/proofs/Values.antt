@@ -17,9 +17,10 @@ use Rattle.dlm_master.specs.declared.claims.Claim.{Claim}
 use Rattle.dlm_master.specs.declared.claims.Cause.{Cause}
 use Rattle.dlm_master.specs.Claims.{mode_of_node}
 use Rattle.dlm_master.specs.LockState.{LockState}
-use Rattle.dlm_master.specs.Locks.{free_lock, answer_by, requested, converted, writes_value, value_after, lowered, all_turns, after_grants, grants_of}
+use Rattle.dlm_master.specs.Locks.{free_lock, answer_by, writes_value, value_after, lowered, all_turns, after_grants, grants_of}
 use Rattle.dlm_master.specs.Tables.{MasterState, lock_of, with_state, is_blocked, request_waits, convert_waits, after_turns}
 use Rattle.dlm_master.proofs.RunLaws.{together-at}
+use Rattle.dlm_master.proofs.ValueLaws.{request-value, convert-value}
 use Rattle.dlm_master.proofs.RunTables.{written, turned-lock}
 use Rattle.lock_steps.specs.Parts.{Post, way, with_left}
 use Rattle.lock_steps.specs.Ties.{in_view, grants}
@@ -251,14 +252,6 @@ node-leaves lock p _ (calls.Drops from to m rest x y hand quiet mute) = refl
 node-leaves lock p _ (calls.Writes from to letters x y calls mute) = refl
 node-leaves lock p _ (calls.HoldsElsewhere j other holding ne) = refl
 
-value-requested : (c : Option Cause) (l : LockState) (j : ℕ) (mode : Mode) → (requested c l j mode).value ≡ l.value
-value-requested None l j mode = refl
-value-requested (Some cause) l j mode = refl
-
-value-converted : (c : Option Cause) (l : LockState) (j : ℕ) (mode : Mode) → (converted c l j mode).value ≡ l.value
-value-converted None l j mode = refl
-value-converted (Some cause) l j mode = refl
-
 value-of : (a b : LockState) → a ≡ b → a.value ≡ b.value
 value-of a b e = ap (λ (l : LockState). l.value) e
 
@@ -266,10 +259,10 @@ pub valued-keeps : {lossy : Type 0} (lock : LockName) (p q : LockParts) → Inv 
 valued-keeps {lossy} lock p _ inv (OfMail post call) all k y = valued-still lock p _ k refl (brings-value lock p _ k inv (OfMail post call) y) (all k y)
 valued-keeps {lossy} lock p q inv (OfNode _ call) all k y = valued-still lock p q k (node-leaves lock p q call) (brings-value lock p q k inv (OfNode q call) y) (all k y)
 valued-keeps {lossy} lock p _ inv (OfMaster _ (calls.Requested j mode rest x hand)) all k y =
-    valued-still lock p _ k (value-of _ _ (written p.table lock _) ∙ value-requested (request_waits p.table j lock mode) (lock_in_table lock p) j mode)
+    valued-still lock p _ k (value-of _ _ (written p.table lock _) ∙ request-value (request_waits p.table j lock mode) (lock_in_table lock p) j mode)
     (master-brings lock p _ k (calls.Requested j mode rest x hand)) (all k y)
 valued-keeps {lossy} lock p _ inv (OfMaster _ (calls.Converted j mode rest x hand)) all k y =
-    valued-still lock p _ k (value-of _ _ (written p.table lock _) ∙ value-converted (convert_waits p.table j lock mode) (lock_in_table lock p) j mode)
+    valued-still lock p _ k (value-of _ _ (written p.table lock _) ∙ convert-value (convert_waits p.table j lock mode) (lock_in_table lock p) j mode)
     (master-brings lock p _ k (calls.Converted j mode rest x hand)) (all k y)
 valued-keeps {lossy} lock p _ inv (OfMaster _ (calls.Lowered j mode value rest x hand above)) all k y =
     subst (λ (w : ValueBlock). AllValued w (brought lock p (with_left p.post j p.master rest) k)) (sym (value-of _ _ (written p.table lock (lowered (lock_in_table lock p) j mode (kept_value p value)))))

@@ -44,8 +44,15 @@ put-same m now lock old new later e there same w =
     ap (λ (t : Table). let s : MasterState = record m { table = t } in s) (w ∙ (ap (set_value (same_lock lock) m.table) same ∙ set_value-same m.table lock old there)) ∙ e
 
 -- what `insert` writes
-pub writes : (es : Table) (lock : LockName) (x : LockState) → insert_entry same_lock es lock x ≡ with_lock es lock x
+writes : (es : Table) (lock : LockName) (x : LockState) → insert_entry same_lock es lock x ≡ with_lock es lock x
 writes = with_lock-unique (insert_entry same_lock) (λ lock x. refl) (λ e es lock x. refl)
+
+-- so a write through the lock's entry, of what is made of the lock that the map had, or of a free one
+pub made-of : (es later : Table) (lock : LockName) (had : Option LockState) (fresh found new : LockState) (make : LockState → LockState) → found ≡ unwrap_or had fresh → had ≡ at_lock es lock → fresh ≡ free_lock
+    → later ≡ insert_entry same_lock es lock new → new ≡ make found → later ≡ with_lock es lock (make (known_or_free es lock))
+made-of es later lock had fresh found new make value there free wrote is =
+    wrote ∙ (writes es lock new
+    ∙ ap (λ (l : LockState). with_lock es lock l) (is ∙ ap make (value ∙ (ap (λ (o : Option LockState). unwrap_or o fresh) there ∙ ap (unwrap_or (at_lock es lock)) free))))
 
 -- after a write of what the map had of the lock, or of a free one, the entries that it had are as they were
 pub taken-back : (es : Table) (lock : LockName) → take (length es) (with_lock es lock (known_or_free es lock)) ≡ es

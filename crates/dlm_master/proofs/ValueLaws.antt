@@ -19,11 +19,11 @@ use Rattle.dlm_master.specs.Laws.{EveryLastValueStands}
 abbrev next_value : Run → Call → ValueBlock
 next_value r call = unwrap_or (option_map valid_value (written_by r call)) r.lock.value
 
-request-value : (c : Option Cause) (l : LockState) (n : ℕ) (m : Mode) → (requested c l n m).value ≡ l.value
+pub request-value : (c : Option Cause) (l : LockState) (n : ℕ) (m : Mode) → (requested c l n m).value ≡ l.value
 request-value None l n m = refl
 request-value (Some cause) l n m = refl
 
-convert-value : (c : Option Cause) (l : LockState) (n : ℕ) (m : Mode) → (converted c l n m).value ≡ l.value
+pub convert-value : (c : Option Cause) (l : LockState) (n : ℕ) (m : Mode) → (converted c l n m).value ≡ l.value
 convert-value None l n m = refl
 convert-value (Some cause) l n m = refl
 

@@ -1,29 +1,18 @@
-use Rattle.std.proofs.Common.{Option, unwrap_or, ap, ◌∙◌, arith}
+use Rattle.std.proofs.Common.{arith}
 use Rattle.std.proofs.lemmas.Grind.{common_steps}
-use Rattle.glock_names.specs.LockMaps.{at_lock, with_lock}
 use Rattle.dlm_master.specs.LockState.{LockState}
 use Rattle.dlm_master.specs.Locks.{reported}
-use Rattle.dlm_master.proofs.TableLaws.{writes, taken-back}
+use Rattle.dlm_master.proofs.TableLaws.{made-of, taken-back}
 use Rattle.dlm_master.proofs.table.report_in.Goals as goal
 
 pub returns-in-Ok-clause-ok : goal.returns-in-Ok-clause-ok
 returns-in-Ok-clause-ok c =
-    let es = c.args.locks.now.entries in
-    let had = c.or_insert-found.ensures.value
-    ∙ (ap (λ (o : Option LockState). unwrap_or o c.new.result) c.in_ok-locks.ensures.value
-    ∙ ap (unwrap_or (at_lock es c.args.lock)) c.new.ensures) in
     let made : LockState → LockState = λ (l : LockState). reported l c.args.node c.args.mode in
-    let wrote = c.in_ok-locks.ensures.update.1 c.report.new.self
-    ∙ (writes es c.args.lock c.report.new.self ∙ ap (with_lock es c.args.lock) (c.in-Ok.ensures.ok ∙ ap made had)) in
+    let wrote = made-of c.args.locks.now.entries _ c.args.lock _ _ _ _ made c.or_insert-found.ensures.value c.in_ok-locks.ensures.value c.new.ensures (c.in_ok-locks.ensures.update.1 c.report.new.self) c.in-Ok.ensures.ok in
     grind (arith, common_steps, wrote)
 
 pub returns-in-Err-clause-err : goal.returns-in-Err-clause-err
 returns-in-Err-clause-err c =
-    let es = c.args.locks.now.entries in
-    let had = c.or_insert-found.ensures.value
-    ∙ (ap (λ (o : Option LockState). unwrap_or o c.new.result) c.in_ok-locks.ensures.value
-    ∙ ap (unwrap_or (at_lock es c.args.lock)) c.new.ensures) in
-    let wrote = c.in_ok-locks.ensures.update.1 c.report.new.self
-    ∙ (writes es c.args.lock c.report.new.self ∙ ap (with_lock es c.args.lock) (c.in-Err.ensures.err ∙ had)) in
-    let back = taken-back es c.args.lock in
+    let wrote = made-of c.args.locks.now.entries _ c.args.lock _ _ _ _ (λ (l : LockState). l) c.or_insert-found.ensures.value c.in_ok-locks.ensures.value c.new.ensures (c.in_ok-locks.ensures.update.1 c.report.new.self) c.in-Err.ensures.err in
+    let back = taken-back c.args.locks.now.entries c.args.lock in
     grind (arith, common_steps, wrote, back, c.len-known.ensures.len, c.truncate.ensures.entries)
