@@ -111,13 +111,16 @@ least_of at g after place found before above is = record {
     back : (f n : ℕ) → f + n - f ≡ n
     back f n = omega arith
 
-pub needs : (v : Seen) (at : ℕ → List ℕ) (g : Group) (after place k : ℕ) (m : Missing) → IsMissing v g m → m.block ≡ g.addr + k → HasBitsIn v.size place k → after < g.first + place
+pub needs : (v : Seen) (at : ℕ → List ℕ) (g : Group) (after place k : ℕ) (m : Missing) → IsMissing v g m → m.block ≡ g.addr + k → HasBitsIn v.size place k → place < g.count → after < g.first + place
     → NoneIsFree at g after (g.first + place) → IsNeeded v at g after m
-needs v at g after place k m missing which stands above none = record {
+needs v at g after place k m missing which stands inside above none = record {
   block = missing;
-  some = subst (λ n. after < g.first + first_place v.size (n + 1)) (sym number) (omega (arith, above, stands.high));
+  some = (g.first + place, record { low = omega arith; high = omega (arith, inside) }, above, subst (λ n. HasBitsIn v.size (g.first + place - g.first) n) (sym number) (subst (λ p. HasBitsIn v.size p k) back stands));
   before = subst (λ n. NoneIsFree at g after (g.first + first_place v.size n)) (sym number) (λ b own over below. none b own over (omega (arith, below, stands.low)));
 }
   where
     number : m.block - g.addr ≡ k
     number = omega (arith, which)
+
+    back : place ≡ g.first + place - g.first
+    back = omega arith

@@ -17,9 +17,9 @@ use Rattle.glock_names.specs.Views.{Seen, IsView, HasBlock, HasGroup}
 use Rattle.glock_names.specs.declared.LockName.{LockName}
 use Rattle.glock_names.specs.declared.views.Group.{Group}
 use Rattle.profile_limits.specs.Limits.{most_blocks}
-use Rattle.resource_groups.specs.Shown.{IsShown, IsDataOf, IsBroken, HasBitsIn, blocks_of, bits_at, first_place, group_lock}
-use Rattle.resource_groups.specs.Putting.{IsMiscounted, IsRecounted, IsPutIn, PutsTwo, overlaid, seen_or, seen_in, bit_put}
-use Rattle.resource_groups.proofs.Fits.{fit_of, end_below, big_of}
+use Rattle.resource_groups.specs.Shown.{IsShown, IsHeaderOf, IsDataOf, IsBroken, HasBitsIn, blocks_of, bits_at, first_place, group_lock}
+use Rattle.resource_groups.specs.Putting.{IsMiscounted, IsRecounted, IsPutIn, PutsTwo, KeepsOthers, overlaid, seen_or, seen_in, bit_put}
+use Rattle.resource_groups.proofs.Fits.{fit_of, end_below, big_of, header_block}
 use Rattle.resource_groups.proofs.FreePlaces.{in_group}
 use Rattle.resource_groups.proofs.Parts.{room_is, state_by_block, length_bits}
 use Rattle.resource_groups.proofs.Puts.{IsBothPut, still_seen, is_put_in}
@@ -138,6 +138,7 @@ module _ {V : Type 0} (seen : V → Seen) (d d1 d2 : Drafted V) (g : Group) (b k
   pub two_are : (at : ℕ → List ℕ) → PutsTwo v.size d d2 (overlaid (seen_in seen d2) at) g b
   two_are at = subst (λ (x : Drafted V). PutsTwo v.size d x (overlaid (seen_in seen x) at) g b) (sym both_is) (record {
     part = k;
+    within = low (seen_in seen d) g b k p is;
     stands = is.stands;
     view = refl;
     header = put_seen v both_fates at g.addr (group_lock g) _ (inserted_at nat_cmp_total nat_cmp-IsAntisymmetric first_fates g.addr (Put (group_lock g) false (group_put h header_seen.0)));
@@ -145,3 +146,30 @@ module _ {V : Type 0} (seen : V → Seen) (d d1 d2 : Drafted V) (g : Group) (b k
     others = λ c first other. inserted_apart nat_cmp_total nat_cmp-IsAntisymmetric first_fates g.addr (Put (group_lock g) false (group_put h header_seen.0)) c first
         ∙ inserted_apart nat_cmp_total nat_cmp-IsAntisymmetric d.fates (g.addr + k) (Put (group_lock g) false (bit_put k p state puts.bits_there.0)) c other;
   })
+
+-- ---- what stays whatever is answered
+
+pub keeps_all : {V : Type 0} (d d1 : Drafted V) (g : Group) → d1 ≡ d → KeepsOthers d d1 g
+keeps_all {V} d d1 g same = record { view = ap (λ (x : Drafted V). x.view) same; others = λ c far. ap (λ (x : Drafted V). get x.fates c) same }
+
+pub keeps_put : {V : Type 0} (d d1 d2 : Drafted V) (g : Group) (b : ℕ) (fate : Fate) → IsHeaderOf g b → KeepsOthers d d1 g → d2 ≡ record d1 { fates = insert d1.fates b fate } → KeepsOthers d d2 g
+keeps_put {V} d d1 d2 g b fate own kept is = record {
+  view = ap (λ (x : Drafted V). x.view) is ∙ kept.view;
+  others = λ c far. ap (λ (x : Drafted V). get x.fates c) is ∙ inserted_apart nat_cmp_total nat_cmp-IsAntisymmetric d1.fates b fate c (λ e. far (subst (IsHeaderOf g) (sym e) own)) ∙ kept.others c far;
+}
+
+-- the first put, and both
+pub keeps_first : {V : Type 0} (seen : V → Seen) (d d1 : Drafted V) (g : Group) (b k p state : ℕ) → IsPlaceIn (seen_in seen d) g b k p → HasBlock (seen_in seen d) (g.addr + k)
+    → ((bytes : List ℕ) → (seen_in seen d).block_at (g.addr + k) ≡ Some bytes → d1 ≡ record d { fates = insert d.fates (g.addr + k) (Put (group_lock g) false (bit_put k p state bytes)) }) → KeepsOthers d d1 g
+keeps_first {V} seen d d1 g b k p state is there first =
+    keeps_put d d d1 g (g.addr + k) (Put (group_lock g) false (bit_put k p state there.0)) (header_block g k (low (seen_in seen d) g b k p is)) (keeps_all d d g refl) (first there.0 there.1)
+
+pub keeps_both : {V : Type 0} (seen : V → Seen) (d d1 d2 : Drafted V) (g : Group) (b k p state : ℕ) (h : GroupHeader) → IsPlaceIn (seen_in seen d) g b k p → ArePuts seen d d1 d2 g k p state h → KeepsOthers d d2 g
+keeps_both {V} seen d d1 d2 g b k p state h is puts =
+    let seen_then = seen_after seen d d1 g k p state puts.bits_there puts.header_there puts.first in
+    let inside = low (seen_in seen d) g b k p is in
+    keeps_put d d1 d2 g g.addr (Put (group_lock g) false (group_put h seen_then.0)) (record { low = omega arith; high = omega (arith, inside) }) (keeps_first seen d d1 g b k p state is puts.bits_there puts.first)
+    (puts.second seen_then.0 seen_then.1)
+
+pub keeps_same : {V : Type 0} (d d1 d2 : Drafted V) (g : Group) → KeepsOthers d d1 g → d2 ≡ d1 → KeepsOthers d d2 g
+keeps_same {V} d d1 d2 g kept same = subst (λ (x : Drafted V). KeepsOthers d x g) (sym same) kept

@@ -4,7 +4,7 @@ use Rattle.gfs2_layout.specs.Bitmap.{state_at}
 use Rattle.glock_names.specs.Views.{Seen}
 use Rattle.glock_names.specs.declared.steps.Missing.{Missing}
 use Rattle.glock_names.specs.declared.views.Group.{Group}
-use Rattle.resource_groups.specs.Shown.{IsDataOf, IsMissing, said, first_place}
+use Rattle.resource_groups.specs.Shown.{IsDataOf, IsMissing, HasBitsIn, said, first_place}
 
 -- no data block between these two is free
 abbrev pub NoneIsFree : (ℕ → List ℕ) → Group → ℕ → ℕ → Type 0
@@ -17,12 +17,11 @@ pub record IsLeastFree (at : ℕ → List ℕ) (g : Group) (after b : ℕ) : Typ
   pub free : said at g b ≡ 0
   pub least : NoneIsFree at g after b
 
--- A block is asked for only where it is the first, in order, that the view hasn't of those with bits of data blocks above `after`, and none of the bits before it is of a
--- free one.
+-- A block is asked for only where it has bits of a data block above `after` and none of the bits before it is of a free one: so it is the first
+-- such block, in order, that the view hasn't.
 pub record IsNeeded (v : Seen) (at : ℕ → List ℕ) (g : Group) (after : ℕ) (missing : Missing) : Type 0 where
   pub block : IsMissing v g missing
-  -- it has bits of a data block above
-  pub some : after < g.first + first_place v.size (missing.block - g.addr + 1)
+  pub some : (b : ℕ) × IsDataOf g b × (after < b) × HasBitsIn v.size (b - g.first) (missing.block - g.addr)
   pub before : NoneIsFree at g after (g.first + first_place v.size (missing.block - g.addr))
 
 -- ---- in one block's bits

@@ -43,11 +43,17 @@ pub record IsPutIn (at at' : ℕ → List ℕ) (g : Group) (b state : ℕ) : Typ
 -- the draft puts the group's header and the block in which the bits of data block b stand, under the group's lock, and no other block
 pub record PutsTwo {V : Type 0} (size : ℕ) (old new : Drafted V) (at' : ℕ → List ℕ) (g : Group) (b : ℕ) : Type 0 where
   pub part : ℕ
+  pub within : part < g.length
   pub stands : HasBitsIn size (b - g.first) part
   pub view : new.view ≡ old.view
   pub header : get new.fates g.addr ≡ Some (Put (group_lock g) false (at' g.addr))
   pub bits : get new.fates (g.addr + part) ≡ Some (Put (group_lock g) false (at' (g.addr + part)))
   pub others : (c : ℕ) → c ≢ g.addr → c ≢ g.addr + part → get new.fates c ≡ get old.fates c
+
+-- the view below stays, and what becomes of each block but those of the group's header and bitmap
+pub record KeepsOthers {V : Type 0} (old new : Drafted V) (g : Group) : Type 0 where
+  pub view : new.view ≡ old.view
+  pub others : (c : ℕ) → ¬ (IsHeaderOf g c) → get new.fates c ≡ get old.fates c
 
 -- the block that is needed is one of these two
 pub record IsOneOfTwo (v : Seen) (g : Group) (b : ℕ) (missing : Missing) : Type 0 where

@@ -10,7 +10,7 @@ mod putting;
 
 pub use counting::count_free;
 pub use finding::find_free;
-pub use putting::set_state;
+pub use putting::{group_of, set_state};
 
 #[cfg(test)]
 mod tests;

@@ -1,5 +1,5 @@
 // The state of a data block put in a draft.
-ghost use Rattle.std.specs.Prelude.{ℕ, List, Some, false, ◌≡◌, ◌⊎◌, ◌+◌, ◌/◌, ◌^◌, ◌<◌, ◌≤◌, ◌↔◌, ◌==◌, IsTrue, drop, Ok, OnOk, IfSome, IfNone};
+ghost use Rattle.std.specs.Prelude.{ℕ, List, Some, false, ◌≡◌, ◌⊎◌, ◌+◌, ◌/◌, ◌^◌, ◌<◌, ◌≤◌, ◌↔◌, ◌==◌, IsTrue, drop, Ok, OnOk, OnErr, IfSome, IfNone};
 ghost use Rattle.std.specs.FinMap.{insert};
 ghost use Rattle.drafts.specs.declared.fate.Fate.TheVariants.{Put};
 ghost use Rattle.gfs2_layout.specs.Groups.{one_if};
@@ -9,7 +9,7 @@ ghost use Rattle.glock_names.specs.Steps.{IfIs, IfNeedBlock, IfDamaged};
 ghost use Rattle.glock_names.specs.Views.{HasBlock, HasGroup, IsOfView, IsView};
 ghost use Rattle.glock_names.specs.declared.views.Group.{Group};
 ghost use Rattle.resource_groups.specs.Shown.{IsShown, IsDataOf, IsBroken, group_lock};
-ghost use Rattle.resource_groups.specs.Putting.{IsPutIn, PutsTwo, IsOneOfTwo, HasDataBlock, IsRecounted, IsMiscounted, overlaid, seen_in, head_length, bit_put};
+ghost use Rattle.resource_groups.specs.Putting.{IsPutIn, PutsTwo, KeepsOthers, IsOneOfTwo, HasDataBlock, IsRecounted, IsMiscounted, overlaid, seen_in, head_length, bit_put};
 
 use crate::blocks::{bits_of, header_of, lock_of};
 use crate::places::{IN_BITMAP, IN_HEADER, first_place, part_of};
@@ -25,18 +25,18 @@ fn has_data(group: &Group, block: u64) -> bool
     group.first <= block && block - group.first < u64::from(group.count)
 }
 
-// The view's group of which the block is a data block.
-fn group_of<V: View>(view: &V, block: u64) -> Group
-    requires { HasDataBlock (V.seen view.now) block }
-    ensures group { HasGroup (V.seen view.now) result }
-    ensures own { IsDataOf result block }
+/// The view's group of which the block is a data block. It goes over the groups, of which there are at most 64.
+pub fn group_of<V: View>(view: &V, block: u64) -> Option<Group>
+    ensures group { IfSome result (HasGroup (V.seen view.now)) }
+    ensures own { IfSome result (λ g. IsDataOf g block) }
+    ensures none { IfNone result (¬ (HasDataBlock (V.seen view.now) block)) }
 {
     for group in view.groups() {
         if has_data(group, block) {
-            return *group;
+            return Some(*group);
         }
     }
-    unreachable!()
+    None
 }
 
 // A count of the blocks in a state, where one block was in it or not, and is or isn't from now on; None where no count of
@@ -83,8 +83,9 @@ fn put_bits<V: View>(
     requires within { head_length part + place / 4 < (V.seen draft.old.view).size }
     requires state { state < 4 }
     requires number { group.now.addr + part < 2 ^ 64 }
-    ensures { (bytes : List ℕ) → (seen_in V.seen draft.old).block_at (group.now.addr + part) ≡ Some bytes
+    ensures put { (bytes : List ℕ) → (seen_in V.seen draft.old).block_at (group.now.addr + part) ≡ Some bytes
         → OnOk result (draft.new ≡ record draft.old { fates = insert draft.old.fates (group.now.addr + part) (Put (group_lock group.now) false (bit_put part place state bytes)) }) }
+    ensures err { OnErr result (draft.new ≡ draft.old) }
 {
     let block = group.addr + u64::from(part);
     let Some(mut bytes) = draft.copy(block)? else {
@@ -106,6 +107,7 @@ fn put_header<V: View>(
         → OnOk result (draft.new ≡ record draft.old { fates = insert draft.old.fates group.now.addr (Put (group_lock group.now) false (group_put header.now bytes)) }) }
     ensures read { (bytes : List ℕ) → (seen_in V.seen draft.old).block_at group.now.addr ≡ Some bytes → OnOk result (group_read (group_put header.now bytes) ≡ Ok header.now) }
     ensures behind { (bytes : List ℕ) → (seen_in V.seen draft.old).block_at group.now.addr ≡ Some bytes → OnOk result (drop 128 (group_put header.now bytes) ≡ drop 128 bytes) }
+    ensures err { OnErr result (draft.new ≡ draft.old) }
 {
     let Some(mut bytes) = draft.copy(group.addr)? else {
         unreachable!()
@@ -132,6 +134,7 @@ fn set_in_group<V: View>(
     ensures damaged { (at : ℕ → List ℕ) → IsShown (seen_in V.seen draft.old) group.now at → IfDamaged result (IsBroken at group.now) }
     ensures kept { IfDamaged result (IsOfView (seen_in V.seen draft.old)) }
     ensures stays { IfDamaged result (λ rule broken. draft.new ≡ draft.old) }
+    ensures others { KeepsOthers draft.old draft.new group.now }
     ensures view { IsView (seen_in V.seen draft.old) }
 {
     let size = draft.block_size();
@@ -176,7 +179,10 @@ pub fn set_state<V: View>(
     ensures damaged { (g : Group) (at : ℕ → List ℕ) → HasGroup (seen_in V.seen draft.old) g → IsDataOf g block → IsShown (seen_in V.seen draft.old) g at → IfDamaged result (IsBroken at g) }
     ensures kept { IfDamaged result (IsOfView (seen_in V.seen draft.old)) }
     ensures stays { IfDamaged result (λ rule broken. draft.new ≡ draft.old) }
+    ensures others { (g : Group) → HasGroup (seen_in V.seen draft.old) g → IsDataOf g block → KeepsOthers draft.old draft.new g }
 {
-    let group = group_of(&*draft, block);
+    let Some(group) = group_of(&*draft, block) else {
+        unreachable!()
+    };
     set_in_group(draft, &group, block, state)
 }

@@ -7,7 +7,7 @@ use Rattle.resource_groups.specs.Putting.{seen_in}
 use Rattle.resource_groups.proofs.Fits.{fit_of, end_below, big_of}
 use Rattle.resource_groups.proofs.FreePlaces.{in_group}
 use Rattle.resource_groups.proofs.Parts.{room_is}
-use Rattle.resource_groups.proofs.Setting.{IsPlaceIn, ArePuts, damage_is, seen_after, put_is, two_are}
+use Rattle.resource_groups.proofs.Setting.{IsPlaceIn, ArePuts, damage_is, seen_after, put_is, two_are, keeps_first, keeps_both, keeps_same}
 use Rattle.resource_groups.proofs.putting.set_in_group.Goals as goal
 
 pub bits_of-requires-clause-within : goal.bits_of-requires-clause-within
@@ -46,14 +46,14 @@ pub put_header-requires-clause-seen : goal.put_header-requires-clause-seen
 put_header-requires-clause-seen g c =
     let bits = answer_at _ _ _ c.in-Is-2.is c.in_ok-bits.ensures.there in
     seen_after g.V.View.seen c.args.draft.now c.put_bits.new.draft c.args.group.now c.part_of-part.result (c.from.result - c.first_place.result) c.args.state bits
-    (answer_at _ _ _ c.in-Is.is c.in_ok-header.ensures.there) c.in_ok-put_bits.ensures
+    (answer_at _ _ _ c.in-Is.is c.in_ok-header.ensures.there) c.in_ok-put_bits.ensures.put
 
 pub put_header-requires-clause-room : goal.put_header-requires-clause-room
 put_header-requires-clause-room g c =
     let v = seen_in g.V.View.seen c.args.draft.now in
     let large = big_of v.size c.block_size-size.ensures.view.block_size in
     let bits = answer_at _ _ _ c.in-Is-2.is c.in_ok-bits.ensures.there in
-    subst (λ (x : Drafted g.row.V.Denot). 128 ≤ (g.V.View.seen x.view).size) (sym (c.in_ok-put_bits.ensures bits.0 bits.1)) (omega (arith, large))
+    subst (λ (x : Drafted g.row.V.Denot). 128 ≤ (g.V.View.seen x.view).size) (sym (c.in_ok-put_bits.ensures.put bits.0 bits.1)) (omega (arith, large))
 
 pub returns-clause-put : goal.returns-clause-put
 returns-clause-put g c at shown =
@@ -71,7 +71,7 @@ returns-clause-put g c at shown =
     let puts : ArePuts g.V.View.seen c.args.draft.now c.put_bits.new.draft c.put_header.new.draft group k p c.args.state c.in-Some.header = record {
       bits_there = answer_at _ _ _ c.in-Is-2.is c.in_ok-bits.ensures.there;
       header_there = answer_at _ _ _ c.in-Is.is c.in_ok-header.ensures.there;
-      first = c.in_ok-put_bits.ensures;
+      first = c.in_ok-put_bits.ensures.put;
       second = c.in_ok-put_header.ensures.put;
       read = c.in_ok-put_header.ensures.read;
       behind = c.in_ok-put_header.ensures.behind;
@@ -96,9 +96,49 @@ returns-clause-two g c at shown =
     let puts : ArePuts g.V.View.seen c.args.draft.now c.put_bits.new.draft c.put_header.new.draft group k p c.args.state c.in-Some.header = record {
       bits_there = answer_at _ _ _ c.in-Is-2.is c.in_ok-bits.ensures.there;
       header_there = answer_at _ _ _ c.in-Is.is c.in_ok-header.ensures.there;
-      first = c.in_ok-put_bits.ensures;
+      first = c.in_ok-put_bits.ensures.put;
       second = c.in_ok-put_header.ensures.put;
       read = c.in_ok-put_header.ensures.read;
       behind = c.in_ok-put_header.ensures.behind;
     } in
     two_are g.V.View.seen c.args.draft.now c.put_bits.new.draft c.put_header.new.draft group c.args.block k p c.args.state c.in-Some.header place puts at
+
+pub returns-in_err-put_header-clause-others : goal.returns-in_err-put_header-clause-others
+returns-in_err-put_header-clause-others g c =
+    let v = seen_in g.V.View.seen c.args.draft.now in
+    let group = c.args.group.now in
+    let k = c.part_of-part.result in
+    let p = c.from.result - c.first_place.result in
+    let place : IsPlaceIn v group c.args.block k p = record {
+      view = c.block_size-size.ensures.view;
+      group = c.requires.group;
+      own = c.requires.own;
+      stands = subst (λ s. HasBitsIn s (c.args.block - group.first) k) c.block_size-size.ensures.value c.part_of-part.ensures;
+      place = omega (arith, c.from.ensures, c.first_place.ensures, ap (λ s. first_place s k) c.block_size-size.ensures.value);
+    } in
+    keeps_same c.args.draft.now c.put_bits.new.draft c.put_header.new.draft group
+    (keeps_first g.V.View.seen c.args.draft.now c.put_bits.new.draft group c.args.block k p c.args.state place (answer_at _ _ _ c.in-Is-2.is c.in_ok-bits.ensures.there) c.in_ok-put_bits.ensures.put)
+    c.in_err-put_header.ensures.err
+
+pub returns-clause-others : goal.returns-clause-others
+returns-clause-others g c =
+    let v = seen_in g.V.View.seen c.args.draft.now in
+    let group = c.args.group.now in
+    let k = c.part_of-part.result in
+    let p = c.from.result - c.first_place.result in
+    let place : IsPlaceIn v group c.args.block k p = record {
+      view = c.block_size-size.ensures.view;
+      group = c.requires.group;
+      own = c.requires.own;
+      stands = subst (λ s. HasBitsIn s (c.args.block - group.first) k) c.block_size-size.ensures.value c.part_of-part.ensures;
+      place = omega (arith, c.from.ensures, c.first_place.ensures, ap (λ s. first_place s k) c.block_size-size.ensures.value);
+    } in
+    let puts : ArePuts g.V.View.seen c.args.draft.now c.put_bits.new.draft c.put_header.new.draft group k p c.args.state c.in-Some.header = record {
+      bits_there = answer_at _ _ _ c.in-Is-2.is c.in_ok-bits.ensures.there;
+      header_there = answer_at _ _ _ c.in-Is.is c.in_ok-header.ensures.there;
+      first = c.in_ok-put_bits.ensures.put;
+      second = c.in_ok-put_header.ensures.put;
+      read = c.in_ok-put_header.ensures.read;
+      behind = c.in_ok-put_header.ensures.behind;
+    } in
+    keeps_both g.V.View.seen c.args.draft.now c.put_bits.new.draft c.put_header.new.draft group c.args.block k p c.args.state c.in-Some.header place puts
