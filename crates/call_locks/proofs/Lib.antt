@@ -1,0 +1,5 @@
+pub mod Ways
+pub mod Paths
+pub mod Orders
+pub mod Reaches
+pub mod Changes
