@@ -1,10 +1,10 @@
 -- What is wanted exclusive, and what a call changes.
-use Rattle.std.proofs.Common.{◌≡◌, ◌≢◌, ℕ, ◌<◌, Bool, true, false, List, [], ◌∷◌, ◌++◌, length, refl, arith, lit<}
+use Rattle.std.proofs.Common.{◌≡◌, ◌≢◌, ℕ, ◌<◌, Bool, true, false, List, [], ◌∷◌, ◌++◌, length, get_or, refl, ap, arith, lit<}
 use Rattle.std.specs.Prelude.{All, Contains}
-use Rattle.std.proofs.lemmas.List.Elements.{All-nil, All-cons, All-append, All-contains, Contains-append_left, Contains-append_right}
+use Rattle.std.proofs.lemmas.List.Elements.{All-nil, All-cons, All-append, All-contains, Contains-append_left, Contains-append_right, Contains-get_or}
 use Rattle.file_tree.specs.Names.{parent_of}
 use Rattle.file_tree.specs.Tree.{Tree}
-use Rattle.file_tree.specs.Apply.{apply, refuse}
+use Rattle.file_tree.specs.Apply.{Answer, apply}
 use Rattle.file_tree.specs.declared.call.Call.{Call}
 use Rattle.file_tree.specs.declared.call.Call.TheVariants as call
 use Rattle.file_tree.specs.declared.reply.Reply.TheVariants as reply
@@ -12,7 +12,7 @@ use Rattle.glock_names.specs.declared.State.{State}
 use Rattle.glock_names.specs.declared.State.TheVariants.{Sh, Df, Ex}
 use Rattle.call_locks.specs.declared.want.Want.{Want}
 use Rattle.call_locks.specs.Wants.{want, way_to, at_new_name, at_old_name, at_move, wanted}
-use Rattle.call_locks.specs.WantLaws.{changed_by, IsExclusive, IsChangedAt, OnlyChanges, AllChanges, NeedsNoTree}
+use Rattle.call_locks.specs.WantLaws.{changed_by, IsExclusive, IsChangedAt, OnlyChanges, ReadersShare, AllExclusive, AllChanges, NeedsNoTree}
 use Rattle.call_locks.proofs.Ways.{way_all, old_all, way_end, old_parent, old_end, push_some, append_some}
 
 -- ---- nothing else is wanted exclusive
@@ -69,7 +69,16 @@ each_right call.Sync = All-nil (IsRight call.Sync)
 pub only_changes : OnlyChanges
 only_changes c w has e = All-contains (IsRight c) (wanted c) w (each_right c) has e
 
--- ---- where the tree isn't as before, all that changes is wanted exclusive
+pub readers_share : ReadersShare
+readers_share c none k d lt e =
+    let at : IsChangedAt c (get_or (wanted c) k d) = only_changes c (get_or (wanted c) k d) (Contains-get_or (wanted c) k d lt) e in
+    nowhere (changed_by c) none ((get_or (wanted c) k d).second, at.0) at.1
+  where
+    nowhere : (xs : List (Bool × List (List ℕ))) → xs ≡ [] → (x : Bool × List (List ℕ)) → Contains xs x → ⊥
+    nowhere [] is x has = omega (arith, has.1)
+    nowhere (y ∷ xs) is x has = cc
+
+-- ---- who wants anything wants all exclusive that it changes
 
 one : (c : Call) (x : Bool × List (List ℕ)) → IsExclusive c x → All (IsExclusive c) (x ∷ [])
 one c x is = All-cons (IsExclusive c) x [] is (All-nil (IsExclusive c))
@@ -77,20 +86,20 @@ one c x is = All-cons (IsExclusive c) x [] is (All-nil (IsExclusive c))
 two : (c : Call) (x y : Bool × List (List ℕ)) → IsExclusive c x → IsExclusive c y → All (IsExclusive c) (x ∷ y ∷ [])
 two c x y is ys = All-cons (IsExclusive c) x (y ∷ []) is (one c y ys)
 
-new_changes : (c : Call) (t : Tree) (p : List (List ℕ)) → wanted c ≡ at_new_name p → ((p ≡ []) → ⊥) → All (IsExclusive c) ((false, parent_of p) ∷ [])
-new_changes c t [] is some = absurd (some refl)
-new_changes c t (n ∷ ns) is some = one c (false, parent_of (n ∷ ns)) (rw is (way_end false (length (parent_of (n ∷ ns))) Ex))
+new_changes : (c : Call) (p : List (List ℕ)) → wanted c ≡ at_new_name p → wanted c ≢ [] → All (IsExclusive c) ((false, parent_of p) ∷ [])
+new_changes c [] is some = absurd (some is)
+new_changes c (n ∷ ns) is some = one c (false, parent_of (n ∷ ns)) (rw is (way_end false (length (parent_of (n ∷ ns))) Ex))
 
-old_changes : (c : Call) (t : Tree) (p : List (List ℕ)) → wanted c ≡ at_old_name false p → ((p ≡ []) → ⊥) → All (IsExclusive c) ((false, parent_of p) ∷ (false, p) ∷ [])
-old_changes c t [] is some = absurd (some refl)
-old_changes c t (n ∷ ns) is some =
+old_changes : (c : Call) (p : List (List ℕ)) → wanted c ≡ at_old_name false p → wanted c ≢ [] → All (IsExclusive c) ((false, parent_of p) ∷ (false, p) ∷ [])
+old_changes c [] is some = absurd (some is)
+old_changes c (n ∷ ns) is some =
     let d = length (parent_of (n ∷ ns)) in
     two c (false, parent_of (n ∷ ns)) (false, n ∷ ns) (rw is (old_parent false d (length (n ∷ ns)))) (rw is (old_end false d (length (n ∷ ns))))
 
-move_changes : (p q : List (List ℕ)) (t : Tree) → (apply (call.Rename p q) t).tree ≢ t → All (IsExclusive (call.Rename p q)) (changed_by (call.Rename p q))
-move_changes [] q t changes = absurd (changes refl)
-move_changes (n ∷ ns) [] t changes = absurd (changes refl)
-move_changes (n ∷ ns) (m ∷ ms) t changes =
+move_changes : (p q : List (List ℕ)) → wanted (call.Rename p q) ≢ [] → All (IsExclusive (call.Rename p q)) (changed_by (call.Rename p q))
+move_changes [] q some = absurd (some refl)
+move_changes (n ∷ ns) [] some = absurd (some refl)
+move_changes (n ∷ ns) (m ∷ ms) some =
     let c = call.Rename (n ∷ ns) (m ∷ ms) in
     let d = length (parent_of (n ∷ ns)) in
     let e = length (parent_of (m ∷ ms)) in
@@ -98,27 +107,23 @@ move_changes (n ∷ ns) (m ∷ ms) t changes =
     let ys = at_old_name true (m ∷ ms) in
     All-append (IsExclusive c) ((false, parent_of (n ∷ ns)) ∷ (false, n ∷ ns) ∷ []) ((true, parent_of (m ∷ ms)) ∷ (true, m ∷ ms) ∷ [])
     (two c (false, parent_of (n ∷ ns)) (false, n ∷ ns) (Contains-append_left xs ys (want false d Ex) (old_parent false d (length (n ∷ ns))))
-        (Contains-append_left xs ys (want false (length (n ∷ ns)) Ex) (old_end false d (length (n ∷ ns)))))
+    (Contains-append_left xs ys (want false (length (n ∷ ns)) Ex) (old_end false d (length (n ∷ ns)))))
     (two c (true, parent_of (m ∷ ms)) (true, m ∷ ms) (Contains-append_right xs ys (want true e Ex) (old_parent true e (length (m ∷ ms))))
-        (Contains-append_right xs ys (want true (length (m ∷ ms)) Ex) (old_end true e (length (m ∷ ms)))))
+    (Contains-append_right xs ys (want true (length (m ∷ ms)) Ex) (old_end true e (length (m ∷ ms)))))
 
-pub all_changes : AllChanges
-all_changes (call.Create []) t changes = absurd (changes refl)
-all_changes (call.Create (n ∷ ns)) t changes = new_changes (call.Create (n ∷ ns)) t (n ∷ ns) refl (λ e. cc)
-all_changes (call.Mkdir []) t changes = absurd (changes refl)
-all_changes (call.Mkdir (n ∷ ns)) t changes = new_changes (call.Mkdir (n ∷ ns)) t (n ∷ ns) refl (λ e. cc)
-all_changes (call.Unlink []) t changes = absurd (changes refl)
-all_changes (call.Unlink (n ∷ ns)) t changes = old_changes (call.Unlink (n ∷ ns)) t (n ∷ ns) refl (λ e. cc)
-all_changes (call.Rmdir []) t changes = absurd (changes refl)
-all_changes (call.Rmdir (n ∷ ns)) t changes = old_changes (call.Rmdir (n ∷ ns)) t (n ∷ ns) refl (λ e. cc)
-all_changes (call.Read p at count) t changes = All-nil (IsExclusive (call.Read p at count))
-all_changes (call.Dread p at count) t changes = All-nil (IsExclusive (call.Dread p at count))
-all_changes (call.Write p at new) t changes = one (call.Write p at new) (false, p) (way_end false (length p) Ex)
-all_changes (call.Truncate p size) t changes = one (call.Truncate p size) (false, p) (way_end false (length p) Ex)
-all_changes (call.Stat p) t changes = All-nil (IsExclusive (call.Stat p))
-all_changes (call.List p) t changes = All-nil (IsExclusive (call.List p))
-all_changes (call.Rename p q) t changes = move_changes p q t changes
-all_changes call.Sync t changes = All-nil (IsExclusive call.Sync)
+pub all_exclusive : AllExclusive
+all_exclusive (call.Create p) some = new_changes (call.Create p) p refl some
+all_exclusive (call.Mkdir p) some = new_changes (call.Mkdir p) p refl some
+all_exclusive (call.Unlink p) some = old_changes (call.Unlink p) p refl some
+all_exclusive (call.Rmdir p) some = old_changes (call.Rmdir p) p refl some
+all_exclusive (call.Read p at count) some = All-nil (IsExclusive (call.Read p at count))
+all_exclusive (call.Dread p at count) some = All-nil (IsExclusive (call.Dread p at count))
+all_exclusive (call.Write p at new) some = one (call.Write p at new) (false, p) (way_end false (length p) Ex)
+all_exclusive (call.Truncate p size) some = one (call.Truncate p size) (false, p) (way_end false (length p) Ex)
+all_exclusive (call.Stat p) some = All-nil (IsExclusive (call.Stat p))
+all_exclusive (call.List p) some = All-nil (IsExclusive (call.List p))
+all_exclusive (call.Rename p q) some = move_changes p q some
+all_exclusive call.Sync some = All-nil (IsExclusive call.Sync)
 
 -- ---- who wants nothing needs no tree
 
@@ -141,3 +146,7 @@ needs_no_tree (call.Rename [] q) none = (reply.Inside, λ t. refl)
 needs_no_tree (call.Rename (n ∷ ns) []) none = (reply.Exists, λ t. refl)
 needs_no_tree (call.Rename (n ∷ ns) (m ∷ ms)) none = absurd (append_some _ _ _ none)
 needs_no_tree call.Sync none = (reply.Ok, λ t. refl)
+
+-- so where the tree isn't as before all that changes is wanted exclusive
+pub all_changes : AllChanges
+all_changes c t changes = all_exclusive c (λ none. changes (ap (λ (a : Answer). a.tree) ((needs_no_tree c none).1 t)))

@@ -22,15 +22,15 @@ pairs_append R xs ys f g h i j d lt below =
     let all : length (xs ++ ys) ≡ length xs + length ys = length-append xs ys in
     elim (cases_lt j (length xs)) [
       | inl a ↦
-        let b : i < length xs = omega arith in
-        subst (λ x. R x (get_or (xs ++ ys) j d)) (sym (get_or_append_left xs ys d i b))
-        (subst (R (get_or xs i d)) (sym (get_or_append_left xs ys d j a)) (f i j d lt a))
+          let b : i < length xs = omega arith in
+          subst (λ x. R x (get_or (xs ++ ys) j d)) (sym (get_or_append_left xs ys d i b))
+          (subst (R (get_or xs i d)) (sym (get_or_append_left xs ys d j a)) (f i j d lt a))
       | inr a ↦
-        let m : j - length xs < length ys = omega arith in
-        subst (R (get_or (xs ++ ys) i d)) (sym (get_or-append_right xs ys (length xs) j d refl a)) (elim (cases_lt i (length xs)) [
-          | inl b ↦ subst (λ x. R x (get_or ys (j - length xs) d)) (sym (get_or_append_left xs ys d i b)) (h i d b (j - length xs) d m)
-          | inr b ↦ subst (λ x. R x (get_or ys (j - length xs) d)) (sym (get_or-append_right xs ys (length xs) i d refl b)) (g (i - length xs) (j - length xs) d (omega arith) m)
-        ])
+          let m : j - length xs < length ys = omega arith in
+          subst (R (get_or (xs ++ ys) i d)) (sym (get_or-append_right xs ys (length xs) j d refl a)) (elim (cases_lt i (length xs)) [
+            | inl b ↦ subst (λ x. R x (get_or ys (j - length xs) d)) (sym (get_or_append_left xs ys d i b)) (h i d b (j - length xs) d m)
+            | inr b ↦ subst (λ x. R x (get_or ys (j - length xs) d)) (sym (get_or-append_right xs ys (length xs) i d refl b)) (g (i - length xs) (j - length xs) d (omega arith) m)
+          ])
     ]
 
 shared_rise : (s : Bool) (d : ℕ) → AllPairs ComesBefore (shared_above s d)

@@ -66,7 +66,7 @@ move_whole (n ∷ ns) (m ∷ ms) =
     let xs = at_old_name false (n ∷ ns) in
     let ys = at_old_name true (m ∷ ms) in
     All-append (IsWhole (xs ++ ys)) xs ys (at_whole (xs ++ ys) false n ns (on_left xs ys false (length (n ∷ ns)) (at_reaches false n ns)))
-        (at_whole (xs ++ ys) true m ms (on_right xs ys true (length (m ∷ ms)) (at_reaches true m ms)))
+    (at_whole (xs ++ ys) true m ms (on_right xs ys true (length (m ∷ ms)) (at_reaches true m ms)))
 
 each_whole : (c : Call) → All (IsWhole (wanted c)) (wanted c)
 each_whole (call.Create p) = new_whole p

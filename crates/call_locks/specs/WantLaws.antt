@@ -71,11 +71,19 @@ WaysAreWhole = (c : Call) (w : Want) (depth : ℕ) → Contains (wanted c) w →
 abbrev pub OnlyChanges : Type 0
 OnlyChanges = (c : Call) (w : Want) → Contains (wanted c) w → w.state ≡ Ex → IsChangedAt c w
 
--- where the tree isn't as before, what the call changes is wanted exclusive
+-- a call that changes nothing wants nothing exclusive
+abbrev pub ReadersShare : Type 0
+ReadersShare = (c : Call) → changed_by c ≡ [] → All (λ w. w.state ≢ Ex) (wanted c)
+
+-- a call that wants anything wants all that it changes exclusive
+abbrev pub AllExclusive : Type 0
+AllExclusive = (c : Call) → wanted c ≢ [] → All (IsExclusive c) (changed_by c)
+
+-- and so does one that leaves another tree than it found
 abbrev pub AllChanges : Type 0
 AllChanges = (c : Call) (t : Tree) → (apply c t).tree ≢ t → All (IsExclusive c) (changed_by c)
 
--- a call that changes none of these leaves the tree
+-- a call that changes nothing leaves the tree
 abbrev pub OtherwiseStays : Type 0
 OtherwiseStays = (c : Call) (t : Tree) → changed_by c ≡ [] → (apply c t).tree ≡ t
 

@@ -1,5 +1,5 @@
 // Laws of the lists.
-ghost use Rattle.call_locks.specs.WantLaws.{ParentsComeFirst, LieOnPaths, WaysAreWhole, OnlyChanges, AllChanges, OtherwiseStays, NeedsNoTree};
+ghost use Rattle.call_locks.specs.WantLaws.{ParentsComeFirst, LieOnPaths, WaysAreWhole, OnlyChanges, ReadersShare, AllExclusive, AllChanges, OtherwiseStays, NeedsNoTree};
 
 /// A law: parents come before their children on each path, the first path's inodes before the second's, and no inode of a path
 /// comes twice.
@@ -18,15 +18,17 @@ pub fn ways_are_whole()
 {}
 
 /// A law: what is wanted exclusive is what the call changes: a directory in which a name comes or goes, or an inode that is
-/// written, removed, moved or replaced. So a call that only reads wants nothing exclusive.
+/// written, removed, moved or replaced. So a call that changes none of these, as one that reads, wants nothing exclusive.
 pub fn nothing_else_is_wanted_exclusive()
-    ensures { OnlyChanges }
+    ensures only { OnlyChanges }
+    ensures readers { ReadersShare }
 {}
 
-/// A law: where a call leaves another tree than it found, everything that it changes is wanted exclusive; and a call that
-/// changes none of these leaves the tree that it found.
+/// A law: a call that wants anything wants everything exclusive that it changes, and so does each that leaves another tree than it
+/// found. A call that changes none of these leaves the tree that it found.
 pub fn changed_inodes_are_wanted_exclusive()
-    ensures wanted { AllChanges }
+    ensures exclusive { AllExclusive }
+    ensures changed { AllChanges }
     ensures stays { OtherwiseStays }
 {}
 

@@ -32,12 +32,7 @@ fn want_above(wants: &mut Vec<Want>, second: bool, depth: u16) -> Result<(), NoM
 }
 
 // The inode at a depth in a state, behind its ancestors.
-fn want_way(
-    wants: &mut Vec<Want>,
-    second: bool,
-    depth: u16,
-    state: State,
-) -> Result<(), NoMemory>
+fn want_way(wants: &mut Vec<Want>, second: bool, depth: u16, state: State) -> Result<(), NoMemory>
     ensures { OnOk result (wants.new.items ≡ wants.old.items ++ way_to second depth state) }
 {
     want_above(wants, second, depth)?;
