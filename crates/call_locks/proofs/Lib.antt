@@ -3,3 +3,4 @@ pub mod Paths
 pub mod Orders
 pub mod Reaches
 pub mod Changes
+pub mod Elsewhere

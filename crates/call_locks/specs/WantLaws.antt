@@ -1,8 +1,8 @@
 -- What the lists of wants are for: their order, and what is wanted exclusive beside what a call changes.
 use Rattle.std.specs.Prelude.{◌≡◌, ◌≢◌, ◌⊎◌, ℕ, ◌<◌, ◌≤◌, Bool, true, false, List, [], ◌∷◌, length, All, AllPairs, Contains}
-use Rattle.file_tree.specs.Names.{parent_of}
-use Rattle.file_tree.specs.Tree.{Tree}
-use Rattle.file_tree.specs.Apply.{apply, refuse}
+use Rattle.file_tree.specs.Names.{parent_of, leads_to}
+use Rattle.file_tree.specs.Tree.{Tree, file, dir, none}
+use Rattle.file_tree.specs.Apply.{Walked, Found, Refused, walk, apply, refuse}
 use Rattle.file_tree.specs.declared.call.Call.{Call}
 use Rattle.file_tree.specs.declared.call.Call.TheVariants as call
 use Rattle.file_tree.specs.declared.reply.Reply.{Reply}
@@ -53,6 +53,12 @@ IsExclusive c x = Contains (wanted c) (want x.0 (length x.1) Ex)
 abbrev pub IsChangedAt : Call → Want → Type 0
 IsChangedAt c w = (path : List (List ℕ)) × Contains (changed_by c) (w.second, path) × (length path ≡ w.depth)
 
+-- what stands at a path: a file with its bytes, or a directory, whatever its names; or why nothing does
+abbrev pub bare : Walked → Walked
+bare (Refused r) = Refused r
+bare (Found (file bytes)) = Found (file bytes)
+bare (Found (dir es)) = Found (dir none)
+
 -- ---- laws
 
 -- parents come before their children, and no inode of a path comes twice
@@ -86,6 +92,11 @@ AllChanges = (c : Call) (t : Tree) → (apply c t).tree ≢ t → All (IsExclusi
 -- a call that changes nothing leaves the tree
 abbrev pub OtherwiseStays : Type 0
 OtherwiseStays = (c : Call) (t : Tree) → changed_by c ≡ [] → (apply c t).tree ≡ t
+
+-- what stands at each path to which no path of the call leads stands there afterwards
+abbrev pub OthersStay : Type 0
+OthersStay = (c : Call) (t : Tree) (path : List (List ℕ)) → leads_to (path_of c false) path ≡ false → leads_to (path_of c true) path ≡ false
+    → bare (walk (apply c t).tree path) ≡ bare (walk t path)
 
 -- a call that wants nothing answers the same of every tree, and leaves it
 abbrev pub NeedsNoTree : Type 0
