@@ -1,10 +1,9 @@
 -- What is wanted exclusive, and what a call changes.
-use Rattle.std.proofs.Common.{◌≡◌, ◌≢◌, ℕ, ◌<◌, Bool, true, false, List, [], ◌∷◌, ◌++◌, length, get_or, refl, ap, arith, lit<}
+use Rattle.std.proofs.Common.{◌≡◌, ◌≢◌, ℕ, Bool, true, false, List, [], ◌∷◌, length, get_or, refl, ap, arith, lit<}
 use Rattle.std.specs.Prelude.{All, Contains}
 use Rattle.std.proofs.lemmas.List.Elements.{All-nil, All-cons, All-append, All-contains, Contains-append_left, Contains-append_right, Contains-get_or}
 use Rattle.file_tree.specs.Names.{parent_of}
-use Rattle.file_tree.specs.Tree.{Tree}
-use Rattle.file_tree.specs.Apply.{Answer, apply}
+use Rattle.file_tree.specs.Apply.{Answer}
 use Rattle.file_tree.specs.declared.call.Call.{Call}
 use Rattle.file_tree.specs.declared.call.Call.TheVariants as call
 use Rattle.file_tree.specs.declared.reply.Reply.TheVariants as reply

@@ -9,7 +9,7 @@ use Rattle.file_tree.specs.declared.call.Call.TheVariants as call
 use Rattle.glock_names.specs.declared.State.{State}
 use Rattle.glock_names.specs.declared.State.TheVariants.{Sh, Df, Ex}
 use Rattle.call_locks.specs.declared.want.Want.{Want}
-use Rattle.call_locks.specs.Wants.{want, shared_above, way_to, at_new_name, at_old_name, at_move, wanted}
+use Rattle.call_locks.specs.Wants.{want, shared_above, way_to, at_new_name, at_old_name, at_move}
 use Rattle.call_locks.specs.WantLaws.{ComesBefore, ParentsComeFirst}
 use Rattle.call_locks.proofs.Ways.{shared_all, way_all, old_all}
 use Rattle.call_locks.proofs.Paths.{parent_length}

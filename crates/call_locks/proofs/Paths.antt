@@ -1,5 +1,5 @@
 -- The wants at a name, by how many names its path has; and that wants lie on paths.
-use Rattle.std.proofs.Common.{◌≡◌, ℕ, zero, suc, ◌+◌, ◌-◌, ◌<◌, ◌≤◌, Bool, true, false, List, [], ◌∷◌, ◌++◌, length, refl, sym, ap, ◌∙◌, arith, append-nil, append_assoc, Result, Ok, Err}
+use Rattle.std.proofs.Common.{◌≡◌, ℕ, suc, ◌-◌, ◌<◌, ◌≤◌, Bool, true, false, List, [], ◌∷◌, ◌++◌, length, refl, sym, ap, ◌∙◌, arith, append-nil, append_assoc, Result, Ok, Err}
 use Rattle.std.specs.Prelude.{All, OnOk}
 use Rattle.std.proofs.lemmas.List.Elements.{All-nil, All-append}
 use Rattle.file_tree.specs.Names.{parent_of, path_length}
@@ -7,7 +7,7 @@ use Rattle.file_tree.specs.declared.call.Call.{Call}
 use Rattle.file_tree.specs.declared.call.Call.TheVariants as call
 use Rattle.glock_names.specs.declared.State.TheVariants.{Sh, Df, Ex}
 use Rattle.call_locks.specs.declared.want.Want.{Want}
-use Rattle.call_locks.specs.Wants.{want, way_to, at_new_name, at_old_name, at_move, wanted}
+use Rattle.call_locks.specs.Wants.{want, way_to, at_new_name, at_old_name, at_move}
 use Rattle.call_locks.specs.WantLaws.{path_of, LieOnPaths}
 use Rattle.call_locks.proofs.Ways.{way_all, old_all}
 

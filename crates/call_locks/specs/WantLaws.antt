@@ -1,8 +1,9 @@
 -- What the lists of wants are for: their order, and what is wanted exclusive beside what a call changes.
-use Rattle.std.specs.Prelude.{◌≡◌, ◌≢◌, ◌⊎◌, ℕ, ◌<◌, ◌≤◌, Bool, true, false, List, [], ◌∷◌, length, All, AllPairs, Contains}
+use Rattle.std.specs.Prelude.{◌≡◌, ◌≢◌, ◌⊎◌, ℕ, ◌<◌, ◌≤◌, Bool, true, false, List, [], ◌∷◌, ◌++◌, length, All, AllPairs, Contains}
 use Rattle.file_tree.specs.Names.{parent_of, leads_to}
 use Rattle.file_tree.specs.Tree.{Tree, file, dir, none}
 use Rattle.file_tree.specs.Apply.{Walked, Found, Refused, walk, apply, refuse}
+use Rattle.file_tree.specs.Walks.{is_there}
 use Rattle.file_tree.specs.declared.call.Call.{Call}
 use Rattle.file_tree.specs.declared.call.Call.TheVariants as call
 use Rattle.file_tree.specs.declared.reply.Reply.{Reply}
@@ -15,7 +16,7 @@ use Rattle.call_locks.specs.Wants.{want, wanted}
 abbrev pub ComesBefore : Want → Want → Type 0
 ComesBefore a b = ((a.second ≡ false) × (b.second ≡ true)) ⊎ ((a.second ≡ b.second) × (a.depth < b.depth))
 
--- the first or the second path of a call; a call that has none has the root's
+-- the first or the second path of a call: both are the same where it has one, and the root's where it has none
 abbrev pub path_of : Call → Bool → List (List ℕ)
 path_of (call.Create p) second = p
 path_of (call.Mkdir p) second = p
@@ -59,6 +60,10 @@ bare (Refused r) = Refused r
 bare (Found (file bytes)) = Found (file bytes)
 bare (Found (dir es)) = Found (dir none)
 
+-- no path of the call is this one, or one above it
+abbrev pub IsElsewhere : Call → List (List ℕ) → Type 0
+IsElsewhere c path = (second : Bool) → leads_to (path_of c second) path ≡ false
+
 -- ---- laws
 
 -- parents come before their children, and no inode of a path comes twice
@@ -93,10 +98,14 @@ AllChanges = (c : Call) (t : Tree) → (apply c t).tree ≢ t → All (IsExclusi
 abbrev pub OtherwiseStays : Type 0
 OtherwiseStays = (c : Call) (t : Tree) → changed_by c ≡ [] → (apply c t).tree ≡ t
 
--- what stands at each path to which no path of the call leads stands there afterwards
+-- what stands elsewhere stands there afterwards
 abbrev pub OthersStay : Type 0
-OthersStay = (c : Call) (t : Tree) (path : List (List ℕ)) → leads_to (path_of c false) path ≡ false → leads_to (path_of c true) path ≡ false
-    → bare (walk (apply c t).tree path) ≡ bare (walk t path)
+OthersStay = (c : Call) (t : Tree) (path : List (List ℕ)) → IsElsewhere c path → bare (walk (apply c t).tree path) ≡ bare (walk t path)
+
+-- and where the call doesn't change it, it keeps its names
+abbrev pub NamesStay : Type 0
+NamesStay = (c : Call) (t : Tree) (path : List (List ℕ)) (name : List ℕ) → IsElsewhere c path → ((x : Bool × List (List ℕ)) → Contains (changed_by c) x → path ≢ x.1)
+    → is_there (walk (apply c t).tree (path ++ name ∷ [])) ≡ is_there (walk t (path ++ name ∷ []))
 
 -- a call that wants nothing answers the same of every tree, and leaves it
 abbrev pub NeedsNoTree : Type 0

@@ -1,5 +1,5 @@
 // Laws of the lists.
-ghost use Rattle.call_locks.specs.WantLaws.{ParentsComeFirst, LieOnPaths, WaysAreWhole, OnlyChanges, ReadersShare, AllExclusive, AllChanges, OtherwiseStays, OthersStay, NeedsNoTree};
+ghost use Rattle.call_locks.specs.WantLaws.{ParentsComeFirst, LieOnPaths, WaysAreWhole, OnlyChanges, ReadersShare, AllExclusive, AllChanges, OtherwiseStays, OthersStay, NamesStay, NeedsNoTree};
 
 /// A law: parents come before their children on each path, the first path's inodes before the second's, and no inode of a path
 /// comes twice.
@@ -33,9 +33,11 @@ pub fn changed_inodes_are_wanted_exclusive()
 {}
 
 /// A law: what stands at a path to which no path of the call leads stands there afterwards: a file with its bytes, a directory, or
-/// nothing, for the same reason. So names come and go only in the directories that hold the call's own paths.
+/// nothing, for the same reason. And where the call doesn't change it, it has the names that it had: so names come and go in
+/// no directory but those that the call changes.
 pub fn what_stands_elsewhere_stays()
-    ensures { OthersStay }
+    ensures stays { OthersStay }
+    ensures names { NamesStay }
 {}
 
 /// A law: a call that wants nothing answers the same of every tree and leaves it. So it needs no lock.
