@@ -1,7 +1,5 @@
 // The list of a call, path by path.
-ghost use Rattle.std.specs.Prelude.{◌≡◌, ◌≤◌, ◌++◌, length, IfOk, OnOk};
-ghost use Rattle.file_tree.specs.Names.{path_length};
-ghost use Rattle.glock_names.specs.declared.State.TheVariants.{Ex};
+ghost use Rattle.std.specs.Prelude.{◌≡◌, ◌++◌, length, IfOk, OnOk};
 ghost use Rattle.call_locks.specs.Wants.{shared_above, way_to, at_new_name, at_old_name, at_move, wanted};
 
 use crate::Want;
