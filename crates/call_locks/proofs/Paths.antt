@@ -23,10 +23,6 @@ few_names (n ∷ ns) = omega (arith, few_names ns)
 
 -- ---- what the code puts behind what it has
 
-pub no_new : (p : List (List ℕ)) (old : List Want) → length p ≡ 0 → old ≡ old ++ at_new_name p
-no_new [] old h = sym (append-nil old)
-no_new (n ∷ ns) old h = absurd (omega arith)
-
 some_new : (p : List (List ℕ)) (old new : List Want) (d : ℕ) → d ≡ length p → (d ≡ 0 → ⊥) → new ≡ old ++ way_to false (d - 1) Ex → new ≡ old ++ at_new_name p
 some_new [] old new d is h e = absurd (h is)
 some_new (n ∷ ns) old new d is h e =
@@ -36,10 +32,6 @@ some_new (n ∷ ns) old new d is h e =
 pub ok_new : {A E : Type 0} (r : Result A E) (p : List (List ℕ)) (old new : List Want) (d : ℕ) → d ≡ length p → (d ≡ 0 → ⊥) → OnOk r (new ≡ old ++ way_to false (d - 1) Ex) → OnOk r (new ≡ old ++ at_new_name p)
 ok_new (Ok a) p old new d is h e = some_new p old new d is h e
 ok_new (Err f) p old new d is h e = e
-
-pub no_old : (s : Bool) (p : List (List ℕ)) (old : List Want) → length p ≡ 0 → old ≡ old ++ at_old_name s p
-no_old s [] old h = sym (append-nil old)
-no_old s (n ∷ ns) old h = absurd (omega arith)
 
 pub some_old : (s : Bool) (p : List (List ℕ)) (old : List Want) (d : ℕ) → d ≡ length p → (d ≡ 0 → ⊥) → (old ++ way_to s (d - 1) Ex) ++ want s d Ex ∷ [] ≡ old ++ at_old_name s p
 some_old s [] old d is h = absurd (h is)

@@ -1,5 +1,5 @@
 -- What holds of each want on a way, and which wants are on it.
-use Rattle.std.proofs.Common.{◌≡◌, ℕ, zero, suc, ◌+◌, ◌<◌, Bool, List, [], ◌∷◌, ◌++◌, inl, inr, ap, subst, arith}
+use Rattle.std.proofs.Common.{◌≡◌, ℕ, zero, suc, ◌<◌, Bool, List, [], ◌∷◌, ◌++◌, inl, inr, subst, arith}
 use Rattle.std.specs.Prelude.{All, Contains}
 use Rattle.std.proofs.lemmas.Bool.{cases_lt}
 use Rattle.std.proofs.lemmas.List.Elements.{All-nil, All-push, Contains-append_left, Contains-push}
@@ -7,11 +7,6 @@ use Rattle.glock_names.specs.declared.State.{State}
 use Rattle.glock_names.specs.declared.State.TheVariants.{Sh, Ex}
 use Rattle.call_locks.specs.declared.want.Want.{Want}
 use Rattle.call_locks.specs.Wants.{want, shared_above, way_to}
-
-pub shared_more : (second : Bool) (depth : ℕ) → shared_above second (depth + 1) ≡ shared_above second depth ++ want second depth Sh ∷ []
-shared_more second depth =
-    let e : depth + 1 ≡ suc depth = omega arith in
-    ap (shared_above second) e
 
 -- ---- all of them
 
