@@ -6,7 +6,6 @@ use Rattle.glock_names.specs.declared.steps.CallFault.TheVariants.{Damaged, NoMe
 use Rattle.glock_names.specs.Steps.{IsDamage, OnlyDamaged}
 use Rattle.glock_names.specs.Views.{Seen, IsOfView}
 use Rattle.dinode_tree.specs.Shown.{IsAtBlock}
-
 pub use Rattle.glock_names.proofs.StepLaws.{needed_at, answer_at, answer_so, needed_so}
 
 -- ---- a fault tells of a block that the view has
