@@ -1,2 +1,3 @@
 pub mod RunLaws
 pub mod ValueLaws
+pub mod RebuildTables

@@ -1,5 +1,6 @@
 -- Lists of calls on one lock while its table is made anew.
-use Rattle.std.specs.Prelude.{ℕ, ◌≡◌, ◌≢◌, ◌==◌, ⊤, true, List, [], ◌∷◌, Option, None, Some, unwrap_or, if◌then◌else◌}
+use Rattle.std.specs.Prelude.{ℕ, ◌≡◌, ◌≢◌, ◌==◌, ⊤, true, false, List, [], ◌∷◌, Option, None, Some, unwrap_or, if◌then◌else◌}
+use Rattle.glock_names.specs.declared.LockName.{LockName}
 use Rattle.dlm_modes.specs.declared.Mode.{Mode}
 use Rattle.dlm_modes.specs.declared.Mode.TheVariants.{Nl}
 use Rattle.dlm_modes.specs.Modes.{go_together, not_valid}
@@ -7,8 +8,10 @@ use Rattle.dlm_master.specs.declared.claims.Claim.{Claim}
 use Rattle.dlm_master.specs.Claims.{is_null, mode_of_node, OneEach, Together}
 use Rattle.dlm_master.specs.LockState.{LockState}
 use Rattle.dlm_master.specs.Locks.{free_lock, claim, request_cause, requested, convert_cause, converted, lowered, reported}
-use Rattle.dlm_master.specs.Tables.{HoldsNone, IsIdle, IsCovered, IsAbove}
+use Rattle.dlm_master.specs.Tables.{lock_of, HoldsNone, IsIdle, IsCovered, IsAbove}
+use Rattle.dlm_master.specs.Runs.{run_of}
 use Rattle.dlm_master.specs.Laws.{IsSound}
+use Rattle.dlm_rebuild.specs.Rebuilding.{RebuildState, IsUnderWay, begun, with_report, with_end, with_waiting, after_request_in, after_convert_in, after_down_in, master_after}
 
 -- a node tells what it holds, or lowers it; or it asks for the lock, or for another mode
 pub data Call : Type 0 where
@@ -77,3 +80,24 @@ pub record HasLastReports (calls : List Call) : Type 0 where
 
 abbrev pub RebuiltFromReports : Type 0
 RebuiltFromReports = (calls : List Call) → HasLastReports calls
+
+-- ---- what the calls do to a table they do to its locks
+
+-- the table after a call on one of its locks
+abbrev pub with_call : RebuildState → LockName → Call → RebuildState
+with_call r lock (Reports node mode) = with_report r node lock mode
+with_call r lock (Lowers node mode) = after_down_in r node lock mode
+with_call r lock (Requests node mode) = after_request_in r node lock mode
+with_call r lock (Converts node mode) = after_convert_in r node lock mode
+
+pub record RebuildsAreRuns : Type 0 where
+  -- at the start every lock is free
+  pub begins : (generation members : ℕ) (lock : LockName) → lock_of (begun generation members).master lock ≡ free_lock
+  -- a call does this to its lock, and nothing to any other
+  pub calls : (r : RebuildState) (lock : LockName) (call : Call) → IsUnderWay r.master → lock_of (with_call r lock call).master lock ≡ after (lock_of r.master lock) call
+  pub elsewhere : (r : RebuildState) (lock other : LockName) (call : Call) → lock ≢ other → lock_of (with_call r other call).master lock ≡ lock_of r.master lock
+  -- nor do an end, and the slots that wait
+  pub ends : (r : RebuildState) (lock : LockName) (node : ℕ) → lock_of (with_end r node).master lock ≡ lock_of r.master lock
+  pub blocked : (r : RebuildState) (lock : LockName) (waiting : ℕ) → lock_of (with_waiting r waiting).master lock ≡ lock_of r.master lock
+  -- the master has each lock as it was told, and the slots that wait
+  pub completes : (r : RebuildState) (lock : LockName) → run_of (master_after r) lock ≡ record { rebuild = false; waiting = r.master.waiting; lock = lock_of r.master lock }

@@ -6,7 +6,7 @@ ghost use Rattle.std.specs.List.{list_all};
 ghost use Rattle.fencing.specs.NodeSets.{has, all_nodes};
 ghost use Rattle.dlm_master.specs.Tables.{lock_of, held_by, waits_for, HoldsNone, IsIdle, IsCovered, IsAbove};
 ghost use Rattle.dlm_rebuild.specs.Rebuilding.{NoneValid, begun, with_report, with_end, with_waiting, not_yet, is_done as done, master_after, after_request_in, after_convert_in, after_down_in, master_for};
-ghost use Rattle.dlm_rebuild.specs.Runs.{RebuiltFromReports};
+ghost use Rattle.dlm_rebuild.specs.Runs.{RebuiltFromReports, RebuildsAreRuns};
 
 use crc_words::crc32;
 use dlm_master::{Answer, Master};
@@ -183,4 +183,10 @@ impl Rebuild {
 /// where these do; who asked meanwhile waits, in the order of the arrival; and no value in it is valid.
 pub fn a_rebuilt_table_has_the_last_reports()
     ensures { RebuiltFromReports }
+{}
+
+/// A law: what a rebuild's calls do to its table they do to the lock in it as the other law says, and to no other lock; the master that it
+/// becomes has each lock as the rebuild has it.
+pub fn rebuilds_are_runs()
+    ensures { RebuildsAreRuns }
 {}

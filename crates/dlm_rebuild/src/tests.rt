@@ -91,6 +91,7 @@ fn a_table_is_made_anew(rt: HostRuntime) -> Result<(), Fail> {
     assert_eq!(rt; master.generation(), 3);
     assert_eq!(rt; master.waiting(), 1 << 3);
     assert_eq!(rt; master.held(1, LOCK), Some(Mode::Pr));
+    assert!(rt; master.waits(1, LOCK));
     assert!(rt; master.waits(2, LOCK));
     assert_eq!(rt; master.lock_at(0), Some(LOCK));
     assert_eq!(rt; master.lock_at(1), None);
