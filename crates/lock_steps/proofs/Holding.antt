@@ -26,7 +26,7 @@ use Rattle.lock_steps.specs.Calls as calls
 use Rattle.lock_steps.specs.Laws.{Follows, HolderCallsAreSteps}
 use Rattle.lock_steps.proofs.Modes.{cover-as-modes, modes-of-their-own}
 use Rattle.lock_steps.proofs.Running.{one-step}
-use Rattle.lock_steps.proofs.Basics.{same-self, at-here, at-away}
+use Rattle.lock_steps.proofs.Basics.{true-false, same-self, at-here, at-away}
 use Rattle.lock_steps.proofs.Ways.{letters-say, letters-mute, letters-away, letters-all, letters-quiet-to, letters-quiet-from, left-quiet-to, left-says, left-mute, left-away, left-all}
 use Rattle.lock_steps.proofs.Tying.{now-says, says-one, says-none, holding-is, holding-away, eff-runs, same-sight, one-node, no-other, no-step}
 
@@ -139,6 +139,7 @@ holder-steps lock p _ l (calls.Asks k s acts from) sound tied =
         roll = f.roll;
         taken = f.taken;
         mode = λ m. ap (λ (x : Holdings). mode_in x lock) (at-here p.holders k h) ∙ (ap (λ (x : Holding). x.mode) now ∙ f.mode m);
+        left = λ m. true-false (acts.member) m;
         asked = λ m. ap (λ (x : Holdings). is_some (wanted_in x lock)) (at-here p.holders k h) ∙ ap (λ (x : Holding). is_some x.wanted) now;
         table = f.table;
         heard = f.heard;
@@ -168,6 +169,7 @@ holder-steps lock p _ l (calls.IsGranted k mode value rest acts none hand) sound
         roll = f.roll;
         taken = f.taken;
         mode = λ m. ap (λ (x : Holdings). mode_in x lock) (at-here p.holders k h) ∙ (ap (λ (x : Holding). x.mode) now ∙ (c.2 ∙ sym (ap mode_for (eff-runs n runs))));
+        left = λ m. true-false (acts.member) m;
         asked = λ m. ap (λ (x : Holdings). is_some (wanted_in x lock)) (at-here p.holders k h) ∙ ap (λ (x : Holding). is_some x.wanted) now;
         table = f.table;
         heard = f.heard;
@@ -196,6 +198,7 @@ holder-steps lock p _ l (calls.Lowers k s value acts covered some idle) sound ti
         roll = f.roll;
         taken = f.taken;
         mode = λ m. ap (λ (x : Holdings). mode_in x lock) (at-here p.holders k h) ∙ (ap (λ (x : Holding). x.mode) now ∙ sym (ap mode_for (eff-runs n runs)));
+        left = λ m. true-false (acts.member) m;
         asked = λ m. ap (λ (x : Holdings). is_some (wanted_in x lock)) (at-here p.holders k h) ∙ (ap (λ (x : Holding). is_some x.wanted) now ∙ f.asked m);
         table = f.table;
         heard = f.heard;
@@ -237,6 +240,7 @@ holder-steps lock p _ l (calls.Drops from to m rest x y hand mute) sound tied = 
               roll = f.roll;
               taken = f.taken;
               mode = f.mode;
+              left = f.left;
               asked = f.asked;
               table = f.table;
               heard = f.heard;

@@ -8,7 +8,7 @@ use Rattle.glock_names.specs.States.{mode_for}
 use Rattle.dlm_modes.specs.declared.Mode.{Mode}
 use Rattle.dlm_modes.specs.declared.Mode.TheVariants.{Nl}
 use Rattle.dlm_modes.specs.Modes.{go_together, is_at_least}
-use Rattle.dlm_modes.proofs.ModeLaws.{together-turned}
+use Rattle.dlm_modes.proofs.ModeLaws.{covers-itself, together-turned, together-weaker}
 use Rattle.fencing.specs.NodeSets.{has}
 use Rattle.dlm_holder.specs.Holdings.{Holdings, mode_in, wanted_in}
 use Rattle.dlm_master.specs.LockState.{LockState}
@@ -18,10 +18,10 @@ use Rattle.lock_laws.proofs.Keeping.{starts}
 use Rattle.lock_steps.specs.Runs.{Stays}
 use Rattle.lock_steps.specs.Parts.{Parts}
 use Rattle.lock_steps.specs.Ties.{sight, IsTable, Tied, in_view, tells, grants}
-use Rattle.lock_steps.specs.Laws.{Follows, Call, OfMail, OfHolder, OfTable, OfMembers, Calls, NoCall, AndCall, Begins, EveryListIsSteps, AreRight, EveryListIsRight}
+use Rattle.lock_steps.specs.Laws.{Follows, Call, OfMail, OfHolder, OfTable, OfMembers, Calls, NoCall, AndCall, Begins, EveryListIsSteps, held_or_coming, AreRight, EveryListIsRight}
 use Rattle.lock_steps.proofs.Modes.{go-as-modes, cover-as-modes}
 use Rattle.lock_steps.proofs.Running.{steps-sound, steps-join, sound-covers}
-use Rattle.lock_steps.proofs.Tying.{eff-runs, eff-waits}
+use Rattle.lock_steps.proofs.Tying.{fits-at-most}
 use Rattle.lock_steps.proofs.Mailing.{mail-is-none}
 use Rattle.lock_steps.proofs.Holding.{holder-steps}
 use Rattle.lock_steps.proofs.Turning.{table-steps}
@@ -67,6 +67,7 @@ begins-tied lock p b = record {
     roll = b.members k x ∙ sym (among-here p.membership.members k x);
     taken = b.taken k x ∙ sym (among-here p.membership.members k x);
     mode = λ m. ap (λ (h : Holdings). mode_in h lock) (b.holders k x) ∙ sym (ap mode_for (starting-eff (among p.membership.members k) (among p.membership.waiting k)));
+    left = λ m. ap (λ (h : Holdings). is_at_least Nl (mode_in h lock)) (b.holders k x);
     asked = λ m. ap (λ (h : Holdings). is_some (wanted_in h lock)) (b.holders k x);
     table = ap (λ (t : LockState). unwrap_or (mode_of_node t.held k) Nl) b.table;
     heard = b.ended k x ∙ sym (among-here p.membership.members k x);
@@ -96,21 +97,11 @@ list-steps lock p q b calls =
 
 -- ---- what holds then
 
-goes-null : (a : State) → goes a Un ≡ true
-goes-null a = go-as-modes a Un ∙ together-turned Nl (mode_for a) refl
-
--- what a node's present life holds is Un, or its state
-eff-goes : (a : State) (n : Node) → goes a (n.state) ≡ true → goes a (eff n) ≡ true
-eff-goes a n e = elim (cases_Bool (n.waits)) [
-  | inl w ↦ subst (λ (s : State). goes a s ≡ true) (sym (eff-waits n w)) (goes-null a)
-  | inr r ↦ subst (λ (s : State). goes a s ≡ true) (sym (eff-runs n r)) e
-]
-
-eff-goes-first : (n : Node) (b : State) → goes (n.state) b ≡ true → goes (eff n) b ≡ true
-eff-goes-first n b e = elim (cases_Bool (n.waits)) [
-  | inl w ↦ subst (λ (s : State). goes s b ≡ true) (sym (eff-waits n w)) refl
-  | inr r ↦ subst (λ (s : State). goes s b ≡ true) (sym (eff-runs n r)) e
-]
+-- lower modes go together where higher ones do
+lower-go : (a b : State) (c d : Mode) → goes a b ≡ true → is_at_least (mode_for a) c ≡ true → is_at_least (mode_for b) d ≡ true → go_together c d ≡ true
+lower-go a b c d e x y =
+    let first : go_together (mode_for a) d ≡ true = together-weaker (mode_for a) (mode_for b) d (sym (go-as-modes a b) ∙ e) y in
+    together-turned d c (together-weaker d (mode_for a) c (together-turned (mode_for a) d first) x)
 
 -- of a list that is nothing or one thing
 each : (P : Mode → Type 0) (o : Option State) (ms : List Mode) → ms ≡ option_to_list (option_map mode_for o) → ((s : State) → o ≡ Some s → P (mode_for s)) → AllByRecursion P ms
@@ -119,11 +110,19 @@ each P (Some s) ms e all = subst (AllByRecursion P) (sym e) (all s refl, tt)
 
 pub are-right : (lock : LockName) (p : Parts) (l : ℕ → Node) → Sound l → Tied lock p l → AreRight lock p
 are-right lock p l sound tied = record {
-  compatible = λ i k x y ne m n. ap (λ (a : Mode). go_together a (mode_in (p.holders k) lock)) ((tied.nodes i x).mode m)
-      ∙ (ap (go_together (mode_for (eff (l i)))) ((tied.nodes k y).mode n)
-      ∙ (sym (go-as-modes (eff (l i)) (eff (l k))) ∙ eff-goes-first (l i) (eff (l k)) (eff-goes ((l i).state) (l k) (sound.apart i k ne _ _ Holds Holds))));
-  grants_compatible = λ i k x y ne n. each (λ mode. go_together mode (mode_in (p.holders k) lock) ≡ true) ((l i).down) _ (tied.nodes i x).down
-      (λ s e. ap (go_together (mode_for s)) ((tied.nodes k y).mode n) ∙ (sym (go-as-modes s (eff (l k))) ∙ eff-goes s (l k) (sound.apart i k ne _ _ (Granted s e) Holds)));
+  compatible = λ i k x y ne. (let f = tied.nodes i x in let g = tied.nodes k y in (
+      (
+        lower-go ((l i).state) ((l k).state) _ _ (sound.apart i k ne _ _ Holds Holds) (fits-at-most f) (fits-at-most g),
+        each (λ b. go_together (mode_in (p.holders i) lock) b ≡ true) ((l k).down) _ g.down
+            (λ s e. lower-go ((l i).state) s _ _ (sound.apart i k ne _ _ Holds (Granted s e)) (fits-at-most f) (covers-itself (mode_for s))),
+      ),
+      each (λ a. AllByRecursion (λ b. go_together a b ≡ true) (held_or_coming lock p k)) ((l i).down) _ f.down
+          (λ s e. (
+            lower-go s ((l k).state) _ _ (sound.apart i k ne _ _ (Granted s e) Holds) (covers-itself (mode_for s)) (fits-at-most g),
+            each (λ b. go_together (mode_for s) b ≡ true) ((l k).down) _ g.down
+                (λ t h. sym (go-as-modes s t) ∙ sound.apart i k ne _ _ (Granted s e) (Granted t h)),
+          )),
+  ));
   covers = λ k x m taken ended. (let f = tied.nodes k x in
       ap (λ (a : Mode). is_at_least a (mode_in (p.holders k) lock)) f.table
       ∙ (ap (is_at_least (mode_for ((l k).table))) (f.mode m)

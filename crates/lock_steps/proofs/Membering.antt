@@ -2,10 +2,12 @@
 use Rattle.std.proofs.Common.{ℕ, ◌≡◌, ◌≤◌, ◌<◌, ◌+◌, inl, inr, Bool, true, false, Option, None, is_some, List, [], ◌∷◌, ◌++◌, map, cond, refl, sym, ap, ◌∙◌, subst, arith}
 use Rattle.std.specs.Prelude.{◌==◌}
 use Rattle.std.specs.List.{AllByRecursion, filter_map}
-use Rattle.std.proofs.lemmas.Bool.{cases_eq, cases_Bool}
+use Rattle.std.proofs.lemmas.Bool.{cases_eq, cases_Bool, cond-true, cond-false}
 use Rattle.glock_names.specs.declared.LockName.{LockName}
 use Rattle.glock_names.specs.States.{mode_for}
 use Rattle.dlm_modes.specs.declared.Mode.{Mode}
+use Rattle.dlm_modes.specs.declared.Mode.TheVariants.{Nl}
+use Rattle.dlm_modes.specs.Modes.{is_at_least}
 use Rattle.fencing.specs.NodeSets.{has, with_node, without_node}
 use Rattle.fencing.specs.Members.{stopped, recovered_too, admitted}
 use Rattle.fencing.proofs.NodeSetLaws.{adds-one, takes-one}
@@ -19,13 +21,13 @@ use Rattle.lock_steps.specs.Runs.{Steps, Stays, AndThen}
 use Rattle.lock_steps.specs.Parts.{Parts, way, with_letters}
 use Rattle.lock_steps.specs.Ties.{Tell, tell_of, Sight, sight, Fits, IsNobody, Tied, in_view, tells, grants}
 use Rattle.lock_steps.specs.Ties as ties
-use Rattle.lock_steps.specs.Calls.{Stops, Fences, IsRecovered, Joins, Changes, TakesView, AskOver, Dropped, NoAsk, SaysAll, TellsHeld, TellsNone}
+use Rattle.lock_steps.specs.Calls.{left_of, Stops, Fences, IsRecovered, Joins, Changes, TakesView, AskOver, Dropped, NoAsk, SaysAll, TellsHeld, TellsNone}
 use Rattle.lock_steps.specs.Laws.{Follows, MemberCallsAreSteps, MemberCallsMoveAllLocks}
 use Rattle.lock_steps.proofs.Running.{one-step}
 use Rattle.lock_steps.proofs.Basics.{true-false, eqb-other, at-here, at-away}
 use Rattle.lock_steps.proofs.Ways.{letters-say, letters-mute, letters-away, letters-all}
 use Rattle.lock_steps.proofs.Sets.{zero-has}
-use Rattle.lock_steps.proofs.Tying.{holding-is, eff-runs, eff-waits, same-sight, one-node, no-other}
+use Rattle.lock_steps.proofs.Tying.{holding-is, eff-runs, eff-waits, fits-at-most, same-sight, one-node, no-other}
 
 small : (k : ℕ) → k ≤ 8 → k < 16
 small k x = omega arith
@@ -117,6 +119,14 @@ module _ (lock : LockName) (p : Parts) (l : ℕ → Node) (k : ℕ) (h : Holding
     mail = λ i j y z. letters-all (λ m. m.generation ≤ p.membership.generation) p.post k p.master letters i j old (tied.mail i j y z);
   }
 
+-- ---- what is left of a stopped node
+
+left-member : (p : Parts) (k : ℕ) → has p.membership.members k ≡ true → left_of p k ≡ p.holders k
+left-member p k e = cond-true _ _ _ e
+
+left-other : (p : Parts) (k : ℕ) → has p.membership.members k ≡ false → left_of p k ≡ []
+left-other p k e = cond-false _ _ _ e
+
 -- ---- the calls
 
 pub member-steps : MemberCallsAreSteps
@@ -135,6 +145,7 @@ member-steps lock p _ l (Stops k x) sound tied =
           roll = f.roll;
           taken = f.taken;
           mode = λ m. true-false m (without-here p.membership.members k x);
+          left = λ m. fits-at-most f;
           asked = λ m. true-false m (without-here p.membership.members k x);
           table = f.table;
           heard = f.heard;
@@ -170,7 +181,8 @@ member-steps lock p _ l (Fences k) sound tied = record {
 member-steps lock p _ l (IsRecovered k x waits) sound tied =
     let f = tied.nodes k x in
     let n : Node = record (l k) { waits = false; state = Un } in
-    let q : Parts = record p { membership = recovered_too p.membership k } in
+    let q : Parts = record p { membership = recovered_too p.membership k; holders = at p.holders k (left_of p k) } in
+    let now : at p.holders k (left_of p k) k ≡ left_of p k = at-here p.holders k (left_of p k) in
     let w : (l k).waits ≡ true = sym f.waits ∙ waits in
     record {
       state = at l k n;
@@ -182,15 +194,20 @@ member-steps lock p _ l (IsRecovered k x waits) sound tied =
           waits = without-here p.membership.waiting k x;
           roll = f.roll;
           taken = f.taken;
-          mode = λ m. f.mode m ∙ ap mode_for (eff-waits (l k) w);
-          asked = f.asked;
+          mode = λ m. ap (λ (h : Holdings). mode_in h lock) (now ∙ left-member p k m) ∙ (f.mode m ∙ ap mode_for (eff-waits (l k) w));
+          left = λ m. ap (λ (h : Holdings). is_at_least Nl (mode_in h lock)) (now ∙ left-other p k m);
+          asked = λ m. ap (λ (h : Holdings). is_some (wanted_in h lock)) (now ∙ left-member p k m) ∙ f.asked m;
           table = f.table;
           heard = f.heard;
           wants = f.wants;
           up = f.up;
           down = f.down;
         })
-            (λ i y ne t. record (sight lock p i) { waits = sym (without-away p.membership.waiting k i x y ne) t });
+            (λ i y ne t. record (sight lock p i) {
+              waits = sym (without-away p.membership.waiting k i x y ne) t;
+              mode = mode_in (sym (at-away p.holders k (left_of p k) i ne) t) lock;
+              asked = is_some (wanted_in (sym (at-away p.holders k (left_of p k) i ne) t) lock);
+            });
         others = no-other lock p q l k n x tied;
         master = tied.master;
         table = tied.table;
@@ -219,6 +236,7 @@ member-steps lock p _ l (Joins k x out) sound tied =
           roll = f.roll;
           taken = f.taken;
           mode = λ m. ap (λ (h : Holdings). mode_in h lock) (at-here p.holders k []) ∙ sym (ap mode_for un);
+          left = λ m. true-false (with-node-here p.membership.members k) m;
           asked = λ m. ap (λ (h : Holdings). is_some (wanted_in h lock)) (at-here p.holders k []);
           table = f.table;
           heard = f.heard;
@@ -251,6 +269,7 @@ member-steps lock p _ l (Changes master x is) sound tied = record {
       roll = f.member;
       taken = refl;
       mode = f.mode;
+      left = f.left;
       asked = f.asked;
       table = refl;
       heard = zero-has i;
@@ -291,6 +310,7 @@ member-steps lock p _ l (TakesView k h letters over x member roll untaken old sa
             roll = f.roll;
             taken = at-here p.taken k true;
             mode = λ m. mode-kept lock p l k h letters over x untaken old mute sound tied ∙ f.mode m;
+            left = λ m. true-false member m;
             asked = λ m. ask-over lock p l k h letters over x untaken old mute sound tied;
             table = f.table;
             heard = f.heard;
@@ -315,6 +335,7 @@ member-steps lock p _ l (TakesView k h letters over x member roll untaken old sa
             roll = f.roll;
             taken = at-here p.taken k true;
             mode = λ e. mode-kept lock p l k h letters over x untaken old mute sound tied ∙ f.mode e;
+            left = λ m. true-false member m;
             asked = λ e. ask-over lock p l k h letters over x untaken old mute sound tied;
             table = tied.unheard k x untaken ∙ (sym nl ∙ f.mode member);
             heard = f.heard;

@@ -224,6 +224,7 @@ table-steps lock p _ l (Ended k rest x hand) sound tied =
           roll = f.roll;
           taken = f.taken;
           mode = f.mode;
+          left = f.left;
           asked = f.asked;
           table = f.table;
           heard = (adds-one p.table.ended k k).0;

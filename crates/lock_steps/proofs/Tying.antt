@@ -1,18 +1,22 @@
 -- What the parts and the machine have in common after a call at one node.
-use Rattle.std.proofs.Common.{ℕ, ◌≡◌, ◌≢◌, ◌≤◌, ◌<◌, inl, inr, Bool, true, false, Option, None, Some, [], ◌∷◌, refl, sym, ap, subst, arith}
+use Rattle.std.proofs.Common.{ℕ, ◌≡◌, ◌≢◌, ◌≤◌, ◌<◌, inl, inr, Bool, true, false, Option, None, Some, [], ◌∷◌, refl, sym, ap, ◌∙◌, subst, arith}
 use Rattle.std.specs.Prelude.{unwrap_or}
 use Rattle.std.specs.List.{AllByRecursion, filter_map}
-use Rattle.std.proofs.lemmas.Bool.{cases_eq, cond-true, cond-false}
+use Rattle.std.proofs.lemmas.Bool.{cases_eq, cases_Bool, cond-true, cond-false}
 use Rattle.glock_names.specs.declared.LockName.{LockName}
 use Rattle.glock_names.specs.LockMaps.{with_lock}
 use Rattle.glock_names.proofs.LockMapLaws.{at_lock-with_same, at_lock-with_other}
+use Rattle.glock_names.specs.States.{mode_for}
+use Rattle.dlm_modes.specs.Modes.{is_at_least}
+use Rattle.dlm_modes.proofs.ModeLaws.{covers-itself}
 use Rattle.mail_queues.specs.declared.Message.{Message}
 use Rattle.mail_queues.specs.declared.Body.{Body}
 use Rattle.dlm_holder.specs.Holdings.{Holdings, nothing, holding_of}
 use Rattle.dlm_holder.specs.declared.Holding.{Holding}
-use Rattle.lock_laws.specs.Lock.{Un, Node, eff, at}
+use Rattle.lock_laws.specs.Lock.{State, Un, Node, eff, at}
 use Rattle.lock_steps.specs.Parts.{Parts, Post, way}
 use Rattle.lock_steps.specs.Ties.{Sight, sight, Fits, IsNobody, Tied, in_view, tells, grants}
+use Rattle.lock_steps.proofs.Modes.{cover-as-modes}
 use Rattle.lock_steps.proofs.Basics.{eqb-self, at-here, at-away}
 
 -- ---- messages
@@ -39,6 +43,16 @@ eff-runs n e = cond-false _ _ _ e
 
 pub eff-waits : (n : Node) → n.waits ≡ true → eff n ≡ Un
 eff-waits n e = cond-true _ _ _ e
+
+-- what a holder has is at most the machine's state
+pub fits-at-most : {s : Sight} {n : Node} → Fits s n → is_at_least (mode_for (n.state)) s.mode ≡ true
+fits-at-most {s} {n} f = elim (cases_Bool (s.member)) [
+  | inl m ↦ ap (is_at_least (mode_for (n.state))) (f.mode m) ∙ elim (cases_Bool (n.waits)) [
+    | inl w ↦ ap (λ (a : State). is_at_least (mode_for (n.state)) (mode_for a)) (eff-waits n w) ∙ sym (cover-as-modes Un (n.state))
+    | inr r ↦ ap (λ (a : State). is_at_least (mode_for (n.state)) (mode_for a)) (eff-runs n r) ∙ covers-itself (mode_for (n.state))
+  ]
+  | inr out ↦ f.left out
+]
 
 -- a node's sight where holders, letters and views taken change
 pub same-sight : (lock : LockName) (p : Parts) (holders : ℕ → Holdings) (post : Post) (taken : ℕ → Bool) (i : ℕ) → holders i ≡ p.holders i → taken i ≡ p.taken i

@@ -162,13 +162,17 @@ pub data SaysAll (lock : LockName) (p : Parts) (k : ℕ) (letters : List Message
   TellsHeld : filter_map (in_view p.membership.generation (tells lock)) letters ≡ Reports (mode_in (p.holders k) lock) ∷ Ends ∷ [] → SaysAll lock p k letters
   TellsNone : mode_in (p.holders k) lock ≡ Nl → filter_map (in_view p.membership.generation (tells lock)) letters ≡ Ends ∷ [] → SaysAll lock p k letters
 
+-- of a node that is no member nothing is left once its slot is recovered
+abbrev pub left_of : Parts → ℕ → Holdings
+left_of p k = if has p.membership.members k then p.holders k else []
+
 pub data MemberCall (lock : LockName) (p : Parts) : Parts → Type 0 where
   -- `Membership::stop`. The lock's master is told later, in a call of its own
   Stops : (k : ℕ) → k ≤ 8 → MemberCall lock p (record p { membership = stopped p.membership k })
   -- `Membership::fence`
   Fences : (k : ℕ) → MemberCall lock p (record p { membership = fenced_too p.membership k })
   -- `Membership::recovered`
-  IsRecovered : (k : ℕ) → k ≤ 8 → has p.membership.waiting k ≡ true → MemberCall lock p (record p { membership = recovered_too p.membership k })
+  IsRecovered : (k : ℕ) → k ≤ 8 → has p.membership.waiting k ≡ true → MemberCall lock p (record p { membership = recovered_too p.membership k; holders = at p.holders k (left_of p k) })
   -- `Membership::admit`, with a holder that has asked for nothing
   Joins : (k : ℕ) → k ≤ 8 → has p.membership.members k ≡ false
       → MemberCall lock p (record p { membership = admitted p.membership k; holders = at p.holders k []; fresh = at p.fresh k true })

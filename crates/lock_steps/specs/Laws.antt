@@ -1,7 +1,8 @@
 -- Each call of the lock manager's parts is a step of the lock, or a few, or none.
-use Rattle.std.specs.Prelude.{ℕ, ◌≡◌, ◌≢◌, ◌≤◌, Bool, true, false, [], Some}
+use Rattle.std.specs.Prelude.{ℕ, ◌≡◌, ◌≢◌, ◌≤◌, Bool, true, false, List, [], ◌∷◌, Some}
 use Rattle.std.specs.List.{AllByRecursion}
 use Rattle.glock_names.specs.declared.LockName.{LockName}
+use Rattle.dlm_modes.specs.declared.Mode.{Mode}
 use Rattle.dlm_modes.specs.Modes.{go_together, is_at_least}
 use Rattle.fencing.specs.NodeSets.{has}
 use Rattle.fencing.specs.Members.{stopped, recovered_too, admitted, in_next_view}
@@ -12,7 +13,7 @@ use Rattle.lock_laws.specs.Lock.{Un, Node, Sound, at, anew, starting}
 use Rattle.lock_steps.specs.Runs.{Steps}
 use Rattle.lock_steps.specs.Parts.{Parts, Post, way}
 use Rattle.lock_steps.specs.Ties.{Tied, sight, present}
-use Rattle.lock_steps.specs.Calls.{NoneWaits, MailCall, HolderCall, TableCall, MemberCall}
+use Rattle.lock_steps.specs.Calls.{NoneWaits, left_of, MailCall, HolderCall, TableCall, MemberCall}
 
 -- the parts after a call are the machine after a list of its steps
 pub record Follows (lock : LockName) (l : ℕ → Node) (p : Parts) : Type 0 where
@@ -36,7 +37,7 @@ MemberCallsAreSteps = (lock : LockName) (p q : Parts) (l : ℕ → Node) → Mem
 pub record MoveAllLocks (lock : LockName) (p : Parts) (l : ℕ → Node) : Type 0 where
   pub stops : (k : ℕ) → k ≤ 8 → Tied lock (record p { membership = stopped p.membership k }) (at l k (record (l k) { member = false; waits = true }))
   pub recovered : (k : ℕ) → k ≤ 8 → has p.membership.waiting k ≡ true
-      → Tied lock (record p { membership = recovered_too p.membership k }) (at l k (record (l k) { waits = false; state = Un }))
+      → Tied lock (record p { membership = recovered_too p.membership k; holders = at p.holders k (left_of p k) }) (at l k (record (l k) { waits = false; state = Un }))
   pub joins : (k : ℕ) → k ≤ 8 → has p.membership.members k ≡ false
       → Tied lock (record p { membership = admitted p.membership k; holders = at p.holders k []; fresh = at p.fresh k true }) (at l k (record (l k) { member = true; fresh = true; asked = false }))
   pub view : (master : ℕ) → master ≤ 8 → master_for p.membership.members lock ≡ Some master
@@ -78,13 +79,15 @@ abbrev pub EveryListIsSteps : Type 0
 EveryListIsSteps = (lock : LockName) (p q : Parts) → Begins lock p → Calls lock p q
     → (runs : ℕ → Bool) × (waits : ℕ → Bool) × (l : ℕ → Node) × Steps (λ k. starting (runs k) (waits k)) l × Tied lock q l
 
+-- what a node holds, a stopped one until its slot is recovered, and what is granted to it and on its way
+abbrev pub held_or_coming : LockName → Parts → ℕ → List Mode
+held_or_coming lock p k = mode_in (p.holders k) lock ∷ (sight lock p k).down
+
 -- what holds of the parts after every list of calls
 pub record AreRight (lock : LockName) (p : Parts) : Type 0 where
-  -- two members hold the lock in modes that go together; and what is granted to one and on its way goes with what the other holds
-  pub compatible : (i k : ℕ) → i ≤ 8 → k ≤ 8 → i ≢ k → has p.membership.members i ≡ true → has p.membership.members k ≡ true
-      → go_together (mode_in (p.holders i) lock) (mode_in (p.holders k) lock) ≡ true
-  pub grants_compatible : (i k : ℕ) → i ≤ 8 → k ≤ 8 → i ≢ k → has p.membership.members k ≡ true
-      → AllByRecursion (λ mode. go_together mode (mode_in (p.holders k) lock) ≡ true) (sight lock p i).down
+  -- what one node holds or is granted goes with what another holds or is granted
+  pub compatible : (i k : ℕ) → i ≤ 8 → k ≤ 8 → i ≢ k
+      → AllByRecursion (λ a. AllByRecursion (λ b. go_together a b ≡ true) (held_or_coming lock p k)) (held_or_coming lock p i)
   -- of a member whose reports have ended the table has at least what it holds, and what is granted to it and on its way
   pub covers : (k : ℕ) → k ≤ 8 → has p.membership.members k ≡ true → p.taken k ≡ true → has p.table.ended k ≡ true
       → is_at_least ((sight lock p k).table) (mode_in (p.holders k) lock) ≡ true

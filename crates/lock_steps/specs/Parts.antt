@@ -25,7 +25,7 @@ pub record Parts : Type 0 where
   -- Until that node takes the view, it is what `Rebuild::new` will give there
   pub master : ℕ
   pub table : RebuildState
-  -- what each node holds
+  -- what each node holds, a stopped one until its slot is recovered
   pub holders : ℕ → Holdings
   pub post : Post
   -- the node has joined since the present view began; it has taken the present view

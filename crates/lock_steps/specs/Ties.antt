@@ -6,6 +6,7 @@ use Rattle.glock_names.specs.LockMaps.{same_lock}
 use Rattle.glock_names.specs.States.{mode_for}
 use Rattle.dlm_modes.specs.declared.Mode.{Mode}
 use Rattle.dlm_modes.specs.declared.Mode.TheVariants.{Nl}
+use Rattle.dlm_modes.specs.Modes.{is_at_least}
 use Rattle.fencing.specs.NodeSets.{has}
 use Rattle.mail_queues.specs.declared.Message.{Message}
 use Rattle.mail_queues.specs.declared.Body.{Body}
@@ -97,7 +98,7 @@ sight lock p k = record {
   down = filter_map (in_view p.membership.generation (grants lock)) (way p.post p.master k);
 }
 
--- the machine's node is what the parts have. What a stopped node's holder has doesn't matter
+-- the machine's node is what the parts have; of a stopped node the holder has that state, or less
 pub record Fits (s : Sight) (n : Node) : Type 0 where
   pub member : s.member ≡ n.member
   pub fresh : s.fresh ≡ n.fresh
@@ -105,6 +106,7 @@ pub record Fits (s : Sight) (n : Node) : Type 0 where
   pub roll : s.roll ≡ n.roll
   pub taken : s.taken ≡ n.taken
   pub mode : s.member ≡ true → s.mode ≡ mode_for (eff n)
+  pub left : s.member ≡ false → is_at_least (mode_for (n.state)) s.mode ≡ true
   pub asked : s.member ≡ true → s.asked ≡ n.asked
   pub table : s.table ≡ mode_for n.table
   pub heard : s.heard ≡ n.heard

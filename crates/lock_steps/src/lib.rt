@@ -56,7 +56,8 @@ pub fn every_list_is_steps()
     ensures { EveryListIsSteps }
 {}
 
-/// A law: after every list of calls held modes go together, and a table has at least what is held and granted.
+/// A law: after every list of calls what one node holds, a stopped one until its slot is recovered, and is granted goes with what
+/// another holds and is granted; and a table has at least what is held and granted.
 pub fn every_list_is_right()
     ensures { EveryListIsRight }
 {}
