@@ -1,8 +1,8 @@
 -- Lists of calls.
-use Rattle.std.proofs.Common.{ℕ, ◌≡◌, ◌≤◌, ◌<◌, inl, inr, Bool, true, false, nat_lt, Option, None, Some, List, refl, sym, ap, ◌∙◌, subst, arith}
+use Rattle.std.proofs.Common.{ℕ, ◌≡◌, ◌≤◌, ◌<◌, ◌⊎◌, inl, inr, Bool, true, false, nat_lt, Option, None, Some, List, [], ◌∷◌, refl, sym, ap, ◌∙◌, subst, arith}
 use Rattle.std.specs.Prelude.{◌&&◌, option_map, option_to_list, unwrap_or, is_some}
 use Rattle.std.specs.List.{AllByRecursion, filter_map}
-use Rattle.std.proofs.lemmas.Bool.{cases_Bool, lt-ltb, le-ltb}
+use Rattle.std.proofs.lemmas.Bool.{lt-ltb, le-ltb}
 use Rattle.glock_names.specs.declared.LockName.{LockName}
 use Rattle.glock_names.specs.States.{mode_for}
 use Rattle.dlm_modes.specs.declared.Mode.{Mode}
@@ -108,6 +108,10 @@ each : (P : Mode → Type 0) (o : Option State) (ms : List Mode) → ms ≡ opti
 each P None ms e all = subst (AllByRecursion P) (sym e) tt
 each P (Some s) ms e all = subst (AllByRecursion P) (sym e) (all s refl, tt)
 
+at-most-one : (o : Option State) (ms : List Mode) → ms ≡ option_to_list (option_map mode_for o) → (ms ≡ []) ⊎ ((mode : Mode) × (ms ≡ mode ∷ []))
+at-most-one None ms e = inl e
+at-most-one (Some s) ms e = inr (mode_for s, e)
+
 pub are-right : (lock : LockName) (p : Parts) (l : ℕ → Node) → Sound l → Tied lock p l → AreRight lock p
 are-right lock p l sound tied = record {
   compatible = λ i k x y ne. (let f = tied.nodes i x in let g = tied.nodes k y in (
@@ -123,6 +127,7 @@ are-right lock p l sound tied = record {
                 (λ t h. sym (go-as-modes s t) ∙ sound.apart i k ne _ _ (Granted s e) (Granted t h)),
           )),
   ));
+  one_grant = λ k x. at-most-one ((l k).down) _ (tied.nodes k x).down;
   covers = λ k x m taken ended. (let f = tied.nodes k x in
       ap (λ (a : Mode). is_at_least a (mode_in (p.holders k) lock)) f.table
       ∙ (ap (is_at_least (mode_for ((l k).table))) (f.mode m)

@@ -1,5 +1,5 @@
 -- Each call of the lock manager's parts is a step of the lock, or a few, or none.
-use Rattle.std.specs.Prelude.{ℕ, ◌≡◌, ◌≢◌, ◌≤◌, Bool, true, false, List, [], ◌∷◌, Some}
+use Rattle.std.specs.Prelude.{ℕ, ◌≡◌, ◌≢◌, ◌≤◌, ◌⊎◌, Bool, true, false, List, [], ◌∷◌, ◌++◌, Some}
 use Rattle.std.specs.List.{AllByRecursion}
 use Rattle.glock_names.specs.declared.LockName.{LockName}
 use Rattle.dlm_modes.specs.declared.Mode.{Mode}
@@ -88,6 +88,8 @@ pub record AreRight (lock : LockName) (p : Parts) : Type 0 where
   -- what one node holds or is granted goes with what another holds or is granted
   pub compatible : (i k : ℕ) → i ≤ 8 → k ≤ 8 → i ≢ k
       → AllByRecursion (λ a. AllByRecursion (λ b. go_together a b ≡ true) (held_or_coming lock p k)) (held_or_coming lock p i)
+  -- at most one grant is on its way to a node
+  pub one_grant : (k : ℕ) → k ≤ 8 → ((sight lock p k).down ≡ []) ⊎ ((mode : Mode) × ((sight lock p k).down ≡ mode ∷ []))
   -- of a member whose reports have ended the table has at least what it holds, and what is granted to it and on its way
   pub covers : (k : ℕ) → k ≤ 8 → has p.membership.members k ≡ true → p.taken k ≡ true → has p.table.ended k ≡ true
       → is_at_least ((sight lock p k).table) (mode_in (p.holders k) lock) ≡ true
@@ -103,7 +105,11 @@ pub record MayGrant (p : Parts) : Type 0 where
   pub heard : (i : ℕ) → i ≤ 8 → has p.table.members i ≡ true → has p.table.ended i ≡ true
   pub runs : NoneWaits p
 
--- after every list of calls, whichever call then sets a grant on its way to a node makes it only where that is so
+-- a call sets no grant on its way to the node: those that were are, all or all but the first ones
+pub record SetsNone (lock : LockName) (p q : Parts) (k : ℕ) : Type 0 where
+  pub gone : List Mode
+  pub grants : (sight lock p k).down ≡ gone ++ (sight lock q k).down
+
+-- after every list of calls, whichever call then sets a grant on its way, behind others or none, makes it only where that may be
 abbrev pub GrantsWait : Type 0
-GrantsWait = (lock : LockName) (a p q : Parts) (k : ℕ) → Begins lock a → Calls lock a p → Call lock p q → k ≤ 8
-    → (sight lock p k).down ≡ [] → (sight lock q k).down ≢ [] → MayGrant p
+GrantsWait = (lock : LockName) (a p q : Parts) (k : ℕ) → Begins lock a → Calls lock a p → Call lock p q → k ≤ 8 → SetsNone lock p q k ⊎ MayGrant p

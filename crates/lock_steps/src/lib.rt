@@ -62,7 +62,8 @@ pub fn every_list_is_right()
     ensures { EveryListIsRight }
 {}
 
-/// A law: a grant is made only where the table is no rebuild's, every member of the view has told all, and no slot waits.
+/// A law: a call sets a grant on its way, behind others or none, only where the table is no rebuild's, every member of the view has
+/// told all, and no slot waits.
 pub fn grants_wait()
     ensures { GrantsWait }
 {}
