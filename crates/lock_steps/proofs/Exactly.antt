@@ -1,6 +1,6 @@
 -- What a table has of a node once all that is under way has come, over the steps of a lock.
 use Rattle.std.proofs.Common.{ℕ, ◌≡◌, inl, inr, Bool, true, false, Option, None, Some, is_some, List, [], ◌∷◌, ◌++◌, map, refl, sym, ap, ◌∙◌, subst}
-use Rattle.std.specs.Prelude.{◌||◌, option_map}
+use Rattle.std.specs.Prelude.{⊤, ◌||◌, option_map}
 use Rattle.std.proofs.lemmas.Bool.{cases_eq, cases_Bool}
 use Rattle.glock_names.specs.declared.LockName.{LockName}
 use Rattle.glock_names.specs.States.{mode_for}
@@ -22,12 +22,12 @@ use Rattle.lock_steps.specs.Parts.{Parts}
 use Rattle.lock_steps.specs.Ties.{Tell, tell_of, Fits, Tied, tells, grants, sight, present}
 use Rattle.lock_steps.specs.Ties as ties
 use Rattle.lock_steps.specs.Laws.{Begins, Calls}
-use Rattle.lock_steps.specs.Exact.{told_last, TablesAreExact, RequestsFindNothing, LowersOnlyLower, ReportsFindARebuild, HoldersAskForNothing}
+use Rattle.lock_steps.specs.Exact.{told_last, TablesAreExact, RequestsFindNothing, LowersOnlyLower, ReportsFindARebuild, EndsFindARebuild, HoldersAskForNothing}
 use Rattle.lock_steps.proofs.Modes.{cover-as-modes}
 use Rattle.lock_steps.proofs.Running.{steps-sound}
 use Rattle.lock_steps.proofs.Basics.{true-false, at-here, at-away}
 use Rattle.lock_steps.proofs.Tying.{eff-runs, eff-waits}
-use Rattle.lock_steps.proofs.Tabling.{tied-of, first, has-taken, is-ask, is-down, is-report}
+use Rattle.lock_steps.proofs.Tabling.{tied-of, first, has-taken, is-ask, is-down, is-report, is-end}
 use Rattle.lock_steps.proofs.Holding.{says-request, says-down, says-report}
 use Rattle.lock_steps.proofs.Listing.{list-steps}
 
@@ -85,6 +85,28 @@ ask-down (End ∷ q) s = ask-down q s
 ask-down (Lowered t ∷ q) s = ask-down q s
 ask-down (Asked t ∷ q) s = refl
 
+-- at most one of them ends the reports, and none where they have ended
+abbrev EndsOnce : Bool → List machine.Message → Type 0
+EndsOnce heard [] = ⊤
+EndsOnce heard (End ∷ q) = (heard ≡ false) × EndsOnce true q
+EndsOnce heard (Report s ∷ q) = EndsOnce heard q
+EndsOnce heard (Lowered s ∷ q) = EndsOnce heard q
+EndsOnce heard (Asked s ∷ q) = EndsOnce heard q
+
+ends-ask : (heard : Bool) (q : List machine.Message) (s : State) → EndsOnce heard q → EndsOnce heard (q ++ Asked s ∷ [])
+ends-ask heard [] s once = tt
+ends-ask heard (End ∷ q) s once = (once.0, ends-ask true q s once.1)
+ends-ask heard (Report t ∷ q) s once = ends-ask heard q s once
+ends-ask heard (Lowered t ∷ q) s once = ends-ask heard q s once
+ends-ask heard (Asked t ∷ q) s once = ends-ask heard q s once
+
+ends-down : (heard : Bool) (q : List machine.Message) (s : State) → EndsOnce heard q → EndsOnce heard (q ++ Lowered s ∷ [])
+ends-down heard [] s once = tt
+ends-down heard (End ∷ q) s once = (once.0, ends-down true q s once.1)
+ends-down heard (Report t ∷ q) s once = ends-down heard q s once
+ends-down heard (Lowered t ∷ q) s once = ends-down heard q s once
+ends-down heard (Asked t ∷ q) s once = ends-down heard q s once
+
 settled-told : (q : List machine.Message) (t : State) → told_last (map tell_of q) (mode_for t) ≡ mode_for (settled q t)
 settled-told [] t = refl
 settled-told (Report s ∷ q) t = settled-told q s
@@ -100,16 +122,18 @@ record Exact (n : Node) : Type 0 where
   wanting : (s : State) → n.wants ≡ Some s → settled (n.up) (n.table) ≡ Un
   granted : (s : State) → n.down ≡ Some s → settled (n.up) (n.table) ≡ s
   reported : (s : State) → n.wants ≡ Some s → has_report (n.up) ≡ false
+  ends : EndsOnce (n.heard) (n.up)
 
 -- a message that was taken changes nothing of it
 heard-same : (n : Node) (m : machine.Message) (q : List machine.Message) (table : State) (heard : Bool) → n.up ≡ m ∷ q → settled q table ≡ settled (m ∷ q) (n.table) → has_ask q ≡ has_ask (m ∷ q)
-    → (has_report (m ∷ q) ≡ false → has_report q ≡ false) → Exact n → Exact (record n { table = table; heard = heard; up = q })
-heard-same n m q table heard e same asks told x = record {
+    → (has_report (m ∷ q) ≡ false → has_report q ≡ false) → EndsOnce heard q → Exact n → Exact (record n { table = table; heard = heard; up = q })
+heard-same n m q table heard e same asks told once x = record {
   idle = λ a b c d. along ∙ x.idle a b c d;
   asking = λ a. along ∙ x.asking (ap has_ask e ∙ (sym asks ∙ a));
   wanting = λ s w. along ∙ x.wanting s w;
   granted = λ s w. along ∙ x.granted s w;
   reported = λ s w. told (sym (ap has_report e) ∙ x.reported s w);
+  ends = once;
 }
   where
     along : settled q table ≡ settled (n.up) (n.table)
@@ -122,16 +146,18 @@ move-exact n _ (Asks s member fresh taken runs un idle) f x = record {
   wanting = λ t w. settled-ask (n.up) (n.table) s ∙ x.wanting t w;
   granted = λ t w. settled-ask (n.up) (n.table) s ∙ x.granted t w;
   reported = λ t w. report-ask (n.up) s ∙ x.reported t w;
+  ends = ends-ask (n.heard) (n.up) s x.ends;
 }
-move-exact n _ (HearsReport s q e) f x = heard-same n (Report s) q s (n.heard) e refl refl (λ r. true-false refl r) x
-move-exact n _ (HearsEnd q e) f x = heard-same n End q (n.table) true e refl refl (λ r. r) x
-move-exact n _ (HearsDown s q e) f x = heard-same n (Lowered s) q s (n.heard) e refl refl (λ r. r) x
+move-exact n _ (HearsReport s q e) f x = heard-same n (Report s) q s (n.heard) e refl refl (λ r. true-false refl r) (subst (EndsOnce (n.heard)) e x.ends) x
+move-exact n _ (HearsEnd q e) f x = heard-same n End q (n.table) true e refl refl (λ r. r) (let once : EndsOnce (n.heard) (End ∷ q) = subst (EndsOnce (n.heard)) e x.ends in once.1) x
+move-exact n _ (HearsDown s q e) f x = heard-same n (Lowered s) q s (n.heard) e refl refl (λ r. r) (subst (EndsOnce (n.heard)) e x.ends) x
 move-exact n _ (HearsAsk s q e) f x = record {
   idle = λ a b c d. along ∙ x.idle a b c d;
   asking = λ a. along ∙ x.asking (ap has_ask e);
   wanting = λ t w. along ∙ x.asking (ap has_ask e);
   granted = λ t w. along ∙ x.granted t w;
   reported = λ t w. order.0;
+  ends = subst (EndsOnce (n.heard)) e x.ends;
 }
   where
     order : machine.InOrder (Asked s ∷ q)
@@ -145,14 +171,16 @@ move-exact n _ (Receives s e member fresh runs) f x = record {
   wanting = x.wanting;
   granted = λ t w. some-none refl w;
   reported = x.reported;
+  ends = x.ends;
 }
-move-exact n _ (Drops s e) f x = record { idle = x.idle; asking = x.asking; wanting = x.wanting; granted = λ t w. some-none refl w; reported = x.reported }
+move-exact n _ (Drops s e) f x = record { idle = x.idle; asking = x.asking; wanting = x.wanting; granted = λ t w. some-none refl w; reported = x.reported; ends = x.ends }
 move-exact n _ (Lowers s member fresh taken runs low held) f x = record {
   idle = λ a b c d. settled-down (n.up) (n.table) s ∙ sym (eff-runs (record n { state = s; up = n.up ++ Lowered s ∷ [] }) runs);
   asking = λ a. true-false (sym (ask-down (n.up) s) ∙ a) quiet.0;
   wanting = λ t w. some-none quiet.1 w;
   granted = λ t w. some-none quiet.2 w;
   reported = λ t w. some-none quiet.1 w;
+  ends = ends-down (n.heard) (n.up) s x.ends;
 }
   where
     not-asked : n.asked ≡ false
@@ -166,10 +194,11 @@ move-exact n _ (TakesView member roll untaken) f x = record {
   wanting = λ t w. some-none (f.bare untaken).2 w;
   granted = λ t w. some-none (f.bare untaken).1 w;
   reported = λ t w. some-none (f.bare untaken).2 w;
+  ends = ((f.bare untaken).3, tt);
 }
-move-exact n _ Stops f x = record { idle = λ a b c d. true-false a refl; asking = x.asking; wanting = x.wanting; granted = x.granted; reported = x.reported }
-move-exact n _ (IsRecovered waits) f x = record { idle = λ a b c d. x.idle a b c d ∙ eff-waits n waits; asking = x.asking; wanting = x.wanting; granted = x.granted; reported = x.reported }
-move-exact n _ (Joins out) f x = record { idle = λ a b c d. true-false refl b; asking = x.asking; wanting = x.wanting; granted = x.granted; reported = x.reported }
+move-exact n _ Stops f x = record { idle = λ a b c d. true-false a refl; asking = x.asking; wanting = x.wanting; granted = x.granted; reported = x.reported; ends = x.ends }
+move-exact n _ (IsRecovered waits) f x = record { idle = λ a b c d. x.idle a b c d ∙ eff-waits n waits; asking = x.asking; wanting = x.wanting; granted = x.granted; reported = x.reported; ends = x.ends }
+move-exact n _ (Joins out) f x = record { idle = λ a b c d. true-false refl b; asking = x.asking; wanting = x.wanting; granted = x.granted; reported = x.reported; ends = x.ends }
 
 anew-exact : (n : Node) → Exact (anew n)
 anew-exact n = record {
@@ -178,15 +207,17 @@ anew-exact n = record {
   wanting = λ t w. some-none refl w;
   granted = λ t w. some-none refl w;
   reported = λ t w. some-none refl w;
+  ends = tt;
 }
 
-granted-exact : (n : Node) (s : State) → Fine n → (n.roll ≡ true → n.heard ≡ true) → n.wants ≡ Some s → Exact (record n { table = s; wants = None; down = Some s })
-granted-exact n s f ready w = record {
+granted-exact : (n : Node) (s : State) → Fine n → (n.roll ≡ true → n.heard ≡ true) → n.wants ≡ Some s → EndsOnce (n.heard) (n.up) → Exact (record n { table = s; wants = None; down = Some s })
+granted-exact n s f ready w once = record {
   idle = λ a b c d. some-none (f.idle d b).1 w;
   asking = λ a. true-false a (f.wanting s w).1;
   wanting = λ t v. some-none refl v;
   granted = λ t v. settled-same (n.up) s no-report (f.wanting s w).0 ∙ inside v;
   reported = λ t v. some-none refl v;
+  ends = once;
 }
   where
     inside : {a b : State} → Some a ≡ Some b → a ≡ b
@@ -208,7 +239,7 @@ step-exact : (l l' : ℕ → Node) → Step l l' → Sound l → ((i : ℕ) → 
 step-exact l _ (Moves k n move) sound all = at-all Exact l k n (move-exact (l k) n move (sound.fine k) (all k)) all
 step-exact l _ Changes sound all = λ i. anew-exact (l i)
 step-exact l _ (Grants k s ready runs wants goes_all) sound all =
-    at-all Exact l k (record (l k) { table = s; wants = None; down = Some s }) (granted-exact (l k) s (sound.fine k) (ready k) wants) all
+    at-all Exact l k (record (l k) { table = s; wants = None; down = Some s }) (granted-exact (l k) s (sound.fine k) (ready k) wants (all k).ends) all
 
 steps-exact : (l l' : ℕ → Node) → Steps l l' → Sound l → ((i : ℕ) → Exact (l i)) → (i : ℕ) → Exact (l' i)
 steps-exact l _ Stays sound all = all
@@ -225,6 +256,7 @@ starts-exact runs waits = record {
   wanting = λ t w. some-none refl w;
   granted = λ t w. some-none refl w;
   reported = λ t w. some-none refl w;
+  ends = tt;
 }
 
 -- ---- the parts
@@ -327,6 +359,23 @@ reports-find lock p q k mode value rest b calls x hand =
       ],
       waits-not (present q lock) k (e.tied).table.never_converted (f.wants ∙ ap (option_map mode_for) (reports-want-none n (e.exact k) report)),
     )
+
+pub ends-find : EndsFindARebuild
+ends-find lock p q k rest b calls x hand =
+    let e = ends lock p q b calls in
+    let f = (e.tied).nodes k x in
+    let n : Node = e.state k in
+    let fine : Fine n = (e.sound).fine k in
+    let same = tied-of lock q e.state e.tied in
+    let c = first lock q (present q lock) q.post e.state k body.End ties.Ends rest same e.sound x hand refl refl in
+    let up : n.up ≡ End ∷ c.1 = c.2 ∙ ap (λ (m : machine.Message). m ∷ c.1) (is-end c.0 c.3) in
+    let once : EndsOnce (n.heard) (End ∷ c.1) = subst (EndsOnce (n.heard)) up (e.exact k).ends in
+    let taken : q.taken k ≡ true = has-taken lock q (present q lock) q.post e.state k body.End ties.Ends rest same e.sound x hand refl refl in
+    let roll : n.roll ≡ true = elim (cases_Bool (n.roll)) [ inl is ↦ is | inr out ↦ true-false (sym f.taken ∙ taken) (fine.outside out).1 ] in
+    elim (cases_Bool (q.table.master.rebuild)) [
+      | inl is ↦ is
+      | inr done ↦ true-false (sym f.heard ∙ (e.tied).done done k x (f.roll ∙ roll)) once.0
+    ]
 
 pub holders-ask-nothing : HoldersAskForNothing
 holders-ask-nothing lock p q k b calls x member holds =

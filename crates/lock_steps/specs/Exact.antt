@@ -7,7 +7,7 @@ use Rattle.dlm_modes.specs.declared.ValueBlock.{ValueBlock}
 use Rattle.dlm_modes.specs.Modes.{is_at_least}
 use Rattle.fencing.specs.NodeSets.{has}
 use Rattle.mail_queues.specs.declared.Message.{Message}
-use Rattle.mail_queues.specs.declared.Body.TheVariants.{Request, Down, Report}
+use Rattle.mail_queues.specs.declared.Body.TheVariants.{Request, Down, Report, End}
 use Rattle.dlm_holder.specs.Holdings.{mode_in, wanted_in}
 use Rattle.dlm_master.specs.Tables.{held_by, waits_for}
 use Rattle.lock_steps.specs.Parts.{Parts, now_says}
@@ -45,6 +45,11 @@ abbrev pub ReportsFindARebuild : Type 0
 ReportsFindARebuild = (lock : LockName) (p q : Parts) (k : ℕ) (mode : Mode) (value : ValueBlock) (rest : List Message) → Begins lock p → Calls lock p q → k ≤ 8
     → q.post.took k q.master ≡ now_says q (Report lock mode value) ∷ rest
     → (q.table.master.rebuild ≡ true) × (waits_for q.table.master k lock ≡ false)
+
+-- and so is who has told all
+abbrev pub EndsFindARebuild : Type 0
+EndsFindARebuild = (lock : LockName) (p q : Parts) (k : ℕ) (rest : List Message) → Begins lock p → Calls lock p q → k ≤ 8
+    → q.post.took k q.master ≡ now_says q End ∷ rest → q.table.master.rebuild ≡ true
 
 -- at a node too: of a member that holds the lock no ask stands, so that it may lower it
 abbrev pub HoldersAskForNothing : Type 0

@@ -4,7 +4,7 @@
 ghost use Rattle.lock_steps.specs.Modes.{GoAsModes, CoverAsModes, HaveModesOfTheirOwn};
 ghost use Rattle.lock_steps.specs.Runs.{EveryRunIsCompatible, EveryTableCovers};
 ghost use Rattle.lock_steps.specs.Example.{ListCanBeMade};
-ghost use Rattle.lock_steps.specs.Exact.{TablesAreExact, RequestsFindNothing, LowersOnlyLower, ReportsFindARebuild, HoldersAskForNothing};
+ghost use Rattle.lock_steps.specs.Exact.{TablesAreExact, RequestsFindNothing, LowersOnlyLower, ReportsFindARebuild, EndsFindARebuild, HoldersAskForNothing};
 ghost use Rattle.lock_steps.specs.Laws.{MailIsNoStep, HolderCallsAreSteps, TableCallsAreSteps, MemberCallsAreSteps, MemberCallsMoveAllLocks, EveryListIsSteps, EveryListIsRight, GrantsWait};
 
 /// A law: states go together and are at most one another as their modes.
@@ -87,6 +87,11 @@ pub fn lowers_only_lower()
 /// A law: who reports is heard while the rebuild isn't done, and waits for nothing, as the rebuild's call requires.
 pub fn reports_find_a_rebuild()
     ensures { ReportsFindARebuild }
+{}
+
+/// A law: who tells that this is all is heard while the rebuild isn't done, as `Rebuild::end` requires.
+pub fn ends_find_a_rebuild()
+    ensures { EndsFindARebuild }
 {}
 
 /// A law: of a member that holds the lock no ask stands, as the holder's call to lower it requires.
