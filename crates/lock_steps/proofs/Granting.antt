@@ -21,27 +21,14 @@ use Rattle.lock_steps.specs.Ties.{sight, Tied, in_view, grants, present}
 use Rattle.lock_steps.specs.Calls.{KnowsSlots, MailCall, HolderCall, TableCall, MemberCall, reply, grant_letter}
 use Rattle.lock_steps.specs.Calls as calls
 use Rattle.lock_steps.specs.Laws.{Call, OfMail, OfHolder, OfTable, OfMembers, MayGrant, SetsNone, GrantsWait}
-use Rattle.lock_steps.proofs.Basics.{true-false, pairs}
-use Rattle.lock_steps.proofs.Ways.{letters-mute, letters-quiet-from, left-says, left-mute, left-away, mail-keeps}
+use Rattle.lock_steps.proofs.Basics.{true-false}
+use Rattle.lock_steps.proofs.Ways.{letters-mute, letters-quiet-from, left-rest, mail-keeps}
 use Rattle.lock_steps.proofs.Claims.{no-cause}
 use Rattle.lock_steps.proofs.Sets.{least-none, zero-has}
 use Rattle.lock_steps.proofs.Tying.{now-says, says-none}
 use Rattle.lock_steps.proofs.Turning.{not-zero}
 use Rattle.lock_steps.proofs.Membering.{none-new}
 use Rattle.lock_steps.proofs.Listing.{list-steps}
-
--- what is said where less is left: all that was said, or all but the first
-left-rest : {A : Type 0} (says : Message → Option A) (p : Post) (a b : ℕ) (m : Message) (rest : List Message) (i k : ℕ) → p.took a b ≡ m ∷ rest
-    → (gone : List A) × (filter_map says (way p i k) ≡ gone ++ filter_map says (way (with_left p a b rest) i k))
-left-rest {A} says p a b m rest i k hand = elim (pairs i k a b) [
-  | inl e ↦ subst (λ (x : ℕ). (gone : List A) × (filter_map says (way p x k) ≡ gone ++ filter_map says (way (with_left p a b rest) x k))) (sym e.0)
-      (subst (λ (y : ℕ). (gone : List A) × (filter_map says (way p a y) ≡ gone ++ filter_map says (way (with_left p a b rest) a y))) (sym e.1) (by (says m) refl))
-  | inr ne ↦ ([], sym (ap (filter_map says) (left-away p a b rest i k ne)))
-]
-  where
-    by : (o : Option A) → says m ≡ o → (gone : List A) × (filter_map says (way p a b) ≡ gone ++ filter_map says (way (with_left p a b rest) a b))
-    by None e = ([], sym (left-mute says p a b m rest a b hand e))
-    by (Some x) e = (x ∷ [], left-says says p a b m rest x hand e)
 
 same-grants : (lock : LockName) (p q : Parts) (k : ℕ) → (sight lock q k).down ≡ (sight lock p k).down → SetsNone lock p q k
 same-grants lock p q k e = record { gone = []; grants = sym e }

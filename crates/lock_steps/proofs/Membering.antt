@@ -49,15 +49,18 @@ with-node-away set k i ne = (adds-one set k i).1 ne
 -- ---- a new view
 
 -- nothing that is under way is of it
-pub none-new : {A : Type 0} (says : Body → Option A) (g : ℕ) (ms : List Message) → AllByRecursion (λ m. m.generation ≤ g) ms → filter_map (in_view (g + 1) says) ms ≡ []
-none-new says g [] old = refl
-none-new says g (m ∷ ms) old =
-    let ne : (m.generation == g + 1) ≡ false = eqb-other m.generation (g + 1) (λ e. absurd (let x : m.generation ≤ g = old.0 in omega (arith, e))) in
-    rw ne (none-new says g ms old.1)
+pub none-newer : {A : Type 0} (says : Body → Option A) (g h : ℕ) → g < h → (ms : List Message) → AllByRecursion (λ m. m.generation ≤ g) ms → filter_map (in_view h says) ms ≡ []
+none-newer says g h later [] old = refl
+none-newer says g h later (m ∷ ms) old =
+    let ne : (m.generation == h) ≡ false = eqb-other m.generation h (λ e. absurd (let x : m.generation ≤ g = old.0 in omega (arith, e, later))) in
+    rw ne (none-newer says g h later ms old.1)
 
-all-older : (g : ℕ) (ms : List Message) → AllByRecursion (λ m. m.generation ≤ g) ms → AllByRecursion (λ m. m.generation ≤ g + 1) ms
-all-older g [] old = tt
-all-older g (m ∷ ms) old = ((let x : m.generation ≤ g = old.0 in omega arith), all-older g ms old.1)
+pub none-new : {A : Type 0} (says : Body → Option A) (g : ℕ) (ms : List Message) → AllByRecursion (λ m. m.generation ≤ g) ms → filter_map (in_view (g + 1) says) ms ≡ []
+none-new says g ms old = none-newer says g (g + 1) (omega arith) ms old
+
+pub all-older : (g h : ℕ) → g ≤ h → (ms : List Message) → AllByRecursion (λ m. m.generation ≤ g) ms → AllByRecursion (λ m. m.generation ≤ h) ms
+all-older g h later [] old = tt
+all-older g h later (m ∷ ms) old = ((let x : m.generation ≤ g = old.0 in omega (arith, later)), all-older g h later ms old.1)
 
 -- ---- a node changed twice is one changed once
 
@@ -282,7 +285,7 @@ member-steps lock p _ l (Changes master x is) sound tied = record {
     table = record { never_converted = refl; held_once = tt; never_null = tt; asked_once = tt; nodes = tt };
     done = λ e. true-false refl e;
     unheard = λ i y e. refl;
-    mail = λ i k y z. all-older p.membership.generation (way p.post i k) (tied.mail i k y z);
+    mail = λ i k y z. all-older p.membership.generation (p.membership.generation + 1) (omega arith) (way p.post i k) (tied.mail i k y z);
   };
 }
 member-steps lock p _ l (TakesView k h letters over x member roll untaken old says mute) sound tied = by says

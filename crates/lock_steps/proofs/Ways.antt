@@ -78,6 +78,19 @@ module _ {A : Type 0} (says : Message → Option A) where
     | inr ne ↦ ap (filter_map says) (left-away p a b rest i k (λ e f. ne (sym f)))
   ]
 
+-- what is said where less is left: all that was said, or all but the first
+pub left-rest : {A : Type 0} (says : Message → Option A) (p : Post) (a b : ℕ) (m : Message) (rest : List Message) (i k : ℕ) → p.took a b ≡ m ∷ rest
+    → (gone : List A) × (filter_map says (way p i k) ≡ gone ++ filter_map says (way (with_left p a b rest) i k))
+left-rest {A} says p a b m rest i k hand = elim (pairs i k a b) [
+  | inl e ↦ subst (λ (x : ℕ). (gone : List A) × (filter_map says (way p x k) ≡ gone ++ filter_map says (way (with_left p a b rest) x k))) (sym e.0)
+      (subst (λ (y : ℕ). (gone : List A) × (filter_map says (way p a y) ≡ gone ++ filter_map says (way (with_left p a b rest) a y))) (sym e.1) (by (says m) refl))
+  | inr ne ↦ ([], sym (ap (filter_map says) (left-away p a b rest i k ne)))
+]
+  where
+    by : (o : Option A) → says m ≡ o → (gone : List A) × (filter_map says (way p a b) ≡ gone ++ filter_map says (way (with_left p a b rest) a b))
+    by None e = ([], sym (left-mute says p a b m rest a b hand e))
+    by (Some x) e = (x ∷ [], left-says says p a b m rest x hand e)
+
 -- ---- all messages
 
 module _ (P : Message → Type 0) where

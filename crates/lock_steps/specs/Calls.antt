@@ -144,7 +144,7 @@ pub data TableCall (lock : LockName) (p : Parts) : Parts → Type 0 where
   })
   -- `Rebuild::complete`
   Completes : is_done p.table ≡ true → TableCall lock p (record p { table = record p.table { master = master_after p.table } })
-  -- `Rebuild::blocked`, `Master::blocked`
+  -- `Rebuild::blocked`, `Master::blocked`. A master whose rebuild is done is told of slots alone
   Blocks : (waiting : ℕ) → TableCall lock p (record p { table = record p.table { master = record p.table.master { waiting = waiting } } })
   -- a call on another lock
   TableElsewhere : (other : LockName) (t : LockState) → lock ≢ other
