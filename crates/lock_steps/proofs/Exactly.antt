@@ -93,19 +93,15 @@ EndsOnce heard (Report s ∷ q) = EndsOnce heard q
 EndsOnce heard (Lowered s ∷ q) = EndsOnce heard q
 EndsOnce heard (Asked s ∷ q) = EndsOnce heard q
 
-ends-ask : (heard : Bool) (q : List machine.Message) (s : State) → EndsOnce heard q → EndsOnce heard (q ++ Asked s ∷ [])
-ends-ask heard [] s once = tt
-ends-ask heard (End ∷ q) s once = (once.0, ends-ask true q s once.1)
-ends-ask heard (Report t ∷ q) s once = ends-ask heard q s once
-ends-ask heard (Lowered t ∷ q) s once = ends-ask heard q s once
-ends-ask heard (Asked t ∷ q) s once = ends-ask heard q s once
-
-ends-down : (heard : Bool) (q : List machine.Message) (s : State) → EndsOnce heard q → EndsOnce heard (q ++ Lowered s ∷ [])
-ends-down heard [] s once = tt
-ends-down heard (End ∷ q) s once = (once.0, ends-down true q s once.1)
-ends-down heard (Report t ∷ q) s once = ends-down heard q s once
-ends-down heard (Lowered t ∷ q) s once = ends-down heard q s once
-ends-down heard (Asked t ∷ q) s once = ends-down heard q s once
+ends-more : (heard : Bool) (q : List machine.Message) (m : machine.Message) → (m ≡ End → ⊥) → EndsOnce heard q → EndsOnce heard (q ++ m ∷ [])
+ends-more heard [] End other once = absurd (other refl)
+ends-more heard [] (Report t) other once = tt
+ends-more heard [] (Lowered t) other once = tt
+ends-more heard [] (Asked t) other once = tt
+ends-more heard (End ∷ q) m other once = (once.0, ends-more true q m other once.1)
+ends-more heard (Report t ∷ q) m other once = ends-more heard q m other once
+ends-more heard (Lowered t ∷ q) m other once = ends-more heard q m other once
+ends-more heard (Asked t ∷ q) m other once = ends-more heard q m other once
 
 settled-told : (q : List machine.Message) (t : State) → told_last (map tell_of q) (mode_for t) ≡ mode_for (settled q t)
 settled-told [] t = refl
@@ -146,7 +142,7 @@ move-exact n _ (Asks s member fresh taken runs un idle) f x = record {
   wanting = λ t w. settled-ask (n.up) (n.table) s ∙ x.wanting t w;
   granted = λ t w. settled-ask (n.up) (n.table) s ∙ x.granted t w;
   reported = λ t w. report-ask (n.up) s ∙ x.reported t w;
-  ends = ends-ask (n.heard) (n.up) s x.ends;
+  ends = ends-more (n.heard) (n.up) (Asked s) (λ e. absurd (let f : Asked s ≡ End = e in cc)) x.ends;
 }
 move-exact n _ (HearsReport s q e) f x = heard-same n (Report s) q s (n.heard) e refl refl (λ r. true-false refl r) (subst (EndsOnce (n.heard)) e x.ends) x
 move-exact n _ (HearsEnd q e) f x = heard-same n End q (n.table) true e refl refl (λ r. r) (let once : EndsOnce (n.heard) (End ∷ q) = subst (EndsOnce (n.heard)) e x.ends in once.1) x
@@ -180,7 +176,7 @@ move-exact n _ (Lowers s member fresh taken runs low held) f x = record {
   wanting = λ t w. some-none quiet.1 w;
   granted = λ t w. some-none quiet.2 w;
   reported = λ t w. some-none quiet.1 w;
-  ends = ends-down (n.heard) (n.up) s x.ends;
+  ends = ends-more (n.heard) (n.up) (Lowered s) (λ e. absurd (let f : Lowered s ≡ End = e in cc)) x.ends;
 }
   where
     not-asked : n.asked ≡ false

@@ -1,5 +1,5 @@
 -- A grant waits for every report and every slot.
-use Rattle.std.proofs.Common.{ℕ, ◌≡◌, ◌≤◌, ◌⊎◌, inl, inr, Bool, true, false, Option, None, Some, List, [], ◌∷◌, ◌++◌, cond, refl, sym, ap, ◌∙◌, subst}
+use Rattle.std.proofs.Common.{ℕ, ◌≡◌, ◌≤◌, ◌⊎◌, inl, inr, Bool, true, false, Option, None, Some, List, [], ◌∷◌, ◌++◌, cond, refl, sym, ap, ◌∙◌}
 use Rattle.std.specs.Prelude.{◌==◌, not, fold}
 use Rattle.std.specs.List.{filter_map}
 use Rattle.std.proofs.lemmas.Bool.{cases_Bool, or_parts}
@@ -16,7 +16,7 @@ use Rattle.dlm_master.specs.Locks.{answer_by, grants_of}
 use Rattle.dlm_master.specs.Tables.{is_blocked, request_waits, after_next}
 use Rattle.dlm_rebuild.specs.Rebuilding.{after_request_in}
 use Rattle.lock_laws.specs.Lock.{Node}
-use Rattle.lock_steps.specs.Parts.{Parts, Post, way, now_says, with_left}
+use Rattle.lock_steps.specs.Parts.{Parts, way, now_says, with_left}
 use Rattle.lock_steps.specs.Ties.{sight, Tied, in_view, grants, present}
 use Rattle.lock_steps.specs.Calls.{KnowsSlots, MailCall, HolderCall, TableCall, MemberCall, reply, grant_letter}
 use Rattle.lock_steps.specs.Calls as calls
