@@ -107,7 +107,7 @@ node-grants-nothing lock p _ k (calls.Asks j mode x t null none) = wrote-to lock
 node-grants-nothing lock p _ k (calls.Raises j mode x t some covers none) = wrote-to lock p j _ (Convert lock mode) k refl
 node-grants-nothing lock p _ k (calls.Lowers j mode value x t known covers none) = wrote-to lock p j _ (Down lock mode value) k refl
 node-grants-nothing lock p _ k (calls.LowersBefore j mode x not covers) = same lock p _ p.post k refl
-node-grants-nothing lock p _ k (calls.TakesView j h letters over x not says mute) = record {
+node-grants-nothing lock p _ k (calls.TakesView j h letters over x not old says mute) = record {
   table = inl (covers-itself (table_mode lock p k));
   gone = [];
   letters = sym (letters-mute (in_view p.table.generation (grant_of lock)) p.post j p.master letters p.master k (mute-all p.table.generation lock letters mute));
@@ -118,7 +118,7 @@ node-grants-nothing lock p _ k (calls.Drops from to m rest x y hand quiet mute) 
   | inl is ↦ left-mute (in_view p.table.generation (grant_of lock)) p.post from to m rest p.master k hand (mute-too p.table.generation lock m (mute is))
   | inr ne ↦ ap (filter_map (in_view p.table.generation (grant_of lock))) (left-away p.post from to rest p.master k (λ a b. ne (sym a)))
 ])
-node-grants-nothing lock p _ k (calls.Writes from to letters x y calls mute) =
+node-grants-nothing lock p _ k (calls.Writes from to letters x y old calls mute) =
     same lock p _ (with_letters p.post from to letters) k (letters-quiet-from (in_view p.table.generation (grant_of lock)) p.post from to letters p.master k (λ is. mute-all p.table.generation lock letters (mute is)))
 node-grants-nothing lock p _ k (calls.HoldsElsewhere j other holding ne) = same lock p _ p.post k refl
 

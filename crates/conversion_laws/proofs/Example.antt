@@ -1,7 +1,7 @@
 -- A list of calls that can be made.
-use Rattle.std.proofs.Common.{Bool, List, None, [], ap, arith, false, get_or, get_or-set_other, inl, inr, refl, set, suc, sym, true, zero, ℕ, ◌++◌, ◌+◌, ◌∙◌, ◌∷◌, ◌≡◌, ◌≢◌, ◌≤◌}
+use Rattle.std.proofs.Common.{Bool, List, None, [], ap, arith, false, get_or, get_or-set_other, inl, inr, refl, set, subst, suc, sym, true, zero, ℕ, ◌++◌, ◌+◌, ◌∙◌, ◌∷◌, ◌≡◌, ◌≢◌, ◌≤◌}
 use Rattle.std.specs.Prelude.{not, ◌*◌, replicate}
-use Rattle.std.specs.List.{filter_map}
+use Rattle.std.specs.List.{AllByRecursion, filter_map}
 use Rattle.std.proofs.lemmas.Bool.Decides.{eqb_tells}
 use Rattle.dlm_modes.specs.Modes.{go_together, not_valid}
 use Rattle.dlm_modes.specs.declared.Mode.TheVariants.{Nl, Pr, Ex}
@@ -37,6 +37,9 @@ empty (suc n) (suc i) = empty n i
 nothing-comes : (from to : ℕ) → messages_of no_mail from to ≡ []
 nothing-comes from to = ap (λ (q : QueueState). q.messages) (empty 81 (9 * from + to))
 
+none-comes : (g from to : ℕ) → AllByRecursion (λ (m : Message). m.generation ≤ g) (messages_of no_mail from to ++ [])
+none-comes g from to = subst (AllByRecursion (λ (m : Message). m.generation ≤ g)) (sym (ap (λ (ms : List Message). ms ++ []) (nothing-comes from to))) tt
+
 begins : Begins a_lock all_new
 begins = record {
   master = omega arith;
@@ -46,6 +49,7 @@ begins = record {
   together = λ i k x y ne. refl;
   tells = λ k x. ap (λ (ms : List Message). filter_map (in_view 1 (tell_of a_lock)) (ms ++ [])) (nothing-comes k 0);
   grants = λ k x. ap (λ (ms : List Message). filter_map (in_view 1 (grants a_lock)) (ms ++ [])) (nothing-comes 0 k);
+  mail = λ i k x y. none-comes 1 i k;
 }
 
 abbrev one_letter : ℕ → ℕ → Message → List QueueState
@@ -143,6 +147,7 @@ begins-anew = record {
   together = λ i k x y ne. goes i k ne;
   tells = λ k x. ap (λ (ms : List Message). filter_map (in_view 2 (tell_of a_lock)) (ms ++ [])) (nothing-comes k 0);
   grants = λ k x. ap (λ (ms : List Message). filter_map (in_view 2 (grants a_lock)) (ms ++ [])) (nothing-comes 0 k);
+  mail = λ i k x y. none-comes 2 i k;
 }
 
 -- a message of the new view
@@ -167,7 +172,7 @@ rebuild-can-be-made = (
   _,
   begins-anew,
   AndCall _ _ (AndCall _ _ (AndCall _ _ (AndCall _ _ (AndCall _ _ (AndCall _ _ (AndCall _ _ (AndCall _ _ (AndCall _ _ (AndCall _ _ (AndCall _ _ NoCall
-      (OfNode _ (TakesView 1 _ (reports ∷ ends ∷ []) (NoAsk refl) (omega arith) refl (TellsHeld refl) refl)))
+      (OfNode _ (TakesView 1 _ (reports ∷ ends ∷ []) (NoAsk refl) (omega arith) refl (omega arith, (omega arith, tt)) (TellsHeld refl) refl)))
       (OfNode _ (Raises 1 Ex (omega arith) refl (λ e. absurd (let f : Pr ≡ Nl = e in cc)) refl refl)))
       (OfMail _ (Sends 1 0 reports (ends ∷ raises ∷ []) (one_letter 1 0 reports) (omega arith) (omega arith) refl (record { queue = refl; others = others 1 0 reports (omega arith) }))))
       (OfMail _ (Receives 1 0 reports no_mail (omega arith) (omega arith) refl (record { queue = refl; others = λ i k x y ne. sym (others 1 0 reports (omega arith) i k x y ne) }))))
@@ -181,7 +186,7 @@ rebuild-can-be-made = (
   refl,
   refl,
   AndCall _ _ (AndCall _ _ (AndCall _ _ (AndCall _ _ (AndCall _ _ (AndCall _ _ (AndCall _ _ (AndCall _ _ (AndCall _ _ NoCall
-      (OfNode _ (TakesView 0 _ (ends ∷ []) (NoAsk refl) (omega arith) refl (TellsNone refl refl) refl)))
+      (OfNode _ (TakesView 0 _ (ends ∷ []) (NoAsk refl) (omega arith) refl (omega arith, tt) (TellsNone refl refl) refl)))
       (OfMail _ (TellsItself 0 ends [] (omega arith) refl refl)))
       (OfMaster _ (Ended 0 [] (omega arith) refl refl)))
       (OfMaster _ (Blocks true 0 (λ r. refl))))

@@ -3,5 +3,7 @@ pub mod Nodes
 pub mod Masters
 pub mod Blocking
 pub mod Values
+pub mod Mail
+pub mod Ending
 pub mod Listing
 pub mod Example

@@ -1,7 +1,7 @@
 -- The laws over every list of calls.
-use Rattle.std.proofs.Common.{ℕ, ◌≡◌, ◌≢◌, ◌⊎◌, ◌≤◌, inl, inr, Bool, true, false, Option, None, Some, List, [], ◌∷◌, ◌++◌, is_some, refl, sym, ap, ◌∙◌, subst}
+use Rattle.std.proofs.Common.{ℕ, ◌≡◌, ◌≢◌, ◌⊎◌, ◌<◌, ◌≤◌, arith, inl, inr, Bool, true, false, Option, None, Some, List, [], ◌∷◌, ◌++◌, is_some, refl, sym, ap, ◌∙◌, subst}
 use Rattle.std.specs.Prelude.{⊤, unwrap_or}
-use Rattle.std.specs.List.{AllByRecursion}
+use Rattle.std.specs.List.{AllByRecursion, filter_map}
 use Rattle.std.proofs.lemmas.Bool.{cases_eq, cond-true}
 use Rattle.glock_names.specs.declared.LockName.{LockName}
 use Rattle.glock_names.specs.LockMaps.{at_lock, with_lock}
@@ -11,6 +11,7 @@ use Rattle.dlm_modes.specs.Modes.{go_together, is_at_least}
 use Rattle.dlm_modes.proofs.ModeLaws.{covers-itself, together-turned, together-weaker}
 use Rattle.dlm_modes.specs.declared.ValueBlock.{ValueBlock}
 use Rattle.mail_queues.specs.declared.Message.{Message}
+use Rattle.mail_queues.specs.declared.Body.{Body}
 use Rattle.mail_queues.specs.declared.Body.TheVariants.{Grant}
 use Rattle.dlm_holder.specs.declared.Holding.{Holding}
 use Rattle.dlm_holder.specs.Holdings.{Holdings, nothing, holding_of, knows, mode_in, wanted_in, asked_for, granted_to, lowered_to}
@@ -24,11 +25,13 @@ use Rattle.dlm_master.proofs.SoundLaws.{sound-locks-stay-sound}
 use Rattle.fencing.specs.NodeSets.{has}
 use Rattle.lock_steps.proofs.Sets.{zero-has}
 use Rattle.lock_laws.specs.Lock.{at}
+use Rattle.lock_steps.specs.Parts.{Post, way}
 use Rattle.lock_steps.specs.Ties.{in_view, grants}
+use Rattle.lock_steps.proofs.Membering.{none-newer, all-older}
 use Rattle.lock_steps.proofs.Basics.{true-false, same-self, at-here, at-away}
 use Rattle.lock_steps.proofs.Ways.{left-says}
 use Rattle.lock_steps.proofs.Tying.{now-says, holding-is, holding-away}
-use Rattle.conversion_laws.specs.Parts.{LockParts, now_says, Tell, tells_coming, grant_of, grants_coming, valued_grants, lock_in_table, table_mode, held_or_coming}
+use Rattle.conversion_laws.specs.Parts.{LockParts, NoneNewer, now_says, Tell, tell_of, tells_coming, grant_of, grants_coming, valued_grants, lock_in_table, table_mode, held_or_coming}
 use Rattle.conversion_laws.specs.Calls.{NodeCall, Call, OfMail, OfNode, OfMaster, Calls, NoCall, AndCall, CallDropsNone, DropNone}
 use Rattle.conversion_laws.specs.Calls as calls
 use Rattle.conversion_laws.specs.Laws.{BeginsNode, IsToTell, HasNothing, Begins, HasTold, AreRight, EveryListIsRight, NoAskIsLost, NoneWhileBlocked, GrantsBringTheValue, ViewsFollow, RisesByGrant, Rises, Keeps, HoldersRiseByGrants, MeetCalls, MessagesMeetCalls}
@@ -36,6 +39,8 @@ use Rattle.conversion_laws.proofs.Stages.{Leads, Untaken, Tells, stands_by, stan
 use Rattle.conversion_laws.proofs.Nodes.{sight, StageOf, Inv, over-mode, mail-keeps-inv, node-keeps, grant-first}
 use Rattle.conversion_laws.proofs.Blocking.{grants-nothing}
 use Rattle.conversion_laws.proofs.Values.{Valued, none-of-map, modes-of, brings-value, valued-keeps, first-valued}
+use Rattle.conversion_laws.proofs.Mail.{none-newer-after}
+use Rattle.conversion_laws.proofs.Ending.{Ending, ending-keeps, nothing-ends, meets-end}
 use Rattle.conversion_laws.proofs.Masters.{master-keeps, meets-request, meets-conversion, meets-lower, meets-report}
 
 -- ---- the invariant
@@ -95,6 +100,11 @@ valued-after : (lock : LockName) (p q : LockParts) → Calls lock p q → Begins
 valued-after lock p _ NoCall b = λ k x. subst (AllByRecursion (λ (g : Mode × ValueBlock). go_together g.0 Pw ≡ false → g.1 ≡ (lock_in_table lock p).value)) (sym (none-of-map (λ (g : Mode × ValueBlock). g.0) (valued_grants lock p k) (sym (modes-of lock p k) ∙ b.grants k x))) tt
 valued-after lock p _ (AndCall q r before call) b = valued-keeps lock q r (reaches lock p q before b) call (valued-after lock p q before b)
 
+-- each node ends once
+ending-after : (lock : LockName) (p q : LockParts) → Calls lock p q → Begins lock p → Ending lock q
+ending-after lock p _ NoCall b = nothing-ends lock p b.tells
+ending-after lock p _ (AndCall q r before call) b = ending-keeps lock q r (reaches lock p q before b) call (ending-after lock p q before b)
+
 -- ---- the table, and what nodes hold
 
 go-all : (t u : Mode) (ns bs : List Mode) → go_together t u ≡ true → AllByRecursion (λ m. is_at_least t m ≡ true) ns → AllByRecursion (λ m. is_at_least u m ≡ true) bs
@@ -128,8 +138,8 @@ stand-apart {lossy} lock p inv i k x y ne = by p.rebuilding refl
     by false e = ap (λ (m : Mode). go_together m (stands (sight lock p k))) (listed e i (how-it-stands (sight lock p i) (inv.stages i x)))
         ∙ (ap (go_together (table_mode lock p i)) (listed e k (how-it-stands (sight lock p k) (inv.stages k y))) ∙ together-at (lock_in_table lock p).held inv.together i k ne)
 
-are-right : {lossy : Type 0} (lock : LockName) (p : LockParts) → Inv lossy lock p → AreRight lock p
-are-right {lossy} lock p inv = record {
+are-right : {lossy : Type 0} (lock : LockName) (p : LockParts) → Inv lossy lock p → NoneNewer p → AreRight lock p
+are-right {lossy} lock p inv mail = record {
   sound = inv.sound;
   together = inv.together;
   covers = λ k x told. covered (sight lock p k) (inv.stages k x) (told-all p k told);
@@ -137,10 +147,11 @@ are-right {lossy} lock p inv = record {
       (stand-apart lock p inv i k x y ne) (stands-covered (sight lock p i) (inv.stages i x)) (stands-covered (sight lock p k) (inv.stages k y));
   one_ask = λ k x. one-ask (sight lock p k) (inv.stages k x);
   exact = λ k x told none empty. exact (sight lock p k) (inv.stages k x) (told-all p k told) none empty;
+  mail = mail;
 }
 
 pub every-list : EveryListIsRight
-every-list lock p q b calls = are-right lock q (reaches lock p q calls b)
+every-list lock p q b calls = are-right lock q (reaches lock p q calls b) (none-newer-after lock p q calls b.mail)
 
 pub no-ask-is-lost : NoAskIsLost
 no-ask-is-lost lock p q calls b none k x taken mode e =
@@ -161,10 +172,17 @@ views-follow lock p q right f = record {
       let c : Mode = mode_in (q.holders i) lock in
       let one : go_together c b ≡ true = together-turned b c (together-weaker b a c (together-turned a b (right.compatible i k x y ne).0.0) (f.kept i x)) in
       together-weaker c b (mode_in (q.holders k) lock) one (f.kept k y);
-  tells = f.tells;
-  grants = f.grants;
+  tells = λ k x. silent (tell_of lock) k q.master x f.master;
+  grants = λ k x. silent (grants lock) q.master k f.master x;
+  mail = λ i k x y. subst (λ (post : Post). AllByRecursion (λ m. m.generation ≤ q.table.generation) (way post i k)) (sym f.post)
+      (all-older p.table.generation q.table.generation (let later : p.table.generation < q.table.generation = f.later in omega (arith, later)) (way p.post i k) (right.mail i k x y));
 }
   where
+    -- what was under way says nothing in the new view
+    silent : {A : Type 0} (says : Body → Option A) (i k : ℕ) → i ≤ 8 → k ≤ 8 → filter_map (in_view q.table.generation says) (way q.post i k) ≡ []
+    silent says i k x y = ap (λ (post : Post). filter_map (in_view q.table.generation says) (way post i k)) f.post
+        ∙ none-newer says p.table.generation q.table.generation f.later (way p.post i k) (right.mail i k x y)
+
     node : (k : ℕ) → k ≤ 8 → (b : Bool) → has q.members k ≡ b → BeginsNode lock q k
     node k x true e = IsToTell f.rebuilding e (ap (λ (r : RebuildState). has r.ended k) f.anew ∙ zero-has k) (f.members k x e)
     node k x false e = let o = f.others k x e in HasNothing o.0 o.1 o.2
@@ -178,12 +196,13 @@ knows-it h lock mode e = by (at_lock h lock) refl
     by None f = absurd (let g : None ≡ Some mode = sym (ap (λ (o : Option Holding). (unwrap_or o nothing).wanted) f) ∙ e in cc)
     by (Some x) f = ap is_some f
 
-meet-calls : {lossy : Type 0} (lock : LockName) (p : LockParts) → Inv lossy lock p → Valued lock p → MeetCalls lock p
-meet-calls {lossy} lock p inv valued = record {
+meet-calls : {lossy : Type 0} (lock : LockName) (p : LockParts) → Inv lossy lock p → Valued lock p → Ending lock p → MeetCalls lock p
+meet-calls {lossy} lock p inv valued ending = record {
   requests = λ k mode rest x hand. meets-request lock p k mode rest inv x hand;
   conversions = λ k mode rest x hand. meets-conversion lock p k mode rest inv x hand;
   lowers = λ k mode value rest x hand. meets-lower lock p k mode value rest inv x hand;
   reports = λ k mode value rest x hand. meets-report lock p k mode value rest inv x hand;
+  ends = λ k rest x hand. meets-end lock p k rest ending x hand;
   grants = λ k mode value rest x hand.
       let m : Message = now_says p (Grant lock mode value) in
       let grant : in_view p.table.generation (grants lock) m ≡ Some mode = now-says (grants lock) p.table.generation (Grant lock mode value) ∙ cond-true _ _ _ (same-self lock) in
@@ -196,7 +215,7 @@ meet-calls {lossy} lock p inv valued = record {
 }
 
 pub messages-meet : MessagesMeetCalls
-messages-meet lock p q b calls = meet-calls lock q (reaches lock p q calls b) (valued-after lock p q calls b)
+messages-meet lock p q b calls = meet-calls lock q (reaches lock p q calls b) (valued-after lock p q calls b) (ending-after lock p q calls b)
 
 pub grants-bring-the-value : GrantsBringTheValue
 grants-bring-the-value lock a p q k b calls call x = brings-value lock p q k (reaches lock a p calls b) call x
@@ -228,7 +247,7 @@ node-rises lock p q k (calls.Lowers j mode value x t known covers none) = keeps-
     (ap (λ (y : Holding). is_at_least (mode_in (p.holders j) lock) y.mode) (holding-is (p.holders j) lock (record (holding_of (p.holders j) lock) { mode = mode })) ∙ covers)
 node-rises lock p q k (calls.LowersBefore j mode x not covers) = keeps-at lock p q j (lowered_to (p.holders j) lock mode) k refl
     (ap (λ (y : Holding). is_at_least (mode_in (p.holders j) lock) y.mode) (holding-is (p.holders j) lock (record (holding_of (p.holders j) lock) { mode = mode })) ∙ covers)
-node-rises lock p q k (calls.TakesView j h letters over x not says mute) = keeps-at lock p q j h k refl
+node-rises lock p q k (calls.TakesView j h letters over x not old says mute) = keeps-at lock p q j h k refl
     (ap (is_at_least (mode_in (p.holders j) lock)) (over-mode lock (p.holders j) h over) ∙ covers-itself (mode_in (p.holders j) lock))
 node-rises lock p q k (calls.IsGranted j mode value rest x hand) = elim (cases_eq k j) [
   | inl e ↦ subst (RisesByGrant lock p q) (sym e) (Rises (grant-first lock p j (now_says p (Grant lock mode value)) rest mode hand
@@ -239,7 +258,7 @@ node-rises lock p q k (calls.IsGranted j mode value rest x hand) = elim (cases_e
 ]
 node-rises lock p q k (calls.DropsGrant j mode value rest x hand) = Keeps (covers-itself (mode_in (p.holders k) lock))
 node-rises lock p q k (calls.Drops from to m rest x y hand quiet mute) = Keeps (covers-itself (mode_in (p.holders k) lock))
-node-rises lock p q k (calls.Writes from to letters x y calls grants) = Keeps (covers-itself (mode_in (p.holders k) lock))
+node-rises lock p q k (calls.Writes from to letters x y old calls grants) = Keeps (covers-itself (mode_in (p.holders k) lock))
 node-rises lock p q k (calls.HoldsElsewhere j other holding ne) = keeps-at lock p q j (with_lock (p.holders j) other holding) k refl
     (ap (λ (y : Holding). is_at_least (mode_in (p.holders j) lock) y.mode) (holding-away (p.holders j) lock other holding ne) ∙ covers-itself (mode_in (p.holders j) lock))
 

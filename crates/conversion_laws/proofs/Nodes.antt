@@ -281,7 +281,7 @@ node-keeps {lossy} lock p _ (calls.LowersBefore k mode x not covers) may inv =
       | inr ne ↦ as-before p (sight lock p j) (sight lock q j) (refl, refl, refl)
           (ap (λ (h : Holdings). wanted_in h lock) (sym (at-away p.holders k h j ne))) (ap (λ (h : Holdings). mode_in h lock) (sym (at-away p.holders k h j ne))) refl refl refl refl (inv.stages j y)
     ])
-node-keeps {lossy} lock p _ (calls.TakesView k h letters over x not says mute) may inv =
+node-keeps {lossy} lock p _ (calls.TakesView k h letters over x not old says mute) may inv =
     unchanged lock p (at p.holders k h) (at p.taken k true) p.ended (with_letters p.post k p.master letters) inv (λ j y. elim (cases_eq j k) [
       | inl e ↦ subst (λ (i : ℕ). Kept lossy p (sight lock p i) (sight lock (viewed lock p k h letters) i)) (sym e) (view-taken lock p k h letters over not says mute (inv.stages k x))
       | inr ne ↦ as-before p (sight lock p j) (sight lock (viewed lock p k h letters) j) (sym (at-away p.taken k true j ne), refl, refl)
@@ -346,7 +346,7 @@ node-keeps {lossy} lock p _ (calls.Drops from to m rest x y hand quiet mute) may
       | inl is ↦ left-mute (in_view p.table.generation (grants lock)) p.post from to m rest p.master j hand (mute is)
       | inr ne ↦ ap (filter_map (in_view p.table.generation (grants lock))) (left-away p.post from to rest p.master j (λ a b. ne (sym a)))
     ]
-node-keeps {lossy} lock p _ (calls.Writes from to letters x y calls grants') may inv =
+node-keeps {lossy} lock p _ (calls.Writes from to letters x y old calls grants') may inv =
     unchanged lock p p.holders p.taken p.ended (with_letters p.post from to letters) inv (λ j z.
     as-before p (sight lock p j) (sight lock (record p { post = with_letters p.post from to letters }) j) (refl, refl, refl) refl refl refl refl (sym (same j))
     (sym (letters-quiet-from (in_view p.table.generation (grants lock)) p.post from to letters p.master j grants')) (inv.stages j z))

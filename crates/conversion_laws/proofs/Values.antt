@@ -245,11 +245,11 @@ node-leaves lock p _ (calls.Asks j mode x t null none) = refl
 node-leaves lock p _ (calls.Raises j mode x t some covers none) = refl
 node-leaves lock p _ (calls.Lowers j mode value x t known covers none) = refl
 node-leaves lock p _ (calls.LowersBefore j mode x not covers) = refl
-node-leaves lock p _ (calls.TakesView j h letters over x not says mute) = refl
+node-leaves lock p _ (calls.TakesView j h letters over x not old says mute) = refl
 node-leaves lock p _ (calls.IsGranted j mode value rest x hand) = refl
 node-leaves lock p _ (calls.DropsGrant j mode value rest x hand) = refl
 node-leaves lock p _ (calls.Drops from to m rest x y hand quiet mute) = refl
-node-leaves lock p _ (calls.Writes from to letters x y calls mute) = refl
+node-leaves lock p _ (calls.Writes from to letters x y old calls mute) = refl
 node-leaves lock p _ (calls.HoldsElsewhere j other holding ne) = refl
 
 value-of : (a b : LockState) → a ≡ b → a.value ≡ b.value

@@ -1,6 +1,6 @@
 -- The calls on one lock in one view, each with the definition that its contract cites.
 use Rattle.std.specs.Prelude.{ℕ, ◌≡◌, ◌≢◌, ◌≤◌, ⊤, true, false, Bool, List, [], ◌∷◌, Option, None, fold, if◌then◌else◌}
-use Rattle.std.specs.List.{filter_map}
+use Rattle.std.specs.List.{AllByRecursion, filter_map}
 use Rattle.glock_names.specs.declared.LockName.{LockName}
 use Rattle.glock_names.specs.LockMaps.{with_lock}
 use Rattle.dlm_modes.specs.declared.Mode.{Mode}
@@ -50,7 +50,8 @@ pub data NodeCall (lock : LockName) (p : LockParts) : LockParts → Type 0 where
   LowersBefore : (k : ℕ) (mode : Mode) → k ≤ 8 → p.taken k ≡ false → is_at_least (mode_in (p.holders k) lock) mode ≡ true
       → NodeCall lock p (record p { holders = at p.holders k (lowered_to (p.holders k) lock mode) })
   -- a node takes the view: its ask is over (`Holder::drop_ask`), and it tells what it holds
-  TakesView : (k : ℕ) (h : Holdings) (letters : List Message) → AskOver lock (p.holders k) h → k ≤ 8 → p.taken k ≡ false → SaysAll lock p k letters
+  TakesView : (k : ℕ) (h : Holdings) (letters : List Message) → AskOver lock (p.holders k) h → k ≤ 8 → p.taken k ≡ false
+      → AllByRecursion (λ m. m.generation ≤ p.table.generation) letters → SaysAll lock p k letters
       → filter_map (in_view p.table.generation (grants lock)) letters ≡ []
       → NodeCall lock p (record p { holders = at p.holders k h; taken = at p.taken k true; post = with_letters p.post k p.master letters })
   -- `Holder::granted`
@@ -66,7 +67,7 @@ pub data NodeCall (lock : LockName) (p : LockParts) : LockParts → Type 0 where
       → NodeCall lock p (record p { post = with_left p.post from to rest })
   -- letters are written that say nothing of this lock, to its master or from it: of other locks, callbacks, and all that goes between
   -- other nodes
-  Writes : (from to : ℕ) (letters : List Message) → from ≤ 8 → to ≤ 8
+  Writes : (from to : ℕ) (letters : List Message) → from ≤ 8 → to ≤ 8 → AllByRecursion (λ m. m.generation ≤ p.table.generation) letters
       → (to ≡ p.master → filter_map (in_view p.table.generation (tell_of lock)) letters ≡ [])
       → (from ≡ p.master → filter_map (in_view p.table.generation (grants lock)) letters ≡ [])
       → NodeCall lock p (record p { post = with_letters p.post from to letters })

@@ -1,5 +1,5 @@
 -- What holds of a lock after every list of calls, conversions in all six modes among them.
-use Rattle.std.specs.Prelude.{ℕ, ◌≡◌, ◌≢◌, ◌≤◌, ◌⊎◌, true, false, List, [], ◌∷◌, ◌++◌, Option, None, Some}
+use Rattle.std.specs.Prelude.{ℕ, ◌≡◌, ◌≢◌, ◌≤◌, ◌<◌, ◌⊎◌, true, false, List, [], ◌∷◌, ◌++◌, Option, None, Some}
 use Rattle.std.specs.List.{AllByRecursion}
 use Rattle.glock_names.specs.declared.LockName.{LockName}
 use Rattle.dlm_modes.specs.declared.Mode.{Mode}
@@ -7,7 +7,7 @@ use Rattle.dlm_modes.specs.declared.Mode.TheVariants.{Nl, Pw}
 use Rattle.dlm_modes.specs.declared.ValueBlock.{ValueBlock}
 use Rattle.dlm_modes.specs.Modes.{go_together, is_at_least}
 use Rattle.mail_queues.specs.declared.Message.{Message}
-use Rattle.mail_queues.specs.declared.Body.TheVariants.{Request, Convert, Down, Grant, Report}
+use Rattle.mail_queues.specs.declared.Body.TheVariants.{Request, Convert, Down, Grant, Report, End}
 use Rattle.dlm_holder.specs.Holdings.{knows, mode_in, wanted_in}
 use Rattle.dlm_master.specs.Claims.{Together}
 use Rattle.dlm_master.specs.Laws.{IsSound, IsBlocked}
@@ -16,7 +16,7 @@ use Rattle.dlm_master.specs.Locks.{free_lock}
 use Rattle.dlm_master.specs.Tables.{HoldsNone, IsIdle, IsCovered, IsAbove}
 use Rattle.dlm_rebuild.specs.Rebuilding.{begun}
 use Rattle.fencing.specs.NodeSets.{has}
-use Rattle.conversion_laws.specs.Parts.{LockParts, rebuild_of, now_says, Reports, tells_coming, grants_coming, valued_grants, lock_in_table, table_mode, asks_of, held_or_coming}
+use Rattle.conversion_laws.specs.Parts.{LockParts, NoneNewer, rebuild_of, now_says, Reports, tells_coming, grants_coming, valued_grants, lock_in_table, table_mode, asks_of, held_or_coming}
 use Rattle.conversion_laws.specs.Calls.{Call, Calls, DropNone}
 
 -- a node at the start: a member of a view whose table is made anew, which has nothing told yet; or one that holds nothing and asks for
@@ -35,6 +35,7 @@ pub record Begins (lock : LockName) (p : LockParts) : Type 0 where
   pub together : (i k : ℕ) → i ≤ 8 → k ≤ 8 → i ≢ k → go_together (mode_in (p.holders i) lock) (mode_in (p.holders k) lock) ≡ true
   pub tells : (k : ℕ) → k ≤ 8 → tells_coming lock p k ≡ []
   pub grants : (k : ℕ) → k ≤ 8 → grants_coming lock p k ≡ []
+  pub mail : NoneNewer p
 
 -- ---- the table, and what nodes hold
 
@@ -55,6 +56,7 @@ pub record AreRight (lock : LockName) (p : LockParts) : Type 0 where
   pub one_ask : (k : ℕ) → k ≤ 8 → (asks_of lock p k ≡ []) ⊎ ((mode : Mode) × (asks_of lock p k ≡ mode ∷ []) × (wanted_in (p.holders k) lock ≡ Some mode))
   -- of a node that has told all, asks for nothing, and of which nothing is coming, the table has just what it holds
   pub exact : (k : ℕ) → k ≤ 8 → HasTold p k → wanted_in (p.holders k) lock ≡ None → tells_coming lock p k ≡ [] → table_mode lock p k ≡ mode_in (p.holders k) lock
+  pub mail : NoneNewer p
 
 abbrev pub EveryListIsRight : Type 0
 EveryListIsRight = (lock : LockName) (p q : LockParts) → Begins lock p → Calls lock p q → AreRight lock q
@@ -113,8 +115,9 @@ pub record FollowsView (lock : LockName) (p q : LockParts) : Type 0 where
   pub kept : (k : ℕ) → k ≤ 8 → is_at_least (mode_in (p.holders k) lock) (mode_in (q.holders k) lock) ≡ true
   pub members : (k : ℕ) → k ≤ 8 → has q.members k ≡ true → q.taken k ≡ false
   pub others : (k : ℕ) → k ≤ 8 → has q.members k ≡ false → (q.taken k ≡ true) × (mode_in (q.holders k) lock ≡ Nl) × (wanted_in (q.holders k) lock ≡ None)
-  pub tells : (k : ℕ) → k ≤ 8 → tells_coming lock q k ≡ []
-  pub grants : (k : ℕ) → k ≤ 8 → grants_coming lock q k ≡ []
+  -- what was under way still is, and the view has a greater number
+  pub post : q.post ≡ p.post
+  pub later : p.table.generation < q.table.generation
 
 abbrev pub ViewsFollow : Type 0
 ViewsFollow = (lock : LockName) (p q : LockParts) → AreRight lock p → FollowsView lock p q → Begins lock q
@@ -144,6 +147,8 @@ pub record MeetCalls (lock : LockName) (p : LockParts) : Type 0 where
   -- who reports it is heard by a rebuild, and waits for nothing
   pub reports : (k : ℕ) (mode : Mode) (value : ValueBlock) (rest : List Message) → k ≤ 8 → p.post.took k p.master ≡ now_says p (Report lock mode value) ∷ rest
       → (p.rebuilding ≡ true) × IsIdle (lock_in_table lock p) k
+  -- and so is who has told all
+  pub ends : (k : ℕ) (rest : List Message) → k ≤ 8 → p.post.took k p.master ≡ now_says p End ∷ rest → p.rebuilding ≡ true
   -- who is granted it has asked for it, in this mode; and where the mode goes with none that may write the value, the grant brings the
   -- value that the table has
   pub grants : (k : ℕ) (mode : Mode) (value : ValueBlock) (rest : List Message) → k ≤ 8 → p.post.took p.master k ≡ now_says p (Grant lock mode value) ∷ rest

@@ -1,6 +1,6 @@
 -- The lock manager of one lock in one view: its master's table, what each node holds, and what is under way between them.
-use Rattle.std.specs.Prelude.{ℕ, Bool, List, [], ◌∷◌, ◌++◌, Option, None, Some, option_to_list, if◌then◌else◌}
-use Rattle.std.specs.List.{filter_map}
+use Rattle.std.specs.Prelude.{ℕ, ◌≤◌, Bool, List, [], ◌∷◌, ◌++◌, Option, None, Some, option_to_list, if◌then◌else◌}
+use Rattle.std.specs.List.{AllByRecursion, filter_map}
 use Rattle.glock_names.specs.declared.LockName.{LockName}
 use Rattle.glock_names.specs.LockMaps.{same_lock}
 use Rattle.dlm_modes.specs.declared.Mode.{Mode}
@@ -106,3 +106,7 @@ asks_of lock p k = asked_in (tells_coming lock p k) ++ option_to_list (waiting_m
 -- what a node holds, and what is granted to it and on its way
 abbrev pub held_or_coming : LockName → LockParts → ℕ → List Mode
 held_or_coming lock p k = mode_in (p.holders k) lock ∷ grants_coming lock p k
+
+-- nothing is under way that is newer than the view
+abbrev pub NoneNewer : LockParts → Type 0
+NoneNewer p = (i k : ℕ) → i ≤ 8 → k ≤ 8 → AllByRecursion (λ m. m.generation ≤ p.table.generation) (way p.post i k)
