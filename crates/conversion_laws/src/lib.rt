@@ -27,7 +27,7 @@ pub fn grants_bring_the_value()
 {}
 
 /// A law: where a view ends and the next one begins with a table that is made of what each node reports, the list of calls goes on: its
-/// start is one of those from which the laws are.
+/// start is one of those from which the laws are, and what was under way says nothing in it.
 pub fn views_follow()
     ensures { ViewsFollow }
 {}
@@ -37,8 +37,8 @@ pub fn holders_rise_by_grants()
     ensures { HoldersRiseByGrants }
 {}
 
-/// A law: a message in hand meets what the call requires that it makes: at the master a request, a conversion and a lower, at a node
-/// a grant, which brings the lock's value as the master has it still where its mode goes with none that may write it.
+/// A law: a message in hand meets what the call requires that it makes: at the master a request, a conversion, a lower, a report and
+/// an end, at a node a grant, which brings the lock's value as the master has it still where its mode goes with none that may write it.
 pub fn messages_meet_calls()
     ensures { MessagesMeetCalls }
 {}

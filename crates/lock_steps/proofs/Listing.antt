@@ -115,17 +115,17 @@ at-most-one (Some s) ms e = inr (mode_for s, e)
 pub are-right : (lock : LockName) (p : Parts) (l : ℕ → Node) → Sound l → Tied lock p l → AreRight lock p
 are-right lock p l sound tied = record {
   compatible = λ i k x y ne. (let f = tied.nodes i x in let g = tied.nodes k y in (
-      (
-        lower-go ((l i).state) ((l k).state) _ _ (sound.apart i k ne _ _ Holds Holds) (fits-at-most f) (fits-at-most g),
-        each (λ b. go_together (mode_in (p.holders i) lock) b ≡ true) ((l k).down) _ g.down
-            (λ s e. lower-go ((l i).state) s _ _ (sound.apart i k ne _ _ Holds (Granted s e)) (fits-at-most f) (covers-itself (mode_for s))),
-      ),
-      each (λ a. AllByRecursion (λ b. go_together a b ≡ true) (held_or_coming lock p k)) ((l i).down) _ f.down
-          (λ s e. (
-            lower-go s ((l k).state) _ _ (sound.apart i k ne _ _ (Granted s e) Holds) (covers-itself (mode_for s)) (fits-at-most g),
-            each (λ b. go_together (mode_for s) b ≡ true) ((l k).down) _ g.down
-                (λ t h. sym (go-as-modes s t) ∙ sound.apart i k ne _ _ (Granted s e) (Granted t h)),
-          )),
+    (
+      lower-go ((l i).state) ((l k).state) _ _ (sound.apart i k ne _ _ Holds Holds) (fits-at-most f) (fits-at-most g),
+      each (λ b. go_together (mode_in (p.holders i) lock) b ≡ true) ((l k).down) _ g.down
+          (λ s e. lower-go ((l i).state) s _ _ (sound.apart i k ne _ _ Holds (Granted s e)) (fits-at-most f) (covers-itself (mode_for s))),
+    ),
+    each (λ a. AllByRecursion (λ b. go_together a b ≡ true) (held_or_coming lock p k)) ((l i).down) _ f.down
+        (λ s e. (
+          lower-go s ((l k).state) _ _ (sound.apart i k ne _ _ (Granted s e) Holds) (covers-itself (mode_for s)) (fits-at-most g),
+          each (λ b. go_together (mode_for s) b ≡ true) ((l k).down) _ g.down
+              (λ t h. sym (go-as-modes s t) ∙ sound.apart i k ne _ _ (Granted s e) (Granted t h)),
+        )),
   ));
   one_grant = λ k x. at-most-one ((l k).down) _ (tied.nodes k x).down;
   covers = λ k x m taken ended. (let f = tied.nodes k x in
