@@ -1,15 +1,16 @@
 -- Counts are ties, and with them all nodes may stop at once.
-use Rattle.std.proofs.Common.{ℕ, suc, ◌≡◌, ◌<◌, inl, inr, true, false, Bool, None, Some, List, [], ◌∷◌, refl, sym, ap, ◌∙◌, subst, arith, not, ◌&&◌}
+use Rattle.std.proofs.Common.{ℕ, zero, suc, ◌+◌, ◌≡◌, ◌<◌, inl, inr, true, false, Bool, None, Some, List, [], ◌∷◌, refl, sym, ap, ◌∙◌, subst, arith, not, ◌&&◌}
 use Rattle.cluster_laws.specs.Files.{Files, Does}
 use Rattle.cluster_laws.specs.Book.{at, tried, relocked}
 use Rattle.cluster_laws.specs.World.{nothing, Syncs}
-use Rattle.cluster_events.specs.Cluster.{Cluster, BookOf, acts, with_book, stopped, Together, Event, Works, Stops, Events, Done, Then}
+use Rattle.cluster_events.specs.Cluster.{Cluster, BookOf, Starts, acts, with_book, stopped, Together, Event, Works, Stops, Events, Done, Then}
 use Rattle.cluster_laws.specs.Log.{Calm}
-use Rattle.cluster_laws.proofs.Cells.{at-same, at-other}
+use Rattle.cluster_laws.proofs.Cells.{at-same, at-other, inside}
+use Rattle.std.specs.Prelude.{slice_get, length}
 use Rattle.cluster_laws.proofs.Running.{told-kept}
 use Rattle.std.proofs.lemmas.Bool.{cases_eq}
-use Rattle.cluster_turns.proofs.Turning.{tries_alone}
-use Rattle.cluster_turns.specs.Turns.{MayAlone, OnlyOf, AreLocal, MayPaired}
+use Rattle.cluster_turns.proofs.Turning.{tries_alone, right, start-holds}
+use Rattle.cluster_turns.specs.Turns.{MayAlone, OnlyOf, clusters, Holds, AreLocal, MayPaired}
 use Rattle.cluster_turns.specs.Counting.{Count, OfNode, OfWire, node_of, CountsWire, IsCountOfNode, IsCountOfWire, AreBelow, running, AllRun, counting, CountsAreTies}
 
 module _ (F : Files) (nodes : ℕ) where
@@ -50,7 +51,7 @@ module _ (F : Files) (nodes : ℕ) where
     past = λ i below e. is.past i below (e ∙ (only.wire).past);
   }
 
-  local : AreLocal F (counting F nodes)
+  local : AreLocal (clusters F) (counting F nodes)
   local = record {
     is_node = of-node;
     is_wire = of-wire;
@@ -115,8 +116,9 @@ module _ (F : Files) (nodes : ℕ) where
   }
 
   all-stop : (i : ℕ) (own : Count) (is : List ℕ) (shown : ℕ → ℕ) (runs : ℕ → Bool) → i < nodes → AreBelow nodes is → AllRun runs is
-      → MayPaired F (counting F nodes) i own (OfWire shown shown runs) own (OfWire shown shown (running runs is))
-  all-stop i own is shown runs low below run c s t tied is_own wire =
+      → MayPaired (clusters F) (counting F nodes) i own (OfWire shown shown runs) own (OfWire shown shown (running runs is))
+  all-stop i own is shown runs low below run c s reached tied is_own wire =
+      let t = (right F c reached).0 in
       let known = λ (k : ℕ) (l : k < nodes). counted c s shown runs k t wire ((tied k l).0) ((tied k l).1) in
       let end = stop c is (λ k l. (known k l).0) (wire.past) below (subst (λ f. AllRun f is) (wire.runs) run) in
       let e = end.1 in (
@@ -133,14 +135,57 @@ module _ (F : Files) (nodes : ℕ) where
         },
       )
 
+  -- ---- a start
+
+  -- the values of so many nodes from this one on, that have answered nothing, and the wire's
+  abbrev counts-from : (ℕ → ℕ) → (ℕ → Bool) → ℕ → ℕ → List Count
+  counts-from published runs i zero = OfWire (λ k. 0) published runs ∷ []
+  counts-from published runs i (suc n) = OfNode i 0 0 ∷ counts-from published runs (suc i) n
+
+  counts-length : (published : ℕ → ℕ) (runs : ℕ → Bool) (i n : ℕ) → length (counts-from published runs i n) ≡ suc n
+  counts-length published runs i zero = refl
+  counts-length published runs i (suc n) = ap suc (counts-length published runs (suc i) n)
+
+  a-node : (published : ℕ → ℕ) (runs : ℕ → Bool) (i n k : ℕ) (v : Count) → k < n → slice_get (counts-from published runs i n) k ≡ Some v → OfNode (i + k) 0 0 ≡ v
+  a-node published runs i zero k v low e = absurd (omega arith)
+  a-node published runs i (suc n) zero v low e = subst (λ (m : ℕ). OfNode m 0 0 ≡ v) (omega arith) (inside e)
+  a-node published runs i (suc n) (suc k) v low e = subst (λ (m : ℕ). OfNode m 0 0 ≡ v) (omega arith) (a-node published runs (suc i) n k v (omega arith) e)
+
+  a-wire : (published : ℕ → ℕ) (runs : ℕ → Bool) (i n : ℕ) (v : Count) → slice_get (counts-from published runs i n) n ≡ Some v → OfWire (λ k. 0) published runs ≡ v
+  a-wire published runs i zero v e = inside e
+  a-wire published runs i (suc n) v e = a-wire published runs (suc i) n v e
+
+  at-start : (c : Cluster F) → Starts F c → ((i : ℕ) → i < nodes → i ≡ c.past → ⊥) → (parts : List Count) × Holds (clusters F) (counting F nodes) parts
+  at-start c starts here = (
+    counts-from ((BookOf F c).published) (c.runs) 0 nodes,
+    start-holds F (counting F nodes) c (λ k. 0) (counts-from ((BookOf F c).published) (c.runs) 0 nodes) starts (record {
+      count = counts-length ((BookOf F c).published) (c.runs) 0 nodes;
+      node = λ i v low e. subst (IsCountOfNode F i c (λ k. 0)) (a-node ((BookOf F c).published) (c.runs) 0 nodes i v low e) (new i);
+      wire = λ v e. subst (IsCountOfWire F nodes c (λ k. 0)) (a-wire ((BookOf F c).published) (c.runs) 0 nodes v e) wire;
+    }),
+  )
+    where
+      new : (i : ℕ) → IsCountOfNode F i c (λ k. 0) (OfNode (0 + i) 0 0)
+      new i = let n = (starts.world).numbers i in record {
+        node = omega arith;
+        answered = sym (n.2);
+        shown = refl;
+        order = omega arith;
+        acting = inl refl;
+        calm = λ m low high. (let none = n.2 in absurd (omega (arith, none, high)));
+      }
+
+      wire : IsCountOfWire F nodes c (λ k. 0) (OfWire (λ k. 0) ((BookOf F c).published) (c.runs))
+      wire = record { shown = refl; published = refl; runs = refl; past = here }
+
   -- ---- a sync alone
 
   sync-alone : (i a n : ℕ) (said : F.Said) → i < nodes → Does F (nothing F) said (nothing F) → F.Changes said ≡ false → a < n
-      → MayAlone F (counting F nodes) i (OfNode i a n) (OfNode i (suc a) n)
-  sync-alone i a n said below does still unanswered c s t is = (
+      → MayAlone (clusters F) (counting F nodes) i (OfNode i a n) (OfNode i (suc a) n)
+  sync-alone i a n said below does still unanswered c s reached is = (
     after,
     Then c after after event (Done after),
-    (tries_alone F).syncs c i said (at ((c.world).sure) i (suc ((BookOf F c).answered i))) t (λ k ne. at-other ((c.world).sure) i _ k ne),
+    (tries_alone F).syncs c i said (at ((c.world).sure) i (suc ((BookOf F c).answered i))) ((right F c reached).0) (λ k ne. at-other ((c.world).sure) i _ k ne),
     record {
       node = refl;
       answered = ap suc (is.answered) ∙ sym (at-same ((BookOf F c).answered) i (suc ((BookOf F c).answered i)));
@@ -175,4 +220,4 @@ module _ (F : Files) (nodes : ℕ) where
           ]
 
 pub counts_are_ties : (F : Files) (nodes : ℕ) → CountsAreTies F nodes
-counts_are_ties F nodes = record { local = local F nodes; sync_alone = sync-alone F nodes; crash_all = all-stop F nodes }
+counts_are_ties F nodes = record { starts = at-start F nodes; local = local F nodes; sync_alone = sync-alone F nodes; crash_all = all-stop F nodes }

@@ -4,14 +4,16 @@ use Rattle.std.specs.Prelude.{slice_get, slice_set, length}
 use Rattle.std.proofs.lemmas.Bool.{cases_eq, cases_lt}
 use Rattle.cluster_laws.specs.Files.{Files, CellOf, Part}
 use Rattle.cluster_laws.specs.Book.{at, taken, tried}
-use Rattle.cluster_laws.specs.World.{World, nothing, Step, Answers, Syncs, Publishes, Begins, Ends, Writes, Lands, Settles, Lower, Grants, Reads, Shrinks, Loses, Run, Stop, Goes}
+use Rattle.cluster_laws.specs.World.{World, Headline, nothing, Step, Answers, Syncs, Publishes, Begins, Ends, Writes, Lands, Settles, Lower, Grants, Reads, Shrinks, Loses, Run, Stop, Goes}
 use Rattle.cluster_laws.proofs.Cells.{split, inside, none-some, at-other, at-cases}
 use Rattle.cluster_laws.proofs.Trying.{free_or_ours}
 use Rattle.cluster_laws.proofs.Running.{told-kept}
-use Rattle.cluster_events.specs.Cluster.{Cluster, BookOf}
-use Rattle.cluster_events.proofs.Eventing.{events_keep, events_are_steps}
+use Rattle.cluster_events.specs.Cluster.{Cluster, BookOf, Starts, Events, Done, Together}
+use Rattle.lock_laws.specs.Lock.{Compatible}
+use Rattle.cluster_events.proofs.Eventing.{every_cluster, events_are_steps}
+use Rattle.event_lists.proofs.Stopping.{events-append}
 use Rattle.cluster_rows.proofs.Marking.{run-grows}
-use Rattle.cluster_turns.specs.Turns.{SameNode, OnlyOf, TriesAreAlone, Ties, AreLocal, Holds, AreTied, MayPaired, Alone, Paired, TurnsKeep, EventsGrow}
+use Rattle.cluster_turns.specs.Turns.{SameNode, OnlyOf, TriesAreAlone, Machine, RunsGoOn, Reached, clusters, Ties, AreLocal, Holds, AreTied, MayPaired, Alone, Paired, TurnsKeep, StartHolds, HeldIsRight, EventsGrow}
 
 -- ---- tries
 
@@ -113,76 +115,80 @@ get-some (x ∷ xs) (suc p) h = get-some xs p (omega arith)
 
 -- ---- turns
 
-module _ (F : Files) (T : Ties F) (L : AreLocal F T) where
+module _ (M : Machine) (T : Ties M) (L : AreLocal M T) (goes-on : RunsGoOn M) where
   -- whose value stands at a place
-  node-place : (parts : List T.Value) (p i : ℕ) (v : T.Value) → Holds F T parts → slice_get parts p ≡ Some v → T.which v ≡ Some i → p ≡ i
+  node-place : (parts : List T.Value) (p i : ℕ) (v : T.Value) → Holds M T parts → slice_get parts p ≡ Some v → T.which v ≡ Some i → p ≡ i
   node-place parts p i v h got is =
-      let short = get-below parts p v got in let count = h.count in
+      let short = get-below parts p v got in let count = (h.fits).count in
       elim (cases_lt p (T.nodes)) [
-        | inl below ↦ inside (sym (L.is_node p (h.cluster) (h.shown) v (h.node p v below got)) ∙ is)
-        | inr not_below ↦ absurd (none-some (L.is_wire (h.cluster) (h.shown) v (h.wire v (subst (λ z. slice_get parts z ≡ Some v) (omega arith) got))) is)
+        | inl below ↦ inside (sym (L.is_node p (h.state) (h.shown) v ((h.fits).node p v below got)) ∙ is)
+        | inr not_below ↦ absurd (none-some (L.is_wire (h.state) (h.shown) v ((h.fits).wire v (subst (λ z. slice_get parts z ≡ Some v) (omega arith) got))) is)
       ]
 
-  wire-place : (parts : List T.Value) (p : ℕ) (v : T.Value) → Holds F T parts → slice_get parts p ≡ Some v → T.which v ≡ None → p ≡ T.nodes
+  wire-place : (parts : List T.Value) (p : ℕ) (v : T.Value) → Holds M T parts → slice_get parts p ≡ Some v → T.which v ≡ None → p ≡ T.nodes
   wire-place parts p v h got is =
-      let short = get-below parts p v got in let count = h.count in
+      let short = get-below parts p v got in let count = (h.fits).count in
       elim (cases_lt p (T.nodes)) [
-        | inl below ↦ absurd (none-some is (L.is_node p (h.cluster) (h.shown) v (h.node p v below got)))
+        | inl below ↦ absurd (none-some is (L.is_node p (h.state) (h.shown) v ((h.fits).node p v below got)))
         | inr not_below ↦ omega arith
       ]
 
-  all-tied : (parts : List T.Value) (h : Holds F T parts) → AreTied F T (h.cluster) (h.shown)
-  all-tied parts h j below = let count = h.count in let got = get-some parts j (omega arith) in (got.0, h.node j (got.0) below (got.1))
+  all-tied : (parts : List T.Value) (h : Holds M T parts) → AreTied M T (h.state) (h.shown)
+  all-tied parts h j below = let count = (h.fits).count in let got = get-some parts j (omega arith) in (got.0, (h.fits).node j (got.0) below (got.1))
 
-  alone : (parts : List T.Value) (p : ℕ) (old new : T.Value) → Holds F T parts → slice_get parts p ≡ Some old → Alone F T old new → Holds F T (slice_set parts p new)
-  alone parts p old new h got (inl same) = subst (λ z. Holds F T (slice_set parts p z)) same (subst (Holds F T) (sym (set-back parts p old got)) h)
+  alone : (parts : List T.Value) (p : ℕ) (old new : T.Value) → Holds M T parts → slice_get parts p ≡ Some old → Alone M T old new → Holds M T (slice_set parts p new)
+  alone parts p old new h got (inl same) = subst (λ z. Holds M T (slice_set parts p z)) same (subst (Holds M T) (sym (set-back parts p old got)) h)
   alone parts p old new h got (inr may) =
       let i = may.0 in
       let is_i = node-place parts p i old h got (may.1) in
       let here : slice_get parts i ≡ Some old = subst (λ z. slice_get parts z ≡ Some old) is_i got in
       let below : i < T.nodes = may.2 in
-      let m = may.3 (h.cluster) (h.shown) (h.together) (h.node i old below here) in
-      subst (λ z. Holds F T (slice_set parts z new)) (sym is_i) (record {
-        count = set-length parts i new ∙ h.count;
-        cluster = m.0;
+      let m = may.3 (h.state) (h.shown) (h.reached) ((h.fits).node i old below here) in
+      subst (λ z. Holds M T (slice_set parts z new)) (sym is_i) (record {
+        state = m.0;
         shown = h.shown;
-        together = events_keep F (h.cluster) (m.0) (m.1) (h.together);
-        node = λ j v low e. elim (cases_eq j i) [
+        reached = goes-on (h.state) (m.0) (h.reached) (m.1);
+        fits = record {
+          count = set-length parts i new ∙ (h.fits).count;
+          node = λ j v low e. elim (cases_eq j i) [
           | inl same ↦ subst (λ z. T.IsNode z (m.0) (h.shown) v) (sym same)
               (subst (λ z. T.IsNode i (m.0) (h.shown) z) (set-same parts i new v (subst (λ z. slice_get (slice_set parts i new) z ≡ Some v) same e)) (m.3))
-          | inr ne ↦ L.node_local j i (h.cluster) (m.0) (h.shown) v ne (m.2) (h.node j v low (sym (set-other parts i j new ne) ∙ e))
+          | inr ne ↦ L.node_local j i (h.state) (m.0) (h.shown) v ne (m.2) ((h.fits).node j v low (sym (set-other parts i j new ne) ∙ e))
         ];
-        wire = λ v e. L.wire_local i (h.cluster) (m.0) (h.shown) v (m.2)
-            (h.wire v (sym (set-other parts i (T.nodes) new (λ same. absurd (omega (arith, same, below)))) ∙ e));
+        wire = λ v e. L.wire_local i (h.state) (m.0) (h.shown) v (m.2)
+            ((h.fits).wire v (sym (set-other parts i (T.nodes) new (λ same. absurd (omega (arith, same, below)))) ∙ e));
+        };
       })
 
   -- of any parts that have the new values at these places, and the old ones elsewhere
-  paired : (parts after : List T.Value) (i : ℕ) (old old_wire new new_wire : T.Value) → i < T.nodes → Holds F T parts
-      → slice_get parts i ≡ Some old → slice_get parts (T.nodes) ≡ Some old_wire → MayPaired F T i old old_wire new new_wire
+  paired : (parts after : List T.Value) (i : ℕ) (old old_wire new new_wire : T.Value) → i < T.nodes → Holds M T parts
+      → slice_get parts i ≡ Some old → slice_get parts (T.nodes) ≡ Some old_wire → MayPaired M T i old old_wire new new_wire
       → length after ≡ length parts
       → ((v : T.Value) → slice_get after i ≡ Some v → new ≡ v) → ((v : T.Value) → slice_get after (T.nodes) ≡ Some v → new_wire ≡ v)
-      → ((j : ℕ) → (j ≡ i → ⊥) → (j ≡ T.nodes → ⊥) → slice_get after j ≡ slice_get parts j) → Holds F T after
+      → ((j : ℕ) → (j ≡ i → ⊥) → (j ≡ T.nodes → ⊥) → slice_get after j ≡ slice_get parts j) → Holds M T after
   paired parts after i old old_wire new new_wire below h got got_wire may long at_i at_wire rest =
-      let m = may (h.cluster) (h.shown) (h.together) (all-tied parts h) (h.node i old below got) (h.wire old_wire got_wire) in
+      let m = may (h.state) (h.shown) (h.reached) (all-tied parts h) ((h.fits).node i old below got) ((h.fits).wire old_wire got_wire) in
       record {
-        count = long ∙ h.count;
-        cluster = m.0;
+        state = m.0;
         shown = m.1;
-        together = events_keep F (h.cluster) (m.0) (m.2) (h.together);
+        reached = goes-on (h.state) (m.0) (h.reached) (m.2);
+        fits = record {
+        count = long ∙ (h.fits).count;
         node = λ j v low e. elim (cases_eq j i) [
           | inl same ↦ subst (λ z. T.IsNode z (m.0) (m.1) v) (sym same)
               (subst (λ z. T.IsNode i (m.0) (m.1) z) (at_i v (subst (λ z. slice_get after z ≡ Some v) same e)) (m.4))
-          | inr ne ↦ m.3 j v low ne (h.node j v low (sym (rest j ne (λ same. absurd (omega (arith, same, low)))) ∙ e))
+          | inr ne ↦ m.3 j v low ne ((h.fits).node j v low (sym (rest j ne (λ same. absurd (omega (arith, same, low)))) ∙ e))
         ];
         wire = λ v e. subst (λ z. T.IsWire (m.0) (m.1) z) (at_wire v e) (m.5);
+        };
       }
 
   -- the value at a place that was set first, and another after it
   under : (parts : List T.Value) (a b : ℕ) (x y v : T.Value) → (a ≡ b → ⊥) → slice_get (slice_set (slice_set parts a x) b y) a ≡ Some v → x ≡ v
   under parts a b x y v ne e = set-same parts a x v (sym (set-other (slice_set parts a x) b a y ne) ∙ e)
 
-  both : (parts : List T.Value) (a b : ℕ) (old_a old_b new_a new_b : T.Value) → (a ≡ b → ⊥) → Holds F T parts
-      → slice_get parts a ≡ Some old_a → slice_get parts b ≡ Some old_b → Paired F T old_a old_b new_a new_b → Holds F T (slice_set (slice_set parts a new_a) b new_b)
+  both : (parts : List T.Value) (a b : ℕ) (old_a old_b new_a new_b : T.Value) → (a ≡ b → ⊥) → Holds M T parts
+      → slice_get parts a ≡ Some old_a → slice_get parts b ≡ Some old_b → Paired M T old_a old_b new_a new_b → Holds M T (slice_set (slice_set parts a new_a) b new_b)
   both parts a b old_a old_b new_a new_b ne h got_a got_b (inl m) =
       let wire = m.0 in let i = (m.3).0 in let is = (m.3).1 in let below = (m.3).2 in let may = (m.3).3 in
       let is_i : a ≡ i = node-place parts a i old_a h got_a is in
@@ -202,24 +208,43 @@ module _ (F : Files) (T : Ties F) (L : AreLocal F T) where
       (λ v e. under parts a b new_a new_b v ne (subst (λ z. slice_get (slice_set (slice_set parts a new_a) b new_b) z ≡ Some v) (sym is_wire) e))
       (λ j no_i no_wire. set-other (slice_set parts a new_a) b j new_b (λ e. no_i (e ∙ is_i)) ∙ set-other parts a j new_a (λ e. no_wire (e ∙ is_wire)))
 
-  alone-grows : (old new : T.Value) → Alone F T old new → T.Grows old new
+  alone-grows : (old new : T.Value) → Alone M T old new → T.Grows old new
   alone-grows old new (inl same) = subst (λ z. T.Grows old z) same (L.grows_reflexive old)
   alone-grows old new (inr may) = may.4
 
-  paired-grows : (old_a old_b new_a new_b : T.Value) → Paired F T old_a old_b new_a new_b → T.Grows old_a new_a × T.Grows old_b new_b
+  paired-grows : (old_a old_b new_a new_b : T.Value) → Paired M T old_a old_b new_a new_b → T.Grows old_a new_a × T.Grows old_b new_b
   paired-grows old_a old_b new_a new_b (inl with_wire) = (with_wire.1, with_wire.2)
   paired-grows old_a old_b new_a new_b (inr with_wire) = (with_wire.2, with_wire.1)
 
-pub turns : (F : Files) (T : Ties F) → TurnsKeep F T
-turns F T local = record {
-  alone_keeps = alone F T local;
-  paired_keeps = both F T local;
+pub turns : (M : Machine) → RunsGoOn M → (T : Ties M) → TurnsKeep M T
+turns M goes-on T local = record {
+  alone_keeps = alone M T local goes-on;
+  paired_keeps = both M T local goes-on;
   unchanged_alone = λ v. inl refl;
-  alone_grows = alone-grows F T local;
-  paired_grows = paired-grows F T local;
+  alone_grows = alone-grows M T local goes-on;
+  paired_grows = paired-grows M T local goes-on;
   grows_reflexive = local.grows_reflexive;
   grows_transitive = local.grows_transitive;
 }
+
+-- events after events
+pub clusters-go-on : (F : Files) → RunsGoOn (clusters F)
+clusters-go-on F c c' r events = record { begin = r.begin; starts = r.starts; events = events-append F (r.begin) c c' (r.events) events }
+
+pub cluster-turns : (F : Files) (T : Ties (clusters F)) → TurnsKeep (clusters F) T
+cluster-turns F T = turns (clusters F) (clusters-go-on F) T
+
+pub right : (F : Files) (c : Cluster F) → Reached F c → Together F c × Headline F (c.world) × ((l : F.Lock) → Compatible (c.locks l))
+right F c r = every_cluster F (r.begin) c (r.starts) (r.events)
+
+pub reached-start : (F : Files) (c : Cluster F) → Starts F c → Reached F c
+reached-start F c starts = record { begin = c; starts = starts; events = Done c }
+
+pub start-holds : (F : Files) (T : Ties (clusters F)) → StartHolds F T
+start-holds F T c shown parts starts fits = record { state = c; shown = shown; reached = reached-start F c starts; fits = fits }
+
+pub held-right : (F : Files) (T : Ties (clusters F)) → HeldIsRight F T
+held-right F T parts h = right F (h.state) (h.reached)
 
 -- ---- what grows
 

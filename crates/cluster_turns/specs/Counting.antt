@@ -5,8 +5,8 @@ use Rattle.cluster_laws.specs.Files.{Files, Does}
 use Rattle.cluster_laws.specs.Log.{Calm}
 use Rattle.cluster_laws.specs.World.{nothing}
 use Rattle.cluster_laws.specs.Book.{at}
-use Rattle.cluster_events.specs.Cluster.{Cluster, BookOf, acts}
-use Rattle.cluster_turns.specs.Turns.{Ties, AreLocal, MayAlone, MayPaired}
+use Rattle.cluster_events.specs.Cluster.{Cluster, BookOf, acts, Starts}
+use Rattle.cluster_turns.specs.Turns.{Ties, clusters, Holds, AreLocal, MayAlone, MayPaired}
 
 pub data Count : Type 0 where
   OfNode : (node answered shown : ℕ) → Count
@@ -54,7 +54,7 @@ abbrev pub AllRun : (ℕ → Bool) → List ℕ → Type 0
 AllRun runs [] = ⊤
 AllRun runs (i ∷ is) = (runs i ≡ true) × AllRun (at runs i false) is
 
-abbrev pub counting : (F : Files) → ℕ → Ties F
+abbrev pub counting : (F : Files) → ℕ → Ties (clusters F)
 counting F nodes = record {
   Value = Count;
   Shown = ℕ → ℕ;
@@ -65,11 +65,12 @@ counting F nodes = record {
   Grows = λ u v. node_of u ≡ node_of v;
 }
 
--- Such values are ties. A node with an open line may answer a sync alone, by its own value, whatever the rest of the cluster is. And where every line that was shown is published, a seat at one node may stop all these nodes at once, with its own value and the wire's:
+-- Such values are ties, and at each start, whose past is none of the nodes, there are some. A node with an open line may answer a sync alone, by its own value, whatever the rest of the cluster is. And where every line that was shown is published, a seat at one node may stop all these nodes at once, with its own value and the wire's:
 -- a line `crash all`. What each other node answered can't be read off these two values; that its value fits tells it.
 pub record CountsAreTies (F : Files) (nodes : ℕ) : Type 0 where
-  pub local : AreLocal F (counting F nodes)
+  pub starts : (c : Cluster F) → Starts F c → ((i : ℕ) → i < nodes → i ≡ c.past → ⊥) → (parts : List Count) × Holds (clusters F) (counting F nodes) parts
+  pub local : AreLocal (clusters F) (counting F nodes)
   pub sync_alone : (i a n : ℕ) (said : F.Said) → i < nodes → Does F (nothing F) said (nothing F) → F.Changes said ≡ false → a < n
-      → MayAlone F (counting F nodes) i (OfNode i a n) (OfNode i (suc a) n)
+      → MayAlone (clusters F) (counting F nodes) i (OfNode i a n) (OfNode i (suc a) n)
   pub crash_all : (i : ℕ) (own : Count) (is : List ℕ) (shown : ℕ → ℕ) (runs : ℕ → Bool) → i < nodes → AreBelow nodes is → AllRun runs is
-      → MayPaired F (counting F nodes) i own (OfWire shown shown runs) own (OfWire shown shown (running runs is))
+      → MayPaired (clusters F) (counting F nodes) i own (OfWire shown shown runs) own (OfWire shown shown (running runs is))

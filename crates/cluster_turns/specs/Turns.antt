@@ -5,8 +5,9 @@ use Rattle.cluster_laws.specs.Files.{Files, Part}
 use Rattle.cluster_laws.specs.Book.{tried, relocked}
 use Rattle.cluster_laws.specs.Locks.{Forgets}
 use Rattle.cluster_laws.specs.History.{Item}
-use Rattle.cluster_laws.specs.World.{Answering, nothing}
-use Rattle.cluster_events.specs.Cluster.{Cluster, BookOf, Events, Together}
+use Rattle.cluster_laws.specs.World.{Answering, nothing, Headline}
+use Rattle.cluster_events.specs.Cluster.{Cluster, BookOf, Starts, Events, Together}
+use Rattle.lock_laws.specs.Lock.{Compatible}
 
 -- ---- what one node has of the cluster
 
@@ -56,17 +57,39 @@ pub record TriesAreAlone (F : Files) : Type 0 where
   pub shrinks : (c : Cluster F) (j : ℕ) (cache : ℕ → Part F) → Forgets F (BookOf F c) j cache
       → OnlyOf F j c (record c { world = record (c.world) { book = relocked F (BookOf F c) ((BookOf F c).state) cache } })
 
+-- ---- what is behind the turns
+
+-- a machine of nodes and a wire: its states, which of them a run comes to, from which to which it may go on, and what only this node's own has changed between
+pub record Machine : Type 1 where
+  pub State : Type 0
+  pub IsReached : State → Type 0
+  pub LeadsTo : State → State → Type 0
+  pub OnlyOf : ℕ → State → State → Type 0
+
+-- what a run comes to it still comes to when it goes on
+abbrev pub RunsGoOn : Machine → Type 0
+RunsGoOn M = (c c' : M.State) → M.IsReached c → M.LeadsTo c c' → M.IsReached c'
+
+-- a cluster, with how it was reached: by these events, from a start
+pub record Reached (F : Files) (c : Cluster F) : Type 0 where
+  pub begin : Cluster F
+  pub starts : Starts F begin
+  pub events : Events F begin c
+
+abbrev pub clusters : Files → Machine
+clusters F = record { State = Cluster F; IsReached = Reached F; LeadsTo = Events F; OnlyOf = OnlyOf F }
+
 -- ---- the values behind the turns
 
--- what each value has to say of the cluster
-pub record Ties (F : Files) : Type 1 where
+-- what each value has to say of the machine
+pub record Ties (M : Machine) : Type 1 where
   pub Value : Type 0
-  -- what node and wire agree on beside the cluster: how far the wire has shown each node the lines of its clients
+  -- what node and wire agree on beside the machine: how far the wire has shown each node the lines of its clients
   pub Shown : Type 0
   -- the nodes are parts 0 to nodes - 1, and the wire is the next, the last
   pub nodes : ℕ
-  pub IsNode : ℕ → Cluster F → Shown → Value → Type 0
-  pub IsWire : Cluster F → Shown → Value → Type 0
+  pub IsNode : ℕ → M.State → Shown → Value → Type 0
+  pub IsWire : M.State → Shown → Value → Type 0
   -- the node whose value it is; the wire's is no node's
   pub which : Value → Option ℕ
   -- the second value is the first, or one that the first grew into
@@ -74,67 +97,79 @@ pub record Ties (F : Files) : Type 1 where
 
 -- A node's value may speak of all that its node has and of all that lies between the nodes: who runs and waits, heads, locks, items. An event that another
 -- node makes alone changes none of it.
-pub record AreLocal (F : Files) (T : Ties F) : Type 0 where
-  pub is_node : (i : ℕ) (c : Cluster F) (s : T.Shown) (v : T.Value) → T.IsNode i c s v → T.which v ≡ Some i
-  pub is_wire : (c : Cluster F) (s : T.Shown) (v : T.Value) → T.IsWire c s v → T.which v ≡ None
-  pub node_local : (i j : ℕ) (c c' : Cluster F) (s : T.Shown) (v : T.Value) → (i ≡ j → ⊥) → OnlyOf F j c c' → T.IsNode i c s v → T.IsNode i c' s v
-  pub wire_local : (j : ℕ) (c c' : Cluster F) (s : T.Shown) (v : T.Value) → OnlyOf F j c c' → T.IsWire c s v → T.IsWire c' s v
+pub record AreLocal (M : Machine) (T : Ties M) : Type 0 where
+  pub is_node : (i : ℕ) (c : M.State) (s : T.Shown) (v : T.Value) → T.IsNode i c s v → T.which v ≡ Some i
+  pub is_wire : (c : M.State) (s : T.Shown) (v : T.Value) → T.IsWire c s v → T.which v ≡ None
+  pub node_local : (i j : ℕ) (c c' : M.State) (s : T.Shown) (v : T.Value) → (i ≡ j → ⊥) → M.OnlyOf j c c' → T.IsNode i c s v → T.IsNode i c' s v
+  pub wire_local : (j : ℕ) (c c' : M.State) (s : T.Shown) (v : T.Value) → M.OnlyOf j c c' → T.IsWire c s v → T.IsWire c' s v
   pub grows_reflexive : (v : T.Value) → T.Grows v v
   pub grows_transitive : (u v w : T.Value) → T.Grows u v → T.Grows v w → T.Grows u w
 
--- there is a cluster that holds what every event keeps, and that the values are tied to
-pub record Holds (F : Files) (T : Ties F) (parts : List T.Value) : Type 0 where
+-- the values are tied to this state
+pub record Fits (M : Machine) (T : Ties M) (state : M.State) (shown : T.Shown) (parts : List T.Value) : Type 0 where
   pub count : length parts ≡ suc (T.nodes)
-  pub cluster : Cluster F
+  pub node : (i : ℕ) (v : T.Value) → i < T.nodes → slice_get parts i ≡ Some v → T.IsNode i state shown v
+  pub wire : (v : T.Value) → slice_get parts (T.nodes) ≡ Some v → T.IsWire state shown v
+
+-- a run came to a state that the values are tied to: so whatever holds of every run holds of this one
+pub record Holds (M : Machine) (T : Ties M) (parts : List T.Value) : Type 0 where
+  pub state : M.State
   pub shown : T.Shown
-  pub together : Together F cluster
-  pub node : (i : ℕ) (v : T.Value) → i < T.nodes → slice_get parts i ≡ Some v → T.IsNode i cluster shown v
-  pub wire : (v : T.Value) → slice_get parts (T.nodes) ≡ Some v → T.IsWire cluster shown v
+  pub reached : M.IsReached state
+  pub fits : Fits M T state shown parts
 
--- each node has a value that is tied to the cluster
-abbrev pub AreTied : (F : Files) (T : Ties F) → Cluster F → T.Shown → Type 0
-AreTied F T c s = (j : ℕ) → j < T.nodes → (v : T.Value) × T.IsNode j c s v
+-- each node has a value that is tied to the state
+abbrev pub AreTied : (M : Machine) (T : Ties M) → M.State → T.Shown → Type 0
+AreTied M T c s = (j : ℕ) → j < T.nodes → (v : T.Value) × T.IsNode j c s v
 
--- A change that node i may make alone: events that change only what is its own, whatever the rest of the cluster is.
-abbrev pub MayAlone : (F : Files) (T : Ties F) → ℕ → T.Value → T.Value → Type 0
-MayAlone F T i old new = (c : Cluster F) (s : T.Shown) → Together F c → T.IsNode i c s old
-    → (c' : Cluster F) × Events F c c' × OnlyOf F i c c' × T.IsNode i c' s new
+-- A change that node i may make alone: a run goes on by what changes only what is its own, whatever the rest of the state is.
+abbrev pub MayAlone : (M : Machine) (T : Ties M) → ℕ → T.Value → T.Value → Type 0
+MayAlone M T i old new = (c : M.State) (s : T.Shown) → M.IsReached c → T.IsNode i c s old
+    → (c' : M.State) × M.LeadsTo c c' × M.OnlyOf i c c' × T.IsNode i c' s new
 
--- Changes that it may make with the wire: events after which every other node's value still fits. That every node has a value that fits tells what the wire
+-- Changes that it may make with the wire: the run goes on to where every other node's value still fits. That every node has a value that fits tells what the wire
 -- knows of other nodes: that they have no line open, where all are to stop.
-abbrev pub MayPaired : (F : Files) (T : Ties F) → ℕ → T.Value → T.Value → T.Value → T.Value → Type 0
-MayPaired F T i old old_wire new new_wire = (c : Cluster F) (s : T.Shown) → Together F c → AreTied F T c s → T.IsNode i c s old → T.IsWire c s old_wire
-    → (c' : Cluster F) × (s' : T.Shown) × Events F c c' × ((j : ℕ) (v : T.Value) → j < T.nodes → (j ≡ i → ⊥) → T.IsNode j c s v → T.IsNode j c' s' v)
+abbrev pub MayPaired : (M : Machine) (T : Ties M) → ℕ → T.Value → T.Value → T.Value → T.Value → Type 0
+MayPaired M T i old old_wire new new_wire = (c : M.State) (s : T.Shown) → M.IsReached c → AreTied M T c s → T.IsNode i c s old → T.IsWire c s old_wire
+    → (c' : M.State) × (s' : T.Shown) × M.LeadsTo c c' × ((j : ℕ) (v : T.Value) → j < T.nodes → (j ≡ i → ⊥) → T.IsNode j c s v → T.IsNode j c' s' v)
     × T.IsNode i c' s' new × T.IsWire c' s' new_wire
 
 -- ---- the rule of turns
 
 -- a value stays, or a node's becomes what it may become alone
-abbrev pub Alone : (F : Files) (T : Ties F) → T.Value → T.Value → Type 0
-Alone F T old new = (old ≡ new) ⊎ ((i : ℕ) × (T.which old ≡ Some i) × (i < T.nodes) × MayAlone F T i old new × T.Grows old new)
+abbrev pub Alone : (M : Machine) (T : Ties M) → T.Value → T.Value → Type 0
+Alone M T old new = (old ≡ new) ⊎ ((i : ℕ) × (T.which old ≡ Some i) × (i < T.nodes) × MayAlone M T i old new × T.Grows old new)
 
 -- a node's value, and the wire's after it
-abbrev pub WithWire : (F : Files) (T : Ties F) → T.Value → T.Value → T.Value → T.Value → Type 0
-WithWire F T old old_wire new new_wire = (T.which old_wire ≡ None) × T.Grows old new × T.Grows old_wire new_wire
-    × ((i : ℕ) × (T.which old ≡ Some i) × (i < T.nodes) × MayPaired F T i old old_wire new new_wire)
+abbrev pub WithWire : (M : Machine) (T : Ties M) → T.Value → T.Value → T.Value → T.Value → Type 0
+WithWire M T old old_wire new new_wire = (T.which old_wire ≡ None) × T.Grows old new × T.Grows old_wire new_wire
+    × ((i : ℕ) × (T.which old ≡ Some i) × (i < T.nodes) × MayPaired M T i old old_wire new new_wire)
 
 -- in either order
-abbrev pub Paired : (F : Files) (T : Ties F) → T.Value → T.Value → T.Value → T.Value → Type 0
-Paired F T old_a old_b new_a new_b = WithWire F T old_a old_b new_a new_b ⊎ WithWire F T old_b old_a new_b new_a
+abbrev pub Paired : (M : Machine) (T : Ties M) → T.Value → T.Value → T.Value → T.Value → Type 0
+Paired M T old_a old_b new_a new_b = WithWire M T old_a old_b new_a new_b ⊎ WithWire M T old_b old_a new_b new_a
 
 -- what a rule of turns owes, member by member, with `Holds`, `Alone`, `Paired` and `Grows` as its words
-pub record RuleOfTurns (F : Files) (T : Ties F) : Type 0 where
-  pub alone_keeps : (parts : List T.Value) (p : ℕ) (old new : T.Value) → Holds F T parts → slice_get parts p ≡ Some old → Alone F T old new → Holds F T (slice_set parts p new)
-  pub paired_keeps : (parts : List T.Value) (a b : ℕ) (old_a old_b new_a new_b : T.Value) → a ≢ b → Holds F T parts
-      → slice_get parts a ≡ Some old_a → slice_get parts b ≡ Some old_b → Paired F T old_a old_b new_a new_b → Holds F T (slice_set (slice_set parts a new_a) b new_b)
-  pub unchanged_alone : (v : T.Value) → Alone F T v v
-  pub alone_grows : (old new : T.Value) → Alone F T old new → T.Grows old new
-  pub paired_grows : (old_a old_b new_a new_b : T.Value) → Paired F T old_a old_b new_a new_b → T.Grows old_a new_a × T.Grows old_b new_b
+pub record RuleOfTurns (M : Machine) (T : Ties M) : Type 0 where
+  pub alone_keeps : (parts : List T.Value) (p : ℕ) (old new : T.Value) → Holds M T parts → slice_get parts p ≡ Some old → Alone M T old new → Holds M T (slice_set parts p new)
+  pub paired_keeps : (parts : List T.Value) (a b : ℕ) (old_a old_b new_a new_b : T.Value) → a ≢ b → Holds M T parts
+      → slice_get parts a ≡ Some old_a → slice_get parts b ≡ Some old_b → Paired M T old_a old_b new_a new_b → Holds M T (slice_set (slice_set parts a new_a) b new_b)
+  pub unchanged_alone : (v : T.Value) → Alone M T v v
+  pub alone_grows : (old new : T.Value) → Alone M T old new → T.Grows old new
+  pub paired_grows : (old_a old_b new_a new_b : T.Value) → Paired M T old_a old_b new_a new_b → T.Grows old_a new_a × T.Grows old_b new_b
   pub grows_reflexive : (v : T.Value) → T.Grows v v
   pub grows_transitive : (u v w : T.Value) → T.Grows u v → T.Grows v w → T.Grows u w
 
-abbrev pub TurnsKeep : (F : Files) → Ties F → Type 0
-TurnsKeep F T = AreLocal F T → RuleOfTurns F T
+abbrev pub TurnsKeep : (M : Machine) → Ties M → Type 0
+TurnsKeep M T = AreLocal M T → RuleOfTurns M T
+
+-- a start that the values are tied to holds
+abbrev pub StartHolds : (F : Files) → Ties (clusters F) → Type 0
+StartHolds F T = (c : Cluster F) (shown : T.Shown) (parts : List T.Value) → Starts F c → Fits (clusters F) T c shown parts → Holds (clusters F) T parts
+
+-- and of values that hold: so it is of the cluster that they are tied to, whatever the turns were
+abbrev pub HeldIsRight : (F : Files) → Ties (clusters F) → Type 0
+HeldIsRight F T = (parts : List T.Value) (h : Holds (clusters F) T parts) → Together F (h.state) × Headline F ((h.state).world) × ((l : F.Lock) → Compatible ((h.state).locks l))
 
 -- ---- what grows
 
