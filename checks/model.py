@@ -6,7 +6,7 @@ None), some contents. Locks: 'D' covers block 0, 'G' covers block 1 and the free
 Each node has two clients, so two open calls. What a try finds missing is the client's note; it has the locks that its tries went through pinned.
 
     model.py            fifty runs, the rows made by hand, and each wrong variant, which some part must refuse: half a minute
-    model.py --long     the same with 2,000 runs of 1,000 steps, and each wrong variant at random: a quarter of an hour or more
+    model.py --long     the same with 2,000 runs of 1,000 steps, and at random six of the wrong variants, all but after_only and stale_note: a quarter of an hour or more
     model.py VARIANT    one of the wrong variants at random, and what refuses it
 
 It ends with 0 exactly where nothing is broken and every wrong variant is refused.
