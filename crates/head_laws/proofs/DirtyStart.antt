@@ -286,7 +286,7 @@ module _ (I : Images) (clients : List Client) (m : Image (Trees I)) (t : Tree) (
       (AnItem _ (trace.Recovered 1 1)
       (AnEvent t6 (untold t6 (t6.names)) c5 settles is_clean (unsaid t6 (t6.names) refl) (goes t6 [] refl (λ i e. e)))
       (refl, (λ e. absurd (omega (arith, e)))) (goes (traced_of I c5 (untold t6 (t6.names))) (trace.Recovered 1 1 ∷ []) refl (λ i e. no-way e)))
-      (refl, its-first, unsaid t7 (t7.names) refl) (goes t7 [] refl (λ i e. e)))
+      (refl, refl, its-first, unsaid t7 (t7.names) refl) (goes t7 [] refl (λ i e. e)))
       (unsaid t8 (t8.names) refl) (goes t8 [] refl (λ i e. e))
 
   nobody-waits : (i : ℕ) → (c7.waits i) ≡ false

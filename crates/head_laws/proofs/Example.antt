@@ -44,7 +44,7 @@ can-live = (
       (Says (trace.Barrier 1) tt))
       (Begins false 33 1 refl refl refl refl))
       (Says (trace.Barrier 1) tt))
-      (Commits 9 1 refl refl refl refl))
+      (Commits 9 1 refl refl refl refl refl refl))
       (Answers (codes "c") 2 (calls.Truncate (codes "f" ∷ []) 2) replies.Ok refl refl (λ s. no-way s)))
       (WritesLog 34 refl))
       (WritesLog 35 refl))

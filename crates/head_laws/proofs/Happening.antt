@@ -290,12 +290,12 @@ module _ (I : Images) (clients : List Client) (behind : ℕ → ℕ → Accepted
         (unspoken i (behind i) (journal_of I t i) _ (t.items) (journals.Ends d (λ runs. (loud runs, lands runs))))
         others (λ k ne. Nothing)
         (same-history I clients t u _ _ [] ch base settled refl refl)
-    ends (Committed sequence upto runs acts loud on-disk ch) =
+    ends (Committed sequence upto runs acts loud on-disk named counted ch) =
         step-by I clients behind t u settled over i _ _ _ ch
         (record (journal_of I t i) { cut = λ e. (((c.world).disk).heads i true).cut; name = λ e. t.names i true; flies = None })
         (same-journal _ _ refl refl refl refl refl (ap {B = Bool → ℕ} (λ (b : Bool) (e : Bool). (((c.world).disk).heads i b).cut) (sym on-disk) ∙ chosen-cuts)
         (ap {B = Bool → AcceptedHead} (λ (b : Bool) (e : Bool). t.names i b) (sym on-disk) ∙ sym (at-same (t.names) i (λ e. t.names i d))) (sym (at-same (c.header_of) i None)) refl)
-        (journals.Commits sequence upto runs acts loud (may.1 ∙ ap (λ (n : ℕ). Some n) (own-header acts)))
+        (journals.Commits sequence upto runs acts loud (may.1 ∙ ap (λ (n : ℕ). Some n) (own-header acts)) named counted)
         others (λ k ne. Other (trace.Commit i sequence upto) (λ e. ne (sym e)))
         (same-history I clients t u _ _ _ ch base settled refl refl)
 
@@ -324,7 +324,7 @@ module _ (I : Images) (clients : List Client) (behind : ℕ → ℕ → Accepted
   steps _ (cluster.IsGranted i locks here none taken) ch = quiet I clients behind t u base _ (cluster.IsGranted i locks here none taken) ch (λ k. refl) refl
   steps _ (cluster.GoesDown i locks cache here weakens all clean cached) ch = quiet I clients behind t u base _ (cluster.GoesDown i locks cache here weakens all clean cached) ch (λ k. refl) refl
   steps _ cluster.Views ch = quiet I clients behind t u base _ cluster.Views ch (λ k. refl) refl
-  steps _ (cluster.Recovers i here wait nothing_left unheaded told) (said, its-first, ch) =
+  steps _ (cluster.Recovers i here wait nothing_left unheaded told) (said, is-clean, its-first, ch) =
       step-same I clients behind t u _ (cluster.Recovers i here wait nothing_left unheaded told) i (t.names) (t.silent) [] ch base refl refl (record (journal_of I t i) { waits = false })
       (same-journal _ _ refl (sym (at-same (c.waits) i false)) refl refl refl refl refl refl refl)
       (unspoken i (behind i) (journal_of I t i) _ (t.items) (journals.IsRecovered wait told unheaded its-first))

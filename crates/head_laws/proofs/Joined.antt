@@ -45,7 +45,7 @@ joined-early = (
       (Says (trace.Barrier 1) tt))
       (Begins false 33 1 refl refl refl refl))
       (Says (trace.Barrier 1) tt))
-      (Commits 9 1 refl refl refl refl))
+      (Commits 9 1 refl refl refl refl refl refl))
       (Stops (trace.Crash 1) refl refl))
       (IsFenced refl refl (λ f. absurd (let g : None ≡ Some 1 = f in cc)) refl))
       (Says (trace.WriteReplay 2 7) tt))

@@ -9,7 +9,10 @@ pub mod Tracing
 pub mod Remaining
 pub mod Example
 pub mod Happening
+pub mod Lost
 pub mod Recoveries
 pub mod DirtyStart
 pub mod Joined
 pub mod Unsettled
+pub mod Turns
+pub mod TwoNodes

@@ -22,7 +22,8 @@ use Rattle.head_laws.specs.Tellings as tellings
 use Rattle.head_laws.proofs.Values.{none-on}
 use Rattle.head_laws.proofs.Saying.{other-idle}
 use Rattle.head_laws.proofs.Items.{true-false, eqb-other, eqb-self}
-use Rattle.head_laws.proofs.Tracing.{same-last, no-more, grows, history-is, events-of}
+use Rattle.head_laws.proofs.Tracing.{same-last, no-more, grows, told, journal-events, history-is, events-of}
+use Rattle.head_laws.proofs.Lost.{each-fenced}
 use Rattle.head_laws.proofs.Happening.{steps, item-step, every-run}
 
 -- ---- lists of items
@@ -189,7 +190,7 @@ module _ (P : Type 0) (s0 : Slots) (i : ℕ) where
   event-agrees behind j _ items _ (journals.Replays r h waits who alone) through recovered a = record { members = a.members; waits = a.waits; told = a.told }
   event-agrees behind j _ items _ (journals.ReplaysPast h waits who alone) through recovered a = record { members = a.members; waits = a.waits; told = a.told }
   event-agrees behind j _ items _ (journals.Ends d may) through recovered a = record { members = a.members; waits = a.waits; told = a.told }
-  event-agrees behind j _ items _ (journals.Commits sequence upto runs acts loud flies) through recovered a = leaves j _ items (trace.Commit i sequence upto) refl refl refl refl through a
+  event-agrees behind j _ items _ (journals.Commits sequence upto runs acts loud flies named counted) through recovered a = leaves j _ items (trace.Commit i sequence upto) refl refl refl refl through a
   event-agrees behind j _ items _ (journals.Stops x is runs) through recovered a = stops-agrees j items x is
   event-agrees behind j _ items _ (journals.IsFenced stopped unfenced resting there) through recovered a = leaves j _ items (trace.Fence i) refl refl refl refl through a
   event-agrees behind j _ items _ (journals.Joins stopped free alone there) through recovered a =
@@ -239,7 +240,7 @@ event-members s0 i behind j k items more event e = by j k items more event e
     by j _ items _ (journals.Replays r h waits who alone) e = e
     by j _ items _ (journals.ReplaysPast h waits who alone) e = e
     by j _ items _ (journals.Ends d may) e = e
-    by j _ items _ (journals.Commits sequence upto runs acts loud flies) e = on items (trace.Commit i sequence upto) (j.runs) e
+    by j _ items _ (journals.Commits sequence upto runs acts loud flies named counted) e = on items (trace.Commit i sequence upto) (j.runs) e
     by j _ items _ (journals.Stops x is runs) e = on items x false (end (slots_after s0 items) x is)
     by j _ items _ (journals.IsFenced stopped unfenced resting there) e = on items (trace.Fence i) (j.runs) e
     by j _ items _ (journals.Joins stopped free alone there) e = on items (trace.Join i) true (ap (λ (b : Bool). cond b true ((slots_after s0 items).members i)) (eqb-self i))
@@ -414,6 +415,10 @@ recoveries-told I = record {
     | inr e ↦ inr (sym (ap (is_recovering i) (its-place I clients behind a begins (t.items))) ∙ e)
   ];
   slots = λ clients behind a t i begins run here free. still-waits I clients behind a t i begins run here free;
+  losses = λ clients behind a t i begins run acts. (told I clients behind a t begins (every-run I clients behind a t begins run) i).lost acts;
+  fenced = λ clients behind a t i kept before after begins run is.
+      let r = journal-events I clients behind a t begins (every-run I clients behind a t begins run) i in
+      each-fenced I i behind (r.0) (r.1) (journal_of I t i) (t.items) (r.2) before after kept is;
 }
   where
     still-waits : (I : Images) (clients : List Client) (behind : ℕ → ℕ → AcceptedHead) (a t : Traced I) (i : ℕ) → Begins I clients behind a → Tellings I clients behind a t
@@ -486,7 +491,7 @@ happens-nothing i behind j _ items _ (Does _ _ (journals.BeginsLast clean block 
 happens-nothing i behind j _ items _ (Does _ _ (journals.Replays r h waits who alone)) w none = none
 happens-nothing i behind j _ items _ (Does _ _ (journals.ReplaysPast h waits who alone)) w none = none
 happens-nothing i behind j _ items _ (Does _ _ (journals.Ends d may)) w none = none
-happens-nothing i behind j _ items _ (Does _ _ (journals.Commits sequence upto runs acts loud flies)) w none = none-on i items (trace.Commit i sequence upto ∷ []) none tt
+happens-nothing i behind j _ items _ (Does _ _ (journals.Commits sequence upto runs acts loud flies named counted)) w none = none-on i items (trace.Commit i sequence upto ∷ []) none tt
 happens-nothing i behind j _ items _ (Does _ _ (journals.Stops x is runs)) w none = none-on i items (x ∷ []) none (by x is)
   where
     by : (x : TraceItem) → IsEnd i x → DoesNothing i (x ∷ [])

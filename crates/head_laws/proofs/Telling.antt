@@ -7,7 +7,7 @@ use Rattle.trace_text.specs.declared.item.TraceItem.{TraceItem}
 use Rattle.run_rules.specs.Lives.{Life, AcceptedHead, lives_of, losses_of, life_at}
 use Rattle.head_laws.specs.Journals.{Journal, JournalEvent, JournalEvents, Done, Then, IsNew}
 use Rattle.head_laws.specs.Journals as journals
-use Rattle.head_laws.specs.Laws.{MayBe, AreTold, HeadsAreTold}
+use Rattle.head_laws.specs.Laws.{lives_count, MayBe, AreTold, HeadsAreTold}
 use Rattle.head_laws.proofs.Items.{true-false, eqb-other, eqb-self}
 use Rattle.head_laws.proofs.Values.{value, value-is}
 use Rattle.head_laws.proofs.Goods.{Closed, Inv, open-runs}
@@ -38,7 +38,7 @@ event-keeps i behind j _ items _ (journals.BeginsLast clean block upto runs acts
 event-keeps i behind j _ items _ (journals.Replays r h waits who alone) inv = replays i behind j items r h waits who alone inv
 event-keeps i behind j _ items _ (journals.ReplaysPast h waits who alone) inv = replays-past i behind j items h waits who alone inv
 event-keeps i behind j _ items _ (journals.Ends d may) inv = ends i behind j items d may inv
-event-keeps i behind j _ items _ (journals.Commits sequence upto runs acts loud flies) inv = commits i behind j items sequence upto runs acts loud flies inv
+event-keeps i behind j _ items _ (journals.Commits sequence upto runs acts loud flies named counted) inv = commits i behind j items sequence upto runs acts loud flies inv
 event-keeps i behind j _ items _ (journals.Stops x is runs) inv = stops i behind j items x is runs inv
 event-keeps i behind j _ items _ (journals.IsFenced stopped unfenced resting at) inv = is-fenced i behind j items stopped resting at inv
 event-keeps i behind j _ items _ (journals.Joins stopped free alone at) inv = joins i behind j items stopped free alone at inv
@@ -100,6 +100,11 @@ are-told i behind j items inv = record {
       ∙ (c.told false ∙ ap (λ (b : Bool). cond b (j.cut false) j.last) (eqb-self (losses_of i items))));
   rests = λ none stopped d. inv.even none (inl stopped) d;
   count = inv.count;
+  lost = λ acts. (let c : lives_count i (lives_of items) ≡ losses_of i items + (j.unlost + cond j.runs 1 0) = inv.count in let u : j.unlost ≡ 0 = inv.settled acts in
+      c ∙ omega (arith, u));
+  fence = λ l some who is.
+      let g = inv.lives (losses_of i items) l is (omega arith) in
+      (g.closed (elim (eqb_tells j.unlost 0) [ inl none ↦ absurd (some none.1) | inr more ↦ let u = more.1 in omega (arith, u) ])).fenced (inr who);
 }
 
 pub heads-are-told : HeadsAreTold

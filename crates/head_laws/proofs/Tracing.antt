@@ -167,7 +167,7 @@ module _ (I : Images) where
   grows i behind j _ xs _ (Does _ _ (journals.Replays r h waits who alone)) = inl refl
   grows i behind j _ xs _ (Does _ _ (journals.ReplaysPast h waits who alone)) = inl refl
   grows i behind j _ xs _ (Does _ _ (journals.Ends d may)) = inl refl
-  grows i behind j _ xs _ (Does _ _ (journals.Commits sequence upto runs acts loud flies)) = inr (_, refl)
+  grows i behind j _ xs _ (Does _ _ (journals.Commits sequence upto runs acts loud flies named counted)) = inr (_, refl)
   grows i behind j _ xs _ (Does _ _ (journals.Stops x is runs)) = inr (x, refl)
   grows i behind j _ xs _ (Does _ _ (journals.IsFenced stopped unfenced resting at)) = inr (_, refl)
   grows i behind j _ xs _ (Does _ _ (journals.Joins stopped free alone at)) = inr (_, refl)

@@ -113,10 +113,11 @@ pub data JournalEvent (node : ℕ) (behind : ℕ → AcceptedHead) (j : Journal)
       → JournalEvent node behind j items (record j { cut = either (j.cut false) (j.cut false); name = either (j.name false) h; flies = Some r }) items
   -- where the slot waits since the start: such a header of the ring that speaks for the past comes to the disk, at the latest by the fence
   ReplaysPast : (h : AcceptedHead) → j.waits ≡ true → NoHeadMatters node j items → j.flies ≡ None → JournalEvent node behind j items (record j { name = λ d. h }) items
-  -- a header is on the disk, or never will be; a commit says the first of the node's own
+  -- a header is on the disk, or never will be; a commit says the first of the node's own, with that header's numbers
   Ends : (d : Bool) → (j.runs ≡ true → (j.silent ≡ false) × (j.waits ≡ false → d ≡ true))
       → JournalEvent node behind j items (record j { cut = λ e. j.cut d; name = λ e. j.name d; flies = None }) items
   Commits : (sequence upto : ℕ) → j.runs ≡ true → j.waits ≡ false → j.silent ≡ false → j.flies ≡ Some node
+      → sequence ≡ (j.name true).sequence → upto ≡ j.cut true
       → JournalEvent node behind j items (record j { cut = λ e. j.cut true; name = λ e. j.name true; flies = None }) (items ++ trace.Commit node sequence upto ∷ [])
   -- the node stops, and is fenced
   Stops : (x : TraceItem) → IsEnd node x → j.runs ≡ true

@@ -1,7 +1,7 @@
 -- Which head a loss counts from: of each life that has no loss yet, the number that the items tell is that of its head.
-use Rattle.std.specs.Prelude.{ℕ, ◌≡◌, ◌<◌, ◌⊎◌, ◌+◌, ◌==◌, Bool, true, false, Some, List, [], ◌∷◌, if◌then◌else◌}
+use Rattle.std.specs.Prelude.{ℕ, ◌≡◌, ◌<◌, ◌⊎◌, ◌+◌, ◌==◌, Bool, true, false, Some, List, [], ◌∷◌, drop, if◌then◌else◌}
 use Rattle.trace_text.specs.declared.item.TraceItem.{TraceItem}
-use Rattle.run_rules.specs.Lives.{Life, AcceptedHead, DiskHeads, upto_of, lives_of, losses_of, life_at}
+use Rattle.run_rules.specs.Lives.{Life, AcceptedHead, DiskHeads, upto_of, lives_of, losses_of, life_at, fenced_behind}
 use Rattle.head_laws.specs.Journals.{Journal, JournalEvents, IsNew, NoHeadMatters}
 
 -- how many lives of the node are among these
@@ -29,6 +29,11 @@ pub record AreTold (node : ℕ) (behind : ℕ → ℕ → AcceptedHead) (j : Jou
   pub rests : j.unlost ≡ 0 → j.runs ≡ false → (d : Bool) → j.cut d ≡ j.last
   -- a life without a loss is one that ended and isn't told yet, or the present one
   pub count : lives_count node (lives_of items) ≡ losses_of node items + (j.unlost + (if j.runs then 1 else 0))
+  -- so where the slot doesn't wait each life that ended has its loss
+  pub lost : j.waits ≡ false → lives_count node (lives_of items) ≡ losses_of node items + (if j.runs then 1 else 0)
+  -- and a life that may be lost, the earliest one without a loss, once it is fenced or its node has joined again, has its fence among the items
+  pub fence : (l : Life) → (j.unlost ≡ 0 → ⊥) → (j.runs ≡ true) ⊎ (j.fenced ≡ true) → life_at node (losses_of node items) (lives_of items) ≡ Some l
+      → (p : ℕ) × (fenced_behind node (l.join + 1) (drop (l.join + 1) items) ≡ Some p)
 
 abbrev pub HeadsAreTold : Type 0
 HeadsAreTold = (node : ℕ) (behind : ℕ → ℕ → AcceptedHead) (a j : Journal) (items : List TraceItem) → IsNew a → JournalEvents node (behind node) a [] j items → AreTold node behind j items

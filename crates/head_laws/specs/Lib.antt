@@ -6,3 +6,5 @@ pub mod Tellings
 pub mod DirtyStart
 pub mod Joined
 pub mod Unsettled
+pub mod Turns
+pub mod TwoNodes

@@ -1,16 +1,17 @@
 -- What a trace has to tell of each event of a cluster, and which items come without one.
-use Rattle.std.specs.Prelude.{ℕ, suc, ◌≡◌, ◌≤◌, ◌⊎◌, ⊤, Bool, true, false, ◌&&◌, not, None, Some, List, [], ◌∷◌, ◌++◌, length, take}
+use Rattle.std.specs.Prelude.{ℕ, suc, ◌≡◌, ◌≤◌, ◌⊎◌, ◌+◌, ⊤, Bool, true, false, ◌&&◌, not, None, Some, List, [], ◌∷◌, ◌++◌, length, take, drop, if◌then◌else◌}
 use Rattle.trace_text.specs.declared.item.TraceItem.{TraceItem}
 use Rattle.trace_text.specs.declared.item.TraceItem.TheVariants as trace
 use Rattle.script_lang.specs.declared.script.Client.{Client}
 use Rattle.run_rules.specs.Follows as run
-use Rattle.run_rules.specs.Lives.{Life, AcceptedHead, recovered_behind}
+use Rattle.run_rules.specs.Lives.{Life, AcceptedHead, recovered_behind, fenced_behind, lives_of, losses_of, life_at}
 use Rattle.run_rules.specs.Recoveries.{Place, Slots, is_recovering, slots_after, recoveries_are_told, at_start}
 use Rattle.cluster_laws.specs.Book.{at}
 use Rattle.cluster_laws.specs.Mirror.{either}
 use Rattle.cluster_laws.specs.World as world
 use Rattle.cluster_events.specs.Cluster.{Cluster, Together, Event, Works, Stops, Fences, Joins, Recovers}
 use Rattle.tree_histories.specs.Trees.{Images, Trees, history_of}
+use Rattle.head_laws.specs.Laws.{lives_count}
 use Rattle.head_laws.specs.Journals.{present, head_item, unnamed_upto, IsEnd, IsFirst, EachIsFenced, NoHeadMatters}
 use Rattle.head_laws.specs.Traces.{Traced, journal_of, TracedStep, TracedSteps, Begins, MayLand}
 
@@ -62,10 +63,11 @@ pub data BeginTold (I : Images) (t : Traced I) (u : Beside) (i cut : ℕ) : Type
   -- of a replay, once each life of the node without a loss is fenced, as of the past, which has none
   Replay : (h : AcceptedHead) → (t.cluster).waits i ≡ true → EachIsFenced (journal_of I t i) → Changed I t u (with_name I t i h) (t.silent) [] → BeginTold I t u i cut
 
--- a header is on the disk or never will be: not one without an item while its node runs; with a commit it is the node's own
+-- a header is on the disk or never will be: not one without an item while its node runs; with a commit, which has its numbers, it is the node's own
 pub data EndTold (I : Images) (t : Traced I) (u : Beside) (i : ℕ) (d : Bool) : Type 0 where
   Settled : ((t.cluster).runs i ≡ true → t.silent i ≡ false) → Changed I t u (at (t.names) i (λ e. t.names i d)) (t.silent) [] → EndTold I t u i d
   Committed : (sequence upto : ℕ) → (t.cluster).runs i ≡ true → (t.cluster).waits i ≡ false → t.silent i ≡ false → d ≡ true
+      → sequence ≡ (t.names i true).sequence → upto ≡ ((((t.cluster).world).disk).heads i true).cut
       → Changed I t u (at (t.names) i (λ e. t.names i d)) (t.silent) (trace.Commit i sequence upto ∷ []) → EndTold I t u i d
 
 -- a call's item; it comes behind no clean header without an item
@@ -88,9 +90,9 @@ Tells I clients behind t u _ (Stops i here runs all) = (x : TraceItem) × IsEnd 
 Tells I clients behind t u _ (Fences i out unfenced idle) = (behind i (suc (length (t.items))) ≡ t.names i false) × Changed I t u (t.names) (t.silent) (trace.Fence i ∷ [])
 Tells I clients behind t u _ (Joins i here out fenced waits) =
     (behind i (length (t.items)) ≡ t.names i false) × Changed I t u (t.names) (t.silent) (trace.Join i ∷ [])
--- the item stands that the slot is recovered, and its losses; of a node that runs the disk is told behind this item
+-- the item stands that the slot is recovered, and its losses; the accepted head of its journal is clean; of a node that runs the disk is told behind this item
 Tells I clients behind t u _ (Recovers i here wait nothing unheaded told) =
-    (is_recovering i (place_of (t.items)) ≡ true) × IsFirst i (behind i) (journal_of I t i) (t.items) × Changed I t u (t.names) (t.silent) []
+    (is_recovering i (place_of (t.items)) ≡ true) × ((t.names i false).is_clean ≡ true) × IsFirst i (behind i) (journal_of I t i) (t.items) × Changed I t u (t.names) (t.silent) []
 Tells I clients behind t u _ _ = Changed I t u (t.names) (t.silent) []
 
 -- an item without an event. That a slot is recovered is said while it waits, and not of the past's
@@ -126,6 +128,10 @@ pub record TellingIsStep (I : Images) : Type 0 where
       → MayLand I t i → TracedStep I clients behind t (record t { names = at (t.names) i (λ d. h) })
   pub every : (clients : List Client) (behind : ℕ → ℕ → AcceptedHead) (a t : Traced I) → Begins I clients behind a → Tellings I clients behind a t → TracedSteps I clients behind a t
 
+-- of these items the earliest life of the node that has no loss has its fence
+abbrev pub HasFence : ℕ → List TraceItem → Type 0
+HasFence i items = (l : Life) × (life_at i (losses_of i items) (lives_of items) ≡ Some l) × ((p : ℕ) × (fenced_behind i (l.join + 1) (drop (l.join + 1) items) ≡ Some p))
+
 -- So, by the items alone, each recovery is told by one item of the least member, and each loss stands behind it or at the run's end. By them the members are those that run,
 -- and a slot waits that does, but while its recovery is being told; one that doesn't wait doesn't by the items: its recovery was told.
 pub record RecoveriesAreTold (I : Images) : Type 0 where
@@ -137,6 +143,12 @@ pub record RecoveriesAreTold (I : Images) : Type 0 where
       → ((slots_after (at_start ((a.cluster).waits)) (t.items)).waits i ≡ true) ⊎ (is_recovering i (place_of (t.items)) ≡ true)
   pub slots : (clients : List Client) (behind : ℕ → ℕ → AcceptedHead) (a t : Traced I) (i : ℕ) → Begins I clients behind a → Tellings I clients behind a t → (i ≡ (t.cluster).past → ⊥)
       → (t.cluster).waits i ≡ false → (slots_after (at_start ((a.cluster).waits)) (t.items)).waits i ≡ false
+  -- and each life of such a node that ended has its loss
+  pub losses : (clients : List Client) (behind : ℕ → ℕ → AcceptedHead) (a t : Traced I) (i : ℕ) → Begins I clients behind a → Tellings I clients behind a t → (t.cluster).waits i ≡ false
+      → lives_count i (lives_of (t.items)) ≡ losses_of i (t.items) + (if (t.cluster).runs i then 1 else 0)
+  -- Each loss is that of a life that has its fence before it.
+  pub fenced : (clients : List Client) (behind : ℕ → ℕ → AcceptedHead) (a t : Traced I) (i kept : ℕ) (before after : List TraceItem) → Begins I clients behind a → Tellings I clients behind a t
+      → t.items ≡ before ++ trace.Lost i kept ∷ after → HasFence i before
 
 -- A slot that waited at the start waits until its recovery is told, and until then no head of its journal matters: any may come to the disk, at whatever instant.
 abbrev pub StartSlotsStayOpen : Images → Type 0

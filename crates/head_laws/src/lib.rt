@@ -6,8 +6,14 @@ ghost use Rattle.head_laws.specs.Example.{JournalCanLive};
 ghost use Rattle.head_laws.specs.Joined.{JournalIsJoinedEarly};
 ghost use Rattle.head_laws.specs.Laws.{HeadsAreTold};
 ghost use Rattle.head_laws.specs.Tellings.{FrontsArePassed, RecoveriesAreTold, StartSlotsStayOpen, TellingIsStep};
+ghost use Rattle.tree_histories.specs.Trees.{Images};
 ghost use Rattle.head_laws.specs.Unsettled.{HeadIsUnsettled};
 ghost use Rattle.head_laws.specs.Traces.{LossesAreRight, RemainsStand, SyncsStand};
+ghost use Rattle.head_laws.specs.TwoNodes.{TwoNodesAreTold};
+ghost use Rattle.head_laws.specs.Turns.{ToldTurnsKeep, told_clusters};
+ghost use Rattle.cluster_turns.specs.Turns.{Ties};
+ghost use Rattle.script_lang.specs.declared.script.Client.{Client};
+ghost use Rattle.std.specs.Prelude.{List};
 
 use tree_histories::TreeImages;
 
@@ -70,6 +76,11 @@ pub fn a_dirty_start_can_be_told<T: TreeImages>()
     ensures { DirtyStartIsTold T.images }
 {}
 
+/// A law: a run of two nodes can be told: a sync, a crash, a fence, a recovery and a loss, over any image that stands for a tree.
+pub fn two_nodes_can_be_told<T: TreeImages>()
+    ensures { TwoNodesAreTold T.images }
+{}
+
 /// A law: the events can be where a node joins while a replay's header of its journal is in flight, which has no item: the node's second
 /// life keeps what stood before its join.
 pub fn a_journal_can_be_joined_early()
@@ -80,4 +91,21 @@ pub fn a_journal_can_be_joined_early()
 /// both heads may be, with one number, and from there on either is told.
 pub fn a_head_can_be_unsettled()
     ensures { HeadIsUnsettled }
+{}
+
+/// The values behind the turns of a cluster with its trace, and what they say of it.
+pub trait ToldParts {
+    ghost images: { Images };
+
+    ghost clients: { List Client };
+
+    ghost ties: { Ties (told_clusters images clients) };
+
+    fn parts(&self) -> u64;
+}
+
+/// A law: behind turns too. What a seat may change alone or with the wire, each event with its items, meets each member of a rule of turns; and what
+/// holds of all parts has the run that came there, so each of these laws is of it.
+pub fn told_turns_keep<P: ToldParts>()
+    ensures { ToldTurnsKeep P.images P.clients P.ties }
 {}
