@@ -5,3 +5,4 @@ pub mod Demoting
 pub mod Beginning
 pub mod Homing
 pub mod Staging
+pub mod Aparting

@@ -5,3 +5,4 @@ pub mod Begins
 pub mod Homes
 pub mod Stages
 pub mod Calls
+pub mod Apart

@@ -6,6 +6,7 @@ ghost use Rattle.event_lists.specs.Demotions.{CommitIsEvents, FlushFlushes, Flus
 ghost use Rattle.event_lists.specs.Homes.{HomeIsEvents, HomeIsAtHome, FlushedIsReleased, DemotionIsEvents, UnmountIsEvents};
 ghost use Rattle.event_lists.specs.Stages.{StagesStay};
 ghost use Rattle.event_lists.specs.Begins.{StartsFromDisk};
+ghost use Rattle.event_lists.specs.Apart.{RingsBegin, RingsStay};
 ghost use Rattle.event_lists.specs.Calls.{LockStepsFit, LocksMakeSteps};
 
 use cluster_laws::System;
@@ -81,6 +82,13 @@ pub fn an_unmount_is_stages<S: System>()
 /// A law: a disk whose journals may be dirty is a start. What they have live is the past's, which holds every lock while a slot waits.
 pub fn a_dirty_start_starts<S: System>()
     ensures { StartsFromDisk S.files }
+{}
+
+/// A law: where at the start no block is live in two journals, each that waits speaks for the past, and every other for its own node; and every event but a header's
+/// leaves them so.
+pub fn journals_stay_apart<S: System>()
+    ensures begin { RingsBegin S.files }
+    ensures stay { RingsStay S.files }
 {}
 
 /// A law: steps of the lock manager, one at each lock or none, are events: messages as they are, grants that are taken and downs as what these events ask of each lock.
