@@ -16,3 +16,4 @@ pub mod Joined
 pub mod Unsettled
 pub mod Turns
 pub mod TwoNodes
+pub mod Changing

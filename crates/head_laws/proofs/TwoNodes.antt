@@ -11,8 +11,9 @@ use Rattle.script_lang.specs.declared.script.Client.{Client}
 use Rattle.run_rules.specs.Lives.{AcceptedHead}
 use Rattle.run_rules.specs.Recoveries.{is_recovering, recoveries_are_told}
 use Rattle.cluster_laws.specs.Files.{Files, Image, Un, Does}
-use Rattle.cluster_laws.specs.Book.{at, tried, publish, relocked, lost}
-use Rattle.cluster_laws.specs.Mirror.{renumbered}
+use Rattle.head_laws.specs.Example.{head, clean}
+use Rattle.cluster_laws.specs.Book.{at, tried, publish, flushed, relocked, lost}
+use Rattle.cluster_laws.specs.Mirror.{Head, Heads, either, headed, chosen, renumbered}
 use Rattle.cluster_laws.specs.History.{Called, Gone}
 use Rattle.cluster_laws.specs.World as world
 use Rattle.cluster_laws.specs.World.{World}
@@ -24,7 +25,7 @@ use Rattle.tree_histories.specs.Trees as trees
 use Rattle.tree_histories.specs.Trees.{Images, Trees}
 use Rattle.head_laws.specs.Journals.{Journal, JournalEvents, IsNew, Says, Joins, Done, Then}
 use Rattle.head_laws.specs.Traces.{Traced, journal_of, Begins}
-use Rattle.head_laws.specs.Tellings.{Beside, traced_of, place_of, slots_of, GoesOn, Changed, Tellings, Nothing, AnEvent, AnItem}
+use Rattle.head_laws.specs.Tellings.{Beside, traced_of, place_of, slots_of, GoesOn, Changed, with_name, Own, Replay, Settled, Committed, Tellings, Nothing, AnEvent, AnItem}
 use Rattle.head_laws.specs.TwoNodes.{synced, two_start, two_begin, two_run, two_disk, TwoNodesAreTold}
 use Rattle.head_laws.proofs.Items.{eqb-other}
 
@@ -99,18 +100,47 @@ module _ (I : Images) (clients : List Client) (name : List ℕ) (m : Image (Tree
   abbrev c2 : Cluster F
   c2 = record c0 { world = w2 }
 
+  -- a header with the one call and nothing live, in flight and on the disk
+  abbrev h : Head F
+  h = record { cut = 1; live = λ b. None }
+
+  abbrev wh : World F
+  wh = record w2 { disk = headed F (w2.disk) 1 h }
+
+  abbrev ch : Cluster F
+  ch = record c2 { world = wh; header_of = at (c2.header_of) 1 (Some 1) }
+
+  abbrev wd : World F
+  wd = record wh { book = flushed F (wh.book) 1 1; disk = chosen F (wh.disk) 1 true }
+
+  abbrev cd : Cluster F
+  cd = record ch { world = wd; header_of = at (ch.header_of) 1 None }
+
   abbrev c3 : Cluster F
-  c3 = record c2 {
-    world = with_book F c2 (relocked F (BookOf F c2) ((BookOf F c2).state) (at ((BookOf F c2).cache) 1 (world.nothing F)));
-    locks = λ l. at (c2.locks l) 1 (stopped (c2.locks l 1));
-    runs = at (c2.runs) 1 false;
-    waits = at (c2.waits) 1 true;
-    fenced = at (c2.fenced) 1 false;
-    unlost = at (c2.unlost) 1 (suc (c2.unlost 1));
+  c3 = record cd {
+    world = with_book F cd (relocked F (BookOf F cd) ((BookOf F cd).state) (at ((BookOf F cd).cache) 1 (world.nothing F)));
+    locks = λ l. at (cd.locks l) 1 (stopped (cd.locks l 1));
+    runs = at (cd.runs) 1 false;
+    waits = at (cd.waits) 1 true;
+    fenced = at (cd.fenced) 1 false;
+    unlost = at (cd.unlost) 1 (suc (cd.unlost 1));
   }
 
+  abbrev cf : Cluster F
+  cf = record c3 { fenced = at (c3.fenced) 1 true }
+
+  -- and such a one of node 2 for that journal, which is clean then
+  abbrev wr : World F
+  wr = record (cf.world) { disk = headed F ((cf.world).disk) 1 h }
+
+  abbrev cr : Cluster F
+  cr = record cf { world = wr; header_of = at (cf.header_of) 1 (Some 2) }
+
+  abbrev w4 : World F
+  w4 = record wr { book = flushed F (wr.book) 1 1; disk = chosen F (wr.disk) 1 true }
+
   abbrev c4 : Cluster F
-  c4 = record c3 { fenced = at (c3.fenced) 1 true }
+  c4 = record cr { world = w4; header_of = at (cr.header_of) 1 None }
 
   abbrev w5 : World F
   w5 = record (c4.world) {
@@ -119,9 +149,8 @@ module _ (I : Images) (clients : List Client) (name : List ℕ) (m : Image (Tree
     items = (c4.world).items ++ (Gone 1 (((c4.world).book).low 1) 1 ∷ []);
   }
 
-  calm : (n : ℕ) → 0 ≤ n → n < 1 → F.Changes (((c4.world).book).told 1 (suc n)) ≡ false
-  calm zero low high = refl
-  calm (suc n) low high = absurd (omega (arith, high))
+  calm : (n : ℕ) → 1 ≤ n → n < 1 → F.Changes (((c4.world).book).told 1 (suc n)) ≡ false
+  calm n low high = absurd (omega (arith, low, high))
 
   abbrev loses : world.Step F (c4.world) w5
   loses = world.Loses 1 1 refl (omega arith) (omega arith) calm (inl refl) (λ b. refl) refl
@@ -153,11 +182,35 @@ module _ (I : Images) (clients : List Client) (name : List ℕ) (m : Image (Tree
   abbrev publishes : Event F c1 c2
   publishes = cluster.Works w2 (world.Publishes 1 (omega arith)) tt
 
-  abbrev crashes : Event F c2 c3
+  abbrev begins-header : Event F c2 ch
+  begins-header = cluster.Works wh
+      (world.Begins 1 h refl (record { cut = (omega arith, omega arith); lives = λ b x e. none-some refl e; owned = λ b own. none-some refl own; flights = λ r b x e own. none-some refl e }))
+      ((1, (refl, inl refl), ((λ b. refl), (λ k e. none-some refl e))), refl, (λ r b x e own. none-some refl e), (λ waits. no-way waits))
+
+  abbrev ends-header : Event F ch cd
+  ends-header = cluster.Works wd (world.Ends 1 true) (1, refl, inl refl)
+
+  -- no header is in flight
+  unheaded : (k : ℕ) (q : ℕ) → (cd.header_of k) ≡ Some q → ⊥
+  unheaded k q e = by (k == 1) e
+    where
+      by : (b : Bool) → (if b then None else (if b then Some 1 else None)) ≡ Some q → ⊥
+      by true f = none-some refl f
+      by false f = none-some refl f
+
+  abbrev begins-clean : Event F cf cr
+  begins-clean = cluster.Works wr
+      (world.Begins 1 h refl (record { cut = (omega arith, omega arith); lives = λ b x e. none-some refl e; owned = λ b own. none-some refl own; flights = λ r b x e own. none-some refl e }))
+      ((2, (refl, inr refl), ((λ b. refl), (λ k e. unheaded k 2 e))), refl, (λ r b x e own. none-some refl e), (λ waits. refl))
+
+  abbrev ends-clean : Event F cr c4
+  ends-clean = cluster.Works w4 (world.Ends 1 true) (2, refl, inl refl)
+
+  abbrev crashes : Event F cd c3
   crashes = cluster.Stops 1 (λ e. absurd (omega (arith, e))) refl refl
 
-  abbrev fences : Event F c3 c4
-  fences = cluster.Fences 1 refl refl ((λ b. refl), (λ k e. none-some refl e))
+  abbrev fences : Event F c3 cf
+  fences = cluster.Fences 1 refl refl ((λ b. refl), (λ k e. unheaded k 1 e))
 
   abbrev is-lost : Event F c4 c5
   is-lost = cluster.Works w5 loses may-lose
@@ -183,15 +236,40 @@ module _ (I : Images) (clients : List Client) (name : List ℕ) (m : Image (Tree
   abbrev t2 : Traced I
   t2 = traced_of I c2 (with t1 (trace.Call 1 name 1 calls.Sync replies.Ok ∷ []))
 
+  -- the header's name beside the one before it, and then it alone
+  abbrev uh : Beside
+  uh = record { names = at (t2.names) 1 (either (t2.names 1 false) (head 21 4)); silent = t2.silent; items = t2.items ++ trace.WriteHead 1 21 4 1 ∷ [] }
+
+  abbrev th : Traced I
+  th = is_said (traced_of I ch uh) (trace.Barrier 1)
+
+  abbrev ud : Beside
+  ud = record { names = at (th.names) 1 (λ e. th.names 1 true); silent = th.silent; items = th.items ++ trace.Commit 1 4 1 ∷ [] }
+
+  abbrev td : Traced I
+  td = traced_of I cd ud
+
   -- who crashes has no header without an item any more
   abbrev u3 : Beside
-  u3 = record { names = t2.names; silent = at (t2.silent) 1 false; items = t2.items ++ trace.Crash 1 ∷ [] }
+  u3 = record { names = td.names; silent = at (td.silent) 1 false; items = td.items ++ trace.Crash 1 ∷ [] }
 
   abbrev t3 : Traced I
   t3 = traced_of I c3 u3
 
+  abbrev tf : Traced I
+  tf = is_said (traced_of I cf (with t3 (trace.Fence 1 ∷ []))) (trace.WriteReplay 2 22)
+
+  abbrev ur : Beside
+  ur = record { names = at (tf.names) 1 (either (tf.names 1 false) (clean 22 5)); silent = tf.silent; items = tf.items ++ [] }
+
+  abbrev tr : Traced I
+  tr = is_said (traced_of I cr ur) (trace.Barrier 2)
+
+  abbrev u4 : Beside
+  u4 = record { names = at (tr.names) 1 (λ e. tr.names 1 true); silent = tr.silent; items = tr.items ++ [] }
+
   abbrev t4 : Traced I
-  t4 = is_said (traced_of I c4 (with t3 (trace.Fence 1 ∷ []))) (trace.Recovered 1 2)
+  t4 = is_said (traced_of I c4 u4) (trace.Recovered 1 2)
 
   abbrev t5 : Traced I
   t5 = traced_of I c5 (with t4 (trace.Lost 1 1 ∷ []))
@@ -216,18 +294,38 @@ module _ (I : Images) (clients : List Client) (name : List ℕ) (m : Image (Tree
       by true e = no-way e
       by false e = no-way e
 
-  so_far : Tellings I clients two_disk a t4
-  so_far =
-      AnItem _ (trace.Recovered 1 2)
-      (AnEvent t3 (with t3 (trace.Fence 1 ∷ [])) c4 fences
-      (AnEvent t2 u3 c3 crashes
+  named : (v : Traced I) (names : ℕ → Bool → AcceptedHead) (more : List TraceItem) → Changed I v (record { names = names; silent = v.silent; items = v.items ++ more }) names (v.silent) more
+  named v names more = record { named = refl; silenced = refl; said = refl }
+
+  committed : Tellings I clients two_disk a td
+  committed =
+      AnEvent th ud cd ends-header
+      (AnItem _ (trace.Barrier 1)
+      (AnEvent t2 uh ch begins-header
       (AnEvent t1 (with t1 (trace.Call 1 name 1 calls.Sync replies.Ok ∷ [])) c2 publishes
       (AnEvent a (with a []) c1 answers Nothing
       (changed a []) (goes a [] refl (λ i w e. e)))
       (record { name = name; client = refl; dirty = λ s. no-way s; changed = changed t1 _ }) (goes t1 (trace.Call 1 name 1 calls.Sync replies.Ok ∷ []) refl (λ i w e. no-way e)))
-      (trace.Crash 1, refl, record { named = refl; silenced = refl; said = refl }) (goes t2 (trace.Crash 1 ∷ []) refl (λ i w e. no-way e)))
+      (Own false 21 refl refl (named t2 _ _)) (goes t2 (trace.WriteHead 1 21 4 1 ∷ []) refl (λ i w e. no-way e)))
+      tt (goes (traced_of I ch uh) (trace.Barrier 1 ∷ []) refl (λ i w e. no-way e)))
+      (Committed 4 1 refl refl refl refl refl refl (named th _ _)) (goes th (trace.Commit 1 4 1 ∷ []) refl (λ i w e. no-way e))
+
+  so_far : Tellings I clients two_disk a t4
+  so_far =
+      AnItem _ (trace.Recovered 1 2)
+      (AnEvent tr u4 c4 ends-clean
+      (AnItem _ (trace.Barrier 2)
+      (AnEvent tf ur cr begins-clean
+      (AnItem _ (trace.WriteReplay 2 22)
+      (AnEvent t3 (with t3 (trace.Fence 1 ∷ [])) cf fences
+      (AnEvent td u3 c3 crashes committed
+      (trace.Crash 1, refl, record { named = refl; silenced = refl; said = refl }) (goes td (trace.Crash 1 ∷ []) refl (λ i w e. no-way e)))
       (refl, changed t3 _) (goes t3 (trace.Fence 1 ∷ []) refl (λ i w e. no-way e)))
-      (refl, (λ e. absurd (omega (arith, e)))) (goes (traced_of I c4 (with t3 (trace.Fence 1 ∷ []))) (trace.Recovered 1 2 ∷ []) refl (λ i w e. no-way e))
+      tt (goes (traced_of I cf (with t3 (trace.Fence 1 ∷ []))) (trace.WriteReplay 2 22 ∷ []) refl (λ i w e. no-way e)))
+      (Replay (clean 22 5) refl (inl refl) (named tf _ [])) (goes tf [] refl (λ i w e. e)))
+      tt (goes (traced_of I cr ur) (trace.Barrier 2 ∷ []) refl (λ i w e. no-way e)))
+      (Settled (λ runs. refl) (named tr _ [])) (goes tr [] refl (λ i w e. e)))
+      (refl, (λ e. absurd (omega (arith, e)))) (goes (traced_of I c4 u4) (trace.Recovered 1 2 ∷ []) refl (λ i w e. no-way e))
 
   is_told : Tellings I clients two_disk a t7
   is_told =

@@ -8,3 +8,4 @@ pub mod Joined
 pub mod Unsettled
 pub mod Turns
 pub mod TwoNodes
+pub mod Changing

@@ -1,5 +1,6 @@
--- That a run of two nodes can be told. Node 1 answers a sync and crashes; it is fenced, node 2 says that its slot is recovered, its life's loss keeps the sync, and it joins again.
-use Rattle.std.specs.Prelude.{ℕ, ◌≡◌, ◌==◌, ◌||◌, true, false, None, List, [], ◌∷◌}
+-- That a run of two nodes can be told. Node 1 answers a sync, writes a header and crashes; it is fenced, node 2 writes the clean header of its journal and says that its slot is recovered, its life's loss keeps
+-- the sync, and it joins again.
+use Rattle.std.specs.Prelude.{ℕ, ◌≡◌, ◌==◌, ◌||◌, ◌&&◌, nat_lt, if◌then◌else◌, true, false, None, List, [], ◌∷◌}
 use Rattle.file_tree.specs.Tree.{Tree}
 use Rattle.file_tree.specs.declared.call.Call.TheVariants as calls
 use Rattle.file_tree.specs.declared.reply.Reply.TheVariants as replies
@@ -12,7 +13,7 @@ use Rattle.cluster_laws.specs.Files.{Image}
 use Rattle.event_lists.specs.Begins.{Start, started}
 use Rattle.tree_histories.specs.Trees as trees
 use Rattle.tree_histories.specs.Trees.{Images, Trees}
-use Rattle.head_laws.specs.Example.{clean}
+use Rattle.head_laws.specs.Example.{head, clean}
 use Rattle.head_laws.specs.Traces.{Traced, Begins}
 use Rattle.head_laws.specs.Tellings.{Tellings}
 
@@ -42,11 +43,12 @@ two_begin I m t said = record {
 }
 
 abbrev pub two_run : List ℕ → List TraceItem
-two_run name = trace.Join 1 ∷ trace.Join 2 ∷ trace.Call 1 name 1 calls.Sync replies.Ok ∷ trace.Crash 1 ∷ trace.Fence 1 ∷ trace.Recovered 1 2 ∷ trace.Lost 1 1 ∷ trace.Join 1 ∷ []
+two_run name = trace.Join 1 ∷ trace.Join 2 ∷ trace.Call 1 name 1 calls.Sync replies.Ok ∷ trace.WriteHead 1 21 4 1 ∷ trace.Barrier 1 ∷ trace.Commit 1 4 1 ∷ trace.Crash 1 ∷ trace.Fence 1
+    ∷ trace.WriteReplay 2 22 ∷ trace.Barrier 2 ∷ trace.Recovered 1 2 ∷ trace.Lost 1 1 ∷ trace.Join 1 ∷ []
 
--- no header is written
+-- node 1's header is on the disk behind its barrier, and the clean one behind that of node 2
 abbrev pub two_disk : ℕ → ℕ → AcceptedHead
-two_disk i p = clean 20 3
+two_disk i p = if nat_lt 9 p && (i == 1) then clean 22 5 else if nat_lt 4 p && (i == 1) then head 21 4 else clean 20 3
 
 -- over any image that stands for a tree
 abbrev pub TwoNodesAreTold : Images → Type 0

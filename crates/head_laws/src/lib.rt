@@ -1,6 +1,7 @@
 //! Which head a loss counts from, by the items of the trace.
 #![tactic(auto)]
 
+ghost use Rattle.head_laws.specs.Changing.{ChangingCallIsTold};
 ghost use Rattle.head_laws.specs.DirtyStart.{DirtyStartIsTold};
 ghost use Rattle.head_laws.specs.Example.{JournalCanLive};
 ghost use Rattle.head_laws.specs.Joined.{JournalIsJoinedEarly};
@@ -76,9 +77,14 @@ pub fn a_dirty_start_can_be_told<T: TreeImages>()
     ensures { DirtyStartIsTold T.images }
 {}
 
-/// A law: a run of two nodes can be told: a sync, a crash, a fence, a recovery and a loss, over any image that stands for a tree.
+/// A law: a run of two nodes can be told: a sync, a header, a crash, a fence, a recovery and a loss, over any image that stands for a tree.
 pub fn two_nodes_can_be_told<T: TreeImages>()
     ensures { TwoNodesAreTold T.images }
+{}
+
+/// A law: a call that changes the tree can be told, with the ask and the grant of its lock, over images of one block.
+pub fn a_changing_call_can_be_told()
+    ensures { ChangingCallIsTold }
 {}
 
 /// A law: the events can be where a node joins while a replay's header of its journal is in flight, which has no item: the node's second
