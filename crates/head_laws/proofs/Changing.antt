@@ -1,21 +1,20 @@
 -- A changing call, event by event.
-use Rattle.std.proofs.Common.{ℕ, suc, ◌≡◌, ◌≤◌, ◌<◌, ◌⊎◌, inl, inr, Bool, true, false, Option, None, Some, List, [], ◌∷◌, ◌++◌, refl, sym, ap, ◌∙◌, subst, arith}
-use Rattle.std.specs.Prelude.{◌==◌, ⊤, if◌then◌else◌}
+use Rattle.std.proofs.Common.{ℕ, suc, ◌≡◌, inl, inr, Bool, true, false, Option, None, Some, List, [], ◌∷◌, ◌++◌, refl, sym, ap, ◌∙◌, subst, arith}
+use Rattle.std.specs.Prelude.{◌==◌, if◌then◌else◌}
 use Rattle.std.proofs.lemmas.Bool.{cases_eq}
 use Rattle.file_tree.specs.Tree.{Tree}
-use Rattle.file_tree.specs.Apply.{Answer, apply}
+use Rattle.file_tree.specs.Apply.{apply}
 use Rattle.file_tree.specs.declared.call.Call.{Call}
-use Rattle.file_tree.specs.declared.call.Call.TheVariants as calls
 use Rattle.file_tree.specs.declared.reply.Reply.{Reply}
 use Rattle.file_tree.specs.declared.reply.Reply.TheVariants as replies
 use Rattle.trace_text.specs.declared.item.TraceItem.{TraceItem}
 use Rattle.trace_text.specs.declared.item.TraceItem.TheVariants as trace
 use Rattle.script_lang.specs.declared.script.Client.{Client}
-use Rattle.run_rules.specs.Recoveries.{is_recovering, recoveries_are_told}
+use Rattle.run_rules.specs.Recoveries.{is_recovering}
 use Rattle.cluster_history.specs.Changes.{may_change}
 use Rattle.lock_laws.specs.Lock.{Node, Asked, starting, goes}
 use Rattle.lock_laws.specs.Lock as lock
-use Rattle.cluster_laws.specs.Files.{Files, CellOf, Part, State, Un, Ex, LockOf, Does}
+use Rattle.cluster_laws.specs.Files.{Files, CellOf, Part, Un, Ex, Does}
 use Rattle.cluster_laws.specs.Book.{at, tried, publish, relocked, Seen, W}
 use Rattle.cluster_laws.specs.Locks.{read_into}
 use Rattle.cluster_laws.specs.History.{Called}
@@ -29,7 +28,7 @@ use Rattle.tree_histories.specs.Trees as trees
 use Rattle.tree_histories.specs.Trees.{Trees}
 use Rattle.head_laws.specs.Journals.{Journal, JournalEvents, IsNew, Says, Joins, Done, Then}
 use Rattle.head_laws.specs.Traces.{Traced, journal_of, Begins}
-use Rattle.head_laws.specs.Tellings.{Beside, traced_of, place_of, slots_of, GoesOn, Changed, Tellings, Nothing, AnEvent}
+use Rattle.head_laws.specs.Tellings.{Beside, traced_of, place_of, GoesOn, Changed, Tellings, Nothing, AnEvent}
 use Rattle.head_laws.specs.Changing.{one_block, answered_ok, one_start, one_begin, one_disk, ChangingCallIsTold}
 use Rattle.head_laws.proofs.Items.{true-false, eqb-other}
 

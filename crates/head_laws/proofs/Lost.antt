@@ -1,8 +1,8 @@
 -- A life that is lost has its fence among the items before.
-use Rattle.std.proofs.Common.{ℕ, suc, ◌≡◌, ◌<◌, ◌+◌, ◌⊎◌, inl, inr, Bool, true, false, cond, None, Some, List, [], ◌∷◌, ◌++◌, refl, sym, ap, ◌∙◌, subst, arith}
+use Rattle.std.proofs.Common.{ℕ, suc, ◌≡◌, ◌+◌, ◌⊎◌, inl, inr, Bool, true, false, cond, List, [], ◌∷◌, ◌++◌, refl, sym, ap, ◌∙◌, subst, arith}
 use Rattle.trace_text.specs.declared.item.TraceItem.{TraceItem}
 use Rattle.trace_text.specs.declared.item.TraceItem.TheVariants as trace
-use Rattle.run_rules.specs.Lives.{Life, AcceptedHead, lives_of, losses_of, life_at}
+use Rattle.run_rules.specs.Lives.{AcceptedHead, lives_of, losses_of}
 use Rattle.tree_histories.specs.Trees.{Images}
 use Rattle.head_laws.specs.Journals.{Journal, JournalEvent, JournalEvents, IsNew, IsOther, IsEnd, head_item, Done, Then}
 use Rattle.head_laws.specs.Journals as journals

@@ -1,5 +1,5 @@
 -- A run that goes on behind turns: what the disk had behind the items that there were doesn't change.
-use Rattle.std.proofs.Common.{ℕ, zero, suc, ◌≡◌, ◌<◌, ◌≤◌, ◌+◌, inl, inr, Bool, true, false, cond, Option, None, Some, List, [], ◌∷◌, ◌++◌, length, drop, refl, sym, ap, ◌∙◌, subst, arith, length-append}
+use Rattle.std.proofs.Common.{ℕ, zero, suc, ◌≡◌, ◌<◌, ◌≤◌, ◌+◌, inl, inr, Bool, true, false, cond, Option, None, Some, List, [], ◌∷◌, length, drop, refl, sym, ap, ◌∙◌, subst, arith, length-append}
 use Rattle.std.specs.Prelude.{◌==◌, ◌-◌}
 use Rattle.trace_text.specs.declared.item.TraceItem.{TraceItem}
 use Rattle.trace_text.specs.declared.item.TraceItem.TheVariants as trace
@@ -16,7 +16,7 @@ use Rattle.head_laws.specs.Journals as journals
 use Rattle.head_laws.specs.Traces.{Traced, journal_of, Does, Begins}
 use Rattle.head_laws.specs.Tellings.{Beside, Tells, Tellings, AnEvent, AnItem}
 use Rattle.head_laws.specs.Tellings as tellings
-use Rattle.head_laws.specs.Turns.{Told, ReachedByTellings, TellingsLead, told_clusters, ToldTurnsKeep}
+use Rattle.head_laws.specs.Turns.{told_clusters, ToldTurnsKeep}
 use Rattle.head_laws.proofs.Tracing.{grows}
 
 -- ---- places within the items

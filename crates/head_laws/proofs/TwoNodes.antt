@@ -1,5 +1,5 @@
 -- A run of two nodes, event by event.
-use Rattle.std.proofs.Common.{ℕ, zero, suc, ◌≡◌, ◌≤◌, ◌<◌, ◌⊎◌, inl, inr, Bool, true, false, Option, None, Some, List, [], ◌∷◌, ◌++◌, refl, sym, ap, ◌∙◌, subst, arith}
+use Rattle.std.proofs.Common.{ℕ, suc, ◌≡◌, ◌≤◌, ◌<◌, inl, inr, Bool, true, false, Option, None, Some, List, [], ◌∷◌, ◌++◌, refl, sym, ap, ◌∙◌, subst, arith}
 use Rattle.std.specs.Prelude.{◌==◌, ◌||◌, if◌then◌else◌}
 use Rattle.std.proofs.lemmas.Bool.{cases_eq}
 use Rattle.file_tree.specs.Tree.{Tree}
@@ -13,7 +13,7 @@ use Rattle.run_rules.specs.Recoveries.{is_recovering, recoveries_are_told}
 use Rattle.cluster_laws.specs.Files.{Files, Image, Un, Does}
 use Rattle.head_laws.specs.Example.{head, clean}
 use Rattle.cluster_laws.specs.Book.{at, tried, publish, flushed, relocked, lost}
-use Rattle.cluster_laws.specs.Mirror.{Head, Heads, either, headed, chosen, renumbered}
+use Rattle.cluster_laws.specs.Mirror.{Head, either, headed, chosen, renumbered}
 use Rattle.cluster_laws.specs.History.{Called, Gone}
 use Rattle.cluster_laws.specs.World as world
 use Rattle.cluster_laws.specs.World.{World}
@@ -25,7 +25,7 @@ use Rattle.tree_histories.specs.Trees as trees
 use Rattle.tree_histories.specs.Trees.{Images, Trees}
 use Rattle.head_laws.specs.Journals.{Journal, JournalEvents, IsNew, Says, Joins, Done, Then}
 use Rattle.head_laws.specs.Traces.{Traced, journal_of, Begins}
-use Rattle.head_laws.specs.Tellings.{Beside, traced_of, place_of, slots_of, GoesOn, Changed, with_name, Own, Replay, Settled, Committed, Tellings, Nothing, AnEvent, AnItem}
+use Rattle.head_laws.specs.Tellings.{Beside, traced_of, place_of, slots_of, GoesOn, Changed, Own, Replay, Settled, Committed, Tellings, Nothing, AnEvent, AnItem}
 use Rattle.head_laws.specs.TwoNodes.{synced, two_start, two_begin, two_run, two_disk, TwoNodesAreTold}
 use Rattle.head_laws.proofs.Items.{eqb-other}
 
