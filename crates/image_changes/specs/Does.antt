@@ -1,21 +1,25 @@
 -- What the answer of a call over a view means: in every image that the view may be of, the image with the call's change stands for the
 -- tree after the call.
-use Rattle.std.specs.Prelude.{ℕ, ◌≡◌, ◌==◌, ◌||◌, Bool, true, false, if◌then◌else◌, is_some, unwrap_or, slice_get, List, [], ◌∷◌, map, Option, None, Some}
+use Rattle.std.specs.Prelude.{ℕ, zero, ◌≡◌, ◌⊎◌, ◌==◌, ◌&&◌, ◌||◌, not, Bool, true, false, if◌then◌else◌, is_some, unwrap_or, slice_get, List, [], ◌∷◌, length, map, Option, None, Some}
 use Rattle.std.specs.List.{list_any}
+use Rattle.std.specs.List.Sorted.{IsStrictlySortedBy}
+use Rattle.std.specs.Ordering.{nat_cmp}
 use Rattle.file_tree.specs.Tree.{Tree}
 use Rattle.file_tree.specs.Apply.{apply}
 use Rattle.file_tree.specs.declared.call.Call.{Call}
 use Rattle.file_tree.specs.declared.reply.Reply.{Reply}
+use Rattle.cluster_history.specs.Changes.{Changes}
+use Rattle.gfs2_layout.specs.Structures.{is_regular}
 use Rattle.glock_names.specs.Views.{Seen, group_of_entry}
 use Rattle.glock_names.specs.declared.LockName.{LockName}
 use Rattle.glock_names.specs.declared.State.TheVariants.{Ex}
 use Rattle.drafts.specs.declared.change.Change.{Change}
 use Rattle.drafts.specs.declared.change.Written.{Written}
 use Rattle.image_model.specs.Image.{Image}
-use Rattle.image_model.specs.Owners.{Owners}
+use Rattle.image_model.specs.Owners.{Owner, Owners, InGroup, Free, Below, is_dinode}
 use Rattle.image_model.specs.Stands.{Layout}
-use Rattle.image_changes.specs.Changes.{JournalsStay, cover, is_free, place_of}
-use Rattle.image_changes.specs.Instances.{StandsBy}
+use Rattle.image_changes.specs.Changes.{JournalsStay, inode_of, cover, is_free, place_of}
+use Rattle.image_changes.specs.Instances.{StandsBy, dinode_at}
 
 -- ---- an image with a change
 
@@ -27,9 +31,31 @@ bytes_for (w ∷ ws) b = if w.block == b then Some w.bytes else bytes_for ws b
 abbrev pub with_change : Image → Change → Image
 with_change im change = record { size = im.size; count = im.count; at = λ b. unwrap_or (bytes_for change.blocks.items b) (im.at b) }
 
+abbrev pub writes : Change → ℕ → Bool
+writes change b = is_some (bytes_for change.blocks.items b)
+
+abbrev pub frees : Change → ℕ → Bool
+frees change b = list_any (λ f. f == b) change.freed.items
+
 -- the change writes the block or frees it
 abbrev pub has_block : Change → ℕ → Bool
-has_block change b = is_some (bytes_for change.blocks.items b) || list_any (λ f. f == b) change.freed.items
+has_block change b = writes change b || frees change b
+
+abbrev pub is_empty : {X : Type 0} → List X → Bool
+is_empty [] = true
+is_empty (x ∷ xs) = false
+
+-- it neither writes nor frees a block
+abbrev pub is_nothing : Change → Bool
+is_nothing change = is_empty change.blocks.items && is_empty change.freed.items
+
+-- the form of a change: the blocks that it writes rise, none twice, and so do those that it frees; there is a lock for each written
+-- block; and no block is both
+pub record IsFormed (change : Change) : Type 0 where
+  pub blocks : IsStrictlySortedBy nat_cmp (map (λ (w : Written). w.block) change.blocks.items)
+  pub freed : IsStrictlySortedBy nat_cmp change.freed.items
+  pub locks : length change.locks.items ≡ length change.blocks.items
+  pub apart : (b : ℕ) → frees change b ≡ true → writes change b ≡ false
 
 -- ---- an image that a view may be of
 
@@ -45,9 +71,32 @@ pub record IsOf (v : Seen) (im : Image) (o : Owners) (l : Layout) (t : Tree) : T
 abbrev pub IsHeld : Seen → Layout → Owners → ℕ → Type 0
 IsHeld v l o b = (lock : LockName) × (cover l b (o b) ≡ Some lock) × (v.state_of lock ≡ Ex)
 
+-- a block of this owner is content of a regular file
+abbrev pub is_content_of : Image → Owners → Owner → Bool
+is_content_of im o (Below a above k zero first) = is_regular (dinode_at im o a)
+is_content_of im o _ = false
+
+-- A block that is written, and the lock that is told with it: that lock covers the block afterwards, which isn't free then; the block is
+-- plain exactly where it is content of a regular file then; and it was under the same lock, or free.
+pub record IsWritten (l : Layout) (im' : Image) (o o' : Owners) (w : Written) (lock : LockName) : Type 0 where
+  pub told : cover l w.block (o' w.block) ≡ Some lock
+  pub used : is_free (o' w.block) ≡ false
+  pub plain : w.plain ≡ is_content_of im' o' (o' w.block)
+  pub stayed : (cover l w.block (o w.block) ≡ Some lock) ⊎ (is_free (o w.block) ≡ true)
+
+-- a block that is freed: it was one of an inode, whose dinode the same change frees, or writes as a dinode
+pub record IsFreed (change : Change) (o o' : Owners) (b : ℕ) : Type 0 where
+  pub free : is_free (o' b) ≡ true
+  pub inode : ℕ
+  pub was : inode_of b (o b) ≡ Some inode
+  pub dinode : (frees change inode ≡ true) ⊎ ((writes change inode ≡ true) × (is_dinode (o' inode) ≡ true))
+
+-- of each group of which the change takes or frees a block, it writes the header or a block of the bitmap
+abbrev pub GroupsAreWritten : Change → Owners → Owners → Type 0
+GroupsAreWritten change o o' = (b g : ℕ) → has_block change b ≡ true → (o b ≡ Free g) ⊎ (o' b ≡ Free g) → (n : ℕ) × (writes change n ≡ true) × (o' n ≡ InGroup g)
+
 -- In one image: the reply is the tree's; the image with the change stands for the tree after, its journals as they were. Each block
--- that the change has was and is covered by a lock that is held exclusive: one that it writes by the lock that it tells, one that it
--- frees as a free block. Each other block belongs where it belonged.
+-- that the change has was and is covered by a lock that is held exclusive, and each other block belongs where it belonged.
 pub record DoesIn (v : Seen) (call : Call) (reply : Reply) (change : Change) (im : Image) (o : Owners) (l : Layout) (t : Tree) : Type 0 where
   pub replies : (apply call t).reply ≡ reply
   pub owners : Owners
@@ -55,17 +104,23 @@ pub record DoesIn (v : Seen) (call : Call) (reply : Reply) (change : Change) (im
   pub journals : JournalsStay im (with_change im change) o owners l
   pub before : (b : ℕ) → has_block change b ≡ true → IsHeld v l o b
   pub after : (b : ℕ) → has_block change b ≡ true → IsHeld v l owners b
-  pub told : (i : ℕ) (w : Written) (lock : LockName) → slice_get change.blocks.items i ≡ Some w → slice_get change.locks.items i ≡ Some lock
-      → (cover l w.block (owners w.block) ≡ Some lock) × (is_free (owners w.block) ≡ false)
-  pub freed : (i b : ℕ) → slice_get change.freed.items i ≡ Some b → is_free (owners b) ≡ true
+  pub written : (i : ℕ) (w : Written) (lock : LockName) → slice_get change.blocks.items i ≡ Some w → slice_get change.locks.items i ≡ Some lock
+      → IsWritten l (with_change im change) o owners w lock
+  pub freed : (b : ℕ) → frees change b ≡ true → IsFreed change o owners b
+  pub groups : GroupsAreWritten change o owners
   pub others : (b : ℕ) → has_block change b ≡ false → place_of l owners b ≡ place_of l o b
 
--- the call, answered so over the view, does this
-abbrev pub Does : Seen → Call → Reply → Change → Type 0
-Does v call reply change = (im : Image) (o : Owners) (l : Layout) (t : Tree) → IsOf v im o l t → DoesIn v call reply change im o l t
+-- The call, answered so over the view, does this: the change has its form, and is empty exactly where the call, with this reply, isn't a
+-- changing one; and in every image that the view may be of it does what it should.
+pub record Does (v : Seen) (call : Call) (reply : Reply) (change : Change) : Type 0 where
+  pub form : IsFormed change
+  pub tells : is_nothing change ≡ not (Changes (record { call = call; reply = reply }))
+  pub images : (im : Image) (o : Owners) (l : Layout) (t : Tree) → IsOf v im o l t → DoesIn v call reply change im o l t
 
--- a call that leaves the tree in every such image, and is answered as the tree says, does what it should with a change of nothing
+-- a call that isn't a changing one, or wasn't answered Ok, and that every such image answers so, does what it should with a change of
+-- nothing
 abbrev pub NothingDoes : Type 0
-NothingDoes = (v : Seen) (call : Call) (reply : Reply) (change : Change) → change.blocks.items ≡ [] → change.freed.items ≡ []
-    → ((im : Image) (o : Owners) (l : Layout) (t : Tree) → IsOf v im o l t → ((apply call t).reply ≡ reply) × ((apply call t).tree ≡ t))
+NothingDoes = (v : Seen) (call : Call) (reply : Reply) (change : Change) → change.blocks.items ≡ [] → change.locks.items ≡ [] → change.freed.items ≡ []
+    → Changes (record { call = call; reply = reply }) ≡ false
+    → ((im : Image) (o : Owners) (l : Layout) (t : Tree) → IsOf v im o l t → (apply call t).reply ≡ reply)
     → Does v call reply change
