@@ -16,3 +16,5 @@ pub mod Unminded
 pub mod States
 pub mod Walks
 pub mod Doing
+pub mod Finishing
+pub mod Drafting

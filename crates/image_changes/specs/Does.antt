@@ -85,15 +85,15 @@ pub record IsWritten (l : Layout) (im' : Image) (o o' : Owners) (w : Written) (l
   pub stayed : (cover l w.block (o w.block) ≡ Some lock) ⊎ (is_free (o w.block) ≡ true)
 
 -- a block that is freed: it was one of an inode, whose dinode the same change frees, or writes as a dinode
-pub record IsFreed (change : Change) (o o' : Owners) (b : ℕ) : Type 0 where
+pub record IsFreed (written freed : ℕ → Bool) (o o' : Owners) (b : ℕ) : Type 0 where
   pub free : is_free (o' b) ≡ true
   pub inode : ℕ
   pub was : inode_of b (o b) ≡ Some inode
-  pub dinode : (frees change inode ≡ true) ⊎ ((writes change inode ≡ true) × (is_dinode (o' inode) ≡ true))
+  pub dinode : (freed inode ≡ true) ⊎ ((written inode ≡ true) × (is_dinode (o' inode) ≡ true))
 
--- of each group of which the change takes or frees a block, it writes the header or a block of the bitmap
-abbrev pub GroupsAreWritten : Change → Owners → Owners → Type 0
-GroupsAreWritten change o o' = (b g : ℕ) → has_block change b ≡ true → (o b ≡ Free g) ⊎ (o' b ≡ Free g) → (n : ℕ) × (writes change n ≡ true) × (o' n ≡ InGroup g)
+-- of each group of which a block is taken or freed, the header or a block of the bitmap is written
+abbrev pub GroupsAreWritten : (written changed : ℕ → Bool) → Owners → Owners → Type 0
+GroupsAreWritten written changed o o' = (b g : ℕ) → changed b ≡ true → (o b ≡ Free g) ⊎ (o' b ≡ Free g) → (n : ℕ) × (written n ≡ true) × (o' n ≡ InGroup g)
 
 -- In one image: the reply is the tree's; the image with the change stands for the tree after, its journals as they were. Each block
 -- that the change has was and is covered by a lock that is held exclusive, and each other block belongs where it belonged.
@@ -106,8 +106,8 @@ pub record DoesIn (v : Seen) (call : Call) (reply : Reply) (change : Change) (im
   pub after : (b : ℕ) → has_block change b ≡ true → IsHeld v l owners b
   pub written : (i : ℕ) (w : Written) (lock : LockName) → slice_get change.blocks.items i ≡ Some w → slice_get change.locks.items i ≡ Some lock
       → IsWritten l (with_change im change) o owners w lock
-  pub freed : (b : ℕ) → frees change b ≡ true → IsFreed change o owners b
-  pub groups : GroupsAreWritten change o owners
+  pub freed : (b : ℕ) → frees change b ≡ true → IsFreed (writes change) (frees change) o owners b
+  pub groups : GroupsAreWritten (writes change) (has_block change) o owners
   pub others : (b : ℕ) → has_block change b ≡ false → place_of l owners b ≡ place_of l o b
 
 -- The call, answered so over the view, does this: the change has its form, and is empty exactly where the call, with this reply, isn't a

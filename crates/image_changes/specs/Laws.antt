@@ -1,9 +1,11 @@
 -- Laws of what a change of few blocks does to a whole image.
-use Rattle.std.specs.Prelude.{ℕ, ◌≡◌, Bool, false}
+use Rattle.std.specs.Prelude.{ℕ, ◌≡◌, ◌⊎◌, Bool, false, Some}
 use Rattle.image_model.specs.Image.{Image}
-use Rattle.image_model.specs.Owners.{Owners, holding}
+use Rattle.image_model.specs.Flat.{Path}
+use Rattle.image_model.specs.Owners.{Owners, Free, holding}
 use Rattle.image_model.specs.Stands.{Layout, IsLaid}
-use Rattle.image_changes.specs.Changes.{IsChange, KeepsNames, JournalsStay, place_of}
+use Rattle.image_changes.specs.Changes.{IsChange, KeepsNames, JournalsStay, inode_lock, place_of}
+use Rattle.image_changes.specs.Instances.{IsAt}
 
 -- an image that is laid out right stays so under a change of few blocks that keeps its names, and its journals stay
 abbrev pub StaysLaid : Type 0
@@ -23,3 +25,8 @@ OthersStay = (im im' : Image) (o o' : Owners) (l : Layout) (touched written : �
 -- an image has one layout
 abbrev pub OneLayout : Type 0
 OneLayout = (im : Image) (o p : Owners) (l m : Layout) → IsLaid im o l → IsLaid im p m → l ≡ m
+
+-- an inode at a path from the root, and a block that is free, is no journal: the lock of an inode there is that of its own number
+abbrev pub OwnLocks : Type 0
+OwnLocks = (im : Image) (o : Owners) (l : Layout) (a : ℕ) → IsLaid im o l → ((path : Path) × IsAt im o l path a) ⊎ ((g : ℕ) × (o a ≡ Free g))
+    → inode_lock l a ≡ Some (record { kind = 2; number = a })

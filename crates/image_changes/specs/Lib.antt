@@ -7,3 +7,4 @@ pub mod States
 pub mod Walks
 pub mod Laws
 pub mod Does
+pub mod Drafted

@@ -1,4 +1,4 @@
--- What a walk along a path finds, by the inodes: how a call's reply is read off the image.
+-- What a walk along a path finds, by the inodes: where the path of a call leads, or how it is refused.
 use Rattle.std.specs.Prelude.{ℕ, ◌≡◌, true, false, List, ◌∷◌, ◌++◌, None, Some}
 use Rattle.file_tree.specs.Tree.{Tree}
 use Rattle.file_tree.specs.Names.{parent_of, last_of}

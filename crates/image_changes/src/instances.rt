@@ -1,6 +1,6 @@
 //! The general law of a change of few blocks, and its four cases.
 ghost use Rattle.image_changes.specs.Instances.{FileChanges, NameIsAdded, NameIsMoved, NameIsRemoved};
-ghost use Rattle.image_changes.specs.Laws.{OthersStay, StaysLaid, UntouchedStay};
+ghost use Rattle.image_changes.specs.Laws.{OthersStay, OwnLocks, StaysLaid, UntouchedStay};
 
 /// A law: an image that is laid out right stays so under a change of few blocks, of which each touched inode, directory and
 /// group is right and which keeps its names.
@@ -38,4 +38,9 @@ pub fn a_name_is_removed()
 /// old name is below the new one.
 pub fn a_name_is_moved()
     ensures { NameIsMoved }
+{}
+
+/// A law: an inode at a path from the root, and a block that was free, is no journal's: its lock is that of its own number.
+pub fn inodes_have_their_own_locks()
+    ensures { OwnLocks }
 {}

@@ -11,10 +11,13 @@ pub use contents::{
     an_image_has_one_layout, content_of_files_does_not_matter, free_blocks_do_not_matter,
     places_of_journals_do_not_matter,
 };
-pub use does::a_change_of_nothing_does;
+pub use does::{
+    a_change_of_nothing_does, a_draft_is_finished, drafts_show_what_they_put,
+    one_of_four_changes_does,
+};
 pub use instances::{
     a_file_changes, a_name_is_added, a_name_is_moved, a_name_is_removed, a_small_change_stays_laid,
-    other_blocks_stay, untouched_inodes_stay,
+    inodes_have_their_own_locks, other_blocks_stay, untouched_inodes_stay,
 };
 pub use paths::{
     a_file_is_rewritten, a_name_is_gone, a_name_leads_to_a_tree, paths_end_with_a_name,
