@@ -1,5 +1,5 @@
 -- A change of nothing.
-use Rattle.std.proofs.Common.{◌≡◌, ℕ, inl, Bool, true, false, true≢false, not, ◌&&◌, List, [], length, map, Option, None, Some, slice_get, refl, sym, ap, ◌∙◌, subst}
+use Rattle.std.proofs.Common.{◌≡◌, ℕ, inl, false, true≢false, not, ◌&&◌, List, [], length, map, slice_get, refl, sym, ap, ◌∙◌, subst}
 use Rattle.std.specs.Prelude.{◌||◌, ◌==◌, is_some, unwrap_or}
 use Rattle.std.specs.List.{list_any}
 use Rattle.std.specs.List.Sorted.{IsStrictlySortedBy}

@@ -1,15 +1,14 @@
 -- An answer whose draft makes one of the four changes means what it should; and which inodes are no journal.
-use Rattle.std.proofs.Common.{◌≡◌, ◌⊎◌, ℕ, zero, suc, inl, inr, Bool, true, false, not, ◌&&◌, List, [], ◌∷◌, Option, None, Some, slice_get, refl, sym, ap, ◌∙◌, subst}
+use Rattle.std.proofs.Common.{◌≡◌, ◌⊎◌, ℕ, suc, inl, inr, Bool, true, false, not, ◌&&◌, List, [], ◌∷◌, Option, None, Some, slice_get, refl, sym, ap, ◌∙◌, subst}
 use Rattle.std.specs.Prelude.{codes, ◌||◌, ◌==◌, is_some, if◌then◌else◌, option_and_then}
 use Rattle.std.specs.List.{list_any}
 use Rattle.std.specs.Ordering.{nat_cmp}
 use Rattle.std.specs.FinMap.{FinMap, get}
-use Rattle.std.proofs.lemmas.Bool.{cases_Bool, cases_eq, ne_eqb, true≢false}
+use Rattle.std.proofs.lemmas.Bool.{ne_eqb, true≢false}
 use Rattle.file_tree.specs.Tree.{Tree}
 use Rattle.file_tree.specs.Apply.{Answer, apply}
 use Rattle.file_tree.specs.declared.call.Call.{Call}
 use Rattle.file_tree.specs.declared.reply.Reply.{Reply}
-use Rattle.cluster_history.specs.Changes.{Changes}
 use Rattle.glock_names.specs.Views.{Seen}
 use Rattle.glock_names.specs.declared.LockName.{LockName}
 use Rattle.glock_names.specs.declared.State.TheVariants.{Ex}
@@ -23,11 +22,11 @@ use Rattle.image_model.specs.Image.{Image}
 use Rattle.image_model.specs.Journals.{journal_name}
 use Rattle.image_model.specs.Owners.{Owner, Owners, Super, InGroup, Free, Nobody, Root, Master, Named, Below, Chained}
 use Rattle.image_model.specs.Stands.{Layout, IsJournalAt, IsLaid, flat_of}
-use Rattle.image_model.proofs.Held.{none_some, some_same}
-use Rattle.image_changes.specs.Changes.{JournalsStay, inode_lock, cover, is_free, place_of}
+use Rattle.image_model.proofs.Held.{some_same}
+use Rattle.image_changes.specs.Changes.{JournalsStay, cover, is_free, place_of}
 use Rattle.image_changes.specs.Instances.{StandsBy, IsAt}
 use Rattle.image_changes.specs.Laws.{OwnLocks}
-use Rattle.image_changes.specs.Does.{bytes_for, with_change, writes, frees, has_block, is_empty, is_nothing, IsOf, IsHeld, IsWritten, IsFreed, GroupsAreWritten, DoesIn, Does}
+use Rattle.image_changes.specs.Does.{bytes_for, with_change, has_block, is_empty, IsHeld, IsWritten, IsFreed, GroupsAreWritten, DoesIn}
 use Rattle.image_changes.specs.Drafted.{is_put, is_freed, is_drafted, with_draft, IsFinished, IsOfDraft, IsOneOfFour, file_changed, name_added, name_removed, name_moved, MakesIn, DraftsDo}
 use Rattle.image_changes.proofs.Frame.{others_stay}
 use Rattle.image_changes.proofs.Laid.{child_rows, apart}

@@ -9,19 +9,17 @@ use Rattle.std.specs.List.{AllByRecursion, list_any}
 use Rattle.std.specs.List.Sorted.{IsStrictlySortedBy}
 use Rattle.std.specs.FinMap.{FinMap, get, entries, find, is_sorted, get-entries, entries_sorted, nat_cmp-IsAntisymmetric}
 use Rattle.std.specs.FinMap.Entries.{below_all}
-use Rattle.std.proofs.lemmas.Bool.{cases_Bool, cases_eq, eq-eqb, eqb-true, ne_eqb, true≢false}
+use Rattle.std.proofs.lemmas.Bool.{cases_eq, eq-eqb, eqb-true, ne_eqb, true≢false}
 use Rattle.finite_maps.proofs.Keys.{tied, untied}
-use Rattle.glock_names.specs.Views.{Seen}
 use Rattle.glock_names.specs.declared.LockName.{LockName}
 use Rattle.drafts.specs.declared.change.Change.{Change}
 use Rattle.drafts.specs.declared.change.Written.{Written}
 use Rattle.drafts.specs.declared.fate.Fate.{Fate}
 use Rattle.drafts.specs.declared.fate.Fate.TheVariants.{Put, Freed}
 use Rattle.drafts.specs.Fates.{block_with, blocks_in, locks_in, freed_in}
-use Rattle.image_model.specs.Image.{Image}
 use Rattle.image_model.proofs.Held.{none_some, some_same}
-use Rattle.image_changes.specs.Does.{bytes_for, with_change, writes, frees, IsFormed}
-use Rattle.image_changes.specs.Drafted.{is_gone, is_put, is_freed, with_draft, IsFinished, IsOfDraft, FinishMakes, DraftsShow}
+use Rattle.image_changes.specs.Does.{bytes_for, writes, frees, IsFormed}
+use Rattle.image_changes.specs.Drafted.{is_gone, is_put, is_freed, IsFinished, IsOfDraft, FinishMakes, DraftsShow}
 
 abbrev Fated : Type 0
 Fated = List (ℕ × Fate)

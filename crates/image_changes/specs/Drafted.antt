@@ -23,7 +23,7 @@ use Rattle.image_model.specs.Owners.{Owners, holding}
 use Rattle.image_model.specs.Stands.{Layout}
 use Rattle.image_changes.specs.Flats.{in_directory}
 use Rattle.image_changes.specs.Instances.{IsAt, IsFileChanged, IsNameAdded, IsNameRemoved, IsNameMoved}
-use Rattle.image_changes.specs.Does.{bytes_for, with_change, writes, frees, IsFormed, IsOf, IsHeld, IsWritten, IsFreed, GroupsAreWritten, Does}
+use Rattle.image_changes.specs.Does.{with_change, writes, frees, IsFormed, IsOf, IsHeld, IsWritten, IsFreed, GroupsAreWritten, Does}
 
 -- ---- what becomes of blocks in a draft
 
