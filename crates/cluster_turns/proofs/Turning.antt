@@ -8,7 +8,7 @@ use Rattle.cluster_laws.specs.World.{World, Headline, nothing, Step, Answers, Sy
 use Rattle.cluster_laws.proofs.Cells.{split, inside, none-some, at-other, at-cases}
 use Rattle.cluster_laws.proofs.Trying.{free_or_ours}
 use Rattle.cluster_laws.proofs.Running.{told-kept}
-use Rattle.cluster_events.specs.Cluster.{Cluster, BookOf, Starts, Events, Done, Together}
+use Rattle.cluster_events.specs.Cluster.{Cluster, BookOf, Starts, Done, Together}
 use Rattle.lock_laws.specs.Lock.{Compatible}
 use Rattle.cluster_events.proofs.Eventing.{every_cluster, events_are_steps}
 use Rattle.event_lists.proofs.Stopping.{events-append}
@@ -151,12 +151,12 @@ module _ (M : Machine) (T : Ties M) (L : AreLocal M T) (goes-on : RunsGoOn M) wh
         fits = record {
           count = set-length parts i new ∙ (h.fits).count;
           node = λ j v low e. elim (cases_eq j i) [
-          | inl same ↦ subst (λ z. T.IsNode z (m.0) (h.shown) v) (sym same)
-              (subst (λ z. T.IsNode i (m.0) (h.shown) z) (set-same parts i new v (subst (λ z. slice_get (slice_set parts i new) z ≡ Some v) same e)) (m.3))
-          | inr ne ↦ L.node_local j i (h.state) (m.0) (h.shown) v ne (m.2) ((h.fits).node j v low (sym (set-other parts i j new ne) ∙ e))
-        ];
-        wire = λ v e. L.wire_local i (h.state) (m.0) (h.shown) v (m.2)
-            ((h.fits).wire v (sym (set-other parts i (T.nodes) new (λ same. absurd (omega (arith, same, below)))) ∙ e));
+            | inl same ↦ subst (λ z. T.IsNode z (m.0) (h.shown) v) (sym same)
+                (subst (λ z. T.IsNode i (m.0) (h.shown) z) (set-same parts i new v (subst (λ z. slice_get (slice_set parts i new) z ≡ Some v) same e)) (m.3))
+            | inr ne ↦ L.node_local j i (h.state) (m.0) (h.shown) v ne (m.2) ((h.fits).node j v low (sym (set-other parts i j new ne) ∙ e))
+          ];
+          wire = λ v e. L.wire_local i (h.state) (m.0) (h.shown) v (m.2)
+              ((h.fits).wire v (sym (set-other parts i (T.nodes) new (λ same. absurd (omega (arith, same, below)))) ∙ e));
         };
       })
 
@@ -173,13 +173,13 @@ module _ (M : Machine) (T : Ties M) (L : AreLocal M T) (goes-on : RunsGoOn M) wh
         shown = m.1;
         reached = goes-on (h.state) (m.0) (h.reached) (m.2);
         fits = record {
-        count = long ∙ (h.fits).count;
-        node = λ j v low e. elim (cases_eq j i) [
-          | inl same ↦ subst (λ z. T.IsNode z (m.0) (m.1) v) (sym same)
-              (subst (λ z. T.IsNode i (m.0) (m.1) z) (at_i v (subst (λ z. slice_get after z ≡ Some v) same e)) (m.4))
-          | inr ne ↦ m.3 j v low ne ((h.fits).node j v low (sym (rest j ne (λ same. absurd (omega (arith, same, low)))) ∙ e))
-        ];
-        wire = λ v e. subst (λ z. T.IsWire (m.0) (m.1) z) (at_wire v e) (m.5);
+          count = long ∙ (h.fits).count;
+          node = λ j v low e. elim (cases_eq j i) [
+            | inl same ↦ subst (λ z. T.IsNode z (m.0) (m.1) v) (sym same)
+                (subst (λ z. T.IsNode i (m.0) (m.1) z) (at_i v (subst (λ z. slice_get after z ≡ Some v) same e)) (m.4))
+            | inr ne ↦ m.3 j v low ne ((h.fits).node j v low (sym (rest j ne (λ same. absurd (omega (arith, same, low)))) ∙ e))
+          ];
+          wire = λ v e. subst (λ z. T.IsWire (m.0) (m.1) z) (at_wire v e) (m.5);
         };
       }
 

@@ -1,9 +1,8 @@
 -- Rings of a start, and that they stay.
 use Rattle.std.proofs.Common.{ℕ, ◌≡◌, inl, inr, Bool, true, false, Option, None, Some, refl, sym, ap, ◌∙◌, subst}
 use Rattle.std.specs.Prelude.{◌==◌, if◌then◌else◌}
-use Rattle.std.proofs.lemmas.Bool.{cases_Bool, cases_eq, eqb-true, eq-eqb}
+use Rattle.std.proofs.lemmas.Bool.{cases_Bool, eqb-true, eq-eqb}
 use Rattle.cluster_laws.specs.Files.{Files}
-use Rattle.cluster_laws.specs.Book.{at}
 use Rattle.cluster_laws.specs.Mirror.{Head, Disk, renumbered}
 use Rattle.cluster_laws.specs.Rings.{Rings}
 use Rattle.cluster_laws.specs.World as world
@@ -11,7 +10,7 @@ use Rattle.cluster_laws.proofs.Cells.{none-some, at-cases}
 use Rattle.cluster_events.specs.Cluster.{Cluster, BookOf, Event, Works, Mails, IsGranted, GoesDown, Stops, Fences, Views, Joins, Recovers, PastEnds}
 use Rattle.event_lists.specs.Gives.{DiskOf}
 use Rattle.event_lists.specs.Begins.{Start, starting_disk}
-use Rattle.event_lists.specs.Apart.{AreRings, RingsAre, RingsBegin, SameRings, IsOfHeader, RingsStay}
+use Rattle.event_lists.specs.Apart.{AreRings, RingsBegin, SameRings, IsOfHeader, RingsStay}
 
 -- ---- the start
 

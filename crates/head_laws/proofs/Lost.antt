@@ -70,7 +70,7 @@ loss-event i behind j xs _ _ kept (journals.IsRecovered waits none alone its-fir
 has-fence : (i : ℕ) (behind : ℕ → ℕ → AcceptedHead) (j : Journal) (items : List TraceItem) → AreTold i behind j items → MayLose j → HasFence i items
 has-fence i behind j items t (m, some, over) =
     let there = life-there i (losses_of i items) (lives_of items)
-        (let c : lives_count i (lives_of items) ≡ losses_of i items + (j.unlost + cond j.runs 1 0) = t.count in omega (arith, c, some)) in
+    (let c : lives_count i (lives_of items) ≡ losses_of i items + (j.unlost + cond j.runs 1 0) = t.count in omega (arith, c, some)) in
     (there.0, there.1, t.fence (there.0) (λ none. absurd (omega (arith, none, some))) over (there.1))
 
 module _ (I : Images) (i : ℕ) (behind : ℕ → ℕ → AcceptedHead) (a : Journal) (new : IsNew a) where
