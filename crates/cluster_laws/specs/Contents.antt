@@ -77,6 +77,8 @@ pub record Did (R : Rules) (held : R.Lock → State) (said : R.Said) (c : ℕ �
   pub before : (b : ℕ) (y : Cell R.Content R.Place) → c b ≡ Some y → held (R.lock_of (at b)) ≡ Ex
   pub behind : (b : ℕ) (y : Cell R.Content R.Place) → c b ≡ Some y → held (R.lock_of (y.place)) ≡ Ex
   pub tracked : (b : ℕ) (y : Cell R.Content R.Place) → c b ≡ Some y → Tracked R c (R.lock_of (at b)) (y.place)
+  -- no block of it is a place of a journal's ring
+  pub rings : (b : ℕ) (y : Cell R.Content R.Place) → c b ≡ Some y → R.IsRing b → ⊥
 
 abbrev pub AnswersByView : (R : Rules) → (R.Lock → State) → (ℕ → Option (Cell R.Content R.Place)) → R.Said → (ℕ → Option (Cell R.Content R.Place)) → Type 0
 AnswersByView R held v said c = Tells (files_of R) said c × ((im : ℕ → R.Content) (at : ℕ → R.Place) (t : R.Tree)

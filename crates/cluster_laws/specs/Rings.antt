@@ -7,7 +7,7 @@ use Rattle.cluster_laws.specs.History.{living}
 use Rattle.cluster_laws.specs.World.{World, BeginsAt, Run, Sound}
 use Rattle.cluster_laws.specs.Contents.{Rules, files_of, places, FreeDoesNotMatter}
 
--- ---- ring places: the machine's disk has there what the start had, and no write of the machine goes there
+-- ---- ring places: what the disk has there doesn't matter. A call changes none (`rings` of `Did`)
 
 abbrev pub RingsDoNotMatter : Rules → Type 0
 RingsDoNotMatter R = (im im' : ℕ → R.Content) (at : ℕ → R.Place) (t : R.Tree) → R.StandsFor im at t → R.RingsAreGood im'
