@@ -17,7 +17,8 @@ use Rattle.head_laws.specs.Traces.{Traced, journal_of, Does, Begins}
 use Rattle.head_laws.specs.Tellings.{Beside, Tells, Tellings, AnEvent, AnItem}
 use Rattle.head_laws.specs.Tellings as tellings
 use Rattle.head_laws.specs.Turns.{told_clusters, ToldTurnsKeep}
-use Rattle.head_laws.proofs.Tracing.{grows}
+use Rattle.head_laws.proofs.Tracing.{grows, losses-right}
+use Rattle.head_laws.proofs.Happening.{every-run}
 
 -- ---- places within the items
 
@@ -190,4 +191,6 @@ pub told-turns : (I : Images) (clients : List Client) (T : Ties (told_clusters I
 told-turns I clients T = record {
   turns = turns (told_clusters I clients) (runs-go-on I clients) T;
   starts = λ a shown parts begins fits. record { state = a; shown = shown; reached = record { begin = a.traced; begins = begins; run = tellings.Nothing }; fits = fits };
+  losses = λ parts h. losses-right I clients ((h.state).behind) ((h.reached).begin) ((h.state).traced) ((h.reached).begins)
+      (every-run I clients ((h.state).behind) ((h.reached).begin) ((h.state).traced) ((h.reached).begins) ((h.reached).run));
 }

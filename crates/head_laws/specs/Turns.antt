@@ -1,6 +1,6 @@
 -- The cluster with its trace behind turns: what a seat may change then has its items, and what holds of all parts carries the run that came there.
 use Rattle.std.specs.Prelude.{ℕ, ◌≡◌, ◌≤◌, List, length}
-use Rattle.run_rules.specs.Lives.{AcceptedHead}
+use Rattle.run_rules.specs.Lives.{AcceptedHead, TraceKeptRight}
 use Rattle.script_lang.specs.declared.script.Client.{Client}
 use Rattle.tree_histories.specs.Trees.{Images, Trees}
 use Rattle.cluster_turns.specs.Turns.{Machine, OnlyOf, Ties, Fits, Holds, TurnsKeep}
@@ -34,7 +34,8 @@ pub record OnlyOfTold (I : Images) (j : ℕ) (s u : Told I) : Type 0 where
 abbrev pub told_clusters : Images → List Client → Machine
 told_clusters I clients = record { State = Told I; IsReached = ReachedByTellings I clients; LeadsTo = TellingsLead I clients; OnlyOf = OnlyOfTold I }
 
--- Of local ties the rule of turns is kept; and a start that the values are tied to holds.
+-- Of local ties the rule of turns is kept; a start that the values are tied to holds; and where values hold each loss among the items is right, as in every run.
 pub record ToldTurnsKeep (I : Images) (clients : List Client) (T : Ties (told_clusters I clients)) : Type 0 where
   pub turns : TurnsKeep (told_clusters I clients) T
   pub starts : (a : Told I) (shown : T.Shown) (parts : List T.Value) → Begins I clients (a.behind) (a.traced) → Fits (told_clusters I clients) T a shown parts → Holds (told_clusters I clients) T parts
+  pub losses : (parts : List T.Value) (h : Holds (told_clusters I clients) T parts) → TraceKeptRight clients ((h.state).behind) (((h.state).traced).items)
