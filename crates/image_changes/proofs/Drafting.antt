@@ -1,6 +1,6 @@
 -- An answer whose draft makes one of the four changes means what it should; and which inodes are no journal.
 use Rattle.std.proofs.Common.{◌≡◌, ◌⊎◌, ℕ, suc, inl, inr, Bool, true, false, not, ◌&&◌, List, [], ◌∷◌, Option, None, Some, slice_get, refl, sym, ap, ◌∙◌, subst}
-use Rattle.std.specs.Prelude.{codes, ◌||◌, ◌==◌, is_some, if◌then◌else◌, option_and_then}
+use Rattle.std.specs.Prelude.{◌||◌, ◌==◌, is_some, if◌then◌else◌}
 use Rattle.std.specs.List.{list_any}
 use Rattle.std.specs.Ordering.{nat_cmp}
 use Rattle.std.specs.FinMap.{FinMap, get}
@@ -21,7 +21,7 @@ use Rattle.image_model.specs.Flat.{Path}
 use Rattle.image_model.specs.Image.{Image}
 use Rattle.image_model.specs.Journals.{journal_name}
 use Rattle.image_model.specs.Owners.{Owner, Owners, Super, InGroup, Free, Nobody, Root, Master, Named, Below, Chained}
-use Rattle.image_model.specs.Stands.{Layout, IsJournalAt, IsLaid, flat_of}
+use Rattle.image_model.specs.Stands.{Layout, IsJournalAt, IsLaid}
 use Rattle.image_model.proofs.Held.{some_same}
 use Rattle.image_changes.specs.Changes.{JournalsStay, cover, is_free, place_of}
 use Rattle.image_changes.specs.Instances.{StandsBy, IsAt}
@@ -29,7 +29,7 @@ use Rattle.image_changes.specs.Laws.{OwnLocks}
 use Rattle.image_changes.specs.Does.{bytes_for, with_change, has_block, is_empty, IsHeld, IsWritten, IsFreed, GroupsAreWritten, DoesIn}
 use Rattle.image_changes.specs.Drafted.{is_put, is_freed, is_drafted, with_draft, IsFinished, IsOfDraft, IsOneOfFour, file_changed, name_added, name_removed, name_moved, MakesIn, DraftsDo}
 use Rattle.image_changes.proofs.Frame.{others_stay}
-use Rattle.image_changes.proofs.Laid.{child_rows, apart}
+use Rattle.image_changes.proofs.Laid.{journal_apart, journal_owner}
 use Rattle.image_changes.proofs.FileChange.{file_changes}
 use Rattle.image_changes.proofs.NameAdded.{name_is_added}
 use Rattle.image_changes.proofs.NameRemoved.{name_is_removed}
@@ -42,18 +42,12 @@ listed : (ds : List ℕ) (a : ℕ) → ((j : ℕ) → slice_get ds j ≡ Some a 
 listed [] a not = refl
 listed (d ∷ ds) a not = ap (λ t. t || list_any (λ d. d == a) ds) (ne_eqb d a (λ e. not 0 (ap Some e))) ∙ listed ds a (λ j e. not (suc j) e)
 
-module _ (im : Image) (o : Owners) (l : Layout) (laid : IsLaid im o l) where
-  journal_row : (j d : ℕ) → IsJournalAt l j d → o d ≡ Named l.jindex (journal_name j)
-  journal_row j d at = (child_rows im o l laid l.jindex d (journal_name j) (laid.system.journals j d at)).2
-
-  no_journal : (a : ℕ) → ((path : Path) × IsAt im o l path a) ⊎ ((g : ℕ) × (o a ≡ Free g)) → (j : ℕ) → IsJournalAt l j a → ⊥
-  no_journal a (inl found) j at = apart im o l laid found.0 (codes "jindex" ∷ journal_name j ∷ []) a found.1
-      (ap (option_and_then (λ b. option_and_then (λ c. Some c) ((flat_of im o b).child (journal_name j)))) laid.system.jindex
-      ∙ ap (option_and_then (λ c. Some c)) (laid.system.journals j a at))
-  no_journal a (inr free) j at = differ (sym (journal_row j a at) ∙ free.1)
-    where
-      differ : Named l.jindex (journal_name j) ≡ Free free.0 → ⊥
-      differ e = cc
+no_journal : (im : Image) (o : Owners) (l : Layout) → IsLaid im o l → (a : ℕ) → ((path : Path) × IsAt im o l path a) ⊎ ((g : ℕ) × (o a ≡ Free g)) → (j : ℕ) → IsJournalAt l j a → ⊥
+no_journal im o l laid a (inl found) j at = journal_apart im o l laid found.0 j a at found.1
+no_journal im o l laid a (inr free) j at = differ (sym (journal_owner im o l laid j a at) ∙ free.1)
+  where
+    differ : Named l.jindex (journal_name j) ≡ Free free.0 → ⊥
+    differ e = cc
 
 pub own_locks : OwnLocks
 own_locks im o l a laid which = ap (λ t. if t then None else Some (record { kind = 2; number = a })) (listed l.journals a (no_journal im o l laid a which))

@@ -111,6 +111,13 @@ module _ (im : Image) (o : Owners) (l : Layout) (laid : IsLaid im o l) where
   pub apart : (p q : Path) (a : ℕ) → follow (flat_of im o) l.root p ≡ Some a → follow (flat_of im o) l.master q ≡ Some a → ⊥
   apart p q a e f = tops_differ (one_top (flat_of im o) (λ b. up_of (o b)) l.root l.master root_named master_named p q a e f)
 
+  -- a journal is found from the master directory, and so not from the root; the directory of journals names it
+  pub journal_apart : (path : Path) (j d : ℕ) → IsJournalAt l j d → follow (flat_of im o) l.root path ≡ Some d → ⊥
+  journal_apart path j d at found = apart path (codes "jindex" ∷ journal_name j ∷ []) d found (rw (laid.system.jindex, laid.system.journals j d at) refl)
+
+  pub journal_owner : (j d : ℕ) → IsJournalAt l j d → o d ≡ Named l.jindex (journal_name j)
+  journal_owner j d at = (child_rows l.jindex d (journal_name j) (laid.system.journals j d at)).2
+
   -- what is found is an inode
   pub follow_dinode : (q : Path) (x a : ℕ) → is_dinode (o x) ≡ true → follow (flat_of im o) x q ≡ Some a → is_dinode (o a) ≡ true
   follow_dinode [] x a so e = ap (λ z. is_dinode (o z)) (sym (some_same e)) ∙ so

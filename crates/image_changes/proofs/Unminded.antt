@@ -1,6 +1,6 @@
 -- Contents of free blocks and of the places of journals don't matter.
 use Rattle.std.proofs.Common.{◌≡◌, ◌≢◌, ℕ, zero, suc, ◌/◌, ◌%◌, ◌<◌, ◌≤◌, ◌⊎◌, inl, inr, true, false, List, [], ◌∷◌, length, Option, None, Some, slice_get, refl, sym, ap, ◌∙◌, subst, arith}
-use Rattle.std.specs.Prelude.{codes, ◌==◌, if◌then◌else◌, option_and_then}
+use Rattle.std.specs.Prelude.{codes, ◌==◌, if◌then◌else◌}
 use Rattle.std.proofs.lemmas.Bool.{cases_Bool, cases_eq, cond-false, ne_eqb, true≢false}
 use Rattle.file_tree.specs.Tree.{Tree}
 use Rattle.file_tree.specs.Apply.{file_limit}
@@ -30,7 +30,7 @@ use Rattle.image_changes.proofs.FlatPaths.{unreached, follow_kept}
 use Rattle.image_changes.proofs.FileContent.{file_after, content_block_after}
 use Rattle.image_changes.proofs.States.{map_same}
 use Rattle.image_changes.proofs.Nodes.{file_thing, file_child}
-use Rattle.image_changes.proofs.Laid.{fits_still, apart, child_rows, follow_dinode, row_dinode, plain_file}
+use Rattle.image_changes.proofs.Laid.{fits_still, apart, journal_apart, journal_owner, child_rows, follow_dinode, row_dinode, plain_file}
 
 module _ (im im' : Image) (o : Owners) (l : Layout) (large : IsAsLarge im im')
     (bytes : (b : ℕ) → (im'.at b ≡ im.at b) ⊎ (((g : ℕ) × (o b ≡ Free g)) ⊎ IsRingPlace o l b))
@@ -64,9 +64,7 @@ module _ (im im' : Image) (o : Owners) (l : Layout) (large : IsAsLarge im im')
 
   -- a journal is an inode that the directory of journals names
   journal_row : (j d : ℕ) → IsJournalAt l j d → IsJournal (holding im o d) × (o d ≡ Named l.jindex (journal_name j))
-  journal_row j d at =
-      let e = laid.system.journals j d at in
-      (laid.system.rings j d e, (child_rows im o l laid l.jindex d (journal_name j) e).2)
+  journal_row j d at = (laid.system.rings j d (laid.system.journals j d at), journal_owner im o l laid j d at)
 
   journal_dinode : (j d : ℕ) → IsJournalAt l j d → is_dinode (o d) ≡ true
   journal_dinode j d at = row_dinode (o d) l.jindex (journal_name j) (journal_row j d at).1
@@ -318,9 +316,7 @@ module _ (im im' : Image) (o : Owners) (l : Layout) (large : IsAsLarge im im')
       each : (a : ℕ) → (flat_of im' o a ≡ flat_of im o a) ⊎ ((path : Path) → follow (flat_of im o) l.root path ≢ Some a)
       each a = elim (journal_or_not a) [
         | inr other ↦ inl (flat_same a other)
-        | inl of ↦ inr (λ path e. apart im o l laid path (codes "jindex" ∷ journal_name of.0 ∷ []) a e
-            (ap (option_and_then (λ b. option_and_then (λ c. Some c) ((flat_of im o b).child (journal_name of.0)))) laid.system.jindex
-            ∙ ap (option_and_then (λ c. Some c)) (laid.system.journals of.0 a of.1)))
+        | inl of ↦ inr (λ path e. journal_apart im o l laid path of.0 a of.1 e)
       ]
 
 -- ---- the two laws
