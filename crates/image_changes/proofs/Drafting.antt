@@ -80,7 +80,7 @@ put_there (Some (Put lock plain bytes)) e = (record { block = 0; plain = plain; 
 put_there (Some Freed) e = absurd (true≢false (sym e))
 put_there None e = absurd (true≢false (sym e))
 
-free_group : (x : Owner) → is_free x ≡ true → (g : ℕ) × (x ≡ Free g)
+pub free_group : (x : Owner) → is_free x ≡ true → (g : ℕ) × (x ≡ Free g)
 free_group (Free g) e = (g, refl)
 free_group Super e = absurd (true≢false (sym e))
 free_group (InGroup g) e = absurd (true≢false (sym e))
@@ -91,7 +91,7 @@ free_group (Named parent name) e = absurd (true≢false (sym e))
 free_group (Below d parent k level first) e = absurd (true≢false (sym e))
 free_group (Chained d hash place) e = absurd (true≢false (sym e))
 
-either : (a b : Bool) → (a || b) ≡ true → (a ≡ true) ⊎ (b ≡ true)
+pub either : (a b : Bool) → (a || b) ≡ true → (a ≡ true) ⊎ (b ≡ true)
 either true b e = inl refl
 either false b e = inr e
 

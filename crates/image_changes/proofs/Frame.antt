@@ -52,6 +52,21 @@ within_its b a Root e = elim e [ ]
 within_its b a Master e = elim e [ ]
 within_its b a (Named parent name) e = elim e [ ]
 
+-- a block of an inode is under the inode's lock, and isn't free
+of_place : (l : Layout) (b : ℕ) (x : Owner) (a : ℕ) → inode_of b x ≡ Some a → (cover l b x ≡ inode_lock l a) × (is_free x ≡ false)
+of_place l b Root a e = (ap (lock_in l) e, refl)
+of_place l b Master a e = (ap (lock_in l) e, refl)
+of_place l b (Named parent name) a e = (ap (lock_in l) e, refl)
+of_place l b (Below d parent k level first) a e = (ap (lock_in l) e, refl)
+of_place l b (Chained d hash place) a e = (ap (lock_in l) e, refl)
+of_place l b Super a e = absurd (none_some e)
+of_place l b (InGroup g) a e = absurd (none_some e)
+of_place l b (Free g) a e = absurd (none_some e)
+of_place l b Nobody a e = absurd (none_some e)
+
+pub inode_cover : (l : Layout) (b : ℕ) (x : Owner) (a : ℕ) → inode_of b x ≡ Some a → cover l b x ≡ inode_lock l a
+inode_cover l b x a e = (of_place l b x a e).0
+
 -- what may be written is a free block, or one of a touched inode
 pub data OfWhat (touched : ℕ → Bool) (b : ℕ) (o : Owner) : Type 0 where
   free_block : (g : ℕ) → o ≡ Free g → OfWhat touched b o
@@ -145,22 +160,11 @@ module _ (im im' : Image) (o o' : Owners) (l : Layout) (touched written : ℕ �
   pub place_stays : (b : ℕ) → written b ≡ false → (im'.at b ≡ im.at b) × (place_of l o' b ≡ place_of l o b)
   place_stays b not = each (change.blocks b)
     where
-      of_place : (x : Owner) (a : ℕ) → inode_of b x ≡ Some a → (cover l b x ≡ inode_lock l a) × (is_free x ≡ false)
-      of_place Root a e = (ap (lock_in l) e, refl)
-      of_place Master a e = (ap (lock_in l) e, refl)
-      of_place (Named parent name) a e = (ap (lock_in l) e, refl)
-      of_place (Below d parent k level first) a e = (ap (lock_in l) e, refl)
-      of_place (Chained d hash place) a e = (ap (lock_in l) e, refl)
-      of_place Super a e = absurd (none_some e)
-      of_place (InGroup g) a e = absurd (none_some e)
-      of_place (Free g) a e = absurd (none_some e)
-      of_place Nobody a e = absurd (none_some e)
-
       each : BecomesHere b → (im'.at b ≡ im.at b) × (place_of l o' b ≡ place_of l o b)
       each (kept e f) = (f, λ i. record { lock = cover l b (e i); free = is_free (e i) })
       each (another_part a t e f same) =
-          let was = of_place (o b) a e in
-          let now = of_place (o' b) a f in
+          let was = of_place l b (o b) a e in
+          let now = of_place l b (o' b) a f in
           (same, λ i. record { lock = (now.0 ∙ sym was.0) i; free = (now.1 ∙ sym was.1) i })
       each (of_group g t w e f) = absurd (not_both not w)
       each (changed w h h') = absurd (not_both not w)

@@ -18,3 +18,4 @@ pub mod Walks
 pub mod Doing
 pub mod Finishing
 pub mod Drafting
+pub mod Touching

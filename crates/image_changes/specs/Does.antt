@@ -124,3 +124,13 @@ NothingDoes = (v : Seen) (call : Call) (reply : Reply) (change : Change) → cha
     → Changes (record { call = call; reply = reply }) ≡ false
     → ((im : Image) (o : Owners) (l : Layout) (t : Tree) → IsOf v im o l t → (apply call t).reply ≡ reply)
     → Does v call reply change
+
+-- the locks that a change touches: those that are told with what it writes, and that of the inode of each number that it frees
+abbrev pub Touches : Change → LockName → Type 0
+Touches change lock = ((i : ℕ) × (slice_get change.locks.items i ≡ Some lock)) ⊎ ((n : ℕ) × (frees change n ≡ true) × (lock ≡ record { kind = 2; number = n }))
+
+-- a change that does what it should touches the lock of each of its blocks, before and after
+abbrev pub LocksAreTouched : Type 0
+LocksAreTouched = (v : Seen) (call : Call) (reply : Reply) (change : Change) (im : Image) (o : Owners) (l : Layout) (t : Tree) → IsFormed change
+    → (does : DoesIn v call reply change im o l t) → (b : ℕ) (lock : LockName) → has_block change b ≡ true
+    → (cover l b (o b) ≡ Some lock) ⊎ (cover l b (does.owners b) ≡ Some lock) → Touches change lock

@@ -1,5 +1,5 @@
 //! What the answer of a call over a view means.
-ghost use Rattle.image_changes.specs.Does.{NothingDoes};
+ghost use Rattle.image_changes.specs.Does.{LocksAreTouched, NothingDoes};
 ghost use Rattle.image_changes.specs.Drafted.{DraftsDo, DraftsShow, FinishMakes};
 
 /// A law: a call that isn't a changing one, or wasn't answered Ok, and is answered as the tree says, does what it should with a
@@ -23,4 +23,10 @@ pub fn drafts_show_what_they_put()
 /// changes, to the tree after the call, with each lock held exclusive.
 pub fn one_of_four_changes_does()
     ensures { DraftsDo }
+{}
+
+/// A law: a change that does what it should touches the lock of each of its blocks, the one before and the one after: it is
+/// told with a block that is written, or is that of an inode whose number is freed.
+pub fn answers_touch_their_locks()
+    ensures { LocksAreTouched }
 {}

@@ -12,8 +12,8 @@ pub use contents::{
     places_of_journals_do_not_matter,
 };
 pub use does::{
-    a_change_of_nothing_does, a_draft_is_finished, drafts_show_what_they_put,
-    one_of_four_changes_does,
+    a_change_of_nothing_does, a_draft_is_finished, answers_touch_their_locks,
+    drafts_show_what_they_put, one_of_four_changes_does,
 };
 pub use instances::{
     a_file_changes, a_name_is_added, a_name_is_moved, a_name_is_removed, a_small_change_stays_laid,
