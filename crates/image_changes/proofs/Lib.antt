@@ -9,6 +9,7 @@ pub mod Standing
 pub mod FileChange
 pub mod NameAdded
 pub mod NameRemoved
+pub mod Targets
 pub mod NameMoved
 pub mod Layouts
 pub mod FileContent

@@ -13,7 +13,7 @@ use Rattle.image_changes.specs.Instances.{is_directory_at}
 use Rattle.image_changes.specs.Walks.{FindsIt, WalksFind, WalksEnd, PathsEnd}
 use Rattle.image_changes.proofs.FlatPaths.{after_some, follow-append, thing_there}
 use Rattle.image_changes.proofs.Laid.{follow_dinode}
-use Rattle.image_changes.proofs.NameMoved.{tree_below, below_is_tree}
+use Rattle.image_changes.proofs.Targets.{tree_below, below_is_tree}
 use Rattle.image_changes.proofs.Nodes.{dir_thing, file_thing}
 
 -- where a tree stands at a path, a walk finds it
