@@ -12,3 +12,6 @@ pub use laws::{
 };
 pub use lists::wants;
 pub use want::Want;
+
+#[cfg(test)]
+mod tests;

@@ -399,8 +399,8 @@ module _ (im im' : Image) (o o' : Owners) (l : Layout) (written : ℕ → Bool) 
           )
 
           come : (r : Record) → is_dots r.name ≡ false → IsIn r (new ∷ []) → ⊥
-          come r plain (inl e) = true≢false (sym (ap is_dots (ap (λ (s : Record). s.name) e ∙ new_named)) ∙ plain)
-          come r plain (inr h) = h
+          come r apart (inl e) = true≢false (sym (ap is_dots (ap (λ (s : Record). s.name) e ∙ new_named)) ∙ apart)
+          come r apart (inr h) = h
 
   -- where no name of the directory goes or comes, each leads where it led
   child_stays_at : (so : is_directory_at im o a ≡ true) (gone come : List Record) → IsExchanged (records_at im o a) (records_at im' o' a) gone come
