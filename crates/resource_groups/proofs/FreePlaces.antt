@@ -3,11 +3,12 @@ use Rattle.std.proofs.Common.{◌≡◌, ℕ, zero, suc, ◌+◌, ◌-◌, ◌*�
 use Rattle.std.proofs.lemmas.Bool.{cases_lt}
 use Rattle.gfs2_layout.specs.Bitmap.{state_at}
 use Rattle.gfs2_layout.specs.Groups.{bitmap_of}
-use Rattle.glock_names.specs.Views.{Seen}
+use Rattle.glock_names.specs.Views.{Seen, IsView}
 use Rattle.glock_names.specs.declared.steps.Missing.{Missing}
 use Rattle.glock_names.specs.declared.views.Group.{Group}
 use Rattle.resource_groups.specs.Finding.{NoneFrom, IsFirstFree, NoneIsFree, IsLeastFree, IsNeeded}
 use Rattle.resource_groups.specs.Shown.{IsShown, IsMissing, HasBitsIn, blocks_of, bits_at, first_place}
+use Rattle.resource_groups.proofs.Fits.{big_of}
 use Rattle.resource_groups.proofs.Parts.{state_by_block, length_bits, next_place}
 
 abbrev pub bits_of : (ℕ → List ℕ) → Group → List ℕ
@@ -22,6 +23,10 @@ pub record IsPart (v : Seen) (at : ℕ → List ℕ) (g : Group) (k base : ℕ) 
   pub shown : IsShown v g at
   pub is : bits ≡ bits_at at g k
   pub base_is : base ≡ first_place v.size k
+
+-- as the code reads them: by the view's size of a block
+pub is_part : (v : Seen) (at : ℕ → List ℕ) (g : Group) (k base size : ℕ) (bits : List ℕ) → k < g.length → IsView v → IsShown v g at → bits ≡ bits_at at g k → base ≡ first_place size k → size ≡ v.size → IsPart v at g k base bits
+is_part v at g k base size bits low view shown is base_is size_is = record { low = low; big = big_of v.size view.block_size; shown = shown; is = is; base_is = base_is ∙ ap (λ s. first_place s k) size_is }
 
 -- a place's state is read in its block
 pub there : (v : Seen) (at : ℕ → List ℕ) (g : Group) (k base : ℕ) (bits : List ℕ) (i : ℕ) → IsPart v at g k base bits → i < 4 * length bits → state_at (bits_of at g) (base + i) ≡ state_at bits i

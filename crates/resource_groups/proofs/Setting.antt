@@ -33,6 +33,17 @@ pub record IsPlaceIn (v : Seen) (g : Group) (b k p : ℕ) : Type 0 where
   pub stands : HasBitsIn v.size (b - g.first) k
   pub place : p ≡ b - g.first - first_place v.size k
 
+-- as the code works it out: by the view's size of a block, the place of the data block, and the first place of block k
+pub placed : (v : Seen) (g : Group) (b k size from base : ℕ) → IsView v → HasGroup v g → IsDataOf g b → size ≡ v.size → HasBitsIn size (b - g.first) k → from ≡ b - g.first → base ≡ first_place size k
+    → IsPlaceIn v g b k (from - base)
+placed v g b k size from base view group own size_is stands from_is base_is = record {
+  view = view;
+  group = group;
+  own = own;
+  stands = subst (λ s. HasBitsIn s (b - g.first) k) size_is stands;
+  place = omega (arith, from_is, base_is, ap (λ s. first_place s k) size_is);
+}
+
 module _ (v : Seen) (g : Group) (b k p : ℕ) (is : IsPlaceIn v g b k p) where
   pub big : 512 ≤ v.size
   big = big_of v.size is.view.block_size

@@ -7,7 +7,8 @@ use Rattle.resource_groups.specs.Putting.{seen_in}
 use Rattle.resource_groups.proofs.Fits.{fit_of, end_below, big_of}
 use Rattle.resource_groups.proofs.FreePlaces.{in_group}
 use Rattle.resource_groups.proofs.Parts.{room_is}
-use Rattle.resource_groups.proofs.Setting.{IsPlaceIn, ArePuts, damage_is, seen_after, put_is, two_are, keeps_first, keeps_both, keeps_same}
+use Rattle.resource_groups.proofs.Setting.{ArePuts, placed, damage_is, seen_after, put_is, two_are, keeps_first, keeps_both, keeps_same}
+use Rattle.resource_groups.proofs.putting.set_in_group.Given as given
 use Rattle.resource_groups.proofs.putting.set_in_group.Goals as goal
 
 pub bits_of-requires-clause-within : goal.bits_of-requires-clause-within
@@ -22,13 +23,8 @@ pub returns-in_default-clause-damaged : goal.returns-in_default-clause-damaged
 returns-in_default-clause-damaged g c at shown =
     let v = seen_in g.V.View.seen c.args.draft.now in
     let group = c.args.group.now in
-    let place : IsPlaceIn v group c.args.block c.part_of-part.result (c.from.result - c.first_place.result) = record {
-      view = c.block_size-size.ensures.view;
-      group = c.requires.group;
-      own = c.requires.own;
-      stands = subst (λ s. HasBitsIn s (c.args.block - group.first) c.part_of-part.result) c.block_size-size.ensures.value c.part_of-part.ensures;
-      place = omega (arith, c.from.ensures, c.first_place.ensures, ap (λ s. first_place s c.part_of-part.result) c.block_size-size.ensures.value);
-    } in
+    let place = placed v group c.args.block c.part_of-part.result c.block_size-size.result c.from.result c.first_place.result c.block_size-size.ensures.view c.requires.group c.requires.own c.block_size-size.ensures.value
+    c.part_of-part.ensures c.from.ensures c.first_place.ensures in
     damage_is v group c.args.block c.part_of-part.result (c.from.result - c.first_place.result) place at c.state_at-old.result c.in-Is-2.bits.now c.in-Is.header shown
     (answer_at _ _ _ c.in-Is.is (c.in_ok-header.ensures.header at shown)) (answer_at _ _ _ c.in-Is-2.is (c.in_ok-bits.ensures.bits at shown)) c.state_at-old.ensures.value c.in_default.ensures.none
 
@@ -55,29 +51,28 @@ put_header-requires-clause-room g c =
     let bits = answer_at _ _ _ c.in-Is-2.is c.in_ok-bits.ensures.there in
     subst (λ (x : Drafted g.row.V.Denot). 128 ≤ (g.V.View.seen x.view).size) (sym (c.in_ok-put_bits.ensures.put bits.0 bits.1)) (omega (arith, large))
 
+-- both puts
+both : (g : given.Over) (c : goal.In_ok-put_header g)
+    → ArePuts g.V.View.seen c.args.draft.now c.put_bits.new.draft c.put_header.new.draft c.args.group.now c.part_of-part.result (c.from.result - c.first_place.result) c.args.state c.in-Some.header
+both g c = record {
+  bits_there = answer_at _ _ _ c.in-Is-2.is c.in_ok-bits.ensures.there;
+  header_there = answer_at _ _ _ c.in-Is.is c.in_ok-header.ensures.there;
+  first = c.in_ok-put_bits.ensures.put;
+  second = c.in_ok-put_header.ensures.put;
+  read = c.in_ok-put_header.ensures.read;
+  behind = c.in_ok-put_header.ensures.behind;
+}
+
 pub returns-clause-put : goal.returns-clause-put
 returns-clause-put g c at shown =
     let v = seen_in g.V.View.seen c.args.draft.now in
     let group = c.args.group.now in
     let k = c.part_of-part.result in
     let p = c.from.result - c.first_place.result in
-    let place : IsPlaceIn v group c.args.block k p = record {
-      view = c.block_size-size.ensures.view;
-      group = c.requires.group;
-      own = c.requires.own;
-      stands = subst (λ s. HasBitsIn s (c.args.block - group.first) k) c.block_size-size.ensures.value c.part_of-part.ensures;
-      place = omega (arith, c.from.ensures, c.first_place.ensures, ap (λ s. first_place s k) c.block_size-size.ensures.value);
-    } in
-    let puts : ArePuts g.V.View.seen c.args.draft.now c.put_bits.new.draft c.put_header.new.draft group k p c.args.state c.in-Some.header = record {
-      bits_there = answer_at _ _ _ c.in-Is-2.is c.in_ok-bits.ensures.there;
-      header_there = answer_at _ _ _ c.in-Is.is c.in_ok-header.ensures.there;
-      first = c.in_ok-put_bits.ensures.put;
-      second = c.in_ok-put_header.ensures.put;
-      read = c.in_ok-put_header.ensures.read;
-      behind = c.in_ok-put_header.ensures.behind;
-    } in
+    let place = placed v group c.args.block c.part_of-part.result c.block_size-size.result c.from.result c.first_place.result c.block_size-size.ensures.view c.requires.group c.requires.own c.block_size-size.ensures.value
+    c.part_of-part.ensures c.from.ensures c.first_place.ensures in
     let bits_are = answer_at _ _ _ c.in-Is-2.is (c.in_ok-bits.ensures.bits at shown) in
-    put_is g.V.View.seen c.args.draft.now c.put_bits.new.draft c.put_header.new.draft group c.args.block k p c.args.state c.in-Some.header place puts at c.state_at-old.result c.in-Is.header shown
+    put_is g.V.View.seen c.args.draft.now c.put_bits.new.draft c.put_header.new.draft group c.args.block k p c.args.state c.in-Some.header place (both g c) at c.state_at-old.result c.in-Is.header shown
     (ap (λ x. state_at x p) (sym bits_are) ∙ sym c.state_at-old.ensures.value) (answer_at _ _ _ c.in-Is.is (c.in_ok-header.ensures.header at shown)) c.in-Some.ensures.some
 
 pub returns-clause-two : goal.returns-clause-two
@@ -86,22 +81,9 @@ returns-clause-two g c at shown =
     let group = c.args.group.now in
     let k = c.part_of-part.result in
     let p = c.from.result - c.first_place.result in
-    let place : IsPlaceIn v group c.args.block k p = record {
-      view = c.block_size-size.ensures.view;
-      group = c.requires.group;
-      own = c.requires.own;
-      stands = subst (λ s. HasBitsIn s (c.args.block - group.first) k) c.block_size-size.ensures.value c.part_of-part.ensures;
-      place = omega (arith, c.from.ensures, c.first_place.ensures, ap (λ s. first_place s k) c.block_size-size.ensures.value);
-    } in
-    let puts : ArePuts g.V.View.seen c.args.draft.now c.put_bits.new.draft c.put_header.new.draft group k p c.args.state c.in-Some.header = record {
-      bits_there = answer_at _ _ _ c.in-Is-2.is c.in_ok-bits.ensures.there;
-      header_there = answer_at _ _ _ c.in-Is.is c.in_ok-header.ensures.there;
-      first = c.in_ok-put_bits.ensures.put;
-      second = c.in_ok-put_header.ensures.put;
-      read = c.in_ok-put_header.ensures.read;
-      behind = c.in_ok-put_header.ensures.behind;
-    } in
-    two_are g.V.View.seen c.args.draft.now c.put_bits.new.draft c.put_header.new.draft group c.args.block k p c.args.state c.in-Some.header place puts at
+    let place = placed v group c.args.block c.part_of-part.result c.block_size-size.result c.from.result c.first_place.result c.block_size-size.ensures.view c.requires.group c.requires.own c.block_size-size.ensures.value
+    c.part_of-part.ensures c.from.ensures c.first_place.ensures in
+    two_are g.V.View.seen c.args.draft.now c.put_bits.new.draft c.put_header.new.draft group c.args.block k p c.args.state c.in-Some.header place (both g c) at
 
 pub returns-in_err-put_header-clause-others : goal.returns-in_err-put_header-clause-others
 returns-in_err-put_header-clause-others g c =
@@ -109,13 +91,8 @@ returns-in_err-put_header-clause-others g c =
     let group = c.args.group.now in
     let k = c.part_of-part.result in
     let p = c.from.result - c.first_place.result in
-    let place : IsPlaceIn v group c.args.block k p = record {
-      view = c.block_size-size.ensures.view;
-      group = c.requires.group;
-      own = c.requires.own;
-      stands = subst (λ s. HasBitsIn s (c.args.block - group.first) k) c.block_size-size.ensures.value c.part_of-part.ensures;
-      place = omega (arith, c.from.ensures, c.first_place.ensures, ap (λ s. first_place s k) c.block_size-size.ensures.value);
-    } in
+    let place = placed v group c.args.block c.part_of-part.result c.block_size-size.result c.from.result c.first_place.result c.block_size-size.ensures.view c.requires.group c.requires.own c.block_size-size.ensures.value
+    c.part_of-part.ensures c.from.ensures c.first_place.ensures in
     keeps_same c.args.draft.now c.put_bits.new.draft c.put_header.new.draft group
     (keeps_first g.V.View.seen c.args.draft.now c.put_bits.new.draft group c.args.block k p c.args.state place (answer_at _ _ _ c.in-Is-2.is c.in_ok-bits.ensures.there) c.in_ok-put_bits.ensures.put)
     c.in_err-put_header.ensures.err
@@ -126,19 +103,6 @@ returns-clause-others g c =
     let group = c.args.group.now in
     let k = c.part_of-part.result in
     let p = c.from.result - c.first_place.result in
-    let place : IsPlaceIn v group c.args.block k p = record {
-      view = c.block_size-size.ensures.view;
-      group = c.requires.group;
-      own = c.requires.own;
-      stands = subst (λ s. HasBitsIn s (c.args.block - group.first) k) c.block_size-size.ensures.value c.part_of-part.ensures;
-      place = omega (arith, c.from.ensures, c.first_place.ensures, ap (λ s. first_place s k) c.block_size-size.ensures.value);
-    } in
-    let puts : ArePuts g.V.View.seen c.args.draft.now c.put_bits.new.draft c.put_header.new.draft group k p c.args.state c.in-Some.header = record {
-      bits_there = answer_at _ _ _ c.in-Is-2.is c.in_ok-bits.ensures.there;
-      header_there = answer_at _ _ _ c.in-Is.is c.in_ok-header.ensures.there;
-      first = c.in_ok-put_bits.ensures.put;
-      second = c.in_ok-put_header.ensures.put;
-      read = c.in_ok-put_header.ensures.read;
-      behind = c.in_ok-put_header.ensures.behind;
-    } in
-    keeps_both g.V.View.seen c.args.draft.now c.put_bits.new.draft c.put_header.new.draft group c.args.block k p c.args.state c.in-Some.header place puts
+    let place = placed v group c.args.block c.part_of-part.result c.block_size-size.result c.from.result c.first_place.result c.block_size-size.ensures.view c.requires.group c.requires.own c.block_size-size.ensures.value
+    c.part_of-part.ensures c.from.ensures c.first_place.ensures in
+    keeps_both g.V.View.seen c.args.draft.now c.put_bits.new.draft c.put_header.new.draft group c.args.block k p c.args.state c.in-Some.header place (both g c)
