@@ -8,6 +8,3 @@ mod shelves;
 
 pub use cache::{Cache, Cell};
 pub use laws::{cells_leave_with_their_lock, last_put_is_shown};
-
-#[cfg(test)]
-mod tests;

@@ -12,6 +12,3 @@ pub use laws::{
 };
 pub use lists::wants;
 pub use want::Want;
-
-#[cfg(test)]
-mod tests;

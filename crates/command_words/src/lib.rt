@@ -5,8 +5,6 @@ mod command;
 mod laws;
 mod options;
 mod read;
-#[cfg(test)]
-mod tests;
 mod words;
 
 pub use command::{Command, DEFAULT_FRAMES, DEFAULT_STEPS, LoadWords, MakeWords, RunWords, Usage};

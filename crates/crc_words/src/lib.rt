@@ -8,8 +8,6 @@ mod divide;
 mod laws;
 mod plain;
 mod tables;
-#[cfg(test)]
-mod tests;
 
 pub use laws::{
     bursts_change_checksums, changed_bytes_are_a_burst, checksums_go_on_over_pieces,

@@ -9,6 +9,3 @@ pub use laws::{
     unflushed_comes_first,
 };
 pub use stages::{Stage, Under, stage_needed};
-
-#[cfg(test)]
-mod tests;

@@ -10,8 +10,6 @@ mod locating;
 mod looks;
 mod numbers;
 mod reading;
-#[cfg(test)]
-mod tests;
 mod ways;
 
 pub use laws::{

@@ -17,8 +17,6 @@ use no_memory::NoMemory;
 use std::alloc::Global;
 use std::marker::Model;
 
-#[cfg(test)]
-mod tests;
 
 /// The master of a lock among these members: the one at the place of the CRC-32 of the lock's nine bytes, modulo how many they
 /// are, in rising order. `None` exactly where nobody is a member.

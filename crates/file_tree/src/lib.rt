@@ -9,8 +9,6 @@ mod names;
 mod path;
 mod path_text;
 mod reply;
-#[cfg(test)]
-mod tests;
 mod tree;
 
 pub use call::Call;

@@ -164,5 +164,3 @@ mod files;
 mod moves;
 mod paths;
 mod reads;
-#[cfg(test)]
-mod tests;

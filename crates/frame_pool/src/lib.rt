@@ -11,6 +11,3 @@ pub use cells::{Base, Cells, Deed};
 pub use pool::{Frame, Pool};
 #[doc(hidden)]
 pub use region::Region;
-
-#[cfg(test)]
-mod tests;

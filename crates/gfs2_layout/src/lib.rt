@@ -38,10 +38,3 @@ pub use log_header::LogHeader;
 pub use putting::{least_length, put_record};
 pub use rindex::Rindex;
 pub use superblock::SuperBlock;
-
-#[cfg(test)]
-mod put_tests;
-#[cfg(test)]
-mod tests;
-#[cfg(test)]
-mod write_tests;

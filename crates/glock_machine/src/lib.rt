@@ -15,6 +15,3 @@ pub use laws::{
     states_were_granted, touches_are_kept, uncalled_downs_bar_asks, wants_stand,
 };
 pub use wants::Wants;
-
-#[cfg(test)]
-mod tests;

@@ -24,6 +24,3 @@ pub use field::Field;
 pub use laws::mounted_groups_are_as_seen;
 pub use mounted::{JournalMap, Mounted};
 pub use mounting::mount_image;
-
-#[cfg(test)]
-mod tests;

@@ -13,8 +13,6 @@ mod image;
 mod inode;
 mod journals;
 mod owners;
-#[cfg(test)]
-mod tests;
 mod tree;
 mod visiting;
 mod walk;

@@ -15,8 +15,6 @@ use std::alloc::Global;
 use std::array;
 use std::marker::Model;
 
-#[cfg(test)]
-mod tests;
 
 /// What a message says.
 #[derive(Clone, Copy, Debug, PartialEq, Eq)]

@@ -14,8 +14,6 @@ mod options;
 mod order;
 mod plan;
 mod pointers;
-#[cfg(test)]
-mod tests;
 
 pub use laws::new_images_stand;
 pub use making::make;

@@ -6,8 +6,6 @@ ghost use Rattle.std.specs.Char.{digit_value};
 ghost use Rattle.std.specs.Option.{SomeIff};
 ghost use Rattle.number_words.specs.Numbers.{IsNumber, number_in};
 
-#[cfg(test)]
-mod tests;
 
 // The value of a decimal digit.
 fn digit_of(byte: u8) -> Option<u8>

@@ -11,6 +11,3 @@ mod putting;
 pub use counting::count_free;
 pub use finding::find_free;
 pub use putting::{group_of, set_state};
-
-#[cfg(test)]
-mod tests;

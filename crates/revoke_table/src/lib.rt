@@ -11,8 +11,6 @@ use no_memory::NoMemory;
 use std::alloc::Global;
 use std::marker::Model;
 
-#[cfg(test)]
-mod tests;
 
 /// The greatest sequence in which each block was revoked.
 #[derive(Drop)]

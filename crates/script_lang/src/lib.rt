@@ -9,8 +9,6 @@ mod lines;
 mod one_node;
 mod parser;
 mod script;
-#[cfg(test)]
-mod tests;
 mod words;
 
 pub use laws::limit_decides;

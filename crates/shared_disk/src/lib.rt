@@ -10,8 +10,6 @@ mod operations;
 mod outcomes;
 mod places;
 mod reads;
-#[cfg(test)]
-mod tests;
 
 pub use disk::{DiskError, Settle, SharedDisk};
 pub use file::{FileDisk, OpenError};

@@ -6,8 +6,6 @@ ghost use Rattle.show_text.specs.Show.{journal_line, dir_line, file_line, checks
 ghost use Rattle.text_words.specs.Words.{word};
 ghost use Rattle.file_tree.specs.PathText.{path_text};
 
-#[cfg(test)]
-mod tests;
 
 use file_tree::{NoMemory, Path, append_path};
 use std::alloc::Global;

@@ -16,6 +16,3 @@ pub use laws::{standing_names_are_flat, standing_roots_are_flat};
 pub use root_block::{Root, read_root};
 pub use run::run_script;
 pub use show::append_tree;
-
-#[cfg(test)]
-mod tests;

@@ -2,8 +2,6 @@
 #![tactic(auto)]
 
 mod item;
-#[cfg(test)]
-mod tests;
 mod text;
 
 pub use item::TraceItem;

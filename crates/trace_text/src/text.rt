@@ -1,5 +1,6 @@
 ghost use Rattle.std.specs.Prelude.{◌≡◌, ◌++◌, IfOk, codes};
 ghost use Rattle.text_words.specs.Words.{word, number};
+ghost use Rattle.trace_text.specs.Kinds.{IsOfLock, IsOfDisk, IsOfNode};
 ghost use Rattle.trace_text.specs.Text.{lock_text, state_text, mail_text, lock_item_text, head_text, write_text, item_text, print};
 
 use crate::TraceItem;
@@ -133,12 +134,12 @@ fn append_answered(
     append_reply(alloc, text, reply)
 }
 
-/// Puts an item at the end of a text, without a newline. Of `print`'s grammar this is a line.
-pub fn append_item(alloc: Global, text: &mut Vec<u8>, item: &TraceItem) -> Result<(), NoMemory>
+// A line about a lock.
+fn append_of_lock(text: &mut Vec<u8>, item: &TraceItem) -> Result<(), NoMemory>
+    requires { IsOfLock item.now }
     ensures { IfOk result (λ _. text.new.items ≡ text.old.items ++ item_text item.now) }
 {
     match item {
-        TraceItem::Join { node } => append_one(text, b"join", u64::from(*node)),
         TraceItem::Ask { node, lock, state } => append_lock_item(text, b"ask", *node, lock, *state),
         TraceItem::Grant { node, lock, state } => append_lock_item(
             text, b"grant", *node, lock, *state,
@@ -153,7 +154,16 @@ pub fn append_item(alloc: Global, text: &mut Vec<u8>, item: &TraceItem) -> Resul
         TraceItem::Down { node, lock, state } => append_lock_item(
             text, b"down", *node, lock, *state,
         ),
-        TraceItem::Mail { from, to, word } => append_mail(text, *from, *to, *word),
+        _ => unreachable!(),
+    }
+}
+
+// A line about what a node reads and writes.
+fn append_of_disk(text: &mut Vec<u8>, item: &TraceItem) -> Result<(), NoMemory>
+    requires { IsOfDisk item.now }
+    ensures { IfOk result (λ _. text.new.items ≡ text.old.items ++ item_text item.now) }
+{
+    match item {
         TraceItem::Read { node, block } => append_two(text, b"read", u64::from(*node), *block),
         TraceItem::WriteLog { node, block } => append_write(text, *node, b"log", *block),
         TraceItem::WriteHead {
@@ -176,13 +186,17 @@ pub fn append_item(alloc: Global, text: &mut Vec<u8>, item: &TraceItem) -> Resul
             sequence,
             upto,
         } => append_three(text, b"commit", u64::from(*node), *sequence, *upto),
-        TraceItem::Call {
-            node,
-            client,
-            number,
-            call,
-            reply,
-        } => append_answered(alloc, text, *node, client, *number, call, reply),
+        _ => unreachable!(),
+    }
+}
+
+// A line about what becomes of a node, or of the nodes.
+fn append_of_node(text: &mut Vec<u8>, item: &TraceItem) -> Result<(), NoMemory>
+    requires { IsOfNode item.now }
+    ensures { IfOk result (λ _. text.new.items ≡ text.old.items ++ item_text item.now) }
+{
+    match item {
+        TraceItem::Join { node } => append_one(text, b"join", u64::from(*node)),
         TraceItem::Full { node, need, free } => append_three(
             text,
             b"full",
@@ -206,6 +220,44 @@ pub fn append_item(alloc: Global, text: &mut Vec<u8>, item: &TraceItem) -> Resul
         ),
         TraceItem::Lost { node, kept } => append_two(text, b"lost", u64::from(*node), *kept),
         TraceItem::Unmount { node } => append_one(text, b"unmount", u64::from(*node)),
+        _ => unreachable!(),
+    }
+}
+
+/// Puts an item at the end of a text, without a newline. Of `print`'s grammar this is a line.
+pub fn append_item(alloc: Global, text: &mut Vec<u8>, item: &TraceItem) -> Result<(), NoMemory>
+    ensures { IfOk result (λ _. text.new.items ≡ text.old.items ++ item_text item.now) }
+{
+    match item {
+        TraceItem::Ask { .. }
+        | TraceItem::Grant { .. }
+        | TraceItem::Callback { .. }
+        | TraceItem::Down { .. } => append_of_lock(text, item),
+        TraceItem::Mail { from, to, word } => append_mail(text, *from, *to, *word),
+        TraceItem::Read { .. }
+        | TraceItem::WriteLog { .. }
+        | TraceItem::WriteHead { .. }
+        | TraceItem::WriteClean { .. }
+        | TraceItem::WriteHome { .. }
+        | TraceItem::WriteReplay { .. }
+        | TraceItem::Barrier { .. }
+        | TraceItem::Commit { .. } => append_of_disk(text, item),
+        TraceItem::Call {
+            node,
+            client,
+            number,
+            call,
+            reply,
+        } => append_answered(alloc, text, *node, client, *number, call, reply),
+        TraceItem::Join { .. }
+        | TraceItem::Full { .. }
+        | TraceItem::Crash { .. }
+        | TraceItem::Withdraw { .. }
+        | TraceItem::Fence { .. }
+        | TraceItem::View { .. }
+        | TraceItem::Recovered { .. }
+        | TraceItem::Lost { .. }
+        | TraceItem::Unmount { .. } => append_of_node(text, item),
     }
 }
 

@@ -200,6 +200,3 @@ pub fn raised_together<R: Threads + Wait + Sync>(
 {
     raised::<Brand, R>(rt, alloc, high, low, times)
 }
-
-#[cfg(test)]
-mod tests;

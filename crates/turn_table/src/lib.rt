@@ -10,8 +10,6 @@ mod shelf;
 mod standing;
 mod steps;
 mod table;
-#[cfg(test)]
-mod tests;
 
 pub use hold::Held;
 pub use rule::TurnRule;
