@@ -18,6 +18,11 @@ import time
 
 TICK = os.sysconf("SC_CLK_TCK")
 
+TOP = os.path.join(os.path.dirname(os.path.abspath(__file__)), "..")
+
+with open(f"{TOP}/crates.txt", encoding="utf-8") as lines:
+    CRATES = {line.split(":")[0].split()[0] for line in lines if line.strip() and line[0] != "#"}
+
 
 def stat_of(pid):
     """The parent, and the seconds of the process and of its children that have ended."""
@@ -40,7 +45,7 @@ def kind_of(words):
     if not name:
         return None
     crate = name.group(1)
-    if crate.endswith("_tests"):
+    if crate.endswith("_tests") and crate not in CRATES:
         return crate[: -len("_tests")], "tests"
     if " --test" in text or os.path.basename(words[0]) == "rattle-test":
         return crate, "tests"
@@ -142,7 +147,7 @@ def functions(crate):
 
 
 if __name__ == "__main__":
-    os.chdir(os.path.join(os.path.dirname(os.path.abspath(__file__)), ".."))
+    os.chdir(TOP)
     if sys.argv[1:2] == ["--functions"]:
         sys.exit(functions(sys.argv[2]))
     sys.exit(measure(sys.argv[1:]))

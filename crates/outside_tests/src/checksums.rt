@@ -1,4 +1,10 @@
-use crc_words::{CASTAGNOLI, ISO_3309, crc32, crc32c_raw, remainder_bit_by_bit};
+// Checksums with known values, and by tables and bit by bit.
+use crc_words::{crc32, crc32c_raw, remainder_bit_by_bit};
+
+// The polynomials with their bits turned round: 0x04C11DB7 of ISO 3309, and Castagnoli's 0x1EDC6F41.
+const ISO_3309: u32 = 0xEDB8_8320;
+
+const CASTAGNOLI: u32 = 0x82F6_3B78;
 
 // The SCSI Read (10) command of RFC 3720, B.4.
 const READ_COMMAND: [u8; 48] = [
