@@ -14,7 +14,6 @@ use no_memory::NoMemory;
 use std::alloc::Global;
 use std::marker::Model;
 
-
 /// A lock at a node: the mode in which the node holds it, the mode for which an ask of the node stands without grant, and the
 /// lock's value as its last grant brought it.
 #[derive(Clone, Copy, Debug, PartialEq, Eq)]

@@ -6,7 +6,6 @@ ghost use Rattle.std.specs.Prelude.{◌≡◌};
 ghost use Rattle.dlm_modes.specs.Modes.{go_together, is_at_least, not_valid};
 ghost use Rattle.dlm_modes.specs.Laws.{TogetherBothWays, WeakerGoesToo, IsOrder, HoldsLeast, ExclusiveGoesWithNone};
 
-
 /// A lock's mode, as in the DLM of VMS and Linux (`dlm_mode` in `linux/dlmconstants.h`): null, concurrent read, concurrent
 /// write, protected read, protected write and exclusive.
 #[derive(Clone, Copy, Debug, PartialEq, Eq)]

@@ -17,7 +17,6 @@ use no_memory::NoMemory;
 use std::alloc::Global;
 use std::marker::Model;
 
-
 /// The master of a lock among these members: the one at the place of the CRC-32 of the lock's nine bytes, modulo how many they
 /// are, in rising order. `None` exactly where nobody is a member.
 pub fn master_of(members: u16, lock: LockName) -> Option<u8>

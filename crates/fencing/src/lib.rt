@@ -8,7 +8,6 @@ ghost use Rattle.fencing.specs.NodeSets.{has, with_node, without_node, nodes_of,
 ghost use Rattle.fencing.specs.Members.{stopped, fenced_too, recovered_too, admitted, in_next_view, replayer_of};
 ghost use Rattle.fencing.specs.Laws.{AddsOne, TakesOne};
 
-
 static NODES: [u8; 16] = [0, 1, 2, 3, 4, 5, 6, 7, 8, 9, 10, 11, 12, 13, 14, 15];
 
 /// Whether the node belongs to the set.

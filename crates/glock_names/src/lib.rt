@@ -14,7 +14,6 @@ pub use order::{is_at_most, is_below, may_cache};
 pub use steps::{CallFault, Entry, Missing, Step};
 pub use views::{Group, View, block_of};
 
-
 /// The state in which a node holds a glock: unlocked, shared, deferred or exclusive.
 #[derive(Clone, Copy, Debug, PartialEq, Eq)]
 pub enum State {

@@ -15,7 +15,6 @@ use std::alloc::Global;
 use std::array;
 use std::marker::Model;
 
-
 /// What a message says.
 #[derive(Clone, Copy, Debug, PartialEq, Eq)]
 pub enum Body {

@@ -6,7 +6,6 @@ ghost use Rattle.std.specs.Char.{digit_value};
 ghost use Rattle.std.specs.Option.{SomeIff};
 ghost use Rattle.number_words.specs.Numbers.{IsNumber, number_in};
 
-
 // The value of a decimal digit.
 fn digit_of(byte: u8) -> Option<u8>
     ensures digit { IfSome result (λ digit. (48 ≤ byte) × (byte ≤ 57) × (digit ≡ digit_value byte)) }

@@ -11,7 +11,6 @@ use no_memory::NoMemory;
 use std::alloc::Global;
 use std::marker::Model;
 
-
 /// The greatest sequence in which each block was revoked.
 #[derive(Drop)]
 pub struct Revokes {

@@ -6,7 +6,6 @@ ghost use Rattle.show_text.specs.Show.{journal_line, dir_line, file_line, checks
 ghost use Rattle.text_words.specs.Words.{word};
 ghost use Rattle.file_tree.specs.PathText.{path_text};
 
-
 use file_tree::{NoMemory, Path, append_path};
 use std::alloc::Global;
 use text_words::{append, append_hex, append_number, append_word};

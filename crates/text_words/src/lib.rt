@@ -5,7 +5,6 @@ ghost use Rattle.std.specs.Prelude.{◌≡◌, ◌++◌, ◌<◌, ◌^◌, IfOk,
 ghost use Rattle.text_words.specs.Words.{word, number};
 ghost use Rattle.hex.specs.Hex.{encode_lower};
 
-
 use itoa::Buffer;
 use no_memory::NoMemory;
 use std::alloc::Global;
