@@ -1,5 +1,5 @@
 -- What an item tells of: a lock that a node asks for, holds or lowers; what a node reads and writes; or what becomes of nodes.
-use Rattle.std.specs.Prelude.{⊤, ⊥}
+use Rattle.std.specs.Prelude.{⊤}
 use Rattle.trace_text.specs.declared.item.TraceItem.{TraceItem}
 use Rattle.trace_text.specs.declared.item.TraceItem.TheVariants as trace
 
