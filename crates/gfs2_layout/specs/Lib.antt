@@ -11,6 +11,7 @@ pub mod Headers
 pub mod Groups
 pub mod Holding
 pub mod Records
+pub mod Exchanges
 pub mod Inode
 pub mod Journal
 pub mod Laws

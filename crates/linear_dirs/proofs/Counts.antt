@@ -1,0 +1,2 @@
+-- The counts of a dinode.
+use Rattle.std.proofs.Common.{◌≡◌}

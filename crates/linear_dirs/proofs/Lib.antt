@@ -1,0 +1,5 @@
+pub mod Records
+pub mod Looked
+pub mod Puts
+pub mod Rewritten
+pub mod Counts

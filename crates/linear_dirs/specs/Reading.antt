@@ -1,0 +1,32 @@
+-- What the code holds of a linear directory, as what it stands for.
+use Rattle.std.specs.Prelude.{ℕ, ◌≡◌, ◌+◌, ◌≤◌, true, false, List, length, map, filter, drop, Some}
+use Rattle.gfs2_layout.specs.Area.{Slot, IsArea}
+use Rattle.gfs2_layout.specs.Holding.{Holding}
+use Rattle.gfs2_layout.specs.Inode.{dinode_in, height_in, is_directory_in, is_hashed_in, linear_area}
+use Rattle.gfs2_layout.specs.Records.{Record, record_of}
+use Rattle.gfs2_layout.specs.Structures.{dinode_length, is_in_use}
+use Rattle.gfs2_layout.specs.declared.dinode.Dinode.{Dinode}
+use Rattle.glock_names.specs.Views.{Seen}
+use Rattle.dinode_tree.specs.Reading.{IsRightDinode}
+
+-- these bytes follow the dinode in a block of the view, and records fill them
+pub record IsAreaIn (v : Seen) (dir : ℕ) (area : List ℕ) : Type 0 where
+  pub bytes : List ℕ
+  pub there : v.block_at dir ≡ Some bytes
+  pub behind : area ≡ drop dinode_length bytes
+  pub short : length area ≤ 4096
+  pub filled : IsArea area
+
+-- a linear directory's dinode, and the records behind it
+pub record IsDirectoryOf (h : Holding) (d : Dinode) (area : List ℕ) : Type 0 where
+  pub right : IsRightDinode h
+  pub dinode : d ≡ dinode_in h
+  pub records : area ≡ linear_area h
+  pub directory : is_directory_in h ≡ true
+  pub linear : is_hashed_in h ≡ false
+  pub stuffed : height_in h ≡ 0
+  pub size : dinode_length + (dinode_in h).size ≡ h.size
+
+-- what those of these records say that are in use
+abbrev pub told_in : List Slot → List Record
+told_in slots = map record_of (filter (λ s. is_in_use s.head) slots)

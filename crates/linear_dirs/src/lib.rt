@@ -1,0 +1,9 @@
+//! Linear directories, whose records follow the dinode in its block, over views and drafts.
+#![tactic(auto)]
+
+mod area;
+mod listing;
+mod looking;
+
+pub use listing::names;
+pub use looking::look;
