@@ -3,3 +3,4 @@ pub mod Looked
 pub mod Puts
 pub mod Rewritten
 pub mod Counts
+pub mod Inserted

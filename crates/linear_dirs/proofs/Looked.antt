@@ -1,13 +1,14 @@
 -- What is told of a linear directory that was looked at.
-use Rattle.std.proofs.Common.{◌≡◌, ◌≢◌, ℕ, ◌+◌, ◌-◌, ◌≤◌, Bool, true, false, List, length, drop, None, Some, refl, sym, ap, ◌∙◌, subst, arith, length-drop}
-use Rattle.std.specs.Prelude.{IsSome, IsErrAnd, IfErr, Result, Ok, Err, take}
-use Rattle.std.proofs.lemmas.List.{take_all}
+use Rattle.std.proofs.Common.{◌≡◌, ◌≢◌, ℕ, ◌-◌, ◌≤◌, List, ◌++◌, length, drop, Some, sym, ap, ◌∙◌, subst, arith, length-drop}
+use Rattle.std.specs.Prelude.{IsErrAnd, IfErr, Result, Ok, Err, take}
+use Rattle.std.proofs.lemmas.List.{take_all, drop_all, drop_at, append-nil, length-take-le}
+use borrow.Rule.Slice.PartMut.{put_mid}
 use Rattle.gfs2_layout.specs.declared.dirent.Dirent.{Dirent}
 use Rattle.glock_names.specs.declared.steps.Entry.{Entry}
 use Rattle.std.proofs.lemmas.Bool.{and_right}
 use Rattle.gfs2_layout.specs.Area.{IsArea}
-use Rattle.gfs2_layout.specs.Holding.{Holding, Cell, bytes_at, cell_bytes}
-use Rattle.gfs2_layout.specs.Inode.{dinode_in, height_in, is_directory_in, is_hashed_in, linear_area, records_of, has_hash_flag}
+use Rattle.gfs2_layout.specs.Holding.{Holding, bytes_at}
+use Rattle.gfs2_layout.specs.Inode.{dinode_in, linear_area, records_of, has_hash_flag}
 use Rattle.gfs2_layout.specs.Records.{records_in}
 use Rattle.gfs2_layout.specs.Structures.{dinode_of, dinode_length, is_directory}
 use Rattle.gfs2_layout.specs.declared.dinode.Dinode.{Dinode}
@@ -25,6 +26,12 @@ use Rattle.linear_dirs.specs.Shown.{IsLinearIn}
 -- the rest of a list from a place on
 pub rest_is : (at : ℕ) (xs : List ℕ) → take (length xs - at) (drop at xs) ≡ drop at xs
 rest_is at xs = take_all (length xs - at) (drop at xs) (omega (arith, length-drop at xs))
+
+-- what stands there after it was written anew
+pub rest_put : (at : ℕ) (xs ys : List ℕ) → at ≤ length xs → drop at (put_mid at (length xs - at) xs ys) ≡ ys
+rest_put at xs ys inside =
+    ap (λ (zs : List ℕ). drop at (take at xs ++ (ys ++ zs))) (drop_all (length xs - at) (drop at xs) (omega (arith, length-drop at xs)))
+    ∙ ap (λ (zs : List ℕ). drop at (take at xs ++ zs)) (append-nil ys) ∙ drop_at (take at xs) ys at (length-take-le at xs inside)
 
 -- a fault that is handed on
 pub handed : {A : Type 0} (result : Result A CallFault) (fault : CallFault) (P : CallFault → Type 0) → IsErrAnd result (λ f. f ≡ fault) → P fault → IfErr result P
@@ -52,7 +59,7 @@ tells h NoMemory broken = tt
 
 -- ---- the block of the dinode
 
-bytes_of : (v : Seen) (h : Holding) (dir : ℕ) (bytes : List ℕ) → IsShown v dir h → v.block_at dir ≡ Some bytes → bytes_at h h.own ≡ bytes
+pub bytes_of : (v : Seen) (h : Holding) (dir : ℕ) (bytes : List ℕ) → IsShown v dir h → v.block_at dir ≡ Some bytes → bytes_at h h.own ≡ bytes
 bytes_of v h dir bytes shown there = shown.same h.own bytes shown.dinode (ap v.block_at shown.own ∙ there)
 
 module _ (v : Seen) (h : Holding) (dir : ℕ) (bytes : List ℕ) (d : Dinode) (shown : IsShown v dir h) (there : v.block_at dir ≡ Some bytes) (whole : v.size ≡ length bytes) (dinode : d ≡ dinode_in h) where
@@ -95,10 +102,11 @@ unfolding records_of
 records_are h d area is = rw is.linear (ap records_in (sym is.records))
 
 -- the block behind whose dinode they stand
-pub area_in : (v : Seen) (dir : ℕ) (bytes : List ℕ) → v.block_at dir ≡ Some bytes → length bytes ≤ 4096 → IsArea (take (length bytes - dinode_length) (drop dinode_length bytes))
+pub area_in : (v : Seen) (dir : ℕ) (bytes : List ℕ) → v.block_at dir ≡ Some bytes → 512 ≤ length bytes → length bytes ≤ 4096 → IsArea (take (length bytes - dinode_length) (drop dinode_length bytes))
     → IsAreaIn v dir (take (length bytes - dinode_length) (drop dinode_length bytes))
-area_in v dir bytes there most filled = record {
+area_in v dir bytes there least most filled = record {
   bytes = bytes;
+  large = omega (arith, least);
   there = there;
   behind = rest_is dinode_length bytes;
   short = omega (arith, most, ap length (rest_is dinode_length bytes), length-drop dinode_length bytes);

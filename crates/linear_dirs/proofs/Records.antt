@@ -1,5 +1,5 @@
 -- The records of an area: which one has a name, and which come one after another.
-use Rattle.std.proofs.Common.{◌≡◌, ℕ, zero, suc, Bool, true, false, inl, inr, List, [], ◌∷◌, ◌++◌, length, Option, None, Some, IsTrue, refl, sym, ap, ◌∙◌, subst, arith, append_assoc}
+use Rattle.std.proofs.Common.{◌≡◌, ℕ, suc, Bool, true, false, inl, inr, List, [], ◌∷◌, ◌++◌, Option, IsTrue, refl, sym, ap, ◌∙◌, subst, arith, append_assoc}
 use Rattle.std.specs.Prelude.{map, filter, not, Contains}
 use Rattle.std.specs.Option.{option_map}
 use Rattle.std.specs.Str.{bytes_eq}
@@ -17,7 +17,6 @@ use Rattle.gfs2_layout.specs.declared.dirent.Dirent.{Dirent}
 use Rattle.glock_names.specs.Steps.{TellsOf}
 use Rattle.glock_names.specs.declared.steps.CallFault.{CallFault}
 use Rattle.glock_names.specs.declared.steps.CallFault.TheVariants.{Damaged}
-use Rattle.glock_names.specs.declared.steps.Entry.{Entry}
 use Rattle.linear_dirs.specs.Broken.{IsBroken, no_name}
 use Rattle.linear_dirs.specs.Reading.{told_in}
 use Rattle.linear_dirs.specs.Shown.{entry_of, names_of}

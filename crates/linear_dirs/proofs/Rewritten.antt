@@ -1,11 +1,11 @@
 -- A linear directory after its block was written anew.
-use Rattle.std.proofs.Common.{◌≡◌, ◌≢◌, ℕ, zero, suc, ◌+◌, ◌<◌, ◌≤◌, Bool, true, false, inl, inr, List, length, drop, Option, None, Some, Result, Ok, Err, refl, sym, ap, ap₂, ◌∙◌, subst, arith}
+use Rattle.std.proofs.Common.{◌≡◌, ◌≢◌, ℕ, suc, ◌+◌, Bool, true, false, inl, inr, List, length, drop, Option, None, Some, Ok, refl, sym, ap, ◌∙◌, subst, arith}
 use Rattle.std.specs.Prelude.{IsSome, is_some, option_map, count_by, ◌&&◌}
 use Rattle.std.specs.List.{AllByRecursion, range_with_len}
-use Rattle.std.specs.FinMap.{FinMap, get, insert, nat_cmp-IsAntisymmetric}
+use Rattle.std.specs.FinMap.{FinMap, insert, nat_cmp-IsAntisymmetric}
 use Rattle.std.specs.Ordering.{nat_cmp}
 use Rattle.std.specs.Cmp.{nat_cmp_total}
-use Rattle.std.proofs.lemmas.Bool.{cases_eq, both_ways, and_right}
+use Rattle.std.proofs.lemmas.Bool.{cases_eq, both_ways}
 use Rattle.finite_maps.proofs.Keys.{inserted_at, inserted_apart}
 use Rattle.drafts.specs.Fates.{Drafted, block_with, seen_with}
 use Rattle.drafts.specs.declared.fate.Fate.{Fate}
@@ -13,10 +13,10 @@ use Rattle.drafts.specs.declared.fate.Fate.TheVariants.{Put}
 use Rattle.gfs2_layout.specs.Area.{IsArea, slots_of}
 use Rattle.gfs2_layout.specs.Exchanges.{IsExchanged, IsCounted}
 use Rattle.gfs2_layout.specs.Headers.{HasHeader}
-use Rattle.gfs2_layout.specs.Holding.{Holding, Cell, Part, Pointed, InChain, cell_part, cell_bytes, part_at, bytes_at}
-use Rattle.gfs2_layout.specs.Inode.{IsInode, IsLinear, HasTree, Fits, Head, dinode_in, height_in, has_hash_flag, is_directory_in, is_hashed_in, head_of, linear_area, records_of, block_count}
+use Rattle.gfs2_layout.specs.Holding.{Holding, Cell, Part, Pointed, cell_part, cell_bytes, part_at, bytes_at}
+use Rattle.gfs2_layout.specs.Inode.{IsInode, HasTree, Fits, Head, dinode_in, height_in, has_hash_flag, is_directory_in, is_hashed_in, linear_area, records_of, block_count}
 use Rattle.gfs2_layout.specs.Records.{Record, records_in, HasItsHash}
-use Rattle.gfs2_layout.specs.Structures.{answer, header_fault, dinode_of, dinode_read, dinode_length, is_directory, is_regular}
+use Rattle.gfs2_layout.specs.Structures.{header_fault, dinode_of, dinode_read, dinode_length, is_directory}
 use Rattle.gfs2_layout.specs.declared.dinode.Dinode.{Dinode}
 use Rattle.gfs2_layout.proofs.HeaderLaws.{answer_ok, header_from}
 use Rattle.glock_names.specs.Views.{Seen}
@@ -25,6 +25,7 @@ use Rattle.dinode_tree.specs.Shown.{IsShown}
 use Rattle.linear_dirs.specs.Exchanges.{HasExchanged, uncounted}
 use Rattle.linear_dirs.specs.Reading.{IsDirectoryOf}
 use Rattle.linear_dirs.specs.Shown.{bytes_over, holding_over, seen_in}
+use Rattle.linear_dirs.proofs.Looked.{records_are}
 
 -- ---- an inode over what a draft leaves
 
@@ -112,24 +113,91 @@ abbrev head_from : Dinode → Head
 head_from d = record { number = d.num.number; is_dir = is_directory d }
 
 module _ (v : Seen) (h : Holding) (d : Dinode) (area new : List ℕ) (d' : Dinode) (was : IsDirectoryOf h d area) (is : IsRewritten v h new) (written : IsWritten h new d') where
-  abbrev then : Holding
-  then = holding_over v h
+  abbrev anew : Holding
+  anew = holding_over v h
 
-  pub dinode_is : dinode_in then ≡ d'
-  dinode_is = dinode_new v h new is d' (answer_ok (header_fault dinode_length 4 400 new) (dinode_of new) d' written.read).1
+  read_so : (header_fault dinode_length 4 400 new ≡ None) × (dinode_of new ≡ d')
+  read_so = answer_ok (header_fault dinode_length 4 400 new) (dinode_of new) d' written.read
 
-  pub kept : uncounted (dinode_in then) ≡ uncounted (dinode_in h)
+  pub dinode_is : dinode_in anew ≡ d'
+  dinode_is = dinode_new v h new is d' read_so.1
+
+  pub kept : uncounted (dinode_in anew) ≡ uncounted (dinode_in h)
   kept = ap uncounted dinode_is ∙ written.kept
 
-  height_none : height_in then ≡ 0
+  height_none : height_in anew ≡ 0
   height_none = ap (λ (x : Dinode). x.height) kept ∙ was.stuffed
 
-  directory_still : is_directory_in then ≡ true
+  directory_still : is_directory_in anew ≡ true
   directory_still = ap is_directory kept ∙ was.directory
 
-  pub linear_still : is_hashed_in then ≡ false
+  linear_still : is_hashed_in anew ≡ false
   linear_still = ap (λ (x : Dinode). is_directory x && has_hash_flag x) kept ∙ was.linear
 
-  pub records_then : records_of then ≡ records_in (drop dinode_length new)
+  size_same : dinode_length + (dinode_in anew).size ≡ h.size
+  size_same = ap (λ (x : Dinode). dinode_length + x.size) kept ∙ was.size
+
+  records_anew : records_of anew ≡ records_in (drop dinode_length new)
   unfolding records_of
-  records_then = rw linear_still (ap records_in (area_new v h new is))
+  records_anew = rw linear_still (ap records_in (area_new v h new is))
+
+  no_level : (x b k level first : ℕ) → IsInode h → part_at anew x ≡ Some (Pointed b k level first) → ⊥
+  no_level x b k level first sound at =
+      let low = sound.tree.below x b k level first (sym (part_same v h new is x) ∙ at) in
+      absurd (omega (arith, low, was.stuffed))
+
+  tree_still : IsInode h → HasTree anew
+  tree_still sound = record {
+    top = λ level high. absurd (omega (arith, high, height_none));
+    inner = λ x b k level first at. absurd (no_level x b k (suc level) first sound at);
+    pointed = λ x b k level first at. absurd (no_level x b k level first sound at);
+    below = λ x b k level first at. absurd (no_level x b k level first sound at);
+    indirect = λ x b k level first at. absurd (no_level x b k (suc level) first sound at);
+    table = λ x b k first directory at. absurd (no_level x b k 0 first sound at);
+  }
+
+  fits_still : Fits anew
+  fits_still = record {
+    low = omega (arith, height_none);
+    stuffed = λ none. omega (arith, size_same);
+    under = λ level high. absurd (omega (arith, high, height_none));
+  }
+
+  whole_still : IsInode h → (b : ℕ) (p : Part) → part_at anew b ≡ Some p → length (bytes_at anew b) ≡ h.size
+  whole_still sound b p at = elim (cases_eq b h.own) [
+    | inl same ↦ ap (λ x. length (bytes_at anew x)) same ∙ ap length (bytes_new v h new is) ∙ written.long
+    | inr other ↦ ap length (bytes_same v h new is b other) ∙ sound.whole b p (sym (part_same v h new is b) ∙ at)
+  ]
+
+  sound_still : (AllByRecursion HasItsHash (slots_of (linear_area h)) → AllByRecursion HasItsHash (slots_of (drop dinode_length new))) → IsInode h → IsInode anew
+  sound_still hashes sound = record {
+    whole = whole_still sound;
+    header = subst (HasHeader 4 400) (sym (bytes_new v h new is)) (header_from dinode_length 4 400 new read_so.0);
+    address = ap (λ (x : Dinode). x.num.address) kept ∙ sound.address;
+    number = λ none. sound.number (ap (λ (x : Dinode). x.num.number) (sym kept) ∙ none);
+    mode = inl directory_still;
+    links = λ file. absurd (both_ways (is_directory_in anew) file directory_still);
+    fits = fits_still;
+    tree = tree_still sound;
+    linear = λ directory hashed. record {
+      stuffed = height_none;
+      size = size_same;
+      area = record {
+        fills = subst IsArea (sym (area_new v h new is)) written.filled;
+        hashes = subst (λ x. AllByRecursion HasItsHash (slots_of x)) (sym (area_new v h new is)) (hashes (sound.linear was.directory was.linear).area.hashes);
+      };
+    };
+    hashed = λ hashed. absurd (both_ways (is_hashed_in anew) linear_still hashed);
+    leafless = λ hashed x hash place at. sound.leafless was.linear x hash place (sym (part_same v h new is x) ∙ at);
+    blocks = ap (λ (x : Dinode). x.blocks) kept ∙ sound.blocks ∙ sym (count_same v h new is);
+  }
+
+  pub exchanged : (gone come : List Record) → (AllByRecursion HasItsHash (slots_of (linear_area h)) → AllByRecursion HasItsHash (slots_of (drop dinode_length new)))
+      → IsExchanged (records_in (linear_area h)) (records_in (drop dinode_length new)) gone come → IsCounted d d' gone come → HasExchanged h anew gone come
+  exchanged gone come hashes records counted = record {
+    sound = sound_still hashes;
+    head = ap head_from kept;
+    records = subst (λ rs. IsExchanged rs (records_of anew) gone come) (sym (records_are h d area was ∙ ap records_in was.records))
+        (subst (λ rs. IsExchanged (records_in (linear_area h)) rs gone come) (sym records_anew) records);
+    counted = subst (λ x. IsCounted x (dinode_in anew) gone come) was.dinode (subst (λ x. IsCounted d x gone come) (sym dinode_is) counted);
+  }

@@ -1,21 +1,36 @@
 -- What the code holds of a linear directory, as what it stands for.
-use Rattle.std.specs.Prelude.{ℕ, ◌≡◌, ◌+◌, ◌≤◌, true, false, List, length, map, filter, drop, Some}
+use Rattle.std.specs.Prelude.{ℕ, ◌≡◌, ◌+◌, ◌≤◌, true, false, List, length, map, filter, drop, Some, Ok}
+use Rattle.std.specs.FinMap.{insert}
+use Rattle.drafts.specs.Fates.{Drafted}
+use Rattle.drafts.specs.declared.fate.Fate.TheVariants.{Put}
 use Rattle.gfs2_layout.specs.Area.{Slot, IsArea}
 use Rattle.gfs2_layout.specs.Holding.{Holding}
 use Rattle.gfs2_layout.specs.Inode.{dinode_in, height_in, is_directory_in, is_hashed_in, linear_area}
 use Rattle.gfs2_layout.specs.Records.{Record, record_of}
-use Rattle.gfs2_layout.specs.Structures.{dinode_length, is_in_use}
+use Rattle.gfs2_layout.specs.Structures.{dinode_length, dinode_read, is_in_use}
 use Rattle.gfs2_layout.specs.declared.dinode.Dinode.{Dinode}
 use Rattle.glock_names.specs.Views.{Seen}
-use Rattle.dinode_tree.specs.Reading.{IsRightDinode}
+use Rattle.dinode_tree.specs.Reading.{IsRightDinode, inode_lock}
 
 -- these bytes follow the dinode in a block of the view, and records fill them
 pub record IsAreaIn (v : Seen) (dir : ℕ) (area : List ℕ) : Type 0 where
   pub bytes : List ℕ
   pub there : v.block_at dir ≡ Some bytes
   pub behind : area ≡ drop dinode_length bytes
+  pub large : dinode_length ≤ length bytes
   pub short : length area ≤ 4096
   pub filled : IsArea area
+
+-- some do
+abbrev pub HasAreaIn : Seen → ℕ → Type 0
+HasAreaIn v dir = (area : List ℕ) × IsAreaIn v dir area
+
+-- the draft puts the directory's block, and no other: a whole block with this dinode, and an area of records behind it
+pub record IsBlockPut {V : Type 0} (seen : V → Seen) (old new : Drafted V) (dir : ℕ) (d : Dinode) (bytes : List ℕ) : Type 0 where
+  pub long : length bytes ≡ (seen old.view).size
+  pub put : new ≡ record old { fates = insert old.fates dir (Put (inode_lock dir) false bytes) }
+  pub read : dinode_read bytes ≡ Ok d
+  pub filled : IsArea (drop dinode_length bytes)
 
 -- a linear directory's dinode, and the records behind it
 pub record IsDirectoryOf (h : Holding) (d : Dinode) (area : List ℕ) : Type 0 where

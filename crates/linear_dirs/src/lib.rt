@@ -4,6 +4,8 @@
 mod area;
 mod listing;
 mod looking;
+mod putting;
 
 pub use listing::names;
 pub use looking::look;
+pub use putting::insert;

@@ -34,4 +34,4 @@ returns-clause-read g c h shown =
     directory_of (g.V.View.seen c.args.view.now) h c.args.dir c.in-Some.bytes.now c.in-Is.dinode shown c.in-Some.ensures.some c.in-Some.ensures.size dinode _ c.requires.linear right c.if-dinode-ne0.false c.in-Some.ensures.least refl c.if-dinode-area.false
 
 pub returns-clause-seen : goal.returns-clause-seen
-returns-clause-seen g c = area_in (g.V.View.seen c.args.view.now) c.args.dir c.in-Some.bytes.now c.in-Some.ensures.some c.in-Some.ensures.most (c.if-not-is_area.ensures.0 refl)
+returns-clause-seen g c = area_in (g.V.View.seen c.args.view.now) c.args.dir c.in-Some.bytes.now c.in-Some.ensures.some c.in-Some.ensures.least c.in-Some.ensures.most (c.if-not-is_area.ensures.0 refl)

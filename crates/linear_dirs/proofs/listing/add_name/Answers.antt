@@ -1,4 +1,4 @@
-use Rattle.std.proofs.Common.{◌≡◌, ◌∙◌, true, false, ap, sym, arith}
+use Rattle.std.proofs.Common.{◌≡◌, ◌∙◌, true, sym}
 use Rattle.gfs2_layout.specs.Structures.{is_in_use}
 use Rattle.dinode_tree.proofs.Dinodes.{lacks}
 use Rattle.linear_dirs.proofs.Records.{name_broken}
