@@ -4,6 +4,7 @@ pub mod Places
 pub mod Written
 pub mod PutHere
 pub mod PutRecord
+pub mod Cut
 pub mod FoundAfter
 pub mod Spelled
 pub mod BitmapLaws

@@ -4,6 +4,7 @@
 mod area;
 mod bitmap;
 mod checksum;
+mod cutting;
 mod device;
 mod dinode;
 mod dirent;
@@ -22,6 +23,7 @@ mod superblock;
 
 pub use area::{Record, find_record, is_area, next_record};
 pub use bitmap::{pack, put_state, state_at};
+pub use cutting::cut_record;
 pub use device::superblock_block;
 pub use dinode::{DINODE_LENGTH, Dinode};
 pub use dirent::Dirent;
