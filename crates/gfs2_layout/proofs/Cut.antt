@@ -11,7 +11,7 @@ use Rattle.gfs2_layout.specs.Structures.{dirent_of}
 use Rattle.gfs2_layout.specs.declared.dirent.Dirent.{Dirent}
 use Rattle.gfs2_layout.proofs.InPlace.{is_width_16, is_width_64, length-with, drop-with}
 use Rattle.gfs2_layout.proofs.Records.{behind, record_length, length_behind, AreaOn, area_on, area_ends}
-use Rattle.gfs2_layout.proofs.Places.{before_others, joined as areas_joined}
+use Rattle.gfs2_layout.proofs.Places.{before_others, behind_place, joined as areas_joined}
 use Rattle.gfs2_layout.proofs.Written.{Stands, stands, unnumbered, grown}
 use Rattle.gfs2_layout.proofs.PutHere.{end_part}
 use Rattle.gfs2_layout.proofs.Spelled.{AreBytes, spelled_slot}
@@ -129,9 +129,6 @@ module _ (old : List ℕ) (at before : ℕ) (is : IsArea old) (here : IsRecordAt
       ∙ (λ i. slots_of (take_before i) ++ on.slots i)
       ∙ (λ i. slots_of (take before old) ++ sym slot_before i ∷ area_ends (behind (drop before (take at old))) none i)
 
-  behind_here : behind (drop at old) ≡ drop (at + u16_at 20 (drop at old)) old
-  behind_here = drop-drop (u16_at 20 (drop at old)) at old ∙ ap (λ (k : ℕ). drop k old) (omega arith)
-
   -- the record before it and it itself are the first two from there on
   taken_up : (tail part : List ℕ) → part ≡ drop before old → slots_of tail ≡ joined (slot_at part) (slot_at (behind part)) ∷ slots_of (drop (u16_at 20 part + u16_at 20 (behind part)) part)
       → slots_of tail ≡ joined (slot_at (drop before old)) (slot_at (drop at old)) ∷ slots_of (behind (drop at old))
@@ -153,6 +150,6 @@ module _ (old : List ℕ) (at before : ℕ) (is : IsArea old) (here : IsRecordAt
       let later = slots_of (behind (drop at old)) in (
         both.slots ∙ ap (λ (ss : List Slot). front ++ ss) (taken_up tail part part_is slots) ∙ sym (append_assoc front (joined p s ∷ []) later)
             ∙ ap (λ (ss : List Slot). ss ++ later) (sym (without_last front p s) ∙ ap (λ (ss : List Slot). without ss s) (sym slots_before))
-            ∙ ap (λ (b : List ℕ). without (slots_of (take at old)) s ++ slots_of b) behind_here,
+            ∙ ap (λ (b : List ℕ). without (slots_of (take at old)) s ++ slots_of b) (behind_place old at),
         both.area area,
       )

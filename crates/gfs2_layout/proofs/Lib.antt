@@ -6,6 +6,8 @@ pub mod PutHere
 pub mod PutRecord
 pub mod Cut
 pub mod FoundAfter
+pub mod CutAfter
+pub mod Exchanged
 pub mod Spelled
 pub mod BitmapLaws
 pub mod InPlace

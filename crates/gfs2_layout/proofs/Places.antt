@@ -1,5 +1,5 @@
 -- Areas that are joined, and places in an area.
-use Rattle.std.proofs.Common.{◌≡◌, ℕ, zero, suc, ◌+◌, ◌-◌, ◌≤◌, true, false, List, [], ◌∷◌, ◌++◌, length, take, drop, refl, sym, ap, ◌∙◌, subst, arith, length-append}
+use Rattle.std.proofs.Common.{◌≡◌, ℕ, zero, suc, ◌+◌, ◌-◌, ◌≤◌, true, false, List, [], ◌∷◌, ◌++◌, length, take, drop, refl, sym, ap, ◌∙◌, subst, arith, length-append, length-drop}
 use Rattle.std.specs.Prelude.{sum_by}
 use Rattle.std.specs.Int.{Width, w16, w32, w64, byte_len, from_be_bytes}
 use Rattle.std.specs.List.{AllByRecursion, list_any}
@@ -158,6 +158,15 @@ pub take_on : (at n : ℕ) (bytes : List ℕ) → at ≤ length bytes → take (
 take_on at n bytes within =
     let size = length-take-le at bytes within in
     (λ i. take (sym size i + n) (sym (take-append-drop at bytes) i)) ∙ take-append-add (take at bytes) (drop at bytes) n
+
+-- the records before a place, the one that begins there, and those behind it
+pub split_at : (area : List ℕ) (at : ℕ) → IsRecordAt area at → slots_of area ≡ slots_of (take at area) ++ slot_at (drop at area) ∷ slots_of (behind (drop at area))
+split_at area at is =
+    ap slots_of (sym (take-append-drop at area)) ∙ (joined (take at area) (drop at area) is.before).slots
+    ∙ ap (λ (ss : List Slot). slots_of (take at area) ++ ss) (area_on (drop at area) (omega (arith, length-drop at area, is.within)) is.later).slots
+
+pub behind_place : (area : List ℕ) (at : ℕ) → behind (drop at area) ≡ drop (at + u16_at 20 (drop at area)) area
+behind_place area at = drop-drop (u16_at 20 (drop at area)) at area ∙ ap (λ (k : ℕ). drop k area) (omega arith)
 
 -- the place behind the record that begins there
 pub record GoesOn (area : List ℕ) (at : ℕ) (rest : List ℕ) : Type 0 where
