@@ -5,6 +5,7 @@ pub mod Structures
 pub mod Writing
 pub mod Area
 pub mod Putting
+pub mod Cutting
 pub mod Bitmap
 pub mod Device
 pub mod Headers
