@@ -21,31 +21,6 @@ use Rattle.linear_dirs.specs.Broken.{IsBroken, no_name}
 use Rattle.linear_dirs.specs.Reading.{told_in}
 use Rattle.linear_dirs.specs.Shown.{entry_of, names_of}
 
--- ---- the record of a name
-
-turned : (a b : List ℕ) → bytes_eq a b ≡ bytes_eq b a
-turned a b = elim (cases_Bool (bytes_eq b a)) [
-  | inl same ↦ (bytes_eq-Decides a b).1 (sym ((bytes_eq-Decides b a).0 same)) ∙ sym same
-  | inr other ↦ false_from_ne_true (bytes_eq a b) (λ e. differ (bytes_eq b a) other ((bytes_eq-Decides b a).1 (sym ((bytes_eq-Decides a b).0 e)))) ∙ sym other
-]
-  where
-    differ : (t : Bool) → t ≡ false → t ≡ true → ⊥
-    differ t f e = let h : false ≡ true = sym f ∙ e in cc
-
-pub found : (name : List ℕ) (slots : List Slot) → record_named (told_in slots) name ≡ option_map record_of (first_named name slots)
-found name [] = refl
-found name (s ∷ later) = elim (cases_Bool (is_in_use s.head)) [
-  | inr unused ↦ rw unused (found name later)
-  | inl used ↦ elim (cases_Bool (bytes_eq (name_of s) name)) [
-    | inl same ↦ let turned_same : bytes_eq name (name_of s) ≡ true = turned name (name_of s) ∙ same in rw (used, same, turned_same) refl
-    | inr other ↦ let turned_other : bytes_eq name (name_of s) ≡ false = turned name (name_of s) ∙ other in rw (used, other, turned_other) (found name later)
-  ]
-]
-
-pub found_in : (area name : List ℕ) (slot : Option Slot) → first_named name (slots_of area) ≡ slot → option_map entry_of (option_map record_of slot) ≡ option_map entry_of (record_named (records_in area) name)
-unfolding records_in
-found_in area name slot is = ap (λ o. option_map entry_of (option_map record_of o)) (sym is) ∙ ap (option_map entry_of) (sym (found name (slots_of area)))
-
 -- ---- the names of records
 
 pub told_more : (slots more : List Slot) → told_in (slots ++ more) ≡ told_in slots ++ told_in more

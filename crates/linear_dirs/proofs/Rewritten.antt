@@ -15,7 +15,7 @@ use Rattle.gfs2_layout.specs.Exchanges.{IsExchanged, IsCounted}
 use Rattle.gfs2_layout.specs.Headers.{HasHeader}
 use Rattle.gfs2_layout.specs.Holding.{Holding, Cell, Part, Pointed, cell_part, cell_bytes, part_at, bytes_at}
 use Rattle.gfs2_layout.specs.Inode.{IsInode, HasTree, Fits, Head, dinode_in, height_in, has_hash_flag, is_directory_in, is_hashed_in, linear_area, records_of, block_count}
-use Rattle.gfs2_layout.specs.Records.{Record, records_in, HasItsHash}
+use Rattle.gfs2_layout.specs.Records.{Record, records_in, IsRecordArea}
 use Rattle.gfs2_layout.specs.Structures.{header_fault, dinode_of, dinode_read, dinode_length, is_directory}
 use Rattle.gfs2_layout.specs.declared.dinode.Dinode.{Dinode}
 use Rattle.gfs2_layout.proofs.HeaderLaws.{answer_ok, header_from}
@@ -169,8 +169,8 @@ module _ (v : Seen) (h : Holding) (d : Dinode) (area new : List ℕ) (d' : Dinod
     | inr other ↦ ap length (bytes_same v h new is b other) ∙ sound.whole b p (sym (part_same v h new is b) ∙ at)
   ]
 
-  sound_still : (AllByRecursion HasItsHash (slots_of (linear_area h)) → AllByRecursion HasItsHash (slots_of (drop dinode_length new))) → IsInode h → IsInode anew
-  sound_still hashes sound = record {
+  sound_still : (IsRecordArea (linear_area h) → IsRecordArea (drop dinode_length new)) → IsInode h → IsInode anew
+  sound_still again sound = record {
     whole = whole_still sound;
     header = subst (HasHeader 4 400) (sym (bytes_new v h new is)) (header_from dinode_length 4 400 new read_so.0);
     address = ap (λ (x : Dinode). x.num.address) kept ∙ sound.address;
@@ -182,20 +182,17 @@ module _ (v : Seen) (h : Holding) (d : Dinode) (area new : List ℕ) (d' : Dinod
     linear = λ directory hashed. record {
       stuffed = height_none;
       size = size_same;
-      area = record {
-        fills = subst IsArea (sym (area_new v h new is)) written.filled;
-        hashes = subst (λ x. AllByRecursion HasItsHash (slots_of x)) (sym (area_new v h new is)) (hashes (sound.linear was.directory was.linear).area.hashes);
-      };
+      area = subst IsRecordArea (sym (area_new v h new is)) (again (sound.linear was.directory was.linear).area);
     };
     hashed = λ hashed. absurd (both_ways (is_hashed_in anew) linear_still hashed);
     leafless = λ hashed x hash place at. sound.leafless was.linear x hash place (sym (part_same v h new is x) ∙ at);
     blocks = ap (λ (x : Dinode). x.blocks) kept ∙ sound.blocks ∙ sym (count_same v h new is);
   }
 
-  pub exchanged : (gone come : List Record) → (AllByRecursion HasItsHash (slots_of (linear_area h)) → AllByRecursion HasItsHash (slots_of (drop dinode_length new)))
+  pub exchanged : (gone come : List Record) → (IsRecordArea (linear_area h) → IsRecordArea (drop dinode_length new))
       → IsExchanged (records_in (linear_area h)) (records_in (drop dinode_length new)) gone come → IsCounted d d' gone come → HasExchanged h anew gone come
-  exchanged gone come hashes records counted = record {
-    sound = sound_still hashes;
+  exchanged gone come again records counted = record {
+    sound = sound_still again;
     head = ap head_from kept;
     records = subst (λ rs. IsExchanged rs (records_of anew) gone come) (sym (records_are h d area was ∙ ap records_in was.records))
         (subst (λ rs. IsExchanged (records_in (linear_area h)) rs gone come) (sym records_anew) records);

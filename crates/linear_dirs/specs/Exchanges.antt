@@ -1,9 +1,11 @@
 -- What a directory is after a record went or came.
-use Rattle.std.specs.Prelude.{◌≡◌, List}
+use Rattle.std.specs.Prelude.{ℕ, ◌≡◌, List, Some}
+use Rattle.gfs2_layout.specs.Area.{IsRecordAt, first_named, slots_of}
+use Rattle.gfs2_layout.specs.Cutting.{slot_from, slots_without}
 use Rattle.gfs2_layout.specs.declared.dinode.Dinode.{Dinode}
 use Rattle.gfs2_layout.specs.Exchanges.{IsExchanged, IsCounted}
 use Rattle.gfs2_layout.specs.Holding.{Holding}
-use Rattle.gfs2_layout.specs.Inode.{IsInode, dinode_in, head_of, records_of}
+use Rattle.gfs2_layout.specs.Inode.{IsInode, dinode_in, head_of, linear_area, records_of}
 use Rattle.gfs2_layout.specs.Records.{Record}
 
 -- Some of a directory's records went and some came, and its dinode counts them: an inode that was sound is so, and has the number
@@ -17,3 +19,10 @@ pub record HasExchanged (h h' : Holding) (gone come : List Record) : Type 0 wher
 -- what a directory's dinode says but for its counts of records and of links
 abbrev pub uncounted : Dinode → Dinode
 uncounted d = record d { entries = 0; nlink = 0 }
+
+-- The first record of the name is cut from the directory's area.
+pub record IsCutFrom (h h' : Holding) (name : List ℕ) : Type 0 where
+  pub place : ℕ
+  pub at : IsRecordAt (linear_area h) place
+  pub first : first_named name (slots_of (linear_area h)) ≡ Some (slot_from place (linear_area h))
+  pub slots : slots_of (linear_area h') ≡ slots_without place (linear_area h)

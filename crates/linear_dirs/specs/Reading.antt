@@ -1,16 +1,21 @@
 -- What the code holds of a linear directory, as what it stands for.
-use Rattle.std.specs.Prelude.{ℕ, ◌≡◌, ◌+◌, ◌≤◌, true, false, List, length, map, filter, drop, Some, Ok}
+use Rattle.std.specs.Prelude.{ℕ, ◌≡◌, ◌+◌, ◌≤◌, true, false, List, [], ◌∷◌, length, map, filter, drop, Some, Ok}
 use Rattle.std.specs.FinMap.{insert}
 use Rattle.drafts.specs.Fates.{Drafted}
 use Rattle.drafts.specs.declared.fate.Fate.TheVariants.{Put}
-use Rattle.gfs2_layout.specs.Area.{Slot, IsArea}
+use Rattle.gfs2_layout.specs.Area.{Slot, IsArea, IsRecordAt, first_named, slots_of}
+use Rattle.gfs2_layout.specs.Cutting.{slot_from}
+use Rattle.gfs2_layout.specs.Exchanges.{directory_count}
 use Rattle.gfs2_layout.specs.Holding.{Holding}
 use Rattle.gfs2_layout.specs.Inode.{dinode_in, height_in, is_directory_in, is_hashed_in, linear_area}
-use Rattle.gfs2_layout.specs.Records.{Record, record_of}
+use Rattle.gfs2_layout.specs.Records.{Record, record_of, record_named, records_in}
 use Rattle.gfs2_layout.specs.Structures.{dinode_length, dinode_read, is_in_use}
 use Rattle.gfs2_layout.specs.declared.dinode.Dinode.{Dinode}
 use Rattle.glock_names.specs.Views.{Seen}
 use Rattle.dinode_tree.specs.Reading.{IsRightDinode, inode_lock}
+use Rattle.linear_dirs.specs.Exchanges.{uncounted}
+use Rattle.linear_dirs.specs.Shown.{seen_in}
+use Rattle.linear_dirs.specs.declared.removing.Place.{Place}
 
 -- these bytes follow the dinode in a block of the view, and records fill them
 pub record IsAreaIn (v : Seen) (dir : ℕ) (area : List ℕ) : Type 0 where
@@ -45,3 +50,17 @@ pub record IsDirectoryOf (h : Holding) (d : Dinode) (area : List ℕ) : Type 0 w
 -- what those of these records say that are in use
 abbrev pub told_in : List Slot → List Record
 told_in slots = map record_of (filter (λ s. is_in_use s.head) slots)
+
+-- the dinode counts a record less, and so many links less
+pub record IsFewer (d d' : Dinode) (lost : ℕ) : Type 0 where
+  pub others : uncounted d' ≡ uncounted d
+  pub entries : d'.entries + 1 ≡ d.entries
+  pub links : d'.nlink + lost ≡ d.nlink
+
+-- at this place of an area the first record of a name begins, which is so many of its directory's links
+pub record IsPlaceOf (area name : List ℕ) (p : Place) : Type 0 where
+  pub at : IsRecordAt area p.at
+  pub first : first_named name (slots_of area) ≡ Some (slot_from p.at area)
+  pub used : is_in_use (slot_from p.at area).head ≡ true
+  pub named : record_named (records_in area) name ≡ Some (record_of (slot_from p.at area))
+  pub links : p.links ≡ directory_count (record_of (slot_from p.at area) ∷ [])

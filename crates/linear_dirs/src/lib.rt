@@ -5,7 +5,9 @@ mod area;
 mod listing;
 mod looking;
 mod putting;
+mod removing;
 
 pub use listing::names;
 pub use looking::look;
 pub use putting::insert;
+pub use removing::remove;

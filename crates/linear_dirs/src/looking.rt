@@ -13,7 +13,7 @@ ghost use Rattle.linear_dirs.specs.Shown.{IsLinearIn, entry_of};
 ghost use Rattle.linear_dirs.specs.Broken.{IsBroken};
 
 use crate::area::area_of;
-use gfs2_layout::{Dirent, find_record};
+use gfs2_layout::{Dirent, find_record, records_are_found_by_name};
 use glock_names::{CallFault, Entry, Step, View};
 
 // Where the first record of this name leads.
@@ -22,6 +22,7 @@ fn entry_in(area: &[u8], name: &[u8]) -> Option<Entry>
     requires short { length area.now ≤ 4096 }
     ensures { result ≡ option_map entry_of (record_named (records_in area.now) name.now) }
 {
+    records_are_found_by_name();
     let at = find_record(area, name)?;
     let head = Dirent::head(&area[at as usize..]);
     Some(Entry {

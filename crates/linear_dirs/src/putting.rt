@@ -1,4 +1,4 @@
-// A record put into a linear directory in a draft.
+// A name put into a linear directory in a draft.
 ghost use Rattle.std.specs.Prelude.{ℕ, List, ◌≡◌, ◌≢◌, ◌⊎◌, ◌+◌, ◌^◌, ◌≤◌, [], ◌∷◌, true, false, length, drop, Ok, None, Some, IfOk, OnErr, IfSome, IfNone};
 ghost use Rattle.std.specs.List.{list_any};
 ghost use Rattle.std.specs.FinMap.{insert as with_fate};
@@ -8,6 +8,7 @@ ghost use Rattle.gfs2_layout.specs.Exchanges.{directory_count};
 ghost use Rattle.gfs2_layout.specs.Holding.{Holding};
 ghost use Rattle.gfs2_layout.specs.Inode.{dinode_in, linear_area};
 ghost use Rattle.gfs2_layout.specs.Putting.{IsEntryOf, has_room, least_length, put_slot};
+ghost use Rattle.gfs2_layout.specs.Records.{Record};
 ghost use Rattle.gfs2_layout.specs.Structures.{dinode_length, dinode_read};
 ghost use Rattle.glock_names.specs.Steps.{IfIs, IfNeedBlock, IfDamaged};
 ghost use Rattle.glock_names.specs.Views.{IsOfView};
@@ -23,7 +24,9 @@ use crate::area::{area_of, damaged};
 use crate::listing::is_dots;
 use crc_words::crc32;
 use drafts::Draft;
-use gfs2_layout::{DINODE_LENGTH, Dinode, Dirent, Inum, put_record, put_records_are_found};
+use gfs2_layout::{
+    DINODE_LENGTH, Dinode, Dirent, Inum, areas_exchange_records, put_record, put_records_are_found,
+};
 use glock_names::{CallFault, Entry, LockName, Step, View};
 use no_memory::NoMemory;
 
@@ -37,12 +40,12 @@ pub(crate) fn lock_of(dir: u64) -> LockName
     }
 }
 
-/// How many of the dinode's links a record of this name is: one of a directory's own entry below it.
-pub(crate) fn links_of(name: &[u8], entry: &Entry) -> u32
-    ensures value { result ≡ directory_count (record_for name.now entry.now ∷ []) }
+/// How many of a directory's links a record of this name and kind is: one where it leads to a directory below.
+pub(crate) fn links_of(name: &[u8], kind: u16) -> u32
+    ensures value { (r : Record) → r.name ≡ name.now → r.kind ≡ kind → result ≡ directory_count (r ∷ []) }
     ensures most { result ≤ 1 }
 {
-    u32::from(!is_dots(name) && entry.kind == 4)
+    u32::from(!is_dots(name) && kind == 4)
 }
 
 /// The head of the record of a name that leads there. Its length is still to be given.
@@ -156,10 +159,11 @@ pub fn insert<V: View>(
         Step::Is(found) => found.dinode,
         Step::NeedBlock(missing) => return Ok(Step::NeedBlock(missing)),
     };
-    let Some(counted) = with_more(&dinode, links_of(name, &entry)) else {
+    let Some(counted) = with_more(&dinode, links_of(name, entry.kind)) else {
         return Err(damaged(dir, 12));
     };
     put_records_are_found();
+    areas_exchange_records();
     let done = put_name(draft, dir, &counted, &head_for(name, &entry), name)?;
     Ok(Step::Is(done))
 }
