@@ -9,7 +9,6 @@ use Rattle.gfs2_layout.specs.Inode.{records_of}
 use Rattle.linear_dirs.proofs.Looked.{records_are}
 use Rattle.std.proofs.Common.{◌≡◌, ◌≢◌, IsTrue, ℕ, ◌+◌, ◌≤◌, List, [], ◌∷◌, length, drop, Some, refl, sym, ap, ◌∙◌, subst, arith}
 use Rattle.std.specs.Prelude.{not, ◌&&◌, ◌==◌}
-use Rattle.std.specs.List.{AllByRecursion}
 use Rattle.std.proofs.lemmas.Bool.Decides.{nat_tests}
 use Rattle.drafts.specs.Fates.{Drafted}
 use Rattle.gfs2_layout.specs.Area.{slots_of}

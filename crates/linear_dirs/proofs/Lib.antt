@@ -4,3 +4,5 @@ pub mod Puts
 pub mod Rewritten
 pub mod Counts
 pub mod Inserted
+pub mod Unbroken
+pub mod Begun

@@ -1,17 +1,14 @@
 -- What the records say after one was put in.
 use Rattle.gfs2_layout.specs.Putting.{says}
-use Rattle.std.proofs.Common.{◌≡◌, ℕ, ◌-◌, ◌≤◌, true, inl, inr, List, [], ◌∷◌, ◌++◌, length, drop, Option, None, Some, refl, sym, ap, ◌∙◌, subst, arith}
+use Rattle.std.proofs.Common.{◌≡◌, ℕ, inl, inr, List, [], ◌∷◌, ◌++◌, refl, sym, ap, ◌∙◌, subst}
 use Rattle.std.specs.Prelude.{map}
-use Rattle.std.specs.List.{AllByRecursion}
 use Rattle.std.specs.List.Sorted.{IsPermutation}
-use Rattle.std.specs.Option.{option_map}
-use Rattle.std.proofs.lemmas.Bool.{cases_Bool, cond-true, cond-false}
-use Rattle.std.proofs.lemmas.List.{map-append, take_at, take-take}
+use Rattle.std.proofs.lemmas.Bool.{cases_Bool}
+use Rattle.std.proofs.lemmas.List.{map-append}
 use Rattle.std.proofs.lemmas.List.Sorted.{IsPermutation-refl, IsPermutation-middle}
-use Rattle.crc_words.specs.Remainder.{crc32_of}
 use Rattle.gfs2_layout.specs.Area.{Slot, slots_of}
 use Rattle.gfs2_layout.specs.Exchanges.{IsExchanged}
-use Rattle.gfs2_layout.specs.Putting.{IsEntryOf, HasOneMore, least_length, has_room, cut_short, new_slot, put_into, put_slot, new_says, told}
+use Rattle.gfs2_layout.specs.Putting.{HasOneMore, new_says, told}
 use Rattle.gfs2_layout.specs.Records.{Record, record_of, records_in, said_by}
 use Rattle.gfs2_layout.specs.Structures.{is_in_use}
 use Rattle.gfs2_layout.specs.declared.dirent.Dirent.{Dirent}

@@ -1,17 +1,13 @@
 -- The records of an area: which one has a name, and which come one after another.
-use Rattle.std.proofs.Common.{◌≡◌, ℕ, suc, Bool, true, false, inl, inr, List, [], ◌∷◌, ◌++◌, Option, IsTrue, refl, sym, ap, ◌∙◌, subst, arith, append_assoc}
+use Rattle.std.proofs.Common.{◌≡◌, ℕ, suc, Bool, true, false, List, [], ◌∷◌, ◌++◌, IsTrue, refl, sym, ap, ◌∙◌, subst, arith, append_assoc}
 use Rattle.std.specs.Prelude.{map, filter, not, Contains}
-use Rattle.std.specs.Option.{option_map}
-use Rattle.std.specs.Str.{bytes_eq}
-use Rattle.std.proofs.lemmas.Bool.{cases_Bool, false_from_ne_true}
 use Rattle.std.proofs.lemmas.List.{map-append, append-nil}
 use Rattle.std.proofs.lemmas.List.Elements.{filter-append}
-use Rattle.std.proofs.lemmas.Slice.Eq.{bytes_eq-Decides}
 use Rattle.file_tree.specs.Names.{IsName}
-use Rattle.gfs2_layout.specs.Area.{Slot, IsShown, IsFirstRecord, first_named, name_of, slot_at, slots_of}
+use Rattle.gfs2_layout.specs.Area.{Slot, IsShown, IsFirstRecord, name_of, slot_at, slots_of}
 use Rattle.gfs2_layout.specs.Holding.{Holding}
 use Rattle.gfs2_layout.specs.Inode.{records_of}
-use Rattle.gfs2_layout.specs.Records.{Record, record_of, records_in, record_named, is_dots}
+use Rattle.gfs2_layout.specs.Records.{Record, record_of, records_in, is_dots}
 use Rattle.gfs2_layout.specs.Structures.{is_in_use}
 use Rattle.gfs2_layout.specs.declared.dirent.Dirent.{Dirent}
 use Rattle.glock_names.specs.Steps.{TellsOf}
@@ -19,7 +15,7 @@ use Rattle.glock_names.specs.declared.steps.CallFault.{CallFault}
 use Rattle.glock_names.specs.declared.steps.CallFault.TheVariants.{Damaged}
 use Rattle.linear_dirs.specs.Broken.{IsBroken, no_name}
 use Rattle.linear_dirs.specs.Reading.{told_in}
-use Rattle.linear_dirs.specs.Shown.{entry_of, names_of}
+use Rattle.linear_dirs.specs.Shown.{names_of}
 
 -- ---- the names of records
 

@@ -14,7 +14,6 @@ use Rattle.gfs2_layout.specs.declared.dinode.Dinode.{Dinode}
 use Rattle.glock_names.specs.Views.{Seen}
 use Rattle.dinode_tree.specs.Reading.{IsRightDinode, inode_lock}
 use Rattle.linear_dirs.specs.Exchanges.{uncounted}
-use Rattle.linear_dirs.specs.Shown.{seen_in}
 use Rattle.linear_dirs.specs.declared.removing.Place.{Place}
 
 -- these bytes follow the dinode in a block of the view, and records fill them

@@ -2,11 +2,15 @@
 #![tactic(auto)]
 
 mod area;
+mod beginning;
+mod laws;
 mod listing;
 mod looking;
 mod putting;
 mod removing;
 
+pub use beginning::begin;
+pub use laws::linear_directories_break_nothing;
 pub use listing::names;
 pub use looking::look;
 pub use putting::insert;

@@ -1,12 +1,11 @@
 use Rattle.std.proofs.Common.{refl}
-use Rattle.std.proofs.Common.{sym, ap, subst}
+use Rattle.std.proofs.Common.{sym, subst}
 use Rattle.gfs2_layout.specs.Area.{slots_of}
 use Rattle.gfs2_layout.specs.Putting.{IsEntryOf}
 use Rattle.gfs2_layout.specs.Records.{IsRecordArea}
 use Rattle.gfs2_layout.specs.Structures.{dinode_length}
 use Rattle.gfs2_layout.specs.declared.dirent.Dirent.{Dirent}
 use Rattle.glock_names.proofs.StepLaws.{answer_at}
-use Rattle.linear_dirs.specs.Exchanges.{uncounted}
 use Rattle.linear_dirs.specs.Shown.{record_for}
 use Rattle.linear_dirs.proofs.Counts.{too_many, same_more}
 use Rattle.linear_dirs.proofs.Inserted.{has_inserted, slots_are, dinode_kept, entry_for}

@@ -1,4 +1,4 @@
-use Rattle.std.proofs.Common.{List, ℕ, length, drop, ap, sym, ◌∙◌, subst, arith}
+use Rattle.std.proofs.Common.{List, ℕ, length, ap, sym, ◌∙◌, subst, arith}
 use Rattle.gfs2_layout.specs.Area.{IsArea, IsRecordAt, slots_of}
 use Rattle.gfs2_layout.specs.Cutting.{slots_without}
 use Rattle.gfs2_layout.specs.Structures.{dinode_length}

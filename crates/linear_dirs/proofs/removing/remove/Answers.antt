@@ -1,5 +1,4 @@
-use Rattle.std.proofs.Common.{List, [], ◌∷◌, subst, drop}
-use Rattle.gfs2_layout.specs.Area.{slots_of}
+use Rattle.std.proofs.Common.{[], ◌∷◌, subst, drop}
 use Rattle.gfs2_layout.specs.Cutting.{slot_from}
 use Rattle.gfs2_layout.specs.Records.{Record, IsRecordArea, record_of}
 use Rattle.gfs2_layout.specs.Structures.{dinode_length}
