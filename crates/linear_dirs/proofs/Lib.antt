@@ -3,6 +3,6 @@ pub mod Looked
 pub mod Puts
 pub mod Rewritten
 pub mod Counts
-pub mod Inserted
+pub mod Exchanged
 pub mod Unbroken
 pub mod Begun

@@ -1,6 +1,6 @@
 -- What is told of a linear directory that was looked at.
-use Rattle.std.proofs.Common.{◌≡◌, ◌≢◌, ℕ, ◌-◌, ◌≤◌, List, ◌++◌, length, drop, Some, sym, ap, ◌∙◌, subst, arith, length-drop}
-use Rattle.std.specs.Prelude.{IsErrAnd, IfErr, Result, Ok, Err, take}
+use Rattle.std.proofs.Common.{true, Option, refl, ◌≡◌, ◌≢◌, ℕ, ◌-◌, ◌≤◌, List, ◌++◌, length, drop, Some, sym, ap, ◌∙◌, subst, arith, length-drop}
+use Rattle.std.specs.Prelude.{None, IsSome, is_some, option_map, IsErrAnd, IfErr, Result, Ok, Err, take}
 use Rattle.std.proofs.lemmas.List.{take_all, drop_all, drop_at, append-nil, length-take-le}
 use borrow.Rule.Slice.PartMut.{put_mid}
 use Rattle.gfs2_layout.specs.declared.dirent.Dirent.{Dirent}
@@ -9,7 +9,7 @@ use Rattle.std.proofs.lemmas.Bool.{and_right}
 use Rattle.gfs2_layout.specs.Area.{IsArea}
 use Rattle.gfs2_layout.specs.Holding.{Holding, bytes_at}
 use Rattle.gfs2_layout.specs.Inode.{dinode_in, linear_area, records_of, has_hash_flag}
-use Rattle.gfs2_layout.specs.Records.{records_in}
+use Rattle.gfs2_layout.specs.Records.{Record, record_named, records_in}
 use Rattle.gfs2_layout.specs.Structures.{dinode_of, dinode_length, is_directory}
 use Rattle.gfs2_layout.specs.declared.dinode.Dinode.{Dinode}
 use Rattle.glock_names.specs.Steps.{IsDamage, TellsOf}
@@ -21,7 +21,7 @@ use Rattle.dinode_tree.specs.Reading.{IsRightDinode}
 use Rattle.dinode_tree.specs.Shown.{IsShown}
 use Rattle.linear_dirs.specs.Broken.{IsBroken, of_inode, not_stuffed, not_filled, no_area}
 use Rattle.linear_dirs.specs.Reading.{IsAreaIn, IsDirectoryOf}
-use Rattle.linear_dirs.specs.Shown.{IsLinearIn}
+use Rattle.linear_dirs.specs.Shown.{IsLinearIn, HasNameIn, entry_of}
 
 -- the rest of a list from a place on
 pub rest_is : (at : ℕ) (xs : List ℕ) → take (length xs - at) (drop at xs) ≡ drop at xs
@@ -62,6 +62,10 @@ tells h NoMemory broken = tt
 pub bytes_of : (v : Seen) (h : Holding) (dir : ℕ) (bytes : List ℕ) → IsShown v dir h → v.block_at dir ≡ Some bytes → bytes_at h h.own ≡ bytes
 bytes_of v h dir bytes shown there = shown.same h.own bytes shown.dinode (ap v.block_at shown.own ∙ there)
 
+pub dinode_there : (v : Seen) (h : Holding) (dir : ℕ) (bytes : List ℕ) → IsShown v dir h → v.block_at dir ≡ Some bytes → dinode_in h ≡ dinode_of bytes
+unfolding dinode_in
+dinode_there v h dir bytes shown there = ap dinode_of (bytes_of v h dir bytes shown there)
+
 module _ (v : Seen) (h : Holding) (dir : ℕ) (bytes : List ℕ) (d : Dinode) (shown : IsShown v dir h) (there : v.block_at dir ≡ Some bytes) (whole : v.size ≡ length bytes) (dinode : d ≡ dinode_in h) where
   pub area_is : drop dinode_length bytes ≡ linear_area h
   area_is = ap (drop dinode_length) (sym (bytes_of v h dir bytes shown there))
@@ -79,18 +83,14 @@ module _ (v : Seen) (h : Holding) (dir : ℕ) (bytes : List ℕ) (d : Dinode) (s
   pub area_broken : (fault : CallFault) → ¬ (IsArea (take (length bytes - dinode_length) (drop dinode_length bytes))) → fault ≡ Damaged dir 9 → IsDamage (IsBroken h) fault
   area_broken fault lacks is = told h dir 9 fault shown.own is (no_area (λ has. lacks (subst IsArea (sym (rest_is dinode_length bytes ∙ area_is)) has)))
 
-  dinode_same : dinode_in h ≡ dinode_of bytes
-  unfolding dinode_in
-  dinode_same = ap dinode_of (bytes_of v h dir bytes shown there)
-
   -- what was looked at is the directory's
   pub directory_of : (rest : ℕ) → IsLinearIn v dir → IsRightDinode h → d.height ≡ 0 → 512 ≤ length bytes → rest ≡ length (take (length bytes - dinode_length) (drop dinode_length bytes)) → d.size ≡ rest → IsDirectoryOf h d (take (length bytes - dinode_length) (drop dinode_length bytes))
   directory_of rest linear right low least there_is size = record {
     right = right;
     dinode = dinode;
     records = rest_is dinode_length bytes ∙ area_is;
-    directory = ap is_directory dinode_same ∙ (linear bytes there).0;
-    linear = and_right (is_directory (dinode_in h)) (has_hash_flag (dinode_in h)) (ap has_hash_flag dinode_same ∙ (linear bytes there).1);
+    directory = ap is_directory (dinode_there v h dir bytes shown there) ∙ (linear bytes there).0;
+    linear = and_right (is_directory (dinode_in h)) (has_hash_flag (dinode_in h)) (ap has_hash_flag (dinode_there v h dir bytes shown there) ∙ (linear bytes there).1);
     stuffed = ap (λ (x : Dinode). x.height) (sym dinode) ∙ low;
     size = omega (arith, least, long rest there_is, whole, size, shown.size, ap (λ (x : Dinode). x.size) dinode);
   }
@@ -112,3 +112,16 @@ area_in v dir bytes there least most filled = record {
   short = omega (arith, most, ap length (rest_is dinode_length bytes), length-drop dinode_length bytes);
   filled = filled;
 }
+
+-- a name whose record was found has one
+pub has_name : (v : Seen) (dir : ℕ) (area name : List ℕ) (found : Option Entry) → IsAreaIn v dir area → found ≡ option_map entry_of (record_named (records_in area) name) → IsSome found → HasNameIn v dir name
+has_name v dir area name found is named some bytes there =
+    let same : area ≡ drop dinode_length bytes = is.behind ∙ ap (drop dinode_length) (inside (sym is.there ∙ there)) in
+    one (record_named (records_in (drop dinode_length bytes)) name) refl (sym (ap is_some (named ∙ ap (λ a. option_map entry_of (record_named (records_in a) name)) same)) ∙ some)
+  where
+    inside : {x y : List ℕ} → Some x ≡ Some y → x ≡ y
+    inside e = cc
+
+    one : (o : Option Record) → record_named (records_in (drop dinode_length bytes)) name ≡ o → is_some (option_map entry_of o) ≡ true → (r : Record) × (record_named (records_in (drop dinode_length bytes)) name ≡ Some r)
+    one None is some = cc
+    one (Some r) is some = (r, is)

@@ -50,7 +50,7 @@ over_same (Some bytes) (Some c) same = sym (same bytes refl refl)
 
 -- ---- what a draft sees after one block was put
 
-seen_at : (v : Seen) (m : FinMap nat_cmp Fate) (b : ℕ) (lock : LockName) (bytes : List ℕ) → (seen_with v (insert m b (Put lock false bytes))).block_at b ≡ Some bytes
+pub seen_at : (v : Seen) (m : FinMap nat_cmp Fate) (b : ℕ) (lock : LockName) (bytes : List ℕ) → (seen_with v (insert m b (Put lock false bytes))).block_at b ≡ Some bytes
 seen_at v m b lock bytes = ap (λ fate. block_with fate (v.block_at b)) (inserted_at nat_cmp_total nat_cmp-IsAntisymmetric m b (Put lock false bytes))
 
 seen_apart : (v : Seen) (m : FinMap nat_cmp Fate) (b c : ℕ) (lock : LockName) (bytes : List ℕ) → c ≢ b → (seen_with v (insert m b (Put lock false bytes))).block_at c ≡ (seen_with v m).block_at c

@@ -9,7 +9,7 @@ use Rattle.gfs2_layout.specs.Exchanges.{directory_count}
 use Rattle.gfs2_layout.specs.Holding.{Holding}
 use Rattle.gfs2_layout.specs.Inode.{dinode_in, height_in, is_directory_in, is_hashed_in, linear_area}
 use Rattle.gfs2_layout.specs.Records.{Record, record_of, record_named, records_in}
-use Rattle.gfs2_layout.specs.Structures.{dinode_length, dinode_read, is_in_use}
+use Rattle.gfs2_layout.specs.Structures.{dinode_length, dinode_of, dinode_read, is_in_use}
 use Rattle.gfs2_layout.specs.declared.dinode.Dinode.{Dinode}
 use Rattle.glock_names.specs.Views.{Seen}
 use Rattle.dinode_tree.specs.Reading.{IsRightDinode, inode_lock}
@@ -25,7 +25,11 @@ pub record IsAreaIn (v : Seen) (dir : ℕ) (area : List ℕ) : Type 0 where
   pub short : length area ≤ 4096
   pub filled : IsArea area
 
--- some do
+-- where the view has the directory's block, this is its dinode
+abbrev pub IsDinodeIn : Seen → ℕ → Dinode → Type 0
+IsDinodeIn v dir d = (bytes : List ℕ) → v.block_at dir ≡ Some bytes → d ≡ dinode_of bytes
+
+-- some records follow it
 abbrev pub HasAreaIn : Seen → ℕ → Type 0
 HasAreaIn v dir = (area : List ℕ) × IsAreaIn v dir area
 

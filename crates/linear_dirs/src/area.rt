@@ -6,10 +6,10 @@ ghost use Rattle.glock_names.specs.Views.{IsOfView};
 ghost use Rattle.dinode_tree.specs.Shown.{IsShown};
 ghost use Rattle.dinode_tree.specs.Walking.{missing_dinode};
 ghost use Rattle.linear_dirs.specs.Shown.{IsLinearIn};
-ghost use Rattle.linear_dirs.specs.Reading.{IsAreaIn, IsDirectoryOf};
+ghost use Rattle.linear_dirs.specs.Reading.{IsAreaIn, IsDinodeIn, IsDirectoryOf};
 ghost use Rattle.linear_dirs.specs.Broken.{IsBroken};
 
-use dinode_tree::read_dinode;
+use dinode_tree::{every_view_shows_an_inode, read_dinode};
 use gfs2_layout::{DINODE_LENGTH, Dinode, is_area};
 use glock_names::{CallFault, Step, View, block_of};
 
@@ -32,12 +32,14 @@ pub(crate) fn damaged(block: u64, rule: u16) -> CallFault
 pub(crate) fn area_of<V: View>(view: &V, dir: u64) -> Result<Step<Directory<'_>>, CallFault>
     requires linear { IsLinearIn (V.seen view.now) dir }
     ensures read { (h : Holding) → IsShown (V.seen view.now) dir h → IfIs result (λ found. IsDirectoryOf h found.dinode found.area.now) }
+    ensures dinode { IfIs result (λ found. IsDinodeIn (V.seen view.now) dir found.dinode) }
     ensures seen { IfIs result (λ found. IsAreaIn (V.seen view.now) dir found.area.now) }
     ensures needed { IfNeedBlock result (λ missing. missing ≡ missing_dinode dir) }
     ensures absent { IfNeedBlock result (λ missing. (V.seen view.now).block_at dir ≡ None) }
     ensures damaged { (h : Holding) → IsShown (V.seen view.now) dir h → OnlyDamaged result (IsBroken h) }
     ensures kept { OnlyDamaged result (IsOfView (V.seen view.now)) }
 {
+    every_view_shows_an_inode();
     let dinode = match read_dinode(view, dir)? {
         Step::Is(dinode) => dinode,
         Step::NeedBlock(missing) => return Ok(Step::NeedBlock(missing)),

@@ -6,7 +6,7 @@ ghost use Rattle.gfs2_layout.specs.Area.{Slot, IsArea, IsShown as IsRecord};
 ghost use Rattle.gfs2_layout.specs.Structures.{is_in_use};
 ghost use Rattle.gfs2_layout.specs.Records.{record_of, records_in, is_dots as has_dots};
 ghost use Rattle.glock_names.specs.Steps.{IfIs, IfNeedBlock, IfDamaged};
-ghost use Rattle.glock_names.specs.Views.{IsOfView};
+ghost use Rattle.glock_names.specs.Views.{HasBlock, IsOfView};
 ghost use Rattle.dinode_tree.specs.Shown.{IsAtBlock, IsShown};
 ghost use Rattle.dinode_tree.specs.Walking.{missing_dinode};
 ghost use Rattle.linear_dirs.specs.Shown.{IsLinearIn, names_of};
@@ -70,6 +70,7 @@ fn names_in(alloc: Global, area: &[u8], dir: u64) -> Result<Vec<Name>, CallFault
 pub fn names<V: View>(alloc: Global, view: &V, dir: u64) -> Result<Step<Vec<Name>>, CallFault>
     requires linear { IsLinearIn (V.seen view.now) dir }
     ensures found { (h : Holding) → IsShown (V.seen view.now) dir h → IfIs result (λ names. names.items ≡ names_of (records_of h)) }
+    ensures there { IfIs result (λ names. HasBlock (V.seen view.now) dir) }
     ensures needed { IfNeedBlock result (λ missing. missing ≡ missing_dinode dir) }
     ensures absent { IfNeedBlock result (λ missing. (V.seen view.now).block_at dir ≡ None) }
     ensures damaged { (h : Holding) → IsShown (V.seen view.now) dir h → IfDamaged result (IsBroken h) }

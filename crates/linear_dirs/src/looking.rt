@@ -1,5 +1,5 @@
 // Where a name of a linear directory leads.
-ghost use Rattle.std.specs.Prelude.{◌≡◌, ◌≤◌, None, length};
+ghost use Rattle.std.specs.Prelude.{◌≡◌, ◌≤◌, None, length, IsSome};
 ghost use Rattle.std.specs.Option.{option_map};
 ghost use Rattle.gfs2_layout.specs.Holding.{Holding};
 ghost use Rattle.gfs2_layout.specs.Inode.{records_of};
@@ -9,7 +9,7 @@ ghost use Rattle.glock_names.specs.Steps.{IfIs, IfNeedBlock, OnlyDamaged};
 ghost use Rattle.glock_names.specs.Views.{HasBlock, IsOfView};
 ghost use Rattle.dinode_tree.specs.Shown.{IsShown};
 ghost use Rattle.dinode_tree.specs.Walking.{missing_dinode};
-ghost use Rattle.linear_dirs.specs.Shown.{IsLinearIn, entry_of};
+ghost use Rattle.linear_dirs.specs.Shown.{IsLinearIn, HasNameIn, entry_of};
 ghost use Rattle.linear_dirs.specs.Broken.{IsBroken};
 
 use crate::area::area_of;
@@ -38,6 +38,7 @@ fn entry_in(area: &[u8], name: &[u8]) -> Option<Entry>
 pub fn look<V: View>(view: &V, dir: u64, name: &[u8]) -> Result<Step<Option<Entry>>, CallFault>
     requires linear { IsLinearIn (V.seen view.now) dir }
     ensures found { (h : Holding) → IsShown (V.seen view.now) dir h → IfIs result (λ found. found ≡ option_map entry_of (record_named (records_of h) name.now)) }
+    ensures named { IfIs result (λ found. IsSome found → HasNameIn (V.seen view.now) dir name.now) }
     ensures there { IfIs result (λ found. HasBlock (V.seen view.now) dir) }
     ensures needed { IfNeedBlock result (λ missing. missing ≡ missing_dinode dir) }
     ensures absent { IfNeedBlock result (λ missing. (V.seen view.now).block_at dir ≡ None) }

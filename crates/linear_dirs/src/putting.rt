@@ -11,7 +11,7 @@ ghost use Rattle.gfs2_layout.specs.Putting.{IsEntryOf, has_room, least_length, p
 ghost use Rattle.gfs2_layout.specs.Records.{Record};
 ghost use Rattle.gfs2_layout.specs.Structures.{dinode_length, dinode_read};
 ghost use Rattle.glock_names.specs.Steps.{IfIs, IfNeedBlock, IfDamaged};
-ghost use Rattle.glock_names.specs.Views.{IsOfView};
+ghost use Rattle.glock_names.specs.Views.{HasBlock, IsOfView};
 ghost use Rattle.dinode_tree.specs.Reading.{inode_lock};
 ghost use Rattle.dinode_tree.specs.Shown.{IsShown};
 ghost use Rattle.dinode_tree.specs.Walking.{missing_dinode};
@@ -148,6 +148,8 @@ pub fn insert<V: View>(
     ensures dinode { (h : Holding) → IsShown (seen_in V.seen draft.old) dir h → IfIs result (λ done. done ≡ true
         → uncounted (dinode_in (holding_over (seen_in V.seen draft.new) h)) ≡ uncounted (dinode_in h)) }
     ensures one { IfIs result (λ done. done ≡ true → (bytes : List ℕ) × (draft.new ≡ record draft.old { fates = with_fate draft.old.fates dir (Put (inode_lock dir) false bytes) })) }
+    ensures linear { IsLinearIn (seen_in V.seen draft.new) dir }
+    ensures there { IfIs result (λ done. HasBlock (seen_in V.seen draft.old) dir) }
     ensures needed { IfNeedBlock result (λ missing. missing ≡ missing_dinode dir) }
     ensures absent { IfNeedBlock result (λ missing. (seen_in V.seen draft.old).block_at dir ≡ None) }
     ensures waits { IfNeedBlock result (λ missing. draft.new ≡ draft.old) }

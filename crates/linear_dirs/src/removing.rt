@@ -9,7 +9,7 @@ ghost use Rattle.gfs2_layout.specs.Inode.{dinode_in, records_of};
 ghost use Rattle.gfs2_layout.specs.Records.{Record, record_named, records_in};
 ghost use Rattle.gfs2_layout.specs.Structures.{dinode_length, dinode_read};
 ghost use Rattle.glock_names.specs.Steps.{IfIs, IfNeedBlock, IfDamaged};
-ghost use Rattle.glock_names.specs.Views.{IsOfView};
+ghost use Rattle.glock_names.specs.Views.{HasBlock, IsOfView};
 ghost use Rattle.dinode_tree.specs.Reading.{inode_lock};
 ghost use Rattle.dinode_tree.specs.Shown.{IsShown};
 ghost use Rattle.dinode_tree.specs.Walking.{missing_dinode};
@@ -115,6 +115,8 @@ pub fn remove<V: View>(
     ensures slots { (h : Holding) → IsShown (seen_in V.seen draft.old) dir h → IfIs result (λ done. IsCutFrom h (holding_over (seen_in V.seen draft.new) h) name.now) }
     ensures dinode { (h : Holding) → IsShown (seen_in V.seen draft.old) dir h → IfIs result (λ done. uncounted (dinode_in (holding_over (seen_in V.seen draft.new) h)) ≡ uncounted (dinode_in h)) }
     ensures one { IfIs result (λ done. (bytes : List ℕ) × (draft.new ≡ record draft.old { fates = with_fate draft.old.fates dir (Put (inode_lock dir) false bytes) })) }
+    ensures linear { IsLinearIn (seen_in V.seen draft.new) dir }
+    ensures there { IfIs result (λ done. HasBlock (seen_in V.seen draft.old) dir) }
     ensures needed { IfNeedBlock result (λ missing. missing ≡ missing_dinode dir) }
     ensures absent { IfNeedBlock result (λ missing. (seen_in V.seen draft.old).block_at dir ≡ None) }
     ensures waits { IfNeedBlock result (λ missing. draft.new ≡ draft.old) }

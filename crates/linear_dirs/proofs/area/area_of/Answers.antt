@@ -1,9 +1,9 @@
-use Rattle.std.proofs.Common.{refl}
+use Rattle.std.proofs.Common.{refl, ◌∙◌}
 use Rattle.dinode_tree.proofs.Dinodes.{lacks}
 use Rattle.glock_names.specs.Steps.{IsDamage}
 use Rattle.glock_names.proofs.StepLaws.{answer_at}
 use Rattle.linear_dirs.specs.Broken.{IsBroken}
-use Rattle.linear_dirs.proofs.Looked.{handed, damage_of, high_broken, size_broken, area_broken, directory_of, area_in}
+use Rattle.linear_dirs.proofs.Looked.{handed, damage_of, high_broken, size_broken, area_broken, directory_of, area_in, dinode_there}
 use Rattle.linear_dirs.proofs.area.area_of.Goals as goal
 
 pub returns-in_err-dinode-clause-damaged : goal.returns-in_err-dinode-clause-damaged
@@ -35,3 +35,9 @@ returns-clause-read g c h shown =
 
 pub returns-clause-seen : goal.returns-clause-seen
 returns-clause-seen g c = area_in (g.V.View.seen c.args.view.now) c.args.dir c.in-Some.bytes.now c.in-Some.ensures.some c.in-Some.ensures.least c.in-Some.ensures.most (c.if-not-is_area.ensures.0 refl)
+
+pub returns-clause-dinode : goal.returns-clause-dinode
+returns-clause-dinode g c bytes there =
+    let v = g.V.View.seen c.args.view.now in
+    let some = c.every_view_shows_an_inode.ensures v c.args.dir in
+    answer_at _ _ _ c.in-Is.is (c.in_ok-dinode.ensures.found some.0 some.1.0) ∙ dinode_there v some.0 c.args.dir bytes some.1.0 there

@@ -1,7 +1,7 @@
 use Rattle.std.proofs.Common.{◌∙◌, sym, subst}
 use Rattle.gfs2_layout.specs.Putting.{IsEntryOf}
 use Rattle.gfs2_layout.specs.declared.dirent.Dirent.{Dirent}
-use Rattle.linear_dirs.proofs.Inserted.{entry_for}
+use Rattle.linear_dirs.proofs.Exchanged.{entry_for}
 use Rattle.linear_dirs.proofs.beginning.put_entry.Goals as goal
 
 pub returns-clause-area : goal.returns-clause-area

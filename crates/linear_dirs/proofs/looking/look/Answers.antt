@@ -3,7 +3,7 @@ use Rattle.std.specs.Option.{option_map}
 use Rattle.gfs2_layout.specs.Records.{record_named}
 use Rattle.glock_names.proofs.StepLaws.{answer_at}
 use Rattle.linear_dirs.specs.Shown.{entry_of}
-use Rattle.linear_dirs.proofs.Looked.{records_are}
+use Rattle.linear_dirs.proofs.Looked.{has_name, records_are}
 use Rattle.linear_dirs.proofs.looking.look.Goals as goal
 
 pub entry_in-requires-clause-area : goal.entry_in-requires-clause-area
@@ -19,3 +19,7 @@ returns-clause-found g c h shown =
 
 pub returns-clause-there : goal.returns-clause-there
 returns-clause-there g c = let seen = answer_at _ _ _ c.in-Is.is c.in_ok-found.ensures.seen in (seen.bytes, seen.there)
+
+pub returns-clause-named : goal.returns-clause-named
+returns-clause-named g c some =
+    has_name (g.V.View.seen c.args.view.now) c.args.dir c.in-Is.found.area.now c.args.name.now c.entry_in.result (answer_at _ _ _ c.in-Is.is c.in_ok-found.ensures.seen) c.entry_in.ensures some

@@ -1,9 +1,8 @@
-use Rattle.std.proofs.Common.{List, ℕ, Some, ap, sym, ◌∙◌, subst, refl}
+use Rattle.std.proofs.Common.{List, ℕ, Some, ap, sym, ◌∙◌, subst, refl, length}
 use Rattle.std.specs.List.{list_any}
 use Rattle.gfs2_layout.specs.Area.{IsArea, slots_of}
 use Rattle.gfs2_layout.specs.Putting.{has_room, least_length, put_slot}
 use Rattle.gfs2_layout.specs.Structures.{dinode_length}
-use Rattle.std.proofs.Common.{length}
 use Rattle.linear_dirs.proofs.Looked.{rest_is, rest_put}
 use Rattle.linear_dirs.proofs.putting.put_in_block.Goals as goal
 

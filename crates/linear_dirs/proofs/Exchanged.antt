@@ -1,35 +1,31 @@
 -- A linear directory after its block was put in a draft.
-use Rattle.gfs2_layout.specs.Area.{Slot, IsRecordAt, first_named}
+use Rattle.gfs2_layout.specs.Area.{Slot, IsRecordAt, first_named, slots_of}
 use Rattle.gfs2_layout.specs.Cutting.{slot_from, slots_without}
 use Rattle.linear_dirs.specs.declared.removing.Place.{Place}
-use Rattle.linear_dirs.specs.Exchanges.{IsCutFrom}
-use Rattle.linear_dirs.specs.Reading.{IsPlaceOf}
-use Rattle.gfs2_layout.specs.Records.{record_named}
-use Rattle.gfs2_layout.specs.Inode.{records_of}
+use Rattle.linear_dirs.specs.Exchanges.{IsCutFrom, HasExchanged, uncounted}
+use Rattle.linear_dirs.specs.Reading.{IsAreaIn, IsDinodeIn, IsPlaceOf, IsBlockPut, IsDirectoryOf, IsFewer}
+use Rattle.gfs2_layout.specs.Records.{record_named, Record, IsRecordArea, records_in, record_of, said_by}
+use Rattle.gfs2_layout.specs.Inode.{has_hash_flag, records_of, dinode_in, linear_area}
 use Rattle.linear_dirs.proofs.Looked.{records_are}
 use Rattle.std.proofs.Common.{◌≡◌, ◌≢◌, IsTrue, ℕ, ◌+◌, ◌≤◌, List, [], ◌∷◌, length, drop, Some, refl, sym, ap, ◌∙◌, subst, arith}
 use Rattle.std.specs.Prelude.{not, ◌&&◌, ◌==◌}
 use Rattle.std.proofs.lemmas.Bool.Decides.{nat_tests}
 use Rattle.drafts.specs.Fates.{Drafted}
-use Rattle.gfs2_layout.specs.Area.{slots_of}
 use Rattle.gfs2_layout.specs.Exchanges.{IsExchanged, IsCounted, directory_count}
 use Rattle.gfs2_layout.specs.Holding.{Holding}
-use Rattle.gfs2_layout.specs.Inode.{dinode_in, linear_area}
 use Rattle.gfs2_layout.specs.Putting.{IsEntryOf, HasOneMore, new_says, says, told, put_slot}
-use Rattle.gfs2_layout.specs.Records.{Record, IsRecordArea, records_in, record_of, said_by}
-use Rattle.gfs2_layout.specs.Structures.{dinode_length}
+use Rattle.gfs2_layout.specs.Structures.{dinode_length, dinode_of, header_fault, is_directory}
 use Rattle.gfs2_layout.specs.declared.dinode.Dinode.{Dinode}
 use Rattle.gfs2_layout.specs.declared.dirent.Dirent.{Dirent}
+use Rattle.gfs2_layout.proofs.HeaderLaws.{answer_ok}
 use Rattle.glock_names.specs.Views.{Seen}
 use Rattle.glock_names.specs.declared.steps.Entry.{Entry}
 use Rattle.dinode_tree.specs.Reading.{inode_lock}
 use Rattle.dinode_tree.specs.Shown.{IsShown}
-use Rattle.linear_dirs.specs.Exchanges.{HasExchanged, uncounted}
-use Rattle.linear_dirs.specs.Reading.{IsBlockPut, IsDirectoryOf, IsFewer}
-use Rattle.linear_dirs.specs.Shown.{record_for, head_for, holding_over, seen_in}
+use Rattle.linear_dirs.specs.Shown.{IsLinearIn, record_for, head_for, holding_over, seen_in}
 use Rattle.linear_dirs.proofs.Counts.{counts_more, counts_fewer}
 use Rattle.linear_dirs.proofs.Puts.{came, went}
-use Rattle.linear_dirs.proofs.Rewritten.{IsRewritten, IsWritten, rewritten, exchanged, kept, area_new}
+use Rattle.linear_dirs.proofs.Rewritten.{seen_at, IsRewritten, IsWritten, rewritten, exchanged, kept, area_new}
 
 module _ {V : Type 0} (seen : V → Seen) (old new : Drafted V) (dir : ℕ) (h : Holding) (d : Dinode) (area : List ℕ) (d' : Dinode) (now : List ℕ) (shown : IsShown (seen_in seen old) dir h)
     (is : IsDirectoryOf h d area) (put : IsBlockPut seen old new dir d' now) (same : uncounted d' ≡ uncounted d) where
@@ -88,3 +84,19 @@ one_named h d area name r q is named there = inside (sym there ∙ ap (λ (rs : 
   where
     inside : Some q ≡ Some r → q ≡ r
     inside e = cc
+
+-- the directory isn't hashed afterwards
+pub still_linear : {V : Type 0} (seen : V → Seen) (old new : Drafted V) (dir : ℕ) (d d' : Dinode) (area now : List ℕ) → IsLinearIn (seen_in seen old) dir → IsDinodeIn (seen_in seen old) dir d → IsAreaIn (seen_in seen old) dir area
+    → uncounted d' ≡ uncounted d → IsBlockPut seen old new dir d' now → IsLinearIn (seen_in seen new) dir
+still_linear {V} seen old new dir d d' area now linear dinode there same put bytes at =
+    let is : dinode_of bytes ≡ d' = ap dinode_of (inside (sym at ∙ ap (λ (x : Drafted V). (seen_in seen x).block_at dir) put.put ∙ seen_at (seen old.view) old.fates dir (inode_lock dir) now))
+    ∙ (answer_ok (header_fault dinode_length 4 400 now) (dinode_of now) d' put.read).1 in
+    let kept : uncounted (dinode_of bytes) ≡ uncounted (dinode_of there.bytes) = ap uncounted is ∙ same ∙ ap uncounted (dinode there.bytes there.there) in
+    let was = linear there.bytes there.there in
+    (ap is_directory kept ∙ was.0, ap has_hash_flag kept ∙ was.1)
+  where
+    inside : {x y : List ℕ} → Some x ≡ Some y → x ≡ y
+    inside e = cc
+
+pub same_linear : {V : Type 0} (seen : V → Seen) (old new : Drafted V) (dir : ℕ) → IsLinearIn (seen_in seen old) dir → new ≡ old → IsLinearIn (seen_in seen new) dir
+same_linear {V} seen old new dir linear same = subst (λ (x : Drafted V). IsLinearIn (seen_in seen x) dir) (sym same) linear
