@@ -1,0 +1,8 @@
+pub mod Records
+pub mod Looked
+pub mod Puts
+pub mod Rewritten
+pub mod Counts
+pub mod Exchanged
+pub mod Unbroken
+pub mod Begun
