@@ -17,17 +17,17 @@ Said = Dirent × List ℕ
 
 -- ---- the records in use, one by one
 
-told_used : (s : Slot) (later : List Slot) → is_in_use s.head ≡ true → told (s ∷ later) ≡ says s ∷ told later
+pub told_used : (s : Slot) (later : List Slot) → is_in_use s.head ≡ true → told (s ∷ later) ≡ says s ∷ told later
 told_used s later used = rw used refl
 
-told_unused : (s : Slot) (later : List Slot) → is_in_use s.head ≡ false → told (s ∷ later) ≡ told later
+pub told_unused : (s : Slot) (later : List Slot) → is_in_use s.head ≡ false → told (s ∷ later) ≡ told later
 told_unused s later unused = rw unused refl
 
 -- the first record of a name is the first that tells it
-abbrev tells_name : List ℕ → Said → Bool
+abbrev pub tells_name : List ℕ → Said → Bool
 tells_name name said = bytes_eq said.1 name
 
-first_told : (name : List ℕ) (slots : List Slot) → option_map says (first_named name slots) ≡ find (tells_name name) (told slots)
+pub first_told : (name : List ℕ) (slots : List Slot) → option_map says (first_named name slots) ≡ find (tells_name name) (told slots)
 first_told name [] = refl
 first_told name (s ∷ later) = elim (cases_Bool (is_in_use s.head)) [
   | inr unused ↦ rw unused (first_told name later)
@@ -39,10 +39,10 @@ first_told name (s ∷ later) = elim (cases_Bool (is_in_use s.head)) [
 
 -- ---- one more
 
-one_more_here : {X : Type 0} (x : X) (xs : List X) → HasOneMore x xs (x ∷ xs)
+pub one_more_here : {X : Type 0} (x : X) (xs : List X) → HasOneMore x xs (x ∷ xs)
 one_more_here x xs = record { front = []; back = xs; was = refl; is = refl }
 
-one_more_later : {X : Type 0} (y x : X) (before after : List X) → HasOneMore x before after → HasOneMore x (y ∷ before) (y ∷ after)
+pub one_more_later : {X : Type 0} (y x : X) (before after : List X) → HasOneMore x before after → HasOneMore x (y ∷ before) (y ∷ after)
 one_more_later {X} y x before after more = record {
   front = y ∷ more.front;
   back = more.back;
@@ -50,23 +50,53 @@ one_more_later {X} y x before after more = record {
   is = ap (λ (xs : List X). y ∷ xs) more.is;
 }
 
-one_more_of : {X : Type 0} (x : X) (before after before' after' : List X) → before ≡ before' → after ≡ after' → HasOneMore x before' after' → HasOneMore x before after
+pub one_more_of : {X : Type 0} (x : X) (before after before' after' : List X) → before ≡ before' → after ≡ after' → HasOneMore x before' after' → HasOneMore x before after
 one_more_of x before after before' after' was is more = record { front = more.front; back = more.back; was = was ∙ more.was; is = is ∙ more.is }
+
+-- and one more after a record that stays
+pub told_later : (x : Said) (s : Slot) (later rest : List Slot) → HasOneMore x (told later) (told rest) → HasOneMore x (told (s ∷ later)) (told (s ∷ rest))
+told_later x s later rest more = elim (cases_Bool (is_in_use s.head)) [
+  | inr unused ↦ one_more_of x (told (s ∷ later)) (told (s ∷ rest)) (told later) (told rest) (told_unused s later unused) (told_unused s rest unused) more
+  | inl used ↦ one_more_of x (told (s ∷ later)) (told (s ∷ rest)) (says s ∷ told later) (says s ∷ told rest) (told_used s later used) (told_used s rest used)
+      (one_more_later (says s) x (told later) (told rest) more)
+]
 
 least_holds_name : (n : ℕ) → n ≤ least_length n - 40
 least_holds_name n = omega arith
 
-says_cut : (s : Slot) → says (cut_short s) ≡ says s
+pub says_cut : (s : Slot) → says (cut_short s) ≡ says s
 says_cut s = ap (λ (name : List ℕ). let said : Said = (record s.head { rec_len = 0 }, name) in said) (take-take s.head.name_len (least_length s.head.name_len - 40) s.body (least_holds_name s.head.name_len))
 
 says_new : (entry : Dirent) (name over : List ℕ) → IsEntryOf entry name → says (new_slot entry name over) ≡ new_says entry name
 says_new entry name over of = ap (λ (n : List ℕ). let said : Said = (record entry { rec_len = 0 }, n) in said) (take_at name (drop (length name) over) entry.name_len (sym of.name_len))
 
-some_is : {X : Type 0} {x y : X} → ◌≡◌ {A = Option X} (Some x) (Some y) → x ≡ y
+pub some_is : {X : Type 0} {x y : X} → ◌≡◌ {A = Option X} (Some x) (Some y) → x ≡ y
 some_is e = cc
 
-some_none : {X : Type 0} {x : X} → ◌≡◌ {A = Option X} (Some x) None → ⊥
+pub some_none : {X : Type 0} {x : X} → ◌≡◌ {A = Option X} (Some x) None → ⊥
 some_none e = cc
+
+pub none_before : {X Y : Type 0} (f : X → Y) (o : Option X) → option_map f o ≡ None → o ≡ None
+none_before f None e = refl
+none_before f (Some x) e = absurd (some_none e)
+
+-- what holds where a record is put into the first one, and stays so behind others, holds wherever it is put
+pub put_by : (entry : Dirent) (name : List ℕ) (P : List Slot → List Slot → Type 0) → ((s : Slot) (later : List Slot) → P (s ∷ later) (put_into entry name s ++ later))
+    → ((s : Slot) (later rest : List Slot) → P later rest → P (s ∷ later) (s ∷ rest)) → (slots after : List Slot) → put_slot entry name slots ≡ Some after → P slots after
+put_by entry name P here behind [] after put = absurd (some_none (sym put))
+put_by entry name P here behind (s ∷ later) after put = elim (cases_Bool (has_room (least_length (length name)) s)) [
+  | inl room ↦ subst (P (s ∷ later)) (some_is (sym (cond-true _ (Some (put_into entry name s ++ later)) (option_map (λ (ss : List Slot). s ∷ ss) (put_slot entry name later)) room) ∙ put)) (here s later)
+  | inr full ↦ on (put_slot entry name later) (λ rest e. put_by entry name P here behind later rest e) refl
+      (sym (cond-false _ (Some (put_into entry name s ++ later)) (option_map (λ (ss : List Slot). s ∷ ss) (put_slot entry name later)) full) ∙ put)
+]
+  where
+    on : (o : Option (List Slot)) → ((rest : List Slot) → o ≡ Some rest → P later rest) → put_slot entry name later ≡ o → option_map (λ (ss : List Slot). s ∷ ss) o ≡ Some after → P (s ∷ later) after
+    on None more is e = absurd (some_none (sym e))
+    on (Some rest) more is e = subst (P (s ∷ later)) (some_is e) (behind s later rest (more rest refl))
+
+pub into_used : (entry : Dirent) (name : List ℕ) (s : Slot) (later : List Slot) → is_in_use s.head ≡ true
+    → put_into entry name s ++ later ≡ cut_short s ∷ (new_slot entry name (drop (least_length s.head.name_len) s.body) ∷ later)
+into_used entry name s later used = rw used refl
 
 module _ (entry : Dirent) (name : List ℕ) (of : IsEntryOf entry name) where
   told_new : (over : List ℕ) (later : List Slot) → told (new_slot entry name over ∷ later) ≡ new_says entry name ∷ told later
@@ -77,39 +107,18 @@ module _ (entry : Dirent) (name : List ℕ) (of : IsEntryOf entry name) where
     | inr unused ↦ rw unused (one_more_of (new_says entry name) (told later) (told (new_slot entry name s.body ∷ later)) (told later) (new_says entry name ∷ told later) refl (told_new s.body later) (one_more_here (new_says entry name) (told later)))
     | inl used ↦ one_more_of (new_says entry name) (told (s ∷ later)) (told (put_into entry name s ++ later)) (says s ∷ told later) (says s ∷ (new_says entry name ∷ told later)) (told_used s later used)
         (
-        ap told (into_used s later used) ∙ told_used (cut_short s) (new_slot entry name (drop (least_length s.head.name_len) s.body) ∷ later) used
+        ap told (into_used entry name s later used) ∙ told_used (cut_short s) (new_slot entry name (drop (least_length s.head.name_len) s.body) ∷ later) used
         ∙ (λ i. says_cut s i ∷ told_new (drop (least_length s.head.name_len) s.body) later i)
         )
         (one_more_later (says s) (new_says entry name) (told later) (new_says entry name ∷ told later) (one_more_here (new_says entry name) (told later)))
   ]
-    where
-      into_used : (s : Slot) (later : List Slot) → is_in_use s.head ≡ true → put_into entry name s ++ later ≡ cut_short s ∷ (new_slot entry name (drop (least_length s.head.name_len) s.body) ∷ later)
-      into_used s later used = rw used refl
-
-  told_later : (s : Slot) (later rest : List Slot) → HasOneMore (new_says entry name) (told later) (told rest) → HasOneMore (new_says entry name) (told (s ∷ later)) (told (s ∷ rest))
-  told_later s later rest more = elim (cases_Bool (is_in_use s.head)) [
-    | inr unused ↦ one_more_of (new_says entry name) (told (s ∷ later)) (told (s ∷ rest)) (told later) (told rest) (told_unused s later unused) (told_unused s rest unused) more
-    | inl used ↦ one_more_of (new_says entry name) (told (s ∷ later)) (told (s ∷ rest)) (says s ∷ told later) (says s ∷ told rest) (told_used s later used) (told_used s rest used)
-        (one_more_later (says s) (new_says entry name) (told later) (told rest) more)
-  ]
 
   pub told_put : (slots after : List Slot) → put_slot entry name slots ≡ Some after → HasOneMore (new_says entry name) (told slots) (told after)
-  told_put [] after put = absurd (some_none (sym put))
-  told_put (s ∷ later) after put = elim (cases_Bool (has_room (least_length (length name)) s)) [
-    | inl room ↦ subst (λ (ss : List Slot). HasOneMore (new_says entry name) (told (s ∷ later)) (told ss))
-        (some_is (sym (cond-true _ (Some (put_into entry name s ++ later)) (option_map (λ (ss : List Slot). s ∷ ss) (put_slot entry name later)) room) ∙ put)) (told_into s later)
-    | inr full ↦ on (put_slot entry name later) (λ rest e. told_put later rest e) refl
-        (sym (cond-false _ (Some (put_into entry name s ++ later)) (option_map (λ (ss : List Slot). s ∷ ss) (put_slot entry name later)) full) ∙ put)
-  ]
-    where
-      on : (o : Option (List Slot)) → ((rest : List Slot) → o ≡ Some rest → HasOneMore (new_says entry name) (told later) (told rest)) → put_slot entry name later ≡ o → option_map (λ (ss : List Slot). s ∷ ss) o ≡ Some after
-          → HasOneMore (new_says entry name) (told (s ∷ later)) (told after)
-      on None more is e = absurd (some_none (sym e))
-      on (Some rest) more is e = subst (λ (ss : List Slot). HasOneMore (new_says entry name) (told (s ∷ later)) (told ss)) (some_is e) (told_later s later rest (more rest refl))
+  told_put = put_by entry name (λ slots after. HasOneMore (new_says entry name) (told slots) (told after)) told_into (told_later (new_says entry name))
 
 -- ---- what is found
 
-find_other : {X : Type 0} (p : X → Bool) (front back : List X) (x : X) → p x ≡ false → find p (front ++ x ∷ back) ≡ find p (front ++ back)
+pub find_other : {X : Type 0} (p : X → Bool) (front back : List X) (x : X) → p x ≡ false → find p (front ++ x ∷ back) ≡ find p (front ++ back)
 find_other p [] back x not_it = cond-false _ (Some x) (find p back) not_it
 find_other p (y ∷ front) back x not_it = ap (cond (p y) (Some y)) (find_other p front back x not_it)
 
@@ -120,7 +129,7 @@ find_same p (y ∷ front) back x it none = elim (cases_Bool (p y)) [
   | inr non ↦ cond-false _ (Some y) (find p (front ++ x ∷ back)) non ∙ find_same p front back x it (sym (cond-false _ (Some y) (find p (front ++ back)) non) ∙ none)
 ]
 
-unlike : (n m : List ℕ) → n ≢ m → bytes_eq n m ≡ false
+pub unlike : (n m : List ℕ) → n ≢ m → bytes_eq n m ≡ false
 unlike n m d = elim (cases_Bool (bytes_eq n m)) [ inl so ↦ absurd (d ((bytes_eq-Decides n m).0 so)) | inr non ↦ non ]
 
 pub found_new : (entry : Dirent) (name : List ℕ) (slots after : List Slot) → IsEntryOf entry name → put_slot entry name slots ≡ Some after → first_named name slots ≡ None
@@ -143,9 +152,5 @@ pub no_room : (entry : Dirent) (name : List ℕ) (slots : List Slot) → (put_sl
 no_room entry name [] = (λ e. refl, λ e. refl)
 no_room entry name (s ∷ later) = elim (cases_Bool (has_room (least_length (length name)) s)) [
   | inl room ↦ rw room (λ e. absurd (some_none e), λ e. absurd (true≢false e))
-  | inr full ↦ rw full (λ e. (no_room entry name later).0 (none_of (put_slot entry name later) e), λ e. ap (option_map (λ (ss : List Slot). s ∷ ss)) ((no_room entry name later).1 e))
+  | inr full ↦ rw full (λ e. (no_room entry name later).0 (none_before (λ (ss : List Slot). s ∷ ss) (put_slot entry name later) e), λ e. ap (option_map (λ (ss : List Slot). s ∷ ss)) ((no_room entry name later).1 e))
 ]
-  where
-    none_of : (o : Option (List Slot)) → option_map (λ (ss : List Slot). s ∷ ss) o ≡ None → o ≡ None
-    none_of None e = refl
-    none_of (Some rest) e = absurd (some_none e)

@@ -4,7 +4,10 @@ pub mod Places
 pub mod Written
 pub mod PutHere
 pub mod PutRecord
+pub mod Cut
 pub mod FoundAfter
+pub mod CutAfter
+pub mod Exchanged
 pub mod Spelled
 pub mod BitmapLaws
 pub mod InPlace

@@ -1,5 +1,5 @@
 -- Areas that are joined, and places in an area.
-use Rattle.std.proofs.Common.{◌≡◌, ℕ, zero, suc, ◌+◌, ◌-◌, ◌≤◌, true, false, List, [], ◌∷◌, ◌++◌, length, take, drop, refl, sym, ap, ◌∙◌, subst, arith, length-append}
+use Rattle.std.proofs.Common.{◌≡◌, ℕ, zero, suc, ◌+◌, ◌-◌, ◌≤◌, true, false, List, [], ◌∷◌, ◌++◌, length, take, drop, refl, sym, ap, ◌∙◌, subst, arith, length-append, length-drop}
 use Rattle.std.specs.Prelude.{sum_by}
 use Rattle.std.specs.Int.{Width, w16, w32, w64, byte_len, from_be_bytes}
 use Rattle.std.specs.List.{AllByRecursion, list_any}
@@ -10,7 +10,7 @@ use Rattle.std.proofs.lemmas.List.{take-take, drop-take, drop-drop, take_all, ta
 use Rattle.std.proofs.lemmas.List.Sums.{sum_by-cons}
 use Rattle.gfs2_layout.specs.Bytes.{slice, number_at, u16_at}
 use Rattle.gfs2_layout.specs.Structures.{dirent_of}
-use Rattle.gfs2_layout.specs.Area.{Slot, slot_at, slot_length, has_no_record, slots_within, slots_of, HasItsName, IsArea}
+use Rattle.gfs2_layout.specs.Area.{Slot, slot_at, slot_length, has_no_record, slots_within, slots_of, HasItsName, IsArea, IsRecordAt}
 use Rattle.gfs2_layout.specs.declared.dirent.Dirent.{Dirent}
 use Rattle.gfs2_layout.specs.Putting.{has_room, IsFirstWithRoom}
 use Rattle.gfs2_layout.proofs.Records.{behind, record_length, length_behind, one_here, same_slots, area_on, area_ends}
@@ -73,7 +73,7 @@ area_none bytes none = record {
 -- ---- areas joined
 
 -- a list that begins with a record, before others
-record IsBefore (a b : List ℕ) : Type 0 where
+pub record IsBefore (a b : List ℕ) : Type 0 where
   pub good : has_no_record (a ++ b) ≡ false
   pub slot : slot_at (a ++ b) ≡ slot_at a
   pub later : behind (a ++ b) ≡ behind a ++ b
@@ -81,7 +81,7 @@ record IsBefore (a b : List ℕ) : Type 0 where
 pub no_less : (bytes : List ℕ) (n : ℕ) → 40 ≤ n → n ≤ length bytes → u16_at 20 bytes ≡ n → has_no_record bytes ≡ false
 no_less bytes n low high is = grind (arith, nat_tests)
 
-before_others : (a b : List ℕ) → has_no_record a ≡ false → IsBefore a b
+pub before_others : (a b : List ℕ) → has_no_record a ≡ false → IsBefore a b
 before_others a b good =
     let long = record_length a good in
     let same : take (length a) (a ++ b) ≡ take (length a) a = take_at a b (length a) refl ∙ sym (take_at a [] (length a) refl) ∙ ap (take (length a)) (append-nil a) in
@@ -137,6 +137,60 @@ alone rest good here =
       area = area_back (take n rest) fine (subst HasItsName slot here) (area_none (behind (take n rest)) none);
     }
 
+-- a place between the records of an area, and the rest from there on
+pub record IsBetween (area : List ℕ) (at : ℕ) (rest : List ℕ) : Type 0 where
+  pub within : at + length rest ≡ length area
+  pub rest_is : rest ≡ drop at area
+  pub before : IsArea (take at area)
+  pub later : IsArea rest
+  pub opens : 1 ≤ length rest → has_no_record rest ≡ false
+
+opens_area : (area : List ℕ) → IsArea area → 1 ≤ length area → has_no_record area ≡ false
+opens_area area is some = (area_on area some is).good
+
+pub begins : (area : List ℕ) → IsArea area → IsBetween area 0 area
+begins area is = record { within = omega arith; rest_is = refl; before = area_none [] refl; later = is; opens = opens_area area is }
+
+pub record_at : (area : List ℕ) (at : ℕ) (rest : List ℕ) → IsBetween area at rest → 1 ≤ length rest → IsRecordAt area at
+record_at area at rest is some = record { within = omega (arith, is.within, some); before = is.before; later = subst IsArea is.rest_is is.later }
+
+pub take_on : (at n : ℕ) (bytes : List ℕ) → at ≤ length bytes → take (at + n) bytes ≡ take at bytes ++ take n (drop at bytes)
+take_on at n bytes within =
+    let size = length-take-le at bytes within in
+    (λ i. take (sym size i + n) (sym (take-append-drop at bytes) i)) ∙ take-append-add (take at bytes) (drop at bytes) n
+
+-- the records before a place, the one that begins there, and those behind it
+pub split_at : (area : List ℕ) (at : ℕ) → IsRecordAt area at → slots_of area ≡ slots_of (take at area) ++ slot_at (drop at area) ∷ slots_of (behind (drop at area))
+split_at area at is =
+    ap slots_of (sym (take-append-drop at area)) ∙ (joined (take at area) (drop at area) is.before).slots
+    ∙ ap (λ (ss : List Slot). slots_of (take at area) ++ ss) (area_on (drop at area) (omega (arith, length-drop at area, is.within)) is.later).slots
+
+pub behind_place : (area : List ℕ) (at : ℕ) → behind (drop at area) ≡ drop (at + u16_at 20 (drop at area)) area
+behind_place area at = drop-drop (u16_at 20 (drop at area)) at area ∙ ap (λ (k : ℕ). drop k area) (omega arith)
+
+-- the place behind the record that begins there
+pub record GoesOn (area : List ℕ) (at : ℕ) (rest : List ℕ) : Type 0 where
+  pub place : IsBetween area (at + u16_at 20 rest) (behind rest)
+  pub slots : slots_of (take (at + u16_at 20 rest) area) ≡ slots_of (take at area) ++ slot_at rest ∷ []
+
+pub goes_on : (area : List ℕ) (at : ℕ) (rest : List ℕ) → IsBetween area at rest → 1 ≤ length rest → GoesOn area at rest
+goes_on area at rest is some =
+    let n = u16_at 20 rest in
+    let on = area_on rest some is.later in
+    let one = alone rest on.good on.here in
+    let both = joined (take at area) (take n rest) is.before in
+    let taken : take (at + n) area ≡ take at area ++ take n rest = take_on at n area (omega (arith, is.within)) ∙ ap (λ (r : List ℕ). take at area ++ take n r) (sym is.rest_is) in
+    record {
+      place = record {
+        within = omega (arith, is.within, length_behind rest on.good);
+        rest_is = ap (drop n) is.rest_is ∙ drop-drop n at area;
+        before = subst IsArea (sym taken) (both.area one.area);
+        later = on.later;
+        opens = opens_area (behind rest) on.later;
+      };
+      slots = ap slots_of taken ∙ both.slots ∙ ap (λ (ss : List Slot). slots_of (take at area) ++ ss) one.slots;
+    }
+
 -- up to a place the records have no room; from it on the area goes on
 pub record IsPlace (needed : ℕ) (area : List ℕ) (at : ℕ) (rest : List ℕ) : Type 0 where
   pub within : at + length rest ≡ length area
@@ -145,9 +199,6 @@ pub record IsPlace (needed : ℕ) (area : List ℕ) (at : ℕ) (rest : List ℕ)
   pub none : list_any (has_room needed) (slots_of (take at area)) ≡ false
   pub later : IsArea rest
   pub opens : 1 ≤ length rest → has_no_record rest ≡ false
-
-opens_area : (area : List ℕ) → IsArea area → 1 ≤ length area → has_no_record area ≡ false
-opens_area area is some = (area_on area some is).good
 
 pub first_place : (needed : ℕ) (area : List ℕ) → IsArea area → IsPlace needed area 0 area
 first_place needed area is = record {
@@ -159,30 +210,17 @@ first_place needed area is = record {
   opens = opens_area area is;
 }
 
-pub take_on : (at n : ℕ) (bytes : List ℕ) → at ≤ length bytes → take (at + n) bytes ≡ take at bytes ++ take n (drop at bytes)
-take_on at n bytes within =
-    let size = length-take-le at bytes within in
-    (λ i. take (sym size i + n) (sym (take-append-drop at bytes) i)) ∙ take-append-add (take at bytes) (drop at bytes) n
-
 pub next_place : (needed : ℕ) (area : List ℕ) (at : ℕ) (rest : List ℕ) → IsPlace needed area at rest → 1 ≤ length rest → has_room needed (slot_at rest) ≡ false
     → IsPlace needed area (at + u16_at 20 rest) (behind rest)
 next_place needed area at rest is some full =
-    let n = u16_at 20 rest in
-    let on = area_on rest some is.later in
-    let one = alone rest on.good on.here in
-    let size = length_behind rest on.good in
-    let both = joined (take at area) (take n rest) is.before in
-    let taken : take (at + n) area ≡ take at area ++ take n rest = take_on at n area (omega (arith, is.within)) ∙ ap (λ (r : List ℕ). take at area ++ take n r) (sym is.rest_is) in
+    let on = goes_on area at rest (record { within = is.within; rest_is = is.rest_is; before = is.before; later = is.later; opens = is.opens }) some in
     record {
-      within = omega (arith, is.within, size);
-      rest_is = ap (drop n) is.rest_is ∙ drop-drop n at area;
-      before = subst IsArea (sym taken) (both.area one.area);
-      none = ap (λ (x : List ℕ). list_any (has_room needed) (slots_of x)) taken
-          ∙ ap (list_any (has_room needed)) (both.slots ∙ ap (λ (ss : List Slot). slots_of (take at area) ++ ss) one.slots)
-          ∙ list_any-append (has_room needed) (slots_of (take at area)) (slot_at rest ∷ [])
-          ∙ rw (is.none, full) refl;
-      later = on.later;
-      opens = opens_area (behind rest) on.later;
+      within = on.place.within;
+      rest_is = on.place.rest_is;
+      before = on.place.before;
+      none = ap (list_any (has_room needed)) on.slots ∙ list_any-append (has_room needed) (slots_of (take at area)) (slot_at rest ∷ []) ∙ rw (is.none, full) refl;
+      later = on.place.later;
+      opens = on.place.opens;
     }
 
 pub last_place : (needed : ℕ) (area : List ℕ) (at : ℕ) (rest : List ℕ) → IsPlace needed area at rest → length rest ≡ 0 → list_any (has_room needed) (slots_of area) ≡ false

@@ -2,13 +2,12 @@
 use Rattle.std.proofs.Common.{◌≡◌, ℕ, ◌-◌, ◌≤◌, Bool, true, false, List, [], ◌∷◌, ◌++◌, length, take, drop, Some, refl, sym, ap, ◌∙◌, subst, arith, length-drop}
 use Rattle.std.specs.List.{list_any}
 use Rattle.std.specs.Option.{option_map}
-use Rattle.std.proofs.lemmas.List.{take-append-drop}
 use Rattle.std.proofs.lemmas.List.Folds.{list_any-append}
 use Rattle.gfs2_layout.specs.Area.{Slot, slot_at, slots_of, IsArea}
 use Rattle.gfs2_layout.specs.Putting.{IsEntryOf, least_length, has_room, put_into, put_slot, IsFirstWithRoom}
 use Rattle.gfs2_layout.specs.declared.dirent.Dirent.{Dirent}
-use Rattle.gfs2_layout.proofs.Records.{behind, area_on}
-use Rattle.gfs2_layout.proofs.Places.{joined}
+use Rattle.gfs2_layout.proofs.Records.{behind}
+use Rattle.gfs2_layout.proofs.Places.{joined, split_at}
 use Rattle.gfs2_layout.proofs.PutHere.{IsPut, end_part, end_put}
 use borrow.Rule.Slice.PartMut.{put_mid}
 
@@ -45,9 +44,7 @@ module _ (area name : List ℕ) (entry : Dirent) (needed at : ℕ) (needs : need
   part_has_room = (λ i. has_room (sym needs i) (slot_at (part i))) ∙ first.room
 
   slots_split : slots_of area ≡ slots_of (take at area) ++ slot_at (drop at area) ∷ slots_of (behind (drop at area))
-  slots_split =
-      ap slots_of (sym (take-append-drop at area)) ∙ (joined (take at area) (drop at area) first.before).slots
-      ∙ ap (λ (ss : List Slot). slots_of (take at area) ++ ss) (area_on (drop at area) some_here first.later).slots
+  slots_split = split_at area at (record { within = first.within; before = first.before; later = first.later })
 
   none_before : list_any (has_room (least_length (length name))) (slots_of (take at area)) ≡ false
   none_before = ap (λ (n : ℕ). list_any (has_room n) (slots_of (take at area))) (sym needs) ∙ first.none

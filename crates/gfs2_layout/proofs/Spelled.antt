@@ -56,7 +56,7 @@ module _ (bytes : List ℕ) (low : AreBytes bytes) (long : 40 ≤ length bytes) 
       ∙ ap (λ (b : List ℕ). slice 0 8 bytes ++ b) (join 8 8 12 (omega arith))
       ∙ join 0 8 20 (omega arith)
 
-  spelled_slot : 40 ≤ u16_at 20 bytes → slot_bytes (slot_at bytes) ≡ take (u16_at 20 bytes) bytes
+  pub spelled_slot : 40 ≤ u16_at 20 bytes → slot_bytes (slot_at bytes) ≡ take (u16_at 20 bytes) bytes
   unfolding slot_bytes
   spelled_slot fits =
       ap (λ (b : List ℕ). b ++ (slice 28 12 bytes ++ slice 40 (u16_at 20 bytes - 40) bytes)) spelled_head

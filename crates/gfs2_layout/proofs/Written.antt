@@ -9,9 +9,9 @@ use Rattle.gfs2_layout.specs.Structures.{dirent_of, is_in_use}
 use Rattle.gfs2_layout.specs.Area.{Slot, slot_at, slots_of, HasItsName, IsArea}
 use Rattle.gfs2_layout.specs.Putting.{least_length, has_room, new_slot}
 use Rattle.gfs2_layout.specs.declared.dirent.Dirent.{Dirent}
-use Rattle.gfs2_layout.proofs.InPlace.{slice-put_same, slice-put_before, drop-put, length-put, is_width_16, number-with_same, number-with_other, slice-with_other}
+use Rattle.gfs2_layout.proofs.InPlace.{slice-put_same, slice-put_before, drop-put, length-put, is_width_16, is_width_64, length-with, number-with_same, number-with_other, slice-with_other}
 use Rattle.gfs2_layout.proofs.Records.{behind}
-use Rattle.gfs2_layout.proofs.Places.{head_front, slots_on, area_back, no_less}
+use Rattle.gfs2_layout.proofs.Places.{head_front, slots_on, area_back, no_less, take_on}
 
 -- a head was written over bytes, then a pad, then a name
 module _ (bytes headed pad name : List ℕ) (twelve : length pad ≡ 12) (kept : drop 40 headed ≡ drop 40 bytes) (size : length headed ≡ length bytes) (fits : 40 + length name ≤ length bytes) where
@@ -101,25 +101,72 @@ pub unused_room : (needed : ℕ) (s : Slot) → has_room needed s ≡ true → i
 unused_room needed s room unused = grind (arith, nat_tests, room, unused)
 
 -- a record's length is changed: its head else, its pad and the bytes behind it stay
-pub cut : (bytes : List ℕ) (least : ℕ) → 40 ≤ least → least ≤ u16_at 20 bytes → u16_at 20 bytes ≤ length bytes → least < 2 ^ 16
-    → slot_at (with_number w16 20 least bytes) ≡ record { head = record (slot_at bytes).head { rec_len = least }; pad = (slot_at bytes).pad; body = take (least - 40) (slot_at bytes).body }
-cut bytes least low less inside short =
-    let fits : 20 + 2 ≤ length bytes = omega (arith, low, less, inside) in
-    let other = λ (w : Width) (k : ℕ) (apart : (22 ≤ k) ⊎ (k + byte_len w ≤ 20)). number-with_other w16 20 least bytes is_width_16 fits w k apart in
-    let size = number-with_same w16 20 least bytes is_width_16 fits short in
-    let body : slice 40 (u16_at 20 (with_number w16 20 least bytes) - 40) (with_number w16 20 least bytes) ≡ take (least - 40) (slice 40 (u16_at 20 bytes - 40) bytes) =
-    ap (λ (n : ℕ). slice 40 (n - 40) (with_number w16 20 least bytes)) size
-    ∙ slice-with_other w16 20 least bytes is_width_16 fits 40 (least - 40) (inl (omega arith))
-    ∙ sym (take-take (least - 40) (u16_at 20 bytes - 40) (drop 40 bytes) (omega (arith, less))) in
+pub sized : (bytes : List ℕ) (size : ℕ) → 40 ≤ length bytes → size < 2 ^ 16
+    → slot_at (with_number w16 20 size bytes) ≡ record { head = record (slot_at bytes).head { rec_len = size }; pad = (slot_at bytes).pad; body = slice 40 (size - 40) bytes }
+sized bytes size long short =
+    let fits : 20 + 2 ≤ length bytes = omega (arith, long) in
+    let other = λ (w : Width) (k : ℕ) (apart : (22 ≤ k) ⊎ (k + byte_len w ≤ 20)). number-with_other w16 20 size bytes is_width_16 fits w k apart in
+    let same = number-with_same w16 20 size bytes is_width_16 fits short in
+    let body : slice 40 (u16_at 20 (with_number w16 20 size bytes) - 40) (with_number w16 20 size bytes) ≡ slice 40 (size - 40) bytes =
+    ap (λ (n : ℕ). slice 40 (n - 40) (with_number w16 20 size bytes)) same
+    ∙ slice-with_other w16 20 size bytes is_width_16 fits 40 (size - 40) (inl (omega arith)) in
     λ i. record {
       head = record {
         inum = record { number = other w64 0 (inr (omega arith)) i; address = other w64 8 (inr (omega arith)) i };
         hash = other w32 16 (inr (omega arith)) i;
-        rec_len = size i;
+        rec_len = same i;
         name_len = other w16 22 (inl (omega arith)) i;
         kind = other w16 24 (inl (omega arith)) i;
         rahead = other w16 26 (inl (omega arith)) i;
       };
-      pad = slice-with_other w16 20 least bytes is_width_16 fits 28 12 (inl (omega arith)) i;
+      pad = slice-with_other w16 20 size bytes is_width_16 fits 28 12 (inl (omega arith)) i;
       body = body i;
+    }
+
+-- a shorter record has the first of its bytes
+pub cut : (bytes : List ℕ) (least : ℕ) → 40 ≤ least → least ≤ u16_at 20 bytes → u16_at 20 bytes ≤ length bytes → least < 2 ^ 16
+    → slot_at (with_number w16 20 least bytes) ≡ record { head = record (slot_at bytes).head { rec_len = least }; pad = (slot_at bytes).pad; body = take (least - 40) (slot_at bytes).body }
+cut bytes least low less inside short =
+    sized bytes least (omega (arith, low, less, inside)) short
+    ∙ ap (λ (body : List ℕ). let s : Slot = record { head = record (dirent_of bytes) { rec_len = least }; pad = slice 28 12 bytes; body = body } in s)
+    (sym (take-take (least - 40) (u16_at 20 bytes - 40) (drop 40 bytes) (omega (arith, less))))
+
+-- a record that grows has the bytes behind its own
+pub grown : (bytes : List ℕ) (more : ℕ) → 40 ≤ u16_at 20 bytes → u16_at 20 bytes + more ≤ length bytes → u16_at 20 bytes + more < 2 ^ 16
+    → slot_at (with_number w16 20 (u16_at 20 bytes + more) bytes)
+    ≡ record { head = record (slot_at bytes).head { rec_len = u16_at 20 bytes + more }; pad = (slot_at bytes).pad; body = (slot_at bytes).body ++ take more (behind bytes) }
+grown bytes more low inside short =
+    let own : ℕ = u16_at 20 bytes - 40 in
+    let e : (u16_at 20 bytes + more) - 40 ≡ own + more = omega (arith, low) in
+    let f : own + 40 ≡ u16_at 20 bytes = omega (arith, low) in
+    sized bytes (u16_at 20 bytes + more) (omega (arith, low, inside)) short
+    ∙ ap (λ (body : List ℕ). let s : Slot = record { head = record (dirent_of bytes) { rec_len = u16_at 20 bytes + more }; pad = slice 28 12 bytes; body = body } in s) (
+    ap (λ (n : ℕ). take n (drop 40 bytes)) e ∙ take_on own more (drop 40 bytes) (omega (arith, length-drop 40 bytes, low, inside))
+    ∙ ap (λ (b : List ℕ). slice 40 own bytes ++ take more b) (drop-drop own 40 bytes ∙ ap (λ (n : ℕ). drop n bytes) (omega (arith, f)))
+    )
+
+-- a record's inum becomes zero
+pub unnumbered : (bytes : List ℕ) → 40 ≤ length bytes
+    → slot_at (with_number w64 8 0 (with_number w64 0 0 bytes)) ≡ record { head = record (slot_at bytes).head { inum = record { number = 0; address = 0 } }; pad = (slot_at bytes).pad; body = (slot_at bytes).body }
+unnumbered bytes long =
+    let first = with_number w64 0 0 bytes in
+    let second = with_number w64 8 0 first in
+    let fits : 0 + 8 ≤ length bytes = omega (arith, long) in
+    let fits' : 8 + 8 ≤ length first = omega (arith, long, length-with w64 0 0 bytes is_width_64 fits) in
+    let other = λ (w : Width) (k : ℕ) (far : 16 ≤ k). number-with_other w64 8 0 first is_width_64 fits' w k (inl (omega (arith, far))) ∙ number-with_other w64 0 0 bytes is_width_64 fits w k (inl (omega (arith, far))) in
+    let stay = λ (k m : ℕ) (far : 16 ≤ k). slice-with_other w64 8 0 first is_width_64 fits' k m (inl (omega (arith, far))) ∙ slice-with_other w64 0 0 bytes is_width_64 fits k m (inl (omega (arith, far))) in
+    λ i. record {
+      head = record {
+        inum = record {
+          number = (number-with_other w64 8 0 first is_width_64 fits' w64 0 (inr (omega arith)) ∙ number-with_same w64 0 0 bytes is_width_64 fits (omega arith)) i;
+          address = number-with_same w64 8 0 first is_width_64 fits' (omega arith) i;
+        };
+        hash = other w32 16 (omega arith) i;
+        rec_len = other w16 20 (omega arith) i;
+        name_len = other w16 22 (omega arith) i;
+        kind = other w16 24 (omega arith) i;
+        rahead = other w16 26 (omega arith) i;
+      };
+      pad = stay 28 12 (omega arith) i;
+      body = (ap (λ (n : ℕ). slice 40 (n - 40) second) (other w16 20 (omega arith)) ∙ stay 40 (u16_at 20 bytes - 40) (omega arith)) i;
     }

@@ -57,6 +57,12 @@ pub record IsArea (area : List ℕ) : Type 0 where
   pub filled : sum_by slot_length (slots_of area) ≡ length area
   pub named : AllByRecursion HasItsName (slots_of area)
 
+-- at this place of an area a record begins
+pub record IsRecordAt (area : List ℕ) (at : ℕ) : Type 0 where
+  pub within : at + 1 ≤ length area
+  pub before : IsArea (take at area)
+  pub later : IsArea (drop at area)
+
 -- the first record in use of this name
 abbrev pub has_name : List ℕ → Slot → Bool
 has_name name s = is_in_use s.head && bytes_eq (name_of s) name

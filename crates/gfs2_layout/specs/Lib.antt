@@ -5,12 +5,14 @@ pub mod Structures
 pub mod Writing
 pub mod Area
 pub mod Putting
+pub mod Cutting
 pub mod Bitmap
 pub mod Device
 pub mod Headers
 pub mod Groups
 pub mod Holding
 pub mod Records
+pub mod Exchanges
 pub mod Inode
 pub mod Journal
 pub mod Laws

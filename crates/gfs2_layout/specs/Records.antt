@@ -6,6 +6,7 @@ use Rattle.std.specs.Str.{bytes_eq}
 use Rattle.crc_words.specs.Remainder.{crc32_of}
 use Rattle.gfs2_layout.specs.Structures.{is_in_use}
 use Rattle.gfs2_layout.specs.Area.{Slot, name_of, slots_of, IsArea}
+use Rattle.gfs2_layout.specs.declared.dirent.Dirent.{Dirent}
 
 -- a name, and what it repeats of the dinode that it leads to: the formal number, the block, and 4 for a directory or 8 for a regular file
 pub record Record : Type 0 where
@@ -16,6 +17,10 @@ pub record Record : Type 0 where
 
 abbrev pub record_of : Slot → Record
 record_of s = record { name = name_of s; number = s.head.inum.number; address = s.head.inum.address; kind = s.head.kind }
+
+-- what a head and a name say
+abbrev pub said_by : Dirent → List ℕ → Record
+said_by head name = record { name = name; number = head.inum.number; address = head.inum.address; kind = head.kind }
 
 -- what the records in use say, in order
 unfoldable pub records_in : List ℕ → List Record

@@ -1,7 +1,7 @@
-ghost use Rattle.std.specs.Prelude.{◌≡◌, ◌+◌, ◌^◌, ◌≤◌, ◌<◌, ◌↔◌, length, drop, [], Some, None, false, IsTrue, MatchOption};
+ghost use Rattle.std.specs.Prelude.{◌≡◌, ◌+◌, ◌^◌, ◌≤◌, ◌<◌, ◌↔◌, length, drop, [], Some, None, false, IsTrue, IfSome, MatchOption};
 ghost use Rattle.gfs2_layout.specs.Structures.{is_in_use};
 ghost use Rattle.gfs2_layout.specs.Bytes.{u16_at as number_16};
-ghost use Rattle.gfs2_layout.specs.Area.{IsArea, IsFirstRecord, HasItsName, name_of, has_no_record, has_name, slots_of, slot_at, first_named};
+ghost use Rattle.gfs2_layout.specs.Area.{IsArea, IsRecordAt, IsFirstRecord, HasItsName, name_of, has_no_record, has_name, slots_of, slot_at, first_named};
 
 use crate::Dirent;
 
@@ -72,8 +72,9 @@ fn is_record_of(bytes: &[u8], name: &[u8]) -> bool
 pub fn find_record(area: &[u8], name: &[u8]) -> Option<u32>
     requires area { IsArea area.now }
     requires short { length area.now < 2 ^ 32 }
-    ensures { MatchOption result (first_named name.now (slots_of area.now) ≡ None)
+    ensures first { MatchOption result (first_named name.now (slots_of area.now) ≡ None)
         (λ at. (at + 40 ≤ length area.now) × (first_named name.now (slots_of area.now) ≡ Some (slot_at (drop at area.now)))) }
+    ensures place { IfSome result (IsRecordAt area.now) }
 {
     let mut at = 0u32;
     let mut rest = area;

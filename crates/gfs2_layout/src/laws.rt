@@ -1,10 +1,15 @@
 //! What the definitions mean. The functions do nothing: their contracts are the laws.
-ghost use Rattle.std.specs.Prelude.{◌≡◌, ◌≢◌, ◌↔◌, ℕ, ◌+◌, ◌*◌, ◌/◌, ◌%◌, ◌<◌, ◌++◌, List, length, slice_index_or, Some, None, false};
+ghost use Rattle.std.specs.Prelude.{◌≡◌, ◌≢◌, ◌↔◌, ℕ, ◌+◌, ◌*◌, ◌/◌, ◌%◌, ◌<◌, ◌≤◌, [], ◌∷◌, ◌++◌, List, length, slice_index_or, count_by, Some, None, true, false};
 ghost use Rattle.std.specs.List.{All, flat_map, list_any};
 ghost use Rattle.std.specs.Option.{option_map};
+ghost use Rattle.std.specs.Str.{bytes_eq};
 ghost use Rattle.gfs2_layout.specs.declared.dirent.Dirent.{Dirent};
-ghost use Rattle.gfs2_layout.specs.Area.{Slot, IsArea, first_named, slot_bytes, slots_of};
+ghost use Rattle.gfs2_layout.specs.Structures.{is_in_use};
+ghost use Rattle.gfs2_layout.specs.Area.{Slot, IsArea, IsRecordAt, first_named, name_of, slot_bytes, slots_of};
 ghost use Rattle.gfs2_layout.specs.Putting.{IsEntryOf, HasOneMore, has_room, least_length, new_says, put_slot, says, told};
+ghost use Rattle.gfs2_layout.specs.Cutting.{slot_from, slots_without};
+ghost use Rattle.gfs2_layout.specs.Records.{IsRecordArea, record_named, record_of, records_in, said_by};
+ghost use Rattle.gfs2_layout.specs.Exchanges.{IsExchanged};
 ghost use Rattle.gfs2_layout.specs.Laws.{AreasJoin, StructuresReadBack};
 ghost use Rattle.gfs2_layout.specs.Bitmap.{state_at, with_state, packed};
 
@@ -57,4 +62,36 @@ pub fn put_records_are_found()
     ensures others { (entry : Dirent) (name : List ℕ) (slots after : List Slot) (other : List ℕ)
         → IsEntryOf entry name → put_slot entry name slots ≡ Some after → other ≢ name
         → option_map says (first_named other after) ≡ option_map says (first_named other slots) }
+{}
+
+/// A law: where a record in use is cut, the records in use tell what they told, in their order, but for what
+/// it tells. So every other name is found as before, and its own isn't found, if it stood once.
+pub fn cut_records_are_gone()
+    ensures told { (old new : List ℕ) (at : ℕ)
+        → IsRecordAt old at → is_in_use (slot_from at old).head ≡ true → slots_of new ≡ slots_without at old
+        → HasOneMore (says (slot_from at old)) (told (slots_of new)) (told (slots_of old)) }
+    ensures others { (old new : List ℕ) (at : ℕ) (other : List ℕ)
+        → IsRecordAt old at → is_in_use (slot_from at old).head ≡ true → slots_of new ≡ slots_without at old → other ≢ name_of (slot_from at old)
+        → option_map says (first_named other (slots_of new)) ≡ option_map says (first_named other (slots_of old)) }
+    ensures gone { (old new : List ℕ) (at : ℕ)
+        → IsRecordAt old at → is_in_use (slot_from at old).head ≡ true → slots_of new ≡ slots_without at old
+        → count_by (λ r. bytes_eq (name_of (slot_from at old)) r.name) (records_in old) ≤ 1
+        → first_named (name_of (slot_from at old)) (slots_of new) ≡ None }
+{}
+
+/// A law: where a record is put into an area of records, or one in use is cut from it, the area is one again,
+/// and its records are those before with the new one, or without that one.
+pub fn areas_exchange_records()
+    ensures put { (old new : List ℕ) (entry : Dirent) (name : List ℕ)
+        → IsRecordArea old → IsEntryOf entry name → put_slot entry name (slots_of old) ≡ Some (slots_of new) → IsArea new
+        → IsRecordArea new × IsExchanged (records_in old) (records_in new) [] (said_by entry name ∷ []) }
+    ensures cut { (old new : List ℕ) (at : ℕ)
+        → IsRecordArea old → IsRecordAt old at → is_in_use (slot_from at old).head ≡ true → slots_of new ≡ slots_without at old → IsArea new
+        → IsRecordArea new × IsExchanged (records_in old) (records_in new) (record_of (slot_from at old) ∷ []) [] }
+{}
+
+/// A law: the first record in use of a name is the first of that name among what the records in use say.
+pub fn records_are_found_by_name()
+    ensures first { (area name : List ℕ) → option_map record_of (first_named name (slots_of area)) ≡ record_named (records_in area) name }
+    ensures named { (name : List ℕ) (slots : List Slot) (s : Slot) → first_named name slots ≡ Some s → (is_in_use s.head ≡ true) × (name_of s ≡ name) }
 {}

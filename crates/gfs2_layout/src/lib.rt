@@ -4,6 +4,7 @@
 mod area;
 mod bitmap;
 mod checksum;
+mod cutting;
 mod device;
 mod dinode;
 mod dirent;
@@ -22,6 +23,7 @@ mod superblock;
 
 pub use area::{Record, find_record, is_area, next_record};
 pub use bitmap::{pack, put_state, state_at};
+pub use cutting::cut_record;
 pub use device::superblock_block;
 pub use dinode::{DINODE_LENGTH, Dinode};
 pub use dirent::Dirent;
@@ -30,7 +32,8 @@ pub use group_header::GroupHeader;
 pub use header::{MetaHeader, has_header};
 pub use inum::Inum;
 pub use laws::{
-    areas_are_their_records, areas_join, packed_states_are_read, put_records_are_found,
+    areas_are_their_records, areas_exchange_records, areas_join, cut_records_are_gone,
+    packed_states_are_read, put_records_are_found, records_are_found_by_name,
     states_are_put_and_read, structures_read_back,
 };
 pub use leaf::Leaf;

@@ -7,10 +7,11 @@ use Rattle.std.proofs.lemmas.Slice.Eq.{bytes_eq-Decides}
 use Rattle.std.proofs.lemmas.List.Sorted.{IsPermutation-sym, Contains-permutation, length_permutation}
 use Rattle.std.proofs.lemmas.List.Sums.{sum_by-cons}
 use Rattle.gfs2_layout.specs.declared.dinode.Dinode.{Dinode}
+use Rattle.gfs2_layout.specs.Exchanges.{directory_count}
 use Rattle.gfs2_layout.specs.Inode.{Head}
 use Rattle.gfs2_layout.specs.Records.{Record, is_dots, child_named}
 use Rattle.image_model.specs.Owners.{Owners, Named, parent_of}
-use Rattle.image_model.specs.Stands.{HasRecord, IsDirectory, name_count, directory_count}
+use Rattle.image_model.specs.Stands.{HasRecord, IsDirectory, name_count}
 use Rattle.image_model.proofs.Members.{IsIn, contained, is_in}
 use Rattle.image_changes.specs.Directories.{IsBare}
 use Rattle.image_changes.proofs.Directories.{Lacks, named_other, names_cons, names_any_order, lacks_child, directories_any_order}

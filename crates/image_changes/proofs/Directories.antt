@@ -9,14 +9,15 @@ use Rattle.std.proofs.lemmas.Slice.Eq.{bytes_eq-Decides}
 use Rattle.std.proofs.lemmas.List.Sorted.{IsPermutation-sym, Contains-permutation, sum_by-IsPermutation, length_permutation}
 use Rattle.std.proofs.lemmas.List.Sums.{sum_by-cons, sum_by-append}
 use Rattle.gfs2_layout.specs.declared.dinode.Dinode.{Dinode}
+use Rattle.gfs2_layout.specs.Exchanges.{directory_count, IsExchanged, IsCounted}
 use Rattle.gfs2_layout.specs.Inode.{Head}
 use Rattle.gfs2_layout.specs.Records.{Record, is_dots, record_named, child_named}
 use Rattle.image_model.specs.Owners.{Owners, parent_of}
-use Rattle.image_model.specs.Stands.{kind_of, IsRecordOf, HasRecord, LeadsDown, name_count, directory_count, IsDirectory}
+use Rattle.image_model.specs.Stands.{kind_of, IsRecordOf, HasRecord, LeadsDown, name_count, IsDirectory}
 use Rattle.image_model.proofs.Members.{IsIn, contained, is_in, in_right, in_either}
 use Rattle.image_model.proofs.Counts.{count_some}
 use Rattle.image_model.proofs.Order.{child_any_order}
-use Rattle.image_changes.specs.Directories.{IsExchanged, LooksAtNames, RecordsGoAndCome, OtherParent, IsCounted}
+use Rattle.image_changes.specs.Directories.{LooksAtNames, RecordsGoAndCome, OtherParent}
 
 -- ---- heads and owners that agree
 

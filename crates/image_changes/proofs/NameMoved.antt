@@ -11,6 +11,7 @@ use Rattle.file_tree.specs.Apply.{file_limit, put_at, remove_at}
 use Rattle.gfs2_layout.specs.Inode.{Head}
 use Rattle.gfs2_layout.specs.Structures.{is_regular}
 use Rattle.gfs2_layout.specs.Records.{Record, is_dots, child_named}
+use Rattle.gfs2_layout.specs.Exchanges.{IsExchanged, IsCounted}
 use Rattle.image_model.specs.Flat.{Path, Node, Flat, thing_in, tree_at, thing_at, thing_from, follow, ReadsAs, AFile}
 use Rattle.image_model.specs.Image.{Image}
 use Rattle.image_model.specs.Owners.{Owners, Named, Up, up_of, parent_of, is_dinode}
@@ -20,7 +21,6 @@ use Rattle.image_model.proofs.Held.{none_some, some_same}
 use Rattle.image_model.proofs.Members.{IsIn, contained, is_in, in_right}
 use Rattle.image_model.proofs.Trees.{same_or_not}
 use Rattle.image_changes.specs.Changes.{KeepsNames, JournalsStay}
-use Rattle.image_changes.specs.Directories.{IsExchanged, IsCounted}
 use Rattle.image_changes.specs.Flats.{IsNamed, in_directory}
 use Rattle.image_changes.specs.Instances.{StandsBy, IsAt, among, dinode_at, records_at, is_directory_at, IsTarget, absent, replaced, IsRecordMoved, within, between, IsItself, SaysTheSame, as_before, reparented, IsNameMoved, NameIsMoved}
 use Rattle.image_changes.proofs.TreePaths.{IsBeside, beside_path, leads_beside, beside_shorter, under, out, split, beside_above, not_beside_self, not_beside_under}

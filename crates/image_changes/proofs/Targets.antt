@@ -3,6 +3,7 @@ use Rattle.std.proofs.Common.{◌≡◌, ◌≢◌, ℕ, ◌≤◌, ◌⊎◌, i
 use Rattle.std.specs.Prelude.{option_and_then}
 use Rattle.std.specs.Str.{bytes_eq}
 use Rattle.file_tree.specs.Tree.{Tree, file, dir, look, IsTree}
+use Rattle.gfs2_layout.specs.Exchanges.{IsExchanged}
 use Rattle.gfs2_layout.specs.Records.{Record, child_named}
 use Rattle.image_model.specs.Flat.{Path, Flat, child_in, tree_at, follow}
 use Rattle.image_model.specs.Image.{Image}
@@ -11,7 +12,6 @@ use Rattle.image_model.specs.Stands.{name_count}
 use Rattle.image_model.proofs.Counts.{count_some}
 use Rattle.image_model.proofs.Held.{none_some, some_same}
 use Rattle.image_model.proofs.Members.{IsIn}
-use Rattle.image_changes.specs.Directories.{IsExchanged}
 use Rattle.image_changes.specs.Instances.{records_at, IsChildless, IsTarget, absent, replaced}
 use Rattle.image_changes.proofs.TreePaths.{child_is_tree}
 use Rattle.image_changes.proofs.FlatPaths.{after_some}

@@ -1,22 +1,12 @@
 -- What a directory's records are after some went and some came.
-use Rattle.std.specs.Prelude.{◌≢◌, ℕ, ◌≡◌, ◌+◌, ◌≤◌, false, List, [], ◌∷◌, ◌++◌, length, codes, Contains}
+use Rattle.std.specs.Prelude.{◌≢◌, ℕ, ◌≡◌, ◌≤◌, false, List, [], ◌∷◌, codes, Contains}
 use Rattle.std.specs.List.Sorted.{IsPermutation}
 use Rattle.gfs2_layout.specs.declared.dinode.Dinode.{Dinode}
+use Rattle.gfs2_layout.specs.Exchanges.{IsExchanged, IsCounted}
 use Rattle.gfs2_layout.specs.Inode.{Head}
 use Rattle.gfs2_layout.specs.Records.{Record, is_dots}
 use Rattle.image_model.specs.Owners.{Owners, parent_of}
-use Rattle.image_model.specs.Stands.{IsRecordOf, LeadsDown, IsDirectory, name_count, directory_count}
-
--- the records, in any order, are those before without some that went and with some that came
-pub record IsExchanged (old new gone come : List Record) : Type 0 where
-  pub rest : List Record
-  pub before : IsPermutation old (gone ++ rest)
-  pub after : IsPermutation new (come ++ rest)
-
--- and the dinode's counts follow
-pub record IsCounted (d d' : Dinode) (gone come : List Record) : Type 0 where
-  pub entries : d'.entries + length gone ≡ d.entries + length come
-  pub links : d'.nlink + directory_count gone ≡ d.nlink + directory_count come
+use Rattle.image_model.specs.Stands.{IsRecordOf, LeadsDown, IsDirectory, name_count}
 
 -- a directory without a name: its records are `.` and `..`
 pub record IsBare (heads : ℕ → Head) (a parent : ℕ) (records : List Record) (d : Dinode) : Type 0 where

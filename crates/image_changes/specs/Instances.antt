@@ -4,6 +4,7 @@ use Rattle.file_tree.specs.Tree.{Tree, file, dir, none}
 use Rattle.file_tree.specs.Names.{IsName, leads_to}
 use Rattle.file_tree.specs.Apply.{file_limit, put_at, remove_at}
 use Rattle.gfs2_layout.specs.declared.dinode.Dinode.{Dinode}
+use Rattle.gfs2_layout.specs.Exchanges.{IsExchanged, IsCounted}
 use Rattle.gfs2_layout.specs.Inode.{dinode_in, is_directory_in, content_of, records_of}
 use Rattle.gfs2_layout.specs.Records.{Record, child_named}
 use Rattle.image_model.specs.Flat.{Path, follow, tree_at, ReadsAs}
@@ -11,7 +12,7 @@ use Rattle.image_model.specs.Image.{Image}
 use Rattle.image_model.specs.Owners.{Owners, Free, Named, is_dinode, holding}
 use Rattle.image_model.specs.Stands.{Layout, IsLaid, IsRecordOf, flat_of, heads_of}
 use Rattle.image_changes.specs.Changes.{IsChange, JournalsStay}
-use Rattle.image_changes.specs.Directories.{IsExchanged, IsCounted, IsBare}
+use Rattle.image_changes.specs.Directories.{IsBare}
 use Rattle.image_changes.specs.Flats.{in_directory}
 
 -- by this table the image is laid out right, and its root reads as the tree

@@ -10,7 +10,8 @@ use Rattle.image_model.specs.Owners.{Owner, Owners, Super, InGroup, Free, Nobody
 use Rattle.gfs2_layout.specs.Holding.{Part, Itself, Pointed, InChain, Cell, cell_part, part_at}
 use Rattle.gfs2_layout.specs.Records.{Record, records_in}
 use Rattle.gfs2_layout.specs.Inode.{dinode_in, leaf_area, is_leaf_part, leaves_of, records_of, block_count}
-use Rattle.image_model.specs.Stands.{Layout, IsLaid, IsDirectory, heads_of, directory_count}
+use Rattle.gfs2_layout.specs.Exchanges.{directory_count}
+use Rattle.image_model.specs.Stands.{Layout, IsLaid, IsDirectory, heads_of}
 use Rattle.image_model.specs.Claims.{every, HasDirectory}
 use Rattle.image_model.specs.Rules.{AreWithin, AreLeaves, HasRecords, from_dinode_block, from_leaves}
 use Rattle.image_model.proofs.Members.{IsIn, contained, is_in, in_filter, from_filter, in_range}

@@ -20,7 +20,8 @@ use Rattle.gfs2_layout.specs.Device.{superblock_place}
 use Rattle.image_model.specs.Owners.{Owner, Below, Chained, parent_of, IsWithin}
 use Rattle.gfs2_layout.specs.Journal.{ring_of, head_in}
 use Rattle.gfs2_layout.specs.Records.{Record, records_in, is_dots}
-use Rattle.image_model.specs.Stands.{kind_of, directory_count}
+use Rattle.gfs2_layout.specs.Exchanges.{directory_count}
+use Rattle.image_model.specs.Stands.{kind_of}
 
 -- the header that a place needs
 pub data Needs (im : Image) : ℕ → ℕ → ℕ → Type 0 where

@@ -1,5 +1,5 @@
 -- An image stands for a tree.
-use Rattle.std.specs.Prelude.{ℕ, ◌≡◌, ◌⊎◌, ◌+◌, ◌%◌, ◌<◌, ◌≤◌, ◌==◌, ◌&&◌, not, true, false, if◌then◌else◌, List, length, count_by, codes, slice_get, Contains, None, Some}
+use Rattle.std.specs.Prelude.{ℕ, ◌≡◌, ◌⊎◌, ◌+◌, ◌%◌, ◌<◌, ◌≤◌, true, false, if◌then◌else◌, List, length, count_by, codes, slice_get, Contains, None, Some}
 use Rattle.std.specs.Str.{bytes_eq}
 use Rattle.file_tree.specs.Tree.{Tree}
 use Rattle.file_tree.specs.Names.{IsName}
@@ -17,6 +17,7 @@ use Rattle.image_model.specs.Owners.{Owners, Super, InGroup, Free, Nobody, Root,
 use Rattle.gfs2_layout.specs.Inode.{Head, head_of, dinode_in, is_directory_in, records_of, IsInode}
 use Rattle.gfs2_layout.specs.Holding.{Holding}
 use Rattle.gfs2_layout.specs.Records.{Record, is_dots}
+use Rattle.gfs2_layout.specs.Exchanges.{directory_count}
 use Rattle.image_model.specs.Nodes.{node_of}
 
 -- what a mount finds: the two top directories, the two system files in the master directory, the groups, the dinodes of the
@@ -79,10 +80,6 @@ pub record HasRecord (heads : ℕ → Head) (records : List Record) (name : List
 -- how many records have this name
 abbrev pub name_count : List Record → List ℕ → ℕ
 name_count records name = count_by (λ r. bytes_eq name r.name) records
-
--- how many directories there are in it, but for `.` and `..`
-abbrev pub directory_count : List Record → ℕ
-directory_count records = count_by (λ r. not (is_dots r.name) && r.kind == 4) records
 
 -- a record in a directory that leads down
 pub record LeadsDown (heads : ℕ → Head) (owners : Owners) (a : ℕ) (r : Record) : Type 0 where

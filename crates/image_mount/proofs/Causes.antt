@@ -1,6 +1,7 @@
 -- Faults that have their cause in the image.
 use Rattle.std.proofs.Common.{◌≡◌, ◌≢◌, ◌↔◌, inl, inr, ℕ, ◌+◌, ◌^◌, ◌<◌, ◌≤◌, Bool, true, false, IsTrue, List, length, sym, ap, subst, ◌∙◌}
 use Rattle.std.specs.Prelude.{if◌then◌else◌}
+use Rattle.gfs2_layout.specs.Exchanges.{directory_count}
 use Rattle.gfs2_layout.specs.Inode.{dinode_in, is_hashed_in, head_of}
 use Rattle.gfs2_layout.specs.Records.{Record}
 use Rattle.gfs2_layout.specs.Structures.{is_directory, dinode_length}
@@ -10,7 +11,7 @@ use Rattle.glock_names.specs.declared.steps.Entry.{Entry}
 use Rattle.image_model.specs.Claims.{every, HasDirectory}
 use Rattle.image_model.specs.Image.{Image, superblock_in}
 use Rattle.image_model.specs.Rules.{Breaks, HasRecordIn, entry_count, directory_links, linear_height, linear_size, other_kind, other_number}
-use Rattle.image_model.specs.Stands.{kind_of, directory_count}
+use Rattle.image_model.specs.Stands.{kind_of}
 use Rattle.image_mount.specs.Found.{HasSuper, HasFormat}
 use Rattle.image_mount.specs.Listing.{IsEntryOf, AreCountedIn, is_hashed_by}
 use Rattle.image_mount.specs.Refusals.{IsOutside, RefusesRightly, fs_format, multihost_format, bsize, bsize_shift}

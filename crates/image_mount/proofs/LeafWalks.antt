@@ -7,6 +7,7 @@ use Rattle.std.proofs.Math.Path.{transport}
 use Rattle.std.proofs.lemmas.Bool.{cases_eq, cases_lt}
 use Rattle.std.proofs.lemmas.Grind.{flat_map-append}
 use Rattle.std.proofs.lemmas.Option.{slice_get-get_or}
+use Rattle.gfs2_layout.specs.Exchanges.{directory_count}
 use Rattle.gfs2_layout.specs.Holding.{Holding}
 use Rattle.gfs2_layout.specs.Inode.{entry, first_hash, index_bits, is_hashed_in, leaf_in, leaf_area, table_count}
 use Rattle.gfs2_layout.specs.Records.{Record, records_in}
@@ -17,7 +18,6 @@ use Rattle.image_reader.specs.Leaves.{HasClaim, AreChained, leaf_records}
 use Rattle.image_model.specs.Owners.{Owner, Chained}
 use Rattle.image_reader.specs.Owning.{owner_of, AreClaims, IsClash, IsEntered, IsEmpty}
 use Rattle.image_model.specs.Rules.{HasRecordIn, from_leaves, IsHashedAt}
-use Rattle.image_model.specs.Stands.{directory_count}
 use Rattle.image_reader.specs.Going.{ClaimsOnly}
 use Rattle.image_reader.specs.declared.hash_table.HashTable.{HashTable}
 use Rattle.image_reader.specs.declared.image.ImageFault.{ImageFault}

@@ -2,6 +2,7 @@
 use Rattle.std.specs.Prelude.{ℕ, ◌≡◌, ◌+◌, ◌<◌, ◌&&◌, Bool, true, false, List, length, map, filter, codes, slice_get, Some}
 use Rattle.file_tree.specs.Names.{IsName}
 use Rattle.gfs2_layout.specs.Area.{Slot}
+use Rattle.gfs2_layout.specs.Exchanges.{directory_count}
 use Rattle.gfs2_layout.specs.Inode.{dinode_in, has_hash_flag, is_hashed_in, linear_area}
 use Rattle.gfs2_layout.specs.Records.{Record, record_of, records_in, is_dots}
 use Rattle.gfs2_layout.specs.Structures.{dinode_of, is_directory, is_in_use}
@@ -12,7 +13,6 @@ use Rattle.image_model.specs.Claims.{every, HasDirectory, Claims}
 use Rattle.image_model.specs.Image.{Image}
 use Rattle.image_model.specs.Owners.{Owner, is_dinode, parent_of}
 use Rattle.image_model.specs.Rules.{HasRecordIn, HasRecords}
-use Rattle.image_model.specs.Stands.{directory_count}
 use Rattle.image_mount.specs.Found.{HasFormat}
 use Rattle.image_mount.specs.Kept.{Kept, seen_of}
 use Rattle.image_mount.specs.declared.inodes.Inode.{Inode}

@@ -4,6 +4,7 @@
 use Rattle.std.specs.Prelude.{ℕ, zero, suc, ⊤, ◌≡◌, ◌≢◌, ◌+◌, ◌-◌, ◌*◌, ◌/◌, ◌%◌, ◌<◌, ◌≤◌, true, false, List, length, codes, Contains}
 use Rattle.dinode_tree.specs.Reading.{IsHeadedAt, IsHeadedWay, IsRightDinode}
 use Rattle.file_tree.specs.Names.{IsName}
+use Rattle.gfs2_layout.specs.Exchanges.{directory_count}
 use Rattle.gfs2_layout.specs.Holding.{Holding}
 use Rattle.gfs2_layout.specs.Inode.{content_block, content_count, dinode_in, entry, head_of, header_length, height_in, index_bits, is_directory_in, is_hashed_in, leaf_in, pointer, span, table_count, IsLeaf}
 use Rattle.gfs2_layout.specs.Journal.{ring_of}
@@ -17,7 +18,7 @@ use Rattle.image_model.specs.Image.{Image}
 use Rattle.image_model.specs.Journals.{journal_name}
 use Rattle.image_model.specs.Owners.{Chained}
 use Rattle.image_model.specs.Rules.{HasRecordIn, HasRecords}
-use Rattle.image_model.specs.Stands.{Layout, IsJournalAt, IsRecordOf, directory_count, kind_of}
+use Rattle.image_model.specs.Stands.{Layout, IsJournalAt, IsRecordOf, kind_of}
 use Rattle.image_mount.specs.Listing.{AreDistinct}
 
 -- ---- records

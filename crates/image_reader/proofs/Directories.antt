@@ -5,6 +5,7 @@ use Rattle.std.proofs.lemmas.Bool.{true≢false}
 use Rattle.gfs2_layout.specs.Inode.{is_directory_in, is_hashed_in, linear_area, leaf_area}
 use Rattle.gfs2_layout.specs.Structures.{is_directory}
 use Rattle.gfs2_layout.specs.Records.{Record, records_in}
+use Rattle.gfs2_layout.specs.Exchanges.{directory_count}
 use Rattle.image_model.specs.Claims.{every, Claims, HasDirectory, HasArea, behind_dinode, of_leaf, first_leaf, next_leaf, in_dinode, in_leaf}
 use Rattle.image_reader.specs.Complete.{IsWholeTally, AllAreFound}
 use Rattle.image_reader.specs.Found.{HasEntry}
@@ -15,7 +16,6 @@ use Rattle.image_model.specs.Owners.{Named, Chained}
 use Rattle.image_reader.specs.Owning.{AreClaims}
 use Rattle.image_reader.specs.Reading.{held, image_at, IsTrueOf}
 use Rattle.image_model.specs.Rules.{HasRecords, from_dinode_block, from_leaves, linear_height, linear_size, no_dot, no_dots, directory_links, entry_count}
-use Rattle.image_model.specs.Stands.{directory_count}
 use Rattle.image_reader.specs.declared.blocks.Blocks.{Blocks}
 use Rattle.image_reader.specs.declared.directory.Found.{Found}
 use Rattle.image_reader.specs.declared.directory.Tally.{Tally}

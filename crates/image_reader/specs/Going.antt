@@ -2,6 +2,7 @@
 use Rattle.std.specs.Prelude.{ℕ, ◌≡◌, ◌⊎◌, ◌+◌, ◌-◌, ◌^◌, ◌<◌, ◌==◌, min, Bool, false, if◌then◌else◌, count_by, is_none, List, [], ◌∷◌, ◌++◌, length, codes, Contains, Option, None, Some, slice_get}
 use Rattle.std.specs.List.{All}
 use Rattle.gfs2_layout.specs.Area.{Slot, slots_of, IsShown}
+use Rattle.gfs2_layout.specs.Exchanges.{directory_count}
 use Rattle.gfs2_layout.specs.Records.{Record, is_dots}
 use Rattle.gfs2_layout.specs.Structures.{is_in_use}
 use Rattle.gfs2_layout.specs.declared.dirent.Dirent.{Dirent}
@@ -11,7 +12,6 @@ use Rattle.image_reader.specs.Found.{HasEntry}
 use Rattle.image_model.specs.Owners.{Owner, Named, Below, Chained, parent_of}
 use Rattle.image_reader.specs.Owning.{owner_of}
 use Rattle.image_reader.specs.Reading.{image_at}
-use Rattle.image_model.specs.Stands.{directory_count}
 use Rattle.image_reader.specs.Walking.{IsSound}
 use Rattle.image_reader.specs.declared.blocks.Blocks.{Blocks}
 use Rattle.image_reader.specs.declared.directory.Found.{Found}

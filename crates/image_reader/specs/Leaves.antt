@@ -2,6 +2,7 @@
 use Rattle.std.specs.Prelude.{ℕ, ◌≡◌, ◌≢◌, ◌⊎◌, ◌+◌, ◌*◌, ◌^◌, min, false, List, length, flat_map, codes, Contains, Option, Some, slice_get}
 use Rattle.std.specs.Option.{option_map}
 use Rattle.std.specs.List.Sorted.{IsStrictlyIncreasing}
+use Rattle.gfs2_layout.specs.Exchanges.{directory_count}
 use Rattle.gfs2_layout.specs.Holding.{Holding}
 use Rattle.gfs2_layout.specs.Inode.{content_of, depth_in, leaf_in, leaf_area, entry, first_hash}
 use Rattle.gfs2_layout.specs.Records.{Record, records_in}
@@ -9,7 +10,6 @@ use Rattle.image_reader.specs.Going.{IsGoing, AreFound, most}
 use Rattle.image_model.specs.Owners.{Owner, Chained}
 use Rattle.image_reader.specs.Owning.{owner_of}
 use Rattle.image_reader.specs.Reading.{held}
-use Rattle.image_model.specs.Stands.{directory_count}
 use Rattle.image_reader.specs.declared.directory.Found.{Found}
 use Rattle.image_reader.specs.declared.directory.Tally.{Tally}
 use Rattle.image_reader.specs.declared.directory.Visit.{Visit}

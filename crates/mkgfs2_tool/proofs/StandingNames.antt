@@ -11,8 +11,9 @@ use Rattle.std.proofs.lemmas.Fmt.{decimal_digit}
 use Rattle.std.proofs.lemmas.Slice.Eq.{bytes_eq-Decides}
 use Rattle.file_tree.specs.Names.{IsName, IsNameByte}
 use Rattle.image_model.specs.Journals.{journal_name}
+use Rattle.gfs2_layout.specs.Exchanges.{directory_count}
 use Rattle.gfs2_layout.specs.Records.{Record, is_dots}
-use Rattle.image_model.specs.Stands.{name_count, directory_count}
+use Rattle.image_model.specs.Stands.{name_count}
 use Rattle.mkgfs2_tool.proofs.StandingLists.{IsIn}
 use Rattle.mkgfs2_tool.specs.Directories.{name_bytes, journal_entry}
 use Rattle.mkgfs2_tool.specs.declared.directory.Name.TheVariants as name

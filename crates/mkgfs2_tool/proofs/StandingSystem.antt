@@ -14,7 +14,7 @@ use Rattle.gfs2_layout.specs.Inode.{Head, dinode_in, is_directory_in, records_of
 use Rattle.image_model.specs.Journals.{journal_name, IsJournal}
 use Rattle.image_model.specs.Owners.{Owner, Super, InGroup, Free, Nobody, Root, Master, Named, Below, Chained, Up, up_of, parent_of, is_dinode, IsUsed, IsWithin}
 use Rattle.image_model.specs.Nodes.{node_of, child_of}
-use Rattle.image_model.specs.Stands.{IsJournalAt, flat_of, heads_of, IsRecordOf, HasRecord, directory_count, LeadsDown, IsDirectory, IsSystem, IsFound, AreShort}
+use Rattle.image_model.specs.Stands.{IsJournalAt, flat_of, heads_of, IsRecordOf, HasRecord, LeadsDown, IsDirectory, IsSystem, IsFound, AreShort}
 use Rattle.mkgfs2_tool.proofs.StandingLists.{none_some, some_same, IsIn, is_in, contained, found_in}
 use Rattle.std.specs.Str.{bytes_eq}
 use Rattle.std.specs.Option.{option_map}
@@ -22,6 +22,7 @@ use Rattle.std.proofs.lemmas.Bool.{cases_Bool}
 use Rattle.std.proofs.lemmas.Slice.Eq.{bytes_eq-Decides}
 use Rattle.gfs2_layout.specs.Records.{Record, is_dots, child_named, record_named}
 use Rattle.gfs2_layout.specs.Holding.{Holding}
+use Rattle.gfs2_layout.specs.Exchanges.{directory_count}
 use Rattle.mkgfs2_tool.specs.Groups.{data_address}
 use Rattle.mkgfs2_tool.specs.Order.{master_place, root_place, journals_place, journal_place}
 use Rattle.mkgfs2_tool.specs.Directories.{journal_entry, master_entries, root_entries, journals_entries}

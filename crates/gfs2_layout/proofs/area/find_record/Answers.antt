@@ -1,7 +1,8 @@
-use Rattle.std.proofs.Common.{◌≤◌, List, ℕ, Some, length, drop, arith, ap, ◌∙◌, subst, sym, refl}
+use Rattle.std.proofs.Common.{◌≤◌, ◌+◌, List, ℕ, Some, length, arith, ap, ◌∙◌, subst, sym}
 use Rattle.std.proofs.lemmas.Bool.Decides.{nat_tests}
-use Rattle.std.proofs.lemmas.List.{drop-drop}
 use Rattle.gfs2_layout.specs.Area.{slot_at, slots_within, first_named}
+use Rattle.gfs2_layout.specs.Bytes.{u16_at}
+use Rattle.gfs2_layout.proofs.Places.{IsBetween, begins, goes_on, record_at}
 use Rattle.gfs2_layout.proofs.Records.{IsRest, area_is_rest, opens, opens_well, named_in_area, named_here, named_behind, record_length}
 use Rattle.gfs2_layout.proofs.area.find_record.Goals as goal
 
@@ -14,18 +15,21 @@ loop-rest-init c =
       is = is;
       named = named_in_area c.args.name.now area;
       opens = opens_well (length area) area is;
-      place = refl;
-      within = omega arith;
+      place = begins area c.requires.area;
     }
 
 pub returns-then-is_record_of : goal.returns-then-is_record_of
 returns-then-is_record_of c =
     let some : 1 ≤ length c.loop-rest.rest.now = grind (arith, nat_tests) in
     let so = c.loop-rest.invariant in
-    let o = opens so.most c.loop-rest.rest.now some so.is in (
-      omega (arith, so.within, (record_length c.loop-rest.rest.now o.good).0, (record_length c.loop-rest.rest.now o.good).1),
-      so.named ∙ named_here c.args.name.now so.most c.loop-rest.rest.now o (sym c.if-is_record_of.ensures) ∙ ap (λ (r : List ℕ). Some (slot_at r)) so.place,
-    )
+    let o = opens so.most c.loop-rest.rest.now some so.is in
+    record {
+      first = (
+        omega (arith, so.place.within, (record_length c.loop-rest.rest.now o.good).0, (record_length c.loop-rest.rest.now o.good).1),
+        so.named ∙ named_here c.args.name.now so.most c.loop-rest.rest.now o (sym c.if-is_record_of.ensures) ∙ ap (λ (r : List ℕ). Some (slot_at r)) so.place.rest_is,
+      );
+      place = record_at c.args.area.now c.loop-rest.at c.loop-rest.rest.now so.place some;
+    }
 
 pub loop-rest-preserved : goal.loop-rest-preserved
 loop-rest-preserved c =
@@ -39,6 +43,6 @@ loop-rest-preserved c =
       is = is;
       named = so.named ∙ named_behind c.args.name.now so.most c.loop-rest.rest.now o (sym c.if-is_record_of.ensures) ∙ ap (λ (r : List ℕ). first_named c.args.name.now (slots_within o.fewer r)) (sym past.behind);
       opens = opens_well o.fewer _ is;
-      place = past.behind ∙ (λ i. drop (sym past.length i) (so.place i)) ∙ drop-drop c.past_record-length.result.0 c.loop-rest.at c.args.area.now;
-      within = omega (arith, so.within, past.whole);
+      place = subst (λ (n : ℕ). IsBetween c.args.area.now (c.loop-rest.at + n) c.past_record-length.result.1.now) (sym past.length)
+          (subst (IsBetween c.args.area.now (c.loop-rest.at + u16_at 20 c.loop-rest.rest.now)) (sym past.behind) (goes_on c.args.area.now c.loop-rest.at c.loop-rest.rest.now so.place some).place);
     }

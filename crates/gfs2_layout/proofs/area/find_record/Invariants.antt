@@ -1,6 +1,7 @@
-use Rattle.std.proofs.Common.{◌≡◌, ◌+◌, ◌≤◌, ℕ, length, drop, false}
+use Rattle.std.proofs.Common.{◌≡◌, ◌≤◌, ℕ, length, false}
 use Rattle.gfs2_layout.specs.Area.{slots_of, slots_within, first_named, slot_at, has_no_record, HasItsName}
 use Rattle.gfs2_layout.proofs.Records.{IsRest}
+use Rattle.gfs2_layout.proofs.Places.{IsBetween}
 use Rattle.gfs2_layout.proofs.area.find_record.Given as goal
 
 abbrev pub invariant-loop-rest : goal.invariant-loop-rest
@@ -9,8 +10,7 @@ invariant-loop-rest l = record {
   is : IsRest most l.rest;
   named : first_named l.name (slots_of l.area) ≡ first_named l.name (slots_within most l.rest);
   opens : 1 ≤ length l.rest → (has_no_record l.rest ≡ false) × HasItsName (slot_at l.rest);
-  place : l.rest ≡ drop l.at l.area;
-  within : l.at + length l.rest ≡ length l.area;
+  place : IsBetween l.area l.at l.rest;
 }
 
 abbrev pub decreases-loop-rest : goal.decreases-loop-rest

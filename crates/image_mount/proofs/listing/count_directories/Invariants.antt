@@ -1,6 +1,6 @@
 use Rattle.std.proofs.Common.{◌≡◌, ◌≤◌, take}
 use Rattle.std.specs.Prelude.{map}
-use Rattle.image_model.specs.Stands.{directory_count}
+use Rattle.gfs2_layout.specs.Exchanges.{directory_count}
 use Rattle.image_mount.specs.Listing.{said}
 use Rattle.image_mount.proofs.listing.count_directories.Given as goal
 

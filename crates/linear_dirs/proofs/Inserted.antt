@@ -1,0 +1,91 @@
+-- A linear directory after its block was put in a draft.
+use Rattle.gfs2_layout.specs.Area.{Slot, IsRecordAt, first_named}
+use Rattle.gfs2_layout.specs.Cutting.{slot_from, slots_without}
+use Rattle.linear_dirs.specs.declared.removing.Place.{Place}
+use Rattle.linear_dirs.specs.Exchanges.{IsCutFrom}
+use Rattle.linear_dirs.specs.Reading.{IsPlaceOf}
+use Rattle.gfs2_layout.specs.Records.{record_named}
+use Rattle.gfs2_layout.specs.Inode.{records_of}
+use Rattle.linear_dirs.proofs.Looked.{records_are}
+use Rattle.std.proofs.Common.{◌≡◌, ◌≢◌, IsTrue, ℕ, ◌+◌, ◌≤◌, List, [], ◌∷◌, length, drop, Some, refl, sym, ap, ◌∙◌, subst, arith}
+use Rattle.std.specs.Prelude.{not, ◌&&◌, ◌==◌}
+use Rattle.std.specs.List.{AllByRecursion}
+use Rattle.std.proofs.lemmas.Bool.Decides.{nat_tests}
+use Rattle.drafts.specs.Fates.{Drafted}
+use Rattle.gfs2_layout.specs.Area.{slots_of}
+use Rattle.gfs2_layout.specs.Exchanges.{IsExchanged, IsCounted, directory_count}
+use Rattle.gfs2_layout.specs.Holding.{Holding}
+use Rattle.gfs2_layout.specs.Inode.{dinode_in, linear_area}
+use Rattle.gfs2_layout.specs.Putting.{IsEntryOf, HasOneMore, new_says, says, told, put_slot}
+use Rattle.gfs2_layout.specs.Records.{Record, IsRecordArea, records_in, record_of, said_by}
+use Rattle.gfs2_layout.specs.Structures.{dinode_length}
+use Rattle.gfs2_layout.specs.declared.dinode.Dinode.{Dinode}
+use Rattle.gfs2_layout.specs.declared.dirent.Dirent.{Dirent}
+use Rattle.glock_names.specs.Views.{Seen}
+use Rattle.glock_names.specs.declared.steps.Entry.{Entry}
+use Rattle.dinode_tree.specs.Reading.{inode_lock}
+use Rattle.dinode_tree.specs.Shown.{IsShown}
+use Rattle.linear_dirs.specs.Exchanges.{HasExchanged, uncounted}
+use Rattle.linear_dirs.specs.Reading.{IsBlockPut, IsDirectoryOf, IsFewer}
+use Rattle.linear_dirs.specs.Shown.{record_for, head_for, holding_over, seen_in}
+use Rattle.linear_dirs.proofs.Counts.{counts_more, counts_fewer}
+use Rattle.linear_dirs.proofs.Puts.{came, went}
+use Rattle.linear_dirs.proofs.Rewritten.{IsRewritten, IsWritten, rewritten, exchanged, kept, area_new}
+
+module _ {V : Type 0} (seen : V → Seen) (old new : Drafted V) (dir : ℕ) (h : Holding) (d : Dinode) (area : List ℕ) (d' : Dinode) (now : List ℕ) (shown : IsShown (seen_in seen old) dir h)
+    (is : IsDirectoryOf h d area) (put : IsBlockPut seen old new dir d' now) (same : uncounted d' ≡ uncounted d) where
+  written : IsWritten h now d'
+  written = record { long = put.long ∙ sym shown.size; read = put.read; kept = same ∙ ap uncounted is.dinode; filled = put.filled }
+
+  over : IsRewritten (seen_in seen new) h now
+  over = rewritten seen old new dir h (inode_lock dir) now shown put.put
+
+  pub area_now : linear_area (holding_over (seen_in seen new) h) ≡ drop dinode_length now
+  area_now = area_new (seen_in seen new) h now over
+
+  pub dinode_kept : uncounted (dinode_in (holding_over (seen_in seen new) h)) ≡ uncounted (dinode_in h)
+  dinode_kept = kept (seen_in seen new) h d area now d' is over written
+
+  pub has_exchanged : (gone come : List Record) → (IsRecordArea area → IsRecordArea (drop dinode_length now))
+      → IsExchanged (records_in area) (records_in (drop dinode_length now)) gone come → IsCounted d d' gone come → HasExchanged h (holding_over (seen_in seen new) h) gone come
+  has_exchanged gone come again records counted = exchanged (seen_in seen new) h d area now d' is over written gone come
+      (subst (λ a. IsRecordArea a → IsRecordArea (drop dinode_length now)) is.records again)
+      (subst (λ a. IsExchanged (records_in a) (records_in (drop dinode_length now)) gone come) is.records records) counted
+
+  pub has_inserted : (head : Dirent) (name : List ℕ) (entry : Entry) (links : ℕ) → head ≡ head_for name entry → (IsRecordArea area → IsRecordArea (drop dinode_length now))
+      → HasOneMore (new_says head name) (told (slots_of area)) (told (slots_of (drop dinode_length now)))
+      → d' ≡ record d { entries = d.entries + 1; nlink = d.nlink + links } → links ≡ directory_count (record_for name entry ∷ []) → HasExchanged h (holding_over (seen_in seen new) h) [] (record_for name entry ∷ [])
+  has_inserted head name entry links head_is again more counted links_are = has_exchanged [] (record_for name entry ∷ []) again
+      (subst (λ (x : Dirent). IsExchanged (records_in area) (records_in (drop dinode_length now)) [] (said_by x name ∷ [])) head_is (came head name area (drop dinode_length now) more))
+      (counts_more d d' links (record_for name entry) counted links_are)
+
+  pub has_removed : (s : Slot) (links : ℕ) → (IsRecordArea area → IsRecordArea (drop dinode_length now)) → HasOneMore (says s) (told (slots_of (drop dinode_length now))) (told (slots_of area))
+      → IsFewer d d' links → links ≡ directory_count (record_of s ∷ []) → HasExchanged h (holding_over (seen_in seen new) h) (record_of s ∷ []) []
+  has_removed s links again more counted links_are = has_exchanged (record_of s ∷ []) [] again (went s area (drop dinode_length now) more) (counts_fewer d d' links (record_of s) counted links_are)
+
+  pub cut_from : (name : List ℕ) (p : Place) → IsPlaceOf area name p → slots_of (drop dinode_length now) ≡ slots_without p.at area → IsCutFrom h (holding_over (seen_in seen new) h) name
+  cut_from name p place slots = record {
+    place = p.at;
+    at = subst (λ a. IsRecordAt a p.at) is.records place.at;
+    first = subst (λ a. first_named name (slots_of a) ≡ Some (slot_from p.at a)) is.records place.first;
+    slots = ap slots_of area_now ∙ slots ∙ ap (slots_without p.at) is.records;
+  }
+
+  pub slots_are : (head : Dirent) (name : List ℕ) (entry : Entry) → head ≡ head_for name entry → put_slot head name (slots_of area) ≡ Some (slots_of (drop dinode_length now))
+      → put_slot (head_for name entry) name (slots_of (linear_area h)) ≡ Some (slots_of (linear_area (holding_over (seen_in seen new) h)))
+  slots_are head name entry head_is slots =
+      ap (λ a. put_slot (head_for name entry) name (slots_of a)) (sym is.records) ∙ ap (λ (x : Dirent). put_slot x name (slots_of area)) (sym head_is) ∙ slots ∙ ap (λ a. Some (slots_of a)) (sym area_now)
+
+-- the head of a name's record is one
+pub entry_for : (name : List ℕ) (entry : Entry) → 1 ≤ length name → length name ≤ 255 → entry.number ≢ 0 → entry.addr ≢ 0 → IsEntryOf (head_for name entry) name
+entry_for name entry some short number address = record { some = some; short = short; name_len = refl; hash = refl; used = used entry.number entry.addr number address }
+  where
+    used : (n a : ℕ) → n ≢ 0 → a ≢ 0 → IsTrue (not (n == 0) && not (a == 0))
+    used n a number address = grind (arith, nat_tests)
+
+-- a name has one first record
+pub one_named : (h : Holding) (d : Dinode) (area name : List ℕ) (r q : Record) → IsDirectoryOf h d area → record_named (records_of h) name ≡ Some r → record_named (records_in area) name ≡ Some q → q ≡ r
+one_named h d area name r q is named there = inside (sym there ∙ ap (λ (rs : List Record). record_named rs name) (sym (records_are h d area is)) ∙ named)
+  where
+    inside : Some q ≡ Some r → q ≡ r
+    inside e = cc

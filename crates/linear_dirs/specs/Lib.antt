@@ -1,0 +1,4 @@
+pub mod Shown
+pub mod Exchanges
+pub mod Broken
+pub mod Reading
