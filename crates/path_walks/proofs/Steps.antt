@@ -7,7 +7,7 @@ use Rattle.gfs2_layout.specs.Inode.{dinode_in, is_directory_in, is_hashed_in, ha
 use Rattle.gfs2_layout.specs.Records.{Record, child_named, record_named}
 use Rattle.gfs2_layout.specs.Structures.{dinode_of, is_directory}
 use Rattle.gfs2_layout.specs.declared.dinode.Dinode.{Dinode}
-use Rattle.glock_names.specs.Steps.{IfDamaged, TellsOf}
+use Rattle.glock_names.specs.Steps.{IfDamaged, IsDamage, TellsOf}
 use Rattle.glock_names.specs.Views.{Seen}
 use Rattle.glock_names.specs.declared.steps.CallFault.{CallFault}
 use Rattle.glock_names.specs.declared.steps.CallFault.TheVariants.{Damaged, NoMemory}
@@ -70,6 +70,11 @@ no_child records name is = each (record_named records name) is
 pub handed : {B : Type 0} (Q : ℕ → ℕ → Type 0) (r : Result B CallFault) (f : CallFault) → IsErrAnd r (λ g. g ≡ f) → TellsOf Q f → IfDamaged r Q
 handed Q (Ok answer) f is tells = tt
 handed Q (Err g) f is tells = subst (TellsOf Q) (sym is) tells
+
+-- a call that takes no memory tells of damage alone
+pub only_tells : (P : ℕ → ℕ → Type 0) (f : CallFault) → IsDamage P f → TellsOf P f
+only_tells P NoMemory none = absurd none
+only_tells P (Damaged b rule) tells = tells
 
 -- damage of one kind is damage of another
 pub tells_so : (P Q : ℕ → ℕ → Type 0) → ((rule b : ℕ) → P rule b → Q rule b) → (f : CallFault) → TellsOf P f → TellsOf Q f

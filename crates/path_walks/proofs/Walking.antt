@@ -1,7 +1,7 @@
 -- A walk, name by name.
 use Rattle.std.proofs.Common.{◌≡◌, ℕ, suc, ◌+◌, ◌<◌, true, false, List, [], ◌∷◌, ◌++◌, length, take, drop, slice_get, None, Some, get_or, refl, sym, ap, subst, subst₂, ◌∙◌, arith}
 use Rattle.std.proofs.lemmas.List.Elements.{All-nil, All-push}
-use Rattle.std.proofs.lemmas.List.{take-append-drop, take_all}
+use Rattle.std.proofs.lemmas.List.{take-append-drop, take_all, drop_all}
 use Rattle.std.proofs.Math.Seq.{take-length}
 use Rattle.file_tree.specs.declared.reply.Reply.TheVariants.{NotFound, NotDir}
 use Rattle.file_tree.specs.Tree.{Tree}
@@ -42,11 +42,13 @@ pub record IsWantedAt (wants : List Want) (k : ℕ) (state : State) : Type 0 whe
   pub at : slice_get wants k ≡ Some want
   pub is : want.state ≡ state
 
+some_at : (wants : List Want) (k : ℕ) → k < length wants → (w : Want) × (slice_get wants k ≡ Some w)
+some_at wants k low = let none : Want = record { second = false; depth = 0; state = Un } in (get_or wants k none, slice_get-get_or wants k none low)
+
 pub wanted_at : (wants : List Want) (k : ℕ) (state : State) → k < length wants → ((w : Want) → slice_get wants k ≡ Some w → w.state ≡ state) → IsWantedAt wants k state
 wanted_at wants k state low so =
-    let none : Want = record { second = false; depth = 0; state = Un } in
-    let there = slice_get-get_or wants k none low in
-    record { want = get_or wants k none; at = there; is = so (get_or wants k none) there }
+    let w = some_at wants k low in
+    record { want = w.0; at = w.1; is = so w.0 w.1 }
 
 -- the locks of the inodes up to a depth
 abbrev pub holds_upto : Image → Owners → Layout → Path → List Want → ℕ → List Hold
@@ -250,15 +252,20 @@ module _ (v : Seen) (names : Path) (wants : List Want) (order : AreInOrder wants
   arrives p as_many after im o l t of =
       let r = after.images im o l t of in
       let all = take-length names in
-      let at : IsAt im o l names p.inode = subst (λ path. IsAt im o l path p.inode) all r.at in (
-        record {
-          at = at;
-          above = subst (λ path. IsAt im o l (parent_of path) p.above) all r.above;
-          dinode = after.dinode (holding im o p.inode) (is_shown v im o l t of names p.inode at);
-          there = after.there;
-        },
-        subst (λ ws. AreHeld v (holds_on (flat_of im o) l.root names ws)) (take_all (suc (length names)) wants (omega (arith, as_many))) r.held,
-      )
+      let at : IsAt im o l names p.inode = subst (λ path. IsAt im o l path p.inode) all r.at in
+      let last = some_at wants (length names) (omega (arith, as_many)) in
+      (record {
+        at = at;
+        above = subst (λ path. IsAt im o l (parent_of path) p.above) all r.above;
+        dinode = after.dinode (holding im o p.inode) (is_shown v im o l t of names p.inode at);
+        there = after.there;
+      }, record {
+        state = last.0.state;
+        front = holds_on (flat_of im o) l.root names (take (length names) wants);
+        split = list_at im o l t of (length names) last.0 p.inode last.1 r.at
+            ∙ ap (λ ws. holds_on (flat_of im o) l.root names (take (length names) wants) ++ hold_of p.inode last.0.state ∷ holds_on (flat_of im o) l.root names ws)
+                (drop_all (suc (length names)) wants (omega (arith, as_many)));
+      }, subst (λ ws. AreHeld v (holds_on (flat_of im o) l.root names ws)) (take_all (suc (length names)) wants (omega (arith, as_many))) r.held)
 
 -- a visit of the root meets no damage
 pub root_sound : (v : Seen) (im : Image) (o : Owners) (l : Layout) (t : Tree) → IsOf v im o l t → (root : ℕ) → root ≡ v.root → (f : CallFault)

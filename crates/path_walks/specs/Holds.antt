@@ -52,6 +52,12 @@ pub record IsFirstLack (v : Seen) (list : List Hold) (lock : LockName) (state : 
   pub held : AreHeld v front
   pub lacks : holds v (record { lock = lock; state = state }) ≡ false
 
+-- the last lock of the list is that of the inode in this block
+pub record EndsWith (list : List Hold) (a : ℕ) : Type 0 where
+  pub state : State
+  pub front : List Hold
+  pub split : list ≡ front ++ hold_of a state ∷ []
+
 -- A block that the view hasn't, under a lock of the list that is held, as each before it is. In this image that lock covers the block,
 -- which isn't free, and it is told right whether it is content of a regular file.
 pub record IsAskedFor (v : Seen) (im : Image) (o : Owners) (l : Layout) (list : List Hold) (m : Missing) : Type 0 where

@@ -21,7 +21,7 @@ use Rattle.image_model.specs.Image.{Image}
 use Rattle.image_model.specs.Owners.{Owners, holding}
 use Rattle.image_model.specs.Stands.{Layout}
 use Rattle.image_changes.specs.Instances.{IsAt}
-use Rattle.path_walks.specs.Holds.{AreHeld, IsFirstLack, IsAskedFor, hold_of, holds, holds_in}
+use Rattle.path_walks.specs.Holds.{AreHeld, EndsWith, IsFirstLack, IsAskedFor, hold_of, holds, holds_in}
 use Rattle.path_walks.specs.declared.walk.Place.{Place}
 use Rattle.path_walks.specs.declared.walk.Walk.{Walk}
 use Rattle.path_walks.specs.declared.walk.Walk.TheVariants as walk
@@ -49,7 +49,7 @@ pub record IsHashedOn (im : Image) (o : Owners) (l : Layout) (path : Path) (a : 
 
 -- where a walk along the path ends, each lock being taken as it is wanted
 abbrev pub IsWalked : Seen → Image → Owners → Layout → Tree → Path → List Want → Walk → Type 0
-IsWalked v im o l t path wants (walk.At p) = IsPlaceOf v im o l path p × AreHeld v (holds_in im o l path wants)
+IsWalked v im o l t path wants (walk.At p) = IsPlaceOf v im o l path p × EndsWith (holds_in im o l path wants) p.inode × AreHeld v (holds_in im o l path wants)
 IsWalked v im o l t path wants walk.NotFound = (tree.walk t path ≡ Refused NotFound) × AreHeld v (holds_in im o l path wants)
 IsWalked v im o l t path wants walk.NotDir = (tree.walk t path ≡ Refused NotDir) × AreHeld v (holds_in im o l path wants)
 IsWalked v im o l t path wants (walk.Hashed a) = IsHashedOn im o l path a

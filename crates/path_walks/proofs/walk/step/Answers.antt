@@ -10,7 +10,7 @@ use Rattle.linear_dirs.specs.Shown.{entry_of}
 use Rattle.linear_dirs.specs.Broken.{of_inode}
 use Rattle.linear_dirs.specs.Broken as directory
 use Rattle.path_walks.specs.Walks.{IsDamage, in_inode, leads_out, IsDamageAhead, in_directory, past_groups, in_child}
-use Rattle.path_walks.proofs.Steps.{linear_here, differs, directory_so, plain_so, child_is, none_so, handed, tells_so, tells_all, damage_so, damage_all}
+use Rattle.path_walks.proofs.Steps.{linear_here, differs, directory_so, plain_so, child_is, none_so, handed, only_tells, tells_so, tells_all, damage_so, damage_all}
 use Rattle.path_walks.proofs.walk.step.Goals as goal
 
 pub look-requires : goal.look-requires
@@ -22,13 +22,13 @@ look-requires g c = record {
 pub returns-in_err-entry-clause-ahead : goal.returns-in_err-entry-clause-ahead
 returns-in_err-entry-clause-ahead g c h shown =
     handed _ _ _ c.from_residual.ensures.1 (tells_so (directory.IsBroken h) _ (λ rule b broken. in_directory rule b (directory_so h c.args.place.now.dinode (c.requires.dinode h shown) (sym c.is_directory.ensures ∙ c.if-not-is_directory.false))
-    (plain_so h c.args.place.now.dinode (c.requires.dinode h shown) (differs _ _ c.if-place-eq1.false)) broken) c.in_err-entry.field-0.0 (c.in_err-entry.ensures.damaged h shown))
+    (plain_so h c.args.place.now.dinode (c.requires.dinode h shown) (differs _ _ c.if-place-eq1.false)) broken) c.in_err-entry.field-0.0 (only_tells (directory.IsBroken h) c.in_err-entry.field-0.0 (c.in_err-entry.ensures.damaged h shown)))
 
 pub returns-in_err-entry-clause-damaged : goal.returns-in_err-entry-clause-damaged
 returns-in_err-entry-clause-damaged g c =
     let v = g.V.View.seen c.args.view.now in
     handed _ _ _ c.from_residual.ensures.1 (tells_so _ (IsDamage v) (in_inode c.args.place.now.inode) c.in_err-entry.field-0.0
-    (tells_all v c.args.place.now.inode directory.IsBroken c.in_err-entry.field-0.0 c.in_err-entry.ensures.damaged))
+    (tells_all v c.args.place.now.inode directory.IsBroken c.in_err-entry.field-0.0 (λ h shown. only_tells (directory.IsBroken h) c.in_err-entry.field-0.0 (c.in_err-entry.ensures.damaged h shown))))
 
 pub returns-then-is_none-clause-ahead : goal.returns-then-is_none-clause-ahead
 returns-then-is_none-clause-ahead g c h shown =
