@@ -13,4 +13,6 @@ pub enum Attempt {
     NeedBlock(Missing),
     /// Every group is held exclusive, and has fewer free blocks, `free` in all, than the call takes.
     NoSpace { need: u64, free: u64 },
+    /// The dinode in this block is that of a hashed directory, which the calls don't read yet.
+    NotBuilt { block: u64 },
 }

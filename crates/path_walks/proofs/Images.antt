@@ -1,0 +1,154 @@
+-- Inodes on a path, in an image that the view may be of.
+use Rattle.std.proofs.Common.{◌≡◌, inl, ℕ, true, false, true≢false, List, map, Option, None, Some, refl, sym, ap, subst, ◌∙◌}
+use Rattle.std.proofs.lemmas.Bool.{cond-true, cond-false, eq-eqb}
+use Rattle.std.proofs.lemmas.Option.{slice_get-map, slice_get_within, get_or_from_slice_get}
+use Rattle.std.specs.Prelude.{IsSome, Contains, slice_get, option_map}
+use Rattle.file_tree.specs.Names.{IsName}
+use Rattle.file_tree.specs.Tree.{Tree}
+use Rattle.gfs2_layout.specs.Holding.{Part, Itself, Cell, cell_bytes, cell_part, part_at}
+use Rattle.gfs2_layout.specs.Inode.{IsInode, is_directory_in, is_hashed_in, records_of}
+use Rattle.gfs2_layout.specs.Records.{child_named}
+use Rattle.gfs2_layout.specs.declared.rindex.Rindex.{Rindex}
+use Rattle.glock_names.specs.Views.{Seen, group_of_entry}
+use Rattle.dinode_tree.specs.Broken as inode
+use Rattle.dinode_tree.specs.Shown.{IsShown, IsAsSeen}
+use Rattle.dinode_tree.proofs.Sound.{sound_is_shown, sound_breaks_nothing}
+use Rattle.linear_dirs.specs.Broken as directory
+use Rattle.resource_groups.specs.Putting.{HasDataBlock}
+use Rattle.image_model.specs.Flat.{Path, Node, no_node}
+use Rattle.image_model.specs.Image.{Image}
+use Rattle.image_model.specs.Nodes.{node_of}
+use Rattle.image_model.specs.Owners.{Owner, Owners, Super, InGroup, Free, Nobody, Root, Master, Named, Below, Chained, part_in, cell_of, cell_in, is_dinode, IsUsed, holding}
+use Rattle.image_model.specs.Stands.{Layout, flat_of}
+use Rattle.image_changes.specs.Changes.{inode_of, lock_in, cover, is_free}
+use Rattle.image_changes.specs.Does.{IsOf, is_content_of}
+use Rattle.image_changes.specs.Instances.{IsAt}
+use Rattle.image_changes.proofs.Drafting.{own_locks}
+use Rattle.image_changes.proofs.Laid.{child_rows, follow_dinode}
+use Rattle.image_changes.proofs.Nodes.{plain_name}
+
+own_part : (a : ℕ) (o : Owner) → is_dinode o ≡ true → part_in a a o ≡ Some Itself
+own_part a Super e = cc
+own_part a (InGroup g) e = cc
+own_part a (Free g) e = cc
+own_part a Nobody e = cc
+own_part a Root e = cond-true _ (Some Itself) None (eq-eqb a a refl)
+own_part a Master e = cond-true _ (Some Itself) None (eq-eqb a a refl)
+own_part a (Named parent name) e = cond-true _ (Some Itself) None (eq-eqb a a refl)
+own_part a (Below d b k level first) e = cc
+own_part a (Chained d hash place) e = cc
+
+cell_bytes_are : (p : Option Part) (bytes : List ℕ) → IsSome (cell_of p bytes) → (c : Cell) × (cell_of p bytes ≡ Some c) × (c.bytes ≡ bytes)
+cell_bytes_are None bytes none = absurd (true≢false (sym none))
+cell_bytes_are (Some p) bytes some = (record { part = p; bytes = bytes }, refl, refl)
+
+-- a dinode's own row: under which lock it is, and that it is no free block and no content
+dinode_inode : (a : ℕ) (o : Owner) → is_dinode o ≡ true → inode_of a o ≡ Some a
+dinode_inode a Super e = cc
+dinode_inode a (InGroup g) e = cc
+dinode_inode a (Free g) e = cc
+dinode_inode a Nobody e = cc
+dinode_inode a Root e = refl
+dinode_inode a Master e = refl
+dinode_inode a (Named parent name) e = refl
+dinode_inode a (Below d b k level first) e = cc
+dinode_inode a (Chained d hash place) e = cc
+
+dinode_cover : (l : Layout) (a : ℕ) (o : Owner) → is_dinode o ≡ true → cover l a o ≡ lock_in l (inode_of a o)
+dinode_cover l a Super e = cc
+dinode_cover l a (InGroup g) e = cc
+dinode_cover l a (Free g) e = cc
+dinode_cover l a Nobody e = cc
+dinode_cover l a Root e = refl
+dinode_cover l a Master e = refl
+dinode_cover l a (Named parent name) e = refl
+dinode_cover l a (Below d b k level first) e = cc
+dinode_cover l a (Chained d hash place) e = cc
+
+pub dinode_used : (o : Owner) → is_dinode o ≡ true → is_free o ≡ false
+dinode_used Super e = refl
+dinode_used (InGroup g) e = refl
+dinode_used (Free g) e = cc
+dinode_used Nobody e = refl
+dinode_used Root e = refl
+dinode_used Master e = refl
+dinode_used (Named parent name) e = refl
+dinode_used (Below d b k level first) e = refl
+dinode_used (Chained d hash place) e = refl
+
+pub dinode_plain : (im : Image) (o : Owners) (r : Owner) → is_dinode r ≡ true → is_content_of im o r ≡ false
+dinode_plain im o Super e = refl
+dinode_plain im o (InGroup g) e = refl
+dinode_plain im o (Free g) e = refl
+dinode_plain im o Nobody e = refl
+dinode_plain im o Root e = refl
+dinode_plain im o Master e = refl
+dinode_plain im o (Named parent name) e = refl
+dinode_plain im o (Below d b k level first) e = cc
+dinode_plain im o (Chained d hash place) e = refl
+
+-- a listed group is one of the view's
+has_group : (gs : List Rindex) (i : ℕ) (g : Rindex) → slice_get gs i ≡ Some g → Contains (map group_of_entry gs) (group_of_entry g)
+has_group gs i g at =
+    let there : slice_get (map group_of_entry gs) i ≡ Some (group_of_entry g) = slice_get-map group_of_entry gs i ∙ ap (option_map group_of_entry) at in
+    (i, slice_get_within (map group_of_entry gs) i (group_of_entry g) there, get_or_from_slice_get (map group_of_entry gs) i (group_of_entry g) (group_of_entry g) there)
+
+used_name : (o : Owner) (p : ℕ) (name : List ℕ) → o ≡ Named p name → IsUsed o
+used_name o p name e = subst IsUsed (sym e) tt
+
+module _ (v : Seen) (im : Image) (o : Owners) (l : Layout) (t : Tree) (of : IsOf v im o l t) where
+  pub is_inode : (path : Path) (a : ℕ) → IsAt im o l path a → is_dinode (o a) ≡ true
+  is_inode path a at = follow_dinode im o l of.stands.laid path l.root a (ap is_dinode of.stands.laid.root.0) at
+
+  pub is_sound : (path : Path) (a : ℕ) → IsAt im o l path a → IsInode (holding im o a)
+  is_sound path a at = of.stands.laid.inodes a (is_inode path a at)
+
+  as_seen : (a : ℕ) → IsAsSeen v (holding im o a)
+  unfolding cell_in
+  as_seen a b bytes some there =
+      let c = cell_bytes_are (part_in a b (o b)) (im.at b) some in
+      ap cell_bytes c.1 ∙ c.2 ∙ of.agrees b bytes there
+
+  its_own : (a : ℕ) → is_dinode (o a) ≡ true → part_at (holding im o a) a ≡ Some Itself
+  unfolding cell_in
+  its_own a so = ap (λ p. cell_part (cell_of p (im.at a))) (own_part a (o a) so)
+
+  pub is_shown : (path : Path) (a : ℕ) → IsAt im o l path a → IsShown v a (holding im o a)
+  is_shown path a at = sound_is_shown v (holding im o a) (is_sound path a at) (its_own a (is_inode path a at)) of.size (as_seen a)
+
+  -- where a name of a directory leads
+  pub child_is_there : (path : Path) (a : ℕ) (name : List ℕ) → IsAt im o l path a → IsName name → is_directory_in (holding im o a) ≡ true
+      → (flat_of im o a).child name ≡ child_named (records_of (holding im o a)) name
+  child_is_there path a name at is_name dir =
+      ap (λ (n : Node). n.child name) (cond-true _ (node_of (holding im o a)) no_node (is_inode path a at))
+      ∙ cond-true _ _ None dir ∙ cond-false _ None _ (plain_name name is_name)
+
+  pub no_child_of_file : (path : Path) (a : ℕ) (name : List ℕ) → IsAt im o l path a → is_directory_in (holding im o a) ≡ false → (flat_of im o a).child name ≡ None
+  no_child_of_file path a name at file =
+      ap (λ (n : Node). n.child name) (cond-true _ (node_of (holding im o a)) no_node (is_inode path a at)) ∙ cond-false _ _ None file
+
+  -- a child stands in a data block of a group
+  pub child_in_group : (a b : ℕ) (name : List ℕ) → (flat_of im o a).child name ≡ Some b → HasDataBlock v b
+  child_in_group a b name leads =
+      let row = (child_rows im o l of.stands.laid a b name leads).2 in
+      let placed = of.stands.laid.zoned.placed b (used_name (o b) a name row) in
+      (group_of_entry placed.0, subst (λ gs. Contains gs (group_of_entry placed.0)) of.groups (has_group l.groups placed.1.0 placed.0 placed.1.1), record { low = placed.2.low; high = placed.2.high })
+
+  -- the lock of an inode on a path
+  pub lock_of_inode : (path : Path) (a : ℕ) → IsAt im o l path a → cover l a (o a) ≡ Some (record { kind = 2; number = a })
+  lock_of_inode path a at =
+      dinode_cover l a (o a) (is_inode path a at) ∙ ap (lock_in l) (dinode_inode a (o a) (is_inode path a at)) ∙ own_locks im o l a of.stands.laid (inl (path, at))
+
+  -- nothing is broken
+  pub unbroken : (path : Path) (a rule b : ℕ) → IsAt im o l path a → inode.IsBroken (holding im o a) rule b → ⊥
+  unbroken path a rule b at = sound_breaks_nothing (holding im o a) rule b (is_sound path a at)
+
+  pub unbroken_directory : (path : Path) (a rule b : ℕ) → IsAt im o l path a → is_directory_in (holding im o a) ≡ true → is_hashed_in (holding im o a) ≡ false
+      → directory.IsBroken (holding im o a) rule b → ⊥
+  unbroken_directory path a rule b at dir plain (directory.of_inode r c broken) = unbroken path a r c at broken
+  unbroken_directory path a rule b at dir plain (directory.not_stuffed high) = high ((is_sound path a at).linear dir plain).stuffed
+  unbroken_directory path a rule b at dir plain (directory.not_filled other) = other ((is_sound path a at).linear dir plain).size
+  unbroken_directory path a rule b at dir plain (directory.no_area other) = other ((is_sound path a at).linear dir plain).area.fills
+  unbroken_directory path a rule b at dir plain (directory.no_name r has low other) = other ((of.stands.laid.directories a (is_inode path a at) dir).down r has low).name
+  unbroken_directory path a rule b at dir plain (directory.wrong_entries other) = other (of.stands.laid.directories a (is_inode path a at) dir).entries
+  unbroken_directory path a rule b at dir plain (directory.wrong_links other) = other (of.stands.laid.directories a (is_inode path a at) dir).links

@@ -1,0 +1,4 @@
+pub mod Steps
+pub mod Images
+pub mod Lists
+pub mod Walking

@@ -1,0 +1,101 @@
+-- A step of a walk, as far as the view tells.
+use Rattle.std.proofs.Common.{◌≡◌, ◌==◌, ◌&&◌, inl, inr, ℕ, Bool, true, false, List, Option, None, Some, Result, Ok, Err, true≢false, refl, sym, ap, subst, ◌∙◌}
+use Rattle.std.proofs.lemmas.Bool.{eqb-true, cases_Bool}
+use Rattle.std.specs.Prelude.{option_map, is_some, IfNone, IsErrAnd}
+use Rattle.gfs2_layout.specs.Holding.{Holding}
+use Rattle.gfs2_layout.specs.Inode.{dinode_in, is_directory_in, is_hashed_in, has_hash_flag}
+use Rattle.gfs2_layout.specs.Records.{Record, child_named, record_named}
+use Rattle.gfs2_layout.specs.Structures.{dinode_of, is_directory}
+use Rattle.gfs2_layout.specs.declared.dinode.Dinode.{Dinode}
+use Rattle.glock_names.specs.Steps.{IfDamaged, IsDamage, TellsOf}
+use Rattle.glock_names.specs.Views.{Seen}
+use Rattle.glock_names.specs.declared.steps.CallFault.{CallFault}
+use Rattle.glock_names.specs.declared.steps.CallFault.TheVariants.{Damaged, NoMemory}
+use Rattle.glock_names.specs.declared.steps.Entry.{Entry}
+use Rattle.dinode_tree.specs.Shown.{IsShown}
+use Rattle.dinode_tree.proofs.Sound.{some_is_shown}
+use Rattle.linear_dirs.specs.Shown.{IsLinearIn, entry_of}
+
+-- the dinode that was read is that of the block which the view has
+pub read_here : (v : Seen) (a : ℕ) (d : Dinode) (bytes : List ℕ) → ((h : Holding) → IsShown v a h → d ≡ dinode_in h) → v.block_at a ≡ Some bytes → d ≡ dinode_of bytes
+unfolding dinode_in
+read_here v a d bytes dinode there =
+    let s = some_is_shown v a in
+    dinode s.0 s.1.0 ∙ ap dinode_of (s.1.0.same s.0.own bytes s.1.0.dinode (ap v.block_at s.1.0.own ∙ there))
+
+pub linear_here : (v : Seen) (a : ℕ) (d : Dinode) → ((h : Holding) → IsShown v a h → d ≡ dinode_in h) → is_directory d ≡ true → has_hash_flag d ≡ false → IsLinearIn v a
+linear_here v a d dinode directory plain bytes there =
+    let e = read_here v a d bytes dinode there in
+    (ap is_directory (sym e) ∙ directory, ap has_hash_flag (sym e) ∙ plain)
+
+-- what the walk read of the dinode, of an inode that is so shown
+pub differs : (n m : ℕ) → (n ≡ m → ⊥) → (n == m) ≡ false
+differs n m other = elim (cases_Bool (n == m)) [
+  | inr apart ↦ apart
+  | inl same ↦ absurd (other (eqb-true n m same))
+]
+
+pub directory_so : (h : Holding) (d : Dinode) → d ≡ dinode_in h → is_directory d ≡ true → is_directory_in h ≡ true
+directory_so h d is directory = ap is_directory (sym is) ∙ directory
+
+pub plain_so : (h : Holding) (d : Dinode) → d ≡ dinode_in h → has_hash_flag d ≡ false → is_hashed_in h ≡ false
+plain_so h d is plain = no (is_directory (dinode_in h)) (has_hash_flag (dinode_in h)) (ap has_hash_flag (sym is) ∙ plain)
+  where
+    no : (a b : Bool) → b ≡ false → (a && b) ≡ false
+    no true b e = e
+    no false b e = refl
+
+-- the record of a name, and where it leads
+pub child_is : (records : List Record) (name : List ℕ) (e : Entry) → Some e ≡ option_map entry_of (record_named records name) → child_named records name ≡ Some e.addr
+child_is records name e is = each (record_named records name) is
+  where
+    each : (r : Option Record) → Some e ≡ option_map entry_of r → option_map (λ (x : Record). x.address) r ≡ Some e.addr
+    each None is = absurd (no is)
+      where
+        no : Some e ≡ None → ⊥
+        no q = cc
+    each (Some r) is = ap (option_map (λ (x : Entry). x.addr)) (sym is)
+
+pub no_child : (records : List Record) (name : List ℕ) → ◌≡◌ {A = Option Entry} None (option_map entry_of (record_named records name)) → child_named records name ≡ None
+no_child records name is = each (record_named records name) is
+  where
+    each : (r : Option Record) → ◌≡◌ {A = Option Entry} None (option_map entry_of r) → option_map (λ (x : Record). x.address) r ≡ None
+    each None is = refl
+    each (Some r) is = absurd (no is)
+      where
+        no : ◌≡◌ {A = Option Entry} None (Some (entry_of r)) → ⊥
+        no q = cc
+
+-- a fault that is handed on
+pub handed : {B : Type 0} (Q : ℕ → ℕ → Type 0) (r : Result B CallFault) (f : CallFault) → IsErrAnd r (λ g. g ≡ f) → TellsOf Q f → IfDamaged r Q
+handed Q (Ok answer) f is tells = tt
+handed Q (Err g) f is tells = subst (TellsOf Q) (sym is) tells
+
+-- a call that takes no memory tells of damage alone
+pub only_tells : (P : ℕ → ℕ → Type 0) (f : CallFault) → IsDamage P f → TellsOf P f
+only_tells P NoMemory none = absurd none
+only_tells P (Damaged b rule) tells = tells
+
+-- damage of one kind is damage of another
+pub tells_so : (P Q : ℕ → ℕ → Type 0) → ((rule b : ℕ) → P rule b → Q rule b) → (f : CallFault) → TellsOf P f → TellsOf Q f
+tells_so P Q so NoMemory tells = tt
+tells_so P Q so (Damaged b rule) tells = so rule b tells
+
+pub damage_so : {A : Type 0} (P Q : ℕ → ℕ → Type 0) → ((rule b : ℕ) → P rule b → Q rule b) → (r : Result A CallFault) → IfDamaged r P → IfDamaged r Q
+damage_so P Q so (Ok answer) damage = tt
+damage_so P Q so (Err f) damage = tells_so P Q so f damage
+
+-- what is told is so of whatever the view shows
+pub tells_all : (v : Seen) (a : ℕ) (P : Holding → ℕ → ℕ → Type 0) (f : CallFault) → ((h : Holding) → IsShown v a h → TellsOf (P h) f)
+    → TellsOf (λ rule b. (h : Holding) → IsShown v a h → P h rule b) f
+tells_all v a P NoMemory tells = tt
+tells_all v a P (Damaged b rule) tells = tells
+
+pub damage_all : {A : Type 0} (v : Seen) (a : ℕ) (P : Holding → ℕ → ℕ → Type 0) (r : Result A CallFault) → ((h : Holding) → IsShown v a h → IfDamaged r (P h))
+    → IfDamaged r (λ rule b. (h : Holding) → IsShown v a h → P h rule b)
+damage_all v a P (Ok answer) damage = tt
+damage_all v a P (Err f) damage = tells_all v a P f damage
+
+pub none_so : {X : Type 0} (P : Type 0) (x : Option X) → is_some x ≡ false → IfNone x P → P
+none_so P None none so = so
+none_so P (Some x) none so = absurd (true≢false none)

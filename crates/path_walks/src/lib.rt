@@ -1,0 +1,6 @@
+//! Walks along a path of a call, over a view, with the glock of each inode.
+#![tactic(auto)]
+
+mod walk;
+
+pub use walk::{Place, Walk, walk_along};

@@ -1,0 +1,2 @@
+//! Reading calls over a view.
+#![tactic(auto)]
