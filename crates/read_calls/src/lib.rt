@@ -1,2 +1,7 @@
-//! Reading calls over a view.
+//! The calls that read, over a view: `read`, `stat` and `list`.
 #![tactic(auto)]
+
+mod answers;
+mod tries;
+
+pub use tries::attempt;

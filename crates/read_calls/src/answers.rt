@@ -1,0 +1,121 @@
+// What a call that reads answers of the inode at its path's end.
+ghost use Rattle.std.specs.Prelude.{ℕ, ◌≡◌, [], List, IfOk, OnOk};
+ghost use Rattle.read_calls.specs.Temp.{all_put};
+ghost use Rattle.gfs2_layout.specs.Holding.{Holding};
+ghost use Rattle.gfs2_layout.specs.Inode.{IsInode, dinode_in};
+ghost use Rattle.glock_names.specs.Steps.{IfDamaged};
+ghost use Rattle.glock_names.specs.Views.{HasBlock, IsOfView};
+ghost use Rattle.dinode_tree.specs.Shown.{IsShown};
+ghost use Rattle.read_calls.specs.Reading.{IsReading, IsRangeOf, IsStatOf, IsListOf, IsAnswerOf, IsWrong};
+
+use dinode_tree::read_range;
+use file_tree::{Call, Content, Kind, Name, NameList, Reply};
+use glock_names::{CallFault, Missing, Step, View};
+use linear_dirs::names;
+use no_memory::NoMemory;
+use path_walks::Place;
+use std::alloc::Global;
+
+/// What a call that reads finds at its path's end.
+#[derive(Drop)]
+pub(crate) enum Read {
+    /// The call's reply.
+    Reply(Reply),
+    /// This block isn't in the view.
+    NeedBlock(Missing),
+    /// This directory is hashed.
+    Hashed(u64),
+}
+
+// The names in byte order.
+fn in_order(alloc: Global, names: Vec<Name>) -> Result<NameList, NoMemory>
+    ensures { IfOk result (λ list. list ≡ all_put [] names.items) }
+{
+    let mut list = NameList::new(Vec::new(alloc));
+    for name in names {
+        list.put(name)?;
+    }
+    Ok(list)
+}
+
+// Reads a range of a file.
+fn read_file<V: View>(
+    alloc: Global,
+    view: &V,
+    place: &Place,
+    at: u64,
+    count: u32,
+) -> Result<Read, CallFault>
+    requires there { HasBlock (V.seen view.now) place.now.inode }
+    requires dinode { (h : Holding) → IsShown (V.seen view.now) place.now.inode h → place.now.dinode ≡ dinode_in h }
+    ensures read { (h : Holding) → IsShown (V.seen view.now) place.now.inode h → IsInode h → IfOk result (IsRangeOf (V.seen view.now) h at count) }
+    ensures damaged { (h : Holding) → IsShown (V.seen view.now) place.now.inode h → IfDamaged result (IsWrong h) }
+    ensures kept { IfDamaged result (IsOfView (V.seen view.now)) }
+{
+    if place.dinode.is_directory() {
+        return Ok(Read::Reply(Reply::IsDir));
+    }
+    match read_range(alloc, view, place.inode, at, count)? {
+        Step::Is(bytes) => Ok(Read::Reply(Reply::Bytes(Content::new(bytes)))),
+        Step::NeedBlock(missing) => Ok(Read::NeedBlock(missing)),
+    }
+}
+
+// Tells of a file its size, and of a directory how many names it has: `.` and `..` are counted in its dinode too.
+fn stat(place: &Place) -> Result<Read, CallFault>
+    ensures read { (h : Holding) → place.now.dinode ≡ dinode_in h → IfOk result (IsStatOf h) }
+    ensures damaged { (h : Holding) → place.now.inode ≡ h.own → place.now.dinode ≡ dinode_in h → IfDamaged result (IsWrong h) }
+{
+    if !place.dinode.is_directory() {
+        return Ok(Read::Reply(Reply::Stat(Kind::File, place.dinode.size)));
+    }
+    match place.dinode.entries.checked_sub(2) {
+        Some(count) => Ok(Read::Reply(Reply::Stat(Kind::Dir, u64::from(count)))),
+        None => Err(CallFault::Damaged {
+            block: place.inode,
+            rule: 12,
+        }),
+    }
+}
+
+// Lists the names of a directory.
+fn list<V: View>(alloc: Global, view: &V, place: &Place) -> Result<Read, CallFault>
+    requires there { HasBlock (V.seen view.now) place.now.inode }
+    requires dinode { (h : Holding) → IsShown (V.seen view.now) place.now.inode h → place.now.dinode ≡ dinode_in h }
+    ensures read { (h : Holding) → IsShown (V.seen view.now) place.now.inode h → IfOk result (IsListOf h) }
+    ensures damaged { (h : Holding) → IsShown (V.seen view.now) place.now.inode h → IfDamaged result (IsWrong h) }
+    ensures kept { IfDamaged result (IsOfView (V.seen view.now)) }
+{
+    if !place.dinode.is_directory() {
+        return Ok(Read::Reply(Reply::NotDir));
+    }
+    if place.dinode.flags / 2 % 2 == 1 {
+        return Ok(Read::Hashed(place.inode));
+    }
+    match names(alloc, view, place.inode)? {
+        Step::Is(names) => Ok(Read::Reply(Reply::Names(in_order(alloc, names)?))),
+        Step::NeedBlock(_) => unreachable!(),
+    }
+}
+
+/// The answer of a call that reads, of the inode at its path's end.
+pub(crate) fn answer_at<V: View>(
+    alloc: Global,
+    view: &V,
+    call: &Call,
+    place: &Place,
+) -> Result<Read, CallFault>
+    requires reading { IsReading call.now }
+    requires there { HasBlock (V.seen view.now) place.now.inode }
+    requires dinode { (h : Holding) → IsShown (V.seen view.now) place.now.inode h → place.now.dinode ≡ dinode_in h }
+    ensures read { (h : Holding) → IsShown (V.seen view.now) place.now.inode h → IsInode h → IfOk result (IsAnswerOf (V.seen view.now) h call.now) }
+    ensures damaged { (h : Holding) → IsShown (V.seen view.now) place.now.inode h → IfDamaged result (IsWrong h) }
+    ensures kept { IfDamaged result (IsOfView (V.seen view.now)) }
+{
+    match call {
+        Call::Read(_, at, count) => read_file(alloc, view, place, *at, *count),
+        Call::Stat(_) => stat(place),
+        Call::List(_) => list(alloc, view, place),
+        _ => unreachable!(),
+    }
+}

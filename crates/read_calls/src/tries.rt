@@ -1,0 +1,88 @@
+// A try of a call.
+ghost use Rattle.std.specs.Prelude.{ℕ, ◌≡◌, [], false};
+ghost use Rattle.file_tree.specs.Tree.{Tree};
+ghost use Rattle.glock_names.specs.Steps.{IfDamaged};
+ghost use Rattle.glock_names.specs.Views.{IsOfView};
+ghost use Rattle.call_locks.specs.WantLaws.{path_of};
+ghost use Rattle.call_locks.specs.Wants.{wanted};
+ghost use Rattle.image_model.specs.Image.{Image};
+ghost use Rattle.image_model.specs.Owners.{Owners};
+ghost use Rattle.image_model.specs.Stands.{Layout};
+ghost use Rattle.image_changes.specs.Does.{IsOf, Does};
+ghost use Rattle.path_walks.specs.Answers.{IfDone, IfNeedLock, IfNeedBlock, IfNoSpace, IfNotBuilt};
+ghost use Rattle.path_walks.specs.Holds.{AreHeld, IsAskedFor, IsFirstLack, holds_in};
+ghost use Rattle.path_walks.specs.Walks.{IsDamage, IsHashedOn};
+ghost use Rattle.read_calls.specs.Reading.{IsReading};
+
+use crate::answers::{Read, answer_at};
+use call_locks::wants;
+use drafts::{Attempt, Change, Stamp};
+use file_tree::{Call, Path, Reply};
+use glock_names::{CallFault, View};
+use path_walks::{Walk, walk_along};
+use std::alloc::Global;
+
+// The path of a call that reads.
+fn path_of_reading(call: &Call) -> &Path
+    requires { IsReading call.now }
+    ensures { result.now ≡ path_of call.now false }
+{
+    match call {
+        Call::Read(path, _, _) => path,
+        Call::Stat(path) => path,
+        Call::List(path) => path,
+        _ => unreachable!(),
+    }
+}
+
+// A change of nothing.
+fn nothing(alloc: Global) -> Change
+    ensures blocks { result.blocks.items ≡ [] }
+    ensures locks { result.locks.items ≡ [] }
+    ensures freed { result.freed.items ≡ [] }
+{
+    Change {
+        blocks: Vec::new(alloc),
+        locks: Vec::new(alloc),
+        freed: Vec::new(alloc),
+    }
+}
+
+/// Tries a call that reads, over a view: its answer, or the first lock that isn't held or block that isn't there. It changes
+/// nothing. It costs a walk along the path, and what is read of the inode at its end.
+pub fn attempt<V: View>(
+    alloc: Global,
+    view: &V,
+    call: &Call,
+    _stamp: &Stamp,
+) -> Result<Attempt, CallFault>
+    requires reading { IsReading call.now }
+    ensures done { IfDone result (Does (V.seen view.now) call.now) }
+    ensures held { (im : Image) (o : Owners) (l : Layout) (t : Tree) → IsOf (V.seen view.now) im o l t → IfDone result (λ reply change. AreHeld (V.seen view.now) (holds_in im o l (path_of call.now false) (wanted call.now))) }
+    ensures lock { (im : Image) (o : Owners) (l : Layout) (t : Tree) → IsOf (V.seen view.now) im o l t → IfNeedLock result (IsFirstLack (V.seen view.now) (holds_in im o l (path_of call.now false) (wanted call.now))) }
+    ensures block { (im : Image) (o : Owners) (l : Layout) (t : Tree) → IsOf (V.seen view.now) im o l t → IfNeedBlock result (IsAskedFor (V.seen view.now) im o l (holds_in im o l (path_of call.now false) (wanted call.now))) }
+    ensures space { IfNoSpace result (λ need free. ⊥) }
+    ensures hashed { (im : Image) (o : Owners) (l : Layout) (t : Tree) → IsOf (V.seen view.now) im o l t → IfNotBuilt result (IsHashedOn im o l (path_of call.now false)) }
+    ensures sound { (im : Image) (o : Owners) (l : Layout) (t : Tree) → IsOf (V.seen view.now) im o l t → IfDamaged result (λ rule block. ⊥) }
+    ensures damaged { IfDamaged result (IsDamage (V.seen view.now)) }
+    ensures kept { IfDamaged result (IsOfView (V.seen view.now)) }
+{
+    let path = path_of_reading(call);
+    let wants = wants(alloc, call)?;
+    let found = match walk_along(view, path.names(), &wants)? {
+        Walk::At(place) => answer_at(alloc, view, call, &place)?,
+        Walk::NotFound => Read::Reply(Reply::NotFound),
+        Walk::NotDir => Read::Reply(Reply::NotDir),
+        Walk::Hashed(block) => Read::Hashed(block),
+        Walk::NeedBlock(missing) => Read::NeedBlock(missing),
+        Walk::NeedLock { lock, state } => return Ok(Attempt::NeedLock { lock, state }),
+    };
+    Ok(match found {
+        Read::Reply(reply) => Attempt::Done {
+            reply,
+            change: nothing(alloc),
+        },
+        Read::NeedBlock(missing) => Attempt::NeedBlock(missing),
+        Read::Hashed(block) => Attempt::NotBuilt { block },
+    })
+}
