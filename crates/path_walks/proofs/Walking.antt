@@ -253,19 +253,22 @@ module _ (v : Seen) (names : Path) (wants : List Want) (order : AreInOrder wants
       let r = after.images im o l t of in
       let all = take-length names in
       let at : IsAt im o l names p.inode = subst (λ path. IsAt im o l path p.inode) all r.at in
-      let last = some_at wants (length names) (omega (arith, as_many)) in
-      (record {
-        at = at;
-        above = subst (λ path. IsAt im o l (parent_of path) p.above) all r.above;
-        dinode = after.dinode (holding im o p.inode) (is_shown v im o l t of names p.inode at);
-        there = after.there;
-      }, record {
-        state = last.0.state;
-        front = holds_on (flat_of im o) l.root names (take (length names) wants);
-        split = list_at im o l t of (length names) last.0 p.inode last.1 r.at
-            ∙ ap (λ ws. holds_on (flat_of im o) l.root names (take (length names) wants) ++ hold_of p.inode last.0.state ∷ holds_on (flat_of im o) l.root names ws)
-                (drop_all (suc (length names)) wants (omega (arith, as_many)));
-      }, subst (λ ws. AreHeld v (holds_on (flat_of im o) l.root names ws)) (take_all (suc (length names)) wants (omega (arith, as_many))) r.held)
+      let last = some_at wants (length names) (omega (arith, as_many)) in (
+        record {
+          at = at;
+          above = subst (λ path. IsAt im o l (parent_of path) p.above) all r.above;
+          dinode = after.dinode (holding im o p.inode) (is_shown v im o l t of names p.inode at);
+          there = after.there;
+        },
+        record {
+          state = last.0.state;
+          front = holds_on (flat_of im o) l.root names (take (length names) wants);
+          split = list_at im o l t of (length names) last.0 p.inode last.1 r.at
+              ∙ ap (λ ws. holds_on (flat_of im o) l.root names (take (length names) wants) ++ hold_of p.inode last.0.state ∷ holds_on (flat_of im o) l.root names ws)
+              (drop_all (suc (length names)) wants (omega (arith, as_many)));
+        },
+        subst (λ ws. AreHeld v (holds_on (flat_of im o) l.root names ws)) (take_all (suc (length names)) wants (omega (arith, as_many))) r.held,
+      )
 
 -- a visit of the root meets no damage
 pub root_sound : (v : Seen) (im : Image) (o : Owners) (l : Layout) (t : Tree) → IsOf v im o l t → (root : ℕ) → root ≡ v.root → (f : CallFault)
