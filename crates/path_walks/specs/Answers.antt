@@ -1,0 +1,31 @@
+-- Which answer of a call over a view comes when.
+use Rattle.std.specs.Prelude.{ℕ, Result, Ok, Err, ⊤}
+use Rattle.file_tree.specs.declared.reply.Reply.{Reply}
+use Rattle.glock_names.specs.declared.LockName.{LockName}
+use Rattle.glock_names.specs.declared.State.{State}
+use Rattle.glock_names.specs.declared.steps.CallFault.{CallFault}
+use Rattle.glock_names.specs.declared.steps.Missing.{Missing}
+use Rattle.drafts.specs.declared.attempt.Attempt.{Attempt}
+use Rattle.drafts.specs.declared.attempt.Attempt.TheVariants.{Done, NeedLock, NeedBlock, NoSpace, NotBuilt}
+use Rattle.drafts.specs.declared.change.Change.{Change}
+
+-- P of what is told, where the call is answered so
+abbrev pub IfDone : Result Attempt CallFault → (Reply → Change → Type 0) → Type 0
+IfDone (Ok (Done reply change)) P = P reply change
+IfDone _ P = ⊤
+
+abbrev pub IfNeedLock : Result Attempt CallFault → (LockName → State → Type 0) → Type 0
+IfNeedLock (Ok (NeedLock lock state)) P = P lock state
+IfNeedLock _ P = ⊤
+
+abbrev pub IfNeedBlock : Result Attempt CallFault → (Missing → Type 0) → Type 0
+IfNeedBlock (Ok (NeedBlock missing)) P = P missing
+IfNeedBlock _ P = ⊤
+
+abbrev pub IfNoSpace : Result Attempt CallFault → (ℕ → ℕ → Type 0) → Type 0
+IfNoSpace (Ok (NoSpace need free)) P = P need free
+IfNoSpace _ P = ⊤
+
+abbrev pub IfNotBuilt : Result Attempt CallFault → (ℕ → Type 0) → Type 0
+IfNotBuilt (Ok (NotBuilt block)) P = P block
+IfNotBuilt _ P = ⊤

@@ -1,2 +1,0 @@
-//! Reading calls over a view.
-#![tactic(auto)]
