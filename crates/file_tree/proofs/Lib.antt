@@ -17,3 +17,4 @@ pub mod Directories
 pub mod WalkLaws
 pub mod MoveLaws
 pub mod Contents
+pub mod NamesPut

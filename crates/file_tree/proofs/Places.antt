@@ -21,6 +21,11 @@ pub below_rest : (es : Entries) (m n : List ℕ) → IsBelowFirst m es → name_
 below_rest none m n low less = tt
 below_rest (entry k u es) m n low less = nat_list_cmp_total.trans n m k less low
 
+-- those of a well-formed directory rise
+pub rises : (es : Entries) → AreEntries es → NamesRise es
+rises none are = tt
+rises (entry n t es) are = (are.1, rises es are.3)
+
 -- a name below the first is not there
 pub below_all : (es : Entries) (n : List ℕ) → IsBelowFirst n es → NamesRise es → look es n ≡ None
 below_all none n low rise = refl

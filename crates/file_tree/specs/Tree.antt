@@ -52,6 +52,11 @@ abbrev pub with_name : List (List ℕ) → List ℕ → List (List ℕ)
 with_name [] m = m ∷ []
 with_name (n ∷ ns) m = by_order (name_order m n) (m ∷ n ∷ ns) (m ∷ ns) (n ∷ with_name ns m)
 
+-- all of these names put in their places, one after another
+abbrev pub all_put : List (List ℕ) → List (List ℕ) → List (List ℕ)
+all_put names [] = names
+all_put names (n ∷ more) = all_put (with_name names n) more
+
 abbrev pub count_in : Entries → ℕ
 count_in none = 0
 count_in (entry n t es) = 1 + count_in es

@@ -1,5 +1,5 @@
 -- The records of directories, as what they say.
-use Rattle.std.specs.Prelude.{ℕ, ◌≡◌, ◌||◌, Bool, true, List, map, filter, find, codes, Option}
+use Rattle.std.specs.Prelude.{ℕ, ◌≡◌, ◌||◌, Bool, true, not, List, map, filter, find, codes, Option}
 use Rattle.std.specs.List.{AllByRecursion}
 use Rattle.std.specs.Option.{option_map}
 use Rattle.std.specs.Str.{bytes_eq}
@@ -37,6 +37,10 @@ pub record IsRecordArea (area : List ℕ) : Type 0 where
 
 abbrev pub is_dots : List ℕ → Bool
 is_dots name = bytes_eq name (codes ".") || bytes_eq name (codes "..")
+
+-- the names that a directory has: those of its records but `.` and `..`, in their order
+abbrev pub names_of : List Record → List (List ℕ)
+names_of records = map (λ r. r.name) (filter (λ r. not (is_dots r.name)) records)
 
 abbrev pub record_named : List Record → List ℕ → Option Record
 record_named records name = find (λ r. bytes_eq name r.name) records

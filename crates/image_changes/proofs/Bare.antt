@@ -29,7 +29,7 @@ no_directory r rs dots =
     let here : one ≡ 0 = ap (λ b. cond (not b && r.kind == 4) 1 0) dots in
     omega (arith, sum_by-cons (λ s. cond (not (is_dots s.name) && s.kind == 4) 1 0) r rs, here)
 
-dots_differ : codes "." ≡ codes ".." → ⊥
+pub dots_differ : codes "." ≡ codes ".." → ⊥
 dots_differ e = absurd (omega (arith, ap length e))
 
 module _ (heads : ℕ → Head) (a parent : ℕ) (records : List Record) (d : Dinode) (bare : IsBare heads a parent records d) where

@@ -16,6 +16,7 @@ pub mod FileContent
 pub mod Unminded
 pub mod States
 pub mod Walks
+pub mod DirectoryNames
 pub mod Doing
 pub mod Finishing
 pub mod Drafting

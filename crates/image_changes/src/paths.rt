@@ -1,7 +1,7 @@
 //! Laws of paths: of inodes by their numbers, without blocks, what becomes of paths and of the tree that is read along them; and what
-//! a walk along a path finds.
+//! a walk along a path finds, and which names a directory has there.
 ghost use Rattle.image_changes.specs.Flats.{FileRewritten, NameGone, NameLeads, Unreached};
-ghost use Rattle.image_changes.specs.Walks.{PathsEnd, WalksEnd, WalksFind};
+ghost use Rattle.image_changes.specs.Walks.{DirectoriesListNames, PathsEnd, WalksEnd, WalksFind};
 
 /// A law: where each inode is as before or no path leads to it, each path leads where it led, and the tree is the same.
 pub fn unreached_inodes_do_not_matter()
@@ -38,4 +38,10 @@ pub fn walks_end_at_absent_names()
 /// A law: a path of names ends with its last one, in the directory at its parent.
 pub fn paths_end_with_a_name()
     ensures { PathsEnd }
+{}
+
+/// A law: in an image that stands for a tree, the names that a directory's records have are those of the tree's directory at its
+/// path, in whatever order the records stand, and its dinode counts two more.
+pub fn directories_list_their_names()
+    ensures { DirectoriesListNames }
 {}

@@ -1,16 +1,12 @@
 -- A linear directory after its block was put in a draft.
-use Rattle.gfs2_layout.specs.Area.{Slot, IsRecordAt, first_named, slots_of}
-use Rattle.gfs2_layout.specs.Cutting.{slot_from, slots_without}
-use Rattle.linear_dirs.specs.declared.removing.Place.{Place}
-use Rattle.linear_dirs.specs.Exchanges.{IsCutFrom, HasExchanged, uncounted}
-use Rattle.linear_dirs.specs.Reading.{IsAreaIn, IsDinodeIn, IsPlaceOf, IsBlockPut, IsDirectoryOf, IsFewer}
-use Rattle.gfs2_layout.specs.Records.{record_named, Record, IsRecordArea, records_in, record_of, said_by}
-use Rattle.gfs2_layout.specs.Inode.{has_hash_flag, records_of, dinode_in, linear_area}
-use Rattle.linear_dirs.proofs.Looked.{records_are}
 use Rattle.std.proofs.Common.{◌≡◌, ◌≢◌, IsTrue, ℕ, ◌+◌, ◌≤◌, List, [], ◌∷◌, length, drop, Some, refl, sym, ap, ◌∙◌, subst, arith}
 use Rattle.std.specs.Prelude.{not, ◌&&◌, ◌==◌}
 use Rattle.std.proofs.lemmas.Bool.Decides.{nat_tests}
 use Rattle.drafts.specs.Fates.{Drafted}
+use Rattle.gfs2_layout.specs.Area.{Slot, IsRecordAt, first_named, slots_of}
+use Rattle.gfs2_layout.specs.Cutting.{slot_from, slots_without}
+use Rattle.gfs2_layout.specs.Records.{record_named, Record, IsRecordArea, records_in, record_of, said_by}
+use Rattle.gfs2_layout.specs.Inode.{has_hash_flag, records_of, dinode_in, linear_area}
 use Rattle.gfs2_layout.specs.Exchanges.{IsExchanged, IsCounted, directory_count}
 use Rattle.gfs2_layout.specs.Holding.{Holding}
 use Rattle.gfs2_layout.specs.Putting.{IsEntryOf, HasOneMore, new_says, says, told, put_slot}
@@ -22,11 +18,16 @@ use Rattle.glock_names.specs.Views.{Seen}
 use Rattle.glock_names.specs.declared.steps.Entry.{Entry}
 use Rattle.dinode_tree.specs.Reading.{inode_lock}
 use Rattle.dinode_tree.specs.Shown.{IsShown}
+use Rattle.linear_dirs.specs.declared.removing.Place.{Place}
+use Rattle.linear_dirs.specs.Exchanges.{IsCutFrom, HasExchanged, uncounted}
+use Rattle.linear_dirs.specs.Reading.{IsAreaIn, IsDinodeIn, IsPlaceOf, IsBlockPut, IsDirectoryOf, IsFewer}
 use Rattle.linear_dirs.specs.Shown.{IsLinearIn, record_for, head_for, holding_over, seen_in}
+use Rattle.linear_dirs.proofs.Looked.{records_are}
 use Rattle.linear_dirs.proofs.Counts.{counts_more, counts_fewer}
 use Rattle.linear_dirs.proofs.Puts.{came, went}
 use Rattle.linear_dirs.proofs.Rewritten.{seen_at, IsRewritten, IsWritten, rewritten, exchanged, kept, area_new}
 
+-- the directory's block is put with this dinode and these records: what the directory is then
 module _ {V : Type 0} (seen : V → Seen) (old new : Drafted V) (dir : ℕ) (h : Holding) (d : Dinode) (area : List ℕ) (d' : Dinode) (now : List ℕ) (shown : IsShown (seen_in seen old) dir h)
     (is : IsDirectoryOf h d area) (put : IsBlockPut seen old new dir d' now) (same : uncounted d' ≡ uncounted d) where
   written : IsWritten h now d'

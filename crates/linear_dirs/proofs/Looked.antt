@@ -2,16 +2,16 @@
 use Rattle.std.proofs.Common.{true, Option, refl, ◌≡◌, ◌≢◌, ℕ, ◌-◌, ◌≤◌, List, ◌++◌, length, drop, Some, sym, ap, ◌∙◌, subst, arith, length-drop}
 use Rattle.std.specs.Prelude.{None, IsSome, is_some, option_map, IsErrAnd, IfErr, Result, Ok, Err, take}
 use Rattle.std.proofs.lemmas.List.{take_all, drop_all, drop_at, append-nil, length-take-le}
+use Rattle.std.proofs.lemmas.Bool.{and_right}
 use borrow.Rule.Slice.PartMut.{put_mid}
 use Rattle.gfs2_layout.specs.declared.dirent.Dirent.{Dirent}
-use Rattle.glock_names.specs.declared.steps.Entry.{Entry}
-use Rattle.std.proofs.lemmas.Bool.{and_right}
 use Rattle.gfs2_layout.specs.Area.{IsArea}
 use Rattle.gfs2_layout.specs.Holding.{Holding, bytes_at}
 use Rattle.gfs2_layout.specs.Inode.{dinode_in, linear_area, records_of, has_hash_flag}
 use Rattle.gfs2_layout.specs.Records.{Record, record_named, records_in}
 use Rattle.gfs2_layout.specs.Structures.{dinode_of, dinode_length, is_directory}
 use Rattle.gfs2_layout.specs.declared.dinode.Dinode.{Dinode}
+use Rattle.glock_names.specs.declared.steps.Entry.{Entry}
 use Rattle.glock_names.specs.Steps.{IsDamage, TellsOf}
 use Rattle.glock_names.specs.Views.{Seen}
 use Rattle.glock_names.specs.declared.steps.CallFault.{CallFault}

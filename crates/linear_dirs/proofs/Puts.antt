@@ -1,11 +1,11 @@
 -- What the records say after one was put in.
-use Rattle.gfs2_layout.specs.Putting.{says, HasOneMore, new_says, told}
 use Rattle.std.proofs.Common.{◌≡◌, ℕ, inl, inr, List, [], ◌∷◌, ◌++◌, refl, sym, ap, ◌∙◌, subst}
 use Rattle.std.specs.Prelude.{map}
 use Rattle.std.specs.List.Sorted.{IsPermutation}
 use Rattle.std.proofs.lemmas.Bool.{cases_Bool}
 use Rattle.std.proofs.lemmas.List.{map-append}
 use Rattle.std.proofs.lemmas.List.Sorted.{IsPermutation-refl, IsPermutation-middle}
+use Rattle.gfs2_layout.specs.Putting.{says, HasOneMore, new_says, told}
 use Rattle.gfs2_layout.specs.Area.{Slot, slots_of}
 use Rattle.gfs2_layout.specs.Exchanges.{IsExchanged}
 use Rattle.gfs2_layout.specs.Records.{Record, record_of, records_in, said_by}

@@ -15,7 +15,7 @@ use Rattle.glock_names.specs.declared.steps.CallFault.{CallFault}
 use Rattle.glock_names.specs.declared.steps.CallFault.TheVariants.{Damaged}
 use Rattle.linear_dirs.specs.Broken.{IsBroken, no_name}
 use Rattle.linear_dirs.specs.Reading.{told_in}
-use Rattle.linear_dirs.specs.Shown.{names_of}
+use Rattle.gfs2_layout.specs.Records.{names_of}
 
 -- ---- the names of records
 

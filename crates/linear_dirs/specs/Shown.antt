@@ -1,11 +1,11 @@
 -- A directory as a view shows it, and as a draft leaves it.
-use Rattle.std.specs.Prelude.{ℕ, ◌≡◌, not, true, false, List, map, filter, drop, length, Option, None, Some, option_map}
+use Rattle.std.specs.Prelude.{ℕ, ◌≡◌, true, false, List, drop, length, Option, None, Some, option_map}
 use Rattle.crc_words.specs.Remainder.{crc32_of}
 use Rattle.drafts.specs.Fates.{Drafted, seen_with}
 use Rattle.gfs2_layout.specs.Structures.{dinode_of, dinode_length, is_directory}
 use Rattle.gfs2_layout.specs.Holding.{Cell, Holding}
 use Rattle.gfs2_layout.specs.Inode.{has_hash_flag}
-use Rattle.gfs2_layout.specs.Records.{Record, records_in, record_named, is_dots}
+use Rattle.gfs2_layout.specs.Records.{Record, records_in, record_named}
 use Rattle.gfs2_layout.specs.declared.dirent.Dirent.{Dirent}
 use Rattle.glock_names.specs.Views.{Seen}
 use Rattle.glock_names.specs.declared.steps.Entry.{Entry}
@@ -35,10 +35,6 @@ record_for name e = record { name = name; number = e.number; address = e.addr; k
 -- the head of that record, before it has a length
 abbrev pub head_for : List ℕ → Entry → Dirent
 head_for name e = record { inum = record { number = e.number; address = e.addr }; hash = crc32_of name; rec_len = 0; name_len = length name; kind = e.kind; rahead = 0 }
-
--- the names of a directory: those of its records but `.` and `..`
-abbrev pub names_of : List Record → List (List ℕ)
-names_of records = map (λ r. r.name) (filter (λ r. not (is_dots r.name)) records)
 
 -- ---- what a draft leaves of an inode that keeps its blocks
 

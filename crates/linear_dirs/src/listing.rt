@@ -4,12 +4,12 @@ ghost use Rattle.gfs2_layout.specs.Holding.{Holding};
 ghost use Rattle.gfs2_layout.specs.Inode.{records_of};
 ghost use Rattle.gfs2_layout.specs.Area.{Slot, IsArea, IsShown as IsRecord};
 ghost use Rattle.gfs2_layout.specs.Structures.{is_in_use};
-ghost use Rattle.gfs2_layout.specs.Records.{record_of, records_in, is_dots as has_dots};
+ghost use Rattle.gfs2_layout.specs.Records.{record_of, records_in, is_dots as has_dots, names_of};
 ghost use Rattle.glock_names.specs.Steps.{IfIs, IfNeedBlock, IfDamaged};
 ghost use Rattle.glock_names.specs.Views.{HasBlock, IsOfView};
 ghost use Rattle.dinode_tree.specs.Shown.{IsAtBlock, IsShown};
 ghost use Rattle.dinode_tree.specs.Walking.{missing_dinode};
-ghost use Rattle.linear_dirs.specs.Shown.{IsLinearIn, names_of};
+ghost use Rattle.linear_dirs.specs.Shown.{IsLinearIn};
 ghost use Rattle.linear_dirs.specs.Reading.{told_in};
 ghost use Rattle.linear_dirs.specs.Broken.{IsBroken};
 

@@ -1,7 +1,7 @@
 use Rattle.std.proofs.Common.{refl, ◌∙◌}
-use Rattle.dinode_tree.proofs.Dinodes.{lacks}
 use Rattle.glock_names.specs.Steps.{IsDamage}
 use Rattle.glock_names.proofs.StepLaws.{answer_at}
+use Rattle.dinode_tree.proofs.Dinodes.{lacks}
 use Rattle.linear_dirs.specs.Broken.{IsBroken}
 use Rattle.linear_dirs.proofs.Looked.{handed, damage_of, high_broken, size_broken, area_broken, directory_of, area_in, dinode_there}
 use Rattle.linear_dirs.proofs.area.area_of.Goals as goal

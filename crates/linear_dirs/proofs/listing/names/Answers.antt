@@ -2,7 +2,7 @@ use Rattle.std.proofs.Common.{◌∙◌, ap, sym}
 use Rattle.glock_names.specs.Steps.{TellsOf}
 use Rattle.glock_names.proofs.StepLaws.{answer_at}
 use Rattle.linear_dirs.specs.Broken.{IsBroken}
-use Rattle.linear_dirs.specs.Shown.{names_of}
+use Rattle.gfs2_layout.specs.Records.{names_of}
 use Rattle.linear_dirs.proofs.Looked.{handed, records_are}
 use Rattle.linear_dirs.proofs.listing.names.Goals as goal
 

@@ -7,7 +7,7 @@ use Rattle.gfs2_layout.specs.Records.{Record, record_of}
 use Rattle.glock_names.specs.Steps.{TellsOf}
 use Rattle.linear_dirs.specs.Broken.{IsBroken}
 use Rattle.linear_dirs.specs.Reading.{told_in}
-use Rattle.linear_dirs.specs.Shown.{names_of}
+use Rattle.gfs2_layout.specs.Records.{names_of}
 use Rattle.linear_dirs.proofs.Looked.{handed}
 use Rattle.linear_dirs.proofs.Records.{one_more, all_over, next_one, names_more}
 use Rattle.linear_dirs.proofs.listing.names_in.Goals as goal

@@ -1,7 +1,7 @@
 use Rattle.std.proofs.Common.{◌≡◌, ◌++◌, List, length}
 use Rattle.gfs2_layout.specs.Area.{IsArea}
 use Rattle.gfs2_layout.specs.Records.{Record, records_in}
-use Rattle.linear_dirs.specs.Shown.{names_of}
+use Rattle.gfs2_layout.specs.Records.{names_of}
 use Rattle.linear_dirs.proofs.listing.names_in.Given as goal
 
 abbrev pub invariant-loop-record : goal.invariant-loop-record
