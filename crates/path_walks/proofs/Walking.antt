@@ -28,7 +28,7 @@ use Rattle.image_changes.specs.Does.{IsOf}
 use Rattle.image_changes.specs.Instances.{IsAt}
 use Rattle.image_changes.proofs.Walks.{walks_end}
 use Rattle.path_walks.specs.Holds.{Hold, AreHeld, IsAskedFor, hold_for, hold_of, holds, holds_in, holds_on}
-use Rattle.path_walks.specs.Walks.{AreInOrder, IsWalked, IsVisited, GoesOn, IsStepped, IsDamage, in_inode, IsDamageAhead, in_directory, past_groups, in_child}
+use Rattle.path_walks.specs.Walks.{IfAt, AreInOrder, IsWalked, IsVisited, GoesOn, IsStepped, IsDamage, in_inode, IsDamageAhead, in_directory, past_groups, in_child}
 use Rattle.path_walks.specs.declared.walk.Place.{Place}
 use Rattle.path_walks.specs.declared.walk.Walk.{Walk}
 use Rattle.path_walks.specs.declared.walk.Walk.TheVariants as walk
@@ -282,3 +282,12 @@ root_damage v root rule b broken = in_inode root rule b (λ h shown. of_inode ru
 
 pub root_damages : (v : Seen) (root : ℕ) (f : CallFault) → ((h : Holding) → IsShown v root h → TellsOf (inode.IsBroken h) f) → TellsOf (IsDamage v) f
 root_damages v root f tells = tells_so _ (IsDamage v) (root_damage v root) f (tells_all v root inode.IsBroken f tells)
+
+-- a walk that doesn't end at an inode
+pub not_at : (P : Place → Type 0) (e : Walk) → ((p : Place) → e ≡ walk.At p → ⊥) → IfAt P e
+not_at P (walk.At p) other = absurd (other p refl)
+not_at P walk.NotFound other = tt
+not_at P walk.NotDir other = tt
+not_at P (walk.Hashed a) other = tt
+not_at P (walk.NeedLock lock state) other = tt
+not_at P (walk.NeedBlock m) other = tt

@@ -1,5 +1,5 @@
 -- Where a walk along a path ends, in an image that the view may be of.
-use Rattle.std.specs.Prelude.{ℕ, ◌≡◌, ◌++◌, true, false, List, slice_get, None, Some}
+use Rattle.std.specs.Prelude.{ℕ, ◌≡◌, ◌++◌, ⊤, true, false, List, slice_get, None, Some}
 use Rattle.file_tree.specs.Tree.{Tree}
 use Rattle.file_tree.specs.Names.{IsName, parent_of}
 use Rattle.file_tree.specs.Apply.{Refused}
@@ -46,6 +46,15 @@ pub record IsHashedOn (im : Image) (o : Owners) (l : Layout) (path : Path) (a : 
   pub on_path : path ≡ front ++ back
   pub at : IsAt im o l front a
   pub hashed : is_hashed_in (holding im o a) ≡ true
+
+-- at the path's end the view has the dinode, and this is what it says
+pub record IsSeenAt (v : Seen) (p : Place) : Type 0 where
+  pub there : HasBlock v p.inode
+  pub dinode : (h : Holding) → IsShown v p.inode h → p.dinode ≡ dinode_in h
+
+abbrev pub IfAt : (Place → Type 0) → Walk → Type 0
+IfAt P (walk.At p) = P p
+IfAt P _ = ⊤
 
 -- where a walk along the path ends, each lock being taken as it is wanted
 abbrev pub IsWalked : Seen → Image → Owners → Layout → Tree → Path → List Want → Walk → Type 0

@@ -1,6 +1,7 @@
 // What a call that reads answers of the inode at its path's end.
 ghost use Rattle.std.specs.Prelude.{ℕ, ◌≡◌, [], List, IfOk, OnOk};
-ghost use Rattle.read_calls.specs.Temp.{all_put};
+ghost use Rattle.file_tree.specs.Tree.{all_put};
+ghost use Rattle.gfs2_layout.specs.Device.{IsBlockSize};
 ghost use Rattle.gfs2_layout.specs.Holding.{Holding};
 ghost use Rattle.gfs2_layout.specs.Inode.{IsInode, dinode_in};
 ghost use Rattle.glock_names.specs.Steps.{IfDamaged};
@@ -10,7 +11,7 @@ ghost use Rattle.read_calls.specs.Reading.{IsReading, IsRangeOf, IsStatOf, IsLis
 
 use dinode_tree::read_range;
 use file_tree::{Call, Content, Kind, Name, NameList, Reply};
-use glock_names::{CallFault, Missing, Step, View};
+use glock_names::{CallFault, LockName, Missing, State, Step, View};
 use linear_dirs::names;
 use no_memory::NoMemory;
 use path_walks::Place;
@@ -25,6 +26,8 @@ pub(crate) enum Read {
     NeedBlock(Missing),
     /// This directory is hashed.
     Hashed(u64),
+    /// This lock isn't held so strongly.
+    NeedLock { lock: LockName, state: State },
 }
 
 // The names in byte order.
@@ -48,7 +51,7 @@ fn read_file<V: View>(
 ) -> Result<Read, CallFault>
     requires there { HasBlock (V.seen view.now) place.now.inode }
     requires dinode { (h : Holding) → IsShown (V.seen view.now) place.now.inode h → place.now.dinode ≡ dinode_in h }
-    ensures read { (h : Holding) → IsShown (V.seen view.now) place.now.inode h → IsInode h → IfOk result (IsRangeOf (V.seen view.now) h at count) }
+    ensures read { (h : Holding) → IsShown (V.seen view.now) place.now.inode h → IsBlockSize h.size → IsInode h → IfOk result (IsRangeOf (V.seen view.now) h at count) }
     ensures damaged { (h : Holding) → IsShown (V.seen view.now) place.now.inode h → IfDamaged result (IsWrong h) }
     ensures kept { IfDamaged result (IsOfView (V.seen view.now)) }
 {
@@ -61,20 +64,14 @@ fn read_file<V: View>(
     }
 }
 
-// Tells of a file its size, and of a directory how many names it has: `.` and `..` are counted in its dinode too.
-fn stat(place: &Place) -> Result<Read, CallFault>
-    ensures read { (h : Holding) → place.now.dinode ≡ dinode_in h → IfOk result (IsStatOf h) }
-    ensures damaged { (h : Holding) → place.now.inode ≡ h.own → place.now.dinode ≡ dinode_in h → IfDamaged result (IsWrong h) }
+// A file's size, or how many names a directory has: `.` and `..` are counted in its dinode too.
+fn stat(place: &Place) -> Reply
+    ensures { (h : Holding) → place.now.dinode ≡ dinode_in h → IsStatOf h result }
 {
-    if !place.dinode.is_directory() {
-        return Ok(Read::Reply(Reply::Stat(Kind::File, place.dinode.size)));
-    }
-    match place.dinode.entries.checked_sub(2) {
-        Some(count) => Ok(Read::Reply(Reply::Stat(Kind::Dir, u64::from(count)))),
-        None => Err(CallFault::Damaged {
-            block: place.inode,
-            rule: 12,
-        }),
+    if place.dinode.is_directory() {
+        Reply::Stat(Kind::Dir, u64::from(place.dinode.entries.saturating_sub(2)))
+    } else {
+        Reply::Stat(Kind::File, place.dinode.size)
     }
 }
 
@@ -108,13 +105,13 @@ pub(crate) fn answer_at<V: View>(
     requires reading { IsReading call.now }
     requires there { HasBlock (V.seen view.now) place.now.inode }
     requires dinode { (h : Holding) → IsShown (V.seen view.now) place.now.inode h → place.now.dinode ≡ dinode_in h }
-    ensures read { (h : Holding) → IsShown (V.seen view.now) place.now.inode h → IsInode h → IfOk result (IsAnswerOf (V.seen view.now) h call.now) }
+    ensures read { (h : Holding) → IsShown (V.seen view.now) place.now.inode h → IsBlockSize h.size → IsInode h → IfOk result (IsAnswerOf (V.seen view.now) h call.now) }
     ensures damaged { (h : Holding) → IsShown (V.seen view.now) place.now.inode h → IfDamaged result (IsWrong h) }
     ensures kept { IfDamaged result (IsOfView (V.seen view.now)) }
 {
     match call {
         Call::Read(_, at, count) => read_file(alloc, view, place, *at, *count),
-        Call::Stat(_) => stat(place),
+        Call::Stat(_) => Ok(Read::Reply(stat(place))),
         Call::List(_) => list(alloc, view, place),
         _ => unreachable!(),
     }

@@ -1,5 +1,5 @@
 // A try of a call.
-ghost use Rattle.std.specs.Prelude.{ℕ, ◌≡◌, [], false};
+ghost use Rattle.std.specs.Prelude.{ℕ, ◌≡◌, [], false, IfOk};
 ghost use Rattle.file_tree.specs.Tree.{Tree};
 ghost use Rattle.glock_names.specs.Steps.{IfDamaged};
 ghost use Rattle.glock_names.specs.Views.{IsOfView};
@@ -12,7 +12,7 @@ ghost use Rattle.image_changes.specs.Does.{IsOf, Does};
 ghost use Rattle.path_walks.specs.Answers.{IfDone, IfNeedLock, IfNeedBlock, IfNoSpace, IfNotBuilt};
 ghost use Rattle.path_walks.specs.Holds.{AreHeld, IsAskedFor, IsFirstLack, holds_in};
 ghost use Rattle.path_walks.specs.Walks.{IsDamage, IsHashedOn};
-ghost use Rattle.read_calls.specs.Reading.{IsReading};
+ghost use Rattle.read_calls.specs.Reading.{IsFound, IsReading};
 
 use crate::answers::{Read, answer_at};
 use call_locks::wants;
@@ -48,6 +48,26 @@ fn nothing(alloc: Global) -> Change
     }
 }
 
+// Walks along the call's path, and reads the inode at its end.
+fn find<V: View>(alloc: Global, view: &V, call: &Call) -> Result<Read, CallFault>
+    requires { IsReading call.now }
+    ensures found { (im : Image) (o : Owners) (l : Layout) (t : Tree) → IsOf (V.seen view.now) im o l t → IfOk result (IsFound (V.seen view.now) im o l t call.now) }
+    ensures sound { (im : Image) (o : Owners) (l : Layout) (t : Tree) → IsOf (V.seen view.now) im o l t → IfDamaged result (λ rule block. ⊥) }
+    ensures damaged { IfDamaged result (IsDamage (V.seen view.now)) }
+    ensures kept { IfDamaged result (IsOfView (V.seen view.now)) }
+{
+    let path = path_of_reading(call);
+    let wants = wants(alloc, call)?;
+    match walk_along(view, path.names(), &wants)? {
+        Walk::At(place) => answer_at(alloc, view, call, &place),
+        Walk::NotFound => Ok(Read::Reply(Reply::NotFound)),
+        Walk::NotDir => Ok(Read::Reply(Reply::NotDir)),
+        Walk::Hashed(block) => Ok(Read::Hashed(block)),
+        Walk::NeedLock { lock, state } => Ok(Read::NeedLock { lock, state }),
+        Walk::NeedBlock(missing) => Ok(Read::NeedBlock(missing)),
+    }
+}
+
 /// Tries a call that reads, over a view: its answer, or the first lock that isn't held or block that isn't there. It changes
 /// nothing. It costs a walk along the path, and what is read of the inode at its end.
 pub fn attempt<V: View>(
@@ -67,22 +87,13 @@ pub fn attempt<V: View>(
     ensures damaged { IfDamaged result (IsDamage (V.seen view.now)) }
     ensures kept { IfDamaged result (IsOfView (V.seen view.now)) }
 {
-    let path = path_of_reading(call);
-    let wants = wants(alloc, call)?;
-    let found = match walk_along(view, path.names(), &wants)? {
-        Walk::At(place) => answer_at(alloc, view, call, &place)?,
-        Walk::NotFound => Read::Reply(Reply::NotFound),
-        Walk::NotDir => Read::Reply(Reply::NotDir),
-        Walk::Hashed(block) => Read::Hashed(block),
-        Walk::NeedBlock(missing) => Read::NeedBlock(missing),
-        Walk::NeedLock { lock, state } => return Ok(Attempt::NeedLock { lock, state }),
-    };
-    Ok(match found {
+    Ok(match find(alloc, view, call)? {
         Read::Reply(reply) => Attempt::Done {
             reply,
             change: nothing(alloc),
         },
         Read::NeedBlock(missing) => Attempt::NeedBlock(missing),
         Read::Hashed(block) => Attempt::NotBuilt { block },
+        Read::NeedLock { lock, state } => Attempt::NeedLock { lock, state },
     })
 }

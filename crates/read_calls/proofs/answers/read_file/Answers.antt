@@ -1,9 +1,9 @@
-use Rattle.std.proofs.Common.{sym, ap, ◌∙◌}
-use Rattle.gfs2_layout.specs.Structures.{is_directory}
+use Rattle.std.proofs.Common.{sym, ◌∙◌}
 use Rattle.glock_names.proofs.StepLaws.{answer_at, needed_at}
 use Rattle.dinode_tree.proofs.Sound.{sound_is_whole}
-use Rattle.path_walks.proofs.Steps.{handed, tells_so, directory_so}
+use Rattle.path_walks.proofs.Steps.{handed, tells_so}
 use Rattle.read_calls.specs.Reading.{IsWrong, in_inode}
+use Rattle.read_calls.proofs.Answering.{file_so}
 use Rattle.read_calls.proofs.answers.read_file.Goals as goal
 
 pub returns-in_err-bytes-clause-damaged : goal.returns-in_err-bytes-clause-damaged
@@ -11,7 +11,13 @@ returns-in_err-bytes-clause-damaged g c h shown =
     handed _ _ _ c.from_residual.ensures.1 (tells_so _ (IsWrong h) in_inode c.in_err-bytes.field-0.0 (c.in_err-bytes.ensures.damaged h shown))
 
 pub returns-in-Is-clause-read : goal.returns-in-Is-clause-read
-returns-in-Is-clause-read g c h shown sound = (?, ?)
+returns-in-Is-clause-read g c h shown block sound = (
+  file_so h c.args.place.now.dinode (c.requires.dinode h shown) (sym c.is_directory.ensures ∙ c.if-is_directory.false),
+  c.new.ensures ∙ answer_at _ _ _ c.in-Is.is (c.in_ok-bytes.ensures.found h shown (sound_is_whole h c.args.at block sound)),
+)
 
 pub returns-in-NeedBlock-clause-read : goal.returns-in-NeedBlock-clause-read
-returns-in-NeedBlock-clause-read g c h shown sound = (?, ?)
+returns-in-NeedBlock-clause-read g c h shown block sound = (
+  file_so h c.args.place.now.dinode (c.requires.dinode h shown) (sym c.is_directory.ensures ∙ c.if-is_directory.false),
+  needed_at _ _ _ c.in-NeedBlock.is (c.in_ok-bytes.ensures.needed h shown),
+)

@@ -1,0 +1,218 @@
+-- What the tree answers where a walk along the call's path ended.
+use Rattle.std.proofs.Common.{◌≡◌, ◌&&◌, ◌==◌, ℕ, zero, suc, true, false, List, [], ◌∷◌, ◌++◌, length, None, Some, Result, Ok, Err, IfOk, inl, refl, sym, ap, subst, ◌∙◌, arith}
+use Rattle.std.proofs.lemmas.List.{append-nil}
+use Rattle.std.proofs.lemmas.List.Sorted.{IsPermutation-refl}
+use Rattle.file_tree.specs.Tree.{Tree, file, dir, count_in}
+use Rattle.file_tree.specs.Apply.{Walked, Found, Refused, apply, walk, read_reply, stat_reply, list_reply}
+use Rattle.file_tree.specs.declared.call.Call.{Call}
+use Rattle.file_tree.specs.declared.call.Call.TheVariants as call
+use Rattle.file_tree.specs.declared.reply.Kind.TheVariants.{File, Dir}
+use Rattle.file_tree.specs.declared.reply.Reply.{Reply}
+use Rattle.file_tree.specs.declared.reply.Reply.TheVariants as reply
+use Rattle.gfs2_layout.specs.Holding.{Holding}
+use Rattle.gfs2_layout.specs.Inode.{dinode_in, is_directory_in, is_hashed_in, content_of, records_of}
+use Rattle.gfs2_layout.specs.Records.{names_of}
+use Rattle.gfs2_layout.specs.Structures.{is_regular}
+use Rattle.glock_names.specs.Views.{Seen}
+use Rattle.glock_names.specs.declared.steps.Missing.{Missing}
+use Rattle.call_locks.specs.Wants.{wanted}
+use Rattle.call_locks.specs.WantLaws.{path_of}
+use Rattle.dinode_tree.specs.Reading.{IsNeeded, IsInRange, IsOnWay, the_dinode, led_to}
+use Rattle.dinode_tree.proofs.Sound.{part_of_led}
+use Rattle.image_model.specs.Flat.{Path, AFile, ADir, Thing, thing_in}
+use Rattle.image_model.specs.Image.{Image}
+use Rattle.image_model.specs.Owners.{Owners, Below, holding}
+use Rattle.image_model.specs.Stands.{Layout}
+use Rattle.image_model.proofs.Held.{pointed_owner, some_same}
+use Rattle.image_model.proofs.Lengths.{length_content, size_large}
+use Rattle.image_changes.specs.Changes.{cover, is_free, inode_lock}
+use Rattle.image_changes.specs.Does.{IsOf, is_content_of}
+use Rattle.image_changes.specs.Instances.{IsAt}
+use Rattle.image_changes.specs.Walks.{ListsNames}
+use Rattle.image_changes.proofs.DirectoryNames.{directories_list}
+use Rattle.image_changes.proofs.Drafting.{own_locks}
+use Rattle.image_changes.proofs.Nodes.{file_thing}
+use Rattle.image_changes.proofs.Walks.{walks_find}
+use Rattle.path_walks.specs.Holds.{Hold, AreHeld, EndsWith, IsAskedFor, holds_in}
+use Rattle.path_walks.specs.Walks.{IsDamage}
+use Rattle.path_walks.specs.Walks as damage
+use Rattle.dinode_tree.specs.Shown.{IsShown}
+use Rattle.linear_dirs.specs.Broken as directory
+use Rattle.path_walks.proofs.Steps.{differs}
+use Rattle.path_walks.proofs.Images.{is_inode, is_sound, lock_of_inode, dinode_used, dinode_plain, unbroken, unbroken_directory}
+use Rattle.read_calls.specs.Reading.{IsReading, IsRangeOf, IsStatOf, IsListOf, IsAnswerOf, IsFoundBy, IsFound, IsWrong, in_inode, in_directory}
+use Rattle.read_calls.specs.declared.answers.Read.{Read}
+use Rattle.read_calls.specs.declared.answers.Read.TheVariants as read
+
+-- a walk that is refused
+pub refused : (c : Call) (t : Tree) (r : Reply) → IsReading c → walk t (path_of c false) ≡ Refused r → (apply c t).reply ≡ r
+refused (call.Read p at count) t r is ends = ap (λ w. read_reply w at count) ends
+refused (call.Stat p) t r is ends = ap stat_reply ends
+refused (call.List p) t r is ends = ap list_reply ends
+refused (call.Create p) t r is ends = absurd is
+refused (call.Mkdir p) t r is ends = absurd is
+refused (call.Unlink p) t r is ends = absurd is
+refused (call.Rmdir p) t r is ends = absurd is
+refused (call.Dread p at count) t r is ends = absurd is
+refused (call.Write p at new) t r is ends = absurd is
+refused (call.Truncate p size) t r is ends = absurd is
+refused (call.Rename p q) t r is ends = absurd is
+refused call.Sync t r is ends = absurd is
+
+abbrev bytes_in : Thing → List ℕ
+bytes_in (AFile bytes) = bytes
+bytes_in ADir = []
+
+file_in : (w : Walked) (u : Tree) (bytes : List ℕ) → w ≡ Found u → thing_in u ≡ AFile bytes → w ≡ Found (file bytes)
+file_in w (file old) bytes found thing = found ∙ ap (λ b. Found (file b)) (ap bytes_in thing)
+file_in w (dir es) bytes found thing = absurd (other thing)
+  where
+    other : ADir ≡ AFile bytes → ⊥
+    other e = cc
+
+-- content of a regular file, by a block's part
+plain_at : (im : Image) (o : Owners) (a above k level first : ℕ) → (level == 0 && is_regular (dinode_in (holding im o a))) ≡ is_content_of im o (Below a above k level first)
+plain_at im o a above k zero first = refl
+plain_at im o a above k (suc level) first = ap (λ b. b && is_regular (dinode_in (holding im o a))) (differs (suc level) 0 (λ e. omega (arith, e)))
+
+module _ (v : Seen) (im : Image) (o : Owners) (l : Layout) (t : Tree) (of : IsOf v im o l t) (path : Path) (a : ℕ) (at : IsAt im o l path a) where
+  -- a file stands at the path, with the inode's bytes
+  file_there : is_directory_in (holding im o a) ≡ false → walk t path ≡ Found (file (content_of (holding im o a)))
+  file_there plain =
+      let found = walks_find im o l t path a of.stands at in
+      file_in (walk t path) found.tree (content_of (holding im o a)) found.walks (some_same (sym (found.reads.same [])) ∙ file_thing im o a (is_inode v im o l t of path a at) plain)
+
+  file_size : length (content_of (holding im o a)) ≡ (dinode_in (holding im o a)).size
+  file_size = length_content im o (size_large im.size of.stands.laid.image.block_size) a (is_inode v im o l t of path a at) (is_sound v im o l t of path a at)
+
+  listed : is_directory_in (holding im o a) ≡ true → ListsNames im o t path a
+  listed is = directories_list im o l t path a of.stands at is
+
+  own_lock : inode_lock l a ≡ Some (record { kind = 2; number = a })
+  own_lock = own_locks im o l a of.stands.laid (inl (path, at))
+
+  module _ (list : List Hold) (ends : EndsWith list a) (held : AreHeld v list) where
+    asked_at : (m : Missing) → v.block_at m.block ≡ None → m.lock ≡ record { kind = 2; number = a } → cover l m.block (o m.block) ≡ Some (record { kind = 2; number = a })
+        → is_free (o m.block) ≡ false → m.plain ≡ is_content_of im o (o m.block) → IsAskedFor v im o l list m
+    asked_at m absent lock covered used plain = record {
+      absent = absent;
+      covered = covered ∙ ap Some (sym lock);
+      used = used;
+      plain = plain;
+      state = ends.state;
+      front = ends.front;
+      back = [];
+      split = ends.split ∙ ap (λ k. ends.front ++ record { lock = k; state = ends.state } ∷ []) (sym lock);
+      held = subst (AreHeld v) (ends.split ∙ ap (λ k. ends.front ++ record { lock = k; state = ends.state } ∷ []) (sym lock)) held;
+    }
+
+    -- a block of the inode that is needed is under its lock
+    asked : (want : ℕ → Type 0) (least : ℕ) (m : Missing) → IsNeeded v (holding im o a) want least m → IsAskedFor v im o l list m
+    asked want least m needed = each needed.way
+      where
+        each : IsOnWay (holding im o a) want least m → IsAskedFor v im o l list m
+        each (the_dinode here from plain) =
+            asked_at m needed.absent needed.lock (ap (λ b. cover l b (o b)) here ∙ lock_of_inode v im o l t of path a at)
+            (ap (λ b. is_free (o b)) here ∙ dinode_used (o a) (is_inode v im o l t of path a at))
+            (plain ∙ sym (ap (λ b. is_content_of im o (o b)) here ∙ dinode_plain im o (o a) (is_inode v im o l t of path a at)))
+        each (led_to i k level first is low leads from before plain) =
+            let row = pointed_owner im o a m.block m.from k level first (part_of_led (holding im o a) m.from k level first m.block (is_sound v im o l t of path a at).tree leads) in
+            asked_at m needed.absent needed.lock (ap (cover l m.block) row ∙ own_lock) (ap is_free row) (plain ∙ plain_at im o a m.from k level first ∙ sym (ap (is_content_of im o) row))
+
+  range_found : (list : List Hold) → EndsWith list a → AreHeld v list → (from count : ℕ) (r : Read) → IsRangeOf v (holding im o a) from count r
+      → IsFoundBy v im o l (read_reply (walk t path) from count) path list r
+  range_found list ends held from count (read.Reply reply.IsDir) is = (ap (λ w. read_reply w from count) (listed is).walks, held)
+  range_found list ends held from count (read.Reply (reply.Bytes bytes)) is = (ap (λ w. read_reply w from count) (file_there is.0) ∙ ap reply.Bytes (sym is.1), held)
+  range_found list ends held from count (read.NeedBlock m) is = asked list ends held (IsInRange (holding im o a) from count) 0 m is.1
+  range_found list ends held from count (read.Hashed b) is = absurd is
+  range_found list ends held from count (read.NeedLock lock state) is = absurd is
+  range_found list ends held from count (read.Reply reply.Ok) is = absurd is
+  range_found list ends held from count (read.Reply (reply.Stat kind size)) is = absurd is
+  range_found list ends held from count (read.Reply (reply.Names names)) is = absurd is
+  range_found list ends held from count (read.Reply reply.NotFound) is = absurd is
+  range_found list ends held from count (read.Reply reply.NotDir) is = absurd is
+  range_found list ends held from count (read.Reply reply.Exists) is = absurd is
+  range_found list ends held from count (read.Reply reply.NotEmpty) is = absurd is
+  range_found list ends held from count (read.Reply reply.Inside) is = absurd is
+  range_found list ends held from count (read.Reply reply.TooBig) is = absurd is
+  range_found list ends held from count (read.Reply reply.NoSpace) is = absurd is
+
+  stat_found : (r : Reply) → IsStatOf (holding im o a) r → stat_reply (walk t path) ≡ r
+  stat_found (reply.Stat File size) is = ap stat_reply (file_there is.0) ∙ ap (reply.Stat File) (file_size ∙ sym is.1)
+  stat_found (reply.Stat Dir count) is =
+      let names = listed is.0 in
+      let counted : count_in names.entries ≡ count = omega (arith, names.counted, is.1) in
+      ap stat_reply names.walks ∙ ap (reply.Stat Dir) counted
+  stat_found reply.IsDir is = absurd is
+  stat_found (reply.Bytes bytes) is = absurd is
+  stat_found reply.Ok is = absurd is
+  stat_found (reply.Names names) is = absurd is
+  stat_found reply.NotFound is = absurd is
+  stat_found reply.NotDir is = absurd is
+  stat_found reply.Exists is = absurd is
+  stat_found reply.NotEmpty is = absurd is
+  stat_found reply.Inside is = absurd is
+  stat_found reply.TooBig is = absurd is
+  stat_found reply.NoSpace is = absurd is
+
+  list_found : (list : List Hold) → AreHeld v list → (r : Read) → IsListOf (holding im o a) r → IsFoundBy v im o l (list_reply (walk t path)) path list r
+  list_found list held (read.Reply reply.NotDir) is = (ap list_reply (file_there is), held)
+  list_found list held (read.Reply (reply.Names names)) is =
+      let all = listed is.0 in
+      (ap list_reply all.walks ∙ ap reply.Names (sym (is.1 ∙ all.names (names_of (records_of (holding im o a))) (IsPermutation-refl (names_of (records_of (holding im o a)))))), held)
+  list_found list held (read.Hashed b) is = record {
+    front = path;
+    back = [];
+    on_path = sym (append-nil path);
+    at = at ∙ ap Some (sym is.0);
+    hashed = ap (λ x. is_hashed_in (holding im o x)) is.0 ∙ is.1;
+  }
+  list_found list held (read.NeedBlock m) is = absurd is
+  list_found list held (read.NeedLock lock state) is = absurd is
+  list_found list held (read.Reply reply.IsDir) is = absurd is
+  list_found list held (read.Reply (reply.Bytes bytes)) is = absurd is
+  list_found list held (read.Reply reply.Ok) is = absurd is
+  list_found list held (read.Reply (reply.Stat kind size)) is = absurd is
+  list_found list held (read.Reply reply.NotFound) is = absurd is
+  list_found list held (read.Reply reply.Exists) is = absurd is
+  list_found list held (read.Reply reply.NotEmpty) is = absurd is
+  list_found list held (read.Reply reply.Inside) is = absurd is
+  list_found list held (read.Reply reply.TooBig) is = absurd is
+  list_found list held (read.Reply reply.NoSpace) is = absurd is
+
+-- the answer at the path's end is what is found
+pub answer_found : (v : Seen) (im : Image) (o : Owners) (l : Layout) (t : Tree) → IsOf v im o l t → (c : Call) (a : ℕ) → IsAt im o l (path_of c false) a
+    → EndsWith (holds_in im o l (path_of c false) (wanted c)) a → AreHeld v (holds_in im o l (path_of c false) (wanted c)) → (r : Read) → IsAnswerOf v (holding im o a) c r → IsFound v im o l t c r
+answer_found v im o l t of (call.Read p from count) a at ends held r is = range_found v im o l t of p a at (holds_in im o l p (wanted (call.Read p from count))) ends held from count r is
+answer_found v im o l t of (call.List p) a at ends held r is = list_found v im o l t of p a at (holds_in im o l p (wanted (call.List p))) held r is
+answer_found v im o l t of (call.Stat p) a at ends held (read.Reply r) is = (stat_found v im o l t of p a at r is, held)
+answer_found v im o l t of (call.Stat p) a at ends held (read.NeedBlock m) is = absurd is
+answer_found v im o l t of (call.Stat p) a at ends held (read.Hashed b) is = absurd is
+answer_found v im o l t of (call.Stat p) a at ends held (read.NeedLock lock state) is = absurd is
+answer_found v im o l t of (call.Create p) a at ends held r is = absurd is
+answer_found v im o l t of (call.Mkdir p) a at ends held r is = absurd is
+answer_found v im o l t of (call.Unlink p) a at ends held r is = absurd is
+answer_found v im o l t of (call.Rmdir p) a at ends held r is = absurd is
+answer_found v im o l t of (call.Dread p from count) a at ends held r is = absurd is
+answer_found v im o l t of (call.Write p from new) a at ends held r is = absurd is
+answer_found v im o l t of (call.Truncate p size) a at ends held r is = absurd is
+answer_found v im o l t of (call.Rename p q) a at ends held r is = absurd is
+answer_found v im o l t of call.Sync a at ends held r is = absurd is
+
+-- what follows of an answer
+pub ok_so : {A E : Type 0} (P Q : A → Type 0) → ((x : A) → P x → Q x) → (r : Result A E) → IfOk r P → IfOk r Q
+ok_so P Q so (Ok x) holds = so x holds
+ok_so P Q so (Err f) holds = tt
+
+-- nothing of an inode on a path is wrong
+pub nothing_wrong : (v : Seen) (im : Image) (o : Owners) (l : Layout) (t : Tree) → IsOf v im o l t → (path : Path) (a : ℕ) → IsAt im o l path a → (rule b : ℕ) → IsWrong (holding im o a) rule b → ⊥
+nothing_wrong v im o l t of path a at rule b (in_inode r c broken) = unbroken v im o l t of path a r c at broken
+nothing_wrong v im o l t of path a at rule b (in_directory r c is plain broken) = unbroken_directory v im o l t of path a r c at is plain broken
+
+-- and what is wrong of each that a view shows is damage
+pub wrong_damage : (v : Seen) (a rule b : ℕ) → ((h : Holding) → IsShown v a h → IsWrong h rule b) → IsDamage v rule b
+wrong_damage v a rule b wrong = damage.in_inode a rule b (λ h shown. each h (wrong h shown))
+  where
+    each : (h : Holding) → IsWrong h rule b → directory.IsBroken h rule b
+    each h (in_inode r c broken) = directory.of_inode r c broken
+    each h (in_directory r c is plain broken) = broken
