@@ -18,6 +18,8 @@ use Rattle.std.proofs.lemmas.Option.{slice_get-get_or}
 use Rattle.call_locks.specs.declared.want.Want.{Want}
 use Rattle.dinode_tree.specs.Broken as inode
 use Rattle.dinode_tree.specs.Shown.{IsShown}
+use Rattle.dinode_tree.specs.Walking.{missing_dinode}
+use Rattle.glock_names.specs.declared.steps.Missing.{Missing}
 use Rattle.linear_dirs.specs.Broken.{of_inode}
 use Rattle.dinode_tree.proofs.Sound.{some_is_shown}
 use Rattle.image_model.specs.Flat.{Path, Flat, follow}
@@ -28,7 +30,7 @@ use Rattle.image_changes.specs.Does.{IsOf}
 use Rattle.image_changes.specs.Instances.{IsAt}
 use Rattle.image_changes.proofs.Walks.{walks_end}
 use Rattle.path_walks.specs.Holds.{Hold, AreHeld, IsAskedFor, hold_for, hold_of, holds, holds_in, holds_on}
-use Rattle.path_walks.specs.Walks.{IfAt, AreInOrder, IsWalked, IsVisited, GoesOn, IsStepped, IsDamage, in_inode, IsDamageAhead, in_directory, past_groups, in_child}
+use Rattle.path_walks.specs.Walks.{IsTold, AreInOrder, IsWalked, IsVisited, GoesOn, IsStepped, IsDamage, in_inode, IsDamageAhead, in_directory, past_groups, in_child}
 use Rattle.path_walks.specs.declared.walk.Place.{Place}
 use Rattle.path_walks.specs.declared.walk.Walk.{Walk}
 use Rattle.path_walks.specs.declared.walk.Walk.TheVariants as walk
@@ -283,11 +285,30 @@ root_damage v root rule b broken = in_inode root rule b (λ h shown. of_inode ru
 pub root_damages : (v : Seen) (root : ℕ) (f : CallFault) → ((h : Holding) → IsShown v root h → TellsOf (inode.IsBroken h) f) → TellsOf (IsDamage v) f
 root_damages v root f tells = tells_so _ (IsDamage v) (root_damage v root) f (tells_all v root inode.IsBroken f tells)
 
--- a walk that doesn't end at an inode
-pub not_at : (P : Place → Type 0) (e : Walk) → ((p : Place) → e ≡ walk.At p → ⊥) → IfAt P e
-not_at P (walk.At p) other = absurd (other p refl)
-not_at P walk.NotFound other = tt
-not_at P walk.NotDir other = tt
-not_at P (walk.Hashed a) other = tt
-not_at P (walk.NeedLock lock state) other = tt
-not_at P (walk.NeedBlock m) other = tt
+-- what a visit tells of the view, and what a step does
+pub visit_tells : (v : Seen) (a above : ℕ) (state : State) (e : Walk) → IsVisited v a above state e → IsTold v e
+visit_tells v a above state (walk.At p) visited = record {
+  there = subst (HasBlock v) (sym visited.inode) visited.there;
+  dinode = λ h shown. visited.dinode h (subst (λ b. IsShown v b h) visited.inode shown);
+}
+visit_tells v a above state walk.NotFound visited = tt
+visit_tells v a above state walk.NotDir visited = tt
+visit_tells v a above state (walk.Hashed b) visited = absurd visited
+visit_tells v a above state (walk.NeedLock lock s) visited = ap (holds v) visited.0 ∙ visited.1
+visit_tells v a above state (walk.NeedBlock m) visited =
+    let same = ap (λ (x : Missing). x.block) visited.0 in
+    (ap v.block_at same ∙ visited.1, visited.0 ∙ ap missing_dinode (sym same))
+
+pub step_tells : (v : Seen) (a : ℕ) (name : List ℕ) (state : State) (e : Walk) → HasBlock v a → ((h : Holding) → IsShown v a h → IsStepped v h name state e) → IsTold v e
+step_tells v a name state walk.NotFound has stepped = tt
+step_tells v a name state walk.NotDir has stepped = tt
+step_tells v a name state (walk.Hashed b) has stepped =
+    let s = some_is_shown v a in
+    let same : b ≡ a = (stepped s.0 s.1.0).0 ∙ s.1.0.own in
+    record { there = subst (HasBlock v) (sym same) has; hashed = λ h shown. (stepped h (subst (λ x. IsShown v x h) same shown)).1 }
+step_tells v a name state (walk.At p) has stepped =
+    let s = some_is_shown v a in let g = stepped s.0 s.1.0 in visit_tells v g.child s.0.own state (walk.At p) g.visited
+step_tells v a name state (walk.NeedLock lock st) has stepped =
+    let s = some_is_shown v a in let g = stepped s.0 s.1.0 in visit_tells v g.child s.0.own state (walk.NeedLock lock st) g.visited
+step_tells v a name state (walk.NeedBlock m) has stepped =
+    let s = some_is_shown v a in let g = stepped s.0 s.1.0 in visit_tells v g.child s.0.own state (walk.NeedBlock m) g.visited

@@ -52,9 +52,19 @@ pub record IsSeenAt (v : Seen) (p : Place) : Type 0 where
   pub there : HasBlock v p.inode
   pub dinode : (h : Holding) → IsShown v p.inode h → p.dinode ≡ dinode_in h
 
-abbrev pub IfAt : (Place → Type 0) → Walk → Type 0
-IfAt P (walk.At p) = P p
-IfAt P _ = ⊤
+-- the view has the dinode in this block, which is a hashed directory's
+pub record IsSeenHashed (v : Seen) (a : ℕ) : Type 0 where
+  pub there : HasBlock v a
+  pub hashed : (h : Holding) → IsShown v a h → is_hashed_in h ≡ true
+
+-- what is told of the view alone, whatever image it is of
+abbrev pub IsTold : Seen → Walk → Type 0
+IsTold v (walk.At p) = IsSeenAt v p
+IsTold v walk.NotFound = ⊤
+IsTold v walk.NotDir = ⊤
+IsTold v (walk.Hashed a) = IsSeenHashed v a
+IsTold v (walk.NeedLock lock state) = holds v (record { lock = lock; state = state }) ≡ false
+IsTold v (walk.NeedBlock m) = (v.block_at m.block ≡ None) × (m ≡ missing_dinode m.block)
 
 -- where a walk along the path ends, each lock being taken as it is wanted
 abbrev pub IsWalked : Seen → Image → Owners → Layout → Tree → Path → List Want → Walk → Type 0

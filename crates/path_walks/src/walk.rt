@@ -13,7 +13,7 @@ ghost use Rattle.image_model.specs.Image.{Image};
 ghost use Rattle.image_model.specs.Owners.{Owners};
 ghost use Rattle.image_model.specs.Stands.{Layout};
 ghost use Rattle.image_changes.specs.Does.{IsOf};
-ghost use Rattle.path_walks.specs.Walks.{AreInOrder, IfAt, IsSeenAt, IsDamage, IsDamageAhead, IsStepped, IsVisited, IsWalked};
+ghost use Rattle.path_walks.specs.Walks.{AreInOrder, IsTold, IsDamage, IsDamageAhead, IsStepped, IsVisited, IsWalked};
 
 use call_locks::Want;
 use dinode_tree::read_dinode;
@@ -118,7 +118,7 @@ pub fn walk_along<V: View>(view: &V, names: &[Name], wants: &[Want]) -> Result<W
     requires as_many { length wants.now ≡ length names.now + 1 }
     requires order { AreInOrder wants.now }
     ensures walked { (im : Image) (o : Owners) (l : Layout) (t : Tree) → IsOf (V.seen view.now) im o l t → IfOk result (IsWalked (V.seen view.now) im o l t names.now wants.now) }
-    ensures seen { IfOk result (IfAt (IsSeenAt (V.seen view.now))) }
+    ensures told { IfOk result (IsTold (V.seen view.now)) }
     ensures sound { (im : Image) (o : Owners) (l : Layout) (t : Tree) → IsOf (V.seen view.now) im o l t → IfDamaged result (λ rule block. ⊥) }
     ensures damaged { IfDamaged result (IsDamage (V.seen view.now)) }
     ensures kept { IfDamaged result (IsOfView (V.seen view.now)) }

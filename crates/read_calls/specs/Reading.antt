@@ -1,5 +1,5 @@
 -- The calls that read.
-use Rattle.std.specs.Prelude.{ℕ, ◌≡◌, ◌-◌, true, false, List, []}
+use Rattle.std.specs.Prelude.{ℕ, ◌≡◌, ◌-◌, ⊤, true, false, List, [], None}
 use Rattle.file_tree.specs.declared.call.Call.{Call}
 use Rattle.file_tree.specs.declared.call.Call.TheVariants.{Read, Stat, List as ListNames}
 use Rattle.file_tree.specs.declared.reply.Kind.TheVariants.{File, Dir}
@@ -17,8 +17,8 @@ use Rattle.image_model.specs.Flat.{Path}
 use Rattle.image_model.specs.Image.{Image}
 use Rattle.image_model.specs.Owners.{Owners}
 use Rattle.image_model.specs.Stands.{Layout}
-use Rattle.path_walks.specs.Holds.{Hold, AreHeld, IsAskedFor, IsFirstLack, holds_in}
-use Rattle.path_walks.specs.Walks.{IsHashedOn}
+use Rattle.path_walks.specs.Holds.{Hold, holds, AreHeld, IsAskedFor, IsFirstLack, holds_in}
+use Rattle.path_walks.specs.Walks.{IsHashedOn, IsSeenHashed}
 use Rattle.dinode_tree.specs.Reading.{content_range, IsInRange, IsNeeded}
 use Rattle.dinode_tree.specs.Broken as inode
 use Rattle.linear_dirs.specs.Broken as directory
@@ -72,6 +72,14 @@ IsFoundBy v im o l answer path list (found.NeedLock lock state) = IsFirstLack v 
 
 abbrev pub IsFound : Seen → Image → Owners → Layout → Tree → Call → Found → Type 0
 IsFound v im o l t call f = IsFoundBy v im o l (apply call t).reply (path_of call false) (holds_in im o l (path_of call false) (wanted call)) f
+
+-- ---- what is told of the view alone, whatever image it is of
+
+abbrev pub IsTold : Seen → Found → Type 0
+IsTold v (found.Reply r) = ⊤
+IsTold v (found.NeedBlock m) = v.block_at m.block ≡ None
+IsTold v (found.Hashed a) = IsSeenHashed v a
+IsTold v (found.NeedLock lock state) = holds v (record { lock = lock; state = state }) ≡ false
 
 -- ---- what is wrong with it
 

@@ -7,7 +7,7 @@ ghost use Rattle.gfs2_layout.specs.Inode.{IsInode, dinode_in};
 ghost use Rattle.glock_names.specs.Steps.{IfDamaged};
 ghost use Rattle.glock_names.specs.Views.{HasBlock, IsOfView};
 ghost use Rattle.dinode_tree.specs.Shown.{IsShown};
-ghost use Rattle.read_calls.specs.Reading.{IsReading, IsRangeOf, IsStatOf, IsListOf, IsAnswerOf, IsWrong};
+ghost use Rattle.read_calls.specs.Reading.{IsReading, IsRangeOf, IsStatOf, IsListOf, IsAnswerOf, IsTold, IsWrong};
 
 use dinode_tree::read_range;
 use file_tree::{Call, Content, Kind, Name, NameList, Reply};
@@ -52,6 +52,7 @@ fn read_file<V: View>(
     requires there { HasBlock (V.seen view.now) place.now.inode }
     requires dinode { (h : Holding) → IsShown (V.seen view.now) place.now.inode h → place.now.dinode ≡ dinode_in h }
     ensures read { (h : Holding) → IsShown (V.seen view.now) place.now.inode h → IsBlockSize h.size → IsInode h → IfOk result (IsRangeOf (V.seen view.now) h at count) }
+    ensures told { IfOk result (IsTold (V.seen view.now)) }
     ensures damaged { (h : Holding) → IsShown (V.seen view.now) place.now.inode h → IfDamaged result (IsWrong h) }
     ensures kept { IfDamaged result (IsOfView (V.seen view.now)) }
 {
@@ -80,6 +81,7 @@ fn list<V: View>(alloc: Global, view: &V, place: &Place) -> Result<Read, CallFau
     requires there { HasBlock (V.seen view.now) place.now.inode }
     requires dinode { (h : Holding) → IsShown (V.seen view.now) place.now.inode h → place.now.dinode ≡ dinode_in h }
     ensures read { (h : Holding) → IsShown (V.seen view.now) place.now.inode h → IfOk result (IsListOf h) }
+    ensures told { IfOk result (IsTold (V.seen view.now)) }
     ensures damaged { (h : Holding) → IsShown (V.seen view.now) place.now.inode h → IfDamaged result (IsWrong h) }
     ensures kept { IfDamaged result (IsOfView (V.seen view.now)) }
 {
@@ -106,6 +108,7 @@ pub(crate) fn answer_at<V: View>(
     requires there { HasBlock (V.seen view.now) place.now.inode }
     requires dinode { (h : Holding) → IsShown (V.seen view.now) place.now.inode h → place.now.dinode ≡ dinode_in h }
     ensures read { (h : Holding) → IsShown (V.seen view.now) place.now.inode h → IsBlockSize h.size → IsInode h → IfOk result (IsAnswerOf (V.seen view.now) h call.now) }
+    ensures told { IfOk result (IsTold (V.seen view.now)) }
     ensures damaged { (h : Holding) → IsShown (V.seen view.now) place.now.inode h → IfDamaged result (IsWrong h) }
     ensures kept { IfDamaged result (IsOfView (V.seen view.now)) }
 {

@@ -3,7 +3,7 @@ use Rattle.std.proofs.lemmas.Option.{slice_get-get_or}
 use Rattle.image_model.specs.Owners.{holding}
 use Rattle.path_walks.specs.Walks.{IsVisited, IsStepped}
 use Rattle.path_walks.proofs.Steps.{handed, tells_so}
-use Rattle.path_walks.proofs.Walking.{IsAfter, wanted_at, begins, stops_at_root, shown_at, goes_on, ends, arrives, no_damage, not_at, root_sound, root_damages}
+use Rattle.path_walks.proofs.Walking.{IsAfter, wanted_at, begins, stops_at_root, shown_at, goes_on, ends, arrives, no_damage, visit_tells, step_tells, root_sound, root_damages}
 use Rattle.path_walks.proofs.walk.walk_along.Goals as goal
 
 pub returns-in_err-end-clause-sound : goal.returns-in_err-end-clause-sound
@@ -20,7 +20,7 @@ returns-in_default g c =
     record {
       walked = stops_at_root v c.args.names.now c.args.wants.now c.requires.order c.state_at.result c.root-root.result c.in_ok-end.end
           (wanted_at c.args.wants.now 0 c.state_at.result (omega (arith, c.requires.as_many)) c.state_at.ensures) c.root-root.ensures c.in_ok-end.ensures.visited c.in_default.not-At;
-      seen = not_at _ c.in_ok-end.end c.in_default.not-At;
+      told = visit_tells v c.root-root.result c.root-root.result c.state_at.result c.in_ok-end.end c.in_ok-end.ensures.visited;
       sound = λ im o l t of. tt;
       damaged = tt;
       kept = tt;
@@ -56,7 +56,7 @@ returns-in_default-2 g c =
       walked = ends v c.args.names.now c.args.wants.now c.requires.order i c.name-item.result c.loop-name.place named c.loop-name.invariant.after c.state_at-in-loop-name.result c.in_ok-end-2.end
           (wanted_at c.args.wants.now (suc i) c.state_at-in-loop-name.result (omega (arith, c.requires.as_many, c.loop-name-test.true))
           (λ w at. c.state_at-in-loop-name.ensures w (ap (slice_get c.args.wants.now) depth ∙ at))) c.in_ok-end-2.ensures.stepped c.in_default-2.not-At;
-      seen = not_at _ c.in_ok-end-2.end c.in_default-2.not-At;
+      told = step_tells v c.loop-name.place.inode c.name-item.result c.state_at-in-loop-name.result c.in_ok-end-2.end c.loop-name.invariant.after.there c.in_ok-end-2.ensures.stepped;
       sound = λ im o l t of. tt;
       damaged = tt;
       kept = tt;

@@ -1,6 +1,6 @@
 use Rattle.std.proofs.Common.{sym, ◌∙◌}
 use Rattle.glock_names.proofs.StepLaws.{answer_at, needed_at}
-use Rattle.dinode_tree.proofs.Sound.{sound_is_whole}
+use Rattle.dinode_tree.proofs.Sound.{some_is_shown, sound_is_whole}
 use Rattle.path_walks.proofs.Steps.{handed, tells_so}
 use Rattle.read_calls.specs.Reading.{IsWrong, in_inode}
 use Rattle.read_calls.proofs.Answering.{file_so}
@@ -21,3 +21,8 @@ returns-in-NeedBlock-clause-read g c h shown block sound = (
   file_so h c.args.place.now.dinode (c.requires.dinode h shown) (sym c.is_directory.ensures ∙ c.if-is_directory.false),
   needed_at _ _ _ c.in-NeedBlock.is (c.in_ok-bytes.ensures.needed h shown),
 )
+
+pub returns-in-NeedBlock-clause-told : goal.returns-in-NeedBlock-clause-told
+returns-in-NeedBlock-clause-told g c =
+    let s = some_is_shown (g.V.View.seen c.args.view.now) c.args.place.now.inode in
+    (needed_at _ _ _ c.in-NeedBlock.is (c.in_ok-bytes.ensures.needed s.0 s.1.0)).absent
