@@ -1,20 +1,24 @@
 -- A step of a walk, as far as the view tells.
 use Rattle.std.proofs.Common.{◌≡◌, ◌==◌, ◌&&◌, inl, inr, ℕ, Bool, true, false, List, Option, None, Some, Result, Ok, Err, true≢false, refl, sym, ap, subst, ◌∙◌}
 use Rattle.std.proofs.lemmas.Bool.{eqb-true, cases_Bool}
-use Rattle.std.specs.Prelude.{option_map, is_some, IfNone, IsErrAnd}
+use Rattle.std.specs.Prelude.{option_map, is_some, IfSome, IfNone, IsErrAnd}
 use Rattle.gfs2_layout.specs.Holding.{Holding}
 use Rattle.gfs2_layout.specs.Inode.{dinode_in, is_directory_in, is_hashed_in, has_hash_flag}
 use Rattle.gfs2_layout.specs.Records.{Record, child_named, record_named}
 use Rattle.gfs2_layout.specs.Structures.{dinode_of, is_directory}
 use Rattle.gfs2_layout.specs.declared.dinode.Dinode.{Dinode}
-use Rattle.glock_names.specs.Steps.{IfDamaged, IsDamage, TellsOf}
-use Rattle.glock_names.specs.Views.{Seen}
+use Rattle.glock_names.specs.Steps.{OnlyDamaged, IsDamage}
+use Rattle.glock_names.specs.Views.{Seen, HasGroup}
+use Rattle.glock_names.specs.declared.views.Group.{Group}
+use Rattle.resource_groups.specs.Shown.{IsDataOf}
+use Rattle.resource_groups.specs.Putting.{HasDataBlock}
 use Rattle.glock_names.specs.declared.steps.CallFault.{CallFault}
 use Rattle.glock_names.specs.declared.steps.CallFault.TheVariants.{Damaged, NoMemory}
 use Rattle.glock_names.specs.declared.steps.Entry.{Entry}
 use Rattle.dinode_tree.specs.Shown.{IsShown}
 use Rattle.dinode_tree.proofs.Sound.{some_is_shown}
 use Rattle.linear_dirs.specs.Shown.{IsLinearIn, entry_of}
+use Rattle.path_walks.specs.Walks.{IsLinearDirectory}
 
 -- the dinode that was read is that of the block which the view has
 pub read_here : (v : Seen) (a : ℕ) (d : Dinode) (bytes : List ℕ) → ((h : Holding) → IsShown v a h → d ≡ dinode_in h) → v.block_at a ≡ Some bytes → d ≡ dinode_of bytes
@@ -67,35 +71,47 @@ no_child records name is = each (record_named records name) is
         no q = cc
 
 -- a fault that is handed on
-pub handed : {B : Type 0} (Q : ℕ → ℕ → Type 0) (r : Result B CallFault) (f : CallFault) → IsErrAnd r (λ g. g ≡ f) → TellsOf Q f → IfDamaged r Q
-handed Q (Ok answer) f is tells = tt
-handed Q (Err g) f is tells = subst (TellsOf Q) (sym is) tells
-
--- a call that takes no memory tells of damage alone
-pub only_tells : (P : ℕ → ℕ → Type 0) (f : CallFault) → IsDamage P f → TellsOf P f
-only_tells P NoMemory none = absurd none
-only_tells P (Damaged b rule) tells = tells
+pub handed : {B : Type 0} (Q : ℕ → ℕ → Type 0) (r : Result B CallFault) (f : CallFault) → IsErrAnd r (λ g. g ≡ f) → IsDamage Q f → OnlyDamaged r Q
+handed Q (Ok answer) f is damage = tt
+handed Q (Err g) f is damage = subst (IsDamage Q) (sym is) damage
 
 -- damage of one kind is damage of another
-pub tells_so : (P Q : ℕ → ℕ → Type 0) → ((rule b : ℕ) → P rule b → Q rule b) → (f : CallFault) → TellsOf P f → TellsOf Q f
-tells_so P Q so NoMemory tells = tt
-tells_so P Q so (Damaged b rule) tells = so rule b tells
+pub fault_so : (P Q : ℕ → ℕ → Type 0) → ((rule b : ℕ) → P rule b → Q rule b) → (f : CallFault) → IsDamage P f → IsDamage Q f
+fault_so P Q so NoMemory damage = absurd damage
+fault_so P Q so (Damaged b rule) damage = so rule b damage
 
-pub damage_so : {A : Type 0} (P Q : ℕ → ℕ → Type 0) → ((rule b : ℕ) → P rule b → Q rule b) → (r : Result A CallFault) → IfDamaged r P → IfDamaged r Q
+pub damage_so : {A : Type 0} (P Q : ℕ → ℕ → Type 0) → ((rule b : ℕ) → P rule b → Q rule b) → (r : Result A CallFault) → OnlyDamaged r P → OnlyDamaged r Q
 damage_so P Q so (Ok answer) damage = tt
-damage_so P Q so (Err f) damage = tells_so P Q so f damage
+damage_so P Q so (Err f) damage = fault_so P Q so f damage
 
 -- what is told is so of whatever the view shows
-pub tells_all : (v : Seen) (a : ℕ) (P : Holding → ℕ → ℕ → Type 0) (f : CallFault) → ((h : Holding) → IsShown v a h → TellsOf (P h) f)
-    → TellsOf (λ rule b. (h : Holding) → IsShown v a h → P h rule b) f
-tells_all v a P NoMemory tells = tt
-tells_all v a P (Damaged b rule) tells = tells
+pub fault_all : (v : Seen) (a : ℕ) (P : Holding → ℕ → ℕ → Type 0) (f : CallFault) → ((h : Holding) → IsShown v a h → IsDamage (P h) f)
+    → IsDamage (λ rule b. (h : Holding) → IsShown v a h → P h rule b) f
+fault_all v a P NoMemory damage = let s = some_is_shown v a in absurd (damage s.0 s.1.0)
+fault_all v a P (Damaged b rule) damage = damage
 
-pub damage_all : {A : Type 0} (v : Seen) (a : ℕ) (P : Holding → ℕ → ℕ → Type 0) (r : Result A CallFault) → ((h : Holding) → IsShown v a h → IfDamaged r (P h))
-    → IfDamaged r (λ rule b. (h : Holding) → IsShown v a h → P h rule b)
+pub damage_all : {A : Type 0} (v : Seen) (a : ℕ) (P : Holding → ℕ → ℕ → Type 0) (r : Result A CallFault) → ((h : Holding) → IsShown v a h → OnlyDamaged r (P h))
+    → OnlyDamaged r (λ rule b. (h : Holding) → IsShown v a h → P h rule b)
 damage_all v a P (Ok answer) damage = tt
-damage_all v a P (Err f) damage = tells_all v a P f damage
+damage_all v a P (Err f) damage = fault_all v a P f damage
+
+pub fault_both : (P Q : ℕ → ℕ → Type 0) (f : CallFault) → IsDamage P f → IsDamage Q f → IsDamage (λ rule b. P rule b × Q rule b) f
+fault_both P Q NoMemory p q = p
+fault_both P Q (Damaged b rule) p q = (p, q)
+
+pub damage_both : {A : Type 0} (P Q : ℕ → ℕ → Type 0) (r : Result A CallFault) → OnlyDamaged r P → OnlyDamaged r Q → OnlyDamaged r (λ rule b. P rule b × Q rule b)
+damage_both P Q (Ok answer) p q = tt
+damage_both P Q (Err f) p q = fault_both P Q f p q
 
 pub none_so : {X : Type 0} (P : Type 0) (x : Option X) → is_some x ≡ false → IfNone x P → P
 none_so P None none so = so
 none_so P (Some x) none so = absurd (true≢false none)
+
+-- the directory that was read, and the name that was looked up in it
+pub linear_all : (v : Seen) (a : ℕ) (d : Dinode) → ((h : Holding) → IsShown v a h → d ≡ dinode_in h) → is_directory d ≡ true → has_hash_flag d ≡ false
+    → (h : Holding) → IsShown v a h → IsLinearDirectory h
+linear_all v a d dinode dir plain h shown = record { directory = directory_so h d (dinode h shown) dir; linear = plain_so h d (dinode h shown) plain }
+
+pub inside_so : (v : Seen) (b : ℕ) (x : Option Group) → is_some x ≡ true → IfSome x (HasGroup v) → IfSome x (λ g. IsDataOf g b) → HasDataBlock v b
+inside_so v b None some group own = absurd (true≢false (sym some))
+inside_so v b (Some g) some group own = (g, group, own)

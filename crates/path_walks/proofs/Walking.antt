@@ -1,7 +1,7 @@
 -- A walk, name by name.
-use Rattle.std.proofs.Common.{◌≡◌, ℕ, suc, ◌+◌, ◌<◌, true, false, List, [], ◌∷◌, ◌++◌, length, take, drop, slice_get, None, Some, get_or, refl, sym, ap, subst, subst₂, ◌∙◌, arith}
+use Rattle.std.proofs.Common.{◌≡◌, ℕ, suc, ◌+◌, ◌<◌, true, false, List, [], ◌∷◌, ◌++◌, length, take, drop, slice_get, None, Some, get_or, refl, sym, ap, ap₂, subst, subst₂, ◌∙◌, arith}
 use Rattle.std.proofs.lemmas.List.Elements.{All-nil, All-push}
-use Rattle.std.proofs.lemmas.List.{take-append-drop, take_all, drop_all}
+use Rattle.std.proofs.lemmas.List.{append_assoc, take-append-drop, take_all, drop_all}
 use Rattle.std.proofs.Math.Seq.{take-length}
 use Rattle.file_tree.specs.declared.reply.Reply.TheVariants.{NotFound, NotDir}
 use Rattle.file_tree.specs.Tree.{Tree}
@@ -9,9 +9,7 @@ use Rattle.file_tree.specs.Names.{IsName, parent_of}
 use Rattle.file_tree.specs.Apply as tree
 use Rattle.gfs2_layout.specs.Holding.{Holding}
 use Rattle.gfs2_layout.specs.Inode.{dinode_in, is_directory_in, is_hashed_in}
-use Rattle.glock_names.specs.Steps.{TellsOf}
 use Rattle.glock_names.specs.Views.{Seen, HasBlock}
-use Rattle.glock_names.specs.declared.steps.CallFault.{CallFault}
 use Rattle.glock_names.specs.declared.State.{State}
 use Rattle.glock_names.specs.declared.State.TheVariants.{Un}
 use Rattle.std.proofs.lemmas.Option.{slice_get-get_or}
@@ -20,8 +18,6 @@ use Rattle.dinode_tree.specs.Broken as inode
 use Rattle.dinode_tree.specs.Shown.{IsShown}
 use Rattle.dinode_tree.specs.Walking.{missing_dinode}
 use Rattle.glock_names.specs.declared.steps.Missing.{Missing}
-use Rattle.linear_dirs.specs.Broken.{of_inode}
-use Rattle.dinode_tree.proofs.Sound.{some_is_shown}
 use Rattle.image_model.specs.Flat.{Path, Flat, follow}
 use Rattle.image_model.specs.Image.{Image}
 use Rattle.image_model.specs.Owners.{Owners, holding}
@@ -30,12 +26,15 @@ use Rattle.image_changes.specs.Does.{IsOf}
 use Rattle.image_changes.specs.Instances.{IsAt}
 use Rattle.image_changes.proofs.Walks.{walks_end}
 use Rattle.path_walks.specs.Holds.{Hold, AreHeld, IsAskedFor, hold_for, hold_of, holds, holds_in, holds_on}
-use Rattle.path_walks.specs.Walks.{IsTold, AreInOrder, IsWalked, IsVisited, GoesOn, IsStepped, IsDamage, in_inode, IsDamageAhead, in_directory, past_groups, in_child}
+use Rattle.path_walks.specs.Walks.{AreInOrder, Names, IsHeldAt, LeadsTo, at_root, by_name, IsNext, the_root, the_child, IsSeenAt, IsTold, IsWalked, in_inode, in_directory, IsDamage, on_path, leads_out, IsReadAt, IsVisited, GoesOn, IsStepped, IsDamageAhead, in_this, past_groups, in_child}
 use Rattle.path_walks.specs.declared.walk.Place.{Place}
 use Rattle.path_walks.specs.declared.walk.Walk.{Walk}
 use Rattle.path_walks.specs.declared.walk.Walk.TheVariants as walk
 use Rattle.path_walks.proofs.Images.{is_inode, is_shown, child_is_there, no_child_of_file, lock_of_inode, dinode_used, dinode_plain, unbroken, unbroken_directory, child_in_group}
-use Rattle.path_walks.proofs.Steps.{tells_so, tells_all}
+use Rattle.resource_groups.specs.Putting.{HasDataBlock}
+use Rattle.image_model.proofs.Held.{some_same}
+use Rattle.std.proofs.lemmas.Option.{slice_get_within}
+use Rattle.std.proofs.lemmas.List.{length-take-le}
 use Rattle.path_walks.proofs.Lists.{split_at, made_at, with_next, no_more, nowhere, onward, parent_of_next, take_next}
 
 -- the want at a place of the list is for this state
@@ -65,7 +64,15 @@ pub record IsReached (v : Seen) (im : Image) (o : Owners) (l : Layout) (names : 
 pub record IsAfter (v : Seen) (names : Path) (wants : List Want) (i : ℕ) (p : Place) : Type 0 where
   pub there : HasBlock v p.inode
   pub dinode : (h : Holding) → IsShown v p.inode h → p.dinode ≡ dinode_in h
+  pub leads : LeadsTo v wants (take i names) p.inode
+  pub above : LeadsTo v wants (parent_of (take i names)) p.above
   pub images : (im : Image) (o : Owners) (l : Layout) (t : Tree) → IsOf v im o l t → IsReached v im o l names wants i p
+
+-- the lock of an inode at a depth is held as it is wanted there
+pub held_at : (v : Seen) (wants : List Want) (k a : ℕ) (state : State) → IsWantedAt wants k state → holds v (hold_of a state) ≡ true → IsHeldAt v wants k a
+held_at v wants k a state wanted held w at =
+    let same : w.state ≡ state = ap (λ (x : Want). x.state) (some_same (sym at ∙ wanted.at)) ∙ wanted.is in
+    ap (λ s. holds v (hold_of a s)) same ∙ held
 
 module _ (v : Seen) (names : Path) (wants : List Want) (order : AreInOrder wants) where
   module _ (im : Image) (o : Owners) (l : Layout) (t : Tree) (of : IsOf v im o l t) where
@@ -130,87 +137,113 @@ module _ (v : Seen) (names : Path) (wants : List Want) (order : AreInOrder wants
           held = All-push (λ h. holds v h ≡ true) (holds_on fl l.root names (take k wants)) (hold_of a w.state) held visited.2;
         })
 
-    pub root_at : (a : ℕ) → a ≡ v.root → IsAt im o l (take 0 names) a
-    root_at a e = ap Some (of.root ∙ sym e)
+    pub at_the_root : (a : ℕ) → a ≡ v.root → IsAt im o l (take 0 names) a
+    at_the_root a e = ap Some (of.root ∙ sym e)
 
     none_held : AreHeld v (holds_on fl l.root names (take 0 wants))
     none_held = All-nil (λ h. holds v h ≡ true)
 
   -- ---- the root
 
-  begins_at : (w : Want) (p : Place) → slice_get wants 0 ≡ Some w → IsVisited v v.root v.root w.state (walk.At p) → IsAfter v names wants 0 p
+  begins_at : (w : Want) (p : Place) → slice_get wants 0 ≡ Some w → IsReadAt v v.root v.root w.state p → IsAfter v names wants 0 p
   begins_at w p at visited = record {
     there = subst (HasBlock v) (sym visited.inode) visited.there;
     dinode = λ h shown. visited.dinode h (subst (λ a. IsShown v a h) visited.inode shown);
+    leads = subst (LeadsTo v wants []) (sym visited.inode) (at_root (held_at v wants 0 v.root w.state (record { want = w; at = at; is = refl }) visited.held));
+    above = subst (LeadsTo v wants []) (sym visited.above_is) (at_root (held_at v wants 0 v.root w.state (record { want = w; at = at; is = refl }) visited.held));
     images = λ im o l t of. record {
-      at = root_at im o l t of p.inode visited.inode;
-      above = root_at im o l t of p.above visited.above_is;
-      held = more_held im o l t of 0 w p.inode at (root_at im o l t of p.inode visited.inode) (none_held im o l t of) (ap (λ a. holds v (hold_of a w.state)) visited.inode ∙ visited.held);
+      at = at_the_root im o l t of p.inode visited.inode;
+      above = at_the_root im o l t of p.above visited.above_is;
+      held = more_held im o l t of 0 w p.inode at (at_the_root im o l t of p.inode visited.inode) (none_held im o l t of) (ap (λ a. holds v (hold_of a w.state)) visited.inode ∙ visited.held);
     };
   }
 
-  pub begins : (state : State) (root : ℕ) (p : Place) → IsWantedAt wants 0 state → root ≡ v.root → IsVisited v root root state (walk.At p) → IsAfter v names wants 0 p
-  begins state root p wanted is visited = begins_at wanted.want p wanted.at (subst₂ (λ r s. IsVisited v r r s (walk.At p)) is (sym wanted.is) visited)
+  pub begins : (state : State) (root : ℕ) (p : Place) → IsWantedAt wants 0 state → root ≡ v.root → IsReadAt v root root state p → IsAfter v names wants 0 p
+  begins state root p wanted is visited = begins_at wanted.want p wanted.at (subst₂ (λ r s. IsReadAt v r r s p) is (sym wanted.is) visited)
 
   stops_at : (w : Want) (e : Walk) → slice_get wants 0 ≡ Some w → IsVisited v v.root v.root w.state e → ((p : Place) → e ≡ walk.At p → ⊥)
       → (im : Image) (o : Owners) (l : Layout) (t : Tree) → IsOf v im o l t → IsWalked v im o l t names wants e
-  stops_at w e at visited other im o l t of = stops im o l t of 0 w v.root v.root at (root_at im o l t of v.root refl) (none_held im o l t of) e visited other
+  stops_at w e at visited other im o l t of = stops im o l t of 0 w v.root v.root at (at_the_root im o l t of v.root refl) (none_held im o l t of) e visited other
 
   pub stops_at_root : (state : State) (root : ℕ) (e : Walk) → IsWantedAt wants 0 state → root ≡ v.root → IsVisited v root root state e → ((p : Place) → e ≡ walk.At p → ⊥)
       → (im : Image) (o : Owners) (l : Layout) (t : Tree) → IsOf v im o l t → IsWalked v im o l t names wants e
   stops_at_root state root e wanted is visited = stops_at wanted.want e wanted.at (subst₂ (λ r s. IsVisited v r r s e) is (sym wanted.is) visited)
 
+  -- an inode to which the path leads was the next one, and its lock is held
+  came : (path : Path) (a : ℕ) → LeadsTo v wants path a → (rest : Path) → names ≡ path ++ rest → (depth : ℕ) × IsNext v wants names depth a × IsHeldAt v wants depth a
+  came [] a (at_root held) rest on = (0, the_root, held)
+  came path a (by_name front dir b name leads is_name named inside held) rest on =
+      (length front + 1, the_child front rest dir b name (on ∙ append_assoc front (name ∷ []) rest) leads is_name named inside, held)
+
   -- ---- from a place on by the next name
 
-  module _ (i : ℕ) (name : List ℕ) (p : Place) (named : slice_get names i ≡ Some name) (before : IsAfter v names wants i p) where
-    -- the inode to which the name leads
-    child_at : (im : Image) (o : Owners) (l : Layout) (t : Tree) (of : IsOf v im o l t) (state : State) (e : Walk) → (g : GoesOn v (holding im o p.inode) name state e)
-        → IsAt im o l (take (suc i) names) g.child
-    child_at im o l t of state e g =
-        let r = before.images im o l t of in
-        onward (flat_of im o) l.root p.inode names i name named r.at ∙ child_is_there v im o l t of (take i names) p.inode name r.at g.is_name g.directory ∙ g.found
+  module _ (i : ℕ) (name : List ℕ) (p : Place) (named : slice_get names i ≡ Some name) (before : IsAfter v names wants i p) (is_name : IsName name) where
+    abbrev shown_as : Image → Owners → Holding
+    shown_as im o = holding im o p.inode
+
+    long : length (take i names) ≡ i
+    long = length-take-le i names (omega (arith, slice_get_within names i name named))
+
+    front : names ≡ take i names ++ name ∷ drop (suc i) names
+    front = split_at names i name named
 
     pub shown_at : (im : Image) (o : Owners) (l : Layout) (t : Tree) (of : IsOf v im o l t) → IsShown v p.inode (holding im o p.inode)
     shown_at im o l t of = is_shown v im o l t of (take i names) p.inode (before.images im o l t of).at
 
-    goes_on_at : (w : Want) (q : Place) → slice_get wants (suc i) ≡ Some w → ((h : Holding) → IsShown v p.inode h → IsStepped v h name w.state (walk.At q)) → IsAfter v names wants (suc i) q
-    goes_on_at w q at stepped =
-        let s = some_is_shown v p.inode in
-        let g = stepped s.0 s.1.0 in
+    -- the inode to which the name leads
+    child_at : (im : Image) (o : Owners) (l : Layout) (t : Tree) (of : IsOf v im o l t) (child : ℕ) → Names v p.inode name child → IsAt im o l (take (suc i) names) child
+    child_at im o l t of child leads =
+        let r = before.images im o l t of in
+        let shown = shown_at im o l t of in
+        onward (flat_of im o) l.root p.inode names i name named r.at
+        ∙ child_is_there v im o l t of (take i names) p.inode name r.at is_name (leads.linear (holding im o p.inode) shown).directory ∙ leads.child (holding im o p.inode) shown
+
+    next : (child : ℕ) → Names v p.inode name child → HasDataBlock v child → IsNext v wants names (suc i) child
+    next child leads inside =
+        subst (λ n. IsNext v wants names n child) (ap (λ n. n + 1) long ∙ omega arith) (the_child (take i names) (drop (suc i) names) p.inode child name front before.leads is_name leads inside)
+
+    goes_on_at : (w : Want) (q : Place) → slice_get wants (suc i) ≡ Some w → GoesOn v p.inode name w.state (walk.At q) → IsAfter v names wants (suc i) q
+    goes_on_at w q at g =
+        let path = take_next names i name named in
+        let held : IsHeldAt v wants (suc i) g.child = held_at v wants (suc i) g.child w.state (record { want = w; at = at; is = refl }) g.visited.held in
+        let leads : LeadsTo v wants (take i names ++ name ∷ []) g.child = by_name (take i names) p.inode g.child name before.leads is_name g.names g.inside
+        (subst (λ n. IsHeldAt v wants n g.child) (sym (ap (λ n. n + 1) long ∙ omega arith)) held) in
         record {
           there = subst (HasBlock v) (sym g.visited.inode) g.visited.there;
           dinode = λ h shown. g.visited.dinode h (subst (λ a. IsShown v a h) g.visited.inode shown);
+          leads = subst₂ (LeadsTo v wants) (sym path) (sym g.visited.inode) leads;
+          above = subst₂ (LeadsTo v wants) (sym (ap parent_of path ∙ parent_of_next (take i names) name)) (sym g.visited.above_is) before.leads;
           images = λ im o l t of.
               let r = before.images im o l t of in
-              let k = stepped (holding im o p.inode) (shown_at im o l t of) in
-              let here : IsAt im o l (take (suc i) names) q.inode = child_at im o l t of w.state (walk.At q) k ∙ ap Some (sym k.visited.inode) in
+              let here : IsAt im o l (take (suc i) names) q.inode = child_at im o l t of g.child g.names ∙ ap Some (sym g.visited.inode) in
               record {
                 at = here;
-                above = ap (follow (flat_of im o) l.root) (ap parent_of (take_next names i name named) ∙ parent_of_next (take i names) name) ∙ r.at ∙ ap Some (sym k.visited.above_is);
-                held = more_held im o l t of (suc i) w q.inode at here r.held (ap (λ a. holds v (hold_of a w.state)) k.visited.inode ∙ k.visited.held);
+                above = ap (follow (flat_of im o) l.root) (ap parent_of path ∙ parent_of_next (take i names) name) ∙ r.at ∙ ap Some (sym g.visited.above_is);
+                held = more_held im o l t of (suc i) w q.inode at here r.held (ap (λ a. holds v (hold_of a w.state)) g.visited.inode ∙ g.visited.held);
               };
         }
 
-    pub goes_on : (state : State) (q : Place) → IsWantedAt wants (suc i) state → ((h : Holding) → IsShown v p.inode h → IsStepped v h name state (walk.At q)) → IsAfter v names wants (suc i) q
-    goes_on state q wanted stepped = goes_on_at wanted.want q wanted.at (λ h shown. subst (λ s. IsStepped v h name s (walk.At q)) (sym wanted.is) (stepped h shown))
+    pub goes_on : (state : State) (q : Place) → IsWantedAt wants (suc i) state → IsStepped v p.inode name state (walk.At q) → IsAfter v names wants (suc i) q
+    goes_on state q wanted stepped = goes_on_at wanted.want q wanted.at (subst (λ s. IsStepped v p.inode name s (walk.At q)) (sym wanted.is) stepped)
 
     refused : (im : Image) (o : Owners) (l : Layout) (t : Tree) (of : IsOf v im o l t) → (flat_of im o p.inode).child name ≡ None
         → ((is_directory_in (holding im o p.inode) ≡ true → tree.walk t names ≡ tree.Refused NotFound) × (is_directory_in (holding im o p.inode) ≡ false → tree.walk t names ≡ tree.Refused NotDir))
     refused im o l t of none =
         let r = before.images im o l t of in
         let e = walks_end im o l t (take i names) p.inode name (drop (suc i) names) of.stands r.at none in
-        let whole = ap (tree.walk t) (split_at names i name named) in
+        let whole = ap (tree.walk t) front in
         ((λ dir. whole ∙ e.0 dir), (λ file. whole ∙ e.1 file))
 
     -- the walk ends here
-    ends_at : (w : Want) (e : Walk) → slice_get wants (suc i) ≡ Some w → ((h : Holding) → IsShown v p.inode h → IsStepped v h name w.state e) → ((q : Place) → e ≡ walk.At q → ⊥)
+    ends_at : (w : Want) (e : Walk) → slice_get wants (suc i) ≡ Some w → IsStepped v p.inode name w.state e → ((q : Place) → e ≡ walk.At q → ⊥)
         → (im : Image) (o : Owners) (l : Layout) (t : Tree) → IsOf v im o l t → IsWalked v im o l t names wants e
     ends_at w (walk.At q) at stepped other im o l t of = absurd (other q refl)
     ends_at w walk.NotFound at stepped other im o l t of =
         let r = before.images im o l t of in
-        let k = stepped (holding im o p.inode) (shown_at im o l t of) in
-        let none = child_is_there v im o l t of (take i names) p.inode name r.at k.1 k.0 ∙ k.2 in
-        ((refused im o l t of none).0 k.0, list_ends im o l t of i p.inode name named r.at none r.held)
+        let shown = shown_at im o l t of in
+        let dir = (stepped.linear (holding im o p.inode) shown).directory in
+        let none = child_is_there v im o l t of (take i names) p.inode name r.at is_name dir ∙ stepped.absent (holding im o p.inode) shown in
+        ((refused im o l t of none).0 dir, list_ends im o l t of i p.inode name named r.at none r.held)
     ends_at w walk.NotDir at stepped other im o l t of =
         let r = before.images im o l t of in
         let file = stepped (holding im o p.inode) (shown_at im o l t of) in
@@ -218,35 +251,92 @@ module _ (v : Seen) (names : Path) (wants : List Want) (order : AreInOrder wants
         ((refused im o l t of none).1 file, list_ends im o l t of i p.inode name named r.at none r.held)
     ends_at w (walk.Hashed b) at stepped other im o l t of =
         let r = before.images im o l t of in
-        let k = stepped (holding im o p.inode) (shown_at im o l t of) in
+        let so : suc i ≡ length (take i names) + 1 = omega (arith, long) in
         record {
           front = take i names;
-          back = drop i names;
-          on_path = sym (take-append-drop i names);
-          at = r.at ∙ ap Some (sym k.0);
-          hashed = ap (λ a. is_hashed_in (holding im o a)) k.0 ∙ k.1;
+          back = drop (suc i) names;
+          next = name;
+          on_path = front;
+          at = r.at ∙ ap Some (sym stepped.0);
+          hashed = ap (λ a. is_hashed_in (holding im o a)) stepped.0 ∙ stepped.1 (holding im o p.inode) (shown_at im o l t of);
+          held = subst (λ n. AreHeld v (holds_in im o l names (take n wants))) so r.held;
         }
     ends_at w (walk.NeedLock lock state) at stepped other im o l t of =
-        let k = stepped (holding im o p.inode) (shown_at im o l t of) in
-        stops im o l t of (suc i) w k.child p.inode at (child_at im o l t of w.state (walk.NeedLock lock state) k) (before.images im o l t of).held (walk.NeedLock lock state) k.visited other
+        stops im o l t of (suc i) w stepped.child p.inode at (child_at im o l t of stepped.child stepped.names) (before.images im o l t of).held (walk.NeedLock lock state) stepped.visited other
     ends_at w (walk.NeedBlock m) at stepped other im o l t of =
-        let k = stepped (holding im o p.inode) (shown_at im o l t of) in
-        stops im o l t of (suc i) w k.child p.inode at (child_at im o l t of w.state (walk.NeedBlock m) k) (before.images im o l t of).held (walk.NeedBlock m) k.visited other
+        stops im o l t of (suc i) w stepped.child p.inode at (child_at im o l t of stepped.child stepped.names) (before.images im o l t of).held (walk.NeedBlock m) stepped.visited other
 
-    pub ends : (state : State) (e : Walk) → IsWantedAt wants (suc i) state → ((h : Holding) → IsShown v p.inode h → IsStepped v h name state e) → ((q : Place) → e ≡ walk.At q → ⊥)
+    pub ends : (state : State) (e : Walk) → IsWantedAt wants (suc i) state → IsStepped v p.inode name state e → ((q : Place) → e ≡ walk.At q → ⊥)
         → (im : Image) (o : Owners) (l : Layout) (t : Tree) → IsOf v im o l t → IsWalked v im o l t names wants e
-    ends state e wanted stepped = ends_at wanted.want e wanted.at (λ h shown. subst (λ s. IsStepped v h name s e) (sym wanted.is) (stepped h shown))
+    ends state e wanted stepped = ends_at wanted.want e wanted.at (subst (λ s. IsStepped v p.inode name s e) (sym wanted.is) stepped)
 
-    -- and meets no damage
-    pub no_damage : (im : Image) (o : Owners) (l : Layout) (t : Tree) (of : IsOf v im o l t) (rule b : ℕ) → IsName name → IsDamageAhead v (holding im o p.inode) name rule b → ⊥
-    no_damage im o l t of rule b is_name (in_directory r c dir plain broken) = unbroken_directory v im o l t of (take i names) p.inode r c (before.images im o l t of).at dir plain broken
-    no_damage im o l t of rule b is_name (past_groups c dir found outside) =
+    -- and what is told of the view
+    pub tells : (state : State) (e : Walk) → IsWantedAt wants (suc i) state → IsStepped v p.inode name state e → ((q : Place) → e ≡ walk.At q → ⊥) → IsTold v wants names e
+    tells state (walk.At q) wanted stepped other = absurd (other q refl)
+    tells state walk.NotFound wanted stepped other = record {
+      front = take i names;
+      back = drop (suc i) names;
+      dir = p.inode;
+      name = name;
+      on_path = front;
+      leads = before.leads;
+      there = before.there;
+      linear = stepped.linear;
+      absent = stepped.absent;
+    }
+    tells state walk.NotDir wanted stepped other =
+        (p.inode, record { front = take i names; back = drop (suc i) names; name = name; on_path = front; leads = before.leads; there = before.there; so = stepped })
+    tells state (walk.Hashed b) wanted stepped other = record {
+      front = take i names;
+      back = drop (suc i) names;
+      name = name;
+      on_path = front;
+      leads = subst (LeadsTo v wants (take i names)) (sym stepped.0) before.leads;
+      there = subst (HasBlock v) (sym stepped.0) before.there;
+      so = λ h shown. stepped.1 h (subst (λ a. IsShown v a h) stepped.0 shown);
+    }
+    tells state (walk.NeedLock lock s) wanted stepped other = record {
+      depth = suc i;
+      inode = stepped.child;
+      next = next stepped.child stepped.names stepped.inside;
+      want = wanted.want;
+      wanted = wanted.at;
+      is = stepped.visited.0 ∙ ap (hold_of stepped.child) (sym wanted.is);
+      lacks = ap (λ x. holds v (hold_of stepped.child x)) wanted.is ∙ stepped.visited.1;
+    }
+    tells state (walk.NeedBlock m) wanted stepped other =
+        let same : m.block ≡ stepped.child = ap (λ (x : Missing). x.block) stepped.visited.0 in
+        record {
+          depth = suc i;
+          next = subst (IsNext v wants names (suc i)) (sym same) (next stepped.child stepped.names stepped.inside);
+          held = subst (IsHeldAt v wants (suc i)) (sym same) (held_at v wants (suc i) stepped.child state wanted stepped.visited.2);
+          absent = ap v.block_at same ∙ stepped.visited.1;
+          is = stepped.visited.0 ∙ ap missing_dinode (sym same);
+        }
+
+    -- damage that is met is damage on the path
+    pub damages : (state : State) → IsWantedAt wants (suc i) state → (rule b : ℕ) → IsDamageAhead v p.inode name state rule b → IsDamage v wants names rule b
+    damages state wanted rule b (in_this r c broken) =
+        let n = came (take i names) p.inode before.leads (drop i names) (sym (take-append-drop i names)) in
+        on_path n.0 p.inode r c n.1 n.2 (λ h shown. in_directory r c (broken h shown).0 (broken h shown).1)
+    damages state wanted rule b (past_groups c leads outside) = leads_out (take i names) (drop (suc i) names) p.inode c name front before.leads leads outside
+    damages state wanted rule b (in_child c r x leads inside held broken) =
+        on_path (suc i) c r x (next c leads inside) (held_at v wants (suc i) c state wanted held) (λ h shown. in_inode r x (broken h shown))
+
+    -- in an image that stands none is met
+    pub no_damage : (im : Image) (o : Owners) (l : Layout) (t : Tree) (of : IsOf v im o l t) (state : State) (rule b : ℕ) → IsDamageAhead v p.inode name state rule b → ⊥
+    no_damage im o l t of state rule b (in_this r c broken) =
+        let r' = before.images im o l t of in
+        let so = broken (holding im o p.inode) (shown_at im o l t of) in
+        unbroken_directory v im o l t of (take i names) p.inode r c r'.at so.0.directory so.0.linear so.1
+    no_damage im o l t of state rule b (past_groups c leads outside) =
         let r = before.images im o l t of in
-        outside (child_in_group v im o l t of p.inode c name (child_is_there v im o l t of (take i names) p.inode name r.at is_name dir ∙ found))
-    no_damage im o l t of rule b is_name (in_child c r x dir found broken) =
-        let s = before.images im o l t of in
-        let leads = onward (flat_of im o) l.root p.inode names i name named s.at ∙ child_is_there v im o l t of (take i names) p.inode name s.at is_name dir ∙ found in
-        unbroken v im o l t of (take (suc i) names) c r x leads (broken (holding im o c) (is_shown v im o l t of (take (suc i) names) c leads))
+        let shown = shown_at im o l t of in
+        outside (child_in_group v im o l t of p.inode c name
+        (child_is_there v im o l t of (take i names) p.inode name r.at is_name (leads.linear (holding im o p.inode) shown).directory ∙ leads.child (holding im o p.inode) shown))
+    no_damage im o l t of state rule b (in_child c r x leads inside held broken) =
+        let at = child_at im o l t of c leads in
+        unbroken v im o l t of (take (suc i) names) c r x at (broken (holding im o c) (is_shown v im o l t of (take (suc i) names) c at))
 
   -- at the last name
   pub arrives : (p : Place) → length wants ≡ length names + 1 → IsAfter v names wants (length names) p
@@ -272,43 +362,51 @@ module _ (v : Seen) (names : Path) (wants : List Want) (order : AreInOrder wants
         subst (λ ws. AreHeld v (holds_on (flat_of im o) l.root names ws)) (take_all (suc (length names)) wants (omega (arith, as_many))) r.held,
       )
 
+  pub arrival_tells : (p : Place) → IsAfter v names wants (length names) p → IsSeenAt v wants names p
+  arrival_tells p after =
+      let all = take-length names in
+      record {
+        leads = subst (λ path. LeadsTo v wants path p.inode) all after.leads;
+        there = after.there;
+        dinode = after.dinode;
+        above = subst (λ path. LeadsTo v wants (parent_of path) p.above) all after.above;
+      }
+
+  -- ---- at the root
+
+  pub root_tells : (state : State) (root : ℕ) (e : Walk) → IsWantedAt wants 0 state → root ≡ v.root → IsVisited v root root state e → ((p : Place) → e ≡ walk.At p → ⊥) → IsTold v wants names e
+  root_tells state root (walk.At p) wanted is visited other = absurd (other p refl)
+  root_tells state root walk.NotFound wanted is visited other = absurd visited
+  root_tells state root walk.NotDir wanted is visited other = absurd visited
+  root_tells state root (walk.Hashed b) wanted is visited other = absurd visited
+  root_tells state root (walk.NeedLock lock s) wanted is visited other = record {
+    depth = 0;
+    inode = v.root;
+    next = the_root;
+    want = wanted.want;
+    wanted = wanted.at;
+    is = visited.0 ∙ ap₂ hold_of is (sym wanted.is);
+    lacks = ap₂ (λ a x. holds v (hold_of a x)) (sym is) wanted.is ∙ visited.1;
+  }
+  root_tells state root (walk.NeedBlock m) wanted is visited other =
+      let same : m.block ≡ v.root = ap (λ (x : Missing). x.block) visited.0 ∙ is in
+      record {
+        depth = 0;
+        next = subst (IsNext v wants names 0) (sym same) the_root;
+        held = held_at v wants 0 m.block state wanted (ap (λ a. holds v (hold_of a state)) (same ∙ sym is) ∙ visited.2);
+        absent = ap v.block_at (same ∙ sym is) ∙ visited.1;
+        is = visited.0 ∙ ap missing_dinode (is ∙ sym same);
+      }
+
+  pub root_damages : (state : State) (root : ℕ) → IsWantedAt wants 0 state → root ≡ v.root → (rule b : ℕ)
+      → ((h : Holding) → IsShown v root h → inode.IsBroken h rule b) × (holds v (hold_of root state) ≡ true) → IsDamage v wants names rule b
+  root_damages state root wanted is rule b both =
+      on_path 0 v.root rule b the_root (held_at v wants 0 v.root state wanted (ap (λ a. holds v (hold_of a state)) (sym is) ∙ both.1))
+      (λ h shown. in_inode rule b (both.0 h (subst (λ a. IsShown v a h) (sym is) shown)))
+
 -- a visit of the root meets no damage
-pub root_sound : (v : Seen) (im : Image) (o : Owners) (l : Layout) (t : Tree) → IsOf v im o l t → (root : ℕ) → root ≡ v.root → (f : CallFault)
-    → ((h : Holding) → IsShown v root h → TellsOf (inode.IsBroken h) f) → TellsOf (λ rule b. ⊥) f
-root_sound v im o l t of root is f tells =
+pub root_sound : (v : Seen) (im : Image) (o : Owners) (l : Layout) (t : Tree) → IsOf v im o l t → (root : ℕ) → root ≡ v.root → (rule b : ℕ)
+    → ((h : Holding) → IsShown v root h → inode.IsBroken h rule b) → ⊥
+root_sound v im o l t of root is rule b broken =
     let at : IsAt im o l [] root = ap Some (of.root ∙ sym is) in
-    tells_so (inode.IsBroken (holding im o root)) (λ rule b. ⊥) (λ rule b broken. unbroken v im o l t of [] root rule b at broken) f (tells (holding im o root) (is_shown v im o l t of [] root at))
-
-root_damage : (v : Seen) (root rule b : ℕ) → ((h : Holding) → IsShown v root h → inode.IsBroken h rule b) → IsDamage v rule b
-root_damage v root rule b broken = in_inode root rule b (λ h shown. of_inode rule b (broken h shown))
-
-pub root_damages : (v : Seen) (root : ℕ) (f : CallFault) → ((h : Holding) → IsShown v root h → TellsOf (inode.IsBroken h) f) → TellsOf (IsDamage v) f
-root_damages v root f tells = tells_so _ (IsDamage v) (root_damage v root) f (tells_all v root inode.IsBroken f tells)
-
--- what a visit tells of the view, and what a step does
-pub visit_tells : (v : Seen) (a above : ℕ) (state : State) (e : Walk) → IsVisited v a above state e → IsTold v e
-visit_tells v a above state (walk.At p) visited = record {
-  there = subst (HasBlock v) (sym visited.inode) visited.there;
-  dinode = λ h shown. visited.dinode h (subst (λ b. IsShown v b h) visited.inode shown);
-}
-visit_tells v a above state walk.NotFound visited = tt
-visit_tells v a above state walk.NotDir visited = tt
-visit_tells v a above state (walk.Hashed b) visited = absurd visited
-visit_tells v a above state (walk.NeedLock lock s) visited = ap (holds v) visited.0 ∙ visited.1
-visit_tells v a above state (walk.NeedBlock m) visited =
-    let same = ap (λ (x : Missing). x.block) visited.0 in
-    (ap v.block_at same ∙ visited.1, visited.0 ∙ ap missing_dinode (sym same))
-
-pub step_tells : (v : Seen) (a : ℕ) (name : List ℕ) (state : State) (e : Walk) → HasBlock v a → ((h : Holding) → IsShown v a h → IsStepped v h name state e) → IsTold v e
-step_tells v a name state walk.NotFound has stepped = tt
-step_tells v a name state walk.NotDir has stepped = tt
-step_tells v a name state (walk.Hashed b) has stepped =
-    let s = some_is_shown v a in
-    let same : b ≡ a = (stepped s.0 s.1.0).0 ∙ s.1.0.own in
-    record { there = subst (HasBlock v) (sym same) has; hashed = λ h shown. (stepped h (subst (λ x. IsShown v x h) same shown)).1 }
-step_tells v a name state (walk.At p) has stepped =
-    let s = some_is_shown v a in let g = stepped s.0 s.1.0 in visit_tells v g.child s.0.own state (walk.At p) g.visited
-step_tells v a name state (walk.NeedLock lock st) has stepped =
-    let s = some_is_shown v a in let g = stepped s.0 s.1.0 in visit_tells v g.child s.0.own state (walk.NeedLock lock st) g.visited
-step_tells v a name state (walk.NeedBlock m) has stepped =
-    let s = some_is_shown v a in let g = stepped s.0 s.1.0 in visit_tells v g.child s.0.own state (walk.NeedBlock m) g.visited
+    unbroken v im o l t of [] root rule b at (broken (holding im o root) (is_shown v im o l t of [] root at))

@@ -1,5 +1,5 @@
 -- Which answer of a call over a view comes when.
-use Rattle.std.specs.Prelude.{ℕ, Result, Ok, Err, ⊤}
+use Rattle.std.specs.Prelude.{ℕ, Result, Ok, ⊤}
 use Rattle.file_tree.specs.declared.reply.Reply.{Reply}
 use Rattle.glock_names.specs.declared.LockName.{LockName}
 use Rattle.glock_names.specs.declared.State.{State}

@@ -1,5 +1,5 @@
--- Where a walk along a path ends, in an image that the view may be of.
-use Rattle.std.specs.Prelude.{ℕ, ◌≡◌, ◌++◌, ⊤, true, false, List, slice_get, None, Some}
+-- Where a walk along a path ends: as far as a view shows, and in an image that the view may be of.
+use Rattle.std.specs.Prelude.{ℕ, ◌≡◌, ◌+◌, ◌++◌, true, false, List, [], ◌∷◌, length, take, slice_get, None, Some}
 use Rattle.file_tree.specs.Tree.{Tree}
 use Rattle.file_tree.specs.Names.{IsName, parent_of}
 use Rattle.file_tree.specs.Apply.{Refused}
@@ -9,7 +9,9 @@ use Rattle.gfs2_layout.specs.Holding.{Holding}
 use Rattle.gfs2_layout.specs.Inode.{dinode_in, is_directory_in, is_hashed_in, records_of}
 use Rattle.gfs2_layout.specs.Records.{child_named}
 use Rattle.glock_names.specs.Views.{Seen, HasBlock}
+use Rattle.glock_names.specs.declared.LockName.{LockName}
 use Rattle.glock_names.specs.declared.State.{State}
+use Rattle.glock_names.specs.declared.steps.Missing.{Missing}
 use Rattle.call_locks.specs.declared.want.Want.{Want}
 use Rattle.dinode_tree.specs.Broken as inode
 use Rattle.dinode_tree.specs.Shown.{IsShown}
@@ -30,7 +32,91 @@ use Rattle.path_walks.specs.declared.walk.Walk.TheVariants as walk
 abbrev pub AreInOrder : List Want → Type 0
 AreInOrder wants = (i : ℕ) (w : Want) → slice_get wants i ≡ Some w → w.depth ≡ i
 
--- ---- a whole walk, in one image
+-- ---- as far as a view shows
+
+-- an inode that is a directory, and not a hashed one
+pub record IsLinearDirectory (h : Holding) : Type 0 where
+  pub directory : is_directory_in h ≡ true
+  pub linear : is_hashed_in h ≡ false
+
+-- the view has this linear directory, in which the name leads to block b
+pub record Names (v : Seen) (dir : ℕ) (name : List ℕ) (b : ℕ) : Type 0 where
+  pub there : HasBlock v dir
+  pub linear : (h : Holding) → IsShown v dir h → IsLinearDirectory h
+  pub child : (h : Holding) → IsShown v dir h → child_named (records_of h) name ≡ Some b
+
+-- the lock of the inode in a block is held as the want at this depth has it
+abbrev pub IsHeldAt : Seen → List Want → ℕ → ℕ → Type 0
+IsHeldAt v wants depth a = (w : Want) → slice_get wants depth ≡ Some w → holds v (hold_of a w.state) ≡ true
+
+-- the path leads to the inode in this block, and each lock on the way is held
+pub data LeadsTo (v : Seen) (wants : List Want) : Path → ℕ → Type 0 where
+  at_root : IsHeldAt v wants 0 v.root → LeadsTo v wants [] v.root
+  by_name : (front : Path) (dir b : ℕ) (name : List ℕ) → LeadsTo v wants front dir → IsName name → Names v dir name b → HasDataBlock v b
+      → IsHeldAt v wants (length front + 1) b → LeadsTo v wants (front ++ name ∷ []) b
+
+-- the inode that comes next on the path, whose lock is taken then: the root, or that of a name in a directory to which the path leads
+pub data IsNext (v : Seen) (wants : List Want) (path : Path) : ℕ → ℕ → Type 0 where
+  the_root : IsNext v wants path 0 v.root
+  the_child : (front back : Path) (dir b : ℕ) (name : List ℕ) → path ≡ front ++ name ∷ back → LeadsTo v wants front dir → IsName name → Names v dir name b → HasDataBlock v b
+      → IsNext v wants path (length front + 1) b
+
+-- this is the lock of that inode, as it is wanted, and it isn't held so strongly
+pub record IsLacked (v : Seen) (wants : List Want) (path : Path) (lock : LockName) (state : State) : Type 0 where
+  pub depth : ℕ
+  pub inode : ℕ
+  pub next : IsNext v wants path depth inode
+  pub want : Want
+  pub wanted : slice_get wants depth ≡ Some want
+  pub is : record { lock = lock; state = state } ≡ hold_of inode want.state
+  pub lacks : holds v (hold_of inode want.state) ≡ false
+
+-- this is that inode's dinode, whose lock is held, and the view hasn't it
+pub record IsUnread (v : Seen) (wants : List Want) (path : Path) (m : Missing) : Type 0 where
+  pub depth : ℕ
+  pub next : IsNext v wants path depth m.block
+  pub held : IsHeldAt v wants depth m.block
+  pub absent : v.block_at m.block ≡ None
+  pub is : m ≡ missing_dinode m.block
+
+-- a directory on the path has no such name
+pub record IsAbsent (v : Seen) (wants : List Want) (path : Path) : Type 0 where
+  pub front : Path
+  pub back : Path
+  pub dir : ℕ
+  pub name : List ℕ
+  pub on_path : path ≡ front ++ name ∷ back
+  pub leads : LeadsTo v wants front dir
+  pub there : HasBlock v dir
+  pub linear : (h : Holding) → IsShown v dir h → IsLinearDirectory h
+  pub absent : (h : Holding) → IsShown v dir h → child_named (records_of h) name ≡ None
+
+-- an inode on the path of which a further name is asked is so, as the view shows it
+pub record IsOnTheWay (v : Seen) (wants : List Want) (path : Path) (a : ℕ) (P : Holding → Type 0) : Type 0 where
+  pub front : Path
+  pub back : Path
+  pub name : List ℕ
+  pub on_path : path ≡ front ++ name ∷ back
+  pub leads : LeadsTo v wants front a
+  pub there : HasBlock v a
+  pub so : (h : Holding) → IsShown v a h → P h
+
+-- the path leads here; the view has the dinode, and this is what it says. But at the root, the directory above has its last name
+pub record IsSeenAt (v : Seen) (wants : List Want) (path : Path) (p : Place) : Type 0 where
+  pub leads : LeadsTo v wants path p.inode
+  pub there : HasBlock v p.inode
+  pub dinode : (h : Holding) → IsShown v p.inode h → p.dinode ≡ dinode_in h
+  pub above : LeadsTo v wants (parent_of path) p.above
+
+abbrev pub IsTold : Seen → List Want → Path → Walk → Type 0
+IsTold v wants path (walk.At p) = IsSeenAt v wants path p
+IsTold v wants path walk.NotFound = IsAbsent v wants path
+IsTold v wants path walk.NotDir = (a : ℕ) × IsOnTheWay v wants path a (λ h. is_directory_in h ≡ false)
+IsTold v wants path (walk.Hashed a) = IsOnTheWay v wants path a (λ h. is_hashed_in h ≡ true)
+IsTold v wants path (walk.NeedLock lock state) = IsLacked v wants path lock state
+IsTold v wants path (walk.NeedBlock m) = IsUnread v wants path m
+
+-- ---- in one image
 
 -- the inode at the end of the path, the one above it (the root's is itself), and what its dinode says
 pub record IsPlaceOf (v : Seen) (im : Image) (o : Owners) (l : Layout) (path : Path) (p : Place) : Type 0 where
@@ -39,43 +125,40 @@ pub record IsPlaceOf (v : Seen) (im : Image) (o : Owners) (l : Layout) (path : P
   pub dinode : p.dinode ≡ dinode_in (holding im o p.inode)
   pub there : HasBlock v p.inode
 
--- an inode on the path is a hashed directory, which isn't read yet
-pub record IsHashedOn (im : Image) (o : Owners) (l : Layout) (path : Path) (a : ℕ) : Type 0 where
+-- an inode on the path of which a further name is asked is a hashed directory, which isn't read yet; each lock up to it is held
+pub record IsHashedOn (v : Seen) (im : Image) (o : Owners) (l : Layout) (path : Path) (wants : List Want) (a : ℕ) : Type 0 where
   pub front : Path
   pub back : Path
-  pub on_path : path ≡ front ++ back
+  pub next : List ℕ
+  pub on_path : path ≡ front ++ next ∷ back
   pub at : IsAt im o l front a
   pub hashed : is_hashed_in (holding im o a) ≡ true
-
--- at the path's end the view has the dinode, and this is what it says
-pub record IsSeenAt (v : Seen) (p : Place) : Type 0 where
-  pub there : HasBlock v p.inode
-  pub dinode : (h : Holding) → IsShown v p.inode h → p.dinode ≡ dinode_in h
-
--- the view has the dinode in this block, which is a hashed directory's
-pub record IsSeenHashed (v : Seen) (a : ℕ) : Type 0 where
-  pub there : HasBlock v a
-  pub hashed : (h : Holding) → IsShown v a h → is_hashed_in h ≡ true
-
--- what is told of the view alone, whatever image it is of
-abbrev pub IsTold : Seen → Walk → Type 0
-IsTold v (walk.At p) = IsSeenAt v p
-IsTold v walk.NotFound = ⊤
-IsTold v walk.NotDir = ⊤
-IsTold v (walk.Hashed a) = IsSeenHashed v a
-IsTold v (walk.NeedLock lock state) = holds v (record { lock = lock; state = state }) ≡ false
-IsTold v (walk.NeedBlock m) = (v.block_at m.block ≡ None) × (m ≡ missing_dinode m.block)
+  pub held : AreHeld v (holds_in im o l path (take (length front + 1) wants))
 
 -- where a walk along the path ends, each lock being taken as it is wanted
 abbrev pub IsWalked : Seen → Image → Owners → Layout → Tree → Path → List Want → Walk → Type 0
 IsWalked v im o l t path wants (walk.At p) = IsPlaceOf v im o l path p × EndsWith (holds_in im o l path wants) p.inode × AreHeld v (holds_in im o l path wants)
 IsWalked v im o l t path wants walk.NotFound = (tree.walk t path ≡ Refused NotFound) × AreHeld v (holds_in im o l path wants)
 IsWalked v im o l t path wants walk.NotDir = (tree.walk t path ≡ Refused NotDir) × AreHeld v (holds_in im o l path wants)
-IsWalked v im o l t path wants (walk.Hashed a) = IsHashedOn im o l path a
+IsWalked v im o l t path wants (walk.Hashed a) = IsHashedOn v im o l path wants a
 IsWalked v im o l t path wants (walk.NeedLock lock state) = IsFirstLack v (holds_in im o l path wants) lock state
 IsWalked v im o l t path wants (walk.NeedBlock m) = IsAskedFor v im o l (holds_in im o l path wants) m
 
--- ---- a step of the walk, as far as the view tells
+-- ---- damage
+
+-- the inode breaks a rule; that of a linear directory where it is one
+pub data IsWrong (h : Holding) : ℕ → ℕ → Type 0 where
+  in_inode : (rule b : ℕ) → inode.IsBroken h rule b → IsWrong h rule b
+  in_directory : (rule b : ℕ) → IsLinearDirectory h → directory.IsBroken h rule b → IsWrong h rule b
+
+-- As far as the view shows, the block breaks this rule: in an inode on the path; or (2) a name on the path leads to a block that is none of
+-- the groups' data blocks.
+pub data IsDamage (v : Seen) (wants : List Want) (path : Path) : ℕ → ℕ → Type 0 where
+  on_path : (depth a rule b : ℕ) → IsNext v wants path depth a → IsHeldAt v wants depth a → ((h : Holding) → IsShown v a h → IsWrong h rule b) → IsDamage v wants path rule b
+  leads_out : (front back : Path) (dir b : ℕ) (name : List ℕ) → path ≡ front ++ name ∷ back → LeadsTo v wants front dir → Names v dir name b → ¬ (HasDataBlock v b)
+      → IsDamage v wants path 2 dir
+
+-- ---- a step of the walk
 
 -- the inode in this block was come to: its lock is held, and its dinode read
 pub record IsReadAt (v : Seen) (a above : ℕ) (state : State) (p : Place) : Type 0 where
@@ -92,32 +175,28 @@ IsVisited v a above state (walk.NeedLock lock s) = (record { lock = lock; state 
 IsVisited v a above state (walk.NeedBlock m) = (m ≡ missing_dinode a) × (v.block_at a ≡ None) × (holds v (hold_of a state) ≡ true)
 IsVisited v a above state _ = ⊥
 
--- from the directory that is so shown the walk goes on to the inode of this name
-pub record GoesOn (v : Seen) (h : Holding) (name : List ℕ) (state : State) (w : Walk) : Type 0 where
-  pub directory : is_directory_in h ≡ true
-  pub is_name : IsName name
+-- from this directory the walk goes on to the inode of the name
+pub record GoesOn (v : Seen) (dir : ℕ) (name : List ℕ) (state : State) (w : Walk) : Type 0 where
   pub child : ℕ
-  pub found : child_named (records_of h) name ≡ Some child
-  pub visited : IsVisited v child h.own state w
+  pub names : Names v dir name child
+  pub inside : HasDataBlock v child
+  pub visited : IsVisited v child dir state w
 
--- from the inode that is so shown the walk goes on by the next name, or ends there
-abbrev pub IsStepped : Seen → Holding → List ℕ → State → Walk → Type 0
-IsStepped v h name state walk.NotDir = is_directory_in h ≡ false
-IsStepped v h name state walk.NotFound = (is_directory_in h ≡ true) × IsName name × (child_named (records_of h) name ≡ None)
-IsStepped v h name state (walk.Hashed a) = (a ≡ h.own) × (is_hashed_in h ≡ true)
-IsStepped v h name state w = GoesOn v h name state w
+-- the directory hasn't the name
+pub record LacksName (v : Seen) (dir : ℕ) (name : List ℕ) : Type 0 where
+  pub linear : (h : Holding) → IsShown v dir h → IsLinearDirectory h
+  pub absent : (h : Holding) → IsShown v dir h → child_named (records_of h) name ≡ None
 
--- ---- damage
+-- from this inode the walk goes on by the next name, or ends there
+abbrev pub IsStepped : Seen → ℕ → List ℕ → State → Walk → Type 0
+IsStepped v a name state walk.NotDir = (h : Holding) → IsShown v a h → is_directory_in h ≡ false
+IsStepped v a name state walk.NotFound = LacksName v a name
+IsStepped v a name state (walk.Hashed b) = (b ≡ a) × ((h : Holding) → IsShown v a h → is_hashed_in h ≡ true)
+IsStepped v a name state w = GoesOn v a name state w
 
--- As far as the view shows, the block breaks this rule: in the inode in some block; or (2) a name in a directory leads to a block that is
--- none of the groups' data blocks.
-pub data IsDamage (v : Seen) : ℕ → ℕ → Type 0 where
-  in_inode : (a rule b : ℕ) → ((h : Holding) → IsShown v a h → directory.IsBroken h rule b) → IsDamage v rule b
-  leads_out : (dir b : ℕ) (name : List ℕ) → ((h : Holding) → IsShown v dir h → child_named (records_of h) name ≡ Some b) → ¬ (HasDataBlock v b) → IsDamage v 2 dir
-
--- by the next name of the directory that is so shown the walk comes to damage: there, or in the inode to which it leads
-pub data IsDamageAhead (v : Seen) (h : Holding) (name : List ℕ) : ℕ → ℕ → Type 0 where
-  in_directory : (rule b : ℕ) → is_directory_in h ≡ true → is_hashed_in h ≡ false → directory.IsBroken h rule b → IsDamageAhead v h name rule b
-  past_groups : (b : ℕ) → is_directory_in h ≡ true → child_named (records_of h) name ≡ Some b → ¬ (HasDataBlock v b) → IsDamageAhead v h name 2 h.own
-  in_child : (b rule c : ℕ) → is_directory_in h ≡ true → child_named (records_of h) name ≡ Some b → ((k : Holding) → IsShown v b k → inode.IsBroken k rule c)
-      → IsDamageAhead v h name rule c
+-- by the next name of this directory the walk comes to damage: there, or in the inode to which it leads
+pub data IsDamageAhead (v : Seen) (dir : ℕ) (name : List ℕ) (state : State) : ℕ → ℕ → Type 0 where
+  in_this : (rule b : ℕ) → ((h : Holding) → IsShown v dir h → IsLinearDirectory h × directory.IsBroken h rule b) → IsDamageAhead v dir name state rule b
+  past_groups : (b : ℕ) → Names v dir name b → ¬ (HasDataBlock v b) → IsDamageAhead v dir name state 2 dir
+  in_child : (b rule c : ℕ) → Names v dir name b → HasDataBlock v b → holds v (hold_of b state) ≡ true → ((h : Holding) → IsShown v b h → inode.IsBroken h rule c)
+      → IsDamageAhead v dir name state rule c

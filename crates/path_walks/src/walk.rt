@@ -1,10 +1,10 @@
 // A walk along a path.
-ghost use Rattle.std.specs.Prelude.{ℕ, ◌≡◌, ◌+◌, ◌<◌, Some, length, slice_get, IfOk};
+ghost use Rattle.std.specs.Prelude.{ℕ, ◌≡◌, ◌+◌, ◌<◌, Some, true, length, slice_get, IfOk};
 ghost use Rattle.file_tree.specs.Names.{IsName};
 ghost use Rattle.file_tree.specs.Tree.{Tree};
 ghost use Rattle.gfs2_layout.specs.Holding.{Holding};
 ghost use Rattle.gfs2_layout.specs.Inode.{dinode_in};
-ghost use Rattle.glock_names.specs.Steps.{IfDamaged};
+ghost use Rattle.glock_names.specs.Steps.{OnlyDamaged};
 ghost use Rattle.glock_names.specs.Views.{HasBlock, IsOfView};
 ghost use Rattle.call_locks.specs.declared.want.Want.{Want as WantValue};
 ghost use Rattle.dinode_tree.specs.Broken.{IsBroken};
@@ -13,6 +13,7 @@ ghost use Rattle.image_model.specs.Image.{Image};
 ghost use Rattle.image_model.specs.Owners.{Owners};
 ghost use Rattle.image_model.specs.Stands.{Layout};
 ghost use Rattle.image_changes.specs.Does.{IsOf};
+ghost use Rattle.path_walks.specs.Holds.{holds, hold_of};
 ghost use Rattle.path_walks.specs.Walks.{AreInOrder, IsTold, IsDamage, IsDamageAhead, IsStepped, IsVisited, IsWalked};
 
 use call_locks::Want;
@@ -60,8 +61,9 @@ fn state_at(wants: &[Want], depth: usize) -> State
 // The inode in a block: its lock is looked at, and then its dinode.
 fn visit<V: View>(view: &V, inode: u64, above: u64, state: State) -> Result<Walk, CallFault>
     ensures visited { IfOk result (IsVisited (V.seen view.now) inode above state) }
-    ensures damaged { (h : Holding) → IsShown (V.seen view.now) inode h → IfDamaged result (IsBroken h) }
-    ensures kept { IfDamaged result (IsOfView (V.seen view.now)) }
+    ensures damaged { (h : Holding) → IsShown (V.seen view.now) inode h → OnlyDamaged result (IsBroken h) }
+    ensures held { OnlyDamaged result (λ rule block. holds (V.seen view.now) (hold_of inode state) ≡ true) }
+    ensures kept { OnlyDamaged result (IsOfView (V.seen view.now)) }
 {
     let lock = LockName {
         kind: 2,
@@ -85,10 +87,9 @@ fn step<V: View>(view: &V, place: &Place, name: &Name, state: State) -> Result<W
     requires there { HasBlock (V.seen view.now) place.now.inode }
     requires dinode { (h : Holding) → IsShown (V.seen view.now) place.now.inode h → place.now.dinode ≡ dinode_in h }
     ensures named { IsName name.now }
-    ensures stepped { (h : Holding) → IsShown (V.seen view.now) place.now.inode h → IfOk result (IsStepped (V.seen view.now) h name.now state) }
-    ensures ahead { (h : Holding) → IsShown (V.seen view.now) place.now.inode h → IfDamaged result (IsDamageAhead (V.seen view.now) h name.now) }
-    ensures damaged { IfDamaged result (IsDamage (V.seen view.now)) }
-    ensures kept { IfDamaged result (IsOfView (V.seen view.now)) }
+    ensures stepped { IfOk result (IsStepped (V.seen view.now) place.now.inode name.now state) }
+    ensures ahead { OnlyDamaged result (IsDamageAhead (V.seen view.now) place.now.inode name.now state) }
+    ensures kept { OnlyDamaged result (IsOfView (V.seen view.now)) }
 {
     let bytes = name.bytes();
     if !place.dinode.is_directory() {
@@ -113,15 +114,15 @@ fn step<V: View>(view: &V, place: &Place, name: &Name, state: State) -> Result<W
 
 /// Walks along these names from the root, and takes the locks of the inodes on the way as they are wanted: of each the lock is
 /// looked at, then its dinode, then the directory for the next name. It costs a look into the view for each of these, and goes
-/// over the records of each directory once.
+/// over the records of each directory once. No memory.
 pub fn walk_along<V: View>(view: &V, names: &[Name], wants: &[Want]) -> Result<Walk, CallFault>
     requires as_many { length wants.now ≡ length names.now + 1 }
     requires order { AreInOrder wants.now }
     ensures walked { (im : Image) (o : Owners) (l : Layout) (t : Tree) → IsOf (V.seen view.now) im o l t → IfOk result (IsWalked (V.seen view.now) im o l t names.now wants.now) }
-    ensures told { IfOk result (IsTold (V.seen view.now)) }
-    ensures sound { (im : Image) (o : Owners) (l : Layout) (t : Tree) → IsOf (V.seen view.now) im o l t → IfDamaged result (λ rule block. ⊥) }
-    ensures damaged { IfDamaged result (IsDamage (V.seen view.now)) }
-    ensures kept { IfDamaged result (IsOfView (V.seen view.now)) }
+    ensures told { IfOk result (IsTold (V.seen view.now) wants.now names.now) }
+    ensures sound { (im : Image) (o : Owners) (l : Layout) (t : Tree) → IsOf (V.seen view.now) im o l t → OnlyDamaged result (λ rule block. ⊥) }
+    ensures damaged { OnlyDamaged result (IsDamage (V.seen view.now) wants.now names.now) }
+    ensures kept { OnlyDamaged result (IsOfView (V.seen view.now)) }
 {
     let root = view.root();
     let mut place = match visit(view, root, root, state_at(wants, 0))? {

@@ -1,6 +1,5 @@
 -- What the tree answers where a walk along the call's path ended.
-use Rattle.std.proofs.Common.{◌≡◌, ◌&&◌, ◌==◌, ℕ, zero, suc, true, false, List, [], ◌∷◌, ◌++◌, length, None, Some, Result, Ok, Err, IfOk, inl, refl, sym, ap, subst, ◌∙◌, arith}
-use Rattle.std.proofs.lemmas.List.{append-nil}
+use Rattle.std.proofs.Common.{◌≡◌, ◌&&◌, ◌==◌, ◌+◌, ℕ, zero, suc, true, false, List, [], ◌∷◌, ◌++◌, length, None, Some, Result, Ok, Err, IfOk, inl, refl, sym, ap, subst, ◌∙◌, arith}
 use Rattle.std.proofs.lemmas.List.Sorted.{IsPermutation-refl}
 use Rattle.file_tree.specs.Tree.{Tree, file, dir, count_in}
 use Rattle.file_tree.specs.Apply.{Walked, Found, Refused, apply, walk, read_reply, stat_reply, list_reply}
@@ -10,7 +9,8 @@ use Rattle.file_tree.specs.declared.reply.Kind.TheVariants.{File, Dir}
 use Rattle.file_tree.specs.declared.reply.Reply.{Reply}
 use Rattle.file_tree.specs.declared.reply.Reply.TheVariants as reply
 use Rattle.gfs2_layout.specs.Holding.{Holding}
-use Rattle.gfs2_layout.specs.Inode.{dinode_in, is_directory_in, is_hashed_in, content_of, records_of}
+use Rattle.gfs2_layout.specs.Inode.{IsInode, dinode_in, is_directory_in, content_of, records_of}
+use Rattle.gfs2_layout.specs.Device.{IsBlockSize}
 use Rattle.gfs2_layout.specs.Records.{names_of}
 use Rattle.gfs2_layout.specs.Structures.{is_regular}
 use Rattle.glock_names.specs.Views.{Seen}
@@ -34,13 +34,12 @@ use Rattle.image_changes.proofs.Drafting.{own_locks}
 use Rattle.image_changes.proofs.Nodes.{file_thing}
 use Rattle.image_changes.proofs.Walks.{walks_find}
 use Rattle.path_walks.specs.Holds.{Hold, AreHeld, EndsWith, IsAskedFor, holds_in}
-use Rattle.path_walks.specs.Walks.{IsDamage}
-use Rattle.path_walks.specs.Walks as damage
+use Rattle.path_walks.specs.Walks.{IsWrong, in_inode, in_directory, IsDamage, on_path, LeadsTo, at_root, by_name, the_root, the_child}
+use Rattle.call_locks.specs.declared.want.Want.{Want}
 use Rattle.dinode_tree.specs.Shown.{IsShown}
-use Rattle.linear_dirs.specs.Broken as directory
 use Rattle.path_walks.proofs.Steps.{differs}
 use Rattle.path_walks.proofs.Images.{is_inode, is_sound, lock_of_inode, dinode_used, dinode_plain, unbroken, unbroken_directory}
-use Rattle.read_calls.specs.Reading.{IsReading, IsRangeOf, IsStatOf, IsListOf, IsAnswerOf, IsFoundBy, IsFound, IsWrong, in_inode, in_directory}
+use Rattle.read_calls.specs.Reading.{IsReading, IsRangeOf, IsStatOf, IsListOf, IsAnswerOf, IsFoundBy, IsFound, IsAsked, IsAnswered, IsNeededFor, IsHashedFor, IsToldOf}
 use Rattle.read_calls.specs.declared.answers.Read.{Read}
 use Rattle.read_calls.specs.declared.answers.Read.TheVariants as read
 
@@ -120,7 +119,7 @@ module _ (v : Seen) (im : Image) (o : Owners) (l : Layout) (t : Tree) (of : IsOf
             asked_at m needed.absent needed.lock (ap (cover l m.block) row ∙ own_lock) (ap is_free row) (plain ∙ plain_at im o a m.from k level first ∙ sym (ap (is_content_of im o) row))
 
   range_found : (list : List Hold) → EndsWith list a → AreHeld v list → (from count : ℕ) (r : Read) → IsRangeOf v (holding im o a) from count r
-      → IsFoundBy v im o l (read_reply (walk t path) from count) path list r
+      → IsFoundBy v im o l (read_reply (walk t path) from count) list r
   range_found list ends held from count (read.Reply reply.IsDir) is = (ap (λ w. read_reply w from count) (listed is).walks, held)
   range_found list ends held from count (read.Reply (reply.Bytes bytes)) is = (ap (λ w. read_reply w from count) (file_there is.0) ∙ ap reply.Bytes (sym is.1), held)
   range_found list ends held from count (read.NeedBlock m) is = asked list ends held (IsInRange (holding im o a) from count) 0 m is.1
@@ -155,18 +154,12 @@ module _ (v : Seen) (im : Image) (o : Owners) (l : Layout) (t : Tree) (of : IsOf
   stat_found reply.TooBig is = absurd is
   stat_found reply.NoSpace is = absurd is
 
-  list_found : (list : List Hold) → AreHeld v list → (r : Read) → IsListOf (holding im o a) r → IsFoundBy v im o l (list_reply (walk t path)) path list r
+  list_found : (list : List Hold) → AreHeld v list → (r : Read) → IsListOf (holding im o a) r → IsFoundBy v im o l (list_reply (walk t path)) list r
   list_found list held (read.Reply reply.NotDir) is = (ap list_reply (file_there is), held)
   list_found list held (read.Reply (reply.Names names)) is =
       let all = listed is.0 in
       (ap list_reply all.walks ∙ ap reply.Names (sym (is.1 ∙ all.names (names_of (records_of (holding im o a))) (IsPermutation-refl (names_of (records_of (holding im o a)))))), held)
-  list_found list held (read.Hashed b) is = record {
-    front = path;
-    back = [];
-    on_path = sym (append-nil path);
-    at = at ∙ ap Some (sym is.0);
-    hashed = ap (λ x. is_hashed_in (holding im o x)) is.0 ∙ is.1;
-  }
+  list_found list held (read.Hashed b) is = tt
   list_found list held (read.NeedBlock m) is = absurd is
   list_found list held (read.NeedLock lock state) is = absurd is
   list_found list held (read.Reply reply.IsDir) is = absurd is
@@ -207,12 +200,34 @@ ok_so P Q so (Err f) holds = tt
 -- nothing of an inode on a path is wrong
 pub nothing_wrong : (v : Seen) (im : Image) (o : Owners) (l : Layout) (t : Tree) → IsOf v im o l t → (path : Path) (a : ℕ) → IsAt im o l path a → (rule b : ℕ) → IsWrong (holding im o a) rule b → ⊥
 nothing_wrong v im o l t of path a at rule b (in_inode r c broken) = unbroken v im o l t of path a r c at broken
-nothing_wrong v im o l t of path a at rule b (in_directory r c is plain broken) = unbroken_directory v im o l t of path a r c at is plain broken
+nothing_wrong v im o l t of path a at rule b (in_directory r c is broken) = unbroken_directory v im o l t of path a r c at is.directory is.linear broken
 
--- and what is wrong of each that a view shows is damage
-pub wrong_damage : (v : Seen) (a rule b : ℕ) → ((h : Holding) → IsShown v a h → IsWrong h rule b) → IsDamage v rule b
-wrong_damage v a rule b wrong = damage.in_inode a rule b (λ h shown. each h (wrong h shown))
-  where
-    each : (h : Holding) → IsWrong h rule b → directory.IsBroken h rule b
-    each h (in_inode r c broken) = directory.of_inode r c broken
-    each h (in_directory r c is plain broken) = broken
+-- what is wrong with an inode to which the path leads is damage on it
+pub wrong_damage : (v : Seen) (wants : List Want) (path : Path) (a : ℕ) → LeadsTo v wants path a → (rule b : ℕ) → ((h : Holding) → IsShown v a h → IsWrong h rule b) → IsDamage v wants path rule b
+wrong_damage v wants [] a (at_root held) rule b wrong = on_path 0 a rule b the_root held wrong
+wrong_damage v wants path a (by_name front above b' name leads is_name named inside held) rule b wrong =
+    on_path (length front + 1) a rule b (the_child front [] above a name refl leads is_name named inside) held wrong
+
+-- what the inode at the path's end answers is told of the view
+pub told_at : (v : Seen) (c : Call) (a : ℕ) → LeadsTo v (wanted c) (path_of c false) a → (r : Read) → IsAsked v a c r
+    → ((h : Holding) → IsShown v a h → IsBlockSize h.size → IsInode h → IsAnswerOf v h c r) → IsToldOf v c r
+told_at v c a leads (read.Reply r) asked answers = IsAnswered.at_end a r leads answers
+told_at v c a leads (read.NeedBlock m) asked answers = IsNeededFor.at_end a leads asked
+told_at v c a leads (read.Hashed b) asked answers = IsHashedFor.at_end a leads asked
+told_at v (call.Read p from count) a leads (read.NeedLock lock state) asked answers = absurd asked
+told_at v (call.List p) a leads (read.NeedLock lock state) asked answers = absurd asked
+told_at v (call.Stat p) a leads (read.NeedLock lock state) asked answers = absurd asked
+told_at v (call.Create p) a leads (read.NeedLock lock state) asked answers = absurd asked
+told_at v (call.Mkdir p) a leads (read.NeedLock lock state) asked answers = absurd asked
+told_at v (call.Unlink p) a leads (read.NeedLock lock state) asked answers = absurd asked
+told_at v (call.Rmdir p) a leads (read.NeedLock lock state) asked answers = absurd asked
+told_at v (call.Dread p from count) a leads (read.NeedLock lock state) asked answers = absurd asked
+told_at v (call.Write p from new) a leads (read.NeedLock lock state) asked answers = absurd asked
+told_at v (call.Truncate p size) a leads (read.NeedLock lock state) asked answers = absurd asked
+told_at v (call.Rename p q) a leads (read.NeedLock lock state) asked answers = absurd asked
+told_at v call.Sync a leads (read.NeedLock lock state) asked answers = absurd asked
+
+pub all_told : (v : Seen) (c : Call) (a : ℕ) {E : Type 0} (r : Result Read E) → LeadsTo v (wanted c) (path_of c false) a → IfOk r (IsAsked v a c)
+    → ((h : Holding) → IsShown v a h → IsBlockSize h.size → IsInode h → IfOk r (IsAnswerOf v h c)) → IfOk r (IsToldOf v c)
+all_told v c a (Ok x) leads asked answers = told_at v c a leads x asked answers
+all_told v c a (Err f) leads asked answers = tt

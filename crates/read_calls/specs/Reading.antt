@@ -1,27 +1,27 @@
 -- The calls that read.
-use Rattle.std.specs.Prelude.{ℕ, ◌≡◌, ◌-◌, ⊤, true, false, List, [], None}
+use Rattle.std.specs.Prelude.{ℕ, ◌≡◌, ◌-◌, ⊤, true, false, List, []}
 use Rattle.file_tree.specs.declared.call.Call.{Call}
 use Rattle.file_tree.specs.declared.call.Call.TheVariants.{Read, Stat, List as ListNames}
 use Rattle.file_tree.specs.declared.reply.Kind.TheVariants.{File, Dir}
 use Rattle.file_tree.specs.declared.reply.Reply.{Reply}
 use Rattle.file_tree.specs.declared.reply.Reply.TheVariants as reply
 use Rattle.gfs2_layout.specs.Holding.{Holding}
-use Rattle.gfs2_layout.specs.Inode.{dinode_in, is_directory_in, is_hashed_in, records_of}
+use Rattle.gfs2_layout.specs.Inode.{IsInode, dinode_in, is_directory_in, is_hashed_in, records_of}
 use Rattle.gfs2_layout.specs.Records.{names_of}
 use Rattle.glock_names.specs.Views.{Seen}
 use Rattle.file_tree.specs.Tree.{Tree, all_put}
 use Rattle.file_tree.specs.Apply.{apply}
 use Rattle.call_locks.specs.Wants.{wanted}
 use Rattle.call_locks.specs.WantLaws.{path_of}
-use Rattle.image_model.specs.Flat.{Path}
 use Rattle.image_model.specs.Image.{Image}
 use Rattle.image_model.specs.Owners.{Owners}
 use Rattle.image_model.specs.Stands.{Layout}
-use Rattle.path_walks.specs.Holds.{Hold, holds, AreHeld, IsAskedFor, IsFirstLack, holds_in}
-use Rattle.path_walks.specs.Walks.{IsHashedOn, IsSeenHashed}
+use Rattle.path_walks.specs.Holds.{Hold, AreHeld, IsAskedFor, IsFirstLack, holds_in}
+use Rattle.path_walks.specs.Walks.{LeadsTo, IsLacked, IsUnread, IsAbsent, IsOnTheWay}
+use Rattle.dinode_tree.specs.Shown.{IsShown}
+use Rattle.gfs2_layout.specs.Device.{IsBlockSize}
+use Rattle.glock_names.specs.declared.steps.Missing.{Missing}
 use Rattle.dinode_tree.specs.Reading.{content_range, IsInRange, IsNeeded}
-use Rattle.dinode_tree.specs.Broken as inode
-use Rattle.linear_dirs.specs.Broken as directory
 use Rattle.read_calls.specs.declared.answers.Read.{Read as Found}
 use Rattle.read_calls.specs.declared.answers.Read.TheVariants as found
 
@@ -60,30 +60,60 @@ IsAnswerOf v h (Stat path) (found.Reply r) = IsStatOf h r
 IsAnswerOf v h (ListNames path) f = IsListOf h f
 IsAnswerOf v h _ f = ⊥
 
+-- ---- what is asked of an inode
+
+-- a block of the range that is read
+abbrev pub IsAskedRange : Seen → ℕ → ℕ → ℕ → Found → Type 0
+IsAskedRange v a at count (found.Reply r) = ⊤
+IsAskedRange v a at count (found.NeedBlock m) = (h : Holding) → IsShown v a h → (is_directory_in h ≡ false) × IsNeeded v h (IsInRange h at count) 0 m
+IsAskedRange v a at count _ = ⊥
+
+-- a hashed directory's names
+abbrev pub IsAskedList : Seen → ℕ → Found → Type 0
+IsAskedList v a (found.Reply r) = ⊤
+IsAskedList v a (found.Hashed b) = (b ≡ a) × ((h : Holding) → IsShown v a h → is_hashed_in h ≡ true)
+IsAskedList v a _ = ⊥
+
+abbrev pub IsAsked : Seen → ℕ → Call → Found → Type 0
+IsAsked v a (Read path at count) f = IsAskedRange v a at count f
+IsAsked v a (ListNames path) f = IsAskedList v a f
+IsAsked v a (Stat path) (found.Reply r) = ⊤
+IsAsked v a call f = ⊥
+
+-- ---- as far as the view shows
+
+-- the call is answered so: the walk along its path ends at a name that isn't there, or the reply is that of the inode at its end
+pub data IsAnswered (v : Seen) (call : Call) : Reply → Type 0 where
+  not_found : IsAbsent v (wanted call) (path_of call false) → IsAnswered v call reply.NotFound
+  not_dir : (a : ℕ) → IsOnTheWay v (wanted call) (path_of call false) a (λ h. is_directory_in h ≡ false) → IsAnswered v call reply.NotDir
+  at_end : (a : ℕ) (r : Reply) → LeadsTo v (wanted call) (path_of call false) a
+      → ((h : Holding) → IsShown v a h → IsBlockSize h.size → IsInode h → IsAnswerOf v h call (found.Reply r)) → IsAnswered v call r
+
+-- a block without which the call can't be answered: the dinode of the next inode on its path, or one of the range that it reads
+pub data IsNeededFor (v : Seen) (call : Call) (m : Missing) : Type 0 where
+  on_path : IsUnread v (wanted call) (path_of call false) m → IsNeededFor v call m
+  at_end : (a : ℕ) → LeadsTo v (wanted call) (path_of call false) a → IsAsked v a call (found.NeedBlock m) → IsNeededFor v call m
+
+-- a hashed directory without which the call can't be answered: one on its path, or the one whose names it lists
+pub data IsHashedFor (v : Seen) (call : Call) (b : ℕ) : Type 0 where
+  on_path : IsOnTheWay v (wanted call) (path_of call false) b (λ h. is_hashed_in h ≡ true) → IsHashedFor v call b
+  at_end : (a : ℕ) → LeadsTo v (wanted call) (path_of call false) a → IsAsked v a call (found.Hashed b) → IsHashedFor v call b
+
+abbrev pub IsToldOf : Seen → Call → Found → Type 0
+IsToldOf v call (found.Reply r) = IsAnswered v call r
+IsToldOf v call (found.NeedBlock m) = IsNeededFor v call m
+IsToldOf v call (found.Hashed b) = IsHashedFor v call b
+IsToldOf v call (found.NeedLock lock state) = IsLacked v (wanted call) (path_of call false) lock state
+
 -- ---- in an image that the view may be of
 
--- the reply is the tree's, and each lock of the list is held; or what stands in the way: the first lock of it that isn't held, a block
--- that the view hasn't, or a hashed directory on the path
-abbrev pub IsFoundBy : Seen → Image → Owners → Layout → Reply → Path → List Hold → Found → Type 0
-IsFoundBy v im o l answer path list (found.Reply r) = (answer ≡ r) × AreHeld v list
-IsFoundBy v im o l answer path list (found.NeedBlock m) = IsAskedFor v im o l list m
-IsFoundBy v im o l answer path list (found.Hashed a) = IsHashedOn im o l path a
-IsFoundBy v im o l answer path list (found.NeedLock lock state) = IsFirstLack v list lock state
+-- the reply is the tree's, and each lock of the list is held; or what stands in the way: the first lock of it that isn't held, or a block
+-- that the view hasn't
+abbrev pub IsFoundBy : Seen → Image → Owners → Layout → Reply → List Hold → Found → Type 0
+IsFoundBy v im o l answer list (found.Reply r) = (answer ≡ r) × AreHeld v list
+IsFoundBy v im o l answer list (found.NeedBlock m) = IsAskedFor v im o l list m
+IsFoundBy v im o l answer list (found.Hashed a) = ⊤
+IsFoundBy v im o l answer list (found.NeedLock lock state) = IsFirstLack v list lock state
 
 abbrev pub IsFound : Seen → Image → Owners → Layout → Tree → Call → Found → Type 0
-IsFound v im o l t call f = IsFoundBy v im o l (apply call t).reply (path_of call false) (holds_in im o l (path_of call false) (wanted call)) f
-
--- ---- what is told of the view alone, whatever image it is of
-
-abbrev pub IsTold : Seen → Found → Type 0
-IsTold v (found.Reply r) = ⊤
-IsTold v (found.NeedBlock m) = v.block_at m.block ≡ None
-IsTold v (found.Hashed a) = IsSeenHashed v a
-IsTold v (found.NeedLock lock state) = holds v (record { lock = lock; state = state }) ≡ false
-
--- ---- what is wrong with it
-
--- the inode breaks a rule; that of a linear directory where it is one
-pub data IsWrong (h : Holding) : ℕ → ℕ → Type 0 where
-  in_inode : (rule b : ℕ) → inode.IsBroken h rule b → IsWrong h rule b
-  in_directory : (rule b : ℕ) → is_directory_in h ≡ true → is_hashed_in h ≡ false → directory.IsBroken h rule b → IsWrong h rule b
+IsFound v im o l t call f = IsFoundBy v im o l (apply call t).reply (holds_in im o l (path_of call false) (wanted call)) f

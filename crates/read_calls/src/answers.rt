@@ -7,7 +7,8 @@ ghost use Rattle.gfs2_layout.specs.Inode.{IsInode, dinode_in};
 ghost use Rattle.glock_names.specs.Steps.{IfDamaged};
 ghost use Rattle.glock_names.specs.Views.{HasBlock, IsOfView};
 ghost use Rattle.dinode_tree.specs.Shown.{IsShown};
-ghost use Rattle.read_calls.specs.Reading.{IsReading, IsRangeOf, IsStatOf, IsListOf, IsAnswerOf, IsTold, IsWrong};
+ghost use Rattle.read_calls.specs.Reading.{IsReading, IsRangeOf, IsStatOf, IsListOf, IsAnswerOf, IsAskedRange, IsAskedList, IsAsked};
+ghost use Rattle.path_walks.specs.Walks.{IsWrong};
 
 use dinode_tree::read_range;
 use file_tree::{Call, Content, Kind, Name, NameList, Reply};
@@ -52,7 +53,7 @@ fn read_file<V: View>(
     requires there { HasBlock (V.seen view.now) place.now.inode }
     requires dinode { (h : Holding) → IsShown (V.seen view.now) place.now.inode h → place.now.dinode ≡ dinode_in h }
     ensures read { (h : Holding) → IsShown (V.seen view.now) place.now.inode h → IsBlockSize h.size → IsInode h → IfOk result (IsRangeOf (V.seen view.now) h at count) }
-    ensures told { IfOk result (IsTold (V.seen view.now)) }
+    ensures asked { IfOk result (IsAskedRange (V.seen view.now) place.now.inode at count) }
     ensures damaged { (h : Holding) → IsShown (V.seen view.now) place.now.inode h → IfDamaged result (IsWrong h) }
     ensures kept { IfDamaged result (IsOfView (V.seen view.now)) }
 {
@@ -81,7 +82,7 @@ fn list<V: View>(alloc: Global, view: &V, place: &Place) -> Result<Read, CallFau
     requires there { HasBlock (V.seen view.now) place.now.inode }
     requires dinode { (h : Holding) → IsShown (V.seen view.now) place.now.inode h → place.now.dinode ≡ dinode_in h }
     ensures read { (h : Holding) → IsShown (V.seen view.now) place.now.inode h → IfOk result (IsListOf h) }
-    ensures told { IfOk result (IsTold (V.seen view.now)) }
+    ensures asked { IfOk result (IsAskedList (V.seen view.now) place.now.inode) }
     ensures damaged { (h : Holding) → IsShown (V.seen view.now) place.now.inode h → IfDamaged result (IsWrong h) }
     ensures kept { IfDamaged result (IsOfView (V.seen view.now)) }
 {
@@ -108,7 +109,7 @@ pub(crate) fn answer_at<V: View>(
     requires there { HasBlock (V.seen view.now) place.now.inode }
     requires dinode { (h : Holding) → IsShown (V.seen view.now) place.now.inode h → place.now.dinode ≡ dinode_in h }
     ensures read { (h : Holding) → IsShown (V.seen view.now) place.now.inode h → IsBlockSize h.size → IsInode h → IfOk result (IsAnswerOf (V.seen view.now) h call.now) }
-    ensures told { IfOk result (IsTold (V.seen view.now)) }
+    ensures asked { IfOk result (IsAsked (V.seen view.now) place.now.inode call.now) }
     ensures damaged { (h : Holding) → IsShown (V.seen view.now) place.now.inode h → IfDamaged result (IsWrong h) }
     ensures kept { IfDamaged result (IsOfView (V.seen view.now)) }
 {

@@ -1,5 +1,5 @@
 // A try of a call.
-ghost use Rattle.std.specs.Prelude.{ℕ, ◌≡◌, [], false, None, IfOk};
+ghost use Rattle.std.specs.Prelude.{ℕ, ◌≡◌, [], false, IfOk};
 ghost use Rattle.file_tree.specs.Tree.{Tree};
 ghost use Rattle.glock_names.specs.Steps.{IfDamaged};
 ghost use Rattle.glock_names.specs.Views.{IsOfView};
@@ -10,9 +10,9 @@ ghost use Rattle.image_model.specs.Owners.{Owners};
 ghost use Rattle.image_model.specs.Stands.{Layout};
 ghost use Rattle.image_changes.specs.Does.{IsOf, Does};
 ghost use Rattle.path_walks.specs.Answers.{IfDone, IfNeedLock, IfNeedBlock, IfNoSpace, IfNotBuilt};
-ghost use Rattle.path_walks.specs.Holds.{AreHeld, IsAskedFor, IsFirstLack, holds, holds_in};
-ghost use Rattle.path_walks.specs.Walks.{IsDamage, IsHashedOn, IsSeenHashed};
-ghost use Rattle.read_calls.specs.Reading.{IsFound, IsReading, IsTold};
+ghost use Rattle.path_walks.specs.Holds.{AreHeld, IsAskedFor, IsFirstLack, holds_in};
+ghost use Rattle.path_walks.specs.Walks.{IsDamage, IsLacked};
+ghost use Rattle.read_calls.specs.Reading.{IsAnswered, IsFound, IsHashedFor, IsNeededFor, IsReading, IsToldOf};
 
 use crate::answers::{Read, answer_at};
 use call_locks::wants;
@@ -52,9 +52,9 @@ fn nothing(alloc: Global) -> Change
 fn find<V: View>(alloc: Global, view: &V, call: &Call) -> Result<Read, CallFault>
     requires { IsReading call.now }
     ensures found { (im : Image) (o : Owners) (l : Layout) (t : Tree) → IsOf (V.seen view.now) im o l t → IfOk result (IsFound (V.seen view.now) im o l t call.now) }
-    ensures told { IfOk result (IsTold (V.seen view.now)) }
+    ensures told { IfOk result (IsToldOf (V.seen view.now) call.now) }
     ensures sound { (im : Image) (o : Owners) (l : Layout) (t : Tree) → IsOf (V.seen view.now) im o l t → IfDamaged result (λ rule block. ⊥) }
-    ensures damaged { IfDamaged result (IsDamage (V.seen view.now)) }
+    ensures damaged { IfDamaged result (IsDamage (V.seen view.now) (wanted call.now) (path_of call.now false)) }
     ensures kept { IfDamaged result (IsOfView (V.seen view.now)) }
 {
     let path = path_of_reading(call);
@@ -82,13 +82,13 @@ pub fn attempt<V: View>(
     ensures held { (im : Image) (o : Owners) (l : Layout) (t : Tree) → IsOf (V.seen view.now) im o l t → IfDone result (λ reply change. AreHeld (V.seen view.now) (holds_in im o l (path_of call.now false) (wanted call.now))) }
     ensures lock { (im : Image) (o : Owners) (l : Layout) (t : Tree) → IsOf (V.seen view.now) im o l t → IfNeedLock result (IsFirstLack (V.seen view.now) (holds_in im o l (path_of call.now false) (wanted call.now))) }
     ensures block { (im : Image) (o : Owners) (l : Layout) (t : Tree) → IsOf (V.seen view.now) im o l t → IfNeedBlock result (IsAskedFor (V.seen view.now) im o l (holds_in im o l (path_of call.now false) (wanted call.now))) }
-    ensures lacks { IfNeedLock result (λ lock state. holds (V.seen view.now) (record { lock = lock; state = state }) ≡ false) }
-    ensures absent { IfNeedBlock result (λ missing. (V.seen view.now).block_at missing.block ≡ None) }
-    ensures hash { IfNotBuilt result (IsSeenHashed (V.seen view.now)) }
     ensures space { IfNoSpace result (λ need free. ⊥) }
-    ensures hashed { (im : Image) (o : Owners) (l : Layout) (t : Tree) → IsOf (V.seen view.now) im o l t → IfNotBuilt result (IsHashedOn im o l (path_of call.now false)) }
+    ensures answered { IfDone result (λ reply change. IsAnswered (V.seen view.now) call.now reply) }
+    ensures lacked { IfNeedLock result (IsLacked (V.seen view.now) (wanted call.now) (path_of call.now false)) }
+    ensures needed { IfNeedBlock result (IsNeededFor (V.seen view.now) call.now) }
+    ensures hashed { IfNotBuilt result (IsHashedFor (V.seen view.now) call.now) }
     ensures sound { (im : Image) (o : Owners) (l : Layout) (t : Tree) → IsOf (V.seen view.now) im o l t → IfDamaged result (λ rule block. ⊥) }
-    ensures damaged { IfDamaged result (IsDamage (V.seen view.now)) }
+    ensures damaged { IfDamaged result (IsDamage (V.seen view.now) (wanted call.now) (path_of call.now false)) }
     ensures kept { IfDamaged result (IsOfView (V.seen view.now)) }
 {
     Ok(match find(alloc, view, call)? {

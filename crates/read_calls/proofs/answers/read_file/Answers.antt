@@ -1,14 +1,9 @@
 use Rattle.std.proofs.Common.{sym, ◌∙◌}
 use Rattle.glock_names.proofs.StepLaws.{answer_at, needed_at}
-use Rattle.dinode_tree.proofs.Sound.{some_is_shown, sound_is_whole}
-use Rattle.path_walks.proofs.Steps.{handed, tells_so}
-use Rattle.read_calls.specs.Reading.{IsWrong, in_inode}
-use Rattle.read_calls.proofs.Answering.{file_so}
+use Rattle.dinode_tree.proofs.Sound.{sound_is_whole}
+use Rattle.path_walks.specs.Walks.{IsWrong, in_inode}
+use Rattle.read_calls.proofs.Answering.{file_so, told_on, tells_so}
 use Rattle.read_calls.proofs.answers.read_file.Goals as goal
-
-pub returns-in_err-bytes-clause-damaged : goal.returns-in_err-bytes-clause-damaged
-returns-in_err-bytes-clause-damaged g c h shown =
-    handed _ _ _ c.from_residual.ensures.1 (tells_so _ (IsWrong h) in_inode c.in_err-bytes.field-0.0 (c.in_err-bytes.ensures.damaged h shown))
 
 pub returns-in-Is-clause-read : goal.returns-in-Is-clause-read
 returns-in-Is-clause-read g c h shown block sound = (
@@ -22,7 +17,12 @@ returns-in-NeedBlock-clause-read g c h shown block sound = (
   needed_at _ _ _ c.in-NeedBlock.is (c.in_ok-bytes.ensures.needed h shown),
 )
 
-pub returns-in-NeedBlock-clause-told : goal.returns-in-NeedBlock-clause-told
-returns-in-NeedBlock-clause-told g c =
-    let s = some_is_shown (g.V.View.seen c.args.view.now) c.args.place.now.inode in
-    (needed_at _ _ _ c.in-NeedBlock.is (c.in_ok-bytes.ensures.needed s.0 s.1.0)).absent
+pub returns-in-NeedBlock-clause-asked : goal.returns-in-NeedBlock-clause-asked
+returns-in-NeedBlock-clause-asked g c h shown = (
+  file_so h c.args.place.now.dinode (c.requires.dinode h shown) (sym c.is_directory.ensures ∙ c.if-is_directory.false),
+  needed_at _ _ _ c.in-NeedBlock.is (c.in_ok-bytes.ensures.needed h shown),
+)
+
+pub returns-in_err-bytes-clause-damaged : goal.returns-in_err-bytes-clause-damaged
+returns-in_err-bytes-clause-damaged g c h shown =
+    told_on _ _ _ c.from_residual.ensures.1 (tells_so _ (IsWrong h) in_inode c.in_err-bytes.field-0.0 (c.in_err-bytes.ensures.damaged h shown))
