@@ -1,9 +1,9 @@
 -- The records of a directory without names.
-use Rattle.std.proofs.Common.{◌≡◌, ◌≢◌, ℕ, ◌+◌, ◌-◌, ◌≤◌, true, false, List, [], ◌∷◌, length, drop, Option, Some, refl, sym, ap, ◌∙◌, arith, length-drop}
+use Rattle.std.proofs.Common.{◌≡◌, ◌≢◌, ℕ, ◌+◌, ◌-◌, ◌≤◌, true, false, List, [], ◌∷◌, ◌++◌, length, take, drop, replicate, Option, Some, refl, sym, ap, ◌∙◌, arith, length-drop}
 use Rattle.std.specs.Prelude.{codes, not, ◌&&◌, ◌==◌}
 use Rattle.std.proofs.lemmas.Bool.{le-leb}
 use Rattle.std.proofs.lemmas.Bool.Decides.{nat_tests}
-use Rattle.std.proofs.lemmas.List.{take_at, take-take, length-take-le}
+use Rattle.std.proofs.lemmas.List.{length-replicate, drop-replicate, take-replicate, take_at, take-take, length-take-le}
 use Rattle.gfs2_layout.specs.Area.{Slot, slot_at, slot_length, slots_of}
 use Rattle.gfs2_layout.specs.Putting.{least_length, taken_length, has_room, cut_short, new_slot, put_slot}
 use Rattle.gfs2_layout.specs.Records.{Record, record_of, records_in}
@@ -11,7 +11,7 @@ use Rattle.gfs2_layout.specs.Structures.{is_in_use}
 use Rattle.gfs2_layout.specs.declared.dirent.Dirent.{Dirent}
 use Rattle.glock_names.specs.declared.steps.Entry.{Entry}
 use Rattle.linear_dirs.specs.Reading.{told_in}
-use Rattle.linear_dirs.specs.Shown.{record_for, head_for}
+use Rattle.linear_dirs.specs.Shown.{record_for, head_for, clear_slot, dots_in}
 
 some_is : {X : Type 0} {x y : X} → ◌≡◌ {A = Option X} (Some x) (Some y) → x ≡ y
 some_is e = cc
@@ -61,6 +61,32 @@ said_cut s = ap (renamed (record_of s)) (take-take s.head.name_len (least_length
 two_told : (a b : Slot) → is_in_use a.head ≡ true → is_in_use b.head ≡ true → told_in (a ∷ (b ∷ [])) ≡ record_of a ∷ (record_of b ∷ [])
 two_told a b used_a used_b = rw (used_a, used_b) refl
 
+-- ---- over zeros
+
+pub cleared_body : (area zeros : List ℕ) (room : ℕ) → (slot_at area).head.rec_len ≡ room → drop 40 area ≡ drop 40 zeros → zeros ≡ replicate room 0 → (slot_at area).body ≡ replicate (room - 40) 0
+cleared_body area zeros room long behind clear =
+    (λ i. take (long i - 40) ((behind ∙ ap (drop 40) clear ∙ drop-replicate 40 room 0) i)) ∙ take-replicate (room - 40) (room - 40) 0 (omega arith)
+
+-- a new record over zeros
+new_clear : (name : List ℕ) (e : Entry) (room : ℕ) (over : List ℕ) → 40 ≤ room → over ≡ replicate (room - 40) 0 → new_slot (head_for name e) name over ≡ clear_slot name e room
+new_clear name e room over least is = λ i. record { head = record (head_for name e) { rec_len = long i }; pad = replicate 12 0; body = name ++ rest i }
+  where
+    long : 40 + length over ≡ room
+    long = omega (arith, ap length is ∙ length-replicate {A = ℕ} (room - 40) 0, least)
+
+    rest : drop (length name) over ≡ replicate (room - 40 - length name) 0
+    rest = ap (drop (length name)) is ∙ drop-replicate (length name) (room - 40) 0
+
+-- `.` that had all of it, cut
+cut_clear : (e : Entry) (room : ℕ) → 280 ≤ room → cut_short (clear_slot (codes ".") e room) ≡ clear_slot (codes ".") e 48
+cut_clear e room least = λ i. record { head = record (head_for (codes ".") e) { rec_len = 48 }; pad = replicate 12 0; body = codes "." ++ rest i }
+  where
+    rest : take {A = ℕ} 7 (replicate (room - 40 - 1) 0) ≡ replicate 7 0
+    rest = take-replicate 7 (room - 40 - 1) 0 (omega (arith, least))
+
+behind_clear : (e : Entry) (room : ℕ) → 280 ≤ room → drop 48 (clear_slot (codes ".") e room).body ≡ replicate (room - 48 - 40) 0
+behind_clear e room least = drop-replicate 47 (room - 40 - 1) 0 ∙ ap (λ n. replicate n 0) (let same : room - 40 - 1 - 47 ≡ room - 48 - 40 = omega (arith, least) in same)
+
 -- ---- both
 
 module _ (cleared one two : List ℕ) (own parent : Entry) (alone : slots_of cleared ≡ slot_at cleared ∷ []) (unused : is_in_use (slot_at cleared).head ≡ false)
@@ -91,3 +117,9 @@ module _ (cleared one two : List ℕ) (own parent : Entry) (alone : slots_of cle
   unfolding records_in
   begun = ap told_in two_is ∙ two_told (cut_short dot) dots (used_by (codes ".") own under.body number address) (used_by (codes "..") parent (drop (least_length dot.head.name_len) dot.body) above above_address)
       ∙ (λ i. (said_cut dot ∙ said_new (codes ".") own under.body) i ∷ (said_new (codes "..") parent (drop (least_length dot.head.name_len) dot.body) i ∷ []))
+
+  pub begun_slots : under.body ≡ replicate (length cleared - 40) 0 → slots_of two ≡ dots_in (length cleared) own parent
+  begun_slots clear =
+      let first_is : dot ≡ clear_slot (codes ".") own (length cleared) = new_clear (codes ".") own (length cleared) under.body (omega (arith, least)) clear in
+      two_is ∙ (λ i. cut_short (first_is i) ∷ (new_slot (head_for (codes "..") parent) (codes "..") (drop 48 (first_is i).body) ∷ []))
+      ∙ (λ i. cut_clear own (length cleared) least i ∷ (new_clear (codes "..") parent (length cleared - 48) _ (omega (arith, least)) (behind_clear own (length cleared) least) i ∷ []))

@@ -2,6 +2,7 @@ pub mod Records
 pub mod Looked
 pub mod Puts
 pub mod Rewritten
+pub mod Over
 pub mod Counts
 pub mod Exchanged
 pub mod Unbroken

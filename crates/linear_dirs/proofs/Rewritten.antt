@@ -29,16 +29,16 @@ use Rattle.linear_dirs.proofs.Looked.{records_are}
 
 -- ---- an inode over what a draft leaves
 
-over_part : (o : Option (List ℕ)) (c : Option Cell) → cell_part (option_map (bytes_over o) c) ≡ cell_part c
+pub over_part : (o : Option (List ℕ)) (c : Option Cell) → cell_part (option_map (bytes_over o) c) ≡ cell_part c
 over_part o None = refl
 over_part None (Some c) = refl
 over_part (Some bytes) (Some c) = refl
 
-over_there : (o : Option (List ℕ)) (c : Option Cell) → is_some (option_map (bytes_over o) c) ≡ is_some c
+pub over_there : (o : Option (List ℕ)) (c : Option Cell) → is_some (option_map (bytes_over o) c) ≡ is_some c
 over_there o None = refl
 over_there o (Some c) = refl
 
-over_put : (o : Option (List ℕ)) (c : Option Cell) (new : List ℕ) → IsSome c → o ≡ Some new → cell_bytes (option_map (bytes_over o) c) ≡ new
+pub over_put : (o : Option (List ℕ)) (c : Option Cell) (new : List ℕ) → IsSome c → o ≡ Some new → cell_bytes (option_map (bytes_over o) c) ≡ new
 over_put o None new there is = cc
 over_put None (Some c) new there is = cc
 over_put (Some bytes) (Some c) new there is = cc
@@ -80,13 +80,13 @@ module _ (v : Seen) (h : Holding) (new : List ℕ) (is : IsRewritten v h new) wh
   abbrev after : Holding
   after = holding_over v h
 
-  part_same : (b : ℕ) → part_at after b ≡ part_at h b
+  pub part_same : (b : ℕ) → part_at after b ≡ part_at h b
   part_same b = over_part (v.block_at b) (h.cell b)
 
-  bytes_new : bytes_at after h.own ≡ new
+  pub bytes_new : bytes_at after h.own ≡ new
   bytes_new = over_put (v.block_at h.own) (h.cell h.own) new is.there is.own
 
-  bytes_same : (b : ℕ) → b ≢ h.own → bytes_at after b ≡ bytes_at h b
+  pub bytes_same : (b : ℕ) → b ≢ h.own → bytes_at after b ≡ bytes_at h b
   bytes_same b other = over_same (v.block_at b) (h.cell b) (λ bytes there at. is.same b bytes other there at)
 
   pub area_new : linear_area after ≡ drop dinode_length new
@@ -96,7 +96,7 @@ module _ (v : Seen) (h : Holding) (new : List ℕ) (is : IsRewritten v h new) wh
   unfolding dinode_in
   dinode_new d of = ap dinode_of bytes_new ∙ of
 
-  count_same : block_count after ≡ block_count h
+  pub count_same : block_count after ≡ block_count h
   unfolding block_count
   count_same = ap (λ (p : ℕ → Bool). count_by p (range_with_len 0 h.count)) (λ i b. over_there (v.block_at b) (h.cell b) i)
 

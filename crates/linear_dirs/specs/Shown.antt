@@ -1,7 +1,8 @@
 -- A directory as a view shows it, and as a draft leaves it.
-use Rattle.std.specs.Prelude.{ℕ, ◌≡◌, true, false, List, drop, length, Option, None, Some, option_map}
+use Rattle.std.specs.Prelude.{ℕ, ◌≡◌, true, false, List, drop, length, Option, None, Some, option_map, ◌-◌, [], ◌∷◌, ◌++◌, replicate, codes}
 use Rattle.crc_words.specs.Remainder.{crc32_of}
 use Rattle.drafts.specs.Fates.{Drafted, seen_with}
+use Rattle.gfs2_layout.specs.Area.{Slot}
 use Rattle.gfs2_layout.specs.Structures.{dinode_of, dinode_length, is_directory}
 use Rattle.gfs2_layout.specs.Holding.{Cell, Holding}
 use Rattle.gfs2_layout.specs.Inode.{has_hash_flag}
@@ -35,6 +36,16 @@ record_for name e = record { name = name; number = e.number; address = e.addr; k
 -- the head of that record, before it has a length
 abbrev pub head_for : List ℕ → Entry → Dirent
 head_for name e = record { inum = record { number = e.number; address = e.addr }; hash = crc32_of name; rec_len = 0; name_len = length name; kind = e.kind; rahead = 0 }
+
+-- ---- the records of a directory without names
+
+-- a record of so many bytes, with zeros behind its name
+abbrev pub clear_slot : List ℕ → Entry → ℕ → Slot
+clear_slot name e room = record { head = record (head_for name e) { rec_len = room }; pad = replicate 12 0; body = name ++ replicate (room - 40 - length name) 0 }
+
+-- `.` has as few bytes as it can, and `..` the rest of so many
+abbrev pub dots_in : ℕ → Entry → Entry → List Slot
+dots_in room own parent = clear_slot (codes ".") own 48 ∷ clear_slot (codes "..") parent (room - 48) ∷ []
 
 -- ---- what a draft leaves of an inode that keeps its blocks
 

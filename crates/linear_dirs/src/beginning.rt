@@ -1,11 +1,11 @@
 // The records of a directory without names.
-ghost use Rattle.std.specs.Prelude.{◌≡◌, ◌≢◌, ◌≤◌, [], ◌∷◌, true, false, length, codes, Some};
+ghost use Rattle.std.specs.Prelude.{◌≡◌, ◌≢◌, ◌-◌, ◌≤◌, [], ◌∷◌, true, false, length, replicate, codes, Some};
 ghost use Rattle.std.specs.List.{list_any};
 ghost use Rattle.gfs2_layout.specs.Area.{IsArea, slot_at, slots_of};
 ghost use Rattle.gfs2_layout.specs.Putting.{has_room, least_length, put_slot};
 ghost use Rattle.gfs2_layout.specs.Records.{IsRecordArea, records_in};
 ghost use Rattle.gfs2_layout.specs.Structures.{is_in_use};
-ghost use Rattle.linear_dirs.specs.Shown.{record_for, head_for as head_of_entry};
+ghost use Rattle.linear_dirs.specs.Shown.{dots_in, record_for, head_for as head_of_entry};
 
 use crate::putting::head_for;
 use gfs2_layout::{Dirent, Inum, areas_exchange_records, areas_join, put_record};
@@ -18,6 +18,7 @@ fn clear(area: &mut [u8])
     ensures slots { slots_of area.new ≡ slot_at area.new ∷ [] }
     ensures unused { is_in_use (slot_at area.new).head ≡ false }
     ensures long { (slot_at area.new).head.rec_len ≡ length area.old }
+    ensures body { (slot_at area.new).body ≡ replicate (length area.old - 40) 0 }
     ensures area { IsArea area.new }
 {
     areas_join();
@@ -62,6 +63,7 @@ pub fn begin(area: &mut [u8], own: Entry, parent: Entry)
     requires parent_number { parent.number ≢ 0 }
     requires parent_address { parent.addr ≢ 0 }
     ensures area { IsRecordArea area.new }
+    ensures slots { slots_of area.new ≡ dots_in (length area.old) own parent }
     ensures records { records_in area.new ≡ record_for (codes ".") own ∷ record_for (codes "..") parent ∷ [] }
     ensures size { length area.new ≡ length area.old }
 {

@@ -10,8 +10,8 @@ mod putting;
 mod removing;
 
 pub use beginning::begin;
-pub use laws::linear_directories_break_nothing;
+pub use laws::{drafts_lie_over_one_another, linear_directories_break_nothing};
 pub use listing::names;
 pub use looking::look;
-pub use putting::insert;
+pub use putting::{head_for, insert, lock_of};
 pub use removing::remove;

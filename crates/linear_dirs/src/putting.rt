@@ -31,7 +31,7 @@ use glock_names::{CallFault, Entry, LockName, Step, View};
 use no_memory::NoMemory;
 
 /// The lock that covers the directory's block.
-pub(crate) fn lock_of(dir: u64) -> LockName
+pub fn lock_of(dir: u64) -> LockName
     ensures { result ≡ inode_lock dir }
 {
     LockName {
@@ -49,7 +49,7 @@ pub(crate) fn links_of(name: &[u8], kind: u16) -> u32
 }
 
 /// The head of the record of a name that leads there. Its length is still to be given.
-pub(crate) fn head_for(name: &[u8], entry: &Entry) -> Dirent
+pub fn head_for(name: &[u8], entry: &Entry) -> Dirent
     requires { length name.now ≤ 255 }
     ensures { result ≡ head_of_entry name.now entry.now }
 {
