@@ -7,3 +7,4 @@ pub mod Counts
 pub mod Puts
 pub mod Miscounts
 pub mod Setting
+mod Numbers

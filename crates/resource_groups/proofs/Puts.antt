@@ -69,12 +69,12 @@ pub record IsOneChanged (at at' : ℕ → List ℕ) (g : Group) (k : ℕ) : Type
   pub first : k ≢ 0 → drop 128 (at' g.addr) ≡ drop 128 (at g.addr)
   pub more : (c : ℕ) → IsHeaderOf g c → c ≢ g.addr → c ≢ g.addr + k → drop 24 (at' c) ≡ drop 24 (at c)
 
-front_same : (at at' : ℕ → List ℕ) (g : Group) (k : ℕ) → k < g.length → IsOneChanged at at' g k → front at' g k ≡ front at g k
+pub front_same : (at at' : ℕ → List ℕ) (g : Group) (k : ℕ) → k < g.length → IsOneChanged at at' g k → front at' g k ≡ front at g k
 front_same at at' g zero low is = refl
 front_same at at' g (suc k) low is = ap₂ (λ x y. x ++ y) (is.first (λ e. absurd (omega (arith, e)))) (further_same at at' (g.addr + 1) k
     (λ c first last. is.more c (record { low = omega (arith, first); high = omega (arith, last, low) }) (λ e. absurd (omega (arith, e, first))) (λ e. absurd (omega (arith, e, last)))))
 
-back_same : (at at' : ℕ → List ℕ) (g : Group) (k : ℕ) → k < g.length → IsOneChanged at at' g k → back at' g k ≡ back at g k
+pub back_same : (at at' : ℕ → List ℕ) (g : Group) (k : ℕ) → k < g.length → IsOneChanged at at' g k → back at' g k ≡ back at g k
 back_same at at' g k low is = further_same at at' (g.addr + k + 1) (g.length - k - 1)
     (λ c first last. is.more c (record { low = omega (arith, first); high = omega (arith, last, low) }) (λ e. absurd (omega (arith, e, first))) (λ e. absurd (omega (arith, e, first))))
 
@@ -87,10 +87,10 @@ bits_put v at at' g k p state low big shown one within bits =
 
 -- ---- what a draft sees of what was put
 
-seen_at : (v : Seen) (m : FinMap nat_cmp Fate) (b : ℕ) (lock : LockName) (bytes : List ℕ) → (seen_with v (insert m b (Put lock false bytes))).block_at b ≡ Some bytes
+pub seen_at : (v : Seen) (m : FinMap nat_cmp Fate) (b : ℕ) (lock : LockName) (bytes : List ℕ) → (seen_with v (insert m b (Put lock false bytes))).block_at b ≡ Some bytes
 seen_at v m b lock bytes = ap (λ fate. block_with fate (v.block_at b)) (inserted_at nat_cmp_total nat_cmp-IsAntisymmetric m b (Put lock false bytes))
 
-seen_apart : (v : Seen) (m : FinMap nat_cmp Fate) (b c : ℕ) (lock : LockName) (bytes : List ℕ) → c ≢ b → (seen_with v (insert m b (Put lock false bytes))).block_at c ≡ (seen_with v m).block_at c
+pub seen_apart : (v : Seen) (m : FinMap nat_cmp Fate) (b c : ℕ) (lock : LockName) (bytes : List ℕ) → c ≢ b → (seen_with v (insert m b (Put lock false bytes))).block_at c ≡ (seen_with v m).block_at c
 seen_apart v m b c lock bytes other = ap (λ fate. block_with fate (v.block_at c)) (inserted_apart nat_cmp_total nat_cmp-IsAntisymmetric m b (Put lock false bytes) c other)
 
 -- a block that is seen is seen after another, or it, was put
@@ -101,7 +101,7 @@ still_seen v m b c lock bytes there = elim (cases_eq c b) [
   | inr other ↦ (there.0, seen_apart v m b c lock bytes other ∙ there.1)
 ]
 
-as_shown : (v : Seen) (g : Group) (at : ℕ → List ℕ) (c : ℕ) (seen : Option (List ℕ)) → IsShown v g at → IsHeaderOf g c → v.block_at c ≡ seen → seen_or seen (at c) ≡ at c
+pub as_shown : (v : Seen) (g : Group) (at : ℕ → List ℕ) (c : ℕ) (seen : Option (List ℕ)) → IsShown v g at → IsHeaderOf g c → v.block_at c ≡ seen → seen_or seen (at c) ≡ at c
 as_shown v g at c None shown own is = refl
 as_shown v g at c (Some bytes) shown own is = sym (shown.same c bytes own is)
 
@@ -131,10 +131,10 @@ header_kept kind format a b same has = record {
   format_is = sym (number_front w32 16 24 a b (omega arith) same) ∙ has.format_is;
 }
 
-block_at : (at : ℕ → List ℕ) (g : Group) (j : ℕ) → j < g.length → get_or (blocks_of at g) j [] ≡ at (g.addr + j)
+pub block_at : (at : ℕ → List ℕ) (g : Group) (j : ℕ) → j < g.length → get_or (blocks_of at g) j [] ≡ at (g.addr + j)
 block_at at g j low = get_or-map-range_with_len at g.addr g.length j (g.addr + j) [] low refl
 
-block_past : (at : ℕ → List ℕ) (g : Group) (j : ℕ) → g.length ≤ j → get_or (blocks_of at g) j [] ≡ []
+pub block_past : (at : ℕ → List ℕ) (g : Group) (j : ℕ) → g.length ≤ j → get_or (blocks_of at g) j [] ≡ []
 block_past at g j past = get_or_past (blocks_of at g) j [] (subst (λ n. n ≤ j) (sym (length-map-range_with_len at g.addr g.length)) past)
 
 -- ---- both puts

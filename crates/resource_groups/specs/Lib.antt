@@ -2,3 +2,4 @@ pub mod Shown
 pub mod Finding
 pub mod Counting
 pub mod Putting
+pub mod Numbering

@@ -5,9 +5,11 @@ mod bits;
 mod blocks;
 mod counting;
 mod finding;
+mod numbering;
 mod places;
 mod putting;
 
 pub use counting::count_free;
 pub use finding::find_free;
+pub use numbering::take_number;
 pub use putting::{group_of, set_state};

@@ -95,8 +95,8 @@ fn put_bits<V: View>(
     draft.put(lock_of(group), block, false, &bytes)
 }
 
-// Puts a header into the group's first block, which the draft sees.
-fn put_header<V: View>(
+/// Puts a header into the group's first block, which the draft sees.
+pub(crate) fn put_header<V: View>(
     draft: &mut Draft<'_, V>,
     group: &Group,
     header: &GroupHeader,
