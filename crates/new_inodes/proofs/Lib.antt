@@ -1,0 +1,5 @@
+mod Alone
+mod Made
+mod Retimed
+mod Rehashed
+mod Touches
