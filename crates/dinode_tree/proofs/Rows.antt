@@ -1,5 +1,5 @@
 -- What is added to the blocks that were found below a dinode, and the rows that are had then.
-use Rattle.std.proofs.Common.{◌≡◌, ◌≢◌, ◌⊎◌, ℕ, suc, ◌+◌, ◌-◌, ◌*◌, ◌<◌, ◌≤◌, ◌↔◌, inl, inr, List, [], ◌∷◌, ◌++◌, length, get_or, Option, Some, None, refl, sym, ap, ap₂, subst, ◌∙◌, zero-add, arith}
+use Rattle.std.proofs.Common.{◌≡◌, ◌≢◌, ◌⊎◌, ℕ, suc, ◌+◌, ◌-◌, ◌*◌, ◌<◌, ◌≤◌, ◌↔◌, inl, inr, List, [], length, get_or, Some, None, refl, sym, ap, subst, ◌∙◌, zero-add, arith}
 use Rattle.std.specs.Prelude.{◌==◌, ◌&&◌, Contains}
 use Rattle.std.proofs.lemmas.Bool.{cases_lt}
 use Rattle.std.proofs.lemmas.List.{get_or_default}
@@ -196,7 +196,7 @@ below_of : (h : Holding) (l : Link) → IsLed h l → IsBelow h l.block
 below_of h l led = (l.way.from, led.0, l.way.level, l.way.index, led.1)
 
 link_is : (from from' level first first' b b' : ℕ) → from ≡ from' → first ≡ first' → b ≡ b'
-    → record { way = record { from = from; level = level; index = first; left = 0 }; block = b } ≡ record { way = record { from = from'; level = level; index = first'; left = 0 }; block = b' }
+    → ◌≡◌ {A = Link} (record { way = record { from = from; level = level; index = first; left = 0 }; block = b }) (record { way = record { from = from'; level = level; index = first'; left = 0 }; block = b' })
 link_is from from' level first first' b b' e f d = λ j. record { way = record { from = e j; level = level; index = f j; left = 0 }; block = d j }
 
 none_in : {X : Type 0} (xs : List X) (x : X) → xs ≡ [] → Contains xs x → ⊥
@@ -210,6 +210,16 @@ added_one x y link bytes start way k is =
 
 pub added_zero : (x : Below) (bytes : List ℕ) (start : ℕ) (way : Way) (k : ℕ) → u64_at (start + 8 * k) bytes ≡ 0 → AreAdded x x (IsPointing bytes start way k)
 added_zero x bytes start way k none = added_none x (IsPointing bytes start way k) (λ l p. p.some none)
+
+pub under_bytes : (v : Seen) (x y : Below) (over : Link) (bytes : List ℕ) → v.block_at over.block ≡ Some bytes
+    → AreAdded x y (λ l. (k : ℕ) × (k < fan (length bytes) header_length) × IsPointing bytes header_length (way_below over) k l) → AreAdded x y (IsUnder v over)
+under_bytes v x y over bytes at = added_same x y (λ l. (k : ℕ) × (k < fan (length bytes) header_length) × IsPointing bytes header_length (way_below over) k l) (IsUnder v over) (λ l p. (bytes, at, p))
+    (λ l under.
+    let same : under.0 ≡ bytes = one under.0 bytes (sym under.1 ∙ at) in
+    subst (λ bs. (k : ℕ) × (k < fan (length bs) header_length) × IsPointing bs header_length (way_below over) k l) same under.2)
+  where
+    one : (a b : List ℕ) → Some a ≡ Some b → a ≡ b
+    one a b e = cc
 
 -- below the link at a place of a row
 abbrev pub UnderAt : Seen → List Link → ℕ → Link → Type 0
@@ -227,6 +237,22 @@ under_row v x y row n all = added_same x y (Upto (UnderAt v row) n) (IsUnderRow 
     (λ l at. (at.2.0, (at.0, omega (arith, at.1, all), at.2.1), at.2.2))
     (λ l under. (under.1.0, omega (arith, under.1.1, all), (under.0, under.1.2, under.2)))
 
+pub there_more : (v : Seen) (row : List Link) (n : ℕ) (e : Link) → n < length row → HasBlock v (get_or row n e).block → ((j : ℕ) (over : Link) → j < n → get_or row j over ≡ over → HasBlock v over.block)
+    → (j : ℕ) (over : Link) → j < n + 1 → get_or row j over ≡ over → HasBlock v over.block
+there_more v row n e low here before j over within is = elim (cases_lt j n) [
+  | inl early ↦ before j over early is
+  | inr late ↦
+      let last : j ≡ n = omega (arith, late, within) in
+      subst (λ (m : Link). HasBlock v m.block) (get_or_default row n e over low ∙ ap (λ i. get_or row i over) (sym last) ∙ is) here
+]
+
+-- what a row gets that begins empty
+pub row_above : (x y : Below) (P : Link → Type 0) → x.row.items ≡ [] → AreAdded x y P → (l : Link) → Contains y.row.items l → 1 ≤ l.way.level
+row_above x y P none added l has = elim (added.row_only l has) [
+  | inl before ↦ absurd (none_in x.row.items l none before)
+  | inr made ↦ made.1
+]
+
 -- ---- the rows
 
 -- the first row: where the dinode's pointers lead
@@ -243,12 +269,15 @@ module _ (h : Holding) (inode : Inode) (top : ℕ) (o : IsOf h inode) (high : he
   top_all : (from k first b : ℕ) → Leads h from k top first b → IsTop (record { way = record { from = from; level = top; index = first; left = 0 }; block = b })
   top_all from k first b leads =
       let is = from_top h from k top first b leads high in
-      let same : pointer h dinode_length h.own k ≡ u64_at (dinode_length + 8 * k) inode.bytes.now = ap (u64_at (dinode_length + 8 * k)) o.bytes in
-      (k, subst (λ n. k < fan n dinode_length) o.size is.low, record {
-        some = λ e. is.some (same ∙ e);
-        is = link_is from inode.block top first (0 + k * span (length inode.bytes.now) top) b (u64_at (dinode_length + 8 * k) inode.bytes.now) (is.own ∙ o.own)
-            (is.first_is ∙ ap (λ n. k * span n top) o.size ∙ sym (zero-add (k * span (length inode.bytes.now) top))) (is.block_is ∙ same);
-      })
+      let same : pointer h dinode_length h.own k ≡ u64_at (dinode_length + 8 * k) inode.bytes.now = ap (u64_at (dinode_length + 8 * k)) o.bytes in (
+        k,
+        subst (λ n. k < fan n dinode_length) o.size is.low,
+        record {
+          some = λ e. is.some (same ∙ e);
+          is = link_is from inode.block top first (0 + k * span (length inode.bytes.now) top) b (u64_at (dinode_length + 8 * k) inode.bytes.now) (is.own ∙ o.own)
+              (is.first_is ∙ ap (λ n. k * span n top) o.size ∙ sym (zero-add (k * span (length inode.bytes.now) top))) (is.block_is ∙ same);
+        },
+      )
 
   pub rows_first : (x y : Below) → x.blocks.items ≡ [] → x.row.items ≡ [] → AreAdded x y IsTop → HasRows h top y
   rows_first x y no_blocks no_row added = record {
@@ -257,8 +286,8 @@ module _ (h : Holding) (inode : Inode) (top : ℕ) (o : IsOf h inode) (high : he
       | inr made ↦ subst (IsBelow h) (sym made.2) (below_of h made.0 (top_led made.0 made.1))
     ];
     all = λ from k at first b above leads.
-      let same : at ≡ top = omega (arith, above, high, leads_low h from k at first b leads) in
-      added.blocks_come (record { way = record { from = from; level = top; index = first; left = 0 }; block = b }) (top_all from k first b (subst (λ l. Leads h from k l first b) same leads));
+        let same : at ≡ top = omega (arith, above, high, leads_low h from k at first b leads) in
+        added.blocks_come (record { way = record { from = from; level = top; index = first; left = 0 }; block = b }) (top_all from k first b (subst (λ l. Leads h from k l first b) same leads));
     led = λ l has. elim (added.row_only l has) [
       | inl before ↦ absurd (none_in x.row.items l no_row before)
       | inr made ↦
@@ -299,12 +328,23 @@ module _ (v : Seen) (h : Holding) (a level : ℕ) (old : Below) (shown : IsShown
       let has : Contains old.row.items over = rows.row is.over is.place is.begin from some above in
       let seen : HasBlock v from = there over has in
       let size : length seen.0 ≡ h.size = long from seen.0 seen.1 in
-      let same : pointer h header_length from k ≡ u64_at (header_length + 8 * k) seen.0 = ap (u64_at (header_length + 8 * k)) (led_bytes v h a over seen.0 shown (is.place, above) seen.1) in
-      (over, has, (seen.0, seen.1, (k, subst (λ n. k < fan n header_length) (sym size) is.low, record {
-        some = λ e. is.some (same ∙ e);
-        is = link_is from from (level - 1) first (is.begin + k * span (length seen.0) (level - 1)) b (u64_at (header_length + 8 * k) seen.0) refl
-            (is.first_is ∙ ap (λ n. is.begin + k * span n (level - 1)) (sym size)) (is.block_is ∙ same);
-      })))
+      let same : pointer h header_length from k ≡ u64_at (header_length + 8 * k) seen.0 = ap (u64_at (header_length + 8 * k)) (led_bytes v h a over seen.0 shown (is.place, above) seen.1) in (
+        over,
+        has,
+        (
+          seen.0,
+          seen.1,
+          (
+            k,
+            subst (λ n. k < fan n header_length) (sym size) is.low,
+            record {
+              some = λ e. is.some (same ∙ e);
+              is = link_is from from (level - 1) first (is.begin + k * span (length seen.0) (level - 1)) b (u64_at (header_length + 8 * k) seen.0) refl
+                  (is.first_is ∙ ap (λ n. is.begin + k * span n (level - 1)) (sym size)) (is.block_is ∙ same);
+            },
+          ),
+        ),
+      )
 
   pub rows_next : (x y : Below) → x.blocks.items ≡ old.blocks.items → x.row.items ≡ [] → AreAdded x y IsNext → HasRows h (level - 1) y
   rows_next x y same_blocks no_row added = record {

@@ -129,7 +129,7 @@ fn add_pointers(
     ensures added { OnOk result (AreAdded below.old below.new (λ l. (k : ℕ) × (k < fan_of (length bytes.now) start) × IsPointing bytes.now start way.now k l)) }
     ensures damaged { (h : Holding) → IsOf h inode.now
         → ((k : ℕ) → k < fan_of (length bytes.now) start → u64_at (start + 8 * k) bytes.now ≢ 0
-            → Leads h way.now.from k way.now.level (way.now.index + k * span_of h.size way.now.level) (u64_at (start + 8 * k) bytes.now))
+        → Leads h way.now.from k way.now.level (way.now.index + k * span_of h.size way.now.level) (u64_at (start + 8 * k) bytes.now))
         → IfDamaged result (IsBroken h) }
     ensures own { IfDamaged result (IsAtBlock inode.now.block) }
 {

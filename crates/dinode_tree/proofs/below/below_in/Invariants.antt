@@ -1,4 +1,4 @@
-use Rattle.std.proofs.Common.{◌≡◌, ◌<◌, ◌≤◌}
+use Rattle.std.proofs.Common.{◌<◌, ◌≤◌}
 use Rattle.std.specs.Prelude.{Contains}
 use Rattle.gfs2_layout.specs.Holding.{Holding}
 use Rattle.dinode_tree.specs.Below.{HasRows}
