@@ -158,6 +158,21 @@ module _ {V : Type 0} (seen : V → Seen) (d d1 d2 : Drafted V) (g : Group) (b k
         ∙ inserted_apart nat_cmp_total nat_cmp-IsAntisymmetric d.fates (g.addr + k) (Put (group_lock g) false (bit_put k p state puts.bits_there.0)) c other;
   })
 
+  -- what is seen then was seen
+  pub seen_still : (c : ℕ) → HasBlock (seen_in seen d2) c → HasBlock (seen_in seen d) c
+  seen_still c there = elim (cases_eq c g.addr) [
+    | inl first ↦ subst (HasBlock (seen_in seen d)) (sym first) puts.header_there
+    | inr apart ↦ elim (cases_eq c (g.addr + k)) [
+      | inl here ↦ subst (HasBlock (seen_in seen d)) (sym here) puts.bits_there
+      | inr other ↦
+          let after : HasBlock (seen_with v both_fates) c = subst (λ (x : Drafted V). HasBlock (seen_in seen x) c) both_is there in
+          let same : get both_fates c ≡ get d.fates c =
+          inserted_apart nat_cmp_total nat_cmp-IsAntisymmetric first_fates g.addr (Put (group_lock g) false (group_put h header_seen.0)) c apart
+          ∙ inserted_apart nat_cmp_total nat_cmp-IsAntisymmetric d.fates (g.addr + k) (Put (group_lock g) false (bit_put k p state puts.bits_there.0)) c other in
+          (after.0, sym (ap (λ fate. block_with fate (v.block_at c)) same) ∙ after.1)
+    ]
+  ]
+
 -- ---- what stays whatever is answered
 
 pub keeps_all : {V : Type 0} (d d1 : Drafted V) (g : Group) → d1 ≡ d → KeepsOthers d d1 g

@@ -135,6 +135,7 @@ fn set_in_group<V: View>(
     ensures kept { IfDamaged result (IsOfView (seen_in V.seen draft.old)) }
     ensures stays { IfDamaged result (λ rule broken. draft.new ≡ draft.old) }
     ensures others { KeepsOthers draft.old draft.new group.now }
+    ensures sees { IfIs result (λ done. (c : ℕ) → HasBlock (seen_in V.seen draft.new) c → HasBlock (seen_in V.seen draft.old) c) }
     ensures view { IsView (seen_in V.seen draft.old) }
 {
     let size = draft.block_size();
@@ -180,6 +181,8 @@ pub fn set_state<V: View>(
     ensures kept { IfDamaged result (IsOfView (seen_in V.seen draft.old)) }
     ensures stays { IfDamaged result (λ rule broken. draft.new ≡ draft.old) }
     ensures others { (g : Group) → HasGroup (seen_in V.seen draft.old) g → IsDataOf g block → KeepsOthers draft.old draft.new g }
+    ensures sees { IfIs result (λ done. (c : ℕ) → HasBlock (seen_in V.seen draft.new) c → HasBlock (seen_in V.seen draft.old) c) }
+    ensures view { IsView (seen_in V.seen draft.old) }
 {
     let Some(group) = group_of(&*draft, block) else {
         unreachable!()
