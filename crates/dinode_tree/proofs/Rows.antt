@@ -1,7 +1,11 @@
 -- What is added to the blocks that were found below a dinode, and the rows that are had then.
-use Rattle.std.proofs.Common.{◌≡◌, ◌≢◌, ◌⊎◌, ℕ, suc, ◌+◌, ◌-◌, ◌*◌, ◌<◌, ◌≤◌, ◌↔◌, inl, inr, List, [], length, get_or, Some, None, refl, sym, ap, subst, ◌∙◌, zero-add, arith}
+use Rattle.std.proofs.Common.{◌≡◌, ◌≢◌, ◌⊎◌, ℕ, suc, ◌+◌, ◌-◌, ◌*◌, ◌<◌, ◌≤◌, ◌↔◌, inl, inr, Bool, List, [], length, get_or, Some, None, refl, sym, ap, subst, ◌∙◌, zero-add, arith}
 use Rattle.std.specs.Prelude.{◌==◌, ◌&&◌, Contains}
-use Rattle.std.proofs.lemmas.Bool.{cases_lt}
+use Rattle.std.specs.Cmp.{IsEquivalence}
+use Rattle.std.specs.List.{dedup}
+use Rattle.std.proofs.lemmas.Cmp.{nat_eq_equiv}
+use Rattle.std.proofs.lemmas.List.Kept.{Any-dedup}
+use Rattle.std.proofs.lemmas.Bool.{cases_lt, eqb-true}
 use Rattle.std.proofs.lemmas.List.{get_or_default}
 use Rattle.gfs2_layout.specs.Bytes.{u64_at}
 use Rattle.gfs2_layout.specs.Headers.{HasHeader}
@@ -253,6 +257,23 @@ row_above x y P none added l has = elim (added.row_only l has) [
   | inr made ↦ made.1
 ]
 
+-- ---- one link to each block
+
+abbrev pub same_block : Link → Link → Bool
+same_block l m = l.block == m.block
+
+same_block_equiv : IsEquivalence same_block
+same_block_equiv = record {
+  refl = λ l. nat_eq_equiv.refl l.block;
+  symm = λ l m. nat_eq_equiv.symm l.block m.block;
+  congr = λ l m n. nat_eq_equiv.congr l.block m.block n.block;
+}
+
+pub one_of_each : (xs kept : List Link) (l : Link) → kept ≡ dedup same_block xs → Contains xs l → (m : Link) × Contains kept m × (m.block ≡ l.block)
+one_of_each xs kept l is has =
+    let found = Any-dedup same_block_equiv xs l has in
+    (found.1, subst (λ ys. Contains ys found.1) (sym is) (found.0, found.2, found.3), sym (eqb-true l.block found.1.block found.4))
+
 -- ---- the rows
 
 -- the first row: where the dinode's pointers lead
@@ -294,14 +315,17 @@ module _ (h : Holding) (inode : Inode) (top : ℕ) (o : IsOf h inode) (high : he
           let level : l.way.level ≡ top = ap (λ (m : Link). m.way.level) made.0.2.is in
           (top_led l made.0, level, omega (arith, made.1, level))
     ];
-    row = λ from k first b above leads. added.row_comes (record { way = record { from = from; level = top; index = first; left = 0 }; block = b }) (top_all from k first b leads) above;
+    row = λ from k first b above leads.
+        let link : Link = record { way = record { from = from; level = top; index = first; left = 0 }; block = b } in
+        (link, added.row_comes link (top_all from k first b leads) above, refl);
   }
 
--- the row below a row
-module _ (v : Seen) (h : Holding) (a level : ℕ) (old : Below) (shown : IsShown v a h) (view : IsView v) (some : 1 ≤ level) (low : level < height_in h) (rows : HasRows h level old)
-    (there : (l : Link) → Contains old.row.items l → HasBlock v l.block) where
+-- the row below links that lead to each block of a row
+module _ (v : Seen) (h : Holding) (a level : ℕ) (old : Below) (kept : List Link) (shown : IsShown v a h) (view : IsView v) (some : 1 ≤ level) (low : level < height_in h) (rows : HasRows h level old)
+    (only : (l : Link) → Contains kept l → Contains old.row.items l) (each : (l : Link) → Contains old.row.items l → (m : Link) × Contains kept m × (m.block ≡ l.block))
+    (there : (l : Link) → Contains kept l → HasBlock v l.block) where
   abbrev IsNext : Link → Type 0
-  IsNext l = IsUnderRow v old.row.items l
+  IsNext l = IsUnderRow v kept l
 
   long : (b : ℕ) (bytes : List ℕ) → v.block_at b ≡ Some bytes → length bytes ≡ h.size
   long b bytes has = view.whole b bytes has ∙ sym shown.size
@@ -309,42 +333,38 @@ module _ (v : Seen) (h : Holding) (a level : ℕ) (old : Below) (shown : IsShown
   up : suc (level - 1) ≡ level
   up = omega (arith, some)
 
-  over_above : (over : Link) → Contains old.row.items over → 1 ≤ over.way.level
-  over_above over has = omega (arith, (rows.led over has).1, some)
+  kept_led : (over : Link) → Contains kept over → IsLed h over × (over.way.level ≡ level)
+  kept_led over has = let led = rows.led over (only over has) in (led.0, led.1)
+
+  over_above : (over : Link) → Contains kept over → 1 ≤ over.way.level
+  over_above over has = omega (arith, (kept_led over has).1, some)
 
   next_led : (l : Link) → IsNext l → IsLed h l
   next_led l (over, has, (bytes, at, (k, near, p))) =
       led_of h bytes header_length (way_below over) k l p (long over.block bytes at)
-      (leads_under v h a over bytes k shown (rows.led over has).0 (over_above over has) at (long over.block bytes at) near p.some)
+      (leads_under v h a over bytes k shown (kept_led over has).0 (over_above over has) at (long over.block bytes at) near p.some)
 
   next_level : (l : Link) → IsNext l → l.way.level ≡ level - 1
-  next_level l (over, has, (bytes, at, (k, near, p))) = ap (λ (m : Link). m.way.level) p.is ∙ ap (λ n. n - 1) (rows.led over has).1
+  next_level l (over, has, (bytes, at, (k, near, p))) = ap (λ (m : Link). m.way.level) p.is ∙ ap (λ n. n - 1) (kept_led over has).1
 
-  next_all : (from k first b : ℕ) → Leads h from k (level - 1) first b → IsNext (record { way = record { from = from; level = level - 1; index = first; left = 0 }; block = b })
+  next_of : (over : Link) (bytes : List ℕ) (from k b : ℕ) → Contains kept over → over.block ≡ from → v.block_at over.block ≡ Some bytes → k < fan h.size header_length
+      → pointer h header_length from k ≢ 0 → b ≡ pointer h header_length from k → (l : Link) × IsNext l × (l.block ≡ b)
+  next_of over bytes from k b has at seen near led is =
+      let same : pointer h header_length from k ≡ u64_at (header_length + 8 * k) bytes =
+      ap (λ x. pointer h header_length x k) (sym at) ∙ ap (u64_at (header_length + 8 * k)) (led_bytes v h a over bytes shown (kept_led over has).0 seen) in (
+        record { way = record (way_below over) { index = over.way.index + k * span (length bytes) (over.way.level - 1) }; block = u64_at (header_length + 8 * k) bytes },
+        (over, has, (bytes, seen, (k, subst (λ n. k < fan n header_length) (sym (long over.block bytes seen)) near, record { some = λ e. led (same ∙ e); is = refl }))),
+        sym (is ∙ same),
+      )
+
+  next_all : (from k first b : ℕ) → Leads h from k (level - 1) first b → (l : Link) × IsNext l × (l.block ≡ b)
   next_all from k first b leads =
       let is = from_above h from k (level - 1) first b leads (omega (arith, low, some)) in
-      let over : Link = record { way = record { from = is.over; level = level; index = is.begin; left = 0 }; block = from } in
       let above : Leads h is.over is.place level is.begin from = subst (λ l. Leads h is.over is.place l is.begin from) up is.leads in
-      let has : Contains old.row.items over = rows.row is.over is.place is.begin from some above in
-      let seen : HasBlock v from = there over has in
-      let size : length seen.0 ≡ h.size = long from seen.0 seen.1 in
-      let same : pointer h header_length from k ≡ u64_at (header_length + 8 * k) seen.0 = ap (u64_at (header_length + 8 * k)) (led_bytes v h a over seen.0 shown (is.place, above) seen.1) in (
-        over,
-        has,
-        (
-          seen.0,
-          seen.1,
-          (
-            k,
-            subst (λ n. k < fan n header_length) (sym size) is.low,
-            record {
-              some = λ e. is.some (same ∙ e);
-              is = link_is from from (level - 1) first (is.begin + k * span (length seen.0) (level - 1)) b (u64_at (header_length + 8 * k) seen.0) refl
-                  (is.first_is ∙ ap (λ n. is.begin + k * span n (level - 1)) (sym size)) (is.block_is ∙ same);
-            },
-          ),
-        ),
-      )
+      let found = rows.row is.over is.place is.begin from some above in
+      let over = each found.0 found.1 in
+      let seen : HasBlock v over.0.block = there over.0 over.1 in
+      next_of over.0 seen.0 from k b over.1 (over.2 ∙ found.2) seen.1 is.low is.some is.block_is
 
   pub rows_next : (x y : Below) → x.blocks.items ≡ old.blocks.items → x.row.items ≡ [] → AreAdded x y IsNext → HasRows h (level - 1) y
   rows_next x y same_blocks no_row added = record {
@@ -355,14 +375,17 @@ module _ (v : Seen) (h : Holding) (a level : ℕ) (old : Below) (shown : IsShown
     all = λ from k at first b above leads. elim (cases_lt at level) [
       | inl below ↦
           let same : at ≡ level - 1 = omega (arith, above, below) in
-          added.blocks_come (record { way = record { from = from; level = level - 1; index = first; left = 0 }; block = b }) (next_all from k first b (subst (λ l. Leads h from k l first b) same leads))
+          let next = next_all from k first b (subst (λ l. Leads h from k l first b) same leads) in
+          subst (Contains y.blocks.items) next.2 (added.blocks_come next.0 next.1)
       | inr higher ↦ added.blocks_stay b (subst (λ xs. Contains xs b) (sym same_blocks) (rows.all from k at first b higher leads))
     ];
     led = λ l has. elim (added.row_only l has) [
       | inl before ↦ absurd (none_in x.row.items l no_row before)
       | inr made ↦ (next_led l made.0, next_level l made.0, omega (arith, made.1, next_level l made.0))
     ];
-    row = λ from k first b above leads. added.row_comes (record { way = record { from = from; level = level - 1; index = first; left = 0 }; block = b }) (next_all from k first b leads) above;
+    row = λ from k first b above leads.
+      let next = next_all from k first b leads in
+      (next.0, added.row_comes next.0 next.1 (omega (arith, above, next_level next.0 next.1)), next.2);
   }
 
 pub rows_done : (h : Holding) (y : Below) → HasRows h 0 y → (b : ℕ) → Contains y.blocks.items b ↔ IsBelow h b

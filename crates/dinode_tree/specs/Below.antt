@@ -48,10 +48,10 @@ pub record AreAdded (old new : Below) (P : Link → Type 0) : Type 0 where
   pub row_comes : (l : Link) → P l → 1 ≤ l.way.level → Contains new.row.items l
   pub row_only : (l : Link) → Contains new.row.items l → Contains old.row.items l ⊎ (P l × (1 ≤ l.way.level))
 
--- All blocks are found that stand so many levels above content or further up, and no others than the inode has; and the row has the links to
--- those at this level, where that isn't content.
+-- All blocks are found that stand so many levels above content or further up, and no others than the inode has; and the row has a link to
+-- each of those at this level, where that isn't content.
 pub record HasRows (h : Holding) (level : ℕ) (below : Below) : Type 0 where
   pub only : (b : ℕ) → Contains below.blocks.items b → IsBelow h b
   pub all : (from k at first b : ℕ) → level ≤ at → Leads h from k at first b → Contains below.blocks.items b
   pub led : (l : Link) → Contains below.row.items l → IsLed h l × (l.way.level ≡ level) × (1 ≤ level)
-  pub row : (from k first b : ℕ) → 1 ≤ level → Leads h from k level first b → Contains below.row.items (record { way = record { from = from; level = level; index = first; left = 0 }; block = b })
+  pub row : (from k first b : ℕ) → 1 ≤ level → Leads h from k level first b → (l : Link) × Contains below.row.items l × (l.block ≡ b)

@@ -194,6 +194,16 @@ fn add_row<V: View>(
     Ok(Step::Is(()))
 }
 
+// The row with one link to each of its blocks.
+fn distinct(mut row: Vec<Link>) -> Result<Vec<Link>, NoMemory>
+    ensures only { IfOk result (λ kept. (l : Link) → Contains kept.items l → Contains row.items l) }
+    ensures each { IfOk result (λ kept. (l : Link) → Contains row.items l → (m : Link) × Contains kept.items m × (m.block ≡ l.block)) }
+{
+    row.sort_by_key(|link| link.block)?;
+    row.dedup_by_key(|link| link.block);
+    Ok(row)
+}
+
 // The blocks below the dinode, a row of them after another.
 fn below_in<V: View>(
     alloc: Global,
@@ -223,7 +233,7 @@ fn below_in<V: View>(
     };
     add_pointers(&mut below, inode, inode.bytes, DINODE_LENGTH, &way)?;
     while level > 0 {
-        let row = mem::replace(&mut below.row, Vec::new(alloc));
+        let row = distinct(mem::replace(&mut below.row, Vec::new(alloc)))?;
         match add_row(&mut below, view, inode, &row)? {
             Step::Is(()) => level -= 1,
             Step::NeedBlock(missing) => return Ok(Step::NeedBlock(missing)),
@@ -245,8 +255,8 @@ fn rising(mut blocks: Vec<u64>) -> Result<Vec<u64>, NoMemory>
 /// The blocks of an inode beside its dinode's to which its pointers lead, indirect blocks and blocks of content, in rising
 /// order and each once; of an inode whose content is in its dinode there are none. It looks at the dinode and the indirect
 /// blocks alone, and that each pointer leads to content before the inode's end. It costs a look into the view for each
-/// indirect block, a step for each pointer of these, memory for the list, and a sort of it. In an inode that is broken, where
-/// pointers lead to one indirect block more than once, it is gone over each time.
+/// indirect block, a step for each pointer of these, memory for the list, and a sort of it. In an inode that is broken an
+/// indirect block may stand at several levels, and is gone over once for each.
 pub fn blocks_below<V: View>(
     alloc: Global,
     view: &V,
