@@ -300,10 +300,10 @@ module _ (h : Holding) (inode : Inode) (top : ℕ) (o : IsOf h inode) (high : he
         },
       )
 
-  pub rows_first : (x y : Below) → x.blocks.items ≡ [] → x.row.items ≡ [] → AreAdded x y IsTop → HasRows h top y
+  pub rows_first : (x y : Below) → x.found.items ≡ [] → x.row.items ≡ [] → AreAdded x y IsTop → HasRows h top y
   rows_first x y no_blocks no_row added = record {
     only = λ b has. elim (added.blocks_only b has) [
-      | inl before ↦ absurd (none_in x.blocks.items b no_blocks before)
+      | inl before ↦ absurd (none_in x.found.items b no_blocks before)
       | inr made ↦ subst (IsBelow h) (sym made.2) (below_of h made.0 (top_led made.0 made.1))
     ];
     all = λ from k at first b above leads.
@@ -347,11 +347,11 @@ module _ (v : Seen) (h : Holding) (a level : ℕ) (old : Below) (kept : List Lin
   next_level : (l : Link) → IsNext l → l.way.level ≡ level - 1
   next_level l (over, has, (bytes, at, (k, near, p))) = ap (λ (m : Link). m.way.level) p.is ∙ ap (λ n. n - 1) (kept_led over has).1
 
-  next_of : (over : Link) (bytes : List ℕ) (from k b : ℕ) → Contains kept over → over.block ≡ from → v.block_at over.block ≡ Some bytes → k < fan h.size header_length
+  next_of : (link over : Link) (bytes : List ℕ) (from k b : ℕ) → Contains kept over → over.block ≡ link.block → link.block ≡ from → v.block_at over.block ≡ Some bytes → k < fan h.size header_length
       → pointer h header_length from k ≢ 0 → b ≡ pointer h header_length from k → (l : Link) × IsNext l × (l.block ≡ b)
-  next_of over bytes from k b has at seen near led is =
+  next_of link over bytes from k b has meets at seen near led is =
       let same : pointer h header_length from k ≡ u64_at (header_length + 8 * k) bytes =
-      ap (λ x. pointer h header_length x k) (sym at) ∙ ap (u64_at (header_length + 8 * k)) (led_bytes v h a over bytes shown (kept_led over has).0 seen) in (
+      ap (λ x. pointer h header_length x k) (sym (meets ∙ at)) ∙ ap (u64_at (header_length + 8 * k)) (led_bytes v h a over bytes shown (kept_led over has).0 seen) in (
         record { way = record (way_below over) { index = over.way.index + k * span (length bytes) (over.way.level - 1) }; block = u64_at (header_length + 8 * k) bytes },
         (over, has, (bytes, seen, (k, subst (λ n. k < fan n header_length) (sym (long over.block bytes seen)) near, record { some = λ e. led (same ∙ e); is = refl }))),
         sym (is ∙ same),
@@ -364,9 +364,9 @@ module _ (v : Seen) (h : Holding) (a level : ℕ) (old : Below) (kept : List Lin
       let found = rows.row is.over is.place is.begin from some above in
       let over = each found.0 found.1 in
       let seen : HasBlock v over.0.block = there over.0 over.1 in
-      next_of over.0 seen.0 from k b over.1 (over.2 ∙ found.2) seen.1 is.low is.some is.block_is
+      next_of found.0 over.0 seen.0 from k b over.1 over.2 found.2 seen.1 is.low is.some is.block_is
 
-  pub rows_next : (x y : Below) → x.blocks.items ≡ old.blocks.items → x.row.items ≡ [] → AreAdded x y IsNext → HasRows h (level - 1) y
+  pub rows_next : (x y : Below) → x.found.items ≡ old.found.items → x.row.items ≡ [] → AreAdded x y IsNext → HasRows h (level - 1) y
   rows_next x y same_blocks no_row added = record {
     only = λ b has. elim (added.blocks_only b has) [
       | inl before ↦ rows.only b (subst (λ xs. Contains xs b) same_blocks before)
@@ -376,7 +376,7 @@ module _ (v : Seen) (h : Holding) (a level : ℕ) (old : Below) (kept : List Lin
       | inl below ↦
           let same : at ≡ level - 1 = omega (arith, above, below) in
           let next = next_all from k first b (subst (λ l. Leads h from k l first b) same leads) in
-          subst (Contains y.blocks.items) next.2 (added.blocks_come next.0 next.1)
+          subst (Contains y.found.items) next.2 (added.blocks_come next.0 next.1)
       | inr higher ↦ added.blocks_stay b (subst (λ xs. Contains xs b) (sym same_blocks) (rows.all from k at first b higher leads))
     ];
     led = λ l has. elim (added.row_only l has) [
@@ -384,11 +384,11 @@ module _ (v : Seen) (h : Holding) (a level : ℕ) (old : Below) (kept : List Lin
       | inr made ↦ (next_led l made.0, next_level l made.0, omega (arith, made.1, next_level l made.0))
     ];
     row = λ from k first b above leads.
-      let next = next_all from k first b leads in
-      (next.0, added.row_comes next.0 next.1 (omega (arith, above, next_level next.0 next.1)), next.2);
+        let next = next_all from k first b leads in
+        (next.0, added.row_comes next.0 next.1 (omega (arith, above, next_level next.0 next.1)), next.2);
   }
 
-pub rows_done : (h : Holding) (y : Below) → HasRows h 0 y → (b : ℕ) → Contains y.blocks.items b ↔ IsBelow h b
+pub rows_done : (h : Holding) (y : Below) → HasRows h 0 y → (b : ℕ) → Contains y.found.items b ↔ IsBelow h b
 rows_done h y rows b = (rows.only b, λ (from, k, at, first, leads). rows.all from k at first b (omega arith) leads)
 
 pub none_below : (h : Holding) (blocks : List ℕ) → height_in h ≡ 0 → blocks ≡ [] → (b : ℕ) → Contains blocks b ↔ IsBelow h b

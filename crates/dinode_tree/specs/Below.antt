@@ -41,9 +41,9 @@ IsUnderRow v row link = (over : Link) × Contains row over × IsUnder v over lin
 
 -- these links and no others are added: each one's block to the blocks, and the link itself to the row, where it leads to an indirect block
 pub record AreAdded (old new : Below) (P : Link → Type 0) : Type 0 where
-  pub blocks_stay : (b : ℕ) → Contains old.blocks.items b → Contains new.blocks.items b
-  pub blocks_come : (l : Link) → P l → Contains new.blocks.items l.block
-  pub blocks_only : (b : ℕ) → Contains new.blocks.items b → Contains old.blocks.items b ⊎ ((l : Link) × P l × (b ≡ l.block))
+  pub blocks_stay : (b : ℕ) → Contains old.found.items b → Contains new.found.items b
+  pub blocks_come : (l : Link) → P l → Contains new.found.items l.block
+  pub blocks_only : (b : ℕ) → Contains new.found.items b → Contains old.found.items b ⊎ ((l : Link) × P l × (b ≡ l.block))
   pub row_stays : (l : Link) → Contains old.row.items l → Contains new.row.items l
   pub row_comes : (l : Link) → P l → 1 ≤ l.way.level → Contains new.row.items l
   pub row_only : (l : Link) → Contains new.row.items l → Contains old.row.items l ⊎ (P l × (1 ≤ l.way.level))
@@ -51,7 +51,7 @@ pub record AreAdded (old new : Below) (P : Link → Type 0) : Type 0 where
 -- All blocks are found that stand so many levels above content or further up, and no others than the inode has; and the row has a link to
 -- each of those at this level, where that isn't content.
 pub record HasRows (h : Holding) (level : ℕ) (below : Below) : Type 0 where
-  pub only : (b : ℕ) → Contains below.blocks.items b → IsBelow h b
-  pub all : (from k at first b : ℕ) → level ≤ at → Leads h from k at first b → Contains below.blocks.items b
+  pub only : (b : ℕ) → Contains below.found.items b → IsBelow h b
+  pub all : (from k at first b : ℕ) → level ≤ at → Leads h from k at first b → Contains below.found.items b
   pub led : (l : Link) → Contains below.row.items l → IsLed h l × (l.way.level ≡ level) × (1 ≤ level)
   pub row : (from k first b : ℕ) → 1 ≤ level → Leads h from k level first b → (l : Link) × Contains below.row.items l × (l.block ≡ b)

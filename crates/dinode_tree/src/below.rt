@@ -27,7 +27,7 @@ use std::mem;
 /// Blocks that were found below a dinode, and the links to those of the lowest row that have pointers of their own.
 #[derive(Drop)]
 pub(crate) struct Below {
-    pub blocks: Vec<u64>,
+    pub found: Vec<u64>,
     pub row: Vec<Link>,
 }
 
@@ -39,7 +39,7 @@ impl Below {
     pub fn add(&mut self, link: Link) -> Result<(), NoMemory>
         ensures { OnOk result (AreAdded self.old self.new (λ l. l ≡ link)) }
     {
-        self.blocks.push(link.block)?;
+        self.found.push(link.block)?;
         if link.way.level > 0 {
             self.row.push(link)?;
         }
@@ -218,11 +218,11 @@ fn below_in<V: View>(
 {
     let _size = view.block_size();
     let mut below = Below {
-        blocks: Vec::new(alloc),
+        found: Vec::new(alloc),
         row: Vec::new(alloc),
     };
     if inode.dinode.height == 0 {
-        return Ok(Step::Is(below.blocks));
+        return Ok(Step::Is(below.found));
     }
     let mut level = inode.dinode.height - 1;
     let way = Way {
@@ -239,7 +239,7 @@ fn below_in<V: View>(
             Step::NeedBlock(missing) => return Ok(Step::NeedBlock(missing)),
         }
     }
-    Ok(Step::Is(below.blocks))
+    Ok(Step::Is(below.found))
 }
 
 // The numbers by rising order, each once.
@@ -273,7 +273,7 @@ pub fn blocks_below<V: View>(
         Step::NeedBlock(missing) => return Ok(Step::NeedBlock(missing)),
     };
     match below_in(alloc, view, &inode)? {
-        Step::Is(blocks) => Ok(Step::Is(rising(blocks)?)),
+        Step::Is(found) => Ok(Step::Is(rising(found)?)),
         Step::NeedBlock(missing) => Ok(Step::NeedBlock(missing)),
     }
 }

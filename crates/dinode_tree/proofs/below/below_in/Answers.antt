@@ -74,10 +74,10 @@ loop-level-preserved g c =
     λ l has. subst (λ xs. Contains xs l) was (c.in_ok-row.ensures.only l (subst (λ xs. Contains xs l) same has)) in
     let each : (l : Link) → Contains c.loop-level.below.row.items l → (m : Link) × Contains c.deref.result.now m × (m.block ≡ l.block) =
     λ l has.
-      let found = c.in_ok-row.ensures.each l (subst (λ xs. Contains xs l) (sym was) has) in
-      (found.0, subst (λ xs. Contains xs found.0) (sym same) found.1, found.2) in
+    let found = c.in_ok-row.ensures.each l (subst (λ xs. Contains xs l) (sym was) has) in
+    (found.0, subst (λ xs. Contains xs found.0) (sym same) found.1, found.2) in
     let empty : c.replace.new.dest.items ≡ [] = cc (c.replace.ensures.after, c.new-in-loop-level.ensures.items) in
-    let before : Below = record { blocks = c.loop-level.below.blocks; row = c.replace.new.dest } in
+    let before : Below = record { found = c.loop-level.below.found; row = c.replace.new.dest } in
     let added : AreAdded before c.add_row.new.below (IsUnderRow v c.deref.result.now) = answer_at _ _ _ c.in-Is.is c.in_ok-add_row.ensures.added in
     let there : (l : Link) → Contains c.deref.result.now l → HasBlock v l.block = answer_at _ _ _ c.in-Is.is c.in_ok-add_row.ensures.there in
     record {

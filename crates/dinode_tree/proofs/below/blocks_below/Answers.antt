@@ -9,8 +9,8 @@ pub returns-in_ok-rising-in-Is-2-clause-found : goal.returns-in_ok-rising-in-Is-
 returns-in_ok-rising-in-Is-2-clause-found g c h shown b =
     let at = answer_at c.in_ok-inode.field-0 c.in-Is.inode (λ inode. inode.block ≡ c.args.dinode) c.in-Is.is c.in_ok-inode.ensures.block in
     let shown_there = subst (λ a. IsShown (g.V.View.seen c.args.view.now) a h) (sym at) shown in
-    let found : Contains c.in-Is-2.blocks.items b ↔ IsBelow h b =
-    answer_at c.in_ok-blocks.field-0 c.in-Is-2.blocks (λ blocks. (b : ℕ) → Contains blocks.items b ↔ IsBelow h b) c.in-Is-2.is (c.in_ok-blocks.ensures.found h shown_there) b in
+    let found : Contains c.in-Is-2.found.items b ↔ IsBelow h b =
+    answer_at c.in_ok-found.field-0 c.in-Is-2.found (λ blocks. (b : ℕ) → Contains blocks.items b ↔ IsBelow h b) c.in-Is-2.is (c.in_ok-found.ensures.found h shown_there) b in
     let same = c.in_ok-rising-in-Is-2.ensures.same b in
     (λ has. found.0 (same.0 has), λ below. same.1 (found.1 below))
 
@@ -18,4 +18,4 @@ pub returns-in-NeedBlock-2-clause-needed : goal.returns-in-NeedBlock-2-clause-ne
 returns-in-NeedBlock-2-clause-needed g c h shown =
     let at = answer_at c.in_ok-inode.field-0 c.in-Is.inode (λ inode. inode.block ≡ c.args.dinode) c.in-Is.is c.in_ok-inode.ensures.block in
     let shown_there = subst (λ a. IsShown (g.V.View.seen c.args.view.now) a h) (sym at) shown in
-    needed_at c.in_ok-blocks.field-0 c.in-NeedBlock-2.missing _ c.in-NeedBlock-2.is (c.in_ok-blocks.ensures.needed h shown_there)
+    needed_at c.in_ok-found.field-0 c.in-NeedBlock-2.missing _ c.in-NeedBlock-2.is (c.in_ok-found.ensures.needed h shown_there)

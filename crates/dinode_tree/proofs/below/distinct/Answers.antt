@@ -1,8 +1,7 @@
-use Rattle.std.proofs.Common.{◌==◌, ◌≡◌, rules}
+use Rattle.std.proofs.Common.{rules}
 use Rattle.std.proofs.lemmas.Fn.{dedup_same}
 use Rattle.std.proofs.lemmas.List.Kept.{Contains-from_dedup}
 use Rattle.std.proofs.lemmas.List.Sorted.{Contains-permutation, IsPermutation-sym}
-use Rattle.dinode_tree.specs.declared.ways.Link.{Link}
 use Rattle.dinode_tree.proofs.Rows.{same_block, one_of_each}
 use Rattle.dinode_tree.proofs.below.distinct.Goals as goal
 
