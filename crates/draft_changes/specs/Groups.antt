@@ -1,4 +1,4 @@
--- What a call's draft makes of a resource group, and of inodes that keep their blocks.
+-- What a call's draft makes of a resource group.
 use Rattle.std.specs.Prelude.{ℕ, ◌≡◌, Bool, true, false, List, Some}
 use Rattle.std.specs.Ordering.{nat_cmp}
 use Rattle.std.specs.FinMap.{FinMap, get}

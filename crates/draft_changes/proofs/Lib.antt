@@ -1,0 +1,4 @@
+pub mod Views
+pub mod Rows
+pub mod Framed
+pub mod Added
