@@ -23,24 +23,24 @@ use Rattle.glock_names.specs.declared.LockName.{LockName}
 use Rattle.image_model.specs.Flat.{Path}
 use Rattle.image_model.specs.Groups.{IsListed, IsHeaderOf, IsDataOf, states_of, state_of}
 use Rattle.image_model.specs.Image.{Image}
-use Rattle.image_model.specs.Owners.{Owners, InGroup, Free, Named, is_dinode, IsWithin, part_in, cell_of, cell_in, holding}
+use Rattle.image_model.specs.Owners.{Owners, InGroup, Free, Named, is_dinode, part_in, cell_of, cell_in, holding}
 use Rattle.image_model.specs.Stands.{Layout, IsRecordOf, kind_of, heads_of}
 use Rattle.image_model.proofs.Members.{IsIn}
-use Rattle.image_changes.specs.Changes.{IsOf as IsOfInodes, IsChange, inode_lock, is_free}
+use Rattle.image_changes.specs.Changes.{inode_of, IsOf as IsOfInodes, IsChange, inode_lock, is_free}
 use Rattle.image_changes.specs.Directories.{IsBare}
 use Rattle.image_changes.specs.Does.{IsOf, IsWritten}
 use Rattle.image_changes.specs.Drafted.{is_put, is_freed, is_drafted, with_draft, MakesIn, name_added}
 use Rattle.image_changes.specs.Flats.{in_directory}
 use Rattle.image_changes.specs.Instances.{IsAt, among, IsNew, empty_file, empty_directory, IsNameAdded}
 use Rattle.image_changes.proofs.Drafting.{own_locks}
-use Rattle.image_changes.proofs.Frame.{dinode_its}
+use Rattle.image_changes.proofs.Frame.{dinode_its, not_its}
 use Rattle.image_changes.proofs.Laid.{follow_dinode}
 use Rattle.image_changes.proofs.Nodes.{among_in, in_among}
 use Rattle.image_changes.proofs.States.{table_says}
 use Rattle.draft_changes.specs.Adding.{alone, heads_with, ReadsNew, AddsName, AddingMakes}
 use Rattle.draft_changes.specs.Adding as new
 use Rattle.draft_changes.specs.Groups.{PutsGroup}
-use Rattle.draft_changes.proofs.Rows.{of_its, foreign_part, not_group_free, in_header_or_not, said_free}
+use Rattle.draft_changes.proofs.Rows.{of_its, itself_or_within, not_group_free, in_header_or_not, said_free}
 use Rattle.draft_changes.proofs.Framed.{none_drafted, put_drafted, freed_drafted, put_not_gone, bytes_put, MakesOf, leaves, of_inodes, of_header, IsFramed, framed_change, header_written, header_row, group_written, dinode_written}
 
 module _ (v : Seen) (call : Call) (fates : FinMap nat_cmp Fate) (im : Image) (o : Owners) (l : Layout) (t : Tree) (path : Path) (p : ℕ) (name : List ℕ) (a : ℕ) (u : Tree)
@@ -126,7 +126,7 @@ module _ (v : Seen) (call : Call) (fates : FinMap nat_cmp Fate) (im : Image) (o 
       | inl e ↦ subst (MakesOf o o' fates ys gs) (sym e) (of_inodes (put_drafted fates p _ _ _ is.parent_put) (of_its (among ys) p p (o p) (dinode_its p (o p) dinode) p_in) (of_its (among ys) p p (o' p) (dinode_its p (o' p) dinode') p_in))
       | inr d' ↦ elim (in_header_or_not is.group b) [
         | inl h ↦ of_header is.group (inl refl) h (row_other b d)
-        | inr away ↦ leaves (is.others b d' d away) (row_other b d)
+        | inr away ↦ leaves (none_drafted fates b (is.others b d' d away)) (row_other b d)
       ]
     ]
   ]
@@ -192,11 +192,15 @@ module _ (v : Seen) (call : Call) (fates : FinMap nat_cmp Fate) (im : Image) (o 
           ∙ ap (λ bytes. Some (record { part = Itself; bytes = bytes })) (bytes_put im fates a _ _ _ is.put)
           ∙ sym (cond-true _ (Some (record { part = Itself; bytes = is.bytes })) None (eq-eqb a a refl))
 
-      none_within : (b : ℕ) → IsWithin a (o b) → ⊥
-      none_within b h = true≢false (sym (here.stands.laid.within b a h) ∙ was_none)
+      -- no block is one of an inode that isn't there
+      none_its : (b : ℕ) → b ≢ a → inode_of b (o b) ≡ Some a → ⊥
+      none_its b d e = elim (itself_or_within b a (o b) e) [
+        | inl same ↦ d same
+        | inr h ↦ true≢false (sym (here.stands.laid.within b a h) ∙ was_none)
+      ]
 
       other : (b : ℕ) → b ≢ a → Same b
-      other b d = ap (λ q. cell_of q (im'.at b)) (ap (part_in a b) (row_other b d) ∙ foreign_part a b (o b) d (none_within b))
+      other b d = ap (λ q. cell_of q (im'.at b)) (ap (part_in a b) (row_other b d) ∙ not_its a b (o b) (none_its b d))
           ∙ sym (cond-false _ (Some (record { part = Itself; bytes = is.bytes })) None (ne_eqb b a d))
 
       cell : (b : ℕ) → cell_in im' o' a b ≡ (if b == a then Some (record { part = Itself; bytes = is.bytes }) else None)

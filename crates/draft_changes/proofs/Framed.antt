@@ -25,7 +25,7 @@ use Rattle.image_changes.specs.Instances.{among}
 use Rattle.image_changes.proofs.Frame.{dinode_its, inode_cover}
 use Rattle.image_changes.proofs.Laid.{one_group}
 use Rattle.draft_changes.specs.Groups.{PutsGroup}
-use Rattle.draft_changes.proofs.Rows.{dinode_used, dinode_no_content, same_group, free_lies}
+use Rattle.draft_changes.proofs.Rows.{its_used, dinode_no_content, same_group, free_lies}
 
 -- ---- what becomes of one block
 
@@ -48,6 +48,14 @@ freed_drafted fates b e = rw e (or_true (is_put fates b))
 pub put_not_gone : (fates : FinMap nat_cmp Fate) (b : ℕ) (lock : LockName) (plain : Bool) (bytes : List ℕ) → get fates b ≡ Some (Put lock plain bytes) → is_freed fates b ≡ false
 put_not_gone fates b lock plain bytes e = ap is_gone e
 
+pub gone_there : (fates : FinMap nat_cmp Fate) (b : ℕ) → is_freed fates b ≡ true → get fates b ≡ Some Freed
+gone_there fates b e = by (get fates b) e
+  where
+    by : (f : Option Fate) → is_gone f ≡ true → f ≡ Some Freed
+    by (Some Freed) e = refl
+    by (Some (Put lock plain bytes)) e = absurd (true≢false (sym e))
+    by None e = absurd (true≢false (sym e))
+
 -- the bytes of a block that isn't put
 pub bytes_left : (im : Image) (fates : FinMap nat_cmp Fate) (b : ℕ) → is_drafted fates b ≡ false → (with_draft im fates).at b ≡ im.at b
 bytes_left im fates b e = by (get fates b) e
@@ -63,7 +71,7 @@ bytes_put im fates b lock plain bytes e = ap (λ (f : Option Fate). unwrap_or (b
 -- ---- a draft of a few inodes and groups
 
 pub data MakesOf (o o' : Owners) (fates : FinMap nat_cmp Fate) (ys : List ℕ) (gs : List Rindex) (b : ℕ) : Type 0 where
-  leaves : get fates b ≡ None → o' b ≡ o b → MakesOf o o' fates ys gs b
+  leaves : is_drafted fates b ≡ false → o' b ≡ o b → MakesOf o o' fates ys gs b
   of_inodes : is_drafted fates b ≡ true → IsOf (among ys) b (o b) → IsOf (among ys) b (o' b) → MakesOf o o' fates ys gs b
   of_header : (g : Rindex) → IsIn g gs → IsHeaderOf g b → o' b ≡ o b → MakesOf o o' fates ys gs b
 
@@ -115,7 +123,7 @@ module _ (im : Image) (o o' : Owners) (l : Layout) (fates : FinMap nat_cmp Fate)
       by (of_header k at' h' f) = f ∙ was
 
   becomes : (b : ℕ) → MakesOf o o' fates ys gs b → Becomes (among ys) (λ x. list_any (λ (g : Rindex). g.address == x) gs) (is_drafted fates) b (o b) (o' b) (im.at b) (after.at b)
-  becomes b (leaves e f) = kept f (bytes_left im fates b (none_drafted fates b e))
+  becomes b (leaves e f) = kept f (bytes_left im fates b e)
   becomes b (of_inodes w h h') = changed w h h'
   becomes b (of_header g at h f) = elim (cases_Bool (is_drafted fates b)) [
     | inl here ↦ let r = header_row g at b h in of_group g.address (there_any gs g at) here r.0 r.1
@@ -207,7 +215,7 @@ dinode_written im o o' l fates b bytes put so own was w lock same e =
     there : IsWritten l (with_draft im fates) o o' (record { block = b; plain = w.plain; bytes = w.bytes }) lock
     there = record {
       told = covers (o' b) so;
-      used = dinode_used (o' b) so;
+      used = (its_used b b (o' b) (dinode_its b (o' b) so)).1;
       plain = put_so.1 ∙ sym (dinode_no_content (with_draft im fates) o' (o' b) so);
       stayed = stayed was;
     }

@@ -1,21 +1,23 @@
 -- Owners of blocks: which are of an inode, which are free, and where they lie.
-use Rattle.std.proofs.Common.{◌≡◌, ◌≢◌, ℕ, ◌+◌, ◌-◌, ◌<◌, ◌⊎◌, inl, inr, Bool, true, false, true≢false, get_or, List, None, Some, refl, sym, ap, ◌∙◌, subst, arith}
-use Rattle.std.specs.Prelude.{slice_get}
-use Rattle.std.proofs.lemmas.Bool.{cases_lt, cond-false, ne_eqb}
+use Rattle.std.proofs.Common.{◌≡◌, ℕ, ◌+◌, ◌-◌, ◌<◌, ◌⊎◌, inl, inr, Bool, true, false, true≢false, get_or, List, [], ◌∷◌, Option, None, Some, refl, sym, ap, ◌∙◌, subst, arith}
+use Rattle.std.specs.Prelude.{slice_get, IsSome}
+use Rattle.std.proofs.lemmas.Bool.{cases_eq, cases_lt, cond-true, eq-eqb}
 use Rattle.std.proofs.lemmas.List.FromFn.{get_or-map-range_with_len}
 use Rattle.gfs2_layout.specs.Bitmap.{state_at}
 use Rattle.gfs2_layout.specs.Groups.{bitmap_of}
 use Rattle.gfs2_layout.specs.Device.{superblock_place}
 use Rattle.gfs2_layout.specs.declared.rindex.Rindex.{Rindex}
-use Rattle.gfs2_layout.specs.Holding.{Itself}
+use Rattle.gfs2_layout.specs.Holding.{Part, Itself, Pointed, InChain, cell_part, part_at}
 use Rattle.image_model.specs.Groups.{IsListed, IsHeaderOf, IsDataOf, GroupsFit, group_blocks, state_of}
 use Rattle.image_model.specs.Image.{Image}
-use Rattle.image_model.specs.Owners.{Owner, Owners, Super, InGroup, Free, Nobody, Root, Master, Named, Below, Chained, is_dinode, IsUsed, IsWithin, part_in}
+use Rattle.image_model.specs.Owners.{Owner, Owners, Super, InGroup, Free, Nobody, Root, Master, Named, Below, Chained, is_dinode, IsUsed, IsWithin, part_in, cell_of, cell_in, holding}
 use Rattle.image_model.specs.Stands.{Layout, IsLaid}
-use Rattle.image_model.proofs.Held.{some_same}
+use Rattle.image_model.proofs.Held.{none_some, some_same}
+use Rattle.image_model.proofs.Members.{IsIn}
 use Rattle.image_model.proofs.Table.{Lies, lies, in_header, in_data, in_none}
 use Rattle.image_changes.specs.Changes.{inode_of, IsOf, is_free}
 use Rattle.image_changes.specs.Does.{is_content_of}
+use Rattle.image_changes.proofs.Frame.{not_its}
 
 -- ---- one owner
 
@@ -30,18 +32,19 @@ of_its touched b a (Named parent name) e t = (a, e, t)
 of_its touched b a (Below d above k level first) e t = (a, e, t)
 of_its touched b a (Chained d hash place) e t = (a, e, t)
 
--- a dinode isn't free, and is no content
-pub dinode_used : (x : Owner) → is_dinode x ≡ true → is_free x ≡ false
-dinode_used Root e = refl
-dinode_used Master e = refl
-dinode_used (Named parent name) e = refl
-dinode_used Super e = refl
-dinode_used (InGroup g) e = refl
-dinode_used Nobody e = refl
-dinode_used (Below d above k level first) e = refl
-dinode_used (Chained d hash place) e = refl
-dinode_used (Free g) e = absurd (true≢false (sym e))
+-- a block of an inode is in use, and so isn't free
+pub its_used : (b a : ℕ) (x : Owner) → inode_of b x ≡ Some a → IsUsed x × (is_free x ≡ false)
+its_used b a Root e = (tt, refl)
+its_used b a Master e = (tt, refl)
+its_used b a (Named parent name) e = (tt, refl)
+its_used b a (Below d above k level first) e = (tt, refl)
+its_used b a (Chained d hash place) e = (tt, refl)
+its_used b a Super e = absurd (none_some e)
+its_used b a (InGroup g) e = absurd (none_some e)
+its_used b a (Free g) e = absurd (none_some e)
+its_used b a Nobody e = absurd (none_some e)
 
+-- a dinode is no content
 pub dinode_no_content : (im : Image) (o : Owners) (x : Owner) → is_dinode x ≡ true → is_content_of im o x ≡ false
 dinode_no_content im o Root e = refl
 dinode_no_content im o Master e = refl
@@ -53,29 +56,61 @@ dinode_no_content im o (Below d above k level first) e = absurd (true≢false (s
 dinode_no_content im o (Chained d hash place) e = absurd (true≢false (sym e))
 dinode_no_content im o (Free g) e = absurd (true≢false (sym e))
 
--- a block that is neither this inode's dinode nor one of its others is none of it
-pub foreign_part : (a b : ℕ) (x : Owner) → b ≢ a → (IsWithin a x → ⊥) → part_in a b x ≡ None
-foreign_part a b Root d away = cond-false _ (Some Itself) None (ne_eqb b a d)
-foreign_part a b Master d away = cond-false _ (Some Itself) None (ne_eqb b a d)
-foreign_part a b (Named parent name) d away = cond-false _ (Some Itself) None (ne_eqb b a d)
-foreign_part a b (Below i above k level first) d away = cond-false _ _ None (ne_eqb i a away)
-foreign_part a b (Chained i hash place) d away = cond-false _ _ None (ne_eqb i a away)
-foreign_part a b Super d away = refl
-foreign_part a b (InGroup g) d away = refl
-foreign_part a b Nobody d away = refl
-foreign_part a b (Free g) d away = refl
+-- a block of an inode is its dinode, or within it
+pub itself_or_within : (b a : ℕ) (x : Owner) → inode_of b x ≡ Some a → (b ≡ a) ⊎ IsWithin a x
+itself_or_within b a Root e = inl (some_same e)
+itself_or_within b a Master e = inl (some_same e)
+itself_or_within b a (Named parent name) e = inl (some_same e)
+itself_or_within b a (Below d above k level first) e = inr (some_same e)
+itself_or_within b a (Chained d hash place) e = inr (some_same e)
+itself_or_within b a Super e = absurd (none_some e)
+itself_or_within b a (InGroup g) e = absurd (none_some e)
+itself_or_within b a (Free g) e = absurd (none_some e)
+itself_or_within b a Nobody e = absurd (none_some e)
 
--- a dinode's block is no part of another inode
-pub other_part : (a b : ℕ) (x : Owner) → b ≢ a → is_dinode x ≡ true → part_in a b x ≡ None
-other_part a b Root d e = cond-false _ (Some Itself) None (ne_eqb b a d)
-other_part a b Master d e = cond-false _ (Some Itself) None (ne_eqb b a d)
-other_part a b (Named parent name) d e = cond-false _ (Some Itself) None (ne_eqb b a d)
-other_part a b Super d e = refl
-other_part a b (InGroup g) d e = refl
-other_part a b Nobody d e = refl
-other_part a b (Free g) d e = refl
-other_part a b (Below i above k level first) d e = absurd (true≢false (sym e))
-other_part a b (Chained i hash place) d e = absurd (true≢false (sym e))
+-- ---- the part of a block in an inode
+
+pub its_part : (a b : ℕ) (x : Owner) → inode_of b x ≡ Some a → (part : Part) × (part_in a b x ≡ Some part)
+its_part a b Root e = (Itself, cond-true _ (Some Itself) None (eq-eqb b a (some_same e)))
+its_part a b Master e = (Itself, cond-true _ (Some Itself) None (eq-eqb b a (some_same e)))
+its_part a b (Named parent name) e = (Itself, cond-true _ (Some Itself) None (eq-eqb b a (some_same e)))
+its_part a b (Below d above k level first) e = (Pointed above k level first, cond-true _ (Some (Pointed above k level first)) None (eq-eqb d a (some_same e)))
+its_part a b (Chained d hash place) e = (InChain hash place, cond-true _ (Some (InChain hash place)) None (eq-eqb d a (some_same e)))
+its_part a b Super e = absurd (none_some e)
+its_part a b (InGroup g) e = absurd (none_some e)
+its_part a b (Free g) e = absurd (none_some e)
+its_part a b Nobody e = absurd (none_some e)
+
+pub part_its : (a b : ℕ) (x : Owner) (part : Part) → part_in a b x ≡ Some part → inode_of b x ≡ Some a
+part_its a b x part e = by (inode_of b x) refl
+  where
+    no : (inode_of b x ≡ Some a → ⊥) → inode_of b x ≡ Some a
+    no away = absurd (none_some (sym (not_its a b x away) ∙ e))
+
+    by : (r : Option ℕ) → inode_of b x ≡ r → inode_of b x ≡ Some a
+    by None f = no (λ g. none_some (sym f ∙ g))
+    by (Some c) f = elim (cases_eq c a) [ inl same ↦ f ∙ ap Some same | inr d ↦ no (λ g. d (some_same (sym f ∙ g))) ]
+
+-- an inode has those blocks whose owner tells it
+pub cell_its : (im : Image) (o : Owners) (a b : ℕ) → IsSome (cell_in im o a b) → inode_of b (o b) ≡ Some a
+unfolding cell_in
+cell_its im o a b h = by (part_in a b (o b)) refl h
+  where
+    by : (p : Option Part) → part_in a b (o b) ≡ p → IsSome (cell_of p (im.at b)) → inode_of b (o b) ≡ Some a
+    by None e h = absurd (true≢false (sym h))
+    by (Some part) e h = part_its a b (o b) part e
+
+pub its_cell : (im : Image) (o : Owners) (a b : ℕ) → inode_of b (o b) ≡ Some a → IsSome (cell_in im o a b)
+unfolding cell_in
+its_cell im o a b e = subst (λ p. IsSome (cell_of p (im.at b))) (sym (its_part a b (o b) e).1) refl
+
+pub part_there : (im : Image) (o : Owners) (a b : ℕ) → part_at (holding im o a) b ≡ part_in a b (o b)
+unfolding cell_in
+part_there im o a b = by (part_in a b (o b))
+  where
+    by : (p : Option Part) → cell_part (cell_of p (im.at b)) ≡ p
+    by None = refl
+    by (Some part) = refl
 
 pub not_group_free : (g x : ℕ) → InGroup g ≡ Free x → ⊥
 not_group_free g x e = cc
@@ -89,6 +124,17 @@ in_header_or_not g b = elim (cases_lt b g.address) [
   | inr over ↦ elim (cases_lt b (g.address + g.length)) [
     | inl less ↦ inl (record { low = over; high = less })
     | inr more ↦ inr (λ h. absurd (omega (arith, more, h.high)))
+  ]
+]
+
+-- and so of the groups of a list
+pub header_among : (gs : List Rindex) (b : ℕ) → ((g : Rindex) × IsIn g gs × IsHeaderOf g b) ⊎ ((g : Rindex) → IsIn g gs → IsHeaderOf g b → ⊥)
+header_among [] b = inr (λ g at h. elim at [ ])
+header_among (k ∷ gs) b = elim (in_header_or_not k b) [
+  | inl h ↦ inl (k, inl refl, h)
+  | inr away ↦ elim (header_among gs b) [
+    | inl there ↦ inl (there.0, inr there.1, there.2)
+    | inr none ↦ inr (λ g at h. elim at [ inl e ↦ away (subst (λ r. IsHeaderOf r b) e h) | inr later ↦ none g later h ])
   ]
 ]
 

@@ -3,7 +3,11 @@
 #![tactic(auto)]
 
 mod adding;
+mod removing;
+mod rewriting;
 mod shown;
 
 pub use adding::drafts_add_names;
+pub use removing::drafts_remove_names;
+pub use rewriting::drafts_change_files;
 pub use shown::drafts_show_images;
