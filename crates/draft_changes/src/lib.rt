@@ -10,4 +10,4 @@ mod shown;
 pub use adding::drafts_add_names;
 pub use removing::drafts_remove_names;
 pub use rewriting::drafts_change_files;
-pub use shown::drafts_show_images;
+pub use shown::{drafts_show_images, inodes_have_these_blocks, views_have_listed_groups};
