@@ -9,7 +9,7 @@ use Rattle.std.proofs.lemmas.List.{length-replicate, get_or_default, take-append
 use Rattle.std.proofs.lemmas.List.Elements.{Contains-append_left, Contains-append_right, Contains-append_cases}
 use Rattle.std.proofs.lemmas.List.FromFn.{get_or-map-range_with_len}
 use Rattle.finite_maps.proofs.Keys.{inserted_at, inserted_apart}
-use Rattle.drafts.specs.Fates.{Drafted, block_with}
+use Rattle.drafts.specs.Fates.{Drafted, block_with, seen_in}
 use Rattle.drafts.specs.declared.fate.Fate.{Fate}
 use Rattle.drafts.specs.declared.fate.Fate.TheVariants.{Put, Freed}
 use Rattle.gfs2_layout.specs.Groups.{bitmap_of}
@@ -23,7 +23,7 @@ use Rattle.glock_names.specs.declared.steps.CallFault.TheVariants.{Damaged, NoMe
 use Rattle.glock_names.specs.declared.steps.Missing.{Missing}
 use Rattle.glock_names.specs.declared.views.Group.{Group}
 use Rattle.resource_groups.specs.Shown.{IsShown, IsHeaderOf, IsDataOf, IsBroken, bits_at, no_header, wrong_free, wrong_dinodes, HasBitsIn, blocks_of, first_place, group_lock, kind_of, format_of}
-use Rattle.resource_groups.specs.Putting.{IsPutIn, PutsTwo, KeepsOthers, IsOneOfTwo, HasDataBlock, overlaid, seen_or, seen_in}
+use Rattle.resource_groups.specs.Putting.{IsPutIn, PutsTwo, KeepsOthers, IsOneOfTwo, HasDataBlock, overlaid, seen_or}
 use Rattle.resource_groups.specs.Freeing.{HasSome, IsSameOrPut, AreFreed, KeepsRest, BreaksSome}
 use Rattle.resource_groups.proofs.Apart.{one_header, no_header_data}
 use Rattle.resource_groups.proofs.Fits.{fit_of, big_of}

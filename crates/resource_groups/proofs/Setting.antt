@@ -5,7 +5,7 @@ use Rattle.std.specs.Ordering.{nat_cmp}
 use Rattle.std.specs.Cmp.{nat_cmp_total}
 use Rattle.std.proofs.lemmas.Bool.{cases_eq}
 use Rattle.finite_maps.proofs.Keys.{inserted_at, inserted_apart}
-use Rattle.drafts.specs.Fates.{Drafted, block_with, seen_with}
+use Rattle.drafts.specs.Fates.{Drafted, block_with, seen_with, seen_in}
 use Rattle.drafts.specs.declared.fate.Fate.{Fate}
 use Rattle.drafts.specs.declared.fate.Fate.TheVariants.{Put}
 use Rattle.gfs2_layout.specs.Bitmap.{state_at}
@@ -18,7 +18,7 @@ use Rattle.glock_names.specs.declared.LockName.{LockName}
 use Rattle.glock_names.specs.declared.views.Group.{Group}
 use Rattle.profile_limits.specs.Limits.{most_blocks}
 use Rattle.resource_groups.specs.Shown.{IsShown, IsHeaderOf, IsDataOf, IsBroken, HasBitsIn, blocks_of, bits_at, first_place, group_lock}
-use Rattle.resource_groups.specs.Putting.{IsMiscounted, IsRecounted, IsPutIn, PutsTwo, KeepsOthers, overlaid, seen_or, seen_in, bit_put}
+use Rattle.resource_groups.specs.Putting.{IsMiscounted, IsRecounted, IsPutIn, PutsTwo, KeepsOthers, overlaid, seen_or, bit_put}
 use Rattle.resource_groups.proofs.Fits.{fit_of, end_below, big_of, header_block}
 use Rattle.resource_groups.proofs.FreePlaces.{in_group}
 use Rattle.resource_groups.proofs.Parts.{room_is, state_by_block, length_bits}

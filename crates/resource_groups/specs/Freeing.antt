@@ -1,14 +1,14 @@
 -- Data blocks freed in a draft.
 use Rattle.std.specs.Prelude.{ℕ, ◌≡◌, ◌⊎◌, false, Contains, List, Some}
 use Rattle.std.specs.FinMap.{get}
-use Rattle.drafts.specs.Fates.{Drafted}
+use Rattle.drafts.specs.Fates.{Drafted, seen_in}
 use Rattle.drafts.specs.declared.fate.Fate.TheVariants.{Put, Freed}
 use Rattle.gfs2_layout.specs.States.{AreStatesPut, places_in}
 use Rattle.glock_names.specs.Views.{Seen, HasBlock, HasGroup}
 use Rattle.glock_names.specs.declared.steps.Missing.{Missing}
 use Rattle.glock_names.specs.declared.views.Group.{Group}
 use Rattle.resource_groups.specs.Shown.{IsShown, IsHeaderOf, IsDataOf, IsBroken, blocks_of, group_lock}
-use Rattle.resource_groups.specs.Putting.{IsOneOfTwo, overlaid, seen_in}
+use Rattle.resource_groups.specs.Putting.{IsOneOfTwo, overlaid}
 
 -- some of these blocks are data blocks of the group
 abbrev pub HasSome : Group → List ℕ → Type 0

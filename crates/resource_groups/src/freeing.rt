@@ -4,7 +4,8 @@ ghost use Rattle.glock_names.specs.Steps.{IfIs, IfNeedBlock, IfDamaged};
 ghost use Rattle.glock_names.specs.Views.{HasGroup, IsOfView, IsView};
 ghost use Rattle.glock_names.specs.declared.views.Group.{Group};
 ghost use Rattle.resource_groups.specs.Shown.{IsShown, IsDataOf, IsBroken};
-ghost use Rattle.resource_groups.specs.Putting.{IsOneOfTwo, HasDataBlock, seen_in};
+ghost use Rattle.drafts.specs.Fates.{seen_in};
+ghost use Rattle.resource_groups.specs.Putting.{IsOneOfTwo, HasDataBlock};
 ghost use Rattle.resource_groups.specs.Freeing.{AreFreed, KeepsRest, IsNeededFor, BreaksSome};
 
 use crate::putting::{group_of, set_state};

@@ -9,7 +9,8 @@ ghost use Rattle.glock_names.specs.Steps.{IfIs, IfNeedBlock, IfDamaged};
 ghost use Rattle.glock_names.specs.Views.{HasBlock, HasGroup, IsOfView, IsView};
 ghost use Rattle.glock_names.specs.declared.views.Group.{Group};
 ghost use Rattle.resource_groups.specs.Shown.{IsShown, IsDataOf, IsBroken, group_lock};
-ghost use Rattle.resource_groups.specs.Putting.{IsPutIn, PutsTwo, KeepsOthers, IsOneOfTwo, HasDataBlock, IsRecounted, IsMiscounted, overlaid, seen_in, head_length, bit_put};
+ghost use Rattle.drafts.specs.Fates.{seen_in};
+ghost use Rattle.resource_groups.specs.Putting.{IsPutIn, PutsTwo, KeepsOthers, IsOneOfTwo, HasDataBlock, IsRecounted, IsMiscounted, overlaid, head_length, bit_put};
 
 use crate::blocks::{bits_of, header_of, lock_of};
 use crate::places::{IN_BITMAP, IN_HEADER, first_place, part_of};

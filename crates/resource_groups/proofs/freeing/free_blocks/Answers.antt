@@ -2,7 +2,7 @@ use Rattle.std.proofs.Common.{ℕ, List, [], ◌∷◌, get_or, take, sym, subst
 use Rattle.std.specs.Prelude.{Contains}
 use Rattle.std.proofs.lemmas.List.{take_more}
 use Rattle.glock_names.proofs.StepLaws.{answer_at, needed_at}
-use Rattle.resource_groups.specs.Putting.{seen_in}
+use Rattle.drafts.specs.Fates.{seen_in}
 use Rattle.resource_groups.specs.Freeing.{AreFreed, KeepsRest, BreaksSome}
 use Rattle.resource_groups.proofs.Freed.{groups_same, freed_none, keeps_none, freed_both, keeps_both, keeps_upto, grouped_then, take_has, item_has, needed_before, broken_some, handed}
 use Rattle.resource_groups.proofs.freeing.free_blocks.Goals as goal

@@ -1,9 +1,8 @@
 use Rattle.std.proofs.Common.{◌-◌, ◌≤◌, sym, ap, ◌∙◌, subst, arith}
 use Rattle.glock_names.proofs.StepLaws.{answer_at}
-use Rattle.drafts.specs.Fates.{Drafted}
+use Rattle.drafts.specs.Fates.{Drafted, seen_in}
 use Rattle.gfs2_layout.specs.Bitmap.{state_at}
 use Rattle.resource_groups.specs.Shown.{HasBitsIn, first_place}
-use Rattle.resource_groups.specs.Putting.{seen_in}
 use Rattle.resource_groups.proofs.Fits.{fit_of, end_below, big_of}
 use Rattle.resource_groups.proofs.FreePlaces.{in_group}
 use Rattle.resource_groups.proofs.Parts.{room_is}
