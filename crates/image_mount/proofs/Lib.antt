@@ -32,3 +32,4 @@ pub mod Marked
 pub mod Sound
 pub mod SoundLeaves
 pub mod KeptWays
+pub mod Layouts

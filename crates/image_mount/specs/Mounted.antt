@@ -53,3 +53,8 @@ pub record IsOfProfile (im : Image) : Type 0 where
 -- what is mounted has groups such as every view has, and each of them ends on the device
 abbrev pub GroupsAreAsSeen : Type 0
 GroupsAreAsSeen = (im : Image) (m : MountedValue) → IsMounted im m → AreGroups im.size m.groups × AllByRecursion (λ g. end_of g ≤ im.count) m.groups
+
+-- an image that stands and was mounted stands by the root and the groups that mounting told
+abbrev pub StandsAsMounted : Type 0
+StandsAsMounted = (im : Image) (m : MountedValue) (o : Owners) (l : Layout) → IsMounted im m → IsLaid im o l
+    → (m.superblock.root.address ≡ l.root) × (m.groups ≡ map group_of_entry l.groups)

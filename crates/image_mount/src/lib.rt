@@ -21,6 +21,6 @@ mod system;
 
 pub use fault::MountFault;
 pub use field::Field;
-pub use laws::mounted_groups_are_as_seen;
+pub use laws::{mounted_groups_are_as_seen, mounted_images_stand_as_mounted};
 pub use mounted::{JournalMap, Mounted};
 pub use mounting::mount_image;

@@ -1,0 +1,58 @@
+-- A block that a call asks for.
+use Rattle.std.proofs.Common.{◌≡◌, ℕ, ◌+◌, ◌<◌, ◌≤◌, List, None, Some, inl, inr, sym, ap, ◌∙◌, arith}
+use Rattle.std.proofs.lemmas.Bool.{cases_lt}
+use Rattle.std.specs.Prelude.{Option}
+use Rattle.file_tree.specs.declared.call.Call.{Call}
+use Rattle.file_tree.specs.declared.call.Call.TheVariants as call
+use Rattle.gfs2_layout.specs.Device.{superblock_place}
+use Rattle.gfs2_layout.specs.Holding.{Holding}
+use Rattle.gfs2_layout.specs.declared.rindex.Rindex.{Rindex}
+use Rattle.glock_names.specs.Views.{Seen}
+use Rattle.glock_names.specs.declared.LockName.{LockName}
+use Rattle.glock_names.specs.declared.steps.Missing.{Missing}
+use Rattle.dinode_tree.specs.Shown.{IsShown}
+use Rattle.image_model.specs.Groups.{IsListed, IsHeaderOf, IsDataOf}
+use Rattle.image_model.specs.Image.{Image}
+use Rattle.image_model.specs.Owners.{Owner, Owners, Nobody}
+use Rattle.image_model.specs.Stands.{Layout, IsLaid}
+use Rattle.image_changes.specs.Changes.{cover}
+use Rattle.read_calls.specs.Reading.{IsNeededFor, on_path, at_end}
+
+-- a view shows each inode
+abbrev ShowsEach : Seen → Type 0
+ShowsEach v = (a : ℕ) → (h : Holding) × IsShown v a h
+
+-- a block without which a call that reads isn't answered is one that the view hasn't
+pub needed_absent : (v : Seen) (c : Call) (m : Missing) → ShowsEach v → IsNeededFor v c m → v.block_at m.block ≡ None
+needed_absent v c m shows (on_path unread) = unread.absent
+needed_absent v (call.Read p at count) m shows (at_end a leads asked) = let s = shows a in (asked s.0 s.1).1.absent
+needed_absent v (call.List p) m shows (at_end a leads asked) = absurd asked
+needed_absent v (call.Stat p) m shows (at_end a leads asked) = absurd asked
+needed_absent v (call.Create p) m shows (at_end a leads asked) = absurd asked
+needed_absent v (call.Mkdir p) m shows (at_end a leads asked) = absurd asked
+needed_absent v (call.Unlink p) m shows (at_end a leads asked) = absurd asked
+needed_absent v (call.Rmdir p) m shows (at_end a leads asked) = absurd asked
+needed_absent v (call.Dread p at count) m shows (at_end a leads asked) = absurd asked
+needed_absent v (call.Write p at new) m shows (at_end a leads asked) = absurd asked
+needed_absent v (call.Truncate p size) m shows (at_end a leads asked) = absurd asked
+needed_absent v (call.Rename p q) m shows (at_end a leads asked) = absurd asked
+needed_absent v call.Sync m shows (at_end a leads asked) = absurd asked
+
+module _ (im : Image) (o : Owners) (l : Layout) (laid : IsLaid im o l) where
+  -- nobody owns a block behind the device
+  none_beyond : (b : ℕ) → im.count ≤ b → o b ≡ Nobody
+  none_beyond b past = laid.zoned.between b (omega (arith, laid.super.inside, past)) (λ g at.
+      let fits = laid.fit.each g at in (
+        λ header. absurd (omega (arith, header.high, fits.first, fits.inside, past)),
+        λ data_block. absurd (omega (arith, data_block.high, fits.inside, past)),
+      ))
+
+  -- a block that a lock covers is on the device
+  pub covered_low : (b : ℕ) (lock : LockName) → cover l b (o b) ≡ Some lock → b < im.count
+  covered_low b lock is = elim (cases_lt b im.count) [
+    | inl low ↦ low
+    | inr past ↦ absurd (no_cover (sym (ap (cover l b) (none_beyond b past)) ∙ is))
+  ]
+    where
+      no_cover : ◌≡◌ {A = Option LockName} None (Some lock) → ⊥
+      no_cover e = cc

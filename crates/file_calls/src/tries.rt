@@ -1,0 +1,51 @@
+// A try of a file call.
+ghost use Rattle.std.specs.Prelude.{ℕ, ◌≡◌, ◌≤◌, ◌<◌, None, false};
+ghost use Rattle.std.specs.List.{AllByRecursion};
+ghost use Rattle.file_tree.specs.Tree.{Tree};
+ghost use Rattle.glock_names.specs.Steps.{IfDamaged};
+ghost use Rattle.glock_names.specs.Views.{IsOfView};
+ghost use Rattle.image_model.specs.Image.{Image};
+ghost use Rattle.image_model.specs.Owners.{Owners};
+ghost use Rattle.image_model.specs.Stands.{Layout};
+ghost use Rattle.image_changes.specs.Does.{IsOf, Does};
+ghost use Rattle.path_walks.specs.Answers.{IfDone, IfNeedLock, IfNeedBlock, IfNoSpace, IfNotBuilt};
+ghost use Rattle.path_walks.specs.Holds.{AreHeld, IsAskedFor, IsFirstLack, holds};
+ghost use Rattle.file_calls.specs.Calls.{IsBuilt, IsDamage, IsInside, IsUnbuilt, call_holds};
+
+use dinode_tree::every_view_shows_an_inode;
+use drafts::{Attempt, Stamp};
+use file_tree::Call;
+use glock_names::{CallFault, View};
+use std::alloc::Global;
+
+/// Tries a file call over a view: its answer with what it changes, or the first lock that isn't held, a block that isn't there, or that
+/// too few blocks are free. It costs what the call's crate says.
+pub fn attempt<V: View>(
+    alloc: Global,
+    view: &V,
+    call: &Call,
+    stamp: &Stamp,
+) -> Result<Attempt, CallFault>
+    requires built { IsBuilt call.now }
+    ensures done { IfDone result (Does (V.seen view.now) call.now) }
+    ensures inside { IfDone result (λ reply change. AllByRecursion (IsInside (V.seen view.now)) change.blocks.items) }
+    ensures held { (im : Image) (o : Owners) (l : Layout) (t : Tree) → IsOf (V.seen view.now) im o l t → IfDone result (λ reply change. AreHeld (V.seen view.now) (call_holds im o l t call.now stamp.now.node)) }
+    ensures lock { (im : Image) (o : Owners) (l : Layout) (t : Tree) → IsOf (V.seen view.now) im o l t → IfNeedLock result (IsFirstLack (V.seen view.now) (call_holds im o l t call.now stamp.now.node)) }
+    ensures block { (im : Image) (o : Owners) (l : Layout) (t : Tree) → IsOf (V.seen view.now) im o l t → IfNeedBlock result (IsAskedFor (V.seen view.now) im o l (call_holds im o l t call.now stamp.now.node)) }
+    ensures on_device { (im : Image) (o : Owners) (l : Layout) (t : Tree) → IsOf (V.seen view.now) im o l t → IfNeedBlock result (λ m. m.block < im.count) }
+    ensures space { IfNoSpace result (λ need free. ⊥) }
+    ensures lacked { IfNeedLock result (λ lock state. holds (V.seen view.now) (record { lock = lock; state = state }) ≡ false) }
+    ensures absent { IfNeedBlock result (λ m. (V.seen view.now).block_at m.block ≡ None) }
+    ensures unbuilt { IfNotBuilt result (IsUnbuilt (V.seen view.now) call.now) }
+    ensures sound { (im : Image) (o : Owners) (l : Layout) (t : Tree) → IsOf (V.seen view.now) im o l t → IfDamaged result (λ rule block. ⊥) }
+    ensures damaged { IfDamaged result (IsDamage (V.seen view.now) call.now) }
+    ensures kept { IfDamaged result (IsOfView (V.seen view.now)) }
+{
+    every_view_shows_an_inode();
+    match call {
+        Call::Read(_, _, _) | Call::Stat(_) | Call::List(_) => {
+            read_calls::attempt(alloc, view, call, stamp)
+        }
+        _ => unreachable!(),
+    }
+}
