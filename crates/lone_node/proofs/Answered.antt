@@ -1,0 +1,166 @@
+-- A call that is answered: what the disk holds, and the view has, afterwards.
+use Rattle.std.proofs.Common.{◌≡◌, ℕ, zero, suc, ◌+◌, ◌<◌, ◌≤◌, Bool, true, false, cond, List, [], ◌∷◌, length, map, Option, None, Some, ◌⊎◌, inl, inr, refl, sym, ap, ◌∙◌, subst, arith}
+use Rattle.std.specs.Prelude.{IsTrue, unwrap_or, Contains}
+use Rattle.std.specs.List.{AllByRecursion}
+use Rattle.std.specs.Ordering.{nat_cmp}
+use Rattle.std.specs.Cmp.{nat_cmp_total}
+use Rattle.std.specs.FinMap.{FinMap, get, insert, nat_cmp-IsAntisymmetric}
+use Rattle.std.proofs.lemmas.Bool.{cases_eq}
+use Rattle.std.proofs.lemmas.List.Elements.{All-contains, All-from_recursion}
+use Rattle.finite_maps.proofs.Keys.{inserted_at, inserted_apart}
+use Rattle.file_tree.specs.Tree.{Tree}
+use Rattle.file_tree.specs.Apply.{Answers, apply}
+use Rattle.file_tree.specs.declared.call.Call.{Call}
+use Rattle.file_tree.specs.declared.reply.Reply.{Reply}
+use Rattle.file_tree.specs.declared.reply.Reply.TheVariants as reply
+use Rattle.cluster_history.specs.History.{after}
+use Rattle.cluster_history.specs.Changes.{OthersLeaveTheTree}
+use Rattle.glock_names.specs.Views.{HasGroup, end_of}
+use Rattle.glock_names.specs.declared.views.Group.{Group}
+use Rattle.drafts.specs.declared.change.Change.{Change}
+use Rattle.drafts.specs.declared.change.Written.{Written}
+use Rattle.image_model.specs.Image.{Image, image_of}
+use Rattle.image_model.specs.Owners.{Owners}
+use Rattle.image_model.specs.Stands.{Layout}
+use Rattle.image_changes.specs.Does.{Does, DoesIn, IsFormed, IsOf, bytes_for, with_change}
+use Rattle.image_changes.specs.Instances.{StandsBy}
+use Rattle.shared_disk.specs.Disk.{DiskState}
+use Rattle.file_calls.specs.Calls.{IsInside}
+use Rattle.lone_view.specs.Seeing.{Lone, seen_alone}
+use Rattle.lone_node.specs.Answering.{IsAnsweredFrom}
+use Rattle.lone_node.specs.Ends.{IfDamaged, IfNotBuilt}
+use Rattle.lone_node.specs.declared.ends.RunEnd.{RunEnd}
+use Rattle.lone_node.specs.declared.ends.RunEnd.TheVariants as end
+use Rattle.lone_node.specs.Standing.{IsOn, IsSameSystem, StandsFor, is_none, lacked_count}
+use Rattle.lone_node.specs.Writing.{AreOfDisk, AreWritten, RiseFrom, with_blocks}
+use Rattle.lone_node.proofs.Keeping.{got, over}
+use Rattle.lone_node.proofs.Rising.{sorted_rise, none_low}
+
+-- the image on the disk is one that the view may be of
+pub of_view : (d : DiskState) (n : Lone) (t : Tree) → IsOn d n → (s : StandsFor d n t) → IsOf (seen_alone n) (image_of d) s.owners s.layout t
+of_view d n t on s = record { size = sym on.size; root = s.root; groups = s.groups; agrees = on.agrees s.tells; stands = s.stands }
+
+-- the tree after a call that is answered as the tree answers it
+pub after_is : OthersLeaveTheTree → (call : Call) (r : Reply) (t : Tree) → (apply call t).reply ≡ r → after (record { call = call; reply = r }) t ≡ (apply call t).tree
+after_is others call reply.NoSpace t is = sym (others call reply.NoSpace t (apply call t).tree (inl (λ i. record { reply = is i; tree = (apply call t).tree })) refl)
+after_is others call reply.Ok t is = refl
+after_is others call (reply.Bytes bytes) t is = refl
+after_is others call (reply.Stat kind size) t is = refl
+after_is others call (reply.Names names) t is = refl
+after_is others call reply.NotFound t is = refl
+after_is others call reply.NotDir t is = refl
+after_is others call reply.IsDir t is = refl
+after_is others call reply.Exists t is = refl
+after_is others call reply.NotEmpty t is = refl
+after_is others call reply.Inside t is = refl
+after_is others call reply.TooBig t is = refl
+
+module _ (d d' : DiskState) (n : Lone) (change : Change) (on : IsOn d n) (form : IsFormed change) (written : AreWritten d d' change.blocks.items) where
+  rise : RiseFrom 0 change.blocks.items
+  rise = sorted_rise 0 change.blocks.items (none_low change.blocks.items) form.blocks
+
+  -- the image with the change is that on the disk
+  same_image : IsTrue d.tells → with_change (image_of d) change ≡ image_of d'
+  same_image tells = λ i. record { size = sym written.size i; count = sym written.count i; at = λ b. sym (written.blocks_are tells b) i }
+
+  pub answered : OthersLeaveTheTree → (call : Call) (r : Reply) → Does (seen_alone n) call r change
+      → IsAnsweredFrom d d' n (record n { blocks = with_blocks n.blocks change.blocks.items }) call r
+  answered others call r does = record {
+    answers = λ t s. let in_it = does.images (image_of d) s.owners s.layout t (of_view d n t on s) in
+        inl (λ i. record { reply = in_it.replies i; tree = sym (after_is others call r t in_it.replies) i });
+    stands = λ t s. let in_it = does.images (image_of d) s.owners s.layout t (of_view d n t on s) in
+        record {
+          tells = subst IsTrue (sym written.tells) s.tells;
+          owners = in_it.owners;
+          layout = s.layout;
+          root = s.root;
+          groups = s.groups;
+          stands = subst (λ u. StandsBy (image_of d') in_it.owners s.layout u) (sym (after_is others call r t in_it.replies))
+              (subst (λ im. StandsBy im in_it.owners s.layout (apply call t).tree) (same_image s.tells) in_it.stands);
+        };
+  }
+
+  pub on_again : IsOn d' (record n { blocks = with_blocks n.blocks change.blocks.items })
+  on_again = record {
+    size = on.size ∙ sym written.size;
+    groups = subst (λ c. AllByRecursion (λ g. end_of g ≤ c) n.groups) (sym written.count) on.groups;
+    agrees = λ tells b bytes e. by (subst IsTrue written.tells tells) b bytes (bytes_for change.blocks.items b) refl (sym (got 0 n.blocks change.blocks.items b rise) ∙ e);
+  }
+    where
+      some_is : {x y : List ℕ} → ◌≡◌ {A = Option (List ℕ)} (Some x) (Some y) → x ≡ y
+      some_is e = ap (λ (o : Option (List ℕ)). unwrap_or o []) e
+
+      by : IsTrue d.tells → (b : ℕ) (bytes : List ℕ) (o : Option (List ℕ)) → bytes_for change.blocks.items b ≡ o → over (bytes_for change.blocks.items b) (get n.blocks b) ≡ Some bytes → d'.block_at b ≡ bytes
+      by tells b bytes (Some x) is e = written.blocks_are tells b ∙ ap (λ o. unwrap_or o (d.block_at b)) is ∙ some_is (ap (λ o. over o (get n.blocks b)) (sym is) ∙ e)
+      by tells b bytes None is e = written.blocks_are tells b ∙ ap (λ o. unwrap_or o (d.block_at b)) is ∙ on.agrees tells b bytes (ap (λ o. over o (get n.blocks b)) (sym is) ∙ e)
+
+-- what a call writes are blocks of the disk
+pub of_disk : (d : DiskState) (n : Lone) (change : Change) → IsOn d n → IsFormed change → AllByRecursion (IsInside (seen_alone n)) change.blocks.items → AreOfDisk d change.blocks.items
+of_disk d n change on form inside = record {
+  rise = sorted_rise 0 change.blocks.items (none_low change.blocks.items) form.blocks;
+  inside = each (λ (w : Written). w.block < d.count) (λ w is. let end = in_all n.groups is.group is.has on.groups in omega (arith, is.below, end)) change.blocks.items inside;
+  whole = each (λ (w : Written). length w.bytes ≡ d.size) (λ w is. is.whole ∙ on.size) change.blocks.items inside;
+}
+  where
+    each : (P : Written → Type 0) → ((w : Written) → IsInside (seen_alone n) w → P w) → (ws : List Written) → AllByRecursion (IsInside (seen_alone n)) ws → AllByRecursion P ws
+    each P f [] all = tt
+    each P f (w ∷ ws) all = (f w all.0, each P f ws all.1)
+
+    in_all : (gs : List Group) (g : Group) → Contains gs g → AllByRecursion (λ (h : Group). end_of h ≤ d.count) gs → end_of g ≤ d.count
+    in_all gs g has all = All-contains (λ (h : Group). end_of h ≤ d.count) gs g (All-from_recursion (λ (h : Group). end_of h ≤ d.count) gs all) has
+
+-- ---- a block that is read
+
+pub fetched_on : (d : DiskState) (n : Lone) (k : ℕ) (bytes : List ℕ) → IsOn d n → (IsTrue d.tells → d.block_at k ≡ bytes) → IsOn d (record n { blocks = insert n.blocks k bytes })
+fetched_on d n k bytes on is = record {
+  size = on.size;
+  groups = on.groups;
+  agrees = λ tells b found e. elim (cases_eq b k) [
+    | inl same ↦ ap d.block_at same ∙ is tells ∙ some_is (sym (inserted_at nat_cmp_total nat_cmp-IsAntisymmetric n.blocks k bytes) ∙ ap (get (insert n.blocks k bytes)) (sym same) ∙ e)
+    | inr other ↦ on.agrees tells b found (sym (inserted_apart nat_cmp_total nat_cmp-IsAntisymmetric n.blocks k bytes b other) ∙ e)
+  ];
+}
+  where
+    some_is : {x y : List ℕ} → ◌≡◌ {A = Option (List ℕ)} (Some x) (Some y) → x ≡ y
+    some_is e = ap (λ (o : Option (List ℕ)). unwrap_or o []) e
+
+abbrev counted : Option (List ℕ) → ℕ
+counted o = cond (is_none o) 1 0
+
+module _ (m : FinMap nat_cmp (List ℕ)) (k : ℕ) (bytes : List ℕ) where
+  same_below : (c : ℕ) → c ≤ k → lacked_count (insert m k bytes) c ≡ lacked_count m c
+  same_below zero low = refl
+  same_below (suc c) low = λ i. cond (is_none (inserted_apart nat_cmp_total nat_cmp-IsAntisymmetric m k bytes c (λ e. omega (arith, e, low)) i)) 1 0 + same_below c (omega (arith, low)) i
+
+  pub fewer : (c : ℕ) → get m k ≡ None → k < c → lacked_count (insert m k bytes) c < lacked_count m c
+  fewer zero none low = absurd (omega arith)
+  fewer (suc c) none low = elim (cases_eq c k) [
+    | inl same ↦
+        let here = ap counted (ap (get (insert m k bytes)) same ∙ inserted_at nat_cmp_total nat_cmp-IsAntisymmetric m k bytes) in
+        let was = ap counted (ap (get m) same ∙ none) in
+        let below = same_below c (omega (arith, same)) in
+        omega (arith, here, was, below)
+    | inr other ↦
+        let here = ap counted (inserted_apart nat_cmp_total nat_cmp-IsAntisymmetric m k bytes c other) in
+        let below = fewer c none (omega (arith, low, other)) in
+        omega (arith, here, below)
+  ]
+
+-- ---- ends
+
+-- the node stands for a tree as it did, where only blocks of it were read
+pub stands_on : (d : DiskState) (n n' : Lone) (t : Tree) → IsSameSystem n n' → StandsFor d n t → StandsFor d n' t
+stands_on d n n' t same s = record { tells = s.tells; owners = s.owners; layout = s.layout; root = s.root ∙ sym same.root; groups = s.groups ∙ sym same.groups; stands = s.stands }
+
+-- a fact of an end at damage, and of one at what isn't built, follows from another
+pub damaged_so : (e : RunEnd) (P Q : ℕ → ℕ → Type 0) → ((b rule : ℕ) → P b rule → Q b rule) → IfDamaged e P → IfDamaged e Q
+damaged_so (end.DiskFailed block rise) P Q f is = tt
+damaged_so (end.Damaged block rule) P Q f is = f block rule is
+damaged_so (end.NotBuilt block) P Q f is = tt
+damaged_so end.NoMemory P Q f is = tt
+
+pub unbuilt_so : (e : RunEnd) (P Q : ℕ → Type 0) → ((b : ℕ) → P b → Q b) → IfNotBuilt e P → IfNotBuilt e Q
+unbuilt_so (end.DiskFailed block rise) P Q f is = tt
+unbuilt_so (end.Damaged block rule) P Q f is = tt
+unbuilt_so (end.NotBuilt block) P Q f is = f block is
+unbuilt_so end.NoMemory P Q f is = tt

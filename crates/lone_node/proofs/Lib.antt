@@ -1,0 +1,4 @@
+pub mod Rising
+pub mod Flying
+pub mod Keeping
+pub mod Answered

@@ -1,0 +1,14 @@
+use Rattle.std.proofs.Common.{ℕ, ◌≡◌, ◌≤◌}
+use Rattle.lone_node.specs.Standing.{IsOn, IsSameSystem, lacked_count}
+use Rattle.lone_node.proofs.answering.answer_call.Given as goal
+
+abbrev pub invariant-loop-found : goal.invariant-loop-found
+invariant-loop-found g l = record {
+  same : g.D.SharedDisk.state l.disk ≡ g.D.SharedDisk.state l.initial.disk;
+  on : IsOn (g.D.SharedDisk.state l.initial.disk) l.view;
+  system : IsSameSystem l.initial.view l.view;
+  later : (i : ℕ) → g.D.SharedDisk.faults l.initial.disk i ≤ g.D.SharedDisk.faults l.disk i;
+}
+
+abbrev pub decreases-loop-found : goal.decreases-loop-found
+decreases-loop-found g l = lacked_count l.view.blocks (g.D.SharedDisk.state l.initial.disk).count

@@ -1,0 +1,29 @@
+use Rattle.std.proofs.Common.{◌≡◌, ◌++◌, ◌≤◌, List, sym, ap, ◌∙◌, subst, arith}
+use Rattle.std.proofs.lemmas.List.{append_assoc, take-append-drop}
+use Rattle.drafts.specs.declared.change.Written.{Written}
+use Rattle.lone_node.specs.Writing.{AreOfDisk, RiseFrom}
+use Rattle.lone_node.proofs.Rising.{front}
+use Rattle.lone_node.proofs.Flying.{of_front, of_back, written_more}
+use Rattle.lone_node.proofs.writing.write_all.Goals as goal
+
+pub write_some-requires-clause-of_disk : goal.write_some-requires-clause-of_disk
+write_some-requires-clause-of_disk g c =
+    let d = g.D.SharedDisk.state c.args.disk.now in
+    let so = c.loop-rest.invariant in
+    let parts : c.loop-rest.rest.now ≡ c.split_at.result.0.now ++ c.split_at.result.1.now = sym (take-append-drop _ c.loop-rest.rest.now) ∙ (λ i. sym c.split_at.ensures.front i ++ sym c.split_at.ensures.back i) in
+    let behind = of_back d so.done c.loop-rest.rest.now (subst (AreOfDisk d) so.split c.requires.of_disk) in
+    of_front d (g.D.SharedDisk.state c.loop-rest.disk) c.split_at.result.0.now c.split_at.result.1.now so.written.size so.written.count (subst (AreOfDisk d) parts behind)
+
+pub loop-rest-preserved : goal.loop-rest-preserved
+loop-rest-preserved g c =
+    let d = g.D.SharedDisk.state c.args.disk.now in
+    let so = c.loop-rest.invariant in
+    let parts : c.loop-rest.rest.now ≡ c.split_at.result.0.now ++ c.split_at.result.1.now = sym (take-append-drop _ c.loop-rest.rest.now) ∙ (λ i. sym c.split_at.ensures.front i ++ sym c.split_at.ensures.back i) in
+    let whole : c.args.blocks.now ≡ (so.done ++ c.split_at.result.0.now) ++ c.split_at.result.1.now = so.split ∙ ap (λ (r : List Written). so.done ++ r) parts ∙ sym (append_assoc so.done c.split_at.result.0.now c.split_at.result.1.now) in
+    record {
+      done = so.done ++ c.split_at.result.0.now;
+      split = whole;
+      written = written_more d (g.D.SharedDisk.state c.loop-rest.disk) (g.D.SharedDisk.state c.write_some.new.disk) so.done c.split_at.result.0.now
+          (front 0 (so.done ++ c.split_at.result.0.now) c.split_at.result.1.now (subst (RiseFrom 0) whole c.requires.of_disk.rise)) so.written c.in_ok-write_some.ensures.written;
+      later = λ i. let before = so.later i in let more = c.in_ok-write_some.ensures.later i in omega (arith, before, more);
+    }

@@ -1,0 +1,150 @@
+// One call, answered on a disk.
+ghost use Rattle.std.specs.Prelude.{ℕ, ◌≡◌, ◌<◌, ◌≤◌, IfOk, IfErr, IfSome, IfNone, OnOk};
+ghost use Rattle.file_tree.specs.Tree.{Tree};
+ghost use Rattle.gfs2_layout.specs.Device.{IsBlockSize};
+ghost use Rattle.shared_disk.specs.Disk.{IsIdle};
+ghost use Rattle.file_calls.specs.Calls.{IsBuilt, IsUnbuilt};
+ghost use Rattle.lone_view.specs.Seeing.{seen_alone};
+ghost use Rattle.lone_node.specs.Answering.{IsAnsweredFrom, IsSameDisk, IsUnbuiltOn};
+ghost use Rattle.lone_node.specs.Ends.{HasCause, IfDamaged, IfNotBuilt, UnlessFailed, end_at};
+ghost use Rattle.lone_node.specs.Standing.{IsOn, IsSameSystem, StandsFor, lacked_count};
+ghost use Rattle.lone_node.specs.Writing.{AreOfDisk, AreWritten, with_blocks};
+
+use crate::RunEnd;
+use crate::fetching::fetch;
+use crate::writing::{keep_all, write_all};
+use cluster_history::other_calls_leave_the_tree;
+use drafts::{Attempt, Change, Stamp};
+use file_calls::attempt;
+use file_tree::{Call, Reply};
+use glock_names::CallFault;
+use lone_view::LoneView;
+use shared_disk::SharedDisk;
+use std::alloc::Global;
+
+/// How many blocks a call needed, and how many were free.
+#[derive(Clone, Copy, Debug, PartialEq, Eq)]
+pub struct Full {
+    pub need: u64,
+    pub free: u64,
+}
+
+/// The answer of a call, and where too few blocks were free for it how many.
+#[derive(Drop)]
+pub struct Answer {
+    pub reply: Reply,
+    pub full: Option<Full>,
+}
+
+// The end of a run at a call's fault.
+fn end_of(fault: CallFault) -> RunEnd
+    ensures { result ≡ end_at fault }
+{
+    match fault {
+        CallFault::Damaged { block, rule } => RunEnd::Damaged { block, rule },
+        CallFault::NoMemory => RunEnd::NoMemory,
+    }
+}
+
+// Puts a change into the view, and then on the disk.
+fn carry_out<D: SharedDisk>(
+    disk: &mut D,
+    view: &mut LoneView,
+    change: &Change,
+) -> Result<(), RunEnd>
+    requires idle { IsIdle (D.state disk.old) }
+    requires size { view.old.size ≡ (D.state disk.old).size }
+    requires of_disk { AreOfDisk (D.state disk.old) change.now.blocks.items }
+    ensures written { OnOk result (AreWritten (D.state disk.old) (D.state disk.new) change.now.blocks.items) }
+    ensures kept { OnOk result (view.new ≡ record view.old { blocks = with_blocks view.old.blocks change.now.blocks.items }) }
+    ensures before { IfErr result (λ end. UnlessFailed end (D.state disk.new ≡ D.state disk.old)) }
+    ensures built { IfErr result (λ end. IfNotBuilt end (λ b. ⊥)) }
+    ensures sound { IfErr result (λ end. IfDamaged end (λ b rule. ⊥)) }
+    ensures later { (i : ℕ) → D.faults disk.old i ≤ D.faults disk.new i }
+    ensures cause { IfErr result (HasCause 1 (D.state disk.old).count (D.faults disk.old) (D.faults disk.new)) }
+{
+    keep_all(view, &change.blocks)?;
+    match write_all(disk, &change.blocks) {
+        Ok(()) => Ok(()),
+        Err(end) => Err(end),
+    }
+}
+
+// Tries the call once: it is answered, or a block that it needs is read.
+fn try_once<D: SharedDisk>(
+    alloc: Global,
+    disk: &mut D,
+    view: &mut LoneView,
+    call: &Call,
+    stamp: &Stamp,
+) -> Result<Option<Answer>, RunEnd>
+    requires idle { IsIdle (D.state disk.old) }
+    requires size { IsBlockSize (D.state disk.old).size }
+    requires on { IsOn (D.state disk.old) view.old }
+    requires built { IsBuilt call.now }
+    ensures answered { IfOk result (λ r. IfSome r (λ a. IsAnsweredFrom (D.state disk.old) (D.state disk.new) view.old view.new call.now a.reply)) }
+    ensures idle { IfOk result (λ r. IsIdle (D.state disk.new)) }
+    ensures on { IfOk result (λ r. IsOn (D.state disk.new) view.new) }
+    ensures disk { IfOk result (λ r. IsSameDisk (D.state disk.old) (D.state disk.new)) }
+    ensures system { IfOk result (λ r. IsSameSystem view.old view.new) }
+    ensures same { IfOk result (λ r. IfNone r (D.state disk.new ≡ D.state disk.old)) }
+    ensures fewer { IfOk result (λ r. IfNone r (lacked_count view.new.blocks (D.state disk.old).count < lacked_count view.old.blocks (D.state disk.old).count)) }
+    ensures before { IfErr result (λ end. UnlessFailed end (D.state disk.new ≡ D.state disk.old)) }
+    ensures sound { IfErr result (λ end. IfDamaged end (λ b rule. (t : Tree) → StandsFor (D.state disk.old) view.old t → ⊥)) }
+    ensures unbuilt { IfErr result (λ end. IfNotBuilt end (IsUnbuilt (seen_alone view.old) call.now)) }
+    ensures later { (i : ℕ) → D.faults disk.old i ≤ D.faults disk.new i }
+    ensures cause { IfErr result (HasCause 1 (D.state disk.old).count (D.faults disk.old) (D.faults disk.new)) }
+{
+    other_calls_leave_the_tree();
+    match attempt(alloc, &*view, call, stamp) {
+        Ok(Attempt::Done { reply, change }) => {
+            carry_out(disk, view, &change)?;
+            Ok(Some(Answer { reply, full: None }))
+        }
+        Ok(Attempt::NeedBlock(missing)) => match fetch(alloc, disk, view, &missing) {
+            Ok(()) => Ok(None),
+            Err(end) => Err(end),
+        },
+        Ok(Attempt::NoSpace { need, free }) => Ok(Some(Answer {
+            reply: Reply::NoSpace,
+            full: Some(Full { need, free }),
+        })),
+        Ok(Attempt::NotBuilt { block }) => Err(RunEnd::NotBuilt { block }),
+        Ok(Attempt::NeedLock { .. }) => unreachable!(),
+        Err(fault) => Err(end_of(fault)),
+    }
+}
+
+/// Answers a call on a disk at rest, as node 1, which holds every lock. What the call needs is read block by block, each once; what it
+/// changes is in the view and on the disk when it is answered. Where the run ends here and the disk didn't fail, the disk is
+/// as it was. It costs a read for each block that the view hasn't, a try of the call for each of these and one more, and the writes.
+pub(crate) fn answer_call<D: SharedDisk>(
+    alloc: Global,
+    disk: &mut D,
+    view: &mut LoneView,
+    call: &Call,
+    stamp: &Stamp,
+) -> Result<Answer, RunEnd>
+    requires idle { IsIdle (D.state disk.old) }
+    requires size { IsBlockSize (D.state disk.old).size }
+    requires on { IsOn (D.state disk.old) view.old }
+    requires built { IsBuilt call.now }
+    ensures answered { IfOk result (λ a. IsAnsweredFrom (D.state disk.old) (D.state disk.new) view.old view.new call.now a.reply) }
+    ensures idle { IfOk result (λ a. IsIdle (D.state disk.new)) }
+    ensures on { IfOk result (λ a. IsOn (D.state disk.new) view.new) }
+    ensures disk { IfOk result (λ a. IsSameDisk (D.state disk.old) (D.state disk.new)) }
+    ensures system { IfOk result (λ a. IsSameSystem view.old view.new) }
+    ensures before { IfErr result (λ end. UnlessFailed end (D.state disk.new ≡ D.state disk.old)) }
+    ensures sound { IfErr result (λ end. IfDamaged end (λ b rule. (t : Tree) → StandsFor (D.state disk.old) view.old t → ⊥)) }
+    ensures unbuilt { IfErr result (λ end. IfNotBuilt end (IsUnbuiltOn (D.state disk.old) view.old call.now)) }
+    ensures later { (i : ℕ) → D.faults disk.old i ≤ D.faults disk.new i }
+    ensures cause { IfErr result (HasCause 1 (D.state disk.old).count (D.faults disk.old) (D.faults disk.new)) }
+{
+    loop {
+        match try_once(alloc, disk, view, call, stamp) {
+            Ok(Some(found)) => return Ok(found),
+            Ok(None) => {}
+            Err(end) => return Err(end),
+        }
+    }
+}

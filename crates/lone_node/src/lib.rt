@@ -1,0 +1,10 @@
+//! One node that holds every lock: it answers calls on a disk, block by block as they ask for them, and takes a script's lines.
+#![tactic(auto)]
+
+mod answering;
+mod ends;
+mod fetching;
+mod writing;
+
+pub use answering::{Answer, Full};
+pub use ends::RunEnd;
