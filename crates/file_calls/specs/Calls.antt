@@ -1,12 +1,10 @@
 -- The file calls that are built: what holds of every one.
-use Rattle.std.specs.Prelude.{ℕ, ◌≡◌, ◌<◌, false, List, length}
+use Rattle.std.specs.Prelude.{ℕ, false, List}
 use Rattle.file_tree.specs.Tree.{Tree}
 use Rattle.file_tree.specs.declared.call.Call.{Call}
-use Rattle.glock_names.specs.Views.{Seen, HasGroup, end_of}
-use Rattle.glock_names.specs.declared.views.Group.{Group}
+use Rattle.glock_names.specs.Views.{Seen}
 use Rattle.call_locks.specs.WantLaws.{path_of}
 use Rattle.call_locks.specs.Wants.{wanted}
-use Rattle.drafts.specs.declared.change.Written.{Written}
 use Rattle.image_model.specs.Image.{Image}
 use Rattle.image_model.specs.Owners.{Owners}
 use Rattle.image_model.specs.Stands.{Layout}
@@ -21,13 +19,6 @@ IsBuilt call = IsReading call
 -- the locks that the call takes in an image, in their order
 abbrev pub call_holds : Image → Owners → Layout → Tree → Call → ℕ → List Hold
 call_holds im o l t call node = holds_in im o l (path_of call false) (wanted call)
-
--- what is written is a whole block, and lies in one of the view's groups or below it
-pub record IsInside (v : Seen) (w : Written) : Type 0 where
-  pub whole : length w.bytes ≡ v.size
-  pub group : Group
-  pub has : HasGroup v group
-  pub below : w.block < end_of group
 
 -- as far as the view shows, the block breaks this rule
 abbrev pub IsDamage : Seen → Call → ℕ → ℕ → Type 0

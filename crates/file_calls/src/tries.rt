@@ -7,10 +7,10 @@ ghost use Rattle.glock_names.specs.Views.{IsOfView};
 ghost use Rattle.image_model.specs.Image.{Image};
 ghost use Rattle.image_model.specs.Owners.{Owners};
 ghost use Rattle.image_model.specs.Stands.{Layout};
-ghost use Rattle.image_changes.specs.Does.{IsOf, Does};
+ghost use Rattle.image_changes.specs.Does.{IsInside, IsOf, Does};
 ghost use Rattle.path_walks.specs.Answers.{IfDone, IfNeedLock, IfNeedBlock, IfNoSpace, IfNotBuilt};
 ghost use Rattle.path_walks.specs.Holds.{AreHeld, IsAskedFor, IsFirstLack, holds};
-ghost use Rattle.file_calls.specs.Calls.{IsBuilt, IsDamage, IsInside, IsUnbuilt, call_holds};
+ghost use Rattle.file_calls.specs.Calls.{IsBuilt, IsDamage, IsUnbuilt, call_holds};
 
 use dinode_tree::every_view_shows_an_inode;
 use drafts::{Attempt, Stamp};

@@ -21,3 +21,4 @@ pub mod Doing
 pub mod Finishing
 pub mod Drafting
 pub mod Touching
+pub mod Inside

@@ -1,6 +1,6 @@
 -- What the answer of a call over a view means: in every image that the view may be of, the image with the call's change stands for the
 -- tree after the call.
-use Rattle.std.specs.Prelude.{ℕ, zero, ◌≡◌, ◌⊎◌, ◌==◌, ◌&&◌, ◌||◌, not, Bool, true, false, if◌then◌else◌, is_some, unwrap_or, slice_get, List, [], ◌∷◌, length, map, Option, None, Some}
+use Rattle.std.specs.Prelude.{ℕ, zero, ◌≡◌, ◌⊎◌, ◌<◌, ◌==◌, ◌&&◌, ◌||◌, not, Bool, true, false, if◌then◌else◌, is_some, unwrap_or, slice_get, List, [], ◌∷◌, length, map, Option, None, Some}
 use Rattle.std.specs.List.{list_any}
 use Rattle.std.specs.List.Sorted.{IsStrictlySortedBy}
 use Rattle.std.specs.Ordering.{nat_cmp}
@@ -10,7 +10,8 @@ use Rattle.file_tree.specs.declared.call.Call.{Call}
 use Rattle.file_tree.specs.declared.reply.Reply.{Reply}
 use Rattle.cluster_history.specs.Changes.{Changes}
 use Rattle.gfs2_layout.specs.Structures.{is_regular}
-use Rattle.glock_names.specs.Views.{Seen, group_of_entry}
+use Rattle.glock_names.specs.Views.{Seen, HasGroup, end_of, group_of_entry}
+use Rattle.glock_names.specs.declared.views.Group.{Group}
 use Rattle.glock_names.specs.declared.LockName.{LockName}
 use Rattle.glock_names.specs.declared.State.TheVariants.{Ex}
 use Rattle.drafts.specs.declared.change.Change.{Change}
@@ -56,6 +57,13 @@ pub record IsFormed (change : Change) : Type 0 where
   pub freed : IsStrictlySortedBy nat_cmp change.freed.items
   pub locks : length change.locks.items ≡ length change.blocks.items
   pub apart : (b : ℕ) → frees change b ≡ true → writes change b ≡ false
+
+-- a block that is written is whole, and lies before the end of one of the view's groups, and so on the device of each image that it may be of
+pub record IsInside (v : Seen) (w : Written) : Type 0 where
+  pub whole : length w.bytes ≡ v.size
+  pub group : Group
+  pub has : HasGroup v group
+  pub below : w.block < end_of group
 
 -- ---- an image that a view may be of
 

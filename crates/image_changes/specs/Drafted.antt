@@ -1,5 +1,6 @@
 -- What a draft's change is of the draft, and what a call shows of its draft so that its answer means what it should.
-use Rattle.std.specs.Prelude.{ℕ, ◌≡◌, ◌||◌, Bool, true, false, is_some, unwrap_or, slice_get, List, Option, None, Some}
+use Rattle.std.specs.Prelude.{ℕ, ◌≡◌, ◌<◌, ◌||◌, Bool, true, false, is_some, unwrap_or, slice_get, List, Option, None, Some}
+use Rattle.std.specs.List.{AllByRecursion}
 use Rattle.std.specs.Ordering.{nat_cmp}
 use Rattle.std.specs.FinMap.{FinMap, get, entries}
 use Rattle.file_tree.specs.Tree.{Tree, file}
@@ -9,21 +10,22 @@ use Rattle.file_tree.specs.declared.call.Call.{Call}
 use Rattle.file_tree.specs.declared.reply.Reply.{Reply}
 use Rattle.cluster_history.specs.Changes.{Changes}
 use Rattle.gfs2_layout.specs.Inode.{content_of}
-use Rattle.glock_names.specs.Views.{Seen}
+use Rattle.glock_names.specs.Views.{Seen, HasGroup, end_of}
+use Rattle.glock_names.specs.declared.views.Group.{Group}
 use Rattle.glock_names.specs.declared.LockName.{LockName}
 use Rattle.glock_names.specs.declared.State.TheVariants.{Ex}
 use Rattle.drafts.specs.declared.change.Change.{Change}
 use Rattle.drafts.specs.declared.change.Written.{Written}
 use Rattle.drafts.specs.declared.fate.Fate.{Fate}
 use Rattle.drafts.specs.declared.fate.Fate.TheVariants.{Put, Freed}
-use Rattle.drafts.specs.Fates.{block_with, seen_with, blocks_in, locks_in, freed_in}
+use Rattle.drafts.specs.Fates.{AreWhole, block_with, seen_with, blocks_in, locks_in, freed_in}
 use Rattle.image_model.specs.Flat.{Path, tree_at}
 use Rattle.image_model.specs.Image.{Image}
 use Rattle.image_model.specs.Owners.{Owners, holding}
 use Rattle.image_model.specs.Stands.{Layout}
 use Rattle.image_changes.specs.Flats.{in_directory}
 use Rattle.image_changes.specs.Instances.{IsAt, IsFileChanged, IsNameAdded, IsNameRemoved, IsNameMoved}
-use Rattle.image_changes.specs.Does.{with_change, writes, frees, IsFormed, IsOf, IsHeld, IsWritten, IsFreed, GroupsAreWritten, Does}
+use Rattle.image_changes.specs.Does.{with_change, writes, frees, IsFormed, IsOf, IsHeld, IsInside, IsWritten, IsFreed, GroupsAreWritten, Does}
 
 -- ---- what becomes of blocks in a draft
 
@@ -108,3 +110,9 @@ DraftsDo = (v : Seen) (call : Call) (reply : Reply) (fates : FinMap nat_cmp Fate
     → ((b : ℕ) (lock : LockName) (plain : Bool) (bytes : List ℕ) → get fates b ≡ Some (Put lock plain bytes) → v.state_of lock ≡ Ex)
     → ((im : Image) (o : Owners) (l : Layout) (t : Tree) → IsOf v im o l t → MakesIn v call reply fates im o l t)
     → Does v call reply change
+
+-- what a draft writes that puts whole blocks alone, each before the end of one of the view's groups, is inside
+abbrev pub DraftsStayInside : Type 0
+DraftsStayInside = (v : Seen) (fates : FinMap nat_cmp Fate) (change : Change) → IsFinished fates change → AreWhole v.size fates
+    → ((b : ℕ) (lock : LockName) (plain : Bool) (bytes : List ℕ) → get fates b ≡ Some (Put lock plain bytes) → (g : Group) × HasGroup v g × (b < end_of g))
+    → AllByRecursion (IsInside v) change.blocks.items

@@ -1,6 +1,6 @@
 //! What the answer of a call over a view means.
 ghost use Rattle.image_changes.specs.Does.{LocksAreTouched, NothingDoes};
-ghost use Rattle.image_changes.specs.Drafted.{DraftsDo, DraftsShow, FinishMakes};
+ghost use Rattle.image_changes.specs.Drafted.{DraftsDo, DraftsShow, DraftsStayInside, FinishMakes};
 
 /// A law: a call that isn't a changing one, or wasn't answered Ok, and is answered as the tree says, does what it should with a
 /// change of nothing.
@@ -17,6 +17,11 @@ pub fn a_draft_is_finished()
 /// A law: an image that agrees with a view has, with the blocks that a draft over the view puts, what the draft sees.
 pub fn drafts_show_what_they_put()
     ensures { DraftsShow }
+{}
+
+/// A law: what a draft writes that puts whole blocks alone, each before the end of one of the view's groups, lies on the device.
+pub fn drafts_stay_inside()
+    ensures { DraftsStayInside }
 {}
 
 /// A law: a changing call that was answered Ok does what it should, where in every image its draft makes one of the four

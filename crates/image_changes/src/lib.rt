@@ -13,7 +13,7 @@ pub use contents::{
 };
 pub use does::{
     a_change_of_nothing_does, a_draft_is_finished, answers_touch_their_locks,
-    drafts_show_what_they_put, one_of_four_changes_does,
+    drafts_show_what_they_put, drafts_stay_inside, one_of_four_changes_does,
 };
 pub use instances::{
     a_file_changes, a_name_is_added, a_name_is_moved, a_name_is_removed, a_small_change_stays_laid,

@@ -22,10 +22,9 @@ use Rattle.drafts.specs.declared.change.Written.{Written}
 use Rattle.image_model.specs.Image.{Image, image_of}
 use Rattle.image_model.specs.Owners.{Owners}
 use Rattle.image_model.specs.Stands.{Layout}
-use Rattle.image_changes.specs.Does.{Does, DoesIn, IsFormed, IsOf, bytes_for, with_change}
+use Rattle.image_changes.specs.Does.{Does, DoesIn, IsFormed, IsInside, IsOf, bytes_for, with_change}
 use Rattle.image_changes.specs.Instances.{StandsBy}
 use Rattle.shared_disk.specs.Disk.{DiskState}
-use Rattle.file_calls.specs.Calls.{IsInside}
 use Rattle.lone_view.specs.Seeing.{Lone, seen_alone}
 use Rattle.lone_node.specs.Answering.{IsAnsweredFrom}
 use Rattle.lone_node.specs.Ends.{IfDamaged, IfNotBuilt}
