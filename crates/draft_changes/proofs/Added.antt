@@ -37,7 +37,7 @@ use Rattle.image_changes.proofs.Frame.{dinode_its, not_its}
 use Rattle.image_changes.proofs.Laid.{follow_dinode}
 use Rattle.image_changes.proofs.Nodes.{among_in, in_among}
 use Rattle.image_changes.proofs.States.{table_says}
-use Rattle.draft_changes.specs.Adding.{alone, heads_with, ReadsNew, AddsName, AddingMakes}
+use Rattle.draft_changes.specs.Adding.{alone, ReadsNew, AddsName, AddingMakes}
 use Rattle.draft_changes.specs.Adding as new
 use Rattle.draft_changes.specs.Groups.{PutsGroup}
 use Rattle.draft_changes.proofs.Rows.{of_its, itself_or_within, not_group_free, in_header_or_not, said_free}
@@ -209,11 +209,8 @@ module _ (v : Seen) (call : Call) (fates : FinMap nat_cmp Fate) (im : Image) (o 
   head_parent : heads_of im' o' p ≡ heads_of im o p
   head_parent = ap head_of parent_held ∙ is.exchanged.head
 
-  head_new : heads_of im' o' a ≡ heads_with im o held a
-  head_new = ap head_of new_held ∙ sym (cond-true _ (head_of held) (heads_of im o a) (eq-eqb a a refl))
-
-  head_above : heads_of im' o' p ≡ heads_with im o held p
-  head_above = head_parent ∙ sym (cond-false _ (head_of held) (heads_of im o p) (ne_eqb p a apart))
+  head_new : heads_of im' o' a ≡ head_of held
+  head_new = ap head_of new_held
 
   inodes : (x : ℕ) → among ys x ≡ true → is_dinode (o' x) ≡ true → IsInode (holding im' o' x)
   inodes x h so = elim (which x h) [
@@ -230,18 +227,19 @@ module _ (v : Seen) (call : Call) (fates : FinMap nat_cmp Fate) (im : Image) (o 
   change : IsChange im im' o o' l (among ys) (is_drafted fates)
   change = framed_change im o o' l fates ys gs framed inodes (λ b x h w. dinodes x h) heads
 
-  record_of_same : (heads heads' : ℕ → Head) (b : ℕ) (r : Record) → heads' b ≡ heads b → IsRecordOf heads b r → IsRecordOf heads' b r
-  record_of_same heads heads' b r e of = record { address = of.address; number = of.number ∙ ap (λ (h : Head). h.number) (sym e); kind = of.kind ∙ ap kind_of (sym e) }
+  -- a record of an inode is one by the table of all
+  record_here : (head : Head) (b : ℕ) (r : Record) → heads_of im' o' b ≡ head → IsRecordOf (λ c. head) b r → IsRecordOf (heads_of im' o') b r
+  record_here head b r e of = record { address = of.address; number = of.number ∙ ap (λ (h : Head). h.number) (sym e); kind = of.kind ∙ ap kind_of (sym e) }
 
-  reads : (w : Tree) → ReadsNew (heads_with im o held) p held w → IsNew im' o' p a w
+  reads : (w : Tree) → ReadsNew (heads_of im o p) p held w → IsNew im' o' p a w
   reads _ (new.empty_file not size) = empty_file (ap is_directory_in new_held ∙ not) (ap (λ h. (dinode_in h).size) new_held ∙ size)
-  reads _ (new.empty_directory so bare) = empty_directory (ap is_directory_in new_held ∙ so)
+  reads _ (new.empty_directory bare) = empty_directory (ap is_directory_in new_held ∙ bare.directory)
       (subst (λ h. IsBare (heads_of im' o') a p (records_of h) (dinode_in h)) (sym new_held) (record {
         dot = bare.dot;
         dots = bare.dots;
         are = bare.are;
-        dot_is = (bare.dot_is.0, record_of_same (heads_with im o held) (heads_of im' o') a bare.dot head_new bare.dot_is.1);
-        dots_is = (bare.dots_is.0, record_of_same (heads_with im o held) (heads_of im' o') p bare.dots head_above bare.dots_is.1);
+        dot_is = (bare.dot_is.0, record_here (head_of held) a bare.dot head_new bare.dot_is.1);
+        dots_is = (bare.dots_is.0, record_here (heads_of im o p) p bare.dots head_parent bare.dots_is.1);
         entries = bare.entries;
         links = bare.links;
       }))
@@ -257,7 +255,7 @@ module _ (v : Seen) (call : Call) (fates : FinMap nat_cmp Fate) (im : Image) (o 
     absent = is.absent;
     entry = is.entry;
     named = is.named;
-    true_of = record_of_same (heads_with im o held) (heads_of im' o') a is.entry head_new is.true_of;
+    true_of = record_here (head_of held) a is.entry head_new is.true_of;
     exchanged = subst (λ h. IsExchanged (records_of (holding im o p)) (records_of h) [] (is.entry ∷ [])) (sym parent_held) is.exchanged.records;
     counted = subst (λ h. IsCounted (dinode_in (holding im o p)) (dinode_in h) [] (is.entry ∷ [])) (sym parent_held) is.exchanged.counted;
     new = reads u is.new;

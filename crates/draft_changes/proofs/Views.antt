@@ -1,13 +1,13 @@
 -- What a view, or a draft over it, shows of an image.
-use Rattle.std.proofs.Common.{◌≡◌, ℕ, suc, ◌<◌, ◌⊎◌, inl, inr, true, true≢false, List, [], ◌∷◌, length, Option, None, Some, refl, sym, ap, ◌∙◌, subst, arith}
-use Rattle.std.specs.Prelude.{IsSome, is_some, map, unwrap_or, option_map}
+use Rattle.std.proofs.Common.{◌≡◌, ℕ, suc, ◌<◌, ◌⊎◌, inl, inr, true≢false, List, [], ◌∷◌, length, Option, None, Some, refl, sym, ap, ◌∙◌, subst, arith}
+use Rattle.std.specs.Prelude.{IsSome, map, unwrap_or, option_map}
 use Rattle.std.specs.FinMap.{get}
 use Rattle.drafts.specs.Fates.{block_with, seen_with}
 use Rattle.drafts.specs.declared.fate.Fate.{Fate}
 use Rattle.drafts.specs.declared.fate.Fate.TheVariants.{Put, Freed}
 use Rattle.gfs2_layout.specs.Holding.{Part, Itself, Pointed, InChain, Cell, cell_part, part_at}
 use Rattle.gfs2_layout.specs.declared.rindex.Rindex.{Rindex}
-use Rattle.glock_names.specs.Views.{HasBlock, HasGroup, group_of_entry}
+use Rattle.glock_names.specs.Views.{HasGroup, group_of_entry}
 use Rattle.glock_names.specs.declared.views.Group.{Group}
 use Rattle.linear_dirs.specs.Shown.{bytes_over}
 use Rattle.resource_groups.specs.Putting.{seen_or}

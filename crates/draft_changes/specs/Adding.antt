@@ -1,5 +1,6 @@
 -- A draft that adds a name: in an image, the directory gets a record more, and a block that was free a new inode's dinode.
-use Rattle.std.specs.Prelude.{ℕ, ◌≡◌, ◌≢◌, ◌-◌, ◌==◌, true, false, if◌then◌else◌, List, [], ◌∷◌, slice_set, None, Some}
+use Rattle.std.specs.Prelude.{ℕ, ◌≡◌, ◌≢◌, ◌-◌, ◌==◌, true, false, if◌then◌else◌, List, [], ◌∷◌, codes, slice_set, None, Some}
+use Rattle.std.specs.List.Sorted.{IsPermutation}
 use Rattle.std.specs.Ordering.{nat_cmp}
 use Rattle.std.specs.FinMap.{FinMap, get}
 use Rattle.file_tree.specs.Tree.{Tree, file, dir, none}
@@ -23,7 +24,6 @@ use Rattle.image_model.specs.Groups.{IsListed, IsHeaderOf, IsDataOf, group_block
 use Rattle.image_model.specs.Image.{Image}
 use Rattle.image_model.specs.Owners.{Owners, holding}
 use Rattle.image_model.specs.Stands.{Layout, IsRecordOf, heads_of}
-use Rattle.image_changes.specs.Directories.{IsBare}
 use Rattle.image_changes.specs.Does.{IsOf}
 use Rattle.image_changes.specs.Drafted.{MakesIn, with_draft}
 use Rattle.image_changes.specs.Flats.{in_directory}
@@ -34,14 +34,21 @@ use Rattle.draft_changes.specs.Groups.{PutsGroup}
 abbrev pub alone : ℕ → ℕ → ℕ → List ℕ → Holding
 alone size count block bytes = record { size = size; count = count; own = block; cell = λ b. if b == block then Some (record { part = Itself; bytes = bytes }) else None }
 
--- number and kind of each inode of an image, and of one more
-abbrev pub heads_with : Image → Owners → Holding → ℕ → Head
-heads_with im o h b = if b == h.own then head_of h else heads_of im o b
+-- a directory without a name: `.` is its record of itself, and `..` that of its parent, which has this number and kind
+pub record IsEmptyDirectory (above : Head) (parent : ℕ) (h : Holding) : Type 0 where
+  pub directory : is_directory_in h ≡ true
+  pub dot : Record
+  pub dots : Record
+  pub are : IsPermutation (records_of h) (dot ∷ (dots ∷ []))
+  pub dot_is : (dot.name ≡ codes ".") × IsRecordOf (λ b. head_of h) h.own dot
+  pub dots_is : (dots.name ≡ codes "..") × IsRecordOf (λ b. above) parent dots
+  pub entries : (dinode_in h).entries ≡ 2
+  pub links : (dinode_in h).nlink ≡ 2
 
 -- a new inode reads as a file without content, or as a directory without a name
-pub data ReadsNew (heads : ℕ → Head) (parent : ℕ) (h : Holding) : Tree → Type 0 where
-  empty_file : is_directory_in h ≡ false → (dinode_in h).size ≡ 0 → ReadsNew heads parent h (file [])
-  empty_directory : is_directory_in h ≡ true → IsBare heads h.own parent (records_of h) (dinode_in h) → ReadsNew heads parent h (dir none)
+pub data ReadsNew (above : Head) (parent : ℕ) (h : Holding) : Tree → Type 0 where
+  empty_file : is_directory_in h ≡ false → (dinode_in h).size ≡ 0 → ReadsNew above parent h (file [])
+  empty_directory : IsEmptyDirectory above parent h → ReadsNew above parent h (dir none)
 
 -- In one image the draft adds the name of the inode in block a to the directory.
 pub record AddsName (im : Image) (o : Owners) (l : Layout) (fates : FinMap nat_cmp Fate) (parent : ℕ) (name : List ℕ) (a : ℕ) (u : Tree) : Type 0 where
@@ -56,14 +63,14 @@ pub record AddsName (im : Image) (o : Owners) (l : Layout) (fates : FinMap nat_c
   pub bytes : List ℕ
   pub put : get fates a ≡ Some (Put (record { kind = 2; number = a }) false bytes)
   pub sound : IsInode (alone im.size im.count a bytes)
-  pub new : ReadsNew (heads_with im o (alone im.size im.count a bytes)) parent (alone im.size im.count a bytes) u
+  pub new : ReadsNew (heads_of im o parent) parent (alone im.size im.count a bytes) u
   -- the directory, with a record more
   pub is_name : IsName name
   pub directory : is_directory_at im o parent ≡ true
   pub absent : child_named (records_at im o parent) name ≡ None
   pub entry : Record
   pub named : entry.name ≡ name
-  pub true_of : IsRecordOf (heads_with im o (alone im.size im.count a bytes)) a entry
+  pub true_of : IsRecordOf (λ b. head_of (alone im.size im.count a bytes)) a entry
   pub parent_bytes : List ℕ
   pub parent_put : get fates parent ≡ Some (Put (record { kind = 2; number = parent }) false parent_bytes)
   pub exchanged : HasExchanged (holding im o parent) (holding (with_draft im fates) o parent) [] (entry ∷ [])

@@ -1,7 +1,12 @@
 //! What is told of a view, or of a draft over it, as what it is in an image that the view may be of.
 ghost use Rattle.draft_changes.specs.Shown.{
-    GroupsAreListed, HaveTheseBlocks, LaterShows, NoneHasTheFirst, ShowsBlocks, ShowsGroups,
-    ShowsInodes,
+  GroupsAreListed,
+  HaveTheseBlocks,
+  LaterShows,
+  NoneHasTheFirst,
+  ShowsBlocks,
+  ShowsGroups,
+  ShowsInodes,
 };
 
 /// A law: what a draft over a view shows of an inode, of blocks or of a group is that of the image with the draft, whichever
