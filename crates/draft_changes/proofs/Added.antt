@@ -41,7 +41,7 @@ use Rattle.draft_changes.specs.Adding.{alone, ReadsNew, AddsName, AddingMakes}
 use Rattle.draft_changes.specs.Adding as new
 use Rattle.draft_changes.specs.Groups.{PutsGroup}
 use Rattle.draft_changes.proofs.Rows.{of_its, itself_or_within, not_group_free, in_header_or_not, said_free}
-use Rattle.draft_changes.proofs.Framed.{none_drafted, put_drafted, freed_drafted, put_not_gone, bytes_put, MakesOf, leaves, of_inodes, of_header, IsFramed, framed_change, header_written, header_row, group_written, dinode_written}
+use Rattle.draft_changes.proofs.Framed.{none_drafted, put_drafted, freed_drafted, put_not_gone, bytes_put, MakesOf, leaves, of_inodes, of_header, IsFramed, framed_change, header_written, header_row, header_kept, group_written, dinode_written}
 
 module _ (v : Seen) (call : Call) (fates : FinMap nat_cmp Fate) (im : Image) (o : Owners) (l : Layout) (t : Tree) (path : Path) (p : ℕ) (name : List ℕ) (a : ℕ) (u : Tree)
     (here : IsOf v im o l t) (at : IsAt im o l path p) (is : AddsName im o l fates p name a u) where
@@ -293,7 +293,7 @@ module _ (v : Seen) (call : Call) (fates : FinMap nat_cmp Fate) (im : Image) (o 
   none_freed b e = elim (where_drafted b (freed_drafted fates b e)) [
     | inl same ↦ true≢false (sym e ∙ ap (is_freed fates) same ∙ put_not_gone fates a _ _ _ is.put)
     | inr (inl same) ↦ true≢false (sym e ∙ ap (is_freed fates) same ∙ put_not_gone fates p _ _ _ is.parent_put)
-    | inr (inr h) ↦ true≢false (sym e ∙ is.states.kept b h)
+    | inr (inr h) ↦ true≢false (sym e ∙ header_kept im o o' l fates ys gs framed is.group (inl refl) b h)
   ]
 
   -- of the group the block is taken

@@ -24,7 +24,7 @@ use Rattle.image_changes.specs.Drafted.{is_gone, is_put, is_freed, is_drafted, w
 use Rattle.image_changes.specs.Instances.{among}
 use Rattle.image_changes.proofs.Frame.{dinode_its, inode_cover}
 use Rattle.image_changes.proofs.Laid.{one_group}
-use Rattle.draft_changes.specs.Groups.{PutsGroup}
+use Rattle.draft_changes.specs.Groups.{IsPutUnder, PutsGroup}
 use Rattle.draft_changes.proofs.Rows.{its_used, dinode_no_content, same_group, free_lies}
 
 -- ---- what becomes of one block
@@ -183,12 +183,27 @@ module _ (im : Image) (o o' : Owners) (l : Layout) (fates : FinMap nat_cmp Fate)
       r : (o w.block ≡ InGroup g.address) × (o' w.block ≡ InGroup g.address)
       r = header_row g at w.block h
 
+      same : (bytes : List ℕ) → Put lock w.plain w.bytes ≡ Put (record { kind = 3; number = g.address }) false bytes → (lock ≡ record { kind = 3; number = g.address }) × (w.plain ≡ false)
+      same bytes e = (cc, cc)
+
+      by : (get fates w.block ≡ None) ⊎ IsPutUnder fates g w.block → (lock ≡ record { kind = 3; number = g.address }) × (w.plain ≡ false)
+      by (inl none) = absurd (none_some (sym none ∙ e))
+      by (inr so) = same so.0 (some_same (sym e ∙ so.1))
+
       put : (lock ≡ record { kind = 3; number = g.address }) × (w.plain ≡ false)
-      put = (is.groups g at).locks w.block lock w.plain w.bytes h e
+      put = by ((is.groups g at).blocks w.block h)
+
+  -- none of them is freed
+  pub header_kept : (g : Rindex) → IsIn g gs → (b : ℕ) → IsHeaderOf g b → is_freed fates b ≡ false
+  header_kept g at b h = by ((is.groups g at).blocks b h)
+    where
+      by : (get fates b ≡ None) ⊎ IsPutUnder fates g b → is_freed fates b ≡ false
+      by (inl none) = ap is_gone none
+      by (inr so) = ap is_gone so.1
 
   -- some block of each group is written
   pub group_written : (g : Rindex) → IsIn g gs → (n : ℕ) × (is_put fates n ≡ true) × (o' n ≡ InGroup g.address)
-  group_written g at = let s = (is.groups g at).some in (s.0, s.2, (header_row g at s.0 s.1).1)
+  group_written g at = let s = (is.groups g at).some in (s.0, ap (λ f. is_some (block_with f None)) s.2.1, (header_row g at s.0 s.1).1)
 
 -- ---- the block of a dinode
 

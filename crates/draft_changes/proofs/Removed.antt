@@ -39,7 +39,7 @@ use Rattle.image_changes.proofs.States.{map_same}
 use Rattle.draft_changes.specs.Groups.{PutsGroup}
 use Rattle.draft_changes.specs.Removing.{HasSome, states_without, RemovesName, RemovingMakes}
 use Rattle.draft_changes.proofs.Rows.{of_its, its_used, cell_its, its_cell, not_group_free, header_among, same_group}
-use Rattle.draft_changes.proofs.Framed.{none_drafted, put_drafted, gone_drafted, gone_there, put_not_gone, MakesOf, leaves, of_inodes, of_header, IsFramed, framed_change, header_written, header_row, group_written, dinode_written}
+use Rattle.draft_changes.proofs.Framed.{none_drafted, put_drafted, gone_drafted, gone_there, put_not_gone, MakesOf, leaves, of_inodes, of_header, IsFramed, framed_change, header_written, header_row, header_kept, group_written, dinode_written}
 
 -- the group in whose data blocks a block lies
 abbrev number_of : {groups : List Rindex} {b : ℕ} → Lies groups b → ℕ
@@ -302,7 +302,7 @@ module _ (v : Seen) (call : Call) (fates : FinMap nat_cmp Fate) (im : Image) (o 
       by : Drafts b → among is.blocks b ≡ true
       by (freed_block h) = h
       by (of_parent h same) = absurd (true≢false (sym e ∙ ap (is_freed fates) same ∙ put_not_gone fates p _ _ _ is.parent_put))
-      by (of_group h g k head) = absurd (true≢false (sym e ∙ (framed.groups g k).kept b head))
+      by (of_group h g k head) = absurd (true≢false (sym e ∙ header_kept im o o' l fates ys gs framed g k b head))
       by (of_none h none) = absurd (none_some (sym none ∙ gone_there fates b e))
 
   freed : (b : ℕ) → is_freed fates b ≡ true → IsFreed (is_put fates) (is_freed fates) o o' b
