@@ -19,7 +19,7 @@ other : {X : Type 0} (x a : ℕ) (s : Option X) → (x ≡ a → ⊥) → (if x 
 other x a s d = cond-false _ s None (ne_eqb x a d)
 
 -- a block of another inode, or of none, is none of this inode's
-not_its : (a b : ℕ) (o : Owner) → (inode_of b o ≡ Some a → ⊥) → part_in a b o ≡ None
+pub not_its : (a b : ℕ) (o : Owner) → (inode_of b o ≡ Some a → ⊥) → part_in a b o ≡ None
 not_its a b Super away = refl
 not_its a b (InGroup g) away = refl
 not_its a b (Free g) away = refl
@@ -41,7 +41,7 @@ dinode_its b Nobody e = absurd (true≢false (sym e))
 dinode_its b (Below d parent k level first) e = absurd (true≢false (sym e))
 dinode_its b (Chained d hash place) e = absurd (true≢false (sym e))
 
-within_its : (b a : ℕ) (o : Owner) → IsWithin a o → inode_of b o ≡ Some a
+pub within_its : (b a : ℕ) (o : Owner) → IsWithin a o → inode_of b o ≡ Some a
 within_its b a (Below d parent k level first) e = ap Some e
 within_its b a (Chained d hash place) e = ap Some e
 within_its b a Super e = elim e [ ]

@@ -1,0 +1,6 @@
+pub mod Views
+pub mod Rows
+pub mod Framed
+pub mod Added
+pub mod Removed
+pub mod Rewritten

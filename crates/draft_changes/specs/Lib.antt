@@ -1,0 +1,5 @@
+pub mod Groups
+pub mod Shown
+pub mod Adding
+pub mod Removing
+pub mod Rewriting

@@ -1,0 +1,13 @@
+//! What a call's draft shows so that it makes one of the four changes of an image: laws only. The functions do nothing: their
+//! contracts are the laws.
+#![tactic(auto)]
+
+mod adding;
+mod removing;
+mod rewriting;
+mod shown;
+
+pub use adding::drafts_add_names;
+pub use removing::drafts_remove_names;
+pub use rewriting::drafts_change_files;
+pub use shown::{drafts_show_images, inodes_have_these_blocks, views_have_listed_groups};
