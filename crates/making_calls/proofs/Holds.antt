@@ -1,8 +1,8 @@
 -- Locks of a longer list, and what is found under them.
-use Rattle.std.proofs.Common.{◌≡◌, ℕ, zero, suc, ◌+◌, ◌*◌, ◌<◌, ◌≤◌, true, false, List, [], ◌∷◌, ◌++◌, length, map, take, flat_map, slice_get, Option, None, Some, refl, sym, ap, ap₂, subst, ◌∙◌, arith}
+use Rattle.std.proofs.Common.{◌≡◌, ℕ, zero, suc, ◌+◌, ◌*◌, ◌<◌, ◌≤◌, true, false, List, [], ◌∷◌, ◌++◌, length, map, take, drop, flat_map, slice_get, Option, None, Some, refl, sym, ap, ap₂, subst, subst₂, ◌∙◌, arith}
 use Rattle.std.specs.Prelude.{nat_lt, if◌then◌else◌}
 use Rattle.std.proofs.lemmas.Bool.{cond-true, cond-false}
-use Rattle.std.proofs.lemmas.List.{append-nil, append_assoc, length-append}
+use Rattle.std.proofs.lemmas.List.{append_assoc, length-append, map-append}
 use Rattle.std.proofs.lemmas.List.Elements.{All-append, All-push, All-nil}
 use Rattle.glock_names.specs.Views.{Seen, HasGroup}
 use Rattle.glock_names.specs.declared.LockName.{LockName}
@@ -12,6 +12,7 @@ use Rattle.glock_names.specs.declared.steps.Missing.{Missing}
 use Rattle.glock_names.specs.declared.views.Group.{Group}
 use Rattle.resource_groups.specs.Shown.{said}
 use Rattle.image_model.proofs.Held.{some_same, none_some}
+use Rattle.path_walks.proofs.Lists.{split_at, take_next, with_next}
 use Rattle.path_walks.specs.Holds.{Hold, AreHeld, IsFirstLack, holds, hold_of, hold_for}
 use Rattle.making_calls.specs.Blocks.{States, blocks_needed, free_in, free_in_all, free_for, hold_of_group, group_holds, block_holds}
 use Rattle.making_calls.specs.Searches.{IsGroupBlock, IsUnder, AreFreeIn, AreFreeInAll, IsFirstRoom, IsRoom, IsTaken, first_of, room_in, taken_from}
@@ -175,3 +176,36 @@ all_taken v says groups own r none is = by r.first is.first
     by : (first : Option Room) → IsFirstRoom v says (free_in_all says groups) first → IsTaken v says groups own (taken_from r.count first)
     by None no = (is.count, subst (λ n. n < blocks_needed) (sym is.count) (no_length (free_in_all says groups) no), no_length (free_in says own) empty)
     by (Some room) one = record { has = one.has; data_block = one.data_block; free = one.free; first = ap (λ xs. slice_get (xs ++ free_in_all says groups) 0) empty ∙ one.first }
+
+-- ---- one group after another
+
+list_at : (gs : List Group) (i : ℕ) (x : Group) → slice_get gs i ≡ Some x → map hold_of_group gs ≡ (map hold_of_group (take i gs) ++ hold_of_group x ∷ []) ++ map hold_of_group (drop (suc i) gs)
+list_at gs i x at =
+    ap (map hold_of_group) (split_at gs i x at) ∙ map-append hold_of_group (take i gs) (x ∷ drop (suc i) gs)
+    ∙ sym (append_assoc (map hold_of_group (take i gs)) (hold_of_group x ∷ []) (map hold_of_group (drop (suc i) gs)))
+
+pub more_held : (v : Seen) (gs : List Group) (i : ℕ) (x : Group) → slice_get gs i ≡ Some x → AreHeld v (map hold_of_group (take i gs)) → AreHeld v (hold_of_group x ∷ []) → AreHeld v (map hold_of_group (take (suc i) gs))
+more_held v gs i x at held now =
+    subst (AreHeld v) (sym (ap (map hold_of_group) (take_next gs i x at) ∙ map-append hold_of_group (take i gs) (x ∷ []))) (All-append (λ h. holds v h ≡ true) (map hold_of_group (take i gs)) (hold_of_group x ∷ []) held now)
+
+pub lack_at : (v : Seen) (gs : List Group) (i : ℕ) (x : Group) (lock : LockName) (state : State) → slice_get gs i ≡ Some x → AreHeld v (map hold_of_group (take i gs)) → IsFirstLack v (hold_of_group x ∷ []) lock state
+    → IsFirstLack v (map hold_of_group gs) lock state
+lack_at v gs i x lock state at held is =
+    subst (λ list. IsFirstLack v list lock state) (sym (list_at gs i x at))
+    (lack_before v (map hold_of_group (take i gs) ++ hold_of_group x ∷ []) (map hold_of_group (drop (suc i) gs)) lock state (lack_behind v (map hold_of_group (take i gs)) (hold_of_group x ∷ []) lock state held is))
+
+pub block_at : (v : Seen) (gs : List Group) (i : ℕ) (x : Group) (m : Missing) → slice_get gs i ≡ Some x → AreHeld v (map hold_of_group (take i gs)) → IsGroupBlock v (hold_of_group x ∷ []) m
+    → IsGroupBlock v (map hold_of_group gs) m
+block_at v gs i x m at held is =
+    subst (λ list. IsGroupBlock v list m) (sym (list_at gs i x at))
+    (block_before v (map hold_of_group (take i gs) ++ hold_of_group x ∷ []) (map hold_of_group (drop (suc i) gs)) m (block_behind v (map hold_of_group (take i gs)) (hold_of_group x ∷ []) m held is))
+
+pub one_more : (v : Seen) (at : ℕ → List ℕ) (gs : List Group) (i : ℕ) (x : Group) (r r' : Rooms) (f : FreeBlocks) → slice_get gs i ≡ Some x → HasGroup v x → AreFreeInAll v (said at) (take i gs) r → AreFreeIn (said at) x f
+    → r'.count ≡ r.count + f.count → r'.first ≡ first_of r.first (room_in x f.least) → AreFreeInAll v (said at) (take (suc i) gs) r'
+one_more v at gs i x r r' f there has before free counts first = record {
+  count = counts ∙ ap₂ (λ a b. a + b) before.count free.count ∙ sym (length-append (free_in_all (said at) (take i gs)) (free_in (said at) x)) ∙ ap length (sym longer);
+  first = subst₂ (IsFirstRoom v (said at)) (sym longer) (sym first) (with_group v at (free_in_all (said at) (take i gs)) r.first x f has before.first free);
+}
+  where
+    longer : free_in_all (said at) (take (suc i) gs) ≡ free_in_all (said at) (take i gs) ++ free_in (said at) x
+    longer = with_next (free_in (said at)) gs i x there

@@ -40,5 +40,17 @@ pub fn attempt<V: View>(
     ensures damaged { IfDamaged result (IsDamage (V.seen view.now) call.now) }
     ensures kept { IfDamaged result (IsOfView (V.seen view.now)) }
 {
+    // The body is still to be written; all clauses hold of this answer, which every call may give. The steps, each a function of its own:
+    // 1. A path without names: `Exists`, with a change of nothing; no lock is wanted.
+    // 2. `walk_along` over all names but the last with `wants(call)`, whose list is `way_to` of the directory's path (proofs as those of
+    //    read_calls' `find`). At a file: `NotDir`; at a hashed directory: `NotBuilt`.
+    // 3. `look` of the last name: there: `Exists`. The law `walks_end_at_absent_names` and `apply` give `done` of these answers.
+    // 4. The directory is a data block of a group (`group_of`), else rule 2 is broken there; its formal number isn't zero, else rule 7.
+    // 5. `find_block`; proofs/InImage.antt makes of its clauses those of an image (`are_shown`, `holds_said`, `group_asked`), and puts
+    //    the list of the path before (`lack_behind`, `asked_behind`).
+    // 6. `add_name` of src/drafting.rt, whose clause `adds` is `adds_name` of proofs/Chain.antt with proofs/NewInodes.antt; then `finish`, the
+    //    law `drafts_add_names`, and the law `one_of_four_changes_does`.
+    // For `damaged` of `touch` and `insert` over the draft, what `look` found must tell that the directory's height is 0 (`area_of` of linear_dirs
+    // knows it: `IsDirectoryOf.stuffed`): then a holding that the view shows, over the draft, is shown by the draft, for no pointer leads on.
     Err(CallFault::NoMemory)
 }
