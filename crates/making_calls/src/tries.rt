@@ -48,7 +48,7 @@ pub fn attempt<V: View>(
     // 4. The directory is a data block of a group (`group_of`), else rule 2 is broken there; its formal number isn't zero, else rule 7.
     // 5. `find_block`; proofs/InImage.antt makes of its clauses those of an image (`are_shown`, `holds_said`, `group_asked`), and puts
     //    the list of the path before (`lack_behind`, `asked_behind`).
-    // 6. `add_name` of src/drafting.rt, whose clause `adds` is `adds_name` of proofs/Chain.antt with proofs/NewInodes.antt; then `finish`, the
+    // 6. `add_name` of unproved/drafting.rt, whose clause `adds` is `adds_name` of proofs/Chain.antt with proofs/NewInodes.antt; then `finish`, the
     //    law `drafts_add_names`, and the law `one_of_four_changes_does`.
     // For `damaged` of `touch` and `insert` over the draft, what `look` found must tell that the directory's height is 0 (`area_of` of linear_dirs
     // knows it: `IsDirectoryOf.stuffed`): then a holding that the view shows, over the draft, is shown by the draft, for no pointer leads on.

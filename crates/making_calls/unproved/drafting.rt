@@ -1,4 +1,4 @@
-// A name made in a draft. NOT YET PART OF THE CRATE: src/lib.rt doesn't name this file, for its clauses have no proofs. The order of the
+// A name made in a draft. NOT YET PART OF THE CRATE: to be src/drafting.rt, when its clauses have proofs. The order of the
 // steps is that of proofs/Chain.antt (`AreSteps`), whose `adds_name` gives the clause `adds`.
 ghost use Rattle.std.specs.Prelude.{ℕ, List, ◌≡◌, ◌≢◌, ◌⊎◌, ◌≤◌, true, false, length, None, OnOk, OnErr};
 ghost use Rattle.std.specs.List.{list_any};
