@@ -1,0 +1,4 @@
+pub mod Lists
+pub mod Imaged
+pub mod Trees
+pub mod Doing

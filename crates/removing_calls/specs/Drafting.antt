@@ -9,7 +9,7 @@ use Rattle.drafts.specs.declared.fate.Fate.TheVariants.{Put}
 use Rattle.gfs2_layout.specs.Holding.{Holding}
 use Rattle.gfs2_layout.specs.Inode.{records_of}
 use Rattle.gfs2_layout.specs.Records.{Record, record_named}
-use Rattle.glock_names.specs.Views.{Seen}
+use Rattle.glock_names.specs.Views.{Seen, IsView}
 use Rattle.dinode_tree.specs.Reading.{inode_lock}
 use Rattle.dinode_tree.specs.Shown.{IsShown}
 use Rattle.linear_dirs.specs.Broken.{IsBroken}
@@ -48,6 +48,7 @@ pub record IsFreedAndDone {V : Type 0} (seen : V → Seen) (old : Drafted V) (bl
 
 -- The change is that of a draft over the view in which the directory has other times and lacks the name, and these blocks are freed.
 pub record IsRemoval {V : Type 0} (seen : V → Seen) (view : V) (dir : ℕ) (name : List ℕ) (blocks : List ℕ) (change : Change) : Type 0 where
+  pub shows : IsView (seen view)
   pub time : ℕ
   pub fates : FinMap nat_cmp Fate
   pub taken : IsNameTaken (seen view) dir name time fates

@@ -93,6 +93,7 @@ pub(crate) fn removal<V: View>(
     ensures damaged { IfDamaged result (IsWrongIn (V.seen view.now) dir blocks.now) }
     ensures kept { IfDamaged result (IsOfView (V.seen view.now)) }
 {
+    let _size = view.block_size();
     let mut draft = Draft::new(alloc, view);
     take_name(&mut draft, dir, name, time)?;
     free_and_finish(draft, blocks)
