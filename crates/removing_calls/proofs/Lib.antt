@@ -2,3 +2,6 @@ pub mod Lists
 pub mod Imaged
 pub mod Trees
 pub mod Doing
+pub mod Above
+pub mod Listed
+pub mod Found

@@ -1,5 +1,5 @@
 -- What the tree answers a call that removes a name, by the inode at its path's end.
-use Rattle.std.proofs.Common.{◌≡◌, ◌≢◌, ◌+◌, ◌&&◌, ℕ, true, false, true≢false, List, [], ◌∷◌, ◌++◌, None, Some, refl, sym, ap, ◌∙◌, subst, arith}
+use Rattle.std.proofs.Common.{◌≡◌, ◌≢◌, ◌+◌, ◌&&◌, ℕ, Bool, true, false, true≢false, List, [], ◌∷◌, ◌++◌, None, Some, refl, sym, ap, ◌∙◌, subst, arith}
 use Rattle.std.proofs.lemmas.List.{append-nil}
 use Rattle.std.specs.Prelude.{if◌then◌else◌}
 use Rattle.cluster_history.specs.Changes.{is_ok, may_change, Changes}
@@ -9,6 +9,7 @@ use Rattle.file_tree.specs.declared.call.Call.{Call}
 use Rattle.file_tree.specs.declared.call.Call.TheVariants as call
 use Rattle.file_tree.specs.declared.reply.Reply.{Reply}
 use Rattle.file_tree.specs.declared.reply.Reply.TheVariants as reply
+use Rattle.gfs2_layout.specs.Holding.{Holding}
 use Rattle.gfs2_layout.specs.Inode.{dinode_in, is_directory_in, is_hashed_in, content_of}
 use Rattle.glock_names.specs.Views.{Seen}
 use Rattle.call_locks.specs.Wants.{wanted}
@@ -26,7 +27,7 @@ use Rattle.image_changes.proofs.Nodes.{file_thing}
 use Rattle.image_changes.proofs.Walks.{walks_find}
 use Rattle.path_walks.specs.Holds.{Hold, holds_in}
 use Rattle.path_walks.proofs.Images.{is_inode}
-use Rattle.removing_calls.specs.Removing.{IsRemoving, IsAimOf, IsLastOf, holds_for}
+use Rattle.removing_calls.specs.Removing.{IsRemoving, IsAimOf, IsFileAim, IsDirectoryAim, IsLastOf, holds_for}
 use Rattle.removing_calls.specs.declared.aims.Aim.TheVariants as aim
 
 -- the answer where the walk to the name ends so
@@ -132,3 +133,107 @@ module _ (v : Seen) (im : Image) (o : Owners) (l : Layout) (t : Tree) (of : IsOf
   full_refused name last is more =
       let names = listed is in
       full names.entries names.walks (λ e. more (omega (arith, names.counted, e))) name last
+
+-- ---- what is made of the inode at the path's end
+
+-- a refusal isn't Ok
+pub aim_not_ok : (c : Call) (h : Holding) (r : Reply) → IsAimOf c h (aim.Refused r) → is_ok r ≡ false
+aim_not_ok c h reply.IsDir is = refl
+aim_not_ok c h reply.NotDir is = refl
+aim_not_ok c h reply.NotEmpty is = refl
+aim_not_ok c h (reply.Stat kind size) is = refl
+aim_not_ok c h (reply.Bytes bytes) is = refl
+aim_not_ok c h (reply.Names names) is = refl
+aim_not_ok c h reply.NotFound is = refl
+aim_not_ok c h reply.Exists is = refl
+aim_not_ok c h reply.Inside is = refl
+aim_not_ok c h reply.TooBig is = refl
+aim_not_ok c h reply.NoSpace is = refl
+aim_not_ok (call.Unlink p) h reply.Ok is = absurd is
+aim_not_ok (call.Rmdir p) h reply.Ok is = absurd is
+aim_not_ok (call.Create p) h reply.Ok is = absurd is
+aim_not_ok (call.Mkdir p) h reply.Ok is = absurd is
+aim_not_ok (call.Read p at count) h reply.Ok is = absurd is
+aim_not_ok (call.Dread p at count) h reply.Ok is = absurd is
+aim_not_ok (call.Write p at new) h reply.Ok is = absurd is
+aim_not_ok (call.Truncate p size) h reply.Ok is = absurd is
+aim_not_ok (call.Stat p) h reply.Ok is = absurd is
+aim_not_ok (call.List p) h reply.Ok is = absurd is
+aim_not_ok (call.Rename p q) h reply.Ok is = absurd is
+aim_not_ok call.Sync h reply.Ok is = absurd is
+
+module _ (v : Seen) (im : Image) (o : Owners) (l : Layout) (t : Tree) (of : IsOf v im o l t) where
+  unlink_refusal : (p : Path) (name : List ℕ) (a : ℕ) → IsLastOf p name → IsAt im o l p a → (r : Reply) → IsFileAim (holding im o a) (aim.Refused r) → unlink t p ≡ refuse r t
+  unlink_refusal p name a last at reply.IsDir is = directory_refused v im o l t of p a at name last is
+  unlink_refusal p name a last at reply.NotDir is = absurd is
+  unlink_refusal p name a last at reply.NotEmpty is = absurd is
+  unlink_refusal p name a last at (reply.Stat kind size) is = absurd is
+  unlink_refusal p name a last at (reply.Bytes bytes) is = absurd is
+  unlink_refusal p name a last at (reply.Names names) is = absurd is
+  unlink_refusal p name a last at reply.NotFound is = absurd is
+  unlink_refusal p name a last at reply.Exists is = absurd is
+  unlink_refusal p name a last at reply.Inside is = absurd is
+  unlink_refusal p name a last at reply.TooBig is = absurd is
+  unlink_refusal p name a last at reply.NoSpace is = absurd is
+  unlink_refusal p name a last at reply.Ok is = absurd is
+
+  rmdir_refusal : (p : Path) (name : List ℕ) (a : ℕ) → IsLastOf p name → IsAt im o l p a → (r : Reply) → IsDirectoryAim (holding im o a) (aim.Refused r) → rmdir t p ≡ refuse r t
+  rmdir_refusal p name a last at reply.NotDir is = file_refused v im o l t of p a at name last is
+  rmdir_refusal p name a last at reply.NotEmpty is = full_refused v im o l t of p a at name last is.0 is.1
+  rmdir_refusal p name a last at reply.IsDir is = absurd is
+  rmdir_refusal p name a last at (reply.Stat kind size) is = absurd is
+  rmdir_refusal p name a last at (reply.Bytes bytes) is = absurd is
+  rmdir_refusal p name a last at (reply.Names names) is = absurd is
+  rmdir_refusal p name a last at reply.NotFound is = absurd is
+  rmdir_refusal p name a last at reply.Exists is = absurd is
+  rmdir_refusal p name a last at reply.Inside is = absurd is
+  rmdir_refusal p name a last at reply.TooBig is = absurd is
+  rmdir_refusal p name a last at reply.NoSpace is = absurd is
+  rmdir_refusal p name a last at reply.Ok is = absurd is
+
+  -- the tree refuses so
+  pub aim_refuses : (c : Call) (name : List ℕ) (a : ℕ) → IsLastOf (path_of c false) name → IsAt im o l (path_of c false) a → (r : Reply) → IsAimOf c (holding im o a) (aim.Refused r) → (apply c t).reply ≡ r
+  aim_refuses (call.Unlink p) name a last at r is = ap (λ (x : Answer). x.reply) (unlink_refusal p name a last at r is)
+  aim_refuses (call.Rmdir p) name a last at r is = ap (λ (x : Answer). x.reply) (rmdir_refusal p name a last at r is)
+  aim_refuses (call.Create p) name a last at r is = absurd is
+  aim_refuses (call.Mkdir p) name a last at r is = absurd is
+  aim_refuses (call.Read p from count) name a last at r is = absurd is
+  aim_refuses (call.Dread p from count) name a last at r is = absurd is
+  aim_refuses (call.Write p from new) name a last at r is = absurd is
+  aim_refuses (call.Truncate p size) name a last at r is = absurd is
+  aim_refuses (call.Stat p) name a last at r is = absurd is
+  aim_refuses (call.List p) name a last at r is = absurd is
+  aim_refuses (call.Rename p q) name a last at r is = absurd is
+  aim_refuses call.Sync name a last at r is = absurd is
+
+  -- or takes the name away, with an inode that names nothing
+  pub record IsTakenBy (c : Call) (a : ℕ) : Type 0 where
+    pub applies : apply c t ≡ removed (path_of c false) t
+    pub childless : IsChildless im o a
+    pub plain : is_hashed_in (holding im o a) ≡ false
+
+  no_directory : (a b : Bool) → a ≡ false → (a && b) ≡ false
+  no_directory true b e = absurd (true≢false e)
+  no_directory false b e = refl
+
+  pub aim_takes : (c : Call) (name : List ℕ) (a : ℕ) → IsLastOf (path_of c false) name → IsAt im o l (path_of c false) a → IsAimOf c (holding im o a) aim.Taken → IsTakenBy c a
+  aim_takes (call.Unlink p) name a last at is = record {
+    applies = file_taken v im o l t of p a at name last is;
+    childless = λ directory. absurd (true≢false (sym directory ∙ is));
+    plain = no_directory (is_directory_in (holding im o a)) _ is;
+  }
+  aim_takes (call.Rmdir p) name a last at is = record {
+    applies = directory_taken v im o l t of p a at name last is.0 is.2;
+    childless = λ directory. is.2;
+    plain = is.1;
+  }
+  aim_takes (call.Create p) name a last at is = absurd is
+  aim_takes (call.Mkdir p) name a last at is = absurd is
+  aim_takes (call.Read p from count) name a last at is = absurd is
+  aim_takes (call.Dread p from count) name a last at is = absurd is
+  aim_takes (call.Write p from new) name a last at is = absurd is
+  aim_takes (call.Truncate p size) name a last at is = absurd is
+  aim_takes (call.Stat p) name a last at is = absurd is
+  aim_takes (call.List p) name a last at is = absurd is
+  aim_takes (call.Rename p q) name a last at is = absurd is
+  aim_takes call.Sync name a last at is = absurd is

@@ -25,9 +25,10 @@ use Rattle.image_model.specs.Flat.{Path, follow}
 use Rattle.image_model.specs.Image.{Image}
 use Rattle.image_model.specs.Owners.{Owners}
 use Rattle.image_model.specs.Stands.{Layout, flat_of}
-use Rattle.path_walks.specs.Holds.{Hold, AreHeld, IsAskedFor, IsFirstLack, holds_in}
-use Rattle.path_walks.specs.Walks.{LeadsTo, IsOnTheWay}
+use Rattle.path_walks.specs.Holds.{Hold, AreHeld, EndsWith, IsAskedFor, IsFirstLack, holds_in}
+use Rattle.path_walks.specs.Walks.{LeadsTo, IsOnTheWay, IsPlaceOf}
 use Rattle.path_walks.specs.Walks as path
+use Rattle.path_walks.specs.declared.walk.Place.{Place}
 use Rattle.removing_calls.specs.Groups.{group_holds_of}
 use Rattle.removing_calls.specs.declared.aims.Aim.{Aim}
 use Rattle.removing_calls.specs.declared.aims.Aim.TheVariants as aim
@@ -94,6 +95,12 @@ pub data IsDamage (v : Seen) (call : Call) : ℕ → ℕ → Type 0 where
       → ((at : ℕ → List ℕ) → group.IsShown v g at → IsBroken at g rule c) → IsDamage v call rule c
 
 -- ---- in an image that the view may be of
+
+-- the walk came to this place, the inode's lock is the last of the path's, and each of these is held
+pub record IsReachedIn (v : Seen) (im : Image) (o : Owners) (l : Layout) (call : Call) (p : Place) : Type 0 where
+  pub place : IsPlaceOf v im o l (path_of call false) p
+  pub ends : EndsWith (holds_in im o l (path_of call false) (wanted call)) p.inode
+  pub held : AreHeld v (holds_in im o l (path_of call false) (wanted call))
 
 -- the reply is the tree's, and each lock of the list is held; or what stands in the way: the first lock of it that isn't held, or a block
 -- that the view hasn't

@@ -15,9 +15,9 @@ ghost use Rattle.image_model.specs.Owners.{Owners};
 ghost use Rattle.image_model.specs.Stands.{Layout};
 ghost use Rattle.image_changes.specs.Does.{IsOf, Does};
 ghost use Rattle.path_walks.specs.Answers.{IfDone, IfNeedLock, IfNeedBlock, IfNoSpace, IfNotBuilt};
-ghost use Rattle.path_walks.specs.Holds.{AreHeld, IsAskedFor, IsFirstLack, holds_in};
-ghost use Rattle.path_walks.specs.Walks.{IsPlaceOf, IsSeenAt};
-ghost use Rattle.removing_calls.specs.Removing.{IfHashed, IfRemoved, IsAimOf, IsDamage, IsFound, IsHashedFor, IsLastOf, IsRefusal, IsRemoving, holds_for};
+ghost use Rattle.path_walks.specs.Holds.{AreHeld, IsAskedFor, IsFirstLack};
+ghost use Rattle.path_walks.specs.Walks.{IsSeenAt};
+ghost use Rattle.removing_calls.specs.Removing.{IfHashed, IfRemoved, IsAimOf, IsDamage, IsFound, IsHashedFor, IsLastOf, IsReachedIn, IsRefusal, IsRemoving, holds_for};
 ghost use Rattle.removing_calls.specs.declared.aims.Aim.TheVariants as aim;
 
 use crate::aims::{Aim, aim_at};
@@ -86,11 +86,11 @@ fn remove_at<V: View>(
     requires last { IsLastOf (path_of call.now false) name.now }
     requires seen { IsSeenAt (V.seen view.now) (wanted call.now) (path_of call.now false) place.now }
     requires aim { (h : Holding) → IsShown (V.seen view.now) place.now.inode h → IsAimOf call.now h aim.Taken }
-    ensures found { (im : Image) (o : Owners) (l : Layout) (t : Tree) → IsOf (V.seen view.now) im o l t → IsPlaceOf (V.seen view.now) im o l (path_of call.now false) place.now
-        → AreHeld (V.seen view.now) (holds_in im o l (path_of call.now false) (wanted call.now)) → IfOk result (IsFound (V.seen view.now) im o l t call.now) }
+    ensures found { (im : Image) (o : Owners) (l : Layout) (t : Tree) → IsOf (V.seen view.now) im o l t → IsReachedIn (V.seen view.now) im o l call.now place.now
+        → IfOk result (IsFound (V.seen view.now) im o l t call.now) }
     ensures done { IfOk result (IfRemoved (Does (V.seen view.now) call.now OkReply)) }
     ensures refusal { IfOk result IsRefusal }
-    ensures sound { (im : Image) (o : Owners) (l : Layout) (t : Tree) → IsOf (V.seen view.now) im o l t → IsPlaceOf (V.seen view.now) im o l (path_of call.now false) place.now → IfDamaged result (λ rule block. ⊥) }
+    ensures sound { (im : Image) (o : Owners) (l : Layout) (t : Tree) → IsOf (V.seen view.now) im o l t → IsReachedIn (V.seen view.now) im o l call.now place.now → IfDamaged result (λ rule block. ⊥) }
     ensures hashed { IfOk result (IfHashed (IsHashedFor (V.seen view.now) call.now)) }
     ensures damaged { IfDamaged result (IsDamage (V.seen view.now) call.now) }
     ensures kept { IfDamaged result (IsOfView (V.seen view.now)) }
@@ -129,12 +129,12 @@ fn find_at<V: View>(
     requires removing { IsRemoving call.now }
     requires last { IsLastOf (path_of call.now false) name.now }
     requires seen { IsSeenAt (V.seen view.now) (wanted call.now) (path_of call.now false) place.now }
-    ensures found { (im : Image) (o : Owners) (l : Layout) (t : Tree) → IsOf (V.seen view.now) im o l t → IsPlaceOf (V.seen view.now) im o l (path_of call.now false) place.now
-        → AreHeld (V.seen view.now) (holds_in im o l (path_of call.now false) (wanted call.now)) → IfOk result (IsFound (V.seen view.now) im o l t call.now) }
+    ensures found { (im : Image) (o : Owners) (l : Layout) (t : Tree) → IsOf (V.seen view.now) im o l t → IsReachedIn (V.seen view.now) im o l call.now place.now
+        → IfOk result (IsFound (V.seen view.now) im o l t call.now) }
     ensures done { IfOk result (IfRemoved (Does (V.seen view.now) call.now OkReply)) }
     ensures refusal { IfOk result IsRefusal }
     ensures hashed { IfOk result (IfHashed (IsHashedFor (V.seen view.now) call.now)) }
-    ensures sound { (im : Image) (o : Owners) (l : Layout) (t : Tree) → IsOf (V.seen view.now) im o l t → IsPlaceOf (V.seen view.now) im o l (path_of call.now false) place.now → IfDamaged result (λ rule block. ⊥) }
+    ensures sound { (im : Image) (o : Owners) (l : Layout) (t : Tree) → IsOf (V.seen view.now) im o l t → IsReachedIn (V.seen view.now) im o l call.now place.now → IfDamaged result (λ rule block. ⊥) }
     ensures damaged { IfDamaged result (IsDamage (V.seen view.now) call.now) }
     ensures kept { IfDamaged result (IsOfView (V.seen view.now)) }
 {
