@@ -109,7 +109,7 @@ module _ {V : Type 0} (seen : V → Seen) (view : V) (im : Image) (o : Owners) (
 
   own : (b : ℕ) → Contains blocks b ↔ IsSome ((holding im o a).cell b)
   own b = let these = have_these_blocks im o l a b of.stands.laid so_a plain in (
-    (λ c. these.1 (elim ((goes b).0 c) [ | inl e ↦ inl e | inr below ↦ inr (parts_of_led (holding im o a) b sound_a below) ])),
+    (λ c. these.1 (elim ((goes b).0 c) [ inl e ↦ inl e | inr below ↦ inr (parts_of_led (holding im o a) b sound_a below) ])),
     (λ some. (goes b).1 (elim (these.0 some) [
       | inl e ↦ inl e
       | inr q ↦ inr (led_of_part (holding im o a) b q.0 q.1 q.2 q.3 sound_a (none_has_the_first im o l a of.stands.laid) q.4)
@@ -257,17 +257,14 @@ module _ {V : Type 0} (seen : V → Seen) (view : V) (im : Image) (o : Owners) (
     kept = λ b h. kept_so b h (is.freed.frees.headers (group_of_entry g) b (has_group g listed) (so_header g b h));
   }
     where
-      abbrev Same : ℕ → Type 0
-      Same b = (get fates b ≡ get second b) ⊎ ((bytes : List ℕ) × (get fates b ≡ Some (Put (record { kind = 3; number = g.address }) false bytes)))
-
       same_put : (x y : LockName) (c d : Bool) (m n : List ℕ) → Some (Put x c m) ≡ Some (Put y d n) → (x ≡ y) × (c ≡ d)
       same_put x y c d m n e = (cc, cc)
 
-      under : (b : ℕ) (lock : LockName) (plain : Bool) (bytes : List ℕ) → IsHeaderOf g b → get fates b ≡ Some (Put lock plain bytes) → Same b → (lock ≡ record { kind = 3; number = g.address }) × (plain ≡ false)
+      under : (b : ℕ) (lock : LockName) (plain : Bool) (bytes : List ℕ) → IsHeaderOf g b → get fates b ≡ Some (Put lock plain bytes) → (get fates b ≡ get second b) ⊎ ((bytes' : List ℕ) × (get fates b ≡ Some (Put (record { kind = 3; number = g.address }) false bytes'))) → (lock ≡ record { kind = 3; number = g.address }) × (plain ≡ false)
       under b lock plain bytes h e (inl same) = absurd (none_some (sym (header_none g listed b h) ∙ sym same ∙ e))
       under b lock plain bytes h e (inr put) = same_put lock _ plain false bytes put.0 (sym e ∙ put.1)
 
-      kept_so : (b : ℕ) → IsHeaderOf g b → Same b → is_freed fates b ≡ false
+      kept_so : (b : ℕ) → IsHeaderOf g b → (get fates b ≡ get second b) ⊎ ((bytes' : List ℕ) × (get fates b ≡ Some (Put (record { kind = 3; number = g.address }) false bytes'))) → is_freed fates b ≡ false
       kept_so b h (inl same) = ap is_gone (same ∙ header_none g listed b h)
       kept_so b h (inr put) = ap is_gone put.1
 

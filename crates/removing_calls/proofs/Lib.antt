@@ -5,3 +5,4 @@ pub mod Doing
 pub mod Above
 pub mod Listed
 pub mod Found
+pub mod Touching
