@@ -6,3 +6,4 @@ pub mod Above
 pub mod Listed
 pub mod Found
 pub mod Touching
+pub mod Faults

@@ -1,10 +1,10 @@
 -- The list of a call's locks: the path's, and behind them those of groups.
-use Rattle.std.proofs.Common.{◌≡◌, ◌==◌, ◌&&◌, ◌⊎◌, ◌↔◌, inl, inr, ℕ, ◌+◌, ◌<◌, Bool, true, false, true≢false, List, [], ◌∷◌, ◌++◌, Option, None, Some, refl, sym, ap, ◌∙◌, subst, arith}
+use Rattle.std.proofs.Common.{◌≡◌, ◌≢◌, ◌||◌, ◌⊎◌, ◌↔◌, inl, inr, ℕ, zero, suc, ◌+◌, ◌<◌, ◌≤◌, Bool, true, false, true≢false, List, [], ◌∷◌, ◌++◌, Option, None, Some, refl, sym, ap, ◌∙◌, subst, arith}
 use Rattle.std.proofs.lemmas.Bool.{cases_Bool, cond-true, cond-false}
 use Rattle.std.proofs.lemmas.List.{append-assoc, append-nil}
 use Rattle.std.proofs.lemmas.List.Elements.{All-nil, All-cons, All-append, All-push, All-head, All-tail}
 use Rattle.std.specs.Prelude.{Contains, IsSome, is_some, map, filter, if◌then◌else◌}
-use Rattle.std.specs.List.{All}
+use Rattle.std.specs.List.{list_any, range_with_len}
 use Rattle.gfs2_layout.specs.Holding.{Holding}
 use Rattle.gfs2_layout.specs.declared.rindex.Rindex.{Rindex}
 use Rattle.glock_names.specs.Views.{Seen, group_of_entry}
@@ -103,3 +103,49 @@ module _ (v : Seen) (h : Holding) (blocks : List ℕ) (so : (g : Rindex) → has
 
       tail_same : {X : Type 0} {x y : X} {xs ys : List X} → x ∷ xs ≡ y ∷ ys → xs ≡ ys
       tail_same e = cc
+
+  -- each group that has some has its place in the list
+  pub record IsPlacedIn (list : List Hold) (address : ℕ) : Type 0 where
+    pub front : List Hold
+    pub back : List Hold
+    pub split : list ≡ front ++ hold_of_group address ∷ back
+
+  pub placed_in : (gs : List Rindex) (g : Rindex) → IsIn g gs → has_some h g ≡ true → IsPlacedIn (group_holds h gs) g.address
+  placed_in [] g at some = elim at [ ]
+  placed_in (k ∷ gs) g (inl e) some = record {
+    front = [];
+    back = group_holds h gs;
+    split = one_more k gs (ap (has_some h) (sym e) ∙ some) ∙ ap (λ (x : Rindex). hold_of_group x.address ∷ group_holds h gs) (sym e);
+  }
+  placed_in (k ∷ gs) g (inr at) some =
+      let later = placed_in gs g at some in
+      elim (cases_Bool (has_some h k)) [
+        | inl e ↦ record { front = hold_of_group k.address ∷ later.front; back = later.back; split = one_more k gs e ∙ ap (λ x. hold_of_group k.address ∷ x) later.split }
+        | inr e ↦ record { front = later.front; back = later.back; split = none_more k gs e ∙ later.split }
+      ]
+
+-- a list that is held is held up to each of its places
+pub held_upto : (v : Seen) (front back : List Hold) (x : Hold) → AreHeld v (front ++ x ∷ back) → AreHeld v (front ++ x ∷ [])
+held_upto v [] back x held = All-cons (λ k. holds v k ≡ true) x [] (All-head (λ k. holds v k ≡ true) x back held) (All-nil (λ k. holds v k ≡ true))
+held_upto v (y ∷ front) back x held =
+    All-cons (λ k. holds v k ≡ true) y (front ++ x ∷ []) (All-head (λ k. holds v k ≡ true) y (front ++ x ∷ back) held) (held_upto v front back x (All-tail (λ k. holds v k ≡ true) y (front ++ x ∷ back) held))
+
+-- ---- ranges
+
+pub any_range : (test : ℕ → Bool) (first n : ℕ) → list_any test (range_with_len first n) ≡ true → (b : ℕ) × (first ≤ b) × (b < first + n) × (test b ≡ true)
+any_range test first zero e = absurd (true≢false (sym e))
+any_range test first (suc n) e = elim (cases_Bool (test first)) [
+  | inl here ↦ (first, omega arith, omega arith, here)
+  | inr no ↦
+      let later = any_range test (first + 1) n (sym (ap (λ x. x || list_any test (range_with_len (first + 1) n)) no) ∙ e) in
+      (later.0, omega (arith, later.1), omega (arith, later.2), later.3)
+]
+
+pub range_any : (test : ℕ → Bool) (first n b : ℕ) → first ≤ b → b < first + n → test b ≡ true → list_any test (range_with_len first n) ≡ true
+range_any test first zero b low high e = absurd (omega (arith, low, high))
+range_any test first (suc n) b low high e = elim (cases_Bool (test first)) [
+  | inl here ↦ ap (λ x. x || list_any test (range_with_len (first + 1) n)) here
+  | inr no ↦
+      let other : b ≢ first = λ same. true≢false (sym e ∙ ap test same ∙ no) in
+      ap (λ x. x || list_any test (range_with_len (first + 1) n)) no ∙ range_any test (first + 1) n b (omega (arith, low, other)) (omega (arith, high)) e
+]

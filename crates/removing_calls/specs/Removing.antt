@@ -66,10 +66,10 @@ IsAimOf call h a = ⊥
 abbrev pub Goes : Holding → ℕ → Type 0
 Goes h b = (b ≡ h.own) ⊎ IsBelow h b
 
--- a block of the inode, whose dinode is in block a, is no data block of a group; or the inode breaks a rule
-pub data IsWrongBelow (v : Seen) (a : ℕ) (h : Holding) : ℕ → ℕ → Type 0 where
-  in_inode : (rule b : ℕ) → inode.IsBroken h rule b → IsWrongBelow v a h rule b
-  stray : (b : ℕ) → Goes h b → ¬ (HasDataBlock v b) → IsWrongBelow v a h 2 a
+-- as the view shows the inode with its dinode in block a, it breaks a rule; or (2) a block of it is no data block of a group
+pub data IsWrongBelow (v : Seen) (a : ℕ) : ℕ → ℕ → Type 0 where
+  in_inode : (rule b : ℕ) → ((h : Holding) → IsShown v a h → inode.IsBroken h rule b) → IsWrongBelow v a rule b
+  stray : (b : ℕ) → ((h : Holding) → IsShown v a h → Goes h b) → ¬ (HasDataBlock v b) → IsWrongBelow v a 2 a
 
 -- ---- the locks of the call
 

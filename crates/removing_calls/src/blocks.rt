@@ -25,7 +25,7 @@ pub(crate) fn blocks_of<V: View>(
     ensures all { (h : Holding) → IsShown (V.seen view.now) inode h → IfIs result (λ blocks. (b : ℕ) → Contains blocks.items b ↔ Goes h b) }
     ensures inside { IfIs result (λ blocks. (b : ℕ) → Contains blocks.items b → HasDataBlock (V.seen view.now) b) }
     ensures needed { (h : Holding) → IsShown (V.seen view.now) inode h → IfNeedBlock result (IsNeeded (V.seen view.now) h AnyIndex 1) }
-    ensures damaged { (h : Holding) → IsShown (V.seen view.now) inode h → IfDamaged result (IsWrongBelow (V.seen view.now) inode h) }
+    ensures damaged { IfDamaged result (IsWrongBelow (V.seen view.now) inode) }
     ensures kept { IfDamaged result (IsOfView (V.seen view.now)) }
 {
     let mut blocks = match blocks_below(alloc, view, inode)? {
