@@ -7,3 +7,4 @@ pub mod Listed
 pub mod Found
 pub mod Touching
 pub mod Faults
+pub mod Drafted
