@@ -2,7 +2,8 @@
 use Rattle.std.proofs.Common.{◌≡◌, ◌≢◌, ◌⊎◌, ◌↔◌, inl, inr, ℕ, ◌+◌, ◌<◌, Bool, true, false, true≢false, List, [], ◌∷◌, ◌++◌, Option, None, Some, refl, sym, ap, ◌∙◌, subst, arith}
 use Rattle.std.proofs.lemmas.Bool.{cases_Bool, cases_eq, cases_lt}
 use Rattle.std.specs.Prelude.{Contains, is_some}
-use Rattle.std.specs.FinMap.{get, empty}
+use Rattle.std.specs.Ordering.{nat_cmp}
+use Rattle.std.specs.FinMap.{FinMap, get, empty, get-empty}
 use Rattle.file_tree.specs.Apply.{apply, remove_at}
 use Rattle.file_tree.specs.Tree.{Tree}
 use Rattle.file_tree.specs.declared.call.Call.{Call}
@@ -10,6 +11,7 @@ use Rattle.file_tree.specs.declared.reply.Reply.TheVariants.{Ok}
 use Rattle.cluster_history.specs.Changes.{Changes}
 use Rattle.drafts.specs.Fates.{block_with}
 use Rattle.drafts.specs.declared.change.Change.{Change}
+use Rattle.drafts.specs.declared.fate.Fate.{Fate}
 use Rattle.drafts.specs.declared.fate.Fate.TheVariants.{Put, Freed}
 use Rattle.gfs2_layout.specs.Inode.{is_hashed_in}
 use Rattle.gfs2_layout.specs.Records.{Record, record_named}
@@ -72,9 +74,9 @@ module _ {V : Type 0} (seen : V → Seen) (view : V) (p : ℕ) (name : List ℕ)
   -- what becomes of a block before is the directory's put, under its lock
   second_held : (b : ℕ) (lock : LockName) (plain : Bool) (bytes : List ℕ) → get is.fates b ≡ Some (Put lock plain bytes) → (seen view).state_of lock ≡ Ex
   second_held b lock plain bytes e = elim (cases_eq b p) [
-    | inl same ↦ ap (seen view).state_of (put_lock lock _ plain false bytes _ (sym e ∙ ap (get is.fates) same ∙ ap (λ m. get m p) is.taken.takes.put ∙ put_at is.taken.first p _)) ∙ dir_held
-    | inr other ↦ absurd (none_some (sym (ap (λ m. get m b) is.taken.takes.put ∙ put_apart is.taken.first p b _ other
-        ∙ ap (λ m. get m b) is.taken.touches.put ∙ put_apart empty p b _ other) ∙ e))
+    | inl same ↦ ap (seen view).state_of (put_lock lock _ plain false bytes _ (sym e ∙ ap (get is.fates) same ∙ ap (λ (m : FinMap nat_cmp Fate). get m p) is.taken.takes.put ∙ put_at is.taken.first p _)) ∙ dir_held
+    | inr other ↦ absurd (none_some (sym (ap (λ (m : FinMap nat_cmp Fate). get m b) is.taken.takes.put ∙ put_apart is.taken.first p b _ other
+        ∙ ap (λ (m : FinMap nat_cmp Fate). get m b) is.taken.touches.put ∙ put_apart empty p b _ other ∙ get-empty nat_cmp b) ∙ e))
   ]
     where
       put_lock : (x y : LockName) (c d : Bool) (m n : List ℕ) → Some (Put x c m) ≡ Some (Put y d n) → x ≡ y

@@ -2,7 +2,7 @@
 use Rattle.std.proofs.Common.{◌≡◌, ◌≢◌, ◌⊎◌, inl, inr, ℕ, List, Option, None, Some, refl, sym, ap, ◌∙◌, subst}
 use Rattle.std.proofs.lemmas.Bool.{cases_eq}
 use Rattle.std.specs.Prelude.{Contains}
-use Rattle.std.specs.FinMap.{FinMap, get, empty, insert}
+use Rattle.std.specs.FinMap.{FinMap, get, empty, get-empty}
 use Rattle.std.specs.Ordering.{nat_cmp}
 use Rattle.drafts.specs.Fates.{block_with, seen_with}
 use Rattle.drafts.specs.declared.fate.Fate.{Fate}
@@ -22,7 +22,7 @@ use Rattle.removing_calls.proofs.Lists.{put_apart}
 pub taken_alone : (v : Seen) (dir : ℕ) (name : List ℕ) (time : ℕ) (fates : FinMap nat_cmp Fate) → IsNameTaken v dir name time fates → (b : ℕ) → b ≢ dir → get fates b ≡ None
 taken_alone v dir name time fates is b other =
     ap (λ (m : FinMap nat_cmp Fate). get m b) is.takes.put ∙ put_apart is.first dir b _ other
-    ∙ ap (λ (m : FinMap nat_cmp Fate). get m b) is.touches.put ∙ put_apart empty dir b _ other
+    ∙ ap (λ (m : FinMap nat_cmp Fate). get m b) is.touches.put ∙ put_apart empty dir b _ other ∙ get-empty nat_cmp b
 
 -- what a draft doesn't see, the view doesn't
 unseen : (fate : Option Fate) (below : Option (List ℕ)) → block_with fate below ≡ None → below ≡ None
@@ -72,4 +72,4 @@ module _ (v : Seen) (dir : ℕ) (fates : FinMap nat_cmp Fate) (alone : (b : ℕ)
   )
     where
       apart : (b : ℕ) → IsHeaderOf breaks.0 b → b ≢ dir
-      apart b own e = no_header_data v breaks.0 inside.0 b view breaks.1 inside.1 own (subst (λ x. IsDataOf inside.0 x) (sym e) inside.2)
+      apart b own e = no_header_data v view breaks.0 inside.0 breaks.1 inside.1 b own (subst (λ x. IsDataOf inside.0 x) (sym e) inside.2)

@@ -4,7 +4,7 @@ use Rattle.std.proofs.lemmas.Bool.{cases_Bool, cases_eq, cond-true, cond-false}
 use Rattle.std.proofs.lemmas.List.{length-append}
 use Rattle.std.specs.Prelude.{Contains, IsSome, is_some, if◌then◌else◌, unwrap_or}
 use Rattle.std.specs.Ordering.{nat_cmp}
-use Rattle.std.specs.FinMap.{FinMap, get, empty, insert}
+use Rattle.std.specs.FinMap.{FinMap, get, empty, insert, get-empty}
 use Rattle.file_tree.specs.Tree.{Tree}
 use Rattle.drafts.specs.Fates.{AreWhole, block_with, seen_with}
 use Rattle.drafts.specs.declared.change.Change.{Change}
@@ -168,7 +168,7 @@ module _ {V : Type 0} (seen : V → Seen) (view : V) (im : Image) (o : Owners) (
   second_none : (b : ℕ) → b ≢ p → get second b ≡ None
   second_none b other =
       ap (λ (m : FinMap nat_cmp Fate). get m b) is.taken.takes.put ∙ put_apart first p b _ other
-      ∙ ap (λ (m : FinMap nat_cmp Fate). get m b) is.taken.touches.put ∙ put_apart empty p b _ other
+      ∙ ap (λ (m : FinMap nat_cmp Fate). get m b) is.taken.touches.put ∙ put_apart empty p b _ other ∙ get-empty nat_cmp b
 
   parent_put : get fates p ≡ Some (Put (record { kind = 2; number = p }) false is.taken.takes.bytes)
   parent_put = stays_at p p_its ∙ second_there
