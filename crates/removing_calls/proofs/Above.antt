@@ -92,7 +92,7 @@ linear_records : (h : Holding) → is_hashed_in h ≡ false → records_of h ≡
 unfolding records_of
 linear_records h plain = cond-false _ _ _ plain
 
-record_of_child : (x : Option Record) (b : ℕ) → option_map (λ (r : Record). r.address) x ≡ Some b → (r : Record) × (x ≡ Some r)
+pub record_of_child : (x : Option Record) (b : ℕ) → option_map (λ (r : Record). r.address) x ≡ Some b → (r : Record) × (x ≡ Some r)
 record_of_child None b e = absurd (none_some e)
 record_of_child (Some r) b e = (r, refl)
 

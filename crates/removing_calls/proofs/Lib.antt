@@ -8,3 +8,5 @@ pub mod Found
 pub mod Touching
 pub mod Faults
 pub mod Drafted
+pub mod Wanted
+pub mod Taking

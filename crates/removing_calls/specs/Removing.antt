@@ -25,6 +25,7 @@ use Rattle.image_model.specs.Flat.{Path, follow}
 use Rattle.image_model.specs.Image.{Image}
 use Rattle.image_model.specs.Owners.{Owners}
 use Rattle.image_model.specs.Stands.{Layout, flat_of}
+use Rattle.image_changes.specs.Instances.{IsAt}
 use Rattle.path_walks.specs.Holds.{Hold, AreHeld, EndsWith, IsAskedFor, IsFirstLack, holds_in}
 use Rattle.path_walks.specs.Walks.{LeadsTo, IsOnTheWay, IsPlaceOf}
 use Rattle.path_walks.specs.Walks as path
@@ -95,6 +96,11 @@ pub data IsDamage (v : Seen) (call : Call) : ℕ → ℕ → Type 0 where
       → ((at : ℕ → List ℕ) → group.IsShown v g at → IsBroken at g rule c) → IsDamage v call rule c
 
 -- ---- in an image that the view may be of
+
+-- the inode at the path's end, and the directory above it
+pub record IsPlaceIn (im : Image) (o : Owners) (l : Layout) (call : Call) (p : Place) : Type 0 where
+  pub at : IsAt im o l (path_of call false) p.inode
+  pub above : IsAt im o l (parent_of (path_of call false)) p.above
 
 -- the walk came to this place, the inode's lock is the last of the path's, and each of these is held
 pub record IsReachedIn (v : Seen) (im : Image) (o : Owners) (l : Layout) (call : Call) (p : Place) : Type 0 where

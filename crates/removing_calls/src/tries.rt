@@ -17,7 +17,7 @@ ghost use Rattle.image_changes.specs.Does.{IsOf, Does};
 ghost use Rattle.path_walks.specs.Answers.{IfDone, IfNeedLock, IfNeedBlock, IfNoSpace, IfNotBuilt};
 ghost use Rattle.path_walks.specs.Holds.{AreHeld, IsAskedFor, IsFirstLack};
 ghost use Rattle.path_walks.specs.Walks.{IsSeenAt};
-ghost use Rattle.removing_calls.specs.Removing.{IfHashed, IfRemoved, IsAimOf, IsDamage, IsFound, IsHashedFor, IsLastOf, IsReachedIn, IsRefusal, IsRemoving, holds_for};
+ghost use Rattle.removing_calls.specs.Removing.{IfHashed, IfRemoved, IsAimOf, IsDamage, IsFound, IsHashedFor, IsLastOf, IsPlaceIn, IsReachedIn, IsRefusal, IsRemoving, holds_for};
 ghost use Rattle.removing_calls.specs.declared.aims.Aim.TheVariants as aim;
 
 use crate::aims::{Aim, aim_at};
@@ -85,6 +85,7 @@ fn remove_at<V: View>(
     requires removing { IsRemoving call.now }
     requires last { IsLastOf (path_of call.now false) name.now }
     requires seen { IsSeenAt (V.seen view.now) (wanted call.now) (path_of call.now false) place.now }
+    requires places { (im : Image) (o : Owners) (l : Layout) (t : Tree) → IsOf (V.seen view.now) im o l t → IsPlaceIn im o l call.now place.now }
     requires aim { (h : Holding) → IsShown (V.seen view.now) place.now.inode h → IsAimOf call.now h aim.Taken }
     ensures found { (im : Image) (o : Owners) (l : Layout) (t : Tree) → IsOf (V.seen view.now) im o l t → IsReachedIn (V.seen view.now) im o l call.now place.now
         → IfOk result (IsFound (V.seen view.now) im o l t call.now) }
@@ -129,6 +130,7 @@ fn find_at<V: View>(
     requires removing { IsRemoving call.now }
     requires last { IsLastOf (path_of call.now false) name.now }
     requires seen { IsSeenAt (V.seen view.now) (wanted call.now) (path_of call.now false) place.now }
+    requires places { (im : Image) (o : Owners) (l : Layout) (t : Tree) → IsOf (V.seen view.now) im o l t → IsPlaceIn im o l call.now place.now }
     ensures found { (im : Image) (o : Owners) (l : Layout) (t : Tree) → IsOf (V.seen view.now) im o l t → IsReachedIn (V.seen view.now) im o l call.now place.now
         → IfOk result (IsFound (V.seen view.now) im o l t call.now) }
     ensures done { IfOk result (IfRemoved (Does (V.seen view.now) call.now OkReply)) }
