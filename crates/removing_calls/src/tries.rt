@@ -49,7 +49,7 @@ fn path_of_removing(call: &Call) -> &Path
 fn refusal_of_root(call: &Call) -> Reply
     requires removing { IsRemoving call.now }
     requires root { path_of call.now false ≡ [] }
-    ensures { (t : Tree) → (apply call.now t).reply ≡ result }
+    ensures reply { (t : Tree) → (apply call.now t).reply ≡ result }
     ensures refusal { is_ok result ≡ false }
 {
     match call {
