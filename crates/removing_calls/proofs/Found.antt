@@ -3,7 +3,7 @@ use Rattle.std.proofs.Common.{◌≡◌, ◌==◌, ◌&&◌, ◌⊎◌, ◌↔�
 use Rattle.std.proofs.lemmas.Bool.{cond-true}
 use Rattle.std.proofs.lemmas.List.Elements.{All-append}
 use Rattle.std.proofs.lemmas.List.FromFn.{get_or-map-range_with_len}
-use Rattle.std.proofs.lemmas.List.{append-assoc}
+use Rattle.std.proofs.lemmas.List.{append_assoc}
 use Rattle.std.specs.Prelude.{Contains, IsSome, is_some, map, slice_index_or, if◌then◌else◌}
 use Rattle.cluster_history.specs.Changes.{is_ok}
 use Rattle.file_tree.specs.Apply.{apply}
@@ -182,7 +182,7 @@ module _ (v : Seen) (im : Image) (o : Owners) (l : Layout) (t : Tree) (of : IsOf
       let some : HasSome (group_of_entry f.0) blocks = (needed.2.0, needed.2.1, subst (λ k. group.IsDataOf k needed.2.0) f.2 needed.2.2) in
       let place = placed_in v (holding im o a) blocks has_so so_has l.groups f.0 (at_in f.0 l.groups f.1.0 f.1.1) (so_has f.0 some) in
       let row = of.stands.laid.zoned.headers f.0 f.1 m.block (record { low = missing.own.low; high = missing.own.high }) in
-      let split = ap (λ x. list ++ x) place.split ∙ sym (append-assoc list place.front (hold_of_group f.0.address ∷ place.back)) in
+      let split = ap (λ x. list ++ x) place.split ∙ sym (append_assoc list place.front (hold_of_group f.0.address ∷ place.back)) in
       record {
         absent = missing.absent;
         covered = ap (cover l m.block) row ∙ ap Some (sym missing.lock);

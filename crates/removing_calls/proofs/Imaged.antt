@@ -49,7 +49,7 @@ use Rattle.image_changes.proofs.Laid.{root_named, follow_dinode}
 use Rattle.image_changes.proofs.Nodes.{among_in, in_among}
 use Rattle.image_changes.proofs.States.{map_same, blocks_are_freed}
 use Rattle.draft_changes.specs.Groups.{PutsGroup}
-use Rattle.draft_changes.specs.Removing as change
+use Rattle.draft_changes.specs.Removing as removing
 use Rattle.draft_changes.specs.Removing.{RemovesName, states_without}
 use Rattle.draft_changes.proofs.Rows.{cell_its, part_its}
 use Rattle.draft_changes.proofs.Views.{shows_inodes, shows_blocks, groups_are_listed, have_these_blocks, none_has_the_first}
@@ -142,10 +142,10 @@ module _ {V : Type 0} (seen : V → Seen) (view : V) (im : Image) (o : Owners) (
   so_header : (g : Rindex) (b : ℕ) → IsHeaderOf g b → group.IsHeaderOf (group_of_entry g) b
   so_header g b h = record { low = h.low; high = h.high }
 
-  some_so : (g : Rindex) → HasSome (group_of_entry g) blocks → change.HasSome g blocks
+  some_so : (g : Rindex) → HasSome (group_of_entry g) blocks → removing.HasSome g blocks
   some_so g s = (s.0, s.1, record { low = s.2.low; high = s.2.high })
 
-  so_some : (g : Rindex) → change.HasSome g blocks → HasSome (group_of_entry g) blocks
+  so_some : (g : Rindex) → removing.HasSome g blocks → HasSome (group_of_entry g) blocks
   so_some g s = (s.0, s.1, record { low = s.2.low; high = s.2.high })
 
   has_group : (g : Rindex) → IsListed l.groups g → HasGroup v (group_of_entry g)
@@ -153,7 +153,7 @@ module _ {V : Type 0} (seen : V → Seen) (view : V) (im : Image) (o : Owners) (
 
   -- ---- what is freed is nothing else
 
-  rest_stays : (b : ℕ) → ¬ (Contains blocks b) → ((g : Rindex) → IsListed l.groups g → change.HasSome g blocks → ¬ (IsHeaderOf g b)) → get fates b ≡ get second b
+  rest_stays : (b : ℕ) → ¬ (Contains blocks b) → ((g : Rindex) → IsListed l.groups g → removing.HasSome g blocks → ¬ (IsHeaderOf g b)) → get fates b ≡ get second b
   rest_stays b other away = is.freed.rest.others b other (λ k has some head.
       let f = (groups_are_listed v im o l t k of).0 has in
       away f.0 f.1 (some_so f.0 (subst (λ x. HasSome x blocks) f.2 some)) (header_so f.0 b (subst (λ x. group.IsHeaderOf x b) f.2 head)))
@@ -247,7 +247,7 @@ module _ {V : Type 0} (seen : V → Seen) (view : V) (im : Image) (o : Owners) (
           by b true = refl
           by b false = refl
 
-  states : (g : Rindex) → IsListed l.groups g → change.HasSome g blocks → PutsGroup im fates g (states_without o blocks g)
+  states : (g : Rindex) → IsListed l.groups g → removing.HasSome g blocks → PutsGroup im fates g (states_without o blocks g)
   states g listed some = record {
     says = says g listed;
     some =

@@ -1,7 +1,7 @@
 -- The list of a call's locks: the path's, and behind them those of groups.
 use Rattle.std.proofs.Common.{◌≡◌, ◌≢◌, ◌||◌, ◌⊎◌, ◌↔◌, inl, inr, ℕ, zero, suc, ◌+◌, ◌<◌, ◌≤◌, Bool, true, false, true≢false, List, [], ◌∷◌, ◌++◌, Option, None, Some, refl, sym, ap, ◌∙◌, subst, arith}
 use Rattle.std.proofs.lemmas.Bool.{cases_Bool, cond-true, cond-false}
-use Rattle.std.proofs.lemmas.List.{append-assoc, append-nil}
+use Rattle.std.proofs.lemmas.List.{append_assoc, append-nil}
 use Rattle.std.proofs.lemmas.List.Elements.{All-nil, All-cons, All-append, All-push, All-head, All-tail}
 use Rattle.std.specs.Prelude.{Contains, IsSome, is_some, map, filter, if◌then◌else◌}
 use Rattle.std.specs.List.{list_any, range_with_len}
@@ -28,15 +28,22 @@ pub lack_before : (v : Seen) (list more : List Hold) (lock : LockName) (state : 
 lack_before v list more lock state lack = record {
   front = lack.front;
   back = lack.back ++ more;
-  split = ap (λ l. l ++ more) lack.split ∙ append-assoc lack.front (record { lock = lock; state = state } ∷ lack.back) more;
+  split = ap (λ l. l ++ more) lack.split ∙ append_assoc lack.front (record { lock = lock; state = state } ∷ lack.back) more;
   held = lack.held;
   lacks = lack.lacks;
 }
 
 pub asked_before : (v : Seen) (im : Image) (o : Owners) (l : Layout) (list more : List Hold) (m : Missing) → IsAskedFor v im o l list m → IsAskedFor v im o l (list ++ more) m
-asked_before v im o l list more m asked = record asked {
+asked_before v im o l list more m asked = record {
+  absent = asked.absent;
+  covered = asked.covered;
+  used = asked.used;
+  plain = asked.plain;
+  state = asked.state;
+  front = asked.front;
+  held = asked.held;
   back = asked.back ++ more;
-  split = ap (λ x. x ++ more) asked.split ∙ append-assoc asked.front (record { lock = m.lock; state = asked.state } ∷ asked.back) more;
+  split = ap (λ x. x ++ more) asked.split ∙ append_assoc asked.front (record { lock = m.lock; state = asked.state } ∷ asked.back) more;
 }
 
 -- a list behind one that is held
@@ -44,14 +51,14 @@ pub lack_behind : (v : Seen) (list more : List Hold) (lock : LockName) (state : 
 lack_behind v list more lock state held lack = record {
   front = list ++ lack.front;
   back = lack.back;
-  split = ap (λ x. list ++ x) lack.split ∙ sym (append-assoc list lack.front (record { lock = lock; state = state } ∷ lack.back));
+  split = ap (λ x. list ++ x) lack.split ∙ sym (append_assoc list lack.front (record { lock = lock; state = state } ∷ lack.back));
   held = All-append (λ h. holds v h ≡ true) list lack.front held lack.held;
   lacks = lack.lacks;
 }
 
 -- ---- the locks of groups
 
-module _ (v : Seen) (h : Holding) (blocks : List ℕ) (so : (g : Rindex) → has_some h g ≡ true → HasSome (group_of_entry g) blocks) (back : (g : Rindex) → HasSome (group_of_entry g) blocks → has_some h g ≡ true) where
+module _ (v : Seen) (h : Holding) (blocks : List ℕ) (so : (g : Rindex) → has_some h g ≡ true → HasSome (group_of_entry g) blocks) (from_some : (g : Rindex) → HasSome (group_of_entry g) blocks → has_some h g ≡ true) where
   one_more : (g : Rindex) (gs : List Rindex) → has_some h g ≡ true → group_holds h (g ∷ gs) ≡ hold_of_group g.address ∷ group_holds h gs
   one_more g gs e = ap (map (λ (k : Rindex). hold_of_group k.address)) (cond-true _ (g ∷ filter (has_some h) gs) (filter (has_some h) gs) e)
 
@@ -73,7 +80,7 @@ module _ (v : Seen) (h : Holding) (blocks : List ℕ) (so : (g : Rindex) → has
   first_lack [] (k ∷ front) group rest split some lacks held = cc
   first_lack (g ∷ gs) [] group rest split some lacks held =
       let is : group_of_entry g ≡ group = head_same split in
-      let e : has_some h g ≡ true = back g (subst (λ x. HasSome x blocks) (sym is) some) in
+      let e : has_some h g ≡ true = from_some g (subst (λ x. HasSome x blocks) (sym is) some) in
       record {
         front = [];
         back = group_holds h gs;
@@ -136,8 +143,8 @@ pub any_range : (test : ℕ → Bool) (first n : ℕ) → list_any test (range_w
 any_range test first zero e = absurd (true≢false (sym e))
 any_range test first (suc n) e = elim (cases_Bool (test first)) [
   | inl here ↦ (first, omega arith, omega arith, here)
-  | inr no ↦
-      let later = any_range test (first + 1) n (sym (ap (λ x. x || list_any test (range_with_len (first + 1) n)) no) ∙ e) in
+  | inr away ↦
+      let later = any_range test (first + 1) n (sym (ap (λ x. x || list_any test (range_with_len (first + 1) n)) away) ∙ e) in
       (later.0, omega (arith, later.1), omega (arith, later.2), later.3)
 ]
 
@@ -145,7 +152,7 @@ pub range_any : (test : ℕ → Bool) (first n b : ℕ) → first ≤ b → b < 
 range_any test first zero b low high e = absurd (omega (arith, low, high))
 range_any test first (suc n) b low high e = elim (cases_Bool (test first)) [
   | inl here ↦ ap (λ x. x || list_any test (range_with_len (first + 1) n)) here
-  | inr no ↦
-      let other : b ≢ first = λ same. true≢false (sym e ∙ ap test same ∙ no) in
-      ap (λ x. x || list_any test (range_with_len (first + 1) n)) no ∙ range_any test (first + 1) n b (omega (arith, low, other)) (omega (arith, high)) e
+  | inr away ↦
+      let other : b ≢ first = λ same. true≢false (sym e ∙ ap test same ∙ away) in
+      ap (λ x. x || list_any test (range_with_len (first + 1) n)) away ∙ range_any test (first + 1) n b (omega (arith, low, other)) (omega (arith, high)) e
 ]

@@ -15,11 +15,11 @@ use Rattle.image_model.proofs.Held.{none_some, some_same}
 -- the element that is found is so
 pub found_so : {X : Type 0} (test : X → Bool) (xs : List X) (x : X) → find test xs ≡ Some x → test x ≡ true
 found_so test [] x e = absurd (none_some e)
-found_so test (y ∷ ys) x e = by (test y) refl e
+found_so test (y ∷ ys) x e = by (test y) (found_so test ys x) refl e
   where
-    by : (b : Bool) → test y ≡ b → (if b then Some y else find test ys) ≡ Some x → test x ≡ true
-    by true is e = ap test (sym (some_same e)) ∙ is
-    by false is e = found_so test ys x e
+    by : (b : Bool) → (find test ys ≡ Some x → test x ≡ true) → test y ≡ b → (if b then Some y else find test ys) ≡ Some x → test x ≡ true
+    by true later is e = ap test (sym (some_same e)) ∙ is
+    by false later is e = later e
 
 -- the record of a name has it
 pub named_so : (records : List Record) (name : List ℕ) (r : Record) → record_named records name ≡ Some r → r.name ≡ name

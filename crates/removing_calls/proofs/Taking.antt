@@ -1,5 +1,5 @@
 -- A removal at the place to which the walk came, where the call takes the inode.
-use Rattle.std.proofs.Common.{◌≡◌, ◌↔◌, ℕ, true, List, [], ◌∷◌, ◌++◌, Some, refl, sym, ap, ◌∙◌, subst}
+use Rattle.std.proofs.Common.{◌≡◌, ◌↔◌, ℕ, false, List, [], ◌∷◌, ◌++◌, Some, refl, sym, ap, ◌∙◌, subst}
 use Rattle.std.specs.Prelude.{Contains}
 use Rattle.file_tree.specs.Apply.{apply, remove_at, Answer}
 use Rattle.file_tree.specs.Names.{parent_of}

@@ -14,10 +14,11 @@ use Rattle.gfs2_layout.specs.Inode.{dinode_in, is_directory_in, is_hashed_in, co
 use Rattle.glock_names.specs.Views.{Seen}
 use Rattle.call_locks.specs.Wants.{wanted}
 use Rattle.call_locks.specs.WantLaws.{path_of}
-use Rattle.image_model.specs.Flat.{Path, AFile, ADir, Thing, thing_in}
+use Rattle.removing_calls.specs.Groups.{group_holds_of}
+use Rattle.image_model.specs.Flat.{follow, Path, AFile, ADir, Thing, thing_in}
 use Rattle.image_model.specs.Image.{Image}
 use Rattle.image_model.specs.Owners.{Owners, holding}
-use Rattle.image_model.specs.Stands.{Layout}
+use Rattle.image_model.specs.Stands.{Layout, flat_of}
 use Rattle.image_model.proofs.Held.{some_same}
 use Rattle.image_changes.specs.Does.{IsOf}
 use Rattle.image_changes.specs.Instances.{IsAt, IsChildless}
@@ -82,7 +83,7 @@ no_change c r e = ap (λ b. b && may_change c) e
 
 -- the list where the tree refuses the call is that of the path
 pub plain_list : (im : Image) (o : Owners) (l : Layout) (t : Tree) (c : Call) → is_ok (apply c t).reply ≡ false → holds_for im o l t c ≡ holds_in im o l (path_of c false) (wanted c)
-plain_list im o l t c e = ap (λ b. holds_in im o l (path_of c false) (wanted c) ++ (if b then _ else [])) e ∙ append-nil _
+plain_list im o l t c e = ap (λ b. holds_in im o l (path_of c false) (wanted c) ++ (if b then group_holds_of im o l (follow (flat_of im o) l.root (path_of c false)) else [])) e ∙ append-nil _
 
 abbrev bytes_in : Thing → List ℕ
 bytes_in (AFile bytes) = bytes
