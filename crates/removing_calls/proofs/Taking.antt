@@ -40,7 +40,7 @@ module _ {V : Type 0} (seen : V → Seen) (view : V) (c : Call) (removing : IsRe
     (goes : (h : Holding) → IsShown (seen view) p.inode h → (b : ℕ) → Contains blocks b ↔ Goes h b)
     (taken : (h : Holding) → IsShown (seen view) p.inode h → IsAimOf c h aim.Taken)
     (change : Change) (is : IsRemoval seen view p.above name blocks change) where
-  dir_held : (seen view).state_of (record { kind = 2; number = p.above }) ≡ Ex
+  pub dir_held : (seen view).state_of (record { kind = 2; number = p.above }) ≡ Ex
   dir_held = above_held (seen view) c name p.above removing last there.above
 
   -- in each image that the view may be of, the place is where the walk comes to
