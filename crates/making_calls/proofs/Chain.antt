@@ -106,7 +106,7 @@ pub record AreSteps (v : Seen) (k : Group) (p a number time : ℕ) (entry : Reco
 
 module _ (v : Seen) (im : Image) (o : Owners) (l : Layout) (t : Tree) (of : IsOf v im o l t) (path : Path) (p : ℕ) (at : IsAt im o l path p)
     (g : Rindex) (listed : IsListed l.groups g) (a : ℕ) (own : IsDataOf g a) (was_free : state_at (bitmap_of (group_blocks im.at g)) (a - g.data0) ≡ 0) where
-  k : Group
+  abbrev k : Group
   k = group_of_entry g
 
   fits : GroupFits im g
@@ -147,13 +147,13 @@ module _ (v : Seen) (im : Image) (o : Owners) (l : Layout) (t : Tree) (of : IsOf
       each b None e = ap (λ r. cell_of r (x b)) e ∙ sym (ap (λ r. cell_of r (y b)) e)
       each b (Some r) e = ap (cell_of (part_in p b (o b))) (same b (part_its p b (o b) r e))
 
-  bytes_of : FinMap nat_cmp Fate → ℕ → List ℕ
+  abbrev bytes_of : FinMap nat_cmp Fate → ℕ → List ℕ
   bytes_of f b = unwrap_or (block_with (get f b) None) (im.at b)
 
   bytes_same : (f f' : FinMap nat_cmp Fate) (b : ℕ) → get f' b ≡ get f b → bytes_of f' b ≡ bytes_of f b
   bytes_same f f' b e = ap (λ fate. unwrap_or (block_with fate None) (im.at b)) e
 
-  h_with : FinMap nat_cmp Fate → Holding
+  abbrev h_with : FinMap nat_cmp Fate → Holding
   h_with f = holding (with_draft im f) o p
 
   shows : (f : FinMap nat_cmp Fate) → holding_over (seen_with v f) (holding im o p) ≡ h_with f
@@ -253,7 +253,7 @@ module _ (v : Seen) (im : Image) (o : Owners) (l : Layout) (t : Tree) (of : IsOf
 
     -- ---- the group
 
-    at_of : FinMap nat_cmp Fate → ℕ → List ℕ
+    abbrev at_of : FinMap nat_cmp Fate → ℕ → List ℕ
     at_of f = (with_draft im f).at
 
     sees01 : (b : ℕ) → HasBlock (seen_with v f0) b → HasBlock (seen_with v f1) b

@@ -174,7 +174,7 @@ all_taken v says groups own r none is = by r.first is.first
     empty = nothing_first (free_in says own) none
 
     by : (first : Option Room) → IsFirstRoom v says (free_in_all says groups) first → IsTaken v says groups own (taken_from r.count first)
-    by None no = (is.count, subst (λ n. n < blocks_needed) (sym is.count) (no_length (free_in_all says groups) no), no_length (free_in says own) empty)
+    by None nothing = (is.count, subst (λ n. n < blocks_needed) (sym is.count) (no_length (free_in_all says groups) nothing), no_length (free_in says own) empty)
     by (Some room) one = record { has = one.has; data_block = one.data_block; free = one.free; first = ap (λ xs. slice_get (xs ++ free_in_all says groups) 0) empty ∙ one.first }
 
 -- ---- one group after another

@@ -3,7 +3,7 @@ use Rattle.std.proofs.Common.{◌≡◌, ℕ, zero, suc, ◌+◌, ◌<◌, ◌�
 use Rattle.std.specs.Prelude.{nat_lt, if◌then◌else◌, filter}
 use Rattle.std.specs.List.{range_with_len}
 use Rattle.std.specs.Ordering.{nat_cmp}
-use Rattle.std.specs.FinMap.{FinMap, empty}
+use Rattle.std.specs.FinMap.{FinMap, empty, get-empty}
 use Rattle.std.proofs.lemmas.List.{append_assoc}
 use Rattle.std.proofs.lemmas.List.Elements.{All-append}
 use Rattle.file_tree.specs.Tree.{Tree}
@@ -72,7 +72,7 @@ asked_behind v im o l list more m held is = record {
 
 module _ (v : Seen) (im : Image) (o : Owners) (l : Layout) (t : Tree) (of : IsOf v im o l t) where
   nothing_put : AreWhole v.size (empty {X = Fate} {R = nat_cmp})
-  nothing_put b lock plain bytes put = absurd (none_some put)
+  nothing_put b lock plain bytes put = absurd (none_some (sym (get-empty nat_cmp b) ∙ put))
 
   -- the image's groups are shown
   pub are_shown : AreShown v im.at

@@ -1,7 +1,3 @@
-use Rattle.making_calls.proofs.Holds.{lack_one}
-use Rattle.making_calls.proofs.InImage.{asked_before}
-use Rattle.making_calls.proofs.NewInodes.{head_new}
-use Rattle.making_calls.proofs.Chain.{sees_more}
 use Rattle.std.proofs.Common.{ℕ, ◌-◌, ◌%◌, ◌<◌, length, get_or, ap, sym, subst, ◌∙◌, arith}
 use Rattle.std.proofs.Math.Nat.{mod-lt}
 use Rattle.std.proofs.lemmas.List.{get_or_default}
