@@ -1,5 +1,5 @@
 -- What a sound inode has.
-use Rattle.std.proofs.Common.{◌≡◌, ◌⊎◌, ℕ, zero, suc, ◌+◌, ◌*◌, ◌/◌, ◌%◌, ◌<◌, ◌≤◌, inl, inr, List, length, replicate, Option, Some, None, refl, sym, ap, subst, ◌∙◌, arith}
+use Rattle.std.proofs.Common.{◌≡◌, ◌⊎◌, ℕ, ◌≢◌, zero, suc, ◌+◌, ◌-◌, ◌*◌, ◌/◌, ◌%◌, ◌<◌, ◌≤◌, inl, inr, List, length, replicate, Option, Some, None, refl, sym, ap, subst, ◌∙◌, arith}
 use Rattle.std.proofs.lemmas.Bool.{cases_eq, both_ways}
 use Rattle.std.proofs.lemmas.List.{length-replicate}
 use Rattle.std.proofs.Math.Nat.{mod-lt, div-lt_iff_lt-mul}
@@ -7,10 +7,11 @@ use Rattle.std.specs.Prelude.{IsSome, unwrap_or}
 use Rattle.gfs2_layout.specs.Device.{IsBlockSize}
 use Rattle.gfs2_layout.specs.Headers.{HasHeader}
 use Rattle.gfs2_layout.specs.Holding.{Holding, Cell, Part, Itself, Pointed, cell_part, part_at, bytes_at}
-use Rattle.gfs2_layout.specs.Inode.{Leads, from_dinode, from_block, HasTree, IsInode, dinode_in, is_directory_in, height_in, header_length, fan, span, pointer, descend, content_block, content_count}
+use Rattle.gfs2_layout.specs.Inode.{Leads, from_dinode, from_block, IsPointed, by_dinode, by_block, HasTree, IsInode, dinode_in, is_directory_in, height_in, header_length, fan, span, pointer, descend, content_block, content_count}
 use Rattle.gfs2_layout.specs.Structures.{dinode_length, is_regular}
 use Rattle.glock_names.specs.Views.{Seen, IsView}
 use Rattle.dinode_tree.specs.Broken.{Needs, of_dinode, of_indirect, of_table, IsBroken, no_header, other_address, no_number, no_mode, too_high, too_large_for_dinode, too_large_for_height, past_end}
+use Rattle.dinode_tree.specs.Below.{IsBelow}
 use Rattle.dinode_tree.specs.Reading.{reach, block_at, AreWholeBefore}
 use Rattle.dinode_tree.specs.Shown.{IsAsSeen, IsShown}
 use Rattle.dinode_tree.proofs.Pointers.{descend_zero, descend_one, descend_top, none_past, none_at_hole, some_within}
@@ -143,3 +144,34 @@ alone_is_whole v a at view i b low counted is = each (v.block_at b) refl
 pub some_is_shown : (v : Seen) (a : ℕ) → (h : Holding) × (IsShown v a h × (IsView v → (at : ℕ) → AreWholeBefore h at))
 some_is_shown v a =
     (alone v a, (all_is_shown v (alone v a) refl (λ b. refl) (λ b bytes there is. ap (λ o. unwrap_or o (replicate v.size 0)) is), λ view at. alone_is_whole v a at view))
+
+-- ---- the blocks to which its pointers lead
+
+-- a block with the part that a pointer tells is led to by that pointer, where the block with the pointer is led to
+led_one : (h : Holding) (b from k level first : ℕ) → b ≢ 0 → ((x above j start : ℕ) → part_at h x ≡ Some (Pointed above j (suc level) start) → Leads h above j (suc level) start x)
+    → IsPointed h b from k level first → Leads h from k level first b
+led_one h b from k level first some over (by_dinode own height low is first_is) =
+    let same : pointer h dinode_length h.own k ≡ b = ap (λ x. pointer h dinode_length x k) (sym own) ∙ is in
+    subst (λ f. Leads h from k level f b) (sym first_is) (subst (λ x. Leads h x k level (k * span h.size level) b) (sym own)
+    (subst (Leads h h.own k level (k * span h.size level)) same (from_dinode k level height low (λ e. some (sym same ∙ e)))))
+led_one h b from k level first some over (by_block above j start part low is first_is) =
+    subst (λ f. Leads h from k level f b) (sym first_is) (subst (Leads h from k level (start + k * span h.size level)) is
+    (from_block above j level start from k (over from above j start part) low (λ e. some (sym is ∙ e))))
+
+not_zero : (h : Holding) (b : ℕ) (p : Part) → part_at h 0 ≡ None → part_at h b ≡ Some p → b ≢ 0
+not_zero h b p nobody part none = let both : Some p ≡ None = sym part ∙ ap (part_at h) none ∙ nobody in absurd (cc)
+
+-- so it is whatever its level
+led_from : (h : Holding) (n b from k level first : ℕ) → HasTree h → part_at h 0 ≡ None → height_in h ≡ n + suc level → part_at h b ≡ Some (Pointed from k level first) → Leads h from k level first b
+led_from h zero b from k level first tree nobody high part =
+    led_one h b from k level first (not_zero h b _ nobody part) (λ x above j start over. absurd (omega (arith, high, tree.below x above j (suc level) start over))) (tree.pointed b from k level first part)
+led_from h (suc n) b from k level first tree nobody high part =
+    led_one h b from k level first (not_zero h b _ nobody part) (λ x above j start over. led_from h n x above j (suc level) start tree nobody (omega (arith, high)) over) (tree.pointed b from k level first part)
+
+pub parts_of_led : (h : Holding) (b : ℕ) → IsInode h → IsBelow h b → (from k level first : ℕ) × (part_at h b ≡ Some (Pointed from k level first))
+parts_of_led h b sound (from, k, level, first, leads) = (from, k, level, first, part_of_led h from k level first b sound.tree leads)
+
+pub led_of_part : (h : Holding) (b from k level first : ℕ) → IsInode h → part_at h 0 ≡ None → part_at h b ≡ Some (Pointed from k level first) → IsBelow h b
+led_of_part h b from k level first sound nobody part =
+    let low = sound.tree.below b from k level first part in
+    (from, k, level, first, led_from h (height_in h - suc level) b from k level first sound.tree nobody (omega (arith, low)) part)

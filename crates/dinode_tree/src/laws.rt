@@ -1,9 +1,10 @@
 //! What the definitions mean. The functions do nothing: their contracts are the laws.
-ghost use Rattle.std.specs.Prelude.{◌≡◌, ℕ, Some, IsSome};
+ghost use Rattle.std.specs.Prelude.{◌≡◌, ℕ, None, Some, IsSome};
 ghost use Rattle.gfs2_layout.specs.Device.{IsBlockSize};
-ghost use Rattle.gfs2_layout.specs.Holding.{Holding, Itself, part_at};
+ghost use Rattle.gfs2_layout.specs.Holding.{Holding, Itself, Pointed, part_at};
 ghost use Rattle.gfs2_layout.specs.Inode.{IsInode};
 ghost use Rattle.glock_names.specs.Views.{Seen, IsView};
+ghost use Rattle.dinode_tree.specs.Below.{IsBelow};
 ghost use Rattle.dinode_tree.specs.Broken.{IsBroken};
 ghost use Rattle.dinode_tree.specs.Shown.{IsAsSeen, IsShown};
 ghost use Rattle.dinode_tree.specs.Reading.{AreWholeBefore};
@@ -26,6 +27,13 @@ pub fn all_blocks_are_shown()
 /// A law: in an inode that is sound in itself nothing is broken, so no call tells that it is damaged.
 pub fn sound_inodes_break_nothing()
     ensures { (h : Holding) (rule b : ℕ) → IsInode h → IsBroken h rule b → ⊥ }
+{}
+
+/// A law: in an inode that is sound in itself the blocks to which its pointers lead are those whose part tells of a pointer;
+/// it has no part in block 0, to which no pointer leads.
+pub fn sound_pointers_are_parts()
+    ensures parts { (h : Holding) (b : ℕ) → IsInode h → IsBelow h b → (from k level first : ℕ) × (part_at h b ≡ Some (Pointed from k level first)) }
+    ensures led { (h : Holding) (b from k level first : ℕ) → IsInode h → part_at h 0 ≡ None → part_at h b ≡ Some (Pointed from k level first) → IsBelow h b }
 {}
 
 /// A law: there is an inode that a view shows, whatever the view has; and all its blocks of content are whole blocks, or

@@ -1,4 +1,4 @@
-ghost use Rattle.std.specs.Prelude.{◌≡◌, ◌+◌, ◌-◌, ◌/◌, ◌%◌, ◌^◌, ◌≤◌, IfSome, IfNone, length};
+ghost use Rattle.std.specs.Prelude.{◌≡◌, ◌+◌, ◌*◌, ◌-◌, ◌/◌, ◌%◌, ◌^◌, ◌≤◌, IfSome, IfNone, length};
 ghost use Rattle.gfs2_layout.specs.Bytes.{u64_at};
 ghost use Rattle.gfs2_layout.specs.Inode.{fan as fan_of, span as span_of};
 
@@ -49,4 +49,19 @@ pub(crate) fn split(size: usize, level: u16, index: u64) -> (u64, u64)
         Some(span) => (index / span, index % span),
         None => (0, index),
     }
+}
+
+/// The index of the first block of content below pointer k of a block, whose first pointer leads to blocks so many levels
+/// above content and to the block of content with index `first`; None from 2^64 on.
+pub(crate) fn index_of(size: usize, level: u16, first: u64, k: u64) -> Option<u64>
+    requires { 512 ≤ size }
+    ensures some { IfSome result (λ i. i ≡ first + k * span_of size level) }
+    ensures none { IfNone result (2 ^ 64 ≤ first + k * span_of size level) }
+{
+    if k == 0 {
+        return Some(first);
+    }
+    let span = span(size, level)?;
+    let above = k.checked_mul(span)?;
+    first.checked_add(above)
 }

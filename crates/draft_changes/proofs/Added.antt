@@ -14,7 +14,7 @@ use Rattle.drafts.specs.declared.change.Written.{Written}
 use Rattle.drafts.specs.declared.fate.Fate.{Fate}
 use Rattle.drafts.specs.declared.fate.Fate.TheVariants.{Put}
 use Rattle.gfs2_layout.specs.declared.rindex.Rindex.{Rindex}
-use Rattle.gfs2_layout.specs.Holding.{Holding, Itself}
+use Rattle.gfs2_layout.specs.Holding.{Holding, Itself, alone}
 use Rattle.gfs2_layout.specs.Exchanges.{IsExchanged, IsCounted}
 use Rattle.gfs2_layout.specs.Inode.{Head, IsInode, head_of, dinode_in, is_directory_in, records_of}
 use Rattle.gfs2_layout.specs.Records.{Record}
@@ -37,7 +37,7 @@ use Rattle.image_changes.proofs.Frame.{dinode_its, not_its}
 use Rattle.image_changes.proofs.Laid.{follow_dinode}
 use Rattle.image_changes.proofs.Nodes.{among_in, in_among}
 use Rattle.image_changes.proofs.States.{table_says}
-use Rattle.draft_changes.specs.Adding.{alone, ReadsNew, AddsName, AddingMakes}
+use Rattle.draft_changes.specs.Adding.{ReadsNew, AddsName, AddingMakes}
 use Rattle.draft_changes.specs.Adding as new
 use Rattle.draft_changes.specs.Groups.{PutsGroup}
 use Rattle.draft_changes.proofs.Rows.{of_its, itself_or_within, not_group_free, in_header_or_not, said_free}

@@ -1,4 +1,5 @@
 pub mod Views
+pub mod Puts
 pub mod Rows
 pub mod Framed
 pub mod Added

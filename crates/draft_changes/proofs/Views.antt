@@ -18,7 +18,7 @@ use Rattle.image_model.proofs.Held.{none_some, own_part, itself_own}
 use Rattle.image_model.proofs.Members.{IsIn, contained, is_in}
 use Rattle.image_changes.specs.Drafted.{with_draft}
 use Rattle.image_changes.proofs.Finishing.{drafts_show}
-use Rattle.draft_changes.specs.Shown.{ShowsInodes, ShowsBlocks, LaterShows, ShowsGroups, GroupsAreListed, HaveTheseBlocks, NoneHasTheFirst}
+use Rattle.draft_changes.specs.Shown.{ShowsInodes, ShowsBlocks, LaterShows, InodesStay, ShowsGroups, GroupsAreListed, HaveTheseBlocks, NoneHasTheFirst}
 use Rattle.draft_changes.proofs.Rows.{part_there}
 
 over_cell : (seen : Option (List ℕ)) (part : Option Part) (bytes : List ℕ) → option_map (bytes_over seen) (cell_of part bytes) ≡ cell_of part (unwrap_or seen bytes)
@@ -53,6 +53,17 @@ later_shows v fates later im agrees sees = λ i b. each b i
     each b = ap (seen_or ((seen_with v later).block_at b)) (drafts_show v fates im agrees b)
         ∙ unseen b ((seen_with v fates).block_at b) ((seen_with v later).block_at b) refl refl
         ∙ sym (drafts_show v later im agrees b)
+
+pub inodes_stay : InodesStay
+unfolding cell_in
+inodes_stay fates later im o a same = λ i. record { size = im.size; count = im.count; own = a; cell = λ b. each b i }
+  where
+    by : (b : ℕ) (p : Option Part) → (IsSome (cell_of p (im.at b)) → get later b ≡ get fates b) → cell_of p ((with_draft im later).at b) ≡ cell_of p ((with_draft im fates).at b)
+    by b None e = refl
+    by b (Some part) e = ap (λ f. cell_of (Some part) (unwrap_or (block_with f None) (im.at b))) (e refl)
+
+    each : (b : ℕ) → cell_in (with_draft im later) o a b ≡ cell_in (with_draft im fates) o a b
+    each b = by b (part_in a b (o b)) (same b)
 
 pub shows_groups : ShowsGroups
 shows_groups v fates im o l t g is whole listed = record {

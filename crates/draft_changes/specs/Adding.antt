@@ -1,5 +1,5 @@
 -- A draft that adds a name: in an image, the directory gets a record more, and a block that was free a new inode's dinode.
-use Rattle.std.specs.Prelude.{ℕ, ◌≡◌, ◌≢◌, ◌-◌, ◌==◌, true, false, if◌then◌else◌, List, [], ◌∷◌, codes, slice_set, None, Some}
+use Rattle.std.specs.Prelude.{ℕ, ◌≡◌, ◌≢◌, ◌-◌, true, false, List, [], ◌∷◌, codes, slice_set, None, Some}
 use Rattle.std.specs.List.Sorted.{IsPermutation}
 use Rattle.std.specs.Ordering.{nat_cmp}
 use Rattle.std.specs.FinMap.{FinMap, get}
@@ -14,7 +14,7 @@ use Rattle.drafts.specs.declared.fate.Fate.TheVariants.{Put}
 use Rattle.gfs2_layout.specs.Bitmap.{state_at}
 use Rattle.gfs2_layout.specs.Groups.{bitmap_of}
 use Rattle.gfs2_layout.specs.declared.rindex.Rindex.{Rindex}
-use Rattle.gfs2_layout.specs.Holding.{Holding, Itself}
+use Rattle.gfs2_layout.specs.Holding.{Holding, alone}
 use Rattle.gfs2_layout.specs.Inode.{Head, IsInode, dinode_in, is_directory_in, head_of, records_of}
 use Rattle.gfs2_layout.specs.Records.{Record, child_named}
 use Rattle.glock_names.specs.Views.{Seen}
@@ -29,10 +29,6 @@ use Rattle.image_changes.specs.Drafted.{MakesIn, with_draft}
 use Rattle.image_changes.specs.Flats.{in_directory}
 use Rattle.image_changes.specs.Instances.{IsAt, records_at, is_directory_at}
 use Rattle.draft_changes.specs.Groups.{PutsGroup}
-
--- an inode that has its dinode's block and no other
-abbrev pub alone : ℕ → ℕ → ℕ → List ℕ → Holding
-alone size count block bytes = record { size = size; count = count; own = block; cell = λ b. if b == block then Some (record { part = Itself; bytes = bytes }) else None }
 
 -- a directory without a name: `.` is its record of itself, and `..` that of its parent, which has this number and kind
 pub record IsEmptyDirectory (above : Head) (parent : ℕ) (h : Holding) : Type 0 where

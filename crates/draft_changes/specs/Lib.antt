@@ -1,5 +1,5 @@
-pub mod Groups
 pub mod Shown
+pub mod Groups
 pub mod Adding
 pub mod Removing
 pub mod Rewriting

@@ -1,7 +1,7 @@
 -- What is told of a view or of a draft over it, as what it is in an image that the view may be of.
 use Rattle.std.specs.Prelude.{ℕ, ◌≡◌, ◌⊎◌, ◌↔◌, IsSome, true, false, List, None, Some}
 use Rattle.std.specs.Ordering.{nat_cmp}
-use Rattle.std.specs.FinMap.{FinMap}
+use Rattle.std.specs.FinMap.{FinMap, get}
 use Rattle.file_tree.specs.Tree.{Tree}
 use Rattle.drafts.specs.Fates.{AreWhole, seen_with}
 use Rattle.drafts.specs.declared.fate.Fate.{Fate}
@@ -40,6 +40,11 @@ abbrev pub LaterShows : Type 0
 LaterShows = (v : Seen) (fates later : FinMap nat_cmp Fate) (im : Image) → AgreesWith v im
     → ((b : ℕ) → HasBlock (seen_with v fates) b → HasBlock (seen_with v later) b)
     → overlaid (seen_with v later) (with_draft im fates).at ≡ (with_draft im later).at
+
+-- a later draft that makes of each block of an inode what the first one made leaves the inode as that did
+abbrev pub InodesStay : Type 0
+InodesStay = (fates later : FinMap nat_cmp Fate) (im : Image) (o : Owners) (a : ℕ) → ((b : ℕ) → IsSome ((holding im o a).cell b) → get later b ≡ get fates b)
+    → holding (with_draft im later) o a ≡ holding (with_draft im fates) o a
 
 -- the draft shows each group as it is in the image with the draft
 abbrev pub ShowsGroups : Type 0

@@ -1,20 +1,13 @@
 //! What is told of a view, or of a draft over it, as what it is in an image that the view may be of.
-ghost use Rattle.draft_changes.specs.Shown.{
-  GroupsAreListed,
-  HaveTheseBlocks,
-  LaterShows,
-  NoneHasTheFirst,
-  ShowsBlocks,
-  ShowsGroups,
-  ShowsInodes,
-};
+ghost use Rattle.draft_changes.specs.Shown.{GroupsAreListed, HaveTheseBlocks, InodesStay, LaterShows, NoneHasTheFirst, ShowsBlocks, ShowsGroups, ShowsInodes};
 
 /// A law: what a draft over a view shows of an inode, of blocks or of a group is that of the image with the draft, whichever
-/// image that the view may be of it is; and that of the image with a later draft is what this one shows of it.
+/// image that the view may be of it is; a later draft goes on from there, and leaves an inode of whose blocks it makes the same.
 pub fn drafts_show_images()
     ensures inodes { ShowsInodes }
     ensures blocks { ShowsBlocks }
     ensures later { LaterShows }
+    ensures stay { InodesStay }
     ensures groups { ShowsGroups }
 {}
 

@@ -55,6 +55,10 @@ seen_with v fates = record {
   block_at = λ b. block_with (get fates b) (v.block_at b);
 }
 
+-- what a draft sees, over a view of which this is what it sees
+abbrev pub seen_in : {V : Type 0} → (V → Seen) → Drafted V → Seen
+seen_in seen d = seen_with (seen d.view) d.fates
+
 -- ---- the change, of the blocks and what becomes of them by rising number
 
 abbrev pub blocks_in : List (ℕ × Fate) → List Written

@@ -10,6 +10,7 @@ pub mod CutAfter
 pub mod Exchanged
 pub mod Spelled
 pub mod BitmapLaws
+pub mod StatePuts
 pub mod InPlace
 pub mod FieldsInPlace
 pub mod ReadBack

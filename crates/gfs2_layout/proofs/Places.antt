@@ -1,16 +1,16 @@
 -- Areas that are joined, and places in an area.
-use Rattle.std.proofs.Common.{◌≡◌, ℕ, zero, suc, ◌+◌, ◌-◌, ◌≤◌, true, false, List, [], ◌∷◌, ◌++◌, length, take, drop, refl, sym, ap, ◌∙◌, subst, arith, length-append, length-drop}
+use Rattle.std.proofs.Common.{◌≡◌, ℕ, zero, suc, ◌+◌, ◌-◌, ◌≤◌, true, false, List, [], ◌∷◌, ◌++◌, length, take, drop, None, refl, sym, ap, ◌∙◌, subst, arith, length-append, length-drop}
 use Rattle.std.specs.Prelude.{sum_by}
 use Rattle.std.specs.Int.{Width, w16, w32, w64, byte_len, from_be_bytes}
 use Rattle.std.specs.List.{AllByRecursion, list_any}
 use Rattle.std.proofs.Math.Seq.{take-append-add}
-use Rattle.std.proofs.lemmas.List.Folds.{list_any-append}
+use Rattle.std.proofs.lemmas.List.Folds.{list_any-append, find-append}
 use Rattle.std.proofs.lemmas.Bool.Decides.{nat_tests}
 use Rattle.std.proofs.lemmas.List.{take-take, drop-take, drop-drop, take_all, take_at, drop-append-le, take-append-drop, length-take-le, append-nil}
 use Rattle.std.proofs.lemmas.List.Sums.{sum_by-cons}
 use Rattle.gfs2_layout.specs.Bytes.{slice, number_at, u16_at}
 use Rattle.gfs2_layout.specs.Structures.{dirent_of}
-use Rattle.gfs2_layout.specs.Area.{Slot, slot_at, slot_length, has_no_record, slots_within, slots_of, HasItsName, IsArea, IsRecordAt}
+use Rattle.gfs2_layout.specs.Area.{Slot, slot_at, slot_length, has_no_record, slots_within, slots_of, HasItsName, IsArea, IsRecordAt, has_name, first_named}
 use Rattle.gfs2_layout.specs.declared.dirent.Dirent.{Dirent}
 use Rattle.gfs2_layout.specs.Putting.{has_room, IsFirstWithRoom}
 use Rattle.gfs2_layout.proofs.Records.{behind, record_length, length_behind, one_here, same_slots, area_on, area_ends}
@@ -190,6 +190,12 @@ goes_on area at rest is some =
       };
       slots = ap slots_of taken ∙ both.slots ∙ ap (λ (ss : List Slot). slots_of (take at area) ++ ss) one.slots;
     }
+
+-- no record before the next place has a name where none before this place has it, and the one that begins here hasn't
+pub none_on : (name area : List ℕ) (at : ℕ) (rest : List ℕ) → GoesOn area at rest → first_named name (slots_of (take at area)) ≡ None → has_name name (slot_at rest) ≡ false
+    → first_named name (slots_of (take (at + u16_at 20 rest) area)) ≡ None
+none_on name area at rest on none other =
+    ap (first_named name) on.slots ∙ find-append (has_name name) (slots_of (take at area)) (slot_at rest ∷ []) ∙ rw (none, other) refl
 
 -- up to a place the records have no room; from it on the area goes on
 pub record IsPlace (needed : ℕ) (area : List ℕ) (at : ℕ) (rest : List ℕ) : Type 0 where

@@ -1,5 +1,5 @@
 -- What an inode has: its own blocks, and the part of each.
-use Rattle.std.specs.Prelude.{ℕ, List, [], Option, None, Some}
+use Rattle.std.specs.Prelude.{ℕ, ◌==◌, if◌then◌else◌, List, [], Option, None, Some}
 
 -- `Pointed block pointer level first`: this pointer of that block leads here, so many levels above content, and the
 -- content here and below begins at the block of content with index `first`.
@@ -19,6 +19,10 @@ pub record Holding : Type 0 where
   pub count : ℕ  -- blocks of the image
   pub own : ℕ  -- the block of the inode's dinode
   pub cell : ℕ → Option Cell
+
+-- an inode that has its dinode's block and no other
+abbrev pub alone : ℕ → ℕ → ℕ → List ℕ → Holding
+alone size count block bytes = record { size = size; count = count; own = block; cell = λ b. if b == block then Some (record { part = Itself; bytes = bytes }) else None }
 
 abbrev pub cell_bytes : Option Cell → List ℕ
 cell_bytes None = []

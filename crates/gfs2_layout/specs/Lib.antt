@@ -10,6 +10,7 @@ pub mod Bitmap
 pub mod Device
 pub mod Headers
 pub mod Groups
+pub mod States
 pub mod Holding
 pub mod Records
 pub mod Exchanges

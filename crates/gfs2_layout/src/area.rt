@@ -1,4 +1,4 @@
-ghost use Rattle.std.specs.Prelude.{◌≡◌, ◌+◌, ◌^◌, ◌≤◌, ◌<◌, ◌↔◌, length, drop, [], Some, None, false, IsTrue, IfSome, MatchOption};
+ghost use Rattle.std.specs.Prelude.{◌≡◌, ◌+◌, ◌^◌, ◌≤◌, ◌<◌, ◌↔◌, length, take, drop, [], Some, None, false, IsTrue, IfSome, MatchOption};
 ghost use Rattle.gfs2_layout.specs.Structures.{is_in_use};
 ghost use Rattle.gfs2_layout.specs.Bytes.{u16_at as number_16};
 ghost use Rattle.gfs2_layout.specs.Area.{IsArea, IsRecordAt, IsFirstRecord, HasItsName, name_of, has_no_record, has_name, slots_of, slot_at, first_named};
@@ -75,6 +75,7 @@ pub fn find_record(area: &[u8], name: &[u8]) -> Option<u32>
     ensures first { MatchOption result (first_named name.now (slots_of area.now) ≡ None)
         (λ at. (at + 40 ≤ length area.now) × (first_named name.now (slots_of area.now) ≡ Some (slot_at (drop at area.now)))) }
     ensures place { IfSome result (IsRecordAt area.now) }
+    ensures none_before { IfSome result (λ at. first_named name.now (slots_of (take at area.now)) ≡ None) }
 {
     let mut at = 0u32;
     let mut rest = area;

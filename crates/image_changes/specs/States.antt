@@ -1,8 +1,9 @@
 -- Groups: those that a change leaves alone, and one in which the state of a block is put.
-use Rattle.std.specs.Prelude.{ℕ, ◌≡◌, ◌+◌, ◌*◌, ◌<◌, List, [], length, slice_index_or, slice_set}
+use Rattle.std.specs.Prelude.{ℕ, ◌≡◌, ◌+◌, ◌*◌, ◌<◌, ◌≤◌, Contains, List, [], length, slice_index_or, slice_set}
 use Rattle.gfs2_layout.specs.Headers.{HasHeader}
 use Rattle.gfs2_layout.specs.declared.rindex.Rindex.{Rindex}
 use Rattle.gfs2_layout.specs.Groups.{bitmap_of, group_header, IsStatePut}
+use Rattle.gfs2_layout.specs.States.{AreStatesPut, places_in}
 use Rattle.image_model.specs.Groups.{IsHeaderOf, IsDataOf, group_blocks, states_of, state_of, IsGroup}
 use Rattle.image_model.specs.Image.{Image}
 use Rattle.image_model.specs.Owners.{Owners}
@@ -27,3 +28,11 @@ OtherGeneration = (g : Rindex) (old new : List (List ℕ)) (states : List ℕ) (
 abbrev pub TableSays : Type 0
 TableSays = (o : Owners) (g : Rindex) (states : List ℕ) → length states ≡ g.data_blocks
     → ((i : ℕ) → i < g.data_blocks → slice_index_or states i 0 ≡ state_of (o (g.data0 + i))) → states ≡ states_of o g
+
+-- A group some of whose data blocks are freed, one after another, says what the table does in which these are free and the group's other
+-- data blocks have the states of before.
+abbrev pub BlocksAreFreed : Type 0
+BlocksAreFreed = (im im' : Image) (o o' : Owners) (g : Rindex) (blocks : List ℕ) → g.data_blocks ≤ 4 * length (bitmap_of (group_blocks im.at g))
+    → ((b : ℕ) → IsDataOf g b → Contains blocks b → state_of (o' b) ≡ 0) → ((b : ℕ) → IsDataOf g b → ¬ (Contains blocks b) → state_of (o' b) ≡ state_of (o b))
+    → AreStatesPut (group_blocks im.at g) (group_blocks im'.at g) (places_in g.data0 g.data_blocks blocks) 0
+    → IsGroup g (group_blocks im.at g) (states_of o g) → IsGroup g (group_blocks im'.at g) (states_of o' g)

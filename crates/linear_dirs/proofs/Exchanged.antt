@@ -1,8 +1,8 @@
 -- A linear directory after its block was put in a draft.
-use Rattle.std.proofs.Common.{◌≡◌, ◌≢◌, IsTrue, ℕ, ◌+◌, ◌≤◌, List, [], ◌∷◌, length, drop, Some, refl, sym, ap, ◌∙◌, subst, arith}
+use Rattle.std.proofs.Common.{◌≡◌, ◌≢◌, IsTrue, ℕ, ◌+◌, ◌≤◌, List, [], ◌∷◌, length, take, drop, None, Some, refl, sym, ap, ◌∙◌, subst, arith}
 use Rattle.std.specs.Prelude.{not, ◌&&◌, ◌==◌}
 use Rattle.std.proofs.lemmas.Bool.Decides.{nat_tests}
-use Rattle.drafts.specs.Fates.{Drafted}
+use Rattle.drafts.specs.Fates.{Drafted, seen_in}
 use Rattle.gfs2_layout.specs.Area.{Slot, IsRecordAt, first_named, slots_of}
 use Rattle.gfs2_layout.specs.Cutting.{slot_from, slots_without}
 use Rattle.gfs2_layout.specs.Records.{record_named, Record, IsRecordArea, records_in, record_of, said_by}
@@ -21,7 +21,7 @@ use Rattle.dinode_tree.specs.Shown.{IsShown}
 use Rattle.linear_dirs.specs.declared.removing.Place.{Place}
 use Rattle.linear_dirs.specs.Exchanges.{IsCutFrom, HasExchanged, uncounted}
 use Rattle.linear_dirs.specs.Reading.{IsAreaIn, IsDinodeIn, IsPlaceOf, IsBlockPut, IsDirectoryOf, IsFewer}
-use Rattle.linear_dirs.specs.Shown.{IsLinearIn, record_for, head_for, holding_over, seen_in}
+use Rattle.linear_dirs.specs.Shown.{IsLinearIn, record_for, head_for, holding_over}
 use Rattle.linear_dirs.proofs.Looked.{records_are}
 use Rattle.linear_dirs.proofs.Counts.{counts_more, counts_fewer}
 use Rattle.linear_dirs.proofs.Puts.{came, went}
@@ -63,6 +63,7 @@ module _ {V : Type 0} (seen : V → Seen) (old new : Drafted V) (dir : ℕ) (h :
   cut_from name p place slots = record {
     place = p.at;
     at = subst (λ a. IsRecordAt a p.at) is.records place.at;
+    none_before = subst (λ a. first_named name (slots_of (take p.at a)) ≡ None) is.records place.none_before;
     first = subst (λ a. first_named name (slots_of a) ≡ Some (slot_from p.at a)) is.records place.first;
     slots = ap slots_of area_now ∙ slots ∙ ap (slots_without p.at) is.records;
   }

@@ -1,5 +1,5 @@
 -- What a directory is after a record went or came.
-use Rattle.std.specs.Prelude.{ℕ, ◌≡◌, List, Some}
+use Rattle.std.specs.Prelude.{ℕ, ◌≡◌, List, take, None, Some}
 use Rattle.gfs2_layout.specs.Area.{IsRecordAt, first_named, slots_of}
 use Rattle.gfs2_layout.specs.Cutting.{slot_from, slots_without}
 use Rattle.gfs2_layout.specs.declared.dinode.Dinode.{Dinode}
@@ -24,5 +24,6 @@ uncounted d = record d { entries = 0; nlink = 0 }
 pub record IsCutFrom (h h' : Holding) (name : List ℕ) : Type 0 where
   pub place : ℕ
   pub at : IsRecordAt (linear_area h) place
+  pub none_before : first_named name (slots_of (take place (linear_area h))) ≡ None
   pub first : first_named name (slots_of (linear_area h)) ≡ Some (slot_from place (linear_area h))
   pub slots : slots_of (linear_area h') ≡ slots_without place (linear_area h)

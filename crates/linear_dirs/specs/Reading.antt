@@ -1,5 +1,5 @@
 -- What the code holds of a linear directory, as what it stands for.
-use Rattle.std.specs.Prelude.{ℕ, ◌≡◌, ◌+◌, ◌≤◌, true, false, List, [], ◌∷◌, length, map, filter, drop, Some, Ok}
+use Rattle.std.specs.Prelude.{ℕ, ◌≡◌, ◌+◌, ◌≤◌, true, false, List, [], ◌∷◌, length, map, filter, take, drop, None, Some, Ok}
 use Rattle.std.specs.FinMap.{insert}
 use Rattle.drafts.specs.Fates.{Drafted}
 use Rattle.drafts.specs.declared.fate.Fate.TheVariants.{Put}
@@ -63,6 +63,7 @@ pub record IsFewer (d d' : Dinode) (lost : ℕ) : Type 0 where
 -- at this place of an area the first record of a name begins, which is so many of its directory's links
 pub record IsPlaceOf (area name : List ℕ) (p : Place) : Type 0 where
   pub at : IsRecordAt area p.at
+  pub none_before : first_named name (slots_of (take p.at area)) ≡ None
   pub first : first_named name (slots_of area) ≡ Some (slot_from p.at area)
   pub used : is_in_use (slot_from p.at area).head ≡ true
   pub named : record_named (records_in area) name ≡ Some (record_of (slot_from p.at area))

@@ -1,7 +1,6 @@
 -- A directory as a view shows it, and as a draft leaves it.
 use Rattle.std.specs.Prelude.{ℕ, ◌≡◌, true, false, List, drop, length, Option, None, Some, option_map, ◌-◌, [], ◌∷◌, ◌++◌, replicate, codes}
 use Rattle.crc_words.specs.Remainder.{crc32_of}
-use Rattle.drafts.specs.Fates.{Drafted, seen_with}
 use Rattle.gfs2_layout.specs.Area.{Slot}
 use Rattle.gfs2_layout.specs.Structures.{dinode_of, dinode_length, is_directory}
 use Rattle.gfs2_layout.specs.Holding.{Cell, Holding}
@@ -18,10 +17,6 @@ IsLinearIn v dir = (bytes : List ℕ) → v.block_at dir ≡ Some bytes → (is_
 -- where the view has this block, a record behind its dinode has the name
 abbrev pub HasNameIn : Seen → ℕ → List ℕ → Type 0
 HasNameIn v dir name = (bytes : List ℕ) → v.block_at dir ≡ Some bytes → (r : Record) × (record_named (records_in (drop dinode_length bytes)) name ≡ Some r)
-
--- what a draft sees, over a view of which this is what it sees
-abbrev pub seen_in : {V : Type 0} → (V → Seen) → Drafted V → Seen
-seen_in seen d = seen_with (seen d.view) d.fates
 
 -- ---- what a record says
 

@@ -6,13 +6,12 @@ use Rattle.std.proofs.lemmas.Bool.{cases_eq, cond-true, cond-false, eq-eqb, ne_e
 use Rattle.std.proofs.lemmas.List.Sums.{sum_by-cons}
 use Rattle.gfs2_layout.specs.Groups.{one_if}
 use Rattle.gfs2_layout.specs.Headers.{HasHeader}
-use Rattle.gfs2_layout.specs.Holding.{Holding, Cell, Part, Itself, Pointed, InChain, cell_part, cell_bytes, part_at, bytes_at}
+use Rattle.gfs2_layout.specs.Holding.{Holding, Cell, Part, Itself, Pointed, InChain, cell_part, cell_bytes, part_at, bytes_at, alone}
 use Rattle.gfs2_layout.specs.Inode.{IsInode, dinode_in, height_in, has_hash_flag, is_hashed_in, linear_area, records_of, block_count}
 use Rattle.gfs2_layout.specs.Records.{records_in, IsRecordArea}
 use Rattle.gfs2_layout.specs.Structures.{header_fault, dinode_of, dinode_read, dinode_length, is_directory, is_regular}
 use Rattle.gfs2_layout.specs.declared.dinode.Dinode.{Dinode}
 use Rattle.gfs2_layout.proofs.HeaderLaws.{answer_ok, header_from}
-use Rattle.new_inodes.specs.New.{alone}
 
 -- one of the numbers below a bound is counted once
 none_counted : (b a n : ℕ) → b < a → count_by (λ x. x == b) (range_with_len a n) ≡ 0

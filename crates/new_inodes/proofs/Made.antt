@@ -2,7 +2,7 @@
 use Rattle.std.proofs.Common.{◌≡◌, ◌≢◌, ℕ, ◌-◌, ◌<◌, ◌≤◌, true, false, inl, inr, List, [], ◌∷◌, length, take, drop, Result, Ok, Err, OnOk, refl, ap, ◌∙◌, subst, arith}
 use Rattle.std.specs.Prelude.{codes}
 use Rattle.gfs2_layout.specs.Area.{slots_of}
-use Rattle.gfs2_layout.specs.Holding.{Holding}
+use Rattle.gfs2_layout.specs.Holding.{Holding, alone}
 use Rattle.gfs2_layout.specs.Inode.{Head, dinode_in, content_of}
 use Rattle.gfs2_layout.specs.Laws.{StructuresReadBack}
 use Rattle.gfs2_layout.specs.Records.{IsRecordArea, records_in}
@@ -16,7 +16,7 @@ use Rattle.drafts.specs.Fates.{Drafted}
 use Rattle.drafts.specs.declared.fate.Fate.TheVariants.{Put}
 use Rattle.dinode_tree.specs.Reading.{inode_lock}
 use Rattle.linear_dirs.specs.Shown.{dots_in, record_for}
-use Rattle.new_inodes.specs.New.{IsInodePut, new_file, new_directory, cleared_with, own_entry, alone, IsNewFile, IsNewDirectory}
+use Rattle.new_inodes.specs.New.{IsInodePut, new_file, new_directory, cleared_with, own_entry, IsNewFile, IsNewDirectory}
 use Rattle.new_inodes.proofs.Alone.{IsWhole, bytes_are, dinode_is, linear_is, records_are, is_sound}
 
 pub ok_so : {A E P Q : Type 0} (result : Result A E) → (P → Q) → OnOk result P → OnOk result Q

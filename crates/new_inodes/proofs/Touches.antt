@@ -1,7 +1,7 @@
 -- A dinode that was put with other times.
 use Rattle.std.proofs.Common.{◌≡◌, ℕ, ◌≤◌, false, List, length, drop, None, Some, Ok, sym, ap, ◌∙◌, subst}
 use Rattle.std.specs.FinMap.{insert}
-use Rattle.drafts.specs.Fates.{Drafted}
+use Rattle.drafts.specs.Fates.{Drafted, seen_in}
 use Rattle.drafts.specs.declared.fate.Fate.TheVariants.{Put}
 use Rattle.gfs2_layout.specs.Holding.{Holding}
 use Rattle.gfs2_layout.specs.Inode.{Head, dinode_in, has_hash_flag}
@@ -12,7 +12,7 @@ use Rattle.gfs2_layout.proofs.HeaderLaws.{answer_ok, header_from}
 use Rattle.glock_names.specs.Views.{Seen}
 use Rattle.dinode_tree.specs.Reading.{inode_lock}
 use Rattle.dinode_tree.specs.Shown.{IsShown}
-use Rattle.linear_dirs.specs.Shown.{IsLinearIn, holding_over, seen_in}
+use Rattle.linear_dirs.specs.Shown.{IsLinearIn, holding_over}
 use Rattle.linear_dirs.proofs.Looked.{bytes_of}
 use Rattle.linear_dirs.proofs.Rewritten.{IsRewritten, rewritten, bytes_new, seen_at}
 use Rattle.new_inodes.specs.Touched.{IsTouched, with_times}

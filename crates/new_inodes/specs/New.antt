@@ -1,10 +1,10 @@
 -- A new inode: an empty file, or a directory with `.` and `..` alone.
-use Rattle.std.specs.Prelude.{ℕ, ◌≡◌, ◌-◌, ◌<◌, ◌==◌, true, false, if◌then◌else◌, List, [], ◌∷◌, length, take, replicate, codes, None, Some}
+use Rattle.std.specs.Prelude.{ℕ, ◌≡◌, ◌-◌, ◌<◌, true, false, List, [], ◌∷◌, length, take, replicate, codes, Some}
 use Rattle.std.specs.FinMap.{insert}
 use Rattle.drafts.specs.Fates.{Drafted}
 use Rattle.drafts.specs.declared.fate.Fate.TheVariants.{Put}
 use Rattle.gfs2_layout.specs.Area.{slots_of}
-use Rattle.gfs2_layout.specs.Holding.{Holding, Itself, bytes_at}
+use Rattle.gfs2_layout.specs.Holding.{Holding, alone, bytes_at}
 use Rattle.gfs2_layout.specs.Inode.{IsInode, dinode_in, head_of, content_of, is_hashed_in, linear_area, records_of}
 use Rattle.gfs2_layout.specs.Structures.{dinode_length}
 use Rattle.gfs2_layout.specs.Writing.{dinode_put}
@@ -60,10 +60,6 @@ abbrev pub own_entry : ℕ → ℕ → Entry
 own_entry number block = record { number = number; addr = block; kind = 4 }
 
 -- ---- the inode
-
--- an inode that has its dinode's block and no other
-abbrev pub alone : ℕ → ℕ → ℕ → List ℕ → Holding
-alone size count block bytes = record { size = size; count = count; own = block; cell = λ b. if b == block then Some (record { part = Itself; bytes = bytes }) else None }
 
 -- a new file, byte by byte
 pub record IsNewFile (number block time : ℕ) (h : Holding) : Type 0 where

@@ -11,7 +11,8 @@ ghost use Rattle.dinode_tree.specs.Broken.{IsBroken};
 ghost use Rattle.dinode_tree.specs.Reading.{inode_lock};
 ghost use Rattle.dinode_tree.specs.Shown.{IsShown};
 ghost use Rattle.dinode_tree.specs.Walking.{missing_dinode};
-ghost use Rattle.linear_dirs.specs.Shown.{IsLinearIn, holding_over, seen_in};
+ghost use Rattle.drafts.specs.Fates.{seen_in};
+ghost use Rattle.linear_dirs.specs.Shown.{IsLinearIn, holding_over};
 ghost use Rattle.new_inodes.specs.Touched.{IsTouched};
 
 use dinode_tree::{every_view_shows_an_inode, read_dinode};

@@ -8,3 +8,4 @@ pub mod Puts
 pub mod Miscounts
 pub mod Setting
 mod Numbers
+pub mod Freed

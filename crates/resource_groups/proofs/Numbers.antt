@@ -3,7 +3,7 @@ use Rattle.std.proofs.Common.{◌≡◌, ◌≢◌, ℕ, ◌+◌, ◌<◌, ◌�
 use Rattle.std.specs.FinMap.{FinMap, insert}
 use Rattle.std.specs.Ordering.{nat_cmp}
 use Rattle.std.proofs.lemmas.Bool.{cases_lt}
-use Rattle.drafts.specs.Fates.{Drafted, seen_with}
+use Rattle.drafts.specs.Fates.{Drafted, seen_with, seen_in}
 use Rattle.drafts.specs.declared.fate.Fate.{Fate}
 use Rattle.drafts.specs.declared.fate.Fate.TheVariants.{Put}
 use Rattle.gfs2_layout.specs.Groups.{group_header}
@@ -15,7 +15,7 @@ use Rattle.gfs2_layout.proofs.HeaderLaws.{answer_ok, header_from}
 use Rattle.glock_names.specs.Views.{Seen}
 use Rattle.glock_names.specs.declared.views.Group.{Group}
 use Rattle.resource_groups.specs.Shown.{IsShown, IsHeaderOf, blocks_of, bits_at, group_lock}
-use Rattle.resource_groups.specs.Putting.{KeepsOthers, overlaid, seen_in, seen_or}
+use Rattle.resource_groups.specs.Putting.{KeepsOthers, overlaid, seen_or}
 use Rattle.resource_groups.specs.Numbering.{IsNumberPut}
 use Rattle.resource_groups.proofs.Fits.{header_block}
 use Rattle.resource_groups.proofs.Parts.{front, back, parted, read_is}

@@ -5,7 +5,7 @@ use Rattle.std.specs.Ordering.{nat_cmp}
 use Rattle.std.specs.Cmp.{nat_cmp_total}
 use Rattle.std.proofs.lemmas.Bool.{cases_eq}
 use Rattle.finite_maps.proofs.Keys.{inserted_at, inserted_apart}
-use Rattle.drafts.specs.Fates.{Drafted, block_with, seen_with}
+use Rattle.drafts.specs.Fates.{Drafted, block_with, seen_with, seen_in}
 use Rattle.drafts.specs.declared.fate.Fate.{Fate}
 use Rattle.drafts.specs.declared.fate.Fate.TheVariants.{Put}
 use Rattle.gfs2_layout.specs.Bitmap.{state_at}
@@ -18,7 +18,7 @@ use Rattle.glock_names.specs.declared.LockName.{LockName}
 use Rattle.glock_names.specs.declared.views.Group.{Group}
 use Rattle.profile_limits.specs.Limits.{most_blocks}
 use Rattle.resource_groups.specs.Shown.{IsShown, IsHeaderOf, IsDataOf, IsBroken, HasBitsIn, blocks_of, bits_at, first_place, group_lock}
-use Rattle.resource_groups.specs.Putting.{IsMiscounted, IsRecounted, IsPutIn, PutsTwo, KeepsOthers, overlaid, seen_or, seen_in, bit_put}
+use Rattle.resource_groups.specs.Putting.{IsMiscounted, IsRecounted, IsPutIn, PutsTwo, KeepsOthers, overlaid, seen_or, bit_put}
 use Rattle.resource_groups.proofs.Fits.{fit_of, end_below, big_of, header_block}
 use Rattle.resource_groups.proofs.FreePlaces.{in_group}
 use Rattle.resource_groups.proofs.Parts.{room_is, state_by_block, length_bits}
@@ -157,6 +157,21 @@ module _ {V : Type 0} (seen : V → Seen) (d d1 d2 : Drafted V) (g : Group) (b k
     others = λ c first other. inserted_apart nat_cmp_total nat_cmp-IsAntisymmetric first_fates g.addr (Put (group_lock g) false (group_put h header_seen.0)) c first
         ∙ inserted_apart nat_cmp_total nat_cmp-IsAntisymmetric d.fates (g.addr + k) (Put (group_lock g) false (bit_put k p state puts.bits_there.0)) c other;
   })
+
+  -- what is seen then was seen
+  pub seen_still : (c : ℕ) → HasBlock (seen_in seen d2) c → HasBlock (seen_in seen d) c
+  seen_still c there = elim (cases_eq c g.addr) [
+    | inl first ↦ subst (HasBlock (seen_in seen d)) (sym first) puts.header_there
+    | inr apart ↦ elim (cases_eq c (g.addr + k)) [
+      | inl here ↦ subst (HasBlock (seen_in seen d)) (sym here) puts.bits_there
+      | inr other ↦
+          let after : HasBlock (seen_with v both_fates) c = subst (λ (x : Drafted V). HasBlock (seen_in seen x) c) both_is there in
+          let same : get both_fates c ≡ get d.fates c =
+          inserted_apart nat_cmp_total nat_cmp-IsAntisymmetric first_fates g.addr (Put (group_lock g) false (group_put h header_seen.0)) c apart
+          ∙ inserted_apart nat_cmp_total nat_cmp-IsAntisymmetric d.fates (g.addr + k) (Put (group_lock g) false (bit_put k p state puts.bits_there.0)) c other in
+          (after.0, sym (ap (λ fate. block_with fate (v.block_at c)) same) ∙ after.1)
+    ]
+  ]
 
 -- ---- what stays whatever is answered
 

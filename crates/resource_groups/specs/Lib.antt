@@ -3,3 +3,4 @@ pub mod Finding
 pub mod Counting
 pub mod Putting
 pub mod Numbering
+pub mod Freeing

@@ -1,7 +1,7 @@
 -- The state of a data block put in a draft.
 use Rattle.std.specs.Prelude.{ℕ, zero, suc, ◌≡◌, ◌≢◌, ◌⊎◌, ◌+◌, ◌-◌, ◌<◌, ◌^◌, ◌==◌, Bool, false, List, ◌++◌, take, drop, Option, None, Some}
 use Rattle.std.specs.FinMap.{get}
-use Rattle.drafts.specs.Fates.{Drafted, seen_with}
+use Rattle.drafts.specs.Fates.{Drafted}
 use Rattle.drafts.specs.declared.fate.Fate.TheVariants.{Put}
 use Rattle.gfs2_layout.specs.Bitmap.{with_state}
 use Rattle.gfs2_layout.specs.Groups.{group_header, one_if, uncounted, IsStatePut}
@@ -11,10 +11,6 @@ use Rattle.glock_names.specs.Views.{Seen, HasGroup}
 use Rattle.glock_names.specs.declared.steps.Missing.{Missing}
 use Rattle.glock_names.specs.declared.views.Group.{Group}
 use Rattle.resource_groups.specs.Shown.{IsHeaderOf, IsDataOf, IsMissing, blocks_of, group_lock, HasBitsIn}
-
--- what a draft sees, over a view of which this is what it sees
-abbrev pub seen_in : {V : Type 0} → (V → Seen) → Drafted V → Seen
-seen_in seen d = seen_with (seen d.view) d.fates
 
 -- the block is a data block of one of the view's groups
 abbrev pub HasDataBlock : Seen → ℕ → Type 0

@@ -6,7 +6,8 @@ ghost use Rattle.gfs2_layout.specs.Groups.{group_header};
 ghost use Rattle.glock_names.specs.Steps.{IfIs, IfNeedBlock, IfDamaged};
 ghost use Rattle.glock_names.specs.Views.{HasGroup, IsOfView};
 ghost use Rattle.resource_groups.specs.Shown.{IsShown, IsBroken, IsMissing, blocks_of, group_lock};
-ghost use Rattle.resource_groups.specs.Putting.{KeepsOthers, overlaid, seen_in};
+ghost use Rattle.drafts.specs.Fates.{seen_in};
+ghost use Rattle.resource_groups.specs.Putting.{KeepsOthers, overlaid};
 ghost use Rattle.resource_groups.specs.Numbering.{IsNumberPut, next_number};
 
 use crate::blocks::header_of;

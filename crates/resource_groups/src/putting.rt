@@ -9,7 +9,8 @@ ghost use Rattle.glock_names.specs.Steps.{IfIs, IfNeedBlock, IfDamaged};
 ghost use Rattle.glock_names.specs.Views.{HasBlock, HasGroup, IsOfView, IsView};
 ghost use Rattle.glock_names.specs.declared.views.Group.{Group};
 ghost use Rattle.resource_groups.specs.Shown.{IsShown, IsDataOf, IsBroken, group_lock};
-ghost use Rattle.resource_groups.specs.Putting.{IsPutIn, PutsTwo, KeepsOthers, IsOneOfTwo, HasDataBlock, IsRecounted, IsMiscounted, overlaid, seen_in, head_length, bit_put};
+ghost use Rattle.drafts.specs.Fates.{seen_in};
+ghost use Rattle.resource_groups.specs.Putting.{IsPutIn, PutsTwo, KeepsOthers, IsOneOfTwo, HasDataBlock, IsRecounted, IsMiscounted, overlaid, head_length, bit_put};
 
 use crate::blocks::{bits_of, header_of, lock_of};
 use crate::places::{IN_BITMAP, IN_HEADER, first_place, part_of};
@@ -135,6 +136,7 @@ fn set_in_group<V: View>(
     ensures kept { IfDamaged result (IsOfView (seen_in V.seen draft.old)) }
     ensures stays { IfDamaged result (λ rule broken. draft.new ≡ draft.old) }
     ensures others { KeepsOthers draft.old draft.new group.now }
+    ensures sees { IfIs result (λ done. (c : ℕ) → HasBlock (seen_in V.seen draft.new) c → HasBlock (seen_in V.seen draft.old) c) }
     ensures view { IsView (seen_in V.seen draft.old) }
 {
     let size = draft.block_size();
@@ -180,6 +182,8 @@ pub fn set_state<V: View>(
     ensures kept { IfDamaged result (IsOfView (seen_in V.seen draft.old)) }
     ensures stays { IfDamaged result (λ rule broken. draft.new ≡ draft.old) }
     ensures others { (g : Group) → HasGroup (seen_in V.seen draft.old) g → IsDataOf g block → KeepsOthers draft.old draft.new g }
+    ensures sees { IfIs result (λ done. (c : ℕ) → HasBlock (seen_in V.seen draft.new) c → HasBlock (seen_in V.seen draft.old) c) }
+    ensures view { IsView (seen_in V.seen draft.old) }
 {
     let Some(group) = group_of(&*draft, block) else {
         unreachable!()

@@ -1,4 +1,4 @@
-use Rattle.draft_changes.proofs.Views.{shows_inodes, shows_blocks, later_shows, shows_groups}
+use Rattle.draft_changes.proofs.Views.{shows_inodes, shows_blocks, later_shows, inodes_stay, shows_groups}
 use Rattle.draft_changes.proofs.shown.drafts_show_images.Goals as goal
 
 pub returns-clause-inodes : goal.returns-clause-inodes
@@ -12,3 +12,6 @@ returns-clause-later c = later_shows
 
 pub returns-clause-groups : goal.returns-clause-groups
 returns-clause-groups c = shows_groups
+
+pub returns-clause-stay : goal.returns-clause-stay
+returns-clause-stay c = inodes_stay

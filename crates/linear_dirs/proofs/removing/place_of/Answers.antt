@@ -18,6 +18,7 @@ returns-clause-place c =
     let head : c.head-head.result ≡ dirent_of (drop c.in_ok-at.at area) = c.head-head.ensures ∙ ap dirent_of (rest_is c.in_ok-at.at area) in
     record {
       at = c.in_ok-at.ensures.place;
+      none_before = c.in_ok-at.ensures.none_before;
       first = is;
       used = named.0;
       named = sym (c.records_are_found_by_name.ensures.first area name) ∙ ap (option_map record_of) is;

@@ -4,7 +4,8 @@ use Rattle.gfs2_layout.specs.Records.{Record, IsRecordArea, record_of}
 use Rattle.gfs2_layout.specs.Structures.{dinode_length}
 use Rattle.glock_names.proofs.StepLaws.{answer_at}
 use Rattle.linear_dirs.specs.Exchanges.{HasExchanged}
-use Rattle.linear_dirs.specs.Shown.{holding_over, seen_in}
+use Rattle.drafts.specs.Fates.{seen_in}
+use Rattle.linear_dirs.specs.Shown.{holding_over}
 use Rattle.linear_dirs.proofs.Counts.{too_few}
 use Rattle.linear_dirs.proofs.Exchanged.{still_linear, same_linear, has_removed, cut_from, dinode_kept, one_named}
 use Rattle.linear_dirs.proofs.removing.remove.Goals as goal

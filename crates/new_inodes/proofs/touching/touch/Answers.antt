@@ -2,7 +2,7 @@ use Rattle.std.proofs.Common.{Ok, ap, ◌∙◌, arith}
 use Rattle.glock_names.proofs.StepLaws.{answer_at}
 use Rattle.gfs2_layout.specs.Writing.{dinode_put}
 use Rattle.gfs2_layout.specs.declared.dinode.Dinode.{Dinode}
-use Rattle.linear_dirs.specs.Shown.{seen_in}
+use Rattle.drafts.specs.Fates.{seen_in}
 use Rattle.new_inodes.specs.Touched.{with_times}
 use Rattle.new_inodes.proofs.Touches.{is_touched, linear_still, dinode_before}
 use Rattle.new_inodes.proofs.touching.touch.Goals as goal

@@ -3,7 +3,7 @@ use Rattle.gfs2_layout.specs.declared.group_header.GroupHeader.{GroupHeader}
 use Rattle.glock_names.proofs.StepLaws.{answer_at}
 use Rattle.resource_groups.proofs.Fits.{fit_of}
 use Rattle.resource_groups.proofs.Numbers.{IsHeaderPut, numbered, one_put, header_alone}
-use Rattle.resource_groups.specs.Putting.{seen_in}
+use Rattle.drafts.specs.Fates.{seen_in}
 use Rattle.resource_groups.proofs.numbering.take_number.Goals as goal
 
 pub returns-clause-put : goal.returns-clause-put

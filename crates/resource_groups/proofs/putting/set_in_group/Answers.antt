@@ -1,13 +1,12 @@
 use Rattle.std.proofs.Common.{◌-◌, ◌≤◌, sym, ap, ◌∙◌, subst, arith}
 use Rattle.glock_names.proofs.StepLaws.{answer_at}
-use Rattle.drafts.specs.Fates.{Drafted}
+use Rattle.drafts.specs.Fates.{Drafted, seen_in}
 use Rattle.gfs2_layout.specs.Bitmap.{state_at}
 use Rattle.resource_groups.specs.Shown.{HasBitsIn, first_place}
-use Rattle.resource_groups.specs.Putting.{seen_in}
 use Rattle.resource_groups.proofs.Fits.{fit_of, end_below, big_of}
 use Rattle.resource_groups.proofs.FreePlaces.{in_group}
 use Rattle.resource_groups.proofs.Parts.{room_is}
-use Rattle.resource_groups.proofs.Setting.{ArePuts, placed, damage_is, seen_after, put_is, two_are, keeps_first, keeps_both, keeps_same}
+use Rattle.resource_groups.proofs.Setting.{ArePuts, placed, damage_is, seen_after, put_is, two_are, seen_still, keeps_first, keeps_both, keeps_same}
 use Rattle.resource_groups.proofs.putting.set_in_group.Given as given
 use Rattle.resource_groups.proofs.putting.set_in_group.Goals as goal
 
@@ -106,3 +105,13 @@ returns-clause-others g c =
     let place = placed v group c.args.block c.part_of-part.result c.block_size-size.result c.from.result c.first_place.result c.block_size-size.ensures.view c.requires.group c.requires.own c.block_size-size.ensures.value
     c.part_of-part.ensures c.from.ensures c.first_place.ensures in
     keeps_both g.V.View.seen c.args.draft.now c.put_bits.new.draft c.put_header.new.draft group c.args.block k p c.args.state c.in-Some.header place (both g c)
+
+pub returns-clause-sees : goal.returns-clause-sees
+returns-clause-sees g c =
+    let v = seen_in g.V.View.seen c.args.draft.now in
+    let group = c.args.group.now in
+    let k = c.part_of-part.result in
+    let p = c.from.result - c.first_place.result in
+    let place = placed v group c.args.block c.part_of-part.result c.block_size-size.result c.from.result c.first_place.result c.block_size-size.ensures.view c.requires.group c.requires.own c.block_size-size.ensures.value
+    c.part_of-part.ensures c.from.ensures c.first_place.ensures in
+    seen_still g.V.View.seen c.args.draft.now c.put_bits.new.draft c.put_header.new.draft group c.args.block k p c.args.state c.in-Some.header place (both g c)

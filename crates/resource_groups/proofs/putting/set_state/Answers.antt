@@ -1,7 +1,8 @@
 use Rattle.std.proofs.Common.{subst}
 use Rattle.glock_names.specs.Steps.{IfIs, IfNeedBlock, IfDamaged}
 use Rattle.resource_groups.specs.Shown.{IsShown, IsBroken}
-use Rattle.resource_groups.specs.Putting.{IsPutIn, PutsTwo, KeepsOthers, IsOneOfTwo, overlaid, seen_in}
+use Rattle.drafts.specs.Fates.{seen_in}
+use Rattle.resource_groups.specs.Putting.{IsPutIn, PutsTwo, KeepsOthers, IsOneOfTwo, overlaid}
 use Rattle.resource_groups.proofs.Apart.{one_group}
 use Rattle.resource_groups.proofs.putting.set_state.Goals as goal
 
