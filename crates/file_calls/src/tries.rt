@@ -10,7 +10,7 @@ ghost use Rattle.image_model.specs.Stands.{Layout};
 ghost use Rattle.image_changes.specs.Does.{IsInside, IsOf, Does};
 ghost use Rattle.path_walks.specs.Answers.{IfDone, IfNeedLock, IfNeedBlock, IfNoSpace, IfNotBuilt};
 ghost use Rattle.path_walks.specs.Holds.{AreHeld, IsAskedFor, IsFirstLack, holds};
-ghost use Rattle.file_calls.specs.Calls.{IsBuilt, IsDamage, IsUnbuilt, call_holds};
+ghost use Rattle.file_calls.specs.Calls.{IsBuilt, IsDamage, IsNeededFor, IsUnbuilt, call_holds};
 
 use dinode_tree::every_view_shows_an_inode;
 use drafts::{Attempt, Stamp};
@@ -35,6 +35,7 @@ pub fn attempt<V: View>(
     ensures on_device { (im : Image) (o : Owners) (l : Layout) (t : Tree) → IsOf (V.seen view.now) im o l t → IfNeedBlock result (λ m. m.block < im.count) }
     ensures space { IfNoSpace result (λ need free. ⊥) }
     ensures lacked { IfNeedLock result (λ lock state. holds (V.seen view.now) (record { lock = lock; state = state }) ≡ false) }
+    ensures needed { IfNeedBlock result (IsNeededFor (V.seen view.now) call.now) }
     ensures absent { IfNeedBlock result (λ m. (V.seen view.now).block_at m.block ≡ None) }
     ensures unbuilt { IfNotBuilt result (IsUnbuilt (V.seen view.now) call.now) }
     ensures sound { (im : Image) (o : Owners) (l : Layout) (t : Tree) → IsOf (V.seen view.now) im o l t → IfDamaged result (λ rule block. ⊥) }

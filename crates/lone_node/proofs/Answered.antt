@@ -1,5 +1,5 @@
 -- A call that is answered: what the disk holds, and the view has, afterwards.
-use Rattle.std.proofs.Common.{◌≡◌, ℕ, zero, suc, ◌+◌, ◌<◌, ◌≤◌, Bool, true, false, cond, List, [], ◌∷◌, length, map, Option, None, Some, ◌⊎◌, inl, inr, refl, sym, ap, ◌∙◌, subst, arith}
+use Rattle.std.proofs.Common.{◌≡◌, ℕ, zero, suc, ◌+◌, ◌<◌, ◌≤◌, cond, List, [], ◌∷◌, length, Option, None, Some, inl, inr, refl, sym, ap, ◌∙◌, subst, arith}
 use Rattle.std.specs.Prelude.{IsTrue, unwrap_or, Contains}
 use Rattle.std.specs.List.{AllByRecursion}
 use Rattle.std.specs.Ordering.{nat_cmp}
@@ -9,25 +9,28 @@ use Rattle.std.proofs.lemmas.Bool.{cases_eq}
 use Rattle.std.proofs.lemmas.List.Elements.{All-contains, All-from_recursion}
 use Rattle.finite_maps.proofs.Keys.{inserted_at, inserted_apart}
 use Rattle.file_tree.specs.Tree.{Tree}
-use Rattle.file_tree.specs.Apply.{Answers, apply}
+use Rattle.file_tree.specs.Apply.{apply}
 use Rattle.file_tree.specs.declared.call.Call.{Call}
 use Rattle.file_tree.specs.declared.reply.Reply.{Reply}
 use Rattle.file_tree.specs.declared.reply.Reply.TheVariants as reply
 use Rattle.cluster_history.specs.History.{after}
 use Rattle.cluster_history.specs.Changes.{OthersLeaveTheTree}
-use Rattle.glock_names.specs.Views.{HasGroup, end_of}
+use Rattle.glock_names.specs.Views.{Seen, IsOfView, end_of}
+use Rattle.glock_names.specs.Steps.{TellsOf}
+use Rattle.glock_names.specs.declared.steps.CallFault.{CallFault}
+use Rattle.glock_names.specs.declared.steps.CallFault.TheVariants as fault
 use Rattle.glock_names.specs.declared.views.Group.{Group}
 use Rattle.drafts.specs.declared.change.Change.{Change}
 use Rattle.drafts.specs.declared.change.Written.{Written}
-use Rattle.image_model.specs.Image.{Image, image_of}
-use Rattle.image_model.specs.Owners.{Owners}
-use Rattle.image_model.specs.Stands.{Layout}
-use Rattle.image_changes.specs.Does.{Does, DoesIn, IsFormed, IsInside, IsOf, bytes_for, with_change}
+use Rattle.image_model.specs.Image.{image_of}
+use Rattle.image_changes.specs.Changes.{JournalsStay}
+use Rattle.image_changes.specs.Does.{Does, IsFormed, IsInside, IsOf, bytes_for, with_change}
 use Rattle.image_changes.specs.Instances.{StandsBy}
 use Rattle.shared_disk.specs.Disk.{DiskState}
 use Rattle.lone_view.specs.Seeing.{Lone, seen_alone}
-use Rattle.lone_node.specs.Answering.{IsAnsweredFrom}
-use Rattle.lone_node.specs.Ends.{IfDamaged, IfNotBuilt}
+use Rattle.file_calls.specs.Calls.{IsDamage}
+use Rattle.lone_node.specs.Answering.{IsAnsweredFrom, IsDamagedFor, as_shown}
+use Rattle.lone_node.specs.Ends.{IfDamaged, IfNotBuilt, end_at}
 use Rattle.lone_node.specs.declared.ends.RunEnd.{RunEnd}
 use Rattle.lone_node.specs.declared.ends.RunEnd.TheVariants as end
 use Rattle.lone_node.specs.Standing.{IsOn, IsSameSystem, StandsFor, is_none, lacked_count}
@@ -62,21 +65,30 @@ module _ (d d' : DiskState) (n : Lone) (change : Change) (on : IsOn d n) (form :
   same_image : IsTrue d.tells → with_change (image_of d) change ≡ image_of d'
   same_image tells = λ i. record { size = sym written.size i; count = sym written.count i; at = λ b. sym (written.blocks_are tells b) i }
 
+  -- what the disk stands for then
+  stands_so : OthersLeaveTheTree → (call : Call) (r : Reply) → Does (seen_alone n) call r change → (t : Tree) → StandsFor d n t
+      → StandsFor d' (record n { blocks = with_blocks n.blocks change.blocks.items }) (after (record { call = call; reply = r }) t)
+  stands_so others call r does t s = let in_it = does.images (image_of d) s.owners s.layout t (of_view d n t on s) in
+      record {
+        tells = subst IsTrue (sym written.tells) s.tells;
+        owners = in_it.owners;
+        layout = s.layout;
+        root = s.root;
+        groups = s.groups;
+        stands = subst (λ u. StandsBy (image_of d') in_it.owners s.layout u) (sym (after_is others call r t in_it.replies))
+            (subst (λ im. StandsBy im in_it.owners s.layout (apply call t).tree) (same_image s.tells) in_it.stands);
+      }
+
   pub answered : OthersLeaveTheTree → (call : Call) (r : Reply) → Does (seen_alone n) call r change
       → IsAnsweredFrom d d' n (record n { blocks = with_blocks n.blocks change.blocks.items }) call r
+  unfolding stands_so
   answered others call r does = record {
     answers = λ t s. let in_it = does.images (image_of d) s.owners s.layout t (of_view d n t on s) in
         inl (λ i. record { reply = in_it.replies i; tree = sym (after_is others call r t in_it.replies) i });
-    stands = λ t s. let in_it = does.images (image_of d) s.owners s.layout t (of_view d n t on s) in
-        record {
-          tells = subst IsTrue (sym written.tells) s.tells;
-          owners = in_it.owners;
-          layout = s.layout;
-          root = s.root;
-          groups = s.groups;
-          stands = subst (λ u. StandsBy (image_of d') in_it.owners s.layout u) (sym (after_is others call r t in_it.replies))
-              (subst (λ im. StandsBy im in_it.owners s.layout (apply call t).tree) (same_image s.tells) in_it.stands);
-        };
+    stands = stands_so others call r does;
+    layout = λ t s. refl;
+    journals = λ t s. let in_it = does.images (image_of d) s.owners s.layout t (of_view d n t on s) in
+        subst (λ im. JournalsStay (image_of d) im s.owners in_it.owners s.layout) (same_image s.tells) in_it.journals;
   }
 
   pub on_again : IsOn d' (record n { blocks = with_blocks n.blocks change.blocks.items })
@@ -148,18 +160,34 @@ module _ (m : FinMap nat_cmp (List ℕ)) (k : ℕ) (bytes : List ℕ) where
 -- ---- ends
 
 -- the node stands for a tree as it did, where only blocks of it were read
-pub stands_on : (d : DiskState) (n n' : Lone) (t : Tree) → IsSameSystem n n' → StandsFor d n t → StandsFor d n' t
+abbrev pub stands_on : (d : DiskState) (n n' : Lone) (t : Tree) → IsSameSystem n n' → StandsFor d n t → StandsFor d n' t
 stands_on d n n' t same s = record { tells = s.tells; owners = s.owners; layout = s.layout; root = s.root ∙ sym same.root; groups = s.groups ∙ sym same.groups; stands = s.stands }
 
 -- a fact of an end at damage, and of one at what isn't built, follows from another
 pub damaged_so : (e : RunEnd) (P Q : ℕ → ℕ → Type 0) → ((b rule : ℕ) → P b rule → Q b rule) → IfDamaged e P → IfDamaged e Q
-damaged_so (end.DiskFailed block rise) P Q f is = tt
+damaged_so (end.DiskFailed block _) P Q f is = tt
 damaged_so (end.Damaged block rule) P Q f is = f block rule is
 damaged_so (end.NotBuilt block) P Q f is = tt
 damaged_so end.NoMemory P Q f is = tt
 
 pub unbuilt_so : (e : RunEnd) (P Q : ℕ → Type 0) → ((b : ℕ) → P b → Q b) → IfNotBuilt e P → IfNotBuilt e Q
-unbuilt_so (end.DiskFailed block rise) P Q f is = tt
+unbuilt_so (end.DiskFailed block _) P Q f is = tt
 unbuilt_so (end.Damaged block rule) P Q f is = tt
 unbuilt_so (end.NotBuilt block) P Q f is = f block is
 unbuilt_so end.NoMemory P Q f is = tt
+
+-- what was answered after reads was answered from the start
+pub answered_from : (d now d' : DiskState) (n later n' : Lone) (call : Call) (r : Reply) → now ≡ d → IsSameSystem n later → IsAnsweredFrom now d' later n' call r → IsAnsweredFrom d d' n n' call r
+answered_from d now d' n later n' call r is same from =
+    let here = subst (λ e. IsAnsweredFrom e d' later n' call r) is from in
+    record {
+      answers = λ t s. here.answers t (stands_on d n later t same s);
+      stands = λ t s. here.stands t (stands_on d n later t same s);
+      layout = λ t s. here.layout t (stands_on d n later t same s);
+      journals = λ t s. here.journals t (stands_on d n later t same s);
+    }
+
+-- a fault of a call is damage as the view shows it
+pub shown_damage : (d : DiskState) (v : Seen) (call : Call) (f : CallFault) → TellsOf (IsOfView v) f → TellsOf (IsDamage v call) f → IfDamaged (end_at f) (IsDamagedFor d v call)
+shown_damage d v call (fault.Damaged block rule) has is = as_shown block rule has is
+shown_damage d v call fault.NoMemory has is = tt

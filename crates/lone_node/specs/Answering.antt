@@ -1,12 +1,17 @@
 -- A call, answered on a disk.
-use Rattle.std.specs.Prelude.{ℕ, ◌≡◌, ◌<◌, Bool}
+use Rattle.std.specs.Prelude.{ℕ, ◌≡◌, ◌≤◌, ◌==◌, if◌then◌else◌}
 use Rattle.file_tree.specs.Tree.{Tree}
 use Rattle.file_tree.specs.Apply.{Answers}
 use Rattle.file_tree.specs.declared.call.Call.{Call}
 use Rattle.file_tree.specs.declared.reply.Reply.{Reply}
 use Rattle.cluster_history.specs.History.{after}
+use Rattle.gfs2_layout.specs.Device.{superblock_place}
+use Rattle.glock_names.specs.Views.{Seen, HasBlock}
+use Rattle.glock_names.specs.declared.steps.Missing.{Missing}
+use Rattle.image_model.specs.Image.{image_of}
+use Rattle.image_changes.specs.Changes.{JournalsStay}
 use Rattle.shared_disk.specs.Disk.{DiskState}
-use Rattle.file_calls.specs.Calls.{IsUnbuilt}
+use Rattle.file_calls.specs.Calls.{IsDamage, IsNeededFor, IsUnbuilt}
 use Rattle.lone_view.specs.Seeing.{Lone, seen_alone}
 use Rattle.lone_node.specs.Standing.{IsOn, IsSameSystem, StandsFor}
 
@@ -17,14 +22,38 @@ pub record IsSameDisk (d d' : DiskState) : Type 0 where
   pub tells : d'.tells ≡ d.tells
   pub fenced : d'.is_fenced ≡ d.is_fenced
 
--- the call was answered so: where the disk stood for a tree, that tree answers it, and the disk stands for the tree that it leaves
+-- the call was answered so: where the disk stood for a tree, that tree answers it, and the disk stands for the tree that it leaves, by the
+-- same layout, its journals as they were
 pub record IsAnsweredFrom (d d' : DiskState) (n n' : Lone) (call : Call) (reply : Reply) : Type 0 where
   pub answers : (t : Tree) → StandsFor d n t → Answers call t reply (after (record { call = call; reply = reply }) t)
   pub stands : (t : Tree) → StandsFor d n t → StandsFor d' n' (after (record { call = call; reply = reply }) t)
+  pub layout : (t : Tree) (s : StandsFor d n t) → (stands t s).layout ≡ s.layout
+  pub journals : (t : Tree) (s : StandsFor d n t) → JournalsStay (image_of d) (image_of d') s.owners (stands t s).owners s.layout
 
--- with what the node has read by then, the call can't be answered yet for what is in this block
+-- ---- why a call isn't answered
+
+-- what the node sees by then: it has read more of the disk, and nothing else is otherwise
+pub record IsLaterView (d : DiskState) (n n' : Lone) : Type 0 where
+  pub same : IsSameSystem n n'
+  pub on : IsOn d n'
+
+-- it can't be answered yet for what is in this block
 pub record IsUnbuiltOn (d : DiskState) (n : Lone) (call : Call) (b : ℕ) : Type 0 where
   pub view : Lone
-  pub same : IsSameSystem n view
-  pub on : IsOn d view
+  pub later : IsLaterView d n view
   pub unbuilt : IsUnbuilt (seen_alone view) call b
+
+-- the block that has the number of a missing one: the superblock's has that of the root, which is asked for by itself
+abbrev pub source_of : ℕ → Missing → ℕ
+source_of size m = if m.from == m.block then superblock_place size else m.from
+
+-- A block of the view breaks this rule, as far as it shows; or (2) the number of a block that the call needs, which stands in this block,
+-- leads out of the device.
+pub data IsDamagedFor (d : DiskState) (v : Seen) (call : Call) : ℕ → ℕ → Type 0 where
+  as_shown : (b rule : ℕ) → HasBlock v b → IsDamage v call rule b → IsDamagedFor d v call b rule
+  leads_out : (m : Missing) → IsNeededFor v call m → d.count ≤ m.block → IsDamagedFor d v call (source_of d.size m) 2
+
+pub record IsDamagedOn (d : DiskState) (n : Lone) (call : Call) (b rule : ℕ) : Type 0 where
+  pub view : Lone
+  pub later : IsLaterView d n view
+  pub damaged : IsDamagedFor d (seen_alone view) call b rule

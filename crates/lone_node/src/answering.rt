@@ -5,7 +5,7 @@ ghost use Rattle.gfs2_layout.specs.Device.{IsBlockSize};
 ghost use Rattle.shared_disk.specs.Disk.{IsIdle};
 ghost use Rattle.file_calls.specs.Calls.{IsBuilt, IsUnbuilt};
 ghost use Rattle.lone_view.specs.Seeing.{seen_alone};
-ghost use Rattle.lone_node.specs.Answering.{IsAnsweredFrom, IsSameDisk, IsUnbuiltOn};
+ghost use Rattle.lone_node.specs.Answering.{IsAnsweredFrom, IsDamagedFor, IsDamagedOn, IsSameDisk, IsUnbuiltOn};
 ghost use Rattle.lone_node.specs.Ends.{HasCause, IfDamaged, IfNotBuilt, UnlessFailed, end_at};
 ghost use Rattle.lone_node.specs.Standing.{IsOn, IsSameSystem, StandsFor, lacked_count};
 ghost use Rattle.lone_node.specs.Writing.{AreOfDisk, AreWritten, with_blocks};
@@ -81,6 +81,7 @@ fn try_once<D: SharedDisk>(
     requires idle { IsIdle (D.state disk.old) }
     requires size { IsBlockSize (D.state disk.old).size }
     requires on { IsOn (D.state disk.old) view.old }
+    requires node { stamp.now.node ≡ 1 }
     requires built { IsBuilt call.now }
     ensures answered { IfOk result (λ r. IfSome r (λ a. IsAnsweredFrom (D.state disk.old) (D.state disk.new) view.old view.new call.now a.reply)) }
     ensures idle { IfOk result (λ r. IsIdle (D.state disk.new)) }
@@ -91,6 +92,7 @@ fn try_once<D: SharedDisk>(
     ensures fewer { IfOk result (λ r. IfNone r (lacked_count view.new.blocks (D.state disk.old).count < lacked_count view.old.blocks (D.state disk.old).count)) }
     ensures before { IfErr result (λ end. UnlessFailed end (D.state disk.new ≡ D.state disk.old)) }
     ensures sound { IfErr result (λ end. IfDamaged end (λ b rule. (t : Tree) → StandsFor (D.state disk.old) view.old t → ⊥)) }
+    ensures damaged { IfErr result (λ end. IfDamaged end (IsDamagedFor (D.state disk.old) (seen_alone view.old) call.now)) }
     ensures unbuilt { IfErr result (λ end. IfNotBuilt end (IsUnbuilt (seen_alone view.old) call.now)) }
     ensures later { (i : ℕ) → D.faults disk.old i ≤ D.faults disk.new i }
     ensures cause { IfErr result (HasCause 1 (D.state disk.old).count (D.faults disk.old) (D.faults disk.new)) }
@@ -128,6 +130,7 @@ pub(crate) fn answer_call<D: SharedDisk>(
     requires idle { IsIdle (D.state disk.old) }
     requires size { IsBlockSize (D.state disk.old).size }
     requires on { IsOn (D.state disk.old) view.old }
+    requires node { stamp.now.node ≡ 1 }
     requires built { IsBuilt call.now }
     ensures answered { IfOk result (λ a. IsAnsweredFrom (D.state disk.old) (D.state disk.new) view.old view.new call.now a.reply) }
     ensures idle { IfOk result (λ a. IsIdle (D.state disk.new)) }
@@ -136,6 +139,7 @@ pub(crate) fn answer_call<D: SharedDisk>(
     ensures system { IfOk result (λ a. IsSameSystem view.old view.new) }
     ensures before { IfErr result (λ end. UnlessFailed end (D.state disk.new ≡ D.state disk.old)) }
     ensures sound { IfErr result (λ end. IfDamaged end (λ b rule. (t : Tree) → StandsFor (D.state disk.old) view.old t → ⊥)) }
+    ensures damaged { IfErr result (λ end. IfDamaged end (IsDamagedOn (D.state disk.old) view.old call.now)) }
     ensures unbuilt { IfErr result (λ end. IfNotBuilt end (IsUnbuiltOn (D.state disk.old) view.old call.now)) }
     ensures later { (i : ℕ) → D.faults disk.old i ≤ D.faults disk.new i }
     ensures cause { IfErr result (HasCause 1 (D.state disk.old).count (D.faults disk.old) (D.faults disk.new)) }

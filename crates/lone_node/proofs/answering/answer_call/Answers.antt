@@ -1,10 +1,11 @@
-use Rattle.std.proofs.Common.{ℕ, sym, subst}
+use Rattle.std.proofs.Common.{sym, subst}
+use Rattle.std.specs.Prelude.{IfSome}
 use Rattle.file_tree.specs.Tree.{Tree}
 use Rattle.file_calls.specs.Calls.{IsUnbuilt}
 use Rattle.lone_view.specs.Seeing.{seen_alone}
-use Rattle.lone_node.specs.Answering.{IsUnbuiltOn}
+use Rattle.lone_node.specs.Answering.{IsAnsweredFrom, IsDamagedFor, IsDamagedOn, IsUnbuiltOn}
 use Rattle.lone_node.specs.Standing.{StandsFor}
-use Rattle.lone_node.proofs.Answered.{damaged_so, stands_on, unbuilt_so}
+use Rattle.lone_node.proofs.Answered.{answered_from, damaged_so, stands_on, unbuilt_so}
 use Rattle.lone_node.proofs.answering.answer_call.Goals as goal
 
 pub returns-in-Err-clause-sound : goal.returns-in-Err-clause-sound
@@ -12,11 +13,26 @@ returns-in-Err-clause-sound g c =
     let d = g.D.SharedDisk.state c.args.disk.now in
     let so = c.loop-found.invariant in
     damaged_so c.in-Err.end (λ b rule. (t : Tree) → StandsFor (g.D.SharedDisk.state c.loop-found.disk) c.loop-found.view t → ⊥) (λ b rule. (t : Tree) → StandsFor d c.args.view.now t → ⊥)
-        (λ b rule never t s. never t (subst (λ e. StandsFor e c.loop-found.view t) (sym so.same) (stands_on d c.args.view.now c.loop-found.view t so.system s)))
-        c.in-Err.ensures.sound
+    (λ b rule never t s. never t (subst (λ e. StandsFor e c.loop-found.view t) (sym so.same) (stands_on d c.args.view.now c.loop-found.view t so.system s)))
+    c.in-Err.ensures.sound
 
 pub returns-in-Err-clause-unbuilt : goal.returns-in-Err-clause-unbuilt
 returns-in-Err-clause-unbuilt g c =
     let so = c.loop-found.invariant in
     unbuilt_so c.in-Err.end (IsUnbuilt (seen_alone c.loop-found.view) c.args.call.now) (IsUnbuiltOn (g.D.SharedDisk.state c.args.disk.now) c.args.view.now c.args.call.now)
-        (λ b is. record { view = c.loop-found.view; same = so.system; on = so.on; unbuilt = is }) c.in-Err.ensures.unbuilt
+    (λ b is. record { view = c.loop-found.view; later = record { same = so.system; on = so.on }; unbuilt = is }) c.in-Err.ensures.unbuilt
+
+pub returns-in-Ok-Some-clause-answered : goal.returns-in-Ok-Some-clause-answered
+returns-in-Ok-Some-clause-answered g c =
+    let so = c.loop-found.invariant in
+    answered_from (g.D.SharedDisk.state c.args.disk.now) (g.D.SharedDisk.state c.loop-found.disk) (g.D.SharedDisk.state c.try_once.new.disk) c.args.view.now c.loop-found.view c.try_once.new.view
+    c.args.call.now c.in-Ok-Some.found.reply so.same so.system
+    (subst (λ o. IfSome o (λ a. IsAnsweredFrom (g.D.SharedDisk.state c.loop-found.disk) (g.D.SharedDisk.state c.try_once.new.disk) c.loop-found.view c.try_once.new.view c.args.call.now a.reply)) c.in-Ok-Some.field-0-is c.in-Ok-Some.ensures.answered)
+
+pub returns-in-Err-clause-damaged : goal.returns-in-Err-clause-damaged
+returns-in-Err-clause-damaged g c =
+    let d = g.D.SharedDisk.state c.args.disk.now in
+    let so = c.loop-found.invariant in
+    damaged_so c.in-Err.end (IsDamagedFor (g.D.SharedDisk.state c.loop-found.disk) (seen_alone c.loop-found.view) c.args.call.now) (IsDamagedOn d c.args.view.now c.args.call.now)
+    (λ b rule is. record { view = c.loop-found.view; later = record { same = so.system; on = so.on }; damaged = subst (λ e. IsDamagedFor e (seen_alone c.loop-found.view) c.args.call.now b rule) so.same is })
+    c.in-Err.ensures.damaged

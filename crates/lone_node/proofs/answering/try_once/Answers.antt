@@ -1,6 +1,4 @@
-use Rattle.std.proofs.Common.{◌≡◌, ◌<◌, ◌≤◌, ℕ, List, None, Ok, sym, ap, ◌∙◌, subst, arith}
-use Rattle.std.specs.Prelude.{IsTrue}
-use Rattle.std.specs.FinMap.{insert}
+use Rattle.std.proofs.Common.{◌≡◌, ◌<◌, ◌≤◌, None, Ok, sym, subst, arith}
 use Rattle.file_tree.specs.Tree.{Tree}
 use Rattle.image_model.specs.Image.{image_of}
 use Rattle.image_changes.specs.Does.{Does}
@@ -9,10 +7,11 @@ use Rattle.glock_names.specs.declared.steps.CallFault.{CallFault}
 use Rattle.glock_names.specs.declared.steps.CallFault.TheVariants as fault
 use Rattle.glock_names.specs.Steps.{TellsOf}
 use Rattle.lone_view.specs.Seeing.{Lone, seen_alone}
-use Rattle.lone_node.specs.Answering.{IsAnsweredFrom}
+use Rattle.file_calls.specs.Calls.{IsNeededFor}
+use Rattle.lone_node.specs.Answering.{IsAnsweredFrom, IsDamagedFor, leads_out, source_of}
 use Rattle.lone_node.specs.Ends.{IfDamaged, end_at}
 use Rattle.lone_node.specs.Standing.{IsOn, StandsFor, lacked_count}
-use Rattle.lone_node.proofs.Answered.{answered, damaged_so, fetched_on, fewer, of_view, on_again}
+use Rattle.lone_node.proofs.Answered.{answered, damaged_so, fetched_on, fewer, of_view, on_again, shown_damage}
 use Rattle.lone_node.proofs.answering.try_once.Goals as goal
 
 pub returns-in_ok-carry_out-in-Ok-Done-clause-answered : goal.returns-in_ok-carry_out-in-Ok-Done-clause-answered
@@ -20,43 +19,59 @@ returns-in_ok-carry_out-in-Ok-Done-clause-answered g c =
     let d = g.D.SharedDisk.state c.args.disk.now in
     let does = subst (λ a. IfDone (Ok a) (Does (seen_alone c.args.view.now) c.args.call.now)) c.in-Ok-Done.field-0-is c.in-Ok-Done.ensures.done in
     subst (λ n. IsAnsweredFrom d (g.D.SharedDisk.state c.carry_out.new.disk) c.args.view.now n c.args.call.now c.in-Ok-Done.reply) (sym c.in_ok-carry_out-in-Ok-Done.ensures.kept)
-        (answered d _ c.args.view.now c.in-Ok-Done.change c.requires.on does.form c.in_ok-carry_out-in-Ok-Done.ensures.written
-        c.other_calls_leave_the_tree.ensures c.args.call.now c.in-Ok-Done.reply does)
+    (answered d _ c.args.view.now c.in-Ok-Done.change c.requires.on does.form c.in_ok-carry_out-in-Ok-Done.ensures.written
+    c.other_calls_leave_the_tree.ensures c.args.call.now c.in-Ok-Done.reply does)
 
 pub returns-in_ok-carry_out-in-Ok-Done-clause-on : goal.returns-in_ok-carry_out-in-Ok-Done-clause-on
 returns-in_ok-carry_out-in-Ok-Done-clause-on g c =
     let does = subst (λ a. IfDone (Ok a) (Does (seen_alone c.args.view.now) c.args.call.now)) c.in-Ok-Done.field-0-is c.in-Ok-Done.ensures.done in
     subst (IsOn (g.D.SharedDisk.state c.carry_out.new.disk)) (sym c.in_ok-carry_out-in-Ok-Done.ensures.kept)
-        (on_again (g.D.SharedDisk.state c.args.disk.now) _ c.args.view.now c.in-Ok-Done.change c.requires.on does.form c.in_ok-carry_out-in-Ok-Done.ensures.written)
+    (on_again (g.D.SharedDisk.state c.args.disk.now) _ c.args.view.now c.in-Ok-Done.change c.requires.on does.form c.in_ok-carry_out-in-Ok-Done.ensures.written)
 
 pub returns-in-Ok-clause-on : goal.returns-in-Ok-clause-on
 returns-in-Ok-clause-on g c =
     let d = g.D.SharedDisk.state c.args.disk.now in
     let read = c.in-Ok.ensures.read in
     subst (λ s. IsOn s c.fetch.new.view) (sym c.in-Ok.ensures.reads.same)
-        (subst (IsOn d) (sym read.1) (fetched_on d c.args.view.now c.in-Ok-NeedBlock.missing.block read.0 c.requires.on read.2))
+    (subst (IsOn d) (sym read.1) (fetched_on d c.args.view.now c.in-Ok-NeedBlock.missing.block read.0 c.requires.on read.2))
 
 pub returns-in-Ok-clause-fewer : goal.returns-in-Ok-clause-fewer
 returns-in-Ok-clause-fewer g c =
     let d = g.D.SharedDisk.state c.args.disk.now in
     let read = c.in-Ok.ensures.read in
     subst (λ (n : Lone). lacked_count n.blocks d.count < lacked_count c.args.view.now.blocks d.count) (sym read.1)
-        (fewer c.args.view.now.blocks c.in-Ok-NeedBlock.missing.block read.0 d.count
-        (subst (λ a. IfNeedBlock (Ok a) (λ m. (seen_alone c.args.view.now).block_at m.block ≡ None)) c.in-Ok-NeedBlock.field-0-is c.in-Ok-NeedBlock.ensures.absent) c.in-Ok.ensures.inside)
+    (fewer c.args.view.now.blocks c.in-Ok-NeedBlock.missing.block read.0 d.count
+    (subst (λ a. IfNeedBlock (Ok a) (λ m. (seen_alone c.args.view.now).block_at m.block ≡ None)) c.in-Ok-NeedBlock.field-0-is c.in-Ok-NeedBlock.ensures.absent) c.in-Ok.ensures.inside)
 
 pub returns-in-Err-fetch-clause-sound : goal.returns-in-Err-fetch-clause-sound
 returns-in-Err-fetch-clause-sound g c =
     let d = g.D.SharedDisk.state c.args.disk.now in
-    damaged_so c.in-Err-fetch.end (λ b rule. d.count ≤ c.in-Ok-NeedBlock.missing.block) (λ b rule. (t : Tree) → StandsFor d c.args.view.now t → ⊥)
-        (λ b rule past t s. let low = subst (λ a. IfNeedBlock (Ok a) (λ m. m.block < d.count)) c.in-Ok-NeedBlock.field-0-is (c.in-Ok-NeedBlock.ensures.on_device (image_of d) s.owners s.layout t (of_view d c.args.view.now t c.requires.on s)) in absurd (omega (arith, past, low)))
-        c.in-Err-fetch.ensures.outside
+    damaged_so c.in-Err-fetch.end _ (λ b rule. (t : Tree) → StandsFor d c.args.view.now t → ⊥)
+    (λ b rule out t s. let past : d.count ≤ c.in-Ok-NeedBlock.missing.block = out.0 in let low = subst (λ a. IfNeedBlock (Ok a) (λ m. m.block < d.count)) c.in-Ok-NeedBlock.field-0-is (c.in-Ok-NeedBlock.ensures.on_device (image_of d) s.owners s.layout t (of_view d c.args.view.now t c.requires.on s)) in absurd (omega (arith, past, low)))
+    c.in-Err-fetch.ensures.outside
 
 pub returns-in-Err-clause-sound : goal.returns-in-Err-clause-sound
 returns-in-Err-clause-sound g c =
     let d = g.D.SharedDisk.state c.args.disk.now in
     subst (λ e. IfDamaged e (λ b rule. (t : Tree) → StandsFor d c.args.view.now t → ⊥)) (sym c.end_of.ensures)
-        (each c.in-Err.fault (λ t s. c.in-Err.ensures.sound (image_of d) s.owners s.layout t (of_view d c.args.view.now t c.requires.on s)))
+    (each c.in-Err.fault (λ t s. c.in-Err.ensures.sound (image_of d) s.owners s.layout t (of_view d c.args.view.now t c.requires.on s)))
   where
     each : (f : CallFault) {P : Tree → Type 0} → ((t : Tree) → P t → TellsOf (λ rule b. ⊥) f) → IfDamaged (end_at f) (λ b rule. (t : Tree) → P t → ⊥)
     each (fault.Damaged block rule) so = so
     each fault.NoMemory so = tt
+
+pub returns-in-Err-fetch-clause-damaged : goal.returns-in-Err-fetch-clause-damaged
+returns-in-Err-fetch-clause-damaged g c =
+    let d = g.D.SharedDisk.state c.args.disk.now in
+    let v = seen_alone c.args.view.now in
+    let m = c.in-Ok-NeedBlock.missing in
+    let needed = subst (λ a. IfNeedBlock (Ok a) (IsNeededFor v c.args.call.now)) c.in-Ok-NeedBlock.field-0-is c.in-Ok-NeedBlock.ensures.needed in
+    damaged_so c.in-Err-fetch.end _ (IsDamagedFor d v c.args.call.now)
+    (λ b rule out. subst (λ x. IsDamagedFor d v c.args.call.now x rule) (sym out.1) (subst (IsDamagedFor d v c.args.call.now (source_of d.size m)) (sym out.2) (leads_out m needed out.0)))
+    c.in-Err-fetch.ensures.outside
+
+pub returns-in-Err-clause-damaged : goal.returns-in-Err-clause-damaged
+returns-in-Err-clause-damaged g c =
+    let d = g.D.SharedDisk.state c.args.disk.now in
+    let v = seen_alone c.args.view.now in
+    subst (λ e. IfDamaged e (IsDamagedFor d v c.args.call.now)) (sym c.end_of.ensures) (shown_damage d v c.args.call.now c.in-Err.fault c.in-Err.ensures.kept c.in-Err.ensures.damaged)
