@@ -1,0 +1,112 @@
+-- The calls that write: bytes into a file, and all that isn't on the disk yet.
+use Rattle.std.specs.Prelude.{ℕ, ◌≡◌, ◌≢◌, ◌⊎◌, ◌+◌, ◌<◌, ◌≤◌, ⊤, true, false, List, length}
+use Rattle.cluster_history.specs.Changes.{is_ok}
+use Rattle.file_tree.specs.Apply.{apply, file_limit}
+use Rattle.file_tree.specs.Tree.{Tree}
+use Rattle.file_tree.specs.declared.call.Call.{Call}
+use Rattle.file_tree.specs.declared.call.Call.TheVariants.{Write, Sync}
+use Rattle.file_tree.specs.declared.reply.Reply.{Reply}
+use Rattle.file_tree.specs.declared.reply.Reply.TheVariants as reply
+use Rattle.gfs2_layout.specs.Holding.{Holding}
+use Rattle.gfs2_layout.specs.Inode.{dinode_in, is_directory_in, is_hashed_in}
+use Rattle.glock_names.specs.Views.{Seen, HasBlock}
+use Rattle.call_locks.specs.Wants.{wanted}
+use Rattle.call_locks.specs.WantLaws.{path_of}
+use Rattle.dinode_tree.specs.Shown.{IsShown}
+use Rattle.drafts.specs.declared.change.Change.{Change}
+use Rattle.image_model.specs.Image.{Image}
+use Rattle.image_model.specs.Owners.{Owners}
+use Rattle.image_model.specs.Stands.{Layout}
+use Rattle.path_walks.specs.Holds.{Hold, AreHeld, IsAskedFor, IsFirstLack, holds_in}
+use Rattle.path_walks.specs.Walks.{LeadsTo, IsAbsent, IsLacked, IsOnTheWay, IsUnread}
+use Rattle.writing_calls.specs.Contents.{NeedsBlocks}
+use Rattle.writing_calls.specs.Drafting.{IsWrite}
+use Rattle.writing_calls.specs.declared.finds.Found.{Found}
+use Rattle.writing_calls.specs.declared.finds.Found.TheVariants as found
+
+-- the call writes into a file, or waits until all is on the disk
+abbrev pub IsWriting : Call → Type 0
+IsWriting (Write path at new) = Unit {0}
+IsWriting Sync = Unit {0}
+IsWriting _ = ⊥
+
+-- it writes these bytes from this place on
+abbrev pub Writes : Call → ℕ → List ℕ → Type 0
+Writes call at new = call ≡ Write (path_of call false) at new
+
+-- the locks that it takes, in their order: those of the inodes on its path. No other: no block is taken
+abbrev pub call_holds : Image → Owners → Layout → Call → List Hold
+call_holds im o l call = holds_in im o l (path_of call false) (wanted call)
+
+-- where a write ends
+abbrev pub end_of : Call → ℕ
+end_of (Write path at new) = at + length new
+end_of _ = 0
+
+-- ---- as far as the view shows
+
+-- the path leads to a dinode that the view has, and P is so of each inode that this may be
+pub record IsAtEnd (v : Seen) (call : Call) (a : ℕ) (P : Holding → Type 0) : Type 0 where
+  pub leads : LeadsTo v (wanted call) (path_of call false) a
+  pub there : HasBlock v a
+  pub so : (h : Holding) → IsShown v a h → P h
+
+-- a file for which the write isn't built: not refused, but its content is, or would be, in other blocks than the dinode's
+pub record IsOutside (end : ℕ) (h : Holding) : Type 0 where
+  pub file : is_directory_in h ≡ false
+  pub short : end ≤ file_limit
+  pub needs : NeedsBlocks h.size (dinode_in h) end
+
+-- the inode for which the call isn't built yet: a hashed directory on the path, or such a file at its end
+pub data IsUnbuilt (v : Seen) (call : Call) (b : ℕ) : Type 0 where
+  on_path : IsOnTheWay v (wanted call) (path_of call false) b (λ h. is_hashed_in h ≡ true) → IsUnbuilt v call b
+  at_end : IsAtEnd v call b (IsOutside (end_of call)) → IsUnbuilt v call b
+
+-- the call is refused so: the walk along its path ends before, or at a directory, or the write would end too far out
+pub data IsRefused (v : Seen) (call : Call) : Reply → Type 0 where
+  not_found : IsAbsent v (wanted call) (path_of call false) → IsRefused v call reply.NotFound
+  not_dir : (a : ℕ) → IsOnTheWay v (wanted call) (path_of call false) a (λ h. is_directory_in h ≡ false) → IsRefused v call reply.NotDir
+  is_dir : (a : ℕ) → IsAtEnd v call a (λ h. is_directory_in h ≡ true) → IsRefused v call reply.IsDir
+  too_big : (a : ℕ) → IsAtEnd v call a (λ h. is_directory_in h ≡ false) → file_limit < end_of call → IsRefused v call reply.TooBig
+
+-- the change writes the call's bytes into the file at the path's end
+abbrev pub IsWriteOf : Seen → Call → ℕ → Change → Type 0
+IsWriteOf v (Write path at new) time change = (a : ℕ) × LeadsTo v (wanted (Write path at new)) path a × IsWrite v a at new time change
+IsWriteOf v call time change = ⊥
+
+-- a write that was answered Ok has changed the file so, at this time; `sync` is always answered so
+abbrev pub IsAnswered : Seen → Call → ℕ → Reply → Change → Type 0
+IsAnswered v Sync time r change = r ≡ reply.Ok
+IsAnswered v call time reply.Ok change = IsWriteOf v call time change
+IsAnswered v call time r change = IsRefused v call r
+
+abbrev pub IsToldOf : Seen → Call → ℕ → Found → Type 0
+IsToldOf v call time (found.Refused r) = IsRefused v call r
+IsToldOf v call time (found.Written change) = IsWriteOf v call time change
+IsToldOf v call time (found.NeedBlock m) = IsUnread v (wanted call) (path_of call false) m
+IsToldOf v call time (found.NotBuilt b) = IsUnbuilt v call b
+IsToldOf v call time (found.NeedLock lock state) = IsLacked v (wanted call) (path_of call false) lock state
+
+-- ---- in an image that the view may be of
+
+-- the reply is the tree's, and each lock of the list is held; or what stands in the way: the first lock of it that isn't held, or a block
+-- that the view hasn't
+abbrev pub IsFoundBy : Seen → Image → Owners → Layout → Reply → List Hold → Found → Type 0
+IsFoundBy v im o l answer list (found.Refused r) = (answer ≡ r) × AreHeld v list
+IsFoundBy v im o l answer list (found.Written change) = (answer ≡ reply.Ok) × AreHeld v list
+IsFoundBy v im o l answer list (found.NeedBlock m) = IsAskedFor v im o l list m
+IsFoundBy v im o l answer list (found.NotBuilt b) = ⊤
+IsFoundBy v im o l answer list (found.NeedLock lock state) = IsFirstLack v list lock state
+
+abbrev pub IsFound : Seen → Image → Owners → Layout → Tree → Call → Found → Type 0
+IsFound v im o l t call f = IsFoundBy v im o l (apply call t).reply (call_holds im o l call) f
+
+-- what a refusal is not
+abbrev pub IsRefusal : Found → Type 0
+IsRefusal (found.Refused r) = is_ok r ≡ false
+IsRefusal f = ⊤
+
+-- P of the change of a write
+abbrev pub IfWritten : (Change → Type 0) → Found → Type 0
+IfWritten P (found.Written change) = P change
+IfWritten P f = ⊤
