@@ -1,10 +1,10 @@
 -- What a write makes of a file: of its dinode, and of its content.
-use Rattle.std.specs.Prelude.{ℕ, ◌≡◌, ◌≢◌, ◌⊎◌, ◌+◌, ◌-◌, ◌<◌, ◌≤◌, nat_lt, if◌then◌else◌, true, false, List, ◌++◌, length, take, drop, replicate}
+use Rattle.std.specs.Prelude.{ℕ, ◌≡◌, ◌≢◌, ◌⊎◌, ◌+◌, ◌-◌, ◌<◌, ◌≤◌, nat_lt, if◌then◌else◌, true, false, Ok, List, ◌++◌, length, take, drop, replicate}
 use Rattle.file_tree.specs.Apply.{file_limit, overwritten}
 use Rattle.file_tree.specs.declared.reply.Reply.TheVariants as reply
-use Rattle.gfs2_layout.specs.Holding.{Holding, bytes_at}
+use Rattle.gfs2_layout.specs.Holding.{Holding}
 use Rattle.gfs2_layout.specs.Inode.{IsInode, dinode_in, head_of, content_of}
-use Rattle.gfs2_layout.specs.Structures.{dinode_length, is_directory}
+use Rattle.gfs2_layout.specs.Structures.{dinode_length, dinode_read, is_directory}
 use Rattle.gfs2_layout.specs.declared.dinode.Dinode.{Dinode}
 use Rattle.writing_calls.specs.declared.aims.Aim.{Aim}
 use Rattle.writing_calls.specs.declared.aims.Aim.TheVariants as aim
@@ -58,6 +58,13 @@ pub record StaysStuffed (size : ℕ) (d : Dinode) (end : ℕ) : Type 0 where
   pub short : end ≤ file_limit
   pub room : HasRoom size end
   pub fits : HasRoom size d.size
+
+-- the bytes of that block before the write and after it
+pub record IsBlockWritten (size : ℕ) (d : Dinode) (at : ℕ) (new : List ℕ) (time : ℕ) (before now : List ℕ) : Type 0 where
+  pub was : length before ≡ size
+  pub whole : length now ≡ size
+  pub read : dinode_read now ≡ Ok (dinode_after d (at + length new) time)
+  pub area : drop dinode_length now ≡ area_after at new d.size (drop dinode_length before)
 
 -- why nothing is written into the inode, or that the bytes go into the dinode's block; in a broken one the content hasn't room already
 abbrev pub IsAimOf : ℕ → Dinode → ℕ → Aim → Type 0
