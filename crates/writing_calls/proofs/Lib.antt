@@ -1,1 +1,3 @@
 pub mod Areas
+pub mod Written
+pub mod Drafts
