@@ -1,3 +1,4 @@
 pub mod Areas
 pub mod Written
 pub mod Drafts
+pub mod Doing

@@ -17,11 +17,14 @@ ghost use Rattle.path_walks.specs.Walks.{IsDamage, IsLacked, IsSeenAt, IsUnread,
 ghost use Rattle.path_walks.specs.declared.walk.Walk.TheVariants.{At};
 ghost use Rattle.writing_calls.specs.Writing.{IfWritten, IsAnswered, IsFound, IsRefusal, IsToldOf, IsUnbuilt, IsWriting, Writes, call_holds};
 
+use crate::aims::{Aim, aim_of};
+use crate::drafting::write_stuffed;
 use crate::finds::Found;
+use call_locks::wants;
 use drafts::{Attempt, Change, Stamp};
 use file_tree::{Call, Path, Reply};
 use glock_names::{CallFault, View};
-use path_walks::Place;
+use path_walks::{Place, Walk, walk_along};
 use std::alloc::Global;
 
 // A change of nothing.
@@ -58,7 +61,17 @@ fn write_at<V: View>(
     ensures damaged { IfDamaged result (IsDamage (V.seen view.now) (wanted call.now) (path_of call.now false)) }
     ensures kept { IfDamaged result (IsOfView (V.seen view.now)) }
 {
-    Err(CallFault::NoMemory)
+    match aim_of(&place.dinode, view.block_size(), at, new.len() as u64) {
+        Aim::Refused(reply) => Ok(Found::Refused(reply)),
+        Aim::NotBuilt => Ok(Found::NotBuilt(place.inode)),
+        Aim::Broken => Err(CallFault::Damaged {
+            block: place.inode,
+            rule: 8,
+        }),
+        Aim::Stuffed => Ok(Found::Written(write_stuffed(
+            alloc, view, place, at, new, time,
+        )?)),
+    }
 }
 
 // Walks along the path of a write, and writes into the inode at its end.
@@ -80,7 +93,15 @@ fn find<V: View>(
     ensures damaged { IfDamaged result (IsDamage (V.seen view.now) (wanted call.now) (path_of call.now false)) }
     ensures kept { IfDamaged result (IsOfView (V.seen view.now)) }
 {
-    Err(CallFault::NoMemory)
+    let wants = wants(alloc, call)?;
+    match walk_along(view, path.names(), &wants)? {
+        Walk::At(place) => write_at(alloc, view, call, &place, at, new, time),
+        Walk::NotFound => Ok(Found::Refused(Reply::NotFound)),
+        Walk::NotDir => Ok(Found::Refused(Reply::NotDir)),
+        Walk::Hashed(block) => Ok(Found::NotBuilt(block)),
+        Walk::NeedLock { lock, state } => Ok(Found::NeedLock { lock, state }),
+        Walk::NeedBlock(missing) => Ok(Found::NeedBlock(missing)),
+    }
 }
 
 /// Tries a call that writes, over a view: its answer with what it changes, or the first lock that isn't held or block that isn't
