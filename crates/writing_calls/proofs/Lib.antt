@@ -2,3 +2,4 @@ pub mod Areas
 pub mod Written
 pub mod Drafts
 pub mod Doing
+pub mod Finding

@@ -127,5 +127,17 @@ pub fn attempt<V: View>(
     ensures damaged { IfDamaged result (IsDamage (V.seen view.now) (wanted call.now) (path_of call.now false)) }
     ensures kept { IfDamaged result (IsOfView (V.seen view.now)) }
 {
-    Err(CallFault::NoMemory)
+    Ok(match answer(alloc, view, call, stamp.time)? {
+        Found::Refused(reply) => Attempt::Done {
+            reply,
+            change: nothing(alloc),
+        },
+        Found::Written(change) => Attempt::Done {
+            reply: Reply::Ok,
+            change,
+        },
+        Found::NeedBlock(missing) => Attempt::NeedBlock(missing),
+        Found::NotBuilt(block) => Attempt::NotBuilt { block },
+        Found::NeedLock { lock, state } => Attempt::NeedLock { lock, state },
+    })
 }
