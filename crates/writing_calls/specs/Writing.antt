@@ -74,11 +74,15 @@ abbrev pub IsWriteOf : Seen → Call → ℕ → Change → Type 0
 IsWriteOf v (Write path at new) time change = (a : ℕ) × LeadsTo v (wanted (Write path at new)) path a × IsWrite v a at new time change
 IsWriteOf v call time change = ⊥
 
--- a write that was answered Ok has changed the file so, at this time; `sync` is always answered so
+-- a write that was answered Ok has changed the file so, at this time; else it is refused
+abbrev pub IsWriteAnswered : Seen → Call → ℕ → Reply → Change → Type 0
+IsWriteAnswered v call time reply.Ok change = IsWriteOf v call time change
+IsWriteAnswered v call time r change = IsRefused v call r
+
+-- `sync` is answered Ok
 abbrev pub IsAnswered : Seen → Call → ℕ → Reply → Change → Type 0
 IsAnswered v Sync time r change = r ≡ reply.Ok
-IsAnswered v call time reply.Ok change = IsWriteOf v call time change
-IsAnswered v call time r change = IsRefused v call r
+IsAnswered v call time r change = IsWriteAnswered v call time r change
 
 abbrev pub IsToldOf : Seen → Call → ℕ → Found → Type 0
 IsToldOf v call time (found.Refused r) = IsRefused v call r

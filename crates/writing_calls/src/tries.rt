@@ -15,7 +15,7 @@ ghost use Rattle.path_walks.specs.Answers.{IfDone, IfNeedLock, IfNeedBlock, IfNo
 ghost use Rattle.path_walks.specs.Holds.{AreHeld, IsAskedFor, IsFirstLack};
 ghost use Rattle.path_walks.specs.Walks.{IsDamage, IsLacked, IsSeenAt, IsUnread, IsWalked};
 ghost use Rattle.path_walks.specs.declared.walk.Walk.TheVariants.{At};
-ghost use Rattle.writing_calls.specs.Writing.{IfWritten, IsAnswered, IsFound, IsRefusal, IsToldOf, IsUnbuilt, IsWriting, Writes, call_holds};
+ghost use Rattle.writing_calls.specs.Writing.{IfWritten, IsAnswered, IsFound, IsRefusal, IsToldOf, IsUnbuilt, IsWriteAnswered, IsWriting, Writes, call_holds};
 
 use crate::aims::{Aim, aim_of};
 use crate::drafting::write_stuffed;
@@ -68,9 +68,7 @@ fn write_at<V: View>(
             block: place.inode,
             rule: 8,
         }),
-        Aim::Stuffed => Ok(Found::Written(write_stuffed(
-            alloc, view, place, at, new, time,
-        )?)),
+        Aim::Stuffed => Ok(Found::Written(write_stuffed(alloc, view, place, at, new, time)?)),
     }
 }
 
@@ -104,6 +102,45 @@ fn find<V: View>(
     }
 }
 
+// Tries a write.
+fn write<V: View>(
+    alloc: Global,
+    view: &V,
+    call: &Call,
+    path: &Path,
+    at: u64,
+    new: &[u8],
+    time: u64,
+) -> Result<Attempt, CallFault>
+    requires { call.now ≡ Write path.now at new.now }
+    ensures done { IfDone result (Does (V.seen view.now) call.now) }
+    ensures held { (im : Image) (o : Owners) (l : Layout) (t : Tree) → IsOf (V.seen view.now) im o l t → IfDone result (λ reply change. AreHeld (V.seen view.now) (call_holds im o l call.now)) }
+    ensures lock { (im : Image) (o : Owners) (l : Layout) (t : Tree) → IsOf (V.seen view.now) im o l t → IfNeedLock result (IsFirstLack (V.seen view.now) (call_holds im o l call.now)) }
+    ensures block { (im : Image) (o : Owners) (l : Layout) (t : Tree) → IsOf (V.seen view.now) im o l t → IfNeedBlock result (IsAskedFor (V.seen view.now) im o l (call_holds im o l call.now)) }
+    ensures space { IfNoSpace result (λ need free. ⊥) }
+    ensures answered { IfDone result (IsWriteAnswered (V.seen view.now) call.now time) }
+    ensures lacked { IfNeedLock result (IsLacked (V.seen view.now) (wanted call.now) (path_of call.now false)) }
+    ensures needed { IfNeedBlock result (IsUnread (V.seen view.now) (wanted call.now) (path_of call.now false)) }
+    ensures unbuilt { IfNotBuilt result (IsUnbuilt (V.seen view.now) call.now) }
+    ensures sound { (im : Image) (o : Owners) (l : Layout) (t : Tree) → IsOf (V.seen view.now) im o l t → IfDamaged result (λ rule block. ⊥) }
+    ensures damaged { IfDamaged result (IsDamage (V.seen view.now) (wanted call.now) (path_of call.now false)) }
+    ensures kept { IfDamaged result (IsOfView (V.seen view.now)) }
+{
+    Ok(match find(alloc, view, call, path, at, new, time)? {
+        Found::Refused(reply) => Attempt::Done {
+            reply,
+            change: nothing(alloc),
+        },
+        Found::Written(change) => Attempt::Done {
+            reply: Reply::Ok,
+            change,
+        },
+        Found::NeedBlock(missing) => Attempt::NeedBlock(missing),
+        Found::NotBuilt(block) => Attempt::NotBuilt { block },
+        Found::NeedLock { lock, state } => Attempt::NeedLock { lock, state },
+    })
+}
+
 /// Tries a call that writes, over a view: its answer with what it changes, or the first lock that isn't held or block that isn't
 /// there. The file gets the stamp's time. `sync` is answered `Ok` at once: that all is on the disk is for the node to see to. A write
 /// costs a walk along the path, and two copies of the block of the file's dinode.
@@ -127,17 +164,14 @@ pub fn attempt<V: View>(
     ensures damaged { IfDamaged result (IsDamage (V.seen view.now) (wanted call.now) (path_of call.now false)) }
     ensures kept { IfDamaged result (IsOfView (V.seen view.now)) }
 {
-    Ok(match answer(alloc, view, call, stamp.time)? {
-        Found::Refused(reply) => Attempt::Done {
-            reply,
-            change: nothing(alloc),
-        },
-        Found::Written(change) => Attempt::Done {
+    match call {
+        Call::Write(path, at, content) => {
+            write(alloc, view, call, path, *at, content.bytes(), stamp.time)
+        }
+        Call::Sync => Ok(Attempt::Done {
             reply: Reply::Ok,
-            change,
-        },
-        Found::NeedBlock(missing) => Attempt::NeedBlock(missing),
-        Found::NotBuilt(block) => Attempt::NotBuilt { block },
-        Found::NeedLock { lock, state } => Attempt::NeedLock { lock, state },
-    })
+            change: nothing(alloc),
+        }),
+        _ => unreachable!(),
+    }
 }
