@@ -66,7 +66,8 @@ pub record IsBlockWritten (size : ℕ) (d : Dinode) (at : ℕ) (new : List ℕ) 
   pub read : dinode_read now ≡ Ok (dinode_after d (at + length new) time)
   pub area : drop dinode_length now ≡ area_after at new d.size (drop dinode_length before)
 
--- why nothing is written into the inode, or that the bytes go into the dinode's block; in a broken one the content hasn't room already
+-- Why nothing is written into the inode, or that the bytes go into the dinode's block. Of a broken one the content that it has would need
+-- more room than that block has.
 abbrev pub IsAimOf : ℕ → Dinode → ℕ → Aim → Type 0
 IsAimOf size d end (aim.Refused reply.IsDir) = is_directory d ≡ true
 IsAimOf size d end (aim.Refused reply.TooBig) = (is_directory d ≡ false) × (file_limit < end)

@@ -14,16 +14,16 @@ use Rattle.linear_dirs.specs.Shown.{holding_over}
 use Rattle.image_changes.specs.Drafted.{IsFinished}
 use Rattle.writing_calls.specs.Contents.{IsWrittenOver}
 
--- a draft of the write: it puts the block of the dinode and no other, and so the file is written
-pub record PutsDinode (v : Seen) (a : ℕ) (fates : FinMap nat_cmp Fate) : Type 0 where
+-- the draft puts the block of this dinode, under the inode's lock, and no other
+pub record PutsDinode (a : ℕ) (fates : FinMap nat_cmp Fate) : Type 0 where
   pub bytes : List ℕ
   pub put : fates ≡ insert empty a (Put (inode_lock a) false bytes)
 
--- The change is that of a draft over the view in which the file with its dinode in block a is written: bytes from a place on, at this
--- time.
+-- The change is that of a draft over the view after which the file with its dinode in block a has these bytes from a place on, written at
+-- this time.
 pub record IsWrite (v : Seen) (a at : ℕ) (new : List ℕ) (time : ℕ) (change : Change) : Type 0 where
   pub fates : FinMap nat_cmp Fate
-  pub puts : PutsDinode v a fates
+  pub puts : PutsDinode a fates
   pub whole : AreWhole v.size fates
   pub finished : IsFinished fates change
   pub written : (h : Holding) → IsShown v a h → IsWrittenOver h (holding_over (seen_with v fates) h) at new time

@@ -1,5 +1,5 @@
 -- The calls that write: bytes into a file, and all that isn't on the disk yet.
-use Rattle.std.specs.Prelude.{ℕ, ◌≡◌, ◌≢◌, ◌⊎◌, ◌+◌, ◌<◌, ◌≤◌, ⊤, true, false, List, length}
+use Rattle.std.specs.Prelude.{ℕ, ◌≡◌, ◌≢◌, ◌⊎◌, ◌+◌, ◌<◌, ◌≤◌, ⊤, true, false, List, [], length, Result, Ok}
 use Rattle.cluster_history.specs.Changes.{is_ok}
 use Rattle.file_tree.specs.Apply.{apply, file_limit}
 use Rattle.file_tree.specs.Tree.{Tree}
@@ -10,9 +10,12 @@ use Rattle.file_tree.specs.declared.reply.Reply.TheVariants as reply
 use Rattle.gfs2_layout.specs.Holding.{Holding}
 use Rattle.gfs2_layout.specs.Inode.{dinode_in, is_directory_in, is_hashed_in}
 use Rattle.glock_names.specs.Views.{Seen, HasBlock}
+use Rattle.glock_names.specs.declared.steps.CallFault.{CallFault}
 use Rattle.call_locks.specs.Wants.{wanted}
 use Rattle.call_locks.specs.WantLaws.{path_of}
 use Rattle.dinode_tree.specs.Shown.{IsShown}
+use Rattle.drafts.specs.declared.attempt.Attempt.{Attempt}
+use Rattle.drafts.specs.declared.attempt.Attempt.TheVariants.{Done}
 use Rattle.drafts.specs.declared.change.Change.{Change}
 use Rattle.image_model.specs.Image.{Image}
 use Rattle.image_model.specs.Owners.{Owners}
@@ -79,10 +82,19 @@ abbrev pub IsWriteAnswered : Seen → Call → ℕ → Reply → Change → Type
 IsWriteAnswered v call time reply.Ok change = IsWriteOf v call time change
 IsWriteAnswered v call time r change = IsRefused v call r
 
--- `sync` is answered Ok
+-- and `sync` Ok
 abbrev pub IsAnswered : Seen → Call → ℕ → Reply → Change → Type 0
 IsAnswered v Sync time r change = r ≡ reply.Ok
 IsAnswered v call time r change = IsWriteAnswered v call time r change
+
+-- `sync` is answered at once, with a change of nothing: it asks for no lock and no block, finds no damage, and takes no memory
+abbrev pub IsSynced : Result Attempt CallFault → Type 0
+IsSynced (Ok (Done reply.Ok change)) = (change.blocks.items ≡ []) × (change.freed.items ≡ [])
+IsSynced r = ⊥
+
+abbrev pub IfSync : Call → Type 0 → Type 0
+IfSync Sync P = P
+IfSync call P = ⊤
 
 abbrev pub IsToldOf : Seen → Call → ℕ → Found → Type 0
 IsToldOf v call time (found.Refused r) = IsRefused v call r
