@@ -1,22 +1,21 @@
 -- The draft of a write does what the call should.
-use Rattle.std.proofs.Common.{◌≡◌, ◌≢◌, ◌⊎◌, ◌+◌, ◌<◌, ◌≤◌, inl, inr, ℕ, suc, zero, Bool, true, false, true≢false, List, [], ◌∷◌, ◌++◌, length, slice_get, Option, None, Some, refl, sym, ap, ◌∙◌, subst, arith}
+use Rattle.std.proofs.Common.{◌≡◌, ◌≢◌, ◌+◌, ◌≤◌, inl, inr, ℕ, suc, zero, Bool, true, false, true≢false, List, [], ◌∷◌, ◌++◌, length, slice_get, None, Some, refl, sym, ap, ◌∙◌, subst, arith}
 use Rattle.std.proofs.lemmas.Bool.{cases_eq, cases_lt, cond-true, cond-false, le-ltb, lt-ltb}
 use Rattle.std.proofs.lemmas.List.{length-append}
-use Rattle.std.specs.Prelude.{IsSome, is_some, if◌then◌else◌, nat_lt}
+use Rattle.std.specs.Prelude.{IsSome, is_some, nat_lt}
 use Rattle.std.specs.Ordering.{nat_cmp}
 use Rattle.std.specs.FinMap.{FinMap, get, empty, insert}
 use Rattle.file_tree.specs.Apply.{Found, Walked, apply, file_limit, overwritten, put_at, refuse, walk, write_at}
 use Rattle.file_tree.specs.Tree.{Tree, file, dir}
 use Rattle.file_tree.specs.declared.call.Call.{Call}
-use Rattle.file_tree.specs.declared.call.Call.TheVariants.{Write}
 use Rattle.file_tree.specs.declared.reply.Reply.TheVariants.{Ok as OkReply}
 use Rattle.cluster_history.specs.Changes.{Changes}
-use Rattle.drafts.specs.Fates.{AreWhole, block_with, seen_with}
+use Rattle.drafts.specs.Fates.{AreWhole, block_with}
 use Rattle.drafts.specs.declared.change.Change.{Change}
 use Rattle.drafts.specs.declared.fate.Fate.{Fate}
 use Rattle.drafts.specs.declared.fate.Fate.TheVariants.{Put, Freed}
-use Rattle.gfs2_layout.specs.Holding.{Holding, Itself, part_at}
-use Rattle.gfs2_layout.specs.Inode.{IsInode, dinode_in, head_of, is_directory_in, content_of}
+use Rattle.gfs2_layout.specs.Holding.{Holding, part_at}
+use Rattle.gfs2_layout.specs.Inode.{IsInode, dinode_in, is_directory_in, content_of}
 use Rattle.gfs2_layout.specs.Structures.{is_regular}
 use Rattle.gfs2_layout.specs.declared.dinode.Dinode.{Dinode}
 use Rattle.glock_names.specs.StateOrder.{leq}
@@ -28,8 +27,6 @@ use Rattle.call_locks.specs.declared.want.Want.{Want}
 use Rattle.call_locks.specs.Wants.{want, shared_above, way_to, wanted}
 use Rattle.call_locks.specs.WantLaws.{path_of}
 use Rattle.dinode_tree.specs.Reading.{inode_lock}
-use Rattle.dinode_tree.specs.Shown.{IsShown}
-use Rattle.linear_dirs.specs.Shown.{holding_over}
 use Rattle.image_model.specs.Flat.{Path, Thing, AFile, ADir, thing_in}
 use Rattle.image_model.specs.Image.{Image}
 use Rattle.image_model.specs.Owners.{Owners, holding}
@@ -41,14 +38,13 @@ use Rattle.image_changes.specs.Instances.{IsAt}
 use Rattle.image_changes.proofs.Drafting.{drafts_do}
 use Rattle.image_changes.proofs.Nodes.{file_thing}
 use Rattle.image_changes.proofs.Walks.{walks_find}
-use Rattle.draft_changes.specs.Rewriting.{RewritesFile, IsPutInFile, is_content_part}
+use Rattle.draft_changes.specs.Rewriting.{RewritesFile, is_content_part}
 use Rattle.draft_changes.proofs.Rewritten.{rewriting_makes}
 use Rattle.draft_changes.proofs.Views.{shows_inodes}
-use Rattle.path_walks.specs.Holds.{holds, hold_of}
 use Rattle.path_walks.specs.Walks.{LeadsTo, at_root, by_name, IsHeldAt}
 use Rattle.path_walks.proofs.Images.{is_inode, is_shown, is_sound}
 use Rattle.read_calls.proofs.Lists.{as_many}
-use Rattle.writing_calls.specs.Contents.{IsWrittenOver, dinode_after, size_after}
+use Rattle.writing_calls.specs.Contents.{IsWrittenOver, size_after}
 use Rattle.writing_calls.specs.Drafting.{IsWrite}
 use Rattle.writing_calls.specs.Writing.{Writes}
 use Rattle.writing_calls.proofs.Written.{put_alone, put_there}

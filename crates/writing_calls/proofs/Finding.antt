@@ -1,5 +1,5 @@
 -- What a write finds at its path's end.
-use Rattle.std.proofs.Common.{◌≡◌, ◌+◌, ◌<◌, ◌≤◌, ℕ, Bool, true, false, List, length, sym, ap, ◌∙◌, subst, arith}
+use Rattle.std.proofs.Common.{◌≡◌, ◌+◌, ◌<◌, ℕ, Bool, true, false, List, length, sym, ap, ◌∙◌, subst, arith}
 use Rattle.std.proofs.lemmas.Bool.{cond-true, lt-ltb}
 use Rattle.std.specs.Prelude.{nat_lt}
 use Rattle.file_tree.specs.Apply.{Answer, apply, file_limit, overwritten, put_at, refuse, write_at}
@@ -9,7 +9,7 @@ use Rattle.file_tree.specs.declared.reply.Reply.{Reply}
 use Rattle.file_tree.specs.declared.reply.Reply.TheVariants as reply
 use Rattle.drafts.specs.declared.change.Change.{Change}
 use Rattle.gfs2_layout.specs.Holding.{Holding}
-use Rattle.gfs2_layout.specs.Inode.{dinode_in, height_in, is_directory_in, content_of}
+use Rattle.gfs2_layout.specs.Inode.{dinode_in, is_directory_in, content_of}
 use Rattle.gfs2_layout.specs.Structures.{dinode_length, is_directory}
 use Rattle.gfs2_layout.specs.declared.dinode.Dinode.{Dinode}
 use Rattle.glock_names.specs.Views.{Seen}
@@ -22,8 +22,7 @@ use Rattle.image_model.specs.Owners.{Owners, holding}
 use Rattle.image_model.specs.Stands.{Layout}
 use Rattle.image_changes.specs.Does.{IsOf, Does}
 use Rattle.image_changes.proofs.DirectoryNames.{directories_list}
-use Rattle.path_walks.specs.Holds.{AreHeld}
-use Rattle.path_walks.specs.Walks.{IsDamage, IsSeenAt, IsWalked, IsWrong, in_inode}
+use Rattle.path_walks.specs.Walks.{IsDamage, IsSeenAt, IsWalked, in_inode}
 use Rattle.path_walks.specs.declared.walk.Place.{Place}
 use Rattle.path_walks.specs.declared.walk.Walk.TheVariants.{At}
 use Rattle.path_walks.proofs.Images.{is_shown, unbroken}

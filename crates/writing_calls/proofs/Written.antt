@@ -1,9 +1,9 @@
 -- A file whose dinode's block was written anew, with other content.
-use Rattle.std.proofs.Common.{◌≡◌, ◌≢◌, ◌⊎◌, ℕ, suc, ◌+◌, ◌<◌, ◌≤◌, Bool, true, false, inl, inr, List, length, take, drop, length-drop, Option, None, Some, Ok, refl, sym, ap, ap₂, ◌∙◌, subst, arith}
+use Rattle.std.proofs.Common.{◌≡◌, ◌≢◌, ℕ, suc, ◌+◌, ◌≤◌, true, false, inl, inr, List, length, take, drop, length-drop, None, Some, sym, ap, ap₂, ◌∙◌, subst, arith}
 use Rattle.std.proofs.lemmas.Bool.{cases_eq, cases_lt, cond-true, cond-false, eq-eqb, both_ways, lt-ltb, le-ltb}
-use Rattle.std.specs.Prelude.{◌==◌, ◌&&◌, IsSome, if◌then◌else◌, nat_lt}
+use Rattle.std.specs.Prelude.{◌==◌, ◌&&◌, nat_lt}
 use Rattle.std.specs.Cmp.{nat_cmp_total}
-use Rattle.std.specs.FinMap.{FinMap, get, get-empty, empty, insert, nat_cmp-IsAntisymmetric}
+use Rattle.std.specs.FinMap.{get, get-empty, empty, insert, nat_cmp-IsAntisymmetric}
 use Rattle.std.specs.Ordering.{nat_cmp}
 use Rattle.finite_maps.proofs.Keys.{inserted_at, inserted_apart}
 use Rattle.drafts.specs.Fates.{block_with, seen_with}
@@ -13,7 +13,7 @@ use Rattle.file_tree.specs.Apply.{overwritten}
 use Rattle.gfs2_layout.specs.Headers.{HasHeader}
 use Rattle.gfs2_layout.specs.Holding.{Holding, Part, Pointed, part_at, bytes_at}
 use Rattle.gfs2_layout.specs.Inode.{IsInode, HasTree, Fits, Head, dinode_in, height_in, has_hash_flag, is_directory_in, is_hashed_in, content_of}
-use Rattle.gfs2_layout.specs.Structures.{header_fault, dinode_of, dinode_read, dinode_length, is_directory, is_regular}
+use Rattle.gfs2_layout.specs.Structures.{header_fault, dinode_of, dinode_length, is_directory, is_regular}
 use Rattle.gfs2_layout.specs.declared.dinode.Dinode.{Dinode}
 use Rattle.gfs2_layout.proofs.HeaderLaws.{answer_ok, header_from}
 use Rattle.glock_names.specs.Views.{Seen}
@@ -22,7 +22,7 @@ use Rattle.dinode_tree.specs.Shown.{IsShown}
 use Rattle.linear_dirs.specs.Shown.{holding_over}
 use Rattle.linear_dirs.proofs.Looked.{bytes_of}
 use Rattle.linear_dirs.proofs.Rewritten.{IsRewritten, part_same, bytes_new, bytes_same, dinode_new, count_same, seen_at}
-use Rattle.writing_calls.specs.Contents.{IsBlockWritten, IsWrittenOver, StaysStuffed, HasRoom, area_after, dinode_after, size_after}
+use Rattle.writing_calls.specs.Contents.{IsBlockWritten, IsWrittenOver, StaysStuffed, HasRoom, dinode_after, size_after}
 use Rattle.writing_calls.proofs.Areas.{content_front}
 
 abbrev head_from : Dinode → Head

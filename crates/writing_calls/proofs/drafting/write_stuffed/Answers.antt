@@ -1,4 +1,3 @@
-use Rattle.std.proofs.Common.{ap, sym, ◌∙◌}
 use Rattle.writing_calls.specs.Drafting.{IsWrite}
 use Rattle.writing_calls.proofs.Drafts.{new_sees, write_is, if_finished}
 use Rattle.writing_calls.proofs.drafting.write_stuffed.Goals as goal

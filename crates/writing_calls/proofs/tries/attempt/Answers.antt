@@ -1,5 +1,5 @@
 use Rattle.std.proofs.Common.{ap}
-use Rattle.file_tree.specs.Apply.{Answer, apply}
+use Rattle.file_tree.specs.Apply.{apply}
 use Rattle.file_tree.specs.declared.reply.Reply.TheVariants as reply
 use Rattle.cluster_history.specs.Changes.{Changes}
 use Rattle.image_changes.proofs.Doing.{nothing_does}
