@@ -1,5 +1,5 @@
 -- What a write finds at its path's end.
-use Rattle.std.proofs.Common.{◌≡◌, ◌+◌, ◌<◌, ℕ, Bool, true, false, List, length, sym, ap, ◌∙◌, subst, arith}
+use Rattle.std.proofs.Common.{◌≡◌, ◌+◌, ◌<◌, ◌≤◌, ℕ, Bool, true, false, List, length, sym, ap, ◌∙◌, subst, arith}
 use Rattle.std.proofs.lemmas.Bool.{cond-true, lt-ltb}
 use Rattle.std.specs.Prelude.{nat_lt}
 use Rattle.file_tree.specs.Apply.{Answer, apply, file_limit, overwritten, put_at, refuse, write_at}
@@ -95,9 +95,9 @@ module _ (v : Seen) (c : Call) (at : ℕ) (new : List ℕ) (p : Place) (writes :
         unbroken v im o l t of (path_of c false) p.inode 8 p.inode walked.0.at
         (broken_so v p.inode p.dinode (holding im o p.inode) (is_shown v im o l t of (path_of c false) p.inode walked.0.at) walked.0.dinode is.0 is.1)
 
-    pub stuffed_found : StaysStuffed v.size p.dinode end → (apply c t).reply ≡ reply.Ok
-    stuffed_found stays =
-        ap (λ (x : Answer). x.reply) (call_taken c t at new (content_of (holding im o p.inode)) writes stays.short (file_there v im o l t of (path_of c false) p.inode walked.0.at (file_at stays.file)))
+    pub taken_found : is_directory p.dinode ≡ false → end ≤ file_limit → (apply c t).reply ≡ reply.Ok
+    taken_found is short =
+        ap (λ (x : Answer). x.reply) (call_taken c t at new (content_of (holding im o p.inode)) writes short (file_there v im o l t of (path_of c false) p.inode walked.0.at (file_at is)))
 
   pub stuffed_does : (time : ℕ) (change : Change) → StaysStuffed v.size p.dinode end → IsWrite v p.inode at new time change
       → ((im : Image) (o : Owners) (l : Layout) (t : Tree) → IsOf v im o l t → IsWalked v im o l t (path_of c false) (wanted c) (At p)) → Does v c reply.Ok change

@@ -1,5 +1,5 @@
 -- The calls that write: bytes into a file, and all that isn't on the disk yet.
-use Rattle.std.specs.Prelude.{ℕ, ◌≡◌, ◌+◌, ◌<◌, ◌≤◌, ⊤, true, false, List, [], length, Result, Ok}
+use Rattle.std.specs.Prelude.{ℕ, ◌≡◌, ◌⊎◌, ◌+◌, ◌<◌, ◌≤◌, ⊤, true, false, List, [], length, Result, Ok}
 use Rattle.cluster_history.specs.Changes.{is_ok}
 use Rattle.file_tree.specs.Apply.{apply, file_limit}
 use Rattle.file_tree.specs.Tree.{Tree}
@@ -21,7 +21,7 @@ use Rattle.image_model.specs.Image.{Image}
 use Rattle.image_model.specs.Owners.{Owners}
 use Rattle.image_model.specs.Stands.{Layout}
 use Rattle.path_walks.specs.Holds.{Hold, AreHeld, IsAskedFor, IsFirstLack, holds_in}
-use Rattle.path_walks.specs.Walks.{LeadsTo, IsAbsent, IsLacked, IsOnTheWay, IsUnread}
+use Rattle.path_walks.specs.Walks.{LeadsTo, IsAbsent, IsHashedOn, IsLacked, IsOnTheWay, IsUnread}
 use Rattle.writing_calls.specs.Contents.{NeedsBlocks}
 use Rattle.writing_calls.specs.Drafting.{IsWrite}
 use Rattle.writing_calls.specs.declared.finds.Found.{Found}
@@ -105,19 +105,20 @@ IsToldOf v call time (found.NeedLock lock state) = IsLacked v (wanted call) (pat
 
 -- ---- in an image that the view may be of
 
--- the reply is the tree's, and each lock of the list is held; or what stands in the way: the first lock of it that isn't held, or a block
--- that the view hasn't
-abbrev pub IsFoundBy : Seen → Image → Owners → Layout → Reply → List Hold → Found → Type 0
-IsFoundBy v im o l answer list (found.Refused r) = (answer ≡ r) × AreHeld v list
-IsFoundBy v im o l answer list (found.Written change) = (answer ≡ reply.Ok) × AreHeld v list
-IsFoundBy v im o l answer list (found.NeedBlock m) = IsAskedFor v im o l list m
-IsFoundBy v im o l answer list (found.NotBuilt b) = ⊤
-IsFoundBy v im o l answer list (found.NeedLock lock state) = IsFirstLack v list lock state
+-- the call isn't built for a hashed directory on its path; or the tree would take it, and each lock of the list is held
+abbrev pub IsUnbuiltIn : Seen → Image → Owners → Layout → Tree → Call → ℕ → Type 0
+IsUnbuiltIn v im o l t call b = IsHashedOn v im o l (path_of call false) (wanted call) b ⊎ (((apply call t).reply ≡ reply.Ok) × AreHeld v (call_holds im o l call))
 
+-- the reply is the tree's, and each lock of the list is held; or what stands in the way: the first lock of it that isn't held, a block
+-- that the view hasn't, or what isn't built
 abbrev pub IsFound : Seen → Image → Owners → Layout → Tree → Call → Found → Type 0
-IsFound v im o l t call f = IsFoundBy v im o l (apply call t).reply (call_holds im o l call) f
+IsFound v im o l t call (found.Refused r) = ((apply call t).reply ≡ r) × AreHeld v (call_holds im o l call)
+IsFound v im o l t call (found.Written change) = ((apply call t).reply ≡ reply.Ok) × AreHeld v (call_holds im o l call)
+IsFound v im o l t call (found.NeedBlock m) = IsAskedFor v im o l (call_holds im o l call) m
+IsFound v im o l t call (found.NotBuilt b) = IsUnbuiltIn v im o l t call b
+IsFound v im o l t call (found.NeedLock lock state) = IsFirstLack v (call_holds im o l call) lock state
 
--- what a refusal is not
+-- a refusal isn't answered Ok
 abbrev pub IsRefusal : Found → Type 0
 IsRefusal (found.Refused r) = is_ok r ≡ false
 IsRefusal f = ⊤

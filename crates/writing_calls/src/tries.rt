@@ -15,7 +15,7 @@ ghost use Rattle.path_walks.specs.Answers.{IfDone, IfNeedLock, IfNeedBlock, IfNo
 ghost use Rattle.path_walks.specs.Holds.{AreHeld, IsAskedFor, IsFirstLack};
 ghost use Rattle.path_walks.specs.Walks.{IsDamage, IsLacked, IsSeenAt, IsUnread, IsWalked};
 ghost use Rattle.path_walks.specs.declared.walk.Walk.TheVariants.{At};
-ghost use Rattle.writing_calls.specs.Writing.{IfSync, IfWritten, IsAnswered, IsFound, IsRefusal, IsSynced, IsToldOf, IsUnbuilt, IsWriteAnswered, IsWriting, Writes, call_holds};
+ghost use Rattle.writing_calls.specs.Writing.{IfSync, IfWritten, IsAnswered, IsFound, IsRefusal, IsSynced, IsToldOf, IsUnbuilt, IsUnbuiltIn, IsWriteAnswered, IsWriting, Writes, call_holds};
 
 use crate::aims::{Aim, aim_of};
 use crate::drafting::write_stuffed;
@@ -122,6 +122,7 @@ fn write<V: View>(
     ensures lacked { IfNeedLock result (IsLacked (V.seen view.now) (wanted call.now) (path_of call.now false)) }
     ensures needed { IfNeedBlock result (IsUnread (V.seen view.now) (wanted call.now) (path_of call.now false)) }
     ensures unbuilt { IfNotBuilt result (IsUnbuilt (V.seen view.now) call.now) }
+    ensures taken { (im : Image) (o : Owners) (l : Layout) (t : Tree) → IsOf (V.seen view.now) im o l t → IfNotBuilt result (IsUnbuiltIn (V.seen view.now) im o l t call.now) }
     ensures sound { (im : Image) (o : Owners) (l : Layout) (t : Tree) → IsOf (V.seen view.now) im o l t → IfDamaged result (λ rule block. ⊥) }
     ensures damaged { IfDamaged result (IsDamage (V.seen view.now) (wanted call.now) (path_of call.now false)) }
     ensures kept { IfDamaged result (IsOfView (V.seen view.now)) }
@@ -160,6 +161,7 @@ pub fn attempt<V: View>(
     ensures lacked { IfNeedLock result (IsLacked (V.seen view.now) (wanted call.now) (path_of call.now false)) }
     ensures needed { IfNeedBlock result (IsUnread (V.seen view.now) (wanted call.now) (path_of call.now false)) }
     ensures unbuilt { IfNotBuilt result (IsUnbuilt (V.seen view.now) call.now) }
+    ensures taken { (im : Image) (o : Owners) (l : Layout) (t : Tree) → IsOf (V.seen view.now) im o l t → IfNotBuilt result (IsUnbuiltIn (V.seen view.now) im o l t call.now) }
     ensures synced { IfSync call.now (IsSynced result) }
     ensures sound { (im : Image) (o : Owners) (l : Layout) (t : Tree) → IsOf (V.seen view.now) im o l t → IfDamaged result (λ rule block. ⊥) }
     ensures damaged { IfDamaged result (IsDamage (V.seen view.now) (wanted call.now) (path_of call.now false)) }

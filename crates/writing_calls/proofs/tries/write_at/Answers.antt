@@ -1,6 +1,6 @@
-use Rattle.std.proofs.Common.{◌+◌, length, subst₂}
+use Rattle.std.proofs.Common.{◌+◌, inr, length, subst₂}
 use Rattle.writing_calls.specs.Contents.{IsAimOf}
-use Rattle.writing_calls.proofs.Finding.{broken_nowhere, broken_told, refused_found, refused_told, stuffed_does, stuffed_found}
+use Rattle.writing_calls.proofs.Finding.{broken_nowhere, broken_told, refused_found, refused_told, stuffed_does, taken_found}
 use Rattle.writing_calls.proofs.tries.write_at.Goals as goal
 
 pub returns-in-Refused-clause-found : goal.returns-in-Refused-clause-found
@@ -13,6 +13,12 @@ pub returns-in-Refused-clause-told : goal.returns-in-Refused-clause-told
 returns-in-Refused-clause-told g c =
     let is = subst₂ (λ size a. IsAimOf size c.args.place.now.dinode (c.args.at + length c.args.new.now) a) c.block_size.ensures.value c.in-Refused.is c.aim_of.ensures in
     refused_told (g.V.View.seen c.args.view.now) c.args.call.now c.args.at c.args.new.now c.args.place.now c.requires.writes c.requires.seen c.in-Refused.reply is
+
+pub returns-in-NotBuilt-clause-found : goal.returns-in-NotBuilt-clause-found
+returns-in-NotBuilt-clause-found g c im o l t of =
+    let walked = c.requires.walked im o l t of in
+    let is = subst₂ (λ size a. IsAimOf size c.args.place.now.dinode (c.args.at + length c.args.new.now) a) c.block_size.ensures.value c.in-NotBuilt.is c.aim_of.ensures in
+    inr (taken_found (g.V.View.seen c.args.view.now) c.args.call.now c.args.at c.args.new.now c.args.place.now c.requires.writes c.requires.seen im o l t of walked is.0 is.1, walked.2)
 
 pub returns-in-Broken-clause-sound : goal.returns-in-Broken-clause-sound
 returns-in-Broken-clause-sound g c im o l t of =
@@ -28,7 +34,7 @@ pub returns-in_ok-write_stuffed-in-Stuffed-clause-found : goal.returns-in_ok-wri
 returns-in_ok-write_stuffed-in-Stuffed-clause-found g c im o l t of =
     let walked = c.requires.walked im o l t of in
     let is = subst₂ (λ size a. IsAimOf size c.args.place.now.dinode (c.args.at + length c.args.new.now) a) c.block_size.ensures.value c.in-Stuffed.is c.aim_of.ensures in
-    (stuffed_found (g.V.View.seen c.args.view.now) c.args.call.now c.args.at c.args.new.now c.args.place.now c.requires.writes c.requires.seen im o l t of walked is, walked.2)
+    (taken_found (g.V.View.seen c.args.view.now) c.args.call.now c.args.at c.args.new.now c.args.place.now c.requires.writes c.requires.seen im o l t of walked is.file is.short, walked.2)
 
 pub returns-in_ok-write_stuffed-in-Stuffed-clause-done : goal.returns-in_ok-write_stuffed-in-Stuffed-clause-done
 returns-in_ok-write_stuffed-in-Stuffed-clause-done g c =
