@@ -1,7 +1,7 @@
 -- What a write finds at its path's end.
 use Rattle.std.proofs.Common.{◌≡◌, ◌+◌, ◌<◌, ◌≤◌, ℕ, Bool, true, false, List, length, sym, ap, ◌∙◌, subst, arith}
 use Rattle.std.proofs.lemmas.Bool.{cond-true, lt-ltb}
-use Rattle.std.specs.Prelude.{nat_lt}
+use Rattle.std.specs.Prelude.{nat_lt, IsErrAnd, Result}
 use Rattle.file_tree.specs.Apply.{Answer, apply, file_limit, overwritten, put_at, refuse, write_at}
 use Rattle.file_tree.specs.Tree.{Tree, file}
 use Rattle.file_tree.specs.declared.call.Call.{Call}
@@ -12,7 +12,11 @@ use Rattle.gfs2_layout.specs.Holding.{Holding}
 use Rattle.gfs2_layout.specs.Inode.{dinode_in, is_directory_in, content_of}
 use Rattle.gfs2_layout.specs.Structures.{dinode_length, is_directory}
 use Rattle.gfs2_layout.specs.declared.dinode.Dinode.{Dinode}
+use Rattle.glock_names.specs.Steps.{IfDamaged, TellsOf}
+use Rattle.glock_names.specs.Steps as step
 use Rattle.glock_names.specs.Views.{Seen}
+use Rattle.glock_names.specs.declared.steps.CallFault.{CallFault}
+use Rattle.glock_names.specs.declared.steps.CallFault.TheVariants.{Damaged, NoMemory}
 use Rattle.call_locks.specs.Wants.{wanted}
 use Rattle.call_locks.specs.WantLaws.{path_of}
 use Rattle.dinode_tree.specs.Broken.{IsBroken, too_large_for_dinode}
@@ -22,14 +26,16 @@ use Rattle.image_model.specs.Owners.{Owners, holding}
 use Rattle.image_model.specs.Stands.{Layout}
 use Rattle.image_changes.specs.Does.{IsOf, Does}
 use Rattle.image_changes.proofs.DirectoryNames.{directories_list}
-use Rattle.path_walks.specs.Walks.{IsDamage, IsSeenAt, IsWalked, in_inode}
+use Rattle.path_walks.specs.Walks as path
+use Rattle.path_walks.specs.Walks.{IsSeenAt, IsWalked, in_inode}
 use Rattle.path_walks.specs.declared.walk.Place.{Place}
 use Rattle.path_walks.specs.declared.walk.Walk.TheVariants.{At}
 use Rattle.path_walks.proofs.Images.{is_shown, unbroken}
+use Rattle.read_calls.proofs.Answering.{told_on}
 use Rattle.read_calls.proofs.Trees.{wrong_damage}
 use Rattle.writing_calls.specs.Contents.{IsAimOf, StaysStuffed}
 use Rattle.writing_calls.specs.Drafting.{IsWrite}
-use Rattle.writing_calls.specs.Writing.{IsAtEnd, IsRefused, Writes, end_of, is_dir, too_big}
+use Rattle.writing_calls.specs.Writing.{IsAtEnd, IsDamage, IsRefused, Writes, end_of, is_dir, on_path, too_big}
 use Rattle.writing_calls.specs.declared.aims.Aim.TheVariants as aim
 use Rattle.writing_calls.proofs.Doing.{call_taken, file_there, write_does}
 
@@ -37,6 +43,14 @@ use Rattle.writing_calls.proofs.Doing.{call_taken, file_there, write_does}
 broken_so : (v : Seen) (a : ℕ) (d : Dinode) (h : Holding) → IsShown v a h → d ≡ dinode_in h → d.height ≡ 0 → v.size < dinode_length + d.size → IsBroken h 8 a
 broken_so v a d h shown was low large =
     subst (IsBroken h 8) shown.own (too_large_for_dinode (ap (λ (x : Dinode). x.height) (sym was) ∙ low) (omega (arith, large, shown.size, ap (λ (x : Dinode). x.size) was)))
+
+-- damage on the path is damage of the call
+damage_on : (v : Seen) (c : Call) (f : CallFault) → step.IsDamage (path.IsDamage v (wanted c) (path_of c false)) f → TellsOf (IsDamage v c) f
+damage_on v c (Damaged b rule) on = on_path rule b on
+damage_on v c NoMemory on = absurd on
+
+pub damage_told : {B : Type 0} (v : Seen) (c : Call) (r : Result B CallFault) (f : CallFault) → IsErrAnd r (λ g. g ≡ f) → step.IsDamage (path.IsDamage v (wanted c) (path_of c false)) f → IfDamaged r (IsDamage v c)
+damage_told v c r f is on = told_on (IsDamage v c) r f is (damage_on v c f on)
 
 module _ (v : Seen) (c : Call) (at : ℕ) (new : List ℕ) (p : Place) (writes : Writes c at new) (seen : IsSeenAt v (wanted c) (path_of c false) p) where
   abbrev end : ℕ
@@ -61,8 +75,8 @@ module _ (v : Seen) (c : Call) (at : ℕ) (new : List ℕ) (p : Place) (writes :
   refused_told reply.Inside is = absurd is
   refused_told reply.NoSpace is = absurd is
 
-  pub broken_told : IsAimOf v.size p.dinode end aim.Broken → IsDamage v (wanted c) (path_of c false) 8 p.inode
-  broken_told is = wrong_damage v (wanted c) (path_of c false) p.inode seen.leads 8 p.inode (λ h shown. in_inode 8 p.inode (broken_so v p.inode p.dinode h shown (seen.dinode h shown) is.0 is.1))
+  pub broken_told : IsAimOf v.size p.dinode end aim.Broken → IsDamage v c 8 p.inode
+  broken_told is = on_path 8 p.inode (wrong_damage v (wanted c) (path_of c false) p.inode seen.leads 8 p.inode (λ h shown. in_inode 8 p.inode (broken_so v p.inode p.dinode h shown (seen.dinode h shown) is.0 is.1)))
 
   -- ---- in an image that the view may be of
 

@@ -1,5 +1,6 @@
 -- The calls that write: bytes into a file, and all that isn't on the disk yet.
-use Rattle.std.specs.Prelude.{ℕ, ◌≡◌, ◌⊎◌, ◌+◌, ◌<◌, ◌≤◌, ⊤, true, false, List, [], length, Result, Ok}
+use Rattle.std.specs.Prelude.{ℕ, ◌≡◌, ◌⊎◌, ◌+◌, ◌<◌, ◌≤◌, ⊤, true, false, List, [], length, Contains, Result, Ok}
+use Rattle.std.specs.List.{AllByRecursion}
 use Rattle.cluster_history.specs.Changes.{is_ok}
 use Rattle.file_tree.specs.Apply.{apply, file_limit}
 use Rattle.file_tree.specs.Tree.{Tree}
@@ -10,6 +11,8 @@ use Rattle.file_tree.specs.declared.reply.Reply.TheVariants as reply
 use Rattle.gfs2_layout.specs.Holding.{Holding}
 use Rattle.gfs2_layout.specs.Inode.{dinode_in, is_directory_in, is_hashed_in}
 use Rattle.glock_names.specs.Views.{Seen, HasBlock}
+use Rattle.glock_names.specs.declared.LockName.{LockName}
+use Rattle.glock_names.specs.declared.State.TheVariants.{Ex}
 use Rattle.glock_names.specs.declared.steps.CallFault.{CallFault}
 use Rattle.call_locks.specs.Wants.{wanted}
 use Rattle.call_locks.specs.WantLaws.{path_of}
@@ -17,10 +20,13 @@ use Rattle.dinode_tree.specs.Shown.{IsShown}
 use Rattle.drafts.specs.declared.attempt.Attempt.{Attempt}
 use Rattle.drafts.specs.declared.attempt.Attempt.TheVariants.{Done}
 use Rattle.drafts.specs.declared.change.Change.{Change}
+use Rattle.drafts.specs.declared.change.Written.{Written}
+use Rattle.resource_groups.specs.Putting.{HasDataBlock}
 use Rattle.image_model.specs.Image.{Image}
 use Rattle.image_model.specs.Owners.{Owners}
 use Rattle.image_model.specs.Stands.{Layout}
 use Rattle.path_walks.specs.Holds.{Hold, AreHeld, IsAskedFor, IsFirstLack, holds_in}
+use Rattle.path_walks.specs.Walks as path
 use Rattle.path_walks.specs.Walks.{LeadsTo, IsAbsent, IsHashedOn, IsLacked, IsOnTheWay, IsUnread}
 use Rattle.writing_calls.specs.Contents.{NeedsBlocks}
 use Rattle.writing_calls.specs.Drafting.{IsWrite}
@@ -74,7 +80,7 @@ pub data IsRefused (v : Seen) (call : Call) : Reply → Type 0 where
 
 -- the change writes the call's bytes into the file at the path's end
 abbrev pub IsWriteOf : Seen → Call → ℕ → Change → Type 0
-IsWriteOf v (Write path at new) time change = (a : ℕ) × LeadsTo v (wanted (Write path at new)) path a × IsWrite v a at new time change
+IsWriteOf v (Write path at new) time change = (a : ℕ) × LeadsTo v (wanted (Write path at new)) path a × HasDataBlock v a × IsWrite v a at new time change
 IsWriteOf v call time change = ⊥
 
 -- a write that was answered Ok has changed the file so, at this time; else it is refused
@@ -86,6 +92,20 @@ IsWriteAnswered v call time r change = IsRefused v call r
 abbrev pub IsAnswered : Seen → Call → ℕ → Reply → Change → Type 0
 IsAnswered v Sync time r change = r ≡ reply.Ok
 IsAnswered v call time r change = IsWriteAnswered v call time r change
+
+-- a block that is written: a whole one, and a data block of a group
+pub record IsInside (v : Seen) (w : Written) : Type 0 where
+  pub whole : length w.bytes ≡ v.size
+  pub inside : HasDataBlock v w.block
+
+abbrev pub AreInside : Seen → Change → Type 0
+AreInside v change = AllByRecursion (IsInside v) change.blocks.items
+
+-- the block breaks this rule: on the path; or (2) the dinode at its end, into whose block is to be written, is none of the groups' data
+-- blocks
+pub data IsDamage (v : Seen) (call : Call) : ℕ → ℕ → Type 0 where
+  on_path : (rule b : ℕ) → path.IsDamage v (wanted call) (path_of call false) rule b → IsDamage v call rule b
+  no_data_block : (a : ℕ) → LeadsTo v (wanted call) (path_of call false) a → ¬ (HasDataBlock v a) → IsDamage v call 2 a
 
 -- `sync` is answered at once, with a change of nothing: it asks for no lock and no block, finds no damage, and takes no memory
 abbrev pub IsSynced : Result Attempt CallFault → Type 0
@@ -109,11 +129,15 @@ IsToldOf v call time (found.NeedLock lock state) = IsLacked v (wanted call) (pat
 abbrev pub IsUnbuiltIn : Seen → Image → Owners → Layout → Tree → Call → ℕ → Type 0
 IsUnbuiltIn v im o l t call b = IsHashedOn v im o l (path_of call false) (wanted call) b ⊎ (((apply call t).reply ≡ reply.Ok) × AreHeld v (call_holds im o l call))
 
+-- each lock that is told with the change is one of the list, exclusive
+abbrev pub AreUnder : List Hold → Change → Type 0
+AreUnder list change = AllByRecursion (λ (lock : LockName). Contains list (record { lock = lock; state = Ex })) change.locks.items
+
 -- the reply is the tree's, and each lock of the list is held; or what stands in the way: the first lock of it that isn't held, a block
 -- that the view hasn't, or what isn't built
 abbrev pub IsFound : Seen → Image → Owners → Layout → Tree → Call → Found → Type 0
 IsFound v im o l t call (found.Refused r) = ((apply call t).reply ≡ r) × AreHeld v (call_holds im o l call)
-IsFound v im o l t call (found.Written change) = ((apply call t).reply ≡ reply.Ok) × AreHeld v (call_holds im o l call)
+IsFound v im o l t call (found.Written change) = ((apply call t).reply ≡ reply.Ok) × AreHeld v (call_holds im o l call) × AreUnder (call_holds im o l call) change
 IsFound v im o l t call (found.NeedBlock m) = IsAskedFor v im o l (call_holds im o l call) m
 IsFound v im o l t call (found.NotBuilt b) = IsUnbuiltIn v im o l t call b
 IsFound v im o l t call (found.NeedLock lock state) = IsFirstLack v (call_holds im o l call) lock state

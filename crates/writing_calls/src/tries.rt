@@ -13,9 +13,9 @@ ghost use Rattle.image_model.specs.Stands.{Layout};
 ghost use Rattle.image_changes.specs.Does.{IsOf, Does};
 ghost use Rattle.path_walks.specs.Answers.{IfDone, IfNeedLock, IfNeedBlock, IfNoSpace, IfNotBuilt};
 ghost use Rattle.path_walks.specs.Holds.{AreHeld, IsAskedFor, IsFirstLack};
-ghost use Rattle.path_walks.specs.Walks.{IsDamage, IsLacked, IsSeenAt, IsUnread, IsWalked};
+ghost use Rattle.path_walks.specs.Walks.{IsLacked, IsSeenAt, IsUnread, IsWalked};
 ghost use Rattle.path_walks.specs.declared.walk.Walk.TheVariants.{At};
-ghost use Rattle.writing_calls.specs.Writing.{IfSync, IfWritten, IsAnswered, IsFound, IsRefusal, IsSynced, IsToldOf, IsUnbuilt, IsUnbuiltIn, IsWriteAnswered, IsWriting, Writes, call_holds};
+ghost use Rattle.writing_calls.specs.Writing.{AreInside, AreUnder, IfSync, IfWritten, IsAnswered, IsDamage, IsFound, IsRefusal, IsSynced, IsToldOf, IsUnbuilt, IsUnbuiltIn, IsWriteAnswered, IsWriting, Writes, call_holds};
 
 use crate::aims::{Aim, aim_of};
 use crate::drafting::write_stuffed;
@@ -25,6 +25,7 @@ use drafts::{Attempt, Change, Stamp};
 use file_tree::{Call, Path, Reply};
 use glock_names::{CallFault, View};
 use path_walks::{Place, Walk, walk_along};
+use resource_groups::group_of;
 use std::alloc::Global;
 
 // A change of nothing.
@@ -55,10 +56,11 @@ fn write_at<V: View>(
     requires walked { (im : Image) (o : Owners) (l : Layout) (t : Tree) → IsOf (V.seen view.now) im o l t → IsWalked (V.seen view.now) im o l t (path_of call.now false) (wanted call.now) (At place.now) }
     ensures found { (im : Image) (o : Owners) (l : Layout) (t : Tree) → IsOf (V.seen view.now) im o l t → IfOk result (IsFound (V.seen view.now) im o l t call.now) }
     ensures done { IfOk result (IfWritten (Does (V.seen view.now) call.now OkReply)) }
+    ensures inside { IfOk result (IfWritten (AreInside (V.seen view.now))) }
     ensures refusal { IfOk result IsRefusal }
     ensures told { IfOk result (IsToldOf (V.seen view.now) call.now time) }
     ensures sound { (im : Image) (o : Owners) (l : Layout) (t : Tree) → IsOf (V.seen view.now) im o l t → IfDamaged result (λ rule block. ⊥) }
-    ensures damaged { IfDamaged result (IsDamage (V.seen view.now) (wanted call.now) (path_of call.now false)) }
+    ensures damaged { IfDamaged result (IsDamage (V.seen view.now) call.now) }
     ensures kept { IfDamaged result (IsOfView (V.seen view.now)) }
 {
     match aim_of(&place.dinode, view.block_size(), at, new.len() as u64) {
@@ -68,7 +70,16 @@ fn write_at<V: View>(
             block: place.inode,
             rule: 8,
         }),
-        Aim::Stuffed => Ok(Found::Written(write_stuffed(alloc, view, place, at, new, time)?)),
+        Aim::Stuffed => {
+            if group_of(view, place.inode).is_none() {
+                return Err(CallFault::Damaged {
+                    block: place.inode,
+                    rule: 2,
+                });
+            }
+            let change = write_stuffed(alloc, view, place, at, new, time)?;
+            Ok(Found::Written(change))
+        }
     }
 }
 
@@ -85,10 +96,11 @@ fn find<V: View>(
     requires { call.now ≡ Write path.now at new.now }
     ensures found { (im : Image) (o : Owners) (l : Layout) (t : Tree) → IsOf (V.seen view.now) im o l t → IfOk result (IsFound (V.seen view.now) im o l t call.now) }
     ensures done { IfOk result (IfWritten (Does (V.seen view.now) call.now OkReply)) }
+    ensures inside { IfOk result (IfWritten (AreInside (V.seen view.now))) }
     ensures refusal { IfOk result IsRefusal }
     ensures told { IfOk result (IsToldOf (V.seen view.now) call.now time) }
     ensures sound { (im : Image) (o : Owners) (l : Layout) (t : Tree) → IsOf (V.seen view.now) im o l t → IfDamaged result (λ rule block. ⊥) }
-    ensures damaged { IfDamaged result (IsDamage (V.seen view.now) (wanted call.now) (path_of call.now false)) }
+    ensures damaged { IfDamaged result (IsDamage (V.seen view.now) call.now) }
     ensures kept { IfDamaged result (IsOfView (V.seen view.now)) }
 {
     let wants = wants(alloc, call)?;
@@ -115,6 +127,8 @@ fn write<V: View>(
     requires { call.now ≡ Write path.now at new.now }
     ensures done { IfDone result (Does (V.seen view.now) call.now) }
     ensures held { (im : Image) (o : Owners) (l : Layout) (t : Tree) → IsOf (V.seen view.now) im o l t → IfDone result (λ reply change. AreHeld (V.seen view.now) (call_holds im o l call.now)) }
+    ensures inside { IfDone result (λ reply change. AreInside (V.seen view.now) change) }
+    ensures under { (im : Image) (o : Owners) (l : Layout) (t : Tree) → IsOf (V.seen view.now) im o l t → IfDone result (λ reply change. AreUnder (call_holds im o l call.now) change) }
     ensures lock { (im : Image) (o : Owners) (l : Layout) (t : Tree) → IsOf (V.seen view.now) im o l t → IfNeedLock result (IsFirstLack (V.seen view.now) (call_holds im o l call.now)) }
     ensures block { (im : Image) (o : Owners) (l : Layout) (t : Tree) → IsOf (V.seen view.now) im o l t → IfNeedBlock result (IsAskedFor (V.seen view.now) im o l (call_holds im o l call.now)) }
     ensures space { IfNoSpace result (λ need free. ⊥) }
@@ -124,7 +138,7 @@ fn write<V: View>(
     ensures unbuilt { IfNotBuilt result (IsUnbuilt (V.seen view.now) call.now) }
     ensures taken { (im : Image) (o : Owners) (l : Layout) (t : Tree) → IsOf (V.seen view.now) im o l t → IfNotBuilt result (IsUnbuiltIn (V.seen view.now) im o l t call.now) }
     ensures sound { (im : Image) (o : Owners) (l : Layout) (t : Tree) → IsOf (V.seen view.now) im o l t → IfDamaged result (λ rule block. ⊥) }
-    ensures damaged { IfDamaged result (IsDamage (V.seen view.now) (wanted call.now) (path_of call.now false)) }
+    ensures damaged { IfDamaged result (IsDamage (V.seen view.now) call.now) }
     ensures kept { IfDamaged result (IsOfView (V.seen view.now)) }
 {
     Ok(match find(alloc, view, call, path, at, new, time)? {
@@ -144,7 +158,7 @@ fn write<V: View>(
 
 /// Tries a call that writes, over a view: its answer with what it changes, or the first lock that isn't held or block that isn't
 /// there. The file gets the stamp's time. `sync` is answered `Ok` at once: that all is on the disk is for the node to see to. A write
-/// costs a walk along the path, and two copies of the block of the file's dinode.
+/// costs a walk along the path, a pass over the groups, and two copies of the block of the file's dinode.
 pub fn attempt<V: View>(
     alloc: Global,
     view: &V,
@@ -154,6 +168,8 @@ pub fn attempt<V: View>(
     requires writing { IsWriting call.now }
     ensures done { IfDone result (Does (V.seen view.now) call.now) }
     ensures held { (im : Image) (o : Owners) (l : Layout) (t : Tree) → IsOf (V.seen view.now) im o l t → IfDone result (λ reply change. AreHeld (V.seen view.now) (call_holds im o l call.now)) }
+    ensures inside { IfDone result (λ reply change. AreInside (V.seen view.now) change) }
+    ensures under { (im : Image) (o : Owners) (l : Layout) (t : Tree) → IsOf (V.seen view.now) im o l t → IfDone result (λ reply change. AreUnder (call_holds im o l call.now) change) }
     ensures lock { (im : Image) (o : Owners) (l : Layout) (t : Tree) → IsOf (V.seen view.now) im o l t → IfNeedLock result (IsFirstLack (V.seen view.now) (call_holds im o l call.now)) }
     ensures block { (im : Image) (o : Owners) (l : Layout) (t : Tree) → IsOf (V.seen view.now) im o l t → IfNeedBlock result (IsAskedFor (V.seen view.now) im o l (call_holds im o l call.now)) }
     ensures space { IfNoSpace result (λ need free. ⊥) }
@@ -164,7 +180,7 @@ pub fn attempt<V: View>(
     ensures taken { (im : Image) (o : Owners) (l : Layout) (t : Tree) → IsOf (V.seen view.now) im o l t → IfNotBuilt result (IsUnbuiltIn (V.seen view.now) im o l t call.now) }
     ensures synced { IfSync call.now (IsSynced result) }
     ensures sound { (im : Image) (o : Owners) (l : Layout) (t : Tree) → IsOf (V.seen view.now) im o l t → IfDamaged result (λ rule block. ⊥) }
-    ensures damaged { IfDamaged result (IsDamage (V.seen view.now) (wanted call.now) (path_of call.now false)) }
+    ensures damaged { IfDamaged result (IsDamage (V.seen view.now) call.now) }
     ensures kept { IfDamaged result (IsOfView (V.seen view.now)) }
 {
     match call {
