@@ -1,7 +1,8 @@
 -- A block that a call asks for.
-use Rattle.std.proofs.Common.{◌≡◌, ℕ, ◌+◌, ◌<◌, ◌≤◌, List, None, Some, inl, inr, sym, ap, ◌∙◌, arith}
+use Rattle.std.proofs.Common.{◌≡◌, ℕ, ◌+◌, ◌<◌, ◌≤◌, Bool, true, false, List, [], ◌∷◌, length, None, Some, inl, inr, refl, sym, ap, ◌∙◌, arith, true≢false}
 use Rattle.std.proofs.lemmas.Bool.{cases_lt}
-use Rattle.std.specs.Prelude.{Option}
+use Rattle.std.specs.Prelude.{Option, Contains, ◌&&◌}
+use Rattle.std.specs.List.{AllByRecursion}
 use Rattle.file_tree.specs.declared.call.Call.{Call}
 use Rattle.file_tree.specs.declared.call.Call.TheVariants as call
 use Rattle.gfs2_layout.specs.Device.{superblock_place}
@@ -16,6 +17,13 @@ use Rattle.image_model.specs.Image.{Image}
 use Rattle.image_model.specs.Owners.{Owner, Owners, Nobody}
 use Rattle.image_model.specs.Stands.{Layout, IsLaid}
 use Rattle.image_changes.specs.Changes.{cover}
+use Rattle.image_changes.specs.Does.{IsFormed, IsInside, is_empty, is_nothing}
+use Rattle.drafts.specs.declared.change.Change.{Change}
+use Rattle.drafts.specs.declared.change.Written.{Written}
+use Rattle.glock_names.specs.declared.State.TheVariants.{Ex}
+use Rattle.path_walks.specs.Holds.{Hold}
+use Rattle.writing_calls.specs.Writing as writing
+use Rattle.file_calls.specs.Calls.{AreUnder}
 use Rattle.read_calls.specs.Reading.{IsNeededFor, on_path, at_end}
 
 -- a view shows each inode
@@ -56,3 +64,26 @@ module _ (im : Image) (o : Owners) (l : Layout) (laid : IsLaid im o l) where
     where
       no_cover : ◌≡◌ {A = Option LockName} None (Some lock) → ⊥
       no_cover e = cc
+
+-- ---- what is written
+
+-- a change of nothing has no lock
+pub nothing_under : (list : List Hold) (change : Change) → IsFormed change → is_nothing change ≡ true → AreUnder list change
+nothing_under list change form is = none_in change.locks.items (form.locks ∙ ap length (none_of change.blocks.items (first (is_empty change.blocks.items) (is_empty change.freed.items) is)))
+  where
+    first : (a b : Bool) → a && b ≡ true → a ≡ true
+    first true b e = refl
+    first false b e = e
+
+    none_of : (ws : List Written) → is_empty ws ≡ true → ws ≡ []
+    none_of [] is = refl
+    none_of (w ∷ ws) is = absurd (true≢false (sym is))
+
+    none_in : (locks : List LockName) → length locks ≡ 0 → AllByRecursion (λ (lock : LockName). Contains list (record { lock = lock; state = Ex })) locks
+    none_in [] is = tt
+    none_in (l ∷ ls) is = absurd (omega (arith, is))
+
+-- a data block lies before its group's end
+pub data_inside : (v : Seen) (ws : List Written) → AllByRecursion (writing.IsInside v) ws → AllByRecursion (IsInside v) ws
+data_inside v [] all = tt
+data_inside v (w ∷ ws) all = (record { whole = all.0.whole; group = all.0.inside.0; has = all.0.inside.1; below = all.0.inside.2.high }, data_inside v ws all.1)

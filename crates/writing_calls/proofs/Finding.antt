@@ -1,0 +1,120 @@
+-- What a write finds at its path's end.
+use Rattle.std.proofs.Common.{◌≡◌, ◌+◌, ◌<◌, ◌≤◌, ℕ, Bool, true, false, List, length, sym, ap, ◌∙◌, subst, arith}
+use Rattle.std.proofs.lemmas.Bool.{cond-true, lt-ltb}
+use Rattle.std.specs.Prelude.{nat_lt, IsErrAnd, Result}
+use Rattle.file_tree.specs.Apply.{Answer, apply, file_limit, overwritten, put_at, refuse, write_at}
+use Rattle.file_tree.specs.Tree.{Tree, file}
+use Rattle.file_tree.specs.declared.call.Call.{Call}
+use Rattle.file_tree.specs.declared.reply.Reply.{Reply}
+use Rattle.file_tree.specs.declared.reply.Reply.TheVariants as reply
+use Rattle.drafts.specs.declared.change.Change.{Change}
+use Rattle.gfs2_layout.specs.Holding.{Holding}
+use Rattle.gfs2_layout.specs.Inode.{dinode_in, is_directory_in, content_of}
+use Rattle.gfs2_layout.specs.Structures.{dinode_length, is_directory}
+use Rattle.gfs2_layout.specs.declared.dinode.Dinode.{Dinode}
+use Rattle.glock_names.specs.Steps.{IfDamaged, TellsOf}
+use Rattle.glock_names.specs.Steps as step
+use Rattle.glock_names.specs.Views.{Seen}
+use Rattle.glock_names.specs.declared.steps.CallFault.{CallFault}
+use Rattle.glock_names.specs.declared.steps.CallFault.TheVariants.{Damaged, NoMemory}
+use Rattle.call_locks.specs.Wants.{wanted}
+use Rattle.call_locks.specs.WantLaws.{path_of}
+use Rattle.dinode_tree.specs.Broken.{IsBroken, too_large_for_dinode}
+use Rattle.dinode_tree.specs.Shown.{IsShown}
+use Rattle.image_model.specs.Image.{Image}
+use Rattle.image_model.specs.Owners.{Owners, holding}
+use Rattle.image_model.specs.Stands.{Layout}
+use Rattle.image_changes.specs.Does.{IsOf, Does}
+use Rattle.image_changes.proofs.DirectoryNames.{directories_list}
+use Rattle.path_walks.specs.Walks as path
+use Rattle.path_walks.specs.Walks.{IsSeenAt, IsWalked, in_inode}
+use Rattle.path_walks.specs.declared.walk.Place.{Place}
+use Rattle.path_walks.specs.declared.walk.Walk.TheVariants.{At}
+use Rattle.path_walks.proofs.Images.{is_shown, unbroken}
+use Rattle.read_calls.proofs.Answering.{told_on}
+use Rattle.read_calls.proofs.Trees.{wrong_damage}
+use Rattle.writing_calls.specs.Contents.{IsAimOf, StaysStuffed}
+use Rattle.writing_calls.specs.Drafting.{IsWrite}
+use Rattle.writing_calls.specs.Writing.{IsAtEnd, IsDamage, IsRefused, Writes, end_of, is_dir, on_path, too_big}
+use Rattle.writing_calls.specs.declared.aims.Aim.TheVariants as aim
+use Rattle.writing_calls.proofs.Doing.{call_taken, file_there, write_does}
+
+-- an inode in which the content hasn't room is broken
+broken_so : (v : Seen) (a : ℕ) (d : Dinode) (h : Holding) → IsShown v a h → d ≡ dinode_in h → d.height ≡ 0 → v.size < dinode_length + d.size → IsBroken h 8 a
+broken_so v a d h shown was low large =
+    subst (IsBroken h 8) shown.own (too_large_for_dinode (ap (λ (x : Dinode). x.height) (sym was) ∙ low) (omega (arith, large, shown.size, ap (λ (x : Dinode). x.size) was)))
+
+-- damage on the path is damage of the call
+damage_on : (v : Seen) (c : Call) (f : CallFault) → step.IsDamage (path.IsDamage v (wanted c) (path_of c false)) f → TellsOf (IsDamage v c) f
+damage_on v c (Damaged b rule) on = on_path rule b on
+damage_on v c NoMemory on = absurd on
+
+pub damage_told : {B : Type 0} (v : Seen) (c : Call) (r : Result B CallFault) (f : CallFault) → IsErrAnd r (λ g. g ≡ f) → step.IsDamage (path.IsDamage v (wanted c) (path_of c false)) f → IfDamaged r (IsDamage v c)
+damage_told v c r f is on = told_on (IsDamage v c) r f is (damage_on v c f on)
+
+module _ (v : Seen) (c : Call) (at : ℕ) (new : List ℕ) (p : Place) (writes : Writes c at new) (seen : IsSeenAt v (wanted c) (path_of c false) p) where
+  abbrev end : ℕ
+  end = at + length new
+
+  -- ---- as far as the view shows
+
+  at_end : (b : Bool) → is_directory p.dinode ≡ b → IsAtEnd v c p.inode (λ h. is_directory_in h ≡ b)
+  at_end b is = record { leads = seen.leads; there = seen.there; so = λ h shown. ap is_directory (sym (seen.dinode h shown)) ∙ is }
+
+  pub refused_told : (r : Reply) → IsAimOf v.size p.dinode end (aim.Refused r) → IsRefused v c r
+  refused_told reply.IsDir is = is_dir p.inode (at_end true is)
+  refused_told reply.TooBig is = too_big p.inode (at_end false is.0) (subst (λ n. file_limit < n) (sym (ap end_of writes)) is.1)
+  refused_told reply.Ok is = absurd is
+  refused_told (reply.Bytes bytes) is = absurd is
+  refused_told (reply.Stat kind size) is = absurd is
+  refused_told (reply.Names names) is = absurd is
+  refused_told reply.NotFound is = absurd is
+  refused_told reply.NotDir is = absurd is
+  refused_told reply.Exists is = absurd is
+  refused_told reply.NotEmpty is = absurd is
+  refused_told reply.Inside is = absurd is
+  refused_told reply.NoSpace is = absurd is
+
+  pub broken_told : IsAimOf v.size p.dinode end aim.Broken → IsDamage v c 8 p.inode
+  broken_told is = on_path 8 p.inode (wrong_damage v (wanted c) (path_of c false) p.inode seen.leads 8 p.inode (λ h shown. in_inode 8 p.inode (broken_so v p.inode p.dinode h shown (seen.dinode h shown) is.0 is.1)))
+
+  -- ---- in an image that the view may be of
+
+  module _ (im : Image) (o : Owners) (l : Layout) (t : Tree) (of : IsOf v im o l t) (walked : IsWalked v im o l t (path_of c false) (wanted c) (At p)) where
+    file_at : is_directory p.dinode ≡ false → is_directory_in (holding im o p.inode) ≡ false
+    file_at is = ap is_directory (sym walked.0.dinode) ∙ is
+
+    pub refused_found : (r : Reply) → IsAimOf v.size p.dinode end (aim.Refused r) → (apply c t).reply ≡ r
+    refused_found reply.IsDir is =
+        ap (λ x. (apply x t).reply) writes
+        ∙ ap (λ w. (write_at w t (path_of c false) at new).reply) (directories_list im o l t (path_of c false) p.inode of.stands walked.0.at (ap is_directory (sym walked.0.dinode) ∙ is)).walks
+    refused_found reply.TooBig is =
+        ap (λ x. (apply x t).reply) writes
+        ∙ ap (λ w. (write_at w t (path_of c false) at new).reply) (file_there v im o l t of (path_of c false) p.inode walked.0.at (file_at is.0))
+        ∙ ap (λ (x : Answer). x.reply) (cond-true (nat_lt file_limit end) (refuse reply.TooBig t)
+        (record { reply = reply.Ok; tree = put_at (path_of c false) (file (overwritten at new (content_of (holding im o p.inode)))) t }) (lt-ltb file_limit end is.1))
+    refused_found reply.Ok is = absurd is
+    refused_found (reply.Bytes bytes) is = absurd is
+    refused_found (reply.Stat kind size) is = absurd is
+    refused_found (reply.Names names) is = absurd is
+    refused_found reply.NotFound is = absurd is
+    refused_found reply.NotDir is = absurd is
+    refused_found reply.Exists is = absurd is
+    refused_found reply.NotEmpty is = absurd is
+    refused_found reply.Inside is = absurd is
+    refused_found reply.NoSpace is = absurd is
+
+    pub broken_nowhere : IsAimOf v.size p.dinode end aim.Broken → ⊥
+    broken_nowhere is =
+        unbroken v im o l t of (path_of c false) p.inode 8 p.inode walked.0.at
+        (broken_so v p.inode p.dinode (holding im o p.inode) (is_shown v im o l t of (path_of c false) p.inode walked.0.at) walked.0.dinode is.0 is.1)
+
+    pub taken_found : is_directory p.dinode ≡ false → end ≤ file_limit → (apply c t).reply ≡ reply.Ok
+    taken_found is short =
+        ap (λ (x : Answer). x.reply) (call_taken c t at new (content_of (holding im o p.inode)) writes short (file_there v im o l t of (path_of c false) p.inode walked.0.at (file_at is)))
+
+  pub stuffed_does : (time : ℕ) (change : Change) → StaysStuffed v.size p.dinode end → IsWrite v p.inode at new time change
+      → ((im : Image) (o : Owners) (l : Layout) (t : Tree) → IsOf v im o l t → IsWalked v im o l t (path_of c false) (wanted c) (At p)) → Does v c reply.Ok change
+  stuffed_does time change stays w walked =
+      write_does v p.inode at new time change w c writes stays.short seen.leads
+      (λ im o l t of. let at_place = walked im o l t of in (at_place.0.at, file_at im o l t of at_place stays.file))
