@@ -1,0 +1,12 @@
+pub mod Lists
+pub mod Imaged
+pub mod Trees
+pub mod Doing
+pub mod Above
+pub mod Listed
+pub mod Found
+pub mod Touching
+pub mod Faults
+pub mod Drafted
+pub mod Wanted
+pub mod Taking

@@ -1,0 +1,70 @@
+-- A removal at the place to which the walk came, where the call takes the inode.
+use Rattle.std.proofs.Common.{◌≡◌, ◌↔◌, ℕ, false, List, [], ◌∷◌, ◌++◌, Some, refl, sym, ap, ◌∙◌, subst}
+use Rattle.std.specs.Prelude.{Contains}
+use Rattle.file_tree.specs.Apply.{apply, remove_at, Answer}
+use Rattle.file_tree.specs.Names.{parent_of}
+use Rattle.file_tree.specs.Tree.{Tree}
+use Rattle.file_tree.specs.declared.call.Call.{Call}
+use Rattle.file_tree.specs.declared.reply.Reply.TheVariants.{Ok}
+use Rattle.drafts.specs.declared.change.Change.{Change}
+use Rattle.gfs2_layout.specs.Holding.{Holding}
+use Rattle.gfs2_layout.specs.Records.{record_named}
+use Rattle.glock_names.specs.Views.{Seen}
+use Rattle.glock_names.specs.declared.State.TheVariants.{Ex}
+use Rattle.call_locks.specs.Wants.{wanted}
+use Rattle.call_locks.specs.WantLaws.{path_of}
+use Rattle.dinode_tree.specs.Shown.{IsShown}
+use Rattle.resource_groups.specs.Putting.{HasDataBlock}
+use Rattle.image_model.specs.Flat.{Path}
+use Rattle.image_model.specs.Image.{Image}
+use Rattle.image_model.specs.Owners.{Owners, holding}
+use Rattle.image_model.specs.Stands.{Layout}
+use Rattle.image_changes.specs.Does.{IsOf, Does}
+use Rattle.image_changes.specs.Flats.{in_directory}
+use Rattle.image_changes.specs.Instances.{IsAt, records_at}
+use Rattle.path_walks.specs.Walks.{IsSeenAt}
+use Rattle.path_walks.specs.declared.walk.Place.{Place}
+use Rattle.path_walks.proofs.Images.{is_shown}
+use Rattle.path_walks.proofs.Lists.{parent_of_next}
+use Rattle.removing_calls.specs.Drafting.{IsRemoval}
+use Rattle.removing_calls.specs.Groups.{GroupsAreHeld}
+use Rattle.removing_calls.specs.Removing.{IsRemoving, IsLastOf, IsAimOf, IsPlaceIn, Goes}
+use Rattle.removing_calls.specs.declared.aims.Aim.TheVariants as aim
+use Rattle.removing_calls.proofs.Above.{above_names, inode_inside, record_of_child}
+use Rattle.removing_calls.proofs.Doing.{IsRemovedIn, removal_does}
+use Rattle.removing_calls.proofs.Trees.{aim_takes, changes}
+use Rattle.removing_calls.proofs.Wanted.{above_held, inode_held}
+
+module _ {V : Type 0} (seen : V → Seen) (view : V) (c : Call) (removing : IsRemoving c) (p : Place) (name : List ℕ) (last : IsLastOf (path_of c false) name)
+    (there : IsSeenAt (seen view) (wanted c) (path_of c false) p) (blocks : List ℕ) (groups : GroupsAreHeld (seen view) blocks)
+    (goes : (h : Holding) → IsShown (seen view) p.inode h → (b : ℕ) → Contains blocks b ↔ Goes h b)
+    (taken : (h : Holding) → IsShown (seen view) p.inode h → IsAimOf c h aim.Taken)
+    (change : Change) (is : IsRemoval seen view p.above name blocks change) where
+  pub dir_held : (seen view).state_of (record { kind = 2; number = p.above }) ≡ Ex
+  dir_held = above_held (seen view) c name p.above removing last there.above
+
+  -- in each image that the view may be of, the place is where the walk comes to
+  pub in_image : ((im : Image) (o : Owners) (l : Layout) (t : Tree) → IsOf (seen view) im o l t → IsPlaceIn im o l c p)
+      → (im : Image) (o : Owners) (l : Layout) (t : Tree) → IsOf (seen view) im o l t → IsRemovedIn seen view p.above name blocks change is dir_held groups c last.0 p.inode im o l t
+  in_image places im o l t of =
+      let place = places im o l t of in
+      let at_p : IsAt im o l last.0 p.above = subst (λ q. IsAt im o l q p.above) (ap parent_of last.1 ∙ parent_of_next last.0 name) place.above in
+      let shown_p = is_shown (seen view) im o l t of last.0 p.above at_p in
+      let shown_a = is_shown (seen view) im o l t of (path_of c false) p.inode place.at in
+      let names = above_names (seen view) (wanted c) (path_of c false) p name there last in
+      let r = record_of_child (record_named (records_at im o p.above) name) p.inode (names.child (holding im o p.above) shown_p) in
+      let takes = aim_takes (seen view) im o l t of c name p.inode last place.at (taken (holding im o p.inode) shown_a) in
+      record {
+        at = at_p;
+        at_a = subst (λ q. IsAt im o l q p.inode) last.1 place.at;
+        record_is = r.0;
+        named = r.1;
+        childless = takes.childless;
+        plain = takes.plain;
+        goes = goes (holding im o p.inode) shown_a;
+        applies = takes.applies ∙ ap (λ q. record { reply = Ok; tree = remove_at q t }) last.1;
+      }
+
+  pub does : ((im : Image) (o : Owners) (l : Layout) (t : Tree) → IsOf (seen view) im o l t → IsPlaceIn im o l c p) → Contains blocks p.inode → Does (seen view) c Ok change
+  does places own = removal_does seen view p.above name blocks change is dir_held groups c last.0 p.inode (changes c removing)
+      (inode_held (seen view) c name p.inode removing last there.leads) own (inode_inside (seen view) (wanted c) (path_of c false) p name there last) (in_image places)

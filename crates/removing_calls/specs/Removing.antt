@@ -1,0 +1,139 @@
+-- The calls that remove a name: `unlink` of a file, and `rmdir` of a directory without names.
+use Rattle.std.specs.Prelude.{ℕ, ◌≡◌, ◌≢◌, ◌⊎◌, ⊤, true, false, if◌then◌else◌, List, [], ◌∷◌, ◌++◌}
+use Rattle.cluster_history.specs.Changes.{is_ok}
+use Rattle.file_tree.specs.Apply.{apply}
+use Rattle.file_tree.specs.Names.{parent_of}
+use Rattle.file_tree.specs.Tree.{Tree}
+use Rattle.file_tree.specs.declared.call.Call.{Call}
+use Rattle.file_tree.specs.declared.call.Call.TheVariants.{Unlink, Rmdir}
+use Rattle.file_tree.specs.declared.reply.Reply.{Reply}
+use Rattle.file_tree.specs.declared.reply.Reply.TheVariants as reply
+use Rattle.gfs2_layout.specs.Holding.{Holding}
+use Rattle.gfs2_layout.specs.Inode.{dinode_in, is_directory_in, is_hashed_in}
+use Rattle.glock_names.specs.Views.{Seen, HasGroup}
+use Rattle.glock_names.specs.declared.views.Group.{Group}
+use Rattle.call_locks.specs.Wants.{wanted}
+use Rattle.call_locks.specs.WantLaws.{path_of}
+use Rattle.dinode_tree.specs.Below.{IsBelow}
+use Rattle.dinode_tree.specs.Shown.{IsShown}
+use Rattle.dinode_tree.specs.Broken as inode
+use Rattle.resource_groups.specs.Putting.{HasDataBlock}
+use Rattle.resource_groups.specs.Shown.{IsDataOf, IsBroken}
+use Rattle.resource_groups.specs.Shown as group
+use Rattle.drafts.specs.declared.change.Change.{Change}
+use Rattle.image_model.specs.Flat.{Path, follow}
+use Rattle.image_model.specs.Image.{Image}
+use Rattle.image_model.specs.Owners.{Owners}
+use Rattle.image_model.specs.Stands.{Layout, flat_of}
+use Rattle.image_changes.specs.Instances.{IsAt}
+use Rattle.path_walks.specs.Holds.{Hold, AreHeld, EndsWith, IsAskedFor, IsFirstLack, holds_in}
+use Rattle.path_walks.specs.Walks.{LeadsTo, IsOnTheWay, IsPlaceOf}
+use Rattle.path_walks.specs.Walks as path
+use Rattle.path_walks.specs.declared.walk.Place.{Place}
+use Rattle.removing_calls.specs.Groups.{group_holds_of}
+use Rattle.removing_calls.specs.declared.aims.Aim.{Aim}
+use Rattle.removing_calls.specs.declared.aims.Aim.TheVariants as aim
+use Rattle.removing_calls.specs.declared.finds.Found.{Found}
+use Rattle.removing_calls.specs.declared.finds.Found.TheVariants as found
+
+-- the call removes a name
+abbrev pub IsRemoving : Call → Type 0
+IsRemoving (Unlink path) = Unit {0}
+IsRemoving (Rmdir path) = Unit {0}
+IsRemoving _ = ⊥
+
+-- ---- the inode at the path's end
+
+-- why it isn't removed, or that it is to be: `unlink` takes a file
+abbrev pub IsFileAim : Holding → Aim → Type 0
+IsFileAim h (aim.Refused reply.IsDir) = is_directory_in h ≡ true
+IsFileAim h aim.Taken = is_directory_in h ≡ false
+IsFileAim h a = ⊥
+
+-- `rmdir` a directory whose dinode counts `.` and `..` alone
+abbrev pub IsDirectoryAim : Holding → Aim → Type 0
+IsDirectoryAim h (aim.Refused reply.NotDir) = is_directory_in h ≡ false
+IsDirectoryAim h (aim.Refused reply.NotEmpty) = (is_directory_in h ≡ true) × ((dinode_in h).entries ≢ 2)
+IsDirectoryAim h (aim.Hashed b) = (b ≡ h.own) × (is_hashed_in h ≡ true)
+IsDirectoryAim h aim.Taken = (is_directory_in h ≡ true) × (is_hashed_in h ≡ false) × ((dinode_in h).entries ≡ 2)
+IsDirectoryAim h a = ⊥
+
+abbrev pub IsAimOf : Call → Holding → Aim → Type 0
+IsAimOf (Unlink path) h a = IsFileAim h a
+IsAimOf (Rmdir path) h a = IsDirectoryAim h a
+IsAimOf call h a = ⊥
+
+-- the blocks that go with it: its dinode, and those to which its pointers lead
+abbrev pub Goes : Holding → ℕ → Type 0
+Goes h b = (b ≡ h.own) ⊎ IsBelow h b
+
+-- as the view shows the inode with its dinode in block a, it breaks a rule; or (2) a block of it is no data block of a group
+pub data IsWrongBelow (v : Seen) (a : ℕ) : ℕ → ℕ → Type 0 where
+  in_inode : (rule b : ℕ) → ((h : Holding) → IsShown v a h → inode.IsBroken h rule b) → IsWrongBelow v a rule b
+  stray : (b : ℕ) → ((h : Holding) → IsShown v a h → Goes h b) → ¬ (HasDataBlock v b) → IsWrongBelow v a 2 a
+
+-- ---- the locks of the call
+
+-- those on its path, and where the tree takes the call those of the groups of the inode's blocks
+abbrev pub holds_for : Image → Owners → Layout → Tree → Call → List Hold
+holds_for im o l t call = holds_in im o l (path_of call false) (wanted call)
+    ++ (if is_ok (apply call t).reply then group_holds_of im o l (follow (flat_of im o) l.root (path_of call false)) else [])
+
+-- ---- as far as the view shows
+
+-- a hashed directory without which the call isn't answered: one on its path, or the one that it would remove
+pub data IsHashedFor (v : Seen) (call : Call) (b : ℕ) : Type 0 where
+  on_path : IsOnTheWay v (wanted call) (path_of call false) b (λ h. is_hashed_in h ≡ true) → IsHashedFor v call b
+  at_end : LeadsTo v (wanted call) (path_of call false) b → ((h : Holding) → IsShown v b h → is_hashed_in h ≡ true) → IsHashedFor v call b
+
+-- The block breaks this rule: on the path; or (2) a block of the inode at its end, or the directory above that inode, is no data block of a
+-- group; or in a group that has some of the inode's blocks.
+pub data IsDamage (v : Seen) (call : Call) : ℕ → ℕ → Type 0 where
+  on_path : (rule b : ℕ) → path.IsDamage v (wanted call) (path_of call false) rule b → IsDamage v call rule b
+  stray : (a b : ℕ) → LeadsTo v (wanted call) (path_of call false) a → ((h : Holding) → IsShown v a h → Goes h b) → ¬ (HasDataBlock v b) → IsDamage v call 2 a
+  above : (a : ℕ) → LeadsTo v (wanted call) (parent_of (path_of call false)) a → ¬ (HasDataBlock v a) → IsDamage v call 2 a
+  in_group : (a b rule c : ℕ) (g : Group) → LeadsTo v (wanted call) (path_of call false) a → ((h : Holding) → IsShown v a h → Goes h b) → HasGroup v g → IsDataOf g b
+      → ((at : ℕ → List ℕ) → group.IsShown v g at → IsBroken at g rule c) → IsDamage v call rule c
+
+-- ---- in an image that the view may be of
+
+-- the inode at the path's end, and the directory above it
+pub record IsPlaceIn (im : Image) (o : Owners) (l : Layout) (call : Call) (p : Place) : Type 0 where
+  pub at : IsAt im o l (path_of call false) p.inode
+  pub above : IsAt im o l (parent_of (path_of call false)) p.above
+
+-- the walk came to this place, the inode's lock is the last of the path's, and each of these is held
+pub record IsReachedIn (v : Seen) (im : Image) (o : Owners) (l : Layout) (call : Call) (p : Place) : Type 0 where
+  pub place : IsPlaceOf v im o l (path_of call false) p
+  pub ends : EndsWith (holds_in im o l (path_of call false) (wanted call)) p.inode
+  pub held : AreHeld v (holds_in im o l (path_of call false) (wanted call))
+
+-- the reply is the tree's, and each lock of the list is held; or what stands in the way: the first lock of it that isn't held, or a block
+-- that the view hasn't
+abbrev pub IsFoundBy : Seen → Image → Owners → Layout → Reply → List Hold → Found → Type 0
+IsFoundBy v im o l answer list (found.Refused r) = (answer ≡ r) × AreHeld v list
+IsFoundBy v im o l answer list (found.Removed change) = (answer ≡ reply.Ok) × AreHeld v list
+IsFoundBy v im o l answer list (found.NeedBlock m) = IsAskedFor v im o l list m
+IsFoundBy v im o l answer list (found.NeedLock lock state) = IsFirstLack v list lock state
+IsFoundBy v im o l answer list (found.Hashed b) = ⊤
+
+abbrev pub IsFound : Seen → Image → Owners → Layout → Tree → Call → Found → Type 0
+IsFound v im o l t call f = IsFoundBy v im o l (apply call t).reply (holds_for im o l t call) f
+
+-- what a refusal is not
+abbrev pub IsRefusal : Found → Type 0
+IsRefusal (found.Refused r) = is_ok r ≡ false
+IsRefusal f = ⊤
+
+-- P of the change of a removal, and of the hashed directory that is told
+abbrev pub IfRemoved : (Change → Type 0) → Found → Type 0
+IfRemoved P (found.Removed change) = P change
+IfRemoved P f = ⊤
+
+abbrev pub IfHashed : (ℕ → Type 0) → Found → Type 0
+IfHashed P (found.Hashed b) = P b
+IfHashed P f = ⊤
+
+-- the path's last name
+abbrev pub IsLastOf : Path → List ℕ → Type 0
+IsLastOf path name = (front : Path) × (path ≡ front ++ name ∷ [])
