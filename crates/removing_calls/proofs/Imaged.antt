@@ -48,7 +48,7 @@ use Rattle.image_changes.proofs.Frame.{dinode_its}
 use Rattle.image_changes.proofs.Laid.{root_named, follow_dinode}
 use Rattle.image_changes.proofs.Nodes.{among_in, in_among}
 use Rattle.image_changes.proofs.States.{map_same, blocks_are_freed}
-use Rattle.draft_changes.specs.Groups.{PutsGroup}
+use Rattle.draft_changes.specs.Groups.{PutsGroup, IsPutUnder}
 use Rattle.draft_changes.specs.Removing as removing
 use Rattle.draft_changes.specs.Removing.{RemovesName, states_without}
 use Rattle.draft_changes.proofs.Rows.{cell_its, part_its}
@@ -252,21 +252,13 @@ module _ {V : Type 0} (seen : V → Seen) (view : V) (im : Image) (o : Owners) (
     says = says g listed;
     some =
         let put = is.freed.frees.counts (group_of_entry g) (has_group g listed) (so_some g some) in
-        (g.address, record { low = omega arith; high = omega (arith, (of.stands.laid.fit.each g listed).some) }, ap (λ f. is_some (block_with f None)) put.1);
-    locks = λ b lock plain bytes h e. under b lock plain bytes h e (is.freed.frees.headers (group_of_entry g) b (has_group g listed) (so_header g b h));
-    kept = λ b h. kept_so b h (is.freed.frees.headers (group_of_entry g) b (has_group g listed) (so_header g b h));
+        (g.address, record { low = omega arith; high = omega (arith, (of.stands.laid.fit.each g listed).some) }, put);
+    blocks = λ b h. under b h (is.freed.frees.headers (group_of_entry g) b (has_group g listed) (so_header g b h));
   }
     where
-      same_put : (x y : LockName) (c d : Bool) (m n : List ℕ) → Some (Put x c m) ≡ Some (Put y d n) → (x ≡ y) × (c ≡ d)
-      same_put x y c d m n e = (cc, cc)
-
-      under : (b : ℕ) (lock : LockName) (plain : Bool) (bytes : List ℕ) → IsHeaderOf g b → get fates b ≡ Some (Put lock plain bytes) → (get fates b ≡ get second b) ⊎ ((bytes' : List ℕ) × (get fates b ≡ Some (Put (record { kind = 3; number = g.address }) false bytes'))) → (lock ≡ record { kind = 3; number = g.address }) × (plain ≡ false)
-      under b lock plain bytes h e (inl same) = absurd (none_some (sym (header_none g listed b h) ∙ sym same ∙ e))
-      under b lock plain bytes h e (inr put) = same_put lock _ plain false bytes put.0 (sym e ∙ put.1)
-
-      kept_so : (b : ℕ) → IsHeaderOf g b → (get fates b ≡ get second b) ⊎ ((bytes' : List ℕ) × (get fates b ≡ Some (Put (record { kind = 3; number = g.address }) false bytes'))) → is_freed fates b ≡ false
-      kept_so b h (inl same) = ap is_gone (same ∙ header_none g listed b h)
-      kept_so b h (inr put) = ap is_gone put.1
+      under : (b : ℕ) → IsHeaderOf g b → (get fates b ≡ get second b) ⊎ IsPutUnder fates g b → (get fates b ≡ None) ⊎ IsPutUnder fates g b
+      under b h (inl same) = inl (same ∙ header_none g listed b h)
+      under b h (inr put) = inr put
 
   -- ---- the name is removed
 

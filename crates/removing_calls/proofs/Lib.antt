@@ -10,3 +10,5 @@ pub mod Faults
 pub mod Drafted
 pub mod Wanted
 pub mod Taking
+pub mod Fronts
+pub mod Going

@@ -60,7 +60,7 @@ fn free_and_finish<V: View>(
     mut draft: Draft<'_, V>,
     blocks: &[u64],
 ) -> Result<Step<Change>, CallFault>
-    requires { (b : ℕ) → Contains blocks.now b → HasDataBlock (seen_in V.seen draft.entry) b }
+    requires { (b : ℕ) → Contains blocks.now b → HasDataBlock (seen_in V.seen draft) b }
     ensures freed { IfIs result (IsFreedAndDone V.seen draft.entry blocks.now) }
     ensures needed { IfNeedBlock result (IsNeededFor (seen_in V.seen draft.entry) blocks.now) }
     ensures damaged { IfDamaged result (BreaksSome (seen_in V.seen draft.entry) blocks.now) }
