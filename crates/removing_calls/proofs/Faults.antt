@@ -2,7 +2,7 @@
 use Rattle.std.proofs.Common.{◌≡◌, ℕ, Result, Ok, Err, sym, subst}
 use Rattle.std.specs.Prelude.{IsErrAnd}
 use Rattle.gfs2_layout.specs.Holding.{Holding}
-use Rattle.glock_names.specs.Steps.{IfDamaged, TellsOf}
+use Rattle.glock_names.specs.Steps.{IfDamaged, IsDamage, TellsOf}
 use Rattle.glock_names.specs.Views.{Seen}
 use Rattle.glock_names.specs.declared.steps.CallFault.{CallFault}
 use Rattle.glock_names.specs.declared.steps.CallFault.TheVariants.{Damaged, NoMemory}
@@ -21,3 +21,13 @@ tells_so P Q so (Damaged b rule) tells = so rule b tells
 pub tells_all : (v : Seen) (a : ℕ) (P : Holding → ℕ → ℕ → Type 0) (f : CallFault) → ((h : Holding) → IsShown v a h → TellsOf (P h) f) → TellsOf (λ rule b. (h : Holding) → IsShown v a h → P h rule b) f
 tells_all v a P NoMemory tells = tt
 tells_all v a P (Damaged b rule) tells = tells
+
+-- of a call's answer
+pub damaged_so : {A : Type 0} (P Q : ℕ → ℕ → Type 0) → ((rule b : ℕ) → P rule b → Q rule b) → (r : Result A CallFault) → IfDamaged r P → IfDamaged r Q
+damaged_so P Q so (Ok answer) told = tt
+damaged_so P Q so (Err f) told = tells_so P Q so f told
+
+-- a fault of a call that takes no memory
+pub only_so : (P Q : ℕ → ℕ → Type 0) → ((rule b : ℕ) → P rule b → Q rule b) → (f : CallFault) → IsDamage P f → TellsOf Q f
+only_so P Q so (Damaged b rule) told = so rule b told
+only_so P Q so NoMemory told = tt

@@ -12,3 +12,4 @@ pub mod Wanted
 pub mod Taking
 pub mod Fronts
 pub mod Going
+pub mod Taken

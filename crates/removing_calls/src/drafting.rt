@@ -3,7 +3,7 @@ ghost use Rattle.std.specs.Prelude.{ℕ, ◌≡◌, Contains, OnOk};
 ghost use Rattle.std.specs.FinMap.{empty};
 ghost use Rattle.gfs2_layout.specs.Holding.{Holding};
 ghost use Rattle.glock_names.specs.Steps.{IfIs, IfNeedBlock, IfDamaged};
-ghost use Rattle.glock_names.specs.Views.{HasBlock, IsOfView};
+ghost use Rattle.glock_names.specs.Views.{HasBlock, IsOfView, IsView};
 ghost use Rattle.dinode_tree.specs.Shown.{IsShown};
 ghost use Rattle.linear_dirs.specs.Broken.{IsBroken};
 ghost use Rattle.linear_dirs.specs.Shown.{IsLinearIn, HasNameIn};
@@ -19,6 +19,13 @@ use linear_dirs::remove;
 use new_inodes::touch;
 use resource_groups::free_blocks;
 use std::alloc::Global;
+
+// A law: what a node has of the file system is a view of it.
+fn is_a_view<V: View>(view: &V)
+    ensures { IsView (V.seen view.now) }
+{
+    let _size = view.block_size();
+}
 
 // Touches a linear directory, which the view has, in a new draft, and then takes a name from it that it has. Its content is to be
 // the rest of its dinode's block, which is looked at first: so what is damaged with the touched directory was so before.
@@ -70,7 +77,7 @@ fn free_and_finish<V: View>(
         Step::Is(()) => {}
         Step::NeedBlock(missing) => return Ok(Step::NeedBlock(missing)),
     }
-    let _size = draft.block_size();
+    is_a_view(&draft);
     Ok(Step::Is(draft.finish()?))
 }
 
@@ -94,7 +101,7 @@ pub(crate) fn removal<V: View>(
     ensures damaged { IfDamaged result (IsWrongIn (V.seen view.now) dir blocks.now) }
     ensures kept { IfDamaged result (IsOfView (V.seen view.now)) }
 {
-    let _size = view.block_size();
+    is_a_view(view);
     let mut draft = Draft::new(alloc, view);
     take_name(&mut draft, dir, name, time)?;
     free_and_finish(draft, blocks)
