@@ -119,7 +119,7 @@ module _ {V : Type 0} (seen : V → Seen) (old : Drafted V) (new : old.fates ≡
 
 -- ---- and then blocks are freed
 
-pub freed_and_done : {V : Type 0} (seen : V → Seen) (old new : Drafted V) (blocks : List ℕ) (change : Change) → AreFreed seen old new blocks → KeepsRest seen old new blocks → IsView (seen_in seen new)
+pub freed_and_done : {V : Type 0} (seen : V → Seen) (old new : Drafted V) (blocks : List ℕ) (change : Change) → AreFreed seen old new blocks → KeepsRest seen old new blocks → AreWhole (seen new.view).size new.fates
     → IsFinished new.fates change → IsFreedAndDone seen old blocks change
 freed_and_done {V} seen old new blocks change freed rest whole finished =
     let same : new ≡ record old { fates = new.fates } = ap (λ (x : V). record { view = x; fates = new.fates }) rest.view in
@@ -127,7 +127,7 @@ freed_and_done {V} seen old new blocks change freed rest whole finished =
       fates = new.fates;
       frees = subst (λ d. AreFreed seen old d blocks) same freed;
       rest = subst (λ d. KeepsRest seen old d blocks) same rest;
-      whole = λ b lock plain bytes put. whole.whole b bytes (ap (λ f. block_with f ((seen new.view).block_at b)) put) ∙ ap (λ x. (seen x).size) rest.view;
+      whole = subst (λ x. AreWhole (seen x).size new.fates) rest.view whole;
       finished = finished;
     }
 

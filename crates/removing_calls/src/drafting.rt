@@ -77,7 +77,6 @@ fn free_and_finish<V: View>(
         Step::Is(()) => {}
         Step::NeedBlock(missing) => return Ok(Step::NeedBlock(missing)),
     }
-    is_a_view(&draft);
     Ok(Step::Is(draft.finish()?))
 }
 
