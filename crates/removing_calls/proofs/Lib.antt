@@ -13,3 +13,4 @@ pub mod Taking
 pub mod Fronts
 pub mod Going
 pub mod Taken
+pub mod Placed
