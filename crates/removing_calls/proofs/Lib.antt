@@ -14,3 +14,4 @@ pub mod Fronts
 pub mod Going
 pub mod Taken
 pub mod Placed
+pub mod Made
