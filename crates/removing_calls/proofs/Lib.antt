@@ -15,3 +15,4 @@ pub mod Going
 pub mod Taken
 pub mod Placed
 pub mod Made
+pub mod Walked

@@ -1,49 +1,67 @@
-use Rattle.std.proofs.Common.{rules, ◌≡◌, [], false, IfOk, ℕ, ◌+◌, ◌-◌, ◌*◌, ◌<◌, ◌≤◌, length, ◌/◌, ◌%◌, Bool, true, nat_eq, nat_lt, List, ◌∷◌, ◌++◌, slice_index_or, slice_set, bit_and, bit_or, Fits, w8, w32, w64, Bor, MutBor}
-use Rattle.cluster_history.specs.Changes.{is_ok}
-use Rattle.file_tree.specs.Apply.{apply}
-use Rattle.file_tree.specs.Tree.{Tree}
-use Rattle.file_tree.specs.declared.reply.Reply.TheVariants.{Ok as OkReply}
-use Rattle.gfs2_layout.specs.Holding.{Holding}
-use Rattle.dinode_tree.specs.Shown.{IsShown}
-use Rattle.glock_names.specs.Steps.{IfDamaged}
-use Rattle.glock_names.specs.Views.{IsOfView}
-use Rattle.call_locks.specs.WantLaws.{path_of}
+use Rattle.std.proofs.Common.{false, refl, ◌∙◌, subst, subst₂}
+use Rattle.file_tree.specs.declared.reply.Reply.TheVariants as reply
+use Rattle.glock_names.specs.Steps as steps
 use Rattle.call_locks.specs.Wants.{wanted}
-use Rattle.image_model.specs.Image.{Image}
-use Rattle.image_model.specs.Owners.{Owners}
-use Rattle.image_model.specs.Stands.{Layout}
-use Rattle.image_changes.specs.Does.{IsOf, Does}
-use Rattle.path_walks.specs.Answers.{IfDone, IfNeedLock, IfNeedBlock, IfNoSpace, IfNotBuilt}
-use Rattle.path_walks.specs.Holds.{AreHeld, IsAskedFor, IsFirstLack}
-use Rattle.path_walks.specs.Walks.{IsSeenAt}
-use Rattle.removing_calls.specs.Removing.{IfHashed, IfRemoved, IsAimOf, IsDamage, IsFound, IsHashedFor, IsLastOf, IsPlaceIn, IsReachedIn, IsRefusal, IsRemoving, holds_for}
-use Rattle.removing_calls.specs.declared.aims.Aim.TheVariants as aim
+use Rattle.call_locks.specs.WantLaws.{path_of}
+use Rattle.path_walks.specs.Holds.{holds_in}
+use Rattle.path_walks.specs.Walks.{IsWalked}
+use Rattle.path_walks.specs.Walks as path
+use Rattle.removing_calls.specs.Removing.{IsDamage, on_path}
+use Rattle.removing_calls.proofs.Faults.{told_on, only_so}
+use Rattle.removing_calls.proofs.Listed.{asked_before, lack_before}
+use Rattle.removing_calls.proofs.Walked.{last_is, many, ordered, refused_so}
 use Rattle.removing_calls.proofs.tries.find.Goals as goal
 
--- src/tries.rt:166:11
 pub walk_along-requires-clause-as_many : goal.walk_along-requires-clause-as_many
-walk_along-requires-clause-as_many g c = ?
+walk_along-requires-clause-as_many g c =
+    let path_is = c.names-names.ensures.names ∙ c.path_of_removing.ensures in
+    many c.args.call.now c.requires c.in-Some.last.now (last_is c.names-names.result.now (path_of c.args.call.now false) c.in-Some.last.now path_is c.in-Some.ensures.value)
+    c.names-names.result.now c.deref.result.now path_is (c.deref.ensures.value ∙ c.in_ok-wants.ensures)
 
--- src/tries.rt:166:11
 pub walk_along-requires-clause-order : goal.walk_along-requires-clause-order
-walk_along-requires-clause-order g c = ?
+walk_along-requires-clause-order g c =
+    let path_is = c.names-names.ensures.names ∙ c.path_of_removing.ensures in
+    ordered c.args.call.now c.requires c.in-Some.last.now (last_is c.names-names.result.now (path_of c.args.call.now false) c.in-Some.last.now path_is c.in-Some.ensures.value)
+    c.deref.result.now (c.deref.ensures.value ∙ c.in_ok-wants.ensures)
 
--- src/tries.rt:166:11
 pub returns-in_err-place-clause-damaged : goal.returns-in_err-place-clause-damaged
-returns-in_err-place-clause-damaged g c = ?
+returns-in_err-place-clause-damaged g c =
+    let v = g.V.View.seen c.args.view.now in
+    told_on (IsDamage v c.args.call.now) c.from_residual-in_err-place.result _ c.from_residual-in_err-place.ensures.1
+    (only_so (path.IsDamage v (wanted c.args.call.now) (path_of c.args.call.now false)) (IsDamage v c.args.call.now) on_path c.in_err-place.field-0.0
+    (subst₂ (λ names wants. steps.IsDamage (path.IsDamage v wants names) c.in_err-place.field-0.0) (c.names-names.ensures.names ∙ c.path_of_removing.ensures) (c.deref.ensures.value ∙ c.in_ok-wants.ensures)
+    c.in_err-place.ensures.damaged))
 
--- src/tries.rt:160:1
 pub returns-in-NotFound-clause-found : goal.returns-in-NotFound-clause-found
-returns-in-NotFound-clause-found g c = ?
+returns-in-NotFound-clause-found g c im o l t of =
+    let v = g.V.View.seen c.args.view.now in
+    let path_is = c.names-names.ensures.names ∙ c.path_of_removing.ensures in
+    let walked = subst₂ (λ names wants. IsWalked v im o l t names wants c.in_ok-place.field-0) path_is (c.deref.ensures.value ∙ c.in_ok-wants.ensures) (c.in_ok-place.ensures.walked im o l t of) in
+    let ends = subst (IsWalked v im o l t (path_of c.args.call.now false) (wanted c.args.call.now)) c.in-NotFound.is walked in
+    refused_so c.args.call.now c.requires c.in-Some.last.now (last_is c.names-names.result.now (path_of c.args.call.now false) c.in-Some.last.now path_is c.in-Some.ensures.value)
+    v im o l t reply.NotFound refl ends.0 ends.1
 
--- src/tries.rt:160:1
 pub returns-in-NotDir-clause-found : goal.returns-in-NotDir-clause-found
-returns-in-NotDir-clause-found g c = ?
+returns-in-NotDir-clause-found g c im o l t of =
+    let v = g.V.View.seen c.args.view.now in
+    let path_is = c.names-names.ensures.names ∙ c.path_of_removing.ensures in
+    let walked = subst₂ (λ names wants. IsWalked v im o l t names wants c.in_ok-place.field-0) path_is (c.deref.ensures.value ∙ c.in_ok-wants.ensures) (c.in_ok-place.ensures.walked im o l t of) in
+    let ends = subst (IsWalked v im o l t (path_of c.args.call.now false) (wanted c.args.call.now)) c.in-NotDir.is walked in
+    refused_so c.args.call.now c.requires c.in-Some.last.now (last_is c.names-names.result.now (path_of c.args.call.now false) c.in-Some.last.now path_is c.in-Some.ensures.value)
+    v im o l t reply.NotDir refl ends.0 ends.1
 
--- src/tries.rt:160:1
 pub returns-in-NeedLock-clause-found : goal.returns-in-NeedLock-clause-found
-returns-in-NeedLock-clause-found g c = ?
+returns-in-NeedLock-clause-found g c im o l t of =
+    let v = g.V.View.seen c.args.view.now in
+    let path_is = c.names-names.ensures.names ∙ c.path_of_removing.ensures in
+    let walked = subst₂ (λ names wants. IsWalked v im o l t names wants c.in_ok-place.field-0) path_is (c.deref.ensures.value ∙ c.in_ok-wants.ensures) (c.in_ok-place.ensures.walked im o l t of) in
+    lack_before v (holds_in im o l (path_of c.args.call.now false) (wanted c.args.call.now)) _ c.in-NeedLock.lock c.in-NeedLock.state
+    (subst (IsWalked v im o l t (path_of c.args.call.now false) (wanted c.args.call.now)) c.in-NeedLock.is walked)
 
--- src/tries.rt:151:1
 pub returns-clause-found : goal.returns-clause-found
-returns-clause-found g c = ?
+returns-clause-found g c im o l t of =
+    let v = g.V.View.seen c.args.view.now in
+    let path_is = c.names-names.ensures.names ∙ c.path_of_removing.ensures in
+    let walked = subst₂ (λ names wants. IsWalked v im o l t names wants c.in_ok-place.field-0) path_is (c.deref.ensures.value ∙ c.in_ok-wants.ensures) (c.in_ok-place.ensures.walked im o l t of) in
+    asked_before v im o l (holds_in im o l (path_of c.args.call.now false) (wanted c.args.call.now)) _ c.in-NeedBlock.missing
+    (subst (IsWalked v im o l t (path_of c.args.call.now false) (wanted c.args.call.now)) c.in-NeedBlock.is walked)
