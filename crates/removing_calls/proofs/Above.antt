@@ -5,9 +5,9 @@ use Rattle.std.specs.Prelude.{option_map}
 use Rattle.file_tree.specs.Names.{IsName, parent_of}
 use Rattle.gfs2_layout.specs.Holding.{Holding}
 use Rattle.gfs2_layout.specs.Inode.{dinode_in, is_directory_in, is_hashed_in, has_hash_flag, linear_area, records_of}
-use Rattle.gfs2_layout.specs.Records.{Record, child_named, record_named, records_in}
+use Rattle.gfs2_layout.specs.Records.{Record, record_named, records_in}
 use Rattle.gfs2_layout.specs.Structures.{dinode_of, dinode_length, is_directory}
-use Rattle.glock_names.specs.Views.{Seen, HasBlock}
+use Rattle.glock_names.specs.Views.{Seen}
 use Rattle.call_locks.specs.declared.want.Want.{Want}
 use Rattle.dinode_tree.specs.Shown.{IsShown}
 use Rattle.dinode_tree.proofs.Sound.{some_is_shown}

@@ -1,18 +1,16 @@
 -- What is told of a draft in which a directory alone was put, as what it is of the view.
-use Rattle.std.proofs.Common.{◌≡◌, ◌≢◌, ◌⊎◌, inl, inr, ℕ, List, Option, None, Some, refl, sym, ap, ◌∙◌, subst}
+use Rattle.std.proofs.Common.{◌≡◌, ◌≢◌, inl, inr, ℕ, List, Option, None, Some, sym, ap, ◌∙◌, subst}
 use Rattle.std.proofs.lemmas.Bool.{cases_eq}
-use Rattle.std.specs.Prelude.{Contains}
 use Rattle.std.specs.FinMap.{FinMap, get, empty, get-empty}
 use Rattle.std.specs.Ordering.{nat_cmp}
 use Rattle.drafts.specs.Fates.{block_with, seen_with}
 use Rattle.drafts.specs.declared.fate.Fate.{Fate}
 use Rattle.drafts.specs.declared.fate.Fate.TheVariants.{Put, Freed}
-use Rattle.glock_names.specs.Views.{Seen, IsView, HasBlock, HasGroup}
+use Rattle.glock_names.specs.Views.{Seen, IsView, HasBlock}
 use Rattle.glock_names.specs.declared.steps.Missing.{Missing}
-use Rattle.glock_names.specs.declared.views.Group.{Group}
 use Rattle.resource_groups.specs.Freeing.{IsNeededFor, BreaksSome}
-use Rattle.resource_groups.specs.Putting.{HasDataBlock, IsOneOfTwo}
-use Rattle.resource_groups.specs.Shown.{IsShown, IsHeaderOf, IsDataOf, IsMissing}
+use Rattle.resource_groups.specs.Putting.{HasDataBlock}
+use Rattle.resource_groups.specs.Shown.{IsHeaderOf, IsDataOf}
 use Rattle.resource_groups.proofs.Apart.{no_header_data}
 use Rattle.image_model.proofs.Held.{none_some}
 use Rattle.removing_calls.specs.Drafting.{IsNameTaken}

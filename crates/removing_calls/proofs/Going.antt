@@ -1,5 +1,5 @@
 -- The blocks that go with an inode: those below it, and its dinode's.
-use Rattle.std.proofs.Common.{◌≡◌, ◌↔◌, inl, inr, ℕ, true, true≢false, List, [], ◌∷◌, ◌++◌, Option, None, Some, refl, sym, ◌∙◌, subst}
+use Rattle.std.proofs.Common.{◌≡◌, ◌↔◌, inl, inr, ℕ, true, true≢false, List, [], ◌∷◌, ◌++◌, Option, None, Some, sym, ◌∙◌, subst}
 use Rattle.std.proofs.lemmas.List.Elements.{Contains-append_cases, Contains-append_left}
 use Rattle.std.specs.Prelude.{Contains, IfSome, is_some}
 use Rattle.gfs2_layout.specs.Holding.{Holding}

@@ -1,25 +1,24 @@
 -- The draft of a removal, in an image that the view may be of: it removes the name there.
-use Rattle.std.proofs.Common.{◌≡◌, ◌≢◌, ◌⊎◌, ◌↔◌, inl, inr, ℕ, ◌+◌, ◌<◌, Bool, true, false, true≢false, List, [], ◌∷◌, ◌++◌, length, Option, None, Some, refl, sym, ap, ◌∙◌, subst, arith}
+use Rattle.std.proofs.Common.{◌≡◌, ◌≢◌, ◌⊎◌, ◌↔◌, inl, inr, ℕ, ◌+◌, Bool, true, false, List, [], ◌∷◌, length, Option, None, Some, refl, sym, ap, ◌∙◌, subst, arith}
 use Rattle.std.proofs.lemmas.Bool.{cases_Bool, cases_eq, cond-true, cond-false}
 use Rattle.std.proofs.lemmas.List.{length-append}
-use Rattle.std.specs.Prelude.{Contains, IsSome, is_some, if◌then◌else◌, unwrap_or}
+use Rattle.std.specs.Prelude.{Contains, IsSome, if◌then◌else◌, unwrap_or}
 use Rattle.std.specs.Ordering.{nat_cmp}
 use Rattle.std.specs.FinMap.{FinMap, get, empty, insert, get-empty}
 use Rattle.file_tree.specs.Tree.{Tree}
 use Rattle.drafts.specs.Fates.{AreWhole, block_with, seen_with}
 use Rattle.drafts.specs.declared.change.Change.{Change}
 use Rattle.drafts.specs.declared.fate.Fate.{Fate}
-use Rattle.drafts.specs.declared.fate.Fate.TheVariants.{Put, Freed}
-use Rattle.gfs2_layout.specs.Exchanges.{IsExchanged, IsCounted}
+use Rattle.drafts.specs.declared.fate.Fate.TheVariants.{Put}
+use Rattle.gfs2_layout.specs.Exchanges.{IsExchanged}
 use Rattle.gfs2_layout.specs.Holding.{Holding, Itself, Part, part_at}
-use Rattle.gfs2_layout.specs.Inode.{IsInode, dinode_in, head_of, is_hashed_in, records_of}
+use Rattle.gfs2_layout.specs.Inode.{IsInode, is_hashed_in, records_of}
 use Rattle.gfs2_layout.specs.Records.{Record, record_named}
 use Rattle.gfs2_layout.specs.States.{AreStatesPut, places_in}
 use Rattle.gfs2_layout.specs.declared.dinode.Dinode.{Dinode}
 use Rattle.gfs2_layout.specs.declared.rindex.Rindex.{Rindex}
-use Rattle.glock_names.specs.Views.{Seen, IsView, HasBlock, HasGroup, group_of_entry}
+use Rattle.glock_names.specs.Views.{Seen, HasBlock, HasGroup, group_of_entry}
 use Rattle.glock_names.specs.declared.LockName.{LockName}
-use Rattle.glock_names.specs.declared.views.Group.{Group}
 use Rattle.dinode_tree.proofs.Sound.{parts_of_led, led_of_part}
 use Rattle.dinode_tree.specs.Reading.{inode_lock}
 use Rattle.dinode_tree.specs.Shown.{IsShown}
@@ -27,25 +26,25 @@ use Rattle.dinode_tree.proofs.Sound.{sound_is_shown}
 use Rattle.linear_dirs.specs.Exchanges.{HasExchanged}
 use Rattle.linear_dirs.specs.Shown.{holding_over}
 use Rattle.linear_dirs.proofs.Over.{parts_stay, over_over, as_seen}
-use Rattle.new_inodes.specs.Touched.{IsTouched, with_times}
-use Rattle.resource_groups.specs.Freeing.{HasSome, AreFreed, KeepsRest, IsSameOrPut}
+use Rattle.new_inodes.specs.Touched.{IsTouched}
+use Rattle.resource_groups.specs.Freeing.{HasSome}
 use Rattle.resource_groups.specs.Shown as group
 use Rattle.resource_groups.proofs.Freed.{long_bitmap}
-use Rattle.image_model.specs.Flat.{Path, follow}
-use Rattle.image_model.specs.Groups.{IsListed, IsHeaderOf, IsDataOf, IsGroup, group_blocks, states_of, state_of}
+use Rattle.image_model.specs.Flat.{Path}
+use Rattle.image_model.specs.Groups.{IsListed, IsHeaderOf, IsGroup, group_blocks, states_of, state_of}
 use Rattle.image_model.specs.Image.{Image}
-use Rattle.image_model.specs.Owners.{Owner, Owners, InGroup, Free, Named, is_dinode, part_in, cell_of, cell_in, holding}
+use Rattle.image_model.specs.Owners.{Owners, Free, is_dinode, part_in, cell_of, cell_in, holding}
 use Rattle.image_model.specs.Stands.{Layout, flat_of}
 use Rattle.image_model.proofs.Held.{none_some, some_same, own_part}
 use Rattle.image_model.proofs.Members.{contained, is_in}
 use Rattle.image_changes.specs.Changes.{inode_of}
 use Rattle.image_changes.specs.Does.{IsOf}
-use Rattle.image_changes.specs.Drafted.{is_gone, is_put, is_freed, with_draft}
+use Rattle.image_changes.specs.Drafted.{with_draft}
 use Rattle.image_changes.specs.Flats.{in_directory}
 use Rattle.image_changes.specs.Instances.{IsAt, IsChildless, among, records_at}
 use Rattle.image_changes.proofs.FlatPaths.{one_path}
 use Rattle.image_changes.proofs.Frame.{dinode_its}
-use Rattle.image_changes.proofs.Laid.{root_named, follow_dinode}
+use Rattle.image_changes.proofs.Laid.{root_named}
 use Rattle.image_changes.proofs.Nodes.{among_in, in_among}
 use Rattle.image_changes.proofs.States.{map_same, blocks_are_freed}
 use Rattle.draft_changes.specs.Groups.{PutsGroup, IsPutUnder}

@@ -1,7 +1,7 @@
 -- A removal at the place to which the walk came, where the call takes the inode.
-use Rattle.std.proofs.Common.{◌≡◌, ◌↔◌, ℕ, false, List, [], ◌∷◌, ◌++◌, Some, refl, sym, ap, ◌∙◌, subst}
+use Rattle.std.proofs.Common.{◌≡◌, ◌↔◌, ℕ, false, List, ap, ◌∙◌, subst}
 use Rattle.std.specs.Prelude.{Contains}
-use Rattle.file_tree.specs.Apply.{apply, remove_at, Answer}
+use Rattle.file_tree.specs.Apply.{remove_at}
 use Rattle.file_tree.specs.Names.{parent_of}
 use Rattle.file_tree.specs.Tree.{Tree}
 use Rattle.file_tree.specs.declared.call.Call.{Call}
@@ -14,13 +14,10 @@ use Rattle.glock_names.specs.declared.State.TheVariants.{Ex}
 use Rattle.call_locks.specs.Wants.{wanted}
 use Rattle.call_locks.specs.WantLaws.{path_of}
 use Rattle.dinode_tree.specs.Shown.{IsShown}
-use Rattle.resource_groups.specs.Putting.{HasDataBlock}
-use Rattle.image_model.specs.Flat.{Path}
 use Rattle.image_model.specs.Image.{Image}
 use Rattle.image_model.specs.Owners.{Owners, holding}
 use Rattle.image_model.specs.Stands.{Layout}
 use Rattle.image_changes.specs.Does.{IsOf, Does}
-use Rattle.image_changes.specs.Flats.{in_directory}
 use Rattle.image_changes.specs.Instances.{IsAt, records_at}
 use Rattle.path_walks.specs.Walks.{IsSeenAt}
 use Rattle.path_walks.specs.declared.walk.Place.{Place}

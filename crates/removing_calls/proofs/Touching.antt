@@ -1,14 +1,13 @@
 -- A directory that was touched in a draft: it has the names that it had, and what is broken in it was broken before.
-use Rattle.std.proofs.Common.{◌≡◌, ◌≢◌, ◌&&◌, ◌+◌, ◌-◌, ◌*◌, ◌<◌, ℕ, zero, suc, true, false, List, length, drop, Option, None, Some, refl, sym, ap, ap₂, ◌∙◌, subst, arith}
+use Rattle.std.proofs.Common.{◌≡◌, ◌&&◌, ◌+◌, ◌-◌, ◌<◌, ℕ, suc, false, length, sym, ap, ap₂, ◌∙◌, subst, arith}
 use Rattle.std.proofs.lemmas.Bool.{cond-false}
 use Rattle.std.specs.Prelude.{Contains, IsSome, if◌then◌else◌}
-use Rattle.file_tree.specs.Names.{IsName}
 use Rattle.gfs2_layout.specs.Area.{IsArea}
 use Rattle.gfs2_layout.specs.Exchanges.{directory_count}
 use Rattle.gfs2_layout.specs.Headers.{HasHeader}
 use Rattle.gfs2_layout.specs.Holding.{Holding, bytes_at}
-use Rattle.gfs2_layout.specs.Inode.{Leads, from_dinode, from_block, dinode_in, height_in, is_directory_in, is_hashed_in, has_hash_flag, content_count, unit, pieces, header_length, linear_area, records_of}
-use Rattle.gfs2_layout.specs.Records.{Record, is_dots, records_in}
+use Rattle.gfs2_layout.specs.Inode.{Leads, from_dinode, from_block, height_in, is_directory_in, is_hashed_in, has_hash_flag, content_count, pieces, header_length, linear_area, records_of}
+use Rattle.gfs2_layout.specs.Records.{records_in}
 use Rattle.gfs2_layout.specs.Structures.{dinode_length, is_directory, is_regular}
 use Rattle.gfs2_layout.specs.declared.dinode.Dinode.{Dinode}
 use Rattle.glock_names.specs.Views.{Seen}
@@ -17,7 +16,7 @@ use Rattle.dinode_tree.specs.Shown.{IsShown}
 use Rattle.linear_dirs.specs.Broken as directory
 use Rattle.linear_dirs.specs.Shown.{holding_over}
 use Rattle.linear_dirs.proofs.Over.{as_seen}
-use Rattle.new_inodes.specs.Touched.{IsTouched, with_times}
+use Rattle.new_inodes.specs.Touched.{IsTouched}
 use Rattle.path_walks.specs.Walks.{IsLinearDirectory}
 
 -- an inode whose content is in its dinode's block has no pointers

@@ -1,5 +1,5 @@
 -- What the tree answers a call that removes a name, by the inode at its path's end.
-use Rattle.std.proofs.Common.{◌≡◌, ◌≢◌, ◌+◌, ◌&&◌, ℕ, Bool, true, false, true≢false, List, [], ◌∷◌, ◌++◌, None, Some, refl, sym, ap, ◌∙◌, subst, arith}
+use Rattle.std.proofs.Common.{◌≡◌, ◌≢◌, ◌&&◌, ℕ, Bool, true, false, true≢false, List, [], ◌∷◌, ◌++◌, refl, sym, ap, ◌∙◌, arith}
 use Rattle.std.proofs.lemmas.List.{append-nil}
 use Rattle.std.specs.Prelude.{if◌then◌else◌}
 use Rattle.cluster_history.specs.Changes.{is_ok, may_change, Changes}
@@ -26,7 +26,7 @@ use Rattle.image_changes.specs.Walks.{ListsNames}
 use Rattle.image_changes.proofs.DirectoryNames.{directories_list}
 use Rattle.image_changes.proofs.Nodes.{file_thing}
 use Rattle.image_changes.proofs.Walks.{walks_find}
-use Rattle.path_walks.specs.Holds.{Hold, holds_in}
+use Rattle.path_walks.specs.Holds.{holds_in}
 use Rattle.path_walks.proofs.Images.{is_inode}
 use Rattle.removing_calls.specs.Removing.{IsRemoving, IsAimOf, IsFileAim, IsDirectoryAim, IsLastOf, holds_for}
 use Rattle.removing_calls.specs.declared.aims.Aim.TheVariants as aim

@@ -1,5 +1,5 @@
 -- The locks that a call which removes a name wants on its path.
-use Rattle.std.proofs.Common.{◌≡◌, ℕ, zero, suc, ◌+◌, Bool, true, false, List, [], ◌∷◌, ◌++◌, length, slice_get, Some, refl, sym, ap, ◌∙◌, subst, arith}
+use Rattle.std.proofs.Common.{◌≡◌, ℕ, zero, suc, ◌+◌, false, List, [], ◌∷◌, ◌++◌, length, slice_get, Some, refl, sym, ap, ◌∙◌, subst, arith}
 use Rattle.std.proofs.lemmas.List.{length-append}
 use Rattle.file_tree.specs.Names.{parent_of}
 use Rattle.file_tree.specs.declared.call.Call.{Call}
@@ -11,7 +11,6 @@ use Rattle.call_locks.specs.Wants.{want, shared_above, way_to, at_old_name, want
 use Rattle.call_locks.specs.WantLaws.{path_of}
 use Rattle.image_model.specs.Flat.{Path}
 use Rattle.image_model.proofs.Held.{some_same}
-use Rattle.path_walks.specs.Holds.{holds, hold_of}
 use Rattle.path_walks.specs.Walks.{AreInOrder, LeadsTo, at_root, by_name, IsHeldAt}
 use Rattle.path_walks.proofs.Lists.{parent_of_next}
 use Rattle.removing_calls.specs.Removing.{IsRemoving, IsLastOf}

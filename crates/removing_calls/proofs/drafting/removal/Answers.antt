@@ -1,5 +1,5 @@
-use Rattle.std.proofs.Common.{◌≡◌, ℕ, sym, ap, ◌∙◌, subst}
-use Rattle.drafts.specs.Fates.{Drafted, seen_in}
+use Rattle.std.proofs.Common.{sym, ap, ◌∙◌, subst}
+use Rattle.drafts.specs.Fates.{seen_in}
 use Rattle.gfs2_layout.specs.Holding.{Holding}
 use Rattle.glock_names.proofs.StepLaws.{answer_so, needed_so}
 use Rattle.glock_names.specs.Views.{IsOfView}

@@ -1,5 +1,4 @@
 use Rattle.std.proofs.Common.{sym, ap, ◌∙◌, subst}
-use Rattle.gfs2_layout.specs.Holding.{Holding}
 use Rattle.gfs2_layout.specs.declared.dinode.Dinode.{Dinode}
 use Rattle.glock_names.proofs.StepLaws.{answer_at}
 use Rattle.glock_names.specs.Views.{HasBlock, IsOfView}

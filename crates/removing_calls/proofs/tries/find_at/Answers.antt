@@ -1,4 +1,4 @@
-use Rattle.removing_calls.proofs.Made.{aim_shown, is_refused, is_hashed, refuses, refused_held}
+use Rattle.removing_calls.proofs.Made.{is_refused, is_hashed, refuses, refused_held}
 use Rattle.removing_calls.proofs.tries.find_at.Goals as goal
 
 pub returns-in-Refused-clause-found : goal.returns-in-Refused-clause-found

@@ -1,10 +1,7 @@
-use Rattle.std.proofs.Common.{ℕ, false, not, List, ap, ◌∙◌, subst}
-use Rattle.gfs2_layout.specs.Holding.{Holding}
+use Rattle.std.proofs.Common.{ℕ, not, List, ap, ◌∙◌, subst}
 use Rattle.glock_names.specs.Steps.{TellsOf}
-use Rattle.glock_names.specs.declared.steps.Missing.{Missing}
 use Rattle.resource_groups.specs.Freeing.{IsNeededFor}
 use Rattle.glock_names.proofs.StepLaws.{answer_at, needed_at}
-use Rattle.call_locks.specs.WantLaws.{path_of}
 use Rattle.path_walks.proofs.Steps.{none_so}
 use Rattle.removing_calls.specs.Drafting.{IsWrongIn, IsRemoval}
 use Rattle.removing_calls.specs.Groups.{GroupsAreHeld, IsFirstGroupLack}
