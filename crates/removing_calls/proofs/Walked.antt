@@ -1,5 +1,5 @@
 -- The walk along the path of a call that removes a name.
-use Rattle.std.proofs.Common.{◌≡◌, ℕ, zero, suc, ◌+◌, ◌-◌, false, List, [], ◌∷◌, length, slice_get, Some, refl, sym, ap, ◌∙◌, subst, arith}
+use Rattle.std.proofs.Common.{◌≡◌, ℕ, zero, suc, ◌+◌, ◌-◌, false, List, [], ◌∷◌, length, slice_get, None, Some, refl, sym, ap, ◌∙◌, subst, arith}
 use Rattle.std.proofs.lemmas.List.{length-append}
 use Rattle.cluster_history.specs.Changes.{is_ok}
 use Rattle.file_tree.specs.Apply.{Refused, apply, walk}
@@ -34,6 +34,17 @@ last_is [] path name same e = cc
 last_is (n ∷ ns) path name same e =
     let k : suc (length ns) - 1 ≡ length ns = omega arith in
     subst (λ q. IsLastOf q name) same (ends_with (n ∷ ns) name (length ns) refl (e ∙ ap (slice_get (n ∷ ns)) k))
+
+-- where there is none, it is the root's
+pub is_root : (names path : Path) → names ≡ path → None ≡ slice_get names (length names - 1) → path ≡ []
+is_root [] path same e = sym same
+is_root (n ∷ ns) path same e =
+    let k : suc (length ns) - 1 ≡ length ns = omega arith in
+    absurd (some_there n ns (e ∙ ap (slice_get (n ∷ ns)) k))
+  where
+    some_there : (m : List ℕ) (ms : Path) → None ≡ slice_get (m ∷ ms) (length ms) → ⊥
+    some_there m [] none = cc
+    some_there m (x ∷ ms) none = some_there x ms none
 
 module _ (c : Call) (removing : IsRemoving c) (name : List ℕ) (last : IsLastOf (path_of c false) name) where
   pub many : (names : Path) (wants : List Want) → names ≡ path_of c false → wants ≡ wanted c → length wants ≡ length names + 1

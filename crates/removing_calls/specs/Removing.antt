@@ -1,5 +1,5 @@
 -- The calls that remove a name: `unlink` of a file, and `rmdir` of a directory without names.
-use Rattle.std.specs.Prelude.{ℕ, ◌≡◌, ◌≢◌, ◌⊎◌, ⊤, true, false, if◌then◌else◌, List, [], ◌∷◌, ◌++◌}
+use Rattle.std.specs.Prelude.{ℕ, ◌≡◌, ◌≢◌, ◌⊎◌, ◌↔◌, ⊤, Contains, true, false, if◌then◌else◌, List, [], ◌∷◌, ◌++◌}
 use Rattle.cluster_history.specs.Changes.{is_ok}
 use Rattle.file_tree.specs.Apply.{apply}
 use Rattle.file_tree.specs.Names.{parent_of}
@@ -10,13 +10,19 @@ use Rattle.file_tree.specs.declared.reply.Reply.{Reply}
 use Rattle.file_tree.specs.declared.reply.Reply.TheVariants as reply
 use Rattle.gfs2_layout.specs.Holding.{Holding}
 use Rattle.gfs2_layout.specs.Inode.{dinode_in, is_directory_in, is_hashed_in}
-use Rattle.glock_names.specs.Views.{Seen, HasGroup}
+use Rattle.glock_names.specs.Views.{Seen, HasBlock, HasGroup}
+use Rattle.glock_names.specs.declared.LockName.{LockName}
+use Rattle.glock_names.specs.declared.State.{State}
+use Rattle.glock_names.specs.declared.State.TheVariants.{Ex}
+use Rattle.glock_names.specs.declared.steps.Missing.{Missing}
 use Rattle.glock_names.specs.declared.views.Group.{Group}
 use Rattle.call_locks.specs.Wants.{wanted}
 use Rattle.call_locks.specs.WantLaws.{path_of}
-use Rattle.dinode_tree.specs.Below.{IsBelow}
+use Rattle.dinode_tree.specs.Below.{AnyIndex, IsBelow}
+use Rattle.dinode_tree.specs.Reading.{IsNeeded}
 use Rattle.dinode_tree.specs.Shown.{IsShown}
 use Rattle.dinode_tree.specs.Broken as inode
+use Rattle.resource_groups.specs.Freeing as freeing
 use Rattle.resource_groups.specs.Putting.{HasDataBlock}
 use Rattle.resource_groups.specs.Shown.{IsDataOf, IsBroken}
 use Rattle.resource_groups.specs.Shown as group
@@ -27,10 +33,10 @@ use Rattle.image_model.specs.Owners.{Owners}
 use Rattle.image_model.specs.Stands.{Layout, flat_of}
 use Rattle.image_changes.specs.Instances.{IsAt}
 use Rattle.path_walks.specs.Holds.{Hold, AreHeld, EndsWith, IsAskedFor, IsFirstLack, holds_in}
-use Rattle.path_walks.specs.Walks.{LeadsTo, IsOnTheWay, IsPlaceOf}
+use Rattle.path_walks.specs.Walks.{LeadsTo, IsAbsent, IsLacked, IsOnTheWay, IsPlaceOf, IsUnread}
 use Rattle.path_walks.specs.Walks as path
 use Rattle.path_walks.specs.declared.walk.Place.{Place}
-use Rattle.removing_calls.specs.Groups.{group_holds_of}
+use Rattle.removing_calls.specs.Groups.{GroupsAreHeld, IsFirstGroupLack, group_holds_of}
 use Rattle.removing_calls.specs.declared.aims.Aim.{Aim}
 use Rattle.removing_calls.specs.declared.aims.Aim.TheVariants as aim
 use Rattle.removing_calls.specs.declared.finds.Found.{Found}
@@ -81,10 +87,49 @@ holds_for im o l t call = holds_in im o l (path_of call false) (wanted call)
 
 -- ---- as far as the view shows
 
+-- the path leads to this inode, and the call takes it away
+pub record IsTakenAt (v : Seen) (call : Call) (a : ℕ) : Type 0 where
+  pub leads : LeadsTo v (wanted call) (path_of call false) a
+  pub there : HasBlock v a
+  pub aim : (h : Holding) → IsShown v a h → IsAimOf call h aim.Taken
+
+-- these are the blocks that go with the inode
+abbrev pub AreAllOf : Seen → ℕ → List ℕ → Type 0
+AreAllOf v a blocks = (h : Holding) → IsShown v a h → (b : ℕ) → Contains blocks b ↔ Goes h b
+
+-- The call is answered so: its path has no name; a name on it isn't there, or is asked of a file; the inode at its end isn't to go; or it went,
+-- and the locks of the groups of its blocks are held.
+pub data IsAnswered (v : Seen) (call : Call) : Reply → Type 0 where
+  of_root : (r : Reply) → path_of call false ≡ [] → ((t : Tree) → (apply call t).reply ≡ r) → IsAnswered v call r
+  not_found : IsAbsent v (wanted call) (path_of call false) → IsAnswered v call reply.NotFound
+  not_dir : (a : ℕ) → IsOnTheWay v (wanted call) (path_of call false) a (λ h. is_directory_in h ≡ false) → IsAnswered v call reply.NotDir
+  refused : (a : ℕ) (r : Reply) → LeadsTo v (wanted call) (path_of call false) a → HasBlock v a → ((h : Holding) → IsShown v a h → IsAimOf call h (aim.Refused r))
+      → IsAnswered v call r
+  removed : (a : ℕ) (blocks : List ℕ) → IsTakenAt v call a → AreAllOf v a blocks → GroupsAreHeld v blocks → IsAnswered v call reply.Ok
+
+-- this lock isn't held so strongly: of the next inode on the path, or of the first group that has some of the blocks that go
+pub data IsLackedFor (v : Seen) (call : Call) (lock : LockName) : State → Type 0 where
+  on_path : (state : State) → IsLacked v (wanted call) (path_of call false) lock state → IsLackedFor v call lock state
+  of_group : (a : ℕ) (blocks : List ℕ) → IsTakenAt v call a → AreAllOf v a blocks → IsFirstGroupLack v blocks lock → IsLackedFor v call lock Ex
+
+-- a block without which the call isn't answered: the dinode of the next inode on its path, an indirect block of the one that is to go, or
+-- one of a group that has some of its blocks, the locks of all such groups being held
+pub data IsNeededFor (v : Seen) (call : Call) (m : Missing) : Type 0 where
+  on_path : IsUnread v (wanted call) (path_of call false) m → IsNeededFor v call m
+  of_inode : (a : ℕ) → IsTakenAt v call a → ((h : Holding) → IsShown v a h → IsNeeded v h AnyIndex 1 m) → IsNeededFor v call m
+  of_group : (a : ℕ) (blocks : List ℕ) → IsTakenAt v call a → AreAllOf v a blocks → GroupsAreHeld v blocks → freeing.IsNeededFor v blocks m → IsNeededFor v call m
+
 -- a hashed directory without which the call isn't answered: one on its path, or the one that it would remove
 pub data IsHashedFor (v : Seen) (call : Call) (b : ℕ) : Type 0 where
   on_path : IsOnTheWay v (wanted call) (path_of call false) b (λ h. is_hashed_in h ≡ true) → IsHashedFor v call b
   at_end : LeadsTo v (wanted call) (path_of call false) b → ((h : Holding) → IsShown v b h → is_hashed_in h ≡ true) → IsHashedFor v call b
+
+abbrev pub IsToldOf : Seen → Call → Found → Type 0
+IsToldOf v call (found.Refused r) = IsAnswered v call r
+IsToldOf v call (found.Removed change) = IsAnswered v call reply.Ok
+IsToldOf v call (found.NeedBlock m) = IsNeededFor v call m
+IsToldOf v call (found.Hashed b) = IsHashedFor v call b
+IsToldOf v call (found.NeedLock lock state) = IsLackedFor v call lock state
 
 -- The block breaks this rule: on the path; or (2) a block of the inode at its end, or the directory above that inode, is no data block of a
 -- group; or in a group that has some of the inode's blocks.
@@ -125,14 +170,10 @@ abbrev pub IsRefusal : Found → Type 0
 IsRefusal (found.Refused r) = is_ok r ≡ false
 IsRefusal f = ⊤
 
--- P of the change of a removal, and of the hashed directory that is told
+-- P of the change of a removal
 abbrev pub IfRemoved : (Change → Type 0) → Found → Type 0
 IfRemoved P (found.Removed change) = P change
 IfRemoved P f = ⊤
-
-abbrev pub IfHashed : (ℕ → Type 0) → Found → Type 0
-IfHashed P (found.Hashed b) = P b
-IfHashed P f = ⊤
 
 -- the path's last name
 abbrev pub IsLastOf : Path → List ℕ → Type 0

@@ -17,7 +17,7 @@ ghost use Rattle.image_changes.specs.Does.{IsOf, Does};
 ghost use Rattle.path_walks.specs.Answers.{IfDone, IfNeedLock, IfNeedBlock, IfNoSpace, IfNotBuilt};
 ghost use Rattle.path_walks.specs.Holds.{AreHeld, IsAskedFor, IsFirstLack};
 ghost use Rattle.path_walks.specs.Walks.{IsSeenAt};
-ghost use Rattle.removing_calls.specs.Removing.{IfHashed, IfRemoved, IsAimOf, IsDamage, IsFound, IsHashedFor, IsLastOf, IsPlaceIn, IsReachedIn, IsRefusal, IsRemoving, holds_for};
+ghost use Rattle.removing_calls.specs.Removing.{IfRemoved, IsAimOf, IsAnswered, IsDamage, IsFound, IsHashedFor, IsLackedFor, IsLastOf, IsNeededFor, IsPlaceIn, IsReachedIn, IsRefusal, IsRemoving, IsToldOf, holds_for};
 ghost use Rattle.removing_calls.specs.declared.aims.Aim.TheVariants as aim;
 
 use crate::aims::{Aim, aim_at};
@@ -92,7 +92,7 @@ fn remove_at<V: View>(
     ensures done { IfOk result (IfRemoved (Does (V.seen view.now) call.now OkReply)) }
     ensures refusal { IfOk result IsRefusal }
     ensures sound { (im : Image) (o : Owners) (l : Layout) (t : Tree) → IsOf (V.seen view.now) im o l t → IsReachedIn (V.seen view.now) im o l call.now place.now → IfDamaged result (λ rule block. ⊥) }
-    ensures hashed { IfOk result (IfHashed (IsHashedFor (V.seen view.now) call.now)) }
+    ensures told { IfOk result (IsToldOf (V.seen view.now) call.now) }
     ensures damaged { IfDamaged result (IsDamage (V.seen view.now) call.now) }
     ensures kept { IfDamaged result (IsOfView (V.seen view.now)) }
 {
@@ -135,7 +135,7 @@ fn find_at<V: View>(
         → IfOk result (IsFound (V.seen view.now) im o l t call.now) }
     ensures done { IfOk result (IfRemoved (Does (V.seen view.now) call.now OkReply)) }
     ensures refusal { IfOk result IsRefusal }
-    ensures hashed { IfOk result (IfHashed (IsHashedFor (V.seen view.now) call.now)) }
+    ensures told { IfOk result (IsToldOf (V.seen view.now) call.now) }
     ensures sound { (im : Image) (o : Owners) (l : Layout) (t : Tree) → IsOf (V.seen view.now) im o l t → IsReachedIn (V.seen view.now) im o l call.now place.now → IfDamaged result (λ rule block. ⊥) }
     ensures damaged { IfDamaged result (IsDamage (V.seen view.now) call.now) }
     ensures kept { IfDamaged result (IsOfView (V.seen view.now)) }
@@ -153,7 +153,7 @@ fn find<V: View>(alloc: Global, view: &V, call: &Call, time: u64) -> Result<Foun
     ensures found { (im : Image) (o : Owners) (l : Layout) (t : Tree) → IsOf (V.seen view.now) im o l t → IfOk result (IsFound (V.seen view.now) im o l t call.now) }
     ensures done { IfOk result (IfRemoved (Does (V.seen view.now) call.now OkReply)) }
     ensures refusal { IfOk result IsRefusal }
-    ensures hashed { IfOk result (IfHashed (IsHashedFor (V.seen view.now) call.now)) }
+    ensures told { IfOk result (IsToldOf (V.seen view.now) call.now) }
     ensures sound { (im : Image) (o : Owners) (l : Layout) (t : Tree) → IsOf (V.seen view.now) im o l t → IfDamaged result (λ rule block. ⊥) }
     ensures damaged { IfDamaged result (IsDamage (V.seen view.now) call.now) }
     ensures kept { IfDamaged result (IsOfView (V.seen view.now)) }
@@ -189,6 +189,9 @@ pub fn attempt<V: View>(
     ensures lock { (im : Image) (o : Owners) (l : Layout) (t : Tree) → IsOf (V.seen view.now) im o l t → IfNeedLock result (IsFirstLack (V.seen view.now) (holds_for im o l t call.now)) }
     ensures block { (im : Image) (o : Owners) (l : Layout) (t : Tree) → IsOf (V.seen view.now) im o l t → IfNeedBlock result (IsAskedFor (V.seen view.now) im o l (holds_for im o l t call.now)) }
     ensures space { IfNoSpace result (λ need free. ⊥) }
+    ensures answered { IfDone result (λ reply change. IsAnswered (V.seen view.now) call.now reply) }
+    ensures lacked { IfNeedLock result (IsLackedFor (V.seen view.now) call.now) }
+    ensures needed { IfNeedBlock result (IsNeededFor (V.seen view.now) call.now) }
     ensures hashed { IfNotBuilt result (IsHashedFor (V.seen view.now) call.now) }
     ensures sound { (im : Image) (o : Owners) (l : Layout) (t : Tree) → IsOf (V.seen view.now) im o l t → IfDamaged result (λ rule block. ⊥) }
     ensures damaged { IfDamaged result (IsDamage (V.seen view.now) call.now) }

@@ -1,11 +1,11 @@
 use Rattle.std.proofs.Common.{ℕ, not, List, ap, ◌∙◌, subst}
 use Rattle.glock_names.specs.Steps.{TellsOf}
-use Rattle.resource_groups.specs.Freeing.{IsNeededFor}
+use Rattle.resource_groups.specs.Freeing as freeing
 use Rattle.glock_names.proofs.StepLaws.{answer_at, needed_at}
 use Rattle.path_walks.proofs.Steps.{none_so}
 use Rattle.removing_calls.specs.Drafting.{IsWrongIn, IsRemoval}
 use Rattle.removing_calls.specs.Groups.{GroupsAreHeld, IsFirstGroupLack}
-use Rattle.removing_calls.specs.Removing.{IsDamage, IsWrongBelow, above}
+use Rattle.removing_calls.specs.Removing.{IsAnswered, IsDamage, IsLackedFor, IsNeededFor, IsWrongBelow, above}
 use Rattle.removing_calls.proofs.Faults.{told_on, tells_so}
 use Rattle.removing_calls.proofs.Placed.{above_there, above_linear, above_named, above_inside, below_damage, nothing_below, inode_needed, own_among, removal_damage, taken_ok, list_held, group_lacks, group_needed, nothing_wrong}
 use Rattle.removing_calls.proofs.Taking.{does}
@@ -95,7 +95,33 @@ pub returns-clause-found : goal.returns-clause-found
 returns-clause-found g c im o l t of reached =
     let v = g.V.View.seen c.args.view.now in
     let groups = subst (λ (xs : List ℕ). GroupsAreHeld v xs) c.deref.ensures.value c.in_default.ensures.none in
-    let needed = subst (λ (xs : List ℕ). IsNeededFor v xs c.in-NeedBlock-2.missing) c.deref-2.ensures.value
-    (needed_at _ _ (IsNeededFor v c.deref-2.result.now) c.in-NeedBlock-2.is c.in_ok-change.ensures.needed) in
+    let needed = subst (λ (xs : List ℕ). freeing.IsNeededFor v xs c.in-NeedBlock-2.missing) c.deref-2.ensures.value
+    (needed_at _ _ (freeing.IsNeededFor v c.deref-2.result.now) c.in-NeedBlock-2.is c.in_ok-change.ensures.needed) in
     group_needed v c.args.call.now c.args.place.now c.args.name.now c.requires.last c.requires.seen c.in-Is.blocks.items (λ h shown. answer_at _ _ _ c.in-Is.is (c.in_ok-blocks.ensures.all h shown)) c.requires.aim
     im o l t of reached groups c.in-NeedBlock-2.missing needed
+
+pub returns-in-NeedBlock-clause-told : goal.returns-in-NeedBlock-clause-told
+returns-in-NeedBlock-clause-told g c =
+    IsNeededFor.of_inode c.args.place.now.inode (record { leads = c.requires.seen.leads; there = c.requires.seen.there; aim = c.requires.aim })
+    (λ h shown. needed_at _ _ _ c.in-NeedBlock.is (c.in_ok-blocks.ensures.needed h shown))
+
+pub returns-in-Some-clause-told : goal.returns-in-Some-clause-told
+returns-in-Some-clause-told g c =
+    let v = g.V.View.seen c.args.view.now in
+    IsLackedFor.of_group c.args.place.now.inode c.in-Is.blocks.items (record { leads = c.requires.seen.leads; there = c.requires.seen.there; aim = c.requires.aim })
+    (λ h shown. answer_at _ _ _ c.in-Is.is (c.in_ok-blocks.ensures.all h shown)) (subst (λ (xs : List ℕ). IsFirstGroupLack v xs c.in-Some.lock) c.deref.ensures.value c.in-Some.ensures.some)
+
+pub returns-in-Is-2-clause-told : goal.returns-in-Is-2-clause-told
+returns-in-Is-2-clause-told g c =
+    let v = g.V.View.seen c.args.view.now in
+    IsAnswered.removed c.args.place.now.inode c.in-Is.blocks.items (record { leads = c.requires.seen.leads; there = c.requires.seen.there; aim = c.requires.aim })
+    (λ h shown. answer_at _ _ _ c.in-Is.is (c.in_ok-blocks.ensures.all h shown)) (subst (λ (xs : List ℕ). GroupsAreHeld v xs) c.deref.ensures.value c.in_default.ensures.none)
+
+pub returns-clause-told : goal.returns-clause-told
+returns-clause-told g c =
+    let v = g.V.View.seen c.args.view.now in
+    let groups = subst (λ (xs : List ℕ). GroupsAreHeld v xs) c.deref.ensures.value c.in_default.ensures.none in
+    let needed = subst (λ (xs : List ℕ). freeing.IsNeededFor v xs c.in-NeedBlock-2.missing) c.deref-2.ensures.value
+    (needed_at _ _ (freeing.IsNeededFor v c.deref-2.result.now) c.in-NeedBlock-2.is c.in_ok-change.ensures.needed) in
+    IsNeededFor.of_group c.args.place.now.inode c.in-Is.blocks.items (record { leads = c.requires.seen.leads; there = c.requires.seen.there; aim = c.requires.aim })
+    (λ h shown. answer_at _ _ _ c.in-Is.is (c.in_ok-blocks.ensures.all h shown)) groups needed
