@@ -69,7 +69,7 @@ header_among (k ∷ gs) b = elim (in_header_or_not k b) [
   ]
 ]
 
-module _ {V : Type 0} (seen : V → Seen) (view : V) (p : ℕ) (name : List ℕ) (blocks : List ℕ) (change : Change) (is : IsRemoval seen view p name blocks change)
+module _ {V : Type 0} (seen : V → Seen) (view : V) (p : ℕ) (name : List ℕ) (blocks : List ℕ) {time : ℕ} (change : Change) (is : IsRemoval seen view p name time blocks change)
     (dir_held : (seen view).state_of (record { kind = 2; number = p }) ≡ Ex) (groups_held : GroupsAreHeld (seen view) blocks) where
   -- what becomes of a block before is the directory's put, under its lock
   second_held : (b : ℕ) (lock : LockName) (plain : Bool) (bytes : List ℕ) → get is.fates b ≡ Some (Put lock plain bytes) → (seen view).state_of lock ≡ Ex

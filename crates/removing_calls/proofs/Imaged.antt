@@ -79,7 +79,7 @@ both h h1 h2 time r own sound touched gone = record {
 module _ {V : Type 0} (seen : V → Seen) (view : V) (im : Image) (o : Owners) (l : Layout) (t : Tree) (of : IsOf (seen view) im o l t) (front : Path) (p : ℕ) (name : List ℕ) (a : ℕ)
     (at : IsAt im o l front p) (at_a : IsAt im o l (in_directory front name) a) (r : Record) (named : record_named (records_at im o p) name ≡ Some r)
     (childless : IsChildless im o a) (plain : is_hashed_in (holding im o a) ≡ false) (blocks : List ℕ) (goes : (b : ℕ) → Contains blocks b ↔ Goes (holding im o a) b)
-    (change : Change) (is : IsRemoval seen view p name blocks change) where
+    {time : ℕ} (change : Change) (is : IsRemoval seen view p name time blocks change) where
   abbrev v : Seen
   v = seen view
 
@@ -169,7 +169,7 @@ module _ {V : Type 0} (seen : V → Seen) (view : V) (im : Image) (o : Owners) (
       ap (λ (m : FinMap nat_cmp Fate). get m b) is.taken.takes.put ∙ put_apart first p b _ other
       ∙ ap (λ (m : FinMap nat_cmp Fate). get m b) is.taken.touches.put ∙ put_apart empty p b _ other ∙ get-empty nat_cmp b
 
-  parent_put : get fates p ≡ Some (Put (record { kind = 2; number = p }) false is.taken.takes.bytes)
+  pub parent_put : get fates p ≡ Some (Put (record { kind = 2; number = p }) false is.taken.takes.bytes)
   parent_put = stays_at p p_its ∙ second_there
 
   -- ---- the directory
@@ -177,7 +177,7 @@ module _ {V : Type 0} (seen : V → Seen) (view : V) (im : Image) (o : Owners) (
   own_p : part_at (holding im o p) p ≡ Some Itself
   own_p = own_part im o p so_p
 
-  touched : IsTouched (holding im o p) (holding_over (seen_with v first) (holding im o p)) is.time
+  touched : IsTouched (holding im o p) (holding_over (seen_with v first) (holding im o p)) time
   touched = is.taken.touches.touched (holding im o p) (is_shown v im o l t of front p at)
 
   shown_first : IsShown (seen_with v first) p (holding_over (seen_with v first) (holding im o p))
@@ -193,7 +193,7 @@ module _ {V : Type 0} (seen : V → Seen) (view : V) (im : Image) (o : Owners) (
   lacks : HasExchanged (holding im o p) (holding (with_draft im second) o p) (r ∷ []) []
   lacks =
       let gone = is.taken.takes.removed (holding_over (seen_with v first) (holding im o p)) r shown_first (ap (λ records. record_named records name) (touched.records own_p) ∙ named) in
-      both (holding im o p) (holding_over (seen_with v first) (holding im o p)) (holding (with_draft im second) o p) is.time r own_p sound_p touched
+      both (holding im o p) (holding_over (seen_with v first) (holding im o p)) (holding (with_draft im second) o p) time r own_p sound_p touched
       (subst (λ h. HasExchanged (holding_over (seen_with v first) (holding im o p)) h (r ∷ []) []) over_second gone)
 
   same_cell : (b : ℕ) → cell_in (with_draft im second) o p b ≡ cell_in (with_draft im fates) o p b

@@ -11,7 +11,8 @@ use Rattle.drafts.specs.declared.fate.Fate.TheVariants.{Put}
 use Rattle.gfs2_layout.specs.Holding.{Holding, bytes_at}
 use Rattle.gfs2_layout.specs.Inode.{dinode_in, has_hash_flag, height_in, records_of}
 use Rattle.gfs2_layout.specs.Records.{Record, record_named, records_in}
-use Rattle.gfs2_layout.specs.Structures.{dinode_length, is_directory}
+use Rattle.gfs2_layout.specs.Structures.{dinode_length, dinode_of, is_directory}
+use Rattle.gfs2_layout.specs.declared.dinode.Dinode.{Dinode}
 use Rattle.glock_names.specs.Steps.{TellsOf}
 use Rattle.glock_names.specs.Views.{Seen, IsView, HasBlock}
 use Rattle.glock_names.specs.declared.steps.CallFault.{CallFault}
@@ -20,20 +21,20 @@ use Rattle.dinode_tree.specs.Reading.{inode_lock}
 use Rattle.dinode_tree.specs.Shown.{IsShown}
 use Rattle.dinode_tree.proofs.Sound.{some_is_shown}
 use Rattle.linear_dirs.specs.Broken.{IsBroken}
-use Rattle.linear_dirs.specs.Exchanges.{HasExchanged}
+use Rattle.linear_dirs.specs.Exchanges.{HasExchanged, uncounted}
 use Rattle.linear_dirs.specs.Shown.{IsLinearIn, HasNameIn, holding_over}
 use Rattle.linear_dirs.proofs.Looked.{bytes_of, dinode_there}
 use Rattle.linear_dirs.proofs.Over.{as_seen}
 use Rattle.linear_dirs.proofs.Rewritten.{over_there}
-use Rattle.new_inodes.specs.Touched.{IsTouched}
+use Rattle.new_inodes.specs.Touched.{IsTouched, with_times}
 use Rattle.resource_groups.specs.Freeing.{AreFreed, KeepsRest, IsNeededFor, BreaksSome}
 use Rattle.resource_groups.specs.Putting.{HasDataBlock}
 use Rattle.image_changes.specs.Drafted.{IsFinished}
 use Rattle.path_walks.specs.Walks.{IsLinearDirectory}
-use Rattle.removing_calls.specs.Drafting.{TouchesAlone, IsNameTaken, IsFreedAndDone, IsRemoval}
+use Rattle.removing_calls.specs.Drafting.{HasTimes, TouchesAlone, IsNameTaken, IsFreedAndDone, IsRemoval}
 use Rattle.removing_calls.proofs.Drafted.{taken_alone, needed_before, seen_before, breaks_before}
 use Rattle.removing_calls.proofs.Faults.{tells_so}
-use Rattle.removing_calls.proofs.Lists.{put_apart}
+use Rattle.removing_calls.proofs.Lists.{put_apart, put_at}
 use Rattle.removing_calls.proofs.Touching.{touched_shown, broken_before}
 
 unchanged : (v : Seen) → seen_with v empty ≡ v
@@ -47,6 +48,14 @@ linear_there v dir there linear h shown =
       directory = ap is_directory same ∙ (linear there.0 there.1).0;
       linear = and_right (is_directory (dinode_in h)) (has_hash_flag (dinode_in h)) (ap has_hash_flag same ∙ (linear there.0 there.1).1);
     }
+
+dinode_by : (h : Holding) (bytes : List ℕ) → bytes_at h h.own ≡ bytes → dinode_in h ≡ dinode_of bytes
+unfolding dinode_in
+dinode_by h bytes e = ap dinode_of e
+
+-- a dinode that is counted anew keeps its times
+times_kept : (d d' last : Dinode) (time : ℕ) → d' ≡ with_times d time → uncounted last ≡ uncounted d' → HasTimes last time
+times_kept d d' last time touched same = (ap (λ (x : Dinode). x.mtime) same ∙ ap (λ (x : Dinode). x.mtime) touched, ap (λ (x : Dinode). x.ctime) same ∙ ap (λ (x : Dinode). x.ctime) touched)
 
 -- ---- touched
 
@@ -103,10 +112,28 @@ module _ {V : Type 0} (seen : V → Seen) (old : Drafted V) (new : old.fates ≡
           tells_so (IsBroken (holding_over w h)) (IsBroken h) (broken_before v w dir h time shown stuffed is sizes (some_there h shown) (touched_in h shown)) f
           (tells (holding_over w h) (touched_shown v w dir h time shown stuffed is sizes (some_there h shown) (touched_in h shown)))
 
-      pub name_taken : (last : Drafted V) (name after : List ℕ) → last ≡ record mid { fates = insert mid.fates dir (Put (inode_lock dir) false after) }
+      -- it has the time, also where records were counted anew then
+      has_times : HasBlock (seen old.view) dir → IsLinearIn (seen old.view) dir → ((h : Holding) → IsShown (seen old.view) dir h → height_in h ≡ 0) → (last : Drafted V) (after : List ℕ)
+          → (seen_in seen last).block_at dir ≡ Some after → ((h : Holding) → IsShown (seen_in seen mid) dir h → uncounted (dinode_in (holding_over (seen_in seen last) h)) ≡ uncounted (dinode_in h))
+          → HasTimes (dinode_of after) time
+      has_times there linear stuffed last after put_last same =
+          let v = seen old.view in
+          let w = seen_in seen mid in
+          let u = seen_in seen last in
+          let s = some_is_shown v dir in
+          let h = holding_over w s.0 in
+          let is = linear_there v dir there linear s.0 s.1.0 in
+          let sizes : v.size ≡ w.size = ap (λ x. (seen x).size) (sym mid_view) in
+          let shown : IsShown w dir h = touched_shown v w dir s.0 time s.1.0 (stuffed s.0 s.1.0) is sizes (some_there s.0 s.1.0) (touched_in s.0 s.1.0) in
+          let bytes_are : bytes_at (holding_over u h) h.own ≡ after = as_seen u h h.own after (over_there (u.block_at h.own) (h.cell h.own) ∙ shown.dinode) (ap u.block_at shown.own ∙ put_last) in
+          subst (λ d. HasTimes d time) (dinode_by (holding_over u h) after bytes_are)
+          (times_kept (dinode_in s.0) (dinode_in h) (dinode_in (holding_over u h)) time (touched_in s.0 s.1.0).dinode (same h shown))
+
+      pub name_taken : HasBlock (seen old.view) dir → IsLinearIn (seen old.view) dir → ((h : Holding) → IsShown (seen old.view) dir h → height_in h ≡ 0) → (last : Drafted V) (name after : List ℕ) → last ≡ record mid { fates = insert mid.fates dir (Put (inode_lock dir) false after) }
           → ((h : Holding) (r : Record) → IsShown (seen_in seen mid) dir h → record_named (records_of h) name ≡ Some r → HasExchanged h (holding_over (seen_in seen last) h) (r ∷ []) [])
+          → ((h : Holding) → IsShown (seen_in seen mid) dir h → uncounted (dinode_in (holding_over (seen_in seen last) h)) ≡ uncounted (dinode_in h))
           → IsNameTaken (seen old.view) dir name time last.fates
-      name_taken last name after then removed = record {
+      name_taken there linear stuffed last name after then removed same = record {
         first = mid.fates;
         touches = touches;
         takes = record {
@@ -115,6 +142,8 @@ module _ {V : Type 0} (seen : V → Seen) (old : Drafted V) (new : old.fates ≡
           removed = λ h r shown named. subst (λ w. HasExchanged h (holding_over w h) (r ∷ []) []) (ap (λ x. seen_with (seen x) last.fates) (ap (λ (d : Drafted V). d.view) then ∙ mid_view))
               (removed h r (subst (λ w. IsShown w dir h) (sym seen_mid) shown) named);
         };
+        times = has_times there linear stuffed last after
+            (ap (λ f. block_with f ((seen last.view).block_at dir)) (ap (λ (d : Drafted V). get d.fates dir) then ∙ put_at mid.fates dir (Put (inode_lock dir) false after))) same;
       }
 
 -- ---- and then blocks are freed
@@ -148,10 +177,9 @@ module _ {V : Type 0} (seen : V → Seen) (view : V) (d : Drafted V) (same : d.v
   pub kept_of : HasBlock (seen view) dir → (b : ℕ) → HasBlock (seen_in seen d) b → HasBlock (seen view) b
   kept_of there b has = seen_before (seen view) dir d.fates (taken_alone (seen view) dir name time d.fates taken) there b (subst (λ w. HasBlock w b) seen_then has)
 
-  pub removal_of : IsView (seen view) → (blocks : List ℕ) (change : Change) → IsFreedAndDone seen d blocks change → IsRemoval seen view dir name blocks change
+  pub removal_of : IsView (seen view) → (blocks : List ℕ) (change : Change) → IsFreedAndDone seen d blocks change → IsRemoval seen view dir name time blocks change
   removal_of shows blocks change freed = record {
     shows = shows;
-    time = time;
     fates = d.fates;
     taken = taken;
     freed = subst (λ e. IsFreedAndDone seen e blocks change) (ap (λ (x : V). record { view = x; fates = d.fates }) same) freed;

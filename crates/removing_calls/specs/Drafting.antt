@@ -9,6 +9,8 @@ use Rattle.drafts.specs.declared.fate.Fate.TheVariants.{Put}
 use Rattle.gfs2_layout.specs.Holding.{Holding}
 use Rattle.gfs2_layout.specs.Inode.{records_of}
 use Rattle.gfs2_layout.specs.Records.{Record, record_named}
+use Rattle.gfs2_layout.specs.Structures.{dinode_of}
+use Rattle.gfs2_layout.specs.declared.dinode.Dinode.{Dinode}
 use Rattle.glock_names.specs.Views.{Seen, IsView}
 use Rattle.dinode_tree.specs.Reading.{inode_lock}
 use Rattle.dinode_tree.specs.Shown.{IsShown}
@@ -32,11 +34,16 @@ pub record TakesName (v : Seen) (before : FinMap nat_cmp Fate) (dir : ℕ) (name
   pub removed : (h : Holding) (r : Record) → IsShown (seen_with v before) dir h → record_named (records_of h) name ≡ Some r
       → HasExchanged h (holding_over (seen_with v fates) h) (r ∷ []) []
 
--- both, one after the other
+-- the time of the last change of its content and of its own is this
+abbrev pub HasTimes : Dinode → ℕ → Type 0
+HasTimes d time = (d.mtime ≡ time) × (d.ctime ≡ time)
+
+-- both, one after the other, and the dinode has the time still
 pub record IsNameTaken (v : Seen) (dir : ℕ) (name : List ℕ) (time : ℕ) (fates : FinMap nat_cmp Fate) : Type 0 where
   pub first : FinMap nat_cmp Fate
   pub touches : TouchesAlone v dir time first
   pub takes : TakesName v first dir name fates
+  pub times : HasTimes (dinode_of takes.bytes) time
 
 -- Over that draft blocks are freed, and the change is that of the draft that comes of it.
 pub record IsFreedAndDone {V : Type 0} (seen : V → Seen) (old : Drafted V) (blocks : List ℕ) (change : Change) : Type 0 where
@@ -46,10 +53,9 @@ pub record IsFreedAndDone {V : Type 0} (seen : V → Seen) (old : Drafted V) (bl
   pub whole : AreWhole (seen old.view).size fates
   pub finished : IsFinished fates change
 
--- The change is that of a draft over the view in which the directory has other times and lacks the name, and these blocks are freed.
-pub record IsRemoval {V : Type 0} (seen : V → Seen) (view : V) (dir : ℕ) (name : List ℕ) (blocks : List ℕ) (change : Change) : Type 0 where
+-- The change is that of a draft over the view in which the directory has this time and lacks the name, and these blocks are freed.
+pub record IsRemoval {V : Type 0} (seen : V → Seen) (view : V) (dir : ℕ) (name : List ℕ) (time : ℕ) (blocks : List ℕ) (change : Change) : Type 0 where
   pub shows : IsView (seen view)
-  pub time : ℕ
   pub fates : FinMap nat_cmp Fate
   pub taken : IsNameTaken (seen view) dir name time fates
   pub freed : IsFreedAndDone seen (record { view = view; fates = fates }) blocks change

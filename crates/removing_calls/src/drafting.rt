@@ -95,7 +95,7 @@ pub(crate) fn removal<V: View>(
     requires named { HasNameIn (V.seen view.now) dir name.now }
     requires inside { HasDataBlock (V.seen view.now) dir }
     requires blocks { (b : ℕ) → Contains blocks.now b → HasDataBlock (V.seen view.now) b }
-    ensures removal { IfIs result (IsRemoval V.seen view.now dir name.now blocks.now) }
+    ensures removal { IfIs result (IsRemoval V.seen view.now dir name.now time blocks.now) }
     ensures needed { IfNeedBlock result (IsNeededFor (V.seen view.now) blocks.now) }
     ensures damaged { IfDamaged result (IsWrongIn (V.seen view.now) dir blocks.now) }
     ensures kept { IfDamaged result (IsOfView (V.seen view.now)) }

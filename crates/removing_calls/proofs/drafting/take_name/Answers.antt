@@ -63,4 +63,7 @@ returns-clause-taken g c =
     let one = answer_at _ _ _ c.in-Is-2.is c.in_ok-touch.ensures.one in
     let two = answer_at _ _ _ c.in-Is-3.is c.in_ok-remove.ensures.one in
     name_taken g.V.View.seen c.args.draft.now c.requires.new c.touch.new.draft c.args.dir c.args.time one.0 one.1 (λ h shown. answer_at _ _ _ c.in-Is-2.is (c.in_ok-touch.ensures.touched h shown))
-    c.remove.new.draft c.args.name.now two.0 two.1 (λ h r shown named. answer_at _ _ _ c.in-Is-3.is (c.in_ok-remove.ensures.removed h r shown named))
+    c.requires.there c.requires.linear
+    (λ h shown. ap (λ (d : Dinode). d.height)
+    (sym (answer_at _ _ _ c.in-Is.is (c.in_ok-dinode.ensures.found h (subst (λ w. IsShown w c.args.dir h) (sym (seen_old g.V.View.seen c.args.draft.now c.requires.new)) shown)))) ∙ c.if-dinode-ne0.false)
+    c.remove.new.draft c.args.name.now two.0 two.1 (λ h r shown named. answer_at _ _ _ c.in-Is-3.is (c.in_ok-remove.ensures.removed h r shown named)) (λ h shown. answer_at _ _ _ c.in-Is-3.is (c.in_ok-remove.ensures.dinode h shown))
