@@ -67,10 +67,10 @@ module _ (v : Seen) (c : Call) (p : Place) (name : List ℕ) (last : IsLastOf (p
   pub above_named : HasNameIn v p.above name
   above_named = named_in v p.above p.inode name names
 
-  pub below_damage : (rule b : ℕ) → IsWrongBelow v p.inode rule b → IsDamage v c rule b
-  below_damage rule b (damage.in_inode r d broken) =
+  pub below_damage : ((h : Holding) → IsShown v p.inode h → IsAimOf c h aim.Taken) → (rule b : ℕ) → IsWrongBelow v p.inode rule b → IsDamage v c rule b
+  below_damage taken rule b (damage.in_inode r d broken) =
       damage.on_path r d (wrong_on_way v (wanted c) (path_of c false) p.inode there.leads (path_of c false) [] (sym (append-nil (path_of c false))) r d (λ h shown. path.in_inode r d (broken h shown)))
-  below_damage rule b (damage.stray d goes outside) = damage.stray p.inode d there.leads goes outside
+  below_damage taken rule b (damage.stray d goes outside) = damage.stray p.inode d (record { leads = there.leads; there = there.there; aim = taken }) goes outside
 
   module _ (im : Image) (o : Owners) (l : Layout) (t : Tree) (of : IsOf v im o l t) (reached : IsReachedIn v im o l c p) where
     pub above_inside : HasDataBlock v p.above
@@ -90,12 +90,12 @@ module _ (v : Seen) (c : Call) (p : Place) (name : List ℕ) (last : IsLastOf (p
     pub own_among : Contains blocks p.inode
     own_among = let s = some_is_shown v p.inode in (goes s.0 s.1.0 p.inode).1 (inl (sym s.1.0.own))
 
-    pub removal_damage : (rule b : ℕ) → IsWrongIn v p.above blocks rule b → IsDamage v c rule b
-    removal_damage rule b (drafting.in_directory r d broken) =
+    pub removal_damage : ((h : Holding) → IsShown v p.inode h → IsAimOf c h aim.Taken) → GroupsAreHeld v blocks → (rule b : ℕ) → IsWrongIn v p.above blocks rule b → IsDamage v c rule b
+    removal_damage taken groups rule b (drafting.in_directory r d broken) =
         damage.on_path r d (wrong_on_way v (wanted c) (parent_of (path_of c false)) p.above there.above (path_of c false) (name ∷ []) (last.1 ∙ ap (λ q. q ++ name ∷ []) (sym (ap parent_of last.1 ∙ parent_of_next last.0 name))) r d
         (λ h shown. path.in_directory r d (names.linear h shown) (broken h shown)))
-    removal_damage rule b (drafting.in_group r d breaks) =
-        damage.in_group p.inode breaks.2.0 r d breaks.0 there.leads (λ h shown. (goes h shown breaks.2.0).0 breaks.2.1) breaks.1 breaks.2.2 breaks.3
+    removal_damage taken groups rule b (drafting.in_group r d breaks) =
+        damage.in_group p.inode r d blocks (record { leads = there.leads; there = there.there; aim = taken }) goes groups breaks
 
     module _ (taken : (h : Holding) → IsShown v p.inode h → IsAimOf c h aim.Taken) (im : Image) (o : Owners) (l : Layout) (t : Tree) (of : IsOf v im o l t) (reached : IsReachedIn v im o l c p) where
       shown : IsShown v p.inode (holding im o p.inode)

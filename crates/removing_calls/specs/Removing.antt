@@ -11,12 +11,11 @@ use Rattle.file_tree.specs.declared.reply.Reply.TheVariants as reply
 use Rattle.gfs2_layout.specs.Holding.{Holding}
 use Rattle.gfs2_layout.specs.Inode.{dinode_in, is_directory_in, is_hashed_in}
 use Rattle.gfs2_layout.specs.Structures.{dinode_of}
-use Rattle.glock_names.specs.Views.{Seen, HasBlock, HasGroup}
+use Rattle.glock_names.specs.Views.{Seen, HasBlock}
 use Rattle.glock_names.specs.declared.LockName.{LockName}
 use Rattle.glock_names.specs.declared.State.{State}
 use Rattle.glock_names.specs.declared.State.TheVariants.{Ex}
 use Rattle.glock_names.specs.declared.steps.Missing.{Missing}
-use Rattle.glock_names.specs.declared.views.Group.{Group}
 use Rattle.call_locks.specs.Wants.{wanted}
 use Rattle.call_locks.specs.WantLaws.{path_of}
 use Rattle.dinode_tree.specs.Below.{AnyIndex, IsBelow}
@@ -25,8 +24,6 @@ use Rattle.dinode_tree.specs.Shown.{IsShown}
 use Rattle.dinode_tree.specs.Broken as inode
 use Rattle.resource_groups.specs.Freeing as freeing
 use Rattle.resource_groups.specs.Putting.{HasDataBlock}
-use Rattle.resource_groups.specs.Shown.{IsDataOf, IsBroken}
-use Rattle.resource_groups.specs.Shown as group
 use Rattle.drafts.specs.declared.change.Change.{Change}
 use Rattle.image_model.specs.Flat.{Path, follow}
 use Rattle.image_model.specs.Image.{Image}
@@ -134,14 +131,13 @@ IsToldOf v call (found.NeedBlock m) = IsNeededFor v call m
 IsToldOf v call (found.Hashed b) = IsHashedFor v call b
 IsToldOf v call (found.NeedLock lock state) = IsLackedFor v call lock state
 
--- The block breaks this rule: on the path; or (2) a block of the inode at its end, or the directory above that inode, is no data block of a
--- group; or in a group that has some of the inode's blocks.
+-- The block breaks this rule: on the path; or (2) a block of the inode that is to go, or the directory above it, is no data block of a group; or
+-- in a group that has some of the inode's blocks, the locks of all such groups being held.
 pub data IsDamage (v : Seen) (call : Call) : ℕ → ℕ → Type 0 where
   on_path : (rule b : ℕ) → path.IsDamage v (wanted call) (path_of call false) rule b → IsDamage v call rule b
-  stray : (a b : ℕ) → LeadsTo v (wanted call) (path_of call false) a → ((h : Holding) → IsShown v a h → Goes h b) → ¬ (HasDataBlock v b) → IsDamage v call 2 a
+  stray : (a b : ℕ) → IsTakenAt v call a → ((h : Holding) → IsShown v a h → Goes h b) → ¬ (HasDataBlock v b) → IsDamage v call 2 a
   above : (a : ℕ) → LeadsTo v (wanted call) (parent_of (path_of call false)) a → ¬ (HasDataBlock v a) → IsDamage v call 2 a
-  in_group : (a b rule c : ℕ) (g : Group) → LeadsTo v (wanted call) (path_of call false) a → ((h : Holding) → IsShown v a h → Goes h b) → HasGroup v g → IsDataOf g b
-      → ((at : ℕ → List ℕ) → group.IsShown v g at → IsBroken at g rule c) → IsDamage v call rule c
+  in_group : (a rule b : ℕ) (blocks : List ℕ) → IsTakenAt v call a → AreAllOf v a blocks → GroupsAreHeld v blocks → freeing.BreaksSome v blocks rule b → IsDamage v call rule b
 
 -- ---- in an image that the view may be of
 

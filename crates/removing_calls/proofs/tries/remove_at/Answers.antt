@@ -33,7 +33,7 @@ pub returns-in_err-blocks-clause-damaged : goal.returns-in_err-blocks-clause-dam
 returns-in_err-blocks-clause-damaged g c =
     let v = g.V.View.seen c.args.view.now in
     told_on (IsDamage v c.args.call.now) c.from_residual.result _ c.from_residual.ensures.1 (tells_so (IsWrongBelow v c.args.place.now.inode) (IsDamage v c.args.call.now)
-    (below_damage v c.args.call.now c.args.place.now c.args.name.now c.requires.last c.requires.seen) c.in_err-blocks.field-0.0 c.in_err-blocks.ensures.damaged)
+    (below_damage v c.args.call.now c.args.place.now c.args.name.now c.requires.last c.requires.seen c.requires.aim) c.in_err-blocks.field-0.0 c.in_err-blocks.ensures.damaged)
 
 pub returns-in-NeedBlock-clause-found : goal.returns-in-NeedBlock-clause-found
 returns-in-NeedBlock-clause-found g c im o l t of reached =
@@ -67,7 +67,8 @@ pub returns-in_err-change-clause-damaged : goal.returns-in_err-change-clause-dam
 returns-in_err-change-clause-damaged g c =
     let v = g.V.View.seen c.args.view.now in
     told_on (IsDamage v c.args.call.now) c.from_residual-in_err-change.result _ c.from_residual-in_err-change.ensures.1 (tells_so (IsWrongIn v c.args.place.now.above c.in-Is.blocks.items) (IsDamage v c.args.call.now)
-    (removal_damage v c.args.call.now c.args.place.now c.args.name.now c.requires.last c.requires.seen c.in-Is.blocks.items (λ h shown. answer_at _ _ _ c.in-Is.is (c.in_ok-blocks.ensures.all h shown)))
+    (removal_damage v c.args.call.now c.args.place.now c.args.name.now c.requires.last c.requires.seen c.in-Is.blocks.items (λ h shown. answer_at _ _ _ c.in-Is.is (c.in_ok-blocks.ensures.all h shown)) c.requires.aim
+    (subst (λ (xs : List ℕ). GroupsAreHeld v xs) c.deref.ensures.value c.in_default.ensures.none))
     c.in_err-change.field-0.0
     (subst (λ (xs : List ℕ). TellsOf (IsWrongIn v c.args.place.now.above xs) c.in_err-change.field-0.0) c.deref-2.ensures.value c.in_err-change.ensures.damaged))
 
