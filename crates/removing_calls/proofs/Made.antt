@@ -21,7 +21,7 @@ use Rattle.path_walks.specs.Holds.{AreHeld}
 use Rattle.path_walks.specs.Walks.{IsSeenAt}
 use Rattle.path_walks.specs.declared.walk.Place.{Place}
 use Rattle.path_walks.proofs.Images.{is_shown}
-use Rattle.removing_calls.specs.Removing.{IsAimOf, IsAnswered, IsHashedFor, IsLastOf, IsReachedIn, at_end, holds_for}
+use Rattle.removing_calls.specs.Removing.{IsAimOf, IsRefused, IsHashedFor, IsLastOf, IsReachedIn, at_end, holds_for}
 use Rattle.removing_calls.specs.declared.aims.Aim.{Aim}
 use Rattle.removing_calls.specs.declared.aims.Aim.TheVariants as aim
 use Rattle.removing_calls.proofs.Trees.{aim_not_ok, aim_refuses, plain_list}
@@ -47,8 +47,8 @@ module _ (v : Seen) (c : Call) (p : Place) (there : IsSeenAt v (wanted c) (path_
   pub is_refused : (r : Reply) → made ≡ aim.Refused r → is_ok r ≡ false
   is_refused r is = let s = some_is_shown v p.inode in aim_not_ok c s.0 r (subst (IsAimOf c s.0) is (aim_shown s.0 s.1.0))
 
-  pub told_refused : (r : Reply) → made ≡ aim.Refused r → IsAnswered v c r
-  told_refused r is = IsAnswered.refused p.inode r there.leads there.there (λ h shown. subst (IsAimOf c h) is (aim_shown h shown))
+  pub told_refused : (r : Reply) → made ≡ aim.Refused r → IsRefused v c r
+  told_refused r is = IsRefused.at_end p.inode r there.leads there.there (λ h shown. subst (IsAimOf c h) is (aim_shown h shown))
 
   pub is_hashed : (b : ℕ) → made ≡ aim.Hashed b → IsHashedFor v c b
   is_hashed b is =

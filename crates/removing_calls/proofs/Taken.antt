@@ -21,7 +21,7 @@ use Rattle.dinode_tree.specs.Reading.{inode_lock}
 use Rattle.dinode_tree.specs.Shown.{IsShown}
 use Rattle.dinode_tree.proofs.Sound.{some_is_shown}
 use Rattle.linear_dirs.specs.Broken.{IsBroken}
-use Rattle.linear_dirs.specs.Exchanges.{HasExchanged, uncounted}
+use Rattle.linear_dirs.specs.Exchanges.{HasExchanged, IsCutFrom, uncounted}
 use Rattle.linear_dirs.specs.Shown.{IsLinearIn, HasNameIn, holding_over}
 use Rattle.linear_dirs.proofs.Looked.{bytes_of, dinode_there}
 use Rattle.linear_dirs.proofs.Over.{as_seen}
@@ -132,15 +132,20 @@ module _ {V : Type 0} (seen : V → Seen) (old : Drafted V) (new : old.fates ≡
       pub name_taken : HasBlock (seen old.view) dir → IsLinearIn (seen old.view) dir → ((h : Holding) → IsShown (seen old.view) dir h → height_in h ≡ 0) → (last : Drafted V) (name after : List ℕ) → last ≡ record mid { fates = insert mid.fates dir (Put (inode_lock dir) false after) }
           → ((h : Holding) (r : Record) → IsShown (seen_in seen mid) dir h → record_named (records_of h) name ≡ Some r → HasExchanged h (holding_over (seen_in seen last) h) (r ∷ []) [])
           → ((h : Holding) → IsShown (seen_in seen mid) dir h → uncounted (dinode_in (holding_over (seen_in seen last) h)) ≡ uncounted (dinode_in h))
+          → ((h : Holding) → IsShown (seen_in seen mid) dir h → IsCutFrom h (holding_over (seen_in seen last) h) name)
           → IsNameTaken (seen old.view) dir name time last.fates
-      name_taken there linear stuffed last name after then removed same = record {
+      name_taken there linear stuffed last name after then removed same cut =
+          let seen_last : seen_in seen last ≡ seen_with (seen old.view) last.fates = ap (λ x. seen_with (seen x) last.fates) (ap (λ (d : Drafted V). d.view) then ∙ mid_view) in
+          record {
         first = mid.fates;
         touches = touches;
         takes = record {
           bytes = after;
           put = ap (λ (d : Drafted V). d.fates) then;
-          removed = λ h r shown named. subst (λ w. HasExchanged h (holding_over w h) (r ∷ []) []) (ap (λ x. seen_with (seen x) last.fates) (ap (λ (d : Drafted V). d.view) then ∙ mid_view))
+          removed = λ h r shown named. subst (λ w. HasExchanged h (holding_over w h) (r ∷ []) []) seen_last
               (removed h r (subst (λ w. IsShown w dir h) (sym seen_mid) shown) named);
+          cut = λ h shown. subst (λ w. IsCutFrom h (holding_over w h) name) seen_last (cut h (subst (λ w. IsShown w dir h) (sym seen_mid) shown));
+          dinode = λ h shown. subst (λ w. uncounted (dinode_in (holding_over w h)) ≡ uncounted (dinode_in h)) seen_last (same h (subst (λ w. IsShown w dir h) (sym seen_mid) shown));
         };
         times = has_times there linear stuffed last after
             (ap (λ f. block_with f ((seen last.view).block_at dir)) (ap (λ (d : Drafted V). get d.fates dir) then ∙ put_at mid.fates dir (Put (inode_lock dir) false after))) same;

@@ -7,7 +7,7 @@ use Rattle.drafts.specs.declared.change.Change.{Change}
 use Rattle.drafts.specs.declared.fate.Fate.{Fate}
 use Rattle.drafts.specs.declared.fate.Fate.TheVariants.{Put}
 use Rattle.gfs2_layout.specs.Holding.{Holding}
-use Rattle.gfs2_layout.specs.Inode.{records_of}
+use Rattle.gfs2_layout.specs.Inode.{dinode_in, records_of}
 use Rattle.gfs2_layout.specs.Records.{Record, record_named}
 use Rattle.gfs2_layout.specs.Structures.{dinode_of}
 use Rattle.gfs2_layout.specs.declared.dinode.Dinode.{Dinode}
@@ -15,7 +15,7 @@ use Rattle.glock_names.specs.Views.{Seen, IsView}
 use Rattle.dinode_tree.specs.Reading.{inode_lock}
 use Rattle.dinode_tree.specs.Shown.{IsShown}
 use Rattle.linear_dirs.specs.Broken.{IsBroken}
-use Rattle.linear_dirs.specs.Exchanges.{HasExchanged}
+use Rattle.linear_dirs.specs.Exchanges.{HasExchanged, IsCutFrom, uncounted}
 use Rattle.linear_dirs.specs.Shown.{holding_over}
 use Rattle.new_inodes.specs.Touched.{IsTouched}
 use Rattle.resource_groups.specs.Freeing.{AreFreed, KeepsRest, BreaksSome}
@@ -27,12 +27,15 @@ pub record TouchesAlone (v : Seen) (dir time : ℕ) (fates : FinMap nat_cmp Fate
   pub put : fates ≡ insert empty dir (Put (inode_lock dir) false bytes)
   pub touched : (h : Holding) → IsShown v dir h → IsTouched h (holding_over (seen_with v fates) h) time
 
--- over that draft the directory lacks the first record of the name
+-- Over that draft the directory lacks the first record of the name: it is cut from its area, and its dinode says what it said but for its
+-- counts of records and of links.
 pub record TakesName (v : Seen) (before : FinMap nat_cmp Fate) (dir : ℕ) (name : List ℕ) (fates : FinMap nat_cmp Fate) : Type 0 where
   pub bytes : List ℕ
   pub put : fates ≡ insert before dir (Put (inode_lock dir) false bytes)
   pub removed : (h : Holding) (r : Record) → IsShown (seen_with v before) dir h → record_named (records_of h) name ≡ Some r
       → HasExchanged h (holding_over (seen_with v fates) h) (r ∷ []) []
+  pub cut : (h : Holding) → IsShown (seen_with v before) dir h → IsCutFrom h (holding_over (seen_with v fates) h) name
+  pub dinode : (h : Holding) → IsShown (seen_with v before) dir h → uncounted (dinode_in (holding_over (seen_with v fates) h)) ≡ uncounted (dinode_in h)
 
 -- the time of the last change of its content and of its own is this
 abbrev pub HasTimes : Dinode → ℕ → Type 0

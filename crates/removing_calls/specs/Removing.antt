@@ -35,7 +35,7 @@ use Rattle.path_walks.specs.Holds.{Hold, AreHeld, EndsWith, IsAskedFor, IsFirstL
 use Rattle.path_walks.specs.Walks.{LeadsTo, IsAbsent, IsLacked, IsOnTheWay, IsPlaceOf, IsUnread}
 use Rattle.path_walks.specs.Walks as path
 use Rattle.path_walks.specs.declared.walk.Place.{Place}
-use Rattle.removing_calls.specs.Drafting.{HasTimes}
+use Rattle.removing_calls.specs.Drafting.{HasTimes, IsRemoval}
 use Rattle.removing_calls.specs.Groups.{GroupsAreHeld, IsFirstGroupLack, group_holds_of}
 use Rattle.removing_calls.specs.declared.aims.Aim.{Aim}
 use Rattle.removing_calls.specs.declared.aims.Aim.TheVariants as aim
@@ -85,6 +85,10 @@ abbrev pub holds_for : Image → Owners → Layout → Tree → Call → List Ho
 holds_for im o l t call = holds_in im o l (path_of call false) (wanted call)
     ++ (if is_ok (apply call t).reply then group_holds_of im o l (follow (flat_of im o) l.root (path_of call false)) else [])
 
+-- the path's last name
+abbrev pub IsLastOf : Path → List ℕ → Type 0
+IsLastOf path name = (front : Path) × (path ≡ front ++ name ∷ [])
+
 -- ---- as far as the view shows
 
 -- the path leads to this inode, and the call takes it away
@@ -97,15 +101,30 @@ pub record IsTakenAt (v : Seen) (call : Call) (a : ℕ) : Type 0 where
 abbrev pub AreAllOf : Seen → ℕ → List ℕ → Type 0
 AreAllOf v a blocks = (h : Holding) → IsShown v a h → (b : ℕ) → Contains blocks b ↔ Goes h b
 
--- The call is answered so: its path has no name; a name on it isn't there, or is asked of a file; the inode at its end isn't to go; or it went,
--- and the locks of the groups of its blocks are held.
-pub data IsAnswered (v : Seen) (call : Call) : Reply → Type 0 where
-  of_root : (r : Reply) → path_of call false ≡ [] → ((t : Tree) → (apply call t).reply ≡ r) → IsAnswered v call r
-  not_found : IsAbsent v (wanted call) (path_of call false) → IsAnswered v call reply.NotFound
-  not_dir : (a : ℕ) → IsOnTheWay v (wanted call) (path_of call false) a (λ h. is_directory_in h ≡ false) → IsAnswered v call reply.NotDir
-  refused : (a : ℕ) (r : Reply) → LeadsTo v (wanted call) (path_of call false) a → HasBlock v a → ((h : Holding) → IsShown v a h → IsAimOf call h (aim.Refused r))
-      → IsAnswered v call r
-  removed : (a : ℕ) (blocks : List ℕ) → IsTakenAt v call a → AreAllOf v a blocks → GroupsAreHeld v blocks → IsAnswered v call reply.Ok
+-- the call is refused so: its path has no name; a name on it isn't there, or is asked of a file; or the inode at its end isn't to go
+pub data IsRefused (v : Seen) (call : Call) : Reply → Type 0 where
+  of_root : (r : Reply) → path_of call false ≡ [] → ((t : Tree) → (apply call t).reply ≡ r) → IsRefused v call r
+  not_found : IsAbsent v (wanted call) (path_of call false) → IsRefused v call reply.NotFound
+  not_dir : (a : ℕ) → IsOnTheWay v (wanted call) (path_of call false) a (λ h. is_directory_in h ≡ false) → IsRefused v call reply.NotDir
+  at_end : (a : ℕ) (r : Reply) → LeadsTo v (wanted call) (path_of call false) a → HasBlock v a → ((h : Holding) → IsShown v a h → IsAimOf call h (aim.Refused r)) → IsRefused v call r
+
+-- The name went, and the inode with all its blocks, the locks of whose groups are held: this is the change of it, with this time.
+pub record IsRemovedBy {V : Type 0} (seen : V → Seen) (view : V) (call : Call) (time : ℕ) (change : Change) : Type 0 where
+  pub inode : ℕ
+  pub directory : ℕ
+  pub name : List ℕ
+  pub blocks : List ℕ
+  pub taken : IsTakenAt (seen view) call inode
+  pub above : LeadsTo (seen view) (wanted call) (parent_of (path_of call false)) directory
+  pub last : IsLastOf (path_of call false) name
+  pub all : AreAllOf (seen view) inode blocks
+  pub held : GroupsAreHeld (seen view) blocks
+  pub is : IsRemoval seen view directory name time blocks change
+
+-- the call is answered so
+pub data IsAnswered {V : Type 0} (seen : V → Seen) (view : V) (call : Call) (time : ℕ) : Reply → Change → Type 0 where
+  refused : (r : Reply) (change : Change) → is_ok r ≡ false → IsRefused (seen view) call r → IsAnswered seen view call time r change
+  removed : (change : Change) → IsRemovedBy seen view call time change → IsAnswered seen view call time reply.Ok change
 
 -- this lock isn't held so strongly: of the next inode on the path, or of the first group that has some of the blocks that go
 pub data IsLackedFor (v : Seen) (call : Call) (lock : LockName) : State → Type 0 where
@@ -124,12 +143,12 @@ pub data IsHashedFor (v : Seen) (call : Call) (b : ℕ) : Type 0 where
   on_path : IsOnTheWay v (wanted call) (path_of call false) b (λ h. is_hashed_in h ≡ true) → IsHashedFor v call b
   at_end : LeadsTo v (wanted call) (path_of call false) b → ((h : Holding) → IsShown v b h → is_hashed_in h ≡ true) → IsHashedFor v call b
 
-abbrev pub IsToldOf : Seen → Call → Found → Type 0
-IsToldOf v call (found.Refused r) = IsAnswered v call r
-IsToldOf v call (found.Removed change) = IsAnswered v call reply.Ok
-IsToldOf v call (found.NeedBlock m) = IsNeededFor v call m
-IsToldOf v call (found.Hashed b) = IsHashedFor v call b
-IsToldOf v call (found.NeedLock lock state) = IsLackedFor v call lock state
+abbrev pub IsToldOf : {V : Type 0} → (V → Seen) → V → Call → ℕ → Found → Type 0
+IsToldOf seen view call time (found.Refused r) = IsRefused (seen view) call r
+IsToldOf seen view call time (found.Removed change) = IsRemovedBy seen view call time change
+IsToldOf seen view call time (found.NeedBlock m) = IsNeededFor (seen view) call m
+IsToldOf seen view call time (found.Hashed b) = IsHashedFor (seen view) call b
+IsToldOf seen view call time (found.NeedLock lock state) = IsLackedFor (seen view) call lock state
 
 -- The block breaks this rule: on the path; or (2) a block of the inode that is to go, or the directory above it, is no data block of a group; or
 -- in a group that has some of the inode's blocks, the locks of all such groups being held.
@@ -177,7 +196,3 @@ IsRefusal f = ⊤
 abbrev pub IfRemoved : (Change → Type 0) → Found → Type 0
 IfRemoved P (found.Removed change) = P change
 IfRemoved P f = ⊤
-
--- the path's last name
-abbrev pub IsLastOf : Path → List ℕ → Type 0
-IsLastOf path name = (front : Path) × (path ≡ front ++ name ∷ [])

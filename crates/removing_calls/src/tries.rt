@@ -93,7 +93,7 @@ fn remove_at<V: View>(
     ensures stamped { (im : Image) (o : Owners) (l : Layout) (t : Tree) → IsOf (V.seen view.now) im o l t → IfOk result (IfRemoved (IsStamped im o l call.now time)) }
     ensures refusal { IfOk result IsRefusal }
     ensures sound { (im : Image) (o : Owners) (l : Layout) (t : Tree) → IsOf (V.seen view.now) im o l t → IsReachedIn (V.seen view.now) im o l call.now place.now → IfDamaged result (λ rule block. ⊥) }
-    ensures told { IfOk result (IsToldOf (V.seen view.now) call.now) }
+    ensures told { IfOk result (IsToldOf V.seen view.now call.now time) }
     ensures damaged { IfDamaged result (IsDamage (V.seen view.now) call.now) }
     ensures kept { IfDamaged result (IsOfView (V.seen view.now)) }
 {
@@ -137,7 +137,7 @@ fn find_at<V: View>(
     ensures done { IfOk result (IfRemoved (Does (V.seen view.now) call.now OkReply)) }
     ensures stamped { (im : Image) (o : Owners) (l : Layout) (t : Tree) → IsOf (V.seen view.now) im o l t → IfOk result (IfRemoved (IsStamped im o l call.now time)) }
     ensures refusal { IfOk result IsRefusal }
-    ensures told { IfOk result (IsToldOf (V.seen view.now) call.now) }
+    ensures told { IfOk result (IsToldOf V.seen view.now call.now time) }
     ensures sound { (im : Image) (o : Owners) (l : Layout) (t : Tree) → IsOf (V.seen view.now) im o l t → IsReachedIn (V.seen view.now) im o l call.now place.now → IfDamaged result (λ rule block. ⊥) }
     ensures damaged { IfDamaged result (IsDamage (V.seen view.now) call.now) }
     ensures kept { IfDamaged result (IsOfView (V.seen view.now)) }
@@ -156,7 +156,7 @@ fn find<V: View>(alloc: Global, view: &V, call: &Call, time: u64) -> Result<Foun
     ensures done { IfOk result (IfRemoved (Does (V.seen view.now) call.now OkReply)) }
     ensures stamped { (im : Image) (o : Owners) (l : Layout) (t : Tree) → IsOf (V.seen view.now) im o l t → IfOk result (IfRemoved (IsStamped im o l call.now time)) }
     ensures refusal { IfOk result IsRefusal }
-    ensures told { IfOk result (IsToldOf (V.seen view.now) call.now) }
+    ensures told { IfOk result (IsToldOf V.seen view.now call.now time) }
     ensures sound { (im : Image) (o : Owners) (l : Layout) (t : Tree) → IsOf (V.seen view.now) im o l t → IfDamaged result (λ rule block. ⊥) }
     ensures damaged { IfDamaged result (IsDamage (V.seen view.now) call.now) }
     ensures kept { IfDamaged result (IsOfView (V.seen view.now)) }
@@ -193,7 +193,7 @@ pub fn attempt<V: View>(
     ensures block { (im : Image) (o : Owners) (l : Layout) (t : Tree) → IsOf (V.seen view.now) im o l t → IfNeedBlock result (IsAskedFor (V.seen view.now) im o l (holds_for im o l t call.now)) }
     ensures stamped { (im : Image) (o : Owners) (l : Layout) (t : Tree) → IsOf (V.seen view.now) im o l t → IfDone result (λ reply change. is_ok reply ≡ true → IsStamped im o l call.now stamp.now.time change) }
     ensures space { IfNoSpace result (λ need free. ⊥) }
-    ensures answered { IfDone result (λ reply change. IsAnswered (V.seen view.now) call.now reply) }
+    ensures answered { IfDone result (IsAnswered V.seen view.now call.now stamp.now.time) }
     ensures lacked { IfNeedLock result (IsLackedFor (V.seen view.now) call.now) }
     ensures needed { IfNeedBlock result (IsNeededFor (V.seen view.now) call.now) }
     ensures hashed { IfNotBuilt result (IsHashedFor (V.seen view.now) call.now) }

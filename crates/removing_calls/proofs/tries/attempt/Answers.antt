@@ -3,7 +3,7 @@ use Rattle.file_tree.specs.declared.reply.Reply.TheVariants as reply
 use Rattle.image_changes.specs.Does.{Does}
 use Rattle.image_changes.proofs.Doing.{nothing_does}
 use Rattle.path_walks.specs.Answers.{IfDone}
-use Rattle.removing_calls.specs.Removing.{IsFound, IsRefusal, IfRemoved}
+use Rattle.removing_calls.specs.Removing.{IsAnswered, IsFound, IsRefusal, IsToldOf, IfRemoved, refused, removed}
 use Rattle.removing_calls.proofs.Trees.{no_change}
 use Rattle.removing_calls.proofs.tries.attempt.Goals.{in-Refused, in-Removed, in-NeedBlock, in-Hashed, in-NeedLock}
 use Rattle.removing_calls.proofs.tries.attempt.Goals as goal
@@ -20,4 +20,17 @@ returns-clause-done g c =
       | in-NeedBlock w ↦ subst (λ a. IfDone (Ok a) (Does v c.args.call.now)) (sym w.result-is) tt
       | in-Hashed w ↦ subst (λ a. IfDone (Ok a) (Does v c.args.call.now)) (sym w.result-is) tt
       | in-NeedLock w ↦ subst (λ a. IfDone (Ok a) (Does v c.args.call.now)) (sym w.result-is) tt
+    ]
+
+pub returns-clause-answered : goal.returns-clause-answered
+returns-clause-answered g c =
+    elim c.match-branch-2.branch [
+      | in-Refused w ↦ subst (λ a. IfDone (Ok a) (IsAnswered g.V.View.seen c.args.view.now c.args.call.now c.args.stamp.now.time)) (sym w.result-is)
+          (refused w.in-Refused.reply w.nothing.result (subst IsRefusal w.in-Refused.is c.in_ok-reply.ensures.refusal)
+          (subst (IsToldOf g.V.View.seen c.args.view.now c.args.call.now c.args.stamp.now.time) w.in-Refused.is c.in_ok-reply.ensures.told))
+      | in-Removed w ↦ subst (λ a. IfDone (Ok a) (IsAnswered g.V.View.seen c.args.view.now c.args.call.now c.args.stamp.now.time)) (sym w.result-is)
+          (removed w.in-Removed.change (subst (IsToldOf g.V.View.seen c.args.view.now c.args.call.now c.args.stamp.now.time) w.in-Removed.is c.in_ok-reply.ensures.told))
+      | in-NeedBlock w ↦ subst (λ a. IfDone (Ok a) (IsAnswered g.V.View.seen c.args.view.now c.args.call.now c.args.stamp.now.time)) (sym w.result-is) tt
+      | in-Hashed w ↦ subst (λ a. IfDone (Ok a) (IsAnswered g.V.View.seen c.args.view.now c.args.call.now c.args.stamp.now.time)) (sym w.result-is) tt
+      | in-NeedLock w ↦ subst (λ a. IfDone (Ok a) (IsAnswered g.V.View.seen c.args.view.now c.args.call.now c.args.stamp.now.time)) (sym w.result-is) tt
     ]

@@ -5,7 +5,7 @@ use Rattle.glock_names.proofs.StepLaws.{answer_at, needed_at}
 use Rattle.path_walks.proofs.Steps.{none_so}
 use Rattle.removing_calls.specs.Drafting.{IsWrongIn, IsRemoval}
 use Rattle.removing_calls.specs.Groups.{GroupsAreHeld, IsFirstGroupLack}
-use Rattle.removing_calls.specs.Removing.{IsAnswered, IsDamage, IsLackedFor, IsNeededFor, IsWrongBelow, above}
+use Rattle.removing_calls.specs.Removing.{IsDamage, IsLackedFor, IsNeededFor, IsWrongBelow, above}
 use Rattle.removing_calls.proofs.Faults.{told_on, tells_so}
 use Rattle.removing_calls.proofs.Placed.{above_there, above_linear, above_named, above_inside, below_damage, nothing_below, inode_needed, own_among, removal_damage, taken_ok, list_held, group_lacks, group_needed, nothing_wrong}
 use Rattle.removing_calls.proofs.Taking.{does, stamped}
@@ -115,8 +115,20 @@ returns-in-Some-clause-told g c =
 pub returns-in-Is-2-clause-told : goal.returns-in-Is-2-clause-told
 returns-in-Is-2-clause-told g c =
     let v = g.V.View.seen c.args.view.now in
-    IsAnswered.removed c.args.place.now.inode c.in-Is.blocks.items (record { leads = c.requires.seen.leads; there = c.requires.seen.there; aim = c.requires.aim })
-    (λ h shown. answer_at _ _ _ c.in-Is.is (c.in_ok-blocks.ensures.all h shown)) (subst (λ (xs : List ℕ). GroupsAreHeld v xs) c.deref.ensures.value c.in_default.ensures.none)
+    let is = subst (λ (xs : List ℕ). IsRemoval g.V.View.seen c.args.view.now c.args.place.now.above c.args.name.now c.args.time xs c.in-Is-2.change) c.deref-2.ensures.value
+    (answer_at _ _ (IsRemoval g.V.View.seen c.args.view.now c.args.place.now.above c.args.name.now c.args.time c.deref-2.result.now) c.in-Is-2.is c.in_ok-change.ensures.removal) in
+    record {
+      inode = c.args.place.now.inode;
+      directory = c.args.place.now.above;
+      name = c.args.name.now;
+      blocks = c.in-Is.blocks.items;
+      taken = record { leads = c.requires.seen.leads; there = c.requires.seen.there; aim = c.requires.aim };
+      above = c.requires.seen.above;
+      last = c.requires.last;
+      all = λ h shown. answer_at _ _ _ c.in-Is.is (c.in_ok-blocks.ensures.all h shown);
+      held = subst (λ (xs : List ℕ). GroupsAreHeld v xs) c.deref.ensures.value c.in_default.ensures.none;
+      is = is;
+    }
 
 pub returns-clause-told : goal.returns-clause-told
 returns-clause-told g c =
