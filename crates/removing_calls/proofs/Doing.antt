@@ -31,6 +31,7 @@ use Rattle.image_model.specs.Stands.{Layout}
 use Rattle.image_model.proofs.Held.{none_some, some_same}
 use Rattle.image_model.proofs.Members.{IsIn, contained, is_in}
 use Rattle.image_changes.specs.Does.{IsOf, Does}
+use Rattle.image_changes.specs.Drafted.{is_gone}
 use Rattle.image_changes.specs.Flats.{in_directory}
 use Rattle.image_changes.specs.Instances.{IsAt, IsChildless, among, records_at}
 use Rattle.image_changes.proofs.Drafting.{drafts_do}
@@ -59,7 +60,7 @@ in_header_or_not g b = elim (cases_lt b g.addr) [
 ]
 
 -- the block is of the header and bitmap of a group of these, or of none
-header_among : (gs : List Group) (b : ℕ) → ((g : Group) × IsIn g gs × IsHeaderOf g b) ⊎ ((g : Group) → IsIn g gs → IsHeaderOf g b → ⊥)
+pub header_among : (gs : List Group) (b : ℕ) → ((g : Group) × IsIn g gs × IsHeaderOf g b) ⊎ ((g : Group) → IsIn g gs → IsHeaderOf g b → ⊥)
 header_among [] b = inr (λ g at h. elim at [ ])
 header_among (k ∷ gs) b = elim (in_header_or_not k b) [
   | inl h ↦ inl (k, inl refl, h)
@@ -69,18 +70,30 @@ header_among (k ∷ gs) b = elim (in_header_or_not k b) [
   ]
 ]
 
-module _ {V : Type 0} (seen : V → Seen) (view : V) (p : ℕ) (name : List ℕ) (blocks : List ℕ) {time : ℕ} (change : Change) (is : IsRemoval seen view p name time blocks change)
-    (dir_held : (seen view).state_of (record { kind = 2; number = p }) ≡ Ex) (groups_held : GroupsAreHeld (seen view) blocks) where
+module _ {V : Type 0} (seen : V → Seen) (view : V) (p : ℕ) (name : List ℕ) (blocks : List ℕ) {time : ℕ} (change : Change) (is : IsRemoval seen view p name time blocks change) where
   -- what becomes of a block before is the directory's put, under its lock
-  second_held : (b : ℕ) (lock : LockName) (plain : Bool) (bytes : List ℕ) → get is.fates b ≡ Some (Put lock plain bytes) → (seen view).state_of lock ≡ Ex
-  second_held b lock plain bytes e = elim (cases_eq b p) [
-    | inl same ↦ ap (seen view).state_of (put_lock lock _ plain false bytes _ (sym e ∙ ap (get is.fates) same ∙ ap (λ (m : FinMap nat_cmp Fate). get m p) is.taken.takes.put ∙ put_at is.taken.first p _)) ∙ dir_held
+  pub second_lock : (b : ℕ) (lock : LockName) (plain : Bool) (bytes : List ℕ) → get is.fates b ≡ Some (Put lock plain bytes) → lock ≡ record { kind = 2; number = p }
+  second_lock b lock plain bytes e = elim (cases_eq b p) [
+    | inl same ↦ put_lock lock _ plain false bytes _ (sym e ∙ ap (get is.fates) same ∙ ap (λ (m : FinMap nat_cmp Fate). get m p) is.taken.takes.put ∙ put_at is.taken.first p _)
     | inr other ↦ absurd (none_some (sym (ap (λ (m : FinMap nat_cmp Fate). get m b) is.taken.takes.put ∙ put_apart is.taken.first p b _ other
         ∙ ap (λ (m : FinMap nat_cmp Fate). get m b) is.taken.touches.put ∙ put_apart empty p b _ other ∙ get-empty nat_cmp b) ∙ e))
   ]
     where
       put_lock : (x y : LockName) (c d : Bool) (m n : List ℕ) → Some (Put x c m) ≡ Some (Put y d n) → x ≡ y
       put_lock x y c d m n e = cc
+
+  -- and none was freed before
+  pub second_stays : (b : ℕ) → is_gone (get is.fates b) ≡ false
+  second_stays b = elim (cases_eq b p) [
+    | inl same ↦ ap is_gone (ap (get is.fates) same ∙ ap (λ (m : FinMap nat_cmp Fate). get m p) is.taken.takes.put ∙ put_at is.taken.first p _)
+    | inr other ↦ ap is_gone (ap (λ (m : FinMap nat_cmp Fate). get m b) is.taken.takes.put ∙ put_apart is.taken.first p b _ other
+        ∙ ap (λ (m : FinMap nat_cmp Fate). get m b) is.taken.touches.put ∙ put_apart empty p b _ other ∙ get-empty nat_cmp b)
+  ]
+
+module _ {V : Type 0} (seen : V → Seen) (view : V) (p : ℕ) (name : List ℕ) (blocks : List ℕ) {time : ℕ} (change : Change) (is : IsRemoval seen view p name time blocks change)
+    (dir_held : (seen view).state_of (record { kind = 2; number = p }) ≡ Ex) (groups_held : GroupsAreHeld (seen view) blocks) where
+  second_held : (b : ℕ) (lock : LockName) (plain : Bool) (bytes : List ℕ) → get is.fates b ≡ Some (Put lock plain bytes) → (seen view).state_of lock ≡ Ex
+  second_held b lock plain bytes e = ap (seen view).state_of (second_lock seen view p name blocks change is b lock plain bytes e) ∙ dir_held
 
   group_held : (g : Group) → HasGroup (seen view) g → HasSome g blocks → (seen view).state_of (group_lock g) ≡ Ex
   group_held g has some = exclusive ((seen view).state_of (group_lock g)) (groups_held g has some)

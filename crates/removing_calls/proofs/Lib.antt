@@ -16,3 +16,4 @@ pub mod Taken
 pub mod Placed
 pub mod Made
 pub mod Walked
+pub mod Under

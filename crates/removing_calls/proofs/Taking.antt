@@ -1,7 +1,8 @@
 -- A removal at the place to which the walk came, where the call takes the inode.
 use Rattle.std.proofs.Common.{◌≡◌, ◌↔◌, ℕ, false, List, ap, ◌∙◌, subst, sym, None}
 use Rattle.std.specs.Prelude.{Contains, unwrap_or}
-use Rattle.file_tree.specs.Apply.{remove_at}
+use Rattle.cluster_history.specs.Changes.{is_ok}
+use Rattle.file_tree.specs.Apply.{remove_at, Answer}
 use Rattle.file_tree.specs.Names.{parent_of}
 use Rattle.file_tree.specs.Tree.{Tree}
 use Rattle.file_tree.specs.declared.call.Call.{Call}
@@ -22,15 +23,18 @@ use Rattle.image_model.specs.Stands.{Layout}
 use Rattle.image_changes.specs.Does.{IsOf, Does, with_change}
 use Rattle.image_changes.specs.Instances.{IsAt, records_at}
 use Rattle.image_changes.proofs.Finishing.{finish_makes}
+use Rattle.path_walks.specs.Holds.{holds_in}
 use Rattle.path_walks.specs.Walks.{IsSeenAt}
 use Rattle.path_walks.specs.declared.walk.Place.{Place}
-use Rattle.path_walks.proofs.Images.{is_shown}
+use Rattle.path_walks.proofs.Images.{is_inode, is_shown}
 use Rattle.path_walks.proofs.Lists.{parent_of_next}
 use Rattle.removing_calls.specs.Drafting.{HasTimes, IsRemoval}
 use Rattle.removing_calls.specs.Groups.{GroupsAreHeld}
-use Rattle.removing_calls.specs.Removing.{IsRemoving, IsLastOf, IsAimOf, IsPlaceIn, Goes, IsStamped}
+use Rattle.removing_calls.specs.Removing.{IsRemoving, IsLastOf, IsAimOf, IsPlaceIn, Goes, IsStamped, IsUnder, holds_for}
 use Rattle.removing_calls.specs.declared.aims.Aim.TheVariants as aim
 use Rattle.removing_calls.proofs.Above.{above_names, inode_inside, record_of_child}
+use Rattle.removing_calls.proofs.Found.{taken_list}
+use Rattle.removing_calls.proofs.Under.{directory_listed, inode_listed, is_under}
 use Rattle.removing_calls.proofs.Imaged.{parent_put}
 use Rattle.removing_calls.proofs.Doing.{IsRemovedIn, removal_does}
 use Rattle.removing_calls.proofs.Trees.{aim_takes, changes}
@@ -79,3 +83,13 @@ module _ {V : Type 0} (seen : V → Seen) (view : V) (c : Call) (removing : IsRe
       let image = (finish_makes is.freed.fates change is.freed.finished).image im in
       let bytes : (with_change im change).at p.above ≡ is.taken.takes.bytes = ap (λ (i : Image). i.at p.above) image ∙ ap (λ f. unwrap_or (block_with f None) (im.at p.above)) put in
       (p.above, (places im o l t of).above, subst (λ b. HasTimes (dinode_of b) time) (sym bytes) is.taken.times)
+
+  -- the locks that it touches are of the call's list
+  pub under : ((im : Image) (o : Owners) (l : Layout) (t : Tree) → IsOf (seen view) im o l t → IsPlaceIn im o l c p)
+      → (im : Image) (o : Owners) (l : Layout) (t : Tree) → IsOf (seen view) im o l t → IsUnder o (holds_for im o l t c) change
+  under places im o l t of =
+      let r = in_image places im o l t of in
+      let at = (places im o l t of).at in
+      subst (λ list. IsUnder o list change) (sym (taken_list im o l t c p.inode (ap (λ (x : Answer). is_ok x.reply) r.applies) at))
+      (is_under seen view im o l t of p.above name p.inode (is_inode (seen view) im o l t of (path_of c false) p.inode at) r.plain blocks r.goes change is (holds_in im o l (path_of c false) (wanted c))
+      (directory_listed im o l c removing name last p.above r.at) (inode_listed im o l c removing name last p.inode at))

@@ -17,7 +17,7 @@ use Rattle.removing_calls.specs.Removing.{IsRemoving, IsLastOf}
 use Rattle.removing_calls.proofs.Doing.{exclusive}
 
 -- the wants of such a call: the ancestors, the directory above, and the inode
-abbrev wants_of : ℕ → List Want
+abbrev pub wants_of : ℕ → List Want
 wants_of n = way_to false n Ex ++ want false (n + 1) Ex ∷ []
 
 old_name : (path front : Path) (name : List ℕ) → path ≡ front ++ name ∷ [] → at_old_name false path ≡ wants_of (length front)

@@ -1,5 +1,5 @@
 -- The calls that remove a name: `unlink` of a file, and `rmdir` of a directory without names.
-use Rattle.std.specs.Prelude.{ℕ, ◌≡◌, ◌≢◌, ◌⊎◌, ◌↔◌, ⊤, Contains, true, false, if◌then◌else◌, List, [], ◌∷◌, ◌++◌}
+use Rattle.std.specs.Prelude.{Some, ℕ, ◌≡◌, ◌≢◌, ◌⊎◌, ◌↔◌, ⊤, Contains, true, false, if◌then◌else◌, List, [], ◌∷◌, ◌++◌}
 use Rattle.cluster_history.specs.Changes.{is_ok}
 use Rattle.file_tree.specs.Apply.{apply}
 use Rattle.file_tree.specs.Names.{parent_of}
@@ -29,9 +29,10 @@ use Rattle.image_model.specs.Flat.{Path, follow}
 use Rattle.image_model.specs.Image.{Image}
 use Rattle.image_model.specs.Owners.{Owners}
 use Rattle.image_model.specs.Stands.{Layout, flat_of}
-use Rattle.image_changes.specs.Does.{with_change}
+use Rattle.image_changes.specs.Changes.{inode_of}
+use Rattle.image_changes.specs.Does.{frees, with_change}
 use Rattle.image_changes.specs.Instances.{IsAt}
-use Rattle.path_walks.specs.Holds.{Hold, AreHeld, EndsWith, IsAskedFor, IsFirstLack, holds_in}
+use Rattle.path_walks.specs.Holds.{Hold, AreHeld, EndsWith, IsAskedFor, IsFirstLack, hold_of, holds_in}
 use Rattle.path_walks.specs.Walks.{LeadsTo, IsAbsent, IsLacked, IsOnTheWay, IsPlaceOf, IsUnread}
 use Rattle.path_walks.specs.Walks as path
 use Rattle.path_walks.specs.declared.walk.Place.{Place}
@@ -182,6 +183,11 @@ IsFoundBy v im o l answer list (found.Hashed b) = ⊤
 
 abbrev pub IsFound : Seen → Image → Owners → Layout → Tree → Call → Found → Type 0
 IsFound v im o l t call f = IsFoundBy v im o l (apply call t).reply (holds_for im o l t call) f
+
+-- each lock with which the change writes a block, and that of the inode of each block that it frees, is of the list, exclusive
+pub record IsUnder (o : Owners) (list : List Hold) (change : Change) : Type 0 where
+  pub written : (lock : LockName) → Contains change.locks.items lock → Contains list (record { lock = lock; state = Ex })
+  pub freed : (b a : ℕ) → frees change b ≡ true → inode_of b (o b) ≡ Some a → Contains list (hold_of a Ex)
 
 -- in the image with the change the dinode of the directory above the name has this time
 abbrev pub IsStamped : Image → Owners → Layout → Call → ℕ → Change → Type 0

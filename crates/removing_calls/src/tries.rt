@@ -17,7 +17,7 @@ ghost use Rattle.image_changes.specs.Does.{IsOf, Does};
 ghost use Rattle.path_walks.specs.Answers.{IfDone, IfNeedLock, IfNeedBlock, IfNoSpace, IfNotBuilt};
 ghost use Rattle.path_walks.specs.Holds.{AreHeld, IsAskedFor, IsFirstLack};
 ghost use Rattle.path_walks.specs.Walks.{IsSeenAt};
-ghost use Rattle.removing_calls.specs.Removing.{IfRemoved, IsAimOf, IsAnswered, IsDamage, IsFound, IsHashedFor, IsLackedFor, IsLastOf, IsNeededFor, IsPlaceIn, IsReachedIn, IsRefusal, IsRemoving, IsStamped, IsToldOf, holds_for};
+ghost use Rattle.removing_calls.specs.Removing.{IfRemoved, IsAimOf, IsAnswered, IsDamage, IsFound, IsHashedFor, IsLackedFor, IsLastOf, IsNeededFor, IsPlaceIn, IsReachedIn, IsRefusal, IsRemoving, IsStamped, IsToldOf, IsUnder, holds_for};
 ghost use Rattle.removing_calls.specs.declared.aims.Aim.TheVariants as aim;
 
 use crate::aims::{Aim, aim_at};
@@ -91,6 +91,7 @@ fn remove_at<V: View>(
         → IfOk result (IsFound (V.seen view.now) im o l t call.now) }
     ensures done { IfOk result (IfRemoved (Does (V.seen view.now) call.now OkReply)) }
     ensures stamped { (im : Image) (o : Owners) (l : Layout) (t : Tree) → IsOf (V.seen view.now) im o l t → IfOk result (IfRemoved (IsStamped im o l call.now time)) }
+    ensures under { (im : Image) (o : Owners) (l : Layout) (t : Tree) → IsOf (V.seen view.now) im o l t → IfOk result (IfRemoved (IsUnder o (holds_for im o l t call.now))) }
     ensures refusal { IfOk result IsRefusal }
     ensures sound { (im : Image) (o : Owners) (l : Layout) (t : Tree) → IsOf (V.seen view.now) im o l t → IsReachedIn (V.seen view.now) im o l call.now place.now → IfDamaged result (λ rule block. ⊥) }
     ensures told { IfOk result (IsToldOf V.seen view.now call.now time) }
@@ -136,6 +137,7 @@ fn find_at<V: View>(
         → IfOk result (IsFound (V.seen view.now) im o l t call.now) }
     ensures done { IfOk result (IfRemoved (Does (V.seen view.now) call.now OkReply)) }
     ensures stamped { (im : Image) (o : Owners) (l : Layout) (t : Tree) → IsOf (V.seen view.now) im o l t → IfOk result (IfRemoved (IsStamped im o l call.now time)) }
+    ensures under { (im : Image) (o : Owners) (l : Layout) (t : Tree) → IsOf (V.seen view.now) im o l t → IfOk result (IfRemoved (IsUnder o (holds_for im o l t call.now))) }
     ensures refusal { IfOk result IsRefusal }
     ensures told { IfOk result (IsToldOf V.seen view.now call.now time) }
     ensures sound { (im : Image) (o : Owners) (l : Layout) (t : Tree) → IsOf (V.seen view.now) im o l t → IsReachedIn (V.seen view.now) im o l call.now place.now → IfDamaged result (λ rule block. ⊥) }
@@ -155,6 +157,7 @@ fn find<V: View>(alloc: Global, view: &V, call: &Call, time: u64) -> Result<Foun
     ensures found { (im : Image) (o : Owners) (l : Layout) (t : Tree) → IsOf (V.seen view.now) im o l t → IfOk result (IsFound (V.seen view.now) im o l t call.now) }
     ensures done { IfOk result (IfRemoved (Does (V.seen view.now) call.now OkReply)) }
     ensures stamped { (im : Image) (o : Owners) (l : Layout) (t : Tree) → IsOf (V.seen view.now) im o l t → IfOk result (IfRemoved (IsStamped im o l call.now time)) }
+    ensures under { (im : Image) (o : Owners) (l : Layout) (t : Tree) → IsOf (V.seen view.now) im o l t → IfOk result (IfRemoved (IsUnder o (holds_for im o l t call.now))) }
     ensures refusal { IfOk result IsRefusal }
     ensures told { IfOk result (IsToldOf V.seen view.now call.now time) }
     ensures sound { (im : Image) (o : Owners) (l : Layout) (t : Tree) → IsOf (V.seen view.now) im o l t → IfDamaged result (λ rule block. ⊥) }
@@ -192,6 +195,7 @@ pub fn attempt<V: View>(
     ensures lock { (im : Image) (o : Owners) (l : Layout) (t : Tree) → IsOf (V.seen view.now) im o l t → IfNeedLock result (IsFirstLack (V.seen view.now) (holds_for im o l t call.now)) }
     ensures block { (im : Image) (o : Owners) (l : Layout) (t : Tree) → IsOf (V.seen view.now) im o l t → IfNeedBlock result (IsAskedFor (V.seen view.now) im o l (holds_for im o l t call.now)) }
     ensures stamped { (im : Image) (o : Owners) (l : Layout) (t : Tree) → IsOf (V.seen view.now) im o l t → IfDone result (λ reply change. is_ok reply ≡ true → IsStamped im o l call.now stamp.now.time change) }
+    ensures under { (im : Image) (o : Owners) (l : Layout) (t : Tree) → IsOf (V.seen view.now) im o l t → IfDone result (λ reply change. is_ok reply ≡ true → IsUnder o (holds_for im o l t call.now) change) }
     ensures space { IfNoSpace result (λ need free. ⊥) }
     ensures answered { IfDone result (IsAnswered V.seen view.now call.now stamp.now.time) }
     ensures lacked { IfNeedLock result (IsLackedFor (V.seen view.now) call.now) }

@@ -8,7 +8,7 @@ use Rattle.removing_calls.specs.Groups.{GroupsAreHeld, IsFirstGroupLack}
 use Rattle.removing_calls.specs.Removing.{IsDamage, IsLackedFor, IsNeededFor, IsWrongBelow, above}
 use Rattle.removing_calls.proofs.Faults.{told_on, tells_so}
 use Rattle.removing_calls.proofs.Placed.{above_there, above_linear, above_named, above_inside, below_damage, nothing_below, inode_needed, own_among, removal_damage, taken_ok, list_held, group_lacks, group_needed, nothing_wrong}
-use Rattle.removing_calls.proofs.Taking.{does, stamped}
+use Rattle.removing_calls.proofs.Taking.{does, stamped, under}
 use Rattle.removing_calls.proofs.tries.remove_at.Goals as goal
 
 pub returns-then-is_none-clause-sound : goal.returns-then-is_none-clause-sound
@@ -146,4 +146,13 @@ returns-in-Is-2-clause-stamped g c =
     let is = subst (λ (xs : List ℕ). IsRemoval g.V.View.seen c.args.view.now c.args.place.now.above c.args.name.now c.args.time xs c.in-Is-2.change) c.deref-2.ensures.value
     (answer_at _ _ (IsRemoval g.V.View.seen c.args.view.now c.args.place.now.above c.args.name.now c.args.time c.deref-2.result.now) c.in-Is-2.is c.in_ok-change.ensures.removal) in
     stamped g.V.View.seen c.args.view.now c.args.call.now c.requires.removing c.args.place.now c.args.name.now c.requires.last c.requires.seen c.in-Is.blocks.items groups
+    (λ h shown. answer_at _ _ _ c.in-Is.is (c.in_ok-blocks.ensures.all h shown)) c.requires.aim c.in-Is-2.change is c.requires.places
+
+pub returns-in-Is-2-clause-under : goal.returns-in-Is-2-clause-under
+returns-in-Is-2-clause-under g c =
+    let v = g.V.View.seen c.args.view.now in
+    let groups = subst (λ (xs : List ℕ). GroupsAreHeld v xs) c.deref.ensures.value c.in_default.ensures.none in
+    let is = subst (λ (xs : List ℕ). IsRemoval g.V.View.seen c.args.view.now c.args.place.now.above c.args.name.now c.args.time xs c.in-Is-2.change) c.deref-2.ensures.value
+    (answer_at _ _ (IsRemoval g.V.View.seen c.args.view.now c.args.place.now.above c.args.name.now c.args.time c.deref-2.result.now) c.in-Is-2.is c.in_ok-change.ensures.removal) in
+    under g.V.View.seen c.args.view.now c.args.call.now c.requires.removing c.args.place.now c.args.name.now c.requires.last c.requires.seen c.in-Is.blocks.items groups
     (λ h shown. answer_at _ _ _ c.in-Is.is (c.in_ok-blocks.ensures.all h shown)) c.requires.aim c.in-Is-2.change is c.requires.places
