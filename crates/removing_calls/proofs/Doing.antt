@@ -82,6 +82,13 @@ module _ {V : Type 0} (seen : V → Seen) (view : V) (p : ℕ) (name : List ℕ)
       put_lock : (x y : LockName) (c d : Bool) (m n : List ℕ) → Some (Put x c m) ≡ Some (Put y d n) → x ≡ y
       put_lock x y c d m n e = cc
 
+  pub second_place : (b : ℕ) (lock : LockName) (plain : Bool) (bytes : List ℕ) → get is.fates b ≡ Some (Put lock plain bytes) → b ≡ p
+  second_place b lock plain bytes e = elim (cases_eq b p) [
+    | inl same ↦ same
+    | inr other ↦ absurd (none_some (sym (ap (λ (m : FinMap nat_cmp Fate). get m b) is.taken.takes.put ∙ put_apart is.taken.first p b _ other
+        ∙ ap (λ (m : FinMap nat_cmp Fate). get m b) is.taken.touches.put ∙ put_apart empty p b _ other ∙ get-empty nat_cmp b) ∙ e))
+  ]
+
   -- and none was freed before
   pub second_stays : (b : ℕ) → is_gone (get is.fates b) ≡ false
   second_stays b = elim (cases_eq b p) [

@@ -11,7 +11,7 @@ use Rattle.drafts.specs.declared.change.Change.{Change}
 use Rattle.drafts.specs.declared.fate.Fate.TheVariants.{Put, Freed}
 use Rattle.gfs2_layout.specs.Inode.{is_hashed_in}
 use Rattle.gfs2_layout.specs.declared.rindex.Rindex.{Rindex}
-use Rattle.glock_names.specs.Views.{Seen, HasGroup}
+use Rattle.glock_names.specs.Views.{Seen, HasGroup, end_of}
 use Rattle.glock_names.specs.declared.LockName.{LockName}
 use Rattle.glock_names.specs.declared.State.TheVariants.{Ex}
 use Rattle.glock_names.specs.declared.views.Group.{Group}
@@ -19,7 +19,9 @@ use Rattle.call_locks.specs.Wants.{want, shared_above, way_to, wanted}
 use Rattle.call_locks.specs.WantLaws.{path_of}
 use Rattle.call_locks.specs.declared.want.Want.{Want}
 use Rattle.resource_groups.specs.Freeing.{HasSome}
+use Rattle.resource_groups.specs.Putting.{HasDataBlock}
 use Rattle.resource_groups.specs.Shown.{IsHeaderOf, group_lock}
+use Rattle.resource_groups.proofs.Fits.{fit_of}
 use Rattle.image_model.specs.Flat.{Path, Flat, follow}
 use Rattle.image_model.specs.Image.{Image}
 use Rattle.image_model.specs.Owners.{Owners, is_dinode, holding}
@@ -37,8 +39,8 @@ use Rattle.draft_changes.proofs.Views.{groups_are_listed}
 use Rattle.path_walks.specs.Holds.{Hold, hold_of, hold_for, holds_on, holds_in}
 use Rattle.removing_calls.specs.Drafting.{IsRemoval}
 use Rattle.removing_calls.specs.Groups.{has_some, hold_of_group, group_holds}
-use Rattle.removing_calls.specs.Removing.{IsRemoving, IsLastOf, IsUnder, Goes}
-use Rattle.removing_calls.proofs.Doing.{header_among, second_lock, second_stays}
+use Rattle.removing_calls.specs.Removing.{IsRemoving, IsLastOf, IsUnder, Goes, WritesInside}
+use Rattle.removing_calls.proofs.Doing.{header_among, second_lock, second_place, second_stays}
 use Rattle.removing_calls.proofs.Found.{goes_its, has_so, so_has}
 use Rattle.removing_calls.proofs.Listed.{placed_in}
 use Rattle.removing_calls.proofs.Wanted.{wants_are, wants_of}
@@ -80,6 +82,11 @@ there_at : {X : Type 0} (xs : List X) (i : ℕ) → i < length xs → (x : X) ×
 there_at [] i low = absurd (omega (arith, low))
 there_at (y ∷ ys) zero low = (y, refl)
 there_at (y ∷ ys) (suc i) low = there_at ys i (omega (arith, low))
+
+place_low : {X : Type 0} (xs : List X) (i : ℕ) (x : X) → slice_get xs i ≡ Some x → i < length xs
+place_low [] i x e = cc
+place_low (y ∷ ys) zero x e = omega arith
+place_low (y ∷ ys) (suc i) x e = omega (arith, place_low ys i x e)
 
 put_lock : (x y : LockName) (c d : Bool) (m n : List ℕ) → Some (Put x c m) ≡ Some (Put y d n) → x ≡ y
 put_lock x y c d m n e = cc
@@ -154,3 +161,31 @@ module _ {V : Type 0} (seen : V → Seen) (view : V) (im : Image) (o : Owners) (
           let x = hold_of_group g.0.address in
           let there : IsIn x more = subst (IsIn x) (sym place.split) (in_right x place.front (x ∷ place.back) (inl refl)) in
           subst (λ k. IsIn (record { lock = k; state = Ex }) (list ++ more)) (sym g.3) (in_right x list more there)
+
+-- ---- what is written lies in the view's groups
+
+module _ {V : Type 0} (seen : V → Seen) (view : V) (p : ℕ) (name : List ℕ) (blocks : List ℕ) {time : ℕ} (change : Change) (is : IsRemoval seen view p name time blocks change) (inside : HasDataBlock (seen view) p) where
+  put_inside : (b : ℕ) (lock : LockName) (content : Bool) (bytes : List ℕ) → get is.freed.fates b ≡ Some (Put lock content bytes) → (g : Group) × HasGroup (seen view) g × (b < end_of g)
+  put_inside b lock content bytes e = elim (header_among (seen view).groups b) [
+    | inl h ↦
+        let has : HasGroup (seen view) h.0 = contained h.0 (seen view).groups h.1 in
+        let fit = fit_of (seen view) h.0 is.shows has in
+        (h.0, has, omega (arith, h.2.high, fit.first))
+    | inr none ↦ elim (cases_Bool (among blocks b)) [
+      | inl freed ↦ absurd (differ (some_same (sym e ∙ is.freed.frees.freed b (contained b blocks (among_in blocks b freed)))))
+      | inr other ↦
+          let before = sym (is.freed.rest.others b (λ c. true≢false (sym (in_among blocks b (is_in b blocks c)) ∙ other)) (λ g has some head. none g (is_in g (seen view).groups has) head)) ∙ e in
+          let here : b ≡ p = second_place seen view p name blocks change is b lock content bytes before in
+          (inside.0, inside.1, subst (λ x. x < end_of inside.0) (sym here) inside.2.high)
+    ]
+  ]
+    where
+      differ : Put lock content bytes ≡ Freed → ⊥
+      differ e = cc
+
+  pub writes_inside : WritesInside (seen view) change
+  writes_inside i w at =
+      let d = finish_makes is.freed.fates change is.freed.finished in
+      let lock = there_at change.locks.items i (omega (arith, d.form.locks, place_low change.blocks.items i w at)) in
+      let put = d.told i w lock.0 at lock.1 in
+      (is.freed.whole w.block lock.0 w.plain w.bytes put, put_inside w.block lock.0 w.plain w.bytes put)

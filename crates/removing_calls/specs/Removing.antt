@@ -1,5 +1,5 @@
 -- The calls that remove a name: `unlink` of a file, and `rmdir` of a directory without names.
-use Rattle.std.specs.Prelude.{Some, ℕ, ◌≡◌, ◌≢◌, ◌⊎◌, ◌↔◌, ⊤, Contains, true, false, if◌then◌else◌, List, [], ◌∷◌, ◌++◌}
+use Rattle.std.specs.Prelude.{Some, ℕ, ◌≡◌, ◌≢◌, ◌⊎◌, ◌↔◌, ⊤, Contains, true, false, if◌then◌else◌, List, [], ◌∷◌, ◌++◌, ◌<◌, length, slice_get}
 use Rattle.cluster_history.specs.Changes.{is_ok}
 use Rattle.file_tree.specs.Apply.{apply}
 use Rattle.file_tree.specs.Names.{parent_of}
@@ -11,11 +11,12 @@ use Rattle.file_tree.specs.declared.reply.Reply.TheVariants as reply
 use Rattle.gfs2_layout.specs.Holding.{Holding}
 use Rattle.gfs2_layout.specs.Inode.{dinode_in, is_directory_in, is_hashed_in}
 use Rattle.gfs2_layout.specs.Structures.{dinode_of}
-use Rattle.glock_names.specs.Views.{Seen, HasBlock}
+use Rattle.glock_names.specs.Views.{Seen, HasBlock, HasGroup, end_of}
 use Rattle.glock_names.specs.declared.LockName.{LockName}
 use Rattle.glock_names.specs.declared.State.{State}
 use Rattle.glock_names.specs.declared.State.TheVariants.{Ex}
 use Rattle.glock_names.specs.declared.steps.Missing.{Missing}
+use Rattle.glock_names.specs.declared.views.Group.{Group}
 use Rattle.call_locks.specs.Wants.{wanted}
 use Rattle.call_locks.specs.WantLaws.{path_of}
 use Rattle.dinode_tree.specs.Below.{AnyIndex, IsBelow}
@@ -25,6 +26,7 @@ use Rattle.dinode_tree.specs.Broken as inode
 use Rattle.resource_groups.specs.Freeing as freeing
 use Rattle.resource_groups.specs.Putting.{HasDataBlock}
 use Rattle.drafts.specs.declared.change.Change.{Change}
+use Rattle.drafts.specs.declared.change.Written.{Written}
 use Rattle.image_model.specs.Flat.{Path, follow}
 use Rattle.image_model.specs.Image.{Image}
 use Rattle.image_model.specs.Owners.{Owners}
@@ -117,10 +119,15 @@ pub record IsRemovedBy {V : Type 0} (seen : V → Seen) (view : V) (call : Call)
   pub blocks : List ℕ
   pub taken : IsTakenAt (seen view) call inode
   pub above : LeadsTo (seen view) (wanted call) (parent_of (path_of call false)) directory
+  pub inside : HasDataBlock (seen view) directory
   pub last : IsLastOf (path_of call false) name
   pub all : AreAllOf (seen view) inode blocks
   pub held : GroupsAreHeld (seen view) blocks
   pub is : IsRemoval seen view directory name time blocks change
+
+-- each block that the change writes is whole, and lies before the end of one of the view's groups
+abbrev pub WritesInside : Seen → Change → Type 0
+WritesInside v change = (i : ℕ) (w : Written) → slice_get change.blocks.items i ≡ Some w → (length w.bytes ≡ v.size) × ((g : Group) × HasGroup v g × (w.block < end_of g))
 
 -- the call is answered so
 pub data IsAnswered {V : Type 0} (seen : V → Seen) (view : V) (call : Call) (time : ℕ) : Reply → Change → Type 0 where

@@ -2,12 +2,13 @@ use Rattle.std.proofs.Common.{ℕ, not, List, ap, ◌∙◌, subst}
 use Rattle.glock_names.specs.Steps.{TellsOf}
 use Rattle.resource_groups.specs.Freeing as freeing
 use Rattle.glock_names.proofs.StepLaws.{answer_at, needed_at}
-use Rattle.path_walks.proofs.Steps.{none_so}
+use Rattle.path_walks.proofs.Steps.{inside_so, none_so}
 use Rattle.removing_calls.specs.Drafting.{IsWrongIn, IsRemoval}
 use Rattle.removing_calls.specs.Groups.{GroupsAreHeld, IsFirstGroupLack}
 use Rattle.removing_calls.specs.Removing.{IsDamage, IsLackedFor, IsNeededFor, IsWrongBelow, above}
 use Rattle.removing_calls.proofs.Faults.{told_on, tells_so}
 use Rattle.removing_calls.proofs.Placed.{above_there, above_linear, above_named, above_inside, below_damage, nothing_below, inode_needed, own_among, removal_damage, taken_ok, list_held, group_lacks, group_needed, nothing_wrong}
+use Rattle.removing_calls.proofs.Under.{writes_inside}
 use Rattle.removing_calls.proofs.Taking.{does, stamped, under}
 use Rattle.removing_calls.proofs.tries.remove_at.Goals as goal
 
@@ -124,6 +125,7 @@ returns-in-Is-2-clause-told g c =
       blocks = c.in-Is.blocks.items;
       taken = record { leads = c.requires.seen.leads; there = c.requires.seen.there; aim = c.requires.aim };
       above = c.requires.seen.above;
+      inside = inside_so v c.args.place.now.above c.group_of.result (c.is_none.ensures ∙ ap not c.if-is_none.false) c.group_of.ensures.group c.group_of.ensures.own;
       last = c.requires.last;
       all = λ h shown. answer_at _ _ _ c.in-Is.is (c.in_ok-blocks.ensures.all h shown);
       held = subst (λ (xs : List ℕ). GroupsAreHeld v xs) c.deref.ensures.value c.in_default.ensures.none;
@@ -156,3 +158,11 @@ returns-in-Is-2-clause-under g c =
     (answer_at _ _ (IsRemoval g.V.View.seen c.args.view.now c.args.place.now.above c.args.name.now c.args.time c.deref-2.result.now) c.in-Is-2.is c.in_ok-change.ensures.removal) in
     under g.V.View.seen c.args.view.now c.args.call.now c.requires.removing c.args.place.now c.args.name.now c.requires.last c.requires.seen c.in-Is.blocks.items groups
     (λ h shown. answer_at _ _ _ c.in-Is.is (c.in_ok-blocks.ensures.all h shown)) c.requires.aim c.in-Is-2.change is c.requires.places
+
+pub returns-in-Is-2-clause-inside : goal.returns-in-Is-2-clause-inside
+returns-in-Is-2-clause-inside g c =
+    let v = g.V.View.seen c.args.view.now in
+    let is = subst (λ (xs : List ℕ). IsRemoval g.V.View.seen c.args.view.now c.args.place.now.above c.args.name.now c.args.time xs c.in-Is-2.change) c.deref-2.ensures.value
+    (answer_at _ _ (IsRemoval g.V.View.seen c.args.view.now c.args.place.now.above c.args.name.now c.args.time c.deref-2.result.now) c.in-Is-2.is c.in_ok-change.ensures.removal) in
+    writes_inside g.V.View.seen c.args.view.now c.args.place.now.above c.args.name.now c.in-Is.blocks.items c.in-Is-2.change is
+    (inside_so v c.args.place.now.above c.group_of.result (c.is_none.ensures ∙ ap not c.if-is_none.false) c.group_of.ensures.group c.group_of.ensures.own)
