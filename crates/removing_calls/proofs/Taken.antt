@@ -137,19 +137,19 @@ module _ {V : Type 0} (seen : V → Seen) (old : Drafted V) (new : old.fates ≡
       name_taken there linear stuffed last name after then removed same cut =
           let seen_last : seen_in seen last ≡ seen_with (seen old.view) last.fates = ap (λ x. seen_with (seen x) last.fates) (ap (λ (d : Drafted V). d.view) then ∙ mid_view) in
           record {
-        first = mid.fates;
-        touches = touches;
-        takes = record {
-          bytes = after;
-          put = ap (λ (d : Drafted V). d.fates) then;
-          removed = λ h r shown named. subst (λ w. HasExchanged h (holding_over w h) (r ∷ []) []) seen_last
-              (removed h r (subst (λ w. IsShown w dir h) (sym seen_mid) shown) named);
-          cut = λ h shown. subst (λ w. IsCutFrom h (holding_over w h) name) seen_last (cut h (subst (λ w. IsShown w dir h) (sym seen_mid) shown));
-          dinode = λ h shown. subst (λ w. uncounted (dinode_in (holding_over w h)) ≡ uncounted (dinode_in h)) seen_last (same h (subst (λ w. IsShown w dir h) (sym seen_mid) shown));
-        };
-        times = has_times there linear stuffed last after
-            (ap (λ f. block_with f ((seen last.view).block_at dir)) (ap (λ (d : Drafted V). get d.fates dir) then ∙ put_at mid.fates dir (Put (inode_lock dir) false after))) same;
-      }
+            first = mid.fates;
+            touches = touches;
+            takes = record {
+              bytes = after;
+              put = ap (λ (d : Drafted V). d.fates) then;
+              removed = λ h r shown named. subst (λ w. HasExchanged h (holding_over w h) (r ∷ []) []) seen_last
+                  (removed h r (subst (λ w. IsShown w dir h) (sym seen_mid) shown) named);
+              cut = λ h shown. subst (λ w. IsCutFrom h (holding_over w h) name) seen_last (cut h (subst (λ w. IsShown w dir h) (sym seen_mid) shown));
+              dinode = λ h shown. subst (λ w. uncounted (dinode_in (holding_over w h)) ≡ uncounted (dinode_in h)) seen_last (same h (subst (λ w. IsShown w dir h) (sym seen_mid) shown));
+            };
+            times = has_times there linear stuffed last after
+                (ap (λ f. block_with f ((seen last.view).block_at dir)) (ap (λ (d : Drafted V). get d.fates dir) then ∙ put_at mid.fates dir (Put (inode_lock dir) false after))) same;
+          }
 
 -- ---- and then blocks are freed
 

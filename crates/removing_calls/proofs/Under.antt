@@ -29,8 +29,7 @@ use Rattle.image_model.specs.Stands.{Layout, flat_of}
 use Rattle.image_model.proofs.Counts.{at_in}
 use Rattle.image_model.proofs.Held.{some_same}
 use Rattle.image_model.proofs.Members.{IsIn, contained, is_in, in_left, in_right, in_flat_map}
-use Rattle.image_changes.specs.Changes.{inode_of}
-use Rattle.image_changes.specs.Does.{IsOf, frees}
+use Rattle.image_changes.specs.Does.{IsOf}
 use Rattle.image_changes.specs.Drafted.{IsOfDraft, is_freed, is_gone}
 use Rattle.image_changes.specs.Instances.{IsAt, among}
 use Rattle.image_changes.proofs.Finishing.{finish_makes}
@@ -43,7 +42,7 @@ use Rattle.removing_calls.specs.Removing.{IsRemoving, IsLastOf, IsUnder, Goes, W
 use Rattle.removing_calls.proofs.Doing.{header_among, second_lock, second_place, second_stays}
 use Rattle.removing_calls.proofs.Found.{goes_its, has_so, so_has}
 use Rattle.removing_calls.proofs.Listed.{placed_in}
-use Rattle.removing_calls.proofs.Wanted.{wants_are, wants_of}
+use Rattle.removing_calls.proofs.Wanted.{wants_are}
 
 -- ---- the path's locks
 
