@@ -1,0 +1,133 @@
+-- A removal at the place to which the walk came: what is asked for, and what is damaged.
+use Rattle.std.proofs.Common.{◌≡◌, ◌↔◌, inl, ℕ, ◌+◌, true, false, List, [], ◌∷◌, ◌++◌, length, sym, ap, ◌∙◌, subst}
+use Rattle.std.proofs.lemmas.List.{append_assoc, append-nil}
+use Rattle.std.specs.Prelude.{Contains}
+use Rattle.cluster_history.specs.Changes.{is_ok}
+use Rattle.file_tree.specs.Apply.{apply, Answer}
+use Rattle.file_tree.specs.Names.{parent_of}
+use Rattle.file_tree.specs.Tree.{Tree}
+use Rattle.file_tree.specs.declared.call.Call.{Call}
+use Rattle.file_tree.specs.declared.reply.Reply.TheVariants.{Ok}
+use Rattle.gfs2_layout.specs.Holding.{Holding}
+use Rattle.glock_names.specs.Views.{Seen, HasBlock}
+use Rattle.glock_names.specs.declared.LockName.{LockName}
+use Rattle.glock_names.specs.declared.State.TheVariants.{Ex}
+use Rattle.glock_names.specs.declared.steps.Missing.{Missing}
+use Rattle.call_locks.specs.Wants.{wanted}
+use Rattle.call_locks.specs.WantLaws.{path_of}
+use Rattle.call_locks.specs.declared.want.Want.{Want}
+use Rattle.dinode_tree.specs.Below.{AnyIndex}
+use Rattle.dinode_tree.specs.Reading.{IsNeeded}
+use Rattle.dinode_tree.specs.Shown.{IsShown}
+use Rattle.dinode_tree.proofs.Sound.{some_is_shown}
+use Rattle.linear_dirs.specs.Shown.{IsLinearIn, HasNameIn}
+use Rattle.resource_groups.specs.Freeing.{IsNeededFor}
+use Rattle.resource_groups.specs.Putting.{HasDataBlock}
+use Rattle.image_model.specs.Flat.{Path}
+use Rattle.image_model.specs.Image.{Image}
+use Rattle.image_model.specs.Owners.{Owners, holding, is_dinode}
+use Rattle.image_model.specs.Stands.{Layout}
+use Rattle.image_changes.specs.Does.{IsOf}
+use Rattle.image_changes.proofs.Frame.{dinode_its}
+use Rattle.path_walks.specs.Holds.{AreHeld, IsAskedFor, IsFirstLack, holds_in}
+use Rattle.path_walks.specs.Walks.{IsSeenAt, IsWrong, IsHeldAt, IsNext, LeadsTo, Names, at_root, by_name, the_root, the_child}
+use Rattle.path_walks.specs.Walks as path
+use Rattle.path_walks.specs.declared.walk.Place.{Place}
+use Rattle.path_walks.proofs.Images.{is_inode, is_shown, unbroken_directory}
+use Rattle.path_walks.proofs.Lists.{parent_of_next}
+use Rattle.removing_calls.specs.Drafting as drafting
+use Rattle.removing_calls.specs.Drafting.{IsWrongIn}
+use Rattle.removing_calls.specs.Groups.{GroupsAreHeld, IsFirstGroupLack, group_holds}
+use Rattle.removing_calls.specs.Removing.{IsRemoving, IsLastOf, IsAimOf, IsReachedIn, IsDamage, IsWrongBelow, Goes, holds_for}
+use Rattle.removing_calls.specs.Removing as damage
+use Rattle.removing_calls.specs.declared.aims.Aim.TheVariants as aim
+use Rattle.removing_calls.proofs.Above.{above_names, linear_in, named_in}
+use Rattle.removing_calls.proofs.Found.{taken_list, asked, its_inside, none_broken, none_wrong_below, all_held, first_unheld, group_asked}
+use Rattle.removing_calls.proofs.Listed.{asked_before}
+use Rattle.removing_calls.proofs.Trees.{IsTakenBy, aim_takes}
+
+-- what is wrong with an inode to which a front of the path leads is damage on the path
+wrong_on_way : (v : Seen) (wants : List Want) (front : Path) (a : ℕ) → LeadsTo v wants front a → (whole back : Path) → whole ≡ front ++ back → (rule b : ℕ)
+    → ((h : Holding) → IsShown v a h → IsWrong h rule b) → path.IsDamage v wants whole rule b
+wrong_on_way v wants [] a (at_root held) whole back e rule b wrong = path.on_path 0 a rule b the_root held wrong
+wrong_on_way v wants front a (by_name f dir a' n leads is_name named inside held) whole back e rule b wrong =
+    path.on_path (length f + 1) a rule b (the_child f back dir a n (e ∙ append_assoc f (n ∷ []) back) leads is_name named inside) held wrong
+
+module _ (v : Seen) (c : Call) (p : Place) (name : List ℕ) (last : IsLastOf (path_of c false) name) (there : IsSeenAt v (wanted c) (path_of c false) p) where
+  names : Names v p.above name p.inode
+  names = above_names v (wanted c) (path_of c false) p name there last
+
+  -- the directory above, as the view has it
+  pub above_there : HasBlock v p.above
+  above_there = names.there
+
+  pub above_linear : IsLinearIn v p.above
+  above_linear = linear_in v p.above names.linear
+
+  pub above_named : HasNameIn v p.above name
+  above_named = named_in v p.above p.inode name names
+
+  pub below_damage : ((h : Holding) → IsShown v p.inode h → IsAimOf c h aim.Taken) → (rule b : ℕ) → IsWrongBelow v p.inode rule b → IsDamage v c rule b
+  below_damage taken rule b (damage.in_inode r d broken) =
+      damage.on_path r d (wrong_on_way v (wanted c) (path_of c false) p.inode there.leads (path_of c false) [] (sym (append-nil (path_of c false))) r d (λ h shown. path.in_inode r d (broken h shown)))
+  below_damage taken rule b (damage.stray d goes outside) = damage.stray p.inode d (record { leads = there.leads; there = there.there; aim = taken }) goes outside
+
+  module _ (im : Image) (o : Owners) (l : Layout) (t : Tree) (of : IsOf v im o l t) (reached : IsReachedIn v im o l c p) where
+    pub above_inside : HasDataBlock v p.above
+    above_inside = its_inside v im o l t of p.above p.above (dinode_its p.above (o p.above) (is_inode v im o l t of (parent_of (path_of c false)) p.above reached.place.above))
+
+    pub nothing_below : (rule b : ℕ) → IsWrongBelow v p.inode rule b → ⊥
+    nothing_below = none_wrong_below v im o l t of (path_of c false) p.inode reached.place.at
+
+    pub inode_needed : (m : Missing) → ((h : Holding) → IsShown v p.inode h → IsNeeded v h AnyIndex 1 m) → IsAskedFor v im o l (holds_for im o l t c) m
+    inode_needed m needed =
+        asked_before v im o l (holds_in im o l (path_of c false) (wanted c)) _ m
+        (asked v im o l t of (path_of c false) p.inode reached.place.at (holds_in im o l (path_of c false) (wanted c)) reached.ends reached.held AnyIndex 1 m
+        (needed (holding im o p.inode) (is_shown v im o l t of (path_of c false) p.inode reached.place.at)))
+
+  module _ (blocks : List ℕ) (goes : (h : Holding) → IsShown v p.inode h → (b : ℕ) → Contains blocks b ↔ Goes h b) where
+    -- the dinode's block goes with the others
+    pub own_among : Contains blocks p.inode
+    own_among = let s = some_is_shown v p.inode in (goes s.0 s.1.0 p.inode).1 (inl (sym s.1.0.own))
+
+    pub removal_damage : ((h : Holding) → IsShown v p.inode h → IsAimOf c h aim.Taken) → GroupsAreHeld v blocks → (rule b : ℕ) → IsWrongIn v p.above blocks rule b → IsDamage v c rule b
+    removal_damage taken groups rule b (drafting.in_directory r d broken) =
+        damage.on_path r d (wrong_on_way v (wanted c) (parent_of (path_of c false)) p.above there.above (path_of c false) (name ∷ []) (last.1 ∙ ap (λ q. q ++ name ∷ []) (sym (ap parent_of last.1 ∙ parent_of_next last.0 name))) r d
+        (λ h shown. path.in_directory r d (names.linear h shown) (broken h shown)))
+    removal_damage taken groups rule b (drafting.in_group r d breaks) =
+        damage.in_group p.inode r d blocks (record { leads = there.leads; there = there.there; aim = taken }) goes groups breaks
+
+    module _ (taken : (h : Holding) → IsShown v p.inode h → IsAimOf c h aim.Taken) (im : Image) (o : Owners) (l : Layout) (t : Tree) (of : IsOf v im o l t) (reached : IsReachedIn v im o l c p) where
+      shown : IsShown v p.inode (holding im o p.inode)
+      shown = is_shown v im o l t of (path_of c false) p.inode reached.place.at
+
+      so : is_dinode (o p.inode) ≡ true
+      so = is_inode v im o l t of (path_of c false) p.inode reached.place.at
+
+      takes : IsTakenBy v im o l t of c p.inode
+      takes = aim_takes v im o l t of c name p.inode last reached.place.at (taken (holding im o p.inode) shown)
+
+      pub taken_ok : (apply c t).reply ≡ Ok
+      taken_ok = ap (λ (x : Answer). x.reply) takes.applies
+
+      list_is : holds_for im o l t c ≡ holds_in im o l (path_of c false) (wanted c) ++ group_holds (holding im o p.inode) l.groups
+      list_is = taken_list im o l t c p.inode (ap is_ok taken_ok) reached.place.at
+
+      pub list_held : GroupsAreHeld v blocks → AreHeld v (holds_for im o l t c)
+      list_held groups = subst (AreHeld v) (sym list_is)
+          (all_held v im o l t of p.inode so takes.plain blocks (goes (holding im o p.inode) shown) (holds_in im o l (path_of c false) (wanted c)) reached.held groups)
+
+      pub group_lacks : (lock : LockName) → IsFirstGroupLack v blocks lock → IsFirstLack v (holds_for im o l t c) lock Ex
+      group_lacks lock lack = subst (λ list. IsFirstLack v list lock Ex) (sym list_is)
+          (first_unheld v im o l t of p.inode so takes.plain blocks (goes (holding im o p.inode) shown) (holds_in im o l (path_of c false) (wanted c)) lock reached.held lack)
+
+      pub group_needed : GroupsAreHeld v blocks → (m : Missing) → IsNeededFor v blocks m → IsAskedFor v im o l (holds_for im o l t c) m
+      group_needed groups m needed = subst (λ list. IsAskedFor v im o l list m) (sym list_is)
+          (group_asked v im o l t of p.inode so takes.plain blocks (goes (holding im o p.inode) shown) (holds_in im o l (path_of c false) (wanted c)) m reached.held groups needed)
+
+      pub nothing_wrong : (rule b : ℕ) → IsWrongIn v p.above blocks rule b → ⊥
+      nothing_wrong rule b (drafting.in_directory r d broken) =
+          let shown_p = is_shown v im o l t of (parent_of (path_of c false)) p.above reached.place.above in
+          let is = names.linear (holding im o p.above) shown_p in
+          unbroken_directory v im o l t of (parent_of (path_of c false)) p.above r d reached.place.above is.directory is.linear (broken (holding im o p.above) shown_p)
+      nothing_wrong rule b (drafting.in_group r d breaks) = none_broken v im o l t of blocks r d breaks

@@ -1,0 +1,44 @@
+use Rattle.std.proofs.Common.{◌≡◌, suc, true, refl, sym, ap, ◌∙◌, subst, get_or, take, drop}
+use Rattle.std.specs.Prelude.{Contains}
+use Rattle.glock_names.specs.StateOrder.{leq}
+use Rattle.glock_names.specs.declared.State.TheVariants.{Ex}
+use Rattle.glock_names.specs.declared.views.Group.{Group}
+use Rattle.resource_groups.specs.Freeing.{HasSome}
+use Rattle.resource_groups.proofs.Fits.{lacks}
+use Rattle.path_walks.specs.Holds.{holds}
+use Rattle.removing_calls.specs.Groups.{group_hold}
+use Rattle.removing_calls.proofs.Fronts.{each_next, each_all, split_there}
+use Rattle.removing_calls.proofs.groups.lacked_group.Goals.{else-has_some-via-then-has_some+else-not-is_at_most, else-has_some-via-else-has_some}
+use Rattle.removing_calls.proofs.groups.lacked_group.Goals as goal
+
+pub returns-then-not-is_at_most-clause-some : goal.returns-then-not-is_at_most-clause-some
+returns-then-not-is_at_most-clause-some g c =
+    let n = c.loop-group.group-index in
+    let items = c.groups-group-items.result.now in
+    let none : Group = record { addr = 0; length = 0; first = 0; count = 0 } in
+    record {
+      front = take n items;
+      group = get_or items n none;
+      back = drop (suc n) items;
+      split = sym c.groups-group-items.ensures ∙ split_there items n none c.loop-group-test.true;
+      some = c.has_some.ensures.0 c.if-has_some.true;
+      is = refl;
+      lacks = sym (c.is_at_most.ensures ∙ ap (leq Ex) c.state.ensures) ∙ c.if-not-is_at_most.true;
+      held = c.loop-group.invariant;
+    }
+
+pub loop-group-preserved : goal.loop-group-preserved
+loop-group-preserved g c =
+    let v = g.V.View.seen c.args.view.now in
+    let none : Group = record { addr = 0; length = 0; first = 0; count = 0 } in
+    each_next c.groups-group-items.result.now c.loop-group.group-index none (λ k. HasSome k c.args.blocks.now → holds v (group_hold k) ≡ true) c.loop-group-test.true c.loop-group.invariant
+    (λ some. elim c.else-has_some.branch [
+      | else-has_some-via-then-has_some+else-not-is_at_most w ↦ sym (w.is_at_most.ensures ∙ ap (leq Ex) w.state.ensures) ∙ w.if-not-is_at_most.false
+      | else-has_some-via-else-has_some w ↦ absurd (lacks c.has_some.result c.has_some.ensures w.if-has_some.false some)
+    ])
+
+pub returns-clause-none : goal.returns-clause-none
+returns-clause-none g c =
+    let v = g.V.View.seen c.args.view.now in
+    λ k has some. each_all c.groups-group-items.result.now c.loop-group.group-index (λ (j : Group). HasSome j c.args.blocks.now → holds v (group_hold j) ≡ true) c.loop-group-test.false c.loop-group.invariant
+    k (subst (λ gs. Contains gs k) (sym c.groups-group-items.ensures) has) some

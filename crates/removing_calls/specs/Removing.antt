@@ -1,0 +1,211 @@
+-- The calls that remove a name: `unlink` of a file, and `rmdir` of a directory without names.
+use Rattle.std.specs.Prelude.{Some, ℕ, ◌≡◌, ◌≢◌, ◌⊎◌, ◌↔◌, ⊤, Contains, true, false, if◌then◌else◌, List, [], ◌∷◌, ◌++◌, ◌<◌, length, slice_get}
+use Rattle.cluster_history.specs.Changes.{is_ok}
+use Rattle.file_tree.specs.Apply.{apply}
+use Rattle.file_tree.specs.Names.{parent_of}
+use Rattle.file_tree.specs.Tree.{Tree}
+use Rattle.file_tree.specs.declared.call.Call.{Call}
+use Rattle.file_tree.specs.declared.call.Call.TheVariants.{Unlink, Rmdir}
+use Rattle.file_tree.specs.declared.reply.Reply.{Reply}
+use Rattle.file_tree.specs.declared.reply.Reply.TheVariants as reply
+use Rattle.gfs2_layout.specs.Holding.{Holding}
+use Rattle.gfs2_layout.specs.Inode.{dinode_in, is_directory_in, is_hashed_in}
+use Rattle.gfs2_layout.specs.Structures.{dinode_of}
+use Rattle.glock_names.specs.Views.{Seen, HasBlock, HasGroup, end_of}
+use Rattle.glock_names.specs.declared.LockName.{LockName}
+use Rattle.glock_names.specs.declared.State.{State}
+use Rattle.glock_names.specs.declared.State.TheVariants.{Ex}
+use Rattle.glock_names.specs.declared.steps.Missing.{Missing}
+use Rattle.glock_names.specs.declared.views.Group.{Group}
+use Rattle.call_locks.specs.Wants.{wanted}
+use Rattle.call_locks.specs.WantLaws.{path_of}
+use Rattle.dinode_tree.specs.Below.{AnyIndex, IsBelow}
+use Rattle.dinode_tree.specs.Reading.{IsNeeded}
+use Rattle.dinode_tree.specs.Shown.{IsShown}
+use Rattle.dinode_tree.specs.Broken as inode
+use Rattle.resource_groups.specs.Freeing as freeing
+use Rattle.resource_groups.specs.Putting.{HasDataBlock}
+use Rattle.drafts.specs.declared.change.Change.{Change}
+use Rattle.drafts.specs.declared.change.Written.{Written}
+use Rattle.image_model.specs.Flat.{Path, follow}
+use Rattle.image_model.specs.Image.{Image}
+use Rattle.image_model.specs.Owners.{Owners}
+use Rattle.image_model.specs.Stands.{Layout, flat_of}
+use Rattle.image_changes.specs.Changes.{inode_of}
+use Rattle.image_changes.specs.Does.{frees, with_change}
+use Rattle.image_changes.specs.Instances.{IsAt}
+use Rattle.path_walks.specs.Holds.{Hold, AreHeld, EndsWith, IsAskedFor, IsFirstLack, hold_of, holds_in}
+use Rattle.path_walks.specs.Walks.{LeadsTo, IsAbsent, IsLacked, IsOnTheWay, IsPlaceOf, IsUnread}
+use Rattle.path_walks.specs.Walks as path
+use Rattle.path_walks.specs.declared.walk.Place.{Place}
+use Rattle.removing_calls.specs.Drafting.{HasTimes, IsRemoval}
+use Rattle.removing_calls.specs.Groups.{GroupsAreHeld, IsFirstGroupLack, group_holds_of}
+use Rattle.removing_calls.specs.declared.aims.Aim.{Aim}
+use Rattle.removing_calls.specs.declared.aims.Aim.TheVariants as aim
+use Rattle.removing_calls.specs.declared.finds.Found.{Found}
+use Rattle.removing_calls.specs.declared.finds.Found.TheVariants as found
+
+-- the call removes a name
+abbrev pub IsRemoving : Call → Type 0
+IsRemoving (Unlink path) = Unit {0}
+IsRemoving (Rmdir path) = Unit {0}
+IsRemoving _ = ⊥
+
+-- ---- the inode at the path's end
+
+-- why it isn't removed, or that it is to be: `unlink` takes a file
+abbrev pub IsFileAim : Holding → Aim → Type 0
+IsFileAim h (aim.Refused reply.IsDir) = is_directory_in h ≡ true
+IsFileAim h aim.Taken = is_directory_in h ≡ false
+IsFileAim h a = ⊥
+
+-- `rmdir` a directory whose dinode counts `.` and `..` alone
+abbrev pub IsDirectoryAim : Holding → Aim → Type 0
+IsDirectoryAim h (aim.Refused reply.NotDir) = is_directory_in h ≡ false
+IsDirectoryAim h (aim.Refused reply.NotEmpty) = (is_directory_in h ≡ true) × ((dinode_in h).entries ≢ 2)
+IsDirectoryAim h (aim.Hashed b) = (b ≡ h.own) × (is_hashed_in h ≡ true)
+IsDirectoryAim h aim.Taken = (is_directory_in h ≡ true) × (is_hashed_in h ≡ false) × ((dinode_in h).entries ≡ 2)
+IsDirectoryAim h a = ⊥
+
+abbrev pub IsAimOf : Call → Holding → Aim → Type 0
+IsAimOf (Unlink path) h a = IsFileAim h a
+IsAimOf (Rmdir path) h a = IsDirectoryAim h a
+IsAimOf call h a = ⊥
+
+-- the blocks that go with it: its dinode, and those to which its pointers lead
+abbrev pub Goes : Holding → ℕ → Type 0
+Goes h b = (b ≡ h.own) ⊎ IsBelow h b
+
+-- as the view shows the inode with its dinode in block a, it breaks a rule; or (2) a block of it is no data block of a group
+pub data IsWrongBelow (v : Seen) (a : ℕ) : ℕ → ℕ → Type 0 where
+  in_inode : (rule b : ℕ) → ((h : Holding) → IsShown v a h → inode.IsBroken h rule b) → IsWrongBelow v a rule b
+  stray : (b : ℕ) → ((h : Holding) → IsShown v a h → Goes h b) → ¬ (HasDataBlock v b) → IsWrongBelow v a 2 a
+
+-- ---- the locks of the call
+
+-- those on its path, and where the tree takes the call those of the groups of the inode's blocks
+abbrev pub holds_for : Image → Owners → Layout → Tree → Call → List Hold
+holds_for im o l t call = holds_in im o l (path_of call false) (wanted call)
+    ++ (if is_ok (apply call t).reply then group_holds_of im o l (follow (flat_of im o) l.root (path_of call false)) else [])
+
+-- the path's last name
+abbrev pub IsLastOf : Path → List ℕ → Type 0
+IsLastOf path name = (front : Path) × (path ≡ front ++ name ∷ [])
+
+-- ---- as far as the view shows
+
+-- the path leads to this inode, and the call takes it away
+pub record IsTakenAt (v : Seen) (call : Call) (a : ℕ) : Type 0 where
+  pub leads : LeadsTo v (wanted call) (path_of call false) a
+  pub there : HasBlock v a
+  pub aim : (h : Holding) → IsShown v a h → IsAimOf call h aim.Taken
+
+-- these are the blocks that go with the inode
+abbrev pub AreAllOf : Seen → ℕ → List ℕ → Type 0
+AreAllOf v a blocks = (h : Holding) → IsShown v a h → (b : ℕ) → Contains blocks b ↔ Goes h b
+
+-- the call is refused so: its path has no name; a name on it isn't there, or is asked of a file; or the inode at its end isn't to go
+pub data IsRefused (v : Seen) (call : Call) : Reply → Type 0 where
+  of_root : (r : Reply) → path_of call false ≡ [] → ((t : Tree) → (apply call t).reply ≡ r) → IsRefused v call r
+  not_found : IsAbsent v (wanted call) (path_of call false) → IsRefused v call reply.NotFound
+  not_dir : (a : ℕ) → IsOnTheWay v (wanted call) (path_of call false) a (λ h. is_directory_in h ≡ false) → IsRefused v call reply.NotDir
+  at_end : (a : ℕ) (r : Reply) → LeadsTo v (wanted call) (path_of call false) a → HasBlock v a → ((h : Holding) → IsShown v a h → IsAimOf call h (aim.Refused r)) → IsRefused v call r
+
+-- The name went, and the inode with all its blocks, the locks of whose groups are held: this is the change of it, with this time.
+pub record IsRemovedBy {V : Type 0} (seen : V → Seen) (view : V) (call : Call) (time : ℕ) (change : Change) : Type 0 where
+  pub inode : ℕ
+  pub directory : ℕ
+  pub name : List ℕ
+  pub blocks : List ℕ
+  pub taken : IsTakenAt (seen view) call inode
+  pub above : LeadsTo (seen view) (wanted call) (parent_of (path_of call false)) directory
+  pub inside : HasDataBlock (seen view) directory
+  pub last : IsLastOf (path_of call false) name
+  pub all : AreAllOf (seen view) inode blocks
+  pub held : GroupsAreHeld (seen view) blocks
+  pub is : IsRemoval seen view directory name time blocks change
+
+-- each block that the change writes is whole, and lies before the end of one of the view's groups
+abbrev pub WritesInside : Seen → Change → Type 0
+WritesInside v change = (i : ℕ) (w : Written) → slice_get change.blocks.items i ≡ Some w → (length w.bytes ≡ v.size) × ((g : Group) × HasGroup v g × (w.block < end_of g))
+
+-- the call is answered so
+pub data IsAnswered {V : Type 0} (seen : V → Seen) (view : V) (call : Call) (time : ℕ) : Reply → Change → Type 0 where
+  refused : (r : Reply) (change : Change) → is_ok r ≡ false → IsRefused (seen view) call r → IsAnswered seen view call time r change
+  removed : (change : Change) → IsRemovedBy seen view call time change → IsAnswered seen view call time reply.Ok change
+
+-- this lock isn't held so strongly: of the next inode on the path, or of the first group that has some of the blocks that go
+pub data IsLackedFor (v : Seen) (call : Call) (lock : LockName) : State → Type 0 where
+  on_path : (state : State) → IsLacked v (wanted call) (path_of call false) lock state → IsLackedFor v call lock state
+  of_group : (a : ℕ) (blocks : List ℕ) → IsTakenAt v call a → AreAllOf v a blocks → IsFirstGroupLack v blocks lock → IsLackedFor v call lock Ex
+
+-- a block without which the call isn't answered: the dinode of the next inode on its path, an indirect block of the one that is to go, or
+-- one of a group that has some of its blocks, the locks of all such groups being held
+pub data IsNeededFor (v : Seen) (call : Call) (m : Missing) : Type 0 where
+  on_path : IsUnread v (wanted call) (path_of call false) m → IsNeededFor v call m
+  of_inode : (a : ℕ) → IsTakenAt v call a → ((h : Holding) → IsShown v a h → IsNeeded v h AnyIndex 1 m) → IsNeededFor v call m
+  of_group : (a : ℕ) (blocks : List ℕ) → IsTakenAt v call a → AreAllOf v a blocks → GroupsAreHeld v blocks → freeing.IsNeededFor v blocks m → IsNeededFor v call m
+
+-- a hashed directory without which the call isn't answered: one on its path, or the one that it would remove
+pub data IsHashedFor (v : Seen) (call : Call) (b : ℕ) : Type 0 where
+  on_path : IsOnTheWay v (wanted call) (path_of call false) b (λ h. is_hashed_in h ≡ true) → IsHashedFor v call b
+  at_end : LeadsTo v (wanted call) (path_of call false) b → ((h : Holding) → IsShown v b h → is_hashed_in h ≡ true) → IsHashedFor v call b
+
+abbrev pub IsToldOf : {V : Type 0} → (V → Seen) → V → Call → ℕ → Found → Type 0
+IsToldOf seen view call time (found.Refused r) = IsRefused (seen view) call r
+IsToldOf seen view call time (found.Removed change) = IsRemovedBy seen view call time change
+IsToldOf seen view call time (found.NeedBlock m) = IsNeededFor (seen view) call m
+IsToldOf seen view call time (found.Hashed b) = IsHashedFor (seen view) call b
+IsToldOf seen view call time (found.NeedLock lock state) = IsLackedFor (seen view) call lock state
+
+-- The block breaks this rule: on the path; or (2) a block of the inode that is to go, or the directory above it, is no data block of a group; or
+-- in a group that has some of the inode's blocks, the locks of all such groups being held.
+pub data IsDamage (v : Seen) (call : Call) : ℕ → ℕ → Type 0 where
+  on_path : (rule b : ℕ) → path.IsDamage v (wanted call) (path_of call false) rule b → IsDamage v call rule b
+  stray : (a b : ℕ) → IsTakenAt v call a → ((h : Holding) → IsShown v a h → Goes h b) → ¬ (HasDataBlock v b) → IsDamage v call 2 a
+  above : (a : ℕ) → LeadsTo v (wanted call) (parent_of (path_of call false)) a → ¬ (HasDataBlock v a) → IsDamage v call 2 a
+  in_group : (a rule b : ℕ) (blocks : List ℕ) → IsTakenAt v call a → AreAllOf v a blocks → GroupsAreHeld v blocks → freeing.BreaksSome v blocks rule b → IsDamage v call rule b
+
+-- ---- in an image that the view may be of
+
+-- the inode at the path's end, and the directory above it
+pub record IsPlaceIn (im : Image) (o : Owners) (l : Layout) (call : Call) (p : Place) : Type 0 where
+  pub at : IsAt im o l (path_of call false) p.inode
+  pub above : IsAt im o l (parent_of (path_of call false)) p.above
+
+-- the walk came to this place, the inode's lock is the last of the path's, and each of these is held
+pub record IsReachedIn (v : Seen) (im : Image) (o : Owners) (l : Layout) (call : Call) (p : Place) : Type 0 where
+  pub place : IsPlaceOf v im o l (path_of call false) p
+  pub ends : EndsWith (holds_in im o l (path_of call false) (wanted call)) p.inode
+  pub held : AreHeld v (holds_in im o l (path_of call false) (wanted call))
+
+-- the reply is the tree's, and each lock of the list is held; or what stands in the way: the first lock of it that isn't held, or a block
+-- that the view hasn't
+abbrev pub IsFoundBy : Seen → Image → Owners → Layout → Reply → List Hold → Found → Type 0
+IsFoundBy v im o l answer list (found.Refused r) = (answer ≡ r) × AreHeld v list
+IsFoundBy v im o l answer list (found.Removed change) = (answer ≡ reply.Ok) × AreHeld v list
+IsFoundBy v im o l answer list (found.NeedBlock m) = IsAskedFor v im o l list m
+IsFoundBy v im o l answer list (found.NeedLock lock state) = IsFirstLack v list lock state
+IsFoundBy v im o l answer list (found.Hashed b) = ⊤
+
+abbrev pub IsFound : Seen → Image → Owners → Layout → Tree → Call → Found → Type 0
+IsFound v im o l t call f = IsFoundBy v im o l (apply call t).reply (holds_for im o l t call) f
+
+-- each lock with which the change writes a block, and that of the inode of each block that it frees, is of the list, exclusive
+pub record IsUnder (o : Owners) (list : List Hold) (change : Change) : Type 0 where
+  pub written : (lock : LockName) → Contains change.locks.items lock → Contains list (record { lock = lock; state = Ex })
+  pub freed : (b a : ℕ) → frees change b ≡ true → inode_of b (o b) ≡ Some a → Contains list (hold_of a Ex)
+
+-- in the image with the change the dinode of the directory above the name has this time
+abbrev pub IsStamped : Image → Owners → Layout → Call → ℕ → Change → Type 0
+IsStamped im o l call time change = (a : ℕ) × IsAt im o l (parent_of (path_of call false)) a × HasTimes (dinode_of ((with_change im change).at a)) time
+
+-- what a refusal is not
+abbrev pub IsRefusal : Found → Type 0
+IsRefusal (found.Refused r) = is_ok r ≡ false
+IsRefusal f = ⊤
+
+-- P of the change of a removal
+abbrev pub IfRemoved : (Change → Type 0) → Found → Type 0
+IfRemoved P (found.Removed change) = P change
+IfRemoved P f = ⊤

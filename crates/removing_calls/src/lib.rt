@@ -1,0 +1,11 @@
+//! The calls that remove a name, over a view: `unlink` and `rmdir`.
+#![tactic(auto)]
+
+mod aims;
+mod blocks;
+mod drafting;
+mod finds;
+mod groups;
+mod tries;
+
+pub use tries::attempt;
