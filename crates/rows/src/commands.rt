@@ -1,12 +1,9 @@
 // The commands of a row: what each is given, and what it is to leave.
-use crate::entries::Item;
-use crate::expanding::put_lines;
-use crate::images::Image;
-use crate::numbers::{next_word, number_word};
 use crate::recipes::Book;
 use crate::running::{Fails, Given};
 use crate::wanted::{Text, Wanted};
 use anyhow::{Context, Result, bail};
+use row_texts::{Image, Item, next_word, number_word, put_lines};
 use std::alloc::Global;
 
 /// A command, and what a row says of it. `shows` is what a show is to print of the image afterwards, `sum` the checksum of the

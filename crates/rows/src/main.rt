@@ -2,15 +2,6 @@
 #![tactic(auto)]
 
 mod commands;
-mod contents;
-mod entries;
-mod expanding;
-mod fields;
-mod images;
-mod laying;
-mod numbers;
-mod patches;
-mod places;
 mod recipes;
 mod running;
 mod sweeps;
@@ -18,8 +9,8 @@ mod trying;
 mod wanted;
 
 use anyhow::{Context, Result};
-use entries::{Entry, read_entries};
 use recipes::Book;
+use row_texts::{Entry, read_entries};
 use std::alloc::Global;
 use std::process::ExitCode;
 use std::rt::Files;

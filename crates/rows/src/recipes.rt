@@ -1,13 +1,10 @@
 // The texts and images that have names, and how images are made.
-use crate::contents::content_of;
-use crate::entries::{Entry, Item};
-use crate::images::Image;
-use crate::laying::{lay_file, link_file, put_leaf};
-use crate::numbers::{next_word, number_word};
-use crate::patches::{change_of, flip_all, put_pointers};
-use crate::places::{call_structures, number_of};
 use crate::running::{Fails, Given, carry_out};
 use anyhow::{Context, Result, bail, ensure};
+use row_texts::{
+    Entry, Image, Item, call_structures, change_of, content_of, flip_all, lay_file, link_file,
+    next_word, number_of, number_word, put_leaf, put_pointers,
+};
 use std::alloc::Global;
 
 /// An image by its name, in each size of a block in which it is made.

@@ -2,10 +2,9 @@
 ghost use Rattle.std.specs.Prelude.{IfOk};
 ghost use Rattle.shared_disk.specs.Outcomes.{AreOfSize, IsOfSize};
 
-use crate::contents::put_hex;
-use crate::numbers::put_bytes;
 use anyhow::{Result, bail, ensure};
 use cluster_program::gfs2run_alone;
+use row_texts::{put_bytes, put_hex};
 use shared_disk::{MemDisk, Outcome};
 use std::alloc::Global;
 use stream_io::{MemSink, MemSource};

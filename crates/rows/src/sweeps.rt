@@ -1,11 +1,9 @@
 // A disk that fails at each of its calls in turn.
 use crate::commands::Command;
-use crate::images::Image;
-use crate::numbers::number_word;
-use crate::places::range_of;
 use crate::running::{Left, carry_out};
 use crate::wanted::{Text, Wanted, tell};
 use anyhow::{Context, Result, ensure};
+use row_texts::{Image, number_word, range_of};
 use std::alloc::Global;
 
 // A call of the disk: whose it is, the block, and how many lines are answered before.

@@ -1,15 +1,12 @@
 // A row is tried: its image is made, its commands are carried out one after another, and what differs is told.
 use crate::commands::Command;
-use crate::entries::{Entry, Item};
-use crate::images::Image;
-use crate::numbers::{next_word, number_word};
-use crate::patches::change_of;
 use crate::recipes::{Book, change, made_anew};
 use crate::running::{Fails, Given, Left, carry_out};
 use crate::sweeps::{check_calls, sweep};
 use crate::wanted::{Wanted, tell};
 use anyhow::{Context, Result, bail, ensure};
 use crc_words::crc32;
+use row_texts::{Entry, Image, Item, change_of, next_word, number_word};
 use std::alloc::Global;
 use std::mem;
 

@@ -18,7 +18,7 @@ pub(crate) fn number_at(bytes: &[u8], at: usize, width: usize) -> Option<u64> {
 }
 
 /// Puts bytes over those at a place. Answers false where there are not so many.
-pub(crate) fn put_bytes(bytes: &mut [u8], at: usize, new: &[u8]) -> bool {
+pub fn put_bytes(bytes: &mut [u8], at: usize, new: &[u8]) -> bool {
     if at <= bytes.len() && new.len() <= bytes.len() - at {
         bytes[at..at + new.len()].copy_from_slice(new);
         return true;
@@ -34,7 +34,7 @@ pub(crate) fn put_number(bytes: &mut [u8], at: usize, width: usize, number: u64)
 }
 
 /// The number that a word is: decimal, hexadecimal behind `0x`, or octal behind `0o`.
-pub(crate) fn number_word(word: &str) -> Option<u64> {
+pub fn number_word(word: &str) -> Option<u64> {
     if let Some(digits) = word.strip_prefix("0x") {
         return u64::from_str_radix(digits, 16).ok();
     }
@@ -45,7 +45,7 @@ pub(crate) fn number_word(word: &str) -> Option<u64> {
 }
 
 /// The first word of a text; the text goes on behind it and a space.
-pub(crate) fn next_word<'a>(rest: &mut &'a str) -> &'a str {
+pub fn next_word<'a>(rest: &mut &'a str) -> &'a str {
     let (word, behind) = rest.split_once(' ').unwrap_or((*rest, ""));
     *rest = behind;
     word

@@ -5,21 +5,21 @@ use std::alloc::Global;
 
 /// A line of an entry, and the lines of text below it.
 #[derive(Drop)]
-pub(crate) struct Item<'a> {
+pub struct Item<'a> {
     pub words: &'a str,
     pub block: Vec<&'a str>,
 }
 
 /// A text with a name, an image, or a row.
 #[derive(Drop)]
-pub(crate) struct Entry<'a> {
+pub struct Entry<'a> {
     pub kind: &'a str,
     pub name: &'a str,
     pub items: Vec<Item<'a>>,
 }
 
 impl<'a> Entry<'a> {
-    pub(crate) fn is_row(&self) -> bool {
+    pub fn is_row(&self) -> bool {
         self.kind == "row"
     }
 
@@ -66,7 +66,7 @@ fn add_line<'a>(alloc: Global, entries: &mut Vec<Entry<'a>>, line: &'a str) -> R
 }
 
 /// The entries of a text, in order. Empty lines and those that begin with `#` are left out.
-pub(crate) fn read_entries<'a>(alloc: Global, text: &'a str) -> Result<Vec<Entry<'a>>> {
+pub fn read_entries<'a>(alloc: Global, text: &'a str) -> Result<Vec<Entry<'a>>> {
     let mut entries = Vec::new(alloc);
     for line in text.lines() {
         if !line.is_empty() && !line.starts_with('#') {

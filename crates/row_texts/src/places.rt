@@ -5,7 +5,7 @@ use anyhow::{Context, Result};
 use std::alloc::Global;
 
 /// Calls the blocks of an image that was made by the names of their structures.
-pub(crate) fn call_structures(alloc: Global, image: &mut Image) -> Result<()> {
+pub fn call_structures(alloc: Global, image: &mut Image) -> Result<()> {
     let size = u64::from(image.size).max(1);
     let superblock = 65_536 / size;
     image.call(alloc, "super", superblock)?;
@@ -127,12 +127,12 @@ fn find(image: &Image, word: &str) -> Option<u64> {
 
 /// The number that a word means on an image: a number, `size`, `area`, or a block's name; so many times that, or a part of
 /// it; and more or less.
-pub(crate) fn number_of(image: &Image, word: &str) -> Result<u64> {
+pub fn number_of(image: &Image, word: &str) -> Result<u64> {
     find(image, word).context(format_args!("no number: {word}"))
 }
 
 /// The blocks from one word to another, as `A..B`; of a single word its block alone.
-pub(crate) fn range_of(image: &Image, word: &str) -> Result<(u64, u64)> {
+pub fn range_of(image: &Image, word: &str) -> Result<(u64, u64)> {
     match word.split_once("..") {
         Some((first, last)) => Ok((number_of(image, first)?, number_of(image, last)?)),
         None => {

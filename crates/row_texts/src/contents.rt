@@ -41,7 +41,7 @@ fn put_escape<'a>(out: &mut Vec<u8>, behind: &'a str) -> Result<&'a str> {
 }
 
 /// Puts the bytes of pairs of digits.
-pub(crate) fn put_hex(out: &mut Vec<u8>, digits: &str) -> Result<()> {
+pub fn put_hex(out: &mut Vec<u8>, digits: &str) -> Result<()> {
     let mut rest = digits;
     for _ in 0..digits.len() {
         let Some((byte, behind)) = rest.split_at_checked(2) else {
@@ -68,7 +68,7 @@ fn put_steps(out: &mut Vec<u8>, first: u8, step: u8, count: u64) -> Result<()> {
 
 /// The bytes that these words are: a text in quotes, `hex:DIGITS`, `fill:BYTE:COUNT`, or `step:BYTE:STEP:COUNT`. None
 /// where they are something else.
-pub(crate) fn content_of(alloc: Global, image: &Image, words: &str) -> Result<Option<Vec<u8>>> {
+pub fn content_of(alloc: Global, image: &Image, words: &str) -> Result<Option<Vec<u8>>> {
     let mut out = Vec::new(alloc);
     if let Some(rest) = words.strip_prefix("\"") {
         let text = rest

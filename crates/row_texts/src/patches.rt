@@ -16,13 +16,13 @@ struct Spot {
 
 /// What a patch puts, and where.
 #[derive(Drop)]
-pub(crate) struct Change {
+pub struct Change {
     at: usize,
     bytes: Vec<u8>,
 }
 
 impl Change {
-    pub(crate) fn put(&self, image: &mut Image) -> Result<()> {
+    pub fn put(&self, image: &mut Image) -> Result<()> {
         ensure!(
             put_bytes(&mut image.bytes, self.at, &self.bytes),
             "a patch outside the device"
@@ -31,7 +31,7 @@ impl Change {
     }
 
     /// Whether these bytes stand there.
-    pub(crate) fn holds(&self, image: &Image) -> bool {
+    pub fn holds(&self, image: &Image) -> bool {
         part(&image.bytes, self.at, self.bytes.len()) == Some(self.bytes.as_slice())
     }
 }
@@ -131,7 +131,7 @@ fn value(base: &Image, now: &Image, spot: &Spot, words: &str) -> Result<u64> {
 
 /// Reads a patch, `PLACE FIELD VALUE`: names mean what they mean on the first image, and what stands there now is on the
 /// second.
-pub(crate) fn change_of(alloc: Global, base: &Image, now: &Image, words: &str) -> Result<Change> {
+pub fn change_of(alloc: Global, base: &Image, now: &Image, words: &str) -> Result<Change> {
     let mut rest = words;
     let spot = find_spot(alloc, base, now, &mut rest)?;
     if let Some(bytes) = content_of(alloc, base, rest)? {
@@ -147,7 +147,7 @@ pub(crate) fn change_of(alloc: Global, base: &Image, now: &Image, words: &str) -
 }
 
 /// Puts pointers that lead to one block, `PLACE FIRST COUNT BLOCK`, so many from the first on.
-pub(crate) fn put_pointers(base: &Image, image: &mut Image, words: &str) -> Result<()> {
+pub fn put_pointers(base: &Image, image: &mut Image, words: &str) -> Result<()> {
     let mut rest = words;
     let block = number_of(base, next_word(&mut rest))?;
     let first = number_of(base, next_word(&mut rest))?;
@@ -182,7 +182,7 @@ fn flip(image: &mut Image, block: u64) -> Result<()> {
 }
 
 /// Turns a bit of each of these blocks.
-pub(crate) fn flip_all(base: &Image, image: &mut Image, words: &str) -> Result<()> {
+pub fn flip_all(base: &Image, image: &mut Image, words: &str) -> Result<()> {
     for word in words.split(' ') {
         let (first, last) = range_of(base, word)?;
         for block in first..=last.min(1_000_000) {

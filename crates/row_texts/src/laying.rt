@@ -91,7 +91,7 @@ fn put_record(
 }
 
 /// Puts an empty leaf of a hashed directory, with one record that is not in use.
-pub(crate) fn put_leaf(image: &mut Image, block: u64, depth: u64, next: u64) -> Result<()> {
+pub fn put_leaf(image: &mut Image, block: u64, depth: u64, next: u64) -> Result<()> {
     let area = u64::from(image.size).saturating_sub(104);
     let fields = [
         (0usize, 4usize, 0x0116_1970u64),
@@ -162,12 +162,7 @@ fn put_dinode(image: &mut Image, block: u64, number: u64, content: &[u8]) -> Res
 }
 
 /// Lays a file into the root, in the first free block. It is called by its path.
-pub(crate) fn lay_file(
-    alloc: Global,
-    image: &mut Image,
-    spelled: &str,
-    content: &[u8],
-) -> Result<()> {
+pub fn lay_file(alloc: Global, image: &mut Image, spelled: &str, content: &[u8]) -> Result<()> {
     let name = name_of(alloc, spelled)?;
     let group = image.called("group").context("no group")?;
     let root = image.called("root").context("no root")?;
@@ -180,7 +175,7 @@ pub(crate) fn lay_file(
 }
 
 /// Gives a file or a directory a further name, in a directory in one block or in a leaf.
-pub(crate) fn link_file(
+pub fn link_file(
     alloc: Global,
     image: &mut Image,
     directory: u64,

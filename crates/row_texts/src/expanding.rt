@@ -99,12 +99,7 @@ fn put_line(
 }
 
 /// Puts these lines.
-pub(crate) fn put_lines(
-    alloc: Global,
-    out: &mut Vec<u8>,
-    image: &Image,
-    lines: &[&str],
-) -> Result<()> {
+pub fn put_lines(alloc: Global, out: &mut Vec<u8>, image: &Image, lines: &[&str]) -> Result<()> {
     for line in lines {
         put_repeated(alloc, out, image, line)?;
     }

@@ -4,13 +4,13 @@ use anyhow::{Result, bail};
 use std::alloc::Global;
 
 #[derive(Drop)]
-pub(crate) struct Name {
+pub struct Name {
     pub word: String,
     pub number: u64,
 }
 
 #[derive(Drop)]
-pub(crate) struct Image {
+pub struct Image {
     pub size: u32,
     pub bytes: Vec<u8>,
     pub names: Vec<Name>,
@@ -18,7 +18,7 @@ pub(crate) struct Image {
 
 impl Image {
     /// A device of so many blocks that have this byte everywhere.
-    pub(crate) fn device(alloc: Global, size: u32, blocks: u64, byte: u8) -> Result<Image> {
+    pub fn device(alloc: Global, size: u32, blocks: u64, byte: u8) -> Result<Image> {
         if size > 4096 || blocks > 1_000_000 {
             bail!("a device of {blocks} blocks of {size} bytes");
         }
@@ -30,7 +30,7 @@ impl Image {
         })
     }
 
-    pub(crate) fn copy(&self, alloc: Global) -> Result<Image> {
+    pub fn copy(&self, alloc: Global) -> Result<Image> {
         let mut names = Vec::new(alloc);
         for name in &self.names {
             names.push(Name {
@@ -46,7 +46,7 @@ impl Image {
     }
 
     /// Calls a block by this word.
-    pub(crate) fn call(&mut self, alloc: Global, word: &str, number: u64) -> Result<()> {
+    pub fn call(&mut self, alloc: Global, word: &str, number: u64) -> Result<()> {
         self.names.push(Name {
             word: word.to_string(alloc)?,
             number,
@@ -55,7 +55,7 @@ impl Image {
     }
 
     /// What is called by this word; of several the last.
-    pub(crate) fn called(&self, word: &str) -> Option<u64> {
+    pub fn called(&self, word: &str) -> Option<u64> {
         let mut found = None;
         for name in &self.names {
             if name.word.as_str() == word {
@@ -66,23 +66,23 @@ impl Image {
     }
 
     /// Where a block begins, in bytes.
-    pub(crate) fn start(&self, block: u64) -> usize {
+    pub fn start(&self, block: u64) -> usize {
         (block.min(1_000_000) as usize).saturating_mul(self.size as usize)
     }
 
     /// The number of so many bytes at a place of a block.
-    pub(crate) fn number(&self, block: u64, at: usize, width: usize) -> Option<u64> {
+    pub fn number(&self, block: u64, at: usize, width: usize) -> Option<u64> {
         number_at(&self.bytes, self.start(block).saturating_add(at), width)
     }
 
     /// How many blocks there are.
-    pub(crate) fn blocks(&self) -> u64 {
+    pub fn blocks(&self) -> u64 {
         let size = (self.size as usize).max(1);
         (self.bytes.len() / size) as u64
     }
 
     /// The kind of a block's structure, where its magic number is right.
-    pub(crate) fn kind(&self, block: u64) -> Option<u64> {
+    pub fn kind(&self, block: u64) -> Option<u64> {
         if self.number(block, 0, 4)? != 0x0116_1970 {
             return None;
         }
@@ -90,7 +90,7 @@ impl Image {
     }
 
     /// Where in a directory's block its records begin.
-    pub(crate) fn area(&self, block: u64) -> usize {
+    pub fn area(&self, block: u64) -> usize {
         if self.kind(block) == Some(6) {
             104
         } else {
@@ -99,7 +99,7 @@ impl Image {
     }
 
     /// Where in a directory's block the record of a name stands.
-    pub(crate) fn record(&self, block: u64, name: &[u8]) -> Option<usize> {
+    pub fn record(&self, block: u64, name: &[u8]) -> Option<usize> {
         let mut at = self.area(block);
         for _ in 0..self.size / 40 {
             let length = self.number(block, at.saturating_add(20), 2)? as usize;
@@ -117,7 +117,7 @@ impl Image {
     }
 
     /// Where in a directory's block its last record stands.
-    pub(crate) fn last_record(&self, block: u64) -> Option<usize> {
+    pub fn last_record(&self, block: u64) -> Option<usize> {
         let mut at = self.area(block);
         for _ in 0..self.size / 40 {
             let length = self.number(block, at.saturating_add(20), 2)? as usize;
@@ -131,7 +131,7 @@ impl Image {
     }
 
     /// The block to which a name in a directory's block leads.
-    pub(crate) fn led_to(&self, block: u64, name: &[u8]) -> Option<u64> {
+    pub fn led_to(&self, block: u64, name: &[u8]) -> Option<u64> {
         let at = self.record(block, name)?;
         self.number(block, at.saturating_add(8), 8)
     }
