@@ -27,7 +27,7 @@ pub stay_inside : DraftsStayInside
 stay_inside v fates change finished whole inside =
     let of = finish_makes fates change finished in
     by_place (IsInside v) change.blocks.items (λ i w at.
-        let lock = there change.locks.items i (omega (arith, low change.blocks.items i w at, of.form.locks)) in
-        let put = of.told i w lock.0 at lock.1 in
-        let group = inside w.block lock.0 w.plain w.bytes put in
-        record { whole = whole w.block lock.0 w.plain w.bytes put; group = group.0; has = group.1; below = group.2 })
+    let lock = there change.locks.items i (omega (arith, low change.blocks.items i w at, of.form.locks)) in
+    let put = of.told i w lock.0 at lock.1 in
+    let group = inside w.block lock.0 w.plain w.bytes put in
+    record { whole = whole w.block lock.0 w.plain w.bytes put; group = group.0; has = group.1; below = group.2 })
