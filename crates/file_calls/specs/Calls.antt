@@ -1,12 +1,10 @@
 -- The file calls that are built: what holds of every one.
-use Rattle.std.specs.Prelude.{ℕ, ◌≡◌, false, List, Contains}
+use Rattle.std.specs.Prelude.{ℕ, false, List}
 use Rattle.std.specs.List.{AllByRecursion}
 use Rattle.file_tree.specs.Tree.{Tree}
 use Rattle.file_tree.specs.declared.call.Call.{Call}
 use Rattle.file_tree.specs.declared.call.Call.TheVariants as calls
 use Rattle.glock_names.specs.Views.{Seen}
-use Rattle.glock_names.specs.declared.LockName.{LockName}
-use Rattle.glock_names.specs.declared.State.TheVariants.{Ex}
 use Rattle.glock_names.specs.declared.steps.Missing.{Missing}
 use Rattle.call_locks.specs.WantLaws.{path_of}
 use Rattle.call_locks.specs.Wants.{wanted}
@@ -19,26 +17,28 @@ use Rattle.path_walks.specs.Holds.{Hold, holds_in}
 use Rattle.path_walks.specs.Walks.{IsUnread}
 use Rattle.path_walks.specs.Walks as path
 use Rattle.read_calls.specs.Reading as reading
+use Rattle.removing_calls.specs.Removing as removing
 use Rattle.writing_calls.specs.Writing as writing
 
--- the call is built: today, those that read, `write` and `sync`
+-- the call is built: today, those that read, those that remove a name, `write` and `sync`
 abbrev pub IsBuilt : Call → Type 0
 IsBuilt (calls.Read path at count) = Unit {0}
 IsBuilt (calls.Stat path) = Unit {0}
 IsBuilt (calls.List path) = Unit {0}
+IsBuilt (calls.Unlink path) = Unit {0}
+IsBuilt (calls.Rmdir path) = Unit {0}
 IsBuilt (calls.Write path at new) = Unit {0}
 IsBuilt calls.Sync = Unit {0}
 IsBuilt _ = ⊥
 
 -- ---- locks
 
--- the locks that the call takes in an image, in their order
+-- the locks that the call takes in an image, in their order: those of the inodes on its path, and where a name is removed those of the groups
+-- that have the inode's blocks
 abbrev pub call_holds : Image → Owners → Layout → Tree → Call → ℕ → List Hold
+call_holds im o l t (calls.Unlink path) node = removing.holds_for im o l t (calls.Unlink path)
+call_holds im o l t (calls.Rmdir path) node = removing.holds_for im o l t (calls.Rmdir path)
 call_holds im o l t call node = holds_in im o l (path_of call false) (wanted call)
-
--- each lock that is told with the change is one of the list, exclusive
-abbrev pub AreUnder : List Hold → Change → Type 0
-AreUnder list change = AllByRecursion (λ (lock : LockName). Contains list (record { lock = lock; state = Ex })) change.locks.items
 
 -- ---- what is written
 
@@ -50,15 +50,21 @@ AreInside v change = AllByRecursion (IsInside v) change.blocks.items
 -- a block without which the call isn't answered
 abbrev pub IsNeededFor : Seen → Call → Missing → Type 0
 IsNeededFor v (calls.Write path at new) m = IsUnread v (wanted (calls.Write path at new)) path m
+IsNeededFor v (calls.Unlink path) m = removing.IsNeededFor v (calls.Unlink path) m
+IsNeededFor v (calls.Rmdir path) m = removing.IsNeededFor v (calls.Rmdir path) m
 IsNeededFor v call m = reading.IsNeededFor v call m
 
 -- the block breaks this rule
 abbrev pub IsDamage : Seen → Call → ℕ → ℕ → Type 0
 IsDamage v (calls.Write path at new) rule b = writing.IsDamage v (calls.Write path at new) rule b
+IsDamage v (calls.Unlink path) rule b = removing.IsDamage v (calls.Unlink path) rule b
+IsDamage v (calls.Rmdir path) rule b = removing.IsDamage v (calls.Rmdir path) rule b
 IsDamage v call rule b = path.IsDamage v (wanted call) (path_of call false) rule b
 
 -- what is in this block isn't read or written yet: a hashed directory on the path or at its end, or a file that the write would take out
 -- of its dinode's block
 abbrev pub IsUnbuilt : Seen → Call → ℕ → Type 0
 IsUnbuilt v (calls.Write path at new) b = writing.IsUnbuilt v (calls.Write path at new) b
+IsUnbuilt v (calls.Unlink path) b = removing.IsHashedFor v (calls.Unlink path) b
+IsUnbuilt v (calls.Rmdir path) b = removing.IsHashedFor v (calls.Rmdir path) b
 IsUnbuilt v call b = reading.IsHashedFor v call b

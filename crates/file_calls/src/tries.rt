@@ -9,7 +9,8 @@ ghost use Rattle.image_model.specs.Stands.{Layout};
 ghost use Rattle.image_changes.specs.Does.{IsOf, Does};
 ghost use Rattle.path_walks.specs.Answers.{IfDone, IfNeedLock, IfNeedBlock, IfNoSpace, IfNotBuilt};
 ghost use Rattle.path_walks.specs.Holds.{AreHeld, IsAskedFor, IsFirstLack, holds};
-ghost use Rattle.file_calls.specs.Calls.{AreInside, AreUnder, IsBuilt, IsDamage, IsNeededFor, IsUnbuilt, call_holds};
+ghost use Rattle.removing_calls.specs.Removing.{IsUnder};
+ghost use Rattle.file_calls.specs.Calls.{AreInside, IsBuilt, IsDamage, IsNeededFor, IsUnbuilt, call_holds};
 
 use dinode_tree::every_view_shows_an_inode;
 use drafts::{Attempt, Stamp};
@@ -29,7 +30,7 @@ pub fn attempt<V: View>(
     ensures done { IfDone result (Does (V.seen view.now) call.now) }
     ensures inside { IfDone result (λ reply change. AreInside (V.seen view.now) change) }
     ensures held { (im : Image) (o : Owners) (l : Layout) (t : Tree) → IsOf (V.seen view.now) im o l t → IfDone result (λ reply change. AreHeld (V.seen view.now) (call_holds im o l t call.now stamp.now.node)) }
-    ensures under { (im : Image) (o : Owners) (l : Layout) (t : Tree) → IsOf (V.seen view.now) im o l t → IfDone result (λ reply change. AreUnder (call_holds im o l t call.now stamp.now.node) change) }
+    ensures under { (im : Image) (o : Owners) (l : Layout) (t : Tree) → IsOf (V.seen view.now) im o l t → IfDone result (λ reply change. IsUnder o (call_holds im o l t call.now stamp.now.node) change) }
     ensures lock { (im : Image) (o : Owners) (l : Layout) (t : Tree) → IsOf (V.seen view.now) im o l t → IfNeedLock result (IsFirstLack (V.seen view.now) (call_holds im o l t call.now stamp.now.node)) }
     ensures block { (im : Image) (o : Owners) (l : Layout) (t : Tree) → IsOf (V.seen view.now) im o l t → IfNeedBlock result (IsAskedFor (V.seen view.now) im o l (call_holds im o l t call.now stamp.now.node)) }
     ensures on_device { (im : Image) (o : Owners) (l : Layout) (t : Tree) → IsOf (V.seen view.now) im o l t → IfNeedBlock result (λ m. m.block < im.count) }
@@ -47,6 +48,7 @@ pub fn attempt<V: View>(
         Call::Read(_, _, _) | Call::Stat(_) | Call::List(_) => {
             read_calls::attempt(alloc, view, call, stamp)
         }
+        Call::Unlink(_) | Call::Rmdir(_) => removing_calls::attempt(alloc, view, call, stamp),
         Call::Write(_, _, _) | Call::Sync => writing_calls::attempt(alloc, view, call, stamp),
         _ => unreachable!(),
     }

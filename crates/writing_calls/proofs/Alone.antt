@@ -10,7 +10,7 @@ use Rattle.std.specs.Ordering.{nat_cmp}
 use Rattle.std.specs.Prelude.{Contains, flat_map}
 use Rattle.file_tree.specs.Tree.{Tree}
 use Rattle.file_tree.specs.declared.call.Call.{Call}
-use Rattle.drafts.specs.Fates.{blocks_in, locks_in}
+use Rattle.drafts.specs.Fates.{blocks_in, freed_in, locks_in}
 use Rattle.drafts.specs.declared.change.Change.{Change}
 use Rattle.drafts.specs.declared.fate.Fate.{Fate}
 use Rattle.drafts.specs.declared.fate.Fate.TheVariants.{Put}
@@ -51,6 +51,9 @@ module _ (v : Seen) (a at : ℕ) (new : List ℕ) (time : ℕ) (change : Change)
 
   locks_are : change.locks.items ≡ inode_lock a ∷ []
   locks_are = w.finished.locks ∙ ap locks_in one
+
+  pub none_freed : change.freed.items ≡ []
+  none_freed = w.finished.freed ∙ ap freed_in one
 
   blocks_are : change.blocks.items ≡ record { block = a; plain = false; bytes = w.puts.bytes } ∷ []
   blocks_are = w.finished.blocks ∙ ap blocks_in one

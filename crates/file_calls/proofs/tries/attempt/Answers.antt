@@ -46,7 +46,7 @@ pub returns-in-Read-clause-under : goal.returns-in-Read-clause-under
 returns-in-Read-clause-under g c im o l t of =
     let is_reading : IsReading c.args.call.now = search rules in
     done_so c.attempt-in-Read.result (Does (g.V.View.seen c.args.view.now) c.args.call.now) _
-    (λ x change does. nothing_under (call_holds im o l t c.args.call.now c.args.stamp.now.node) change does.form (does.tells ∙ ap not (no_change c.args.call.now x is_reading))) c.attempt-in-Read.ensures.done
+        (λ x change does. nothing_under change (does.tells ∙ ap not (no_change c.args.call.now x is_reading)) o (call_holds im o l t c.args.call.now c.args.stamp.now.node) does.form) c.attempt-in-Read.ensures.done
 
 pub returns-in-Write-clause-inside : goal.returns-in-Write-clause-inside
 returns-in-Write-clause-inside g c = done_so c.attempt.result _ _ (λ x change is. data_inside (g.V.View.seen c.args.view.now) change.blocks.items is) c.attempt.ensures.inside

@@ -7,12 +7,19 @@ use Rattle.glock_names.specs.declared.steps.CallFault.{CallFault}
 use Rattle.glock_names.specs.declared.steps.CallFault.TheVariants as fault
 use Rattle.glock_names.specs.Steps.{TellsOf}
 use Rattle.lone_view.specs.Seeing.{Lone, seen_alone}
-use Rattle.file_calls.specs.Calls.{IsNeededFor}
+use Rattle.file_calls.specs.Calls.{AreInside, IsNeededFor}
 use Rattle.lone_node.specs.Answering.{IsAnsweredFrom, IsDamagedFor, leads_out, source_of}
 use Rattle.lone_node.specs.Ends.{IfDamaged, end_at}
 use Rattle.lone_node.specs.Standing.{IsOn, StandsFor, lacked_count}
-use Rattle.lone_node.proofs.Answered.{answered, damaged_so, fetched_on, fewer, of_view, on_again, shown_damage}
+use Rattle.lone_node.proofs.Answered.{answered, damaged_so, fetched_on, fewer, of_disk, of_view, on_again, shown_damage}
 use Rattle.lone_node.proofs.answering.try_once.Goals as goal
+
+pub carry_out-requires-clause-of_disk : goal.carry_out-requires-clause-of_disk
+carry_out-requires-clause-of_disk g c =
+    let v = seen_alone c.args.view.now in
+    let does = subst (λ a. IfDone (Ok a) (Does v c.args.call.now)) c.in-Ok-Done.field-0-is c.in-Ok-Done.ensures.done in
+    let inside = subst (λ a. IfDone (Ok a) (λ reply change. AreInside v change)) c.in-Ok-Done.field-0-is c.in-Ok-Done.ensures.inside in
+    of_disk (g.D.SharedDisk.state c.args.disk.now) c.args.view.now c.in-Ok-Done.change c.requires.on does.form inside
 
 pub returns-in_ok-carry_out-in-Ok-Done-clause-answered : goal.returns-in_ok-carry_out-in-Ok-Done-clause-answered
 returns-in_ok-carry_out-in-Ok-Done-clause-answered g c =
