@@ -1,7 +1,7 @@
 -- A block that a call asks for.
 use Rattle.std.proofs.Common.{◌≡◌, ℕ, zero, suc, ◌+◌, ◌<◌, ◌≤◌, Bool, true, false, List, [], ◌∷◌, length, slice_get, None, Some, inl, inr, refl, sym, ap, ◌∙◌, subst, arith, true≢false}
-use Rattle.std.proofs.lemmas.Bool.{cases_lt}
-use Rattle.std.specs.Prelude.{Option, Contains, ◌&&◌, ◌==◌}
+use Rattle.std.proofs.lemmas.Bool.{cases_Bool, cases_lt}
+use Rattle.std.specs.Prelude.{Option, Contains, ◌&&◌, ◌==◌, not}
 use Rattle.std.specs.List.{AllByRecursion, list_any}
 use Rattle.std.proofs.lemmas.List.Elements.{All-contains, All-from_recursion}
 use Rattle.file_tree.specs.declared.call.Call.{Call}
@@ -19,15 +19,23 @@ use Rattle.image_model.specs.Image.{Image}
 use Rattle.image_model.specs.Owners.{Owner, Owners, Nobody}
 use Rattle.image_model.specs.Stands.{Layout, IsLaid}
 use Rattle.image_changes.specs.Changes.{cover}
-use Rattle.image_changes.specs.Does.{IsFormed, IsInside, frees, is_empty, is_nothing}
+use Rattle.image_changes.specs.Does.{Does, IsFormed, IsInside, frees, is_empty, is_nothing}
 use Rattle.drafts.specs.declared.change.Change.{Change}
 use Rattle.drafts.specs.declared.change.Written.{Written}
 use Rattle.glock_names.specs.declared.State.TheVariants.{Ex}
-use Rattle.path_walks.specs.Holds.{Hold}
 use Rattle.writing_calls.specs.Writing as writing
-use Rattle.removing_calls.specs.Removing.{IsUnder}
-use Rattle.file_calls.specs.Calls.{AreInside}
-use Rattle.read_calls.specs.Reading.{IsNeededFor, on_path, at_end}
+use Rattle.file_calls.specs.Calls.{AreInside, call_holds}
+use Rattle.read_calls.specs.Reading.{IsReading, IsNeededFor, on_path, at_end}
+use Rattle.call_locks.specs.WantLaws.{path_of}
+use Rattle.call_locks.specs.Wants.{wanted}
+use Rattle.cluster_history.specs.Changes.{is_ok, may_change}
+use Rattle.file_tree.specs.Tree.{Tree}
+use Rattle.file_tree.specs.declared.reply.Reply.{Reply}
+use Rattle.file_tree.specs.declared.reply.Reply.TheVariants as reply
+use Rattle.path_walks.specs.Holds.{Hold, holds_in}
+use Rattle.removing_calls.specs.Removing.{IsRemoving, IsUnder, holds_for}
+use Rattle.removing_calls.specs.Removing as removing
+use Rattle.writing_calls.proofs.Alone.{none_freed as none_freed_by}
 
 -- a view shows each inode
 abbrev ShowsEach : Seen → Type 0
@@ -123,3 +131,106 @@ placed_inside v (w ∷ ws) each = (let at = each 0 w refl in record { whole = at
 pub data_inside : (v : Seen) (ws : List Written) → AllByRecursion (writing.IsInside v) ws → AllByRecursion (IsInside v) ws
 data_inside v [] all = tt
 data_inside v (w ∷ ws) all = (record { whole = all.0.whole; group = all.0.inside.0; has = all.0.inside.1; below = all.0.inside.2.high }, data_inside v ws all.1)
+
+-- ---- the lists of locks
+
+module _ (im : Image) (o : Owners) (l : Layout) (t : Tree) (node : ℕ) where
+  pub reading_holds : (c : Call) → IsReading c → call_holds im o l t c node ≡ holds_in im o l (path_of c false) (wanted c)
+  reading_holds (call.Read p at count) is = refl
+  reading_holds (call.Stat p) is = refl
+  reading_holds (call.List p) is = refl
+  reading_holds (call.Create p) is = absurd is
+  reading_holds (call.Mkdir p) is = absurd is
+  reading_holds (call.Unlink p) is = absurd is
+  reading_holds (call.Rmdir p) is = absurd is
+  reading_holds (call.Dread p at count) is = absurd is
+  reading_holds (call.Write p at new) is = absurd is
+  reading_holds (call.Truncate p size) is = absurd is
+  reading_holds (call.Rename p q) is = absurd is
+  reading_holds call.Sync is = absurd is
+
+  pub writing_holds : (c : Call) → writing.IsWriting c → call_holds im o l t c node ≡ writing.call_holds im o l c
+  writing_holds (call.Write p at new) is = refl
+  writing_holds call.Sync is = refl
+  writing_holds (call.Read p at count) is = absurd is
+  writing_holds (call.Stat p) is = absurd is
+  writing_holds (call.List p) is = absurd is
+  writing_holds (call.Create p) is = absurd is
+  writing_holds (call.Mkdir p) is = absurd is
+  writing_holds (call.Unlink p) is = absurd is
+  writing_holds (call.Rmdir p) is = absurd is
+  writing_holds (call.Dread p at count) is = absurd is
+  writing_holds (call.Truncate p size) is = absurd is
+  writing_holds (call.Rename p q) is = absurd is
+
+  pub removing_holds : (c : Call) → IsRemoving c → call_holds im o l t c node ≡ holds_for im o l t c
+  removing_holds (call.Unlink p) is = refl
+  removing_holds (call.Rmdir p) is = refl
+  removing_holds (call.Read p at count) is = absurd is
+  removing_holds (call.Stat p) is = absurd is
+  removing_holds (call.List p) is = absurd is
+  removing_holds (call.Create p) is = absurd is
+  removing_holds (call.Mkdir p) is = absurd is
+  removing_holds (call.Dread p at count) is = absurd is
+  removing_holds (call.Write p at new) is = absurd is
+  removing_holds (call.Truncate p size) is = absurd is
+  removing_holds (call.Rename p q) is = absurd is
+  removing_holds call.Sync is = absurd is
+
+-- ---- a call that removes a name
+
+pub removing_absent : (v : Seen) (c : Call) (m : Missing) → ShowsEach v → removing.IsNeededFor v c m → v.block_at m.block ≡ None
+removing_absent v c m shows (removing.on_path unread) = unread.absent
+removing_absent v c m shows (removing.of_inode a taken needed) = let s = shows a in (needed s.0 s.1).absent
+removing_absent v c m shows (removing.of_group a blocks taken all held needed) = needed.2.3.block.absent
+
+-- one that wasn't answered Ok changed nothing
+refused_nothing : (v : Seen) (c : Call) (r : Reply) (change : Change) → Does v c r change → is_ok r ≡ false → is_nothing change ≡ true
+refused_nothing v c r change does no_ok = does.tells ∙ ap (λ b. not (b && may_change c)) no_ok
+
+pub removing_under : (v : Seen) (o : Owners) (list : List Hold) (c : Call) (r : Reply) (change : Change) → Does v c r change → (is_ok r ≡ true → IsUnder o list change) → IsUnder o list change
+removing_under v o list c r change does under = elim (cases_Bool (is_ok r)) [
+  | inl ok ↦ under ok
+  | inr refused ↦ nothing_under change (refused_nothing v c r change does refused) o list does.form
+]
+
+pub removing_inside : (v : Seen) (c : Call) (r : Reply) (change : Change) → Does v c r change → (is_ok r ≡ true → removing.WritesInside v change) → AreInside v change
+removing_inside v c r change does inside = elim (cases_Bool (is_ok r)) [
+  | inl ok ↦ placed_inside v change.blocks.items (inside ok)
+  | inr refused ↦ nothing_inside change (refused_nothing v c r change does refused) v
+]
+
+-- ---- a call that writes
+
+and_false : (b : Bool) → b && false ≡ false
+and_false true = refl
+and_false false = refl
+
+pub writing_under : (v : Seen) (o : Owners) (list : List Hold) (c : Call) (time : ℕ) (r : Reply) (change : Change) → writing.IsWriting c → Does v c r change
+    → writing.IsAnswered v c time r change → writing.AreUnder list change → IsUnder o list change
+writing_under v o list call.Sync time r change is does answered under = nothing_under change (does.tells ∙ ap not (and_false (is_ok r))) o list does.form
+writing_under v o list (call.Write p at new) time r change is does answered under = by r does answered
+  where
+    by : (r : Reply) → Does v (call.Write p at new) r change → writing.IsAnswered v (call.Write p at new) time r change → IsUnder o list change
+    by reply.Ok does written = all_under o list change (none_freed_by v written.0 at new time change written.3) under
+    by (reply.Bytes bytes) does refused = nothing_under change (refused_nothing v (call.Write p at new) (reply.Bytes bytes) change does refl) o list does.form
+    by (reply.Stat kind size) does refused = nothing_under change (refused_nothing v (call.Write p at new) (reply.Stat kind size) change does refl) o list does.form
+    by (reply.Names names) does refused = nothing_under change (refused_nothing v (call.Write p at new) (reply.Names names) change does refl) o list does.form
+    by reply.NotFound does refused = nothing_under change (refused_nothing v (call.Write p at new) reply.NotFound change does refl) o list does.form
+    by reply.NotDir does refused = nothing_under change (refused_nothing v (call.Write p at new) reply.NotDir change does refl) o list does.form
+    by reply.IsDir does refused = nothing_under change (refused_nothing v (call.Write p at new) reply.IsDir change does refl) o list does.form
+    by reply.Exists does refused = nothing_under change (refused_nothing v (call.Write p at new) reply.Exists change does refl) o list does.form
+    by reply.NotEmpty does refused = nothing_under change (refused_nothing v (call.Write p at new) reply.NotEmpty change does refl) o list does.form
+    by reply.Inside does refused = nothing_under change (refused_nothing v (call.Write p at new) reply.Inside change does refl) o list does.form
+    by reply.TooBig does refused = nothing_under change (refused_nothing v (call.Write p at new) reply.TooBig change does refl) o list does.form
+    by reply.NoSpace does refused = nothing_under change (refused_nothing v (call.Write p at new) reply.NoSpace change does refl) o list does.form
+writing_under v o list (call.Read p at count) time r change is does answered under = absurd is
+writing_under v o list (call.Stat p) time r change is does answered under = absurd is
+writing_under v o list (call.List p) time r change is does answered under = absurd is
+writing_under v o list (call.Create p) time r change is does answered under = absurd is
+writing_under v o list (call.Mkdir p) time r change is does answered under = absurd is
+writing_under v o list (call.Unlink p) time r change is does answered under = absurd is
+writing_under v o list (call.Rmdir p) time r change is does answered under = absurd is
+writing_under v o list (call.Dread p at count) time r change is does answered under = absurd is
+writing_under v o list (call.Truncate p size) time r change is does answered under = absurd is
+writing_under v o list (call.Rename p q) time r change is does answered under = absurd is

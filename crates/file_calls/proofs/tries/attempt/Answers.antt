@@ -1,17 +1,21 @@
-use Rattle.std.proofs.Common.{rules, Result, Ok, Err, ap, ◌∙◌}
+use Rattle.std.proofs.Common.{rules, ◌≡◌, true, Result, Ok, Err, sym, ap, ◌∙◌, subst}
 use Rattle.std.specs.Prelude.{not}
 use Rattle.drafts.specs.declared.attempt.Attempt.{Attempt}
 use Rattle.drafts.specs.declared.attempt.Attempt.TheVariants.{Done, NeedLock, NeedBlock, NoSpace, NotBuilt}
 use Rattle.glock_names.specs.declared.steps.CallFault.{CallFault}
 use Rattle.glock_names.specs.declared.steps.Missing.{Missing}
-use Rattle.path_walks.specs.Answers.{IfDone, IfNeedBlock}
+use Rattle.cluster_history.specs.Changes.{is_ok}
+use Rattle.path_walks.specs.Answers.{IfDone, IfNeedBlock, IfNeedLock}
+use Rattle.path_walks.specs.Holds.{AreHeld, IsAskedFor, IsFirstLack}
+use Rattle.removing_calls.specs.Removing.{IsRemoving, IsUnder}
+use Rattle.writing_calls.specs.Writing.{IsWriting, AreUnder}
 use Rattle.file_tree.specs.declared.reply.Reply.{Reply}
 use Rattle.drafts.specs.declared.change.Change.{Change}
 use Rattle.image_changes.specs.Does.{Does}
 use Rattle.read_calls.specs.Reading.{IsReading}
 use Rattle.read_calls.proofs.Lists.{no_change}
-use Rattle.file_calls.specs.Calls.{call_holds}
-use Rattle.file_calls.proofs.Blocks.{needed_absent, covered_low, data_inside, nothing_under}
+use Rattle.file_calls.specs.Calls.{AreInside, call_holds}
+use Rattle.file_calls.proofs.Blocks.{needed_absent, covered_low, data_inside, nothing_under, reading_holds, removing_absent, removing_holds, removing_inside, removing_under, writing_holds, writing_under}
 use Rattle.file_calls.proofs.tries.attempt.Goals as goal
 
 mapped : (r : Result Attempt CallFault) (P Q : Missing → Type 0) → ((m : Missing) → P m → Q m) → IfNeedBlock r P → IfNeedBlock r Q
@@ -31,6 +35,22 @@ done_so (Ok (NoSpace need free)) P Q f is = tt
 done_so (Ok (NotBuilt b)) P Q f is = tt
 done_so (Err e) P Q f is = tt
 
+done_two : (r : Result Attempt CallFault) (P Q : Reply → Change → Type 0) → IfDone r P → IfDone r Q → IfDone r (λ x change. P x change × Q x change)
+done_two (Ok (NeedBlock m)) P Q p q = tt
+done_two (Ok (Done reply change)) P Q p q = (p, q)
+done_two (Ok (NeedLock lock state)) P Q p q = tt
+done_two (Ok (NoSpace need free)) P Q p q = tt
+done_two (Ok (NotBuilt b)) P Q p q = tt
+done_two (Err e) P Q p q = tt
+
+done_three : (r : Result Attempt CallFault) (P Q R : Reply → Change → Type 0) → IfDone r P → IfDone r Q → IfDone r R → IfDone r (λ x change. P x change × Q x change × R x change)
+done_three (Ok (NeedBlock m)) P Q R p q s = tt
+done_three (Ok (Done reply change)) P Q R p q s = (p, q, s)
+done_three (Ok (NeedLock lock state)) P Q R p q s = tt
+done_three (Ok (NoSpace need free)) P Q R p q s = tt
+done_three (Ok (NotBuilt b)) P Q R p q s = tt
+done_three (Err e) P Q R p q s = tt
+
 pub returns-in-Read-clause-on_device : goal.returns-in-Read-clause-on_device
 returns-in-Read-clause-on_device g c im o l t of = mapped c.attempt-in-Read.result _ _ (λ m asked. covered_low im o l of.stands.laid m.block m.lock asked.covered) (c.attempt-in-Read.ensures.block im o l t of)
 
@@ -42,11 +62,69 @@ returns-in-Read-clause-absent g c =
     let v = g.V.View.seen c.args.view.now in
     mapped c.attempt-in-Read.result _ _ (λ m needed. needed_absent v c.args.call.now m (λ a. let s = c.every_view_shows_an_inode.ensures v a in (s.0, s.1.0)) needed) c.attempt-in-Read.ensures.needed
 
+pub returns-in-Read-clause-held : goal.returns-in-Read-clause-held
+returns-in-Read-clause-held g c im o l t of =
+    let is : IsReading c.args.call.now = search rules in
+    subst (λ list. IfDone c.attempt-in-Read.result (λ reply change. AreHeld (g.V.View.seen c.args.view.now) list)) (sym (reading_holds im o l t c.args.stamp.now.node c.args.call.now is)) (c.attempt-in-Read.ensures.held im o l t of)
+
 pub returns-in-Read-clause-under : goal.returns-in-Read-clause-under
 returns-in-Read-clause-under g c im o l t of =
-    let is_reading : IsReading c.args.call.now = search rules in
+    let is : IsReading c.args.call.now = search rules in
     done_so c.attempt-in-Read.result (Does (g.V.View.seen c.args.view.now) c.args.call.now) _
-        (λ x change does. nothing_under change (does.tells ∙ ap not (no_change c.args.call.now x is_reading)) o (call_holds im o l t c.args.call.now c.args.stamp.now.node) does.form) c.attempt-in-Read.ensures.done
+        (λ x change does. nothing_under change (does.tells ∙ ap not (no_change c.args.call.now x is)) o (call_holds im o l t c.args.call.now c.args.stamp.now.node) does.form) c.attempt-in-Read.ensures.done
+
+pub returns-in-Write-clause-held : goal.returns-in-Write-clause-held
+returns-in-Write-clause-held g c im o l t of =
+    let is : IsWriting c.args.call.now = search rules in
+    subst (λ list. IfDone c.attempt.result (λ reply change. AreHeld (g.V.View.seen c.args.view.now) list)) (sym (writing_holds im o l t c.args.stamp.now.node c.args.call.now is)) (c.attempt.ensures.held im o l t of)
+
+pub returns-in-Write-clause-under : goal.returns-in-Write-clause-under
+returns-in-Write-clause-under g c im o l t of =
+    let v = g.V.View.seen c.args.view.now in
+    let is : IsWriting c.args.call.now = search rules in
+    let list = call_holds im o l t c.args.call.now c.args.stamp.now.node in
+    let under = subst (λ list. IfDone c.attempt.result (λ reply change. AreUnder list change)) (sym (writing_holds im o l t c.args.stamp.now.node c.args.call.now is)) (c.attempt.ensures.under im o l t of) in
+    done_so c.attempt.result _ (λ reply change. IsUnder o list change)
+        (λ x change all. writing_under v o list c.args.call.now c.args.stamp.now.time x change is all.0 all.1 all.2)
+        (done_three c.attempt.result _ _ _ c.attempt.ensures.done c.attempt.ensures.answered under)
+
+pub returns-in-Unlink-clause-held : goal.returns-in-Unlink-clause-held
+returns-in-Unlink-clause-held g c im o l t of =
+    let is : IsRemoving c.args.call.now = search rules in
+    subst (λ list. IfDone c.attempt-in-Unlink.result (λ reply change. AreHeld (g.V.View.seen c.args.view.now) list)) (sym (removing_holds im o l t c.args.stamp.now.node c.args.call.now is)) (c.attempt-in-Unlink.ensures.held im o l t of)
+
+pub returns-in-Unlink-clause-lock : goal.returns-in-Unlink-clause-lock
+returns-in-Unlink-clause-lock g c im o l t of =
+    let is : IsRemoving c.args.call.now = search rules in
+    subst (λ list. IfNeedLock c.attempt-in-Unlink.result (IsFirstLack (g.V.View.seen c.args.view.now) list)) (sym (removing_holds im o l t c.args.stamp.now.node c.args.call.now is)) (c.attempt-in-Unlink.ensures.lock im o l t of)
+
+pub returns-in-Unlink-clause-block : goal.returns-in-Unlink-clause-block
+returns-in-Unlink-clause-block g c im o l t of =
+    let is : IsRemoving c.args.call.now = search rules in
+    subst (λ list. IfNeedBlock c.attempt-in-Unlink.result (IsAskedFor (g.V.View.seen c.args.view.now) im o l list)) (sym (removing_holds im o l t c.args.stamp.now.node c.args.call.now is)) (c.attempt-in-Unlink.ensures.block im o l t of)
+
+pub returns-in-Unlink-clause-on_device : goal.returns-in-Unlink-clause-on_device
+returns-in-Unlink-clause-on_device g c im o l t of = mapped c.attempt-in-Unlink.result _ _ (λ m asked. covered_low im o l of.stands.laid m.block m.lock asked.covered) (c.attempt-in-Unlink.ensures.block im o l t of)
+
+pub returns-in-Unlink-clause-absent : goal.returns-in-Unlink-clause-absent
+returns-in-Unlink-clause-absent g c =
+    let v = g.V.View.seen c.args.view.now in
+    mapped c.attempt-in-Unlink.result _ _ (λ m needed. removing_absent v c.args.call.now m (λ a. let s = c.every_view_shows_an_inode.ensures v a in (s.0, s.1.0)) needed) c.attempt-in-Unlink.ensures.needed
+
+pub returns-in-Unlink-clause-under : goal.returns-in-Unlink-clause-under
+returns-in-Unlink-clause-under g c im o l t of =
+    let v = g.V.View.seen c.args.view.now in
+    let is : IsRemoving c.args.call.now = search rules in
+    let list = call_holds im o l t c.args.call.now c.args.stamp.now.node in
+    let under = subst (λ list. IfDone c.attempt-in-Unlink.result (λ reply change. is_ok reply ≡ true → IsUnder o list change)) (sym (removing_holds im o l t c.args.stamp.now.node c.args.call.now is)) (c.attempt-in-Unlink.ensures.under im o l t of) in
+    done_so c.attempt-in-Unlink.result _ (λ reply change. IsUnder o list change)
+        (λ x change all. removing_under v o list c.args.call.now x change all.0 all.1) (done_two c.attempt-in-Unlink.result _ _ c.attempt-in-Unlink.ensures.done under)
+
+pub returns-in-Unlink-clause-inside : goal.returns-in-Unlink-clause-inside
+returns-in-Unlink-clause-inside g c =
+    let v = g.V.View.seen c.args.view.now in
+    done_so c.attempt-in-Unlink.result _ (λ reply change. AreInside v change)
+        (λ x change all. removing_inside v c.args.call.now x change all.0 all.1) (done_two c.attempt-in-Unlink.result _ _ c.attempt-in-Unlink.ensures.done c.attempt-in-Unlink.ensures.inside)
 
 pub returns-in-Write-clause-inside : goal.returns-in-Write-clause-inside
 returns-in-Write-clause-inside g c = done_so c.attempt.result _ _ (λ x change is. data_inside (g.V.View.seen c.args.view.now) change.blocks.items is) c.attempt.ensures.inside
