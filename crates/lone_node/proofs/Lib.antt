@@ -6,3 +6,4 @@ pub mod Calls
 pub mod Clients
 pub mod Steps
 pub mod NodeRuns
+pub mod Endings
