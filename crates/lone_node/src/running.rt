@@ -14,8 +14,8 @@ ghost use Rattle.lone_node.specs.Ends.{HasCause, IfDamaged, IfNotBuilt, UnlessDi
 ghost use Rattle.lone_node.specs.Run.{EndsAtCall, IsLineOf, IsOwnScript, IsRunOf, IsRunUpTo, IsTakenCall, IsWholeRun, full_item};
 ghost use Rattle.lone_node.specs.Standing.{IsOn, IsSameSystem, StandsFor};
 
-use crate::answering::{Answer, Full, answer_call};
 use crate::RunEnd;
+use crate::answering::{Answer, Full, answer_call};
 use drafts::Stamp;
 use file_tree::{Call, Name};
 use lone_view::LoneView;
@@ -54,13 +54,7 @@ fn put_full(items: &mut Vec<TraceItem>, full: Option<Full>)
 }
 
 // Puts the items of an answered call of node 1 where there is room for two.
-fn put_answer(
-    items: &mut Vec<TraceItem>,
-    client: Name,
-    number: u64,
-    call: Call,
-    answer: Answer,
-)
+fn put_answer(items: &mut Vec<TraceItem>, client: Name, number: u64, call: Call, answer: Answer)
     requires room { vec_len items.old + 2 ≤ vec_capacity items.old }
     ensures { items.new.items ≡ items.old.items ++ (full_item answer.full ++ TraceItem.Call 1 client number call answer.reply ∷ []) }
 {

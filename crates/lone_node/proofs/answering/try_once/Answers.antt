@@ -20,42 +20,42 @@ returns-in_ok-carry_out-in-Ok-Done-clause-answered g c =
     let d = g.D.SharedDisk.state c.args.disk.now in
     let does = subst (λ a. IfDone (Ok a) (Does (seen_alone c.args.view.now) c.args.call.now)) c.in-Ok-Done.field-0-is c.in-Ok-Done.ensures.done in
     subst (λ n. IsAnsweredFrom d (g.D.SharedDisk.state c.carry_out.new.disk) c.args.view.now n c.args.call.now c.in-Ok-Done.reply) (sym c.in_ok-carry_out-in-Ok-Done.ensures.kept)
-        (answered d _ c.args.view.now c.in-Ok-Done.change c.requires.on does.form c.in_ok-carry_out-in-Ok-Done.ensures.written
-        c.other_calls_leave_the_tree.ensures c.args.call.now c.in-Ok-Done.reply does)
+    (answered d _ c.args.view.now c.in-Ok-Done.change c.requires.on does.form c.in_ok-carry_out-in-Ok-Done.ensures.written
+    c.other_calls_leave_the_tree.ensures c.args.call.now c.in-Ok-Done.reply does)
 
 pub returns-in_ok-carry_out-in-Ok-Done-clause-on : goal.returns-in_ok-carry_out-in-Ok-Done-clause-on
 returns-in_ok-carry_out-in-Ok-Done-clause-on g c =
     let does = subst (λ a. IfDone (Ok a) (Does (seen_alone c.args.view.now) c.args.call.now)) c.in-Ok-Done.field-0-is c.in-Ok-Done.ensures.done in
     subst (IsOn (g.D.SharedDisk.state c.carry_out.new.disk)) (sym c.in_ok-carry_out-in-Ok-Done.ensures.kept)
-        (on_again (g.D.SharedDisk.state c.args.disk.now) _ c.args.view.now c.in-Ok-Done.change c.requires.on does.form c.in_ok-carry_out-in-Ok-Done.ensures.written)
+    (on_again (g.D.SharedDisk.state c.args.disk.now) _ c.args.view.now c.in-Ok-Done.change c.requires.on does.form c.in_ok-carry_out-in-Ok-Done.ensures.written)
 
 pub returns-in-Ok-clause-on : goal.returns-in-Ok-clause-on
 returns-in-Ok-clause-on g c =
     let d = g.D.SharedDisk.state c.args.disk.now in
     let read = c.in-Ok.ensures.read in
     subst (λ s. IsOn s c.fetch.new.view) (sym c.in-Ok.ensures.reads.same)
-        (subst (IsOn d) (sym read.1) (fetched_on d c.args.view.now c.in-Ok-NeedBlock.missing.block read.0 c.requires.on read.2))
+    (subst (IsOn d) (sym read.1) (fetched_on d c.args.view.now c.in-Ok-NeedBlock.missing.block read.0 c.requires.on read.2))
 
 pub returns-in-Ok-clause-fewer : goal.returns-in-Ok-clause-fewer
 returns-in-Ok-clause-fewer g c =
     let d = g.D.SharedDisk.state c.args.disk.now in
     let read = c.in-Ok.ensures.read in
     subst (λ (n : Lone). lacked_count n.blocks d.count < lacked_count c.args.view.now.blocks d.count) (sym read.1)
-        (fewer c.args.view.now.blocks c.in-Ok-NeedBlock.missing.block read.0 d.count
-        (subst (λ a. IfNeedBlock (Ok a) (λ m. (seen_alone c.args.view.now).block_at m.block ≡ None)) c.in-Ok-NeedBlock.field-0-is c.in-Ok-NeedBlock.ensures.absent) c.in-Ok.ensures.inside)
+    (fewer c.args.view.now.blocks c.in-Ok-NeedBlock.missing.block read.0 d.count
+    (subst (λ a. IfNeedBlock (Ok a) (λ m. (seen_alone c.args.view.now).block_at m.block ≡ None)) c.in-Ok-NeedBlock.field-0-is c.in-Ok-NeedBlock.ensures.absent) c.in-Ok.ensures.inside)
 
 pub returns-in-Err-fetch-clause-sound : goal.returns-in-Err-fetch-clause-sound
 returns-in-Err-fetch-clause-sound g c =
     let d = g.D.SharedDisk.state c.args.disk.now in
     damaged_so c.in-Err-fetch.end (λ b rule. d.count ≤ c.in-Ok-NeedBlock.missing.block) (λ b rule. (t : Tree) → StandsFor d c.args.view.now t → ⊥)
-        (λ b rule past t s. let low = subst (λ a. IfNeedBlock (Ok a) (λ m. m.block < d.count)) c.in-Ok-NeedBlock.field-0-is (c.in-Ok-NeedBlock.ensures.on_device (image_of d) s.owners s.layout t (of_view d c.args.view.now t c.requires.on s)) in absurd (omega (arith, past, low)))
-        c.in-Err-fetch.ensures.outside
+    (λ b rule past t s. let low = subst (λ a. IfNeedBlock (Ok a) (λ m. m.block < d.count)) c.in-Ok-NeedBlock.field-0-is (c.in-Ok-NeedBlock.ensures.on_device (image_of d) s.owners s.layout t (of_view d c.args.view.now t c.requires.on s)) in absurd (omega (arith, past, low)))
+    c.in-Err-fetch.ensures.outside
 
 pub returns-in-Err-clause-sound : goal.returns-in-Err-clause-sound
 returns-in-Err-clause-sound g c =
     let d = g.D.SharedDisk.state c.args.disk.now in
     subst (λ e. IfDamaged e (λ b rule. (t : Tree) → StandsFor d c.args.view.now t → ⊥)) (sym c.end_of.ensures)
-        (each c.in-Err.fault (λ t s. c.in-Err.ensures.sound (image_of d) s.owners s.layout t (of_view d c.args.view.now t c.requires.on s)))
+    (each c.in-Err.fault (λ t s. c.in-Err.ensures.sound (image_of d) s.owners s.layout t (of_view d c.args.view.now t c.requires.on s)))
   where
     each : (f : CallFault) {P : Tree → Type 0} → ((t : Tree) → P t → TellsOf (λ rule b. ⊥) f) → IfDamaged (end_at f) (λ b rule. (t : Tree) → P t → ⊥)
     each (fault.Damaged block rule) so = so

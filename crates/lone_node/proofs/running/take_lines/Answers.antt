@@ -49,7 +49,7 @@ pub overflow_add-number : goal.overflow_add-number
 overflow_add-number g c =
     let so = c.loop-line.invariant in
     let few = no_more_calls c.args.clients.now c.args.lines.now (StandsFor (g.D.SharedDisk.state c.args.disk.now) c.args.view.now) c.loop-line.line-index c.loop-line.items.items
-        c.loop-line-test.true so.run in
+    c.loop-line-test.true so.run in
     omega (arith, few, so.number, c.loop-line-test.true, c.well_formed)
 
 pub loop-line-preserved : goal.loop-line-preserved
@@ -91,8 +91,8 @@ returns-in-Err-clause-stands g c = unless_so c.in-Err.end (still g c) c.in-Err.e
 pub returns-in-Err-clause-sound : goal.returns-in-Err-clause-sound
 returns-in-Err-clause-sound g c =
     damaged_so c.in-Err.end (λ b rule. (t : Tree) → StandsFor (g.D.SharedDisk.state c.loop-line.disk) c.loop-line.view t → ⊥)
-        (λ b rule. (t : Tree) → StandsFor (g.D.SharedDisk.state c.args.disk.now) c.args.view.now t → ⊥)
-        (λ b rule never t s. never _ (c.loop-line.invariant.stands t s)) c.in-Err.ensures.sound
+    (λ b rule. (t : Tree) → StandsFor (g.D.SharedDisk.state c.args.disk.now) c.args.view.now t → ⊥)
+    (λ b rule never t s. never _ (c.loop-line.invariant.stands t s)) c.in-Err.ensures.sound
 
 pub returns-in-Err-clause-unbuilt : goal.returns-in-Err-clause-unbuilt
 returns-in-Err-clause-unbuilt g c =
@@ -101,12 +101,12 @@ returns-in-Err-clause-unbuilt g c =
     let next = g.D.SharedDisk.state c.take_call.new.disk in
     let start = StandsFor (g.D.SharedDisk.state c.args.disk.now) c.args.view.now in
     unbuilt_with c.in-Err.end (IsUnbuiltOn now c.loop-line.view c.in-Call.call)
-        (λ b. EndsAtCall (λ call. IsUnbuiltOn next c.args.view.now call b) c.args.clients.now c.args.lines.now c.take_call.new.items.items start)
-        (λ (same : next ≡ now) b is. ends_here c.args.clients.now c.args.lines.now start c.loop-line.line-index c.loop-line.items.items c.loop-line-test.true so.run c.in-Call.client c.in-Call.call
-            c.line-item.result c.line-item.result c.index-clients-client.result c.line-item.is c.in-Call.is c.requires.form
-            (λ call. IsUnbuiltOn next c.args.view.now call b) c.take_call.new.items.items c.in-Err.ensures.kept
-            (unbuilt_before now next c.args.view.now c.loop-line.view c.in-Call.call b same so.system is))
-        c.in-Err.ensures.before c.in-Err.ensures.unbuilt
+    (λ b. EndsAtCall (λ call. IsUnbuiltOn next c.args.view.now call b) c.args.clients.now c.args.lines.now c.take_call.new.items.items start)
+    (λ (same : next ≡ now) b is. ends_here c.args.clients.now c.args.lines.now start c.loop-line.line-index c.loop-line.items.items c.loop-line-test.true so.run c.in-Call.client c.in-Call.call
+    c.line-item.result c.line-item.result c.index-clients-client.result c.line-item.is c.in-Call.is c.requires.form
+    (λ call. IsUnbuiltOn next c.args.view.now call b) c.take_call.new.items.items c.in-Err.ensures.kept
+    (unbuilt_before now next c.args.view.now c.loop-line.view c.in-Call.call b same so.system is))
+    c.in-Err.ensures.before c.in-Err.ensures.unbuilt
 
 pub returns-clause-stands : goal.returns-clause-stands
 returns-clause-stands g c t s =

@@ -7,7 +7,7 @@ pub write-requires-clause-free : goal.write-requires-clause-free
 write-requires-clause-free g c =
     let low : c.loop-written.written-index < length c.args.blocks.now = omega (arith, c.loop-written-test.true, c.loop-written.auto.written-index-end) in
     next_is_free (g.D.SharedDisk.state c.args.disk.now) (g.D.SharedDisk.state c.loop-written.disk) c.args.blocks.now c.loop-written.written-index c.written-item.result _
-        c.requires.of_disk.rise low c.written-item.is c.loop-written.invariant.fly
+    c.requires.of_disk.rise low c.written-item.is c.loop-written.invariant.fly
 
 pub loop-written-preserved : goal.loop-written-preserved
 loop-written-preserved g c =
