@@ -1,5 +1,5 @@
 -- Why a run of one node ends before its script does.
-use Rattle.std.specs.Prelude.{ℕ, ⊤, ◌<◌, IfSome}
+use Rattle.std.specs.Prelude.{ℕ, ⊤, ◌<◌, IfSome, Result, Ok, Err}
 use Rattle.fault_counts.specs.Causes.{WentUp}
 use Rattle.glock_names.specs.declared.steps.CallFault.{CallFault}
 use Rattle.glock_names.specs.declared.steps.CallFault.TheVariants as fault
@@ -30,6 +30,11 @@ IfNotBuilt e P = ⊤
 abbrev pub UnlessFailed : RunEnd → Type 0 → Type 0
 UnlessFailed (end.DiskFailed block rise) P = ⊤
 UnlessFailed e P = P
+
+-- a fact for each result but the end at a failed disk
+abbrev pub UnlessDiskFailed : {A : Type 0} → Result A RunEnd → Type 0 → Type 0
+UnlessDiskFailed (Ok a) P = P
+UnlessDiskFailed (Err e) P = UnlessFailed e P
 
 -- the end at a call's fault
 abbrev pub end_at : CallFault → RunEnd

@@ -1,4 +1,5 @@
 pub mod Answering
 pub mod Ends
+pub mod Run
 pub mod Standing
 pub mod Writing

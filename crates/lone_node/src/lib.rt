@@ -4,7 +4,9 @@
 mod answering;
 mod ends;
 mod fetching;
+mod running;
 mod writing;
 
 pub use answering::{Answer, Full};
 pub use ends::RunEnd;
+pub use running::run_script;

@@ -1,0 +1,186 @@
+-- A script's lines, taken one after another.
+use Rattle.std.proofs.Common.{◌≡◌, ℕ, suc, ◌+◌, ◌<◌, ◌≤◌, List, [], ◌∷◌, ◌++◌, length, take, get_or, map, cond, Option, None, Some, refl, sym, ap, ◌∙◌, subst, arith, append_assoc, length-append, Bool, false}
+use Rattle.std.specs.Prelude.{slice_get}
+use Rattle.std.specs.List.{AllByRecursion, filter}
+use Rattle.std.proofs.lemmas.Option.{slice_get-get_or}
+use Rattle.std.proofs.lemmas.List.{append-nil, length-map, length-take-le, map_push}
+use Rattle.std.proofs.lemmas.List.Elements.{filter_more}
+use Rattle.std.proofs.lemmas.List.Sums.{count_by-le-length, length-filter}
+use Rattle.file_tree.specs.Tree.{Tree}
+use Rattle.file_tree.specs.Apply.{Answers}
+use Rattle.file_tree.specs.declared.call.Call.{Call}
+use Rattle.file_tree.specs.declared.reply.Reply.{Reply}
+use Rattle.cluster_history.specs.declared.Item.{Item}
+use Rattle.cluster_history.specs.History.{AllAnswer, NoneLost, Replied, after, alive, tree_after, tree_of}
+use Rattle.cluster_history.proofs.Legal.{replied, alive-none_lost}
+use Rattle.cluster_history.specs.declared.Item.TheVariants as item
+use Rattle.run_rules.specs.Follows.{history_of, place_of}
+use Rattle.trace_text.specs.declared.item.TraceItem.{TraceItem}
+use Rattle.trace_text.specs.declared.item.TraceItem.TheVariants as trace
+use Rattle.script_lang.specs.declared.script.Client.{Client}
+use Rattle.script_lang.specs.declared.script.Line.{Line}
+use Rattle.script_lang.specs.declared.script.Line.TheVariants as line
+use Rattle.shared_disk.specs.Disk.{DiskState}
+use Rattle.lone_view.specs.Seeing.{Lone}
+use Rattle.lone_node.specs.Run.{AnsweredCall, EndsAtCall, IsLineOf, IsRunUpTo, IsTakenCall, full_item, is_call_line, items_from, its_answer, its_line, name_at}
+use Rattle.lone_node.specs.Standing.{StandsFor}
+use Rattle.lone_node.specs.declared.answering.Full.{Full}
+use Rattle.lone_node.proofs.Calls.{all_at}
+use Rattle.lone_node.proofs.Clients.{name_is}
+
+-- ---- lists of answered calls
+
+all_answer_more : (rs : List Replied) (r : Replied) (t : Tree) → AllAnswer rs t → Answers r.call (tree_after rs t) r.reply (after r (tree_after rs t)) → AllAnswer (rs ++ r ∷ []) t
+all_answer_more [] r t all one = (one, tt)
+all_answer_more (s ∷ rs) r t all one = (all.0, all_answer_more rs r (after s t) all.1 one)
+
+tree_after_more : (rs : List Replied) (r : Replied) (t : Tree) → tree_after (rs ++ r ∷ []) t ≡ after r (tree_after rs t)
+tree_after_more [] r t = refl
+tree_after_more (s ∷ rs) r t = tree_after_more rs r (after s t)
+
+items_more : (clients : List Client) (n : ℕ) (rs : List AnsweredCall) (r : AnsweredCall)
+    → items_from clients n (rs ++ r ∷ []) ≡ items_from clients n rs ++ (full_item r.full ++ trace.Call 1 (name_at clients r.client) (n + length rs) r.call r.reply ∷ [])
+items_more clients n [] r = let same : n ≡ n + 0 = omega arith in ap (λ (m : ℕ). full_item r.full ++ trace.Call 1 (name_at clients r.client) m r.call r.reply ∷ []) same
+items_more clients n (s ∷ rs) r =
+    let same : n + 1 + length rs ≡ n + suc (length rs) = omega arith in
+    let first = trace.Call 1 (name_at clients s.client) n s.call s.reply in
+    ap (λ (is : List TraceItem). full_item s.full ++ first ∷ is)
+    (items_more clients (n + 1) rs r ∙ ap (λ (m : ℕ). items_from clients (n + 1) rs ++ (full_item r.full ++ trace.Call 1 (name_at clients r.client) m r.call r.reply ∷ [])) same)
+    ∙ sym (append_assoc (full_item s.full) (first ∷ items_from clients (n + 1) rs) (full_item r.full ++ trace.Call 1 (name_at clients r.client) (n + suc (length rs)) r.call r.reply ∷ []))
+
+-- ---- their history
+
+-- an item of free blocks is none of the history
+pub history_past : (clients : List Client) (full : Option Full) (is : List TraceItem) → history_of clients (full_item full ++ is) ≡ history_of clients is
+history_past clients None is = refl
+history_past clients (Some f) is = refl
+
+none_lost_in : (clients : List Client) (n : ℕ) (rs : List AnsweredCall) → NoneLost (history_of clients (items_from clients n rs))
+none_lost_in clients n [] = tt
+none_lost_in clients n (r ∷ rs) = subst NoneLost (sym (history_past clients r.full (trace.Call 1 (name_at clients r.client) n r.call r.reply ∷ items_from clients (n + 1) rs))) (none_lost_in clients (n + 1) rs)
+
+replied_in : (clients : List Client) (n : ℕ) (rs : List AnsweredCall) → replied (history_of clients (items_from clients n rs)) ≡ map its_answer rs
+replied_in clients n [] = refl
+replied_in clients n (r ∷ rs) =
+    ap replied (history_past clients r.full (trace.Call 1 (name_at clients r.client) n r.call r.reply ∷ items_from clients (n + 1) rs))
+    ∙ ap (λ (ss : List Replied). its_answer r ∷ ss) (replied_in clients (n + 1) rs)
+
+alive_in : (clients : List Client) (n : ℕ) (rs : List AnsweredCall) → alive (history_of clients (items_from clients n rs)) ≡ map its_answer rs
+alive_in clients n rs = alive-none_lost (history_of clients (items_from clients n rs)) (none_lost_in clients n rs) ∙ replied_in clients n rs
+
+-- nor is the unmount
+history_end : (clients : List Client) (n : ℕ) (rs : List AnsweredCall) → history_of clients (items_from clients n rs ++ trace.Unmount 1 ∷ []) ≡ history_of clients (items_from clients n rs)
+history_end clients n [] = refl
+history_end clients n (r ∷ rs) =
+    let first = trace.Call 1 (name_at clients r.client) n r.call r.reply in
+    ap (history_of clients) (append_assoc (full_item r.full) (first ∷ items_from clients (n + 1) rs) (trace.Unmount 1 ∷ []))
+    ∙ history_past clients r.full (first ∷ (items_from clients (n + 1) rs ++ trace.Unmount 1 ∷ []))
+    ∙ ap (λ (h : List Item). item.Call 1 (place_of clients (name_at clients r.client)) n r.call r.reply ∷ h) (history_end clients (n + 1) rs)
+    ∙ sym (history_past clients r.full (first ∷ items_from clients (n + 1) rs))
+
+-- ---- steps
+
+module _ (clients : List Client) (lines : List Line) (IsStart : Tree → Type 0) where
+  -- the tree behind a run is that after its calls
+  pub tree_is : (count : ℕ) (items : List TraceItem) (so : IsRunUpTo clients lines count items IsStart) (t : Tree) → tree_of (history_of clients items) t ≡ tree_after (map its_answer so.answered) t
+  tree_is count items so t = ap (λ (is : List TraceItem). tree_of (history_of clients is) t) so.are ∙ ap (λ (ss : List Replied). tree_after ss t) (alive_in clients 1 so.answered)
+
+  -- it stays at the unmount
+  pub unmounted : (count : ℕ) (items more : List TraceItem) → IsRunUpTo clients lines count items IsStart → more ≡ items ++ trace.Unmount 1 ∷ [] → history_of clients items ≡ history_of clients more
+  unmounted count items more so are =
+      ap (history_of clients) so.are ∙ sym (history_end clients 1 so.answered) ∙ ap (λ (is : List TraceItem). history_of clients (is ++ trace.Unmount 1 ∷ [])) (sym so.are) ∙ ap (history_of clients) (sym are)
+
+  -- node 1 has joined, and taken no line
+  abbrev pub run_none : (items : List TraceItem) → items ≡ trace.Join 1 ∷ [] → IsRunUpTo clients lines 0 items IsStart
+  run_none items is = record { answered = []; are = is; calls = refl; answers = λ t start. tt }
+
+  module _ (i : ℕ) (items : List TraceItem) (below : i < length lines) (so : IsRunUpTo clients lines i items IsStart) where
+    -- the calls among one more line
+    calls_more : (l d : Line) → l ≡ get_or lines i d → filter is_call_line (take (i + 1) lines) ≡ filter is_call_line (take i lines) ++ cond (is_call_line l) (l ∷ []) []
+    calls_more l d is = filter_more is_call_line lines i d below ∙ ap (λ (m : Line). filter is_call_line (take i lines) ++ cond (is_call_line m) (m ∷ []) []) (sym is)
+
+    -- no more calls are answered than there are lines
+    pub no_more_calls : length so.answered ≤ i
+    no_more_calls =
+        let as_many = length-map so.answered its_line in
+        let same = ap (λ (ls : List Line). length ls) so.calls ∙ length-filter is_call_line (take i lines) in
+        let fewer = count_by-le-length is_call_line (take i lines) in
+        let front = length-take-le i lines (omega (arith, below)) in
+        omega (arith, as_many, same, fewer, front)
+
+    -- a line that is no call passes
+    other_line : (l : Line) → ((place : ℕ) (call : Call) → l ≡ line.Call place call → ⊥) → is_call_line l ≡ false
+    other_line (line.Call place call) other = absurd (other place call refl)
+    other_line line.Wait other = refl
+    other_line (line.Crash nodes) other = refl
+    other_line (line.Join node) other = refl
+
+    pub wait_more : (d l : Line) → l ≡ get_or lines i d → ((place : ℕ) (call : Call) → l ≡ line.Call place call → ⊥) → IsRunUpTo clients lines (i + 1) items IsStart
+    wait_more d l is other = record {
+      answered = so.answered;
+      are = so.are;
+      calls = so.calls ∙ sym (append-nil (filter is_call_line (take i lines)))
+          ∙ sym (calls_more l d is ∙ ap (λ (b : Bool). filter is_call_line (take i lines) ++ cond b (l ∷ []) []) (other_line l other));
+      answers = so.answers;
+    }
+
+    pub wait_number : (number : ℕ) (d l : Line) (is : l ≡ get_or lines i d) (other : (place : ℕ) (call : Call) → l ≡ line.Call place call → ⊥)
+        → number ≡ 1 + length so.answered → number ≡ 1 + length (wait_more d l is other).answered
+    unfolding wait_more
+    wait_number number d l is other same = same
+
+    module _ (place : ℕ) (call : Call) (l d : Line) (c : Client) (is : l ≡ get_or lines i d) (is_call : l ≡ line.Call place call) (form : AllByRecursion (IsLineOf (length clients)) lines) where
+      at_place : line.Call place call ≡ get_or lines i d
+      at_place = sym is_call ∙ is
+
+      it_stands : slice_get lines i ≡ Some (line.Call place call)
+      it_stands = slice_get-get_or lines i d below ∙ ap (λ (m : Line). Some m) (sym at_place)
+
+      its_client : (get_or clients place c).name ≡ name_at clients place
+      its_client = name_is clients place c (all_at (IsLineOf (length clients)) lines i (line.Call place call) form it_stands).0
+
+      -- the run ends at this call
+      pub ends_here : (P : Call → Type 0) (more : List TraceItem) → more ≡ items → P call → EndsAtCall P clients lines more IsStart
+      ends_here P more kept holds = record {
+        count = i;
+        taken = subst (λ (is : List TraceItem). IsRunUpTo clients lines i is IsStart) (sym kept) so;
+        next = line.Call place call;
+        is_next = it_stands;
+        holds = holds;
+      }
+
+      module _ (more : List TraceItem) (number : ℕ) (disk disk' : DiskState) (n n' : Lone) (number_is : number ≡ 1 + length so.answered)
+          (taken : IsTakenCall (get_or clients place c).name number call items more disk disk' n n')
+          (stands : (t : Tree) → IsStart t → StandsFor disk n (tree_of (history_of clients items) t)) where
+        abbrev one : AnsweredCall
+        one = record { client = place; call = call; reply = taken.reply; full = taken.full }
+
+        -- the disk stood for the tree after the calls before
+        stood : (t : Tree) → IsStart t → StandsFor disk n (tree_after (map its_answer so.answered) t)
+        stood t start = subst (StandsFor disk n) (tree_is i items so t) (stands t start)
+
+        -- one more call is taken
+        pub run_more : IsRunUpTo clients lines (i + 1) more IsStart
+        run_more = record {
+          answered = so.answered ++ one ∷ [];
+          are =
+              taken.are ∙ (λ k. so.are k ++ (full_item taken.full ++ trace.Call 1 (its_client k) (number_is k) call taken.reply ∷ []))
+              ∙ ap (λ (is : List TraceItem). trace.Join 1 ∷ is) (sym (items_more clients 1 so.answered one));
+          calls =
+              map_push its_line so.answered one ∙ ap (λ (ls : List Line). ls ++ line.Call place call ∷ []) so.calls
+              ∙ sym (calls_more (line.Call place call) d at_place);
+          answers = λ t start. subst (λ (ss : List Replied). AllAnswer ss t) (sym (map_push its_answer so.answered one))
+              (all_answer_more (map its_answer so.answered) (its_answer one) t (so.answers t start)
+              (taken.answered.answers (tree_after (map its_answer so.answered) t) (stood t start)));
+        }
+
+        pub number_more : number + 1 ≡ 1 + length run_more.answered
+        unfolding run_more
+        number_more = let longer = length-append so.answered (one ∷ []) in omega (arith, number_is, longer)
+
+        pub stands_more : (t : Tree) → IsStart t → StandsFor disk' n' (tree_of (history_of clients more) t)
+        unfolding run_more
+        stands_more t start =
+            subst (StandsFor disk' n')
+            (sym (tree_is (i + 1) more run_more t ∙ ap (λ (ss : List Replied). tree_after ss t) (map_push its_answer so.answered one) ∙ tree_after_more (map its_answer so.answered) (its_answer one) t))
+            (taken.answered.stands (tree_after (map its_answer so.answered) t) (stood t start))

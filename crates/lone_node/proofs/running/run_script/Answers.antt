@@ -1,0 +1,53 @@
+use Rattle.std.proofs.Common.{◌≡◌, ℕ, List, sym, ap, ◌∙◌, subst}
+use Rattle.std.specs.Prelude.{Result, OnOk, Ok, Err}
+use Rattle.file_tree.specs.Tree.{Tree}
+use Rattle.script_lang.specs.Script.{ScriptValue}
+use Rattle.script_lang.specs.declared.script.Client.{Client}
+use Rattle.script_lang.specs.declared.script.Line.{Line}
+use Rattle.lone_node.specs.declared.ends.RunEnd.{RunEnd}
+use Rattle.lone_node.specs.Run.{IsRunOf, IsWholeRun}
+use Rattle.lone_node.specs.Standing.{StandsFor}
+use Rattle.lone_node.proofs.NodeRuns.{Owes, owes, owes_all}
+use Rattle.lone_node.proofs.running.run_script.Given.{Over}
+use Rattle.lone_node.proofs.running.run_script.Goals as goal
+
+at_script : {clients : List Client} {lines : List Line} (P : List Client → List Line → Type 0) (cs : List Client) (ls : List Line) → clients ≡ cs → lines ≡ ls → P clients lines → P cs ls
+at_script P cs ls same equal = subst (λ (p : List Client × List Line). P p.0 p.1) (λ k. (same k, equal k))
+
+module _ (g : Over) (c : goal.After-run_lines g) where
+  abbrev start : Tree → Type 0
+  start = StandsFor (g.D.SharedDisk.state c.args.disk.now) c.args.view.now
+
+  clients : c.deref.result.now ≡ c.args.script.now.clients
+  clients = c.deref.ensures.value ∙ ap (λ (s : ScriptValue). s.clients) c.script.view_is
+
+  lines : c.deref-2.result.now ≡ c.args.script.now.lines
+  lines = c.deref-2.ensures.value ∙ ap (λ (s : ScriptValue). s.lines) c.script.view_is
+
+  owed : Owes c.args.script.now c.run_lines.new.items.items start
+  owed =
+      owes c.args.script.now c.requires.form c.run_lines.new.items.items start
+      (at_script (λ cs ls. IsRunOf cs ls c.run_lines.new.items.items start) c.args.script.now.clients c.args.script.now.lines clients lines c.run_lines.ensures.run)
+
+pub returns-clause-history : goal.returns-clause-history
+returns-clause-history g c = (owed g c).history
+
+pub returns-clause-legal : goal.returns-clause-legal
+returns-clause-legal g c = (owed g c).legal
+
+pub returns-clause-members : goal.returns-clause-members
+returns-clause-members g c = (owed g c).members
+
+pub returns-clause-none_lost : goal.returns-clause-none_lost
+returns-clause-none_lost g c = (owed g c).none_lost
+
+on_ok : {P Q : Type 0} (r : Result Unit RunEnd) → (P → Q) → OnOk r P → OnOk r Q
+on_ok (Ok x) f h = f h
+on_ok (Err e) f h = tt
+
+pub returns-clause-answered : goal.returns-clause-answered
+returns-clause-answered g c =
+    on_ok c.run_lines.result
+    (λ whole. owes_all c.args.script.now c.requires.form c.run_lines.new.items.items (start g c)
+    (at_script (λ cs ls. IsWholeRun cs ls c.run_lines.new.items.items (start g c)) c.args.script.now.clients c.args.script.now.lines (clients g c) (lines g c) whole))
+    c.run_lines.ensures.whole

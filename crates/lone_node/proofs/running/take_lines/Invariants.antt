@@ -1,0 +1,21 @@
+use Rattle.std.proofs.Common.{◌≡◌, ◌≤◌, ◌+◌, ℕ, length}
+use Rattle.file_tree.specs.Tree.{Tree}
+use Rattle.cluster_history.specs.History.{tree_of}
+use Rattle.run_rules.specs.Follows.{history_of}
+use Rattle.shared_disk.specs.Disk.{IsIdle}
+use Rattle.lone_node.specs.Answering.{IsSameDisk}
+use Rattle.lone_node.specs.Run.{IsRunUpTo}
+use Rattle.lone_node.specs.Standing.{IsOn, IsSameSystem, StandsFor}
+use Rattle.lone_node.proofs.running.take_lines.Given as goal
+
+abbrev pub invariant-loop-line : goal.invariant-loop-line
+invariant-loop-line g l = record {
+  run : IsRunUpTo l.clients l.lines l.line-index l.items.items (StandsFor (g.D.SharedDisk.state l.initial.disk) l.initial.view);
+  number : l.number ≡ 1 + length run.answered;
+  stands : (t : Tree) → StandsFor (g.D.SharedDisk.state l.initial.disk) l.initial.view t → StandsFor (g.D.SharedDisk.state l.disk) l.view (tree_of (history_of l.clients l.items.items) t);
+  idle : IsIdle (g.D.SharedDisk.state l.disk);
+  on : IsOn (g.D.SharedDisk.state l.disk) l.view;
+  same : IsSameDisk (g.D.SharedDisk.state l.initial.disk) (g.D.SharedDisk.state l.disk);
+  system : IsSameSystem l.initial.view l.view;
+  later : (i : ℕ) → g.D.SharedDisk.faults l.initial.disk i ≤ g.D.SharedDisk.faults l.disk i;
+}

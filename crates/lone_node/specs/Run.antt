@@ -1,0 +1,112 @@
+-- The items of one node that takes a script's lines one by one.
+use Rattle.std.specs.Prelude.{ℕ, zero, suc, ◌≡◌, ◌+◌, ◌<◌, ⊤, Bool, true, false, List, [], ◌∷◌, ◌++◌, length, map, take, slice_get, Option, None, Some}
+use Rattle.std.specs.List.{AllByRecursion, filter}
+use Rattle.file_tree.specs.Tree.{Tree}
+use Rattle.file_tree.specs.declared.call.Call.{Call}
+use Rattle.file_tree.specs.declared.reply.Reply.{Reply}
+use Rattle.cluster_history.specs.History.{Replied, AllAnswer}
+use Rattle.script_lang.specs.OneNode.{HaveOwnClientNames}
+use Rattle.script_lang.specs.Script.{ScriptValue}
+use Rattle.script_lang.specs.declared.script.Client.{Client}
+use Rattle.script_lang.specs.declared.script.Line.{Line}
+use Rattle.script_lang.specs.declared.script.Line.TheVariants as line
+use Rattle.trace_text.specs.declared.item.TraceItem.{TraceItem}
+use Rattle.trace_text.specs.declared.item.TraceItem.TheVariants as trace
+use Rattle.shared_disk.specs.Disk.{DiskState}
+use Rattle.file_calls.specs.Calls.{IsBuilt}
+use Rattle.lone_view.specs.Seeing.{Lone}
+use Rattle.lone_node.specs.Answering.{IsAnsweredFrom}
+use Rattle.lone_node.specs.declared.answering.Full.{Full}
+
+-- ---- the scripts that one node can run
+
+-- a line that one node can take, where there are so many clients: a call of one of them that is built, or a wait
+abbrev pub IsLineOf : ℕ → Line → Type 0
+IsLineOf clients (line.Call client call) = (client < clients) × IsBuilt call
+IsLineOf clients line.Wait = ⊤
+IsLineOf clients _ = ⊥
+
+-- a script for node 1 alone, whose clients have names of their own
+pub record IsOwnScript (s : ScriptValue) : Type 0 where
+  pub nodes : s.nodes ≡ 1
+  pub clients : AllByRecursion (λ (c : Client). c.node ≡ 1) s.clients
+  pub names : HaveOwnClientNames s.clients
+  pub armed : s.armed ≡ []
+  pub lines : AllByRecursion (IsLineOf (length s.clients)) s.lines
+
+-- ---- answered calls and their items
+
+abbrev pub is_call_line : Line → Bool
+is_call_line (line.Call client call) = true
+is_call_line _ = false
+
+-- the name of the client at this place
+abbrev pub name_at : List Client → ℕ → List ℕ
+name_at [] place = []
+name_at (c ∷ cs) zero = c.name
+name_at (c ∷ cs) (suc place) = name_at cs place
+
+-- a call of the client at this place, its reply, and where too few blocks were free for it how many
+pub record AnsweredCall : Type 0 where
+  pub client : ℕ
+  pub call : Call
+  pub reply : Reply
+  pub full : Option Full
+
+abbrev pub its_line : AnsweredCall → Line
+its_line a = line.Call a.client a.call
+
+abbrev pub its_answer : AnsweredCall → Replied
+its_answer a = record { call = a.call; reply = a.reply }
+
+-- the item of how many blocks were free, where too few were
+abbrev pub full_item : Option Full → List TraceItem
+full_item None = []
+full_item (Some f) = trace.Full 1 f.need f.free ∷ []
+
+-- node 1's items of these calls, which are numbered from n on: directly before its call an item stands that tells of too few blocks
+abbrev pub items_from : List Client → ℕ → List AnsweredCall → List TraceItem
+items_from clients n [] = []
+items_from clients n (a ∷ later) = full_item a.full ++ trace.Call 1 (name_at clients a.client) n a.call a.reply ∷ items_from clients (n + 1) later
+
+-- ---- how far a run of lines has come
+
+-- node 1 has joined and taken the first of these lines: the calls among them are answered, as each of these trees answers them one by one
+pub record IsRunUpTo (clients : List Client) (lines : List Line) (count : ℕ) (items : List TraceItem) (IsStart : Tree → Type 0) : Type 0 where
+  pub answered : List AnsweredCall
+  pub are : items ≡ trace.Join 1 ∷ items_from clients 1 answered
+  pub calls : map its_line answered ≡ filter is_call_line (take count lines)
+  pub answers : (t : Tree) → IsStart t → AllAnswer (map its_answer answered) t
+
+-- it has taken all of them, and unmounted
+pub record IsWholeRun (clients : List Client) (lines : List Line) (items : List TraceItem) (IsStart : Tree → Type 0) : Type 0 where
+  pub before : List TraceItem
+  pub taken : IsRunUpTo clients lines (length lines) before IsStart
+  pub are : items ≡ before ++ trace.Unmount 1 ∷ []
+
+pub data IsRunOf (clients : List Client) (lines : List Line) (items : List TraceItem) (IsStart : Tree → Type 0) : Type 0 where
+  NotJoined : items ≡ [] → IsRunOf clients lines items IsStart
+  Taken : (count : ℕ) → IsRunUpTo clients lines count items IsStart → IsRunOf clients lines items IsStart
+  Unmounted : IsWholeRun clients lines items IsStart → IsRunOf clients lines items IsStart
+
+-- the line is a call, and this holds of it
+abbrev pub IsCallThat : (Call → Type 0) → Line → Type 0
+IsCallThat P (line.Call client call) = P call
+IsCallThat P _ = ⊥
+
+-- a run that took the first lines ended at the next one: a call, of which this holds
+pub record EndsAtCall (P : Call → Type 0) (clients : List Client) (lines : List Line) (items : List TraceItem) (IsStart : Tree → Type 0) : Type 0 where
+  pub count : ℕ
+  pub taken : IsRunUpTo clients lines count items IsStart
+  pub next : Line
+  pub is_next : slice_get lines count ≡ Some next
+  pub holds : IsCallThat P next
+
+-- ---- one more call
+
+-- node 1 took a call as its call of this number: it was answered so, and its items came behind those before
+pub record IsTakenCall (name : List ℕ) (number : ℕ) (call : Call) (before items : List TraceItem) (d d' : DiskState) (n n' : Lone) : Type 0 where
+  pub reply : Reply
+  pub full : Option Full
+  pub are : items ≡ before ++ (full_item full ++ trace.Call 1 name number call reply ∷ [])
+  pub answered : IsAnsweredFrom d d' n n' call reply
