@@ -1,0 +1,7 @@
+//! The calls that make a name, over a view: `create` and `mkdir`.
+#![tactic(auto)]
+
+mod blocks;
+mod tries;
+
+pub use tries::attempt;
