@@ -17,7 +17,7 @@ use Rattle.drafts.specs.declared.fate.Fate.TheVariants.{Put}
 use Rattle.gfs2_layout.specs.Bitmap.{state_at}
 use Rattle.gfs2_layout.specs.Exchanges.{IsExchanged, IsCounted}
 use Rattle.gfs2_layout.specs.Groups.{bitmap_of}
-use Rattle.gfs2_layout.specs.Holding.{Holding, Part, Itself, part_at}
+use Rattle.gfs2_layout.specs.Holding.{Holding, Part, Itself, part_at, alone}
 use Rattle.gfs2_layout.specs.Inode.{Head, IsInode, dinode_in, head_of, is_directory_in, records_of}
 use Rattle.gfs2_layout.specs.Records.{Record, child_named}
 use Rattle.gfs2_layout.specs.declared.dinode.Dinode.{Dinode}
@@ -50,7 +50,7 @@ use Rattle.image_changes.specs.Instances.{IsAt, is_directory_at, records_at}
 use Rattle.image_changes.proofs.Frame.{dinode_its}
 use Rattle.image_changes.proofs.Laid.{follow_dinode}
 use Rattle.image_changes.proofs.States.{state_is_put, other_generation}
-use Rattle.draft_changes.specs.Adding.{alone, heads_with, ReadsNew, AddsName}
+use Rattle.draft_changes.specs.Adding.{heads_with, ReadsNew, AddsName}
 use Rattle.draft_changes.specs.Groups.{PutsGroup}
 use Rattle.draft_changes.proofs.Rows.{part_its, said_free}
 use Rattle.draft_changes.proofs.Views.{shows_inodes, later_shows, shows_groups, groups_are_listed}
