@@ -50,7 +50,7 @@ use Rattle.image_changes.specs.Instances.{IsAt, is_directory_at, records_at}
 use Rattle.image_changes.proofs.Frame.{dinode_its}
 use Rattle.image_changes.proofs.Laid.{follow_dinode}
 use Rattle.image_changes.proofs.States.{state_is_put, other_generation}
-use Rattle.draft_changes.specs.Adding.{heads_with, ReadsNew, AddsName}
+use Rattle.draft_changes.specs.Adding.{ReadsNew, AddsName}
 use Rattle.draft_changes.specs.Groups.{PutsGroup}
 use Rattle.draft_changes.proofs.Rows.{part_its, said_free}
 use Rattle.draft_changes.proofs.Views.{shows_inodes, later_shows, shows_groups, groups_are_listed}
@@ -311,27 +311,7 @@ module _ (v : Seen) (im : Image) (o : Owners) (l : Layout) (t : Tree) (of : IsOf
     ]
 
     puts_group : PutsGroup im f5 g (slice_set (states_of o g) (a - g.data0) 3)
-    puts_group = record {
-      says = says5;
-      some = (g.address, first_header, ap (λ fate. is_some (block_with fate None)) is.put5);
-      locks = λ b lock plain bytes h e. under b lock plain bytes e (fate_header b h);
-      kept = λ b h. left b (fate_header b h);
-    }
-      where
-        Under : LockName → Bool → Type 0
-        Under lock plain = (lock ≡ record { kind = 3; number = g.address }) × (plain ≡ false)
-
-        same : {lock : LockName} {plain : Bool} {bytes bytes' : List ℕ} → Some (Put lock plain bytes) ≡ Some (Put (record { kind = 3; number = g.address }) false bytes') → Under lock plain
-        same e = (cc, cc)
-
-        under : (b : ℕ) (lock : LockName) (plain : Bool) (bytes : List ℕ) → get f5 b ≡ Some (Put lock plain bytes)
-            → (get f5 b ≡ None) ⊎ ((bytes : List ℕ) × (get f5 b ≡ Some (Put (group.group_lock k) false bytes))) → Under lock plain
-        under b lock plain bytes e (inl gone) = absurd (none_some (sym gone ∙ e))
-        under b lock plain bytes e (inr put) = same (sym e ∙ put.1)
-
-        left : (b : ℕ) → (get f5 b ≡ None) ⊎ ((bytes : List ℕ) × (get f5 b ≡ Some (Put (group.group_lock k) false bytes))) → is_freed f5 b ≡ false
-        left b (inl gone) = ap is_gone gone
-        left b (inr put) = ap is_gone put.1
+    puts_group = record { says = says5; some = (g.address, first_header, (is.header5, is.put5)); blocks = fate_header }
 
     -- ---- the name
 
@@ -342,7 +322,7 @@ module _ (v : Seen) (im : Image) (o : Owners) (l : Layout) (t : Tree) (of : IsOf
     new_held = subst (λ size. New (alone size im.count a is.bytes4)) (sym of.size) (is.new im.count (omega (arith, own.high, fits.inside)))
 
     pub adds_name : (name : List ℕ) (u : Tree) → IsName name → is_directory_at im o p ≡ true → child_named (records_at im o p) name ≡ None → entry.name ≡ name
-        → IsInode held → ReadsNew (heads_with im o held) p held u → IsRecordOf (heads_with im o held) a entry → AddsName im o l f5 p name a u
+        → IsInode held → ReadsNew (heads_of im o p) p held u → IsRecordOf (λ b. head_of held) a entry → AddsName im o l f5 p name a u
     adds_name name u is_name directory absent named new_sound reads true_of = record {
       whole = subst (λ size. AreWhole size f5) (sym of.size) is.whole5;
       group = g;

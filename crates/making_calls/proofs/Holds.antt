@@ -1,16 +1,18 @@
 -- Locks of a longer list, and what is found under them.
-use Rattle.std.proofs.Common.{◌≡◌, ℕ, zero, suc, ◌+◌, ◌*◌, ◌<◌, ◌≤◌, true, false, List, [], ◌∷◌, ◌++◌, length, map, take, drop, flat_map, slice_get, Option, None, Some, refl, sym, ap, ap₂, subst, subst₂, ◌∙◌, arith}
+use Rattle.std.proofs.Common.{◌≡◌, ℕ, suc, ◌+◌, ◌<◌, ◌≤◌, true, false, List, [], ◌∷◌, ◌++◌, length, get_or, map, take, drop, slice_get, Option, None, Some, refl, sym, ap, ap₂, subst, subst₂, ◌∙◌, arith}
 use Rattle.std.specs.Prelude.{nat_lt, if◌then◌else◌}
-use Rattle.std.proofs.lemmas.Bool.{cond-true, cond-false}
-use Rattle.std.proofs.lemmas.List.{append_assoc, length-append, map-append}
+use Rattle.std.proofs.lemmas.Bool.{cond-false, le-ltb}
+use Rattle.std.proofs.Math.Numerals.{add-one}
+use Rattle.std.proofs.lemmas.List.{append_assoc, length-append, map-append, take_all}
 use Rattle.std.proofs.lemmas.List.Elements.{All-append, All-push, All-nil}
+use Rattle.std.proofs.lemmas.Option.{slice_get_within, get_or_from_slice_get, slice_get-get_or}
 use Rattle.glock_names.specs.Views.{Seen, HasGroup}
 use Rattle.glock_names.specs.declared.LockName.{LockName}
 use Rattle.glock_names.specs.declared.State.{State}
 use Rattle.glock_names.specs.declared.State.TheVariants.{Ex}
 use Rattle.glock_names.specs.declared.steps.Missing.{Missing}
 use Rattle.glock_names.specs.declared.views.Group.{Group}
-use Rattle.resource_groups.specs.Shown.{said}
+use Rattle.resource_groups.specs.Shown.{IsMissing, said}
 use Rattle.image_model.proofs.Held.{some_same, none_some}
 use Rattle.path_walks.proofs.Lists.{split_at, take_next, with_next}
 use Rattle.path_walks.specs.Holds.{Hold, AreHeld, IsFirstLack, holds, hold_of, hold_for}
@@ -77,6 +79,19 @@ lack_one v h lacks = record { front = []; back = []; split = refl; held = All-ni
 pub held_one : (v : Seen) (h : Hold) → holds v h ≡ true → AreHeld v (h ∷ [])
 held_one v h held = All-push (λ x. holds v x ≡ true) [] h (All-nil (λ x. holds v x ≡ true)) held
 
+-- a group's block under its lock alone
+pub block_one : (v : Seen) (g : Group) (m : Missing) → HasGroup v g → IsMissing v g m → holds v (hold_of_group g) ≡ true → IsGroupBlock v (hold_of_group g ∷ []) m
+block_one v g m has missing held = record {
+  group = g;
+  has = has;
+  missing = missing;
+  state = Ex;
+  front = [];
+  back = [];
+  split = ap (λ (l : LockName). record { lock = l; state = Ex } ∷ []) (sym missing.lock);
+  held = subst (λ (l : LockName). AreHeld v (record { lock = l; state = Ex } ∷ [])) (sym missing.lock) (held_one v (hold_of_group g) held);
+}
+
 -- ---- lists of free blocks
 
 pub nothing_first : (xs : List ℕ) → slice_get xs 0 ≡ None → xs ≡ []
@@ -113,7 +128,7 @@ module _ (v : Seen) (says : States) (groups : List Group) (own : Group) where
 
   rest_none : (xs : List ℕ) (b : ℕ) → slice_get xs 0 ≡ Some b → (if nat_lt (length xs) blocks_needed then map hold_of_group groups else []) ≡ []
   rest_none [] b some = absurd (none_some some)
-  rest_none (x ∷ xs) b some = refl
+  rest_none (x ∷ xs) b some = cond-false (nat_lt (length (x ∷ xs)) blocks_needed) (map hold_of_group groups) [] (le-ltb (length (x ∷ xs)) blocks_needed (omega arith))
 
   -- the own group has none free: all are looked at
   pub all_under : {T : Type 0} (P : T → Type 0) (r : Locked T) → slice_get (free_in says own) 0 ≡ None → AreHeld v (hold_of_group own ∷ []) → IsUnder v (map hold_of_group groups) P r
@@ -209,3 +224,45 @@ one_more v at gs i x r r' f there has before free counts first = record {
   where
     longer : free_in_all (said at) (take (suc i) gs) ≡ free_in_all (said at) (take i gs) ++ free_in (said at) x
     longer = with_next (free_in (said at)) gs i x there
+
+-- ---- the loop over the groups
+
+pub has_at : (v : Seen) (i : ℕ) (g : Group) → slice_get v.groups i ≡ Some g → HasGroup v g
+has_at v i g at = (i, slice_get_within v.groups i g at, get_or_from_slice_get v.groups i g g at)
+
+-- a group that is read from the view's
+pub read_group : (v : Seen) (items : List Group) (i : ℕ) (d : Group) → items ≡ v.groups → i < length items → HasGroup v (get_or items i d)
+read_group v items i d same low = has_at v i (get_or items i d) (ap (λ gs. slice_get gs i) (sym same) ∙ slice_get-get_or items i d low)
+
+pub next_held : (v : Seen) (items : List Group) (i : ℕ) (d : Group) → i < length items → AreHeld v (map hold_of_group (take i items)) → AreHeld v (hold_of_group (get_or items i d) ∷ [])
+    → AreHeld v (map hold_of_group (take (i + 1) items))
+next_held v items i d low held now =
+    subst (λ n. AreHeld v (map hold_of_group (take n items))) (sym (add-one i)) (more_held v items i (get_or items i d) (slice_get-get_or items i d low) held now)
+
+pub next_free : (v : Seen) (at : ℕ → List ℕ) (items : List Group) (i : ℕ) (d : Group) (r r' : Rooms) (f : FreeBlocks) → items ≡ v.groups → i < length items
+    → AreFreeInAll v (said at) (take i items) r → AreFreeIn (said at) (get_or items i d) f → r'.count ≡ r.count + f.count → r'.first ≡ first_of r.first (room_in (get_or items i d) f.least)
+    → AreFreeInAll v (said at) (take (i + 1) items) r'
+next_free v at items i d r r' f same low before free counts first =
+    subst (λ n. AreFreeInAll v (said at) (take n items) r') (sym (add-one i))
+    (one_more v at items i (get_or items i d) r r' f (slice_get-get_or items i d low) (read_group v items i d same low) before free counts first)
+
+pub next_lack : (v : Seen) (items : List Group) (i : ℕ) (d : Group) (lock : LockName) (state : State) → items ≡ v.groups → i < length items → AreHeld v (map hold_of_group (take i items))
+    → IsFirstLack v (hold_of_group (get_or items i d) ∷ []) lock state → IsFirstLack v (map hold_of_group v.groups) lock state
+next_lack v items i d lock state same low held is =
+    subst (λ gs. IsFirstLack v (map hold_of_group gs) lock state) same (lack_at v items i (get_or items i d) lock state (slice_get-get_or items i d low) held is)
+
+pub next_block : (v : Seen) (items : List Group) (i : ℕ) (d : Group) (m : Missing) → items ≡ v.groups → i < length items → AreHeld v (map hold_of_group (take i items))
+    → IsGroupBlock v (hold_of_group (get_or items i d) ∷ []) m → IsGroupBlock v (map hold_of_group v.groups) m
+next_block v items i d m same low held is =
+    subst (λ gs. IsGroupBlock v (map hold_of_group gs) m) same (block_at v items i (get_or items i d) m (slice_get-get_or items i d low) held is)
+
+pub whole_list : (v : Seen) (items : List Group) (n : ℕ) → items ≡ v.groups → length items ≤ n → take n items ≡ v.groups
+whole_list v items n same past = take_all n items past ∙ same
+
+-- ---- what is found for the node's group
+
+pub for_own : (v : Seen) (at : ℕ → List ℕ) (groups : List Group) (own own' : Group) (r r' : Locked Taken) → Some own ≡ Some own' → r ≡ r'
+    → IsUnder v (group_holds (said at) groups own) (IsTaken v (said at) groups own) r → IsUnder v (group_holds (said at) groups own') (IsTaken v (said at) groups own') r'
+for_own v at groups own own' r r' same is found =
+    subst (IsUnder v (group_holds (said at) groups own') (IsTaken v (said at) groups own')) is
+    (subst (λ o. IsUnder v (group_holds (said at) groups o) (IsTaken v (said at) groups o) r) (some_same same) found)

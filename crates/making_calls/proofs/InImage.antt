@@ -2,13 +2,9 @@
 use Rattle.std.proofs.Common.{◌≡◌, ℕ, zero, suc, ◌+◌, ◌<◌, ◌≤◌, ◌==◌, Bool, true, false, List, [], ◌∷◌, ◌++◌, length, map, flat_map, slice_get, Option, None, Some, refl, sym, ap, ap₂, subst, subst₂, ◌∙◌, arith}
 use Rattle.std.specs.Prelude.{nat_lt, if◌then◌else◌, filter}
 use Rattle.std.specs.List.{range_with_len}
-use Rattle.std.specs.Ordering.{nat_cmp}
-use Rattle.std.specs.FinMap.{FinMap, empty, get-empty}
 use Rattle.std.proofs.lemmas.List.{append_assoc}
 use Rattle.std.proofs.lemmas.List.Elements.{All-append}
 use Rattle.file_tree.specs.Tree.{Tree}
-use Rattle.drafts.specs.Fates.{AreWhole}
-use Rattle.drafts.specs.declared.fate.Fate.{Fate}
 use Rattle.gfs2_layout.specs.declared.rindex.Rindex.{Rindex}
 use Rattle.glock_names.specs.Views.{Seen, HasGroup, group_of_entry}
 use Rattle.glock_names.specs.declared.LockName.{LockName}
@@ -16,15 +12,14 @@ use Rattle.glock_names.specs.declared.State.TheVariants.{Ex}
 use Rattle.glock_names.specs.declared.steps.Missing.{Missing}
 use Rattle.glock_names.specs.declared.views.Group.{Group}
 use Rattle.resource_groups.specs.Shown.{IsShown, said, group_lock}
-use Rattle.image_model.specs.Groups.{IsListed, IsHeaderOf}
+use Rattle.image_model.specs.Groups.{IsListed, IsHeaderOf, GroupFits}
 use Rattle.image_model.specs.Image.{Image}
 use Rattle.image_model.specs.Owners.{Owners, InGroup}
 use Rattle.image_model.specs.Stands.{Layout}
-use Rattle.image_model.proofs.Held.{none_some}
 use Rattle.image_changes.specs.Changes.{cover, is_free}
 use Rattle.image_changes.specs.Does.{IsOf, is_content_of}
 use Rattle.draft_changes.proofs.Rows.{state_said}
-use Rattle.draft_changes.proofs.Views.{shows_groups, groups_are_listed}
+use Rattle.draft_changes.proofs.Views.{groups_are_listed}
 use Rattle.path_walks.specs.Holds.{Hold, AreHeld, IsAskedFor, holds, hold_for}
 use Rattle.making_calls.specs.Blocks.{States, states_by, blocks_needed, free_in, free_in_all, hold_of_group, block_holds}
 use Rattle.making_calls.specs.Searches.{AreShown, IsGroupBlock}
@@ -71,15 +66,19 @@ asked_behind v im o l list more m held is = record {
 }
 
 module _ (v : Seen) (im : Image) (o : Owners) (l : Layout) (t : Tree) (of : IsOf v im o l t) where
-  nothing_put : AreWhole v.size (empty {X = Fate} {R = nat_cmp})
-  nothing_put b lock plain bytes put = absurd (none_some (sym (get-empty nat_cmp b) ∙ put))
+  shown_listed : (g : Rindex) → IsListed l.groups g → IsShown v (group_of_entry g) im.at
+  shown_listed g listed =
+      let fits : GroupFits im g = of.stands.laid.fit.each g listed in
+      record {
+        whole = λ b h. of.stands.laid.image.whole b (omega (arith, h.high, fits.first, fits.inside)) ∙ of.size;
+        same = λ b bytes h e. of.agrees b bytes e;
+      }
 
   -- the image's groups are shown
   pub are_shown : AreShown v im.at
   are_shown k has =
       let g = (groups_are_listed v im o l t k of).0 has in
-      let s = shows_groups v (empty {X = Fate} {R = nat_cmp}) im o l t g.0 of nothing_put g.1 in
-      subst (λ x. IsShown v x im.at) (sym g.2) (record { whole = s.whole; same = s.same })
+      subst (λ x. IsShown v x im.at) (sym g.2) (shown_listed g.0 g.1)
 
   free_said : (g : Rindex) → IsListed l.groups g → free_in (said im.at) (group_of_entry g) ≡ free_in (states_by o) (group_of_entry g)
   free_said g listed = filter_same (λ b. said im.at (group_of_entry g) b == 0) (λ b. states_by o (group_of_entry g) b == 0) g.data_blocks g.data0

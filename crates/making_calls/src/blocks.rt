@@ -67,6 +67,7 @@ fn free_of<V: View>(view: &V, group: &Group) -> Result<Locked<FreeBlocks>, CallF
     ensures damaged { OnlyDamaged result (IsGroupBroken (V.seen view.now)) }
     ensures kept { OnlyDamaged result (IsOfView (V.seen view.now)) }
 {
+    let _size = view.block_size();
     let lock = LockName {
         kind: 3,
         number: group.addr,
@@ -136,15 +137,13 @@ fn take_block<V: View>(view: &V, own: &Group) -> Result<Locked<Taken>, CallFault
     ensures damaged { OnlyDamaged result (IsGroupBroken (V.seen view.now)) }
     ensures kept { OnlyDamaged result (IsOfView (V.seen view.now)) }
 {
-    match free_of(view, own)? {
-        Locked::Is(FreeBlocks {
-            least: Some(block), ..
-        }) => {
-            return Ok(Locked::Is(Taken::Is(Room { group: *own, block })));
-        }
-        Locked::Is(_) => {}
+    let free = match free_of(view, own)? {
+        Locked::Is(free) => free,
         Locked::NeedLock { lock, state } => return Ok(Locked::NeedLock { lock, state }),
         Locked::NeedBlock(missing) => return Ok(Locked::NeedBlock(missing)),
+    };
+    if let Some(block) = free.least {
+        return Ok(Locked::Is(Taken::Is(Room { group: *own, block })));
     }
     match free_of_all(view)? {
         Locked::Is(rooms) => Ok(Locked::Is(taken_of(&rooms))),
@@ -175,9 +174,11 @@ pub(crate) fn find_block<V: View>(view: &V, node: u8) -> Result<Locked<Taken>, C
     ensures kept { OnlyDamaged result (IsOfView (V.seen view.now)) }
 {
     let own = own_group(view, node);
-    let taken = take_block(view, &own)?;
-    let Locked::Is(Taken::Is(room)) = taken else {
-        return Ok(taken);
+    let room = match take_block(view, &own)? {
+        Locked::Is(Taken::Is(room)) => room,
+        Locked::Is(Taken::TooFew(free)) => return Ok(Locked::Is(Taken::TooFew(free))),
+        Locked::NeedLock { lock, state } => return Ok(Locked::NeedLock { lock, state }),
+        Locked::NeedBlock(missing) => return Ok(Locked::NeedBlock(missing)),
     };
     let lock = LockName {
         kind: 2,
@@ -189,5 +190,5 @@ pub(crate) fn find_block<V: View>(view: &V, node: u8) -> Result<Locked<Taken>, C
             state: State::Ex,
         });
     }
-    Ok(taken)
+    Ok(Locked::Is(Taken::Is(room)))
 }
