@@ -3,3 +3,7 @@ pub mod Holds
 pub mod Chain
 pub mod NewInodes
 pub mod InImage
+pub mod Alike
+pub mod Faults
+pub mod Recording
+pub mod Numbered

@@ -2,6 +2,7 @@
 #![tactic(auto)]
 
 mod blocks;
+mod drafting;
 mod tries;
 
 pub use tries::attempt;

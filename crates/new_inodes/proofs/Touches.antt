@@ -3,6 +3,7 @@ use Rattle.std.proofs.Common.{◌≡◌, ℕ, ◌≤◌, false, List, length, dr
 use Rattle.std.specs.FinMap.{insert}
 use Rattle.drafts.specs.Fates.{Drafted, seen_in}
 use Rattle.drafts.specs.declared.fate.Fate.TheVariants.{Put}
+use Rattle.gfs2_layout.specs.Headers.{HasHeader}
 use Rattle.gfs2_layout.specs.Holding.{Holding}
 use Rattle.gfs2_layout.specs.Inode.{Head, dinode_in, has_hash_flag}
 use Rattle.gfs2_layout.specs.Structures.{header_fault, dinode_of, dinode_read, dinode_length, is_directory}
@@ -55,6 +56,7 @@ module _ {V : Type 0} (seen : V → Seen) (old new : Drafted V) (inode time : �
   is_touched = record {
     dinode = dinode_after (seen_in seen new) h now over time retimed;
     head = ap head_from (dinode_after (seen_in seen new) h now over time retimed);
+    header = subst (HasHeader 4 400) (sym (bytes_new (seen_in seen new) h now over)) retimed.header;
     written = bytes_new (seen_in seen new) h now over ∙ is.written ∙ ap (dinode_put (with_times (dinode_in h) time)) (sym (bytes_of (seen_in seen old) h inode before is.shown is.there));
     behind = behind_after (seen_in seen new) h now over time retimed;
     sound = λ own sound. sound_after (seen_in seen new) h now over time retimed own large sound;

@@ -1,5 +1,6 @@
 -- An inode with other times.
 use Rattle.std.specs.Prelude.{ℕ, ◌≡◌, drop, Some}
+use Rattle.gfs2_layout.specs.Headers.{HasHeader}
 use Rattle.gfs2_layout.specs.Holding.{Holding, Itself, part_at, bytes_at}
 use Rattle.gfs2_layout.specs.Inode.{IsInode, dinode_in, head_of, content_of, records_of}
 use Rattle.gfs2_layout.specs.Structures.{dinode_length}
@@ -15,6 +16,7 @@ with_times d time = record d { mtime = time; ctime = time }
 pub record IsTouched (h h' : Holding) (time : ℕ) : Type 0 where
   pub dinode : dinode_in h' ≡ with_times (dinode_in h) time
   pub head : head_of h' ≡ head_of h
+  pub header : HasHeader 4 400 (bytes_at h' h.own)
   pub written : bytes_at h' h.own ≡ dinode_put (with_times (dinode_in h) time) (bytes_at h h.own)
   pub behind : drop dinode_length (bytes_at h' h.own) ≡ drop dinode_length (bytes_at h h.own)
   pub sound : part_at h h.own ≡ Some Itself → IsInode h → IsInode h'
