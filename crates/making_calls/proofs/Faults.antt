@@ -1,9 +1,11 @@
 -- Faults that are handed on.
-use Rattle.std.proofs.Common.{◌≡◌, ℕ, List, Result, Ok, Err, sym, subst}
-use Rattle.std.specs.Prelude.{IsErrAnd}
+use Rattle.std.proofs.Common.{◌≡◌, ℕ, true, true≢false, List, Option, None, Some, Bor, Result, Ok, Err, sym, subst}
+use Rattle.std.specs.Prelude.{IfSome, IsErrAnd, is_some}
 use Rattle.gfs2_layout.specs.Holding.{Holding}
-use Rattle.glock_names.specs.Steps.{IfDamaged, IsDamage, TellsOf}
-use Rattle.glock_names.specs.Views.{Seen}
+use Rattle.glock_names.specs.Steps.{IfDamaged, IfIs, IsDamage, TellsOf}
+use Rattle.glock_names.specs.Views.{Seen, HasBlock}
+use Rattle.glock_names.specs.declared.steps.Step.{Step}
+use Rattle.glock_names.specs.declared.steps.Step.TheVariants.{Is, NeedBlock}
 use Rattle.glock_names.specs.declared.steps.CallFault.{CallFault}
 use Rattle.glock_names.specs.declared.steps.CallFault.TheVariants.{Damaged, NoMemory}
 use Rattle.dinode_tree.specs.Shown.{IsShown}
@@ -43,3 +45,19 @@ damaged_each v g (Err f) told = tells_each v g f told
 pub only_so : (P Q : ℕ → ℕ → Type 0) → ((rule b : ℕ) → P rule b → Q rule b) → (f : CallFault) → IsDamage P f → TellsOf Q f
 only_so P Q so (Damaged b rule) told = so rule b told
 only_so P Q so NoMemory told = tt
+
+-- what is so anyway is so of an answer
+pub is_any : {A : Type 0} (r : Result (Step A) CallFault) (P : Type 0) → P → IfIs r (λ answer. P)
+is_any (Ok (Is answer)) P p = p
+is_any (Ok (NeedBlock m)) P p = tt
+is_any (Err f) P p = tt
+
+-- a block that was looked at
+pub seen_there : (w : Seen) (b : ℕ) (x : Option (Bor (List ℕ))) → is_some x ≡ true → IfSome x (λ bytes. w.block_at b ≡ Some bytes.now) → HasBlock w b
+seen_there w b None some told = absurd (true≢false (sym some))
+seen_there w b (Some bytes) some told = (bytes.now, told)
+
+-- of what is told in two ways
+pub tells_two : (P Q R : ℕ → ℕ → Type 0) → ((rule b : ℕ) → P rule b → Q rule b → R rule b) → (f : CallFault) → TellsOf P f → TellsOf Q f → TellsOf R f
+tells_two P Q R so NoMemory first second = tt
+tells_two P Q R so (Damaged b rule) first second = so rule b first second

@@ -7,3 +7,5 @@ pub mod Alike
 pub mod Faults
 pub mod Recording
 pub mod Numbered
+pub mod Over
+pub mod Adding

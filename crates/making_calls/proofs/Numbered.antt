@@ -60,7 +60,7 @@ module _ {V : Type 0} (seen : V → Seen) (old new : Drafted V) (g : Group) (fre
 pub said_is : {V : Type 0} (seen : V → Seen) (old new : Drafted V) (g : Group) (b : ℕ) (change : Change) → IsView (seen_in seen old)
     → ((at : ℕ → List ℕ) → IsShown (seen_in seen old) g at → IsPutIn at (overlaid (seen_in seen new) at) g b 3)
     → ((at : ℕ → List ℕ) → IsShown (seen_in seen old) g at → PutsTwo (seen old.view).size old new (overlaid (seen_in seen new) at) g b)
-    → AreWhole (seen new.view).size new.fates → IsFinished new.fates change → IsSaidAndDone seen old g b change
+    → AreWhole (seen new.view).size new.fates → IsFinished new.fates change → IsSaidAndDone (seen old.view) old.fates g b change
 said_is {V} seen old new g b change shows put two whole finished =
     let s = group_shown (seen_in seen old) g shows in
     let t = two s.0 s.1 in

@@ -3,7 +3,7 @@ use Rattle.std.specs.Prelude.{ℕ, ◌≡◌, ◌≢◌, ◌⊎◌, ◌+◌, ◌
 use Rattle.std.specs.Ordering.{nat_cmp}
 use Rattle.std.specs.FinMap.{FinMap, empty, get, insert}
 use Rattle.file_tree.specs.Tree.{Tree, file, dir, none}
-use Rattle.drafts.specs.Fates.{AreWhole, Drafted, seen_in, seen_with}
+use Rattle.drafts.specs.Fates.{AreWhole, seen_with}
 use Rattle.drafts.specs.declared.change.Change.{Change}
 use Rattle.drafts.specs.declared.fate.Fate.{Fate}
 use Rattle.drafts.specs.declared.fate.Fate.TheVariants.{Put}
@@ -74,17 +74,17 @@ pub record IsRecordPut (v : Seen) (before : FinMap nat_cmp Fate) (dir time : ℕ
 
 -- Over that draft a group says that a data block is a dinode: the header and a block of bits are put, and the change is that of the draft that
 -- comes of it.
-pub record IsSaidAndDone {V : Type 0} (seen : V → Seen) (old : Drafted V) (g : Group) (b : ℕ) (change : Change) : Type 0 where
+pub record IsSaidAndDone (v : Seen) (before : FinMap nat_cmp Fate) (g : Group) (b : ℕ) (change : Change) : Type 0 where
   pub fates : FinMap nat_cmp Fate
-  pub says : (at : ℕ → List ℕ) → group.IsShown (seen_in seen old) g at → IsPutIn at (overlaid (seen_with (seen old.view) fates) at) g b 3
+  pub says : (at : ℕ → List ℕ) → group.IsShown (seen_with v before) g at → IsPutIn at (overlaid (seen_with v fates) at) g b 3
   pub part : ℕ
   pub within : part < g.length
   pub header : List ℕ
   pub bits : List ℕ
   pub header_put : get fates g.addr ≡ Some (Put (group_lock g) false header)
   pub bits_put : get fates (g.addr + part) ≡ Some (Put (group_lock g) false bits)
-  pub others : (c : ℕ) → c ≢ g.addr → c ≢ g.addr + part → get fates c ≡ get old.fates c
-  pub whole : AreWhole (seen old.view).size fates
+  pub others : (c : ℕ) → c ≢ g.addr → c ≢ g.addr + part → get fates c ≡ get before c
+  pub whole : AreWhole v.size fates
   pub finished : IsFinished fates change
 
 -- ---- in one image

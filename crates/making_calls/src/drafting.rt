@@ -155,7 +155,7 @@ fn put_new<V: View>(
 // Says in its group that a data block is a dinode, in a draft, and ends it.
 fn say_and_finish<V: View>(mut draft: Draft<'_, V>, block: u64) -> Result<Step<Change>, CallFault>
     requires { HasDataBlock (seen_in V.seen draft) block }
-    ensures said { (g : GroupValue) → HasGroup (seen_in V.seen draft.entry) g → shown.IsDataOf g block → IfIs result (IsSaidAndDone V.seen draft.entry g block) }
+    ensures said { (g : GroupValue) → HasGroup (seen_in V.seen draft.entry) g → shown.IsDataOf g block → IfIs result (IsSaidAndDone (V.seen draft.entry.view) draft.entry.fates g block) }
     ensures needed { (g : GroupValue) → HasGroup (seen_in V.seen draft.entry) g → shown.IsDataOf g block → IfNeedBlock result (shown.IsMissing (seen_in V.seen draft.entry) g) }
     ensures damaged { (g : GroupValue) (at : ℕ → List ℕ) → HasGroup (seen_in V.seen draft.entry) g → shown.IsDataOf g block → shown.IsShown (seen_in V.seen draft.entry) g at
         → IfDamaged result (shown.IsBroken at g) }
