@@ -1,5 +1,5 @@
 -- A linear directory as a draft leaves it, with its content in its dinode's block: what is broken in it was broken before.
-use Rattle.std.proofs.Common.{◌≡◌, ◌&&◌, ◌+◌, ◌-◌, ◌<◌, ℕ, suc, false, List, length, drop, Some, sym, ap, ap₂, ◌∙◌, subst, arith}
+use Rattle.std.proofs.Common.{◌≡◌, ◌&&◌, ◌+◌, ◌-◌, ◌<◌, Bool, ℕ, suc, true, false, true≢false, List, length, drop, Some, sym, ap, ap₂, ◌∙◌, subst, arith}
 use Rattle.std.proofs.lemmas.Bool.{cond-false, and_right}
 use Rattle.std.specs.Prelude.{Contains, IsSome, if◌then◌else◌}
 use Rattle.gfs2_layout.specs.Area.{IsArea}
@@ -13,6 +13,7 @@ use Rattle.gfs2_layout.specs.declared.dinode.Dinode.{Dinode}
 use Rattle.glock_names.specs.Views.{Seen, HasBlock}
 use Rattle.dinode_tree.specs.Broken as inode
 use Rattle.dinode_tree.specs.Shown.{IsShown}
+use Rattle.dinode_tree.proofs.Sound.{some_is_shown}
 use Rattle.linear_dirs.specs.Broken as directory
 use Rattle.linear_dirs.specs.Shown.{IsLinearIn, holding_over}
 use Rattle.linear_dirs.proofs.Looked.{bytes_of, dinode_there}
@@ -51,6 +52,20 @@ linear_there v dir there linear h shown =
       directory = ap is_directory same ∙ (linear there.0 there.1).0;
       linear = and_right (is_directory (dinode_in h)) (has_hash_flag (dinode_in h)) (ap has_hash_flag same ∙ (linear there.0 there.1).1);
     }
+
+pub hashed_so : (h : Holding) (d : Dinode) → d ≡ dinode_in h → is_directory d ≡ true → has_hash_flag d ≡ true → is_hashed_in h ≡ true
+hashed_so h d is directory flag = ap (λ (x : Dinode). is_directory x && has_hash_flag x) (sym is) ∙ ap₂ (λ a b. a && b) directory flag
+
+no_flag : (a b : Bool) → a ≡ true → (a && b) ≡ false → b ≡ false
+no_flag true b is e = e
+no_flag false b is e = absurd (true≢false (sym is))
+
+pub linear_in : (v : Seen) (dir : ℕ) → ((h : Holding) → IsShown v dir h → IsLinearDirectory h) → IsLinearIn v dir
+linear_in v dir linear bytes there =
+    let s = some_is_shown v dir in
+    let is = linear s.0 s.1.0 in
+    let same : dinode_in s.0 ≡ dinode_of bytes = dinode_there v s.0 dir bytes s.1.0 there in
+    (ap is_directory (sym same) ∙ is.directory, ap has_hash_flag (sym same) ∙ no_flag (is_directory_in s.0) (has_hash_flag (dinode_in s.0)) is.directory is.linear)
 
 -- an inode whose content is in its dinode's block has no pointers
 no_pointers : (h : Holding) (b k level first c : ℕ) → height_in h ≡ 0 → Leads h b k level first c → ⊥

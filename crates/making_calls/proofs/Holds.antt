@@ -1,5 +1,5 @@
 -- Locks of a longer list, and what is found under them.
-use Rattle.std.proofs.Common.{◌≡◌, ℕ, suc, ◌+◌, ◌<◌, ◌≤◌, true, false, List, [], ◌∷◌, ◌++◌, length, get_or, map, take, drop, slice_get, Option, None, Some, refl, sym, ap, ap₂, subst, subst₂, ◌∙◌, arith}
+use Rattle.std.proofs.Common.{◌≡◌, inl, inr, ℕ, suc, ◌+◌, ◌<◌, ◌≤◌, true, false, List, [], ◌∷◌, ◌++◌, length, get_or, map, take, drop, slice_get, Option, None, Some, refl, sym, ap, ap₂, subst, subst₂, ◌∙◌, arith}
 use Rattle.std.specs.Prelude.{nat_lt, if◌then◌else◌}
 use Rattle.std.proofs.lemmas.Bool.{cond-false, le-ltb}
 use Rattle.std.proofs.Math.Numerals.{add-one}
@@ -14,6 +14,7 @@ use Rattle.glock_names.specs.declared.steps.Missing.{Missing}
 use Rattle.glock_names.specs.declared.views.Group.{Group}
 use Rattle.resource_groups.specs.Shown.{IsMissing, said}
 use Rattle.image_model.proofs.Held.{some_same, none_some}
+use Rattle.image_model.proofs.Members.{IsIn, contained, is_in}
 use Rattle.path_walks.proofs.Lists.{split_at, take_next, with_next}
 use Rattle.path_walks.specs.Holds.{Hold, AreHeld, IsFirstLack, holds, hold_of, hold_for}
 use Rattle.making_calls.specs.Blocks.{States, blocks_needed, free_in, free_in_all, free_for, hold_of_group, group_holds, block_holds}
@@ -157,14 +158,14 @@ module _ (v : Seen) (says : States) (groups : List Group) (own : Group) where
 
   pub taken_held : (room : Room) → AreHeld v (group_holds says groups own) → IsTaken v says groups own (taken.Is room) → holds v (hold_of room.block Ex) ≡ true → AreHeld v (block_holds says groups own)
   taken_held room held is now = All-append (λ h. holds v h ≡ true) (group_holds says groups own) last held
-      (subst (λ x. AreHeld v (hold_for x Ex)) (sym is.first) (held_one v (hold_of room.block Ex) now))
+      (subst (λ x. AreHeld v (hold_for x Ex)) (sym is.0.first) (held_one v (hold_of room.block Ex) now))
 
   pub taken_lack : (room : Room) → AreHeld v (group_holds says groups own) → IsTaken v says groups own (taken.Is room) → holds v (hold_of room.block Ex) ≡ false
       → IsFirstLack v (block_holds says groups own) (hold_of room.block Ex).lock Ex
   taken_lack room held is lacks = lack_behind v (group_holds says groups own) last (hold_of room.block Ex).lock Ex held
-      (subst (λ x. IsFirstLack v (hold_for x Ex) (hold_of room.block Ex).lock Ex) (sym is.first) (lack_one v (hold_of room.block Ex) lacks))
+      (subst (λ x. IsFirstLack v (hold_for x Ex) (hold_of room.block Ex).lock Ex) (sym is.0.first) (lack_one v (hold_of room.block Ex) lacks))
 
-  empty_list : (xs : List ℕ) → length xs < blocks_needed → xs ≡ []
+  pub empty_list : (xs : List ℕ) → length xs < blocks_needed → xs ≡ []
   empty_list [] few = refl
   empty_list (x ∷ xs) few = absurd (omega (arith, few))
 
@@ -179,18 +180,28 @@ pub own_taken : (v : Seen) (at : ℕ → List ℕ) (groups : List Group) (own : 
     → IsTaken v (said at) groups own (taken.Is (record { group = own; block = b }))
 own_taken v at groups own b has some =
     let is = first_is_free at own b (sym some) in
-    record { has = has; data_block = is.0; free = is.1; first = first_before (free_in (said at) own) (free_in_all (said at) groups) b (sym some) }
+    (record { has = has; data_block = is.0; free = is.1; first = first_before (free_in (said at) own) (free_in_all (said at) groups) b (sym some) },
+      contained (hold_of_group own) (group_holds (said at) groups own) (inl refl))
 
-pub all_taken : (v : Seen) (says : States) (groups : List Group) (own : Group) (r : Rooms) → slice_get (free_in says own) 0 ≡ None → AreFreeInAll v says groups r
-    → IsTaken v says groups own (taken_from r.count r.first)
-all_taken v says groups own r none is = by r.first is.first
+in_map : (k : Group) (gs : List Group) → IsIn k gs → IsIn (hold_of_group k) (map hold_of_group gs)
+in_map k [] h = elim h [ ]
+in_map k (x ∷ gs) (inl e) = inl (ap hold_of_group e)
+in_map k (x ∷ gs) (inr h) = inr (in_map k gs h)
+
+pub all_taken : (v : Seen) (says : States) (own : Group) (r : Rooms) → slice_get (free_in says own) 0 ≡ None → AreFreeInAll v says v.groups r
+    → IsTaken v says v.groups own (taken_from r.count r.first)
+all_taken v says own r none is = by r.first is.first
   where
     empty : free_in says own ≡ []
     empty = nothing_first (free_in says own) none
 
-    by : (first : Option Room) → IsFirstRoom v says (free_in_all says groups) first → IsTaken v says groups own (taken_from r.count first)
-    by None nothing = (is.count, subst (λ n. n < blocks_needed) (sym is.count) (no_length (free_in_all says groups) nothing), no_length (free_in says own) empty)
-    by (Some room) one = record { has = one.has; data_block = one.data_block; free = one.free; first = ap (λ xs. slice_get (xs ++ free_in_all says groups) 0) empty ∙ one.first }
+    by : (first : Option Room) → IsFirstRoom v says (free_in_all says v.groups) first → IsTaken v says v.groups own (taken_from r.count first)
+    by None nothing = (is.count, subst (λ n. n < blocks_needed) (sym is.count) (no_length (free_in_all says v.groups) nothing), no_length (free_in says own) empty)
+    by (Some room) one = (
+      record { has = one.has; data_block = one.data_block; free = one.free; first = ap (λ xs. slice_get (xs ++ free_in_all says v.groups) 0) empty ∙ one.first },
+      contained (hold_of_group room.group) (group_holds says v.groups own)
+          (inr (subst (IsIn (hold_of_group room.group)) (sym (rest_all v says v.groups own none)) (in_map room.group v.groups (is_in room.group v.groups one.has)))),
+    )
 
 -- ---- one group after another
 

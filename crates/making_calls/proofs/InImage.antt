@@ -66,7 +66,7 @@ asked_behind v im o l list more m held is = record {
 }
 
 module _ (v : Seen) (im : Image) (o : Owners) (l : Layout) (t : Tree) (of : IsOf v im o l t) where
-  shown_listed : (g : Rindex) → IsListed l.groups g → IsShown v (group_of_entry g) im.at
+  pub shown_listed : (g : Rindex) → IsListed l.groups g → IsShown v (group_of_entry g) im.at
   shown_listed g listed =
       let fits : GroupFits im g = of.stands.laid.fit.each g listed in
       record {

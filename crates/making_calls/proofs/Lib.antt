@@ -9,3 +9,7 @@ pub mod Recording
 pub mod Numbered
 pub mod Over
 pub mod Adding
+pub mod Trees
+pub mod Rooms
+pub mod Wanted
+pub mod Taking

@@ -1,12 +1,12 @@
 -- What a search for a free block tells of a view, as the bits of its groups say.
-use Rattle.std.specs.Prelude.{ℕ, ◌≡◌, ◌<◌, true, List, [], ◌∷◌, ◌++◌, length, Option, None, Some, slice_get}
+use Rattle.std.specs.Prelude.{ℕ, ◌≡◌, ◌<◌, true, List, [], ◌∷◌, ◌++◌, length, Contains, Option, None, Some, slice_get}
 use Rattle.glock_names.specs.Views.{Seen, HasGroup}
 use Rattle.glock_names.specs.declared.State.{State}
 use Rattle.glock_names.specs.declared.steps.Missing.{Missing}
 use Rattle.glock_names.specs.declared.views.Group.{Group}
 use Rattle.resource_groups.specs.Shown.{IsShown, IsMissing, IsDataOf, IsBroken}
 use Rattle.path_walks.specs.Holds.{Hold, AreHeld, IsFirstLack, holds}
-use Rattle.making_calls.specs.Blocks.{States, blocks_needed, free_in, free_in_all, free_for, hold_of_group}
+use Rattle.making_calls.specs.Blocks.{States, blocks_needed, free_in, free_in_all, free_for, group_holds, hold_of_group}
 use Rattle.making_calls.specs.declared.blocks.FreeBlocks.{FreeBlocks}
 use Rattle.making_calls.specs.declared.blocks.Locked.{Locked}
 use Rattle.making_calls.specs.declared.blocks.Locked.TheVariants as locked
@@ -57,9 +57,9 @@ pub record AreFreeInAll (v : Seen) (says : States) (groups : List Group) (r : Ro
   pub count : r.count ≡ length (free_in_all says groups)
   pub first : IsFirstRoom v says (free_in_all says groups) r.first
 
--- the block that a node with this group takes; or so few are free in all groups
+-- the block that a node with this group takes, whose group's lock is one of those; or so few are free in all groups
 abbrev pub IsTaken : Seen → States → List Group → Group → Taken → Type 0
-IsTaken v says groups own (taken.Is room) = IsRoom v says (free_for says groups own) room
+IsTaken v says groups own (taken.Is room) = IsRoom v says (free_for says groups own) room × Contains (group_holds says groups own) (hold_of_group room.group)
 IsTaken v says groups own (taken.TooFew free) = (free ≡ length (free_in_all says groups)) × (free < blocks_needed) × (length (free_in says own) < blocks_needed)
 
 -- as far as the view shows, a group whose lock is held breaks this rule

@@ -30,8 +30,8 @@ use path_walks::Place;
 use resource_groups::{set_state, take_number};
 use std::alloc::Global;
 
-// What a view tells of itself.
-fn is_a_view<V: View>(view: &V)
+/// What a view tells of itself.
+pub(crate) fn is_a_view<V: View>(view: &V)
     ensures { IsView (V.seen view.now) }
 {
     let _size = view.block_size();

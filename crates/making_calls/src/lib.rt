@@ -3,6 +3,7 @@
 
 mod blocks;
 mod drafting;
+mod finds;
 mod tries;
 
 pub use tries::attempt;

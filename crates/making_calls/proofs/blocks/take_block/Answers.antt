@@ -35,7 +35,7 @@ returns-in-Is-2-clause-found g c = λ at shown.
     let none : slice_get (free_in (said at) own) 0 ≡ None = sym free.1.least ∙ c.in_default.is in
     let rooms = subst (IsUnder v (map hold_of_group v.groups) (AreFreeInAll v (said at) v.groups)) c.in-Is-2.is (c.in_ok-rooms.ensures.found at shown) in
     all_under v (said at) v.groups own (IsTaken v (said at) v.groups own) (locked.Is c.taken_of.result) none free.0
-    (rooms.0, subst (IsTaken v (said at) v.groups own) (sym c.taken_of.ensures) (all_taken v (said at) v.groups own c.in-Is-2.rooms none rooms.1))
+    (rooms.0, subst (IsTaken v (said at) v.groups own) (sym c.taken_of.ensures) (all_taken v (said at) own c.in-Is-2.rooms none rooms.1))
 
 pub returns-in-NeedLock-2-clause-found : goal.returns-in-NeedLock-2-clause-found
 returns-in-NeedLock-2-clause-found g c = λ at shown.
