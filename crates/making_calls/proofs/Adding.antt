@@ -208,9 +208,9 @@ module _ {V : Type 0} (seen : V → Seen) (view : V) (d0 d1 : Drafted V) (fresh 
   pub fourth_seen : (d3 d4 : Drafted V) (b : ℕ) (Is : Holding → Type 0) → d3.view ≡ d1.view → ((bytes : List ℕ) × IsInodePut seen d3 d4 b Is bytes) → seen_in seen d4 ≡ seen_with (seen view) d4.fates
   fourth_seen d3 d4 b Is view3 put = ap (λ x. seen_with (seen x) d4.fates) (ap (λ (d : Drafted V). d.view) put.1.put ∙ view3 ∙ first_view)
 
-  pub others_stay : (dir time : ℕ) (name : List ℕ) (entry : Entry) (d3 d4 : Drafted V) (b : ℕ) (Is : Holding → Type 0) (v : Seen) → IsRecordPut v d1.fates dir time name entry d3.fates
+  pub others_stay : (dir time : ℕ) (name : List ℕ) (e : Entry) (d3 d4 : Drafted V) (b : ℕ) (Is : Holding → Type 0) (v : Seen) → IsRecordPut v d1.fates dir time name e d3.fates
       → ((bytes : List ℕ) × IsInodePut seen d3 d4 b Is bytes) → (c : ℕ) → c ≢ dir → c ≢ b → get d4.fates c ≡ get d1.fates c
-  others_stay dir time name entry d3 d4 b Is v rec put c d e =
-      ap (λ (x : Drafted V). get x.fates c) put.1.put ∙ put_elsewhere d3.fates b _ c e
+  others_stay dir time name e d3 d4 b Is v rec put c d f =
+      ap (λ (x : Drafted V). get x.fates c) put.1.put ∙ put_elsewhere d3.fates b _ c f
       ∙ ap (λ (m : FinMap nat_cmp Fate). get m c) rec.put ∙ put_elsewhere rec.between dir _ c d
       ∙ ap (λ (m : FinMap nat_cmp Fate). get m c) rec.times_put ∙ put_elsewhere d1.fates dir _ c d
