@@ -179,9 +179,10 @@ module _ (v : Seen) (says : States) (groups : List Group) (own : Group) where
 pub own_taken : (v : Seen) (at : ℕ → List ℕ) (groups : List Group) (own : Group) (b : ℕ) → HasGroup v own → Some b ≡ slice_get (free_in (said at) own) 0
     → IsTaken v (said at) groups own (taken.Is (record { group = own; block = b }))
 own_taken v at groups own b has some =
-    let is = first_is_free at own b (sym some) in
-    (record { has = has; data_block = is.0; free = is.1; first = first_before (free_in (said at) own) (free_in_all (said at) groups) b (sym some) },
-      contained (hold_of_group own) (group_holds (said at) groups own) (inl refl))
+    let is = first_is_free at own b (sym some) in (
+      record { has = has; data_block = is.0; free = is.1; first = first_before (free_in (said at) own) (free_in_all (said at) groups) b (sym some) },
+      contained (hold_of_group own) (group_holds (said at) groups own) (inl refl),
+    )
 
 in_map : (k : Group) (gs : List Group) → IsIn k gs → IsIn (hold_of_group k) (map hold_of_group gs)
 in_map k [] h = elim h [ ]

@@ -156,12 +156,7 @@ fn find_at<V: View>(
 }
 
 // Walks along the path of the directory, and makes the name there.
-fn find<V: View>(
-    alloc: Global,
-    view: &V,
-    call: &Call,
-    stamp: &Stamp,
-) -> Result<Found, CallFault>
+fn find<V: View>(alloc: Global, view: &V, call: &Call, stamp: &Stamp) -> Result<Found, CallFault>
     requires making { IsMaking call.now }
     requires groups { 1 ≤ length (V.seen view.now).groups }
     requires node { 1 ≤ stamp.now.node }

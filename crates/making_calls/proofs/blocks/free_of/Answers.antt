@@ -29,11 +29,13 @@ returns-in-Is-2-clause-found g c = λ at shown.
     let group = c.args.group.now in
     let held : holds v (hold_of_group group) ≡ true = search rules in
     let count = answer_at _ _ _ c.in-Is.is (c.in_ok-count.ensures.bits at (shown group c.requires)) in
-    let least = answer_at _ _ _ c.in-Is-2.is (c.in_ok-least.ensures.found at (shown group c.requires)) in
-    (held_one v (hold_of_group group) held, record {
-      count = count ∙ free_count at group;
-      least = least_is v at group c.block_size-size.ensures.view c.requires c.in-Is-2.least least;
-    })
+    let least = answer_at _ _ _ c.in-Is-2.is (c.in_ok-least.ensures.found at (shown group c.requires)) in (
+      held_one v (hold_of_group group) held,
+      record {
+        count = count ∙ free_count at group;
+        least = least_is v at group c.block_size-size.ensures.view c.requires c.in-Is-2.least least;
+      },
+    )
 
 pub returns-in-NeedBlock-2-clause-found : goal.returns-in-NeedBlock-2-clause-found
 returns-in-NeedBlock-2-clause-found g c = λ at shown.
@@ -41,5 +43,5 @@ returns-in-NeedBlock-2-clause-found g c = λ at shown.
     let group = c.args.group.now in
     let held : holds v (hold_of_group group) ≡ true = search rules in
     let needed : IsNeeded v at group 0 c.in-NeedBlock-2.missing =
-        subst (λ r. IfNeedBlock (Ok r) (IsNeeded v at group 0)) c.in-NeedBlock-2.is (c.in_ok-least.ensures.needed at (shown group c.requires)) in
+    subst (λ r. IfNeedBlock (Ok r) (IsNeeded v at group 0)) c.in-NeedBlock-2.is (c.in_ok-least.ensures.needed at (shown group c.requires)) in
     block_one v group c.in-NeedBlock-2.missing c.requires needed.block held

@@ -51,6 +51,7 @@ loop-group-preserved g c = record {
 pub returns-clause-found : goal.returns-clause-found
 returns-clause-found g c = λ at shown.
     let v = g.V.View.seen c.args.view.now in
-    let whole = whole_list v c.groups-group-items.result.now c.loop-group.group-index c.groups-group-items.ensures c.loop-group-test.false in
-    (subst (λ gs. AreHeld v (map hold_of_group gs)) whole (c.loop-group.invariant.held at shown),
-      subst (λ gs. AreFreeInAll v (said at) gs c.loop-group.rooms) whole (c.loop-group.invariant.free at shown))
+    let whole = whole_list v c.groups-group-items.result.now c.loop-group.group-index c.groups-group-items.ensures c.loop-group-test.false in (
+      subst (λ gs. AreHeld v (map hold_of_group gs)) whole (c.loop-group.invariant.held at shown),
+      subst (λ gs. AreFreeInAll v (said at) gs c.loop-group.rooms) whole (c.loop-group.invariant.free at shown),
+    )

@@ -53,7 +53,6 @@ put_record-requires-clause-there g c =
     let num : IsNumbered v k c.in-Is.number d1.fates = subst (λ x. IsNumbered (g.V.View.seen x) k c.in-Is.number d1.fates) (old_view g.V.View.seen c.args.view.now c.new-draft.result d1 c.new-draft.ensures same) (answer_at _ _ _ c.in-Is.is c.in_ok-number.ensures.numbered) in
     subst (λ w. HasBlock w dir) (sym seen1) (there_over v k c.in-Is.number d1.fates num c.is_a_view.ensures c.requires.group dir c.requires.inside c.requires.there)
 
-
 pub put_record-requires-clause-linear : goal.put_record-requires-clause-linear
 put_record-requires-clause-linear g c =
     let v = g.V.View.seen c.args.view.now in
@@ -64,7 +63,6 @@ put_record-requires-clause-linear g c =
     let seen1 = first_seen g.V.View.seen c.args.view.now c.new-draft.result d1 c.new-draft.ensures same in
     let num : IsNumbered v k c.in-Is.number d1.fates = subst (λ x. IsNumbered (g.V.View.seen x) k c.in-Is.number d1.fates) (old_view g.V.View.seen c.args.view.now c.new-draft.result d1 c.new-draft.ensures same) (answer_at _ _ _ c.in-Is.is c.in_ok-number.ensures.numbered) in
     subst (λ w. IsLinearIn w dir) (sym seen1) (linear_over v k c.in-Is.number d1.fates num c.is_a_view.ensures c.requires.group dir c.requires.inside c.requires.linear)
-
 
 pub put_record-requires-clause-stuffed : goal.put_record-requires-clause-stuffed
 put_record-requires-clause-stuffed g c h shown =
@@ -77,21 +75,17 @@ put_record-requires-clause-stuffed g c h shown =
     let num : IsNumbered v k c.in-Is.number d1.fates = subst (λ x. IsNumbered (g.V.View.seen x) k c.in-Is.number d1.fates) (old_view g.V.View.seen c.args.view.now c.new-draft.result d1 c.new-draft.ensures same) (answer_at _ _ _ c.in-Is.is c.in_ok-number.ensures.numbered) in
     stuffed_over v k c.in-Is.number d1.fates num c.is_a_view.ensures c.requires.group dir c.requires.inside c.args.place.now.dinode c.requires.dinode c.in_ok-check_parent.ensures.stuffed c.requires.there h (subst (λ w. IsShown w dir h) seen1 shown)
 
-
 pub put_record-requires-clause-address : goal.put_record-requires-clause-address
 put_record-requires-clause-address g c =
     positive_block (g.V.View.seen c.args.view.now) c.is_a_view.ensures c.args.room.now.block (c.args.room.now.group, c.requires.group, c.requires.block)
-
 
 pub put_new-requires-clause-block : goal.put_new-requires-clause-block
 put_new-requires-clause-block g c =
     positive_block (g.V.View.seen c.args.view.now) c.is_a_view.ensures c.args.room.now.block (c.args.room.now.group, c.requires.group, c.requires.block)
 
-
 pub put_new-requires-clause-parent_address : goal.put_new-requires-clause-parent_address
 put_new-requires-clause-parent_address g c =
     positive_block (g.V.View.seen c.args.view.now) c.is_a_view.ensures c.args.place.now.inode c.requires.inside
-
 
 pub returns-in_err-done-clause-damaged : goal.returns-in_err-done-clause-damaged
 returns-in_err-done-clause-damaged g c =
@@ -108,7 +102,6 @@ returns-in_err-done-clause-damaged g c =
     (tells_all v dir IsBroken f (λ h shown. broken_over v k c.in-Is.number d1.fates num c.is_a_view.ensures c.requires.group dir c.requires.inside c.requires.there c.requires.linear h shown (ap (λ (d : Dinode). d.height) (sym (c.requires.dinode h shown)) ∙ c.in_ok-check_parent.ensures.stuffed) f
     (λ x seen. c.in_err-done.ensures.damaged x (subst (λ w. IsShown w dir x) (sym seen1) seen)))))
 
-
 pub returns-in_err-done-clause-kept : goal.returns-in_err-done-clause-kept
 returns-in_err-done-clause-kept g c =
     let v = g.V.View.seen c.args.view.now in
@@ -122,7 +115,6 @@ returns-in_err-done-clause-kept g c =
     told_on (IsOfView v) _ _ c.from_residual-in_err-done.ensures.1
     (tells_so (IsOfView (seen_in g.V.View.seen d1)) (IsOfView v) (λ rule b has. kept_over v k c.in-Is.number d1.fates num c.is_a_view.ensures c.requires.group dir c.requires.inside header b (subst (λ w. HasBlock w b) seen1 has)) c.in_err-done.field-0.0 c.in_err-done.ensures.kept)
 
-
 pub returns-then-not-done-clause-full : goal.returns-then-not-done-clause-full
 returns-then-not-done-clause-full g c h shown =
     let v = g.V.View.seen c.args.view.now in
@@ -133,9 +125,8 @@ returns-then-not-done-clause-full g c h shown =
     let seen1 = first_seen g.V.View.seen c.args.view.now c.new-draft.result d1 c.new-draft.ensures same in
     let num : IsNumbered v k c.in-Is.number d1.fates = subst (λ x. IsNumbered (g.V.View.seen x) k c.in-Is.number d1.fates) (old_view g.V.View.seen c.args.view.now c.new-draft.result d1 c.new-draft.ensures same) (answer_at _ _ _ c.in-Is.is c.in_ok-number.ensures.numbered) in
     let told = room_over v k c.in-Is.number d1.fates num c.is_a_view.ensures c.requires.group dir c.requires.inside c.requires.there c.requires.linear h shown (ap (λ (d : Dinode). d.height) (sym (c.requires.dinode h shown)) ∙ c.in_ok-check_parent.ensures.stuffed) (least_length (length c.bytes.result.now)) c.in_ok-done.done
-        (λ x seen. c.in_ok-done.ensures.full x (subst (λ w. IsShown w dir x) (sym seen1) seen)) in
+    (λ x seen. c.in_ok-done.ensures.full x (subst (λ w. IsShown w dir x) (sym seen1) seen)) in
     subst (λ n. list_any (has_room (least_length (length n))) (slots_of (linear_area h)) ≡ false) c.bytes.ensures.bytes (sym told ∙ c.if-not-done.true)
-
 
 pub returns-in-Is-2-clause-added : goal.returns-in-Is-2-clause-added
 returns-in-Is-2-clause-added g c =
@@ -161,7 +152,6 @@ returns-in-Is-2-clause-added g c =
     c.kind_of_new.ensures (answer_at _ _ _ c.in-Is.is c.in_ok-number.ensures.numbered) named (c.in_ok-done.ensures.view done) put c.in_ok-change.ensures.view said)
     c.bytes.ensures.name c.requires.group c.requires.block
 
-
 pub returns-in_err-change-clause-damaged : goal.returns-in_err-change-clause-damaged
 returns-in_err-change-clause-damaged g c =
     let v = g.V.View.seen c.args.view.now in
@@ -180,13 +170,12 @@ returns-in_err-change-clause-damaged g c =
     let seen4 = fourth_seen g.V.View.seen c.args.view.now c.new-draft.result d1 c.new-draft.ensures same d3 d4 c.args.room.now.block New (c.in_ok-done.ensures.view done) put in
     let has4 : HasGroup (seen_in g.V.View.seen d4) k = subst (λ w. HasGroup w k) (sym seen4) c.requires.group in
     let stay : (b : ℕ) → IsHeaderOf k b → get d4.fates b ≡ get d1.fates b = λ b own.
-        others_stay g.V.View.seen c.args.view.now c.new-draft.result d1 c.new-draft.ensures same dir c.args.stamp.now.time c.bytes.result.now (record { number = c.in-Is.number; addr = c.args.room.now.block; kind = c.kind_of_new.result }) d3 d4 c.args.room.now.block New (g.V.View.seen d1.view) rec put b
-        (data_apart v k c.in-Is.number d1.fates num c.is_a_view.ensures c.requires.group dir c.requires.inside dir b c.requires.inside own) (data_apart v k c.in-Is.number d1.fates num c.is_a_view.ensures c.requires.group dir c.requires.inside c.args.room.now.block b (k, c.requires.group, c.requires.block) own) in
+    others_stay g.V.View.seen c.args.view.now c.new-draft.result d1 c.new-draft.ensures same dir c.args.stamp.now.time c.bytes.result.now (record { number = c.in-Is.number; addr = c.args.room.now.block; kind = c.kind_of_new.result }) d3 d4 c.args.room.now.block New (g.V.View.seen d1.view) rec put b
+    (data_apart v k c.in-Is.number d1.fates num c.is_a_view.ensures c.requires.group dir c.requires.inside dir b c.requires.inside own) (data_apart v k c.in-Is.number d1.fates num c.is_a_view.ensures c.requires.group dir c.requires.inside c.args.room.now.block b (k, c.requires.group, c.requires.block) own) in
     let f = c.in_err-change.field-0.0 in
     told_on (IsWrongIn v dir k) _ _ c.from_residual-in_err-change.ensures.1
     (tells_so (λ rule b. (at : ℕ → List ℕ) → group.IsShown v k at → group.IsBroken at k rule b) (IsWrongIn v dir k) in_group f (tells_each v k f
     (group_over v k c.in-Is.number d1.fates num c.is_a_view.ensures c.requires.group dir c.requires.inside d4.fates stay (subst IsView seen4 c.in_err-change.ensures.view) f (λ at seen. c.in_err-change.ensures.damaged k at has4 c.requires.block (subst (λ w. group.IsShown w k at) (sym seen4) seen)))))
-
 
 pub returns-in_err-change-clause-kept : goal.returns-in_err-change-clause-kept
 returns-in_err-change-clause-kept g c =
@@ -207,15 +196,14 @@ returns-in_err-change-clause-kept g c =
     let seen4 = fourth_seen g.V.View.seen c.args.view.now c.new-draft.result d1 c.new-draft.ensures same d3 d4 c.args.room.now.block New (c.in_ok-done.ensures.view done) put in
     let has4 : HasGroup (seen_in g.V.View.seen d4) k = subst (λ w. HasGroup w k) (sym seen4) c.requires.group in
     let stay : (b : ℕ) → IsHeaderOf k b → get d4.fates b ≡ get d1.fates b = λ b own.
-        others_stay g.V.View.seen c.args.view.now c.new-draft.result d1 c.new-draft.ensures same dir c.args.stamp.now.time c.bytes.result.now (record { number = c.in-Is.number; addr = c.args.room.now.block; kind = c.kind_of_new.result }) d3 d4 c.args.room.now.block New (g.V.View.seen d1.view) rec put b
-        (data_apart v k c.in-Is.number d1.fates num c.is_a_view.ensures c.requires.group dir c.requires.inside dir b c.requires.inside own) (data_apart v k c.in-Is.number d1.fates num c.is_a_view.ensures c.requires.group dir c.requires.inside c.args.room.now.block b (k, c.requires.group, c.requires.block) own) in
+    others_stay g.V.View.seen c.args.view.now c.new-draft.result d1 c.new-draft.ensures same dir c.args.stamp.now.time c.bytes.result.now (record { number = c.in-Is.number; addr = c.args.room.now.block; kind = c.kind_of_new.result }) d3 d4 c.args.room.now.block New (g.V.View.seen d1.view) rec put b
+    (data_apart v k c.in-Is.number d1.fates num c.is_a_view.ensures c.requires.group dir c.requires.inside dir b c.requires.inside own) (data_apart v k c.in-Is.number d1.fates num c.is_a_view.ensures c.requires.group dir c.requires.inside c.args.room.now.block b (k, c.requires.group, c.requires.block) own) in
     let f = c.in_err-change.field-0.0 in
     let shown = group_shown v k c.is_a_view.ensures in
     told_on (IsOfView v) _ _ c.from_residual-in_err-change.ensures.1
     (tells_two (group.IsBroken shown.0 k) (IsOfView (seen_with v d4.fates)) (IsOfView v) (kept_later v k c.in-Is.number d1.fates num c.is_a_view.ensures c.requires.group dir c.requires.inside d4.fates stay (subst IsView seen4 c.in_err-change.ensures.view) header shown.0) f
     (group_over v k c.in-Is.number d1.fates num c.is_a_view.ensures c.requires.group dir c.requires.inside d4.fates stay (subst IsView seen4 c.in_err-change.ensures.view) f (λ at seen. c.in_err-change.ensures.damaged k at has4 c.requires.block (subst (λ w. group.IsShown w k at) (sym seen4) seen)) shown.0 shown.1)
     (subst (λ w. TellsOf (IsOfView w) f) seen4 c.in_err-change.ensures.kept))
-
 
 pub returns-in-NeedBlock-2-clause-needed : goal.returns-in-NeedBlock-2-clause-needed
 returns-in-NeedBlock-2-clause-needed g c =
