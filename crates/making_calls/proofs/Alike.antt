@@ -1,7 +1,7 @@
 -- A linear directory as a draft leaves it, with its content in its dinode's block: what is broken in it was broken before.
 use Rattle.std.proofs.Common.{◌≡◌, ◌&&◌, ◌+◌, ◌-◌, ◌<◌, Bool, ℕ, suc, true, false, true≢false, List, length, drop, Some, sym, ap, ap₂, ◌∙◌, subst, arith}
 use Rattle.std.proofs.lemmas.Bool.{cond-false, and_right}
-use Rattle.std.specs.Prelude.{Contains, IsSome, if◌then◌else◌}
+use Rattle.std.specs.Prelude.{Contains, if◌then◌else◌}
 use Rattle.gfs2_layout.specs.Area.{IsArea}
 use Rattle.gfs2_layout.specs.Exchanges.{directory_count}
 use Rattle.gfs2_layout.specs.Headers.{HasHeader}

@@ -1,16 +1,14 @@
 -- In one image: a draft that gives a number, touches a directory, puts a record into it, puts a new inode and says so in its group adds
 -- the name. f0 is the draft before all of these, and f1 to f5 after each.
-use Rattle.std.proofs.Common.{◌≡◌, ◌≢◌, ℕ, ◌+◌, ◌-◌, ◌*◌, ◌<◌, ◌≤◌, ◌⊎◌, inl, inr, Bool, true, false, true≢false, List, [], ◌∷◌, ◌++◌, length, codes, Option, None, Some, refl, sym, ap, ◌∙◌, subst, subst₂, arith}
-use Rattle.std.specs.Prelude.{◌==◌, map, if◌then◌else◌, is_some, unwrap_or, slice_set, slice_index_or}
-use Rattle.std.specs.List.{range_with_len}
+use Rattle.std.proofs.Common.{◌≡◌, ◌≢◌, ℕ, ◌+◌, ◌-◌, ◌<◌, ◌⊎◌, inl, inr, Bool, true, false, List, [], ◌∷◌, Option, None, Some, refl, sym, ap, ◌∙◌, subst, subst₂, arith}
+use Rattle.std.specs.Prelude.{unwrap_or, slice_set}
 use Rattle.std.specs.Ordering.{nat_cmp}
 use Rattle.std.specs.Cmp.{nat_cmp_total}
 use Rattle.std.specs.FinMap.{FinMap, get, insert, nat_cmp-IsAntisymmetric}
-use Rattle.std.proofs.lemmas.Bool.{cases_eq, cond-true, cond-false, eq-eqb, ne_eqb}
-use Rattle.std.proofs.lemmas.List.Sorted.{IsPermutation-refl}
+use Rattle.std.proofs.lemmas.Bool.{cases_eq}
 use Rattle.finite_maps.proofs.Keys.{inserted_at, inserted_apart}
 use Rattle.file_tree.specs.Names.{IsName}
-use Rattle.file_tree.specs.Tree.{Tree, file, dir, none}
+use Rattle.file_tree.specs.Tree.{Tree}
 use Rattle.drafts.specs.Fates.{AreWhole, block_with, seen_with}
 use Rattle.drafts.specs.declared.fate.Fate.{Fate}
 use Rattle.drafts.specs.declared.fate.Fate.TheVariants.{Put}
@@ -18,19 +16,18 @@ use Rattle.gfs2_layout.specs.Bitmap.{state_at}
 use Rattle.gfs2_layout.specs.Exchanges.{IsExchanged, IsCounted}
 use Rattle.gfs2_layout.specs.Groups.{bitmap_of}
 use Rattle.gfs2_layout.specs.Holding.{Holding, Part, Itself, part_at, alone}
-use Rattle.gfs2_layout.specs.Inode.{Head, IsInode, dinode_in, head_of, is_directory_in, records_of}
+use Rattle.gfs2_layout.specs.Inode.{IsInode, dinode_in, head_of, records_of}
 use Rattle.gfs2_layout.specs.Records.{Record, child_named}
 use Rattle.gfs2_layout.specs.declared.dinode.Dinode.{Dinode}
 use Rattle.gfs2_layout.specs.declared.rindex.Rindex.{Rindex}
 use Rattle.gfs2_layout.proofs.StatePuts.{map_same}
 use Rattle.glock_names.specs.Views.{Seen, IsView, HasBlock, HasGroup, group_of_entry}
 use Rattle.glock_names.specs.declared.LockName.{LockName}
-use Rattle.glock_names.specs.declared.steps.Entry.{Entry}
 use Rattle.glock_names.specs.declared.views.Group.{Group}
 use Rattle.dinode_tree.specs.Shown.{IsShown}
 use Rattle.dinode_tree.proofs.Sound.{sound_is_shown}
 use Rattle.linear_dirs.specs.Exchanges.{HasExchanged}
-use Rattle.linear_dirs.specs.Shown.{holding_over, record_for}
+use Rattle.linear_dirs.specs.Shown.{holding_over}
 use Rattle.linear_dirs.proofs.Over.{parts_stay, over_over, as_seen}
 use Rattle.resource_groups.specs.Numbering.{IsNumberPut}
 use Rattle.resource_groups.specs.Putting.{IsPutIn, overlaid}
@@ -40,12 +37,12 @@ use Rattle.new_inodes.specs.Touched.{IsTouched}
 use Rattle.image_model.specs.Flat.{Path}
 use Rattle.image_model.specs.Groups.{IsListed, IsHeaderOf, IsDataOf, GroupFits, group_blocks, states_of, IsGroup}
 use Rattle.image_model.specs.Image.{Image}
-use Rattle.image_model.specs.Owners.{Owners, InGroup, Free, is_dinode, part_in, cell_of, cell_in, holding}
+use Rattle.image_model.specs.Owners.{Owners, Free, is_dinode, part_in, cell_of, cell_in, holding}
 use Rattle.image_model.specs.Stands.{Layout, IsRecordOf, heads_of}
 use Rattle.image_model.proofs.Held.{none_some, own_part}
 use Rattle.image_changes.specs.Changes.{inode_of}
 use Rattle.image_changes.specs.Does.{IsOf}
-use Rattle.image_changes.specs.Drafted.{is_put, is_freed, is_gone, with_draft}
+use Rattle.image_changes.specs.Drafted.{with_draft}
 use Rattle.image_changes.specs.Instances.{IsAt, is_directory_at, records_at}
 use Rattle.image_changes.proofs.Frame.{dinode_its}
 use Rattle.image_changes.proofs.Laid.{follow_dinode}

@@ -18,7 +18,7 @@ use Rattle.image_model.proofs.Members.{IsIn, contained, is_in}
 use Rattle.path_walks.proofs.Lists.{split_at, take_next, with_next}
 use Rattle.path_walks.specs.Holds.{Hold, AreHeld, IsFirstLack, holds, hold_of, hold_for}
 use Rattle.making_calls.specs.Blocks.{States, blocks_needed, free_in, free_in_all, free_for, hold_of_group, group_holds, block_holds}
-use Rattle.making_calls.specs.Searches.{IsGroupBlock, IsUnder, AreFreeIn, AreFreeInAll, IsFirstRoom, IsRoom, IsTaken, first_of, room_in, taken_from}
+use Rattle.making_calls.specs.Searches.{IsGroupBlock, IsUnder, AreFreeIn, AreFreeInAll, IsFirstRoom, IsTaken, first_of, room_in, taken_from}
 use Rattle.making_calls.specs.declared.blocks.FreeBlocks.{FreeBlocks}
 use Rattle.making_calls.specs.declared.blocks.Locked.{Locked}
 use Rattle.making_calls.specs.declared.blocks.Locked.TheVariants as locked

@@ -4,7 +4,7 @@ use Rattle.std.proofs.lemmas.List.Sorted.{IsPermutation-refl}
 use Rattle.std.specs.List.Sorted.{IsPermutation}
 use Rattle.file_tree.specs.Tree.{file, dir, none}
 use Rattle.gfs2_layout.specs.Holding.{Holding}
-use Rattle.gfs2_layout.specs.Inode.{Head, dinode_in, head_of, records_of}
+use Rattle.gfs2_layout.specs.Inode.{Head, head_of}
 use Rattle.gfs2_layout.specs.Records.{Record}
 use Rattle.gfs2_layout.specs.declared.dinode.Dinode.{Dinode}
 use Rattle.glock_names.specs.declared.steps.Entry.{Entry}

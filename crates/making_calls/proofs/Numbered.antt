@@ -2,7 +2,7 @@
 use Rattle.std.proofs.Common.{◌≡◌, ℕ, ◌+◌, false, List, length, replicate, Option, None, Some, Result, Ok, Err, refl, sym, ap, ◌∙◌, subst}
 use Rattle.std.proofs.lemmas.List.{length-replicate}
 use Rattle.std.specs.Ordering.{nat_cmp}
-use Rattle.std.specs.FinMap.{FinMap, get, empty, insert, get-empty}
+use Rattle.std.specs.FinMap.{FinMap, empty, insert, get-empty}
 use Rattle.drafts.specs.Fates.{AreWhole, Drafted, block_with, seen_in, seen_with}
 use Rattle.drafts.specs.declared.change.Change.{Change}
 use Rattle.drafts.specs.declared.fate.Fate.{Fate}
@@ -16,7 +16,6 @@ use Rattle.glock_names.specs.declared.views.Group.{Group}
 use Rattle.resource_groups.specs.Numbering.{IsNumberPut}
 use Rattle.resource_groups.specs.Putting.{IsPutIn, PutsTwo, overlaid, seen_or}
 use Rattle.resource_groups.specs.Shown.{IsShown, group_lock}
-use Rattle.image_model.proofs.Held.{some_same}
 use Rattle.image_changes.specs.Drafted.{IsFinished}
 use Rattle.making_calls.specs.Drafting.{IsNumbered, IsSaidAndDone}
 

@@ -1,5 +1,5 @@
 -- The room that was found for a new inode, over a view and in an image that it may be of.
-use Rattle.std.proofs.Common.{◌≡◌, inl, inr, ℕ, zero, suc, ◌+◌, ◌-◌, ◌%◌, ◌<◌, ◌≤◌, true, false, true≢false, List, [], ◌∷◌, ◌++◌, length, get_or, replicate, map, slice_get, Option, None, Some, refl, sym, ap, ap₂, ◌∙◌, subst, arith}
+use Rattle.std.proofs.Common.{◌≡◌, inl, inr, ℕ, zero, suc, ◌+◌, ◌-◌, ◌%◌, ◌<◌, ◌≤◌, true, true≢false, List, [], ◌∷◌, ◌++◌, length, get_or, replicate, map, Option, None, Some, refl, sym, ap, ◌∙◌, subst, arith}
 use Rattle.std.proofs.Math.Nat.{mod-lt}
 use Rattle.std.proofs.lemmas.List.{append_assoc, get_or_append_left, length-append, length-replicate}
 use Rattle.std.proofs.lemmas.List.FromFn.{get_or-map-range_with_len}
@@ -23,20 +23,17 @@ use Rattle.image_model.specs.Image.{Image}
 use Rattle.image_model.specs.Owners.{Owners, is_dinode}
 use Rattle.image_model.specs.Stands.{Layout}
 use Rattle.image_model.proofs.Members.{IsIn, is_in}
-use Rattle.image_changes.specs.Changes.{inode_of}
 use Rattle.image_changes.specs.Does.{IsOf}
 use Rattle.image_changes.proofs.Frame.{dinode_its}
 use Rattle.draft_changes.proofs.Rows.{its_used}
 use Rattle.draft_changes.proofs.Views.{groups_are_listed}
 use Rattle.path_walks.specs.Holds.{Hold, AreHeld, holds, hold_of, hold_for}
-use Rattle.making_calls.specs.Blocks.{States, block_holds, blocks_needed, free_in, free_in_all, group_holds, group_of_node, hold_of_group, holds_from, new_holds, states_by}
+use Rattle.making_calls.specs.Blocks.{block_holds, group_holds, group_of_node, hold_of_group, holds_from, new_holds, states_by}
 use Rattle.making_calls.specs.Searches.{AreShown, IsGroupBlock, IsGroupBroken, IsTaken, IsUnder}
-use Rattle.making_calls.specs.declared.blocks.Locked.{Locked}
 use Rattle.making_calls.specs.declared.blocks.Locked.TheVariants as locked
 use Rattle.making_calls.specs.declared.blocks.Room.{Room}
-use Rattle.making_calls.specs.declared.blocks.Taken.{Taken}
 use Rattle.making_calls.specs.declared.blocks.Taken.TheVariants as taken
-use Rattle.making_calls.proofs.Holds.{read_group, rest_all}
+use Rattle.making_calls.proofs.Holds.{read_group}
 use Rattle.making_calls.proofs.InImage.{holds_said, shown_listed}
 
 pub exclusive : (s : State) → leq Ex s ≡ true → s ≡ Ex

@@ -1,7 +1,6 @@
 -- A name made at the place to which the walk came.
-use Rattle.std.proofs.Common.{◌≡◌, ◌⊎◌, inl, inr, Bool, true, false, ℕ, suc, ◌<◌, ◌≤◌, List, [], ◌∷◌, ◌++◌, length, map, slice_get, Option, None, Some, refl, sym, ap, ◌∙◌, subst, arith}
+use Rattle.std.proofs.Common.{◌≡◌, inl, inr, Bool, true, false, ℕ, suc, ◌≤◌, List, [], ◌∷◌, ◌++◌, length, map, slice_get, None, Some, refl, sym, ap, ◌∙◌, subst, arith}
 use Rattle.std.proofs.lemmas.List.Elements.{All-append, Contains-append_left}
-use Rattle.std.specs.List.{list_any}
 use Rattle.std.specs.FinMap.{get}
 use Rattle.cluster_history.specs.Changes.{is_ok}
 use Rattle.file_tree.specs.Apply.{apply, Answer, put_at}
@@ -11,11 +10,8 @@ use Rattle.file_tree.specs.declared.call.Call.{Call}
 use Rattle.file_tree.specs.declared.reply.Reply.TheVariants.{Ok}
 use Rattle.drafts.specs.declared.change.Change.{Change}
 use Rattle.drafts.specs.declared.fate.Fate.TheVariants.{Put}
-use Rattle.gfs2_layout.specs.Area.{slots_of}
 use Rattle.gfs2_layout.specs.Holding.{Holding}
-use Rattle.gfs2_layout.specs.Inode.{is_directory_in, linear_area}
-use Rattle.gfs2_layout.specs.Putting.{has_room, least_length}
-use Rattle.glock_names.specs.Views.{Seen, HasGroup, group_of_entry}
+use Rattle.glock_names.specs.Views.{Seen, HasGroup}
 use Rattle.glock_names.specs.declared.LockName.{LockName}
 use Rattle.glock_names.specs.declared.State.{State}
 use Rattle.glock_names.specs.declared.State.TheVariants.{Ex}
@@ -27,7 +23,6 @@ use Rattle.dinode_tree.specs.Shown.{IsShown}
 use Rattle.dinode_tree.specs.Reading.{inode_lock}
 use Rattle.resource_groups.specs.Putting.{HasDataBlock}
 use Rattle.resource_groups.specs.Shown.{IsMissing, group_lock, said}
-use Rattle.image_model.specs.Flat.{Path}
 use Rattle.image_model.specs.Image.{Image}
 use Rattle.image_model.specs.Owners.{Owners, holding}
 use Rattle.image_model.specs.Stands.{Layout}
@@ -35,25 +30,24 @@ use Rattle.image_changes.specs.Does.{IsOf, Does}
 use Rattle.image_changes.specs.Flats.{in_directory}
 use Rattle.image_changes.proofs.Drafting.{drafts_do}
 use Rattle.draft_changes.proofs.Added.{adding_makes}
-use Rattle.path_walks.specs.Holds.{Hold, AreHeld, IsAskedFor, IsFirstLack, holds, hold_of}
+use Rattle.path_walks.specs.Holds.{Hold, AreHeld, IsAskedFor, IsFirstLack, holds}
 use Rattle.path_walks.specs.Walks.{LeadsTo, IsSeenAt}
 use Rattle.path_walks.specs.Walks as path
 use Rattle.path_walks.specs.declared.walk.Place.{Place}
 use Rattle.path_walks.proofs.Images.{is_inode, is_shown, unbroken_directory}
 use Rattle.path_walks.proofs.Lists.{parent_of_next}
 use Rattle.file_tree.proofs.WalkLaws.{last_front}
-use Rattle.making_calls.specs.Blocks.{blocks_needed, block_holds, free_in, free_in_all, group_holds, group_of_node, hold_of_group, new_holds, states_by}
+use Rattle.making_calls.specs.Blocks.{blocks_needed, block_holds, free_in, free_in_all, group_holds, group_of_node, hold_of_group, new_holds}
 use Rattle.making_calls.specs.Drafting.{IsAddition, IsWrongIn, new_tree}
 use Rattle.making_calls.specs.Drafting as drafting
 use Rattle.making_calls.specs.Making.{IsMaking, IsLastOf, IsReachedIn, IsFound, IsFoundBy, IsTooFew, IsDamage, IsUnbuilt, LacksName, call_holds, directory_path, makes_directory, name_in, path_holds}
 use Rattle.making_calls.specs.Making as damage
-use Rattle.making_calls.specs.Searches.{AreShown, IsGroupBlock, IsGroupBroken, IsTaken, IsUnder}
+use Rattle.making_calls.specs.Searches.{AreShown, IsGroupBlock, IsTaken, IsUnder}
 use Rattle.making_calls.specs.declared.blocks.Locked.{Locked}
 use Rattle.making_calls.specs.declared.blocks.Locked.TheVariants as locked
 use Rattle.making_calls.specs.declared.blocks.Room.{Room}
 use Rattle.making_calls.specs.declared.blocks.Taken.{Taken}
 use Rattle.making_calls.specs.declared.blocks.Taken.TheVariants as taken
-use Rattle.making_calls.specs.declared.finds.Found.TheVariants as found
 use Rattle.making_calls.proofs.Holds.{empty_list, lack_behind, rest_all}
 use Rattle.making_calls.proofs.InImage.{all_said, are_shown, asked_behind, group_asked}
 use Rattle.making_calls.proofs.Rooms.{IsHeldRoom, block_under, dinode_inside, exclusive, group_sound, held_before, new_are, own_of}

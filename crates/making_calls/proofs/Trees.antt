@@ -1,5 +1,5 @@
 -- What the tree answers a call that makes a name, by the inode at the end of its directory's path.
-use Rattle.std.proofs.Common.{◌≡◌, Bool, true, false, true≢false, ℕ, List, [], ◌∷◌, ◌++◌, Option, None, Some, refl, sym, ap, ◌∙◌, subst}
+use Rattle.std.proofs.Common.{◌≡◌, true, false, ℕ, List, [], ◌∷◌, ◌++◌, Option, None, Some, refl, sym, ap, ◌∙◌}
 use Rattle.std.proofs.lemmas.List.{append-nil}
 use Rattle.std.specs.Prelude.{◌&&◌, if◌then◌else◌, option_and_then}
 use Rattle.cluster_history.specs.Changes.{Changes, is_ok, may_change}
@@ -26,7 +26,6 @@ use Rattle.image_changes.proofs.DirectoryNames.{directories_list}
 use Rattle.image_changes.proofs.FlatPaths.{follow-append}
 use Rattle.image_changes.proofs.Walks.{walks_end, walks_find}
 use Rattle.path_walks.proofs.Images.{child_is_there, no_child_of_file}
-use Rattle.path_walks.proofs.Lists.{parent_of_next}
 use Rattle.making_calls.specs.Blocks.{new_holds}
 use Rattle.making_calls.specs.Drafting.{new_tree}
 use Rattle.making_calls.specs.Making.{IsMaking, IsLastOf, call_holds, directory_path, makes_directory, path_holds}

@@ -6,7 +6,6 @@ use Rattle.file_tree.specs.Tree.{Tree}
 use Rattle.file_tree.specs.Apply.{apply}
 use Rattle.file_tree.specs.declared.call.Call.{Call}
 use Rattle.file_tree.specs.declared.call.Call.TheVariants.{Create, Mkdir}
-use Rattle.file_tree.specs.declared.reply.Reply.{Reply}
 use Rattle.file_tree.specs.declared.reply.Reply.TheVariants.{Ok}
 use Rattle.drafts.specs.declared.change.Change.{Change}
 use Rattle.cluster_history.specs.Changes.{is_ok}

@@ -1,7 +1,5 @@
-use Rattle.std.proofs.Common.{rules, ◌≡◌, [], ◌∷◌, true, false, Ok, sym, subst, ◌∙◌}
-use Rattle.std.specs.Prelude.{MatchOption}
+use Rattle.std.proofs.Common.{rules, ◌≡◌, true, false, Ok, subst, ◌∙◌}
 use Rattle.glock_names.specs.Steps.{IfNeedBlock}
-use Rattle.glock_names.specs.Views.{end_of}
 use Rattle.glock_names.proofs.StepLaws.{answer_at}
 use Rattle.resource_groups.specs.Finding.{IsNeeded}
 use Rattle.resource_groups.specs.Shown.{IsMissing}

@@ -1,4 +1,4 @@
-use Rattle.std.proofs.Common.{◌≡◌, ap, ◌∙◌, sym, subst}
+use Rattle.std.proofs.Common.{ap, ◌∙◌, sym, subst}
 use Rattle.gfs2_layout.specs.declared.dinode.Dinode.{Dinode}
 use Rattle.dinode_tree.specs.Broken.{no_number}
 use Rattle.linear_dirs.specs.Broken.{IsBroken, of_inode, not_stuffed}
