@@ -3,10 +3,8 @@
 use Rattle.std.proofs.Common.{◌≡◌, ◌≢◌, ℕ, ◌+◌, ◌-◌, ◌<◌, ◌⊎◌, inl, inr, Bool, true, false, List, [], ◌∷◌, Option, None, Some, refl, sym, ap, ◌∙◌, subst, subst₂, arith}
 use Rattle.std.specs.Prelude.{unwrap_or, slice_set}
 use Rattle.std.specs.Ordering.{nat_cmp}
-use Rattle.std.specs.Cmp.{nat_cmp_total}
-use Rattle.std.specs.FinMap.{FinMap, get, insert, nat_cmp-IsAntisymmetric}
+use Rattle.std.specs.FinMap.{FinMap, get, insert}
 use Rattle.std.proofs.lemmas.Bool.{cases_eq}
-use Rattle.finite_maps.proofs.Keys.{inserted_at, inserted_apart}
 use Rattle.file_tree.specs.Names.{IsName}
 use Rattle.file_tree.specs.Tree.{Tree}
 use Rattle.drafts.specs.Fates.{AreWhole, block_with, seen_with}
@@ -51,14 +49,9 @@ use Rattle.draft_changes.specs.Adding.{ReadsNew, AddsName}
 use Rattle.draft_changes.specs.Groups.{PutsGroup}
 use Rattle.draft_changes.proofs.Rows.{part_its, said_free}
 use Rattle.draft_changes.proofs.Views.{shows_inodes, later_shows, shows_groups, groups_are_listed}
+use Rattle.making_calls.proofs.Recording.{put_elsewhere, put_there}
 
 -- ---- a block that is put
-
-put_there : (f : FinMap nat_cmp Fate) (b : ℕ) (x : Fate) → get (insert f b x) b ≡ Some x
-put_there f b x = inserted_at nat_cmp_total nat_cmp-IsAntisymmetric f b x
-
-put_elsewhere : (f : FinMap nat_cmp Fate) (b : ℕ) (x : Fate) (c : ℕ) → c ≢ b → get (insert f b x) c ≡ get f c
-put_elsewhere f b x c apart = inserted_apart nat_cmp_total nat_cmp-IsAntisymmetric f b x c apart
 
 -- a draft that puts a block more sees each block that it saw
 pub sees_more : (v : Seen) (f f' : FinMap nat_cmp Fate) (b : ℕ) (lock : LockName) (plain : Bool) (bytes : List ℕ) → f' ≡ insert f b (Put lock plain bytes)

@@ -22,13 +22,19 @@ use Rattle.making_calls.specs.Drafting.{IsNumbered, IsSaidAndDone}
 pub unchanged : (v : Seen) → seen_with v empty ≡ v
 unchanged v = λ i. record v { block_at = λ b. ap (λ f. block_with f (v.block_at b)) (get-empty nat_cmp b) i }
 
--- every view shows a group
-pub group_shown : (w : Seen) (g : Group) → IsView w → (at : ℕ → List ℕ) × IsShown w g at
-group_shown w g view = (overlaid w (λ b. replicate w.size 0), record { whole = λ b own. each b (w.block_at b) refl; same = λ b bytes own there. ap (λ s. seen_or s (replicate w.size 0)) there })
+-- every view shows its groups
+pub bytes_shown : (w : Seen) → IsView w → (at : ℕ → List ℕ) × ((g : Group) → IsShown w g at)
+bytes_shown w view = (
+  overlaid w (λ b. replicate w.size 0),
+  λ g. record { whole = λ b own. each b (w.block_at b) refl; same = λ b bytes own there. ap (λ s. seen_or s (replicate w.size 0)) there },
+)
   where
     each : (b : ℕ) (s : Option (List ℕ)) → w.block_at b ≡ s → length (seen_or s (replicate w.size 0)) ≡ w.size
     each b None e = length-replicate w.size 0
     each b (Some bytes) e = view.whole b bytes e
+
+pub group_shown : (w : Seen) (g : Group) → IsView w → (at : ℕ → List ℕ) × IsShown w g at
+group_shown w g view = let s = bytes_shown w view in (s.0, s.1 g)
 
 module _ {V : Type 0} (seen : V → Seen) (old new : Drafted V) (g : Group) (fresh : old.fates ≡ empty) (shows : IsView (seen_in seen old)) where
   pub seen_old : seen_in seen old ≡ seen old.view

@@ -49,10 +49,11 @@ unseen (Some (Put lock plain bytes)) below e = absurd (none_some (sym e))
 pub missing_before : (v : Seen) (fates : FinMap nat_cmp Fate) (g : Group) (m : Missing) → IsMissing (seen_with v fates) g m → IsMissing v g m
 missing_before v fates g m is = record { own = is.own; absent = unseen (get fates m.block) (v.block_at m.block) is.absent; lock = is.lock; plain = is.plain; from = is.from }
 
--- a number that is put breaks nothing
-block_in : (at : ℕ → List ℕ) (g : Group) (k : ℕ) → k < g.length → slice_index_or (blocks_of at g) k [] ≡ at (g.addr + k)
+-- block k of a group
+pub block_in : (at : ℕ → List ℕ) (g : Group) (k : ℕ) → k < g.length → slice_index_or (blocks_of at g) k [] ≡ at (g.addr + k)
 block_in at g k low = get_or-map-range_with_len at g.addr g.length k (g.addr + k) [] low refl
 
+-- a number that is put breaks nothing
 pub number_breaks_nothing : (at at' : ℕ → List ℕ) (g : Group) (number rule b : ℕ) → IsNumberPut at at' g number → group.IsBroken at' g rule b → group.IsBroken at g rule b
 number_breaks_nothing at at' g number rule b is (group.no_header zero low lacks) = absurd (lacks (subst (HasHeader 2 200) (block_in at' g 0 low) is.kind))
 number_breaks_nothing at at' g number rule b is (group.no_header (suc k) low lacks) =

@@ -1,8 +1,7 @@
 -- The room that was found for a new inode, over a view and in an image that it may be of.
-use Rattle.std.proofs.Common.{◌≡◌, inl, inr, ℕ, zero, suc, ◌+◌, ◌-◌, ◌%◌, ◌<◌, ◌≤◌, true, true≢false, List, [], ◌∷◌, ◌++◌, length, get_or, replicate, map, Option, None, Some, refl, sym, ap, ◌∙◌, subst, arith}
+use Rattle.std.proofs.Common.{◌≡◌, inl, inr, ℕ, zero, suc, ◌-◌, ◌%◌, ◌<◌, ◌≤◌, true, true≢false, List, [], ◌∷◌, ◌++◌, length, get_or, map, Some, refl, sym, ap, ◌∙◌, subst, arith}
 use Rattle.std.proofs.Math.Nat.{mod-lt}
-use Rattle.std.proofs.lemmas.List.{append_assoc, get_or_append_left, length-append, length-replicate}
-use Rattle.std.proofs.lemmas.List.FromFn.{get_or-map-range_with_len}
+use Rattle.std.proofs.lemmas.List.{append_assoc, get_or_append_left, length-append}
 use Rattle.std.proofs.lemmas.Option.{slice_get-get_or}
 use Rattle.std.specs.Prelude.{Contains}
 use Rattle.file_tree.specs.Tree.{Tree}
@@ -15,10 +14,10 @@ use Rattle.glock_names.specs.declared.State.{State}
 use Rattle.glock_names.specs.declared.State.TheVariants.{Un, Sh, Df, Ex}
 use Rattle.glock_names.specs.declared.steps.Missing.{Missing}
 use Rattle.glock_names.specs.declared.views.Group.{Group}
-use Rattle.resource_groups.specs.Putting.{HasDataBlock, overlaid, seen_or}
+use Rattle.resource_groups.specs.Putting.{HasDataBlock}
 use Rattle.resource_groups.specs.Shown.{IsMissing, IsDataOf, said, group_lock}
 use Rattle.resource_groups.specs.Shown as group
-use Rattle.image_model.specs.Groups.{IsListed, group_blocks}
+use Rattle.image_model.specs.Groups.{IsListed}
 use Rattle.image_model.specs.Image.{Image}
 use Rattle.image_model.specs.Owners.{Owners, is_dinode}
 use Rattle.image_model.specs.Stands.{Layout}
@@ -35,6 +34,8 @@ use Rattle.making_calls.specs.declared.blocks.Room.{Room}
 use Rattle.making_calls.specs.declared.blocks.Taken.TheVariants as taken
 use Rattle.making_calls.proofs.Holds.{read_group}
 use Rattle.making_calls.proofs.InImage.{holds_said, shown_listed}
+use Rattle.making_calls.proofs.Numbered.{bytes_shown}
+use Rattle.making_calls.proofs.Over.{block_in}
 
 pub exclusive : (s : State) → leq Ex s ≡ true → s ≡ Ex
 exclusive Ex e = refl
@@ -42,16 +43,8 @@ exclusive Un e = absurd (true≢false (sym e))
 exclusive Sh e = absurd (true≢false (sym e))
 exclusive Df e = absurd (true≢false (sym e))
 
--- ---- a view shows all of its groups
+-- ---- a view shows all of its groups, and a node has one of its own
 
-pub all_shown : (v : Seen) → IsView v → (at : ℕ → List ℕ) × AreShown v at
-all_shown v view = (overlaid v (λ b. replicate v.size 0), λ g has. record { whole = λ b own. each b (v.block_at b) refl; same = λ b bytes own there. ap (λ s. seen_or s (replicate v.size 0)) there })
-  where
-    each : (b : ℕ) (s : Option (List ℕ)) → v.block_at b ≡ s → length (seen_or s (replicate v.size 0)) ≡ v.size
-    each b None e = length-replicate v.size 0
-    each b (Some bytes) e = view.whole b bytes e
-
--- and a node has a group of its own
 pub own_of : (v : Seen) (node : ℕ) → 1 ≤ length v.groups → 1 ≤ node → (own : Group) × (group_of_node v.groups node ≡ Some own) × HasGroup v own
 own_of v node some first =
     let i : ℕ = (node - 1) % length v.groups in
@@ -106,9 +99,9 @@ pub room_held : (v : Seen) (node : ℕ) (r : Room) → IsView v → 1 ≤ length
     → ((at : ℕ → List ℕ) (own : Group) → AreShown v at → group_of_node v.groups node ≡ Some own → IsUnder v (block_holds (said at) v.groups own) (IsTaken v (said at) v.groups own) (locked.Is (taken.Is r)))
     → IsHeldRoom v r
 room_held v node r view some first found =
-    let at = all_shown v view in
+    let at = bytes_shown v view in
     let own = own_of v node some first in
-    let f = found at.0 own.0 at.1 own.1 in
+    let f = found at.0 own.0 (λ g has. at.1 g) own.1 in
     record {
       has = f.1.0.has;
       data_block = f.1.0.data_block;
@@ -117,9 +110,6 @@ room_held v node r view some first found =
     }
 
 -- ---- in an image
-
-block_in : (im : Image) (g : Rindex) (k : ℕ) → k < g.length → get_or (group_blocks im.at g) k [] ≡ im.at (g.address + k)
-block_in im g k low = get_or-map-range_with_len im.at g.address g.length k (g.address + k) [] low refl
 
 module _ (v : Seen) (im : Image) (o : Owners) (l : Layout) (t : Tree) (of : IsOf v im o l t) where
   -- the new inode's locks by what the bits say
@@ -135,8 +125,8 @@ module _ (v : Seen) (im : Image) (o : Owners) (l : Layout) (t : Tree) (of : IsOf
 
   -- a group breaks no rule
   unbroken_group : (g : Rindex) → IsListed l.groups g → (rule b : ℕ) → group.IsBroken im.at (group_of_entry g) rule b → ⊥
-  unbroken_group g listed rule b (group.no_header zero low lacks) = lacks (subst (HasHeader 2 200) (block_in im g 0 low) (of.stands.laid.groups g listed).header)
-  unbroken_group g listed rule b (group.no_header (suc k) low lacks) = lacks (subst (HasHeader 3 300) (block_in im g (suc k) low) ((of.stands.laid.groups g listed).more (suc k) (omega arith) low))
+  unbroken_group g listed rule b (group.no_header zero low lacks) = lacks (subst (HasHeader 2 200) (block_in im.at (group_of_entry g) 0 low) (of.stands.laid.groups g listed).header)
+  unbroken_group g listed rule b (group.no_header (suc k) low lacks) = lacks (subst (HasHeader 3 300) (block_in im.at (group_of_entry g) (suc k) low) ((of.stands.laid.groups g listed).more (suc k) (omega arith) low))
   unbroken_group g listed rule b (group.wrong_free other) = other ((of.stands.laid.groups g listed).free ∙ ap (count_of 0) (sym (of.stands.laid.groups g listed).bits))
   unbroken_group g listed rule b (group.wrong_dinodes other) = other ((of.stands.laid.groups g listed).dinodes ∙ ap (count_of 3) (sym (of.stands.laid.groups g listed).bits))
 
