@@ -23,7 +23,7 @@ use Rattle.image_model.specs.Flat.{Path}
 use Rattle.image_model.specs.Image.{Image}
 use Rattle.image_model.specs.Owners.{Owners}
 use Rattle.image_model.specs.Stands.{Layout}
-use Rattle.path_walks.specs.Holds.{Hold, AreHeld, IsAskedFor, IsFirstLack, holds_in}
+use Rattle.path_walks.specs.Holds.{Hold, AreHeld, IsAskedFor, IsFirstLack, holds, holds_in}
 use Rattle.path_walks.specs.declared.walk.Place.{Place}
 use Rattle.path_walks.specs.Walks.{LeadsTo, IsLinearDirectory, IsOnTheWay, IsPlaceOf, IsWrong}
 use Rattle.path_walks.specs.Walks as path
@@ -115,6 +115,12 @@ IsFoundBy v im o l t call list (found.NoSpace free) = IsTooFew v im o l t call b
 
 abbrev pub IsFound : Seen → Image → Owners → Layout → Tree → Call → ℕ → Found → Type 0
 IsFound v im o l t call node f = IsFoundBy v im o l t call (call_holds im o l t call node) f
+
+-- on every view, what stands in the way does: the lock isn't held so strongly, the view hasn't the block
+abbrev pub IsInTheWay : Seen → Found → Type 0
+IsInTheWay v (found.NeedLock lock state) = holds v (record { lock = lock; state = state }) ≡ false
+IsInTheWay v (found.NeedBlock m) = v.block_at m.block ≡ None
+IsInTheWay v f = ⊤
 
 -- what a refusal is not
 abbrev pub IsRefusal : Found → Type 0

@@ -1,5 +1,5 @@
 // A try of a call that makes a name.
-ghost use Rattle.std.specs.Prelude.{ℕ, ◌≡◌, ◌≤◌, [], false, length, IfOk};
+ghost use Rattle.std.specs.Prelude.{ℕ, ◌≡◌, ◌≤◌, [], false, length, IfOk, None};
 ghost use Rattle.cluster_history.specs.Changes.{is_ok};
 ghost use Rattle.file_tree.specs.Names.{IsName};
 ghost use Rattle.file_tree.specs.Tree.{Tree};
@@ -15,9 +15,9 @@ ghost use Rattle.image_model.specs.Owners.{Owners};
 ghost use Rattle.image_model.specs.Stands.{Layout};
 ghost use Rattle.image_changes.specs.Does.{IsOf, Does};
 ghost use Rattle.path_walks.specs.Answers.{IfDone, IfNeedLock, IfNeedBlock, IfNoSpace, IfNotBuilt};
-ghost use Rattle.path_walks.specs.Holds.{AreHeld, IsAskedFor, IsFirstLack};
+ghost use Rattle.path_walks.specs.Holds.{AreHeld, IsAskedFor, IsFirstLack, holds};
 ghost use Rattle.path_walks.specs.Walks.{IsSeenAt};
-ghost use Rattle.making_calls.specs.Making.{IfMade, IfNotBuilt as IfUnbuilt, IsDamage, IsFound, IsLastOf, IsMaking, IsReachedIn, IsRefusal, IsTooFew, IsUnbuilt, LacksName, call_holds, directory_path, makes_directory};
+ghost use Rattle.making_calls.specs.Making.{IfMade, IfNotBuilt as IfUnbuilt, IsDamage, IsFound, IsInTheWay, IsLastOf, IsMaking, IsReachedIn, IsRefusal, IsTooFew, IsUnbuilt, LacksName, call_holds, directory_path, makes_directory};
 
 use crate::blocks::{Locked, Taken, find_block};
 use crate::drafting::{addition, is_a_view};
@@ -86,6 +86,7 @@ fn make_at<V: View>(
     ensures found { (im : Image) (o : Owners) (l : Layout) (t : Tree) → IsOf (V.seen view.now) im o l t → IfOk result (IsFound (V.seen view.now) im o l t call.now stamp.now.node) }
     ensures done { IfOk result (IfMade (Does (V.seen view.now) call.now OkReply)) }
     ensures refusal { IfOk result IsRefusal }
+    ensures way { IfOk result (IsInTheWay (V.seen view.now)) }
     ensures hashed { IfOk result (IfUnbuilt (IsUnbuilt (V.seen view.now) call.now)) }
     ensures sound { (im : Image) (o : Owners) (l : Layout) (t : Tree) → IsOf (V.seen view.now) im o l t → IfDamaged result (λ rule block. ⊥) }
     ensures damaged { IfDamaged result (IsDamage (V.seen view.now) call.now) }
@@ -137,6 +138,7 @@ fn find_at<V: View>(
     ensures found { (im : Image) (o : Owners) (l : Layout) (t : Tree) → IsOf (V.seen view.now) im o l t → IfOk result (IsFound (V.seen view.now) im o l t call.now stamp.now.node) }
     ensures done { IfOk result (IfMade (Does (V.seen view.now) call.now OkReply)) }
     ensures refusal { IfOk result IsRefusal }
+    ensures way { IfOk result (IsInTheWay (V.seen view.now)) }
     ensures hashed { IfOk result (IfUnbuilt (IsUnbuilt (V.seen view.now) call.now)) }
     ensures sound { (im : Image) (o : Owners) (l : Layout) (t : Tree) → IsOf (V.seen view.now) im o l t → IfDamaged result (λ rule block. ⊥) }
     ensures damaged { IfDamaged result (IsDamage (V.seen view.now) call.now) }
@@ -163,6 +165,7 @@ fn find<V: View>(alloc: Global, view: &V, call: &Call, stamp: &Stamp) -> Result<
     ensures found { (im : Image) (o : Owners) (l : Layout) (t : Tree) → IsOf (V.seen view.now) im o l t → IfOk result (IsFound (V.seen view.now) im o l t call.now stamp.now.node) }
     ensures done { IfOk result (IfMade (Does (V.seen view.now) call.now OkReply)) }
     ensures refusal { IfOk result IsRefusal }
+    ensures way { IfOk result (IsInTheWay (V.seen view.now)) }
     ensures hashed { IfOk result (IfUnbuilt (IsUnbuilt (V.seen view.now) call.now)) }
     ensures sound { (im : Image) (o : Owners) (l : Layout) (t : Tree) → IsOf (V.seen view.now) im o l t → IfDamaged result (λ rule block. ⊥) }
     ensures damaged { IfDamaged result (IsDamage (V.seen view.now) call.now) }
@@ -200,6 +203,8 @@ pub fn attempt<V: View>(
     ensures lock { (im : Image) (o : Owners) (l : Layout) (t : Tree) → IsOf (V.seen view.now) im o l t → IfNeedLock result (IsFirstLack (V.seen view.now) (call_holds im o l t call.now stamp.now.node)) }
     ensures block { (im : Image) (o : Owners) (l : Layout) (t : Tree) → IsOf (V.seen view.now) im o l t → IfNeedBlock result (IsAskedFor (V.seen view.now) im o l (call_holds im o l t call.now stamp.now.node)) }
     ensures space { (im : Image) (o : Owners) (l : Layout) (t : Tree) → IsOf (V.seen view.now) im o l t → IfNoSpace result (IsTooFew (V.seen view.now) im o l t call.now) }
+    ensures lacked { IfNeedLock result (λ lock state. holds (V.seen view.now) (record { lock = lock; state = state }) ≡ false) }
+    ensures absent { IfNeedBlock result (λ missing. (V.seen view.now).block_at missing.block ≡ None) }
     ensures hashed { IfNotBuilt result (IsUnbuilt (V.seen view.now) call.now) }
     ensures sound { (im : Image) (o : Owners) (l : Layout) (t : Tree) → IsOf (V.seen view.now) im o l t → IfDamaged result (λ rule block. ⊥) }
     ensures damaged { IfDamaged result (IsDamage (V.seen view.now) call.now) }

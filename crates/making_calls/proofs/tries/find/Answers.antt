@@ -7,7 +7,7 @@ use Rattle.file_tree.specs.declared.reply.Reply.TheVariants as reply
 use Rattle.glock_names.specs.Steps as steps
 use Rattle.call_locks.specs.Wants.{wanted}
 use Rattle.call_locks.specs.WantLaws.{path_of}
-use Rattle.path_walks.specs.Holds.{AreHeld}
+use Rattle.path_walks.specs.Holds.{AreHeld, holds}
 use Rattle.path_walks.specs.Walks.{AreInOrder, IsTold, IsWalked}
 use Rattle.path_walks.specs.Walks as path
 use Rattle.path_walks.proofs.Lists.{parent_of_next}
@@ -116,3 +116,23 @@ returns-clause-found g c im o l t of =
     let walked = subst₂ (λ names wants. IsWalked v im o l t names wants c.in_ok-place.field-0) front (c.deref.ensures.value ∙ c.in_ok-wants.ensures) (c.in_ok-place.ensures.walked im o l t of) in
     let at = subst (IsWalked v im o l t (directory_path call) (wanted call)) c.in-NeedBlock.is walked in
     asked_before v im o l (path_holds im o l call) (if is_ok (apply call t).reply then new_holds o l c.args.stamp.now.node else []) c.in-NeedBlock.missing at
+
+pub returns-in-NeedLock-clause-way : goal.returns-in-NeedLock-clause-way
+returns-in-NeedLock-clause-way g c =
+    let v = g.V.View.seen c.args.view.now in
+    let call = c.args.call.now in
+    let whole : path_of call false ≡ c.in-Some.front.now ++ c.in-Some.last.now ∷ [] = sym (c.names.ensures.names ∙ c.path_of_making.ensures) ∙ c.in-Some.ensures.cases.0 in
+    let front : c.in-Some.front.now ≡ directory_path call = sym (ap parent_of whole ∙ parent_of_next c.in-Some.front.now c.in-Some.last.now) in
+    let told = subst₂ (λ names wants. IsTold v wants names c.in_ok-place.field-0) front (c.deref.ensures.value ∙ c.in_ok-wants.ensures) c.in_ok-place.ensures.told in
+    let at = subst (IsTold v (wanted call) (directory_path call)) c.in-NeedLock.is told in
+    subst (λ h. holds v h ≡ false) (sym at.is) at.lacks
+
+pub returns-clause-way : goal.returns-clause-way
+returns-clause-way g c =
+    let v = g.V.View.seen c.args.view.now in
+    let call = c.args.call.now in
+    let whole : path_of call false ≡ c.in-Some.front.now ++ c.in-Some.last.now ∷ [] = sym (c.names.ensures.names ∙ c.path_of_making.ensures) ∙ c.in-Some.ensures.cases.0 in
+    let front : c.in-Some.front.now ≡ directory_path call = sym (ap parent_of whole ∙ parent_of_next c.in-Some.front.now c.in-Some.last.now) in
+    let told = subst₂ (λ names wants. IsTold v wants names c.in_ok-place.field-0) front (c.deref.ensures.value ∙ c.in_ok-wants.ensures) c.in_ok-place.ensures.told in
+    let at = subst (IsTold v (wanted call) (directory_path call)) c.in-NeedBlock.is told in
+    at.absent

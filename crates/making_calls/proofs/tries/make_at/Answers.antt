@@ -17,7 +17,7 @@ use Rattle.making_calls.specs.Searches.{IsGroupBroken, IsTaken, IsUnder}
 use Rattle.making_calls.specs.declared.blocks.Locked.TheVariants as locked
 use Rattle.making_calls.proofs.Alike.{linear_in}
 use Rattle.making_calls.proofs.Faults.{only_so, tells_so, told_on}
-use Rattle.making_calls.proofs.Rooms.{group_sound, room_held}
+use Rattle.making_calls.proofs.Rooms.{block_way, group_sound, lock_way, room_held}
 use Rattle.making_calls.proofs.Taking.{addition_does, all_held, block_lacks, directory_sound, group_lacks, inside_so, lock_lacks, own_name, placed, too_few, wrong_damage}
 use Rattle.making_calls.proofs.tries.make_at.Goals as goal
 
@@ -117,3 +117,16 @@ pub returns-in-NeedBlock-2-clause-found : goal.returns-in-NeedBlock-2-clause-fou
 returns-in-NeedBlock-2-clause-found g c im o l t of =
     let v = g.V.View.seen c.args.view.now in
     group_lacks v c.args.call.now c.requires.making c.args.place.now c.args.name.now c.requires.last c.requires.named c.requires.lacks im o l t of (c.requires.reached im o l t of) c.args.stamp.now.node c.requires.groups c.requires.node c.in-Is-Is.room (λ at own shown is. subst (IsUnder v (block_holds (said at) v.groups own) (IsTaken v (said at) v.groups own)) (c.in-Is-Is.is ∙ ap locked.Is c.in-Is-Is.field-0-is) (c.in_ok-room.ensures.found at own shown is)) c.in-NeedBlock-2.missing (needed_at _ _ _ c.in-NeedBlock-2.is c.in_ok-change.ensures.needed)
+
+pub returns-in-NeedLock-clause-way : goal.returns-in-NeedLock-clause-way
+returns-in-NeedLock-clause-way g c =
+    let v = g.V.View.seen c.args.view.now in
+    lock_way v c.args.stamp.now.node c.is_a_view.ensures c.requires.groups c.requires.node c.in-NeedLock.lock c.in-NeedLock.state (λ at own shown is. subst (IsUnder v (block_holds (said at) v.groups own) (IsTaken v (said at) v.groups own)) (c.in-NeedLock.is) (c.in_ok-room.ensures.found at own shown is))
+
+pub returns-in-NeedBlock-clause-way : goal.returns-in-NeedBlock-clause-way
+returns-in-NeedBlock-clause-way g c =
+    let v = g.V.View.seen c.args.view.now in
+    block_way v c.args.stamp.now.node c.is_a_view.ensures c.requires.groups c.requires.node c.in-NeedBlock.missing (λ at own shown is. subst (IsUnder v (block_holds (said at) v.groups own) (IsTaken v (said at) v.groups own)) (c.in-NeedBlock.is) (c.in_ok-room.ensures.found at own shown is))
+
+pub returns-in-NeedBlock-2-clause-way : goal.returns-in-NeedBlock-2-clause-way
+returns-in-NeedBlock-2-clause-way g c = (needed_at _ _ _ c.in-NeedBlock-2.is c.in_ok-change.ensures.needed).absent
