@@ -1,0 +1,15 @@
+pub mod FreeLists
+pub mod Holds
+pub mod Chain
+pub mod NewInodes
+pub mod InImage
+pub mod Alike
+pub mod Faults
+pub mod Recording
+pub mod Numbered
+pub mod Over
+pub mod Adding
+pub mod Trees
+pub mod Rooms
+pub mod Wanted
+pub mod Taking

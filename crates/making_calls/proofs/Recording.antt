@@ -1,0 +1,91 @@
+-- A directory that is touched in a draft, and gets a record then.
+use Rattle.std.proofs.Common.{◌≡◌, ◌≢◌, inl, inr, Bool, ℕ, false, List, [], ◌∷◌, Some, sym, ap, ◌∙◌, subst}
+use Rattle.std.proofs.lemmas.Bool.{cases_eq}
+use Rattle.std.specs.List.{list_any}
+use Rattle.std.specs.Cmp.{nat_cmp_total}
+use Rattle.std.specs.Ordering.{nat_cmp}
+use Rattle.std.specs.FinMap.{FinMap, get, insert, nat_cmp-IsAntisymmetric}
+use Rattle.finite_maps.proofs.Keys.{inserted_at, inserted_apart}
+use Rattle.drafts.specs.Fates.{Drafted, block_with, seen_in, seen_with}
+use Rattle.drafts.specs.declared.fate.Fate.{Fate}
+use Rattle.drafts.specs.declared.fate.Fate.TheVariants.{Put}
+use Rattle.gfs2_layout.specs.Area.{slots_of}
+use Rattle.gfs2_layout.specs.Holding.{Holding}
+use Rattle.gfs2_layout.specs.Inode.{height_in, linear_area}
+use Rattle.gfs2_layout.specs.Putting.{has_room}
+use Rattle.glock_names.specs.Steps.{TellsOf}
+use Rattle.glock_names.specs.Views.{Seen, HasBlock}
+use Rattle.glock_names.specs.declared.steps.CallFault.{CallFault}
+use Rattle.glock_names.specs.declared.steps.Entry.{Entry}
+use Rattle.dinode_tree.specs.Reading.{inode_lock}
+use Rattle.dinode_tree.specs.Shown.{IsShown}
+use Rattle.linear_dirs.specs.Broken.{IsBroken}
+use Rattle.linear_dirs.specs.Exchanges.{HasExchanged}
+use Rattle.linear_dirs.specs.Shown.{IsLinearIn, holding_over, record_for}
+use Rattle.new_inodes.specs.Touched.{IsTouched}
+use Rattle.making_calls.specs.Drafting.{IsRecordPut}
+use Rattle.making_calls.proofs.Alike.{alike_shown, broken_before, linear_there, touched_alike}
+use Rattle.making_calls.proofs.Faults.{tells_so}
+
+pub put_there : (f : FinMap nat_cmp Fate) (b : ℕ) (x : Fate) → get (insert f b x) b ≡ Some x
+put_there f b x = inserted_at nat_cmp_total nat_cmp-IsAntisymmetric f b x
+
+pub put_elsewhere : (f : FinMap nat_cmp Fate) (b : ℕ) (x : Fate) (c : ℕ) → c ≢ b → get (insert f b x) c ≡ get f c
+put_elsewhere f b x c apart = inserted_apart nat_cmp_total nat_cmp-IsAntisymmetric f b x c apart
+
+module _ {V : Type 0} (seen : V → Seen) (old mid : Drafted V) (dir time : ℕ) (bytes : List ℕ) (put : mid ≡ record old { fates = insert old.fates dir (Put (inode_lock dir) false bytes) })
+    (touched : (h : Holding) → IsShown (seen_in seen old) dir h → IsTouched h (holding_over (seen_in seen mid) h) time) (there : HasBlock (seen_in seen old) dir)
+    (linear : IsLinearIn (seen_in seen old) dir) (stuffed : (h : Holding) → IsShown (seen_in seen old) dir h → height_in h ≡ 0) where
+  mid_view : mid.view ≡ old.view
+  mid_view = ap (λ (d : Drafted V). d.view) put
+
+  mid_fates : mid.fates ≡ insert old.fates dir (Put (inode_lock dir) false bytes)
+  mid_fates = ap (λ (d : Drafted V). d.fates) put
+
+  seen_mid : seen_in seen mid ≡ seen_with (seen old.view) mid.fates
+  seen_mid = ap (λ x. seen_with (seen x) mid.fates) mid_view
+
+  sizes : (seen_in seen old).size ≡ (seen_in seen mid).size
+  sizes = ap (λ x. (seen x).size) (sym mid_view)
+
+  -- the draft that touched it shows it
+  shown_then : (h : Holding) → IsShown (seen_in seen old) dir h → IsShown (seen_in seen mid) dir (holding_over (seen_in seen mid) h)
+  shown_then h shown =
+      alike_shown (seen_in seen old) (seen_in seen mid) dir h shown (stuffed h shown) (linear_there (seen_in seen old) dir there linear h shown) sizes
+      (touched_alike h (holding_over (seen_in seen mid) h) time (touched h shown))
+
+  -- what is broken in it was broken before
+  pub broken_still : (h : Holding) → IsShown (seen_in seen old) dir h → (f : CallFault) → ((x : Holding) → IsShown (seen_in seen mid) dir x → TellsOf (IsBroken x) f) → TellsOf (IsBroken h) f
+  broken_still h shown f tells =
+      tells_so (IsBroken (holding_over (seen_in seen mid) h)) (IsBroken h)
+      (broken_before (seen_in seen old) (seen_in seen mid) dir h shown (stuffed h shown) (linear_there (seen_in seen old) dir there linear h shown) sizes
+      (touched_alike h (holding_over (seen_in seen mid) h) time (touched h shown))) f
+      (tells (holding_over (seen_in seen mid) h) (shown_then h shown))
+
+  -- and the room of its records is the same
+  pub room_still : (h : Holding) → IsShown (seen_in seen old) dir h → (n : ℕ) (done : Bool)
+      → ((x : Holding) → IsShown (seen_in seen mid) dir x → done ≡ list_any (has_room n) (slots_of (linear_area x))) → done ≡ list_any (has_room n) (slots_of (linear_area h))
+  room_still h shown n done told = told (holding_over (seen_in seen mid) h) (shown_then h shown) ∙ ap (λ area. list_any (has_room n) (slots_of area)) (touched h shown).behind
+
+  pub there_then : HasBlock (seen_in seen mid) dir
+  there_then = (bytes, ap (λ w. w.block_at dir) seen_mid ∙ ap (λ fate. block_with fate ((seen old.view).block_at dir)) (ap (λ m. get m dir) mid_fates ∙ put_there old.fates dir (Put (inode_lock dir) false bytes)))
+
+  pub kept_before : (b : ℕ) → HasBlock (seen_in seen mid) b → HasBlock (seen_in seen old) b
+  kept_before b has = elim (cases_eq b dir) [
+    | inl same ↦ subst (HasBlock (seen_in seen old)) (sym same) there
+    | inr other ↦ (has.0, ap (λ fate. block_with fate ((seen old.view).block_at b)) (sym (put_elsewhere old.fates dir _ b other) ∙ ap (λ m. get m b) (sym mid_fates)) ∙ ap (λ w. w.block_at b) (sym seen_mid) ∙ has.1)
+  ]
+
+  pub recorded : (last : Drafted V) (name after : List ℕ) (entry : Entry) → last ≡ record mid { fates = insert mid.fates dir (Put (inode_lock dir) false after) }
+      → ((h : Holding) → IsShown (seen_in seen mid) dir h → HasExchanged h (holding_over (seen_in seen last) h) [] (record_for name entry ∷ []))
+      → IsRecordPut (seen old.view) old.fates dir time name entry last.fates
+  recorded last name after entry then exchanged = record {
+    between = mid.fates;
+    times = bytes;
+    times_put = mid_fates;
+    touched = λ h shown. subst (λ w. IsTouched h (holding_over w h) time) seen_mid (touched h shown);
+    bytes = after;
+    put = ap (λ (d : Drafted V). d.fates) then;
+    exchanged = λ h shown. subst (λ w. HasExchanged h (holding_over w h) [] (record_for name entry ∷ [])) (ap (λ x. seen_with (seen x) last.fates) (ap (λ (d : Drafted V). d.view) then ∙ mid_view))
+        (exchanged h (subst (λ w. IsShown w dir h) (sym seen_mid) shown));
+  }

@@ -1,0 +1,150 @@
+-- The room that was found for a new inode, over a view and in an image that it may be of.
+use Rattle.std.proofs.Common.{◌≡◌, inl, inr, ℕ, zero, suc, ◌-◌, ◌%◌, ◌<◌, ◌≤◌, true, true≢false, List, [], ◌∷◌, ◌++◌, length, get_or, map, Some, refl, sym, ap, ◌∙◌, subst, arith, false, None}
+use Rattle.std.proofs.Math.Nat.{mod-lt}
+use Rattle.std.proofs.lemmas.List.{append_assoc, get_or_append_left, length-append}
+use Rattle.std.proofs.lemmas.Option.{slice_get-get_or}
+use Rattle.std.specs.Prelude.{Contains}
+use Rattle.file_tree.specs.Tree.{Tree}
+use Rattle.gfs2_layout.specs.Groups.{count_of}
+use Rattle.gfs2_layout.specs.Headers.{HasHeader}
+use Rattle.gfs2_layout.specs.declared.rindex.Rindex.{Rindex}
+use Rattle.glock_names.specs.StateOrder.{leq}
+use Rattle.glock_names.specs.Views.{Seen, IsView, HasGroup, group_of_entry}
+use Rattle.glock_names.specs.declared.LockName.{LockName}
+use Rattle.glock_names.specs.declared.State.{State}
+use Rattle.glock_names.specs.declared.State.TheVariants.{Un, Sh, Df, Ex}
+use Rattle.glock_names.specs.declared.steps.Missing.{Missing}
+use Rattle.glock_names.specs.declared.views.Group.{Group}
+use Rattle.resource_groups.specs.Putting.{HasDataBlock}
+use Rattle.resource_groups.specs.Shown.{IsMissing, IsDataOf, said, group_lock}
+use Rattle.resource_groups.specs.Shown as group
+use Rattle.image_model.specs.Groups.{IsListed}
+use Rattle.image_model.specs.Image.{Image}
+use Rattle.image_model.specs.Owners.{Owners, is_dinode}
+use Rattle.image_model.specs.Stands.{Layout}
+use Rattle.image_model.proofs.Members.{IsIn, is_in}
+use Rattle.image_changes.specs.Does.{IsOf}
+use Rattle.image_changes.proofs.Frame.{dinode_its}
+use Rattle.draft_changes.proofs.Rows.{its_used}
+use Rattle.draft_changes.proofs.Views.{groups_are_listed}
+use Rattle.path_walks.specs.Holds.{Hold, AreHeld, holds, hold_of, hold_for}
+use Rattle.making_calls.specs.Blocks.{block_holds, group_holds, group_of_node, hold_of_group, holds_from, new_holds, states_by}
+use Rattle.making_calls.specs.Searches.{AreShown, IsGroupBlock, IsGroupBroken, IsTaken, IsUnder}
+use Rattle.making_calls.specs.declared.blocks.Locked.TheVariants as locked
+use Rattle.making_calls.specs.declared.blocks.Room.{Room}
+use Rattle.making_calls.specs.declared.blocks.Taken.TheVariants as taken
+use Rattle.making_calls.proofs.Holds.{read_group}
+use Rattle.making_calls.proofs.InImage.{holds_said, shown_listed}
+use Rattle.making_calls.proofs.Numbered.{bytes_shown}
+use Rattle.making_calls.proofs.Over.{block_in}
+
+pub exclusive : (s : State) → leq Ex s ≡ true → s ≡ Ex
+exclusive Ex e = refl
+exclusive Un e = absurd (true≢false (sym e))
+exclusive Sh e = absurd (true≢false (sym e))
+exclusive Df e = absurd (true≢false (sym e))
+
+-- ---- a view shows all of its groups, and a node has one of its own
+
+pub own_of : (v : Seen) (node : ℕ) → 1 ≤ length v.groups → 1 ≤ node → (own : Group) × (group_of_node v.groups node ≡ Some own) × HasGroup v own
+own_of v node some first =
+    let i : ℕ = (node - 1) % length v.groups in
+    let low : i < length v.groups = mod-lt (node - 1) (omega (arith, some)) in
+    let nobody : Group = record { addr = 0; length = 0; first = 0; count = 0 } in
+    (get_or v.groups i nobody, slice_get-get_or v.groups i nobody low, read_group v v.groups i nobody refl low)
+
+-- ---- held locks
+
+held_in : (v : Seen) (xs : List Hold) (h : Hold) → AreHeld v xs → Contains xs h → holds v h ≡ true
+held_in v xs h held there = subst (λ x. holds v x ≡ true) there.2 (held there.0 h there.1)
+
+pub held_before : (v : Seen) (xs ys : List Hold) → AreHeld v (xs ++ ys) → AreHeld v xs
+held_before v xs ys held k d low = subst (λ x. holds v x ≡ true) (get_or_append_left xs ys d k low) (held k d (omega (arith, length-append xs ys, low)))
+
+held_behind : (v : Seen) (xs ys : List Hold) → AreHeld v (xs ++ ys) → AreHeld v ys
+held_behind v [] ys held = held
+held_behind v (x ∷ xs) ys held = held_behind v xs ys (λ k d low. held (suc k) d (omega (arith, low)))
+
+-- a list up to one of its elements
+split_there : (xs : List Hold) (h : Hold) → IsIn h xs → (front : List Hold) × ((back : List Hold) × (xs ≡ front ++ h ∷ back))
+split_there [] h at = elim at [ ]
+split_there (x ∷ xs) h (inl e) = ([], (xs, ap (λ y. y ∷ xs) (sym e)))
+split_there (x ∷ xs) h (inr later) = let s = split_there xs h later in (x ∷ s.0, (s.1.0, ap (λ ys. x ∷ ys) s.1.1))
+
+-- a block of a group whose lock is of the list, all of which is held
+pub block_under : (v : Seen) (list : List Hold) (g : Group) (m : Missing) → AreHeld v list → Contains list (hold_of_group g) → HasGroup v g → IsMissing v g m → IsGroupBlock v list m
+block_under v list g m held there has missing =
+    let s = split_there list (hold_of_group g) (is_in (hold_of_group g) list there) in
+    let same : hold_of_group g ≡ record { lock = m.lock; state = Ex } = ap (λ l. record { lock = l; state = Ex }) (sym missing.lock) in
+    record {
+      group = g;
+      has = has;
+      missing = missing;
+      state = Ex;
+      front = s.0;
+      back = s.1.0;
+      split = s.1.1 ∙ ap (λ x. s.0 ++ x ∷ s.1.0) same;
+      held = subst (λ x. AreHeld v (s.0 ++ x ∷ [])) same (held_before v (s.0 ++ hold_of_group g ∷ []) s.1.0 (subst (AreHeld v) (s.1.1 ∙ sym (append_assoc s.0 (hold_of_group g ∷ []) s.1.0)) held));
+    }
+
+-- ---- the room
+
+-- it lies in a group, whose lock is held, as that of the new inode is
+pub record IsHeldRoom (v : Seen) (r : Room) : Type 0 where
+  pub has : HasGroup v r.group
+  pub data_block : IsDataOf r.group r.block
+  pub group_held : holds v (hold_of_group r.group) ≡ true
+  pub inode_held : holds v (hold_of r.block Ex) ≡ true
+
+pub room_held : (v : Seen) (node : ℕ) (r : Room) → IsView v → 1 ≤ length v.groups → 1 ≤ node
+    → ((at : ℕ → List ℕ) (own : Group) → AreShown v at → group_of_node v.groups node ≡ Some own → IsUnder v (block_holds (said at) v.groups own) (IsTaken v (said at) v.groups own) (locked.Is (taken.Is r)))
+    → IsHeldRoom v r
+room_held v node r view some first found =
+    let at = bytes_shown v view in
+    let own = own_of v node some first in
+    let f = found at.0 own.0 (λ g has. at.1 g) own.1 in
+    record {
+      has = f.1.0.has;
+      data_block = f.1.0.data_block;
+      group_held = held_in v (group_holds (said at.0) v.groups own.0) (hold_of_group r.group) (held_before v (group_holds (said at.0) v.groups own.0) _ f.0) f.1.1;
+      inode_held = subst (AreHeld v) (ap (λ x. hold_for x Ex) f.1.0.first) (held_behind v (group_holds (said at.0) v.groups own.0) _ f.0) 0 (hold_of r.block Ex) (omega arith);
+    }
+
+-- what stands in the way of the search
+
+module _ (v : Seen) (node : ℕ) (view : IsView v) (some : 1 ≤ length v.groups) (first : 1 ≤ node) where
+  pub lock_way : (lock : LockName) (state : State)
+      → ((at : ℕ → List ℕ) (own : Group) → AreShown v at → group_of_node v.groups node ≡ Some own → IsUnder v (block_holds (said at) v.groups own) (IsTaken v (said at) v.groups own) (locked.NeedLock lock state))
+      → holds v (record { lock = lock; state = state }) ≡ false
+  lock_way lock state found = let at = bytes_shown v view in let own = own_of v node some first in (found at.0 own.0 (λ g has. at.1 g) own.1).lacks
+
+  pub block_way : (m : Missing)
+      → ((at : ℕ → List ℕ) (own : Group) → AreShown v at → group_of_node v.groups node ≡ Some own → IsUnder v (block_holds (said at) v.groups own) (IsTaken v (said at) v.groups own) (locked.NeedBlock m))
+      → v.block_at m.block ≡ None
+  block_way m found = let at = bytes_shown v view in let own = own_of v node some first in (found at.0 own.0 (λ g has. at.1 g) own.1).missing.absent
+
+-- ---- in an image
+
+module _ (v : Seen) (im : Image) (o : Owners) (l : Layout) (t : Tree) (of : IsOf v im o l t) where
+  -- the new inode's locks by what the bits say
+  pub new_are : (node : ℕ) (own : Group) → group_of_node v.groups node ≡ Some own → HasGroup v own → new_holds o l node ≡ block_holds (said im.at) v.groups own
+  new_are node own is has =
+      ap (holds_from (states_by o) (map group_of_entry l.groups)) (ap (λ gs. group_of_node gs node) of.groups ∙ is) ∙ sym (holds_said v im o l t of own has)
+
+  -- an inode's dinode is a data block of a group
+  pub dinode_inside : (a : ℕ) → is_dinode (o a) ≡ true → HasDataBlock v a
+  dinode_inside a so =
+      let placed = of.stands.laid.zoned.placed a (its_used a a (o a) (dinode_its a (o a) so)).0 in
+      (group_of_entry placed.0, (groups_are_listed v im o l t (group_of_entry placed.0) of).1 (placed.0, placed.1, refl), record { low = placed.2.low; high = placed.2.high })
+
+  -- a group breaks no rule
+  unbroken_group : (g : Rindex) → IsListed l.groups g → (rule b : ℕ) → group.IsBroken im.at (group_of_entry g) rule b → ⊥
+  unbroken_group g listed rule b (group.no_header zero low lacks) = lacks (subst (HasHeader 2 200) (block_in im.at (group_of_entry g) 0 low) (of.stands.laid.groups g listed).header)
+  unbroken_group g listed rule b (group.no_header (suc k) low lacks) = lacks (subst (HasHeader 3 300) (block_in im.at (group_of_entry g) (suc k) low) ((of.stands.laid.groups g listed).more (suc k) (omega arith) low))
+  unbroken_group g listed rule b (group.wrong_free other) = other ((of.stands.laid.groups g listed).free ∙ ap (count_of 0) (sym (of.stands.laid.groups g listed).bits))
+  unbroken_group g listed rule b (group.wrong_dinodes other) = other ((of.stands.laid.groups g listed).dinodes ∙ ap (count_of 3) (sym (of.stands.laid.groups g listed).bits))
+
+  pub group_sound : (rule b : ℕ) → IsGroupBroken v rule b → ⊥
+  group_sound rule b is =
+      let f = (groups_are_listed v im o l t is.group of).0 is.has in
+      unbroken_group f.0 f.1 rule b (subst (λ k. group.IsBroken im.at k rule b) f.2 (is.broken im.at (subst (λ k. group.IsShown v k im.at) (sym f.2) (shown_listed v im o l t of f.0 f.1))))

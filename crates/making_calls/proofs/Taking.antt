@@ -1,0 +1,173 @@
+-- A name made at the place to which the walk came.
+use Rattle.std.proofs.Common.{◌≡◌, inl, inr, Bool, true, false, ℕ, suc, ◌≤◌, List, [], ◌∷◌, ◌++◌, length, map, slice_get, None, Some, refl, sym, ap, ◌∙◌, subst, arith}
+use Rattle.std.proofs.lemmas.List.Elements.{All-append, Contains-append_left}
+use Rattle.std.specs.FinMap.{get}
+use Rattle.cluster_history.specs.Changes.{is_ok}
+use Rattle.file_tree.specs.Apply.{apply, Answer, put_at}
+use Rattle.file_tree.specs.Names.{IsName, parent_of, last_of}
+use Rattle.file_tree.specs.Tree.{Tree}
+use Rattle.file_tree.specs.declared.call.Call.{Call}
+use Rattle.file_tree.specs.declared.reply.Reply.TheVariants.{Ok}
+use Rattle.drafts.specs.declared.change.Change.{Change}
+use Rattle.drafts.specs.declared.fate.Fate.TheVariants.{Put}
+use Rattle.gfs2_layout.specs.Holding.{Holding}
+use Rattle.glock_names.specs.Views.{Seen, HasGroup}
+use Rattle.glock_names.specs.declared.LockName.{LockName}
+use Rattle.glock_names.specs.declared.State.{State}
+use Rattle.glock_names.specs.declared.State.TheVariants.{Ex}
+use Rattle.glock_names.specs.declared.steps.Missing.{Missing}
+use Rattle.glock_names.specs.declared.views.Group.{Group}
+use Rattle.call_locks.specs.Wants.{wanted}
+use Rattle.call_locks.specs.WantLaws.{path_of}
+use Rattle.dinode_tree.specs.Shown.{IsShown}
+use Rattle.dinode_tree.specs.Reading.{inode_lock}
+use Rattle.resource_groups.specs.Putting.{HasDataBlock}
+use Rattle.resource_groups.specs.Shown.{IsMissing, group_lock, said}
+use Rattle.image_model.specs.Image.{Image}
+use Rattle.image_model.specs.Owners.{Owners, holding}
+use Rattle.image_model.specs.Stands.{Layout}
+use Rattle.image_changes.specs.Does.{IsOf, Does}
+use Rattle.image_changes.specs.Flats.{in_directory}
+use Rattle.image_changes.proofs.Drafting.{drafts_do}
+use Rattle.draft_changes.proofs.Added.{adding_makes}
+use Rattle.path_walks.specs.Holds.{Hold, AreHeld, IsAskedFor, IsFirstLack, holds}
+use Rattle.path_walks.specs.Walks.{LeadsTo, IsSeenAt}
+use Rattle.path_walks.specs.Walks as path
+use Rattle.path_walks.specs.declared.walk.Place.{Place}
+use Rattle.path_walks.proofs.Images.{is_inode, is_shown, unbroken_directory}
+use Rattle.path_walks.proofs.Lists.{parent_of_next}
+use Rattle.file_tree.proofs.WalkLaws.{last_front}
+use Rattle.making_calls.specs.Blocks.{blocks_needed, block_holds, free_in, free_in_all, group_holds, group_of_node, hold_of_group, new_holds}
+use Rattle.making_calls.specs.Drafting.{IsAddition, IsWrongIn, new_tree}
+use Rattle.making_calls.specs.Drafting as drafting
+use Rattle.making_calls.specs.Making.{IsMaking, IsLastOf, IsReachedIn, IsFound, IsFoundBy, IsTooFew, IsDamage, IsUnbuilt, LacksName, call_holds, directory_path, makes_directory, name_in, path_holds}
+use Rattle.making_calls.specs.Making as damage
+use Rattle.making_calls.specs.Searches.{AreShown, IsGroupBlock, IsTaken, IsUnder}
+use Rattle.making_calls.specs.declared.blocks.Locked.{Locked}
+use Rattle.making_calls.specs.declared.blocks.Locked.TheVariants as locked
+use Rattle.making_calls.specs.declared.blocks.Room.{Room}
+use Rattle.making_calls.specs.declared.blocks.Taken.{Taken}
+use Rattle.making_calls.specs.declared.blocks.Taken.TheVariants as taken
+use Rattle.making_calls.proofs.Holds.{empty_list, lack_behind, rest_all}
+use Rattle.making_calls.proofs.InImage.{all_said, are_shown, asked_behind, group_asked}
+use Rattle.making_calls.proofs.Rooms.{IsHeldRoom, block_under, dinode_inside, exclusive, group_sound, held_before, new_are, own_of}
+use Rattle.making_calls.proofs.Trees.{changes, takes, taken_list}
+use Rattle.making_calls.proofs.Wanted.{directory_held}
+
+later_held : (v : Seen) (x : Hold) (xs : List Hold) → AreHeld v (x ∷ xs) → AreHeld v xs
+later_held v x xs held k d low = held (suc k) d (omega (arith, low))
+
+module _ (v : Seen) (c : Call) (is : IsMaking c) (p : Place) (name : List ℕ) (last : IsLastOf (path_of c false) name) (named : IsName name)
+    (lacks : (h : Holding) → IsShown v p.inode h → LacksName h name) where
+  -- the path is the directory's with the name
+  whole_path : in_directory (directory_path c) name ≡ path_of c false
+  whole_path = ap (λ q. q ++ name ∷ []) (ap parent_of last.1 ∙ parent_of_next last.0 name) ∙ sym last.1
+
+  pub own_name : name_in c ≡ name
+  own_name = ap last_of last.1 ∙ last_front last.0 name
+
+  module _ (im : Image) (o : Owners) (l : Layout) (t : Tree) (of : IsOf v im o l t) (reached : IsReachedIn v im o l c p) where
+    here : LacksName (holding im o p.inode) name
+    here = lacks (holding im o p.inode) (is_shown v im o l t of (directory_path c) p.inode reached.place.at)
+
+    -- the tree takes the call
+    pub taken_so : apply c t ≡ record { reply = Ok; tree = put_at (path_of c false) (new_tree (makes_directory c)) t }
+    taken_so = takes v im o l t of c name is last p.inode reached.place.at here.linear.directory named here.absent
+
+    reply_ok : (apply c t).reply ≡ Ok
+    reply_ok = ap (λ (x : Answer). x.reply) taken_so
+
+    list_is : (node : ℕ) → call_holds im o l t c node ≡ path_holds im o l c ++ new_holds o l node
+    list_is node = taken_list im o l t c node (ap is_ok reply_ok)
+
+    pub inside_so : HasDataBlock v p.inode
+    inside_so = dinode_inside v im o l t of p.inode (is_inode v im o l t of (directory_path c) p.inode reached.place.at)
+
+    -- nothing is damaged
+    pub directory_sound : (g : Group) → HasGroup v g → holds v (hold_of_group g) ≡ true → (rule b : ℕ) → IsWrongIn v p.inode g rule b → ⊥
+    directory_sound g has held rule b (drafting.in_directory r d broken) =
+        unbroken_directory v im o l t of (directory_path c) p.inode r d reached.place.at here.linear.directory here.linear.linear
+        (broken (holding im o p.inode) (is_shown v im o l t of (directory_path c) p.inode reached.place.at))
+    directory_sound g has held rule b (drafting.in_group r d broken) = group_sound v im o l t of r d (record { group = g; has = has; held = held; broken = broken })
+
+    module _ (node : ℕ) (some : 1 ≤ length v.groups) (first : 1 ≤ node) where
+      own : (own : Group) × (group_of_node v.groups node ≡ Some own) × HasGroup v own
+      own = own_of v node some first
+
+      abbrev new : List Hold
+      new = block_holds (said im.at) v.groups own.0
+
+      new_same : new_holds o l node ≡ new
+      new_same = new_are v im o l t of node own.0 own.1 own.2
+
+      whole : call_holds im o l t c node ≡ path_holds im o l c ++ new
+      whole = list_is node ∙ ap (λ xs. path_holds im o l c ++ xs) new_same
+
+      abbrev IsSearched : Locked Taken → Type 0
+      IsSearched r = (at : ℕ → List ℕ) (own : Group) → AreShown v at → group_of_node v.groups node ≡ Some own → IsUnder v (block_holds (said at) v.groups own) (IsTaken v (said at) v.groups own) r
+
+      found_here : (r : Locked Taken) → IsSearched r → IsUnder v new (IsTaken v (said im.at) v.groups own.0) r
+      found_here r searched = searched im.at own.0 (are_shown v im o l t of) own.1
+
+      pub lock_lacks : (lock : LockName) (state : State) → IsSearched (locked.NeedLock lock state) → IsFirstLack v (call_holds im o l t c node) lock state
+      lock_lacks lock state searched = subst (λ list. IsFirstLack v list lock state) (sym whole) (lack_behind v (path_holds im o l c) new lock state reached.held (found_here (locked.NeedLock lock state) searched))
+
+      asked_so : (m : Missing) → IsGroupBlock v new m → IsAskedFor v im o l (call_holds im o l t c node) m
+      asked_so m missing = subst (λ list. IsAskedFor v im o l list m) (sym whole) (asked_behind v im o l (path_holds im o l c) new m reached.held (group_asked v im o l t of new m missing))
+
+      pub block_lacks : (m : Missing) → IsSearched (locked.NeedBlock m) → IsAskedFor v im o l (call_holds im o l t c node) m
+      block_lacks m searched = asked_so m (found_here (locked.NeedBlock m) searched)
+
+      pub too_few : (free : ℕ) → IsSearched (locked.Is (taken.TooFew free)) → IsTooFew v im o l t c blocks_needed free
+      too_few free searched =
+          let f = found_here (locked.Is (taken.TooFew free)) searched in
+          let none : slice_get (free_in (said im.at) own.0) 0 ≡ None = ap (λ xs. slice_get xs 0) (empty_list v (said im.at) v.groups own.0 (free_in (said im.at) own.0) f.1.2) in
+          record {
+            taken = reply_ok;
+            on_path = reached.held;
+            groups = subst (λ gs. AreHeld v (map hold_of_group gs)) (sym of.groups)
+                (subst (AreHeld v) (rest_all v (said im.at) v.groups own.0 none) (later_held v (hold_of_group own.0) _ (held_before v (group_holds (said im.at) v.groups own.0) _ f.0)));
+            needs = refl;
+            free_are = f.1.0 ∙ ap (λ gs. length (free_in_all (said im.at) gs)) (sym of.groups) ∙ ap length (all_said v im o l t of);
+            fewer = f.1.1;
+          }
+
+      module _ (r : Room) (searched : IsSearched (locked.Is (taken.Is r))) where
+        room_found : IsUnder v new (IsTaken v (said im.at) v.groups own.0) (locked.Is (taken.Is r))
+        room_found = found_here (locked.Is (taken.Is r)) searched
+
+        pub all_held : AreHeld v (call_holds im o l t c node)
+        all_held = subst (AreHeld v) (sym whole) (All-append (λ h. holds v h ≡ true) (path_holds im o l c) new reached.held room_found.0)
+
+        pub group_lacks : (m : Missing) → IsMissing v r.group m → IsAskedFor v im o l (call_holds im o l t c node) m
+        group_lacks m missing =
+            asked_so m (block_under v new r.group m room_found.0 (Contains-append_left (group_holds (said im.at) v.groups own.0) _ (hold_of_group r.group) room_found.1.1) room_found.1.0.has missing)
+
+        pub placed : drafting.IsPlaceFor im o l (directory_path c) name p r
+        placed = record { at = reached.place.at; directory = here.linear.directory; dinode = reached.place.dinode; absent = here.absent; free = room_found.1.0.free }
+
+  -- ---- as far as the view shows
+
+  module _ (leads : LeadsTo v (wanted c) (directory_path c) p.inode) where
+    pub wrong_damage : (g : Group) → HasGroup v g → holds v (hold_of_group g) ≡ true → (rule b : ℕ) → IsWrongIn v p.inode g rule b → IsDamage v c rule b
+    wrong_damage g has held rule b (drafting.in_directory r d broken) =
+        damage.in_directory p.inode r d leads (λ h shown. path.in_directory r d (lacks h shown).linear (broken h shown))
+    wrong_damage g has held rule b (drafting.in_group r d broken) = damage.in_group r d (record { group = g; has = has; held = held; broken = broken })
+
+    module _ (r : Room) (room : IsHeldRoom v r) (change : Change) (added : IsAddition v (makes_directory c) p name r change) where
+      all_exclusive : (b : ℕ) (lock : LockName) (plain : Bool) (bytes : List ℕ) → get added.fates b ≡ Some (Put lock plain bytes) → v.state_of lock ≡ Ex
+      all_exclusive b lock plain bytes put = elim (added.locks b lock plain bytes put) [
+        | inl e ↦ ap v.state_of e ∙ exclusive (v.state_of (group_lock r.group)) room.group_held
+        | inr later ↦ elim later [
+          | inl e ↦ ap v.state_of e ∙ directory_held v c name p.inode is last leads
+          | inr e ↦ ap v.state_of e ∙ exclusive (v.state_of (inode_lock r.block)) room.inode_held
+        ]
+      ]
+
+      pub addition_does : ((im : Image) (o : Owners) (l : Layout) (t : Tree) → IsOf v im o l t → IsReachedIn v im o l c p)
+          → ((im : Image) (o : Owners) (l : Layout) (t : Tree) → IsOf v im o l t → drafting.IsPlaceFor im o l (directory_path c) name p r) → Does v c Ok change
+      addition_does reached place =
+          drafts_do v c Ok added.fates change added.finished (changes c is) r.group.addr added.some all_exclusive
+          (λ im o l t of. adding_makes v c added.fates im o l t (directory_path c) p.inode name r.block (new_tree (makes_directory c)) of (reached im o l t of).place.at
+          (added.adds im o l t (directory_path c) of (place im o l t of))
+          (taken_so im o l t of (reached im o l t of) ∙ ap (λ q. record { reply = Ok; tree = put_at q (new_tree (makes_directory c)) t }) (sym whole_path)))

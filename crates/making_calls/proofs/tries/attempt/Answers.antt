@@ -1,0 +1,24 @@
+use Rattle.std.proofs.Common.{Ok, sym, subst}
+use Rattle.file_tree.specs.declared.reply.Reply.TheVariants as reply
+use Rattle.image_changes.specs.Does.{Does}
+use Rattle.image_changes.proofs.Doing.{nothing_does}
+use Rattle.path_walks.specs.Answers.{IfDone}
+use Rattle.making_calls.specs.Making.{IsFound, IsRefusal, IfMade}
+use Rattle.making_calls.proofs.Trees.{no_change}
+use Rattle.making_calls.proofs.tries.attempt.Goals.{in-Refused, in-Made, in-NeedBlock, in-NotBuilt, in-NeedLock, in-NoSpace}
+use Rattle.making_calls.proofs.tries.attempt.Goals as goal
+
+pub returns-clause-done : goal.returns-clause-done
+returns-clause-done g c =
+    let v = g.V.View.seen c.args.view.now in
+    elim c.match-branch-2.branch [
+      | in-Refused w ↦ subst (λ a. IfDone (Ok a) (Does v c.args.call.now)) (sym w.result-is)
+          (nothing_does v c.args.call.now w.in-Refused.reply w.nothing.result w.nothing.ensures.blocks w.nothing.ensures.locks w.nothing.ensures.freed
+          (no_change c.args.call.now w.in-Refused.reply (subst IsRefusal w.in-Refused.is c.in_ok-reply.ensures.refusal))
+          (λ im o l t of. (subst (IsFound v im o l t c.args.call.now c.args.stamp.now.node) w.in-Refused.is (c.in_ok-reply.ensures.found im o l t of)).0))
+      | in-Made w ↦ subst (λ a. IfDone (Ok a) (Does v c.args.call.now)) (sym w.result-is) (subst (IfMade (Does v c.args.call.now reply.Ok)) w.in-Made.is c.in_ok-reply.ensures.done)
+      | in-NeedBlock w ↦ subst (λ a. IfDone (Ok a) (Does v c.args.call.now)) (sym w.result-is) tt
+      | in-NotBuilt w ↦ subst (λ a. IfDone (Ok a) (Does v c.args.call.now)) (sym w.result-is) tt
+      | in-NeedLock w ↦ subst (λ a. IfDone (Ok a) (Does v c.args.call.now)) (sym w.result-is) tt
+      | in-NoSpace w ↦ subst (λ a. IfDone (Ok a) (Does v c.args.call.now)) (sym w.result-is) tt
+    ]

@@ -1,0 +1,132 @@
+use Rattle.std.proofs.Common.{◌≡◌, false, sym, ap, ◌∙◌, subst}
+use Rattle.std.specs.List.{list_any}
+use Rattle.std.specs.Prelude.{IfNone, IfSome, length, not}
+use Rattle.gfs2_layout.specs.Area.{slots_of}
+use Rattle.gfs2_layout.specs.Holding.{Holding}
+use Rattle.gfs2_layout.specs.Inode.{linear_area}
+use Rattle.gfs2_layout.specs.Putting.{has_room, least_length}
+use Rattle.glock_names.proofs.StepLaws.{answer_at, needed_at}
+use Rattle.dinode_tree.specs.Shown.{IsShown}
+use Rattle.resource_groups.specs.Shown.{said}
+use Rattle.path_walks.proofs.Steps.{none_so}
+use Rattle.making_calls.specs.Blocks.{block_holds}
+use Rattle.making_calls.specs.Drafting.{IsAddition, IsWrongIn}
+use Rattle.making_calls.specs.Making.{IsDamage, LacksName, name_in}
+use Rattle.making_calls.specs.Making as damage
+use Rattle.making_calls.specs.Searches.{IsGroupBroken, IsTaken, IsUnder}
+use Rattle.making_calls.specs.declared.blocks.Locked.TheVariants as locked
+use Rattle.making_calls.proofs.Alike.{linear_in}
+use Rattle.making_calls.proofs.Faults.{only_so, tells_so, told_on}
+use Rattle.making_calls.proofs.Rooms.{block_way, group_sound, lock_way, room_held}
+use Rattle.making_calls.proofs.Taking.{addition_does, all_held, block_lacks, directory_sound, group_lacks, inside_so, lock_lacks, own_name, placed, too_few, wrong_damage}
+use Rattle.making_calls.proofs.tries.make_at.Goals as goal
+
+pub returns-then-is_none-clause-sound : goal.returns-then-is_none-clause-sound
+returns-then-is_none-clause-sound g c im o l t of =
+    let v = g.V.View.seen c.args.view.now in
+    (none_so _ c.group_of.result (c.is_none.ensures ∙ ap not c.if-is_none.true) c.group_of.ensures.none) (inside_so v c.args.call.now c.requires.making c.args.place.now c.args.name.now c.requires.last c.requires.named c.requires.lacks im o l t of (c.requires.reached im o l t of))
+
+pub returns-then-is_none-clause-damaged : goal.returns-then-is_none-clause-damaged
+returns-then-is_none-clause-damaged g c =
+    let v = g.V.View.seen c.args.view.now in
+    damage.no_data_block c.args.place.now.inode c.requires.seen.leads (none_so _ c.group_of.result (c.is_none.ensures ∙ ap not c.if-is_none.true) c.group_of.ensures.none)
+
+pub returns-in_err-room-clause-sound : goal.returns-in_err-room-clause-sound
+returns-in_err-room-clause-sound g c im o l t of =
+    let v = g.V.View.seen c.args.view.now in
+    told_on (λ rule b. ⊥) _ _ c.from_residual.ensures.1 (only_so (IsGroupBroken v) (λ rule b. ⊥) (group_sound v im o l t of) c.in_err-room.field-0.0 c.in_err-room.ensures.damaged)
+
+pub returns-in_err-room-clause-damaged : goal.returns-in_err-room-clause-damaged
+returns-in_err-room-clause-damaged g c =
+    let v = g.V.View.seen c.args.view.now in
+    told_on (IsDamage v c.args.call.now) _ _ c.from_residual.ensures.1 (only_so (IsGroupBroken v) (IsDamage v c.args.call.now) (λ rule b broken. damage.in_group rule b broken) c.in_err-room.field-0.0 c.in_err-room.ensures.damaged)
+
+pub returns-in-Is-TooFew-clause-found : goal.returns-in-Is-TooFew-clause-found
+returns-in-Is-TooFew-clause-found g c im o l t of =
+    let v = g.V.View.seen c.args.view.now in
+    too_few v c.args.call.now c.requires.making c.args.place.now c.args.name.now c.requires.last c.requires.named c.requires.lacks im o l t of (c.requires.reached im o l t of) c.args.stamp.now.node c.requires.groups c.requires.node c.in-Is-TooFew.free (λ at own shown is. subst (IsUnder v (block_holds (said at) v.groups own) (IsTaken v (said at) v.groups own)) (c.in-Is-TooFew.is ∙ ap locked.Is c.in-Is-TooFew.field-0-is) (c.in_ok-room.ensures.found at own shown is))
+
+pub returns-in-NeedLock-clause-found : goal.returns-in-NeedLock-clause-found
+returns-in-NeedLock-clause-found g c im o l t of =
+    let v = g.V.View.seen c.args.view.now in
+    lock_lacks v c.args.call.now c.requires.making c.args.place.now c.args.name.now c.requires.last c.requires.named c.requires.lacks im o l t of (c.requires.reached im o l t of) c.args.stamp.now.node c.requires.groups c.requires.node c.in-NeedLock.lock c.in-NeedLock.state (λ at own shown is. subst (IsUnder v (block_holds (said at) v.groups own) (IsTaken v (said at) v.groups own)) (c.in-NeedLock.is) (c.in_ok-room.ensures.found at own shown is))
+
+pub returns-in-NeedBlock-clause-found : goal.returns-in-NeedBlock-clause-found
+returns-in-NeedBlock-clause-found g c im o l t of =
+    let v = g.V.View.seen c.args.view.now in
+    block_lacks v c.args.call.now c.requires.making c.args.place.now c.args.name.now c.requires.last c.requires.named c.requires.lacks im o l t of (c.requires.reached im o l t of) c.args.stamp.now.node c.requires.groups c.requires.node c.in-NeedBlock.missing (λ at own shown is. subst (IsUnder v (block_holds (said at) v.groups own) (IsTaken v (said at) v.groups own)) (c.in-NeedBlock.is) (c.in_ok-room.ensures.found at own shown is))
+
+pub addition-requires-clause-linear : goal.addition-requires-clause-linear
+addition-requires-clause-linear g c =
+    let v = g.V.View.seen c.args.view.now in
+    linear_in v c.args.place.now.inode (λ h shown. (c.requires.lacks h shown).linear)
+
+pub addition-requires-clause-group : goal.addition-requires-clause-group
+addition-requires-clause-group g c =
+    let v = g.V.View.seen c.args.view.now in
+    let room = room_held v c.args.stamp.now.node c.in-Is-Is.room c.is_a_view.ensures c.requires.groups c.requires.node (λ at own shown is. subst (IsUnder v (block_holds (said at) v.groups own) (IsTaken v (said at) v.groups own)) (c.in-Is-Is.is ∙ ap locked.Is c.in-Is-Is.field-0-is) (c.in_ok-room.ensures.found at own shown is)) in
+    room.has
+
+pub addition-requires-clause-block : goal.addition-requires-clause-block
+addition-requires-clause-block g c =
+    let v = g.V.View.seen c.args.view.now in
+    let room = room_held v c.args.stamp.now.node c.in-Is-Is.room c.is_a_view.ensures c.requires.groups c.requires.node (λ at own shown is. subst (IsUnder v (block_holds (said at) v.groups own) (IsTaken v (said at) v.groups own)) (c.in-Is-Is.is ∙ ap locked.Is c.in-Is-Is.field-0-is) (c.in_ok-room.ensures.found at own shown is)) in
+    room.data_block
+
+pub returns-in_err-change-clause-sound : goal.returns-in_err-change-clause-sound
+returns-in_err-change-clause-sound g c im o l t of =
+    let v = g.V.View.seen c.args.view.now in
+    let room = room_held v c.args.stamp.now.node c.in-Is-Is.room c.is_a_view.ensures c.requires.groups c.requires.node (λ at own shown is. subst (IsUnder v (block_holds (said at) v.groups own) (IsTaken v (said at) v.groups own)) (c.in-Is-Is.is ∙ ap locked.Is c.in-Is-Is.field-0-is) (c.in_ok-room.ensures.found at own shown is)) in
+    told_on (λ rule b. ⊥) _ _ c.from_residual-in_err-change.ensures.1
+    (tells_so (IsWrongIn v c.args.place.now.inode c.in-Is-Is.room.group) (λ rule b. ⊥) (directory_sound v c.args.call.now c.requires.making c.args.place.now c.args.name.now c.requires.last c.requires.named c.requires.lacks im o l t of (c.requires.reached im o l t of) c.in-Is-Is.room.group room.has room.group_held) c.in_err-change.field-0.0 c.in_err-change.ensures.damaged)
+
+pub returns-in_err-change-clause-damaged : goal.returns-in_err-change-clause-damaged
+returns-in_err-change-clause-damaged g c =
+    let v = g.V.View.seen c.args.view.now in
+    let room = room_held v c.args.stamp.now.node c.in-Is-Is.room c.is_a_view.ensures c.requires.groups c.requires.node (λ at own shown is. subst (IsUnder v (block_holds (said at) v.groups own) (IsTaken v (said at) v.groups own)) (c.in-Is-Is.is ∙ ap locked.Is c.in-Is-Is.field-0-is) (c.in_ok-room.ensures.found at own shown is)) in
+    told_on (IsDamage v c.args.call.now) _ _ c.from_residual-in_err-change.ensures.1
+    (tells_so (IsWrongIn v c.args.place.now.inode c.in-Is-Is.room.group) (IsDamage v c.args.call.now) (wrong_damage v c.args.call.now c.requires.making c.args.place.now c.args.name.now c.requires.last c.requires.named c.requires.lacks c.requires.seen.leads c.in-Is-Is.room.group room.has room.group_held) c.in_err-change.field-0.0
+    c.in_err-change.ensures.damaged)
+
+pub returns-in-Is-Some-clause-found : goal.returns-in-Is-Some-clause-found
+returns-in-Is-Some-clause-found g c im o l t of =
+    let v = g.V.View.seen c.args.view.now in
+    all_held v c.args.call.now c.requires.making c.args.place.now c.args.name.now c.requires.last c.requires.named c.requires.lacks im o l t of (c.requires.reached im o l t of) c.args.stamp.now.node c.requires.groups c.requires.node c.in-Is-Is.room (λ at own shown is. subst (IsUnder v (block_holds (said at) v.groups own) (IsTaken v (said at) v.groups own)) (c.in-Is-Is.is ∙ ap locked.Is c.in-Is-Is.field-0-is) (c.in_ok-room.ensures.found at own shown is))
+
+pub returns-in-Is-Some-clause-done : goal.returns-in-Is-Some-clause-done
+returns-in-Is-Some-clause-done g c =
+    let v = g.V.View.seen c.args.view.now in
+    let room = room_held v c.args.stamp.now.node c.in-Is-Is.room c.is_a_view.ensures c.requires.groups c.requires.node (λ at own shown is. subst (IsUnder v (block_holds (said at) v.groups own) (IsTaken v (said at) v.groups own)) (c.in-Is-Is.is ∙ ap locked.Is c.in-Is-Is.field-0-is) (c.in_ok-room.ensures.found at own shown is)) in
+    let some = subst (λ x. IfSome x (IsAddition v c.is_of_directory.result c.args.place.now c.args.name.now c.in-Is-Is.room)) c.in-Is-Some.field-0-is (answer_at _ _ _ c.in-Is-Some.is c.in_ok-change.ensures.added) in
+    let added = subst (λ b. IsAddition v b c.args.place.now c.args.name.now c.in-Is-Is.room c.in-Is-Some.change) c.is_of_directory.ensures some in
+    addition_does v c.args.call.now c.requires.making c.args.place.now c.args.name.now c.requires.last c.requires.named c.requires.lacks c.requires.seen.leads c.in-Is-Is.room room c.in-Is-Some.change added c.requires.reached
+    (λ im o l t of. placed v c.args.call.now c.requires.making c.args.place.now c.args.name.now c.requires.last c.requires.named c.requires.lacks im o l t of (c.requires.reached im o l t of) c.args.stamp.now.node c.requires.groups c.requires.node c.in-Is-Is.room (λ at own shown is. subst (IsUnder v (block_holds (said at) v.groups own) (IsTaken v (said at) v.groups own)) (c.in-Is-Is.is ∙ ap locked.Is c.in-Is-Is.field-0-is) (c.in_ok-room.ensures.found at own shown is)))
+
+pub returns-in-Is-None-clause-hashed : goal.returns-in-Is-None-clause-hashed
+returns-in-Is-None-clause-hashed g c =
+    let v = g.V.View.seen c.args.view.now in
+    let name : name_in c.args.call.now ≡ c.args.name.now = own_name v c.args.call.now c.requires.making c.args.place.now c.args.name.now c.requires.last c.requires.named c.requires.lacks in
+    let full = subst (λ x. IfNone x ((h : Holding) → IsShown v c.args.place.now.inode h → list_any (has_room (least_length (length c.args.name.now))) (slots_of (linear_area h)) ≡ false)) c.in-Is-None.field-0-is
+    (answer_at _ _ _ c.in-Is-None.is c.in_ok-change.ensures.full) in
+    damage.no_room c.requires.seen.leads c.requires.seen.there (λ h shown. record {
+      lacks = subst (LacksName h) (sym name) (c.requires.lacks h shown);
+      full = subst (λ n. list_any (has_room (least_length (length n))) (slots_of (linear_area h)) ≡ false) (sym name) (full h shown);
+    })
+
+pub returns-in-NeedBlock-2-clause-found : goal.returns-in-NeedBlock-2-clause-found
+returns-in-NeedBlock-2-clause-found g c im o l t of =
+    let v = g.V.View.seen c.args.view.now in
+    group_lacks v c.args.call.now c.requires.making c.args.place.now c.args.name.now c.requires.last c.requires.named c.requires.lacks im o l t of (c.requires.reached im o l t of) c.args.stamp.now.node c.requires.groups c.requires.node c.in-Is-Is.room (λ at own shown is. subst (IsUnder v (block_holds (said at) v.groups own) (IsTaken v (said at) v.groups own)) (c.in-Is-Is.is ∙ ap locked.Is c.in-Is-Is.field-0-is) (c.in_ok-room.ensures.found at own shown is)) c.in-NeedBlock-2.missing (needed_at _ _ _ c.in-NeedBlock-2.is c.in_ok-change.ensures.needed)
+
+pub returns-in-NeedLock-clause-way : goal.returns-in-NeedLock-clause-way
+returns-in-NeedLock-clause-way g c =
+    let v = g.V.View.seen c.args.view.now in
+    lock_way v c.args.stamp.now.node c.is_a_view.ensures c.requires.groups c.requires.node c.in-NeedLock.lock c.in-NeedLock.state (λ at own shown is. subst (IsUnder v (block_holds (said at) v.groups own) (IsTaken v (said at) v.groups own)) (c.in-NeedLock.is) (c.in_ok-room.ensures.found at own shown is))
+
+pub returns-in-NeedBlock-clause-way : goal.returns-in-NeedBlock-clause-way
+returns-in-NeedBlock-clause-way g c =
+    let v = g.V.View.seen c.args.view.now in
+    block_way v c.args.stamp.now.node c.is_a_view.ensures c.requires.groups c.requires.node c.in-NeedBlock.missing (λ at own shown is. subst (IsUnder v (block_holds (said at) v.groups own) (IsTaken v (said at) v.groups own)) (c.in-NeedBlock.is) (c.in_ok-room.ensures.found at own shown is))
+
+pub returns-in-NeedBlock-2-clause-way : goal.returns-in-NeedBlock-2-clause-way
+returns-in-NeedBlock-2-clause-way g c = (needed_at _ _ _ c.in-NeedBlock-2.is c.in_ok-change.ensures.needed).absent

@@ -1,0 +1,120 @@
+-- What a draft that makes a name makes: a number is given, the directory gets times and a record, the new inode is put, and its group says so.
+use Rattle.std.specs.Prelude.{ℕ, ◌≡◌, ◌≢◌, ◌⊎◌, ◌+◌, ◌<◌, Bool, true, false, List, [], ◌∷◌, None, Some}
+use Rattle.std.specs.Ordering.{nat_cmp}
+use Rattle.std.specs.FinMap.{FinMap, empty, get, insert}
+use Rattle.file_tree.specs.Tree.{Tree, file, dir, none}
+use Rattle.drafts.specs.Fates.{AreWhole, seen_with}
+use Rattle.drafts.specs.declared.change.Change.{Change}
+use Rattle.drafts.specs.declared.fate.Fate.{Fate}
+use Rattle.drafts.specs.declared.fate.Fate.TheVariants.{Put}
+use Rattle.gfs2_layout.specs.Holding.{Holding}
+use Rattle.gfs2_layout.specs.Records.{child_named}
+use Rattle.glock_names.specs.Views.{Seen}
+use Rattle.glock_names.specs.declared.LockName.{LockName}
+use Rattle.glock_names.specs.declared.steps.Entry.{Entry}
+use Rattle.glock_names.specs.declared.views.Group.{Group}
+use Rattle.dinode_tree.specs.Reading.{inode_lock}
+use Rattle.dinode_tree.specs.Shown.{IsShown}
+use Rattle.linear_dirs.specs.Broken as directory
+use Rattle.linear_dirs.specs.Exchanges.{HasExchanged}
+use Rattle.linear_dirs.specs.Shown.{holding_over, record_for}
+use Rattle.new_inodes.specs.New.{IsNewDirectory, IsNewFile}
+use Rattle.new_inodes.specs.Touched.{IsTouched}
+use Rattle.resource_groups.specs.Numbering.{IsNumberPut}
+use Rattle.resource_groups.specs.Putting.{IsPutIn, overlaid}
+use Rattle.resource_groups.specs.Shown.{group_lock, said}
+use Rattle.resource_groups.specs.Shown as group
+use Rattle.image_model.specs.Flat.{Path}
+use Rattle.image_model.specs.Image.{Image}
+use Rattle.image_model.specs.Owners.{Owners}
+use Rattle.image_model.specs.Stands.{Layout}
+use Rattle.image_changes.specs.Does.{IsOf}
+use Rattle.image_changes.specs.Drafted.{IsFinished, is_put}
+use Rattle.image_changes.specs.Instances.{IsAt, dinode_at, is_directory_at, records_at}
+use Rattle.draft_changes.specs.Adding.{AddsName}
+use Rattle.path_walks.specs.declared.walk.Place.{Place}
+use Rattle.making_calls.specs.declared.blocks.Room.{Room}
+
+-- what is made: a file without content, or a directory without a name
+abbrev pub new_tree : Bool → Tree
+new_tree true = dir none
+new_tree false = file []
+
+-- where `..` of a new directory leads: to the directory in this place
+abbrev pub entry_above : Place → Entry
+entry_above p = record { number = p.dinode.num.number; addr = p.inode; kind = 4 }
+
+-- the kind that the record of a new inode tells
+abbrev pub kind_for : Bool → ℕ
+kind_for true = 4
+kind_for false = 8
+
+-- the inode that is put: a directory below that in this place, or a file
+abbrev pub IsNewOf : Bool → Place → ℕ → ℕ → ℕ → Holding → Type 0
+IsNewOf true p number block time h = IsNewDirectory number block (entry_above p) time h
+IsNewOf false p number block time h = IsNewFile number block time h
+
+-- ---- the steps, over a view
+
+-- the group's header alone is put, and it counts a number more
+pub record IsNumbered (v : Seen) (g : Group) (number : ℕ) (fates : FinMap nat_cmp Fate) : Type 0 where
+  pub header : List ℕ
+  pub put : fates ≡ insert empty g.addr (Put (group_lock g) false header)
+  pub numbered : (at : ℕ → List ℕ) → group.IsShown v g at → IsNumberPut at (overlaid (seen_with v fates) at) g number
+
+-- the directory gets times, and then the record of a name
+pub record IsRecordPut (v : Seen) (before : FinMap nat_cmp Fate) (dir time : ℕ) (name : List ℕ) (entry : Entry) (after : FinMap nat_cmp Fate) : Type 0 where
+  pub between : FinMap nat_cmp Fate
+  pub times : List ℕ
+  pub times_put : between ≡ insert before dir (Put (inode_lock dir) false times)
+  pub touched : (h : Holding) → IsShown (seen_with v before) dir h → IsTouched h (holding_over (seen_with v between) h) time
+  pub bytes : List ℕ
+  pub put : after ≡ insert between dir (Put (inode_lock dir) false bytes)
+  pub exchanged : (h : Holding) → IsShown (seen_with v between) dir h → HasExchanged h (holding_over (seen_with v after) h) [] (record_for name entry ∷ [])
+
+-- Over that draft a group says that a data block is a dinode: the header and a block of bits are put, and the change is that of the draft that
+-- comes of it.
+pub record IsSaidAndDone (v : Seen) (before : FinMap nat_cmp Fate) (g : Group) (b : ℕ) (change : Change) : Type 0 where
+  pub fates : FinMap nat_cmp Fate
+  pub says : (at : ℕ → List ℕ) → group.IsShown (seen_with v before) g at → IsPutIn at (overlaid (seen_with v fates) at) g b 3
+  pub part : ℕ
+  pub within : part < g.length
+  pub header : List ℕ
+  pub bits : List ℕ
+  pub header_put : get fates g.addr ≡ Some (Put (group_lock g) false header)
+  pub bits_put : get fates (g.addr + part) ≡ Some (Put (group_lock g) false bits)
+  pub others : (c : ℕ) → c ≢ g.addr → c ≢ g.addr + part → get fates c ≡ get before c
+  pub whole : AreWhole v.size fates
+  pub finished : IsFinished fates change
+
+-- ---- in one image
+
+-- the inode at the path is a directory without the name, this is what its dinode says, and the bits say that the block is free
+pub record IsPlaceFor (im : Image) (o : Owners) (l : Layout) (path : Path) (name : List ℕ) (p : Place) (r : Room) : Type 0 where
+  pub at : IsAt im o l path p.inode
+  pub directory : is_directory_at im o p.inode ≡ true
+  pub dinode : p.dinode ≡ dinode_at im o p.inode
+  pub absent : child_named (records_at im o p.inode) name ≡ None
+  pub free : said im.at r.group r.block ≡ 0
+
+-- each block that is put is under one of three locks: that of the group, of the directory, or of the new inode
+abbrev pub PutsUnder : FinMap nat_cmp Fate → Place → Room → Type 0
+PutsUnder fates p r = (b : ℕ) (lock : LockName) (plain : Bool) (bytes : List ℕ) → get fates b ≡ Some (Put lock plain bytes)
+    → (lock ≡ group_lock r.group) ⊎ ((lock ≡ inode_lock p.inode) ⊎ (lock ≡ inode_lock r.block))
+
+-- The change is that of a draft that puts the group's header, and all under these locks, and adds the name in each image that the view may
+-- be of.
+pub record IsAddition (v : Seen) (is_directory : Bool) (p : Place) (name : List ℕ) (r : Room) (change : Change) : Type 0 where
+  pub fates : FinMap nat_cmp Fate
+  pub finished : IsFinished fates change
+  pub locks : PutsUnder fates p r
+  pub some : is_put fates r.group.addr ≡ true
+  pub adds : (im : Image) (o : Owners) (l : Layout) (t : Tree) (path : Path) → IsOf v im o l t → IsPlaceFor im o l path name p r
+      → AddsName im o l fates p.inode name r.block (new_tree is_directory)
+
+-- ---- damage
+
+-- the directory breaks the rule, or the group does
+pub data IsWrongIn (v : Seen) (dir : ℕ) (g : Group) : ℕ → ℕ → Type 0 where
+  in_directory : (rule b : ℕ) → ((h : Holding) → IsShown v dir h → directory.IsBroken h rule b) → IsWrongIn v dir g rule b
+  in_group : (rule b : ℕ) → ((at : ℕ → List ℕ) → group.IsShown v g at → group.IsBroken at g rule b) → IsWrongIn v dir g rule b

@@ -1,0 +1,4 @@
+pub mod Blocks
+pub mod Searches
+pub mod Making
+pub mod Drafting

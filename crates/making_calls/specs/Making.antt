@@ -1,0 +1,141 @@
+-- The calls that make a name: what they answer, under which locks.
+use Rattle.std.specs.Prelude.{ℕ, ◌≡◌, ◌<◌, ⊤, Bool, true, false, if◌then◌else◌, List, [], ◌∷◌, ◌++◌, length, map, None}
+use Rattle.std.specs.List.{list_any}
+use Rattle.file_tree.specs.Names.{parent_of, last_of}
+use Rattle.file_tree.specs.Tree.{Tree}
+use Rattle.file_tree.specs.Apply.{apply}
+use Rattle.file_tree.specs.declared.call.Call.{Call}
+use Rattle.file_tree.specs.declared.call.Call.TheVariants.{Create, Mkdir}
+use Rattle.file_tree.specs.declared.reply.Reply.TheVariants.{Ok}
+use Rattle.drafts.specs.declared.change.Change.{Change}
+use Rattle.cluster_history.specs.Changes.{is_ok}
+use Rattle.gfs2_layout.specs.Area.{slots_of}
+use Rattle.gfs2_layout.specs.Holding.{Holding}
+use Rattle.gfs2_layout.specs.Inode.{is_hashed_in, linear_area, records_of}
+use Rattle.gfs2_layout.specs.Putting.{has_room, least_length}
+use Rattle.gfs2_layout.specs.Records.{child_named}
+use Rattle.glock_names.specs.Views.{Seen, HasBlock, group_of_entry}
+use Rattle.call_locks.specs.Wants.{wanted}
+use Rattle.call_locks.specs.WantLaws.{path_of}
+use Rattle.dinode_tree.specs.Shown.{IsShown}
+use Rattle.resource_groups.specs.Putting.{HasDataBlock}
+use Rattle.image_model.specs.Flat.{Path}
+use Rattle.image_model.specs.Image.{Image}
+use Rattle.image_model.specs.Owners.{Owners}
+use Rattle.image_model.specs.Stands.{Layout}
+use Rattle.path_walks.specs.Holds.{Hold, AreHeld, IsAskedFor, IsFirstLack, holds, holds_in}
+use Rattle.path_walks.specs.declared.walk.Place.{Place}
+use Rattle.path_walks.specs.Walks.{LeadsTo, IsLinearDirectory, IsOnTheWay, IsPlaceOf, IsWrong}
+use Rattle.path_walks.specs.Walks as path
+use Rattle.making_calls.specs.Blocks.{blocks_needed, states_by, free_in_all, hold_of_group, new_holds}
+use Rattle.making_calls.specs.Searches.{IsGroupBroken}
+use Rattle.making_calls.specs.declared.finds.Found.{Found}
+use Rattle.making_calls.specs.declared.finds.Found.TheVariants as found
+
+-- the call makes a name: of a file, or of a directory
+abbrev pub IsMaking : Call → Type 0
+IsMaking (Create path) = Unit {0}
+IsMaking (Mkdir path) = Unit {0}
+IsMaking _ = ⊥
+
+-- it makes a directory
+abbrev pub makes_directory : Call → Bool
+makes_directory (Mkdir path) = true
+makes_directory _ = false
+
+-- the path of the directory that gets the name, and the name
+abbrev pub directory_path : Call → Path
+directory_path call = parent_of (path_of call false)
+
+abbrev pub name_in : Call → List ℕ
+name_in call = last_of (path_of call false)
+
+-- ---- in one image
+
+-- the locks of the inodes on the directory's path
+abbrev pub path_holds : Image → Owners → Layout → Call → List Hold
+path_holds im o l call = holds_in im o l (directory_path call) (wanted call)
+
+-- the locks that the call takes, in their order: those on the directory's path, and where the tree takes the call those of a new inode
+abbrev pub call_holds : Image → Owners → Layout → Tree → Call → ℕ → List Hold
+call_holds im o l t call node = path_holds im o l call ++ (if is_ok (apply call t).reply then new_holds o l node else [])
+
+-- The tree would take the call, but fewer blocks are free, in all groups, than it needs. Each lock on the path and of each group is held.
+pub record IsTooFew (v : Seen) (im : Image) (o : Owners) (l : Layout) (t : Tree) (call : Call) (need free : ℕ) : Type 0 where
+  pub taken : (apply call t).reply ≡ Ok
+  pub on_path : AreHeld v (path_holds im o l call)
+  pub groups : AreHeld v (map hold_of_group (map group_of_entry l.groups))
+  pub needs : need ≡ blocks_needed
+  pub free_are : free ≡ length (free_in_all (states_by o) (map group_of_entry l.groups))
+  pub fewer : free < need
+
+-- ---- as far as the view shows
+
+-- a linear directory that hasn't the name
+pub record LacksName (h : Holding) (name : List ℕ) : Type 0 where
+  pub linear : IsLinearDirectory h
+  pub absent : child_named (records_of h) name ≡ None
+
+-- in which no record has room for the name's
+pub record HasNoRoom (h : Holding) (name : List ℕ) : Type 0 where
+  pub lacks : LacksName h name
+  pub full : list_any (has_room (least_length (length name))) (slots_of (linear_area h)) ≡ false
+
+-- a directory for which the call isn't built yet: a hashed one on the path, or at its end; or one at its end that hasn't the name, and no room
+-- for it, which would be hashed
+pub data IsUnbuilt (v : Seen) (call : Call) (b : ℕ) : Type 0 where
+  on_path : IsOnTheWay v (wanted call) (directory_path call) b (λ h. is_hashed_in h ≡ true) → IsUnbuilt v call b
+  at_end : LeadsTo v (wanted call) (directory_path call) b → HasBlock v b → ((h : Holding) → IsShown v b h → is_hashed_in h ≡ true) → IsUnbuilt v call b
+  no_room : LeadsTo v (wanted call) (directory_path call) b → HasBlock v b → ((h : Holding) → IsShown v b h → HasNoRoom h (name_in call)) → IsUnbuilt v call b
+
+-- the block breaks this rule: on the path, in the directory at its end, or in a group; or (2) that directory is none of the groups' data
+-- blocks
+pub data IsDamage (v : Seen) (call : Call) : ℕ → ℕ → Type 0 where
+  on_path : (rule b : ℕ) → path.IsDamage v (wanted call) (directory_path call) rule b → IsDamage v call rule b
+  in_directory : (a rule b : ℕ) → LeadsTo v (wanted call) (directory_path call) a → ((h : Holding) → IsShown v a h → IsWrong h rule b) → IsDamage v call rule b
+  in_group : (rule b : ℕ) → IsGroupBroken v rule b → IsDamage v call rule b
+  no_data_block : (a : ℕ) → LeadsTo v (wanted call) (directory_path call) a → ¬ (HasDataBlock v a) → IsDamage v call 2 a
+
+-- ---- in an image that the view may be of
+
+-- the walk came to this place, and each lock on the path is held
+pub record IsReachedIn (v : Seen) (im : Image) (o : Owners) (l : Layout) (call : Call) (p : Place) : Type 0 where
+  pub place : IsPlaceOf v im o l (directory_path call) p
+  pub held : AreHeld v (path_holds im o l call)
+
+-- the reply is the tree's, and each lock of the list is held; or what stands in the way: the first lock of it that isn't held, a block that the
+-- view hasn't, or that too few blocks are free
+abbrev pub IsFoundBy : Seen → Image → Owners → Layout → Tree → Call → List Hold → Found → Type 0
+IsFoundBy v im o l t call list (found.Refused r) = ((apply call t).reply ≡ r) × AreHeld v list
+IsFoundBy v im o l t call list (found.Made change) = AreHeld v list
+IsFoundBy v im o l t call list (found.NeedBlock m) = IsAskedFor v im o l list m
+IsFoundBy v im o l t call list (found.NeedLock lock state) = IsFirstLack v list lock state
+IsFoundBy v im o l t call list (found.NotBuilt b) = ⊤
+IsFoundBy v im o l t call list (found.NoSpace free) = IsTooFew v im o l t call blocks_needed free
+
+abbrev pub IsFound : Seen → Image → Owners → Layout → Tree → Call → ℕ → Found → Type 0
+IsFound v im o l t call node f = IsFoundBy v im o l t call (call_holds im o l t call node) f
+
+-- on every view, what stands in the way does: the lock isn't held so strongly, the view hasn't the block
+abbrev pub IsInTheWay : Seen → Found → Type 0
+IsInTheWay v (found.NeedLock lock state) = holds v (record { lock = lock; state = state }) ≡ false
+IsInTheWay v (found.NeedBlock m) = v.block_at m.block ≡ None
+IsInTheWay v f = ⊤
+
+-- what a refusal is not
+abbrev pub IsRefusal : Found → Type 0
+IsRefusal (found.Refused r) = is_ok r ≡ false
+IsRefusal f = ⊤
+
+-- P of the change that is made, and of the directory for which the call isn't built
+abbrev pub IfMade : (Change → Type 0) → Found → Type 0
+IfMade P (found.Made change) = P change
+IfMade P f = ⊤
+
+abbrev pub IfNotBuilt : (ℕ → Type 0) → Found → Type 0
+IfNotBuilt P (found.NotBuilt b) = P b
+IfNotBuilt P f = ⊤
+
+-- the path's last name
+abbrev pub IsLastOf : Path → List ℕ → Type 0
+IsLastOf path name = (front : Path) × (path ≡ front ++ name ∷ [])

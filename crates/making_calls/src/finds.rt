@@ -1,0 +1,21 @@
+// What a try of a call that makes a name finds.
+use drafts::Change;
+use file_tree::Reply;
+use glock_names::{LockName, Missing, State};
+
+/// What a try finds.
+#[derive(Drop)]
+pub(crate) enum Found {
+    /// The call is refused, with this reply.
+    Refused(Reply),
+    /// The name is made, with this change.
+    Made(Change),
+    /// This block isn't in the view.
+    NeedBlock(Missing),
+    /// This directory is hashed, or would be with the name.
+    NotBuilt(u64),
+    /// This lock isn't held so strongly.
+    NeedLock { lock: LockName, state: State },
+    /// Every group is held exclusive, and in all of them so many blocks are free.
+    NoSpace(u64),
+}

@@ -1,0 +1,9 @@
+//! The calls that make a name, over a view: `create` and `mkdir`.
+#![tactic(auto)]
+
+mod blocks;
+mod drafting;
+mod finds;
+mod tries;
+
+pub use tries::attempt;

@@ -1,0 +1,227 @@
+// A try of a call that makes a name.
+ghost use Rattle.std.specs.Prelude.{ℕ, ◌≡◌, ◌≤◌, [], false, length, IfOk, None};
+ghost use Rattle.cluster_history.specs.Changes.{is_ok};
+ghost use Rattle.file_tree.specs.Names.{IsName};
+ghost use Rattle.file_tree.specs.Tree.{Tree};
+ghost use Rattle.file_tree.specs.declared.reply.Reply.TheVariants.{Ok as OkReply};
+ghost use Rattle.gfs2_layout.specs.Holding.{Holding};
+ghost use Rattle.glock_names.specs.Steps.{IfDamaged};
+ghost use Rattle.glock_names.specs.Views.{IsOfView};
+ghost use Rattle.call_locks.specs.WantLaws.{path_of};
+ghost use Rattle.call_locks.specs.Wants.{wanted};
+ghost use Rattle.dinode_tree.specs.Shown.{IsShown};
+ghost use Rattle.image_model.specs.Image.{Image};
+ghost use Rattle.image_model.specs.Owners.{Owners};
+ghost use Rattle.image_model.specs.Stands.{Layout};
+ghost use Rattle.image_changes.specs.Does.{IsOf, Does};
+ghost use Rattle.path_walks.specs.Answers.{IfDone, IfNeedLock, IfNeedBlock, IfNoSpace, IfNotBuilt};
+ghost use Rattle.path_walks.specs.Holds.{AreHeld, IsAskedFor, IsFirstLack, holds};
+ghost use Rattle.path_walks.specs.Walks.{IsSeenAt};
+ghost use Rattle.making_calls.specs.Making.{IfMade, IfNotBuilt as IfUnbuilt, IsDamage, IsFound, IsInTheWay, IsLastOf, IsMaking, IsReachedIn, IsRefusal, IsTooFew, IsUnbuilt, LacksName, call_holds, directory_path, makes_directory};
+
+use crate::blocks::{Locked, Taken, find_block};
+use crate::drafting::{addition, is_a_view};
+use crate::finds::Found;
+use call_locks::wants;
+use drafts::{Attempt, Change, Stamp};
+use file_tree::{Call, Name, Path, Reply};
+use glock_names::{CallFault, Step, View};
+use linear_dirs::look;
+use path_walks::{Place, Walk, walk_along};
+use resource_groups::group_of;
+use std::alloc::Global;
+
+// The path of a call that makes a name.
+fn path_of_making(call: &Call) -> &Path
+    requires { IsMaking call.now }
+    ensures { result.now ≡ path_of call.now false }
+{
+    match call {
+        Call::Create(path) => path,
+        Call::Mkdir(path) => path,
+        _ => unreachable!(),
+    }
+}
+
+// Whether it makes a directory.
+fn is_of_directory(call: &Call) -> bool
+    ensures { result ≡ makes_directory call.now }
+{
+    match call {
+        Call::Mkdir(_) => true,
+        _ => false,
+    }
+}
+
+// A change of nothing.
+fn nothing(alloc: Global) -> Change
+    ensures blocks { result.blocks.items ≡ [] }
+    ensures locks { result.locks.items ≡ [] }
+    ensures freed { result.freed.items ≡ [] }
+{
+    Change {
+        blocks: Vec::new(alloc),
+        locks: Vec::new(alloc),
+        freed: Vec::new(alloc),
+    }
+}
+
+// Makes the name in the linear directory at a place, which hasn't it: a free block is searched, and then all is drafted.
+fn make_at<V: View>(
+    alloc: Global,
+    view: &V,
+    call: &Call,
+    place: &Place,
+    name: &Name,
+    stamp: &Stamp,
+) -> Result<Found, CallFault>
+    requires making { IsMaking call.now }
+    requires last { IsLastOf (path_of call.now false) name.now }
+    requires seen { IsSeenAt (V.seen view.now) (wanted call.now) (directory_path call.now) place.now }
+    requires reached { (im : Image) (o : Owners) (l : Layout) (t : Tree) → IsOf (V.seen view.now) im o l t → IsReachedIn (V.seen view.now) im o l call.now place.now }
+    requires named { IsName name.now }
+    requires lacks { (h : Holding) → IsShown (V.seen view.now) place.now.inode h → LacksName h name.now }
+    requires groups { 1 ≤ length (V.seen view.now).groups }
+    requires node { 1 ≤ stamp.now.node }
+    ensures found { (im : Image) (o : Owners) (l : Layout) (t : Tree) → IsOf (V.seen view.now) im o l t → IfOk result (IsFound (V.seen view.now) im o l t call.now stamp.now.node) }
+    ensures done { IfOk result (IfMade (Does (V.seen view.now) call.now OkReply)) }
+    ensures refusal { IfOk result IsRefusal }
+    ensures way { IfOk result (IsInTheWay (V.seen view.now)) }
+    ensures hashed { IfOk result (IfUnbuilt (IsUnbuilt (V.seen view.now) call.now)) }
+    ensures sound { (im : Image) (o : Owners) (l : Layout) (t : Tree) → IsOf (V.seen view.now) im o l t → IfDamaged result (λ rule block. ⊥) }
+    ensures damaged { IfDamaged result (IsDamage (V.seen view.now) call.now) }
+    ensures kept { IfDamaged result (IsOfView (V.seen view.now)) }
+{
+    is_a_view(view);
+    if group_of(view, place.inode).is_none() {
+        return Err(CallFault::Damaged {
+            block: place.inode,
+            rule: 2,
+        });
+    }
+    let room = match find_block(view, stamp.node)? {
+        Locked::Is(Taken::Is(room)) => room,
+        Locked::Is(Taken::TooFew(free)) => return Ok(Found::NoSpace(free)),
+        Locked::NeedLock { lock, state } => return Ok(Found::NeedLock { lock, state }),
+        Locked::NeedBlock(missing) => return Ok(Found::NeedBlock(missing)),
+    };
+    match addition(
+        alloc,
+        view,
+        is_of_directory(call),
+        stamp,
+        place,
+        name,
+        &room,
+    )? {
+        Step::Is(Some(change)) => Ok(Found::Made(change)),
+        Step::Is(None) => Ok(Found::NotBuilt(place.inode)),
+        Step::NeedBlock(missing) => Ok(Found::NeedBlock(missing)),
+    }
+}
+
+// Makes the name in the inode at a place, if that is a directory without it.
+fn find_at<V: View>(
+    alloc: Global,
+    view: &V,
+    call: &Call,
+    place: &Place,
+    name: &Name,
+    stamp: &Stamp,
+) -> Result<Found, CallFault>
+    requires making { IsMaking call.now }
+    requires last { IsLastOf (path_of call.now false) name.now }
+    requires seen { IsSeenAt (V.seen view.now) (wanted call.now) (directory_path call.now) place.now }
+    requires reached { (im : Image) (o : Owners) (l : Layout) (t : Tree) → IsOf (V.seen view.now) im o l t → IsReachedIn (V.seen view.now) im o l call.now place.now }
+    requires groups { 1 ≤ length (V.seen view.now).groups }
+    requires node { 1 ≤ stamp.now.node }
+    ensures found { (im : Image) (o : Owners) (l : Layout) (t : Tree) → IsOf (V.seen view.now) im o l t → IfOk result (IsFound (V.seen view.now) im o l t call.now stamp.now.node) }
+    ensures done { IfOk result (IfMade (Does (V.seen view.now) call.now OkReply)) }
+    ensures refusal { IfOk result IsRefusal }
+    ensures way { IfOk result (IsInTheWay (V.seen view.now)) }
+    ensures hashed { IfOk result (IfUnbuilt (IsUnbuilt (V.seen view.now) call.now)) }
+    ensures sound { (im : Image) (o : Owners) (l : Layout) (t : Tree) → IsOf (V.seen view.now) im o l t → IfDamaged result (λ rule block. ⊥) }
+    ensures damaged { IfDamaged result (IsDamage (V.seen view.now) call.now) }
+    ensures kept { IfDamaged result (IsOfView (V.seen view.now)) }
+{
+    if !place.dinode.is_directory() {
+        return Ok(Found::Refused(Reply::NotDir));
+    }
+    if place.dinode.flags / 2 % 2 == 1 {
+        return Ok(Found::NotBuilt(place.inode));
+    }
+    match look(view, place.inode, name.bytes())? {
+        Step::Is(Some(_)) => Ok(Found::Refused(Reply::Exists)),
+        Step::Is(None) => make_at(alloc, view, call, place, name, stamp),
+        Step::NeedBlock(_) => unreachable!(),
+    }
+}
+
+// Walks along the path of the directory, and makes the name there.
+fn find<V: View>(alloc: Global, view: &V, call: &Call, stamp: &Stamp) -> Result<Found, CallFault>
+    requires making { IsMaking call.now }
+    requires groups { 1 ≤ length (V.seen view.now).groups }
+    requires node { 1 ≤ stamp.now.node }
+    ensures found { (im : Image) (o : Owners) (l : Layout) (t : Tree) → IsOf (V.seen view.now) im o l t → IfOk result (IsFound (V.seen view.now) im o l t call.now stamp.now.node) }
+    ensures done { IfOk result (IfMade (Does (V.seen view.now) call.now OkReply)) }
+    ensures refusal { IfOk result IsRefusal }
+    ensures way { IfOk result (IsInTheWay (V.seen view.now)) }
+    ensures hashed { IfOk result (IfUnbuilt (IsUnbuilt (V.seen view.now) call.now)) }
+    ensures sound { (im : Image) (o : Owners) (l : Layout) (t : Tree) → IsOf (V.seen view.now) im o l t → IfDamaged result (λ rule block. ⊥) }
+    ensures damaged { IfDamaged result (IsDamage (V.seen view.now) call.now) }
+    ensures kept { IfDamaged result (IsOfView (V.seen view.now)) }
+{
+    let Some((last, front)) = path_of_making(call).names().split_last() else {
+        return Ok(Found::Refused(Reply::Exists));
+    };
+    let wants = wants(alloc, call)?;
+    match walk_along(view, front, &wants)? {
+        Walk::At(place) => find_at(alloc, view, call, &place, last, stamp),
+        Walk::NotFound => Ok(Found::Refused(Reply::NotFound)),
+        Walk::NotDir => Ok(Found::Refused(Reply::NotDir)),
+        Walk::Hashed(block) => Ok(Found::NotBuilt(block)),
+        Walk::NeedLock { lock, state } => Ok(Found::NeedLock { lock, state }),
+        Walk::NeedBlock(missing) => Ok(Found::NeedBlock(missing)),
+    }
+}
+
+/// Tries a call that makes a name, over a view: its answer with what it changes, or the first lock that isn't held, the block that
+/// isn't there, or that too few blocks are free. A new inode is in the least free block of the node's own group, or else of all
+/// groups in order. It costs a walk along the path, two passes over the blocks of each group that it looks at, and copies of five
+/// blocks.
+pub fn attempt<V: View>(
+    alloc: Global,
+    view: &V,
+    call: &Call,
+    stamp: &Stamp,
+) -> Result<Attempt, CallFault>
+    requires making { IsMaking call.now }
+    requires groups { 1 ≤ length (V.seen view.now).groups }
+    requires node { 1 ≤ stamp.now.node }
+    ensures done { IfDone result (Does (V.seen view.now) call.now) }
+    ensures held { (im : Image) (o : Owners) (l : Layout) (t : Tree) → IsOf (V.seen view.now) im o l t → IfDone result (λ reply change. AreHeld (V.seen view.now) (call_holds im o l t call.now stamp.now.node)) }
+    ensures lock { (im : Image) (o : Owners) (l : Layout) (t : Tree) → IsOf (V.seen view.now) im o l t → IfNeedLock result (IsFirstLack (V.seen view.now) (call_holds im o l t call.now stamp.now.node)) }
+    ensures block { (im : Image) (o : Owners) (l : Layout) (t : Tree) → IsOf (V.seen view.now) im o l t → IfNeedBlock result (IsAskedFor (V.seen view.now) im o l (call_holds im o l t call.now stamp.now.node)) }
+    ensures space { (im : Image) (o : Owners) (l : Layout) (t : Tree) → IsOf (V.seen view.now) im o l t → IfNoSpace result (IsTooFew (V.seen view.now) im o l t call.now) }
+    ensures lacked { IfNeedLock result (λ lock state. holds (V.seen view.now) (record { lock = lock; state = state }) ≡ false) }
+    ensures absent { IfNeedBlock result (λ missing. (V.seen view.now).block_at missing.block ≡ None) }
+    ensures hashed { IfNotBuilt result (IsUnbuilt (V.seen view.now) call.now) }
+    ensures sound { (im : Image) (o : Owners) (l : Layout) (t : Tree) → IsOf (V.seen view.now) im o l t → IfDamaged result (λ rule block. ⊥) }
+    ensures damaged { IfDamaged result (IsDamage (V.seen view.now) call.now) }
+    ensures kept { IfDamaged result (IsOfView (V.seen view.now)) }
+{
+    Ok(match find(alloc, view, call, stamp)? {
+        Found::Refused(reply) => Attempt::Done {
+            reply,
+            change: nothing(alloc),
+        },
+        Found::Made(change) => Attempt::Done {
+            reply: Reply::Ok,
+            change,
+        },
+        Found::NeedBlock(missing) => Attempt::NeedBlock(missing),
+        Found::NotBuilt(block) => Attempt::NotBuilt { block },
+        Found::NeedLock { lock, state } => Attempt::NeedLock { lock, state },
+        Found::NoSpace(free) => Attempt::NoSpace { need: 1, free },
+    })
+}
