@@ -18,7 +18,11 @@ same_on same more = record { size = more.size ∙ same.size; root = more.root �
 -- what isn't built for a node that has read more isn't built for the node
 pub unbuilt_before : (d d' : DiskState) (first n : Lone) (call : Call) (b : ℕ) → d' ≡ d → IsSameSystem first n → IsUnbuiltOn d n call b → IsUnbuiltOn d' first call b
 unbuilt_before d d' first n call b still same is =
-    record { view = is.view; same = same_on same is.same; on = subst (λ (e : DiskState). IsOn e is.view) (sym still) is.on; unbuilt = is.unbuilt }
+    record {
+      view = is.view;
+      later = record { same = same_on same is.later.same; on = subst (λ (e : DiskState). IsOn e is.view) (sym still) is.later.on };
+      unbuilt = is.unbuilt;
+    }
 
 -- a fact of each end but that of a failed disk, and one of an end at what isn't built, follow from others
 pub unless_so : (e : RunEnd) {P Q : Type 0} → (P → Q) → UnlessFailed e P → UnlessFailed e Q

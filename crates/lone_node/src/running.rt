@@ -94,6 +94,7 @@ fn take_call<D: SharedDisk>(
     requires idle { IsIdle (D.state disk.old) }
     requires size { IsBlockSize (D.state disk.old).size }
     requires on { IsOn (D.state disk.old) view.old }
+    requires node { stamp.now.node ≡ 1 }
     requires built { IsBuilt call.now }
     ensures taken { OnOk result (IsTakenCall client.now number call.now items.old.items items.new.items (D.state disk.old) (D.state disk.new) view.old view.new) }
     ensures kept { OnErr result (items.new.items ≡ items.old.items) }
@@ -132,6 +133,7 @@ fn take_lines<D: SharedDisk>(
     requires idle { IsIdle (D.state disk.old) }
     requires size { IsBlockSize (D.state disk.old).size }
     requires on { IsOn (D.state disk.old) view.old }
+    requires node { stamp.now.node ≡ 1 }
     requires form { AllByRecursion (IsLineOf (length clients.now)) lines.now }
     requires joined { items.old.items ≡ TraceItem.Join 1 ∷ [] }
     ensures run { (count : ℕ) × IsRunUpTo clients.now lines.now count items.new.items (StandsFor (D.state disk.old) view.old) }
@@ -174,6 +176,7 @@ fn run_lines<D: SharedDisk>(
     requires idle { IsIdle (D.state disk.old) }
     requires size { IsBlockSize (D.state disk.old).size }
     requires on { IsOn (D.state disk.old) view.old }
+    requires node { stamp.now.node ≡ 1 }
     requires form { AllByRecursion (IsLineOf (length clients.now)) lines.now }
     requires none { items.old.items ≡ [] }
     ensures run { IsRunOf clients.now lines.now items.new.items (StandsFor (D.state disk.old) view.old) }

@@ -71,7 +71,7 @@ pub returns-in-Read-clause-under : goal.returns-in-Read-clause-under
 returns-in-Read-clause-under g c im o l t of =
     let is : IsReading c.args.call.now = search rules in
     done_so c.attempt-in-Read.result (Does (g.V.View.seen c.args.view.now) c.args.call.now) _
-        (λ x change does. nothing_under change (does.tells ∙ ap not (no_change c.args.call.now x is)) o (call_holds im o l t c.args.call.now c.args.stamp.now.node) does.form) c.attempt-in-Read.ensures.done
+    (λ x change does. nothing_under change (does.tells ∙ ap not (no_change c.args.call.now x is)) o (call_holds im o l t c.args.call.now c.args.stamp.now.node) does.form) c.attempt-in-Read.ensures.done
 
 pub returns-in-Write-clause-held : goal.returns-in-Write-clause-held
 returns-in-Write-clause-held g c im o l t of =
@@ -85,8 +85,8 @@ returns-in-Write-clause-under g c im o l t of =
     let list = call_holds im o l t c.args.call.now c.args.stamp.now.node in
     let under = subst (λ list. IfDone c.attempt.result (λ reply change. AreUnder list change)) (sym (writing_holds im o l t c.args.stamp.now.node c.args.call.now is)) (c.attempt.ensures.under im o l t of) in
     done_so c.attempt.result _ (λ reply change. IsUnder o list change)
-        (λ x change all. writing_under v o list c.args.call.now c.args.stamp.now.time x change is all.0 all.1 all.2)
-        (done_three c.attempt.result _ _ _ c.attempt.ensures.done c.attempt.ensures.answered under)
+    (λ x change all. writing_under v o list c.args.call.now c.args.stamp.now.time x change is all.0 all.1 all.2)
+    (done_three c.attempt.result _ _ _ c.attempt.ensures.done c.attempt.ensures.answered under)
 
 pub returns-in-Unlink-clause-held : goal.returns-in-Unlink-clause-held
 returns-in-Unlink-clause-held g c im o l t of =
@@ -118,13 +118,13 @@ returns-in-Unlink-clause-under g c im o l t of =
     let list = call_holds im o l t c.args.call.now c.args.stamp.now.node in
     let under = subst (λ list. IfDone c.attempt-in-Unlink.result (λ reply change. is_ok reply ≡ true → IsUnder o list change)) (sym (removing_holds im o l t c.args.stamp.now.node c.args.call.now is)) (c.attempt-in-Unlink.ensures.under im o l t of) in
     done_so c.attempt-in-Unlink.result _ (λ reply change. IsUnder o list change)
-        (λ x change all. removing_under v o list c.args.call.now x change all.0 all.1) (done_two c.attempt-in-Unlink.result _ _ c.attempt-in-Unlink.ensures.done under)
+    (λ x change all. removing_under v o list c.args.call.now x change all.0 all.1) (done_two c.attempt-in-Unlink.result _ _ c.attempt-in-Unlink.ensures.done under)
 
 pub returns-in-Unlink-clause-inside : goal.returns-in-Unlink-clause-inside
 returns-in-Unlink-clause-inside g c =
     let v = g.V.View.seen c.args.view.now in
     done_so c.attempt-in-Unlink.result _ (λ reply change. AreInside v change)
-        (λ x change all. removing_inside v c.args.call.now x change all.0 all.1) (done_two c.attempt-in-Unlink.result _ _ c.attempt-in-Unlink.ensures.done c.attempt-in-Unlink.ensures.inside)
+    (λ x change all. removing_inside v c.args.call.now x change all.0 all.1) (done_two c.attempt-in-Unlink.result _ _ c.attempt-in-Unlink.ensures.done c.attempt-in-Unlink.ensures.inside)
 
 pub returns-in-Write-clause-inside : goal.returns-in-Write-clause-inside
 returns-in-Write-clause-inside g c = done_so c.attempt.result _ _ (λ x change is. data_inside (g.V.View.seen c.args.view.now) change.blocks.items is) c.attempt.ensures.inside
