@@ -22,10 +22,11 @@ use Rattle.script_lang.specs.declared.script.Line.{Line}
 use Rattle.script_lang.specs.declared.script.Line.TheVariants as line
 use Rattle.shared_disk.specs.Disk.{DiskState}
 use Rattle.lone_view.specs.Seeing.{Lone}
+use Rattle.lone_node.specs.Answering.{IsToldFull}
 use Rattle.lone_node.specs.Run.{AnsweredCall, EndsAtCall, IsLineOf, IsRunUpTo, IsTakenCall, full_item, is_call_line, items_from, its_answer, its_line, name_at}
 use Rattle.lone_node.specs.Standing.{StandsFor}
 use Rattle.lone_node.specs.declared.answering.Full.{Full}
-use Rattle.lone_node.proofs.Calls.{all_at}
+use Rattle.lone_node.proofs.Calls.{all_at, all_more}
 use Rattle.lone_node.proofs.Clients.{name_is}
 
 -- ---- lists of answered calls
@@ -92,7 +93,7 @@ module _ (clients : List Client) (lines : List Line) (IsStart : Tree → Type 0)
 
   -- node 1 has joined, and taken no line
   abbrev pub run_none : (items : List TraceItem) → items ≡ trace.Join 1 ∷ [] → IsRunUpTo clients lines 0 items IsStart
-  run_none items is = record { answered = []; are = is; calls = refl; answers = λ t start. tt }
+  run_none items is = record { answered = []; are = is; calls = refl; answers = λ t start. tt; full = λ t start. tt }
 
   module _ (i : ℕ) (items : List TraceItem) (below : i < length lines) (so : IsRunUpTo clients lines i items IsStart) where
     -- the calls among one more line
@@ -122,6 +123,7 @@ module _ (clients : List Client) (lines : List Line) (IsStart : Tree → Type 0)
       calls = so.calls ∙ sym (append-nil (filter is_call_line (take i lines)))
           ∙ sym (calls_more l d is ∙ ap (λ (b : Bool). filter is_call_line (take i lines) ++ cond b (l ∷ []) []) (other_line l other));
       answers = so.answers;
+      full = so.full;
     }
 
     pub wait_number : (number : ℕ) (d l : Line) (is : l ≡ get_or lines i d) (other : (place : ℕ) (call : Call) → l ≡ line.Call place call → ⊥)
@@ -172,6 +174,7 @@ module _ (clients : List Client) (lines : List Line) (IsStart : Tree → Type 0)
           answers = λ t start. subst (λ (ss : List Replied). AllAnswer ss t) (sym (map_push its_answer so.answered one))
               (all_answer_more (map its_answer so.answered) (its_answer one) t (so.answers t start)
               (taken.answered.answers (tree_after (map its_answer so.answered) t) (stood t start)));
+          full = λ t start. all_more (λ (a : AnsweredCall). IsToldFull a.reply a.full) so.answered one (so.full t start) (taken.told (tree_after (map its_answer so.answered) t) (stood t start));
         }
 
         pub number_more : number + 1 ≡ 1 + length run_more.answered

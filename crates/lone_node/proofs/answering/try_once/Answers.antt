@@ -1,4 +1,4 @@
-use Rattle.std.proofs.Common.{◌≡◌, ◌<◌, ◌≤◌, ℕ, List, None, Ok, sym, ap, ◌∙◌, subst, arith}
+use Rattle.std.proofs.Common.{true, false, ◌≡◌, ◌<◌, ◌≤◌, ℕ, List, None, Ok, sym, ap, ◌∙◌, subst, arith}
 use Rattle.std.specs.Prelude.{IsTrue}
 use Rattle.std.specs.FinMap.{insert}
 use Rattle.file_tree.specs.Tree.{Tree}
@@ -13,6 +13,7 @@ use Rattle.lone_node.specs.Answering.{IsAnsweredFrom}
 use Rattle.lone_node.specs.Ends.{IfDamaged, end_at}
 use Rattle.lone_node.specs.Standing.{IsOn, StandsFor, lacked_count}
 use Rattle.lone_node.proofs.Answered.{answered, damaged_so, fetched_on, fewer, of_view, on_again}
+use Rattle.lone_node.proofs.Spaces.{never_full}
 use Rattle.lone_node.proofs.answering.try_once.Goals as goal
 
 pub returns-in_ok-carry_out-in-Ok-Done-clause-answered : goal.returns-in_ok-carry_out-in-Ok-Done-clause-answered
@@ -22,6 +23,13 @@ returns-in_ok-carry_out-in-Ok-Done-clause-answered g c =
     subst (λ n. IsAnsweredFrom d (g.D.SharedDisk.state c.carry_out.new.disk) c.args.view.now n c.args.call.now c.in-Ok-Done.reply) (sym c.in_ok-carry_out-in-Ok-Done.ensures.kept)
     (answered d _ c.args.view.now c.in-Ok-Done.change c.requires.on does.form c.in_ok-carry_out-in-Ok-Done.ensures.written
     c.other_calls_leave_the_tree.ensures c.args.call.now c.in-Ok-Done.reply does)
+
+pub returns-in_ok-carry_out-in-Ok-Done-clause-full : goal.returns-in_ok-carry_out-in-Ok-Done-clause-full
+returns-in_ok-carry_out-in-Ok-Done-clause-full g c t s =
+    let d = g.D.SharedDisk.state c.args.disk.now in
+    let does = subst (λ a. IfDone (Ok a) (Does (seen_alone c.args.view.now) c.args.call.now)) c.in-Ok-Done.field-0-is c.in-Ok-Done.ensures.done in
+    let in_it = does.images (image_of d) s.owners s.layout t (of_view d c.args.view.now t c.requires.on s) in
+    ((λ (told : false ≡ true). cc), λ full. absurd (never_full c.args.call.now t (in_it.replies ∙ full)))
 
 pub returns-in_ok-carry_out-in-Ok-Done-clause-on : goal.returns-in_ok-carry_out-in-Ok-Done-clause-on
 returns-in_ok-carry_out-in-Ok-Done-clause-on g c =
