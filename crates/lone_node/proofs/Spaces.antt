@@ -1,7 +1,7 @@
 -- No call of the table finds too few blocks.
 use Rattle.std.proofs.Common.{◌≡◌, ℕ, ◌+◌, Bool, true, false, cond, List, [], ◌∷◌, length, Option, None, Some}
 use Rattle.std.specs.Prelude.{nat_lt, if◌then◌else◌}
-use Rattle.file_tree.specs.Tree.{Tree, Entries, file, dir, none, entry, look}
+use Rattle.file_tree.specs.Tree.{Tree, file, dir, none, entry, look}
 use Rattle.file_tree.specs.Names.{leads_to, is_same_path, last_of, parent_of}
 use Rattle.file_tree.specs.Apply.{Answer, Walked, Found, Refused, add, add_to, apply, file_limit, found_or, list_reply, move_from, move_into, move_unless, overwritten, put_at, read_reply, refusal_at, refusal_over, refuse, rename, resized, rmdir, rmdir_at, stat_reply, step_to, truncate_at, unlink, unlink_at, walk, walk_from, write_at}
 use Rattle.file_tree.specs.declared.call.Call.{Call}

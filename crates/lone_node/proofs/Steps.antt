@@ -9,7 +9,6 @@ use Rattle.std.proofs.lemmas.List.Sums.{count_by-le-length, length-filter}
 use Rattle.file_tree.specs.Tree.{Tree}
 use Rattle.file_tree.specs.Apply.{Answers}
 use Rattle.file_tree.specs.declared.call.Call.{Call}
-use Rattle.file_tree.specs.declared.reply.Reply.{Reply}
 use Rattle.cluster_history.specs.declared.Item.{Item}
 use Rattle.cluster_history.specs.History.{AllAnswer, NoneLost, Replied, after, alive, tree_after, tree_of}
 use Rattle.cluster_history.proofs.Legal.{replied, alive-none_lost}

@@ -1,5 +1,5 @@
 -- Why a run of one node ends before its script does.
-use Rattle.std.specs.Prelude.{ℕ, ◌≡◌, ⊤, ◌<◌, Option, None, Some, IfSome, Result, Ok, Err}
+use Rattle.std.specs.Prelude.{ℕ, ⊤, ◌<◌, IfSome, Result, Ok, Err}
 use Rattle.fault_counts.specs.Causes.{WentUp}
 use Rattle.glock_names.specs.declared.steps.CallFault.{CallFault}
 use Rattle.glock_names.specs.declared.steps.CallFault.TheVariants as fault

@@ -1,4 +1,4 @@
-use Rattle.std.proofs.Common.{ℕ, Option, sym, subst}
+use Rattle.std.proofs.Common.{Option, sym, subst}
 use Rattle.std.specs.Prelude.{IfSome}
 use Rattle.file_tree.specs.Tree.{Tree}
 use Rattle.file_calls.specs.Calls.{IsUnbuilt}

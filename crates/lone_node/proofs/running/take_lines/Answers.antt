@@ -1,4 +1,4 @@
-use Rattle.std.proofs.Common.{◌≡◌, ◌<◌, ◌+◌, ℕ, List, length, refl, rules, sym, subst, arith}
+use Rattle.std.proofs.Common.{◌≡◌, List, refl, rules, sym, subst, arith}
 use Rattle.file_tree.specs.Tree.{Tree}
 use Rattle.cluster_history.specs.History.{tree_of}
 use Rattle.run_rules.specs.Follows.{history_of}
@@ -6,7 +6,7 @@ use Rattle.shared_disk.specs.Disk.{DiskState}
 use Rattle.trace_text.specs.declared.item.TraceItem.{TraceItem}
 use Rattle.lone_node.specs.Answering.{IsUnbuiltOn}
 use Rattle.lone_node.specs.Run.{EndsAtCall}
-use Rattle.lone_node.specs.Standing.{IsSameSystem, StandsFor}
+use Rattle.lone_node.specs.Standing.{StandsFor}
 use Rattle.lone_node.proofs.Answered.{damaged_so, stands_on}
 use Rattle.lone_node.proofs.Endings.{same_back, unbuilt_before, unbuilt_with, unless_so}
 use Rattle.lone_node.proofs.Steps.{ends_here, no_more_calls, number_more, run_more, run_none, stands_more, tree_is, wait_more, wait_number}

@@ -1,7 +1,6 @@
-use Rattle.std.proofs.Common.{ℕ, List, ◌+◌, ◌<◌, length, sym, ap, ◌∙◌, arith}
+use Rattle.std.proofs.Common.{◌<◌, length, sym, ap, ◌∙◌, arith}
 use Rattle.std.specs.FinMap.{insert}
 use Rattle.drafts.specs.declared.change.Written.{Written}
-use Rattle.lone_view.specs.Seeing.{Lone}
 use Rattle.lone_node.proofs.Keeping.{with_next}
 use Rattle.lone_node.proofs.writing.keep_all.Goals as goal
 

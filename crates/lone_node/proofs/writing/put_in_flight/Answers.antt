@@ -1,4 +1,4 @@
-use Rattle.std.proofs.Common.{ℕ, ◌+◌, ◌<◌, ◌≤◌, length, sym, ap, ◌∙◌, arith}
+use Rattle.std.proofs.Common.{◌<◌, length, ap, ◌∙◌, arith}
 use Rattle.shared_disk.specs.Disk.{after_write}
 use Rattle.lone_node.proofs.Flying.{flies_more, next_is_free, none_falls}
 use Rattle.lone_node.proofs.writing.put_in_flight.Goals as goal

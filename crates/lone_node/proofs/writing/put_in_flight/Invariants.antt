@@ -1,4 +1,4 @@
-use Rattle.std.proofs.Common.{ℕ, ◌≤◌, take, ◌+◌}
+use Rattle.std.proofs.Common.{ℕ, ◌≤◌, take}
 use Rattle.lone_node.specs.Writing.{AreInFlight, flights_of}
 use Rattle.lone_node.proofs.writing.put_in_flight.Given as goal
 

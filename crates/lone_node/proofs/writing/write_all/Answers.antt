@@ -1,4 +1,4 @@
-use Rattle.std.proofs.Common.{◌≡◌, ◌++◌, ◌≤◌, List, sym, ap, ◌∙◌, subst, arith}
+use Rattle.std.proofs.Common.{◌≡◌, ◌++◌, List, sym, ap, ◌∙◌, subst, arith}
 use Rattle.std.proofs.lemmas.List.{append_assoc, take-append-drop}
 use Rattle.drafts.specs.declared.change.Written.{Written}
 use Rattle.lone_node.specs.Writing.{AreOfDisk, RiseFrom}
