@@ -115,20 +115,20 @@ module _ (clients : List Client) (lines : List Line) (IsStart : Tree → Type 0)
     other_line (line.Crash nodes) other = refl
     other_line (line.Join node) other = refl
 
-    pub wait_more : (d l : Line) → l ≡ get_or lines i d → ((place : ℕ) (call : Call) → l ≡ line.Call place call → ⊥) → IsRunUpTo clients lines (i + 1) items IsStart
-    wait_more d l is other = record {
-      answered = so.answered;
-      are = so.are;
-      calls = so.calls ∙ sym (append-nil (filter is_call_line (take i lines)))
-          ∙ sym (calls_more l d is ∙ ap (λ (b : Bool). filter is_call_line (take i lines) ++ cond b (l ∷ []) []) (other_line l other));
-      answers = so.answers;
-      full = so.full;
-    }
-
-    pub wait_number : (number : ℕ) (d l : Line) (is : l ≡ get_or lines i d) (other : (place : ℕ) (call : Call) → l ≡ line.Call place call → ⊥)
-        → number ≡ 1 + length so.answered → number ≡ 1 + length (wait_more d l is other).answered
-    unfolding wait_more
-    wait_number number d l is other same = same
+    pub wait_more : (number : ℕ) (d l : Line) → l ≡ get_or lines i d → ((place : ℕ) (call : Call) → l ≡ line.Call place call → ⊥) → number ≡ 1 + length so.answered
+        → (run : IsRunUpTo clients lines (i + 1) items IsStart) × (number ≡ 1 + length run.answered)
+    wait_more number d l is other same = (
+      record {
+        answered = so.answered;
+        are = so.are;
+        calls =
+            so.calls ∙ sym (append-nil (filter is_call_line (take i lines)))
+            ∙ sym (calls_more l d is ∙ ap (λ (b : Bool). filter is_call_line (take i lines) ++ cond b (l ∷ []) []) (other_line l other));
+        answers = so.answers;
+        full = so.full;
+      },
+      same,
+    )
 
     module _ (place : ℕ) (call : Call) (l d : Line) (c : Client) (is : l ≡ get_or lines i d) (is_call : l ≡ line.Call place call) (form : AllByRecursion (IsLineOf (length clients)) lines) where
       at_place : line.Call place call ≡ get_or lines i d
@@ -161,7 +161,7 @@ module _ (clients : List Client) (lines : List Line) (IsStart : Tree → Type 0)
         stood t start = subst (StandsFor disk n) (tree_is i items so t) (stands t start)
 
         -- one more call is taken
-        pub run_more : IsRunUpTo clients lines (i + 1) more IsStart
+        run_more : IsRunUpTo clients lines (i + 1) more IsStart
         run_more = record {
           answered = so.answered ++ one ∷ [];
           are =
@@ -176,13 +176,17 @@ module _ (clients : List Client) (lines : List Line) (IsStart : Tree → Type 0)
           full = λ t start. all_more (λ (a : AnsweredCall). IsToldFull a.reply a.full) so.answered one (so.full t start) (taken.told (tree_after (map its_answer so.answered) t) (stood t start));
         }
 
-        pub number_more : number + 1 ≡ 1 + length run_more.answered
+        number_more : number + 1 ≡ 1 + length run_more.answered
         unfolding run_more
         number_more = let longer = length-append so.answered (one ∷ []) in omega (arith, number_is, longer)
 
-        pub stands_more : (t : Tree) → IsStart t → StandsFor disk' n' (tree_of (history_of clients more) t)
+        stands_more : (t : Tree) → IsStart t → StandsFor disk' n' (tree_of (history_of clients more) t)
         unfolding run_more
         stands_more t start =
             subst (StandsFor disk' n')
             (sym (tree_is (i + 1) more run_more t ∙ ap (λ (ss : List Replied). tree_after ss t) (map_push its_answer so.answered one) ∙ tree_after_more (map its_answer so.answered) (its_answer one) t))
             (taken.answered.stands (tree_after (map its_answer so.answered) t) (stood t start))
+
+        -- the run goes on
+        pub goes_on : (run : IsRunUpTo clients lines (i + 1) more IsStart) × (number + 1 ≡ 1 + length run.answered) × ((t : Tree) → IsStart t → StandsFor disk' n' (tree_of (history_of clients more) t))
+        goes_on = (run_more, number_more, stands_more)
