@@ -7,3 +7,4 @@ pub mod Clients
 pub mod Steps
 pub mod NodeRuns
 pub mod Endings
+pub mod Spaces

@@ -9,7 +9,6 @@ use Rattle.std.proofs.lemmas.List.Sums.{count_by-le-length, length-filter}
 use Rattle.file_tree.specs.Tree.{Tree}
 use Rattle.file_tree.specs.Apply.{Answers}
 use Rattle.file_tree.specs.declared.call.Call.{Call}
-use Rattle.file_tree.specs.declared.reply.Reply.{Reply}
 use Rattle.cluster_history.specs.declared.Item.{Item}
 use Rattle.cluster_history.specs.History.{AllAnswer, NoneLost, Replied, after, alive, tree_after, tree_of}
 use Rattle.cluster_history.proofs.Legal.{replied, alive-none_lost}
@@ -22,10 +21,11 @@ use Rattle.script_lang.specs.declared.script.Line.{Line}
 use Rattle.script_lang.specs.declared.script.Line.TheVariants as line
 use Rattle.shared_disk.specs.Disk.{DiskState}
 use Rattle.lone_view.specs.Seeing.{Lone}
+use Rattle.lone_node.specs.Answering.{IsToldFull}
 use Rattle.lone_node.specs.Run.{AnsweredCall, EndsAtCall, IsLineOf, IsRunUpTo, IsTakenCall, full_item, is_call_line, items_from, its_answer, its_line, name_at}
 use Rattle.lone_node.specs.Standing.{StandsFor}
 use Rattle.lone_node.specs.declared.answering.Full.{Full}
-use Rattle.lone_node.proofs.Calls.{all_at}
+use Rattle.lone_node.proofs.Calls.{all_at, all_more}
 use Rattle.lone_node.proofs.Clients.{name_is}
 
 -- ---- lists of answered calls
@@ -92,7 +92,7 @@ module _ (clients : List Client) (lines : List Line) (IsStart : Tree → Type 0)
 
   -- node 1 has joined, and taken no line
   abbrev pub run_none : (items : List TraceItem) → items ≡ trace.Join 1 ∷ [] → IsRunUpTo clients lines 0 items IsStart
-  run_none items is = record { answered = []; are = is; calls = refl; answers = λ t start. tt }
+  run_none items is = record { answered = []; are = is; calls = refl; answers = λ t start. tt; full = λ t start. tt }
 
   module _ (i : ℕ) (items : List TraceItem) (below : i < length lines) (so : IsRunUpTo clients lines i items IsStart) where
     -- the calls among one more line
@@ -115,19 +115,20 @@ module _ (clients : List Client) (lines : List Line) (IsStart : Tree → Type 0)
     other_line (line.Crash nodes) other = refl
     other_line (line.Join node) other = refl
 
-    pub wait_more : (d l : Line) → l ≡ get_or lines i d → ((place : ℕ) (call : Call) → l ≡ line.Call place call → ⊥) → IsRunUpTo clients lines (i + 1) items IsStart
-    wait_more d l is other = record {
-      answered = so.answered;
-      are = so.are;
-      calls = so.calls ∙ sym (append-nil (filter is_call_line (take i lines)))
-          ∙ sym (calls_more l d is ∙ ap (λ (b : Bool). filter is_call_line (take i lines) ++ cond b (l ∷ []) []) (other_line l other));
-      answers = so.answers;
-    }
-
-    pub wait_number : (number : ℕ) (d l : Line) (is : l ≡ get_or lines i d) (other : (place : ℕ) (call : Call) → l ≡ line.Call place call → ⊥)
-        → number ≡ 1 + length so.answered → number ≡ 1 + length (wait_more d l is other).answered
-    unfolding wait_more
-    wait_number number d l is other same = same
+    pub wait_more : (number : ℕ) (d l : Line) → l ≡ get_or lines i d → ((place : ℕ) (call : Call) → l ≡ line.Call place call → ⊥) → number ≡ 1 + length so.answered
+        → (run : IsRunUpTo clients lines (i + 1) items IsStart) × (number ≡ 1 + length run.answered)
+    wait_more number d l is other same = (
+      record {
+        answered = so.answered;
+        are = so.are;
+        calls =
+            so.calls ∙ sym (append-nil (filter is_call_line (take i lines)))
+            ∙ sym (calls_more l d is ∙ ap (λ (b : Bool). filter is_call_line (take i lines) ++ cond b (l ∷ []) []) (other_line l other));
+        answers = so.answers;
+        full = so.full;
+      },
+      same,
+    )
 
     module _ (place : ℕ) (call : Call) (l d : Line) (c : Client) (is : l ≡ get_or lines i d) (is_call : l ≡ line.Call place call) (form : AllByRecursion (IsLineOf (length clients)) lines) where
       at_place : line.Call place call ≡ get_or lines i d
@@ -160,7 +161,7 @@ module _ (clients : List Client) (lines : List Line) (IsStart : Tree → Type 0)
         stood t start = subst (StandsFor disk n) (tree_is i items so t) (stands t start)
 
         -- one more call is taken
-        pub run_more : IsRunUpTo clients lines (i + 1) more IsStart
+        run_more : IsRunUpTo clients lines (i + 1) more IsStart
         run_more = record {
           answered = so.answered ++ one ∷ [];
           are =
@@ -172,15 +173,20 @@ module _ (clients : List Client) (lines : List Line) (IsStart : Tree → Type 0)
           answers = λ t start. subst (λ (ss : List Replied). AllAnswer ss t) (sym (map_push its_answer so.answered one))
               (all_answer_more (map its_answer so.answered) (its_answer one) t (so.answers t start)
               (taken.answered.answers (tree_after (map its_answer so.answered) t) (stood t start)));
+          full = λ t start. all_more (λ (a : AnsweredCall). IsToldFull a.reply a.full) so.answered one (so.full t start) (taken.told (tree_after (map its_answer so.answered) t) (stood t start));
         }
 
-        pub number_more : number + 1 ≡ 1 + length run_more.answered
+        number_more : number + 1 ≡ 1 + length run_more.answered
         unfolding run_more
         number_more = let longer = length-append so.answered (one ∷ []) in omega (arith, number_is, longer)
 
-        pub stands_more : (t : Tree) → IsStart t → StandsFor disk' n' (tree_of (history_of clients more) t)
+        stands_more : (t : Tree) → IsStart t → StandsFor disk' n' (tree_of (history_of clients more) t)
         unfolding run_more
         stands_more t start =
             subst (StandsFor disk' n')
             (sym (tree_is (i + 1) more run_more t ∙ ap (λ (ss : List Replied). tree_after ss t) (map_push its_answer so.answered one) ∙ tree_after_more (map its_answer so.answered) (its_answer one) t))
             (taken.answered.stands (tree_after (map its_answer so.answered) t) (stood t start))
+
+        -- the run goes on
+        pub goes_on : (run : IsRunUpTo clients lines (i + 1) more IsStart) × (number + 1 ≡ 1 + length run.answered) × ((t : Tree) → IsStart t → StandsFor disk' n' (tree_of (history_of clients more) t))
+        goes_on = (run_more, number_more, stands_more)

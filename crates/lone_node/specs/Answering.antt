@@ -1,9 +1,10 @@
 -- A call, answered on a disk.
-use Rattle.std.specs.Prelude.{ℕ, ◌≡◌, ◌≤◌, ◌==◌, if◌then◌else◌}
+use Rattle.std.specs.Prelude.{ℕ, ◌≡◌, ◌≤◌, ◌==◌, ◌↔◌, if◌then◌else◌, Option, IsSome}
 use Rattle.file_tree.specs.Tree.{Tree}
 use Rattle.file_tree.specs.Apply.{Answers}
 use Rattle.file_tree.specs.declared.call.Call.{Call}
 use Rattle.file_tree.specs.declared.reply.Reply.{Reply}
+use Rattle.file_tree.specs.declared.reply.Reply.TheVariants as replies
 use Rattle.cluster_history.specs.History.{after}
 use Rattle.gfs2_layout.specs.Device.{superblock_place}
 use Rattle.glock_names.specs.Views.{Seen, HasBlock}
@@ -13,6 +14,7 @@ use Rattle.image_changes.specs.Changes.{JournalsStay}
 use Rattle.shared_disk.specs.Disk.{DiskState}
 use Rattle.file_calls.specs.Calls.{IsDamage, IsNeededFor, IsUnbuilt}
 use Rattle.lone_view.specs.Seeing.{Lone, seen_alone}
+use Rattle.lone_node.specs.declared.answering.Full.{Full}
 use Rattle.lone_node.specs.Standing.{IsOn, IsSameSystem, StandsFor}
 
 -- it is the same disk, which may hold other bytes
@@ -29,6 +31,10 @@ pub record IsAnsweredFrom (d d' : DiskState) (n n' : Lone) (call : Call) (reply 
   pub stands : (t : Tree) → StandsFor d n t → StandsFor d' n' (after (record { call = call; reply = reply }) t)
   pub layout : (t : Tree) (s : StandsFor d n t) → (stands t s).layout ≡ s.layout
   pub journals : (t : Tree) (s : StandsFor d n t) → JournalsStay (image_of d) (image_of d') s.owners (stands t s).owners s.layout
+
+-- how many blocks were free is told exactly where there were too few
+abbrev pub IsToldFull : Reply → Option Full → Type 0
+IsToldFull reply full = IsSome full ↔ (reply ≡ replies.NoSpace)
 
 -- ---- why a call isn't answered
 

@@ -15,7 +15,8 @@ use Rattle.trace_text.specs.declared.item.TraceItem.TheVariants as trace
 use Rattle.shared_disk.specs.Disk.{DiskState}
 use Rattle.file_calls.specs.Calls.{IsBuilt}
 use Rattle.lone_view.specs.Seeing.{Lone}
-use Rattle.lone_node.specs.Answering.{IsAnsweredFrom}
+use Rattle.lone_node.specs.Answering.{IsAnsweredFrom, IsToldFull}
+use Rattle.lone_node.specs.Standing.{StandsFor}
 use Rattle.lone_node.specs.declared.answering.Full.{Full}
 
 -- ---- the scripts that one node can run
@@ -71,12 +72,14 @@ items_from clients n (a ∷ later) = full_item a.full ++ trace.Call 1 (name_at c
 
 -- ---- how far a run of lines has come
 
--- node 1 has joined and taken the first of these lines: the calls among them are answered, as each of these trees answers them one by one
+-- Node 1 has joined and taken the first of these lines: the calls among them are answered, as each of these trees answers them one by one,
+-- and too few blocks are told exactly before those for which there is no space.
 pub record IsRunUpTo (clients : List Client) (lines : List Line) (count : ℕ) (items : List TraceItem) (IsStart : Tree → Type 0) : Type 0 where
   pub answered : List AnsweredCall
   pub are : items ≡ trace.Join 1 ∷ items_from clients 1 answered
   pub calls : map its_line answered ≡ filter is_call_line (take count lines)
   pub answers : (t : Tree) → IsStart t → AllAnswer (map its_answer answered) t
+  pub full : (t : Tree) → IsStart t → AllByRecursion (λ (a : AnsweredCall). IsToldFull a.reply a.full) answered
 
 -- it has taken all of them, and unmounted
 pub record IsWholeRun (clients : List Client) (lines : List Line) (items : List TraceItem) (IsStart : Tree → Type 0) : Type 0 where
@@ -110,3 +113,4 @@ pub record IsTakenCall (name : List ℕ) (number : ℕ) (call : Call) (before it
   pub full : Option Full
   pub are : items ≡ before ++ (full_item full ++ trace.Call 1 name number call reply ∷ [])
   pub answered : IsAnsweredFrom d d' n n' call reply
+  pub told : (t : Tree) → StandsFor d n t → IsToldFull reply full

@@ -5,7 +5,7 @@ ghost use Rattle.gfs2_layout.specs.Device.{IsBlockSize};
 ghost use Rattle.shared_disk.specs.Disk.{IsIdle};
 ghost use Rattle.file_calls.specs.Calls.{IsBuilt, IsUnbuilt};
 ghost use Rattle.lone_view.specs.Seeing.{seen_alone};
-ghost use Rattle.lone_node.specs.Answering.{IsAnsweredFrom, IsDamagedFor, IsDamagedOn, IsSameDisk, IsUnbuiltOn};
+ghost use Rattle.lone_node.specs.Answering.{IsAnsweredFrom, IsDamagedFor, IsDamagedOn, IsSameDisk, IsToldFull, IsUnbuiltOn};
 ghost use Rattle.lone_node.specs.Ends.{HasCause, IfDamaged, IfNotBuilt, UnlessFailed, end_at};
 ghost use Rattle.lone_node.specs.Standing.{IsOn, IsSameSystem, StandsFor, lacked_count};
 ghost use Rattle.lone_node.specs.Writing.{AreOfDisk, AreWritten, with_blocks};
@@ -84,6 +84,7 @@ fn try_once<D: SharedDisk>(
     requires node { stamp.now.node ≡ 1 }
     requires built { IsBuilt call.now }
     ensures answered { IfOk result (λ r. IfSome r (λ a. IsAnsweredFrom (D.state disk.old) (D.state disk.new) view.old view.new call.now a.reply)) }
+    ensures full { IfOk result (λ r. IfSome r (λ a. (t : Tree) → StandsFor (D.state disk.old) view.old t → IsToldFull a.reply a.full)) }
     ensures idle { IfOk result (λ r. IsIdle (D.state disk.new)) }
     ensures on { IfOk result (λ r. IsOn (D.state disk.new) view.new) }
     ensures disk { IfOk result (λ r. IsSameDisk (D.state disk.old) (D.state disk.new)) }
@@ -133,6 +134,7 @@ pub(crate) fn answer_call<D: SharedDisk>(
     requires node { stamp.now.node ≡ 1 }
     requires built { IsBuilt call.now }
     ensures answered { IfOk result (λ a. IsAnsweredFrom (D.state disk.old) (D.state disk.new) view.old view.new call.now a.reply) }
+    ensures full { IfOk result (λ a. (t : Tree) → StandsFor (D.state disk.old) view.old t → IsToldFull a.reply a.full) }
     ensures idle { IfOk result (λ a. IsIdle (D.state disk.new)) }
     ensures on { IfOk result (λ a. IsOn (D.state disk.new) view.new) }
     ensures disk { IfOk result (λ a. IsSameDisk (D.state disk.old) (D.state disk.new)) }

@@ -1,10 +1,11 @@
-use Rattle.std.proofs.Common.{sym, subst}
+use Rattle.std.proofs.Common.{Option, sym, subst}
 use Rattle.std.specs.Prelude.{IfSome}
 use Rattle.file_tree.specs.Tree.{Tree}
 use Rattle.file_calls.specs.Calls.{IsUnbuilt}
 use Rattle.lone_view.specs.Seeing.{seen_alone}
-use Rattle.lone_node.specs.Answering.{IsAnsweredFrom, IsDamagedFor, IsDamagedOn, IsUnbuiltOn}
+use Rattle.lone_node.specs.Answering.{IsAnsweredFrom, IsDamagedFor, IsDamagedOn, IsToldFull, IsUnbuiltOn}
 use Rattle.lone_node.specs.Standing.{StandsFor}
+use Rattle.lone_node.specs.declared.answering.Answer.{Answer}
 use Rattle.lone_node.proofs.Answered.{answered_from, damaged_so, stands_on, unbuilt_so}
 use Rattle.lone_node.proofs.answering.answer_call.Goals as goal
 
@@ -36,3 +37,10 @@ returns-in-Err-clause-damaged g c =
     damaged_so c.in-Err.end (IsDamagedFor (g.D.SharedDisk.state c.loop-found.disk) (seen_alone c.loop-found.view) c.args.call.now) (IsDamagedOn d c.args.view.now c.args.call.now)
     (λ b rule is. record { view = c.loop-found.view; later = record { same = so.system; on = so.on }; damaged = subst (λ e. IsDamagedFor e (seen_alone c.loop-found.view) c.args.call.now b rule) so.same is })
     c.in-Err.ensures.damaged
+
+pub returns-in-Ok-Some-clause-full : goal.returns-in-Ok-Some-clause-full
+returns-in-Ok-Some-clause-full g c t s =
+    let so = c.loop-found.invariant in
+    let now = g.D.SharedDisk.state c.loop-found.disk in
+    subst (λ (r : Option Answer). IfSome r (λ a. (u : Tree) → StandsFor now c.loop-found.view u → IsToldFull a.reply a.full)) c.in-Ok-Some.field-0-is c.in-Ok-Some.ensures.full t
+    (subst (λ e. StandsFor e c.loop-found.view t) (sym so.same) (stands_on (g.D.SharedDisk.state c.args.disk.now) c.args.view.now c.loop-found.view t so.system s))

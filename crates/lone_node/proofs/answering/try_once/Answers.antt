@@ -1,4 +1,4 @@
-use Rattle.std.proofs.Common.{◌≡◌, ◌<◌, ◌≤◌, None, Ok, sym, subst, arith}
+use Rattle.std.proofs.Common.{true, false, ◌≡◌, ◌<◌, ◌≤◌, None, Ok, sym, ◌∙◌, subst, arith}
 use Rattle.file_tree.specs.Tree.{Tree}
 use Rattle.image_model.specs.Image.{image_of}
 use Rattle.image_changes.specs.Does.{Does}
@@ -12,6 +12,7 @@ use Rattle.lone_node.specs.Answering.{IsAnsweredFrom, IsDamagedFor, leads_out, s
 use Rattle.lone_node.specs.Ends.{IfDamaged, end_at}
 use Rattle.lone_node.specs.Standing.{IsOn, StandsFor, lacked_count}
 use Rattle.lone_node.proofs.Answered.{answered, damaged_so, fetched_on, fewer, of_disk, of_view, on_again, shown_damage}
+use Rattle.lone_node.proofs.Spaces.{never_full}
 use Rattle.lone_node.proofs.answering.try_once.Goals as goal
 
 pub carry_out-requires-clause-of_disk : goal.carry_out-requires-clause-of_disk
@@ -28,6 +29,13 @@ returns-in_ok-carry_out-in-Ok-Done-clause-answered g c =
     subst (λ n. IsAnsweredFrom d (g.D.SharedDisk.state c.carry_out.new.disk) c.args.view.now n c.args.call.now c.in-Ok-Done.reply) (sym c.in_ok-carry_out-in-Ok-Done.ensures.kept)
     (answered d _ c.args.view.now c.in-Ok-Done.change c.requires.on does.form c.in_ok-carry_out-in-Ok-Done.ensures.written
     c.other_calls_leave_the_tree.ensures c.args.call.now c.in-Ok-Done.reply does)
+
+pub returns-in_ok-carry_out-in-Ok-Done-clause-full : goal.returns-in_ok-carry_out-in-Ok-Done-clause-full
+returns-in_ok-carry_out-in-Ok-Done-clause-full g c t s =
+    let d = g.D.SharedDisk.state c.args.disk.now in
+    let does = subst (λ a. IfDone (Ok a) (Does (seen_alone c.args.view.now) c.args.call.now)) c.in-Ok-Done.field-0-is c.in-Ok-Done.ensures.done in
+    let in_it = does.images (image_of d) s.owners s.layout t (of_view d c.args.view.now t c.requires.on s) in
+    ((λ (told : false ≡ true). cc), λ full. absurd (never_full c.args.call.now t (in_it.replies ∙ full)))
 
 pub returns-in_ok-carry_out-in-Ok-Done-clause-on : goal.returns-in_ok-carry_out-in-Ok-Done-clause-on
 returns-in_ok-carry_out-in-Ok-Done-clause-on g c =

@@ -1,4 +1,4 @@
-use Rattle.std.proofs.Common.{◌≡◌, ℕ, List, sym, ap, ◌∙◌, subst}
+use Rattle.std.proofs.Common.{◌≡◌, List, ap, ◌∙◌, subst}
 use Rattle.std.specs.Prelude.{Result, OnOk, Ok, Err}
 use Rattle.file_tree.specs.Tree.{Tree}
 use Rattle.script_lang.specs.Script.{ScriptValue}

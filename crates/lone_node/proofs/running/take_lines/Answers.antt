@@ -1,4 +1,4 @@
-use Rattle.std.proofs.Common.{◌≡◌, ◌<◌, ◌+◌, ℕ, List, length, refl, rules, sym, subst, arith}
+use Rattle.std.proofs.Common.{◌≡◌, List, refl, rules, sym, subst, arith}
 use Rattle.file_tree.specs.Tree.{Tree}
 use Rattle.cluster_history.specs.History.{tree_of}
 use Rattle.run_rules.specs.Follows.{history_of}
@@ -6,10 +6,10 @@ use Rattle.shared_disk.specs.Disk.{DiskState}
 use Rattle.trace_text.specs.declared.item.TraceItem.{TraceItem}
 use Rattle.lone_node.specs.Answering.{IsUnbuiltOn}
 use Rattle.lone_node.specs.Run.{EndsAtCall}
-use Rattle.lone_node.specs.Standing.{IsSameSystem, StandsFor}
+use Rattle.lone_node.specs.Standing.{StandsFor}
 use Rattle.lone_node.proofs.Answered.{damaged_so, stands_on}
 use Rattle.lone_node.proofs.Endings.{same_back, unbuilt_before, unbuilt_with, unless_so}
-use Rattle.lone_node.proofs.Steps.{ends_here, no_more_calls, number_more, run_more, run_none, stands_more, tree_is, wait_more, wait_number}
+use Rattle.lone_node.proofs.Steps.{ends_here, goes_on, no_more_calls, run_none, tree_is, wait_more}
 use Rattle.lone_node.proofs.running.take_lines.Given.{Over}
 use Rattle.lone_node.proofs.running.take_lines.Goals as goal
 
@@ -32,11 +32,13 @@ pub loop-line-preserved-in_default : goal.loop-line-preserved-in_default
 loop-line-preserved-in_default g c =
     let so = c.loop-line.invariant in
     let start = StandsFor (g.D.SharedDisk.state c.args.disk.now) c.args.view.now in
+    let (run, number) =
+    wait_more c.args.clients.now c.args.lines.now start c.loop-line.line-index c.loop-line.items.items c.loop-line-test.true so.run
+    c.loop-line.number c.line-item.result c.line-item.result c.line-item.is c.in_default.not-Call so.number
+    in
     record {
-      run = wait_more c.args.clients.now c.args.lines.now start c.loop-line.line-index c.loop-line.items.items
-          c.loop-line-test.true so.run c.line-item.result c.line-item.result c.line-item.is c.in_default.not-Call;
-      number = wait_number c.args.clients.now c.args.lines.now start c.loop-line.line-index c.loop-line.items.items
-          c.loop-line-test.true so.run c.loop-line.number c.line-item.result c.line-item.result c.line-item.is c.in_default.not-Call so.number;
+      run = run;
+      number = number;
       stands = so.stands;
       idle = so.idle;
       on = so.on;
@@ -58,16 +60,15 @@ loop-line-preserved g c =
     let now = g.D.SharedDisk.state c.loop-line.disk in
     let next = g.D.SharedDisk.state c.take_call.new.disk in
     let start = StandsFor (g.D.SharedDisk.state c.args.disk.now) c.args.view.now in
+    let (run, number, stands) =
+    goes_on c.args.clients.now c.args.lines.now start c.loop-line.line-index c.loop-line.items.items c.loop-line-test.true so.run c.in-Call.client c.in-Call.call
+    c.line-item.result c.line-item.result c.index-clients-client.result c.line-item.is c.in-Call.is c.requires.form
+    c.take_call.new.items.items c.loop-line.number now next c.loop-line.view c.take_call.new.view so.number c.in-Ok.ensures.taken so.stands
+    in
     record {
-      run = run_more c.args.clients.now c.args.lines.now start c.loop-line.line-index c.loop-line.items.items c.loop-line-test.true so.run c.in-Call.client c.in-Call.call
-          c.line-item.result c.line-item.result c.index-clients-client.result c.line-item.is c.in-Call.is c.requires.form
-          c.take_call.new.items.items c.loop-line.number now next c.loop-line.view c.take_call.new.view so.number c.in-Ok.ensures.taken so.stands;
-      number = number_more c.args.clients.now c.args.lines.now start c.loop-line.line-index c.loop-line.items.items c.loop-line-test.true so.run c.in-Call.client c.in-Call.call
-          c.line-item.result c.line-item.result c.index-clients-client.result c.line-item.is c.in-Call.is c.requires.form
-          c.take_call.new.items.items c.loop-line.number now next c.loop-line.view c.take_call.new.view so.number c.in-Ok.ensures.taken so.stands;
-      stands = stands_more c.args.clients.now c.args.lines.now start c.loop-line.line-index c.loop-line.items.items c.loop-line-test.true so.run c.in-Call.client c.in-Call.call
-          c.line-item.result c.line-item.result c.index-clients-client.result c.line-item.is c.in-Call.is c.requires.form
-          c.take_call.new.items.items c.loop-line.number now next c.loop-line.view c.take_call.new.view so.number c.in-Ok.ensures.taken so.stands;
+      run = run;
+      number = number;
+      stands = stands;
       idle = c.in-Ok.ensures.idle;
       on = c.in-Ok.ensures.on;
       same = search rules;
