@@ -1,5 +1,5 @@
 -- A name made at the place to which the walk came.
-use Rattle.std.proofs.Common.{◌≡◌, inl, inr, Bool, true, false, ℕ, suc, ◌≤◌, List, [], ◌∷◌, ◌++◌, length, map, slice_get, None, Some, refl, sym, ap, ◌∙◌, subst, arith}
+use Rattle.std.proofs.Common.{◌≡◌, Bool, true, false, ℕ, suc, ◌≤◌, List, [], ◌∷◌, ◌++◌, length, map, slice_get, None, Some, refl, sym, ap, ◌∙◌, subst, arith}
 use Rattle.std.proofs.lemmas.List.Elements.{All-append, Contains-append_left}
 use Rattle.std.specs.FinMap.{get}
 use Rattle.cluster_history.specs.Changes.{is_ok}
@@ -38,7 +38,7 @@ use Rattle.path_walks.proofs.Images.{is_inode, is_shown, unbroken_directory}
 use Rattle.path_walks.proofs.Lists.{parent_of_next}
 use Rattle.file_tree.proofs.WalkLaws.{last_front}
 use Rattle.making_calls.specs.Blocks.{blocks_needed, block_holds, free_in, free_in_all, group_holds, group_of_node, hold_of_group, new_holds}
-use Rattle.making_calls.specs.Drafting.{IsAddition, IsWrongIn, new_tree}
+use Rattle.making_calls.specs.Drafting.{IsAddition, IsWrongIn, of_directory, of_group, of_inode, new_tree}
 use Rattle.making_calls.specs.Drafting as drafting
 use Rattle.making_calls.specs.Making.{IsMaking, IsLastOf, IsReachedIn, IsFound, IsFoundBy, IsTooFew, IsDamage, IsUnbuilt, LacksName, call_holds, directory_path, makes_directory, name_in, path_holds}
 use Rattle.making_calls.specs.Making as damage
@@ -157,11 +157,9 @@ module _ (v : Seen) (c : Call) (is : IsMaking c) (p : Place) (name : List ℕ) (
     module _ (r : Room) (room : IsHeldRoom v r) (change : Change) (added : IsAddition v (makes_directory c) p name r change) where
       all_exclusive : (b : ℕ) (lock : LockName) (plain : Bool) (bytes : List ℕ) → get added.fates b ≡ Some (Put lock plain bytes) → v.state_of lock ≡ Ex
       all_exclusive b lock plain bytes put = elim (added.locks b lock plain bytes put) [
-        | inl e ↦ ap v.state_of e ∙ exclusive (v.state_of (group_lock r.group)) room.group_held
-        | inr later ↦ elim later [
-          | inl e ↦ ap v.state_of e ∙ directory_held v c name p.inode is last leads
-          | inr e ↦ ap v.state_of e ∙ exclusive (v.state_of (inode_lock r.block)) room.inode_held
-        ]
+        | of_group header e ↦ ap v.state_of e ∙ exclusive (v.state_of (group_lock r.group)) room.group_held
+        | of_directory at e ↦ ap v.state_of e ∙ directory_held v c name p.inode is last leads
+        | of_inode at e ↦ ap v.state_of e ∙ exclusive (v.state_of (inode_lock r.block)) room.inode_held
       ]
 
       pub addition_does : ((im : Image) (o : Owners) (l : Layout) (t : Tree) → IsOf v im o l t → IsReachedIn v im o l c p)
