@@ -4,8 +4,9 @@ use Rattle.file_tree.specs.declared.reply.Reply.TheVariants as reply
 use Rattle.image_changes.specs.Does.{Does, IsInside}
 use Rattle.image_changes.proofs.Doing.{nothing_does}
 use Rattle.path_walks.specs.Answers.{IfDone}
-use Rattle.making_calls.specs.Making.{AreInside, IsFound, IsRefusal, IfMade}
+use Rattle.making_calls.specs.Making.{AreInside, IsFound, IsRefusal, IsUnder, IfMade, call_holds}
 use Rattle.making_calls.proofs.Trees.{no_change}
+use Rattle.making_calls.proofs.Under.{nothing_under}
 use Rattle.making_calls.proofs.tries.attempt.Goals.{in-Refused, in-Made, in-NeedBlock, in-NotBuilt, in-NeedLock, in-NoSpace}
 use Rattle.making_calls.proofs.tries.attempt.Goals as goal
 
@@ -34,4 +35,16 @@ returns-clause-inside g c =
       | in-NotBuilt w ↦ subst (λ a. IfDone (Ok a) (λ reply change. AreInside v change)) (sym w.result-is) tt
       | in-NeedLock w ↦ subst (λ a. IfDone (Ok a) (λ reply change. AreInside v change)) (sym w.result-is) tt
       | in-NoSpace w ↦ subst (λ a. IfDone (Ok a) (λ reply change. AreInside v change)) (sym w.result-is) tt
+    ]
+
+pub returns-clause-under : goal.returns-clause-under
+returns-clause-under g c im o l t of =
+    let list = call_holds im o l t c.args.call.now c.args.stamp.now.node in
+    elim c.match-branch-2.branch [
+      | in-Refused w ↦ subst (λ a. IfDone (Ok a) (λ reply change. IsUnder o list change)) (sym w.result-is) (nothing_under o list w.nothing.result w.nothing.ensures.locks w.nothing.ensures.freed)
+      | in-Made w ↦ subst (λ a. IfDone (Ok a) (λ reply change. IsUnder o list change)) (sym w.result-is) (subst (IfMade (IsUnder o list)) w.in-Made.is (c.in_ok-reply.ensures.under im o l t of))
+      | in-NeedBlock w ↦ subst (λ a. IfDone (Ok a) (λ reply change. IsUnder o list change)) (sym w.result-is) tt
+      | in-NotBuilt w ↦ subst (λ a. IfDone (Ok a) (λ reply change. IsUnder o list change)) (sym w.result-is) tt
+      | in-NeedLock w ↦ subst (λ a. IfDone (Ok a) (λ reply change. IsUnder o list change)) (sym w.result-is) tt
+      | in-NoSpace w ↦ subst (λ a. IfDone (Ok a) (λ reply change. IsUnder o list change)) (sym w.result-is) tt
     ]
