@@ -1,7 +1,8 @@
 -- The steps of a draft that makes a name, put together.
-use Rattle.std.proofs.Common.{◌≡◌, ◌≢◌, inl, inr, Bool, true, false, ℕ, ◌+◌, ◌<◌, List, None, Some, refl, sym, ap, ap₂, ◌∙◌, subst, subst₂, arith}
+use Rattle.std.proofs.Common.{◌≡◌, ◌≢◌, ◌⊎◌, inl, inr, Bool, true, false, ℕ, ◌+◌, ◌<◌, List, None, Some, refl, sym, ap, ap₂, ◌∙◌, subst, subst₂, arith}
 use Rattle.std.proofs.lemmas.Bool.{cases_eq}
 use Rattle.std.specs.Prelude.{is_some}
+use Rattle.std.specs.List.{AllByRecursion}
 use Rattle.std.specs.Ordering.{nat_cmp}
 use Rattle.std.specs.FinMap.{FinMap, get, empty, insert, get-empty}
 use Rattle.file_tree.specs.Names.{IsName}
@@ -13,7 +14,7 @@ use Rattle.drafts.specs.declared.fate.Fate.TheVariants.{Put}
 use Rattle.gfs2_layout.specs.Holding.{Holding, alone}
 use Rattle.gfs2_layout.specs.Inode.{Head, IsInode, head_of}
 use Rattle.gfs2_layout.specs.declared.dinode.Dinode.{Dinode}
-use Rattle.glock_names.specs.Views.{Seen, IsView, HasGroup, group_of_entry}
+use Rattle.glock_names.specs.Views.{Seen, IsView, HasGroup, end_of, group_of_entry}
 use Rattle.glock_names.specs.declared.LockName.{LockName}
 use Rattle.glock_names.specs.declared.steps.Entry.{Entry}
 use Rattle.glock_names.specs.declared.views.Group.{Group}
@@ -21,9 +22,10 @@ use Rattle.dinode_tree.specs.Reading.{inode_lock}
 use Rattle.linear_dirs.specs.Shown.{record_for}
 use Rattle.new_inodes.specs.New.{IsInodePut}
 use Rattle.resource_groups.specs.Numbering.{IsNumberPut}
-use Rattle.resource_groups.specs.Putting.{IsPutIn, overlaid}
+use Rattle.resource_groups.specs.Putting.{HasDataBlock, IsPutIn, overlaid}
 use Rattle.resource_groups.specs.Shown.{IsDataOf, group_lock, said}
 use Rattle.resource_groups.specs.Shown as group
+use Rattle.resource_groups.proofs.Fits.{fit_of}
 use Rattle.image_model.specs.Flat.{Path}
 use Rattle.image_model.specs.Groups.{GroupFits}
 use Rattle.image_model.specs.Groups as owned
@@ -31,11 +33,13 @@ use Rattle.image_model.specs.Image.{Image}
 use Rattle.image_model.specs.Owners.{Owners}
 use Rattle.image_model.specs.Stands.{Layout, IsRecordOf, heads_of}
 use Rattle.image_model.proofs.Held.{none_some}
-use Rattle.image_changes.specs.Does.{IsOf}
+use Rattle.image_changes.specs.Does.{IsInside, IsOf}
+use Rattle.image_changes.specs.Drafted.{is_freed, is_gone}
+use Rattle.image_changes.proofs.Inside.{stay_inside}
 use Rattle.draft_changes.specs.Adding.{AddsName, ReadsNew}
 use Rattle.draft_changes.proofs.Views.{groups_are_listed}
 use Rattle.path_walks.specs.declared.walk.Place.{Place}
-use Rattle.making_calls.specs.Drafting.{IsAddition, IsNewOf, IsNumbered, IsPlaceFor, IsRecordPut, IsSaidAndDone, PutsUnder, kind_for, new_tree}
+use Rattle.making_calls.specs.Drafting.{IsAddition, IsNewOf, IsNumbered, IsPlaceFor, IsPutUnder, of_directory, of_group, of_inode, IsRecordPut, IsSaidAndDone, PutsUnder, kind_for, new_tree}
 use Rattle.making_calls.specs.declared.blocks.Room.{Room}
 use Rattle.making_calls.proofs.Chain.{AreSteps, adds_name}
 use Rattle.making_calls.proofs.NewInodes.{directory_reads, directory_record, file_reads, file_record}
@@ -119,39 +123,72 @@ module _ (v : Seen) (is_directory : Bool) (p : Place) (name : List ℕ) (r : Roo
     says5 = λ at shown. subst (λ x. group.IsShown (seen_with v is.fourth) x at → IsPutIn at (overlaid (seen_with v is.said.fates) at) x r.block 3) same (is.said.says at) shown;
   }
 
-  -- each block that was put is under one of the three locks
-  locks : PutsUnder is.said.fates p r
-  locks b lock plain bytes put = elim (cases_eq b r.group.addr) [
-    | inl same ↦ inl (lock_put lock _ plain false bytes _ (sym put ∙ ap (get is.said.fates) same ∙ is.said.header_put))
-    | inr d ↦ elim (cases_eq b (r.group.addr + is.said.part)) [
-      | inl same ↦ inl (lock_put lock _ plain false bytes _ (sym put ∙ ap (get is.said.fates) same ∙ is.said.bits_put))
-      | inr d' ↦ elim (cases_eq b r.block) [
-        | inl same ↦ inr (inr (lock_put lock _ plain false bytes _ (sym put ∙ is.said.others b d d' ∙ ap (get is.fourth) same ∙ ap (λ (m : FinMap nat_cmp Fate). get m r.block) is.put ∙ put_there is.third r.block _)))
-        | inr e ↦ elim (cases_eq b p.inode) [
-          | inl same ↦ inr (inl (lock_put lock _ plain false bytes _ (sym put ∙ is.said.others b d d' ∙ of_fourth b e ∙ ap (get is.third) same ∙ ap (λ (m : FinMap nat_cmp Fate). get m p.inode) is.recorded.put ∙ put_there is.recorded.between p.inode _)))
-          | inr f ↦ absurd (none_some (sym (is.said.others b d d' ∙ of_fourth b e ∙ of_third b f ∙ of_first b d) ∙ put))
+  -- each other block stays
+  of_fourth : (b : ℕ) → b ≢ r.block → get is.fourth b ≡ get is.third b
+  of_fourth b e = ap (λ (m : FinMap nat_cmp Fate). get m b) is.put ∙ put_elsewhere is.third r.block _ b e
+
+  of_third : (b : ℕ) → b ≢ p.inode → get is.third b ≡ get is.first b
+  of_third b f =
+      ap (λ (m : FinMap nat_cmp Fate). get m b) is.recorded.put ∙ put_elsewhere is.recorded.between p.inode _ b f
+      ∙ ap (λ (m : FinMap nat_cmp Fate). get m b) is.recorded.times_put ∙ put_elsewhere is.first p.inode _ b f
+
+  of_first : (b : ℕ) → b ≢ r.group.addr → get is.first b ≡ None
+  of_first b d = ap (λ (m : FinMap nat_cmp Fate). get m b) is.numbered.put ∙ put_elsewhere empty r.group.addr _ b d ∙ get-empty nat_cmp b
+
+  -- what becomes of a block: nothing, or it is put under one of the three locks
+  abbrev IsPutSo : ℕ → Type 0
+  IsPutSo b = (lock : LockName) × (bytes : List ℕ) × (get is.said.fates b ≡ Some (Put lock false bytes)) × IsPutUnder p r b lock
+
+  module _ (shows : IsView v) (has : HasGroup v r.group) where
+    what : (b : ℕ) → (get is.said.fates b ≡ None) ⊎ IsPutSo b
+    what b = let fit = fit_of v r.group shows has in elim (cases_eq b r.group.addr) [
+      | inl same ↦ inr (group_lock r.group, is.said.header, ap (get is.said.fates) same ∙ is.said.header_put, of_group (record { low = omega (arith, same); high = omega (arith, same, fit.some) }) refl)
+      | inr d ↦ elim (cases_eq b (r.group.addr + is.said.part)) [
+        | inl same ↦ inr (group_lock r.group, is.said.bits, ap (get is.said.fates) same ∙ is.said.bits_put, of_group (record { low = omega (arith, same); high = omega (arith, same, is.said.within) }) refl)
+        | inr d' ↦ elim (cases_eq b r.block) [
+          | inl same ↦ inr (
+            inode_lock r.block,
+            is.bytes,
+            is.said.others b d d' ∙ ap (get is.fourth) same ∙ ap (λ (m : FinMap nat_cmp Fate). get m r.block) is.put ∙ put_there is.third r.block _,
+            of_inode same refl,
+          )
+          | inr e ↦ elim (cases_eq b p.inode) [
+            | inl same ↦ inr (
+              inode_lock p.inode,
+              is.recorded.bytes,
+              is.said.others b d d' ∙ of_fourth b e ∙ ap (get is.third) same ∙ ap (λ (m : FinMap nat_cmp Fate). get m p.inode) is.recorded.put ∙ put_there is.recorded.between p.inode _,
+              of_directory same refl,
+            )
+            | inr f ↦ inl (is.said.others b d d' ∙ of_fourth b e ∙ of_third b f ∙ of_first b d)
+          ]
         ]
       ]
     ]
-  ]
-    where
-      of_fourth : (b : ℕ) → b ≢ r.block → get is.fourth b ≡ get is.third b
-      of_fourth b e = ap (λ (m : FinMap nat_cmp Fate). get m b) is.put ∙ put_elsewhere is.third r.block _ b e
 
-      of_third : (b : ℕ) → b ≢ p.inode → get is.third b ≡ get is.first b
-      of_third b f =
-          ap (λ (m : FinMap nat_cmp Fate). get m b) is.recorded.put ∙ put_elsewhere is.recorded.between p.inode _ b f
-          ∙ ap (λ (m : FinMap nat_cmp Fate). get m b) is.recorded.times_put ∙ put_elsewhere is.first p.inode _ b f
+    locks : PutsUnder is.said.fates p r
+    locks b lock plain bytes put = elim (what b) [
+      | inl none ↦ absurd (none_some (sym none ∙ put))
+      | inr so ↦ subst (IsPutUnder p r b) (lock_put so.0 lock false plain so.1 bytes (sym so.2 ∙ put)) so.3
+    ]
 
-      of_first : (b : ℕ) → b ≢ r.group.addr → get is.first b ≡ None
-      of_first b d = ap (λ (m : FinMap nat_cmp Fate). get m b) is.numbered.put ∙ put_elsewhere empty r.group.addr _ b d ∙ get-empty nat_cmp b
+    none_freed : (b : ℕ) → is_freed is.said.fates b ≡ false
+    none_freed b = elim (what b) [ inl none ↦ ap is_gone none | inr so ↦ ap is_gone so.2 ]
 
-  module _ (is_name : IsName name) (has : HasGroup v r.group) (data_block : IsDataOf r.group r.block) where
+    -- each block that is put lies in one of the view's groups
+    in_groups : HasDataBlock v p.inode → IsDataOf r.group r.block → (b : ℕ) (lock : LockName) → IsPutUnder p r b lock → (g : Group) × HasGroup v g × (b < end_of g)
+    in_groups inside data_block b lock (of_group header same) = let fit = fit_of v r.group shows has in (r.group, has, omega (arith, header.high, fit.first))
+    in_groups inside data_block b lock (of_directory here same) = (inside.0, inside.1, subst (λ x. x < end_of inside.0) (sym here) inside.2.high)
+    in_groups inside data_block b lock (of_inode here same) = (r.group, has, subst (λ x. x < end_of r.group) (sym here) data_block.high)
+
+    insides : HasDataBlock v p.inode → IsDataOf r.group r.block → AllByRecursion (IsInside v) change.blocks.items
+    insides inside data_block = stay_inside v is.said.fates change is.said.finished is.said.whole (λ b lock plain bytes put. in_groups inside data_block b lock (locks b lock plain bytes put))
+
+  module _ (is_name : IsName name) (has : HasGroup v r.group) (data_block : IsDataOf r.group r.block) (shows : IsView v) (inside : HasDataBlock v p.inode) where
     adds : (im : Image) (o : Owners) (l : Layout) (t : Tree) (path : Path) → IsOf v im o l t → IsPlaceFor im o l path name p r → AddsName im o l is.said.fates p.inode name r.block (new_tree is_directory)
     adds im o l t path of place =
         let f = (groups_are_listed v im o l t r.group of).0 has in
-        let inside : IsDataOf (group_of_entry f.0) r.block = subst (λ k. IsDataOf k r.block) f.2 data_block in
-        let own : owned.IsDataOf f.0 r.block = record { low = inside.low; high = inside.high } in
+        let within : IsDataOf (group_of_entry f.0) r.block = subst (λ k. IsDataOf k r.block) f.2 data_block in
+        let own : owned.IsDataOf f.0 r.block = record { low = within.low; high = within.high } in
         let fits : GroupFits im f.0 = of.stands.laid.fit.each f.0 f.1 in
         let free = subst (λ k. said im.at k r.block ≡ 0) f.2 place.free in
         let new : New (alone im.size im.count r.block is.bytes) = subst (λ size. New (alone size im.count r.block is.bytes)) (sym of.size) (is.new im.count (omega (arith, own.high, fits.inside))) in
@@ -167,7 +204,15 @@ module _ (v : Seen) (is_directory : Bool) (p : Place) (name : List ℕ) (r : Roo
         head n b = record { number = n; is_dir = b }
 
     pub addition_is : IsAddition v is_directory p name r change
-    addition_is = record { fates = is.said.fates; finished = is.said.finished; locks = locks; some = ap (λ f. is_some (block_with f None)) is.said.header_put; adds = adds }
+    addition_is = record {
+      fates = is.said.fates;
+      finished = is.said.finished;
+      locks = locks shows has;
+      some = ap (λ f. is_some (block_with f None)) is.said.header_put;
+      none_freed = none_freed shows has;
+      inside = insides shows has inside data_block;
+      adds = adds;
+    }
 
 -- ---- by the code's drafts, one after another
 

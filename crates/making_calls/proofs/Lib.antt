@@ -12,4 +12,5 @@ pub mod Adding
 pub mod Trees
 pub mod Rooms
 pub mod Wanted
+pub mod Under
 pub mod Taking

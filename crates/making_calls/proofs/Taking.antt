@@ -1,7 +1,8 @@
 -- A name made at the place to which the walk came.
-use Rattle.std.proofs.Common.{◌≡◌, inl, inr, Bool, true, false, ℕ, suc, ◌≤◌, List, [], ◌∷◌, ◌++◌, length, map, slice_get, None, Some, refl, sym, ap, ◌∙◌, subst, arith}
+use Rattle.std.proofs.Common.{◌≡◌, inl, Bool, true, false, true≢false, ℕ, suc, ◌≤◌, List, [], ◌∷◌, ◌++◌, length, map, slice_get, None, Some, refl, sym, ap, ◌∙◌, subst, arith}
 use Rattle.std.proofs.lemmas.List.Elements.{All-append, Contains-append_left}
 use Rattle.std.specs.FinMap.{get}
+use Rattle.std.specs.Prelude.{Contains}
 use Rattle.cluster_history.specs.Changes.{is_ok}
 use Rattle.file_tree.specs.Apply.{apply, Answer, put_at}
 use Rattle.file_tree.specs.Names.{IsName, parent_of, last_of}
@@ -26,19 +27,21 @@ use Rattle.resource_groups.specs.Shown.{IsMissing, group_lock, said}
 use Rattle.image_model.specs.Image.{Image}
 use Rattle.image_model.specs.Owners.{Owners, holding}
 use Rattle.image_model.specs.Stands.{Layout}
+use Rattle.image_model.proofs.Members.{IsIn, contained, in_left, in_right, is_in}
 use Rattle.image_changes.specs.Does.{IsOf, Does}
 use Rattle.image_changes.specs.Flats.{in_directory}
 use Rattle.image_changes.proofs.Drafting.{drafts_do}
+use Rattle.image_changes.proofs.Finishing.{finish_makes}
 use Rattle.draft_changes.proofs.Added.{adding_makes}
-use Rattle.path_walks.specs.Holds.{Hold, AreHeld, IsAskedFor, IsFirstLack, holds}
+use Rattle.path_walks.specs.Holds.{Hold, AreHeld, IsAskedFor, IsFirstLack, hold_for, hold_of, holds}
 use Rattle.path_walks.specs.Walks.{LeadsTo, IsSeenAt}
 use Rattle.path_walks.specs.Walks as path
 use Rattle.path_walks.specs.declared.walk.Place.{Place}
 use Rattle.path_walks.proofs.Images.{is_inode, is_shown, unbroken_directory}
 use Rattle.path_walks.proofs.Lists.{parent_of_next}
 use Rattle.file_tree.proofs.WalkLaws.{last_front}
-use Rattle.making_calls.specs.Blocks.{blocks_needed, block_holds, free_in, free_in_all, group_holds, group_of_node, hold_of_group, new_holds}
-use Rattle.making_calls.specs.Drafting.{IsAddition, IsWrongIn, new_tree}
+use Rattle.making_calls.specs.Blocks.{blocks_needed, block_holds, free_for, free_in, free_in_all, group_holds, group_of_node, hold_of_group, new_holds}
+use Rattle.making_calls.specs.Drafting.{IsAddition, IsPutUnder, IsWrongIn, of_directory, of_group, of_inode, new_tree}
 use Rattle.making_calls.specs.Drafting as drafting
 use Rattle.making_calls.specs.Making.{IsMaking, IsLastOf, IsReachedIn, IsFound, IsFoundBy, IsTooFew, IsDamage, IsUnbuilt, LacksName, call_holds, directory_path, makes_directory, name_in, path_holds}
 use Rattle.making_calls.specs.Making as damage
@@ -52,6 +55,7 @@ use Rattle.making_calls.proofs.Holds.{empty_list, lack_behind, rest_all}
 use Rattle.making_calls.proofs.InImage.{all_said, are_shown, asked_behind, group_asked}
 use Rattle.making_calls.proofs.Rooms.{IsHeldRoom, block_under, dinode_inside, exclusive, group_sound, held_before, new_are, own_of}
 use Rattle.making_calls.proofs.Trees.{changes, takes, taken_list}
+use Rattle.making_calls.proofs.Under.{directory_listed, each_lock}
 use Rattle.making_calls.proofs.Wanted.{directory_held}
 
 later_held : (v : Seen) (x : Hold) (xs : List Hold) → AreHeld v (x ∷ xs) → AreHeld v xs
@@ -146,6 +150,31 @@ module _ (v : Seen) (c : Call) (is : IsMaking c) (p : Place) (name : List ℕ) (
         pub placed : drafting.IsPlaceFor im o l (directory_path c) name p r
         placed = record { at = reached.place.at; directory = here.linear.directory; dinode = reached.place.dinode; absent = here.absent; free = room_found.1.0.free }
 
+        -- the locks that the change touches are of the list
+        pub under : (change : Change) → IsAddition v (makes_directory c) p name r change → damage.IsUnder o (call_holds im o l t c node) change
+        under change added = subst (λ list. damage.IsUnder o list change) (sym whole) (record {
+          written = each_lock added.fates change added.finished (λ lock. Contains (path_holds im o l c ++ new) (record { lock = lock; state = Ex }))
+              (λ b lock plain bytes put. contained (record { lock = lock; state = Ex }) (path_holds im o l c ++ new) (listed b lock (added.locks b lock plain bytes put)));
+          freed = λ b a gone its. absurd (true≢false (sym gone ∙ (finish_makes added.fates change added.finished).gone b ∙ added.none_freed b));
+        })
+          where
+            groups : List Hold
+            groups = group_holds (said im.at) v.groups own.0
+
+            last_one : List Hold
+            last_one = hold_for (slice_get (free_for (said im.at) v.groups own.0) 0) Ex
+
+            listed : (b : ℕ) (lock : LockName) → IsPutUnder p r b lock → IsIn (record { lock = lock; state = Ex }) (path_holds im o l c ++ new)
+            listed b lock (of_group header e) =
+                in_right (record { lock = lock; state = Ex }) (path_holds im o l c) new (in_left (record { lock = lock; state = Ex }) groups last_one
+                (subst (λ k. IsIn (record { lock = k; state = Ex }) groups) (sym e) (is_in (hold_of_group r.group) groups room_found.1.1)))
+            listed b lock (of_directory at e) =
+                in_left (record { lock = lock; state = Ex }) (path_holds im o l c) new
+                (subst (λ k. IsIn (record { lock = k; state = Ex }) (path_holds im o l c)) (sym e) (directory_listed im o l c name is last p.inode reached.place.at))
+            listed b lock (of_inode at e) =
+                in_right (record { lock = lock; state = Ex }) (path_holds im o l c) new (in_right (record { lock = lock; state = Ex }) groups last_one
+                (subst (λ k. IsIn (record { lock = k; state = Ex }) last_one) (sym e) (subst (λ x. IsIn (hold_of r.block Ex) (hold_for x Ex)) (sym room_found.1.0.first) (inl refl))))
+
   -- ---- as far as the view shows
 
   module _ (leads : LeadsTo v (wanted c) (directory_path c) p.inode) where
@@ -157,11 +186,9 @@ module _ (v : Seen) (c : Call) (is : IsMaking c) (p : Place) (name : List ℕ) (
     module _ (r : Room) (room : IsHeldRoom v r) (change : Change) (added : IsAddition v (makes_directory c) p name r change) where
       all_exclusive : (b : ℕ) (lock : LockName) (plain : Bool) (bytes : List ℕ) → get added.fates b ≡ Some (Put lock plain bytes) → v.state_of lock ≡ Ex
       all_exclusive b lock plain bytes put = elim (added.locks b lock plain bytes put) [
-        | inl e ↦ ap v.state_of e ∙ exclusive (v.state_of (group_lock r.group)) room.group_held
-        | inr later ↦ elim later [
-          | inl e ↦ ap v.state_of e ∙ directory_held v c name p.inode is last leads
-          | inr e ↦ ap v.state_of e ∙ exclusive (v.state_of (inode_lock r.block)) room.inode_held
-        ]
+        | of_group header e ↦ ap v.state_of e ∙ exclusive (v.state_of (group_lock r.group)) room.group_held
+        | of_directory at e ↦ ap v.state_of e ∙ directory_held v c name p.inode is last leads
+        | of_inode at e ↦ ap v.state_of e ∙ exclusive (v.state_of (inode_lock r.block)) room.inode_held
       ]
 
       pub addition_does : ((im : Image) (o : Owners) (l : Layout) (t : Tree) → IsOf v im o l t → IsReachedIn v im o l c p)

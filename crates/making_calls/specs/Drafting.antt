@@ -1,5 +1,6 @@
 -- What a draft that makes a name makes: a number is given, the directory gets times and a record, the new inode is put, and its group says so.
-use Rattle.std.specs.Prelude.{ℕ, ◌≡◌, ◌≢◌, ◌⊎◌, ◌+◌, ◌<◌, Bool, true, false, List, [], ◌∷◌, None, Some}
+use Rattle.std.specs.Prelude.{ℕ, ◌≡◌, ◌≢◌, ◌+◌, ◌<◌, Bool, true, false, List, [], ◌∷◌, None, Some}
+use Rattle.std.specs.List.{AllByRecursion}
 use Rattle.std.specs.Ordering.{nat_cmp}
 use Rattle.std.specs.FinMap.{FinMap, empty, get, insert}
 use Rattle.file_tree.specs.Tree.{Tree, file, dir, none}
@@ -22,14 +23,14 @@ use Rattle.new_inodes.specs.New.{IsNewDirectory, IsNewFile}
 use Rattle.new_inodes.specs.Touched.{IsTouched}
 use Rattle.resource_groups.specs.Numbering.{IsNumberPut}
 use Rattle.resource_groups.specs.Putting.{IsPutIn, overlaid}
-use Rattle.resource_groups.specs.Shown.{group_lock, said}
+use Rattle.resource_groups.specs.Shown.{IsHeaderOf, group_lock, said}
 use Rattle.resource_groups.specs.Shown as group
 use Rattle.image_model.specs.Flat.{Path}
 use Rattle.image_model.specs.Image.{Image}
 use Rattle.image_model.specs.Owners.{Owners}
 use Rattle.image_model.specs.Stands.{Layout}
-use Rattle.image_changes.specs.Does.{IsOf}
-use Rattle.image_changes.specs.Drafted.{IsFinished, is_put}
+use Rattle.image_changes.specs.Does.{IsInside, IsOf}
+use Rattle.image_changes.specs.Drafted.{IsFinished, is_freed, is_put}
 use Rattle.image_changes.specs.Instances.{IsAt, dinode_at, is_directory_at, records_at}
 use Rattle.draft_changes.specs.Adding.{AddsName}
 use Rattle.path_walks.specs.declared.walk.Place.{Place}
@@ -97,18 +98,25 @@ pub record IsPlaceFor (im : Image) (o : Owners) (l : Layout) (path : Path) (name
   pub absent : child_named (records_at im o p.inode) name ≡ None
   pub free : said im.at r.group r.block ≡ 0
 
--- each block that is put is under one of three locks: that of the group, of the directory, or of the new inode
-abbrev pub PutsUnder : FinMap nat_cmp Fate → Place → Room → Type 0
-PutsUnder fates p r = (b : ℕ) (lock : LockName) (plain : Bool) (bytes : List ℕ) → get fates b ≡ Some (Put lock plain bytes)
-    → (lock ≡ group_lock r.group) ⊎ ((lock ≡ inode_lock p.inode) ⊎ (lock ≡ inode_lock r.block))
+-- a block that is put is of the group's header and bitmap, under the group's lock, or the directory's dinode or the new inode's, each under
+-- its own
+pub data IsPutUnder (p : Place) (r : Room) (b : ℕ) (lock : LockName) : Type 0 where
+  of_group : IsHeaderOf r.group b → lock ≡ group_lock r.group → IsPutUnder p r b lock
+  of_directory : b ≡ p.inode → lock ≡ inode_lock p.inode → IsPutUnder p r b lock
+  of_inode : b ≡ r.block → lock ≡ inode_lock r.block → IsPutUnder p r b lock
 
--- The change is that of a draft that puts the group's header, and all under these locks, and adds the name in each image that the view may
--- be of.
+abbrev pub PutsUnder : FinMap nat_cmp Fate → Place → Room → Type 0
+PutsUnder fates p r = (b : ℕ) (lock : LockName) (plain : Bool) (bytes : List ℕ) → get fates b ≡ Some (Put lock plain bytes) → IsPutUnder p r b lock
+
+-- The change is that of a draft that puts the group's header, and all under these locks and inside the view's groups, frees nothing, and adds the
+-- name in each image that the view may be of.
 pub record IsAddition (v : Seen) (is_directory : Bool) (p : Place) (name : List ℕ) (r : Room) (change : Change) : Type 0 where
   pub fates : FinMap nat_cmp Fate
   pub finished : IsFinished fates change
   pub locks : PutsUnder fates p r
   pub some : is_put fates r.group.addr ≡ true
+  pub none_freed : (b : ℕ) → is_freed fates b ≡ false
+  pub inside : AllByRecursion (IsInside v) change.blocks.items
   pub adds : (im : Image) (o : Owners) (l : Layout) (t : Tree) (path : Path) → IsOf v im o l t → IsPlaceFor im o l path name p r
       → AddsName im o l fates p.inode name r.block (new_tree is_directory)
 

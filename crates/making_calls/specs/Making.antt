@@ -1,6 +1,6 @@
 -- The calls that make a name: what they answer, under which locks.
-use Rattle.std.specs.Prelude.{ℕ, ◌≡◌, ◌<◌, ⊤, Bool, true, false, if◌then◌else◌, List, [], ◌∷◌, ◌++◌, length, map, None}
-use Rattle.std.specs.List.{list_any}
+use Rattle.std.specs.Prelude.{ℕ, ◌≡◌, ◌<◌, ⊤, Bool, true, false, if◌then◌else◌, List, [], ◌∷◌, ◌++◌, length, map, Contains, None, Some}
+use Rattle.std.specs.List.{AllByRecursion, list_any}
 use Rattle.file_tree.specs.Names.{parent_of, last_of}
 use Rattle.file_tree.specs.Tree.{Tree}
 use Rattle.file_tree.specs.Apply.{apply}
@@ -15,6 +15,8 @@ use Rattle.gfs2_layout.specs.Inode.{is_hashed_in, linear_area, records_of}
 use Rattle.gfs2_layout.specs.Putting.{has_room, least_length}
 use Rattle.gfs2_layout.specs.Records.{child_named}
 use Rattle.glock_names.specs.Views.{Seen, HasBlock, group_of_entry}
+use Rattle.glock_names.specs.declared.LockName.{LockName}
+use Rattle.glock_names.specs.declared.State.TheVariants.{Ex}
 use Rattle.call_locks.specs.Wants.{wanted}
 use Rattle.call_locks.specs.WantLaws.{path_of}
 use Rattle.dinode_tree.specs.Shown.{IsShown}
@@ -23,7 +25,9 @@ use Rattle.image_model.specs.Flat.{Path}
 use Rattle.image_model.specs.Image.{Image}
 use Rattle.image_model.specs.Owners.{Owners}
 use Rattle.image_model.specs.Stands.{Layout}
-use Rattle.path_walks.specs.Holds.{Hold, AreHeld, IsAskedFor, IsFirstLack, holds, holds_in}
+use Rattle.image_changes.specs.Changes.{inode_of}
+use Rattle.image_changes.specs.Does.{IsInside, frees}
+use Rattle.path_walks.specs.Holds.{Hold, AreHeld, IsAskedFor, IsFirstLack, hold_of, holds, holds_in}
 use Rattle.path_walks.specs.declared.walk.Place.{Place}
 use Rattle.path_walks.specs.Walks.{LeadsTo, IsLinearDirectory, IsOnTheWay, IsPlaceOf, IsWrong}
 use Rattle.path_walks.specs.Walks as path
@@ -121,6 +125,15 @@ abbrev pub IsInTheWay : Seen → Found → Type 0
 IsInTheWay v (found.NeedLock lock state) = holds v (record { lock = lock; state = state }) ≡ false
 IsInTheWay v (found.NeedBlock m) = v.block_at m.block ≡ None
 IsInTheWay v f = ⊤
+
+-- what the change writes lies in the view's groups
+abbrev pub AreInside : Seen → Change → Type 0
+AreInside v change = AllByRecursion (IsInside v) change.blocks.items
+
+-- each lock with which the change writes a block, and that of the inode of each block that it frees, is of the list, exclusive
+pub record IsUnder (o : Owners) (list : List Hold) (change : Change) : Type 0 where
+  pub written : (lock : LockName) → Contains change.locks.items lock → Contains list (record { lock = lock; state = Ex })
+  pub freed : (b a : ℕ) → frees change b ≡ true → inode_of b (o b) ≡ Some a → Contains list (hold_of a Ex)
 
 -- what a refusal is not
 abbrev pub IsRefusal : Found → Type 0

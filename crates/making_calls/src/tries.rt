@@ -17,7 +17,7 @@ ghost use Rattle.image_changes.specs.Does.{IsOf, Does};
 ghost use Rattle.path_walks.specs.Answers.{IfDone, IfNeedLock, IfNeedBlock, IfNoSpace, IfNotBuilt};
 ghost use Rattle.path_walks.specs.Holds.{AreHeld, IsAskedFor, IsFirstLack, holds};
 ghost use Rattle.path_walks.specs.Walks.{IsSeenAt};
-ghost use Rattle.making_calls.specs.Making.{IfMade, IfNotBuilt as IfUnbuilt, IsDamage, IsFound, IsInTheWay, IsLastOf, IsMaking, IsReachedIn, IsRefusal, IsTooFew, IsUnbuilt, LacksName, call_holds, directory_path, makes_directory};
+ghost use Rattle.making_calls.specs.Making.{AreInside, IfMade, IfNotBuilt as IfUnbuilt, IsDamage, IsFound, IsInTheWay, IsLastOf, IsMaking, IsReachedIn, IsRefusal, IsTooFew, IsUnbuilt, IsUnder, LacksName, call_holds, directory_path, makes_directory};
 
 use crate::blocks::{Locked, Taken, find_block};
 use crate::drafting::{addition, is_a_view};
@@ -85,6 +85,8 @@ fn make_at<V: View>(
     requires node { 1 ≤ stamp.now.node }
     ensures found { (im : Image) (o : Owners) (l : Layout) (t : Tree) → IsOf (V.seen view.now) im o l t → IfOk result (IsFound (V.seen view.now) im o l t call.now stamp.now.node) }
     ensures done { IfOk result (IfMade (Does (V.seen view.now) call.now OkReply)) }
+    ensures inside { IfOk result (IfMade (AreInside (V.seen view.now))) }
+    ensures under { (im : Image) (o : Owners) (l : Layout) (t : Tree) → IsOf (V.seen view.now) im o l t → IfOk result (IfMade (IsUnder o (call_holds im o l t call.now stamp.now.node))) }
     ensures refusal { IfOk result IsRefusal }
     ensures way { IfOk result (IsInTheWay (V.seen view.now)) }
     ensures hashed { IfOk result (IfUnbuilt (IsUnbuilt (V.seen view.now) call.now)) }
@@ -137,6 +139,8 @@ fn find_at<V: View>(
     requires node { 1 ≤ stamp.now.node }
     ensures found { (im : Image) (o : Owners) (l : Layout) (t : Tree) → IsOf (V.seen view.now) im o l t → IfOk result (IsFound (V.seen view.now) im o l t call.now stamp.now.node) }
     ensures done { IfOk result (IfMade (Does (V.seen view.now) call.now OkReply)) }
+    ensures inside { IfOk result (IfMade (AreInside (V.seen view.now))) }
+    ensures under { (im : Image) (o : Owners) (l : Layout) (t : Tree) → IsOf (V.seen view.now) im o l t → IfOk result (IfMade (IsUnder o (call_holds im o l t call.now stamp.now.node))) }
     ensures refusal { IfOk result IsRefusal }
     ensures way { IfOk result (IsInTheWay (V.seen view.now)) }
     ensures hashed { IfOk result (IfUnbuilt (IsUnbuilt (V.seen view.now) call.now)) }
@@ -164,6 +168,8 @@ fn find<V: View>(alloc: Global, view: &V, call: &Call, stamp: &Stamp) -> Result<
     requires node { 1 ≤ stamp.now.node }
     ensures found { (im : Image) (o : Owners) (l : Layout) (t : Tree) → IsOf (V.seen view.now) im o l t → IfOk result (IsFound (V.seen view.now) im o l t call.now stamp.now.node) }
     ensures done { IfOk result (IfMade (Does (V.seen view.now) call.now OkReply)) }
+    ensures inside { IfOk result (IfMade (AreInside (V.seen view.now))) }
+    ensures under { (im : Image) (o : Owners) (l : Layout) (t : Tree) → IsOf (V.seen view.now) im o l t → IfOk result (IfMade (IsUnder o (call_holds im o l t call.now stamp.now.node))) }
     ensures refusal { IfOk result IsRefusal }
     ensures way { IfOk result (IsInTheWay (V.seen view.now)) }
     ensures hashed { IfOk result (IfUnbuilt (IsUnbuilt (V.seen view.now) call.now)) }
@@ -199,6 +205,8 @@ pub fn attempt<V: View>(
     requires groups { 1 ≤ length (V.seen view.now).groups }
     requires node { 1 ≤ stamp.now.node }
     ensures done { IfDone result (Does (V.seen view.now) call.now) }
+    ensures inside { IfDone result (λ reply change. AreInside (V.seen view.now) change) }
+    ensures under { (im : Image) (o : Owners) (l : Layout) (t : Tree) → IsOf (V.seen view.now) im o l t → IfDone result (λ reply change. IsUnder o (call_holds im o l t call.now stamp.now.node) change) }
     ensures held { (im : Image) (o : Owners) (l : Layout) (t : Tree) → IsOf (V.seen view.now) im o l t → IfDone result (λ reply change. AreHeld (V.seen view.now) (call_holds im o l t call.now stamp.now.node)) }
     ensures lock { (im : Image) (o : Owners) (l : Layout) (t : Tree) → IsOf (V.seen view.now) im o l t → IfNeedLock result (IsFirstLack (V.seen view.now) (call_holds im o l t call.now stamp.now.node)) }
     ensures block { (im : Image) (o : Owners) (l : Layout) (t : Tree) → IsOf (V.seen view.now) im o l t → IfNeedBlock result (IsAskedFor (V.seen view.now) im o l (call_holds im o l t call.now stamp.now.node)) }

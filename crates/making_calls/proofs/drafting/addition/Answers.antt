@@ -150,7 +150,7 @@ returns-in-Is-2-clause-added g c =
     addition_is v c.args.is_directory c.args.place.now c.args.name.now c.args.room.now c.in-Is-2.change
     (done_is g.V.View.seen c.args.view.now c.new-draft.result d1 c.new-draft.ensures same c.args.is_directory c.args.place.now c.args.name.now c.args.room.now c.in-Is-2.change c.in-Is.number c.args.stamp.now.time c.kind_of_new.result d3 d4
     c.kind_of_new.ensures (answer_at _ _ _ c.in-Is.is c.in_ok-number.ensures.numbered) named (c.in_ok-done.ensures.view done) put c.in_ok-change.ensures.view said)
-    c.bytes.ensures.name c.requires.group c.requires.block
+    c.bytes.ensures.name c.requires.group c.requires.block c.is_a_view.ensures c.requires.inside
 
 pub returns-in_err-change-clause-damaged : goal.returns-in_err-change-clause-damaged
 returns-in_err-change-clause-damaged g c =

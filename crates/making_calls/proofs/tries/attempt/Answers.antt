@@ -1,10 +1,12 @@
 use Rattle.std.proofs.Common.{Ok, sym, subst}
+use Rattle.std.specs.List.{AllByRecursion}
 use Rattle.file_tree.specs.declared.reply.Reply.TheVariants as reply
-use Rattle.image_changes.specs.Does.{Does}
+use Rattle.image_changes.specs.Does.{Does, IsInside}
 use Rattle.image_changes.proofs.Doing.{nothing_does}
 use Rattle.path_walks.specs.Answers.{IfDone}
-use Rattle.making_calls.specs.Making.{IsFound, IsRefusal, IfMade}
+use Rattle.making_calls.specs.Making.{AreInside, IsFound, IsRefusal, IsUnder, IfMade, call_holds}
 use Rattle.making_calls.proofs.Trees.{no_change}
+use Rattle.making_calls.proofs.Under.{nothing_under}
 use Rattle.making_calls.proofs.tries.attempt.Goals.{in-Refused, in-Made, in-NeedBlock, in-NotBuilt, in-NeedLock, in-NoSpace}
 use Rattle.making_calls.proofs.tries.attempt.Goals as goal
 
@@ -21,4 +23,28 @@ returns-clause-done g c =
       | in-NotBuilt w ↦ subst (λ a. IfDone (Ok a) (Does v c.args.call.now)) (sym w.result-is) tt
       | in-NeedLock w ↦ subst (λ a. IfDone (Ok a) (Does v c.args.call.now)) (sym w.result-is) tt
       | in-NoSpace w ↦ subst (λ a. IfDone (Ok a) (Does v c.args.call.now)) (sym w.result-is) tt
+    ]
+
+pub returns-clause-inside : goal.returns-clause-inside
+returns-clause-inside g c =
+    let v = g.V.View.seen c.args.view.now in
+    elim c.match-branch-2.branch [
+      | in-Refused w ↦ subst (λ a. IfDone (Ok a) (λ reply change. AreInside v change)) (sym w.result-is) (subst (AllByRecursion (IsInside v)) (sym w.nothing.ensures.blocks) tt)
+      | in-Made w ↦ subst (λ a. IfDone (Ok a) (λ reply change. AreInside v change)) (sym w.result-is) (subst (IfMade (AreInside v)) w.in-Made.is c.in_ok-reply.ensures.inside)
+      | in-NeedBlock w ↦ subst (λ a. IfDone (Ok a) (λ reply change. AreInside v change)) (sym w.result-is) tt
+      | in-NotBuilt w ↦ subst (λ a. IfDone (Ok a) (λ reply change. AreInside v change)) (sym w.result-is) tt
+      | in-NeedLock w ↦ subst (λ a. IfDone (Ok a) (λ reply change. AreInside v change)) (sym w.result-is) tt
+      | in-NoSpace w ↦ subst (λ a. IfDone (Ok a) (λ reply change. AreInside v change)) (sym w.result-is) tt
+    ]
+
+pub returns-clause-under : goal.returns-clause-under
+returns-clause-under g c im o l t of =
+    let list = call_holds im o l t c.args.call.now c.args.stamp.now.node in
+    elim c.match-branch-2.branch [
+      | in-Refused w ↦ subst (λ a. IfDone (Ok a) (λ reply change. IsUnder o list change)) (sym w.result-is) (nothing_under o list w.nothing.result w.nothing.ensures.locks w.nothing.ensures.freed)
+      | in-Made w ↦ subst (λ a. IfDone (Ok a) (λ reply change. IsUnder o list change)) (sym w.result-is) (subst (IfMade (IsUnder o list)) w.in-Made.is (c.in_ok-reply.ensures.under im o l t of))
+      | in-NeedBlock w ↦ subst (λ a. IfDone (Ok a) (λ reply change. IsUnder o list change)) (sym w.result-is) tt
+      | in-NotBuilt w ↦ subst (λ a. IfDone (Ok a) (λ reply change. IsUnder o list change)) (sym w.result-is) tt
+      | in-NeedLock w ↦ subst (λ a. IfDone (Ok a) (λ reply change. IsUnder o list change)) (sym w.result-is) tt
+      | in-NoSpace w ↦ subst (λ a. IfDone (Ok a) (λ reply change. IsUnder o list change)) (sym w.result-is) tt
     ]
