@@ -24,7 +24,7 @@ use Rattle.drafts.specs.declared.change.Change.{Change}
 use Rattle.drafts.specs.declared.change.Written.{Written}
 use Rattle.glock_names.specs.declared.State.TheVariants.{Ex}
 use Rattle.writing_calls.specs.Writing as writing
-use Rattle.file_calls.specs.Calls.{AreInside, call_holds}
+use Rattle.file_calls.specs.Calls.{AreInside, IsTooFew, call_holds}
 use Rattle.read_calls.specs.Reading.{IsReading, IsNeededFor, on_path, at_end}
 use Rattle.call_locks.specs.WantLaws.{path_of}
 use Rattle.call_locks.specs.Wants.{wanted}
@@ -32,6 +32,7 @@ use Rattle.cluster_history.specs.Changes.{is_ok, may_change}
 use Rattle.file_tree.specs.Tree.{Tree}
 use Rattle.file_tree.specs.declared.reply.Reply.{Reply}
 use Rattle.file_tree.specs.declared.reply.Reply.TheVariants as reply
+use Rattle.making_calls.specs.Making as making
 use Rattle.path_walks.specs.Holds.{Hold, holds_in}
 use Rattle.removing_calls.specs.Removing.{IsRemoving, IsUnder, holds_for}
 use Rattle.removing_calls.specs.Removing as removing
@@ -234,3 +235,35 @@ writing_under v o list (call.Rmdir p) time r change is does answered under = abs
 writing_under v o list (call.Dread p at count) time r change is does answered under = absurd is
 writing_under v o list (call.Truncate p size) time r change is does answered under = absurd is
 writing_under v o list (call.Rename p q) time r change is does answered under = absurd is
+
+-- ---- a call that makes a name
+
+module _ (im : Image) (o : Owners) (l : Layout) (t : Tree) (node : ℕ) where
+  pub making_holds : (c : Call) → making.IsMaking c → call_holds im o l t c node ≡ making.call_holds im o l t c node
+  making_holds (call.Create p) is = refl
+  making_holds (call.Mkdir p) is = refl
+  making_holds (call.Read p at count) is = absurd is
+  making_holds (call.Stat p) is = absurd is
+  making_holds (call.List p) is = absurd is
+  making_holds (call.Unlink p) is = absurd is
+  making_holds (call.Rmdir p) is = absurd is
+  making_holds (call.Dread p at count) is = absurd is
+  making_holds (call.Write p at new) is = absurd is
+  making_holds (call.Truncate p size) is = absurd is
+  making_holds (call.Rename p q) is = absurd is
+  making_holds call.Sync is = absurd is
+
+-- its want of space is the one that is told of every call
+pub making_few : (v : Seen) (im : Image) (o : Owners) (l : Layout) (t : Tree) (c : Call) → making.IsMaking c → (need free : ℕ) → making.IsTooFew v im o l t c need free → IsTooFew v im o l t c need free
+making_few v im o l t (call.Create p) is need free few = few
+making_few v im o l t (call.Mkdir p) is need free few = few
+making_few v im o l t (call.Read p at count) is need free few = absurd is
+making_few v im o l t (call.Stat p) is need free few = absurd is
+making_few v im o l t (call.List p) is need free few = absurd is
+making_few v im o l t (call.Unlink p) is need free few = absurd is
+making_few v im o l t (call.Rmdir p) is need free few = absurd is
+making_few v im o l t (call.Dread p at count) is need free few = absurd is
+making_few v im o l t (call.Write p at new) is need free few = absurd is
+making_few v im o l t (call.Truncate p size) is need free few = absurd is
+making_few v im o l t (call.Rename p q) is need free few = absurd is
+making_few v im o l t call.Sync is need free few = absurd is

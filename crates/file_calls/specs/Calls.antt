@@ -1,5 +1,5 @@
 -- The file calls that are built: what holds of every one.
-use Rattle.std.specs.Prelude.{ℕ, false, List}
+use Rattle.std.specs.Prelude.{ℕ, ◌≡◌, false, List, None}
 use Rattle.std.specs.List.{AllByRecursion}
 use Rattle.file_tree.specs.Tree.{Tree}
 use Rattle.file_tree.specs.declared.call.Call.{Call}
@@ -13,6 +13,7 @@ use Rattle.image_changes.specs.Does.{IsInside}
 use Rattle.image_model.specs.Image.{Image}
 use Rattle.image_model.specs.Owners.{Owners}
 use Rattle.image_model.specs.Stands.{Layout}
+use Rattle.making_calls.specs.Making as making
 use Rattle.path_walks.specs.Holds.{Hold, holds_in}
 use Rattle.path_walks.specs.Walks.{IsUnread}
 use Rattle.path_walks.specs.Walks as path
@@ -20,25 +21,37 @@ use Rattle.read_calls.specs.Reading as reading
 use Rattle.removing_calls.specs.Removing as removing
 use Rattle.writing_calls.specs.Writing as writing
 
--- the call is built: today, those that read, those that remove a name, `write` and `sync`
+-- the call is built: today all but those that read around the cache, cut or grow a file, or move a name
 abbrev pub IsBuilt : Call → Type 0
-IsBuilt (calls.Read path at count) = Unit {0}
-IsBuilt (calls.Stat path) = Unit {0}
-IsBuilt (calls.List path) = Unit {0}
+IsBuilt (calls.Dread path at count) = ⊥
+IsBuilt (calls.Truncate path size) = ⊥
+IsBuilt (calls.Rename path to) = ⊥
+IsBuilt (calls.Create path) = Unit {0}
+IsBuilt (calls.Mkdir path) = Unit {0}
 IsBuilt (calls.Unlink path) = Unit {0}
 IsBuilt (calls.Rmdir path) = Unit {0}
+IsBuilt (calls.Read path at count) = Unit {0}
 IsBuilt (calls.Write path at new) = Unit {0}
+IsBuilt (calls.Stat path) = Unit {0}
+IsBuilt (calls.List path) = Unit {0}
 IsBuilt calls.Sync = Unit {0}
-IsBuilt _ = ⊥
 
 -- ---- locks
 
--- the locks that the call takes in an image, in their order: those of the inodes on its path, and where a name is removed those of the groups
--- that have the inode's blocks
+-- the locks that the call takes in an image, in their order: those of the inodes on its path; where a name is made those under which a
+-- free block is found, and of the new inode; and where one is removed those of the groups that have the inode's blocks
 abbrev pub call_holds : Image → Owners → Layout → Tree → Call → ℕ → List Hold
+call_holds im o l t (calls.Create path) node = making.call_holds im o l t (calls.Create path) node
+call_holds im o l t (calls.Mkdir path) node = making.call_holds im o l t (calls.Mkdir path) node
 call_holds im o l t (calls.Unlink path) node = removing.holds_for im o l t (calls.Unlink path)
 call_holds im o l t (calls.Rmdir path) node = removing.holds_for im o l t (calls.Rmdir path)
 call_holds im o l t call node = holds_in im o l (path_of call false) (wanted call)
+
+-- too few blocks are free for the call, which takes some
+abbrev pub IsTooFew : Seen → Image → Owners → Layout → Tree → Call → ℕ → ℕ → Type 0
+IsTooFew v im o l t (calls.Create path) need free = making.IsTooFew v im o l t (calls.Create path) need free
+IsTooFew v im o l t (calls.Mkdir path) need free = making.IsTooFew v im o l t (calls.Mkdir path) need free
+IsTooFew v im o l t call need free = ⊥
 
 -- ---- what is written
 
@@ -47,8 +60,10 @@ AreInside v change = AllByRecursion (IsInside v) change.blocks.items
 
 -- ---- as far as the view shows
 
--- a block without which the call isn't answered
+-- a block without which the call isn't answered; of one that makes a name it is only told that the view hasn't it
 abbrev pub IsNeededFor : Seen → Call → Missing → Type 0
+IsNeededFor v (calls.Create path) m = v.block_at m.block ≡ None
+IsNeededFor v (calls.Mkdir path) m = v.block_at m.block ≡ None
 IsNeededFor v (calls.Write path at new) m = IsUnread v (wanted (calls.Write path at new)) path m
 IsNeededFor v (calls.Unlink path) m = removing.IsNeededFor v (calls.Unlink path) m
 IsNeededFor v (calls.Rmdir path) m = removing.IsNeededFor v (calls.Rmdir path) m
@@ -56,14 +71,18 @@ IsNeededFor v call m = reading.IsNeededFor v call m
 
 -- the block breaks this rule
 abbrev pub IsDamage : Seen → Call → ℕ → ℕ → Type 0
+IsDamage v (calls.Create path) rule b = making.IsDamage v (calls.Create path) rule b
+IsDamage v (calls.Mkdir path) rule b = making.IsDamage v (calls.Mkdir path) rule b
 IsDamage v (calls.Write path at new) rule b = writing.IsDamage v (calls.Write path at new) rule b
 IsDamage v (calls.Unlink path) rule b = removing.IsDamage v (calls.Unlink path) rule b
 IsDamage v (calls.Rmdir path) rule b = removing.IsDamage v (calls.Rmdir path) rule b
 IsDamage v call rule b = path.IsDamage v (wanted call) (path_of call false) rule b
 
--- what is in this block isn't read or written yet: a hashed directory on the path or at its end, or a file that the write would take out
--- of its dinode's block
+-- what is in this block isn't read or written yet: a hashed directory on the path or at its end, one that has no room for a name, or a file
+-- that the write would take out of its dinode's block
 abbrev pub IsUnbuilt : Seen → Call → ℕ → Type 0
+IsUnbuilt v (calls.Create path) b = making.IsUnbuilt v (calls.Create path) b
+IsUnbuilt v (calls.Mkdir path) b = making.IsUnbuilt v (calls.Mkdir path) b
 IsUnbuilt v (calls.Write path at new) b = writing.IsUnbuilt v (calls.Write path at new) b
 IsUnbuilt v (calls.Unlink path) b = removing.IsHashedFor v (calls.Unlink path) b
 IsUnbuilt v (calls.Rmdir path) b = removing.IsHashedFor v (calls.Rmdir path) b

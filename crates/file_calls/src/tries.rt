@@ -1,5 +1,6 @@
 // A try of a file call.
-ghost use Rattle.std.specs.Prelude.{ℕ, ◌≡◌, ◌≤◌, ◌<◌, None, false};
+ghost use Rattle.std.specs.Prelude.{ℕ, ◌≡◌, ◌≤◌, ◌<◌, None, false, length};
+ghost use Rattle.file_tree.specs.Apply.{TakesSpace};
 ghost use Rattle.file_tree.specs.Tree.{Tree};
 ghost use Rattle.glock_names.specs.Steps.{IfDamaged};
 ghost use Rattle.glock_names.specs.Views.{IsOfView};
@@ -10,7 +11,7 @@ ghost use Rattle.image_changes.specs.Does.{IsOf, Does};
 ghost use Rattle.path_walks.specs.Answers.{IfDone, IfNeedLock, IfNeedBlock, IfNoSpace, IfNotBuilt};
 ghost use Rattle.path_walks.specs.Holds.{AreHeld, IsAskedFor, IsFirstLack, holds};
 ghost use Rattle.removing_calls.specs.Removing.{IsUnder};
-ghost use Rattle.file_calls.specs.Calls.{AreInside, IsBuilt, IsDamage, IsNeededFor, IsUnbuilt, call_holds};
+ghost use Rattle.file_calls.specs.Calls.{AreInside, IsBuilt, IsDamage, IsNeededFor, IsTooFew, IsUnbuilt, call_holds};
 
 use dinode_tree::every_view_shows_an_inode;
 use drafts::{Attempt, Stamp};
@@ -27,6 +28,8 @@ pub fn attempt<V: View>(
     stamp: &Stamp,
 ) -> Result<Attempt, CallFault>
     requires built { IsBuilt call.now }
+    requires groups { 1 ≤ length (V.seen view.now).groups }
+    requires node { 1 ≤ stamp.now.node }
     ensures done { IfDone result (Does (V.seen view.now) call.now) }
     ensures inside { IfDone result (λ reply change. AreInside (V.seen view.now) change) }
     ensures held { (im : Image) (o : Owners) (l : Layout) (t : Tree) → IsOf (V.seen view.now) im o l t → IfDone result (λ reply change. AreHeld (V.seen view.now) (call_holds im o l t call.now stamp.now.node)) }
@@ -34,7 +37,8 @@ pub fn attempt<V: View>(
     ensures lock { (im : Image) (o : Owners) (l : Layout) (t : Tree) → IsOf (V.seen view.now) im o l t → IfNeedLock result (IsFirstLack (V.seen view.now) (call_holds im o l t call.now stamp.now.node)) }
     ensures block { (im : Image) (o : Owners) (l : Layout) (t : Tree) → IsOf (V.seen view.now) im o l t → IfNeedBlock result (IsAskedFor (V.seen view.now) im o l (call_holds im o l t call.now stamp.now.node)) }
     ensures on_device { (im : Image) (o : Owners) (l : Layout) (t : Tree) → IsOf (V.seen view.now) im o l t → IfNeedBlock result (λ m. m.block < im.count) }
-    ensures space { IfNoSpace result (λ need free. ⊥) }
+    ensures space { (im : Image) (o : Owners) (l : Layout) (t : Tree) → IsOf (V.seen view.now) im o l t → IfNoSpace result (IsTooFew (V.seen view.now) im o l t call.now) }
+    ensures roomless { IfNoSpace result (λ need free. TakesSpace call.now) }
     ensures lacked { IfNeedLock result (λ lock state. holds (V.seen view.now) (record { lock = lock; state = state }) ≡ false) }
     ensures needed { IfNeedBlock result (IsNeededFor (V.seen view.now) call.now) }
     ensures absent { IfNeedBlock result (λ m. (V.seen view.now).block_at m.block ≡ None) }
@@ -48,6 +52,7 @@ pub fn attempt<V: View>(
         Call::Read(_, _, _) | Call::Stat(_) | Call::List(_) => {
             read_calls::attempt(alloc, view, call, stamp)
         }
+        Call::Create(_) | Call::Mkdir(_) => making_calls::attempt(alloc, view, call, stamp),
         Call::Unlink(_) | Call::Rmdir(_) => removing_calls::attempt(alloc, view, call, stamp),
         Call::Write(_, _, _) | Call::Sync => writing_calls::attempt(alloc, view, call, stamp),
         _ => unreachable!(),

@@ -1,12 +1,14 @@
-use Rattle.std.proofs.Common.{rules, ◌≡◌, true, Result, Ok, Err, sym, ap, ◌∙◌, subst}
+use Rattle.std.proofs.Common.{rules, ℕ, ◌≡◌, true, Result, Ok, Err, sym, ap, ◌∙◌, subst}
 use Rattle.std.specs.Prelude.{not}
 use Rattle.drafts.specs.declared.attempt.Attempt.{Attempt}
 use Rattle.drafts.specs.declared.attempt.Attempt.TheVariants.{Done, NeedLock, NeedBlock, NoSpace, NotBuilt}
 use Rattle.glock_names.specs.declared.steps.CallFault.{CallFault}
 use Rattle.glock_names.specs.declared.steps.Missing.{Missing}
 use Rattle.cluster_history.specs.Changes.{is_ok}
-use Rattle.path_walks.specs.Answers.{IfDone, IfNeedBlock, IfNeedLock}
+use Rattle.path_walks.specs.Answers.{IfDone, IfNeedBlock, IfNeedLock, IfNoSpace}
 use Rattle.path_walks.specs.Holds.{AreHeld, IsAskedFor, IsFirstLack}
+use Rattle.making_calls.specs.Making.{IsMaking}
+use Rattle.making_calls.specs.Making as making
 use Rattle.removing_calls.specs.Removing.{IsRemoving, IsUnder}
 use Rattle.writing_calls.specs.Writing.{IsWriting, AreUnder}
 use Rattle.file_tree.specs.declared.reply.Reply.{Reply}
@@ -15,7 +17,7 @@ use Rattle.image_changes.specs.Does.{Does}
 use Rattle.read_calls.specs.Reading.{IsReading}
 use Rattle.read_calls.proofs.Lists.{no_change}
 use Rattle.file_calls.specs.Calls.{AreInside, call_holds}
-use Rattle.file_calls.proofs.Blocks.{needed_absent, covered_low, data_inside, nothing_under, reading_holds, removing_absent, removing_holds, removing_inside, removing_under, writing_holds, writing_under}
+use Rattle.file_calls.proofs.Blocks.{needed_absent, covered_low, data_inside, making_few, making_holds, nothing_under, reading_holds, removing_absent, removing_holds, removing_inside, removing_under, writing_holds, writing_under}
 use Rattle.file_calls.proofs.tries.attempt.Goals as goal
 
 mapped : (r : Result Attempt CallFault) (P Q : Missing → Type 0) → ((m : Missing) → P m → Q m) → IfNeedBlock r P → IfNeedBlock r Q
@@ -128,3 +130,41 @@ returns-in-Unlink-clause-inside g c =
 
 pub returns-in-Write-clause-inside : goal.returns-in-Write-clause-inside
 returns-in-Write-clause-inside g c = done_so c.attempt.result _ _ (λ x change is. data_inside (g.V.View.seen c.args.view.now) change.blocks.items is) c.attempt.ensures.inside
+
+pub returns-in-Create-clause-held : goal.returns-in-Create-clause-held
+returns-in-Create-clause-held g c im o l t of =
+    let is : IsMaking c.args.call.now = search rules in
+    subst (λ list. IfDone c.attempt-in-Create.result (λ reply change. AreHeld (g.V.View.seen c.args.view.now) list)) (sym (making_holds im o l t c.args.stamp.now.node c.args.call.now is)) (c.attempt-in-Create.ensures.held im o l t of)
+
+pub returns-in-Create-clause-lock : goal.returns-in-Create-clause-lock
+returns-in-Create-clause-lock g c im o l t of =
+    let is : IsMaking c.args.call.now = search rules in
+    subst (λ list. IfNeedLock c.attempt-in-Create.result (IsFirstLack (g.V.View.seen c.args.view.now) list)) (sym (making_holds im o l t c.args.stamp.now.node c.args.call.now is)) (c.attempt-in-Create.ensures.lock im o l t of)
+
+pub returns-in-Create-clause-block : goal.returns-in-Create-clause-block
+returns-in-Create-clause-block g c im o l t of =
+    let is : IsMaking c.args.call.now = search rules in
+    subst (λ list. IfNeedBlock c.attempt-in-Create.result (IsAskedFor (g.V.View.seen c.args.view.now) im o l list)) (sym (making_holds im o l t c.args.stamp.now.node c.args.call.now is)) (c.attempt-in-Create.ensures.block im o l t of)
+
+pub returns-in-Create-clause-on_device : goal.returns-in-Create-clause-on_device
+returns-in-Create-clause-on_device g c im o l t of = mapped c.attempt-in-Create.result _ _ (λ m asked. covered_low im o l of.stands.laid m.block m.lock asked.covered) (c.attempt-in-Create.ensures.block im o l t of)
+
+pub returns-in-Create-clause-under : goal.returns-in-Create-clause-under
+returns-in-Create-clause-under g c im o l t of =
+    let is : IsMaking c.args.call.now = search rules in
+    let list = call_holds im o l t c.args.call.now c.args.stamp.now.node in
+    done_so c.attempt-in-Create.result _ (λ reply change. IsUnder o list change) (λ x change u. record { written = u.written; freed = u.freed })
+        (subst (λ list. IfDone c.attempt-in-Create.result (λ reply change. making.IsUnder o list change)) (sym (making_holds im o l t c.args.stamp.now.node c.args.call.now is)) (c.attempt-in-Create.ensures.under im o l t of))
+
+few_so : (r : Result Attempt CallFault) (P Q : ℕ → ℕ → Type 0) → ((need free : ℕ) → P need free → Q need free) → IfNoSpace r P → IfNoSpace r Q
+few_so (Ok (NeedBlock m)) P Q f is = tt
+few_so (Ok (Done reply change)) P Q f is = tt
+few_so (Ok (NeedLock lock state)) P Q f is = tt
+few_so (Ok (NoSpace need free)) P Q f is = f need free is
+few_so (Ok (NotBuilt b)) P Q f is = tt
+few_so (Err e) P Q f is = tt
+
+pub returns-in-Create-clause-space : goal.returns-in-Create-clause-space
+returns-in-Create-clause-space g c im o l t of =
+    let is : IsMaking c.args.call.now = search rules in
+    few_so c.attempt-in-Create.result _ _ (making_few (g.V.View.seen c.args.view.now) im o l t c.args.call.now is) (c.attempt-in-Create.ensures.space im o l t of)
