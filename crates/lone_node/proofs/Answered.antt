@@ -9,7 +9,8 @@ use Rattle.std.proofs.lemmas.Bool.{cases_eq}
 use Rattle.std.proofs.lemmas.List.Elements.{All-contains, All-from_recursion}
 use Rattle.finite_maps.proofs.Keys.{inserted_at, inserted_apart}
 use Rattle.file_tree.specs.Tree.{Tree}
-use Rattle.file_tree.specs.Apply.{apply}
+use Rattle.file_tree.specs.Apply.{TakesSpace, apply}
+use Rattle.file_tree.specs.declared.call.Call.TheVariants as calls
 use Rattle.file_tree.specs.declared.call.Call.{Call}
 use Rattle.file_tree.specs.declared.reply.Reply.{Reply}
 use Rattle.file_tree.specs.declared.reply.Reply.TheVariants as reply
@@ -22,13 +23,15 @@ use Rattle.glock_names.specs.declared.steps.CallFault.TheVariants as fault
 use Rattle.glock_names.specs.declared.views.Group.{Group}
 use Rattle.drafts.specs.declared.change.Change.{Change}
 use Rattle.drafts.specs.declared.change.Written.{Written}
-use Rattle.image_model.specs.Image.{image_of}
+use Rattle.image_model.specs.Image.{Image, image_of}
+use Rattle.image_model.specs.Owners.{Owners}
+use Rattle.image_model.specs.Stands.{Layout}
 use Rattle.image_changes.specs.Changes.{JournalsStay}
 use Rattle.image_changes.specs.Does.{Does, IsFormed, IsInside, IsOf, bytes_for, with_change}
 use Rattle.image_changes.specs.Instances.{StandsBy}
 use Rattle.shared_disk.specs.Disk.{DiskState}
 use Rattle.lone_view.specs.Seeing.{Lone, seen_alone}
-use Rattle.file_calls.specs.Calls.{IsDamage}
+use Rattle.file_calls.specs.Calls.{IsDamage, IsTooFew}
 use Rattle.lone_node.specs.Answering.{IsAnsweredFrom, IsDamagedFor, as_shown}
 use Rattle.lone_node.specs.Ends.{IfDamaged, IfNotBuilt, end_at}
 use Rattle.lone_node.specs.declared.ends.RunEnd.{RunEnd}
@@ -94,6 +97,7 @@ module _ (d d' : DiskState) (n : Lone) (change : Change) (on : IsOn d n) (form :
   pub on_again : IsOn d' (record n { blocks = with_blocks n.blocks change.blocks.items })
   on_again = record {
     size = on.size ∙ sym written.size;
+    some = on.some;
     groups = subst (λ c. AllByRecursion (λ g. end_of g ≤ c) n.groups) (sym written.count) on.groups;
     agrees = λ tells b bytes e. by (subst IsTrue written.tells tells) b bytes (bytes_for change.blocks.items b) refl (sym (got 0 n.blocks change.blocks.items b rise) ∙ e);
   }
@@ -125,6 +129,7 @@ of_disk d n change on form inside = record {
 pub fetched_on : (d : DiskState) (n : Lone) (k : ℕ) (bytes : List ℕ) → IsOn d n → (IsTrue d.tells → d.block_at k ≡ bytes) → IsOn d (record n { blocks = insert n.blocks k bytes })
 fetched_on d n k bytes on is = record {
   size = on.size;
+  some = on.some;
   groups = on.groups;
   agrees = λ tells b found e. elim (cases_eq b k) [
     | inl same ↦ ap d.block_at same ∙ is tells ∙ some_is (sym (inserted_at nat_cmp_total nat_cmp-IsAntisymmetric n.blocks k bytes) ∙ ap (get (insert n.blocks k bytes)) (sym same) ∙ e)
@@ -191,3 +196,30 @@ answered_from d now d' n later n' call r is same from =
 pub shown_damage : (d : DiskState) (v : Seen) (call : Call) (f : CallFault) → TellsOf (IsOfView v) f → TellsOf (IsDamage v call) f → IfDamaged (end_at f) (IsDamagedFor d v call)
 shown_damage d v call (fault.Damaged block rule) has is = as_shown block rule has is
 shown_damage d v call fault.NoMemory has is = tt
+
+-- a call for which there is no space leaves all as it is
+pub answered_full : (d : DiskState) (n : Lone) (call : Call) (need free : ℕ) → IsOn d n → TakesSpace call
+    → ((im : Image) (o : Owners) (l : Layout) (t : Tree) → IsOf (seen_alone n) im o l t → IsTooFew (seen_alone n) im o l t call need free) → IsAnsweredFrom d d n n call reply.NoSpace
+answered_full d n call need free on takes few = record {
+  answers = λ t s. inr (record { no_room = refl; same = refl; taken = taken_by (seen_alone n) call t need free takes (image_of d) s.owners s.layout (few (image_of d) s.owners s.layout t (of_view d n t on s)); takes = takes });
+  stands = λ t s. s;
+  layout = λ t s. refl;
+  journals = λ t s. journals_same (image_of d) s.owners s.layout;
+}
+  where
+    taken_by : (v : Seen) (c : Call) (t : Tree) (need free : ℕ) → TakesSpace c → (im : Image) (o : Owners) (l : Layout) → IsTooFew v im o l t c need free → (apply c t).reply ≡ reply.Ok
+    taken_by v (calls.Create p) t need free takes im o l few = few.taken
+    taken_by v (calls.Mkdir p) t need free takes im o l few = few.taken
+    taken_by v (calls.Write p at new) t need free takes im o l few = absurd few
+    taken_by v (calls.Truncate p size) t need free takes im o l few = absurd few
+    taken_by v (calls.Rename p q) t need free takes im o l few = absurd few
+    taken_by v (calls.Read p at count) t need free takes im o l few = absurd few
+    taken_by v (calls.Stat p) t need free takes im o l few = absurd few
+    taken_by v (calls.List p) t need free takes im o l few = absurd few
+    taken_by v (calls.Unlink p) t need free takes im o l few = absurd few
+    taken_by v (calls.Rmdir p) t need free takes im o l few = absurd few
+    taken_by v (calls.Dread p at count) t need free takes im o l few = absurd few
+    taken_by v calls.Sync t need free takes im o l few = absurd few
+
+    journals_same : (im : Image) (o : Owners) (l : Layout) → JournalsStay im im o o l
+    journals_same im o l = record { rings = λ j d at. refl; places = λ b. (λ is. is, λ is. is) }

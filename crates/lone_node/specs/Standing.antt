@@ -1,5 +1,5 @@
 -- One node alone on a disk: what it sees is what the disk holds, and the disk's image stands for a tree.
-use Rattle.std.specs.Prelude.{ℕ, zero, suc, ◌≡◌, ◌+◌, ◌≤◌, if◌then◌else◌, IsTrue, Bool, true, false, List, map, Option, None, Some}
+use Rattle.std.specs.Prelude.{ℕ, zero, suc, ◌≡◌, ◌+◌, ◌≤◌, if◌then◌else◌, IsTrue, Bool, true, false, List, length, map, Option, None, Some}
 use Rattle.std.specs.List.{AllByRecursion}
 use Rattle.std.specs.Ordering.{nat_cmp}
 use Rattle.std.specs.FinMap.{FinMap, get}
@@ -12,9 +12,10 @@ use Rattle.image_changes.specs.Instances.{StandsBy}
 use Rattle.shared_disk.specs.Disk.{DiskState}
 use Rattle.lone_view.specs.Seeing.{Lone}
 
--- the view is of this disk: each of its groups ends there, and what it has of a block is what the disk holds, as far as that tells
+-- the view is of this disk: it has groups, each of which ends there, and what it has of a block is what the disk holds, as far as that tells
 pub record IsOn (d : DiskState) (n : Lone) : Type 0 where
   pub size : n.size ≡ d.size
+  pub some : 1 ≤ length n.groups
   pub groups : AllByRecursion (λ g. end_of g ≤ d.count) n.groups
   pub agrees : IsTrue d.tells → (b : ℕ) (bytes : List ℕ) → get n.blocks b ≡ Some bytes → d.block_at b ≡ bytes
 

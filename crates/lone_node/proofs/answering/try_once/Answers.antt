@@ -1,17 +1,18 @@
 use Rattle.std.proofs.Common.{true, false, ◌≡◌, ◌<◌, ◌≤◌, None, Ok, sym, ◌∙◌, subst, arith}
+use Rattle.file_tree.specs.Apply.{TakesSpace}
 use Rattle.file_tree.specs.Tree.{Tree}
 use Rattle.image_model.specs.Image.{image_of}
 use Rattle.image_changes.specs.Does.{Does}
-use Rattle.path_walks.specs.Answers.{IfDone, IfNeedBlock}
+use Rattle.path_walks.specs.Answers.{IfDone, IfNeedBlock, IfNoSpace}
 use Rattle.glock_names.specs.declared.steps.CallFault.{CallFault}
 use Rattle.glock_names.specs.declared.steps.CallFault.TheVariants as fault
 use Rattle.glock_names.specs.Steps.{TellsOf}
 use Rattle.lone_view.specs.Seeing.{Lone, seen_alone}
-use Rattle.file_calls.specs.Calls.{AreInside, IsNeededFor}
+use Rattle.file_calls.specs.Calls.{AreInside, IsNeededFor, IsTooFew}
 use Rattle.lone_node.specs.Answering.{IsAnsweredFrom, IsDamagedFor, leads_out, source_of}
 use Rattle.lone_node.specs.Ends.{IfDamaged, end_at}
 use Rattle.lone_node.specs.Standing.{IsOn, StandsFor, lacked_count}
-use Rattle.lone_node.proofs.Answered.{answered, damaged_so, fetched_on, fewer, of_disk, of_view, on_again, shown_damage}
+use Rattle.lone_node.proofs.Answered.{answered, answered_full, damaged_so, fetched_on, fewer, of_disk, of_view, on_again, shown_damage}
 use Rattle.lone_node.proofs.Spaces.{never_full}
 use Rattle.lone_node.proofs.answering.try_once.Goals as goal
 
@@ -90,3 +91,11 @@ returns-in-Err-clause-damaged g c =
     let d = g.D.SharedDisk.state c.args.disk.now in
     let v = seen_alone c.args.view.now in
     subst (λ e. IfDamaged e (IsDamagedFor d v c.args.call.now)) (sym c.end_of.ensures) (shown_damage d v c.args.call.now c.in-Err.fault c.in-Err.ensures.kept c.in-Err.ensures.damaged)
+
+pub returns-in-Ok-NoSpace-clause-answered : goal.returns-in-Ok-NoSpace-clause-answered
+returns-in-Ok-NoSpace-clause-answered g c =
+    let d = g.D.SharedDisk.state c.args.disk.now in
+    let v = seen_alone c.args.view.now in
+    answered_full d c.args.view.now c.args.call.now c.in-Ok-NoSpace.need c.in-Ok-NoSpace.free c.requires.on
+        (subst (λ a. IfNoSpace (Ok a) (λ need free. TakesSpace c.args.call.now)) c.in-Ok-NoSpace.field-0-is c.in-Ok-NoSpace.ensures.roomless)
+        (λ im o l t of. subst (λ a. IfNoSpace (Ok a) (IsTooFew v im o l t c.args.call.now)) c.in-Ok-NoSpace.field-0-is (c.in-Ok-NoSpace.ensures.space im o l t of))
