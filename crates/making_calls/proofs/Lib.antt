@@ -6,6 +6,7 @@ pub mod InImage
 pub mod Alike
 pub mod Faults
 pub mod Recording
+pub mod FirstSlot
 pub mod Numbered
 pub mod Over
 pub mod Adding

@@ -43,7 +43,7 @@ use Rattle.file_tree.proofs.WalkLaws.{last_front}
 use Rattle.making_calls.specs.Blocks.{blocks_needed, block_holds, free_for, free_in, free_in_all, group_holds, group_of_node, hold_of_group, new_holds}
 use Rattle.making_calls.specs.Drafting.{IsAddition, IsPutUnder, IsWrongIn, of_directory, of_group, of_inode, new_tree}
 use Rattle.making_calls.specs.Drafting as drafting
-use Rattle.making_calls.specs.Making.{IsMaking, IsLastOf, IsReachedIn, IsFound, IsFoundBy, IsTooFew, IsDamage, IsUnbuilt, LacksName, call_holds, directory_path, makes_directory, name_in, path_holds}
+use Rattle.making_calls.specs.Making.{IsMaking, IsLastOf, IsReachedIn, IsFound, IsFoundBy, IsTooFew, IsDamage, IsUnbuilt, LacksName, call_holds, directory_has_room, directory_path, has_room_for, makes_directory, name_in, path_holds, room_at}
 use Rattle.making_calls.specs.Making as damage
 use Rattle.making_calls.specs.Searches.{AreShown, IsGroupBlock, IsTaken, IsUnder}
 use Rattle.making_calls.specs.declared.blocks.Locked.{Locked}
@@ -81,9 +81,6 @@ module _ (v : Seen) (c : Call) (is : IsMaking c) (p : Place) (name : List ℕ) (
     reply_ok : (apply c t).reply ≡ Ok
     reply_ok = ap (λ (x : Answer). x.reply) taken_so
 
-    list_is : (node : ℕ) → call_holds im o l t c node ≡ path_holds im o l c ++ new_holds o l node
-    list_is node = taken_list im o l t c node (ap is_ok reply_ok)
-
     pub inside_so : HasDataBlock v p.inode
     inside_so = dinode_inside v im o l t of p.inode (is_inode v im o l t of (directory_path c) p.inode reached.place.at)
 
@@ -94,7 +91,15 @@ module _ (v : Seen) (c : Call) (is : IsMaking c) (p : Place) (name : List ℕ) (
         (broken (holding im o p.inode) (is_shown v im o l t of (directory_path c) p.inode reached.place.at))
     directory_sound g has held rule b (drafting.in_group r d broken) = group_sound v im o l t of r d (record { group = g; has = has; held = held; broken = broken })
 
-    module _ (node : ℕ) (some : 1 ≤ length v.groups) (first : 1 ≤ node) where
+    module _ (fits : (h : Holding) → IsShown v p.inode h → has_room_for h name ≡ true) (node : ℕ) (some : 1 ≤ length v.groups) (first : 1 ≤ node) where
+      roomy : directory_has_room im o l c ≡ true
+      roomy =
+          ap (room_at im o (name_in c)) reached.place.at ∙ ap (has_room_for (holding im o p.inode)) own_name
+          ∙ fits (holding im o p.inode) (is_shown v im o l t of (directory_path c) p.inode reached.place.at)
+
+      list_is : call_holds im o l t c node ≡ path_holds im o l c ++ new_holds o l node
+      list_is = taken_list im o l t c node (ap is_ok reply_ok) roomy
+
       own : (own : Group) × (group_of_node v.groups node ≡ Some own) × HasGroup v own
       own = own_of v node some first
 
@@ -105,7 +110,7 @@ module _ (v : Seen) (c : Call) (is : IsMaking c) (p : Place) (name : List ℕ) (
       new_same = new_are v im o l t of node own.0 own.1 own.2
 
       whole : call_holds im o l t c node ≡ path_holds im o l c ++ new
-      whole = list_is node ∙ ap (λ xs. path_holds im o l c ++ xs) new_same
+      whole = list_is ∙ ap (λ xs. path_holds im o l c ++ xs) new_same
 
       abbrev IsSearched : Locked Taken → Type 0
       IsSearched r = (at : ℕ → List ℕ) (own : Group) → AreShown v at → group_of_node v.groups node ≡ Some own → IsUnder v (block_holds (said at) v.groups own) (IsTaken v (said at) v.groups own) r
@@ -128,6 +133,7 @@ module _ (v : Seen) (c : Call) (is : IsMaking c) (p : Place) (name : List ℕ) (
           let none : slice_get (free_in (said im.at) own.0) 0 ≡ None = ap (λ xs. slice_get xs 0) (empty_list v (said im.at) v.groups own.0 (free_in (said im.at) own.0) f.1.2) in
           record {
             taken = reply_ok;
+            room = roomy;
             on_path = reached.held;
             groups = subst (λ gs. AreHeld v (map hold_of_group gs)) (sym of.groups)
                 (subst (AreHeld v) (rest_all v (said im.at) v.groups own.0 none) (later_held v (hold_of_group own.0) _ (held_before v (group_holds (said im.at) v.groups own.0) _ f.0)));

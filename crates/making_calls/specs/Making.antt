@@ -1,5 +1,5 @@
 -- The calls that make a name: what they answer, under which locks.
-use Rattle.std.specs.Prelude.{ℕ, ◌≡◌, ◌<◌, ⊤, Bool, true, false, if◌then◌else◌, List, [], ◌∷◌, ◌++◌, length, map, Contains, None, Some}
+use Rattle.std.specs.Prelude.{ℕ, ◌≡◌, ◌<◌, ⊤, Bool, true, false, if◌then◌else◌, List, [], ◌∷◌, ◌++◌, ◌&&◌, length, map, Contains, Option, None, Some}
 use Rattle.std.specs.List.{AllByRecursion, list_any}
 use Rattle.file_tree.specs.Names.{parent_of, last_of}
 use Rattle.file_tree.specs.Tree.{Tree}
@@ -21,10 +21,10 @@ use Rattle.call_locks.specs.Wants.{wanted}
 use Rattle.call_locks.specs.WantLaws.{path_of}
 use Rattle.dinode_tree.specs.Shown.{IsShown}
 use Rattle.resource_groups.specs.Putting.{HasDataBlock}
-use Rattle.image_model.specs.Flat.{Path}
+use Rattle.image_model.specs.Flat.{Path, follow}
 use Rattle.image_model.specs.Image.{Image}
-use Rattle.image_model.specs.Owners.{Owners}
-use Rattle.image_model.specs.Stands.{Layout}
+use Rattle.image_model.specs.Owners.{Owners, holding}
+use Rattle.image_model.specs.Stands.{Layout, flat_of}
 use Rattle.image_changes.specs.Changes.{inode_of}
 use Rattle.image_changes.specs.Does.{IsInside, frees}
 use Rattle.path_walks.specs.Holds.{Hold, AreHeld, IsAskedFor, IsFirstLack, hold_of, holds, holds_in}
@@ -54,19 +54,38 @@ directory_path call = parent_of (path_of call false)
 abbrev pub name_in : Call → List ℕ
 name_in call = last_of (path_of call false)
 
+-- some record of a linear directory has room for that of a name
+abbrev pub has_room_for : Holding → List ℕ → Bool
+has_room_for h name = list_any (has_room (least_length (length name))) (slots_of (linear_area h))
+
 -- ---- in one image
 
 -- the locks of the inodes on the directory's path
 abbrev pub path_holds : Image → Owners → Layout → Call → List Hold
 path_holds im o l call = holds_in im o l (directory_path call) (wanted call)
 
--- the locks that the call takes, in their order: those on the directory's path, and where the tree takes the call those of a new inode
-abbrev pub call_holds : Image → Owners → Layout → Tree → Call → ℕ → List Hold
-call_holds im o l t call node = path_holds im o l call ++ (if is_ok (apply call t).reply then new_holds o l node else [])
+-- the directory in this block has a record with room for the name's
+abbrev pub room_at : Image → Owners → List ℕ → Option ℕ → Bool
+room_at im o name None = false
+room_at im o name (Some a) = has_room_for (holding im o a) name
 
--- The tree would take the call, but fewer blocks are free, in all groups, than it needs. Each lock on the path and of each group is held.
+-- the directory that gets the name has
+abbrev pub directory_has_room : Image → Owners → Layout → Call → Bool
+directory_has_room im o l call = room_at im o (name_in call) (follow (flat_of im o) l.root (directory_path call))
+
+-- the locks of a new inode, where the tree takes the call and the directory has room for the name
+abbrev pub inode_holds : Image → Owners → Layout → Tree → Call → ℕ → List Hold
+inode_holds im o l t call node = if is_ok (apply call t).reply && directory_has_room im o l call then new_holds o l node else []
+
+-- the locks that the call takes, in their order: those on the directory's path, and then those of a new inode
+abbrev pub call_holds : Image → Owners → Layout → Tree → Call → ℕ → List Hold
+call_holds im o l t call node = path_holds im o l call ++ inode_holds im o l t call node
+
+-- The tree would take the call, and the directory has room for the name, but fewer blocks are free, in all groups, than it needs. Each lock on
+-- the path and of each group is held.
 pub record IsTooFew (v : Seen) (im : Image) (o : Owners) (l : Layout) (t : Tree) (call : Call) (need free : ℕ) : Type 0 where
   pub taken : (apply call t).reply ≡ Ok
+  pub room : directory_has_room im o l call ≡ true
   pub on_path : AreHeld v (path_holds im o l call)
   pub groups : AreHeld v (map hold_of_group (map group_of_entry l.groups))
   pub needs : need ≡ blocks_needed
@@ -83,7 +102,7 @@ pub record LacksName (h : Holding) (name : List ℕ) : Type 0 where
 -- in which no record has room for the name's
 pub record HasNoRoom (h : Holding) (name : List ℕ) : Type 0 where
   pub lacks : LacksName h name
-  pub full : list_any (has_room (least_length (length name))) (slots_of (linear_area h)) ≡ false
+  pub full : has_room_for h name ≡ false
 
 -- a directory for which the call isn't built yet: a hashed one on the path, or at its end; or one at its end that hasn't the name, and no room
 -- for it, which would be hashed

@@ -1,5 +1,5 @@
 // The draft that makes a name.
-ghost use Rattle.std.specs.Prelude.{ℕ, List, ◌≡◌, ◌≢◌, ◌≤◌, true, false, length, IfNone, IfOk, IfSome, OnErr, OnOk};
+ghost use Rattle.std.specs.Prelude.{ℕ, List, ◌≡◌, ◌≢◌, ◌≤◌, true, false, length, IfOk, OnErr, OnOk};
 ghost use Rattle.std.specs.List.{list_any};
 ghost use Rattle.std.specs.FinMap as map;
 ghost use Rattle.drafts.specs.Fates.{seen_in};
@@ -17,6 +17,7 @@ ghost use Rattle.new_inodes.specs.New.{IsInodePut};
 ghost use Rattle.resource_groups.specs.Putting.{HasDataBlock};
 ghost use Rattle.resource_groups.specs.Shown.{group_lock};
 ghost use Rattle.resource_groups.specs.Shown as shown;
+ghost use Rattle.making_calls.specs.Making.{has_room_for};
 ghost use Rattle.making_calls.specs.Drafting.{IsAddition, IsNewOf, IsNumbered, IsRecordPut, IsSaidAndDone, IsWrongIn, kind_for};
 
 use crate::blocks::Room;
@@ -177,7 +178,7 @@ fn kind_of_new(is_directory: bool) -> u16
 }
 
 /// What a draft changes that makes a name in the linear directory at this place, which hasn't it, and the inode that it leads to, in a
-/// free block of a group; None where the directory has no room for the record. It costs two copies of each of five blocks.
+/// free block of a group. The directory has room for the record. It costs two copies of each of five blocks.
 pub(crate) fn addition<V: View>(
     alloc: Global,
     view: &V,
@@ -186,16 +187,15 @@ pub(crate) fn addition<V: View>(
     place: &Place,
     name: &Name,
     room: &Room,
-) -> Result<Step<Option<Change>>, CallFault>
+) -> Result<Step<Change>, CallFault>
     requires there { HasBlock (V.seen view.now) place.now.inode }
     requires linear { IsLinearIn (V.seen view.now) place.now.inode }
     requires dinode { (h : Holding) → IsShown (V.seen view.now) place.now.inode h → place.now.dinode ≡ dinode_in h }
     requires inside { HasDataBlock (V.seen view.now) place.now.inode }
+    requires fits { (h : Holding) → IsShown (V.seen view.now) place.now.inode h → has_room_for h name.now ≡ true }
     requires group { HasGroup (V.seen view.now) room.now.group }
     requires block { shown.IsDataOf room.now.group room.now.block }
-    ensures added { IfIs result (λ change. IfSome change (IsAddition (V.seen view.now) is_directory place.now name.now room.now)) }
-    ensures full { IfIs result (λ change. IfNone change ((h : Holding) → IsShown (V.seen view.now) place.now.inode h
-        → list_any (has_room (least_length (length name.now))) (slots_of (linear_area h)) ≡ false)) }
+    ensures added { IfIs result (IsAddition (V.seen view.now) is_directory place.now name.now room.now) }
     ensures needed { IfNeedBlock result (shown.IsMissing (V.seen view.now) room.now.group) }
     ensures damaged { IfDamaged result (IsWrongIn (V.seen view.now) place.now.inode room.now.group) }
     ensures kept { IfDamaged result (IsOfView (V.seen view.now)) }
@@ -214,11 +214,11 @@ pub(crate) fn addition<V: View>(
     };
     let done = put_record(&mut draft, place.inode, name.bytes(), entry, stamp.time)?;
     if !done {
-        return Ok(Step::Is(None));
+        unreachable!();
     }
     put_new(alloc, &mut draft, is_directory, entry, place, stamp.time)?;
     match say_and_finish(draft, room.block)? {
-        Step::Is(change) => Ok(Step::Is(Some(change))),
+        Step::Is(change) => Ok(Step::Is(change)),
         Step::NeedBlock(missing) => Ok(Step::NeedBlock(missing)),
     }
 }

@@ -4,6 +4,7 @@
 mod blocks;
 mod drafting;
 mod finds;
+mod records;
 mod tries;
 
 pub use tries::attempt;

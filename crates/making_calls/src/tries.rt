@@ -22,6 +22,7 @@ ghost use Rattle.making_calls.specs.Making.{AreInside, IfMade, IfNotBuilt as IfU
 use crate::blocks::{Locked, Taken, find_block};
 use crate::drafting::{addition, is_a_view};
 use crate::finds::Found;
+use crate::records::look_for_room;
 use call_locks::wants;
 use drafts::{Attempt, Change, Stamp};
 use file_tree::{Call, Name, Path, Reply};
@@ -66,7 +67,8 @@ fn nothing(alloc: Global) -> Change
     }
 }
 
-// Makes the name in the linear directory at a place, which hasn't it: a free block is searched, and then all is drafted.
+// Makes the name in the linear directory at a place, which hasn't it: a record with room is searched, then a free block, and then all is
+// drafted.
 fn make_at<V: View>(
     alloc: Global,
     view: &V,
@@ -101,6 +103,10 @@ fn make_at<V: View>(
             rule: 2,
         });
     }
+    let fits = look_for_room(view, place.inode, name)?;
+    if !fits {
+        return Ok(Found::NotBuilt(place.inode));
+    }
     let room = match find_block(view, stamp.node)? {
         Locked::Is(Taken::Is(room)) => room,
         Locked::Is(Taken::TooFew(free)) => return Ok(Found::NoSpace(free)),
@@ -116,8 +122,7 @@ fn make_at<V: View>(
         name,
         &room,
     )? {
-        Step::Is(Some(change)) => Ok(Found::Made(change)),
-        Step::Is(None) => Ok(Found::NotBuilt(place.inode)),
+        Step::Is(change) => Ok(Found::Made(change)),
         Step::NeedBlock(missing) => Ok(Found::NeedBlock(missing)),
     }
 }

@@ -1,23 +1,22 @@
-use Rattle.std.proofs.Common.{◌≡◌, ℕ, List, true, false, sym, ap, ◌∙◌, subst}
-use Rattle.std.specs.List.{list_any}
+use Rattle.std.proofs.Common.{◌≡◌, ℕ, List, true, false, true≢false, sym, ap, ◌∙◌, subst}
 use Rattle.std.specs.FinMap.{get}
 use Rattle.std.specs.Prelude.{length}
 use Rattle.drafts.specs.Fates.{seen_in, seen_with}
-use Rattle.gfs2_layout.specs.Area.{slots_of}
 use Rattle.gfs2_layout.specs.Holding.{Holding}
-use Rattle.gfs2_layout.specs.Inode.{linear_area}
-use Rattle.gfs2_layout.specs.Putting.{has_room, least_length}
+use Rattle.gfs2_layout.specs.Putting.{least_length}
 use Rattle.gfs2_layout.specs.declared.dinode.Dinode.{Dinode}
 use Rattle.glock_names.specs.Steps.{TellsOf}
 use Rattle.glock_names.specs.Views.{HasBlock, HasGroup, IsOfView, IsView}
 use Rattle.glock_names.proofs.StepLaws.{answer_at, needed_at}
 use Rattle.dinode_tree.specs.Shown.{IsShown}
+use Rattle.dinode_tree.proofs.Sound.{some_is_shown}
 use Rattle.linear_dirs.specs.Broken.{IsBroken}
 use Rattle.linear_dirs.specs.Shown.{IsLinearIn}
 use Rattle.new_inodes.specs.New.{IsInodePut}
 use Rattle.resource_groups.specs.Shown.{IsHeaderOf}
 use Rattle.resource_groups.specs.Shown as group
 use Rattle.making_calls.specs.Drafting.{IsWrongIn, in_directory, in_group, IsNumbered, IsNewOf, IsRecordPut}
+use Rattle.making_calls.specs.Making.{has_room_for}
 use Rattle.making_calls.proofs.Adding.{addition_is, done_is, first_seen, fourth_seen, old_view, others_stay}
 use Rattle.making_calls.proofs.Faults.{told_on, tells_all, tells_each, tells_so, tells_two, only_so}
 use Rattle.making_calls.proofs.Numbered.{group_shown}
@@ -115,8 +114,8 @@ returns-in_err-done-clause-kept g c =
     told_on (IsOfView v) _ _ c.from_residual-in_err-done.ensures.1
     (tells_so (IsOfView (seen_in g.V.View.seen d1)) (IsOfView v) (λ rule b has. kept_over v k c.in-Is.number d1.fates num c.is_a_view.ensures c.requires.group dir c.requires.inside header b (subst (λ w. HasBlock w b) seen1 has)) c.in_err-done.field-0.0 c.in_err-done.ensures.kept)
 
-pub returns-then-not-done-clause-full : goal.returns-then-not-done-clause-full
-returns-then-not-done-clause-full g c h shown =
+pub unreachable-requires : goal.unreachable-requires
+unreachable-requires g c =
     let v = g.V.View.seen c.args.view.now in
     let k = c.args.room.now.group in
     let dir = c.args.place.now.inode in
@@ -124,9 +123,11 @@ returns-then-not-done-clause-full g c h shown =
     let same = answer_at _ _ _ c.in-Is.is c.in_ok-number.ensures.view in
     let seen1 = first_seen g.V.View.seen c.args.view.now c.new-draft.result d1 c.new-draft.ensures same in
     let num : IsNumbered v k c.in-Is.number d1.fates = subst (λ x. IsNumbered (g.V.View.seen x) k c.in-Is.number d1.fates) (old_view g.V.View.seen c.args.view.now c.new-draft.result d1 c.new-draft.ensures same) (answer_at _ _ _ c.in-Is.is c.in_ok-number.ensures.numbered) in
-    let told = room_over v k c.in-Is.number d1.fates num c.is_a_view.ensures c.requires.group dir c.requires.inside c.requires.there c.requires.linear h shown (ap (λ (d : Dinode). d.height) (sym (c.requires.dinode h shown)) ∙ c.in_ok-check_parent.ensures.stuffed) (least_length (length c.bytes.result.now)) c.in_ok-done.done
+    let s = some_is_shown v dir in
+    let told = room_over v k c.in-Is.number d1.fates num c.is_a_view.ensures c.requires.group dir c.requires.inside c.requires.there c.requires.linear s.0 s.1.0 (ap (λ (d : Dinode). d.height) (sym (c.requires.dinode s.0 s.1.0)) ∙ c.in_ok-check_parent.ensures.stuffed) (least_length (length c.bytes.result.now)) c.in_ok-done.done
     (λ x seen. c.in_ok-done.ensures.full x (subst (λ w. IsShown w dir x) (sym seen1) seen)) in
-    subst (λ n. list_any (has_room (least_length (length n))) (slots_of (linear_area h)) ≡ false) c.bytes.ensures.bytes (sym told ∙ c.if-not-done.true)
+    let full = subst (λ n. has_room_for s.0 n ≡ false) c.bytes.ensures.bytes (sym told ∙ c.if-not-done.true) in
+    true≢false (sym (c.requires.fits s.0 s.1.0) ∙ full)
 
 pub returns-in-Is-2-clause-added : goal.returns-in-Is-2-clause-added
 returns-in-Is-2-clause-added g c =

@@ -1,5 +1,4 @@
 use Rattle.std.proofs.Common.{◌≡◌, ◌+◌, [], ◌∷◌, ◌++◌, length, false, sym, ap, ◌∙◌, subst, subst₂}
-use Rattle.std.specs.Prelude.{if◌then◌else◌}
 use Rattle.cluster_history.specs.Changes.{is_ok}
 use Rattle.file_tree.specs.Apply.{apply}
 use Rattle.file_tree.specs.Names.{parent_of}
@@ -11,8 +10,7 @@ use Rattle.path_walks.specs.Holds.{AreHeld, holds}
 use Rattle.path_walks.specs.Walks.{AreInOrder, IsTold, IsWalked}
 use Rattle.path_walks.specs.Walks as path
 use Rattle.path_walks.proofs.Lists.{parent_of_next}
-use Rattle.making_calls.specs.Blocks.{new_holds}
-use Rattle.making_calls.specs.Making.{IsDamage, IsUnbuilt, directory_path, path_holds}
+use Rattle.making_calls.specs.Making.{IsDamage, IsUnbuilt, directory_path, inode_holds, path_holds}
 use Rattle.making_calls.proofs.Faults.{only_so, told_on}
 use Rattle.making_calls.proofs.Holds.{lack_before}
 use Rattle.making_calls.proofs.InImage.{asked_before}
@@ -105,7 +103,7 @@ returns-in-NeedLock-clause-found g c im o l t of =
     let front : c.in-Some.front.now ≡ directory_path call = sym (ap parent_of whole ∙ parent_of_next c.in-Some.front.now c.in-Some.last.now) in
     let walked = subst₂ (λ names wants. IsWalked v im o l t names wants c.in_ok-place.field-0) front (c.deref.ensures.value ∙ c.in_ok-wants.ensures) (c.in_ok-place.ensures.walked im o l t of) in
     let at = subst (IsWalked v im o l t (directory_path call) (wanted call)) c.in-NeedLock.is walked in
-    lack_before v (path_holds im o l call) (if is_ok (apply call t).reply then new_holds o l c.args.stamp.now.node else []) c.in-NeedLock.lock c.in-NeedLock.state at
+    lack_before v (path_holds im o l call) (inode_holds im o l t call c.args.stamp.now.node) c.in-NeedLock.lock c.in-NeedLock.state at
 
 pub returns-clause-found : goal.returns-clause-found
 returns-clause-found g c im o l t of =
@@ -115,7 +113,7 @@ returns-clause-found g c im o l t of =
     let front : c.in-Some.front.now ≡ directory_path call = sym (ap parent_of whole ∙ parent_of_next c.in-Some.front.now c.in-Some.last.now) in
     let walked = subst₂ (λ names wants. IsWalked v im o l t names wants c.in_ok-place.field-0) front (c.deref.ensures.value ∙ c.in_ok-wants.ensures) (c.in_ok-place.ensures.walked im o l t of) in
     let at = subst (IsWalked v im o l t (directory_path call) (wanted call)) c.in-NeedBlock.is walked in
-    asked_before v im o l (path_holds im o l call) (if is_ok (apply call t).reply then new_holds o l c.args.stamp.now.node else []) c.in-NeedBlock.missing at
+    asked_before v im o l (path_holds im o l call) (inode_holds im o l t call c.args.stamp.now.node) c.in-NeedBlock.missing at
 
 pub returns-in-NeedLock-clause-way : goal.returns-in-NeedLock-clause-way
 returns-in-NeedLock-clause-way g c =

@@ -1,17 +1,17 @@
 use Rattle.std.proofs.Common.{◌≡◌, false, sym, ap, ◌∙◌, subst}
-use Rattle.std.specs.List.{list_any}
-use Rattle.std.specs.Prelude.{IfNone, IfSome, length, not}
-use Rattle.gfs2_layout.specs.Area.{slots_of}
+use Rattle.std.specs.Prelude.{not}
 use Rattle.gfs2_layout.specs.Holding.{Holding}
-use Rattle.gfs2_layout.specs.Inode.{linear_area}
-use Rattle.gfs2_layout.specs.Putting.{has_room, least_length}
 use Rattle.glock_names.proofs.StepLaws.{answer_at, needed_at}
 use Rattle.dinode_tree.specs.Shown.{IsShown}
 use Rattle.resource_groups.specs.Shown.{said}
-use Rattle.path_walks.proofs.Steps.{none_so}
+use Rattle.linear_dirs.specs.Broken as directory
+use Rattle.image_model.specs.Owners.{holding}
+use Rattle.path_walks.specs.Walks as path
+use Rattle.path_walks.proofs.Images.{is_shown, unbroken_directory}
+use Rattle.path_walks.proofs.Steps.{fault_all, none_so}
 use Rattle.making_calls.specs.Blocks.{block_holds}
 use Rattle.making_calls.specs.Drafting.{IsAddition, IsWrongIn}
-use Rattle.making_calls.specs.Making.{IsDamage, LacksName, name_in}
+use Rattle.making_calls.specs.Making.{IsDamage, LacksName, directory_path, has_room_for, name_in}
 use Rattle.making_calls.specs.Making as damage
 use Rattle.making_calls.specs.Searches.{IsGroupBroken, IsTaken, IsUnder}
 use Rattle.making_calls.specs.declared.blocks.Locked.TheVariants as locked
@@ -31,30 +31,50 @@ returns-then-is_none-clause-damaged g c =
     let v = g.V.View.seen c.args.view.now in
     damage.no_data_block c.args.place.now.inode c.requires.seen.leads (none_so _ c.group_of.result (c.is_none.ensures ∙ ap not c.if-is_none.true) c.group_of.ensures.none)
 
+pub returns-in_err-fits-clause-sound : goal.returns-in_err-fits-clause-sound
+returns-in_err-fits-clause-sound g c im o l t of =
+    let v = g.V.View.seen c.args.view.now in
+    let dir = c.args.place.now.inode in
+    let at = (c.requires.reached im o l t of).place.at in
+    let h = holding im o dir in
+    let shown = is_shown v im o l t of (directory_path c.args.call.now) dir at in
+    let is = (c.requires.lacks h shown).linear in
+    told_on (λ rule b. ⊥) _ _ c.from_residual.ensures.1
+    (only_so (directory.IsBroken h) (λ rule b. ⊥) (λ rule b. unbroken_directory v im o l t of (directory_path c.args.call.now) dir rule b at is.directory is.linear) c.in_err-fits.field-0.0 (c.in_err-fits.ensures.damaged h shown))
+
+pub returns-in_err-fits-clause-damaged : goal.returns-in_err-fits-clause-damaged
+returns-in_err-fits-clause-damaged g c =
+    let v = g.V.View.seen c.args.view.now in
+    let dir = c.args.place.now.inode in
+    told_on (IsDamage v c.args.call.now) _ _ c.from_residual.ensures.1
+    (only_so (λ rule b. (h : Holding) → IsShown v dir h → directory.IsBroken h rule b) (IsDamage v c.args.call.now)
+    (λ rule b broken. damage.in_directory dir rule b c.requires.seen.leads (λ h shown. path.in_directory rule b (c.requires.lacks h shown).linear (broken h shown)))
+    c.in_err-fits.field-0.0 (fault_all v dir directory.IsBroken c.in_err-fits.field-0.0 c.in_err-fits.ensures.damaged))
+
 pub returns-in_err-room-clause-sound : goal.returns-in_err-room-clause-sound
 returns-in_err-room-clause-sound g c im o l t of =
     let v = g.V.View.seen c.args.view.now in
-    told_on (λ rule b. ⊥) _ _ c.from_residual.ensures.1 (only_so (IsGroupBroken v) (λ rule b. ⊥) (group_sound v im o l t of) c.in_err-room.field-0.0 c.in_err-room.ensures.damaged)
+    told_on (λ rule b. ⊥) _ _ c.from_residual-in_err-room.ensures.1 (only_so (IsGroupBroken v) (λ rule b. ⊥) (group_sound v im o l t of) c.in_err-room.field-0.0 c.in_err-room.ensures.damaged)
 
 pub returns-in_err-room-clause-damaged : goal.returns-in_err-room-clause-damaged
 returns-in_err-room-clause-damaged g c =
     let v = g.V.View.seen c.args.view.now in
-    told_on (IsDamage v c.args.call.now) _ _ c.from_residual.ensures.1 (only_so (IsGroupBroken v) (IsDamage v c.args.call.now) (λ rule b broken. damage.in_group rule b broken) c.in_err-room.field-0.0 c.in_err-room.ensures.damaged)
+    told_on (IsDamage v c.args.call.now) _ _ c.from_residual-in_err-room.ensures.1 (only_so (IsGroupBroken v) (IsDamage v c.args.call.now) (λ rule b broken. damage.in_group rule b broken) c.in_err-room.field-0.0 c.in_err-room.ensures.damaged)
 
 pub returns-in-Is-TooFew-clause-found : goal.returns-in-Is-TooFew-clause-found
 returns-in-Is-TooFew-clause-found g c im o l t of =
     let v = g.V.View.seen c.args.view.now in
-    too_few v c.args.call.now c.requires.making c.args.place.now c.args.name.now c.requires.last c.requires.named c.requires.lacks im o l t of (c.requires.reached im o l t of) c.args.stamp.now.node c.requires.groups c.requires.node c.in-Is-TooFew.free (λ at own shown is. subst (IsUnder v (block_holds (said at) v.groups own) (IsTaken v (said at) v.groups own)) (c.in-Is-TooFew.is ∙ ap locked.Is c.in-Is-TooFew.field-0-is) (c.in_ok-room.ensures.found at own shown is))
+    too_few v c.args.call.now c.requires.making c.args.place.now c.args.name.now c.requires.last c.requires.named c.requires.lacks im o l t of (c.requires.reached im o l t of) (λ h shown. sym (c.in_ok-fits.ensures.room h shown) ∙ c.if-not-fits.false) c.args.stamp.now.node c.requires.groups c.requires.node c.in-Is-TooFew.free (λ at own shown is. subst (IsUnder v (block_holds (said at) v.groups own) (IsTaken v (said at) v.groups own)) (c.in-Is-TooFew.is ∙ ap locked.Is c.in-Is-TooFew.field-0-is) (c.in_ok-room.ensures.found at own shown is))
 
 pub returns-in-NeedLock-clause-found : goal.returns-in-NeedLock-clause-found
 returns-in-NeedLock-clause-found g c im o l t of =
     let v = g.V.View.seen c.args.view.now in
-    lock_lacks v c.args.call.now c.requires.making c.args.place.now c.args.name.now c.requires.last c.requires.named c.requires.lacks im o l t of (c.requires.reached im o l t of) c.args.stamp.now.node c.requires.groups c.requires.node c.in-NeedLock.lock c.in-NeedLock.state (λ at own shown is. subst (IsUnder v (block_holds (said at) v.groups own) (IsTaken v (said at) v.groups own)) (c.in-NeedLock.is) (c.in_ok-room.ensures.found at own shown is))
+    lock_lacks v c.args.call.now c.requires.making c.args.place.now c.args.name.now c.requires.last c.requires.named c.requires.lacks im o l t of (c.requires.reached im o l t of) (λ h shown. sym (c.in_ok-fits.ensures.room h shown) ∙ c.if-not-fits.false) c.args.stamp.now.node c.requires.groups c.requires.node c.in-NeedLock.lock c.in-NeedLock.state (λ at own shown is. subst (IsUnder v (block_holds (said at) v.groups own) (IsTaken v (said at) v.groups own)) (c.in-NeedLock.is) (c.in_ok-room.ensures.found at own shown is))
 
 pub returns-in-NeedBlock-clause-found : goal.returns-in-NeedBlock-clause-found
 returns-in-NeedBlock-clause-found g c im o l t of =
     let v = g.V.View.seen c.args.view.now in
-    block_lacks v c.args.call.now c.requires.making c.args.place.now c.args.name.now c.requires.last c.requires.named c.requires.lacks im o l t of (c.requires.reached im o l t of) c.args.stamp.now.node c.requires.groups c.requires.node c.in-NeedBlock.missing (λ at own shown is. subst (IsUnder v (block_holds (said at) v.groups own) (IsTaken v (said at) v.groups own)) (c.in-NeedBlock.is) (c.in_ok-room.ensures.found at own shown is))
+    block_lacks v c.args.call.now c.requires.making c.args.place.now c.args.name.now c.requires.last c.requires.named c.requires.lacks im o l t of (c.requires.reached im o l t of) (λ h shown. sym (c.in_ok-fits.ensures.room h shown) ∙ c.if-not-fits.false) c.args.stamp.now.node c.requires.groups c.requires.node c.in-NeedBlock.missing (λ at own shown is. subst (IsUnder v (block_holds (said at) v.groups own) (IsTaken v (said at) v.groups own)) (c.in-NeedBlock.is) (c.in_ok-room.ensures.found at own shown is))
 
 pub addition-requires-clause-linear : goal.addition-requires-clause-linear
 addition-requires-clause-linear g c =
@@ -88,47 +108,44 @@ returns-in_err-change-clause-damaged g c =
     (tells_so (IsWrongIn v c.args.place.now.inode c.in-Is-Is.room.group) (IsDamage v c.args.call.now) (wrong_damage v c.args.call.now c.requires.making c.args.place.now c.args.name.now c.requires.last c.requires.named c.requires.lacks c.requires.seen.leads c.in-Is-Is.room.group room.has room.group_held) c.in_err-change.field-0.0
     c.in_err-change.ensures.damaged)
 
-pub returns-in-Is-Some-clause-found : goal.returns-in-Is-Some-clause-found
-returns-in-Is-Some-clause-found g c im o l t of =
+pub returns-in-Is-clause-found : goal.returns-in-Is-clause-found
+returns-in-Is-clause-found g c im o l t of =
     let v = g.V.View.seen c.args.view.now in
-    all_held v c.args.call.now c.requires.making c.args.place.now c.args.name.now c.requires.last c.requires.named c.requires.lacks im o l t of (c.requires.reached im o l t of) c.args.stamp.now.node c.requires.groups c.requires.node c.in-Is-Is.room (λ at own shown is. subst (IsUnder v (block_holds (said at) v.groups own) (IsTaken v (said at) v.groups own)) (c.in-Is-Is.is ∙ ap locked.Is c.in-Is-Is.field-0-is) (c.in_ok-room.ensures.found at own shown is))
+    all_held v c.args.call.now c.requires.making c.args.place.now c.args.name.now c.requires.last c.requires.named c.requires.lacks im o l t of (c.requires.reached im o l t of) (λ h shown. sym (c.in_ok-fits.ensures.room h shown) ∙ c.if-not-fits.false) c.args.stamp.now.node c.requires.groups c.requires.node c.in-Is-Is.room (λ at own shown is. subst (IsUnder v (block_holds (said at) v.groups own) (IsTaken v (said at) v.groups own)) (c.in-Is-Is.is ∙ ap locked.Is c.in-Is-Is.field-0-is) (c.in_ok-room.ensures.found at own shown is))
 
-pub returns-in-Is-Some-clause-done : goal.returns-in-Is-Some-clause-done
-returns-in-Is-Some-clause-done g c =
+pub returns-in-Is-clause-done : goal.returns-in-Is-clause-done
+returns-in-Is-clause-done g c =
     let v = g.V.View.seen c.args.view.now in
     let room = room_held v c.args.stamp.now.node c.in-Is-Is.room c.is_a_view.ensures c.requires.groups c.requires.node (λ at own shown is. subst (IsUnder v (block_holds (said at) v.groups own) (IsTaken v (said at) v.groups own)) (c.in-Is-Is.is ∙ ap locked.Is c.in-Is-Is.field-0-is) (c.in_ok-room.ensures.found at own shown is)) in
-    let some = subst (λ x. IfSome x (IsAddition v c.is_of_directory.result c.args.place.now c.args.name.now c.in-Is-Is.room)) c.in-Is-Some.field-0-is (answer_at _ _ _ c.in-Is-Some.is c.in_ok-change.ensures.added) in
-    let added = subst (λ b. IsAddition v b c.args.place.now c.args.name.now c.in-Is-Is.room c.in-Is-Some.change) c.is_of_directory.ensures some in
-    addition_does v c.args.call.now c.requires.making c.args.place.now c.args.name.now c.requires.last c.requires.named c.requires.lacks c.requires.seen.leads c.in-Is-Is.room room c.in-Is-Some.change added c.requires.reached
-    (λ im o l t of. placed v c.args.call.now c.requires.making c.args.place.now c.args.name.now c.requires.last c.requires.named c.requires.lacks im o l t of (c.requires.reached im o l t of) c.args.stamp.now.node c.requires.groups c.requires.node c.in-Is-Is.room (λ at own shown is. subst (IsUnder v (block_holds (said at) v.groups own) (IsTaken v (said at) v.groups own)) (c.in-Is-Is.is ∙ ap locked.Is c.in-Is-Is.field-0-is) (c.in_ok-room.ensures.found at own shown is)))
+    let some = answer_at _ _ _ c.in-Is.is c.in_ok-change.ensures.added in
+    let added = subst (λ b. IsAddition v b c.args.place.now c.args.name.now c.in-Is-Is.room c.in-Is.change) c.is_of_directory.ensures some in
+    addition_does v c.args.call.now c.requires.making c.args.place.now c.args.name.now c.requires.last c.requires.named c.requires.lacks c.requires.seen.leads c.in-Is-Is.room room c.in-Is.change added c.requires.reached
+    (λ im o l t of. placed v c.args.call.now c.requires.making c.args.place.now c.args.name.now c.requires.last c.requires.named c.requires.lacks im o l t of (c.requires.reached im o l t of) (λ h shown. sym (c.in_ok-fits.ensures.room h shown) ∙ c.if-not-fits.false) c.args.stamp.now.node c.requires.groups c.requires.node c.in-Is-Is.room (λ at own shown is. subst (IsUnder v (block_holds (said at) v.groups own) (IsTaken v (said at) v.groups own)) (c.in-Is-Is.is ∙ ap locked.Is c.in-Is-Is.field-0-is) (c.in_ok-room.ensures.found at own shown is)))
 
-pub returns-in-Is-Some-clause-inside : goal.returns-in-Is-Some-clause-inside
-returns-in-Is-Some-clause-inside g c =
+pub returns-in-Is-clause-inside : goal.returns-in-Is-clause-inside
+returns-in-Is-clause-inside g c =
     let v = g.V.View.seen c.args.view.now in
-    (subst (λ x. IfSome x (IsAddition v c.is_of_directory.result c.args.place.now c.args.name.now c.in-Is-Is.room)) c.in-Is-Some.field-0-is (answer_at _ _ _ c.in-Is-Some.is c.in_ok-change.ensures.added)).inside
+    (answer_at _ _ _ c.in-Is.is c.in_ok-change.ensures.added).inside
 
-pub returns-in-Is-Some-clause-under : goal.returns-in-Is-Some-clause-under
-returns-in-Is-Some-clause-under g c im o l t of =
+pub returns-in-Is-clause-under : goal.returns-in-Is-clause-under
+returns-in-Is-clause-under g c im o l t of =
     let v = g.V.View.seen c.args.view.now in
-    let some = subst (λ x. IfSome x (IsAddition v c.is_of_directory.result c.args.place.now c.args.name.now c.in-Is-Is.room)) c.in-Is-Some.field-0-is (answer_at _ _ _ c.in-Is-Some.is c.in_ok-change.ensures.added) in
-    let added = subst (λ b. IsAddition v b c.args.place.now c.args.name.now c.in-Is-Is.room c.in-Is-Some.change) c.is_of_directory.ensures some in
-    under v c.args.call.now c.requires.making c.args.place.now c.args.name.now c.requires.last c.requires.named c.requires.lacks im o l t of (c.requires.reached im o l t of) c.args.stamp.now.node c.requires.groups c.requires.node c.in-Is-Is.room (λ at own shown is. subst (IsUnder v (block_holds (said at) v.groups own) (IsTaken v (said at) v.groups own)) (c.in-Is-Is.is ∙ ap locked.Is c.in-Is-Is.field-0-is) (c.in_ok-room.ensures.found at own shown is)) c.in-Is-Some.change added
+    let some = answer_at _ _ _ c.in-Is.is c.in_ok-change.ensures.added in
+    let added = subst (λ b. IsAddition v b c.args.place.now c.args.name.now c.in-Is-Is.room c.in-Is.change) c.is_of_directory.ensures some in
+    under v c.args.call.now c.requires.making c.args.place.now c.args.name.now c.requires.last c.requires.named c.requires.lacks im o l t of (c.requires.reached im o l t of) (λ h shown. sym (c.in_ok-fits.ensures.room h shown) ∙ c.if-not-fits.false) c.args.stamp.now.node c.requires.groups c.requires.node c.in-Is-Is.room (λ at own shown is. subst (IsUnder v (block_holds (said at) v.groups own) (IsTaken v (said at) v.groups own)) (c.in-Is-Is.is ∙ ap locked.Is c.in-Is-Is.field-0-is) (c.in_ok-room.ensures.found at own shown is)) c.in-Is.change added
 
-pub returns-in-Is-None-clause-hashed : goal.returns-in-Is-None-clause-hashed
-returns-in-Is-None-clause-hashed g c =
-    let v = g.V.View.seen c.args.view.now in
-    let name : name_in c.args.call.now ≡ c.args.name.now = own_name v c.args.call.now c.requires.making c.args.place.now c.args.name.now c.requires.last c.requires.named c.requires.lacks in
-    let full = subst (λ x. IfNone x ((h : Holding) → IsShown v c.args.place.now.inode h → list_any (has_room (least_length (length c.args.name.now))) (slots_of (linear_area h)) ≡ false)) c.in-Is-None.field-0-is
-    (answer_at _ _ _ c.in-Is-None.is c.in_ok-change.ensures.full) in
+pub returns-then-not-fits-clause-hashed : goal.returns-then-not-fits-clause-hashed
+returns-then-not-fits-clause-hashed g c =
+    let name : name_in c.args.call.now ≡ c.args.name.now = own_name (g.V.View.seen c.args.view.now) c.args.call.now c.requires.making c.args.place.now c.args.name.now c.requires.last c.requires.named c.requires.lacks in
     damage.no_room c.requires.seen.leads c.requires.seen.there (λ h shown. record {
       lacks = subst (LacksName h) (sym name) (c.requires.lacks h shown);
-      full = subst (λ n. list_any (has_room (least_length (length n))) (slots_of (linear_area h)) ≡ false) (sym name) (full h shown);
+      full = subst (λ n. has_room_for h n ≡ false) (sym name) (sym (c.in_ok-fits.ensures.room h shown) ∙ c.if-not-fits.true);
     })
 
 pub returns-in-NeedBlock-2-clause-found : goal.returns-in-NeedBlock-2-clause-found
 returns-in-NeedBlock-2-clause-found g c im o l t of =
     let v = g.V.View.seen c.args.view.now in
-    group_lacks v c.args.call.now c.requires.making c.args.place.now c.args.name.now c.requires.last c.requires.named c.requires.lacks im o l t of (c.requires.reached im o l t of) c.args.stamp.now.node c.requires.groups c.requires.node c.in-Is-Is.room (λ at own shown is. subst (IsUnder v (block_holds (said at) v.groups own) (IsTaken v (said at) v.groups own)) (c.in-Is-Is.is ∙ ap locked.Is c.in-Is-Is.field-0-is) (c.in_ok-room.ensures.found at own shown is)) c.in-NeedBlock-2.missing (needed_at _ _ _ c.in-NeedBlock-2.is c.in_ok-change.ensures.needed)
+    group_lacks v c.args.call.now c.requires.making c.args.place.now c.args.name.now c.requires.last c.requires.named c.requires.lacks im o l t of (c.requires.reached im o l t of) (λ h shown. sym (c.in_ok-fits.ensures.room h shown) ∙ c.if-not-fits.false) c.args.stamp.now.node c.requires.groups c.requires.node c.in-Is-Is.room (λ at own shown is. subst (IsUnder v (block_holds (said at) v.groups own) (IsTaken v (said at) v.groups own)) (c.in-Is-Is.is ∙ ap locked.Is c.in-Is-Is.field-0-is) (c.in_ok-room.ensures.found at own shown is)) c.in-NeedBlock-2.missing (needed_at _ _ _ c.in-NeedBlock-2.is c.in_ok-change.ensures.needed)
 
 pub returns-in-NeedLock-clause-way : goal.returns-in-NeedLock-clause-way
 returns-in-NeedLock-clause-way g c =

@@ -1,0 +1,23 @@
+use Rattle.std.proofs.Common.{ap, ap₂, drop, length, sym, ◌∙◌, subst}
+use Rattle.std.specs.List.{list_any}
+use Rattle.gfs2_layout.specs.Area.{IsArea, slots_of}
+use Rattle.gfs2_layout.specs.Putting.{has_room, least_length}
+use Rattle.gfs2_layout.specs.Structures.{dinode_length}
+use Rattle.dinode_tree.proofs.Dinodes.{lacks}
+use Rattle.linear_dirs.specs.Broken.{IsBroken, no_area}
+use Rattle.linear_dirs.proofs.Looked.{bytes_of, rest_is}
+use Rattle.making_calls.proofs.records.look_for_room.Goals as goal
+
+pub returns-then-not-is_area-clause-damaged : goal.returns-then-not-is_area-clause-damaged
+returns-then-not-is_area-clause-damaged g c h shown =
+    let v = g.V.View.seen c.args.view.now in
+    let bytes = c.in-Some.bytes.now in
+    let same = rest_is dinode_length bytes ∙ ap (drop dinode_length) (sym (bytes_of v h c.args.dir bytes shown c.in-Some.ensures.some)) in
+    subst (IsBroken h 9) shown.own (no_area (λ has. lacks c.is_area.result c.is_area.ensures c.if-not-is_area.true (subst IsArea (sym same) has)))
+
+pub returns-clause-room : goal.returns-clause-room
+returns-clause-room g c h shown =
+    let v = g.V.View.seen c.args.view.now in
+    let bytes = c.in-Some.bytes.now in
+    let same = rest_is dinode_length bytes ∙ ap (drop dinode_length) (sym (bytes_of v h c.args.dir bytes shown c.in-Some.ensures.some)) in
+    c.some_has_room.ensures ∙ ap₂ (λ n area. list_any (has_room n) (slots_of area)) (c.least_length.ensures ∙ ap (λ n. least_length (length n)) c.bytes.ensures.bytes) same
