@@ -154,7 +154,7 @@ returns-in-Create-clause-under g c im o l t of =
     let is : IsMaking c.args.call.now = search rules in
     let list = call_holds im o l t c.args.call.now c.args.stamp.now.node in
     done_so c.attempt-in-Create.result _ (λ reply change. IsUnder o list change) (λ x change u. record { written = u.written; freed = u.freed })
-        (subst (λ list. IfDone c.attempt-in-Create.result (λ reply change. making.IsUnder o list change)) (sym (making_holds im o l t c.args.stamp.now.node c.args.call.now is)) (c.attempt-in-Create.ensures.under im o l t of))
+    (subst (λ list. IfDone c.attempt-in-Create.result (λ reply change. making.IsUnder o list change)) (sym (making_holds im o l t c.args.stamp.now.node c.args.call.now is)) (c.attempt-in-Create.ensures.under im o l t of))
 
 few_so : (r : Result Attempt CallFault) (P Q : ℕ → ℕ → Type 0) → ((need free : ℕ) → P need free → Q need free) → IfNoSpace r P → IfNoSpace r Q
 few_so (Ok (NeedBlock m)) P Q f is = tt

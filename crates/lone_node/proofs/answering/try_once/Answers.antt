@@ -97,5 +97,5 @@ returns-in-Ok-NoSpace-clause-answered g c =
     let d = g.D.SharedDisk.state c.args.disk.now in
     let v = seen_alone c.args.view.now in
     answered_full d c.args.view.now c.args.call.now c.in-Ok-NoSpace.need c.in-Ok-NoSpace.free c.requires.on
-        (subst (λ a. IfNoSpace (Ok a) (λ need free. TakesSpace c.args.call.now)) c.in-Ok-NoSpace.field-0-is c.in-Ok-NoSpace.ensures.roomless)
-        (λ im o l t of. subst (λ a. IfNoSpace (Ok a) (IsTooFew v im o l t c.args.call.now)) c.in-Ok-NoSpace.field-0-is (c.in-Ok-NoSpace.ensures.space im o l t of))
+    (subst (λ a. IfNoSpace (Ok a) (λ need free. TakesSpace c.args.call.now)) c.in-Ok-NoSpace.field-0-is c.in-Ok-NoSpace.ensures.roomless)
+    (λ im o l t of. subst (λ a. IfNoSpace (Ok a) (IsTooFew v im o l t c.args.call.now)) c.in-Ok-NoSpace.field-0-is (c.in-Ok-NoSpace.ensures.space im o l t of))
