@@ -9,7 +9,7 @@ ghost use Rattle.run_rules.specs.Follows.{history_of};
 ghost use Rattle.run_rules.specs.History.{HoldsHistory, NoneStopped, AllAnswered};
 ghost use Rattle.shared_disk.specs.Disk.{IsIdle};
 ghost use Rattle.file_calls.specs.Calls.{IsBuilt};
-ghost use Rattle.lone_node.specs.Answering.{IsSameDisk, IsUnbuiltOn};
+ghost use Rattle.lone_node.specs.Answering.{IsDamagedOn, IsSameDisk, IsUnbuiltOn};
 ghost use Rattle.lone_node.specs.Ends.{HasCause, IfDamaged, IfNotBuilt, UnlessDiskFailed, UnlessFailed};
 ghost use Rattle.lone_node.specs.Run.{EndsAtCall, IsLineOf, IsOwnScript, IsRunOf, IsRunUpTo, IsTakenCall, IsWholeRun, full_item};
 ghost use Rattle.lone_node.specs.Standing.{IsOn, IsSameSystem, StandsFor};
@@ -104,6 +104,7 @@ fn take_call<D: SharedDisk>(
     ensures system { OnOk result (IsSameSystem view.old view.new) }
     ensures before { IfErr result (λ end. UnlessFailed end (D.state disk.new ≡ D.state disk.old)) }
     ensures sound { IfErr result (λ end. IfDamaged end (λ b rule. (t : Tree) → StandsFor (D.state disk.old) view.old t → ⊥)) }
+    ensures damaged { IfErr result (λ end. IfDamaged end (IsDamagedOn (D.state disk.old) view.old call.now)) }
     ensures unbuilt { IfErr result (λ end. IfNotBuilt end (IsUnbuiltOn (D.state disk.old) view.old call.now)) }
     ensures later { (i : ℕ) → D.faults disk.old i ≤ D.faults disk.new i }
     ensures cause { IfErr result (HasCause 1 (D.state disk.old).count (D.faults disk.old) (D.faults disk.new)) }
@@ -144,6 +145,7 @@ fn take_lines<D: SharedDisk>(
     ensures on { OnOk result (IsOn (D.state disk.new) view.new) }
     ensures system { OnOk result (IsSameSystem view.old view.new) }
     ensures sound { IfErr result (λ end. IfDamaged end (λ b rule. (t : Tree) → StandsFor (D.state disk.old) view.old t → ⊥)) }
+    ensures damaged { IfErr result (λ end. IfDamaged end (λ b rule. EndsAtCall (λ call. IsDamagedOn (D.state disk.new) view.old call b rule) clients.now lines.now items.new.items (StandsFor (D.state disk.old) view.old))) }
     ensures unbuilt { IfErr result (λ end. IfNotBuilt end (λ b. EndsAtCall (λ call. IsUnbuiltOn (D.state disk.new) view.old call b) clients.now lines.now items.new.items (StandsFor (D.state disk.old) view.old))) }
     ensures later { (i : ℕ) → D.faults disk.old i ≤ D.faults disk.new i }
     ensures cause { IfErr result (HasCause 1 (D.state disk.old).count (D.faults disk.old) (D.faults disk.new)) }
@@ -187,6 +189,7 @@ fn run_lines<D: SharedDisk>(
     ensures on { OnOk result (IsOn (D.state disk.new) view.new) }
     ensures system { OnOk result (IsSameSystem view.old view.new) }
     ensures sound { IfErr result (λ end. IfDamaged end (λ b rule. (t : Tree) → StandsFor (D.state disk.old) view.old t → ⊥)) }
+    ensures damaged { IfErr result (λ end. IfDamaged end (λ b rule. EndsAtCall (λ call. IsDamagedOn (D.state disk.new) view.old call b rule) clients.now lines.now items.new.items (StandsFor (D.state disk.old) view.old))) }
     ensures unbuilt { IfErr result (λ end. IfNotBuilt end (λ b. EndsAtCall (λ call. IsUnbuiltOn (D.state disk.new) view.old call b) clients.now lines.now items.new.items (StandsFor (D.state disk.old) view.old))) }
     ensures later { (i : ℕ) → D.faults disk.old i ≤ D.faults disk.new i }
     ensures cause { IfErr result (HasCause 1 (D.state disk.old).count (D.faults disk.old) (D.faults disk.new)) }
@@ -233,6 +236,7 @@ pub fn run_script<D: SharedDisk>(
     ensures on { OnOk result (IsOn (D.state disk.new) view.new) }
     ensures system { OnOk result (IsSameSystem view.old view.new) }
     ensures sound { IfErr result (λ end. IfDamaged end (λ b rule. (t : Tree) → StandsFor (D.state disk.old) view.old t → ⊥)) }
+    ensures damaged { IfErr result (λ end. IfDamaged end (λ b rule. EndsAtCall (λ call. IsDamagedOn (D.state disk.new) view.old call b rule) script.now.clients script.now.lines items.new.items (StandsFor (D.state disk.old) view.old))) }
     ensures unbuilt { IfErr result (λ end. IfNotBuilt end (λ b. EndsAtCall (λ call. IsUnbuiltOn (D.state disk.new) view.old call b) script.now.clients script.now.lines items.new.items (StandsFor (D.state disk.old) view.old))) }
     ensures later { (i : ℕ) → D.faults disk.old i ≤ D.faults disk.new i }
     ensures cause { IfErr result (HasCause 1 (D.state disk.old).count (D.faults disk.old) (D.faults disk.new)) }

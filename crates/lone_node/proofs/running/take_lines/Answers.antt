@@ -4,11 +4,11 @@ use Rattle.cluster_history.specs.History.{tree_of}
 use Rattle.run_rules.specs.Follows.{history_of}
 use Rattle.shared_disk.specs.Disk.{DiskState}
 use Rattle.trace_text.specs.declared.item.TraceItem.{TraceItem}
-use Rattle.lone_node.specs.Answering.{IsUnbuiltOn}
+use Rattle.lone_node.specs.Answering.{IsDamagedOn, IsUnbuiltOn}
 use Rattle.lone_node.specs.Run.{EndsAtCall}
 use Rattle.lone_node.specs.Standing.{StandsFor}
 use Rattle.lone_node.proofs.Answered.{damaged_so, stands_on}
-use Rattle.lone_node.proofs.Endings.{same_back, unbuilt_before, unbuilt_with, unless_so}
+use Rattle.lone_node.proofs.Endings.{damaged_before, damaged_with, same_back, unbuilt_before, unbuilt_with, unless_so}
 use Rattle.lone_node.proofs.Steps.{ends_here, goes_on, no_more_calls, run_none, tree_is, wait_more}
 use Rattle.lone_node.proofs.running.take_lines.Given.{Over}
 use Rattle.lone_node.proofs.running.take_lines.Goals as goal
@@ -108,6 +108,20 @@ returns-in-Err-clause-unbuilt g c =
     (λ call. IsUnbuiltOn next c.args.view.now call b) c.take_call.new.items.items c.in-Err.ensures.kept
     (unbuilt_before now next c.args.view.now c.loop-line.view c.in-Call.call b same so.system is))
     c.in-Err.ensures.before c.in-Err.ensures.unbuilt
+
+pub returns-in-Err-clause-damaged : goal.returns-in-Err-clause-damaged
+returns-in-Err-clause-damaged g c =
+    let so = c.loop-line.invariant in
+    let now = g.D.SharedDisk.state c.loop-line.disk in
+    let next = g.D.SharedDisk.state c.take_call.new.disk in
+    let start = StandsFor (g.D.SharedDisk.state c.args.disk.now) c.args.view.now in
+    damaged_with c.in-Err.end (IsDamagedOn now c.loop-line.view c.in-Call.call)
+    (λ b rule. EndsAtCall (λ call. IsDamagedOn next c.args.view.now call b rule) c.args.clients.now c.args.lines.now c.take_call.new.items.items start)
+    (λ (same : next ≡ now) b rule is. ends_here c.args.clients.now c.args.lines.now start c.loop-line.line-index c.loop-line.items.items c.loop-line-test.true so.run c.in-Call.client c.in-Call.call
+    c.line-item.result c.line-item.result c.index-clients-client.result c.line-item.is c.in-Call.is c.requires.form
+    (λ call. IsDamagedOn next c.args.view.now call b rule) c.take_call.new.items.items c.in-Err.ensures.kept
+    (damaged_before now next c.args.view.now c.loop-line.view c.in-Call.call b rule same so.system is))
+    c.in-Err.ensures.before c.in-Err.ensures.damaged
 
 pub returns-clause-stands : goal.returns-clause-stands
 returns-clause-stands g c t s =
