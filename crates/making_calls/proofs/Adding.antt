@@ -25,6 +25,7 @@ use Rattle.resource_groups.specs.Numbering.{IsNumberPut}
 use Rattle.resource_groups.specs.Putting.{HasDataBlock, IsPutIn, overlaid}
 use Rattle.resource_groups.specs.Shown.{IsDataOf, group_lock, said}
 use Rattle.resource_groups.specs.Shown as group
+use Rattle.resource_groups.proofs.Apart.{no_header_data}
 use Rattle.resource_groups.proofs.Fits.{fit_of}
 use Rattle.image_model.specs.Flat.{Path}
 use Rattle.image_model.specs.Groups.{GroupFits}
@@ -73,9 +74,8 @@ lock_put : (x y : LockName) (c d : Bool) (m n : List ℕ) → Some (Put x c m) �
 lock_put x y c d m n e = cc
 
 -- what was done over a view
-pub record AreDone (v : Seen) (is_directory : Bool) (p : Place) (name : List ℕ) (r : Room) (change : Change) : Type 0 where
+pub record AreDone (v : Seen) (is_directory : Bool) (p : Place) (name : List ℕ) (r : Room) (time : ℕ) (change : Change) : Type 0 where
   pub number : ℕ
-  pub time : ℕ
   pub first : FinMap nat_cmp Fate
   pub numbered : IsNumbered v r.group number first
   pub third : FinMap nat_cmp Fate
@@ -87,14 +87,14 @@ pub record AreDone (v : Seen) (is_directory : Bool) (p : Place) (name : List ℕ
   pub view : IsView (seen_with v fourth)
   pub said : IsSaidAndDone v fourth r.group r.block change
 
-module _ (v : Seen) (is_directory : Bool) (p : Place) (name : List ℕ) (r : Room) (change : Change) (is : AreDone v is_directory p name r change) where
+module _ (v : Seen) (is_directory : Bool) (p : Place) (name : List ℕ) (r : Room) (time : ℕ) (change : Change) (is : AreDone v is_directory p name r time change) where
   abbrev entry : Entry
   entry = record { number = is.number; addr = r.block; kind = kind_for is_directory }
 
   abbrev New : Holding → Type 0
-  New = IsNewOf is_directory p is.number r.block is.time
+  New = IsNewOf is_directory p is.number r.block time
 
-  abbrev steps : (k : Group) → r.group ≡ k → AreSteps v k p.inode r.block is.number is.time (record_for name entry) New empty is.first is.recorded.between is.third is.fourth is.said.fates
+  abbrev steps : (k : Group) → r.group ≡ k → AreSteps v k p.inode r.block is.number time (record_for name entry) New empty is.first is.recorded.between is.third is.fourth is.said.fates
   steps k same = record {
     view = is.view;
     fresh = get-empty nat_cmp;
@@ -192,18 +192,25 @@ module _ (v : Seen) (is_directory : Bool) (p : Place) (name : List ℕ) (r : Roo
         let fits : GroupFits im f.0 = of.stands.laid.fit.each f.0 f.1 in
         let free = subst (λ k. said im.at k r.block ≡ 0) f.2 place.free in
         let new : New (alone im.size im.count r.block is.bytes) = subst (λ size. New (alone size im.count r.block is.bytes)) (sym of.size) (is.new im.count (omega (arith, own.high, fits.inside))) in
-        adds_name v im o l t of path p.inode place.at f.0 f.1 r.block own free is.number is.time (record_for name entry) New empty is.first is.recorded.between is.third is.fourth is.said.fates
+        adds_name v im o l t of path p.inode place.at f.0 f.1 r.block own free is.number time (record_for name entry) New empty is.first is.recorded.between is.third is.fourth is.said.fates
         (steps (group_of_entry f.0) f.2)
         name (new_tree is_directory) is_name place.directory place.absent refl
-        (new_sound is_directory p is.number r.block is.time (alone im.size im.count r.block is.bytes) new)
-        (new_reads is_directory p is.number is.time (alone im.size im.count r.block is.bytes) (heads_of im o p.inode)
+        (new_sound is_directory p is.number r.block time (alone im.size im.count r.block is.bytes) new)
+        (new_reads is_directory p is.number time (alone im.size im.count r.block is.bytes) (heads_of im o p.inode)
         (ap₂ (λ (n : ℕ) (b : Bool). head n b) (ap (λ (d : Dinode). d.num.number) (sym place.dinode)) place.directory) new)
-        (new_record is_directory p is.number is.time (alone im.size im.count r.block is.bytes) name new)
+        (new_record is_directory p is.number time (alone im.size im.count r.block is.bytes) name new)
       where
         head : ℕ → Bool → Head
         head n b = record { number = n; is_dir = b }
 
-    pub addition_is : IsAddition v is_directory p name r change
+    -- a data block isn't the group's header, nor one of its bitmap
+    no_header : {g : Group} {b : ℕ} → IsDataOf g b → HasGroup v g → b ≢ r.group.addr
+    no_header {g} {b} own of same = let fit = fit_of v r.group shows has in no_header_data v shows r.group g has of b (record { low = omega (arith, same); high = omega (arith, same, fit.some) }) own
+
+    no_part : {g : Group} {b : ℕ} → IsDataOf g b → HasGroup v g → b ≢ r.group.addr + is.said.part
+    no_part {g} {b} own of same = no_header_data v shows r.group g has of b (record { low = omega (arith, same); high = omega (arith, same, is.said.within) }) own
+
+    pub addition_is : IsAddition v is_directory p name r time change
     addition_is = record {
       fates = is.said.fates;
       finished = is.said.finished;
@@ -211,6 +218,15 @@ module _ (v : Seen) (is_directory : Bool) (p : Place) (name : List ℕ) (r : Roo
       some = ap (λ f. is_some (block_with f None)) is.said.header_put;
       none_freed = none_freed shows has;
       inside = insides shows has inside data_block;
+      number = is.number;
+      next = is.numbered.next;
+      bytes = is.bytes;
+      put = is.said.others r.block (no_header data_block has) (no_part data_block has) ∙ ap (λ (m : FinMap nat_cmp Fate). get m r.block) is.put ∙ put_there is.third r.block _;
+      new = is.new;
+      parent_bytes = is.recorded.bytes;
+      parent_put = λ apart. is.said.others p.inode (no_header inside.2 inside.1) (no_part inside.2 inside.1) ∙ of_fourth p.inode apart
+          ∙ ap (λ (m : FinMap nat_cmp Fate). get m p.inode) is.recorded.put ∙ put_there is.recorded.between p.inode _;
+      times = is.recorded.still;
       adds = adds;
     }
 
@@ -230,13 +246,12 @@ module _ {V : Type 0} (seen : V → Seen) (view : V) (d0 d1 : Drafted V) (fresh 
       → IsNumbered (seen d0.view) r.group number d1.fates
       → IsRecordPut (seen d1.view) d1.fates p.inode time name (record { number = number; addr = r.block; kind = kind }) d3.fates → d3.view ≡ d1.view
       → ((bytes : List ℕ) × IsInodePut seen d3 d4 r.block (IsNewOf is_directory p number r.block time) bytes) → IsView (seen_in seen d4)
-      → IsSaidAndDone (seen d4.view) d4.fates r.group r.block change → AreDone (seen view) is_directory p name r change
+      → IsSaidAndDone (seen d4.view) d4.fates r.group r.block change → AreDone (seen view) is_directory p name r time change
   done_is is_directory p name r change number time kind d3 d4 kinds num rec view3 put shows done =
       let third : d3.view ≡ view = view3 ∙ first_view in
       let fourth : d4.view ≡ view = ap (λ (d : Drafted V). d.view) put.1.put ∙ third in
       record {
         number = number;
-        time = time;
         first = d1.fates;
         numbered = subst (λ x. IsNumbered (seen x) r.group number d1.fates) old_view num;
         third = d3.fates;

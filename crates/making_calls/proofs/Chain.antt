@@ -121,7 +121,7 @@ module _ (v : Seen) (im : Image) (o : Owners) (l : Layout) (t : Tree) (of : IsOf
   own_row : inode_of p (o p) ≡ Some p
   own_row = dinode_its p (o p) dinode
 
-  apart : p ≢ a
+  pub apart : p ≢ a
   apart same = not_new p same own_row
 
   data_no_header : (b : ℕ) → IsHeaderOf g b → b ≢ a

@@ -20,7 +20,7 @@ use Rattle.image_changes.specs.Does.{IsOf, is_content_of}
 use Rattle.draft_changes.proofs.Rows.{state_said}
 use Rattle.draft_changes.proofs.Views.{groups_are_listed}
 use Rattle.path_walks.specs.Holds.{Hold, AreHeld, IsAskedFor, holds, hold_for}
-use Rattle.making_calls.specs.Blocks.{States, states_by, blocks_needed, free_in, free_in_all, hold_of_group, block_holds}
+use Rattle.making_calls.specs.Blocks.{States, states_by, blocks_needed, free_in, free_in_all, hold_of_group, block_holds, free_for}
 use Rattle.making_calls.specs.Searches.{AreShown, IsGroupBlock}
 
 -- ---- lists of free blocks by two tables
@@ -93,6 +93,13 @@ module _ (v : Seen) (im : Image) (o : Owners) (l : Layout) (t : Tree) (of : IsOf
       let one : free_in (said im.at) own ≡ free_in (states_by o) own = subst (λ k. free_in (said im.at) k ≡ free_in (states_by o) k) (sym g.2) (free_said g.0 g.1) in
       ap (λ groups. block_holds (said im.at) groups own) (sym of.groups)
       ∙ ap₂ (λ xs ys. (hold_of_group own ∷ (if nat_lt (length xs) blocks_needed then map hold_of_group (map group_of_entry l.groups) else [])) ++ hold_for (slice_get (xs ++ ys) 0) Ex) one all_said
+
+  -- and so are the free blocks
+  pub first_said : (own : Group) → HasGroup v own → free_for (said im.at) v.groups own ≡ free_for (states_by o) (map group_of_entry l.groups) own
+  first_said own has =
+      let g = (groups_are_listed v im o l t own of).0 has in
+      let one : free_in (said im.at) own ≡ free_in (states_by o) own = subst (λ k. free_in (said im.at) k ≡ free_in (states_by o) k) (sym g.2) (free_said g.0 g.1) in
+      ap (λ groups. free_for (said im.at) groups own) (sym of.groups) ∙ ap₂ (λ xs ys. xs ++ ys) one all_said
 
   -- a block of a group that is asked for
   pub group_asked : (list : List Hold) (m : Missing) → IsGroupBlock v list m → IsAskedFor v im o l list m

@@ -17,7 +17,7 @@ use Rattle.resource_groups.specs.Numbering.{IsNumberPut}
 use Rattle.resource_groups.specs.Putting.{IsPutIn, PutsTwo, overlaid, seen_or}
 use Rattle.resource_groups.specs.Shown.{IsShown, group_lock}
 use Rattle.image_changes.specs.Drafted.{IsFinished}
-use Rattle.making_calls.specs.Drafting.{IsNumbered, IsSaidAndDone}
+use Rattle.making_calls.specs.Drafting.{IsNextOf, IsNumbered, IsSaidAndDone}
 
 pub unchanged : (v : Seen) → seen_with v empty ≡ v
 unchanged v = λ i. record v { block_at = λ b. ap (λ f. block_with f (v.block_at b)) (get-empty nat_cmp b) i }
@@ -46,21 +46,22 @@ module _ {V : Type 0} (seen : V → Seen) (old new : Drafted V) (g : Group) (fre
   abbrev PutsHeader : (ℕ → List ℕ) → Type 0
   PutsHeader at = new ≡ record old { fates = insert old.fates g.addr (Put (group_lock g) false (overlaid (seen_in seen new) at g.addr)) }
 
-  numbered_is : (number : ℕ) → ((at : ℕ → List ℕ) → IsShown (seen_in seen old) g at → PutsHeader at)
+  numbered_is : (number : ℕ) → ((at : ℕ → List ℕ) → IsShown (seen_in seen old) g at → IsNextOf at g number) → ((at : ℕ → List ℕ) → IsShown (seen_in seen old) g at → PutsHeader at)
       → ((at : ℕ → List ℕ) → IsShown (seen_in seen old) g at → IsNumberPut at (overlaid (seen_in seen new) at) g number) → IsNumbered (seen old.view) g number new.fates
-  numbered_is number one put =
+  numbered_is number next one put =
       let s = group_shown (seen_in seen old) g shows in
       record {
         header = overlaid (seen_in seen new) s.0 g.addr;
         put = ap (λ (d : Drafted V). d.fates) (one s.0 s.1) ∙ ap (λ (m : FinMap nat_cmp Fate). insert m g.addr (Put (group_lock g) false (overlaid (seen_in seen new) s.0 g.addr))) fresh;
+        next = λ at shown. next at (old_shown at shown);
         numbered = λ at shown. subst (λ w. IsNumberPut at (overlaid w at) g number) (ap (λ (x : V). seen_with (seen x) new.fates) (ap (λ (d : Drafted V). d.view) (one s.0 s.1))) (put at (old_shown at shown));
       }
 
-  pub numbered_so : (r : Result (Step ℕ) CallFault) → ((at : ℕ → List ℕ) → IsShown (seen_in seen old) g at → IfIs r (λ number. PutsHeader at))
+  pub numbered_so : (r : Result (Step ℕ) CallFault) → ((at : ℕ → List ℕ) → IsShown (seen_in seen old) g at → IfIs r (λ number. IsNextOf at g number)) → ((at : ℕ → List ℕ) → IsShown (seen_in seen old) g at → IfIs r (λ number. PutsHeader at))
       → ((at : ℕ → List ℕ) → IsShown (seen_in seen old) g at → IfIs r (λ number. IsNumberPut at (overlaid (seen_in seen new) at) g number)) → IfIs r (λ number. IsNumbered (seen old.view) g number new.fates)
-  numbered_so (Ok (Is number)) one put = numbered_is number one put
-  numbered_so (Ok (NeedBlock m)) one put = tt
-  numbered_so (Err f) one put = tt
+  numbered_so (Ok (Is number)) next one put = numbered_is number next one put
+  numbered_so (Ok (NeedBlock m)) next one put = tt
+  numbered_so (Err f) next one put = tt
 
 pub said_is : {V : Type 0} (seen : V → Seen) (old new : Drafted V) (g : Group) (b : ℕ) (change : Change) → IsView (seen_in seen old)
     → ((at : ℕ → List ℕ) → IsShown (seen_in seen old) g at → IsPutIn at (overlaid (seen_in seen new) at) g b 3)

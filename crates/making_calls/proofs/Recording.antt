@@ -10,20 +10,25 @@ use Rattle.drafts.specs.Fates.{Drafted, block_with, seen_in, seen_with}
 use Rattle.drafts.specs.declared.fate.Fate.{Fate}
 use Rattle.drafts.specs.declared.fate.Fate.TheVariants.{Put}
 use Rattle.gfs2_layout.specs.Area.{slots_of}
-use Rattle.gfs2_layout.specs.Holding.{Holding}
-use Rattle.gfs2_layout.specs.Inode.{height_in, linear_area}
+use Rattle.gfs2_layout.specs.Holding.{Holding, bytes_at}
+use Rattle.gfs2_layout.specs.Inode.{dinode_in, height_in, linear_area}
 use Rattle.gfs2_layout.specs.Putting.{has_room}
+use Rattle.gfs2_layout.specs.Structures.{dinode_of}
+use Rattle.gfs2_layout.specs.declared.dinode.Dinode.{Dinode}
 use Rattle.glock_names.specs.Steps.{TellsOf}
 use Rattle.glock_names.specs.Views.{Seen, HasBlock}
 use Rattle.glock_names.specs.declared.steps.CallFault.{CallFault}
 use Rattle.glock_names.specs.declared.steps.Entry.{Entry}
 use Rattle.dinode_tree.specs.Reading.{inode_lock}
 use Rattle.dinode_tree.specs.Shown.{IsShown}
+use Rattle.dinode_tree.proofs.Sound.{some_is_shown}
 use Rattle.linear_dirs.specs.Broken.{IsBroken}
-use Rattle.linear_dirs.specs.Exchanges.{HasExchanged}
+use Rattle.linear_dirs.specs.Exchanges.{HasExchanged, uncounted}
 use Rattle.linear_dirs.specs.Shown.{IsLinearIn, holding_over, record_for}
-use Rattle.new_inodes.specs.Touched.{IsTouched}
-use Rattle.making_calls.specs.Drafting.{IsRecordPut}
+use Rattle.linear_dirs.proofs.Over.{as_seen}
+use Rattle.linear_dirs.proofs.Rewritten.{over_there}
+use Rattle.new_inodes.specs.Touched.{IsTouched, with_times}
+use Rattle.making_calls.specs.Drafting.{HasTimes, IsRecordPut}
 use Rattle.making_calls.proofs.Alike.{alike_shown, broken_before, linear_there, touched_alike}
 use Rattle.making_calls.proofs.Faults.{tells_so}
 
@@ -32,6 +37,14 @@ put_there f b x = inserted_at nat_cmp_total nat_cmp-IsAntisymmetric f b x
 
 pub put_elsewhere : (f : FinMap nat_cmp Fate) (b : ℕ) (x : Fate) (c : ℕ) → c ≢ b → get (insert f b x) c ≡ get f c
 put_elsewhere f b x c apart = inserted_apart nat_cmp_total nat_cmp-IsAntisymmetric f b x c apart
+
+dinode_by : (h : Holding) (bytes : List ℕ) → bytes_at h h.own ≡ bytes → dinode_in h ≡ dinode_of bytes
+unfolding dinode_in
+dinode_by h bytes e = ap dinode_of e
+
+-- a dinode that is counted anew keeps its times
+times_kept : (d d' last : Dinode) (time : ℕ) → d' ≡ with_times d time → uncounted last ≡ uncounted d' → HasTimes last time
+times_kept d d' last time touched same = (ap (λ (x : Dinode). x.mtime) same ∙ ap (λ (x : Dinode). x.mtime) touched, ap (λ (x : Dinode). x.ctime) same ∙ ap (λ (x : Dinode). x.ctime) touched)
 
 module _ {V : Type 0} (seen : V → Seen) (old mid : Drafted V) (dir time : ℕ) (bytes : List ℕ) (put : mid ≡ record old { fates = insert old.fates dir (Put (inode_lock dir) false bytes) })
     (touched : (h : Holding) → IsShown (seen_in seen old) dir h → IsTouched h (holding_over (seen_in seen mid) h) time) (there : HasBlock (seen_in seen old) dir)
@@ -76,10 +89,24 @@ module _ {V : Type 0} (seen : V → Seen) (old mid : Drafted V) (dir time : ℕ)
     | inr other ↦ (has.0, ap (λ fate. block_with fate ((seen old.view).block_at b)) (sym (put_elsewhere old.fates dir _ b other) ∙ ap (λ m. get m b) (sym mid_fates)) ∙ ap (λ w. w.block_at b) (sym seen_mid) ∙ has.1)
   ]
 
+  -- it has the time still where records were counted anew
+  still_stamped : (last : Drafted V) (after : List ℕ) → last ≡ record mid { fates = insert mid.fates dir (Put (inode_lock dir) false after) }
+      → ((h : Holding) → IsShown (seen_in seen mid) dir h → uncounted (dinode_in (holding_over (seen_in seen last) h)) ≡ uncounted (dinode_in h)) → HasTimes (dinode_of after) time
+  still_stamped last after then same =
+      let s = some_is_shown (seen_in seen old) dir in
+      let u = seen_in seen last in
+      let x = holding_over (seen_in seen mid) s.0 in
+      let shown : IsShown (seen_in seen mid) dir x = shown_then s.0 s.1.0 in
+      let put_last : u.block_at dir ≡ Some after =
+      ap (λ (d : Drafted V). (seen_in seen d).block_at dir) then ∙ ap (λ fate. block_with fate ((seen mid.view).block_at dir)) (put_there mid.fates dir (Put (inode_lock dir) false after)) in
+      let bytes_are : bytes_at (holding_over u x) x.own ≡ after = as_seen u x x.own after (over_there (u.block_at x.own) (x.cell x.own) ∙ shown.dinode) (ap u.block_at shown.own ∙ put_last) in
+      subst (λ d. HasTimes d time) (dinode_by (holding_over u x) after bytes_are) (times_kept (dinode_in s.0) (dinode_in x) (dinode_in (holding_over u x)) time (touched s.0 s.1.0).dinode (same x shown))
+
   pub recorded : (last : Drafted V) (name after : List ℕ) (entry : Entry) → last ≡ record mid { fates = insert mid.fates dir (Put (inode_lock dir) false after) }
       → ((h : Holding) → IsShown (seen_in seen mid) dir h → HasExchanged h (holding_over (seen_in seen last) h) [] (record_for name entry ∷ []))
+      → ((h : Holding) → IsShown (seen_in seen mid) dir h → uncounted (dinode_in (holding_over (seen_in seen last) h)) ≡ uncounted (dinode_in h))
       → IsRecordPut (seen old.view) old.fates dir time name entry last.fates
-  recorded last name after entry then exchanged = record {
+  recorded last name after entry then exchanged same = record {
     between = mid.fates;
     times = bytes;
     times_put = mid_fates;
@@ -88,4 +115,5 @@ module _ {V : Type 0} (seen : V → Seen) (old mid : Drafted V) (dir time : ℕ)
     put = ap (λ (d : Drafted V). d.fates) then;
     exchanged = λ h shown. subst (λ w. HasExchanged h (holding_over w h) [] (record_for name entry ∷ [])) (ap (λ x. seen_with (seen x) last.fates) (ap (λ (d : Drafted V). d.view) then ∙ mid_view))
         (exchanged h (subst (λ w. IsShown w dir h) (sym seen_mid) shown));
+    still = still_stamped last after then same;
   }

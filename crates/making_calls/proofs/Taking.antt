@@ -1,5 +1,5 @@
 -- A name made at the place to which the walk came.
-use Rattle.std.proofs.Common.{◌≡◌, inl, Bool, true, false, true≢false, ℕ, suc, ◌≤◌, List, [], ◌∷◌, ◌++◌, length, map, slice_get, None, Some, refl, sym, ap, ◌∙◌, subst, arith}
+use Rattle.std.proofs.Common.{◌≡◌, inl, Bool, true, false, true≢false, ℕ, suc, ◌<◌, ◌≤◌, List, [], ◌∷◌, ◌++◌, length, map, slice_get, None, Some, refl, sym, ap, ◌∙◌, subst, subst₂, arith}
 use Rattle.std.proofs.lemmas.List.Elements.{All-append, Contains-append_left}
 use Rattle.std.specs.FinMap.{get}
 use Rattle.std.specs.Prelude.{Contains}
@@ -11,11 +11,15 @@ use Rattle.file_tree.specs.declared.call.Call.{Call}
 use Rattle.file_tree.specs.declared.reply.Reply.TheVariants.{Ok}
 use Rattle.drafts.specs.declared.change.Change.{Change}
 use Rattle.drafts.specs.declared.fate.Fate.TheVariants.{Put}
-use Rattle.gfs2_layout.specs.Holding.{Holding}
-use Rattle.glock_names.specs.Views.{Seen, HasGroup}
+use Rattle.gfs2_layout.specs.Holding.{Holding, alone}
+use Rattle.gfs2_layout.specs.Structures.{dinode_of}
+use Rattle.gfs2_layout.specs.declared.dinode.Dinode.{Dinode}
+use Rattle.gfs2_layout.specs.declared.rindex.Rindex.{Rindex}
+use Rattle.glock_names.specs.Views.{Seen, HasGroup, group_of_entry}
 use Rattle.glock_names.specs.declared.LockName.{LockName}
 use Rattle.glock_names.specs.declared.State.{State}
 use Rattle.glock_names.specs.declared.State.TheVariants.{Ex}
+use Rattle.glock_names.specs.declared.steps.Entry.{Entry}
 use Rattle.glock_names.specs.declared.steps.Missing.{Missing}
 use Rattle.glock_names.specs.declared.views.Group.{Group}
 use Rattle.call_locks.specs.Wants.{wanted}
@@ -23,7 +27,9 @@ use Rattle.call_locks.specs.WantLaws.{path_of}
 use Rattle.dinode_tree.specs.Shown.{IsShown}
 use Rattle.dinode_tree.specs.Reading.{inode_lock}
 use Rattle.resource_groups.specs.Putting.{HasDataBlock}
-use Rattle.resource_groups.specs.Shown.{IsMissing, group_lock, said}
+use Rattle.resource_groups.specs.Shown.{IsDataOf, IsMissing, group_lock, said}
+use Rattle.image_model.specs.Groups.{IsListed}
+use Rattle.image_model.specs.Groups as owned
 use Rattle.image_model.specs.Image.{Image}
 use Rattle.image_model.specs.Owners.{Owners, holding}
 use Rattle.image_model.specs.Stands.{Layout}
@@ -33,6 +39,7 @@ use Rattle.image_changes.specs.Flats.{in_directory}
 use Rattle.image_changes.proofs.Drafting.{drafts_do}
 use Rattle.image_changes.proofs.Finishing.{finish_makes}
 use Rattle.draft_changes.proofs.Added.{adding_makes}
+use Rattle.draft_changes.proofs.Views.{groups_are_listed}
 use Rattle.path_walks.specs.Holds.{Hold, AreHeld, IsAskedFor, IsFirstLack, hold_for, hold_of, holds}
 use Rattle.path_walks.specs.Walks.{LeadsTo, IsSeenAt}
 use Rattle.path_walks.specs.Walks as path
@@ -51,11 +58,12 @@ use Rattle.making_calls.specs.declared.blocks.Locked.TheVariants as locked
 use Rattle.making_calls.specs.declared.blocks.Room.{Room}
 use Rattle.making_calls.specs.declared.blocks.Taken.{Taken}
 use Rattle.making_calls.specs.declared.blocks.Taken.TheVariants as taken
+use Rattle.making_calls.proofs.Chain.{apart}
 use Rattle.making_calls.proofs.Holds.{empty_list, lack_behind, rest_all}
-use Rattle.making_calls.proofs.InImage.{all_said, are_shown, asked_behind, group_asked}
+use Rattle.making_calls.proofs.InImage.{all_said, are_shown, first_said, asked_behind, group_asked}
 use Rattle.making_calls.proofs.Rooms.{IsHeldRoom, block_under, dinode_inside, exclusive, group_sound, held_before, new_are, own_of}
 use Rattle.making_calls.proofs.Trees.{changes, takes, taken_list}
-use Rattle.making_calls.proofs.Under.{directory_listed, each_lock}
+use Rattle.making_calls.proofs.Under.{change_at, directory_listed, each_lock}
 use Rattle.making_calls.proofs.Wanted.{directory_held}
 
 later_held : (v : Seen) (x : Hold) (xs : List Hold) → AreHeld v (x ∷ xs) → AreHeld v xs
@@ -157,7 +165,7 @@ module _ (v : Seen) (c : Call) (is : IsMaking c) (p : Place) (name : List ℕ) (
         placed = record { at = reached.place.at; directory = here.linear.directory; dinode = reached.place.dinode; absent = here.absent; free = room_found.1.0.free }
 
         -- the locks that the change touches are of the list
-        pub under : (change : Change) → IsAddition v (makes_directory c) p name r change → damage.IsUnder o (call_holds im o l t c node) change
+        pub under : {time : ℕ} (change : Change) → IsAddition v (makes_directory c) p name r time change → damage.IsUnder o (call_holds im o l t c node) change
         under change added = subst (λ list. damage.IsUnder o list change) (sym whole) (record {
           written = each_lock added.fates change added.finished (λ lock. Contains (path_holds im o l c ++ new) (record { lock = lock; state = Ex }))
               (λ b lock plain bytes put. contained (record { lock = lock; state = Ex }) (path_holds im o l c ++ new) (listed b lock (added.locks b lock plain bytes put)));
@@ -181,6 +189,50 @@ module _ (v : Seen) (c : Call) (is : IsMaking c) (p : Place) (name : List ℕ) (
                 in_right (record { lock = lock; state = Ex }) (path_holds im o l c) new (in_right (record { lock = lock; state = Ex }) groups last_one
                 (subst (λ k. IsIn (record { lock = k; state = Ex }) last_one) (sym e) (subst (λ x. IsIn (hold_of r.block Ex) (hold_for x Ex)) (sym room_found.1.0.first) (inl refl))))
 
+        its_group : (g : Rindex) × IsListed l.groups g × (r.group ≡ group_of_entry g)
+        its_group = (groups_are_listed v im o l t r.group of).0 room_found.1.0.has
+
+        in_its_group : owned.IsDataOf its_group.0 r.block
+        in_its_group =
+            let within : IsDataOf (group_of_entry its_group.0) r.block = subst (λ k. IsDataOf k r.block) its_group.2 room_found.1.0.data_block in
+            record { low = within.low; high = within.high }
+
+        block_inside : r.block < im.count
+        block_inside = let fits : owned.GroupFits im its_group.0 = of.stands.laid.fit.each its_group.0 its_group.1 in omega (arith, in_its_group.high, fits.inside)
+
+        -- the new inode is in the first free block, byte by byte
+        pub made : {time : ℕ} (change : Change) → IsAddition v (makes_directory c) p name r time change → damage.IsMade im o l c node time change
+        made {time} change added = record {
+          directory = p.inode;
+          at = reached.place.at;
+          own = own.0;
+          of_node = ap (λ gs. group_of_node gs node) of.groups ∙ own.1;
+          block = r.block;
+          first = ap (λ xs. slice_get xs 0) (sym (first_said v im o l t of own.0 own.2)) ∙ room_found.1.0.first;
+          group = r.group;
+          listed = subst (λ gs. Contains gs r.group) (sym of.groups) room_found.1.0.has;
+          data_block = room_found.1.0.data_block;
+          number = added.number;
+          next = added.next im.at (are_shown v im o l t of r.group room_found.1.0.has);
+          is = subst₂ (λ above bytes. drafting.IsNewInode (makes_directory c) above added.number r.block time (alone im.size im.count r.block bytes))
+              (ap (λ (d : Dinode). entry d.num.number) reached.place.dinode)
+              (sym (change_at added.fates change added.finished im r.block (inode_lock r.block) added.bytes added.put))
+              (subst (λ size. drafting.IsNewOf (makes_directory c) p added.number r.block time (alone size im.count r.block added.bytes)) (sym of.size) (added.new im.count block_inside));
+        }
+          where
+            entry : ℕ → Entry
+            entry n = record { number = n; addr = p.inode; kind = 4 }
+
+        -- and the directory has the time
+        pub stamped : {time : ℕ} (change : Change) → IsAddition v (makes_directory c) p name r time change → damage.IsStamped im o l c time change
+        stamped {time} change added =
+            let free = subst (λ k. said im.at k r.block ≡ 0) its_group.2 room_found.1.0.free in
+            let put = added.parent_put (apart v im o l t of (directory_path c) p.inode reached.place.at its_group.0 its_group.1 r.block in_its_group free) in (
+              p.inode,
+              reached.place.at,
+              subst (λ b. drafting.HasTimes (dinode_of b) time) (sym (change_at added.fates change added.finished im p.inode (inode_lock p.inode) added.parent_bytes put)) added.times,
+            )
+
   -- ---- as far as the view shows
 
   module _ (leads : LeadsTo v (wanted c) (directory_path c) p.inode) where
@@ -189,7 +241,7 @@ module _ (v : Seen) (c : Call) (is : IsMaking c) (p : Place) (name : List ℕ) (
         damage.in_directory p.inode r d leads (λ h shown. path.in_directory r d (lacks h shown).linear (broken h shown))
     wrong_damage g has held rule b (drafting.in_group r d broken) = damage.in_group r d (record { group = g; has = has; held = held; broken = broken })
 
-    module _ (r : Room) (room : IsHeldRoom v r) (change : Change) (added : IsAddition v (makes_directory c) p name r change) where
+    module _ (r : Room) (room : IsHeldRoom v r) {time : ℕ} (change : Change) (added : IsAddition v (makes_directory c) p name r time change) where
       all_exclusive : (b : ℕ) (lock : LockName) (plain : Bool) (bytes : List ℕ) → get added.fates b ≡ Some (Put lock plain bytes) → v.state_of lock ≡ Ex
       all_exclusive b lock plain bytes put = elim (added.locks b lock plain bytes put) [
         | of_group header e ↦ ap v.state_of e ∙ exclusive (v.state_of (group_lock r.group)) room.group_held

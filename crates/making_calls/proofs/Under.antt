@@ -2,11 +2,12 @@
 use Rattle.std.proofs.Common.{◌≡◌, ℕ, Bool, false, true≢false, List, [], ◌∷◌, length, get_or, take, Option, Some, inl, refl, sym, ap, ◌∙◌, subst, arith}
 use Rattle.std.proofs.lemmas.List.{take_all}
 use Rattle.std.proofs.lemmas.Option.{slice_get-get_or}
-use Rattle.std.specs.Prelude.{Contains, ◌==◌}
+use Rattle.std.specs.Prelude.{Contains, ◌==◌, None, unwrap_or}
 use Rattle.std.specs.List.{list_any}
 use Rattle.std.specs.Ordering.{nat_cmp}
 use Rattle.std.specs.FinMap.{FinMap, get}
 use Rattle.file_tree.specs.declared.call.Call.{Call}
+use Rattle.drafts.specs.Fates.{block_with}
 use Rattle.drafts.specs.declared.change.Change.{Change}
 use Rattle.drafts.specs.declared.change.Written.{Written}
 use Rattle.drafts.specs.declared.fate.Fate.{Fate}
@@ -21,6 +22,7 @@ use Rattle.image_model.specs.Image.{Image}
 use Rattle.image_model.specs.Owners.{Owners}
 use Rattle.image_model.specs.Stands.{Layout, flat_of}
 use Rattle.image_model.proofs.Members.{IsIn, is_in, in_right, in_flat_map}
+use Rattle.image_changes.specs.Does.{with_change}
 use Rattle.image_changes.specs.Drafted.{IsFinished}
 use Rattle.image_changes.specs.Instances.{IsAt}
 use Rattle.image_changes.proofs.Finishing.{finish_makes}
@@ -59,3 +61,9 @@ nothing_under o list change locks freed = record {
   written = λ lock has. elim (is_in lock [] (subst (λ xs. Contains xs lock) locks has)) [ ];
   freed = λ b a gone its. absurd (true≢false (sym gone ∙ ap (list_any (λ f. f == b)) freed));
 }
+
+-- where a draft put a block, the image with its change has these bytes
+pub change_at : (fates : FinMap nat_cmp Fate) (change : Change) → IsFinished fates change → (im : Image) (b : ℕ) (lock : LockName) (bytes : List ℕ) → get fates b ≡ Some (Put lock false bytes)
+    → (with_change im change).at b ≡ bytes
+change_at fates change finished im b lock bytes put =
+    ap (λ (i : Image). i.at b) ((finish_makes fates change finished).image im) ∙ ap (λ f. unwrap_or (block_with f None) (im.at b)) put

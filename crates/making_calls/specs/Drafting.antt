@@ -8,8 +8,11 @@ use Rattle.drafts.specs.Fates.{AreWhole, seen_with}
 use Rattle.drafts.specs.declared.change.Change.{Change}
 use Rattle.drafts.specs.declared.fate.Fate.{Fate}
 use Rattle.drafts.specs.declared.fate.Fate.TheVariants.{Put}
-use Rattle.gfs2_layout.specs.Holding.{Holding}
+use Rattle.gfs2_layout.specs.Groups.{group_header}
+use Rattle.gfs2_layout.specs.Holding.{Holding, alone}
 use Rattle.gfs2_layout.specs.Records.{child_named}
+use Rattle.gfs2_layout.specs.Structures.{dinode_of}
+use Rattle.gfs2_layout.specs.declared.dinode.Dinode.{Dinode}
 use Rattle.glock_names.specs.Views.{Seen}
 use Rattle.glock_names.specs.declared.LockName.{LockName}
 use Rattle.glock_names.specs.declared.steps.Entry.{Entry}
@@ -21,7 +24,7 @@ use Rattle.linear_dirs.specs.Exchanges.{HasExchanged}
 use Rattle.linear_dirs.specs.Shown.{holding_over, record_for}
 use Rattle.new_inodes.specs.New.{IsNewDirectory, IsNewFile}
 use Rattle.new_inodes.specs.Touched.{IsTouched}
-use Rattle.resource_groups.specs.Numbering.{IsNumberPut}
+use Rattle.resource_groups.specs.Numbering.{IsNumberPut, next_number}
 use Rattle.resource_groups.specs.Putting.{IsPutIn, overlaid}
 use Rattle.resource_groups.specs.Shown.{IsHeaderOf, group_lock, said}
 use Rattle.resource_groups.specs.Shown as group
@@ -50,20 +53,33 @@ abbrev pub kind_for : Bool → ℕ
 kind_for true = 4
 kind_for false = 8
 
+-- a new inode, byte by byte: a directory, whose `..` leads there, or a file
+abbrev pub IsNewInode : Bool → Entry → ℕ → ℕ → ℕ → Holding → Type 0
+IsNewInode true above number block time h = IsNewDirectory number block above time h
+IsNewInode false above number block time h = IsNewFile number block time h
+
 -- the inode that is put: a directory below that in this place, or a file
 abbrev pub IsNewOf : Bool → Place → ℕ → ℕ → ℕ → Holding → Type 0
-IsNewOf true p number block time h = IsNewDirectory number block (entry_above p) time h
-IsNewOf false p number block time h = IsNewFile number block time h
+IsNewOf is_directory p number block time h = IsNewInode is_directory (entry_above p) number block time h
+
+-- the time of the last change of its content and of its own is this
+abbrev pub HasTimes : Dinode → ℕ → Type 0
+HasTimes d time = (d.mtime ≡ time) × (d.ctime ≡ time)
+
+-- the number is that after the last one that the group gave
+abbrev pub IsNextOf : (ℕ → List ℕ) → Group → ℕ → Type 0
+IsNextOf at g number = number ≡ next_number (group_header (group.blocks_of at g)).igeneration
 
 -- ---- the steps, over a view
 
--- the group's header alone is put, and it counts a number more
+-- the group's header alone is put, and it counts a number more, the next
 pub record IsNumbered (v : Seen) (g : Group) (number : ℕ) (fates : FinMap nat_cmp Fate) : Type 0 where
   pub header : List ℕ
   pub put : fates ≡ insert empty g.addr (Put (group_lock g) false header)
+  pub next : (at : ℕ → List ℕ) → group.IsShown v g at → IsNextOf at g number
   pub numbered : (at : ℕ → List ℕ) → group.IsShown v g at → IsNumberPut at (overlaid (seen_with v fates) at) g number
 
--- the directory gets times, and then the record of a name
+-- the directory gets times, and then the record of a name; it has the times still
 pub record IsRecordPut (v : Seen) (before : FinMap nat_cmp Fate) (dir time : ℕ) (name : List ℕ) (entry : Entry) (after : FinMap nat_cmp Fate) : Type 0 where
   pub between : FinMap nat_cmp Fate
   pub times : List ℕ
@@ -72,6 +88,7 @@ pub record IsRecordPut (v : Seen) (before : FinMap nat_cmp Fate) (dir time : ℕ
   pub bytes : List ℕ
   pub put : after ≡ insert between dir (Put (inode_lock dir) false bytes)
   pub exchanged : (h : Holding) → IsShown (seen_with v between) dir h → HasExchanged h (holding_over (seen_with v after) h) [] (record_for name entry ∷ [])
+  pub still : HasTimes (dinode_of bytes) time
 
 -- Over that draft a group says that a data block is a dinode: the header and a block of bits are put, and the change is that of the draft that
 -- comes of it.
@@ -109,14 +126,23 @@ abbrev pub PutsUnder : FinMap nat_cmp Fate → Place → Room → Type 0
 PutsUnder fates p r = (b : ℕ) (lock : LockName) (plain : Bool) (bytes : List ℕ) → get fates b ≡ Some (Put lock plain bytes) → IsPutUnder p r b lock
 
 -- The change is that of a draft that puts the group's header, and all under these locks and inside the view's groups, frees nothing, and adds the
--- name in each image that the view may be of.
-pub record IsAddition (v : Seen) (is_directory : Bool) (p : Place) (name : List ℕ) (r : Room) (change : Change) : Type 0 where
+-- name in each image that the view may be of. The new inode is put with the group's next number and with this time, and the directory with the
+-- time, unless the two were one block.
+pub record IsAddition (v : Seen) (is_directory : Bool) (p : Place) (name : List ℕ) (r : Room) (time : ℕ) (change : Change) : Type 0 where
   pub fates : FinMap nat_cmp Fate
   pub finished : IsFinished fates change
   pub locks : PutsUnder fates p r
   pub some : is_put fates r.group.addr ≡ true
   pub none_freed : (b : ℕ) → is_freed fates b ≡ false
   pub inside : AllByRecursion (IsInside v) change.blocks.items
+  pub number : ℕ
+  pub next : (at : ℕ → List ℕ) → group.IsShown v r.group at → IsNextOf at r.group number
+  pub bytes : List ℕ
+  pub put : get fates r.block ≡ Some (Put (inode_lock r.block) false bytes)
+  pub new : (count : ℕ) → r.block < count → IsNewOf is_directory p number r.block time (alone v.size count r.block bytes)
+  pub parent_bytes : List ℕ
+  pub parent_put : p.inode ≢ r.block → get fates p.inode ≡ Some (Put (inode_lock p.inode) false parent_bytes)
+  pub times : HasTimes (dinode_of parent_bytes) time
   pub adds : (im : Image) (o : Owners) (l : Layout) (t : Tree) (path : Path) → IsOf v im o l t → IsPlaceFor im o l path name p r
       → AddsName im o l fates p.inode name r.block (new_tree is_directory)
 

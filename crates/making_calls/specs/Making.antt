@@ -1,5 +1,5 @@
 -- The calls that make a name: what they answer, under which locks.
-use Rattle.std.specs.Prelude.{ℕ, ◌≡◌, ◌<◌, ⊤, Bool, true, false, if◌then◌else◌, List, [], ◌∷◌, ◌++◌, ◌&&◌, length, map, Contains, Option, None, Some}
+use Rattle.std.specs.Prelude.{ℕ, ◌≡◌, ◌<◌, ⊤, Bool, true, false, if◌then◌else◌, List, [], ◌∷◌, ◌++◌, ◌&&◌, length, map, slice_get, Contains, Option, None, Some}
 use Rattle.std.specs.List.{AllByRecursion, list_any}
 use Rattle.file_tree.specs.Names.{parent_of, last_of}
 use Rattle.file_tree.specs.Tree.{Tree}
@@ -10,28 +10,34 @@ use Rattle.file_tree.specs.declared.reply.Reply.TheVariants.{Ok}
 use Rattle.drafts.specs.declared.change.Change.{Change}
 use Rattle.cluster_history.specs.Changes.{is_ok}
 use Rattle.gfs2_layout.specs.Area.{slots_of}
-use Rattle.gfs2_layout.specs.Holding.{Holding}
+use Rattle.gfs2_layout.specs.Holding.{Holding, alone}
 use Rattle.gfs2_layout.specs.Inode.{is_hashed_in, linear_area, records_of}
 use Rattle.gfs2_layout.specs.Putting.{has_room, least_length}
 use Rattle.gfs2_layout.specs.Records.{child_named}
+use Rattle.gfs2_layout.specs.Structures.{dinode_of}
 use Rattle.glock_names.specs.Views.{Seen, HasBlock, group_of_entry}
 use Rattle.glock_names.specs.declared.LockName.{LockName}
 use Rattle.glock_names.specs.declared.State.TheVariants.{Ex}
+use Rattle.glock_names.specs.declared.steps.Entry.{Entry}
+use Rattle.glock_names.specs.declared.views.Group.{Group}
 use Rattle.call_locks.specs.Wants.{wanted}
 use Rattle.call_locks.specs.WantLaws.{path_of}
 use Rattle.dinode_tree.specs.Shown.{IsShown}
 use Rattle.resource_groups.specs.Putting.{HasDataBlock}
+use Rattle.resource_groups.specs.Shown.{IsDataOf}
 use Rattle.image_model.specs.Flat.{Path, follow}
 use Rattle.image_model.specs.Image.{Image}
 use Rattle.image_model.specs.Owners.{Owners, holding}
 use Rattle.image_model.specs.Stands.{Layout, flat_of}
 use Rattle.image_changes.specs.Changes.{inode_of}
-use Rattle.image_changes.specs.Does.{IsInside, frees}
+use Rattle.image_changes.specs.Does.{IsInside, frees, with_change}
+use Rattle.image_changes.specs.Instances.{IsAt, dinode_at}
 use Rattle.path_walks.specs.Holds.{Hold, AreHeld, IsAskedFor, IsFirstLack, hold_of, holds, holds_in}
 use Rattle.path_walks.specs.declared.walk.Place.{Place}
 use Rattle.path_walks.specs.Walks.{LeadsTo, IsLinearDirectory, IsOnTheWay, IsPlaceOf, IsWrong}
 use Rattle.path_walks.specs.Walks as path
-use Rattle.making_calls.specs.Blocks.{blocks_needed, states_by, free_in_all, hold_of_group, new_holds}
+use Rattle.making_calls.specs.Blocks.{blocks_needed, states_by, free_for, free_in_all, group_of_node, hold_of_group, new_holds}
+use Rattle.making_calls.specs.Drafting.{HasTimes, IsNewInode, IsNextOf}
 use Rattle.making_calls.specs.Searches.{IsGroupBroken}
 use Rattle.making_calls.specs.declared.finds.Found.{Found}
 use Rattle.making_calls.specs.declared.finds.Found.TheVariants as found
@@ -153,6 +159,30 @@ AreInside v change = AllByRecursion (IsInside v) change.blocks.items
 pub record IsUnder (o : Owners) (list : List Hold) (change : Change) : Type 0 where
   pub written : (lock : LockName) → Contains change.locks.items lock → Contains list (record { lock = lock; state = Ex })
   pub freed : (b a : ℕ) → frees change b ≡ true → inode_of b (o b) ≡ Some a → Contains list (hold_of a Ex)
+
+-- where `..` of a directory below this one leads
+abbrev pub entry_in : Image → Owners → ℕ → Entry
+entry_in im o a = record { number = (dinode_at im o a).num.number; addr = a; kind = 4 }
+
+-- The change puts the new inode, byte by byte, into the first free block in the node's order, with this time and with the next number of the
+-- block's group.
+pub record IsMade (im : Image) (o : Owners) (l : Layout) (call : Call) (node time : ℕ) (change : Change) : Type 0 where
+  pub directory : ℕ
+  pub at : IsAt im o l (directory_path call) directory
+  pub own : Group
+  pub of_node : group_of_node (map group_of_entry l.groups) node ≡ Some own
+  pub block : ℕ
+  pub first : slice_get (free_for (states_by o) (map group_of_entry l.groups) own) 0 ≡ Some block
+  pub group : Group
+  pub listed : Contains (map group_of_entry l.groups) group
+  pub data_block : IsDataOf group block
+  pub number : ℕ
+  pub next : IsNextOf im.at group number
+  pub is : IsNewInode (makes_directory call) (entry_in im o directory) number block time (alone im.size im.count block ((with_change im change).at block))
+
+-- in the image with the change the dinode of the directory that gets the name has this time
+abbrev pub IsStamped : Image → Owners → Layout → Call → ℕ → Change → Type 0
+IsStamped im o l call time change = (a : ℕ) × IsAt im o l (directory_path call) a × HasTimes (dinode_of ((with_change im change).at a)) time
 
 -- what a refusal is not
 abbrev pub IsRefusal : Found → Type 0

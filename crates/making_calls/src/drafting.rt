@@ -195,7 +195,7 @@ pub(crate) fn addition<V: View>(
     requires fits { (h : Holding) → IsShown (V.seen view.now) place.now.inode h → has_room_for h name.now ≡ true }
     requires group { HasGroup (V.seen view.now) room.now.group }
     requires block { shown.IsDataOf room.now.group room.now.block }
-    ensures added { IfIs result (IsAddition (V.seen view.now) is_directory place.now name.now room.now) }
+    ensures added { IfIs result (IsAddition (V.seen view.now) is_directory place.now name.now room.now stamp.now.time) }
     ensures needed { IfNeedBlock result (shown.IsMissing (V.seen view.now) room.now.group) }
     ensures damaged { IfDamaged result (IsWrongIn (V.seen view.now) place.now.inode room.now.group) }
     ensures kept { IfDamaged result (IsOfView (V.seen view.now)) }

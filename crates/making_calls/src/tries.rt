@@ -1,5 +1,5 @@
 // A try of a call that makes a name.
-ghost use Rattle.std.specs.Prelude.{ℕ, ◌≡◌, ◌≤◌, [], false, length, IfOk, None};
+ghost use Rattle.std.specs.Prelude.{ℕ, ◌≡◌, ◌≤◌, [], true, false, length, IfOk, None};
 ghost use Rattle.cluster_history.specs.Changes.{is_ok};
 ghost use Rattle.file_tree.specs.Names.{IsName};
 ghost use Rattle.file_tree.specs.Tree.{Tree};
@@ -17,7 +17,7 @@ ghost use Rattle.image_changes.specs.Does.{IsOf, Does};
 ghost use Rattle.path_walks.specs.Answers.{IfDone, IfNeedLock, IfNeedBlock, IfNoSpace, IfNotBuilt};
 ghost use Rattle.path_walks.specs.Holds.{AreHeld, IsAskedFor, IsFirstLack, holds};
 ghost use Rattle.path_walks.specs.Walks.{IsSeenAt};
-ghost use Rattle.making_calls.specs.Making.{AreInside, IfMade, IfNotBuilt as IfUnbuilt, IsDamage, IsFound, IsInTheWay, IsLastOf, IsMaking, IsReachedIn, IsRefusal, IsTooFew, IsUnbuilt, IsUnder, LacksName, call_holds, directory_path, makes_directory};
+ghost use Rattle.making_calls.specs.Making.{AreInside, IfMade, IfNotBuilt as IfUnbuilt, IsDamage, IsFound, IsInTheWay, IsLastOf, IsMade, IsMaking, IsReachedIn, IsRefusal, IsStamped, IsTooFew, IsUnbuilt, IsUnder, LacksName, call_holds, directory_path, makes_directory};
 
 use crate::blocks::{Locked, Taken, find_block};
 use crate::drafting::{addition, is_a_view};
@@ -89,6 +89,8 @@ fn make_at<V: View>(
     ensures done { IfOk result (IfMade (Does (V.seen view.now) call.now OkReply)) }
     ensures inside { IfOk result (IfMade (AreInside (V.seen view.now))) }
     ensures under { (im : Image) (o : Owners) (l : Layout) (t : Tree) → IsOf (V.seen view.now) im o l t → IfOk result (IfMade (IsUnder o (call_holds im o l t call.now stamp.now.node))) }
+    ensures made { (im : Image) (o : Owners) (l : Layout) (t : Tree) → IsOf (V.seen view.now) im o l t → IfOk result (IfMade (IsMade im o l call.now stamp.now.node stamp.now.time)) }
+    ensures stamped { (im : Image) (o : Owners) (l : Layout) (t : Tree) → IsOf (V.seen view.now) im o l t → IfOk result (IfMade (IsStamped im o l call.now stamp.now.time)) }
     ensures refusal { IfOk result IsRefusal }
     ensures way { IfOk result (IsInTheWay (V.seen view.now)) }
     ensures hashed { IfOk result (IfUnbuilt (IsUnbuilt (V.seen view.now) call.now)) }
@@ -146,6 +148,8 @@ fn find_at<V: View>(
     ensures done { IfOk result (IfMade (Does (V.seen view.now) call.now OkReply)) }
     ensures inside { IfOk result (IfMade (AreInside (V.seen view.now))) }
     ensures under { (im : Image) (o : Owners) (l : Layout) (t : Tree) → IsOf (V.seen view.now) im o l t → IfOk result (IfMade (IsUnder o (call_holds im o l t call.now stamp.now.node))) }
+    ensures made { (im : Image) (o : Owners) (l : Layout) (t : Tree) → IsOf (V.seen view.now) im o l t → IfOk result (IfMade (IsMade im o l call.now stamp.now.node stamp.now.time)) }
+    ensures stamped { (im : Image) (o : Owners) (l : Layout) (t : Tree) → IsOf (V.seen view.now) im o l t → IfOk result (IfMade (IsStamped im o l call.now stamp.now.time)) }
     ensures refusal { IfOk result IsRefusal }
     ensures way { IfOk result (IsInTheWay (V.seen view.now)) }
     ensures hashed { IfOk result (IfUnbuilt (IsUnbuilt (V.seen view.now) call.now)) }
@@ -175,6 +179,8 @@ fn find<V: View>(alloc: Global, view: &V, call: &Call, stamp: &Stamp) -> Result<
     ensures done { IfOk result (IfMade (Does (V.seen view.now) call.now OkReply)) }
     ensures inside { IfOk result (IfMade (AreInside (V.seen view.now))) }
     ensures under { (im : Image) (o : Owners) (l : Layout) (t : Tree) → IsOf (V.seen view.now) im o l t → IfOk result (IfMade (IsUnder o (call_holds im o l t call.now stamp.now.node))) }
+    ensures made { (im : Image) (o : Owners) (l : Layout) (t : Tree) → IsOf (V.seen view.now) im o l t → IfOk result (IfMade (IsMade im o l call.now stamp.now.node stamp.now.time)) }
+    ensures stamped { (im : Image) (o : Owners) (l : Layout) (t : Tree) → IsOf (V.seen view.now) im o l t → IfOk result (IfMade (IsStamped im o l call.now stamp.now.time)) }
     ensures refusal { IfOk result IsRefusal }
     ensures way { IfOk result (IsInTheWay (V.seen view.now)) }
     ensures hashed { IfOk result (IfUnbuilt (IsUnbuilt (V.seen view.now) call.now)) }
@@ -212,6 +218,8 @@ pub fn attempt<V: View>(
     ensures done { IfDone result (Does (V.seen view.now) call.now) }
     ensures inside { IfDone result (λ reply change. AreInside (V.seen view.now) change) }
     ensures under { (im : Image) (o : Owners) (l : Layout) (t : Tree) → IsOf (V.seen view.now) im o l t → IfDone result (λ reply change. IsUnder o (call_holds im o l t call.now stamp.now.node) change) }
+    ensures made { (im : Image) (o : Owners) (l : Layout) (t : Tree) → IsOf (V.seen view.now) im o l t → IfDone result (λ reply change. is_ok reply ≡ true → IsMade im o l call.now stamp.now.node stamp.now.time change) }
+    ensures stamped { (im : Image) (o : Owners) (l : Layout) (t : Tree) → IsOf (V.seen view.now) im o l t → IfDone result (λ reply change. is_ok reply ≡ true → IsStamped im o l call.now stamp.now.time change) }
     ensures held { (im : Image) (o : Owners) (l : Layout) (t : Tree) → IsOf (V.seen view.now) im o l t → IfDone result (λ reply change. AreHeld (V.seen view.now) (call_holds im o l t call.now stamp.now.node)) }
     ensures lock { (im : Image) (o : Owners) (l : Layout) (t : Tree) → IsOf (V.seen view.now) im o l t → IfNeedLock result (IsFirstLack (V.seen view.now) (call_holds im o l t call.now stamp.now.node)) }
     ensures block { (im : Image) (o : Owners) (l : Layout) (t : Tree) → IsOf (V.seen view.now) im o l t → IfNeedBlock result (IsAskedFor (V.seen view.now) im o l (call_holds im o l t call.now stamp.now.node)) }

@@ -148,7 +148,7 @@ returns-in-Is-2-clause-added g c =
     let has4 : HasGroup (seen_in g.V.View.seen d4) k = subst (λ w. HasGroup w k) (sym seen4) c.requires.group in
     let named = subst (λ n. IsRecordPut (g.V.View.seen d1.view) d1.fates dir c.args.stamp.now.time n (record { number = c.in-Is.number; addr = c.args.room.now.block; kind = c.kind_of_new.result }) d3.fates) c.bytes.ensures.bytes rec in
     let said = answer_at _ _ _ c.in-Is-2.is (c.in_ok-change.ensures.said k has4 c.requires.block) in
-    addition_is v c.args.is_directory c.args.place.now c.args.name.now c.args.room.now c.in-Is-2.change
+    addition_is v c.args.is_directory c.args.place.now c.args.name.now c.args.room.now c.args.stamp.now.time c.in-Is-2.change
     (done_is g.V.View.seen c.args.view.now c.new-draft.result d1 c.new-draft.ensures same c.args.is_directory c.args.place.now c.args.name.now c.args.room.now c.in-Is-2.change c.in-Is.number c.args.stamp.now.time c.kind_of_new.result d3 d4
     c.kind_of_new.ensures (answer_at _ _ _ c.in-Is.is c.in_ok-number.ensures.numbered) named (c.in_ok-done.ensures.view done) put c.in_ok-change.ensures.view said)
     c.bytes.ensures.name c.requires.group c.requires.block c.is_a_view.ensures c.requires.inside

@@ -11,7 +11,7 @@ use Rattle.making_calls.proofs.drafting.give_number.Goals as goal
 
 pub returns-clause-numbered : goal.returns-clause-numbered
 returns-clause-numbered g c =
-    numbered_so g.V.View.seen c.args.draft.now c.take_number.new.draft c.args.group.now c.requires.new c.is_a_view.ensures c.take_number.result c.take_number.ensures.one c.take_number.ensures.put
+    numbered_so g.V.View.seen c.args.draft.now c.take_number.new.draft c.args.group.now c.requires.new c.is_a_view.ensures c.take_number.result c.take_number.ensures.number c.take_number.ensures.one c.take_number.ensures.put
 
 pub returns-clause-damaged : goal.returns-clause-damaged
 returns-clause-damaged g c at shown =

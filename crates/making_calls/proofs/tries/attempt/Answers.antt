@@ -1,10 +1,11 @@
-use Rattle.std.proofs.Common.{Ok, sym, subst}
+use Rattle.std.proofs.Common.{◌≡◌, true, true≢false, Ok, sym, ◌∙◌, subst}
 use Rattle.std.specs.List.{AllByRecursion}
+use Rattle.cluster_history.specs.Changes.{is_ok}
 use Rattle.file_tree.specs.declared.reply.Reply.TheVariants as reply
 use Rattle.image_changes.specs.Does.{Does, IsInside}
 use Rattle.image_changes.proofs.Doing.{nothing_does}
 use Rattle.path_walks.specs.Answers.{IfDone}
-use Rattle.making_calls.specs.Making.{AreInside, IsFound, IsRefusal, IsUnder, IfMade, call_holds}
+use Rattle.making_calls.specs.Making.{AreInside, IsFound, IsMade, IsRefusal, IsStamped, IsUnder, IfMade, call_holds}
 use Rattle.making_calls.proofs.Trees.{no_change}
 use Rattle.making_calls.proofs.Under.{nothing_under}
 use Rattle.making_calls.proofs.tries.attempt.Goals.{in-Refused, in-Made, in-NeedBlock, in-NotBuilt, in-NeedLock, in-NoSpace}
@@ -47,4 +48,26 @@ returns-clause-under g c im o l t of =
       | in-NotBuilt w ↦ subst (λ a. IfDone (Ok a) (λ reply change. IsUnder o list change)) (sym w.result-is) tt
       | in-NeedLock w ↦ subst (λ a. IfDone (Ok a) (λ reply change. IsUnder o list change)) (sym w.result-is) tt
       | in-NoSpace w ↦ subst (λ a. IfDone (Ok a) (λ reply change. IsUnder o list change)) (sym w.result-is) tt
+    ]
+
+pub returns-clause-made : goal.returns-clause-made
+returns-clause-made g c im o l t of =
+    elim c.match-branch-2.branch [
+      | in-Refused w ↦ subst (λ a. IfDone (Ok a) (λ reply change. is_ok reply ≡ true → IsMade im o l c.args.call.now c.args.stamp.now.node c.args.stamp.now.time change)) (sym w.result-is) (λ so. absurd (true≢false (sym so ∙ subst IsRefusal w.in-Refused.is c.in_ok-reply.ensures.refusal)))
+      | in-Made w ↦ subst (λ a. IfDone (Ok a) (λ reply change. is_ok reply ≡ true → IsMade im o l c.args.call.now c.args.stamp.now.node c.args.stamp.now.time change)) (sym w.result-is) (λ so. subst (IfMade (IsMade im o l c.args.call.now c.args.stamp.now.node c.args.stamp.now.time)) w.in-Made.is (c.in_ok-reply.ensures.made im o l t of))
+      | in-NeedBlock w ↦ subst (λ a. IfDone (Ok a) (λ reply change. is_ok reply ≡ true → IsMade im o l c.args.call.now c.args.stamp.now.node c.args.stamp.now.time change)) (sym w.result-is) tt
+      | in-NotBuilt w ↦ subst (λ a. IfDone (Ok a) (λ reply change. is_ok reply ≡ true → IsMade im o l c.args.call.now c.args.stamp.now.node c.args.stamp.now.time change)) (sym w.result-is) tt
+      | in-NeedLock w ↦ subst (λ a. IfDone (Ok a) (λ reply change. is_ok reply ≡ true → IsMade im o l c.args.call.now c.args.stamp.now.node c.args.stamp.now.time change)) (sym w.result-is) tt
+      | in-NoSpace w ↦ subst (λ a. IfDone (Ok a) (λ reply change. is_ok reply ≡ true → IsMade im o l c.args.call.now c.args.stamp.now.node c.args.stamp.now.time change)) (sym w.result-is) tt
+    ]
+
+pub returns-clause-stamped : goal.returns-clause-stamped
+returns-clause-stamped g c im o l t of =
+    elim c.match-branch-2.branch [
+      | in-Refused w ↦ subst (λ a. IfDone (Ok a) (λ reply change. is_ok reply ≡ true → IsStamped im o l c.args.call.now c.args.stamp.now.time change)) (sym w.result-is) (λ so. absurd (true≢false (sym so ∙ subst IsRefusal w.in-Refused.is c.in_ok-reply.ensures.refusal)))
+      | in-Made w ↦ subst (λ a. IfDone (Ok a) (λ reply change. is_ok reply ≡ true → IsStamped im o l c.args.call.now c.args.stamp.now.time change)) (sym w.result-is) (λ so. subst (IfMade (IsStamped im o l c.args.call.now c.args.stamp.now.time)) w.in-Made.is (c.in_ok-reply.ensures.stamped im o l t of))
+      | in-NeedBlock w ↦ subst (λ a. IfDone (Ok a) (λ reply change. is_ok reply ≡ true → IsStamped im o l c.args.call.now c.args.stamp.now.time change)) (sym w.result-is) tt
+      | in-NotBuilt w ↦ subst (λ a. IfDone (Ok a) (λ reply change. is_ok reply ≡ true → IsStamped im o l c.args.call.now c.args.stamp.now.time change)) (sym w.result-is) tt
+      | in-NeedLock w ↦ subst (λ a. IfDone (Ok a) (λ reply change. is_ok reply ≡ true → IsStamped im o l c.args.call.now c.args.stamp.now.time change)) (sym w.result-is) tt
+      | in-NoSpace w ↦ subst (λ a. IfDone (Ok a) (λ reply change. is_ok reply ≡ true → IsStamped im o l c.args.call.now c.args.stamp.now.time change)) (sym w.result-is) tt
     ]

@@ -18,7 +18,7 @@ use Rattle.making_calls.specs.declared.blocks.Locked.TheVariants as locked
 use Rattle.making_calls.proofs.Alike.{linear_in}
 use Rattle.making_calls.proofs.Faults.{only_so, tells_so, told_on}
 use Rattle.making_calls.proofs.Rooms.{block_way, group_sound, lock_way, room_held}
-use Rattle.making_calls.proofs.Taking.{addition_does, all_held, block_lacks, directory_sound, group_lacks, inside_so, lock_lacks, own_name, placed, too_few, under, wrong_damage}
+use Rattle.making_calls.proofs.Taking.{addition_does, all_held, block_lacks, directory_sound, group_lacks, inside_so, lock_lacks, made, own_name, placed, stamped, too_few, under, wrong_damage}
 use Rattle.making_calls.proofs.tries.make_at.Goals as goal
 
 pub returns-then-is_none-clause-sound : goal.returns-then-is_none-clause-sound
@@ -118,7 +118,7 @@ returns-in-Is-clause-done g c =
     let v = g.V.View.seen c.args.view.now in
     let room = room_held v c.args.stamp.now.node c.in-Is-Is.room c.is_a_view.ensures c.requires.groups c.requires.node (λ at own shown is. subst (IsUnder v (block_holds (said at) v.groups own) (IsTaken v (said at) v.groups own)) (c.in-Is-Is.is ∙ ap locked.Is c.in-Is-Is.field-0-is) (c.in_ok-room.ensures.found at own shown is)) in
     let some = answer_at _ _ _ c.in-Is.is c.in_ok-change.ensures.added in
-    let added = subst (λ b. IsAddition v b c.args.place.now c.args.name.now c.in-Is-Is.room c.in-Is.change) c.is_of_directory.ensures some in
+    let added = subst (λ b. IsAddition v b c.args.place.now c.args.name.now c.in-Is-Is.room c.args.stamp.now.time c.in-Is.change) c.is_of_directory.ensures some in
     addition_does v c.args.call.now c.requires.making c.args.place.now c.args.name.now c.requires.last c.requires.named c.requires.lacks c.requires.seen.leads c.in-Is-Is.room room c.in-Is.change added c.requires.reached
     (λ im o l t of. placed v c.args.call.now c.requires.making c.args.place.now c.args.name.now c.requires.last c.requires.named c.requires.lacks im o l t of (c.requires.reached im o l t of) (λ h shown. sym (c.in_ok-fits.ensures.room h shown) ∙ c.if-not-fits.false) c.args.stamp.now.node c.requires.groups c.requires.node c.in-Is-Is.room (λ at own shown is. subst (IsUnder v (block_holds (said at) v.groups own) (IsTaken v (said at) v.groups own)) (c.in-Is-Is.is ∙ ap locked.Is c.in-Is-Is.field-0-is) (c.in_ok-room.ensures.found at own shown is)))
 
@@ -131,8 +131,22 @@ pub returns-in-Is-clause-under : goal.returns-in-Is-clause-under
 returns-in-Is-clause-under g c im o l t of =
     let v = g.V.View.seen c.args.view.now in
     let some = answer_at _ _ _ c.in-Is.is c.in_ok-change.ensures.added in
-    let added = subst (λ b. IsAddition v b c.args.place.now c.args.name.now c.in-Is-Is.room c.in-Is.change) c.is_of_directory.ensures some in
+    let added = subst (λ b. IsAddition v b c.args.place.now c.args.name.now c.in-Is-Is.room c.args.stamp.now.time c.in-Is.change) c.is_of_directory.ensures some in
     under v c.args.call.now c.requires.making c.args.place.now c.args.name.now c.requires.last c.requires.named c.requires.lacks im o l t of (c.requires.reached im o l t of) (λ h shown. sym (c.in_ok-fits.ensures.room h shown) ∙ c.if-not-fits.false) c.args.stamp.now.node c.requires.groups c.requires.node c.in-Is-Is.room (λ at own shown is. subst (IsUnder v (block_holds (said at) v.groups own) (IsTaken v (said at) v.groups own)) (c.in-Is-Is.is ∙ ap locked.Is c.in-Is-Is.field-0-is) (c.in_ok-room.ensures.found at own shown is)) c.in-Is.change added
+
+pub returns-in-Is-clause-made : goal.returns-in-Is-clause-made
+returns-in-Is-clause-made g c im o l t of =
+    let v = g.V.View.seen c.args.view.now in
+    let some = answer_at _ _ _ c.in-Is.is c.in_ok-change.ensures.added in
+    let added = subst (λ b. IsAddition v b c.args.place.now c.args.name.now c.in-Is-Is.room c.args.stamp.now.time c.in-Is.change) c.is_of_directory.ensures some in
+    made v c.args.call.now c.requires.making c.args.place.now c.args.name.now c.requires.last c.requires.named c.requires.lacks im o l t of (c.requires.reached im o l t of) (λ h shown. sym (c.in_ok-fits.ensures.room h shown) ∙ c.if-not-fits.false) c.args.stamp.now.node c.requires.groups c.requires.node c.in-Is-Is.room (λ at own shown is. subst (IsUnder v (block_holds (said at) v.groups own) (IsTaken v (said at) v.groups own)) (c.in-Is-Is.is ∙ ap locked.Is c.in-Is-Is.field-0-is) (c.in_ok-room.ensures.found at own shown is)) c.in-Is.change added
+
+pub returns-in-Is-clause-stamped : goal.returns-in-Is-clause-stamped
+returns-in-Is-clause-stamped g c im o l t of =
+    let v = g.V.View.seen c.args.view.now in
+    let some = answer_at _ _ _ c.in-Is.is c.in_ok-change.ensures.added in
+    let added = subst (λ b. IsAddition v b c.args.place.now c.args.name.now c.in-Is-Is.room c.args.stamp.now.time c.in-Is.change) c.is_of_directory.ensures some in
+    stamped v c.args.call.now c.requires.making c.args.place.now c.args.name.now c.requires.last c.requires.named c.requires.lacks im o l t of (c.requires.reached im o l t of) (λ h shown. sym (c.in_ok-fits.ensures.room h shown) ∙ c.if-not-fits.false) c.args.stamp.now.node c.requires.groups c.requires.node c.in-Is-Is.room (λ at own shown is. subst (IsUnder v (block_holds (said at) v.groups own) (IsTaken v (said at) v.groups own)) (c.in-Is-Is.is ∙ ap locked.Is c.in-Is-Is.field-0-is) (c.in_ok-room.ensures.found at own shown is)) c.in-Is.change added
 
 pub returns-then-not-fits-clause-hashed : goal.returns-then-not-fits-clause-hashed
 returns-then-not-fits-clause-hashed g c =
