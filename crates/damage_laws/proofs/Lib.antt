@@ -1,0 +1,3 @@
+pub mod Claimed
+pub mod Paths
+pub mod Calls
