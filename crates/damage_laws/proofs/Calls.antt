@@ -27,7 +27,7 @@ use Rattle.making_calls.specs.Making as making
 use Rattle.path_walks.specs.Walks as path
 use Rattle.removing_calls.specs.Removing as removing
 use Rattle.writing_calls.specs.Writing as writing
-use Rattle.damage_laws.specs.Telling.{IsReadFrom, HasWholeGroups, IsTold, itself, by_root, by_inode, WritesTell, WritesTellExactly, RemovalsTell, MakingsTell, CallsTell}
+use Rattle.damage_laws.specs.Telling.{IsReadFrom, HasRootInside, HasWholeGroups, IsTold, itself, by_root, by_inode, WritesTell, WritesTellExactly, RemovalsTell, MakingsTell, CallsTell}
 use Rattle.damage_laws.proofs.Claimed.{shown, root_claimed, led_there, outside}
 use Rattle.damage_laws.proofs.Paths.{wrong_inode, paths_tell}
 
@@ -38,19 +38,21 @@ led_inside v wants path a (at_root held) = inl refl
 led_inside v wants path a (by_name front dir b name leads is names inside held) = inr inside
 
 module _ (v : Seen) (im : Image) (read : IsReadFrom v im) where
-  root_told : (wants : List Want) (path : Path) (a : ℕ) → LeadsTo v wants path a → ¬ (HasDataBlock v a) → IsTold im 2 a
+  root_told : (wants : List Want) (path : Path) (a : ℕ) → LeadsTo v wants path a → ¬ (HasDataBlock v a) → IsTold v im 2 a
   root_told wants path a leads out = elim (led_inside v wants path a leads) [
-    | inl e ↦ subst (IsTold im 2) (read.root ∙ sym e) (by_root (beyond_groups (superblock_place im.size) v.root Root (root_claimed v im read) (outside v im read v.root (subst (λ b. ¬ (HasDataBlock v b)) e out))))
+    | inl e ↦
+        let bare : ¬ (HasRootInside v) = subst (λ b. ¬ (HasDataBlock v b)) e out in
+        subst (IsTold v im 2) (sym e) (by_root bare (beyond_groups (superblock_place im.size) v.root Root (root_claimed v im read) (outside v im read v.root bare)))
     | inr inside ↦ absurd (out inside)
   ]
 
   -- ---- a block in no group that goes with an inode: it is led to by a block of that one
 
-  led_told : (a from k level first b : ℕ) → HasInode im a → Leads (every im a) from k level first b → Breaks im 2 from → IsTold im 2 a
+  led_told : (a from k level first b : ℕ) → HasInode im a → Leads (every im a) from k level first b → Breaks im 2 from → IsTold v im 2 a
   led_told a from k level first b has (from_dinode j up height low some) broken = itself 2 a broken
   led_told a from k level first b has (from_block x j up start c i leads low some) broken = by_inode a c has (x, j, suc up, start, leads) broken
 
-  stray_told : (wants : List Want) (path : Path) (a b : ℕ) → LeadsTo v wants path a → (b ≡ a) ⊎ IsBelow (every im a) b → ¬ (HasDataBlock v b) → IsTold im 2 a
+  stray_told : (wants : List Want) (path : Path) (a b : ℕ) → LeadsTo v wants path a → (b ≡ a) ⊎ IsBelow (every im a) b → ¬ (HasDataBlock v b) → IsTold v im 2 a
   stray_told wants path a b leads goes out = elim goes [
     | inl e ↦ root_told wants path a leads (subst (λ c. ¬ (HasDataBlock v c)) e out)
     | inr led ↦
@@ -104,7 +106,7 @@ makings_tell v im call rule b read whole (making.in_directory a r x leads wrong)
 makings_tell v im call rule b read whole (making.in_group r x broken) = itself r x (group_told v im read whole broken.group broken.has r x broken.broken)
 makings_tell v im call rule b read whole (making.no_data_block a leads out) = root_told v im read (wanted call) (making.directory_path call) a leads out
 
-path_told : (v : Seen) (im : Image) (call : Call) (rule b : ℕ) → IsReadFrom v im → path.IsDamage v (wanted call) (path_of call false) rule b → IsTold im rule b
+path_told : (v : Seen) (im : Image) (call : Call) (rule b : ℕ) → IsReadFrom v im → path.IsDamage v (wanted call) (path_of call false) rule b → IsTold v im rule b
 path_told v im call rule b read broken = itself rule b (paths_tell v im (wanted call) (path_of call false) rule b read broken)
 
 pub calls_tell : CallsTell

@@ -5,15 +5,19 @@ use Rattle.call_locks.specs.declared.want.Want.{Want}
 use Rattle.dinode_tree.specs.Below.{IsBelow}
 use Rattle.file_calls.specs.Calls as calls
 use Rattle.file_tree.specs.declared.call.Call.{Call}
+use Rattle.file_tree.specs.Tree.{Tree}
 use Rattle.gfs2_layout.specs.Device.{superblock_place}
 use Rattle.gfs2_layout.specs.declared.rindex.Rindex.{Rindex}
 use Rattle.glock_names.specs.Views.{Seen, HasGroup, group_of_entry}
 use Rattle.glock_names.specs.declared.views.Group.{Group}
+use Rattle.image_changes.specs.Does.{IsOf}
 use Rattle.image_model.specs.Claims as image
 use Rattle.image_model.specs.Claims.{every, HasInode}
 use Rattle.image_model.specs.Flat.{Path}
 use Rattle.image_model.specs.Image.{Image, IsImage, superblock_in}
+use Rattle.image_model.specs.Owners.{Owners}
 use Rattle.image_model.specs.Rules.{Breaks}
+use Rattle.image_model.specs.Stands.{Layout}
 use Rattle.making_calls.specs.Making as making
 use Rattle.path_walks.specs.Walks as path
 use Rattle.removing_calls.specs.Removing as removing
@@ -38,14 +42,18 @@ pub record HasWholeGroups (v : Seen) (im : Image) : Type 0 where
 abbrev pub HasRootInside : Seen → Type 0
 HasRootInside v = HasDataBlock v v.root
 
--- A broken block is told of as itself; or (2) by the inode that it belongs to: by the root the superblock, which has the root's number, or
--- by an inode an indirect block of it.
-pub data IsTold (im : Image) : ℕ → ℕ → Type 0 where
-  itself : (rule b : ℕ) → Breaks im rule b → IsTold im rule b
-  by_root : Breaks im 2 (superblock_place im.size) → IsTold im 2 (superblock_in im).root.address
-  by_inode : (a b : ℕ) → HasInode im a → IsBelow (every im a) b → Breaks im 2 b → IsTold im 2 a
+-- A broken block is told of as itself; or (2) by the root, where that is in no group, the superblock, which has its number; or by an inode
+-- a block below it, which has the number of a block that is in no group.
+pub data IsTold (v : Seen) (im : Image) : ℕ → ℕ → Type 0 where
+  itself : (rule b : ℕ) → Breaks im rule b → IsTold v im rule b
+  by_root : ¬ (HasRootInside v) → Breaks im 2 (superblock_place im.size) → IsTold v im 2 v.root
+  by_inode : (a b : ℕ) → HasInode im a → IsBelow (every im a) b → Breaks im 2 b → IsTold v im 2 a
 
 -- ---- laws
+
+-- a view that may be of an image that stands may have been read from it, whose groups are whole, and has its root in one of them
+abbrev pub StandingAreRead : Type 0
+StandingAreRead = (v : Seen) (im : Image) (o : Owners) (l : Layout) (t : Tree) → IsOf v im o l t → IsReadFrom v im × HasWholeGroups v im × HasRootInside v
 
 -- the inode to which a path leads is one of the image
 abbrev pub InodesAreThere : Type 0
@@ -57,7 +65,7 @@ PathsTell = (v : Seen) (im : Image) (wants : List Want) (names : Path) (rule b :
 
 -- damage that a write meets
 abbrev pub WritesTell : Type 0
-WritesTell = (v : Seen) (im : Image) (call : Call) (rule b : ℕ) → IsReadFrom v im → writing.IsDamage v call rule b → IsTold im rule b
+WritesTell = (v : Seen) (im : Image) (call : Call) (rule b : ℕ) → IsReadFrom v im → writing.IsDamage v call rule b → IsTold v im rule b
 
 -- and where the root is in a group, as itself
 abbrev pub WritesTellExactly : Type 0
@@ -65,12 +73,12 @@ WritesTellExactly = (v : Seen) (im : Image) (call : Call) (rule b : ℕ) → IsR
 
 -- damage that the removal of a name meets
 abbrev pub RemovalsTell : Type 0
-RemovalsTell = (v : Seen) (im : Image) (call : Call) (rule b : ℕ) → IsReadFrom v im → HasWholeGroups v im → removing.IsDamage v call rule b → IsTold im rule b
+RemovalsTell = (v : Seen) (im : Image) (call : Call) (rule b : ℕ) → IsReadFrom v im → HasWholeGroups v im → removing.IsDamage v call rule b → IsTold v im rule b
 
 -- damage that making a name meets
 abbrev pub MakingsTell : Type 0
-MakingsTell = (v : Seen) (im : Image) (call : Call) (rule b : ℕ) → IsReadFrom v im → HasWholeGroups v im → making.IsDamage v call rule b → IsTold im rule b
+MakingsTell = (v : Seen) (im : Image) (call : Call) (rule b : ℕ) → IsReadFrom v im → HasWholeGroups v im → making.IsDamage v call rule b → IsTold v im rule b
 
 -- damage that any call meets of those that `file_calls` answers
 abbrev pub CallsTell : Type 0
-CallsTell = (v : Seen) (im : Image) (call : Call) (rule b : ℕ) → IsReadFrom v im → HasWholeGroups v im → calls.IsDamage v call rule b → IsTold im rule b
+CallsTell = (v : Seen) (im : Image) (call : Call) (rule b : ℕ) → IsReadFrom v im → HasWholeGroups v im → calls.IsDamage v call rule b → IsTold v im rule b

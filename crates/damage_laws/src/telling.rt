@@ -1,5 +1,11 @@
 //! What is told as damage.
-ghost use Rattle.damage_laws.specs.Telling.{CallsTell, InodesAreThere, MakingsTell, PathsTell, RemovalsTell, WritesTell, WritesTellExactly};
+ghost use Rattle.damage_laws.specs.Telling.{CallsTell, InodesAreThere, MakingsTell, PathsTell, RemovalsTell, StandingAreRead, WritesTell, WritesTellExactly};
+
+/// A law: an image that stands is one that each view was read from which may be of it, with the root and the groups as the laws below
+/// ask for them.
+pub fn views_may_be_read_from_standing_images()
+    ensures { StandingAreRead }
+{}
 
 /// A law: what is told of a view as damage on a path breaks that rule in every image that the view may have been read from, right or
 /// wrong. The inode to which the path leads is one of that image.
