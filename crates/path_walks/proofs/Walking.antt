@@ -319,7 +319,7 @@ module _ (v : Seen) (names : Path) (wants : List Want) (order : AreInOrder wants
     damages state wanted rule b (in_this r c broken) =
         let n = came (take i names) p.inode before.leads (drop i names) (sym (take-append-drop i names)) in
         on_path n.0 p.inode r c n.1 n.2 (λ h shown. in_directory r c (broken h shown).0 (broken h shown).1)
-    damages state wanted rule b (past_groups c leads outside) = leads_out (take i names) (drop (suc i) names) p.inode c name front before.leads leads outside
+    damages state wanted rule b (past_groups c leads outside) = leads_out (take i names) (drop (suc i) names) p.inode c name front before.leads is_name leads outside
     damages state wanted rule b (in_child c r x leads inside held broken) =
         on_path (suc i) c r x (next c leads inside) (held_at v wants (suc i) c state wanted held) (λ h shown. in_inode r x (broken h shown))
 

@@ -155,7 +155,7 @@ pub data IsWrong (h : Holding) : ℕ → ℕ → Type 0 where
 -- the groups' data blocks.
 pub data IsDamage (v : Seen) (wants : List Want) (path : Path) : ℕ → ℕ → Type 0 where
   on_path : (depth a rule b : ℕ) → IsNext v wants path depth a → IsHeldAt v wants depth a → ((h : Holding) → IsShown v a h → IsWrong h rule b) → IsDamage v wants path rule b
-  leads_out : (front back : Path) (dir b : ℕ) (name : List ℕ) → path ≡ front ++ name ∷ back → LeadsTo v wants front dir → Names v dir name b → ¬ (HasDataBlock v b)
+  leads_out : (front back : Path) (dir b : ℕ) (name : List ℕ) → path ≡ front ++ name ∷ back → LeadsTo v wants front dir → IsName name → Names v dir name b → ¬ (HasDataBlock v b)
       → IsDamage v wants path 2 dir
 
 -- ---- a step of the walk

@@ -1,0 +1,124 @@
+-- Damage that a call meets beside its path: at the root, below an inode that goes, and in groups.
+use Rattle.std.proofs.Common.{◌≡◌, ℕ, zero, suc, ◌+◌, ◌⊎◌, inl, inr, List, refl, sym, ◌∙◌, subst, arith}
+use Rattle.std.specs.Prelude.{false}
+use Rattle.call_locks.specs.declared.want.Want.{Want}
+use Rattle.dinode_tree.specs.Below.{IsBelow}
+use Rattle.file_tree.specs.declared.call.Call.{Call}
+use Rattle.file_tree.specs.declared.call.Call.TheVariants as calls
+use Rattle.call_locks.specs.Wants.{wanted}
+use Rattle.call_locks.specs.WantLaws.{path_of}
+use Rattle.file_tree.specs.Names.{parent_of}
+use Rattle.gfs2_layout.specs.Device.{superblock_place}
+use Rattle.gfs2_layout.specs.Headers.{HasHeader}
+use Rattle.gfs2_layout.specs.Inode.{Leads, from_dinode, from_block}
+use Rattle.gfs2_layout.specs.declared.rindex.Rindex.{Rindex}
+use Rattle.glock_names.specs.Views.{Seen, HasGroup, group_of_entry}
+use Rattle.glock_names.specs.declared.views.Group.{Group}
+use Rattle.resource_groups.specs.Putting.{HasDataBlock}
+use Rattle.resource_groups.specs.Shown as group
+use Rattle.image_model.specs.Claims as image
+use Rattle.image_model.specs.Claims.{every, Claims, below, HasInode}
+use Rattle.image_model.specs.Flat.{Path}
+use Rattle.image_model.specs.Image.{Image}
+use Rattle.image_model.specs.Owners.{Root, Below}
+use Rattle.image_model.specs.Rules.{Breaks, of_group, of_bitmap, no_header, beyond_groups, free_count, dinode_count}
+use Rattle.path_walks.specs.Walks.{LeadsTo, at_root, by_name}
+use Rattle.making_calls.specs.Making as making
+use Rattle.path_walks.specs.Walks as path
+use Rattle.removing_calls.specs.Removing as removing
+use Rattle.writing_calls.specs.Writing as writing
+use Rattle.damage_laws.specs.Telling.{IsReadFrom, HasRootInside, HasWholeGroups, IsTold, itself, by_root, by_inode, WritesTell, WritesTellExactly, RemovalsTell, MakingsTell, CallsTell}
+use Rattle.damage_laws.proofs.Claimed.{shown, root_claimed, led_there, outside}
+use Rattle.damage_laws.proofs.Paths.{wrong_inode, paths_tell}
+
+-- ---- an inode in no group to which a path leads is the root
+
+led_inside : (v : Seen) (wants : List Want) (path : Path) (a : ℕ) → LeadsTo v wants path a → (a ≡ v.root) ⊎ HasDataBlock v a
+led_inside v wants path a (at_root held) = inl refl
+led_inside v wants path a (by_name front dir b name leads is names inside held) = inr inside
+
+module _ (v : Seen) (im : Image) (read : IsReadFrom v im) where
+  root_told : (wants : List Want) (path : Path) (a : ℕ) → LeadsTo v wants path a → ¬ (HasDataBlock v a) → IsTold v im 2 a
+  root_told wants path a leads out = elim (led_inside v wants path a leads) [
+    | inl e ↦
+        let bare : ¬ (HasRootInside v) = subst (λ b. ¬ (HasDataBlock v b)) e out in
+        subst (IsTold v im 2) (sym e) (by_root bare (beyond_groups (superblock_place im.size) v.root Root (root_claimed v im read) (outside v im read v.root bare)))
+    | inr inside ↦ absurd (out inside)
+  ]
+
+  -- ---- a block in no group that goes with an inode: it is led to by a block of that one
+
+  led_told : (a from k level first b : ℕ) → HasInode im a → Leads (every im a) from k level first b → Breaks im 2 from → IsTold v im 2 a
+  led_told a from k level first b has (from_dinode j up height low some) broken = itself 2 a broken
+  led_told a from k level first b has (from_block x j up start c i leads low some) broken = by_inode a c has (x, j, suc up, start, leads) broken
+
+  stray_told : (wants : List Want) (path : Path) (a b : ℕ) → LeadsTo v wants path a → (b ≡ a) ⊎ IsBelow (every im a) b → ¬ (HasDataBlock v b) → IsTold v im 2 a
+  stray_told wants path a b leads goes out = elim goes [
+    | inl e ↦ root_told wants path a leads (subst (λ c. ¬ (HasDataBlock v c)) e out)
+    | inr led ↦
+        let has = led_there v im read wants path a leads in
+        led_told a led.0 led.1 led.2 led.3 b has led.4
+        (beyond_groups led.0 b (Below a led.0 led.1 led.2 led.3) (below has.1.by a has.0 led.0 led.1 led.2 led.3 b has.1.claimed has.1.dinode led.4) (outside v im read b out))
+  ]
+
+  -- ---- groups
+
+  broken_group : (g : Rindex) → image.HasGroup im g → (rule b : ℕ) → group.IsBroken im.at (group_of_entry g) rule b → Breaks im rule b
+  broken_group g has rule b (group.no_header zero low lacks) =
+      let first : g.address ≡ g.address + 0 = omega arith in
+      subst (Breaks im 1) first (no_header g.address 2 200 (of_group g has) (λ header. lacks (subst (λ c. HasHeader 2 200 (im.at c)) first header)))
+  broken_group g has rule b (group.no_header (suc k) low lacks) = no_header (g.address + suc k) 3 300 (of_bitmap g (suc k) has (omega arith) low) lacks
+  broken_group g has rule b (group.wrong_free other) = free_count g has other
+  broken_group g has rule b (group.wrong_dinodes other) = dinode_count g has other
+
+  module _ (whole : HasWholeGroups v im) where
+    group_shown : (g : Group) → HasGroup v g → group.IsShown v g im.at
+    group_shown g has = record { whole = λ b of. whole.image.whole b (whole.inside g b has of) ∙ read.size; same = λ b bytes of e. read.agrees b bytes e }
+
+    -- a group of the view is broken in the image as it is whatever the view hasn't of it
+    group_told : (k : Group) → HasGroup v k → (rule b : ℕ) → ((at : ℕ → List ℕ) → group.IsShown v k at → group.IsBroken at k rule b) → Breaks im rule b
+    group_told k has rule b broken =
+        let listed = (read.groups k).0 has in
+        broken_group listed.0 listed.1 rule b (subst (λ g. group.IsBroken im.at g rule b) listed.2 (broken im.at (group_shown k has)))
+
+-- ---- the calls
+
+pub writes_tell : WritesTell
+writes_tell v im call rule b read (writing.on_path r x broken) = itself r x (paths_tell v im (wanted call) (path_of call false) r x read broken)
+writes_tell v im call rule b read (writing.no_data_block a leads out) = root_told v im read (wanted call) (path_of call false) a leads out
+
+pub writes_tell_exactly : WritesTellExactly
+writes_tell_exactly v im call rule b read inside (writing.on_path r x broken) = paths_tell v im (wanted call) (path_of call false) r x read broken
+writes_tell_exactly v im call rule b read inside (writing.no_data_block a leads out) = elim (led_inside v (wanted call) (path_of call false) a leads) [
+  | inl e ↦ absurd (out (subst (HasDataBlock v) (sym e) inside))
+  | inr there ↦ absurd (out there)
+]
+
+pub removals_tell : RemovalsTell
+removals_tell v im call rule b read whole (removing.on_path r x broken) = itself r x (paths_tell v im (wanted call) (path_of call false) r x read broken)
+removals_tell v im call rule b read whole (removing.stray a x taken goes out) = stray_told v im read (wanted call) (path_of call false) a x taken.leads (goes (every im a) (shown v im read a)) out
+removals_tell v im call rule b read whole (removing.above a leads out) = root_told v im read (wanted call) (parent_of (path_of call false)) a leads out
+removals_tell v im call rule b read whole (removing.in_group a r x blocks taken all held breaks) = itself r x (group_told v im read whole breaks.0 breaks.1 r x breaks.3)
+
+pub makings_tell : MakingsTell
+makings_tell v im call rule b read whole (making.on_path r x broken) = itself r x (paths_tell v im (wanted call) (making.directory_path call) r x read broken)
+makings_tell v im call rule b read whole (making.in_directory a r x leads wrong) = itself r x (wrong_inode im a (led_there v im read (wanted call) (making.directory_path call) a leads) r x (wrong (every im a) (shown v im read a)))
+makings_tell v im call rule b read whole (making.in_group r x broken) = itself r x (group_told v im read whole broken.group broken.has r x broken.broken)
+makings_tell v im call rule b read whole (making.no_data_block a leads out) = root_told v im read (wanted call) (making.directory_path call) a leads out
+
+path_told : (v : Seen) (im : Image) (call : Call) (rule b : ℕ) → IsReadFrom v im → path.IsDamage v (wanted call) (path_of call false) rule b → IsTold v im rule b
+path_told v im call rule b read broken = itself rule b (paths_tell v im (wanted call) (path_of call false) rule b read broken)
+
+pub calls_tell : CallsTell
+calls_tell v im (calls.Create p) rule b read whole told = path_told v im (calls.Create p) rule b read told
+calls_tell v im (calls.Mkdir p) rule b read whole told = path_told v im (calls.Mkdir p) rule b read told
+calls_tell v im (calls.Unlink p) rule b read whole told = removals_tell v im (calls.Unlink p) rule b read whole told
+calls_tell v im (calls.Rmdir p) rule b read whole told = removals_tell v im (calls.Rmdir p) rule b read whole told
+calls_tell v im (calls.Read p at n) rule b read whole told = path_told v im (calls.Read p at n) rule b read told
+calls_tell v im (calls.Dread p at n) rule b read whole told = path_told v im (calls.Dread p at n) rule b read told
+calls_tell v im (calls.Write p at bytes) rule b read whole told = writes_tell v im (calls.Write p at bytes) rule b read told
+calls_tell v im (calls.Truncate p n) rule b read whole told = path_told v im (calls.Truncate p n) rule b read told
+calls_tell v im (calls.Stat p) rule b read whole told = path_told v im (calls.Stat p) rule b read told
+calls_tell v im (calls.List p) rule b read whole told = path_told v im (calls.List p) rule b read told
+calls_tell v im (calls.Rename p q) rule b read whole told = path_told v im (calls.Rename p q) rule b read told
+calls_tell v im calls.Sync rule b read whole told = path_told v im calls.Sync rule b read told

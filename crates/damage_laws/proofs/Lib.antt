@@ -1,0 +1,4 @@
+pub mod Claimed
+pub mod Paths
+pub mod Calls
+pub mod Standing

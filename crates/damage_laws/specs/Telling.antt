@@ -1,0 +1,84 @@
+-- What a call tells of a view as damage, in each image that the view may have been read from.
+use Rattle.std.specs.Prelude.{ℕ, ◌≡◌, ◌↔◌, ◌<◌, List}
+use Rattle.draft_changes.specs.Shown.{AgreesWith}
+use Rattle.call_locks.specs.declared.want.Want.{Want}
+use Rattle.dinode_tree.specs.Below.{IsBelow}
+use Rattle.file_calls.specs.Calls as calls
+use Rattle.file_tree.specs.declared.call.Call.{Call}
+use Rattle.file_tree.specs.Tree.{Tree}
+use Rattle.gfs2_layout.specs.Device.{superblock_place}
+use Rattle.gfs2_layout.specs.declared.rindex.Rindex.{Rindex}
+use Rattle.glock_names.specs.Views.{Seen, HasGroup, group_of_entry}
+use Rattle.glock_names.specs.declared.views.Group.{Group}
+use Rattle.image_changes.specs.Does.{IsOf}
+use Rattle.image_model.specs.Claims as image
+use Rattle.image_model.specs.Claims.{every, HasInode}
+use Rattle.image_model.specs.Flat.{Path}
+use Rattle.image_model.specs.Image.{Image, IsImage, superblock_in}
+use Rattle.image_model.specs.Owners.{Owners}
+use Rattle.image_model.specs.Rules.{Breaks}
+use Rattle.image_model.specs.Stands.{Layout}
+use Rattle.making_calls.specs.Making as making
+use Rattle.path_walks.specs.Walks as path
+use Rattle.removing_calls.specs.Removing as removing
+use Rattle.resource_groups.specs.Putting.{HasDataBlock}
+use Rattle.resource_groups.specs.Shown.{IsHeaderOf}
+use Rattle.writing_calls.specs.Writing as writing
+
+-- The view may have been read from the image, be this right or wrong: they agree in the size of a block, in the root, in each block that
+-- the view has, and in the groups, which are those of the image's list.
+pub record IsReadFrom (v : Seen) (im : Image) : Type 0 where
+  pub size : im.size ≡ v.size
+  pub root : (superblock_in im).root.address ≡ v.root
+  pub agrees : AgreesWith v im
+  pub groups : (k : Group) → HasGroup v k ↔ ((g : Rindex) × image.HasGroup im g × (k ≡ group_of_entry g))
+
+-- the image's blocks are whole, and it has the headers and bitmaps of the view's groups
+pub record HasWholeGroups (v : Seen) (im : Image) : Type 0 where
+  pub image : IsImage im
+  pub inside : (k : Group) (b : ℕ) → HasGroup v k → IsHeaderOf k b → b < im.count
+
+-- the root's dinode is a data block of one of the view's groups
+abbrev pub HasRootInside : Seen → Type 0
+HasRootInside v = HasDataBlock v v.root
+
+-- A broken block is told of as itself; or (2) by the root, where that is in no group, the superblock, which has its number; or by an inode
+-- a block below it, which has the number of a block that is in no group.
+pub data IsTold (v : Seen) (im : Image) : ℕ → ℕ → Type 0 where
+  itself : (rule b : ℕ) → Breaks im rule b → IsTold v im rule b
+  by_root : ¬ (HasRootInside v) → Breaks im 2 (superblock_place im.size) → IsTold v im 2 v.root
+  by_inode : (a b : ℕ) → HasInode im a → IsBelow (every im a) b → Breaks im 2 b → IsTold v im 2 a
+
+-- ---- laws
+
+-- a view that may be of an image that stands may have been read from it, whose groups are whole, and has its root in one of them
+abbrev pub StandingAreRead : Type 0
+StandingAreRead = (v : Seen) (im : Image) (o : Owners) (l : Layout) (t : Tree) → IsOf v im o l t → IsReadFrom v im × HasWholeGroups v im × HasRootInside v
+
+-- the inode to which a path leads is one of the image
+abbrev pub InodesAreThere : Type 0
+InodesAreThere = (v : Seen) (im : Image) (wants : List Want) (names : Path) (a : ℕ) → IsReadFrom v im → path.LeadsTo v wants names a → HasInode im a
+
+-- damage on a path
+abbrev pub PathsTell : Type 0
+PathsTell = (v : Seen) (im : Image) (wants : List Want) (names : Path) (rule b : ℕ) → IsReadFrom v im → path.IsDamage v wants names rule b → Breaks im rule b
+
+-- damage that a write meets
+abbrev pub WritesTell : Type 0
+WritesTell = (v : Seen) (im : Image) (call : Call) (rule b : ℕ) → IsReadFrom v im → writing.IsDamage v call rule b → IsTold v im rule b
+
+-- and where the root is in a group, as itself
+abbrev pub WritesTellExactly : Type 0
+WritesTellExactly = (v : Seen) (im : Image) (call : Call) (rule b : ℕ) → IsReadFrom v im → HasRootInside v → writing.IsDamage v call rule b → Breaks im rule b
+
+-- damage that the removal of a name meets
+abbrev pub RemovalsTell : Type 0
+RemovalsTell = (v : Seen) (im : Image) (call : Call) (rule b : ℕ) → IsReadFrom v im → HasWholeGroups v im → removing.IsDamage v call rule b → IsTold v im rule b
+
+-- damage that making a name meets
+abbrev pub MakingsTell : Type 0
+MakingsTell = (v : Seen) (im : Image) (call : Call) (rule b : ℕ) → IsReadFrom v im → HasWholeGroups v im → making.IsDamage v call rule b → IsTold v im rule b
+
+-- damage that any call meets of those that `file_calls` answers
+abbrev pub CallsTell : Type 0
+CallsTell = (v : Seen) (im : Image) (call : Call) (rule b : ℕ) → IsReadFrom v im → HasWholeGroups v im → calls.IsDamage v call rule b → IsTold v im rule b

@@ -1,0 +1,38 @@
+//! What is told as damage.
+ghost use Rattle.damage_laws.specs.Telling.{CallsTell, InodesAreThere, MakingsTell, PathsTell, RemovalsTell, StandingAreRead, WritesTell, WritesTellExactly};
+
+/// A law: an image that stands is one that each view was read from which may be of it, with the root and the groups as the laws below
+/// ask for them.
+pub fn views_may_be_read_from_standing_images()
+    ensures { StandingAreRead }
+{}
+
+/// A law: what is told of a view as damage on a path breaks that rule in every image that the view may have been read from, right or
+/// wrong. The inode to which the path leads is one of that image.
+pub fn paths_tell_broken_blocks()
+    ensures there { InodesAreThere }
+    ensures broken { PathsTell }
+{}
+
+/// A law: so does what a write tells; but for the root's block, where it is in no group: there the superblock breaks the rule, which has
+/// its number.
+pub fn writes_tell_broken_blocks()
+    ensures broken { WritesTell }
+    ensures exact { WritesTellExactly }
+{}
+
+/// A law: so does what the removal of a name tells, where the groups' headers and bitmaps are on the device; but for the root's block, and for an inode of
+/// which an indirect block leads to a block that is in no group.
+pub fn removals_tell_broken_blocks()
+    ensures { RemovalsTell }
+{}
+
+/// A law: so does what a call tells that makes a name, where the groups' headers and bitmaps are on the device; but for the root's block.
+pub fn makings_tell_broken_blocks()
+    ensures { MakingsTell }
+{}
+
+/// A law: so does what each call tells that is built.
+pub fn calls_tell_broken_blocks()
+    ensures { CallsTell }
+{}
