@@ -110,8 +110,8 @@ path_told : (v : Seen) (im : Image) (call : Call) (rule b : ℕ) → IsReadFrom 
 path_told v im call rule b read broken = itself rule b (paths_tell v im (wanted call) (path_of call false) rule b read broken)
 
 pub calls_tell : CallsTell
-calls_tell v im (calls.Create p) rule b read whole told = path_told v im (calls.Create p) rule b read told
-calls_tell v im (calls.Mkdir p) rule b read whole told = path_told v im (calls.Mkdir p) rule b read told
+calls_tell v im (calls.Create p) rule b read whole told = makings_tell v im (calls.Create p) rule b read whole told
+calls_tell v im (calls.Mkdir p) rule b read whole told = makings_tell v im (calls.Mkdir p) rule b read whole told
 calls_tell v im (calls.Unlink p) rule b read whole told = removals_tell v im (calls.Unlink p) rule b read whole told
 calls_tell v im (calls.Rmdir p) rule b read whole told = removals_tell v im (calls.Rmdir p) rule b read whole told
 calls_tell v im (calls.Read p at n) rule b read whole told = path_told v im (calls.Read p at n) rule b read told

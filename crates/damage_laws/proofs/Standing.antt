@@ -1,5 +1,5 @@
 -- An image that stands, and a view that may be of it.
-use Rattle.std.proofs.Common.{◌≡◌, ℕ, ◌+◌, ◌<◌, ◌≤◌, refl, sym, ap, ◌∙◌, subst, arith}
+use Rattle.std.proofs.Common.{◌≡◌, ◌+◌, refl, sym, ap, ◌∙◌, subst, arith}
 use Rattle.draft_changes.proofs.Views.{groups_are_listed}
 use Rattle.file_tree.specs.Tree.{Tree}
 use Rattle.gfs2_layout.specs.declared.rindex.Rindex.{Rindex}
@@ -7,7 +7,7 @@ use Rattle.glock_names.specs.Views.{Seen, HasGroup, group_of_entry}
 use Rattle.glock_names.specs.declared.views.Group.{Group}
 use Rattle.resource_groups.specs.Putting.{HasDataBlock}
 use Rattle.image_changes.specs.Does.{IsOf}
-use Rattle.image_model.specs.Groups.{IsListed, IsDataOf, GroupFits}
+use Rattle.image_model.specs.Groups.{IsListed, GroupFits}
 use Rattle.image_model.specs.Image.{Image}
 use Rattle.image_model.specs.Owners.{Owners, IsUsed}
 use Rattle.image_model.specs.Stands.{Layout, IsLaid}
