@@ -1,5 +1,5 @@
 -- Faults that are handed on.
-use Rattle.std.proofs.Common.{◌≡◌, ℕ, true, true≢false, List, Option, None, Some, Bor, Result, Ok, Err, sym, subst}
+use Rattle.std.proofs.Common.{◌≡◌, ℕ, true, true≢false, List, Option, None, Some, Bor, Result, Ok, Err, refl, sym, subst}
 use Rattle.std.specs.Prelude.{IfSome, IsErrAnd, is_some}
 use Rattle.gfs2_layout.specs.Holding.{Holding}
 use Rattle.glock_names.specs.Steps.{IfDamaged, IfIs, IsDamage, TellsOf}
@@ -61,3 +61,8 @@ seen_there w b (Some bytes) some told = (bytes.now, told)
 pub tells_two : (P Q R : ℕ → ℕ → Type 0) → ((rule b : ℕ) → P rule b → Q rule b → R rule b) → (f : CallFault) → TellsOf P f → TellsOf Q f → TellsOf R f
 tells_two P Q R so NoMemory first second = tt
 tells_two P Q R so (Damaged b rule) first second = so rule b first second
+
+-- damage that each fault of a call tells
+pub each_fault : {A : Type 0} (r : Result A CallFault) (Q : ℕ → ℕ → Type 0) → ((f : CallFault) → r ≡ Err f → TellsOf Q f) → IfDamaged r Q
+each_fault (Ok answer) Q so = tt
+each_fault (Err f) Q so = so f refl

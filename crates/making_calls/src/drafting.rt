@@ -217,8 +217,5 @@ pub(crate) fn addition<V: View>(
         unreachable!();
     }
     put_new(alloc, &mut draft, is_directory, entry, place, stamp.time)?;
-    match say_and_finish(draft, room.block)? {
-        Step::Is(change) => Ok(Step::Is(change)),
-        Step::NeedBlock(missing) => Ok(Step::NeedBlock(missing)),
-    }
+    say_and_finish(draft, room.block)
 }

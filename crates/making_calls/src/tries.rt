@@ -203,9 +203,10 @@ fn find<V: View>(alloc: Global, view: &V, call: &Call, stamp: &Stamp) -> Result<
 }
 
 /// Tries a call that makes a name, over a view: its answer with what it changes, or the first lock that isn't held, the block that
-/// isn't there, or that too few blocks are free. A new inode is in the least free block of the node's own group, or else of all
-/// groups in order. It costs a walk along the path, two passes over the blocks of each group that it looks at, and copies of five
-/// blocks.
+/// isn't there, or that too few blocks are free. A directory without room for the name is told before any lock of a group is asked
+/// for. A new inode is in the least free block of the node's own group, or else of all groups in order, and it and the directory get
+/// the stamp's time. It costs a walk along the path, six passes over the directory's records, two over the blocks of each group that
+/// it looks at, and copies of five blocks.
 pub fn attempt<V: View>(
     alloc: Global,
     view: &V,

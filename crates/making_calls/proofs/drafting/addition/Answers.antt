@@ -5,9 +5,9 @@ use Rattle.drafts.specs.Fates.{seen_in, seen_with}
 use Rattle.gfs2_layout.specs.Holding.{Holding}
 use Rattle.gfs2_layout.specs.Putting.{least_length}
 use Rattle.gfs2_layout.specs.declared.dinode.Dinode.{Dinode}
-use Rattle.glock_names.specs.Steps.{TellsOf}
+use Rattle.glock_names.specs.Steps.{IfDamaged, TellsOf}
 use Rattle.glock_names.specs.Views.{HasBlock, HasGroup, IsOfView, IsView}
-use Rattle.glock_names.proofs.StepLaws.{answer_at, needed_at}
+use Rattle.glock_names.proofs.StepLaws.{answer_at, answer_so, needed_so}
 use Rattle.dinode_tree.specs.Shown.{IsShown}
 use Rattle.dinode_tree.proofs.Sound.{some_is_shown}
 use Rattle.linear_dirs.specs.Broken.{IsBroken}
@@ -15,10 +15,10 @@ use Rattle.linear_dirs.specs.Shown.{IsLinearIn}
 use Rattle.new_inodes.specs.New.{IsInodePut}
 use Rattle.resource_groups.specs.Shown.{IsHeaderOf}
 use Rattle.resource_groups.specs.Shown as group
-use Rattle.making_calls.specs.Drafting.{IsWrongIn, in_directory, in_group, IsNumbered, IsNewOf, IsRecordPut}
+use Rattle.making_calls.specs.Drafting.{IsWrongIn, in_directory, in_group, IsAddition, IsNumbered, IsNewOf, IsRecordPut, IsSaidAndDone}
 use Rattle.making_calls.specs.Making.{has_room_for}
 use Rattle.making_calls.proofs.Adding.{addition_is, done_is, first_seen, fourth_seen, old_view, others_stay}
-use Rattle.making_calls.proofs.Faults.{told_on, tells_all, tells_each, tells_so, tells_two, only_so}
+use Rattle.making_calls.proofs.Faults.{each_fault, told_on, tells_all, tells_each, tells_so, tells_two, only_so}
 use Rattle.making_calls.proofs.Numbered.{group_shown}
 use Rattle.making_calls.proofs.Over.{broken_over, group_over, kept_over, kept_later, linear_over, missing_before, room_over, stuffed_over, there_over, data_apart, positive_block}
 use Rattle.making_calls.proofs.drafting.addition.Goals as goal
@@ -129,8 +129,8 @@ unreachable-requires g c =
     let full = subst (λ n. has_room_for s.0 n ≡ false) c.bytes.ensures.bytes (sym told ∙ c.if-not-done.true) in
     true≢false (sym (c.requires.fits s.0 s.1.0) ∙ full)
 
-pub returns-in-Is-2-clause-added : goal.returns-in-Is-2-clause-added
-returns-in-Is-2-clause-added g c =
+pub returns-clause-added : goal.returns-clause-added
+returns-clause-added g c =
     let v = g.V.View.seen c.args.view.now in
     let k = c.args.room.now.group in
     let dir = c.args.place.now.inode in
@@ -147,14 +147,15 @@ returns-in-Is-2-clause-added g c =
     let seen4 = fourth_seen g.V.View.seen c.args.view.now c.new-draft.result d1 c.new-draft.ensures same d3 d4 c.args.room.now.block New (c.in_ok-done.ensures.view done) put in
     let has4 : HasGroup (seen_in g.V.View.seen d4) k = subst (λ w. HasGroup w k) (sym seen4) c.requires.group in
     let named = subst (λ n. IsRecordPut (g.V.View.seen d1.view) d1.fates dir c.args.stamp.now.time n (record { number = c.in-Is.number; addr = c.args.room.now.block; kind = c.kind_of_new.result }) d3.fates) c.bytes.ensures.bytes rec in
-    let said = answer_at _ _ _ c.in-Is-2.is (c.in_ok-change.ensures.said k has4 c.requires.block) in
-    addition_is v c.args.is_directory c.args.place.now c.args.name.now c.args.room.now c.args.stamp.now.time c.in-Is-2.change
-    (done_is g.V.View.seen c.args.view.now c.new-draft.result d1 c.new-draft.ensures same c.args.is_directory c.args.place.now c.args.name.now c.args.room.now c.in-Is-2.change c.in-Is.number c.args.stamp.now.time c.kind_of_new.result d3 d4
-    c.kind_of_new.ensures (answer_at _ _ _ c.in-Is.is c.in_ok-number.ensures.numbered) named (c.in_ok-done.ensures.view done) put c.in_ok-change.ensures.view said)
-    c.bytes.ensures.name c.requires.group c.requires.block c.is_a_view.ensures c.requires.inside
+    answer_so c.say_and_finish.result (IsSaidAndDone (g.V.View.seen d4.view) d4.fates k c.args.room.now.block) (IsAddition v c.args.is_directory c.args.place.now c.args.name.now c.args.room.now c.args.stamp.now.time)
+    (λ change said. addition_is v c.args.is_directory c.args.place.now c.args.name.now c.args.room.now c.args.stamp.now.time change
+    (done_is g.V.View.seen c.args.view.now c.new-draft.result d1 c.new-draft.ensures same c.args.is_directory c.args.place.now c.args.name.now c.args.room.now change c.in-Is.number c.args.stamp.now.time c.kind_of_new.result d3 d4
+    c.kind_of_new.ensures (answer_at _ _ _ c.in-Is.is c.in_ok-number.ensures.numbered) named (c.in_ok-done.ensures.view done) put c.say_and_finish.ensures.view said)
+    c.bytes.ensures.name c.requires.group c.requires.block c.is_a_view.ensures c.requires.inside)
+    (c.say_and_finish.ensures.said k has4 c.requires.block)
 
-pub returns-in_err-change-clause-damaged : goal.returns-in_err-change-clause-damaged
-returns-in_err-change-clause-damaged g c =
+pub returns-clause-damaged : goal.returns-clause-damaged
+returns-clause-damaged g c =
     let v = g.V.View.seen c.args.view.now in
     let k = c.args.room.now.group in
     let dir = c.args.place.now.inode in
@@ -173,13 +174,13 @@ returns-in_err-change-clause-damaged g c =
     let stay : (b : ℕ) → IsHeaderOf k b → get d4.fates b ≡ get d1.fates b = λ b own.
     others_stay g.V.View.seen c.args.view.now c.new-draft.result d1 c.new-draft.ensures same dir c.args.stamp.now.time c.bytes.result.now (record { number = c.in-Is.number; addr = c.args.room.now.block; kind = c.kind_of_new.result }) d3 d4 c.args.room.now.block New (g.V.View.seen d1.view) rec put b
     (data_apart v k c.in-Is.number d1.fates num c.is_a_view.ensures c.requires.group dir c.requires.inside dir b c.requires.inside own) (data_apart v k c.in-Is.number d1.fates num c.is_a_view.ensures c.requires.group dir c.requires.inside c.args.room.now.block b (k, c.requires.group, c.requires.block) own) in
-    let f = c.in_err-change.field-0.0 in
-    told_on (IsWrongIn v dir k) _ _ c.from_residual-in_err-change.ensures.1
-    (tells_so (λ rule b. (at : ℕ → List ℕ) → group.IsShown v k at → group.IsBroken at k rule b) (IsWrongIn v dir k) in_group f (tells_each v k f
-    (group_over v k c.in-Is.number d1.fates num c.is_a_view.ensures c.requires.group dir c.requires.inside d4.fates stay (subst IsView seen4 c.in_err-change.ensures.view) f (λ at seen. c.in_err-change.ensures.damaged k at has4 c.requires.block (subst (λ w. group.IsShown w k at) (sym seen4) seen)))))
+    each_fault c.say_and_finish.result (IsWrongIn v dir k) (λ f is.
+    tells_so (λ rule b. (at : ℕ → List ℕ) → group.IsShown v k at → group.IsBroken at k rule b) (IsWrongIn v dir k) in_group f (tells_each v k f
+    (group_over v k c.in-Is.number d1.fates num c.is_a_view.ensures c.requires.group dir c.requires.inside d4.fates stay (subst IsView seen4 c.say_and_finish.ensures.view) f
+    (λ at seen. subst (λ r. IfDamaged r (group.IsBroken at k)) is (c.say_and_finish.ensures.damaged k at has4 c.requires.block (subst (λ w. group.IsShown w k at) (sym seen4) seen))))))
 
-pub returns-in_err-change-clause-kept : goal.returns-in_err-change-clause-kept
-returns-in_err-change-clause-kept g c =
+pub returns-clause-kept : goal.returns-clause-kept
+returns-clause-kept g c =
     let v = g.V.View.seen c.args.view.now in
     let k = c.args.room.now.group in
     let dir = c.args.place.now.inode in
@@ -199,15 +200,15 @@ returns-in_err-change-clause-kept g c =
     let stay : (b : ℕ) → IsHeaderOf k b → get d4.fates b ≡ get d1.fates b = λ b own.
     others_stay g.V.View.seen c.args.view.now c.new-draft.result d1 c.new-draft.ensures same dir c.args.stamp.now.time c.bytes.result.now (record { number = c.in-Is.number; addr = c.args.room.now.block; kind = c.kind_of_new.result }) d3 d4 c.args.room.now.block New (g.V.View.seen d1.view) rec put b
     (data_apart v k c.in-Is.number d1.fates num c.is_a_view.ensures c.requires.group dir c.requires.inside dir b c.requires.inside own) (data_apart v k c.in-Is.number d1.fates num c.is_a_view.ensures c.requires.group dir c.requires.inside c.args.room.now.block b (k, c.requires.group, c.requires.block) own) in
-    let f = c.in_err-change.field-0.0 in
     let shown = group_shown v k c.is_a_view.ensures in
-    told_on (IsOfView v) _ _ c.from_residual-in_err-change.ensures.1
-    (tells_two (group.IsBroken shown.0 k) (IsOfView (seen_with v d4.fates)) (IsOfView v) (kept_later v k c.in-Is.number d1.fates num c.is_a_view.ensures c.requires.group dir c.requires.inside d4.fates stay (subst IsView seen4 c.in_err-change.ensures.view) header shown.0) f
-    (group_over v k c.in-Is.number d1.fates num c.is_a_view.ensures c.requires.group dir c.requires.inside d4.fates stay (subst IsView seen4 c.in_err-change.ensures.view) f (λ at seen. c.in_err-change.ensures.damaged k at has4 c.requires.block (subst (λ w. group.IsShown w k at) (sym seen4) seen)) shown.0 shown.1)
-    (subst (λ w. TellsOf (IsOfView w) f) seen4 c.in_err-change.ensures.kept))
+    each_fault c.say_and_finish.result (IsOfView v) (λ f is.
+    tells_two (group.IsBroken shown.0 k) (IsOfView (seen_with v d4.fates)) (IsOfView v) (kept_later v k c.in-Is.number d1.fates num c.is_a_view.ensures c.requires.group dir c.requires.inside d4.fates stay (subst IsView seen4 c.say_and_finish.ensures.view) header shown.0) f
+    (group_over v k c.in-Is.number d1.fates num c.is_a_view.ensures c.requires.group dir c.requires.inside d4.fates stay (subst IsView seen4 c.say_and_finish.ensures.view) f
+    (λ at seen. subst (λ r. IfDamaged r (group.IsBroken at k)) is (c.say_and_finish.ensures.damaged k at has4 c.requires.block (subst (λ w. group.IsShown w k at) (sym seen4) seen))) shown.0 shown.1)
+    (subst (λ w. TellsOf (IsOfView w) f) seen4 (subst (λ r. IfDamaged r (IsOfView (seen_in g.V.View.seen d4))) is c.say_and_finish.ensures.kept)))
 
-pub returns-in-NeedBlock-2-clause-needed : goal.returns-in-NeedBlock-2-clause-needed
-returns-in-NeedBlock-2-clause-needed g c =
+pub returns-clause-needed : goal.returns-clause-needed
+returns-clause-needed g c =
     let v = g.V.View.seen c.args.view.now in
     let k = c.args.room.now.group in
     let dir = c.args.place.now.inode in
@@ -223,5 +224,5 @@ returns-in-NeedBlock-2-clause-needed g c =
     let put : (bytes : List ℕ) × IsInodePut g.V.View.seen d3 d4 c.args.room.now.block New bytes = c.in_ok-put_new.ensures.put in
     let seen4 = fourth_seen g.V.View.seen c.args.view.now c.new-draft.result d1 c.new-draft.ensures same d3 d4 c.args.room.now.block New (c.in_ok-done.ensures.view done) put in
     let has4 : HasGroup (seen_in g.V.View.seen d4) k = subst (λ w. HasGroup w k) (sym seen4) c.requires.group in
-    missing_before v d4.fates k c.in-NeedBlock-2.missing
-    (subst (λ w. group.IsMissing w k c.in-NeedBlock-2.missing) seen4 (needed_at _ _ _ c.in-NeedBlock-2.is (c.in_ok-change.ensures.needed k has4 c.requires.block)))
+    needed_so c.say_and_finish.result (group.IsMissing (seen_in g.V.View.seen d4) k) (group.IsMissing v k)
+    (λ m missing. missing_before v d4.fates k m (subst (λ w. group.IsMissing w k m) seen4 missing)) (c.say_and_finish.ensures.needed k has4 c.requires.block)
