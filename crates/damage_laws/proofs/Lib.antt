@@ -2,3 +2,4 @@ pub mod Claimed
 pub mod Paths
 pub mod Calls
 pub mod Standing
+pub mod Mounted

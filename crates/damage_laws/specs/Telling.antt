@@ -18,6 +18,7 @@ use Rattle.image_model.specs.Image.{Image, IsImage, superblock_in}
 use Rattle.image_model.specs.Owners.{Owners}
 use Rattle.image_model.specs.Rules.{Breaks}
 use Rattle.image_model.specs.Stands.{Layout}
+use Rattle.image_mount.specs.Mounted.{IsMounted, MountedValue}
 use Rattle.making_calls.specs.Making as making
 use Rattle.path_walks.specs.Walks as path
 use Rattle.removing_calls.specs.Removing as removing
@@ -38,6 +39,13 @@ pub record HasWholeGroups (v : Seen) (im : Image) : Type 0 where
   pub image : IsImage im
   pub inside : (k : Group) (b : ℕ) → HasGroup v k → IsHeaderOf k b → b < im.count
 
+-- the view has what mounting told of the image, and of the bytes of its blocks
+pub record IsOfMounted (v : Seen) (im : Image) (m : MountedValue) : Type 0 where
+  pub size : im.size ≡ v.size
+  pub root : m.superblock.root.address ≡ v.root
+  pub groups : m.groups ≡ v.groups
+  pub agrees : AgreesWith v im
+
 -- the root's dinode is a data block of one of the view's groups
 abbrev pub HasRootInside : Seen → Type 0
 HasRootInside v = HasDataBlock v v.root
@@ -54,6 +62,10 @@ pub data IsTold (v : Seen) (im : Image) : ℕ → ℕ → Type 0 where
 -- a view that may be of an image that stands may have been read from it, whose groups are whole, and has its root in one of them
 abbrev pub StandingAreRead : Type 0
 StandingAreRead = (v : Seen) (im : Image) (o : Owners) (l : Layout) (t : Tree) → IsOf v im o l t → IsReadFrom v im × HasWholeGroups v im × HasRootInside v
+
+-- so may a view that has what mounting told of an image, right or wrong, and of its blocks
+abbrev pub MountedAreRead : Type 0
+MountedAreRead = (v : Seen) (im : Image) (m : MountedValue) → IsImage im → IsMounted im m → IsOfMounted v im m → IsReadFrom v im × HasWholeGroups v im
 
 -- the inode to which a path leads is one of the image
 abbrev pub InodesAreThere : Type 0

@@ -1,10 +1,16 @@
 //! What is told as damage.
-ghost use Rattle.damage_laws.specs.Telling.{CallsTell, InodesAreThere, MakingsTell, PathsTell, RemovalsTell, StandingAreRead, WritesTell, WritesTellExactly};
+ghost use Rattle.damage_laws.specs.Telling.{CallsTell, InodesAreThere, MakingsTell, MountedAreRead, PathsTell, RemovalsTell, StandingAreRead, WritesTell, WritesTellExactly};
 
-/// A law: an image that stands is one that each view was read from which may be of it, with the root and the groups as the laws below
-/// ask for them.
+/// A law: a view that may be of an image that stands may have been read from it, and has the root and the groups that the laws below
+/// ask for.
 pub fn views_may_be_read_from_standing_images()
     ensures { StandingAreRead }
+{}
+
+/// A law: a view that has what mounting told of an image, which may be wrong, and of the bytes of its blocks, may have been read from it,
+/// and has the groups that the laws below ask for.
+pub fn views_may_be_read_from_mounted_images()
+    ensures { MountedAreRead }
 {}
 
 /// A law: what is told of a view as damage on a path breaks that rule in every image that the view may have been read from, right or

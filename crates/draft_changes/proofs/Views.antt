@@ -81,17 +81,17 @@ shows_groups v fates im o l t g is whole listed = record {
 
 -- ---- groups
 
-in_map : (g : Rindex) (gs : List Rindex) → IsIn g gs → IsIn (group_of_entry g) (map group_of_entry gs)
+pub in_map : (g : Rindex) (gs : List Rindex) → IsIn g gs → IsIn (group_of_entry g) (map group_of_entry gs)
 in_map g [] h = elim h [ ]
 in_map g (k ∷ gs) (inl e) = inl (ap group_of_entry e)
 in_map g (k ∷ gs) (inr h) = inr (in_map g gs h)
 
-from_map : (k : Group) (gs : List Rindex) → IsIn k (map group_of_entry gs) → (g : Rindex) × IsIn g gs × (k ≡ group_of_entry g)
+pub from_map : (k : Group) (gs : List Rindex) → IsIn k (map group_of_entry gs) → (g : Rindex) × IsIn g gs × (k ≡ group_of_entry g)
 from_map k [] h = elim h [ ]
 from_map k (g ∷ gs) (inl e) = (g, inl refl, e)
 from_map k (g ∷ gs) (inr h) = let f = from_map k gs h in (f.0, inr f.1, f.2)
 
-is_listed : (g : Rindex) (gs : List Rindex) → IsIn g gs → IsListed gs g
+pub is_listed : (g : Rindex) (gs : List Rindex) → IsIn g gs → IsListed gs g
 is_listed g [] h = elim h [ ]
 is_listed g (k ∷ gs) (inl e) = (0, ap Some (sym e))
 is_listed g (k ∷ gs) (inr h) = let r = is_listed g gs h in (suc r.0, r.1)
