@@ -33,7 +33,7 @@ use Rattle.damage_laws.proofs.Paths.{wrong_inode, paths_tell}
 
 -- ---- an inode in no group to which a path leads is the root
 
-led_inside : (v : Seen) (wants : List Want) (path : Path) (a : ℕ) → LeadsTo v wants path a → (a ≡ v.root) ⊎ HasDataBlock v a
+pub led_inside : (v : Seen) (wants : List Want) (path : Path) (a : ℕ) → LeadsTo v wants path a → (a ≡ v.root) ⊎ HasDataBlock v a
 led_inside v wants path a (at_root held) = inl refl
 led_inside v wants path a (by_name front dir b name leads is names inside held) = inr inside
 
@@ -73,7 +73,7 @@ module _ (v : Seen) (im : Image) (read : IsReadFrom v im) where
 
   module _ (whole : HasWholeGroups v im) where
     group_shown : (g : Group) → HasGroup v g → group.IsShown v g im.at
-    group_shown g has = record { whole = λ b of. whole.image.whole b (whole.inside g b has of) ∙ read.size; same = λ b bytes of e. read.agrees b bytes e }
+    group_shown g has = record { whole = λ b of. whole.image.whole b (whole.headers g b has of) ∙ read.size; same = λ b bytes of e. read.agrees b bytes e }
 
     -- a group of the view is broken in the image as it is whatever the view hasn't of it
     group_told : (k : Group) → HasGroup v k → (rule b : ℕ) → ((at : ℕ → List ℕ) → group.IsShown v k at → group.IsBroken at k rule b) → Breaks im rule b

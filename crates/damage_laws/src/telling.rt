@@ -1,5 +1,5 @@
 //! What is told as damage.
-ghost use Rattle.damage_laws.specs.Telling.{CallsTell, InodesAreThere, MakingsTell, MountedAreRead, PathsTell, RemovalsTell, StandingAreRead, WritesTell, WritesTellExactly};
+ghost use Rattle.damage_laws.specs.Telling.{CallsTell, InodesAreThere, MakingsTell, MountedAreRead, NeedsTell, PathsTell, RemovalsTell, StandingAreRead, WritesTell, WritesTellExactly};
 
 /// A law: a view that may be of an image that stands may have been read from it, and has the root and the groups that the laws below
 /// ask for.
@@ -41,4 +41,10 @@ pub fn makings_tell_broken_blocks()
 /// A law: so does what each call tells that is built.
 pub fn calls_tell_broken_blocks()
     ensures { CallsTell }
+{}
+
+/// A law: where a block that such a call needs lies out of the device, the block in which its number stands breaks the rule on numbers:
+/// the superblock, where the block is asked for by itself, which is then the root.
+pub fn needs_out_of_the_device_tell_broken_blocks()
+    ensures { NeedsTell }
 {}
