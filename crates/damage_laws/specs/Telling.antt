@@ -89,9 +89,12 @@ WritesTellExactly = (v : Seen) (im : Image) (call : Call) (rule b : ℕ) → IsR
 abbrev pub RemovalsTell : Type 0
 RemovalsTell = (v : Seen) (im : Image) (call : Call) (rule b : ℕ) → IsReadFrom v im → HasWholeGroups v im → removing.IsDamage v call rule b → IsTold v im rule b
 
--- damage that making a name meets
+-- damage that making a name meets, the same
 abbrev pub MakingsTell : Type 0
 MakingsTell = (v : Seen) (im : Image) (call : Call) (rule b : ℕ) → IsReadFrom v im → HasWholeGroups v im → making.IsDamage v call rule b → IsTold v im rule b
+
+abbrev pub MakingsTellExactly : Type 0
+MakingsTellExactly = (v : Seen) (im : Image) (call : Call) (rule b : ℕ) → IsReadFrom v im → HasWholeGroups v im → HasRootInside v → making.IsDamage v call rule b → Breaks im rule b
 
 -- damage that any call meets of those that `file_calls` answers
 abbrev pub CallsTell : Type 0
