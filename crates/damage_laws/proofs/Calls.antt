@@ -3,6 +3,7 @@ use Rattle.std.proofs.Common.{◌≡◌, ℕ, zero, suc, ◌+◌, ◌⊎◌, inl
 use Rattle.std.specs.Prelude.{false}
 use Rattle.call_locks.specs.declared.want.Want.{Want}
 use Rattle.dinode_tree.specs.Below.{IsBelow}
+use Rattle.dinode_tree.specs.Shown.{IsShown}
 use Rattle.file_tree.specs.declared.call.Call.{Call}
 use Rattle.file_tree.specs.declared.call.Call.TheVariants as calls
 use Rattle.call_locks.specs.Wants.{wanted}
@@ -10,6 +11,7 @@ use Rattle.call_locks.specs.WantLaws.{path_of}
 use Rattle.file_tree.specs.Names.{parent_of}
 use Rattle.gfs2_layout.specs.Device.{superblock_place}
 use Rattle.gfs2_layout.specs.Headers.{HasHeader}
+use Rattle.gfs2_layout.specs.Holding.{Holding}
 use Rattle.gfs2_layout.specs.Inode.{Leads, from_dinode, from_block}
 use Rattle.gfs2_layout.specs.declared.rindex.Rindex.{Rindex}
 use Rattle.glock_names.specs.Views.{Seen, HasGroup, group_of_entry}
@@ -22,18 +24,18 @@ use Rattle.image_model.specs.Flat.{Path}
 use Rattle.image_model.specs.Image.{Image}
 use Rattle.image_model.specs.Owners.{Root, Below}
 use Rattle.image_model.specs.Rules.{Breaks, of_group, of_bitmap, no_header, beyond_groups, free_count, dinode_count}
-use Rattle.path_walks.specs.Walks.{LeadsTo, at_root, by_name}
+use Rattle.path_walks.specs.Walks.{LeadsTo, at_root, by_name, IsWrong}
 use Rattle.making_calls.specs.Making as making
 use Rattle.path_walks.specs.Walks as path
 use Rattle.removing_calls.specs.Removing as removing
 use Rattle.writing_calls.specs.Writing as writing
-use Rattle.damage_laws.specs.Telling.{IsReadFrom, HasRootInside, HasWholeGroups, IsTold, itself, by_root, by_inode, WritesTell, WritesTellExactly, RemovalsTell, MakingsTell, CallsTell}
+use Rattle.damage_laws.specs.Telling.{IsReadFrom, HasRootInside, HasWholeGroups, IsTold, itself, by_root, by_inode, WritesTell, WritesTellExactly, RemovalsTell, MakingsTell, MakingsTellExactly, CallsTell}
 use Rattle.damage_laws.proofs.Claimed.{shown, root_claimed, led_there, outside}
 use Rattle.damage_laws.proofs.Paths.{wrong_inode, paths_tell}
 
 -- ---- an inode in no group to which a path leads is the root
 
-led_inside : (v : Seen) (wants : List Want) (path : Path) (a : ℕ) → LeadsTo v wants path a → (a ≡ v.root) ⊎ HasDataBlock v a
+pub led_inside : (v : Seen) (wants : List Want) (path : Path) (a : ℕ) → LeadsTo v wants path a → (a ≡ v.root) ⊎ HasDataBlock v a
 led_inside v wants path a (at_root held) = inl refl
 led_inside v wants path a (by_name front dir b name leads is names inside held) = inr inside
 
@@ -73,7 +75,7 @@ module _ (v : Seen) (im : Image) (read : IsReadFrom v im) where
 
   module _ (whole : HasWholeGroups v im) where
     group_shown : (g : Group) → HasGroup v g → group.IsShown v g im.at
-    group_shown g has = record { whole = λ b of. whole.image.whole b (whole.inside g b has of) ∙ read.size; same = λ b bytes of e. read.agrees b bytes e }
+    group_shown g has = record { whole = λ b of. whole.image.whole b (whole.headers g b has of) ∙ read.size; same = λ b bytes of e. read.agrees b bytes e }
 
     -- a group of the view is broken in the image as it is whatever the view hasn't of it
     group_told : (k : Group) → HasGroup v k → (rule b : ℕ) → ((at : ℕ → List ℕ) → group.IsShown v k at → group.IsBroken at k rule b) → Breaks im rule b
@@ -87,12 +89,13 @@ pub writes_tell : WritesTell
 writes_tell v im call rule b read (writing.on_path r x broken) = itself r x (paths_tell v im (wanted call) (path_of call false) r x read broken)
 writes_tell v im call rule b read (writing.no_data_block a leads out) = root_told v im read (wanted call) (path_of call false) a leads out
 
+-- where the root is in a group, so is each inode to which a path leads
+all_inside : (v : Seen) (wants : List Want) (path : Path) (a : ℕ) → HasRootInside v → LeadsTo v wants path a → ¬ (HasDataBlock v a) → ⊥
+all_inside v wants path a inside leads out = elim (led_inside v wants path a leads) [ inl e ↦ out (subst (HasDataBlock v) (sym e) inside) | inr there ↦ out there ]
+
 pub writes_tell_exactly : WritesTellExactly
 writes_tell_exactly v im call rule b read inside (writing.on_path r x broken) = paths_tell v im (wanted call) (path_of call false) r x read broken
-writes_tell_exactly v im call rule b read inside (writing.no_data_block a leads out) = elim (led_inside v (wanted call) (path_of call false) a leads) [
-  | inl e ↦ absurd (out (subst (HasDataBlock v) (sym e) inside))
-  | inr there ↦ absurd (out there)
-]
+writes_tell_exactly v im call rule b read inside (writing.no_data_block a leads out) = absurd (all_inside v (wanted call) (path_of call false) a inside leads out)
 
 pub removals_tell : RemovalsTell
 removals_tell v im call rule b read whole (removing.on_path r x broken) = itself r x (paths_tell v im (wanted call) (path_of call false) r x read broken)
@@ -100,11 +103,27 @@ removals_tell v im call rule b read whole (removing.stray a x taken goes out) = 
 removals_tell v im call rule b read whole (removing.above a leads out) = root_told v im read (wanted call) (parent_of (path_of call false)) a leads out
 removals_tell v im call rule b read whole (removing.in_group a r x blocks taken all held breaks) = itself r x (group_told v im read whole breaks.0 breaks.1 r x breaks.3)
 
+module _ (v : Seen) (im : Image) (call : Call) (read : IsReadFrom v im) (whole : HasWholeGroups v im) where
+  in_directory_told : (a rule b : ℕ) → LeadsTo v (wanted call) (making.directory_path call) a → ((h : Holding) → IsShown v a h → IsWrong h rule b) → Breaks im rule b
+  in_directory_told a rule b leads wrong = wrong_inode im a (led_there v im read (wanted call) (making.directory_path call) a leads) rule b (wrong (every im a) (shown v im read a))
+
+  makings_told : (rule b : ℕ) → making.IsDamage v call rule b → IsTold v im rule b
+  makings_told rule b (making.on_path r x broken) = itself r x (paths_tell v im (wanted call) (making.directory_path call) r x read broken)
+  makings_told rule b (making.in_directory a r x leads wrong) = itself r x (in_directory_told a r x leads wrong)
+  makings_told rule b (making.in_group r x broken) = itself r x (group_told v im read whole broken.group broken.has r x broken.broken)
+  makings_told rule b (making.no_data_block a leads out) = root_told v im read (wanted call) (making.directory_path call) a leads out
+
+  makings_told_exactly : (rule b : ℕ) → HasRootInside v → making.IsDamage v call rule b → Breaks im rule b
+  makings_told_exactly rule b inside (making.on_path r x broken) = paths_tell v im (wanted call) (making.directory_path call) r x read broken
+  makings_told_exactly rule b inside (making.in_directory a r x leads wrong) = in_directory_told a r x leads wrong
+  makings_told_exactly rule b inside (making.in_group r x broken) = group_told v im read whole broken.group broken.has r x broken.broken
+  makings_told_exactly rule b inside (making.no_data_block a leads out) = absurd (all_inside v (wanted call) (making.directory_path call) a inside leads out)
+
 pub makings_tell : MakingsTell
-makings_tell v im call rule b read whole (making.on_path r x broken) = itself r x (paths_tell v im (wanted call) (making.directory_path call) r x read broken)
-makings_tell v im call rule b read whole (making.in_directory a r x leads wrong) = itself r x (wrong_inode im a (led_there v im read (wanted call) (making.directory_path call) a leads) r x (wrong (every im a) (shown v im read a)))
-makings_tell v im call rule b read whole (making.in_group r x broken) = itself r x (group_told v im read whole broken.group broken.has r x broken.broken)
-makings_tell v im call rule b read whole (making.no_data_block a leads out) = root_told v im read (wanted call) (making.directory_path call) a leads out
+makings_tell v im call rule b read whole told = makings_told v im call read whole rule b told
+
+pub makings_tell_exactly : MakingsTellExactly
+makings_tell_exactly v im call rule b read whole inside told = makings_told_exactly v im call read whole rule b inside told
 
 path_told : (v : Seen) (im : Image) (call : Call) (rule b : ℕ) → IsReadFrom v im → path.IsDamage v (wanted call) (path_of call false) rule b → IsTold v im rule b
 path_told v im call rule b read broken = itself rule b (paths_tell v im (wanted call) (path_of call false) rule b read broken)

@@ -1,18 +1,17 @@
 -- An image that is mounted, and a view that has what mounting told.
-use Rattle.std.proofs.Common.{◌≡◌, ℕ, ◌+◌, ◌<◌, ◌≤◌, List, codes, refl, sym, ap, ◌∙◌, subst, arith}
+use Rattle.std.proofs.Common.{◌≡◌, ℕ, ◌+◌, codes, sym, ap, ◌∙◌, subst, arith}
 use Rattle.std.specs.Prelude.{map}
 use Rattle.draft_changes.proofs.Views.{in_map, from_map, is_listed}
 use Rattle.gfs2_layout.specs.declared.rindex.Rindex.{Rindex}
 use Rattle.gfs2_layout.specs.declared.superblock.SuperBlock.{SuperBlock}
 use Rattle.gfs2_layout.specs.Inode.{content_of}
 use Rattle.gfs2_layout.specs.Records.{Record}
-use Rattle.glock_names.specs.Views.{Seen, HasGroup, group_of_entry}
+use Rattle.glock_names.specs.Views.{Seen, HasGroup, end_of, group_of_entry}
 use Rattle.glock_names.specs.declared.views.Group.{Group}
 use Rattle.image_model.specs.Claims as image
 use Rattle.image_model.specs.Claims.{every, IsRindex, master_of}
 use Rattle.image_model.specs.Groups.{groups_in, IsListed, GroupFits}
 use Rattle.image_model.specs.Image.{Image, IsImage}
-use Rattle.image_model.specs.Rules.{HasRecordIn}
 use Rattle.image_model.specs.Stands.{Layout}
 use Rattle.image_model.proofs.Counts.{at_in}
 use Rattle.image_model.proofs.Members.{IsIn, contained, is_in}
@@ -67,10 +66,14 @@ module _ (v : Seen) (im : Image) (m : MountedValue) (whole : IsImage im) (is : I
   groups_whole : HasWholeGroups v im
   groups_whole = record {
     image = whole;
-    inside = λ k b has in_it.
+    headers = λ k b has in_it.
         let f = entry_of k has in
         let fits : GroupFits im f.0 = is.found.groups.fit.each f.0 f.1 in
         omega (arith, in_it.high, ap (λ (g : Group). g.addr + g.length) f.2, fits.first, fits.inside);
+    data_blocks = λ b has.
+        let f = entry_of has.0 has.1 in
+        let fits : GroupFits im f.0 = is.found.groups.fit.each f.0 f.1 in
+        omega (arith, has.2.high, ap end_of f.2, fits.inside);
   }
 
 pub mounted_are_read : MountedAreRead

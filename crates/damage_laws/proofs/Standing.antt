@@ -3,7 +3,7 @@ use Rattle.std.proofs.Common.{◌≡◌, ◌+◌, refl, sym, ap, ◌∙◌, subs
 use Rattle.draft_changes.proofs.Views.{groups_are_listed}
 use Rattle.file_tree.specs.Tree.{Tree}
 use Rattle.gfs2_layout.specs.declared.rindex.Rindex.{Rindex}
-use Rattle.glock_names.specs.Views.{Seen, HasGroup, group_of_entry}
+use Rattle.glock_names.specs.Views.{Seen, HasGroup, end_of, group_of_entry}
 use Rattle.glock_names.specs.declared.views.Group.{Group}
 use Rattle.resource_groups.specs.Putting.{HasDataBlock}
 use Rattle.image_changes.specs.Does.{IsOf}
@@ -38,10 +38,14 @@ module _ (v : Seen) (im : Image) (o : Owners) (l : Layout) (t : Tree) (is : IsOf
   whole : HasWholeGroups v im
   whole = record {
     image = laid.image;
-    inside = λ k b has of.
+    headers = λ k b has of.
         let f = listed k has in
         let fits : GroupFits im f.0 = laid.fit.each f.0 f.1 in
         omega (arith, of.high, ap (λ (g : Group). g.addr + g.length) f.2, fits.first, fits.inside);
+    data_blocks = λ b has.
+        let f = listed has.0 has.1 in
+        let fits : GroupFits im f.0 = laid.fit.each f.0 f.1 in
+        omega (arith, has.2.high, ap end_of f.2, fits.inside);
   }
 
   root_inside : HasRootInside v

@@ -1,5 +1,5 @@
 -- What a call tells of a view as damage, in each image that the view may have been read from.
-use Rattle.std.specs.Prelude.{ℕ, ◌≡◌, ◌↔◌, ◌<◌, List}
+use Rattle.std.specs.Prelude.{ℕ, ◌≡◌, ◌↔◌, ◌==◌, ◌<◌, ◌≤◌, if◌then◌else◌, List}
 use Rattle.draft_changes.specs.Shown.{AgreesWith}
 use Rattle.call_locks.specs.declared.want.Want.{Want}
 use Rattle.dinode_tree.specs.Below.{IsBelow}
@@ -9,6 +9,7 @@ use Rattle.file_tree.specs.Tree.{Tree}
 use Rattle.gfs2_layout.specs.Device.{superblock_place}
 use Rattle.gfs2_layout.specs.declared.rindex.Rindex.{Rindex}
 use Rattle.glock_names.specs.Views.{Seen, HasGroup, group_of_entry}
+use Rattle.glock_names.specs.declared.steps.Missing.{Missing}
 use Rattle.glock_names.specs.declared.views.Group.{Group}
 use Rattle.image_changes.specs.Does.{IsOf}
 use Rattle.image_model.specs.Claims as image
@@ -34,10 +35,11 @@ pub record IsReadFrom (v : Seen) (im : Image) : Type 0 where
   pub agrees : AgreesWith v im
   pub groups : (k : Group) → HasGroup v k ↔ ((g : Rindex) × image.HasGroup im g × (k ≡ group_of_entry g))
 
--- the image's blocks are whole, and it has the headers and bitmaps of the view's groups
+-- the image's blocks are whole, and it has each block of the view's groups
 pub record HasWholeGroups (v : Seen) (im : Image) : Type 0 where
   pub image : IsImage im
-  pub inside : (k : Group) (b : ℕ) → HasGroup v k → IsHeaderOf k b → b < im.count
+  pub headers : (k : Group) (b : ℕ) → HasGroup v k → IsHeaderOf k b → b < im.count
+  pub data_blocks : (b : ℕ) → HasDataBlock v b → b < im.count
 
 -- the view has what mounting told of the image, and of the bytes of its blocks
 pub record IsOfMounted (v : Seen) (im : Image) (m : MountedValue) : Type 0 where
@@ -87,10 +89,22 @@ WritesTellExactly = (v : Seen) (im : Image) (call : Call) (rule b : ℕ) → IsR
 abbrev pub RemovalsTell : Type 0
 RemovalsTell = (v : Seen) (im : Image) (call : Call) (rule b : ℕ) → IsReadFrom v im → HasWholeGroups v im → removing.IsDamage v call rule b → IsTold v im rule b
 
--- damage that making a name meets
+-- damage that making a name meets, the same
 abbrev pub MakingsTell : Type 0
 MakingsTell = (v : Seen) (im : Image) (call : Call) (rule b : ℕ) → IsReadFrom v im → HasWholeGroups v im → making.IsDamage v call rule b → IsTold v im rule b
+
+abbrev pub MakingsTellExactly : Type 0
+MakingsTellExactly = (v : Seen) (im : Image) (call : Call) (rule b : ℕ) → IsReadFrom v im → HasWholeGroups v im → HasRootInside v → making.IsDamage v call rule b → Breaks im rule b
 
 -- damage that any call meets of those that `file_calls` answers
 abbrev pub CallsTell : Type 0
 CallsTell = (v : Seen) (im : Image) (call : Call) (rule b : ℕ) → IsReadFrom v im → HasWholeGroups v im → calls.IsDamage v call rule b → IsTold v im rule b
+
+-- the block in which the number of one that is needed stands: the superblock has that of the root, which is asked for by itself
+abbrev pub source_of : ℕ → Missing → ℕ
+source_of size m = if m.from == m.block then superblock_place size else m.from
+
+-- a number that any such call needs, and that leads out of the device
+abbrev pub NeedsTell : Type 0
+NeedsTell = (v : Seen) (im : Image) (call : Call) (m : Missing) → IsReadFrom v im → HasWholeGroups v im → calls.IsNeededFor v call m → im.count ≤ m.block
+    → Breaks im 2 (source_of im.size m)

@@ -1,5 +1,5 @@
 //! What is told as damage.
-ghost use Rattle.damage_laws.specs.Telling.{CallsTell, InodesAreThere, MakingsTell, MountedAreRead, PathsTell, RemovalsTell, StandingAreRead, WritesTell, WritesTellExactly};
+ghost use Rattle.damage_laws.specs.Telling.{CallsTell, InodesAreThere, MakingsTell, MakingsTellExactly, MountedAreRead, NeedsTell, PathsTell, RemovalsTell, StandingAreRead, WritesTell, WritesTellExactly};
 
 /// A law: a view that may be of an image that stands may have been read from it, and has the root and the groups that the laws below
 /// ask for.
@@ -20,25 +20,32 @@ pub fn paths_tell_broken_blocks()
     ensures broken { PathsTell }
 {}
 
-/// A law: so does what a write tells; but for the root's block, where it is in no group: there the superblock breaks the rule, which has
+/// A law: so does what a write tells; but for the root's block, where that is in no group: there the superblock breaks the rule, which has
 /// its number.
 pub fn writes_tell_broken_blocks()
     ensures broken { WritesTell }
     ensures exact { WritesTellExactly }
 {}
 
-/// A law: so does what the removal of a name tells, where the groups' headers and bitmaps are on the device; but for the root's block, and for an inode of
-/// which an indirect block leads to a block that is in no group.
+/// A law: so does what the removal of a name tells, where the groups are on the device; but for the root's block, so, and for the dinode of
+/// an inode in which an indirect block leads to a block that is in no group: there the indirect block breaks the rule.
 pub fn removals_tell_broken_blocks()
     ensures { RemovalsTell }
 {}
 
-/// A law: so does what a call tells that makes a name, where the groups' headers and bitmaps are on the device; but for the root's block.
+/// A law: so does what a call tells that makes a name, where the groups are on the device; but for the root's block, so.
 pub fn makings_tell_broken_blocks()
-    ensures { MakingsTell }
+    ensures broken { MakingsTell }
+    ensures exact { MakingsTellExactly }
 {}
 
-/// A law: so does what each call tells that is built.
+/// A law: so does what each call tells that is built, with no other exception.
 pub fn calls_tell_broken_blocks()
     ensures { CallsTell }
+{}
+
+/// A law: where a block that such a call needs lies out of the device, the block in which its number stands breaks the rule on numbers:
+/// the superblock, where the block is asked for by itself, which is then the root.
+pub fn needs_out_of_the_device_tell_broken_blocks()
+    ensures { NeedsTell }
 {}
