@@ -1,5 +1,5 @@
 -- What a call changes, put on a disk at rest.
-use Rattle.std.specs.Prelude.{ℕ, ◌≡◌, ◌⊎◌, ◌+◌, ◌≤◌, ◌<◌, ⊤, Contains, IsTrue, unwrap_or, List, [], ◌∷◌, length, map, Option, None, Some}
+use Rattle.std.specs.Prelude.{ℕ, ◌≡◌, ◌⊎◌, ◌+◌, ◌≤◌, ◌<◌, ⊤, Contains, IsTrue, unwrap_or, List, [], ◌∷◌, length, map, take, Option, None, Some}
 use Rattle.std.specs.List.{AllByRecursion}
 use Rattle.std.specs.Ordering.{nat_cmp}
 use Rattle.std.specs.FinMap.{FinMap, insert}
@@ -31,6 +31,10 @@ pub record AreInFlight (node : ℕ) (d d' : DiskState) (flights : List Flight) :
   pub fenced : d'.is_fenced ≡ d.is_fenced
   pub own : d'.in_flight node ≡ flights
   pub others : (i : ℕ) → (i ≡ node → ⊥) → d'.in_flight i ≡ d.in_flight i
+
+-- of these blocks only the first may be in flight
+abbrev pub ArePartlyInFlight : ℕ → DiskState → DiskState → List Written → Type 0
+ArePartlyInFlight node d d' blocks = (count : ℕ) × AreInFlight node d d' (flights_of (take count blocks))
 
 -- the disk is at rest again, and holds these blocks over what it held
 pub record AreWritten (d d' : DiskState) (blocks : List Written) : Type 0 where
