@@ -3,9 +3,7 @@ use Rattle.std.specs.Prelude.{ℕ, ◌≡◌, ◌≢◌, ◌+◌, ◌<◌, ⊤, 
 use Rattle.std.specs.FinMap.{empty}
 use Rattle.fault_counts.specs.Causes.{WentUp}
 use Rattle.file_tree.specs.Tree.{Tree}
-use Rattle.file_tree.specs.Apply.{apply}
 use Rattle.file_tree.specs.declared.call.Call.{Call}
-use Rattle.file_tree.specs.declared.reply.Reply.TheVariants as reply
 use Rattle.cluster_history.specs.History.{Legal, NoneLost, tree_of}
 use Rattle.dinode_tree.specs.Below.{IsBelow}
 use Rattle.image_model.specs.Claims.{every, HasInode}
@@ -18,8 +16,8 @@ use Rattle.run_rules.specs.Follows.{history_of}
 use Rattle.run_rules.specs.History.{HoldsHistory, NoneStopped, AllAnswered}
 use Rattle.shared_disk.specs.Disk.{DiskState}
 use Rattle.lone_view.specs.Seeing.{Lone}
-use Rattle.lone_node.specs.Answering.{IsDamagedOn, IsFailedOn, IsHashedOn, IsUnbuiltOn}
-use Rattle.lone_node.specs.Run.{EndsAt, EndsAtCall, IsRunOf, IsWholeRun}
+use Rattle.lone_node.specs.Answering.{IsDamagedOn, IsHashedOn, IsUnbuiltOn}
+use Rattle.lone_node.specs.Run.{EndsAt, EndsAtCall, IsFailedOn, IsRunOf, IsTakenBehind, IsWholeRun}
 use Rattle.cluster_program.specs.Mounting.{OfImage, IsImageOf, NeverStands, IsMountedClean, IsMountedFor, MountEnds, is_clean_in}
 use Rattle.cluster_program.specs.World.{Inputs, KeepsDisk}
 use Rattle.cluster_program.specs.declared.status.Status.{Status}
@@ -42,10 +40,6 @@ AtPlace given s items place P = EndsAt place P s.clients s.lines items (IsImageO
 abbrev pub first_line : ScriptValue → ℕ
 first_line s = 2 + length s.clients + length s.armed
 
--- the tree as it then is would answer the call with ok
-abbrev pub IsTaken : Inputs → ScriptValue → List TraceItem → Call → Type 0
-IsTaken given s items call = (tree : Tree) → IsImageOf given.disk tree → (apply call (tree_of (history_of s.clients items) tree)).reply ≡ reply.Ok
-
 -- What is told of a block as damage: it breaks the rule; or (2) it is the dinode of an inode, and a block below that has the number of one
 -- that is in no group.
 pub data IsToldOf (im : Image) : ℕ → ℕ → Type 0 where
@@ -60,11 +54,11 @@ pub data RunEnds (given left : Inputs) (s : ScriptValue) (items : List TraceItem
   IsDone : AllAnswered items s → IsWholeRun s.clients s.lines items (IsImageOf given.disk) → RunEnds given left s items status.Done
   NotMounted : (own : Status) → items ≡ [] → KeepsDisk given left → MountEnds given.disk given.disk_faults left.disk_faults own → RunEnds given left s items own
   CallFailed : (m : MountedValue) (block : Option ℕ) (x y : ℕ) → IsMountedFor given.disk m → WentUp (given.disk_faults 1) (left.disk_faults 1) x y → IfSome block (λ b. b < given.disk.count)
-      → AtCall given s items (λ call. IsFailedOn given.disk (as_mounted given.disk m) call block) → RunEnds given left s items (status.DeviceFault 1 block x y)
+      → AtCall given s items (λ call. IsFailedOn given.disk left.disk (as_mounted given.disk m) s.clients items call block) → RunEnds given left s items (status.DeviceFault 1 block x y)
   CallHashed : (m : MountedValue) (block : ℕ) → IsMountedFor given.disk m → AtCall given s items (λ call. IsHashedOn left.disk (as_mounted given.disk m) call block)
       → RunEnds given left s items (status.NotBuilt (part.Block block))
-  CallUnbuilt : (m : MountedValue) (place : ℕ) → IsMountedFor given.disk m → AtPlace given s items place (λ call. IsUnbuiltOn left.disk (as_mounted given.disk m) call × IsTaken given s items call)
-      → RunEnds given left s items (status.NotBuilt (part.Script (first_line s + place)))
+  CallUnbuilt : (m : MountedValue) (place : ℕ) → IsMountedFor given.disk m → AtPlace given s items place (λ call. IsUnbuiltOn left.disk (as_mounted given.disk m) call)
+      → AtPlace given s items place (IsTakenBehind s.clients items (IsImageOf given.disk)) → RunEnds given left s items (status.NotBuilt (part.Script (first_line s + place)))
   CallDamaged : (m : MountedValue) (block rule : ℕ) → IsMountedFor given.disk m → OfImage given.disk NeverStands → AtCall given s items (λ call. IsDamagedOn left.disk (as_mounted given.disk m) call block rule)
       → OfImage left.disk (λ im. IsMounted im m → IsToldOf im rule block) → RunEnds given left s items (status.Damaged block rule)
   NoRoom : RunEnds given left s items status.NoMemory
