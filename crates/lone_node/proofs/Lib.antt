@@ -1,6 +1,8 @@
 pub mod Rising
 pub mod Flying
+pub mod Partly
 pub mod Keeping
+pub mod Leaving
 pub mod Answered
 pub mod Calls
 pub mod Clients

@@ -53,7 +53,7 @@ pub record MayBeWritten (node : ℕ) (d d' : DiskState) (blocks : List Written) 
   pub tells : d'.tells ≡ d.tells
   pub fenced : d'.is_fenced ≡ d.is_fenced
   pub blocks_are : IsTrue d.tells → (b : ℕ) → (d'.block_at b ≡ d.block_at b) ⊎ (bytes_for blocks b ≡ Some (d'.block_at b))
-  pub own : (f : Flight) → Contains (d'.in_flight node) f → bytes_for blocks f.block ≡ Some f.bytes
+  pub own : AllByRecursion (λ (f : Flight). bytes_for blocks f.block ≡ Some f.bytes) (d'.in_flight node)
   pub others : (i : ℕ) → (i ≡ node → ⊥) → d'.in_flight i ≡ []
 
 -- a write of one of these blocks; or the barrier behind some of them

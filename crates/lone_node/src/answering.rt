@@ -102,7 +102,7 @@ fn try_once<D: SharedDisk>(
     ensures damaged { IfErr result (λ end. IfDamaged end (IsDamagedFor (D.state disk.old) (seen_alone view.old) call.now)) }
     ensures hashed { IfErr result (λ end. IfHashed end (IsHashed (seen_alone view.old) call.now)) }
     ensures unbuilt { IfErr result (λ end. IfNotBuilt end (λ place. (place ≡ line) × IsUnbuilt (seen_alone view.old) call.now)) }
-    ensures taken { IfErr result (λ end. IfNotBuilt end (λ place. (t : Tree) → StandsFor (D.state disk.old) view.old t → (apply call.now t).reply ≡ OkReply)) }
+    ensures taken { IfErr result (λ end. IfNotBuilt end (λ place. (place ≡ line) × ((t : Tree) → StandsFor (D.state disk.old) view.old t → (apply call.now t).reply ≡ OkReply))) }
     ensures failed { IfErr result (λ end. IfDiskFailed end (IsFailedFor (D.state disk.old) (D.state disk.new) (seen_alone view.old) call.now)) }
     ensures later { (i : ℕ) → D.faults disk.old i ≤ D.faults disk.new i }
     ensures cause { IfErr result (HasCause 1 (D.state disk.old).count (D.faults disk.old) (D.faults disk.new)) }
@@ -155,7 +155,7 @@ pub(crate) fn answer_call<D: SharedDisk>(
     ensures damaged { IfErr result (λ end. IfDamaged end (IsDamagedOn (D.state disk.old) view.old call.now)) }
     ensures hashed { IfErr result (λ end. IfHashed end (IsHashedOn (D.state disk.old) view.old call.now)) }
     ensures unbuilt { IfErr result (λ end. IfNotBuilt end (λ place. (place ≡ line) × IsUnbuiltOn (D.state disk.old) view.old call.now)) }
-    ensures taken { IfErr result (λ end. IfNotBuilt end (λ place. (t : Tree) → StandsFor (D.state disk.old) view.old t → (apply call.now t).reply ≡ OkReply)) }
+    ensures taken { IfErr result (λ end. IfNotBuilt end (λ place. (place ≡ line) × ((t : Tree) → StandsFor (D.state disk.old) view.old t → (apply call.now t).reply ≡ OkReply))) }
     ensures failed { IfErr result (λ end. IfDiskFailed end (IsFailedAt (D.state disk.old) (D.state disk.new) view.old call.now)) }
     ensures later { (i : ℕ) → D.faults disk.old i ≤ D.faults disk.new i }
     ensures cause { IfErr result (HasCause 1 (D.state disk.old).count (D.faults disk.old) (D.faults disk.new)) }

@@ -111,7 +111,7 @@ fn take_call<D: SharedDisk>(
     ensures damaged { IfErr result (λ end. IfDamaged end (IsDamagedOn (D.state disk.old) view.old call.now)) }
     ensures hashed { IfErr result (λ end. IfHashed end (IsHashedOn (D.state disk.old) view.old call.now)) }
     ensures unbuilt { IfErr result (λ end. IfNotBuilt end (λ place. (place ≡ line) × IsUnbuiltOn (D.state disk.old) view.old call.now)) }
-    ensures accepted { IfErr result (λ end. IfNotBuilt end (λ place. (t : Tree) → StandsFor (D.state disk.old) view.old t → (apply call.now t).reply ≡ OkReply)) }
+    ensures accepted { IfErr result (λ end. IfNotBuilt end (λ place. (place ≡ line) × ((t : Tree) → StandsFor (D.state disk.old) view.old t → (apply call.now t).reply ≡ OkReply))) }
     ensures failed { IfErr result (λ end. IfDiskFailed end (IsFailedAt (D.state disk.old) (D.state disk.new) view.old call.now)) }
     ensures later { (i : ℕ) → D.faults disk.old i ≤ D.faults disk.new i }
     ensures cause { IfErr result (HasCause 1 (D.state disk.old).count (D.faults disk.old) (D.faults disk.new)) }

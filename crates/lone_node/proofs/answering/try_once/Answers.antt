@@ -9,10 +9,12 @@ use Rattle.glock_names.specs.declared.steps.CallFault.TheVariants as fault
 use Rattle.glock_names.specs.Steps.{TellsOf}
 use Rattle.lone_view.specs.Seeing.{Lone, seen_alone}
 use Rattle.file_calls.specs.Calls.{AreInside, IsNeededFor, IsTooFew}
-use Rattle.lone_node.specs.Answering.{IsAnsweredFrom, IsDamagedFor, leads_out, source_of}
+use Rattle.lone_node.specs.Answering.{IsDamagedFor, IsFailedFor, in_a_read, in_a_write, leads_out, source_of}
 use Rattle.lone_node.specs.Ends.{IfDamaged, end_at}
 use Rattle.lone_node.specs.Standing.{IsOn, StandsFor, lacked_count}
-use Rattle.lone_node.proofs.Answered.{answered, answered_full, damaged_so, fetched_on, fewer, of_disk, of_view, on_again, shown_damage}
+use Rattle.lone_node.specs.Writing.{IsWriteOf, MayBeWritten}
+use Rattle.lone_node.proofs.Answered.{answered, answered_full, fetched_on, fewer, of_disk, of_view, on_again, shown_damage}
+use Rattle.lone_node.proofs.Endings.{damaged_so, failed_and, failed_so}
 use Rattle.lone_node.proofs.Spaces.{never_full}
 use Rattle.lone_node.proofs.answering.try_once.Goals as goal
 
@@ -27,9 +29,8 @@ pub returns-in_ok-carry_out-in-Ok-Done-clause-answered : goal.returns-in_ok-carr
 returns-in_ok-carry_out-in-Ok-Done-clause-answered g c =
     let d = g.D.SharedDisk.state c.args.disk.now in
     let does = subst (λ a. IfDone (Ok a) (Does (seen_alone c.args.view.now) c.args.call.now)) c.in-Ok-Done.field-0-is c.in-Ok-Done.ensures.done in
-    subst (λ n. IsAnsweredFrom d (g.D.SharedDisk.state c.carry_out.new.disk) c.args.view.now n c.args.call.now c.in-Ok-Done.reply) (sym c.in_ok-carry_out-in-Ok-Done.ensures.kept)
-    (answered d _ c.args.view.now c.in-Ok-Done.change c.requires.on does.form c.in_ok-carry_out-in-Ok-Done.ensures.written
-    c.other_calls_leave_the_tree.ensures c.args.call.now c.in-Ok-Done.reply does)
+    answered d _ c.args.view.now c.in-Ok-Done.change c.requires.on does.form c.in_ok-carry_out-in-Ok-Done.ensures.written
+    c.other_calls_leave_the_tree.ensures c.args.call.now c.in-Ok-Done.reply does
 
 pub returns-in_ok-carry_out-in-Ok-Done-clause-full : goal.returns-in_ok-carry_out-in-Ok-Done-clause-full
 returns-in_ok-carry_out-in-Ok-Done-clause-full g c t s =
@@ -40,16 +41,19 @@ returns-in_ok-carry_out-in-Ok-Done-clause-full g c t s =
 
 pub returns-in_ok-carry_out-in-Ok-Done-clause-on : goal.returns-in_ok-carry_out-in-Ok-Done-clause-on
 returns-in_ok-carry_out-in-Ok-Done-clause-on g c =
+    let d = g.D.SharedDisk.state c.args.disk.now in
+    let inside = subst (λ a. IfDone (Ok a) (λ reply change. AreInside (seen_alone c.args.view.now) change)) c.in-Ok-Done.field-0-is c.in-Ok-Done.ensures.inside in
     let does = subst (λ a. IfDone (Ok a) (Does (seen_alone c.args.view.now) c.args.call.now)) c.in-Ok-Done.field-0-is c.in-Ok-Done.ensures.done in
     subst (IsOn (g.D.SharedDisk.state c.carry_out.new.disk)) (sym c.in_ok-carry_out-in-Ok-Done.ensures.kept)
-    (on_again (g.D.SharedDisk.state c.args.disk.now) _ c.args.view.now c.in-Ok-Done.change c.requires.on does.form c.in_ok-carry_out-in-Ok-Done.ensures.written)
+    (on_again d _ c.args.view.now c.in-Ok-Done.change c.requires.on does.form c.in_ok-carry_out-in-Ok-Done.ensures.written
+    (of_disk d c.args.view.now c.in-Ok-Done.change c.requires.on does.form inside))
 
 pub returns-in-Ok-clause-on : goal.returns-in-Ok-clause-on
 returns-in-Ok-clause-on g c =
     let d = g.D.SharedDisk.state c.args.disk.now in
     let read = c.in-Ok.ensures.read in
     subst (λ s. IsOn s c.fetch.new.view) (sym c.in-Ok.ensures.reads.same)
-    (subst (IsOn d) (sym read.1) (fetched_on d c.args.view.now c.in-Ok-NeedBlock.missing.block read.0 c.requires.on read.2))
+    (subst (IsOn d) (sym read.1) (fetched_on d c.args.view.now c.in-Ok-NeedBlock.missing.block read.0 c.requires.on c.in-Ok.ensures.inside read.2))
 
 pub returns-in-Ok-clause-fewer : goal.returns-in-Ok-clause-fewer
 returns-in-Ok-clause-fewer g c =
@@ -99,3 +103,25 @@ returns-in-Ok-NoSpace-clause-answered g c =
     answered_full d c.args.view.now c.args.call.now c.in-Ok-NoSpace.need c.in-Ok-NoSpace.free c.requires.on
     (subst (λ a. IfNoSpace (Ok a) (λ need free. TakesSpace c.args.call.now)) c.in-Ok-NoSpace.field-0-is c.in-Ok-NoSpace.ensures.roomless)
     (λ im o l t of. subst (λ a. IfNoSpace (Ok a) (IsTooFew v im o l t c.args.call.now)) c.in-Ok-NoSpace.field-0-is (c.in-Ok-NoSpace.ensures.space im o l t of))
+
+pub returns-in-Err-fetch-clause-failed : goal.returns-in-Err-fetch-clause-failed
+returns-in-Err-fetch-clause-failed g c =
+    let d = g.D.SharedDisk.state c.args.disk.now in
+    let v = seen_alone c.args.view.now in
+    let m = c.in-Ok-NeedBlock.missing in
+    let needed = subst (λ a. IfNeedBlock (Ok a) (IsNeededFor v c.args.call.now)) c.in-Ok-NeedBlock.field-0-is c.in-Ok-NeedBlock.ensures.needed in
+    let after = g.D.SharedDisk.state c.fetch.new.disk in
+    failed_so c.in-Err-fetch.end _ (IsFailedFor d after v c.args.call.now)
+    (λ block is. subst (IsFailedFor d after v c.args.call.now) (sym is) (in_a_read m needed c.in-Err-fetch.ensures.reads.same))
+    c.in-Err-fetch.ensures.failed
+
+pub returns-in_err-carry_out-in-Ok-Done-clause-failed : goal.returns-in_err-carry_out-in-Ok-Done-clause-failed
+returns-in_err-carry_out-in-Ok-Done-clause-failed g c =
+    let d = g.D.SharedDisk.state c.args.disk.now in
+    let v = seen_alone c.args.view.now in
+    let after = g.D.SharedDisk.state c.carry_out.new.disk in
+    let change = c.in-Ok-Done.change in
+    let does = subst (λ a. IfDone (Ok a) (Does v c.args.call.now)) c.in-Ok-Done.field-0-is c.in-Ok-Done.ensures.done in
+    failed_so c.in_err-carry_out-in-Ok-Done.error _ (IsFailedFor d after v c.args.call.now)
+    (λ block is. in_a_write block c.in-Ok-Done.reply change does is.0 is.1)
+    (failed_and c.in_err-carry_out-in-Ok-Done.error (IsWriteOf change.blocks.items) (λ block. MayBeWritten 1 d after change.blocks.items) c.in_err-carry_out-in-Ok-Done.ensures.failed c.in_err-carry_out-in-Ok-Done.ensures.left)

@@ -1,9 +1,12 @@
 use Rattle.std.proofs.Common.{◌≡◌, ◌++◌, List, sym, ap, ◌∙◌, subst, arith}
 use Rattle.std.proofs.lemmas.List.{append_assoc, take-append-drop}
 use Rattle.drafts.specs.declared.change.Written.{Written}
-use Rattle.lone_node.specs.Writing.{AreOfDisk, RiseFrom}
+use Rattle.lone_node.specs.Writing.{AreOfDisk, IsWriteOf, MayBeWritten, RiseFrom}
+use Rattle.lone_node.proofs.Endings.{failed_so}
+use Rattle.lone_node.proofs.Partly.{may_be, of_part}
 use Rattle.lone_node.proofs.Rising.{front}
 use Rattle.lone_node.proofs.Flying.{of_front, of_back, written_more}
+use Rattle.lone_node.proofs.writing.write_all.Given.{Over}
 use Rattle.lone_node.proofs.writing.write_all.Goals as goal
 
 pub write_some-requires-clause-of_disk : goal.write_some-requires-clause-of_disk
@@ -27,3 +30,24 @@ loop-rest-preserved g c =
           (front 0 (so.done ++ c.split_at.result.0.now) c.split_at.result.1.now (subst (RiseFrom 0) whole c.requires.of_disk.rise)) so.written c.in_ok-write_some.ensures.written;
       later = λ i. let before = so.later i in let more = c.in_ok-write_some.ensures.later i in omega (arith, before, more);
     }
+
+-- the blocks that are written are a part of all
+whole_is : (g : Over) (c : goal.In_err-write_some g) → c.args.blocks.now ≡ c.loop-rest.invariant.done ++ (c.split_at.result.0.now ++ c.split_at.result.1.now)
+whole_is g c =
+    let parts : c.loop-rest.rest.now ≡ c.split_at.result.0.now ++ c.split_at.result.1.now = sym (take-append-drop _ c.loop-rest.rest.now) ∙ (λ i. sym c.split_at.ensures.front i ++ sym c.split_at.ensures.back i) in
+    c.loop-rest.invariant.split ∙ ap (λ (r : List Written). c.loop-rest.invariant.done ++ r) parts
+
+pub returns-in_err-write_some-clause-left : goal.returns-in_err-write_some-clause-left
+returns-in_err-write_some-clause-left g c =
+    let d = g.D.SharedDisk.state c.args.disk.now in
+    let next = g.D.SharedDisk.state c.write_some.new.disk in
+    let so = c.loop-rest.invariant in
+    subst (MayBeWritten 1 d next) (sym (whole_is g c))
+    (may_be d (g.D.SharedDisk.state c.loop-rest.disk) next so.done c.split_at.result.0.now c.split_at.result.1.now (subst (RiseFrom 0) (whole_is g c) c.requires.of_disk.rise) so.written c.in_err-write_some.ensures.left)
+
+pub returns-in_err-write_some-clause-failed : goal.returns-in_err-write_some-clause-failed
+returns-in_err-write_some-clause-failed g c =
+    let so = c.loop-rest.invariant in
+    failed_so c.in_err-write_some.error (IsWriteOf c.split_at.result.0.now) (IsWriteOf c.args.blocks.now)
+    (λ block is. subst (λ (ws : List Written). IsWriteOf ws block) (sym (whole_is g c)) (of_part so.done c.split_at.result.0.now c.split_at.result.1.now block is))
+    c.in_err-write_some.ensures.failed
