@@ -30,7 +30,7 @@ is_there [] j = inr (omega arith)
 is_there (x ∷ xs) zero = inl (x, refl)
 is_there (x ∷ xs) (suc j) = elim (is_there xs j) [ inl it ↦ inl it | inr past ↦ inr (omega (arith, past)) ]
 
-below_end : {A : Type 0} (xs : List A) (j : ℕ) (x : A) → slice_get xs j ≡ Some x → j < length xs
+pub below_end : {A : Type 0} (xs : List A) (j : ℕ) (x : A) → slice_get xs j ≡ Some x → j < length xs
 below_end [] j x is = cc
 below_end (y ∷ ys) zero x is = omega arith
 below_end (y ∷ ys) (suc j) x is = let low = below_end ys j x is in omega (arith, low)

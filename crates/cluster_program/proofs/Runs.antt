@@ -1,5 +1,5 @@
 -- How a run of a script goes and ends, by what the image stands for.
-use Rattle.std.proofs.Common.{◌≡◌, ℕ, ◌+◌, ◌<◌, ◌≤◌, List, [], length, IsTrue, Option, Some, None, refl, sym, ap, ◌∙◌, subst, arith}
+use Rattle.std.proofs.Common.{◌≡◌, ℕ, ◌+◌, ◌^◌, ◌<◌, ◌≤◌, List, [], length, Option, Some, None, refl, sym, ap, ◌∙◌, subst, arith}
 use Rattle.std.specs.Prelude.{◌≢◌, IfSome, Result, Ok, Err, IfErr, OnOk}
 use Rattle.fault_counts.specs.Causes.{WentUp}
 use Rattle.file_tree.specs.Tree.{Tree}
@@ -15,7 +15,10 @@ use Rattle.script_lang.specs.declared.script.Line.TheVariants as line
 use Rattle.run_rules.specs.Follows.{history_of}
 use Rattle.run_rules.specs.History.{HoldsHistory, NoneStopped, AllAnswered}
 use Rattle.run_rules.proofs.Nothing.{nothing_follows, nothing_is_legal}
-use Rattle.shared_disk.specs.Disk.{DiskState}
+use Rattle.shared_disk.specs.Disk.{DiskState, IsSound}
+use Rattle.gfs2_layout.specs.Device.{IsBlockSize}
+use Rattle.image_model.specs.Stands.{IsLaid}
+use Rattle.script_lang.specs.WellFormed.{IsWellFormed}
 use Rattle.lone_view.specs.Seeing.{Lone, seen_alone}
 use Rattle.lone_node.specs.Answering.{IsDamagedOn, IsHashedOn, IsUnbuiltOn, IsSameDisk}
 use Rattle.lone_node.specs.Ends.{HasCause, IfDamaged, IfDiskFailed, IfHashed, IfNotBuilt, UnlessDiskFailed, UnlessFailed}
@@ -31,10 +34,11 @@ use Rattle.cluster_program.specs.World.{Inputs, KeepsDisk}
 use Rattle.cluster_program.specs.declared.status.Status.{Status}
 use Rattle.cluster_program.specs.declared.status.Status.TheVariants as status
 use Rattle.cluster_program.proofs.Damage.{told}
-use Rattle.cluster_program.proofs.Heads.{clean_yet}
+use Rattle.cluster_program.proofs.Heads.{below_end, clean_yet}
+use Rattle.cluster_program.proofs.Mounts.{image_there}
 
 -- a count went up within a longer time too
-longer : (first before now x y : ℕ) → first ≤ before → WentUp before now x y → WentUp first now x y
+pub longer : (first before now x y : ℕ) → first ≤ before → WentUp before now x y → WentUp first now x y
 longer first before now x y earlier up = record { from = omega (arith, earlier, up.from); rose = up.rose; to = up.to }
 
 -- ---- the tree for which the image stands
@@ -137,21 +141,21 @@ module _ (given left : Inputs) (m : MountedValue) (s : ScriptValue) (items : Lis
   from = stands_for given.disk m law for.mounted
 
   -- an end in a call
-  module _ (calls : CallsTell) (needs : NeedsTell) (read : MountedAreRead) (image : OfImage left.disk IsImage) (inside : HasRootInside (seen_alone n)) where
-    call_end : (e : RunEnd) → HasRun given.disk left.disk n before left.disk_faults s items (Err e) → RunEnds given left s items (status_of_end (first_line s) e)
-    call_end (end.DiskFailed block rise) r =
+  module _ (calls : CallsTell) (needs : NeedsTell) (read : MountedAreRead) (inside : HasRootInside (seen_alone n)) where
+    call_end : (e : RunEnd) → UnlessFailed e (OfImage left.disk IsImage) → HasRun given.disk left.disk n before left.disk_faults s items (Err e) → RunEnds given left s items (status_of_end (first_line s) e)
+    call_end (end.DiskFailed block rise) image r =
         CallFailed m block rise.before rise.after for (longer (given.disk_faults 1) (before 1) (left.disk_faults 1) rise.before rise.after (earlier 1) r.cause.0) r.cause.1
         (call_from s.clients s.lines items (StandsFor given.disk n) (IsImageOf given.disk) from (λ call holds. holds) r.failed)
-    call_end (end.Damaged block rule) r =
+    call_end (end.Damaged block rule) image r =
         CallDamaged m block rule for (λ tells tree stands. r.sound tree (from tree (record { tells = tells; stands = stands })))
         (call_from s.clients s.lines items (StandsFor given.disk n) (IsImageOf given.disk) from (λ call holds. holds) r.damaged)
         (by_call r.damaged.ends.next (λ call damaged. told calls needs read given.disk left.disk m call block rule image inside damaged) r.damaged.ends.holds)
-    call_end (end.Hashed block) r = CallHashed m block for (call_from s.clients s.lines items (StandsFor given.disk n) (IsImageOf given.disk) from (λ call holds. holds) r.hashed)
-    call_end (end.NotBuilt place) r =
+    call_end (end.Hashed block) image r = CallHashed m block for (call_from s.clients s.lines items (StandsFor given.disk n) (IsImageOf given.disk) from (λ call holds. holds) r.hashed)
+    call_end (end.NotBuilt place) image r =
         CallUnbuilt m place for
         (ends_from s.clients s.lines items (StandsFor given.disk n) (IsImageOf given.disk) from place (λ call holds. holds) r.unbuilt)
         (ends_from s.clients s.lines items (StandsFor given.disk n) (IsImageOf given.disk) from place (λ call taken t is. taken t (from t is)) r.taken)
-    call_end end.NoMemory r = NoRoom
+    call_end end.NoMemory image r = NoRoom
 
     -- what holds of the image that is left
     left_tree : ((t : Tree) (at : StandsFor given.disk n t) → LeavesStanding given.disk left.disk n t (tree_of (history_of s.clients items) t) at)
@@ -188,8 +192,8 @@ module _ (given left : Inputs) (m : MountedValue) (s : ScriptValue) (items : Lis
       ends = IsDone r.answered (whole_from s.clients s.lines items (StandsFor given.disk n) (IsImageOf given.disk) from r.whole);
     }
 
-    pub ended : (e : RunEnd) → HasRun given.disk left.disk n before left.disk_faults s items (Err e) → Runs given left s items (status_of_end (first_line s) e)
-    ended e r = record {
+    pub ended : (e : RunEnd) → UnlessFailed e (OfImage left.disk IsImage) → HasRun given.disk left.disk n before left.disk_faults s items (Err e) → Runs given left s items (status_of_end (first_line s) e)
+    ended e image r = record {
       run = run_from s.clients s.lines items (StandsFor given.disk n) (IsImageOf given.disk) from r.run;
       history = r.history;
       members = r.members;
@@ -198,8 +202,31 @@ module _ (given left : Inputs) (m : MountedValue) (s : ScriptValue) (items : Lis
       stands = unless (first_line s) e left_tree r.stands;
       mounted = λ some tells. record { value = m; mounted = for.mounted tells; clean = for.clean };
       clean = unless (first_line s) e left_clean r.stands;
-      ends = call_end e r;
+      ends = call_end e image r;
     }
+
+-- ---- the same of a disk that is known to be the one that was given
+
+pub has_run : (d mid d' : DiskState) (m : MountedValue) (n : Lone) (before now : ℕ → ℕ) (s : ScriptValue) (items : List TraceItem) (r : Result (Unit {0}) RunEnd) → mid ≡ d → n ≡ as_mounted mid m
+    → HasRun mid d' n before now s items r → HasRun d d' (as_mounted d m) before now s items r
+has_run d mid d' m n before now s items r same is run =
+    subst (λ (x : DiskState). HasRun x d' (as_mounted x m) before now s items r) same (subst (λ (v : Lone). HasRun mid d' v before now s items r) is run)
+
+pub whole_blocks : (e : RunEnd) (mid d' : DiskState) → IsSound d' → IsBlockSize mid.size → UnlessFailed e (IsSameDisk mid d') → UnlessFailed e (OfImage d' IsImage)
+whole_blocks (end.DiskFailed block rise) mid d' sound four same = tt
+whole_blocks (end.Damaged block rule) mid d' sound four same = image_there d' sound (subst IsBlockSize (sym same.size) four)
+whole_blocks (end.Hashed block) mid d' sound four same = image_there d' sound (subst IsBlockSize (sym same.size) four)
+whole_blocks (end.NotBuilt place) mid d' sound four same = image_there d' sound (subst IsBlockSize (sym same.size) four)
+whole_blocks end.NoMemory mid d' sound four same = image_there d' sound (subst IsBlockSize (sym same.size) four)
+
+-- the number of a line in its text is small
+pub small_number : (e : RunEnd) (s : ScriptValue) (items : List TraceItem) (P : ℕ → Call → Type 0) (IsStart : Tree → Type 0) → IsWellFormed s → IfNotBuilt e (λ place. EndsAt place (P place) s.clients s.lines items IsStart)
+    → IfNotBuilt e (λ place. first_line s + place < 2 ^ 32)
+small_number (end.DiskFailed block rise) s items P start well at = tt
+small_number (end.Damaged block rule) s items P start well at = tt
+small_number (end.Hashed block) s items P start well at = tt
+small_number (end.NotBuilt place) s items P start well at = let low = below_end s.lines place at.next at.is_next in omega (arith, low, well.few_lines)
+small_number end.NoMemory s items P start well at = tt
 
 -- ---- a run that didn't begin
 

@@ -42,8 +42,8 @@ pub(crate) fn mount_and_run<D: SharedDisk>(
     requires form { IsOneNode script.now }
     requires well { IsWellFormed script.now }
     requires none { items.old.items ≡ [] }
-    ensures runs { (left : Option (List ℕ)) (failed : ℕ) → Runs (inputs (D.state disk.old) (D.list disk.old) (D.faults disk.old) left failed)
-        (inputs (D.state disk.new) (D.list disk.new) (D.faults disk.new) left failed) script.now items.new.items result }
+    ensures runs { (left left_now : Option (List ℕ)) (failed failed_now : ℕ) → Runs (inputs (D.state disk.old) (D.list disk.old) (D.faults disk.old) left failed)
+        (inputs (D.state disk.new) (D.list disk.new) (D.faults disk.new) left_now failed_now) script.now items.new.items result }
     ensures quiet { (told : Status) → (told ≡ Status.Done → result ≡ Status.Done) → IsQuiet script.now items.new.items told }
     ensures later { (i : ℕ) → D.faults disk.old i ≤ D.faults disk.new i }
 {
@@ -61,6 +61,10 @@ pub(crate) fn mount_and_run<D: SharedDisk>(
     };
     match run_script(alloc, disk, &mut view, script, time, items) {
         Ok(()) => Status::Done,
-        Err(end) => status_of_end(first_line(script), end),
+        Err(end) => {
+            // What is told of a block that breaks a rule is told of whole blocks, such as a disk has.
+            let _count = disk.blocks();
+            status_of_end(first_line(script), end)
+        }
     }
 }

@@ -51,7 +51,7 @@ pub(crate) fn show_image<D: SharedDisk>(alloc: Global, disk: &mut D) -> Result<V
         Ok(()) => {}
         Err(_) => return Err(Status::NoMemory),
     }
-    match append_tree(alloc, &mut lines, tree) {
+    match append_tree(alloc, &mut lines, &tree) {
         Ok(()) => Ok(lines),
         Err(_) => Err(Status::NoMemory),
     }
