@@ -7,7 +7,7 @@ use Rattle.std.proofs.lemmas.List.{drop_at, take_all, take-append-le, drop-appen
 use Rattle.std.proofs.Math.ListN.{drop_of_length-le}
 use Rattle.image_model.specs.Image.{Image, image_in}
 use Rattle.shared_disk.specs.Blocks.{block_in}
-use Rattle.shared_disk.specs.Disk.{DiskState}
+use Rattle.shared_disk.specs.Disk.{DiskState, IsIdle, read_gives, written}
 use Rattle.shared_disk.proofs.BlockLaws.{next_block}
 use Rattle.disk_trees.specs.OnDisk.{AreFirstBlocks, image_on}
 
@@ -32,6 +32,12 @@ one_more s count bytes block size told are = record { long = omega (arith, lengt
           let at : b ≡ count = omega arith in
           ap (take s.size) (drop_at bytes block (b * s.size) (are.long ∙ ap (λ n. n * s.size) (sym at))) ∙ take_all s.size block (omega arith) ∙ told tells ∙ ap s.block_at (sym at)
     ]
+
+-- the same of what was read of an idle disk
+pub one_read : (s : DiskState) (count : ℕ) (bytes block all : List ℕ) → IsIdle s → length block ≡ s.size → (IsTrue s.tells → block ≡ read_gives s 0 count) → all ≡ bytes ++ block
+    → AreFirstBlocks s count bytes → AreFirstBlocks s (count + 1) all
+one_read s count bytes block all idle size told is are =
+    subst (AreFirstBlocks s (count + 1)) (sym is) (one_more s count bytes block size (λ tells. told tells ∙ ap (λ fs. written s.block_at fs count) (idle.none_in_flight 0)) are)
 
 -- the blocks that they all are
 pub all_blocks : (s : DiskState) (bytes : List ℕ) → 0 < s.size → IsTrue s.tells → AreFirstBlocks s s.count bytes → image_in s.size bytes ≡ image_on s
