@@ -12,12 +12,11 @@ use Rattle.gfs2_layout.specs.Device.{superblock_place}
 use Rattle.gfs2_layout.specs.declared.rindex.Rindex.{Rindex}
 use Rattle.image_model.specs.Flat.{Flat, no_node, ReadsAs}
 use Rattle.image_model.specs.Groups.{IsListed, GroupFits, GroupsFit, IsDataOf, IsGroup, group_blocks, states_of, end_of}
-use Rattle.image_model.specs.Image.{Image, image_of}
+use Rattle.image_model.specs.Image.{Image}
 use Rattle.image_model.specs.Nodes.{node_of}
 use Rattle.image_model.specs.Owners.{Owner, Owners, Super, InGroup, Free, Nobody, Root, Master, Named, Below, Chained, IsUsed, Up, up_of, part_in, cell_of, cell_in, holding, is_dinode}
 use Rattle.image_model.specs.Stands.{Layout, IsLaid, IsSystem, IsFound, IsDirectory, AreShort, Stands}
-use Rattle.shared_disk.specs.Disk.{DiskState}
-use Rattle.disk_trees.specs.OnDisk.{image_on}
+use Rattle.disk_trees.specs.Reading.{ending}
 
 -- of a block that nobody uses no inode has anything
 unused : (a b : ℕ) (o : Owner) (x y : List ℕ) → (IsUsed o → ⊥) → cell_of (part_in a b o) x ≡ cell_of (part_in a b o) y
@@ -111,17 +110,17 @@ module _ (size count : ℕ) (at at' : ℕ → List ℕ) (same : (b : ℕ) → b 
     reads_same : (t : Tree) → ReadsAs (flat_by o (holding im o)) l.root t → ReadsAs (flat_by o (holding im' o)) l.root t
     reads_same t = subst (λ (h : ℕ → Holding). ReadsAs (flat_by o h) l.root t) (sym holding_same)
 
--- the image on the device stands for the tree for which the image of the disk stands
-pub stands_on : (s : DiskState) (t : Tree) → Stands (image_of s) t → Stands (image_on s) t
-stands_on s t stands = record {
+-- the image as far as the device goes stands for the tree for which the image stands
+pub stands_on : (im : Image) (t : Tree) → Stands im t → Stands (ending im) t
+stands_on im t stands = record {
   owners = stands.owners;
   layout = stands.layout;
-  laid = laid_same s.size s.count s.block_at at same stands.owners stands.layout stands.laid;
-  reads = reads_same s.size s.count s.block_at at same stands.owners stands.layout stands.laid t stands.reads;
+  laid = laid_same im.size im.count im.at at same stands.owners stands.layout stands.laid;
+  reads = reads_same im.size im.count im.at at same stands.owners stands.layout stands.laid t stands.reads;
 }
   where
     at : ℕ → List ℕ
-    at b = if nat_lt b s.count then s.block_at b else []
+    at b = if nat_lt b im.count then im.at b else []
 
-    same : (b : ℕ) → b < s.count → at b ≡ s.block_at b
-    same b low = ap (λ (t : Bool). if t then s.block_at b else []) (lt-ltb b s.count low)
+    same : (b : ℕ) → b < im.count → at b ≡ im.at b
+    same b low = ap (λ (t : Bool). if t then im.at b else []) (lt-ltb b im.count low)

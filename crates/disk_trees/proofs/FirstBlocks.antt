@@ -5,11 +5,11 @@ use Rattle.std.proofs.Math.Nat.{mul-div_cancel, mul-le-mul_right}
 use Rattle.std.proofs.lemmas.Bool.{cases_lt, lt-ltb, le-ltb}
 use Rattle.std.proofs.lemmas.List.{drop_at, take_all, take-append-le, drop-append-le, length-append, length-drop}
 use Rattle.std.proofs.Math.ListN.{drop_of_length-le}
-use Rattle.image_model.specs.Image.{Image, image_in}
+use Rattle.image_model.specs.Image.{Image, image_in, image_of}
 use Rattle.shared_disk.specs.Blocks.{block_in}
 use Rattle.shared_disk.specs.Disk.{DiskState, IsIdle, read_gives, written}
 use Rattle.shared_disk.proofs.BlockLaws.{next_block}
-use Rattle.disk_trees.specs.OnDisk.{AreFirstBlocks, image_on}
+use Rattle.disk_trees.specs.Reading.{AreFirstBlocks, ending}
 
 -- at first there are none
 pub none_yet : (s : DiskState) → AreFirstBlocks s 0 []
@@ -40,7 +40,7 @@ one_read s count bytes block all idle size told is are =
     subst (AreFirstBlocks s (count + 1)) (sym is) (one_more s count bytes block size (λ tells. told tells ∙ ap (λ fs. written s.block_at fs count) (idle.none_in_flight 0)) are)
 
 -- the blocks that they all are
-pub all_blocks : (s : DiskState) (bytes : List ℕ) → 0 < s.size → IsTrue s.tells → AreFirstBlocks s s.count bytes → image_in s.size bytes ≡ image_on s
+pub all_blocks : (s : DiskState) (bytes : List ℕ) → 0 < s.size → IsTrue s.tells → AreFirstBlocks s s.count bytes → image_in s.size bytes ≡ ending (image_of s)
 all_blocks s bytes some tells are = λ i. record { size = s.size; count = count i; at = λ b. at b i }
   where
     count : length bytes / s.size ≡ s.count

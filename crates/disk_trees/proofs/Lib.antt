@@ -1,2 +1,3 @@
 pub mod FirstBlocks
 pub mod Behind
+pub mod Answered
