@@ -1,17 +1,17 @@
 -- What stands for a tree does so whatever lies behind the device's end.
-use Rattle.std.proofs.Common.{◌≡◌, ℕ, ◌+◌, ◌<◌, ◌≤◌, List, [], length, Bool, true, false, None, Some, refl, sym, ap, subst, ◌∙◌, inl, inr, arith}
+use Rattle.std.proofs.Common.{◌≡◌, ℕ, ◌<◌, List, [], length, Bool, true, Some, refl, sym, ap, subst, ◌∙◌, inl, inr, arith}
 use Rattle.std.specs.Prelude.{if◌then◌else◌, nat_lt}
 use Rattle.std.proofs.lemmas.Bool.{cases_lt, lt-ltb}
 use Rattle.file_tree.specs.Tree.{Tree}
 use Rattle.gfs2_layout.proofs.StatePuts.{map_same}
 use Rattle.gfs2_layout.specs.Headers.{HasHeader}
 use Rattle.gfs2_layout.specs.Holding.{Holding}
-use Rattle.gfs2_layout.specs.Inode.{Head, IsInode, head_of, is_directory_in, records_of, dinode_in}
+use Rattle.gfs2_layout.specs.Inode.{IsInode, head_of, is_directory_in, records_of, dinode_in}
 use Rattle.gfs2_layout.specs.Structures.{superblock_of}
 use Rattle.gfs2_layout.specs.Device.{superblock_place}
 use Rattle.gfs2_layout.specs.declared.rindex.Rindex.{Rindex}
 use Rattle.image_model.specs.Flat.{Flat, no_node, ReadsAs}
-use Rattle.image_model.specs.Groups.{IsListed, GroupFits, GroupsFit, IsDataOf, IsGroup, group_blocks, states_of, end_of}
+use Rattle.image_model.specs.Groups.{IsListed, GroupsFit, IsGroup, group_blocks, states_of}
 use Rattle.image_model.specs.Image.{Image}
 use Rattle.image_model.specs.Nodes.{node_of}
 use Rattle.image_model.specs.Owners.{Owner, Owners, Super, InGroup, Free, Nobody, Root, Master, Named, Below, Chained, IsUsed, Up, up_of, part_in, cell_of, cell_in, holding, is_dinode}

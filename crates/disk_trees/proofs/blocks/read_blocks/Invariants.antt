@@ -1,4 +1,4 @@
-use Rattle.std.proofs.Common.{◌≡◌, ◌≤◌, length}
+use Rattle.std.proofs.Common.{◌≡◌, length}
 use Rattle.disk_trees.specs.Reading.{AreFirstBlocks}
 use Rattle.shared_disk.specs.Disk.{ReadsOnly}
 use Rattle.disk_trees.proofs.blocks.read_blocks.Given as goal
