@@ -45,8 +45,11 @@ pub(crate) fn read_blocks<D: SharedDisk>(alloc: Global, disk: &mut D) -> Result<
     ensures failed { IfErr result IsNotDamaged }
 {
     let size = disk.block_size() as usize;
+    let Some(total) = size.checked_mul(disk.blocks() as usize) else {
+        return Err(TreeFault::NoMemory);
+    };
     let mut block = vec![in alloc; 0u8; size]?;
-    let mut bytes = Vec::new(alloc);
+    let mut bytes = Vec::with_capacity(alloc, total)?;
     for number in 0..disk.blocks() {
         append_block(disk, number, &mut block, &mut bytes)?;
     }
