@@ -38,8 +38,8 @@ loop-place-preserved-in_default g c =
     let so = c.loop-place.invariant in
     let start = StandsFor (g.D.SharedDisk.state c.args.disk.now) c.args.view.now in
     let (run, number) =
-    wait_more c.args.clients.now c.args.lines.now start c.loop-place.line-index c.loop-place.items.items c.loop-place-test.true so.run
-    c.loop-place.number c.line-item.result c.line-item.result c.line-item.is c.in_default.not-Call so.number
+    wait_more c.args.clients.now c.args.lines.now start c.loop-place.place c.loop-place.items.items c.loop-place-test.true so.run
+    c.loop-place.number c.index-lines-place.result c.index-lines-place.result c.index-lines-place.is c.in_default.not-Call so.number
     in
     record {
       run = run;
@@ -55,15 +55,15 @@ loop-place-preserved-in_default g c =
 pub overflow_add-number : goal.overflow_add-number
 overflow_add-number g c =
     let so = c.loop-place.invariant in
-    let few = no_more_calls c.args.clients.now c.args.lines.now (StandsFor (g.D.SharedDisk.state c.args.disk.now) c.args.view.now) c.loop-place.line-index c.loop-place.items.items
+    let few = no_more_calls c.args.clients.now c.args.lines.now (StandsFor (g.D.SharedDisk.state c.args.disk.now) c.args.view.now) c.loop-place.place c.loop-place.items.items
     c.loop-place-test.true so.run in
     omega (arith, few, so.number, c.loop-place-test.true, c.well_formed)
 
 pub take_call-requires-clause-built : goal.take_call-requires-clause-built
 take_call-requires-clause-built g c =
-    its_call c.args.clients.now c.args.lines.now (StandsFor (g.D.SharedDisk.state c.args.disk.now) c.args.view.now) c.loop-place.line-index c.loop-place.items.items c.loop-place-test.true
+    its_call c.args.clients.now c.args.lines.now (StandsFor (g.D.SharedDisk.state c.args.disk.now) c.args.view.now) c.loop-place.place c.loop-place.items.items c.loop-place-test.true
     c.loop-place.invariant.run c.in-Call.client c.in-Call.call
-    c.line-item.result c.line-item.result c.index-clients-client.result c.line-item.is c.in-Call.is c.requires.form
+    c.index-lines-place.result c.index-lines-place.result c.index-clients-client.result c.index-lines-place.is c.in-Call.is c.requires.form
 
 pub loop-place-preserved : goal.loop-place-preserved
 loop-place-preserved g c =
@@ -72,8 +72,8 @@ loop-place-preserved g c =
     let next = g.D.SharedDisk.state c.take_call.new.disk in
     let start = g.D.SharedDisk.state c.args.disk.now in
     let (run, number, leaves) =
-    goes_on c.args.clients.now c.args.lines.now start c.args.view.now c.loop-place.line-index c.loop-place.items.items c.loop-place-test.true so.run c.in-Call.client c.in-Call.call
-    c.line-item.result c.line-item.result c.index-clients-client.result c.line-item.is c.in-Call.is c.requires.form
+    goes_on c.args.clients.now c.args.lines.now start c.args.view.now c.loop-place.place c.loop-place.items.items c.loop-place-test.true so.run c.in-Call.client c.in-Call.call
+    c.index-lines-place.result c.index-lines-place.result c.index-clients-client.result c.index-lines-place.is c.in-Call.is c.requires.form
     c.take_call.new.items.items c.loop-place.number now next c.loop-place.view so.number c.in-Ok.ensures.taken so.system so.leaves
     in
     record {
@@ -105,13 +105,13 @@ module _ (g : Over) (c : goal.In-Err g) where
   abbrev next : DiskState
   next = g.D.SharedDisk.state c.take_call.new.disk
 
-  at_line : (P : Call → Type 0) → P c.in-Call.call → EndsAt c.loop-place.line-index P c.args.clients.now c.args.lines.now c.take_call.new.items.items start
+  at_line : (P : Call → Type 0) → P c.in-Call.call → EndsAt c.loop-place.place P c.args.clients.now c.args.lines.now c.take_call.new.items.items start
   at_line P holds =
-      ends_at c.args.clients.now c.args.lines.now start c.loop-place.line-index c.loop-place.items.items c.loop-place-test.true c.loop-place.invariant.run c.in-Call.client c.in-Call.call
-      c.line-item.result c.line-item.result c.index-clients-client.result c.line-item.is c.in-Call.is c.requires.form P c.take_call.new.items.items c.in-Err.ensures.kept holds
+      ends_at c.args.clients.now c.args.lines.now start c.loop-place.place c.loop-place.items.items c.loop-place-test.true c.loop-place.invariant.run c.in-Call.client c.in-Call.call
+      c.index-lines-place.result c.index-lines-place.result c.index-clients-client.result c.index-lines-place.is c.in-Call.is c.requires.form P c.take_call.new.items.items c.in-Err.ensures.kept holds
 
   at_call : (P : Call → Type 0) → P c.in-Call.call → EndsAtCall P c.args.clients.now c.args.lines.now c.take_call.new.items.items start
-  at_call P holds = record { count = c.loop-place.line-index; ends = at_line P holds }
+  at_call P holds = record { count = c.loop-place.place; ends = at_line P holds }
 
 pub returns-in-Err-clause-stands : goal.returns-in-Err-clause-stands
 returns-in-Err-clause-stands g c =
@@ -134,7 +134,7 @@ returns-in-Err-clause-hashed g c =
 pub returns-in-Err-clause-unbuilt : goal.returns-in-Err-clause-unbuilt
 returns-in-Err-clause-unbuilt g c =
     let P = λ (call : Call). IsUnbuiltOn (next g c) c.args.view.now call in
-    unbuilt_with c.in-Err.end (λ place. (place ≡ c.loop-place.line-index) × IsUnbuiltOn (now g c) c.loop-place.view c.in-Call.call) _
+    unbuilt_with c.in-Err.end (λ place. (place ≡ c.loop-place.place) × IsUnbuiltOn (now g c) c.loop-place.view c.in-Call.call) _
     (λ (same : next g c ≡ now g c) place is. subst (λ k. EndsAt k P c.args.clients.now c.args.lines.now c.take_call.new.items.items (start g c)) (sym is.0)
     (at_line g c P (unbuilt_before (now g c) (next g c) c.args.view.now c.loop-place.view c.in-Call.call same c.loop-place.invariant.system is.1)))
     c.in-Err.ensures.before c.in-Err.ensures.unbuilt
@@ -142,7 +142,7 @@ returns-in-Err-clause-unbuilt g c =
 pub returns-in-Err-clause-taken : goal.returns-in-Err-clause-taken
 returns-in-Err-clause-taken g c =
     let P = IsTakenBehind c.args.clients.now c.take_call.new.items.items (start g c) in
-    unbuilt_so c.in-Err.end (λ place. (place ≡ c.loop-place.line-index) × ((t : Tree) → StandsFor (now g c) c.loop-place.view t → (apply c.in-Call.call t).reply ≡ OkReply)) _
+    unbuilt_so c.in-Err.end (λ place. (place ≡ c.loop-place.place) × ((t : Tree) → StandsFor (now g c) c.loop-place.view t → (apply c.in-Call.call t).reply ≡ OkReply)) _
     (λ place is. subst (λ k. EndsAt k P c.args.clients.now c.args.lines.now c.take_call.new.items.items (start g c)) (sym is.0)
     (at_line g c P (λ t s. is.1 (tree_of (history_of c.args.clients.now c.take_call.new.items.items) t)
     (stands_on (now g c) c.args.view.now c.loop-place.view _ c.loop-place.invariant.system (stood g c t s).now))))
