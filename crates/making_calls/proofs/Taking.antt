@@ -15,7 +15,7 @@ use Rattle.gfs2_layout.specs.Holding.{Holding, alone}
 use Rattle.gfs2_layout.specs.Structures.{dinode_of}
 use Rattle.gfs2_layout.specs.declared.dinode.Dinode.{Dinode}
 use Rattle.gfs2_layout.specs.declared.rindex.Rindex.{Rindex}
-use Rattle.glock_names.specs.Views.{Seen, HasGroup, group_of_entry}
+use Rattle.glock_names.specs.Views.{Seen, HasBlock, HasGroup, group_of_entry}
 use Rattle.glock_names.specs.declared.LockName.{LockName}
 use Rattle.glock_names.specs.declared.State.{State}
 use Rattle.glock_names.specs.declared.State.TheVariants.{Ex}
@@ -50,7 +50,7 @@ use Rattle.file_tree.proofs.WalkLaws.{last_front}
 use Rattle.making_calls.specs.Blocks.{blocks_needed, block_holds, free_for, free_in, free_in_all, group_holds, group_of_node, hold_of_group, new_holds}
 use Rattle.making_calls.specs.Drafting.{IsAddition, IsPutUnder, IsWrongIn, of_directory, of_group, of_inode, new_tree}
 use Rattle.making_calls.specs.Drafting as drafting
-use Rattle.making_calls.specs.Making.{IsMaking, IsLastOf, IsReachedIn, IsFound, IsFoundBy, IsTooFew, IsDamage, IsUnbuilt, LacksName, call_holds, directory_has_room, directory_path, has_room_for, makes_directory, name_in, path_holds, room_at}
+use Rattle.making_calls.specs.Making.{IsMaking, IsLastOf, IsReachedIn, IsFound, IsFoundBy, IsNeededFor, IsToGetName, IsTooFew, IsDamage, LacksName, call_holds, directory_has_room, directory_path, has_room_for, makes_directory, name_in, path_holds, room_at}
 use Rattle.making_calls.specs.Making as damage
 use Rattle.making_calls.specs.Searches.{AreShown, IsGroupBlock, IsTaken, IsUnder}
 use Rattle.making_calls.specs.declared.blocks.Locked.{Locked}
@@ -65,6 +65,11 @@ use Rattle.making_calls.proofs.Rooms.{IsHeldRoom, block_under, dinode_inside, ex
 use Rattle.making_calls.proofs.Trees.{changes, takes, taken_list}
 use Rattle.making_calls.proofs.Under.{change_at, directory_listed, each_lock}
 use Rattle.making_calls.proofs.Wanted.{directory_held}
+
+-- a block that is needed isn't there
+pub needed_absent : (v : Seen) (c : Call) (m : Missing) → IsNeededFor v c m → v.block_at m.block ≡ None
+needed_absent v c m (damage.on_path unread) = unread.absent
+needed_absent v c m (damage.of_group gets needed) = needed.missing.absent
 
 later_held : (v : Seen) (x : Hold) (xs : List Hold) → AreHeld v (x ∷ xs) → AreHeld v xs
 later_held v x xs held k d low = held (suc k) d (omega (arith, low))
@@ -86,7 +91,7 @@ module _ (v : Seen) (c : Call) (is : IsMaking c) (p : Place) (name : List ℕ) (
     pub taken_so : apply c t ≡ record { reply = Ok; tree = put_at (path_of c false) (new_tree (makes_directory c)) t }
     taken_so = takes v im o l t of c name is last p.inode reached.place.at here.linear.directory named here.absent
 
-    reply_ok : (apply c t).reply ≡ Ok
+    pub reply_ok : (apply c t).reply ≡ Ok
     reply_ok = ap (λ (x : Answer). x.reply) taken_so
 
     pub inside_so : HasDataBlock v p.inode
@@ -234,6 +239,16 @@ module _ (v : Seen) (c : Call) (is : IsMaking c) (p : Place) (name : List ℕ) (
             )
 
   -- ---- as far as the view shows
+
+  -- the directory is to get the name, and has room for it or hasn't
+  pub to_get : (room : Bool) → LeadsTo v (wanted c) (directory_path c) p.inode → HasBlock v p.inode → ((h : Holding) → IsShown v p.inode h → has_room_for h name ≡ room) → IsToGetName v c room
+  to_get room leads there fits = record {
+    directory = p.inode;
+    leads = leads;
+    there = there;
+    lacks = λ h shown. subst (LacksName h) (sym own_name) (lacks h shown);
+    room_is = λ h shown. ap (has_room_for h) own_name ∙ fits h shown;
+  }
 
   module _ (leads : LeadsTo v (wanted c) (directory_path c) p.inode) where
     pub wrong_damage : (g : Group) → HasGroup v g → holds v (hold_of_group g) ≡ true → (rule b : ℕ) → IsWrongIn v p.inode g rule b → IsDamage v c rule b

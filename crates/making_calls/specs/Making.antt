@@ -15,7 +15,7 @@ use Rattle.gfs2_layout.specs.Inode.{is_hashed_in, linear_area, records_of}
 use Rattle.gfs2_layout.specs.Putting.{has_room, least_length}
 use Rattle.gfs2_layout.specs.Records.{child_named}
 use Rattle.gfs2_layout.specs.Structures.{dinode_of}
-use Rattle.glock_names.specs.Views.{Seen, HasBlock, HasGroup, group_of_entry}
+use Rattle.glock_names.specs.Views.{Seen, HasBlock, group_of_entry}
 use Rattle.glock_names.specs.declared.LockName.{LockName}
 use Rattle.glock_names.specs.declared.State.TheVariants.{Ex}
 use Rattle.glock_names.specs.declared.steps.Entry.{Entry}
@@ -25,7 +25,7 @@ use Rattle.call_locks.specs.Wants.{wanted}
 use Rattle.call_locks.specs.WantLaws.{path_of}
 use Rattle.dinode_tree.specs.Shown.{IsShown}
 use Rattle.resource_groups.specs.Putting.{HasDataBlock}
-use Rattle.resource_groups.specs.Shown.{IsDataOf, IsMissing}
+use Rattle.resource_groups.specs.Shown.{IsDataOf}
 use Rattle.image_model.specs.Flat.{Path, follow}
 use Rattle.image_model.specs.Image.{Image}
 use Rattle.image_model.specs.Owners.{Owners, holding}
@@ -39,7 +39,7 @@ use Rattle.path_walks.specs.Walks.{LeadsTo, IsLinearDirectory, IsOnTheWay, IsPla
 use Rattle.path_walks.specs.Walks as path
 use Rattle.making_calls.specs.Blocks.{blocks_needed, states_by, free_for, free_in_all, group_of_node, hold_of_group, new_holds}
 use Rattle.making_calls.specs.Drafting.{HasTimes, IsNewInode, IsNextOf}
-use Rattle.making_calls.specs.Searches.{IsGroupBroken}
+use Rattle.making_calls.specs.Searches.{IsGroupBroken, IsGroupNeeded}
 use Rattle.making_calls.specs.declared.finds.Found.{Found}
 use Rattle.making_calls.specs.declared.finds.Found.TheVariants as found
 
@@ -127,7 +127,7 @@ IsUnbuilt v call = IsToGetName v call false
 -- and has room for it, one of the header and bitmap of a group whose lock is held.
 pub data IsNeededFor (v : Seen) (call : Call) (m : Missing) : Type 0 where
   on_path : IsUnread v (wanted call) (directory_path call) m → IsNeededFor v call m
-  of_group : (g : Group) → IsToGetName v call true → HasGroup v g → holds v (hold_of_group g) ≡ true → IsMissing v g m → IsNeededFor v call m
+  of_group : IsToGetName v call true → IsGroupNeeded v m → IsNeededFor v call m
 
 -- the block breaks this rule: on the path, in the directory at its end, or in a group; or (2) that directory is none of the groups' data
 -- blocks

@@ -31,8 +31,8 @@ returns-then-not-is_directory-clause-found g c im o l t of =
     let reply : (apply c.args.call.now t).reply ≡ reply.NotDir = file_refuses v im o l t of c.args.call.now c.args.name.now c.requires.making c.requires.last c.args.place.now.inode reached.place.at (ap is_directory (sym reached.place.dinode) ∙ (sym c.is_directory.ensures ∙ c.if-not-is_directory.true)) in
     (reply, subst (AreHeld v) (sym (plain_list im o l t c.args.call.now c.args.stamp.now.node (ap is_ok reply))) reached.held)
 
-pub returns-then-place-eq1-clause-hashed : goal.returns-then-place-eq1-clause-hashed
-returns-then-place-eq1-clause-hashed g c =
+pub returns-then-place-eq1-clause-told : goal.returns-then-place-eq1-clause-told
+returns-then-place-eq1-clause-told g c =
     let v = g.V.View.seen c.args.view.now in
     damage.at_end c.requires.seen.leads c.requires.seen.there
     (λ h shown. hashed_so h c.args.place.now.dinode (c.requires.seen.dinode h shown) (sym c.is_directory.ensures ∙ c.if-not-is_directory.false) (eq-eqb _ _ c.if-place-eq1.true))

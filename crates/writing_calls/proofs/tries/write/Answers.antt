@@ -5,7 +5,7 @@ use Rattle.image_changes.specs.Does.{Does}
 use Rattle.image_changes.proofs.Doing.{nothing_does}
 use Rattle.path_walks.specs.Answers.{IfDone}
 use Rattle.writing_calls.specs.Writing.{IsFound, IsRefusal, IfWritten}
-use Rattle.writing_calls.proofs.tries.write.Goals.{in-Refused, in-Written, in-NeedBlock, in-NotBuilt, in-NeedLock}
+use Rattle.writing_calls.proofs.tries.write.Goals.{in-Refused, in-Written, in-NeedBlock, in-Hashed, in-NotBuilt, in-NeedLock}
 use Rattle.writing_calls.proofs.tries.write.Goals as goal
 
 pub returns-clause-done : goal.returns-clause-done
@@ -18,6 +18,7 @@ returns-clause-done g c =
           (λ im o l t of. (subst (IsFound v im o l t c.args.call.now) w.in-Refused.is (c.in_ok-reply.ensures.found im o l t of)).0))
       | in-Written w ↦ subst (λ a. IfDone (Ok a) (Does v c.args.call.now)) (sym w.result-is) (subst (IfWritten (Does v c.args.call.now reply.Ok)) w.in-Written.is c.in_ok-reply.ensures.done)
       | in-NeedBlock w ↦ subst (λ a. IfDone (Ok a) (Does v c.args.call.now)) (sym w.result-is) tt
+      | in-Hashed w ↦ subst (λ a. IfDone (Ok a) (Does v c.args.call.now)) (sym w.result-is) tt
       | in-NotBuilt w ↦ subst (λ a. IfDone (Ok a) (Does v c.args.call.now)) (sym w.result-is) tt
       | in-NeedLock w ↦ subst (λ a. IfDone (Ok a) (Does v c.args.call.now)) (sym w.result-is) tt
     ]

@@ -1,4 +1,4 @@
-use Rattle.std.proofs.Common.{◌+◌, ap, false, inr, length, not, subst₂, ◌∙◌}
+use Rattle.std.proofs.Common.{◌+◌, ap, false, length, not, subst₂, ◌∙◌}
 use Rattle.writing_calls.specs.Contents.{IsAimOf}
 use Rattle.call_locks.specs.WantLaws.{path_of}
 use Rattle.path_walks.proofs.Steps.{inside_so, none_so}
@@ -22,7 +22,7 @@ pub returns-in-NotBuilt-clause-found : goal.returns-in-NotBuilt-clause-found
 returns-in-NotBuilt-clause-found g c im o l t of =
     let walked = c.requires.walked im o l t of in
     let is = subst₂ (λ size a. IsAimOf size c.args.place.now.dinode (c.args.at + length c.args.new.now) a) c.block_size.ensures.value c.in-NotBuilt.is c.aim_of.ensures in
-    inr (taken_found (g.V.View.seen c.args.view.now) c.args.call.now c.args.at c.args.new.now c.args.place.now c.requires.writes c.requires.seen im o l t of walked is.0 is.1, walked.2)
+    (taken_found (g.V.View.seen c.args.view.now) c.args.call.now c.args.at c.args.new.now c.args.place.now c.requires.writes c.requires.seen im o l t of walked is.0 is.1, walked.2)
 
 pub returns-in-Broken-clause-sound : goal.returns-in-Broken-clause-sound
 returns-in-Broken-clause-sound g c im o l t of =
