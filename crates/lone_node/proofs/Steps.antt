@@ -193,7 +193,7 @@ module _ (clients : List Client) (lines : List Line) (start : DiskState) (first 
   before_is t = tree_is clients lines (StandsFor start first) i items so t
 
   -- the disk stood for it
-  stood : (t : Tree) → StandsFor start first t → StandsFor disk n (before t)
+  abbrev stood : (t : Tree) → StandsFor start first t → StandsFor disk n (before t)
   stood t s = stands_on disk first n (before t) system (leaves t s).now
 
   run_more : IsRunUpTo clients lines (i + 1) more (StandsFor start first)

@@ -109,10 +109,10 @@ fn try_once<D: SharedDisk>(
 {
     other_calls_leave_the_tree();
     match attempt(alloc, &*view, call, stamp) {
-        Ok(Attempt::Done { reply, change }) => {
-            carry_out(disk, view, &change)?;
-            Ok(Some(Answer { reply, full: None }))
-        }
+        Ok(Attempt::Done { reply, change }) => match carry_out(disk, view, &change) {
+            Ok(()) => Ok(Some(Answer { reply, full: None })),
+            Err(end) => Err(end),
+        },
         Ok(Attempt::NeedBlock(missing)) => match fetch(alloc, disk, view, &missing) {
             Ok(()) => Ok(None),
             Err(end) => Err(end),

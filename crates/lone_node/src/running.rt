@@ -207,7 +207,10 @@ fn run_lines<D: SharedDisk>(
     ensures later { (i : ℕ) → D.faults disk.old i ≤ D.faults disk.new i }
     ensures cause { IfErr result (HasCause 1 (D.state disk.old).count (D.faults disk.old) (D.faults disk.new)) }
 {
-    put_item(items, TraceItem::Join { node: 1 })?;
+    match put_item(items, TraceItem::Join { node: 1 }) {
+        Ok(()) => {}
+        Err(_) => return Err(RunEnd::NoMemory),
+    }
     match take_lines(alloc, disk, view, clients, lines, stamp, items) {
         Ok(()) => {}
         Err(end) => return Err(end),

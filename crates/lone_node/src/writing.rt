@@ -92,7 +92,10 @@ pub(crate) fn write_all<D: SharedDisk>(disk: &mut D, blocks: &[Written]) -> Resu
     let mut rest = blocks;
     while !rest.is_empty() {
         let (some, later) = rest.split_at(rest.len().min(512));
-        write_some(disk, some)?;
+        match write_some(disk, some) {
+            Ok(()) => {}
+            Err(end) => return Err(end),
+        }
         rest = later;
     }
     Ok(())

@@ -16,8 +16,8 @@ use Rattle.lone_node.proofs.Steps.{ends_at, goes_on, its_call, no_more_calls, ru
 use Rattle.lone_node.proofs.running.take_lines.Given.{Over}
 use Rattle.lone_node.proofs.running.take_lines.Goals as goal
 
-pub loop-line-init : goal.loop-line-init
-loop-line-init g c =
+pub loop-place-init : goal.loop-place-init
+loop-place-init g c =
     let disk = g.D.SharedDisk.state c.args.disk.now in
     let start = StandsFor disk c.args.view.now in
     let run = run_none c.args.clients.now c.args.lines.now start c.args.items.now.items c.requires.joined in
@@ -33,13 +33,13 @@ loop-line-init g c =
       later = λ i. omega arith;
     }
 
-pub loop-line-preserved-in_default : goal.loop-line-preserved-in_default
-loop-line-preserved-in_default g c =
-    let so = c.loop-line.invariant in
+pub loop-place-preserved-in_default : goal.loop-place-preserved-in_default
+loop-place-preserved-in_default g c =
+    let so = c.loop-place.invariant in
     let start = StandsFor (g.D.SharedDisk.state c.args.disk.now) c.args.view.now in
     let (run, number) =
-    wait_more c.args.clients.now c.args.lines.now start c.loop-line.line-index c.loop-line.items.items c.loop-line-test.true so.run
-    c.loop-line.number c.line-item.result c.line-item.result c.line-item.is c.in_default.not-Call so.number
+    wait_more c.args.clients.now c.args.lines.now start c.loop-place.place c.loop-place.items.items c.loop-place-test.true so.run
+    c.loop-place.number c.index-lines-place.result c.index-lines-place.result c.index-lines-place.is c.in_default.not-Call so.number
     in
     record {
       run = run;
@@ -54,27 +54,27 @@ loop-line-preserved-in_default g c =
 
 pub overflow_add-number : goal.overflow_add-number
 overflow_add-number g c =
-    let so = c.loop-line.invariant in
-    let few = no_more_calls c.args.clients.now c.args.lines.now (StandsFor (g.D.SharedDisk.state c.args.disk.now) c.args.view.now) c.loop-line.line-index c.loop-line.items.items
-    c.loop-line-test.true so.run in
-    omega (arith, few, so.number, c.loop-line-test.true, c.well_formed)
+    let so = c.loop-place.invariant in
+    let few = no_more_calls c.args.clients.now c.args.lines.now (StandsFor (g.D.SharedDisk.state c.args.disk.now) c.args.view.now) c.loop-place.place c.loop-place.items.items
+    c.loop-place-test.true so.run in
+    omega (arith, few, so.number, c.loop-place-test.true, c.well_formed)
 
 pub take_call-requires-clause-built : goal.take_call-requires-clause-built
 take_call-requires-clause-built g c =
-    its_call c.args.clients.now c.args.lines.now (StandsFor (g.D.SharedDisk.state c.args.disk.now) c.args.view.now) c.loop-line.line-index c.loop-line.items.items c.loop-line-test.true
-    c.loop-line.invariant.run c.in-Call.client c.in-Call.call
-    c.line-item.result c.line-item.result c.index-clients-client.result c.line-item.is c.in-Call.is c.requires.form
+    its_call c.args.clients.now c.args.lines.now (StandsFor (g.D.SharedDisk.state c.args.disk.now) c.args.view.now) c.loop-place.place c.loop-place.items.items c.loop-place-test.true
+    c.loop-place.invariant.run c.in-Call.client c.in-Call.call
+    c.index-lines-place.result c.index-lines-place.result c.index-clients-client.result c.index-lines-place.is c.in-Call.is c.requires.form
 
-pub loop-line-preserved : goal.loop-line-preserved
-loop-line-preserved g c =
-    let so = c.loop-line.invariant in
-    let now = g.D.SharedDisk.state c.loop-line.disk in
+pub loop-place-preserved : goal.loop-place-preserved
+loop-place-preserved g c =
+    let so = c.loop-place.invariant in
+    let now = g.D.SharedDisk.state c.loop-place.disk in
     let next = g.D.SharedDisk.state c.take_call.new.disk in
     let start = g.D.SharedDisk.state c.args.disk.now in
     let (run, number, leaves) =
-    goes_on c.args.clients.now c.args.lines.now start c.args.view.now c.loop-line.line-index c.loop-line.items.items c.loop-line-test.true so.run c.in-Call.client c.in-Call.call
-    c.line-item.result c.line-item.result c.index-clients-client.result c.line-item.is c.in-Call.is c.requires.form
-    c.take_call.new.items.items c.loop-line.number now next c.loop-line.view so.number c.in-Ok.ensures.taken so.system so.leaves
+    goes_on c.args.clients.now c.args.lines.now start c.args.view.now c.loop-place.place c.loop-place.items.items c.loop-place-test.true so.run c.in-Call.client c.in-Call.call
+    c.index-lines-place.result c.index-lines-place.result c.index-clients-client.result c.index-lines-place.is c.in-Call.is c.requires.form
+    c.take_call.new.items.items c.loop-place.number now next c.loop-place.view so.number c.in-Ok.ensures.taken so.system so.leaves
     in
     record {
       run = run;
@@ -89,10 +89,10 @@ loop-line-preserved g c =
 
 -- what the disk stood for before the call that wasn't answered, where its items are those before
 stood : (g : Over) (c : goal.In-Err g) (t : Tree) (s : StandsFor (g.D.SharedDisk.state c.args.disk.now) c.args.view.now t)
-    → LeavesStanding (g.D.SharedDisk.state c.args.disk.now) (g.D.SharedDisk.state c.loop-line.disk) c.args.view.now t (tree_of (history_of c.args.clients.now c.take_call.new.items.items) t) s
+    → LeavesStanding (g.D.SharedDisk.state c.args.disk.now) (g.D.SharedDisk.state c.loop-place.disk) c.args.view.now t (tree_of (history_of c.args.clients.now c.take_call.new.items.items) t) s
 stood g c t s =
-    subst (λ (is : List TraceItem). LeavesStanding (g.D.SharedDisk.state c.args.disk.now) (g.D.SharedDisk.state c.loop-line.disk) c.args.view.now t (tree_of (history_of c.args.clients.now is) t) s)
-    (sym c.in-Err.ensures.kept) (c.loop-line.invariant.leaves t s)
+    subst (λ (is : List TraceItem). LeavesStanding (g.D.SharedDisk.state c.args.disk.now) (g.D.SharedDisk.state c.loop-place.disk) c.args.view.now t (tree_of (history_of c.args.clients.now is) t) s)
+    (sym c.in-Err.ensures.kept) (c.loop-place.invariant.leaves t s)
 
 -- the run ends at this call
 module _ (g : Over) (c : goal.In-Err g) where
@@ -100,18 +100,18 @@ module _ (g : Over) (c : goal.In-Err g) where
   start = StandsFor (g.D.SharedDisk.state c.args.disk.now) c.args.view.now
 
   abbrev now : DiskState
-  now = g.D.SharedDisk.state c.loop-line.disk
+  now = g.D.SharedDisk.state c.loop-place.disk
 
   abbrev next : DiskState
   next = g.D.SharedDisk.state c.take_call.new.disk
 
-  at_line : (P : Call → Type 0) → P c.in-Call.call → EndsAt c.loop-line.line-index P c.args.clients.now c.args.lines.now c.take_call.new.items.items start
+  at_line : (P : Call → Type 0) → P c.in-Call.call → EndsAt c.loop-place.place P c.args.clients.now c.args.lines.now c.take_call.new.items.items start
   at_line P holds =
-      ends_at c.args.clients.now c.args.lines.now start c.loop-line.line-index c.loop-line.items.items c.loop-line-test.true c.loop-line.invariant.run c.in-Call.client c.in-Call.call
-      c.line-item.result c.line-item.result c.index-clients-client.result c.line-item.is c.in-Call.is c.requires.form P c.take_call.new.items.items c.in-Err.ensures.kept holds
+      ends_at c.args.clients.now c.args.lines.now start c.loop-place.place c.loop-place.items.items c.loop-place-test.true c.loop-place.invariant.run c.in-Call.client c.in-Call.call
+      c.index-lines-place.result c.index-lines-place.result c.index-clients-client.result c.index-lines-place.is c.in-Call.is c.requires.form P c.take_call.new.items.items c.in-Err.ensures.kept holds
 
   at_call : (P : Call → Type 0) → P c.in-Call.call → EndsAtCall P c.args.clients.now c.args.lines.now c.take_call.new.items.items start
-  at_call P holds = record { count = c.loop-line.line-index; ends = at_line P holds }
+  at_call P holds = record { count = c.loop-place.place; ends = at_line P holds }
 
 pub returns-in-Err-clause-stands : goal.returns-in-Err-clause-stands
 returns-in-Err-clause-stands g c =
@@ -121,49 +121,49 @@ returns-in-Err-clause-stands g c =
 
 pub returns-in-Err-clause-sound : goal.returns-in-Err-clause-sound
 returns-in-Err-clause-sound g c =
-    damaged_so c.in-Err.end (λ b rule. (t : Tree) → StandsFor (now g c) c.loop-line.view t → ⊥) (λ b rule. (t : Tree) → start g c t → ⊥)
-    (λ b rule never t s. never _ (stands_on (now g c) c.args.view.now c.loop-line.view _ c.loop-line.invariant.system (c.loop-line.invariant.leaves t s).now)) c.in-Err.ensures.sound
+    damaged_so c.in-Err.end (λ b rule. (t : Tree) → StandsFor (now g c) c.loop-place.view t → ⊥) (λ b rule. (t : Tree) → start g c t → ⊥)
+    (λ b rule never t s. never _ (stands_on (now g c) c.args.view.now c.loop-place.view _ c.loop-place.invariant.system (c.loop-place.invariant.leaves t s).now)) c.in-Err.ensures.sound
 
 pub returns-in-Err-clause-hashed : goal.returns-in-Err-clause-hashed
 returns-in-Err-clause-hashed g c =
-    hashed_with c.in-Err.end (IsHashedOn (now g c) c.loop-line.view c.in-Call.call) _
+    hashed_with c.in-Err.end (IsHashedOn (now g c) c.loop-place.view c.in-Call.call) _
     (λ (same : next g c ≡ now g c) b is. at_call g c (λ call. IsHashedOn (next g c) c.args.view.now call b)
-    (hashed_before (now g c) (next g c) c.args.view.now c.loop-line.view c.in-Call.call b same c.loop-line.invariant.system is))
+    (hashed_before (now g c) (next g c) c.args.view.now c.loop-place.view c.in-Call.call b same c.loop-place.invariant.system is))
     c.in-Err.ensures.before c.in-Err.ensures.hashed
 
 pub returns-in-Err-clause-unbuilt : goal.returns-in-Err-clause-unbuilt
 returns-in-Err-clause-unbuilt g c =
     let P = λ (call : Call). IsUnbuiltOn (next g c) c.args.view.now call in
-    unbuilt_with c.in-Err.end (λ place. (place ≡ c.loop-line.line-index) × IsUnbuiltOn (now g c) c.loop-line.view c.in-Call.call) _
+    unbuilt_with c.in-Err.end (λ place. (place ≡ c.loop-place.place) × IsUnbuiltOn (now g c) c.loop-place.view c.in-Call.call) _
     (λ (same : next g c ≡ now g c) place is. subst (λ k. EndsAt k P c.args.clients.now c.args.lines.now c.take_call.new.items.items (start g c)) (sym is.0)
-    (at_line g c P (unbuilt_before (now g c) (next g c) c.args.view.now c.loop-line.view c.in-Call.call same c.loop-line.invariant.system is.1)))
+    (at_line g c P (unbuilt_before (now g c) (next g c) c.args.view.now c.loop-place.view c.in-Call.call same c.loop-place.invariant.system is.1)))
     c.in-Err.ensures.before c.in-Err.ensures.unbuilt
 
 pub returns-in-Err-clause-taken : goal.returns-in-Err-clause-taken
 returns-in-Err-clause-taken g c =
     let P = IsTakenBehind c.args.clients.now c.take_call.new.items.items (start g c) in
-    unbuilt_so c.in-Err.end (λ place. (place ≡ c.loop-line.line-index) × ((t : Tree) → StandsFor (now g c) c.loop-line.view t → (apply c.in-Call.call t).reply ≡ OkReply)) _
+    unbuilt_so c.in-Err.end (λ place. (place ≡ c.loop-place.place) × ((t : Tree) → StandsFor (now g c) c.loop-place.view t → (apply c.in-Call.call t).reply ≡ OkReply)) _
     (λ place is. subst (λ k. EndsAt k P c.args.clients.now c.args.lines.now c.take_call.new.items.items (start g c)) (sym is.0)
     (at_line g c P (λ t s. is.1 (tree_of (history_of c.args.clients.now c.take_call.new.items.items) t)
-    (stands_on (now g c) c.args.view.now c.loop-line.view _ c.loop-line.invariant.system (stood g c t s).now))))
+    (stands_on (now g c) c.args.view.now c.loop-place.view _ c.loop-place.invariant.system (stood g c t s).now))))
     c.in-Err.ensures.accepted
 
 pub returns-in-Err-clause-failed : goal.returns-in-Err-clause-failed
 returns-in-Err-clause-failed g c =
     let first = g.D.SharedDisk.state c.args.disk.now in
-    failed_so c.in-Err.end (IsFailedAt (now g c) (next g c) c.loop-line.view c.in-Call.call) _
+    failed_so c.in-Err.end (IsFailedAt (now g c) (next g c) c.loop-place.view c.in-Call.call) _
     (λ block is. at_call g c (λ call. IsFailedOn first (next g c) c.args.view.now c.args.clients.now c.take_call.new.items.items call block) (record {
       before = now g c;
-      same = c.loop-line.invariant.same;
-      idle = c.loop-line.invariant.idle;
+      same = c.loop-place.invariant.same;
+      idle = c.loop-place.invariant.idle;
       stood = stood g c;
-      failed = failed_before (now g c) (next g c) c.args.view.now c.loop-line.view c.in-Call.call block c.loop-line.invariant.system is;
+      failed = failed_before (now g c) (next g c) c.args.view.now c.loop-place.view c.in-Call.call block c.loop-place.invariant.system is;
     }))
     c.in-Err.ensures.failed
 
 pub returns-in-Err-clause-damaged : goal.returns-in-Err-clause-damaged
 returns-in-Err-clause-damaged g c =
-    damaged_with c.in-Err.end (IsDamagedOn (now g c) c.loop-line.view c.in-Call.call) _
+    damaged_with c.in-Err.end (IsDamagedOn (now g c) c.loop-place.view c.in-Call.call) _
     (λ (same : next g c ≡ now g c) b rule is. at_call g c (λ call. IsDamagedOn (next g c) c.args.view.now call b rule)
-    (damaged_before (now g c) (next g c) c.args.view.now c.loop-line.view c.in-Call.call b rule same c.loop-line.invariant.system is))
+    (damaged_before (now g c) (next g c) c.args.view.now c.loop-place.view c.in-Call.call b rule same c.loop-place.invariant.system is))
     c.in-Err.ensures.before c.in-Err.ensures.damaged

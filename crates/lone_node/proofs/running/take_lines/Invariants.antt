@@ -8,9 +8,9 @@ use Rattle.lone_node.specs.Run.{IsRunUpTo}
 use Rattle.lone_node.specs.Standing.{IsOn, IsSameSystem, LeavesStanding, StandsFor}
 use Rattle.lone_node.proofs.running.take_lines.Given as goal
 
-abbrev pub invariant-loop-line : goal.invariant-loop-line
-invariant-loop-line g l = record {
-  run : IsRunUpTo l.clients l.lines l.line-index l.items.items (StandsFor (g.D.SharedDisk.state l.initial.disk) l.initial.view);
+abbrev pub invariant-loop-place : goal.invariant-loop-place
+invariant-loop-place g l = record {
+  run : IsRunUpTo l.clients l.lines l.place l.items.items (StandsFor (g.D.SharedDisk.state l.initial.disk) l.initial.view);
   number : l.number ≡ 1 + length run.answered;
   leaves : (t : Tree) (s : StandsFor (g.D.SharedDisk.state l.initial.disk) l.initial.view t)
       → LeavesStanding (g.D.SharedDisk.state l.initial.disk) (g.D.SharedDisk.state l.disk) l.initial.view t (tree_of (history_of l.clients l.items.items) t) s;
