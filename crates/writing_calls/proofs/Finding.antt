@@ -1,5 +1,5 @@
 -- What a write finds at its path's end.
-use Rattle.std.proofs.Common.{◌≡◌, ◌+◌, ◌<◌, ◌≤◌, ℕ, Bool, true, false, List, length, sym, ap, ◌∙◌, subst, arith}
+use Rattle.std.proofs.Common.{◌≡◌, ◌+◌, ◌<◌, ◌≤◌, ℕ, Bool, true, false, List, length, sym, ap, ◌∙◌, subst, subst₂, arith}
 use Rattle.std.proofs.lemmas.Bool.{cond-true, lt-ltb}
 use Rattle.std.specs.Prelude.{nat_lt, IsErrAnd, Result}
 use Rattle.file_tree.specs.Apply.{Answer, apply, file_limit, overwritten, put_at, refuse, write_at}
@@ -33,9 +33,9 @@ use Rattle.path_walks.specs.declared.walk.Walk.TheVariants.{At}
 use Rattle.path_walks.proofs.Images.{is_shown, unbroken}
 use Rattle.read_calls.proofs.Answering.{told_on}
 use Rattle.read_calls.proofs.Trees.{wrong_damage}
-use Rattle.writing_calls.specs.Contents.{IsAimOf, StaysStuffed}
+use Rattle.writing_calls.specs.Contents.{IsAimOf, NeedsBlocks, StaysStuffed}
 use Rattle.writing_calls.specs.Drafting.{IsWrite}
-use Rattle.writing_calls.specs.Writing.{IsAtEnd, IsDamage, IsRefused, Writes, end_of, is_dir, on_path, too_big}
+use Rattle.writing_calls.specs.Writing.{IsAtEnd, IsDamage, IsRefused, IsUnbuilt, Writes, end_of, is_dir, on_path, too_big}
 use Rattle.writing_calls.specs.declared.aims.Aim.TheVariants as aim
 use Rattle.writing_calls.proofs.Doing.{call_taken, file_there, write_does}
 
@@ -74,6 +74,20 @@ module _ (v : Seen) (c : Call) (at : ℕ) (new : List ℕ) (p : Place) (writes :
   refused_told reply.NotEmpty is = absurd is
   refused_told reply.Inside is = absurd is
   refused_told reply.NoSpace is = absurd is
+
+  pub unbuilt_told : IsAimOf v.size p.dinode end aim.NotBuilt → IsUnbuilt v c
+  unbuilt_told is = (
+    p.inode,
+    record {
+      leads = seen.leads;
+      there = seen.there;
+      so = λ h shown. record {
+        file = ap is_directory (sym (seen.dinode h shown)) ∙ is.0;
+        short = subst (λ n. n ≤ file_limit) (sym (ap end_of writes)) is.1;
+        needs = subst₂ (λ d n. NeedsBlocks h.size d n) (seen.dinode h shown) (sym (ap end_of writes)) (subst (λ size. NeedsBlocks size p.dinode end) (sym shown.size) is.2);
+      };
+    },
+  )
 
   pub broken_told : IsAimOf v.size p.dinode end aim.Broken → IsDamage v c 8 p.inode
   broken_told is = on_path 8 p.inode (wrong_damage v (wanted c) (path_of c false) p.inode seen.leads 8 p.inode (λ h shown. in_inode 8 p.inode (broken_so v p.inode p.dinode h shown (seen.dinode h shown) is.0 is.1)))

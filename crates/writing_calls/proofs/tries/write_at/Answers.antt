@@ -4,7 +4,7 @@ use Rattle.call_locks.specs.WantLaws.{path_of}
 use Rattle.path_walks.proofs.Steps.{inside_so, none_so}
 use Rattle.writing_calls.specs.Writing.{call_holds, no_data_block}
 use Rattle.writing_calls.proofs.Alone.{are_inside, are_under, dinode_inside, file_listed}
-use Rattle.writing_calls.proofs.Finding.{broken_nowhere, broken_told, refused_found, refused_told, stuffed_does, taken_found}
+use Rattle.writing_calls.proofs.Finding.{broken_nowhere, broken_told, refused_found, refused_told, stuffed_does, taken_found, unbuilt_told}
 use Rattle.writing_calls.proofs.tries.write_at.Goals as goal
 
 pub returns-in-Refused-clause-found : goal.returns-in-Refused-clause-found
@@ -23,6 +23,11 @@ returns-in-NotBuilt-clause-found g c im o l t of =
     let walked = c.requires.walked im o l t of in
     let is = subst₂ (λ size a. IsAimOf size c.args.place.now.dinode (c.args.at + length c.args.new.now) a) c.block_size.ensures.value c.in-NotBuilt.is c.aim_of.ensures in
     (taken_found (g.V.View.seen c.args.view.now) c.args.call.now c.args.at c.args.new.now c.args.place.now c.requires.writes c.requires.seen im o l t of walked is.0 is.1, walked.2)
+
+pub returns-in-NotBuilt-clause-told : goal.returns-in-NotBuilt-clause-told
+returns-in-NotBuilt-clause-told g c =
+    let is = subst₂ (λ size a. IsAimOf size c.args.place.now.dinode (c.args.at + length c.args.new.now) a) c.block_size.ensures.value c.in-NotBuilt.is c.aim_of.ensures in
+    unbuilt_told (g.V.View.seen c.args.view.now) c.args.call.now c.args.at c.args.new.now c.args.place.now c.requires.writes c.requires.seen is
 
 pub returns-in-Broken-clause-sound : goal.returns-in-Broken-clause-sound
 returns-in-Broken-clause-sound g c im o l t of =
