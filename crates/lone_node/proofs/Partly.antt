@@ -99,3 +99,14 @@ may_be d now next done some rest rise first (count, fly) = record {
         → (next.block_at b ≡ d.block_at b) ⊎ (bytes_for (done ++ (some ++ rest)) b ≡ Some (next.block_at b))
     by b None is at = inl (at ∙ ap (λ o. unwrap_or o (d.block_at b)) is)
     by b (Some x) is at = inr (first_of done (some ++ rest) b x is ∙ ap (λ (y : List ℕ). Some y) (sym (at ∙ ap (λ o. unwrap_or o (d.block_at b)) is)))
+
+-- ---- no block
+
+pub has_some : (done some : List Written) → 1 ≤ length some → done ++ some ≡ [] → ⊥
+has_some [] [] more is = absurd (omega (arith, more))
+has_some [] (w ∷ ws) more is = cc
+has_some (v ∷ vs) some more is = cc
+
+pub front_none : (xs ys : List Written) → xs ++ ys ≡ [] → xs ≡ []
+front_none [] ys is = refl
+front_none (x ∷ xs) ys is = absurd (cc)

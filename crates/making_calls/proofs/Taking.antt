@@ -45,6 +45,7 @@ use Rattle.path_walks.specs.Walks.{LeadsTo, IsSeenAt}
 use Rattle.path_walks.specs.Walks as path
 use Rattle.path_walks.specs.declared.walk.Place.{Place}
 use Rattle.path_walks.proofs.Images.{is_inode, is_shown, unbroken_directory}
+use Rattle.path_walks.proofs.Leads.{no_end}
 use Rattle.path_walks.proofs.Lists.{parent_of_next}
 use Rattle.file_tree.proofs.WalkLaws.{last_front}
 use Rattle.making_calls.specs.Blocks.{blocks_needed, block_holds, free_for, free_in, free_in_all, group_holds, group_of_node, hold_of_group, new_holds}
@@ -243,6 +244,7 @@ module _ (v : Seen) (c : Call) (is : IsMaking c) (p : Place) (name : List ℕ) (
   -- the directory is to get the name, and has room for it or hasn't
   pub to_get : (room : Bool) → LeadsTo v (wanted c) (directory_path c) p.inode → HasBlock v p.inode → ((h : Holding) → IsShown v p.inode h → has_room_for h name ≡ room) → IsToGetName v c room
   to_get room leads there fits = record {
+    below = λ root. no_end last.0 name (sym root ∙ last.1);
     directory = p.inode;
     leads = leads;
     there = there;

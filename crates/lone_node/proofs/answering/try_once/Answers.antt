@@ -1,7 +1,9 @@
 use Rattle.std.proofs.Common.{true, false, ◌≡◌, ◌<◌, ◌≤◌, None, Ok, refl, sym, ◌∙◌, subst, arith}
+use Rattle.std.specs.Prelude.{◌≢◌}
 use Rattle.file_tree.specs.Apply.{TakesSpace, apply}
 use Rattle.file_tree.specs.Tree.{Tree}
 use Rattle.file_tree.specs.declared.reply.Reply.TheVariants.{Ok as OkReply}
+use Rattle.file_tree.specs.declared.reply.Reply.TheVariants as reply
 use Rattle.image_model.specs.Image.{image_of}
 use Rattle.image_changes.specs.Does.{Does}
 use Rattle.path_walks.specs.Answers.{IfDone, IfNeedBlock, IfNoSpace, IfNotBuilt}
@@ -14,9 +16,9 @@ use Rattle.lone_node.specs.Answering.{IsDamagedFor, IsFailedFor, in_a_read, in_a
 use Rattle.lone_node.specs.Ends.{IfDamaged, end_at}
 use Rattle.lone_node.specs.Standing.{IsOn, StandsFor, lacked_count}
 use Rattle.lone_node.specs.Writing.{IsWriteOf, MayBeWritten}
-use Rattle.lone_node.proofs.Answered.{answered, answered_full, fetched_on, fewer, of_disk, of_view, on_again, shown_damage}
+use Rattle.lone_node.proofs.Answered.{answered, answered_full, fetched_on, fewer, of_disk, of_view, on_again, shown_damage, writes_none}
 use Rattle.lone_node.proofs.Endings.{damaged_so, failed_and, failed_so}
-use Rattle.lone_node.proofs.Spaces.{never_full}
+use Rattle.lone_node.proofs.Frees.{free_count}
 use Rattle.lone_node.proofs.answering.try_once.Goals as goal
 
 pub carry_out-requires-clause-of_disk : goal.carry_out-requires-clause-of_disk
@@ -34,11 +36,15 @@ returns-in-Ok-clause-answered g c =
     c.other_calls_leave_the_tree.ensures c.args.call.now c.in-Ok-Done.reply does
 
 pub returns-in-Ok-clause-full : goal.returns-in-Ok-clause-full
-returns-in-Ok-clause-full g c t s =
-    let d = g.D.SharedDisk.state c.args.disk.now in
-    let does = subst (λ a. IfDone (Ok a) (Does (seen_alone c.args.view.now) c.args.call.now)) c.in-Ok-Done.field-0-is c.in-Ok-Done.ensures.done in
-    let in_it = does.images (image_of d) s.owners s.layout t (of_view d c.args.view.now t c.requires.on s) in
-    ((λ (told : false ≡ true). cc), λ full. absurd (never_full c.args.call.now t (in_it.replies ∙ full)))
+returns-in-Ok-clause-full g c =
+    let other = subst (λ a. IfDone (Ok a) (λ r change. r ≢ reply.NoSpace)) c.in-Ok-Done.field-0-is c.in-Ok-Done.ensures.spaceless in
+    record { exactly = ((λ (told : false ≡ true). cc), λ full. absurd (other full)); fewer = tt }
+
+pub returns-in-Ok-clause-untouched : goal.returns-in-Ok-clause-untouched
+returns-in-Ok-clause-untouched g c none =
+    let v = seen_alone c.args.view.now in
+    let does = subst (λ a. IfDone (Ok a) (Does v c.args.call.now)) c.in-Ok-Done.field-0-is c.in-Ok-Done.ensures.done in
+    c.in-Ok.ensures.none (writes_none v c.args.call.now c.in-Ok-Done.reply c.in-Ok-Done.change does none)
 
 pub returns-in-Ok-clause-on : goal.returns-in-Ok-clause-on
 returns-in-Ok-clause-on g c =
@@ -131,3 +137,15 @@ pub returns-in-Ok-NotBuilt-clause-taken : goal.returns-in-Ok-NotBuilt-clause-tak
 returns-in-Ok-NotBuilt-clause-taken g c =
     let d = g.D.SharedDisk.state c.args.disk.now in
     (refl, λ t s. subst (λ a. IfNotBuilt (Ok a) ((apply c.args.call.now t).reply ≡ OkReply)) c.in-Ok-NotBuilt.field-0-is (c.in-Ok-NotBuilt.ensures.taken (image_of d) s.owners s.layout t (of_view d c.args.view.now t c.requires.on s)))
+
+pub returns-in-Ok-NoSpace-clause-full : goal.returns-in-Ok-NoSpace-clause-full
+returns-in-Ok-NoSpace-clause-full g c = record {
+  exactly = (λ told. refl, λ full. refl);
+  fewer = subst (λ a. IfNoSpace (Ok a) (λ need free. free < need)) c.in-Ok-NoSpace.field-0-is c.in-Ok-NoSpace.ensures.fewer;
+}
+
+pub returns-in-Ok-NoSpace-clause-free : goal.returns-in-Ok-NoSpace-clause-free
+returns-in-Ok-NoSpace-clause-free g c t s =
+    let v = seen_alone c.args.view.now in
+    free_count (g.D.SharedDisk.state c.args.disk.now) c.args.view.now c.args.call.now c.in-Ok-NoSpace.need c.in-Ok-NoSpace.free c.requires.on
+    (λ im o l t of. subst (λ a. IfNoSpace (Ok a) (IsTooFew v im o l t c.args.call.now)) c.in-Ok-NoSpace.field-0-is (c.in-Ok-NoSpace.ensures.space im o l t of)) t s

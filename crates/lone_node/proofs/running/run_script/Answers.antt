@@ -1,4 +1,4 @@
-use Rattle.std.proofs.Common.{◌≡◌, List, ap, ◌∙◌, subst}
+use Rattle.std.proofs.Common.{◌≡◌, List, sym, ap, ◌∙◌, subst}
 use Rattle.std.specs.Prelude.{Result, OnOk, Ok, Err}
 use Rattle.file_tree.specs.Tree.{Tree}
 use Rattle.cluster_history.specs.History.{tree_of}
@@ -8,7 +8,7 @@ use Rattle.script_lang.specs.declared.script.Client.{Client}
 use Rattle.script_lang.specs.declared.script.Line.{Line}
 use Rattle.lone_node.specs.declared.ends.RunEnd.{RunEnd}
 use Rattle.lone_node.specs.Ends.{UnlessDiskFailed}
-use Rattle.lone_node.specs.Run.{IsRunOf, IsWholeRun}
+use Rattle.lone_node.specs.Run.{HasChangedNothing, IsRunOf, IsWholeRun}
 use Rattle.lone_node.specs.Standing.{LeavesStanding, StandsFor}
 use Rattle.lone_node.proofs.Endings.{unless_so}
 use Rattle.lone_node.proofs.NodeRuns.{Owes, owes, owes_all}
@@ -66,3 +66,7 @@ returns-clause-stands g c =
     (λ stands t s. subst (λ (cs : List Client). LeavesStanding (g.D.SharedDisk.state c.args.disk.now) (g.D.SharedDisk.state c.run_lines.new.disk) c.args.view.now t (tree_of (history_of cs c.run_lines.new.items.items) t) s)
     (clients g c) (stands t s))
     c.run_lines.ensures.stands
+
+pub returns-clause-untouched : goal.returns-clause-untouched
+returns-clause-untouched g c =
+    unless_failed c.run_lines.result (λ untouched nothing. untouched (subst (λ (cs : List Client). HasChangedNothing cs c.run_lines.new.items.items) (sym (clients g c)) nothing)) c.run_lines.ensures.untouched

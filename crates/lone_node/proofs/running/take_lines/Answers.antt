@@ -1,4 +1,4 @@
-use Rattle.std.proofs.Common.{◌≡◌, List, refl, rules, sym, subst, arith}
+use Rattle.std.proofs.Common.{◌≡◌, List, refl, rules, sym, ◌∙◌, subst, arith}
 use Rattle.file_tree.specs.Apply.{apply}
 use Rattle.file_tree.specs.Tree.{Tree}
 use Rattle.file_tree.specs.declared.call.Call.{Call}
@@ -8,11 +8,12 @@ use Rattle.run_rules.specs.Follows.{history_of}
 use Rattle.shared_disk.specs.Disk.{DiskState}
 use Rattle.trace_text.specs.declared.item.TraceItem.{TraceItem}
 use Rattle.lone_node.specs.Answering.{IsDamagedOn, IsFailedAt, IsHashedOn, IsUnbuiltOn}
-use Rattle.lone_node.specs.Run.{EndsAt, EndsAtCall, IsFailedOn, IsTakenBehind}
+use Rattle.lone_node.specs.Run.{EndsAt, EndsAtCall, HasChangedNothing, IsFailedOn, IsTakenBehind, TellFree}
 use Rattle.lone_node.specs.Standing.{LeavesStanding, StandsFor}
 use Rattle.lone_node.proofs.Endings.{damaged_before, damaged_so, damaged_with, failed_before, failed_so, hashed_before, hashed_with, unbuilt_before, unbuilt_so, unbuilt_with, unless_so}
+use Rattle.lone_node.proofs.Frees.{AreTold}
 use Rattle.lone_node.proofs.Leaving.{leaves_none, stands_on}
-use Rattle.lone_node.proofs.Steps.{ends_at, goes_on, its_call, no_more_calls, run_none, tree_is, wait_more}
+use Rattle.lone_node.proofs.Steps.{ends_at, goes_on, its_call, no_more_calls, run_none, tells_free, tree_is, wait_more}
 use Rattle.lone_node.proofs.running.take_lines.Given.{Over}
 use Rattle.lone_node.proofs.running.take_lines.Goals as goal
 
@@ -26,6 +27,8 @@ loop-place-init g c =
       number = refl;
       leaves = λ t s. subst (λ (u : Tree). LeavesStanding disk disk c.args.view.now t u s) (sym (tree_is c.args.clients.now c.args.lines.now start 0 c.args.items.now.items run t))
           (leaves_none disk c.args.view.now t s);
+      told = λ t s. refl;
+      untouched = λ nothing. (refl, refl);
       idle = c.requires.idle;
       on = c.requires.on;
       same = record { size = refl; count = refl; tells = refl; fenced = refl };
@@ -37,7 +40,7 @@ pub loop-place-preserved-in_default : goal.loop-place-preserved-in_default
 loop-place-preserved-in_default g c =
     let so = c.loop-place.invariant in
     let start = StandsFor (g.D.SharedDisk.state c.args.disk.now) c.args.view.now in
-    let (run, number) =
+    let (run, number, same) =
     wait_more c.args.clients.now c.args.lines.now start c.loop-place.place c.loop-place.items.items c.loop-place-test.true so.run
     c.loop-place.number c.index-lines-place.result c.index-lines-place.result c.index-lines-place.is c.in_default.not-Call so.number
     in
@@ -45,6 +48,8 @@ loop-place-preserved-in_default g c =
       run = run;
       number = number;
       leaves = so.leaves;
+      told = λ t s. subst (AreTold (g.D.SharedDisk.state c.loop-place.disk) (g.D.SharedDisk.state c.args.disk.now) c.args.view.now t s) (sym same) (so.told t s);
+      untouched = so.untouched;
       idle = so.idle;
       on = so.on;
       same = so.same;
@@ -71,15 +76,18 @@ loop-place-preserved g c =
     let now = g.D.SharedDisk.state c.loop-place.disk in
     let next = g.D.SharedDisk.state c.take_call.new.disk in
     let start = g.D.SharedDisk.state c.args.disk.now in
-    let (run, number, leaves) =
+    let (run, number, leaves, told, untouched) =
     goes_on c.args.clients.now c.args.lines.now start c.args.view.now c.loop-place.place c.loop-place.items.items c.loop-place-test.true so.run c.in-Call.client c.in-Call.call
     c.index-lines-place.result c.index-lines-place.result c.index-clients-client.result c.index-lines-place.is c.in-Call.is c.requires.form
-    c.take_call.new.items.items c.loop-place.number now next c.loop-place.view so.number c.in-Ok.ensures.taken so.system so.leaves
+    c.take_call.new.items.items c.loop-place.number now next (g.D.SharedDisk.list c.loop-place.disk) (g.D.SharedDisk.list c.take_call.new.disk) c.loop-place.view so.number c.in-Ok.ensures.taken so.system so.leaves so.told
+    (g.D.SharedDisk.list c.args.disk.now) so.untouched
     in
     record {
       run = run;
       number = number;
       leaves = leaves;
+      told = told;
+      untouched = untouched;
       idle = c.in-Ok.ensures.idle;
       on = c.in-Ok.ensures.on;
       same = search rules;
@@ -105,6 +113,14 @@ module _ (g : Over) (c : goal.In-Err g) where
   abbrev next : DiskState
   next = g.D.SharedDisk.state c.take_call.new.disk
 
+  -- it left the disk as it was
+  abbrev IsStill : Type 0
+  IsStill = (next ≡ now) × (g.D.SharedDisk.list c.take_call.new.disk ≡ g.D.SharedDisk.list c.loop-place.disk)
+
+  -- nothing has changed before it either
+  nothing_before : HasChangedNothing c.args.clients.now c.take_call.new.items.items → (now ≡ g.D.SharedDisk.state c.args.disk.now) × (g.D.SharedDisk.list c.loop-place.disk ≡ g.D.SharedDisk.list c.args.disk.now)
+  nothing_before nothing = c.loop-place.invariant.untouched (subst (HasChangedNothing c.args.clients.now) c.in-Err.ensures.kept nothing)
+
   at_line : (P : Call → Type 0) → P c.in-Call.call → EndsAt c.loop-place.place P c.args.clients.now c.args.lines.now c.take_call.new.items.items start
   at_line P holds =
       ends_at c.args.clients.now c.args.lines.now start c.loop-place.place c.loop-place.items.items c.loop-place-test.true c.loop-place.invariant.run c.in-Call.client c.in-Call.call
@@ -116,8 +132,12 @@ module _ (g : Over) (c : goal.In-Err g) where
 pub returns-in-Err-clause-stands : goal.returns-in-Err-clause-stands
 returns-in-Err-clause-stands g c =
     unless_so c.in-Err.end
-    (λ (same : next g c ≡ now g c) t s. subst (λ (d : DiskState). LeavesStanding (g.D.SharedDisk.state c.args.disk.now) d c.args.view.now t (tree_of (history_of c.args.clients.now c.take_call.new.items.items) t) s) (sym same) (stood g c t s))
+    (λ (same : IsStill g c) t s. subst (λ (d : DiskState). LeavesStanding (g.D.SharedDisk.state c.args.disk.now) d c.args.view.now t (tree_of (history_of c.args.clients.now c.take_call.new.items.items) t) s) (sym same.0) (stood g c t s))
     c.in-Err.ensures.before
+
+pub returns-in-Err-clause-untouched : goal.returns-in-Err-clause-untouched
+returns-in-Err-clause-untouched g c =
+    unless_so c.in-Err.end (λ (same : IsStill g c) nothing. (same.0 ∙ (nothing_before g c nothing).0, same.1 ∙ (nothing_before g c nothing).1)) c.in-Err.ensures.before
 
 pub returns-in-Err-clause-sound : goal.returns-in-Err-clause-sound
 returns-in-Err-clause-sound g c =
@@ -127,16 +147,16 @@ returns-in-Err-clause-sound g c =
 pub returns-in-Err-clause-hashed : goal.returns-in-Err-clause-hashed
 returns-in-Err-clause-hashed g c =
     hashed_with c.in-Err.end (IsHashedOn (now g c) c.loop-place.view c.in-Call.call) _
-    (λ (same : next g c ≡ now g c) b is. at_call g c (λ call. IsHashedOn (next g c) c.args.view.now call b)
-    (hashed_before (now g c) (next g c) c.args.view.now c.loop-place.view c.in-Call.call b same c.loop-place.invariant.system is))
+    (λ (same : IsStill g c) b is. at_call g c (λ call. IsHashedOn (next g c) c.args.view.now call b)
+    (hashed_before (now g c) (next g c) c.args.view.now c.loop-place.view c.in-Call.call b same.0 c.loop-place.invariant.system is))
     c.in-Err.ensures.before c.in-Err.ensures.hashed
 
 pub returns-in-Err-clause-unbuilt : goal.returns-in-Err-clause-unbuilt
 returns-in-Err-clause-unbuilt g c =
     let P = λ (call : Call). IsUnbuiltOn (next g c) c.args.view.now call in
     unbuilt_with c.in-Err.end (λ place. (place ≡ c.loop-place.place) × IsUnbuiltOn (now g c) c.loop-place.view c.in-Call.call) _
-    (λ (same : next g c ≡ now g c) place is. subst (λ k. EndsAt k P c.args.clients.now c.args.lines.now c.take_call.new.items.items (start g c)) (sym is.0)
-    (at_line g c P (unbuilt_before (now g c) (next g c) c.args.view.now c.loop-place.view c.in-Call.call same c.loop-place.invariant.system is.1)))
+    (λ (same : IsStill g c) place is. subst (λ k. EndsAt k P c.args.clients.now c.args.lines.now c.take_call.new.items.items (start g c)) (sym is.0)
+    (at_line g c P (unbuilt_before (now g c) (next g c) c.args.view.now c.loop-place.view c.in-Call.call same.0 c.loop-place.invariant.system is.1)))
     c.in-Err.ensures.before c.in-Err.ensures.unbuilt
 
 pub returns-in-Err-clause-taken : goal.returns-in-Err-clause-taken
@@ -156,6 +176,7 @@ returns-in-Err-clause-failed g c =
       before = now g c;
       same = c.loop-place.invariant.same;
       idle = c.loop-place.invariant.idle;
+      kept = λ nothing. (nothing_before g c nothing).0;
       stood = stood g c;
       failed = failed_before (now g c) (next g c) c.args.view.now c.loop-place.view c.in-Call.call block c.loop-place.invariant.system is;
     }))
@@ -164,6 +185,16 @@ returns-in-Err-clause-failed g c =
 pub returns-in-Err-clause-damaged : goal.returns-in-Err-clause-damaged
 returns-in-Err-clause-damaged g c =
     damaged_with c.in-Err.end (IsDamagedOn (now g c) c.loop-place.view c.in-Call.call) _
-    (λ (same : next g c ≡ now g c) b rule is. at_call g c (λ call. IsDamagedOn (next g c) c.args.view.now call b rule)
-    (damaged_before (now g c) (next g c) c.args.view.now c.loop-place.view c.in-Call.call b rule same c.loop-place.invariant.system is))
+    (λ (same : IsStill g c) b rule is. at_call g c (λ call. IsDamagedOn (next g c) c.args.view.now call b rule)
+    (damaged_before (now g c) (next g c) c.args.view.now c.loop-place.view c.in-Call.call b rule same.0 c.loop-place.invariant.system is))
     c.in-Err.ensures.before c.in-Err.ensures.damaged
+
+pub returns-in-Err-clause-free : goal.returns-in-Err-clause-free
+returns-in-Err-clause-free g c t s =
+    subst (TellFree (g.D.SharedDisk.state c.args.disk.now) c.args.view.now t s) (sym c.in-Err.ensures.kept)
+    (tells_free c.args.clients.now c.args.lines.now (g.D.SharedDisk.state c.args.disk.now) (now g c) c.args.view.now c.loop-place.place c.loop-place.items.items c.loop-place.invariant.run c.loop-place.invariant.told t s)
+
+pub returns-clause-free : goal.returns-clause-free
+returns-clause-free g c t s =
+    tells_free c.args.clients.now c.args.lines.now (g.D.SharedDisk.state c.args.disk.now) (g.D.SharedDisk.state c.loop-place.disk) c.args.view.now c.loop-place.place c.loop-place.items.items
+    c.loop-place.invariant.run c.loop-place.invariant.told t s
