@@ -1,12 +1,10 @@
 -- How a run of a script goes and ends, by what the image stands for.
-use Rattle.std.proofs.Common.{◌≡◌, ℕ, ◌+◌, ◌^◌, ◌<◌, ◌≤◌, List, [], length, false, Option, Some, None, refl, sym, ap, ◌∙◌, subst, arith}
+use Rattle.std.proofs.Common.{◌≡◌, ℕ, ◌+◌, ◌^◌, ◌<◌, ◌≤◌, List, [], length, Option, Some, None, refl, sym, ap, ◌∙◌, subst, arith}
 use Rattle.std.specs.Prelude.{◌≢◌, IfSome, Result, Ok, Err, IfErr, OnOk}
 use Rattle.fault_counts.specs.Causes.{WentUp}
 use Rattle.file_tree.specs.Tree.{Tree}
 use Rattle.file_tree.specs.declared.call.Call.{Call}
-use Rattle.std.specs.List.{AllByRecursion}
-use Rattle.cluster_history.specs.Changes.{Changes}
-use Rattle.cluster_history.specs.History.{Replied, Legal, NoneLost, alive, tree_of}
+use Rattle.cluster_history.specs.History.{Legal, NoneLost, tree_of}
 use Rattle.image_model.specs.Image.{IsImage, image_of}
 use Rattle.image_mount.specs.Mounted.{MountedValue, IsMounted, StandsAsMounted}
 use Rattle.trace_text.specs.declared.item.TraceItem.{TraceItem}
@@ -24,7 +22,7 @@ use Rattle.script_lang.specs.WellFormed.{IsWellFormed}
 use Rattle.lone_view.specs.Seeing.{Lone, seen_alone}
 use Rattle.lone_node.specs.Answering.{IsDamagedOn, IsHashedOn, IsUnbuiltOn, IsSameDisk}
 use Rattle.lone_node.specs.Ends.{HasCause, IfDamaged, IfDiskFailed, IfHashed, IfNotBuilt, UnlessDiskFailed, UnlessFailed}
-use Rattle.lone_node.specs.Run.{EndsAt, EndsAtCall, IsCallThat, IsFailedOn, IsRunOf, IsRunUpTo, IsTakenBehind, IsWholeRun, NotJoined, Taken, Unmounted}
+use Rattle.lone_node.specs.Run.{EndsAt, EndsAtCall, HasChangedNothing, IsCallThat, IsFailedOn, IsRunOf, IsRunUpTo, IsTakenBehind, IsWholeRun, TellFree, NotJoined, Taken, Unmounted}
 use Rattle.lone_node.specs.Standing.{StandsFor, LeavesStanding}
 use Rattle.lone_node.specs.declared.ends.RunEnd.{RunEnd}
 use Rattle.lone_node.specs.declared.ends.RunEnd.TheVariants as end
@@ -63,7 +61,7 @@ image_of_tree d n t s = record { tells = s.tells; stands = record { owners = s.o
 
 module _ (clients : List Client) (lines : List Line) (items : List TraceItem) (P Q : Tree → Type 0) (from : (t : Tree) → Q t → P t) where
   up_to : (count : ℕ) (items : List TraceItem) → IsRunUpTo clients lines count items P → IsRunUpTo clients lines count items Q
-  up_to count items r = record { answered = r.answered; are = r.are; calls = r.calls; answers = λ t q. r.answers t (from t q); full = λ t q. r.full t (from t q) }
+  up_to count items r = record { answered = r.answered; are = r.are; calls = r.calls; answers = λ t q. r.answers t (from t q); full = r.full }
 
   pub whole_from : IsWholeRun clients lines items P → IsWholeRun clients lines items Q
   whole_from r = record { before = r.before; taken = up_to (length lines) r.before r.taken; are = r.are }
@@ -97,11 +95,12 @@ by_call (line.Join node) f holds = absurd holds
 pub record HasRun (d d' : DiskState) (list list' : Option (List Operation)) (n : Lone) (before now : ℕ → ℕ) (s : ScriptValue) (items : List TraceItem) (r : Result (Unit {0}) RunEnd) : Type 0 where
   pub history : HoldsHistory s items
   pub legal : (t : Tree) → StandsFor d n t → Legal (history_of s.clients items) t
-  pub untouched : UnlessDiskFailed r (AllByRecursion (λ (x : Replied). Changes x ≡ false) (alive (history_of s.clients items)) → (d' ≡ d) × (list' ≡ list))
+  pub untouched : UnlessDiskFailed r (HasChangedNothing s.clients items → (d' ≡ d) × (list' ≡ list))
   pub same : UnlessDiskFailed r (IsSameDisk d d')
   pub idle : UnlessDiskFailed r (IsIdle d')
   pub stands : UnlessDiskFailed r ((t : Tree) (at : StandsFor d n t) → LeavesStanding d d' n t (tree_of (history_of s.clients items) t) at)
   pub run : IsRunOf s.clients s.lines items (StandsFor d n)
+  pub free : (t : Tree) (at : StandsFor d n t) → TellFree d n t at items
   pub whole : OnOk r (IsWholeRun s.clients s.lines items (StandsFor d n))
   pub members : NoneStopped items
   pub none_lost : NoneLost (history_of s.clients items)
@@ -167,8 +166,8 @@ module _ (given left : Inputs) (m : MountedValue) (s : ScriptValue) (items : Lis
         → (t : Tree) → IsImageOf given.disk t → IsImageOf left.disk (tree_of (history_of s.clients items) t)
     left_tree leaves t is = image_of_tree left.disk n (tree_of (history_of s.clients items) t) (leaves t (from t is)).now
 
-    left_same : (AllByRecursion (λ (x : Replied). Changes x ≡ false) (alive (history_of s.clients items)) → (left.disk ≡ given.disk) × (left.disk_list ≡ given.disk_list))
-        → AllByRecursion (λ (x : Replied). Changes x ≡ false) (alive (history_of s.clients items)) → KeepsDisk given left
+    left_same : (HasChangedNothing s.clients items → (left.disk ≡ given.disk) × (left.disk_list ≡ given.disk_list))
+        → HasChangedNothing s.clients items → KeepsDisk given left
     left_same same none = record { state_is = (same none).0; list_is = (same none).1 }
 
     left_clean : ((t : Tree) (at : StandsFor given.disk n t) → LeavesStanding given.disk left.disk n t (tree_of (history_of s.clients items) t) at)
@@ -196,6 +195,7 @@ module _ (given left : Inputs) (m : MountedValue) (s : ScriptValue) (items : Lis
       none_lost = r.none_lost;
       legal = λ tree is. r.legal tree (from tree is);
       stands = left_tree r.stands;
+      free = λ some tree is. record { value = m; mounted = for.mounted is.tells; start = from tree is; free = r.free tree (from tree is) };
       untouched = left_same r.untouched;
       same = r.same;
       idle = r.idle;
@@ -212,6 +212,7 @@ module _ (given left : Inputs) (m : MountedValue) (s : ScriptValue) (items : Lis
       none_lost = r.none_lost;
       legal = λ tree is. r.legal tree (from tree is);
       stands = unless (first_line s) e left_tree r.stands;
+      free = λ some tree is. record { value = m; mounted = for.mounted is.tells; start = from tree is; free = r.free tree (from tree is) };
       untouched = unless (first_line s) e left_same r.untouched;
       same = unless (first_line s) e (λ same. same) r.same;
       idle = unless (first_line s) e (λ idle. idle) r.idle;
@@ -255,6 +256,7 @@ not_begun given left s items own idle none same ends = record {
   none_lost = subst (λ is. NoneLost (history_of s.clients is)) (sym none) none_is_lost;
   legal = λ tree is. subst (λ is. Legal (history_of s.clients is) tree) (sym none) (nothing_is_legal tree);
   stands = anyway own (λ tree is. subst (λ d. IsImageOf d (tree_of (history_of s.clients items) tree)) (sym same.state_is) (subst (λ is. IsImageOf given.disk (tree_of (history_of s.clients is) tree)) (sym none) is));
+  free = λ some. absurd (some none);
   untouched = anyway own (λ all. same);
   same = anyway own (subst (λ d. IsSameDisk given.disk d) (sym same.state_is) (record { size = refl; count = refl; tells = refl; fenced = refl }));
   idle = anyway own (subst IsIdle (sym same.state_is) idle);

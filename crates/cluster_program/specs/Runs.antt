@@ -1,12 +1,10 @@
 -- How a run of a script goes, and how it ends.
-use Rattle.std.specs.Prelude.{ℕ, ◌≡◌, ◌≢◌, ◌+◌, ◌<◌, ⊤, true, false, IfSome, List, [], length, slice_get, Option, Some}
+use Rattle.std.specs.Prelude.{ℕ, ◌≡◌, ◌≢◌, ◌+◌, ◌<◌, ⊤, true, IfSome, List, [], length, slice_get, Option, Some}
 use Rattle.std.specs.FinMap.{empty}
 use Rattle.fault_counts.specs.Causes.{WentUp}
 use Rattle.file_tree.specs.Tree.{Tree}
 use Rattle.file_tree.specs.declared.call.Call.{Call}
-use Rattle.std.specs.List.{AllByRecursion}
-use Rattle.cluster_history.specs.Changes.{Changes}
-use Rattle.cluster_history.specs.History.{Replied, Legal, NoneLost, alive, tree_of}
+use Rattle.cluster_history.specs.History.{Legal, NoneLost, tree_of}
 use Rattle.dinode_tree.specs.Below.{IsBelow}
 use Rattle.image_model.specs.Claims.{every, HasInode}
 use Rattle.image_model.specs.Image.{Image, image_of}
@@ -19,7 +17,8 @@ use Rattle.run_rules.specs.History.{HoldsHistory, NoneStopped, AllAnswered}
 use Rattle.shared_disk.specs.Disk.{DiskState, IsIdle}
 use Rattle.lone_view.specs.Seeing.{Lone}
 use Rattle.lone_node.specs.Answering.{IsDamagedOn, IsHashedOn, IsSameDisk, IsUnbuiltOn}
-use Rattle.lone_node.specs.Run.{EndsAt, EndsAtCall, IsFailedOn, IsRunOf, IsTakenBehind, IsWholeRun}
+use Rattle.lone_node.specs.Run.{EndsAt, EndsAtCall, HasChangedNothing, IsFailedOn, IsRunOf, IsTakenBehind, IsWholeRun, TellFree}
+use Rattle.lone_node.specs.Standing.{StandsFor}
 use Rattle.cluster_program.specs.Mounting.{OfImage, IsImageOf, NeverStands, IsMountedClean, IsMountedFor, MountEnds, is_clean_in}
 use Rattle.cluster_program.specs.World.{Inputs, KeepsDisk}
 use Rattle.cluster_program.specs.declared.status.Status.{Status}
@@ -65,6 +64,13 @@ pub data RunEnds (given left : Inputs) (s : ScriptValue) (items : List TraceItem
       → OfImage left.disk (λ im. IsMounted im m → IsToldOf im rule block) → RunEnds given left s items (status.Damaged block rule)
   NoRoom : RunEnds given left s items status.NoMemory
 
+-- item by item, the numbers of free blocks are those of the image as it then was
+pub record TellsFree (disk : DiskState) (items : List TraceItem) (tree : Tree) : Type 0 where
+  pub value : MountedValue
+  pub mounted : IsMounted (image_of disk) value
+  pub start : StandsFor disk (as_mounted disk value) tree
+  pub free : TellFree disk (as_mounted disk value) tree start items
+
 -- the journals that were mounted are clean in the image as it was left
 pub record AreCleanAtEnd (given left : DiskState) : Type 0 where
   pub value : MountedValue
@@ -86,8 +92,10 @@ pub record Runs (given left : Inputs) (s : ScriptValue) (items : List TraceItem)
   -- where the image stands for a tree: every reply is that of this tree, which takes the calls one by one, and the image stands for what they leave
   pub legal : (tree : Tree) → IsImageOf given.disk tree → Legal (history_of s.clients items) tree
   pub stands : UnlessFault own ((tree : Tree) → IsImageOf given.disk tree → IsImageOf left.disk (tree_of (history_of s.clients items) tree))
+  -- each item of free blocks tells how many the call takes, and how many are free in the image then
+  pub free : items ≢ [] → (tree : Tree) → IsImageOf given.disk tree → TellsFree given.disk items tree
   -- where no answered call changes anything, nothing was written
-  pub untouched : UnlessFault own (AllByRecursion (λ (r : Replied). Changes r ≡ false) (alive (history_of s.clients items)) → KeepsDisk given left)
+  pub untouched : UnlessFault own (HasChangedNothing s.clients items → KeepsDisk given left)
   -- it is the same disk, with nothing in flight
   pub same : UnlessFault own (IsSameDisk given.disk left.disk)
   pub idle : UnlessFault own (IsIdle left.disk)
