@@ -1,8 +1,9 @@
 -- The names of a directory one after another, and their lines.
-use Rattle.std.proofs.Common.{◌≡◌, ℕ, zero, suc, ◌+◌, ◌<◌, ◌≤◌, List, ◌++◌, refl, sym, ap, ◌∙◌, subst, arith, append-nil}
+use Rattle.std.proofs.Common.{◌≡◌, ℕ, zero, suc, ◌+◌, ◌<◌, ◌≤◌, List, ◌++◌, refl, arith}
+use Rattle.file_tree.specs.Apply.{entries_of}
 use Rattle.file_tree.specs.Parts.{entries_from}
-use Rattle.file_tree.specs.Tree.{Tree, Entries, none, entry, count_in, node_count, entry_count}
-use Rattle.show_text.specs.Show.{entry_lines}
+use Rattle.file_tree.specs.Tree.{Tree, Entries, file, dir, none, entry, count_in, node_count, entry_count, IsDir}
+use Rattle.show_text.specs.Show.{dir_line, tree_lines, entry_lines}
 
 -- before the last there is one more
 pub some_left : (es : Entries) (place : ℕ) → place < count_in es → entries_from place es ≡ none → ⊥
@@ -17,14 +18,12 @@ none_left none (suc place) past = refl
 none_left (entry n t es) zero past = absurd (omega arith)
 none_left (entry n t es) (suc place) past = none_left es place (omega arith)
 
--- so all lines stand there
-pub all_there : (text begun : List ℕ) (path : List (List ℕ)) (es : Entries) (place : ℕ) → count_in es ≤ place
-    → text ++ entry_lines path (entries_from place es) ≡ begun ++ entry_lines path es → text ≡ begun ++ entry_lines path es
-all_there text begun path es place past so = sym (append-nil text) ∙ ap (λ (fs : Entries). text ++ entry_lines path fs) (sym (none_left es place past)) ∙ so
+-- a directory is one more than what it names
+pub dir_more : (t : Tree) → IsDir t → node_count t ≡ 1 + entry_count (entries_of t)
+dir_more (file bytes) is = absurd is
+dir_more (dir es) is = refl
 
--- what a name stands for has no more files and directories than all of them
-pub below_less : (es rest : Entries) (place : ℕ) (n : List ℕ) (t : Tree) → entries_from place es ≡ entry n t rest → node_count t ≤ entry_count es
-below_less none rest zero n t e = cc
-below_less none rest (suc place) n t e = cc
-below_less (entry m u es) rest zero n t e = let same : u ≡ t = cc in subst (λ (x : Tree). node_count x ≤ node_count u + entry_count es) same (omega arith)
-below_less (entry m u es) rest (suc place) n t e = omega (arith, below_less es rest place n t e)
+-- its line stands before those
+pub dir_lines : (t : Tree) (path : List (List ℕ)) → IsDir t → tree_lines path t ≡ dir_line path ++ entry_lines path (entries_of t)
+dir_lines (file bytes) path is = absurd is
+dir_lines (dir es) path is = refl
