@@ -1,10 +1,12 @@
 -- How a run of a script goes, and how it ends.
-use Rattle.std.specs.Prelude.{ℕ, ◌≡◌, ◌≢◌, ◌+◌, ◌<◌, ⊤, true, IfSome, List, [], length, slice_get, Option, Some}
+use Rattle.std.specs.Prelude.{ℕ, ◌≡◌, ◌≢◌, ◌+◌, ◌<◌, ⊤, true, false, IfSome, List, [], length, slice_get, Option, Some}
 use Rattle.std.specs.FinMap.{empty}
 use Rattle.fault_counts.specs.Causes.{WentUp}
 use Rattle.file_tree.specs.Tree.{Tree}
 use Rattle.file_tree.specs.declared.call.Call.{Call}
-use Rattle.cluster_history.specs.History.{Legal, NoneLost, tree_of}
+use Rattle.std.specs.List.{AllByRecursion}
+use Rattle.cluster_history.specs.Changes.{Changes}
+use Rattle.cluster_history.specs.History.{Replied, Legal, NoneLost, alive, tree_of}
 use Rattle.dinode_tree.specs.Below.{IsBelow}
 use Rattle.image_model.specs.Claims.{every, HasInode}
 use Rattle.image_model.specs.Image.{Image, image_of}
@@ -14,9 +16,9 @@ use Rattle.trace_text.specs.declared.item.TraceItem.{TraceItem}
 use Rattle.script_lang.specs.Script.{ScriptValue}
 use Rattle.run_rules.specs.Follows.{history_of}
 use Rattle.run_rules.specs.History.{HoldsHistory, NoneStopped, AllAnswered}
-use Rattle.shared_disk.specs.Disk.{DiskState}
+use Rattle.shared_disk.specs.Disk.{DiskState, IsIdle}
 use Rattle.lone_view.specs.Seeing.{Lone}
-use Rattle.lone_node.specs.Answering.{IsDamagedOn, IsHashedOn, IsUnbuiltOn}
+use Rattle.lone_node.specs.Answering.{IsDamagedOn, IsHashedOn, IsSameDisk, IsUnbuiltOn}
 use Rattle.lone_node.specs.Run.{EndsAt, EndsAtCall, IsFailedOn, IsRunOf, IsTakenBehind, IsWholeRun}
 use Rattle.cluster_program.specs.Mounting.{OfImage, IsImageOf, NeverStands, IsMountedClean, IsMountedFor, MountEnds, is_clean_in}
 use Rattle.cluster_program.specs.World.{Inputs, KeepsDisk}
@@ -84,6 +86,11 @@ pub record Runs (given left : Inputs) (s : ScriptValue) (items : List TraceItem)
   -- where the image stands for a tree: every reply is that of this tree, which takes the calls one by one, and the image stands for what they leave
   pub legal : (tree : Tree) → IsImageOf given.disk tree → Legal (history_of s.clients items) tree
   pub stands : UnlessFault own ((tree : Tree) → IsImageOf given.disk tree → IsImageOf left.disk (tree_of (history_of s.clients items) tree))
+  -- where no answered call changes anything, nothing was written
+  pub untouched : UnlessFault own (AllByRecursion (λ (r : Replied). Changes r ≡ false) (alive (history_of s.clients items)) → KeepsDisk given left)
+  -- it is the same disk, with nothing in flight
+  pub same : UnlessFault own (IsSameDisk given.disk left.disk)
+  pub idle : UnlessFault own (IsIdle left.disk)
   -- no item stands before the image was mounted and each of its journals was found clean; where it stands for a tree, they are clean yet
   pub mounted : items ≢ [] → OfImage given.disk IsMountedClean
   pub clean : UnlessFault own (items ≢ [] → (tree : Tree) → IsImageOf given.disk tree → AreCleanAtEnd given.disk left.disk)

@@ -39,7 +39,7 @@ use Rattle.path_walks.specs.declared.walk.Place.{Place}
 use Rattle.path_walks.specs.Walks.{LeadsTo, IsLinearDirectory, IsOnTheWay, IsPlaceOf, IsUnread, IsWrong}
 use Rattle.path_walks.specs.Walks as path
 use Rattle.making_calls.specs.Blocks.{blocks_needed, states_by, free_for, free_in_all, group_of_node, hold_of_group, new_holds}
-use Rattle.making_calls.specs.Drafting.{HasTimes, IsNewInode, IsNextOf}
+use Rattle.making_calls.specs.Drafting.{CountsNumber, GetsRecord, HasTimes, IsNewInode, IsNextOf, kind_for}
 use Rattle.making_calls.specs.Searches.{IsGroupBroken, IsGroupNeeded}
 use Rattle.making_calls.specs.declared.finds.Found.{Found}
 use Rattle.making_calls.specs.declared.finds.Found.TheVariants as found
@@ -184,7 +184,7 @@ abbrev pub entry_in : Image → Owners → ℕ → Entry
 entry_in im o a = record { number = (dinode_at im o a).num.number; addr = a; kind = 4 }
 
 -- The change puts the new inode, byte by byte, into the first free block in the node's order, with this time and with the next number of the
--- block's group.
+-- block's group, which counts it; and the directory gets the name's record and the time.
 pub record IsMade (im : Image) (o : Owners) (l : Layout) (call : Call) (node time : ℕ) (change : Change) : Type 0 where
   pub directory : ℕ
   pub at : IsAt im o l (directory_path call) directory
@@ -197,7 +197,9 @@ pub record IsMade (im : Image) (o : Owners) (l : Layout) (call : Call) (node tim
   pub data_block : IsDataOf group block
   pub number : ℕ
   pub next : IsNextOf im.at group number
+  pub counted : CountsNumber im.at (with_change im change).at group number
   pub is : IsNewInode (makes_directory call) (entry_in im o directory) number block time (alone im.size im.count block ((with_change im change).at block))
+  pub gets : GetsRecord (im.at directory) ((with_change im change).at directory) (name_in call) (record { number = number; addr = block; kind = kind_for (makes_directory call) }) time
 
 -- in the image with the change the dinode of the directory that gets the name has this time
 abbrev pub IsStamped : Image → Owners → Layout → Call → ℕ → Change → Type 0

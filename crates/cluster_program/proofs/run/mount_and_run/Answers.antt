@@ -10,7 +10,7 @@ use Rattle.cluster_program.proofs.run.mount_and_run.Goals as goal
 -- mounting failed
 pub returns-in-Err-clause-runs : goal.returns-in-Err-clause-runs
 returns-in-Err-clause-runs g c left left_now failed failed_now =
-    not_begun _ _ c.args.script.now c.args.items.now.items c.in-Err.own c.requires.none (record { state_is = c.in-Err.ensures.reads.same; list_is = c.in-Err.ensures.reads.list }) c.in-Err.ensures.ends
+    not_begun _ _ c.args.script.now c.args.items.now.items c.in-Err.own c.requires.idle c.requires.none (record { state_is = c.in-Err.ensures.reads.same; list_is = c.in-Err.ensures.reads.list }) c.in-Err.ensures.ends
 
 pub returns-in-Err-clause-quiet : goal.returns-in-Err-clause-quiet
 returns-in-Err-clause-quiet g c told is_done =

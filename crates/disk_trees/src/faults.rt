@@ -32,7 +32,7 @@ impl From<ImageFault> for TreeFault {
 
 impl From<NoMemory> for TreeFault {
     ghost use Rattle.std.specs.Prelude.{◌≡◌};
-    ghost use Rattle.disk_trees.specs.declared.fault.TreeFault.TheVariants.{NoMemory};
+    ghost use Rattle.disk_trees.specs.declared.faults.TreeFault.TheVariants.{NoMemory};
 
     ghost from_gives = { λ _ fault. fault ≡ NoMemory };
 
@@ -43,7 +43,7 @@ impl From<NoMemory> for TreeFault {
 
 impl From<AllocError> for TreeFault {
     ghost use Rattle.std.specs.Prelude.{◌≡◌};
-    ghost use Rattle.disk_trees.specs.declared.fault.TreeFault.TheVariants.{NoMemory};
+    ghost use Rattle.disk_trees.specs.declared.faults.TreeFault.TheVariants.{NoMemory};
 
     ghost from_gives = { λ _ fault. fault ≡ NoMemory };
 
@@ -54,7 +54,7 @@ impl From<AllocError> for TreeFault {
 
 impl<T: Drop> From<AllocFailed<T>> for TreeFault {
     ghost use Rattle.std.specs.Prelude.{◌≡◌};
-    ghost use Rattle.disk_trees.specs.declared.fault.TreeFault.TheVariants.{NoMemory};
+    ghost use Rattle.disk_trees.specs.declared.faults.TreeFault.TheVariants.{NoMemory};
 
     ghost from_gives = { λ _ fault. fault ≡ NoMemory };
 
