@@ -75,8 +75,8 @@ pub record IsDamagedOn (d : DiskState) (n : Lone) (call : Call) (b rule : ℕ) :
   pub later : IsLaterView d n view
   pub damaged : IsDamagedFor d (seen_alone view) call b rule
 
--- The disk failed at the call: in a read of a block that the call needs, and is as it was; or in a write of one of the blocks by which the call, answered from what
--- is seen, changes it, or (no block) in a barrier behind such writes.
+-- The disk failed at the call: in a read of a block that the call needs, and is as it was; or in a write of one of the blocks by which the
+-- call, answered from what is seen, changes it, or (no block) in a barrier behind such writes.
 pub data IsFailedFor (d d' : DiskState) (v : Seen) (call : Call) : Option ℕ → Type 0 where
   in_a_read : (m : Missing) → IsNeededFor v call m → d' ≡ d → IsFailedFor d d' v call (Some m.block)
   in_a_write : (block : Option ℕ) (reply : Reply) (change : Change) → Does v call reply change → IsWriteOf change.blocks.items block

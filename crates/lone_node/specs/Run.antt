@@ -109,8 +109,8 @@ IsTakenBehind clients items IsStart call = (t : Tree) → IsStart t → (apply c
 abbrev pub HasChangedNothing : List Client → List TraceItem → Type 0
 HasChangedNothing clients items = AllByRecursion (λ (r : Replied). Changes r ≡ false) (alive (history_of clients items))
 
--- The disk failed at a call, behind these items: before it the disk was at rest, and where it stood for a tree at the start, it stood then for the tree
--- that they leave; and it was as at the start where they change nothing.
+-- The disk failed at a call, behind these items: before it the disk was at rest, and where it stood for a tree at the start, it stood then
+-- for the tree that they leave; and it was as at the start where they change nothing.
 pub record IsFailedOn (d d' : DiskState) (n : Lone) (clients : List Client) (items : List TraceItem) (call : Call) (block : Option ℕ) : Type 0 where
   pub before : DiskState
   pub same : IsSameDisk d before

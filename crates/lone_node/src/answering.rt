@@ -132,9 +132,10 @@ fn try_once<D: SharedDisk>(
     }
 }
 
-/// Answers the call of this line on a disk at rest, as node 1, which holds every lock. What the call needs is read block by block, each
-/// once; what it changes is in the view and on the disk when it is answered, and where it changes nothing, nothing is written. Where the run ends here and no write or barrier failed, the
-/// disk is as it was. It costs a read for each block that the view hasn't, a try of the call for each of these and one more, and the writes.
+/// Answers the call of this line on a disk at rest, as node 1, which holds every lock. What the call needs is read block by block,
+/// each once; what it changes is in the view and on the disk when it is answered, and where it changes nothing, nothing is written.
+/// Where the run ends here and no write or barrier failed, the disk is as it was. It costs a read for each block that the view
+/// hasn't, a try of the call for each of these and one more, and the writes.
 pub(crate) fn answer_call<D: SharedDisk>(
     alloc: Global,
     disk: &mut D,

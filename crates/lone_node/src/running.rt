@@ -225,11 +225,11 @@ fn run_lines<D: SharedDisk>(
     }
 }
 
-/// Runs a script that one node can run, on a disk at rest that it has mounted: node 1 joins, takes the lines in order, and unmounts. A
-/// call is answered as the call of the next number, from 1 on over all clients, and what it changes is on the disk when it is answered;
-/// a wait passes. Where no call changes anything, nothing is written. `time` is the time of each change, in seconds. The items go behind `items`, which is empty. Where the run ends before
-/// the script, the items so far stay, and the disk holds what their calls left, unless it failed. It costs what the calls cost, and
-/// memory for the items.
+/// Runs a script that one node can run, on a disk at rest that it has mounted: node 1 joins, takes the lines in order, and
+/// unmounts. A call is answered as the call of the next number, from 1 on over all clients, and what it changes is on the disk when
+/// it is answered; a wait passes. Where no call changes anything, nothing is written. `time` is the time of each change, in
+/// seconds. The items go behind `items`, which is empty. Where the run ends before the script, the items so far stay, and the disk
+/// holds what their calls left, unless it failed. It costs what the calls cost, and memory for the items.
 pub fn run_script<D: SharedDisk>(
     alloc: Global,
     disk: &mut D,
