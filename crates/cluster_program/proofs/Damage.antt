@@ -22,22 +22,19 @@ told_so v im rule b inside (by_inode a c has below breaks) = runs.by_inode a c h
 
 -- the root stays in its group, as the view grows
 inside_yet : (n v : Lone) → v.root ≡ n.root → v.groups ≡ n.groups → HasRootInside (seen_alone n) → HasRootInside (seen_alone v)
-inside_yet n v root groups inside = (inside.0, (subst (λ (gs : List Group). Contains gs inside.0) (sym groups) inside.1, subst (IsDataOf inside.0) (sym root) inside.2))
+inside_yet n v root groups inside = (inside.0, subst (λ (gs : List Group). Contains gs inside.0) (sym groups) inside.1, subst (IsDataOf inside.0) (sym root) inside.2)
 
 pub told : (calls : CallsTell) (needs : NeedsTell) (read : MountedAreRead) (given left : DiskState) (m : MountedValue) (call : Call) (b rule : ℕ) → OfImage left IsImage
     → HasRootInside (seen_alone (as_mounted given m)) → IsDamagedOn left (as_mounted given m) call b rule → OfImage left (λ im. IsMounted im m → IsToldOf im rule b)
 told calls needs read given left m call b rule image inside damaged tells mounted = by_view b rule damaged.damaged
   where
-    abbrev v : Lone
-    v = damaged.view
-
-    of_mounted : IsOfMounted (seen_alone v) (image_of left) m
+    of_mounted : IsOfMounted (seen_alone damaged.view) (image_of left) m
     of_mounted = record { size = sym damaged.later.on.size; root = sym damaged.later.same.root; groups = sym damaged.later.same.groups; agrees = damaged.later.on.agrees tells }
 
-    from : IsReadFrom (seen_alone v) (image_of left) × HasWholeGroups (seen_alone v) (image_of left)
-    from = read (seen_alone v) (image_of left) m (image tells) mounted of_mounted
+    from : IsReadFrom (seen_alone damaged.view) (image_of left) × HasWholeGroups (seen_alone damaged.view) (image_of left)
+    from = read (seen_alone damaged.view) (image_of left) m (image tells) mounted of_mounted
 
-    by_view : (b rule : ℕ) → IsDamagedFor left (seen_alone v) call b rule → IsToldOf (image_of left) rule b
+    by_view : (b rule : ℕ) → IsDamagedFor left (seen_alone damaged.view) call b rule → IsToldOf (image_of left) rule b
     by_view _ _ (as_shown b rule has damage) =
-        told_so v (image_of left) rule b (inside_yet (as_mounted given m) v damaged.later.same.root damaged.later.same.groups inside) (calls (seen_alone v) (image_of left) call rule b from.0 from.1 damage)
-    by_view _ _ (leads_out m needed out) = runs.itself 2 (source_of left.size m) (needs (seen_alone v) (image_of left) call m from.0 from.1 needed out)
+        told_so damaged.view (image_of left) rule b (inside_yet (as_mounted given m) damaged.view damaged.later.same.root damaged.later.same.groups inside) (calls (seen_alone damaged.view) (image_of left) call rule b from.0 from.1 damage)
+    by_view _ _ (leads_out m needed out) = runs.itself 2 (source_of left.size m) (needs (seen_alone damaged.view) (image_of left) call m from.0 from.1 needed out)

@@ -1,6 +1,8 @@
 -- How a mount that failed ends a command, and what one that went well gives.
-use Rattle.std.proofs.Common.{◌≡◌, ℕ, ◌≤◌, Some, None, length, inl, inr, refl, ap, ◌∙◌, subst, arith}
+use Rattle.std.proofs.Common.{◌≡◌, ℕ, ◌≤◌, Some, None, length, inl, inr, List, refl, sym, ap, ◌∙◌, subst, arith}
 use Rattle.std.specs.Prelude.{IsTrue}
+use Rattle.std.specs.FinMap.{empty, get, get-empty}
+use Rattle.std.specs.Ordering.{nat_cmp}
 use Rattle.std.proofs.lemmas.List.{length-map}
 use Rattle.gfs2_layout.specs.Device.{IsBlockSize, superblock_place}
 use Rattle.glock_names.specs.Views.{group_of_entry}
@@ -40,13 +42,16 @@ mount_end d first now fault.NoMemory law right excused risen = LacksRoom
 pub image_there : (d : DiskState) → IsSound d → IsBlockSize d.size → OfImage d IsImage
 image_there d sound four tells = record { block_size = four; whole = sound.sizes tells }
 
+nothing_kept : (b : ℕ) (bytes : List ℕ) → get (empty {K = ℕ} {X = List ℕ} {R = nat_cmp}) b ≡ Some bytes → ⊥
+nothing_kept b bytes has = let never : None ≡ Some bytes = sym (get-empty {K = ℕ} {X = List ℕ} nat_cmp b) ∙ has in cc
+
 pub is_on : (d : DiskState) (m : MountedValue) → AreGroupsOn d.size d.count m.groups → IsOn d (as_mounted d m)
 is_on d m on = record {
   size = refl;
   some = on.some;
   groups = on.inside;
-  inside = λ b bytes has. let never : None ≡ Some bytes = has in cc;
-  agrees = λ tells b bytes has. let never : None ≡ Some bytes = has in cc;
+  inside = λ b bytes has. absurd (nothing_kept b bytes has);
+  agrees = λ tells b bytes has. absurd (nothing_kept b bytes has);
 }
 
 -- it may be read from the image, of which it has the groups, and no block
@@ -55,7 +60,7 @@ of_mounted d m = record {
   size = refl;
   root = refl;
   groups = refl;
-  agrees = λ b bytes has. let never : None ≡ Some bytes = has in cc;
+  agrees = λ b bytes has. absurd (nothing_kept b bytes has);
 }
 
 some_groups : (d : DiskState) (m : MountedValue) → IsMounted (image_of d) m → 1 ≤ length m.groups
@@ -82,7 +87,7 @@ module _ (d : DiskState) (m : MountedValue) (law : NothingBreaks) (is : OfImage 
           let from = (read (seen_alone (as_mounted d m)) (image_of d) m (is tells) (for.mounted tells) (of_mounted d m)).0 in
           let address : (superblock_in (image_of d)).root.address ≡ m.superblock.root.address = from.root in
           beyond_groups (superblock_place d.size) m.superblock.root.address Root (subst (λ a. Claims (image_of d) (superblock_place d.size) a Root) address root)
-          (λ g has inside. stray (group_of_entry g, ((from.groups (group_of_entry g)).from (g, (has, refl)), inside)))
+          (λ g has inside. stray (group_of_entry g, (from.groups (group_of_entry g)).1 (g, has, refl), record { low = inside.low; high = inside.high }))
 
       told : OfImage d (λ im. RefusesRightly im (fault.Damaged (superblock_place d.size) 2))
       told tells =

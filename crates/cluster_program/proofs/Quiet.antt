@@ -65,19 +65,19 @@ module _ (clients : List Client) (end : List TraceItem) (is : IsEnd end) where
 
   lost_rest : (others : List Client) (n : ℕ) (calls : List AnsweredCall) → lost_count (history_of others (items_from clients n calls ++ end)) ≡ 0
   lost_rest others n [] = elim is [ inl none ↦ ap (λ (l : List TraceItem). lost_count (history_of others l)) none | inr one ↦ ap (λ (l : List TraceItem). lost_count (history_of others l)) one ]
-  lost_rest others n (a ∷ as') = by_full a.full
+  lost_rest others n (a ∷ as') = by_full a.full (lost_rest others (n + 1) as')
     where
-      by_full : (full : Option Full) → lost_count (history_of others (from_call full n a as')) ≡ 0
-      by_full None = rw (drops_rest others 1 n (n + 1) as') (ap (λ (k : ℕ). 0 + k) (lost_rest others (n + 1) as'))
-      by_full (Some f) = rw (drops_rest others 1 n (n + 1) as') (ap (λ (k : ℕ). 0 + k) (lost_rest others (n + 1) as'))
+      by_full : (full : Option Full) → lost_count (history_of others (items_from clients (n + 1) as' ++ end)) ≡ 0 → lost_count (history_of others (from_call full n a as')) ≡ 0
+      by_full None rest = rw (drops_rest others 1 n (n + 1) as') (ap (λ (k : ℕ). 0 + k) rest)
+      by_full (Some f) rest = rw (drops_rest others 1 n (n + 1) as') (ap (λ (k : ℕ). 0 + k) rest)
 
   uses_rest : (s : ScriptValue) (items : List TraceItem) (p n : ℕ) (calls : List AnsweredCall) → uses_from s items p (items_from clients n calls ++ end) [] ≡ []
   uses_rest s items p n [] = elim is [ inl none ↦ ap (λ (l : List TraceItem). uses_from s items p l []) none | inr one ↦ ap (λ (l : List TraceItem). uses_from s items p l []) one ]
-  uses_rest s items p n (a ∷ as') = by_full a.full
+  uses_rest s items p n (a ∷ as') = by_full a.full (λ q. uses_rest s items q (n + 1) as')
     where
-      by_full : (full : Option Full) → uses_from s items p (from_call full n a as') [] ≡ []
-      by_full None = uses_rest s items (suc p) (n + 1) as'
-      by_full (Some f) = uses_rest s items (suc (suc p)) (n + 1) as'
+      by_full : (full : Option Full) → ((q : ℕ) → uses_from s items q (items_from clients (n + 1) as' ++ end) [] ≡ []) → uses_from s items p (from_call full n a as') [] ≡ []
+      by_full None rest = rest (suc p)
+      by_full (Some f) rest = rest (suc (suc p))
 
 -- no line orders the first join, which is one of the start
 no_order : (s : ScriptValue) (x : Line) → s.nodes ≡ 1 → orders s 0 (trace.Join 1) x ≡ false

@@ -35,7 +35,8 @@ use Rattle.cluster_program.specs.declared.status.Status.{Status}
 use Rattle.cluster_program.specs.declared.status.Status.TheVariants as status
 use Rattle.cluster_program.proofs.Damage.{told}
 use Rattle.cluster_program.proofs.Heads.{below_end, clean_yet}
-use Rattle.cluster_program.proofs.Mounts.{image_there}
+use Rattle.cluster_program.specs.Report.{IsSinkFault}
+use Rattle.cluster_program.proofs.Mounts.{image_there, no_mount_fault}
 
 -- a count went up within a longer time too
 pub longer : (first before now x y : ℕ) → first ≤ before → WentUp before now x y → WentUp first now x y
@@ -276,3 +277,12 @@ never_done first (end.Damaged block rule) is = cc
 never_done first (end.Hashed block) is = cc
 never_done first (end.NotBuilt place) is = cc
 never_done first end.NoMemory is = cc
+
+pub no_run_fault : (given left : Inputs) (s : ScriptValue) (items : List TraceItem) (own : Status) → RunEnds given left s items own → IsSinkFault own → ⊥
+no_run_fault given left s items own (IsDone all whole) never = never
+no_run_fault given left s items own (NotMounted own' none same ends) never = no_mount_fault given.disk given.disk_faults left.disk_faults own ends never
+no_run_fault given left s items own (CallFailed m block x y for up within at) never = never
+no_run_fault given left s items own (CallHashed m block for at) never = never
+no_run_fault given left s items own (CallUnbuilt m place for at taken) never = never
+no_run_fault given left s items own (CallDamaged m block rule for none at told) never = never
+no_run_fault given left s items own NoRoom never = never
