@@ -48,6 +48,6 @@ module _ (d : DiskState) (first before now : ℕ → ℕ) (m : MountedValue) (fo
 pub no_sink_fault : (d : DiskState) (first now : ℕ → ℕ) (lines : List ℕ) (own : Status) → Shows d first now lines own → IsSinkFault own → ⊥
 no_sink_fault d first now lines own (HasShown m t lines' mounted is are) = λ never. never
 no_sink_fault d first now lines own (ShowsNone own' ends) = no_mount_fault d first now own ends
-no_sink_fault d first now lines own (TreeFailed block x y clean up within) = λ never. never
-no_sink_fault d first now lines own (TreeDamaged block rule clean never breaks) = λ never. never
+no_sink_fault d first now lines own (TreeFailed block x y mounted up within) = λ never. never
+no_sink_fault d first now lines own (TreeDamaged block rule mounted never breaks) = λ never. never
 no_sink_fault d first now lines own NothingHeld = λ never. never

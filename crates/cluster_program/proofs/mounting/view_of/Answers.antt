@@ -1,4 +1,4 @@
-use Rattle.std.proofs.Common.{◌≡◌, ℕ, List, true, false, sym, ap, ◌∙◌, subst}
+use Rattle.std.proofs.Common.{◌≡◌, ℕ, List, true, false, rules, sym, ap, ◌∙◌, subst}
 use Rattle.std.specs.Prelude.{IsTrue, Bool}
 use Rattle.gfs2_layout.specs.Device.{superblock_place}
 use Rattle.glock_names.specs.declared.views.Group.{Group}
@@ -26,15 +26,7 @@ not_on_disk d size count gs hs one two three odd on =
     odd (subst (λ n. AreGroupsOn n count gs) (sym one) (subst (λ n. AreGroupsOn d.size n gs) (sym two) (subst (AreGroupsOn d.size d.count) (sym three) on)))
 
 never : (b : Bool) {A : Type 0} → b ≡ false → (A → IsTrue b) → ¬ A
-never b {A} is to a = by_test b is (to a)
-  where
-    by_test : (b : Bool) → b ≡ false → IsTrue b → ⊥
-    by_test true e t = cc
-    by_test false e t = absurd t
-
-is_true : (b : Bool) → b ≡ true → IsTrue b
-is_true true e = tt
-is_true false e = cc
+never b {A} is to a = let t : b ≡ true = to a in cc
 
 pub returns-then-not-are_groups-clause-ends : goal.returns-then-not-are_groups-clause-ends
 returns-then-not-are_groups-clause-ends g c first now =
@@ -53,7 +45,7 @@ pub returns-in-Some-clause-on : goal.returns-in-Some-clause-on
 returns-in-Some-clause-on g c =
     let d = g.D.SharedDisk.state c.args.disk.now in
     let groups = c.deref.ensures.value ∙ ap (λ (m : MountedValue). m.groups) c.mounted.view_is in
-    let on = on_disk d c.block_size-size.result c.blocks-2.result c.deref.result.now c.args.mounted.groups c.block_size-size.ensures c.blocks-2.ensures.value groups (c.are_groups.ensures.0 (is_true c.are_groups.result c.if-not-are_groups.false)) in
+    let on = on_disk d c.block_size-size.result c.blocks-2.result c.deref.result.now c.args.mounted.groups c.block_size-size.ensures c.blocks-2.ensures.value groups (c.are_groups.ensures.0 c.if-not-are_groups.false) in
     subst (IsOn d) (sym (is g c)) (is_on d c.args.mounted on)
 
 pub returns-in-Some-clause-image : goal.returns-in-Some-clause-image

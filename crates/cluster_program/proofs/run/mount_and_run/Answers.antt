@@ -31,7 +31,7 @@ returns-in-Err-clause-quiet g c told is_done =
 
 -- ---- there are no groups to work with, or no root in them
 
-module _ (g : Over) (c : goal.After-in-Err-view_of g) where
+module _ (g : Over) (c : goal.In-Err-view_of g) where
   ends : MountEnds (g.D.SharedDisk.state c.args.disk.now) (g.D.SharedDisk.faults c.args.disk.now) (g.D.SharedDisk.faults c.mount_clean.new.disk) c.in-Err-view_of.own
   ends = subst (λ (d : DiskState). MountEnds d (g.D.SharedDisk.faults c.args.disk.now) (g.D.SharedDisk.faults c.mount_clean.new.disk) c.in-Err-view_of.own) c.in-Ok.ensures.reads.same (c.in-Err-view_of.ensures.ends _ _)
 

@@ -1,6 +1,7 @@
-use Rattle.std.proofs.Common.{◌≡◌, [], ◌++◌, map, sym, ap, ◌∙◌, subst}
+use Rattle.std.proofs.Common.{◌≡◌, [], ◌++◌, map, rules, sym, ap, ◌∙◌, subst}
 use Rattle.std.specs.Prelude.{Ok, Err}
 use Rattle.image_mount.specs.Mounted.{Journal, MountedValue}
+use Rattle.show_text.specs.Show.{tree_lines}
 use Rattle.cluster_program.specs.Course.{Shows, ShowsNone, NothingHeld}
 use Rattle.cluster_program.proofs.Shows.{of_disk, tree_end, all_shown}
 use Rattle.cluster_program.proofs.show.show_image.Goals as goal
@@ -29,8 +30,9 @@ returns-in-Ok-append_tree-clause-shows g c =
     let now = g.D.SharedDisk.faults c.read_disk_tree.new.disk in
     let read = of_disk d mid before now (Ok c.in-Ok-read_disk_tree.tree) c.in-Ok.ensures.reads.same (record { stands = c.in-Ok-read_disk_tree.ensures.stands; damaged = tt; cause = tt }) in
     let clean = ap (map (λ (j : Journal). j.head.clean)) (c.deref.ensures.value ∙ ap (λ (m : MountedValue). m.journals) c.mounted.view_is) in
+    let lines : c.append_tree.new.text.items ≡ c.append_journals.new.text.items ++ tree_lines [] c.in-Ok-read_disk_tree.tree = search rules in
     all_shown d (g.D.SharedDisk.faults c.args.disk.now) before now c.in-Ok.mounted c.in-Ok.ensures.mounted c.in-Ok.ensures.reads.later c.in-Ok-read_disk_tree.tree c.new-lines.result.items _ _ _ read clean c.new-lines.ensures.items
-    c.in-Ok-append_journals.ensures ?
+    c.in-Ok-append_journals.ensures lines
 
 pub returns-clause-shows : goal.returns-clause-shows
 returns-clause-shows g c = NothingHeld
