@@ -15,7 +15,7 @@ use Rattle.linear_dirs.specs.Shown.{IsLinearIn, HasNameIn}
 use Rattle.linear_dirs.proofs.Looked.{bytes_of, dinode_there}
 use Rattle.resource_groups.specs.Putting.{HasDataBlock}
 use Rattle.image_model.specs.Flat.{Path}
-use Rattle.image_model.proofs.Held.{none_some, some_same}
+use Rattle.image_model.proofs.Held.{none_some}
 use Rattle.image_changes.proofs.FlatPaths.{last_name}
 use Rattle.path_walks.specs.Walks.{LeadsTo, at_root, by_name, Names, IsLinearDirectory, IsSeenAt}
 use Rattle.path_walks.specs.declared.walk.Place.{Place}

@@ -95,8 +95,9 @@ IsLastOf path name = (front : Path) × (path ≡ front ++ name ∷ [])
 
 -- ---- as far as the view shows
 
--- the path leads to this inode, and the call takes it away
+-- the path leads to this inode, which isn't the root, and the call takes it away
 pub record IsTakenAt (v : Seen) (call : Call) (a : ℕ) : Type 0 where
+  pub below : path_of call false ≢ []
   pub leads : LeadsTo v (wanted call) (path_of call false) a
   pub there : HasBlock v a
   pub aim : (h : Holding) → IsShown v a h → IsAimOf call h aim.Taken
