@@ -368,20 +368,18 @@ def new_image(random, folder):
     size, name = random.choice((512, 1024, 2048, 4096)), os.path.join(folder, "image")
     journals, groups = random.randint(1, 3), random.choice((1, 1, 2, 5))
     words = ["mkfs", "--bsize", str(size), "--journals", str(journals), "--journal-blocks", "512", "--groups", str(groups)]
-    blocks = 65536 // size + 600 * journals
+    blocks, more = 65536 // size + 512, random.choice((0, 1, 4, 30, 300))
     while True:
         with open(name, "wb") as file:
             file.truncate(size * blocks)
         ended = subprocess.run([PROGRAM, name, os.path.join(folder, "trace"), *words], stdin=subprocess.DEVNULL, stdout=subprocess.PIPE)
-        if ended.returncode == 0:
+        if ended.returncode == 0 and more == 0:
             break
-        blocks += 16
-    more = random.choice((1, 4, 30, 300))
-    with open(name, "wb") as file:
-        file.truncate(size * (blocks + more))
-    subprocess.run([PROGRAM, name, os.path.join(folder, "trace"), *words], stdin=subprocess.DEVNULL, stdout=subprocess.DEVNULL, check=True)
+        # A device that is too small is told how many blocks are needed.
+        needed = blocks if ended.returncode == 0 else int(ended.stdout.split()[3])
+        blocks, more = (needed + more, 0) if ended.returncode == 0 else (needed, more)
     with open(name, "rb") as file:
-        return file.read(), "%d blocks of %d bytes, %d groups" % (blocks + more, size, groups)
+        return file.read(), "%d blocks of %d bytes, %d groups" % (blocks, size, groups)
 
 
 def some_name(random):
@@ -423,15 +421,15 @@ def some_script(random, disk):
         try:
             reply = disk.answer(call)[0]
         except NotBuilt:
-            if random.randrange(60):
+            if random.randrange(20):
                 continue
             lines.append("p: " + call)
             break
         word, path = (call.split(" ") + [""])[:2]
         if reply == "ok" and word in ("create", "mkdir"):
-            paths.append(path)
+            paths += [path] * (4 if word == "mkdir" else 1)
         elif reply == "ok" and word in ("unlink", "rmdir"):
-            paths.remove(path)
+            paths = [it for it in paths if it != path]
         lines.append("%s: %s" % (random.choice("pq"), call))
         if random.randrange(20) == 0:
             lines.append("wait")
