@@ -147,6 +147,8 @@ class Disk:
         while place < self.size:
             at = directory * self.size + place
             length = self.word(at + 20, 2)
+            if length < 40:
+                raise ValueError("a record of %d bytes" % length)
             yield place, self.word(at, 8) != 0 and self.word(at + 8, 8) != 0, length
             place += length
 
