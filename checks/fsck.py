@@ -8,11 +8,13 @@ master directory and `jindex` get the flag of system files. No other block of th
 each copy.
 
 `--scripts COUNT` makes random scripts by number, from 1 on, and runs each on a new image, at four sizes of a block, with one
-group and with several: each reply is to be that of a plain tree, each image is judged, and so is what `show` prints of it.
+group and with several, with few free blocks and with many: status, output, trace, what `show` prints and every byte of the image
+are to be those of the plain calls of checks/plain_calls.py, and each image is judged.
 PROGRAM may name another program than crates/gfs2run/out/gfs2run.
 
-`fsck.gfs2` is in Debian's package gfs2-utils (`apt-get install gfs2-utils`). Where it is missing this says so, and ends with
-status 0. It ends with status 1 where an image is refused.
+`fsck.gfs2` is in Debian's package gfs2-utils (`apt-get install gfs2-utils`). Where it is missing this says so, judges no image, and
+ends with status 0; the replies and images of random scripts are compared all the same. It ends with status 1 where an image is
+refused or a script differs.
 """
 import os
 import shutil
@@ -34,6 +36,8 @@ FSCK = shutil.which("fsck.gfs2", path=os.environ.get("PATH", "") + ":/usr/sbin:/
 SPARE = 1 << 20
 PROGRESS = ("Initializing fsck", "Validating resource group index.", "Level 1 resource group check", "(level 1 passed)", "Starting ",
             "Reconciling bitmaps.", "fsck.gfs2 complete")
+
+MISSING = "no image is judged: fsck.gfs2 is not here (package gfs2-utils)"
 
 MAGIC = 0x01161970
 DINODE, DATA = 3, 1
@@ -479,7 +483,8 @@ def tried(number, folder):
     ended = subprocess.run([PROGRAM, *names, "show"], stdin=subprocess.DEVNULL, stdout=subprocess.PIPE)
     if ended.stdout.decode() != shown(disk, len(Copy(left).journals)):
         told.append("what is shown is another: %.300r" % ended.stdout)
-    told += ["fsck.gfs2: " + it for it in judged(left)]
+    if FSCK:
+        told += ["fsck.gfs2: " + it for it in judged(left)]
     return told, "%s, %d lines, status %d" % (kind, script.count("\n"), status)
 
 
@@ -491,16 +496,16 @@ def try_scripts(count):
             bad += bool(told)
             for line in told:
                 print("script %d (%s): %s" % (number, kind, line))
-    print("%d random scripts, %d differ" % (count, bad))
+    print("checks/fsck.py: %d random scripts, %d differ; %s" % (count, bad, "their images are judged by fsck.gfs2" if FSCK else MISSING))
     return 1 if bad else 0
 
 
 def main(words):
-    if not FSCK:
-        print("checks/fsck.py: skipped, no fsck.gfs2 here (package gfs2-utils)")
-        return 0
     if words[:1] == ["--scripts"]:
         return try_scripts(int(words[1]))
+    if not FSCK:
+        print("checks/fsck.py: skipped, " + MISSING)
+        return 0
     bad = 0
     for name in words:
         with open(name, "rb") as file:
