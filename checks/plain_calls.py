@@ -110,6 +110,7 @@ class Disk:
         self.put(group, 28, self.field(group, 28, 4) + free, 4)
         self.put(group, 32, self.field(group, 32, 4) + dinodes, 4)
         self.put(group, 40, self.field(group, 40, 8) + made, 8)
+        self.put(group, 20, 0, 4)
         self.put(group, 64, 0, 4)
         at = group * self.size
         self.put(group, 64, crc32(self.data[at:at + 128]), 4)
@@ -189,6 +190,7 @@ class Disk:
         return self.field(inode, 40, 4) >> 12 & 15 == 4
 
     def stamp(self, inode):
+        self.put(inode, 20, 0, 4)
         self.put(inode, 80, self.time, 8)
         self.put(inode, 88, self.time, 8)
 
