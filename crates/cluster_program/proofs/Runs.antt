@@ -15,14 +15,14 @@ use Rattle.script_lang.specs.declared.script.Line.TheVariants as line
 use Rattle.run_rules.specs.Follows.{history_of}
 use Rattle.run_rules.specs.History.{HoldsHistory, NoneStopped, AllAnswered}
 use Rattle.run_rules.proofs.Nothing.{nothing_follows, nothing_is_legal}
-use Rattle.shared_disk.specs.Disk.{DiskState, IsSound}
+use Rattle.shared_disk.specs.Disk.{DiskState, IsIdle, IsSound, Operation}
 use Rattle.gfs2_layout.specs.Device.{IsBlockSize}
 use Rattle.image_model.specs.Stands.{IsLaid}
 use Rattle.script_lang.specs.WellFormed.{IsWellFormed}
 use Rattle.lone_view.specs.Seeing.{Lone, seen_alone}
 use Rattle.lone_node.specs.Answering.{IsDamagedOn, IsHashedOn, IsUnbuiltOn, IsSameDisk}
 use Rattle.lone_node.specs.Ends.{HasCause, IfDamaged, IfDiskFailed, IfHashed, IfNotBuilt, UnlessDiskFailed, UnlessFailed}
-use Rattle.lone_node.specs.Run.{EndsAt, EndsAtCall, IsCallThat, IsFailedOn, IsRunOf, IsRunUpTo, IsTakenBehind, IsWholeRun, NotJoined, Taken, Unmounted}
+use Rattle.lone_node.specs.Run.{EndsAt, EndsAtCall, HasChangedNothing, IsCallThat, IsFailedOn, IsRunOf, IsRunUpTo, IsTakenBehind, IsWholeRun, TellFree, NotJoined, Taken, Unmounted}
 use Rattle.lone_node.specs.Standing.{StandsFor, LeavesStanding}
 use Rattle.lone_node.specs.declared.ends.RunEnd.{RunEnd}
 use Rattle.lone_node.specs.declared.ends.RunEnd.TheVariants as end
@@ -61,7 +61,7 @@ image_of_tree d n t s = record { tells = s.tells; stands = record { owners = s.o
 
 module _ (clients : List Client) (lines : List Line) (items : List TraceItem) (P Q : Tree → Type 0) (from : (t : Tree) → Q t → P t) where
   up_to : (count : ℕ) (items : List TraceItem) → IsRunUpTo clients lines count items P → IsRunUpTo clients lines count items Q
-  up_to count items r = record { answered = r.answered; are = r.are; calls = r.calls; answers = λ t q. r.answers t (from t q); full = λ t q. r.full t (from t q) }
+  up_to count items r = record { answered = r.answered; are = r.are; calls = r.calls; answers = λ t q. r.answers t (from t q); full = r.full }
 
   pub whole_from : IsWholeRun clients lines items P → IsWholeRun clients lines items Q
   whole_from r = record { before = r.before; taken = up_to (length lines) r.before r.taken; are = r.are }
@@ -92,11 +92,15 @@ by_call (line.Join node) f holds = absurd holds
 
 -- ---- what one node's run is known to be
 
-pub record HasRun (d d' : DiskState) (n : Lone) (before now : ℕ → ℕ) (s : ScriptValue) (items : List TraceItem) (r : Result (Unit {0}) RunEnd) : Type 0 where
+pub record HasRun (d d' : DiskState) (list list' : Option (List Operation)) (n : Lone) (before now : ℕ → ℕ) (s : ScriptValue) (items : List TraceItem) (r : Result (Unit {0}) RunEnd) : Type 0 where
   pub history : HoldsHistory s items
   pub legal : (t : Tree) → StandsFor d n t → Legal (history_of s.clients items) t
+  pub untouched : UnlessDiskFailed r (HasChangedNothing s.clients items → (d' ≡ d) × (list' ≡ list))
+  pub same : UnlessDiskFailed r (IsSameDisk d d')
+  pub idle : UnlessDiskFailed r (IsIdle d')
   pub stands : UnlessDiskFailed r ((t : Tree) (at : StandsFor d n t) → LeavesStanding d d' n t (tree_of (history_of s.clients items) t) at)
   pub run : IsRunOf s.clients s.lines items (StandsFor d n)
+  pub free : (t : Tree) (at : StandsFor d n t) → TellFree d n t at items
   pub whole : OnOk r (IsWholeRun s.clients s.lines items (StandsFor d n))
   pub members : NoneStopped items
   pub none_lost : NoneLost (history_of s.clients items)
@@ -142,7 +146,7 @@ module _ (given left : Inputs) (m : MountedValue) (s : ScriptValue) (items : Lis
 
   -- an end in a call
   module _ (calls : CallsTell) (needs : NeedsTell) (read : MountedAreRead) (inside : HasRootInside (seen_alone n)) where
-    call_end : (e : RunEnd) → UnlessFailed e (OfImage left.disk IsImage) → HasRun given.disk left.disk n before left.disk_faults s items (Err e) → RunEnds given left s items (status_of_end (first_line s) e)
+    call_end : (e : RunEnd) → UnlessFailed e (OfImage left.disk IsImage) → HasRun given.disk left.disk given.disk_list left.disk_list n before left.disk_faults s items (Err e) → RunEnds given left s items (status_of_end (first_line s) e)
     call_end (end.DiskFailed block rise) image r =
         CallFailed m block rise.before rise.after for (longer (given.disk_faults 1) (before 1) (left.disk_faults 1) rise.before rise.after (earlier 1) r.cause.0) r.cause.1
         (call_from s.clients s.lines items (StandsFor given.disk n) (IsImageOf given.disk) from (λ call holds. holds) r.failed)
@@ -162,6 +166,10 @@ module _ (given left : Inputs) (m : MountedValue) (s : ScriptValue) (items : Lis
         → (t : Tree) → IsImageOf given.disk t → IsImageOf left.disk (tree_of (history_of s.clients items) t)
     left_tree leaves t is = image_of_tree left.disk n (tree_of (history_of s.clients items) t) (leaves t (from t is)).now
 
+    left_same : (HasChangedNothing s.clients items → (left.disk ≡ given.disk) × (left.disk_list ≡ given.disk_list))
+        → HasChangedNothing s.clients items → KeepsDisk given left
+    left_same same none = record { state_is = (same none).0; list_is = (same none).1 }
+
     left_clean : ((t : Tree) (at : StandsFor given.disk n t) → LeavesStanding given.disk left.disk n t (tree_of (history_of s.clients items) t) at)
         → items ≢ [] → (t : Tree) → IsImageOf given.disk t → AreCleanAtEnd given.disk left.disk
     left_clean leaves some t is = record {
@@ -179,7 +187,7 @@ module _ (given left : Inputs) (m : MountedValue) (s : ScriptValue) (items : Lis
         laid : IsLaid (image_of left.disk) now.now.owners at.layout
         laid = subst (IsLaid (image_of left.disk) now.now.owners) now.layout now.now.stands.laid
 
-    pub done : HasRun given.disk left.disk n before left.disk_faults s items (Ok tt) → Runs given left s items status.Done
+    pub done : HasRun given.disk left.disk given.disk_list left.disk_list n before left.disk_faults s items (Ok tt) → Runs given left s items status.Done
     done r = record {
       run = run_from s.clients s.lines items (StandsFor given.disk n) (IsImageOf given.disk) from r.run;
       history = r.history;
@@ -187,12 +195,16 @@ module _ (given left : Inputs) (m : MountedValue) (s : ScriptValue) (items : Lis
       none_lost = r.none_lost;
       legal = λ tree is. r.legal tree (from tree is);
       stands = left_tree r.stands;
+      free = λ some tree is. record { value = m; mounted = for.mounted is.tells; start = from tree is; free = r.free tree (from tree is) };
+      untouched = left_same r.untouched;
+      same = r.same;
+      idle = r.idle;
       mounted = λ some tells. record { value = m; mounted = for.mounted tells; clean = for.clean };
       clean = left_clean r.stands;
       ends = IsDone r.answered (whole_from s.clients s.lines items (StandsFor given.disk n) (IsImageOf given.disk) from r.whole);
     }
 
-    pub ended : (e : RunEnd) → UnlessFailed e (OfImage left.disk IsImage) → HasRun given.disk left.disk n before left.disk_faults s items (Err e) → Runs given left s items (status_of_end (first_line s) e)
+    pub ended : (e : RunEnd) → UnlessFailed e (OfImage left.disk IsImage) → HasRun given.disk left.disk given.disk_list left.disk_list n before left.disk_faults s items (Err e) → Runs given left s items (status_of_end (first_line s) e)
     ended e image r = record {
       run = run_from s.clients s.lines items (StandsFor given.disk n) (IsImageOf given.disk) from r.run;
       history = r.history;
@@ -200,6 +212,10 @@ module _ (given left : Inputs) (m : MountedValue) (s : ScriptValue) (items : Lis
       none_lost = r.none_lost;
       legal = λ tree is. r.legal tree (from tree is);
       stands = unless (first_line s) e left_tree r.stands;
+      free = λ some tree is. record { value = m; mounted = for.mounted is.tells; start = from tree is; free = r.free tree (from tree is) };
+      untouched = unless (first_line s) e left_same r.untouched;
+      same = unless (first_line s) e (λ same. same) r.same;
+      idle = unless (first_line s) e (λ idle. idle) r.idle;
       mounted = λ some tells. record { value = m; mounted = for.mounted tells; clean = for.clean };
       clean = unless (first_line s) e left_clean r.stands;
       ends = call_end e image r;
@@ -207,10 +223,11 @@ module _ (given left : Inputs) (m : MountedValue) (s : ScriptValue) (items : Lis
 
 -- ---- the same of a disk that is known to be the one that was given
 
-pub has_run : (d mid d' : DiskState) (m : MountedValue) (n : Lone) (before now : ℕ → ℕ) (s : ScriptValue) (items : List TraceItem) (r : Result (Unit {0}) RunEnd) → mid ≡ d → n ≡ as_mounted mid m
-    → HasRun mid d' n before now s items r → HasRun d d' (as_mounted d m) before now s items r
-has_run d mid d' m n before now s items r same is run =
-    subst (λ (x : DiskState). HasRun x d' (as_mounted x m) before now s items r) same (subst (λ (v : Lone). HasRun mid d' v before now s items r) is run)
+pub has_run : (d mid d' : DiskState) (list list_mid list' : Option (List Operation)) (m : MountedValue) (n : Lone) (before now : ℕ → ℕ) (s : ScriptValue) (items : List TraceItem) (r : Result (Unit {0}) RunEnd) → mid ≡ d → list_mid ≡ list → n ≡ as_mounted mid m
+    → HasRun mid d' list_mid list' n before now s items r → HasRun d d' list list' (as_mounted d m) before now s items r
+has_run d mid d' list list_mid list' m n before now s items r same same_list is run =
+    subst (λ (l : Option (List Operation)). HasRun d d' l list' (as_mounted d m) before now s items r) same_list
+    (subst (λ (x : DiskState). HasRun x d' list_mid list' (as_mounted x m) before now s items r) same (subst (λ (v : Lone). HasRun mid d' list_mid list' v before now s items r) is run))
 
 pub whole_blocks : (e : RunEnd) (mid d' : DiskState) → IsSound d' → IsBlockSize mid.size → UnlessFailed e (IsSameDisk mid d') → UnlessFailed e (OfImage d' IsImage)
 whole_blocks (end.DiskFailed block rise) mid d' sound four same = tt
@@ -230,15 +247,19 @@ small_number end.NoMemory s items P start well at = tt
 
 -- ---- a run that didn't begin
 
-pub not_begun : (given left : Inputs) (s : ScriptValue) (items : List TraceItem) (own : Status) → items ≡ [] → KeepsDisk given left → MountEnds given.disk given.disk_faults left.disk_faults own
+pub not_begun : (given left : Inputs) (s : ScriptValue) (items : List TraceItem) (own : Status) → IsIdle given.disk → items ≡ [] → KeepsDisk given left → MountEnds given.disk given.disk_faults left.disk_faults own
     → Runs given left s items own
-not_begun given left s items own none same ends = record {
+not_begun given left s items own idle none same ends = record {
   run = NotJoined none;
   history = subst (HoldsHistory s) (sym none) (nothing_follows s);
   members = subst NoneStopped (sym none) tt;
   none_lost = subst (λ is. NoneLost (history_of s.clients is)) (sym none) none_is_lost;
   legal = λ tree is. subst (λ is. Legal (history_of s.clients is) tree) (sym none) (nothing_is_legal tree);
   stands = anyway own (λ tree is. subst (λ d. IsImageOf d (tree_of (history_of s.clients items) tree)) (sym same.state_is) (subst (λ is. IsImageOf given.disk (tree_of (history_of s.clients is) tree)) (sym none) is));
+  free = λ some. absurd (some none);
+  untouched = anyway own (λ all. same);
+  same = anyway own (subst (λ d. IsSameDisk given.disk d) (sym same.state_is) (record { size = refl; count = refl; tells = refl; fenced = refl }));
+  idle = anyway own (subst IsIdle (sym same.state_is) idle);
   mounted = λ some. absurd (some none);
   clean = anyway own (λ some. absurd (some none));
   ends = NotMounted own none same ends;

@@ -9,9 +9,9 @@ use Rattle.image_mount.specs.Mounted.{MountedValue}
 use Rattle.shared_disk.specs.Disk.{DiskState}
 use Rattle.show_text.specs.Show.{journal_lines, tree_lines}
 use Rattle.disk_trees.specs.Answers.{GivesTree, HasCause, IfDamaged}
-use Rattle.disk_trees.specs.OnDisk.{image_on}
-use Rattle.disk_trees.specs.declared.fault.TreeFault.{TreeFault}
-use Rattle.disk_trees.specs.declared.fault.TreeFault.TheVariants as tree
+use Rattle.disk_trees.specs.Reading.{ending}
+use Rattle.disk_trees.specs.declared.faults.TreeFault.{TreeFault}
+use Rattle.disk_trees.specs.declared.faults.TreeFault.TheVariants as tree
 use Rattle.cluster_program.specs.Course.{clean_of, Shows, HasShown, ShowsNone, TreeFailed, TreeDamaged, NothingHeld}
 use Rattle.cluster_program.specs.Early.{status_of_tree}
 use Rattle.cluster_program.specs.Mounting.{OfImage, IsMountedClean, IsMountedFor}
@@ -24,7 +24,7 @@ use Rattle.cluster_program.proofs.Runs.{longer}
 -- what is known of a disk whose tree was read, or wasn't
 pub record HasReadTree (d : DiskState) (before now : ℕ → ℕ) (r : Result Tree TreeFault) : Type 0 where
   pub stands : IsTrue d.tells → (t : Tree) → Stands (image_of d) t → GivesTree t r
-  pub damaged : IfErr r (λ fault. IsTrue d.tells → IfDamaged fault (λ block rule. IsBrokenBlock (image_on d) rule block))
+  pub damaged : IfErr r (λ fault. IsTrue d.tells → IfDamaged fault (λ block rule. IsBrokenBlock (ending (image_of d)) rule block))
   pub cause : IfErr r (HasCause d.count before now)
 
 pub of_disk : (d mid : DiskState) (before now : ℕ → ℕ) (r : Result Tree TreeFault) → mid ≡ d → HasReadTree mid before now r → HasReadTree d before now r

@@ -1,5 +1,5 @@
 -- What a command does, from its words and its script to the items of its run and its own end.
-use Rattle.std.specs.Prelude.{ℕ, ◌≡◌, ◌<◌, ◌≤◌, ◌==◌, nat_lt, not, IfSome, ◌++◌, ◌&&◌, Bool, true, false, IsTrue, if◌then◌else◌, List, [], map, Option, Some, None, Result, Ok, Err}
+use Rattle.std.specs.Prelude.{ℕ, ◌≡◌, ◌<◌, ◌≤◌, ◌==◌, nat_lt, not, IfSome, ◌++◌, ◌&&◌, Bool, true, false, if◌then◌else◌, List, [], map, Option, Some, None, Result, Ok, Err}
 use Rattle.profile_limits.specs.Limits.{most_blocks}
 use Rattle.std.specs.Io.KnownBytes.{Consumes, IsAtEnd}
 use Rattle.fault_counts.specs.Causes.{WentUp}
@@ -21,7 +21,7 @@ use Rattle.mkgfs2_tool.specs.Order.{fits, IsNeeded}
 use Rattle.mkgfs2_tool.specs.Outcomes.{IsBegun, IsMade}
 use Rattle.shared_disk.specs.Disk.{DiskState}
 use Rattle.image_model.specs.Rules.{IsBrokenBlock}
-use Rattle.disk_trees.specs.OnDisk.{image_on}
+use Rattle.disk_trees.specs.Reading.{ending}
 use Rattle.image_mount.specs.Mounted.{Journal, MountedValue}
 use Rattle.show_text.specs.Show.{journal_lines, tree_lines}
 use Rattle.cluster_program.specs.Mounting.{OfImage, IsImageOf, NeverStands, MountEnds, IsMountedClean, IsMountedFor}
@@ -127,7 +127,7 @@ pub data Shows (disk : DiskState) (faults faults_now : ℕ → ℕ) : List ℕ �
   ShowsNone : (own : Status) → MountEnds disk faults faults_now own → Shows disk faults faults_now [] own
   TreeFailed : (block x y : ℕ) → OfImage disk IsMountedClean → WentUp (faults 0) (faults_now 0) x y → block < disk.count
       → Shows disk faults faults_now [] (status.DeviceFault 0 (Some block) x y)
-  TreeDamaged : (block rule : ℕ) → OfImage disk IsMountedClean → OfImage disk NeverStands → (IsTrue disk.tells → IsBrokenBlock (image_on disk) rule block)
+  TreeDamaged : (block rule : ℕ) → OfImage disk IsMountedClean → OfImage disk NeverStands → OfImage disk (λ im. IsBrokenBlock (ending im) rule block)
       → Shows disk faults faults_now [] (status.Damaged block rule)
   NothingHeld : Shows disk faults faults_now [] status.NoMemory
 

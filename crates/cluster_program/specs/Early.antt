@@ -6,8 +6,8 @@ use Rattle.image_mount.specs.declared.fault.MountFault.{MountFault}
 use Rattle.image_mount.specs.declared.fault.MountFault.TheVariants as fault
 use Rattle.lone_node.specs.declared.ends.RunEnd.{RunEnd}
 use Rattle.lone_node.specs.declared.ends.RunEnd.TheVariants as end
-use Rattle.disk_trees.specs.declared.fault.TreeFault.{TreeFault}
-use Rattle.disk_trees.specs.declared.fault.TreeFault.TheVariants as tree
+use Rattle.disk_trees.specs.declared.faults.TreeFault.{TreeFault}
+use Rattle.disk_trees.specs.declared.faults.TreeFault.TheVariants as tree
 use Rattle.cluster_program.specs.declared.input.InputFault.{InputFault}
 use Rattle.cluster_program.specs.declared.input.InputFault.TheVariants as input
 use Rattle.cluster_program.specs.declared.status.Status.{Status}

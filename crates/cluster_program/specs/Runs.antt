@@ -14,10 +14,11 @@ use Rattle.trace_text.specs.declared.item.TraceItem.{TraceItem}
 use Rattle.script_lang.specs.Script.{ScriptValue}
 use Rattle.run_rules.specs.Follows.{history_of}
 use Rattle.run_rules.specs.History.{HoldsHistory, NoneStopped, AllAnswered}
-use Rattle.shared_disk.specs.Disk.{DiskState}
+use Rattle.shared_disk.specs.Disk.{DiskState, IsIdle}
 use Rattle.lone_view.specs.Seeing.{Lone}
-use Rattle.lone_node.specs.Answering.{IsDamagedOn, IsHashedOn, IsUnbuiltOn}
-use Rattle.lone_node.specs.Run.{EndsAt, EndsAtCall, IsFailedOn, IsRunOf, IsTakenBehind, IsWholeRun}
+use Rattle.lone_node.specs.Answering.{IsDamagedOn, IsHashedOn, IsSameDisk, IsUnbuiltOn}
+use Rattle.lone_node.specs.Run.{EndsAt, EndsAtCall, HasChangedNothing, IsFailedOn, IsRunOf, IsTakenBehind, IsWholeRun, TellFree}
+use Rattle.lone_node.specs.Standing.{StandsFor}
 use Rattle.cluster_program.specs.Mounting.{OfImage, IsImageOf, NeverStands, IsMountedClean, IsMountedFor, MountEnds, is_clean_in}
 use Rattle.cluster_program.specs.World.{Inputs, KeepsDisk}
 use Rattle.cluster_program.specs.declared.status.Status.{Status}
@@ -63,6 +64,13 @@ pub data RunEnds (given left : Inputs) (s : ScriptValue) (items : List TraceItem
       → OfImage left.disk (λ im. IsMounted im m → IsToldOf im rule block) → RunEnds given left s items (status.Damaged block rule)
   NoRoom : RunEnds given left s items status.NoMemory
 
+-- item by item, the numbers of free blocks are those of the image as it then was
+pub record TellsFree (disk : DiskState) (items : List TraceItem) (tree : Tree) : Type 0 where
+  pub value : MountedValue
+  pub mounted : IsMounted (image_of disk) value
+  pub start : StandsFor disk (as_mounted disk value) tree
+  pub free : TellFree disk (as_mounted disk value) tree start items
+
 -- the journals that were mounted are clean in the image as it was left
 pub record AreCleanAtEnd (given left : DiskState) : Type 0 where
   pub value : MountedValue
@@ -84,6 +92,13 @@ pub record Runs (given left : Inputs) (s : ScriptValue) (items : List TraceItem)
   -- where the image stands for a tree: every reply is that of this tree, which takes the calls one by one, and the image stands for what they leave
   pub legal : (tree : Tree) → IsImageOf given.disk tree → Legal (history_of s.clients items) tree
   pub stands : UnlessFault own ((tree : Tree) → IsImageOf given.disk tree → IsImageOf left.disk (tree_of (history_of s.clients items) tree))
+  -- each item of free blocks tells how many the call takes, and how many are free in the image then
+  pub free : items ≢ [] → (tree : Tree) → IsImageOf given.disk tree → TellsFree given.disk items tree
+  -- where no answered call changes anything, nothing was written
+  pub untouched : UnlessFault own (HasChangedNothing s.clients items → KeepsDisk given left)
+  -- it is the same disk, with nothing in flight
+  pub same : UnlessFault own (IsSameDisk given.disk left.disk)
+  pub idle : UnlessFault own (IsIdle left.disk)
   -- no item stands before the image was mounted and each of its journals was found clean; where it stands for a tree, they are clean yet
   pub mounted : items ≢ [] → OfImage given.disk IsMountedClean
   pub clean : UnlessFault own (items ≢ [] → (tree : Tree) → IsImageOf given.disk tree → AreCleanAtEnd given.disk left.disk)

@@ -15,6 +15,7 @@ use no_memory::NoMemory;
 use shared_disk::SharedDisk;
 use show_text::append_journal;
 use std::alloc::Global;
+use std::mem::ManuallyDrop;
 use tree_lines::append_tree;
 
 // Puts the lines of the journals at the end.
@@ -46,6 +47,8 @@ pub(crate) fn show_image<D: SharedDisk>(alloc: Global, disk: &mut D) -> Result<V
         Ok(tree) => tree,
         Err(fault) => return Err(not_read(fault)),
     };
+    // To drop a tree takes a call for each directory on the way down, and the stack may not have room for as many as an image has.
+    let tree = ManuallyDrop::new(tree);
     let mut lines = Vec::new(alloc);
     match append_journals(&mut lines, &mounted.journals) {
         Ok(()) => {}

@@ -4,8 +4,8 @@ use Rattle.fault_counts.specs.Causes.{WentUp}
 use Rattle.file_tree.specs.Tree.{Tree}
 use Rattle.image_reader.specs.declared.image.ImageFault.{ImageFault}
 use Rattle.image_reader.specs.declared.image.ImageFault.TheVariants as image
-use Rattle.disk_trees.specs.declared.fault.TreeFault.{TreeFault}
-use Rattle.disk_trees.specs.declared.fault.TreeFault.TheVariants.{Damaged, DiskFailed, NoMemory}
+use Rattle.disk_trees.specs.declared.faults.TreeFault.{TreeFault}
+use Rattle.disk_trees.specs.declared.faults.TreeFault.TheVariants.{Damaged, DiskFailed, NoMemory}
 
 -- exactly this tree, unless the disk failed or there was no memory
 abbrev pub GivesTree : Tree → Result Tree TreeFault → Type 0

@@ -1,2 +1,2 @@
-pub mod OnDisk
+pub mod Reading
 pub mod Answers

@@ -1,7 +1,7 @@
 // The blocks of a disk, read into memory.
 ghost use Rattle.std.specs.Prelude.{◌≡◌, ◌+◌, ◌<◌, ◌++◌, IsTrue, OnOk, IfOk, IfErr, length};
 ghost use Rattle.disk_trees.specs.Answers.{HasCause, IsNotDamaged};
-ghost use Rattle.disk_trees.specs.OnDisk.{AreFirstBlocks};
+ghost use Rattle.disk_trees.specs.Reading.{AreFirstBlocks};
 ghost use Rattle.shared_disk.specs.Disk.{IsIdle, ReadsOnly};
 
 use crate::TreeFault;
@@ -37,10 +37,7 @@ fn append_block<D: SharedDisk>(
 }
 
 /// Every block of an idle disk, one after another, read as the run itself.
-pub(crate) fn read_blocks<D: SharedDisk>(
-    alloc: Global,
-    disk: &mut D,
-) -> Result<Vec<u8>, TreeFault>
+pub(crate) fn read_blocks<D: SharedDisk>(alloc: Global, disk: &mut D) -> Result<Vec<u8>, TreeFault>
     requires { IsIdle (D.state disk.old) }
     ensures blocks { IfOk result (λ bytes. AreFirstBlocks (D.state disk.old) (D.state disk.old).count bytes.items) }
     ensures reads { ReadsOnly (D.state disk.old) (D.state disk.new) (D.list disk.old) (D.list disk.new) (D.faults disk.old) (D.faults disk.new) }
@@ -48,8 +45,11 @@ pub(crate) fn read_blocks<D: SharedDisk>(
     ensures failed { IfErr result IsNotDamaged }
 {
     let size = disk.block_size() as usize;
+    let Some(total) = size.checked_mul(disk.blocks() as usize) else {
+        return Err(TreeFault::NoMemory);
+    };
     let mut block = vec![in alloc; 0u8; size]?;
-    let mut bytes = Vec::new(alloc);
+    let mut bytes = Vec::with_capacity(alloc, total)?;
     for number in 0..disk.blocks() {
         append_block(disk, number, &mut block, &mut bytes)?;
     }

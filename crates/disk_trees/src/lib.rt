@@ -2,8 +2,8 @@
 #![tactic(auto)]
 
 mod blocks;
-mod fault;
+mod faults;
 mod reading;
 
-pub use fault::TreeFault;
+pub use faults::TreeFault;
 pub use reading::read_disk_tree;

@@ -1,7 +1,7 @@
 ghost use Rattle.std.specs.Prelude.{IfErr, IsTrue};
 ghost use Rattle.file_tree.specs.Tree.{Tree};
 ghost use Rattle.disk_trees.specs.Answers.{GivesTree, HasCause, IfDamaged};
-ghost use Rattle.disk_trees.specs.OnDisk.{image_on};
+ghost use Rattle.disk_trees.specs.Reading.{ending};
 ghost use Rattle.gfs2_layout.specs.Device.{IsBlockSize};
 ghost use Rattle.image_model.specs.Image.{image_of};
 ghost use Rattle.image_model.specs.Rules.{IsBrokenBlock};
@@ -24,7 +24,7 @@ pub fn read_disk_tree<D: SharedDisk>(alloc: Global, disk: &mut D) -> Result<Tree
     // Of an image that stands for a tree exactly that one, or what lies outside of the image.
     ensures stands { IsTrue (D.state disk.old).tells → (t : Tree) → Stands (image_of (D.state disk.old)) t → GivesTree t result }
     // A block that is told breaks the rule in the image, where nothing lies behind the device's end.
-    ensures damaged { IfErr result (λ fault. IsTrue (D.state disk.old).tells → IfDamaged fault (λ block rule. IsBrokenBlock (image_on (D.state disk.old)) rule block)) }
+    ensures damaged { IfErr result (λ fault. IsTrue (D.state disk.old).tells → IfDamaged fault (λ block rule. IsBrokenBlock (ending (image_of (D.state disk.old))) rule block)) }
     ensures reads { ReadsOnly (D.state disk.old) (D.state disk.new) (D.list disk.old) (D.list disk.new) (D.faults disk.old) (D.faults disk.new) }
     ensures cause { IfErr result (HasCause (D.state disk.old).count (D.faults disk.old) (D.faults disk.new)) }
 {

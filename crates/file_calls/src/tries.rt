@@ -1,8 +1,8 @@
 // A try of a file call.
-ghost use Rattle.std.specs.Prelude.{ℕ, ◌≡◌, ◌≤◌, ◌<◌, None, false, length};
+ghost use Rattle.std.specs.Prelude.{ℕ, ◌≡◌, ◌≢◌, ◌≤◌, ◌<◌, None, false, length};
 ghost use Rattle.file_tree.specs.Apply.{TakesSpace, apply};
 ghost use Rattle.file_tree.specs.Tree.{Tree};
-ghost use Rattle.file_tree.specs.declared.reply.Reply.TheVariants.{Ok as OkReply};
+ghost use Rattle.file_tree.specs.declared.reply.Reply.TheVariants.{NoSpace, Ok as OkReply};
 ghost use Rattle.glock_names.specs.Steps.{IfDamaged};
 ghost use Rattle.glock_names.specs.Views.{IsOfView};
 ghost use Rattle.image_model.specs.Image.{Image};
@@ -39,6 +39,8 @@ pub fn attempt<V: View>(
     ensures block { (im : Image) (o : Owners) (l : Layout) (t : Tree) → IsOf (V.seen view.now) im o l t → IfNeedBlock result (IsAskedFor (V.seen view.now) im o l (call_holds im o l t call.now stamp.now.node)) }
     ensures on_device { (im : Image) (o : Owners) (l : Layout) (t : Tree) → IsOf (V.seen view.now) im o l t → IfNeedBlock result (λ m. m.block < im.count) }
     ensures space { (im : Image) (o : Owners) (l : Layout) (t : Tree) → IsOf (V.seen view.now) im o l t → IfNoSpace result (IsTooFew (V.seen view.now) im o l t call.now) }
+    ensures fewer { IfNoSpace result (λ need free. free < need) }
+    ensures spaceless { IfDone result (λ reply change. reply ≢ NoSpace) }
     ensures roomless { IfNoSpace result (λ need free. TakesSpace call.now) }
     ensures lacked { IfNeedLock result (λ lock state. holds (V.seen view.now) (record { lock = lock; state = state }) ≡ false) }
     ensures needed { IfNeedBlock result (IsNeededFor (V.seen view.now) call.now) }

@@ -1,6 +1,6 @@
 -- A call that is answered: what the disk holds, and the view has, afterwards.
-use Rattle.std.proofs.Common.{◌≡◌, ℕ, zero, suc, ◌+◌, ◌<◌, ◌≤◌, cond, List, [], ◌∷◌, length, Option, None, Some, inl, inr, refl, sym, ap, ◌∙◌, subst, arith}
-use Rattle.std.specs.Prelude.{IsTrue, unwrap_or, Contains}
+use Rattle.std.proofs.Common.{◌≡◌, ℕ, zero, suc, ◌+◌, ◌<◌, ◌≤◌, true, false, cond, List, [], ◌∷◌, length, Option, None, Some, inl, inr, refl, sym, ap, ◌∙◌, subst, arith}
+use Rattle.std.specs.Prelude.{IsTrue, unwrap_or, Contains, not, ◌&&◌}
 use Rattle.std.specs.List.{AllByRecursion}
 use Rattle.std.specs.Ordering.{nat_cmp}
 use Rattle.std.specs.Cmp.{nat_cmp_total}
@@ -15,7 +15,7 @@ use Rattle.file_tree.specs.declared.call.Call.{Call}
 use Rattle.file_tree.specs.declared.reply.Reply.{Reply}
 use Rattle.file_tree.specs.declared.reply.Reply.TheVariants as reply
 use Rattle.cluster_history.specs.History.{after}
-use Rattle.cluster_history.specs.Changes.{OthersLeaveTheTree}
+use Rattle.cluster_history.specs.Changes.{Changes, OthersLeaveTheTree}
 use Rattle.glock_names.specs.Views.{Seen, IsOfView, end_of}
 use Rattle.glock_names.specs.Steps.{TellsOf}
 use Rattle.glock_names.specs.declared.steps.CallFault.{CallFault}
@@ -27,7 +27,7 @@ use Rattle.image_model.specs.Image.{Image, image_of}
 use Rattle.image_model.specs.Owners.{Owners}
 use Rattle.image_model.specs.Stands.{Layout}
 use Rattle.image_changes.specs.Changes.{JournalsStay}
-use Rattle.image_changes.specs.Does.{Does, IsFormed, IsInside, IsOf, bytes_for, with_change}
+use Rattle.image_changes.specs.Does.{Does, is_empty, IsFormed, IsInside, IsOf, bytes_for, with_change}
 use Rattle.image_changes.specs.Instances.{StandsBy}
 use Rattle.shared_disk.specs.Disk.{DiskState}
 use Rattle.lone_view.specs.Seeing.{Lone, seen_alone}
@@ -134,6 +134,14 @@ of_disk d n change on form inside = record {
 
     in_all : (gs : List Group) (g : Group) → Contains gs g → AllByRecursion (λ (h : Group). end_of h ≤ d.count) gs → end_of g ≤ d.count
     in_all gs g has all = All-contains (λ (h : Group). end_of h ≤ d.count) gs g (All-from_recursion (λ (h : Group). end_of h ≤ d.count) gs all) has
+
+-- a call that isn't a changing one writes no block
+pub writes_none : (v : Seen) (call : Call) (r : Reply) (change : Change) → Does v call r change → Changes (record { call = call; reply = r }) ≡ false → change.blocks.items ≡ []
+writes_none v call r change does none = by change.blocks.items (does.tells ∙ ap not none)
+  where
+    by : (ws : List Written) → (is_empty ws && is_empty change.freed.items) ≡ true → ws ≡ []
+    by [] is = refl
+    by (w ∷ ws) is = absurd (cc)
 
 -- ---- a block that is read
 

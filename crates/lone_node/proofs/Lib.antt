@@ -4,9 +4,9 @@ pub mod Partly
 pub mod Keeping
 pub mod Leaving
 pub mod Answered
+pub mod Frees
 pub mod Calls
 pub mod Clients
 pub mod Steps
 pub mod NodeRuns
 pub mod Endings
-pub mod Spaces

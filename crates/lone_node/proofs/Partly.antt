@@ -30,7 +30,7 @@ partly_whole d now next ws fly same = (
 -- ---- which write failed
 
 pub one_of : (ws : List Written) (i : ℕ) (w e : Written) → i < length ws → w ≡ get_or ws i e → IsWriteOf ws (Some w.block)
-one_of ws i w e low is = (w, (subst (Contains ws) (sym is) (Contains-get_or ws i e low), refl))
+one_of ws i w e low is = (w, subst (Contains ws) (sym is) (Contains-get_or ws i e low), refl)
 
 pub any_of : (ws : List Written) → 1 ≤ length ws → IsWriteOf ws None
 any_of [] some = absurd (omega (arith, some))
@@ -38,7 +38,7 @@ any_of (w ∷ ws) some = (w, Contains-get_or (w ∷ ws) 0 w (omega arith))
 
 pub of_part : (done some rest : List Written) (block : Option ℕ) → IsWriteOf some block → IsWriteOf (done ++ (some ++ rest)) block
 of_part done some rest None (w, has) = (w, Contains-append_right done (some ++ rest) w (Contains-append_left some rest w has))
-of_part done some rest (Some b) (w, (has, is)) = (w, (Contains-append_right done (some ++ rest) w (Contains-append_left some rest w has), is))
+of_part done some rest (Some b) (w, has, is) = (w, Contains-append_right done (some ++ rest) w (Contains-append_left some rest w has), is)
 
 -- ---- what the disk holds
 
@@ -76,6 +76,10 @@ all_seconds : (P Q : Flight → Type 0) (fs : List Flight) → AllByRecursion (�
 all_seconds P Q [] all = tt
 all_seconds P Q (f ∷ fs) all = (all.0.1, all_seconds P Q fs all.1)
 
+-- the write in flight is of these blocks
+abbrev IsOne : List Written → Flight → Type 0
+IsOne ws f = bytes_for ws f.block ≡ Some f.bytes
+
 -- some blocks are written, and of those behind them some are in flight
 pub may_be : (d now next : DiskState) (done some rest : List Written) → RiseFrom 0 (done ++ (some ++ rest)) → AreWritten d now done → ArePartlyInFlight 1 now next some
     → MayBeWritten 1 d next (done ++ (some ++ rest))
@@ -85,15 +89,24 @@ may_be d now next done some rest rise first (count, fly) = record {
   tells = fly.tells ∙ first.tells;
   fenced = fly.fenced ∙ first.fenced;
   blocks_are = λ tells b. by b (bytes_for done b) refl (ap (λ (f : ℕ → List ℕ). f b) fly.blocks ∙ first.blocks_are tells b);
-  own = subst (AllByRecursion IsOne) (sym fly.own) (all_taken IsOne count some (all_front IsOne some rest (all_back IsOne done (some ++ rest)
-      (all_seconds (λ (f : Flight). 0 ≤ f.block) IsOne (flights_of (done ++ (some ++ rest))) (each_flight 0 (done ++ (some ++ rest)) rise)))));
+  own = let ws = done ++ (some ++ rest) in
+      subst (AllByRecursion (IsOne ws)) (sym fly.own) (all_taken (IsOne ws) count some (all_front (IsOne ws) some rest (all_back (IsOne ws) done (some ++ rest)
+      (all_seconds (λ (f : Flight). 0 ≤ f.block) (IsOne ws) (flights_of ws) (each_flight 0 ws rise)))));
   others = λ i other. fly.others i other ∙ first.idle i;
 }
   where
-    abbrev IsOne : Flight → Type 0
-    IsOne f = bytes_for (done ++ (some ++ rest)) f.block ≡ Some f.bytes
-
     by : (b : ℕ) (o : Option (List ℕ)) → bytes_for done b ≡ o → next.block_at b ≡ unwrap_or (bytes_for done b) (d.block_at b)
         → (next.block_at b ≡ d.block_at b) ⊎ (bytes_for (done ++ (some ++ rest)) b ≡ Some (next.block_at b))
     by b None is at = inl (at ∙ ap (λ o. unwrap_or o (d.block_at b)) is)
     by b (Some x) is at = inr (first_of done (some ++ rest) b x is ∙ ap (λ (y : List ℕ). Some y) (sym (at ∙ ap (λ o. unwrap_or o (d.block_at b)) is)))
+
+-- ---- no block
+
+pub has_some : (done some : List Written) → 1 ≤ length some → done ++ some ≡ [] → ⊥
+has_some [] [] more is = absurd (omega (arith, more))
+has_some [] (w ∷ ws) more is = cc
+has_some (v ∷ vs) some more is = cc
+
+pub front_none : (xs ys : List Written) → xs ++ ys ≡ [] → xs ≡ []
+front_none [] ys is = refl
+front_none (x ∷ xs) ys is = absurd (cc)

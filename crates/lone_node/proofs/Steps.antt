@@ -10,6 +10,7 @@ use Rattle.file_tree.specs.Tree.{Tree}
 use Rattle.file_tree.specs.Apply.{Answers}
 use Rattle.file_tree.specs.declared.call.Call.{Call}
 use Rattle.file_tree.specs.declared.call.Call.TheVariants as variant
+use Rattle.cluster_history.specs.Changes.{Changes}
 use Rattle.cluster_history.specs.declared.Item.{Item}
 use Rattle.cluster_history.specs.History.{AllAnswer, NoneLost, Replied, after, alive, tree_after, tree_of}
 use Rattle.cluster_history.proofs.Legal.{replied, alive-none_lost}
@@ -21,15 +22,16 @@ use Rattle.script_lang.specs.declared.script.Client.{Client}
 use Rattle.script_lang.specs.declared.script.Line.{Line}
 use Rattle.script_lang.specs.declared.script.Line.TheVariants as line
 use Rattle.script_lang.specs.OneNode.{IsOwnCall, IsOwnLine}
-use Rattle.shared_disk.specs.Disk.{DiskState}
+use Rattle.shared_disk.specs.Disk.{DiskState, Operation}
 use Rattle.file_calls.specs.Calls.{IsBuilt}
 use Rattle.lone_view.specs.Seeing.{Lone}
 use Rattle.lone_node.specs.Answering.{IsToldFull}
-use Rattle.lone_node.specs.Run.{AnsweredCall, EndsAt, EndsAtCall, IsRunUpTo, IsTakenCall, full_item, is_call_line, items_from, its_answer, its_line, name_at}
+use Rattle.lone_node.specs.Run.{AnsweredCall, EndsAt, EndsAtCall, HasChangedNothing, IsRunUpTo, IsTakenCall, full_item, is_call_line, items_from, its_answer, its_line, name_at, TellFree}
 use Rattle.lone_node.specs.Standing.{IsSameSystem, LeavesStanding, StandsFor}
 use Rattle.lone_node.specs.declared.answering.Full.{Full}
-use Rattle.lone_node.proofs.Calls.{all_at, all_more}
+use Rattle.lone_node.proofs.Calls.{all_at, all_but_last, all_more}
 use Rattle.lone_node.proofs.Clients.{name_is}
+use Rattle.lone_node.proofs.Frees.{AreTold, free_as, told_end, told_items, told_more}
 use Rattle.lone_node.proofs.Leaving.{leaves_as, leaves_on, stands_on}
 
 -- ---- lists of answered calls
@@ -104,6 +106,9 @@ module _ (clients : List Client) (lines : List Line) (IsStart : Tree → Type 0)
   pub tree_is : (count : ℕ) (items : List TraceItem) (so : IsRunUpTo clients lines count items IsStart) (t : Tree) → tree_of (history_of clients items) t ≡ tree_after (map its_answer so.answered) t
   tree_is count items so t = ap (λ (is : List TraceItem). tree_of (history_of clients is) t) so.are ∙ ap (λ (ss : List Replied). tree_after ss t) (alive_in clients 1 so.answered)
 
+  pub alive_is : (count : ℕ) (items : List TraceItem) (so : IsRunUpTo clients lines count items IsStart) → alive (history_of clients items) ≡ map its_answer so.answered
+  alive_is count items so = ap (λ (is : List TraceItem). alive (history_of clients is)) so.are ∙ alive_in clients 1 so.answered
+
   -- it stays at the unmount
   pub unmounted : (count : ℕ) (items more : List TraceItem) → IsRunUpTo clients lines count items IsStart → more ≡ items ++ trace.Unmount 1 ∷ [] → history_of clients items ≡ history_of clients more
   unmounted count items more so are =
@@ -111,7 +116,7 @@ module _ (clients : List Client) (lines : List Line) (IsStart : Tree → Type 0)
 
   -- node 1 has joined, and taken no line
   abbrev pub run_none : (items : List TraceItem) → items ≡ trace.Join 1 ∷ [] → IsRunUpTo clients lines 0 items IsStart
-  run_none items is = record { answered = []; are = is; calls = refl; answers = λ t start. tt; full = λ t start. tt }
+  run_none items is = record { answered = []; are = is; calls = refl; answers = λ t start. tt; full = tt }
 
   module _ (i : ℕ) (items : List TraceItem) (below : i < length lines) (so : IsRunUpTo clients lines i items IsStart) where
     -- the calls among one more line
@@ -135,7 +140,7 @@ module _ (clients : List Client) (lines : List Line) (IsStart : Tree → Type 0)
     other_line (line.Join node) other = refl
 
     pub wait_more : (number : ℕ) (d l : Line) → l ≡ get_or lines i d → ((place : ℕ) (call : Call) → l ≡ line.Call place call → ⊥) → number ≡ 1 + length so.answered
-        → (run : IsRunUpTo clients lines (i + 1) items IsStart) × (number ≡ 1 + length run.answered)
+        → (run : IsRunUpTo clients lines (i + 1) items IsStart) × (number ≡ 1 + length run.answered) × (run.answered ≡ so.answered)
     wait_more number d l is other same = (
       record {
         answered = so.answered;
@@ -147,6 +152,7 @@ module _ (clients : List Client) (lines : List Line) (IsStart : Tree → Type 0)
         full = so.full;
       },
       same,
+      refl,
     )
 
     module _ (place : ℕ) (call : Call) (l d : Line) (c : Client) (is : l ≡ get_or lines i d) (is_call : l ≡ line.Call place call) (form : AllByRecursion (IsOwnLine (length clients)) lines) where
@@ -175,12 +181,23 @@ module _ (clients : List Client) (lines : List Line) (IsStart : Tree → Type 0)
       pub ends_here : (P : Call → Type 0) (more : List TraceItem) → more ≡ items → P call → EndsAtCall P clients lines more IsStart
       ends_here P more kept holds = record { count = i; ends = ends_at P more kept holds }
 
+-- what its items tell of free blocks
+pub tells_free : (clients : List Client) (lines : List Line) (start disk : DiskState) (first : Lone) (count : ℕ) (items : List TraceItem) (so : IsRunUpTo clients lines count items (StandsFor start first))
+    → ((t : Tree) (s : StandsFor start first t) → AreTold disk start first t s so.answered) → (t : Tree) (s : StandsFor start first t) → TellFree start first t s items
+tells_free clients lines start disk first count items so told t s = subst (TellFree start first t s) (sym so.are) (told_items clients first disk start t s 1 so.answered (told t s))
+
+pub tells_end : (clients : List Client) (lines : List Line) (start : DiskState) (first : Lone) (count : ℕ) (items more : List TraceItem) (so : IsRunUpTo clients lines count items (StandsFor start first))
+    → more ≡ items ++ trace.Unmount 1 ∷ [] → (t : Tree) (s : StandsFor start first t) → TellFree start first t s items → TellFree start first t s more
+tells_end clients lines start first count items more so are t s told =
+    subst (TellFree start first t s) (ap (λ (is : List TraceItem). is ++ trace.Unmount 1 ∷ []) (sym so.are) ∙ sym are)
+    (told_end clients first start t s 1 so.answered (subst (TellFree start first t s) so.are told))
+
 -- ---- one more call is answered
 
 module _ (clients : List Client) (lines : List Line) (start : DiskState) (first : Lone) (i : ℕ) (items : List TraceItem) (below : i < length lines)
     (so : IsRunUpTo clients lines i items (StandsFor start first)) (place : ℕ) (call : Call) (l d : Line) (c : Client) (is : l ≡ get_or lines i d) (is_call : l ≡ line.Call place call)
-    (form : AllByRecursion (IsOwnLine (length clients)) lines) (more : List TraceItem) (number : ℕ) (disk disk' : DiskState) (n : Lone) (number_is : number ≡ 1 + length so.answered)
-    (taken : IsTakenCall (get_or clients place c).name number call items more disk disk' n) (system : IsSameSystem first n)
+    (form : AllByRecursion (IsOwnLine (length clients)) lines) (more : List TraceItem) (number : ℕ) (disk disk' : DiskState) (list list' : Option (List Operation)) (n : Lone) (number_is : number ≡ 1 + length so.answered)
+    (taken : IsTakenCall (get_or clients place c).name number call items more disk disk' list list' n) (system : IsSameSystem first n)
     (leaves : (t : Tree) (s : StandsFor start first t) → LeavesStanding start disk first t (tree_of (history_of clients items) t) s) where
   abbrev one : AnsweredCall
   one = record { client = place; call = call; reply = taken.reply; full = taken.full }
@@ -193,7 +210,7 @@ module _ (clients : List Client) (lines : List Line) (start : DiskState) (first 
   before_is t = tree_is clients lines (StandsFor start first) i items so t
 
   -- the disk stood for it
-  stood : (t : Tree) → StandsFor start first t → StandsFor disk n (before t)
+  abbrev stood : (t : Tree) → StandsFor start first t → StandsFor disk n (before t)
   stood t s = stands_on disk first n (before t) system (leaves t s).now
 
   run_more : IsRunUpTo clients lines (i + 1) more (StandsFor start first)
@@ -208,7 +225,7 @@ module _ (clients : List Client) (lines : List Line) (start : DiskState) (first 
     answers = λ t s. subst (λ (ss : List Replied). AllAnswer ss t) (sym (map_push its_answer so.answered one))
         (all_answer_more (map its_answer so.answered) (its_answer one) t (so.answers t s)
         (subst (λ (u : Tree). Answers call u taken.reply (after (its_answer one) u)) (before_is t) (taken.answered.answers (before t) (stood t s))));
-    full = λ t s. all_more (λ (a : AnsweredCall). IsToldFull a.reply a.full) so.answered one (so.full t s) (taken.told (before t) (stood t s));
+    full = all_more (λ (a : AnsweredCall). IsToldFull a.reply a.full) so.answered one so.full taken.told;
   }
 
   number_more : number + 1 ≡ 1 + length run_more.answered
@@ -227,7 +244,31 @@ module _ (clients : List Client) (lines : List Line) (start : DiskState) (first 
       (leaves_on start disk disk' first t (before t) (after (its_answer one) (before t)) s (leaves t s)
       (leaves_as disk disk' first n (before t) (after (its_answer one) (before t)) system (leaves t s).now (taken.answered.leaves (before t) (stood t s))))
 
+  -- where no call has changed anything, none before has, nor has this one
+  unchanged : HasChangedNothing clients more → HasChangedNothing clients items × (Changes (its_answer one) ≡ false)
+  unfolding run_more
+  unchanged nothing =
+      let each = subst (AllByRecursion (λ (r : Replied). Changes r ≡ false)) (alive_is clients lines (StandsFor start first) (i + 1) more run_more ∙ map_push its_answer so.answered one) nothing in (
+        subst (AllByRecursion (λ (r : Replied). Changes r ≡ false)) (sym (alive_is clients lines (StandsFor start first) i items so)) (all_but_last (λ (r : Replied). Changes r ≡ false) (map its_answer so.answered) (its_answer one) each).0,
+        (all_but_last (λ (r : Replied). Changes r ≡ false) (map its_answer so.answered) (its_answer one) each).1,
+      )
+
+  untouched_then : (was : Option (List Operation)) → (HasChangedNothing clients items → (disk ≡ start) × (list ≡ was)) → HasChangedNothing clients more → (disk' ≡ start) × (list' ≡ was)
+  untouched_then was untouched nothing =
+      let (none, last) = unchanged nothing in
+      let before_it = untouched none in
+      let by_it = taken.untouched last in
+      (by_it.0 ∙ before_it.0, by_it.1 ∙ before_it.1)
+
+  told_then : ((t : Tree) (s : StandsFor start first t) → AreTold disk start first t s so.answered) → (t : Tree) (s : StandsFor start first t) → AreTold disk' start first t s run_more.answered
+  unfolding run_more
+  told_then told t s = told_more disk disk' start first t s so.answered one (told t s) (λ u at. free_as disk first n u system at taken.full (taken.free u (stands_on disk first n u system at)))
+      (λ u at. leaves_as disk disk' first n u (after (its_answer one) u) system at (taken.answered.leaves u (stands_on disk first n u system at)))
+
   -- the run goes on
-  pub goes_on : (run : IsRunUpTo clients lines (i + 1) more (StandsFor start first)) × (number + 1 ≡ 1 + length run.answered)
+  pub goes_on : ((t : Tree) (s : StandsFor start first t) → AreTold disk start first t s so.answered) → (was : Option (List Operation))
+      → (HasChangedNothing clients items → (disk ≡ start) × (list ≡ was))
+      → (run : IsRunUpTo clients lines (i + 1) more (StandsFor start first)) × (number + 1 ≡ 1 + length run.answered)
       × ((t : Tree) (s : StandsFor start first t) → LeavesStanding start disk' first t (tree_of (history_of clients more) t) s)
-  goes_on = (run_more, number_more, leaves_more)
+      × ((t : Tree) (s : StandsFor start first t) → AreTold disk' start first t s run.answered) × (HasChangedNothing clients more → (disk' ≡ start) × (list' ≡ was))
+  goes_on told was untouched = (run_more, number_more, leaves_more, told_then told, untouched_then was untouched)

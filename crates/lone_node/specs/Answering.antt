@@ -1,5 +1,5 @@
 -- A call, answered on a disk.
-use Rattle.std.specs.Prelude.{ℕ, ◌≡◌, ◌≤◌, ◌==◌, ◌↔◌, if◌then◌else◌, Option, Some, IsSome}
+use Rattle.std.specs.Prelude.{ℕ, ◌≡◌, ◌<◌, ◌≤◌, ◌==◌, ◌↔◌, if◌then◌else◌, length, Option, Some, IfSome, IsSome}
 use Rattle.file_tree.specs.Tree.{Tree}
 use Rattle.file_tree.specs.Apply.{Answers}
 use Rattle.file_tree.specs.declared.call.Call.{Call}
@@ -13,6 +13,7 @@ use Rattle.drafts.specs.declared.change.Change.{Change}
 use Rattle.image_changes.specs.Does.{Does}
 use Rattle.shared_disk.specs.Disk.{DiskState}
 use Rattle.file_calls.specs.Calls.{IsDamage, IsHashed, IsNeededFor, IsUnbuilt}
+use Rattle.making_calls.specs.Blocks.{blocks_needed, free_in_all, states_by}
 use Rattle.lone_view.specs.Seeing.{Lone, seen_alone}
 use Rattle.lone_node.specs.declared.answering.Full.{Full}
 use Rattle.lone_node.specs.Standing.{IsOn, IsSameSystem, LeavesStanding, StandsFor}
@@ -30,13 +31,19 @@ pub record IsAnsweredFrom (d d' : DiskState) (n : Lone) (call : Call) (reply : R
   pub answers : (t : Tree) → StandsFor d n t → Answers call t reply (after (record { call = call; reply = reply }) t)
   pub leaves : (t : Tree) (s : StandsFor d n t) → LeavesStanding d d' n t (after (record { call = call; reply = reply }) t) s
 
--- how many blocks were free is told exactly where there were too few
-abbrev pub IsToldFull : Reply → Option Full → Type 0
-IsToldFull reply full = IsSome full ↔ (reply ≡ replies.NoSpace)
+-- how many blocks were free is told exactly where there were too few: fewer than the call takes
+pub record IsToldFull (reply : Reply) (full : Option Full) : Type 0 where
+  pub exactly : IsSome full ↔ (reply ≡ replies.NoSpace)
+  pub fewer : IfSome full (λ f. f.free < f.need)
+
+-- where the disk stands for a tree: a new name takes so many blocks, and of the node's groups so many data blocks are free
+pub record IsFreeCount (d : DiskState) (n : Lone) (t : Tree) (s : StandsFor d n t) (need free : ℕ) : Type 0 where
+  pub needs : need ≡ blocks_needed
+  pub are : free ≡ length (free_in_all (states_by s.owners) n.groups)
 
 -- ---- why a call isn't answered
 
--- what the node sees by then: it has read more of the disk, and nothing else is otherwise
+-- what the node may have read of the disk by then: blocks as the disk holds them, of the same system
 pub record IsLaterView (d : DiskState) (n n' : Lone) : Type 0 where
   pub same : IsSameSystem n n'
   pub on : IsOn d n'
@@ -68,8 +75,8 @@ pub record IsDamagedOn (d : DiskState) (n : Lone) (call : Call) (b rule : ℕ) :
   pub later : IsLaterView d n view
   pub damaged : IsDamagedFor d (seen_alone view) call b rule
 
--- The disk failed at the call: in a read of a block that the call needs, and is as it was; or in a write of one of the blocks by which the call, answered from what
--- is seen, changes it, or (no block) in a barrier behind such writes.
+-- The disk failed at the call: in a read of a block that the call needs, and is as it was; or in a write of one of the blocks by which the
+-- call, answered from what is seen, changes it, or (no block) in a barrier behind such writes.
 pub data IsFailedFor (d d' : DiskState) (v : Seen) (call : Call) : Option ℕ → Type 0 where
   in_a_read : (m : Missing) → IsNeededFor v call m → d' ≡ d → IsFailedFor d d' v call (Some m.block)
   in_a_write : (block : Option ℕ) (reply : Reply) (change : Change) → Does v call reply change → IsWriteOf change.blocks.items block

@@ -45,8 +45,8 @@ pub record AreWritten (d d' : DiskState) (blocks : List Written) : Type 0 where
   pub idle : (i : ℕ) → d'.in_flight i ≡ []
   pub blocks_are : IsTrue d.tells → (b : ℕ) → d'.block_at b ≡ unwrap_or (bytes_for blocks b) (d.block_at b)
 
--- Writes of these blocks by this node may have come to their places, or be in flight: each block is as it was, or as it is written, and each write in flight
--- is one of these.
+-- Writes of these blocks by this node may have come to their places, or be in flight: each block is as it was, or as it is written, and each
+-- write in flight is one of these.
 pub record MayBeWritten (node : ℕ) (d d' : DiskState) (blocks : List Written) : Type 0 where
   pub size : d'.size ≡ d.size
   pub count : d'.count ≡ d.count

@@ -14,7 +14,7 @@ ghost use Rattle.file_calls.specs.Calls.{IsBuilt};
 ghost use Rattle.script_lang.specs.OneNode.{IsOneNode, IsOwnLine};
 ghost use Rattle.lone_node.specs.Answering.{IsDamagedOn, IsFailedAt, IsHashedOn, IsSameDisk, IsUnbuiltOn};
 ghost use Rattle.lone_node.specs.Ends.{HasCause, IfDamaged, IfDiskFailed, IfHashed, IfNotBuilt, UnlessDiskFailed, UnlessFailed};
-ghost use Rattle.lone_node.specs.Run.{EndsAt, EndsAtCall, IsFailedOn, IsRunOf, IsRunUpTo, IsTakenBehind, IsTakenCall, IsWholeRun, full_item};
+ghost use Rattle.lone_node.specs.Run.{EndsAt, EndsAtCall, HasChangedNothing, IsFailedOn, IsRunOf, IsRunUpTo, IsTakenBehind, IsTakenCall, IsWholeRun, TellFree, full_item};
 ghost use Rattle.lone_node.specs.Standing.{IsOn, IsSameSystem, LeavesStanding, StandsFor};
 
 use crate::RunEnd;
@@ -100,13 +100,13 @@ fn take_call<D: SharedDisk>(
     requires on { IsOn (D.state disk.old) view.old }
     requires node { stamp.now.node ≡ 1 }
     requires built { IsBuilt call.now }
-    ensures taken { OnOk result (IsTakenCall client.now number call.now items.old.items items.new.items (D.state disk.old) (D.state disk.new) view.old) }
+    ensures taken { OnOk result (IsTakenCall client.now number call.now items.old.items items.new.items (D.state disk.old) (D.state disk.new) (D.list disk.old) (D.list disk.new) view.old) }
     ensures kept { OnErr result (items.new.items ≡ items.old.items) }
     ensures idle { OnOk result (IsIdle (D.state disk.new)) }
     ensures on { OnOk result (IsOn (D.state disk.new) view.new) }
     ensures disk { OnOk result (IsSameDisk (D.state disk.old) (D.state disk.new)) }
     ensures system { OnOk result (IsSameSystem view.old view.new) }
-    ensures before { IfErr result (λ end. UnlessFailed end (D.state disk.new ≡ D.state disk.old)) }
+    ensures before { IfErr result (λ end. UnlessFailed end ((D.state disk.new ≡ D.state disk.old) × (D.list disk.new ≡ D.list disk.old))) }
     ensures sound { IfErr result (λ end. IfDamaged end (λ b rule. (t : Tree) → StandsFor (D.state disk.old) view.old t → ⊥)) }
     ensures damaged { IfErr result (λ end. IfDamaged end (IsDamagedOn (D.state disk.old) view.old call.now)) }
     ensures hashed { IfErr result (λ end. IfHashed end (IsHashedOn (D.state disk.old) view.old call.now)) }
@@ -145,8 +145,10 @@ fn take_lines<D: SharedDisk>(
     requires form { AllByRecursion (IsOwnLine (length clients.now)) lines.now }
     requires joined { items.old.items ≡ TraceItem.Join 1 ∷ [] }
     ensures run { (count : ℕ) × IsRunUpTo clients.now lines.now count items.new.items (StandsFor (D.state disk.old) view.old) }
+    ensures free { (t : Tree) (s : StandsFor (D.state disk.old) view.old t) → TellFree (D.state disk.old) view.old t s items.new.items }
     ensures whole { OnOk result (IsRunUpTo clients.now lines.now (length lines.now) items.new.items (StandsFor (D.state disk.old) view.old)) }
     ensures stands { UnlessDiskFailed result ((t : Tree) (s : StandsFor (D.state disk.old) view.old t) → LeavesStanding (D.state disk.old) (D.state disk.new) view.old t (tree_of (history_of clients.now items.new.items) t) s) }
+    ensures untouched { UnlessDiskFailed result (HasChangedNothing clients.now items.new.items → (D.state disk.new ≡ D.state disk.old) × (D.list disk.new ≡ D.list disk.old)) }
     ensures idle { UnlessDiskFailed result (IsIdle (D.state disk.new)) }
     ensures disk { UnlessDiskFailed result (IsSameDisk (D.state disk.old) (D.state disk.new)) }
     ensures on { OnOk result (IsOn (D.state disk.new) view.new) }
@@ -192,8 +194,10 @@ fn run_lines<D: SharedDisk>(
     requires form { AllByRecursion (IsOwnLine (length clients.now)) lines.now }
     requires none { items.old.items ≡ [] }
     ensures run { IsRunOf clients.now lines.now items.new.items (StandsFor (D.state disk.old) view.old) }
+    ensures free { (t : Tree) (s : StandsFor (D.state disk.old) view.old t) → TellFree (D.state disk.old) view.old t s items.new.items }
     ensures whole { OnOk result (IsWholeRun clients.now lines.now items.new.items (StandsFor (D.state disk.old) view.old)) }
     ensures stands { UnlessDiskFailed result ((t : Tree) (s : StandsFor (D.state disk.old) view.old t) → LeavesStanding (D.state disk.old) (D.state disk.new) view.old t (tree_of (history_of clients.now items.new.items) t) s) }
+    ensures untouched { UnlessDiskFailed result (HasChangedNothing clients.now items.new.items → (D.state disk.new ≡ D.state disk.old) × (D.list disk.new ≡ D.list disk.old)) }
     ensures idle { UnlessDiskFailed result (IsIdle (D.state disk.new)) }
     ensures disk { UnlessDiskFailed result (IsSameDisk (D.state disk.old) (D.state disk.new)) }
     ensures on { OnOk result (IsOn (D.state disk.new) view.new) }
@@ -207,7 +211,10 @@ fn run_lines<D: SharedDisk>(
     ensures later { (i : ℕ) → D.faults disk.old i ≤ D.faults disk.new i }
     ensures cause { IfErr result (HasCause 1 (D.state disk.old).count (D.faults disk.old) (D.faults disk.new)) }
 {
-    put_item(items, TraceItem::Join { node: 1 })?;
+    match put_item(items, TraceItem::Join { node: 1 }) {
+        Ok(()) => {}
+        Err(_) => return Err(RunEnd::NoMemory),
+    }
     match take_lines(alloc, disk, view, clients, lines, stamp, items) {
         Ok(()) => {}
         Err(end) => return Err(end),
@@ -218,11 +225,11 @@ fn run_lines<D: SharedDisk>(
     }
 }
 
-/// Runs a script that one node can run, on a disk at rest that it has mounted: node 1 joins, takes the lines in order, and unmounts. A
-/// call is answered as the call of the next number, from 1 on over all clients, and what it changes is on the disk when it is answered;
-/// a wait passes. `time` is the time of each change, in seconds. The items go behind `items`, which is empty. Where the run ends before
-/// the script, the items so far stay, and the disk holds what their calls left, unless it failed. It costs what the calls cost, and
-/// memory for the items.
+/// Runs a script that one node can run, on a disk at rest that it has mounted: node 1 joins, takes the lines in order, and
+/// unmounts. A call is answered as the call of the next number, from 1 on over all clients, and what it changes is on the disk when
+/// it is answered; a wait passes. Where no call changes anything, nothing is written. `time` is the time of each change, in
+/// seconds. The items go behind `items`, which is empty. Where the run ends before the script, the items so far stay, and the disk
+/// holds what their calls left, unless it failed. It costs what the calls cost, and memory for the items.
 pub fn run_script<D: SharedDisk>(
     alloc: Global,
     disk: &mut D,
@@ -240,10 +247,12 @@ pub fn run_script<D: SharedDisk>(
     ensures legal { (t : Tree) → StandsFor (D.state disk.old) view.old t → Legal (history_of script.now.clients items.new.items) t }
     ensures stands { UnlessDiskFailed result ((t : Tree) (s : StandsFor (D.state disk.old) view.old t) → LeavesStanding (D.state disk.old) (D.state disk.new) view.old t (tree_of (history_of script.now.clients items.new.items) t) s) }
     ensures run { IsRunOf script.now.clients script.now.lines items.new.items (StandsFor (D.state disk.old) view.old) }
+    ensures free { (t : Tree) (s : StandsFor (D.state disk.old) view.old t) → TellFree (D.state disk.old) view.old t s items.new.items }
     ensures whole { OnOk result (IsWholeRun script.now.clients script.now.lines items.new.items (StandsFor (D.state disk.old) view.old)) }
     ensures members { NoneStopped items.new.items }
     ensures none_lost { NoneLost (history_of script.now.clients items.new.items) }
     ensures answered { OnOk result (AllAnswered items.new.items script.now) }
+    ensures untouched { UnlessDiskFailed result (HasChangedNothing script.now.clients items.new.items → (D.state disk.new ≡ D.state disk.old) × (D.list disk.new ≡ D.list disk.old)) }
     ensures idle { UnlessDiskFailed result (IsIdle (D.state disk.new)) }
     ensures disk { UnlessDiskFailed result (IsSameDisk (D.state disk.old) (D.state disk.new)) }
     ensures on { OnOk result (IsOn (D.state disk.new) view.new) }

@@ -84,6 +84,7 @@ pub(crate) fn write_all<D: SharedDisk>(disk: &mut D, blocks: &[Written]) -> Resu
     requires idle { IsIdle (D.state disk.old) }
     requires of_disk { AreOfDisk (D.state disk.old) blocks.now }
     ensures written { OnOk result (AreWritten (D.state disk.old) (D.state disk.new) blocks.now) }
+    ensures none { blocks.now ≡ [] → OnOk result ((D.state disk.new ≡ D.state disk.old) × (D.list disk.new ≡ D.list disk.old)) }
     ensures left { OnErr result (MayBeWritten 1 (D.state disk.old) (D.state disk.new) blocks.now) }
     ensures failed { IfErr result (λ end. IfDiskFailed end (IsWriteOf blocks.now)) }
     ensures later { (i : ℕ) → D.faults disk.old i ≤ D.faults disk.new i }
@@ -92,7 +93,10 @@ pub(crate) fn write_all<D: SharedDisk>(disk: &mut D, blocks: &[Written]) -> Resu
     let mut rest = blocks;
     while !rest.is_empty() {
         let (some, later) = rest.split_at(rest.len().min(512));
-        write_some(disk, some)?;
+        match write_some(disk, some) {
+            Ok(()) => {}
+            Err(end) => return Err(end),
+        }
         rest = later;
     }
     Ok(())

@@ -28,7 +28,7 @@ use Rattle.image_changes.proofs.Frame.{dinode_its}
 use Rattle.draft_changes.proofs.Rows.{its_used}
 use Rattle.draft_changes.proofs.Views.{groups_are_listed}
 use Rattle.path_walks.specs.Holds.{Hold, AreHeld, holds, hold_of, hold_for}
-use Rattle.making_calls.specs.Blocks.{block_holds, group_holds, group_of_node, hold_of_group, holds_from, new_holds, states_by}
+use Rattle.making_calls.specs.Blocks.{blocks_needed, block_holds, group_holds, group_of_node, hold_of_group, holds_from, new_holds, states_by}
 use Rattle.making_calls.specs.Searches.{AreShown, IsGroupBlock, IsGroupBroken, IsGroupNeeded, IsTaken, IsUnder}
 use Rattle.making_calls.specs.declared.blocks.Locked.TheVariants as locked
 use Rattle.making_calls.specs.declared.blocks.Room.{Room}
@@ -134,6 +134,11 @@ module _ (v : Seen) (node : ℕ) (view : IsView v) (some : 1 ≤ length v.groups
       let at = bytes_shown v view in
       let own = own_of v node some first in
       group_needed v (block_holds (said at.0) v.groups own.0) m (found at.0 own.0 (λ g has. at.1 g) own.1)
+
+  pub few_way : (free : ℕ)
+      → ((at : ℕ → List ℕ) (own : Group) → AreShown v at → group_of_node v.groups node ≡ Some own → IsUnder v (block_holds (said at) v.groups own) (IsTaken v (said at) v.groups own) (locked.Is (taken.TooFew free)))
+      → free < blocks_needed
+  few_way free found = let at = bytes_shown v view in let own = own_of v node some first in (found at.0 own.0 (λ g has. at.1 g) own.1).1.1
 
 -- ---- in an image
 

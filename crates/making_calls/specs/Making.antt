@@ -1,5 +1,5 @@
 -- The calls that make a name: what they answer, under which locks.
-use Rattle.std.specs.Prelude.{ℕ, ◌≡◌, ◌<◌, ⊤, Bool, true, false, if◌then◌else◌, List, [], ◌∷◌, ◌++◌, ◌&&◌, length, map, slice_get, Contains, Option, None, Some}
+use Rattle.std.specs.Prelude.{ℕ, ◌≡◌, ◌≢◌, ◌<◌, ⊤, Bool, true, false, if◌then◌else◌, List, [], ◌∷◌, ◌++◌, ◌&&◌, length, map, slice_get, Contains, Option, None, Some}
 use Rattle.std.specs.List.{AllByRecursion, list_any}
 use Rattle.file_tree.specs.Names.{parent_of, last_of}
 use Rattle.file_tree.specs.Tree.{Tree}
@@ -33,12 +33,13 @@ use Rattle.image_model.specs.Stands.{Layout, flat_of}
 use Rattle.image_changes.specs.Changes.{inode_of}
 use Rattle.image_changes.specs.Does.{IsInside, frees, with_change}
 use Rattle.image_changes.specs.Instances.{IsAt, dinode_at}
+use Rattle.path_walks.specs.Answers.{HasSpace}
 use Rattle.path_walks.specs.Holds.{Hold, AreHeld, IsAskedFor, IsFirstLack, hold_of, holds, holds_in}
 use Rattle.path_walks.specs.declared.walk.Place.{Place}
 use Rattle.path_walks.specs.Walks.{LeadsTo, IsLinearDirectory, IsOnTheWay, IsPlaceOf, IsUnread, IsWrong}
 use Rattle.path_walks.specs.Walks as path
 use Rattle.making_calls.specs.Blocks.{blocks_needed, states_by, free_for, free_in_all, group_of_node, hold_of_group, new_holds}
-use Rattle.making_calls.specs.Drafting.{HasTimes, IsNewInode, IsNextOf}
+use Rattle.making_calls.specs.Drafting.{CountsNumber, GetsRecord, HasTimes, IsNewInode, IsNextOf, kind_for}
 use Rattle.making_calls.specs.Searches.{IsGroupBroken, IsGroupNeeded}
 use Rattle.making_calls.specs.declared.finds.Found.{Found}
 use Rattle.making_calls.specs.declared.finds.Found.TheVariants as found
@@ -106,18 +107,19 @@ pub record LacksName (h : Holding) (name : List ℕ) : Type 0 where
   pub linear : IsLinearDirectory h
   pub absent : child_named (records_of h) name ≡ None
 
--- The path leads to this linear directory, which hasn't the name, and has room for its record, or hasn't.
+-- The path has a last name; what is before it leads to this linear directory, which hasn't the name, and has room for its record, or hasn't.
 pub record IsToGetName (v : Seen) (call : Call) (room : Bool) : Type 0 where
+  pub below : path_of call false ≢ []
   pub directory : ℕ
   pub leads : LeadsTo v (wanted call) (directory_path call) directory
   pub there : HasBlock v directory
   pub lacks : (h : Holding) → IsShown v directory h → LacksName h (name_in call)
   pub room_is : (h : Holding) → IsShown v directory h → has_room_for h (name_in call) ≡ room
 
--- a hashed directory without which the call isn't answered: one on the path, or at its end
+-- a hashed directory without which the call isn't answered: one on the way to the path's last name
 pub data IsHashedFor (v : Seen) (call : Call) (b : ℕ) : Type 0 where
   on_path : IsOnTheWay v (wanted call) (directory_path call) b (λ h. is_hashed_in h ≡ true) → IsHashedFor v call b
-  at_end : LeadsTo v (wanted call) (directory_path call) b → HasBlock v b → ((h : Holding) → IsShown v b h → is_hashed_in h ≡ true) → IsHashedFor v call b
+  at_end : path_of call false ≢ [] → LeadsTo v (wanted call) (directory_path call) b → HasBlock v b → ((h : Holding) → IsShown v b h → is_hashed_in h ≡ true) → IsHashedFor v call b
 
 -- the call isn't built yet: the directory that is to get the name has no room for it, and would be hashed
 abbrev pub IsUnbuilt : Seen → Call → Type 0
@@ -158,12 +160,14 @@ IsFoundBy v im o l t call list (found.NoSpace free) = IsTooFew v im o l t call b
 abbrev pub IsFound : Seen → Image → Owners → Layout → Tree → Call → ℕ → Found → Type 0
 IsFound v im o l t call node f = IsFoundBy v im o l t call (call_holds im o l t call node) f
 
--- on every view, what stands in the way does: the lock isn't held so strongly, the block is needed, the directory is hashed, or it isn't built
+-- on every view, what stands in the way does: the lock isn't held so strongly, the block is needed, the directory is hashed, it isn't built, or
+-- too few blocks are free
 abbrev pub IsToldOf : Seen → Call → Found → Type 0
 IsToldOf v call (found.NeedLock lock state) = holds v (record { lock = lock; state = state }) ≡ false
 IsToldOf v call (found.NeedBlock m) = IsNeededFor v call m
 IsToldOf v call (found.Hashed b) = IsHashedFor v call b
 IsToldOf v call found.NotBuilt = IsUnbuilt v call
+IsToldOf v call (found.NoSpace free) = free < blocks_needed
 IsToldOf v call f = ⊤
 
 -- what the change writes lies in the view's groups
@@ -180,7 +184,7 @@ abbrev pub entry_in : Image → Owners → ℕ → Entry
 entry_in im o a = record { number = (dinode_at im o a).num.number; addr = a; kind = 4 }
 
 -- The change puts the new inode, byte by byte, into the first free block in the node's order, with this time and with the next number of the
--- block's group.
+-- block's group, which counts it; and the directory gets the name's record and the time.
 pub record IsMade (im : Image) (o : Owners) (l : Layout) (call : Call) (node time : ℕ) (change : Change) : Type 0 where
   pub directory : ℕ
   pub at : IsAt im o l (directory_path call) directory
@@ -193,15 +197,17 @@ pub record IsMade (im : Image) (o : Owners) (l : Layout) (call : Call) (node tim
   pub data_block : IsDataOf group block
   pub number : ℕ
   pub next : IsNextOf im.at group number
+  pub counted : CountsNumber im.at (with_change im change).at group number
   pub is : IsNewInode (makes_directory call) (entry_in im o directory) number block time (alone im.size im.count block ((with_change im change).at block))
+  pub gets : GetsRecord (im.at directory) ((with_change im change).at directory) (name_in call) (record { number = number; addr = block; kind = kind_for (makes_directory call) }) time
 
 -- in the image with the change the dinode of the directory that gets the name has this time
 abbrev pub IsStamped : Image → Owners → Layout → Call → ℕ → Change → Type 0
 IsStamped im o l call time change = (a : ℕ) × IsAt im o l (directory_path call) a × HasTimes (dinode_of ((with_change im change).at a)) time
 
--- what a refusal is not
+-- what a refusal is not: `ok`, or that too few blocks are free
 abbrev pub IsRefusal : Found → Type 0
-IsRefusal (found.Refused r) = is_ok r ≡ false
+IsRefusal (found.Refused r) = (is_ok r ≡ false) × HasSpace r
 IsRefusal f = ⊤
 
 -- P of the change that is made

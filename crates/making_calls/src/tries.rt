@@ -1,5 +1,5 @@
 // A try of a call that makes a name.
-ghost use Rattle.std.specs.Prelude.{ℕ, ◌≡◌, ◌≤◌, [], true, false, length, IfOk, None};
+ghost use Rattle.std.specs.Prelude.{ℕ, ◌≡◌, ◌<◌, ◌≤◌, [], true, false, length, IfOk, None};
 ghost use Rattle.cluster_history.specs.Changes.{is_ok};
 ghost use Rattle.file_tree.specs.Apply.{apply};
 ghost use Rattle.file_tree.specs.Names.{IsName};
@@ -15,7 +15,7 @@ ghost use Rattle.image_model.specs.Image.{Image};
 ghost use Rattle.image_model.specs.Owners.{Owners};
 ghost use Rattle.image_model.specs.Stands.{Layout};
 ghost use Rattle.image_changes.specs.Does.{IsOf, Does};
-ghost use Rattle.path_walks.specs.Answers.{IfDone, IfNeedLock, IfNeedBlock, IfNoSpace, IfHashed, IfNotBuilt};
+ghost use Rattle.path_walks.specs.Answers.{IfDone, IfNeedLock, IfNeedBlock, IfNoSpace, IfHashed, IfNotBuilt, HasSpace};
 ghost use Rattle.path_walks.specs.Holds.{AreHeld, IsAskedFor, IsFirstLack, holds};
 ghost use Rattle.path_walks.specs.Walks.{IsSeenAt};
 ghost use Rattle.making_calls.specs.Making.{AreInside, IfMade, IsDamage, IsFound, IsHashedFor, IsLastOf, IsMade, IsMaking, IsNeededFor, IsReachedIn, IsRefusal, IsStamped, IsToldOf, IsTooFew, IsUnbuilt, IsUnder, LacksName, call_holds, directory_path, makes_directory};
@@ -223,6 +223,8 @@ pub fn attempt<V: View>(
     ensures lock { (im : Image) (o : Owners) (l : Layout) (t : Tree) → IsOf (V.seen view.now) im o l t → IfNeedLock result (IsFirstLack (V.seen view.now) (call_holds im o l t call.now stamp.now.node)) }
     ensures block { (im : Image) (o : Owners) (l : Layout) (t : Tree) → IsOf (V.seen view.now) im o l t → IfNeedBlock result (IsAskedFor (V.seen view.now) im o l (call_holds im o l t call.now stamp.now.node)) }
     ensures space { (im : Image) (o : Owners) (l : Layout) (t : Tree) → IsOf (V.seen view.now) im o l t → IfNoSpace result (IsTooFew (V.seen view.now) im o l t call.now) }
+    ensures fewer { IfNoSpace result (λ need free. free < need) }
+    ensures spaceless { IfDone result (λ reply change. HasSpace reply) }
     ensures lacked { IfNeedLock result (λ lock state. holds (V.seen view.now) (record { lock = lock; state = state }) ≡ false) }
     ensures needed { IfNeedBlock result (IsNeededFor (V.seen view.now) call.now) }
     ensures absent { IfNeedBlock result (λ missing. (V.seen view.now).block_at missing.block ≡ None) }

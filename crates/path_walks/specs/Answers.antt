@@ -1,6 +1,7 @@
 -- Which answer of a call over a view comes when.
 use Rattle.std.specs.Prelude.{ℕ, Result, Ok, ⊤}
 use Rattle.file_tree.specs.declared.reply.Reply.{Reply}
+use Rattle.file_tree.specs.declared.reply.Reply.TheVariants as reply
 use Rattle.glock_names.specs.declared.LockName.{LockName}
 use Rattle.glock_names.specs.declared.State.{State}
 use Rattle.glock_names.specs.declared.steps.CallFault.{CallFault}
@@ -33,3 +34,8 @@ IfHashed _ P = ⊤
 abbrev pub IfNotBuilt : Result Attempt CallFault → Type 0 → Type 0
 IfNotBuilt (Ok NotBuilt) P = P
 IfNotBuilt _ P = ⊤
+
+-- the reply doesn't tell of too few free blocks: this is for the node to answer, once it has seen that no call frees some
+abbrev pub HasSpace : Reply → Type 0
+HasSpace reply.NoSpace = ⊥
+HasSpace r = ⊤

@@ -25,6 +25,7 @@ use Rattle.resource_groups.specs.Putting.{HasDataBlock}
 use Rattle.image_model.specs.Image.{Image}
 use Rattle.image_model.specs.Owners.{Owners}
 use Rattle.image_model.specs.Stands.{Layout}
+use Rattle.path_walks.specs.Answers.{HasSpace}
 use Rattle.path_walks.specs.Holds.{Hold, AreHeld, IsAskedFor, IsFirstLack, holds_in}
 use Rattle.path_walks.specs.Walks as path
 use Rattle.path_walks.specs.Walks.{LeadsTo, IsAbsent, IsHashedOn, IsLacked, IsOnTheWay, IsUnread}
@@ -70,9 +71,10 @@ pub record IsOutside (end : ℕ) (h : Holding) : Type 0 where
 abbrev pub IsHashedFor : Seen → Call → ℕ → Type 0
 IsHashedFor v call b = IsOnTheWay v (wanted call) (path_of call false) b (λ h. is_hashed_in h ≡ true)
 
--- the call isn't built yet: such a file is at the path's end
+-- the write isn't built yet: such a file is at its path's end
 abbrev pub IsUnbuilt : Seen → Call → Type 0
-IsUnbuilt v call = (a : ℕ) × IsAtEnd v call a (IsOutside (end_of call))
+IsUnbuilt v (Write path at new) = (a : ℕ) × IsAtEnd v (Write path at new) a (IsOutside (at + length new))
+IsUnbuilt v call = ⊥
 
 -- the call is refused so: the walk along its path ends before, or at a directory, or the write would end too far out
 pub data IsRefused (v : Seen) (call : Call) : Reply → Type 0 where
@@ -143,9 +145,9 @@ IsFound v im o l t call (found.Hashed b) = IsHashedOn v im o l (path_of call fal
 IsFound v im o l t call found.NotBuilt = ((apply call t).reply ≡ reply.Ok) × AreHeld v (call_holds im o l call)
 IsFound v im o l t call (found.NeedLock lock state) = IsFirstLack v (call_holds im o l call) lock state
 
--- a refusal isn't answered Ok
+-- what a refusal is not: `ok`, or that too few blocks are free
 abbrev pub IsRefusal : Found → Type 0
-IsRefusal (found.Refused r) = is_ok r ≡ false
+IsRefusal (found.Refused r) = (is_ok r ≡ false) × HasSpace r
 IsRefusal f = ⊤
 
 -- P of the change of a write

@@ -12,7 +12,7 @@ ghost use Rattle.image_model.specs.Image.{Image};
 ghost use Rattle.image_model.specs.Owners.{Owners};
 ghost use Rattle.image_model.specs.Stands.{Layout};
 ghost use Rattle.image_changes.specs.Does.{IsOf, Does};
-ghost use Rattle.path_walks.specs.Answers.{IfDone, IfNeedLock, IfNeedBlock, IfNoSpace, IfHashed, IfNotBuilt};
+ghost use Rattle.path_walks.specs.Answers.{IfDone, IfNeedLock, IfNeedBlock, IfNoSpace, IfHashed, IfNotBuilt, HasSpace};
 ghost use Rattle.path_walks.specs.Holds.{AreHeld, IsAskedFor, IsFirstLack};
 ghost use Rattle.path_walks.specs.Walks.{IsHashedOn, IsLacked, IsSeenAt, IsUnread, IsWalked};
 ghost use Rattle.path_walks.specs.declared.walk.Walk.TheVariants.{At};
@@ -59,6 +59,7 @@ fn write_at<V: View>(
     ensures done { IfOk result (IfWritten (Does (V.seen view.now) call.now OkReply)) }
     ensures inside { IfOk result (IfWritten (AreInside (V.seen view.now))) }
     ensures refusal { IfOk result IsRefusal }
+    ensures exact { IfOk result (IfWritten (λ change. IsUnbuilt (V.seen view.now) call.now → ⊥)) }
     ensures told { IfOk result (IsToldOf (V.seen view.now) call.now time) }
     ensures sound { (im : Image) (o : Owners) (l : Layout) (t : Tree) → IsOf (V.seen view.now) im o l t → IfDamaged result (λ rule block. ⊥) }
     ensures damaged { IfDamaged result (IsDamage (V.seen view.now) call.now) }
@@ -99,6 +100,7 @@ fn find<V: View>(
     ensures done { IfOk result (IfWritten (Does (V.seen view.now) call.now OkReply)) }
     ensures inside { IfOk result (IfWritten (AreInside (V.seen view.now))) }
     ensures refusal { IfOk result IsRefusal }
+    ensures exact { IfOk result (IfWritten (λ change. IsUnbuilt (V.seen view.now) call.now → ⊥)) }
     ensures told { IfOk result (IsToldOf (V.seen view.now) call.now time) }
     ensures sound { (im : Image) (o : Owners) (l : Layout) (t : Tree) → IsOf (V.seen view.now) im o l t → IfDamaged result (λ rule block. ⊥) }
     ensures damaged { IfDamaged result (IsDamage (V.seen view.now) call.now) }
@@ -133,6 +135,8 @@ fn write<V: View>(
     ensures lock { (im : Image) (o : Owners) (l : Layout) (t : Tree) → IsOf (V.seen view.now) im o l t → IfNeedLock result (IsFirstLack (V.seen view.now) (call_holds im o l call.now)) }
     ensures block { (im : Image) (o : Owners) (l : Layout) (t : Tree) → IsOf (V.seen view.now) im o l t → IfNeedBlock result (IsAskedFor (V.seen view.now) im o l (call_holds im o l call.now)) }
     ensures space { IfNoSpace result (λ need free. ⊥) }
+    ensures spaceless { IfDone result (λ reply change. HasSpace reply) }
+    ensures exact { IfDone result (λ reply change. reply ≡ OkReply → IsUnbuilt (V.seen view.now) call.now → ⊥) }
     ensures answered { IfDone result (IsWriteAnswered (V.seen view.now) call.now time) }
     ensures lacked { IfNeedLock result (IsLacked (V.seen view.now) (wanted call.now) (path_of call.now false)) }
     ensures needed { IfNeedBlock result (IsUnread (V.seen view.now) (wanted call.now) (path_of call.now false)) }
@@ -178,6 +182,8 @@ pub fn attempt<V: View>(
     ensures lock { (im : Image) (o : Owners) (l : Layout) (t : Tree) → IsOf (V.seen view.now) im o l t → IfNeedLock result (IsFirstLack (V.seen view.now) (call_holds im o l call.now)) }
     ensures block { (im : Image) (o : Owners) (l : Layout) (t : Tree) → IsOf (V.seen view.now) im o l t → IfNeedBlock result (IsAskedFor (V.seen view.now) im o l (call_holds im o l call.now)) }
     ensures space { IfNoSpace result (λ need free. ⊥) }
+    ensures spaceless { IfDone result (λ reply change. HasSpace reply) }
+    ensures exact { IfDone result (λ reply change. reply ≡ OkReply → IsUnbuilt (V.seen view.now) call.now → ⊥) }
     ensures answered { IfDone result (IsAnswered (V.seen view.now) call.now stamp.now.time) }
     ensures lacked { IfNeedLock result (IsLacked (V.seen view.now) (wanted call.now) (path_of call.now false)) }
     ensures needed { IfNeedBlock result (IsUnread (V.seen view.now) (wanted call.now) (path_of call.now false)) }

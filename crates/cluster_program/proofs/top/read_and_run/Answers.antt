@@ -12,5 +12,4 @@ pub returns-clause-course : goal.returns-clause-course
 returns-clause-course g c = λ words asks.
     let read = c.in-Ok.ensures.script in
     with_no_lines words _ _ c.new.ensures.items
-    (RunsScript read.0 c.in-Ok.script c.mount_and_run-own.new.items.items c.mount_and_run-own.result asks read.1 read.2 c.in-Ok.ensures.built.0
-    (record { state_is = c.mount_and_run-own.ensures.reads.same; list_is = c.mount_and_run-own.ensures.reads.list }) c.mount_and_run-own.ensures.runs)
+    (RunsScript read.0 c.in-Ok.script c.mount_and_run-own.new.items.items c.mount_and_run-own.result asks read.1 read.2 c.in-Ok.ensures.built.0 (c.mount_and_run-own.ensures.runs _ _ _ _))

@@ -1,17 +1,18 @@
-use Rattle.std.proofs.Common.{rules, ℕ, ◌≡◌, true, Result, Ok, Err, sym, ap, ◌∙◌, subst}
+use Rattle.std.proofs.Common.{rules, ℕ, ◌≡◌, ◌≢◌, true, Result, Ok, Err, sym, ap, ◌∙◌, subst}
 use Rattle.std.specs.Prelude.{not}
 use Rattle.drafts.specs.declared.attempt.Attempt.{Attempt}
 use Rattle.drafts.specs.declared.attempt.Attempt.TheVariants.{Done, NeedLock, NeedBlock, NoSpace, Hashed, NotBuilt}
 use Rattle.glock_names.specs.declared.steps.CallFault.{CallFault}
 use Rattle.glock_names.specs.declared.steps.Missing.{Missing}
 use Rattle.cluster_history.specs.Changes.{is_ok}
-use Rattle.path_walks.specs.Answers.{IfDone, IfNeedBlock, IfNeedLock, IfNoSpace, IfNotBuilt}
+use Rattle.path_walks.specs.Answers.{IfDone, IfNeedBlock, IfNeedLock, IfNoSpace, IfNotBuilt, HasSpace}
 use Rattle.path_walks.specs.Holds.{AreHeld, IsAskedFor, IsFirstLack}
 use Rattle.making_calls.specs.Making.{IsMaking}
 use Rattle.making_calls.specs.Making as making
 use Rattle.removing_calls.specs.Removing.{IsRemoving, IsUnder}
 use Rattle.writing_calls.specs.Writing.{IsWriting, AreUnder}
 use Rattle.file_tree.specs.declared.reply.Reply.{Reply}
+use Rattle.file_tree.specs.declared.reply.Reply.TheVariants as reply
 use Rattle.drafts.specs.declared.change.Change.{Change}
 use Rattle.image_changes.specs.Does.{Does}
 use Rattle.read_calls.specs.Reading.{IsReading}
@@ -195,3 +196,28 @@ returns-in-Unlink-clause-unbuilt g c = built_so c.attempt-in-Unlink.result _ c.a
 
 pub returns-in-Unlink-clause-taken : goal.returns-in-Unlink-clause-taken
 returns-in-Unlink-clause-taken g c im o l t of = built_so c.attempt-in-Unlink.result _ c.attempt-in-Unlink.ensures.built
+
+-- a reply that doesn't tell of too few free blocks is another one
+space_so : (r : Reply) → HasSpace r → r ≢ reply.NoSpace
+space_so r has e = subst HasSpace e has
+
+pub returns-in-Read-clause-spaceless : goal.returns-in-Read-clause-spaceless
+returns-in-Read-clause-spaceless g c = done_so c.attempt-in-Read.result _ _ (λ x change has. space_so x has) c.attempt-in-Read.ensures.spaceless
+
+pub returns-in-Read-clause-fewer : goal.returns-in-Read-clause-fewer
+returns-in-Read-clause-fewer g c = few_so c.attempt-in-Read.result _ _ (λ need free never. absurd never) c.attempt-in-Read.ensures.space
+
+pub returns-in-Create-clause-spaceless : goal.returns-in-Create-clause-spaceless
+returns-in-Create-clause-spaceless g c = done_so c.attempt-in-Create.result _ _ (λ x change has. space_so x has) c.attempt-in-Create.ensures.spaceless
+
+pub returns-in-Unlink-clause-spaceless : goal.returns-in-Unlink-clause-spaceless
+returns-in-Unlink-clause-spaceless g c = done_so c.attempt-in-Unlink.result _ _ (λ x change has. space_so x has) c.attempt-in-Unlink.ensures.spaceless
+
+pub returns-in-Unlink-clause-fewer : goal.returns-in-Unlink-clause-fewer
+returns-in-Unlink-clause-fewer g c = few_so c.attempt-in-Unlink.result _ _ (λ need free never. absurd never) c.attempt-in-Unlink.ensures.space
+
+pub returns-in-Write-clause-spaceless : goal.returns-in-Write-clause-spaceless
+returns-in-Write-clause-spaceless g c = done_so c.attempt.result _ _ (λ x change has. space_so x has) c.attempt.ensures.spaceless
+
+pub returns-in-Write-clause-fewer : goal.returns-in-Write-clause-fewer
+returns-in-Write-clause-fewer g c = few_so c.attempt.result _ _ (λ need free never. absurd never) c.attempt.ensures.space

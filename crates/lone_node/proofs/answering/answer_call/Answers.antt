@@ -1,15 +1,17 @@
-use Rattle.std.proofs.Common.{◌≡◌, Option, sym, subst}
+use Rattle.std.proofs.Common.{◌≡◌, Option, false, sym, ◌∙◌, subst}
 use Rattle.std.specs.Prelude.{IfSome}
 use Rattle.file_tree.specs.Apply.{apply}
 use Rattle.file_tree.specs.Tree.{Tree}
 use Rattle.file_tree.specs.declared.reply.Reply.TheVariants.{Ok as OkReply}
+use Rattle.cluster_history.specs.Changes.{Changes}
 use Rattle.file_calls.specs.Calls.{IsHashed}
 use Rattle.lone_view.specs.Seeing.{seen_alone}
-use Rattle.lone_node.specs.Answering.{IsAnsweredFrom, IsDamagedFor, IsDamagedOn, IsFailedAt, IsFailedFor, IsHashedOn, IsToldFull, IsUnbuiltOn}
+use Rattle.lone_node.specs.Answering.{IsAnsweredFrom, IsDamagedFor, IsDamagedOn, IsFailedAt, IsFailedFor, IsFreeCount, IsHashedOn, IsToldFull, IsUnbuiltOn}
 use Rattle.lone_node.specs.Standing.{StandsFor}
 use Rattle.lone_node.specs.declared.answering.Answer.{Answer}
 use Rattle.lone_node.proofs.Answered.{answered_from}
 use Rattle.lone_node.proofs.Endings.{damaged_so, failed_so, hashed_so, unbuilt_so}
+use Rattle.lone_node.proofs.Frees.{free_as}
 use Rattle.lone_node.proofs.Leaving.{stands_on}
 use Rattle.lone_node.proofs.answering.answer_call.Goals as goal
 
@@ -65,8 +67,26 @@ returns-in-Err-clause-damaged g c =
     c.in-Err.ensures.damaged
 
 pub returns-in-Ok-Some-clause-full : goal.returns-in-Ok-Some-clause-full
-returns-in-Ok-Some-clause-full g c t s =
+returns-in-Ok-Some-clause-full g c =
+    subst (λ (r : Option Answer). IfSome r (λ a. IsToldFull a.reply a.full)) c.in-Ok-Some.field-0-is c.in-Ok-Some.ensures.full
+
+pub returns-in-Ok-Some-clause-untouched : goal.returns-in-Ok-Some-clause-untouched
+returns-in-Ok-Some-clause-untouched g c none =
     let so = c.loop-found.invariant in
+    let next = g.D.SharedDisk.state c.try_once.new.disk in
+    let kept =
+    subst (λ (r : Option Answer). IfSome r (λ a. Changes (record { call = c.args.call.now; reply = a.reply }) ≡ false → (next ≡ g.D.SharedDisk.state c.loop-found.disk)
+    × (g.D.SharedDisk.list c.try_once.new.disk ≡ g.D.SharedDisk.list c.loop-found.disk)))
+    c.in-Ok-Some.field-0-is c.in-Ok-Some.ensures.untouched none
+    in
+    (kept.0 ∙ so.same, kept.1 ∙ so.list)
+
+pub returns-in-Ok-Some-clause-free : goal.returns-in-Ok-Some-clause-free
+returns-in-Ok-Some-clause-free g c t s =
+    let d = g.D.SharedDisk.state c.args.disk.now in
     let now = g.D.SharedDisk.state c.loop-found.disk in
-    subst (λ (r : Option Answer). IfSome r (λ a. (u : Tree) → StandsFor now c.loop-found.view u → IsToldFull a.reply a.full)) c.in-Ok-Some.field-0-is c.in-Ok-Some.ensures.full t
-    (subst (λ e. StandsFor e c.loop-found.view t) (sym so.same) (stands_on (g.D.SharedDisk.state c.args.disk.now) c.args.view.now c.loop-found.view t so.system s))
+    let so = c.loop-found.invariant in
+    let told = subst (λ (r : Option Answer). IfSome r (λ a. (u : Tree) (at : StandsFor now c.loop-found.view u) → IfSome a.full (λ f. IsFreeCount now c.loop-found.view u at f.need f.free))) c.in-Ok-Some.field-0-is c.in-Ok-Some.ensures.free in
+    free_as d c.args.view.now c.loop-found.view t so.system s c.in-Ok-Some.found.full
+    (subst (λ e. (u : Tree) (at : StandsFor e c.loop-found.view u) → IfSome c.in-Ok-Some.found.full (λ f. IsFreeCount e c.loop-found.view u at f.need f.free)) so.same told t
+    (stands_on d c.args.view.now c.loop-found.view t so.system s))

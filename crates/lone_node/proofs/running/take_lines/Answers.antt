@@ -1,4 +1,4 @@
-use Rattle.std.proofs.Common.{◌≡◌, List, refl, rules, sym, subst, arith}
+use Rattle.std.proofs.Common.{◌≡◌, List, refl, rules, sym, ◌∙◌, subst, arith}
 use Rattle.file_tree.specs.Apply.{apply}
 use Rattle.file_tree.specs.Tree.{Tree}
 use Rattle.file_tree.specs.declared.call.Call.{Call}
@@ -8,16 +8,17 @@ use Rattle.run_rules.specs.Follows.{history_of}
 use Rattle.shared_disk.specs.Disk.{DiskState}
 use Rattle.trace_text.specs.declared.item.TraceItem.{TraceItem}
 use Rattle.lone_node.specs.Answering.{IsDamagedOn, IsFailedAt, IsHashedOn, IsUnbuiltOn}
-use Rattle.lone_node.specs.Run.{EndsAt, EndsAtCall, IsFailedOn, IsTakenBehind}
+use Rattle.lone_node.specs.Run.{EndsAt, EndsAtCall, HasChangedNothing, IsFailedOn, IsTakenBehind, TellFree}
 use Rattle.lone_node.specs.Standing.{LeavesStanding, StandsFor}
 use Rattle.lone_node.proofs.Endings.{damaged_before, damaged_so, damaged_with, failed_before, failed_so, hashed_before, hashed_with, unbuilt_before, unbuilt_so, unbuilt_with, unless_so}
+use Rattle.lone_node.proofs.Frees.{AreTold}
 use Rattle.lone_node.proofs.Leaving.{leaves_none, stands_on}
-use Rattle.lone_node.proofs.Steps.{ends_at, goes_on, its_call, no_more_calls, run_none, tree_is, wait_more}
+use Rattle.lone_node.proofs.Steps.{ends_at, goes_on, its_call, no_more_calls, run_none, tells_free, tree_is, wait_more}
 use Rattle.lone_node.proofs.running.take_lines.Given.{Over}
 use Rattle.lone_node.proofs.running.take_lines.Goals as goal
 
-pub loop-line-init : goal.loop-line-init
-loop-line-init g c =
+pub loop-place-init : goal.loop-place-init
+loop-place-init g c =
     let disk = g.D.SharedDisk.state c.args.disk.now in
     let start = StandsFor disk c.args.view.now in
     let run = run_none c.args.clients.now c.args.lines.now start c.args.items.now.items c.requires.joined in
@@ -26,6 +27,8 @@ loop-line-init g c =
       number = refl;
       leaves = λ t s. subst (λ (u : Tree). LeavesStanding disk disk c.args.view.now t u s) (sym (tree_is c.args.clients.now c.args.lines.now start 0 c.args.items.now.items run t))
           (leaves_none disk c.args.view.now t s);
+      told = λ t s. refl;
+      untouched = λ nothing. (refl, refl);
       idle = c.requires.idle;
       on = c.requires.on;
       same = record { size = refl; count = refl; tells = refl; fenced = refl };
@@ -33,18 +36,20 @@ loop-line-init g c =
       later = λ i. omega arith;
     }
 
-pub loop-line-preserved-in_default : goal.loop-line-preserved-in_default
-loop-line-preserved-in_default g c =
-    let so = c.loop-line.invariant in
+pub loop-place-preserved-in_default : goal.loop-place-preserved-in_default
+loop-place-preserved-in_default g c =
+    let so = c.loop-place.invariant in
     let start = StandsFor (g.D.SharedDisk.state c.args.disk.now) c.args.view.now in
-    let (run, number) =
-    wait_more c.args.clients.now c.args.lines.now start c.loop-line.line-index c.loop-line.items.items c.loop-line-test.true so.run
-    c.loop-line.number c.line-item.result c.line-item.result c.line-item.is c.in_default.not-Call so.number
+    let (run, number, same) =
+    wait_more c.args.clients.now c.args.lines.now start c.loop-place.place c.loop-place.items.items c.loop-place-test.true so.run
+    c.loop-place.number c.index-lines-place.result c.index-lines-place.result c.index-lines-place.is c.in_default.not-Call so.number
     in
     record {
       run = run;
       number = number;
       leaves = so.leaves;
+      told = λ t s. subst (AreTold (g.D.SharedDisk.state c.loop-place.disk) (g.D.SharedDisk.state c.args.disk.now) c.args.view.now t s) (sym same) (so.told t s);
+      untouched = so.untouched;
       idle = so.idle;
       on = so.on;
       same = so.same;
@@ -54,32 +59,35 @@ loop-line-preserved-in_default g c =
 
 pub overflow_add-number : goal.overflow_add-number
 overflow_add-number g c =
-    let so = c.loop-line.invariant in
-    let few = no_more_calls c.args.clients.now c.args.lines.now (StandsFor (g.D.SharedDisk.state c.args.disk.now) c.args.view.now) c.loop-line.line-index c.loop-line.items.items
-    c.loop-line-test.true so.run in
-    omega (arith, few, so.number, c.loop-line-test.true, c.well_formed)
+    let so = c.loop-place.invariant in
+    let few = no_more_calls c.args.clients.now c.args.lines.now (StandsFor (g.D.SharedDisk.state c.args.disk.now) c.args.view.now) c.loop-place.place c.loop-place.items.items
+    c.loop-place-test.true so.run in
+    omega (arith, few, so.number, c.loop-place-test.true, c.well_formed)
 
 pub take_call-requires-clause-built : goal.take_call-requires-clause-built
 take_call-requires-clause-built g c =
-    its_call c.args.clients.now c.args.lines.now (StandsFor (g.D.SharedDisk.state c.args.disk.now) c.args.view.now) c.loop-line.line-index c.loop-line.items.items c.loop-line-test.true
-    c.loop-line.invariant.run c.in-Call.client c.in-Call.call
-    c.line-item.result c.line-item.result c.index-clients-client.result c.line-item.is c.in-Call.is c.requires.form
+    its_call c.args.clients.now c.args.lines.now (StandsFor (g.D.SharedDisk.state c.args.disk.now) c.args.view.now) c.loop-place.place c.loop-place.items.items c.loop-place-test.true
+    c.loop-place.invariant.run c.in-Call.client c.in-Call.call
+    c.index-lines-place.result c.index-lines-place.result c.index-clients-client.result c.index-lines-place.is c.in-Call.is c.requires.form
 
-pub loop-line-preserved : goal.loop-line-preserved
-loop-line-preserved g c =
-    let so = c.loop-line.invariant in
-    let now = g.D.SharedDisk.state c.loop-line.disk in
+pub loop-place-preserved : goal.loop-place-preserved
+loop-place-preserved g c =
+    let so = c.loop-place.invariant in
+    let now = g.D.SharedDisk.state c.loop-place.disk in
     let next = g.D.SharedDisk.state c.take_call.new.disk in
     let start = g.D.SharedDisk.state c.args.disk.now in
-    let (run, number, leaves) =
-    goes_on c.args.clients.now c.args.lines.now start c.args.view.now c.loop-line.line-index c.loop-line.items.items c.loop-line-test.true so.run c.in-Call.client c.in-Call.call
-    c.line-item.result c.line-item.result c.index-clients-client.result c.line-item.is c.in-Call.is c.requires.form
-    c.take_call.new.items.items c.loop-line.number now next c.loop-line.view so.number c.in-Ok.ensures.taken so.system so.leaves
+    let (run, number, leaves, told, untouched) =
+    goes_on c.args.clients.now c.args.lines.now start c.args.view.now c.loop-place.place c.loop-place.items.items c.loop-place-test.true so.run c.in-Call.client c.in-Call.call
+    c.index-lines-place.result c.index-lines-place.result c.index-clients-client.result c.index-lines-place.is c.in-Call.is c.requires.form
+    c.take_call.new.items.items c.loop-place.number now next (g.D.SharedDisk.list c.loop-place.disk) (g.D.SharedDisk.list c.take_call.new.disk) c.loop-place.view so.number c.in-Ok.ensures.taken so.system so.leaves so.told
+    (g.D.SharedDisk.list c.args.disk.now) so.untouched
     in
     record {
       run = run;
       number = number;
       leaves = leaves;
+      told = told;
+      untouched = untouched;
       idle = c.in-Ok.ensures.idle;
       on = c.in-Ok.ensures.on;
       same = search rules;
@@ -89,10 +97,10 @@ loop-line-preserved g c =
 
 -- what the disk stood for before the call that wasn't answered, where its items are those before
 stood : (g : Over) (c : goal.In-Err g) (t : Tree) (s : StandsFor (g.D.SharedDisk.state c.args.disk.now) c.args.view.now t)
-    → LeavesStanding (g.D.SharedDisk.state c.args.disk.now) (g.D.SharedDisk.state c.loop-line.disk) c.args.view.now t (tree_of (history_of c.args.clients.now c.take_call.new.items.items) t) s
+    → LeavesStanding (g.D.SharedDisk.state c.args.disk.now) (g.D.SharedDisk.state c.loop-place.disk) c.args.view.now t (tree_of (history_of c.args.clients.now c.take_call.new.items.items) t) s
 stood g c t s =
-    subst (λ (is : List TraceItem). LeavesStanding (g.D.SharedDisk.state c.args.disk.now) (g.D.SharedDisk.state c.loop-line.disk) c.args.view.now t (tree_of (history_of c.args.clients.now is) t) s)
-    (sym c.in-Err.ensures.kept) (c.loop-line.invariant.leaves t s)
+    subst (λ (is : List TraceItem). LeavesStanding (g.D.SharedDisk.state c.args.disk.now) (g.D.SharedDisk.state c.loop-place.disk) c.args.view.now t (tree_of (history_of c.args.clients.now is) t) s)
+    (sym c.in-Err.ensures.kept) (c.loop-place.invariant.leaves t s)
 
 -- the run ends at this call
 module _ (g : Over) (c : goal.In-Err g) where
@@ -100,70 +108,93 @@ module _ (g : Over) (c : goal.In-Err g) where
   start = StandsFor (g.D.SharedDisk.state c.args.disk.now) c.args.view.now
 
   abbrev now : DiskState
-  now = g.D.SharedDisk.state c.loop-line.disk
+  now = g.D.SharedDisk.state c.loop-place.disk
 
   abbrev next : DiskState
   next = g.D.SharedDisk.state c.take_call.new.disk
 
-  at_line : (P : Call → Type 0) → P c.in-Call.call → EndsAt c.loop-line.line-index P c.args.clients.now c.args.lines.now c.take_call.new.items.items start
+  -- it left the disk as it was
+  abbrev IsStill : Type 0
+  IsStill = (next ≡ now) × (g.D.SharedDisk.list c.take_call.new.disk ≡ g.D.SharedDisk.list c.loop-place.disk)
+
+  -- nothing has changed before it either
+  nothing_before : HasChangedNothing c.args.clients.now c.take_call.new.items.items → (now ≡ g.D.SharedDisk.state c.args.disk.now) × (g.D.SharedDisk.list c.loop-place.disk ≡ g.D.SharedDisk.list c.args.disk.now)
+  nothing_before nothing = c.loop-place.invariant.untouched (subst (HasChangedNothing c.args.clients.now) c.in-Err.ensures.kept nothing)
+
+  at_line : (P : Call → Type 0) → P c.in-Call.call → EndsAt c.loop-place.place P c.args.clients.now c.args.lines.now c.take_call.new.items.items start
   at_line P holds =
-      ends_at c.args.clients.now c.args.lines.now start c.loop-line.line-index c.loop-line.items.items c.loop-line-test.true c.loop-line.invariant.run c.in-Call.client c.in-Call.call
-      c.line-item.result c.line-item.result c.index-clients-client.result c.line-item.is c.in-Call.is c.requires.form P c.take_call.new.items.items c.in-Err.ensures.kept holds
+      ends_at c.args.clients.now c.args.lines.now start c.loop-place.place c.loop-place.items.items c.loop-place-test.true c.loop-place.invariant.run c.in-Call.client c.in-Call.call
+      c.index-lines-place.result c.index-lines-place.result c.index-clients-client.result c.index-lines-place.is c.in-Call.is c.requires.form P c.take_call.new.items.items c.in-Err.ensures.kept holds
 
   at_call : (P : Call → Type 0) → P c.in-Call.call → EndsAtCall P c.args.clients.now c.args.lines.now c.take_call.new.items.items start
-  at_call P holds = record { count = c.loop-line.line-index; ends = at_line P holds }
+  at_call P holds = record { count = c.loop-place.place; ends = at_line P holds }
 
 pub returns-in-Err-clause-stands : goal.returns-in-Err-clause-stands
 returns-in-Err-clause-stands g c =
     unless_so c.in-Err.end
-    (λ (same : next g c ≡ now g c) t s. subst (λ (d : DiskState). LeavesStanding (g.D.SharedDisk.state c.args.disk.now) d c.args.view.now t (tree_of (history_of c.args.clients.now c.take_call.new.items.items) t) s) (sym same) (stood g c t s))
+    (λ (same : IsStill g c) t s. subst (λ (d : DiskState). LeavesStanding (g.D.SharedDisk.state c.args.disk.now) d c.args.view.now t (tree_of (history_of c.args.clients.now c.take_call.new.items.items) t) s) (sym same.0) (stood g c t s))
     c.in-Err.ensures.before
+
+pub returns-in-Err-clause-untouched : goal.returns-in-Err-clause-untouched
+returns-in-Err-clause-untouched g c =
+    unless_so c.in-Err.end (λ (same : IsStill g c) nothing. (same.0 ∙ (nothing_before g c nothing).0, same.1 ∙ (nothing_before g c nothing).1)) c.in-Err.ensures.before
 
 pub returns-in-Err-clause-sound : goal.returns-in-Err-clause-sound
 returns-in-Err-clause-sound g c =
-    damaged_so c.in-Err.end (λ b rule. (t : Tree) → StandsFor (now g c) c.loop-line.view t → ⊥) (λ b rule. (t : Tree) → start g c t → ⊥)
-    (λ b rule never t s. never _ (stands_on (now g c) c.args.view.now c.loop-line.view _ c.loop-line.invariant.system (c.loop-line.invariant.leaves t s).now)) c.in-Err.ensures.sound
+    damaged_so c.in-Err.end (λ b rule. (t : Tree) → StandsFor (now g c) c.loop-place.view t → ⊥) (λ b rule. (t : Tree) → start g c t → ⊥)
+    (λ b rule never t s. never _ (stands_on (now g c) c.args.view.now c.loop-place.view _ c.loop-place.invariant.system (c.loop-place.invariant.leaves t s).now)) c.in-Err.ensures.sound
 
 pub returns-in-Err-clause-hashed : goal.returns-in-Err-clause-hashed
 returns-in-Err-clause-hashed g c =
-    hashed_with c.in-Err.end (IsHashedOn (now g c) c.loop-line.view c.in-Call.call) _
-    (λ (same : next g c ≡ now g c) b is. at_call g c (λ call. IsHashedOn (next g c) c.args.view.now call b)
-    (hashed_before (now g c) (next g c) c.args.view.now c.loop-line.view c.in-Call.call b same c.loop-line.invariant.system is))
+    hashed_with c.in-Err.end (IsHashedOn (now g c) c.loop-place.view c.in-Call.call) _
+    (λ (same : IsStill g c) b is. at_call g c (λ call. IsHashedOn (next g c) c.args.view.now call b)
+    (hashed_before (now g c) (next g c) c.args.view.now c.loop-place.view c.in-Call.call b same.0 c.loop-place.invariant.system is))
     c.in-Err.ensures.before c.in-Err.ensures.hashed
 
 pub returns-in-Err-clause-unbuilt : goal.returns-in-Err-clause-unbuilt
 returns-in-Err-clause-unbuilt g c =
     let P = λ (call : Call). IsUnbuiltOn (next g c) c.args.view.now call in
-    unbuilt_with c.in-Err.end (λ place. (place ≡ c.loop-line.line-index) × IsUnbuiltOn (now g c) c.loop-line.view c.in-Call.call) _
-    (λ (same : next g c ≡ now g c) place is. subst (λ k. EndsAt k P c.args.clients.now c.args.lines.now c.take_call.new.items.items (start g c)) (sym is.0)
-    (at_line g c P (unbuilt_before (now g c) (next g c) c.args.view.now c.loop-line.view c.in-Call.call same c.loop-line.invariant.system is.1)))
+    unbuilt_with c.in-Err.end (λ place. (place ≡ c.loop-place.place) × IsUnbuiltOn (now g c) c.loop-place.view c.in-Call.call) _
+    (λ (same : IsStill g c) place is. subst (λ k. EndsAt k P c.args.clients.now c.args.lines.now c.take_call.new.items.items (start g c)) (sym is.0)
+    (at_line g c P (unbuilt_before (now g c) (next g c) c.args.view.now c.loop-place.view c.in-Call.call same.0 c.loop-place.invariant.system is.1)))
     c.in-Err.ensures.before c.in-Err.ensures.unbuilt
 
 pub returns-in-Err-clause-taken : goal.returns-in-Err-clause-taken
 returns-in-Err-clause-taken g c =
     let P = IsTakenBehind c.args.clients.now c.take_call.new.items.items (start g c) in
-    unbuilt_so c.in-Err.end (λ place. (place ≡ c.loop-line.line-index) × ((t : Tree) → StandsFor (now g c) c.loop-line.view t → (apply c.in-Call.call t).reply ≡ OkReply)) _
+    unbuilt_so c.in-Err.end (λ place. (place ≡ c.loop-place.place) × ((t : Tree) → StandsFor (now g c) c.loop-place.view t → (apply c.in-Call.call t).reply ≡ OkReply)) _
     (λ place is. subst (λ k. EndsAt k P c.args.clients.now c.args.lines.now c.take_call.new.items.items (start g c)) (sym is.0)
     (at_line g c P (λ t s. is.1 (tree_of (history_of c.args.clients.now c.take_call.new.items.items) t)
-    (stands_on (now g c) c.args.view.now c.loop-line.view _ c.loop-line.invariant.system (stood g c t s).now))))
+    (stands_on (now g c) c.args.view.now c.loop-place.view _ c.loop-place.invariant.system (stood g c t s).now))))
     c.in-Err.ensures.accepted
 
 pub returns-in-Err-clause-failed : goal.returns-in-Err-clause-failed
 returns-in-Err-clause-failed g c =
     let first = g.D.SharedDisk.state c.args.disk.now in
-    failed_so c.in-Err.end (IsFailedAt (now g c) (next g c) c.loop-line.view c.in-Call.call) _
+    failed_so c.in-Err.end (IsFailedAt (now g c) (next g c) c.loop-place.view c.in-Call.call) _
     (λ block is. at_call g c (λ call. IsFailedOn first (next g c) c.args.view.now c.args.clients.now c.take_call.new.items.items call block) (record {
       before = now g c;
-      same = c.loop-line.invariant.same;
-      idle = c.loop-line.invariant.idle;
+      same = c.loop-place.invariant.same;
+      idle = c.loop-place.invariant.idle;
+      kept = λ nothing. (nothing_before g c nothing).0;
       stood = stood g c;
-      failed = failed_before (now g c) (next g c) c.args.view.now c.loop-line.view c.in-Call.call block c.loop-line.invariant.system is;
+      failed = failed_before (now g c) (next g c) c.args.view.now c.loop-place.view c.in-Call.call block c.loop-place.invariant.system is;
     }))
     c.in-Err.ensures.failed
 
 pub returns-in-Err-clause-damaged : goal.returns-in-Err-clause-damaged
 returns-in-Err-clause-damaged g c =
-    damaged_with c.in-Err.end (IsDamagedOn (now g c) c.loop-line.view c.in-Call.call) _
-    (λ (same : next g c ≡ now g c) b rule is. at_call g c (λ call. IsDamagedOn (next g c) c.args.view.now call b rule)
-    (damaged_before (now g c) (next g c) c.args.view.now c.loop-line.view c.in-Call.call b rule same c.loop-line.invariant.system is))
+    damaged_with c.in-Err.end (IsDamagedOn (now g c) c.loop-place.view c.in-Call.call) _
+    (λ (same : IsStill g c) b rule is. at_call g c (λ call. IsDamagedOn (next g c) c.args.view.now call b rule)
+    (damaged_before (now g c) (next g c) c.args.view.now c.loop-place.view c.in-Call.call b rule same.0 c.loop-place.invariant.system is))
     c.in-Err.ensures.before c.in-Err.ensures.damaged
+
+pub returns-in-Err-clause-free : goal.returns-in-Err-clause-free
+returns-in-Err-clause-free g c t s =
+    subst (TellFree (g.D.SharedDisk.state c.args.disk.now) c.args.view.now t s) (sym c.in-Err.ensures.kept)
+    (tells_free c.args.clients.now c.args.lines.now (g.D.SharedDisk.state c.args.disk.now) (now g c) c.args.view.now c.loop-place.place c.loop-place.items.items c.loop-place.invariant.run c.loop-place.invariant.told t s)
+
+pub returns-clause-free : goal.returns-clause-free
+returns-clause-free g c t s =
+    tells_free c.args.clients.now c.args.lines.now (g.D.SharedDisk.state c.args.disk.now) (g.D.SharedDisk.state c.loop-place.disk) c.args.view.now c.loop-place.place c.loop-place.items.items
+    c.loop-place.invariant.run c.loop-place.invariant.told t s

@@ -17,7 +17,7 @@ use Rattle.making_calls.specs.Searches.{IsGroupBroken, IsTaken, IsUnder}
 use Rattle.making_calls.specs.declared.blocks.Locked.TheVariants as locked
 use Rattle.making_calls.proofs.Alike.{linear_in}
 use Rattle.making_calls.proofs.Faults.{only_so, tells_so, told_on}
-use Rattle.making_calls.proofs.Rooms.{block_way, group_sound, lock_way, room_held}
+use Rattle.making_calls.proofs.Rooms.{block_way, few_way, group_sound, lock_way, room_held}
 use Rattle.making_calls.proofs.Taking.{addition_does, all_held, block_lacks, directory_sound, group_lacks, inside_so, lock_lacks, made, placed, reply_ok, stamped, to_get, too_few, under, wrong_damage}
 use Rattle.making_calls.proofs.tries.make_at.Goals as goal
 
@@ -180,3 +180,8 @@ returns-in-NeedBlock-2-clause-told g c =
     let room = room_held v c.args.stamp.now.node c.in-Is-Is.room c.is_a_view.ensures c.requires.groups c.requires.node (λ at own shown is. subst (IsUnder v (block_holds (said at) v.groups own) (IsTaken v (said at) v.groups own)) (c.in-Is-Is.is ∙ ap locked.Is c.in-Is-Is.field-0-is) (c.in_ok-room.ensures.found at own shown is)) in
     IsNeededFor.of_group (to_get v c.args.call.now c.requires.making c.args.place.now c.args.name.now c.requires.last c.requires.named c.requires.lacks true c.requires.seen.leads c.requires.seen.there (λ h shown. sym (c.in_ok-fits.ensures.room h shown) ∙ c.if-not-fits.false))
     (record { group = c.in-Is-Is.room.group; has = room.has; held = room.group_held; missing = needed_at _ _ _ c.in-NeedBlock-2.is c.in_ok-change.ensures.needed })
+
+pub returns-in-Is-TooFew-clause-told : goal.returns-in-Is-TooFew-clause-told
+returns-in-Is-TooFew-clause-told g c =
+    let v = g.V.View.seen c.args.view.now in
+    few_way v c.args.stamp.now.node c.is_a_view.ensures c.requires.groups c.requires.node c.in-Is-TooFew.free (λ at own shown is. subst (IsUnder v (block_holds (said at) v.groups own) (IsTaken v (said at) v.groups own)) (c.in-Is-TooFew.is ∙ ap locked.Is c.in-Is-TooFew.field-0-is) (c.in_ok-room.ensures.found at own shown is))
