@@ -459,44 +459,63 @@ def shown(disk, journals):
     return "".join(it + "\n" for it in lines + ["done"])
 
 
+def compared(folder, image, time, script, disk, wanted):
+    """In what the run of a script differs from what is wanted of it: status, output and trace, and the disk's bytes."""
+    names = [os.path.join(folder, it) for it in ("image", "trace")]
+    with open(names[0], "wb") as file:
+        file.write(image)
+    ended = subprocess.run([PROGRAM, *names, "run", "--time", str(time)], input=script.encode(), stdout=subprocess.PIPE)
+    with open(names[1]) as file:
+        found = (ended.returncode, ended.stdout.decode(), file.read())
+    told = ["%s: wanted %.200r, found %.200r" % it for it in zip(("status", "output", "trace"), wanted, found) if it[1] != it[2]]
+    with open(names[0], "rb") as file:
+        left = file.read()
+    if left != disk.data:
+        told.append("the image is another, at the blocks %s" % differing(left, disk))
+    ended = subprocess.run([PROGRAM, *names, "show"], stdin=subprocess.DEVNULL, stdout=subprocess.PIPE)
+    if ended.stdout.decode() != shown(disk, len(Copy(left).journals)):
+        told.append("what is shown is another: %.300r" % ended.stdout)
+    if FSCK:
+        told += ["fsck.gfs2: " + it for it in judged(left)]
+    return told
+
+
 def tried(number, folder):
     """In what the run of a random script differs, and what kind of a run it was."""
     random = Random(number)
     image, kind = new_image(random, folder)
     time = random.randrange(1 << 40)
     disk = Disk(image, time)
-    script, (status, out, trace) = some_script(random, disk)
-    names = [os.path.join(folder, it) for it in ("image", "trace")]
-    ended = subprocess.run([PROGRAM, *names, "run", "--time", str(time)], input=script.encode(), stdout=subprocess.PIPE)
-    told = []
-    for what, wanted, found in (("status", status, ended.returncode), ("output", out, ended.stdout.decode())):
-        if wanted != found:
-            told.append("%s: wanted %.200r, found %.200r" % (what, wanted, found))
-    with open(names[1]) as file:
-        if file.read() != trace:
-            told.append("the trace is another")
-    with open(names[0], "rb") as file:
-        left = file.read()
-    if left != disk.data:
-        told.append("the image is another, at the blocks %s" % [at // disk.size for at in range(0, len(left), disk.size)
-                                                                if left[at:at + disk.size] != disk.data[at:at + disk.size]])
-    ended = subprocess.run([PROGRAM, *names, "show"], stdin=subprocess.DEVNULL, stdout=subprocess.PIPE)
-    if ended.stdout.decode() != shown(disk, len(Copy(left).journals)):
-        told.append("what is shown is another: %.300r" % ended.stdout)
-    if FSCK:
-        told += ["fsck.gfs2: " + it for it in judged(left)]
-    return told, "%s, %d lines, status %d" % (kind, script.count("\n"), status)
+    script, wanted = some_script(random, disk)
+    told = compared(folder, image, time, script, disk, wanted)
+    return told, "%s, %d lines, status %d" % (kind, script.count("\n"), wanted[0])
+
+
+def deepest(folder):
+    """The same of the deepest tree that paths of 1,024 bytes can make."""
+    name = os.path.join(folder, "image")
+    with open(name, "wb") as file:
+        file.truncate(512 * 1300)
+    words = ["mkfs", "--bsize", "512", "--journal-blocks", "512"]
+    subprocess.run([PROGRAM, name, os.path.join(folder, "trace"), *words], stdin=subprocess.DEVNULL, stdout=subprocess.DEVNULL, check=True)
+    with open(name, "rb") as file:
+        image = file.read()
+    calls = ["mkdir " + "/d" * level for level in range(1, 513)]
+    calls += [it % ("/d" * 512) for it in ("stat %s", "rmdir %s", "create %s", "write %s 0 61", "read %s 0 9")] + ["list " + "/d" * 511]
+    script = "nodes 1\nclient c on 1\n" + "".join("c: %s\n" % it for it in calls)
+    disk = Disk(image)
+    return compared(folder, image, 0, script, disk, carried_out(disk, script)), "the deepest tree"
 
 
 def try_scripts(count):
     bad = 0
     with tempfile.TemporaryDirectory() as folder:
-        for number in range(1, count + 1):
-            told, kind = tried(number, folder)
+        for number in range(count + 1):
+            told, kind = tried(number, folder) if number else deepest(folder)
             bad += bool(told)
             for line in told:
                 print("script %d (%s): %s" % (number, kind, line))
-    print("checks/fsck.py: %d random scripts, %d differ; %s" % (count, bad, "their images are judged by fsck.gfs2" if FSCK else MISSING))
+    print("checks/fsck.py: the deepest tree and %d random scripts: %d differ; %s" % (count, bad, "their images are judged by fsck.gfs2" if FSCK else MISSING))
     return 1 if bad else 0
 
 
