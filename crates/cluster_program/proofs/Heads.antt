@@ -1,13 +1,12 @@
 -- The heads of journals in an image that calls have left: where it stands for a tree, they are as they were.
-use Rattle.std.proofs.Common.{◌≡◌, ◌⊎◌, inl, inr, ℕ, zero, suc, ◌<◌, ◌≤◌, true, List, [], ◌∷◌, length, Some, None, refl, sym, ap, ◌∙◌, subst, arith}
+use Rattle.std.proofs.Common.{◌≡◌, ◌⊎◌, inl, inr, ℕ, zero, suc, ◌<◌, ◌≤◌, true, List, [], ◌∷◌, length, Some, refl, sym, ap, ◌∙◌, subst, arith}
 use Rattle.std.specs.Prelude.{slice_get}
 use Rattle.gfs2_layout.specs.Device.{IsBlockSize}
 use Rattle.gfs2_layout.specs.Holding.{Holding}
-use Rattle.gfs2_layout.specs.Inode.{IsInode}
 use Rattle.gfs2_layout.specs.Journal.{ring_of, head_in}
 use Rattle.image_model.specs.Claims.{every, LeadsTo}
 use Rattle.image_model.specs.Image.{Image}
-use Rattle.image_model.specs.Journals.{journal_name, IsJournal}
+use Rattle.image_model.specs.Journals.{journal_name}
 use Rattle.image_model.specs.Owners.{Owners, is_dinode, holding}
 use Rattle.image_model.specs.Stands.{Layout, IsJournalAt, IsLaid, flat_of}
 use Rattle.image_model.proofs.Facts.{jindex_is, leads_row, leads_child_of, child_leads}
@@ -72,7 +71,7 @@ module _ (im im' : Image) (o o' : Owners) (l : Layout) (m : MountedValue) (mount
   pub clean_yet : (j : ℕ) (journal : Journal) → slice_get m.journals j ≡ Some journal → journal.head.clean ≡ true → is_clean_in im' journal ≡ true
   clean_yet j journal there clean = elim (is_there mounted.layout.journals j) [
     | inl it ↦
-      let is = mounted.journals j it.0 journal it.1 there in
-      ap is_clean_head (ap (λ (a : ℕ). head_in (ring_of (every im' a))) is.dinode ∙ head_kept j it.0 (of_layout j it.0 it.1) ∙ is.head) ∙ clean
+        let is = mounted.journals j it.0 journal it.1 there in
+        ap is_clean_head (ap (λ (a : ℕ). head_in (ring_of (every im' a))) is.dinode ∙ head_kept j it.0 (of_layout j it.0 it.1) ∙ is.head) ∙ clean
     | inr past ↦ let low = below_end m.journals j journal there in absurd (omega (arith, low, past, mounted.count))
   ]

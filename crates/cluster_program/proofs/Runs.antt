@@ -1,6 +1,6 @@
 -- How a run of a script goes and ends, by what the image stands for.
-use Rattle.std.proofs.Common.{◌≡◌, ℕ, ◌+◌, ◌^◌, ◌<◌, ◌≤◌, List, [], length, Option, Some, None, refl, sym, ap, ◌∙◌, subst, arith}
-use Rattle.std.specs.Prelude.{◌≢◌, IfSome, Result, Ok, Err, IfErr, OnOk}
+use Rattle.std.proofs.Common.{◌≡◌, ℕ, ◌+◌, ◌^◌, ◌<◌, ◌≤◌, List, [], length, Option, refl, sym, subst, arith}
+use Rattle.std.specs.Prelude.{◌≢◌, Result, Ok, Err, IfErr, OnOk}
 use Rattle.fault_counts.specs.Causes.{WentUp}
 use Rattle.file_tree.specs.Tree.{Tree}
 use Rattle.file_tree.specs.declared.call.Call.{Call}
@@ -28,8 +28,8 @@ use Rattle.lone_node.specs.declared.ends.RunEnd.{RunEnd}
 use Rattle.lone_node.specs.declared.ends.RunEnd.TheVariants as end
 use Rattle.damage_laws.specs.Telling.{CallsTell, NeedsTell, MountedAreRead, HasRootInside}
 use Rattle.cluster_program.specs.Early.{status_of_end}
-use Rattle.cluster_program.specs.Mounting.{OfImage, IsImageOf, IsMountedFor, MountEnds, DiskFails, LiesOutside, IsDamaged, IsDirty, IsHashed, LacksRoom}
-use Rattle.cluster_program.specs.Runs.{Runs, RunEnds, IsDone, NotMounted, CallFailed, CallHashed, CallUnbuilt, CallDamaged, NoRoom, IsToldOf, UnlessFault, AreCleanAtEnd, as_mounted, first_line}
+use Rattle.cluster_program.specs.Mounting.{OfImage, IsImageOf, IsMountedFor, MountEnds}
+use Rattle.cluster_program.specs.Runs.{Runs, RunEnds, IsDone, NotMounted, CallFailed, CallHashed, CallUnbuilt, CallDamaged, NoRoom, UnlessFault, AreCleanAtEnd, as_mounted, first_line}
 use Rattle.cluster_program.specs.World.{Inputs, KeepsDisk}
 use Rattle.cluster_program.specs.declared.status.Status.{Status}
 use Rattle.cluster_program.specs.declared.status.Status.TheVariants as status

@@ -1,6 +1,6 @@
 -- How a show ends whose tree was read, or wasn't.
-use Rattle.std.proofs.Common.{◌≡◌, ℕ, ◌≤◌, List, [], ◌++◌, sym, ap, ◌∙◌, subst}
-use Rattle.std.specs.Prelude.{IsTrue, Result, Ok, Err, IfErr, Bool, map}
+use Rattle.std.proofs.Common.{◌≡◌, ℕ, ◌≤◌, List, [], ◌++◌, ap, ◌∙◌, subst}
+use Rattle.std.specs.Prelude.{IsTrue, Result, Ok, Err, IfErr, Bool}
 use Rattle.file_tree.specs.Tree.{Tree}
 use Rattle.image_model.specs.Image.{image_of}
 use Rattle.image_model.specs.Rules.{IsBrokenBlock}

@@ -11,9 +11,7 @@ pub(crate) enum Task {
     Make(MakeWords),
     Show,
     /// The time is that of the changes, in seconds.
-    Run {
-        time: u64,
-    },
+    Run { time: u64 },
 }
 
 // Whether an image has more journals than a linear directory has names for.

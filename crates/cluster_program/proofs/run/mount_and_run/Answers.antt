@@ -1,6 +1,5 @@
-use Rattle.std.proofs.Common.{◌≡◌, ◌+◌, ◌<◌, ℕ, List, Option, sym, ap, ◌∙◌, subst}
+use Rattle.std.proofs.Common.{◌+◌, ◌<◌, ℕ, List, Option, sym, ap, ◌∙◌, subst}
 use Rattle.std.specs.Prelude.{Ok, Err}
-use Rattle.file_tree.specs.declared.call.Call.{Call}
 use Rattle.gfs2_layout.specs.Device.{IsBlockSize}
 use Rattle.shared_disk.specs.Disk.{DiskState}
 use Rattle.damage_laws.specs.Telling.{HasRootInside}
@@ -11,7 +10,7 @@ use Rattle.lone_node.specs.Standing.{StandsFor}
 use Rattle.cluster_program.specs.Early.{status_of_end}
 use Rattle.cluster_program.specs.Mounting.{MountEnds}
 use Rattle.cluster_program.specs.Runs.{Runs, as_mounted, first_line}
-use Rattle.cluster_program.specs.World.{Inputs, inputs}
+use Rattle.cluster_program.specs.World.{inputs}
 use Rattle.cluster_program.specs.declared.status.Status.TheVariants as status
 use Rattle.cluster_program.proofs.Mounts.{mount_never_done}
 use Rattle.cluster_program.proofs.Quiet.{quiet, NoItems, answers_of_run}

@@ -35,7 +35,7 @@ returns-clause-ends g c = record {
   dirty = 0;
   report = reports g c;
   counted = counted _ _ (map string_bytes c.args.words.now) c.carry_out-script.result.script c.carry_out-script.new.items.items c.carry_out-script.result.lines.items c.carry_out-script.result.own c.carry_out-script.ensures.course (reports g c).told
-  (done_before which.Trace _ _ c.carry_out-script.result.own (reports g c).told (reports g c).told_is);
+      (done_before which.Trace _ _ c.carry_out-script.result.own (reports g c).told (reports g c).told_is);
 }
 
 pub returns-clause-fault : goal.returns-clause-fault
