@@ -3,7 +3,7 @@
 blocks=131072
 size=4096
 script=$0
-top=$(cd "$(dirname "$0")/.." && pwd)
+top=$(cd "$(dirname "$0")" && while ! [ -f crates.txt ]; do cd ..; done && pwd)
 
 if [ -z "${PROGRAM:-}" ]; then
     (cd "$top/crates/gfs2run" && rt run >/dev/null 2>&1) || true

@@ -329,6 +329,34 @@ else
     echo "checks/program.sh: no image of mkfs.gfs2 tried, gfs2-utils is not installed"
 fi
 
+# Calls that change the tree, one run after another on one file.
+truncate -s $((4096 * 600)) tree
+run tree trace mkfs --journal-blocks 512
+check "mkfs of an image with free blocks" 0 "done"
+printf 'nodes 1\nclient c on 1\nc: mkdir /d\nc: create /d/a\nc: write /d/a 0 68656c6c6f\nc: stat /d/a\n' >changes
+run tree trace run --time 7 <changes
+check "a run that makes and writes" 0 "done"
+[ "$(sed -n 4p out)" = "c: stat /d/a = stat file 5" ] || {
+    echo "checks/program.sh: what is answered about a file that was written" >&2
+    failed=1
+}
+run tree trace show
+check "a show of what was made" 0 "done"
+printf 'journal 0 clean\ndir /\ndir /d\nfile /d/a 5 3610a686\ndone\n' | cmp -s - out || {
+    echo "checks/program.sh: what is shown of what was made" >&2
+    failed=1
+}
+printf 'nodes 1\nclient c on 1\nc: unlink /d/a\nc: rmdir /d\nc: list /\n' >changes
+run tree trace run <changes
+check "a run that removes" 0 "done"
+[ "$(sed -n 3p out)" = "c: list / = names 0" ] || {
+    echo "checks/program.sh: what is listed where all was removed" >&2
+    failed=1
+}
+run tree trace run <script
+check "a run that finds nothing" 0 "done"
+PROGRAM=$program python3 "$here/checks/fsck.py" --scripts 25 || failed=1
+
 cmp -s image before || {
     echo "checks/program.sh: the image was changed" >&2
     failed=1

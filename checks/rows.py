@@ -3,6 +3,9 @@
 It makes each image with the program's own `mkfs`, and lays files and patches over it from its own reading of the formats
 (docs/FORMAT.md), without any of the project's code. Rows in which calls fail or writes in flight are settled are left out and
 counted. PROGRAM may name another program than crates/gfs2run/out/gfs2run. Ends with status 1 where a row differs.
+
+Each image of which a row says what `show` prints afterwards is judged by the distribution's fsck.gfs2 too, where that is there
+(checks/fsck.py), but for those that the row itself has patched.
 """
 import os
 import re
@@ -11,6 +14,9 @@ import sys
 import tempfile
 from struct import pack, unpack_from
 from zlib import crc32
+
+sys.dont_write_bytecode = True
+import fsck
 
 HERE = os.path.dirname(os.path.abspath(__file__))
 DATA = os.path.join(HERE, "..", "crates", "rows", "data")
@@ -380,7 +386,7 @@ class Runner:
 
 class Book:
     def __init__(self, runner):
-        self.runner, self.texts, self.images = runner, {}, {}
+        self.runner, self.texts, self.images, self.judged = runner, {}, {}, 0
 
     def made(self, words):
         """The image that an item makes anew, or None."""
@@ -441,7 +447,7 @@ class Book:
             image = base.copy()
         else:
             image = self.made(words)
-        told, command = [], []
+        told, command, is_patched = [], [], False
         for item in items[1:] + [("do", [])]:
             word = item[0].split(" ")[0]
             if word == "sizes":
@@ -449,12 +455,22 @@ class Book:
             if word == "do" or word in CHANGES:
                 if command:
                     told += self.command(base, image, command)
+                    if not is_patched and any(it[0] == "shows" for it in command):
+                        told += self.judge(image)
                 command = []
             if word in CHANGES:
                 change(base, image, item[0])
+                is_patched = True
             else:
                 command.append(item)
         return told
+
+    def judge(self, image):
+        """What fsck.gfs2 has against an image."""
+        if not fsck.FSCK:
+            return []
+        self.judged += 1
+        return ["fsck.gfs2: " + line for line in fsck.judged(image.data)]
 
     def command(self, base, image, items):
         """In what a command differs."""
@@ -541,6 +557,7 @@ def main(files):
                     for line in told:
                         print("row %s: %s" % (name, line))
     print("%d rows ok, %d skipped%s" % (good, skipped, ", %d differ" % bad if bad else ""))
+    print("%d images judged by fsck.gfs2" % book.judged if fsck.FSCK else "no image judged: fsck.gfs2 is not here (package gfs2-utils)")
     return 1 if bad else 0
 
 

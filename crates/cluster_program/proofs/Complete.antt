@@ -1,5 +1,5 @@
 -- A command that may be carried out is, but for want of memory.
-use Rattle.std.proofs.Common.{◌≡◌, ◌⊎◌, inl, inr, ℕ, ◌≤◌, true, false, List, ◌++◌, refl, sym, ap, ◌∙◌, subst, arith, append-nil}
+use Rattle.std.proofs.Common.{◌≡◌, inl, inr, ℕ, ◌+◌, ◌≤◌, true, false, List, ◌++◌, refl, sym, ap, ◌∙◌, subst, arith, append-nil}
 use Rattle.profile_limits.specs.Limits.{most_blocks}
 use Rattle.std.specs.Prelude.{Option, Some, None, Ok}
 use Rattle.std.specs.Io.KnownBytes.{Consumes, IsAtEnd}
@@ -12,10 +12,13 @@ use Rattle.cluster_program.specs.declared.status.Status.{Status}
 use Rattle.cluster_program.specs.declared.status.Status.TheVariants as status
 use Rattle.cluster_program.specs.declared.status.Which.{Which}
 use Rattle.cluster_program.specs.World.{Inputs, Outputs}
-use Rattle.cluster_program.specs.Course.{Course, RefusesWords, MakesImage, NoScript, Makes, IsTooLarge, IsTooSmall, LacksMemory, HasFailed, HasMade, plan_for, RunsScript, LacksScript, SourceFailed, Refused, RefusedEarly, NotBuiltYet, RunEnds, IsDone, NotMounted, CallFailed, CallRefused, CallDamaged, NoRoom, Shows, HasShown, ShowsNone, TreeFailed, TreeRefused, TreeDamaged, NothingHeld, ShowsImage}
-use Rattle.cluster_program.specs.Mounting.{MountEnds, DiskFails, LiesOutside, IsDamaged, IsDirty, IsHashed, HasFarRoot, HasOtherRoot, LacksRoom}
+use Rattle.cluster_program.specs.Course.{Course, RefusesWords, MakesImage, NoScript, Makes, IsTooLarge, IsTooSmall, LacksMemory, HasFailed, HasMade, plan_for, RunsScript, LacksScript, SourceFailed, Refused, RefusedEarly, NotBuiltYet, NoRoom, Shows, HasShown, ShowsNone, TreeFailed, TreeDamaged, NothingHeld, ShowsImage}
+use Rattle.cluster_program.specs.Mounting.{MountEnds, DiskFails, LiesOutside, IsDamaged, IsDirty, IsHashed, LacksRoom}
+use Rattle.cluster_program.specs.Runs as runs
+use Rattle.cluster_program.specs.Runs.{RunEnds, IsDone, NotMounted, CallFailed, CallHashed, CallUnbuilt, CallDamaged}
+use Rattle.cluster_program.specs.declared.status.Part.TheVariants as part
 use Rattle.cluster_program.specs.Report.{Becomes, Stays, WithoutMemory, Fails, Reports}
-use Rattle.cluster_program.specs.Command.{NoneRose, IsMountable, IsRunnable, IsShowable, IsMakeable, IsComplete}
+use Rattle.cluster_program.specs.Command.{NoneRose, IsMountable, IsRunnable, IsShowable, IsMakeable, IsWhole, IsUpToBuilt, IsComplete}
 use Rattle.mkgfs2_tool.specs.Order.{fits}
 use Rattle.command_words.specs.Commands.{words_read}
 use Rattle.command_words.specs.declared.command.Command.TheVariants as command
@@ -24,9 +27,6 @@ use Rattle.command_words.specs.declared.command.RunWords.{RunWords}
 
 rose : (before now x y : ℕ) → WentUp before now x y → Rose before now
 rose before now x y up = grind (arith, up.from, up.rose, up.to)
-
-abbrev IsWhole : Status → Type 0
-IsWhole answer = (answer ≡ status.Done) ⊎ (answer ≡ status.NoMemory)
 
 -- ---- a text that its source tells
 
@@ -64,31 +64,29 @@ module _ (words : List (List ℕ)) (given left : Inputs) (sinks sinks_now : Outp
 
   of_mount : IsMountable given.disk → (own : Status) → MountEnds given.disk given.disk_faults left.disk_faults own → IsWhole own
   of_mount may own (DiskFails block x y up reached) = absurd (none.disk 0 (rose (given.disk_faults 0) (left.disk_faults 0) x y up))
-  of_mount may own (LiesOutside what value outside never) = absurd (never may.flat.tells may.profile)
-  of_mount may own (IsDamaged block rule breaks never) = absurd (never may.flat.tells may.tree may.stands)
+  of_mount may own (LiesOutside what value outside never) = absurd (never may.is.tells may.profile)
+  of_mount may own (IsDamaged block rule breaks never) = absurd (never may.is.tells may.tree may.is.stands)
   of_mount may own (IsDirty block dirty) =
-      let it = dirty may.flat.tells in
+      let it = dirty may.is.tells in
       let both : true ≡ false = sym (may.clean it.0 it.1 it.2.place it.2.journal it.2.there) ∙ it.2.dirty in cc
-  of_mount may own (IsHashed block hashed) = absurd (may.linear block (hashed may.flat.tells).0 (hashed may.flat.tells).1)
-  of_mount may own (HasFarRoot block clean far breaks never) = absurd (never may.flat.tells may.tree may.stands)
-  of_mount may own (HasOtherRoot block clean other) = absurd ((other may.flat.tells).2 may.flat.root)
+  of_mount may own (IsHashed block hashed) = absurd (may.linear block (hashed may.is.tells).0 (hashed may.is.tells).1)
   of_mount may own LacksRoom = inr refl
 
   of_show : IsMountable given.disk → (lines : List ℕ) (own : Status) → Shows given.disk given.disk_faults left.disk_faults lines own → IsWhole own
-  of_show may lines own (HasShown m lines' shown mounted clean are flat stands) = inl refl
+  of_show may lines own (HasShown m tree lines' mounted is are) = inl refl
   of_show may lines own (ShowsNone own' ends) = of_mount may own ends
-  of_show may lines own (TreeFailed root block x y clean up within begins reads) = absurd (none.disk 0 (rose (given.disk_faults 0) (left.disk_faults 0) x y up))
-  of_show may lines own (TreeRefused root block clean other begins refuses) = absurd (other may.tree may.flat)
-  of_show may lines own (TreeDamaged root block rule why clean is other begins refuses breaks) = absurd (other may.tree may.flat)
+  of_show may lines own (TreeFailed block x y clean up within) = absurd (none.disk 0 (rose (given.disk_faults 0) (left.disk_faults 0) x y up))
+  of_show may lines own (TreeDamaged block rule clean never breaks) = absurd (never may.is.tells may.tree may.is.stands)
   of_show may lines own NothingHeld = inr refl
 
-  of_run : IsMountable given.disk → (s : ScriptValue) (items : List TraceItem) (own : Status) → RunEnds given.disk given.disk_faults left.disk_faults s items own → IsWhole own
-  of_run may s items own (IsDone all whole) = inl refl
-  of_run may s items own (NotMounted own' none_yet ends) = of_mount may own ends
-  of_run may s items own (CallFailed root block x y up within begins reads) = absurd (none.disk 1 (rose (given.disk_faults 1) (left.disk_faults 1) x y up))
-  of_run may s items own (CallRefused root block other begins refuses) = absurd (other may.tree may.flat)
-  of_run may s items own (CallDamaged root block rule why is other begins refuses breaks) = absurd (other may.tree may.flat)
-  of_run may s items own NoRoom = inr refl
+  of_run : IsMountable given.disk → (s : ScriptValue) (items : List TraceItem) (own : Status) → RunEnds given left s items own → IsUpToBuilt own
+  of_run may s items own (IsDone all whole) = inl (inl refl)
+  of_run may s items own (NotMounted own' none_yet same ends) = inl (of_mount may own ends)
+  of_run may s items own (CallFailed m block x y for up within at) = absurd (none.disk 1 (rose (given.disk_faults 1) (left.disk_faults 1) x y up))
+  of_run may s items own (CallHashed m block for at) = inr (part.Block block, refl)
+  of_run may s items own (CallUnbuilt m place for at taken) = inr (part.Script (runs.first_line s + place), refl)
+  of_run may s items own (CallDamaged m block rule for never at told) = absurd (never may.is.tells may.tree may.is.stands)
+  of_run may s items own runs.NoRoom = inl (inr refl)
 
   -- an image that fits its device
   of_make : (make : MakeWords) → given.disk.count ≤ most_blocks → fits (plan_for given.disk make) ≡ true → (own : Status) → Makes make given left own → IsWhole own
@@ -111,19 +109,19 @@ module _ (words : List (List ℕ)) (given left : Inputs) (sinks sinks_now : Outp
   one_make : (make other : MakeWords) → words_read given.disk.size words ≡ Ok (command.Make make) → words_read given.disk.size words ≡ Ok (command.Make other) → make ≡ other
   one_make make other first second = let both : Ok (command.Make make) ≡ Ok (command.Make other) = sym first ∙ second in cc
 
-  of_running : IsRunnable words given → (s : ScriptValue) (items : List TraceItem) (lines : List ℕ) (own : Status) → Course words given left s items lines own → IsWhole own
+  of_running : IsRunnable words given → (s : ScriptValue) (items : List TraceItem) (lines : List ℕ) (own : Status) → Course words given left s items lines own → IsUpToBuilt own
   of_running may s items lines own (RefusesWords told refused untouched) = let both : None ≡ Some own = sym may.run.built ∙ refused in cc
   of_running may s items lines own (MakesImage make own' asks makes) = absurd (not_make_run make may.run.run asks.read may.run.read)
   of_running may s items lines own (ShowsImage lines' own' asks script disk shows) = absurd (not_run_show may.run.run may.run.read asks.read)
-  of_running may s items lines own (NoScript told asks lacks untouched same) = of_script may own lacks
-  of_running may s items lines own (RunsScript text s' items' own' asks read script built untouched runs) = of_run may.mountable s items own runs.ends
+  of_running may s items lines own (NoScript told asks lacks untouched same) = inl (of_script may own lacks)
+  of_running may s items lines own (RunsScript text s' items' own' asks read script built ran) = of_run may.mountable s items own ran.ends
 
   of_showing : IsShowable words given → (s : ScriptValue) (items : List TraceItem) (lines : List ℕ) (own : Status) → Course words given left s items lines own → IsWhole own
   of_showing may s items lines own (RefusesWords told refused untouched) = let both : None ≡ Some own = sym may.show.built ∙ refused in cc
   of_showing may s items lines own (MakesImage make own' asks makes) = absurd (not_make_show make asks.read may.show.read)
   of_showing may s items lines own (ShowsImage lines' own' asks script disk shows) = of_show may.mountable lines own shows
   of_showing may s items lines own (NoScript told asks lacks untouched same) = absurd (not_run_show asks.run asks.read may.show.read)
-  of_showing may s items lines own (RunsScript text s' items' own' asks read script built untouched runs) = absurd (not_run_show asks.run asks.read may.show.read)
+  of_showing may s items lines own (RunsScript text s' items' own' asks read script built ran) = absurd (not_run_show asks.run asks.read may.show.read)
 
   of_making : IsMakeable words given → (s : ScriptValue) (items : List TraceItem) (lines : List ℕ) (own : Status) → Course words given left s items lines own → IsWhole own
   of_making may s items lines own (RefusesWords told refused untouched) = let both : None ≡ Some own = sym may.asks.built ∙ refused in cc
@@ -131,20 +129,22 @@ module _ (words : List (List ℕ)) (given left : Inputs) (sinks sinks_now : Outp
       of_make make may.few (subst (λ m. fits (plan_for given.disk m) ≡ true) (one_make may.make make may.asks.read asks.read) may.room) own makes
   of_making may s items lines own (ShowsImage lines' own' asks script disk shows) = absurd (not_make_show may.make may.asks.read asks.read)
   of_making may s items lines own (NoScript told asks lacks untouched same) = absurd (not_make_run may.make asks.run may.asks.read asks.read)
-  of_making may s items lines own (RunsScript text s' items' own' asks read script built untouched runs) = absurd (not_make_run may.make asks.run may.asks.read asks.read)
+  of_making may s items lines own (RunsScript text s' items' own' asks read script built ran) = absurd (not_make_run may.make asks.run may.asks.read asks.read)
 
-  of_course : IsRunnable words given ⊎ (IsShowable words given ⊎ IsMakeable words given) → (s : ScriptValue) (items : List TraceItem) (lines : List ℕ) (own : Status) → Course words given left s items lines own → IsWhole own
-  of_course (inl may) s items lines own course = of_running may s items lines own course
-  of_course (inr (inl may)) s items lines own course = of_showing may s items lines own course
-  of_course (inr (inr may)) s items lines own course = of_making may s items lines own course
+  -- what holds of each end that sinks without a fault leave, and of want of memory
+  of_sink : (W : Status → Type 0) → W status.NoMemory → (which : Which) (before now : ℕ) (old new : Status) → (Rose before now → ⊥) → Becomes which before now old new → W old → W new
+  of_sink W bare which before now old new still (Stays same) whole = subst W (sym same) whole
+  of_sink W bare which before now old new still (WithoutMemory without) whole = subst W (sym without) bare
+  of_sink W bare which before now old new still (Fails x y not_told fails up) whole = absurd (still (rose before now x y up))
 
-  of_sink : (which : Which) (before now : ℕ) (old new : Status) → (Rose before now → ⊥) → Becomes which before now old new → IsWhole old → IsWhole new
-  of_sink which before now old new still (Stays same) whole = subst IsWhole (sym same) whole
-  of_sink which before now old new still (WithoutMemory without) whole = inr without
-  of_sink which before now old new still (Fails x y not_told fails up) whole = absurd (still (rose before now x y up))
+  at_end : (W : Status → Type 0) → W status.NoMemory → (s : ScriptValue) (items : List TraceItem) (lines : List ℕ) (own answer : Status) → Reports sinks sinks_now s items lines 0 own answer → W own → W answer
+  at_end W bare s items lines own answer report whole =
+      of_sink W bare _ _ _ report.told answer none.output report.answer_is (of_sink W bare _ _ _ own report.told none.trace report.told_is whole)
 
 pub complete : (given left : Inputs) (sinks sinks_now : Outputs) (words : List (List ℕ)) (s : ScriptValue) (items : List TraceItem) (lines : List ℕ) (own answer : Status) → Course words given left s items lines own
     → Reports sinks sinks_now s items lines 0 own answer → IsComplete words given left sinks sinks_now answer
-complete given left sinks sinks_now words s items lines own answer course report none may =
-    let told = of_sink words given left sinks sinks_now none _ _ _ own report.told none.trace report.told_is (of_course words given left sinks sinks_now none may s items lines own course) in
-    of_sink words given left sinks sinks_now none _ _ _ report.told answer none.output report.answer_is told
+complete given left sinks sinks_now words s items lines own answer course report = record {
+  run = λ none may. at_end words given left sinks sinks_now none IsUpToBuilt (inl (inr refl)) s items lines own answer report (of_running words given left sinks sinks_now none may s items lines own course);
+  show = λ none may. at_end words given left sinks sinks_now none IsWhole (inr refl) s items lines own answer report (of_showing words given left sinks sinks_now none may s items lines own course);
+  make = λ none may. at_end words given left sinks sinks_now none IsWhole (inr refl) s items lines own answer report (of_making words given left sinks sinks_now none may s items lines own course);
+}

@@ -1,20 +1,23 @@
--- No journal is left dirty by a run of one node that writes nothing.
-use Rattle.std.proofs.Common.{◌≡◌, ◌⊎◌, inl, inr, ℕ, suc, ◌+◌, List, [], ◌∷◌, ◌++◌, Bool, true, false, cond, Some, refl, sym, ap, ◌∙◌, subst, arith}
+-- No journal is left dirty by a run of one node, which commits nothing.
+use Rattle.std.proofs.Common.{◌≡◌, ◌⊎◌, inl, inr, ℕ, suc, ◌+◌, List, [], ◌∷◌, ◌++◌, Bool, true, false, cond, Option, None, Some, refl, sym, ap, ◌∙◌, subst, arith}
 use Rattle.std.specs.Prelude.{◌≢◌, count_by, not, slice_get}
 use Rattle.std.specs.List.{range_with_len}
 use Rattle.std.proofs.lemmas.Bool.{cond-false}
 use Rattle.std.proofs.lemmas.List.Sums.{sum_by-cons}
 use Rattle.image_mount.specs.Mounted.{Journal, MountedValue}
-use Rattle.shared_disk.specs.Disk.{DiskState}
 use Rattle.script_lang.specs.Script.{ScriptValue}
 use Rattle.script_lang.specs.declared.script.Client.{Client}
-use Rattle.single_node.specs.Run.{AnsweredCall, items_from}
+use Rattle.lone_node.specs.Run.{AnsweredCall, full_item, items_from, name_at}
+use Rattle.lone_node.specs.declared.answering.Full.{Full}
+use Rattle.image_model.specs.Image.{Image, image_of}
+use Rattle.file_tree.specs.Tree.{Tree}
 use Rattle.trace_text.specs.declared.item.TraceItem.{TraceItem}
 use Rattle.trace_text.specs.declared.item.TraceItem.TheVariants as trace
 use Rattle.cluster_program.specs.World.{Inputs}
 use Rattle.cluster_program.specs.Course.{Course, RefusesWords, MakesImage, ShowsImage, NoScript, RunsScript}
-use Rattle.cluster_program.specs.Dirty.{dirty_in, is_left_dirty, IsDirtyCount, OfTheImage, OfTheItems, NothingRan}
-use Rattle.cluster_program.specs.Mounting.{OfImage, IsLeftClean, IsMountedClean}
+use Rattle.cluster_program.specs.Dirty.{dirty_by, dirty_in, is_left_dirty, IsCountOfImage, IsDirtyCount, OfTheImage, OfTheItems, NothingRan}
+use Rattle.cluster_program.specs.Mounting.{IsImageOf, is_clean_in}
+use Rattle.cluster_program.specs.Runs.{AreCleanAtEnd, Runs, UnlessFault}
 use Rattle.cluster_program.specs.Out.{is_done}
 use Rattle.cluster_program.specs.declared.status.Status.{Status}
 use Rattle.cluster_program.specs.declared.status.Status.TheVariants as status
@@ -34,13 +37,18 @@ clean_is : (b : Bool) → b ≡ true → not b ≡ false
 clean_is true is = refl
 clean_is false is = cc
 
-none_dirty : (m : MountedValue) → IsLeftClean m → dirty_in m ≡ 0
-none_dirty m clean = count_none (λ (j : Journal). not j.head.clean) m.journals (λ k j is. clean_is j.head.clean (clean k j is))
+none_dirty : (im : Image) (m : MountedValue) → ((j : ℕ) (journal : Journal) → slice_get m.journals j ≡ Some journal → is_clean_in im journal ≡ true) → dirty_in im m ≡ 0
+none_dirty im m clean = count_none (λ (j : Journal). not (is_clean_in im j)) m.journals (λ k j is. clean_is (is_clean_in im j) (clean k j is))
 
 module _ (clients : List Client) (end : List TraceItem) (is : IsEnd end) where
   clean_rest : (node n : ℕ) (calls : List AnsweredCall) → is_left_dirty node false (items_from clients n calls ++ end) ≡ false
   clean_rest node n [] = elim is [ inl none ↦ ap (is_left_dirty node false) none | inr one ↦ ap (is_left_dirty node false) one ]
-  clean_rest node n (a ∷ as') = clean_rest node (n + 1) as'
+  clean_rest node n (a ∷ as') = by_full a.full (clean_rest node (n + 1) as')
+    where
+      by_full : (full : Option Full) → is_left_dirty node false (items_from clients (n + 1) as' ++ end) ≡ false
+          → is_left_dirty node false ((full_item full ++ trace.Call 1 (name_at clients a.client) n a.call a.reply ∷ items_from clients (n + 1) as') ++ end) ≡ false
+      by_full None rest = rest
+      by_full (Some f) rest = rest
 
 clean_after : (clients : List Client) (items : List TraceItem) (node : ℕ) → IsAnswers clients items → is_left_dirty node false items ≡ false
 clean_after clients items node (NoItems none) = ap (is_left_dirty node false) none
@@ -54,23 +62,32 @@ some_items : (clients : List Client) (items : List TraceItem) → IsAnswers clie
 some_items clients items (NoItems none) = inl none
 some_items clients items (Joined calls end is are) = inr (λ none. let both : trace.Join 1 ∷ (items_from clients 1 calls ++ end) ≡ [] = sym are ∙ none in cc)
 
-of_image : (disk : DiskState) (told : Status) (s : ScriptValue) (items : List TraceItem) → told ≡ status.Done → OfImage disk IsMountedClean → IsDirtyCount disk s items told 0
-of_image disk told s items done mounted = OfTheImage done (λ tells. let it = mounted tells in (it.value, (it.mounted, sym (none_dirty it.value it.clean))))
+module _ (given left : Inputs) (s : ScriptValue) (items : List TraceItem) (own told : Status) (runs : Runs given left s items own) (done : told ≡ status.Done → own ≡ status.Done) where
+  are : IsAnswers s.clients items
+  are = answers_of_run s.clients s.lines items (IsImageOf given.disk) runs.run
 
-of_run : (disk now : DiskState) (s : ScriptValue) (items : List TraceItem) (told : Status) → now ≡ disk → IsAnswers s.clients items → (items ≢ [] → OfImage disk IsMountedClean) → IsDirtyCount now s items told 0
-of_run disk now s items told same are mounted = elim (some_items s.clients items are) [
-  | inl none ↦ NothingRan none
-  | inr some ↦ elim (done_or_not told) [
-    | inl done ↦ of_image now told s items done (subst (λ (d : DiskState). OfImage d IsMountedClean) (sym same) (mounted some))
-    | inr early ↦ OfTheItems early (sym (count_none (λ node. is_left_dirty node false items) (range_with_len 1 s.nodes) (λ k node is. clean_after s.clients items node are)))
+  by_items : 0 ≡ dirty_by s items
+  by_items = sym (count_none (λ node. is_left_dirty node false items) (range_with_len 1 s.nodes) (λ k node is. clean_after s.clients items node are))
+
+  by_image : told ≡ status.Done → items ≢ [] → IsCountOfImage given.disk left.disk 0
+  by_image is some tree stood =
+      let clean : items ≢ [] → (t : Tree) → IsImageOf given.disk t → AreCleanAtEnd given.disk left.disk = subst (λ (o : Status). UnlessFault o (items ≢ [] → (t : Tree) → IsImageOf given.disk t → AreCleanAtEnd given.disk left.disk)) (done is) runs.clean in
+      let it = clean some tree stood in
+      (it.value, (it.mounted, sym (none_dirty (image_of left.disk) it.value it.clean)))
+
+  of_run : IsDirtyCount given.disk left.disk s items told 0
+  of_run = elim (some_items s.clients items are) [
+    | inl none ↦ NothingRan none
+    | inr some ↦ elim (done_or_not told) [
+      | inl is ↦ OfTheImage is by_items (by_image is some)
+      | inr early ↦ OfTheItems early by_items
+    ]
   ]
-]
 
 pub counted : (given left : Inputs) (words : List (List ℕ)) (s : ScriptValue) (items : List TraceItem) (lines : List ℕ) (own : Status) → Course words given left s items lines own
-    → (told : Status) → IsDirtyCount left.disk s items told 0
-counted given left words s items lines own (RefusesWords own' refused untouched) told = NothingRan refl
-counted given left words s items lines own (MakesImage make own' asks makes) told = NothingRan refl
-counted given left words s items lines own (ShowsImage lines' own' asks script disk shows) told = NothingRan refl
-counted given left words s items lines own (NoScript own' asks lacks disk faults) told = NothingRan refl
-counted given left words s items lines own (RunsScript text s' items' own' asks read script built untouched runs) told =
-    of_run given.disk left.disk s items told untouched.state_is (answers_of_run s.clients s.lines items _ runs.run) runs.mounted
+    → (told : Status) → (told ≡ status.Done → own ≡ status.Done) → IsDirtyCount given.disk left.disk s items told 0
+counted given left words s items lines own (RefusesWords own' refused untouched) told done = NothingRan refl
+counted given left words s items lines own (MakesImage make own' asks makes) told done = NothingRan refl
+counted given left words s items lines own (ShowsImage lines' own' asks script disk shows) told done = NothingRan refl
+counted given left words s items lines own (NoScript own' asks lacks disk faults) told done = NothingRan refl
+counted given left words s items lines own (RunsScript text s' items' own' asks read script built runs) told done = of_run given left s items own told runs done

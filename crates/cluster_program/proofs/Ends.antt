@@ -13,8 +13,10 @@ use Rattle.cluster_program.specs.declared.status.Status.TheVariants as status
 use Rattle.cluster_program.specs.declared.status.Which.{Which}
 use Rattle.cluster_program.specs.declared.status.Which.TheVariants as which
 use Rattle.cluster_program.specs.World.{Inputs, Outputs}
-use Rattle.cluster_program.specs.Course.{Course, RefusesWords, MakesImage, NoScript, Makes, IsTooLarge, IsTooSmall, LacksMemory, HasFailed, HasMade, RunsScript, LacksScript, SourceFailed, Refused, RefusedEarly, NotBuiltYet, RunEnds, IsDone, NotMounted, CallFailed, CallRefused, CallDamaged, NoRoom, Shows, HasShown, ShowsNone, TreeFailed, TreeRefused, TreeDamaged, NothingHeld, ShowsImage, words_refusal, refusal_of, is_built}
-use Rattle.cluster_program.specs.Mounting.{MountEnds, DiskFails, LiesOutside, IsDamaged, IsDirty, IsHashed, HasFarRoot, HasOtherRoot, LacksRoom}
+use Rattle.cluster_program.specs.Course.{Course, RefusesWords, MakesImage, NoScript, Makes, IsTooLarge, IsTooSmall, LacksMemory, HasFailed, HasMade, RunsScript, LacksScript, SourceFailed, Refused, RefusedEarly, NotBuiltYet, NoRoom, Shows, HasShown, ShowsNone, TreeFailed, TreeDamaged, NothingHeld, ShowsImage, words_refusal, refusal_of, is_built}
+use Rattle.cluster_program.specs.Mounting.{MountEnds, DiskFails, LiesOutside, IsDamaged, IsDirty, IsHashed, LacksRoom}
+use Rattle.cluster_program.specs.Runs as runs
+use Rattle.cluster_program.specs.Runs.{RunEnds, IsDone, NotMounted, CallFailed, CallHashed, CallUnbuilt, CallDamaged}
 use Rattle.cluster_program.specs.Report.{Becomes, Stays, WithoutMemory, Fails, Reports}
 use Rattle.cluster_program.specs.Command.{FaultHasCause}
 
@@ -49,25 +51,23 @@ module _ (given left : Inputs) (sinks sinks_now : Outputs) where
   mount_fault own (IsDamaged block rule breaks never) = tt
   mount_fault own (IsDirty block dirty) = tt
   mount_fault own (IsHashed block hashed) = tt
-  mount_fault own (HasFarRoot block clean far breaks never) = tt
-  mount_fault own (HasOtherRoot block clean other) = tt
   mount_fault own LacksRoom = tt
 
   show_fault : (lines : List ℕ) (own : Status) → Shows given.disk given.disk_faults left.disk_faults lines own → FaultHasCause given left sinks sinks_now own
-  show_fault lines own (HasShown m lines' shown mounted clean are flat stands) = tt
+  show_fault lines own (HasShown m tree lines' mounted is are) = tt
   show_fault lines own (ShowsNone own' ends) = mount_fault own ends
-  show_fault lines own (TreeFailed root block x y clean up within begins reads) = up
-  show_fault lines own (TreeRefused root block clean other begins refuses) = tt
-  show_fault lines own (TreeDamaged root block rule why clean is other begins refuses breaks) = tt
+  show_fault lines own (TreeFailed block x y clean up within) = up
+  show_fault lines own (TreeDamaged block rule clean never breaks) = tt
   show_fault lines own NothingHeld = tt
 
-  run_fault : (s : ScriptValue) (items : List TraceItem) (own : Status) → RunEnds given.disk given.disk_faults left.disk_faults s items own → FaultHasCause given left sinks sinks_now own
+  run_fault : (s : ScriptValue) (items : List TraceItem) (own : Status) → RunEnds given left s items own → FaultHasCause given left sinks sinks_now own
   run_fault s items own (IsDone all whole) = tt
-  run_fault s items own (NotMounted own' none ends) = mount_fault own ends
-  run_fault s items own (CallFailed root block x y up within begins reads) = up
-  run_fault s items own (CallRefused root block other begins refuses) = tt
-  run_fault s items own (CallDamaged root block rule why is other begins refuses breaks) = tt
-  run_fault s items own NoRoom = tt
+  run_fault s items own (NotMounted own' none same ends) = mount_fault own ends
+  run_fault s items own (CallFailed m block x y for up within at) = up
+  run_fault s items own (CallHashed m block for at) = tt
+  run_fault s items own (CallUnbuilt m place for at taken) = tt
+  run_fault s items own (CallDamaged m block rule for never at told) = tt
+  run_fault s items own runs.NoRoom = tt
 
   make_fault : (make : MakeWords) (own : Status) → Makes make given left own → FaultHasCause given left sinks sinks_now own
   make_fault make own (IsTooLarge many same) = tt
@@ -81,7 +81,7 @@ module _ (given left : Inputs) (sinks sinks_now : Outputs) where
   course_fault words s items lines own (MakesImage make own' asks makes) = make_fault make own makes
   course_fault words s items lines own (ShowsImage lines' own' asks script disk shows) = show_fault lines own shows
   course_fault words s items lines own (NoScript told asks lacks untouched same) = script_fault own lacks
-  course_fault words s items lines own (RunsScript text s' items' own' asks read script built untouched runs) = run_fault s items own runs.ends
+  course_fault words s items lines own (RunsScript text s' items' own' asks read script built ran) = run_fault s items own ran.ends
 
   trace_fault : (own told : Status) → Becomes which.Trace sinks.trace_faults sinks_now.trace_faults own told → FaultHasCause given left sinks sinks_now own → FaultHasCause given left sinks sinks_now told
   trace_fault own told (Stays same) cause = subst (FaultHasCause given left sinks sinks_now) (sym same) cause

@@ -14,7 +14,7 @@ use Rattle.mkgfs2_tool.specs.declared.options.MakeFault.{MakeFault}
 use Rattle.mkgfs2_tool.specs.declared.options.MakeFault.TheVariants as fault
 use Rattle.cluster_program.specs.Course as course
 use Rattle.cluster_program.specs.Course.{Makes, options_of}
-use Rattle.cluster_program.specs.World.{inputs}
+use Rattle.cluster_program.specs.World.{inputs, KeepsScript}
 use Rattle.cluster_program.specs.declared.status.Status.{Status}
 use Rattle.cluster_program.specs.declared.status.Status.TheVariants as status
 
@@ -48,7 +48,7 @@ module _ (w : MakeWords) (s s' : DiskState) (l l' : Option (List Operation)) (f 
   untouched_inputs left failed same =
       ap (λ t. inputs t l' f' left failed) same.state_is ∙ ap (λ list. inputs s list f' left failed) same.list_is ∙ ap (λ faults. inputs s l faults left failed) same.faults_are
 
-  kept : (left : Option (List ℕ)) (failed : ℕ) → course.KeepsScript (inputs s l f left failed) (inputs s' l' f' left failed)
+  kept : (left : Option (List ℕ)) (failed : ℕ) → KeepsScript (inputs s l f left failed) (inputs s' l' f' left failed)
   kept left failed = record { left = refl; faults = refl }
 
   pub makes : (r : Result (Unit {0}) MakeFault) (left : Option (List ℕ)) (failed : ℕ) → s.count ≤ most_blocks → Ending (options_of w) s s' l l' f f' r

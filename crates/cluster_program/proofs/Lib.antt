@@ -1,5 +1,7 @@
 pub mod Lines
 pub mod Mounts
+pub mod Damage
+pub mod Heads
 pub mod Shows
 pub mod Passing
 pub mod Quiet
@@ -7,7 +9,6 @@ pub mod Runs
 pub mod Scripts
 pub mod Courses
 pub mod ClientLines
-pub mod Far
 pub mod Faults
 pub mod Images
 pub mod Ends

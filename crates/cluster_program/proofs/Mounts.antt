@@ -1,36 +1,32 @@
 -- How a mount that failed ends a command, and what one that went well gives.
-use Rattle.std.proofs.Common.{◌≡◌, ℕ, ◌<◌, ◌≤◌, List, false, true, Some, None, length, inl, inr, refl, sym, ap, ◌∙◌, subst, arith}
-use Rattle.std.specs.Prelude.{IsTrue, nat_lt}
-use Rattle.fault_counts.specs.Causes.{WentUp}
-use Rattle.file_tree.specs.Tree.{Tree}
+use Rattle.std.proofs.Common.{◌≡◌, ℕ, ◌≤◌, Some, None, length, inl, inr, List, refl, sym, ap, ◌∙◌, subst, arith}
+use Rattle.std.specs.Prelude.{IsTrue}
+use Rattle.std.specs.FinMap.{empty, get, get-empty}
+use Rattle.std.specs.Ordering.{nat_cmp}
+use Rattle.std.proofs.lemmas.List.{length-map}
 use Rattle.gfs2_layout.specs.Device.{IsBlockSize, superblock_place}
-use Rattle.gfs2_layout.specs.Headers.{HasHeader}
-use Rattle.gfs2_layout.specs.Structures.{header_fault}
+use Rattle.glock_names.specs.Views.{group_of_entry}
 use Rattle.image_model.specs.Claims.{Claims, root}
-use Rattle.image_model.specs.Image.{image_of}
+use Rattle.image_model.specs.Image.{IsImage, image_of, superblock_in}
 use Rattle.image_model.specs.Laws.{NothingBreaks}
 use Rattle.image_model.specs.Owners.{Root}
-use Rattle.image_model.specs.Rules.{IsBrokenBlock}
-use Rattle.gfs2_layout.specs.declared.superblock.SuperBlock.{SuperBlock}
+use Rattle.image_model.specs.Rules.{Breaks, beyond_groups}
 use Rattle.image_mount.specs.Found.{HasFormat}
-use Rattle.image_mount.specs.Mounted.{MountedValue, IsMounted, IsOfProfile}
-use Rattle.image_mount.specs.Refusals.{RefusesRightly, HasRisen, IsExcused, IsReached}
+use Rattle.image_mount.specs.Mounted.{MountedValue, IsMounted, IsOfProfile, GroupsAreAsSeen}
+use Rattle.image_mount.specs.Refusals.{RefusesRightly, HasRisen, IsExcused}
 use Rattle.image_mount.specs.declared.fault.MountFault.{MountFault}
 use Rattle.image_mount.specs.declared.fault.MountFault.TheVariants as fault
-use Rattle.shared_disk.specs.Disk.{DiskState}
-use Rattle.single_node.specs.Blocks.{RootRefused, OtherRoot, FarRoot}
-use Rattle.single_node.specs.Ends.{EndHasCause, IfNotRead, IfDiskFailed}
-use Rattle.single_node.specs.Flat.{HasSuperBlock, HasRoot, HasFlatRoot, IsFlatDirectory, root_of}
-use Rattle.single_node.specs.declared.end.Refusal.{Refusal}
-use Rattle.single_node.specs.declared.end.Refusal.TheVariants as why
-use Rattle.single_node.specs.declared.end.RunEnd.{RunEnd}
-use Rattle.single_node.specs.declared.end.RunEnd.TheVariants as end
-use Rattle.single_node.proofs.Walks.{block_size_bounds}
-use Rattle.cluster_program.specs.Early.{status_of_end, status_of_mount}
-use Rattle.cluster_program.specs.Mounting.{OfImage, IsMountedClean, MountEnds, DiskFails, LiesOutside, IsDamaged, IsHashed, HasFarRoot, HasOtherRoot, LacksRoom}
+use Rattle.shared_disk.specs.Disk.{DiskState, IsSound}
+use Rattle.lone_view.specs.Groups.{AreGroupsOn}
+use Rattle.lone_view.specs.Seeing.{seen_alone}
+use Rattle.lone_node.specs.Standing.{IsOn}
+use Rattle.damage_laws.specs.Telling.{HasRootInside, IsOfMounted, MountedAreRead}
+use Rattle.cluster_program.specs.Early.{status_of_mount}
+use Rattle.cluster_program.specs.Mounting.{OfImage, IsMountedFor, MountEnds, DiskFails, LiesOutside, IsDamaged, IsDirty, IsHashed, LacksRoom}
+use Rattle.cluster_program.specs.Report.{IsSinkFault}
+use Rattle.cluster_program.specs.declared.status.Status.{Status}
+use Rattle.cluster_program.specs.Runs.{as_mounted}
 use Rattle.cluster_program.specs.declared.status.Status.TheVariants as status
-use Rattle.cluster_program.proofs.Far.{far_root}
-use Rattle.cluster_program.proofs.Runs.{longer}
 
 pub mount_end : (d : DiskState) (first now : ℕ → ℕ) (f : MountFault) → NothingBreaks → OfImage d (λ im. RefusesRightly im f) → OfImage d (λ im. IsOfProfile im → IsExcused f) → HasRisen first now f
     → MountEnds d first now (status_of_mount f)
@@ -41,50 +37,77 @@ mount_end d first now (fault.DeviceFault block x y) law right excused risen = Di
 mount_end d first now (fault.NotBuilt block) law right excused risen = IsHashed block right
 mount_end d first now fault.NoMemory law right excused risen = LacksRoom
 
-root_is_reached : (d : DiskState) (block : ℕ) → block ≡ root_of d → block < d.count → IsReached (image_of d) block
-root_is_reached d block is inside = record { inside = inside; claimed = inr (superblock_place d.size, (Root, subst (λ (b : ℕ). Claims (image_of d) (superblock_place d.size) b Root) (sym is) root)) }
+-- ---- what the node has of the image as it begins
 
-pub root_end : (d mid : DiskState) (first before now : ℕ → ℕ) (address : ℕ) (e : RunEnd) → mid ≡ d → NothingBreaks → OfImage d IsMountedClean → (IsTrue d.tells → HasSuperBlock d × (address ≡ root_of d)) → ((j : ℕ) → first j ≤ before j)
-    → EndHasCause 0 before now e → IfNotRead e (λ b r. IsTrue mid.tells → RootRefused mid address b r) → IfDiskFailed e (λ b. b ≡ address) → IfDiskFailed e (λ b. b < mid.count) → MountEnds d first now (status_of_end e)
-root_end d mid first before now address (end.DiskFailed node block rise) same law clean at earlier cause refused failed within =
-    let here = DiskFails block rise.before rise.after (longer (first 0) (before 0) (now 0) rise.before rise.after (earlier 0) cause.1) (λ tells. root_is_reached d block (failed ∙ (at tells).1) (subst (λ (s : DiskState). block < s.count) same within)) in
-    subst (λ (n : ℕ). MountEnds d first now (status.DeviceFault n (Some block) rise.before rise.after)) (sym cause.0) here
-root_end d mid first before now address (end.NotRead block why.Form) same law clean at earlier cause refused failed within =
-    HasOtherRoot block clean (λ tells. other_root d address block (at tells).1 (subst (λ (s : DiskState). IsTrue s.tells → RootRefused s address block why.Form) same refused tells))
-  where
-    other_root : (d : DiskState) (address block : ℕ) → address ≡ root_of d → RootRefused d address block why.Form → (block ≡ root_of d) × (block < d.count) × (HasRoot d → ⊥)
-    other_root d address block at (OtherRoot is inside other) =
-        (is ∙ at, subst (λ (a : ℕ). a < d.count) (sym is) inside, λ has. other (subst (λ (a : ℕ). IsFlatDirectory d.size a (d.block_at a)) (sym at) has.directory))
-root_end d mid first before now address (end.NotRead block why.LeadsOut) same law clean at earlier cause refused failed within =
-    let there : IsTrue d.tells → (block ≡ superblock_place d.size) × (d.count ≤ root_of d) = λ tells. far d address block (at tells).1 (subst (λ (s : DiskState). IsTrue s.tells → RootRefused s address block why.LeadsOut) same refused tells) in
-    let broken : OfImage d (λ im. IsBrokenBlock im 2 block) = λ tells. subst (IsBrokenBlock (image_of d) 2) (sym (there tells).0) (far_root d (at tells).0.inside (there tells).1) in
-    HasFarRoot block clean there broken (λ tells tree stands. law (image_of d) tree stands 2 block (broken tells).breaks)
-  where
-    far : (d : DiskState) (address block : ℕ) → address ≡ root_of d → RootRefused d address block why.LeadsOut → (block ≡ superblock_place d.size) × (d.count ≤ root_of d)
-    far d address block at (FarRoot is outside) = (is, subst (λ (a : ℕ). d.count ≤ a) at outside)
-root_end d mid first before now address (end.NotRead block why.BadName) same law clean at earlier cause refused failed within =
-    let never : IsTrue d.tells → ⊥ = λ tells. no_name_read d address block why.BadName refl (subst (λ (s : DiskState). IsTrue s.tells → RootRefused s address block why.BadName) same refused tells) in
-    IsDamaged block 9 (λ tells. absurd (never tells)) (λ tells tree stands. never tells)
-  where
-    -- reading the root looks at none of its names
-    no_name_read : (d : DiskState) (address block : ℕ) (r : Refusal) → r ≡ why.BadName → RootRefused d address block r → ⊥
-    no_name_read d address block _ is (OtherRoot here inside other) = cc
-    no_name_read d address block _ is (FarRoot here outside) = cc
-root_end d mid first before now address end.NoMemory same law clean at earlier cause refused failed within = LacksRoom
+pub image_there : (d : DiskState) → IsSound d → IsBlockSize d.size → OfImage d IsImage
+image_there d sound four tells = record { block_size = four; whole = sound.sizes tells }
 
--- ---- what the superblock is
+nothing_kept : (b : ℕ) (bytes : List ℕ) → get (empty {K = ℕ} {X = List ℕ} {R = nat_cmp}) b ≡ Some bytes → ⊥
+nothing_kept b bytes has = let never : None ≡ Some bytes = sym (get-empty {K = ℕ} {X = List ℕ} nat_cmp b) ∙ has in cc
 
-good_header : (bytes : List ℕ) → 272 ≤ length bytes → HasHeader 1 100 bytes → header_fault 272 1 100 bytes ≡ None
-good_header bytes long has = grind (arith, long, has.magic_is, has.kind_is, has.format_is)
+pub is_on : (d : DiskState) (m : MountedValue) → AreGroupsOn d.size d.count m.groups → IsOn d (as_mounted d m)
+is_on d m on = record {
+  size = refl;
+  some = on.some;
+  groups = on.inside;
+  inside = λ b bytes has. absurd (nothing_kept b bytes has);
+  agrees = λ tells b bytes has. absurd (nothing_kept b bytes has);
+}
 
-pub superblock_is : (d : DiskState) (m : MountedValue) → IsBlockSize d.size → IsMounted (image_of d) m → HasSuperBlock d × (m.superblock.root.address ≡ root_of d)
-superblock_is d m four mounted =
-    let format : HasFormat (image_of d) = mounted.found.groups.list.master.format in
-    let long : 272 ≤ length (d.block_at (superblock_place d.size)) = omega (arith, format.super.whole, (block_size_bounds d.size four).0) in (
-      record { inside = format.super.inside; good = good_header (d.block_at (superblock_place d.size)) long format.super.header; bsize = format.bsize },
-      ap (λ (s : SuperBlock). s.root.address) mounted.superblock,
-    )
+-- it may be read from the image, of which it has the groups, and no block
+pub of_mounted : (d : DiskState) (m : MountedValue) → IsOfMounted (seen_alone (as_mounted d m)) (image_of d) m
+of_mounted d m = record {
+  size = refl;
+  root = refl;
+  groups = refl;
+  agrees = λ b bytes has. absurd (nothing_kept b bytes has);
+}
 
-pub root_there : (d mid : DiskState) (block : List ℕ) (address : ℕ) → mid ≡ d → (IsTrue mid.tells → HasSuperBlock mid → address ≡ root_of mid → HasFlatRoot mid block)
-    → IsTrue d.tells → HasSuperBlock d → address ≡ root_of d → HasFlatRoot d block
-root_there d mid block address same so = subst (λ (s : DiskState). IsTrue s.tells → HasSuperBlock s → address ≡ root_of s → HasFlatRoot s block) same so
+some_groups : (d : DiskState) (m : MountedValue) → IsMounted (image_of d) m → 1 ≤ length m.groups
+some_groups d m mounted =
+    let same : length m.groups ≡ length mounted.layout.groups = ap length mounted.groups ∙ length-map mounted.layout.groups group_of_entry in
+    let some = mounted.profile.groups.0 in omega (arith, same, some)
+
+module _ (d : DiskState) (m : MountedValue) (law : NothingBreaks) (is : OfImage d IsImage) (for : IsMountedFor d m) where
+  -- groups such as no node can work with are not those of a disk that tells its blocks
+  pub odd_groups : GroupsAreAsSeen → ¬ (AreGroupsOn d.size d.count m.groups) → (first now : ℕ → ℕ) → MountEnds d first now (status.Damaged (superblock_place d.size) 18)
+  odd_groups seen odd first now = IsDamaged (superblock_place d.size) 18 (λ tells. absurd (never tells)) (λ tells tree stands. never tells)
+    where
+      never : IsTrue d.tells → ⊥
+      never tells =
+          let mounted = for.mounted tells in
+          odd (record { some = some_groups d m mounted; are = (seen (image_of d) m mounted).0; inside = (seen (image_of d) m mounted).1 })
+
+  -- a root that is in no group is told at the superblock
+  pub stray_root : MountedAreRead → ¬ (HasRootInside (seen_alone (as_mounted d m))) → (first now : ℕ → ℕ) → MountEnds d first now (status.Damaged (superblock_place d.size) 2)
+  stray_root read stray first now = IsDamaged (superblock_place d.size) 2 told (λ tells tree stands. law (image_of d) tree stands 2 (superblock_place d.size) (told tells).0.breaks)
+    where
+      breaks : IsTrue d.tells → Breaks (image_of d) 2 (superblock_place d.size)
+      breaks tells =
+          let from = (read (seen_alone (as_mounted d m)) (image_of d) m (is tells) (for.mounted tells) (of_mounted d m)).0 in
+          let address : (superblock_in (image_of d)).root.address ≡ m.superblock.root.address = from.root in
+          beyond_groups (superblock_place d.size) m.superblock.root.address Root (subst (λ a. Claims (image_of d) (superblock_place d.size) a Root) address root)
+          (λ g has inside. stray (group_of_entry g, (from.groups (group_of_entry g)).1 (g, has, refl), record { low = inside.low; high = inside.high }))
+
+      told : OfImage d (λ im. RefusesRightly im (fault.Damaged (superblock_place d.size) 2))
+      told tells =
+          let format : HasFormat (image_of d) = (for.mounted tells).found.groups.list.master.format in
+          (record { breaks = breaks tells; there = inl format.super.inside }, inr format)
+
+-- ---- such an end is not told to be done, nor a sink's fault
+
+pub mount_never_done : (disk : DiskState) (first now : ℕ → ℕ) (own : Status) → MountEnds disk first now own → own ≡ status.Done → ⊥
+mount_never_done disk first now own (DiskFails block x y up reached) is = cc
+mount_never_done disk first now own (LiesOutside what value outside never) is = cc
+mount_never_done disk first now own (IsDamaged block rule breaks never) is = cc
+mount_never_done disk first now own (IsDirty block dirty) is = cc
+mount_never_done disk first now own (IsHashed block hashed) is = cc
+mount_never_done disk first now own LacksRoom is = cc
+
+pub no_mount_fault : (d : DiskState) (first now : ℕ → ℕ) (own : Status) → MountEnds d first now own → IsSinkFault own → ⊥
+no_mount_fault d first now own (DiskFails block x y up reached) never = never
+no_mount_fault d first now own (LiesOutside what value outside none) never = never
+no_mount_fault d first now own (IsDamaged block rule breaks none) never = never
+no_mount_fault d first now own (IsDirty block dirty) never = never
+no_mount_fault d first now own (IsHashed block hashed) never = never
+no_mount_fault d first now own LacksRoom never = never

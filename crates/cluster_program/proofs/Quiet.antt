@@ -1,6 +1,6 @@
 -- Nothing is down or lost in a run of one node that answers and unmounts.
 use Rattle.std.proofs.Common.{◌≡◌, ◌⊎◌, inl, inr, ℕ, ◌+◌, suc, List, [], ◌∷◌, ◌++◌, drop, Bool, true, false, refl, sym, ap, ◌∙◌, arith, append-nil}
-use Rattle.std.specs.Prelude.{Option, None, ◌&&◌, ◌==◌, if◌then◌else◌}
+use Rattle.std.specs.Prelude.{Option, None, Some, ◌&&◌, ◌==◌, if◌then◌else◌}
 use Rattle.std.specs.List.{flat_map}
 use Rattle.std.proofs.lemmas.List.{drop_all}
 use Rattle.file_tree.specs.Tree.{Tree}
@@ -14,7 +14,8 @@ use Rattle.script_lang.specs.declared.script.Line.TheVariants as line
 use Rattle.script_lang.specs.Script.{ScriptValue, calls_by}
 use Rattle.run_rules.specs.Follows.{history_of, call_items}
 use Rattle.run_rules.specs.History.{AllAnswered}
-use Rattle.single_node.specs.Run.{AnsweredCall, items_from, IsRunOf, NotJoined, Taken, Unmounted}
+use Rattle.lone_node.specs.Run.{AnsweredCall, full_item, items_from, name_at, IsRunOf, NotJoined, Taken, Unmounted}
+use Rattle.lone_node.specs.declared.answering.Full.{Full}
 use Rattle.cluster_program.specs.declared.status.Status.{Status}
 use Rattle.cluster_program.specs.declared.status.Status.TheVariants as status
 use Rattle.cluster_program.specs.Orders.{orders, line_for, with_line_for, uses_from, uses}
@@ -40,23 +41,43 @@ answers_of_run clients lines items start (Unmounted whole) =
 -- ---- nothing stops, is lost, or carries a line out
 
 module _ (clients : List Client) (end : List TraceItem) (is : IsEnd end) where
+  -- the items of a call and of those behind it
+  abbrev from_call : Option Full → ℕ → AnsweredCall → List AnsweredCall → List TraceItem
+  from_call full n a more = (full_item full ++ trace.Call 1 (name_at clients a.client) n a.call a.reply ∷ items_from clients (n + 1) more) ++ end
+
   stopped_rest : (node n : ℕ) (calls : List AnsweredCall) → is_stopped node false (items_from clients n calls ++ end) ≡ false
   stopped_rest node n [] = elim is [ inl none ↦ ap (is_stopped node false) none | inr one ↦ ap (is_stopped node false) one ]
-  stopped_rest node n (a ∷ as') = stopped_rest node (n + 1) as'
+  stopped_rest node n (a ∷ as') = by_full a.full (stopped_rest node (n + 1) as')
+    where
+      by_full : (full : Option Full) → is_stopped node false (items_from clients (n + 1) as' ++ end) ≡ false → is_stopped node false (from_call full n a as') ≡ false
+      by_full None rest = rest
+      by_full (Some f) rest = rest
 
   -- no item of such a history takes a call out
   drops_rest : (others : List Client) (node number n : ℕ) (calls : List AnsweredCall) → any_drops node number (history_of others (items_from clients n calls ++ end)) ≡ false
   drops_rest others node number n [] =
       elim is [ inl none ↦ ap (λ (l : List TraceItem). any_drops node number (history_of others l)) none | inr one ↦ ap (λ (l : List TraceItem). any_drops node number (history_of others l)) one ]
-  drops_rest others node number n (a ∷ as') = drops_rest others node number (n + 1) as'
+  drops_rest others node number n (a ∷ as') = by_full a.full (drops_rest others node number (n + 1) as')
+    where
+      by_full : (full : Option Full) → any_drops node number (history_of others (items_from clients (n + 1) as' ++ end)) ≡ false → any_drops node number (history_of others (from_call full n a as')) ≡ false
+      by_full None rest = rest
+      by_full (Some f) rest = rest
 
   lost_rest : (others : List Client) (n : ℕ) (calls : List AnsweredCall) → lost_count (history_of others (items_from clients n calls ++ end)) ≡ 0
   lost_rest others n [] = elim is [ inl none ↦ ap (λ (l : List TraceItem). lost_count (history_of others l)) none | inr one ↦ ap (λ (l : List TraceItem). lost_count (history_of others l)) one ]
-  lost_rest others n (a ∷ as') = rw (drops_rest others 1 n (n + 1) as') (ap (λ (k : ℕ). 0 + k) (lost_rest others (n + 1) as'))
+  lost_rest others n (a ∷ as') = by_full a.full (lost_rest others (n + 1) as')
+    where
+      by_full : (full : Option Full) → lost_count (history_of others (items_from clients (n + 1) as' ++ end)) ≡ 0 → lost_count (history_of others (from_call full n a as')) ≡ 0
+      by_full None rest = rw (drops_rest others 1 n (n + 1) as') (ap (λ (k : ℕ). 0 + k) rest)
+      by_full (Some f) rest = rw (drops_rest others 1 n (n + 1) as') (ap (λ (k : ℕ). 0 + k) rest)
 
   uses_rest : (s : ScriptValue) (items : List TraceItem) (p n : ℕ) (calls : List AnsweredCall) → uses_from s items p (items_from clients n calls ++ end) [] ≡ []
   uses_rest s items p n [] = elim is [ inl none ↦ ap (λ (l : List TraceItem). uses_from s items p l []) none | inr one ↦ ap (λ (l : List TraceItem). uses_from s items p l []) one ]
-  uses_rest s items p n (a ∷ as') = uses_rest s items (suc p) (n + 1) as'
+  uses_rest s items p n (a ∷ as') = by_full a.full (λ q. uses_rest s items q (n + 1) as')
+    where
+      by_full : (full : Option Full) → ((q : ℕ) → uses_from s items q (items_from clients (n + 1) as' ++ end) [] ≡ []) → uses_from s items p (from_call full n a as') [] ≡ []
+      by_full None rest = rest (suc p)
+      by_full (Some f) rest = rest (suc (suc p))
 
 -- no line orders the first join, which is one of the start
 no_order : (s : ScriptValue) (x : Line) → s.nodes ≡ 1 → orders s 0 (trace.Join 1) x ≡ false

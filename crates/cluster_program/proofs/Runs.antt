@@ -1,9 +1,12 @@
--- How a run of a script ends.
-use Rattle.std.proofs.Common.{◌≡◌, ℕ, ◌<◌, ◌≤◌, List, [], length, IsTrue, Some, refl, sym, ◌∙◌, subst, arith}
+-- How a run of a script goes and ends, by what the image stands for.
+use Rattle.std.proofs.Common.{◌≡◌, ℕ, ◌+◌, ◌^◌, ◌<◌, ◌≤◌, List, [], length, Option, refl, sym, subst, arith}
+use Rattle.std.specs.Prelude.{◌≢◌, Result, Ok, Err, IfErr, OnOk}
 use Rattle.fault_counts.specs.Causes.{WentUp}
 use Rattle.file_tree.specs.Tree.{Tree}
 use Rattle.file_tree.specs.declared.call.Call.{Call}
 use Rattle.cluster_history.specs.History.{Legal, NoneLost, tree_of}
+use Rattle.image_model.specs.Image.{IsImage, image_of}
+use Rattle.image_mount.specs.Mounted.{MountedValue, IsMounted, StandsAsMounted}
 use Rattle.trace_text.specs.declared.item.TraceItem.{TraceItem}
 use Rattle.script_lang.specs.Script.{ScriptValue}
 use Rattle.script_lang.specs.declared.script.Client.{Client}
@@ -12,159 +15,274 @@ use Rattle.script_lang.specs.declared.script.Line.TheVariants as line
 use Rattle.run_rules.specs.Follows.{history_of}
 use Rattle.run_rules.specs.History.{HoldsHistory, NoneStopped, AllAnswered}
 use Rattle.run_rules.proofs.Nothing.{nothing_follows, nothing_is_legal}
-use Rattle.shared_disk.specs.Disk.{DiskState}
-use Rattle.single_node.specs.Flat.{IsFlat, HasFlatRoot, IsStart}
-use Rattle.single_node.specs.Ends.{EndHasCause, IfNotRead, IfDiskFailed}
-use Rattle.single_node.specs.declared.end.Refusal.{Refusal}
-use Rattle.single_node.specs.declared.end.Refusal.TheVariants as why
-use Rattle.single_node.specs.declared.end.RunEnd.{RunEnd}
-use Rattle.single_node.specs.declared.end.RunEnd.TheVariants as end
+use Rattle.shared_disk.specs.Disk.{DiskState, IsIdle, IsSound, Operation}
+use Rattle.gfs2_layout.specs.Device.{IsBlockSize}
+use Rattle.image_model.specs.Stands.{IsLaid}
+use Rattle.script_lang.specs.WellFormed.{IsWellFormed}
+use Rattle.lone_view.specs.Seeing.{Lone, seen_alone}
+use Rattle.lone_node.specs.Answering.{IsDamagedOn, IsHashedOn, IsUnbuiltOn, IsSameDisk}
+use Rattle.lone_node.specs.Ends.{HasCause, IfDamaged, IfDiskFailed, IfHashed, IfNotBuilt, UnlessDiskFailed, UnlessFailed}
+use Rattle.lone_node.specs.Run.{EndsAt, EndsAtCall, HasChangedNothing, IsCallThat, IsFailedOn, IsRunOf, IsRunUpTo, IsTakenBehind, IsWholeRun, TellFree, NotJoined, Taken, Unmounted}
+use Rattle.lone_node.specs.Standing.{StandsFor, LeavesStanding}
+use Rattle.lone_node.specs.declared.ends.RunEnd.{RunEnd}
+use Rattle.lone_node.specs.declared.ends.RunEnd.TheVariants as end
+use Rattle.damage_laws.specs.Telling.{CallsTell, NeedsTell, MountedAreRead, HasRootInside}
+use Rattle.cluster_program.specs.Early.{status_of_end}
+use Rattle.cluster_program.specs.Mounting.{OfImage, IsImageOf, IsMountedFor, MountEnds}
+use Rattle.cluster_program.specs.Runs.{Runs, RunEnds, IsDone, NotMounted, CallFailed, CallHashed, CallUnbuilt, CallDamaged, NoRoom, UnlessFault, AreCleanAtEnd, as_mounted, first_line}
+use Rattle.cluster_program.specs.World.{Inputs, KeepsDisk}
 use Rattle.cluster_program.specs.declared.status.Status.{Status}
 use Rattle.cluster_program.specs.declared.status.Status.TheVariants as status
-use Rattle.cluster_program.specs.Course.{Runs, RunEnds, IsDone, CallFailed, CallRefused, CallDamaged, NoRoom, AtCall}
-use Rattle.single_node.specs.Blocks.{CallReads, CallRefuses, RefusesWhatIsTold, IsCallThat}
-use Rattle.single_node.specs.Run.{IsRunUpTo, IsWholeRun, IsRunOf, NotJoined, Taken, Unmounted}
-use Rattle.image_model.specs.Image.{image_of}
-use Rattle.image_model.specs.Rules.{IsBrokenBlock}
-use Rattle.image_model.specs.Stands.{Stands}
-use Rattle.image_mount.specs.Mounted.{MountedValue, IsMounted}
-use Rattle.cluster_program.specs.Mounting.{OfImage, IsLeftClean, IsMountedClean, MountEnds, DiskFails, LiesOutside, IsDamaged, IsDirty, IsHashed, HasFarRoot, HasOtherRoot, LacksRoom}
-use Rattle.cluster_program.specs.Early.{broken_rule, status_of_end}
-use Rattle.cluster_program.proofs.Far.{refused_breaks}
+use Rattle.cluster_program.proofs.Damage.{told}
+use Rattle.cluster_program.proofs.Heads.{below_end, clean_yet}
+use Rattle.cluster_program.specs.Report.{IsSinkFault}
+use Rattle.cluster_program.proofs.Mounts.{image_there, no_mount_fault}
 
 -- a count went up within a longer time too
 pub longer : (first before now x y : ℕ) → first ≤ before → WentUp before now x y → WentUp first now x y
 longer first before now x y earlier up = record { from = omega (arith, earlier, up.from); rose = up.rose; to = up.to }
 
--- a tree that the run may start from
-pub may_start : (disk mid : DiskState) (root : List ℕ) (tree : Tree) → mid ≡ disk → (IsTrue disk.tells → HasFlatRoot disk root) → IsFlat disk tree → IsStart mid root tree
-may_start disk mid root tree same begins flat = subst (λ (d : DiskState). IsStart d root tree) (sym same) (record { flat = flat; begins = begins flat.tells })
+-- ---- the tree for which the image stands
 
-of_call : {P Q : Call → Type 0} (l : Line) → ((call : Call) → P call → Q call) → IsCallThat P l → IsCallThat Q l
-of_call (line.Call client call) f holds = f call holds
-of_call line.Wait f holds = holds
-of_call (line.Crash nodes) f holds = holds
-of_call (line.Join node) f holds = holds
+pub stands_for : (d : DiskState) (m : MountedValue) → StandsAsMounted → OfImage d (λ im. IsMounted im m) → (t : Tree) → IsImageOf d t → StandsFor d (as_mounted d m) t
+stands_for d m law mounted t is =
+    let same = law (image_of d) m is.stands.owners is.stands.layout (mounted is.tells) is.stands.laid in record {
+      tells = is.tells;
+      owners = is.stands.owners;
+      layout = is.stands.layout;
+      root = sym same.0;
+      groups = sym same.1;
+      stands = record { laid = is.stands.laid; reads = is.stands.reads };
+    }
 
--- a call that refuses what is told, on a disk whose root is this block where it tells its blocks
-at_root : (disk : DiskState) (root : List ℕ) (s : ScriptValue) (items : List TraceItem) (block : ℕ) (why : Refusal) → (IsTrue disk.tells → HasFlatRoot disk root)
-    → AtCall disk root s items (λ call. RefusesWhatIsTold disk root call block why) → AtCall disk root s items (λ call. IsTrue disk.tells → CallRefuses disk root call block why)
-at_root disk root s items block why begins there = record {
-  count = there.count;
-  taken = there.taken;
-  next = there.next;
-  is_next = there.is_next;
-  holds = of_call {Q = λ call. IsTrue disk.tells → CallRefuses disk root call block why} there.next (λ call refuses tells. refuses tells (begins tells)) there.holds;
-}
+image_of_tree : (d : DiskState) (n : Lone) (t : Tree) → StandsFor d n t → IsImageOf d t
+image_of_tree d n t s = record { tells = s.tells; stands = record { owners = s.owners; layout = s.layout; laid = s.stands.laid; reads = s.stands.reads } }
 
-call_breaks : (disk : DiskState) (root : List ℕ) (block : ℕ) (r : Refusal) (rule : ℕ) → broken_rule r ≡ Some rule → (l : Line) → HasFlatRoot disk root → IsTrue disk.tells
-    → IsCallThat (λ call. IsTrue disk.tells → CallRefuses disk root call block r) l → IsBrokenBlock (image_of disk) rule block
-call_breaks disk root block r rule is (line.Call client call) has tells refuses = refused_breaks disk root call block r rule is has (refuses tells)
-call_breaks disk root block r rule is line.Wait has tells refuses = absurd refuses
-call_breaks disk root block r rule is (line.Crash nodes) has tells refuses = absurd refuses
-call_breaks disk root block r rule is (line.Join node) has tells refuses = absurd refuses
+-- ---- a run from fewer trees
 
--- an end in a call that met what breaks a rule
-call_damaged : (disk mid : DiskState) (first now : ℕ → ℕ) (s : ScriptValue) (items : List TraceItem) (root : List ℕ) (block rule : ℕ) (r : Refusal) → broken_rule r ≡ Some rule → mid ≡ disk
-    → (IsTrue disk.tells → HasFlatRoot disk root) → ((tree : Tree) → IsStart mid root tree → ⊥) → AtCall mid root s items (λ call. RefusesWhatIsTold mid root call block r)
-    → RunEnds disk first now s items (status.Damaged block rule)
-call_damaged disk mid first now s items root block rule r is same begins other refused =
-    let here = at_root disk root s items block r begins (subst (λ (d : DiskState). AtCall d root s items (λ call. RefusesWhatIsTold d root call block r)) same refused) in
-    CallDamaged root block rule r is (λ tree flat. other tree (may_start disk mid root tree same begins flat)) begins here (λ tells. call_breaks disk root block r rule is here.next (begins tells) tells here.holds)
+module _ (clients : List Client) (lines : List Line) (items : List TraceItem) (P Q : Tree → Type 0) (from : (t : Tree) → Q t → P t) where
+  up_to : (count : ℕ) (items : List TraceItem) → IsRunUpTo clients lines count items P → IsRunUpTo clients lines count items Q
+  up_to count items r = record { answered = r.answered; are = r.are; calls = r.calls; answers = λ t q. r.answers t (from t q); full = r.full }
 
--- an end in a call, of a run on the same disk
-pub call_end : (disk mid : DiskState) (first before now : ℕ → ℕ) (s : ScriptValue) (items : List TraceItem) (root : List ℕ) (e : RunEnd) → mid ≡ disk
-    → (IsTrue disk.tells → HasFlatRoot disk root) → ((j : ℕ) → first j ≤ before j) → EndHasCause 1 before now e
-    → IfNotRead e (λ _ _. (tree : Tree) → IsStart mid root tree → ⊥)
-    → IfNotRead e (λ b r. AtCall mid root s items (λ call. RefusesWhatIsTold mid root call b r))
-    → IfDiskFailed e (λ b. AtCall mid root s items (λ call. CallReads root call b)) → IfDiskFailed e (λ b. b < mid.count) → RunEnds disk first now s items (status_of_end e)
-call_end disk mid first before now s items root (end.DiskFailed node block rise) same begins earlier cause other refused failed within =
-    let here = CallFailed root block rise.before rise.after (longer (first 1) (before 1) (now 1) rise.before rise.after (earlier 1) cause.1) (subst (λ (d : DiskState). block < d.count) same within) begins
-    (subst (λ (d : DiskState). AtCall d root s items (λ call. CallReads root call block)) same failed) in
-    subst (λ (n : ℕ). RunEnds disk first now s items (status.DeviceFault n (Some block) rise.before rise.after)) (sym cause.0) here
-call_end disk mid first before now s items root (end.NotRead block why.Form) same begins earlier cause other refused failed within =
-    let here = subst (λ (d : DiskState). AtCall d root s items (λ call. RefusesWhatIsTold d root call block why.Form)) same refused in
-    CallRefused root block (λ tree flat. other tree (may_start disk mid root tree same begins flat)) begins (at_root disk root s items block why.Form begins here)
-call_end disk mid first before now s items root (end.NotRead block why.LeadsOut) same begins earlier cause other refused failed within =
-    call_damaged disk mid first now s items root block 2 why.LeadsOut refl same begins other refused
-call_end disk mid first before now s items root (end.NotRead block why.BadName) same begins earlier cause other refused failed within =
-    call_damaged disk mid first now s items root block 9 why.BadName refl same begins other refused
-call_end disk mid first before now s items root end.NoMemory same begins earlier cause other refused failed within = NoRoom
+  pub whole_from : IsWholeRun clients lines items P → IsWholeRun clients lines items Q
+  whole_from r = record { before = r.before; taken = up_to (length lines) r.before r.taken; are = r.are }
 
--- ---- the same items, from what may be a start now
+  pub run_from : IsRunOf clients lines items P → IsRunOf clients lines items Q
+  run_from (NotJoined none) = NotJoined none
+  run_from (Taken count r) = Taken count (up_to count items r)
+  run_from (Unmounted whole) = Unmounted (whole_from whole)
 
-module _ (clients : List Client) (lines : List Line) (Before Now : Tree → Type 0) (starts : (tree : Tree) → Now tree → Before tree) where
-  up_to : (count : ℕ) (items : List TraceItem) → IsRunUpTo clients lines count items Before → IsRunUpTo clients lines count items Now
-  up_to count items so = record { answered = so.answered; are = so.are; calls = so.calls; reads = λ tree start. so.reads tree (starts tree start) }
+  of_call : {A B : Call → Type 0} (l : Line) → ((call : Call) → A call → B call) → IsCallThat A l → IsCallThat B l
+  of_call (line.Call client call) f holds = f call holds
+  of_call line.Wait f holds = holds
+  of_call (line.Crash nodes) f holds = holds
+  of_call (line.Join node) f holds = holds
 
-  whole_from : (items : List TraceItem) → IsWholeRun clients lines items Before → IsWholeRun clients lines items Now
-  whole_from items whole = record { before = whole.before; taken = up_to (length lines) whole.before whole.taken; are = whole.are }
+  pub ends_from : {A B : Call → Type 0} (place : ℕ) → ((call : Call) → A call → B call) → EndsAt place A clients lines items P → EndsAt place B clients lines items Q
+  ends_from {A} {B} place f at = record { taken = up_to place items at.taken; next = at.next; is_next = at.is_next; holds = of_call {A = A} {B = B} at.next f at.holds }
 
-  run_from : (items : List TraceItem) → IsRunOf clients lines items Before → IsRunOf clients lines items Now
-  run_from items (NotJoined none) = NotJoined none
-  run_from items (Taken count so) = Taken count (up_to count items so)
-  run_from items (Unmounted whole) = Unmounted (whole_from items whole)
+  pub call_from : {A B : Call → Type 0} → ((call : Call) → A call → B call) → EndsAtCall A clients lines items P → EndsAtCall B clients lines items Q
+  call_from {A} {B} f at = record { count = at.count; ends = ends_from {A = A} {B = B} at.count f at.ends }
 
--- a run that is done
-pub done_end : (disk mid : DiskState) (faults faults_now : ℕ → ℕ) (s : ScriptValue) (items : List TraceItem) (root : List ℕ) → mid ≡ disk
-    → (IsTrue disk.tells → HasFlatRoot disk root) → AllAnswered items s → IsWholeRun s.clients s.lines items (IsStart mid root) → RunEnds disk faults faults_now s items status.Done
-done_end disk mid faults faults_now s items root same begins all whole =
-    IsDone all (whole_from s.clients s.lines (IsStart mid root) (IsFlat disk) (λ tree flat. may_start disk mid root tree same begins flat) items whole)
+-- where a run ended at a call of which this holds, something that doesn't depend on the call follows
+by_call : {A : Call → Type 0} {R : Type 0} (l : Line) → ((call : Call) → A call → R) → IsCallThat A l → R
+by_call (line.Call client call) f holds = f call holds
+by_call line.Wait f holds = absurd holds
+by_call (line.Crash nodes) f holds = absurd holds
+by_call (line.Join node) f holds = absurd holds
 
-abbrev StandsFor : DiskState → Tree → Type 0
-StandsFor disk tree = OfImage disk (λ im. Stands im tree)
+-- ---- what one node's run is known to be
 
--- nothing has happened
-pub no_items : (disk disk_now : DiskState) (faults faults_now : ℕ → ℕ) (s : ScriptValue) (items : List TraceItem) (own : Status) → disk_now ≡ disk → items ≡ []
-    → RunEnds disk faults faults_now s items own → Runs disk disk_now faults faults_now s items own
-no_items disk disk_now faults faults_now s items own same none ends = record {
+pub record HasRun (d d' : DiskState) (list list' : Option (List Operation)) (n : Lone) (before now : ℕ → ℕ) (s : ScriptValue) (items : List TraceItem) (r : Result (Unit {0}) RunEnd) : Type 0 where
+  pub history : HoldsHistory s items
+  pub legal : (t : Tree) → StandsFor d n t → Legal (history_of s.clients items) t
+  pub untouched : UnlessDiskFailed r (HasChangedNothing s.clients items → (d' ≡ d) × (list' ≡ list))
+  pub same : UnlessDiskFailed r (IsSameDisk d d')
+  pub idle : UnlessDiskFailed r (IsIdle d')
+  pub stands : UnlessDiskFailed r ((t : Tree) (at : StandsFor d n t) → LeavesStanding d d' n t (tree_of (history_of s.clients items) t) at)
+  pub run : IsRunOf s.clients s.lines items (StandsFor d n)
+  pub free : (t : Tree) (at : StandsFor d n t) → TellFree d n t at items
+  pub whole : OnOk r (IsWholeRun s.clients s.lines items (StandsFor d n))
+  pub members : NoneStopped items
+  pub none_lost : NoneLost (history_of s.clients items)
+  pub answered : OnOk r (AllAnswered items s)
+  pub sound : IfErr r (λ e. IfDamaged e (λ b rule. (t : Tree) → StandsFor d n t → ⊥))
+  pub damaged : IfErr r (λ e. IfDamaged e (λ b rule. EndsAtCall (λ call. IsDamagedOn d' n call b rule) s.clients s.lines items (StandsFor d n)))
+  pub hashed : IfErr r (λ e. IfHashed e (λ b. EndsAtCall (λ call. IsHashedOn d' n call b) s.clients s.lines items (StandsFor d n)))
+  pub unbuilt : IfErr r (λ e. IfNotBuilt e (λ place. EndsAt place (λ call. IsUnbuiltOn d' n call) s.clients s.lines items (StandsFor d n)))
+  pub taken : IfErr r (λ e. IfNotBuilt e (λ place. EndsAt place (IsTakenBehind s.clients items (StandsFor d n)) s.clients s.lines items (StandsFor d n)))
+  pub failed : IfErr r (λ e. IfDiskFailed e (λ block. EndsAtCall (λ call. IsFailedOn d d' n s.clients items call block) s.clients s.lines items (StandsFor d n)))
+  pub cause : IfErr r (HasCause 1 d.count before now)
+
+-- ---- the ends
+
+unless : (first : ℕ) (e : RunEnd) {P Q : Type 0} → (P → Q) → UnlessFailed e P → UnlessFault (status_of_end first e) Q
+unless first (end.DiskFailed block rise) f p = tt
+unless first (end.Damaged block rule) f p = f p
+unless first (end.Hashed block) f p = f p
+unless first (end.NotBuilt place) f p = f p
+unless first end.NoMemory f p = f p
+
+anyway : (own : Status) {P : Type 0} → P → UnlessFault own P
+anyway (status.DeviceFault node block x y) p = tt
+anyway status.Done p = p
+anyway (status.Usage word) p = p
+anyway (status.BadScript line column) p = p
+anyway (status.NotProfile field value) p = p
+anyway (status.Damaged block rule) p = p
+anyway (status.ScriptFault x y) p = p
+anyway (status.SinkFault which x y) p = p
+anyway status.NoMemory p = p
+anyway (status.StepsSpent steps) p = p
+anyway (status.Stuck waits) p = p
+anyway (status.TooSmall needed found) p = p
+anyway (status.NotBuilt part) p = p
+
+module _ (given left : Inputs) (m : MountedValue) (s : ScriptValue) (items : List TraceItem) (before : ℕ → ℕ) (law : StandsAsMounted) (for : IsMountedFor given.disk m) (earlier : (j : ℕ) → given.disk_faults j ≤ before j) where
+  abbrev n : Lone
+  n = as_mounted given.disk m
+
+  from : (t : Tree) → IsImageOf given.disk t → StandsFor given.disk n t
+  from = stands_for given.disk m law for.mounted
+
+  -- an end in a call
+  module _ (calls : CallsTell) (needs : NeedsTell) (read : MountedAreRead) (inside : HasRootInside (seen_alone n)) where
+    call_end : (e : RunEnd) → UnlessFailed e (OfImage left.disk IsImage) → HasRun given.disk left.disk given.disk_list left.disk_list n before left.disk_faults s items (Err e) → RunEnds given left s items (status_of_end (first_line s) e)
+    call_end (end.DiskFailed block rise) image r =
+        CallFailed m block rise.before rise.after for (longer (given.disk_faults 1) (before 1) (left.disk_faults 1) rise.before rise.after (earlier 1) r.cause.0) r.cause.1
+        (call_from s.clients s.lines items (StandsFor given.disk n) (IsImageOf given.disk) from (λ call holds. holds) r.failed)
+    call_end (end.Damaged block rule) image r =
+        CallDamaged m block rule for (λ tells tree stands. r.sound tree (from tree (record { tells = tells; stands = stands })))
+        (call_from s.clients s.lines items (StandsFor given.disk n) (IsImageOf given.disk) from (λ call holds. holds) r.damaged)
+        (by_call r.damaged.ends.next (λ call damaged. told calls needs read given.disk left.disk m call block rule image inside damaged) r.damaged.ends.holds)
+    call_end (end.Hashed block) image r = CallHashed m block for (call_from s.clients s.lines items (StandsFor given.disk n) (IsImageOf given.disk) from (λ call holds. holds) r.hashed)
+    call_end (end.NotBuilt place) image r =
+        CallUnbuilt m place for
+        (ends_from s.clients s.lines items (StandsFor given.disk n) (IsImageOf given.disk) from place (λ call holds. holds) r.unbuilt)
+        (ends_from s.clients s.lines items (StandsFor given.disk n) (IsImageOf given.disk) from place (λ call taken t is. taken t (from t is)) r.taken)
+    call_end end.NoMemory image r = NoRoom
+
+    -- what holds of the image that is left
+    left_tree : ((t : Tree) (at : StandsFor given.disk n t) → LeavesStanding given.disk left.disk n t (tree_of (history_of s.clients items) t) at)
+        → (t : Tree) → IsImageOf given.disk t → IsImageOf left.disk (tree_of (history_of s.clients items) t)
+    left_tree leaves t is = image_of_tree left.disk n (tree_of (history_of s.clients items) t) (leaves t (from t is)).now
+
+    left_same : (HasChangedNothing s.clients items → (left.disk ≡ given.disk) × (left.disk_list ≡ given.disk_list))
+        → HasChangedNothing s.clients items → KeepsDisk given left
+    left_same same none = record { state_is = (same none).0; list_is = (same none).1 }
+
+    left_clean : ((t : Tree) (at : StandsFor given.disk n t) → LeavesStanding given.disk left.disk n t (tree_of (history_of s.clients items) t) at)
+        → items ≢ [] → (t : Tree) → IsImageOf given.disk t → AreCleanAtEnd given.disk left.disk
+    left_clean leaves some t is = record {
+      value = m;
+      mounted = for.mounted is.tells;
+      clean = λ j journal there. clean_yet (image_of given.disk) (image_of left.disk) at.owners now.now.owners at.layout m (for.mounted is.tells) at.stands.laid laid now.journals j journal there (for.clean j journal there);
+    }
+      where
+        at : StandsFor given.disk n t
+        at = from t is
+
+        now : LeavesStanding given.disk left.disk n t (tree_of (history_of s.clients items) t) at
+        now = leaves t at
+
+        laid : IsLaid (image_of left.disk) now.now.owners at.layout
+        laid = subst (IsLaid (image_of left.disk) now.now.owners) now.layout now.now.stands.laid
+
+    pub done : HasRun given.disk left.disk given.disk_list left.disk_list n before left.disk_faults s items (Ok tt) → Runs given left s items status.Done
+    done r = record {
+      run = run_from s.clients s.lines items (StandsFor given.disk n) (IsImageOf given.disk) from r.run;
+      history = r.history;
+      members = r.members;
+      none_lost = r.none_lost;
+      legal = λ tree is. r.legal tree (from tree is);
+      stands = left_tree r.stands;
+      free = λ some tree is. record { value = m; mounted = for.mounted is.tells; start = from tree is; free = r.free tree (from tree is) };
+      untouched = left_same r.untouched;
+      same = r.same;
+      idle = r.idle;
+      mounted = λ some tells. record { value = m; mounted = for.mounted tells; clean = for.clean };
+      clean = left_clean r.stands;
+      ends = IsDone r.answered (whole_from s.clients s.lines items (StandsFor given.disk n) (IsImageOf given.disk) from r.whole);
+    }
+
+    pub ended : (e : RunEnd) → UnlessFailed e (OfImage left.disk IsImage) → HasRun given.disk left.disk given.disk_list left.disk_list n before left.disk_faults s items (Err e) → Runs given left s items (status_of_end (first_line s) e)
+    ended e image r = record {
+      run = run_from s.clients s.lines items (StandsFor given.disk n) (IsImageOf given.disk) from r.run;
+      history = r.history;
+      members = r.members;
+      none_lost = r.none_lost;
+      legal = λ tree is. r.legal tree (from tree is);
+      stands = unless (first_line s) e left_tree r.stands;
+      free = λ some tree is. record { value = m; mounted = for.mounted is.tells; start = from tree is; free = r.free tree (from tree is) };
+      untouched = unless (first_line s) e left_same r.untouched;
+      same = unless (first_line s) e (λ same. same) r.same;
+      idle = unless (first_line s) e (λ idle. idle) r.idle;
+      mounted = λ some tells. record { value = m; mounted = for.mounted tells; clean = for.clean };
+      clean = unless (first_line s) e left_clean r.stands;
+      ends = call_end e image r;
+    }
+
+-- ---- the same of a disk that is known to be the one that was given
+
+pub has_run : (d mid d' : DiskState) (list list_mid list' : Option (List Operation)) (m : MountedValue) (n : Lone) (before now : ℕ → ℕ) (s : ScriptValue) (items : List TraceItem) (r : Result (Unit {0}) RunEnd) → mid ≡ d → list_mid ≡ list → n ≡ as_mounted mid m
+    → HasRun mid d' list_mid list' n before now s items r → HasRun d d' list list' (as_mounted d m) before now s items r
+has_run d mid d' list list_mid list' m n before now s items r same same_list is run =
+    subst (λ (l : Option (List Operation)). HasRun d d' l list' (as_mounted d m) before now s items r) same_list
+    (subst (λ (x : DiskState). HasRun x d' list_mid list' (as_mounted x m) before now s items r) same (subst (λ (v : Lone). HasRun mid d' list_mid list' v before now s items r) is run))
+
+pub whole_blocks : (e : RunEnd) (mid d' : DiskState) → IsSound d' → IsBlockSize mid.size → UnlessFailed e (IsSameDisk mid d') → UnlessFailed e (OfImage d' IsImage)
+whole_blocks (end.DiskFailed block rise) mid d' sound four same = tt
+whole_blocks (end.Damaged block rule) mid d' sound four same = image_there d' sound (subst IsBlockSize (sym same.size) four)
+whole_blocks (end.Hashed block) mid d' sound four same = image_there d' sound (subst IsBlockSize (sym same.size) four)
+whole_blocks (end.NotBuilt place) mid d' sound four same = image_there d' sound (subst IsBlockSize (sym same.size) four)
+whole_blocks end.NoMemory mid d' sound four same = image_there d' sound (subst IsBlockSize (sym same.size) four)
+
+-- the number of a line in its text is small
+pub small_number : (e : RunEnd) (s : ScriptValue) (items : List TraceItem) (P : ℕ → Call → Type 0) (IsStart : Tree → Type 0) → IsWellFormed s → IfNotBuilt e (λ place. EndsAt place (P place) s.clients s.lines items IsStart)
+    → IfNotBuilt e (λ place. first_line s + place < 2 ^ 32)
+small_number (end.DiskFailed block rise) s items P start well at = tt
+small_number (end.Damaged block rule) s items P start well at = tt
+small_number (end.Hashed block) s items P start well at = tt
+small_number (end.NotBuilt place) s items P start well at = let low = below_end s.lines place at.next at.is_next in omega (arith, low, well.few_lines)
+small_number end.NoMemory s items P start well at = tt
+
+-- ---- a run that didn't begin
+
+pub not_begun : (given left : Inputs) (s : ScriptValue) (items : List TraceItem) (own : Status) → IsIdle given.disk → items ≡ [] → KeepsDisk given left → MountEnds given.disk given.disk_faults left.disk_faults own
+    → Runs given left s items own
+not_begun given left s items own idle none same ends = record {
   run = NotJoined none;
   history = subst (HoldsHistory s) (sym none) (nothing_follows s);
   members = subst NoneStopped (sym none) tt;
-  none_lost = subst (λ (is : List TraceItem). NoneLost (history_of s.clients is)) (sym none) tt;
-  legal = λ tree flat. subst (λ (is : List TraceItem). Legal (history_of s.clients is) tree) (sym none) (nothing_is_legal tree);
-  flat_at_end = λ tree flat. subst (λ (is : List TraceItem). IsFlat disk_now (tree_of (history_of s.clients is) tree)) (sym none) (subst (λ (d : DiskState). IsFlat d tree) (sym same) flat);
-  stands = λ tree stands. subst (λ (is : List TraceItem). StandsFor disk_now (tree_of (history_of s.clients is) tree)) (sym none) (subst (λ (d : DiskState). StandsFor d tree) (sym same) stands);
+  none_lost = subst (λ is. NoneLost (history_of s.clients is)) (sym none) none_is_lost;
+  legal = λ tree is. subst (λ is. Legal (history_of s.clients is) tree) (sym none) (nothing_is_legal tree);
+  stands = anyway own (λ tree is. subst (λ d. IsImageOf d (tree_of (history_of s.clients items) tree)) (sym same.state_is) (subst (λ is. IsImageOf given.disk (tree_of (history_of s.clients is) tree)) (sym none) is));
+  free = λ some. absurd (some none);
+  untouched = anyway own (λ all. same);
+  same = anyway own (subst (λ d. IsSameDisk given.disk d) (sym same.state_is) (record { size = refl; count = refl; tells = refl; fenced = refl }));
+  idle = anyway own (subst IsIdle (sym same.state_is) idle);
   mounted = λ some. absurd (some none);
-  ends = ends;
+  clean = anyway own (λ some. absurd (some none));
+  ends = NotMounted own none same ends;
 }
+  where
+    none_is_lost : NoneLost []
+    none_is_lost = tt
 
--- what was mounted, with clean journals alone
-pub mounted_clean : (disk : DiskState) (m : MountedValue) → OfImage disk (λ im. IsMounted im m) → IsLeftClean m → OfImage disk IsMountedClean
-mounted_clean disk m mounted clean tells = record { value = m; mounted = mounted tells; clean = clean }
+-- ---- an early end is not told to be done, nor a sink's fault
 
-pub ran : (disk mid disk_now : DiskState) (faults faults_now : ℕ → ℕ) (s : ScriptValue) (items : List TraceItem) (own : Status) (root : List ℕ)
-    → mid ≡ disk → disk_now ≡ mid → (IsTrue disk.tells → HasFlatRoot disk root) → OfImage disk IsMountedClean
-    → IsRunOf s.clients s.lines items (IsStart mid root) → HoldsHistory s items → NoneStopped items → NoneLost (history_of s.clients items)
-    → ((tree : Tree) → IsStart mid root tree → Legal (history_of s.clients items) tree)
-    → ((tree : Tree) → tree_of (history_of s.clients items) tree ≡ tree)
-    → RunEnds disk faults faults_now s items own → Runs disk disk_now faults faults_now s items own
-ran disk mid disk_now faults faults_now s items own root same kept begins mounted run history members none_lost legal tree_is ends = record {
-  run = run_from s.clients s.lines (IsStart mid root) (IsFlat disk) (λ tree flat. may_start disk mid root tree same begins flat) items run;
-  history = history;
-  members = members;
-  none_lost = none_lost;
-  legal = λ tree flat. legal tree (may_start disk mid root tree same begins flat);
-  flat_at_end = λ tree flat. subst (IsFlat disk_now) (sym (tree_is tree)) (subst (λ (d : DiskState). IsFlat d tree) (sym (kept ∙ same)) flat);
-  stands = λ tree stands. subst (StandsFor disk_now) (sym (tree_is tree)) (subst (λ (d : DiskState). StandsFor d tree) (sym (kept ∙ same)) stands);
-  mounted = λ some. mounted;
-  ends = ends;
-}
+pub never_done : (first : ℕ) (e : RunEnd) → status_of_end first e ≡ status.Done → ⊥
+never_done first (end.DiskFailed block rise) is = cc
+never_done first (end.Damaged block rule) is = cc
+never_done first (end.Hashed block) is = cc
+never_done first (end.NotBuilt place) is = cc
+never_done first end.NoMemory is = cc
 
--- an early end is not told to be done
-pub never_done : (e : RunEnd) → status_of_end e ≡ status.Done → ⊥
-never_done (end.DiskFailed node block rise) is = cc
-never_done (end.NotRead block why.Form) is = cc
-never_done (end.NotRead block why.LeadsOut) is = cc
-never_done (end.NotRead block why.BadName) is = cc
-never_done end.NoMemory is = cc
-
-pub mount_never_done : (disk : DiskState) (first now : ℕ → ℕ) (own : Status) → MountEnds disk first now own → own ≡ status.Done → ⊥
-mount_never_done disk first now own (DiskFails block x y up reached) is = cc
-mount_never_done disk first now own (LiesOutside what value outside never) is = cc
-mount_never_done disk first now own (IsDamaged block rule breaks never) is = cc
-mount_never_done disk first now own (IsDirty block dirty) is = cc
-mount_never_done disk first now own (IsHashed block hashed) is = cc
-mount_never_done disk first now own (HasFarRoot block clean far breaks never) is = cc
-mount_never_done disk first now own (HasOtherRoot block clean other) is = cc
-mount_never_done disk first now own LacksRoom is = cc
+pub no_run_fault : (given left : Inputs) (s : ScriptValue) (items : List TraceItem) (own : Status) → RunEnds given left s items own → IsSinkFault own → ⊥
+no_run_fault given left s items own (IsDone all whole) never = never
+no_run_fault given left s items own (NotMounted own' none same ends) never = no_mount_fault given.disk given.disk_faults left.disk_faults own ends never
+no_run_fault given left s items own (CallFailed m block x y for up within at) never = never
+no_run_fault given left s items own (CallHashed m block for at) never = never
+no_run_fault given left s items own (CallUnbuilt m place for at taken) never = never
+no_run_fault given left s items own (CallDamaged m block rule for none at told) never = never
+no_run_fault given left s items own NoRoom never = never

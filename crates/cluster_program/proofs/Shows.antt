@@ -1,90 +1,53 @@
--- How a show ends.
-use Rattle.std.proofs.Common.{◌≡◌, ℕ, ◌<◌, ◌≤◌, List, [], ◌++◌, Some, refl, sym, ap, ◌∙◌, subst}
-use Rattle.std.specs.Prelude.{IsTrue, Bool}
-use Rattle.std.proofs.lemmas.List.{append_cancel_left}
+-- How a show ends whose tree was read, or wasn't.
+use Rattle.std.proofs.Common.{◌≡◌, ℕ, ◌≤◌, List, [], ◌++◌, ap, ◌∙◌, subst}
+use Rattle.std.specs.Prelude.{IsTrue, Result, Ok, Err, IfErr, Bool}
 use Rattle.file_tree.specs.Tree.{Tree}
-use Rattle.image_mount.specs.Mounted.{MountedValue, IsMounted}
-use Rattle.shared_disk.specs.Disk.{DiskState, IsIdle}
+use Rattle.image_model.specs.Image.{image_of}
+use Rattle.image_model.specs.Rules.{IsBrokenBlock}
+use Rattle.image_model.specs.Stands.{Stands}
+use Rattle.image_mount.specs.Mounted.{MountedValue}
+use Rattle.shared_disk.specs.Disk.{DiskState}
 use Rattle.show_text.specs.Show.{journal_lines, tree_lines}
-use Rattle.single_node.specs.Ends.{EndHasCause, IfNotRead, IfDiskFailed}
-use Rattle.single_node.specs.Flat.{IsFlat, HasFlatRoot, IsStart}
-use Rattle.single_node.specs.Laws.{StandingNamesAreFlat}
-use Rattle.single_node.specs.Shown.{IsLonger, LeadFirstToFiles, TreeReads, TreeRefuses}
-use Rattle.single_node.specs.declared.end.Refusal.{Refusal}
-use Rattle.single_node.specs.declared.end.Refusal.TheVariants as why
-use Rattle.single_node.specs.declared.end.RunEnd.{RunEnd}
-use Rattle.single_node.specs.declared.end.RunEnd.TheVariants as end
-use Rattle.single_node.proofs.Blocks.{none_refused}
-use Rattle.cluster_program.specs.Course.{Shows, HasShown, ShowsNone, TreeFailed, TreeRefused, TreeDamaged, NothingHeld, clean_of}
-use Rattle.cluster_program.specs.Early.{broken_rule, status_of_end}
-use Rattle.cluster_program.specs.Mounting.{OfImage, MountEnds, DiskFails, LiesOutside, IsDamaged, IsDirty, IsHashed, HasFarRoot, HasOtherRoot, LacksRoom, IsLeftClean, IsMountedClean}
+use Rattle.disk_trees.specs.Answers.{GivesTree, HasCause, IfDamaged}
+use Rattle.disk_trees.specs.Reading.{ending}
+use Rattle.disk_trees.specs.declared.faults.TreeFault.{TreeFault}
+use Rattle.disk_trees.specs.declared.faults.TreeFault.TheVariants as tree
+use Rattle.cluster_program.specs.Course.{clean_of, Shows, HasShown, ShowsNone, TreeFailed, TreeDamaged, NothingHeld}
+use Rattle.cluster_program.specs.Early.{status_of_tree}
+use Rattle.cluster_program.specs.Mounting.{OfImage, IsMountedClean, IsMountedFor}
 use Rattle.cluster_program.specs.Report.{IsSinkFault}
 use Rattle.cluster_program.specs.declared.status.Status.{Status}
 use Rattle.cluster_program.specs.declared.status.Status.TheVariants as status
-use Rattle.cluster_program.proofs.Far.{refused_breaks}
-use Rattle.cluster_program.proofs.Runs.{longer, may_start}
+use Rattle.cluster_program.proofs.Mounts.{no_mount_fault}
+use Rattle.cluster_program.proofs.Runs.{longer}
 
--- of the root that was read
-pub at_root : (P : List ℕ → Type 0) {now told : List ℕ} → now ≡ told → P now → P told
-at_root P same holds = subst P same holds
+-- what is known of a disk whose tree was read, or wasn't
+pub record HasReadTree (d : DiskState) (before now : ℕ → ℕ) (r : Result Tree TreeFault) : Type 0 where
+  pub stands : IsTrue d.tells → (t : Tree) → Stands (image_of d) t → GivesTree t r
+  pub damaged : IfErr r (λ fault. IsTrue d.tells → IfDamaged fault (λ block rule. IsBrokenBlock (ending (image_of d)) rule block))
+  pub cause : IfErr r (HasCause d.count before now)
 
--- a flat image refuses nothing
-never_flat : (d : DiskState) (root : List ℕ) (block : ℕ) (r : Refusal) → (IsTrue d.tells → HasFlatRoot d root) → TreeRefuses d root block r → (tree : Tree) → IsFlat d tree → ⊥
-never_flat d root block r begins (call, refuses) tree flat =
-    none_refused d root call block r tree (may_start d d root tree refl begins flat) (refuses flat.tells (begins flat.tells))
+pub of_disk : (d mid : DiskState) (before now : ℕ → ℕ) (r : Result Tree TreeFault) → mid ≡ d → HasReadTree mid before now r → HasReadTree d before now r
+of_disk d mid before now r same read = subst (λ (x : DiskState). HasReadTree x before now r) same read
 
-tree_damaged : (d : DiskState) (first now : ℕ → ℕ) (root : List ℕ) (block rule : ℕ) (r : Refusal) → OfImage d IsMountedClean → broken_rule r ≡ Some rule → (IsTrue d.tells → HasFlatRoot d root)
-    → TreeRefuses d root block r → Shows d first now [] (status.Damaged block rule)
-tree_damaged d first now root block rule r clean is begins here =
-    TreeDamaged root block rule r clean is (never_flat d root block r begins here) begins here (λ tells. refused_breaks d root here.0 block r rule is (begins tells) (here.1 tells (begins tells)))
+module _ (d : DiskState) (first before now : ℕ → ℕ) (m : MountedValue) (for : IsMountedFor d m) (earlier : (j : ℕ) → first j ≤ before j) where
+  clean : OfImage d IsMountedClean
+  clean tells = record { value = m; mounted = for.mounted tells; clean = for.clean }
 
-pub tree_end : (d mid : DiskState) (first before now : ℕ → ℕ) (root : List ℕ) (e : RunEnd) → mid ≡ d → OfImage d IsMountedClean → (IsTrue d.tells → HasFlatRoot d root) → ((j : ℕ) → first j ≤ before j)
-    → EndHasCause 0 before now e → IfNotRead e (λ b r. TreeRefuses mid root b r) → IfDiskFailed e (λ b. TreeReads root b) → IfDiskFailed e (λ b. b < mid.count) → Shows d first now [] (status_of_end e)
-tree_end d mid first before now root (end.DiskFailed node block rise) same clean begins earlier cause refused failed within =
-    let here = TreeFailed root block rise.before rise.after clean (longer (first 0) (before 0) (now 0) rise.before rise.after (earlier 0) cause.1) (subst (λ (s : DiskState). block < s.count) same within) begins failed in
-    subst (λ (n : ℕ). Shows d first now [] (status.DeviceFault n (Some block) rise.before rise.after)) (sym cause.0) here
-tree_end d mid first before now root (end.NotRead block why.Form) same clean begins earlier cause refused failed within =
-    let here = subst (λ (s : DiskState). TreeRefuses s root block why.Form) same refused in
-    TreeRefused root block clean (never_flat d root block why.Form begins here) begins here
-tree_end d mid first before now root (end.NotRead block why.LeadsOut) same clean begins earlier cause refused failed within =
-    tree_damaged d first now root block 2 why.LeadsOut clean refl begins (subst (λ (s : DiskState). TreeRefuses s root block why.LeadsOut) same refused)
-tree_end d mid first before now root (end.NotRead block why.BadName) same clean begins earlier cause refused failed within =
-    tree_damaged d first now root block 9 why.BadName clean refl begins (subst (λ (s : DiskState). TreeRefuses s root block why.BadName) same refused)
-tree_end d mid first before now root end.NoMemory same clean begins earlier cause refused failed within = NothingHeld
+  pub tree_end : (e : TreeFault) → HasReadTree d before now (Err e) → Shows d first now [] (status_of_tree e)
+  tree_end (tree.Damaged block rule) read = TreeDamaged block rule clean (λ tells t stands. read.stands tells t stands) read.damaged
+  tree_end (tree.DiskFailed block rise) read = TreeFailed block rise.before rise.after clean (longer (first 0) (before 0) (now 0) rise.before rise.after (earlier 0) read.cause.0) read.cause.1
+  tree_end tree.NoMemory read = NothingHeld
 
-module _ (d mid : DiskState) (first now : ℕ → ℕ) (m : MountedValue) (root empty journals lines : List ℕ) (clean : List Bool) (same : mid ≡ d) (mounted : OfImage d (λ im. IsMounted im m)) (left_clean : IsLeftClean m)
-    (begins : IsTrue d.tells → HasFlatRoot d root) (are : clean ≡ clean_of m) (none : empty ≡ []) (first_lines : journals ≡ empty ++ journal_lines 0 clean)
-    (longer : IsLonger journals lines) (later : (tree : Tree) → IsStart mid root tree → lines ≡ journals ++ tree_lines [] tree) where
-  abbrev shown : List ℕ
-  shown = longer.0
-
-  lines_are : lines ≡ journal_lines 0 (clean_of m) ++ shown
-  lines_are = longer.1 ∙ ap (λ (ls : List ℕ). ls ++ shown) (first_lines ∙ (λ i. none i ++ journal_lines 0 (are i)))
-
-  shown_of_flat : (tree : Tree) → IsFlat d tree → shown ≡ tree_lines [] tree
-  shown_of_flat tree flat = append_cancel_left journals shown (tree_lines [] tree) (sym longer.1 ∙ later tree (may_start d mid root tree same begins flat))
-
-  -- an image that stands is flat, since all of its files were read
-  pub all_shown : StandingNamesAreFlat → IsIdle d → (IsTrue mid.tells → LeadFirstToFiles mid root) → Shows d first now lines status.Done
-  all_shown law idle files =
-      let told = subst (λ (s : DiskState). IsTrue s.tells → LeadFirstToFiles s root) same files in
-      HasShown m lines shown mounted left_clean lines_are shown_of_flat (λ tells tree stands. shown_of_flat tree (law d tree tells idle.none_in_flight root (begins tells) (told tells) stands))
+  pub all_shown : (t : Tree) (empty journals lines : List ℕ) (heads : List Bool) → HasReadTree d before now (Ok t) → heads ≡ clean_of m → empty ≡ [] → journals ≡ empty ++ journal_lines 0 heads
+      → lines ≡ journals ++ tree_lines [] t → Shows d first now lines status.Done
+  all_shown t empty journals lines heads read are none first_lines later =
+      HasShown m t lines for (λ t' is. read.stands is.tells t' is.stands) (later ∙ ap (λ (ls : List ℕ). ls ++ tree_lines [] t) (first_lines ∙ (λ i. none i ++ journal_lines 0 (are i))))
 
 -- what a show tells is none of the sinks' faults
 pub no_sink_fault : (d : DiskState) (first now : ℕ → ℕ) (lines : List ℕ) (own : Status) → Shows d first now lines own → IsSinkFault own → ⊥
-no_sink_fault d first now lines own (HasShown m lines' shown mounted clean are flat stands) = λ never. never
+no_sink_fault d first now lines own (HasShown m t lines' mounted is are) = λ never. never
 no_sink_fault d first now lines own (ShowsNone own' ends) = no_mount_fault d first now own ends
-  where
-    no_mount_fault : (d : DiskState) (first now : ℕ → ℕ) (own : Status) → MountEnds d first now own → IsSinkFault own → ⊥
-    no_mount_fault d first now own (DiskFails block x y up reached) never = never
-    no_mount_fault d first now own (LiesOutside what value outside none) never = never
-    no_mount_fault d first now own (IsDamaged block rule breaks none) never = never
-    no_mount_fault d first now own (IsDirty block dirty) never = never
-    no_mount_fault d first now own (IsHashed block hashed) never = never
-    no_mount_fault d first now own (HasFarRoot block clean far breaks none) never = never
-    no_mount_fault d first now own (HasOtherRoot block clean other) never = never
-    no_mount_fault d first now own LacksRoom never = never
-no_sink_fault d first now lines own (TreeFailed root block x y clean up within begins reads) = λ never. never
-no_sink_fault d first now lines own (TreeRefused root block clean other begins refuses) = λ never. never
-no_sink_fault d first now lines own (TreeDamaged root block rule why clean is other begins refuses breaks) = λ never. never
+no_sink_fault d first now lines own (TreeFailed block x y mounted up within) = λ never. never
+no_sink_fault d first now lines own (TreeDamaged block rule mounted never breaks) = λ never. never
 no_sink_fault d first now lines own NothingHeld = λ never. never

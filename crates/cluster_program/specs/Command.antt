@@ -3,7 +3,6 @@ use Rattle.std.specs.Prelude.{ℕ, ◌≡◌, ◌≤◌, ◌⊎◌, true, ⊤, L
 use Rattle.profile_limits.specs.Limits.{most_blocks}
 use Rattle.fault_counts.specs.Causes.{Rose, WentUp}
 use Rattle.file_tree.specs.Tree.{Tree}
-use Rattle.single_node.specs.Flat.{IsFlat}
 use Rattle.script_lang.specs.Grammar.{script_read, Script}
 use Rattle.script_lang.specs.Foreign.{first_foreign}
 use Rattle.trace_text.specs.declared.item.TraceItem.{TraceItem}
@@ -12,17 +11,17 @@ use Rattle.cluster_program.specs.World.{Inputs, Outputs}
 use Rattle.cluster_program.specs.Report.{Reports}
 use Rattle.cluster_program.specs.Course.{Course, AsksToRun, AsksToShow, AsksToMake, plan_for}
 use Rattle.cluster_program.specs.Dirty.{IsDirtyCount}
-use Rattle.cluster_program.specs.Mounting.{AreClean}
+use Rattle.cluster_program.specs.Mounting.{AreClean, IsImageOf}
 use Rattle.image_model.specs.Image.{image_of}
 use Rattle.image_model.specs.Claims.{IsJindex}
 use Rattle.image_model.specs.Rules.{IsHashedAt}
-use Rattle.image_model.specs.Stands.{Stands}
 use Rattle.image_mount.specs.Mounted.{IsOfProfile}
 use Rattle.shared_disk.specs.Disk.{DiskState}
 use Rattle.command_words.specs.declared.command.MakeWords.{MakeWords}
 use Rattle.mkgfs2_tool.specs.Order.{fits}
 use Rattle.cluster_program.specs.declared.status.Status.{Status}
 use Rattle.cluster_program.specs.declared.status.Status.TheVariants as status
+use Rattle.cluster_program.specs.declared.status.Part.{Part}
 use Rattle.cluster_program.specs.declared.status.Which.TheVariants as which
 
 -- a fault is answered only where the count of what failed rose, from the first number to the second
@@ -42,7 +41,7 @@ pub record Ends (words : List (List ℕ)) (given left : Inputs) (sinks sinks_now
   pub course : Course words given left script items lines own
   pub dirty : ℕ
   pub report : Reports sinks sinks_now script items lines dirty own answer
-  pub counted : IsDirtyCount left.disk script items report.told dirty
+  pub counted : IsDirtyCount given.disk left.disk script items report.told dirty
 
 -- ---- when a command is carried out whole
 
@@ -53,13 +52,11 @@ pub record NoneRose (given left : Inputs) (sinks sinks_now : Outputs) : Type 0 w
   pub trace : Rose sinks.trace_faults sinks_now.trace_faults → ⊥
   pub output : Rose sinks.output_faults sinks_now.output_faults → ⊥
 
--- The image on the disk stands, is one of the profile and flat: the directory of journals isn't hashed, each journal was left
--- clean, and the root is a linear directory of files that stand behind their dinodes.
+-- The image on the disk stands for a tree and is one of the profile, the directory of journals isn't hashed, and each journal was left clean.
 pub record IsMountable (disk : DiskState) : Type 0 where
   pub tree : Tree
-  pub flat : IsFlat disk tree
+  pub is : IsImageOf disk tree
   pub profile : IsOfProfile (image_of disk)
-  pub stands : Stands (image_of disk) tree
   pub linear : (a : ℕ) → IsJindex (image_of disk) a → IsHashedAt (image_of disk) a → ⊥
   pub clean : AreClean (image_of disk)
 
@@ -85,7 +82,16 @@ pub record IsMakeable (words : List (List ℕ)) (given : Inputs) : Type 0 where
   pub few : given.disk.count ≤ most_blocks
   pub room : fits (plan_for given.disk make) ≡ true
 
--- then nothing but want of memory keeps it from being done
-abbrev pub IsComplete : List (List ℕ) → Inputs → Inputs → Outputs → Outputs → Status → Type 0
-IsComplete words given left sinks sinks_now answer =
-    NoneRose given left sinks sinks_now → IsRunnable words given ⊎ (IsShowable words given ⊎ IsMakeable words given) → (answer ≡ status.Done) ⊎ (answer ≡ status.NoMemory)
+-- nothing but want of memory kept it from being done
+abbrev pub IsWhole : Status → Type 0
+IsWhole answer = (answer ≡ status.Done) ⊎ (answer ≡ status.NoMemory)
+
+-- or that what a call met isn't built
+abbrev pub IsUpToBuilt : Status → Type 0
+IsUpToBuilt answer = IsWhole answer ⊎ ((p : Part) × (answer ≡ status.NotBuilt p))
+
+-- Then a show and an image are done, but for want of memory; and a run, but for that and for what a call of it met that isn't built.
+pub record IsComplete (words : List (List ℕ)) (given left : Inputs) (sinks sinks_now : Outputs) (answer : Status) : Type 0 where
+  pub run : NoneRose given left sinks sinks_now → IsRunnable words given → IsUpToBuilt answer
+  pub show : NoneRose given left sinks sinks_now → IsShowable words given → IsWhole answer
+  pub make : NoneRose given left sinks sinks_now → IsMakeable words given → IsWhole answer

@@ -1,11 +1,9 @@
 -- What a command does, from its words and its script to the items of its run and its own end.
-use Rattle.std.specs.Prelude.{ℕ, ◌≡◌, ◌≢◌, ◌<◌, ◌≤◌, ◌==◌, nat_lt, not, IfSome, ◌++◌, ◌&&◌, Bool, true, false, IsTrue, if◌then◌else◌, List, [], map, Option, Some, None, Result, Ok, Err}
+use Rattle.std.specs.Prelude.{ℕ, ◌≡◌, ◌<◌, ◌≤◌, ◌==◌, nat_lt, not, IfSome, ◌++◌, ◌&&◌, Bool, true, false, if◌then◌else◌, List, [], map, Option, Some, None, Result, Ok, Err}
 use Rattle.profile_limits.specs.Limits.{most_blocks}
 use Rattle.std.specs.Io.KnownBytes.{Consumes, IsAtEnd}
 use Rattle.fault_counts.specs.Causes.{WentUp}
 use Rattle.file_tree.specs.Tree.{Tree}
-use Rattle.file_tree.specs.declared.call.Call.{Call}
-use Rattle.cluster_history.specs.History.{Legal, NoneLost, tree_of}
 use Rattle.trace_text.specs.declared.item.TraceItem.{TraceItem}
 use Rattle.script_lang.specs.Script.{ScriptValue}
 use Rattle.script_lang.specs.Grammar.{script_read, Script, Bad, nothing}
@@ -21,38 +19,18 @@ use Rattle.mkgfs2_tool.specs.declared.plan.Plan.{Plan}
 use Rattle.mkgfs2_tool.specs.Making.{plan_of}
 use Rattle.mkgfs2_tool.specs.Order.{fits, IsNeeded}
 use Rattle.mkgfs2_tool.specs.Outcomes.{IsBegun, IsMade}
-use Rattle.run_rules.specs.Follows.{history_of}
-use Rattle.run_rules.specs.History.{HoldsHistory, NoneStopped, AllAnswered}
 use Rattle.shared_disk.specs.Disk.{DiskState}
-use Rattle.single_node.specs.Flat.{IsFlat, HasFlatRoot, IsStart}
-use Rattle.single_node.specs.Blocks.{CallReads, CallRefuses, EndsAtCall}
-use Rattle.single_node.specs.Shown.{TreeReads, TreeRefuses}
-use Rattle.single_node.specs.declared.end.Refusal.{Refusal}
-use Rattle.single_node.specs.declared.end.Refusal.TheVariants as refusal
-use Rattle.cluster_program.specs.Early.{broken_rule}
 use Rattle.image_model.specs.Rules.{IsBrokenBlock}
-use Rattle.image_model.specs.Stands.{Stands}
-use Rattle.image_mount.specs.Mounted.{Journal, MountedValue, IsMounted}
+use Rattle.disk_trees.specs.Reading.{ending}
+use Rattle.image_mount.specs.Mounted.{Journal, MountedValue}
 use Rattle.show_text.specs.Show.{journal_lines, tree_lines}
-use Rattle.cluster_program.specs.Mounting.{OfImage, MountEnds, IsLeftClean, IsMountedClean}
-use Rattle.single_node.specs.Run.{IsRunOf, IsWholeRun}
-use Rattle.cluster_program.specs.World.{Inputs}
+use Rattle.cluster_program.specs.Mounting.{OfImage, IsImageOf, NeverStands, MountEnds, IsMountedClean, IsMountedFor}
+use Rattle.cluster_program.specs.Runs.{Runs}
+use Rattle.cluster_program.specs.World.{Inputs, KeepsScript, KeepsDisk}
 use Rattle.cluster_program.specs.declared.status.Status.{Status}
 use Rattle.cluster_program.specs.declared.status.Status.TheVariants as status
 use Rattle.cluster_program.specs.declared.status.Part.TheVariants as part
 use Rattle.image_mount.specs.declared.field.Field.TheVariants as field
-
--- ---- what stays as it was
-
--- nothing of the script was taken
-pub record KeepsScript (before now : Inputs) : Type 0 where
-  pub left : now.left ≡ before.left
-  pub faults : now.script_faults ≡ before.script_faults
-
--- nothing was written to the disk
-pub record KeepsDisk (before now : Inputs) : Type 0 where
-  pub state_is : now.disk ≡ before.disk
-  pub list_is : now.disk_list ≡ before.disk_list
 
 -- ---- the words
 
@@ -134,67 +112,23 @@ pub data LacksScript (before now : Option (List ℕ)) (faults faults_now : ℕ) 
       → LacksScript before now faults faults_now (status.NotBuilt (part.Script line))
   NoRoom : LacksScript before now faults faults_now status.NoMemory
 
--- ---- the run
-
--- the next line of the script is a call of which this holds
-abbrev pub AtCall : DiskState → List ℕ → ScriptValue → List TraceItem → (Call → Type 0) → Type 0
-AtCall disk root s items P = EndsAtCall P s.clients s.lines items (IsStart disk root)
-
--- How a run ends: each line is answered and the node has unmounted; the image was not mounted, before the first item; the
--- disk failed in a call, behind the lines above it, at a block that it has; a call met, likewise, a block of a form that is not
--- built, or one that breaks a rule: it has the number of a block outside the disk, or a name that is none; or there was no memory.
-pub data RunEnds (disk : DiskState) (faults faults_now : ℕ → ℕ) (s : ScriptValue) (items : List TraceItem) : Status → Type 0 where
-  IsDone : AllAnswered items s → IsWholeRun s.clients s.lines items (IsFlat disk) → RunEnds disk faults faults_now s items status.Done
-  NotMounted : (own : Status) → items ≡ [] → MountEnds disk faults faults_now own → RunEnds disk faults faults_now s items own
-  CallFailed : (root : List ℕ) (block x y : ℕ) → WentUp (faults 1) (faults_now 1) x y → block < disk.count → (IsTrue disk.tells → HasFlatRoot disk root)
-      → AtCall disk root s items (λ call. CallReads root call block) → RunEnds disk faults faults_now s items (status.DeviceFault 1 (Some block) x y)
-  CallRefused : (root : List ℕ) (block : ℕ) → ((tree : Tree) → IsFlat disk tree → ⊥) → (IsTrue disk.tells → HasFlatRoot disk root)
-      → AtCall disk root s items (λ call. IsTrue disk.tells → CallRefuses disk root call block refusal.Form)
-      → RunEnds disk faults faults_now s items (status.NotBuilt (part.Block block))
-  CallDamaged : (root : List ℕ) (block rule : ℕ) (why : Refusal) → broken_rule why ≡ Some rule → ((tree : Tree) → IsFlat disk tree → ⊥) → (IsTrue disk.tells → HasFlatRoot disk root)
-      → AtCall disk root s items (λ call. IsTrue disk.tells → CallRefuses disk root call block why) → OfImage disk (λ im. IsBrokenBlock im rule block)
-      → RunEnds disk faults faults_now s items (status.Damaged block rule)
-  NoRoom : RunEnds disk faults faults_now s items status.NoMemory
-
-pub record Runs (disk disk_now : DiskState) (faults faults_now : ℕ → ℕ) (s : ScriptValue) (items : List TraceItem) (own : Status) : Type 0 where
-  -- on every disk, also one that tells nothing: node 1 joins, takes the lines one by one, and unmounts
-  pub run : IsRunOf s.clients s.lines items (IsFlat disk)
-  -- so the items follow the script and hold one history, no node stops, and nothing is lost
-  pub history : HoldsHistory s items
-  pub members : NoneStopped items
-  pub none_lost : NoneLost (history_of s.clients items)
-  -- where the image is flat: every reply is that of its tree, which takes the calls one by one, and the image is flat of the tree at the end
-  pub legal : (tree : Tree) → IsFlat disk tree → Legal (history_of s.clients items) tree
-  pub flat_at_end : (tree : Tree) → IsFlat disk tree → IsFlat disk_now (tree_of (history_of s.clients items) tree)
-  -- an image that stands for a tree, flat or not, stands for the tree of the history at the end
-  pub stands : (tree : Tree) → OfImage disk (λ im. Stands im tree) → OfImage disk_now (λ im. Stands im (tree_of (history_of s.clients items) tree))
-  -- no item stands before the image was mounted and each of its journals was found clean
-  pub mounted : items ≢ [] → OfImage disk IsMountedClean
-  pub ends : RunEnds disk faults faults_now s items own
-
 -- ---- what is shown
 
 -- whether each journal was left clean
 abbrev pub clean_of : MountedValue → List Bool
 clean_of m = map (λ (j : Journal). j.head.clean) m.journals
 
--- What `show` prints, and how it ends: the image was mounted, and its journals were left clean; a line for each of them, whatever
--- its tree, and behind these the lines of the tree that a flat image holds, and of that which the image stands for; or nothing,
--- since the image was not mounted, or there was no memory, or, of an image that was mounted with clean journals, the disk failed at
--- a file, in a block that it has, a file is of a form that is not built, or the root has the number of a block outside the disk or
--- a name that is none.
+-- What `show` prints, and how it ends: the image was mounted, and its journals were left clean; a line for each of them, and behind these the
+-- lines of a tree, which is that for which the image stands, if it stands for one; or nothing, since the image was not mounted, or there was
+-- no memory, or, of an image that was mounted with clean journals, the disk failed at one of its blocks, or a block breaks a rule.
 pub data Shows (disk : DiskState) (faults faults_now : ℕ → ℕ) : List ℕ → Status → Type 0 where
-  HasShown : (m : MountedValue) (lines shown : List ℕ) → OfImage disk (λ im. IsMounted im m) → IsLeftClean m → lines ≡ journal_lines 0 (clean_of m) ++ shown
-      → ((tree : Tree) → IsFlat disk tree → shown ≡ tree_lines [] tree) → OfImage disk (λ im. (tree : Tree) → Stands im tree → shown ≡ tree_lines [] tree)
-      → Shows disk faults faults_now lines status.Done
+  HasShown : (m : MountedValue) (tree : Tree) (lines : List ℕ) → IsMountedFor disk m → ((t : Tree) → IsImageOf disk t → tree ≡ t)
+      → lines ≡ journal_lines 0 (clean_of m) ++ tree_lines [] tree → Shows disk faults faults_now lines status.Done
   ShowsNone : (own : Status) → MountEnds disk faults faults_now own → Shows disk faults faults_now [] own
-  TreeFailed : (root : List ℕ) (block x y : ℕ) → OfImage disk IsMountedClean → WentUp (faults 0) (faults_now 0) x y → block < disk.count
-      → (IsTrue disk.tells → HasFlatRoot disk root) → TreeReads root block → Shows disk faults faults_now [] (status.DeviceFault 0 (Some block) x y)
-  TreeRefused : (root : List ℕ) (block : ℕ) → OfImage disk IsMountedClean → ((tree : Tree) → IsFlat disk tree → ⊥) → (IsTrue disk.tells → HasFlatRoot disk root)
-      → TreeRefuses disk root block refusal.Form → Shows disk faults faults_now [] (status.NotBuilt (part.Block block))
-  TreeDamaged : (root : List ℕ) (block rule : ℕ) (why : Refusal) → OfImage disk IsMountedClean → broken_rule why ≡ Some rule → ((tree : Tree) → IsFlat disk tree → ⊥)
-      → (IsTrue disk.tells → HasFlatRoot disk root)
-      → TreeRefuses disk root block why → OfImage disk (λ im. IsBrokenBlock im rule block) → Shows disk faults faults_now [] (status.Damaged block rule)
+  TreeFailed : (block x y : ℕ) → OfImage disk IsMountedClean → WentUp (faults 0) (faults_now 0) x y → block < disk.count
+      → Shows disk faults faults_now [] (status.DeviceFault 0 (Some block) x y)
+  TreeDamaged : (block rule : ℕ) → OfImage disk IsMountedClean → OfImage disk NeverStands → OfImage disk (λ im. IsBrokenBlock (ending im) rule block)
+      → Shows disk faults faults_now [] (status.Damaged block rule)
   NothingHeld : Shows disk faults faults_now [] status.NoMemory
 
 -- ---- the command: refusals come in this order, each before anything that follows it is touched; its items are those of a run, its lines those of a show
@@ -207,5 +141,4 @@ pub data Course (words : List (List ℕ)) (before now : Inputs) : ScriptValue �
   NoScript : (own : Status) → AsksToRun before.disk.size words → LacksScript before.left now.left before.script_faults now.script_faults own
       → KeepsDisk before now → now.disk_faults ≡ before.disk_faults → Course words before now nothing [] [] own
   RunsScript : (text : List ℕ) (s : ScriptValue) (items : List TraceItem) (own : Status) → AsksToRun before.disk.size words
-      → HasRead before.left now.left text → script_read text ≡ Script s → first_foreign s ≡ None → KeepsDisk before now
-      → Runs before.disk now.disk before.disk_faults now.disk_faults s items own → Course words before now s items [] own
+      → HasRead before.left now.left text → script_read text ≡ Script s → first_foreign s ≡ None → Runs before now s items own → Course words before now s items [] own

@@ -1,19 +1,21 @@
 -- How many journals a run tells as not clean.
 use Rattle.std.specs.Prelude.{ℕ, ◌≡◌, ◌==◌, not, Bool, true, false, List, [], ◌∷◌, count_by, if◌then◌else◌}
 use Rattle.std.specs.List.{range_with_len}
+use Rattle.file_tree.specs.Tree.{Tree}
+use Rattle.image_model.specs.Image.{Image, image_of}
 use Rattle.image_mount.specs.Mounted.{Journal, MountedValue, IsMounted}
 use Rattle.shared_disk.specs.Disk.{DiskState}
 use Rattle.script_lang.specs.Script.{ScriptValue}
 use Rattle.trace_text.specs.declared.item.TraceItem.{TraceItem}
 use Rattle.trace_text.specs.declared.item.TraceItem.TheVariants as trace
-use Rattle.cluster_program.specs.Mounting.{OfImage}
+use Rattle.cluster_program.specs.Mounting.{IsImageOf, is_clean_in}
 use Rattle.cluster_program.specs.Out.{is_done}
 use Rattle.cluster_program.specs.declared.status.Status.{Status}
 use Rattle.cluster_program.specs.declared.status.Status.TheVariants as status
 
--- of what is mounted, those whose head isn't clean
-abbrev pub dirty_in : MountedValue → ℕ
-dirty_in m = count_by (λ (j : Journal). not j.head.clean) m.journals
+-- of the journals that were mounted, those whose head isn't clean in this image
+abbrev pub dirty_in : Image → MountedValue → ℕ
+dirty_in im m = count_by (λ (j : Journal). not (is_clean_in im j)) m.journals
 
 -- whether the items leave the node's journal so: it has a commit that neither a clean header nor a replay follows
 abbrev pub is_left_dirty : ℕ → Bool → List TraceItem → Bool
@@ -27,9 +29,12 @@ is_left_dirty node now (_ ∷ is) = is_left_dirty node now is
 abbrev pub dirty_by : ScriptValue → List TraceItem → ℕ
 dirty_by s items = count_by (λ node. is_left_dirty node false items) (range_with_len 1 s.nodes)
 
--- The count that is told: where all was done, that of the image as the run left it; else that of the items. Where nothing
--- ran, none is told.
-pub data IsDirtyCount (disk : DiskState) (s : ScriptValue) (items : List TraceItem) (told : Status) (dirty : ℕ) : Type 0 where
-  OfTheImage : told ≡ status.Done → OfImage disk (λ im. (m : MountedValue) × (IsMounted im m × (dirty ≡ dirty_in m))) → IsDirtyCount disk s items told dirty
-  OfTheItems : is_done told ≡ false → dirty ≡ dirty_by s items → IsDirtyCount disk s items told dirty
-  NothingRan : items ≡ [] → IsDirtyCount disk s items told dirty
+-- the count is that of the image that was left, if the image that was given stands for a tree
+abbrev pub IsCountOfImage : DiskState → DiskState → ℕ → Type 0
+IsCountOfImage given left dirty = (tree : Tree) → IsImageOf given tree → (m : MountedValue) × (IsMounted (image_of given) m × (dirty ≡ dirty_in (image_of left) m))
+
+-- The count that is told is that of the items, and, where all was done, also that of the image. Where nothing ran, none is told.
+pub data IsDirtyCount (given left : DiskState) (s : ScriptValue) (items : List TraceItem) (told : Status) (dirty : ℕ) : Type 0 where
+  OfTheImage : told ≡ status.Done → dirty ≡ dirty_by s items → IsCountOfImage given left dirty → IsDirtyCount given left s items told dirty
+  OfTheItems : is_done told ≡ false → dirty ≡ dirty_by s items → IsDirtyCount given left s items told dirty
+  NothingRan : items ≡ [] → IsDirtyCount given left s items told dirty

@@ -1,34 +1,32 @@
 -- What status an early end of a part has.
-use Rattle.std.specs.Prelude.{ℕ, Option, None, Some}
+use Rattle.std.specs.Prelude.{ℕ, ◌+◌, Some}
 use Rattle.script_lang.specs.declared.parser.ScriptRefusal.{ScriptRefusal}
 use Rattle.script_lang.specs.declared.parser.ScriptRefusal.TheVariants as refusal
 use Rattle.image_mount.specs.declared.fault.MountFault.{MountFault}
 use Rattle.image_mount.specs.declared.fault.MountFault.TheVariants as fault
-use Rattle.single_node.specs.declared.end.Refusal.{Refusal}
-use Rattle.single_node.specs.declared.end.Refusal.TheVariants as why
-use Rattle.single_node.specs.declared.end.RunEnd.{RunEnd}
-use Rattle.single_node.specs.declared.end.RunEnd.TheVariants as end
+use Rattle.lone_node.specs.declared.ends.RunEnd.{RunEnd}
+use Rattle.lone_node.specs.declared.ends.RunEnd.TheVariants as end
+use Rattle.disk_trees.specs.declared.faults.TreeFault.{TreeFault}
+use Rattle.disk_trees.specs.declared.faults.TreeFault.TheVariants as tree
 use Rattle.cluster_program.specs.declared.input.InputFault.{InputFault}
 use Rattle.cluster_program.specs.declared.input.InputFault.TheVariants as input
 use Rattle.cluster_program.specs.declared.status.Status.{Status}
 use Rattle.cluster_program.specs.declared.status.Status.TheVariants as status
 use Rattle.cluster_program.specs.declared.status.Part.TheVariants as part
 
--- the rule that a refused block breaks, where it breaks one
-abbrev pub broken_rule : Refusal → Option ℕ
-broken_rule why.Form = None
-broken_rule why.LeadsOut = Some 2
-broken_rule why.BadName = Some 9
+-- of a run of a script, whose first line that is run has this number
+abbrev pub status_of_end : ℕ → RunEnd → Status
+status_of_end first (end.DiskFailed block rise) = status.DeviceFault 1 block rise.before rise.after
+status_of_end first (end.Damaged block rule) = status.Damaged block rule
+status_of_end first (end.Hashed block) = status.NotBuilt (part.Block block)
+status_of_end first (end.NotBuilt line) = status.NotBuilt (part.Script (first + line))
+status_of_end first end.NoMemory = status.NoMemory
 
-abbrev pub status_of_refused : ℕ → Option ℕ → Status
-status_of_refused block None = status.NotBuilt (part.Block block)
-status_of_refused block (Some rule) = status.Damaged block rule
-
--- of a run
-abbrev pub status_of_end : RunEnd → Status
-status_of_end (end.DiskFailed node block rise) = status.DeviceFault node (Some block) rise.before rise.after
-status_of_end (end.NotRead block why) = status_of_refused block (broken_rule why)
-status_of_end end.NoMemory = status.NoMemory
+-- of the reading of the tree
+abbrev pub status_of_tree : TreeFault → Status
+status_of_tree (tree.Damaged block rule) = status.Damaged block rule
+status_of_tree (tree.DiskFailed block rise) = status.DeviceFault 0 (Some block) rise.before rise.after
+status_of_tree tree.NoMemory = status.NoMemory
 
 -- of a mount
 abbrev pub status_of_mount : MountFault → Status

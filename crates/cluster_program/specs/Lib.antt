@@ -5,6 +5,7 @@ pub mod StatusText
 pub mod Out
 pub mod Report
 pub mod Mounting
+pub mod Runs
 pub mod Dirty
 pub mod Course
 pub mod Command

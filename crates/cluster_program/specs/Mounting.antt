@@ -1,17 +1,17 @@
 -- How a command ends that can't mount the image.
-use Rattle.std.specs.Prelude.{ℕ, ◌≡◌, ◌<◌, ◌≤◌, false, true, IsTrue, List, Some, slice_get}
+use Rattle.std.specs.Prelude.{ℕ, ◌≡◌, ◌<◌, Bool, false, true, IsTrue, List, Option, None, Some, slice_get}
 use Rattle.fault_counts.specs.Causes.{WentUp}
 use Rattle.file_tree.specs.Tree.{Tree}
+use Rattle.image_model.specs.Claims.{every}
 use Rattle.image_model.specs.Image.{Image, image_of}
-use Rattle.image_model.specs.Rules.{IsBrokenBlock}
 use Rattle.image_model.specs.Stands.{Stands}
 use Rattle.image_mount.specs.Mounted.{Journal, MountedValue, IsMounted, IsOfProfile}
 use Rattle.image_mount.specs.Refusals.{IsOutside, IsReached, RefusesRightly}
 use Rattle.image_mount.specs.declared.field.Field.{Field}
 use Rattle.image_mount.specs.declared.fault.MountFault.TheVariants as fault
-use Rattle.gfs2_layout.specs.Device.{superblock_place}
+use Rattle.gfs2_layout.specs.Journal.{ring_of, head_in}
+use Rattle.gfs2_layout.specs.declared.log_header.LogHeader.{LogHeader}
 use Rattle.shared_disk.specs.Disk.{DiskState}
-use Rattle.single_node.specs.Flat.{HasRoot, root_of}
 use Rattle.cluster_program.specs.declared.status.Status.{Status}
 use Rattle.cluster_program.specs.declared.status.Status.TheVariants as status
 use Rattle.cluster_program.specs.declared.status.Part.TheVariants as part
@@ -19,6 +19,11 @@ use Rattle.cluster_program.specs.declared.status.Part.TheVariants as part
 -- so of the image on a disk that tells its blocks
 abbrev pub OfImage : DiskState → (Image → Type 0) → Type 0
 OfImage disk P = IsTrue disk.tells → P (image_of disk)
+
+-- the disk tells its blocks, and its image stands for the tree
+pub record IsImageOf (disk : DiskState) (tree : Tree) : Type 0 where
+  pub tells : IsTrue disk.tells
+  pub stands : Stands (image_of disk) tree
 
 -- the image stands for no tree
 abbrev pub NeverStands : Image → Type 0
@@ -51,11 +56,24 @@ pub record IsMountedClean (im : Image) : Type 0 where
   pub mounted : IsMounted im value
   pub clean : IsLeftClean value
 
+-- this was mounted from the disk's image, as far as the disk tells it, and each journal was left clean
+pub record IsMountedFor (disk : DiskState) (m : MountedValue) : Type 0 where
+  pub mounted : OfImage disk (λ im. IsMounted im m)
+  pub clean : IsLeftClean m
+
+-- ---- the heads of journals in an image, by the blocks of their dinodes
+
+abbrev pub is_clean_head : Option LogHeader → Bool
+is_clean_head None = false
+is_clean_head (Some head) = head.clean
+
+abbrev pub is_clean_in : Image → Journal → Bool
+is_clean_in im journal = is_clean_head (head_in (ring_of (every im journal.dinode)))
+
 -- Why an image isn't mounted: the disk failed at a block that is reached; a field is outside the profile; a block of the device
 -- breaks a rule, or it is too short for a superblock, and behind the superblock that is told only where the formats are those of
--- the profile; and what is not built: the replay of a journal, and, with such formats, a hashed directory of journals. Of an image
--- that was mounted with clean journals: the superblock has the number of a root outside the device; and, what is not built, the
--- root is a block of the device that is no linear directory of files.
+-- the profile; and what is not built: the replay of a journal, and, with such formats, a hashed directory of journals. A root that is
+-- none of the groups' data blocks is looked for last: its number stands in the superblock.
 pub data MountEnds (disk : DiskState) (faults faults_now : ℕ → ℕ) : Status → Type 0 where
   DiskFails : (block x y : ℕ) → WentUp (faults 0) (faults_now 0) x y → OfImage disk (λ im. IsReached im block) → MountEnds disk faults faults_now (status.DeviceFault 0 (Some block) x y)
   LiesOutside : (what : Field) (value : ℕ) → OfImage disk (λ im. IsOutside im what value) → OfImage disk (λ im. IsOfProfile im → ⊥)
@@ -64,8 +82,4 @@ pub data MountEnds (disk : DiskState) (faults faults_now : ℕ → ℕ) : Status
       → MountEnds disk faults faults_now (status.Damaged block rule)
   IsDirty : (block : ℕ) → OfImage disk (λ im. HasDirtyJournal im block) → MountEnds disk faults faults_now (status.NotBuilt (part.Block block))
   IsHashed : (block : ℕ) → OfImage disk (λ im. RefusesRightly im (fault.NotBuilt block)) → MountEnds disk faults faults_now (status.NotBuilt (part.Block block))
-  HasFarRoot : (block : ℕ) → OfImage disk IsMountedClean → (IsTrue disk.tells → (block ≡ superblock_place disk.size) × (disk.count ≤ root_of disk))
-      → OfImage disk (λ im. IsBrokenBlock im 2 block) → OfImage disk NeverStands → MountEnds disk faults faults_now (status.Damaged block 2)
-  HasOtherRoot : (block : ℕ) → OfImage disk IsMountedClean → (IsTrue disk.tells → (block ≡ root_of disk) × (block < disk.count) × (HasRoot disk → ⊥))
-      → MountEnds disk faults faults_now (status.NotBuilt (part.Block block))
   LacksRoom : MountEnds disk faults faults_now status.NoMemory

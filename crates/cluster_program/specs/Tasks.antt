@@ -12,10 +12,10 @@ use Rattle.cluster_program.specs.declared.words.Task.TheVariants as task
 abbrev pub IsTaskOf : Command → Task → Type 0
 IsTaskOf c (task.Make make) = c ≡ command.Make make
 IsTaskOf c task.Show = c ≡ command.Show
-IsTaskOf c task.Run = (run : RunWords) × (c ≡ command.Run run)
+IsTaskOf c (task.Run time) = (run : RunWords) × (c ≡ command.Run run) × (time ≡ run.time)
 
 -- the words ask for it, within the limits of its numbers
 abbrev pub Asks : ℕ → List (List ℕ) → Task → Type 0
 Asks block_size words (task.Make make) = AsksToMake block_size words make × IsMakeWithin make
 Asks block_size words task.Show = AsksToShow block_size words
-Asks block_size words task.Run = AsksToRun block_size words
+Asks block_size words (task.Run time) = AsksToRun block_size words

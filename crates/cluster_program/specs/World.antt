@@ -1,5 +1,5 @@
 -- What a command is given, and what it writes to, each as far as it tells, with the counts of their faults.
-use Rattle.std.specs.Prelude.{ℕ, List, Option}
+use Rattle.std.specs.Prelude.{ℕ, ◌≡◌, List, Option}
 use Rattle.shared_disk.specs.Disk.{DiskState, Operation}
 
 -- the disk, its list of operations, and what is left of the script
@@ -22,3 +22,15 @@ inputs state list faults text failed = record { disk = state; disk_list = list; 
 
 abbrev pub outputs : Option (List ℕ) → ℕ → Option (List ℕ) → ℕ → Outputs
 outputs traced failed printed broken = record { trace = traced; trace_faults = failed; output = printed; output_faults = broken }
+
+-- ---- what stays as it was
+
+-- nothing of the script was taken
+pub record KeepsScript (before now : Inputs) : Type 0 where
+  pub left : now.left ≡ before.left
+  pub faults : now.script_faults ≡ before.script_faults
+
+-- nothing was written to the disk
+pub record KeepsDisk (before now : Inputs) : Type 0 where
+  pub state_is : now.disk ≡ before.disk
+  pub list_is : now.disk_list ≡ before.disk_list

@@ -1,10 +1,12 @@
 // How a command ends whose part ended early.
-ghost use Rattle.std.specs.Prelude.{◌≡◌};
-ghost use Rattle.cluster_program.specs.Early.{status_of_end, status_of_mount};
+ghost use Rattle.std.specs.Prelude.{◌≡◌, ◌+◌, ◌<◌, ◌^◌};
+ghost use Rattle.lone_node.specs.Ends.{IfNotBuilt};
+ghost use Rattle.cluster_program.specs.Early.{status_of_end, status_of_mount, status_of_tree};
 
 use crate::status::{Part, Status};
+use disk_trees::TreeFault;
 use image_mount::MountFault;
-use single_node::{Refusal, RunEnd};
+use lone_node::RunEnd;
 
 /// One whose mount failed.
 pub(crate) fn not_mounted(fault: MountFault) -> Status
@@ -37,29 +39,41 @@ pub(crate) fn not_built(block: u64) -> Status
     }
 }
 
-/// One whose run, or whose reading of the root, ended so.
-pub(crate) fn status_of_end(end: RunEnd) -> Status
-    ensures { result ≡ status_of_end end }
+/// One whose run of a script ended so; the first line that is run has the number `first` in its text.
+pub(crate) fn status_of_end(first: u32, end: RunEnd) -> Status
+    requires { IfNotBuilt end (λ line. first + line < 2 ^ 32) }
+    ensures { result ≡ status_of_end first end }
 {
     match end {
-        RunEnd::DiskFailed { node, block, rise } => Status::DeviceFault {
-            node,
+        RunEnd::DiskFailed { block, rise } => Status::DeviceFault {
+            node: 1,
+            block,
+            before: rise.before,
+            after: rise.after,
+        },
+        RunEnd::Damaged { block, rule } => Status::Damaged { block, rule },
+        RunEnd::Hashed { block } => not_built(block),
+        RunEnd::NotBuilt { line } => Status::NotBuilt {
+            part: Part::Script {
+                line: first + line as u32,
+            },
+        },
+        RunEnd::NoMemory => Status::NoMemory,
+    }
+}
+
+/// One whose tree wasn't read.
+pub(crate) fn not_read(fault: TreeFault) -> Status
+    ensures { result ≡ status_of_tree fault }
+{
+    match fault {
+        TreeFault::Damaged { block, rule } => Status::Damaged { block, rule },
+        TreeFault::DiskFailed { block, rise } => Status::DeviceFault {
+            node: 0,
             block: Some(block),
             before: rise.before,
             after: rise.after,
         },
-        RunEnd::NotRead {
-            block,
-            why: Refusal::Form,
-        } => not_built(block),
-        RunEnd::NotRead {
-            block,
-            why: Refusal::LeadsOut,
-        } => Status::Damaged { block, rule: 2 },
-        RunEnd::NotRead {
-            block,
-            why: Refusal::BadName,
-        } => Status::Damaged { block, rule: 9 },
-        RunEnd::NoMemory => Status::NoMemory,
+        TreeFault::NoMemory => Status::NoMemory,
     }
 }

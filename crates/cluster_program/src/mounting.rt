@@ -1,27 +1,25 @@
-ghost use Rattle.std.specs.Prelude.{◌≡◌, ◌≤◌, ℕ, IsTrue, IfOk, IfErr, MatchOption, length, slice_get, Some, true};
-ghost use Rattle.gfs2_layout.specs.Area.{IsArea};
+ghost use Rattle.std.specs.Prelude.{◌≡◌, ◌≤◌, ℕ, IsTrue, IfOk, IfErr, MatchOption, slice_get, Some, true};
 ghost use Rattle.gfs2_layout.specs.Device.{IsBlockSize};
-ghost use Rattle.image_model.specs.Image.{image_of};
-ghost use Rattle.image_mount.specs.Mounted.{Journal, IsMounted};
+ghost use Rattle.image_model.specs.Image.{IsImage, image_of};
+ghost use Rattle.image_mount.specs.Mounted.{Journal};
+ghost use Rattle.lone_node.specs.Standing.{IsOn};
 ghost use Rattle.shared_disk.specs.Disk.{IsIdle};
 ghost use Rattle.shared_disk.specs.Disk.{ReadsOnly};
-ghost use Rattle.single_node.specs.Flat.{HasFlatRoot, stuffed_part};
-ghost use Rattle.cluster_program.specs.Mounting.{MountEnds, IsFirstDirty, IsLeftClean};
+ghost use Rattle.damage_laws.specs.Telling.{HasRootInside};
+ghost use Rattle.lone_view.specs.Seeing.{seen_alone};
+ghost use Rattle.cluster_program.specs.Mounting.{MountEnds, OfImage, IsFirstDirty, IsMountedFor};
+ghost use Rattle.cluster_program.specs.Runs.{as_mounted};
 
-use crate::end_status::{not_built, not_mounted, status_of_end};
+use crate::end_status::{not_built, not_mounted};
 use crate::status::Status;
+use damage_laws::views_may_be_read_from_mounted_images;
+use gfs2_layout::superblock_block;
 use image_model::what_stands_breaks_nothing;
-use image_mount::{JournalMap, Mounted, mount_image};
+use image_mount::{JournalMap, Mounted, mount_image, mounted_groups_are_as_seen};
+use lone_view::{LoneView, are_groups};
+use resource_groups::group_of;
 use shared_disk::SharedDisk;
-use single_node::{Root, read_root};
 use std::alloc::Global;
-
-/// An image that was mounted, with its root, which is flat.
-#[derive(Drop)]
-pub(crate) struct FlatImage {
-    pub mounted: Mounted,
-    pub root: Root,
-}
 
 // The dinode of the first journal that was not left clean.
 fn dirty_journal(journals: &[JournalMap]) -> Option<u64>
@@ -36,15 +34,11 @@ fn dirty_journal(journals: &[JournalMap]) -> Option<u64>
     None
 }
 
-/// Mounts the image of an idle disk, whose journals are clean, and reads its root, which is flat. It costs what mounting
-/// costs, and a read of one block.
-pub(crate) fn mount_flat<D: SharedDisk>(alloc: Global, disk: &mut D) -> Result<FlatImage, Status>
+/// Mounts the image of an idle disk, whose journals are clean. It costs what mounting costs.
+pub(crate) fn mount_clean<D: SharedDisk>(alloc: Global, disk: &mut D) -> Result<Mounted, Status>
     requires idle { IsIdle (D.state disk.old) }
     requires size { IsBlockSize (D.state disk.old).size }
-    ensures mounted { IfOk result (λ image. IsTrue (D.state disk.old).tells → IsMounted (image_of (D.state disk.old)) image.mounted) }
-    ensures clean { IfOk result (λ image. IsLeftClean image.mounted) }
-    ensures root { IfOk result (λ image. IsTrue (D.state disk.old).tells → HasFlatRoot (D.state disk.old) image.root) }
-    ensures area { IfOk result (λ image. (length image.root ≡ (D.state disk.old).size) × IsArea (stuffed_part image.root)) }
+    ensures mounted { IfOk result (IsMountedFor (D.state disk.old)) }
     ensures ends { IfErr result (MountEnds (D.state disk.old) (D.faults disk.old) (D.faults disk.new)) }
     ensures reads { ReadsOnly (D.state disk.old) (D.state disk.new) (D.list disk.old) (D.list disk.new) (D.faults disk.old) (D.faults disk.new) }
 {
@@ -53,12 +47,45 @@ pub(crate) fn mount_flat<D: SharedDisk>(alloc: Global, disk: &mut D) -> Result<F
         Ok(mounted) => mounted,
         Err(fault) => return Err(not_mounted(fault)),
     };
-    if let Some(block) = dirty_journal(&mounted.journals) {
-        return Err(not_built(block));
+    match dirty_journal(&mounted.journals) {
+        Some(block) => Err(not_built(block)),
+        None => Ok(mounted),
     }
-    let address = mounted.sb.root.address;
-    match read_root(alloc, disk, address) {
-        Ok(root) => Ok(FlatImage { mounted, root }),
-        Err(end) => Err(status_of_end(end)),
+}
+
+/// What node 1 sees of an image that was mounted: nothing of a block yet. Its groups lie on the disk, as far as that tells its blocks, and
+/// its root is to be a data block of one of them.
+pub(crate) fn view_of<D: SharedDisk>(
+    alloc: Global,
+    disk: &D,
+    mounted: Mounted,
+) -> Result<LoneView, Status>
+    requires size { IsBlockSize (D.state disk.now).size }
+    requires mounted { IsMountedFor (D.state disk.now) mounted }
+    ensures is { IfOk result (λ view. view ≡ as_mounted (D.state disk.now) mounted) }
+    ensures on { IfOk result (IsOn (D.state disk.now)) }
+    ensures root { IfOk result (λ view. HasRootInside (seen_alone view)) }
+    ensures image { OfImage (D.state disk.now) IsImage }
+    ensures ends { IfErr result (λ own. (first now : ℕ → ℕ) → MountEnds (D.state disk.now) first now own) }
+{
+    mounted_groups_are_as_seen();
+    views_may_be_read_from_mounted_images();
+    what_stands_breaks_nothing();
+    let size = disk.block_size();
+    let superblock = superblock_block(size);
+    if !are_groups(&mounted.groups, size, disk.blocks()) {
+        return Err(Status::Damaged {
+            block: superblock,
+            rule: 18,
+        });
+    }
+    let root = mounted.sb.root.address;
+    let view = LoneView::new(alloc, mounted.groups, root, size);
+    match group_of(&view, root) {
+        Some(_) => Ok(view),
+        None => Err(Status::Damaged {
+            block: superblock,
+            rule: 2,
+        }),
     }
 }

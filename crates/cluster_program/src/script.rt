@@ -1,6 +1,7 @@
 ghost use Rattle.std.specs.Prelude.{◌≡◌, ◌≤◌, ℕ, List, IfOk, IfErr, None};
 ghost use Rattle.script_lang.specs.Grammar.{script_read, Script as TheScript};
 ghost use Rattle.script_lang.specs.OneNode.{IsOneNode};
+ghost use Rattle.script_lang.specs.WellFormed.{IsWellFormed};
 ghost use Rattle.script_lang.specs.Foreign.{first_foreign};
 ghost use Rattle.cluster_program.specs.Course.{HasRead, LacksScript};
 ghost use Rattle.cluster_program.specs.Early.{status_of_input, status_of_refusal};
@@ -47,6 +48,7 @@ pub(crate) fn read_script<S: Source>(alloc: Global, source: &mut S) -> Result<Sc
     ensures script { IfOk result (λ s. (text : List ℕ) × HasRead (S.left source.old) (S.left source.new) text
         × (script_read text ≡ TheScript s)) }
     ensures built { IfOk result (λ s. (first_foreign s ≡ None) × IsOneNode s) }
+    ensures well_formed { IfOk result IsWellFormed }
     ensures none { IfErr result (LacksScript (S.left source.old) (S.left source.new) (S.faults source.old) (S.faults source.new)) }
     ensures later { S.faults source.old ≤ S.faults source.new }
 {

@@ -6,15 +6,17 @@ ghost use Rattle.shared_disk.specs.Disk.{ReadsOnly};
 ghost use Rattle.show_text.specs.Show.{journal_lines};
 ghost use Rattle.cluster_program.specs.Course.{Shows};
 
-use crate::end_status::status_of_end;
-use crate::mounting::mount_flat;
+use crate::end_status::not_read;
+use crate::mounting::mount_clean;
 use crate::status::Status;
+use disk_trees::read_disk_tree;
 use image_mount::JournalMap;
 use no_memory::NoMemory;
 use shared_disk::SharedDisk;
 use show_text::append_journal;
-use single_node::{append_tree, standing_names_are_flat};
 use std::alloc::Global;
+use std::mem::ManuallyDrop;
+use tree_lines::append_tree;
 
 // Puts the lines of the journals at the end.
 fn append_journals(text: &mut Vec<u8>, journals: &[JournalMap]) -> Result<(), NoMemory>
@@ -28,7 +30,8 @@ fn append_journals(text: &mut Vec<u8>, journals: &[JournalMap]) -> Result<(), No
     Ok(())
 }
 
-/// The lines of what is on the image, journals and tree, or how the command ends without them.
+/// The lines of what is on the image, journals and tree, or how the command ends without them. It mounts the image, and then reads each block
+/// of the device once.
 pub(crate) fn show_image<D: SharedDisk>(alloc: Global, disk: &mut D) -> Result<Vec<u8>, Status>
     requires idle { IsIdle (D.state disk.old) }
     requires size { IsBlockSize (D.state disk.old).size }
@@ -36,19 +39,23 @@ pub(crate) fn show_image<D: SharedDisk>(alloc: Global, disk: &mut D) -> Result<V
         (λ own. Shows (D.state disk.old) (D.faults disk.old) (D.faults disk.new) [] own) }
     ensures reads { ReadsOnly (D.state disk.old) (D.state disk.new) (D.list disk.old) (D.list disk.new) (D.faults disk.old) (D.faults disk.new) }
 {
-    // What is shown of an image that stands is the tree that it stands for.
-    standing_names_are_flat();
-    let image = match mount_flat(alloc, disk) {
-        Ok(image) => image,
+    let mounted = match mount_clean(alloc, disk) {
+        Ok(mounted) => mounted,
         Err(own) => return Err(own),
     };
+    let tree = match read_disk_tree(alloc, disk) {
+        Ok(tree) => tree,
+        Err(fault) => return Err(not_read(fault)),
+    };
+    // To drop a tree takes a call for each directory on the way down, and the stack may not have room for as many as an image has.
+    let tree = ManuallyDrop::new(tree);
     let mut lines = Vec::new(alloc);
-    match append_journals(&mut lines, &image.mounted.journals) {
+    match append_journals(&mut lines, &mounted.journals) {
         Ok(()) => {}
         Err(_) => return Err(Status::NoMemory),
     }
-    match append_tree(alloc, disk, &image.root, &mut lines) {
+    match append_tree(alloc, &mut lines, &tree) {
         Ok(()) => Ok(lines),
-        Err(end) => Err(status_of_end(end)),
+        Err(_) => Err(Status::NoMemory),
     }
 }

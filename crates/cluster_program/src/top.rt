@@ -83,11 +83,12 @@ fn show<D: SharedDisk>(alloc: Global, disk: &mut D) -> Carried
     }
 }
 
-// Reads a script and runs it. The items go behind `items`, which is empty.
+// Reads a script and runs it, with this time of its changes, in seconds. The items go behind `items`, which is empty.
 fn read_and_run<D: SharedDisk, S: Source>(
     alloc: Global,
     disk: &mut D,
     source: &mut S,
+    time: u64,
     items: &mut Vec<TraceItem>,
 ) -> Carried
     requires size { IsBlockSize (D.state disk.old).size }
@@ -105,7 +106,7 @@ fn read_and_run<D: SharedDisk, S: Source>(
         Ok(script) => script,
         Err(own) => return without_script(alloc, own),
     };
-    let own = mount_and_run(alloc, disk, &script, items);
+    let own = mount_and_run(alloc, disk, &script, time, items);
     Carried {
         script,
         lines: Vec::new(alloc),
@@ -138,18 +139,18 @@ fn carry_out<D: SharedDisk, S: Source>(
             without_script(alloc, own)
         }
         Ok(Task::Show) => show(alloc, disk),
-        Ok(Task::Run) => read_and_run(alloc, disk, source, items),
+        Ok(Task::Run { time }) => read_and_run(alloc, disk, source, time, items),
         Err(own) => without_script(alloc, own),
     }
 }
 
 /// Carries out the command that these words are, on this disk, and writes its trace and its output. Today three commands are
 /// built. `mkfs` makes an image: it reads each block, and writes those that are not yet as they are to be. `show` mounts the
-/// image, tells its journals and its tree, and writes nothing; it costs a read of each block of the system files, of the
-/// root's and of each file's, and memory for its lines and, while it mounts, for an entry a block of the device. `run` reads
-/// a script from `script`, mounts the image, runs the script on it, and tells each client's replies; it costs what mounting
-/// costs, memory for the script and the items, a read of a block for each line that reads a file, and a pass over the items
-/// for each client. It waits for nobody.
+/// image, tells its journals and its tree, and writes nothing; it costs a read of each block of the system files and then of
+/// each block of the device, and memory for these, its tree and its lines. `run` reads a script from `script`, mounts the
+/// image, runs the script on it, and tells each client's replies; it costs what mounting costs, memory for the script, the
+/// items and the blocks that its calls need, a read of each of these, a write of each block that a call changes and a barrier
+/// behind these, and a pass over the items for each client. It waits for nobody.
 pub fn gfs2run_alone<D: SharedDisk, S: Source, O: Sink, T: Sink>(
     alloc: Global,
     words: &[String],

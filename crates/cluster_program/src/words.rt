@@ -10,7 +10,8 @@ use command_words::{Command, MakeWords, read_words};
 pub(crate) enum Task {
     Make(MakeWords),
     Show,
-    Run,
+    /// The time is that of the changes, in seconds.
+    Run { time: u64 },
 }
 
 // Whether an image has more journals than a linear directory has names for.
@@ -44,7 +45,8 @@ fn task_of(command: &Command, block_size: u32) -> Option<Task>
     match command {
         Command::Make(words) => Some(Task::Make(*words)),
         Command::Show => Some(Task::Show),
-        _ => Some(Task::Run),
+        Command::Run(words) => Some(Task::Run { time: words.time }),
+        _ => unreachable!(),
     }
 }
 

@@ -23,6 +23,7 @@ use Rattle.image_model.specs.Owners.{Root, Below}
 use Rattle.image_model.specs.Rules.{Breaks, beyond_device}
 use Rattle.image_model.proofs.Held.{none_some}
 use Rattle.image_reader.proofs.Inside.{no_number}
+use Rattle.making_calls.specs.Making as making
 use Rattle.path_walks.specs.Walks.{LeadsTo, IsNext, the_root, the_child, IsUnread}
 use Rattle.read_calls.specs.Reading as reading
 use Rattle.removing_calls.specs.Removing as removing
@@ -103,23 +104,27 @@ module _ (v : Seen) (im : Image) (read : IsReadFrom v im) (whole : HasWholeGroup
   removal_out call m (removing.of_group a blocks taken all held needs) out =
       absurd (omega (arith, out, whole.headers needs.0 m.block needs.1 needs.2.3.block.own))
 
+  making_out : (call : Call) (m : Missing) → making.IsNeededFor v call m → im.count ≤ m.block → Breaks im 2 (source_of im.size m)
+  making_out call m (making.on_path unread) out = unread_out (wanted call) (making.directory_path call) m unread out
+  making_out call m (making.of_group gets needed) out = absurd (omega (arith, out, whole.headers needed.group m.block needed.has needed.missing.own))
+
 pub needs_tell : NeedsTell
-needs_tell v im (calls.Create p) m other read whole needs out = absurd (other tt)
-needs_tell v im (calls.Mkdir p) m other read whole needs out = absurd (other tt)
-needs_tell v im (calls.Unlink p) m other read whole needs out = removal_out v im read whole (calls.Unlink p) m needs out
-needs_tell v im (calls.Rmdir p) m other read whole needs out = removal_out v im read whole (calls.Rmdir p) m needs out
-needs_tell v im (calls.Read p at n) m other read whole (reading.on_path unread) out = unread_out v im read whole (wanted (calls.Read p at n)) (path_of (calls.Read p at n) false) m unread out
-needs_tell v im (calls.Read p at n) m other read whole (reading.at_end a leads asked) out = needed_out v im read whole (wanted (calls.Read p at n)) (path_of (calls.Read p at n) false) a m leads (λ h. IsInRange h at n) 0 (λ h shown. (asked h shown).1) out
-needs_tell v im (calls.Dread p at n) m other read whole (reading.on_path unread) out = unread_out v im read whole (wanted (calls.Dread p at n)) (path_of (calls.Dread p at n) false) m unread out
-needs_tell v im (calls.Dread p at n) m other read whole (reading.at_end a leads asked) out = absurd asked
-needs_tell v im (calls.Write p at bytes) m other read whole needs out = unread_out v im read whole (wanted (calls.Write p at bytes)) (path_of (calls.Write p at bytes) false) m needs out
-needs_tell v im (calls.Truncate p n) m other read whole (reading.on_path unread) out = unread_out v im read whole (wanted (calls.Truncate p n)) (path_of (calls.Truncate p n) false) m unread out
-needs_tell v im (calls.Truncate p n) m other read whole (reading.at_end a leads asked) out = absurd asked
-needs_tell v im (calls.Stat p) m other read whole (reading.on_path unread) out = unread_out v im read whole (wanted (calls.Stat p)) (path_of (calls.Stat p) false) m unread out
-needs_tell v im (calls.Stat p) m other read whole (reading.at_end a leads asked) out = absurd asked
-needs_tell v im (calls.List p) m other read whole (reading.on_path unread) out = unread_out v im read whole (wanted (calls.List p)) (path_of (calls.List p) false) m unread out
-needs_tell v im (calls.List p) m other read whole (reading.at_end a leads asked) out = absurd asked
-needs_tell v im (calls.Rename p q) m other read whole (reading.on_path unread) out = unread_out v im read whole (wanted (calls.Rename p q)) (path_of (calls.Rename p q) false) m unread out
-needs_tell v im (calls.Rename p q) m other read whole (reading.at_end a leads asked) out = absurd asked
-needs_tell v im calls.Sync m other read whole (reading.on_path unread) out = unread_out v im read whole (wanted calls.Sync) (path_of calls.Sync false) m unread out
-needs_tell v im calls.Sync m other read whole (reading.at_end a leads asked) out = absurd asked
+needs_tell v im (calls.Create p) m read whole needs out = making_out v im read whole (calls.Create p) m needs out
+needs_tell v im (calls.Mkdir p) m read whole needs out = making_out v im read whole (calls.Mkdir p) m needs out
+needs_tell v im (calls.Unlink p) m read whole needs out = removal_out v im read whole (calls.Unlink p) m needs out
+needs_tell v im (calls.Rmdir p) m read whole needs out = removal_out v im read whole (calls.Rmdir p) m needs out
+needs_tell v im (calls.Read p at n) m read whole (reading.on_path unread) out = unread_out v im read whole (wanted (calls.Read p at n)) (path_of (calls.Read p at n) false) m unread out
+needs_tell v im (calls.Read p at n) m read whole (reading.at_end a leads asked) out = needed_out v im read whole (wanted (calls.Read p at n)) (path_of (calls.Read p at n) false) a m leads (λ h. IsInRange h at n) 0 (λ h shown. (asked h shown).1) out
+needs_tell v im (calls.Dread p at n) m read whole (reading.on_path unread) out = unread_out v im read whole (wanted (calls.Dread p at n)) (path_of (calls.Dread p at n) false) m unread out
+needs_tell v im (calls.Dread p at n) m read whole (reading.at_end a leads asked) out = absurd asked
+needs_tell v im (calls.Write p at bytes) m read whole needs out = unread_out v im read whole (wanted (calls.Write p at bytes)) (path_of (calls.Write p at bytes) false) m needs out
+needs_tell v im (calls.Truncate p n) m read whole (reading.on_path unread) out = unread_out v im read whole (wanted (calls.Truncate p n)) (path_of (calls.Truncate p n) false) m unread out
+needs_tell v im (calls.Truncate p n) m read whole (reading.at_end a leads asked) out = absurd asked
+needs_tell v im (calls.Stat p) m read whole (reading.on_path unread) out = unread_out v im read whole (wanted (calls.Stat p)) (path_of (calls.Stat p) false) m unread out
+needs_tell v im (calls.Stat p) m read whole (reading.at_end a leads asked) out = absurd asked
+needs_tell v im (calls.List p) m read whole (reading.on_path unread) out = unread_out v im read whole (wanted (calls.List p)) (path_of (calls.List p) false) m unread out
+needs_tell v im (calls.List p) m read whole (reading.at_end a leads asked) out = absurd asked
+needs_tell v im (calls.Rename p q) m read whole (reading.on_path unread) out = unread_out v im read whole (wanted (calls.Rename p q)) (path_of (calls.Rename p q) false) m unread out
+needs_tell v im (calls.Rename p q) m read whole (reading.at_end a leads asked) out = absurd asked
+needs_tell v im calls.Sync m read whole (reading.on_path unread) out = unread_out v im read whole (wanted calls.Sync) (path_of calls.Sync false) m unread out
+needs_tell v im calls.Sync m read whole (reading.at_end a leads asked) out = absurd asked

@@ -104,8 +104,7 @@ CallsTell = (v : Seen) (im : Image) (call : Call) (rule b : ℕ) → IsReadFrom 
 abbrev pub source_of : ℕ → Missing → ℕ
 source_of size m = if m.from == m.block then superblock_place size else m.from
 
--- a number that any such call needs, and that leads out of the device; but for one that makes a name, of which only this is told: the view
--- hasn't the block
+-- a number that any such call needs, and that leads out of the device
 abbrev pub NeedsTell : Type 0
-NeedsTell = (v : Seen) (im : Image) (call : Call) (m : Missing) → ¬ (making.IsMaking call) → IsReadFrom v im → HasWholeGroups v im → calls.IsNeededFor v call m → im.count ≤ m.block
+NeedsTell = (v : Seen) (im : Image) (call : Call) (m : Missing) → IsReadFrom v im → HasWholeGroups v im → calls.IsNeededFor v call m → im.count ≤ m.block
     → Breaks im 2 (source_of im.size m)

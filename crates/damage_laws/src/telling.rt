@@ -44,8 +44,8 @@ pub fn calls_tell_broken_blocks()
     ensures { CallsTell }
 {}
 
-/// A law: where a block that such a call, but one that makes a name, needs lies out of the device, the block in which its number stands breaks the rule on numbers:
-/// the superblock, where the block is asked for by itself, which is then the root.
+/// A law: where a block that such a call needs lies out of the device, the block in which its number stands breaks the rule on numbers: the
+/// superblock, where the block is asked for by itself, which is then the root.
 pub fn needs_out_of_the_device_tell_broken_blocks()
     ensures { NeedsTell }
 {}

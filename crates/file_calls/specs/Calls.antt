@@ -1,5 +1,5 @@
 -- The file calls that are built: what holds of every one.
-use Rattle.std.specs.Prelude.{ℕ, ◌≡◌, false, List, None}
+use Rattle.std.specs.Prelude.{ℕ, false, List}
 use Rattle.std.specs.List.{AllByRecursion}
 use Rattle.file_tree.specs.Tree.{Tree}
 use Rattle.file_tree.specs.declared.call.Call.{Call}
@@ -60,10 +60,10 @@ AreInside v change = AllByRecursion (IsInside v) change.blocks.items
 
 -- ---- as far as the view shows
 
--- a block without which the call isn't answered; of one that makes a name it is only told that the view hasn't it
+-- a block without which the call isn't answered
 abbrev pub IsNeededFor : Seen → Call → Missing → Type 0
-IsNeededFor v (calls.Create path) m = v.block_at m.block ≡ None
-IsNeededFor v (calls.Mkdir path) m = v.block_at m.block ≡ None
+IsNeededFor v (calls.Create path) m = making.IsNeededFor v (calls.Create path) m
+IsNeededFor v (calls.Mkdir path) m = making.IsNeededFor v (calls.Mkdir path) m
 IsNeededFor v (calls.Write path at new) m = IsUnread v (wanted (calls.Write path at new)) path m
 IsNeededFor v (calls.Unlink path) m = removing.IsNeededFor v (calls.Unlink path) m
 IsNeededFor v (calls.Rmdir path) m = removing.IsNeededFor v (calls.Rmdir path) m
@@ -78,12 +78,19 @@ IsDamage v (calls.Unlink path) rule b = removing.IsDamage v (calls.Unlink path) 
 IsDamage v (calls.Rmdir path) rule b = removing.IsDamage v (calls.Rmdir path) rule b
 IsDamage v call rule b = path.IsDamage v (wanted call) (path_of call false) rule b
 
--- what is in this block isn't read or written yet: a hashed directory on the path or at its end, one that has no room for a name, or a file
--- that the write would take out of its dinode's block
-abbrev pub IsUnbuilt : Seen → Call → ℕ → Type 0
-IsUnbuilt v (calls.Create path) b = making.IsUnbuilt v (calls.Create path) b
-IsUnbuilt v (calls.Mkdir path) b = making.IsUnbuilt v (calls.Mkdir path) b
-IsUnbuilt v (calls.Write path at new) b = writing.IsUnbuilt v (calls.Write path at new) b
-IsUnbuilt v (calls.Unlink path) b = removing.IsHashedFor v (calls.Unlink path) b
-IsUnbuilt v (calls.Rmdir path) b = removing.IsHashedFor v (calls.Rmdir path) b
-IsUnbuilt v call b = reading.IsHashedFor v call b
+-- the dinode in this block is that of a hashed directory, on the path or at its end, without which the call isn't answered
+abbrev pub IsHashed : Seen → Call → ℕ → Type 0
+IsHashed v (calls.Create path) b = making.IsHashedFor v (calls.Create path) b
+IsHashed v (calls.Mkdir path) b = making.IsHashedFor v (calls.Mkdir path) b
+IsHashed v (calls.Write path at new) b = writing.IsHashedFor v (calls.Write path at new) b
+IsHashed v (calls.Unlink path) b = removing.IsHashedFor v (calls.Unlink path) b
+IsHashed v (calls.Rmdir path) b = removing.IsHashedFor v (calls.Rmdir path) b
+IsHashed v call b = reading.IsHashedFor v call b
+
+-- what the call has to do isn't built yet: to put a name into a linear directory that has no room for it, or to write content of a file that
+-- isn't in its dinode's block, or wouldn't be
+abbrev pub IsUnbuilt : Seen → Call → Type 0
+IsUnbuilt v (calls.Create path) = making.IsUnbuilt v (calls.Create path)
+IsUnbuilt v (calls.Mkdir path) = making.IsUnbuilt v (calls.Mkdir path)
+IsUnbuilt v (calls.Write path at new) = writing.IsUnbuilt v (calls.Write path at new)
+IsUnbuilt v call = ⊥

@@ -1,17 +1,18 @@
 // A try of a file call.
-ghost use Rattle.std.specs.Prelude.{ℕ, ◌≡◌, ◌≤◌, ◌<◌, None, false, length};
-ghost use Rattle.file_tree.specs.Apply.{TakesSpace};
+ghost use Rattle.std.specs.Prelude.{ℕ, ◌≡◌, ◌≢◌, ◌≤◌, ◌<◌, None, false, length};
+ghost use Rattle.file_tree.specs.Apply.{TakesSpace, apply};
 ghost use Rattle.file_tree.specs.Tree.{Tree};
+ghost use Rattle.file_tree.specs.declared.reply.Reply.TheVariants.{NoSpace, Ok as OkReply};
 ghost use Rattle.glock_names.specs.Steps.{IfDamaged};
 ghost use Rattle.glock_names.specs.Views.{IsOfView};
 ghost use Rattle.image_model.specs.Image.{Image};
 ghost use Rattle.image_model.specs.Owners.{Owners};
 ghost use Rattle.image_model.specs.Stands.{Layout};
 ghost use Rattle.image_changes.specs.Does.{IsOf, Does};
-ghost use Rattle.path_walks.specs.Answers.{IfDone, IfNeedLock, IfNeedBlock, IfNoSpace, IfNotBuilt};
+ghost use Rattle.path_walks.specs.Answers.{IfDone, IfNeedLock, IfNeedBlock, IfNoSpace, IfHashed, IfNotBuilt};
 ghost use Rattle.path_walks.specs.Holds.{AreHeld, IsAskedFor, IsFirstLack, holds};
 ghost use Rattle.removing_calls.specs.Removing.{IsUnder};
-ghost use Rattle.file_calls.specs.Calls.{AreInside, IsBuilt, IsDamage, IsNeededFor, IsTooFew, IsUnbuilt, call_holds};
+ghost use Rattle.file_calls.specs.Calls.{AreInside, IsBuilt, IsDamage, IsHashed, IsNeededFor, IsTooFew, IsUnbuilt, call_holds};
 
 use dinode_tree::every_view_shows_an_inode;
 use drafts::{Attempt, Stamp};
@@ -19,8 +20,8 @@ use file_tree::Call;
 use glock_names::{CallFault, View};
 use std::alloc::Global;
 
-/// Tries a file call over a view: its answer with what it changes, or the first lock that isn't held, a block that isn't there, or that
-/// too few blocks are free. It costs what the call's crate says.
+/// Tries a file call over a view: its answer with what it changes, or the first lock that isn't held, a block that isn't there, that too
+/// few blocks are free, or that the call isn't built for what stands there. It costs what the call's crate says.
 pub fn attempt<V: View>(
     alloc: Global,
     view: &V,
@@ -38,11 +39,15 @@ pub fn attempt<V: View>(
     ensures block { (im : Image) (o : Owners) (l : Layout) (t : Tree) → IsOf (V.seen view.now) im o l t → IfNeedBlock result (IsAskedFor (V.seen view.now) im o l (call_holds im o l t call.now stamp.now.node)) }
     ensures on_device { (im : Image) (o : Owners) (l : Layout) (t : Tree) → IsOf (V.seen view.now) im o l t → IfNeedBlock result (λ m. m.block < im.count) }
     ensures space { (im : Image) (o : Owners) (l : Layout) (t : Tree) → IsOf (V.seen view.now) im o l t → IfNoSpace result (IsTooFew (V.seen view.now) im o l t call.now) }
+    ensures fewer { IfNoSpace result (λ need free. free < need) }
+    ensures spaceless { IfDone result (λ reply change. reply ≢ NoSpace) }
     ensures roomless { IfNoSpace result (λ need free. TakesSpace call.now) }
     ensures lacked { IfNeedLock result (λ lock state. holds (V.seen view.now) (record { lock = lock; state = state }) ≡ false) }
     ensures needed { IfNeedBlock result (IsNeededFor (V.seen view.now) call.now) }
     ensures absent { IfNeedBlock result (λ m. (V.seen view.now).block_at m.block ≡ None) }
+    ensures hashed { IfHashed result (IsHashed (V.seen view.now) call.now) }
     ensures unbuilt { IfNotBuilt result (IsUnbuilt (V.seen view.now) call.now) }
+    ensures taken { (im : Image) (o : Owners) (l : Layout) (t : Tree) → IsOf (V.seen view.now) im o l t → IfNotBuilt result ((apply call.now t).reply ≡ OkReply) }
     ensures sound { (im : Image) (o : Owners) (l : Layout) (t : Tree) → IsOf (V.seen view.now) im o l t → IfDamaged result (λ rule block. ⊥) }
     ensures damaged { IfDamaged result (IsDamage (V.seen view.now) call.now) }
     ensures kept { IfDamaged result (IsOfView (V.seen view.now)) }

@@ -18,3 +18,4 @@ pub mod WalkLaws
 pub mod MoveLaws
 pub mod Contents
 pub mod NamesPut
+pub mod Parts

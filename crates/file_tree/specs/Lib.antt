@@ -8,3 +8,4 @@ pub mod PathText
 pub mod CallText
 pub mod PathFaults
 pub mod Walks
+pub mod Parts

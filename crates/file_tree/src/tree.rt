@@ -162,5 +162,6 @@ mod changes;
 mod edits;
 mod files;
 mod moves;
+mod parts;
 mod paths;
 mod reads;

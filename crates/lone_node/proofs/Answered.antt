@@ -1,11 +1,11 @@
 -- A call that is answered: what the disk holds, and the view has, afterwards.
-use Rattle.std.proofs.Common.{◌≡◌, ℕ, zero, suc, ◌+◌, ◌<◌, ◌≤◌, cond, List, [], ◌∷◌, length, Option, None, Some, inl, inr, refl, sym, ap, ◌∙◌, subst, arith}
-use Rattle.std.specs.Prelude.{IsTrue, unwrap_or, Contains}
+use Rattle.std.proofs.Common.{◌≡◌, ℕ, zero, suc, ◌+◌, ◌<◌, ◌≤◌, true, false, cond, List, [], ◌∷◌, length, Option, None, Some, inl, inr, refl, sym, ap, ◌∙◌, subst, arith}
+use Rattle.std.specs.Prelude.{IsTrue, unwrap_or, Contains, not, ◌&&◌}
 use Rattle.std.specs.List.{AllByRecursion}
 use Rattle.std.specs.Ordering.{nat_cmp}
 use Rattle.std.specs.Cmp.{nat_cmp_total}
 use Rattle.std.specs.FinMap.{FinMap, get, insert, nat_cmp-IsAntisymmetric}
-use Rattle.std.proofs.lemmas.Bool.{cases_eq}
+use Rattle.std.proofs.lemmas.Bool.{cases_eq, ne_eqb}
 use Rattle.std.proofs.lemmas.List.Elements.{All-contains, All-from_recursion}
 use Rattle.finite_maps.proofs.Keys.{inserted_at, inserted_apart}
 use Rattle.file_tree.specs.Tree.{Tree}
@@ -15,7 +15,7 @@ use Rattle.file_tree.specs.declared.call.Call.{Call}
 use Rattle.file_tree.specs.declared.reply.Reply.{Reply}
 use Rattle.file_tree.specs.declared.reply.Reply.TheVariants as reply
 use Rattle.cluster_history.specs.History.{after}
-use Rattle.cluster_history.specs.Changes.{OthersLeaveTheTree}
+use Rattle.cluster_history.specs.Changes.{Changes, OthersLeaveTheTree}
 use Rattle.glock_names.specs.Views.{Seen, IsOfView, end_of}
 use Rattle.glock_names.specs.Steps.{TellsOf}
 use Rattle.glock_names.specs.declared.steps.CallFault.{CallFault}
@@ -27,18 +27,17 @@ use Rattle.image_model.specs.Image.{Image, image_of}
 use Rattle.image_model.specs.Owners.{Owners}
 use Rattle.image_model.specs.Stands.{Layout}
 use Rattle.image_changes.specs.Changes.{JournalsStay}
-use Rattle.image_changes.specs.Does.{Does, IsFormed, IsInside, IsOf, bytes_for, with_change}
+use Rattle.image_changes.specs.Does.{Does, is_empty, IsFormed, IsInside, IsOf, bytes_for, with_change}
 use Rattle.image_changes.specs.Instances.{StandsBy}
 use Rattle.shared_disk.specs.Disk.{DiskState}
 use Rattle.lone_view.specs.Seeing.{Lone, seen_alone}
 use Rattle.file_calls.specs.Calls.{IsDamage, IsTooFew}
 use Rattle.lone_node.specs.Answering.{IsAnsweredFrom, IsDamagedFor, as_shown}
-use Rattle.lone_node.specs.Ends.{IfDamaged, IfNotBuilt, end_at}
-use Rattle.lone_node.specs.declared.ends.RunEnd.{RunEnd}
-use Rattle.lone_node.specs.declared.ends.RunEnd.TheVariants as end
-use Rattle.lone_node.specs.Standing.{IsOn, IsSameSystem, StandsFor, is_none, lacked_count}
+use Rattle.lone_node.specs.Ends.{IfDamaged, end_at}
+use Rattle.lone_node.specs.Standing.{IsOn, IsSameSystem, LeavesStanding, StandsFor, is_none, lacked_count}
 use Rattle.lone_node.specs.Writing.{AreOfDisk, AreWritten, RiseFrom, with_blocks}
 use Rattle.lone_node.proofs.Keeping.{got, over}
+use Rattle.lone_node.proofs.Leaving.{leaves_as, leaves_none, stands_on}
 use Rattle.lone_node.proofs.Rising.{sorted_rise, none_low}
 
 -- the image on the disk is one that the view may be of
@@ -60,6 +59,14 @@ after_is others call reply.NotEmpty t is = refl
 after_is others call reply.Inside t is = refl
 after_is others call reply.TooBig t is = refl
 
+-- a block that is written is below where all of them are
+written_below : (count : ℕ) (ws : List Written) (b : ℕ) (x : List ℕ) → AllByRecursion (λ (w : Written). w.block < count) ws → bytes_for ws b ≡ Some x → b < count
+written_below count [] b x low is = cc
+written_below count (w ∷ ws) b x low is = elim (cases_eq w.block b) [
+  | inl same ↦ subst (λ k. k < count) same low.0
+  | inr apart ↦ written_below count ws b x low.1 (ap (λ q. cond q (Some w.bytes) (bytes_for ws b)) (sym (ne_eqb w.block b apart)) ∙ is)
+]
+
 module _ (d d' : DiskState) (n : Lone) (change : Change) (on : IsOn d n) (form : IsFormed change) (written : AreWritten d d' change.blocks.items) where
   rise : RiseFrom 0 change.blocks.items
   rise = sorted_rise 0 change.blocks.items (none_low change.blocks.items) form.blocks
@@ -69,41 +76,45 @@ module _ (d d' : DiskState) (n : Lone) (change : Change) (on : IsOn d n) (form :
   same_image tells = λ i. record { size = sym written.size i; count = sym written.count i; at = λ b. sym (written.blocks_are tells b) i }
 
   -- what the disk stands for then
-  stands_so : OthersLeaveTheTree → (call : Call) (r : Reply) → Does (seen_alone n) call r change → (t : Tree) → StandsFor d n t
-      → StandsFor d' (record n { blocks = with_blocks n.blocks change.blocks.items }) (after (record { call = call; reply = r }) t)
-  stands_so others call r does t s = let in_it = does.images (image_of d) s.owners s.layout t (of_view d n t on s) in
+  leaves_so : OthersLeaveTheTree → (call : Call) (r : Reply) → Does (seen_alone n) call r change → (t : Tree) (s : StandsFor d n t)
+      → LeavesStanding d d' n t (after (record { call = call; reply = r }) t) s
+  leaves_so others call r does t s = let in_it = does.images (image_of d) s.owners s.layout t (of_view d n t on s) in
       record {
-        tells = subst IsTrue (sym written.tells) s.tells;
-        owners = in_it.owners;
-        layout = s.layout;
-        root = s.root;
-        groups = s.groups;
-        stands = subst (λ u. StandsBy (image_of d') in_it.owners s.layout u) (sym (after_is others call r t in_it.replies))
-            (subst (λ im. StandsBy im in_it.owners s.layout (apply call t).tree) (same_image s.tells) in_it.stands);
+        now = record {
+          tells = subst IsTrue (sym written.tells) s.tells;
+          owners = in_it.owners;
+          layout = s.layout;
+          root = s.root;
+          groups = s.groups;
+          stands = subst (λ u. StandsBy (image_of d') in_it.owners s.layout u) (sym (after_is others call r t in_it.replies))
+              (subst (λ im. StandsBy im in_it.owners s.layout (apply call t).tree) (same_image s.tells) in_it.stands);
+        };
+        layout = refl;
+        journals = subst (λ im. JournalsStay (image_of d) im s.owners in_it.owners s.layout) (same_image s.tells) in_it.journals;
       }
 
-  pub answered : OthersLeaveTheTree → (call : Call) (r : Reply) → Does (seen_alone n) call r change
-      → IsAnsweredFrom d d' n (record n { blocks = with_blocks n.blocks change.blocks.items }) call r
-  unfolding stands_so
+  pub answered : OthersLeaveTheTree → (call : Call) (r : Reply) → Does (seen_alone n) call r change → IsAnsweredFrom d d' n call r
   answered others call r does = record {
     answers = λ t s. let in_it = does.images (image_of d) s.owners s.layout t (of_view d n t on s) in
         inl (λ i. record { reply = in_it.replies i; tree = sym (after_is others call r t in_it.replies) i });
-    stands = stands_so others call r does;
-    layout = λ t s. refl;
-    journals = λ t s. let in_it = does.images (image_of d) s.owners s.layout t (of_view d n t on s) in
-        subst (λ im. JournalsStay (image_of d) im s.owners in_it.owners s.layout) (same_image s.tells) in_it.journals;
+    leaves = leaves_so others call r does;
   }
 
-  pub on_again : IsOn d' (record n { blocks = with_blocks n.blocks change.blocks.items })
-  on_again = record {
+  pub on_again : AreOfDisk d change.blocks.items → IsOn d' (record n { blocks = with_blocks n.blocks change.blocks.items })
+  on_again of = record {
     size = on.size ∙ sym written.size;
     some = on.some;
     groups = subst (λ c. AllByRecursion (λ g. end_of g ≤ c) n.groups) (sym written.count) on.groups;
+    inside = λ b bytes e. subst (λ c. b < c) (sym written.count) (low b bytes (bytes_for change.blocks.items b) refl (sym (got 0 n.blocks change.blocks.items b rise) ∙ e));
     agrees = λ tells b bytes e. by (subst IsTrue written.tells tells) b bytes (bytes_for change.blocks.items b) refl (sym (got 0 n.blocks change.blocks.items b rise) ∙ e);
   }
     where
       some_is : {x y : List ℕ} → ◌≡◌ {A = Option (List ℕ)} (Some x) (Some y) → x ≡ y
       some_is e = ap (λ (o : Option (List ℕ)). unwrap_or o []) e
+
+      low : (b : ℕ) (bytes : List ℕ) (o : Option (List ℕ)) → bytes_for change.blocks.items b ≡ o → over (bytes_for change.blocks.items b) (get n.blocks b) ≡ Some bytes → b < d.count
+      low b bytes (Some x) is e = written_below d.count change.blocks.items b x of.inside is
+      low b bytes None is e = on.inside b bytes (ap (λ o. over o (get n.blocks b)) (sym is) ∙ e)
 
       by : IsTrue d.tells → (b : ℕ) (bytes : List ℕ) (o : Option (List ℕ)) → bytes_for change.blocks.items b ≡ o → over (bytes_for change.blocks.items b) (get n.blocks b) ≡ Some bytes → d'.block_at b ≡ bytes
       by tells b bytes (Some x) is e = written.blocks_are tells b ∙ ap (λ o. unwrap_or o (d.block_at b)) is ∙ some_is (ap (λ o. over o (get n.blocks b)) (sym is) ∙ e)
@@ -124,13 +135,25 @@ of_disk d n change on form inside = record {
     in_all : (gs : List Group) (g : Group) → Contains gs g → AllByRecursion (λ (h : Group). end_of h ≤ d.count) gs → end_of g ≤ d.count
     in_all gs g has all = All-contains (λ (h : Group). end_of h ≤ d.count) gs g (All-from_recursion (λ (h : Group). end_of h ≤ d.count) gs all) has
 
+-- a call that isn't a changing one writes no block
+pub writes_none : (v : Seen) (call : Call) (r : Reply) (change : Change) → Does v call r change → Changes (record { call = call; reply = r }) ≡ false → change.blocks.items ≡ []
+writes_none v call r change does none = by change.blocks.items (does.tells ∙ ap not none)
+  where
+    by : (ws : List Written) → (is_empty ws && is_empty change.freed.items) ≡ true → ws ≡ []
+    by [] is = refl
+    by (w ∷ ws) is = absurd (cc)
+
 -- ---- a block that is read
 
-pub fetched_on : (d : DiskState) (n : Lone) (k : ℕ) (bytes : List ℕ) → IsOn d n → (IsTrue d.tells → d.block_at k ≡ bytes) → IsOn d (record n { blocks = insert n.blocks k bytes })
-fetched_on d n k bytes on is = record {
+pub fetched_on : (d : DiskState) (n : Lone) (k : ℕ) (bytes : List ℕ) → IsOn d n → k < d.count → (IsTrue d.tells → d.block_at k ≡ bytes) → IsOn d (record n { blocks = insert n.blocks k bytes })
+fetched_on d n k bytes on low is = record {
   size = on.size;
   some = on.some;
   groups = on.groups;
+  inside = λ b found e. elim (cases_eq b k) [
+    | inl same ↦ subst (λ c. c < d.count) (sym same) low
+    | inr other ↦ on.inside b found (sym (inserted_apart nat_cmp_total nat_cmp-IsAntisymmetric n.blocks k bytes b other) ∙ e)
+  ];
   agrees = λ tells b found e. elim (cases_eq b k) [
     | inl same ↦ ap d.block_at same ∙ is tells ∙ some_is (sym (inserted_at nat_cmp_total nat_cmp-IsAntisymmetric n.blocks k bytes) ∙ ap (get (insert n.blocks k bytes)) (sym same) ∙ e)
     | inr other ↦ on.agrees tells b found (sym (inserted_apart nat_cmp_total nat_cmp-IsAntisymmetric n.blocks k bytes b other) ∙ e)
@@ -162,34 +185,15 @@ module _ (m : FinMap nat_cmp (List ℕ)) (k : ℕ) (bytes : List ℕ) where
         omega (arith, here, below)
   ]
 
--- ---- ends
-
--- the node stands for a tree as it did, where only blocks of it were read
-abbrev pub stands_on : (d : DiskState) (n n' : Lone) (t : Tree) → IsSameSystem n n' → StandsFor d n t → StandsFor d n' t
-stands_on d n n' t same s = record { tells = s.tells; owners = s.owners; layout = s.layout; root = s.root ∙ sym same.root; groups = s.groups ∙ sym same.groups; stands = s.stands }
-
--- a fact of an end at damage, and of one at what isn't built, follows from another
-pub damaged_so : (e : RunEnd) (P Q : ℕ → ℕ → Type 0) → ((b rule : ℕ) → P b rule → Q b rule) → IfDamaged e P → IfDamaged e Q
-damaged_so (end.DiskFailed block _) P Q f is = tt
-damaged_so (end.Damaged block rule) P Q f is = f block rule is
-damaged_so (end.NotBuilt block) P Q f is = tt
-damaged_so end.NoMemory P Q f is = tt
-
-pub unbuilt_so : (e : RunEnd) (P Q : ℕ → Type 0) → ((b : ℕ) → P b → Q b) → IfNotBuilt e P → IfNotBuilt e Q
-unbuilt_so (end.DiskFailed block _) P Q f is = tt
-unbuilt_so (end.Damaged block rule) P Q f is = tt
-unbuilt_so (end.NotBuilt block) P Q f is = f block is
-unbuilt_so end.NoMemory P Q f is = tt
+-- ---- what was answered
 
 -- what was answered after reads was answered from the start
-pub answered_from : (d now d' : DiskState) (n later n' : Lone) (call : Call) (r : Reply) → now ≡ d → IsSameSystem n later → IsAnsweredFrom now d' later n' call r → IsAnsweredFrom d d' n n' call r
-answered_from d now d' n later n' call r is same from =
-    let here = subst (λ e. IsAnsweredFrom e d' later n' call r) is from in
+pub answered_from : (d now d' : DiskState) (n later : Lone) (call : Call) (r : Reply) → now ≡ d → IsSameSystem n later → IsAnsweredFrom now d' later call r → IsAnsweredFrom d d' n call r
+answered_from d now d' n later call r is same from =
+    let here = subst (λ e. IsAnsweredFrom e d' later call r) is from in
     record {
       answers = λ t s. here.answers t (stands_on d n later t same s);
-      stands = λ t s. here.stands t (stands_on d n later t same s);
-      layout = λ t s. here.layout t (stands_on d n later t same s);
-      journals = λ t s. here.journals t (stands_on d n later t same s);
+      leaves = λ t s. leaves_as d d' n later t (after (record { call = call; reply = r }) t) same s (here.leaves t (stands_on d n later t same s));
     }
 
 -- a fault of a call is damage as the view shows it
@@ -199,12 +203,10 @@ shown_damage d v call fault.NoMemory has is = tt
 
 -- a call for which there is no space leaves all as it is
 pub answered_full : (d : DiskState) (n : Lone) (call : Call) (need free : ℕ) → IsOn d n → TakesSpace call
-    → ((im : Image) (o : Owners) (l : Layout) (t : Tree) → IsOf (seen_alone n) im o l t → IsTooFew (seen_alone n) im o l t call need free) → IsAnsweredFrom d d n n call reply.NoSpace
+    → ((im : Image) (o : Owners) (l : Layout) (t : Tree) → IsOf (seen_alone n) im o l t → IsTooFew (seen_alone n) im o l t call need free) → IsAnsweredFrom d d n call reply.NoSpace
 answered_full d n call need free on takes few = record {
   answers = λ t s. inr (record { no_room = refl; same = refl; taken = taken_by (seen_alone n) call t need free takes (image_of d) s.owners s.layout (few (image_of d) s.owners s.layout t (of_view d n t on s)); takes = takes });
-  stands = λ t s. s;
-  layout = λ t s. refl;
-  journals = λ t s. journals_same (image_of d) s.owners s.layout;
+  leaves = λ t s. leaves_none d n t s;
 }
   where
     taken_by : (v : Seen) (c : Call) (t : Tree) (need free : ℕ) → TakesSpace c → (im : Image) (o : Owners) (l : Layout) → IsTooFew v im o l t c need free → (apply c t).reply ≡ reply.Ok
@@ -220,6 +222,3 @@ answered_full d n call need free on takes few = record {
     taken_by v (calls.Rmdir p) t need free takes im o l few = absurd few
     taken_by v (calls.Dread p at count) t need free takes im o l few = absurd few
     taken_by v calls.Sync t need free takes im o l few = absurd few
-
-    journals_same : (im : Image) (o : Owners) (l : Layout) → JournalsStay im im o o l
-    journals_same im o l = record { rings = λ j d at. refl; places = λ b. (λ is. is, λ is. is) }

@@ -53,6 +53,10 @@ pub all_more : {A : Type 0} (P : A → Type 0) (xs : List A) (x : A) → AllByRe
 all_more P [] x all one = (one, tt)
 all_more P (y ∷ ys) x all one = (all.0, all_more P ys x all.1 one)
 
+pub all_but_last : {A : Type 0} (P : A → Type 0) (xs : List A) (x : A) → AllByRecursion P (xs ++ x ∷ []) → AllByRecursion P xs × P x
+all_but_last P [] x all = (tt, all.0)
+all_but_last P (y ∷ ys) x all = let (front, last) = all_but_last P ys x all.1 in ((all.0, front), last)
+
 pub all_at : {A : Type 0} (P : A → Type 0) (xs : List A) (p : ℕ) (x : A) → AllByRecursion P xs → slice_get xs p ≡ Some x → P x
 all_at P [] p x all at = cc
 all_at P (y ∷ ys) zero x all at = let same : y ≡ x = cc in subst P same all.0

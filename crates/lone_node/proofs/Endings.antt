@@ -1,52 +1,100 @@
 -- Ends of a run behind calls that were answered.
-use Rattle.std.proofs.Common.{◌≡◌, ℕ, sym, ◌∙◌, subst}
+use Rattle.std.proofs.Common.{◌≡◌, ℕ, Option, sym, subst}
 use Rattle.file_tree.specs.declared.call.Call.{Call}
 use Rattle.shared_disk.specs.Disk.{DiskState}
 use Rattle.lone_view.specs.Seeing.{Lone, seen_alone}
-use Rattle.lone_node.specs.Answering.{IsDamagedFor, IsDamagedOn, IsUnbuiltOn}
-use Rattle.lone_node.specs.Ends.{IfDamaged, IfNotBuilt, UnlessFailed}
+use Rattle.lone_node.specs.Answering.{IsDamagedFor, IsDamagedOn, IsFailedAt, IsHashedOn, IsLaterView, IsUnbuiltOn}
+use Rattle.lone_node.specs.Ends.{IfDamaged, IfDiskFailed, IfHashed, IfNotBuilt, UnlessFailed}
 use Rattle.lone_node.specs.declared.ends.RunEnd.{RunEnd}
 use Rattle.lone_node.specs.declared.ends.RunEnd.TheVariants as end
 use Rattle.lone_node.specs.Standing.{IsOn, IsSameSystem}
+use Rattle.lone_node.proofs.Leaving.{same_on}
 
-pub same_back : {n n' : Lone} → IsSameSystem n n' → IsSameSystem n' n
-same_back same = record { size = sym same.size; root = sym same.root; groups = sym same.groups }
+-- ---- what is seen later by a node that has read more is seen later by the node
 
-same_on : {n n' n'' : Lone} → IsSameSystem n n' → IsSameSystem n' n'' → IsSameSystem n n''
-same_on same more = record { size = more.size ∙ same.size; root = more.root ∙ same.root; groups = more.groups ∙ same.groups }
+later_before : (d d' : DiskState) (first n view : Lone) → d' ≡ d → IsSameSystem first n → IsLaterView d n view → IsLaterView d' first view
+later_before d d' first n view still same is = record { same = same_on same is.same; on = subst (λ (e : DiskState). IsOn e view) (sym still) is.on }
 
--- what isn't built for a node that has read more isn't built for the node
-pub unbuilt_before : (d d' : DiskState) (first n : Lone) (call : Call) (b : ℕ) → d' ≡ d → IsSameSystem first n → IsUnbuiltOn d n call b → IsUnbuiltOn d' first call b
-unbuilt_before d d' first n call b still same is =
-    record {
-      view = is.view;
-      later = record { same = same_on same is.later.same; on = subst (λ (e : DiskState). IsOn e is.view) (sym still) is.later.on };
-      unbuilt = is.unbuilt;
-    }
+pub hashed_before : (d d' : DiskState) (first n : Lone) (call : Call) (b : ℕ) → d' ≡ d → IsSameSystem first n → IsHashedOn d n call b → IsHashedOn d' first call b
+hashed_before d d' first n call b still same is = record { view = is.view; later = later_before d d' first n is.view still same is.later; hashed = is.hashed }
+
+pub unbuilt_before : (d d' : DiskState) (first n : Lone) (call : Call) → d' ≡ d → IsSameSystem first n → IsUnbuiltOn d n call → IsUnbuiltOn d' first call
+unbuilt_before d d' first n call still same is = record { view = is.view; later = later_before d d' first n is.view still same is.later; unbuilt = is.unbuilt }
 
 pub damaged_before : (d d' : DiskState) (first n : Lone) (call : Call) (b rule : ℕ) → d' ≡ d → IsSameSystem first n → IsDamagedOn d n call b rule → IsDamagedOn d' first call b rule
 damaged_before d d' first n call b rule still same is =
     record {
       view = is.view;
-      later = record { same = same_on same is.later.same; on = subst (λ (e : DiskState). IsOn e is.view) (sym still) is.later.on };
+      later = later_before d d' first n is.view still same is.later;
       damaged = subst (λ (e : DiskState). IsDamagedFor e (seen_alone is.view) call b rule) (sym still) is.damaged;
     }
 
--- a fact of each end but that of a failed disk, and one of an end at what isn't built, follow from others
+pub failed_before : (d d' : DiskState) (first n : Lone) (call : Call) (block : Option ℕ) → IsSameSystem first n → IsFailedAt d d' n call block → IsFailedAt d d' first call block
+failed_before d d' first n call block same is = record { view = is.view; later = record { same = same_on same is.later.same; on = is.later.on }; failed = is.failed }
+
+-- ---- a fact of an end follows from another
+
+pub failed_so : (e : RunEnd) (P Q : Option ℕ → Type 0) → ((block : Option ℕ) → P block → Q block) → IfDiskFailed e P → IfDiskFailed e Q
+failed_so (end.DiskFailed block rise) P Q f is = f block is
+failed_so (end.Damaged block rule) P Q f is = tt
+failed_so (end.Hashed block) P Q f is = tt
+failed_so (end.NotBuilt line) P Q f is = tt
+failed_so end.NoMemory P Q f is = tt
+
+pub failed_and : (e : RunEnd) (P Q : Option ℕ → Type 0) → IfDiskFailed e P → IfDiskFailed e Q → IfDiskFailed e (λ block. P block × Q block)
+failed_and (end.DiskFailed block rise) P Q p q = (p, q)
+failed_and (end.Damaged block rule) P Q p q = tt
+failed_and (end.Hashed block) P Q p q = tt
+failed_and (end.NotBuilt line) P Q p q = tt
+failed_and end.NoMemory P Q p q = tt
+
+pub damaged_so : (e : RunEnd) (P Q : ℕ → ℕ → Type 0) → ((b rule : ℕ) → P b rule → Q b rule) → IfDamaged e P → IfDamaged e Q
+damaged_so (end.DiskFailed block rise) P Q f is = tt
+damaged_so (end.Damaged block rule) P Q f is = f block rule is
+damaged_so (end.Hashed block) P Q f is = tt
+damaged_so (end.NotBuilt line) P Q f is = tt
+damaged_so end.NoMemory P Q f is = tt
+
+pub hashed_so : (e : RunEnd) (P Q : ℕ → Type 0) → ((b : ℕ) → P b → Q b) → IfHashed e P → IfHashed e Q
+hashed_so (end.DiskFailed block rise) P Q f is = tt
+hashed_so (end.Damaged block rule) P Q f is = tt
+hashed_so (end.Hashed block) P Q f is = f block is
+hashed_so (end.NotBuilt line) P Q f is = tt
+hashed_so end.NoMemory P Q f is = tt
+
+pub unbuilt_so : (e : RunEnd) (P Q : ℕ → Type 0) → ((line : ℕ) → P line → Q line) → IfNotBuilt e P → IfNotBuilt e Q
+unbuilt_so (end.DiskFailed block rise) P Q f is = tt
+unbuilt_so (end.Damaged block rule) P Q f is = tt
+unbuilt_so (end.Hashed block) P Q f is = tt
+unbuilt_so (end.NotBuilt line) P Q f is = f line is
+unbuilt_so end.NoMemory P Q f is = tt
+
+-- ---- and each but that of a failed disk has what holds unless it failed
+
 pub unless_so : (e : RunEnd) {P Q : Type 0} → (P → Q) → UnlessFailed e P → UnlessFailed e Q
 unless_so (end.DiskFailed block rise) f is = tt
 unless_so (end.Damaged block rule) f is = f is
-unless_so (end.NotBuilt block) f is = f is
+unless_so (end.Hashed block) f is = f is
+unless_so (end.NotBuilt line) f is = f is
 unless_so end.NoMemory f is = f is
-
-pub unbuilt_with : (e : RunEnd) {S : Type 0} (P Q : ℕ → Type 0) → (S → (b : ℕ) → P b → Q b) → UnlessFailed e S → IfNotBuilt e P → IfNotBuilt e Q
-unbuilt_with (end.DiskFailed block rise) P Q f s is = tt
-unbuilt_with (end.Damaged block rule) P Q f s is = tt
-unbuilt_with (end.NotBuilt block) P Q f s is = f s block is
-unbuilt_with end.NoMemory P Q f s is = tt
 
 pub damaged_with : (e : RunEnd) {S : Type 0} (P Q : ℕ → ℕ → Type 0) → (S → (b rule : ℕ) → P b rule → Q b rule) → UnlessFailed e S → IfDamaged e P → IfDamaged e Q
 damaged_with (end.DiskFailed block rise) P Q f s is = tt
 damaged_with (end.Damaged block rule) P Q f s is = f s block rule is
-damaged_with (end.NotBuilt block) P Q f s is = tt
+damaged_with (end.Hashed block) P Q f s is = tt
+damaged_with (end.NotBuilt line) P Q f s is = tt
 damaged_with end.NoMemory P Q f s is = tt
+
+pub hashed_with : (e : RunEnd) {S : Type 0} (P Q : ℕ → Type 0) → (S → (b : ℕ) → P b → Q b) → UnlessFailed e S → IfHashed e P → IfHashed e Q
+hashed_with (end.DiskFailed block rise) P Q f s is = tt
+hashed_with (end.Damaged block rule) P Q f s is = tt
+hashed_with (end.Hashed block) P Q f s is = f s block is
+hashed_with (end.NotBuilt line) P Q f s is = tt
+hashed_with end.NoMemory P Q f s is = tt
+
+pub unbuilt_with : (e : RunEnd) {S : Type 0} (P Q : ℕ → Type 0) → (S → (line : ℕ) → P line → Q line) → UnlessFailed e S → IfNotBuilt e P → IfNotBuilt e Q
+unbuilt_with (end.DiskFailed block rise) P Q f s is = tt
+unbuilt_with (end.Damaged block rule) P Q f s is = tt
+unbuilt_with (end.Hashed block) P Q f s is = tt
+unbuilt_with (end.NotBuilt line) P Q f s is = f s line is
+unbuilt_with end.NoMemory P Q f s is = tt

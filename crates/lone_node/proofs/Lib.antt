@@ -1,10 +1,12 @@
 pub mod Rising
 pub mod Flying
+pub mod Partly
 pub mod Keeping
+pub mod Leaving
 pub mod Answered
+pub mod Frees
 pub mod Calls
 pub mod Clients
 pub mod Steps
 pub mod NodeRuns
 pub mod Endings
-pub mod Spaces

@@ -17,11 +17,11 @@ use Rattle.script_lang.specs.declared.script.Client.{Client}
 use Rattle.script_lang.specs.declared.script.Line.{Line}
 use Rattle.script_lang.specs.declared.script.Line.TheVariants as line
 use Rattle.script_lang.specs.Script.{ScriptValue, call_by, calls_by}
-use Rattle.script_lang.specs.OneNode.{HaveOwnClientNames}
+use Rattle.script_lang.specs.OneNode.{HaveOwnClientNames, IsOneNode, IsOwnLine}
 use Rattle.run_rules.specs.Follows.{Follows, ByLine, history_of, call_items, above, answered, IsAfterAbove, IsOrderLine, IsOnItsNode}
 use Rattle.run_rules.specs.History.{HoldsHistory, NoneStopped, AllAnswered}
 use Rattle.run_rules.proofs.Nothing.{nothing_follows, nothing_is_legal}
-use Rattle.lone_node.specs.Run.{AnsweredCall, IsLineOf, IsOwnScript, IsRunOf, IsRunUpTo, IsWholeRun, NotJoined, Taken, Unmounted, full_item, is_call_line, items_from, its_answer, its_line, name_at}
+use Rattle.lone_node.specs.Run.{AnsweredCall, IsRunOf, IsRunUpTo, IsWholeRun, NotJoined, Taken, Unmounted, full_item, is_call_line, items_from, its_answer, its_line, name_at}
 use Rattle.lone_node.specs.declared.answering.Full.{Full}
 use Rattle.lone_node.proofs.Calls.{take_front, filter_front, all_take, all_filter, all_map, all_at, calls_of_filter, calls_front, calls_rise, calls_within}
 use Rattle.lone_node.proofs.Clients.{place_is, client_at}
@@ -217,7 +217,7 @@ all_later clients n [] end of (inr is) = subst (AllByRecursion (IsLater clients)
 all_later clients n (r ∷ rs) end of is =
     full_later clients r.full (trace.Call 1 (name_at clients r.client) n r.call r.reply ∷ items_onto clients (n + 1) rs end) (Answers n r of.0 refl, all_later clients (n + 1) rs end of.1 is)
 
-no_order : (n : ℕ) (l : Line) → IsLineOf n l → IsOrderLine l → ⊥
+no_order : (n : ℕ) (l : Line) → IsOwnLine n l → IsOrderLine l → ⊥
 no_order n (line.Call c call) form order = order
 no_order n line.Wait form order = order
 no_order n (line.Crash nodes) form order = form
@@ -228,7 +228,7 @@ none_at p x at = cc
 
 -- ---- the run follows its script
 
-module _ (s : ScriptValue) (form : IsOwnScript s) (count : ℕ) (rs : List AnsweredCall) (calls : map its_line rs ≡ filter is_call_line (take count s.lines)) (end : List TraceItem) (is_end : IsEnd end) where
+module _ (s : ScriptValue) (form : IsOneNode s) (count : ℕ) (rs : List AnsweredCall) (calls : map its_line rs ≡ filter is_call_line (take count s.lines)) (end : List TraceItem) (is_end : IsEnd end) where
   abbrev later : List TraceItem
   later = items_onto s.clients 1 rs end
 
@@ -242,15 +242,15 @@ module _ (s : ScriptValue) (form : IsOwnScript s) (count : ℕ) (rs : List Answe
   abbrev asked : List Line
   asked = map its_line rs
 
-  are_lines : AllByRecursion (λ (r : AnsweredCall). IsLineOf (length s.clients) (its_line r)) rs
+  are_lines : AllByRecursion (λ (r : AnsweredCall). IsOwnLine (length s.clients) (its_line r)) rs
   are_lines =
-      let taken = all_filter (IsLineOf (length s.clients)) is_call_line (take count s.lines) (all_take (IsLineOf (length s.clients)) count s.lines form.lines) in
-      all_map (IsLineOf (length s.clients)) its_line rs (subst (AllByRecursion (IsLineOf (length s.clients))) (sym calls) taken)
+      let taken = all_filter (IsOwnLine (length s.clients)) is_call_line (take count s.lines) (all_take (IsOwnLine (length s.clients)) count s.lines form.lines) in
+      all_map (IsOwnLine (length s.clients)) its_line rs (subst (AllByRecursion (IsOwnLine (length s.clients))) (sym calls) taken)
 
   are_of : AreOf s.clients rs
   are_of = belongs rs are_lines
     where
-      belongs : (ts : List AnsweredCall) → AllByRecursion (λ (r : AnsweredCall). IsLineOf (length s.clients) (its_line r)) ts → AreOf s.clients ts
+      belongs : (ts : List AnsweredCall) → AllByRecursion (λ (r : AnsweredCall). IsOwnLine (length s.clients) (its_line r)) ts → AreOf s.clients ts
       belongs [] of = tt
       belongs (r ∷ ts) of = (of.0.0, belongs ts of.1)
 
@@ -363,7 +363,7 @@ module _ (s : ScriptValue) (form : IsOwnScript s) (count : ℕ) (rs : List Answe
     once_joined = λ p q i j more latter at also same. absurd (no_join p i (omega (arith, more, form.nodes)) at);
     armed = λ p a armed at write. absurd (none_at a armed (ap (λ (as' : List _). slice_get as' a) (sym form.armed) ∙ at));
     place = λ l. 0;
-    placed = λ l order_line at is_order below. absurd (no_order (length s.clients) order_line (all_at (IsLineOf (length s.clients)) s.lines l order_line form.lines at) is_order);
+    placed = λ l order_line at is_order below. absurd (no_order (length s.clients) order_line (all_at (IsOwnLine (length s.clients)) s.lines l order_line form.lines at) is_order);
     rising = λ l latter before below. omega arith;
   }
 
@@ -406,7 +406,7 @@ pub record Owes (s : ScriptValue) (items : List TraceItem) (IsStart : Tree → T
   pub members : NoneStopped items
   pub none_lost : NoneLost (history_of s.clients items)
 
-module _ (s : ScriptValue) (form : IsOwnScript s) (items : List TraceItem) (IsStart : Tree → Type 0) where
+module _ (s : ScriptValue) (form : IsOneNode s) (items : List TraceItem) (IsStart : Tree → Type 0) where
   pub owes_none : items ≡ [] → Owes s items IsStart
   owes_none none = subst (λ (is : List TraceItem). Owes s is IsStart) (sym none) (record {
     history = nothing_follows s;

@@ -9,6 +9,8 @@ use Rattle.std.proofs.lemmas.List.Sums.{count_by-le-length, length-filter}
 use Rattle.file_tree.specs.Tree.{Tree}
 use Rattle.file_tree.specs.Apply.{Answers}
 use Rattle.file_tree.specs.declared.call.Call.{Call}
+use Rattle.file_tree.specs.declared.call.Call.TheVariants as variant
+use Rattle.cluster_history.specs.Changes.{Changes}
 use Rattle.cluster_history.specs.declared.Item.{Item}
 use Rattle.cluster_history.specs.History.{AllAnswer, NoneLost, Replied, after, alive, tree_after, tree_of}
 use Rattle.cluster_history.proofs.Legal.{replied, alive-none_lost}
@@ -19,14 +21,18 @@ use Rattle.trace_text.specs.declared.item.TraceItem.TheVariants as trace
 use Rattle.script_lang.specs.declared.script.Client.{Client}
 use Rattle.script_lang.specs.declared.script.Line.{Line}
 use Rattle.script_lang.specs.declared.script.Line.TheVariants as line
-use Rattle.shared_disk.specs.Disk.{DiskState}
+use Rattle.script_lang.specs.OneNode.{IsOwnCall, IsOwnLine}
+use Rattle.shared_disk.specs.Disk.{DiskState, Operation}
+use Rattle.file_calls.specs.Calls.{IsBuilt}
 use Rattle.lone_view.specs.Seeing.{Lone}
 use Rattle.lone_node.specs.Answering.{IsToldFull}
-use Rattle.lone_node.specs.Run.{AnsweredCall, EndsAtCall, IsLineOf, IsRunUpTo, IsTakenCall, full_item, is_call_line, items_from, its_answer, its_line, name_at}
-use Rattle.lone_node.specs.Standing.{StandsFor}
+use Rattle.lone_node.specs.Run.{AnsweredCall, EndsAt, EndsAtCall, HasChangedNothing, IsRunUpTo, IsTakenCall, full_item, is_call_line, items_from, its_answer, its_line, name_at, TellFree}
+use Rattle.lone_node.specs.Standing.{IsSameSystem, LeavesStanding, StandsFor}
 use Rattle.lone_node.specs.declared.answering.Full.{Full}
-use Rattle.lone_node.proofs.Calls.{all_at, all_more}
+use Rattle.lone_node.proofs.Calls.{all_at, all_but_last, all_more}
 use Rattle.lone_node.proofs.Clients.{name_is}
+use Rattle.lone_node.proofs.Frees.{AreTold, free_as, told_end, told_items, told_more}
+use Rattle.lone_node.proofs.Leaving.{leaves_as, leaves_on, stands_on}
 
 -- ---- lists of answered calls
 
@@ -80,10 +86,28 @@ history_end clients n (r ∷ rs) =
 
 -- ---- steps
 
+-- a call that one node takes is built
+own_is_built : (call : Call) → IsOwnCall call → IsBuilt call
+own_is_built (variant.Create path) own = tt
+own_is_built (variant.Mkdir path) own = tt
+own_is_built (variant.Unlink path) own = tt
+own_is_built (variant.Rmdir path) own = tt
+own_is_built (variant.Read path at count) own = tt
+own_is_built (variant.Dread path at count) own = own
+own_is_built (variant.Write path at new) own = tt
+own_is_built (variant.Truncate path size) own = own
+own_is_built (variant.Stat path) own = tt
+own_is_built (variant.List path) own = tt
+own_is_built (variant.Rename from to) own = own
+own_is_built variant.Sync own = tt
+
 module _ (clients : List Client) (lines : List Line) (IsStart : Tree → Type 0) where
   -- the tree behind a run is that after its calls
   pub tree_is : (count : ℕ) (items : List TraceItem) (so : IsRunUpTo clients lines count items IsStart) (t : Tree) → tree_of (history_of clients items) t ≡ tree_after (map its_answer so.answered) t
   tree_is count items so t = ap (λ (is : List TraceItem). tree_of (history_of clients is) t) so.are ∙ ap (λ (ss : List Replied). tree_after ss t) (alive_in clients 1 so.answered)
+
+  pub alive_is : (count : ℕ) (items : List TraceItem) (so : IsRunUpTo clients lines count items IsStart) → alive (history_of clients items) ≡ map its_answer so.answered
+  alive_is count items so = ap (λ (is : List TraceItem). alive (history_of clients is)) so.are ∙ alive_in clients 1 so.answered
 
   -- it stays at the unmount
   pub unmounted : (count : ℕ) (items more : List TraceItem) → IsRunUpTo clients lines count items IsStart → more ≡ items ++ trace.Unmount 1 ∷ [] → history_of clients items ≡ history_of clients more
@@ -92,7 +116,7 @@ module _ (clients : List Client) (lines : List Line) (IsStart : Tree → Type 0)
 
   -- node 1 has joined, and taken no line
   abbrev pub run_none : (items : List TraceItem) → items ≡ trace.Join 1 ∷ [] → IsRunUpTo clients lines 0 items IsStart
-  run_none items is = record { answered = []; are = is; calls = refl; answers = λ t start. tt; full = λ t start. tt }
+  run_none items is = record { answered = []; are = is; calls = refl; answers = λ t start. tt; full = tt }
 
   module _ (i : ℕ) (items : List TraceItem) (below : i < length lines) (so : IsRunUpTo clients lines i items IsStart) where
     -- the calls among one more line
@@ -116,7 +140,7 @@ module _ (clients : List Client) (lines : List Line) (IsStart : Tree → Type 0)
     other_line (line.Join node) other = refl
 
     pub wait_more : (number : ℕ) (d l : Line) → l ≡ get_or lines i d → ((place : ℕ) (call : Call) → l ≡ line.Call place call → ⊥) → number ≡ 1 + length so.answered
-        → (run : IsRunUpTo clients lines (i + 1) items IsStart) × (number ≡ 1 + length run.answered)
+        → (run : IsRunUpTo clients lines (i + 1) items IsStart) × (number ≡ 1 + length run.answered) × (run.answered ≡ so.answered)
     wait_more number d l is other same = (
       record {
         answered = so.answered;
@@ -128,9 +152,10 @@ module _ (clients : List Client) (lines : List Line) (IsStart : Tree → Type 0)
         full = so.full;
       },
       same,
+      refl,
     )
 
-    module _ (place : ℕ) (call : Call) (l d : Line) (c : Client) (is : l ≡ get_or lines i d) (is_call : l ≡ line.Call place call) (form : AllByRecursion (IsLineOf (length clients)) lines) where
+    module _ (place : ℕ) (call : Call) (l d : Line) (c : Client) (is : l ≡ get_or lines i d) (is_call : l ≡ line.Call place call) (form : AllByRecursion (IsOwnLine (length clients)) lines) where
       at_place : line.Call place call ≡ get_or lines i d
       at_place = sym is_call ∙ is
 
@@ -138,55 +163,112 @@ module _ (clients : List Client) (lines : List Line) (IsStart : Tree → Type 0)
       it_stands = slice_get-get_or lines i d below ∙ ap (λ (m : Line). Some m) (sym at_place)
 
       its_client : (get_or clients place c).name ≡ name_at clients place
-      its_client = name_is clients place c (all_at (IsLineOf (length clients)) lines i (line.Call place call) form it_stands).0
+      its_client = name_is clients place c (all_at (IsOwnLine (length clients)) lines i (line.Call place call) form it_stands).0
+
+      -- it is built
+      pub its_call : IsBuilt call
+      its_call = own_is_built call (all_at (IsOwnLine (length clients)) lines i (line.Call place call) form it_stands).1
 
       -- the run ends at this call
-      pub ends_here : (P : Call → Type 0) (more : List TraceItem) → more ≡ items → P call → EndsAtCall P clients lines more IsStart
-      ends_here P more kept holds = record {
-        count = i;
+      pub ends_at : (P : Call → Type 0) (more : List TraceItem) → more ≡ items → P call → EndsAt i P clients lines more IsStart
+      ends_at P more kept holds = record {
         taken = subst (λ (is : List TraceItem). IsRunUpTo clients lines i is IsStart) (sym kept) so;
         next = line.Call place call;
         is_next = it_stands;
         holds = holds;
       }
 
-      module _ (more : List TraceItem) (number : ℕ) (disk disk' : DiskState) (n n' : Lone) (number_is : number ≡ 1 + length so.answered)
-          (taken : IsTakenCall (get_or clients place c).name number call items more disk disk' n n')
-          (stands : (t : Tree) → IsStart t → StandsFor disk n (tree_of (history_of clients items) t)) where
-        abbrev one : AnsweredCall
-        one = record { client = place; call = call; reply = taken.reply; full = taken.full }
+      pub ends_here : (P : Call → Type 0) (more : List TraceItem) → more ≡ items → P call → EndsAtCall P clients lines more IsStart
+      ends_here P more kept holds = record { count = i; ends = ends_at P more kept holds }
 
-        -- the disk stood for the tree after the calls before
-        stood : (t : Tree) → IsStart t → StandsFor disk n (tree_after (map its_answer so.answered) t)
-        stood t start = subst (StandsFor disk n) (tree_is i items so t) (stands t start)
+-- what its items tell of free blocks
+pub tells_free : (clients : List Client) (lines : List Line) (start disk : DiskState) (first : Lone) (count : ℕ) (items : List TraceItem) (so : IsRunUpTo clients lines count items (StandsFor start first))
+    → ((t : Tree) (s : StandsFor start first t) → AreTold disk start first t s so.answered) → (t : Tree) (s : StandsFor start first t) → TellFree start first t s items
+tells_free clients lines start disk first count items so told t s = subst (TellFree start first t s) (sym so.are) (told_items clients first disk start t s 1 so.answered (told t s))
 
-        -- one more call is taken
-        run_more : IsRunUpTo clients lines (i + 1) more IsStart
-        run_more = record {
-          answered = so.answered ++ one ∷ [];
-          are =
-              taken.are ∙ (λ k. so.are k ++ (full_item taken.full ++ trace.Call 1 (its_client k) (number_is k) call taken.reply ∷ []))
-              ∙ ap (λ (is : List TraceItem). trace.Join 1 ∷ is) (sym (items_more clients 1 so.answered one));
-          calls =
-              map_push its_line so.answered one ∙ ap (λ (ls : List Line). ls ++ line.Call place call ∷ []) so.calls
-              ∙ sym (calls_more (line.Call place call) d at_place);
-          answers = λ t start. subst (λ (ss : List Replied). AllAnswer ss t) (sym (map_push its_answer so.answered one))
-              (all_answer_more (map its_answer so.answered) (its_answer one) t (so.answers t start)
-              (taken.answered.answers (tree_after (map its_answer so.answered) t) (stood t start)));
-          full = λ t start. all_more (λ (a : AnsweredCall). IsToldFull a.reply a.full) so.answered one (so.full t start) (taken.told (tree_after (map its_answer so.answered) t) (stood t start));
-        }
+pub tells_end : (clients : List Client) (lines : List Line) (start : DiskState) (first : Lone) (count : ℕ) (items more : List TraceItem) (so : IsRunUpTo clients lines count items (StandsFor start first))
+    → more ≡ items ++ trace.Unmount 1 ∷ [] → (t : Tree) (s : StandsFor start first t) → TellFree start first t s items → TellFree start first t s more
+tells_end clients lines start first count items more so are t s told =
+    subst (TellFree start first t s) (ap (λ (is : List TraceItem). is ++ trace.Unmount 1 ∷ []) (sym so.are) ∙ sym are)
+    (told_end clients first start t s 1 so.answered (subst (TellFree start first t s) so.are told))
 
-        number_more : number + 1 ≡ 1 + length run_more.answered
-        unfolding run_more
-        number_more = let longer = length-append so.answered (one ∷ []) in omega (arith, number_is, longer)
+-- ---- one more call is answered
 
-        stands_more : (t : Tree) → IsStart t → StandsFor disk' n' (tree_of (history_of clients more) t)
-        unfolding run_more
-        stands_more t start =
-            subst (StandsFor disk' n')
-            (sym (tree_is (i + 1) more run_more t ∙ ap (λ (ss : List Replied). tree_after ss t) (map_push its_answer so.answered one) ∙ tree_after_more (map its_answer so.answered) (its_answer one) t))
-            (taken.answered.stands (tree_after (map its_answer so.answered) t) (stood t start))
+module _ (clients : List Client) (lines : List Line) (start : DiskState) (first : Lone) (i : ℕ) (items : List TraceItem) (below : i < length lines)
+    (so : IsRunUpTo clients lines i items (StandsFor start first)) (place : ℕ) (call : Call) (l d : Line) (c : Client) (is : l ≡ get_or lines i d) (is_call : l ≡ line.Call place call)
+    (form : AllByRecursion (IsOwnLine (length clients)) lines) (more : List TraceItem) (number : ℕ) (disk disk' : DiskState) (list list' : Option (List Operation)) (n : Lone) (number_is : number ≡ 1 + length so.answered)
+    (taken : IsTakenCall (get_or clients place c).name number call items more disk disk' list list' n) (system : IsSameSystem first n)
+    (leaves : (t : Tree) (s : StandsFor start first t) → LeavesStanding start disk first t (tree_of (history_of clients items) t) s) where
+  abbrev one : AnsweredCall
+  one = record { client = place; call = call; reply = taken.reply; full = taken.full }
 
-        -- the run goes on
-        pub goes_on : (run : IsRunUpTo clients lines (i + 1) more IsStart) × (number + 1 ≡ 1 + length run.answered) × ((t : Tree) → IsStart t → StandsFor disk' n' (tree_of (history_of clients more) t))
-        goes_on = (run_more, number_more, stands_more)
+  -- the tree after the calls before
+  abbrev before : Tree → Tree
+  before t = tree_of (history_of clients items) t
+
+  before_is : (t : Tree) → before t ≡ tree_after (map its_answer so.answered) t
+  before_is t = tree_is clients lines (StandsFor start first) i items so t
+
+  -- the disk stood for it
+  abbrev stood : (t : Tree) → StandsFor start first t → StandsFor disk n (before t)
+  stood t s = stands_on disk first n (before t) system (leaves t s).now
+
+  run_more : IsRunUpTo clients lines (i + 1) more (StandsFor start first)
+  run_more = record {
+    answered = so.answered ++ one ∷ [];
+    are =
+        taken.are ∙ (λ k. so.are k ++ (full_item taken.full ++ trace.Call 1 (its_client clients lines (StandsFor start first) i items below so place call l d c is is_call form k) (number_is k) call taken.reply ∷ []))
+        ∙ ap (λ (is : List TraceItem). trace.Join 1 ∷ is) (sym (items_more clients 1 so.answered one));
+    calls =
+        map_push its_line so.answered one ∙ ap (λ (ls : List Line). ls ++ line.Call place call ∷ []) so.calls
+        ∙ sym (calls_more clients lines (StandsFor start first) i items below so (line.Call place call) d (sym is_call ∙ is));
+    answers = λ t s. subst (λ (ss : List Replied). AllAnswer ss t) (sym (map_push its_answer so.answered one))
+        (all_answer_more (map its_answer so.answered) (its_answer one) t (so.answers t s)
+        (subst (λ (u : Tree). Answers call u taken.reply (after (its_answer one) u)) (before_is t) (taken.answered.answers (before t) (stood t s))));
+    full = all_more (λ (a : AnsweredCall). IsToldFull a.reply a.full) so.answered one so.full taken.told;
+  }
+
+  number_more : number + 1 ≡ 1 + length run_more.answered
+  unfolding run_more
+  number_more = let longer = length-append so.answered (one ∷ []) in omega (arith, number_is, longer)
+
+  tree_more : (t : Tree) → after (its_answer one) (before t) ≡ tree_of (history_of clients more) t
+  unfolding run_more
+  tree_more t =
+      ap (after (its_answer one)) (before_is t)
+      ∙ sym (tree_is clients lines (StandsFor start first) (i + 1) more run_more t ∙ ap (λ (ss : List Replied). tree_after ss t) (map_push its_answer so.answered one) ∙ tree_after_more (map its_answer so.answered) (its_answer one) t)
+
+  leaves_more : (t : Tree) (s : StandsFor start first t) → LeavesStanding start disk' first t (tree_of (history_of clients more) t) s
+  leaves_more t s =
+      subst (λ (u : Tree). LeavesStanding start disk' first t u s) (tree_more t)
+      (leaves_on start disk disk' first t (before t) (after (its_answer one) (before t)) s (leaves t s)
+      (leaves_as disk disk' first n (before t) (after (its_answer one) (before t)) system (leaves t s).now (taken.answered.leaves (before t) (stood t s))))
+
+  -- where no call has changed anything, none before has, nor has this one
+  unchanged : HasChangedNothing clients more → HasChangedNothing clients items × (Changes (its_answer one) ≡ false)
+  unfolding run_more
+  unchanged nothing =
+      let each = subst (AllByRecursion (λ (r : Replied). Changes r ≡ false)) (alive_is clients lines (StandsFor start first) (i + 1) more run_more ∙ map_push its_answer so.answered one) nothing in (
+        subst (AllByRecursion (λ (r : Replied). Changes r ≡ false)) (sym (alive_is clients lines (StandsFor start first) i items so)) (all_but_last (λ (r : Replied). Changes r ≡ false) (map its_answer so.answered) (its_answer one) each).0,
+        (all_but_last (λ (r : Replied). Changes r ≡ false) (map its_answer so.answered) (its_answer one) each).1,
+      )
+
+  untouched_then : (was : Option (List Operation)) → (HasChangedNothing clients items → (disk ≡ start) × (list ≡ was)) → HasChangedNothing clients more → (disk' ≡ start) × (list' ≡ was)
+  untouched_then was untouched nothing =
+      let (none, last) = unchanged nothing in
+      let before_it = untouched none in
+      let by_it = taken.untouched last in
+      (by_it.0 ∙ before_it.0, by_it.1 ∙ before_it.1)
+
+  told_then : ((t : Tree) (s : StandsFor start first t) → AreTold disk start first t s so.answered) → (t : Tree) (s : StandsFor start first t) → AreTold disk' start first t s run_more.answered
+  unfolding run_more
+  told_then told t s = told_more disk disk' start first t s so.answered one (told t s) (λ u at. free_as disk first n u system at taken.full (taken.free u (stands_on disk first n u system at)))
+      (λ u at. leaves_as disk disk' first n u (after (its_answer one) u) system at (taken.answered.leaves u (stands_on disk first n u system at)))
+
+  -- the run goes on
+  pub goes_on : ((t : Tree) (s : StandsFor start first t) → AreTold disk start first t s so.answered) → (was : Option (List Operation))
+      → (HasChangedNothing clients items → (disk ≡ start) × (list ≡ was))
+      → (run : IsRunUpTo clients lines (i + 1) more (StandsFor start first)) × (number + 1 ≡ 1 + length run.answered)
+      × ((t : Tree) (s : StandsFor start first t) → LeavesStanding start disk' first t (tree_of (history_of clients more) t) s)
+      × ((t : Tree) (s : StandsFor start first t) → AreTold disk' start first t s run.answered) × (HasChangedNothing clients more → (disk' ≡ start) × (list' ≡ was))
+  goes_on told was untouched = (run_more, number_more, leaves_more, told_then told, untouched_then was untouched)

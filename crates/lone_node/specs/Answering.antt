@@ -1,5 +1,5 @@
 -- A call, answered on a disk.
-use Rattle.std.specs.Prelude.{ℕ, ◌≡◌, ◌≤◌, ◌==◌, ◌↔◌, if◌then◌else◌, Option, IsSome}
+use Rattle.std.specs.Prelude.{ℕ, ◌≡◌, ◌<◌, ◌≤◌, ◌==◌, ◌↔◌, if◌then◌else◌, length, Option, Some, IfSome, IsSome}
 use Rattle.file_tree.specs.Tree.{Tree}
 use Rattle.file_tree.specs.Apply.{Answers}
 use Rattle.file_tree.specs.declared.call.Call.{Call}
@@ -9,13 +9,15 @@ use Rattle.cluster_history.specs.History.{after}
 use Rattle.gfs2_layout.specs.Device.{superblock_place}
 use Rattle.glock_names.specs.Views.{Seen, HasBlock}
 use Rattle.glock_names.specs.declared.steps.Missing.{Missing}
-use Rattle.image_model.specs.Image.{image_of}
-use Rattle.image_changes.specs.Changes.{JournalsStay}
+use Rattle.drafts.specs.declared.change.Change.{Change}
+use Rattle.image_changes.specs.Does.{Does}
 use Rattle.shared_disk.specs.Disk.{DiskState}
-use Rattle.file_calls.specs.Calls.{IsDamage, IsNeededFor, IsUnbuilt}
+use Rattle.file_calls.specs.Calls.{IsDamage, IsHashed, IsNeededFor, IsUnbuilt}
+use Rattle.making_calls.specs.Blocks.{blocks_needed, free_in_all, states_by}
 use Rattle.lone_view.specs.Seeing.{Lone, seen_alone}
 use Rattle.lone_node.specs.declared.answering.Full.{Full}
-use Rattle.lone_node.specs.Standing.{IsOn, IsSameSystem, StandsFor}
+use Rattle.lone_node.specs.Standing.{IsOn, IsSameSystem, LeavesStanding, StandsFor}
+use Rattle.lone_node.specs.Writing.{IsWriteOf, MayBeWritten}
 
 -- it is the same disk, which may hold other bytes
 pub record IsSameDisk (d d' : DiskState) : Type 0 where
@@ -24,30 +26,39 @@ pub record IsSameDisk (d d' : DiskState) : Type 0 where
   pub tells : d'.tells ≡ d.tells
   pub fenced : d'.is_fenced ≡ d.is_fenced
 
--- the call was answered so: where the disk stood for a tree, that tree answers it, and the disk stands for the tree that it leaves, by the
--- same layout, its journals as they were
-pub record IsAnsweredFrom (d d' : DiskState) (n n' : Lone) (call : Call) (reply : Reply) : Type 0 where
+-- the call was answered so: where the disk stood for a tree, that tree answers it, and the disk stands for the tree that it leaves
+pub record IsAnsweredFrom (d d' : DiskState) (n : Lone) (call : Call) (reply : Reply) : Type 0 where
   pub answers : (t : Tree) → StandsFor d n t → Answers call t reply (after (record { call = call; reply = reply }) t)
-  pub stands : (t : Tree) → StandsFor d n t → StandsFor d' n' (after (record { call = call; reply = reply }) t)
-  pub layout : (t : Tree) (s : StandsFor d n t) → (stands t s).layout ≡ s.layout
-  pub journals : (t : Tree) (s : StandsFor d n t) → JournalsStay (image_of d) (image_of d') s.owners (stands t s).owners s.layout
+  pub leaves : (t : Tree) (s : StandsFor d n t) → LeavesStanding d d' n t (after (record { call = call; reply = reply }) t) s
 
--- how many blocks were free is told exactly where there were too few
-abbrev pub IsToldFull : Reply → Option Full → Type 0
-IsToldFull reply full = IsSome full ↔ (reply ≡ replies.NoSpace)
+-- how many blocks were free is told exactly where there were too few: fewer than the call takes
+pub record IsToldFull (reply : Reply) (full : Option Full) : Type 0 where
+  pub exactly : IsSome full ↔ (reply ≡ replies.NoSpace)
+  pub fewer : IfSome full (λ f. f.free < f.need)
+
+-- where the disk stands for a tree: a new name takes so many blocks, and of the node's groups so many data blocks are free
+pub record IsFreeCount (d : DiskState) (n : Lone) (t : Tree) (s : StandsFor d n t) (need free : ℕ) : Type 0 where
+  pub needs : need ≡ blocks_needed
+  pub are : free ≡ length (free_in_all (states_by s.owners) n.groups)
 
 -- ---- why a call isn't answered
 
--- what the node sees by then: it has read more of the disk, and nothing else is otherwise
+-- what the node may have read of the disk by then: blocks as the disk holds them, of the same system
 pub record IsLaterView (d : DiskState) (n n' : Lone) : Type 0 where
   pub same : IsSameSystem n n'
   pub on : IsOn d n'
 
--- it can't be answered yet for what is in this block
-pub record IsUnbuiltOn (d : DiskState) (n : Lone) (call : Call) (b : ℕ) : Type 0 where
+-- it can't be answered yet for the hashed directory in this block
+pub record IsHashedOn (d : DiskState) (n : Lone) (call : Call) (b : ℕ) : Type 0 where
   pub view : Lone
   pub later : IsLaterView d n view
-  pub unbuilt : IsUnbuilt (seen_alone view) call b
+  pub hashed : IsHashed (seen_alone view) call b
+
+-- what it has to do isn't built yet
+pub record IsUnbuiltOn (d : DiskState) (n : Lone) (call : Call) : Type 0 where
+  pub view : Lone
+  pub later : IsLaterView d n view
+  pub unbuilt : IsUnbuilt (seen_alone view) call
 
 -- the block that has the number of a missing one: the superblock's has that of the root, which is asked for by itself
 abbrev pub source_of : ℕ → Missing → ℕ
@@ -63,3 +74,15 @@ pub record IsDamagedOn (d : DiskState) (n : Lone) (call : Call) (b rule : ℕ) :
   pub view : Lone
   pub later : IsLaterView d n view
   pub damaged : IsDamagedFor d (seen_alone view) call b rule
+
+-- The disk failed at the call: in a read of a block that the call needs, and is as it was; or in a write of one of the blocks by which the
+-- call, answered from what is seen, changes it, or (no block) in a barrier behind such writes.
+pub data IsFailedFor (d d' : DiskState) (v : Seen) (call : Call) : Option ℕ → Type 0 where
+  in_a_read : (m : Missing) → IsNeededFor v call m → d' ≡ d → IsFailedFor d d' v call (Some m.block)
+  in_a_write : (block : Option ℕ) (reply : Reply) (change : Change) → Does v call reply change → IsWriteOf change.blocks.items block
+      → MayBeWritten 1 d d' change.blocks.items → IsFailedFor d d' v call block
+
+pub record IsFailedAt (d d' : DiskState) (n : Lone) (call : Call) (block : Option ℕ) : Type 0 where
+  pub view : Lone
+  pub later : IsLaterView d n view
+  pub failed : IsFailedFor d d' (seen_alone view) call block

@@ -1,5 +1,5 @@
 -- Why a run of one node ends before its script does.
-use Rattle.std.specs.Prelude.{ℕ, ⊤, ◌<◌, IfSome, Result, Ok, Err}
+use Rattle.std.specs.Prelude.{ℕ, ⊤, ◌<◌, IfSome, Option, Result, Ok, Err}
 use Rattle.fault_counts.specs.Causes.{WentUp}
 use Rattle.glock_names.specs.declared.steps.CallFault.{CallFault}
 use Rattle.glock_names.specs.declared.steps.CallFault.TheVariants as fault
@@ -16,14 +16,24 @@ abbrev pub FailsAlone : ℕ → ℕ → (before now : ℕ → ℕ) → RunEnd �
 FailsAlone node count before now (end.DiskFailed block rise) = WentUp (before node) (now node) rise.before rise.after × IfSome block (λ b. b < count)
 FailsAlone node count before now e = ⊥
 
+-- a fact for the end at a failed disk: of the block, or that of a barrier
+abbrev pub IfDiskFailed : RunEnd → (Option ℕ → Type 0) → Type 0
+IfDiskFailed (end.DiskFailed block rise) P = P block
+IfDiskFailed e P = ⊤
+
 -- a fact for the end at a block that breaks a rule
 abbrev pub IfDamaged : RunEnd → (ℕ → ℕ → Type 0) → Type 0
 IfDamaged (end.Damaged block rule) P = P block rule
 IfDamaged e P = ⊤
 
--- a fact for the end at a block that isn't read yet
+-- a fact for the end at a hashed directory, of its block
+abbrev pub IfHashed : RunEnd → (ℕ → Type 0) → Type 0
+IfHashed (end.Hashed block) P = P block
+IfHashed e P = ⊤
+
+-- a fact for the end at a call that isn't built, of its line's place
 abbrev pub IfNotBuilt : RunEnd → (ℕ → Type 0) → Type 0
-IfNotBuilt (end.NotBuilt block) P = P block
+IfNotBuilt (end.NotBuilt line) P = P line
 IfNotBuilt e P = ⊤
 
 -- a fact for each end but that of a failed disk

@@ -1,39 +1,31 @@
 -- The items of one node that takes a script's lines one by one.
-use Rattle.std.specs.Prelude.{ℕ, zero, suc, ◌≡◌, ◌+◌, ◌<◌, ⊤, Bool, true, false, List, [], ◌∷◌, ◌++◌, length, map, take, slice_get, Option, None, Some}
+use Rattle.std.specs.Prelude.{ℕ, zero, suc, ◌≡◌, ◌+◌, ⊤, Bool, true, false, List, [], ◌∷◌, ◌++◌, length, map, take, slice_get, Option, None, Some, IfSome}
 use Rattle.std.specs.List.{AllByRecursion, filter}
+use Rattle.file_tree.specs.Apply.{apply}
 use Rattle.file_tree.specs.Tree.{Tree}
 use Rattle.file_tree.specs.declared.call.Call.{Call}
 use Rattle.file_tree.specs.declared.reply.Reply.{Reply}
-use Rattle.cluster_history.specs.History.{Replied, AllAnswer}
-use Rattle.script_lang.specs.OneNode.{HaveOwnClientNames}
+use Rattle.file_tree.specs.declared.reply.Reply.TheVariants as replies
+use Rattle.cluster_history.specs.Changes.{Changes}
+use Rattle.cluster_history.specs.History.{Replied, AllAnswer, after, alive, tree_of}
+use Rattle.run_rules.specs.Follows.{history_of}
 use Rattle.script_lang.specs.Script.{ScriptValue}
 use Rattle.script_lang.specs.declared.script.Client.{Client}
 use Rattle.script_lang.specs.declared.script.Line.{Line}
 use Rattle.script_lang.specs.declared.script.Line.TheVariants as line
 use Rattle.trace_text.specs.declared.item.TraceItem.{TraceItem}
 use Rattle.trace_text.specs.declared.item.TraceItem.TheVariants as trace
-use Rattle.shared_disk.specs.Disk.{DiskState}
-use Rattle.file_calls.specs.Calls.{IsBuilt}
+use Rattle.shared_disk.specs.Disk.{DiskState, IsIdle, Operation}
 use Rattle.lone_view.specs.Seeing.{Lone}
-use Rattle.lone_node.specs.Answering.{IsAnsweredFrom, IsToldFull}
-use Rattle.lone_node.specs.Standing.{StandsFor}
+use Rattle.lone_node.specs.Answering.{IsAnsweredFrom, IsFailedAt, IsFreeCount, IsSameDisk, IsToldFull}
+use Rattle.lone_node.specs.Standing.{LeavesStanding, StandsFor}
 use Rattle.lone_node.specs.declared.answering.Full.{Full}
 
 -- ---- the scripts that one node can run
 
--- a line that one node can take, where there are so many clients: a call of one of them that is built, or a wait
-abbrev pub IsLineOf : ℕ → Line → Type 0
-IsLineOf clients (line.Call client call) = (client < clients) × IsBuilt call
-IsLineOf clients line.Wait = ⊤
-IsLineOf clients _ = ⊥
-
--- a script for node 1 alone, whose clients have names of their own
-pub record IsOwnScript (s : ScriptValue) : Type 0 where
-  pub nodes : s.nodes ≡ 1
-  pub clients : AllByRecursion (λ (c : Client). c.node ≡ 1) s.clients
-  pub names : HaveOwnClientNames s.clients
-  pub armed : s.armed ≡ []
-  pub lines : AllByRecursion (IsLineOf (length s.clients)) s.lines
+-- the script of one node that has these clients and lines
+abbrev pub own_script : List Client → List Line → ScriptValue
+own_script clients lines = record { nodes = 1; clients = clients; armed = []; lines = lines }
 
 -- ---- answered calls and their items
 
@@ -79,7 +71,7 @@ pub record IsRunUpTo (clients : List Client) (lines : List Line) (count : ℕ) (
   pub are : items ≡ trace.Join 1 ∷ items_from clients 1 answered
   pub calls : map its_line answered ≡ filter is_call_line (take count lines)
   pub answers : (t : Tree) → IsStart t → AllAnswer (map its_answer answered) t
-  pub full : (t : Tree) → IsStart t → AllByRecursion (λ (a : AnsweredCall). IsToldFull a.reply a.full) answered
+  pub full : AllByRecursion (λ (a : AnsweredCall). IsToldFull a.reply a.full) answered
 
 -- it has taken all of them, and unmounted
 pub record IsWholeRun (clients : List Client) (lines : List Line) (items : List TraceItem) (IsStart : Tree → Type 0) : Type 0 where
@@ -97,20 +89,55 @@ abbrev pub IsCallThat : (Call → Type 0) → Line → Type 0
 IsCallThat P (line.Call client call) = P call
 IsCallThat P _ = ⊥
 
--- a run that took the first lines ended at the next one: a call, of which this holds
+-- a run that took the lines before this place ended at the line there: a call, of which this holds
+pub record EndsAt (place : ℕ) (P : Call → Type 0) (clients : List Client) (lines : List Line) (items : List TraceItem) (IsStart : Tree → Type 0) : Type 0 where
+  pub taken : IsRunUpTo clients lines place items IsStart
+  pub next : Line
+  pub is_next : slice_get lines place ≡ Some next
+  pub holds : IsCallThat P next
+
+-- it ended so at some line
 pub record EndsAtCall (P : Call → Type 0) (clients : List Client) (lines : List Line) (items : List TraceItem) (IsStart : Tree → Type 0) : Type 0 where
   pub count : ℕ
-  pub taken : IsRunUpTo clients lines count items IsStart
-  pub next : Line
-  pub is_next : slice_get lines count ≡ Some next
-  pub holds : IsCallThat P next
+  pub ends : EndsAt count P clients lines items IsStart
+
+-- behind these items each tree, from each with which the run may have begun, would take the call
+abbrev pub IsTakenBehind : List Client → List TraceItem → (Tree → Type 0) → Call → Type 0
+IsTakenBehind clients items IsStart call = (t : Tree) → IsStart t → (apply call (tree_of (history_of clients items) t)).reply ≡ replies.Ok
+
+-- no call among these items has changed the tree
+abbrev pub HasChangedNothing : List Client → List TraceItem → Type 0
+HasChangedNothing clients items = AllByRecursion (λ (r : Replied). Changes r ≡ false) (alive (history_of clients items))
+
+-- The disk failed at a call, behind these items: before it the disk was at rest, and where it stood for a tree at the start, it stood then
+-- for the tree that they leave; and it was as at the start where they change nothing.
+pub record IsFailedOn (d d' : DiskState) (n : Lone) (clients : List Client) (items : List TraceItem) (call : Call) (block : Option ℕ) : Type 0 where
+  pub before : DiskState
+  pub same : IsSameDisk d before
+  pub idle : IsIdle before
+  pub kept : HasChangedNothing clients items → before ≡ d
+  pub stood : (t : Tree) (s : StandsFor d n t) → LeavesStanding d before n t (tree_of (history_of clients items) t) s
+  pub failed : IsFailedAt before d' n call block
+
+-- ---- how many blocks were free
+
+-- Item by item, of a disk that stood for a tree: each item of free blocks tells how many the disk's image has then, and each call leaves the disk
+-- standing for the tree behind it.
+abbrev pub TellFree : (d : DiskState) (n : Lone) (t : Tree) → StandsFor d n t → List TraceItem → Type 0
+TellFree d n t s [] = ⊤
+TellFree d n t s (trace.Full node need free ∷ is) = IsFreeCount d n t s need free × TellFree d n t s is
+TellFree d n t s (trace.Call node client number call reply ∷ is) = (d' : DiskState) × (it : LeavesStanding d d' n t (after (record { call = call; reply = reply }) t) s)
+    × TellFree d' n (after (record { call = call; reply = reply }) t) it.now is
+TellFree d n t s (_ ∷ is) = TellFree d n t s is
 
 -- ---- one more call
 
 -- node 1 took a call as its call of this number: it was answered so, and its items came behind those before
-pub record IsTakenCall (name : List ℕ) (number : ℕ) (call : Call) (before items : List TraceItem) (d d' : DiskState) (n n' : Lone) : Type 0 where
+pub record IsTakenCall (name : List ℕ) (number : ℕ) (call : Call) (before items : List TraceItem) (d d' : DiskState) (list list' : Option (List Operation)) (n : Lone) : Type 0 where
   pub reply : Reply
   pub full : Option Full
   pub are : items ≡ before ++ (full_item full ++ trace.Call 1 name number call reply ∷ [])
-  pub answered : IsAnsweredFrom d d' n n' call reply
-  pub told : (t : Tree) → StandsFor d n t → IsToldFull reply full
+  pub answered : IsAnsweredFrom d d' n call reply
+  pub untouched : Changes (record { call = call; reply = reply }) ≡ false → (d' ≡ d) × (list' ≡ list)
+  pub told : IsToldFull reply full
+  pub free : (t : Tree) (s : StandsFor d n t) → IfSome full (λ f. IsFreeCount d n t s f.need f.free)

@@ -1,14 +1,17 @@
 // One call, answered on a disk.
-ghost use Rattle.std.specs.Prelude.{ℕ, ◌≡◌, ◌<◌, ◌≤◌, IfOk, IfErr, IfSome, IfNone, OnOk};
+ghost use Rattle.std.specs.Prelude.{ℕ, [], false, ◌≡◌, ◌<◌, ◌≤◌, IfOk, IfErr, IfSome, IfNone, OnOk};
+ghost use Rattle.file_tree.specs.Apply.{apply};
 ghost use Rattle.file_tree.specs.Tree.{Tree};
+ghost use Rattle.file_tree.specs.declared.reply.Reply.TheVariants.{Ok as OkReply};
+ghost use Rattle.cluster_history.specs.Changes.{Changes};
 ghost use Rattle.gfs2_layout.specs.Device.{IsBlockSize};
 ghost use Rattle.shared_disk.specs.Disk.{IsIdle};
-ghost use Rattle.file_calls.specs.Calls.{IsBuilt, IsUnbuilt};
+ghost use Rattle.file_calls.specs.Calls.{IsBuilt, IsHashed, IsUnbuilt};
 ghost use Rattle.lone_view.specs.Seeing.{seen_alone};
-ghost use Rattle.lone_node.specs.Answering.{IsAnsweredFrom, IsDamagedFor, IsDamagedOn, IsSameDisk, IsToldFull, IsUnbuiltOn};
-ghost use Rattle.lone_node.specs.Ends.{HasCause, IfDamaged, IfNotBuilt, UnlessFailed, end_at};
+ghost use Rattle.lone_node.specs.Answering.{IsAnsweredFrom, IsDamagedFor, IsDamagedOn, IsFailedAt, IsFailedFor, IsFreeCount, IsHashedOn, IsSameDisk, IsToldFull, IsUnbuiltOn};
+ghost use Rattle.lone_node.specs.Ends.{HasCause, IfDamaged, IfDiskFailed, IfHashed, IfNotBuilt, UnlessFailed, end_at};
 ghost use Rattle.lone_node.specs.Standing.{IsOn, IsSameSystem, StandsFor, lacked_count};
-ghost use Rattle.lone_node.specs.Writing.{AreOfDisk, AreWritten, with_blocks};
+ghost use Rattle.lone_node.specs.Writing.{AreOfDisk, AreWritten, IsWriteOf, MayBeWritten, with_blocks};
 
 use crate::RunEnd;
 use crate::fetching::fetch;
@@ -56,9 +59,13 @@ fn carry_out<D: SharedDisk>(
     requires size { view.old.size ≡ (D.state disk.old).size }
     requires of_disk { AreOfDisk (D.state disk.old) change.now.blocks.items }
     ensures written { OnOk result (AreWritten (D.state disk.old) (D.state disk.new) change.now.blocks.items) }
+    ensures none { change.now.blocks.items ≡ [] → OnOk result ((D.state disk.new ≡ D.state disk.old) × (D.list disk.new ≡ D.list disk.old)) }
     ensures kept { OnOk result (view.new ≡ record view.old { blocks = with_blocks view.old.blocks change.now.blocks.items }) }
-    ensures before { IfErr result (λ end. UnlessFailed end (D.state disk.new ≡ D.state disk.old)) }
-    ensures built { IfErr result (λ end. IfNotBuilt end (λ b. ⊥)) }
+    ensures before { IfErr result (λ end. UnlessFailed end ((D.state disk.new ≡ D.state disk.old) × (D.list disk.new ≡ D.list disk.old))) }
+    ensures failed { IfErr result (λ end. IfDiskFailed end (IsWriteOf change.now.blocks.items)) }
+    ensures left { IfErr result (λ end. IfDiskFailed end (λ block. MayBeWritten 1 (D.state disk.old) (D.state disk.new) change.now.blocks.items)) }
+    ensures hashed { IfErr result (λ end. IfHashed end (λ b. ⊥)) }
+    ensures built { IfErr result (λ end. IfNotBuilt end (λ line. ⊥)) }
     ensures sound { IfErr result (λ end. IfDamaged end (λ b rule. ⊥)) }
     ensures later { (i : ℕ) → D.faults disk.old i ≤ D.faults disk.new i }
     ensures cause { IfErr result (HasCause 1 (D.state disk.old).count (D.faults disk.old) (D.faults disk.new)) }
@@ -70,12 +77,13 @@ fn carry_out<D: SharedDisk>(
     }
 }
 
-// Tries the call once: it is answered, or a block that it needs is read.
+// Tries the call of this line once: it is answered, or a block that it needs is read.
 fn try_once<D: SharedDisk>(
     alloc: Global,
     disk: &mut D,
     view: &mut LoneView,
     call: &Call,
+    line: usize,
     stamp: &Stamp,
 ) -> Result<Option<Answer>, RunEnd>
     requires idle { IsIdle (D.state disk.old) }
@@ -83,27 +91,32 @@ fn try_once<D: SharedDisk>(
     requires on { IsOn (D.state disk.old) view.old }
     requires node { stamp.now.node ≡ 1 }
     requires built { IsBuilt call.now }
-    ensures answered { IfOk result (λ r. IfSome r (λ a. IsAnsweredFrom (D.state disk.old) (D.state disk.new) view.old view.new call.now a.reply)) }
-    ensures full { IfOk result (λ r. IfSome r (λ a. (t : Tree) → StandsFor (D.state disk.old) view.old t → IsToldFull a.reply a.full)) }
+    ensures answered { IfOk result (λ r. IfSome r (λ a. IsAnsweredFrom (D.state disk.old) (D.state disk.new) view.old call.now a.reply)) }
+    ensures untouched { IfOk result (λ r. IfSome r (λ a. Changes (record { call = call.now; reply = a.reply }) ≡ false → (D.state disk.new ≡ D.state disk.old) × (D.list disk.new ≡ D.list disk.old))) }
+    ensures full { IfOk result (λ r. IfSome r (λ a. IsToldFull a.reply a.full)) }
+    ensures free { IfOk result (λ r. IfSome r (λ a. (t : Tree) (s : StandsFor (D.state disk.old) view.old t) → IfSome a.full (λ f. IsFreeCount (D.state disk.old) view.old t s f.need f.free))) }
     ensures idle { IfOk result (λ r. IsIdle (D.state disk.new)) }
     ensures on { IfOk result (λ r. IsOn (D.state disk.new) view.new) }
     ensures disk { IfOk result (λ r. IsSameDisk (D.state disk.old) (D.state disk.new)) }
     ensures system { IfOk result (λ r. IsSameSystem view.old view.new) }
-    ensures same { IfOk result (λ r. IfNone r (D.state disk.new ≡ D.state disk.old)) }
+    ensures same { IfOk result (λ r. IfNone r ((D.state disk.new ≡ D.state disk.old) × (D.list disk.new ≡ D.list disk.old))) }
     ensures fewer { IfOk result (λ r. IfNone r (lacked_count view.new.blocks (D.state disk.old).count < lacked_count view.old.blocks (D.state disk.old).count)) }
-    ensures before { IfErr result (λ end. UnlessFailed end (D.state disk.new ≡ D.state disk.old)) }
+    ensures before { IfErr result (λ end. UnlessFailed end ((D.state disk.new ≡ D.state disk.old) × (D.list disk.new ≡ D.list disk.old))) }
     ensures sound { IfErr result (λ end. IfDamaged end (λ b rule. (t : Tree) → StandsFor (D.state disk.old) view.old t → ⊥)) }
     ensures damaged { IfErr result (λ end. IfDamaged end (IsDamagedFor (D.state disk.old) (seen_alone view.old) call.now)) }
-    ensures unbuilt { IfErr result (λ end. IfNotBuilt end (IsUnbuilt (seen_alone view.old) call.now)) }
+    ensures hashed { IfErr result (λ end. IfHashed end (IsHashed (seen_alone view.old) call.now)) }
+    ensures unbuilt { IfErr result (λ end. IfNotBuilt end (λ place. (place ≡ line) × IsUnbuilt (seen_alone view.old) call.now)) }
+    ensures taken { IfErr result (λ end. IfNotBuilt end (λ place. (place ≡ line) × ((t : Tree) → StandsFor (D.state disk.old) view.old t → (apply call.now t).reply ≡ OkReply))) }
+    ensures failed { IfErr result (λ end. IfDiskFailed end (IsFailedFor (D.state disk.old) (D.state disk.new) (seen_alone view.old) call.now)) }
     ensures later { (i : ℕ) → D.faults disk.old i ≤ D.faults disk.new i }
     ensures cause { IfErr result (HasCause 1 (D.state disk.old).count (D.faults disk.old) (D.faults disk.new)) }
 {
     other_calls_leave_the_tree();
     match attempt(alloc, &*view, call, stamp) {
-        Ok(Attempt::Done { reply, change }) => {
-            carry_out(disk, view, &change)?;
-            Ok(Some(Answer { reply, full: None }))
-        }
+        Ok(Attempt::Done { reply, change }) => match carry_out(disk, view, &change) {
+            Ok(()) => Ok(Some(Answer { reply, full: None })),
+            Err(end) => Err(end),
+        },
         Ok(Attempt::NeedBlock(missing)) => match fetch(alloc, disk, view, &missing) {
             Ok(()) => Ok(None),
             Err(end) => Err(end),
@@ -112,20 +125,23 @@ fn try_once<D: SharedDisk>(
             reply: Reply::NoSpace,
             full: Some(Full { need, free }),
         })),
-        Ok(Attempt::NotBuilt { block }) => Err(RunEnd::NotBuilt { block }),
+        Ok(Attempt::Hashed { block }) => Err(RunEnd::Hashed { block }),
+        Ok(Attempt::NotBuilt) => Err(RunEnd::NotBuilt { line }),
         Ok(Attempt::NeedLock { .. }) => unreachable!(),
         Err(fault) => Err(end_of(fault)),
     }
 }
 
-/// Answers a call on a disk at rest, as node 1, which holds every lock. What the call needs is read block by block, each once; what it
-/// changes is in the view and on the disk when it is answered. Where the run ends here and the disk didn't fail, the disk is
-/// as it was. It costs a read for each block that the view hasn't, a try of the call for each of these and one more, and the writes.
+/// Answers the call of this line on a disk at rest, as node 1, which holds every lock. What the call needs is read block by block,
+/// each once; what it changes is in the view and on the disk when it is answered, and where it changes nothing, nothing is written.
+/// Where the run ends here and no write or barrier failed, the disk is as it was. It costs a read for each block that the view
+/// hasn't, a try of the call for each of these and one more, and the writes.
 pub(crate) fn answer_call<D: SharedDisk>(
     alloc: Global,
     disk: &mut D,
     view: &mut LoneView,
     call: &Call,
+    line: usize,
     stamp: &Stamp,
 ) -> Result<Answer, RunEnd>
     requires idle { IsIdle (D.state disk.old) }
@@ -133,21 +149,26 @@ pub(crate) fn answer_call<D: SharedDisk>(
     requires on { IsOn (D.state disk.old) view.old }
     requires node { stamp.now.node ≡ 1 }
     requires built { IsBuilt call.now }
-    ensures answered { IfOk result (λ a. IsAnsweredFrom (D.state disk.old) (D.state disk.new) view.old view.new call.now a.reply) }
-    ensures full { IfOk result (λ a. (t : Tree) → StandsFor (D.state disk.old) view.old t → IsToldFull a.reply a.full) }
+    ensures answered { IfOk result (λ a. IsAnsweredFrom (D.state disk.old) (D.state disk.new) view.old call.now a.reply) }
+    ensures untouched { IfOk result (λ a. Changes (record { call = call.now; reply = a.reply }) ≡ false → (D.state disk.new ≡ D.state disk.old) × (D.list disk.new ≡ D.list disk.old)) }
+    ensures full { IfOk result (λ a. IsToldFull a.reply a.full) }
+    ensures free { IfOk result (λ a. (t : Tree) (s : StandsFor (D.state disk.old) view.old t) → IfSome a.full (λ f. IsFreeCount (D.state disk.old) view.old t s f.need f.free)) }
     ensures idle { IfOk result (λ a. IsIdle (D.state disk.new)) }
     ensures on { IfOk result (λ a. IsOn (D.state disk.new) view.new) }
     ensures disk { IfOk result (λ a. IsSameDisk (D.state disk.old) (D.state disk.new)) }
     ensures system { IfOk result (λ a. IsSameSystem view.old view.new) }
-    ensures before { IfErr result (λ end. UnlessFailed end (D.state disk.new ≡ D.state disk.old)) }
+    ensures before { IfErr result (λ end. UnlessFailed end ((D.state disk.new ≡ D.state disk.old) × (D.list disk.new ≡ D.list disk.old))) }
     ensures sound { IfErr result (λ end. IfDamaged end (λ b rule. (t : Tree) → StandsFor (D.state disk.old) view.old t → ⊥)) }
     ensures damaged { IfErr result (λ end. IfDamaged end (IsDamagedOn (D.state disk.old) view.old call.now)) }
-    ensures unbuilt { IfErr result (λ end. IfNotBuilt end (IsUnbuiltOn (D.state disk.old) view.old call.now)) }
+    ensures hashed { IfErr result (λ end. IfHashed end (IsHashedOn (D.state disk.old) view.old call.now)) }
+    ensures unbuilt { IfErr result (λ end. IfNotBuilt end (λ place. (place ≡ line) × IsUnbuiltOn (D.state disk.old) view.old call.now)) }
+    ensures taken { IfErr result (λ end. IfNotBuilt end (λ place. (place ≡ line) × ((t : Tree) → StandsFor (D.state disk.old) view.old t → (apply call.now t).reply ≡ OkReply))) }
+    ensures failed { IfErr result (λ end. IfDiskFailed end (IsFailedAt (D.state disk.old) (D.state disk.new) view.old call.now)) }
     ensures later { (i : ℕ) → D.faults disk.old i ≤ D.faults disk.new i }
     ensures cause { IfErr result (HasCause 1 (D.state disk.old).count (D.faults disk.old) (D.faults disk.new)) }
 {
     loop {
-        match try_once(alloc, disk, view, call, stamp) {
+        match try_once(alloc, disk, view, call, line, stamp) {
             Ok(Some(found)) => return Ok(found),
             Ok(None) => {}
             Err(end) => return Err(end),

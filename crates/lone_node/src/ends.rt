@@ -9,8 +9,10 @@ pub enum RunEnd {
     DiskFailed { block: Option<u64>, rise: Rise },
     /// This block breaks this rule.
     Damaged { block: u64, rule: u16 },
-    /// What is in this block isn't read yet.
-    NotBuilt { block: u64 },
+    /// The dinode in this block is that of a hashed directory, which isn't read yet.
+    Hashed { block: u64 },
+    /// The call of this line, by its place from 0, would be taken, and what it has to do isn't built yet.
+    NotBuilt { line: usize },
     NoMemory,
 }
 

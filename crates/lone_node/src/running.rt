@@ -2,17 +2,20 @@
 ghost use Rattle.std.specs.Prelude.{ℕ, List, [], ◌∷◌, ◌++◌, ◌≡◌, ◌+◌, ◌<◌, ◌≤◌, length, OnOk, OnErr, IfErr};
 ghost use Rattle.std.specs.List.{AllByRecursion};
 ghost use Rattle.std.specs.Vec.{vec_len, vec_capacity};
+ghost use Rattle.file_tree.specs.Apply.{apply};
 ghost use Rattle.file_tree.specs.Tree.{Tree};
+ghost use Rattle.file_tree.specs.declared.reply.Reply.TheVariants.{Ok as OkReply};
 ghost use Rattle.cluster_history.specs.History.{Legal, NoneLost, tree_of};
 ghost use Rattle.gfs2_layout.specs.Device.{IsBlockSize};
 ghost use Rattle.run_rules.specs.Follows.{history_of};
 ghost use Rattle.run_rules.specs.History.{HoldsHistory, NoneStopped, AllAnswered};
 ghost use Rattle.shared_disk.specs.Disk.{IsIdle};
 ghost use Rattle.file_calls.specs.Calls.{IsBuilt};
-ghost use Rattle.lone_node.specs.Answering.{IsDamagedOn, IsSameDisk, IsUnbuiltOn};
-ghost use Rattle.lone_node.specs.Ends.{HasCause, IfDamaged, IfNotBuilt, UnlessDiskFailed, UnlessFailed};
-ghost use Rattle.lone_node.specs.Run.{EndsAtCall, IsLineOf, IsOwnScript, IsRunOf, IsRunUpTo, IsTakenCall, IsWholeRun, full_item};
-ghost use Rattle.lone_node.specs.Standing.{IsOn, IsSameSystem, StandsFor};
+ghost use Rattle.script_lang.specs.OneNode.{IsOneNode, IsOwnLine};
+ghost use Rattle.lone_node.specs.Answering.{IsDamagedOn, IsFailedAt, IsHashedOn, IsSameDisk, IsUnbuiltOn};
+ghost use Rattle.lone_node.specs.Ends.{HasCause, IfDamaged, IfDiskFailed, IfHashed, IfNotBuilt, UnlessDiskFailed, UnlessFailed};
+ghost use Rattle.lone_node.specs.Run.{EndsAt, EndsAtCall, HasChangedNothing, IsFailedOn, IsRunOf, IsRunUpTo, IsTakenBehind, IsTakenCall, IsWholeRun, TellFree, full_item};
+ghost use Rattle.lone_node.specs.Standing.{IsOn, IsSameSystem, LeavesStanding, StandsFor};
 
 use crate::RunEnd;
 use crate::answering::{Answer, Full, answer_call};
@@ -80,7 +83,7 @@ fn put_item(items: &mut Vec<TraceItem>, item: TraceItem) -> Result<(), NoMemory>
     Ok(())
 }
 
-// Answers a client's call as node 1's of this number. The room for its items is there before.
+// Answers a client's call, at this line, as node 1's of this number. The room for its items is there before.
 fn take_call<D: SharedDisk>(
     alloc: Global,
     disk: &mut D,
@@ -88,6 +91,7 @@ fn take_call<D: SharedDisk>(
     client: &Name,
     number: u64,
     call: &Call,
+    line: usize,
     stamp: &Stamp,
     items: &mut Vec<TraceItem>,
 ) -> Result<(), RunEnd>
@@ -96,23 +100,26 @@ fn take_call<D: SharedDisk>(
     requires on { IsOn (D.state disk.old) view.old }
     requires node { stamp.now.node ≡ 1 }
     requires built { IsBuilt call.now }
-    ensures taken { OnOk result (IsTakenCall client.now number call.now items.old.items items.new.items (D.state disk.old) (D.state disk.new) view.old view.new) }
+    ensures taken { OnOk result (IsTakenCall client.now number call.now items.old.items items.new.items (D.state disk.old) (D.state disk.new) (D.list disk.old) (D.list disk.new) view.old) }
     ensures kept { OnErr result (items.new.items ≡ items.old.items) }
     ensures idle { OnOk result (IsIdle (D.state disk.new)) }
     ensures on { OnOk result (IsOn (D.state disk.new) view.new) }
     ensures disk { OnOk result (IsSameDisk (D.state disk.old) (D.state disk.new)) }
     ensures system { OnOk result (IsSameSystem view.old view.new) }
-    ensures before { IfErr result (λ end. UnlessFailed end (D.state disk.new ≡ D.state disk.old)) }
+    ensures before { IfErr result (λ end. UnlessFailed end ((D.state disk.new ≡ D.state disk.old) × (D.list disk.new ≡ D.list disk.old))) }
     ensures sound { IfErr result (λ end. IfDamaged end (λ b rule. (t : Tree) → StandsFor (D.state disk.old) view.old t → ⊥)) }
     ensures damaged { IfErr result (λ end. IfDamaged end (IsDamagedOn (D.state disk.old) view.old call.now)) }
-    ensures unbuilt { IfErr result (λ end. IfNotBuilt end (IsUnbuiltOn (D.state disk.old) view.old call.now)) }
+    ensures hashed { IfErr result (λ end. IfHashed end (IsHashedOn (D.state disk.old) view.old call.now)) }
+    ensures unbuilt { IfErr result (λ end. IfNotBuilt end (λ place. (place ≡ line) × IsUnbuiltOn (D.state disk.old) view.old call.now)) }
+    ensures accepted { IfErr result (λ end. IfNotBuilt end (λ place. (place ≡ line) × ((t : Tree) → StandsFor (D.state disk.old) view.old t → (apply call.now t).reply ≡ OkReply))) }
+    ensures failed { IfErr result (λ end. IfDiskFailed end (IsFailedAt (D.state disk.old) (D.state disk.new) view.old call.now)) }
     ensures later { (i : ℕ) → D.faults disk.old i ≤ D.faults disk.new i }
     ensures cause { IfErr result (HasCause 1 (D.state disk.old).count (D.faults disk.old) (D.faults disk.new)) }
 {
     let its_client = client.copy()?;
     let its_call = call.copy()?;
     items.reserve(2)?;
-    match answer_call(alloc, disk, view, call, stamp) {
+    match answer_call(alloc, disk, view, call, line, stamp) {
         Ok(answer) => {
             put_answer(items, its_client, number, its_call, answer);
             Ok(())
@@ -135,28 +142,33 @@ fn take_lines<D: SharedDisk>(
     requires size { IsBlockSize (D.state disk.old).size }
     requires on { IsOn (D.state disk.old) view.old }
     requires node { stamp.now.node ≡ 1 }
-    requires form { AllByRecursion (IsLineOf (length clients.now)) lines.now }
+    requires form { AllByRecursion (IsOwnLine (length clients.now)) lines.now }
     requires joined { items.old.items ≡ TraceItem.Join 1 ∷ [] }
     ensures run { (count : ℕ) × IsRunUpTo clients.now lines.now count items.new.items (StandsFor (D.state disk.old) view.old) }
+    ensures free { (t : Tree) (s : StandsFor (D.state disk.old) view.old t) → TellFree (D.state disk.old) view.old t s items.new.items }
     ensures whole { OnOk result (IsRunUpTo clients.now lines.now (length lines.now) items.new.items (StandsFor (D.state disk.old) view.old)) }
-    ensures stands { UnlessDiskFailed result ((t : Tree) → StandsFor (D.state disk.old) view.old t → StandsFor (D.state disk.new) view.old (tree_of (history_of clients.now items.new.items) t)) }
+    ensures stands { UnlessDiskFailed result ((t : Tree) (s : StandsFor (D.state disk.old) view.old t) → LeavesStanding (D.state disk.old) (D.state disk.new) view.old t (tree_of (history_of clients.now items.new.items) t) s) }
+    ensures untouched { UnlessDiskFailed result (HasChangedNothing clients.now items.new.items → (D.state disk.new ≡ D.state disk.old) × (D.list disk.new ≡ D.list disk.old)) }
     ensures idle { UnlessDiskFailed result (IsIdle (D.state disk.new)) }
     ensures disk { UnlessDiskFailed result (IsSameDisk (D.state disk.old) (D.state disk.new)) }
     ensures on { OnOk result (IsOn (D.state disk.new) view.new) }
     ensures system { OnOk result (IsSameSystem view.old view.new) }
     ensures sound { IfErr result (λ end. IfDamaged end (λ b rule. (t : Tree) → StandsFor (D.state disk.old) view.old t → ⊥)) }
     ensures damaged { IfErr result (λ end. IfDamaged end (λ b rule. EndsAtCall (λ call. IsDamagedOn (D.state disk.new) view.old call b rule) clients.now lines.now items.new.items (StandsFor (D.state disk.old) view.old))) }
-    ensures unbuilt { IfErr result (λ end. IfNotBuilt end (λ b. EndsAtCall (λ call. IsUnbuiltOn (D.state disk.new) view.old call b) clients.now lines.now items.new.items (StandsFor (D.state disk.old) view.old))) }
+    ensures hashed { IfErr result (λ end. IfHashed end (λ b. EndsAtCall (λ call. IsHashedOn (D.state disk.new) view.old call b) clients.now lines.now items.new.items (StandsFor (D.state disk.old) view.old))) }
+    ensures unbuilt { IfErr result (λ end. IfNotBuilt end (λ line. EndsAt line (λ call. IsUnbuiltOn (D.state disk.new) view.old call) clients.now lines.now items.new.items (StandsFor (D.state disk.old) view.old))) }
+    ensures taken { IfErr result (λ end. IfNotBuilt end (λ line. EndsAt line (IsTakenBehind clients.now items.new.items (StandsFor (D.state disk.old) view.old)) clients.now lines.now items.new.items (StandsFor (D.state disk.old) view.old))) }
+    ensures failed { IfErr result (λ end. IfDiskFailed end (λ block. EndsAtCall (λ call. IsFailedOn (D.state disk.old) (D.state disk.new) view.old clients.now items.new.items call block) clients.now lines.now items.new.items (StandsFor (D.state disk.old) view.old))) }
     ensures later { (i : ℕ) → D.faults disk.old i ≤ D.faults disk.new i }
     ensures cause { IfErr result (HasCause 1 (D.state disk.old).count (D.faults disk.old) (D.faults disk.new)) }
 {
     let mut number = 1;
-    for line in lines {
+    for (place, line) in lines.iter().enumerate() {
         let Line::Call { client, call } = line else {
             continue;
         };
         let name = &clients[*client as usize].name;
-        match take_call(alloc, disk, view, name, number, call, stamp, items) {
+        match take_call(alloc, disk, view, name, number, call, place, stamp, items) {
             Ok(()) => {}
             Err(end) => return Err(end),
         }
@@ -179,22 +191,30 @@ fn run_lines<D: SharedDisk>(
     requires size { IsBlockSize (D.state disk.old).size }
     requires on { IsOn (D.state disk.old) view.old }
     requires node { stamp.now.node ≡ 1 }
-    requires form { AllByRecursion (IsLineOf (length clients.now)) lines.now }
+    requires form { AllByRecursion (IsOwnLine (length clients.now)) lines.now }
     requires none { items.old.items ≡ [] }
     ensures run { IsRunOf clients.now lines.now items.new.items (StandsFor (D.state disk.old) view.old) }
+    ensures free { (t : Tree) (s : StandsFor (D.state disk.old) view.old t) → TellFree (D.state disk.old) view.old t s items.new.items }
     ensures whole { OnOk result (IsWholeRun clients.now lines.now items.new.items (StandsFor (D.state disk.old) view.old)) }
-    ensures stands { UnlessDiskFailed result ((t : Tree) → StandsFor (D.state disk.old) view.old t → StandsFor (D.state disk.new) view.old (tree_of (history_of clients.now items.new.items) t)) }
+    ensures stands { UnlessDiskFailed result ((t : Tree) (s : StandsFor (D.state disk.old) view.old t) → LeavesStanding (D.state disk.old) (D.state disk.new) view.old t (tree_of (history_of clients.now items.new.items) t) s) }
+    ensures untouched { UnlessDiskFailed result (HasChangedNothing clients.now items.new.items → (D.state disk.new ≡ D.state disk.old) × (D.list disk.new ≡ D.list disk.old)) }
     ensures idle { UnlessDiskFailed result (IsIdle (D.state disk.new)) }
     ensures disk { UnlessDiskFailed result (IsSameDisk (D.state disk.old) (D.state disk.new)) }
     ensures on { OnOk result (IsOn (D.state disk.new) view.new) }
     ensures system { OnOk result (IsSameSystem view.old view.new) }
     ensures sound { IfErr result (λ end. IfDamaged end (λ b rule. (t : Tree) → StandsFor (D.state disk.old) view.old t → ⊥)) }
     ensures damaged { IfErr result (λ end. IfDamaged end (λ b rule. EndsAtCall (λ call. IsDamagedOn (D.state disk.new) view.old call b rule) clients.now lines.now items.new.items (StandsFor (D.state disk.old) view.old))) }
-    ensures unbuilt { IfErr result (λ end. IfNotBuilt end (λ b. EndsAtCall (λ call. IsUnbuiltOn (D.state disk.new) view.old call b) clients.now lines.now items.new.items (StandsFor (D.state disk.old) view.old))) }
+    ensures hashed { IfErr result (λ end. IfHashed end (λ b. EndsAtCall (λ call. IsHashedOn (D.state disk.new) view.old call b) clients.now lines.now items.new.items (StandsFor (D.state disk.old) view.old))) }
+    ensures unbuilt { IfErr result (λ end. IfNotBuilt end (λ line. EndsAt line (λ call. IsUnbuiltOn (D.state disk.new) view.old call) clients.now lines.now items.new.items (StandsFor (D.state disk.old) view.old))) }
+    ensures taken { IfErr result (λ end. IfNotBuilt end (λ line. EndsAt line (IsTakenBehind clients.now items.new.items (StandsFor (D.state disk.old) view.old)) clients.now lines.now items.new.items (StandsFor (D.state disk.old) view.old))) }
+    ensures failed { IfErr result (λ end. IfDiskFailed end (λ block. EndsAtCall (λ call. IsFailedOn (D.state disk.old) (D.state disk.new) view.old clients.now items.new.items call block) clients.now lines.now items.new.items (StandsFor (D.state disk.old) view.old))) }
     ensures later { (i : ℕ) → D.faults disk.old i ≤ D.faults disk.new i }
     ensures cause { IfErr result (HasCause 1 (D.state disk.old).count (D.faults disk.old) (D.faults disk.new)) }
 {
-    put_item(items, TraceItem::Join { node: 1 })?;
+    match put_item(items, TraceItem::Join { node: 1 }) {
+        Ok(()) => {}
+        Err(_) => return Err(RunEnd::NoMemory),
+    }
     match take_lines(alloc, disk, view, clients, lines, stamp, items) {
         Ok(()) => {}
         Err(end) => return Err(end),
@@ -205,11 +225,11 @@ fn run_lines<D: SharedDisk>(
     }
 }
 
-/// Runs a script that one node can run, on a disk at rest that it has mounted: node 1 joins, takes the lines in order, and unmounts. A
-/// call is answered as the call of the next number, from 1 on over all clients, and what it changes is on the disk when it is answered;
-/// a wait passes. `time` is the time of each change, in seconds. The items go behind `items`, which is empty. Where the run ends before
-/// the script, the items so far stay, and the disk holds what their calls left, unless it failed. It costs what the calls cost, and
-/// memory for the items.
+/// Runs a script that one node can run, on a disk at rest that it has mounted: node 1 joins, takes the lines in order, and
+/// unmounts. A call is answered as the call of the next number, from 1 on over all clients, and what it changes is on the disk when
+/// it is answered; a wait passes. Where no call changes anything, nothing is written. `time` is the time of each change, in
+/// seconds. The items go behind `items`, which is empty. Where the run ends before the script, the items so far stay, and the disk
+/// holds what their calls left, unless it failed. It costs what the calls cost, and memory for the items.
 pub fn run_script<D: SharedDisk>(
     alloc: Global,
     disk: &mut D,
@@ -221,23 +241,28 @@ pub fn run_script<D: SharedDisk>(
     requires idle { IsIdle (D.state disk.old) }
     requires size { IsBlockSize (D.state disk.old).size }
     requires on { IsOn (D.state disk.old) view.old }
-    requires form { IsOwnScript script.now }
+    requires form { IsOneNode script.now }
     requires none { items.old.items ≡ [] }
     ensures history { HoldsHistory script.now items.new.items }
     ensures legal { (t : Tree) → StandsFor (D.state disk.old) view.old t → Legal (history_of script.now.clients items.new.items) t }
-    ensures stands { UnlessDiskFailed result ((t : Tree) → StandsFor (D.state disk.old) view.old t → StandsFor (D.state disk.new) view.old (tree_of (history_of script.now.clients items.new.items) t)) }
+    ensures stands { UnlessDiskFailed result ((t : Tree) (s : StandsFor (D.state disk.old) view.old t) → LeavesStanding (D.state disk.old) (D.state disk.new) view.old t (tree_of (history_of script.now.clients items.new.items) t) s) }
     ensures run { IsRunOf script.now.clients script.now.lines items.new.items (StandsFor (D.state disk.old) view.old) }
+    ensures free { (t : Tree) (s : StandsFor (D.state disk.old) view.old t) → TellFree (D.state disk.old) view.old t s items.new.items }
     ensures whole { OnOk result (IsWholeRun script.now.clients script.now.lines items.new.items (StandsFor (D.state disk.old) view.old)) }
     ensures members { NoneStopped items.new.items }
     ensures none_lost { NoneLost (history_of script.now.clients items.new.items) }
     ensures answered { OnOk result (AllAnswered items.new.items script.now) }
+    ensures untouched { UnlessDiskFailed result (HasChangedNothing script.now.clients items.new.items → (D.state disk.new ≡ D.state disk.old) × (D.list disk.new ≡ D.list disk.old)) }
     ensures idle { UnlessDiskFailed result (IsIdle (D.state disk.new)) }
     ensures disk { UnlessDiskFailed result (IsSameDisk (D.state disk.old) (D.state disk.new)) }
     ensures on { OnOk result (IsOn (D.state disk.new) view.new) }
     ensures system { OnOk result (IsSameSystem view.old view.new) }
     ensures sound { IfErr result (λ end. IfDamaged end (λ b rule. (t : Tree) → StandsFor (D.state disk.old) view.old t → ⊥)) }
     ensures damaged { IfErr result (λ end. IfDamaged end (λ b rule. EndsAtCall (λ call. IsDamagedOn (D.state disk.new) view.old call b rule) script.now.clients script.now.lines items.new.items (StandsFor (D.state disk.old) view.old))) }
-    ensures unbuilt { IfErr result (λ end. IfNotBuilt end (λ b. EndsAtCall (λ call. IsUnbuiltOn (D.state disk.new) view.old call b) script.now.clients script.now.lines items.new.items (StandsFor (D.state disk.old) view.old))) }
+    ensures hashed { IfErr result (λ end. IfHashed end (λ b. EndsAtCall (λ call. IsHashedOn (D.state disk.new) view.old call b) script.now.clients script.now.lines items.new.items (StandsFor (D.state disk.old) view.old))) }
+    ensures unbuilt { IfErr result (λ end. IfNotBuilt end (λ line. EndsAt line (λ call. IsUnbuiltOn (D.state disk.new) view.old call) script.now.clients script.now.lines items.new.items (StandsFor (D.state disk.old) view.old))) }
+    ensures taken { IfErr result (λ end. IfNotBuilt end (λ line. EndsAt line (IsTakenBehind script.now.clients items.new.items (StandsFor (D.state disk.old) view.old)) script.now.clients script.now.lines items.new.items (StandsFor (D.state disk.old) view.old))) }
+    ensures failed { IfErr result (λ end. IfDiskFailed end (λ block. EndsAtCall (λ call. IsFailedOn (D.state disk.old) (D.state disk.new) view.old script.now.clients items.new.items call block) script.now.clients script.now.lines items.new.items (StandsFor (D.state disk.old) view.old))) }
     ensures later { (i : ℕ) → D.faults disk.old i ≤ D.faults disk.new i }
     ensures cause { IfErr result (HasCause 1 (D.state disk.old).count (D.faults disk.old) (D.faults disk.new)) }
 {

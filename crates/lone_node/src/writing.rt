@@ -3,8 +3,8 @@ ghost use Rattle.std.specs.Prelude.{ℕ, List, [], ◌≡◌, ◌<◌, ◌≤◌
 ghost use Rattle.std.specs.List.{AllByRecursion};
 ghost use Rattle.shared_disk.specs.Disk.{IsIdle};
 ghost use Rattle.drafts.specs.declared.change.Written.{Written};
-ghost use Rattle.lone_node.specs.Ends.{FailsAlone};
-ghost use Rattle.lone_node.specs.Writing.{AreInFlight, AreOfDisk, AreWritten, flights_of, with_blocks};
+ghost use Rattle.lone_node.specs.Ends.{FailsAlone, IfDiskFailed};
+ghost use Rattle.lone_node.specs.Writing.{AreInFlight, AreOfDisk, AreWritten, ArePartlyInFlight, IsWriteOf, MayBeWritten, flights_of, with_blocks};
 
 use crate::RunEnd;
 use drafts::Written;
@@ -43,6 +43,8 @@ fn put_in_flight<D: SharedDisk>(disk: &mut D, blocks: &[Written]) -> Result<(), 
     requires few { length blocks.now ≤ 512 }
     requires of_disk { AreOfDisk (D.state disk.old) blocks.now }
     ensures flies { OnOk result (AreInFlight 1 (D.state disk.old) (D.state disk.new) (flights_of blocks.now)) }
+    ensures left { OnErr result (ArePartlyInFlight 1 (D.state disk.old) (D.state disk.new) blocks.now) }
+    ensures failed { IfErr result (λ end. IfDiskFailed end (IsWriteOf blocks.now)) }
     ensures later { (i : ℕ) → D.faults disk.old i ≤ D.faults disk.new i }
     ensures cause { IfErr result (FailsAlone 1 (D.state disk.old).count (D.faults disk.old) (D.faults disk.new)) }
 {
@@ -59,9 +61,12 @@ fn put_in_flight<D: SharedDisk>(disk: &mut D, blocks: &[Written]) -> Result<(), 
 // Puts these blocks on the disk, as node 1, and waits for them there.
 fn write_some<D: SharedDisk>(disk: &mut D, blocks: &[Written]) -> Result<(), RunEnd>
     requires idle { IsIdle (D.state disk.old) }
+    requires some { 1 ≤ length blocks.now }
     requires few { length blocks.now ≤ 512 }
     requires of_disk { AreOfDisk (D.state disk.old) blocks.now }
     ensures written { OnOk result (AreWritten (D.state disk.old) (D.state disk.new) blocks.now) }
+    ensures left { OnErr result (ArePartlyInFlight 1 (D.state disk.old) (D.state disk.new) blocks.now) }
+    ensures failed { IfErr result (λ end. IfDiskFailed end (IsWriteOf blocks.now)) }
     ensures later { (i : ℕ) → D.faults disk.old i ≤ D.faults disk.new i }
     ensures cause { IfErr result (FailsAlone 1 (D.state disk.old).count (D.faults disk.old) (D.faults disk.new)) }
 {
@@ -74,18 +79,24 @@ fn write_some<D: SharedDisk>(disk: &mut D, blocks: &[Written]) -> Result<(), Run
 }
 
 /// Puts these blocks on the disk, as node 1, and waits for them there: at once, as many as may be in flight at once, and none
-/// where none is changed.
+/// where none is changed. Where the disk fails, each of these blocks is as it was or as it is written, and some may be in flight.
 pub(crate) fn write_all<D: SharedDisk>(disk: &mut D, blocks: &[Written]) -> Result<(), RunEnd>
     requires idle { IsIdle (D.state disk.old) }
     requires of_disk { AreOfDisk (D.state disk.old) blocks.now }
     ensures written { OnOk result (AreWritten (D.state disk.old) (D.state disk.new) blocks.now) }
+    ensures none { blocks.now ≡ [] → OnOk result ((D.state disk.new ≡ D.state disk.old) × (D.list disk.new ≡ D.list disk.old)) }
+    ensures left { OnErr result (MayBeWritten 1 (D.state disk.old) (D.state disk.new) blocks.now) }
+    ensures failed { IfErr result (λ end. IfDiskFailed end (IsWriteOf blocks.now)) }
     ensures later { (i : ℕ) → D.faults disk.old i ≤ D.faults disk.new i }
     ensures cause { IfErr result (FailsAlone 1 (D.state disk.old).count (D.faults disk.old) (D.faults disk.new)) }
 {
     let mut rest = blocks;
     while !rest.is_empty() {
         let (some, later) = rest.split_at(rest.len().min(512));
-        write_some(disk, some)?;
+        match write_some(disk, some) {
+            Ok(()) => {}
+            Err(end) => return Err(end),
+        }
         rest = later;
     }
     Ok(())

@@ -11,6 +11,7 @@ use Rattle.drafts.specs.Fates.{AreWhole, Drafted, block_with, seen_in, seen_with
 use Rattle.drafts.specs.declared.change.Change.{Change}
 use Rattle.drafts.specs.declared.fate.Fate.{Fate}
 use Rattle.drafts.specs.declared.fate.Fate.TheVariants.{Put}
+use Rattle.gfs2_layout.specs.Groups.{uncounted}
 use Rattle.gfs2_layout.specs.Holding.{Holding, alone}
 use Rattle.gfs2_layout.specs.Inode.{Head, IsInode, head_of}
 use Rattle.gfs2_layout.specs.declared.dinode.Dinode.{Dinode}
@@ -22,8 +23,8 @@ use Rattle.dinode_tree.specs.Reading.{inode_lock}
 use Rattle.linear_dirs.specs.Shown.{record_for}
 use Rattle.new_inodes.specs.New.{IsInodePut}
 use Rattle.resource_groups.specs.Numbering.{IsNumberPut}
-use Rattle.resource_groups.specs.Putting.{HasDataBlock, IsPutIn, overlaid}
-use Rattle.resource_groups.specs.Shown.{IsDataOf, group_lock, said}
+use Rattle.resource_groups.specs.Putting.{HasDataBlock, IsPutIn, overlaid, seen_or}
+use Rattle.resource_groups.specs.Shown.{IsDataOf, IsHeaderOf, group_lock, said}
 use Rattle.resource_groups.specs.Shown as group
 use Rattle.resource_groups.proofs.Apart.{no_header_data}
 use Rattle.resource_groups.proofs.Fits.{fit_of}
@@ -40,11 +41,12 @@ use Rattle.image_changes.proofs.Inside.{stay_inside}
 use Rattle.draft_changes.specs.Adding.{AddsName, ReadsNew}
 use Rattle.draft_changes.proofs.Views.{groups_are_listed}
 use Rattle.path_walks.specs.declared.walk.Place.{Place}
-use Rattle.making_calls.specs.Drafting.{IsAddition, IsNewOf, IsNumbered, IsPlaceFor, IsPutUnder, of_directory, of_group, of_inode, IsRecordPut, IsSaidAndDone, PutsUnder, kind_for, new_tree}
+use Rattle.making_calls.specs.Drafting.{CountsNumber, IsAddition, IsNewOf, IsNumbered, IsPlaceFor, IsPutUnder, of_directory, of_group, of_inode, IsRecordPut, IsSaidAndDone, PutsUnder, kind_for, new_tree}
 use Rattle.making_calls.specs.declared.blocks.Room.{Room}
 use Rattle.making_calls.proofs.Chain.{AreSteps, adds_name}
 use Rattle.making_calls.proofs.NewInodes.{directory_reads, directory_record, file_reads, file_record}
 use Rattle.making_calls.proofs.Numbered.{unchanged}
+use Rattle.making_calls.proofs.Over.{header_same, later_shown, now}
 use Rattle.making_calls.proofs.Recording.{put_elsewhere, put_there}
 
 -- a view of a draft knows what was put whole
@@ -210,6 +212,21 @@ module _ (v : Seen) (is_directory : Bool) (p : Place) (name : List ℕ) (r : Roo
     no_part : {g : Group} {b : ℕ} → IsDataOf g b → HasGroup v g → b ≢ r.group.addr + is.said.part
     no_part {g} {b} own of same = no_header_data v shows r.group g has of b (record { low = omega (arith, same); high = omega (arith, same, is.said.within) }) own
 
+    -- the group's header blocks stay while the directory and the new inode are put
+    header_stays : (b : ℕ) → IsHeaderOf r.group b → get is.fourth b ≡ get is.first b
+    header_stays b own =
+        of_fourth b (λ same. no_header_data v shows r.group r.group has has b own (subst (IsDataOf r.group) (sym same) data_block))
+        ∙ of_third b (λ same. no_header_data v shows r.group inside.0 has inside.1 b own (subst (IsDataOf inside.0) (sym same) inside.2))
+
+    counted : (at at' : ℕ → List ℕ) → group.IsShown v r.group at → at' r.group.addr ≡ is.said.header → CountsNumber at at' r.group is.number
+    counted at at' shown now_there =
+        let numbered = overlaid (seen_with v is.first) at in
+        let last = overlaid (seen_with v is.said.fates) numbered in
+        let last_there : last r.group.addr ≡ is.said.header = ap (λ f. seen_or (block_with f (v.block_at r.group.addr)) (numbered r.group.addr)) is.said.header_put in
+        let shown4 = later_shown v r.group is.number is.first is.numbered shows has p.inode inside is.fourth header_stays is.view at shown in
+        ap uncounted (header_same at' last r.group (fit_of v r.group shows has).some (now_there ∙ sym last_there))
+        ∙ (is.said.says numbered shown4).put.others ∙ ap uncounted (is.numbered.numbered at shown).header
+
     pub addition_is : IsAddition v is_directory p name r time change
     addition_is = record {
       fates = is.said.fates;
@@ -220,6 +237,9 @@ module _ (v : Seen) (is_directory : Bool) (p : Place) (name : List ℕ) (r : Roo
       inside = insides shows has inside data_block;
       number = is.number;
       next = is.numbered.next;
+      header = is.said.header;
+      header_put = is.said.header_put;
+      counted = counted;
       bytes = is.bytes;
       put = is.said.others r.block (no_header data_block has) (no_part data_block has) ∙ ap (λ (m : FinMap nat_cmp Fate). get m r.block) is.put ∙ put_there is.third r.block _;
       new = is.new;
@@ -227,6 +247,7 @@ module _ (v : Seen) (is_directory : Bool) (p : Place) (name : List ℕ) (r : Roo
       parent_put = λ apart. is.said.others p.inode (no_header inside.2 inside.1) (no_part inside.2 inside.1) ∙ of_fourth p.inode apart
           ∙ ap (λ (m : FinMap nat_cmp Fate). get m p.inode) is.recorded.put ∙ put_there is.recorded.between p.inode _;
       times = is.recorded.still;
+      gets = λ old there. is.recorded.gets old (now v r.group is.number is.first is.numbered shows has p.inode inside (old, there));
       adds = adds;
     }
 

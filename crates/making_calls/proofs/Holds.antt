@@ -53,10 +53,9 @@ block_before v list more m is = record {
   group = is.group;
   has = is.has;
   missing = is.missing;
-  state = is.state;
   front = is.front;
   back = is.back ++ more;
-  split = ap (λ xs. xs ++ more) is.split ∙ append_assoc is.front (record { lock = m.lock; state = is.state } ∷ is.back) more;
+  split = ap (λ xs. xs ++ more) is.split ∙ append_assoc is.front (record { lock = m.lock; state = Ex } ∷ is.back) more;
   held = is.held;
 }
 
@@ -65,12 +64,11 @@ block_behind v list more m held is = record {
   group = is.group;
   has = is.has;
   missing = is.missing;
-  state = is.state;
   front = list ++ is.front;
   back = is.back;
-  split = ap (λ xs. list ++ xs) is.split ∙ sym (append_assoc list is.front (record { lock = m.lock; state = is.state } ∷ is.back));
-  held = subst (AreHeld v) (sym (append_assoc list is.front (record { lock = m.lock; state = is.state } ∷ [])))
-      (All-append (λ h. holds v h ≡ true) list (is.front ++ record { lock = m.lock; state = is.state } ∷ []) held is.held);
+  split = ap (λ xs. list ++ xs) is.split ∙ sym (append_assoc list is.front (record { lock = m.lock; state = Ex } ∷ is.back));
+  held = subst (AreHeld v) (sym (append_assoc list is.front (record { lock = m.lock; state = Ex } ∷ [])))
+      (All-append (λ h. holds v h ≡ true) list (is.front ++ record { lock = m.lock; state = Ex } ∷ []) held is.held);
 }
 
 -- the one lock isn't held
@@ -86,7 +84,6 @@ block_one v g m has missing held = record {
   group = g;
   has = has;
   missing = missing;
-  state = Ex;
   front = [];
   back = [];
   split = ap (λ (l : LockName). record { lock = l; state = Ex } ∷ []) (sym missing.lock);

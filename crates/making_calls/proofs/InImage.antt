@@ -108,7 +108,7 @@ module _ (v : Seen) (im : Image) (o : Owners) (l : Layout) (t : Tree) (of : IsOf
     covered = ap (cover l m.block) row ∙ ap (λ (k : Group). Some (group_lock k)) (sym g.2) ∙ ap Some (sym is.missing.lock);
     used = ap is_free row;
     plain = is.missing.plain ∙ sym (ap (is_content_of im o) row);
-    state = is.state;
+    state = Ex;
     front = is.front;
     back = is.back;
     split = is.split;

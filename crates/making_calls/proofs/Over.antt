@@ -16,6 +16,7 @@ use Rattle.gfs2_layout.specs.Headers.{HasHeader}
 use Rattle.gfs2_layout.specs.Holding.{Holding}
 use Rattle.gfs2_layout.specs.Inode.{dinode_in, height_in, linear_area}
 use Rattle.gfs2_layout.specs.Putting.{has_room}
+use Rattle.gfs2_layout.specs.Structures.{group_of}
 use Rattle.gfs2_layout.specs.declared.dinode.Dinode.{Dinode}
 use Rattle.gfs2_layout.specs.declared.group_header.GroupHeader.{GroupHeader}
 use Rattle.glock_names.specs.Steps.{TellsOf}
@@ -35,7 +36,7 @@ use Rattle.resource_groups.proofs.Apart.{no_header_data}
 use Rattle.resource_groups.proofs.Fits.{fit_of}
 use Rattle.image_model.proofs.Held.{none_some}
 use Rattle.path_walks.proofs.Steps.{read_here}
-use Rattle.making_calls.specs.Drafting.{IsNumbered}
+use Rattle.making_calls.specs.Drafting.{IsNumbered, header_in}
 use Rattle.making_calls.proofs.Alike.{alike_shown, broken_before, linear_there, seen_alike}
 use Rattle.making_calls.proofs.Faults.{tells_so}
 use Rattle.making_calls.proofs.Recording.{put_elsewhere}
@@ -52,6 +53,12 @@ missing_before v fates g m is = record { own = is.own; absent = unseen (get fate
 -- block k of a group
 pub block_in : (at : ℕ → List ℕ) (g : Group) (k : ℕ) → k < g.length → slice_index_or (blocks_of at g) k [] ≡ at (g.addr + k)
 block_in at g k low = get_or-map-range_with_len at g.addr g.length k (g.addr + k) [] low refl
+
+-- what a group's header says stands in its first block
+pub header_same : (at at' : ℕ → List ℕ) (g : Group) → 0 < g.length → at g.addr ≡ at' g.addr → header_in at g ≡ header_in at' g
+header_same at at' g some same =
+    let first : g.addr + 0 ≡ g.addr = omega arith in
+    ap group_of (block_in at g 0 some ∙ ap at first ∙ same ∙ sym (block_in at' g 0 some ∙ ap at' first))
 
 -- a number that is put breaks nothing
 pub number_breaks_nothing : (at at' : ℕ → List ℕ) (g : Group) (number rule b : ℕ) → IsNumberPut at at' g number → group.IsBroken at' g rule b → group.IsBroken at g rule b
@@ -90,7 +97,7 @@ module _ (v : Seen) (g : Group) (number : ℕ) (fates : FinMap nat_cmp Fate) (nu
   dir_apart : dir ≢ g.addr
   dir_apart same = data_apart dir g.addr inside own_header (sym same)
 
-  now : (there : HasBlock v dir) → w.block_at dir ≡ Some there.0
+  pub now : (there : HasBlock v dir) → w.block_at dir ≡ Some there.0
   now there = same_block dir dir_apart ∙ there.1
 
   pub there_over : HasBlock v dir → HasBlock w dir
@@ -128,7 +135,7 @@ module _ (v : Seen) (g : Group) (number : ℕ) (fates : FinMap nat_cmp Fate) (nu
     same_seen : (b : ℕ) → IsHeaderOf g b → (seen_with v later).block_at b ≡ w.block_at b
     same_seen b own = ap (λ f. block_with f (v.block_at b)) (same b own)
 
-    later_shown : (at : ℕ → List ℕ) → group.IsShown v g at → group.IsShown (seen_with v later) g (overlaid w at)
+    pub later_shown : (at : ℕ → List ℕ) → group.IsShown v g at → group.IsShown (seen_with v later) g (overlaid w at)
     later_shown at shown = record {
       whole = λ b own. each b own (w.block_at b) refl;
       same = λ b bytes own there. ap (λ s. seen_or s (at b)) (sym (same_seen b own) ∙ there);

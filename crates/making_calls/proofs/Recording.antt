@@ -1,5 +1,5 @@
 -- A directory that is touched in a draft, and gets a record then.
-use Rattle.std.proofs.Common.{◌≡◌, ◌≢◌, inl, inr, Bool, ℕ, false, List, [], ◌∷◌, Some, sym, ap, ◌∙◌, subst}
+use Rattle.std.proofs.Common.{◌≡◌, ◌≢◌, inl, inr, Bool, ℕ, false, List, [], ◌∷◌, drop, Some, sym, ap, ◌∙◌, subst}
 use Rattle.std.proofs.lemmas.Bool.{cases_eq}
 use Rattle.std.specs.List.{list_any}
 use Rattle.std.specs.Cmp.{nat_cmp_total}
@@ -12,8 +12,8 @@ use Rattle.drafts.specs.declared.fate.Fate.TheVariants.{Put}
 use Rattle.gfs2_layout.specs.Area.{slots_of}
 use Rattle.gfs2_layout.specs.Holding.{Holding, bytes_at}
 use Rattle.gfs2_layout.specs.Inode.{dinode_in, height_in, linear_area}
-use Rattle.gfs2_layout.specs.Putting.{has_room}
-use Rattle.gfs2_layout.specs.Structures.{dinode_of}
+use Rattle.gfs2_layout.specs.Putting.{has_room, put_slot}
+use Rattle.gfs2_layout.specs.Structures.{dinode_length, dinode_of}
 use Rattle.gfs2_layout.specs.declared.dinode.Dinode.{Dinode}
 use Rattle.glock_names.specs.Steps.{TellsOf}
 use Rattle.glock_names.specs.Views.{Seen, HasBlock}
@@ -24,11 +24,12 @@ use Rattle.dinode_tree.specs.Shown.{IsShown}
 use Rattle.dinode_tree.proofs.Sound.{some_is_shown}
 use Rattle.linear_dirs.specs.Broken.{IsBroken}
 use Rattle.linear_dirs.specs.Exchanges.{HasExchanged, uncounted}
-use Rattle.linear_dirs.specs.Shown.{IsLinearIn, holding_over, record_for}
+use Rattle.linear_dirs.specs.Shown.{IsLinearIn, head_for, holding_over, record_for}
+use Rattle.linear_dirs.proofs.Looked.{bytes_of}
 use Rattle.linear_dirs.proofs.Over.{as_seen}
 use Rattle.linear_dirs.proofs.Rewritten.{over_there}
 use Rattle.new_inodes.specs.Touched.{IsTouched, with_times}
-use Rattle.making_calls.specs.Drafting.{HasTimes, IsRecordPut}
+use Rattle.making_calls.specs.Drafting.{GetsRecord, HasTimes, IsRecordPut}
 use Rattle.making_calls.proofs.Alike.{alike_shown, broken_before, linear_there, touched_alike}
 use Rattle.making_calls.proofs.Faults.{tells_so}
 
@@ -89,6 +90,17 @@ module _ {V : Type 0} (seen : V → Seen) (old mid : Drafted V) (dir time : ℕ)
     | inr other ↦ (has.0, ap (λ fate. block_with fate ((seen old.view).block_at b)) (sym (put_elsewhere old.fates dir _ b other) ∙ ap (λ m. get m b) (sym mid_fates)) ∙ ap (λ w. w.block_at b) (sym seen_mid) ∙ has.1)
   ]
 
+  -- where it is put again, these are its bytes
+  bytes_after : (last : Drafted V) (after : List ℕ) → last ≡ record mid { fates = insert mid.fates dir (Put (inode_lock dir) false after) } → (h : Holding) → IsShown (seen_in seen old) dir h
+      → bytes_at (holding_over (seen_in seen last) (holding_over (seen_in seen mid) h)) h.own ≡ after
+  bytes_after last after then h shown =
+      let u = seen_in seen last in
+      let x = holding_over (seen_in seen mid) h in
+      let there : IsShown (seen_in seen mid) dir x = shown_then h shown in
+      let put_last : u.block_at dir ≡ Some after =
+      ap (λ (d : Drafted V). (seen_in seen d).block_at dir) then ∙ ap (λ fate. block_with fate ((seen mid.view).block_at dir)) (put_there mid.fates dir (Put (inode_lock dir) false after)) in
+      as_seen u x x.own after (over_there (u.block_at x.own) (x.cell x.own) ∙ there.dinode) (ap u.block_at there.own ∙ put_last)
+
   -- it has the time still where records were counted anew
   still_stamped : (last : Drafted V) (after : List ℕ) → last ≡ record mid { fates = insert mid.fates dir (Put (inode_lock dir) false after) }
       → ((h : Holding) → IsShown (seen_in seen mid) dir h → uncounted (dinode_in (holding_over (seen_in seen last) h)) ≡ uncounted (dinode_in h)) → HasTimes (dinode_of after) time
@@ -97,16 +109,35 @@ module _ {V : Type 0} (seen : V → Seen) (old mid : Drafted V) (dir time : ℕ)
       let u = seen_in seen last in
       let x = holding_over (seen_in seen mid) s.0 in
       let shown : IsShown (seen_in seen mid) dir x = shown_then s.0 s.1.0 in
-      let put_last : u.block_at dir ≡ Some after =
-      ap (λ (d : Drafted V). (seen_in seen d).block_at dir) then ∙ ap (λ fate. block_with fate ((seen mid.view).block_at dir)) (put_there mid.fates dir (Put (inode_lock dir) false after)) in
-      let bytes_are : bytes_at (holding_over u x) x.own ≡ after = as_seen u x x.own after (over_there (u.block_at x.own) (x.cell x.own) ∙ shown.dinode) (ap u.block_at shown.own ∙ put_last) in
+      let bytes_are : bytes_at (holding_over u x) x.own ≡ after = bytes_after last after then s.0 s.1.0 in
       subst (λ d. HasTimes d time) (dinode_by (holding_over u x) after bytes_are) (times_kept (dinode_in s.0) (dinode_in x) (dinode_in (holding_over u x)) time (touched s.0 s.1.0).dinode (same x shown))
+
+  -- and its block's bytes are those with the record
+  gets : (last : Drafted V) (name after : List ℕ) (entry : Entry) → last ≡ record mid { fates = insert mid.fates dir (Put (inode_lock dir) false after) }
+      → ((h : Holding) → IsShown (seen_in seen mid) dir h → put_slot (head_for name entry) name (slots_of (linear_area h)) ≡ Some (slots_of (linear_area (holding_over (seen_in seen last) h))))
+      → ((h : Holding) → IsShown (seen_in seen mid) dir h → uncounted (dinode_in (holding_over (seen_in seen last) h)) ≡ uncounted (dinode_in h))
+      → (prior : List ℕ) → (seen_in seen old).block_at dir ≡ Some prior → GetsRecord prior after name entry time
+  gets last name after entry then slots same prior before =
+      let s = some_is_shown (seen_in seen old) dir in
+      let h = s.0 in
+      let u = seen_in seen last in
+      let x = holding_over (seen_in seen mid) h in
+      let shown : IsShown (seen_in seen mid) dir x = shown_then h s.1.0 in
+      let was : bytes_at h h.own ≡ prior = bytes_of (seen_in seen old) h dir prior s.1.0 before in
+      let bytes_are : bytes_at (holding_over u x) x.own ≡ after = bytes_after last after then h s.1.0 in
+      record {
+        dinode = ap uncounted (sym (dinode_by (holding_over u x) after bytes_are)) ∙ same x shown ∙ ap uncounted ((touched h s.1.0).dinode ∙ ap (λ d. with_times d time) (dinode_by h prior was));
+        slots = ap (λ bytes. put_slot (head_for name entry) name (slots_of (drop dinode_length bytes))) (sym was)
+            ∙ ap (λ area. put_slot (head_for name entry) name (slots_of area)) (sym (touched h s.1.0).behind)
+            ∙ slots x shown ∙ ap (λ bytes. Some (slots_of (drop dinode_length bytes))) bytes_are;
+      }
 
   pub recorded : (last : Drafted V) (name after : List ℕ) (entry : Entry) → last ≡ record mid { fates = insert mid.fates dir (Put (inode_lock dir) false after) }
       → ((h : Holding) → IsShown (seen_in seen mid) dir h → HasExchanged h (holding_over (seen_in seen last) h) [] (record_for name entry ∷ []))
+      → ((h : Holding) → IsShown (seen_in seen mid) dir h → put_slot (head_for name entry) name (slots_of (linear_area h)) ≡ Some (slots_of (linear_area (holding_over (seen_in seen last) h))))
       → ((h : Holding) → IsShown (seen_in seen mid) dir h → uncounted (dinode_in (holding_over (seen_in seen last) h)) ≡ uncounted (dinode_in h))
       → IsRecordPut (seen old.view) old.fates dir time name entry last.fates
-  recorded last name after entry then exchanged same = record {
+  recorded last name after entry then exchanged slots same = record {
     between = mid.fates;
     times = bytes;
     times_put = mid_fates;
@@ -116,4 +147,5 @@ module _ {V : Type 0} (seen : V → Seen) (old mid : Drafted V) (dir time : ℕ)
     exchanged = λ h shown. subst (λ w. HasExchanged h (holding_over w h) [] (record_for name entry ∷ [])) (ap (λ x. seen_with (seen x) last.fates) (ap (λ (d : Drafted V). d.view) then ∙ mid_view))
         (exchanged h (subst (λ w. IsShown w dir h) (sym seen_mid) shown));
     still = still_stamped last after then same;
+    gets = gets last name after entry then slots same;
   }

@@ -1,5 +1,5 @@
 -- The room that was found for a new inode, over a view and in an image that it may be of.
-use Rattle.std.proofs.Common.{◌≡◌, inl, inr, ℕ, zero, suc, ◌-◌, ◌%◌, ◌<◌, ◌≤◌, true, true≢false, List, [], ◌∷◌, ◌++◌, length, get_or, map, Some, refl, sym, ap, ◌∙◌, subst, arith, false, None}
+use Rattle.std.proofs.Common.{◌≡◌, inl, inr, ℕ, zero, suc, ◌-◌, ◌%◌, ◌<◌, ◌≤◌, true, true≢false, List, [], ◌∷◌, ◌++◌, length, get_or, map, Some, refl, sym, ap, ◌∙◌, subst, arith, false}
 use Rattle.std.proofs.Math.Nat.{mod-lt}
 use Rattle.std.proofs.lemmas.List.{append_assoc, get_or_append_left, length-append}
 use Rattle.std.proofs.lemmas.Option.{slice_get-get_or}
@@ -28,8 +28,8 @@ use Rattle.image_changes.proofs.Frame.{dinode_its}
 use Rattle.draft_changes.proofs.Rows.{its_used}
 use Rattle.draft_changes.proofs.Views.{groups_are_listed}
 use Rattle.path_walks.specs.Holds.{Hold, AreHeld, holds, hold_of, hold_for}
-use Rattle.making_calls.specs.Blocks.{block_holds, group_holds, group_of_node, hold_of_group, holds_from, new_holds, states_by}
-use Rattle.making_calls.specs.Searches.{AreShown, IsGroupBlock, IsGroupBroken, IsTaken, IsUnder}
+use Rattle.making_calls.specs.Blocks.{blocks_needed, block_holds, group_holds, group_of_node, hold_of_group, holds_from, new_holds, states_by}
+use Rattle.making_calls.specs.Searches.{AreShown, IsGroupBlock, IsGroupBroken, IsGroupNeeded, IsTaken, IsUnder}
 use Rattle.making_calls.specs.declared.blocks.Locked.TheVariants as locked
 use Rattle.making_calls.specs.declared.blocks.Room.{Room}
 use Rattle.making_calls.specs.declared.blocks.Taken.TheVariants as taken
@@ -80,12 +80,21 @@ block_under v list g m held there has missing =
       group = g;
       has = has;
       missing = missing;
-      state = Ex;
       front = s.0;
       back = s.1.0;
       split = s.1.1 ∙ ap (λ x. s.0 ++ x ∷ s.1.0) same;
       held = subst (λ x. AreHeld v (s.0 ++ x ∷ [])) same (held_before v (s.0 ++ hold_of_group g ∷ []) s.1.0 (subst (AreHeld v) (s.1.1 ∙ sym (append_assoc s.0 (hold_of_group g ∷ []) s.1.0)) held));
     }
+
+-- a block of a group that is asked for under locks is needed
+group_needed : (v : Seen) (list : List Hold) (m : Missing) → IsGroupBlock v list m → IsGroupNeeded v m
+group_needed v list m is = record {
+  group = is.group;
+  has = is.has;
+  held = subst (λ l. holds v (record { lock = l; state = Ex }) ≡ true) is.missing.lock
+      (held_behind v is.front (record { lock = m.lock; state = Ex } ∷ []) is.held 0 (record { lock = m.lock; state = Ex }) (omega arith));
+  missing = is.missing;
+}
 
 -- ---- the room
 
@@ -120,8 +129,16 @@ module _ (v : Seen) (node : ℕ) (view : IsView v) (some : 1 ≤ length v.groups
 
   pub block_way : (m : Missing)
       → ((at : ℕ → List ℕ) (own : Group) → AreShown v at → group_of_node v.groups node ≡ Some own → IsUnder v (block_holds (said at) v.groups own) (IsTaken v (said at) v.groups own) (locked.NeedBlock m))
-      → v.block_at m.block ≡ None
-  block_way m found = let at = bytes_shown v view in let own = own_of v node some first in (found at.0 own.0 (λ g has. at.1 g) own.1).missing.absent
+      → IsGroupNeeded v m
+  block_way m found =
+      let at = bytes_shown v view in
+      let own = own_of v node some first in
+      group_needed v (block_holds (said at.0) v.groups own.0) m (found at.0 own.0 (λ g has. at.1 g) own.1)
+
+  pub few_way : (free : ℕ)
+      → ((at : ℕ → List ℕ) (own : Group) → AreShown v at → group_of_node v.groups node ≡ Some own → IsUnder v (block_holds (said at) v.groups own) (IsTaken v (said at) v.groups own) (locked.Is (taken.TooFew free)))
+      → free < blocks_needed
+  few_way free found = let at = bytes_shown v view in let own = own_of v node some first in (found at.0 own.0 (λ g has. at.1 g) own.1).1.1
 
 -- ---- in an image
 

@@ -1,5 +1,5 @@
 -- A name made at the place to which the walk came.
-use Rattle.std.proofs.Common.{◌≡◌, inl, Bool, true, false, true≢false, ℕ, suc, ◌<◌, ◌≤◌, List, [], ◌∷◌, ◌++◌, length, map, slice_get, None, Some, refl, sym, ap, ◌∙◌, subst, subst₂, arith}
+use Rattle.std.proofs.Common.{◌≡◌, ◌≢◌, inl, Bool, true, false, true≢false, ℕ, suc, ◌<◌, ◌≤◌, List, [], ◌∷◌, ◌++◌, length, map, slice_get, None, Some, refl, sym, ap, ◌∙◌, subst, subst₂, arith}
 use Rattle.std.proofs.lemmas.List.Elements.{All-append, Contains-append_left}
 use Rattle.std.specs.FinMap.{get}
 use Rattle.std.specs.Prelude.{Contains}
@@ -15,7 +15,7 @@ use Rattle.gfs2_layout.specs.Holding.{Holding, alone}
 use Rattle.gfs2_layout.specs.Structures.{dinode_of}
 use Rattle.gfs2_layout.specs.declared.dinode.Dinode.{Dinode}
 use Rattle.gfs2_layout.specs.declared.rindex.Rindex.{Rindex}
-use Rattle.glock_names.specs.Views.{Seen, HasGroup, group_of_entry}
+use Rattle.glock_names.specs.Views.{Seen, HasBlock, HasGroup, group_of_entry}
 use Rattle.glock_names.specs.declared.LockName.{LockName}
 use Rattle.glock_names.specs.declared.State.{State}
 use Rattle.glock_names.specs.declared.State.TheVariants.{Ex}
@@ -34,7 +34,7 @@ use Rattle.image_model.specs.Image.{Image}
 use Rattle.image_model.specs.Owners.{Owners, holding}
 use Rattle.image_model.specs.Stands.{Layout}
 use Rattle.image_model.proofs.Members.{IsIn, contained, in_left, in_right, is_in}
-use Rattle.image_changes.specs.Does.{IsOf, Does}
+use Rattle.image_changes.specs.Does.{IsOf, Does, with_change}
 use Rattle.image_changes.specs.Flats.{in_directory}
 use Rattle.image_changes.proofs.Drafting.{drafts_do}
 use Rattle.image_changes.proofs.Finishing.{finish_makes}
@@ -45,12 +45,13 @@ use Rattle.path_walks.specs.Walks.{LeadsTo, IsSeenAt}
 use Rattle.path_walks.specs.Walks as path
 use Rattle.path_walks.specs.declared.walk.Place.{Place}
 use Rattle.path_walks.proofs.Images.{is_inode, is_shown, unbroken_directory}
+use Rattle.path_walks.proofs.Leads.{no_end}
 use Rattle.path_walks.proofs.Lists.{parent_of_next}
 use Rattle.file_tree.proofs.WalkLaws.{last_front}
 use Rattle.making_calls.specs.Blocks.{blocks_needed, block_holds, free_for, free_in, free_in_all, group_holds, group_of_node, hold_of_group, new_holds}
-use Rattle.making_calls.specs.Drafting.{IsAddition, IsPutUnder, IsWrongIn, of_directory, of_group, of_inode, new_tree}
+use Rattle.making_calls.specs.Drafting.{GetsRecord, IsAddition, IsPutUnder, IsWrongIn, kind_for, of_directory, of_group, of_inode, new_tree}
 use Rattle.making_calls.specs.Drafting as drafting
-use Rattle.making_calls.specs.Making.{IsMaking, IsLastOf, IsReachedIn, IsFound, IsFoundBy, IsTooFew, IsDamage, IsUnbuilt, LacksName, call_holds, directory_has_room, directory_path, has_room_for, makes_directory, name_in, path_holds, room_at}
+use Rattle.making_calls.specs.Making.{IsMaking, IsLastOf, IsReachedIn, IsFound, IsFoundBy, IsNeededFor, IsToGetName, IsTooFew, IsDamage, LacksName, call_holds, directory_has_room, directory_path, has_room_for, makes_directory, name_in, path_holds, room_at}
 use Rattle.making_calls.specs.Making as damage
 use Rattle.making_calls.specs.Searches.{AreShown, IsGroupBlock, IsTaken, IsUnder}
 use Rattle.making_calls.specs.declared.blocks.Locked.{Locked}
@@ -65,6 +66,11 @@ use Rattle.making_calls.proofs.Rooms.{IsHeldRoom, block_under, dinode_inside, ex
 use Rattle.making_calls.proofs.Trees.{changes, takes, taken_list}
 use Rattle.making_calls.proofs.Under.{change_at, directory_listed, each_lock}
 use Rattle.making_calls.proofs.Wanted.{directory_held}
+
+-- a block that is needed isn't there
+pub needed_absent : (v : Seen) (c : Call) (m : Missing) → IsNeededFor v c m → v.block_at m.block ≡ None
+needed_absent v c m (damage.on_path unread) = unread.absent
+needed_absent v c m (damage.of_group gets needed) = needed.missing.absent
 
 later_held : (v : Seen) (x : Hold) (xs : List Hold) → AreHeld v (x ∷ xs) → AreHeld v xs
 later_held v x xs held k d low = held (suc k) d (omega (arith, low))
@@ -86,7 +92,7 @@ module _ (v : Seen) (c : Call) (is : IsMaking c) (p : Place) (name : List ℕ) (
     pub taken_so : apply c t ≡ record { reply = Ok; tree = put_at (path_of c false) (new_tree (makes_directory c)) t }
     taken_so = takes v im o l t of c name is last p.inode reached.place.at here.linear.directory named here.absent
 
-    reply_ok : (apply c t).reply ≡ Ok
+    pub reply_ok : (apply c t).reply ≡ Ok
     reply_ok = ap (λ (x : Answer). x.reply) taken_so
 
     pub inside_so : HasDataBlock v p.inode
@@ -200,6 +206,11 @@ module _ (v : Seen) (c : Call) (is : IsMaking c) (p : Place) (name : List ℕ) (
         block_inside : r.block < im.count
         block_inside = let fits : owned.GroupFits im its_group.0 = of.stands.laid.fit.each its_group.0 its_group.1 in omega (arith, in_its_group.high, fits.inside)
 
+        directory_apart : p.inode ≢ r.block
+        directory_apart =
+            let free = subst (λ k. said im.at k r.block ≡ 0) its_group.2 room_found.1.0.free in
+            apart v im o l t of (directory_path c) p.inode reached.place.at its_group.0 its_group.1 r.block in_its_group free
+
         -- the new inode is in the first free block, byte by byte
         pub made : {time : ℕ} (change : Change) → IsAddition v (makes_directory c) p name r time change → damage.IsMade im o l c node time change
         made {time} change added = record {
@@ -214,10 +225,17 @@ module _ (v : Seen) (c : Call) (is : IsMaking c) (p : Place) (name : List ℕ) (
           data_block = room_found.1.0.data_block;
           number = added.number;
           next = added.next im.at (are_shown v im o l t of r.group room_found.1.0.has);
+          counted = added.counted im.at (with_change im change).at (are_shown v im o l t of r.group room_found.1.0.has)
+              (change_at added.fates change added.finished im r.group.addr (group_lock r.group) added.header added.header_put);
           is = subst₂ (λ above bytes. drafting.IsNewInode (makes_directory c) above added.number r.block time (alone im.size im.count r.block bytes))
               (ap (λ (d : Dinode). entry d.num.number) reached.place.dinode)
               (sym (change_at added.fates change added.finished im r.block (inode_lock r.block) added.bytes added.put))
               (subst (λ size. drafting.IsNewOf (makes_directory c) p added.number r.block time (alone size im.count r.block added.bytes)) (sym of.size) (added.new im.count block_inside));
+          gets = subst (λ n. GetsRecord (im.at p.inode) ((with_change im change).at p.inode) n (record { number = added.number; addr = r.block; kind = kind_for (makes_directory c) }) time) (sym own_name)
+              (subst₂ (λ old new. GetsRecord old new name (record { number = added.number; addr = r.block; kind = kind_for (makes_directory c) }) time)
+              (sym (of.agrees p.inode reached.place.there.0 reached.place.there.1))
+              (sym (change_at added.fates change added.finished im p.inode (inode_lock p.inode) added.parent_bytes (added.parent_put directory_apart)))
+              (added.gets reached.place.there.0 reached.place.there.1));
         }
           where
             entry : ℕ → Entry
@@ -226,14 +244,24 @@ module _ (v : Seen) (c : Call) (is : IsMaking c) (p : Place) (name : List ℕ) (
         -- and the directory has the time
         pub stamped : {time : ℕ} (change : Change) → IsAddition v (makes_directory c) p name r time change → damage.IsStamped im o l c time change
         stamped {time} change added =
-            let free = subst (λ k. said im.at k r.block ≡ 0) its_group.2 room_found.1.0.free in
-            let put = added.parent_put (apart v im o l t of (directory_path c) p.inode reached.place.at its_group.0 its_group.1 r.block in_its_group free) in (
+            let put = added.parent_put directory_apart in (
               p.inode,
               reached.place.at,
               subst (λ b. drafting.HasTimes (dinode_of b) time) (sym (change_at added.fates change added.finished im p.inode (inode_lock p.inode) added.parent_bytes put)) added.times,
             )
 
   -- ---- as far as the view shows
+
+  -- the directory is to get the name, and has room for it or hasn't
+  pub to_get : (room : Bool) → LeadsTo v (wanted c) (directory_path c) p.inode → HasBlock v p.inode → ((h : Holding) → IsShown v p.inode h → has_room_for h name ≡ room) → IsToGetName v c room
+  to_get room leads there fits = record {
+    below = λ root. no_end last.0 name (sym root ∙ last.1);
+    directory = p.inode;
+    leads = leads;
+    there = there;
+    lacks = λ h shown. subst (LacksName h) (sym own_name) (lacks h shown);
+    room_is = λ h shown. ap (has_room_for h) own_name ∙ fits h shown;
+  }
 
   module _ (leads : LeadsTo v (wanted c) (directory_path c) p.inode) where
     pub wrong_damage : (g : Group) → HasGroup v g → holds v (hold_of_group g) ≡ true → (rule b : ℕ) → IsWrongIn v p.inode g rule b → IsDamage v c rule b

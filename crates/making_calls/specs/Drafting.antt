@@ -1,5 +1,5 @@
 -- What a draft that makes a name makes: a number is given, the directory gets times and a record, the new inode is put, and its group says so.
-use Rattle.std.specs.Prelude.{ℕ, ◌≡◌, ◌≢◌, ◌+◌, ◌<◌, Bool, true, false, List, [], ◌∷◌, None, Some}
+use Rattle.std.specs.Prelude.{ℕ, ◌≡◌, ◌≢◌, ◌+◌, ◌<◌, Bool, true, false, List, [], ◌∷◌, drop, None, Some}
 use Rattle.std.specs.List.{AllByRecursion}
 use Rattle.std.specs.Ordering.{nat_cmp}
 use Rattle.std.specs.FinMap.{FinMap, empty, get, insert}
@@ -8,11 +8,15 @@ use Rattle.drafts.specs.Fates.{AreWhole, seen_with}
 use Rattle.drafts.specs.declared.change.Change.{Change}
 use Rattle.drafts.specs.declared.fate.Fate.{Fate}
 use Rattle.drafts.specs.declared.fate.Fate.TheVariants.{Put}
+use Rattle.gfs2_layout.specs.Area.{slots_of}
 use Rattle.gfs2_layout.specs.Groups.{group_header}
+use Rattle.gfs2_layout.specs.Groups as layout
 use Rattle.gfs2_layout.specs.Holding.{Holding, alone}
 use Rattle.gfs2_layout.specs.Records.{child_named}
-use Rattle.gfs2_layout.specs.Structures.{dinode_of}
+use Rattle.gfs2_layout.specs.Putting.{put_slot}
+use Rattle.gfs2_layout.specs.Structures.{dinode_length, dinode_of}
 use Rattle.gfs2_layout.specs.declared.dinode.Dinode.{Dinode}
+use Rattle.gfs2_layout.specs.declared.group_header.GroupHeader.{GroupHeader}
 use Rattle.glock_names.specs.Views.{Seen}
 use Rattle.glock_names.specs.declared.LockName.{LockName}
 use Rattle.glock_names.specs.declared.steps.Entry.{Entry}
@@ -20,10 +24,10 @@ use Rattle.glock_names.specs.declared.views.Group.{Group}
 use Rattle.dinode_tree.specs.Reading.{inode_lock}
 use Rattle.dinode_tree.specs.Shown.{IsShown}
 use Rattle.linear_dirs.specs.Broken as directory
-use Rattle.linear_dirs.specs.Exchanges.{HasExchanged}
-use Rattle.linear_dirs.specs.Shown.{holding_over, record_for}
+use Rattle.linear_dirs.specs.Exchanges.{HasExchanged, uncounted}
+use Rattle.linear_dirs.specs.Shown.{head_for, holding_over, record_for}
 use Rattle.new_inodes.specs.New.{IsNewDirectory, IsNewFile}
-use Rattle.new_inodes.specs.Touched.{IsTouched}
+use Rattle.new_inodes.specs.Touched.{IsTouched, with_times}
 use Rattle.resource_groups.specs.Numbering.{IsNumberPut, next_number}
 use Rattle.resource_groups.specs.Putting.{IsPutIn, overlaid}
 use Rattle.resource_groups.specs.Shown.{IsHeaderOf, group_lock, said}
@@ -66,9 +70,23 @@ IsNewOf is_directory p number block time h = IsNewInode is_directory (entry_abov
 abbrev pub HasTimes : Dinode → ℕ → Type 0
 HasTimes d time = (d.mtime ≡ time) × (d.ctime ≡ time)
 
+-- what a group's header says
+abbrev pub header_in : (ℕ → List ℕ) → Group → GroupHeader
+header_in at g = group_header (group.blocks_of at g)
+
 -- the number is that after the last one that the group gave
 abbrev pub IsNextOf : (ℕ → List ℕ) → Group → ℕ → Type 0
-IsNextOf at g number = number ≡ next_number (group_header (group.blocks_of at g)).igeneration
+IsNextOf at g number = number ≡ next_number (header_in at g).igeneration
+
+-- the group's header tells the number as the last one that it gave, and else, apart from its counts of blocks, what it told before
+abbrev pub CountsNumber : (ℕ → List ℕ) → (ℕ → List ℕ) → Group → ℕ → Type 0
+CountsNumber at at' g number = layout.uncounted (header_in at' g) ≡ layout.uncounted (record (header_in at g) { igeneration = number })
+
+-- The bytes of a linear directory's block after a name came: the dinode says, apart from its counts, what it said, with this time as that of the
+-- last change of its content and of its own; and the name's record is put into the first one that has room for it.
+pub record GetsRecord (old new : List ℕ) (name : List ℕ) (entry : Entry) (time : ℕ) : Type 0 where
+  pub dinode : uncounted (dinode_of new) ≡ uncounted (with_times (dinode_of old) time)
+  pub slots : put_slot (head_for name entry) name (slots_of (drop dinode_length old)) ≡ Some (slots_of (drop dinode_length new))
 
 -- ---- the steps, over a view
 
@@ -89,6 +107,7 @@ pub record IsRecordPut (v : Seen) (before : FinMap nat_cmp Fate) (dir time : ℕ
   pub put : after ≡ insert between dir (Put (inode_lock dir) false bytes)
   pub exchanged : (h : Holding) → IsShown (seen_with v between) dir h → HasExchanged h (holding_over (seen_with v after) h) [] (record_for name entry ∷ [])
   pub still : HasTimes (dinode_of bytes) time
+  pub gets : (old : List ℕ) → (seen_with v before).block_at dir ≡ Some old → GetsRecord old bytes name entry time
 
 -- Over that draft a group says that a data block is a dinode: the header and a block of bits are put, and the change is that of the draft that
 -- comes of it.
@@ -125,9 +144,9 @@ pub data IsPutUnder (p : Place) (r : Room) (b : ℕ) (lock : LockName) : Type 0 
 abbrev pub PutsUnder : FinMap nat_cmp Fate → Place → Room → Type 0
 PutsUnder fates p r = (b : ℕ) (lock : LockName) (plain : Bool) (bytes : List ℕ) → get fates b ≡ Some (Put lock plain bytes) → IsPutUnder p r b lock
 
--- The change is that of a draft that puts the group's header, and all under these locks and inside the view's groups, frees nothing, and adds the
--- name in each image that the view may be of. The new inode is put with the group's next number and with this time, and the directory with the
--- time, unless the two were one block.
+-- The change is that of a draft that puts all under these locks and inside the view's groups, frees nothing, and adds the name in each image that
+-- the view may be of. The group's header is put, and counts its next number; the new inode is put with that number and with this time, and the
+-- directory with the name's record and the time, unless the two were one block.
 pub record IsAddition (v : Seen) (is_directory : Bool) (p : Place) (name : List ℕ) (r : Room) (time : ℕ) (change : Change) : Type 0 where
   pub fates : FinMap nat_cmp Fate
   pub finished : IsFinished fates change
@@ -137,12 +156,16 @@ pub record IsAddition (v : Seen) (is_directory : Bool) (p : Place) (name : List 
   pub inside : AllByRecursion (IsInside v) change.blocks.items
   pub number : ℕ
   pub next : (at : ℕ → List ℕ) → group.IsShown v r.group at → IsNextOf at r.group number
+  pub header : List ℕ
+  pub header_put : get fates r.group.addr ≡ Some (Put (group_lock r.group) false header)
+  pub counted : (at at' : ℕ → List ℕ) → group.IsShown v r.group at → at' r.group.addr ≡ header → CountsNumber at at' r.group number
   pub bytes : List ℕ
   pub put : get fates r.block ≡ Some (Put (inode_lock r.block) false bytes)
   pub new : (count : ℕ) → r.block < count → IsNewOf is_directory p number r.block time (alone v.size count r.block bytes)
   pub parent_bytes : List ℕ
   pub parent_put : p.inode ≢ r.block → get fates p.inode ≡ Some (Put (inode_lock p.inode) false parent_bytes)
   pub times : HasTimes (dinode_of parent_bytes) time
+  pub gets : (old : List ℕ) → v.block_at p.inode ≡ Some old → GetsRecord old parent_bytes name (record { number = number; addr = r.block; kind = kind_for is_directory }) time
   pub adds : (im : Image) (o : Owners) (l : Layout) (t : Tree) (path : Path) → IsOf v im o l t → IsPlaceFor im o l path name p r
       → AddsName im o l fates p.inode name r.block (new_tree is_directory)
 

@@ -1,5 +1,5 @@
 -- The calls that make a name: what they answer, under which locks.
-use Rattle.std.specs.Prelude.{ℕ, ◌≡◌, ◌<◌, ⊤, Bool, true, false, if◌then◌else◌, List, [], ◌∷◌, ◌++◌, ◌&&◌, length, map, slice_get, Contains, Option, None, Some}
+use Rattle.std.specs.Prelude.{ℕ, ◌≡◌, ◌≢◌, ◌<◌, ⊤, Bool, true, false, if◌then◌else◌, List, [], ◌∷◌, ◌++◌, ◌&&◌, length, map, slice_get, Contains, Option, None, Some}
 use Rattle.std.specs.List.{AllByRecursion, list_any}
 use Rattle.file_tree.specs.Names.{parent_of, last_of}
 use Rattle.file_tree.specs.Tree.{Tree}
@@ -19,6 +19,7 @@ use Rattle.glock_names.specs.Views.{Seen, HasBlock, group_of_entry}
 use Rattle.glock_names.specs.declared.LockName.{LockName}
 use Rattle.glock_names.specs.declared.State.TheVariants.{Ex}
 use Rattle.glock_names.specs.declared.steps.Entry.{Entry}
+use Rattle.glock_names.specs.declared.steps.Missing.{Missing}
 use Rattle.glock_names.specs.declared.views.Group.{Group}
 use Rattle.call_locks.specs.Wants.{wanted}
 use Rattle.call_locks.specs.WantLaws.{path_of}
@@ -32,13 +33,14 @@ use Rattle.image_model.specs.Stands.{Layout, flat_of}
 use Rattle.image_changes.specs.Changes.{inode_of}
 use Rattle.image_changes.specs.Does.{IsInside, frees, with_change}
 use Rattle.image_changes.specs.Instances.{IsAt, dinode_at}
+use Rattle.path_walks.specs.Answers.{HasSpace}
 use Rattle.path_walks.specs.Holds.{Hold, AreHeld, IsAskedFor, IsFirstLack, hold_of, holds, holds_in}
 use Rattle.path_walks.specs.declared.walk.Place.{Place}
-use Rattle.path_walks.specs.Walks.{LeadsTo, IsLinearDirectory, IsOnTheWay, IsPlaceOf, IsWrong}
+use Rattle.path_walks.specs.Walks.{LeadsTo, IsLinearDirectory, IsOnTheWay, IsPlaceOf, IsUnread, IsWrong}
 use Rattle.path_walks.specs.Walks as path
 use Rattle.making_calls.specs.Blocks.{blocks_needed, states_by, free_for, free_in_all, group_of_node, hold_of_group, new_holds}
-use Rattle.making_calls.specs.Drafting.{HasTimes, IsNewInode, IsNextOf}
-use Rattle.making_calls.specs.Searches.{IsGroupBroken}
+use Rattle.making_calls.specs.Drafting.{CountsNumber, GetsRecord, HasTimes, IsNewInode, IsNextOf, kind_for}
+use Rattle.making_calls.specs.Searches.{IsGroupBroken, IsGroupNeeded}
 use Rattle.making_calls.specs.declared.finds.Found.{Found}
 use Rattle.making_calls.specs.declared.finds.Found.TheVariants as found
 
@@ -105,17 +107,29 @@ pub record LacksName (h : Holding) (name : List ℕ) : Type 0 where
   pub linear : IsLinearDirectory h
   pub absent : child_named (records_of h) name ≡ None
 
--- in which no record has room for the name's
-pub record HasNoRoom (h : Holding) (name : List ℕ) : Type 0 where
-  pub lacks : LacksName h name
-  pub full : has_room_for h name ≡ false
+-- The path has a last name; what is before it leads to this linear directory, which hasn't the name, and has room for its record, or hasn't.
+pub record IsToGetName (v : Seen) (call : Call) (room : Bool) : Type 0 where
+  pub below : path_of call false ≢ []
+  pub directory : ℕ
+  pub leads : LeadsTo v (wanted call) (directory_path call) directory
+  pub there : HasBlock v directory
+  pub lacks : (h : Holding) → IsShown v directory h → LacksName h (name_in call)
+  pub room_is : (h : Holding) → IsShown v directory h → has_room_for h (name_in call) ≡ room
 
--- a directory for which the call isn't built yet: a hashed one on the path, or at its end; or one at its end that hasn't the name, and no room
--- for it, which would be hashed
-pub data IsUnbuilt (v : Seen) (call : Call) (b : ℕ) : Type 0 where
-  on_path : IsOnTheWay v (wanted call) (directory_path call) b (λ h. is_hashed_in h ≡ true) → IsUnbuilt v call b
-  at_end : LeadsTo v (wanted call) (directory_path call) b → HasBlock v b → ((h : Holding) → IsShown v b h → is_hashed_in h ≡ true) → IsUnbuilt v call b
-  no_room : LeadsTo v (wanted call) (directory_path call) b → HasBlock v b → ((h : Holding) → IsShown v b h → HasNoRoom h (name_in call)) → IsUnbuilt v call b
+-- a hashed directory without which the call isn't answered: one on the way to the path's last name
+pub data IsHashedFor (v : Seen) (call : Call) (b : ℕ) : Type 0 where
+  on_path : IsOnTheWay v (wanted call) (directory_path call) b (λ h. is_hashed_in h ≡ true) → IsHashedFor v call b
+  at_end : path_of call false ≢ [] → LeadsTo v (wanted call) (directory_path call) b → HasBlock v b → ((h : Holding) → IsShown v b h → is_hashed_in h ≡ true) → IsHashedFor v call b
+
+-- the call isn't built yet: the directory that is to get the name has no room for it, and would be hashed
+abbrev pub IsUnbuilt : Seen → Call → Type 0
+IsUnbuilt v call = IsToGetName v call false
+
+-- A block without which the call isn't answered: the dinode of the next inode on the directory's path; or, where the directory is to get the name
+-- and has room for it, one of the header and bitmap of a group whose lock is held.
+pub data IsNeededFor (v : Seen) (call : Call) (m : Missing) : Type 0 where
+  on_path : IsUnread v (wanted call) (directory_path call) m → IsNeededFor v call m
+  of_group : IsToGetName v call true → IsGroupNeeded v m → IsNeededFor v call m
 
 -- the block breaks this rule: on the path, in the directory at its end, or in a group; or (2) that directory is none of the groups' data
 -- blocks
@@ -132,24 +146,29 @@ pub record IsReachedIn (v : Seen) (im : Image) (o : Owners) (l : Layout) (call :
   pub place : IsPlaceOf v im o l (directory_path call) p
   pub held : AreHeld v (path_holds im o l call)
 
--- the reply is the tree's, and each lock of the list is held; or what stands in the way: the first lock of it that isn't held, a block that the
--- view hasn't, or that too few blocks are free
+-- The reply is the tree's, and each lock of the list is held; or what stands in the way: the first lock of it that isn't held, a block that the
+-- view hasn't, or that too few blocks are free. What isn't built the tree would take.
 abbrev pub IsFoundBy : Seen → Image → Owners → Layout → Tree → Call → List Hold → Found → Type 0
 IsFoundBy v im o l t call list (found.Refused r) = ((apply call t).reply ≡ r) × AreHeld v list
 IsFoundBy v im o l t call list (found.Made change) = AreHeld v list
 IsFoundBy v im o l t call list (found.NeedBlock m) = IsAskedFor v im o l list m
 IsFoundBy v im o l t call list (found.NeedLock lock state) = IsFirstLack v list lock state
-IsFoundBy v im o l t call list (found.NotBuilt b) = ⊤
+IsFoundBy v im o l t call list (found.Hashed b) = ⊤
+IsFoundBy v im o l t call list found.NotBuilt = (apply call t).reply ≡ Ok
 IsFoundBy v im o l t call list (found.NoSpace free) = IsTooFew v im o l t call blocks_needed free
 
 abbrev pub IsFound : Seen → Image → Owners → Layout → Tree → Call → ℕ → Found → Type 0
 IsFound v im o l t call node f = IsFoundBy v im o l t call (call_holds im o l t call node) f
 
--- on every view, what stands in the way does: the lock isn't held so strongly, the view hasn't the block
-abbrev pub IsInTheWay : Seen → Found → Type 0
-IsInTheWay v (found.NeedLock lock state) = holds v (record { lock = lock; state = state }) ≡ false
-IsInTheWay v (found.NeedBlock m) = v.block_at m.block ≡ None
-IsInTheWay v f = ⊤
+-- on every view, what stands in the way does: the lock isn't held so strongly, the block is needed, the directory is hashed, it isn't built, or
+-- too few blocks are free
+abbrev pub IsToldOf : Seen → Call → Found → Type 0
+IsToldOf v call (found.NeedLock lock state) = holds v (record { lock = lock; state = state }) ≡ false
+IsToldOf v call (found.NeedBlock m) = IsNeededFor v call m
+IsToldOf v call (found.Hashed b) = IsHashedFor v call b
+IsToldOf v call found.NotBuilt = IsUnbuilt v call
+IsToldOf v call (found.NoSpace free) = free < blocks_needed
+IsToldOf v call f = ⊤
 
 -- what the change writes lies in the view's groups
 abbrev pub AreInside : Seen → Change → Type 0
@@ -165,7 +184,7 @@ abbrev pub entry_in : Image → Owners → ℕ → Entry
 entry_in im o a = record { number = (dinode_at im o a).num.number; addr = a; kind = 4 }
 
 -- The change puts the new inode, byte by byte, into the first free block in the node's order, with this time and with the next number of the
--- block's group.
+-- block's group, which counts it; and the directory gets the name's record and the time.
 pub record IsMade (im : Image) (o : Owners) (l : Layout) (call : Call) (node time : ℕ) (change : Change) : Type 0 where
   pub directory : ℕ
   pub at : IsAt im o l (directory_path call) directory
@@ -178,25 +197,23 @@ pub record IsMade (im : Image) (o : Owners) (l : Layout) (call : Call) (node tim
   pub data_block : IsDataOf group block
   pub number : ℕ
   pub next : IsNextOf im.at group number
+  pub counted : CountsNumber im.at (with_change im change).at group number
   pub is : IsNewInode (makes_directory call) (entry_in im o directory) number block time (alone im.size im.count block ((with_change im change).at block))
+  pub gets : GetsRecord (im.at directory) ((with_change im change).at directory) (name_in call) (record { number = number; addr = block; kind = kind_for (makes_directory call) }) time
 
 -- in the image with the change the dinode of the directory that gets the name has this time
 abbrev pub IsStamped : Image → Owners → Layout → Call → ℕ → Change → Type 0
 IsStamped im o l call time change = (a : ℕ) × IsAt im o l (directory_path call) a × HasTimes (dinode_of ((with_change im change).at a)) time
 
--- what a refusal is not
+-- what a refusal is not: `ok`, or that too few blocks are free
 abbrev pub IsRefusal : Found → Type 0
-IsRefusal (found.Refused r) = is_ok r ≡ false
+IsRefusal (found.Refused r) = (is_ok r ≡ false) × HasSpace r
 IsRefusal f = ⊤
 
--- P of the change that is made, and of the directory for which the call isn't built
+-- P of the change that is made
 abbrev pub IfMade : (Change → Type 0) → Found → Type 0
 IfMade P (found.Made change) = P change
 IfMade P f = ⊤
-
-abbrev pub IfNotBuilt : (ℕ → Type 0) → Found → Type 0
-IfNotBuilt P (found.NotBuilt b) = P b
-IfNotBuilt P f = ⊤
 
 -- the path's last name
 abbrev pub IsLastOf : Path → List ℕ → Type 0

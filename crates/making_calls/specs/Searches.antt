@@ -1,7 +1,7 @@
 -- What a search for a free block tells of a view, as the bits of its groups say.
 use Rattle.std.specs.Prelude.{ℕ, ◌≡◌, ◌<◌, true, List, [], ◌∷◌, ◌++◌, length, Contains, Option, None, Some, slice_get}
 use Rattle.glock_names.specs.Views.{Seen, HasGroup}
-use Rattle.glock_names.specs.declared.State.{State}
+use Rattle.glock_names.specs.declared.State.TheVariants.{Ex}
 use Rattle.glock_names.specs.declared.steps.Missing.{Missing}
 use Rattle.glock_names.specs.declared.views.Group.{Group}
 use Rattle.resource_groups.specs.Shown.{IsShown, IsMissing, IsDataOf, IsBroken}
@@ -19,16 +19,15 @@ use Rattle.making_calls.specs.declared.blocks.Taken.TheVariants as taken
 abbrev pub AreShown : Seen → (ℕ → List ℕ) → Type 0
 AreShown v at = (g : Group) → HasGroup v g → IsShown v g at
 
--- A block of a group that the view hasn't, under the group's lock, which is one of the list and held, as each before it is.
+-- A block of a group that the view hasn't, under the group's lock, which is one of the list, exclusive, and held, as each before it is.
 pub record IsGroupBlock (v : Seen) (list : List Hold) (m : Missing) : Type 0 where
   pub group : Group
   pub has : HasGroup v group
   pub missing : IsMissing v group m
-  pub state : State
   pub front : List Hold
   pub back : List Hold
-  pub split : list ≡ front ++ record { lock = m.lock; state = state } ∷ back
-  pub held : AreHeld v (front ++ record { lock = m.lock; state = state } ∷ [])
+  pub split : list ≡ front ++ record { lock = m.lock; state = Ex } ∷ back
+  pub held : AreHeld v (front ++ record { lock = m.lock; state = Ex } ∷ [])
 
 -- something that is found under these locks is so; or this is the first of them that isn't held, or a block that is needed
 abbrev pub IsUnder : {T : Type 0} → Seen → List Hold → (T → Type 0) → Locked T → Type 0
@@ -61,6 +60,13 @@ pub record AreFreeInAll (v : Seen) (says : States) (groups : List Group) (r : Ro
 abbrev pub IsTaken : Seen → States → List Group → Group → Taken → Type 0
 IsTaken v says groups own (taken.Is room) = IsRoom v says (free_for says groups own) room × Contains (group_holds says groups own) (hold_of_group room.group)
 IsTaken v says groups own (taken.TooFew free) = (free ≡ length (free_in_all says groups)) × (free < blocks_needed) × (length (free_in says own) < blocks_needed)
+
+-- a block of a group's header and bitmap that the view hasn't, though the group's lock is held
+pub record IsGroupNeeded (v : Seen) (m : Missing) : Type 0 where
+  pub group : Group
+  pub has : HasGroup v group
+  pub held : holds v (hold_of_group group) ≡ true
+  pub missing : IsMissing v group m
 
 -- as far as the view shows, a group whose lock is held breaks this rule
 pub record IsGroupBroken (v : Seen) (rule b : ℕ) : Type 0 where

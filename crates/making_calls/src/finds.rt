@@ -12,8 +12,10 @@ pub(crate) enum Found {
     Made(Change),
     /// This block isn't in the view.
     NeedBlock(Missing),
-    /// This directory is hashed, or would be with the name.
-    NotBuilt(u64),
+    /// This directory is hashed.
+    Hashed(u64),
+    /// The directory would be hashed with the name.
+    NotBuilt,
     /// This lock isn't held so strongly.
     NeedLock { lock: LockName, state: State },
     /// Every group is held exclusive, and in all of them so many blocks are free.

@@ -1,6 +1,7 @@
 // A try of a call that makes a name.
-ghost use Rattle.std.specs.Prelude.{ℕ, ◌≡◌, ◌≤◌, [], true, false, length, IfOk, None};
+ghost use Rattle.std.specs.Prelude.{ℕ, ◌≡◌, ◌<◌, ◌≤◌, [], true, false, length, IfOk, None};
 ghost use Rattle.cluster_history.specs.Changes.{is_ok};
+ghost use Rattle.file_tree.specs.Apply.{apply};
 ghost use Rattle.file_tree.specs.Names.{IsName};
 ghost use Rattle.file_tree.specs.Tree.{Tree};
 ghost use Rattle.file_tree.specs.declared.reply.Reply.TheVariants.{Ok as OkReply};
@@ -14,10 +15,10 @@ ghost use Rattle.image_model.specs.Image.{Image};
 ghost use Rattle.image_model.specs.Owners.{Owners};
 ghost use Rattle.image_model.specs.Stands.{Layout};
 ghost use Rattle.image_changes.specs.Does.{IsOf, Does};
-ghost use Rattle.path_walks.specs.Answers.{IfDone, IfNeedLock, IfNeedBlock, IfNoSpace, IfNotBuilt};
+ghost use Rattle.path_walks.specs.Answers.{IfDone, IfNeedLock, IfNeedBlock, IfNoSpace, IfHashed, IfNotBuilt, HasSpace};
 ghost use Rattle.path_walks.specs.Holds.{AreHeld, IsAskedFor, IsFirstLack, holds};
 ghost use Rattle.path_walks.specs.Walks.{IsSeenAt};
-ghost use Rattle.making_calls.specs.Making.{AreInside, IfMade, IfNotBuilt as IfUnbuilt, IsDamage, IsFound, IsInTheWay, IsLastOf, IsMade, IsMaking, IsReachedIn, IsRefusal, IsStamped, IsTooFew, IsUnbuilt, IsUnder, LacksName, call_holds, directory_path, makes_directory};
+ghost use Rattle.making_calls.specs.Making.{AreInside, IfMade, IsDamage, IsFound, IsHashedFor, IsLastOf, IsMade, IsMaking, IsNeededFor, IsReachedIn, IsRefusal, IsStamped, IsToldOf, IsTooFew, IsUnbuilt, IsUnder, LacksName, call_holds, directory_path, makes_directory};
 
 use crate::blocks::{Locked, Taken, find_block};
 use crate::drafting::{addition, is_a_view};
@@ -92,8 +93,7 @@ fn make_at<V: View>(
     ensures made { (im : Image) (o : Owners) (l : Layout) (t : Tree) → IsOf (V.seen view.now) im o l t → IfOk result (IfMade (IsMade im o l call.now stamp.now.node stamp.now.time)) }
     ensures stamped { (im : Image) (o : Owners) (l : Layout) (t : Tree) → IsOf (V.seen view.now) im o l t → IfOk result (IfMade (IsStamped im o l call.now stamp.now.time)) }
     ensures refusal { IfOk result IsRefusal }
-    ensures way { IfOk result (IsInTheWay (V.seen view.now)) }
-    ensures hashed { IfOk result (IfUnbuilt (IsUnbuilt (V.seen view.now) call.now)) }
+    ensures told { IfOk result (IsToldOf (V.seen view.now) call.now) }
     ensures sound { (im : Image) (o : Owners) (l : Layout) (t : Tree) → IsOf (V.seen view.now) im o l t → IfDamaged result (λ rule block. ⊥) }
     ensures damaged { IfDamaged result (IsDamage (V.seen view.now) call.now) }
     ensures kept { IfDamaged result (IsOfView (V.seen view.now)) }
@@ -107,7 +107,7 @@ fn make_at<V: View>(
     }
     let fits = look_for_room(view, place.inode, name)?;
     if !fits {
-        return Ok(Found::NotBuilt(place.inode));
+        return Ok(Found::NotBuilt);
     }
     let room = match find_block(view, stamp.node)? {
         Locked::Is(Taken::Is(room)) => room,
@@ -151,8 +151,7 @@ fn find_at<V: View>(
     ensures made { (im : Image) (o : Owners) (l : Layout) (t : Tree) → IsOf (V.seen view.now) im o l t → IfOk result (IfMade (IsMade im o l call.now stamp.now.node stamp.now.time)) }
     ensures stamped { (im : Image) (o : Owners) (l : Layout) (t : Tree) → IsOf (V.seen view.now) im o l t → IfOk result (IfMade (IsStamped im o l call.now stamp.now.time)) }
     ensures refusal { IfOk result IsRefusal }
-    ensures way { IfOk result (IsInTheWay (V.seen view.now)) }
-    ensures hashed { IfOk result (IfUnbuilt (IsUnbuilt (V.seen view.now) call.now)) }
+    ensures told { IfOk result (IsToldOf (V.seen view.now) call.now) }
     ensures sound { (im : Image) (o : Owners) (l : Layout) (t : Tree) → IsOf (V.seen view.now) im o l t → IfDamaged result (λ rule block. ⊥) }
     ensures damaged { IfDamaged result (IsDamage (V.seen view.now) call.now) }
     ensures kept { IfDamaged result (IsOfView (V.seen view.now)) }
@@ -161,7 +160,7 @@ fn find_at<V: View>(
         return Ok(Found::Refused(Reply::NotDir));
     }
     if place.dinode.flags / 2 % 2 == 1 {
-        return Ok(Found::NotBuilt(place.inode));
+        return Ok(Found::Hashed(place.inode));
     }
     match look(view, place.inode, name.bytes())? {
         Step::Is(Some(_)) => Ok(Found::Refused(Reply::Exists)),
@@ -182,8 +181,7 @@ fn find<V: View>(alloc: Global, view: &V, call: &Call, stamp: &Stamp) -> Result<
     ensures made { (im : Image) (o : Owners) (l : Layout) (t : Tree) → IsOf (V.seen view.now) im o l t → IfOk result (IfMade (IsMade im o l call.now stamp.now.node stamp.now.time)) }
     ensures stamped { (im : Image) (o : Owners) (l : Layout) (t : Tree) → IsOf (V.seen view.now) im o l t → IfOk result (IfMade (IsStamped im o l call.now stamp.now.time)) }
     ensures refusal { IfOk result IsRefusal }
-    ensures way { IfOk result (IsInTheWay (V.seen view.now)) }
-    ensures hashed { IfOk result (IfUnbuilt (IsUnbuilt (V.seen view.now) call.now)) }
+    ensures told { IfOk result (IsToldOf (V.seen view.now) call.now) }
     ensures sound { (im : Image) (o : Owners) (l : Layout) (t : Tree) → IsOf (V.seen view.now) im o l t → IfDamaged result (λ rule block. ⊥) }
     ensures damaged { IfDamaged result (IsDamage (V.seen view.now) call.now) }
     ensures kept { IfDamaged result (IsOfView (V.seen view.now)) }
@@ -196,7 +194,7 @@ fn find<V: View>(alloc: Global, view: &V, call: &Call, stamp: &Stamp) -> Result<
         Walk::At(place) => find_at(alloc, view, call, &place, last, stamp),
         Walk::NotFound => Ok(Found::Refused(Reply::NotFound)),
         Walk::NotDir => Ok(Found::Refused(Reply::NotDir)),
-        Walk::Hashed(block) => Ok(Found::NotBuilt(block)),
+        Walk::Hashed(block) => Ok(Found::Hashed(block)),
         Walk::NeedLock { lock, state } => Ok(Found::NeedLock { lock, state }),
         Walk::NeedBlock(missing) => Ok(Found::NeedBlock(missing)),
     }
@@ -225,9 +223,14 @@ pub fn attempt<V: View>(
     ensures lock { (im : Image) (o : Owners) (l : Layout) (t : Tree) → IsOf (V.seen view.now) im o l t → IfNeedLock result (IsFirstLack (V.seen view.now) (call_holds im o l t call.now stamp.now.node)) }
     ensures block { (im : Image) (o : Owners) (l : Layout) (t : Tree) → IsOf (V.seen view.now) im o l t → IfNeedBlock result (IsAskedFor (V.seen view.now) im o l (call_holds im o l t call.now stamp.now.node)) }
     ensures space { (im : Image) (o : Owners) (l : Layout) (t : Tree) → IsOf (V.seen view.now) im o l t → IfNoSpace result (IsTooFew (V.seen view.now) im o l t call.now) }
+    ensures fewer { IfNoSpace result (λ need free. free < need) }
+    ensures spaceless { IfDone result (λ reply change. HasSpace reply) }
     ensures lacked { IfNeedLock result (λ lock state. holds (V.seen view.now) (record { lock = lock; state = state }) ≡ false) }
+    ensures needed { IfNeedBlock result (IsNeededFor (V.seen view.now) call.now) }
     ensures absent { IfNeedBlock result (λ missing. (V.seen view.now).block_at missing.block ≡ None) }
-    ensures hashed { IfNotBuilt result (IsUnbuilt (V.seen view.now) call.now) }
+    ensures hashed { IfHashed result (IsHashedFor (V.seen view.now) call.now) }
+    ensures unbuilt { IfNotBuilt result (IsUnbuilt (V.seen view.now) call.now) }
+    ensures taken { (im : Image) (o : Owners) (l : Layout) (t : Tree) → IsOf (V.seen view.now) im o l t → IfNotBuilt result ((apply call.now t).reply ≡ OkReply) }
     ensures sound { (im : Image) (o : Owners) (l : Layout) (t : Tree) → IsOf (V.seen view.now) im o l t → IfDamaged result (λ rule block. ⊥) }
     ensures damaged { IfDamaged result (IsDamage (V.seen view.now) call.now) }
     ensures kept { IfDamaged result (IsOfView (V.seen view.now)) }
@@ -242,7 +245,8 @@ pub fn attempt<V: View>(
             change,
         },
         Found::NeedBlock(missing) => Attempt::NeedBlock(missing),
-        Found::NotBuilt(block) => Attempt::NotBuilt { block },
+        Found::Hashed(block) => Attempt::Hashed { block },
+        Found::NotBuilt => Attempt::NotBuilt,
         Found::NeedLock { lock, state } => Attempt::NeedLock { lock, state },
         Found::NoSpace(free) => Attempt::NoSpace { need: 1, free },
     })

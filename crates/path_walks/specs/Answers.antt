@@ -1,12 +1,13 @@
 -- Which answer of a call over a view comes when.
 use Rattle.std.specs.Prelude.{ℕ, Result, Ok, ⊤}
 use Rattle.file_tree.specs.declared.reply.Reply.{Reply}
+use Rattle.file_tree.specs.declared.reply.Reply.TheVariants as reply
 use Rattle.glock_names.specs.declared.LockName.{LockName}
 use Rattle.glock_names.specs.declared.State.{State}
 use Rattle.glock_names.specs.declared.steps.CallFault.{CallFault}
 use Rattle.glock_names.specs.declared.steps.Missing.{Missing}
 use Rattle.drafts.specs.declared.attempt.Attempt.{Attempt}
-use Rattle.drafts.specs.declared.attempt.Attempt.TheVariants.{Done, NeedLock, NeedBlock, NoSpace, NotBuilt}
+use Rattle.drafts.specs.declared.attempt.Attempt.TheVariants.{Done, NeedLock, NeedBlock, NoSpace, Hashed, NotBuilt}
 use Rattle.drafts.specs.declared.change.Change.{Change}
 
 -- P of what is told, where the call is answered so
@@ -26,6 +27,15 @@ abbrev pub IfNoSpace : Result Attempt CallFault → (ℕ → ℕ → Type 0) →
 IfNoSpace (Ok (NoSpace need free)) P = P need free
 IfNoSpace _ P = ⊤
 
-abbrev pub IfNotBuilt : Result Attempt CallFault → (ℕ → Type 0) → Type 0
-IfNotBuilt (Ok (NotBuilt block)) P = P block
+abbrev pub IfHashed : Result Attempt CallFault → (ℕ → Type 0) → Type 0
+IfHashed (Ok (Hashed block)) P = P block
+IfHashed _ P = ⊤
+
+abbrev pub IfNotBuilt : Result Attempt CallFault → Type 0 → Type 0
+IfNotBuilt (Ok NotBuilt) P = P
 IfNotBuilt _ P = ⊤
+
+-- the reply doesn't tell of too few free blocks: this is for the node to answer, once it has seen that no call frees some
+abbrev pub HasSpace : Reply → Type 0
+HasSpace reply.NoSpace = ⊥
+HasSpace r = ⊤

@@ -16,6 +16,7 @@ use Rattle.call_locks.specs.WantLaws.{path_of}
 use Rattle.image_model.specs.Image.{Image}
 use Rattle.image_model.specs.Owners.{Owners}
 use Rattle.image_model.specs.Stands.{Layout}
+use Rattle.path_walks.specs.Answers.{HasSpace}
 use Rattle.path_walks.specs.Holds.{Hold, AreHeld, IsAskedFor, IsFirstLack, holds_in}
 use Rattle.path_walks.specs.Walks.{LeadsTo, IsLacked, IsUnread, IsAbsent, IsOnTheWay}
 use Rattle.dinode_tree.specs.Shown.{IsShown}
@@ -79,6 +80,11 @@ IsAsked v a (Read path at count) f = IsAskedRange v a at count f
 IsAsked v a (ListNames path) f = IsAskedList v a f
 IsAsked v a (Stat path) (found.Reply r) = ⊤
 IsAsked v a call f = ⊥
+
+-- a reply isn't that of too few free blocks
+abbrev pub IsSpaceless : Found → Type 0
+IsSpaceless (found.Reply r) = HasSpace r
+IsSpaceless f = ⊤
 
 -- ---- as far as the view shows
 

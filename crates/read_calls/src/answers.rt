@@ -7,7 +7,8 @@ ghost use Rattle.gfs2_layout.specs.Inode.{IsInode, dinode_in};
 ghost use Rattle.glock_names.specs.Steps.{IfDamaged};
 ghost use Rattle.glock_names.specs.Views.{HasBlock, IsOfView};
 ghost use Rattle.dinode_tree.specs.Shown.{IsShown};
-ghost use Rattle.read_calls.specs.Reading.{IsReading, IsRangeOf, IsStatOf, IsListOf, IsAnswerOf, IsAskedRange, IsAskedList, IsAsked};
+ghost use Rattle.read_calls.specs.Reading.{IsReading, IsRangeOf, IsStatOf, IsListOf, IsAnswerOf, IsAskedRange, IsAskedList, IsAsked, IsSpaceless};
+ghost use Rattle.path_walks.specs.Answers.{HasSpace};
 ghost use Rattle.path_walks.specs.Walks.{IsWrong};
 
 use dinode_tree::read_range;
@@ -54,6 +55,7 @@ fn read_file<V: View>(
     requires dinode { (h : Holding) → IsShown (V.seen view.now) place.now.inode h → place.now.dinode ≡ dinode_in h }
     ensures read { (h : Holding) → IsShown (V.seen view.now) place.now.inode h → IsBlockSize h.size → IsInode h → IfOk result (IsRangeOf (V.seen view.now) h at count) }
     ensures asked { IfOk result (IsAskedRange (V.seen view.now) place.now.inode at count) }
+    ensures spaceless { IfOk result IsSpaceless }
     ensures damaged { (h : Holding) → IsShown (V.seen view.now) place.now.inode h → IfDamaged result (IsWrong h) }
     ensures kept { IfDamaged result (IsOfView (V.seen view.now)) }
 {
@@ -68,7 +70,8 @@ fn read_file<V: View>(
 
 // A file's size, or how many names a directory has: `.` and `..` are counted in its dinode too.
 fn stat(place: &Place) -> Reply
-    ensures { (h : Holding) → place.now.dinode ≡ dinode_in h → IsStatOf h result }
+    ensures stat { (h : Holding) → place.now.dinode ≡ dinode_in h → IsStatOf h result }
+    ensures spaceless { HasSpace result }
 {
     if place.dinode.is_directory() {
         Reply::Stat(Kind::Dir, u64::from(place.dinode.entries.saturating_sub(2)))
@@ -83,6 +86,7 @@ fn list<V: View>(alloc: Global, view: &V, place: &Place) -> Result<Read, CallFau
     requires dinode { (h : Holding) → IsShown (V.seen view.now) place.now.inode h → place.now.dinode ≡ dinode_in h }
     ensures read { (h : Holding) → IsShown (V.seen view.now) place.now.inode h → IfOk result (IsListOf h) }
     ensures asked { IfOk result (IsAskedList (V.seen view.now) place.now.inode) }
+    ensures spaceless { IfOk result IsSpaceless }
     ensures damaged { (h : Holding) → IsShown (V.seen view.now) place.now.inode h → IfDamaged result (IsWrong h) }
     ensures kept { IfDamaged result (IsOfView (V.seen view.now)) }
 {
@@ -110,6 +114,7 @@ pub(crate) fn answer_at<V: View>(
     requires dinode { (h : Holding) → IsShown (V.seen view.now) place.now.inode h → place.now.dinode ≡ dinode_in h }
     ensures read { (h : Holding) → IsShown (V.seen view.now) place.now.inode h → IsBlockSize h.size → IsInode h → IfOk result (IsAnswerOf (V.seen view.now) h call.now) }
     ensures asked { IfOk result (IsAsked (V.seen view.now) place.now.inode call.now) }
+    ensures spaceless { IfOk result IsSpaceless }
     ensures damaged { (h : Holding) → IsShown (V.seen view.now) place.now.inode h → IfDamaged result (IsWrong h) }
     ensures kept { IfDamaged result (IsOfView (V.seen view.now)) }
 {

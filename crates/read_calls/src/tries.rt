@@ -9,10 +9,10 @@ ghost use Rattle.image_model.specs.Image.{Image};
 ghost use Rattle.image_model.specs.Owners.{Owners};
 ghost use Rattle.image_model.specs.Stands.{Layout};
 ghost use Rattle.image_changes.specs.Does.{IsOf, Does};
-ghost use Rattle.path_walks.specs.Answers.{IfDone, IfNeedLock, IfNeedBlock, IfNoSpace, IfNotBuilt};
+ghost use Rattle.path_walks.specs.Answers.{IfDone, IfNeedLock, IfNeedBlock, IfNoSpace, IfHashed, IfNotBuilt, HasSpace};
 ghost use Rattle.path_walks.specs.Holds.{AreHeld, IsAskedFor, IsFirstLack, holds_in};
 ghost use Rattle.path_walks.specs.Walks.{IsDamage, IsLacked};
-ghost use Rattle.read_calls.specs.Reading.{IsAnswered, IsFound, IsHashedFor, IsNeededFor, IsReading, IsToldOf};
+ghost use Rattle.read_calls.specs.Reading.{IsAnswered, IsFound, IsHashedFor, IsNeededFor, IsReading, IsSpaceless, IsToldOf};
 
 use crate::answers::{Read, answer_at};
 use call_locks::wants;
@@ -53,6 +53,7 @@ fn find<V: View>(alloc: Global, view: &V, call: &Call) -> Result<Read, CallFault
     requires { IsReading call.now }
     ensures found { (im : Image) (o : Owners) (l : Layout) (t : Tree) → IsOf (V.seen view.now) im o l t → IfOk result (IsFound (V.seen view.now) im o l t call.now) }
     ensures told { IfOk result (IsToldOf (V.seen view.now) call.now) }
+    ensures spaceless { IfOk result IsSpaceless }
     ensures sound { (im : Image) (o : Owners) (l : Layout) (t : Tree) → IsOf (V.seen view.now) im o l t → IfDamaged result (λ rule block. ⊥) }
     ensures damaged { IfDamaged result (IsDamage (V.seen view.now) (wanted call.now) (path_of call.now false)) }
     ensures kept { IfDamaged result (IsOfView (V.seen view.now)) }
@@ -83,10 +84,12 @@ pub fn attempt<V: View>(
     ensures lock { (im : Image) (o : Owners) (l : Layout) (t : Tree) → IsOf (V.seen view.now) im o l t → IfNeedLock result (IsFirstLack (V.seen view.now) (holds_in im o l (path_of call.now false) (wanted call.now))) }
     ensures block { (im : Image) (o : Owners) (l : Layout) (t : Tree) → IsOf (V.seen view.now) im o l t → IfNeedBlock result (IsAskedFor (V.seen view.now) im o l (holds_in im o l (path_of call.now false) (wanted call.now))) }
     ensures space { IfNoSpace result (λ need free. ⊥) }
+    ensures spaceless { IfDone result (λ reply change. HasSpace reply) }
     ensures answered { IfDone result (λ reply change. IsAnswered (V.seen view.now) call.now reply) }
     ensures lacked { IfNeedLock result (IsLacked (V.seen view.now) (wanted call.now) (path_of call.now false)) }
     ensures needed { IfNeedBlock result (IsNeededFor (V.seen view.now) call.now) }
-    ensures hashed { IfNotBuilt result (IsHashedFor (V.seen view.now) call.now) }
+    ensures hashed { IfHashed result (IsHashedFor (V.seen view.now) call.now) }
+    ensures built { IfNotBuilt result ⊥ }
     ensures sound { (im : Image) (o : Owners) (l : Layout) (t : Tree) → IsOf (V.seen view.now) im o l t → IfDamaged result (λ rule block. ⊥) }
     ensures damaged { IfDamaged result (IsDamage (V.seen view.now) (wanted call.now) (path_of call.now false)) }
     ensures kept { IfDamaged result (IsOfView (V.seen view.now)) }
@@ -97,7 +100,7 @@ pub fn attempt<V: View>(
             change: nothing(alloc),
         },
         Read::NeedBlock(missing) => Attempt::NeedBlock(missing),
-        Read::Hashed(block) => Attempt::NotBuilt { block },
+        Read::Hashed(block) => Attempt::Hashed { block },
         Read::NeedLock { lock, state } => Attempt::NeedLock { lock, state },
     })
 }

@@ -15,33 +15,17 @@ use Rattle.linear_dirs.specs.Shown.{IsLinearIn, HasNameIn}
 use Rattle.linear_dirs.proofs.Looked.{bytes_of, dinode_there}
 use Rattle.resource_groups.specs.Putting.{HasDataBlock}
 use Rattle.image_model.specs.Flat.{Path}
-use Rattle.image_model.proofs.Held.{none_some, some_same}
+use Rattle.image_model.proofs.Held.{none_some}
 use Rattle.image_changes.proofs.FlatPaths.{last_name}
 use Rattle.path_walks.specs.Walks.{LeadsTo, at_root, by_name, Names, IsLinearDirectory, IsSeenAt}
 use Rattle.path_walks.specs.declared.walk.Place.{Place}
+use Rattle.path_walks.proofs.Leads.{leads_once}
 use Rattle.path_walks.proofs.Lists.{parent_of_next}
 use Rattle.removing_calls.specs.Removing.{IsLastOf}
 
 no_end : {A : Type 0} (front : List A) (x : A) → [] ≡ front ++ x ∷ [] → ⊥
 no_end [] x e = cc
 no_end (y ∷ front) x e = cc
-
--- a name of a directory leads to one block
-one_child : (v : Seen) (dir b c : ℕ) (name : List ℕ) → Names v dir name b → Names v dir name c → b ≡ c
-one_child v dir b c name first second =
-    let s = some_is_shown v dir in
-    some_same (sym (first.child s.0 s.1.0) ∙ second.child s.0 s.1.0)
-
--- and so does a path
-pub leads_once : (v : Seen) (wants : List Want) (p q : Path) (a b : ℕ) → LeadsTo v wants p a → LeadsTo v wants q b → p ≡ q → a ≡ b
-leads_once v wants [] [] a b (at_root held) (at_root held') e = refl
-leads_once v wants [] q a b (at_root held) (by_name front dir b' name leads is_name named inside held') e = absurd (no_end front name e)
-leads_once v wants p [] a b (by_name front dir b' name leads is_name named inside held) (at_root held') e = absurd (no_end front name (sym e))
-leads_once v wants p q a b (by_name front dir a' name leads is_name named inside held) (by_name front' dir' b' name' leads' is_name' named' inside' held') e =
-    let same_front : front ≡ front' = sym (parent_of_next front name) ∙ ap parent_of e ∙ parent_of_next front' name' in
-    let same_name : name ≡ name' = last_name front front' name name' e in
-    let same_dir : dir ≡ dir' = leads_once v wants front front' dir dir' leads leads' same_front in
-    one_child v dir a' b' name named (subst (λ n. Names v dir n b') (sym same_name) (subst (λ d. Names v d name' b') (sym same_dir) named'))
 
 -- the last step of a path
 pub record IsLastStep (v : Seen) (wants : List Want) (front : Path) (name : List ℕ) (a : ℕ) : Type 0 where

@@ -1,5 +1,5 @@
 -- What is made of the inode at the path's end, as the view shows it.
-use Rattle.std.proofs.Common.{◌≡◌, ℕ, false, true, List, sym, ap, ◌∙◌, subst}
+use Rattle.std.proofs.Common.{◌≡◌, ◌≢◌, ℕ, false, List, [], sym, ap, ◌∙◌, subst}
 use Rattle.cluster_history.specs.Changes.{is_ok}
 use Rattle.file_tree.specs.Apply.{apply}
 use Rattle.file_tree.specs.Tree.{Tree}
@@ -7,7 +7,7 @@ use Rattle.file_tree.specs.declared.call.Call.{Call}
 use Rattle.file_tree.specs.declared.call.Call.TheVariants as call
 use Rattle.file_tree.specs.declared.reply.Reply.{Reply}
 use Rattle.gfs2_layout.specs.Holding.{Holding}
-use Rattle.gfs2_layout.specs.Inode.{dinode_in, is_hashed_in}
+use Rattle.gfs2_layout.specs.Inode.{dinode_in}
 use Rattle.glock_names.specs.Views.{Seen}
 use Rattle.call_locks.specs.Wants.{wanted}
 use Rattle.call_locks.specs.WantLaws.{path_of}
@@ -17,6 +17,7 @@ use Rattle.image_model.specs.Image.{Image}
 use Rattle.image_model.specs.Owners.{Owners, holding}
 use Rattle.image_model.specs.Stands.{Layout}
 use Rattle.image_changes.specs.Does.{IsOf}
+use Rattle.path_walks.specs.Answers.{HasSpace}
 use Rattle.path_walks.specs.Holds.{AreHeld}
 use Rattle.path_walks.specs.Walks.{IsSeenAt}
 use Rattle.path_walks.specs.declared.walk.Place.{Place}
@@ -26,8 +27,8 @@ use Rattle.removing_calls.specs.declared.aims.Aim.{Aim}
 use Rattle.removing_calls.specs.declared.aims.Aim.TheVariants as aim
 use Rattle.removing_calls.proofs.Trees.{aim_not_ok, aim_refuses, plain_list}
 
-hashed_of : (c : Call) (h : Holding) (b : ℕ) → IsAimOf c h (aim.Hashed b) → (b ≡ h.own) × (is_hashed_in h ≡ true)
-hashed_of (call.Rmdir p) h b is = is
+hashed_of : (c : Call) (h : Holding) (b : ℕ) → IsAimOf c h (aim.Hashed b) → b ≡ h.own
+hashed_of (call.Rmdir p) h b is = is.0
 hashed_of (call.Unlink p) h b is = absurd is
 hashed_of (call.Create p) h b is = absurd is
 hashed_of (call.Mkdir p) h b is = absurd is
@@ -44,17 +45,17 @@ module _ (v : Seen) (c : Call) (p : Place) (there : IsSeenAt v (wanted c) (path_
   pub aim_shown : (h : Holding) → IsShown v p.inode h → IsAimOf c h made
   aim_shown h shown = aims h shown.own (there.dinode h shown)
 
-  pub is_refused : (r : Reply) → made ≡ aim.Refused r → is_ok r ≡ false
+  pub is_refused : (r : Reply) → made ≡ aim.Refused r → (is_ok r ≡ false) × HasSpace r
   is_refused r is = let s = some_is_shown v p.inode in aim_not_ok c s.0 r (subst (IsAimOf c s.0) is (aim_shown s.0 s.1.0))
 
   pub told_refused : (r : Reply) → made ≡ aim.Refused r → IsRefused v c r
   told_refused r is = IsRefused.at_end p.inode r there.leads there.there (λ h shown. subst (IsAimOf c h) is (aim_shown h shown))
 
-  pub is_hashed : (b : ℕ) → made ≡ aim.Hashed b → IsHashedFor v c b
-  is_hashed b is =
+  pub is_hashed : (b : ℕ) → path_of c false ≢ [] → made ≡ aim.Hashed b → IsHashedFor v c b
+  is_hashed b below is =
       let s = some_is_shown v p.inode in
-      let same : b ≡ p.inode = (hashed_of c s.0 b (subst (IsAimOf c s.0) is (aim_shown s.0 s.1.0))).0 ∙ s.1.0.own in
-      subst (IsHashedFor v c) (sym same) (at_end there.leads (λ h shown. (hashed_of c h b (subst (IsAimOf c h) is (aim_shown h shown))).1))
+      let same : b ≡ p.inode = hashed_of c s.0 b (subst (IsAimOf c s.0) is (aim_shown s.0 s.1.0)) ∙ s.1.0.own in
+      subst (IsHashedFor v c) (sym same) (at_end below there.leads there.there (λ h shown. subst (λ x. IsAimOf c h (aim.Hashed x)) same (subst (IsAimOf c h) is (aim_shown h shown))))
 
   module _ (name : List ℕ) (last : IsLastOf (path_of c false) name) (im : Image) (o : Owners) (l : Layout) (t : Tree) (of : IsOf v im o l t) (reached : IsReachedIn v im o l c p) (r : Reply) (is : made ≡ aim.Refused r) where
     pub refuses : (apply c t).reply ≡ r
@@ -62,4 +63,4 @@ module _ (v : Seen) (c : Call) (p : Place) (there : IsSeenAt v (wanted c) (path_
         (subst (IsAimOf c (holding im o p.inode)) is (aim_shown (holding im o p.inode) (is_shown v im o l t of (path_of c false) p.inode reached.place.at)))
 
     pub refused_held : AreHeld v (holds_for im o l t c)
-    refused_held = subst (AreHeld v) (sym (plain_list im o l t c (ap is_ok refuses ∙ is_refused r is))) reached.held
+    refused_held = subst (AreHeld v) (sym (plain_list im o l t c (ap is_ok refuses ∙ (is_refused r is).0))) reached.held

@@ -1,5 +1,5 @@
 -- A removal at the place to which the walk came: what is asked for, and what is damaged.
-use Rattle.std.proofs.Common.{◌≡◌, ◌↔◌, inl, ℕ, ◌+◌, true, false, List, [], ◌∷◌, ◌++◌, length, sym, ap, ◌∙◌, subst}
+use Rattle.std.proofs.Common.{◌≡◌, ◌≢◌, ◌↔◌, inl, ℕ, ◌+◌, true, false, List, [], ◌∷◌, ◌++◌, length, sym, ap, ◌∙◌, subst}
 use Rattle.std.proofs.lemmas.List.{append_assoc, append-nil}
 use Rattle.std.specs.Prelude.{Contains}
 use Rattle.cluster_history.specs.Changes.{is_ok}
@@ -34,6 +34,7 @@ use Rattle.path_walks.specs.Walks.{IsSeenAt, IsWrong, IsHeldAt, IsNext, LeadsTo,
 use Rattle.path_walks.specs.Walks as path
 use Rattle.path_walks.specs.declared.walk.Place.{Place}
 use Rattle.path_walks.proofs.Images.{is_inode, is_shown, unbroken_directory}
+use Rattle.path_walks.proofs.Leads.{no_end}
 use Rattle.path_walks.proofs.Lists.{parent_of_next}
 use Rattle.removing_calls.specs.Drafting as drafting
 use Rattle.removing_calls.specs.Drafting.{IsWrongIn}
@@ -67,10 +68,13 @@ module _ (v : Seen) (c : Call) (p : Place) (name : List ℕ) (last : IsLastOf (p
   pub above_named : HasNameIn v p.above name
   above_named = named_in v p.above p.inode name names
 
+  pub below_root : path_of c false ≢ []
+  below_root root = no_end last.0 name (sym root ∙ last.1)
+
   pub below_damage : ((h : Holding) → IsShown v p.inode h → IsAimOf c h aim.Taken) → (rule b : ℕ) → IsWrongBelow v p.inode rule b → IsDamage v c rule b
   below_damage taken rule b (damage.in_inode r d broken) =
       damage.on_path r d (wrong_on_way v (wanted c) (path_of c false) p.inode there.leads (path_of c false) [] (sym (append-nil (path_of c false))) r d (λ h shown. path.in_inode r d (broken h shown)))
-  below_damage taken rule b (damage.stray d goes outside) = damage.stray p.inode d (record { leads = there.leads; there = there.there; aim = taken }) goes outside
+  below_damage taken rule b (damage.stray d goes outside) = damage.stray p.inode d (record { below = below_root; leads = there.leads; there = there.there; aim = taken }) goes outside
 
   module _ (im : Image) (o : Owners) (l : Layout) (t : Tree) (of : IsOf v im o l t) (reached : IsReachedIn v im o l c p) where
     pub above_inside : HasDataBlock v p.above
@@ -95,7 +99,7 @@ module _ (v : Seen) (c : Call) (p : Place) (name : List ℕ) (last : IsLastOf (p
         damage.on_path r d (wrong_on_way v (wanted c) (parent_of (path_of c false)) p.above there.above (path_of c false) (name ∷ []) (last.1 ∙ ap (λ q. q ++ name ∷ []) (sym (ap parent_of last.1 ∙ parent_of_next last.0 name))) r d
         (λ h shown. path.in_directory r d (names.linear h shown) (broken h shown)))
     removal_damage taken groups rule b (drafting.in_group r d breaks) =
-        damage.in_group p.inode r d blocks (record { leads = there.leads; there = there.there; aim = taken }) goes groups breaks
+        damage.in_group p.inode r d blocks (record { below = below_root; leads = there.leads; there = there.there; aim = taken }) goes groups breaks
 
     module _ (taken : (h : Holding) → IsShown v p.inode h → IsAimOf c h aim.Taken) (im : Image) (o : Owners) (l : Layout) (t : Tree) (of : IsOf v im o l t) (reached : IsReachedIn v im o l c p) where
       shown : IsShown v p.inode (holding im o p.inode)

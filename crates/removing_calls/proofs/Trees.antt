@@ -26,6 +26,7 @@ use Rattle.image_changes.specs.Walks.{ListsNames}
 use Rattle.image_changes.proofs.DirectoryNames.{directories_list}
 use Rattle.image_changes.proofs.Nodes.{file_thing}
 use Rattle.image_changes.proofs.Walks.{walks_find}
+use Rattle.path_walks.specs.Answers.{HasSpace}
 use Rattle.path_walks.specs.Holds.{holds_in}
 use Rattle.path_walks.proofs.Images.{is_inode}
 use Rattle.removing_calls.specs.Removing.{IsRemoving, IsAimOf, IsFileAim, IsDirectoryAim, IsLastOf, holds_for}
@@ -137,19 +138,18 @@ module _ (v : Seen) (im : Image) (o : Owners) (l : Layout) (t : Tree) (of : IsOf
 
 -- ---- what is made of the inode at the path's end
 
--- a refusal isn't Ok
-pub aim_not_ok : (c : Call) (h : Holding) (r : Reply) → IsAimOf c h (aim.Refused r) → is_ok r ≡ false
-aim_not_ok c h reply.IsDir is = refl
-aim_not_ok c h reply.NotDir is = refl
-aim_not_ok c h reply.NotEmpty is = refl
-aim_not_ok c h (reply.Stat kind size) is = refl
-aim_not_ok c h (reply.Bytes bytes) is = refl
-aim_not_ok c h (reply.Names names) is = refl
-aim_not_ok c h reply.NotFound is = refl
-aim_not_ok c h reply.Exists is = refl
-aim_not_ok c h reply.Inside is = refl
-aim_not_ok c h reply.TooBig is = refl
-aim_not_ok c h reply.NoSpace is = refl
+-- a refusal isn't Ok, and doesn't tell of too few free blocks
+pub aim_not_ok : (c : Call) (h : Holding) (r : Reply) → IsAimOf c h (aim.Refused r) → (is_ok r ≡ false) × HasSpace r
+aim_not_ok c h reply.IsDir is = (refl, tt)
+aim_not_ok c h reply.NotDir is = (refl, tt)
+aim_not_ok c h reply.NotEmpty is = (refl, tt)
+aim_not_ok c h (reply.Stat kind size) is = (refl, tt)
+aim_not_ok c h (reply.Bytes bytes) is = (refl, tt)
+aim_not_ok c h (reply.Names names) is = (refl, tt)
+aim_not_ok c h reply.NotFound is = (refl, tt)
+aim_not_ok c h reply.Exists is = (refl, tt)
+aim_not_ok c h reply.Inside is = (refl, tt)
+aim_not_ok c h reply.TooBig is = (refl, tt)
 aim_not_ok (call.Unlink p) h reply.Ok is = absurd is
 aim_not_ok (call.Rmdir p) h reply.Ok is = absurd is
 aim_not_ok (call.Create p) h reply.Ok is = absurd is
@@ -162,6 +162,18 @@ aim_not_ok (call.Stat p) h reply.Ok is = absurd is
 aim_not_ok (call.List p) h reply.Ok is = absurd is
 aim_not_ok (call.Rename p q) h reply.Ok is = absurd is
 aim_not_ok call.Sync h reply.Ok is = absurd is
+aim_not_ok (call.Unlink p) h reply.NoSpace is = absurd is
+aim_not_ok (call.Rmdir p) h reply.NoSpace is = absurd is
+aim_not_ok (call.Create p) h reply.NoSpace is = absurd is
+aim_not_ok (call.Mkdir p) h reply.NoSpace is = absurd is
+aim_not_ok (call.Read p at count) h reply.NoSpace is = absurd is
+aim_not_ok (call.Dread p at count) h reply.NoSpace is = absurd is
+aim_not_ok (call.Write p at new) h reply.NoSpace is = absurd is
+aim_not_ok (call.Truncate p size) h reply.NoSpace is = absurd is
+aim_not_ok (call.Stat p) h reply.NoSpace is = absurd is
+aim_not_ok (call.List p) h reply.NoSpace is = absurd is
+aim_not_ok (call.Rename p q) h reply.NoSpace is = absurd is
+aim_not_ok call.Sync h reply.NoSpace is = absurd is
 
 module _ (v : Seen) (im : Image) (o : Owners) (l : Layout) (t : Tree) (of : IsOf v im o l t) where
   unlink_refusal : (p : Path) (name : List ℕ) (a : ℕ) → IsLastOf p name → IsAt im o l p a → (r : Reply) → IsFileAim (holding im o a) (aim.Refused r) → unlink t p ≡ refuse r t

@@ -34,6 +34,7 @@ use Rattle.image_model.specs.Stands.{Layout, flat_of}
 use Rattle.image_changes.specs.Changes.{inode_of}
 use Rattle.image_changes.specs.Does.{frees, with_change}
 use Rattle.image_changes.specs.Instances.{IsAt}
+use Rattle.path_walks.specs.Answers.{HasSpace}
 use Rattle.path_walks.specs.Holds.{Hold, AreHeld, EndsWith, IsAskedFor, IsFirstLack, hold_of, holds_in}
 use Rattle.path_walks.specs.Walks.{LeadsTo, IsAbsent, IsLacked, IsOnTheWay, IsPlaceOf, IsUnread}
 use Rattle.path_walks.specs.Walks as path
@@ -63,7 +64,7 @@ IsFileAim h a = ⊥
 abbrev pub IsDirectoryAim : Holding → Aim → Type 0
 IsDirectoryAim h (aim.Refused reply.NotDir) = is_directory_in h ≡ false
 IsDirectoryAim h (aim.Refused reply.NotEmpty) = (is_directory_in h ≡ true) × ((dinode_in h).entries ≢ 2)
-IsDirectoryAim h (aim.Hashed b) = (b ≡ h.own) × (is_hashed_in h ≡ true)
+IsDirectoryAim h (aim.Hashed b) = (b ≡ h.own) × (is_hashed_in h ≡ true) × ((dinode_in h).entries ≡ 2)
 IsDirectoryAim h aim.Taken = (is_directory_in h ≡ true) × (is_hashed_in h ≡ false) × ((dinode_in h).entries ≡ 2)
 IsDirectoryAim h a = ⊥
 
@@ -94,8 +95,9 @@ IsLastOf path name = (front : Path) × (path ≡ front ++ name ∷ [])
 
 -- ---- as far as the view shows
 
--- the path leads to this inode, and the call takes it away
+-- the path leads to this inode, which isn't the root, and the call takes it away
 pub record IsTakenAt (v : Seen) (call : Call) (a : ℕ) : Type 0 where
+  pub below : path_of call false ≢ []
   pub leads : LeadsTo v (wanted call) (path_of call false) a
   pub there : HasBlock v a
   pub aim : (h : Holding) → IsShown v a h → IsAimOf call h aim.Taken
@@ -146,10 +148,10 @@ pub data IsNeededFor (v : Seen) (call : Call) (m : Missing) : Type 0 where
   of_inode : (a : ℕ) → IsTakenAt v call a → ((h : Holding) → IsShown v a h → IsNeeded v h AnyIndex 1 m) → IsNeededFor v call m
   of_group : (a : ℕ) (blocks : List ℕ) → IsTakenAt v call a → AreAllOf v a blocks → GroupsAreHeld v blocks → freeing.IsNeededFor v blocks m → IsNeededFor v call m
 
--- a hashed directory without which the call isn't answered: one on its path, or the one that it would remove
+-- a hashed directory without which the call isn't answered: one on its path; or the one that it would remove, which isn't the root
 pub data IsHashedFor (v : Seen) (call : Call) (b : ℕ) : Type 0 where
   on_path : IsOnTheWay v (wanted call) (path_of call false) b (λ h. is_hashed_in h ≡ true) → IsHashedFor v call b
-  at_end : LeadsTo v (wanted call) (path_of call false) b → ((h : Holding) → IsShown v b h → is_hashed_in h ≡ true) → IsHashedFor v call b
+  at_end : path_of call false ≢ [] → LeadsTo v (wanted call) (path_of call false) b → HasBlock v b → ((h : Holding) → IsShown v b h → IsAimOf call h (aim.Hashed b)) → IsHashedFor v call b
 
 abbrev pub IsToldOf : {V : Type 0} → (V → Seen) → V → Call → ℕ → Found → Type 0
 IsToldOf seen view call time (found.Refused r) = IsRefused (seen view) call r
@@ -200,9 +202,9 @@ pub record IsUnder (o : Owners) (list : List Hold) (change : Change) : Type 0 wh
 abbrev pub IsStamped : Image → Owners → Layout → Call → ℕ → Change → Type 0
 IsStamped im o l call time change = (a : ℕ) × IsAt im o l (parent_of (path_of call false)) a × HasTimes (dinode_of ((with_change im change).at a)) time
 
--- what a refusal is not
+-- what a refusal is not: `ok`, or that too few blocks are free
 abbrev pub IsRefusal : Found → Type 0
-IsRefusal (found.Refused r) = is_ok r ≡ false
+IsRefusal (found.Refused r) = (is_ok r ≡ false) × HasSpace r
 IsRefusal f = ⊤
 
 -- P of the change of a removal

@@ -14,7 +14,7 @@ ghost use Rattle.image_model.specs.Image.{Image};
 ghost use Rattle.image_model.specs.Owners.{Owners};
 ghost use Rattle.image_model.specs.Stands.{Layout};
 ghost use Rattle.image_changes.specs.Does.{IsOf, Does};
-ghost use Rattle.path_walks.specs.Answers.{IfDone, IfNeedLock, IfNeedBlock, IfNoSpace, IfNotBuilt};
+ghost use Rattle.path_walks.specs.Answers.{IfDone, IfNeedLock, IfNeedBlock, IfNoSpace, IfHashed, IfNotBuilt, HasSpace};
 ghost use Rattle.path_walks.specs.Holds.{AreHeld, IsAskedFor, IsFirstLack};
 ghost use Rattle.path_walks.specs.Walks.{IsSeenAt};
 ghost use Rattle.removing_calls.specs.Removing.{IfRemoved, IsAimOf, IsAnswered, IsDamage, IsFound, IsHashedFor, IsLackedFor, IsLastOf, IsNeededFor, IsPlaceIn, IsReachedIn, IsRefusal, IsRemoving, IsStamped, IsToldOf, IsUnder, WritesInside, holds_for};
@@ -51,6 +51,7 @@ fn refusal_of_root(call: &Call) -> Reply
     requires root { path_of call.now false ≡ [] }
     ensures reply { (t : Tree) → (apply call.now t).reply ≡ result }
     ensures refusal { is_ok result ≡ false }
+    ensures spaceless { HasSpace result }
 {
     match call {
         Call::Unlink(_) => Reply::IsDir,
@@ -200,11 +201,13 @@ pub fn attempt<V: View>(
     ensures stamped { (im : Image) (o : Owners) (l : Layout) (t : Tree) → IsOf (V.seen view.now) im o l t → IfDone result (λ reply change. is_ok reply ≡ true → IsStamped im o l call.now stamp.now.time change) }
     ensures under { (im : Image) (o : Owners) (l : Layout) (t : Tree) → IsOf (V.seen view.now) im o l t → IfDone result (λ reply change. is_ok reply ≡ true → IsUnder o (holds_for im o l t call.now) change) }
     ensures space { IfNoSpace result (λ need free. ⊥) }
+    ensures spaceless { IfDone result (λ reply change. HasSpace reply) }
     ensures answered { IfDone result (IsAnswered V.seen view.now call.now stamp.now.time) }
     ensures inside { IfDone result (λ reply change. is_ok reply ≡ true → WritesInside (V.seen view.now) change) }
     ensures lacked { IfNeedLock result (IsLackedFor (V.seen view.now) call.now) }
     ensures needed { IfNeedBlock result (IsNeededFor (V.seen view.now) call.now) }
-    ensures hashed { IfNotBuilt result (IsHashedFor (V.seen view.now) call.now) }
+    ensures hashed { IfHashed result (IsHashedFor (V.seen view.now) call.now) }
+    ensures built { IfNotBuilt result ⊥ }
     ensures sound { (im : Image) (o : Owners) (l : Layout) (t : Tree) → IsOf (V.seen view.now) im o l t → IfDamaged result (λ rule block. ⊥) }
     ensures damaged { IfDamaged result (IsDamage (V.seen view.now) call.now) }
     ensures kept { IfDamaged result (IsOfView (V.seen view.now)) }
@@ -219,7 +222,7 @@ pub fn attempt<V: View>(
             change,
         },
         Found::NeedBlock(missing) => Attempt::NeedBlock(missing),
-        Found::Hashed(block) => Attempt::NotBuilt { block },
+        Found::Hashed(block) => Attempt::Hashed { block },
         Found::NeedLock { lock, state } => Attempt::NeedLock { lock, state },
     })
 }

@@ -12,8 +12,7 @@ use Rattle.script_lang.specs.declared.script.Armed.{Armed}
 use Rattle.script_lang.specs.declared.script.Line.{Line}
 use Rattle.script_lang.specs.declared.script.Line.TheVariants as line
 use Rattle.script_lang.specs.Script.{ScriptValue}
-use Rattle.script_lang.specs.OneNode.{IsRootCall}
-use Rattle.script_lang.specs.OneNode.{IsOneNode, IsOneNodeLine}
+use Rattle.script_lang.specs.OneNode.{IsOneNode, IsOwnCall, IsOwnLine}
 use Rattle.script_lang.specs.WellFormed.{IsClient, IsLine, IsWellFormed}
 use Rattle.script_lang.specs.Foreign.{is_own_call, is_own_line, first_not, first_foreign}
 
@@ -42,41 +41,41 @@ first_not-none {A} f n (x ∷ xs) rest is = by_test (first_not-none f (n + 1) xs
 
 -- ---- one line
 
-pub root_call : (call : Call) → is_own_call call ≡ true → IsRootCall call
-root_call (calls.Read path at count) is = grind (arith, nat_tests)
-root_call (calls.List path) is = grind (arith, nat_tests)
-root_call (calls.Create path) is = cc
-root_call (calls.Mkdir path) is = cc
-root_call (calls.Unlink path) is = cc
-root_call (calls.Rmdir path) is = cc
-root_call (calls.Dread path at count) is = cc
-root_call (calls.Write path at content) is = cc
-root_call (calls.Truncate path size) is = cc
-root_call (calls.Stat path) is = cc
-root_call (calls.Rename from to) is = cc
-root_call calls.Sync is = cc
+pub built_call : (call : Call) → is_own_call call ≡ true → IsOwnCall call
+built_call (calls.Dread path at count) is = cc
+built_call (calls.Truncate path size) is = cc
+built_call (calls.Rename from to) is = cc
+built_call (calls.Read path at count) is = tt
+built_call (calls.List path) is = tt
+built_call (calls.Create path) is = tt
+built_call (calls.Mkdir path) is = tt
+built_call (calls.Unlink path) is = tt
+built_call (calls.Rmdir path) is = tt
+built_call (calls.Write path at content) is = tt
+built_call (calls.Stat path) is = tt
+built_call calls.Sync is = tt
 
-own_call : (call : Call) → IsRootCall call → is_own_call call ≡ true
-own_call (calls.Read path at count) is = grind (arith, nat_tests)
-own_call (calls.List path) is = grind (arith, nat_tests)
-own_call (calls.Create path) is = absurd is
-own_call (calls.Mkdir path) is = absurd is
-own_call (calls.Unlink path) is = absurd is
-own_call (calls.Rmdir path) is = absurd is
+own_call : (call : Call) → IsOwnCall call → is_own_call call ≡ true
 own_call (calls.Dread path at count) is = absurd is
-own_call (calls.Write path at content) is = absurd is
 own_call (calls.Truncate path size) is = absurd is
-own_call (calls.Stat path) is = absurd is
 own_call (calls.Rename from to) is = absurd is
-own_call calls.Sync is = absurd is
+own_call (calls.Read path at count) is = refl
+own_call (calls.List path) is = refl
+own_call (calls.Create path) is = refl
+own_call (calls.Mkdir path) is = refl
+own_call (calls.Unlink path) is = refl
+own_call (calls.Rmdir path) is = refl
+own_call (calls.Write path at content) is = refl
+own_call (calls.Stat path) is = refl
+own_call calls.Sync is = refl
 
-one_node_line : (s : ScriptValue) (l : Line) → IsLine s l → is_own_line l ≡ true → IsOneNodeLine s l
-one_node_line s (line.Call client call) is own = (is.0, root_call call own)
+one_node_line : (s : ScriptValue) (l : Line) → IsLine s l → is_own_line l ≡ true → IsOwnLine (length s.clients) l
+one_node_line s (line.Call client call) is own = (is.0, built_call call own)
 one_node_line s line.Wait is own = tt
 one_node_line s (line.Crash nodes) is own = cc
 one_node_line s (line.Join node) is own = cc
 
-own_line : (s : ScriptValue) (l : Line) → IsOneNodeLine s l → is_own_line l ≡ true
+own_line : (s : ScriptValue) (l : Line) → IsOwnLine (length s.clients) l → is_own_line l ≡ true
 own_line s (line.Call client call) is = own_call call is.1
 own_line s line.Wait is = refl
 own_line s (line.Crash nodes) is = absurd is
@@ -139,12 +138,12 @@ module _ (s : ScriptValue) (well : IsWellFormed s) where
             clients = all_map (λ (c : Client). on_one c ≡ true) (λ (c : Client). c.node ≡ 1) s.clients (λ c is. eqb-true c.node 1 is) heads.0;
             names = well.names;
             armed = no_crash s.armed crashes.0;
-            lines = all_both (IsLine s) (λ (l : Line). is_own_line l ≡ true) (IsOneNodeLine s) s.lines (one_node_line s) well.lines own;
+            lines = all_both (IsLine s) (λ (l : Line). is_own_line l ≡ true) (IsOwnLine (length s.clients)) s.lines (one_node_line s) well.lines own;
           }
 
   from_form : IsOneNode s → first_foreign s ≡ None
   from_form form =
-      let own : AllPass is_own_line s.lines = all_map (IsOneNodeLine s) (λ (l : Line). is_own_line l ≡ true) s.lines (own_line s) form.lines in
+      let own : AllPass is_own_line s.lines = all_map (IsOwnLine (length s.clients)) (λ (l : Line). is_own_line l ≡ true) s.lines (own_line s) form.lines in
       sym (at_lines form.nodes form.armed) ∙ ap (first_not (2 + length s.clients)) (sym (append-nil (map is_own_line s.lines))) ∙ first_not-pass is_own_line (2 + length s.clients) s.lines [] own
 
   pub form_of : (r : Option ℕ) → r ≡ first_foreign s → IsNone r ↔ IsOneNode s

@@ -1,5 +1,5 @@
 -- The first line of a script that one node alone cannot run.
-use Rattle.std.specs.Prelude.{ℕ, ◌+◌, ◌==◌, nat_le, Bool, true, false, if◌then◌else◌, List, [], ◌∷◌, ◌++◌, length, map, Option, Some, None}
+use Rattle.std.specs.Prelude.{ℕ, ◌+◌, ◌==◌, Bool, true, false, if◌then◌else◌, List, [], ◌∷◌, ◌++◌, length, map, Option, Some, None}
 use Rattle.file_tree.specs.declared.call.Call.{Call}
 use Rattle.file_tree.specs.declared.call.Call.TheVariants as calls
 use Rattle.script_lang.specs.declared.script.Client.{Client}
@@ -8,11 +8,12 @@ use Rattle.script_lang.specs.declared.script.Line.{Line}
 use Rattle.script_lang.specs.declared.script.Line.TheVariants as line
 use Rattle.script_lang.specs.Script.{ScriptValue}
 
--- one node reads and lists at the root, and waits
+-- one node takes calls that are built, and waits
 abbrev pub is_own_call : Call → Bool
-is_own_call (calls.Read path at count) = nat_le (length path) 1
-is_own_call (calls.List path) = nat_le (length path) 1
-is_own_call _ = false
+is_own_call (calls.Dread path at count) = false
+is_own_call (calls.Truncate path size) = false
+is_own_call (calls.Rename from to) = false
+is_own_call _ = true
 
 abbrev pub is_own_line : Line → Bool
 is_own_line (line.Call client call) = is_own_call call

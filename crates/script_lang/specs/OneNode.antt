@@ -1,5 +1,5 @@
--- Scripts that one node can run: clients of node 1, which read and list at the root, and wait.
-use Rattle.std.specs.Prelude.{◌≡◌, ◌≢◌, ◌<◌, ◌≤◌, List, [], ◌∷◌, length, ⊤}
+-- Scripts that one node can run: clients of node 1, whose calls are built, and which wait.
+use Rattle.std.specs.Prelude.{ℕ, ◌≡◌, ◌≢◌, ◌<◌, List, [], ◌∷◌, length, ⊤}
 use Rattle.std.specs.List.{AllByRecursion}
 use Rattle.script_lang.specs.declared.script.Client.{Client}
 use Rattle.script_lang.specs.declared.script.Line.{Line}
@@ -8,17 +8,18 @@ use Rattle.script_lang.specs.Script.{ScriptValue}
 use Rattle.file_tree.specs.declared.call.Call.{Call}
 use Rattle.file_tree.specs.declared.call.Call.TheVariants as calls
 
--- a read or a list of the root or of a name in it
-abbrev pub IsRootCall : Call → Type 0
-IsRootCall (calls.Read path at count) = length path ≤ 1
-IsRootCall (calls.List path) = length path ≤ 1
-IsRootCall _ = ⊥
+-- a call that is built: today each but those that read past the node's copies, set a file's size, or move a name
+abbrev pub IsOwnCall : Call → Type 0
+IsOwnCall (calls.Dread path at count) = ⊥
+IsOwnCall (calls.Truncate path size) = ⊥
+IsOwnCall (calls.Rename from to) = ⊥
+IsOwnCall _ = ⊤
 
--- a call of one of the clients, which reads or lists at the root, or a wait
-abbrev pub IsOneNodeLine : ScriptValue → Line → Type 0
-IsOneNodeLine s (line.Call client call) = (client < length s.clients) × IsRootCall call
-IsOneNodeLine s line.Wait = ⊤
-IsOneNodeLine s _ = ⊥
+-- where there are so many clients: a call of one of them that is built, or a wait
+abbrev pub IsOwnLine : ℕ → Line → Type 0
+IsOwnLine clients (line.Call client call) = (client < clients) × IsOwnCall call
+IsOwnLine clients line.Wait = ⊤
+IsOwnLine clients _ = ⊥
 
 -- no two clients have one name
 abbrev pub HaveOwnClientNames : List Client → Type 0
@@ -30,4 +31,4 @@ pub record IsOneNode (s : ScriptValue) : Type 0 where
   pub clients : AllByRecursion (λ (c : Client). c.node ≡ 1) s.clients
   pub names : HaveOwnClientNames s.clients
   pub armed : s.armed ≡ []
-  pub lines : AllByRecursion (IsOneNodeLine s) s.lines
+  pub lines : AllByRecursion (IsOwnLine (length s.clients)) s.lines

@@ -17,9 +17,9 @@ fn lines_have_their_words(rt: HostRuntime) -> Result<(), Fail> {
     let mut text = Vec::new(alloc);
     append_journal(&mut text, 0, true)?;
     append_journal(&mut text, 7, false)?;
-    append_dir(&mut text, &path(alloc, b"/")?)?;
-    append_file(alloc, &mut text, &path(alloc, b"/a%20b")?, b"hello")?;
-    append_file(alloc, &mut text, &path(alloc, b"/b")?, b"")?;
+    append_dir(&mut text, path(alloc, b"/")?.names())?;
+    append_file(alloc, &mut text, path(alloc, b"/a%20b")?.names(), b"hello")?;
+    append_file(alloc, &mut text, path(alloc, b"/b")?.names(), b"")?;
     assert_eq!(rt;
         text.as_slice(),
         b"journal 0 clean\njournal 7 dirty\ndir /\nfile /a%20b 5 3610a686\nfile /b 0 00000000\n".as_slice()

@@ -1,5 +1,5 @@
 -- What a write finds at its path's end.
-use Rattle.std.proofs.Common.{◌≡◌, ◌+◌, ◌<◌, ◌≤◌, ℕ, Bool, true, false, List, length, sym, ap, ◌∙◌, subst, arith}
+use Rattle.std.proofs.Common.{◌≡◌, ◌+◌, ◌<◌, ◌≤◌, ℕ, Bool, true, false, List, length, sym, ap, ◌∙◌, subst, arith, refl, inl, inr}
 use Rattle.std.proofs.lemmas.Bool.{cond-true, lt-ltb}
 use Rattle.std.specs.Prelude.{nat_lt, IsErrAnd, Result}
 use Rattle.file_tree.specs.Apply.{Answer, apply, file_limit, overwritten, put_at, refuse, write_at}
@@ -7,6 +7,7 @@ use Rattle.file_tree.specs.Tree.{Tree, file}
 use Rattle.file_tree.specs.declared.call.Call.{Call}
 use Rattle.file_tree.specs.declared.reply.Reply.{Reply}
 use Rattle.file_tree.specs.declared.reply.Reply.TheVariants as reply
+use Rattle.cluster_history.specs.Changes.{is_ok}
 use Rattle.drafts.specs.declared.change.Change.{Change}
 use Rattle.gfs2_layout.specs.Holding.{Holding}
 use Rattle.gfs2_layout.specs.Inode.{dinode_in, is_directory_in, content_of}
@@ -21,21 +22,24 @@ use Rattle.call_locks.specs.Wants.{wanted}
 use Rattle.call_locks.specs.WantLaws.{path_of}
 use Rattle.dinode_tree.specs.Broken.{IsBroken, too_large_for_dinode}
 use Rattle.dinode_tree.specs.Shown.{IsShown}
+use Rattle.dinode_tree.proofs.Sound.{some_is_shown}
 use Rattle.image_model.specs.Image.{Image}
 use Rattle.image_model.specs.Owners.{Owners, holding}
 use Rattle.image_model.specs.Stands.{Layout}
 use Rattle.image_changes.specs.Does.{IsOf, Does}
 use Rattle.image_changes.proofs.DirectoryNames.{directories_list}
+use Rattle.path_walks.specs.Answers.{HasSpace}
 use Rattle.path_walks.specs.Walks as path
 use Rattle.path_walks.specs.Walks.{IsSeenAt, IsWalked, in_inode}
 use Rattle.path_walks.specs.declared.walk.Place.{Place}
 use Rattle.path_walks.specs.declared.walk.Walk.TheVariants.{At}
+use Rattle.path_walks.proofs.Leads.{leads_once}
 use Rattle.path_walks.proofs.Images.{is_shown, unbroken}
 use Rattle.read_calls.proofs.Answering.{told_on}
 use Rattle.read_calls.proofs.Trees.{wrong_damage}
-use Rattle.writing_calls.specs.Contents.{IsAimOf, StaysStuffed}
+use Rattle.writing_calls.specs.Contents.{IsAimOf, NeedsBlocks, StaysStuffed}
 use Rattle.writing_calls.specs.Drafting.{IsWrite}
-use Rattle.writing_calls.specs.Writing.{IsAtEnd, IsDamage, IsRefused, Writes, end_of, is_dir, on_path, too_big}
+use Rattle.writing_calls.specs.Writing.{IsAtEnd, IsDamage, IsOutside, IsRefused, IsUnbuilt, Writes, end_of, is_dir, on_path, too_big}
 use Rattle.writing_calls.specs.declared.aims.Aim.TheVariants as aim
 use Rattle.writing_calls.proofs.Doing.{call_taken, file_there, write_does}
 
@@ -51,6 +55,21 @@ damage_on v c NoMemory on = absurd on
 
 pub damage_told : {B : Type 0} (v : Seen) (c : Call) (r : Result B CallFault) (f : CallFault) → IsErrAnd r (λ g. g ≡ f) → step.IsDamage (path.IsDamage v (wanted c) (path_of c false)) f → IfDamaged r (IsDamage v c)
 damage_told v c r f is on = told_on (IsDamage v c) r f is (damage_on v c f on)
+
+-- what is refused isn't answered Ok, and doesn't tell of too few free blocks
+pub aim_refusal : (size : ℕ) (d : Dinode) (end : ℕ) (r : Reply) → IsAimOf size d end (aim.Refused r) → (is_ok r ≡ false) × HasSpace r
+aim_refusal size d end reply.IsDir is = (refl, tt)
+aim_refusal size d end reply.TooBig is = (refl, tt)
+aim_refusal size d end reply.Ok is = absurd is
+aim_refusal size d end (reply.Bytes bytes) is = absurd is
+aim_refusal size d end (reply.Stat kind count) is = absurd is
+aim_refusal size d end (reply.Names names) is = absurd is
+aim_refusal size d end reply.NotFound is = absurd is
+aim_refusal size d end reply.NotDir is = absurd is
+aim_refusal size d end reply.Exists is = absurd is
+aim_refusal size d end reply.NotEmpty is = absurd is
+aim_refusal size d end reply.Inside is = absurd is
+aim_refusal size d end reply.NoSpace is = absurd is
 
 module _ (v : Seen) (c : Call) (at : ℕ) (new : List ℕ) (p : Place) (writes : Writes c at new) (seen : IsSeenAt v (wanted c) (path_of c false) p) where
   abbrev end : ℕ
@@ -74,6 +93,32 @@ module _ (v : Seen) (c : Call) (at : ℕ) (new : List ℕ) (p : Place) (writes :
   refused_told reply.NotEmpty is = absurd is
   refused_told reply.Inside is = absurd is
   refused_told reply.NoSpace is = absurd is
+
+  pub unbuilt_told : IsAimOf v.size p.dinode end aim.NotBuilt → IsUnbuilt v c
+  unbuilt_told is =
+      let at : IsAtEnd v c p.inode (IsOutside end) = record {
+        leads = seen.leads;
+        there = seen.there;
+        so = λ h shown. record {
+          file = ap is_directory (sym (seen.dinode h shown)) ∙ is.0;
+          short = is.1;
+          needs = subst (λ d. NeedsBlocks h.size d end) (seen.dinode h shown) (subst (λ size. NeedsBlocks size p.dinode end) (sym shown.size) is.2);
+        };
+      } in
+      subst (IsUnbuilt v) (sym writes) (p.inode, subst (λ x. IsAtEnd v x p.inode (IsOutside end)) writes at)
+
+  -- a file that stays in its dinode's block isn't such a one
+  pub stuffed_exact : StaysStuffed v.size p.dinode end → IsUnbuilt v c → ⊥
+  stuffed_exact stays unbuilt =
+      let u = subst (IsUnbuilt v) writes unbuilt in
+      let at : IsAtEnd v c u.0 (IsOutside end) = subst (λ x. IsAtEnd v x u.0 (IsOutside end)) (sym writes) u.1 in
+      let same : u.0 ≡ p.inode = leads_once v (wanted c) (path_of c false) (path_of c false) u.0 p.inode at.leads seen.leads refl in
+      let s = some_is_shown v p.inode in
+      let out : IsOutside end s.0 = at.so s.0 (subst (λ a. IsShown v a s.0) (sym same) s.1.0) in
+      elim out.needs [
+        | inl high ↦ high (ap (λ (x : Dinode). x.height) (sym (seen.dinode s.0 s.1.0)) ∙ stays.height)
+        | inr long ↦ omega (arith, long, s.1.0.size, stays.room)
+      ]
 
   pub broken_told : IsAimOf v.size p.dinode end aim.Broken → IsDamage v c 8 p.inode
   broken_told is = on_path 8 p.inode (wrong_damage v (wanted c) (path_of c false) p.inode seen.leads 8 p.inode (λ h shown. in_inode 8 p.inode (broken_so v p.inode p.dinode h shown (seen.dinode h shown) is.0 is.1)))

@@ -1,5 +1,5 @@
 -- The calls that write: bytes into a file, and all that isn't on the disk yet.
-use Rattle.std.specs.Prelude.{ℕ, ◌≡◌, ◌⊎◌, ◌+◌, ◌<◌, ◌≤◌, ⊤, true, false, List, [], length, Contains, Result, Ok}
+use Rattle.std.specs.Prelude.{ℕ, ◌≡◌, ◌+◌, ◌<◌, ◌≤◌, ⊤, true, false, List, [], length, Contains, Result, Ok}
 use Rattle.std.specs.List.{AllByRecursion}
 use Rattle.cluster_history.specs.Changes.{is_ok}
 use Rattle.file_tree.specs.Apply.{apply, file_limit}
@@ -25,6 +25,7 @@ use Rattle.resource_groups.specs.Putting.{HasDataBlock}
 use Rattle.image_model.specs.Image.{Image}
 use Rattle.image_model.specs.Owners.{Owners}
 use Rattle.image_model.specs.Stands.{Layout}
+use Rattle.path_walks.specs.Answers.{HasSpace}
 use Rattle.path_walks.specs.Holds.{Hold, AreHeld, IsAskedFor, IsFirstLack, holds_in}
 use Rattle.path_walks.specs.Walks as path
 use Rattle.path_walks.specs.Walks.{LeadsTo, IsAbsent, IsHashedOn, IsLacked, IsOnTheWay, IsUnread}
@@ -66,10 +67,14 @@ pub record IsOutside (end : ℕ) (h : Holding) : Type 0 where
   pub short : end ≤ file_limit
   pub needs : NeedsBlocks h.size (dinode_in h) end
 
--- the inode for which the call isn't built yet: a hashed directory on the path, or such a file at its end
-pub data IsUnbuilt (v : Seen) (call : Call) (b : ℕ) : Type 0 where
-  on_path : IsOnTheWay v (wanted call) (path_of call false) b (λ h. is_hashed_in h ≡ true) → IsUnbuilt v call b
-  at_end : IsAtEnd v call b (IsOutside (end_of call)) → IsUnbuilt v call b
+-- a hashed directory without which the call isn't answered: one on the path
+abbrev pub IsHashedFor : Seen → Call → ℕ → Type 0
+IsHashedFor v call b = IsOnTheWay v (wanted call) (path_of call false) b (λ h. is_hashed_in h ≡ true)
+
+-- the write isn't built yet: such a file is at its path's end
+abbrev pub IsUnbuilt : Seen → Call → Type 0
+IsUnbuilt v (Write path at new) = (a : ℕ) × IsAtEnd v (Write path at new) a (IsOutside (at + length new))
+IsUnbuilt v call = ⊥
 
 -- the call is refused so: the walk along its path ends before, or at a directory, or the write would end too far out
 pub data IsRefused (v : Seen) (call : Call) : Reply → Type 0 where
@@ -120,31 +125,29 @@ abbrev pub IsToldOf : Seen → Call → ℕ → Found → Type 0
 IsToldOf v call time (found.Refused r) = IsRefused v call r
 IsToldOf v call time (found.Written change) = IsWriteOf v call time change
 IsToldOf v call time (found.NeedBlock m) = IsUnread v (wanted call) (path_of call false) m
-IsToldOf v call time (found.NotBuilt b) = IsUnbuilt v call b
+IsToldOf v call time (found.Hashed b) = IsHashedFor v call b
+IsToldOf v call time found.NotBuilt = IsUnbuilt v call
 IsToldOf v call time (found.NeedLock lock state) = IsLacked v (wanted call) (path_of call false) lock state
 
 -- ---- in an image that the view may be of
-
--- the call isn't built for a hashed directory on its path; or the tree would take it, and each lock of the list is held
-abbrev pub IsUnbuiltIn : Seen → Image → Owners → Layout → Tree → Call → ℕ → Type 0
-IsUnbuiltIn v im o l t call b = IsHashedOn v im o l (path_of call false) (wanted call) b ⊎ (((apply call t).reply ≡ reply.Ok) × AreHeld v (call_holds im o l call))
 
 -- each lock that is told with the change is one of the list, exclusive
 abbrev pub AreUnder : List Hold → Change → Type 0
 AreUnder list change = AllByRecursion (λ (lock : LockName). Contains list (record { lock = lock; state = Ex })) change.locks.items
 
--- the reply is the tree's, and each lock of the list is held; or what stands in the way: the first lock of it that isn't held, a block
--- that the view hasn't, or what isn't built
+-- The reply is the tree's, and each lock of the list is held; or what stands in the way: the first lock of it that isn't held, a block
+-- that the view hasn't, or a hashed directory on the path. What isn't built the tree would take, and each lock of the list is held.
 abbrev pub IsFound : Seen → Image → Owners → Layout → Tree → Call → Found → Type 0
 IsFound v im o l t call (found.Refused r) = ((apply call t).reply ≡ r) × AreHeld v (call_holds im o l call)
 IsFound v im o l t call (found.Written change) = ((apply call t).reply ≡ reply.Ok) × AreHeld v (call_holds im o l call) × AreUnder (call_holds im o l call) change
 IsFound v im o l t call (found.NeedBlock m) = IsAskedFor v im o l (call_holds im o l call) m
-IsFound v im o l t call (found.NotBuilt b) = IsUnbuiltIn v im o l t call b
+IsFound v im o l t call (found.Hashed b) = IsHashedOn v im o l (path_of call false) (wanted call) b
+IsFound v im o l t call found.NotBuilt = ((apply call t).reply ≡ reply.Ok) × AreHeld v (call_holds im o l call)
 IsFound v im o l t call (found.NeedLock lock state) = IsFirstLack v (call_holds im o l call) lock state
 
--- a refusal isn't answered Ok
+-- what a refusal is not: `ok`, or that too few blocks are free
 abbrev pub IsRefusal : Found → Type 0
-IsRefusal (found.Refused r) = is_ok r ≡ false
+IsRefusal (found.Refused r) = (is_ok r ≡ false) × HasSpace r
 IsRefusal f = ⊤
 
 -- P of the change of a write

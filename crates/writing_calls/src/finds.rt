@@ -12,8 +12,10 @@ pub(crate) enum Found {
     Written(Change),
     /// This block isn't in the view.
     NeedBlock(Missing),
-    /// For the inode with its dinode in this block the call isn't built yet.
-    NotBuilt(u64),
+    /// This directory is hashed.
+    Hashed(u64),
+    /// The file's content isn't in its dinode's block, or wouldn't be.
+    NotBuilt,
     /// This lock isn't held so strongly.
     NeedLock { lock: LockName, state: State },
 }

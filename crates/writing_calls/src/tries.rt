@@ -1,5 +1,6 @@
 // A try of a call that writes.
 ghost use Rattle.std.specs.Prelude.{ℕ, ◌≡◌, false, [], IfOk};
+ghost use Rattle.file_tree.specs.Apply.{apply};
 ghost use Rattle.file_tree.specs.Tree.{Tree};
 ghost use Rattle.file_tree.specs.declared.call.Call.TheVariants.{Write};
 ghost use Rattle.file_tree.specs.declared.reply.Reply.TheVariants.{Ok as OkReply};
@@ -11,11 +12,11 @@ ghost use Rattle.image_model.specs.Image.{Image};
 ghost use Rattle.image_model.specs.Owners.{Owners};
 ghost use Rattle.image_model.specs.Stands.{Layout};
 ghost use Rattle.image_changes.specs.Does.{IsOf, Does};
-ghost use Rattle.path_walks.specs.Answers.{IfDone, IfNeedLock, IfNeedBlock, IfNoSpace, IfNotBuilt};
+ghost use Rattle.path_walks.specs.Answers.{IfDone, IfNeedLock, IfNeedBlock, IfNoSpace, IfHashed, IfNotBuilt, HasSpace};
 ghost use Rattle.path_walks.specs.Holds.{AreHeld, IsAskedFor, IsFirstLack};
-ghost use Rattle.path_walks.specs.Walks.{IsLacked, IsSeenAt, IsUnread, IsWalked};
+ghost use Rattle.path_walks.specs.Walks.{IsHashedOn, IsLacked, IsSeenAt, IsUnread, IsWalked};
 ghost use Rattle.path_walks.specs.declared.walk.Walk.TheVariants.{At};
-ghost use Rattle.writing_calls.specs.Writing.{AreInside, AreUnder, IfSync, IfWritten, IsAnswered, IsDamage, IsFound, IsRefusal, IsSynced, IsToldOf, IsUnbuilt, IsUnbuiltIn, IsWriteAnswered, IsWriting, Writes, call_holds};
+ghost use Rattle.writing_calls.specs.Writing.{AreInside, AreUnder, IfSync, IfWritten, IsAnswered, IsDamage, IsFound, IsHashedFor, IsRefusal, IsSynced, IsToldOf, IsUnbuilt, IsWriteAnswered, IsWriting, Writes, call_holds};
 
 use crate::aims::{Aim, aim_of};
 use crate::drafting::write_stuffed;
@@ -58,6 +59,7 @@ fn write_at<V: View>(
     ensures done { IfOk result (IfWritten (Does (V.seen view.now) call.now OkReply)) }
     ensures inside { IfOk result (IfWritten (AreInside (V.seen view.now))) }
     ensures refusal { IfOk result IsRefusal }
+    ensures exact { IfOk result (IfWritten (λ change. IsUnbuilt (V.seen view.now) call.now → ⊥)) }
     ensures told { IfOk result (IsToldOf (V.seen view.now) call.now time) }
     ensures sound { (im : Image) (o : Owners) (l : Layout) (t : Tree) → IsOf (V.seen view.now) im o l t → IfDamaged result (λ rule block. ⊥) }
     ensures damaged { IfDamaged result (IsDamage (V.seen view.now) call.now) }
@@ -65,7 +67,7 @@ fn write_at<V: View>(
 {
     match aim_of(&place.dinode, view.block_size(), at, new.len() as u64) {
         Aim::Refused(reply) => Ok(Found::Refused(reply)),
-        Aim::NotBuilt => Ok(Found::NotBuilt(place.inode)),
+        Aim::NotBuilt => Ok(Found::NotBuilt),
         Aim::Broken => Err(CallFault::Damaged {
             block: place.inode,
             rule: 8,
@@ -98,6 +100,7 @@ fn find<V: View>(
     ensures done { IfOk result (IfWritten (Does (V.seen view.now) call.now OkReply)) }
     ensures inside { IfOk result (IfWritten (AreInside (V.seen view.now))) }
     ensures refusal { IfOk result IsRefusal }
+    ensures exact { IfOk result (IfWritten (λ change. IsUnbuilt (V.seen view.now) call.now → ⊥)) }
     ensures told { IfOk result (IsToldOf (V.seen view.now) call.now time) }
     ensures sound { (im : Image) (o : Owners) (l : Layout) (t : Tree) → IsOf (V.seen view.now) im o l t → IfDamaged result (λ rule block. ⊥) }
     ensures damaged { IfDamaged result (IsDamage (V.seen view.now) call.now) }
@@ -108,7 +111,7 @@ fn find<V: View>(
         Walk::At(place) => write_at(alloc, view, call, &place, at, new, time),
         Walk::NotFound => Ok(Found::Refused(Reply::NotFound)),
         Walk::NotDir => Ok(Found::Refused(Reply::NotDir)),
-        Walk::Hashed(block) => Ok(Found::NotBuilt(block)),
+        Walk::Hashed(block) => Ok(Found::Hashed(block)),
         Walk::NeedLock { lock, state } => Ok(Found::NeedLock { lock, state }),
         Walk::NeedBlock(missing) => Ok(Found::NeedBlock(missing)),
     }
@@ -132,11 +135,16 @@ fn write<V: View>(
     ensures lock { (im : Image) (o : Owners) (l : Layout) (t : Tree) → IsOf (V.seen view.now) im o l t → IfNeedLock result (IsFirstLack (V.seen view.now) (call_holds im o l call.now)) }
     ensures block { (im : Image) (o : Owners) (l : Layout) (t : Tree) → IsOf (V.seen view.now) im o l t → IfNeedBlock result (IsAskedFor (V.seen view.now) im o l (call_holds im o l call.now)) }
     ensures space { IfNoSpace result (λ need free. ⊥) }
+    ensures spaceless { IfDone result (λ reply change. HasSpace reply) }
+    ensures exact { IfDone result (λ reply change. reply ≡ OkReply → IsUnbuilt (V.seen view.now) call.now → ⊥) }
     ensures answered { IfDone result (IsWriteAnswered (V.seen view.now) call.now time) }
     ensures lacked { IfNeedLock result (IsLacked (V.seen view.now) (wanted call.now) (path_of call.now false)) }
     ensures needed { IfNeedBlock result (IsUnread (V.seen view.now) (wanted call.now) (path_of call.now false)) }
+    ensures hashed { IfHashed result (IsHashedFor (V.seen view.now) call.now) }
+    ensures on_path { (im : Image) (o : Owners) (l : Layout) (t : Tree) → IsOf (V.seen view.now) im o l t → IfHashed result (IsHashedOn (V.seen view.now) im o l (path_of call.now false) (wanted call.now)) }
     ensures unbuilt { IfNotBuilt result (IsUnbuilt (V.seen view.now) call.now) }
-    ensures taken { (im : Image) (o : Owners) (l : Layout) (t : Tree) → IsOf (V.seen view.now) im o l t → IfNotBuilt result (IsUnbuiltIn (V.seen view.now) im o l t call.now) }
+    ensures taken { (im : Image) (o : Owners) (l : Layout) (t : Tree) → IsOf (V.seen view.now) im o l t → IfNotBuilt result ((apply call.now t).reply ≡ OkReply) }
+    ensures reached { (im : Image) (o : Owners) (l : Layout) (t : Tree) → IsOf (V.seen view.now) im o l t → IfNotBuilt result (AreHeld (V.seen view.now) (call_holds im o l call.now)) }
     ensures sound { (im : Image) (o : Owners) (l : Layout) (t : Tree) → IsOf (V.seen view.now) im o l t → IfDamaged result (λ rule block. ⊥) }
     ensures damaged { IfDamaged result (IsDamage (V.seen view.now) call.now) }
     ensures kept { IfDamaged result (IsOfView (V.seen view.now)) }
@@ -151,7 +159,8 @@ fn write<V: View>(
             change,
         },
         Found::NeedBlock(missing) => Attempt::NeedBlock(missing),
-        Found::NotBuilt(block) => Attempt::NotBuilt { block },
+        Found::Hashed(block) => Attempt::Hashed { block },
+        Found::NotBuilt => Attempt::NotBuilt,
         Found::NeedLock { lock, state } => Attempt::NeedLock { lock, state },
     })
 }
@@ -173,11 +182,16 @@ pub fn attempt<V: View>(
     ensures lock { (im : Image) (o : Owners) (l : Layout) (t : Tree) → IsOf (V.seen view.now) im o l t → IfNeedLock result (IsFirstLack (V.seen view.now) (call_holds im o l call.now)) }
     ensures block { (im : Image) (o : Owners) (l : Layout) (t : Tree) → IsOf (V.seen view.now) im o l t → IfNeedBlock result (IsAskedFor (V.seen view.now) im o l (call_holds im o l call.now)) }
     ensures space { IfNoSpace result (λ need free. ⊥) }
+    ensures spaceless { IfDone result (λ reply change. HasSpace reply) }
+    ensures exact { IfDone result (λ reply change. reply ≡ OkReply → IsUnbuilt (V.seen view.now) call.now → ⊥) }
     ensures answered { IfDone result (IsAnswered (V.seen view.now) call.now stamp.now.time) }
     ensures lacked { IfNeedLock result (IsLacked (V.seen view.now) (wanted call.now) (path_of call.now false)) }
     ensures needed { IfNeedBlock result (IsUnread (V.seen view.now) (wanted call.now) (path_of call.now false)) }
+    ensures hashed { IfHashed result (IsHashedFor (V.seen view.now) call.now) }
+    ensures on_path { (im : Image) (o : Owners) (l : Layout) (t : Tree) → IsOf (V.seen view.now) im o l t → IfHashed result (IsHashedOn (V.seen view.now) im o l (path_of call.now false) (wanted call.now)) }
     ensures unbuilt { IfNotBuilt result (IsUnbuilt (V.seen view.now) call.now) }
-    ensures taken { (im : Image) (o : Owners) (l : Layout) (t : Tree) → IsOf (V.seen view.now) im o l t → IfNotBuilt result (IsUnbuiltIn (V.seen view.now) im o l t call.now) }
+    ensures taken { (im : Image) (o : Owners) (l : Layout) (t : Tree) → IsOf (V.seen view.now) im o l t → IfNotBuilt result ((apply call.now t).reply ≡ OkReply) }
+    ensures reached { (im : Image) (o : Owners) (l : Layout) (t : Tree) → IsOf (V.seen view.now) im o l t → IfNotBuilt result (AreHeld (V.seen view.now) (call_holds im o l call.now)) }
     ensures synced { IfSync call.now (IsSynced result) }
     ensures sound { (im : Image) (o : Owners) (l : Layout) (t : Tree) → IsOf (V.seen view.now) im o l t → IfDamaged result (λ rule block. ⊥) }
     ensures damaged { IfDamaged result (IsDamage (V.seen view.now) call.now) }

@@ -4,7 +4,8 @@ use Rattle.trace_text.specs.declared.item.TraceItem.{TraceItem}
 use Rattle.cluster_program.specs.Quiet.{IsQuiet}
 use Rattle.cluster_program.specs.Report.{Reports}
 use Rattle.cluster_program.specs.World.{Outputs}
-use Rattle.cluster_program.proofs.Ends.{fault_has_cause}
+use Rattle.cluster_program.proofs.Ends.{done_before, fault_has_cause}
+use Rattle.cluster_program.specs.declared.status.Which.TheVariants as which
 use Rattle.cluster_program.proofs.Complete.{complete}
 use Rattle.cluster_program.proofs.Dirty.{counted}
 use Rattle.cluster_program.proofs.top.gfs2run_alone.Given.{Over}
@@ -33,7 +34,8 @@ returns-clause-ends g c = record {
   course = c.carry_out-script.ensures.course;
   dirty = 0;
   report = reports g c;
-  counted = counted _ _ (map string_bytes c.args.words.now) c.carry_out-script.result.script c.carry_out-script.new.items.items c.carry_out-script.result.lines.items c.carry_out-script.result.own c.carry_out-script.ensures.course (reports g c).told;
+  counted = counted _ _ (map string_bytes c.args.words.now) c.carry_out-script.result.script c.carry_out-script.new.items.items c.carry_out-script.result.lines.items c.carry_out-script.result.own c.carry_out-script.ensures.course (reports g c).told
+      (done_before which.Trace _ _ c.carry_out-script.result.own (reports g c).told (reports g c).told_is);
 }
 
 pub returns-clause-fault : goal.returns-clause-fault

@@ -1,17 +1,18 @@
-use Rattle.std.proofs.Common.{rules, ℕ, ◌≡◌, true, Result, Ok, Err, sym, ap, ◌∙◌, subst}
+use Rattle.std.proofs.Common.{rules, ℕ, ◌≡◌, ◌≢◌, true, Result, Ok, Err, sym, ap, ◌∙◌, subst}
 use Rattle.std.specs.Prelude.{not}
 use Rattle.drafts.specs.declared.attempt.Attempt.{Attempt}
-use Rattle.drafts.specs.declared.attempt.Attempt.TheVariants.{Done, NeedLock, NeedBlock, NoSpace, NotBuilt}
+use Rattle.drafts.specs.declared.attempt.Attempt.TheVariants.{Done, NeedLock, NeedBlock, NoSpace, Hashed, NotBuilt}
 use Rattle.glock_names.specs.declared.steps.CallFault.{CallFault}
 use Rattle.glock_names.specs.declared.steps.Missing.{Missing}
 use Rattle.cluster_history.specs.Changes.{is_ok}
-use Rattle.path_walks.specs.Answers.{IfDone, IfNeedBlock, IfNeedLock, IfNoSpace}
+use Rattle.path_walks.specs.Answers.{IfDone, IfNeedBlock, IfNeedLock, IfNoSpace, IfNotBuilt, HasSpace}
 use Rattle.path_walks.specs.Holds.{AreHeld, IsAskedFor, IsFirstLack}
 use Rattle.making_calls.specs.Making.{IsMaking}
 use Rattle.making_calls.specs.Making as making
 use Rattle.removing_calls.specs.Removing.{IsRemoving, IsUnder}
 use Rattle.writing_calls.specs.Writing.{IsWriting, AreUnder}
 use Rattle.file_tree.specs.declared.reply.Reply.{Reply}
+use Rattle.file_tree.specs.declared.reply.Reply.TheVariants as reply
 use Rattle.drafts.specs.declared.change.Change.{Change}
 use Rattle.image_changes.specs.Does.{Does}
 use Rattle.read_calls.specs.Reading.{IsReading}
@@ -25,7 +26,8 @@ mapped (Ok (NeedBlock m)) P Q f is = f m is
 mapped (Ok (Done reply change)) P Q f is = tt
 mapped (Ok (NeedLock lock state)) P Q f is = tt
 mapped (Ok (NoSpace need free)) P Q f is = tt
-mapped (Ok (NotBuilt b)) P Q f is = tt
+mapped (Ok (Hashed b)) P Q f is = tt
+mapped (Ok NotBuilt) P Q f is = tt
 mapped (Err e) P Q f is = tt
 
 -- and of what is done
@@ -34,7 +36,8 @@ done_so (Ok (NeedBlock m)) P Q f is = tt
 done_so (Ok (Done reply change)) P Q f is = f reply change is
 done_so (Ok (NeedLock lock state)) P Q f is = tt
 done_so (Ok (NoSpace need free)) P Q f is = tt
-done_so (Ok (NotBuilt b)) P Q f is = tt
+done_so (Ok (Hashed b)) P Q f is = tt
+done_so (Ok NotBuilt) P Q f is = tt
 done_so (Err e) P Q f is = tt
 
 done_two : (r : Result Attempt CallFault) (P Q : Reply → Change → Type 0) → IfDone r P → IfDone r Q → IfDone r (λ x change. P x change × Q x change)
@@ -42,7 +45,8 @@ done_two (Ok (NeedBlock m)) P Q p q = tt
 done_two (Ok (Done reply change)) P Q p q = (p, q)
 done_two (Ok (NeedLock lock state)) P Q p q = tt
 done_two (Ok (NoSpace need free)) P Q p q = tt
-done_two (Ok (NotBuilt b)) P Q p q = tt
+done_two (Ok (Hashed b)) P Q p q = tt
+done_two (Ok NotBuilt) P Q p q = tt
 done_two (Err e) P Q p q = tt
 
 done_three : (r : Result Attempt CallFault) (P Q R : Reply → Change → Type 0) → IfDone r P → IfDone r Q → IfDone r R → IfDone r (λ x change. P x change × Q x change × R x change)
@@ -50,7 +54,8 @@ done_three (Ok (NeedBlock m)) P Q R p q s = tt
 done_three (Ok (Done reply change)) P Q R p q s = (p, q, s)
 done_three (Ok (NeedLock lock state)) P Q R p q s = tt
 done_three (Ok (NoSpace need free)) P Q R p q s = tt
-done_three (Ok (NotBuilt b)) P Q R p q s = tt
+done_three (Ok (Hashed b)) P Q R p q s = tt
+done_three (Ok NotBuilt) P Q R p q s = tt
 done_three (Err e) P Q R p q s = tt
 
 pub returns-in-Read-clause-on_device : goal.returns-in-Read-clause-on_device
@@ -161,10 +166,58 @@ few_so (Ok (NeedBlock m)) P Q f is = tt
 few_so (Ok (Done reply change)) P Q f is = tt
 few_so (Ok (NeedLock lock state)) P Q f is = tt
 few_so (Ok (NoSpace need free)) P Q f is = f need free is
-few_so (Ok (NotBuilt b)) P Q f is = tt
+few_so (Ok (Hashed b)) P Q f is = tt
+few_so (Ok NotBuilt) P Q f is = tt
 few_so (Err e) P Q f is = tt
 
 pub returns-in-Create-clause-space : goal.returns-in-Create-clause-space
 returns-in-Create-clause-space g c im o l t of =
     let is : IsMaking c.args.call.now = search rules in
     few_so c.attempt-in-Create.result _ _ (making_few (g.V.View.seen c.args.view.now) im o l t c.args.call.now is) (c.attempt-in-Create.ensures.space im o l t of)
+
+-- what is always built is so whatever is asked of what isn't
+built_so : (r : Result Attempt CallFault) (P : Type 0) → IfNotBuilt r ⊥ → IfNotBuilt r P
+built_so (Ok (NeedBlock m)) P is = tt
+built_so (Ok (Done reply change)) P is = tt
+built_so (Ok (NeedLock lock state)) P is = tt
+built_so (Ok (NoSpace need free)) P is = tt
+built_so (Ok (Hashed b)) P is = tt
+built_so (Ok NotBuilt) P is = absurd is
+built_so (Err e) P is = tt
+
+pub returns-in-Read-clause-unbuilt : goal.returns-in-Read-clause-unbuilt
+returns-in-Read-clause-unbuilt g c = built_so c.attempt-in-Read.result _ c.attempt-in-Read.ensures.built
+
+pub returns-in-Read-clause-taken : goal.returns-in-Read-clause-taken
+returns-in-Read-clause-taken g c im o l t of = built_so c.attempt-in-Read.result _ c.attempt-in-Read.ensures.built
+
+pub returns-in-Unlink-clause-unbuilt : goal.returns-in-Unlink-clause-unbuilt
+returns-in-Unlink-clause-unbuilt g c = built_so c.attempt-in-Unlink.result _ c.attempt-in-Unlink.ensures.built
+
+pub returns-in-Unlink-clause-taken : goal.returns-in-Unlink-clause-taken
+returns-in-Unlink-clause-taken g c im o l t of = built_so c.attempt-in-Unlink.result _ c.attempt-in-Unlink.ensures.built
+
+-- a reply that doesn't tell of too few free blocks is another one
+space_so : (r : Reply) → HasSpace r → r ≢ reply.NoSpace
+space_so r has e = subst HasSpace e has
+
+pub returns-in-Read-clause-spaceless : goal.returns-in-Read-clause-spaceless
+returns-in-Read-clause-spaceless g c = done_so c.attempt-in-Read.result _ _ (λ x change has. space_so x has) c.attempt-in-Read.ensures.spaceless
+
+pub returns-in-Read-clause-fewer : goal.returns-in-Read-clause-fewer
+returns-in-Read-clause-fewer g c = few_so c.attempt-in-Read.result _ _ (λ need free never. absurd never) c.attempt-in-Read.ensures.space
+
+pub returns-in-Create-clause-spaceless : goal.returns-in-Create-clause-spaceless
+returns-in-Create-clause-spaceless g c = done_so c.attempt-in-Create.result _ _ (λ x change has. space_so x has) c.attempt-in-Create.ensures.spaceless
+
+pub returns-in-Unlink-clause-spaceless : goal.returns-in-Unlink-clause-spaceless
+returns-in-Unlink-clause-spaceless g c = done_so c.attempt-in-Unlink.result _ _ (λ x change has. space_so x has) c.attempt-in-Unlink.ensures.spaceless
+
+pub returns-in-Unlink-clause-fewer : goal.returns-in-Unlink-clause-fewer
+returns-in-Unlink-clause-fewer g c = few_so c.attempt-in-Unlink.result _ _ (λ need free never. absurd never) c.attempt-in-Unlink.ensures.space
+
+pub returns-in-Write-clause-spaceless : goal.returns-in-Write-clause-spaceless
+returns-in-Write-clause-spaceless g c = done_so c.attempt.result _ _ (λ x change has. space_so x has) c.attempt.ensures.spaceless
+
+pub returns-in-Write-clause-fewer : goal.returns-in-Write-clause-fewer
+returns-in-Write-clause-fewer g c = few_so c.attempt.result _ _ (λ need free never. absurd never) c.attempt.ensures.space

@@ -1,12 +1,18 @@
-use Rattle.std.proofs.Common.{Option, sym, subst}
+use Rattle.std.proofs.Common.{◌≡◌, Option, false, sym, ◌∙◌, subst}
 use Rattle.std.specs.Prelude.{IfSome}
+use Rattle.file_tree.specs.Apply.{apply}
 use Rattle.file_tree.specs.Tree.{Tree}
-use Rattle.file_calls.specs.Calls.{IsUnbuilt}
+use Rattle.file_tree.specs.declared.reply.Reply.TheVariants.{Ok as OkReply}
+use Rattle.cluster_history.specs.Changes.{Changes}
+use Rattle.file_calls.specs.Calls.{IsHashed}
 use Rattle.lone_view.specs.Seeing.{seen_alone}
-use Rattle.lone_node.specs.Answering.{IsAnsweredFrom, IsDamagedFor, IsDamagedOn, IsToldFull, IsUnbuiltOn}
+use Rattle.lone_node.specs.Answering.{IsAnsweredFrom, IsDamagedFor, IsDamagedOn, IsFailedAt, IsFailedFor, IsFreeCount, IsHashedOn, IsToldFull, IsUnbuiltOn}
 use Rattle.lone_node.specs.Standing.{StandsFor}
 use Rattle.lone_node.specs.declared.answering.Answer.{Answer}
-use Rattle.lone_node.proofs.Answered.{answered_from, damaged_so, stands_on, unbuilt_so}
+use Rattle.lone_node.proofs.Answered.{answered_from}
+use Rattle.lone_node.proofs.Endings.{damaged_so, failed_so, hashed_so, unbuilt_so}
+use Rattle.lone_node.proofs.Frees.{free_as}
+use Rattle.lone_node.proofs.Leaving.{stands_on}
 use Rattle.lone_node.proofs.answering.answer_call.Goals as goal
 
 pub returns-in-Err-clause-sound : goal.returns-in-Err-clause-sound
@@ -17,18 +23,40 @@ returns-in-Err-clause-sound g c =
     (λ b rule never t s. never t (subst (λ e. StandsFor e c.loop-found.view t) (sym so.same) (stands_on d c.args.view.now c.loop-found.view t so.system s)))
     c.in-Err.ensures.sound
 
+pub returns-in-Err-clause-hashed : goal.returns-in-Err-clause-hashed
+returns-in-Err-clause-hashed g c =
+    let so = c.loop-found.invariant in
+    hashed_so c.in-Err.end (IsHashed (seen_alone c.loop-found.view) c.args.call.now) (IsHashedOn (g.D.SharedDisk.state c.args.disk.now) c.args.view.now c.args.call.now)
+    (λ b is. record { view = c.loop-found.view; later = record { same = so.system; on = so.on }; hashed = is }) c.in-Err.ensures.hashed
+
 pub returns-in-Err-clause-unbuilt : goal.returns-in-Err-clause-unbuilt
 returns-in-Err-clause-unbuilt g c =
     let so = c.loop-found.invariant in
-    unbuilt_so c.in-Err.end (IsUnbuilt (seen_alone c.loop-found.view) c.args.call.now) (IsUnbuiltOn (g.D.SharedDisk.state c.args.disk.now) c.args.view.now c.args.call.now)
-    (λ b is. record { view = c.loop-found.view; later = record { same = so.system; on = so.on }; unbuilt = is }) c.in-Err.ensures.unbuilt
+    unbuilt_so c.in-Err.end _ (λ place. (place ≡ c.args.line) × IsUnbuiltOn (g.D.SharedDisk.state c.args.disk.now) c.args.view.now c.args.call.now)
+    (λ place is. (is.0, record { view = c.loop-found.view; later = record { same = so.system; on = so.on }; unbuilt = is.1 })) c.in-Err.ensures.unbuilt
+
+pub returns-in-Err-clause-taken : goal.returns-in-Err-clause-taken
+returns-in-Err-clause-taken g c =
+    let d = g.D.SharedDisk.state c.args.disk.now in
+    let so = c.loop-found.invariant in
+    unbuilt_so c.in-Err.end _ (λ place. (place ≡ c.args.line) × ((t : Tree) → StandsFor d c.args.view.now t → (apply c.args.call.now t).reply ≡ OkReply))
+    (λ place is. (is.0, λ t s. is.1 t (subst (λ e. StandsFor e c.loop-found.view t) (sym so.same) (stands_on d c.args.view.now c.loop-found.view t so.system s)))) c.in-Err.ensures.taken
+
+pub returns-in-Err-clause-failed : goal.returns-in-Err-clause-failed
+returns-in-Err-clause-failed g c =
+    let d = g.D.SharedDisk.state c.args.disk.now in
+    let after = g.D.SharedDisk.state c.try_once.new.disk in
+    let so = c.loop-found.invariant in
+    failed_so c.in-Err.end (IsFailedFor (g.D.SharedDisk.state c.loop-found.disk) after (seen_alone c.loop-found.view) c.args.call.now) (IsFailedAt d after c.args.view.now c.args.call.now)
+    (λ block is. record { view = c.loop-found.view; later = record { same = so.system; on = so.on }; failed = subst (λ e. IsFailedFor e after (seen_alone c.loop-found.view) c.args.call.now block) so.same is })
+    c.in-Err.ensures.failed
 
 pub returns-in-Ok-Some-clause-answered : goal.returns-in-Ok-Some-clause-answered
 returns-in-Ok-Some-clause-answered g c =
     let so = c.loop-found.invariant in
-    answered_from (g.D.SharedDisk.state c.args.disk.now) (g.D.SharedDisk.state c.loop-found.disk) (g.D.SharedDisk.state c.try_once.new.disk) c.args.view.now c.loop-found.view c.try_once.new.view
+    answered_from (g.D.SharedDisk.state c.args.disk.now) (g.D.SharedDisk.state c.loop-found.disk) (g.D.SharedDisk.state c.try_once.new.disk) c.args.view.now c.loop-found.view
     c.args.call.now c.in-Ok-Some.found.reply so.same so.system
-    (subst (λ o. IfSome o (λ a. IsAnsweredFrom (g.D.SharedDisk.state c.loop-found.disk) (g.D.SharedDisk.state c.try_once.new.disk) c.loop-found.view c.try_once.new.view c.args.call.now a.reply)) c.in-Ok-Some.field-0-is c.in-Ok-Some.ensures.answered)
+    (subst (λ o. IfSome o (λ a. IsAnsweredFrom (g.D.SharedDisk.state c.loop-found.disk) (g.D.SharedDisk.state c.try_once.new.disk) c.loop-found.view c.args.call.now a.reply)) c.in-Ok-Some.field-0-is c.in-Ok-Some.ensures.answered)
 
 pub returns-in-Err-clause-damaged : goal.returns-in-Err-clause-damaged
 returns-in-Err-clause-damaged g c =
@@ -39,8 +67,26 @@ returns-in-Err-clause-damaged g c =
     c.in-Err.ensures.damaged
 
 pub returns-in-Ok-Some-clause-full : goal.returns-in-Ok-Some-clause-full
-returns-in-Ok-Some-clause-full g c t s =
+returns-in-Ok-Some-clause-full g c =
+    subst (λ (r : Option Answer). IfSome r (λ a. IsToldFull a.reply a.full)) c.in-Ok-Some.field-0-is c.in-Ok-Some.ensures.full
+
+pub returns-in-Ok-Some-clause-untouched : goal.returns-in-Ok-Some-clause-untouched
+returns-in-Ok-Some-clause-untouched g c none =
     let so = c.loop-found.invariant in
+    let next = g.D.SharedDisk.state c.try_once.new.disk in
+    let kept =
+    subst (λ (r : Option Answer). IfSome r (λ a. Changes (record { call = c.args.call.now; reply = a.reply }) ≡ false → (next ≡ g.D.SharedDisk.state c.loop-found.disk)
+    × (g.D.SharedDisk.list c.try_once.new.disk ≡ g.D.SharedDisk.list c.loop-found.disk)))
+    c.in-Ok-Some.field-0-is c.in-Ok-Some.ensures.untouched none
+    in
+    (kept.0 ∙ so.same, kept.1 ∙ so.list)
+
+pub returns-in-Ok-Some-clause-free : goal.returns-in-Ok-Some-clause-free
+returns-in-Ok-Some-clause-free g c t s =
+    let d = g.D.SharedDisk.state c.args.disk.now in
     let now = g.D.SharedDisk.state c.loop-found.disk in
-    subst (λ (r : Option Answer). IfSome r (λ a. (u : Tree) → StandsFor now c.loop-found.view u → IsToldFull a.reply a.full)) c.in-Ok-Some.field-0-is c.in-Ok-Some.ensures.full t
-    (subst (λ e. StandsFor e c.loop-found.view t) (sym so.same) (stands_on (g.D.SharedDisk.state c.args.disk.now) c.args.view.now c.loop-found.view t so.system s))
+    let so = c.loop-found.invariant in
+    let told = subst (λ (r : Option Answer). IfSome r (λ a. (u : Tree) (at : StandsFor now c.loop-found.view u) → IfSome a.full (λ f. IsFreeCount now c.loop-found.view u at f.need f.free))) c.in-Ok-Some.field-0-is c.in-Ok-Some.ensures.free in
+    free_as d c.args.view.now c.loop-found.view t so.system s c.in-Ok-Some.found.full
+    (subst (λ e. (u : Tree) (at : StandsFor e c.loop-found.view u) → IfSome c.in-Ok-Some.found.full (λ f. IsFreeCount e c.loop-found.view u at f.need f.free)) so.same told t
+    (stands_on d c.args.view.now c.loop-found.view t so.system s))

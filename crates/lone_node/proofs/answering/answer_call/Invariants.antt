@@ -5,6 +5,7 @@ use Rattle.lone_node.proofs.answering.answer_call.Given as goal
 abbrev pub invariant-loop-found : goal.invariant-loop-found
 invariant-loop-found g l = record {
   same : g.D.SharedDisk.state l.disk ≡ g.D.SharedDisk.state l.initial.disk;
+  list : g.D.SharedDisk.list l.disk ≡ g.D.SharedDisk.list l.initial.disk;
   on : IsOn (g.D.SharedDisk.state l.initial.disk) l.view;
   system : IsSameSystem l.initial.view l.view;
   later : (i : ℕ) → g.D.SharedDisk.faults l.initial.disk i ≤ g.D.SharedDisk.faults l.disk i;

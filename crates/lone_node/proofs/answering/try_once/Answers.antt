@@ -1,19 +1,24 @@
-use Rattle.std.proofs.Common.{true, false, ◌≡◌, ◌<◌, ◌≤◌, None, Ok, sym, ◌∙◌, subst, arith}
-use Rattle.file_tree.specs.Apply.{TakesSpace}
+use Rattle.std.proofs.Common.{true, false, ◌≡◌, ◌<◌, ◌≤◌, None, Ok, refl, sym, subst, arith}
+use Rattle.std.specs.Prelude.{◌≢◌}
+use Rattle.file_tree.specs.Apply.{TakesSpace, apply}
 use Rattle.file_tree.specs.Tree.{Tree}
+use Rattle.file_tree.specs.declared.reply.Reply.TheVariants.{Ok as OkReply}
+use Rattle.file_tree.specs.declared.reply.Reply.TheVariants as reply
 use Rattle.image_model.specs.Image.{image_of}
 use Rattle.image_changes.specs.Does.{Does}
-use Rattle.path_walks.specs.Answers.{IfDone, IfNeedBlock, IfNoSpace}
+use Rattle.path_walks.specs.Answers.{IfDone, IfNeedBlock, IfNoSpace, IfNotBuilt}
 use Rattle.glock_names.specs.declared.steps.CallFault.{CallFault}
 use Rattle.glock_names.specs.declared.steps.CallFault.TheVariants as fault
 use Rattle.glock_names.specs.Steps.{TellsOf}
 use Rattle.lone_view.specs.Seeing.{Lone, seen_alone}
 use Rattle.file_calls.specs.Calls.{AreInside, IsNeededFor, IsTooFew}
-use Rattle.lone_node.specs.Answering.{IsAnsweredFrom, IsDamagedFor, leads_out, source_of}
+use Rattle.lone_node.specs.Answering.{IsDamagedFor, IsFailedFor, in_a_read, in_a_write, leads_out, source_of}
 use Rattle.lone_node.specs.Ends.{IfDamaged, end_at}
 use Rattle.lone_node.specs.Standing.{IsOn, StandsFor, lacked_count}
-use Rattle.lone_node.proofs.Answered.{answered, answered_full, damaged_so, fetched_on, fewer, of_disk, of_view, on_again, shown_damage}
-use Rattle.lone_node.proofs.Spaces.{never_full}
+use Rattle.lone_node.specs.Writing.{IsWriteOf, MayBeWritten}
+use Rattle.lone_node.proofs.Answered.{answered, answered_full, fetched_on, fewer, of_disk, of_view, on_again, shown_damage, writes_none}
+use Rattle.lone_node.proofs.Endings.{damaged_so, failed_and, failed_so}
+use Rattle.lone_node.proofs.Frees.{free_count}
 use Rattle.lone_node.proofs.answering.try_once.Goals as goal
 
 pub carry_out-requires-clause-of_disk : goal.carry_out-requires-clause-of_disk
@@ -23,41 +28,47 @@ carry_out-requires-clause-of_disk g c =
     let inside = subst (λ a. IfDone (Ok a) (λ reply change. AreInside v change)) c.in-Ok-Done.field-0-is c.in-Ok-Done.ensures.inside in
     of_disk (g.D.SharedDisk.state c.args.disk.now) c.args.view.now c.in-Ok-Done.change c.requires.on does.form inside
 
-pub returns-in_ok-carry_out-in-Ok-Done-clause-answered : goal.returns-in_ok-carry_out-in-Ok-Done-clause-answered
-returns-in_ok-carry_out-in-Ok-Done-clause-answered g c =
+pub returns-in-Ok-clause-answered : goal.returns-in-Ok-clause-answered
+returns-in-Ok-clause-answered g c =
     let d = g.D.SharedDisk.state c.args.disk.now in
     let does = subst (λ a. IfDone (Ok a) (Does (seen_alone c.args.view.now) c.args.call.now)) c.in-Ok-Done.field-0-is c.in-Ok-Done.ensures.done in
-    subst (λ n. IsAnsweredFrom d (g.D.SharedDisk.state c.carry_out.new.disk) c.args.view.now n c.args.call.now c.in-Ok-Done.reply) (sym c.in_ok-carry_out-in-Ok-Done.ensures.kept)
-    (answered d _ c.args.view.now c.in-Ok-Done.change c.requires.on does.form c.in_ok-carry_out-in-Ok-Done.ensures.written
-    c.other_calls_leave_the_tree.ensures c.args.call.now c.in-Ok-Done.reply does)
+    answered d _ c.args.view.now c.in-Ok-Done.change c.requires.on does.form c.in-Ok.ensures.written
+    c.other_calls_leave_the_tree.ensures c.args.call.now c.in-Ok-Done.reply does
 
-pub returns-in_ok-carry_out-in-Ok-Done-clause-full : goal.returns-in_ok-carry_out-in-Ok-Done-clause-full
-returns-in_ok-carry_out-in-Ok-Done-clause-full g c t s =
-    let d = g.D.SharedDisk.state c.args.disk.now in
-    let does = subst (λ a. IfDone (Ok a) (Does (seen_alone c.args.view.now) c.args.call.now)) c.in-Ok-Done.field-0-is c.in-Ok-Done.ensures.done in
-    let in_it = does.images (image_of d) s.owners s.layout t (of_view d c.args.view.now t c.requires.on s) in
-    ((λ (told : false ≡ true). cc), λ full. absurd (never_full c.args.call.now t (in_it.replies ∙ full)))
+pub returns-in-Ok-clause-full : goal.returns-in-Ok-clause-full
+returns-in-Ok-clause-full g c =
+    let other = subst (λ a. IfDone (Ok a) (λ r change. r ≢ reply.NoSpace)) c.in-Ok-Done.field-0-is c.in-Ok-Done.ensures.spaceless in
+    record { exactly = ((λ (told : false ≡ true). cc), λ full. absurd (other full)); fewer = tt }
 
-pub returns-in_ok-carry_out-in-Ok-Done-clause-on : goal.returns-in_ok-carry_out-in-Ok-Done-clause-on
-returns-in_ok-carry_out-in-Ok-Done-clause-on g c =
-    let does = subst (λ a. IfDone (Ok a) (Does (seen_alone c.args.view.now) c.args.call.now)) c.in-Ok-Done.field-0-is c.in-Ok-Done.ensures.done in
-    subst (IsOn (g.D.SharedDisk.state c.carry_out.new.disk)) (sym c.in_ok-carry_out-in-Ok-Done.ensures.kept)
-    (on_again (g.D.SharedDisk.state c.args.disk.now) _ c.args.view.now c.in-Ok-Done.change c.requires.on does.form c.in_ok-carry_out-in-Ok-Done.ensures.written)
+pub returns-in-Ok-clause-untouched : goal.returns-in-Ok-clause-untouched
+returns-in-Ok-clause-untouched g c none =
+    let v = seen_alone c.args.view.now in
+    let does = subst (λ a. IfDone (Ok a) (Does v c.args.call.now)) c.in-Ok-Done.field-0-is c.in-Ok-Done.ensures.done in
+    c.in-Ok.ensures.none (writes_none v c.args.call.now c.in-Ok-Done.reply c.in-Ok-Done.change does none)
 
 pub returns-in-Ok-clause-on : goal.returns-in-Ok-clause-on
 returns-in-Ok-clause-on g c =
     let d = g.D.SharedDisk.state c.args.disk.now in
-    let read = c.in-Ok.ensures.read in
-    subst (λ s. IsOn s c.fetch.new.view) (sym c.in-Ok.ensures.reads.same)
-    (subst (IsOn d) (sym read.1) (fetched_on d c.args.view.now c.in-Ok-NeedBlock.missing.block read.0 c.requires.on read.2))
+    let inside = subst (λ a. IfDone (Ok a) (λ reply change. AreInside (seen_alone c.args.view.now) change)) c.in-Ok-Done.field-0-is c.in-Ok-Done.ensures.inside in
+    let does = subst (λ a. IfDone (Ok a) (Does (seen_alone c.args.view.now) c.args.call.now)) c.in-Ok-Done.field-0-is c.in-Ok-Done.ensures.done in
+    subst (IsOn (g.D.SharedDisk.state c.carry_out.new.disk)) (sym c.in-Ok.ensures.kept)
+    (on_again d _ c.args.view.now c.in-Ok-Done.change c.requires.on does.form c.in-Ok.ensures.written
+    (of_disk d c.args.view.now c.in-Ok-Done.change c.requires.on does.form inside))
 
-pub returns-in-Ok-clause-fewer : goal.returns-in-Ok-clause-fewer
-returns-in-Ok-clause-fewer g c =
+pub returns-in-Ok-fetch-clause-on : goal.returns-in-Ok-fetch-clause-on
+returns-in-Ok-fetch-clause-on g c =
     let d = g.D.SharedDisk.state c.args.disk.now in
-    let read = c.in-Ok.ensures.read in
+    let read = c.in-Ok-fetch.ensures.read in
+    subst (λ s. IsOn s c.fetch.new.view) (sym c.in-Ok-fetch.ensures.reads.same)
+    (subst (IsOn d) (sym read.1) (fetched_on d c.args.view.now c.in-Ok-NeedBlock.missing.block read.0 c.requires.on c.in-Ok-fetch.ensures.inside read.2))
+
+pub returns-in-Ok-fetch-clause-fewer : goal.returns-in-Ok-fetch-clause-fewer
+returns-in-Ok-fetch-clause-fewer g c =
+    let d = g.D.SharedDisk.state c.args.disk.now in
+    let read = c.in-Ok-fetch.ensures.read in
     subst (λ (n : Lone). lacked_count n.blocks d.count < lacked_count c.args.view.now.blocks d.count) (sym read.1)
     (fewer c.args.view.now.blocks c.in-Ok-NeedBlock.missing.block read.0 d.count
-    (subst (λ a. IfNeedBlock (Ok a) (λ m. (seen_alone c.args.view.now).block_at m.block ≡ None)) c.in-Ok-NeedBlock.field-0-is c.in-Ok-NeedBlock.ensures.absent) c.in-Ok.ensures.inside)
+    (subst (λ a. IfNeedBlock (Ok a) (λ m. (seen_alone c.args.view.now).block_at m.block ≡ None)) c.in-Ok-NeedBlock.field-0-is c.in-Ok-NeedBlock.ensures.absent) c.in-Ok-fetch.ensures.inside)
 
 pub returns-in-Err-fetch-clause-sound : goal.returns-in-Err-fetch-clause-sound
 returns-in-Err-fetch-clause-sound g c =
@@ -99,3 +110,42 @@ returns-in-Ok-NoSpace-clause-answered g c =
     answered_full d c.args.view.now c.args.call.now c.in-Ok-NoSpace.need c.in-Ok-NoSpace.free c.requires.on
     (subst (λ a. IfNoSpace (Ok a) (λ need free. TakesSpace c.args.call.now)) c.in-Ok-NoSpace.field-0-is c.in-Ok-NoSpace.ensures.roomless)
     (λ im o l t of. subst (λ a. IfNoSpace (Ok a) (IsTooFew v im o l t c.args.call.now)) c.in-Ok-NoSpace.field-0-is (c.in-Ok-NoSpace.ensures.space im o l t of))
+
+pub returns-in-Err-fetch-clause-failed : goal.returns-in-Err-fetch-clause-failed
+returns-in-Err-fetch-clause-failed g c =
+    let d = g.D.SharedDisk.state c.args.disk.now in
+    let v = seen_alone c.args.view.now in
+    let m = c.in-Ok-NeedBlock.missing in
+    let needed = subst (λ a. IfNeedBlock (Ok a) (IsNeededFor v c.args.call.now)) c.in-Ok-NeedBlock.field-0-is c.in-Ok-NeedBlock.ensures.needed in
+    let after = g.D.SharedDisk.state c.fetch.new.disk in
+    failed_so c.in-Err-fetch.end _ (IsFailedFor d after v c.args.call.now)
+    (λ block is. subst (IsFailedFor d after v c.args.call.now) (sym is) (in_a_read m needed c.in-Err-fetch.ensures.reads.same))
+    c.in-Err-fetch.ensures.failed
+
+pub returns-in-Err-carry_out-clause-failed : goal.returns-in-Err-carry_out-clause-failed
+returns-in-Err-carry_out-clause-failed g c =
+    let d = g.D.SharedDisk.state c.args.disk.now in
+    let v = seen_alone c.args.view.now in
+    let after = g.D.SharedDisk.state c.carry_out.new.disk in
+    let change = c.in-Ok-Done.change in
+    let does = subst (λ a. IfDone (Ok a) (Does v c.args.call.now)) c.in-Ok-Done.field-0-is c.in-Ok-Done.ensures.done in
+    failed_so c.in-Err-carry_out.end _ (IsFailedFor d after v c.args.call.now)
+    (λ block is. in_a_write block c.in-Ok-Done.reply change does is.0 is.1)
+    (failed_and c.in-Err-carry_out.end (IsWriteOf change.blocks.items) (λ block. MayBeWritten 1 d after change.blocks.items) c.in-Err-carry_out.ensures.failed c.in-Err-carry_out.ensures.left)
+
+pub returns-in-Ok-NotBuilt-clause-taken : goal.returns-in-Ok-NotBuilt-clause-taken
+returns-in-Ok-NotBuilt-clause-taken g c =
+    let d = g.D.SharedDisk.state c.args.disk.now in
+    (refl, λ t s. subst (λ a. IfNotBuilt (Ok a) ((apply c.args.call.now t).reply ≡ OkReply)) c.in-Ok-NotBuilt.field-0-is (c.in-Ok-NotBuilt.ensures.taken (image_of d) s.owners s.layout t (of_view d c.args.view.now t c.requires.on s)))
+
+pub returns-in-Ok-NoSpace-clause-full : goal.returns-in-Ok-NoSpace-clause-full
+returns-in-Ok-NoSpace-clause-full g c = record {
+  exactly = (λ told. refl, λ full. refl);
+  fewer = subst (λ a. IfNoSpace (Ok a) (λ need free. free < need)) c.in-Ok-NoSpace.field-0-is c.in-Ok-NoSpace.ensures.fewer;
+}
+
+pub returns-in-Ok-NoSpace-clause-free : goal.returns-in-Ok-NoSpace-clause-free
+returns-in-Ok-NoSpace-clause-free g c t s =
+    let v = seen_alone c.args.view.now in
+    free_count (g.D.SharedDisk.state c.args.disk.now) c.args.view.now c.args.call.now c.in-Ok-NoSpace.need c.in-Ok-NoSpace.free c.requires.on
+    (λ im o l t of. subst (λ a. IfNoSpace (Ok a) (IsTooFew v im o l t c.args.call.now)) c.in-Ok-NoSpace.field-0-is (c.in-Ok-NoSpace.ensures.space im o l t of)) t s

@@ -1,12 +1,16 @@
-use Rattle.std.proofs.Common.{◌≡◌, List, ap, ◌∙◌, subst}
+use Rattle.std.proofs.Common.{◌≡◌, List, sym, ap, ◌∙◌, subst}
 use Rattle.std.specs.Prelude.{Result, OnOk, Ok, Err}
 use Rattle.file_tree.specs.Tree.{Tree}
+use Rattle.cluster_history.specs.History.{tree_of}
+use Rattle.run_rules.specs.Follows.{history_of}
 use Rattle.script_lang.specs.Script.{ScriptValue}
 use Rattle.script_lang.specs.declared.script.Client.{Client}
 use Rattle.script_lang.specs.declared.script.Line.{Line}
 use Rattle.lone_node.specs.declared.ends.RunEnd.{RunEnd}
-use Rattle.lone_node.specs.Run.{IsRunOf, IsWholeRun}
-use Rattle.lone_node.specs.Standing.{StandsFor}
+use Rattle.lone_node.specs.Ends.{UnlessDiskFailed}
+use Rattle.lone_node.specs.Run.{HasChangedNothing, IsRunOf, IsWholeRun}
+use Rattle.lone_node.specs.Standing.{LeavesStanding, StandsFor}
+use Rattle.lone_node.proofs.Endings.{unless_so}
 use Rattle.lone_node.proofs.NodeRuns.{Owes, owes, owes_all}
 use Rattle.lone_node.proofs.running.run_script.Given.{Over}
 use Rattle.lone_node.proofs.running.run_script.Goals as goal
@@ -51,3 +55,18 @@ returns-clause-answered g c =
     (λ whole. owes_all c.args.script.now c.requires.form c.run_lines.new.items.items (start g c)
     (at_script (λ cs ls. IsWholeRun cs ls c.run_lines.new.items.items (start g c)) c.args.script.now.clients c.args.script.now.lines (clients g c) (lines g c) whole))
     c.run_lines.ensures.whole
+
+unless_failed : {P Q : Type 0} (r : Result Unit RunEnd) → (P → Q) → UnlessDiskFailed r P → UnlessDiskFailed r Q
+unless_failed (Ok x) f h = f h
+unless_failed (Err end) f h = unless_so end f h
+
+pub returns-clause-stands : goal.returns-clause-stands
+returns-clause-stands g c =
+    unless_failed c.run_lines.result
+    (λ stands t s. subst (λ (cs : List Client). LeavesStanding (g.D.SharedDisk.state c.args.disk.now) (g.D.SharedDisk.state c.run_lines.new.disk) c.args.view.now t (tree_of (history_of cs c.run_lines.new.items.items) t) s)
+    (clients g c) (stands t s))
+    c.run_lines.ensures.stands
+
+pub returns-clause-untouched : goal.returns-clause-untouched
+returns-clause-untouched g c =
+    unless_failed c.run_lines.result (λ untouched nothing. untouched (subst (λ (cs : List Client). HasChangedNothing cs c.run_lines.new.items.items) (sym (clients g c)) nothing)) c.run_lines.ensures.untouched

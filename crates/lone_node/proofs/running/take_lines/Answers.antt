@@ -1,26 +1,34 @@
-use Rattle.std.proofs.Common.{◌≡◌, List, refl, rules, sym, subst, arith}
+use Rattle.std.proofs.Common.{◌≡◌, List, refl, rules, sym, ◌∙◌, subst, arith}
+use Rattle.file_tree.specs.Apply.{apply}
 use Rattle.file_tree.specs.Tree.{Tree}
+use Rattle.file_tree.specs.declared.call.Call.{Call}
+use Rattle.file_tree.specs.declared.reply.Reply.TheVariants.{Ok as OkReply}
 use Rattle.cluster_history.specs.History.{tree_of}
 use Rattle.run_rules.specs.Follows.{history_of}
 use Rattle.shared_disk.specs.Disk.{DiskState}
 use Rattle.trace_text.specs.declared.item.TraceItem.{TraceItem}
-use Rattle.lone_node.specs.Answering.{IsDamagedOn, IsUnbuiltOn}
-use Rattle.lone_node.specs.Run.{EndsAtCall}
-use Rattle.lone_node.specs.Standing.{StandsFor}
-use Rattle.lone_node.proofs.Answered.{damaged_so, stands_on}
-use Rattle.lone_node.proofs.Endings.{damaged_before, damaged_with, same_back, unbuilt_before, unbuilt_with, unless_so}
-use Rattle.lone_node.proofs.Steps.{ends_here, goes_on, no_more_calls, run_none, tree_is, wait_more}
+use Rattle.lone_node.specs.Answering.{IsDamagedOn, IsFailedAt, IsHashedOn, IsUnbuiltOn}
+use Rattle.lone_node.specs.Run.{EndsAt, EndsAtCall, HasChangedNothing, IsFailedOn, IsTakenBehind, TellFree}
+use Rattle.lone_node.specs.Standing.{LeavesStanding, StandsFor}
+use Rattle.lone_node.proofs.Endings.{damaged_before, damaged_so, damaged_with, failed_before, failed_so, hashed_before, hashed_with, unbuilt_before, unbuilt_so, unbuilt_with, unless_so}
+use Rattle.lone_node.proofs.Frees.{AreTold}
+use Rattle.lone_node.proofs.Leaving.{leaves_none, stands_on}
+use Rattle.lone_node.proofs.Steps.{ends_at, goes_on, its_call, no_more_calls, run_none, tells_free, tree_is, wait_more}
 use Rattle.lone_node.proofs.running.take_lines.Given.{Over}
 use Rattle.lone_node.proofs.running.take_lines.Goals as goal
 
-pub loop-line-init : goal.loop-line-init
-loop-line-init g c =
-    let start = StandsFor (g.D.SharedDisk.state c.args.disk.now) c.args.view.now in
+pub loop-place-init : goal.loop-place-init
+loop-place-init g c =
+    let disk = g.D.SharedDisk.state c.args.disk.now in
+    let start = StandsFor disk c.args.view.now in
     let run = run_none c.args.clients.now c.args.lines.now start c.args.items.now.items c.requires.joined in
     record {
       run = run;
       number = refl;
-      stands = λ t s. subst start (sym (tree_is c.args.clients.now c.args.lines.now start 0 c.args.items.now.items run t)) s;
+      leaves = λ t s. subst (λ (u : Tree). LeavesStanding disk disk c.args.view.now t u s) (sym (tree_is c.args.clients.now c.args.lines.now start 0 c.args.items.now.items run t))
+          (leaves_none disk c.args.view.now t s);
+      told = λ t s. refl;
+      untouched = λ nothing. (refl, refl);
       idle = c.requires.idle;
       on = c.requires.on;
       same = record { size = refl; count = refl; tells = refl; fenced = refl };
@@ -28,18 +36,20 @@ loop-line-init g c =
       later = λ i. omega arith;
     }
 
-pub loop-line-preserved-in_default : goal.loop-line-preserved-in_default
-loop-line-preserved-in_default g c =
-    let so = c.loop-line.invariant in
+pub loop-place-preserved-in_default : goal.loop-place-preserved-in_default
+loop-place-preserved-in_default g c =
+    let so = c.loop-place.invariant in
     let start = StandsFor (g.D.SharedDisk.state c.args.disk.now) c.args.view.now in
-    let (run, number) =
-    wait_more c.args.clients.now c.args.lines.now start c.loop-line.line-index c.loop-line.items.items c.loop-line-test.true so.run
-    c.loop-line.number c.line-item.result c.line-item.result c.line-item.is c.in_default.not-Call so.number
+    let (run, number, same) =
+    wait_more c.args.clients.now c.args.lines.now start c.loop-place.place c.loop-place.items.items c.loop-place-test.true so.run
+    c.loop-place.number c.index-lines-place.result c.index-lines-place.result c.index-lines-place.is c.in_default.not-Call so.number
     in
     record {
       run = run;
       number = number;
-      stands = so.stands;
+      leaves = so.leaves;
+      told = λ t s. subst (AreTold (g.D.SharedDisk.state c.loop-place.disk) (g.D.SharedDisk.state c.args.disk.now) c.args.view.now t s) (sym same) (so.told t s);
+      untouched = so.untouched;
       idle = so.idle;
       on = so.on;
       same = so.same;
@@ -49,26 +59,35 @@ loop-line-preserved-in_default g c =
 
 pub overflow_add-number : goal.overflow_add-number
 overflow_add-number g c =
-    let so = c.loop-line.invariant in
-    let few = no_more_calls c.args.clients.now c.args.lines.now (StandsFor (g.D.SharedDisk.state c.args.disk.now) c.args.view.now) c.loop-line.line-index c.loop-line.items.items
-    c.loop-line-test.true so.run in
-    omega (arith, few, so.number, c.loop-line-test.true, c.well_formed)
+    let so = c.loop-place.invariant in
+    let few = no_more_calls c.args.clients.now c.args.lines.now (StandsFor (g.D.SharedDisk.state c.args.disk.now) c.args.view.now) c.loop-place.place c.loop-place.items.items
+    c.loop-place-test.true so.run in
+    omega (arith, few, so.number, c.loop-place-test.true, c.well_formed)
 
-pub loop-line-preserved : goal.loop-line-preserved
-loop-line-preserved g c =
-    let so = c.loop-line.invariant in
-    let now = g.D.SharedDisk.state c.loop-line.disk in
+pub take_call-requires-clause-built : goal.take_call-requires-clause-built
+take_call-requires-clause-built g c =
+    its_call c.args.clients.now c.args.lines.now (StandsFor (g.D.SharedDisk.state c.args.disk.now) c.args.view.now) c.loop-place.place c.loop-place.items.items c.loop-place-test.true
+    c.loop-place.invariant.run c.in-Call.client c.in-Call.call
+    c.index-lines-place.result c.index-lines-place.result c.index-clients-client.result c.index-lines-place.is c.in-Call.is c.requires.form
+
+pub loop-place-preserved : goal.loop-place-preserved
+loop-place-preserved g c =
+    let so = c.loop-place.invariant in
+    let now = g.D.SharedDisk.state c.loop-place.disk in
     let next = g.D.SharedDisk.state c.take_call.new.disk in
-    let start = StandsFor (g.D.SharedDisk.state c.args.disk.now) c.args.view.now in
-    let (run, number, stands) =
-    goes_on c.args.clients.now c.args.lines.now start c.loop-line.line-index c.loop-line.items.items c.loop-line-test.true so.run c.in-Call.client c.in-Call.call
-    c.line-item.result c.line-item.result c.index-clients-client.result c.line-item.is c.in-Call.is c.requires.form
-    c.take_call.new.items.items c.loop-line.number now next c.loop-line.view c.take_call.new.view so.number c.in-Ok.ensures.taken so.stands
+    let start = g.D.SharedDisk.state c.args.disk.now in
+    let (run, number, leaves, told, untouched) =
+    goes_on c.args.clients.now c.args.lines.now start c.args.view.now c.loop-place.place c.loop-place.items.items c.loop-place-test.true so.run c.in-Call.client c.in-Call.call
+    c.index-lines-place.result c.index-lines-place.result c.index-clients-client.result c.index-lines-place.is c.in-Call.is c.requires.form
+    c.take_call.new.items.items c.loop-place.number now next (g.D.SharedDisk.list c.loop-place.disk) (g.D.SharedDisk.list c.take_call.new.disk) c.loop-place.view so.number c.in-Ok.ensures.taken so.system so.leaves so.told
+    (g.D.SharedDisk.list c.args.disk.now) so.untouched
     in
     record {
       run = run;
       number = number;
-      stands = stands;
+      leaves = leaves;
+      told = told;
+      untouched = untouched;
       idle = c.in-Ok.ensures.idle;
       on = c.in-Ok.ensures.on;
       same = search rules;
@@ -76,53 +95,106 @@ loop-line-preserved g c =
       later = λ i. let before = so.later i in let more = c.in-Ok.ensures.later i in omega (arith, before, more);
     }
 
--- where the disk is as it was before the call, it stands for what it stood for
-still : (g : Over) (c : goal.In-Err g) → g.D.SharedDisk.state c.take_call.new.disk ≡ g.D.SharedDisk.state c.loop-line.disk → (t : Tree)
-    → StandsFor (g.D.SharedDisk.state c.args.disk.now) c.args.view.now t
-    → StandsFor (g.D.SharedDisk.state c.take_call.new.disk) c.args.view.now (tree_of (history_of c.args.clients.now c.take_call.new.items.items) t)
-still g c same t s =
-    let so = c.loop-line.invariant in
-    subst (λ (is : List TraceItem). StandsFor (g.D.SharedDisk.state c.take_call.new.disk) c.args.view.now (tree_of (history_of c.args.clients.now is) t)) (sym c.in-Err.ensures.kept)
-    (subst (λ (d : DiskState). StandsFor d c.args.view.now (tree_of (history_of c.args.clients.now c.loop-line.items.items) t)) (sym same)
-    (stands_on (g.D.SharedDisk.state c.loop-line.disk) c.loop-line.view c.args.view.now _ (same_back so.system) (so.stands t s)))
+-- what the disk stood for before the call that wasn't answered, where its items are those before
+stood : (g : Over) (c : goal.In-Err g) (t : Tree) (s : StandsFor (g.D.SharedDisk.state c.args.disk.now) c.args.view.now t)
+    → LeavesStanding (g.D.SharedDisk.state c.args.disk.now) (g.D.SharedDisk.state c.loop-place.disk) c.args.view.now t (tree_of (history_of c.args.clients.now c.take_call.new.items.items) t) s
+stood g c t s =
+    subst (λ (is : List TraceItem). LeavesStanding (g.D.SharedDisk.state c.args.disk.now) (g.D.SharedDisk.state c.loop-place.disk) c.args.view.now t (tree_of (history_of c.args.clients.now is) t) s)
+    (sym c.in-Err.ensures.kept) (c.loop-place.invariant.leaves t s)
+
+-- the run ends at this call
+module _ (g : Over) (c : goal.In-Err g) where
+  abbrev start : Tree → Type 0
+  start = StandsFor (g.D.SharedDisk.state c.args.disk.now) c.args.view.now
+
+  abbrev now : DiskState
+  now = g.D.SharedDisk.state c.loop-place.disk
+
+  abbrev next : DiskState
+  next = g.D.SharedDisk.state c.take_call.new.disk
+
+  -- it left the disk as it was
+  abbrev IsStill : Type 0
+  IsStill = (next ≡ now) × (g.D.SharedDisk.list c.take_call.new.disk ≡ g.D.SharedDisk.list c.loop-place.disk)
+
+  -- nothing has changed before it either
+  nothing_before : HasChangedNothing c.args.clients.now c.take_call.new.items.items → (now ≡ g.D.SharedDisk.state c.args.disk.now) × (g.D.SharedDisk.list c.loop-place.disk ≡ g.D.SharedDisk.list c.args.disk.now)
+  nothing_before nothing = c.loop-place.invariant.untouched (subst (HasChangedNothing c.args.clients.now) c.in-Err.ensures.kept nothing)
+
+  at_line : (P : Call → Type 0) → P c.in-Call.call → EndsAt c.loop-place.place P c.args.clients.now c.args.lines.now c.take_call.new.items.items start
+  at_line P holds =
+      ends_at c.args.clients.now c.args.lines.now start c.loop-place.place c.loop-place.items.items c.loop-place-test.true c.loop-place.invariant.run c.in-Call.client c.in-Call.call
+      c.index-lines-place.result c.index-lines-place.result c.index-clients-client.result c.index-lines-place.is c.in-Call.is c.requires.form P c.take_call.new.items.items c.in-Err.ensures.kept holds
+
+  at_call : (P : Call → Type 0) → P c.in-Call.call → EndsAtCall P c.args.clients.now c.args.lines.now c.take_call.new.items.items start
+  at_call P holds = record { count = c.loop-place.place; ends = at_line P holds }
 
 pub returns-in-Err-clause-stands : goal.returns-in-Err-clause-stands
-returns-in-Err-clause-stands g c = unless_so c.in-Err.end (still g c) c.in-Err.ensures.before
+returns-in-Err-clause-stands g c =
+    unless_so c.in-Err.end
+    (λ (same : IsStill g c) t s. subst (λ (d : DiskState). LeavesStanding (g.D.SharedDisk.state c.args.disk.now) d c.args.view.now t (tree_of (history_of c.args.clients.now c.take_call.new.items.items) t) s) (sym same.0) (stood g c t s))
+    c.in-Err.ensures.before
+
+pub returns-in-Err-clause-untouched : goal.returns-in-Err-clause-untouched
+returns-in-Err-clause-untouched g c =
+    unless_so c.in-Err.end (λ (same : IsStill g c) nothing. (same.0 ∙ (nothing_before g c nothing).0, same.1 ∙ (nothing_before g c nothing).1)) c.in-Err.ensures.before
 
 pub returns-in-Err-clause-sound : goal.returns-in-Err-clause-sound
 returns-in-Err-clause-sound g c =
-    damaged_so c.in-Err.end (λ b rule. (t : Tree) → StandsFor (g.D.SharedDisk.state c.loop-line.disk) c.loop-line.view t → ⊥)
-    (λ b rule. (t : Tree) → StandsFor (g.D.SharedDisk.state c.args.disk.now) c.args.view.now t → ⊥)
-    (λ b rule never t s. never _ (c.loop-line.invariant.stands t s)) c.in-Err.ensures.sound
+    damaged_so c.in-Err.end (λ b rule. (t : Tree) → StandsFor (now g c) c.loop-place.view t → ⊥) (λ b rule. (t : Tree) → start g c t → ⊥)
+    (λ b rule never t s. never _ (stands_on (now g c) c.args.view.now c.loop-place.view _ c.loop-place.invariant.system (c.loop-place.invariant.leaves t s).now)) c.in-Err.ensures.sound
+
+pub returns-in-Err-clause-hashed : goal.returns-in-Err-clause-hashed
+returns-in-Err-clause-hashed g c =
+    hashed_with c.in-Err.end (IsHashedOn (now g c) c.loop-place.view c.in-Call.call) _
+    (λ (same : IsStill g c) b is. at_call g c (λ call. IsHashedOn (next g c) c.args.view.now call b)
+    (hashed_before (now g c) (next g c) c.args.view.now c.loop-place.view c.in-Call.call b same.0 c.loop-place.invariant.system is))
+    c.in-Err.ensures.before c.in-Err.ensures.hashed
 
 pub returns-in-Err-clause-unbuilt : goal.returns-in-Err-clause-unbuilt
 returns-in-Err-clause-unbuilt g c =
-    let so = c.loop-line.invariant in
-    let now = g.D.SharedDisk.state c.loop-line.disk in
-    let next = g.D.SharedDisk.state c.take_call.new.disk in
-    let start = StandsFor (g.D.SharedDisk.state c.args.disk.now) c.args.view.now in
-    unbuilt_with c.in-Err.end (IsUnbuiltOn now c.loop-line.view c.in-Call.call)
-    (λ b. EndsAtCall (λ call. IsUnbuiltOn next c.args.view.now call b) c.args.clients.now c.args.lines.now c.take_call.new.items.items start)
-    (λ (same : next ≡ now) b is. ends_here c.args.clients.now c.args.lines.now start c.loop-line.line-index c.loop-line.items.items c.loop-line-test.true so.run c.in-Call.client c.in-Call.call
-    c.line-item.result c.line-item.result c.index-clients-client.result c.line-item.is c.in-Call.is c.requires.form
-    (λ call. IsUnbuiltOn next c.args.view.now call b) c.take_call.new.items.items c.in-Err.ensures.kept
-    (unbuilt_before now next c.args.view.now c.loop-line.view c.in-Call.call b same so.system is))
+    let P = λ (call : Call). IsUnbuiltOn (next g c) c.args.view.now call in
+    unbuilt_with c.in-Err.end (λ place. (place ≡ c.loop-place.place) × IsUnbuiltOn (now g c) c.loop-place.view c.in-Call.call) _
+    (λ (same : IsStill g c) place is. subst (λ k. EndsAt k P c.args.clients.now c.args.lines.now c.take_call.new.items.items (start g c)) (sym is.0)
+    (at_line g c P (unbuilt_before (now g c) (next g c) c.args.view.now c.loop-place.view c.in-Call.call same.0 c.loop-place.invariant.system is.1)))
     c.in-Err.ensures.before c.in-Err.ensures.unbuilt
+
+pub returns-in-Err-clause-taken : goal.returns-in-Err-clause-taken
+returns-in-Err-clause-taken g c =
+    let P = IsTakenBehind c.args.clients.now c.take_call.new.items.items (start g c) in
+    unbuilt_so c.in-Err.end (λ place. (place ≡ c.loop-place.place) × ((t : Tree) → StandsFor (now g c) c.loop-place.view t → (apply c.in-Call.call t).reply ≡ OkReply)) _
+    (λ place is. subst (λ k. EndsAt k P c.args.clients.now c.args.lines.now c.take_call.new.items.items (start g c)) (sym is.0)
+    (at_line g c P (λ t s. is.1 (tree_of (history_of c.args.clients.now c.take_call.new.items.items) t)
+    (stands_on (now g c) c.args.view.now c.loop-place.view _ c.loop-place.invariant.system (stood g c t s).now))))
+    c.in-Err.ensures.accepted
+
+pub returns-in-Err-clause-failed : goal.returns-in-Err-clause-failed
+returns-in-Err-clause-failed g c =
+    let first = g.D.SharedDisk.state c.args.disk.now in
+    failed_so c.in-Err.end (IsFailedAt (now g c) (next g c) c.loop-place.view c.in-Call.call) _
+    (λ block is. at_call g c (λ call. IsFailedOn first (next g c) c.args.view.now c.args.clients.now c.take_call.new.items.items call block) (record {
+      before = now g c;
+      same = c.loop-place.invariant.same;
+      idle = c.loop-place.invariant.idle;
+      kept = λ nothing. (nothing_before g c nothing).0;
+      stood = stood g c;
+      failed = failed_before (now g c) (next g c) c.args.view.now c.loop-place.view c.in-Call.call block c.loop-place.invariant.system is;
+    }))
+    c.in-Err.ensures.failed
 
 pub returns-in-Err-clause-damaged : goal.returns-in-Err-clause-damaged
 returns-in-Err-clause-damaged g c =
-    let so = c.loop-line.invariant in
-    let now = g.D.SharedDisk.state c.loop-line.disk in
-    let next = g.D.SharedDisk.state c.take_call.new.disk in
-    let start = StandsFor (g.D.SharedDisk.state c.args.disk.now) c.args.view.now in
-    damaged_with c.in-Err.end (IsDamagedOn now c.loop-line.view c.in-Call.call)
-    (λ b rule. EndsAtCall (λ call. IsDamagedOn next c.args.view.now call b rule) c.args.clients.now c.args.lines.now c.take_call.new.items.items start)
-    (λ (same : next ≡ now) b rule is. ends_here c.args.clients.now c.args.lines.now start c.loop-line.line-index c.loop-line.items.items c.loop-line-test.true so.run c.in-Call.client c.in-Call.call
-    c.line-item.result c.line-item.result c.index-clients-client.result c.line-item.is c.in-Call.is c.requires.form
-    (λ call. IsDamagedOn next c.args.view.now call b rule) c.take_call.new.items.items c.in-Err.ensures.kept
-    (damaged_before now next c.args.view.now c.loop-line.view c.in-Call.call b rule same so.system is))
+    damaged_with c.in-Err.end (IsDamagedOn (now g c) c.loop-place.view c.in-Call.call) _
+    (λ (same : IsStill g c) b rule is. at_call g c (λ call. IsDamagedOn (next g c) c.args.view.now call b rule)
+    (damaged_before (now g c) (next g c) c.args.view.now c.loop-place.view c.in-Call.call b rule same.0 c.loop-place.invariant.system is))
     c.in-Err.ensures.before c.in-Err.ensures.damaged
 
-pub returns-clause-stands : goal.returns-clause-stands
-returns-clause-stands g c t s =
-    stands_on (g.D.SharedDisk.state c.loop-line.disk) c.loop-line.view c.args.view.now _ (same_back c.loop-line.invariant.system) (c.loop-line.invariant.stands t s)
+pub returns-in-Err-clause-free : goal.returns-in-Err-clause-free
+returns-in-Err-clause-free g c t s =
+    subst (TellFree (g.D.SharedDisk.state c.args.disk.now) c.args.view.now t s) (sym c.in-Err.ensures.kept)
+    (tells_free c.args.clients.now c.args.lines.now (g.D.SharedDisk.state c.args.disk.now) (now g c) c.args.view.now c.loop-place.place c.loop-place.items.items c.loop-place.invariant.run c.loop-place.invariant.told t s)
+
+pub returns-clause-free : goal.returns-clause-free
+returns-clause-free g c t s =
+    tells_free c.args.clients.now c.args.lines.now (g.D.SharedDisk.state c.args.disk.now) (g.D.SharedDisk.state c.loop-place.disk) c.args.view.now c.loop-place.place c.loop-place.items.items
+    c.loop-place.invariant.run c.loop-place.invariant.told t s

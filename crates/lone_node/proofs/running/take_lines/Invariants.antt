@@ -4,15 +4,20 @@ use Rattle.cluster_history.specs.History.{tree_of}
 use Rattle.run_rules.specs.Follows.{history_of}
 use Rattle.shared_disk.specs.Disk.{IsIdle}
 use Rattle.lone_node.specs.Answering.{IsSameDisk}
-use Rattle.lone_node.specs.Run.{IsRunUpTo}
-use Rattle.lone_node.specs.Standing.{IsOn, IsSameSystem, StandsFor}
+use Rattle.lone_node.specs.Run.{HasChangedNothing, IsRunUpTo}
+use Rattle.lone_node.specs.Standing.{IsOn, IsSameSystem, LeavesStanding, StandsFor}
+use Rattle.lone_node.proofs.Frees.{AreTold}
 use Rattle.lone_node.proofs.running.take_lines.Given as goal
 
-abbrev pub invariant-loop-line : goal.invariant-loop-line
-invariant-loop-line g l = record {
-  run : IsRunUpTo l.clients l.lines l.line-index l.items.items (StandsFor (g.D.SharedDisk.state l.initial.disk) l.initial.view);
+abbrev pub invariant-loop-place : goal.invariant-loop-place
+invariant-loop-place g l = record {
+  run : IsRunUpTo l.clients l.lines l.place l.items.items (StandsFor (g.D.SharedDisk.state l.initial.disk) l.initial.view);
   number : l.number ≡ 1 + length run.answered;
-  stands : (t : Tree) → StandsFor (g.D.SharedDisk.state l.initial.disk) l.initial.view t → StandsFor (g.D.SharedDisk.state l.disk) l.view (tree_of (history_of l.clients l.items.items) t);
+  leaves : (t : Tree) (s : StandsFor (g.D.SharedDisk.state l.initial.disk) l.initial.view t)
+      → LeavesStanding (g.D.SharedDisk.state l.initial.disk) (g.D.SharedDisk.state l.disk) l.initial.view t (tree_of (history_of l.clients l.items.items) t) s;
+  told : (t : Tree) (s : StandsFor (g.D.SharedDisk.state l.initial.disk) l.initial.view t)
+      → AreTold (g.D.SharedDisk.state l.disk) (g.D.SharedDisk.state l.initial.disk) l.initial.view t s run.answered;
+  untouched : HasChangedNothing l.clients l.items.items → (g.D.SharedDisk.state l.disk ≡ g.D.SharedDisk.state l.initial.disk) × (g.D.SharedDisk.list l.disk ≡ g.D.SharedDisk.list l.initial.disk);
   idle : IsIdle (g.D.SharedDisk.state l.disk);
   on : IsOn (g.D.SharedDisk.state l.disk) l.view;
   same : IsSameDisk (g.D.SharedDisk.state l.initial.disk) (g.D.SharedDisk.state l.disk);

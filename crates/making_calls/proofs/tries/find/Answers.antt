@@ -10,7 +10,7 @@ use Rattle.path_walks.specs.Holds.{AreHeld, holds}
 use Rattle.path_walks.specs.Walks.{AreInOrder, IsTold, IsWalked}
 use Rattle.path_walks.specs.Walks as path
 use Rattle.path_walks.proofs.Lists.{parent_of_next}
-use Rattle.making_calls.specs.Making.{IsDamage, IsUnbuilt, directory_path, inode_holds, path_holds}
+use Rattle.making_calls.specs.Making.{IsDamage, IsHashedFor, IsNeededFor, directory_path, inode_holds, path_holds}
 use Rattle.making_calls.proofs.Faults.{only_so, told_on}
 use Rattle.making_calls.proofs.Holds.{lack_before}
 use Rattle.making_calls.proofs.InImage.{asked_before}
@@ -85,15 +85,15 @@ returns-in-NotDir-clause-found g c im o l t of =
     let answer : (apply call t).reply ≡ reply.NotDir = refused call t c.in-Some.last.now reply.NotDir c.requires.making (c.in-Some.front.now, whole) at.0 in
     (answer, subst (AreHeld v) (sym (plain_list im o l t call c.args.stamp.now.node (ap is_ok answer))) at.1)
 
-pub returns-in-Hashed-clause-hashed : goal.returns-in-Hashed-clause-hashed
-returns-in-Hashed-clause-hashed g c =
+pub returns-in-Hashed-clause-told : goal.returns-in-Hashed-clause-told
+returns-in-Hashed-clause-told g c =
     let v = g.V.View.seen c.args.view.now in
     let call = c.args.call.now in
     let whole : path_of call false ≡ c.in-Some.front.now ++ c.in-Some.last.now ∷ [] = sym (c.names.ensures.names ∙ c.path_of_making.ensures) ∙ c.in-Some.ensures.cases.0 in
     let front : c.in-Some.front.now ≡ directory_path call = sym (ap parent_of whole ∙ parent_of_next c.in-Some.front.now c.in-Some.last.now) in
     let told = subst₂ (λ names wants. IsTold v wants names c.in_ok-place.field-0) front (c.deref.ensures.value ∙ c.in_ok-wants.ensures) c.in_ok-place.ensures.told in
     let at = subst (IsTold v (wanted call) (directory_path call)) c.in-Hashed.is told in
-    IsUnbuilt.on_path at
+    IsHashedFor.on_path at
 
 pub returns-in-NeedLock-clause-found : goal.returns-in-NeedLock-clause-found
 returns-in-NeedLock-clause-found g c im o l t of =
@@ -115,8 +115,8 @@ returns-clause-found g c im o l t of =
     let at = subst (IsWalked v im o l t (directory_path call) (wanted call)) c.in-NeedBlock.is walked in
     asked_before v im o l (path_holds im o l call) (inode_holds im o l t call c.args.stamp.now.node) c.in-NeedBlock.missing at
 
-pub returns-in-NeedLock-clause-way : goal.returns-in-NeedLock-clause-way
-returns-in-NeedLock-clause-way g c =
+pub returns-in-NeedLock-clause-told : goal.returns-in-NeedLock-clause-told
+returns-in-NeedLock-clause-told g c =
     let v = g.V.View.seen c.args.view.now in
     let call = c.args.call.now in
     let whole : path_of call false ≡ c.in-Some.front.now ++ c.in-Some.last.now ∷ [] = sym (c.names.ensures.names ∙ c.path_of_making.ensures) ∙ c.in-Some.ensures.cases.0 in
@@ -125,12 +125,12 @@ returns-in-NeedLock-clause-way g c =
     let at = subst (IsTold v (wanted call) (directory_path call)) c.in-NeedLock.is told in
     subst (λ h. holds v h ≡ false) (sym at.is) at.lacks
 
-pub returns-clause-way : goal.returns-clause-way
-returns-clause-way g c =
+pub returns-clause-told : goal.returns-clause-told
+returns-clause-told g c =
     let v = g.V.View.seen c.args.view.now in
     let call = c.args.call.now in
     let whole : path_of call false ≡ c.in-Some.front.now ++ c.in-Some.last.now ∷ [] = sym (c.names.ensures.names ∙ c.path_of_making.ensures) ∙ c.in-Some.ensures.cases.0 in
     let front : c.in-Some.front.now ≡ directory_path call = sym (ap parent_of whole ∙ parent_of_next c.in-Some.front.now c.in-Some.last.now) in
     let told = subst₂ (λ names wants. IsTold v wants names c.in_ok-place.field-0) front (c.deref.ensures.value ∙ c.in_ok-wants.ensures) c.in_ok-place.ensures.told in
     let at = subst (IsTold v (wanted call) (directory_path call)) c.in-NeedBlock.is told in
-    at.absent
+    IsNeededFor.on_path at

@@ -15,6 +15,7 @@ use Rattle.linear_dirs.specs.Shown.{entry_of}
 use Rattle.image_model.specs.Owners.{holding}
 use Rattle.path_walks.specs.Holds.{AreHeld}
 use Rattle.path_walks.specs.Walks as path
+use Rattle.path_walks.proofs.Leads.{no_end}
 use Rattle.path_walks.proofs.Images.{is_shown, unbroken_directory}
 use Rattle.path_walks.proofs.Steps.{child_is, differs, fault_all, linear_all, linear_here, no_child}
 use Rattle.making_calls.specs.Making.{IsDamage, directory_path}
@@ -31,10 +32,10 @@ returns-then-not-is_directory-clause-found g c im o l t of =
     let reply : (apply c.args.call.now t).reply ≡ reply.NotDir = file_refuses v im o l t of c.args.call.now c.args.name.now c.requires.making c.requires.last c.args.place.now.inode reached.place.at (ap is_directory (sym reached.place.dinode) ∙ (sym c.is_directory.ensures ∙ c.if-not-is_directory.true)) in
     (reply, subst (AreHeld v) (sym (plain_list im o l t c.args.call.now c.args.stamp.now.node (ap is_ok reply))) reached.held)
 
-pub returns-then-place-eq1-clause-hashed : goal.returns-then-place-eq1-clause-hashed
-returns-then-place-eq1-clause-hashed g c =
+pub returns-then-place-eq1-clause-told : goal.returns-then-place-eq1-clause-told
+returns-then-place-eq1-clause-told g c =
     let v = g.V.View.seen c.args.view.now in
-    damage.at_end c.requires.seen.leads c.requires.seen.there
+    damage.at_end (λ root. no_end c.requires.last.0 c.args.name.now (sym root ∙ c.requires.last.1)) c.requires.seen.leads c.requires.seen.there
     (λ h shown. hashed_so h c.args.place.now.dinode (c.requires.seen.dinode h shown) (sym c.is_directory.ensures ∙ c.if-not-is_directory.false) (eq-eqb _ _ c.if-place-eq1.true))
 
 pub look-requires : goal.look-requires

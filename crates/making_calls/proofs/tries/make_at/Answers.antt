@@ -1,4 +1,4 @@
-use Rattle.std.proofs.Common.{◌≡◌, false, sym, ap, ◌∙◌, subst}
+use Rattle.std.proofs.Common.{true, false, sym, ap, ◌∙◌, subst}
 use Rattle.std.specs.Prelude.{not}
 use Rattle.gfs2_layout.specs.Holding.{Holding}
 use Rattle.glock_names.proofs.StepLaws.{answer_at, needed_at}
@@ -11,14 +11,14 @@ use Rattle.path_walks.proofs.Images.{is_shown, unbroken_directory}
 use Rattle.path_walks.proofs.Steps.{fault_all, none_so}
 use Rattle.making_calls.specs.Blocks.{block_holds}
 use Rattle.making_calls.specs.Drafting.{IsAddition, IsWrongIn}
-use Rattle.making_calls.specs.Making.{IsDamage, LacksName, directory_path, has_room_for, name_in}
+use Rattle.making_calls.specs.Making.{IsDamage, IsNeededFor, directory_path}
 use Rattle.making_calls.specs.Making as damage
 use Rattle.making_calls.specs.Searches.{IsGroupBroken, IsTaken, IsUnder}
 use Rattle.making_calls.specs.declared.blocks.Locked.TheVariants as locked
 use Rattle.making_calls.proofs.Alike.{linear_in}
 use Rattle.making_calls.proofs.Faults.{only_so, tells_so, told_on}
-use Rattle.making_calls.proofs.Rooms.{block_way, group_sound, lock_way, room_held}
-use Rattle.making_calls.proofs.Taking.{addition_does, all_held, block_lacks, directory_sound, group_lacks, inside_so, lock_lacks, made, own_name, placed, stamped, too_few, under, wrong_damage}
+use Rattle.making_calls.proofs.Rooms.{block_way, few_way, group_sound, lock_way, room_held}
+use Rattle.making_calls.proofs.Taking.{addition_does, all_held, block_lacks, directory_sound, group_lacks, inside_so, lock_lacks, made, placed, reply_ok, stamped, to_get, too_few, under, wrong_damage}
 use Rattle.making_calls.proofs.tries.make_at.Goals as goal
 
 pub returns-then-is_none-clause-sound : goal.returns-then-is_none-clause-sound
@@ -148,28 +148,40 @@ returns-in-Is-clause-stamped g c im o l t of =
     let added = subst (λ b. IsAddition v b c.args.place.now c.args.name.now c.in-Is-Is.room c.args.stamp.now.time c.in-Is.change) c.is_of_directory.ensures some in
     stamped v c.args.call.now c.requires.making c.args.place.now c.args.name.now c.requires.last c.requires.named c.requires.lacks im o l t of (c.requires.reached im o l t of) (λ h shown. sym (c.in_ok-fits.ensures.room h shown) ∙ c.if-not-fits.false) c.args.stamp.now.node c.requires.groups c.requires.node c.in-Is-Is.room (λ at own shown is. subst (IsUnder v (block_holds (said at) v.groups own) (IsTaken v (said at) v.groups own)) (c.in-Is-Is.is ∙ ap locked.Is c.in-Is-Is.field-0-is) (c.in_ok-room.ensures.found at own shown is)) c.in-Is.change added
 
-pub returns-then-not-fits-clause-hashed : goal.returns-then-not-fits-clause-hashed
-returns-then-not-fits-clause-hashed g c =
-    let name : name_in c.args.call.now ≡ c.args.name.now = own_name (g.V.View.seen c.args.view.now) c.args.call.now c.requires.making c.args.place.now c.args.name.now c.requires.last c.requires.named c.requires.lacks in
-    damage.no_room c.requires.seen.leads c.requires.seen.there (λ h shown. record {
-      lacks = subst (LacksName h) (sym name) (c.requires.lacks h shown);
-      full = subst (λ n. has_room_for h n ≡ false) (sym name) (sym (c.in_ok-fits.ensures.room h shown) ∙ c.if-not-fits.true);
-    })
+pub returns-then-not-fits-clause-told : goal.returns-then-not-fits-clause-told
+returns-then-not-fits-clause-told g c =
+    let v = g.V.View.seen c.args.view.now in
+    to_get v c.args.call.now c.requires.making c.args.place.now c.args.name.now c.requires.last c.requires.named c.requires.lacks false c.requires.seen.leads c.requires.seen.there (λ h shown. sym (c.in_ok-fits.ensures.room h shown) ∙ c.if-not-fits.true)
+
+pub returns-then-not-fits-clause-found : goal.returns-then-not-fits-clause-found
+returns-then-not-fits-clause-found g c im o l t of =
+    let v = g.V.View.seen c.args.view.now in
+    reply_ok v c.args.call.now c.requires.making c.args.place.now c.args.name.now c.requires.last c.requires.named c.requires.lacks im o l t of (c.requires.reached im o l t of)
 
 pub returns-in-NeedBlock-2-clause-found : goal.returns-in-NeedBlock-2-clause-found
 returns-in-NeedBlock-2-clause-found g c im o l t of =
     let v = g.V.View.seen c.args.view.now in
     group_lacks v c.args.call.now c.requires.making c.args.place.now c.args.name.now c.requires.last c.requires.named c.requires.lacks im o l t of (c.requires.reached im o l t of) (λ h shown. sym (c.in_ok-fits.ensures.room h shown) ∙ c.if-not-fits.false) c.args.stamp.now.node c.requires.groups c.requires.node c.in-Is-Is.room (λ at own shown is. subst (IsUnder v (block_holds (said at) v.groups own) (IsTaken v (said at) v.groups own)) (c.in-Is-Is.is ∙ ap locked.Is c.in-Is-Is.field-0-is) (c.in_ok-room.ensures.found at own shown is)) c.in-NeedBlock-2.missing (needed_at _ _ _ c.in-NeedBlock-2.is c.in_ok-change.ensures.needed)
 
-pub returns-in-NeedLock-clause-way : goal.returns-in-NeedLock-clause-way
-returns-in-NeedLock-clause-way g c =
+pub returns-in-NeedLock-clause-told : goal.returns-in-NeedLock-clause-told
+returns-in-NeedLock-clause-told g c =
     let v = g.V.View.seen c.args.view.now in
     lock_way v c.args.stamp.now.node c.is_a_view.ensures c.requires.groups c.requires.node c.in-NeedLock.lock c.in-NeedLock.state (λ at own shown is. subst (IsUnder v (block_holds (said at) v.groups own) (IsTaken v (said at) v.groups own)) (c.in-NeedLock.is) (c.in_ok-room.ensures.found at own shown is))
 
-pub returns-in-NeedBlock-clause-way : goal.returns-in-NeedBlock-clause-way
-returns-in-NeedBlock-clause-way g c =
+pub returns-in-NeedBlock-clause-told : goal.returns-in-NeedBlock-clause-told
+returns-in-NeedBlock-clause-told g c =
     let v = g.V.View.seen c.args.view.now in
-    block_way v c.args.stamp.now.node c.is_a_view.ensures c.requires.groups c.requires.node c.in-NeedBlock.missing (λ at own shown is. subst (IsUnder v (block_holds (said at) v.groups own) (IsTaken v (said at) v.groups own)) (c.in-NeedBlock.is) (c.in_ok-room.ensures.found at own shown is))
+    IsNeededFor.of_group (to_get v c.args.call.now c.requires.making c.args.place.now c.args.name.now c.requires.last c.requires.named c.requires.lacks true c.requires.seen.leads c.requires.seen.there (λ h shown. sym (c.in_ok-fits.ensures.room h shown) ∙ c.if-not-fits.false))
+    (block_way v c.args.stamp.now.node c.is_a_view.ensures c.requires.groups c.requires.node c.in-NeedBlock.missing (λ at own shown is. subst (IsUnder v (block_holds (said at) v.groups own) (IsTaken v (said at) v.groups own)) (c.in-NeedBlock.is) (c.in_ok-room.ensures.found at own shown is)))
 
-pub returns-in-NeedBlock-2-clause-way : goal.returns-in-NeedBlock-2-clause-way
-returns-in-NeedBlock-2-clause-way g c = (needed_at _ _ _ c.in-NeedBlock-2.is c.in_ok-change.ensures.needed).absent
+pub returns-in-NeedBlock-2-clause-told : goal.returns-in-NeedBlock-2-clause-told
+returns-in-NeedBlock-2-clause-told g c =
+    let v = g.V.View.seen c.args.view.now in
+    let room = room_held v c.args.stamp.now.node c.in-Is-Is.room c.is_a_view.ensures c.requires.groups c.requires.node (λ at own shown is. subst (IsUnder v (block_holds (said at) v.groups own) (IsTaken v (said at) v.groups own)) (c.in-Is-Is.is ∙ ap locked.Is c.in-Is-Is.field-0-is) (c.in_ok-room.ensures.found at own shown is)) in
+    IsNeededFor.of_group (to_get v c.args.call.now c.requires.making c.args.place.now c.args.name.now c.requires.last c.requires.named c.requires.lacks true c.requires.seen.leads c.requires.seen.there (λ h shown. sym (c.in_ok-fits.ensures.room h shown) ∙ c.if-not-fits.false))
+    (record { group = c.in-Is-Is.room.group; has = room.has; held = room.group_held; missing = needed_at _ _ _ c.in-NeedBlock-2.is c.in_ok-change.ensures.needed })
+
+pub returns-in-Is-TooFew-clause-told : goal.returns-in-Is-TooFew-clause-told
+returns-in-Is-TooFew-clause-told g c =
+    let v = g.V.View.seen c.args.view.now in
+    few_way v c.args.stamp.now.node c.is_a_view.ensures c.requires.groups c.requires.node c.in-Is-TooFew.free (λ at own shown is. subst (IsUnder v (block_holds (said at) v.groups own) (IsTaken v (said at) v.groups own)) (c.in-Is-TooFew.is ∙ ap locked.Is c.in-Is-TooFew.field-0-is) (c.in_ok-room.ensures.found at own shown is))

@@ -1,8 +1,8 @@
 use Rattle.std.proofs.Common.{Ok, sym, subst}
 use Rattle.image_changes.specs.Does.{Does}
 use Rattle.image_changes.proofs.Doing.{nothing_does}
-use Rattle.path_walks.specs.Answers.{IfDone}
-use Rattle.read_calls.specs.Reading.{IsFound}
+use Rattle.path_walks.specs.Answers.{IfDone, HasSpace}
+use Rattle.read_calls.specs.Reading.{IsFound, IsSpaceless}
 use Rattle.read_calls.proofs.Lists.{no_change}
 use Rattle.read_calls.proofs.tries.attempt.Goals.{in-Reply, in-NeedBlock, in-Hashed, in-NeedLock}
 use Rattle.read_calls.proofs.tries.attempt.Goals as goal
@@ -18,4 +18,13 @@ returns-clause-done g c =
       | in-NeedBlock w ↦ subst (λ a. IfDone (Ok a) (Does v c.args.call.now)) (sym w.result-is) tt
       | in-Hashed w ↦ subst (λ a. IfDone (Ok a) (Does v c.args.call.now)) (sym w.result-is) tt
       | in-NeedLock w ↦ subst (λ a. IfDone (Ok a) (Does v c.args.call.now)) (sym w.result-is) tt
+    ]
+
+pub returns-clause-spaceless : goal.returns-clause-spaceless
+returns-clause-spaceless g c =
+    elim c.match-branch-2.branch [
+      | in-Reply w ↦ subst (λ a. IfDone (Ok a) (λ reply change. HasSpace reply)) (sym w.result-is) (subst IsSpaceless w.in-Reply.is c.in_ok-reply.ensures.spaceless)
+      | in-NeedBlock w ↦ subst (λ a. IfDone (Ok a) (λ reply change. HasSpace reply)) (sym w.result-is) tt
+      | in-Hashed w ↦ subst (λ a. IfDone (Ok a) (λ reply change. HasSpace reply)) (sym w.result-is) tt
+      | in-NeedLock w ↦ subst (λ a. IfDone (Ok a) (λ reply change. HasSpace reply)) (sym w.result-is) tt
     ]

@@ -99,3 +99,6 @@ returns-clause-told g c =
 
 pub returns-in_default-clause-told : goal.returns-in_default-clause-told
 returns-in_default-clause-told g c = of_root c.refusal_of_root.result (is_root c.names-names.result.now (path_of c.args.call.now false) (c.names-names.ensures.names ∙ c.path_of_removing.ensures) c.in_default.ensures.value) c.refusal_of_root.ensures.reply
+
+pub returns-in_default-clause-refusal : goal.returns-in_default-clause-refusal
+returns-in_default-clause-refusal g c = (c.refusal_of_root.ensures.refusal, c.refusal_of_root.ensures.spaceless)

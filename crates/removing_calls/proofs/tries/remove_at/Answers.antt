@@ -7,7 +7,7 @@ use Rattle.removing_calls.specs.Drafting.{IsWrongIn, IsRemoval}
 use Rattle.removing_calls.specs.Groups.{GroupsAreHeld, IsFirstGroupLack}
 use Rattle.removing_calls.specs.Removing.{IsDamage, IsLackedFor, IsNeededFor, IsWrongBelow, above}
 use Rattle.removing_calls.proofs.Faults.{told_on, tells_so}
-use Rattle.removing_calls.proofs.Placed.{above_there, above_linear, above_named, above_inside, below_damage, nothing_below, inode_needed, own_among, removal_damage, taken_ok, list_held, group_lacks, group_needed, nothing_wrong}
+use Rattle.removing_calls.proofs.Placed.{above_there, above_linear, above_named, above_inside, below_damage, below_root, nothing_below, inode_needed, own_among, removal_damage, taken_ok, list_held, group_lacks, group_needed, nothing_wrong}
 use Rattle.removing_calls.proofs.Under.{writes_inside}
 use Rattle.removing_calls.proofs.Taking.{does, stamped, under}
 use Rattle.removing_calls.proofs.tries.remove_at.Goals as goal
@@ -104,13 +104,13 @@ returns-clause-found g c im o l t of reached =
 
 pub returns-in-NeedBlock-clause-told : goal.returns-in-NeedBlock-clause-told
 returns-in-NeedBlock-clause-told g c =
-    IsNeededFor.of_inode c.args.place.now.inode (record { leads = c.requires.seen.leads; there = c.requires.seen.there; aim = c.requires.aim })
+    IsNeededFor.of_inode c.args.place.now.inode (record { below = below_root (g.V.View.seen c.args.view.now) c.args.call.now c.args.place.now c.args.name.now c.requires.last c.requires.seen; leads = c.requires.seen.leads; there = c.requires.seen.there; aim = c.requires.aim })
     (λ h shown. needed_at _ _ _ c.in-NeedBlock.is (c.in_ok-blocks.ensures.needed h shown))
 
 pub returns-in-Some-clause-told : goal.returns-in-Some-clause-told
 returns-in-Some-clause-told g c =
     let v = g.V.View.seen c.args.view.now in
-    IsLackedFor.of_group c.args.place.now.inode c.in-Is.blocks.items (record { leads = c.requires.seen.leads; there = c.requires.seen.there; aim = c.requires.aim })
+    IsLackedFor.of_group c.args.place.now.inode c.in-Is.blocks.items (record { below = below_root (g.V.View.seen c.args.view.now) c.args.call.now c.args.place.now c.args.name.now c.requires.last c.requires.seen; leads = c.requires.seen.leads; there = c.requires.seen.there; aim = c.requires.aim })
     (λ h shown. answer_at _ _ _ c.in-Is.is (c.in_ok-blocks.ensures.all h shown)) (subst (λ (xs : List ℕ). IsFirstGroupLack v xs c.in-Some.lock) c.deref.ensures.value c.in-Some.ensures.some)
 
 pub returns-in-Is-2-clause-told : goal.returns-in-Is-2-clause-told
@@ -123,7 +123,7 @@ returns-in-Is-2-clause-told g c =
       directory = c.args.place.now.above;
       name = c.args.name.now;
       blocks = c.in-Is.blocks.items;
-      taken = record { leads = c.requires.seen.leads; there = c.requires.seen.there; aim = c.requires.aim };
+      taken = record { below = below_root (g.V.View.seen c.args.view.now) c.args.call.now c.args.place.now c.args.name.now c.requires.last c.requires.seen; leads = c.requires.seen.leads; there = c.requires.seen.there; aim = c.requires.aim };
       above = c.requires.seen.above;
       inside = inside_so v c.args.place.now.above c.group_of.result (c.is_none.ensures ∙ ap not c.if-is_none.false) c.group_of.ensures.group c.group_of.ensures.own;
       last = c.requires.last;
@@ -138,7 +138,7 @@ returns-clause-told g c =
     let groups = subst (λ (xs : List ℕ). GroupsAreHeld v xs) c.deref.ensures.value c.in_default.ensures.none in
     let needed = subst (λ (xs : List ℕ). freeing.IsNeededFor v xs c.in-NeedBlock-2.missing) c.deref-2.ensures.value
     (needed_at _ _ (freeing.IsNeededFor v c.deref-2.result.now) c.in-NeedBlock-2.is c.in_ok-change.ensures.needed) in
-    IsNeededFor.of_group c.args.place.now.inode c.in-Is.blocks.items (record { leads = c.requires.seen.leads; there = c.requires.seen.there; aim = c.requires.aim })
+    IsNeededFor.of_group c.args.place.now.inode c.in-Is.blocks.items (record { below = below_root (g.V.View.seen c.args.view.now) c.args.call.now c.args.place.now c.args.name.now c.requires.last c.requires.seen; leads = c.requires.seen.leads; there = c.requires.seen.there; aim = c.requires.aim })
     (λ h shown. answer_at _ _ _ c.in-Is.is (c.in_ok-blocks.ensures.all h shown)) groups needed
 
 pub returns-in-Is-2-clause-stamped : goal.returns-in-Is-2-clause-stamped

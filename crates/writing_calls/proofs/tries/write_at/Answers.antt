@@ -1,10 +1,10 @@
-use Rattle.std.proofs.Common.{◌+◌, ap, false, inr, length, not, subst₂, ◌∙◌}
+use Rattle.std.proofs.Common.{◌+◌, ap, false, length, not, subst₂, ◌∙◌}
 use Rattle.writing_calls.specs.Contents.{IsAimOf}
 use Rattle.call_locks.specs.WantLaws.{path_of}
 use Rattle.path_walks.proofs.Steps.{inside_so, none_so}
 use Rattle.writing_calls.specs.Writing.{call_holds, no_data_block}
 use Rattle.writing_calls.proofs.Alone.{are_inside, are_under, dinode_inside, file_listed}
-use Rattle.writing_calls.proofs.Finding.{broken_nowhere, broken_told, refused_found, refused_told, stuffed_does, taken_found}
+use Rattle.writing_calls.proofs.Finding.{aim_refusal, broken_nowhere, broken_told, refused_found, refused_told, stuffed_does, stuffed_exact, taken_found, unbuilt_told}
 use Rattle.writing_calls.proofs.tries.write_at.Goals as goal
 
 pub returns-in-Refused-clause-found : goal.returns-in-Refused-clause-found
@@ -18,11 +18,21 @@ returns-in-Refused-clause-told g c =
     let is = subst₂ (λ size a. IsAimOf size c.args.place.now.dinode (c.args.at + length c.args.new.now) a) c.block_size.ensures.value c.in-Refused.is c.aim_of.ensures in
     refused_told (g.V.View.seen c.args.view.now) c.args.call.now c.args.at c.args.new.now c.args.place.now c.requires.writes c.requires.seen c.in-Refused.reply is
 
+pub returns-in-Refused-clause-refusal : goal.returns-in-Refused-clause-refusal
+returns-in-Refused-clause-refusal g c =
+    let is = subst₂ (λ size a. IsAimOf size c.args.place.now.dinode (c.args.at + length c.args.new.now) a) c.block_size.ensures.value c.in-Refused.is c.aim_of.ensures in
+    aim_refusal (g.V.View.seen c.args.view.now).size c.args.place.now.dinode (c.args.at + length c.args.new.now) c.in-Refused.reply is
+
 pub returns-in-NotBuilt-clause-found : goal.returns-in-NotBuilt-clause-found
 returns-in-NotBuilt-clause-found g c im o l t of =
     let walked = c.requires.walked im o l t of in
     let is = subst₂ (λ size a. IsAimOf size c.args.place.now.dinode (c.args.at + length c.args.new.now) a) c.block_size.ensures.value c.in-NotBuilt.is c.aim_of.ensures in
-    inr (taken_found (g.V.View.seen c.args.view.now) c.args.call.now c.args.at c.args.new.now c.args.place.now c.requires.writes c.requires.seen im o l t of walked is.0 is.1, walked.2)
+    (taken_found (g.V.View.seen c.args.view.now) c.args.call.now c.args.at c.args.new.now c.args.place.now c.requires.writes c.requires.seen im o l t of walked is.0 is.1, walked.2)
+
+pub returns-in-NotBuilt-clause-told : goal.returns-in-NotBuilt-clause-told
+returns-in-NotBuilt-clause-told g c =
+    let is = subst₂ (λ size a. IsAimOf size c.args.place.now.dinode (c.args.at + length c.args.new.now) a) c.block_size.ensures.value c.in-NotBuilt.is c.aim_of.ensures in
+    unbuilt_told (g.V.View.seen c.args.view.now) c.args.call.now c.args.at c.args.new.now c.args.place.now c.requires.writes c.requires.seen is
 
 pub returns-in-Broken-clause-sound : goal.returns-in-Broken-clause-sound
 returns-in-Broken-clause-sound g c im o l t of =
@@ -49,6 +59,11 @@ returns-in_ok-change-in-Stuffed-clause-done g c =
     let is = subst₂ (λ size a. IsAimOf size c.args.place.now.dinode (c.args.at + length c.args.new.now) a) c.block_size.ensures.value c.in-Stuffed.is c.aim_of.ensures in
     stuffed_does (g.V.View.seen c.args.view.now) c.args.call.now c.args.at c.args.new.now c.args.place.now c.requires.writes c.requires.seen c.args.time c.in_ok-change-in-Stuffed.change is
     c.in_ok-change-in-Stuffed.ensures c.requires.walked
+
+pub returns-in_ok-change-in-Stuffed-clause-exact : goal.returns-in_ok-change-in-Stuffed-clause-exact
+returns-in_ok-change-in-Stuffed-clause-exact g c =
+    let is = subst₂ (λ size a. IsAimOf size c.args.place.now.dinode (c.args.at + length c.args.new.now) a) c.block_size.ensures.value c.in-Stuffed.is c.aim_of.ensures in
+    stuffed_exact (g.V.View.seen c.args.view.now) c.args.call.now c.args.at c.args.new.now c.args.place.now c.requires.writes c.requires.seen is
 
 pub returns-in_ok-change-in-Stuffed-clause-inside : goal.returns-in_ok-change-in-Stuffed-clause-inside
 returns-in_ok-change-in-Stuffed-clause-inside g c =

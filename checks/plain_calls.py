@@ -1,0 +1,369 @@
+"""Takes the calls of scripts on an image, plainly and slowly: a model of its own of what one node alone answers and leaves.
+
+It is written from docs/CALLS.md and docs/FORMAT.md, without any of the project's code, and serves checks/fsck.py, which compares
+the program with it, and whoever works out what a row is to want: `plain_calls.py IMAGE [TIME] <SCRIPT` carries a script out
+on a file and prints the trace, the output and the image's CRC-32.
+"""
+import re
+import sys
+from struct import pack, unpack_from
+from zlib import crc32
+
+MAGIC = 0x01161970
+LARGEST = 67108864
+
+
+class NotBuilt(Exception):
+    """The call is one of those that aren't built yet: its word is `line`, or the number of a block."""
+
+
+class Refused(Exception):
+    """The answer of a call that is refused."""
+
+
+def spelled(name):
+    return "".join(chr(it) if 0x21 <= it <= 0x7e and it != 0x25 else "%%%02x" % it for it in name)
+
+
+def names_of(path):
+    return [re.sub(rb"%(..)", lambda it: bytes([int(it[1], 16)]), it.encode()) for it in path.split("/") if it]
+
+
+def content_of(word):
+    fill = re.fullmatch("fill:(..):([0-9]+)", word)
+    return bytes([int(fill[1], 16)]) * int(fill[2]) if fill else bytes.fromhex(word)
+
+
+def least_length(name_length):
+    return (name_length + 47) // 8 * 8
+
+
+class Disk:
+    """An image's blocks, and its groups as `rindex` has them."""
+
+    def __init__(self, data, time=0):
+        self.data, self.time = bytearray(data), time
+        self.size = self.word(65536 + 36, 4)
+        self.root = self.word(65536 + 88, 8)
+        master = self.word(65536 + 56, 8)
+        rindex = next(it for it in self.records(master) if it[1] == b"rindex")[3]
+        text = self.content(rindex)
+        self.groups = [unpack_from(">QII", text, at)[:2] + unpack_from(">QI", text, at + 16) for at in range(0, len(text), 96)]
+
+    def word(self, at, width):
+        return int.from_bytes(self.data[at:at + width], "big")
+
+    def field(self, block, place, width):
+        return self.word(block * self.size + place, width)
+
+    def put(self, block, place, value, width=None):
+        data = value if width is None else value.to_bytes(width, "big")
+        at = block * self.size + place
+        self.data[at:at + len(data)] = data
+
+    # ---- content
+
+    def blocks_under(self, block, place, height):
+        """(block, whether it is content) of all that hangs below this block."""
+        for at in range(block * self.size + place, block * self.size + self.size - 7, 8):
+            pointer = self.word(at, 8)
+            if pointer:
+                yield pointer, height == 1
+                if height > 1:
+                    yield from self.blocks_under(pointer, 24, height - 1)
+
+    def content(self, dinode):
+        size, height = self.field(dinode, 56, 8), self.field(dinode, 138, 2)
+        if height == 0:
+            at = dinode * self.size + 232
+            return bytes(self.data[at:at + size])
+        found = b""
+        for index in range((size + self.size - 1) // self.size):
+            block, place, step = dinode, 232, 1
+            room = (self.size - 24) // 8
+            for level in range(height - 1, -1, -1):
+                step = room ** level
+                block = self.field(block, place + index // step * 8, 8) if block else 0
+                index, place = index % step, 24
+            found += bytes(self.data[block * self.size:(block + 1) * self.size]) if block else bytes(self.size)
+        return found[:size]
+
+    # ---- groups
+
+    def bits(self, block):
+        """The group of a block, and where its bits stand: a byte of the image and a shift."""
+        for address, length, first, count in self.groups:
+            if first <= block < first + count:
+                index, at, room = block - first, address * self.size + 128, (self.size - 128) * 4
+                while index >= room:
+                    index -= room
+                    address += 1
+                    at, room = address * self.size + 24, (self.size - 24) * 4
+                return at + index // 4, 2 * (index % 4)
+        raise ValueError("block %d is in no group" % block)
+
+    def group_of(self, block):
+        return next(it[0] for it in self.groups if it[2] <= block < it[2] + it[3])
+
+    def count(self, block, free, dinodes, made=0):
+        group = self.group_of(block)
+        self.put(group, 28, self.field(group, 28, 4) + free, 4)
+        self.put(group, 32, self.field(group, 32, 4) + dinodes, 4)
+        self.put(group, 40, self.field(group, 40, 8) + made, 8)
+        self.put(group, 20, 0, 4)
+        self.put(group, 64, 0, 4)
+        at = group * self.size
+        self.put(group, 64, crc32(self.data[at:at + 128]), 4)
+        return self.field(group, 40, 8)
+
+    def set_state(self, block, state):
+        at, shift = self.bits(block)
+        self.data[at] = self.data[at] & ~(3 << shift) | state << shift
+
+    def free_count(self):
+        return sum(self.field(it[0], 28, 4) for it in self.groups)
+
+    def least_free(self):
+        for _, _, first, count in self.groups:
+            for block in range(first, first + count):
+                at, shift = self.bits(block)
+                if not self.data[at] >> shift & 3:
+                    return block
+        return None
+
+    # ---- directories
+
+    def records(self, directory):
+        """(place in the block, name, formal number, address, kind, length) of each record that is in use."""
+        for place, used, length in self.slots(directory):
+            if used:
+                number, address, _, _, count, kind = unpack_from(">QQIHHH", self.data, directory * self.size + place)
+                name = directory * self.size + place + 40
+                yield place, bytes(self.data[name:name + count]), number, address, kind, length
+
+    def slots(self, directory):
+        if self.field(directory, 128, 4) & 2:
+            raise NotBuilt(directory)
+        place = 232
+        while place < self.size:
+            at = directory * self.size + place
+            length = self.word(at + 20, 2)
+            if length < 40:
+                raise ValueError("a record of %d bytes" % length)
+            yield place, self.word(at, 8) != 0 and self.word(at + 8, 8) != 0, length
+            place += length
+
+    def look(self, directory, name):
+        for record in self.records(directory):
+            if record[1] == name:
+                return record
+        return None
+
+    def insert(self, directory, name, number, address, kind):
+        wanted = least_length(len(name))
+        for place, used, length in self.slots(directory):
+            own = least_length(self.field(directory, place + 22, 2)) if used else 0
+            if length - own >= wanted:
+                if used:
+                    self.put(directory, place + 20, own, 2)
+                head = pack(">QQIHHHH", number, address, crc32(name), length - own, len(name), kind, 0) + bytes(12)
+                self.put(directory, place + own, head + name)
+                return True
+        return False
+
+    def remove(self, directory, name):
+        before = None
+        for place, used, length in self.slots(directory):
+            at = directory * self.size + place + 40
+            if used and bytes(self.data[at:at + self.field(directory, place + 22, 2)]) == name:
+                if before is None:
+                    self.put(directory, place, bytes(16))
+                else:
+                    self.put(directory, before + 20, self.field(directory, before + 20, 2) + length, 2)
+                return
+            before = place
+
+    def names(self, directory):
+        return sorted(it[1] for it in self.records(directory) if it[1] not in (b".", b".."))
+
+    def is_directory(self, inode):
+        return self.field(inode, 40, 4) >> 12 & 15 == 4
+
+    def stamp(self, inode):
+        self.put(inode, 20, 0, 4)
+        self.put(inode, 80, self.time, 8)
+        self.put(inode, 88, self.time, 8)
+
+    # ---- calls
+
+    def walk(self, names):
+        """The inodes on the way, the root first."""
+        way = [self.root]
+        for name in names:
+            if not self.is_directory(way[-1]):
+                raise Refused("notdir")
+            record = self.look(way[-1], name)
+            if record is None:
+                raise Refused("notfound")
+            way.append(record[3])
+        return way
+
+    def make(self, names, is_directory):
+        if not names:
+            raise Refused("exists")
+        parent = self.walk(names[:-1])[-1]
+        if not self.is_directory(parent):
+            raise Refused("notdir")
+        if self.look(parent, names[-1]):
+            raise Refused("exists")
+        if not any(length - (least_length(self.field(parent, place + 22, 2)) if used else 0) >= least_length(len(names[-1]))
+                   for place, used, length in self.slots(parent)):
+            raise NotBuilt("line")
+        block = self.least_free()
+        if block is None:
+            raise Refused("nospace")
+        self.set_state(block, 3)
+        number = self.count(block, -1, 1, 1)
+        self.put(block, 0, self.dinode(block, number, is_directory).ljust(self.size, b"\0"))
+        if is_directory:
+            first = pack(">QQIHHH", number, block, crc32(b"."), 48, 1, 4)
+            second = pack(">QQIHHH", self.field(parent, 24, 8), parent, crc32(b".."), self.size - 280, 2, 4)
+            self.put(block, 232, first + bytes(14) + b".")
+            self.put(block, 280, second + bytes(14) + b"..")
+        self.insert(parent, names[-1], number, block, 4 if is_directory else 8)
+        self.put(parent, 148, self.field(parent, 148, 4) + 1, 4)
+        if is_directory:
+            self.put(parent, 52, self.field(parent, 52, 4) + 1, 4)
+        self.stamp(parent)
+        return "ok"
+
+    def dinode(self, block, number, is_directory):
+        head = pack(">IIQIIQQ", MAGIC, 4, 0, 400, 0, number, block)
+        head += pack(">IIIIQQ", 0o40755 if is_directory else 0o100644, 0, 0, 2 if is_directory else 1,
+                     self.size - 232 if is_directory else 0, 1)
+        head += pack(">QQQIIQQQII", self.time, self.time, self.time, 0, 0, block, block, number, 1, 1200 if is_directory else 0)
+        return head + pack(">HHIHHI", 0, 0, 0, 0, 0, 2 if is_directory else 0)
+
+    def drop(self, names, is_directory):
+        if not names:
+            raise Refused("inside" if is_directory else "isdir")
+        way = self.walk(names)
+        parent, inode = way[-2], way[-1]
+        if self.is_directory(inode) != is_directory:
+            raise Refused("notdir" if is_directory else "isdir")
+        if is_directory and self.names(inode):
+            raise Refused("notempty")
+        for block, _ in list(self.blocks_under(inode, 232, self.field(inode, 138, 2))) if self.field(inode, 138, 2) else []:
+            self.set_state(block, 0)
+            self.count(block, 1, 0)
+        self.set_state(inode, 0)
+        self.count(inode, 1, -1)
+        self.remove(parent, names[-1])
+        self.put(parent, 148, self.field(parent, 148, 4) - 1, 4)
+        if is_directory:
+            self.put(parent, 52, self.field(parent, 52, 4) - 1, 4)
+        self.stamp(parent)
+        return "ok"
+
+    def write(self, names, at, content):
+        inode = self.walk(names)[-1]
+        if self.is_directory(inode):
+            raise Refused("isdir")
+        if at + len(content) > LARGEST:
+            raise Refused("toobig")
+        if at + len(content) > self.size - 232 or self.field(inode, 138, 2):
+            raise NotBuilt("line")
+        size = self.field(inode, 56, 8)
+        if at > size:
+            self.put(inode, 232 + size, bytes(at - size))
+        self.put(inode, 232 + at, content)
+        self.put(inode, 56, max(size, at + len(content)), 8)
+        self.stamp(inode)
+        return "ok"
+
+    def read(self, names, at, count):
+        inode = self.walk(names)[-1]
+        if self.is_directory(inode):
+            raise Refused("isdir")
+        return "data " + (self.content(inode)[at:at + count].hex() or "-")
+
+    def stat(self, names):
+        inode = self.walk(names)[-1]
+        if self.is_directory(inode):
+            return "stat dir %d" % len(self.names(inode))
+        return "stat file %d" % self.field(inode, 56, 8)
+
+    def list(self, names):
+        inode = self.walk(names)[-1]
+        if not self.is_directory(inode):
+            raise Refused("notdir")
+        found = self.names(inode)
+        return " ".join(["names %d" % len(found)] + [spelled(it) for it in found])
+
+    def answer(self, call):
+        """The reply to a call, and how many blocks were free where they were too few."""
+        word, *others = call.split(" ")
+        names = names_of(others[0]) if others else []
+        try:
+            if word in ("create", "mkdir"):
+                return self.make(names, word == "mkdir"), None
+            if word in ("unlink", "rmdir"):
+                return self.drop(names, word == "rmdir"), None
+            if word == "write":
+                return self.write(names, int(others[1]), content_of(others[2])), None
+            if word == "read":
+                return self.read(names, int(others[1]), int(others[2])), None
+            if word in ("stat", "list"):
+                return getattr(self, word)(names), None
+            if word == "sync":
+                return "ok", None
+        except Refused as refused:
+            return str(refused), self.free_count() if str(refused) == "nospace" else None
+        raise NotBuilt("line")
+
+
+def written(call):
+    """A call as traces and outputs have it: contents as digits."""
+    word, *others = call.split(" ")
+    if word == "write":
+        others[2] = content_of(others[2]).hex()
+    return " ".join([word, *others])
+
+
+def carried_out(disk, script):
+    """The status, the output and the trace of a script of one node."""
+    lines = script.splitlines()
+    clients = [it.split(" ")[1] for it in lines if it.startswith("client ")]
+    items, replies, end = ["join 1"], [], "done"
+    for number, line in enumerate(lines, 1):
+        client, _, call = line.partition(": ")
+        if not call:
+            continue
+        try:
+            reply, free = disk.answer(call)
+        except NotBuilt as fault:
+            end = "not built: " + ("line %d" % number if fault.args[0] == "line" else "block %d" % fault.args[0])
+            break
+        if free is not None:
+            items.append("full 1 1 %d" % free)
+        replies.append((client, "%s: %s = %s" % (client, written(call), reply)))
+        items.append("call 1 %s %d %s = %s" % (client, len(replies), written(call), reply))
+    else:
+        items.append("unmount 1")
+    out = [line for name in clients for client, line in replies if client == name]
+    out += ["calls %d lost 0 commits 0 crashes 0 dirty 0" % len(replies), end]
+    return 0 if end == "done" else 20, "".join(it + "\n" for it in out), "".join(it + "\n" for it in items)
+
+
+def main(name, time="0"):
+    with open(name, "r+b") as file:
+        disk = Disk(file.read(), int(time))
+        status, out, trace = carried_out(disk, sys.stdin.read())
+        file.seek(0)
+        file.write(disk.data)
+    print(trace, out, "crc %08x" % crc32(disk.data), sep="--\n")
+    return status
+
+
+if __name__ == "__main__":
+    sys.exit(main(*sys.argv[1:]))

@@ -1,0 +1,105 @@
+-- How a run of a script goes, and how it ends.
+use Rattle.std.specs.Prelude.{ℕ, ◌≡◌, ◌≢◌, ◌+◌, ◌<◌, ⊤, true, IfSome, List, [], length, slice_get, Option, Some}
+use Rattle.std.specs.FinMap.{empty}
+use Rattle.fault_counts.specs.Causes.{WentUp}
+use Rattle.file_tree.specs.Tree.{Tree}
+use Rattle.file_tree.specs.declared.call.Call.{Call}
+use Rattle.cluster_history.specs.History.{Legal, NoneLost, tree_of}
+use Rattle.dinode_tree.specs.Below.{IsBelow}
+use Rattle.image_model.specs.Claims.{every, HasInode}
+use Rattle.image_model.specs.Image.{Image, image_of}
+use Rattle.image_model.specs.Rules.{Breaks}
+use Rattle.image_mount.specs.Mounted.{Journal, MountedValue, IsMounted}
+use Rattle.trace_text.specs.declared.item.TraceItem.{TraceItem}
+use Rattle.script_lang.specs.Script.{ScriptValue}
+use Rattle.run_rules.specs.Follows.{history_of}
+use Rattle.run_rules.specs.History.{HoldsHistory, NoneStopped, AllAnswered}
+use Rattle.shared_disk.specs.Disk.{DiskState, IsIdle}
+use Rattle.lone_view.specs.Seeing.{Lone}
+use Rattle.lone_node.specs.Answering.{IsDamagedOn, IsHashedOn, IsSameDisk, IsUnbuiltOn}
+use Rattle.lone_node.specs.Run.{EndsAt, EndsAtCall, HasChangedNothing, IsFailedOn, IsRunOf, IsTakenBehind, IsWholeRun, TellFree}
+use Rattle.lone_node.specs.Standing.{StandsFor}
+use Rattle.cluster_program.specs.Mounting.{OfImage, IsImageOf, NeverStands, IsMountedClean, IsMountedFor, MountEnds, is_clean_in}
+use Rattle.cluster_program.specs.World.{Inputs, KeepsDisk}
+use Rattle.cluster_program.specs.declared.status.Status.{Status}
+use Rattle.cluster_program.specs.declared.status.Status.TheVariants as status
+use Rattle.cluster_program.specs.declared.status.Part.TheVariants as part
+
+-- what the node has as it begins: of no block yet, and what mounting told
+abbrev pub as_mounted : DiskState → MountedValue → Lone
+as_mounted disk m = record { blocks = empty; groups = m.groups; root = m.superblock.root.address; size = disk.size }
+
+-- the next line of the script is a call of which this holds, and those above it are answered as the image's tree answers them
+abbrev pub AtCall : Inputs → ScriptValue → List TraceItem → (Call → Type 0) → Type 0
+AtCall given s items P = EndsAtCall P s.clients s.lines items (IsImageOf given.disk)
+
+-- so of the line at this place
+abbrev pub AtPlace : Inputs → ScriptValue → List TraceItem → ℕ → (Call → Type 0) → Type 0
+AtPlace given s items place P = EndsAt place P s.clients s.lines items (IsImageOf given.disk)
+
+-- the number in the script's text of the first line that is run, behind those of the nodes, the clients and the crashes at writes
+abbrev pub first_line : ScriptValue → ℕ
+first_line s = 2 + length s.clients + length s.armed
+
+-- What is told of a block as damage: it breaks the rule; or (2) it is the dinode of an inode, and a block below that has the number of one
+-- that is in no group.
+pub data IsToldOf (im : Image) : ℕ → ℕ → Type 0 where
+  itself : (rule b : ℕ) → Breaks im rule b → IsToldOf im rule b
+  by_inode : (a b : ℕ) → HasInode im a → IsBelow (every im a) b → Breaks im 2 b → IsToldOf im 2 a
+
+-- How a run ends: each line is answered and the node has unmounted; the image was not mounted, before the first item; or, in a call
+-- behind the lines above it: the disk failed as its blocks were read or written; a directory is met that is a hashed one, which
+-- isn't read yet; the call would be taken, and isn't built; or a block is met that breaks a rule of the image as it then was, if that still has
+-- what was mounted of it; or there was no memory.
+pub data RunEnds (given left : Inputs) (s : ScriptValue) (items : List TraceItem) : Status → Type 0 where
+  IsDone : AllAnswered items s → IsWholeRun s.clients s.lines items (IsImageOf given.disk) → RunEnds given left s items status.Done
+  NotMounted : (own : Status) → items ≡ [] → KeepsDisk given left → MountEnds given.disk given.disk_faults left.disk_faults own → RunEnds given left s items own
+  CallFailed : (m : MountedValue) (block : Option ℕ) (x y : ℕ) → IsMountedFor given.disk m → WentUp (given.disk_faults 1) (left.disk_faults 1) x y → IfSome block (λ b. b < given.disk.count)
+      → AtCall given s items (λ call. IsFailedOn given.disk left.disk (as_mounted given.disk m) s.clients items call block) → RunEnds given left s items (status.DeviceFault 1 block x y)
+  CallHashed : (m : MountedValue) (block : ℕ) → IsMountedFor given.disk m → AtCall given s items (λ call. IsHashedOn left.disk (as_mounted given.disk m) call block)
+      → RunEnds given left s items (status.NotBuilt (part.Block block))
+  CallUnbuilt : (m : MountedValue) (place : ℕ) → IsMountedFor given.disk m → AtPlace given s items place (λ call. IsUnbuiltOn left.disk (as_mounted given.disk m) call)
+      → AtPlace given s items place (IsTakenBehind s.clients items (IsImageOf given.disk)) → RunEnds given left s items (status.NotBuilt (part.Script (first_line s + place)))
+  CallDamaged : (m : MountedValue) (block rule : ℕ) → IsMountedFor given.disk m → OfImage given.disk NeverStands → AtCall given s items (λ call. IsDamagedOn left.disk (as_mounted given.disk m) call block rule)
+      → OfImage left.disk (λ im. IsMounted im m → IsToldOf im rule block) → RunEnds given left s items (status.Damaged block rule)
+  NoRoom : RunEnds given left s items status.NoMemory
+
+-- item by item, the numbers of free blocks are those of the image as it then was
+pub record TellsFree (disk : DiskState) (items : List TraceItem) (tree : Tree) : Type 0 where
+  pub value : MountedValue
+  pub mounted : IsMounted (image_of disk) value
+  pub start : StandsFor disk (as_mounted disk value) tree
+  pub free : TellFree disk (as_mounted disk value) tree start items
+
+-- the journals that were mounted are clean in the image as it was left
+pub record AreCleanAtEnd (given left : DiskState) : Type 0 where
+  pub value : MountedValue
+  pub mounted : IsMounted (image_of given) value
+  pub clean : (j : ℕ) (journal : Journal) → slice_get value.journals j ≡ Some journal → is_clean_in (image_of left) journal ≡ true
+
+-- so unless the disk failed
+abbrev pub UnlessFault : Status → Type 0 → Type 0
+UnlessFault (status.DeviceFault node block x y) P = ⊤
+UnlessFault own P = P
+
+pub record Runs (given left : Inputs) (s : ScriptValue) (items : List TraceItem) (own : Status) : Type 0 where
+  -- on every disk, also one that tells nothing: node 1 joins, takes the lines one by one, and unmounts
+  pub run : IsRunOf s.clients s.lines items (IsImageOf given.disk)
+  -- so the items follow the script and hold one history, no node stops, and nothing is lost
+  pub history : HoldsHistory s items
+  pub members : NoneStopped items
+  pub none_lost : NoneLost (history_of s.clients items)
+  -- where the image stands for a tree: every reply is that of this tree, which takes the calls one by one, and the image stands for what they leave
+  pub legal : (tree : Tree) → IsImageOf given.disk tree → Legal (history_of s.clients items) tree
+  pub stands : UnlessFault own ((tree : Tree) → IsImageOf given.disk tree → IsImageOf left.disk (tree_of (history_of s.clients items) tree))
+  -- each item of free blocks tells how many the call takes, and how many are free in the image then
+  pub free : items ≢ [] → (tree : Tree) → IsImageOf given.disk tree → TellsFree given.disk items tree
+  -- where no answered call changes anything, nothing was written
+  pub untouched : UnlessFault own (HasChangedNothing s.clients items → KeepsDisk given left)
+  -- it is the same disk, with nothing in flight
+  pub same : UnlessFault own (IsSameDisk given.disk left.disk)
+  pub idle : UnlessFault own (IsIdle left.disk)
+  -- no item stands before the image was mounted and each of its journals was found clean; where it stands for a tree, they are clean yet
+  pub mounted : items ≢ [] → OfImage given.disk IsMountedClean
+  pub clean : UnlessFault own (items ≢ [] → (tree : Tree) → IsImageOf given.disk tree → AreCleanAtEnd given.disk left.disk)
+  pub ends : RunEnds given left s items own

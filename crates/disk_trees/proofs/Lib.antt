@@ -1,0 +1,3 @@
+pub mod FirstBlocks
+pub mod Behind
+pub mod Answered

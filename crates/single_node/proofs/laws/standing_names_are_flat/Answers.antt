@@ -1,5 +1,0 @@
-use Rattle.single_node.proofs.Standing.{names_are_flat}
-use Rattle.single_node.proofs.laws.standing_names_are_flat.Goals as goal
-
-pub returns : goal.returns
-returns c = names_are_flat c.holdings_are_owned.ensures c.directories_stay_well_formed.ensures
