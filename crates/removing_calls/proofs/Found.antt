@@ -129,8 +129,9 @@ module _ (v : Seen) (im : Image) (o : Owners) (l : Layout) (t : Tree) (of : IsOf
 
   pub none_wrong_below : (path : Path) (a : ℕ) → IsAt im o l path a → (rule b : ℕ) → IsWrongBelow v a rule b → ⊥
   none_wrong_below path a at rule b (in_inode r c broken) = unbroken v im o l t of path a r c at (broken (holding im o a) (is_shown v im o l t of path a at))
-  none_wrong_below path a at rule b (stray c goes outside) =
-      outside (its_inside a c (goes_its a c (is_inode v im o l t of path a at) (goes (holding im o a) (is_shown v im o l t of path a at))))
+  none_wrong_below path a at rule b (stray from c led outside) =
+      let way = led (holding im o a) (is_shown v im o l t of path a at) in
+      outside (its_inside a c (goes_its a c (is_inode v im o l t of path a at) (inr (from, way.0, way.1, way.2, way.3))))
 
 -- ---- the groups of the inode's blocks
 

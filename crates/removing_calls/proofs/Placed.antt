@@ -1,5 +1,5 @@
 -- A removal at the place to which the walk came: what is asked for, and what is damaged.
-use Rattle.std.proofs.Common.{◌≡◌, ◌≢◌, ◌↔◌, inl, ℕ, ◌+◌, true, false, List, [], ◌∷◌, ◌++◌, length, sym, ap, ◌∙◌, subst}
+use Rattle.std.proofs.Common.{◌≡◌, ◌≢◌, ◌↔◌, inl, ℕ, ◌+◌, true, false, List, [], ◌∷◌, ◌++◌, length, refl, sym, ap, ◌∙◌, subst}
 use Rattle.std.proofs.lemmas.List.{append_assoc, append-nil}
 use Rattle.std.specs.Prelude.{Contains}
 use Rattle.cluster_history.specs.Changes.{is_ok}
@@ -54,6 +54,10 @@ wrong_on_way v wants [] a (at_root held) whole back e rule b wrong = path.on_pat
 wrong_on_way v wants front a (by_name f dir a' n leads is_name named inside held) whole back e rule b wrong =
     path.on_path (length f + 1) a rule b (the_child f back dir a n (e ∙ append_assoc f (n ∷ []) back) leads is_name named inside) held wrong
 
+named_inside : (v : Seen) (wants : List Want) (whole : Path) (a : ℕ) → LeadsTo v wants whole a → whole ≢ [] → HasDataBlock v a
+named_inside v wants whole a (at_root held) named = absurd (named refl)
+named_inside v wants whole a (by_name front dir b name leads is names inside held) named = inside
+
 module _ (v : Seen) (c : Call) (p : Place) (name : List ℕ) (last : IsLastOf (path_of c false) name) (there : IsSeenAt v (wanted c) (path_of c false) p) where
   names : Names v p.above name p.inode
   names = above_names v (wanted c) (path_of c false) p name there last
@@ -71,10 +75,14 @@ module _ (v : Seen) (c : Call) (p : Place) (name : List ℕ) (last : IsLastOf (p
   pub below_root : path_of c false ≢ []
   below_root root = no_end last.0 name (sym root ∙ last.1)
 
+  -- the inode has a name, so it is looked at whether its block is in a group
+  pub inode_inside : HasDataBlock v p.inode
+  inode_inside = named_inside v (wanted c) (path_of c false) p.inode there.leads below_root
+
   pub below_damage : ((h : Holding) → IsShown v p.inode h → IsAimOf c h aim.Taken) → (rule b : ℕ) → IsWrongBelow v p.inode rule b → IsDamage v c rule b
   below_damage taken rule b (damage.in_inode r d broken) =
       damage.on_path r d (wrong_on_way v (wanted c) (path_of c false) p.inode there.leads (path_of c false) [] (sym (append-nil (path_of c false))) r d (λ h shown. path.in_inode r d (broken h shown)))
-  below_damage taken rule b (damage.stray d goes outside) = damage.stray p.inode d (record { below = below_root; leads = there.leads; there = there.there; aim = taken }) goes outside
+  below_damage taken rule b (damage.stray from d led outside) = damage.stray p.inode from d (record { below = below_root; leads = there.leads; there = there.there; aim = taken }) led outside
 
   module _ (im : Image) (o : Owners) (l : Layout) (t : Tree) (of : IsOf v im o l t) (reached : IsReachedIn v im o l c p) where
     pub above_inside : HasDataBlock v p.above

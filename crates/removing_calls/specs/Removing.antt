@@ -19,7 +19,7 @@ use Rattle.glock_names.specs.declared.steps.Missing.{Missing}
 use Rattle.glock_names.specs.declared.views.Group.{Group}
 use Rattle.call_locks.specs.Wants.{wanted}
 use Rattle.call_locks.specs.WantLaws.{path_of}
-use Rattle.dinode_tree.specs.Below.{AnyIndex, IsBelow}
+use Rattle.dinode_tree.specs.Below.{AnyIndex, IsBelow, IsLedFrom}
 use Rattle.dinode_tree.specs.Reading.{IsNeeded}
 use Rattle.dinode_tree.specs.Shown.{IsShown}
 use Rattle.dinode_tree.specs.Broken as inode
@@ -77,10 +77,11 @@ IsAimOf call h a = ⊥
 abbrev pub Goes : Holding → ℕ → Type 0
 Goes h b = (b ≡ h.own) ⊎ IsBelow h b
 
--- as the view shows the inode with its dinode in block a, it breaks a rule; or (2) a block of it is no data block of a group
+-- as the view shows the inode with its dinode in block a, it breaks a rule; or (2) a pointer of it, in this block, leads to one that is no
+-- data block of a group
 pub data IsWrongBelow (v : Seen) (a : ℕ) : ℕ → ℕ → Type 0 where
   in_inode : (rule b : ℕ) → ((h : Holding) → IsShown v a h → inode.IsBroken h rule b) → IsWrongBelow v a rule b
-  stray : (b : ℕ) → ((h : Holding) → IsShown v a h → Goes h b) → ¬ (HasDataBlock v b) → IsWrongBelow v a 2 a
+  stray : (from b : ℕ) → ((h : Holding) → IsShown v a h → IsLedFrom h from b) → ¬ (HasDataBlock v b) → IsWrongBelow v a 2 from
 
 -- ---- the locks of the call
 
@@ -160,11 +161,11 @@ IsToldOf seen view call time (found.NeedBlock m) = IsNeededFor (seen view) call 
 IsToldOf seen view call time (found.Hashed b) = IsHashedFor (seen view) call b
 IsToldOf seen view call time (found.NeedLock lock state) = IsLackedFor (seen view) call lock state
 
--- The block breaks this rule: on the path; or (2) a block of the inode that is to go, or the directory above it, is no data block of a group; or
--- in a group that has some of the inode's blocks, the locks of all such groups being held.
+-- The block breaks this rule: on the path; or (2) a pointer in it of the inode that is to go leads to a block that is no data block of a group,
+-- or it is the directory above, which is none; or in a group that has some of the inode's blocks, the locks of all such groups being held.
 pub data IsDamage (v : Seen) (call : Call) : ℕ → ℕ → Type 0 where
   on_path : (rule b : ℕ) → path.IsDamage v (wanted call) (path_of call false) rule b → IsDamage v call rule b
-  stray : (a b : ℕ) → IsTakenAt v call a → ((h : Holding) → IsShown v a h → Goes h b) → ¬ (HasDataBlock v b) → IsDamage v call 2 a
+  stray : (a from b : ℕ) → IsTakenAt v call a → ((h : Holding) → IsShown v a h → IsLedFrom h from b) → ¬ (HasDataBlock v b) → IsDamage v call 2 from
   above : (a : ℕ) → LeadsTo v (wanted call) (parent_of (path_of call false)) a → ¬ (HasDataBlock v a) → IsDamage v call 2 a
   in_group : (a rule b : ℕ) (blocks : List ℕ) → IsTakenAt v call a → AreAllOf v a blocks → GroupsAreHeld v blocks → freeing.BreaksSome v blocks rule b → IsDamage v call rule b
 
