@@ -38,12 +38,6 @@ use Rattle.making_calls.proofs.InImage.{holds_said, shown_listed}
 use Rattle.making_calls.proofs.Numbered.{bytes_shown}
 use Rattle.making_calls.proofs.Over.{block_in}
 
-pub exclusive : (s : State) → leq Ex s ≡ true → s ≡ Ex
-exclusive Ex e = refl
-exclusive Un e = absurd (true≢false (sym e))
-exclusive Sh e = absurd (true≢false (sym e))
-exclusive Df e = absurd (true≢false (sym e))
-
 -- ---- a view shows all of its groups, and a node has one of its own
 
 pub own_of : (v : Seen) (node : ℕ) → 1 ≤ length v.groups → 1 ≤ node → (own : Group) × (group_of_node v.groups node ≡ Some own) × HasGroup v own

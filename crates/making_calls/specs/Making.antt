@@ -170,15 +170,6 @@ IsToldOf v call found.NotBuilt = IsUnbuilt v call
 IsToldOf v call (found.NoSpace free) = free < blocks_needed
 IsToldOf v call f = ⊤
 
--- what the change writes lies in the view's groups
-abbrev pub AreInside : Seen → Change → Type 0
-AreInside v change = AllByRecursion (IsInside v) change.blocks.items
-
--- each lock with which the change writes a block, and that of the inode of each block that it frees, is of the list, exclusive
-pub record IsUnder (o : Owners) (list : List Hold) (change : Change) : Type 0 where
-  pub written : (lock : LockName) → Contains change.locks.items lock → Contains list (record { lock = lock; state = Ex })
-  pub freed : (b a : ℕ) → frees change b ≡ true → inode_of b (o b) ≡ Some a → Contains list (hold_of a Ex)
-
 -- where `..` of a directory below this one leads
 abbrev pub entry_in : Image → Owners → ℕ → Entry
 entry_in im o a = record { number = (dinode_at im o a).num.number; addr = a; kind = 4 }
@@ -214,7 +205,3 @@ IsRefusal f = ⊤
 abbrev pub IfMade : (Change → Type 0) → Found → Type 0
 IfMade P (found.Made change) = P change
 IfMade P f = ⊤
-
--- the path's last name
-abbrev pub IsLastOf : Path → List ℕ → Type 0
-IsLastOf path name = (front : Path) × (path ≡ front ++ name ∷ [])

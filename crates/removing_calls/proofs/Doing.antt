@@ -43,12 +43,7 @@ use Rattle.removing_calls.specs.Groups.{GroupsAreHeld, group_hold}
 use Rattle.removing_calls.specs.Removing.{Goes}
 use Rattle.removing_calls.proofs.Imaged.{removes}
 use Rattle.removing_calls.proofs.Lists.{put_at, put_apart}
-
-pub exclusive : (s : State) → leq Ex s ≡ true → s ≡ Ex
-exclusive Ex e = refl
-exclusive Un e = absurd (true≢false (sym e))
-exclusive Sh e = absurd (true≢false (sym e))
-exclusive Df e = absurd (true≢false (sym e))
+use Rattle.path_walks.proofs.Wants.{exclusive}
 
 in_header_or_not : (g : Group) (b : ℕ) → IsHeaderOf g b ⊎ ¬ (IsHeaderOf g b)
 in_header_or_not g b = elim (cases_lt b g.addr) [
