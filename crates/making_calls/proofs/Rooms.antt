@@ -27,8 +27,8 @@ use Rattle.image_changes.specs.Does.{IsOf}
 use Rattle.image_changes.proofs.Frame.{dinode_its}
 use Rattle.draft_changes.proofs.Rows.{its_used}
 use Rattle.draft_changes.proofs.Views.{groups_are_listed}
-use Rattle.path_walks.specs.Holds.{Hold, AreHeld, holds, hold_of, hold_for}
-use Rattle.making_calls.specs.Blocks.{blocks_needed, block_holds, group_holds, group_of_node, hold_of_group, holds_from, new_holds, states_by}
+use Rattle.path_walks.specs.Holds.{Hold, AreHeld, holds, hold_of, hold_for, hold_of_group}
+use Rattle.making_calls.specs.Blocks.{blocks_needed, block_holds, group_holds, group_of_node, holds_from, new_holds, states_by}
 use Rattle.making_calls.specs.Searches.{AreShown, IsGroupBlock, IsGroupBroken, IsGroupNeeded, IsTaken, IsUnder}
 use Rattle.making_calls.specs.declared.blocks.Locked.TheVariants as locked
 use Rattle.making_calls.specs.declared.blocks.Room.{Room}

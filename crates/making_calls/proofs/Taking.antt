@@ -41,7 +41,7 @@ use Rattle.image_changes.proofs.Finishing.{finish_makes}
 use Rattle.draft_changes.proofs.Added.{adding_makes}
 use Rattle.draft_changes.proofs.Views.{groups_are_listed}
 use Rattle.path_walks.specs.Holds as locks
-use Rattle.path_walks.specs.Holds.{Hold, AreHeld, IsAskedFor, IsFirstLack, hold_for, hold_of, holds}
+use Rattle.path_walks.specs.Holds.{Hold, AreHeld, IsAskedFor, IsFirstLack, hold_for, hold_of, holds, hold_of_group}
 use Rattle.path_walks.specs.Walks.{LeadsTo, IsSeenAt, IsLastOf}
 use Rattle.path_walks.specs.Walks as path
 use Rattle.path_walks.specs.declared.walk.Place.{Place}
@@ -49,7 +49,7 @@ use Rattle.path_walks.proofs.Images.{is_inode, is_shown, unbroken_directory}
 use Rattle.path_walks.proofs.Leads.{no_end}
 use Rattle.path_walks.proofs.Lists.{parent_of_next}
 use Rattle.file_tree.proofs.WalkLaws.{last_front}
-use Rattle.making_calls.specs.Blocks.{blocks_needed, block_holds, free_for, free_in, free_in_all, group_holds, group_of_node, hold_of_group, new_holds}
+use Rattle.making_calls.specs.Blocks.{blocks_needed, block_holds, free_for, free_in, free_in_all, group_holds, group_of_node, new_holds}
 use Rattle.making_calls.specs.Drafting.{GetsRecord, IsAddition, IsPutUnder, IsWrongIn, kind_for, of_directory, of_group, of_inode, new_tree}
 use Rattle.making_calls.specs.Drafting as drafting
 use Rattle.making_calls.specs.Making.{IsMaking, IsReachedIn, IsFound, IsFoundBy, IsNeededFor, IsToGetName, IsTooFew, IsDamage, LacksName, call_holds, directory_has_room, directory_path, has_room_for, makes_directory, name_in, path_holds, room_at}

@@ -33,12 +33,12 @@ use Rattle.image_model.specs.Stands.{Layout, flat_of}
 use Rattle.image_changes.specs.Changes.{inode_of}
 use Rattle.image_changes.specs.Does.{IsInside, frees, with_change}
 use Rattle.image_changes.specs.Instances.{IsAt, dinode_at}
-use Rattle.path_walks.specs.Answers.{HasSpace}
-use Rattle.path_walks.specs.Holds.{Hold, AreHeld, IsAskedFor, IsFirstLack, hold_of, holds, holds_in}
+use Rattle.path_walks.specs.Answers.{Refuses}
+use Rattle.path_walks.specs.Holds.{Hold, AreHeld, IsAskedFor, IsFirstLack, hold_of, holds, holds_in, hold_of_group}
 use Rattle.path_walks.specs.declared.walk.Place.{Place}
 use Rattle.path_walks.specs.Walks.{LeadsTo, IsLinearDirectory, IsOnTheWay, IsPlaceOf, IsUnread, IsWrong}
 use Rattle.path_walks.specs.Walks as path
-use Rattle.making_calls.specs.Blocks.{blocks_needed, states_by, free_for, free_in_all, group_of_node, hold_of_group, new_holds}
+use Rattle.making_calls.specs.Blocks.{blocks_needed, states_by, free_for, free_in_all, group_of_node, new_holds}
 use Rattle.making_calls.specs.Drafting.{CountsNumber, GetsRecord, HasTimes, IsNewInode, IsNextOf, kind_for}
 use Rattle.making_calls.specs.Searches.{IsGroupBroken, IsGroupNeeded}
 use Rattle.making_calls.specs.declared.finds.Found.{Found}
@@ -198,7 +198,7 @@ IsStamped im o l call time change = (a : ℕ) × IsAt im o l (directory_path cal
 
 -- what a refusal is not: `ok`, or that too few blocks are free
 abbrev pub IsRefusal : Found → Type 0
-IsRefusal (found.Refused r) = (is_ok r ≡ false) × HasSpace r
+IsRefusal (found.Refused r) = Refuses r
 IsRefusal f = ⊤
 
 -- P of the change that is made

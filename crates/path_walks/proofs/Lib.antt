@@ -7,3 +7,4 @@ pub mod Lying
 pub mod Faults
 pub mod Wants
 pub mod Refused
+pub mod Asked

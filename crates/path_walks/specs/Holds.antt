@@ -7,6 +7,8 @@ use Rattle.glock_names.specs.declared.LockName.{LockName}
 use Rattle.glock_names.specs.declared.State.{State}
 use Rattle.glock_names.specs.declared.State.TheVariants.{Ex}
 use Rattle.glock_names.specs.declared.steps.Missing.{Missing}
+use Rattle.glock_names.specs.declared.views.Group.{Group}
+use Rattle.resource_groups.specs.Shown.{group_lock}
 use Rattle.call_locks.specs.declared.want.Want.{Want}
 use Rattle.image_model.specs.Flat.{Path, Flat, follow}
 use Rattle.image_model.specs.Image.{Image}
@@ -24,6 +26,10 @@ pub record Hold : Type 0 where
 -- the lock of the inode in a block
 abbrev pub hold_of : ℕ → State → Hold
 hold_of a state = record { lock = record { kind = 2; number = a }; state = state }
+
+-- the lock of a group, exclusive
+abbrev pub hold_of_group : Group → Hold
+hold_of_group g = record { lock = group_lock g; state = Ex }
 
 -- the lock that a want means: none where no inode is there
 abbrev pub hold_for : Option ℕ → State → List Hold

@@ -43,9 +43,10 @@ use Rattle.removing_calls.specs.Removing.{IsRemoving, IsAimOf, IsReachedIn, IsDa
 use Rattle.removing_calls.specs.Removing as damage
 use Rattle.removing_calls.specs.declared.aims.Aim.TheVariants as aim
 use Rattle.removing_calls.proofs.Above.{above_names, linear_in, named_in}
-use Rattle.removing_calls.proofs.Found.{taken_list, asked, its_inside, none_broken, none_wrong_below, all_held, first_unheld, group_asked}
+use Rattle.removing_calls.proofs.Found.{taken_list, its_inside, none_broken, none_wrong_below, all_held, first_unheld, group_asked}
 use Rattle.removing_calls.proofs.Listed.{asked_before}
 use Rattle.removing_calls.proofs.Trees.{IsTakenBy, aim_takes}
+use Rattle.path_walks.proofs.Asked.{asked}
 
 -- what is wrong with an inode to which a front of the path leads is damage on the path
 wrong_on_way : (v : Seen) (wants : List Want) (front : Path) (a : ℕ) → LeadsTo v wants front a → (whole back : Path) → whole ≡ front ++ back → (rule b : ℕ)

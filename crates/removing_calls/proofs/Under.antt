@@ -11,7 +11,7 @@ use Rattle.drafts.specs.declared.change.Change.{Change}
 use Rattle.drafts.specs.declared.fate.Fate.TheVariants.{Put, Freed}
 use Rattle.gfs2_layout.specs.Inode.{is_hashed_in}
 use Rattle.gfs2_layout.specs.declared.rindex.Rindex.{Rindex}
-use Rattle.glock_names.specs.Views.{Seen, HasGroup, end_of}
+use Rattle.glock_names.specs.Views.{Seen, HasGroup, end_of, group_of_entry}
 use Rattle.glock_names.specs.declared.LockName.{LockName}
 use Rattle.glock_names.specs.declared.State.TheVariants.{Ex}
 use Rattle.glock_names.specs.declared.views.Group.{Group}
@@ -36,9 +36,9 @@ use Rattle.image_changes.proofs.Finishing.{finish_makes}
 use Rattle.image_changes.proofs.Inside.{stay_inside}
 use Rattle.image_changes.proofs.Nodes.{among_in, in_among}
 use Rattle.draft_changes.proofs.Views.{groups_are_listed}
-use Rattle.path_walks.specs.Holds.{Hold, hold_of, hold_for, holds_on, holds_in, IsUnder}
+use Rattle.path_walks.specs.Holds.{Hold, hold_of, hold_for, holds_on, holds_in, IsUnder, hold_of_group}
 use Rattle.removing_calls.specs.Drafting.{IsRemoval}
-use Rattle.removing_calls.specs.Groups.{has_some, hold_of_group, group_holds}
+use Rattle.removing_calls.specs.Groups.{has_some, group_holds}
 use Rattle.removing_calls.specs.Removing.{IsRemoving, Goes}
 use Rattle.removing_calls.proofs.Doing.{header_among, second_lock, second_place, second_stays}
 use Rattle.removing_calls.proofs.Found.{goes_its, has_so, so_has}
@@ -160,7 +160,7 @@ module _ {V : Type 0} (seen : V → Seen) (view : V) (im : Image) (o : Owners) (
       listed lock (inl e) = in_left (record { lock = lock; state = Ex }) list more (subst (λ k. IsIn (record { lock = k; state = Ex }) list) (sym e) dir)
       listed lock (inr g) =
           let place = placed_in (seen view) (holding im o a) blocks (has_so (seen view) im o l t of a so plain blocks goes) (so_has (seen view) im o l t of a so plain blocks goes) l.groups g.0 g.1 g.2 in
-          let x = hold_of_group g.0.address in
+          let x = hold_of_group (group_of_entry g.0) in
           let there : IsIn x more = subst (IsIn x) (sym place.split) (in_right x place.front (x ∷ place.back) (inl refl)) in
           subst (λ k. IsIn (record { lock = k; state = Ex }) (list ++ more)) (sym g.3) (in_right x list more there)
 

@@ -34,7 +34,7 @@ use Rattle.image_model.specs.Stands.{Layout, flat_of}
 use Rattle.image_changes.specs.Changes.{inode_of}
 use Rattle.image_changes.specs.Does.{frees, with_change}
 use Rattle.image_changes.specs.Instances.{IsAt}
-use Rattle.path_walks.specs.Answers.{HasSpace}
+use Rattle.path_walks.specs.Answers.{Refuses}
 use Rattle.path_walks.specs.Holds.{Hold, AreHeld, EndsWith, IsAskedFor, IsFirstLack, hold_of, holds_in}
 use Rattle.path_walks.specs.Walks.{LeadsTo, IsAbsent, IsLacked, IsLastOf, IsOnTheWay, IsPlaceOf, IsUnread}
 use Rattle.path_walks.specs.Walks as path
@@ -192,7 +192,7 @@ IsStamped im o l call time change = (a : ℕ) × IsAt im o l (parent_of (path_of
 
 -- what a refusal is not: `ok`, or that too few blocks are free
 abbrev pub IsRefusal : Found → Type 0
-IsRefusal (found.Refused r) = (is_ok r ≡ false) × HasSpace r
+IsRefusal (found.Refused r) = Refuses r
 IsRefusal f = ⊤
 
 -- P of the change of a removal
