@@ -7,7 +7,7 @@ use Rattle.std.proofs.lemmas.List.Elements.{All-contains, All-from_recursion}
 use Rattle.file_tree.specs.declared.call.Call.{Call}
 use Rattle.file_tree.specs.declared.call.Call.TheVariants as call
 use Rattle.gfs2_layout.specs.Holding.{Holding}
-use Rattle.glock_names.specs.Views.{Seen, HasGroup, end_of}
+use Rattle.glock_names.specs.Views.{Seen, IsView}
 use Rattle.glock_names.specs.declared.views.Group.{Group}
 use Rattle.glock_names.specs.declared.LockName.{LockName}
 use Rattle.glock_names.specs.declared.steps.Missing.{Missing}
@@ -16,12 +16,12 @@ use Rattle.image_model.specs.Image.{Image}
 use Rattle.image_model.specs.Owners.{Owners, Nobody}
 use Rattle.image_model.specs.Stands.{Layout, IsLaid}
 use Rattle.image_changes.specs.Changes.{cover}
-use Rattle.image_changes.specs.Does.{Does, IsFormed, IsInside, frees, is_empty, is_nothing}
+use Rattle.image_changes.specs.Does.{Does, IsFormed, IsInside, frees, is_empty, is_nothing, AreInside}
 use Rattle.drafts.specs.declared.change.Change.{Change}
 use Rattle.drafts.specs.declared.change.Written.{Written}
 use Rattle.glock_names.specs.declared.State.TheVariants.{Ex}
 use Rattle.writing_calls.specs.Writing as writing
-use Rattle.file_calls.specs.Calls.{AreInside, IsTooFew, call_holds}
+use Rattle.file_calls.specs.Calls.{IsTooFew, call_holds}
 use Rattle.read_calls.specs.Reading.{IsReading, IsNeededFor, on_path, at_end}
 use Rattle.call_locks.specs.WantLaws.{path_of}
 use Rattle.call_locks.specs.Wants.{wanted}
@@ -30,10 +30,11 @@ use Rattle.file_tree.specs.Tree.{Tree}
 use Rattle.file_tree.specs.declared.reply.Reply.{Reply}
 use Rattle.file_tree.specs.declared.reply.Reply.TheVariants as reply
 use Rattle.making_calls.specs.Making as making
-use Rattle.path_walks.specs.Holds.{Hold, holds_in}
-use Rattle.removing_calls.specs.Removing.{IsRemoving, IsUnder, holds_for}
+use Rattle.path_walks.specs.Holds.{Hold, holds_in, IsUnder}
+use Rattle.removing_calls.specs.Removing.{IsRemoving, holds_for}
 use Rattle.removing_calls.specs.Removing as removing
 use Rattle.writing_calls.proofs.Alone.{none_freed as none_freed_by}
+use Rattle.path_walks.proofs.Lying.{data_lies}
 
 -- a view shows each inode
 abbrev ShowsEach : Seen → Type 0
@@ -119,16 +120,10 @@ all_under o list change none all = record {
   freed = λ b a freed was. absurd (true≢false (sym freed ∙ ap (list_any (λ f. f == b)) none));
 }
 
--- by their places
-pub placed_inside : (v : Seen) (ws : List Written) → ((i : ℕ) (w : Written) → slice_get ws i ≡ Some w → (length w.bytes ≡ v.size) × ((g : Group) × HasGroup v g × (w.block < end_of g)))
-    → AllByRecursion (IsInside v) ws
-placed_inside v [] each = tt
-placed_inside v (w ∷ ws) each = (let at = each 0 w refl in record { whole = at.0; group = at.1.0; has = at.1.1; below = at.1.2 }, placed_inside v ws (λ i x at. each (suc i) x at))
-
--- a data block lies before its group's end
-pub data_inside : (v : Seen) (ws : List Written) → AllByRecursion (writing.IsInside v) ws → AllByRecursion (IsInside v) ws
-data_inside v [] all = tt
-data_inside v (w ∷ ws) all = (record { whole = all.0.whole; group = all.0.inside.0; has = all.0.inside.1; below = all.0.inside.2.high }, data_inside v ws all.1)
+-- a data block lies in its group
+pub data_inside : (v : Seen) (ws : List Written) → IsView v → AllByRecursion (writing.IsInside v) ws → AllByRecursion (IsInside v) ws
+data_inside v [] view all = tt
+data_inside v (w ∷ ws) view all = (record { whole = all.0.whole; inside = data_lies v w.block view all.0.inside }, data_inside v ws view all.1)
 
 -- ---- the lists of locks
 
@@ -192,9 +187,9 @@ removing_under v o list c r change does under = elim (cases_Bool (is_ok r)) [
   | inr refused ↦ nothing_under change (refused_nothing v c r change does refused) o list does.form
 ]
 
-pub removing_inside : (v : Seen) (c : Call) (r : Reply) (change : Change) → Does v c r change → (is_ok r ≡ true → removing.WritesInside v change) → AreInside v change
+pub removing_inside : (v : Seen) (c : Call) (r : Reply) (change : Change) → Does v c r change → (is_ok r ≡ true → AreInside v change) → AreInside v change
 removing_inside v c r change does inside = elim (cases_Bool (is_ok r)) [
-  | inl ok ↦ placed_inside v change.blocks.items (inside ok)
+  | inl ok ↦ inside ok
   | inr refused ↦ nothing_inside change (refused_nothing v c r change does refused) v
 ]
 

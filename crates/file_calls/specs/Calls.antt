@@ -53,11 +53,6 @@ IsTooFew v im o l t (calls.Create path) need free = making.IsTooFew v im o l t (
 IsTooFew v im o l t (calls.Mkdir path) need free = making.IsTooFew v im o l t (calls.Mkdir path) need free
 IsTooFew v im o l t call need free = ⊥
 
--- ---- what is written
-
-abbrev pub AreInside : Seen → Change → Type 0
-AreInside v change = AllByRecursion (IsInside v) change.blocks.items
-
 -- ---- as far as the view shows
 
 -- a block without which the call isn't answered

@@ -1,4 +1,4 @@
--- What a draft writes lies on the device.
+-- What a draft writes lies in the view's groups.
 use Rattle.std.proofs.Common.{◌≡◌, ℕ, zero, suc, ◌<◌, Bool, List, [], ◌∷◌, length, slice_get, Some, refl, arith}
 use Rattle.std.specs.List.{AllByRecursion}
 use Rattle.glock_names.specs.Views.{Seen}
@@ -29,5 +29,4 @@ stay_inside v fates change finished whole inside =
     by_place (IsInside v) change.blocks.items (λ i w at.
     let lock = there change.locks.items i (omega (arith, low change.blocks.items i w at, of.form.locks)) in
     let put = of.told i w lock.0 at lock.1 in
-    let group = inside w.block lock.0 w.plain w.bytes put in
-    record { whole = whole w.block lock.0 w.plain w.bytes put; group = group.0; has = group.1; below = group.2 })
+    record { whole = whole w.block lock.0 w.plain w.bytes put; inside = inside w.block lock.0 w.plain w.bytes put })

@@ -27,8 +27,8 @@ use Rattle.image_changes.specs.Does.{IsOf}
 use Rattle.image_changes.proofs.Frame.{dinode_its}
 use Rattle.draft_changes.proofs.Rows.{its_used}
 use Rattle.draft_changes.proofs.Views.{groups_are_listed}
-use Rattle.path_walks.specs.Holds.{Hold, AreHeld, holds, hold_of, hold_for}
-use Rattle.making_calls.specs.Blocks.{blocks_needed, block_holds, group_holds, group_of_node, hold_of_group, holds_from, new_holds, states_by}
+use Rattle.path_walks.specs.Holds.{Hold, AreHeld, holds, hold_of, hold_for, hold_of_group}
+use Rattle.making_calls.specs.Blocks.{blocks_needed, block_holds, group_holds, group_of_node, holds_from, new_holds, states_by}
 use Rattle.making_calls.specs.Searches.{AreShown, IsGroupBlock, IsGroupBroken, IsGroupNeeded, IsTaken, IsUnder}
 use Rattle.making_calls.specs.declared.blocks.Locked.TheVariants as locked
 use Rattle.making_calls.specs.declared.blocks.Room.{Room}
@@ -37,12 +37,6 @@ use Rattle.making_calls.proofs.Holds.{read_group}
 use Rattle.making_calls.proofs.InImage.{holds_said, shown_listed}
 use Rattle.making_calls.proofs.Numbered.{bytes_shown}
 use Rattle.making_calls.proofs.Over.{block_in}
-
-pub exclusive : (s : State) → leq Ex s ≡ true → s ≡ Ex
-exclusive Ex e = refl
-exclusive Un e = absurd (true≢false (sym e))
-exclusive Sh e = absurd (true≢false (sym e))
-exclusive Df e = absurd (true≢false (sym e))
 
 -- ---- a view shows all of its groups, and a node has one of its own
 

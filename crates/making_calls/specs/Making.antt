@@ -33,12 +33,12 @@ use Rattle.image_model.specs.Stands.{Layout, flat_of}
 use Rattle.image_changes.specs.Changes.{inode_of}
 use Rattle.image_changes.specs.Does.{IsInside, frees, with_change}
 use Rattle.image_changes.specs.Instances.{IsAt, dinode_at}
-use Rattle.path_walks.specs.Answers.{HasSpace}
-use Rattle.path_walks.specs.Holds.{Hold, AreHeld, IsAskedFor, IsFirstLack, hold_of, holds, holds_in}
+use Rattle.path_walks.specs.Answers.{Refuses}
+use Rattle.path_walks.specs.Holds.{Hold, AreHeld, IsAskedFor, IsFirstLack, hold_of, holds, holds_in, hold_of_group}
 use Rattle.path_walks.specs.declared.walk.Place.{Place}
 use Rattle.path_walks.specs.Walks.{LeadsTo, IsLinearDirectory, IsOnTheWay, IsPlaceOf, IsUnread, IsWrong}
 use Rattle.path_walks.specs.Walks as path
-use Rattle.making_calls.specs.Blocks.{blocks_needed, states_by, free_for, free_in_all, group_of_node, hold_of_group, new_holds}
+use Rattle.making_calls.specs.Blocks.{blocks_needed, states_by, free_for, free_in_all, group_of_node, new_holds}
 use Rattle.making_calls.specs.Drafting.{CountsNumber, GetsRecord, HasTimes, IsNewInode, IsNextOf, kind_for}
 use Rattle.making_calls.specs.Searches.{IsGroupBroken, IsGroupNeeded}
 use Rattle.making_calls.specs.declared.finds.Found.{Found}
@@ -170,15 +170,6 @@ IsToldOf v call found.NotBuilt = IsUnbuilt v call
 IsToldOf v call (found.NoSpace free) = free < blocks_needed
 IsToldOf v call f = ⊤
 
--- what the change writes lies in the view's groups
-abbrev pub AreInside : Seen → Change → Type 0
-AreInside v change = AllByRecursion (IsInside v) change.blocks.items
-
--- each lock with which the change writes a block, and that of the inode of each block that it frees, is of the list, exclusive
-pub record IsUnder (o : Owners) (list : List Hold) (change : Change) : Type 0 where
-  pub written : (lock : LockName) → Contains change.locks.items lock → Contains list (record { lock = lock; state = Ex })
-  pub freed : (b a : ℕ) → frees change b ≡ true → inode_of b (o b) ≡ Some a → Contains list (hold_of a Ex)
-
 -- where `..` of a directory below this one leads
 abbrev pub entry_in : Image → Owners → ℕ → Entry
 entry_in im o a = record { number = (dinode_at im o a).num.number; addr = a; kind = 4 }
@@ -207,14 +198,10 @@ IsStamped im o l call time change = (a : ℕ) × IsAt im o l (directory_path cal
 
 -- what a refusal is not: `ok`, or that too few blocks are free
 abbrev pub IsRefusal : Found → Type 0
-IsRefusal (found.Refused r) = (is_ok r ≡ false) × HasSpace r
+IsRefusal (found.Refused r) = Refuses r
 IsRefusal f = ⊤
 
 -- P of the change that is made
 abbrev pub IfMade : (Change → Type 0) → Found → Type 0
 IfMade P (found.Made change) = P change
 IfMade P f = ⊤
-
--- the path's last name
-abbrev pub IsLastOf : Path → List ℕ → Type 0
-IsLastOf path name = (front : Path) × (path ≡ front ++ name ∷ [])

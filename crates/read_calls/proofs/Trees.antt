@@ -42,6 +42,7 @@ use Rattle.path_walks.proofs.Images.{is_inode, is_sound, lock_of_inode, dinode_u
 use Rattle.read_calls.specs.Reading.{IsReading, IsRangeOf, IsStatOf, IsListOf, IsAnswerOf, IsFoundBy, IsFound, IsAsked, IsAnswered, IsNeededFor, IsHashedFor, IsToldOf}
 use Rattle.read_calls.specs.declared.answers.Read.{Read}
 use Rattle.read_calls.specs.declared.answers.Read.TheVariants as read
+use Rattle.path_walks.proofs.Asked.{asked}
 
 -- a walk that is refused
 pub refused : (c : Call) (t : Tree) (r : Reply) → IsReading c → walk t (path_of c false) ≡ Refused r → (apply c t).reply ≡ r
@@ -69,11 +70,6 @@ file_in w (dir es) bytes found thing = absurd (other thing)
     other : ADir ≡ AFile bytes → ⊥
     other e = cc
 
--- content of a regular file, by a block's part
-plain_at : (im : Image) (o : Owners) (a above k level first : ℕ) → (level == 0 && is_regular (dinode_in (holding im o a))) ≡ is_content_of im o (Below a above k level first)
-plain_at im o a above k zero first = refl
-plain_at im o a above k (suc level) first = ap (λ b. b && is_regular (dinode_in (holding im o a))) (differs (suc level) 0 (λ e. omega (arith, e)))
-
 module _ (v : Seen) (im : Image) (o : Owners) (l : Layout) (t : Tree) (of : IsOf v im o l t) (path : Path) (a : ℕ) (at : IsAt im o l path a) where
   -- a file stands at the path, with the inode's bytes
   file_there : is_directory_in (holding im o a) ≡ false → walk t path ≡ Found (file (content_of (holding im o a)))
@@ -87,42 +83,11 @@ module _ (v : Seen) (im : Image) (o : Owners) (l : Layout) (t : Tree) (of : IsOf
   listed : is_directory_in (holding im o a) ≡ true → ListsNames im o t path a
   listed is = directories_list im o l t path a of.stands at is
 
-  own_lock : inode_lock l a ≡ Some (record { kind = 2; number = a })
-  own_lock = own_locks im o l a of.stands.laid (inl (path, at))
-
-  module _ (list : List Hold) (ends : EndsWith list a) (held : AreHeld v list) where
-    asked_at : (m : Missing) → v.block_at m.block ≡ None → m.lock ≡ record { kind = 2; number = a } → cover l m.block (o m.block) ≡ Some (record { kind = 2; number = a })
-        → is_free (o m.block) ≡ false → m.plain ≡ is_content_of im o (o m.block) → IsAskedFor v im o l list m
-    asked_at m absent lock covered used plain = record {
-      absent = absent;
-      covered = covered ∙ ap Some (sym lock);
-      used = used;
-      plain = plain;
-      state = ends.state;
-      front = ends.front;
-      back = [];
-      split = ends.split ∙ ap (λ k. ends.front ++ record { lock = k; state = ends.state } ∷ []) (sym lock);
-      held = subst (AreHeld v) (ends.split ∙ ap (λ k. ends.front ++ record { lock = k; state = ends.state } ∷ []) (sym lock)) held;
-    }
-
-    -- a block of the inode that is needed is under its lock
-    asked : (want : ℕ → Type 0) (least : ℕ) (m : Missing) → IsNeeded v (holding im o a) want least m → IsAskedFor v im o l list m
-    asked want least m needed = each needed.way
-      where
-        each : IsOnWay (holding im o a) want least m → IsAskedFor v im o l list m
-        each (the_dinode here from plain) =
-            asked_at m needed.absent needed.lock (ap (λ b. cover l b (o b)) here ∙ lock_of_inode v im o l t of path a at)
-            (ap (λ b. is_free (o b)) here ∙ dinode_used (o a) (is_inode v im o l t of path a at))
-            (plain ∙ sym (ap (λ b. is_content_of im o (o b)) here ∙ dinode_plain im o (o a) (is_inode v im o l t of path a at)))
-        each (led_to i k level first is low leads from before plain) =
-            let row = pointed_owner im o a m.block m.from k level first (part_of_led (holding im o a) m.from k level first m.block (is_sound v im o l t of path a at).tree leads) in
-            asked_at m needed.absent needed.lock (ap (cover l m.block) row ∙ own_lock) (ap is_free row) (plain ∙ plain_at im o a m.from k level first ∙ sym (ap (is_content_of im o) row))
-
   range_found : (list : List Hold) → EndsWith list a → AreHeld v list → (from count : ℕ) (r : Read) → IsRangeOf v (holding im o a) from count r
       → IsFoundBy v im o l (read_reply (walk t path) from count) list r
   range_found list ends held from count (read.Reply reply.IsDir) is = (ap (λ w. read_reply w from count) (listed is).walks, held)
   range_found list ends held from count (read.Reply (reply.Bytes bytes)) is = (ap (λ w. read_reply w from count) (file_there is.0) ∙ ap reply.Bytes (sym is.1), held)
-  range_found list ends held from count (read.NeedBlock m) is = asked list ends held (IsInRange (holding im o a) from count) 0 m is.1
+  range_found list ends held from count (read.NeedBlock m) is = asked v im o l t of path a at list ends held (IsInRange (holding im o a) from count) 0 m is.1
   range_found list ends held from count (read.Hashed b) is = absurd is
   range_found list ends held from count (read.NeedLock lock state) is = absurd is
   range_found list ends held from count (read.Reply reply.Ok) is = absurd is

@@ -30,7 +30,7 @@ use Rattle.image_model.specs.Stands.{Layout}
 use Rattle.image_changes.specs.Does.{IsOf}
 use Rattle.image_changes.proofs.Frame.{dinode_its}
 use Rattle.path_walks.specs.Holds.{AreHeld, IsAskedFor, IsFirstLack, holds_in}
-use Rattle.path_walks.specs.Walks.{IsSeenAt, IsWrong, IsHeldAt, IsNext, LeadsTo, Names, at_root, by_name, the_root, the_child}
+use Rattle.path_walks.specs.Walks.{IsSeenAt, IsWrong, IsHeldAt, IsNext, LeadsTo, Names, at_root, by_name, the_root, the_child, IsLastOf}
 use Rattle.path_walks.specs.Walks as path
 use Rattle.path_walks.specs.declared.walk.Place.{Place}
 use Rattle.path_walks.proofs.Images.{is_inode, is_shown, unbroken_directory}
@@ -39,13 +39,14 @@ use Rattle.path_walks.proofs.Lists.{parent_of_next}
 use Rattle.removing_calls.specs.Drafting as drafting
 use Rattle.removing_calls.specs.Drafting.{IsWrongIn}
 use Rattle.removing_calls.specs.Groups.{GroupsAreHeld, IsFirstGroupLack, group_holds}
-use Rattle.removing_calls.specs.Removing.{IsRemoving, IsLastOf, IsAimOf, IsReachedIn, IsDamage, IsWrongBelow, Goes, holds_for}
+use Rattle.removing_calls.specs.Removing.{IsRemoving, IsAimOf, IsReachedIn, IsDamage, IsWrongBelow, Goes, holds_for}
 use Rattle.removing_calls.specs.Removing as damage
 use Rattle.removing_calls.specs.declared.aims.Aim.TheVariants as aim
 use Rattle.removing_calls.proofs.Above.{above_names, linear_in, named_in}
-use Rattle.removing_calls.proofs.Found.{taken_list, asked, its_inside, none_broken, none_wrong_below, all_held, first_unheld, group_asked}
+use Rattle.removing_calls.proofs.Found.{taken_list, its_inside, none_broken, none_wrong_below, all_held, first_unheld, group_asked}
 use Rattle.removing_calls.proofs.Listed.{asked_before}
 use Rattle.removing_calls.proofs.Trees.{IsTakenBy, aim_takes}
+use Rattle.path_walks.proofs.Asked.{asked}
 
 -- what is wrong with an inode to which a front of the path leads is damage on the path
 wrong_on_way : (v : Seen) (wants : List Want) (front : Path) (a : ℕ) → LeadsTo v wants front a → (whole back : Path) → whole ≡ front ++ back → (rule b : ℕ)

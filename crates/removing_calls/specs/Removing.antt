@@ -34,9 +34,9 @@ use Rattle.image_model.specs.Stands.{Layout, flat_of}
 use Rattle.image_changes.specs.Changes.{inode_of}
 use Rattle.image_changes.specs.Does.{frees, with_change}
 use Rattle.image_changes.specs.Instances.{IsAt}
-use Rattle.path_walks.specs.Answers.{HasSpace}
+use Rattle.path_walks.specs.Answers.{Refuses}
 use Rattle.path_walks.specs.Holds.{Hold, AreHeld, EndsWith, IsAskedFor, IsFirstLack, hold_of, holds_in}
-use Rattle.path_walks.specs.Walks.{LeadsTo, IsAbsent, IsLacked, IsOnTheWay, IsPlaceOf, IsUnread}
+use Rattle.path_walks.specs.Walks.{LeadsTo, IsAbsent, IsLacked, IsLastOf, IsOnTheWay, IsPlaceOf, IsUnread}
 use Rattle.path_walks.specs.Walks as path
 use Rattle.path_walks.specs.declared.walk.Place.{Place}
 use Rattle.removing_calls.specs.Drafting.{HasTimes, IsRemoval}
@@ -90,10 +90,6 @@ abbrev pub holds_for : Image → Owners → Layout → Tree → Call → List Ho
 holds_for im o l t call = holds_in im o l (path_of call false) (wanted call)
     ++ (if is_ok (apply call t).reply then group_holds_of im o l (follow (flat_of im o) l.root (path_of call false)) else [])
 
--- the path's last name
-abbrev pub IsLastOf : Path → List ℕ → Type 0
-IsLastOf path name = (front : Path) × (path ≡ front ++ name ∷ [])
-
 -- ---- as far as the view shows
 
 -- the path leads to this inode, which isn't the root, and the call takes it away
@@ -127,10 +123,6 @@ pub record IsRemovedBy {V : Type 0} (seen : V → Seen) (view : V) (call : Call)
   pub all : AreAllOf (seen view) inode blocks
   pub held : GroupsAreHeld (seen view) blocks
   pub is : IsRemoval seen view directory name time blocks change
-
--- each block that the change writes is whole, and lies before the end of one of the view's groups
-abbrev pub WritesInside : Seen → Change → Type 0
-WritesInside v change = (i : ℕ) (w : Written) → slice_get change.blocks.items i ≡ Some w → (length w.bytes ≡ v.size) × ((g : Group) × HasGroup v g × (w.block < end_of g))
 
 -- the call is answered so
 pub data IsAnswered {V : Type 0} (seen : V → Seen) (view : V) (call : Call) (time : ℕ) : Reply → Change → Type 0 where
@@ -194,18 +186,13 @@ IsFoundBy v im o l answer list (found.Hashed b) = ⊤
 abbrev pub IsFound : Seen → Image → Owners → Layout → Tree → Call → Found → Type 0
 IsFound v im o l t call f = IsFoundBy v im o l (apply call t).reply (holds_for im o l t call) f
 
--- each lock with which the change writes a block, and that of the inode of each block that it frees, is of the list, exclusive
-pub record IsUnder (o : Owners) (list : List Hold) (change : Change) : Type 0 where
-  pub written : (lock : LockName) → Contains change.locks.items lock → Contains list (record { lock = lock; state = Ex })
-  pub freed : (b a : ℕ) → frees change b ≡ true → inode_of b (o b) ≡ Some a → Contains list (hold_of a Ex)
-
 -- in the image with the change the dinode of the directory above the name has this time
 abbrev pub IsStamped : Image → Owners → Layout → Call → ℕ → Change → Type 0
 IsStamped im o l call time change = (a : ℕ) × IsAt im o l (parent_of (path_of call false)) a × HasTimes (dinode_of ((with_change im change).at a)) time
 
 -- what a refusal is not: `ok`, or that too few blocks are free
 abbrev pub IsRefusal : Found → Type 0
-IsRefusal (found.Refused r) = (is_ok r ≡ false) × HasSpace r
+IsRefusal (found.Refused r) = Refuses r
 IsRefusal f = ⊤
 
 -- P of the change of a removal

@@ -5,9 +5,9 @@ use Rattle.dinode_tree.specs.Broken as inode
 use Rattle.dinode_tree.specs.declared.below.PointedBlock.{PointedBlock}
 use Rattle.resource_groups.specs.Putting.{HasDataBlock}
 use Rattle.removing_calls.specs.Removing.{IsWrongBelow, in_inode, stray}
-use Rattle.removing_calls.proofs.Faults.{told_on, tells_so, tells_all}
 use Rattle.removing_calls.proofs.Going.{goes_all, inside_all, numbers}
 use Rattle.removing_calls.proofs.blocks.blocks_of.Goals as goal
+use Rattle.path_walks.proofs.Faults.{told_on, tells_so, tells_all}
 
 pub returns-in_err-below-clause-damaged : goal.returns-in_err-below-clause-damaged
 returns-in_err-below-clause-damaged g c =

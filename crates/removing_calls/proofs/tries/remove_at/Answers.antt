@@ -6,11 +6,11 @@ use Rattle.path_walks.proofs.Steps.{inside_so, none_so}
 use Rattle.removing_calls.specs.Drafting.{IsWrongIn, IsRemoval}
 use Rattle.removing_calls.specs.Groups.{GroupsAreHeld, IsFirstGroupLack}
 use Rattle.removing_calls.specs.Removing.{IsDamage, IsLackedFor, IsNeededFor, IsWrongBelow, above}
-use Rattle.removing_calls.proofs.Faults.{told_on, tells_so}
 use Rattle.removing_calls.proofs.Placed.{above_there, above_linear, above_named, above_inside, below_damage, below_root, inode_inside, nothing_below, inode_needed, own_among, removal_damage, taken_ok, list_held, group_lacks, group_needed, nothing_wrong}
 use Rattle.removing_calls.proofs.Under.{writes_inside}
 use Rattle.removing_calls.proofs.Taking.{does, stamped, under}
 use Rattle.removing_calls.proofs.tries.remove_at.Goals as goal
+use Rattle.path_walks.proofs.Faults.{told_on, tells_so}
 
 pub returns-then-is_none-clause-sound : goal.returns-then-is_none-clause-sound
 returns-then-is_none-clause-sound g c im o l t of reached =
