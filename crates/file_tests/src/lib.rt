@@ -4,6 +4,8 @@
 #[cfg(test)]
 mod contents;
 #[cfg(test)]
+mod dreads;
+#[cfg(test)]
 mod groups;
 #[cfg(test)]
 mod wanted;
