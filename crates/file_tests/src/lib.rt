@@ -4,8 +4,6 @@
 #[cfg(test)]
 mod contents;
 #[cfg(test)]
-mod dreads;
-#[cfg(test)]
 mod groups;
 #[cfg(test)]
 mod wanted;
