@@ -44,13 +44,13 @@ ShowsEach v = (a : ℕ) → (h : Holding) × IsShown v a h
 pub needed_absent : (v : Seen) (c : Call) (m : Missing) → ShowsEach v → IsNeededFor v c m → v.block_at m.block ≡ None
 needed_absent v c m shows (on_path unread) = unread.absent
 needed_absent v (call.Read p at count) m shows (at_end a leads asked) = let s = shows a in (asked s.0 s.1).1.absent
+needed_absent v (call.Dread p at count) m shows (at_end a leads asked) = let s = shows a in (asked s.0 s.1).1.absent
 needed_absent v (call.List p) m shows (at_end a leads asked) = absurd asked
 needed_absent v (call.Stat p) m shows (at_end a leads asked) = absurd asked
 needed_absent v (call.Create p) m shows (at_end a leads asked) = absurd asked
 needed_absent v (call.Mkdir p) m shows (at_end a leads asked) = absurd asked
 needed_absent v (call.Unlink p) m shows (at_end a leads asked) = absurd asked
 needed_absent v (call.Rmdir p) m shows (at_end a leads asked) = absurd asked
-needed_absent v (call.Dread p at count) m shows (at_end a leads asked) = absurd asked
 needed_absent v (call.Write p at new) m shows (at_end a leads asked) = absurd asked
 needed_absent v (call.Truncate p size) m shows (at_end a leads asked) = absurd asked
 needed_absent v (call.Rename p q) m shows (at_end a leads asked) = absurd asked
@@ -130,13 +130,13 @@ data_inside v (w ∷ ws) view all = (record { whole = all.0.whole; inside = data
 module _ (im : Image) (o : Owners) (l : Layout) (t : Tree) (node : ℕ) where
   pub reading_holds : (c : Call) → IsReading c → call_holds im o l t c node ≡ holds_in im o l (path_of c false) (wanted c)
   reading_holds (call.Read p at count) is = refl
+  reading_holds (call.Dread p at count) is = refl
   reading_holds (call.Stat p) is = refl
   reading_holds (call.List p) is = refl
   reading_holds (call.Create p) is = absurd is
   reading_holds (call.Mkdir p) is = absurd is
   reading_holds (call.Unlink p) is = absurd is
   reading_holds (call.Rmdir p) is = absurd is
-  reading_holds (call.Dread p at count) is = absurd is
   reading_holds (call.Write p at new) is = absurd is
   reading_holds (call.Truncate p size) is = absurd is
   reading_holds (call.Rename p q) is = absurd is

@@ -21,9 +21,8 @@ use Rattle.read_calls.specs.Reading as reading
 use Rattle.removing_calls.specs.Removing as removing
 use Rattle.writing_calls.specs.Writing as writing
 
--- the call is built: today all but those that read around the cache, cut or grow a file, or move a name
+-- the call is built: today all but those that cut or grow a file, or move a name
 abbrev pub IsBuilt : Call → Type 0
-IsBuilt (calls.Dread path at count) = ⊥
 IsBuilt (calls.Truncate path size) = ⊥
 IsBuilt (calls.Rename path to) = ⊥
 IsBuilt (calls.Create path) = Unit {0}
@@ -31,6 +30,7 @@ IsBuilt (calls.Mkdir path) = Unit {0}
 IsBuilt (calls.Unlink path) = Unit {0}
 IsBuilt (calls.Rmdir path) = Unit {0}
 IsBuilt (calls.Read path at count) = Unit {0}
+IsBuilt (calls.Dread path at count) = Unit {0}
 IsBuilt (calls.Write path at new) = Unit {0}
 IsBuilt (calls.Stat path) = Unit {0}
 IsBuilt (calls.List path) = Unit {0}

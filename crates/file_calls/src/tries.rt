@@ -54,7 +54,7 @@ pub fn attempt<V: View>(
     let _size = view.block_size();
     every_view_shows_an_inode();
     match call {
-        Call::Read(_, _, _) | Call::Stat(_) | Call::List(_) => {
+        Call::Read(_, _, _) | Call::Dread(_, _, _) | Call::Stat(_) | Call::List(_) => {
             read_calls::attempt(alloc, view, call, stamp)
         }
         Call::Create(_) | Call::Mkdir(_) => making_calls::attempt(alloc, view, call, stamp),

@@ -47,13 +47,13 @@ use Rattle.path_walks.proofs.Asked.{asked}
 -- a walk that is refused
 pub refused : (c : Call) (t : Tree) (r : Reply) → IsReading c → walk t (path_of c false) ≡ Refused r → (apply c t).reply ≡ r
 refused (call.Read p at count) t r is ends = ap (λ w. read_reply w at count) ends
+refused (call.Dread p at count) t r is ends = ap (λ w. read_reply w at count) ends
 refused (call.Stat p) t r is ends = ap stat_reply ends
 refused (call.List p) t r is ends = ap list_reply ends
 refused (call.Create p) t r is ends = absurd is
 refused (call.Mkdir p) t r is ends = absurd is
 refused (call.Unlink p) t r is ends = absurd is
 refused (call.Rmdir p) t r is ends = absurd is
-refused (call.Dread p at count) t r is ends = absurd is
 refused (call.Write p at new) t r is ends = absurd is
 refused (call.Truncate p size) t r is ends = absurd is
 refused (call.Rename p q) t r is ends = absurd is
@@ -142,6 +142,7 @@ module _ (v : Seen) (im : Image) (o : Owners) (l : Layout) (t : Tree) (of : IsOf
 pub answer_found : (v : Seen) (im : Image) (o : Owners) (l : Layout) (t : Tree) → IsOf v im o l t → (c : Call) (a : ℕ) → IsAt im o l (path_of c false) a
     → EndsWith (holds_in im o l (path_of c false) (wanted c)) a → AreHeld v (holds_in im o l (path_of c false) (wanted c)) → (r : Read) → IsAnswerOf v (holding im o a) c r → IsFound v im o l t c r
 answer_found v im o l t of (call.Read p from count) a at ends held r is = range_found v im o l t of p a at (holds_in im o l p (wanted (call.Read p from count))) ends held from count r is
+answer_found v im o l t of (call.Dread p from count) a at ends held r is = range_found v im o l t of p a at (holds_in im o l p (wanted (call.Dread p from count))) ends held from count r is
 answer_found v im o l t of (call.List p) a at ends held r is = list_found v im o l t of p a at (holds_in im o l p (wanted (call.List p))) held r is
 answer_found v im o l t of (call.Stat p) a at ends held (read.Reply r) is = (stat_found v im o l t of p a at r is, held)
 answer_found v im o l t of (call.Stat p) a at ends held (read.NeedBlock m) is = absurd is
@@ -151,7 +152,6 @@ answer_found v im o l t of (call.Create p) a at ends held r is = absurd is
 answer_found v im o l t of (call.Mkdir p) a at ends held r is = absurd is
 answer_found v im o l t of (call.Unlink p) a at ends held r is = absurd is
 answer_found v im o l t of (call.Rmdir p) a at ends held r is = absurd is
-answer_found v im o l t of (call.Dread p from count) a at ends held r is = absurd is
 answer_found v im o l t of (call.Write p from new) a at ends held r is = absurd is
 answer_found v im o l t of (call.Truncate p size) a at ends held r is = absurd is
 answer_found v im o l t of (call.Rename p q) a at ends held r is = absurd is

@@ -28,7 +28,7 @@ fn path_of_reading(call: &Call) -> &Path
     ensures { result.now ≡ path_of call.now false }
 {
     match call {
-        Call::Read(path, _, _) => path,
+        Call::Read(path, _, _) | Call::Dread(path, _, _) => path,
         Call::Stat(path) => path,
         Call::List(path) => path,
         _ => unreachable!(),

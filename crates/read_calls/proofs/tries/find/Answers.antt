@@ -1,12 +1,11 @@
 use Rattle.std.proofs.Common.{◌+◌, false, length, sym, ap, subst, subst₂, ◌∙◌}
-use Rattle.glock_names.specs.declared.State.TheVariants.{Sh}
 use Rattle.call_locks.specs.Wants.{wanted}
 use Rattle.call_locks.specs.WantLaws.{path_of}
 use Rattle.image_model.specs.Owners.{holding}
 use Rattle.path_walks.specs.Walks.{IsTold, IsWalked, IsWrong, AreInOrder}
 use Rattle.path_walks.proofs.Images.{is_shown, is_sound}
-use Rattle.read_calls.proofs.Answering.{wrong_all}
-use Rattle.read_calls.proofs.Lists.{wants_are, in_order, as_many}
+use Rattle.read_calls.proofs.Answering.{wrong_so, wrong_all}
+use Rattle.read_calls.proofs.Lists.{taken_in, wants_are, in_order, as_many}
 use Rattle.read_calls.specs.Reading.{not_found, not_dir}
 use Rattle.read_calls.proofs.Trees.{answer_found, ok_so, nothing_wrong, wrong_damage, all_told}
 use Rattle.read_calls.proofs.tries.find.Goals as goal
@@ -15,11 +14,11 @@ use Rattle.path_walks.proofs.Faults.{damaged_so}
 pub walk_along-requires-clause-as_many : goal.walk_along-requires-clause-as_many
 walk_along-requires-clause-as_many g c =
     let names = c.names.ensures.names ∙ c.path_of_reading-path.ensures in
-    ap length (c.deref.ensures.value ∙ c.in_ok-wants.ensures ∙ wants_are c.args.call.now c.requires) ∙ as_many false (length (path_of c.args.call.now false)) Sh ∙ ap (λ p. length p + 1) (sym names)
+    ap length (c.deref.ensures.value ∙ c.in_ok-wants.ensures ∙ wants_are c.args.call.now c.requires) ∙ as_many false (length (path_of c.args.call.now false)) (taken_in c.args.call.now) ∙ ap (λ p. length p + 1) (sym names)
 
 pub walk_along-requires-clause-order : goal.walk_along-requires-clause-order
 walk_along-requires-clause-order g c =
-    subst AreInOrder (sym (c.deref.ensures.value ∙ c.in_ok-wants.ensures ∙ wants_are c.args.call.now c.requires)) (in_order false (length (path_of c.args.call.now false)) Sh)
+    subst AreInOrder (sym (c.deref.ensures.value ∙ c.in_ok-wants.ensures ∙ wants_are c.args.call.now c.requires)) (in_order false (length (path_of c.args.call.now false)) (taken_in c.args.call.now))
 
 pub returns-in-At-clause-found : goal.returns-in-At-clause-found
 returns-in-At-clause-found g c im o l t of =
