@@ -1,1 +1,5 @@
 pub mod Places
+pub mod Counting
+pub mod Parts
+pub mod Contents
+pub mod Fills

@@ -39,7 +39,7 @@ span_times size (suc up) level =
 joined : (first q s r t i : ℕ) → q * s + r ≡ i → first + q * (s * t) + r * t ≡ first + i * t
 joined first q s r t i e = let flat : first + q * (s * t) + r * t ≡ first + (q * s + r) * t = omega arith in flat ∙ ap (λ n. first + n * t) e
 
-cancelled : (a b s : ℕ) → 0 < s → a * s ≡ b * s → a ≡ b
+pub cancelled : (a b s : ℕ) → 0 < s → a * s ≡ b * s → a ≡ b
 cancelled a b s some e = (same_from_place a 0 b 0 s some some (let sum : a * s + 0 ≡ b * s + 0 = omega (arith, e) in sum)).0
 
 -- a part with its level and its first index in other words
@@ -147,12 +147,25 @@ module _ (h : Holding) (file : IsFile h) where
       over_one up level at c i from k first e low
       (λ above j start part' inside. over n (suc up) level (suc at) from (k * span h.size up + i) above j start (omega (arith, e)) (omega (arith, high)) inside part') (file.tree.pointed c from k at first part)
 
-  pub place_of_part : (c level first : ℕ) → IsPlaced h c level first → (j : ℕ) × (first ≡ j * span h.size level) × (j < places_on h level) × (block_on h level j ≡ c)
-  place_of_part c level first (from, k, part) =
-      let less : level < height_in h = file.tree.below c from k level first part in
-      let found = over (height_in h - suc level) 0 level level c 0 from k first (omega arith) (omega (arith, less)) (omega arith) part in
+  -- where a pointer stands that leads to a block, or nowhere, the place has that block, or none
+  pub place_of_pointer : (c from k level first : ℕ) → IsPointed h c from k level first → (j : ℕ) × (first ≡ j * span h.size level) × (j < places_on h level) × (block_on h level j ≡ c)
+  place_of_pointer c from k level first pointed =
+      let found = over_one 0 level level c 0 from k first (omega arith) (omega arith) parent pointed in
       let index : found.0 ≡ found.0 * 1 + 0 = omega arith in
       (found.0, found.1, found.2, ap (block_on h level) index ∙ found.3)
+    where
+      parent : (above j start : ℕ) → part_at h from ≡ Some (Pointed above j (suc level) start) → k * 1 + 0 < span h.size 1 → IsOver 1 level (suc level) from (k * 1 + 0) start
+      parent above j start part inside =
+          let less : suc level < height_in h = file.tree.below from above j (suc level) start part in
+          over (height_in h - suc (suc level)) 1 level (suc level) from (k * 1 + 0) above j start (omega arith) (omega (arith, less)) inside part
+
+  pub place_of_part : (c level first : ℕ) → IsPlaced h c level first → (j : ℕ) × (first ≡ j * span h.size level) × (j < places_on h level) × (block_on h level j ≡ c)
+  place_of_part c level first (from, k, part) = place_of_pointer c from k level first (file.tree.pointed c from k level first part)
+
+  -- a pointer stands below the height
+  pub pointer_low : (c from k level first : ℕ) → IsPointed h c from k level first → level < height_in h
+  pointer_low c from k level first (by_dinode own high near is first_is) = omega (arith, high)
+  pointer_low c from k level first (by_block above j start part near is first_is) = omega (arith, file.tree.below from above j (suc level) start part)
 
   pub part_there : (level j c : ℕ) → level < height_in h → j < places_on h level → c ≢ 0 → (block_on h level j ≡ c) ↔ IsPlaced h c level (j * span h.size level)
   part_there level j c less low some = (
