@@ -3,3 +3,4 @@ pub mod Counting
 pub mod Parts
 pub mod Contents
 pub mod Fills
+pub mod Bytes
