@@ -1,15 +1,20 @@
 -- What a file reads as, from the blocks at its places.
-use Rattle.std.proofs.Common.{◌≡◌, ◌≢◌, ◌⊎◌, ℕ, zero, suc, ◌+◌, ◌-◌, ◌*◌, ◌<◌, ◌≤◌, inl, inr, true, false, List, take, drop, Option, Some, None, refl, sym, ap, ap₂, subst, ◌∙◌, arith}
+use Rattle.std.proofs.Common.{◌≡◌, ◌≢◌, ◌⊎◌, ℕ, zero, suc, ◌+◌, ◌-◌, ◌*◌, ◌/◌, ◌%◌, ◌<◌, ◌≤◌, min, inl, inr, true, false, List, length, take, drop, Option, Some, None, refl, sym, ap, ap₂, subst, ◌∙◌, arith}
 use Rattle.std.proofs.lemmas.Bool.{cases_eq, cond-true, cond-false, eq-eqb, ne_eqb}
-use Rattle.std.specs.Prelude.{◌==◌, if◌then◌else◌, flat_map}
+use Rattle.std.proofs.lemmas.List.{length-take, length-replicate, get_or-take}
+use Rattle.std.proofs.lemmas.Nat.{div-add-mod', mod_below}
+use Rattle.std.proofs.Math.Nat.{lt-div-mul-add}
+use Rattle.std.specs.Prelude.{◌==◌, replicate, if◌then◌else◌, flat_map}
 use Rattle.std.specs.List.{range_with_len}
 use Rattle.gfs2_layout.specs.Holding.{Pointed, Cell, Holding, part_at, bytes_at}
 use Rattle.gfs2_layout.specs.Inode.{dinode_in, height_in, is_directory_in, fan, span, unit, carried, content_block, pieces, content_count, content_of}
 use Rattle.gfs2_layout.specs.Structures.{dinode_length, is_directory, is_regular, file_type}
 use Rattle.gfs2_layout.specs.declared.dinode.Dinode.{Dinode}
 use Rattle.file_growth.specs.Files.{IsFile, with_cells, places_on, block_on, IsPlaced}
+use Rattle.dinode_tree.proofs.Ranges.{piece_within}
+use Rattle.file_growth.proofs.Bytes.{byte, pieces_length, piece_byte}
 use Rattle.file_growth.proofs.Counting.{joined_same}
-use Rattle.file_growth.proofs.Places.{part_of_place, part_there, content_is_level_zero}
+use Rattle.file_growth.proofs.Places.{size_large, part_of_place, part_there, content_is_level_zero}
 
 -- a regular file is no directory
 pub no_directory : (h : Holding) → is_regular (dinode_in h) ≡ true → is_directory_in h ≡ false
@@ -62,3 +67,58 @@ same_content h h' high high' sizes counts each =
     ∙ ap₂ take sizes (ap (λ n. flat_map (λ i. carried h' (content_block h' i)) (range_with_len 0 n)) counts
     ∙ joined_same (λ i. carried h' (content_block h' i)) (λ i. carried h (content_block h i)) 0 (content_count h) (λ i low less. each i (omega (arith, less))))
     ∙ sym (content_in_blocks h high)
+
+-- ---- content by its bytes
+
+-- what a block of content carries: zeros of a hole, and else its bytes
+pub carried_hole : (h : Holding) → is_regular (dinode_in h) ≡ true → carried h 0 ≡ replicate h.size 0
+carried_hole h regular = ap (λ n. replicate n 0) (whole_unit h regular)
+
+pub carried_block : (h : Holding) (c : ℕ) → is_regular (dinode_in h) ≡ true → c ≢ 0 → carried h c ≡ bytes_at h c
+carried_block h c regular some =
+    let none : h.size - unit h ≡ 0 = omega (arith, whole_unit h regular) in
+    cond-false _ _ _ (ne_eqb c 0 some) ∙ ap (λ n. drop n (bytes_at h c)) none
+
+enough : (n u : ℕ) → 0 < u → n ≤ (n + u - 1) / u * u
+enough n u some = let next : n + u - 1 < (n + u - 1) / u * u + u = lt-div-mul-add some in omega (arith, next)
+
+module _ (h : Holding) (file : IsFile h) (high : height_in h ≢ 0) where
+  unit_is : unit h ≡ h.size
+  unit_is = whole_unit h file.regular
+
+  pub size_some : 0 < h.size
+  size_some = omega (arith, size_large h.size file.block_size)
+
+  -- a block of content is one of the file
+  pub content_part : (i : ℕ) → i < content_count h → content_block h i ≢ 0 → IsPlaced h (content_block h i) 0 i
+  content_part i low some =
+      let at = content_place h i file high low in
+      let same = content_is_level_zero h i in
+      let index : i * 1 ≡ i = omega arith in
+      subst (IsPlaced h (content_block h i) 0) index (subst (λ c. IsPlaced h c 0 (i * 1)) (sym same) (part_of_place h file 0 i at.0 at.1 (λ none. some (same ∙ none))))
+
+  pub carried_length : (i : ℕ) → i < content_count h → length (carried h (content_block h i)) ≡ h.size
+  carried_length i low = elim (cases_eq (content_block h i) 0) [
+    | inl none ↦ ap (λ c. length (carried h c)) none ∙ ap length (carried_hole h file.regular) ∙ length-replicate h.size 0
+    | inr some ↦ let placed = content_part i low some in ap length (carried_block h (content_block h i) file.regular some) ∙ file.whole (content_block h i) _ placed.2
+  ]
+
+  all_bytes : List ℕ
+  all_bytes = flat_map (λ i. carried h (content_block h i)) (range_with_len 0 (content_count h))
+
+  pub content_length : length (content_of h) ≡ (dinode_in h).size
+  unfolding all_bytes
+  content_length =
+      let all : length all_bytes ≡ content_count h * h.size = pieces_length (λ i. carried h (content_block h i)) h.size 0 (content_count h) (λ i low. carried_length i (omega (arith, low))) in
+      let up : (dinode_in h).size ≤ content_count h * h.size = subst (λ u. (dinode_in h).size ≤ pieces (dinode_in h).size (unit h) * u) unit_is (enough (dinode_in h).size (unit h) (omega (arith, unit_is, size_some))) in
+      ap length (content_in_blocks h high) ∙ length-take (dinode_in h).size all_bytes ∙ omega (arith, all, up)
+
+  pub content_byte : (n : ℕ) → n < (dinode_in h).size → (n / h.size < content_count h) × (byte (content_of h) n ≡ byte (carried h (content_block h (n / h.size))) (n % h.size))
+  unfolding all_bytes
+  content_byte n low =
+      let within : n / h.size < content_count h = subst (λ u. n / u < content_count h) unit_is (piece_within n (dinode_in h).size (unit h) (omega (arith, unit_is, size_some)) low) in
+      let none : 0 + n / h.size ≡ n / h.size = omega arith in
+      (within,
+      ap (λ xs. byte xs n) (content_in_blocks h high) ∙ get_or-take (dinode_in h).size all_bytes n 0 low ∙ ap (byte all_bytes) (sym (div-add-mod' n h.size))
+      ∙ piece_byte (λ i. carried h (content_block h i)) h.size 0 (content_count h) (n / h.size) (n % h.size) (λ i less. carried_length i (omega (arith, less))) within (mod_below n h.size size_some)
+      ∙ ap (λ i. byte (carried h (content_block h i)) (n % h.size)) none)

@@ -6,7 +6,7 @@ use Rattle.gfs2_layout.specs.Holding.{Itself, Cell, Holding, part_at, bytes_at}
 use Rattle.gfs2_layout.specs.Inode.{dinode_in, height_in, span, content_block, content_count, content_of, block_count, IsInode}
 use Rattle.gfs2_layout.specs.Structures.{is_regular}
 use Rattle.file_growth.specs.Files.{IsFile, with_cells, places_on, block_on, IsPlaced}
-use Rattle.file_growth.specs.Steps.{IsFilled, IsFreed, IsRaised, IsUnstuffed, IsBareTo, IsContentPut, IsSized}
+use Rattle.file_growth.specs.Steps.{IsFilled, IsFreed, IsRaised, IsUnstuffed, IsBareTo, IsContentPut, IsStuffedAs, IsSized}
 
 -- ---- files and inodes
 
@@ -89,6 +89,11 @@ abbrev pub PutsOverwrite : Type 0
 PutsOverwrite = (h : Holding) (cell : ℕ → Option Cell) (i at : ℕ) (new : List ℕ) → IsFile h → at + length new ≤ h.size → i * h.size + at + length new ≤ (dinode_in h).size
     → IsContentPut h cell i (take at (bytes_at h (content_block h i)) ++ (new ++ drop (at + length new) (bytes_at h (content_block h i))))
     → IsFile (with_cells h cell) × (content_of (with_cells h cell) ≡ overwritten (i * h.size + at) new (content_of h))
+
+-- content behind the dinode is what was put there
+abbrev pub StuffedContentIsPut : Type 0
+StuffedContentIsPut = (h : Holding) (cell : ℕ → Option Cell) (content : List ℕ) → IsFile h → IsStuffedAs h cell content
+    → IsFile (with_cells h cell) × (content_of (with_cells h cell) ≡ content)
 
 -- the content is cut, or goes on with zeros
 abbrev pub SizesResize : Type 0

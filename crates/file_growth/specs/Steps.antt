@@ -1,6 +1,6 @@
 -- Steps from one state of a file to the next, each of one block: a hole is filled, the height rises, a block is freed, bytes of content
 -- are put, the size changes. In each the file has other cells, and its size of blocks, its count of them and its own block stay.
-use Rattle.std.specs.Prelude.{ℕ, suc, ◌≡◌, ◌≢◌, ◌+◌, ◌-◌, ◌*◌, ◌<◌, ◌≤◌, ◌==◌, if◌then◌else◌, List, ◌++◌, length, drop, replicate, Option, None, Some}
+use Rattle.std.specs.Prelude.{ℕ, suc, ◌≡◌, ◌≢◌, ◌+◌, ◌-◌, ◌*◌, ◌<◌, ◌≤◌, ◌==◌, if◌then◌else◌, List, ◌++◌, length, take, drop, replicate, Option, None, Some}
 use Rattle.gfs2_layout.specs.Headers.{HasHeader}
 use Rattle.gfs2_layout.specs.Holding.{Part, Itself, Pointed, Cell, Holding, part_at, bytes_at}
 use Rattle.gfs2_layout.specs.Inode.{dinode_in, height_in, header_length, fan, span, pointer, unit, content_block, content_count, content_of, pieces, IsPointed}
@@ -130,6 +130,19 @@ pub record IsContentPut (h : Holding) (cell : ℕ → Option Cell) (i : ℕ) (ne
   pub bytes : bytes_at (with_cells h cell) (content_block h i) ≡ new
   pub parts : (x : ℕ) → part_at (with_cells h cell) x ≡ part_at h x
   pub others : (x : ℕ) → x ≢ content_block h i → bytes_at (with_cells h cell) x ≡ bytes_at h x
+
+-- ---- content in the dinode's block
+
+-- The file keeps its content behind its dinode, and this is it afterwards; the dinode says so, and nothing else anew.
+pub record IsStuffedAs (h : Holding) (cell : ℕ → Option Cell) (content : List ℕ) : Type 0 where
+  pub stuffed : height_in h ≡ 0
+  pub room : dinode_length + length content ≤ h.size
+  pub dinode : dinode_in (with_cells h cell) ≡ record (dinode_in h) { size = length content }
+  pub area : take (length content) (drop dinode_length (bytes_at (with_cells h cell) h.own)) ≡ content
+  pub own_header : HasHeader 4 400 (bytes_at (with_cells h cell) h.own)
+  pub own_whole : length (bytes_at (with_cells h cell) h.own) ≡ h.size
+  pub parts : (x : ℕ) → part_at (with_cells h cell) x ≡ part_at h x
+  pub others : (x : ℕ) → x ≢ h.own → bytes_at (with_cells h cell) x ≡ bytes_at h x
 
 -- ---- the size changes
 

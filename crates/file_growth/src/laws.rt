@@ -1,5 +1,5 @@
 //! One step each.
-ghost use Rattle.file_growth.specs.Laws.{BareFilesChangeHeight, ContentIsLevelZero, FilesAreInodes, FillsAddOne, FillsKeepContent, FillsKeepFiles, FillsOnePlace, FreesKeepFiles, FreesKeepTheFront, FreesTakeOne, IndirectFreesKeepContent, InodesAreFiles, PartsHavePlaces, PlacesAreParts, PutsOverwrite, RaisesKeepFiles, SizesResize, UnstuffingKeepsFiles, WritesGrowFirst, WritesJoin};
+ghost use Rattle.file_growth.specs.Laws.{BareFilesChangeHeight, ContentIsLevelZero, FilesAreInodes, FillsAddOne, FillsKeepContent, FillsKeepFiles, FillsOnePlace, FreesKeepFiles, FreesKeepTheFront, FreesTakeOne, IndirectFreesKeepContent, InodesAreFiles, PartsHavePlaces, PlacesAreParts, PutsOverwrite, RaisesKeepFiles, SizesResize, StuffedContentIsPut, UnstuffingKeepsFiles, WritesGrowFirst, WritesJoin};
 
 /// A law: an inode that is a regular file keeps the rules of a file, and a file whose dinode counts its blocks those of an inode.
 pub fn files_are_inodes()
@@ -37,9 +37,10 @@ pub fn heights_change()
     ensures bare { BareFilesChangeHeight }
 {}
 
-/// A law: bytes put over those of a block of content are put over the content.
+/// A law: bytes put over those of a block of content are put over the content; content in the dinode's block is what was put there.
 pub fn puts_overwrite()
-    ensures { PutsOverwrite }
+    ensures blocks { PutsOverwrite }
+    ensures stuffed { StuffedContentIsPut }
 {}
 
 /// A law: another size cuts the content, or lets it go on with zeros.
