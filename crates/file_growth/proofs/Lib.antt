@@ -4,3 +4,7 @@ pub mod Parts
 pub mod Contents
 pub mod Fills
 pub mod Bytes
+pub mod Trees
+pub mod Puts
+pub mod Sizes
+pub mod Bare
