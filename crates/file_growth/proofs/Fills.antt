@@ -283,7 +283,7 @@ module _ (h : Holding) (cell : ℕ → Option Cell) (from k level first b : ℕ)
 
 -- ---- how many blocks it has
 
-some_by_part : (o o' : Option Cell) → cell_part o' ≡ cell_part o → is_some o' ≡ is_some o
+pub some_by_part : (o o' : Option Cell) → cell_part o' ≡ cell_part o → is_some o' ≡ is_some o
 some_by_part None None e = refl
 some_by_part (Some c) (Some d) e = refl
 some_by_part None (Some d) e = cc

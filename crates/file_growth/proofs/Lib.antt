@@ -8,3 +8,4 @@ pub mod Trees
 pub mod Puts
 pub mod Sizes
 pub mod Bare
+pub mod Frees
