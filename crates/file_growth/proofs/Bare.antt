@@ -15,7 +15,7 @@ use Rattle.file_growth.proofs.Places.{size_large}
 use Rattle.file_growth.proofs.Trees.{bare_tree}
 
 -- the content behind a dinode
-content_stuffed : (g : Holding) → height_in g ≡ 0 → content_of g ≡ take (dinode_in g).size (drop dinode_length (bytes_at g g.own))
+pub content_stuffed : (g : Holding) → height_in g ≡ 0 → content_of g ≡ take (dinode_in g).size (drop dinode_length (bytes_at g g.own))
 unfolding content_of
 content_stuffed g none = ap (take (dinode_in g).size) (cond-true _ _ _ (eq-eqb (height_in g) 0 none))
 

@@ -9,3 +9,5 @@ pub mod Puts
 pub mod Sizes
 pub mod Bare
 pub mod Frees
+pub mod Raises
+pub mod Unstuffing
