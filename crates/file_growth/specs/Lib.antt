@@ -1,5 +1,2 @@
-pub mod Files
-pub mod Steps
 pub mod Need
-pub mod Laws
 pub mod Calls

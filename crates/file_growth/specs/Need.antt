@@ -4,7 +4,7 @@ use Rattle.std.specs.List.{range_with_len}
 use Rattle.gfs2_layout.specs.Holding.{Holding}
 use Rattle.gfs2_layout.specs.Inode.{dinode_in, height_in, fan, span, pointer, pieces}
 use Rattle.gfs2_layout.specs.Structures.{dinode_length}
-use Rattle.file_growth.specs.Files.{places_on, block_on}
+use Rattle.growth_laws.specs.Files.{places_on, block_on}
 
 -- ---- the height
 

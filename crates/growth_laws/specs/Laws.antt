@@ -1,0 +1,111 @@
+-- Laws of one step each: it keeps the rules of a file, its content becomes so, and so many blocks are there.
+use Rattle.std.specs.Prelude.{ℕ, ◌≡◌, ◌≢◌, ◌↔◌, ◌⊎◌, ◌+◌, ◌*◌, ◌<◌, ◌≤◌, true, List, ◌++◌, length, take, drop, Option, None, Some}
+use Rattle.file_tree.specs.Apply.{resized, overwritten}
+use Rattle.gfs2_layout.specs.Device.{IsBlockSize}
+use Rattle.gfs2_layout.specs.Holding.{Itself, Cell, Holding, part_at, bytes_at}
+use Rattle.gfs2_layout.specs.Inode.{dinode_in, height_in, span, content_block, content_of, block_count, IsInode}
+use Rattle.gfs2_layout.specs.Structures.{is_regular}
+use Rattle.growth_laws.specs.Files.{IsFile, with_cells, places_on, block_on, IsPlaced}
+use Rattle.growth_laws.specs.Steps.{IsFilled, IsFreed, IsRaised, IsUnstuffed, IsBareTo, IsContentPut, IsStuffedAs, IsSized}
+
+-- ---- files and inodes
+
+-- an inode that is a regular file keeps the rules of one
+abbrev pub InodesAreFiles : Type 0
+InodesAreFiles = (h : Holding) → IsBlockSize h.size → part_at h h.own ≡ Some Itself → part_at h 0 ≡ None → is_regular (dinode_in h) ≡ true → IsInode h → IsFile h
+
+-- a file whose dinode says how many blocks it has is an inode that is sound in itself
+abbrev pub FilesAreInodes : Type 0
+FilesAreInodes = (h : Holding) → IsFile h → (dinode_in h).blocks ≡ block_count h → IsInode h
+
+-- ---- places
+
+-- the block at a place of the tree is the one whose part says that it stands there
+abbrev pub PlacesAreParts : Type 0
+PlacesAreParts = (h : Holding) (level j c : ℕ) → IsFile h → level < height_in h → j < places_on h level → c ≢ 0
+    → (block_on h level j ≡ c) ↔ IsPlaced h c level (j * span h.size level)
+
+-- and each block whose part tells of a pointer stands at a place
+abbrev pub PartsHavePlaces : Type 0
+PartsHavePlaces = (h : Holding) (c level first : ℕ) → IsFile h → IsPlaced h c level first
+    → (j : ℕ) × (first ≡ j * span h.size level) × (j < places_on h level) × (block_on h level j ≡ c)
+
+-- the blocks of content are those on level 0
+abbrev pub ContentIsLevelZero : Type 0
+ContentIsLevelZero = (h : Holding) (i : ℕ) → content_block h i ≡ block_on h 0 i
+
+-- ---- a hole is filled
+
+abbrev pub FillsKeepFiles : Type 0
+FillsKeepFiles = (h : Holding) (cell : ℕ → Option Cell) (from k level first b : ℕ) → IsFile h → IsFilled h cell from k level first b → IsFile (with_cells h cell)
+
+abbrev pub FillsKeepContent : Type 0
+FillsKeepContent = (h : Holding) (cell : ℕ → Option Cell) (from k level first b : ℕ) → IsFile h → IsFilled h cell from k level first b → content_of (with_cells h cell) ≡ content_of h
+
+abbrev pub FillsAddOne : Type 0
+FillsAddOne = (h : Holding) (cell : ℕ → Option Cell) (from k level first b : ℕ) → IsFilled h cell from k level first b → block_count (with_cells h cell) ≡ block_count h + 1
+
+-- one place gets the block, and all others have what they had
+abbrev pub FillsOnePlace : Type 0
+FillsOnePlace = (h : Holding) (cell : ℕ → Option Cell) (from k level first b l j : ℕ) → IsFile h → IsFilled h cell from k level first b → l < height_in h → j < places_on h l
+    → ((l ≡ level) × (j * span h.size l ≡ first) × (block_on h l j ≡ 0) × (block_on (with_cells h cell) l j ≡ b)) ⊎ ((l ≡ level → j * span h.size l ≢ first) × (block_on (with_cells h cell) l j ≡ block_on h l j))
+
+-- ---- a block is freed
+
+abbrev pub FreesKeepFiles : Type 0
+FreesKeepFiles = (h : Holding) (cell : ℕ → Option Cell) (from k level first b : ℕ) → IsFile h → IsFreed h cell from k level first b → IsFile (with_cells h cell)
+
+-- the content before the block stays
+abbrev pub FreesKeepTheFront : Type 0
+FreesKeepTheFront = (h : Holding) (cell : ℕ → Option Cell) (from k level first b n : ℕ) → IsFile h → IsFreed h cell from k level first b
+    → n ≤ first * h.size → take n (content_of (with_cells h cell)) ≡ take n (content_of h)
+
+-- an indirect block carries nothing
+abbrev pub IndirectFreesKeepContent : Type 0
+IndirectFreesKeepContent = (h : Holding) (cell : ℕ → Option Cell) (from k level first b : ℕ) → IsFile h → IsFreed h cell from k level first b → level ≢ 0
+    → content_of (with_cells h cell) ≡ content_of h
+
+abbrev pub FreesTakeOne : Type 0
+FreesTakeOne = (h : Holding) (cell : ℕ → Option Cell) (from k level first b : ℕ) → IsFreed h cell from k level first b → block_count h ≡ block_count (with_cells h cell) + 1
+
+-- ---- the height
+
+abbrev pub RaisesKeepFiles : Type 0
+RaisesKeepFiles = (h : Holding) (cell : ℕ → Option Cell) (level b : ℕ) → IsFile h → IsRaised h cell level b
+    → IsFile (with_cells h cell) × (content_of (with_cells h cell) ≡ content_of h) × (block_count (with_cells h cell) ≡ block_count h + 1)
+
+abbrev pub UnstuffingKeepsFiles : Type 0
+UnstuffingKeepsFiles = (h : Holding) (cell : ℕ → Option Cell) (b : ℕ) → IsFile h → IsUnstuffed h cell b
+    → IsFile (with_cells h cell) × (content_of (with_cells h cell) ≡ content_of h) × (block_count (with_cells h cell) ≡ block_count h + 1)
+
+abbrev pub BareFilesChangeHeight : Type 0
+BareFilesChangeHeight = (h : Holding) (cell : ℕ → Option Cell) (height : ℕ) → IsFile h → IsBareTo h cell height
+    → IsFile (with_cells h cell) × (content_of (with_cells h cell) ≡ content_of h)
+
+-- ---- content and size
+
+-- bytes over those of a block of content from a place on are bytes over the content
+abbrev pub PutsOverwrite : Type 0
+PutsOverwrite = (h : Holding) (cell : ℕ → Option Cell) (i at : ℕ) (new : List ℕ) → IsFile h → at + length new ≤ h.size → i * h.size + at + length new ≤ (dinode_in h).size
+    → IsContentPut h cell i (take at (bytes_at h (content_block h i)) ++ (new ++ drop (at + length new) (bytes_at h (content_block h i))))
+    → IsFile (with_cells h cell) × (content_of (with_cells h cell) ≡ overwritten (i * h.size + at) new (content_of h))
+
+-- content behind the dinode is what was put there
+abbrev pub StuffedContentIsPut : Type 0
+StuffedContentIsPut = (h : Holding) (cell : ℕ → Option Cell) (content : List ℕ) → IsFile h → IsStuffedAs h cell content
+    → IsFile (with_cells h cell) × (content_of (with_cells h cell) ≡ content)
+
+-- the content is cut, or goes on with zeros
+abbrev pub SizesResize : Type 0
+SizesResize = (h : Holding) (cell : ℕ → Option Cell) (size : ℕ) → IsFile h → IsSized h cell size
+    → IsFile (with_cells h cell) × (content_of (with_cells h cell) ≡ resized size (content_of h))
+
+-- ---- what composes
+
+-- writes of two pieces one behind the other are a write of both
+abbrev pub WritesJoin : Type 0
+WritesJoin = (at : ℕ) (front back bytes : List ℕ) → overwritten (at + length front) back (overwritten at front bytes) ≡ overwritten at (front ++ back) bytes
+
+-- a write that ends past the content is a resize to its end and then a write within
+abbrev pub WritesGrowFirst : Type 0
+WritesGrowFirst = (at size : ℕ) (new bytes : List ℕ) → length bytes ≤ size → at + length new ≡ size → overwritten at new (resized size bytes) ≡ overwritten at new bytes

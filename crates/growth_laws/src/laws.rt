@@ -1,0 +1,55 @@
+//! One step each.
+ghost use Rattle.growth_laws.specs.Laws.{BareFilesChangeHeight, ContentIsLevelZero, FilesAreInodes, FillsAddOne, FillsKeepContent, FillsKeepFiles, FillsOnePlace, FreesKeepFiles, FreesKeepTheFront, FreesTakeOne, IndirectFreesKeepContent, InodesAreFiles, PartsHavePlaces, PlacesAreParts, PutsOverwrite, RaisesKeepFiles, SizesResize, StuffedContentIsPut, UnstuffingKeepsFiles, WritesGrowFirst, WritesJoin};
+
+/// A law: an inode that is a regular file keeps the rules of a file, and a file whose dinode counts its blocks those of an inode.
+pub fn files_are_inodes()
+    ensures files { InodesAreFiles }
+    ensures inodes { FilesAreInodes }
+{}
+
+/// A law: the block at a place of a file's tree is the one whose part says so.
+pub fn places_are_parts()
+    ensures parts { PlacesAreParts }
+    ensures places { PartsHavePlaces }
+    ensures content { ContentIsLevelZero }
+{}
+
+/// A law: a file in which a hole is filled is a file with the same content and one block more, at that place.
+pub fn fills_keep_files()
+    ensures files { FillsKeepFiles }
+    ensures content { FillsKeepContent }
+    ensures count { FillsAddOne }
+    ensures place { FillsOnePlace }
+{}
+
+/// A law: a file of which a block is freed that leads nowhere is a file with one block less, and the content before it stays.
+pub fn frees_keep_files()
+    ensures files { FreesKeepFiles }
+    ensures front { FreesKeepTheFront }
+    ensures indirect { IndirectFreesKeepContent }
+    ensures count { FreesTakeOne }
+{}
+
+/// A law: a file that gets another height keeps its content.
+pub fn heights_change()
+    ensures raised { RaisesKeepFiles }
+    ensures unstuffed { UnstuffingKeepsFiles }
+    ensures bare { BareFilesChangeHeight }
+{}
+
+/// A law: bytes put over those of a block of content are put over the content; content in the dinode's block is what was put there.
+pub fn puts_overwrite()
+    ensures blocks { PutsOverwrite }
+    ensures stuffed { StuffedContentIsPut }
+{}
+
+/// A law: another size cuts the content, or lets it go on with zeros.
+pub fn sizes_resize()
+    ensures { SizesResize }
+{}
+
+/// A law: a write piece by piece is a write, and one that ends past the content may grow it first.
+pub fn writes_join()
+    ensures join { WritesJoin }
+    ensures grow { WritesGrowFirst }
+{}
