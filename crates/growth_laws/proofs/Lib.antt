@@ -11,3 +11,4 @@ pub mod Bare
 pub mod Frees
 pub mod Raises
 pub mod Unstuffing
+pub mod Pointing

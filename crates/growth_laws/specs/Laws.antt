@@ -1,10 +1,11 @@
 -- Laws of one step each: it keeps the rules of a file, its content becomes so, and so many blocks are there.
-use Rattle.std.specs.Prelude.{ℕ, ◌≡◌, ◌≢◌, ◌↔◌, ◌⊎◌, ◌+◌, ◌*◌, ◌<◌, ◌≤◌, true, List, ◌++◌, length, take, drop, Option, None, Some}
+use Rattle.std.specs.Prelude.{ℕ, suc, ◌≡◌, ◌≢◌, ◌↔◌, ◌⊎◌, ◌+◌, ◌*◌, ◌^◌, ◌<◌, ◌≤◌, true, List, ◌++◌, length, take, drop, Option, None, Some}
 use Rattle.file_tree.specs.Apply.{resized, overwritten}
 use Rattle.gfs2_layout.specs.Device.{IsBlockSize}
-use Rattle.gfs2_layout.specs.Holding.{Itself, Cell, Holding, part_at, bytes_at}
-use Rattle.gfs2_layout.specs.Inode.{dinode_in, height_in, span, content_block, content_of, block_count, IsInode}
+use Rattle.gfs2_layout.specs.Holding.{Itself, Pointed, Cell, Holding, part_at, bytes_at}
+use Rattle.gfs2_layout.specs.Inode.{dinode_in, height_in, header_length, fan, span, pointer, content_block, content_count, content_of, block_count, IsPointed, IsInode}
 use Rattle.gfs2_layout.specs.Structures.{is_regular}
+use Rattle.growth_laws.specs.Blocks.{IsNewBlock, filled_cells, freed_cells}
 use Rattle.growth_laws.specs.Files.{IsFile, with_cells, places_on, block_on, IsPlaced}
 use Rattle.growth_laws.specs.Steps.{IsFilled, IsFreed, IsRaised, IsUnstuffed, IsBareTo, IsContentPut, IsStuffedAs, IsSized}
 
@@ -109,3 +110,16 @@ WritesJoin = (at : ℕ) (front back bytes : List ℕ) → overwritten (at + leng
 -- a write that ends past the content is a resize to its end and then a write within
 abbrev pub WritesGrowFirst : Type 0
 WritesGrowFirst = (at size : ℕ) (new bytes : List ℕ) → length bytes ≤ size → at + length new ≡ size → overwritten at new (resized size bytes) ≡ overwritten at new bytes
+
+-- ---- steps as bytes
+
+-- a block with a header to which a pointer is put that was 0 fills the hole
+abbrev pub PutPointersFill : Type 0
+PutPointersFill = (h : Holding) (from k level first b : ℕ) (bytes : List ℕ) → IsFile h → IsPointed h 0 from k level first → first < content_count h → h.cell b ≡ None
+    → b ≢ 0 → b < h.count → b < 2 ^ 64 → IsNewBlock h.size level bytes → IsFilled h (filled_cells h from k level first b bytes) from k level first b
+
+-- and 0 put over the pointer to a block that leads nowhere frees that block
+abbrev pub ClearedPointersFree : Type 0
+ClearedPointersFree = (h : Holding) (from k level first b : ℕ) → IsFile h → part_at h b ≡ Some (Pointed from k level first) → b < h.count
+    → ((below j : ℕ) → level ≡ suc below → j < fan h.size header_length → pointer h header_length b j ≡ 0)
+    → IsFreed h (freed_cells h from k b) from k level first b

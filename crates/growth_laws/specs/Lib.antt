@@ -1,3 +1,4 @@
 pub mod Files
 pub mod Steps
+pub mod Blocks
 pub mod Laws

@@ -1,5 +1,5 @@
 //! One step each.
-ghost use Rattle.growth_laws.specs.Laws.{BareFilesChangeHeight, ContentIsLevelZero, FilesAreInodes, FillsAddOne, FillsKeepContent, FillsKeepFiles, FillsOnePlace, FreesKeepFiles, FreesKeepTheFront, FreesTakeOne, IndirectFreesKeepContent, InodesAreFiles, PartsHavePlaces, PlacesAreParts, PutsOverwrite, RaisesKeepFiles, SizesResize, StuffedContentIsPut, UnstuffingKeepsFiles, WritesGrowFirst, WritesJoin};
+ghost use Rattle.growth_laws.specs.Laws.{BareFilesChangeHeight, ClearedPointersFree, ContentIsLevelZero, FilesAreInodes, FillsAddOne, FillsKeepContent, FillsKeepFiles, FillsOnePlace, FreesKeepFiles, FreesKeepTheFront, FreesTakeOne, IndirectFreesKeepContent, InodesAreFiles, PartsHavePlaces, PlacesAreParts, PutPointersFill, PutsOverwrite, RaisesKeepFiles, SizesResize, StuffedContentIsPut, UnstuffingKeepsFiles, WritesGrowFirst, WritesJoin};
 
 /// A law: an inode that is a regular file keeps the rules of a file, and a file whose dinode counts its blocks those of an inode.
 pub fn files_are_inodes()
@@ -28,6 +28,12 @@ pub fn frees_keep_files()
     ensures front { FreesKeepTheFront }
     ensures indirect { IndirectFreesKeepContent }
     ensures count { FreesTakeOne }
+{}
+
+/// A law: a pointer put over 0 fills that hole with a new block, and 0 put over a pointer frees the block to which it led.
+pub fn pointers_are_steps()
+    ensures fill { PutPointersFill }
+    ensures free { ClearedPointersFree }
 {}
 
 /// A law: a file that gets another height keeps its content.
