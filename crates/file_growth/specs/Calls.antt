@@ -12,7 +12,7 @@ use Rattle.dinode_tree.specs.Reading.{inode_lock}
 use Rattle.dinode_tree.specs.Shown.{IsShown}
 use Rattle.glock_names.specs.Views.{Seen}
 use Rattle.growth_laws.specs.Files.{IsFile}
-use Rattle.file_growth.specs.Need.{height_for, needed}
+use Rattle.growth_laws.specs.Need.{height_for, needed}
 
 -- ---- what is asked for
 

@@ -10,7 +10,7 @@ ghost use Rattle.dinode_tree.specs.Broken.{IsBroken};
 ghost use Rattle.dinode_tree.specs.Reading.{IsNeeded};
 ghost use Rattle.dinode_tree.specs.Shown.{IsShown};
 ghost use Rattle.file_growth.specs.Calls.{AreFreeFor, HasResized, HasWritten, IsCounted, IsCutAt, IsLookedAt};
-ghost use Rattle.file_growth.specs.Need.{needed};
+ghost use Rattle.growth_laws.specs.Need.{needed};
 
 use drafts::Draft;
 use glock_names::{CallFault, Step, View};

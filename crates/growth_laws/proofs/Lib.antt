@@ -12,3 +12,4 @@ pub mod Frees
 pub mod Raises
 pub mod Unstuffing
 pub mod Pointing
+pub mod Needing

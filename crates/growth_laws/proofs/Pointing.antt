@@ -1,18 +1,17 @@
 -- A pointer that is put into a block of a file.
-use Rattle.std.proofs.Common.{◌≡◌, ◌≢◌, ◌⊎◌, ℕ, zero, suc, ◌+◌, ◌-◌, ◌*◌, ◌^◌, ◌/◌, ◌<◌, ◌≤◌, inl, inr, List, length, take, Option, Some, None, refl, sym, ap, ap₂, subst, ◌∙◌, arith}
+use Rattle.std.proofs.Common.{◌≡◌, ◌≢◌, ◌⊎◌, ℕ, suc, ◌+◌, ◌*◌, ◌^◌, ◌<◌, ◌≤◌, inl, inr, List, length, Option, Some, None, refl, sym, ap, subst, ◌∙◌, arith}
 use Rattle.std.proofs.lemmas.Bool.{cases_eq, cases_order, cond-true, cond-false, eq-eqb, ne_eqb}
-use Rattle.std.specs.Prelude.{◌==◌, if◌then◌else◌, replicate}
 use Rattle.std.specs.Int.{Width, w16, w32, w64, byte_len}
-use Rattle.gfs2_layout.specs.Bytes.{u16_at, u32_at, u64_at, number_at, with_number}
+use Rattle.gfs2_layout.specs.Bytes.{u32_at, u64_at, number_at}
 use Rattle.gfs2_layout.specs.Headers.{HasHeader}
 use Rattle.gfs2_layout.specs.Holding.{Part, Itself, Pointed, Cell, Holding, cell_bytes, cell_part, part_at, bytes_at}
-use Rattle.gfs2_layout.specs.Inode.{dinode_in, height_in, header_length, fan, span, pointer, content_count, IsPointed, by_dinode, by_block}
+use Rattle.gfs2_layout.specs.Inode.{dinode_in, height_in, header_length, fan, pointer, IsPointed, by_dinode, by_block}
 use Rattle.gfs2_layout.specs.Structures.{dinode_of, dinode_length}
 use Rattle.gfs2_layout.specs.declared.dinode.Dinode.{Dinode}
 use Rattle.gfs2_layout.proofs.InPlace.{is_width_64, length-with, number-with_same, number-with_other}
-use Rattle.growth_laws.specs.Blocks.{start_in, with_pointer, rewritten, repointed, IsNewBlock, filled_cells, freed_cells}
+use Rattle.growth_laws.specs.Blocks.{start_in, with_pointer, rewritten, repointed, filled_cells, freed_cells}
 use Rattle.growth_laws.specs.Files.{IsFile, with_cells}
-use Rattle.growth_laws.specs.Steps.{StaysBut, PointersStayBut, IsFilled, IsFreed}
+use Rattle.growth_laws.specs.Steps.{StaysBut, PointersStayBut}
 use Rattle.growth_laws.specs.Laws.{PutPointersFill, ClearedPointersFree}
 use Rattle.growth_laws.proofs.Parts.{same_level, not_itself}
 use Rattle.growth_laws.proofs.Places.{size_large}
@@ -175,22 +174,22 @@ module _ (h : Holding) (cell : ℕ → Option Cell) (from k level first b old to
   pointers = record {
     of_dinode = λ j apart. elim (cases_eq h.own from) [
       | inl is ↦ elim from_is [
-          | inl own ↦
-              ap (λ y. pointer (with_cells h cell) dinode_length y j) is ∙ ap (u64_at (dinode_length + 8 * j)) bytes_from
-              ∙ ap (λ n. u64_at (n + 8 * j) (with_pointer (start_in h from) k to (bytes_at h from))) (sym own.1)
-              ∙ other_put (bytes_at h from) (start_in h from) k to fits j (apart is) ∙ ap (λ n. u64_at (n + 8 * j) (bytes_at h from)) own.1 ∙ ap (λ y. pointer h dinode_length y j) (sym is)
-          | inr block ↦ absurd (block.4 (sym is))
-        ]
+        | inl own ↦
+            ap (λ y. pointer (with_cells h cell) dinode_length y j) is ∙ ap (u64_at (dinode_length + 8 * j)) bytes_from
+            ∙ ap (λ n. u64_at (n + 8 * j) (with_pointer (start_in h from) k to (bytes_at h from))) (sym own.1)
+            ∙ other_put (bytes_at h from) (start_in h from) k to fits j (apart is) ∙ ap (λ n. u64_at (n + 8 * j) (bytes_at h from)) own.1 ∙ ap (λ y. pointer h dinode_length y j) (sym is)
+        | inr block ↦ absurd (block.4 (sym is))
+      ]
       | inr other ↦ ap (λ c. u64_at (dinode_length + 8 * j) (cell_bytes c)) (cell_other h.own own_other other)
     ];
     of_blocks = λ x j no_own no_new apart. elim (cases_eq x from) [
       | inl is ↦ elim from_is [
-          | inl own ↦ absurd (no_own (is ∙ own.0))
-          | inr block ↦
-              ap (λ y. pointer (with_cells h cell) header_length y j) is ∙ ap (u64_at (header_length + 8 * j)) bytes_from
-              ∙ ap (λ n. u64_at (n + 8 * j) (with_pointer (start_in h from) k to (bytes_at h from))) (sym block.5)
-              ∙ other_put (bytes_at h from) (start_in h from) k to fits j (apart is) ∙ ap (λ n. u64_at (n + 8 * j) (bytes_at h from)) block.5 ∙ ap (λ y. pointer h header_length y j) (sym is)
-        ]
+        | inl own ↦ absurd (no_own (is ∙ own.0))
+        | inr block ↦
+            ap (λ y. pointer (with_cells h cell) header_length y j) is ∙ ap (u64_at (header_length + 8 * j)) bytes_from
+            ∙ ap (λ n. u64_at (n + 8 * j) (with_pointer (start_in h from) k to (bytes_at h from))) (sym block.5)
+            ∙ other_put (bytes_at h from) (start_in h from) k to fits j (apart is) ∙ ap (λ n. u64_at (n + 8 * j) (bytes_at h from)) block.5 ∙ ap (λ y. pointer h header_length y j) (sym is)
+      ]
       | inr other ↦ ap (λ c. u64_at (header_length + 8 * j) (cell_bytes c)) (cell_other x no_new other)
     ];
   }
@@ -199,11 +198,11 @@ module _ (h : Holding) (cell : ℕ → Option Cell) (from k level first b old to
   unfolding dinode_in
   dinode_same = elim (cases_eq h.own from) [
     | inl is ↦ elim from_is [
-        | inl own ↦
-            ap (λ y. dinode_of (bytes_at (with_cells h cell) y)) is ∙ ap dinode_of bytes_from
-            ∙ dinode_put (bytes_at h from) (start_in h from) k to fits (omega (arith, own.1)) ∙ ap (λ y. dinode_of (bytes_at h y)) (sym is)
-        | inr block ↦ absurd (block.4 (sym is))
-      ]
+      | inl own ↦
+          ap (λ y. dinode_of (bytes_at (with_cells h cell) y)) is ∙ ap dinode_of bytes_from
+          ∙ dinode_put (bytes_at h from) (start_in h from) k to fits (omega (arith, own.1)) ∙ ap (λ y. dinode_of (bytes_at h y)) (sym is)
+      | inr block ↦ absurd (block.4 (sym is))
+    ]
     | inr other ↦ ap (λ c. dinode_of (cell_bytes c)) (cell_other h.own own_other other)
   ]
 

@@ -1,9 +1,9 @@
 -- Steps as the bytes of blocks: a pointer put into a block, and a block that comes or goes.
-use Rattle.std.specs.Prelude.{ℕ, suc, ◌≡◌, ◌≢◌, ◌+◌, ◌*◌, ◌^◌, ◌<◌, ◌==◌, if◌then◌else◌, List, length, replicate, Option, None, Some}
+use Rattle.std.specs.Prelude.{ℕ, suc, ◌≡◌, ◌+◌, ◌*◌, ◌==◌, if◌then◌else◌, List, length, replicate, Option, None, Some}
 use Rattle.std.specs.Int.{w64}
 use Rattle.gfs2_layout.specs.Bytes.{u64_at, with_number}
 use Rattle.gfs2_layout.specs.Headers.{HasHeader}
-use Rattle.gfs2_layout.specs.Holding.{Part, Pointed, Cell, Holding}
+use Rattle.gfs2_layout.specs.Holding.{Pointed, Cell, Holding}
 use Rattle.gfs2_layout.specs.Inode.{header_length}
 use Rattle.gfs2_layout.specs.Structures.{dinode_length}
 

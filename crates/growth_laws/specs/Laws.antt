@@ -7,6 +7,7 @@ use Rattle.gfs2_layout.specs.Inode.{dinode_in, height_in, header_length, fan, sp
 use Rattle.gfs2_layout.specs.Structures.{is_regular}
 use Rattle.growth_laws.specs.Blocks.{IsNewBlock, filled_cells, freed_cells}
 use Rattle.growth_laws.specs.Files.{IsFile, with_cells, places_on, block_on, IsPlaced}
+use Rattle.growth_laws.specs.Need.{is_over, needed_below}
 use Rattle.growth_laws.specs.Steps.{IsFilled, IsFreed, IsRaised, IsUnstuffed, IsBareTo, IsContentPut, IsStuffedAs, IsSized}
 
 -- ---- files and inodes
@@ -50,6 +51,11 @@ FillsAddOne = (h : Holding) (cell : ℕ → Option Cell) (from k level first b :
 abbrev pub FillsOnePlace : Type 0
 FillsOnePlace = (h : Holding) (cell : ℕ → Option Cell) (from k level first b l j : ℕ) → IsFile h → IsFilled h cell from k level first b → l < height_in h → j < places_on h l
     → ((l ≡ level) × (j * span h.size l ≡ first) × (block_on h l j ≡ 0) × (block_on (with_cells h cell) l j ≡ b)) ⊎ ((l ≡ level → j * span h.size l ≢ first) × (block_on (with_cells h cell) l j ≡ block_on h l j))
+
+-- a block that fills a hole on the way of a write to a file that is high enough is one that it needed
+abbrev pub FillsLowerNeed : Type 0
+FillsLowerNeed = (h : Holding) (cell : ℕ → Option Cell) (from k level first b at end j : ℕ) → IsFile h → IsFilled h cell from k level first b
+    → first ≡ j * span h.size level → is_over h.size at end level j ≡ true → needed_below h at end (height_in h) ≡ needed_below (with_cells h cell) at end (height_in h) + 1
 
 -- ---- a block is freed
 

@@ -1,5 +1,5 @@
 //! One step each.
-ghost use Rattle.growth_laws.specs.Laws.{BareFilesChangeHeight, ClearedPointersFree, ContentIsLevelZero, FilesAreInodes, FillsAddOne, FillsKeepContent, FillsKeepFiles, FillsOnePlace, FreesKeepFiles, FreesKeepTheFront, FreesTakeOne, IndirectFreesKeepContent, InodesAreFiles, PartsHavePlaces, PlacesAreParts, PutPointersFill, PutsOverwrite, RaisesKeepFiles, SizesResize, StuffedContentIsPut, UnstuffingKeepsFiles, WritesGrowFirst, WritesJoin};
+ghost use Rattle.growth_laws.specs.Laws.{BareFilesChangeHeight, ClearedPointersFree, ContentIsLevelZero, FilesAreInodes, FillsAddOne, FillsKeepContent, FillsKeepFiles, FillsLowerNeed, FillsOnePlace, FreesKeepFiles, FreesKeepTheFront, FreesTakeOne, IndirectFreesKeepContent, InodesAreFiles, PartsHavePlaces, PlacesAreParts, PutPointersFill, PutsOverwrite, RaisesKeepFiles, SizesResize, StuffedContentIsPut, UnstuffingKeepsFiles, WritesGrowFirst, WritesJoin};
 
 /// A law: an inode that is a regular file keeps the rules of a file, and a file whose dinode counts its blocks those of an inode.
 pub fn files_are_inodes()
@@ -14,12 +14,14 @@ pub fn places_are_parts()
     ensures content { ContentIsLevelZero }
 {}
 
-/// A law: a file in which a hole is filled is a file with the same content and one block more, at that place.
+/// A law: a file in which a hole is filled is a file with the same content and one block more, at that place; and where
+/// a write needed that block, it needs one less.
 pub fn fills_keep_files()
     ensures files { FillsKeepFiles }
     ensures content { FillsKeepContent }
     ensures count { FillsAddOne }
     ensures place { FillsOnePlace }
+    ensures need { FillsLowerNeed }
 {}
 
 /// A law: a file of which a block is freed that leads nowhere is a file with one block less, and the content before it stays.

@@ -1,4 +1,5 @@
 use Rattle.growth_laws.proofs.Fills.{fills_keep_files, fills_keep_content, count_after, fills_one_place}
+use Rattle.growth_laws.proofs.Needing.{fills_lower_need}
 use Rattle.growth_laws.proofs.laws.fills_keep_files.Goals as goal
 
 pub returns-clause-files : goal.returns-clause-files
@@ -12,3 +13,6 @@ returns-clause-count c = count_after
 
 pub returns-clause-place : goal.returns-clause-place
 returns-clause-place c = fills_one_place
+
+pub returns-clause-need : goal.returns-clause-need
+returns-clause-need c = fills_lower_need

@@ -1,5 +1,5 @@
 -- How many blocks a write needs: those of the places on its way that have none.
-use Rattle.std.specs.Prelude.{ℕ, zero, suc, ◌≡◌, ◌+◌, ◌-◌, ◌*◌, ◌/◌, ◌<◌, ◌≤◌, ◌==◌, ◌&&◌, ◌||◌, not, nat_lt, Bool, true, false, if◌then◌else◌, min, max, List, count_by, sum, map}
+use Rattle.std.specs.Prelude.{ℕ, zero, suc, ◌+◌, ◌-◌, ◌*◌, ◌==◌, ◌&&◌, ◌||◌, not, nat_lt, Bool, if◌then◌else◌, max, count_by}
 use Rattle.std.specs.List.{range_with_len}
 use Rattle.gfs2_layout.specs.Holding.{Holding}
 use Rattle.gfs2_layout.specs.Inode.{dinode_in, height_in, fan, span, pointer, pieces}
@@ -50,9 +50,11 @@ is_needed h at end level j = is_on_way h at end level j && not (is_there h level
 abbrev pub needed_on : Holding → ℕ → ℕ → ℕ → ℕ
 needed_on h at end level = count_by (is_needed h at end level) (range_with_len 0 (max 1 (pieces end (span h.size level * h.size))))
 
--- How many blocks a write of so many bytes from a place on needs, in a file that has this height afterwards: on each level.
+-- How many blocks a write from `at` up to `end` needs on the levels below this one.
 abbrev pub needed_below : Holding → ℕ → ℕ → ℕ → ℕ
-needed_below h at end height = sum (map (needed_on h at end) (range_with_len 0 height))
+needed_below h at end zero = 0
+needed_below h at end (suc level) = needed_on h at end level + needed_below h at end level
 
+-- How many blocks a write of so many bytes from a place on needs: on all levels of the file as high as it is afterwards.
 abbrev pub needed : Holding → ℕ → ℕ → ℕ
 needed h at len = needed_below h at (at + len) (height_for h (max (dinode_in h).size (at + len)))
