@@ -10,7 +10,7 @@ use Rattle.gfs2_layout.specs.Structures.{dinode_length}
 use Rattle.dinode_tree.proofs.Pointers.{descend_zero, descend_one}
 use Rattle.dinode_tree.proofs.Spans.{span_some}
 use Rattle.growth_laws.specs.Files.{IsFile, places_on, block_on, IsPlaced}
-use Rattle.growth_laws.specs.Laws.{PlacesAreParts, PartsHavePlaces, ContentIsLevelZero}
+use Rattle.growth_laws.specs.Laws.{PlacesAreParts, PartsHavePlaces, ContentIsLevelZero, TopPlacesAreThePointers, PlacesFollowPointers}
 
 pub size_large : (size : ℕ) → IsBlockSize size → 512 ≤ size
 size_large size (inl e) = omega (arith, e)
@@ -185,3 +185,23 @@ unfolding content_block
 content_is_level_zero h i =
     let same : height_in h - 1 ≡ height_in h - 1 - 0 = omega arith in
     ap (λ l. descend h l (pointer h dinode_length h.own (i / span h.size l)) (i % span h.size l)) same
+
+pub top_places_are_the_pointers : TopPlacesAreThePointers
+top_places_are_the_pointers h level j file high low =
+    let pointed : IsPointed h (pointer h dinode_length h.own j) h.own j level (j * span h.size level) = by_dinode refl high low refl refl in
+    let found = place_of_pointer h file (pointer h dinode_length h.own j) h.own j level (j * span h.size level) pointed in
+    let same : j ≡ found.0 = cancelled j found.0 (span h.size level) (span_some h.size level (size_large h.size file.block_size)) found.1 in
+    (ap (block_on h level) same ∙ found.3, pointed)
+
+pub places_follow_pointers : PlacesFollowPointers
+places_follow_pointers h level q k c file less low near is some =
+    let placed = (part_there h file (suc level) q c less low some).0 is in
+    let firsts : (q * fan h.size header_length + k) * span h.size level ≡ q * span h.size (suc level) + k * span h.size level = sums q (fan h.size header_length) k (span h.size level) in
+    let pointed : IsPointed h (pointer h header_length c k) c k level ((q * fan h.size header_length + k) * span h.size level)
+    = by_block placed.0 placed.1 (q * span h.size (suc level)) placed.2 near refl firsts in
+    let found = place_of_pointer h file (pointer h header_length c k) c k level ((q * fan h.size header_length + k) * span h.size level) pointed in
+    let same : q * fan h.size header_length + k ≡ found.0 = cancelled (q * fan h.size header_length + k) found.0 (span h.size level) (span_some h.size level (size_large h.size file.block_size)) found.1 in
+    (ap (block_on h level) same ∙ found.3, pointed)
+  where
+    sums : (q f k s : ℕ) → (q * f + k) * s ≡ q * (f * s) + k * s
+    sums q f k s = omega arith

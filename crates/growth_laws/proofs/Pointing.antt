@@ -9,10 +9,10 @@ use Rattle.gfs2_layout.specs.Inode.{dinode_in, height_in, header_length, fan, po
 use Rattle.gfs2_layout.specs.Structures.{dinode_of, dinode_length}
 use Rattle.gfs2_layout.specs.declared.dinode.Dinode.{Dinode}
 use Rattle.gfs2_layout.proofs.InPlace.{is_width_64, length-with, number-with_same, number-with_other}
-use Rattle.growth_laws.specs.Blocks.{start_in, with_pointer, rewritten, repointed, filled_cells, freed_cells}
+use Rattle.growth_laws.specs.Blocks.{start_in, with_pointer, rewritten, rewritten_cells, repointed, filled_cells, freed_cells}
 use Rattle.growth_laws.specs.Files.{IsFile, with_cells}
 use Rattle.growth_laws.specs.Steps.{StaysBut, PointersStayBut}
-use Rattle.growth_laws.specs.Laws.{PutPointersFill, ClearedPointersFree}
+use Rattle.growth_laws.specs.Laws.{PutPointersFill, ClearedPointersFree, RewritesKeepTheRest}
 use Rattle.growth_laws.proofs.Parts.{same_level, not_itself}
 use Rattle.growth_laws.proofs.Places.{size_large}
 
@@ -271,3 +271,18 @@ cleared_pointers_free h from k level first b file part inside nowhere = record {
       where
         same : Some p ≡ Some (Pointed from k level first) → p ≡ Pointed from k level first
         same e = cc
+
+pub rewrites_keep_the_rest : RewritesKeepTheRest
+rewrites_keep_the_rest h x p bytes part = (parts, ap cell_bytes here ∙ rewritten_bytes (λ old. bytes) (h.cell x) p part, λ y other. ap cell_bytes (elsewhere y other))
+  where
+    here : rewritten_cells h x bytes x ≡ rewritten (λ old. bytes) (h.cell x)
+    here = cond-true _ _ _ (eq-eqb x x refl)
+
+    elsewhere : (y : ℕ) → y ≢ x → rewritten_cells h x bytes y ≡ h.cell y
+    elsewhere y other = cond-false _ _ _ (ne_eqb y x other)
+
+    parts : (y : ℕ) → part_at (with_cells h (rewritten_cells h x bytes)) y ≡ part_at h y
+    parts y = elim (cases_eq y x) [
+      | inl is ↦ ap (part_at (with_cells h (rewritten_cells h x bytes))) is ∙ ap cell_part here ∙ rewritten_part (λ old. bytes) (h.cell x) ∙ ap (part_at h) (sym is)
+      | inr other ↦ ap cell_part (elsewhere y other)
+    ]

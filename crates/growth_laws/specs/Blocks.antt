@@ -20,6 +20,10 @@ abbrev pub rewritten : (List ℕ → List ℕ) → Option Cell → Option Cell
 rewritten f None = None
 rewritten f (Some c) = Some (record c { bytes = f c.bytes })
 
+-- the inode's blocks with other bytes in one of them
+abbrev pub rewritten_cells : Holding → ℕ → List ℕ → ℕ → Option Cell
+rewritten_cells h x bytes y = if y == x then rewritten (λ old. bytes) (h.cell y) else h.cell y
+
 -- the inode's blocks with another pointer in one of them
 abbrev pub repointed : Holding → ℕ → ℕ → ℕ → ℕ → Option Cell
 repointed h from k to x = if x == from then rewritten (with_pointer (start_in h from) k to) (h.cell x) else h.cell x

@@ -2,10 +2,10 @@
 use Rattle.std.specs.Prelude.{ℕ, suc, ◌≡◌, ◌≢◌, ◌↔◌, ◌⊎◌, ◌+◌, ◌*◌, ◌^◌, ◌<◌, ◌≤◌, true, List, ◌++◌, length, take, drop, Option, None, Some}
 use Rattle.file_tree.specs.Apply.{resized, overwritten}
 use Rattle.gfs2_layout.specs.Device.{IsBlockSize}
-use Rattle.gfs2_layout.specs.Holding.{Itself, Pointed, Cell, Holding, part_at, bytes_at}
+use Rattle.gfs2_layout.specs.Holding.{Part, Itself, Pointed, Cell, Holding, part_at, bytes_at}
 use Rattle.gfs2_layout.specs.Inode.{dinode_in, height_in, header_length, fan, span, pointer, content_block, content_count, content_of, block_count, IsPointed, IsInode}
-use Rattle.gfs2_layout.specs.Structures.{is_regular}
-use Rattle.growth_laws.specs.Blocks.{IsNewBlock, filled_cells, freed_cells}
+use Rattle.gfs2_layout.specs.Structures.{dinode_length, is_regular}
+use Rattle.growth_laws.specs.Blocks.{IsNewBlock, rewritten_cells, filled_cells, freed_cells}
 use Rattle.growth_laws.specs.Files.{IsFile, with_cells, places_on, block_on, IsPlaced}
 use Rattle.growth_laws.specs.Need.{is_over, needed_below}
 use Rattle.growth_laws.specs.Steps.{IsFilled, IsFreed, IsRaised, IsUnstuffed, IsBareTo, IsContentPut, IsStuffedAs, IsSized}
@@ -35,6 +35,17 @@ PartsHavePlaces = (h : Holding) (c level first : ℕ) → IsFile h → IsPlaced 
 -- the blocks of content are those on level 0
 abbrev pub ContentIsLevelZero : Type 0
 ContentIsLevelZero = (h : Holding) (i : ℕ) → content_block h i ≡ block_on h 0 i
+
+-- the places of the highest level are the dinode's pointers
+abbrev pub TopPlacesAreThePointers : Type 0
+TopPlacesAreThePointers = (h : Holding) (level j : ℕ) → IsFile h → height_in h ≡ suc level → j < fan h.size dinode_length
+    → (block_on h level j ≡ pointer h dinode_length h.own j) × IsPointed h (pointer h dinode_length h.own j) h.own j level (j * span h.size level)
+
+-- and those of a lower one the pointers of the blocks of the level above
+abbrev pub PlacesFollowPointers : Type 0
+PlacesFollowPointers = (h : Holding) (level q k c : ℕ) → IsFile h → suc level < height_in h → q < places_on h (suc level) → k < fan h.size header_length → block_on h (suc level) q ≡ c → c ≢ 0
+    → (block_on h level (q * fan h.size header_length + k) ≡ pointer h header_length c k)
+    × IsPointed h (pointer h header_length c k) c k level ((q * fan h.size header_length + k) * span h.size level)
 
 -- ---- a hole is filled
 
@@ -118,6 +129,12 @@ abbrev pub WritesGrowFirst : Type 0
 WritesGrowFirst = (at size : ℕ) (new bytes : List ℕ) → length bytes ≤ size → at + length new ≡ size → overwritten at new (resized size bytes) ≡ overwritten at new bytes
 
 -- ---- steps as bytes
+
+-- a block with other bytes keeps its part, and every other block what it had
+abbrev pub RewritesKeepTheRest : Type 0
+RewritesKeepTheRest = (h : Holding) (x : ℕ) (p : Part) (bytes : List ℕ) → part_at h x ≡ Some p
+    → ((y : ℕ) → part_at (with_cells h (rewritten_cells h x bytes)) y ≡ part_at h y) × (bytes_at (with_cells h (rewritten_cells h x bytes)) x ≡ bytes)
+    × ((y : ℕ) → y ≢ x → bytes_at (with_cells h (rewritten_cells h x bytes)) y ≡ bytes_at h y)
 
 -- a block with a header to which a pointer is put that was 0 fills the hole
 abbrev pub PutPointersFill : Type 0

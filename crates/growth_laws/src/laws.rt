@@ -1,5 +1,5 @@
 //! One step each.
-ghost use Rattle.growth_laws.specs.Laws.{BareFilesChangeHeight, ClearedPointersFree, ContentIsLevelZero, FilesAreInodes, FillsAddOne, FillsKeepContent, FillsKeepFiles, FillsLowerNeed, FillsOnePlace, FreesKeepFiles, FreesKeepTheFront, FreesTakeOne, IndirectFreesKeepContent, InodesAreFiles, PartsHavePlaces, PlacesAreParts, PutPointersFill, PutsOverwrite, RaisesKeepFiles, SizesResize, StuffedContentIsPut, UnstuffingKeepsFiles, WritesGrowFirst, WritesJoin};
+ghost use Rattle.growth_laws.specs.Laws.{BareFilesChangeHeight, ClearedPointersFree, ContentIsLevelZero, FilesAreInodes, FillsAddOne, FillsKeepContent, FillsKeepFiles, FillsLowerNeed, FillsOnePlace, FreesKeepFiles, FreesKeepTheFront, FreesTakeOne, IndirectFreesKeepContent, InodesAreFiles, PartsHavePlaces, PlacesAreParts, PlacesFollowPointers, PutPointersFill, PutsOverwrite, RaisesKeepFiles, RewritesKeepTheRest, SizesResize, StuffedContentIsPut, TopPlacesAreThePointers, UnstuffingKeepsFiles, WritesGrowFirst, WritesJoin};
 
 /// A law: an inode that is a regular file keeps the rules of a file, and a file whose dinode counts its blocks those of an inode.
 pub fn files_are_inodes()
@@ -7,11 +7,14 @@ pub fn files_are_inodes()
     ensures inodes { FilesAreInodes }
 {}
 
-/// A law: the block at a place of a file's tree is the one whose part says so.
+/// A law: the block at a place of a file's tree is the one whose part says so, and the one to which the
+/// pointer of that place leads.
 pub fn places_are_parts()
     ensures parts { PlacesAreParts }
     ensures places { PartsHavePlaces }
     ensures content { ContentIsLevelZero }
+    ensures top { TopPlacesAreThePointers }
+    ensures lower { PlacesFollowPointers }
 {}
 
 /// A law: a file in which a hole is filled is a file with the same content and one block more, at that place; and where
@@ -32,10 +35,12 @@ pub fn frees_keep_files()
     ensures count { FreesTakeOne }
 {}
 
-/// A law: a pointer put over 0 fills that hole with a new block, and 0 put over a pointer frees the block to which it led.
+/// A law: a pointer put over 0 fills that hole with a new block, and 0 put over a pointer frees the block to which it led; and
+/// other bytes in a block leave every part and every other block.
 pub fn pointers_are_steps()
     ensures fill { PutPointersFill }
     ensures free { ClearedPointersFree }
+    ensures rewritten { RewritesKeepTheRest }
 {}
 
 /// A law: a file that gets another height keeps its content.
