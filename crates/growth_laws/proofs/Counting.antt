@@ -35,6 +35,14 @@ count_more p q b a (suc n) low high before after same = elim (cases_eq b a) [
       omega (arith, step_of p a n, step_of q a n, head, rest)
 ]
 
+-- where one passes, not none do
+pub count_some : (p : ℕ → Bool) (b a n : ℕ) → a ≤ b → b < a + n → p b ≡ true → count_by p (range_with_len a n) ≢ 0
+count_some p b a zero low high passes none = omega (arith, low, high)
+count_some p b a (suc n) low high passes none = elim (cases_eq b a) [
+  | inl e ↦ let head : one_if (p a) ≡ 1 = ap one_if (ap p (sym e) ∙ passes) in omega (arith, step_of p a n, head, none)
+  | inr d ↦ count_some p b (a + 1) n (omega (arith, low, d)) (omega (arith, high)) passes (omega (arith, step_of p a n, none))
+]
+
 -- pieces that are the same joined are the same
 pub joined_same : (f g : ℕ → List ℕ) (a n : ℕ) → ((x : ℕ) → a ≤ x → x < a + n → f x ≡ g x) → flat_map f (range_with_len a n) ≡ flat_map g (range_with_len a n)
 joined_same f g a zero same = refl

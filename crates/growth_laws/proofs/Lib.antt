@@ -13,3 +13,4 @@ pub mod Raises
 pub mod Unstuffing
 pub mod Pointing
 pub mod Needing
+pub mod Rising

@@ -22,13 +22,13 @@ or_false : (b : Bool) → (b || false) ≡ b
 or_false true = refl
 or_false false = refl
 
-and_false : (a b c : Bool) → b ≡ false → (a && b && c) ≡ false
+pub and_false : (a b c : Bool) → b ≡ false → (a && b && c) ≡ false
 and_false true true c e = let both : true ≡ false = e in absurd (cc)
 and_false true false c e = refl
 and_false false b c e = refl
 
 -- on a level that is there, the places on the way are those over the write's bytes
-on_way : (h : Holding) (at end l j : ℕ) → l < height_in h → is_on_way h at end l j ≡ is_over h.size at end l j
+pub on_way : (h : Holding) (at end l j : ℕ) → l < height_in h → is_on_way h at end l j ≡ is_over h.size at end l j
 on_way h at end l j less =
     let is : nat_lt l (height_in h) ≡ true = lt-ltb l (height_in h) less in
     ap (λ b. is_over h.size at end l j || (not b && j == 0 && has_content h)) is ∙ or_false (is_over h.size at end l j)

@@ -51,7 +51,7 @@ module _ (h : Holding) (cell : ℕ → Option Cell) (level b : ℕ) (file : IsFi
   large : 512 ≤ h.size
   large = size_large h.size file.block_size
 
-  height_is : height_in (with_cells h cell) ≡ suc (suc level)
+  pub height_is : height_in (with_cells h cell) ≡ suc (suc level)
   height_is = ap (λ (d : Dinode). d.height) f.dinode
 
   size_same : (dinode_in (with_cells h cell)).size ≡ (dinode_in h).size
@@ -227,6 +227,22 @@ module _ (h : Holding) (cell : ℕ → Option Cell) (level b : ℕ) (file : IsFi
     where
       chained : {hash place : ℕ} → Some (InChain hash place) ≡ Some (Pointed h.own 0 (suc level) 0) → ⊥
       chained e = cc
+
+  pub placed_back : (c l s : ℕ) → l < suc level → IsPlaced (with_cells h cell) c l s → IsPlaced h c l s
+  placed_back c l s low placed = elim (new_or_old c placed.0 placed.1 l s placed.2) [
+    | inl new ↦ absurd (omega (arith, low, same_level new.1))
+    | inr old ↦ (old.0, placed.1, old.2)
+  ]
+
+  pub placed_on : (c l s : ℕ) → IsPlaced h c l s → IsPlaced (with_cells h cell) c l s
+  placed_on c l s placed = (moved_from h.own b placed.0, placed.1, moves c placed.0 placed.1 l s placed.2)
+
+  -- what stands on the new level is the new block
+  pub only_first : (c s : ℕ) → IsPlaced (with_cells h cell) c (suc level) s → s ≡ 0
+  only_first c s placed = elim (new_or_old c placed.0 placed.1 (suc level) s placed.2) [
+    | inl new ↦ same_first new.1
+    | inr old ↦ absurd (omega (arith, f.high, file.tree.below c old.0 placed.1 (suc level) s old.2))
+  ]
 
   -- ---- content
 

@@ -25,7 +25,7 @@ module _ (h : Holding) (cell : ℕ → Option Cell) (b : ℕ) (file : IsFile h) 
   large : 512 ≤ h.size
   large = size_large h.size file.block_size
 
-  height_is : height_in (with_cells h cell) ≡ 1
+  pub height_is : height_in (with_cells h cell) ≡ 1
   height_is = ap (λ (d : Dinode). d.height) f.dinode
 
   size_same : (dinode_in (with_cells h cell)).size ≡ (dinode_in h).size
@@ -60,7 +60,7 @@ module _ (h : Holding) (cell : ℕ → Option Cell) (b : ℕ) (file : IsFile h) 
   own_old : h.own ≢ b
   own_old same = let both : Some Itself ≡ None = sym file.own ∙ ap (part_at h) same ∙ ap cell_part f.new in absurd (cc)
 
-  only_new : (x a j l s : ℕ) → part_at (with_cells h cell) x ≡ Some (Pointed a j l s) → (x ≡ b) × (Some (Pointed a j l s) ≡ Some (Pointed h.own 0 0 0))
+  pub only_new : (x a j l s : ℕ) → part_at (with_cells h cell) x ≡ Some (Pointed a j l s) → (x ≡ b) × (Some (Pointed a j l s) ≡ Some (Pointed h.own 0 0 0))
   only_new x a j l s part = elim (cases_eq x b) [
     | inl is ↦ (is, sym part ∙ ap (part_at (with_cells h cell)) is ∙ f.part)
     | inr apart ↦ absurd (none_before x a j l s (sym (f.parts x apart) ∙ part))
@@ -94,7 +94,7 @@ module _ (h : Holding) (cell : ℕ → Option Cell) (b : ℕ) (file : IsFile h) 
       ap length f.bytes
       ∙ omega (arith, length-append (content_of h) (replicate (h.size - (dinode_in h).size) 0), content_size, length-replicate {A = ℕ} (h.size - (dinode_in h).size) 0, small)
 
-  file_after : IsFile (with_cells h cell)
+  pub file_after : IsFile (with_cells h cell)
   file_after = record {
     block_size = file.block_size;
     own = f.parts h.own own_old ∙ file.own;

@@ -100,6 +100,15 @@ abbrev pub BareFilesChangeHeight : Type 0
 BareFilesChangeHeight = (h : Holding) (cell : ℕ → Option Cell) (height : ℕ) → IsFile h → IsBareTo h cell height
     → IsFile (with_cells h cell) × (content_of (with_cells h cell) ≡ content_of h)
 
+-- the block that is taken is one that a higher file needs
+abbrev pub RaisesLowerNeed : Type 0
+RaisesLowerNeed = (h : Holding) (cell : ℕ → Option Cell) (level b at end height : ℕ) → IsFile h → IsRaised h cell level b → suc level < height
+    → needed_below h at end height ≡ needed_below (with_cells h cell) at end height + 1
+
+abbrev pub UnstuffingLowersNeed : Type 0
+UnstuffingLowersNeed = (h : Holding) (cell : ℕ → Option Cell) (b at end height : ℕ) → IsFile h → IsUnstuffed h cell b → 0 < height
+    → needed_below h at end height ≡ needed_below (with_cells h cell) at end height + 1
+
 -- ---- content and size
 
 -- bytes over those of a block of content from a place on are bytes over the content

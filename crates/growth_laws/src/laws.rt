@@ -1,5 +1,5 @@
 //! One step each.
-ghost use Rattle.growth_laws.specs.Laws.{BareFilesChangeHeight, ClearedPointersFree, ContentIsLevelZero, FilesAreInodes, FillsAddOne, FillsKeepContent, FillsKeepFiles, FillsLowerNeed, FillsOnePlace, FreesKeepFiles, FreesKeepTheFront, FreesTakeOne, IndirectFreesKeepContent, InodesAreFiles, PartsHavePlaces, PlacesAreParts, PlacesFollowPointers, PutPointersFill, PutsOverwrite, RaisesKeepFiles, RewritesKeepTheRest, SizesResize, StuffedContentIsPut, TopPlacesAreThePointers, UnstuffingKeepsFiles, WritesGrowFirst, WritesJoin};
+ghost use Rattle.growth_laws.specs.Laws.{BareFilesChangeHeight, ClearedPointersFree, ContentIsLevelZero, FilesAreInodes, FillsAddOne, FillsKeepContent, FillsKeepFiles, FillsLowerNeed, FillsOnePlace, FreesKeepFiles, FreesKeepTheFront, FreesTakeOne, IndirectFreesKeepContent, InodesAreFiles, PartsHavePlaces, PlacesAreParts, PlacesFollowPointers, PutPointersFill, PutsOverwrite, RaisesKeepFiles, RaisesLowerNeed, RewritesKeepTheRest, SizesResize, StuffedContentIsPut, TopPlacesAreThePointers, UnstuffingKeepsFiles, UnstuffingLowersNeed, WritesGrowFirst, WritesJoin};
 
 /// A law: an inode that is a regular file keeps the rules of a file, and a file whose dinode counts its blocks those of an inode.
 pub fn files_are_inodes()
@@ -43,11 +43,13 @@ pub fn pointers_are_steps()
     ensures rewritten { RewritesKeepTheRest }
 {}
 
-/// A law: a file that gets another height keeps its content.
+/// A law: a file that gets another height keeps its content; and a higher file needed the block that this took.
 pub fn heights_change()
     ensures raised { RaisesKeepFiles }
     ensures unstuffed { UnstuffingKeepsFiles }
     ensures bare { BareFilesChangeHeight }
+    ensures raised_need { RaisesLowerNeed }
+    ensures unstuffed_need { UnstuffingLowersNeed }
 {}
 
 /// A law: bytes put over those of a block of content are put over the content; content in the dinode's block is what was put there.
