@@ -14,3 +14,5 @@ pub mod Unstuffing
 pub mod Pointing
 pub mod Needing
 pub mod Rising
+pub mod Numbers
+pub mod Lacking

@@ -33,6 +33,23 @@ on_way h at end l j less =
     let is : nat_lt l (height_in h) ≡ true = lt-ltb l (height_in h) less in
     ap (λ b. is_over h.size at end l j || (not b && j == 0 && has_content h)) is ∙ or_false (is_over h.size at end l j)
 
+-- a place over the bytes of a write begins before its end
+pub place_in_range : (size at end level j : ℕ) → 512 ≤ size → is_over size at end level j ≡ true → j < max 1 (pieces end (span size level * size))
+place_in_range size at end level j large over =
+    let each = span size level * size in
+    let some : 1 ≤ span size level * size = one-le-mul (span_some size level large) (omega (arith, large)) in
+    let begins : j * each < end = omega (arith, begin_of (nat_lt at end) (j * span size level * size) end (nat_lt at ((j + 1) * span size level * size)) over) in
+    let quotient : (j * each + 0) / each ≡ j = div-mul-add j each 0 (omega (arith, some)) in
+    let within : j * each / each < pieces end each = piece_within (j * each) end each (omega (arith, some)) begins in
+    let same : j * each + 0 ≡ j * each = omega arith in
+    omega (arith, within, ap (λ n. n / each) same, quotient)
+  where
+    begin_of : (a : Bool) (m n : ℕ) (c : Bool) → (a && nat_lt m n && c) ≡ true → m < n
+    begin_of a m n c e = elim (cases_lt m n) [
+      | inl less ↦ less
+      | inr far ↦ let both : true ≡ false = sym e ∙ and_false a (nat_lt m n) c (le-ltb m n far) in absurd (cc)
+    ]
+
 module _ (h : Holding) (cell : ℕ → Option Cell) (from k level first b at end j : ℕ) (file : IsFile h) (f : IsFilled h cell from k level first b)
     (first_is : first ≡ j * span h.size level) (over : is_over h.size at end level j ≡ true) where
   height_same : height_in (with_cells h cell) ≡ height_in h
@@ -100,20 +117,7 @@ module _ (h : Holding) (cell : ℕ → Option Cell) (from k level first b at end
       ap₂ (λ (a : Bool) (c : Bool). a && not c) (on_way (with_cells h cell) at end level j (omega (arith, level_low, height_same)) ∙ over) there
 
   in_range : j < max 1 (pieces end (span h.size level * h.size))
-  in_range =
-      let each = span h.size level * h.size in
-      let some : 1 ≤ span h.size level * h.size = one-le-mul (span_some h.size level large) (omega (arith, large)) in
-      let begins : j * each < end = omega (arith, begin_of (nat_lt at end) (j * span h.size level * h.size) end (nat_lt at ((j + 1) * span h.size level * h.size)) over) in
-      let quotient : (j * each + 0) / each ≡ j = div-mul-add j each 0 (omega (arith, some)) in
-      let within : j * each / each < pieces end each = piece_within (j * each) end each (omega (arith, some)) begins in
-      let same : j * each + 0 ≡ j * each = omega arith in
-      omega (arith, within, ap (λ n. n / each) same, quotient)
-    where
-      begin_of : (a : Bool) (m n : ℕ) (c : Bool) → (a && nat_lt m n && c) ≡ true → m < n
-      begin_of a m n c e = elim (cases_lt m n) [
-        | inl less ↦ less
-        | inr far ↦ let both : true ≡ false = sym e ∙ and_false a (nat_lt m n) c (le-ltb m n far) in absurd (cc)
-      ]
+  in_range = place_in_range h.size at end level j large over
 
   on_that : needed_on h at end level ≡ needed_on (with_cells h cell) at end level + 1
   on_that =

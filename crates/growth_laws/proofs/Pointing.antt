@@ -72,11 +72,11 @@ module _ (bytes : List ℕ) (start k to : ℕ) (fits : start + 8 * k + 8 ≤ len
 
 -- ---- a block that is rewritten
 
-rewritten_part : (f : List ℕ → List ℕ) (o : Option Cell) → cell_part (rewritten f o) ≡ cell_part o
+pub rewritten_part : (f : List ℕ → List ℕ) (o : Option Cell) → cell_part (rewritten f o) ≡ cell_part o
 rewritten_part f None = refl
 rewritten_part f (Some c) = refl
 
-rewritten_bytes : (f : List ℕ → List ℕ) (o : Option Cell) (p : Part) → cell_part o ≡ Some p → cell_bytes (rewritten f o) ≡ f (cell_bytes o)
+pub rewritten_bytes : (f : List ℕ → List ℕ) (o : Option Cell) (p : Part) → cell_part o ≡ Some p → cell_bytes (rewritten f o) ≡ f (cell_bytes o)
 rewritten_bytes f None p e = absurd (cc)
 rewritten_bytes f (Some c) p e = refl
 

@@ -1,20 +1,18 @@
 -- What a write needs of a file once its height has risen.
-use Rattle.std.proofs.Common.{◌≡◌, ◌≢◌, ◌⊎◌, ℕ, zero, suc, ◌+◌, ◌-◌, ◌*◌, ◌<◌, ◌≤◌, max, inl, inr, Bool, true, false, Option, Some, None, refl, sym, ap, ap₂, subst, ◌∙◌, arith}
+use Rattle.std.proofs.Common.{◌≡◌, ◌≢◌, ℕ, zero, suc, ◌+◌, ◌*◌, ◌<◌, ◌≤◌, max, inl, inr, Bool, true, false, Option, Some, refl, sym, ap, ap₂, subst, ◌∙◌, arith}
 use Rattle.std.proofs.lemmas.Bool.{cases_eq, cases_lt, cond-true, cond-false, eq-eqb, ne_eqb, lt-ltb, le-ltb}
-use Rattle.std.specs.Prelude.{◌==◌, ◌&&◌, ◌||◌, not, nat_lt, count_by, if◌then◌else◌}
-use Rattle.std.specs.List.{range_with_len}
-use Rattle.gfs2_layout.specs.Holding.{Pointed, Cell, Holding, part_at}
+use Rattle.std.specs.Prelude.{◌==◌, ◌&&◌, ◌||◌, not, nat_lt}
+use Rattle.gfs2_layout.specs.Holding.{Pointed, Cell, Holding}
 use Rattle.gfs2_layout.specs.Inode.{dinode_in, height_in, fan, span, pointer, pieces}
 use Rattle.gfs2_layout.specs.Structures.{dinode_length}
 use Rattle.dinode_tree.proofs.Spans.{span_some}
 use Rattle.growth_laws.specs.Files.{IsFile, with_cells, places_on, block_on, IsPlaced}
 use Rattle.growth_laws.specs.Need.{has_content, is_there, is_over, is_on_way, is_needed, needed_on, needed_below}
-use Rattle.growth_laws.specs.Steps.{IsRaised, IsUnstuffed}
 use Rattle.growth_laws.specs.Laws.{RaisesLowerNeed, UnstuffingLowersNeed}
 use Rattle.growth_laws.proofs.Counting.{count_same, count_more, count_some}
 use Rattle.growth_laws.proofs.Contents.{same_place}
 use Rattle.growth_laws.proofs.Needing.{and_false, on_way}
-use Rattle.growth_laws.proofs.Parts.{same_level, same_first, some_part}
+use Rattle.growth_laws.proofs.Parts.{same_first, some_part}
 use Rattle.growth_laws.proofs.Places.{size_large, cancelled, part_of_place, place_of_part}
 use Rattle.growth_laws.proofs.Raises as raised
 use Rattle.growth_laws.proofs.Unstuffing as unstuffed
@@ -122,11 +120,11 @@ there_same : (h g : Holding) (l j : ℕ) → IsFile h → IsFile g → g.size �
     → is_there g l j ≡ is_there h l j
 there_same h g l j file file' sizes less less' on back = elim (cases_lt j (places_on h l)) [
   | inl low ↦ elim (cases_eq (block_on h l j) 0) [
-      | inl none ↦ there_false g l j (λ low'. same_place h g l j file file' less less' low low' on back ∙ none) ∙ sym (there_false h l j (λ low. none))
-      | inr some ↦
-          let at = place_in g file' (block_on h l j) l j (on _ (part_of_place h file l j less low some)) in
-          there_true g l j less' at.0 at.1 ∙ sym (there_true h l j less low some)
-    ]
+    | inl none ↦ there_false g l j (λ low'. same_place h g l j file file' less less' low low' on back ∙ none) ∙ sym (there_false h l j (λ low. none))
+    | inr some ↦
+        let at = place_in g file' (block_on h l j) l j (on _ (part_of_place h file l j less low some)) in
+        there_true g l j less' at.0 at.1 ∙ sym (there_true h l j less low some)
+  ]
   | inr far ↦ there_false g l j (λ low'. no_place low' far) ∙ sym (there_false h l j (λ low. absurd (omega (arith, low, far))))
 ]
   where

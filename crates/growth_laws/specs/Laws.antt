@@ -1,13 +1,16 @@
 -- Laws of one step each: it keeps the rules of a file, its content becomes so, and so many blocks are there.
-use Rattle.std.specs.Prelude.{ℕ, suc, ◌≡◌, ◌≢◌, ◌↔◌, ◌⊎◌, ◌+◌, ◌*◌, ◌^◌, ◌<◌, ◌≤◌, true, List, ◌++◌, length, take, drop, Option, None, Some}
+use Rattle.std.specs.Prelude.{ℕ, suc, ◌≡◌, ◌≢◌, ◌↔◌, ◌⊎◌, ◌+◌, ◌*◌, ◌^◌, ◌<◌, ◌≤◌, true, List, ◌++◌, length, take, drop, replicate, Option, None, Some, Ok}
 use Rattle.file_tree.specs.Apply.{resized, overwritten}
 use Rattle.gfs2_layout.specs.Device.{IsBlockSize}
 use Rattle.gfs2_layout.specs.Holding.{Part, Itself, Pointed, Cell, Holding, part_at, bytes_at}
 use Rattle.gfs2_layout.specs.Inode.{dinode_in, height_in, header_length, fan, span, pointer, content_block, content_count, content_of, block_count, IsPointed, IsInode}
-use Rattle.gfs2_layout.specs.Structures.{dinode_length, is_regular}
+use Rattle.gfs2_layout.specs.Structures.{dinode_length, dinode_read, is_regular}
+use Rattle.gfs2_layout.specs.declared.dinode.Dinode.{Dinode}
+use Rattle.gfs2_layout.specs.Bytes.{u64_at}
+use Rattle.gfs2_layout.specs.Headers.{HasHeader}
 use Rattle.growth_laws.specs.Blocks.{IsNewBlock, rewritten_cells, filled_cells, freed_cells}
 use Rattle.growth_laws.specs.Files.{IsFile, with_cells, places_on, block_on, IsPlaced}
-use Rattle.growth_laws.specs.Need.{is_over, needed_below}
+use Rattle.growth_laws.specs.Need.{is_there, is_over, needed_below}
 use Rattle.growth_laws.specs.Steps.{IsFilled, IsFreed, IsRaised, IsUnstuffed, IsBareTo, IsContentPut, IsStuffedAs, IsSized}
 
 -- ---- files and inodes
@@ -139,6 +142,27 @@ WritesGrowFirst = (at size : ℕ) (new bytes : List ℕ) → length bytes ≤ si
 
 -- ---- steps as bytes
 
+-- the numbers behind a place are those behind another place of other bytes, where what stands behind is the same; of zeros they are 0
+abbrev pub NumbersBehindAreTheSame : Type 0
+NumbersBehindAreTheSame = (a b : List ℕ) (s t i : ℕ) → drop s a ≡ drop t b → u64_at (s + i) a ≡ u64_at (t + i) b
+
+abbrev pub ZerosAreNoNumber : Type 0
+ZerosAreNoNumber = (a : List ℕ) (s i n : ℕ) → drop s a ≡ replicate n 0 → u64_at (s + i) a ≡ 0
+
+-- a number in the first or in the second of two lists of bytes
+abbrev pub NumbersInFront : Type 0
+NumbersInFront = (a b : List ℕ) (i : ℕ) → i + 8 ≤ length a → u64_at i (a ++ b) ≡ u64_at i a
+
+abbrev pub NumbersAtTheBack : Type 0
+NumbersAtTheBack = (a b : List ℕ) (i : ℕ) → u64_at (length a + i) (a ++ b) ≡ u64_at i b
+
+-- another dinode in the inode's own block, and the same behind it: the inode says so, and the pointers stay
+abbrev pub WrittenDinodesAreSaid : Type 0
+WrittenDinodesAreSaid = (h : Holding) (p : Part) (bytes : List ℕ) (d : Dinode) → part_at h h.own ≡ Some p → dinode_read bytes ≡ Ok d
+    → (dinode_in (with_cells h (rewritten_cells h h.own bytes)) ≡ d) × HasHeader 4 400 (bytes_at (with_cells h (rewritten_cells h h.own bytes)) h.own)
+    × (drop dinode_length bytes ≡ drop dinode_length (bytes_at h h.own)
+    → (j : ℕ) → pointer (with_cells h (rewritten_cells h h.own bytes)) dinode_length h.own j ≡ pointer h dinode_length h.own j)
+
 -- a block with other bytes keeps its part, and every other block what it had
 abbrev pub RewritesKeepTheRest : Type 0
 RewritesKeepTheRest = (h : Holding) (x : ℕ) (p : Part) (bytes : List ℕ) → part_at h x ≡ Some p
@@ -155,3 +179,10 @@ abbrev pub ClearedPointersFree : Type 0
 ClearedPointersFree = (h : Holding) (from k level first b : ℕ) → IsFile h → part_at h b ≡ Some (Pointed from k level first) → b < h.count
     → ((below j : ℕ) → level ≡ suc below → j < fan h.size header_length → pointer h header_length b j ≡ 0)
     → IsFreed h (freed_cells h from k b) from k level first b
+
+-- ---- what is there
+
+-- where a write needs no more block, a block stands at each place on its way
+abbrev pub NothingIsLacking : Type 0
+NothingIsLacking = (h : Holding) (at end height level j : ℕ) → needed_below h at end height ≡ 0 → level < height → is_over h.size at end level j ≡ true → 512 ≤ h.size
+    → is_there h level j ≡ true

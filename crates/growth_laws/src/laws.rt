@@ -1,5 +1,5 @@
 //! One step each.
-ghost use Rattle.growth_laws.specs.Laws.{BareFilesChangeHeight, ClearedPointersFree, ContentIsLevelZero, FilesAreInodes, FillsAddOne, FillsKeepContent, FillsKeepFiles, FillsLowerNeed, FillsOnePlace, FreesKeepFiles, FreesKeepTheFront, FreesTakeOne, IndirectFreesKeepContent, InodesAreFiles, PartsHavePlaces, PlacesAreParts, PlacesFollowPointers, PutPointersFill, PutsOverwrite, RaisesKeepFiles, RaisesLowerNeed, RewritesKeepTheRest, SizesResize, StuffedContentIsPut, TopPlacesAreThePointers, UnstuffingKeepsFiles, UnstuffingLowersNeed, WritesGrowFirst, WritesJoin};
+ghost use Rattle.growth_laws.specs.Laws.{BareFilesChangeHeight, ClearedPointersFree, ContentIsLevelZero, FilesAreInodes, FillsAddOne, FillsKeepContent, FillsKeepFiles, FillsLowerNeed, FillsOnePlace, FreesKeepFiles, FreesKeepTheFront, FreesTakeOne, IndirectFreesKeepContent, InodesAreFiles, NothingIsLacking, NumbersAtTheBack, NumbersBehindAreTheSame, NumbersInFront, PartsHavePlaces, PlacesAreParts, PlacesFollowPointers, PutPointersFill, PutsOverwrite, RaisesKeepFiles, RaisesLowerNeed, RewritesKeepTheRest, SizesResize, StuffedContentIsPut, TopPlacesAreThePointers, UnstuffingKeepsFiles, UnstuffingLowersNeed, WritesGrowFirst, WrittenDinodesAreSaid, ZerosAreNoNumber, WritesJoin};
 
 /// A law: an inode that is a regular file keeps the rules of a file, and a file whose dinode counts its blocks those of an inode.
 pub fn files_are_inodes()
@@ -41,6 +41,20 @@ pub fn pointers_are_steps()
     ensures fill { PutPointersFill }
     ensures free { ClearedPointersFree }
     ensures rewritten { RewritesKeepTheRest }
+{}
+
+/// A law: numbers behind a place are what stands behind it, and a dinode that is written is said, with the pointers behind it.
+pub fn numbers_stand_behind()
+    ensures same { NumbersBehindAreTheSame }
+    ensures zeros { ZerosAreNoNumber }
+    ensures front { NumbersInFront }
+    ensures back { NumbersAtTheBack }
+    ensures dinode { WrittenDinodesAreSaid }
+{}
+
+/// A law: a write that needs no block finds one at each place on its way.
+pub fn nothing_is_lacking()
+    ensures { NothingIsLacking }
 {}
 
 /// A law: a file that gets another height keeps its content; and a higher file needed the block that this took.

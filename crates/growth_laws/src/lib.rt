@@ -5,6 +5,6 @@
 mod laws;
 
 pub use laws::{
-    files_are_inodes, fills_keep_files, frees_keep_files, heights_change, places_are_parts,
-    puts_overwrite, sizes_resize, writes_join,
+    files_are_inodes, fills_keep_files, frees_keep_files, heights_change, nothing_is_lacking,
+    numbers_stand_behind, places_are_parts, puts_overwrite, sizes_resize, writes_join,
 };
