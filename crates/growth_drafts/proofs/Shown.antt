@@ -59,7 +59,7 @@ module _ (h : Holding) (from k to : ℕ) (p : Part) (part : part_at h from ≡ S
   repointed_seen v fates bytes lock plain seen is =
       puts_are_seen v fates h (repointed h from k to) from lock plain bytes seen (bytes_from ∙ sym is) (λ y other. cond-false _ _ _ (ne_eqb y from other))
 
-from_there : (h : Holding) (x from k level first : ℕ) → IsFile h → IsPointed h x from k level first → (p : Part) × (part_at h from ≡ Some p)
+pub from_there : (h : Holding) (x from k level first : ℕ) → IsFile h → IsPointed h x from k level first → (p : Part) × (part_at h from ≡ Some p)
 from_there h x from k level first file (by_dinode own high low is first_is) = (Itself, ap (part_at h) own ∙ file.own)
 from_there h x from k level first file (by_block above j start part low is first_is) = (Pointed above j (suc level) start, part)
 
