@@ -1,6 +1,8 @@
-//! One step of a file that grows or is cut, in a draft: a hole is filled, a block is freed.
+//! One step of a file that grows or is cut, in a draft: a hole is filled, a block is freed, bytes of content are put.
 #![tactic(auto)]
 
+mod contents;
 mod pointers;
 
+pub use contents::put_content;
 pub use pointers::{Pointer, fill_hole, free_block};

@@ -26,8 +26,8 @@ pub struct Pointer {
     pub index: usize,
 }
 
-// The lock that covers the blocks of the inode with its dinode in this block.
-fn lock_of(inode: u64) -> LockName
+/// The lock that covers the blocks of the inode with its dinode in this block.
+pub(crate) fn lock_of(inode: u64) -> LockName
     ensures { result ≡ inode_lock inode }
 {
     LockName {
