@@ -1,6 +1,6 @@
 -- Bytes of content in a draft.
-use Rattle.std.proofs.Common.{◌≡◌, ◌≢◌, ℕ, ◌+◌, ◌*◌, ◌<◌, ◌≤◌, true, List, ◌++◌, length, take, drop, Some, refl, sym, ap, ◌∙◌, subst, arith}
-use Rattle.std.specs.FinMap.{FinMap, insert}
+use Rattle.std.proofs.Common.{◌≡◌, ◌≢◌, ℕ, ◌+◌, ◌*◌, ◌<◌, ◌≤◌, true, List, length, Some, sym, ap, ◌∙◌, subst, arith}
+use Rattle.std.specs.FinMap.{insert}
 use Rattle.drafts.specs.Fates.{Drafted, seen_in, seen_with}
 use Rattle.drafts.specs.declared.fate.Fate.TheVariants.{Put}
 use Rattle.file_tree.specs.Apply.{overwritten}
@@ -31,11 +31,14 @@ pub put_after : {V : Type 0} (seen : V → Seen) (old now : Drafted V) (inode bl
     → now ≡ record old { fates = insert old.fates block (Put (inode_lock inode) true (put_at at new bytes)) } → at + length new ≤ (seen old.view).size
     → (h : Holding) (i : ℕ) → IsFile h → IsShown (seen_in seen old) inode h → height_in h ≢ 0 → i < content_count h → content_block h i ≡ block → block ≢ 0
     → i * h.size + at + length new ≤ (dinode_in h).size → IsPutInto (seen_in seen now) inode h block at new i
-put_after {V} seen old now inode block at new bytes there is fits h i file shown high low same some within =
-    (subst (λ (d : Drafted V). IsShown (seen_in seen d) inode (with_cells h (rewritten_cells h block (put_at at new (bytes_at h block))))) (sym is)
-    (subst (λ a. IsShown (seen_with (seen old.view) (insert old.fates block (Put (inode_lock inode) true (put_at at new bytes)))) a (with_cells h (rewritten_cells h block (put_at at new (bytes_at h block))))) shown.own
-    (subst (λ xs. IsShown (seen_with (seen old.view) (insert old.fates block (Put (inode_lock inode) true (put_at at new xs)))) h.own (with_cells h (rewritten_cells h block (put_at at new (bytes_at h block))))) bytes_are
-    (rewrites_are_shown (seen old.view) old.fates h block _ (put_at at new (bytes_at h block)) (inode_lock inode) true file shown_own part.2 written.0))), written.0, written.1)
+put_after {V} seen old now inode block at new bytes there is fits h i file shown high low same some within = (
+  subst (λ (d : Drafted V). IsShown (seen_in seen d) inode (with_cells h (rewritten_cells h block (put_at at new (bytes_at h block))))) (sym is)
+      (subst (λ a. IsShown (seen_with (seen old.view) (insert old.fates block (Put (inode_lock inode) true (put_at at new bytes)))) a (with_cells h (rewritten_cells h block (put_at at new (bytes_at h block))))) shown.own
+      (subst (λ xs. IsShown (seen_with (seen old.view) (insert old.fates block (Put (inode_lock inode) true (put_at at new xs)))) h.own (with_cells h (rewritten_cells h block (put_at at new (bytes_at h block))))) bytes_are
+      (rewrites_are_shown (seen old.view) old.fates h block _ (put_at at new (bytes_at h block)) (inode_lock inode) true file shown_own part.2 written.0))),
+  written.0,
+  written.1,
+)
   where
     part : IsPlaced h block 0 i
     part = subst (λ c. IsPlaced h c 0 i) same (content_part h file high i low (λ none. some (sym same ∙ none)))
