@@ -1,0 +1,5 @@
+pub mod Files
+pub mod Steps
+pub mod Blocks
+pub mod Need
+pub mod Laws
