@@ -1,6 +1,5 @@
 -- The file calls that are built: what holds of every one.
 use Rattle.std.specs.Prelude.{ℕ, false, List}
-use Rattle.std.specs.List.{AllByRecursion}
 use Rattle.file_tree.specs.Tree.{Tree}
 use Rattle.file_tree.specs.declared.call.Call.{Call}
 use Rattle.file_tree.specs.declared.call.Call.TheVariants as calls
@@ -8,8 +7,6 @@ use Rattle.glock_names.specs.Views.{Seen}
 use Rattle.glock_names.specs.declared.steps.Missing.{Missing}
 use Rattle.call_locks.specs.WantLaws.{path_of}
 use Rattle.call_locks.specs.Wants.{wanted}
-use Rattle.drafts.specs.declared.change.Change.{Change}
-use Rattle.image_changes.specs.Does.{IsInside}
 use Rattle.image_model.specs.Image.{Image}
 use Rattle.image_model.specs.Owners.{Owners}
 use Rattle.image_model.specs.Stands.{Layout}

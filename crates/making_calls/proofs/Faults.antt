@@ -1,14 +1,12 @@
 -- Faults that are handed on.
-use Rattle.std.proofs.Common.{◌≡◌, ℕ, true, true≢false, List, Option, None, Some, Bor, Result, Ok, Err, refl, sym, subst}
-use Rattle.std.specs.Prelude.{IfSome, IsErrAnd, is_some}
-use Rattle.gfs2_layout.specs.Holding.{Holding}
-use Rattle.glock_names.specs.Steps.{IfDamaged, IfIs, IsDamage, TellsOf}
+use Rattle.std.proofs.Common.{◌≡◌, ℕ, true, true≢false, List, Option, None, Some, Bor, Result, Ok, Err, refl, sym}
+use Rattle.std.specs.Prelude.{IfSome, is_some}
+use Rattle.glock_names.specs.Steps.{IfDamaged, IfIs, TellsOf}
 use Rattle.glock_names.specs.Views.{Seen, HasBlock}
 use Rattle.glock_names.specs.declared.steps.Step.{Step}
 use Rattle.glock_names.specs.declared.steps.Step.TheVariants.{Is, NeedBlock}
 use Rattle.glock_names.specs.declared.steps.CallFault.{CallFault}
 use Rattle.glock_names.specs.declared.steps.CallFault.TheVariants.{Damaged, NoMemory}
-use Rattle.dinode_tree.specs.Shown.{IsShown}
 use Rattle.glock_names.specs.declared.views.Group.{Group}
 use Rattle.resource_groups.specs.Shown as group
 

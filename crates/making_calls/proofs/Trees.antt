@@ -2,7 +2,7 @@
 use Rattle.std.proofs.Common.{◌≡◌, true, false, ℕ, List, [], ◌∷◌, ◌++◌, Option, None, Some, refl, sym, ap, ap₂, ◌∙◌}
 use Rattle.std.proofs.lemmas.List.{append-nil}
 use Rattle.std.specs.Prelude.{◌&&◌, if◌then◌else◌, option_and_then}
-use Rattle.cluster_history.specs.Changes.{Changes, is_ok, may_change}
+use Rattle.cluster_history.specs.Changes.{Changes, is_ok}
 use Rattle.file_tree.specs.Apply.{apply, Answer, Walked, Found, Refused, add, add_to, found_or, put_at, refuse, step_to, walk}
 use Rattle.file_tree.specs.Names.{IsName, last_of, parent_of}
 use Rattle.file_tree.specs.Tree.{Tree, Entries, dir, file, look}

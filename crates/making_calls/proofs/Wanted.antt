@@ -1,17 +1,15 @@
 -- The locks that a call which makes a name wants on its directory's path.
-use Rattle.std.proofs.Common.{◌≡◌, ℕ, zero, suc, ◌+◌, false, List, [], ◌∷◌, ◌++◌, length, slice_get, Some, refl, sym, ap, ◌∙◌, subst, arith}
+use Rattle.std.proofs.Common.{◌≡◌, ℕ, ◌+◌, false, List, [], ◌∷◌, ◌++◌, length, slice_get, refl, ap, ◌∙◌, arith}
 use Rattle.std.proofs.lemmas.List.{length-append}
 use Rattle.file_tree.specs.Names.{parent_of}
 use Rattle.file_tree.specs.declared.call.Call.{Call}
 use Rattle.file_tree.specs.declared.call.Call.TheVariants as call
 use Rattle.glock_names.specs.Views.{Seen}
-use Rattle.glock_names.specs.declared.State.TheVariants.{Sh, Ex}
-use Rattle.call_locks.specs.declared.want.Want.{Want}
+use Rattle.glock_names.specs.declared.State.TheVariants.{Ex}
 use Rattle.call_locks.specs.Wants.{want, shared_above, way_to, at_new_name, wanted}
 use Rattle.call_locks.specs.WantLaws.{path_of}
 use Rattle.image_model.specs.Flat.{Path}
-use Rattle.image_model.proofs.Held.{some_same}
-use Rattle.path_walks.specs.Walks.{AreInOrder, LeadsTo, at_root, by_name, IsHeldAt, IsLastOf}
+use Rattle.path_walks.specs.Walks.{AreInOrder, LeadsTo, IsLastOf}
 use Rattle.making_calls.specs.Making.{IsMaking, directory_path}
 use Rattle.path_walks.proofs.Wants.{push, shared_from, at_end, leads_held, exclusive}
 

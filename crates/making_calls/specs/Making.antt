@@ -1,6 +1,6 @@
 -- The calls that make a name: what they answer, under which locks.
-use Rattle.std.specs.Prelude.{ℕ, ◌≡◌, ◌≢◌, ◌<◌, ⊤, Bool, true, false, if◌then◌else◌, List, [], ◌∷◌, ◌++◌, ◌&&◌, length, map, slice_get, Contains, Option, None, Some}
-use Rattle.std.specs.List.{AllByRecursion, list_any}
+use Rattle.std.specs.Prelude.{ℕ, ◌≡◌, ◌≢◌, ◌<◌, ⊤, Bool, true, false, if◌then◌else◌, List, [], ◌++◌, ◌&&◌, length, map, slice_get, Contains, Option, None, Some}
+use Rattle.std.specs.List.{list_any}
 use Rattle.file_tree.specs.Names.{parent_of, last_of}
 use Rattle.file_tree.specs.Tree.{Tree}
 use Rattle.file_tree.specs.Apply.{apply}
@@ -16,8 +16,6 @@ use Rattle.gfs2_layout.specs.Putting.{has_room, least_length}
 use Rattle.gfs2_layout.specs.Records.{child_named}
 use Rattle.gfs2_layout.specs.Structures.{dinode_of}
 use Rattle.glock_names.specs.Views.{Seen, HasBlock, group_of_entry}
-use Rattle.glock_names.specs.declared.LockName.{LockName}
-use Rattle.glock_names.specs.declared.State.TheVariants.{Ex}
 use Rattle.glock_names.specs.declared.steps.Entry.{Entry}
 use Rattle.glock_names.specs.declared.steps.Missing.{Missing}
 use Rattle.glock_names.specs.declared.views.Group.{Group}
@@ -30,11 +28,10 @@ use Rattle.image_model.specs.Flat.{Path, follow}
 use Rattle.image_model.specs.Image.{Image}
 use Rattle.image_model.specs.Owners.{Owners, holding}
 use Rattle.image_model.specs.Stands.{Layout, flat_of}
-use Rattle.image_changes.specs.Changes.{inode_of}
-use Rattle.image_changes.specs.Does.{IsInside, frees, with_change}
+use Rattle.image_changes.specs.Does.{with_change}
 use Rattle.image_changes.specs.Instances.{IsAt, dinode_at}
 use Rattle.path_walks.specs.Answers.{Refuses}
-use Rattle.path_walks.specs.Holds.{Hold, AreHeld, IsAskedFor, IsFirstLack, hold_of, holds, holds_in, hold_of_group}
+use Rattle.path_walks.specs.Holds.{Hold, AreHeld, IsAskedFor, IsFirstLack, holds, holds_in, hold_of_group}
 use Rattle.path_walks.specs.declared.walk.Place.{Place}
 use Rattle.path_walks.specs.Walks.{LeadsTo, IsLinearDirectory, IsOnTheWay, IsPlaceOf, IsUnread, IsWrong}
 use Rattle.path_walks.specs.Walks as path

@@ -1,5 +1,5 @@
 -- What the tree answers where a walk along the call's path ended.
-use Rattle.std.proofs.Common.{◌≡◌, ◌&&◌, ◌==◌, ◌+◌, ℕ, zero, suc, true, false, List, [], ◌∷◌, ◌++◌, length, None, Some, Result, Ok, Err, IfOk, inl, refl, sym, ap, subst, ◌∙◌, arith}
+use Rattle.std.proofs.Common.{◌≡◌, ◌+◌, ℕ, true, false, List, [], length, Result, Ok, Err, IfOk, refl, sym, ap, ◌∙◌, arith}
 use Rattle.std.proofs.lemmas.List.Sorted.{IsPermutation-refl}
 use Rattle.file_tree.specs.Tree.{Tree, file, dir, count_in}
 use Rattle.file_tree.specs.Apply.{Walked, Found, Refused, apply, walk, read_reply, stat_reply, list_reply}
@@ -12,33 +12,27 @@ use Rattle.gfs2_layout.specs.Holding.{Holding}
 use Rattle.gfs2_layout.specs.Inode.{IsInode, dinode_in, is_directory_in, content_of, records_of}
 use Rattle.gfs2_layout.specs.Device.{IsBlockSize}
 use Rattle.gfs2_layout.specs.Records.{names_of}
-use Rattle.gfs2_layout.specs.Structures.{is_regular}
 use Rattle.glock_names.specs.Views.{Seen}
-use Rattle.glock_names.specs.declared.steps.Missing.{Missing}
 use Rattle.call_locks.specs.Wants.{wanted}
 use Rattle.call_locks.specs.WantLaws.{path_of}
-use Rattle.dinode_tree.specs.Reading.{IsNeeded, IsInRange, IsOnWay, the_dinode, led_to}
-use Rattle.dinode_tree.proofs.Sound.{part_of_led}
+use Rattle.dinode_tree.specs.Reading.{IsInRange}
 use Rattle.image_model.specs.Flat.{Path, AFile, ADir, Thing, thing_in}
 use Rattle.image_model.specs.Image.{Image}
-use Rattle.image_model.specs.Owners.{Owners, Below, holding}
+use Rattle.image_model.specs.Owners.{Owners, holding}
 use Rattle.image_model.specs.Stands.{Layout}
-use Rattle.image_model.proofs.Held.{pointed_owner, some_same}
+use Rattle.image_model.proofs.Held.{some_same}
 use Rattle.image_model.proofs.Lengths.{length_content, size_large}
-use Rattle.image_changes.specs.Changes.{cover, is_free, inode_lock}
-use Rattle.image_changes.specs.Does.{IsOf, is_content_of}
+use Rattle.image_changes.specs.Does.{IsOf}
 use Rattle.image_changes.specs.Instances.{IsAt}
 use Rattle.image_changes.specs.Walks.{ListsNames}
 use Rattle.image_changes.proofs.DirectoryNames.{directories_list}
-use Rattle.image_changes.proofs.Drafting.{own_locks}
 use Rattle.image_changes.proofs.Nodes.{file_thing}
 use Rattle.image_changes.proofs.Walks.{walks_find}
-use Rattle.path_walks.specs.Holds.{Hold, AreHeld, EndsWith, IsAskedFor, holds_in}
+use Rattle.path_walks.specs.Holds.{Hold, AreHeld, EndsWith, holds_in}
 use Rattle.path_walks.specs.Walks.{IsWrong, in_inode, in_directory, IsDamage, on_path, LeadsTo, at_root, by_name, the_root, the_child}
 use Rattle.call_locks.specs.declared.want.Want.{Want}
 use Rattle.dinode_tree.specs.Shown.{IsShown}
-use Rattle.path_walks.proofs.Steps.{differs}
-use Rattle.path_walks.proofs.Images.{is_inode, is_sound, lock_of_inode, dinode_used, dinode_plain, unbroken, unbroken_directory}
+use Rattle.path_walks.proofs.Images.{is_inode, is_sound, unbroken, unbroken_directory}
 use Rattle.read_calls.specs.Reading.{IsReading, IsRangeOf, IsStatOf, IsListOf, IsAnswerOf, IsFoundBy, IsFound, IsAsked, IsAnswered, IsNeededFor, IsHashedFor, IsToldOf}
 use Rattle.read_calls.specs.declared.answers.Read.{Read}
 use Rattle.read_calls.specs.declared.answers.Read.TheVariants as read

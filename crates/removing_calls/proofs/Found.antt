@@ -1,5 +1,5 @@
 -- What a removal finds in an image that the view may be of.
-use Rattle.std.proofs.Common.{◌≡◌, ◌==◌, ◌&&◌, ◌↔◌, inl, inr, ℕ, zero, suc, ◌+◌, ◌<◌, true, false, List, [], ◌∷◌, ◌++◌, None, Some, refl, sym, ap, ◌∙◌, subst, arith}
+use Rattle.std.proofs.Common.{◌≡◌, ◌↔◌, inl, inr, ℕ, zero, suc, ◌+◌, ◌<◌, true, false, List, [], ◌∷◌, ◌++◌, Some, refl, sym, ap, ◌∙◌, subst, arith}
 use Rattle.std.proofs.lemmas.Bool.{cond-true}
 use Rattle.std.proofs.lemmas.List.Elements.{All-append}
 use Rattle.std.proofs.lemmas.List.FromFn.{get_or-map-range_with_len}
@@ -12,8 +12,7 @@ use Rattle.file_tree.specs.declared.call.Call.{Call}
 use Rattle.gfs2_layout.specs.Groups.{count_of}
 use Rattle.gfs2_layout.specs.Headers.{HasHeader}
 use Rattle.gfs2_layout.specs.Holding.{Pointed}
-use Rattle.gfs2_layout.specs.Inode.{dinode_in, is_hashed_in}
-use Rattle.gfs2_layout.specs.Structures.{is_regular}
+use Rattle.gfs2_layout.specs.Inode.{is_hashed_in}
 use Rattle.gfs2_layout.specs.declared.rindex.Rindex.{Rindex}
 use Rattle.glock_names.specs.Views.{Seen, HasGroup, group_of_entry}
 use Rattle.glock_names.specs.declared.LockName.{LockName}
@@ -21,26 +20,22 @@ use Rattle.glock_names.specs.declared.State.TheVariants.{Ex}
 use Rattle.glock_names.specs.declared.steps.Missing.{Missing}
 use Rattle.call_locks.specs.Wants.{wanted}
 use Rattle.call_locks.specs.WantLaws.{path_of}
-use Rattle.dinode_tree.specs.Reading.{IsNeeded, IsOnWay, the_dinode, led_to}
-use Rattle.dinode_tree.proofs.Sound.{part_of_led, parts_of_led, led_of_part}
+use Rattle.dinode_tree.proofs.Sound.{parts_of_led, led_of_part}
 use Rattle.image_model.specs.Flat.{Path, follow}
 use Rattle.image_model.specs.Image.{Image}
 use Rattle.image_model.specs.Groups.{IsListed, group_blocks}
-use Rattle.image_model.specs.Owners.{Owners, Below, is_dinode, holding}
+use Rattle.image_model.specs.Owners.{Owners, is_dinode, holding}
 use Rattle.image_model.specs.Stands.{Layout, flat_of}
 use Rattle.image_model.proofs.Counts.{at_in}
-use Rattle.image_model.proofs.Held.{pointed_owner}
 use Rattle.image_model.proofs.Members.{IsIn, contained}
-use Rattle.image_changes.specs.Changes.{cover, inode_of, is_free, inode_lock}
+use Rattle.image_changes.specs.Changes.{cover, inode_of, is_free}
 use Rattle.image_changes.specs.Does.{IsOf, is_content_of}
 use Rattle.image_changes.specs.Instances.{IsAt}
-use Rattle.image_changes.proofs.Drafting.{own_locks}
 use Rattle.image_changes.proofs.Frame.{dinode_its}
 use Rattle.draft_changes.proofs.Rows.{its_cell, its_used, part_its, part_there}
 use Rattle.draft_changes.proofs.Views.{groups_are_listed, have_these_blocks, none_has_the_first}
-use Rattle.path_walks.specs.Holds.{Hold, AreHeld, EndsWith, IsAskedFor, IsFirstLack, holds, holds_in, hold_of_group}
-use Rattle.path_walks.proofs.Images.{is_inode, is_shown, is_sound, unbroken, lock_of_inode, dinode_used, dinode_plain}
-use Rattle.path_walks.proofs.Steps.{differs}
+use Rattle.path_walks.specs.Holds.{Hold, AreHeld, IsAskedFor, IsFirstLack, holds, holds_in, hold_of_group}
+use Rattle.path_walks.proofs.Images.{is_inode, is_shown, unbroken}
 use Rattle.removing_calls.specs.Groups.{GroupsAreHeld, IsFirstGroupLack, has_some, group_holds, group_holds_of}
 use Rattle.resource_groups.specs.Freeing.{BreaksSome, HasSome, IsNeededFor}
 use Rattle.resource_groups.specs.Putting.{HasDataBlock}

@@ -2,7 +2,7 @@
 use Rattle.std.proofs.Common.{◌≡◌, ◌≢◌, ◌&&◌, ℕ, Bool, true, false, true≢false, List, [], ◌∷◌, ◌++◌, refl, sym, ap, ◌∙◌, arith}
 use Rattle.std.proofs.lemmas.List.{append-nil}
 use Rattle.std.specs.Prelude.{if◌then◌else◌}
-use Rattle.cluster_history.specs.Changes.{is_ok, may_change, Changes}
+use Rattle.cluster_history.specs.Changes.{is_ok, Changes}
 use Rattle.file_tree.specs.Apply.{Answer, Walked, Found, Refused, apply, walk, unlink, unlink_at, rmdir, rmdir_at, remove_at, refuse}
 use Rattle.file_tree.specs.Tree.{Tree, Entries, file, dir, none, entry, count_in}
 use Rattle.file_tree.specs.declared.call.Call.{Call}

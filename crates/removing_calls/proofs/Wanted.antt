@@ -1,17 +1,16 @@
 -- The locks that a call which removes a name wants on its path.
-use Rattle.std.proofs.Common.{◌≡◌, ℕ, zero, suc, ◌+◌, false, List, [], ◌∷◌, ◌++◌, length, slice_get, Some, refl, sym, ap, ◌∙◌, subst, arith}
+use Rattle.std.proofs.Common.{◌≡◌, ℕ, ◌+◌, false, List, [], ◌∷◌, ◌++◌, length, slice_get, ap, ◌∙◌, arith}
 use Rattle.std.proofs.lemmas.List.{length-append}
 use Rattle.file_tree.specs.Names.{parent_of}
 use Rattle.file_tree.specs.declared.call.Call.{Call}
 use Rattle.file_tree.specs.declared.call.Call.TheVariants as call
 use Rattle.glock_names.specs.Views.{Seen}
-use Rattle.glock_names.specs.declared.State.TheVariants.{Sh, Ex}
+use Rattle.glock_names.specs.declared.State.TheVariants.{Ex}
 use Rattle.call_locks.specs.declared.want.Want.{Want}
 use Rattle.call_locks.specs.Wants.{want, shared_above, way_to, at_old_name, wanted}
 use Rattle.call_locks.specs.WantLaws.{path_of}
 use Rattle.image_model.specs.Flat.{Path}
-use Rattle.image_model.proofs.Held.{some_same}
-use Rattle.path_walks.specs.Walks.{AreInOrder, LeadsTo, at_root, by_name, IsHeldAt, IsLastOf}
+use Rattle.path_walks.specs.Walks.{AreInOrder, LeadsTo, IsLastOf}
 use Rattle.path_walks.proofs.Lists.{parent_of_next}
 use Rattle.removing_calls.specs.Removing.{IsRemoving}
 use Rattle.path_walks.proofs.Wants.{push, shared_from, way_from, at_end, before_end, leads_held, exclusive}

@@ -1,5 +1,5 @@
 -- The calls that remove a name: `unlink` of a file, and `rmdir` of a directory without names.
-use Rattle.std.specs.Prelude.{Some, ℕ, ◌≡◌, ◌≢◌, ◌⊎◌, ◌↔◌, ⊤, Contains, true, false, if◌then◌else◌, List, [], ◌∷◌, ◌++◌, ◌<◌, length, slice_get}
+use Rattle.std.specs.Prelude.{ℕ, ◌≡◌, ◌≢◌, ◌⊎◌, ◌↔◌, ⊤, Contains, true, false, if◌then◌else◌, List, [], ◌++◌}
 use Rattle.cluster_history.specs.Changes.{is_ok}
 use Rattle.file_tree.specs.Apply.{apply}
 use Rattle.file_tree.specs.Names.{parent_of}
@@ -11,12 +11,11 @@ use Rattle.file_tree.specs.declared.reply.Reply.TheVariants as reply
 use Rattle.gfs2_layout.specs.Holding.{Holding}
 use Rattle.gfs2_layout.specs.Inode.{dinode_in, is_directory_in, is_hashed_in}
 use Rattle.gfs2_layout.specs.Structures.{dinode_of}
-use Rattle.glock_names.specs.Views.{Seen, HasBlock, HasGroup, end_of}
+use Rattle.glock_names.specs.Views.{Seen, HasBlock}
 use Rattle.glock_names.specs.declared.LockName.{LockName}
 use Rattle.glock_names.specs.declared.State.{State}
 use Rattle.glock_names.specs.declared.State.TheVariants.{Ex}
 use Rattle.glock_names.specs.declared.steps.Missing.{Missing}
-use Rattle.glock_names.specs.declared.views.Group.{Group}
 use Rattle.call_locks.specs.Wants.{wanted}
 use Rattle.call_locks.specs.WantLaws.{path_of}
 use Rattle.dinode_tree.specs.Below.{AnyIndex, IsBelow, IsLedFrom}
@@ -26,16 +25,14 @@ use Rattle.dinode_tree.specs.Broken as inode
 use Rattle.resource_groups.specs.Freeing as freeing
 use Rattle.resource_groups.specs.Putting.{HasDataBlock}
 use Rattle.drafts.specs.declared.change.Change.{Change}
-use Rattle.drafts.specs.declared.change.Written.{Written}
-use Rattle.image_model.specs.Flat.{Path, follow}
+use Rattle.image_model.specs.Flat.{follow}
 use Rattle.image_model.specs.Image.{Image}
 use Rattle.image_model.specs.Owners.{Owners}
 use Rattle.image_model.specs.Stands.{Layout, flat_of}
-use Rattle.image_changes.specs.Changes.{inode_of}
-use Rattle.image_changes.specs.Does.{frees, with_change}
+use Rattle.image_changes.specs.Does.{with_change}
 use Rattle.image_changes.specs.Instances.{IsAt}
 use Rattle.path_walks.specs.Answers.{Refuses}
-use Rattle.path_walks.specs.Holds.{Hold, AreHeld, EndsWith, IsAskedFor, IsFirstLack, hold_of, holds_in}
+use Rattle.path_walks.specs.Holds.{Hold, AreHeld, EndsWith, IsAskedFor, IsFirstLack, holds_in}
 use Rattle.path_walks.specs.Walks.{LeadsTo, IsAbsent, IsLacked, IsLastOf, IsOnTheWay, IsPlaceOf, IsUnread}
 use Rattle.path_walks.specs.Walks as path
 use Rattle.path_walks.specs.declared.walk.Place.{Place}

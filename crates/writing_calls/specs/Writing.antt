@@ -1,7 +1,6 @@
 -- The calls that write: bytes into a file, and all that isn't on the disk yet.
 use Rattle.std.specs.Prelude.{ℕ, ◌≡◌, ◌+◌, ◌<◌, ◌≤◌, ⊤, true, false, List, [], length, Contains, Result, Ok}
 use Rattle.std.specs.List.{AllByRecursion}
-use Rattle.cluster_history.specs.Changes.{is_ok}
 use Rattle.file_tree.specs.Apply.{apply, file_limit}
 use Rattle.file_tree.specs.Tree.{Tree}
 use Rattle.file_tree.specs.declared.call.Call.{Call}
