@@ -6,7 +6,7 @@ use Rattle.drafts.specs.declared.fate.Fate.{Fate}
 use Rattle.drafts.specs.declared.fate.Fate.TheVariants.{Put, Freed}
 use Rattle.file_tree.specs.Apply.{resized, overwritten}
 use Rattle.gfs2_layout.specs.Holding.{Pointed, Holding, part_at}
-use Rattle.gfs2_layout.specs.Inode.{dinode_in, head_of, height_in, content_of, content_count, block_count, pieces}
+use Rattle.gfs2_layout.specs.Inode.{dinode_in, head_of, height_in, span, content_block, content_of, content_count, block_count, pieces}
 use Rattle.gfs2_layout.specs.declared.dinode.Dinode.{Dinode}
 use Rattle.dinode_tree.specs.Reading.{inode_lock}
 use Rattle.dinode_tree.specs.Shown.{IsShown}
@@ -83,7 +83,12 @@ abbrev pub height_at : Holding → ℕ → ℕ
 height_at h zero = 0
 height_at h (suc size) = height_for h (suc size)
 
--- Every block past the new end was freed: content that begins there, and indirect blocks that lead nowhere else.
+-- below a place, on a level and from this index of content on, no content stands before the end
+abbrev pub IsIdle : Holding → ℕ → ℕ → ℕ → Type 0
+IsIdle h end level first = (i : ℕ) → first ≤ i → i < first + span h.size level → i < end → content_block h i ≡ 0
+
+-- A cut frees exactly the blocks below which no content stands before the new end: content that begins past it, and indirect blocks that lead
+-- nowhere else, also where their own range begins before it.
 pub record IsResized (h g : Holding) (size : ℕ) (taken freed : List ℕ) : Type 0 where
   pub sound : IsCounted g
   pub content : content_of g ≡ resized size (content_of h)
@@ -92,7 +97,7 @@ pub record IsResized (h g : Holding) (size : ℕ) (taken freed : List ℕ) : Typ
   pub grown : freed ≡ [] ⊎ taken ≡ []
   pub took : freed ≡ [] → HasTaken h g taken
   pub freed_those : taken ≡ [] → HasFreed h g freed
-  pub all_past : (b from k level first : ℕ) → part_at h b ≡ Some (Pointed from k level first) → pieces size h.size ≤ first → Contains freed b
+  pub cut : size < (dinode_in h).size → (b from k level first : ℕ) → part_at h b ≡ Some (Pointed from k level first) → Contains freed b ↔ IsIdle h (pieces size h.size) level first
 
 -- ---- the answers
 
