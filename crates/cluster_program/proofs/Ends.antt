@@ -46,7 +46,7 @@ module _ (given left : Inputs) (sinks sinks_now : Outputs) where
   script_fault own NoRoom = tt
 
   mount_fault : (own : Status) → MountEnds given.disk given.disk_faults left.disk_faults own → FaultHasCause given left sinks sinks_now own
-  mount_fault own (DiskFails block x y up reached) = up
+  mount_fault own (DiskFails block x y up inside reached) = up
   mount_fault own (LiesOutside what value outside never) = tt
   mount_fault own (IsDamaged block rule breaks never) = tt
   mount_fault own (IsDirty block dirty) = tt

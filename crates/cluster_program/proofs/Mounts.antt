@@ -13,7 +13,7 @@ use Rattle.image_model.specs.Owners.{Root}
 use Rattle.image_model.specs.Rules.{Breaks, beyond_groups}
 use Rattle.image_mount.specs.Found.{HasFormat}
 use Rattle.image_mount.specs.Mounted.{MountedValue, IsMounted, IsOfProfile, GroupsAreAsSeen}
-use Rattle.image_mount.specs.Refusals.{RefusesRightly, HasRisen, IsExcused}
+use Rattle.image_mount.specs.Refusals.{RefusesRightly, HasRisen, LiesWithin, IsExcused}
 use Rattle.image_mount.specs.declared.fault.MountFault.{MountFault}
 use Rattle.image_mount.specs.declared.fault.MountFault.TheVariants as fault
 use Rattle.shared_disk.specs.Disk.{DiskState, IsSound}
@@ -28,14 +28,14 @@ use Rattle.cluster_program.specs.declared.status.Status.{Status}
 use Rattle.cluster_program.specs.Runs.{as_mounted}
 use Rattle.cluster_program.specs.declared.status.Status.TheVariants as status
 
-pub mount_end : (d : DiskState) (first now : ℕ → ℕ) (f : MountFault) → NothingBreaks → OfImage d (λ im. RefusesRightly im f) → OfImage d (λ im. IsOfProfile im → IsExcused f) → HasRisen first now f
+pub mount_end : (d : DiskState) (first now : ℕ → ℕ) (f : MountFault) → NothingBreaks → OfImage d (λ im. RefusesRightly im f) → OfImage d (λ im. IsOfProfile im → IsExcused f) → HasRisen first now f → LiesWithin d.count f
     → MountEnds d first now (status_of_mount f)
-mount_end d first now (fault.NotProfile what value) law right excused risen = LiesOutside what value right excused
-mount_end d first now (fault.Damaged block rule) law right excused risen =
+mount_end d first now (fault.NotProfile what value) law right excused risen within = LiesOutside what value right excused
+mount_end d first now (fault.Damaged block rule) law right excused risen within =
     IsDamaged block rule right (λ tells tree stands. law (image_of d) tree stands rule block (right tells).0.breaks)
-mount_end d first now (fault.DeviceFault block x y) law right excused risen = DiskFails block x y risen right
-mount_end d first now (fault.NotBuilt block) law right excused risen = IsHashed block right
-mount_end d first now fault.NoMemory law right excused risen = LacksRoom
+mount_end d first now (fault.DeviceFault block x y) law right excused risen within = DiskFails block x y risen within right
+mount_end d first now (fault.NotBuilt block) law right excused risen within = IsHashed block right
+mount_end d first now fault.NoMemory law right excused risen within = LacksRoom
 
 -- ---- what the node has of the image as it begins
 
@@ -97,7 +97,7 @@ module _ (d : DiskState) (m : MountedValue) (law : NothingBreaks) (is : OfImage 
 -- ---- such an end is not told to be done, nor a sink's fault
 
 pub mount_never_done : (disk : DiskState) (first now : ℕ → ℕ) (own : Status) → MountEnds disk first now own → own ≡ status.Done → ⊥
-mount_never_done disk first now own (DiskFails block x y up reached) is = cc
+mount_never_done disk first now own (DiskFails block x y up inside reached) is = cc
 mount_never_done disk first now own (LiesOutside what value outside never) is = cc
 mount_never_done disk first now own (IsDamaged block rule breaks never) is = cc
 mount_never_done disk first now own (IsDirty block dirty) is = cc
@@ -105,7 +105,7 @@ mount_never_done disk first now own (IsHashed block hashed) is = cc
 mount_never_done disk first now own LacksRoom is = cc
 
 pub no_mount_fault : (d : DiskState) (first now : ℕ → ℕ) (own : Status) → MountEnds d first now own → IsSinkFault own → ⊥
-no_mount_fault d first now own (DiskFails block x y up reached) never = never
+no_mount_fault d first now own (DiskFails block x y up inside reached) never = never
 no_mount_fault d first now own (LiesOutside what value outside none) never = never
 no_mount_fault d first now own (IsDamaged block rule breaks none) never = never
 no_mount_fault d first now own (IsDirty block dirty) never = never

@@ -26,7 +26,7 @@ use Rattle.lone_node.specs.Run.{EndsAt, EndsAtCall, HasChangedNothing, IsCallTha
 use Rattle.lone_node.specs.Standing.{StandsFor, LeavesStanding}
 use Rattle.lone_node.specs.declared.ends.RunEnd.{RunEnd}
 use Rattle.lone_node.specs.declared.ends.RunEnd.TheVariants as end
-use Rattle.damage_laws.specs.Telling.{CallsTell, NeedsTell, MountedAreRead, HasRootInside}
+use Rattle.damage_laws.specs.Telling.{CallsTellExactly, NeedsTell, MountedAreRead, HasRootInside}
 use Rattle.cluster_program.specs.Early.{status_of_end}
 use Rattle.cluster_program.specs.Mounting.{OfImage, IsImageOf, IsMountedFor, MountEnds}
 use Rattle.cluster_program.specs.Runs.{Runs, RunEnds, IsDone, NotMounted, CallFailed, CallHashed, CallUnbuilt, CallDamaged, NoRoom, UnlessFault, AreCleanAtEnd, as_mounted, first_line}
@@ -146,7 +146,7 @@ module _ (given left : Inputs) (m : MountedValue) (s : ScriptValue) (items : Lis
   from = stands_for given.disk m law for.mounted
 
   -- an end in a call
-  module _ (calls : CallsTell) (needs : NeedsTell) (read : MountedAreRead) (inside : HasRootInside (seen_alone n)) where
+  module _ (calls : CallsTellExactly) (needs : NeedsTell) (read : MountedAreRead) (inside : HasRootInside (seen_alone n)) where
     call_end : (e : RunEnd) → UnlessFailed e (OfImage left.disk IsImage) → HasRun given.disk left.disk given.disk_list left.disk_list n before left.disk_faults s items (Err e) → RunEnds given left s items (status_of_end (first_line s) e)
     call_end (end.DiskFailed block rise) image r =
         CallFailed m block rise.before rise.after for (longer (given.disk_faults 1) (before 1) (left.disk_faults 1) rise.before rise.after (earlier 1) r.cause.0) r.cause.1

@@ -70,12 +70,12 @@ is_clean_head (Some head) = head.clean
 abbrev pub is_clean_in : Image → Journal → Bool
 is_clean_in im journal = is_clean_head (head_in (ring_of (every im journal.dinode)))
 
--- Why an image isn't mounted: the disk failed at a block that is reached; a field is outside the profile; a block of the device
+-- Why an image isn't mounted: the disk failed at a block of it, one that is reached where it tells its blocks; a field is outside the profile; a block of the device
 -- breaks a rule, or it is too short for a superblock, and behind the superblock that is told only where the formats are those of
 -- the profile; and what is not built: the replay of a journal, and, with such formats, a hashed directory of journals. A root that is
 -- none of the groups' data blocks is looked for last: its number stands in the superblock.
 pub data MountEnds (disk : DiskState) (faults faults_now : ℕ → ℕ) : Status → Type 0 where
-  DiskFails : (block x y : ℕ) → WentUp (faults 0) (faults_now 0) x y → OfImage disk (λ im. IsReached im block) → MountEnds disk faults faults_now (status.DeviceFault 0 (Some block) x y)
+  DiskFails : (block x y : ℕ) → WentUp (faults 0) (faults_now 0) x y → block < disk.count → OfImage disk (λ im. IsReached im block) → MountEnds disk faults faults_now (status.DeviceFault 0 (Some block) x y)
   LiesOutside : (what : Field) (value : ℕ) → OfImage disk (λ im. IsOutside im what value) → OfImage disk (λ im. IsOfProfile im → ⊥)
       → MountEnds disk faults faults_now (status.NotProfile what value)
   IsDamaged : (block rule : ℕ) → OfImage disk (λ im. RefusesRightly im (fault.Damaged block rule)) → OfImage disk NeverStands

@@ -5,10 +5,8 @@ use Rattle.fault_counts.specs.Causes.{WentUp}
 use Rattle.file_tree.specs.Tree.{Tree}
 use Rattle.file_tree.specs.declared.call.Call.{Call}
 use Rattle.cluster_history.specs.History.{Legal, NoneLost, tree_of}
-use Rattle.dinode_tree.specs.Below.{IsBelow}
-use Rattle.image_model.specs.Claims.{every, HasInode}
 use Rattle.image_model.specs.Image.{Image, image_of}
-use Rattle.image_model.specs.Rules.{Breaks}
+use Rattle.image_model.specs.Rules.{IsBrokenBlock}
 use Rattle.image_mount.specs.Mounted.{Journal, MountedValue, IsMounted}
 use Rattle.trace_text.specs.declared.item.TraceItem.{TraceItem}
 use Rattle.script_lang.specs.Script.{ScriptValue}
@@ -41,12 +39,6 @@ AtPlace given s items place P = EndsAt place P s.clients s.lines items (IsImageO
 abbrev pub first_line : ScriptValue → ℕ
 first_line s = 2 + length s.clients + length s.armed
 
--- What is told of a block as damage: it breaks the rule; or (2) it is the dinode of an inode, and a block below that has the number of one
--- that is in no group.
-pub data IsToldOf (im : Image) : ℕ → ℕ → Type 0 where
-  itself : (rule b : ℕ) → Breaks im rule b → IsToldOf im rule b
-  by_inode : (a b : ℕ) → HasInode im a → IsBelow (every im a) b → Breaks im 2 b → IsToldOf im 2 a
-
 -- How a run ends: each line is answered and the node has unmounted; the image was not mounted, before the first item; or, in a call
 -- behind the lines above it: the disk failed as its blocks were read or written; a directory is met that is a hashed one, which
 -- isn't read yet; the call would be taken, and isn't built; or a block is met that breaks a rule of the image as it then was, if that still has
@@ -61,7 +53,7 @@ pub data RunEnds (given left : Inputs) (s : ScriptValue) (items : List TraceItem
   CallUnbuilt : (m : MountedValue) (place : ℕ) → IsMountedFor given.disk m → AtPlace given s items place (λ call. IsUnbuiltOn left.disk (as_mounted given.disk m) call)
       → AtPlace given s items place (IsTakenBehind s.clients items (IsImageOf given.disk)) → RunEnds given left s items (status.NotBuilt (part.Script (first_line s + place)))
   CallDamaged : (m : MountedValue) (block rule : ℕ) → IsMountedFor given.disk m → OfImage given.disk NeverStands → AtCall given s items (λ call. IsDamagedOn left.disk (as_mounted given.disk m) call block rule)
-      → OfImage left.disk (λ im. IsMounted im m → IsToldOf im rule block) → RunEnds given left s items (status.Damaged block rule)
+      → OfImage left.disk (λ im. IsMounted im m → IsBrokenBlock im rule block) → RunEnds given left s items (status.Damaged block rule)
   NoRoom : RunEnds given left s items status.NoMemory
 
 -- item by item, the numbers of free blocks are those of the image as it then was

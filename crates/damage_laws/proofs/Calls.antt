@@ -2,7 +2,7 @@
 use Rattle.std.proofs.Common.{◌≡◌, ℕ, zero, suc, ◌+◌, ◌⊎◌, inl, inr, List, refl, sym, ◌∙◌, subst, arith}
 use Rattle.std.specs.Prelude.{false}
 use Rattle.call_locks.specs.declared.want.Want.{Want}
-use Rattle.dinode_tree.specs.Below.{IsBelow}
+use Rattle.dinode_tree.specs.Below.{IsLedFrom}
 use Rattle.dinode_tree.specs.Shown.{IsShown}
 use Rattle.file_tree.specs.declared.call.Call.{Call}
 use Rattle.file_tree.specs.declared.call.Call.TheVariants as calls
@@ -12,7 +12,6 @@ use Rattle.file_tree.specs.Names.{parent_of}
 use Rattle.gfs2_layout.specs.Device.{superblock_place}
 use Rattle.gfs2_layout.specs.Headers.{HasHeader}
 use Rattle.gfs2_layout.specs.Holding.{Holding}
-use Rattle.gfs2_layout.specs.Inode.{Leads, from_dinode, from_block}
 use Rattle.gfs2_layout.specs.declared.rindex.Rindex.{Rindex}
 use Rattle.glock_names.specs.Views.{Seen, HasGroup, group_of_entry}
 use Rattle.glock_names.specs.declared.views.Group.{Group}
@@ -29,7 +28,7 @@ use Rattle.making_calls.specs.Making as making
 use Rattle.path_walks.specs.Walks as path
 use Rattle.removing_calls.specs.Removing as removing
 use Rattle.writing_calls.specs.Writing as writing
-use Rattle.damage_laws.specs.Telling.{IsReadFrom, HasRootInside, HasWholeGroups, IsTold, itself, by_root, by_inode, WritesTell, WritesTellExactly, RemovalsTell, MakingsTell, MakingsTellExactly, CallsTell}
+use Rattle.damage_laws.specs.Telling.{IsReadFrom, HasRootInside, HasWholeGroups, IsTold, itself, by_root, WritesTell, WritesTellExactly, RemovalsTell, RemovalsTellExactly, MakingsTell, MakingsTellExactly, CallsTell, CallsTellExactly}
 use Rattle.damage_laws.proofs.Claimed.{shown, root_claimed, led_there, outside}
 use Rattle.damage_laws.proofs.Paths.{wrong_inode, paths_tell}
 
@@ -48,20 +47,12 @@ module _ (v : Seen) (im : Image) (read : IsReadFrom v im) where
     | inr inside ↦ absurd (out inside)
   ]
 
-  -- ---- a block in no group that goes with an inode: it is led to by a block of that one
+  -- ---- a pointer of an inode that leads to a block in no group: the number stands in the pointer's block
 
-  led_told : (a from k level first b : ℕ) → HasInode im a → Leads (every im a) from k level first b → Breaks im 2 from → IsTold v im 2 a
-  led_told a from k level first b has (from_dinode j up height low some) broken = itself 2 a broken
-  led_told a from k level first b has (from_block x j up start c i leads low some) broken = by_inode a c has (x, j, suc up, start, leads) broken
-
-  stray_told : (wants : List Want) (path : Path) (a b : ℕ) → LeadsTo v wants path a → (b ≡ a) ⊎ IsBelow (every im a) b → ¬ (HasDataBlock v b) → IsTold v im 2 a
-  stray_told wants path a b leads goes out = elim goes [
-    | inl e ↦ root_told wants path a leads (subst (λ c. ¬ (HasDataBlock v c)) e out)
-    | inr led ↦
-        let has = led_there v im read wants path a leads in
-        led_told a led.0 led.1 led.2 led.3 b has led.4
-        (beyond_groups led.0 b (Below a led.0 led.1 led.2 led.3) (below has.1.by a has.0 led.0 led.1 led.2 led.3 b has.1.claimed has.1.dinode led.4) (outside v im read b out))
-  ]
+  stray_told : (wants : List Want) (path : Path) (a from b : ℕ) → LeadsTo v wants path a → IsLedFrom (every im a) from b → ¬ (HasDataBlock v b) → Breaks im 2 from
+  stray_told wants path a from b leads led out =
+      let has = led_there v im read wants path a leads in
+      beyond_groups from b (Below a from led.0 led.1 led.2) (below has.1.by a has.0 from led.0 led.1 led.2 b has.1.claimed has.1.dinode led.3) (outside v im read b out)
 
   -- ---- groups
 
@@ -83,25 +74,29 @@ module _ (v : Seen) (im : Image) (read : IsReadFrom v im) where
         let listed = (read.groups k).0 has in
         broken_group listed.0 listed.1 rule b (subst (λ g. group.IsBroken im.at g rule b) listed.2 (broken im.at (group_shown k has)))
 
+-- where the root is in a group there is no exception
+as_itself : (v : Seen) (im : Image) → HasRootInside v → (rule b : ℕ) → IsTold v im rule b → Breaks im rule b
+as_itself v im inside rule b (itself r x breaks) = breaks
+as_itself v im inside rule b (by_root bare breaks) = absurd (bare inside)
+
 -- ---- the calls
 
 pub writes_tell : WritesTell
 writes_tell v im call rule b read (writing.on_path r x broken) = itself r x (paths_tell v im (wanted call) (path_of call false) r x read broken)
 writes_tell v im call rule b read (writing.no_data_block a leads out) = root_told v im read (wanted call) (path_of call false) a leads out
 
--- where the root is in a group, so is each inode to which a path leads
-all_inside : (v : Seen) (wants : List Want) (path : Path) (a : ℕ) → HasRootInside v → LeadsTo v wants path a → ¬ (HasDataBlock v a) → ⊥
-all_inside v wants path a inside leads out = elim (led_inside v wants path a leads) [ inl e ↦ out (subst (HasDataBlock v) (sym e) inside) | inr there ↦ out there ]
-
 pub writes_tell_exactly : WritesTellExactly
-writes_tell_exactly v im call rule b read inside (writing.on_path r x broken) = paths_tell v im (wanted call) (path_of call false) r x read broken
-writes_tell_exactly v im call rule b read inside (writing.no_data_block a leads out) = absurd (all_inside v (wanted call) (path_of call false) a inside leads out)
+writes_tell_exactly v im call rule b read inside told = as_itself v im inside rule b (writes_tell v im call rule b read told)
 
 pub removals_tell : RemovalsTell
 removals_tell v im call rule b read whole (removing.on_path r x broken) = itself r x (paths_tell v im (wanted call) (path_of call false) r x read broken)
-removals_tell v im call rule b read whole (removing.stray a x taken goes out) = stray_told v im read (wanted call) (path_of call false) a x taken.leads (goes (every im a) (shown v im read a)) out
+removals_tell v im call rule b read whole (removing.stray a from x taken led out) =
+    itself 2 from (stray_told v im read (wanted call) (path_of call false) a from x taken.leads (led (every im a) (shown v im read a)) out)
 removals_tell v im call rule b read whole (removing.above a leads out) = root_told v im read (wanted call) (parent_of (path_of call false)) a leads out
 removals_tell v im call rule b read whole (removing.in_group a r x blocks taken all held breaks) = itself r x (group_told v im read whole breaks.0 breaks.1 r x breaks.3)
+
+pub removals_tell_exactly : RemovalsTellExactly
+removals_tell_exactly v im call rule b read whole inside told = as_itself v im inside rule b (removals_tell v im call rule b read whole told)
 
 module _ (v : Seen) (im : Image) (call : Call) (read : IsReadFrom v im) (whole : HasWholeGroups v im) where
   in_directory_told : (a rule b : ℕ) → LeadsTo v (wanted call) (making.directory_path call) a → ((h : Holding) → IsShown v a h → IsWrong h rule b) → Breaks im rule b
@@ -113,17 +108,11 @@ module _ (v : Seen) (im : Image) (call : Call) (read : IsReadFrom v im) (whole :
   makings_told rule b (making.in_group r x broken) = itself r x (group_told v im read whole broken.group broken.has r x broken.broken)
   makings_told rule b (making.no_data_block a leads out) = root_told v im read (wanted call) (making.directory_path call) a leads out
 
-  makings_told_exactly : (rule b : ℕ) → HasRootInside v → making.IsDamage v call rule b → Breaks im rule b
-  makings_told_exactly rule b inside (making.on_path r x broken) = paths_tell v im (wanted call) (making.directory_path call) r x read broken
-  makings_told_exactly rule b inside (making.in_directory a r x leads wrong) = in_directory_told a r x leads wrong
-  makings_told_exactly rule b inside (making.in_group r x broken) = group_told v im read whole broken.group broken.has r x broken.broken
-  makings_told_exactly rule b inside (making.no_data_block a leads out) = absurd (all_inside v (wanted call) (making.directory_path call) a inside leads out)
-
 pub makings_tell : MakingsTell
 makings_tell v im call rule b read whole told = makings_told v im call read whole rule b told
 
 pub makings_tell_exactly : MakingsTellExactly
-makings_tell_exactly v im call rule b read whole inside told = makings_told_exactly v im call read whole rule b inside told
+makings_tell_exactly v im call rule b read whole inside told = as_itself v im inside rule b (makings_told v im call read whole rule b told)
 
 path_told : (v : Seen) (im : Image) (call : Call) (rule b : ℕ) → IsReadFrom v im → path.IsDamage v (wanted call) (path_of call false) rule b → IsTold v im rule b
 path_told v im call rule b read broken = itself rule b (paths_tell v im (wanted call) (path_of call false) rule b read broken)
@@ -141,3 +130,6 @@ calls_tell v im (calls.Stat p) rule b read whole told = path_told v im (calls.St
 calls_tell v im (calls.List p) rule b read whole told = path_told v im (calls.List p) rule b read told
 calls_tell v im (calls.Rename p q) rule b read whole told = path_told v im (calls.Rename p q) rule b read told
 calls_tell v im calls.Sync rule b read whole told = path_told v im calls.Sync rule b read told
+
+pub calls_tell_exactly : CallsTellExactly
+calls_tell_exactly v im call rule b read whole inside told = as_itself v im inside rule b (calls_tell v im call rule b read whole told)

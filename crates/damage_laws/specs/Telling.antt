@@ -1,19 +1,18 @@
 -- What a call tells of a view as damage, in each image that the view may have been read from.
-use Rattle.std.specs.Prelude.{ℕ, ◌≡◌, ◌↔◌, ◌==◌, ◌<◌, ◌≤◌, if◌then◌else◌, List}
+use Rattle.std.specs.Prelude.{ℕ, ◌≡◌, ◌⊎◌, ◌↔◌, ◌==◌, ◌<◌, ◌≤◌, if◌then◌else◌, List}
 use Rattle.draft_changes.specs.Shown.{AgreesWith}
 use Rattle.call_locks.specs.declared.want.Want.{Want}
-use Rattle.dinode_tree.specs.Below.{IsBelow}
 use Rattle.file_calls.specs.Calls as calls
 use Rattle.file_tree.specs.declared.call.Call.{Call}
 use Rattle.file_tree.specs.Tree.{Tree}
 use Rattle.gfs2_layout.specs.Device.{superblock_place}
 use Rattle.gfs2_layout.specs.declared.rindex.Rindex.{Rindex}
-use Rattle.glock_names.specs.Views.{Seen, HasGroup, group_of_entry}
+use Rattle.glock_names.specs.Views.{Seen, HasBlock, HasGroup, group_of_entry}
 use Rattle.glock_names.specs.declared.steps.Missing.{Missing}
 use Rattle.glock_names.specs.declared.views.Group.{Group}
 use Rattle.image_changes.specs.Does.{IsOf}
 use Rattle.image_model.specs.Claims as image
-use Rattle.image_model.specs.Claims.{every, HasInode}
+use Rattle.image_model.specs.Claims.{HasInode}
 use Rattle.image_model.specs.Flat.{Path}
 use Rattle.image_model.specs.Image.{Image, IsImage, superblock_in}
 use Rattle.image_model.specs.Owners.{Owners}
@@ -52,12 +51,10 @@ pub record IsOfMounted (v : Seen) (im : Image) (m : MountedValue) : Type 0 where
 abbrev pub HasRootInside : Seen → Type 0
 HasRootInside v = HasDataBlock v v.root
 
--- A broken block is told of as itself; or (2) by the root, where that is in no group, the superblock, which has its number; or by an inode
--- a block below it, which has the number of a block that is in no group.
+-- A broken block is told of as itself; or (2) by the root, where that is in no group: the superblock, which has its number, breaks the rule.
 pub data IsTold (v : Seen) (im : Image) : ℕ → ℕ → Type 0 where
   itself : (rule b : ℕ) → Breaks im rule b → IsTold v im rule b
   by_root : ¬ (HasRootInside v) → Breaks im 2 (superblock_place im.size) → IsTold v im 2 v.root
-  by_inode : (a b : ℕ) → HasInode im a → IsBelow (every im a) b → Breaks im 2 b → IsTold v im 2 a
 
 -- ---- laws
 
@@ -89,6 +86,9 @@ WritesTellExactly = (v : Seen) (im : Image) (call : Call) (rule b : ℕ) → IsR
 abbrev pub RemovalsTell : Type 0
 RemovalsTell = (v : Seen) (im : Image) (call : Call) (rule b : ℕ) → IsReadFrom v im → HasWholeGroups v im → removing.IsDamage v call rule b → IsTold v im rule b
 
+abbrev pub RemovalsTellExactly : Type 0
+RemovalsTellExactly = (v : Seen) (im : Image) (call : Call) (rule b : ℕ) → IsReadFrom v im → HasWholeGroups v im → HasRootInside v → removing.IsDamage v call rule b → Breaks im rule b
+
 -- damage that making a name meets, the same
 abbrev pub MakingsTell : Type 0
 MakingsTell = (v : Seen) (im : Image) (call : Call) (rule b : ℕ) → IsReadFrom v im → HasWholeGroups v im → making.IsDamage v call rule b → IsTold v im rule b
@@ -100,11 +100,19 @@ MakingsTellExactly = (v : Seen) (im : Image) (call : Call) (rule b : ℕ) → Is
 abbrev pub CallsTell : Type 0
 CallsTell = (v : Seen) (im : Image) (call : Call) (rule b : ℕ) → IsReadFrom v im → HasWholeGroups v im → calls.IsDamage v call rule b → IsTold v im rule b
 
+abbrev pub CallsTellExactly : Type 0
+CallsTellExactly = (v : Seen) (im : Image) (call : Call) (rule b : ℕ) → IsReadFrom v im → HasWholeGroups v im → HasRootInside v → calls.IsDamage v call rule b → Breaks im rule b
+
 -- the block in which the number of one that is needed stands: the superblock has that of the root, which is asked for by itself
 abbrev pub source_of : ℕ → Missing → ℕ
 source_of size m = if m.from == m.block then superblock_place size else m.from
 
+-- that block breaks the rule, and is the superblock's or one that the view has
+pub record IsBrokenSource (v : Seen) (im : Image) (b : ℕ) : Type 0 where
+  pub breaks : Breaks im 2 b
+  pub there : (b ≡ superblock_place im.size) ⊎ HasBlock v b
+
 -- a number that any such call needs, and that leads out of the device
 abbrev pub NeedsTell : Type 0
 NeedsTell = (v : Seen) (im : Image) (call : Call) (m : Missing) → IsReadFrom v im → HasWholeGroups v im → calls.IsNeededFor v call m → im.count ≤ m.block
-    → Breaks im 2 (source_of im.size m)
+    → IsBrokenSource v im (source_of im.size m)

@@ -1,5 +1,5 @@
 //! What is told as damage.
-ghost use Rattle.damage_laws.specs.Telling.{CallsTell, InodesAreThere, MakingsTell, MakingsTellExactly, MountedAreRead, NeedsTell, PathsTell, RemovalsTell, StandingAreRead, WritesTell, WritesTellExactly};
+ghost use Rattle.damage_laws.specs.Telling.{CallsTell, CallsTellExactly, InodesAreThere, MakingsTell, MakingsTellExactly, MountedAreRead, NeedsTell, PathsTell, RemovalsTell, RemovalsTellExactly, StandingAreRead, WritesTell, WritesTellExactly};
 
 /// A law: a view that may be of an image that stands may have been read from it, and has the root and the groups that the laws below
 /// ask for.
@@ -27,10 +27,10 @@ pub fn writes_tell_broken_blocks()
     ensures exact { WritesTellExactly }
 {}
 
-/// A law: so does what the removal of a name tells, where the groups are on the device; but for the root's block, so, and for the dinode of
-/// an inode in which an indirect block leads to a block that is in no group: there the indirect block breaks the rule.
+/// A law: so does what the removal of a name tells, where the groups are on the device; but for the root's block, so.
 pub fn removals_tell_broken_blocks()
-    ensures { RemovalsTell }
+    ensures broken { RemovalsTell }
+    ensures exact { RemovalsTellExactly }
 {}
 
 /// A law: so does what a call tells that makes a name, where the groups are on the device; but for the root's block, so.
@@ -41,7 +41,8 @@ pub fn makings_tell_broken_blocks()
 
 /// A law: so does what each call tells that is built, with no other exception.
 pub fn calls_tell_broken_blocks()
-    ensures { CallsTell }
+    ensures broken { CallsTell }
+    ensures exact { CallsTellExactly }
 {}
 
 /// A law: where a block that such a call needs lies out of the device, the block in which its number stands breaks the rule on numbers: the

@@ -1,6 +1,7 @@
 pub mod Dinodes
 pub mod Spans
 pub mod Pointers
+pub mod Risen
 pub mod Rows
 pub mod Stepping
 pub mod Ranges

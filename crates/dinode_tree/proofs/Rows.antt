@@ -1,11 +1,7 @@
 -- What is added to the blocks that were found below a dinode, and the rows that are had then.
-use Rattle.std.proofs.Common.{◌≡◌, ◌≢◌, ◌⊎◌, ℕ, suc, ◌+◌, ◌-◌, ◌*◌, ◌<◌, ◌≤◌, ◌↔◌, inl, inr, Bool, List, [], length, get_or, Some, None, refl, sym, ap, subst, ◌∙◌, zero-add, arith}
+use Rattle.std.proofs.Common.{◌≡◌, ◌≢◌, ◌⊎◌, ℕ, suc, ◌+◌, ◌-◌, ◌*◌, ◌<◌, ◌≤◌, inl, inr, List, [], length, get_or, Some, None, refl, sym, ap, subst, ◌∙◌, zero-add, arith}
 use Rattle.std.specs.Prelude.{◌==◌, ◌&&◌, Contains}
-use Rattle.std.specs.Cmp.{IsEquivalence}
-use Rattle.std.specs.List.{dedup}
-use Rattle.std.proofs.lemmas.Cmp.{nat_eq_equiv}
-use Rattle.std.proofs.lemmas.List.Kept.{Any-dedup}
-use Rattle.std.proofs.lemmas.Bool.{cases_lt, eqb-true}
+use Rattle.std.proofs.lemmas.Bool.{cases_lt}
 use Rattle.std.proofs.lemmas.List.{get_or_default}
 use Rattle.gfs2_layout.specs.Bytes.{u64_at}
 use Rattle.gfs2_layout.specs.Headers.{HasHeader}
@@ -17,12 +13,13 @@ use Rattle.glock_names.specs.Views.{Seen, IsView, HasBlock}
 use Rattle.glock_names.specs.declared.steps.CallFault.{CallFault}
 use Rattle.glock_names.specs.declared.steps.CallFault.TheVariants.{Damaged}
 use Rattle.glock_names.specs.declared.steps.Missing.{Missing}
-use Rattle.dinode_tree.specs.Below.{IsBelow, AnyIndex, IsLed, IsPointing, way_below, IsUnder, IsUnderRow, AreAdded, HasRows}
+use Rattle.dinode_tree.specs.Below.{IsBelow, IsLedFrom, TellsOfBlock, AnyIndex, IsLed, IsPointing, way_below, pointed_by, IsUnder, IsUnderRow, AreAdded, HasRows}
 use Rattle.dinode_tree.specs.Broken.{IsBroken, no_header, of_indirect, past_end}
 use Rattle.dinode_tree.specs.Reading.{inode_lock, IsNeeded, led_to}
 use Rattle.dinode_tree.specs.Shown.{IsShown}
 use Rattle.dinode_tree.specs.Walking.{held, IsIn, IsOf}
 use Rattle.dinode_tree.specs.declared.below.Below.{Below}
+use Rattle.dinode_tree.specs.declared.below.PointedBlock.{PointedBlock}
 use Rattle.dinode_tree.specs.declared.inode.Inode.{Inode}
 use Rattle.dinode_tree.specs.declared.ways.Link.{Link}
 use Rattle.dinode_tree.specs.declared.ways.Way.{Way}
@@ -46,7 +43,7 @@ pub added_both : (x y z : Below) (P Q R : Link → Type 0) → AreAdded x y P �
 added_both x y z P Q R first second left right split = record {
   blocks_stay = λ b has. second.blocks_stay b (first.blocks_stay b has);
   blocks_come = λ l r. elim (split l r) [
-    | inl p ↦ second.blocks_stay l.block (first.blocks_come l p)
+    | inl p ↦ second.blocks_stay (pointed_by l) (first.blocks_come l p)
     | inr q ↦ second.blocks_come l q
   ];
   blocks_only = λ b has. elim (second.blocks_only b has) [
@@ -196,14 +193,14 @@ pub led_of : (h : Holding) (bytes : List ℕ) (start : ℕ) (way : Way) (k : ℕ
 led_of h bytes start way k l p size leads = subst (IsLed h) (sym p.is)
     (k, subst (λ n. Leads h way.from k way.level (way.index + k * span n way.level) (u64_at (start + 8 * k) bytes)) (sym size) leads)
 
-below_of : (h : Holding) (l : Link) → IsLed h l → IsBelow h l.block
-below_of h l led = (l.way.from, led.0, l.way.level, l.way.index, led.1)
+from_of : (h : Holding) (l : Link) → IsLed h l → IsLedFrom h l.way.from l.block
+from_of h l led = (led.0, l.way.level, l.way.index, led.1)
 
 link_is : (from from' level first first' b b' : ℕ) → from ≡ from' → first ≡ first' → b ≡ b'
     → ◌≡◌ {A = Link} (record { way = record { from = from; level = level; index = first; left = 0 }; block = b }) (record { way = record { from = from'; level = level; index = first'; left = 0 }; block = b' })
 link_is from from' level first first' b b' e f d = λ j. record { way = record { from = e j; level = level; index = f j; left = 0 }; block = d j }
 
-none_in : {X : Type 0} (xs : List X) (x : X) → xs ≡ [] → Contains xs x → ⊥
+pub none_in : {X : Type 0} (xs : List X) (x : X) → xs ≡ [] → Contains xs x → ⊥
 none_in xs x none has = omega (arith, has.1, ap length none)
 
 -- ---- one link, and one row
@@ -257,23 +254,6 @@ row_above x y P none added l has = elim (added.row_only l has) [
   | inr made ↦ made.1
 ]
 
--- ---- one link to each block
-
-abbrev pub same_block : Link → Link → Bool
-same_block l m = l.block == m.block
-
-same_block_equiv : IsEquivalence same_block
-same_block_equiv = record {
-  refl = λ l. nat_eq_equiv.refl l.block;
-  symm = λ l m. nat_eq_equiv.symm l.block m.block;
-  congr = λ l m n. nat_eq_equiv.congr l.block m.block n.block;
-}
-
-pub one_of_each : (xs kept : List Link) (l : Link) → kept ≡ dedup same_block xs → Contains xs l → (m : Link) × Contains kept m × (m.block ≡ l.block)
-one_of_each xs kept l is has =
-    let found = Any-dedup same_block_equiv xs l has in
-    (found.1, subst (λ ys. Contains ys found.1) (sym is) (found.0, found.2, found.3), sym (eqb-true l.block found.1.block found.4))
-
 -- ---- the rows
 
 -- the first row: where the dinode's pointers lead
@@ -302,13 +282,16 @@ module _ (h : Holding) (inode : Inode) (top : ℕ) (o : IsOf h inode) (high : he
 
   pub rows_first : (x y : Below) → x.found.items ≡ [] → x.row.items ≡ [] → AreAdded x y IsTop → HasRows h top y
   rows_first x y no_blocks no_row added = record {
-    only = λ b has. elim (added.blocks_only b has) [
-      | inl before ↦ absurd (none_in x.found.items b no_blocks before)
-      | inr made ↦ subst (IsBelow h) (sym made.2) (below_of h made.0 (top_led made.0 made.1))
+    only = λ p has. elim (added.blocks_only p has) [
+      | inl before ↦ absurd (none_in x.found.items p no_blocks before)
+      | inr made ↦ subst (λ (q : PointedBlock). IsLedFrom h q.from q.block) (sym made.2) (from_of h made.0 (top_led made.0 made.1))
     ];
     all = λ from k at first b above leads.
-        let same : at ≡ top = omega (arith, above, high, leads_low h from k at first b leads) in
-        added.blocks_come (record { way = record { from = from; level = top; index = first; left = 0 }; block = b }) (top_all from k first b (subst (λ l. Leads h from k l first b) same leads));
+        let same : at ≡ top = omega (arith, above, high, leads_low h from k at first b leads) in (
+          record { block = b; from = from },
+          added.blocks_come (record { way = record { from = from; level = top; index = first; left = 0 }; block = b }) (top_all from k first b (subst (λ l. Leads h from k l first b) same leads)),
+          refl,
+        );
     led = λ l has. elim (added.row_only l has) [
       | inl before ↦ absurd (none_in x.row.items l no_row before)
       | inr made ↦
@@ -368,16 +351,18 @@ module _ (v : Seen) (h : Holding) (a level : ℕ) (old : Below) (kept : List Lin
 
   pub rows_next : (x y : Below) → x.found.items ≡ old.found.items → x.row.items ≡ [] → AreAdded x y IsNext → HasRows h (level - 1) y
   rows_next x y same_blocks no_row added = record {
-    only = λ b has. elim (added.blocks_only b has) [
-      | inl before ↦ rows.only b (subst (λ xs. Contains xs b) same_blocks before)
-      | inr made ↦ subst (IsBelow h) (sym made.2) (below_of h made.0 (next_led made.0 made.1))
+    only = λ p has. elim (added.blocks_only p has) [
+      | inl before ↦ rows.only p (subst (λ xs. Contains xs p) same_blocks before)
+      | inr made ↦ subst (λ (q : PointedBlock). IsLedFrom h q.from q.block) (sym made.2) (from_of h made.0 (next_led made.0 made.1))
     ];
     all = λ from k at first b above leads. elim (cases_lt at level) [
       | inl below ↦
           let same : at ≡ level - 1 = omega (arith, above, below) in
           let next = next_all from k first b (subst (λ l. Leads h from k l first b) same leads) in
-          subst (Contains y.found.items) next.2 (added.blocks_come next.0 next.1)
-      | inr higher ↦ added.blocks_stay b (subst (λ xs. Contains xs b) (sym same_blocks) (rows.all from k at first b higher leads))
+          (pointed_by next.0, added.blocks_come next.0 next.1, next.2)
+      | inr higher ↦
+          let found = rows.all from k at first b higher leads in
+          (found.0, added.blocks_stay found.0 (subst (λ xs. Contains xs found.0) (sym same_blocks) found.1), found.2)
     ];
     led = λ l has. elim (added.row_only l has) [
       | inl before ↦ absurd (none_in x.row.items l no_row before)
@@ -388,8 +373,35 @@ module _ (v : Seen) (h : Holding) (a level : ℕ) (old : Below) (kept : List Lin
         (next.0, added.row_comes next.0 next.1 (omega (arith, above, next_level next.0 next.1)), next.2);
   }
 
-pub rows_done : (h : Holding) (y : Below) → HasRows h 0 y → (b : ℕ) → Contains y.found.items b ↔ IsBelow h b
-rows_done h y rows b = (rows.only b, λ (from, k, at, first, leads). rows.all from k at first b (omega arith) leads)
+-- ---- the blocks that are had then
 
-pub none_below : (h : Holding) (blocks : List ℕ) → height_in h ≡ 0 → blocks ≡ [] → (b : ℕ) → Contains blocks b ↔ IsBelow h b
-none_below h blocks low none b = (λ has. absurd (none_in blocks b none has), λ (from, k, at, first, leads). absurd (omega (arith, low, leads_low h from k at first b leads)))
+pub rows_done : (h : Holding) (y : Below) → HasRows h 0 y → (b : ℕ) → IsBelow h b → TellsOfBlock y.found.items b
+rows_done h y rows b (from, k, at, first, leads) = rows.all from k at first b (omega arith) leads
+
+pub none_below : (h : Holding) (blocks : List PointedBlock) → height_in h ≡ 0 → (b : ℕ) → IsBelow h b → TellsOfBlock blocks b
+none_below h blocks low b (from, k, at, first, leads) = absurd (omega (arith, low, leads_low h from k at first b leads))
+
+-- each pointer stands in a block that the view has: the dinode's, or an indirect block that was gone over
+abbrev pub AreSeen : Seen → List PointedBlock → Type 0
+AreSeen v blocks = (p : PointedBlock) → Contains blocks p → HasBlock v p.from
+
+pub none_seen : (v : Seen) (blocks : List PointedBlock) → blocks ≡ [] → AreSeen v blocks
+none_seen v blocks none p has = absurd (none_in blocks p none has)
+
+pub seen_first : (v : Seen) (x y : Below) (bytes : List ℕ) (start : ℕ) (way : Way) → x.found.items ≡ [] → HasBlock v way.from
+    → AreAdded x y (λ l. (k : ℕ) × (k < fan (length bytes) start) × IsPointing bytes start way k l) → AreSeen v y.found.items
+seen_first v x y bytes start way none here added p has = elim (added.blocks_only p has) [
+  | inl before ↦ absurd (none_in x.found.items p none before)
+  | inr made ↦
+      let from : p.from ≡ way.from = ap (λ (q : PointedBlock). q.from) made.2 ∙ ap (λ (l : Link). l.way.from) made.1.2.is in
+      subst (HasBlock v) (sym from) here
+]
+
+pub seen_next : (v : Seen) (x y : Below) (kept : List Link) → AreSeen v x.found.items → AreAdded x y (IsUnderRow v kept) → AreSeen v y.found.items
+seen_next v x y kept before added p has = elim (added.blocks_only p has) [
+  | inl older ↦ before p older
+  | inr made ↦
+      let under = made.1.2 in
+      let from : p.from ≡ made.1.0.block = ap (λ (q : PointedBlock). q.from) made.2 ∙ ap (λ (l : Link). l.way.from) under.2.2.is in
+      subst (HasBlock v) (sym from) (under.0, under.1)
+]

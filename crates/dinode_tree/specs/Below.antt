@@ -5,12 +5,21 @@ use Rattle.gfs2_layout.specs.Holding.{Holding}
 use Rattle.gfs2_layout.specs.Inode.{Leads, header_length, fan, span}
 use Rattle.glock_names.specs.Views.{Seen}
 use Rattle.dinode_tree.specs.declared.below.Below.{Below}
+use Rattle.dinode_tree.specs.declared.below.PointedBlock.{PointedBlock}
 use Rattle.dinode_tree.specs.declared.ways.Link.{Link}
 use Rattle.dinode_tree.specs.declared.ways.Way.{Way}
 
 -- a pointer of the inode leads to the block
 abbrev pub IsBelow : Holding → ℕ → Type 0
 IsBelow h b = (from k level first : ℕ) × Leads h from k level first b
+
+-- a pointer of the inode that stands in block `from` leads to block b
+abbrev pub IsLedFrom : Holding → ℕ → ℕ → Type 0
+IsLedFrom h from b = (k level first : ℕ) × Leads h from k level first b
+
+-- the list tells of block b, and of a block in which a pointer to it stands
+abbrev pub TellsOfBlock : List PointedBlock → ℕ → Type 0
+TellsOfBlock list b = (p : PointedBlock) × Contains list p × (p.block ≡ b)
 
 -- every block of content is wanted
 abbrev pub AnyIndex : ℕ → Type 0
@@ -39,11 +48,15 @@ IsUnder v over link = (bytes : List ℕ) × (v.block_at over.block ≡ Some byte
 abbrev pub IsUnderRow : Seen → List Link → Link → Type 0
 IsUnderRow v row link = (over : Link) × Contains row over × IsUnder v over link
 
+-- the block to which a link leads, and that in which its pointer stands
+abbrev pub pointed_by : Link → PointedBlock
+pointed_by link = record { block = link.block; from = link.way.from }
+
 -- these links and no others are added: each one's block to the blocks, and the link itself to the row, where it leads to an indirect block
 pub record AreAdded (old new : Below) (P : Link → Type 0) : Type 0 where
-  pub blocks_stay : (b : ℕ) → Contains old.found.items b → Contains new.found.items b
-  pub blocks_come : (l : Link) → P l → Contains new.found.items l.block
-  pub blocks_only : (b : ℕ) → Contains new.found.items b → Contains old.found.items b ⊎ ((l : Link) × P l × (b ≡ l.block))
+  pub blocks_stay : (p : PointedBlock) → Contains old.found.items p → Contains new.found.items p
+  pub blocks_come : (l : Link) → P l → Contains new.found.items (pointed_by l)
+  pub blocks_only : (p : PointedBlock) → Contains new.found.items p → Contains old.found.items p ⊎ ((l : Link) × P l × (p ≡ pointed_by l))
   pub row_stays : (l : Link) → Contains old.row.items l → Contains new.row.items l
   pub row_comes : (l : Link) → P l → 1 ≤ l.way.level → Contains new.row.items l
   pub row_only : (l : Link) → Contains new.row.items l → Contains old.row.items l ⊎ (P l × (1 ≤ l.way.level))
@@ -51,7 +64,7 @@ pub record AreAdded (old new : Below) (P : Link → Type 0) : Type 0 where
 -- All blocks are found that stand so many levels above content or further up, and no others than the inode has; and the row has a link to
 -- each of those at this level, where that isn't content.
 pub record HasRows (h : Holding) (level : ℕ) (below : Below) : Type 0 where
-  pub only : (b : ℕ) → Contains below.found.items b → IsBelow h b
-  pub all : (from k at first b : ℕ) → level ≤ at → Leads h from k at first b → Contains below.found.items b
+  pub only : (p : PointedBlock) → Contains below.found.items p → IsLedFrom h p.from p.block
+  pub all : (from k at first b : ℕ) → level ≤ at → Leads h from k at first b → TellsOfBlock below.found.items b
   pub led : (l : Link) → Contains below.row.items l → IsLed h l × (l.way.level ≡ level) × (1 ≤ level)
   pub row : (from k first b : ℕ) → 1 ≤ level → Leads h from k level first b → (l : Link) × Contains below.row.items l × (l.block ≡ b)

@@ -1,5 +1,5 @@
 // The blocks to which the pointers of an inode lead, a row of levels after another.
-ghost use Rattle.std.specs.Prelude.{ℕ, ◌≡◌, ◌≢◌, ◌+◌, ◌*◌, ◌<◌, ◌≤◌, ◌↔◌, IfOk, OnOk, IfSome, IfNone, Contains, List, length};
+ghost use Rattle.std.specs.Prelude.{ℕ, ◌≡◌, ◌≢◌, ◌+◌, ◌*◌, ◌<◌, ◌≤◌, IfOk, OnOk, IfSome, IfNone, Contains, List, length, map};
 ghost use Rattle.std.specs.List.Sorted.{IsStrictlyIncreasing};
 ghost use Rattle.gfs2_layout.specs.Bytes.{u64_at};
 ghost use Rattle.gfs2_layout.specs.Holding.{Holding};
@@ -10,7 +10,8 @@ ghost use Rattle.dinode_tree.specs.Shown.{IsShown, IsAtBlock};
 ghost use Rattle.dinode_tree.specs.Broken.{IsBroken};
 ghost use Rattle.dinode_tree.specs.Reading.{IsNeeded};
 ghost use Rattle.dinode_tree.specs.Walking.{held, IsIn, IsOf};
-ghost use Rattle.dinode_tree.specs.Below.{IsBelow, AnyIndex, IsPointing, AreAdded, IsUnder, IsUnderRow, IsLed};
+ghost use Rattle.dinode_tree.specs.Below.{IsBelow, IsLedFrom, TellsOfBlock, AnyIndex, IsPointing, AreAdded, IsUnder, IsUnderRow, IsLed};
+ghost use Rattle.dinode_tree.specs.declared.below.PointedBlock.{PointedBlock};
 
 use crate::blocks::damaged;
 use crate::inode::{IN_BLOCK, Inode};
@@ -24,10 +25,17 @@ use no_memory::NoMemory;
 use std::alloc::Global;
 use std::mem;
 
+/// A block to which a pointer of an inode leads, and the block in which that pointer stands: the dinode's, or an indirect block.
+#[derive(Clone, Copy)]
+pub struct PointedBlock {
+    pub block: u64,
+    pub from: u64,
+}
+
 /// Blocks that were found below a dinode, and the links to those of the lowest row that have pointers of their own.
 #[derive(Drop)]
 pub(crate) struct Below {
-    pub found: Vec<u64>,
+    pub found: Vec<PointedBlock>,
     pub row: Vec<Link>,
 }
 
@@ -39,7 +47,10 @@ impl Below {
     pub fn add(&mut self, link: Link) -> Result<(), NoMemory>
         ensures { OnOk result (AreAdded self.old self.new (λ l. l ≡ link)) }
     {
-        self.found.push(link.block)?;
+        self.found.push(PointedBlock {
+            block: link.block,
+            from: link.way.from,
+        })?;
         if link.way.level > 0 {
             self.row.push(link)?;
         }
@@ -209,9 +220,11 @@ fn below_in<V: View>(
     alloc: Global,
     view: &V,
     inode: &Inode<'_>,
-) -> Result<Step<Vec<u64>>, CallFault>
+) -> Result<Step<Vec<PointedBlock>>, CallFault>
     requires seen { IsIn (V.seen view.now) inode.now }
-    ensures found { (h : Holding) → IsShown (V.seen view.now) inode.now.block h → IfIs result (λ blocks. (b : ℕ) → Contains blocks.items b ↔ IsBelow h b) }
+    ensures led { (h : Holding) → IsShown (V.seen view.now) inode.now.block h → IfIs result (λ blocks. (p : PointedBlock) → Contains blocks.items p → IsLedFrom h p.from p.block) }
+    ensures all { (h : Holding) → IsShown (V.seen view.now) inode.now.block h → IfIs result (λ blocks. (b : ℕ) → IsBelow h b → TellsOfBlock blocks.items b) }
+    ensures there { IfIs result (λ blocks. (p : PointedBlock) → Contains blocks.items p → HasBlock (V.seen view.now) p.from) }
     ensures needed { (h : Holding) → IsShown (V.seen view.now) inode.now.block h → IfNeedBlock result (IsNeeded (V.seen view.now) h AnyIndex 1) }
     ensures damaged { (h : Holding) → IsShown (V.seen view.now) inode.now.block h → IfDamaged result (IsBroken h) }
     ensures kept { IfDamaged result (IsOfView (V.seen view.now)) }
@@ -242,28 +255,32 @@ fn below_in<V: View>(
     Ok(Step::Is(below.found))
 }
 
-// The numbers by rising order, each once.
-fn rising(mut blocks: Vec<u64>) -> Result<Vec<u64>, NoMemory>
-    ensures same { IfOk result (λ sorted. (b : ℕ) → Contains sorted.items b ↔ Contains blocks.items b) }
-    ensures rising { IfOk result (λ sorted. IsStrictlyIncreasing sorted.items) }
+// The blocks by rising number, each once.
+fn rising(mut blocks: Vec<PointedBlock>) -> Result<Vec<PointedBlock>, NoMemory>
+    ensures only { IfOk result (λ sorted. (p : PointedBlock) → Contains sorted.items p → Contains blocks.items p) }
+    ensures each { IfOk result (λ sorted. (p : PointedBlock) → Contains blocks.items p → TellsOfBlock sorted.items p.block) }
+    ensures rising { IfOk result (λ sorted. IsStrictlyIncreasing (map (λ (p : PointedBlock). p.block) sorted.items)) }
 {
-    blocks.sort()?;
-    blocks.dedup();
+    blocks.sort_by_key(|pointed| pointed.block)?;
+    blocks.dedup_by_key(|pointed| pointed.block);
     Ok(blocks)
 }
 
-/// The blocks of an inode beside its dinode's to which its pointers lead, indirect blocks and blocks of content, in rising
-/// order and each once; of an inode whose content is in its dinode there are none. It looks at the dinode and the indirect
-/// blocks alone, and that each pointer leads to content before the inode's end. It costs a look into the view for each
-/// indirect block, a step for each pointer of these, memory for the list, and a sort of it. In an inode that is broken an
-/// indirect block may stand at several levels, and is gone over once for each.
+/// The blocks of an inode beside its dinode's to which its pointers lead, indirect blocks and blocks of content, by rising number
+/// and each once, and of each a block in which a pointer to it stands; of an inode whose content is in its dinode there are none. It
+/// looks at the dinode and the indirect blocks alone, and that each pointer leads to content before the inode's end. It costs a look
+/// into the view for each indirect block, a step for each pointer of these, memory for the list, and a sort of it. In an inode that is
+/// broken an indirect block may stand at several levels, and is gone over once for each; and several pointers may lead to one block, of
+/// which any is told.
 pub fn blocks_below<V: View>(
     alloc: Global,
     view: &V,
     dinode: u64,
-) -> Result<Step<Vec<u64>>, CallFault>
-    ensures found { (h : Holding) → IsShown (V.seen view.now) dinode h → IfIs result (λ blocks. (b : ℕ) → Contains blocks.items b ↔ IsBelow h b) }
-    ensures rising { IfIs result (λ blocks. IsStrictlyIncreasing blocks.items) }
+) -> Result<Step<Vec<PointedBlock>>, CallFault>
+    ensures led { (h : Holding) → IsShown (V.seen view.now) dinode h → IfIs result (λ blocks. (p : PointedBlock) → Contains blocks.items p → IsLedFrom h p.from p.block) }
+    ensures all { (h : Holding) → IsShown (V.seen view.now) dinode h → IfIs result (λ blocks. (b : ℕ) → IsBelow h b → TellsOfBlock blocks.items b) }
+    ensures there { IfIs result (λ blocks. (p : PointedBlock) → Contains blocks.items p → HasBlock (V.seen view.now) p.from) }
+    ensures rising { IfIs result (λ blocks. IsStrictlyIncreasing (map (λ (p : PointedBlock). p.block) blocks.items)) }
     ensures needed { (h : Holding) → IsShown (V.seen view.now) dinode h → IfNeedBlock result (IsNeeded (V.seen view.now) h AnyIndex 1) }
     ensures damaged { (h : Holding) → IsShown (V.seen view.now) dinode h → IfDamaged result (IsBroken h) }
     ensures kept { IfDamaged result (IsOfView (V.seen view.now)) }

@@ -13,7 +13,7 @@ mod numbers;
 mod reading;
 mod ways;
 
-pub use below::blocks_below;
+pub use below::{PointedBlock, blocks_below};
 pub use laws::{
     all_blocks_are_shown, every_view_shows_an_inode, sound_inodes_are_shown,
     sound_inodes_are_whole, sound_inodes_break_nothing, sound_pointers_are_parts,

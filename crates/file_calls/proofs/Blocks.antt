@@ -1,5 +1,5 @@
 -- A block that a call asks for.
-use Rattle.std.proofs.Common.{◌≡◌, ℕ, suc, ◌<◌, ◌≤◌, Bool, true, false, List, [], ◌∷◌, length, slice_get, None, Some, inl, inr, refl, sym, ap, ◌∙◌, subst, arith, true≢false}
+use Rattle.std.proofs.Common.{◌≡◌, ℕ, ◌<◌, ◌≤◌, Bool, true, false, List, [], ◌∷◌, length, None, Some, inl, inr, refl, sym, ap, ◌∙◌, subst, arith, true≢false}
 use Rattle.std.proofs.lemmas.Bool.{cases_Bool, cases_lt}
 use Rattle.std.specs.Prelude.{Option, Contains, ◌&&◌, ◌==◌, not}
 use Rattle.std.specs.List.{AllByRecursion, list_any}
@@ -7,8 +7,7 @@ use Rattle.std.proofs.lemmas.List.Elements.{All-contains, All-from_recursion}
 use Rattle.file_tree.specs.declared.call.Call.{Call}
 use Rattle.file_tree.specs.declared.call.Call.TheVariants as call
 use Rattle.gfs2_layout.specs.Holding.{Holding}
-use Rattle.glock_names.specs.Views.{Seen, HasGroup, end_of}
-use Rattle.glock_names.specs.declared.views.Group.{Group}
+use Rattle.glock_names.specs.Views.{Seen, IsView}
 use Rattle.glock_names.specs.declared.LockName.{LockName}
 use Rattle.glock_names.specs.declared.steps.Missing.{Missing}
 use Rattle.dinode_tree.specs.Shown.{IsShown}
@@ -16,12 +15,12 @@ use Rattle.image_model.specs.Image.{Image}
 use Rattle.image_model.specs.Owners.{Owners, Nobody}
 use Rattle.image_model.specs.Stands.{Layout, IsLaid}
 use Rattle.image_changes.specs.Changes.{cover}
-use Rattle.image_changes.specs.Does.{Does, IsFormed, IsInside, frees, is_empty, is_nothing}
+use Rattle.image_changes.specs.Does.{Does, IsFormed, IsInside, frees, is_empty, is_nothing, AreInside}
 use Rattle.drafts.specs.declared.change.Change.{Change}
 use Rattle.drafts.specs.declared.change.Written.{Written}
 use Rattle.glock_names.specs.declared.State.TheVariants.{Ex}
 use Rattle.writing_calls.specs.Writing as writing
-use Rattle.file_calls.specs.Calls.{AreInside, IsTooFew, call_holds}
+use Rattle.file_calls.specs.Calls.{IsTooFew, call_holds}
 use Rattle.read_calls.specs.Reading.{IsReading, IsNeededFor, on_path, at_end}
 use Rattle.call_locks.specs.WantLaws.{path_of}
 use Rattle.call_locks.specs.Wants.{wanted}
@@ -30,10 +29,11 @@ use Rattle.file_tree.specs.Tree.{Tree}
 use Rattle.file_tree.specs.declared.reply.Reply.{Reply}
 use Rattle.file_tree.specs.declared.reply.Reply.TheVariants as reply
 use Rattle.making_calls.specs.Making as making
-use Rattle.path_walks.specs.Holds.{Hold, holds_in}
-use Rattle.removing_calls.specs.Removing.{IsRemoving, IsUnder, holds_for}
+use Rattle.path_walks.specs.Holds.{Hold, holds_in, IsUnder}
+use Rattle.removing_calls.specs.Removing.{IsRemoving, holds_for}
 use Rattle.removing_calls.specs.Removing as removing
 use Rattle.writing_calls.proofs.Alone.{none_freed as none_freed_by}
+use Rattle.path_walks.proofs.Lying.{data_lies}
 
 -- a view shows each inode
 abbrev ShowsEach : Seen → Type 0
@@ -43,13 +43,13 @@ ShowsEach v = (a : ℕ) → (h : Holding) × IsShown v a h
 pub needed_absent : (v : Seen) (c : Call) (m : Missing) → ShowsEach v → IsNeededFor v c m → v.block_at m.block ≡ None
 needed_absent v c m shows (on_path unread) = unread.absent
 needed_absent v (call.Read p at count) m shows (at_end a leads asked) = let s = shows a in (asked s.0 s.1).1.absent
+needed_absent v (call.Dread p at count) m shows (at_end a leads asked) = let s = shows a in (asked s.0 s.1).1.absent
 needed_absent v (call.List p) m shows (at_end a leads asked) = absurd asked
 needed_absent v (call.Stat p) m shows (at_end a leads asked) = absurd asked
 needed_absent v (call.Create p) m shows (at_end a leads asked) = absurd asked
 needed_absent v (call.Mkdir p) m shows (at_end a leads asked) = absurd asked
 needed_absent v (call.Unlink p) m shows (at_end a leads asked) = absurd asked
 needed_absent v (call.Rmdir p) m shows (at_end a leads asked) = absurd asked
-needed_absent v (call.Dread p at count) m shows (at_end a leads asked) = absurd asked
 needed_absent v (call.Write p at new) m shows (at_end a leads asked) = absurd asked
 needed_absent v (call.Truncate p size) m shows (at_end a leads asked) = absurd asked
 needed_absent v (call.Rename p q) m shows (at_end a leads asked) = absurd asked
@@ -119,29 +119,23 @@ all_under o list change none all = record {
   freed = λ b a freed was. absurd (true≢false (sym freed ∙ ap (list_any (λ f. f == b)) none));
 }
 
--- by their places
-pub placed_inside : (v : Seen) (ws : List Written) → ((i : ℕ) (w : Written) → slice_get ws i ≡ Some w → (length w.bytes ≡ v.size) × ((g : Group) × HasGroup v g × (w.block < end_of g)))
-    → AllByRecursion (IsInside v) ws
-placed_inside v [] each = tt
-placed_inside v (w ∷ ws) each = (let at = each 0 w refl in record { whole = at.0; group = at.1.0; has = at.1.1; below = at.1.2 }, placed_inside v ws (λ i x at. each (suc i) x at))
-
--- a data block lies before its group's end
-pub data_inside : (v : Seen) (ws : List Written) → AllByRecursion (writing.IsInside v) ws → AllByRecursion (IsInside v) ws
-data_inside v [] all = tt
-data_inside v (w ∷ ws) all = (record { whole = all.0.whole; group = all.0.inside.0; has = all.0.inside.1; below = all.0.inside.2.high }, data_inside v ws all.1)
+-- a data block lies in its group
+pub data_inside : (v : Seen) (ws : List Written) → IsView v → AllByRecursion (writing.IsInside v) ws → AllByRecursion (IsInside v) ws
+data_inside v [] view all = tt
+data_inside v (w ∷ ws) view all = (record { whole = all.0.whole; inside = data_lies v w.block view all.0.inside }, data_inside v ws view all.1)
 
 -- ---- the lists of locks
 
 module _ (im : Image) (o : Owners) (l : Layout) (t : Tree) (node : ℕ) where
   pub reading_holds : (c : Call) → IsReading c → call_holds im o l t c node ≡ holds_in im o l (path_of c false) (wanted c)
   reading_holds (call.Read p at count) is = refl
+  reading_holds (call.Dread p at count) is = refl
   reading_holds (call.Stat p) is = refl
   reading_holds (call.List p) is = refl
   reading_holds (call.Create p) is = absurd is
   reading_holds (call.Mkdir p) is = absurd is
   reading_holds (call.Unlink p) is = absurd is
   reading_holds (call.Rmdir p) is = absurd is
-  reading_holds (call.Dread p at count) is = absurd is
   reading_holds (call.Write p at new) is = absurd is
   reading_holds (call.Truncate p size) is = absurd is
   reading_holds (call.Rename p q) is = absurd is
@@ -192,9 +186,9 @@ removing_under v o list c r change does under = elim (cases_Bool (is_ok r)) [
   | inr refused ↦ nothing_under change (refused_nothing v c r change does refused) o list does.form
 ]
 
-pub removing_inside : (v : Seen) (c : Call) (r : Reply) (change : Change) → Does v c r change → (is_ok r ≡ true → removing.WritesInside v change) → AreInside v change
+pub removing_inside : (v : Seen) (c : Call) (r : Reply) (change : Change) → Does v c r change → (is_ok r ≡ true → AreInside v change) → AreInside v change
 removing_inside v c r change does inside = elim (cases_Bool (is_ok r)) [
-  | inl ok ↦ placed_inside v change.blocks.items (inside ok)
+  | inl ok ↦ inside ok
   | inr refused ↦ nothing_inside change (refused_nothing v c r change does refused) v
 ]
 

@@ -1,6 +1,5 @@
 -- The file calls that are built: what holds of every one.
 use Rattle.std.specs.Prelude.{ℕ, false, List}
-use Rattle.std.specs.List.{AllByRecursion}
 use Rattle.file_tree.specs.Tree.{Tree}
 use Rattle.file_tree.specs.declared.call.Call.{Call}
 use Rattle.file_tree.specs.declared.call.Call.TheVariants as calls
@@ -8,8 +7,6 @@ use Rattle.glock_names.specs.Views.{Seen}
 use Rattle.glock_names.specs.declared.steps.Missing.{Missing}
 use Rattle.call_locks.specs.WantLaws.{path_of}
 use Rattle.call_locks.specs.Wants.{wanted}
-use Rattle.drafts.specs.declared.change.Change.{Change}
-use Rattle.image_changes.specs.Does.{IsInside}
 use Rattle.image_model.specs.Image.{Image}
 use Rattle.image_model.specs.Owners.{Owners}
 use Rattle.image_model.specs.Stands.{Layout}
@@ -21,9 +18,8 @@ use Rattle.read_calls.specs.Reading as reading
 use Rattle.removing_calls.specs.Removing as removing
 use Rattle.writing_calls.specs.Writing as writing
 
--- the call is built: today all but those that read around the cache, cut or grow a file, or move a name
+-- the call is built: today all but those that cut or grow a file, or move a name
 abbrev pub IsBuilt : Call → Type 0
-IsBuilt (calls.Dread path at count) = ⊥
 IsBuilt (calls.Truncate path size) = ⊥
 IsBuilt (calls.Rename path to) = ⊥
 IsBuilt (calls.Create path) = Unit {0}
@@ -31,6 +27,7 @@ IsBuilt (calls.Mkdir path) = Unit {0}
 IsBuilt (calls.Unlink path) = Unit {0}
 IsBuilt (calls.Rmdir path) = Unit {0}
 IsBuilt (calls.Read path at count) = Unit {0}
+IsBuilt (calls.Dread path at count) = Unit {0}
 IsBuilt (calls.Write path at new) = Unit {0}
 IsBuilt (calls.Stat path) = Unit {0}
 IsBuilt (calls.List path) = Unit {0}
@@ -52,11 +49,6 @@ abbrev pub IsTooFew : Seen → Image → Owners → Layout → Tree → Call →
 IsTooFew v im o l t (calls.Create path) need free = making.IsTooFew v im o l t (calls.Create path) need free
 IsTooFew v im o l t (calls.Mkdir path) need free = making.IsTooFew v im o l t (calls.Mkdir path) need free
 IsTooFew v im o l t call need free = ⊥
-
--- ---- what is written
-
-abbrev pub AreInside : Seen → Change → Type 0
-AreInside v change = AllByRecursion (IsInside v) change.blocks.items
 
 -- ---- as far as the view shows
 

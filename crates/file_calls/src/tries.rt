@@ -8,11 +8,10 @@ ghost use Rattle.glock_names.specs.Views.{IsOfView};
 ghost use Rattle.image_model.specs.Image.{Image};
 ghost use Rattle.image_model.specs.Owners.{Owners};
 ghost use Rattle.image_model.specs.Stands.{Layout};
-ghost use Rattle.image_changes.specs.Does.{IsOf, Does};
+ghost use Rattle.image_changes.specs.Does.{IsOf, Does, AreInside};
 ghost use Rattle.path_walks.specs.Answers.{IfDone, IfNeedLock, IfNeedBlock, IfNoSpace, IfHashed, IfNotBuilt};
-ghost use Rattle.path_walks.specs.Holds.{AreHeld, IsAskedFor, IsFirstLack, holds};
-ghost use Rattle.removing_calls.specs.Removing.{IsUnder};
-ghost use Rattle.file_calls.specs.Calls.{AreInside, IsBuilt, IsDamage, IsHashed, IsNeededFor, IsTooFew, IsUnbuilt, call_holds};
+ghost use Rattle.path_walks.specs.Holds.{AreHeld, IsAskedFor, IsFirstLack, holds, IsUnder};
+ghost use Rattle.file_calls.specs.Calls.{IsBuilt, IsDamage, IsHashed, IsNeededFor, IsTooFew, IsUnbuilt, call_holds};
 
 use dinode_tree::every_view_shows_an_inode;
 use drafts::{Attempt, Stamp};
@@ -52,9 +51,10 @@ pub fn attempt<V: View>(
     ensures damaged { IfDamaged result (IsDamage (V.seen view.now) call.now) }
     ensures kept { IfDamaged result (IsOfView (V.seen view.now)) }
 {
+    let _size = view.block_size();
     every_view_shows_an_inode();
     match call {
-        Call::Read(_, _, _) | Call::Stat(_) | Call::List(_) => {
+        Call::Read(_, _, _) | Call::Dread(_, _, _) | Call::Stat(_) | Call::List(_) => {
             read_calls::attempt(alloc, view, call, stamp)
         }
         Call::Create(_) | Call::Mkdir(_) => making_calls::attempt(alloc, view, call, stamp),

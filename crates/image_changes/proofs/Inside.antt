@@ -1,7 +1,6 @@
--- What a draft writes lies on the device.
-use Rattle.std.proofs.Common.{◌≡◌, ℕ, zero, suc, ◌<◌, Bool, List, [], ◌∷◌, length, slice_get, Some, refl, arith}
+-- What a draft writes lies in the view's groups.
+use Rattle.std.proofs.Common.{◌≡◌, ℕ, zero, suc, ◌<◌, List, [], ◌∷◌, length, slice_get, Some, refl, arith}
 use Rattle.std.specs.List.{AllByRecursion}
-use Rattle.glock_names.specs.Views.{Seen}
 use Rattle.glock_names.specs.declared.LockName.{LockName}
 use Rattle.drafts.specs.declared.change.Written.{Written}
 use Rattle.image_changes.specs.Does.{IsInside}
@@ -29,5 +28,4 @@ stay_inside v fates change finished whole inside =
     by_place (IsInside v) change.blocks.items (λ i w at.
     let lock = there change.locks.items i (omega (arith, low change.blocks.items i w at, of.form.locks)) in
     let put = of.told i w lock.0 at lock.1 in
-    let group = inside w.block lock.0 w.plain w.bytes put in
-    record { whole = whole w.block lock.0 w.plain w.bytes put; group = group.0; has = group.1; below = group.2 })
+    record { whole = whole w.block lock.0 w.plain w.bytes put; inside = inside w.block lock.0 w.plain w.bytes put })

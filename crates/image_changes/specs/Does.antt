@@ -1,7 +1,7 @@
 -- What the answer of a call over a view means: in every image that the view may be of, the image with the call's change stands for the
 -- tree after the call.
-use Rattle.std.specs.Prelude.{ℕ, zero, ◌≡◌, ◌⊎◌, ◌<◌, ◌==◌, ◌&&◌, ◌||◌, not, Bool, true, false, if◌then◌else◌, is_some, unwrap_or, slice_get, List, [], ◌∷◌, length, map, Option, None, Some}
-use Rattle.std.specs.List.{list_any}
+use Rattle.std.specs.Prelude.{ℕ, zero, ◌≡◌, ◌⊎◌, ◌<◌, ◌≤◌, ◌==◌, ◌&&◌, ◌||◌, not, Bool, true, false, if◌then◌else◌, is_some, unwrap_or, slice_get, List, [], ◌∷◌, length, map, Option, None, Some}
+use Rattle.std.specs.List.{AllByRecursion, list_any}
 use Rattle.std.specs.List.Sorted.{IsStrictlySortedBy}
 use Rattle.std.specs.Ordering.{nat_cmp}
 use Rattle.file_tree.specs.Tree.{Tree}
@@ -58,12 +58,21 @@ pub record IsFormed (change : Change) : Type 0 where
   pub locks : length change.locks.items ≡ length change.blocks.items
   pub apart : (b : ℕ) → frees change b ≡ true → writes change b ≡ false
 
--- a block that is written is whole, and lies before the end of one of the view's groups, and so on the device of each image that it may be of
-pub record IsInside (v : Seen) (w : Written) : Type 0 where
-  pub whole : length w.bytes ≡ v.size
+-- the block is one of a group of the view: of its header, its bitmap or its data blocks
+pub record LiesInGroup (v : Seen) (b : ℕ) : Type 0 where
   pub group : Group
   pub has : HasGroup v group
-  pub below : w.block < end_of group
+  pub low : group.addr ≤ b
+  pub high : b < end_of group
+
+-- a block that is written is whole, and one of a group of the view, and so on the device of each image that it may be of
+pub record IsInside (v : Seen) (w : Written) : Type 0 where
+  pub whole : length w.bytes ≡ v.size
+  pub inside : LiesInGroup v w.block
+
+-- each block that the change writes is so
+abbrev pub AreInside : Seen → Change → Type 0
+AreInside v change = AllByRecursion (IsInside v) change.blocks.items
 
 -- ---- an image that a view may be of
 

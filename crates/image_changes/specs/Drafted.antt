@@ -1,6 +1,5 @@
 -- What a draft's change is of the draft, and what a call shows of its draft so that its answer means what it should.
-use Rattle.std.specs.Prelude.{ℕ, ◌≡◌, ◌<◌, ◌||◌, Bool, true, false, is_some, unwrap_or, slice_get, List, Option, None, Some}
-use Rattle.std.specs.List.{AllByRecursion}
+use Rattle.std.specs.Prelude.{ℕ, ◌≡◌, ◌||◌, Bool, true, false, is_some, unwrap_or, slice_get, List, Option, None, Some}
 use Rattle.std.specs.Ordering.{nat_cmp}
 use Rattle.std.specs.FinMap.{FinMap, get, entries}
 use Rattle.file_tree.specs.Tree.{Tree, file}
@@ -10,8 +9,7 @@ use Rattle.file_tree.specs.declared.call.Call.{Call}
 use Rattle.file_tree.specs.declared.reply.Reply.{Reply}
 use Rattle.cluster_history.specs.Changes.{Changes}
 use Rattle.gfs2_layout.specs.Inode.{content_of}
-use Rattle.glock_names.specs.Views.{Seen, HasGroup, end_of}
-use Rattle.glock_names.specs.declared.views.Group.{Group}
+use Rattle.glock_names.specs.Views.{Seen}
 use Rattle.glock_names.specs.declared.LockName.{LockName}
 use Rattle.glock_names.specs.declared.State.TheVariants.{Ex}
 use Rattle.drafts.specs.declared.change.Change.{Change}
@@ -25,7 +23,7 @@ use Rattle.image_model.specs.Owners.{Owners, holding}
 use Rattle.image_model.specs.Stands.{Layout}
 use Rattle.image_changes.specs.Flats.{in_directory}
 use Rattle.image_changes.specs.Instances.{IsAt, IsFileChanged, IsNameAdded, IsNameRemoved, IsNameMoved}
-use Rattle.image_changes.specs.Does.{with_change, writes, frees, IsFormed, IsOf, IsHeld, IsInside, IsWritten, IsFreed, GroupsAreWritten, Does}
+use Rattle.image_changes.specs.Does.{with_change, writes, frees, IsFormed, IsOf, IsHeld, AreInside, LiesInGroup, IsWritten, IsFreed, GroupsAreWritten, Does}
 
 -- ---- what becomes of blocks in a draft
 
@@ -111,8 +109,8 @@ DraftsDo = (v : Seen) (call : Call) (reply : Reply) (fates : FinMap nat_cmp Fate
     → ((im : Image) (o : Owners) (l : Layout) (t : Tree) → IsOf v im o l t → MakesIn v call reply fates im o l t)
     → Does v call reply change
 
--- what a draft writes that puts whole blocks alone, each before the end of one of the view's groups, is inside
+-- what a draft writes that puts whole blocks alone, each in one of the view's groups, is inside
 abbrev pub DraftsStayInside : Type 0
 DraftsStayInside = (v : Seen) (fates : FinMap nat_cmp Fate) (change : Change) → IsFinished fates change → AreWhole v.size fates
-    → ((b : ℕ) (lock : LockName) (plain : Bool) (bytes : List ℕ) → get fates b ≡ Some (Put lock plain bytes) → (g : Group) × HasGroup v g × (b < end_of g))
-    → AllByRecursion (IsInside v) change.blocks.items
+    → ((b : ℕ) (lock : LockName) (plain : Bool) (bytes : List ℕ) → get fates b ≡ Some (Put lock plain bytes) → LiesInGroup v b)
+    → AreInside v change

@@ -1,5 +1,5 @@
 -- The layout that mounting finds in an image that stands.
-use Rattle.std.proofs.Common.{◌≡◌, map, sym, ap, ◌∙◌}
+use Rattle.std.proofs.Common.{map, sym, ap, ◌∙◌}
 use Rattle.gfs2_layout.specs.declared.superblock.SuperBlock.{SuperBlock}
 use Rattle.glock_names.specs.Views.{group_of_entry}
 use Rattle.image_model.proofs.Facts.{list_of}

@@ -86,6 +86,11 @@ abbrev pub HasRisen : (ℕ → ℕ) → (ℕ → ℕ) → MountFault → Type 0
 HasRisen before now (fault.DeviceFault block x y) = WentUp (before 0) (now 0) x y
 HasRisen before now _ = ⊤
 
+-- it is told at a block of the device, which has so many
+abbrev pub LiesWithin : ℕ → MountFault → Type 0
+LiesWithin count (fault.DeviceFault block x y) = block < count
+LiesWithin count _ = ⊤
+
 -- the disk failed, there was no memory, or a directory of journals is not read yet
 abbrev pub IsExcused : MountFault → Type 0
 IsExcused (fault.DeviceFault block before after) = ⊤

@@ -4,7 +4,7 @@ ghost use Rattle.shared_disk.specs.Disk.{IsIdle};
 ghost use Rattle.shared_disk.specs.Disk.{ReadsOnly};
 ghost use Rattle.image_model.specs.Image.{Image, image_of};
 ghost use Rattle.image_mount.specs.Marked.{IsGrown, marks_of};
-ghost use Rattle.image_mount.specs.Refusals.{HasRisen, RefusesRightly};
+ghost use Rattle.image_mount.specs.Refusals.{HasRisen, LiesWithin, RefusesRightly};
 ghost use Rattle.image_mount.specs.Rings.{IsSearched};
 ghost use Rattle.image_mount.specs.Searching.{FailsAt, IsWanted, IsWorking, LacksBlock, StopsRightly};
 ghost use Rattle.image_mount.specs.Kept.{seen_of};
@@ -29,6 +29,7 @@ pub(crate) fn read_into<D: SharedDisk>(
     ensures bytes { OnOk result (IsTrue (D.state disk.old).tells → into.new ≡ (D.state disk.old).block_at block) }
     ensures failed { IfErr result (FailsAt block) }
     ensures risen { IfErr result (HasRisen (D.faults disk.old) (D.faults disk.new)) }
+    ensures within { IfErr result (LiesWithin (D.state disk.old).count) }
     ensures reads { ReadsOnly (D.state disk.old) (D.state disk.new) (D.list disk.old) (D.list disk.new) (D.faults disk.old) (D.faults disk.new) }
 {
     match read_block(disk, 0, block, into) {
@@ -47,6 +48,7 @@ fn check_readable(table: &KeptBlocks, count: u64, block: u64, from: u64) -> Resu
     ensures unmarked { OnOk result (marks_of table.now block ≡ 0) }
     ensures refused { (im : Image) (done : List ℕ) (d n : ℕ) → table.now.size ≡ im.size → count ≡ im.count → IsWanted im block from → IsSearched im done d n table.now → IfErr result (RefusesRightly im) }
     ensures steady { IfErr result (λ fault. (f g : ℕ → ℕ) → HasRisen f g fault) }
+    ensures within { IfErr result (LiesWithin count) }
 {
     if block == superblock_block(table.block_size()) && block >= count {
         return Err(damaged(block, 1));
@@ -78,6 +80,7 @@ pub(crate) fn fetch<D: SharedDisk>(
     ensures places { table.new.places ≡ table.old.places }
     ensures grown { OnOk result (IsGrown table.old table.new) }
     ensures risen { IfErr result (HasRisen (D.faults disk.old) (D.faults disk.new)) }
+    ensures within { IfErr result (LiesWithin (D.state disk.old).count) }
     ensures reads { ReadsOnly (D.state disk.old) (D.state disk.new) (D.list disk.old) (D.list disk.new) (D.faults disk.old) (D.faults disk.new) }
 {
     check_readable(table, disk.blocks(), block, from)?;
@@ -105,6 +108,7 @@ pub(crate) fn go_on<D: SharedDisk>(
     ensures places { table.new.places ≡ table.old.places }
     ensures grown { OnOk result (IsGrown table.old table.new) }
     ensures risen { IfErr result (HasRisen (D.faults disk.old) (D.faults disk.new)) }
+    ensures within { IfErr result (LiesWithin (D.state disk.old).count) }
     ensures reads { ReadsOnly (D.state disk.old) (D.state disk.new) (D.list disk.old) (D.list disk.new) (D.faults disk.old) (D.faults disk.new) }
 {
     match stop {

@@ -13,7 +13,7 @@ ghost use Rattle.image_mount.specs.Found.{HasNames};
 ghost use Rattle.image_mount.specs.Kept.{seen_of};
 ghost use Rattle.image_mount.specs.Looks.{IsInGroups, IsTrueEntry};
 ghost use Rattle.image_mount.specs.Marked.{AreMarked, IsGrown, IsKept, IsKeptWay, marks_of};
-ghost use Rattle.image_mount.specs.Refusals.{HasLowHead, HasRisen, IsJournalSized, IsReached, RefusesRightly};
+ghost use Rattle.image_mount.specs.Refusals.{HasLowHead, HasRisen, IsJournalSized, IsReached, LiesWithin, RefusesRightly};
 ghost use Rattle.image_mount.specs.Rings.{AreKeptWays, IsSearched, IsJournalIn, IsNext, HasPlaces, IsPlaceAt, AreBlocksOf, IsRingOf, AreRings, AreJournals, IsHeadOf, all_places, ring_at};
 ghost use Rattle.image_mount.specs.Searching.{IsRead, IsSteady, IsWorking, LacksBlock, StopsRightly};
 ghost use Rattle.image_mount.specs.System.{IsSystemOf};
@@ -88,6 +88,7 @@ fn count_places<D: SharedDisk>(
     ensures refused { (done : List ℕ) (d n : ℕ) → IsTrue (D.state disk.old).tells → IsJournalIn (image_of (D.state disk.old)) jindex journal.now → IsSearched (image_of (D.state disk.old)) done d n table.old
         → IfErr result (RefusesRightly (image_of (D.state disk.old))) }
     ensures risen { IfErr result (HasRisen (D.faults disk.old) (D.faults disk.new)) }
+    ensures within { IfErr result (LiesWithin (D.state disk.old).count) }
     ensures reads { ReadsOnly (D.state disk.old) (D.state disk.new) (D.list disk.old) (D.list disk.new) (D.faults disk.old) (D.faults disk.new) }
 {
     loop {
@@ -135,6 +136,7 @@ fn find_block<D: SharedDisk>(
     ensures refused { (done : List ℕ) (d n places : ℕ) → IsTrue (D.state disk.old).tells → IsJournalIn (image_of (D.state disk.old)) jindex journal.now → HasPlaces (image_of (D.state disk.old)) journal.now.addr places → place < places
         → IsSearched (image_of (D.state disk.old)) done d n table.old → IfErr result (RefusesRightly (image_of (D.state disk.old))) }
     ensures risen { IfErr result (HasRisen (D.faults disk.old) (D.faults disk.new)) }
+    ensures within { IfErr result (LiesWithin (D.state disk.old).count) }
     ensures reads { ReadsOnly (D.state disk.old) (D.state disk.new) (D.list disk.old) (D.list disk.new) (D.faults disk.old) (D.faults disk.new) }
 {
     loop {
@@ -189,6 +191,7 @@ fn find_blocks<D: SharedDisk>(
     ensures marked { IfOk result (λ blocks. AreMarked table.old table.new blocks.items) }
     ensures count { IfOk result (λ blocks. length blocks.items ≡ places) }
     ensures risen { IfErr result (HasRisen (D.faults disk.old) (D.faults disk.new)) }
+    ensures within { IfErr result (LiesWithin (D.state disk.old).count) }
     ensures reads { ReadsOnly (D.state disk.old) (D.state disk.new) (D.list disk.old) (D.list disk.new) (D.faults disk.old) (D.faults disk.new) }
 {
     let mut blocks = Vec::with_capacity(alloc, places as usize)?;
@@ -237,6 +240,7 @@ fn find_ring<D: SharedDisk>(
     ensures placed { IfOk result (λ ring. All (IsInGroups system.now.groups.items) ring.blocks.items) }
     ensures marked { IfOk result (λ ring. AreMarked table.old table.new ring.blocks.items) }
     ensures risen { IfErr result (HasRisen (D.faults disk.old) (D.faults disk.new)) }
+    ensures within { IfErr result (LiesWithin (D.state disk.old).count) }
     ensures reads { ReadsOnly (D.state disk.old) (D.state disk.new) (D.list disk.old) (D.list disk.new) (D.faults disk.old) (D.faults disk.new) }
 {
     let dinode = journal.addr;
@@ -264,6 +268,7 @@ pub(crate) fn find_rings<D: SharedDisk>(
     ensures own { IfOk result (λ rings. All (λ (ring : Ring). (ring.dinode ≢ system.now.superblock.master.address) × (ring.dinode ≢ system.now.rindex)) rings.items) }
     ensures marked { IfOk result (λ rings. AreMarked table.old table.new (all_places rings.items)) }
     ensures risen { IfErr result (HasRisen (D.faults disk.old) (D.faults disk.new)) }
+    ensures within { IfErr result (LiesWithin (D.state disk.old).count) }
     ensures reads { ReadsOnly (D.state disk.old) (D.state disk.new) (D.list disk.old) (D.list disk.new) (D.faults disk.old) (D.faults disk.new) }
 {
     let mut rings = Vec::new(alloc);
@@ -313,6 +318,7 @@ fn best_header<D: SharedDisk>(
     ensures found { IfOk result (λ best. IsTrue (D.state disk.old).tells → best ≡ head_in (ring_at (D.state disk.old).block_at blocks.now)) }
     ensures refused { All (IsReached (image_of (D.state disk.old))) blocks.now → IfErr result (RefusesRightly (image_of (D.state disk.old))) }
     ensures risen { IfErr result (HasRisen (D.faults disk.old) (D.faults disk.new)) }
+    ensures within { IfErr result (LiesWithin (D.state disk.old).count) }
     ensures reads { ReadsOnly (D.state disk.old) (D.state disk.new) (D.list disk.old) (D.list disk.new) (D.faults disk.old) (D.faults disk.new) }
 {
     let mut best = None;
@@ -339,6 +345,7 @@ fn find_head<D: SharedDisk>(
         → ((i d : ℕ) → i < j → IsJournalAt l i d → HasLowHead (image_of (D.state disk.old)) d) → IsJournalAt l j ring.now.dinode → IsRingOf (image_of (D.state disk.old)) ring.now.dinode ring.now.blocks.items
         → IfErr result (RefusesRightly (image_of (D.state disk.old))) }
     ensures risen { IfErr result (HasRisen (D.faults disk.old) (D.faults disk.new)) }
+    ensures within { IfErr result (LiesWithin (D.state disk.old).count) }
     ensures reads { ReadsOnly (D.state disk.old) (D.state disk.new) (D.list disk.old) (D.list disk.new) (D.faults disk.old) (D.faults disk.new) }
 {
     let Some(head) = best_header(disk, bytes, &ring.blocks)? else {
@@ -362,6 +369,7 @@ pub(crate) fn find_journals<D: SharedDisk>(
     ensures refused { (l : Layout) → IsTrue (D.state disk.old).tells → HasNames (image_of (D.state disk.old)) l → map (λ (ring : Ring). ring.dinode) rings.items ≡ l.journals
         → All (λ (ring : Ring). IsRingOf (image_of (D.state disk.old)) ring.dinode ring.blocks.items) rings.items → IfErr result (RefusesRightly (image_of (D.state disk.old))) }
     ensures risen { IfErr result (HasRisen (D.faults disk.old) (D.faults disk.new)) }
+    ensures within { IfErr result (LiesWithin (D.state disk.old).count) }
     ensures same { D.state disk.new ≡ (D.state disk.old) }
     ensures list { D.list disk.new ≡ D.list disk.old }
     ensures later { (j : ℕ) → D.faults disk.old j ≤ D.faults disk.new j }

@@ -6,7 +6,7 @@ ghost use Rattle.gfs2_layout.specs.Device.{IsBlockSize};
 ghost use Rattle.image_model.specs.Image.{Image, image_of};
 ghost use Rattle.image_mount.specs.Mounted.{IsMounted, IsOfProfile};
 ghost use Rattle.image_mount.specs.Marked.{IsGrown, IsKept};
-ghost use Rattle.image_mount.specs.Refusals.{RefusesRightly, HasRisen, IsExcused};
+ghost use Rattle.image_mount.specs.Refusals.{HasRisen, IsExcused, LiesWithin, RefusesRightly};
 ghost use Rattle.image_mount.specs.Rings.{IsSearched};
 ghost use Rattle.image_mount.specs.Searching.{IsSteady, IsWorking};
 ghost use Rattle.image_mount.specs.System.{HasDinodes, IsMasterOf, IsNamedBy, IsSystemOf};
@@ -58,6 +58,7 @@ fn search_files<D: SharedDisk>(
     ensures searched { OnOk result (IsTrue (D.state disk.old).tells → IsMasterOf (image_of (D.state disk.old)) master.now → IsNamedBy (image_of (D.state disk.old)) master.now names.now → IsSearched (image_of (D.state disk.old)) [] 0 0 table.old → IsSearched (image_of (D.state disk.old)) [] 0 0 table.new) }
     ensures refused { IsTrue (D.state disk.old).tells → IsMasterOf (image_of (D.state disk.old)) master.now → IsNamedBy (image_of (D.state disk.old)) master.now names.now → IsSearched (image_of (D.state disk.old)) [] 0 0 table.old → IfErr result (RefusesRightly (image_of (D.state disk.old))) }
     ensures risen { IfErr result (HasRisen (D.faults disk.old) (D.faults disk.new)) }
+    ensures within { IfErr result (LiesWithin (D.state disk.old).count) }
     ensures reads { ReadsOnly (D.state disk.old) (D.state disk.new) (D.list disk.old) (D.list disk.new) (D.faults disk.old) (D.faults disk.new) }
 {
     let count = disk.blocks();
@@ -84,6 +85,7 @@ fn search_system<D: SharedDisk>(
     ensures searched { OnOk result (IsTrue (D.state disk.old).tells → IsSearched (image_of (D.state disk.old)) [] 0 0 table.old → IsSearched (image_of (D.state disk.old)) [] 0 0 table.new) }
     ensures refused { IsTrue (D.state disk.old).tells → IsSearched (image_of (D.state disk.old)) [] 0 0 table.old → IfErr result (RefusesRightly (image_of (D.state disk.old))) }
     ensures risen { IfErr result (HasRisen (D.faults disk.old) (D.faults disk.new)) }
+    ensures within { IfErr result (LiesWithin (D.state disk.old).count) }
     ensures reads { ReadsOnly (D.state disk.old) (D.state disk.new) (D.list disk.old) (D.list disk.new) (D.faults disk.old) (D.faults disk.new) }
 {
     let master = search_master(alloc, disk, table)?;
@@ -119,6 +121,7 @@ pub fn mount_image<D: SharedDisk>(alloc: Global, disk: &mut D) -> Result<Mounted
     ensures refused { IfErr result (λ fault. IsTrue (D.state disk.old).tells → RefusesRightly (image_of (D.state disk.old)) fault) }
     ensures accepts { IfErr result (λ fault. IsTrue (D.state disk.old).tells → IsOfProfile (image_of (D.state disk.old)) → IsExcused fault) }
     ensures risen { IfErr result (HasRisen (D.faults disk.old) (D.faults disk.new)) }
+    ensures within { IfErr result (LiesWithin (D.state disk.old).count) }
     ensures reads { ReadsOnly (D.state disk.old) (D.state disk.new) (D.list disk.old) (D.list disk.new) (D.faults disk.old) (D.faults disk.new) }
 {
     check_device(disk.blocks())?;

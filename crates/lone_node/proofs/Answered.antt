@@ -124,7 +124,7 @@ module _ (d d' : DiskState) (n : Lone) (change : Change) (on : IsOn d n) (form :
 pub of_disk : (d : DiskState) (n : Lone) (change : Change) → IsOn d n → IsFormed change → AllByRecursion (IsInside (seen_alone n)) change.blocks.items → AreOfDisk d change.blocks.items
 of_disk d n change on form inside = record {
   rise = sorted_rise 0 change.blocks.items (none_low change.blocks.items) form.blocks;
-  inside = each (λ (w : Written). w.block < d.count) (λ w is. let end = in_all n.groups is.group is.has on.groups in omega (arith, is.below, end)) change.blocks.items inside;
+  inside = each (λ (w : Written). w.block < d.count) (λ w is. let end = in_all n.groups is.inside.group is.inside.has on.groups in omega (arith, is.inside.high, end)) change.blocks.items inside;
   whole = each (λ (w : Written). length w.bytes ≡ d.size) (λ w is. is.whole ∙ on.size) change.blocks.items inside;
 }
   where

@@ -2,7 +2,6 @@
 use Rattle.std.proofs.Common.{◌≡◌, ◌≢◌, ◌⊎◌, inl, inr, Bool, true, false, ℕ, ◌+◌, ◌<◌, List, None, Some, refl, sym, ap, ap₂, ◌∙◌, subst, subst₂, arith}
 use Rattle.std.proofs.lemmas.Bool.{cases_eq}
 use Rattle.std.specs.Prelude.{is_some}
-use Rattle.std.specs.List.{AllByRecursion}
 use Rattle.std.specs.Ordering.{nat_cmp}
 use Rattle.std.specs.FinMap.{FinMap, get, empty, insert, get-empty}
 use Rattle.file_tree.specs.Names.{IsName}
@@ -15,7 +14,7 @@ use Rattle.gfs2_layout.specs.Groups.{uncounted}
 use Rattle.gfs2_layout.specs.Holding.{Holding, alone}
 use Rattle.gfs2_layout.specs.Inode.{Head, IsInode, head_of}
 use Rattle.gfs2_layout.specs.declared.dinode.Dinode.{Dinode}
-use Rattle.glock_names.specs.Views.{Seen, IsView, HasGroup, end_of, group_of_entry}
+use Rattle.glock_names.specs.Views.{Seen, IsView, HasGroup, group_of_entry}
 use Rattle.glock_names.specs.declared.LockName.{LockName}
 use Rattle.glock_names.specs.declared.steps.Entry.{Entry}
 use Rattle.glock_names.specs.declared.views.Group.{Group}
@@ -35,11 +34,12 @@ use Rattle.image_model.specs.Image.{Image}
 use Rattle.image_model.specs.Owners.{Owners}
 use Rattle.image_model.specs.Stands.{Layout, IsRecordOf, heads_of}
 use Rattle.image_model.proofs.Held.{none_some}
-use Rattle.image_changes.specs.Does.{IsInside, IsOf}
+use Rattle.image_changes.specs.Does.{AreInside, LiesInGroup, IsOf}
 use Rattle.image_changes.specs.Drafted.{is_freed, is_gone}
 use Rattle.image_changes.proofs.Inside.{stay_inside}
 use Rattle.draft_changes.specs.Adding.{AddsName, ReadsNew}
 use Rattle.draft_changes.proofs.Views.{groups_are_listed}
+use Rattle.path_walks.proofs.Lying.{data_lies, header_lies}
 use Rattle.path_walks.specs.declared.walk.Place.{Place}
 use Rattle.making_calls.specs.Drafting.{CountsNumber, IsAddition, IsNewOf, IsNumbered, IsPlaceFor, IsPutUnder, of_directory, of_group, of_inode, IsRecordPut, IsSaidAndDone, PutsUnder, kind_for, new_tree}
 use Rattle.making_calls.specs.declared.blocks.Room.{Room}
@@ -177,12 +177,12 @@ module _ (v : Seen) (is_directory : Bool) (p : Place) (name : List ℕ) (r : Roo
     none_freed b = elim (what b) [ inl none ↦ ap is_gone none | inr so ↦ ap is_gone so.2 ]
 
     -- each block that is put lies in one of the view's groups
-    in_groups : HasDataBlock v p.inode → IsDataOf r.group r.block → (b : ℕ) (lock : LockName) → IsPutUnder p r b lock → (g : Group) × HasGroup v g × (b < end_of g)
-    in_groups inside data_block b lock (of_group header same) = let fit = fit_of v r.group shows has in (r.group, has, omega (arith, header.high, fit.first))
-    in_groups inside data_block b lock (of_directory here same) = (inside.0, inside.1, subst (λ x. x < end_of inside.0) (sym here) inside.2.high)
-    in_groups inside data_block b lock (of_inode here same) = (r.group, has, subst (λ x. x < end_of r.group) (sym here) data_block.high)
+    in_groups : HasDataBlock v p.inode → IsDataOf r.group r.block → (b : ℕ) (lock : LockName) → IsPutUnder p r b lock → LiesInGroup v b
+    in_groups inside data_block b lock (of_group header same) = header_lies v r.group b shows has header
+    in_groups inside data_block b lock (of_directory here same) = subst (LiesInGroup v) (sym here) (data_lies v p.inode shows inside)
+    in_groups inside data_block b lock (of_inode here same) = subst (LiesInGroup v) (sym here) (data_lies v r.block shows (r.group, has, data_block))
 
-    insides : HasDataBlock v p.inode → IsDataOf r.group r.block → AllByRecursion (IsInside v) change.blocks.items
+    insides : HasDataBlock v p.inode → IsDataOf r.group r.block → AreInside v change
     insides inside data_block = stay_inside v is.said.fates change is.said.finished is.said.whole (λ b lock plain bytes put. in_groups inside data_block b lock (locks b lock plain bytes put))
 
   module _ (is_name : IsName name) (has : HasGroup v r.group) (data_block : IsDataOf r.group r.block) (shows : IsView v) (inside : HasDataBlock v p.inode) where

@@ -1,50 +1,24 @@
 -- Faults that are handed on.
-use Rattle.std.proofs.Common.{◌≡◌, ℕ, true, true≢false, List, Option, None, Some, Bor, Result, Ok, Err, refl, sym, subst}
-use Rattle.std.specs.Prelude.{IfSome, IsErrAnd, is_some}
-use Rattle.gfs2_layout.specs.Holding.{Holding}
-use Rattle.glock_names.specs.Steps.{IfDamaged, IfIs, IsDamage, TellsOf}
+use Rattle.std.proofs.Common.{◌≡◌, ℕ, true, true≢false, List, Option, None, Some, Bor, Result, Ok, Err, refl, sym}
+use Rattle.std.specs.Prelude.{IfSome, is_some}
+use Rattle.glock_names.specs.Steps.{IfDamaged, IfIs, TellsOf}
 use Rattle.glock_names.specs.Views.{Seen, HasBlock}
 use Rattle.glock_names.specs.declared.steps.Step.{Step}
 use Rattle.glock_names.specs.declared.steps.Step.TheVariants.{Is, NeedBlock}
 use Rattle.glock_names.specs.declared.steps.CallFault.{CallFault}
 use Rattle.glock_names.specs.declared.steps.CallFault.TheVariants.{Damaged, NoMemory}
-use Rattle.dinode_tree.specs.Shown.{IsShown}
 use Rattle.glock_names.specs.declared.views.Group.{Group}
 use Rattle.resource_groups.specs.Shown as group
-
-pub told_on : {B : Type 0} (Q : ℕ → ℕ → Type 0) (r : Result B CallFault) (f : CallFault) → IsErrAnd r (λ g. g ≡ f) → TellsOf Q f → IfDamaged r Q
-told_on Q (Ok answer) f is tells = tt
-told_on Q (Err g) f is tells = subst (TellsOf Q) (sym is) tells
-
--- damage of one kind that is damage of another
-pub tells_so : (P Q : ℕ → ℕ → Type 0) → ((rule b : ℕ) → P rule b → Q rule b) → (f : CallFault) → TellsOf P f → TellsOf Q f
-tells_so P Q so NoMemory tells = tt
-tells_so P Q so (Damaged b rule) tells = so rule b tells
-
--- damage of all that a view shows
-pub tells_all : (v : Seen) (a : ℕ) (P : Holding → ℕ → ℕ → Type 0) (f : CallFault) → ((h : Holding) → IsShown v a h → TellsOf (P h) f) → TellsOf (λ rule b. (h : Holding) → IsShown v a h → P h rule b) f
-tells_all v a P NoMemory tells = tt
-tells_all v a P (Damaged b rule) tells = tells
 
 pub tells_each : (v : Seen) (g : Group) (f : CallFault) → ((at : ℕ → List ℕ) → group.IsShown v g at → TellsOf (group.IsBroken at g) f)
     → TellsOf (λ rule b. (at : ℕ → List ℕ) → group.IsShown v g at → group.IsBroken at g rule b) f
 tells_each v g NoMemory tells = tt
 tells_each v g (Damaged b rule) tells = tells
 
--- of a call's answer
-pub damaged_so : {A : Type 0} (P Q : ℕ → ℕ → Type 0) → ((rule b : ℕ) → P rule b → Q rule b) → (r : Result A CallFault) → IfDamaged r P → IfDamaged r Q
-damaged_so P Q so (Ok answer) told = tt
-damaged_so P Q so (Err f) told = tells_so P Q so f told
-
 pub damaged_each : {A : Type 0} (v : Seen) (g : Group) (r : Result A CallFault) → ((at : ℕ → List ℕ) → group.IsShown v g at → IfDamaged r (group.IsBroken at g))
     → IfDamaged r (λ rule b. (at : ℕ → List ℕ) → group.IsShown v g at → group.IsBroken at g rule b)
 damaged_each v g (Ok answer) told = tt
 damaged_each v g (Err f) told = tells_each v g f told
-
--- a fault of a call that takes no memory
-pub only_so : (P Q : ℕ → ℕ → Type 0) → ((rule b : ℕ) → P rule b → Q rule b) → (f : CallFault) → IsDamage P f → TellsOf Q f
-only_so P Q so (Damaged b rule) told = so rule b told
-only_so P Q so NoMemory told = tt
 
 -- what is so anyway is so of an answer
 pub is_any : {A : Type 0} (r : Result (Step A) CallFault) (P : Type 0) → P → IfIs r (λ answer. P)

@@ -16,8 +16,8 @@ use Rattle.resource_groups.specs.Shown.{IsMissing, said}
 use Rattle.image_model.proofs.Held.{some_same, none_some}
 use Rattle.image_model.proofs.Members.{IsIn, contained, is_in}
 use Rattle.path_walks.proofs.Lists.{split_at, take_next, with_next}
-use Rattle.path_walks.specs.Holds.{Hold, AreHeld, IsFirstLack, holds, hold_of, hold_for}
-use Rattle.making_calls.specs.Blocks.{States, blocks_needed, free_in, free_in_all, free_for, hold_of_group, group_holds, block_holds}
+use Rattle.path_walks.specs.Holds.{Hold, AreHeld, IsFirstLack, holds, hold_of, hold_for, hold_of_group}
+use Rattle.making_calls.specs.Blocks.{States, blocks_needed, free_in, free_in_all, free_for, group_holds, block_holds}
 use Rattle.making_calls.specs.Searches.{IsGroupBlock, IsUnder, AreFreeIn, AreFreeInAll, IsFirstRoom, IsTaken, first_of, room_in, taken_from}
 use Rattle.making_calls.specs.declared.blocks.FreeBlocks.{FreeBlocks}
 use Rattle.making_calls.specs.declared.blocks.Locked.{Locked}

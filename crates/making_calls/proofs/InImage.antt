@@ -19,8 +19,8 @@ use Rattle.image_changes.specs.Changes.{cover, is_free}
 use Rattle.image_changes.specs.Does.{IsOf, is_content_of}
 use Rattle.draft_changes.proofs.Rows.{state_said}
 use Rattle.draft_changes.proofs.Views.{groups_are_listed}
-use Rattle.path_walks.specs.Holds.{Hold, AreHeld, IsAskedFor, holds, hold_for}
-use Rattle.making_calls.specs.Blocks.{States, states_by, blocks_needed, free_in, free_in_all, hold_of_group, block_holds, free_for}
+use Rattle.path_walks.specs.Holds.{Hold, AreHeld, IsAskedFor, holds, hold_for, hold_of_group}
+use Rattle.making_calls.specs.Blocks.{States, states_by, blocks_needed, free_in, free_in_all, block_holds, free_for}
 use Rattle.making_calls.specs.Searches.{AreShown, IsGroupBlock}
 
 -- ---- lists of free blocks by two tables

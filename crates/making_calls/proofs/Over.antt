@@ -38,8 +38,8 @@ use Rattle.image_model.proofs.Held.{none_some}
 use Rattle.path_walks.proofs.Steps.{read_here}
 use Rattle.making_calls.specs.Drafting.{IsNumbered, header_in}
 use Rattle.making_calls.proofs.Alike.{alike_shown, broken_before, linear_there, seen_alike}
-use Rattle.making_calls.proofs.Faults.{tells_so}
 use Rattle.making_calls.proofs.Recording.{put_elsewhere}
+use Rattle.path_walks.proofs.Faults.{tells_so}
 
 -- what a draft doesn't see, the view doesn't
 unseen : (fate : Option Fate) (below : Option (List ℕ)) → block_with fate below ≡ None → below ≡ None

@@ -31,7 +31,7 @@ use Rattle.linear_dirs.proofs.Rewritten.{over_there}
 use Rattle.new_inodes.specs.Touched.{IsTouched, with_times}
 use Rattle.making_calls.specs.Drafting.{GetsRecord, HasTimes, IsRecordPut}
 use Rattle.making_calls.proofs.Alike.{alike_shown, broken_before, linear_there, touched_alike}
-use Rattle.making_calls.proofs.Faults.{tells_so}
+use Rattle.path_walks.proofs.Faults.{tells_so}
 
 pub put_there : (f : FinMap nat_cmp Fate) (b : ℕ) (x : Fate) → get (insert f b x) b ≡ Some x
 put_there f b x = inserted_at nat_cmp_total nat_cmp-IsAntisymmetric f b x

@@ -1,5 +1,5 @@
 -- The room that was found for a new inode, over a view and in an image that it may be of.
-use Rattle.std.proofs.Common.{◌≡◌, inl, inr, ℕ, zero, suc, ◌-◌, ◌%◌, ◌<◌, ◌≤◌, true, true≢false, List, [], ◌∷◌, ◌++◌, length, get_or, map, Some, refl, sym, ap, ◌∙◌, subst, arith, false}
+use Rattle.std.proofs.Common.{◌≡◌, inl, inr, ℕ, zero, suc, ◌-◌, ◌%◌, ◌<◌, ◌≤◌, true, List, [], ◌∷◌, ◌++◌, length, get_or, map, Some, refl, sym, ap, ◌∙◌, subst, arith, false}
 use Rattle.std.proofs.Math.Nat.{mod-lt}
 use Rattle.std.proofs.lemmas.List.{append_assoc, get_or_append_left, length-append}
 use Rattle.std.proofs.lemmas.Option.{slice_get-get_or}
@@ -8,11 +8,10 @@ use Rattle.file_tree.specs.Tree.{Tree}
 use Rattle.gfs2_layout.specs.Groups.{count_of}
 use Rattle.gfs2_layout.specs.Headers.{HasHeader}
 use Rattle.gfs2_layout.specs.declared.rindex.Rindex.{Rindex}
-use Rattle.glock_names.specs.StateOrder.{leq}
 use Rattle.glock_names.specs.Views.{Seen, IsView, HasGroup, group_of_entry}
 use Rattle.glock_names.specs.declared.LockName.{LockName}
 use Rattle.glock_names.specs.declared.State.{State}
-use Rattle.glock_names.specs.declared.State.TheVariants.{Un, Sh, Df, Ex}
+use Rattle.glock_names.specs.declared.State.TheVariants.{Ex}
 use Rattle.glock_names.specs.declared.steps.Missing.{Missing}
 use Rattle.glock_names.specs.declared.views.Group.{Group}
 use Rattle.resource_groups.specs.Putting.{HasDataBlock}
@@ -27,8 +26,8 @@ use Rattle.image_changes.specs.Does.{IsOf}
 use Rattle.image_changes.proofs.Frame.{dinode_its}
 use Rattle.draft_changes.proofs.Rows.{its_used}
 use Rattle.draft_changes.proofs.Views.{groups_are_listed}
-use Rattle.path_walks.specs.Holds.{Hold, AreHeld, holds, hold_of, hold_for}
-use Rattle.making_calls.specs.Blocks.{blocks_needed, block_holds, group_holds, group_of_node, hold_of_group, holds_from, new_holds, states_by}
+use Rattle.path_walks.specs.Holds.{Hold, AreHeld, holds, hold_of, hold_for, hold_of_group}
+use Rattle.making_calls.specs.Blocks.{blocks_needed, block_holds, group_holds, group_of_node, holds_from, new_holds, states_by}
 use Rattle.making_calls.specs.Searches.{AreShown, IsGroupBlock, IsGroupBroken, IsGroupNeeded, IsTaken, IsUnder}
 use Rattle.making_calls.specs.declared.blocks.Locked.TheVariants as locked
 use Rattle.making_calls.specs.declared.blocks.Room.{Room}
@@ -37,12 +36,6 @@ use Rattle.making_calls.proofs.Holds.{read_group}
 use Rattle.making_calls.proofs.InImage.{holds_said, shown_listed}
 use Rattle.making_calls.proofs.Numbered.{bytes_shown}
 use Rattle.making_calls.proofs.Over.{block_in}
-
-pub exclusive : (s : State) → leq Ex s ≡ true → s ≡ Ex
-exclusive Ex e = refl
-exclusive Un e = absurd (true≢false (sym e))
-exclusive Sh e = absurd (true≢false (sym e))
-exclusive Df e = absurd (true≢false (sym e))
 
 -- ---- a view shows all of its groups, and a node has one of its own
 

@@ -40,18 +40,19 @@ use Rattle.image_changes.proofs.Drafting.{drafts_do}
 use Rattle.image_changes.proofs.Finishing.{finish_makes}
 use Rattle.draft_changes.proofs.Added.{adding_makes}
 use Rattle.draft_changes.proofs.Views.{groups_are_listed}
-use Rattle.path_walks.specs.Holds.{Hold, AreHeld, IsAskedFor, IsFirstLack, hold_for, hold_of, holds}
-use Rattle.path_walks.specs.Walks.{LeadsTo, IsSeenAt}
+use Rattle.path_walks.specs.Holds as locks
+use Rattle.path_walks.specs.Holds.{Hold, AreHeld, IsAskedFor, IsFirstLack, hold_for, hold_of, holds, hold_of_group}
+use Rattle.path_walks.specs.Walks.{LeadsTo, IsSeenAt, IsLastOf}
 use Rattle.path_walks.specs.Walks as path
 use Rattle.path_walks.specs.declared.walk.Place.{Place}
 use Rattle.path_walks.proofs.Images.{is_inode, is_shown, unbroken_directory}
 use Rattle.path_walks.proofs.Leads.{no_end}
 use Rattle.path_walks.proofs.Lists.{parent_of_next}
 use Rattle.file_tree.proofs.WalkLaws.{last_front}
-use Rattle.making_calls.specs.Blocks.{blocks_needed, block_holds, free_for, free_in, free_in_all, group_holds, group_of_node, hold_of_group, new_holds}
+use Rattle.making_calls.specs.Blocks.{blocks_needed, block_holds, free_for, free_in, free_in_all, group_holds, group_of_node, new_holds}
 use Rattle.making_calls.specs.Drafting.{GetsRecord, IsAddition, IsPutUnder, IsWrongIn, kind_for, of_directory, of_group, of_inode, new_tree}
 use Rattle.making_calls.specs.Drafting as drafting
-use Rattle.making_calls.specs.Making.{IsMaking, IsLastOf, IsReachedIn, IsFound, IsFoundBy, IsNeededFor, IsToGetName, IsTooFew, IsDamage, LacksName, call_holds, directory_has_room, directory_path, has_room_for, makes_directory, name_in, path_holds, room_at}
+use Rattle.making_calls.specs.Making.{IsMaking, IsReachedIn, IsFound, IsFoundBy, IsNeededFor, IsToGetName, IsTooFew, IsDamage, LacksName, call_holds, directory_has_room, directory_path, has_room_for, makes_directory, name_in, path_holds, room_at}
 use Rattle.making_calls.specs.Making as damage
 use Rattle.making_calls.specs.Searches.{AreShown, IsGroupBlock, IsTaken, IsUnder}
 use Rattle.making_calls.specs.declared.blocks.Locked.{Locked}
@@ -62,10 +63,11 @@ use Rattle.making_calls.specs.declared.blocks.Taken.TheVariants as taken
 use Rattle.making_calls.proofs.Chain.{apart}
 use Rattle.making_calls.proofs.Holds.{empty_list, lack_behind, rest_all}
 use Rattle.making_calls.proofs.InImage.{all_said, are_shown, first_said, asked_behind, group_asked}
-use Rattle.making_calls.proofs.Rooms.{IsHeldRoom, block_under, dinode_inside, exclusive, group_sound, held_before, new_are, own_of}
+use Rattle.making_calls.proofs.Rooms.{IsHeldRoom, block_under, dinode_inside, group_sound, held_before, new_are, own_of}
 use Rattle.making_calls.proofs.Trees.{changes, takes, taken_list}
 use Rattle.making_calls.proofs.Under.{change_at, directory_listed, each_lock}
 use Rattle.making_calls.proofs.Wanted.{directory_held}
+use Rattle.path_walks.proofs.Wants.{exclusive}
 
 -- a block that is needed isn't there
 pub needed_absent : (v : Seen) (c : Call) (m : Missing) → IsNeededFor v c m → v.block_at m.block ≡ None
@@ -171,8 +173,8 @@ module _ (v : Seen) (c : Call) (is : IsMaking c) (p : Place) (name : List ℕ) (
         placed = record { at = reached.place.at; directory = here.linear.directory; dinode = reached.place.dinode; absent = here.absent; free = room_found.1.0.free }
 
         -- the locks that the change touches are of the list
-        pub under : {time : ℕ} (change : Change) → IsAddition v (makes_directory c) p name r time change → damage.IsUnder o (call_holds im o l t c node) change
-        under change added = subst (λ list. damage.IsUnder o list change) (sym whole) (record {
+        pub under : {time : ℕ} (change : Change) → IsAddition v (makes_directory c) p name r time change → locks.IsUnder o (call_holds im o l t c node) change
+        under change added = subst (λ list. locks.IsUnder o list change) (sym whole) (record {
           written = each_lock added.fates change added.finished (λ lock. Contains (path_holds im o l c ++ new) (record { lock = lock; state = Ex }))
               (λ b lock plain bytes put. contained (record { lock = lock; state = Ex }) (path_holds im o l c ++ new) (listed b lock (added.locks b lock plain bytes put)));
           freed = λ b a gone its. absurd (true≢false (sym gone ∙ (finish_makes added.fates change added.finished).gone b ∙ added.none_freed b));

@@ -2,7 +2,7 @@
 use Rattle.std.proofs.Common.{◌≡◌, true, false, ℕ, List, [], ◌∷◌, ◌++◌, Option, None, Some, refl, sym, ap, ap₂, ◌∙◌}
 use Rattle.std.proofs.lemmas.List.{append-nil}
 use Rattle.std.specs.Prelude.{◌&&◌, if◌then◌else◌, option_and_then}
-use Rattle.cluster_history.specs.Changes.{Changes, is_ok, may_change}
+use Rattle.cluster_history.specs.Changes.{Changes, is_ok}
 use Rattle.file_tree.specs.Apply.{apply, Answer, Walked, Found, Refused, add, add_to, found_or, put_at, refuse, step_to, walk}
 use Rattle.file_tree.specs.Names.{IsName, last_of, parent_of}
 use Rattle.file_tree.specs.Tree.{Tree, Entries, dir, file, look}
@@ -28,7 +28,8 @@ use Rattle.image_changes.proofs.Walks.{walks_end, walks_find}
 use Rattle.path_walks.proofs.Images.{child_is_there, no_child_of_file}
 use Rattle.making_calls.specs.Blocks.{new_holds}
 use Rattle.making_calls.specs.Drafting.{new_tree}
-use Rattle.making_calls.specs.Making.{IsMaking, IsLastOf, call_holds, directory_has_room, directory_path, makes_directory, path_holds}
+use Rattle.making_calls.specs.Making.{IsMaking, call_holds, directory_has_room, directory_path, makes_directory, path_holds}
+use Rattle.path_walks.specs.Walks.{IsLastOf}
 
 adds_at : (t : Tree) (path front : Path) (name : List ℕ) (new : Tree) → path ≡ front ++ name ∷ [] → add t path new ≡ add_to (walk t (parent_of path)) t path new
 adds_at t [] front name new e = absurd (no_end front name e)
@@ -85,10 +86,6 @@ changes (call.Stat p) is = absurd is
 changes (call.List p) is = absurd is
 changes (call.Rename p q) is = absurd is
 changes call.Sync is = absurd is
-
--- and one that wasn't doesn't
-pub no_change : (c : Call) (r : Reply) → is_ok r ≡ false → Changes (record { call = c; reply = r }) ≡ false
-no_change c r e = ap (λ b. b && may_change c) e
 
 -- ---- the list of locks
 

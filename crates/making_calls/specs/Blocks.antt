@@ -4,11 +4,10 @@ use Rattle.std.specs.List.{range_with_len}
 use Rattle.glock_names.specs.Views.{group_of_entry}
 use Rattle.glock_names.specs.declared.State.TheVariants.{Ex}
 use Rattle.glock_names.specs.declared.views.Group.{Group}
-use Rattle.resource_groups.specs.Shown.{group_lock}
 use Rattle.image_model.specs.Groups.{state_of}
 use Rattle.image_model.specs.Owners.{Owners}
 use Rattle.image_model.specs.Stands.{Layout}
-use Rattle.path_walks.specs.Holds.{Hold, hold_for}
+use Rattle.path_walks.specs.Holds.{Hold, hold_for, hold_of_group}
 
 -- how many blocks a new name takes: one for the inode's dinode, and none for a record that has room in a linear directory
 abbrev pub blocks_needed : ℕ
@@ -41,9 +40,6 @@ abbrev pub free_for : States → List Group → Group → List ℕ
 free_for says groups own = free_in says own ++ free_in_all says groups
 
 -- ---- the locks
-
-abbrev pub hold_of_group : Group → Hold
-hold_of_group g = record { lock = group_lock g; state = Ex }
 
 -- the node's own group; and where it has fewer free blocks than are needed, all groups in order
 abbrev pub group_holds : States → List Group → Group → List Hold

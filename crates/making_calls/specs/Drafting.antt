@@ -1,6 +1,5 @@
 -- What a draft that makes a name makes: a number is given, the directory gets times and a record, the new inode is put, and its group says so.
 use Rattle.std.specs.Prelude.{ℕ, ◌≡◌, ◌≢◌, ◌+◌, ◌<◌, Bool, true, false, List, [], ◌∷◌, drop, None, Some}
-use Rattle.std.specs.List.{AllByRecursion}
 use Rattle.std.specs.Ordering.{nat_cmp}
 use Rattle.std.specs.FinMap.{FinMap, empty, get, insert}
 use Rattle.file_tree.specs.Tree.{Tree, file, dir, none}
@@ -36,7 +35,7 @@ use Rattle.image_model.specs.Flat.{Path}
 use Rattle.image_model.specs.Image.{Image}
 use Rattle.image_model.specs.Owners.{Owners}
 use Rattle.image_model.specs.Stands.{Layout}
-use Rattle.image_changes.specs.Does.{IsInside, IsOf}
+use Rattle.image_changes.specs.Does.{AreInside, IsOf}
 use Rattle.image_changes.specs.Drafted.{IsFinished, is_freed, is_put}
 use Rattle.image_changes.specs.Instances.{IsAt, dinode_at, is_directory_at, records_at}
 use Rattle.draft_changes.specs.Adding.{AddsName}
@@ -153,7 +152,7 @@ pub record IsAddition (v : Seen) (is_directory : Bool) (p : Place) (name : List 
   pub locks : PutsUnder fates p r
   pub some : is_put fates r.group.addr ≡ true
   pub none_freed : (b : ℕ) → is_freed fates b ≡ false
-  pub inside : AllByRecursion (IsInside v) change.blocks.items
+  pub inside : AreInside v change
   pub number : ℕ
   pub next : (at : ℕ → List ℕ) → group.IsShown v r.group at → IsNextOf at r.group number
   pub header : List ℕ

@@ -1,6 +1,6 @@
 -- The calls that make a name: what they answer, under which locks.
-use Rattle.std.specs.Prelude.{ℕ, ◌≡◌, ◌≢◌, ◌<◌, ⊤, Bool, true, false, if◌then◌else◌, List, [], ◌∷◌, ◌++◌, ◌&&◌, length, map, slice_get, Contains, Option, None, Some}
-use Rattle.std.specs.List.{AllByRecursion, list_any}
+use Rattle.std.specs.Prelude.{ℕ, ◌≡◌, ◌≢◌, ◌<◌, ⊤, Bool, true, false, if◌then◌else◌, List, [], ◌++◌, ◌&&◌, length, map, slice_get, Contains, Option, None, Some}
+use Rattle.std.specs.List.{list_any}
 use Rattle.file_tree.specs.Names.{parent_of, last_of}
 use Rattle.file_tree.specs.Tree.{Tree}
 use Rattle.file_tree.specs.Apply.{apply}
@@ -16,8 +16,6 @@ use Rattle.gfs2_layout.specs.Putting.{has_room, least_length}
 use Rattle.gfs2_layout.specs.Records.{child_named}
 use Rattle.gfs2_layout.specs.Structures.{dinode_of}
 use Rattle.glock_names.specs.Views.{Seen, HasBlock, group_of_entry}
-use Rattle.glock_names.specs.declared.LockName.{LockName}
-use Rattle.glock_names.specs.declared.State.TheVariants.{Ex}
 use Rattle.glock_names.specs.declared.steps.Entry.{Entry}
 use Rattle.glock_names.specs.declared.steps.Missing.{Missing}
 use Rattle.glock_names.specs.declared.views.Group.{Group}
@@ -30,15 +28,14 @@ use Rattle.image_model.specs.Flat.{Path, follow}
 use Rattle.image_model.specs.Image.{Image}
 use Rattle.image_model.specs.Owners.{Owners, holding}
 use Rattle.image_model.specs.Stands.{Layout, flat_of}
-use Rattle.image_changes.specs.Changes.{inode_of}
-use Rattle.image_changes.specs.Does.{IsInside, frees, with_change}
+use Rattle.image_changes.specs.Does.{with_change}
 use Rattle.image_changes.specs.Instances.{IsAt, dinode_at}
-use Rattle.path_walks.specs.Answers.{HasSpace}
-use Rattle.path_walks.specs.Holds.{Hold, AreHeld, IsAskedFor, IsFirstLack, hold_of, holds, holds_in}
+use Rattle.path_walks.specs.Answers.{Refuses}
+use Rattle.path_walks.specs.Holds.{Hold, AreHeld, IsAskedFor, IsFirstLack, holds, holds_in, hold_of_group}
 use Rattle.path_walks.specs.declared.walk.Place.{Place}
 use Rattle.path_walks.specs.Walks.{LeadsTo, IsLinearDirectory, IsOnTheWay, IsPlaceOf, IsUnread, IsWrong}
 use Rattle.path_walks.specs.Walks as path
-use Rattle.making_calls.specs.Blocks.{blocks_needed, states_by, free_for, free_in_all, group_of_node, hold_of_group, new_holds}
+use Rattle.making_calls.specs.Blocks.{blocks_needed, states_by, free_for, free_in_all, group_of_node, new_holds}
 use Rattle.making_calls.specs.Drafting.{CountsNumber, GetsRecord, HasTimes, IsNewInode, IsNextOf, kind_for}
 use Rattle.making_calls.specs.Searches.{IsGroupBroken, IsGroupNeeded}
 use Rattle.making_calls.specs.declared.finds.Found.{Found}
@@ -170,15 +167,6 @@ IsToldOf v call found.NotBuilt = IsUnbuilt v call
 IsToldOf v call (found.NoSpace free) = free < blocks_needed
 IsToldOf v call f = ⊤
 
--- what the change writes lies in the view's groups
-abbrev pub AreInside : Seen → Change → Type 0
-AreInside v change = AllByRecursion (IsInside v) change.blocks.items
-
--- each lock with which the change writes a block, and that of the inode of each block that it frees, is of the list, exclusive
-pub record IsUnder (o : Owners) (list : List Hold) (change : Change) : Type 0 where
-  pub written : (lock : LockName) → Contains change.locks.items lock → Contains list (record { lock = lock; state = Ex })
-  pub freed : (b a : ℕ) → frees change b ≡ true → inode_of b (o b) ≡ Some a → Contains list (hold_of a Ex)
-
 -- where `..` of a directory below this one leads
 abbrev pub entry_in : Image → Owners → ℕ → Entry
 entry_in im o a = record { number = (dinode_at im o a).num.number; addr = a; kind = 4 }
@@ -207,14 +195,10 @@ IsStamped im o l call time change = (a : ℕ) × IsAt im o l (directory_path cal
 
 -- what a refusal is not: `ok`, or that too few blocks are free
 abbrev pub IsRefusal : Found → Type 0
-IsRefusal (found.Refused r) = (is_ok r ≡ false) × HasSpace r
+IsRefusal (found.Refused r) = Refuses r
 IsRefusal f = ⊤
 
 -- P of the change that is made
 abbrev pub IfMade : (Change → Type 0) → Found → Type 0
 IfMade P (found.Made change) = P change
 IfMade P f = ⊤
-
--- the path's last name
-abbrev pub IsLastOf : Path → List ℕ → Type 0
-IsLastOf path name = (front : Path) × (path ≡ front ++ name ∷ [])

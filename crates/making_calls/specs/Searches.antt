@@ -5,8 +5,8 @@ use Rattle.glock_names.specs.declared.State.TheVariants.{Ex}
 use Rattle.glock_names.specs.declared.steps.Missing.{Missing}
 use Rattle.glock_names.specs.declared.views.Group.{Group}
 use Rattle.resource_groups.specs.Shown.{IsShown, IsMissing, IsDataOf, IsBroken}
-use Rattle.path_walks.specs.Holds.{Hold, AreHeld, IsFirstLack, holds}
-use Rattle.making_calls.specs.Blocks.{States, blocks_needed, free_in, free_in_all, free_for, group_holds, hold_of_group}
+use Rattle.path_walks.specs.Holds.{Hold, AreHeld, IsFirstLack, holds, hold_of_group}
+use Rattle.making_calls.specs.Blocks.{States, blocks_needed, free_in, free_in_all, free_for, group_holds}
 use Rattle.making_calls.specs.declared.blocks.FreeBlocks.{FreeBlocks}
 use Rattle.making_calls.specs.declared.blocks.Locked.{Locked}
 use Rattle.making_calls.specs.declared.blocks.Locked.TheVariants as locked

@@ -5,8 +5,9 @@ ghost use Rattle.glock_names.specs.Views.{HasGroup, IsOfView};
 ghost use Rattle.glock_names.specs.declared.views.Group.{Group as GroupValue};
 ghost use Rattle.std.specs.Prelude.{IfOk};
 ghost use Rattle.resource_groups.specs.Shown.{said};
-ghost use Rattle.making_calls.specs.Blocks.{group_of_node, group_holds, block_holds, hold_of_group};
+ghost use Rattle.making_calls.specs.Blocks.{group_of_node, group_holds, block_holds};
 ghost use Rattle.making_calls.specs.Searches.{AreShown, AreFreeIn, AreFreeInAll, IsGroupBroken, IsTaken, IsUnder, first_of, room_in, taken_in};
+ghost use Rattle.path_walks.specs.Holds.{hold_of_group};
 
 use glock_names::{CallFault, Group, LockName, Missing, State, Step, View, is_at_most};
 use resource_groups::{count_free, find_free};

@@ -14,22 +14,22 @@ ghost use Rattle.dinode_tree.specs.Shown.{IsShown};
 ghost use Rattle.image_model.specs.Image.{Image};
 ghost use Rattle.image_model.specs.Owners.{Owners};
 ghost use Rattle.image_model.specs.Stands.{Layout};
-ghost use Rattle.image_changes.specs.Does.{IsOf, Does};
+ghost use Rattle.image_changes.specs.Does.{IsOf, Does, AreInside};
 ghost use Rattle.path_walks.specs.Answers.{IfDone, IfNeedLock, IfNeedBlock, IfNoSpace, IfHashed, IfNotBuilt, HasSpace};
-ghost use Rattle.path_walks.specs.Holds.{AreHeld, IsAskedFor, IsFirstLack, holds};
-ghost use Rattle.path_walks.specs.Walks.{IsSeenAt};
-ghost use Rattle.making_calls.specs.Making.{AreInside, IfMade, IsDamage, IsFound, IsHashedFor, IsLastOf, IsMade, IsMaking, IsNeededFor, IsReachedIn, IsRefusal, IsStamped, IsToldOf, IsTooFew, IsUnbuilt, IsUnder, LacksName, call_holds, directory_path, makes_directory};
+ghost use Rattle.path_walks.specs.Holds.{AreHeld, IsAskedFor, IsFirstLack, holds, IsUnder};
+ghost use Rattle.path_walks.specs.Walks.{IsSeenAt, IsLastOf};
+ghost use Rattle.making_calls.specs.Making.{IfMade, IsDamage, IsFound, IsHashedFor, IsMade, IsMaking, IsNeededFor, IsReachedIn, IsRefusal, IsStamped, IsToldOf, IsTooFew, IsUnbuilt, LacksName, call_holds, directory_path, makes_directory};
 
 use crate::blocks::{Locked, Taken, find_block};
 use crate::drafting::{addition, is_a_view};
 use crate::finds::Found;
 use crate::records::look_for_room;
 use call_locks::wants;
-use drafts::{Attempt, Change, Stamp};
+use drafts::{Attempt, Stamp};
 use file_tree::{Call, Name, Path, Reply};
 use glock_names::{CallFault, Step, View};
 use linear_dirs::look;
-use path_walks::{Place, Walk, walk_along};
+use path_walks::{Place, Walk, nothing, walk_along};
 use resource_groups::group_of;
 use std::alloc::Global;
 
@@ -52,19 +52,6 @@ fn is_of_directory(call: &Call) -> bool
     match call {
         Call::Mkdir(_) => true,
         _ => false,
-    }
-}
-
-// A change of nothing.
-fn nothing(alloc: Global) -> Change
-    ensures blocks { result.blocks.items ≡ [] }
-    ensures locks { result.locks.items ≡ [] }
-    ensures freed { result.freed.items ≡ [] }
-{
-    Change {
-        blocks: Vec::new(alloc),
-        locks: Vec::new(alloc),
-        freed: Vec::new(alloc),
     }
 }
 

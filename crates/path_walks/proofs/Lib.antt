@@ -3,3 +3,8 @@ pub mod Images
 pub mod Lists
 pub mod Walking
 pub mod Leads
+pub mod Lying
+pub mod Faults
+pub mod Wants
+pub mod Refused
+pub mod Asked

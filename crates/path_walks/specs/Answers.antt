@@ -1,5 +1,6 @@
 -- Which answer of a call over a view comes when.
-use Rattle.std.specs.Prelude.{ℕ, Result, Ok, ⊤}
+use Rattle.std.specs.Prelude.{ℕ, ◌≡◌, false, Result, Ok, ⊤}
+use Rattle.cluster_history.specs.Changes.{is_ok}
 use Rattle.file_tree.specs.declared.reply.Reply.{Reply}
 use Rattle.file_tree.specs.declared.reply.Reply.TheVariants as reply
 use Rattle.glock_names.specs.declared.LockName.{LockName}
@@ -39,3 +40,7 @@ IfNotBuilt _ P = ⊤
 abbrev pub HasSpace : Reply → Type 0
 HasSpace reply.NoSpace = ⊥
 HasSpace r = ⊤
+
+-- so a call is refused: by no `ok`, nor for want of free blocks
+abbrev pub Refuses : Reply → Type 0
+Refuses r = (is_ok r ≡ false) × HasSpace r

@@ -1,18 +1,22 @@
 -- The locks that a call takes, in their order, and how far a view holds them.
-use Rattle.std.specs.Prelude.{ℕ, ◌≡◌, Bool, true, false, List, [], ◌∷◌, ◌++◌, take, flat_map, Option, None, Some}
+use Rattle.std.specs.Prelude.{ℕ, ◌≡◌, Bool, true, false, List, [], ◌∷◌, ◌++◌, take, flat_map, Contains, Option, None, Some}
 use Rattle.std.specs.List.{All}
 use Rattle.glock_names.specs.StateOrder.{leq}
 use Rattle.glock_names.specs.Views.{Seen}
 use Rattle.glock_names.specs.declared.LockName.{LockName}
 use Rattle.glock_names.specs.declared.State.{State}
+use Rattle.glock_names.specs.declared.State.TheVariants.{Ex}
 use Rattle.glock_names.specs.declared.steps.Missing.{Missing}
+use Rattle.glock_names.specs.declared.views.Group.{Group}
+use Rattle.resource_groups.specs.Shown.{group_lock}
 use Rattle.call_locks.specs.declared.want.Want.{Want}
 use Rattle.image_model.specs.Flat.{Path, Flat, follow}
 use Rattle.image_model.specs.Image.{Image}
 use Rattle.image_model.specs.Owners.{Owners}
 use Rattle.image_model.specs.Stands.{Layout, flat_of}
-use Rattle.image_changes.specs.Changes.{cover, is_free}
-use Rattle.image_changes.specs.Does.{is_content_of}
+use Rattle.drafts.specs.declared.change.Change.{Change}
+use Rattle.image_changes.specs.Changes.{cover, inode_of, is_free}
+use Rattle.image_changes.specs.Does.{frees, is_content_of}
 
 -- a lock, and the state in which it is taken
 pub record Hold : Type 0 where
@@ -22,6 +26,10 @@ pub record Hold : Type 0 where
 -- the lock of the inode in a block
 abbrev pub hold_of : ℕ → State → Hold
 hold_of a state = record { lock = record { kind = 2; number = a }; state = state }
+
+-- the lock of a group, exclusive
+abbrev pub hold_of_group : Group → Hold
+hold_of_group g = record { lock = group_lock g; state = Ex }
 
 -- the lock that a want means: none where no inode is there
 abbrev pub hold_for : Option ℕ → State → List Hold
@@ -70,3 +78,10 @@ pub record IsAskedFor (v : Seen) (im : Image) (o : Owners) (l : Layout) (list : 
   pub back : List Hold
   pub split : list ≡ front ++ record { lock = m.lock; state = state } ∷ back
   pub held : AreHeld v (front ++ record { lock = m.lock; state = state } ∷ [])
+
+-- ---- the locks of a change
+
+-- each lock with which the change writes a block, and that of the inode of each block that it frees, is of the list, exclusive
+pub record IsUnder (o : Owners) (list : List Hold) (change : Change) : Type 0 where
+  pub written : (lock : LockName) → Contains change.locks.items lock → Contains list (record { lock = lock; state = Ex })
+  pub freed : (b a : ℕ) → frees change b ≡ true → inode_of b (o b) ≡ Some a → Contains list (hold_of a Ex)

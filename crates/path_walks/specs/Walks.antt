@@ -32,6 +32,10 @@ use Rattle.path_walks.specs.declared.walk.Walk.TheVariants as walk
 abbrev pub AreInOrder : List Want → Type 0
 AreInOrder wants = (i : ℕ) (w : Want) → slice_get wants i ≡ Some w → w.depth ≡ i
 
+-- the path's last name
+abbrev pub IsLastOf : Path → List ℕ → Type 0
+IsLastOf path name = (front : Path) × (path ≡ front ++ name ∷ [])
+
 -- ---- as far as a view shows
 
 -- an inode that is a directory, and not a hashed one

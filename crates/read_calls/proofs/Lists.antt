@@ -6,7 +6,7 @@ use Rattle.file_tree.specs.declared.call.Call.TheVariants as call
 use Rattle.file_tree.specs.declared.reply.Reply.{Reply}
 use Rattle.cluster_history.specs.Changes.{Changes, is_ok}
 use Rattle.glock_names.specs.declared.State.{State}
-use Rattle.glock_names.specs.declared.State.TheVariants.{Sh}
+use Rattle.glock_names.specs.declared.State.TheVariants.{Sh, Df}
 use Rattle.call_locks.specs.declared.want.Want.{Want}
 use Rattle.call_locks.specs.Wants.{want, shared_above, way_to, wanted}
 use Rattle.call_locks.specs.WantLaws.{path_of}
@@ -14,15 +14,20 @@ use Rattle.image_model.proofs.Held.{some_same}
 use Rattle.path_walks.specs.Walks.{AreInOrder}
 use Rattle.read_calls.specs.Reading.{IsReading}
 
-pub wants_are : (c : Call) → IsReading c → wanted c ≡ way_to false (length (path_of c false)) Sh
+-- the state in which such a call takes the inode at its path's end
+abbrev pub taken_in : Call → State
+taken_in (call.Dread p at count) = Df
+taken_in _ = Sh
+
+pub wants_are : (c : Call) → IsReading c → wanted c ≡ way_to false (length (path_of c false)) (taken_in c)
 wants_are (call.Read p at count) is = refl
+wants_are (call.Dread p at count) is = refl
 wants_are (call.Stat p) is = refl
 wants_are (call.List p) is = refl
 wants_are (call.Create p) is = absurd is
 wants_are (call.Mkdir p) is = absurd is
 wants_are (call.Unlink p) is = absurd is
 wants_are (call.Rmdir p) is = absurd is
-wants_are (call.Dread p at count) is = absurd is
 wants_are (call.Write p at new) is = absurd is
 wants_are (call.Truncate p size) is = absurd is
 wants_are (call.Rename p q) is = absurd is
@@ -59,13 +64,13 @@ plain false = refl
 -- such a call never changes the tree
 pub no_change : (c : Call) (r : Reply) → IsReading c → Changes (record { call = c; reply = r }) ≡ false
 no_change (call.Read p at count) r is = plain (is_ok r)
+no_change (call.Dread p at count) r is = plain (is_ok r)
 no_change (call.Stat p) r is = plain (is_ok r)
 no_change (call.List p) r is = plain (is_ok r)
 no_change (call.Create p) r is = absurd is
 no_change (call.Mkdir p) r is = absurd is
 no_change (call.Unlink p) r is = absurd is
 no_change (call.Rmdir p) r is = absurd is
-no_change (call.Dread p at count) r is = absurd is
 no_change (call.Write p at new) r is = absurd is
 no_change (call.Truncate p size) r is = absurd is
 no_change (call.Rename p q) r is = absurd is

@@ -1,5 +1,5 @@
 -- What the tree answers where a walk along the call's path ended.
-use Rattle.std.proofs.Common.{◌≡◌, ◌&&◌, ◌==◌, ◌+◌, ℕ, zero, suc, true, false, List, [], ◌∷◌, ◌++◌, length, None, Some, Result, Ok, Err, IfOk, inl, refl, sym, ap, subst, ◌∙◌, arith}
+use Rattle.std.proofs.Common.{◌≡◌, ◌+◌, ℕ, true, false, List, [], length, Result, Ok, Err, IfOk, refl, sym, ap, ◌∙◌, arith}
 use Rattle.std.proofs.lemmas.List.Sorted.{IsPermutation-refl}
 use Rattle.file_tree.specs.Tree.{Tree, file, dir, count_in}
 use Rattle.file_tree.specs.Apply.{Walked, Found, Refused, apply, walk, read_reply, stat_reply, list_reply}
@@ -12,47 +12,42 @@ use Rattle.gfs2_layout.specs.Holding.{Holding}
 use Rattle.gfs2_layout.specs.Inode.{IsInode, dinode_in, is_directory_in, content_of, records_of}
 use Rattle.gfs2_layout.specs.Device.{IsBlockSize}
 use Rattle.gfs2_layout.specs.Records.{names_of}
-use Rattle.gfs2_layout.specs.Structures.{is_regular}
 use Rattle.glock_names.specs.Views.{Seen}
-use Rattle.glock_names.specs.declared.steps.Missing.{Missing}
 use Rattle.call_locks.specs.Wants.{wanted}
 use Rattle.call_locks.specs.WantLaws.{path_of}
-use Rattle.dinode_tree.specs.Reading.{IsNeeded, IsInRange, IsOnWay, the_dinode, led_to}
-use Rattle.dinode_tree.proofs.Sound.{part_of_led}
+use Rattle.dinode_tree.specs.Reading.{IsInRange}
 use Rattle.image_model.specs.Flat.{Path, AFile, ADir, Thing, thing_in}
 use Rattle.image_model.specs.Image.{Image}
-use Rattle.image_model.specs.Owners.{Owners, Below, holding}
+use Rattle.image_model.specs.Owners.{Owners, holding}
 use Rattle.image_model.specs.Stands.{Layout}
-use Rattle.image_model.proofs.Held.{pointed_owner, some_same}
+use Rattle.image_model.proofs.Held.{some_same}
 use Rattle.image_model.proofs.Lengths.{length_content, size_large}
-use Rattle.image_changes.specs.Changes.{cover, is_free, inode_lock}
-use Rattle.image_changes.specs.Does.{IsOf, is_content_of}
+use Rattle.image_changes.specs.Does.{IsOf}
 use Rattle.image_changes.specs.Instances.{IsAt}
 use Rattle.image_changes.specs.Walks.{ListsNames}
 use Rattle.image_changes.proofs.DirectoryNames.{directories_list}
-use Rattle.image_changes.proofs.Drafting.{own_locks}
 use Rattle.image_changes.proofs.Nodes.{file_thing}
 use Rattle.image_changes.proofs.Walks.{walks_find}
-use Rattle.path_walks.specs.Holds.{Hold, AreHeld, EndsWith, IsAskedFor, holds_in}
+use Rattle.path_walks.specs.Holds.{Hold, AreHeld, EndsWith, holds_in}
 use Rattle.path_walks.specs.Walks.{IsWrong, in_inode, in_directory, IsDamage, on_path, LeadsTo, at_root, by_name, the_root, the_child}
 use Rattle.call_locks.specs.declared.want.Want.{Want}
 use Rattle.dinode_tree.specs.Shown.{IsShown}
-use Rattle.path_walks.proofs.Steps.{differs}
-use Rattle.path_walks.proofs.Images.{is_inode, is_sound, lock_of_inode, dinode_used, dinode_plain, unbroken, unbroken_directory}
+use Rattle.path_walks.proofs.Images.{is_inode, is_sound, unbroken, unbroken_directory}
 use Rattle.read_calls.specs.Reading.{IsReading, IsRangeOf, IsStatOf, IsListOf, IsAnswerOf, IsFoundBy, IsFound, IsAsked, IsAnswered, IsNeededFor, IsHashedFor, IsToldOf}
 use Rattle.read_calls.specs.declared.answers.Read.{Read}
 use Rattle.read_calls.specs.declared.answers.Read.TheVariants as read
+use Rattle.path_walks.proofs.Asked.{asked}
 
 -- a walk that is refused
 pub refused : (c : Call) (t : Tree) (r : Reply) → IsReading c → walk t (path_of c false) ≡ Refused r → (apply c t).reply ≡ r
 refused (call.Read p at count) t r is ends = ap (λ w. read_reply w at count) ends
+refused (call.Dread p at count) t r is ends = ap (λ w. read_reply w at count) ends
 refused (call.Stat p) t r is ends = ap stat_reply ends
 refused (call.List p) t r is ends = ap list_reply ends
 refused (call.Create p) t r is ends = absurd is
 refused (call.Mkdir p) t r is ends = absurd is
 refused (call.Unlink p) t r is ends = absurd is
 refused (call.Rmdir p) t r is ends = absurd is
-refused (call.Dread p at count) t r is ends = absurd is
 refused (call.Write p at new) t r is ends = absurd is
 refused (call.Truncate p size) t r is ends = absurd is
 refused (call.Rename p q) t r is ends = absurd is
@@ -69,11 +64,6 @@ file_in w (dir es) bytes found thing = absurd (other thing)
     other : ADir ≡ AFile bytes → ⊥
     other e = cc
 
--- content of a regular file, by a block's part
-plain_at : (im : Image) (o : Owners) (a above k level first : ℕ) → (level == 0 && is_regular (dinode_in (holding im o a))) ≡ is_content_of im o (Below a above k level first)
-plain_at im o a above k zero first = refl
-plain_at im o a above k (suc level) first = ap (λ b. b && is_regular (dinode_in (holding im o a))) (differs (suc level) 0 (λ e. omega (arith, e)))
-
 module _ (v : Seen) (im : Image) (o : Owners) (l : Layout) (t : Tree) (of : IsOf v im o l t) (path : Path) (a : ℕ) (at : IsAt im o l path a) where
   -- a file stands at the path, with the inode's bytes
   file_there : is_directory_in (holding im o a) ≡ false → walk t path ≡ Found (file (content_of (holding im o a)))
@@ -87,42 +77,11 @@ module _ (v : Seen) (im : Image) (o : Owners) (l : Layout) (t : Tree) (of : IsOf
   listed : is_directory_in (holding im o a) ≡ true → ListsNames im o t path a
   listed is = directories_list im o l t path a of.stands at is
 
-  own_lock : inode_lock l a ≡ Some (record { kind = 2; number = a })
-  own_lock = own_locks im o l a of.stands.laid (inl (path, at))
-
-  module _ (list : List Hold) (ends : EndsWith list a) (held : AreHeld v list) where
-    asked_at : (m : Missing) → v.block_at m.block ≡ None → m.lock ≡ record { kind = 2; number = a } → cover l m.block (o m.block) ≡ Some (record { kind = 2; number = a })
-        → is_free (o m.block) ≡ false → m.plain ≡ is_content_of im o (o m.block) → IsAskedFor v im o l list m
-    asked_at m absent lock covered used plain = record {
-      absent = absent;
-      covered = covered ∙ ap Some (sym lock);
-      used = used;
-      plain = plain;
-      state = ends.state;
-      front = ends.front;
-      back = [];
-      split = ends.split ∙ ap (λ k. ends.front ++ record { lock = k; state = ends.state } ∷ []) (sym lock);
-      held = subst (AreHeld v) (ends.split ∙ ap (λ k. ends.front ++ record { lock = k; state = ends.state } ∷ []) (sym lock)) held;
-    }
-
-    -- a block of the inode that is needed is under its lock
-    asked : (want : ℕ → Type 0) (least : ℕ) (m : Missing) → IsNeeded v (holding im o a) want least m → IsAskedFor v im o l list m
-    asked want least m needed = each needed.way
-      where
-        each : IsOnWay (holding im o a) want least m → IsAskedFor v im o l list m
-        each (the_dinode here from plain) =
-            asked_at m needed.absent needed.lock (ap (λ b. cover l b (o b)) here ∙ lock_of_inode v im o l t of path a at)
-            (ap (λ b. is_free (o b)) here ∙ dinode_used (o a) (is_inode v im o l t of path a at))
-            (plain ∙ sym (ap (λ b. is_content_of im o (o b)) here ∙ dinode_plain im o (o a) (is_inode v im o l t of path a at)))
-        each (led_to i k level first is low leads from before plain) =
-            let row = pointed_owner im o a m.block m.from k level first (part_of_led (holding im o a) m.from k level first m.block (is_sound v im o l t of path a at).tree leads) in
-            asked_at m needed.absent needed.lock (ap (cover l m.block) row ∙ own_lock) (ap is_free row) (plain ∙ plain_at im o a m.from k level first ∙ sym (ap (is_content_of im o) row))
-
   range_found : (list : List Hold) → EndsWith list a → AreHeld v list → (from count : ℕ) (r : Read) → IsRangeOf v (holding im o a) from count r
       → IsFoundBy v im o l (read_reply (walk t path) from count) list r
   range_found list ends held from count (read.Reply reply.IsDir) is = (ap (λ w. read_reply w from count) (listed is).walks, held)
   range_found list ends held from count (read.Reply (reply.Bytes bytes)) is = (ap (λ w. read_reply w from count) (file_there is.0) ∙ ap reply.Bytes (sym is.1), held)
-  range_found list ends held from count (read.NeedBlock m) is = asked list ends held (IsInRange (holding im o a) from count) 0 m is.1
+  range_found list ends held from count (read.NeedBlock m) is = asked v im o l t of path a at list ends held (IsInRange (holding im o a) from count) 0 m is.1
   range_found list ends held from count (read.Hashed b) is = absurd is
   range_found list ends held from count (read.NeedLock lock state) is = absurd is
   range_found list ends held from count (read.Reply reply.Ok) is = absurd is
@@ -177,6 +136,7 @@ module _ (v : Seen) (im : Image) (o : Owners) (l : Layout) (t : Tree) (of : IsOf
 pub answer_found : (v : Seen) (im : Image) (o : Owners) (l : Layout) (t : Tree) → IsOf v im o l t → (c : Call) (a : ℕ) → IsAt im o l (path_of c false) a
     → EndsWith (holds_in im o l (path_of c false) (wanted c)) a → AreHeld v (holds_in im o l (path_of c false) (wanted c)) → (r : Read) → IsAnswerOf v (holding im o a) c r → IsFound v im o l t c r
 answer_found v im o l t of (call.Read p from count) a at ends held r is = range_found v im o l t of p a at (holds_in im o l p (wanted (call.Read p from count))) ends held from count r is
+answer_found v im o l t of (call.Dread p from count) a at ends held r is = range_found v im o l t of p a at (holds_in im o l p (wanted (call.Dread p from count))) ends held from count r is
 answer_found v im o l t of (call.List p) a at ends held r is = list_found v im o l t of p a at (holds_in im o l p (wanted (call.List p))) held r is
 answer_found v im o l t of (call.Stat p) a at ends held (read.Reply r) is = (stat_found v im o l t of p a at r is, held)
 answer_found v im o l t of (call.Stat p) a at ends held (read.NeedBlock m) is = absurd is
@@ -186,7 +146,6 @@ answer_found v im o l t of (call.Create p) a at ends held r is = absurd is
 answer_found v im o l t of (call.Mkdir p) a at ends held r is = absurd is
 answer_found v im o l t of (call.Unlink p) a at ends held r is = absurd is
 answer_found v im o l t of (call.Rmdir p) a at ends held r is = absurd is
-answer_found v im o l t of (call.Dread p from count) a at ends held r is = absurd is
 answer_found v im o l t of (call.Write p from new) a at ends held r is = absurd is
 answer_found v im o l t of (call.Truncate p size) a at ends held r is = absurd is
 answer_found v im o l t of (call.Rename p q) a at ends held r is = absurd is

@@ -1,7 +1,7 @@
 -- The calls that read.
 use Rattle.std.specs.Prelude.{ℕ, ◌≡◌, ◌-◌, ⊤, true, false, List, []}
 use Rattle.file_tree.specs.declared.call.Call.{Call}
-use Rattle.file_tree.specs.declared.call.Call.TheVariants.{Read, Stat, List as ListNames}
+use Rattle.file_tree.specs.declared.call.Call.TheVariants.{Read, Dread, Stat, List as ListNames}
 use Rattle.file_tree.specs.declared.reply.Kind.TheVariants.{File, Dir}
 use Rattle.file_tree.specs.declared.reply.Reply.{Reply}
 use Rattle.file_tree.specs.declared.reply.Reply.TheVariants as reply
@@ -26,9 +26,10 @@ use Rattle.dinode_tree.specs.Reading.{content_range, IsInRange, IsNeeded}
 use Rattle.read_calls.specs.declared.answers.Read.{Read as Found}
 use Rattle.read_calls.specs.declared.answers.Read.TheVariants as found
 
--- the call reads: a file's bytes, what stands at a path, or a directory's names
+-- the call reads: a file's bytes, through the node's own copies of them or past these, what stands at a path, or a directory's names
 abbrev pub IsReading : Call → Type 0
 IsReading (Read path at count) = Unit {0}
+IsReading (Dread path at count) = Unit {0}
 IsReading (Stat path) = Unit {0}
 IsReading (ListNames path) = Unit {0}
 IsReading _ = ⊥
@@ -57,6 +58,7 @@ IsListOf h _ = ⊥
 
 abbrev pub IsAnswerOf : Seen → Holding → Call → Found → Type 0
 IsAnswerOf v h (Read path at count) f = IsRangeOf v h at count f
+IsAnswerOf v h (Dread path at count) f = IsRangeOf v h at count f
 IsAnswerOf v h (Stat path) (found.Reply r) = IsStatOf h r
 IsAnswerOf v h (ListNames path) f = IsListOf h f
 IsAnswerOf v h _ f = ⊥
@@ -77,6 +79,7 @@ IsAskedList v a _ = ⊥
 
 abbrev pub IsAsked : Seen → ℕ → Call → Found → Type 0
 IsAsked v a (Read path at count) f = IsAskedRange v a at count f
+IsAsked v a (Dread path at count) f = IsAskedRange v a at count f
 IsAsked v a (ListNames path) f = IsAskedList v a f
 IsAsked v a (Stat path) (found.Reply r) = ⊤
 IsAsked v a call f = ⊥

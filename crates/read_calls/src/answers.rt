@@ -119,7 +119,9 @@ pub(crate) fn answer_at<V: View>(
     ensures kept { IfDamaged result (IsOfView (V.seen view.now)) }
 {
     match call {
-        Call::Read(_, at, count) => read_file(alloc, view, place, *at, *count),
+        Call::Read(_, at, count) | Call::Dread(_, at, count) => {
+            read_file(alloc, view, place, *at, *count)
+        }
         Call::Stat(_) => Ok(Read::Reply(stat(place))),
         Call::List(_) => list(alloc, view, place),
         _ => unreachable!(),

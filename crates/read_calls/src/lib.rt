@@ -1,4 +1,4 @@
-//! The calls that read, over a view: `read`, `stat` and `list`.
+//! The calls that read, over a view: `read`, `dread`, `stat` and `list`.
 #![tactic(auto)]
 
 mod answers;

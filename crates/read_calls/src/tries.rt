@@ -16,10 +16,10 @@ ghost use Rattle.read_calls.specs.Reading.{IsAnswered, IsFound, IsHashedFor, IsN
 
 use crate::answers::{Read, answer_at};
 use call_locks::wants;
-use drafts::{Attempt, Change, Stamp};
+use drafts::{Attempt, Stamp};
 use file_tree::{Call, Path, Reply};
 use glock_names::{CallFault, View};
-use path_walks::{Walk, walk_along};
+use path_walks::{Walk, nothing, walk_along};
 use std::alloc::Global;
 
 // The path of a call that reads.
@@ -28,23 +28,10 @@ fn path_of_reading(call: &Call) -> &Path
     ensures { result.now ≡ path_of call.now false }
 {
     match call {
-        Call::Read(path, _, _) => path,
+        Call::Read(path, _, _) | Call::Dread(path, _, _) => path,
         Call::Stat(path) => path,
         Call::List(path) => path,
         _ => unreachable!(),
-    }
-}
-
-// A change of nothing.
-fn nothing(alloc: Global) -> Change
-    ensures blocks { result.blocks.items ≡ [] }
-    ensures locks { result.locks.items ≡ [] }
-    ensures freed { result.freed.items ≡ [] }
-{
-    Change {
-        blocks: Vec::new(alloc),
-        locks: Vec::new(alloc),
-        freed: Vec::new(alloc),
     }
 }
 

@@ -17,11 +17,10 @@ use Rattle.resource_groups.specs.Putting.{HasDataBlock}
 use Rattle.image_model.specs.Flat.{Path}
 use Rattle.image_model.proofs.Held.{none_some}
 use Rattle.image_changes.proofs.FlatPaths.{last_name}
-use Rattle.path_walks.specs.Walks.{LeadsTo, at_root, by_name, Names, IsLinearDirectory, IsSeenAt}
+use Rattle.path_walks.specs.Walks.{LeadsTo, at_root, by_name, Names, IsLinearDirectory, IsSeenAt, IsLastOf}
 use Rattle.path_walks.specs.declared.walk.Place.{Place}
 use Rattle.path_walks.proofs.Leads.{leads_once}
 use Rattle.path_walks.proofs.Lists.{parent_of_next}
-use Rattle.removing_calls.specs.Removing.{IsLastOf}
 
 no_end : {A : Type 0} (front : List A) (x : A) → [] ≡ front ++ x ∷ [] → ⊥
 no_end [] x e = cc

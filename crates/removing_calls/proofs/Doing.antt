@@ -15,11 +15,9 @@ use Rattle.drafts.specs.declared.fate.Fate.{Fate}
 use Rattle.drafts.specs.declared.fate.Fate.TheVariants.{Put, Freed}
 use Rattle.gfs2_layout.specs.Inode.{is_hashed_in}
 use Rattle.gfs2_layout.specs.Records.{Record, record_named}
-use Rattle.glock_names.specs.StateOrder.{leq}
 use Rattle.glock_names.specs.Views.{Seen, HasGroup}
 use Rattle.glock_names.specs.declared.LockName.{LockName}
-use Rattle.glock_names.specs.declared.State.{State}
-use Rattle.glock_names.specs.declared.State.TheVariants.{Un, Sh, Df, Ex}
+use Rattle.glock_names.specs.declared.State.TheVariants.{Ex}
 use Rattle.glock_names.specs.declared.views.Group.{Group}
 use Rattle.resource_groups.specs.Freeing.{HasSome}
 use Rattle.resource_groups.specs.Putting.{HasDataBlock}
@@ -37,18 +35,13 @@ use Rattle.image_changes.specs.Instances.{IsAt, IsChildless, among, records_at}
 use Rattle.image_changes.proofs.Drafting.{drafts_do}
 use Rattle.image_changes.proofs.Nodes.{among_in, in_among}
 use Rattle.draft_changes.proofs.Removed.{removing_makes}
-use Rattle.path_walks.specs.Holds.{holds}
+use Rattle.path_walks.specs.Holds.{holds, hold_of_group}
 use Rattle.removing_calls.specs.Drafting.{IsRemoval}
-use Rattle.removing_calls.specs.Groups.{GroupsAreHeld, group_hold}
+use Rattle.removing_calls.specs.Groups.{GroupsAreHeld}
 use Rattle.removing_calls.specs.Removing.{Goes}
 use Rattle.removing_calls.proofs.Imaged.{removes}
 use Rattle.removing_calls.proofs.Lists.{put_at, put_apart}
-
-pub exclusive : (s : State) → leq Ex s ≡ true → s ≡ Ex
-exclusive Ex e = refl
-exclusive Un e = absurd (true≢false (sym e))
-exclusive Sh e = absurd (true≢false (sym e))
-exclusive Df e = absurd (true≢false (sym e))
+use Rattle.path_walks.proofs.Wants.{exclusive}
 
 in_header_or_not : (g : Group) (b : ℕ) → IsHeaderOf g b ⊎ ¬ (IsHeaderOf g b)
 in_header_or_not g b = elim (cases_lt b g.addr) [
@@ -125,7 +118,7 @@ module _ {V : Type 0} (seen : V → Seen) (view : V) (p : ℕ) (name : List ℕ)
       of_group : (g : Group) → HasGroup (seen view) g → IsHeaderOf g b
           → (get is.freed.fates b ≡ get is.fates b) ⊎ ((bytes' : List ℕ) × (get is.freed.fates b ≡ Some (Put (group_lock g) false bytes'))) → (seen view).state_of lock ≡ Ex
       of_group g has head (inl same) = second_held b lock plain bytes (sym same ∙ e)
-      of_group g has head (inr put) = elim (cases_Bool (holds (seen view) (group_hold g))) [
+      of_group g has head (inr put) = elim (cases_Bool (holds (seen view) (hold_of_group g))) [
         | inl held ↦ ap (seen view).state_of (put_lock lock (group_lock g) plain false bytes put.0 (sym e ∙ put.1)) ∙ exclusive ((seen view).state_of (group_lock g)) held
         | inr lacks ↦ second_held b lock plain bytes (sym (is.freed.rest.groups g b has (λ some. true≢false (sym (groups_held g has some) ∙ lacks)) head) ∙ e)
       ]

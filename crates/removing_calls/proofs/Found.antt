@@ -1,5 +1,5 @@
 -- What a removal finds in an image that the view may be of.
-use Rattle.std.proofs.Common.{◌≡◌, ◌==◌, ◌&&◌, ◌↔◌, inl, inr, ℕ, zero, suc, ◌+◌, ◌<◌, true, false, List, [], ◌∷◌, ◌++◌, None, Some, refl, sym, ap, ◌∙◌, subst, arith}
+use Rattle.std.proofs.Common.{◌≡◌, ◌↔◌, inl, inr, ℕ, zero, suc, ◌+◌, ◌<◌, true, false, List, [], ◌∷◌, ◌++◌, Some, refl, sym, ap, ◌∙◌, subst, arith}
 use Rattle.std.proofs.lemmas.Bool.{cond-true}
 use Rattle.std.proofs.lemmas.List.Elements.{All-append}
 use Rattle.std.proofs.lemmas.List.FromFn.{get_or-map-range_with_len}
@@ -12,8 +12,7 @@ use Rattle.file_tree.specs.declared.call.Call.{Call}
 use Rattle.gfs2_layout.specs.Groups.{count_of}
 use Rattle.gfs2_layout.specs.Headers.{HasHeader}
 use Rattle.gfs2_layout.specs.Holding.{Pointed}
-use Rattle.gfs2_layout.specs.Inode.{dinode_in, is_hashed_in}
-use Rattle.gfs2_layout.specs.Structures.{is_regular}
+use Rattle.gfs2_layout.specs.Inode.{is_hashed_in}
 use Rattle.gfs2_layout.specs.declared.rindex.Rindex.{Rindex}
 use Rattle.glock_names.specs.Views.{Seen, HasGroup, group_of_entry}
 use Rattle.glock_names.specs.declared.LockName.{LockName}
@@ -21,27 +20,23 @@ use Rattle.glock_names.specs.declared.State.TheVariants.{Ex}
 use Rattle.glock_names.specs.declared.steps.Missing.{Missing}
 use Rattle.call_locks.specs.Wants.{wanted}
 use Rattle.call_locks.specs.WantLaws.{path_of}
-use Rattle.dinode_tree.specs.Reading.{IsNeeded, IsOnWay, the_dinode, led_to}
-use Rattle.dinode_tree.proofs.Sound.{part_of_led, parts_of_led, led_of_part}
+use Rattle.dinode_tree.proofs.Sound.{parts_of_led, led_of_part}
 use Rattle.image_model.specs.Flat.{Path, follow}
 use Rattle.image_model.specs.Image.{Image}
 use Rattle.image_model.specs.Groups.{IsListed, group_blocks}
-use Rattle.image_model.specs.Owners.{Owners, Below, is_dinode, holding}
+use Rattle.image_model.specs.Owners.{Owners, is_dinode, holding}
 use Rattle.image_model.specs.Stands.{Layout, flat_of}
 use Rattle.image_model.proofs.Counts.{at_in}
-use Rattle.image_model.proofs.Held.{pointed_owner}
 use Rattle.image_model.proofs.Members.{IsIn, contained}
-use Rattle.image_changes.specs.Changes.{cover, inode_of, is_free, inode_lock}
+use Rattle.image_changes.specs.Changes.{cover, inode_of, is_free}
 use Rattle.image_changes.specs.Does.{IsOf, is_content_of}
 use Rattle.image_changes.specs.Instances.{IsAt}
-use Rattle.image_changes.proofs.Drafting.{own_locks}
 use Rattle.image_changes.proofs.Frame.{dinode_its}
 use Rattle.draft_changes.proofs.Rows.{its_cell, its_used, part_its, part_there}
 use Rattle.draft_changes.proofs.Views.{groups_are_listed, have_these_blocks, none_has_the_first}
-use Rattle.path_walks.specs.Holds.{Hold, AreHeld, EndsWith, IsAskedFor, IsFirstLack, holds, holds_in}
-use Rattle.path_walks.proofs.Images.{is_inode, is_shown, is_sound, unbroken, lock_of_inode, dinode_used, dinode_plain}
-use Rattle.path_walks.proofs.Steps.{differs}
-use Rattle.removing_calls.specs.Groups.{GroupsAreHeld, IsFirstGroupLack, has_some, hold_of_group, group_holds, group_holds_of}
+use Rattle.path_walks.specs.Holds.{Hold, AreHeld, IsAskedFor, IsFirstLack, holds, holds_in, hold_of_group}
+use Rattle.path_walks.proofs.Images.{is_inode, is_shown, unbroken}
+use Rattle.removing_calls.specs.Groups.{GroupsAreHeld, IsFirstGroupLack, has_some, group_holds, group_holds_of}
 use Rattle.resource_groups.specs.Freeing.{BreaksSome, HasSome, IsNeededFor}
 use Rattle.resource_groups.specs.Putting.{HasDataBlock}
 use Rattle.resource_groups.specs.Shown.{IsMissing, group_lock}
@@ -54,42 +49,6 @@ pub taken_list : (im : Image) (o : Owners) (l : Layout) (t : Tree) (c : Call) (a
     → holds_for im o l t c ≡ holds_in im o l (path_of c false) (wanted c) ++ group_holds (holding im o a) l.groups
 taken_list im o l t c a ok at =
     ap (λ x. holds_in im o l (path_of c false) (wanted c) ++ x) (cond-true _ (group_holds_of im o l (follow (flat_of im o) l.root (path_of c false))) [] ok ∙ ap (group_holds_of im o l) at)
-
--- content of a regular file, by a block's part
-plain_at : (im : Image) (o : Owners) (a above k level first : ℕ) → (level == 0 && is_regular (dinode_in (holding im o a))) ≡ is_content_of im o (Below a above k level first)
-plain_at im o a above k zero first = refl
-plain_at im o a above k (suc level) first = ap (λ b. b && is_regular (dinode_in (holding im o a))) (differs (suc level) 0 (λ e. omega (arith, e)))
-
-module _ (v : Seen) (im : Image) (o : Owners) (l : Layout) (t : Tree) (of : IsOf v im o l t) (path : Path) (a : ℕ) (at : IsAt im o l path a) (list : List Hold) (ends : EndsWith list a) (held : AreHeld v list) where
-  own_lock : inode_lock l a ≡ Some (record { kind = 2; number = a })
-  own_lock = own_locks im o l a of.stands.laid (inl (path, at))
-
-  asked_at : (m : Missing) → v.block_at m.block ≡ None → m.lock ≡ record { kind = 2; number = a } → cover l m.block (o m.block) ≡ Some (record { kind = 2; number = a })
-      → is_free (o m.block) ≡ false → m.plain ≡ is_content_of im o (o m.block) → IsAskedFor v im o l list m
-  asked_at m absent lock covered used plain = record {
-    absent = absent;
-    covered = covered ∙ ap Some (sym lock);
-    used = used;
-    plain = plain;
-    state = ends.state;
-    front = ends.front;
-    back = [];
-    split = ends.split ∙ ap (λ k. ends.front ++ record { lock = k; state = ends.state } ∷ []) (sym lock);
-    held = subst (AreHeld v) (ends.split ∙ ap (λ k. ends.front ++ record { lock = k; state = ends.state } ∷ []) (sym lock)) held;
-  }
-
-  -- a block of the inode that is needed is under its lock
-  pub asked : (want : ℕ → Type 0) (least : ℕ) (m : Missing) → IsNeeded v (holding im o a) want least m → IsAskedFor v im o l list m
-  asked want least m needed = each needed.way
-    where
-      each : IsOnWay (holding im o a) want least m → IsAskedFor v im o l list m
-      each (the_dinode here from plain) =
-          asked_at m needed.absent needed.lock (ap (λ b. cover l b (o b)) here ∙ lock_of_inode v im o l t of path a at)
-          (ap (λ b. is_free (o b)) here ∙ dinode_used (o a) (is_inode v im o l t of path a at))
-          (plain ∙ sym (ap (λ b. is_content_of im o (o b)) here ∙ dinode_plain im o (o a) (is_inode v im o l t of path a at)))
-      each (led_to i k level first is low leads from before plain) =
-          let row = pointed_owner im o a m.block m.from k level first (part_of_led (holding im o a) m.from k level first m.block (is_sound v im o l t of path a at).tree leads) in
-          asked_at m needed.absent needed.lock (ap (cover l m.block) row ∙ own_lock) (ap is_free row) (plain ∙ plain_at im o a m.from k level first ∙ sym (ap (is_content_of im o) row))
 
 -- block k of a group
 block_in : (im : Image) (g : Rindex) (k : ℕ) → k < g.length → slice_index_or (group_blocks im.at g) k [] ≡ im.at (g.address + k)
@@ -129,8 +88,9 @@ module _ (v : Seen) (im : Image) (o : Owners) (l : Layout) (t : Tree) (of : IsOf
 
   pub none_wrong_below : (path : Path) (a : ℕ) → IsAt im o l path a → (rule b : ℕ) → IsWrongBelow v a rule b → ⊥
   none_wrong_below path a at rule b (in_inode r c broken) = unbroken v im o l t of path a r c at (broken (holding im o a) (is_shown v im o l t of path a at))
-  none_wrong_below path a at rule b (stray c goes outside) =
-      outside (its_inside a c (goes_its a c (is_inode v im o l t of path a at) (goes (holding im o a) (is_shown v im o l t of path a at))))
+  none_wrong_below path a at rule b (stray from c led outside) =
+      let way = led (holding im o a) (is_shown v im o l t of path a at) in
+      outside (its_inside a c (goes_its a c (is_inode v im o l t of path a at) (inr (from, way.0, way.1, way.2, way.3))))
 
 -- ---- the groups of the inode's blocks
 
@@ -182,7 +142,7 @@ module _ (v : Seen) (im : Image) (o : Owners) (l : Layout) (t : Tree) (of : IsOf
       let some : HasSome (group_of_entry f.0) blocks = (needed.2.0, needed.2.1, subst (λ k. group.IsDataOf k needed.2.0) f.2 needed.2.2) in
       let place = placed_in v (holding im o a) blocks has_so so_has l.groups f.0 (at_in f.0 l.groups f.1.0 f.1.1) (so_has f.0 some) in
       let row = of.stands.laid.zoned.headers f.0 f.1 m.block (record { low = missing.own.low; high = missing.own.high }) in
-      let split = ap (λ x. list ++ x) place.split ∙ sym (append_assoc list place.front (hold_of_group f.0.address ∷ place.back)) in
+      let split = ap (λ x. list ++ x) place.split ∙ sym (append_assoc list place.front (hold_of_group (group_of_entry f.0) ∷ place.back)) in
       record {
         absent = missing.absent;
         covered = ap (cover l m.block) row ∙ ap Some (sym missing.lock);
@@ -193,5 +153,5 @@ module _ (v : Seen) (im : Image) (o : Owners) (l : Layout) (t : Tree) (of : IsOf
         back = place.back;
         split = split ∙ ap (λ k. (list ++ place.front) ++ record { lock = k; state = Ex } ∷ place.back) (sym missing.lock);
         held = subst (λ k. AreHeld v ((list ++ place.front) ++ record { lock = k; state = Ex } ∷ [])) (sym missing.lock)
-            (held_upto v (list ++ place.front) place.back (hold_of_group f.0.address) (subst (AreHeld v) split (all_held list held groups)));
+            (held_upto v (list ++ place.front) place.back (hold_of_group (group_of_entry f.0)) (subst (AreHeld v) split (all_held list held groups)));
       }

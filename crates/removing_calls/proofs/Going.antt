@@ -1,29 +1,56 @@
 -- The blocks that go with an inode: those below it, and its dinode's.
-use Rattle.std.proofs.Common.{◌≡◌, ◌↔◌, inl, inr, ℕ, true, true≢false, List, [], ◌∷◌, ◌++◌, Option, None, Some, sym, ◌∙◌, subst}
+use Rattle.std.proofs.Common.{◌≡◌, ◌↔◌, inl, inr, ℕ, List, [], ◌∷◌, ◌++◌, refl, sym, ap, ◌∙◌, subst}
 use Rattle.std.proofs.lemmas.List.Elements.{Contains-append_cases, Contains-append_left}
-use Rattle.std.specs.Prelude.{Contains, IfSome, is_some}
+use Rattle.std.specs.Prelude.{Contains, map}
 use Rattle.gfs2_layout.specs.Holding.{Holding}
 use Rattle.glock_names.specs.Views.{Seen}
-use Rattle.dinode_tree.specs.Below.{IsBelow}
-use Rattle.dinode_tree.specs.Shown.{IsShown}
+use Rattle.dinode_tree.specs.Below.{IsBelow, IsLedFrom, TellsOfBlock}
+use Rattle.dinode_tree.specs.declared.below.PointedBlock.{PointedBlock}
 use Rattle.resource_groups.specs.Putting.{HasDataBlock}
-use Rattle.image_model.proofs.Members.{contained, in_right}
-use Rattle.removing_calls.specs.Removing.{Goes, IsWrongBelow, stray}
+use Rattle.image_model.proofs.Members.{IsIn, contained, is_in, in_right}
+use Rattle.removing_calls.specs.Removing.{Goes}
 use Rattle.removing_calls.proofs.Fronts.{only_one}
 
-pub goes_all : (h : Holding) (a : ℕ) (below all : List ℕ) → h.own ≡ a → ((b : ℕ) → Contains below b ↔ IsBelow h b) → all ≡ below ++ a ∷ [] → (b : ℕ) → Contains all b ↔ Goes h b
-goes_all h a below all own is same b = (
-  (λ has. elim (Contains-append_cases below (a ∷ []) b (subst (λ xs. Contains xs b) same has)) [
-    | inl early ↦ inr ((is b).0 early)
+-- the numbers of the blocks
+abbrev pub numbers : List PointedBlock → List ℕ
+numbers below = map (λ (p : PointedBlock). p.block) below
+
+number_in : (p : PointedBlock) (below : List PointedBlock) → IsIn p below → IsIn p.block (numbers below)
+number_in p [] here = elim here [ ]
+number_in p (q ∷ below) (inl e) = inl (ap (λ (x : PointedBlock). x.block) e)
+number_in p (q ∷ below) (inr later) = inr (number_in p below later)
+
+number_of : (b : ℕ) (below : List PointedBlock) → IsIn b (numbers below) → (p : PointedBlock) × IsIn p below × (p.block ≡ b)
+number_of b [] here = elim here [ ]
+number_of b (q ∷ below) (inl e) = (q, inl refl, sym e)
+number_of b (q ∷ below) (inr later) = let found = number_of b below later in (found.0, inr found.1, found.2)
+
+from_numbers : (below : List PointedBlock) (b : ℕ) → Contains (numbers below) b → TellsOfBlock below b
+from_numbers below b has = let found = number_of b below (is_in b (numbers below) has) in (found.0, contained found.0 below found.1, found.2)
+
+in_numbers : (below : List PointedBlock) (b : ℕ) → TellsOfBlock below b → Contains (numbers below) b
+in_numbers below b told = subst (Contains (numbers below)) told.2 (contained told.0.block (numbers below) (number_in told.0 below (is_in told.0 below told.1)))
+
+-- those below, and the dinode's behind them
+pub goes_all : (h : Holding) (a : ℕ) (below : List PointedBlock) (all : List ℕ) → h.own ≡ a → ((p : PointedBlock) → Contains below p → IsLedFrom h p.from p.block) → ((b : ℕ) → IsBelow h b → TellsOfBlock below b)
+    → all ≡ numbers below ++ a ∷ [] → (b : ℕ) → Contains all b ↔ Goes h b
+goes_all h a below all own led is same b = (
+  (λ has. elim (Contains-append_cases (numbers below) (a ∷ []) b (subst (λ xs. Contains xs b) same has)) [
+    | inl early ↦
+        let of = from_numbers below b early in
+        let by = led of.0 of.1 in
+        inr (subst (IsBelow h) of.2 (of.0.from, by.0, by.1, by.2, by.3))
     | inr last ↦ inl (only_one a b last ∙ sym own)
   ]),
   (λ goes. subst (λ xs. Contains xs b) (sym same) (elim goes [
-    | inl e ↦ contained b (below ++ a ∷ []) (in_right b below (a ∷ []) (inl (e ∙ own)))
-    | inr led ↦ Contains-append_left below (a ∷ []) b ((is b).1 led)
+    | inl e ↦ contained b (numbers below ++ a ∷ []) (in_right b (numbers below) (a ∷ []) (inl (e ∙ own)))
+    | inr led ↦ Contains-append_left (numbers below) (a ∷ []) b (in_numbers below b (is b led))
   ])),
 )
 
-pub stray_goes : (v : Seen) (a : ℕ) (all : List ℕ) (x : Option ℕ) → ((h : Holding) → IsShown v a h → (b : ℕ) → Contains all b ↔ Goes h b)
-    → is_some x ≡ true → IfSome x (λ b. Contains all b × (¬ (HasDataBlock v b))) → IsWrongBelow v a 2 a
-stray_goes v a all None goes is told = absurd (true≢false (sym is))
-stray_goes v a all (Some b) goes is told = stray b (λ h shown. (goes h shown b).0 told.0) told.1
+pub inside_all : (v : Seen) (a : ℕ) (below : List PointedBlock) (all : List ℕ) → HasDataBlock v a → ((p : PointedBlock) → Contains below p → HasDataBlock v p.block)
+    → all ≡ numbers below ++ a ∷ [] → (b : ℕ) → Contains all b → HasDataBlock v b
+inside_all v a below all own inside same b has = elim (Contains-append_cases (numbers below) (a ∷ []) b (subst (λ xs. Contains xs b) same has)) [
+  | inl early ↦ let of = from_numbers below b early in subst (HasDataBlock v) of.2 (inside of.0 of.1)
+  | inr last ↦ subst (HasDataBlock v) (sym (only_one a b last)) own
+]

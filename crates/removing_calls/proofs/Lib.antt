@@ -6,7 +6,6 @@ pub mod Above
 pub mod Listed
 pub mod Found
 pub mod Touching
-pub mod Faults
 pub mod Drafted
 pub mod Wanted
 pub mod Taking

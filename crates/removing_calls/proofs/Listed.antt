@@ -19,8 +19,8 @@ use Rattle.image_model.specs.Image.{Image}
 use Rattle.image_model.specs.Owners.{Owners}
 use Rattle.image_model.specs.Stands.{Layout}
 use Rattle.image_model.proofs.Members.{IsIn}
-use Rattle.path_walks.specs.Holds.{Hold, AreHeld, holds, IsAskedFor, IsFirstLack}
-use Rattle.removing_calls.specs.Groups.{group_hold, group_holds, has_some, hold_of_group}
+use Rattle.path_walks.specs.Holds.{Hold, AreHeld, holds, IsAskedFor, IsFirstLack, hold_of_group}
+use Rattle.removing_calls.specs.Groups.{group_holds, has_some}
 
 -- ---- a list with more behind it
 
@@ -59,23 +59,23 @@ lack_behind v list more lock state held lack = record {
 -- ---- the locks of groups
 
 module _ (v : Seen) (h : Holding) (blocks : List ℕ) (so : (g : Rindex) → has_some h g ≡ true → HasSome (group_of_entry g) blocks) (from_some : (g : Rindex) → HasSome (group_of_entry g) blocks → has_some h g ≡ true) where
-  one_more : (g : Rindex) (gs : List Rindex) → has_some h g ≡ true → group_holds h (g ∷ gs) ≡ hold_of_group g.address ∷ group_holds h gs
-  one_more g gs e = ap (map (λ (k : Rindex). hold_of_group k.address)) (cond-true _ (g ∷ filter (has_some h) gs) (filter (has_some h) gs) e)
+  one_more : (g : Rindex) (gs : List Rindex) → has_some h g ≡ true → group_holds h (g ∷ gs) ≡ hold_of_group (group_of_entry g) ∷ group_holds h gs
+  one_more g gs e = ap (map (λ (k : Rindex). hold_of_group (group_of_entry k))) (cond-true _ (g ∷ filter (has_some h) gs) (filter (has_some h) gs) e)
 
   none_more : (g : Rindex) (gs : List Rindex) → has_some h g ≡ false → group_holds h (g ∷ gs) ≡ group_holds h gs
-  none_more g gs e = ap (map (λ (k : Rindex). hold_of_group k.address)) (cond-false _ (g ∷ filter (has_some h) gs) (filter (has_some h) gs) e)
+  none_more g gs e = ap (map (λ (k : Rindex). hold_of_group (group_of_entry k))) (cond-false _ (g ∷ filter (has_some h) gs) (filter (has_some h) gs) e)
 
   -- where the locks of all groups that have some are held, these are
-  pub groups_held : (gs : List Rindex) → ((g : Rindex) → IsIn g gs → HasSome (group_of_entry g) blocks → holds v (group_hold (group_of_entry g)) ≡ true) → AreHeld v (group_holds h gs)
+  pub groups_held : (gs : List Rindex) → ((g : Rindex) → IsIn g gs → HasSome (group_of_entry g) blocks → holds v (hold_of_group (group_of_entry g)) ≡ true) → AreHeld v (group_holds h gs)
   groups_held [] held = All-nil (λ k. holds v k ≡ true)
   groups_held (g ∷ gs) held = elim (cases_Bool (has_some h g)) [
-    | inl e ↦ subst (AreHeld v) (sym (one_more g gs e)) (All-cons (λ k. holds v k ≡ true) (hold_of_group g.address) (group_holds h gs) (held g (inl refl) (so g e)) (groups_held gs (λ k at. held k (inr at))))
+    | inl e ↦ subst (AreHeld v) (sym (one_more g gs e)) (All-cons (λ k. holds v k ≡ true) (hold_of_group (group_of_entry g)) (group_holds h gs) (held g (inl refl) (so g e)) (groups_held gs (λ k at. held k (inr at))))
     | inr e ↦ subst (AreHeld v) (sym (none_more g gs e)) (groups_held gs (λ k at. held k (inr at)))
   ]
 
   -- the first group that isn't held is the first lock that isn't
-  pub first_lack : (gs : List Rindex) (front : List Group) (group : Group) (rest : List Group) → map group_of_entry gs ≡ front ++ group ∷ rest → HasSome group blocks → holds v (group_hold group) ≡ false
-      → ((k : Group) → IsIn k front → HasSome k blocks → holds v (group_hold k) ≡ true) → IsFirstLack v (group_holds h gs) (group_lock group) Ex
+  pub first_lack : (gs : List Rindex) (front : List Group) (group : Group) (rest : List Group) → map group_of_entry gs ≡ front ++ group ∷ rest → HasSome group blocks → holds v (hold_of_group group) ≡ false
+      → ((k : Group) → IsIn k front → HasSome k blocks → holds v (hold_of_group k) ≡ true) → IsFirstLack v (group_holds h gs) (group_lock group) Ex
   first_lack [] [] group rest split some lacks held = cc
   first_lack [] (k ∷ front) group rest split some lacks held = cc
   first_lack (g ∷ gs) [] group rest split some lacks held =
@@ -84,7 +84,7 @@ module _ (v : Seen) (h : Holding) (blocks : List ℕ) (so : (g : Rindex) → has
       record {
         front = [];
         back = group_holds h gs;
-        split = one_more g gs e ∙ ap (λ (x : Group). group_hold x ∷ group_holds h gs) is;
+        split = one_more g gs e ∙ ap (λ (x : Group). hold_of_group x ∷ group_holds h gs) is;
         held = All-nil (λ k. holds v k ≡ true);
         lacks = lacks;
       }
@@ -97,10 +97,10 @@ module _ (v : Seen) (h : Holding) (blocks : List ℕ) (so : (g : Rindex) → has
       elim (cases_Bool (has_some h g)) [
         | inr e ↦ subst (λ list. IsFirstLack v list (group_lock group) Ex) (sym (none_more g gs e)) later
         | inl e ↦ subst (λ list. IsFirstLack v list (group_lock group) Ex) (sym (one_more g gs e)) (record {
-          front = hold_of_group g.address ∷ later.front;
+          front = hold_of_group (group_of_entry g) ∷ later.front;
           back = later.back;
-          split = ap (λ x. hold_of_group g.address ∷ x) later.split;
-          held = All-cons (λ x. holds v x ≡ true) (hold_of_group g.address) later.front (ap (λ x. holds v (group_hold x)) is ∙ held k (inl refl) (subst (λ x. HasSome x blocks) is (so g e))) later.held;
+          split = ap (λ x. hold_of_group (group_of_entry g) ∷ x) later.split;
+          held = All-cons (λ x. holds v x ≡ true) (hold_of_group (group_of_entry g)) later.front (ap (λ x. holds v (hold_of_group x)) is ∙ held k (inl refl) (subst (λ x. HasSome x blocks) is (so g e))) later.held;
           lacks = later.lacks;
         })
       ]
@@ -112,22 +112,22 @@ module _ (v : Seen) (h : Holding) (blocks : List ℕ) (so : (g : Rindex) → has
       tail_same e = cc
 
   -- each group that has some has its place in the list
-  pub record IsPlacedIn (list : List Hold) (address : ℕ) : Type 0 where
+  pub record IsPlacedIn (list : List Hold) (g : Rindex) : Type 0 where
     pub front : List Hold
     pub back : List Hold
-    pub split : list ≡ front ++ hold_of_group address ∷ back
+    pub split : list ≡ front ++ hold_of_group (group_of_entry g) ∷ back
 
-  pub placed_in : (gs : List Rindex) (g : Rindex) → IsIn g gs → has_some h g ≡ true → IsPlacedIn (group_holds h gs) g.address
+  pub placed_in : (gs : List Rindex) (g : Rindex) → IsIn g gs → has_some h g ≡ true → IsPlacedIn (group_holds h gs) g
   placed_in [] g at some = elim at [ ]
   placed_in (k ∷ gs) g (inl e) some = record {
     front = [];
     back = group_holds h gs;
-    split = one_more k gs (ap (has_some h) (sym e) ∙ some) ∙ ap (λ (x : Rindex). hold_of_group x.address ∷ group_holds h gs) (sym e);
+    split = one_more k gs (ap (has_some h) (sym e) ∙ some) ∙ ap (λ (x : Rindex). hold_of_group (group_of_entry x) ∷ group_holds h gs) (sym e);
   }
   placed_in (k ∷ gs) g (inr at) some =
       let later = placed_in gs g at some in
       elim (cases_Bool (has_some h k)) [
-        | inl e ↦ record { front = hold_of_group k.address ∷ later.front; back = later.back; split = one_more k gs e ∙ ap (λ x. hold_of_group k.address ∷ x) later.split }
+        | inl e ↦ record { front = hold_of_group (group_of_entry k) ∷ later.front; back = later.back; split = one_more k gs e ∙ ap (λ x. hold_of_group (group_of_entry k) ∷ x) later.split }
         | inr e ↦ record { front = later.front; back = later.back; split = none_more k gs e ∙ later.split }
       ]
 

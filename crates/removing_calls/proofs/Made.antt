@@ -19,10 +19,10 @@ use Rattle.image_model.specs.Stands.{Layout}
 use Rattle.image_changes.specs.Does.{IsOf}
 use Rattle.path_walks.specs.Answers.{HasSpace}
 use Rattle.path_walks.specs.Holds.{AreHeld}
-use Rattle.path_walks.specs.Walks.{IsSeenAt}
+use Rattle.path_walks.specs.Walks.{IsSeenAt, IsLastOf}
 use Rattle.path_walks.specs.declared.walk.Place.{Place}
 use Rattle.path_walks.proofs.Images.{is_shown}
-use Rattle.removing_calls.specs.Removing.{IsAimOf, IsRefused, IsHashedFor, IsLastOf, IsReachedIn, at_end, holds_for}
+use Rattle.removing_calls.specs.Removing.{IsAimOf, IsRefused, IsHashedFor, IsReachedIn, at_end, holds_for}
 use Rattle.removing_calls.specs.declared.aims.Aim.{Aim}
 use Rattle.removing_calls.specs.declared.aims.Aim.TheVariants as aim
 use Rattle.removing_calls.proofs.Trees.{aim_not_ok, aim_refuses, plain_list}

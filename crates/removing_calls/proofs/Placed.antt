@@ -1,5 +1,5 @@
 -- A removal at the place to which the walk came: what is asked for, and what is damaged.
-use Rattle.std.proofs.Common.{◌≡◌, ◌≢◌, ◌↔◌, inl, ℕ, ◌+◌, true, false, List, [], ◌∷◌, ◌++◌, length, sym, ap, ◌∙◌, subst}
+use Rattle.std.proofs.Common.{◌≡◌, ◌≢◌, ◌↔◌, inl, ℕ, ◌+◌, true, false, List, [], ◌∷◌, ◌++◌, length, refl, sym, ap, ◌∙◌, subst}
 use Rattle.std.proofs.lemmas.List.{append_assoc, append-nil}
 use Rattle.std.specs.Prelude.{Contains}
 use Rattle.cluster_history.specs.Changes.{is_ok}
@@ -30,7 +30,7 @@ use Rattle.image_model.specs.Stands.{Layout}
 use Rattle.image_changes.specs.Does.{IsOf}
 use Rattle.image_changes.proofs.Frame.{dinode_its}
 use Rattle.path_walks.specs.Holds.{AreHeld, IsAskedFor, IsFirstLack, holds_in}
-use Rattle.path_walks.specs.Walks.{IsSeenAt, IsWrong, IsHeldAt, IsNext, LeadsTo, Names, at_root, by_name, the_root, the_child}
+use Rattle.path_walks.specs.Walks.{IsSeenAt, IsWrong, IsHeldAt, IsNext, LeadsTo, Names, at_root, by_name, the_root, the_child, IsLastOf}
 use Rattle.path_walks.specs.Walks as path
 use Rattle.path_walks.specs.declared.walk.Place.{Place}
 use Rattle.path_walks.proofs.Images.{is_inode, is_shown, unbroken_directory}
@@ -39,13 +39,14 @@ use Rattle.path_walks.proofs.Lists.{parent_of_next}
 use Rattle.removing_calls.specs.Drafting as drafting
 use Rattle.removing_calls.specs.Drafting.{IsWrongIn}
 use Rattle.removing_calls.specs.Groups.{GroupsAreHeld, IsFirstGroupLack, group_holds}
-use Rattle.removing_calls.specs.Removing.{IsRemoving, IsLastOf, IsAimOf, IsReachedIn, IsDamage, IsWrongBelow, Goes, holds_for}
+use Rattle.removing_calls.specs.Removing.{IsRemoving, IsAimOf, IsReachedIn, IsDamage, IsWrongBelow, Goes, holds_for}
 use Rattle.removing_calls.specs.Removing as damage
 use Rattle.removing_calls.specs.declared.aims.Aim.TheVariants as aim
 use Rattle.removing_calls.proofs.Above.{above_names, linear_in, named_in}
-use Rattle.removing_calls.proofs.Found.{taken_list, asked, its_inside, none_broken, none_wrong_below, all_held, first_unheld, group_asked}
+use Rattle.removing_calls.proofs.Found.{taken_list, its_inside, none_broken, none_wrong_below, all_held, first_unheld, group_asked}
 use Rattle.removing_calls.proofs.Listed.{asked_before}
 use Rattle.removing_calls.proofs.Trees.{IsTakenBy, aim_takes}
+use Rattle.path_walks.proofs.Asked.{asked}
 
 -- what is wrong with an inode to which a front of the path leads is damage on the path
 wrong_on_way : (v : Seen) (wants : List Want) (front : Path) (a : ℕ) → LeadsTo v wants front a → (whole back : Path) → whole ≡ front ++ back → (rule b : ℕ)
@@ -53,6 +54,10 @@ wrong_on_way : (v : Seen) (wants : List Want) (front : Path) (a : ℕ) → Leads
 wrong_on_way v wants [] a (at_root held) whole back e rule b wrong = path.on_path 0 a rule b the_root held wrong
 wrong_on_way v wants front a (by_name f dir a' n leads is_name named inside held) whole back e rule b wrong =
     path.on_path (length f + 1) a rule b (the_child f back dir a n (e ∙ append_assoc f (n ∷ []) back) leads is_name named inside) held wrong
+
+named_inside : (v : Seen) (wants : List Want) (whole : Path) (a : ℕ) → LeadsTo v wants whole a → whole ≢ [] → HasDataBlock v a
+named_inside v wants whole a (at_root held) named = absurd (named refl)
+named_inside v wants whole a (by_name front dir b name leads is names inside held) named = inside
 
 module _ (v : Seen) (c : Call) (p : Place) (name : List ℕ) (last : IsLastOf (path_of c false) name) (there : IsSeenAt v (wanted c) (path_of c false) p) where
   names : Names v p.above name p.inode
@@ -71,10 +76,14 @@ module _ (v : Seen) (c : Call) (p : Place) (name : List ℕ) (last : IsLastOf (p
   pub below_root : path_of c false ≢ []
   below_root root = no_end last.0 name (sym root ∙ last.1)
 
+  -- the inode has a name, so it is looked at whether its block is in a group
+  pub inode_inside : HasDataBlock v p.inode
+  inode_inside = named_inside v (wanted c) (path_of c false) p.inode there.leads below_root
+
   pub below_damage : ((h : Holding) → IsShown v p.inode h → IsAimOf c h aim.Taken) → (rule b : ℕ) → IsWrongBelow v p.inode rule b → IsDamage v c rule b
   below_damage taken rule b (damage.in_inode r d broken) =
       damage.on_path r d (wrong_on_way v (wanted c) (path_of c false) p.inode there.leads (path_of c false) [] (sym (append-nil (path_of c false))) r d (λ h shown. path.in_inode r d (broken h shown)))
-  below_damage taken rule b (damage.stray d goes outside) = damage.stray p.inode d (record { below = below_root; leads = there.leads; there = there.there; aim = taken }) goes outside
+  below_damage taken rule b (damage.stray from d led outside) = damage.stray p.inode from d (record { below = below_root; leads = there.leads; there = there.there; aim = taken }) led outside
 
   module _ (im : Image) (o : Owners) (l : Layout) (t : Tree) (of : IsOf v im o l t) (reached : IsReachedIn v im o l c p) where
     pub above_inside : HasDataBlock v p.above

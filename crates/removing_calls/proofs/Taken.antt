@@ -33,9 +33,9 @@ use Rattle.image_changes.specs.Drafted.{IsFinished}
 use Rattle.path_walks.specs.Walks.{IsLinearDirectory}
 use Rattle.removing_calls.specs.Drafting.{HasTimes, TouchesAlone, IsNameTaken, IsFreedAndDone, IsRemoval}
 use Rattle.removing_calls.proofs.Drafted.{taken_alone, needed_before, seen_before, breaks_before}
-use Rattle.removing_calls.proofs.Faults.{tells_so}
 use Rattle.removing_calls.proofs.Lists.{put_apart, put_at}
 use Rattle.removing_calls.proofs.Touching.{touched_shown, broken_before}
+use Rattle.path_walks.proofs.Faults.{tells_so}
 
 unchanged : (v : Seen) → seen_with v empty ≡ v
 unchanged v = λ i. record v { block_at = λ b. ap (λ f. block_with f (v.block_at b)) (get-empty nat_cmp b) i }

@@ -23,14 +23,14 @@ use Rattle.image_model.specs.Stands.{Layout}
 use Rattle.image_changes.specs.Does.{IsOf, Does, with_change}
 use Rattle.image_changes.specs.Instances.{IsAt, records_at}
 use Rattle.image_changes.proofs.Finishing.{finish_makes}
-use Rattle.path_walks.specs.Holds.{holds_in}
-use Rattle.path_walks.specs.Walks.{IsSeenAt}
+use Rattle.path_walks.specs.Holds.{holds_in, IsUnder}
+use Rattle.path_walks.specs.Walks.{IsSeenAt, IsLastOf}
 use Rattle.path_walks.specs.declared.walk.Place.{Place}
 use Rattle.path_walks.proofs.Images.{is_inode, is_shown}
 use Rattle.path_walks.proofs.Lists.{parent_of_next}
 use Rattle.removing_calls.specs.Drafting.{HasTimes, IsRemoval}
 use Rattle.removing_calls.specs.Groups.{GroupsAreHeld}
-use Rattle.removing_calls.specs.Removing.{IsRemoving, IsLastOf, IsAimOf, IsPlaceIn, Goes, IsStamped, IsUnder, holds_for}
+use Rattle.removing_calls.specs.Removing.{IsRemoving, IsAimOf, IsPlaceIn, Goes, IsStamped, holds_for}
 use Rattle.removing_calls.specs.declared.aims.Aim.TheVariants as aim
 use Rattle.removing_calls.proofs.Above.{above_names, inode_inside, record_of_child}
 use Rattle.removing_calls.proofs.Found.{taken_list}

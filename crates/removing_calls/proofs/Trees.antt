@@ -2,7 +2,7 @@
 use Rattle.std.proofs.Common.{◌≡◌, ◌≢◌, ◌&&◌, ℕ, Bool, true, false, true≢false, List, [], ◌∷◌, ◌++◌, refl, sym, ap, ◌∙◌, arith}
 use Rattle.std.proofs.lemmas.List.{append-nil}
 use Rattle.std.specs.Prelude.{if◌then◌else◌}
-use Rattle.cluster_history.specs.Changes.{is_ok, may_change, Changes}
+use Rattle.cluster_history.specs.Changes.{is_ok, Changes}
 use Rattle.file_tree.specs.Apply.{Answer, Walked, Found, Refused, apply, walk, unlink, unlink_at, rmdir, rmdir_at, remove_at, refuse}
 use Rattle.file_tree.specs.Tree.{Tree, Entries, file, dir, none, entry, count_in}
 use Rattle.file_tree.specs.declared.call.Call.{Call}
@@ -29,8 +29,9 @@ use Rattle.image_changes.proofs.Walks.{walks_find}
 use Rattle.path_walks.specs.Answers.{HasSpace}
 use Rattle.path_walks.specs.Holds.{holds_in}
 use Rattle.path_walks.proofs.Images.{is_inode}
-use Rattle.removing_calls.specs.Removing.{IsRemoving, IsAimOf, IsFileAim, IsDirectoryAim, IsLastOf, holds_for}
+use Rattle.removing_calls.specs.Removing.{IsRemoving, IsAimOf, IsFileAim, IsDirectoryAim, holds_for}
 use Rattle.removing_calls.specs.declared.aims.Aim.TheVariants as aim
+use Rattle.path_walks.specs.Walks.{IsLastOf}
 
 -- the answer where the walk to the name ends so
 abbrev removed : Path → Tree → Answer
@@ -77,10 +78,6 @@ changes (call.Stat p) is = absurd is
 changes (call.List p) is = absurd is
 changes (call.Rename p q) is = absurd is
 changes call.Sync is = absurd is
-
--- and one that wasn't doesn't
-pub no_change : (c : Call) (r : Reply) → is_ok r ≡ false → Changes (record { call = c; reply = r }) ≡ false
-no_change c r e = ap (λ b. b && may_change c) e
 
 -- the list where the tree refuses the call is that of the path
 pub plain_list : (im : Image) (o : Owners) (l : Layout) (t : Tree) (c : Call) → is_ok (apply c t).reply ≡ false → holds_for im o l t c ≡ holds_in im o l (path_of c false) (wanted c)

@@ -11,7 +11,7 @@ use Rattle.drafts.specs.declared.change.Change.{Change}
 use Rattle.drafts.specs.declared.fate.Fate.TheVariants.{Put, Freed}
 use Rattle.gfs2_layout.specs.Inode.{is_hashed_in}
 use Rattle.gfs2_layout.specs.declared.rindex.Rindex.{Rindex}
-use Rattle.glock_names.specs.Views.{Seen, HasGroup, end_of}
+use Rattle.glock_names.specs.Views.{Seen, HasGroup, group_of_entry}
 use Rattle.glock_names.specs.declared.LockName.{LockName}
 use Rattle.glock_names.specs.declared.State.TheVariants.{Ex}
 use Rattle.glock_names.specs.declared.views.Group.{Group}
@@ -21,7 +21,6 @@ use Rattle.call_locks.specs.declared.want.Want.{Want}
 use Rattle.resource_groups.specs.Freeing.{HasSome}
 use Rattle.resource_groups.specs.Putting.{HasDataBlock}
 use Rattle.resource_groups.specs.Shown.{IsHeaderOf, group_lock}
-use Rattle.resource_groups.proofs.Fits.{fit_of}
 use Rattle.image_model.specs.Flat.{Path, Flat, follow}
 use Rattle.image_model.specs.Image.{Image}
 use Rattle.image_model.specs.Owners.{Owners, is_dinode, holding}
@@ -29,20 +28,23 @@ use Rattle.image_model.specs.Stands.{Layout, flat_of}
 use Rattle.image_model.proofs.Counts.{at_in}
 use Rattle.image_model.proofs.Held.{some_same}
 use Rattle.image_model.proofs.Members.{IsIn, contained, is_in, in_left, in_right, in_flat_map}
-use Rattle.image_changes.specs.Does.{IsOf}
+use Rattle.image_changes.specs.Does.{IsOf, AreInside, LiesInGroup}
 use Rattle.image_changes.specs.Drafted.{IsOfDraft, is_freed, is_gone}
 use Rattle.image_changes.specs.Instances.{IsAt, among}
 use Rattle.image_changes.proofs.Finishing.{finish_makes}
+use Rattle.image_changes.proofs.Inside.{stay_inside}
 use Rattle.image_changes.proofs.Nodes.{among_in, in_among}
 use Rattle.draft_changes.proofs.Views.{groups_are_listed}
-use Rattle.path_walks.specs.Holds.{Hold, hold_of, hold_for, holds_on, holds_in}
+use Rattle.path_walks.specs.Holds.{Hold, hold_of, hold_for, holds_on, holds_in, IsUnder, hold_of_group}
 use Rattle.removing_calls.specs.Drafting.{IsRemoval}
-use Rattle.removing_calls.specs.Groups.{has_some, hold_of_group, group_holds}
-use Rattle.removing_calls.specs.Removing.{IsRemoving, IsLastOf, IsUnder, Goes, WritesInside}
+use Rattle.removing_calls.specs.Groups.{has_some, group_holds}
+use Rattle.removing_calls.specs.Removing.{IsRemoving, Goes}
 use Rattle.removing_calls.proofs.Doing.{header_among, second_lock, second_place, second_stays}
 use Rattle.removing_calls.proofs.Found.{goes_its, has_so, so_has}
 use Rattle.removing_calls.proofs.Listed.{placed_in}
 use Rattle.removing_calls.proofs.Wanted.{wants_are}
+use Rattle.path_walks.specs.Walks.{IsLastOf}
+use Rattle.path_walks.proofs.Lying.{data_lies, header_lies}
 
 -- ---- the path's locks
 
@@ -157,34 +159,29 @@ module _ {V : Type 0} (seen : V → Seen) (view : V) (im : Image) (o : Owners) (
       listed lock (inl e) = in_left (record { lock = lock; state = Ex }) list more (subst (λ k. IsIn (record { lock = k; state = Ex }) list) (sym e) dir)
       listed lock (inr g) =
           let place = placed_in (seen view) (holding im o a) blocks (has_so (seen view) im o l t of a so plain blocks goes) (so_has (seen view) im o l t of a so plain blocks goes) l.groups g.0 g.1 g.2 in
-          let x = hold_of_group g.0.address in
+          let x = hold_of_group (group_of_entry g.0) in
           let there : IsIn x more = subst (IsIn x) (sym place.split) (in_right x place.front (x ∷ place.back) (inl refl)) in
           subst (λ k. IsIn (record { lock = k; state = Ex }) (list ++ more)) (sym g.3) (in_right x list more there)
 
 -- ---- what is written lies in the view's groups
 
 module _ {V : Type 0} (seen : V → Seen) (view : V) (p : ℕ) (name : List ℕ) (blocks : List ℕ) {time : ℕ} (change : Change) (is : IsRemoval seen view p name time blocks change) (inside : HasDataBlock (seen view) p) where
-  put_inside : (b : ℕ) (lock : LockName) (content : Bool) (bytes : List ℕ) → get is.freed.fates b ≡ Some (Put lock content bytes) → (g : Group) × HasGroup (seen view) g × (b < end_of g)
+  put_inside : (b : ℕ) (lock : LockName) (content : Bool) (bytes : List ℕ) → get is.freed.fates b ≡ Some (Put lock content bytes) → LiesInGroup (seen view) b
   put_inside b lock content bytes e = elim (header_among (seen view).groups b) [
     | inl h ↦
         let has : HasGroup (seen view) h.0 = contained h.0 (seen view).groups h.1 in
-        let fit = fit_of (seen view) h.0 is.shows has in
-        (h.0, has, omega (arith, h.2.high, fit.first))
+        header_lies (seen view) h.0 b is.shows has h.2
     | inr none ↦ elim (cases_Bool (among blocks b)) [
       | inl freed ↦ absurd (differ (some_same (sym e ∙ is.freed.frees.freed b (contained b blocks (among_in blocks b freed)))))
       | inr other ↦
           let before = sym (is.freed.rest.others b (λ c. true≢false (sym (in_among blocks b (is_in b blocks c)) ∙ other)) (λ g has some head. none g (is_in g (seen view).groups has) head)) ∙ e in
           let here : b ≡ p = second_place seen view p name blocks change is b lock content bytes before in
-          (inside.0, inside.1, subst (λ x. x < end_of inside.0) (sym here) inside.2.high)
+          subst (LiesInGroup (seen view)) (sym here) (data_lies (seen view) p is.shows inside)
     ]
   ]
     where
       differ : Put lock content bytes ≡ Freed → ⊥
       differ e = cc
 
-  pub writes_inside : WritesInside (seen view) change
-  writes_inside i w at =
-      let d = finish_makes is.freed.fates change is.freed.finished in
-      let lock = there_at change.locks.items i (omega (arith, d.form.locks, place_low change.blocks.items i w at)) in
-      let put = d.told i w lock.0 at lock.1 in
-      (is.freed.whole w.block lock.0 w.plain w.bytes put, put_inside w.block lock.0 w.plain w.bytes put)
+  pub writes_inside : AreInside (seen view) change
+  writes_inside = stay_inside (seen view) is.freed.fates change is.freed.finished is.freed.whole put_inside

@@ -16,8 +16,8 @@ use Rattle.image_model.specs.Owners.{Owners}
 use Rattle.image_model.specs.Stands.{Layout}
 use Rattle.image_model.proofs.Held.{some_same}
 use Rattle.path_walks.specs.Holds.{AreHeld, holds_in}
-use Rattle.path_walks.specs.Walks.{AreInOrder}
-use Rattle.removing_calls.specs.Removing.{IsRemoving, IsLastOf, holds_for}
+use Rattle.path_walks.specs.Walks.{AreInOrder, IsLastOf}
+use Rattle.removing_calls.specs.Removing.{IsRemoving, holds_for}
 use Rattle.removing_calls.proofs.Trees.{refused, plain_list}
 use Rattle.removing_calls.proofs.Wanted.{wants_are, in_order, as_many}
 

@@ -1,20 +1,19 @@
 -- The locks that a call which removes a name wants on its path.
-use Rattle.std.proofs.Common.{◌≡◌, ℕ, zero, suc, ◌+◌, false, List, [], ◌∷◌, ◌++◌, length, slice_get, Some, refl, sym, ap, ◌∙◌, subst, arith}
+use Rattle.std.proofs.Common.{◌≡◌, ℕ, ◌+◌, false, List, [], ◌∷◌, ◌++◌, length, slice_get, ap, ◌∙◌, arith}
 use Rattle.std.proofs.lemmas.List.{length-append}
 use Rattle.file_tree.specs.Names.{parent_of}
 use Rattle.file_tree.specs.declared.call.Call.{Call}
 use Rattle.file_tree.specs.declared.call.Call.TheVariants as call
 use Rattle.glock_names.specs.Views.{Seen}
-use Rattle.glock_names.specs.declared.State.TheVariants.{Sh, Ex}
+use Rattle.glock_names.specs.declared.State.TheVariants.{Ex}
 use Rattle.call_locks.specs.declared.want.Want.{Want}
 use Rattle.call_locks.specs.Wants.{want, shared_above, way_to, at_old_name, wanted}
 use Rattle.call_locks.specs.WantLaws.{path_of}
 use Rattle.image_model.specs.Flat.{Path}
-use Rattle.image_model.proofs.Held.{some_same}
-use Rattle.path_walks.specs.Walks.{AreInOrder, LeadsTo, at_root, by_name, IsHeldAt}
+use Rattle.path_walks.specs.Walks.{AreInOrder, LeadsTo, IsLastOf}
 use Rattle.path_walks.proofs.Lists.{parent_of_next}
-use Rattle.removing_calls.specs.Removing.{IsRemoving, IsLastOf}
-use Rattle.removing_calls.proofs.Doing.{exclusive}
+use Rattle.removing_calls.specs.Removing.{IsRemoving}
+use Rattle.path_walks.proofs.Wants.{push, shared_from, way_from, at_end, before_end, leads_held, exclusive}
 
 -- the wants of such a call: the ancestors, the directory above, and the inode
 abbrev pub wants_of : ℕ → List Want
@@ -42,52 +41,11 @@ wants_are (call.List p) name is last = absurd is
 wants_are (call.Rename p q) name is last = absurd is
 wants_are call.Sync name is last = absurd is
 
--- depth by depth, from this one on
-abbrev AreFrom : ℕ → List Want → Type 0
-AreFrom k ws = (i : ℕ) (w : Want) → slice_get ws i ≡ Some w → w.depth ≡ k + i
-
-push : (k : ℕ) (ws : List Want) (w : Want) → AreFrom k ws → w.depth ≡ k + length ws → AreFrom k (ws ++ w ∷ [])
-push k [] w before here zero x at = let d = ap (λ (y : Want). y.depth) (some_same at) in omega (arith, here, d)
-push k [] w before here (suc i) x at = cc
-push k (y ∷ ws) w before here zero x at = before 0 x at
-push k (y ∷ ws) w before here (suc i) x at =
-    let later : AreFrom (suc k) ws = λ j z there. omega (arith, before (suc j) z there) in
-    omega (arith, push (suc k) ws w later (omega (arith, here)) i x at)
-
-shared_from : (n : ℕ) → AreFrom 0 (shared_above false n) × (length (shared_above false n) ≡ n)
-shared_from zero = ((λ i w at. cc), refl)
-shared_from (suc n) =
-    let before = shared_from n in
-    (push 0 (shared_above false n) (want false n Sh) before.0 (omega (arith, before.1)), length-append (shared_above false n) (want false n Sh ∷ []) ∙ omega (arith, before.1))
-
-way_from : (n : ℕ) → AreFrom 0 (way_to false n Ex) × (length (way_to false n Ex) ≡ n + 1)
-way_from n =
-    let before = shared_from n in
-    (push 0 (shared_above false n) (want false n Ex) before.0 (omega (arith, before.1)), length-append (shared_above false n) (want false n Ex ∷ []) ∙ omega (arith, before.1))
-
 pub in_order : (n : ℕ) → AreInOrder (wants_of n)
 in_order n i w at = let before = way_from n in omega (arith, push 0 (way_to false n Ex) (want false (n + 1) Ex) before.0 (omega (arith, before.1)) i w at)
 
 pub as_many : (n : ℕ) → length (wants_of n) ≡ n + 2
 as_many n = length-append (way_to false n Ex) (want false (n + 1) Ex ∷ []) ∙ omega (arith, (way_from n).1)
-
--- the want at a list's end, and at the place before
-at_end : (ws : List Want) (w : Want) (n : ℕ) → length ws ≡ n → slice_get (ws ++ w ∷ []) n ≡ Some w
-at_end [] w zero e = refl
-at_end [] w (suc n) e = absurd (omega (arith, e))
-at_end (x ∷ ws) w zero e = absurd (omega (arith, e))
-at_end (x ∷ ws) w (suc n) e = at_end ws w n (omega (arith, e))
-
-before_end : (ws : List Want) (v w : Want) (n : ℕ) → length ws ≡ n → slice_get ((ws ++ v ∷ []) ++ w ∷ []) n ≡ Some v
-before_end [] v w zero e = refl
-before_end [] v w (suc n) e = absurd (omega (arith, e))
-before_end (x ∷ ws) v w zero e = absurd (omega (arith, e))
-before_end (x ∷ ws) v w (suc n) e = before_end ws v w n (omega (arith, e))
-
--- where a path leads the lock is held as it is wanted there
-leads_held : (v : Seen) (wants : List Want) (path : Path) (a : ℕ) → LeadsTo v wants path a → IsHeldAt v wants (length path) a
-leads_held v wants [] a (at_root held) = held
-leads_held v wants path a (by_name front dir b name leads is_name named inside held) = subst (λ n. IsHeldAt v wants n b) (sym (length-append front (name ∷ []))) held
 
 pub inode_held : (v : Seen) (c : Call) (name : List ℕ) (a : ℕ) → IsRemoving c → (last : IsLastOf (path_of c false) name) → LeadsTo v (wanted c) (path_of c false) a → v.state_of (record { kind = 2; number = a }) ≡ Ex
 inode_held v c name a is last leads =

@@ -3,22 +3,17 @@ use Rattle.std.specs.Prelude.{ℕ, ◌≡◌, Bool, true, false, is_some, List, 
 use Rattle.std.specs.List.{list_any, range_with_len}
 use Rattle.gfs2_layout.specs.Holding.{Holding}
 use Rattle.gfs2_layout.specs.declared.rindex.Rindex.{Rindex}
-use Rattle.glock_names.specs.Views.{Seen}
+use Rattle.glock_names.specs.Views.{Seen, group_of_entry}
 use Rattle.glock_names.specs.declared.LockName.{LockName}
-use Rattle.glock_names.specs.declared.State.TheVariants.{Ex}
 use Rattle.glock_names.specs.declared.views.Group.{Group}
 use Rattle.resource_groups.specs.Shown.{group_lock}
 use Rattle.resource_groups.specs.Freeing.{HasSome}
 use Rattle.image_model.specs.Image.{Image}
 use Rattle.image_model.specs.Owners.{Owners, holding}
 use Rattle.image_model.specs.Stands.{Layout}
-use Rattle.path_walks.specs.Holds.{Hold, holds}
+use Rattle.path_walks.specs.Holds.{Hold, holds, hold_of_group}
 
 -- ---- in an image
-
--- the lock of the group with its header in this block, exclusive
-abbrev pub hold_of_group : ℕ → Hold
-hold_of_group address = record { lock = record { kind = 3; number = address }; state = Ex }
 
 -- some data block of the group is one of the inode's
 abbrev pub has_some : Holding → Rindex → Bool
@@ -26,7 +21,7 @@ has_some h g = list_any (λ b. is_some (h.cell b)) (range_with_len g.data0 g.dat
 
 -- of the groups those that have some, as they are listed: one behind another, by rising number
 abbrev pub group_holds : Holding → List Rindex → List Hold
-group_holds h groups = map (λ g. hold_of_group g.address) (filter (has_some h) groups)
+group_holds h groups = map (λ g. hold_of_group (group_of_entry g)) (filter (has_some h) groups)
 
 -- those of the inode in this block, where there is one
 abbrev pub group_holds_of : Image → Owners → Layout → Option ℕ → List Hold
@@ -34,10 +29,6 @@ group_holds_of im o l None = []
 group_holds_of im o l (Some a) = group_holds (holding im o a) l.groups
 
 -- ---- in a view
-
--- the lock of a group, exclusive
-abbrev pub group_hold : Group → Hold
-group_hold g = record { lock = group_lock g; state = Ex }
 
 -- of the view's groups that have some of these blocks as data blocks, this is the lock of the first that isn't held exclusive
 pub record IsFirstGroupLack (v : Seen) (blocks : List ℕ) (lock : LockName) : Type 0 where
@@ -47,9 +38,9 @@ pub record IsFirstGroupLack (v : Seen) (blocks : List ℕ) (lock : LockName) : T
   pub split : v.groups ≡ front ++ group ∷ back
   pub some : HasSome group blocks
   pub is : lock ≡ group_lock group
-  pub lacks : holds v (group_hold group) ≡ false
-  pub held : (g : Group) → Contains front g → HasSome g blocks → holds v (group_hold g) ≡ true
+  pub lacks : holds v (hold_of_group group) ≡ false
+  pub held : (g : Group) → Contains front g → HasSome g blocks → holds v (hold_of_group g) ≡ true
 
 -- each of the groups that have some of these blocks as data blocks is held exclusive
 abbrev pub GroupsAreHeld : Seen → List ℕ → Type 0
-GroupsAreHeld v blocks = (g : Group) → Contains v.groups g → HasSome g blocks → holds v (group_hold g) ≡ true
+GroupsAreHeld v blocks = (g : Group) → Contains v.groups g → HasSome g blocks → holds v (hold_of_group g) ≡ true

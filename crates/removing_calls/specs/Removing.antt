@@ -1,5 +1,5 @@
 -- The calls that remove a name: `unlink` of a file, and `rmdir` of a directory without names.
-use Rattle.std.specs.Prelude.{Some, ℕ, ◌≡◌, ◌≢◌, ◌⊎◌, ◌↔◌, ⊤, Contains, true, false, if◌then◌else◌, List, [], ◌∷◌, ◌++◌, ◌<◌, length, slice_get}
+use Rattle.std.specs.Prelude.{ℕ, ◌≡◌, ◌≢◌, ◌⊎◌, ◌↔◌, ⊤, Contains, true, false, if◌then◌else◌, List, [], ◌++◌}
 use Rattle.cluster_history.specs.Changes.{is_ok}
 use Rattle.file_tree.specs.Apply.{apply}
 use Rattle.file_tree.specs.Names.{parent_of}
@@ -11,32 +11,29 @@ use Rattle.file_tree.specs.declared.reply.Reply.TheVariants as reply
 use Rattle.gfs2_layout.specs.Holding.{Holding}
 use Rattle.gfs2_layout.specs.Inode.{dinode_in, is_directory_in, is_hashed_in}
 use Rattle.gfs2_layout.specs.Structures.{dinode_of}
-use Rattle.glock_names.specs.Views.{Seen, HasBlock, HasGroup, end_of}
+use Rattle.glock_names.specs.Views.{Seen, HasBlock}
 use Rattle.glock_names.specs.declared.LockName.{LockName}
 use Rattle.glock_names.specs.declared.State.{State}
 use Rattle.glock_names.specs.declared.State.TheVariants.{Ex}
 use Rattle.glock_names.specs.declared.steps.Missing.{Missing}
-use Rattle.glock_names.specs.declared.views.Group.{Group}
 use Rattle.call_locks.specs.Wants.{wanted}
 use Rattle.call_locks.specs.WantLaws.{path_of}
-use Rattle.dinode_tree.specs.Below.{AnyIndex, IsBelow}
+use Rattle.dinode_tree.specs.Below.{AnyIndex, IsBelow, IsLedFrom}
 use Rattle.dinode_tree.specs.Reading.{IsNeeded}
 use Rattle.dinode_tree.specs.Shown.{IsShown}
 use Rattle.dinode_tree.specs.Broken as inode
 use Rattle.resource_groups.specs.Freeing as freeing
 use Rattle.resource_groups.specs.Putting.{HasDataBlock}
 use Rattle.drafts.specs.declared.change.Change.{Change}
-use Rattle.drafts.specs.declared.change.Written.{Written}
-use Rattle.image_model.specs.Flat.{Path, follow}
+use Rattle.image_model.specs.Flat.{follow}
 use Rattle.image_model.specs.Image.{Image}
 use Rattle.image_model.specs.Owners.{Owners}
 use Rattle.image_model.specs.Stands.{Layout, flat_of}
-use Rattle.image_changes.specs.Changes.{inode_of}
-use Rattle.image_changes.specs.Does.{frees, with_change}
+use Rattle.image_changes.specs.Does.{with_change}
 use Rattle.image_changes.specs.Instances.{IsAt}
-use Rattle.path_walks.specs.Answers.{HasSpace}
-use Rattle.path_walks.specs.Holds.{Hold, AreHeld, EndsWith, IsAskedFor, IsFirstLack, hold_of, holds_in}
-use Rattle.path_walks.specs.Walks.{LeadsTo, IsAbsent, IsLacked, IsOnTheWay, IsPlaceOf, IsUnread}
+use Rattle.path_walks.specs.Answers.{Refuses}
+use Rattle.path_walks.specs.Holds.{Hold, AreHeld, EndsWith, IsAskedFor, IsFirstLack, holds_in}
+use Rattle.path_walks.specs.Walks.{LeadsTo, IsAbsent, IsLacked, IsLastOf, IsOnTheWay, IsPlaceOf, IsUnread}
 use Rattle.path_walks.specs.Walks as path
 use Rattle.path_walks.specs.declared.walk.Place.{Place}
 use Rattle.removing_calls.specs.Drafting.{HasTimes, IsRemoval}
@@ -77,10 +74,11 @@ IsAimOf call h a = ⊥
 abbrev pub Goes : Holding → ℕ → Type 0
 Goes h b = (b ≡ h.own) ⊎ IsBelow h b
 
--- as the view shows the inode with its dinode in block a, it breaks a rule; or (2) a block of it is no data block of a group
+-- as the view shows the inode with its dinode in block a, it breaks a rule; or (2) a pointer of it, in this block, leads to one that is no
+-- data block of a group
 pub data IsWrongBelow (v : Seen) (a : ℕ) : ℕ → ℕ → Type 0 where
   in_inode : (rule b : ℕ) → ((h : Holding) → IsShown v a h → inode.IsBroken h rule b) → IsWrongBelow v a rule b
-  stray : (b : ℕ) → ((h : Holding) → IsShown v a h → Goes h b) → ¬ (HasDataBlock v b) → IsWrongBelow v a 2 a
+  stray : (from b : ℕ) → ((h : Holding) → IsShown v a h → IsLedFrom h from b) → ¬ (HasDataBlock v b) → IsWrongBelow v a 2 from
 
 -- ---- the locks of the call
 
@@ -88,10 +86,6 @@ pub data IsWrongBelow (v : Seen) (a : ℕ) : ℕ → ℕ → Type 0 where
 abbrev pub holds_for : Image → Owners → Layout → Tree → Call → List Hold
 holds_for im o l t call = holds_in im o l (path_of call false) (wanted call)
     ++ (if is_ok (apply call t).reply then group_holds_of im o l (follow (flat_of im o) l.root (path_of call false)) else [])
-
--- the path's last name
-abbrev pub IsLastOf : Path → List ℕ → Type 0
-IsLastOf path name = (front : Path) × (path ≡ front ++ name ∷ [])
 
 -- ---- as far as the view shows
 
@@ -127,10 +121,6 @@ pub record IsRemovedBy {V : Type 0} (seen : V → Seen) (view : V) (call : Call)
   pub held : GroupsAreHeld (seen view) blocks
   pub is : IsRemoval seen view directory name time blocks change
 
--- each block that the change writes is whole, and lies before the end of one of the view's groups
-abbrev pub WritesInside : Seen → Change → Type 0
-WritesInside v change = (i : ℕ) (w : Written) → slice_get change.blocks.items i ≡ Some w → (length w.bytes ≡ v.size) × ((g : Group) × HasGroup v g × (w.block < end_of g))
-
 -- the call is answered so
 pub data IsAnswered {V : Type 0} (seen : V → Seen) (view : V) (call : Call) (time : ℕ) : Reply → Change → Type 0 where
   refused : (r : Reply) (change : Change) → is_ok r ≡ false → IsRefused (seen view) call r → IsAnswered seen view call time r change
@@ -160,11 +150,11 @@ IsToldOf seen view call time (found.NeedBlock m) = IsNeededFor (seen view) call 
 IsToldOf seen view call time (found.Hashed b) = IsHashedFor (seen view) call b
 IsToldOf seen view call time (found.NeedLock lock state) = IsLackedFor (seen view) call lock state
 
--- The block breaks this rule: on the path; or (2) a block of the inode that is to go, or the directory above it, is no data block of a group; or
--- in a group that has some of the inode's blocks, the locks of all such groups being held.
+-- The block breaks this rule: on the path; or (2) a pointer in it of the inode that is to go leads to a block that is no data block of a group,
+-- or it is the directory above, which is none; or in a group that has some of the inode's blocks, the locks of all such groups being held.
 pub data IsDamage (v : Seen) (call : Call) : ℕ → ℕ → Type 0 where
   on_path : (rule b : ℕ) → path.IsDamage v (wanted call) (path_of call false) rule b → IsDamage v call rule b
-  stray : (a b : ℕ) → IsTakenAt v call a → ((h : Holding) → IsShown v a h → Goes h b) → ¬ (HasDataBlock v b) → IsDamage v call 2 a
+  stray : (a from b : ℕ) → IsTakenAt v call a → ((h : Holding) → IsShown v a h → IsLedFrom h from b) → ¬ (HasDataBlock v b) → IsDamage v call 2 from
   above : (a : ℕ) → LeadsTo v (wanted call) (parent_of (path_of call false)) a → ¬ (HasDataBlock v a) → IsDamage v call 2 a
   in_group : (a rule b : ℕ) (blocks : List ℕ) → IsTakenAt v call a → AreAllOf v a blocks → GroupsAreHeld v blocks → freeing.BreaksSome v blocks rule b → IsDamage v call rule b
 
@@ -193,18 +183,13 @@ IsFoundBy v im o l answer list (found.Hashed b) = ⊤
 abbrev pub IsFound : Seen → Image → Owners → Layout → Tree → Call → Found → Type 0
 IsFound v im o l t call f = IsFoundBy v im o l (apply call t).reply (holds_for im o l t call) f
 
--- each lock with which the change writes a block, and that of the inode of each block that it frees, is of the list, exclusive
-pub record IsUnder (o : Owners) (list : List Hold) (change : Change) : Type 0 where
-  pub written : (lock : LockName) → Contains change.locks.items lock → Contains list (record { lock = lock; state = Ex })
-  pub freed : (b a : ℕ) → frees change b ≡ true → inode_of b (o b) ≡ Some a → Contains list (hold_of a Ex)
-
 -- in the image with the change the dinode of the directory above the name has this time
 abbrev pub IsStamped : Image → Owners → Layout → Call → ℕ → Change → Type 0
 IsStamped im o l call time change = (a : ℕ) × IsAt im o l (parent_of (path_of call false)) a × HasTimes (dinode_of ((with_change im change).at a)) time
 
 -- what a refusal is not: `ok`, or that too few blocks are free
 abbrev pub IsRefusal : Found → Type 0
-IsRefusal (found.Refused r) = (is_ok r ≡ false) × HasSpace r
+IsRefusal (found.Refused r) = Refuses r
 IsRefusal f = ⊤
 
 -- P of the change of a removal

@@ -13,11 +13,11 @@ ghost use Rattle.call_locks.specs.Wants.{wanted};
 ghost use Rattle.image_model.specs.Image.{Image};
 ghost use Rattle.image_model.specs.Owners.{Owners};
 ghost use Rattle.image_model.specs.Stands.{Layout};
-ghost use Rattle.image_changes.specs.Does.{IsOf, Does};
+ghost use Rattle.image_changes.specs.Does.{IsOf, Does, AreInside};
 ghost use Rattle.path_walks.specs.Answers.{IfDone, IfNeedLock, IfNeedBlock, IfNoSpace, IfHashed, IfNotBuilt, HasSpace};
-ghost use Rattle.path_walks.specs.Holds.{AreHeld, IsAskedFor, IsFirstLack};
-ghost use Rattle.path_walks.specs.Walks.{IsSeenAt};
-ghost use Rattle.removing_calls.specs.Removing.{IfRemoved, IsAimOf, IsAnswered, IsDamage, IsFound, IsHashedFor, IsLackedFor, IsLastOf, IsNeededFor, IsPlaceIn, IsReachedIn, IsRefusal, IsRemoving, IsStamped, IsToldOf, IsUnder, WritesInside, holds_for};
+ghost use Rattle.path_walks.specs.Holds.{AreHeld, IsAskedFor, IsFirstLack, IsUnder};
+ghost use Rattle.path_walks.specs.Walks.{IsSeenAt, IsLastOf};
+ghost use Rattle.removing_calls.specs.Removing.{IfRemoved, IsAimOf, IsAnswered, IsDamage, IsFound, IsHashedFor, IsLackedFor, IsNeededFor, IsPlaceIn, IsReachedIn, IsRefusal, IsRemoving, IsStamped, IsToldOf, holds_for};
 ghost use Rattle.removing_calls.specs.declared.aims.Aim.TheVariants as aim;
 
 use crate::aims::{Aim, aim_at};
@@ -26,10 +26,10 @@ use crate::drafting::removal;
 use crate::finds::Found;
 use crate::groups::lacked_group;
 use call_locks::wants;
-use drafts::{Attempt, Change, Stamp};
+use drafts::{Attempt, Stamp};
 use file_tree::{Call, Path, Reply};
 use glock_names::{CallFault, State, Step, View};
-use path_walks::{Place, Walk, walk_along};
+use path_walks::{Place, Walk, nothing, walk_along};
 use resource_groups::group_of;
 use std::alloc::Global;
 
@@ -60,19 +60,6 @@ fn refusal_of_root(call: &Call) -> Reply
     }
 }
 
-// A change of nothing.
-fn nothing(alloc: Global) -> Change
-    ensures blocks { result.blocks.items ≡ [] }
-    ensures locks { result.locks.items ≡ [] }
-    ensures freed { result.freed.items ≡ [] }
-{
-    Change {
-        blocks: Vec::new(alloc),
-        locks: Vec::new(alloc),
-        freed: Vec::new(alloc),
-    }
-}
-
 // Removes the inode at a place, whose last name this is: its blocks are found, the locks of their groups looked at, and then all is
 // drafted.
 fn remove_at<V: View>(
@@ -96,7 +83,7 @@ fn remove_at<V: View>(
     ensures refusal { IfOk result IsRefusal }
     ensures sound { (im : Image) (o : Owners) (l : Layout) (t : Tree) → IsOf (V.seen view.now) im o l t → IsReachedIn (V.seen view.now) im o l call.now place.now → IfDamaged result (λ rule block. ⊥) }
     ensures told { IfOk result (IsToldOf V.seen view.now call.now time) }
-    ensures inside { IfOk result (IfRemoved (WritesInside (V.seen view.now))) }
+    ensures inside { IfOk result (IfRemoved (AreInside (V.seen view.now))) }
     ensures damaged { IfDamaged result (IsDamage (V.seen view.now) call.now) }
     ensures kept { IfDamaged result (IsOfView (V.seen view.now)) }
 {
@@ -142,7 +129,7 @@ fn find_at<V: View>(
     ensures under { (im : Image) (o : Owners) (l : Layout) (t : Tree) → IsOf (V.seen view.now) im o l t → IfOk result (IfRemoved (IsUnder o (holds_for im o l t call.now))) }
     ensures refusal { IfOk result IsRefusal }
     ensures told { IfOk result (IsToldOf V.seen view.now call.now time) }
-    ensures inside { IfOk result (IfRemoved (WritesInside (V.seen view.now))) }
+    ensures inside { IfOk result (IfRemoved (AreInside (V.seen view.now))) }
     ensures sound { (im : Image) (o : Owners) (l : Layout) (t : Tree) → IsOf (V.seen view.now) im o l t → IsReachedIn (V.seen view.now) im o l call.now place.now → IfDamaged result (λ rule block. ⊥) }
     ensures damaged { IfDamaged result (IsDamage (V.seen view.now) call.now) }
     ensures kept { IfDamaged result (IsOfView (V.seen view.now)) }
@@ -163,7 +150,7 @@ fn find<V: View>(alloc: Global, view: &V, call: &Call, time: u64) -> Result<Foun
     ensures under { (im : Image) (o : Owners) (l : Layout) (t : Tree) → IsOf (V.seen view.now) im o l t → IfOk result (IfRemoved (IsUnder o (holds_for im o l t call.now))) }
     ensures refusal { IfOk result IsRefusal }
     ensures told { IfOk result (IsToldOf V.seen view.now call.now time) }
-    ensures inside { IfOk result (IfRemoved (WritesInside (V.seen view.now))) }
+    ensures inside { IfOk result (IfRemoved (AreInside (V.seen view.now))) }
     ensures sound { (im : Image) (o : Owners) (l : Layout) (t : Tree) → IsOf (V.seen view.now) im o l t → IfDamaged result (λ rule block. ⊥) }
     ensures damaged { IfDamaged result (IsDamage (V.seen view.now) call.now) }
     ensures kept { IfDamaged result (IsOfView (V.seen view.now)) }
@@ -203,7 +190,7 @@ pub fn attempt<V: View>(
     ensures space { IfNoSpace result (λ need free. ⊥) }
     ensures spaceless { IfDone result (λ reply change. HasSpace reply) }
     ensures answered { IfDone result (IsAnswered V.seen view.now call.now stamp.now.time) }
-    ensures inside { IfDone result (λ reply change. is_ok reply ≡ true → WritesInside (V.seen view.now) change) }
+    ensures inside { IfDone result (λ reply change. is_ok reply ≡ true → AreInside (V.seen view.now) change) }
     ensures lacked { IfNeedLock result (IsLackedFor (V.seen view.now) call.now) }
     ensures needed { IfNeedBlock result (IsNeededFor (V.seen view.now) call.now) }
     ensures hashed { IfHashed result (IsHashedFor (V.seen view.now) call.now) }

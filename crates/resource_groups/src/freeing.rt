@@ -1,5 +1,5 @@
 // Data blocks freed in a draft.
-ghost use Rattle.std.specs.Prelude.{ℕ, List, ◌∷◌, [], Contains, IfSome, IfNone};
+ghost use Rattle.std.specs.Prelude.{ℕ, List, ◌∷◌, [], Contains};
 ghost use Rattle.glock_names.specs.Steps.{IfIs, IfNeedBlock, IfDamaged};
 ghost use Rattle.glock_names.specs.Views.{HasGroup, IsOfView, IsView};
 ghost use Rattle.glock_names.specs.declared.views.Group.{Group};
@@ -8,7 +8,7 @@ ghost use Rattle.drafts.specs.Fates.{seen_in};
 ghost use Rattle.resource_groups.specs.Putting.{IsOneOfTwo, HasDataBlock};
 ghost use Rattle.resource_groups.specs.Freeing.{AreFreed, KeepsRest, IsNeededFor, BreaksSome};
 
-use crate::putting::{group_of, set_state};
+use crate::putting::set_state;
 use drafts::Draft;
 use glock_names::{CallFault, Step, View};
 
@@ -29,19 +29,6 @@ fn free_block<V: View>(draft: &mut Draft<'_, V>, block: u64) -> Result<Step<()>,
         }
         Step::NeedBlock(missing) => Ok(Step::NeedBlock(missing)),
     }
-}
-
-/// The first of these blocks that is no data block of a group of the view; None where all are. It goes over the groups for each.
-pub fn stray_block<V: View>(view: &V, blocks: &[u64]) -> Option<u64>
-    ensures some { IfSome result (λ b. Contains blocks.now b × (¬ (HasDataBlock (V.seen view.now) b))) }
-    ensures none { IfNone result ((b : ℕ) → Contains blocks.now b → HasDataBlock (V.seen view.now) b) }
-{
-    for block in blocks {
-        if group_of(view, *block).is_none() {
-            return Some(*block);
-        }
-    }
-    None
 }
 
 /// Frees data blocks of the view's groups: the bits of each say so, the counts in its group's header follow, and the draft

@@ -13,7 +13,7 @@ mod putting;
 
 pub use counting::count_free;
 pub use finding::find_free;
-pub use freeing::{free_blocks, stray_block};
+pub use freeing::free_blocks;
 pub use laws::bitmaps_have_all_states;
 pub use numbering::take_number;
 pub use putting::{group_of, set_state};

@@ -35,13 +35,13 @@ use Rattle.path_walks.specs.declared.walk.Place.{Place}
 use Rattle.path_walks.specs.declared.walk.Walk.TheVariants.{At}
 use Rattle.path_walks.proofs.Leads.{leads_once}
 use Rattle.path_walks.proofs.Images.{is_shown, unbroken}
-use Rattle.read_calls.proofs.Answering.{told_on}
 use Rattle.read_calls.proofs.Trees.{wrong_damage}
 use Rattle.writing_calls.specs.Contents.{IsAimOf, NeedsBlocks, StaysStuffed}
 use Rattle.writing_calls.specs.Drafting.{IsWrite}
 use Rattle.writing_calls.specs.Writing.{IsAtEnd, IsDamage, IsOutside, IsRefused, IsUnbuilt, Writes, end_of, is_dir, on_path, too_big}
 use Rattle.writing_calls.specs.declared.aims.Aim.TheVariants as aim
 use Rattle.writing_calls.proofs.Doing.{call_taken, file_there, write_does}
+use Rattle.path_walks.proofs.Faults.{told_on}
 
 -- an inode in which the content hasn't room is broken
 broken_so : (v : Seen) (a : ℕ) (d : Dinode) (h : Holding) → IsShown v a h → d ≡ dinode_in h → d.height ≡ 0 → v.size < dinode_length + d.size → IsBroken h 8 a

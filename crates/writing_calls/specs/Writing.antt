@@ -1,7 +1,6 @@
 -- The calls that write: bytes into a file, and all that isn't on the disk yet.
 use Rattle.std.specs.Prelude.{ℕ, ◌≡◌, ◌+◌, ◌<◌, ◌≤◌, ⊤, true, false, List, [], length, Contains, Result, Ok}
 use Rattle.std.specs.List.{AllByRecursion}
-use Rattle.cluster_history.specs.Changes.{is_ok}
 use Rattle.file_tree.specs.Apply.{apply, file_limit}
 use Rattle.file_tree.specs.Tree.{Tree}
 use Rattle.file_tree.specs.declared.call.Call.{Call}
@@ -25,7 +24,7 @@ use Rattle.resource_groups.specs.Putting.{HasDataBlock}
 use Rattle.image_model.specs.Image.{Image}
 use Rattle.image_model.specs.Owners.{Owners}
 use Rattle.image_model.specs.Stands.{Layout}
-use Rattle.path_walks.specs.Answers.{HasSpace}
+use Rattle.path_walks.specs.Answers.{Refuses}
 use Rattle.path_walks.specs.Holds.{Hold, AreHeld, IsAskedFor, IsFirstLack, holds_in}
 use Rattle.path_walks.specs.Walks as path
 use Rattle.path_walks.specs.Walks.{LeadsTo, IsAbsent, IsHashedOn, IsLacked, IsOnTheWay, IsUnread}
@@ -147,7 +146,7 @@ IsFound v im o l t call (found.NeedLock lock state) = IsFirstLack v (call_holds 
 
 -- what a refusal is not: `ok`, or that too few blocks are free
 abbrev pub IsRefusal : Found → Type 0
-IsRefusal (found.Refused r) = (is_ok r ≡ false) × HasSpace r
+IsRefusal (found.Refused r) = Refuses r
 IsRefusal f = ⊤
 
 -- P of the change of a write

@@ -22,25 +22,12 @@ use crate::aims::{Aim, aim_of};
 use crate::drafting::write_stuffed;
 use crate::finds::Found;
 use call_locks::wants;
-use drafts::{Attempt, Change, Stamp};
+use drafts::{Attempt, Stamp};
 use file_tree::{Call, Path, Reply};
 use glock_names::{CallFault, View};
-use path_walks::{Place, Walk, walk_along};
+use path_walks::{Place, Walk, nothing, walk_along};
 use resource_groups::group_of;
 use std::alloc::Global;
-
-// A change of nothing.
-fn nothing(alloc: Global) -> Change
-    ensures blocks { result.blocks.items ≡ [] }
-    ensures locks { result.locks.items ≡ [] }
-    ensures freed { result.freed.items ≡ [] }
-{
-    Change {
-        blocks: Vec::new(alloc),
-        locks: Vec::new(alloc),
-        freed: Vec::new(alloc),
-    }
-}
 
 // Writes bytes into the inode at a place.
 fn write_at<V: View>(

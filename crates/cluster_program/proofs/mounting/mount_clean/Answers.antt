@@ -12,7 +12,7 @@ left_clean same clean = subst (λ (js : List Journal). (j : ℕ) (journal : Jour
 pub returns-in-Err-clause-ends : goal.returns-in-Err-clause-ends
 returns-in-Err-clause-ends g c =
     subst (MountEnds _ _ _) (sym c.not_mounted.ensures)
-    (mount_end (g.D.SharedDisk.state c.args.disk.now) (g.D.SharedDisk.faults c.args.disk.now) (g.D.SharedDisk.faults c.mount_image.new.disk) c.in-Err.fault c.what_stands_breaks_nothing.ensures c.in-Err.ensures.refused c.in-Err.ensures.accepts c.in-Err.ensures.risen)
+    (mount_end (g.D.SharedDisk.state c.args.disk.now) (g.D.SharedDisk.faults c.args.disk.now) (g.D.SharedDisk.faults c.mount_image.new.disk) c.in-Err.fault c.what_stands_breaks_nothing.ensures c.in-Err.ensures.refused c.in-Err.ensures.accepts c.in-Err.ensures.risen c.in-Err.ensures.within)
 
 pub returns-in-Some-clause-ends : goal.returns-in-Some-clause-ends
 returns-in-Some-clause-ends g c =

@@ -78,7 +78,7 @@ module _ (g : Over) (c : goal.After-drop-view-inside-in-Ok-run_script g) (left l
       (inputs (g.D.SharedDisk.state c.run_script.new.disk) (g.D.SharedDisk.list c.run_script.new.disk) (g.D.SharedDisk.faults c.run_script.new.disk) left_now failed_now) c.args.script.now c.run_script.new.items.items status.Done
   runs =
       done _ _ c.in-Ok.mounted c.args.script.now c.run_script.new.items.items (g.D.SharedDisk.faults c.mount_clean.new.disk) c.mounted_images_stand_as_mounted.ensures c.in-Ok.ensures.mounted c.in-Ok.ensures.reads.later
-      c.calls_tell_broken_blocks.ensures c.needs_out_of_the_device_tell_broken_blocks.ensures c.views_may_be_read_from_mounted_images.ensures inside
+      c.calls_tell_broken_blocks.ensures.exact c.needs_out_of_the_device_tell_broken_blocks.ensures c.views_may_be_read_from_mounted_images.ensures inside
       (has_run _ (g.D.SharedDisk.state c.mount_clean.new.disk) _ _ (g.D.SharedDisk.list c.mount_clean.new.disk) _ c.in-Ok.mounted c.in-Ok-view_of.view _ _ c.args.script.now c.run_script.new.items.items _ c.in-Ok.ensures.reads.same c.in-Ok.ensures.reads.list c.in-Ok-view_of.ensures.is ran)
 
 -- ---- the run ended early
@@ -117,7 +117,7 @@ module _ (g : Over) (c : goal.After-drop-view-inside-3 g) (left left_now : Optio
       (inputs (g.D.SharedDisk.state c.run_script.new.disk) (g.D.SharedDisk.list c.run_script.new.disk) (g.D.SharedDisk.faults c.run_script.new.disk) left_now failed_now) c.args.script.now c.run_script.new.items.items (status_of_end (first_line c.args.script.now) c.in-Err-run_script.end)
   early_runs =
       ended _ _ c.in-Ok.mounted c.args.script.now c.run_script.new.items.items (g.D.SharedDisk.faults c.mount_clean.new.disk) c.mounted_images_stand_as_mounted.ensures c.in-Ok.ensures.mounted c.in-Ok.ensures.reads.later
-      c.calls_tell_broken_blocks.ensures c.needs_out_of_the_device_tell_broken_blocks.ensures c.views_may_be_read_from_mounted_images.ensures early_inside
+      c.calls_tell_broken_blocks.ensures.exact c.needs_out_of_the_device_tell_broken_blocks.ensures c.views_may_be_read_from_mounted_images.ensures early_inside
       c.in-Err-run_script.end (whole_blocks c.in-Err-run_script.end (g.D.SharedDisk.state c.mount_clean.new.disk) _ c.blocks-count.ensures.sound (subst (λ (d : DiskState). IsBlockSize d.size) (sym c.in-Ok.ensures.reads.same) c.requires.size) c.in-Err-run_script.ensures.disk)
       (has_run _ (g.D.SharedDisk.state c.mount_clean.new.disk) _ _ (g.D.SharedDisk.list c.mount_clean.new.disk) _ c.in-Ok.mounted c.in-Ok-view_of.view _ _ c.args.script.now c.run_script.new.items.items _ c.in-Ok.ensures.reads.same c.in-Ok.ensures.reads.list c.in-Ok-view_of.ensures.is early_ran)
 

@@ -8,14 +8,20 @@ use Rattle.dinode_tree.specs.declared.below.Below.{Below}
 use Rattle.dinode_tree.specs.declared.ways.Link.{Link}
 use Rattle.dinode_tree.proofs.Dinodes.{height_same}
 use Rattle.dinode_tree.proofs.Pointers.{shown_of}
-use Rattle.dinode_tree.proofs.Rows.{leads_top, rows_first, rows_next, rows_done, none_below, row_above}
+use Rattle.dinode_tree.proofs.Rows.{leads_top, none_in, rows_first, rows_next, rows_done, none_below, none_seen, row_above, seen_first, seen_next}
 use Rattle.dinode_tree.proofs.Stepping.{answer_at, needed_at, handed, handed_own}
 use Rattle.dinode_tree.proofs.below.below_in.Goals as goal
 
-pub returns-then-inode-eq0-clause-found : goal.returns-then-inode-eq0-clause-found
-returns-then-inode-eq0-clause-found g c h shown =
+pub returns-then-inode-eq0-clause-led : goal.returns-then-inode-eq0-clause-led
+returns-then-inode-eq0-clause-led g c h shown p has = absurd (none_in _ p c.new.ensures.items has)
+
+pub returns-then-inode-eq0-clause-all : goal.returns-then-inode-eq0-clause-all
+returns-then-inode-eq0-clause-all g c h shown =
     let o = shown_of (g.V.View.seen c.args.view.now) h c.args.inode.now shown c.requires.seen in
-    none_below h _ (sym (height_same h c.args.inode.now o) ∙ c.if-inode-eq0.true) c.new.ensures.items
+    none_below h _ (sym (height_same h c.args.inode.now o) ∙ c.if-inode-eq0.true)
+
+pub returns-then-inode-eq0-clause-there : goal.returns-then-inode-eq0-clause-there
+returns-then-inode-eq0-clause-there g c = none_seen (g.V.View.seen c.args.view.now) _ c.new.ensures.items
 
 pub returns-in_err-add_pointers-clause-damaged : goal.returns-in_err-add_pointers-clause-damaged
 returns-in_err-add_pointers-clause-damaged g c h shown =
@@ -32,6 +38,7 @@ pub loop-level-init : goal.loop-level-init
 loop-level-init g c = record {
   low = omega (arith, c.if-inode-eq0.false);
   above = row_above _ _ _ c.new-2.ensures.items c.in_ok-add_pointers.ensures.added;
+  seen = seen_first (g.V.View.seen c.args.view.now) _ _ _ _ _ c.new.ensures.items (c.args.inode.now.bytes.now, c.requires.seen.bytes) c.in_ok-add_pointers.ensures.added;
   rows = λ h shown.
       let o = shown_of (g.V.View.seen c.args.view.now) h c.args.inode.now shown c.requires.seen in
       let high : height_in h ≡ suc (c.args.inode.now.dinode.height - 1) = sym (height_same h c.args.inode.now o) ∙ omega (arith, c.if-inode-eq0.false) in
@@ -83,13 +90,17 @@ loop-level-preserved g c =
     record {
       low = omega (arith, c.loop-level.invariant.low);
       above = row_above before c.add_row.new.below (IsUnderRow v c.deref.result.now) empty added;
+      seen = seen_next v before c.add_row.new.below c.deref.result.now c.loop-level.invariant.seen added;
       rows = λ h shown.
           let o = shown_of v h c.args.inode.now shown c.requires.seen in
           rows_next v h c.args.inode.now.block c.loop-level.level c.loop-level.below c.deref.result.now shown c.block_size-size.ensures.view (omega (arith, c.loop-level-test.true))
           (omega (arith, c.loop-level.invariant.low, height_same h c.args.inode.now o)) (c.loop-level.invariant.rows h shown) only each there before c.add_row.new.below refl empty added;
     }
 
-pub returns-clause-found : goal.returns-clause-found
-returns-clause-found g c h shown =
+pub returns-clause-led : goal.returns-clause-led
+returns-clause-led g c h shown = (c.loop-level.invariant.rows h shown).only
+
+pub returns-clause-all : goal.returns-clause-all
+returns-clause-all g c h shown =
     let done : c.loop-level.level ≡ 0 = omega (arith, c.loop-level-test.false) in
     rows_done h c.loop-level.below (subst (λ n. HasRows h n c.loop-level.below) done (c.loop-level.invariant.rows h shown))

@@ -6,18 +6,17 @@ use Rattle.glock_names.specs.declared.steps.CallFault.{CallFault}
 use Rattle.glock_names.specs.declared.steps.Missing.{Missing}
 use Rattle.cluster_history.specs.Changes.{is_ok}
 use Rattle.path_walks.specs.Answers.{IfDone, IfNeedBlock, IfNeedLock, IfNoSpace, IfNotBuilt, HasSpace}
-use Rattle.path_walks.specs.Holds.{AreHeld, IsAskedFor, IsFirstLack}
+use Rattle.path_walks.specs.Holds.{AreHeld, IsAskedFor, IsFirstLack, IsUnder}
 use Rattle.making_calls.specs.Making.{IsMaking}
-use Rattle.making_calls.specs.Making as making
-use Rattle.removing_calls.specs.Removing.{IsRemoving, IsUnder}
+use Rattle.removing_calls.specs.Removing.{IsRemoving}
 use Rattle.writing_calls.specs.Writing.{IsWriting, AreUnder}
 use Rattle.file_tree.specs.declared.reply.Reply.{Reply}
 use Rattle.file_tree.specs.declared.reply.Reply.TheVariants as reply
 use Rattle.drafts.specs.declared.change.Change.{Change}
-use Rattle.image_changes.specs.Does.{Does}
+use Rattle.image_changes.specs.Does.{Does, AreInside}
 use Rattle.read_calls.specs.Reading.{IsReading}
 use Rattle.read_calls.proofs.Lists.{no_change}
-use Rattle.file_calls.specs.Calls.{AreInside, call_holds}
+use Rattle.file_calls.specs.Calls.{call_holds}
 use Rattle.file_calls.proofs.Blocks.{needed_absent, covered_low, data_inside, making_few, making_holds, nothing_under, reading_holds, removing_absent, removing_holds, removing_inside, removing_under, writing_holds, writing_under}
 use Rattle.file_calls.proofs.tries.attempt.Goals as goal
 
@@ -134,7 +133,7 @@ returns-in-Unlink-clause-inside g c =
     (λ x change all. removing_inside v c.args.call.now x change all.0 all.1) (done_two c.attempt-in-Unlink.result _ _ c.attempt-in-Unlink.ensures.done c.attempt-in-Unlink.ensures.inside)
 
 pub returns-in-Write-clause-inside : goal.returns-in-Write-clause-inside
-returns-in-Write-clause-inside g c = done_so c.attempt.result _ _ (λ x change is. data_inside (g.V.View.seen c.args.view.now) change.blocks.items is) c.attempt.ensures.inside
+returns-in-Write-clause-inside g c = done_so c.attempt.result _ _ (λ x change is. data_inside (g.V.View.seen c.args.view.now) change.blocks.items c.block_size-size.ensures.view is) c.attempt.ensures.inside
 
 pub returns-in-Create-clause-held : goal.returns-in-Create-clause-held
 returns-in-Create-clause-held g c im o l t of =
@@ -157,9 +156,7 @@ returns-in-Create-clause-on_device g c im o l t of = mapped c.attempt-in-Create.
 pub returns-in-Create-clause-under : goal.returns-in-Create-clause-under
 returns-in-Create-clause-under g c im o l t of =
     let is : IsMaking c.args.call.now = search rules in
-    let list = call_holds im o l t c.args.call.now c.args.stamp.now.node in
-    done_so c.attempt-in-Create.result _ (λ reply change. IsUnder o list change) (λ x change u. record { written = u.written; freed = u.freed })
-    (subst (λ list. IfDone c.attempt-in-Create.result (λ reply change. making.IsUnder o list change)) (sym (making_holds im o l t c.args.stamp.now.node c.args.call.now is)) (c.attempt-in-Create.ensures.under im o l t of))
+    subst (λ list. IfDone c.attempt-in-Create.result (λ reply change. IsUnder o list change)) (sym (making_holds im o l t c.args.stamp.now.node c.args.call.now is)) (c.attempt-in-Create.ensures.under im o l t of)
 
 few_so : (r : Result Attempt CallFault) (P Q : ℕ → ℕ → Type 0) → ((need free : ℕ) → P need free → Q need free) → IfNoSpace r P → IfNoSpace r Q
 few_so (Ok (NeedBlock m)) P Q f is = tt

@@ -5,13 +5,13 @@ use Rattle.file_tree.specs.Tree.{Tree}
 use Rattle.file_tree.specs.declared.reply.Reply.TheVariants.{Ok as OkReply}
 use Rattle.file_tree.specs.declared.reply.Reply.TheVariants as reply
 use Rattle.image_model.specs.Image.{image_of}
-use Rattle.image_changes.specs.Does.{Does}
+use Rattle.image_changes.specs.Does.{Does, AreInside}
 use Rattle.path_walks.specs.Answers.{IfDone, IfNeedBlock, IfNoSpace, IfNotBuilt}
 use Rattle.glock_names.specs.declared.steps.CallFault.{CallFault}
 use Rattle.glock_names.specs.declared.steps.CallFault.TheVariants as fault
 use Rattle.glock_names.specs.Steps.{TellsOf}
 use Rattle.lone_view.specs.Seeing.{Lone, seen_alone}
-use Rattle.file_calls.specs.Calls.{AreInside, IsNeededFor, IsTooFew}
+use Rattle.file_calls.specs.Calls.{IsNeededFor, IsTooFew}
 use Rattle.lone_node.specs.Answering.{IsDamagedFor, IsFailedFor, in_a_read, in_a_write, leads_out, source_of}
 use Rattle.lone_node.specs.Ends.{IfDamaged, end_at}
 use Rattle.lone_node.specs.Standing.{IsOn, StandsFor, lacked_count}

@@ -3,8 +3,7 @@ use Rattle.glock_names.specs.Steps.{IfNeedBlock}
 use Rattle.glock_names.proofs.StepLaws.{answer_at}
 use Rattle.resource_groups.specs.Finding.{IsNeeded}
 use Rattle.resource_groups.specs.Shown.{IsMissing}
-use Rattle.path_walks.specs.Holds.{holds}
-use Rattle.making_calls.specs.Blocks.{hold_of_group}
+use Rattle.path_walks.specs.Holds.{holds, hold_of_group}
 use Rattle.making_calls.proofs.FreeLists.{free_count, least_is}
 use Rattle.making_calls.proofs.Holds.{block_one, held_one, lack_one}
 use Rattle.making_calls.proofs.blocks.free_of.Goals as goal

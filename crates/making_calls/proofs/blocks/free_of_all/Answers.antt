@@ -1,8 +1,7 @@
 use Rattle.std.proofs.Common.{[], ◌∷◌, get_or, map, subst, arith}
 use Rattle.glock_names.specs.declared.views.Group.{Group}
 use Rattle.resource_groups.specs.Shown.{said}
-use Rattle.path_walks.specs.Holds.{AreHeld}
-use Rattle.making_calls.specs.Blocks.{hold_of_group}
+use Rattle.path_walks.specs.Holds.{AreHeld, hold_of_group}
 use Rattle.making_calls.specs.Searches.{IsUnder, AreFreeIn, AreFreeInAll}
 use Rattle.making_calls.proofs.Holds.{next_block, next_free, next_held, next_lack, whole_list}
 use Rattle.making_calls.proofs.blocks.free_of_all.Goals as goal

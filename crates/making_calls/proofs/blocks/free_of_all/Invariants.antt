@@ -1,7 +1,6 @@
 use Rattle.std.proofs.Common.{ℕ, List, ◌≤◌, ◌*◌, map, take}
 use Rattle.resource_groups.specs.Shown.{said}
-use Rattle.path_walks.specs.Holds.{AreHeld}
-use Rattle.making_calls.specs.Blocks.{hold_of_group}
+use Rattle.path_walks.specs.Holds.{AreHeld, hold_of_group}
 use Rattle.making_calls.specs.Searches.{AreShown, AreFreeInAll}
 use Rattle.making_calls.proofs.blocks.free_of_all.Given as goal
 

@@ -1,11 +1,12 @@
 use Rattle.std.proofs.Common.{◌≡◌, [], ◌∷◌, map, None, Some, sym, subst, ◌∙◌}
 use Rattle.std.specs.Prelude.{slice_get}
 use Rattle.resource_groups.specs.Shown.{said}
-use Rattle.making_calls.specs.Blocks.{free_in, hold_of_group}
+use Rattle.making_calls.specs.Blocks.{free_in}
 use Rattle.making_calls.specs.Searches.{IsUnder, AreFreeIn, AreFreeInAll, IsTaken}
 use Rattle.making_calls.specs.declared.blocks.Locked.TheVariants as locked
 use Rattle.making_calls.proofs.Holds.{all_taken, all_under, own_block, own_held, own_lack, own_taken}
 use Rattle.making_calls.proofs.blocks.take_block.Goals as goal
+use Rattle.path_walks.specs.Holds.{hold_of_group}
 
 pub returns-in-NeedLock-clause-found : goal.returns-in-NeedLock-clause-found
 returns-in-NeedLock-clause-found g c = λ at shown.

@@ -18,10 +18,11 @@ use Rattle.resource_groups.specs.Shown as group
 use Rattle.making_calls.specs.Drafting.{IsWrongIn, in_directory, in_group, IsAddition, IsNumbered, IsNewOf, IsRecordPut, IsSaidAndDone}
 use Rattle.making_calls.specs.Making.{has_room_for}
 use Rattle.making_calls.proofs.Adding.{addition_is, done_is, first_seen, fourth_seen, old_view, others_stay}
-use Rattle.making_calls.proofs.Faults.{each_fault, told_on, tells_all, tells_each, tells_so, tells_two, only_so}
+use Rattle.making_calls.proofs.Faults.{each_fault, tells_each, tells_two}
 use Rattle.making_calls.proofs.Numbered.{group_shown}
 use Rattle.making_calls.proofs.Over.{broken_over, group_over, kept_over, kept_later, linear_over, missing_before, room_over, stuffed_over, there_over, data_apart, positive_block}
 use Rattle.making_calls.proofs.drafting.addition.Goals as goal
+use Rattle.path_walks.proofs.Faults.{told_on, tells_so, tells_all, only_so}
 
 pub returns-in_err-check_parent-clause-damaged : goal.returns-in_err-check_parent-clause-damaged
 returns-in_err-check_parent-clause-damaged g c =

@@ -5,9 +5,10 @@ use Rattle.glock_names.specs.Views.{Seen, HasBlock, IsOfView, IsView}
 use Rattle.resource_groups.specs.Shown.{IsMissing}
 use Rattle.resource_groups.proofs.Fits.{fit_of}
 use Rattle.path_walks.proofs.Steps.{none_so}
-use Rattle.making_calls.proofs.Faults.{damaged_so, is_any, seen_there}
+use Rattle.making_calls.proofs.Faults.{is_any, seen_there}
 use Rattle.making_calls.proofs.Numbered.{numbered_so, old_shown, seen_old}
 use Rattle.making_calls.proofs.drafting.give_number.Goals as goal
+use Rattle.path_walks.proofs.Faults.{damaged_so}
 
 pub returns-clause-numbered : goal.returns-clause-numbered
 returns-clause-numbered g c =

@@ -7,9 +7,9 @@ use Rattle.glock_names.specs.Views.{IsOfView}
 use Rattle.dinode_tree.specs.Broken as inode
 use Rattle.image_model.proofs.Held.{none_some}
 use Rattle.linear_dirs.specs.Broken.{IsBroken, of_inode}
-use Rattle.making_calls.proofs.Faults.{told_on, tells_so}
 use Rattle.making_calls.proofs.Recording.{broken_still, kept_before, recorded, room_still, there_then}
 use Rattle.making_calls.proofs.drafting.put_record.Goals as goal
+use Rattle.path_walks.proofs.Faults.{told_on, tells_so}
 
 pub returns-in_err-touch-clause-damaged : goal.returns-in_err-touch-clause-damaged
 returns-in_err-touch-clause-damaged g c h shown =

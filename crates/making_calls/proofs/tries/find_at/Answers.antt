@@ -21,9 +21,9 @@ use Rattle.path_walks.proofs.Steps.{child_is, differs, fault_all, linear_all, li
 use Rattle.making_calls.specs.Making.{IsDamage, directory_path}
 use Rattle.making_calls.specs.Making as damage
 use Rattle.making_calls.proofs.Alike.{hashed_so}
-use Rattle.making_calls.proofs.Faults.{only_so, told_on}
 use Rattle.making_calls.proofs.Trees.{file_refuses, plain_list, there_refuses}
 use Rattle.making_calls.proofs.tries.find_at.Goals as goal
+use Rattle.path_walks.proofs.Faults.{told_on, only_so}
 
 pub returns-then-not-is_directory-clause-found : goal.returns-then-not-is_directory-clause-found
 returns-then-not-is_directory-clause-found g c im o l t of =

@@ -16,10 +16,10 @@ use Rattle.making_calls.specs.Making as damage
 use Rattle.making_calls.specs.Searches.{IsGroupBroken, IsTaken, IsUnder}
 use Rattle.making_calls.specs.declared.blocks.Locked.TheVariants as locked
 use Rattle.making_calls.proofs.Alike.{linear_in}
-use Rattle.making_calls.proofs.Faults.{only_so, tells_so, told_on}
 use Rattle.making_calls.proofs.Rooms.{block_way, few_way, group_sound, lock_way, room_held}
 use Rattle.making_calls.proofs.Taking.{addition_does, all_held, block_lacks, directory_sound, group_lacks, inside_so, lock_lacks, made, placed, reply_ok, stamped, to_get, too_few, under, wrong_damage}
 use Rattle.making_calls.proofs.tries.make_at.Goals as goal
+use Rattle.path_walks.proofs.Faults.{told_on, tells_so, only_so}
 
 pub returns-then-is_none-clause-sound : goal.returns-then-is_none-clause-sound
 returns-then-is_none-clause-sound g c im o l t of =

@@ -2,8 +2,8 @@ use Rattle.std.proofs.Common.{sym, ◌∙◌}
 use Rattle.linear_dirs.specs.Broken as directory
 use Rattle.path_walks.specs.Walks.{IsWrong, in_directory}
 use Rattle.path_walks.proofs.Steps.{linear_here, linear_all, differs}
-use Rattle.read_calls.proofs.Answering.{told_on, tells_so}
 use Rattle.read_calls.proofs.answers.list.Goals as goal
+use Rattle.path_walks.proofs.Faults.{told_on, tells_so}
 
 pub names-requires : goal.names-requires
 names-requires g c = record {

@@ -2,8 +2,9 @@ use Rattle.std.proofs.Common.{sym, ◌∙◌}
 use Rattle.glock_names.proofs.StepLaws.{answer_at, needed_at}
 use Rattle.dinode_tree.proofs.Sound.{sound_is_whole}
 use Rattle.path_walks.specs.Walks.{IsWrong, in_inode}
-use Rattle.read_calls.proofs.Answering.{file_so, told_on, tells_so}
+use Rattle.read_calls.proofs.Answering.{file_so}
 use Rattle.read_calls.proofs.answers.read_file.Goals as goal
+use Rattle.path_walks.proofs.Faults.{told_on, tells_so}
 
 pub returns-in-Is-clause-read : goal.returns-in-Is-clause-read
 returns-in-Is-clause-read g c h shown block sound = (

@@ -1,24 +1,24 @@
 use Rattle.std.proofs.Common.{◌+◌, false, length, sym, ap, subst, subst₂, ◌∙◌}
-use Rattle.glock_names.specs.declared.State.TheVariants.{Sh}
 use Rattle.call_locks.specs.Wants.{wanted}
 use Rattle.call_locks.specs.WantLaws.{path_of}
 use Rattle.image_model.specs.Owners.{holding}
 use Rattle.path_walks.specs.Walks.{IsTold, IsWalked, IsWrong, AreInOrder}
 use Rattle.path_walks.proofs.Images.{is_shown, is_sound}
-use Rattle.read_calls.proofs.Answering.{wrong_so, wrong_all}
-use Rattle.read_calls.proofs.Lists.{wants_are, in_order, as_many}
+use Rattle.read_calls.proofs.Answering.{wrong_all}
+use Rattle.read_calls.proofs.Lists.{taken_in, wants_are, in_order, as_many}
 use Rattle.read_calls.specs.Reading.{not_found, not_dir}
 use Rattle.read_calls.proofs.Trees.{answer_found, ok_so, nothing_wrong, wrong_damage, all_told}
 use Rattle.read_calls.proofs.tries.find.Goals as goal
+use Rattle.path_walks.proofs.Faults.{damaged_so}
 
 pub walk_along-requires-clause-as_many : goal.walk_along-requires-clause-as_many
 walk_along-requires-clause-as_many g c =
     let names = c.names.ensures.names ∙ c.path_of_reading-path.ensures in
-    ap length (c.deref.ensures.value ∙ c.in_ok-wants.ensures ∙ wants_are c.args.call.now c.requires) ∙ as_many false (length (path_of c.args.call.now false)) Sh ∙ ap (λ p. length p + 1) (sym names)
+    ap length (c.deref.ensures.value ∙ c.in_ok-wants.ensures ∙ wants_are c.args.call.now c.requires) ∙ as_many false (length (path_of c.args.call.now false)) (taken_in c.args.call.now) ∙ ap (λ p. length p + 1) (sym names)
 
 pub walk_along-requires-clause-order : goal.walk_along-requires-clause-order
 walk_along-requires-clause-order g c =
-    subst AreInOrder (sym (c.deref.ensures.value ∙ c.in_ok-wants.ensures ∙ wants_are c.args.call.now c.requires)) (in_order false (length (path_of c.args.call.now false)) Sh)
+    subst AreInOrder (sym (c.deref.ensures.value ∙ c.in_ok-wants.ensures ∙ wants_are c.args.call.now c.requires)) (in_order false (length (path_of c.args.call.now false)) (taken_in c.args.call.now))
 
 pub returns-in-At-clause-found : goal.returns-in-At-clause-found
 returns-in-At-clause-found g c im o l t of =
@@ -36,7 +36,7 @@ returns-in-At-clause-sound g c im o l t of =
     let walked = subst₂ (λ names wants. IsWalked v im o l t names wants c.in_ok-place.field-0) (c.names.ensures.names ∙ c.path_of_reading-path.ensures) (c.deref.ensures.value ∙ c.in_ok-wants.ensures)
     (c.in_ok-place.ensures.walked im o l t of) in
     let at = subst (IsWalked v im o l t (path_of c.args.call.now false) (wanted c.args.call.now)) c.in-At.is walked in
-    wrong_so (IsWrong (holding im o c.in-At.place.inode)) (λ rule b. ⊥) (nothing_wrong v im o l t of (path_of c.args.call.now false) c.in-At.place.inode at.0.at) c.answer_at.result
+    damaged_so (IsWrong (holding im o c.in-At.place.inode)) (λ rule b. ⊥) (nothing_wrong v im o l t of (path_of c.args.call.now false) c.in-At.place.inode at.0.at) c.answer_at.result
     (c.answer_at.ensures.damaged (holding im o c.in-At.place.inode) (is_shown v im o l t of (path_of c.args.call.now false) c.in-At.place.inode at.0.at))
 
 pub returns-in-At-clause-damaged : goal.returns-in-At-clause-damaged
@@ -45,7 +45,7 @@ returns-in-At-clause-damaged g c =
     let told = subst₂ (λ names wants. IsTold v wants names c.in_ok-place.field-0) (c.names.ensures.names ∙ c.path_of_reading-path.ensures) (c.deref.ensures.value ∙ c.in_ok-wants.ensures)
     c.in_ok-place.ensures.told in
     let at = subst (IsTold v (wanted c.args.call.now) (path_of c.args.call.now false)) c.in-At.is told in
-    wrong_so _ _ (wrong_damage v (wanted c.args.call.now) (path_of c.args.call.now false) c.in-At.place.inode at.leads) c.answer_at.result
+    damaged_so _ _ (wrong_damage v (wanted c.args.call.now) (path_of c.args.call.now false) c.in-At.place.inode at.leads) c.answer_at.result
     (wrong_all v c.in-At.place.inode IsWrong c.answer_at.result c.answer_at.ensures.damaged)
 
 pub returns-in-At-clause-told : goal.returns-in-At-clause-told

@@ -7,9 +7,9 @@ use Rattle.dinode_tree.specs.Shown.{IsShown}
 use Rattle.linear_dirs.specs.Broken.{IsBroken}
 use Rattle.resource_groups.specs.Freeing.{BreaksSome}
 use Rattle.removing_calls.specs.Drafting.{IsNameTaken, IsWrongIn, in_directory, in_group}
-use Rattle.removing_calls.proofs.Faults.{told_on, tells_so, tells_all, damaged_so}
 use Rattle.removing_calls.proofs.Taken.{inside_then, needed_of, breaks_of, kept_of, removal_of}
 use Rattle.removing_calls.proofs.drafting.removal.Goals as goal
+use Rattle.path_walks.proofs.Faults.{told_on, tells_so, tells_all, damaged_so}
 
 pub returns-in_err-take_name-clause-damaged : goal.returns-in_err-take_name-clause-damaged
 returns-in_err-take_name-clause-damaged g c =

@@ -6,9 +6,9 @@ use Rattle.dinode_tree.specs.Broken as inode
 use Rattle.dinode_tree.specs.Shown.{IsShown}
 use Rattle.linear_dirs.specs.Broken.{IsBroken, of_inode, not_stuffed}
 use Rattle.linear_dirs.specs.Shown.{IsLinearIn}
-use Rattle.removing_calls.proofs.Faults.{told_on, tells_so, only_so}
 use Rattle.removing_calls.proofs.Taken.{seen_old, kept_before, named_still, broken_still, name_taken}
 use Rattle.removing_calls.proofs.drafting.take_name.Goals as goal
+use Rattle.path_walks.proofs.Faults.{told_on, tells_so, only_so}
 
 pub returns-in_err-dinode-clause-damaged : goal.returns-in_err-dinode-clause-damaged
 returns-in_err-dinode-clause-damaged g c h shown =

@@ -5,8 +5,7 @@ use Rattle.glock_names.specs.declared.State.TheVariants.{Ex}
 use Rattle.glock_names.specs.declared.views.Group.{Group}
 use Rattle.resource_groups.specs.Freeing.{HasSome}
 use Rattle.resource_groups.proofs.Fits.{lacks}
-use Rattle.path_walks.specs.Holds.{holds}
-use Rattle.removing_calls.specs.Groups.{group_hold}
+use Rattle.path_walks.specs.Holds.{holds, hold_of_group}
 use Rattle.removing_calls.proofs.Fronts.{each_next, each_all, split_there}
 use Rattle.removing_calls.proofs.groups.lacked_group.Goals.{else-has_some-via-then-has_some+else-not-is_at_most, else-has_some-via-else-has_some}
 use Rattle.removing_calls.proofs.groups.lacked_group.Goals as goal
@@ -31,7 +30,7 @@ pub loop-group-preserved : goal.loop-group-preserved
 loop-group-preserved g c =
     let v = g.V.View.seen c.args.view.now in
     let none : Group = record { addr = 0; length = 0; first = 0; count = 0 } in
-    each_next c.groups-group-items.result.now c.loop-group.group-index none (λ k. HasSome k c.args.blocks.now → holds v (group_hold k) ≡ true) c.loop-group-test.true c.loop-group.invariant
+    each_next c.groups-group-items.result.now c.loop-group.group-index none (λ k. HasSome k c.args.blocks.now → holds v (hold_of_group k) ≡ true) c.loop-group-test.true c.loop-group.invariant
     (λ some. elim c.else-has_some.branch [
       | else-has_some-via-then-has_some+else-not-is_at_most w ↦ sym (w.is_at_most.ensures ∙ ap (leq Ex) w.state.ensures) ∙ w.if-not-is_at_most.false
       | else-has_some-via-else-has_some w ↦ absurd (lacks c.has_some.result c.has_some.ensures w.if-has_some.false some)
@@ -40,5 +39,5 @@ loop-group-preserved g c =
 pub returns-clause-none : goal.returns-clause-none
 returns-clause-none g c =
     let v = g.V.View.seen c.args.view.now in
-    λ k has some. each_all c.groups-group-items.result.now c.loop-group.group-index (λ (j : Group). HasSome j c.args.blocks.now → holds v (group_hold j) ≡ true) c.loop-group-test.false c.loop-group.invariant
+    λ k has some. each_all c.groups-group-items.result.now c.loop-group.group-index (λ (j : Group). HasSome j c.args.blocks.now → holds v (hold_of_group j) ≡ true) c.loop-group-test.false c.loop-group.invariant
     k (subst (λ gs. Contains gs k) (sym c.groups-group-items.ensures) has) some

@@ -4,9 +4,9 @@ use Rattle.image_changes.specs.Does.{Does}
 use Rattle.image_changes.proofs.Doing.{nothing_does}
 use Rattle.path_walks.specs.Answers.{IfDone, HasSpace}
 use Rattle.removing_calls.specs.Removing.{IsAnswered, IsFound, IsRefusal, IsToldOf, IfRemoved, refused, removed}
-use Rattle.removing_calls.proofs.Trees.{no_change}
 use Rattle.removing_calls.proofs.tries.attempt.Goals.{in-Refused, in-Removed, in-NeedBlock, in-Hashed, in-NeedLock}
 use Rattle.removing_calls.proofs.tries.attempt.Goals as goal
+use Rattle.path_walks.proofs.Refused.{no_change}
 
 pub returns-clause-done : goal.returns-clause-done
 returns-clause-done g c =

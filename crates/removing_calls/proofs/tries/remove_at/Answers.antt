@@ -6,11 +6,11 @@ use Rattle.path_walks.proofs.Steps.{inside_so, none_so}
 use Rattle.removing_calls.specs.Drafting.{IsWrongIn, IsRemoval}
 use Rattle.removing_calls.specs.Groups.{GroupsAreHeld, IsFirstGroupLack}
 use Rattle.removing_calls.specs.Removing.{IsDamage, IsLackedFor, IsNeededFor, IsWrongBelow, above}
-use Rattle.removing_calls.proofs.Faults.{told_on, tells_so}
-use Rattle.removing_calls.proofs.Placed.{above_there, above_linear, above_named, above_inside, below_damage, below_root, nothing_below, inode_needed, own_among, removal_damage, taken_ok, list_held, group_lacks, group_needed, nothing_wrong}
+use Rattle.removing_calls.proofs.Placed.{above_there, above_linear, above_named, above_inside, below_damage, below_root, inode_inside, nothing_below, inode_needed, own_among, removal_damage, taken_ok, list_held, group_lacks, group_needed, nothing_wrong}
 use Rattle.removing_calls.proofs.Under.{writes_inside}
 use Rattle.removing_calls.proofs.Taking.{does, stamped, under}
 use Rattle.removing_calls.proofs.tries.remove_at.Goals as goal
+use Rattle.path_walks.proofs.Faults.{told_on, tells_so}
 
 pub returns-then-is_none-clause-sound : goal.returns-then-is_none-clause-sound
 returns-then-is_none-clause-sound g c im o l t of reached =
@@ -23,6 +23,9 @@ returns-then-is_none-clause-damaged g c =
 
 pub returns-then-is_none-clause-kept : goal.returns-then-is_none-clause-kept
 returns-then-is_none-clause-kept g c = above_there (g.V.View.seen c.args.view.now) c.args.call.now c.args.place.now c.args.name.now c.requires.last c.requires.seen
+
+pub blocks_of-requires : goal.blocks_of-requires
+blocks_of-requires g c = record { inside = inode_inside (g.V.View.seen c.args.view.now) c.args.call.now c.args.place.now c.args.name.now c.requires.last c.requires.seen }
 
 pub returns-in_err-blocks-clause-sound : goal.returns-in_err-blocks-clause-sound
 returns-in_err-blocks-clause-sound g c im o l t of reached =

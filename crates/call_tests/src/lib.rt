@@ -1,0 +1,5 @@
+//! Tests of calls that no command hands on, and nothing else.
+#![tactic(auto)]
+
+#[cfg(test)]
+mod dreads;
