@@ -31,6 +31,7 @@ use Rattle.image_changes.specs.Does.{Does, is_empty, IsFormed, IsInside, IsOf, b
 use Rattle.image_changes.specs.Instances.{StandsBy}
 use Rattle.shared_disk.specs.Disk.{DiskState}
 use Rattle.lone_view.specs.Seeing.{Lone, seen_alone}
+use Rattle.making_calls.specs.Making.{IsMaking}
 use Rattle.file_calls.specs.Calls.{IsDamage, IsTooFew}
 use Rattle.lone_node.specs.Answering.{IsAnsweredFrom, IsDamagedFor, as_shown}
 use Rattle.lone_node.specs.Ends.{IfDamaged, end_at}
@@ -200,6 +201,21 @@ answered_from d now d' n later call r is same from =
 pub shown_damage : (d : DiskState) (v : Seen) (call : Call) (f : CallFault) → TellsOf (IsOfView v) f → TellsOf (IsDamage v call) f → IfDamaged (end_at f) (IsDamagedFor d v call)
 shown_damage d v call (fault.Damaged block rule) has is = as_shown block rule has is
 shown_damage d v call fault.NoMemory has is = tt
+
+-- a call that makes a name takes space
+pub makes_takes : (c : Call) → IsMaking c → TakesSpace c
+makes_takes (calls.Create p) is = tt
+makes_takes (calls.Mkdir p) is = tt
+makes_takes (calls.Write p at new) is = absurd is
+makes_takes (calls.Truncate p size) is = absurd is
+makes_takes (calls.Rename p q) is = absurd is
+makes_takes (calls.Read p at count) is = absurd is
+makes_takes (calls.Stat p) is = absurd is
+makes_takes (calls.List p) is = absurd is
+makes_takes (calls.Unlink p) is = absurd is
+makes_takes (calls.Rmdir p) is = absurd is
+makes_takes (calls.Dread p at count) is = absurd is
+makes_takes calls.Sync is = absurd is
 
 -- a call for which there is no space leaves all as it is
 pub answered_full : (d : DiskState) (n : Lone) (call : Call) (need free : ℕ) → IsOn d n → TakesSpace call

@@ -9,7 +9,7 @@ use Rattle.file_tree.specs.declared.call.Call.{Call}
 use Rattle.script_lang.specs.declared.script.Line.{Line}
 use Rattle.script_lang.specs.declared.script.Line.TheVariants as line
 use Rattle.script_lang.specs.Script.{call_by, calls_by}
-use Rattle.lone_node.specs.Run.{is_call_line}
+use Rattle.lone_node.specs.Items.{is_call_line}
 
 -- ---- fronts of lists
 

@@ -7,7 +7,7 @@ use Rattle.std.proofs.lemmas.Slice.Eq.{bytes_eq-Decides}
 use Rattle.script_lang.specs.declared.script.Client.{Client}
 use Rattle.script_lang.specs.OneNode.{HaveOwnClientNames}
 use Rattle.run_rules.specs.Follows.{place_of}
-use Rattle.lone_node.specs.Run.{name_at}
+use Rattle.lone_node.specs.Items.{name_at}
 
 false_from : (b : Bool) → (b ≡ true → ⊥) → b ≡ false
 false_from true h = absurd (h refl)

@@ -3,7 +3,8 @@ use Rattle.std.proofs.Common.{◌≡◌, ℕ, Option, sym, subst}
 use Rattle.file_tree.specs.declared.call.Call.{Call}
 use Rattle.shared_disk.specs.Disk.{DiskState}
 use Rattle.lone_view.specs.Seeing.{Lone, seen_alone}
-use Rattle.lone_node.specs.Answering.{IsDamagedFor, IsDamagedOn, IsFailedAt, IsHashedOn, IsLaterView, IsUnbuiltOn}
+use Rattle.lone_node.specs.Answering.{IsDamagedFor, IsDamagedOn, IsFailedAt, IsHashedOn, IsUnbuiltOn}
+use Rattle.lone_node.specs.Course.{IsLaterView}
 use Rattle.lone_node.specs.Ends.{IfDamaged, IfDiskFailed, IfHashed, IfNotBuilt, UnlessFailed}
 use Rattle.lone_node.specs.declared.ends.RunEnd.{RunEnd}
 use Rattle.lone_node.specs.declared.ends.RunEnd.TheVariants as end
@@ -29,8 +30,8 @@ damaged_before d d' first n call b rule still same is =
       damaged = subst (λ (e : DiskState). IsDamagedFor e (seen_alone is.view) call b rule) (sym still) is.damaged;
     }
 
-pub failed_before : (d d' : DiskState) (first n : Lone) (call : Call) (block : Option ℕ) → IsSameSystem first n → IsFailedAt d d' n call block → IsFailedAt d d' first call block
-failed_before d d' first n call block same is = record { view = is.view; later = record { same = same_on same is.later.same; on = is.later.on }; failed = is.failed }
+pub failed_before : (d d' : DiskState) (first n : Lone) (time : ℕ) (call : Call) (block : Option ℕ) → IsSameSystem first n → IsFailedAt d d' n time call block → IsFailedAt d d' first time call block
+failed_before d d' first n time call block same is = record { view = is.view; later = record { same = same_on same is.later.same; on = is.later.on }; failed = is.failed }
 
 -- ---- a fact of an end follows from another
 

@@ -4,7 +4,8 @@ pub mod Partly
 pub mod Keeping
 pub mod Leaving
 pub mod Answered
-pub mod Frees
+pub mod Courses
+pub mod Gaining
 pub mod Calls
 pub mod Clients
 pub mod Steps

@@ -21,7 +21,8 @@ use Rattle.script_lang.specs.OneNode.{HaveOwnClientNames, IsOneNode, IsOwnLine}
 use Rattle.run_rules.specs.Follows.{Follows, ByLine, history_of, call_items, above, answered, IsAfterAbove, IsOrderLine, IsOnItsNode}
 use Rattle.run_rules.specs.History.{HoldsHistory, NoneStopped, AllAnswered}
 use Rattle.run_rules.proofs.Nothing.{nothing_follows, nothing_is_legal}
-use Rattle.lone_node.specs.Run.{AnsweredCall, IsRunOf, IsRunUpTo, IsWholeRun, NotJoined, Taken, Unmounted, full_item, is_call_line, items_from, its_answer, its_line, name_at}
+use Rattle.lone_node.specs.Items.{AnsweredCall, full_item, is_call_line, items_from, its_answer, its_line, name_at}
+use Rattle.lone_node.specs.Run.{IsRunOf, IsRunUpTo, IsWholeRun, NotJoined, Taken, Unmounted}
 use Rattle.lone_node.specs.declared.answering.Full.{Full}
 use Rattle.lone_node.proofs.Calls.{take_front, filter_front, all_take, all_filter, all_map, all_at, calls_of_filter, calls_front, calls_rise, calls_within}
 use Rattle.lone_node.proofs.Clients.{place_is, client_at}

@@ -26,12 +26,14 @@ use Rattle.shared_disk.specs.Disk.{DiskState, Operation}
 use Rattle.file_calls.specs.Calls.{IsBuilt}
 use Rattle.lone_view.specs.Seeing.{Lone}
 use Rattle.lone_node.specs.Answering.{IsToldFull}
-use Rattle.lone_node.specs.Run.{AnsweredCall, EndsAt, EndsAtCall, HasChangedNothing, IsRunUpTo, IsTakenCall, full_item, is_call_line, items_from, its_answer, its_line, name_at, TellFree}
+use Rattle.lone_node.specs.Course.{AreSteps, Moment, moment}
+use Rattle.lone_node.specs.Items.{AnsweredCall, full_item, is_call_line, items_from, its_answer, its_line, name_at}
+use Rattle.lone_node.specs.Run.{EndsAt, EndsAtCall, HasChangedNothing, IsRunUpTo, IsTakenCall}
 use Rattle.lone_node.specs.Standing.{IsSameSystem, LeavesStanding, StandsFor}
 use Rattle.lone_node.specs.declared.answering.Full.{Full}
 use Rattle.lone_node.proofs.Calls.{all_at, all_but_last, all_more}
 use Rattle.lone_node.proofs.Clients.{name_is}
-use Rattle.lone_node.proofs.Frees.{AreTold, free_as, told_end, told_items, told_more}
+use Rattle.lone_node.proofs.Courses.{step_as, steps_more}
 use Rattle.lone_node.proofs.Leaving.{leaves_as, leaves_on, stands_on}
 
 -- ---- lists of answered calls
@@ -181,23 +183,12 @@ module _ (clients : List Client) (lines : List Line) (IsStart : Tree → Type 0)
       pub ends_here : (P : Call → Type 0) (more : List TraceItem) → more ≡ items → P call → EndsAtCall P clients lines more IsStart
       ends_here P more kept holds = record { count = i; ends = ends_at P more kept holds }
 
--- what its items tell of free blocks
-pub tells_free : (clients : List Client) (lines : List Line) (start disk : DiskState) (first : Lone) (count : ℕ) (items : List TraceItem) (so : IsRunUpTo clients lines count items (StandsFor start first))
-    → ((t : Tree) (s : StandsFor start first t) → AreTold disk start first t s so.answered) → (t : Tree) (s : StandsFor start first t) → TellFree start first t s items
-tells_free clients lines start disk first count items so told t s = subst (TellFree start first t s) (sym so.are) (told_items clients first disk start t s 1 so.answered (told t s))
-
-pub tells_end : (clients : List Client) (lines : List Line) (start : DiskState) (first : Lone) (count : ℕ) (items more : List TraceItem) (so : IsRunUpTo clients lines count items (StandsFor start first))
-    → more ≡ items ++ trace.Unmount 1 ∷ [] → (t : Tree) (s : StandsFor start first t) → TellFree start first t s items → TellFree start first t s more
-tells_end clients lines start first count items more so are t s told =
-    subst (TellFree start first t s) (ap (λ (is : List TraceItem). is ++ trace.Unmount 1 ∷ []) (sym so.are) ∙ sym are)
-    (told_end clients first start t s 1 so.answered (subst (TellFree start first t s) so.are told))
-
 -- ---- one more call is answered
 
 module _ (clients : List Client) (lines : List Line) (start : DiskState) (first : Lone) (i : ℕ) (items : List TraceItem) (below : i < length lines)
     (so : IsRunUpTo clients lines i items (StandsFor start first)) (place : ℕ) (call : Call) (l d : Line) (c : Client) (is : l ≡ get_or lines i d) (is_call : l ≡ line.Call place call)
-    (form : AllByRecursion (IsOwnLine (length clients)) lines) (more : List TraceItem) (number : ℕ) (disk disk' : DiskState) (list list' : Option (List Operation)) (n : Lone) (number_is : number ≡ 1 + length so.answered)
-    (taken : IsTakenCall (get_or clients place c).name number call items more disk disk' list list' n) (system : IsSameSystem first n)
+    (form : AllByRecursion (IsOwnLine (length clients)) lines) (more : List TraceItem) (number time : ℕ) (was : Moment) (disk disk' : DiskState) (list list' : Option (List Operation)) (n : Lone) (number_is : number ≡ 1 + length so.answered)
+    (taken : IsTakenCall (get_or clients place c).name number time call items more (moment disk list) (moment disk' list') n) (system : IsSameSystem first n)
     (leaves : (t : Tree) (s : StandsFor start first t) → LeavesStanding start disk first t (tree_of (history_of clients items) t) s) where
   abbrev one : AnsweredCall
   one = record { client = place; call = call; reply = taken.reply; full = taken.full }
@@ -253,22 +244,22 @@ module _ (clients : List Client) (lines : List Line) (start : DiskState) (first 
         (all_but_last (λ (r : Replied). Changes r ≡ false) (map its_answer so.answered) (its_answer one) each).1,
       )
 
-  untouched_then : (was : Option (List Operation)) → (HasChangedNothing clients items → (disk ≡ start) × (list ≡ was)) → HasChangedNothing clients more → (disk' ≡ start) × (list' ≡ was)
-  untouched_then was untouched nothing =
+  untouched_then : (HasChangedNothing clients items → (disk ≡ start) × (list ≡ was.list)) → HasChangedNothing clients more → (disk' ≡ start) × (list' ≡ was.list)
+  untouched_then untouched nothing =
       let (none, last) = unchanged nothing in
       let before_it = untouched none in
       let by_it = taken.untouched last in
-      (by_it.0 ∙ before_it.0, by_it.1 ∙ before_it.1)
+      (ap (λ (m : Moment). m.disk) by_it ∙ before_it.0, ap (λ (m : Moment). m.list) by_it ∙ before_it.1)
 
-  told_then : ((t : Tree) (s : StandsFor start first t) → AreTold disk start first t s so.answered) → (t : Tree) (s : StandsFor start first t) → AreTold disk' start first t s run_more.answered
+  steps_then : AreSteps first time was so.answered (moment disk list) → AreSteps first time was run_more.answered (moment disk' list')
   unfolding run_more
-  told_then told t s = told_more disk disk' start first t s so.answered one (told t s) (λ u at. free_as disk first n u system at taken.full (taken.free u (stands_on disk first n u system at)))
-      (λ u at. leaves_as disk disk' first n u (after (its_answer one) u) system at (taken.answered.leaves u (stands_on disk first n u system at)))
+  steps_then steps =
+      steps_more first time was (moment disk list) (moment disk' list') so.answered one steps
+      (step_as first n time (moment disk list) (moment disk' list') call taken.reply taken.full system taken.step)
 
   -- the run goes on
-  pub goes_on : ((t : Tree) (s : StandsFor start first t) → AreTold disk start first t s so.answered) → (was : Option (List Operation))
-      → (HasChangedNothing clients items → (disk ≡ start) × (list ≡ was))
+  pub goes_on : AreSteps first time was so.answered (moment disk list) → (HasChangedNothing clients items → (disk ≡ start) × (list ≡ was.list))
       → (run : IsRunUpTo clients lines (i + 1) more (StandsFor start first)) × (number + 1 ≡ 1 + length run.answered)
       × ((t : Tree) (s : StandsFor start first t) → LeavesStanding start disk' first t (tree_of (history_of clients more) t) s)
-      × ((t : Tree) (s : StandsFor start first t) → AreTold disk' start first t s run.answered) × (HasChangedNothing clients more → (disk' ≡ start) × (list' ≡ was))
-  goes_on told was untouched = (run_more, number_more, leaves_more, told_then told, untouched_then was untouched)
+      × AreSteps first time was run.answered (moment disk' list') × (HasChangedNothing clients more → (disk' ≡ start) × (list' ≡ was.list))
+  goes_on steps untouched = (run_more, number_more, leaves_more, steps_then steps, untouched_then untouched)

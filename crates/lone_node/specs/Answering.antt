@@ -10,13 +10,12 @@ use Rattle.gfs2_layout.specs.Device.{superblock_place}
 use Rattle.glock_names.specs.Views.{Seen, HasBlock}
 use Rattle.glock_names.specs.declared.steps.Missing.{Missing}
 use Rattle.drafts.specs.declared.change.Change.{Change}
-use Rattle.image_changes.specs.Does.{Does}
 use Rattle.shared_disk.specs.Disk.{DiskState}
 use Rattle.file_calls.specs.Calls.{IsDamage, IsHashed, IsNeededFor, IsUnbuilt}
-use Rattle.making_calls.specs.Blocks.{blocks_needed, free_in_all, states_by}
 use Rattle.lone_view.specs.Seeing.{Lone, seen_alone}
+use Rattle.lone_node.specs.Course.{IsDoneBy, IsLaterView}
 use Rattle.lone_node.specs.declared.answering.Full.{Full}
-use Rattle.lone_node.specs.Standing.{IsOn, IsSameSystem, LeavesStanding, StandsFor}
+use Rattle.lone_node.specs.Standing.{LeavesStanding, StandsFor}
 use Rattle.lone_node.specs.Writing.{IsWriteOf, MayBeWritten}
 
 -- it is the same disk, which may hold other bytes
@@ -36,17 +35,7 @@ pub record IsToldFull (reply : Reply) (full : Option Full) : Type 0 where
   pub exactly : IsSome full ↔ (reply ≡ replies.NoSpace)
   pub fewer : IfSome full (λ f. f.free < f.need)
 
--- where the disk stands for a tree: a new name takes so many blocks, and of the node's groups so many data blocks are free
-pub record IsFreeCount (d : DiskState) (n : Lone) (t : Tree) (s : StandsFor d n t) (need free : ℕ) : Type 0 where
-  pub needs : need ≡ blocks_needed
-  pub are : free ≡ length (free_in_all (states_by s.owners) n.groups)
-
 -- ---- why a call isn't answered
-
--- what the node may have read of the disk by then: blocks as the disk holds them, of the same system
-pub record IsLaterView (d : DiskState) (n n' : Lone) : Type 0 where
-  pub same : IsSameSystem n n'
-  pub on : IsOn d n'
 
 -- it can't be answered yet for the hashed directory in this block
 pub record IsHashedOn (d : DiskState) (n : Lone) (call : Call) (b : ℕ) : Type 0 where
@@ -77,12 +66,12 @@ pub record IsDamagedOn (d : DiskState) (n : Lone) (call : Call) (b rule : ℕ) :
 
 -- The disk failed at the call: in a read of a block that the call needs, and is as it was; or in a write of one of the blocks by which the
 -- call, answered from what is seen, changes it, or (no block) in a barrier behind such writes.
-pub data IsFailedFor (d d' : DiskState) (v : Seen) (call : Call) : Option ℕ → Type 0 where
-  in_a_read : (m : Missing) → IsNeededFor v call m → d' ≡ d → IsFailedFor d d' v call (Some m.block)
-  in_a_write : (block : Option ℕ) (reply : Reply) (change : Change) → Does v call reply change → IsWriteOf change.blocks.items block
-      → MayBeWritten 1 d d' change.blocks.items → IsFailedFor d d' v call block
+pub data IsFailedFor (d d' : DiskState) (view : Lone) (time : ℕ) (call : Call) : Option ℕ → Type 0 where
+  in_a_read : (m : Missing) → IsNeededFor (seen_alone view) call m → d' ≡ d → IsFailedFor d d' view time call (Some m.block)
+  in_a_write : (block : Option ℕ) (reply : Reply) (change : Change) → IsDoneBy view time call reply change → IsWriteOf change.blocks.items block
+      → MayBeWritten 1 d d' change.blocks.items → IsFailedFor d d' view time call block
 
-pub record IsFailedAt (d d' : DiskState) (n : Lone) (call : Call) (block : Option ℕ) : Type 0 where
+pub record IsFailedAt (d d' : DiskState) (n : Lone) (time : ℕ) (call : Call) (block : Option ℕ) : Type 0 where
   pub view : Lone
   pub later : IsLaterView d n view
-  pub failed : IsFailedFor d d' (seen_alone view) call block
+  pub failed : IsFailedFor d d' view time call block

@@ -1,4 +1,6 @@
 pub mod Answering
+pub mod Course
+pub mod Items
 pub mod Ends
 pub mod Run
 pub mod Standing

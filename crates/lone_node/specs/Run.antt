@@ -17,50 +17,11 @@ use Rattle.trace_text.specs.declared.item.TraceItem.{TraceItem}
 use Rattle.trace_text.specs.declared.item.TraceItem.TheVariants as trace
 use Rattle.shared_disk.specs.Disk.{DiskState, IsIdle, Operation}
 use Rattle.lone_view.specs.Seeing.{Lone}
-use Rattle.lone_node.specs.Answering.{IsAnsweredFrom, IsFailedAt, IsFreeCount, IsSameDisk, IsToldFull}
+use Rattle.lone_node.specs.Answering.{IsAnsweredFrom, IsFailedAt, IsSameDisk, IsToldFull}
+use Rattle.lone_node.specs.Course.{IsCourse, IsStep, Moment}
+use Rattle.lone_node.specs.Items.{AnsweredCall, full_item, is_call_line, items_from, its_answer, its_line, own_script}
 use Rattle.lone_node.specs.Standing.{LeavesStanding, StandsFor}
 use Rattle.lone_node.specs.declared.answering.Full.{Full}
-
--- ---- the scripts that one node can run
-
--- the script of one node that has these clients and lines
-abbrev pub own_script : List Client → List Line → ScriptValue
-own_script clients lines = record { nodes = 1; clients = clients; armed = []; lines = lines }
-
--- ---- answered calls and their items
-
-abbrev pub is_call_line : Line → Bool
-is_call_line (line.Call client call) = true
-is_call_line _ = false
-
--- the name of the client at this place
-abbrev pub name_at : List Client → ℕ → List ℕ
-name_at [] place = []
-name_at (c ∷ cs) zero = c.name
-name_at (c ∷ cs) (suc place) = name_at cs place
-
--- a call of the client at this place, its reply, and where too few blocks were free for it how many
-pub record AnsweredCall : Type 0 where
-  pub client : ℕ
-  pub call : Call
-  pub reply : Reply
-  pub full : Option Full
-
-abbrev pub its_line : AnsweredCall → Line
-its_line a = line.Call a.client a.call
-
-abbrev pub its_answer : AnsweredCall → Replied
-its_answer a = record { call = a.call; reply = a.reply }
-
--- the item of how many blocks were free, where too few were
-abbrev pub full_item : Option Full → List TraceItem
-full_item None = []
-full_item (Some f) = trace.Full 1 f.need f.free ∷ []
-
--- node 1's items of these calls, which are numbered from n on: directly before its call an item stands that tells of too few blocks
-abbrev pub items_from : List Client → ℕ → List AnsweredCall → List TraceItem
-items_from clients n [] = []
-items_from clients n (a ∷ later) = full_item a.full ++ trace.Call 1 (name_at clients a.client) n a.call a.reply ∷ items_from clients (n + 1) later
 
 -- ---- how far a run of lines has come
 
@@ -110,34 +71,24 @@ abbrev pub HasChangedNothing : List Client → List TraceItem → Type 0
 HasChangedNothing clients items = AllByRecursion (λ (r : Replied). Changes r ≡ false) (alive (history_of clients items))
 
 -- The disk failed at a call, behind these items: before it the disk was at rest, and where it stood for a tree at the start, it stood then
--- for the tree that they leave; and it was as at the start where they change nothing.
-pub record IsFailedOn (d d' : DiskState) (n : Lone) (clients : List Client) (items : List TraceItem) (call : Call) (block : Option ℕ) : Type 0 where
-  pub before : DiskState
-  pub same : IsSameDisk d before
-  pub idle : IsIdle before
-  pub kept : HasChangedNothing clients items → before ≡ d
-  pub stood : (t : Tree) (s : StandsFor d n t) → LeavesStanding d before n t (tree_of (history_of clients items) t) s
-  pub failed : IsFailedAt before d' n call block
-
--- ---- how many blocks were free
-
--- Item by item, of a disk that stood for a tree: each item of free blocks tells how many the disk's image has then, and each call leaves the disk
--- standing for the tree behind it.
-abbrev pub TellFree : (d : DiskState) (n : Lone) (t : Tree) → StandsFor d n t → List TraceItem → Type 0
-TellFree d n t s [] = ⊤
-TellFree d n t s (trace.Full node need free ∷ is) = IsFreeCount d n t s need free × TellFree d n t s is
-TellFree d n t s (trace.Call node client number call reply ∷ is) = (d' : DiskState) × (it : LeavesStanding d d' n t (after (record { call = call; reply = reply }) t) s)
-    × TellFree d' n (after (record { call = call; reply = reply }) t) it.now is
-TellFree d n t s (_ ∷ is) = TellFree d n t s is
+-- for the tree that they leave; it was as at the start where they change nothing; and they are the course of a run up to there.
+pub record IsFailedOn (first : Moment) (d' : DiskState) (n : Lone) (time : ℕ) (clients : List Client) (items : List TraceItem) (call : Call) (block : Option ℕ) : Type 0 where
+  pub before : Moment
+  pub same : IsSameDisk first.disk before.disk
+  pub idle : IsIdle before.disk
+  pub course : IsCourse n time clients first before items
+  pub kept : HasChangedNothing clients items → before.disk ≡ first.disk
+  pub stood : (t : Tree) (s : StandsFor first.disk n t) → LeavesStanding first.disk before.disk n t (tree_of (history_of clients items) t) s
+  pub failed : IsFailedAt before.disk d' n time call block
 
 -- ---- one more call
 
 -- node 1 took a call as its call of this number: it was answered so, and its items came behind those before
-pub record IsTakenCall (name : List ℕ) (number : ℕ) (call : Call) (before items : List TraceItem) (d d' : DiskState) (list list' : Option (List Operation)) (n : Lone) : Type 0 where
+pub record IsTakenCall (name : List ℕ) (number time : ℕ) (call : Call) (before items : List TraceItem) (d d' : Moment) (n : Lone) : Type 0 where
   pub reply : Reply
   pub full : Option Full
   pub are : items ≡ before ++ (full_item full ++ trace.Call 1 name number call reply ∷ [])
-  pub answered : IsAnsweredFrom d d' n call reply
-  pub untouched : Changes (record { call = call; reply = reply }) ≡ false → (d' ≡ d) × (list' ≡ list)
+  pub step : IsStep n time d d' call reply full
+  pub answered : IsAnsweredFrom d.disk d'.disk n call reply
+  pub untouched : Changes (record { call = call; reply = reply }) ≡ false → d' ≡ d
   pub told : IsToldFull reply full
-  pub free : (t : Tree) (s : StandsFor d n t) → IfSome full (λ f. IsFreeCount d n t s f.need f.free)

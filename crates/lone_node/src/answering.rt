@@ -1,14 +1,15 @@
 // One call, answered on a disk.
-ghost use Rattle.std.specs.Prelude.{ℕ, [], false, ◌≡◌, ◌<◌, ◌≤◌, IfOk, IfErr, IfSome, IfNone, OnOk};
+ghost use Rattle.std.specs.Prelude.{ℕ, List, [], false, ◌≡◌, ◌<◌, ◌≤◌, IfOk, IfErr, IfSome, IfNone, OnOk};
 ghost use Rattle.file_tree.specs.Apply.{apply};
 ghost use Rattle.file_tree.specs.Tree.{Tree};
 ghost use Rattle.file_tree.specs.declared.reply.Reply.TheVariants.{Ok as OkReply};
 ghost use Rattle.cluster_history.specs.Changes.{Changes};
 ghost use Rattle.gfs2_layout.specs.Device.{IsBlockSize};
-ghost use Rattle.shared_disk.specs.Disk.{IsIdle};
+ghost use Rattle.shared_disk.specs.Disk.{Gains, IsIdle, Operation};
 ghost use Rattle.file_calls.specs.Calls.{IsBuilt, IsHashed, IsUnbuilt};
 ghost use Rattle.lone_view.specs.Seeing.{seen_alone};
-ghost use Rattle.lone_node.specs.Answering.{IsAnsweredFrom, IsDamagedFor, IsDamagedOn, IsFailedAt, IsFailedFor, IsFreeCount, IsHashedOn, IsSameDisk, IsToldFull, IsUnbuiltOn};
+ghost use Rattle.lone_node.specs.Answering.{IsAnsweredFrom, IsDamagedFor, IsDamagedOn, IsFailedAt, IsFailedFor, IsHashedOn, IsSameDisk, IsToldFull, IsUnbuiltOn};
+ghost use Rattle.lone_node.specs.Course.{AreBrought, IsStep, moment};
 ghost use Rattle.lone_node.specs.Ends.{HasCause, IfDamaged, IfDiskFailed, IfHashed, IfNotBuilt, UnlessFailed, end_at};
 ghost use Rattle.lone_node.specs.Standing.{IsOn, IsSameSystem, StandsFor, lacked_count};
 ghost use Rattle.lone_node.specs.Writing.{AreOfDisk, AreWritten, IsWriteOf, MayBeWritten, with_blocks};
@@ -59,6 +60,7 @@ fn carry_out<D: SharedDisk>(
     requires size { view.old.size ≡ (D.state disk.old).size }
     requires of_disk { AreOfDisk (D.state disk.old) change.now.blocks.items }
     ensures written { OnOk result (AreWritten (D.state disk.old) (D.state disk.new) change.now.blocks.items) }
+    ensures brought { OnOk result ((ops : List Operation) × AreBrought change.now.blocks.items ops × Gains (D.list disk.old) (D.list disk.new) ops) }
     ensures none { change.now.blocks.items ≡ [] → OnOk result ((D.state disk.new ≡ D.state disk.old) × (D.list disk.new ≡ D.list disk.old)) }
     ensures kept { OnOk result (view.new ≡ record view.old { blocks = with_blocks view.old.blocks change.now.blocks.items }) }
     ensures before { IfErr result (λ end. UnlessFailed end ((D.state disk.new ≡ D.state disk.old) × (D.list disk.new ≡ D.list disk.old))) }
@@ -94,7 +96,7 @@ fn try_once<D: SharedDisk>(
     ensures answered { IfOk result (λ r. IfSome r (λ a. IsAnsweredFrom (D.state disk.old) (D.state disk.new) view.old call.now a.reply)) }
     ensures untouched { IfOk result (λ r. IfSome r (λ a. Changes (record { call = call.now; reply = a.reply }) ≡ false → (D.state disk.new ≡ D.state disk.old) × (D.list disk.new ≡ D.list disk.old))) }
     ensures full { IfOk result (λ r. IfSome r (λ a. IsToldFull a.reply a.full)) }
-    ensures free { IfOk result (λ r. IfSome r (λ a. (t : Tree) (s : StandsFor (D.state disk.old) view.old t) → IfSome a.full (λ f. IsFreeCount (D.state disk.old) view.old t s f.need f.free))) }
+    ensures step { IfOk result (λ r. IfSome r (λ a. IsStep view.old stamp.now.time (moment (D.state disk.old) (D.list disk.old)) (moment (D.state disk.new) (D.list disk.new)) call.now a.reply a.full)) }
     ensures idle { IfOk result (λ r. IsIdle (D.state disk.new)) }
     ensures on { IfOk result (λ r. IsOn (D.state disk.new) view.new) }
     ensures disk { IfOk result (λ r. IsSameDisk (D.state disk.old) (D.state disk.new)) }
@@ -107,7 +109,7 @@ fn try_once<D: SharedDisk>(
     ensures hashed { IfErr result (λ end. IfHashed end (IsHashed (seen_alone view.old) call.now)) }
     ensures unbuilt { IfErr result (λ end. IfNotBuilt end (λ place. (place ≡ line) × IsUnbuilt (seen_alone view.old) call.now)) }
     ensures taken { IfErr result (λ end. IfNotBuilt end (λ place. (place ≡ line) × ((t : Tree) → StandsFor (D.state disk.old) view.old t → (apply call.now t).reply ≡ OkReply))) }
-    ensures failed { IfErr result (λ end. IfDiskFailed end (IsFailedFor (D.state disk.old) (D.state disk.new) (seen_alone view.old) call.now)) }
+    ensures failed { IfErr result (λ end. IfDiskFailed end (IsFailedFor (D.state disk.old) (D.state disk.new) view.old stamp.now.time call.now)) }
     ensures later { (i : ℕ) → D.faults disk.old i ≤ D.faults disk.new i }
     ensures cause { IfErr result (HasCause 1 (D.state disk.old).count (D.faults disk.old) (D.faults disk.new)) }
 {
@@ -152,7 +154,7 @@ pub(crate) fn answer_call<D: SharedDisk>(
     ensures answered { IfOk result (λ a. IsAnsweredFrom (D.state disk.old) (D.state disk.new) view.old call.now a.reply) }
     ensures untouched { IfOk result (λ a. Changes (record { call = call.now; reply = a.reply }) ≡ false → (D.state disk.new ≡ D.state disk.old) × (D.list disk.new ≡ D.list disk.old)) }
     ensures full { IfOk result (λ a. IsToldFull a.reply a.full) }
-    ensures free { IfOk result (λ a. (t : Tree) (s : StandsFor (D.state disk.old) view.old t) → IfSome a.full (λ f. IsFreeCount (D.state disk.old) view.old t s f.need f.free)) }
+    ensures step { IfOk result (λ a. IsStep view.old stamp.now.time (moment (D.state disk.old) (D.list disk.old)) (moment (D.state disk.new) (D.list disk.new)) call.now a.reply a.full) }
     ensures idle { IfOk result (λ a. IsIdle (D.state disk.new)) }
     ensures on { IfOk result (λ a. IsOn (D.state disk.new) view.new) }
     ensures disk { IfOk result (λ a. IsSameDisk (D.state disk.old) (D.state disk.new)) }
@@ -163,7 +165,7 @@ pub(crate) fn answer_call<D: SharedDisk>(
     ensures hashed { IfErr result (λ end. IfHashed end (IsHashedOn (D.state disk.old) view.old call.now)) }
     ensures unbuilt { IfErr result (λ end. IfNotBuilt end (λ place. (place ≡ line) × IsUnbuiltOn (D.state disk.old) view.old call.now)) }
     ensures taken { IfErr result (λ end. IfNotBuilt end (λ place. (place ≡ line) × ((t : Tree) → StandsFor (D.state disk.old) view.old t → (apply call.now t).reply ≡ OkReply))) }
-    ensures failed { IfErr result (λ end. IfDiskFailed end (IsFailedAt (D.state disk.old) (D.state disk.new) view.old call.now)) }
+    ensures failed { IfErr result (λ end. IfDiskFailed end (IsFailedAt (D.state disk.old) (D.state disk.new) view.old stamp.now.time call.now)) }
     ensures later { (i : ℕ) → D.faults disk.old i ≤ D.faults disk.new i }
     ensures cause { IfErr result (HasCause 1 (D.state disk.old).count (D.faults disk.old) (D.faults disk.new)) }
 {

@@ -13,8 +13,10 @@ ghost use Rattle.shared_disk.specs.Disk.{IsIdle};
 ghost use Rattle.file_calls.specs.Calls.{IsBuilt};
 ghost use Rattle.script_lang.specs.OneNode.{IsOneNode, IsOwnLine};
 ghost use Rattle.lone_node.specs.Answering.{IsDamagedOn, IsFailedAt, IsHashedOn, IsSameDisk, IsUnbuiltOn};
+ghost use Rattle.lone_node.specs.Course.{IsCourse, moment};
 ghost use Rattle.lone_node.specs.Ends.{HasCause, IfDamaged, IfDiskFailed, IfHashed, IfNotBuilt, UnlessDiskFailed, UnlessFailed};
-ghost use Rattle.lone_node.specs.Run.{EndsAt, EndsAtCall, HasChangedNothing, IsFailedOn, IsRunOf, IsRunUpTo, IsTakenBehind, IsTakenCall, IsWholeRun, TellFree, full_item};
+ghost use Rattle.lone_node.specs.Items.{full_item};
+ghost use Rattle.lone_node.specs.Run.{EndsAt, EndsAtCall, HasChangedNothing, IsFailedOn, IsRunOf, IsRunUpTo, IsTakenBehind, IsTakenCall, IsWholeRun};
 ghost use Rattle.lone_node.specs.Standing.{IsOn, IsSameSystem, LeavesStanding, StandsFor};
 
 use crate::RunEnd;
@@ -100,7 +102,7 @@ fn take_call<D: SharedDisk>(
     requires on { IsOn (D.state disk.old) view.old }
     requires node { stamp.now.node ≡ 1 }
     requires built { IsBuilt call.now }
-    ensures taken { OnOk result (IsTakenCall client.now number call.now items.old.items items.new.items (D.state disk.old) (D.state disk.new) (D.list disk.old) (D.list disk.new) view.old) }
+    ensures taken { OnOk result (IsTakenCall client.now number stamp.now.time call.now items.old.items items.new.items (moment (D.state disk.old) (D.list disk.old)) (moment (D.state disk.new) (D.list disk.new)) view.old) }
     ensures kept { OnErr result (items.new.items ≡ items.old.items) }
     ensures idle { OnOk result (IsIdle (D.state disk.new)) }
     ensures on { OnOk result (IsOn (D.state disk.new) view.new) }
@@ -112,7 +114,7 @@ fn take_call<D: SharedDisk>(
     ensures hashed { IfErr result (λ end. IfHashed end (IsHashedOn (D.state disk.old) view.old call.now)) }
     ensures unbuilt { IfErr result (λ end. IfNotBuilt end (λ place. (place ≡ line) × IsUnbuiltOn (D.state disk.old) view.old call.now)) }
     ensures accepted { IfErr result (λ end. IfNotBuilt end (λ place. (place ≡ line) × ((t : Tree) → StandsFor (D.state disk.old) view.old t → (apply call.now t).reply ≡ OkReply))) }
-    ensures failed { IfErr result (λ end. IfDiskFailed end (IsFailedAt (D.state disk.old) (D.state disk.new) view.old call.now)) }
+    ensures failed { IfErr result (λ end. IfDiskFailed end (IsFailedAt (D.state disk.old) (D.state disk.new) view.old stamp.now.time call.now)) }
     ensures later { (i : ℕ) → D.faults disk.old i ≤ D.faults disk.new i }
     ensures cause { IfErr result (HasCause 1 (D.state disk.old).count (D.faults disk.old) (D.faults disk.new)) }
 {
@@ -145,7 +147,7 @@ fn take_lines<D: SharedDisk>(
     requires form { AllByRecursion (IsOwnLine (length clients.now)) lines.now }
     requires joined { items.old.items ≡ TraceItem.Join 1 ∷ [] }
     ensures run { (count : ℕ) × IsRunUpTo clients.now lines.now count items.new.items (StandsFor (D.state disk.old) view.old) }
-    ensures free { (t : Tree) (s : StandsFor (D.state disk.old) view.old t) → TellFree (D.state disk.old) view.old t s items.new.items }
+    ensures course { UnlessDiskFailed result (IsCourse view.old stamp.now.time clients.now (moment (D.state disk.old) (D.list disk.old)) (moment (D.state disk.new) (D.list disk.new)) items.new.items) }
     ensures whole { OnOk result (IsRunUpTo clients.now lines.now (length lines.now) items.new.items (StandsFor (D.state disk.old) view.old)) }
     ensures stands { UnlessDiskFailed result ((t : Tree) (s : StandsFor (D.state disk.old) view.old t) → LeavesStanding (D.state disk.old) (D.state disk.new) view.old t (tree_of (history_of clients.now items.new.items) t) s) }
     ensures untouched { UnlessDiskFailed result (HasChangedNothing clients.now items.new.items → (D.state disk.new ≡ D.state disk.old) × (D.list disk.new ≡ D.list disk.old)) }
@@ -158,7 +160,7 @@ fn take_lines<D: SharedDisk>(
     ensures hashed { IfErr result (λ end. IfHashed end (λ b. EndsAtCall (λ call. IsHashedOn (D.state disk.new) view.old call b) clients.now lines.now items.new.items (StandsFor (D.state disk.old) view.old))) }
     ensures unbuilt { IfErr result (λ end. IfNotBuilt end (λ line. EndsAt line (λ call. IsUnbuiltOn (D.state disk.new) view.old call) clients.now lines.now items.new.items (StandsFor (D.state disk.old) view.old))) }
     ensures taken { IfErr result (λ end. IfNotBuilt end (λ line. EndsAt line (IsTakenBehind clients.now items.new.items (StandsFor (D.state disk.old) view.old)) clients.now lines.now items.new.items (StandsFor (D.state disk.old) view.old))) }
-    ensures failed { IfErr result (λ end. IfDiskFailed end (λ block. EndsAtCall (λ call. IsFailedOn (D.state disk.old) (D.state disk.new) view.old clients.now items.new.items call block) clients.now lines.now items.new.items (StandsFor (D.state disk.old) view.old))) }
+    ensures failed { IfErr result (λ end. IfDiskFailed end (λ block. EndsAtCall (λ call. IsFailedOn (moment (D.state disk.old) (D.list disk.old)) (D.state disk.new) view.old stamp.now.time clients.now items.new.items call block) clients.now lines.now items.new.items (StandsFor (D.state disk.old) view.old))) }
     ensures later { (i : ℕ) → D.faults disk.old i ≤ D.faults disk.new i }
     ensures cause { IfErr result (HasCause 1 (D.state disk.old).count (D.faults disk.old) (D.faults disk.new)) }
 {
@@ -194,7 +196,7 @@ fn run_lines<D: SharedDisk>(
     requires form { AllByRecursion (IsOwnLine (length clients.now)) lines.now }
     requires none { items.old.items ≡ [] }
     ensures run { IsRunOf clients.now lines.now items.new.items (StandsFor (D.state disk.old) view.old) }
-    ensures free { (t : Tree) (s : StandsFor (D.state disk.old) view.old t) → TellFree (D.state disk.old) view.old t s items.new.items }
+    ensures course { UnlessDiskFailed result (IsCourse view.old stamp.now.time clients.now (moment (D.state disk.old) (D.list disk.old)) (moment (D.state disk.new) (D.list disk.new)) items.new.items) }
     ensures whole { OnOk result (IsWholeRun clients.now lines.now items.new.items (StandsFor (D.state disk.old) view.old)) }
     ensures stands { UnlessDiskFailed result ((t : Tree) (s : StandsFor (D.state disk.old) view.old t) → LeavesStanding (D.state disk.old) (D.state disk.new) view.old t (tree_of (history_of clients.now items.new.items) t) s) }
     ensures untouched { UnlessDiskFailed result (HasChangedNothing clients.now items.new.items → (D.state disk.new ≡ D.state disk.old) × (D.list disk.new ≡ D.list disk.old)) }
@@ -207,7 +209,7 @@ fn run_lines<D: SharedDisk>(
     ensures hashed { IfErr result (λ end. IfHashed end (λ b. EndsAtCall (λ call. IsHashedOn (D.state disk.new) view.old call b) clients.now lines.now items.new.items (StandsFor (D.state disk.old) view.old))) }
     ensures unbuilt { IfErr result (λ end. IfNotBuilt end (λ line. EndsAt line (λ call. IsUnbuiltOn (D.state disk.new) view.old call) clients.now lines.now items.new.items (StandsFor (D.state disk.old) view.old))) }
     ensures taken { IfErr result (λ end. IfNotBuilt end (λ line. EndsAt line (IsTakenBehind clients.now items.new.items (StandsFor (D.state disk.old) view.old)) clients.now lines.now items.new.items (StandsFor (D.state disk.old) view.old))) }
-    ensures failed { IfErr result (λ end. IfDiskFailed end (λ block. EndsAtCall (λ call. IsFailedOn (D.state disk.old) (D.state disk.new) view.old clients.now items.new.items call block) clients.now lines.now items.new.items (StandsFor (D.state disk.old) view.old))) }
+    ensures failed { IfErr result (λ end. IfDiskFailed end (λ block. EndsAtCall (λ call. IsFailedOn (moment (D.state disk.old) (D.list disk.old)) (D.state disk.new) view.old stamp.now.time clients.now items.new.items call block) clients.now lines.now items.new.items (StandsFor (D.state disk.old) view.old))) }
     ensures later { (i : ℕ) → D.faults disk.old i ≤ D.faults disk.new i }
     ensures cause { IfErr result (HasCause 1 (D.state disk.old).count (D.faults disk.old) (D.faults disk.new)) }
 {
@@ -247,7 +249,7 @@ pub fn run_script<D: SharedDisk>(
     ensures legal { (t : Tree) → StandsFor (D.state disk.old) view.old t → Legal (history_of script.now.clients items.new.items) t }
     ensures stands { UnlessDiskFailed result ((t : Tree) (s : StandsFor (D.state disk.old) view.old t) → LeavesStanding (D.state disk.old) (D.state disk.new) view.old t (tree_of (history_of script.now.clients items.new.items) t) s) }
     ensures run { IsRunOf script.now.clients script.now.lines items.new.items (StandsFor (D.state disk.old) view.old) }
-    ensures free { (t : Tree) (s : StandsFor (D.state disk.old) view.old t) → TellFree (D.state disk.old) view.old t s items.new.items }
+    ensures course { UnlessDiskFailed result (IsCourse view.old time script.now.clients (moment (D.state disk.old) (D.list disk.old)) (moment (D.state disk.new) (D.list disk.new)) items.new.items) }
     ensures whole { OnOk result (IsWholeRun script.now.clients script.now.lines items.new.items (StandsFor (D.state disk.old) view.old)) }
     ensures members { NoneStopped items.new.items }
     ensures none_lost { NoneLost (history_of script.now.clients items.new.items) }
@@ -262,7 +264,7 @@ pub fn run_script<D: SharedDisk>(
     ensures hashed { IfErr result (λ end. IfHashed end (λ b. EndsAtCall (λ call. IsHashedOn (D.state disk.new) view.old call b) script.now.clients script.now.lines items.new.items (StandsFor (D.state disk.old) view.old))) }
     ensures unbuilt { IfErr result (λ end. IfNotBuilt end (λ line. EndsAt line (λ call. IsUnbuiltOn (D.state disk.new) view.old call) script.now.clients script.now.lines items.new.items (StandsFor (D.state disk.old) view.old))) }
     ensures taken { IfErr result (λ end. IfNotBuilt end (λ line. EndsAt line (IsTakenBehind script.now.clients items.new.items (StandsFor (D.state disk.old) view.old)) script.now.clients script.now.lines items.new.items (StandsFor (D.state disk.old) view.old))) }
-    ensures failed { IfErr result (λ end. IfDiskFailed end (λ block. EndsAtCall (λ call. IsFailedOn (D.state disk.old) (D.state disk.new) view.old script.now.clients items.new.items call block) script.now.clients script.now.lines items.new.items (StandsFor (D.state disk.old) view.old))) }
+    ensures failed { IfErr result (λ end. IfDiskFailed end (λ block. EndsAtCall (λ call. IsFailedOn (moment (D.state disk.old) (D.list disk.old)) (D.state disk.new) view.old time script.now.clients items.new.items call block) script.now.clients script.now.lines items.new.items (StandsFor (D.state disk.old) view.old))) }
     ensures later { (i : ℕ) → D.faults disk.old i ≤ D.faults disk.new i }
     ensures cause { IfErr result (HasCause 1 (D.state disk.old).count (D.faults disk.old) (D.faults disk.new)) }
 {

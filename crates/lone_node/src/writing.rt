@@ -1,8 +1,9 @@
 // What a call changes, put on the disk.
 ghost use Rattle.std.specs.Prelude.{ℕ, List, [], ◌≡◌, ◌<◌, ◌≤◌, IsTrue, OnOk, OnErr, IfErr, length};
 ghost use Rattle.std.specs.List.{AllByRecursion};
-ghost use Rattle.shared_disk.specs.Disk.{IsIdle};
+ghost use Rattle.shared_disk.specs.Disk.{Gains, IsIdle, Operation};
 ghost use Rattle.drafts.specs.declared.change.Written.{Written};
+ghost use Rattle.lone_node.specs.Course.{AreBrought, turn_of, writes_of};
 ghost use Rattle.lone_node.specs.Ends.{FailsAlone, IfDiskFailed};
 ghost use Rattle.lone_node.specs.Writing.{AreInFlight, AreOfDisk, AreWritten, ArePartlyInFlight, IsWriteOf, MayBeWritten, flights_of, with_blocks};
 
@@ -43,6 +44,7 @@ fn put_in_flight<D: SharedDisk>(disk: &mut D, blocks: &[Written]) -> Result<(), 
     requires few { length blocks.now ≤ 512 }
     requires of_disk { AreOfDisk (D.state disk.old) blocks.now }
     ensures flies { OnOk result (AreInFlight 1 (D.state disk.old) (D.state disk.new) (flights_of blocks.now)) }
+    ensures gains { OnOk result (Gains (D.list disk.old) (D.list disk.new) (writes_of blocks.now)) }
     ensures left { OnErr result (ArePartlyInFlight 1 (D.state disk.old) (D.state disk.new) blocks.now) }
     ensures failed { IfErr result (λ end. IfDiskFailed end (IsWriteOf blocks.now)) }
     ensures later { (i : ℕ) → D.faults disk.old i ≤ D.faults disk.new i }
@@ -65,6 +67,7 @@ fn write_some<D: SharedDisk>(disk: &mut D, blocks: &[Written]) -> Result<(), Run
     requires few { length blocks.now ≤ 512 }
     requires of_disk { AreOfDisk (D.state disk.old) blocks.now }
     ensures written { OnOk result (AreWritten (D.state disk.old) (D.state disk.new) blocks.now) }
+    ensures gains { OnOk result (Gains (D.list disk.old) (D.list disk.new) (turn_of blocks.now)) }
     ensures left { OnErr result (ArePartlyInFlight 1 (D.state disk.old) (D.state disk.new) blocks.now) }
     ensures failed { IfErr result (λ end. IfDiskFailed end (IsWriteOf blocks.now)) }
     ensures later { (i : ℕ) → D.faults disk.old i ≤ D.faults disk.new i }
@@ -84,6 +87,7 @@ pub(crate) fn write_all<D: SharedDisk>(disk: &mut D, blocks: &[Written]) -> Resu
     requires idle { IsIdle (D.state disk.old) }
     requires of_disk { AreOfDisk (D.state disk.old) blocks.now }
     ensures written { OnOk result (AreWritten (D.state disk.old) (D.state disk.new) blocks.now) }
+    ensures brought { OnOk result ((ops : List Operation) × AreBrought blocks.now ops × Gains (D.list disk.old) (D.list disk.new) ops) }
     ensures none { blocks.now ≡ [] → OnOk result ((D.state disk.new ≡ D.state disk.old) × (D.list disk.new ≡ D.list disk.old)) }
     ensures left { OnErr result (MayBeWritten 1 (D.state disk.old) (D.state disk.new) blocks.now) }
     ensures failed { IfErr result (λ end. IfDiskFailed end (IsWriteOf blocks.now)) }

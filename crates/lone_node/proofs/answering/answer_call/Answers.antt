@@ -6,12 +6,13 @@ use Rattle.file_tree.specs.declared.reply.Reply.TheVariants.{Ok as OkReply}
 use Rattle.cluster_history.specs.Changes.{Changes}
 use Rattle.file_calls.specs.Calls.{IsHashed}
 use Rattle.lone_view.specs.Seeing.{seen_alone}
-use Rattle.lone_node.specs.Answering.{IsAnsweredFrom, IsDamagedFor, IsDamagedOn, IsFailedAt, IsFailedFor, IsFreeCount, IsHashedOn, IsToldFull, IsUnbuiltOn}
+use Rattle.lone_node.specs.Answering.{IsAnsweredFrom, IsDamagedFor, IsDamagedOn, IsFailedAt, IsFailedFor, IsHashedOn, IsToldFull, IsUnbuiltOn}
+use Rattle.lone_node.specs.Course.{IsStep, Moment, moment}
 use Rattle.lone_node.specs.Standing.{StandsFor}
 use Rattle.lone_node.specs.declared.answering.Answer.{Answer}
 use Rattle.lone_node.proofs.Answered.{answered_from}
 use Rattle.lone_node.proofs.Endings.{damaged_so, failed_so, hashed_so, unbuilt_so}
-use Rattle.lone_node.proofs.Frees.{free_as}
+use Rattle.lone_node.proofs.Courses.{step_as}
 use Rattle.lone_node.proofs.Leaving.{stands_on}
 use Rattle.lone_node.proofs.answering.answer_call.Goals as goal
 
@@ -47,8 +48,9 @@ returns-in-Err-clause-failed g c =
     let d = g.D.SharedDisk.state c.args.disk.now in
     let after = g.D.SharedDisk.state c.try_once.new.disk in
     let so = c.loop-found.invariant in
-    failed_so c.in-Err.end (IsFailedFor (g.D.SharedDisk.state c.loop-found.disk) after (seen_alone c.loop-found.view) c.args.call.now) (IsFailedAt d after c.args.view.now c.args.call.now)
-    (λ block is. record { view = c.loop-found.view; later = record { same = so.system; on = so.on }; failed = subst (λ e. IsFailedFor e after (seen_alone c.loop-found.view) c.args.call.now block) so.same is })
+    let time = c.args.stamp.now.time in
+    failed_so c.in-Err.end (IsFailedFor (g.D.SharedDisk.state c.loop-found.disk) after c.loop-found.view time c.args.call.now) (IsFailedAt d after c.args.view.now time c.args.call.now)
+    (λ block is. record { view = c.loop-found.view; later = record { same = so.system; on = so.on }; failed = subst (λ e. IsFailedFor e after c.loop-found.view time c.args.call.now block) so.same is })
     c.in-Err.ensures.failed
 
 pub returns-in-Ok-Some-clause-answered : goal.returns-in-Ok-Some-clause-answered
@@ -81,12 +83,14 @@ returns-in-Ok-Some-clause-untouched g c none =
     in
     (kept.0 ∙ so.same, kept.1 ∙ so.list)
 
-pub returns-in-Ok-Some-clause-free : goal.returns-in-Ok-Some-clause-free
-returns-in-Ok-Some-clause-free g c t s =
-    let d = g.D.SharedDisk.state c.args.disk.now in
-    let now = g.D.SharedDisk.state c.loop-found.disk in
+pub returns-in-Ok-Some-clause-step : goal.returns-in-Ok-Some-clause-step
+returns-in-Ok-Some-clause-step g c =
     let so = c.loop-found.invariant in
-    let told = subst (λ (r : Option Answer). IfSome r (λ a. (u : Tree) (at : StandsFor now c.loop-found.view u) → IfSome a.full (λ f. IsFreeCount now c.loop-found.view u at f.need f.free))) c.in-Ok-Some.field-0-is c.in-Ok-Some.ensures.free in
-    free_as d c.args.view.now c.loop-found.view t so.system s c.in-Ok-Some.found.full
-    (subst (λ e. (u : Tree) (at : StandsFor e c.loop-found.view u) → IfSome c.in-Ok-Some.found.full (λ f. IsFreeCount e c.loop-found.view u at f.need f.free)) so.same told t
-    (stands_on d c.args.view.now c.loop-found.view t so.system s))
+    let next = moment (g.D.SharedDisk.state c.try_once.new.disk) (g.D.SharedDisk.list c.try_once.new.disk) in
+    let a = c.in-Ok-Some.found in
+    let step =
+    subst (λ (r : Option Answer). IfSome r (λ b. IsStep c.loop-found.view c.args.stamp.now.time (moment (g.D.SharedDisk.state c.loop-found.disk) (g.D.SharedDisk.list c.loop-found.disk)) next c.args.call.now b.reply b.full))
+    c.in-Ok-Some.field-0-is c.in-Ok-Some.ensures.step
+    in
+    step_as c.args.view.now c.loop-found.view c.args.stamp.now.time (moment (g.D.SharedDisk.state c.args.disk.now) (g.D.SharedDisk.list c.args.disk.now)) next c.args.call.now a.reply a.full so.system
+    (subst (λ (m : Moment). IsStep c.loop-found.view c.args.stamp.now.time m next c.args.call.now a.reply a.full) (λ i. moment (so.same i) (so.list i)) step)

@@ -1,6 +1,6 @@
 use Rattle.std.proofs.Common.{true, false, ◌≡◌, ◌<◌, ◌≤◌, None, Ok, refl, sym, subst, arith}
 use Rattle.std.specs.Prelude.{◌≢◌}
-use Rattle.file_tree.specs.Apply.{TakesSpace, apply}
+use Rattle.file_tree.specs.Apply.{apply}
 use Rattle.file_tree.specs.Tree.{Tree}
 use Rattle.file_tree.specs.declared.reply.Reply.TheVariants.{Ok as OkReply}
 use Rattle.file_tree.specs.declared.reply.Reply.TheVariants as reply
@@ -11,14 +11,18 @@ use Rattle.glock_names.specs.declared.steps.CallFault.{CallFault}
 use Rattle.glock_names.specs.declared.steps.CallFault.TheVariants as fault
 use Rattle.glock_names.specs.Steps.{TellsOf}
 use Rattle.lone_view.specs.Seeing.{Lone, seen_alone}
-use Rattle.file_calls.specs.Calls.{IsNeededFor, IsTooFew}
+use Rattle.path_walks.specs.Holds.{IsUnder}
+use Rattle.making_calls.specs.Making.{IsMaking}
+use Rattle.file_calls.specs.Answers.{IsAnswered, IsMadeIn}
+use Rattle.file_calls.specs.Calls.{IsNeededFor, IsTooFew, call_holds}
 use Rattle.lone_node.specs.Answering.{IsDamagedFor, IsFailedFor, in_a_read, in_a_write, leads_out, source_of}
+use Rattle.lone_node.specs.Course.{IsDoneBy, done, moment, spaceless}
 use Rattle.lone_node.specs.Ends.{IfDamaged, end_at}
 use Rattle.lone_node.specs.Standing.{IsOn, StandsFor, lacked_count}
 use Rattle.lone_node.specs.Writing.{IsWriteOf, MayBeWritten}
-use Rattle.lone_node.proofs.Answered.{answered, answered_full, fetched_on, fewer, of_disk, of_view, on_again, shown_damage, writes_none}
+use Rattle.lone_node.proofs.Answered.{answered, answered_full, fetched_on, fewer, makes_takes, of_disk, of_view, on_again, shown_damage, writes_none}
 use Rattle.lone_node.proofs.Endings.{damaged_so, failed_and, failed_so}
-use Rattle.lone_node.proofs.Frees.{free_count}
+use Rattle.lone_node.proofs.answering.try_once.Given.{Over}
 use Rattle.lone_node.proofs.answering.try_once.Goals as goal
 
 pub carry_out-requires-clause-of_disk : goal.carry_out-requires-clause-of_disk
@@ -27,6 +31,44 @@ carry_out-requires-clause-of_disk g c =
     let does = subst (λ a. IfDone (Ok a) (Does v c.args.call.now)) c.in-Ok-Done.field-0-is c.in-Ok-Done.ensures.done in
     let inside = subst (λ a. IfDone (Ok a) (λ reply change. AreInside v change)) c.in-Ok-Done.field-0-is c.in-Ok-Done.ensures.inside in
     of_disk (g.D.SharedDisk.state c.args.disk.now) c.args.view.now c.in-Ok-Done.change c.requires.on does.form inside
+
+-- the call is answered by this change
+is_done : (g : Over) (c : goal.In-Ok-Done g) → IsDoneBy c.args.view.now c.args.stamp.now.time c.args.call.now c.in-Ok-Done.reply c.in-Ok-Done.change
+is_done g c =
+    let v = seen_alone c.args.view.now in
+    let call = c.args.call.now in
+    let time = c.args.stamp.now.time in record {
+      does = subst (λ a. IfDone (Ok a) (Does v call)) c.in-Ok-Done.field-0-is c.in-Ok-Done.ensures.done;
+      inside = subst (λ a. IfDone (Ok a) (λ reply change. AreInside v change)) c.in-Ok-Done.field-0-is c.in-Ok-Done.ensures.inside;
+      under = λ im o l t of. subst (λ k. IsUnder o (call_holds im o l t call k) c.in-Ok-Done.change) c.requires.node
+          (subst (λ a. IfDone (Ok a) (λ reply change. IsUnder o (call_holds im o l t call c.args.stamp.now.node) change)) c.in-Ok-Done.field-0-is (c.in-Ok-Done.ensures.under im o l t of));
+      spaced = subst (λ a. IfDone (Ok a) (λ r change. r ≢ reply.NoSpace)) c.in-Ok-Done.field-0-is c.in-Ok-Done.ensures.spaceless;
+      answered = subst (λ k. IsAnswered seen_alone c.args.view.now call k time c.in-Ok-Done.reply c.in-Ok-Done.change) c.requires.node
+          (subst (λ a. IfDone (Ok a) (IsAnswered seen_alone c.args.view.now call c.args.stamp.now.node time)) c.in-Ok-Done.field-0-is c.in-Ok-Done.ensures.answered);
+      made = λ im o l t of. subst (λ k. IsMadeIn im o l call k time c.in-Ok-Done.reply c.in-Ok-Done.change) c.requires.node
+          (subst (λ a. IfDone (Ok a) (IsMadeIn im o l call c.args.stamp.now.node time)) c.in-Ok-Done.field-0-is (c.in-Ok-Done.ensures.made im o l t of));
+    }
+
+pub returns-in-Ok-clause-step : goal.returns-in-Ok-clause-step
+returns-in-Ok-clause-step g c =
+    done c.args.view.now c.in-Ok-Done.reply c.in-Ok-Done.change (record { same = record { size = refl; root = refl; groups = refl }; on = c.requires.on }) (is_done g c) (record {
+      written = c.in-Ok.ensures.written;
+      operations = c.in-Ok.ensures.brought.0;
+      brought = c.in-Ok.ensures.brought.1;
+      gains = c.in-Ok.ensures.brought.2;
+      none = λ empty. let still = c.in-Ok.ensures.none empty in λ i. moment (still.0 i) (still.1 i);
+    })
+
+pub returns-in-Ok-NoSpace-clause-step : goal.returns-in-Ok-NoSpace-clause-step
+returns-in-Ok-NoSpace-clause-step g c =
+    let v = seen_alone c.args.view.now in
+    spaceless c.args.view.now c.in-Ok-NoSpace.need c.in-Ok-NoSpace.free (record { same = record { size = refl; root = refl; groups = refl }; on = c.requires.on })
+    (record {
+      makes = subst (λ a. IfNoSpace (Ok a) (λ need free. IsMaking c.args.call.now)) c.in-Ok-NoSpace.field-0-is c.in-Ok-NoSpace.ensures.roomless;
+      fewer = subst (λ a. IfNoSpace (Ok a) (λ need free. free < need)) c.in-Ok-NoSpace.field-0-is c.in-Ok-NoSpace.ensures.fewer;
+      few = λ im o l t of. subst (λ a. IfNoSpace (Ok a) (IsTooFew v im o l t c.args.call.now)) c.in-Ok-NoSpace.field-0-is (c.in-Ok-NoSpace.ensures.space im o l t of);
+    })
+    refl
 
 pub returns-in-Ok-clause-answered : goal.returns-in-Ok-clause-answered
 returns-in-Ok-clause-answered g c =
@@ -108,7 +150,7 @@ returns-in-Ok-NoSpace-clause-answered g c =
     let d = g.D.SharedDisk.state c.args.disk.now in
     let v = seen_alone c.args.view.now in
     answered_full d c.args.view.now c.args.call.now c.in-Ok-NoSpace.need c.in-Ok-NoSpace.free c.requires.on
-    (subst (λ a. IfNoSpace (Ok a) (λ need free. TakesSpace c.args.call.now)) c.in-Ok-NoSpace.field-0-is c.in-Ok-NoSpace.ensures.roomless)
+    (makes_takes c.args.call.now (subst (λ a. IfNoSpace (Ok a) (λ need free. IsMaking c.args.call.now)) c.in-Ok-NoSpace.field-0-is c.in-Ok-NoSpace.ensures.roomless))
     (λ im o l t of. subst (λ a. IfNoSpace (Ok a) (IsTooFew v im o l t c.args.call.now)) c.in-Ok-NoSpace.field-0-is (c.in-Ok-NoSpace.ensures.space im o l t of))
 
 pub returns-in-Err-fetch-clause-failed : goal.returns-in-Err-fetch-clause-failed
@@ -118,19 +160,17 @@ returns-in-Err-fetch-clause-failed g c =
     let m = c.in-Ok-NeedBlock.missing in
     let needed = subst (λ a. IfNeedBlock (Ok a) (IsNeededFor v c.args.call.now)) c.in-Ok-NeedBlock.field-0-is c.in-Ok-NeedBlock.ensures.needed in
     let after = g.D.SharedDisk.state c.fetch.new.disk in
-    failed_so c.in-Err-fetch.end _ (IsFailedFor d after v c.args.call.now)
-    (λ block is. subst (IsFailedFor d after v c.args.call.now) (sym is) (in_a_read m needed c.in-Err-fetch.ensures.reads.same))
+    failed_so c.in-Err-fetch.end _ (IsFailedFor d after c.args.view.now c.args.stamp.now.time c.args.call.now)
+    (λ block is. subst (IsFailedFor d after c.args.view.now c.args.stamp.now.time c.args.call.now) (sym is) (in_a_read m needed c.in-Err-fetch.ensures.reads.same))
     c.in-Err-fetch.ensures.failed
 
 pub returns-in-Err-carry_out-clause-failed : goal.returns-in-Err-carry_out-clause-failed
 returns-in-Err-carry_out-clause-failed g c =
     let d = g.D.SharedDisk.state c.args.disk.now in
-    let v = seen_alone c.args.view.now in
     let after = g.D.SharedDisk.state c.carry_out.new.disk in
     let change = c.in-Ok-Done.change in
-    let does = subst (λ a. IfDone (Ok a) (Does v c.args.call.now)) c.in-Ok-Done.field-0-is c.in-Ok-Done.ensures.done in
-    failed_so c.in-Err-carry_out.end _ (IsFailedFor d after v c.args.call.now)
-    (λ block is. in_a_write block c.in-Ok-Done.reply change does is.0 is.1)
+    failed_so c.in-Err-carry_out.end _ (IsFailedFor d after c.args.view.now c.args.stamp.now.time c.args.call.now)
+    (λ block is. in_a_write block c.in-Ok-Done.reply change (is_done g c) is.0 is.1)
     (failed_and c.in-Err-carry_out.end (IsWriteOf change.blocks.items) (λ block. MayBeWritten 1 d after change.blocks.items) c.in-Err-carry_out.ensures.failed c.in-Err-carry_out.ensures.left)
 
 pub returns-in-Ok-NotBuilt-clause-taken : goal.returns-in-Ok-NotBuilt-clause-taken
@@ -143,9 +183,3 @@ returns-in-Ok-NoSpace-clause-full g c = record {
   exactly = (λ told. refl, λ full. refl);
   fewer = subst (λ a. IfNoSpace (Ok a) (λ need free. free < need)) c.in-Ok-NoSpace.field-0-is c.in-Ok-NoSpace.ensures.fewer;
 }
-
-pub returns-in-Ok-NoSpace-clause-free : goal.returns-in-Ok-NoSpace-clause-free
-returns-in-Ok-NoSpace-clause-free g c t s =
-    let v = seen_alone c.args.view.now in
-    free_count (g.D.SharedDisk.state c.args.disk.now) c.args.view.now c.args.call.now c.in-Ok-NoSpace.need c.in-Ok-NoSpace.free c.requires.on
-    (λ im o l t of. subst (λ a. IfNoSpace (Ok a) (IsTooFew v im o l t c.args.call.now)) c.in-Ok-NoSpace.field-0-is (c.in-Ok-NoSpace.ensures.space im o l t of)) t s

@@ -8,6 +8,7 @@ use Rattle.script_lang.specs.declared.script.Client.{Client}
 use Rattle.script_lang.specs.declared.script.Line.{Line}
 use Rattle.lone_node.specs.declared.ends.RunEnd.{RunEnd}
 use Rattle.lone_node.specs.Ends.{UnlessDiskFailed}
+use Rattle.lone_node.specs.Course.{IsCourse, moment}
 use Rattle.lone_node.specs.Run.{HasChangedNothing, IsRunOf, IsWholeRun}
 use Rattle.lone_node.specs.Standing.{LeavesStanding, StandsFor}
 use Rattle.lone_node.proofs.Endings.{unless_so}
@@ -70,3 +71,9 @@ returns-clause-stands g c =
 pub returns-clause-untouched : goal.returns-clause-untouched
 returns-clause-untouched g c =
     unless_failed c.run_lines.result (λ untouched nothing. untouched (subst (λ (cs : List Client). HasChangedNothing cs c.run_lines.new.items.items) (sym (clients g c)) nothing)) c.run_lines.ensures.untouched
+
+pub returns-clause-course : goal.returns-clause-course
+returns-clause-course g c =
+    let first = moment (g.D.SharedDisk.state c.args.disk.now) (g.D.SharedDisk.list c.args.disk.now) in
+    let last = moment (g.D.SharedDisk.state c.run_lines.new.disk) (g.D.SharedDisk.list c.run_lines.new.disk) in
+    unless_failed c.run_lines.result (λ course. subst (λ (cs : List Client). IsCourse c.args.view.now c.args.time cs first last c.run_lines.new.items.items) (clients g c) course) c.run_lines.ensures.course

@@ -8,12 +8,14 @@ use Rattle.run_rules.specs.Follows.{history_of}
 use Rattle.shared_disk.specs.Disk.{DiskState}
 use Rattle.trace_text.specs.declared.item.TraceItem.{TraceItem}
 use Rattle.lone_node.specs.Answering.{IsDamagedOn, IsFailedAt, IsHashedOn, IsUnbuiltOn}
-use Rattle.lone_node.specs.Run.{EndsAt, EndsAtCall, HasChangedNothing, IsFailedOn, IsTakenBehind, TellFree}
+use Rattle.lone_node.specs.Course.{AreSteps, IsCourse, Moment, moment}
+use Rattle.lone_node.specs.Items.{AnsweredCall}
+use Rattle.lone_node.specs.Run.{EndsAt, EndsAtCall, HasChangedNothing, IsFailedOn, IsTakenBehind}
 use Rattle.lone_node.specs.Standing.{LeavesStanding, StandsFor}
 use Rattle.lone_node.proofs.Endings.{damaged_before, damaged_so, damaged_with, failed_before, failed_so, hashed_before, hashed_with, unbuilt_before, unbuilt_so, unbuilt_with, unless_so}
-use Rattle.lone_node.proofs.Frees.{AreTold}
+use Rattle.lone_node.proofs.Courses.{course_of}
 use Rattle.lone_node.proofs.Leaving.{leaves_none, stands_on}
-use Rattle.lone_node.proofs.Steps.{ends_at, goes_on, its_call, no_more_calls, run_none, tells_free, tree_is, wait_more}
+use Rattle.lone_node.proofs.Steps.{ends_at, goes_on, its_call, no_more_calls, run_none, tree_is, wait_more}
 use Rattle.lone_node.proofs.running.take_lines.Given.{Over}
 use Rattle.lone_node.proofs.running.take_lines.Goals as goal
 
@@ -27,7 +29,7 @@ loop-place-init g c =
       number = refl;
       leaves = λ t s. subst (λ (u : Tree). LeavesStanding disk disk c.args.view.now t u s) (sym (tree_is c.args.clients.now c.args.lines.now start 0 c.args.items.now.items run t))
           (leaves_none disk c.args.view.now t s);
-      told = λ t s. refl;
+      steps = refl;
       untouched = λ nothing. (refl, refl);
       idle = c.requires.idle;
       on = c.requires.on;
@@ -48,7 +50,8 @@ loop-place-preserved-in_default g c =
       run = run;
       number = number;
       leaves = so.leaves;
-      told = λ t s. subst (AreTold (g.D.SharedDisk.state c.loop-place.disk) (g.D.SharedDisk.state c.args.disk.now) c.args.view.now t s) (sym same) (so.told t s);
+      steps = subst (λ (xs : List AnsweredCall). AreSteps c.args.view.now c.args.stamp.now.time (moment (g.D.SharedDisk.state c.args.disk.now) (g.D.SharedDisk.list c.args.disk.now)) xs
+    (moment (g.D.SharedDisk.state c.loop-place.disk) (g.D.SharedDisk.list c.loop-place.disk))) (sym same) so.steps;
       untouched = so.untouched;
       idle = so.idle;
       on = so.on;
@@ -76,17 +79,17 @@ loop-place-preserved g c =
     let now = g.D.SharedDisk.state c.loop-place.disk in
     let next = g.D.SharedDisk.state c.take_call.new.disk in
     let start = g.D.SharedDisk.state c.args.disk.now in
-    let (run, number, leaves, told, untouched) =
+    let (run, number, leaves, steps, untouched) =
     goes_on c.args.clients.now c.args.lines.now start c.args.view.now c.loop-place.place c.loop-place.items.items c.loop-place-test.true so.run c.in-Call.client c.in-Call.call
     c.index-lines-place.result c.index-lines-place.result c.index-clients-client.result c.index-lines-place.is c.in-Call.is c.requires.form
-    c.take_call.new.items.items c.loop-place.number now next (g.D.SharedDisk.list c.loop-place.disk) (g.D.SharedDisk.list c.take_call.new.disk) c.loop-place.view so.number c.in-Ok.ensures.taken so.system so.leaves so.told
-    (g.D.SharedDisk.list c.args.disk.now) so.untouched
+    c.take_call.new.items.items c.loop-place.number c.args.stamp.now.time (moment start (g.D.SharedDisk.list c.args.disk.now)) now next (g.D.SharedDisk.list c.loop-place.disk) (g.D.SharedDisk.list c.take_call.new.disk) c.loop-place.view so.number
+    c.in-Ok.ensures.taken so.system so.leaves so.steps so.untouched
     in
     record {
       run = run;
       number = number;
       leaves = leaves;
-      told = told;
+      steps = steps;
       untouched = untouched;
       idle = c.in-Ok.ensures.idle;
       on = c.in-Ok.ensures.on;
@@ -104,6 +107,18 @@ stood g c t s =
 
 -- the run ends at this call
 module _ (g : Over) (c : goal.In-Err g) where
+  abbrev first_of : Moment
+  first_of = moment (g.D.SharedDisk.state c.args.disk.now) (g.D.SharedDisk.list c.args.disk.now)
+
+  abbrev before_of : Moment
+  before_of = moment (g.D.SharedDisk.state c.loop-place.disk) (g.D.SharedDisk.list c.loop-place.disk)
+
+  -- the steps up to it
+  course_before : IsCourse c.args.view.now c.args.stamp.now.time c.args.clients.now first_of before_of c.take_call.new.items.items
+  course_before =
+      course_of c.args.view.now c.args.stamp.now.time c.args.clients.now first_of before_of c.loop-place.invariant.run.answered c.take_call.new.items.items
+      (c.in-Err.ensures.kept ∙ c.loop-place.invariant.run.are) c.loop-place.invariant.steps
+
   abbrev start : Tree → Type 0
   start = StandsFor (g.D.SharedDisk.state c.args.disk.now) c.args.view.now
 
@@ -170,15 +185,16 @@ returns-in-Err-clause-taken g c =
 
 pub returns-in-Err-clause-failed : goal.returns-in-Err-clause-failed
 returns-in-Err-clause-failed g c =
-    let first = g.D.SharedDisk.state c.args.disk.now in
-    failed_so c.in-Err.end (IsFailedAt (now g c) (next g c) c.loop-place.view c.in-Call.call) _
-    (λ block is. at_call g c (λ call. IsFailedOn first (next g c) c.args.view.now c.args.clients.now c.take_call.new.items.items call block) (record {
-      before = now g c;
+    let time = c.args.stamp.now.time in
+    failed_so c.in-Err.end (IsFailedAt (now g c) (next g c) c.loop-place.view time c.in-Call.call) _
+    (λ block is. at_call g c (λ call. IsFailedOn (first_of g c) (next g c) c.args.view.now time c.args.clients.now c.take_call.new.items.items call block) (record {
+      before = before_of g c;
       same = c.loop-place.invariant.same;
       idle = c.loop-place.invariant.idle;
+      course = course_before g c;
       kept = λ nothing. (nothing_before g c nothing).0;
       stood = stood g c;
-      failed = failed_before (now g c) (next g c) c.args.view.now c.loop-place.view c.in-Call.call block c.loop-place.invariant.system is;
+      failed = failed_before (now g c) (next g c) c.args.view.now c.loop-place.view time c.in-Call.call block c.loop-place.invariant.system is;
     }))
     c.in-Err.ensures.failed
 
@@ -189,12 +205,13 @@ returns-in-Err-clause-damaged g c =
     (damaged_before (now g c) (next g c) c.args.view.now c.loop-place.view c.in-Call.call b rule same.0 c.loop-place.invariant.system is))
     c.in-Err.ensures.before c.in-Err.ensures.damaged
 
-pub returns-in-Err-clause-free : goal.returns-in-Err-clause-free
-returns-in-Err-clause-free g c t s =
-    subst (TellFree (g.D.SharedDisk.state c.args.disk.now) c.args.view.now t s) (sym c.in-Err.ensures.kept)
-    (tells_free c.args.clients.now c.args.lines.now (g.D.SharedDisk.state c.args.disk.now) (now g c) c.args.view.now c.loop-place.place c.loop-place.items.items c.loop-place.invariant.run c.loop-place.invariant.told t s)
+pub returns-in-Err-clause-course : goal.returns-in-Err-clause-course
+returns-in-Err-clause-course g c =
+    unless_so c.in-Err.end
+    (λ (same : IsStill g c). subst (λ (m : Moment). IsCourse c.args.view.now c.args.stamp.now.time c.args.clients.now (first_of g c) m c.take_call.new.items.items) (λ i. moment (sym same.0 i) (sym same.1 i)) (course_before g c))
+    c.in-Err.ensures.before
 
-pub returns-clause-free : goal.returns-clause-free
-returns-clause-free g c t s =
-    tells_free c.args.clients.now c.args.lines.now (g.D.SharedDisk.state c.args.disk.now) (g.D.SharedDisk.state c.loop-place.disk) c.args.view.now c.loop-place.place c.loop-place.items.items
-    c.loop-place.invariant.run c.loop-place.invariant.told t s
+pub returns-clause-course : goal.returns-clause-course
+returns-clause-course g c =
+    course_of c.args.view.now c.args.stamp.now.time c.args.clients.now (moment (g.D.SharedDisk.state c.args.disk.now) (g.D.SharedDisk.list c.args.disk.now))
+    (moment (g.D.SharedDisk.state c.loop-place.disk) (g.D.SharedDisk.list c.loop-place.disk)) c.loop-place.invariant.run.answered c.loop-place.items.items c.loop-place.invariant.run.are c.loop-place.invariant.steps

@@ -4,9 +4,9 @@ use Rattle.cluster_history.specs.History.{tree_of}
 use Rattle.run_rules.specs.Follows.{history_of}
 use Rattle.shared_disk.specs.Disk.{IsIdle}
 use Rattle.lone_node.specs.Answering.{IsSameDisk}
+use Rattle.lone_node.specs.Course.{AreSteps, moment}
 use Rattle.lone_node.specs.Run.{HasChangedNothing, IsRunUpTo}
 use Rattle.lone_node.specs.Standing.{IsOn, IsSameSystem, LeavesStanding, StandsFor}
-use Rattle.lone_node.proofs.Frees.{AreTold}
 use Rattle.lone_node.proofs.running.take_lines.Given as goal
 
 abbrev pub invariant-loop-place : goal.invariant-loop-place
@@ -15,8 +15,7 @@ invariant-loop-place g l = record {
   number : l.number ≡ 1 + length run.answered;
   leaves : (t : Tree) (s : StandsFor (g.D.SharedDisk.state l.initial.disk) l.initial.view t)
       → LeavesStanding (g.D.SharedDisk.state l.initial.disk) (g.D.SharedDisk.state l.disk) l.initial.view t (tree_of (history_of l.clients l.items.items) t) s;
-  told : (t : Tree) (s : StandsFor (g.D.SharedDisk.state l.initial.disk) l.initial.view t)
-      → AreTold (g.D.SharedDisk.state l.disk) (g.D.SharedDisk.state l.initial.disk) l.initial.view t s run.answered;
+  steps : AreSteps l.initial.view l.stamp.time (moment (g.D.SharedDisk.state l.initial.disk) (g.D.SharedDisk.list l.initial.disk)) run.answered (moment (g.D.SharedDisk.state l.disk) (g.D.SharedDisk.list l.disk));
   untouched : HasChangedNothing l.clients l.items.items → (g.D.SharedDisk.state l.disk ≡ g.D.SharedDisk.state l.initial.disk) × (g.D.SharedDisk.list l.disk ≡ g.D.SharedDisk.list l.initial.disk);
   idle : IsIdle (g.D.SharedDisk.state l.disk);
   on : IsOn (g.D.SharedDisk.state l.disk) l.view;

@@ -3,6 +3,7 @@ use Rattle.shared_disk.specs.Disk.{after_write}
 use Rattle.lone_node.specs.Ends.{IfDiskFailed}
 use Rattle.lone_node.specs.Writing.{IsWriteOf}
 use Rattle.lone_node.proofs.Flying.{flies_more, next_is_free, none_falls}
+use Rattle.lone_node.proofs.Gaining.{gains_none, gains_write}
 use Rattle.lone_node.proofs.Partly.{one_of, partly_more}
 use Rattle.lone_node.proofs.writing.put_in_flight.Goals as goal
 
@@ -20,6 +21,8 @@ loop-written-preserved g c =
       fly = flies_more (g.D.SharedDisk.state c.args.disk.now) now (g.D.SharedDisk.state c.write.new.self) c.args.blocks.now c.loop-written.written-index c.written-item.result _
           c.requires.of_disk.rise low c.written-item.is c.loop-written.invariant.fly
           (c.in-Ok.ensures.ok.0 ∙ ap (after_write now 1 c.written-item.result.block) c.bytes.ensures);
+      gains = gains_write (g.D.SharedDisk.list c.args.disk.now) (g.D.SharedDisk.list c.loop-written.disk) (g.D.SharedDisk.list c.write.new.self) c.args.blocks.now c.loop-written.written-index c.written-item.result _
+          c.bytes.result.now low c.written-item.is c.bytes.ensures c.loop-written.invariant.gains c.in-Ok.ensures.ok.1;
       later = λ i. let before = c.loop-written.invariant.later i in
           let more = none_falls 1 _ _ _ c.in-Ok.ensures.cause i in
           omega (arith, before, more);

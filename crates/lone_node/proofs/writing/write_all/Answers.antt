@@ -1,8 +1,10 @@
 use Rattle.std.proofs.Common.{◌≡◌, ◌≤◌, ◌++◌, List, length, rules, sym, ap, ◌∙◌, subst, arith}
 use Rattle.std.proofs.lemmas.List.{append_assoc, take-append-drop}
 use Rattle.drafts.specs.declared.change.Written.{Written}
+use Rattle.lone_node.specs.Course.{turn, turn_of}
 use Rattle.lone_node.specs.Writing.{AreOfDisk, IsWriteOf, MayBeWritten, RiseFrom}
 use Rattle.lone_node.proofs.Endings.{failed_so}
+use Rattle.lone_node.proofs.Gaining.{gains_join}
 use Rattle.lone_node.proofs.Partly.{front_none, has_some, may_be, of_part}
 use Rattle.lone_node.proofs.Rising.{front}
 use Rattle.lone_node.proofs.Flying.{of_front, of_back, written_more}
@@ -29,6 +31,9 @@ loop-rest-preserved g c =
       split = whole;
       written = written_more d (g.D.SharedDisk.state c.loop-rest.disk) (g.D.SharedDisk.state c.write_some.new.disk) so.done c.split_at.result.0.now
           (front 0 (so.done ++ c.split_at.result.0.now) c.split_at.result.1.now (subst (RiseFrom 0) whole c.requires.of_disk.rise)) so.written c.in-Ok.ensures.written;
+      operations = so.operations ++ turn_of c.split_at.result.0.now;
+      brought = turn so.done c.split_at.result.0.now so.operations so.brought some (search rules);
+      gains = gains_join (g.D.SharedDisk.list c.args.disk.now) (g.D.SharedDisk.list c.loop-rest.disk) (g.D.SharedDisk.list c.write_some.new.disk) so.operations _ so.gains c.in-Ok.ensures.gains;
       none = λ is. absurd (has_some so.done c.split_at.result.0.now some is);
       later = λ i. let before = so.later i in let more = c.in-Ok.ensures.later i in omega (arith, before, more);
     }
