@@ -1,6 +1,6 @@
 -- A call that is answered: what the disk holds, and the view has, afterwards.
-use Rattle.std.proofs.Common.{◌≡◌, ℕ, zero, suc, ◌+◌, ◌<◌, ◌≤◌, true, false, cond, List, [], ◌∷◌, length, Option, None, Some, inl, inr, refl, sym, ap, ◌∙◌, subst, arith}
-use Rattle.std.specs.Prelude.{IsTrue, unwrap_or, Contains, not, ◌&&◌}
+use Rattle.std.proofs.Common.{◌≡◌, ℕ, zero, suc, ◌+◌, ◌<◌, ◌≤◌, true, false, cond, List, [], ◌∷◌, length, Option, None, Some, Ok, inl, inr, refl, sym, ap, ◌∙◌, subst, arith}
+use Rattle.std.specs.Prelude.{◌≢◌, IsTrue, unwrap_or, Contains, not, ◌&&◌}
 use Rattle.std.specs.List.{AllByRecursion}
 use Rattle.std.specs.Ordering.{nat_cmp}
 use Rattle.std.specs.Cmp.{nat_cmp_total}
@@ -27,12 +27,18 @@ use Rattle.image_model.specs.Image.{Image, image_of}
 use Rattle.image_model.specs.Owners.{Owners}
 use Rattle.image_model.specs.Stands.{Layout}
 use Rattle.image_changes.specs.Changes.{JournalsStay}
-use Rattle.image_changes.specs.Does.{Does, is_empty, IsFormed, IsInside, IsOf, bytes_for, with_change}
+use Rattle.image_changes.specs.Does.{AreInside, Does, is_empty, IsFormed, IsInside, IsOf, bytes_for, with_change}
 use Rattle.image_changes.specs.Instances.{StandsBy}
 use Rattle.shared_disk.specs.Disk.{DiskState}
 use Rattle.lone_view.specs.Seeing.{Lone, seen_alone}
+use Rattle.drafts.specs.declared.attempt.Attempt.{Attempt}
+use Rattle.drafts.specs.declared.attempt.Attempt.TheVariants as attempts
+use Rattle.path_walks.specs.Answers.{IfDone}
+use Rattle.path_walks.specs.Holds.{IsUnder}
 use Rattle.making_calls.specs.Making.{IsMaking}
-use Rattle.file_calls.specs.Calls.{IsDamage, IsTooFew}
+use Rattle.file_calls.specs.Answers.{IsAnswered, IsMadeIn}
+use Rattle.file_calls.specs.Calls.{IsDamage, IsTooFew, call_holds}
+use Rattle.lone_node.specs.Course.{IsDoneBy}
 use Rattle.lone_node.specs.Answering.{IsAnsweredFrom, IsDamagedFor, as_shown}
 use Rattle.lone_node.specs.Ends.{IfDamaged, end_at}
 use Rattle.lone_node.specs.Standing.{IsOn, IsSameSystem, LeavesStanding, StandsFor, is_none, lacked_count}
@@ -201,6 +207,21 @@ answered_from d now d' n later call r is same from =
 pub shown_damage : (d : DiskState) (v : Seen) (call : Call) (f : CallFault) → TellsOf (IsOfView v) f → TellsOf (IsDamage v call) f → IfDamaged (end_at f) (IsDamagedFor d v call)
 shown_damage d v call (fault.Damaged block rule) has is = as_shown block rule has is
 shown_damage d v call fault.NoMemory has is = tt
+
+-- a call is answered by this change
+pub is_done : (view : Lone) (node time : ℕ) (call : Call) (a : Attempt) (r : Reply) (change : Change) → a ≡ attempts.Done r change → node ≡ 1
+    → IfDone (Ok a) (Does (seen_alone view) call) → IfDone (Ok a) (λ reply change. AreInside (seen_alone view) change)
+    → ((im : Image) (o : Owners) (l : Layout) (t : Tree) → IsOf (seen_alone view) im o l t → IfDone (Ok a) (λ reply change. IsUnder o (call_holds im o l t call node) change))
+    → IfDone (Ok a) (λ answer change. answer ≢ reply.NoSpace) → IfDone (Ok a) (IsAnswered seen_alone view call node time)
+    → ((im : Image) (o : Owners) (l : Layout) (t : Tree) → IsOf (seen_alone view) im o l t → IfDone (Ok a) (IsMadeIn im o l call node time)) → IsDoneBy view time call r change
+is_done view node time call a r change is one does inside under spaced answered made = record {
+  does = subst (λ x. IfDone (Ok x) (Does (seen_alone view) call)) is does;
+  inside = subst (λ x. IfDone (Ok x) (λ reply change. AreInside (seen_alone view) change)) is inside;
+  under = λ im o l t of. subst (λ k. IsUnder o (call_holds im o l t call k) change) one (subst (λ x. IfDone (Ok x) (λ reply change. IsUnder o (call_holds im o l t call node) change)) is (under im o l t of));
+  spaced = subst (λ x. IfDone (Ok x) (λ answer change. answer ≢ reply.NoSpace)) is spaced;
+  answered = subst (λ k. IsAnswered seen_alone view call k time r change) one (subst (λ x. IfDone (Ok x) (IsAnswered seen_alone view call node time)) is answered);
+  made = λ im o l t of. subst (λ k. IsMadeIn im o l call k time r change) one (subst (λ x. IfDone (Ok x) (IsMadeIn im o l call node time)) is (made im o l t of));
+}
 
 -- a call that makes a name takes space
 pub makes_takes : (c : Call) → IsMaking c → TakesSpace c

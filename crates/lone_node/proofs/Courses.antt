@@ -3,12 +3,9 @@ use Rattle.std.proofs.Common.{◌≡◌, ℕ, List, [], ◌∷◌, ◌++◌, Opt
 use Rattle.file_tree.specs.declared.call.Call.{Call}
 use Rattle.file_tree.specs.declared.reply.Reply.{Reply}
 use Rattle.shared_disk.specs.Disk.{DiskState}
-use Rattle.script_lang.specs.declared.script.Client.{Client}
-use Rattle.trace_text.specs.declared.item.TraceItem.{TraceItem}
-use Rattle.trace_text.specs.declared.item.TraceItem.TheVariants as trace
 use Rattle.lone_view.specs.Seeing.{Lone}
-use Rattle.lone_node.specs.Course.{AreSteps, IsCourse, IsLaterView, IsStep, Moment, done, spaceless, taken, unmounted}
-use Rattle.lone_node.specs.Items.{AnsweredCall, items_from}
+use Rattle.lone_node.specs.Course.{AreSteps, IsLaterView, IsStep, Moment, done, spaceless}
+use Rattle.lone_node.specs.Items.{AnsweredCall}
 use Rattle.lone_node.specs.Standing.{IsSameSystem}
 use Rattle.lone_node.specs.declared.answering.Full.{Full}
 use Rattle.lone_node.proofs.Leaving.{same_on}
@@ -25,8 +22,3 @@ pub step_as : (first n : Lone) (time : ℕ) (before after : Moment) (call : Call
     → IsStep first time before after call r full
 step_as first n time before after call r full same (done view reply change later by brings) = done view reply change (later_as before.disk first n view same later) by brings
 step_as first n time before after call r full same (spaceless view need free later few still) = spaceless view need free (later_as before.disk first n view same later) few still
-
--- the items of such steps are those of a course
-pub course_of : (n : Lone) (time : ℕ) (clients : List Client) (first last : Moment) (answered : List AnsweredCall) (items : List TraceItem)
-    → items ≡ trace.Join 1 ∷ items_from clients 1 answered → AreSteps n time first answered last → IsCourse n time clients first last items
-course_of n time clients first last answered items are steps = subst (IsCourse n time clients first last) (sym are) (taken answered steps)

@@ -95,10 +95,15 @@ abbrev pub AreSteps : Lone → ℕ → Moment → List AnsweredCall → Moment �
 AreSteps n time first [] last = last ≡ first
 AreSteps n time first (a ∷ later) last = (next : Moment) × IsStep n time first next a.call a.reply a.full × AreSteps n time next later last
 
--- The items are those of a run that came from one moment to the other, and each of its calls is a step: it hasn't joined yet; or it has, and these
--- calls are answered; or it has unmounted besides.
-pub data IsCourse (n : Lone) (time : ℕ) (clients : List Client) (first last : Moment) : List TraceItem → Type 0 where
-  not_joined : last ≡ first → IsCourse n time clients first last []
-  taken : (answered : List AnsweredCall) → AreSteps n time first answered last → IsCourse n time clients first last (trace.Join 1 ∷ items_from clients 1 answered)
-  unmounted : (answered : List AnsweredCall) → AreSteps n time first answered last
-      → IsCourse n time clients first last (trace.Join 1 ∷ items_from clients 1 answered ++ trace.Unmount 1 ∷ [])
+-- node 1 has joined, and each of its calls since then is answered, and is a step
+pub record HasTaken (n : Lone) (time : ℕ) (clients : List Client) (first last : Moment) (items : List TraceItem) : Type 0 where
+  pub answered : List AnsweredCall
+  pub are : items ≡ trace.Join 1 ∷ items_from clients 1 answered
+  pub steps : AreSteps n time first answered last
+
+-- The items are those of a run that came from one moment of the disk to the other: it hasn't joined yet, and the disk is as it was; or it has, and
+-- its calls are the steps; or it has unmounted besides.
+pub data IsCourse (n : Lone) (time : ℕ) (clients : List Client) (first last : Moment) (items : List TraceItem) : Type 0 where
+  not_joined : items ≡ [] → last ≡ first → IsCourse n time clients first last items
+  taken : HasTaken n time clients first last items → IsCourse n time clients first last items
+  unmounted : (before : List TraceItem) → HasTaken n time clients first last before → items ≡ before ++ trace.Unmount 1 ∷ [] → IsCourse n time clients first last items

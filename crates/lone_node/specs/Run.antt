@@ -18,7 +18,7 @@ use Rattle.trace_text.specs.declared.item.TraceItem.TheVariants as trace
 use Rattle.shared_disk.specs.Disk.{DiskState, IsIdle, Operation}
 use Rattle.lone_view.specs.Seeing.{Lone}
 use Rattle.lone_node.specs.Answering.{IsAnsweredFrom, IsFailedAt, IsSameDisk, IsToldFull}
-use Rattle.lone_node.specs.Course.{IsCourse, IsStep, Moment}
+use Rattle.lone_node.specs.Course.{HasTaken, IsStep, Moment}
 use Rattle.lone_node.specs.Items.{AnsweredCall, full_item, is_call_line, items_from, its_answer, its_line, own_script}
 use Rattle.lone_node.specs.Standing.{LeavesStanding, StandsFor}
 use Rattle.lone_node.specs.declared.answering.Full.{Full}
@@ -76,7 +76,7 @@ pub record IsFailedOn (first : Moment) (d' : DiskState) (n : Lone) (time : ℕ) 
   pub before : Moment
   pub same : IsSameDisk first.disk before.disk
   pub idle : IsIdle before.disk
-  pub course : IsCourse n time clients first before items
+  pub course : HasTaken n time clients first before items
   pub kept : HasChangedNothing clients items → before.disk ≡ first.disk
   pub stood : (t : Tree) (s : StandsFor first.disk n t) → LeavesStanding first.disk before.disk n t (tree_of (history_of clients items) t) s
   pub failed : IsFailedAt before.disk d' n time call block

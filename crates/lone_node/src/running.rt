@@ -13,7 +13,7 @@ ghost use Rattle.shared_disk.specs.Disk.{IsIdle};
 ghost use Rattle.file_calls.specs.Calls.{IsBuilt};
 ghost use Rattle.script_lang.specs.OneNode.{IsOneNode, IsOwnLine};
 ghost use Rattle.lone_node.specs.Answering.{IsDamagedOn, IsFailedAt, IsHashedOn, IsSameDisk, IsUnbuiltOn};
-ghost use Rattle.lone_node.specs.Course.{IsCourse, moment};
+ghost use Rattle.lone_node.specs.Course.{HasTaken, IsCourse, moment};
 ghost use Rattle.lone_node.specs.Ends.{HasCause, IfDamaged, IfDiskFailed, IfHashed, IfNotBuilt, UnlessDiskFailed, UnlessFailed};
 ghost use Rattle.lone_node.specs.Items.{full_item};
 ghost use Rattle.lone_node.specs.Run.{EndsAt, EndsAtCall, HasChangedNothing, IsFailedOn, IsRunOf, IsRunUpTo, IsTakenBehind, IsTakenCall, IsWholeRun};
@@ -147,7 +147,7 @@ fn take_lines<D: SharedDisk>(
     requires form { AllByRecursion (IsOwnLine (length clients.now)) lines.now }
     requires joined { items.old.items ≡ TraceItem.Join 1 ∷ [] }
     ensures run { (count : ℕ) × IsRunUpTo clients.now lines.now count items.new.items (StandsFor (D.state disk.old) view.old) }
-    ensures course { UnlessDiskFailed result (IsCourse view.old stamp.now.time clients.now (moment (D.state disk.old) (D.list disk.old)) (moment (D.state disk.new) (D.list disk.new)) items.new.items) }
+    ensures course { UnlessDiskFailed result (HasTaken view.old stamp.now.time clients.now (moment (D.state disk.old) (D.list disk.old)) (moment (D.state disk.new) (D.list disk.new)) items.new.items) }
     ensures whole { OnOk result (IsRunUpTo clients.now lines.now (length lines.now) items.new.items (StandsFor (D.state disk.old) view.old)) }
     ensures stands { UnlessDiskFailed result ((t : Tree) (s : StandsFor (D.state disk.old) view.old t) → LeavesStanding (D.state disk.old) (D.state disk.new) view.old t (tree_of (history_of clients.now items.new.items) t) s) }
     ensures untouched { UnlessDiskFailed result (HasChangedNothing clients.now items.new.items → (D.state disk.new ≡ D.state disk.old) × (D.list disk.new ≡ D.list disk.old)) }

@@ -11,18 +11,15 @@ use Rattle.glock_names.specs.declared.steps.CallFault.{CallFault}
 use Rattle.glock_names.specs.declared.steps.CallFault.TheVariants as fault
 use Rattle.glock_names.specs.Steps.{TellsOf}
 use Rattle.lone_view.specs.Seeing.{Lone, seen_alone}
-use Rattle.path_walks.specs.Holds.{IsUnder}
 use Rattle.making_calls.specs.Making.{IsMaking}
-use Rattle.file_calls.specs.Answers.{IsAnswered, IsMadeIn}
-use Rattle.file_calls.specs.Calls.{IsNeededFor, IsTooFew, call_holds}
+use Rattle.file_calls.specs.Calls.{IsNeededFor, IsTooFew}
 use Rattle.lone_node.specs.Answering.{IsDamagedFor, IsFailedFor, in_a_read, in_a_write, leads_out, source_of}
-use Rattle.lone_node.specs.Course.{IsDoneBy, done, moment, spaceless}
+use Rattle.lone_node.specs.Course.{done, moment, spaceless}
 use Rattle.lone_node.specs.Ends.{IfDamaged, end_at}
 use Rattle.lone_node.specs.Standing.{IsOn, StandsFor, lacked_count}
 use Rattle.lone_node.specs.Writing.{IsWriteOf, MayBeWritten}
-use Rattle.lone_node.proofs.Answered.{answered, answered_full, fetched_on, fewer, makes_takes, of_disk, of_view, on_again, shown_damage, writes_none}
+use Rattle.lone_node.proofs.Answered.{answered, answered_full, fetched_on, fewer, is_done, makes_takes, of_disk, of_view, on_again, shown_damage, writes_none}
 use Rattle.lone_node.proofs.Endings.{damaged_so, failed_and, failed_so}
-use Rattle.lone_node.proofs.answering.try_once.Given.{Over}
 use Rattle.lone_node.proofs.answering.try_once.Goals as goal
 
 pub carry_out-requires-clause-of_disk : goal.carry_out-requires-clause-of_disk
@@ -32,26 +29,10 @@ carry_out-requires-clause-of_disk g c =
     let inside = subst (λ a. IfDone (Ok a) (λ reply change. AreInside v change)) c.in-Ok-Done.field-0-is c.in-Ok-Done.ensures.inside in
     of_disk (g.D.SharedDisk.state c.args.disk.now) c.args.view.now c.in-Ok-Done.change c.requires.on does.form inside
 
--- the call is answered by this change
-is_done : (g : Over) (c : goal.In-Ok-Done g) → IsDoneBy c.args.view.now c.args.stamp.now.time c.args.call.now c.in-Ok-Done.reply c.in-Ok-Done.change
-is_done g c =
-    let v = seen_alone c.args.view.now in
-    let call = c.args.call.now in
-    let time = c.args.stamp.now.time in record {
-      does = subst (λ a. IfDone (Ok a) (Does v call)) c.in-Ok-Done.field-0-is c.in-Ok-Done.ensures.done;
-      inside = subst (λ a. IfDone (Ok a) (λ reply change. AreInside v change)) c.in-Ok-Done.field-0-is c.in-Ok-Done.ensures.inside;
-      under = λ im o l t of. subst (λ k. IsUnder o (call_holds im o l t call k) c.in-Ok-Done.change) c.requires.node
-          (subst (λ a. IfDone (Ok a) (λ reply change. IsUnder o (call_holds im o l t call c.args.stamp.now.node) change)) c.in-Ok-Done.field-0-is (c.in-Ok-Done.ensures.under im o l t of));
-      spaced = subst (λ a. IfDone (Ok a) (λ r change. r ≢ reply.NoSpace)) c.in-Ok-Done.field-0-is c.in-Ok-Done.ensures.spaceless;
-      answered = subst (λ k. IsAnswered seen_alone c.args.view.now call k time c.in-Ok-Done.reply c.in-Ok-Done.change) c.requires.node
-          (subst (λ a. IfDone (Ok a) (IsAnswered seen_alone c.args.view.now call c.args.stamp.now.node time)) c.in-Ok-Done.field-0-is c.in-Ok-Done.ensures.answered);
-      made = λ im o l t of. subst (λ k. IsMadeIn im o l call k time c.in-Ok-Done.reply c.in-Ok-Done.change) c.requires.node
-          (subst (λ a. IfDone (Ok a) (IsMadeIn im o l call c.args.stamp.now.node time)) c.in-Ok-Done.field-0-is (c.in-Ok-Done.ensures.made im o l t of));
-    }
-
 pub returns-in-Ok-clause-step : goal.returns-in-Ok-clause-step
 returns-in-Ok-clause-step g c =
-    done c.args.view.now c.in-Ok-Done.reply c.in-Ok-Done.change (record { same = record { size = refl; root = refl; groups = refl }; on = c.requires.on }) (is_done g c) (record {
+    done c.args.view.now c.in-Ok-Done.reply c.in-Ok-Done.change (record { same = record { size = refl; root = refl; groups = refl }; on = c.requires.on }) (is_done c.args.view.now c.args.stamp.now.node c.args.stamp.now.time c.args.call.now c.in-Ok-Done.field-0 c.in-Ok-Done.reply c.in-Ok-Done.change c.in-Ok-Done.field-0-is c.requires.node
+    c.in-Ok-Done.ensures.done c.in-Ok-Done.ensures.inside c.in-Ok-Done.ensures.under c.in-Ok-Done.ensures.spaceless c.in-Ok-Done.ensures.answered c.in-Ok-Done.ensures.made) (record {
       written = c.in-Ok.ensures.written;
       operations = c.in-Ok.ensures.brought.0;
       brought = c.in-Ok.ensures.brought.1;
@@ -170,7 +151,8 @@ returns-in-Err-carry_out-clause-failed g c =
     let after = g.D.SharedDisk.state c.carry_out.new.disk in
     let change = c.in-Ok-Done.change in
     failed_so c.in-Err-carry_out.end _ (IsFailedFor d after c.args.view.now c.args.stamp.now.time c.args.call.now)
-    (λ block is. in_a_write block c.in-Ok-Done.reply change (is_done g c) is.0 is.1)
+    (λ block is. in_a_write block c.in-Ok-Done.reply change (is_done c.args.view.now c.args.stamp.now.node c.args.stamp.now.time c.args.call.now c.in-Ok-Done.field-0 c.in-Ok-Done.reply c.in-Ok-Done.change c.in-Ok-Done.field-0-is c.requires.node
+    c.in-Ok-Done.ensures.done c.in-Ok-Done.ensures.inside c.in-Ok-Done.ensures.under c.in-Ok-Done.ensures.spaceless c.in-Ok-Done.ensures.answered c.in-Ok-Done.ensures.made) is.0 is.1)
     (failed_and c.in-Err-carry_out.end (IsWriteOf change.blocks.items) (λ block. MayBeWritten 1 d after change.blocks.items) c.in-Err-carry_out.ensures.failed c.in-Err-carry_out.ensures.left)
 
 pub returns-in-Ok-NotBuilt-clause-taken : goal.returns-in-Ok-NotBuilt-clause-taken

@@ -5,9 +5,11 @@ use Rattle.cluster_history.specs.declared.Item.{Item}
 use Rattle.cluster_history.specs.History.{Replied, alive, tree_of}
 use Rattle.run_rules.specs.Follows.{history_of}
 use Rattle.trace_text.specs.declared.item.TraceItem.{TraceItem}
-use Rattle.lone_node.specs.Course.{IsCourse, Moment, moment, not_joined}
+use Rattle.lone_node.specs.Course as ends
+use Rattle.lone_node.specs.Course.{moment, not_joined, taken}
 use Rattle.lone_node.specs.Run.{HasChangedNothing, IsRunOf, Taken}
 use Rattle.lone_node.specs.Standing.{LeavesStanding, StandsFor}
+use Rattle.lone_node.proofs.Endings.{unless_so}
 use Rattle.lone_node.proofs.Leaving.{leaves_none}
 use Rattle.lone_node.proofs.Steps.{unmounted}
 use Rattle.lone_node.proofs.running.run_lines.Goals as goal
@@ -38,19 +40,19 @@ returns-in-Err-put_item-clause-stands g c t s =
     subst (λ (is : List TraceItem). LeavesStanding (g.D.SharedDisk.state c.args.disk.now) (g.D.SharedDisk.state c.take_lines.new.disk) c.args.view.now t (tree_of (history_of c.args.clients.now is) t) s)
     (sym c.in-Err-put_item.ensures.err) (c.in-Ok-take_lines.ensures.stands t s)
 
-abbrev first_of : (g : Over) → goal.After-take_lines g → Moment
-first_of g c = moment (g.D.SharedDisk.state c.args.disk.now) (g.D.SharedDisk.list c.args.disk.now)
-
 pub returns-in-Err-clause-course : goal.returns-in-Err-clause-course
-returns-in-Err-clause-course g c =
-    let here = moment (g.D.SharedDisk.state c.args.disk.now) (g.D.SharedDisk.list c.args.disk.now) in
-    subst (IsCourse c.args.view.now c.args.stamp.now.time c.args.clients.now here here) (sym (c.in-Err.ensures.err ∙ c.requires.none)) (not_joined refl)
+returns-in-Err-clause-course g c = not_joined (c.in-Err.ensures.err ∙ c.requires.none) (λ i. moment (g.D.SharedDisk.state c.args.disk.now) (g.D.SharedDisk.list c.args.disk.now))
 
 pub returns-in-Ok-put_item-clause-course : goal.returns-in-Ok-put_item-clause-course
-returns-in-Ok-put_item-clause-course g c = search rules
+returns-in-Ok-put_item-clause-course g c = ends.unmounted c.take_lines.new.items.items c.in-Ok-take_lines.ensures.course c.in-Ok-put_item.ensures.ok
 
 pub returns-in-Err-put_item-clause-course : goal.returns-in-Err-put_item-clause-course
-returns-in-Err-put_item-clause-course g c = search rules
+returns-in-Err-put_item-clause-course g c =
+    let so = c.in-Ok-take_lines.ensures.course in
+    taken (record { answered = so.answered; are = c.in-Err-put_item.ensures.err ∙ so.are; steps = so.steps })
+
+pub returns-in-Err-take_lines-clause-course : goal.returns-in-Err-take_lines-clause-course
+returns-in-Err-take_lines-clause-course g c = unless_so c.in-Err-take_lines.end taken c.in-Err-take_lines.ensures.course
 
 pub returns-in-Ok-put_item-clause-untouched : goal.returns-in-Ok-put_item-clause-untouched
 returns-in-Ok-put_item-clause-untouched g c nothing =

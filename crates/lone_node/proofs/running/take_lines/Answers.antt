@@ -8,12 +8,11 @@ use Rattle.run_rules.specs.Follows.{history_of}
 use Rattle.shared_disk.specs.Disk.{DiskState}
 use Rattle.trace_text.specs.declared.item.TraceItem.{TraceItem}
 use Rattle.lone_node.specs.Answering.{IsDamagedOn, IsFailedAt, IsHashedOn, IsUnbuiltOn}
-use Rattle.lone_node.specs.Course.{AreSteps, IsCourse, Moment, moment}
+use Rattle.lone_node.specs.Course.{AreSteps, HasTaken, Moment, moment}
 use Rattle.lone_node.specs.Items.{AnsweredCall}
 use Rattle.lone_node.specs.Run.{EndsAt, EndsAtCall, HasChangedNothing, IsFailedOn, IsTakenBehind}
 use Rattle.lone_node.specs.Standing.{LeavesStanding, StandsFor}
 use Rattle.lone_node.proofs.Endings.{damaged_before, damaged_so, damaged_with, failed_before, failed_so, hashed_before, hashed_with, unbuilt_before, unbuilt_so, unbuilt_with, unless_so}
-use Rattle.lone_node.proofs.Courses.{course_of}
 use Rattle.lone_node.proofs.Leaving.{leaves_none, stands_on}
 use Rattle.lone_node.proofs.Steps.{ends_at, goes_on, its_call, no_more_calls, run_none, tree_is, wait_more}
 use Rattle.lone_node.proofs.running.take_lines.Given.{Over}
@@ -114,10 +113,8 @@ module _ (g : Over) (c : goal.In-Err g) where
   before_of = moment (g.D.SharedDisk.state c.loop-place.disk) (g.D.SharedDisk.list c.loop-place.disk)
 
   -- the steps up to it
-  course_before : IsCourse c.args.view.now c.args.stamp.now.time c.args.clients.now first_of before_of c.take_call.new.items.items
-  course_before =
-      course_of c.args.view.now c.args.stamp.now.time c.args.clients.now first_of before_of c.loop-place.invariant.run.answered c.take_call.new.items.items
-      (c.in-Err.ensures.kept ∙ c.loop-place.invariant.run.are) c.loop-place.invariant.steps
+  course_before : HasTaken c.args.view.now c.args.stamp.now.time c.args.clients.now first_of before_of c.take_call.new.items.items
+  course_before = record { answered = c.loop-place.invariant.run.answered; are = c.in-Err.ensures.kept ∙ c.loop-place.invariant.run.are; steps = c.loop-place.invariant.steps }
 
   abbrev start : Tree → Type 0
   start = StandsFor (g.D.SharedDisk.state c.args.disk.now) c.args.view.now
@@ -208,10 +205,8 @@ returns-in-Err-clause-damaged g c =
 pub returns-in-Err-clause-course : goal.returns-in-Err-clause-course
 returns-in-Err-clause-course g c =
     unless_so c.in-Err.end
-    (λ (same : IsStill g c). subst (λ (m : Moment). IsCourse c.args.view.now c.args.stamp.now.time c.args.clients.now (first_of g c) m c.take_call.new.items.items) (λ i. moment (sym same.0 i) (sym same.1 i)) (course_before g c))
+    (λ (same : IsStill g c). subst (λ (m : Moment). HasTaken c.args.view.now c.args.stamp.now.time c.args.clients.now (first_of g c) m c.take_call.new.items.items) (λ i. moment (sym same.0 i) (sym same.1 i)) (course_before g c))
     c.in-Err.ensures.before
 
 pub returns-clause-course : goal.returns-clause-course
-returns-clause-course g c =
-    course_of c.args.view.now c.args.stamp.now.time c.args.clients.now (moment (g.D.SharedDisk.state c.args.disk.now) (g.D.SharedDisk.list c.args.disk.now))
-    (moment (g.D.SharedDisk.state c.loop-place.disk) (g.D.SharedDisk.list c.loop-place.disk)) c.loop-place.invariant.run.answered c.loop-place.items.items c.loop-place.invariant.run.are c.loop-place.invariant.steps
+returns-clause-course g c = record { answered = c.loop-place.invariant.run.answered; are = c.loop-place.invariant.run.are; steps = c.loop-place.invariant.steps }

@@ -1,10 +1,10 @@
-use Rattle.std.proofs.Common.{◌≡◌, ◌≤◌, ◌++◌, List, length, rules, sym, ap, ◌∙◌, subst, arith}
+use Rattle.std.proofs.Common.{◌≡◌, ◌≤◌, ◌++◌, List, [], length, refl, rules, sym, ap, ◌∙◌, subst, arith}
 use Rattle.std.proofs.lemmas.List.{append_assoc, take-append-drop}
 use Rattle.drafts.specs.declared.change.Written.{Written}
-use Rattle.lone_node.specs.Course.{turn, turn_of}
+use Rattle.lone_node.specs.Course.{none, turn, turn_of}
 use Rattle.lone_node.specs.Writing.{AreOfDisk, IsWriteOf, MayBeWritten, RiseFrom}
 use Rattle.lone_node.proofs.Endings.{failed_so}
-use Rattle.lone_node.proofs.Gaining.{gains_join}
+use Rattle.lone_node.proofs.Gaining.{gains_join, gains_none}
 use Rattle.lone_node.proofs.Partly.{front_none, has_some, may_be, of_part}
 use Rattle.lone_node.proofs.Rising.{front}
 use Rattle.lone_node.proofs.Flying.{of_front, of_back, written_more}
@@ -18,6 +18,18 @@ write_some-requires-clause-of_disk g c =
     let parts : c.loop-rest.rest.now ≡ c.split_at.result.0.now ++ c.split_at.result.1.now = sym (take-append-drop _ c.loop-rest.rest.now) ∙ (λ i. sym c.split_at.ensures.front i ++ sym c.split_at.ensures.back i) in
     let behind = of_back d so.done c.loop-rest.rest.now (subst (AreOfDisk d) so.split c.requires.of_disk) in
     of_front d (g.D.SharedDisk.state c.loop-rest.disk) c.split_at.result.0.now c.split_at.result.1.now so.written.size so.written.count (subst (AreOfDisk d) parts behind)
+
+pub loop-rest-init : goal.loop-rest-init
+loop-rest-init g c = record {
+  done = [];
+  split = refl;
+  written = record { size = refl; count = refl; tells = refl; fenced = refl; idle = c.requires.idle.none_in_flight; blocks_are = λ tells b. refl };
+  operations = [];
+  brought = none;
+  gains = gains_none (g.D.SharedDisk.list c.args.disk.now);
+  none = λ is. (refl, refl);
+  later = λ i. omega arith;
+}
 
 pub loop-rest-preserved : goal.loop-rest-preserved
 loop-rest-preserved g c =
