@@ -7,7 +7,7 @@ use Rattle.std.proofs.lemmas.List.Sums.{sum_by-cons}
 use Rattle.image_mount.specs.Mounted.{Journal, MountedValue}
 use Rattle.script_lang.specs.Script.{ScriptValue}
 use Rattle.script_lang.specs.declared.script.Client.{Client}
-use Rattle.lone_node.specs.Run.{AnsweredCall, full_item, items_from, name_at}
+use Rattle.lone_node.specs.Items.{AnsweredCall, full_item, items_from, name_at}
 use Rattle.lone_node.specs.declared.answering.Full.{Full}
 use Rattle.image_model.specs.Image.{Image, image_of}
 use Rattle.file_tree.specs.Tree.{Tree}
@@ -62,7 +62,7 @@ some_items : (clients : List Client) (items : List TraceItem) → IsAnswers clie
 some_items clients items (NoItems none) = inl none
 some_items clients items (Joined calls end is are) = inr (λ none. let both : trace.Join 1 ∷ (items_from clients 1 calls ++ end) ≡ [] = sym are ∙ none in cc)
 
-module _ (given left : Inputs) (s : ScriptValue) (items : List TraceItem) (own told : Status) (runs : Runs given left s items own) (done : told ≡ status.Done → own ≡ status.Done) where
+module _ (given left : Inputs) (s : ScriptValue) (time : ℕ) (items : List TraceItem) (own told : Status) (runs : Runs given left s time items own) (done : told ≡ status.Done → own ≡ status.Done) where
   are : IsAnswers s.clients items
   are = answers_of_run s.clients s.lines items (IsImageOf given.disk) runs.run
 
@@ -90,4 +90,4 @@ counted given left words s items lines own (RefusesWords own' refused untouched)
 counted given left words s items lines own (MakesImage make own' asks makes) told done = NothingRan refl
 counted given left words s items lines own (ShowsImage lines' own' asks script disk shows) told done = NothingRan refl
 counted given left words s items lines own (NoScript own' asks lacks disk faults) told done = NothingRan refl
-counted given left words s items lines own (RunsScript text s' items' own' asks read script built runs) told done = of_run given left s items own told runs done
+counted given left words s items lines own (RunsScript text s' items' own' asks read script built runs) told done = of_run given left s asks.run.time items own told runs done

@@ -14,7 +14,8 @@ use Rattle.script_lang.specs.declared.script.Line.TheVariants as line
 use Rattle.script_lang.specs.Script.{ScriptValue, calls_by}
 use Rattle.run_rules.specs.Follows.{history_of, call_items}
 use Rattle.run_rules.specs.History.{AllAnswered}
-use Rattle.lone_node.specs.Run.{AnsweredCall, full_item, items_from, name_at, IsRunOf, NotJoined, Taken, Unmounted}
+use Rattle.lone_node.specs.Items.{AnsweredCall, full_item, items_from, name_at}
+use Rattle.lone_node.specs.Run.{IsRunOf, NotJoined, Taken, Unmounted}
 use Rattle.lone_node.specs.declared.answering.Full.{Full}
 use Rattle.cluster_program.specs.declared.status.Status.{Status}
 use Rattle.cluster_program.specs.declared.status.Status.TheVariants as status

@@ -21,15 +21,16 @@ use Rattle.image_model.specs.Stands.{IsLaid}
 use Rattle.script_lang.specs.WellFormed.{IsWellFormed}
 use Rattle.lone_view.specs.Seeing.{Lone, seen_alone}
 use Rattle.lone_node.specs.Answering.{IsDamagedOn, IsHashedOn, IsUnbuiltOn, IsSameDisk}
+use Rattle.lone_node.specs.Course.{IsCourse, moment}
 use Rattle.lone_node.specs.Ends.{HasCause, IfDamaged, IfDiskFailed, IfHashed, IfNotBuilt, UnlessDiskFailed, UnlessFailed}
-use Rattle.lone_node.specs.Run.{EndsAt, EndsAtCall, HasChangedNothing, IsCallThat, IsFailedOn, IsRunOf, IsRunUpTo, IsTakenBehind, IsWholeRun, TellFree, NotJoined, Taken, Unmounted}
+use Rattle.lone_node.specs.Run.{EndsAt, EndsAtCall, HasChangedNothing, IsCallThat, IsFailedOn, IsRunOf, IsRunUpTo, IsTakenBehind, IsWholeRun, NotJoined, Taken, Unmounted}
 use Rattle.lone_node.specs.Standing.{StandsFor, LeavesStanding}
 use Rattle.lone_node.specs.declared.ends.RunEnd.{RunEnd}
 use Rattle.lone_node.specs.declared.ends.RunEnd.TheVariants as end
 use Rattle.damage_laws.specs.Telling.{CallsTellExactly, NeedsTell, MountedAreRead, HasRootInside}
 use Rattle.cluster_program.specs.Early.{status_of_end}
 use Rattle.cluster_program.specs.Mounting.{OfImage, IsImageOf, IsMountedFor, MountEnds}
-use Rattle.cluster_program.specs.Runs.{Runs, RunEnds, IsDone, NotMounted, CallFailed, CallHashed, CallUnbuilt, CallDamaged, NoRoom, UnlessFault, AreCleanAtEnd, as_mounted, first_line}
+use Rattle.cluster_program.specs.Runs.{Runs, RunEnds, IsDone, NotMounted, CallFailed, CallHashed, CallUnbuilt, CallDamaged, NoRoom, UnlessFault, AreCleanAtEnd, HasCourse, as_mounted, first_line}
 use Rattle.cluster_program.specs.World.{Inputs, KeepsDisk}
 use Rattle.cluster_program.specs.declared.status.Status.{Status}
 use Rattle.cluster_program.specs.declared.status.Status.TheVariants as status
@@ -93,7 +94,7 @@ by_call (line.Join node) f holds = absurd holds
 
 -- ---- what one node's run is known to be
 
-pub record HasRun (d d' : DiskState) (list list' : Option (List Operation)) (n : Lone) (before now : ℕ → ℕ) (s : ScriptValue) (items : List TraceItem) (r : Result (Unit {0}) RunEnd) : Type 0 where
+pub record HasRun (d d' : DiskState) (list list' : Option (List Operation)) (n : Lone) (before now : ℕ → ℕ) (s : ScriptValue) (time : ℕ) (items : List TraceItem) (r : Result (Unit {0}) RunEnd) : Type 0 where
   pub history : HoldsHistory s items
   pub legal : (t : Tree) → StandsFor d n t → Legal (history_of s.clients items) t
   pub untouched : UnlessDiskFailed r (HasChangedNothing s.clients items → (d' ≡ d) × (list' ≡ list))
@@ -101,7 +102,7 @@ pub record HasRun (d d' : DiskState) (list list' : Option (List Operation)) (n :
   pub idle : UnlessDiskFailed r (IsIdle d')
   pub stands : UnlessDiskFailed r ((t : Tree) (at : StandsFor d n t) → LeavesStanding d d' n t (tree_of (history_of s.clients items) t) at)
   pub run : IsRunOf s.clients s.lines items (StandsFor d n)
-  pub free : (t : Tree) (at : StandsFor d n t) → TellFree d n t at items
+  pub course : UnlessDiskFailed r (IsCourse n time s.clients (moment d list) (moment d' list') items)
   pub whole : OnOk r (IsWholeRun s.clients s.lines items (StandsFor d n))
   pub members : NoneStopped items
   pub none_lost : NoneLost (history_of s.clients items)
@@ -111,7 +112,7 @@ pub record HasRun (d d' : DiskState) (list list' : Option (List Operation)) (n :
   pub hashed : IfErr r (λ e. IfHashed e (λ b. EndsAtCall (λ call. IsHashedOn d' n call b) s.clients s.lines items (StandsFor d n)))
   pub unbuilt : IfErr r (λ e. IfNotBuilt e (λ place. EndsAt place (λ call. IsUnbuiltOn d' n call) s.clients s.lines items (StandsFor d n)))
   pub taken : IfErr r (λ e. IfNotBuilt e (λ place. EndsAt place (IsTakenBehind s.clients items (StandsFor d n)) s.clients s.lines items (StandsFor d n)))
-  pub failed : IfErr r (λ e. IfDiskFailed e (λ block. EndsAtCall (λ call. IsFailedOn d d' n s.clients items call block) s.clients s.lines items (StandsFor d n)))
+  pub failed : IfErr r (λ e. IfDiskFailed e (λ block. EndsAtCall (λ call. IsFailedOn (moment d list) d' n time s.clients items call block) s.clients s.lines items (StandsFor d n)))
   pub cause : IfErr r (HasCause 1 d.count before now)
 
 -- ---- the ends
@@ -138,7 +139,7 @@ anyway (status.Stuck waits) p = p
 anyway (status.TooSmall needed found) p = p
 anyway (status.NotBuilt part) p = p
 
-module _ (given left : Inputs) (m : MountedValue) (s : ScriptValue) (items : List TraceItem) (before : ℕ → ℕ) (law : StandsAsMounted) (for : IsMountedFor given.disk m) (earlier : (j : ℕ) → given.disk_faults j ≤ before j) where
+module _ (given left : Inputs) (m : MountedValue) (s : ScriptValue) (time : ℕ) (items : List TraceItem) (before : ℕ → ℕ) (law : StandsAsMounted) (for : IsMountedFor given.disk m) (earlier : (j : ℕ) → given.disk_faults j ≤ before j) where
   abbrev n : Lone
   n = as_mounted given.disk m
 
@@ -147,7 +148,7 @@ module _ (given left : Inputs) (m : MountedValue) (s : ScriptValue) (items : Lis
 
   -- an end in a call
   module _ (calls : CallsTellExactly) (needs : NeedsTell) (read : MountedAreRead) (inside : HasRootInside (seen_alone n)) where
-    call_end : (e : RunEnd) → UnlessFailed e (OfImage left.disk IsImage) → HasRun given.disk left.disk given.disk_list left.disk_list n before left.disk_faults s items (Err e) → RunEnds given left s items (status_of_end (first_line s) e)
+    call_end : (e : RunEnd) → UnlessFailed e (OfImage left.disk IsImage) → HasRun given.disk left.disk given.disk_list left.disk_list n before left.disk_faults s time items (Err e) → RunEnds given left s time items (status_of_end (first_line s) e)
     call_end (end.DiskFailed block rise) image r =
         CallFailed m block rise.before rise.after for (longer (given.disk_faults 1) (before 1) (left.disk_faults 1) rise.before rise.after (earlier 1) r.cause.0) r.cause.1
         (call_from s.clients s.lines items (StandsFor given.disk n) (IsImageOf given.disk) from (λ call holds. holds) r.failed)
@@ -166,6 +167,9 @@ module _ (given left : Inputs) (m : MountedValue) (s : ScriptValue) (items : Lis
     left_tree : ((t : Tree) (at : StandsFor given.disk n t) → LeavesStanding given.disk left.disk n t (tree_of (history_of s.clients items) t) at)
         → (t : Tree) → IsImageOf given.disk t → IsImageOf left.disk (tree_of (history_of s.clients items) t)
     left_tree leaves t is = image_of_tree left.disk n (tree_of (history_of s.clients items) t) (leaves t (from t is)).now
+
+    left_course : IsCourse n time s.clients (moment given.disk given.disk_list) (moment left.disk left.disk_list) items → items ≢ [] → HasCourse given left s time items
+    left_course course some = record { value = m; mounted = for; course = course }
 
     left_same : (HasChangedNothing s.clients items → (left.disk ≡ given.disk) × (left.disk_list ≡ given.disk_list))
         → HasChangedNothing s.clients items → KeepsDisk given left
@@ -188,7 +192,7 @@ module _ (given left : Inputs) (m : MountedValue) (s : ScriptValue) (items : Lis
         laid : IsLaid (image_of left.disk) now.now.owners at.layout
         laid = subst (IsLaid (image_of left.disk) now.now.owners) now.layout now.now.stands.laid
 
-    pub done : HasRun given.disk left.disk given.disk_list left.disk_list n before left.disk_faults s items (Ok tt) → Runs given left s items status.Done
+    pub done : HasRun given.disk left.disk given.disk_list left.disk_list n before left.disk_faults s time items (Ok tt) → Runs given left s time items status.Done
     done r = record {
       run = run_from s.clients s.lines items (StandsFor given.disk n) (IsImageOf given.disk) from r.run;
       history = r.history;
@@ -196,7 +200,7 @@ module _ (given left : Inputs) (m : MountedValue) (s : ScriptValue) (items : Lis
       none_lost = r.none_lost;
       legal = λ tree is. r.legal tree (from tree is);
       stands = left_tree r.stands;
-      free = λ some tree is. record { value = m; mounted = for.mounted is.tells; start = from tree is; free = r.free tree (from tree is) };
+      course = left_course r.course;
       untouched = left_same r.untouched;
       same = r.same;
       idle = r.idle;
@@ -205,7 +209,7 @@ module _ (given left : Inputs) (m : MountedValue) (s : ScriptValue) (items : Lis
       ends = IsDone r.answered (whole_from s.clients s.lines items (StandsFor given.disk n) (IsImageOf given.disk) from r.whole);
     }
 
-    pub ended : (e : RunEnd) → UnlessFailed e (OfImage left.disk IsImage) → HasRun given.disk left.disk given.disk_list left.disk_list n before left.disk_faults s items (Err e) → Runs given left s items (status_of_end (first_line s) e)
+    pub ended : (e : RunEnd) → UnlessFailed e (OfImage left.disk IsImage) → HasRun given.disk left.disk given.disk_list left.disk_list n before left.disk_faults s time items (Err e) → Runs given left s time items (status_of_end (first_line s) e)
     ended e image r = record {
       run = run_from s.clients s.lines items (StandsFor given.disk n) (IsImageOf given.disk) from r.run;
       history = r.history;
@@ -213,7 +217,7 @@ module _ (given left : Inputs) (m : MountedValue) (s : ScriptValue) (items : Lis
       none_lost = r.none_lost;
       legal = λ tree is. r.legal tree (from tree is);
       stands = unless (first_line s) e left_tree r.stands;
-      free = λ some tree is. record { value = m; mounted = for.mounted is.tells; start = from tree is; free = r.free tree (from tree is) };
+      course = unless (first_line s) e left_course r.course;
       untouched = unless (first_line s) e left_same r.untouched;
       same = unless (first_line s) e (λ same. same) r.same;
       idle = unless (first_line s) e (λ idle. idle) r.idle;
@@ -224,11 +228,11 @@ module _ (given left : Inputs) (m : MountedValue) (s : ScriptValue) (items : Lis
 
 -- ---- the same of a disk that is known to be the one that was given
 
-pub has_run : (d mid d' : DiskState) (list list_mid list' : Option (List Operation)) (m : MountedValue) (n : Lone) (before now : ℕ → ℕ) (s : ScriptValue) (items : List TraceItem) (r : Result (Unit {0}) RunEnd) → mid ≡ d → list_mid ≡ list → n ≡ as_mounted mid m
-    → HasRun mid d' list_mid list' n before now s items r → HasRun d d' list list' (as_mounted d m) before now s items r
-has_run d mid d' list list_mid list' m n before now s items r same same_list is run =
-    subst (λ (l : Option (List Operation)). HasRun d d' l list' (as_mounted d m) before now s items r) same_list
-    (subst (λ (x : DiskState). HasRun x d' list_mid list' (as_mounted x m) before now s items r) same (subst (λ (v : Lone). HasRun mid d' list_mid list' v before now s items r) is run))
+pub has_run : (d mid d' : DiskState) (list list_mid list' : Option (List Operation)) (m : MountedValue) (n : Lone) (before now : ℕ → ℕ) (s : ScriptValue) (time : ℕ) (items : List TraceItem) (r : Result (Unit {0}) RunEnd) → mid ≡ d → list_mid ≡ list → n ≡ as_mounted mid m
+    → HasRun mid d' list_mid list' n before now s time items r → HasRun d d' list list' (as_mounted d m) before now s time items r
+has_run d mid d' list list_mid list' m n before now s time items r same same_list is run =
+    subst (λ (l : Option (List Operation)). HasRun d d' l list' (as_mounted d m) before now s time items r) same_list
+    (subst (λ (x : DiskState). HasRun x d' list_mid list' (as_mounted x m) before now s time items r) same (subst (λ (v : Lone). HasRun mid d' list_mid list' v before now s time items r) is run))
 
 pub whole_blocks : (e : RunEnd) (mid d' : DiskState) → IsSound d' → IsBlockSize mid.size → UnlessFailed e (IsSameDisk mid d') → UnlessFailed e (OfImage d' IsImage)
 whole_blocks (end.DiskFailed block rise) mid d' sound four same = tt
@@ -248,16 +252,16 @@ small_number end.NoMemory s items P start well at = tt
 
 -- ---- a run that didn't begin
 
-pub not_begun : (given left : Inputs) (s : ScriptValue) (items : List TraceItem) (own : Status) → IsIdle given.disk → items ≡ [] → KeepsDisk given left → MountEnds given.disk given.disk_faults left.disk_faults own
-    → Runs given left s items own
-not_begun given left s items own idle none same ends = record {
+pub not_begun : (given left : Inputs) (s : ScriptValue) (time : ℕ) (items : List TraceItem) (own : Status) → IsIdle given.disk → items ≡ [] → KeepsDisk given left → MountEnds given.disk given.disk_faults left.disk_faults own
+    → Runs given left s time items own
+not_begun given left s time items own idle none same ends = record {
   run = NotJoined none;
   history = subst (HoldsHistory s) (sym none) (nothing_follows s);
   members = subst NoneStopped (sym none) tt;
   none_lost = subst (λ is. NoneLost (history_of s.clients is)) (sym none) none_is_lost;
   legal = λ tree is. subst (λ is. Legal (history_of s.clients is) tree) (sym none) (nothing_is_legal tree);
   stands = anyway own (λ tree is. subst (λ d. IsImageOf d (tree_of (history_of s.clients items) tree)) (sym same.state_is) (subst (λ is. IsImageOf given.disk (tree_of (history_of s.clients is) tree)) (sym none) is));
-  free = λ some. absurd (some none);
+  course = anyway own (λ some. absurd (some none));
   untouched = anyway own (λ all. same);
   same = anyway own (subst (λ d. IsSameDisk given.disk d) (sym same.state_is) (record { size = refl; count = refl; tells = refl; fenced = refl }));
   idle = anyway own (subst IsIdle (sym same.state_is) idle);
@@ -278,11 +282,11 @@ never_done first (end.Hashed block) is = cc
 never_done first (end.NotBuilt place) is = cc
 never_done first end.NoMemory is = cc
 
-pub no_run_fault : (given left : Inputs) (s : ScriptValue) (items : List TraceItem) (own : Status) → RunEnds given left s items own → IsSinkFault own → ⊥
-no_run_fault given left s items own (IsDone all whole) never = never
-no_run_fault given left s items own (NotMounted own' none same ends) never = no_mount_fault given.disk given.disk_faults left.disk_faults own ends never
-no_run_fault given left s items own (CallFailed m block x y for up within at) never = never
-no_run_fault given left s items own (CallHashed m block for at) never = never
-no_run_fault given left s items own (CallUnbuilt m place for at taken) never = never
-no_run_fault given left s items own (CallDamaged m block rule for none at told) never = never
-no_run_fault given left s items own NoRoom never = never
+pub no_run_fault : (given left : Inputs) (s : ScriptValue) (time : ℕ) (items : List TraceItem) (own : Status) → RunEnds given left s time items own → IsSinkFault own → ⊥
+no_run_fault given left s time items own (IsDone all whole) never = never
+no_run_fault given left s time items own (NotMounted own' none same ends) never = no_mount_fault given.disk given.disk_faults left.disk_faults own ends never
+no_run_fault given left s time items own (CallFailed m block x y for up within at) never = never
+no_run_fault given left s time items own (CallHashed m block for at) never = never
+no_run_fault given left s time items own (CallUnbuilt m place for at taken) never = never
+no_run_fault given left s time items own (CallDamaged m block rule for none at told) never = never
+no_run_fault given left s time items own NoRoom never = never

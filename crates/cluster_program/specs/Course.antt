@@ -140,5 +140,5 @@ pub data Course (words : List (List ℕ)) (before now : Inputs) : ScriptValue �
       → Shows before.disk before.disk_faults now.disk_faults lines own → Course words before now nothing [] lines own
   NoScript : (own : Status) → AsksToRun before.disk.size words → LacksScript before.left now.left before.script_faults now.script_faults own
       → KeepsDisk before now → now.disk_faults ≡ before.disk_faults → Course words before now nothing [] [] own
-  RunsScript : (text : List ℕ) (s : ScriptValue) (items : List TraceItem) (own : Status) → AsksToRun before.disk.size words
-      → HasRead before.left now.left text → script_read text ≡ Script s → first_foreign s ≡ None → Runs before now s items own → Course words before now s items [] own
+  RunsScript : (text : List ℕ) (s : ScriptValue) (items : List TraceItem) (own : Status) → (asks : AsksToRun before.disk.size words)
+      → HasRead before.left now.left text → script_read text ≡ Script s → first_foreign s ≡ None → Runs before now s asks.run.time items own → Course words before now s items [] own

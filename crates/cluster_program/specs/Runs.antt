@@ -15,8 +15,8 @@ use Rattle.run_rules.specs.History.{HoldsHistory, NoneStopped, AllAnswered}
 use Rattle.shared_disk.specs.Disk.{DiskState, IsIdle}
 use Rattle.lone_view.specs.Seeing.{Lone}
 use Rattle.lone_node.specs.Answering.{IsDamagedOn, IsHashedOn, IsSameDisk, IsUnbuiltOn}
-use Rattle.lone_node.specs.Run.{EndsAt, EndsAtCall, HasChangedNothing, IsFailedOn, IsRunOf, IsTakenBehind, IsWholeRun, TellFree}
-use Rattle.lone_node.specs.Standing.{StandsFor}
+use Rattle.lone_node.specs.Course.{IsCourse, moment}
+use Rattle.lone_node.specs.Run.{EndsAt, EndsAtCall, HasChangedNothing, IsFailedOn, IsRunOf, IsTakenBehind, IsWholeRun}
 use Rattle.cluster_program.specs.Mounting.{OfImage, IsImageOf, NeverStands, IsMountedClean, IsMountedFor, MountEnds, is_clean_in}
 use Rattle.cluster_program.specs.World.{Inputs, KeepsDisk}
 use Rattle.cluster_program.specs.declared.status.Status.{Status}
@@ -43,25 +43,24 @@ first_line s = 2 + length s.clients + length s.armed
 -- behind the lines above it: the disk failed as its blocks were read or written; a directory is met that is a hashed one, which
 -- isn't read yet; the call would be taken, and isn't built; or a block is met that breaks a rule of the image as it then was, if that still has
 -- what was mounted of it; or there was no memory.
-pub data RunEnds (given left : Inputs) (s : ScriptValue) (items : List TraceItem) : Status → Type 0 where
-  IsDone : AllAnswered items s → IsWholeRun s.clients s.lines items (IsImageOf given.disk) → RunEnds given left s items status.Done
-  NotMounted : (own : Status) → items ≡ [] → KeepsDisk given left → MountEnds given.disk given.disk_faults left.disk_faults own → RunEnds given left s items own
+pub data RunEnds (given left : Inputs) (s : ScriptValue) (time : ℕ) (items : List TraceItem) : Status → Type 0 where
+  IsDone : AllAnswered items s → IsWholeRun s.clients s.lines items (IsImageOf given.disk) → RunEnds given left s time items status.Done
+  NotMounted : (own : Status) → items ≡ [] → KeepsDisk given left → MountEnds given.disk given.disk_faults left.disk_faults own → RunEnds given left s time items own
   CallFailed : (m : MountedValue) (block : Option ℕ) (x y : ℕ) → IsMountedFor given.disk m → WentUp (given.disk_faults 1) (left.disk_faults 1) x y → IfSome block (λ b. b < given.disk.count)
-      → AtCall given s items (λ call. IsFailedOn given.disk left.disk (as_mounted given.disk m) s.clients items call block) → RunEnds given left s items (status.DeviceFault 1 block x y)
+      → AtCall given s items (λ call. IsFailedOn (moment given.disk given.disk_list) left.disk (as_mounted given.disk m) time s.clients items call block) → RunEnds given left s time items (status.DeviceFault 1 block x y)
   CallHashed : (m : MountedValue) (block : ℕ) → IsMountedFor given.disk m → AtCall given s items (λ call. IsHashedOn left.disk (as_mounted given.disk m) call block)
-      → RunEnds given left s items (status.NotBuilt (part.Block block))
+      → RunEnds given left s time items (status.NotBuilt (part.Block block))
   CallUnbuilt : (m : MountedValue) (place : ℕ) → IsMountedFor given.disk m → AtPlace given s items place (λ call. IsUnbuiltOn left.disk (as_mounted given.disk m) call)
-      → AtPlace given s items place (IsTakenBehind s.clients items (IsImageOf given.disk)) → RunEnds given left s items (status.NotBuilt (part.Script (first_line s + place)))
+      → AtPlace given s items place (IsTakenBehind s.clients items (IsImageOf given.disk)) → RunEnds given left s time items (status.NotBuilt (part.Script (first_line s + place)))
   CallDamaged : (m : MountedValue) (block rule : ℕ) → IsMountedFor given.disk m → OfImage given.disk NeverStands → AtCall given s items (λ call. IsDamagedOn left.disk (as_mounted given.disk m) call block rule)
-      → OfImage left.disk (λ im. IsMounted im m → IsBrokenBlock im rule block) → RunEnds given left s items (status.Damaged block rule)
-  NoRoom : RunEnds given left s items status.NoMemory
+      → OfImage left.disk (λ im. IsMounted im m → IsBrokenBlock im rule block) → RunEnds given left s time items (status.Damaged block rule)
+  NoRoom : RunEnds given left s time items status.NoMemory
 
--- item by item, the numbers of free blocks are those of the image as it then was
-pub record TellsFree (disk : DiskState) (items : List TraceItem) (tree : Tree) : Type 0 where
+-- This was mounted, and the items are the course of a run from what was given to what is left: each of its calls is a step, at this time.
+pub record HasCourse (given left : Inputs) (s : ScriptValue) (time : ℕ) (items : List TraceItem) : Type 0 where
   pub value : MountedValue
-  pub mounted : IsMounted (image_of disk) value
-  pub start : StandsFor disk (as_mounted disk value) tree
-  pub free : TellFree disk (as_mounted disk value) tree start items
+  pub mounted : IsMountedFor given.disk value
+  pub course : IsCourse (as_mounted given.disk value) time s.clients (moment given.disk given.disk_list) (moment left.disk left.disk_list) items
 
 -- the journals that were mounted are clean in the image as it was left
 pub record AreCleanAtEnd (given left : DiskState) : Type 0 where
@@ -74,7 +73,8 @@ abbrev pub UnlessFault : Status → Type 0 → Type 0
 UnlessFault (status.DeviceFault node block x y) P = ⊤
 UnlessFault own P = P
 
-pub record Runs (given left : Inputs) (s : ScriptValue) (items : List TraceItem) (own : Status) : Type 0 where
+-- a run of the script, with this time of its changes, in seconds
+pub record Runs (given left : Inputs) (s : ScriptValue) (time : ℕ) (items : List TraceItem) (own : Status) : Type 0 where
   -- on every disk, also one that tells nothing: node 1 joins, takes the lines one by one, and unmounts
   pub run : IsRunOf s.clients s.lines items (IsImageOf given.disk)
   -- so the items follow the script and hold one history, no node stops, and nothing is lost
@@ -84,8 +84,9 @@ pub record Runs (given left : Inputs) (s : ScriptValue) (items : List TraceItem)
   -- where the image stands for a tree: every reply is that of this tree, which takes the calls one by one, and the image stands for what they leave
   pub legal : (tree : Tree) → IsImageOf given.disk tree → Legal (history_of s.clients items) tree
   pub stands : UnlessFault own ((tree : Tree) → IsImageOf given.disk tree → IsImageOf left.disk (tree_of (history_of s.clients items) tree))
-  -- each item of free blocks tells how many the call takes, and how many are free in the image then
-  pub free : items ≢ [] → (tree : Tree) → IsImageOf given.disk tree → TellsFree given.disk items tree
+  -- call by call: each is answered from what was read of the disk as it then was, puts on it what its change writes, and nothing else; where too few
+  -- blocks were free for it, an item tells how many it takes and how many there were
+  pub course : UnlessFault own (items ≢ [] → HasCourse given left s time items)
   -- where no answered call changes anything, nothing was written
   pub untouched : UnlessFault own (HasChangedNothing s.clients items → KeepsDisk given left)
   -- it is the same disk, with nothing in flight
@@ -94,4 +95,4 @@ pub record Runs (given left : Inputs) (s : ScriptValue) (items : List TraceItem)
   -- no item stands before the image was mounted and each of its journals was found clean; where it stands for a tree, they are clean yet
   pub mounted : items ≢ [] → OfImage given.disk IsMountedClean
   pub clean : UnlessFault own (items ≢ [] → (tree : Tree) → IsImageOf given.disk tree → AreCleanAtEnd given.disk left.disk)
-  pub ends : RunEnds given left s items own
+  pub ends : RunEnds given left s time items own

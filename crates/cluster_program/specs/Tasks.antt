@@ -18,4 +18,4 @@ IsTaskOf c (task.Run time) = (run : RunWords) × (c ≡ command.Run run) × (tim
 abbrev pub Asks : ℕ → List (List ℕ) → Task → Type 0
 Asks block_size words (task.Make make) = AsksToMake block_size words make × IsMakeWithin make
 Asks block_size words task.Show = AsksToShow block_size words
-Asks block_size words (task.Run time) = AsksToRun block_size words
+Asks block_size words (task.Run time) = (asks : AsksToRun block_size words) × (time ≡ asks.run.time)

@@ -43,7 +43,7 @@ pub(crate) fn mount_and_run<D: SharedDisk>(
     requires well { IsWellFormed script.now }
     requires none { items.old.items ≡ [] }
     ensures runs { (left left_now : Option (List ℕ)) (failed failed_now : ℕ) → Runs (inputs (D.state disk.old) (D.list disk.old) (D.faults disk.old) left failed)
-        (inputs (D.state disk.new) (D.list disk.new) (D.faults disk.new) left_now failed_now) script.now items.new.items result }
+        (inputs (D.state disk.new) (D.list disk.new) (D.faults disk.new) left_now failed_now) script.now time items.new.items result }
     ensures quiet { (told : Status) → (told ≡ Status.Done → result ≡ Status.Done) → IsQuiet script.now items.new.items told }
     ensures later { (i : ℕ) → D.faults disk.old i ≤ D.faults disk.new i }
 {

@@ -94,7 +94,7 @@ fn read_and_run<D: SharedDisk, S: Source>(
     requires size { IsBlockSize (D.state disk.old).size }
     requires idle { IsIdle (D.state disk.old) }
     requires none { items.old.items ≡ [] }
-    ensures course { (words : List (List ℕ)) → AsksToRun (D.state disk.old).size words → Course words
+    ensures course { (words : List (List ℕ)) → (asks : AsksToRun (D.state disk.old).size words) → time ≡ asks.run.time → Course words
         (inputs (D.state disk.old) (D.list disk.old) (D.faults disk.old) (S.left source.old) (S.faults source.old))
         (inputs (D.state disk.new) (D.list disk.new) (D.faults disk.new) (S.left source.new) (S.faults source.new))
         result.script items.new.items result.lines.items result.own }

@@ -22,7 +22,7 @@ use Rattle.cluster_program.proofs.run.mount_and_run.Goals as goal
 
 pub returns-in-Err-clause-runs : goal.returns-in-Err-clause-runs
 returns-in-Err-clause-runs g c left left_now failed failed_now =
-    not_begun _ _ c.args.script.now c.args.items.now.items c.in-Err.own c.requires.idle c.requires.none (record { state_is = c.in-Err.ensures.reads.same; list_is = c.in-Err.ensures.reads.list }) c.in-Err.ensures.ends
+    not_begun _ _ c.args.script.now c.args.time c.args.items.now.items c.in-Err.own c.requires.idle c.requires.none (record { state_is = c.in-Err.ensures.reads.same; list_is = c.in-Err.ensures.reads.list }) c.in-Err.ensures.ends
 
 pub returns-in-Err-clause-quiet : goal.returns-in-Err-clause-quiet
 returns-in-Err-clause-quiet g c told is_done =
@@ -36,7 +36,7 @@ module _ (g : Over) (c : goal.In-Err-view_of g) where
 
 pub returns-in-Err-view_of-clause-runs : goal.returns-in-Err-view_of-clause-runs
 returns-in-Err-view_of-clause-runs g c left left_now failed failed_now =
-    not_begun _ _ c.args.script.now c.args.items.now.items c.in-Err-view_of.own c.requires.idle c.requires.none (record { state_is = c.in-Ok.ensures.reads.same; list_is = c.in-Ok.ensures.reads.list }) (ends g c)
+    not_begun _ _ c.args.script.now c.args.time c.args.items.now.items c.in-Err-view_of.own c.requires.idle c.requires.none (record { state_is = c.in-Ok.ensures.reads.same; list_is = c.in-Ok.ensures.reads.list }) (ends g c)
 
 pub returns-in-Err-view_of-clause-quiet : goal.returns-in-Err-view_of-clause-quiet
 returns-in-Err-view_of-clause-quiet g c told is_done =
@@ -46,14 +46,14 @@ returns-in-Err-view_of-clause-quiet g c told is_done =
 
 module _ (g : Over) (c : goal.After-drop-view-inside-in-Ok-run_script g) (left left_now : Option (List ℕ)) (failed failed_now : ℕ) where
   ran : HasRun (g.D.SharedDisk.state c.mount_clean.new.disk) (g.D.SharedDisk.state c.run_script.new.disk) (g.D.SharedDisk.list c.mount_clean.new.disk) (g.D.SharedDisk.list c.run_script.new.disk) c.in-Ok-view_of.view
-      (g.D.SharedDisk.faults c.mount_clean.new.disk) (g.D.SharedDisk.faults c.run_script.new.disk) c.args.script.now c.run_script.new.items.items (Ok tt)
+      (g.D.SharedDisk.faults c.mount_clean.new.disk) (g.D.SharedDisk.faults c.run_script.new.disk) c.args.script.now c.args.time c.run_script.new.items.items (Ok tt)
   ran = record {
     history = c.run_script.ensures.history;
     legal = c.run_script.ensures.legal;
     run = c.run_script.ensures.run;
-    free = c.run_script.ensures.free;
     members = c.run_script.ensures.members;
     none_lost = c.run_script.ensures.none_lost;
+    course = c.in-Ok-run_script.ensures.course;
     untouched = c.in-Ok-run_script.ensures.untouched;
     stands = c.in-Ok-run_script.ensures.stands;
     whole = c.in-Ok-run_script.ensures.whole;
@@ -75,24 +75,24 @@ module _ (g : Over) (c : goal.After-drop-view-inside-in-Ok-run_script g) (left l
       (subst (λ (v : Lone). HasRootInside (seen_alone v)) c.in-Ok-view_of.ensures.is c.in-Ok-view_of.ensures.root)
 
   runs : Runs (inputs (g.D.SharedDisk.state c.args.disk.now) (g.D.SharedDisk.list c.args.disk.now) (g.D.SharedDisk.faults c.args.disk.now) left failed)
-      (inputs (g.D.SharedDisk.state c.run_script.new.disk) (g.D.SharedDisk.list c.run_script.new.disk) (g.D.SharedDisk.faults c.run_script.new.disk) left_now failed_now) c.args.script.now c.run_script.new.items.items status.Done
+      (inputs (g.D.SharedDisk.state c.run_script.new.disk) (g.D.SharedDisk.list c.run_script.new.disk) (g.D.SharedDisk.faults c.run_script.new.disk) left_now failed_now) c.args.script.now c.args.time c.run_script.new.items.items status.Done
   runs =
-      done _ _ c.in-Ok.mounted c.args.script.now c.run_script.new.items.items (g.D.SharedDisk.faults c.mount_clean.new.disk) c.mounted_images_stand_as_mounted.ensures c.in-Ok.ensures.mounted c.in-Ok.ensures.reads.later
+      done _ _ c.in-Ok.mounted c.args.script.now c.args.time c.run_script.new.items.items (g.D.SharedDisk.faults c.mount_clean.new.disk) c.mounted_images_stand_as_mounted.ensures c.in-Ok.ensures.mounted c.in-Ok.ensures.reads.later
       c.calls_tell_broken_blocks.ensures.exact c.needs_out_of_the_device_tell_broken_blocks.ensures c.views_may_be_read_from_mounted_images.ensures inside
-      (has_run _ (g.D.SharedDisk.state c.mount_clean.new.disk) _ _ (g.D.SharedDisk.list c.mount_clean.new.disk) _ c.in-Ok.mounted c.in-Ok-view_of.view _ _ c.args.script.now c.run_script.new.items.items _ c.in-Ok.ensures.reads.same c.in-Ok.ensures.reads.list c.in-Ok-view_of.ensures.is ran)
+      (has_run _ (g.D.SharedDisk.state c.mount_clean.new.disk) _ _ (g.D.SharedDisk.list c.mount_clean.new.disk) _ c.in-Ok.mounted c.in-Ok-view_of.view _ _ c.args.script.now c.args.time c.run_script.new.items.items _ c.in-Ok.ensures.reads.same c.in-Ok.ensures.reads.list c.in-Ok-view_of.ensures.is ran)
 
 -- ---- the run ended early
 
 module _ (g : Over) (c : goal.After-drop-view-inside-3 g) (left left_now : Option (List ℕ)) (failed failed_now : ℕ) where
   early_ran : HasRun (g.D.SharedDisk.state c.mount_clean.new.disk) (g.D.SharedDisk.state c.run_script.new.disk) (g.D.SharedDisk.list c.mount_clean.new.disk) (g.D.SharedDisk.list c.run_script.new.disk) c.in-Ok-view_of.view
-      (g.D.SharedDisk.faults c.mount_clean.new.disk) (g.D.SharedDisk.faults c.run_script.new.disk) c.args.script.now c.run_script.new.items.items (Err c.in-Err-run_script.end)
+      (g.D.SharedDisk.faults c.mount_clean.new.disk) (g.D.SharedDisk.faults c.run_script.new.disk) c.args.script.now c.args.time c.run_script.new.items.items (Err c.in-Err-run_script.end)
   early_ran = record {
     history = c.run_script.ensures.history;
     legal = c.run_script.ensures.legal;
     run = c.run_script.ensures.run;
-    free = c.run_script.ensures.free;
     members = c.run_script.ensures.members;
     none_lost = c.run_script.ensures.none_lost;
+    course = c.in-Err-run_script.ensures.course;
     untouched = c.in-Err-run_script.ensures.untouched;
     stands = c.in-Err-run_script.ensures.stands;
     whole = c.in-Err-run_script.ensures.whole;
@@ -114,12 +114,12 @@ module _ (g : Over) (c : goal.After-drop-view-inside-3 g) (left left_now : Optio
       (subst (λ (v : Lone). HasRootInside (seen_alone v)) c.in-Ok-view_of.ensures.is c.in-Ok-view_of.ensures.root)
 
   early_runs : Runs (inputs (g.D.SharedDisk.state c.args.disk.now) (g.D.SharedDisk.list c.args.disk.now) (g.D.SharedDisk.faults c.args.disk.now) left failed)
-      (inputs (g.D.SharedDisk.state c.run_script.new.disk) (g.D.SharedDisk.list c.run_script.new.disk) (g.D.SharedDisk.faults c.run_script.new.disk) left_now failed_now) c.args.script.now c.run_script.new.items.items (status_of_end (first_line c.args.script.now) c.in-Err-run_script.end)
+      (inputs (g.D.SharedDisk.state c.run_script.new.disk) (g.D.SharedDisk.list c.run_script.new.disk) (g.D.SharedDisk.faults c.run_script.new.disk) left_now failed_now) c.args.script.now c.args.time c.run_script.new.items.items (status_of_end (first_line c.args.script.now) c.in-Err-run_script.end)
   early_runs =
-      ended _ _ c.in-Ok.mounted c.args.script.now c.run_script.new.items.items (g.D.SharedDisk.faults c.mount_clean.new.disk) c.mounted_images_stand_as_mounted.ensures c.in-Ok.ensures.mounted c.in-Ok.ensures.reads.later
+      ended _ _ c.in-Ok.mounted c.args.script.now c.args.time c.run_script.new.items.items (g.D.SharedDisk.faults c.mount_clean.new.disk) c.mounted_images_stand_as_mounted.ensures c.in-Ok.ensures.mounted c.in-Ok.ensures.reads.later
       c.calls_tell_broken_blocks.ensures.exact c.needs_out_of_the_device_tell_broken_blocks.ensures c.views_may_be_read_from_mounted_images.ensures early_inside
       c.in-Err-run_script.end (whole_blocks c.in-Err-run_script.end (g.D.SharedDisk.state c.mount_clean.new.disk) _ c.blocks-count.ensures.sound (subst (λ (d : DiskState). IsBlockSize d.size) (sym c.in-Ok.ensures.reads.same) c.requires.size) c.in-Err-run_script.ensures.disk)
-      (has_run _ (g.D.SharedDisk.state c.mount_clean.new.disk) _ _ (g.D.SharedDisk.list c.mount_clean.new.disk) _ c.in-Ok.mounted c.in-Ok-view_of.view _ _ c.args.script.now c.run_script.new.items.items _ c.in-Ok.ensures.reads.same c.in-Ok.ensures.reads.list c.in-Ok-view_of.ensures.is early_ran)
+      (has_run _ (g.D.SharedDisk.state c.mount_clean.new.disk) _ _ (g.D.SharedDisk.list c.mount_clean.new.disk) _ c.in-Ok.mounted c.in-Ok-view_of.view _ _ c.args.script.now c.args.time c.run_script.new.items.items _ c.in-Ok.ensures.reads.same c.in-Ok.ensures.reads.list c.in-Ok-view_of.ensures.is early_ran)
 
 pub returns-in-Ok-run_script-clause-runs : goal.returns-in-Ok-run_script-clause-runs
 returns-in-Ok-run_script-clause-runs g c left left_now failed failed_now = runs g c left left_now failed failed_now
@@ -137,7 +137,7 @@ status_of_end-requires g c =
 
 pub returns-clause-runs : goal.returns-clause-runs
 returns-clause-runs g c left left_now failed failed_now =
-    subst (Runs _ _ c.args.script.now c.run_script.new.items.items) (sym (c.status_of_end.ensures ∙ ap (λ (n : ℕ). status_of_end n c.in-Err-run_script.end) c.first_line.ensures)) (early_runs g c left left_now failed failed_now)
+    subst (Runs _ _ c.args.script.now c.args.time c.run_script.new.items.items) (sym (c.status_of_end.ensures ∙ ap (λ (n : ℕ). status_of_end n c.in-Err-run_script.end) c.first_line.ensures)) (early_runs g c left left_now failed failed_now)
 
 pub returns-clause-quiet : goal.returns-clause-quiet
 returns-clause-quiet g c told is_done =
