@@ -18,7 +18,7 @@ use Rattle.image_model.specs.Owners.{Owner, Owners, InGroup, Free, is_dinode, Is
 use Rattle.image_model.specs.Stands.{Layout, IsLaid, heads_of}
 use Rattle.image_model.proofs.Held.{none_some, some_same}
 use Rattle.image_model.proofs.Members.{IsIn}
-use Rattle.image_changes.specs.Changes.{IsOf, Becomes, kept, of_group, changed, IsChange, inode_lock, cover, is_free}
+use Rattle.image_changes.specs.Changes.{inode_of, IsOf, Becomes, kept, another_part, of_group, changed, IsChange, inode_lock, cover, is_free}
 use Rattle.image_changes.specs.Does.{IsWritten, is_content_of}
 use Rattle.image_changes.specs.Drafted.{is_gone, is_put, is_freed, is_drafted, with_draft}
 use Rattle.image_changes.specs.Instances.{among}
@@ -72,6 +72,7 @@ bytes_put im fates b lock plain bytes e = ap (λ (f : Option Fate). unwrap_or (b
 
 pub data MakesOf (o o' : Owners) (fates : FinMap nat_cmp Fate) (ys : List ℕ) (gs : List Rindex) (b : ℕ) : Type 0 where
   leaves : is_drafted fates b ≡ false → o' b ≡ o b → MakesOf o o' fates ys gs b
+  moves : (a : ℕ) → is_drafted fates b ≡ false → among ys a ≡ true → inode_of b (o b) ≡ Some a → inode_of b (o' b) ≡ Some a → MakesOf o o' fates ys gs b
   of_inodes : is_drafted fates b ≡ true → IsOf (among ys) b (o b) → IsOf (among ys) b (o' b) → MakesOf o o' fates ys gs b
   of_header : (g : Rindex) → IsIn g gs → IsHeaderOf g b → o' b ≡ o b → MakesOf o o' fates ys gs b
 
@@ -119,11 +120,13 @@ module _ (im : Image) (o o' : Owners) (l : Layout) (fates : FinMap nat_cmp Fate)
 
       by : MakesOf o o' fates ys gs b → o' b ≡ InGroup g.address
       by (leaves e f) = f ∙ was
+      by (moves a e at f f') = absurd (none_some (sym (ap (inode_of b) was) ∙ f))
       by (of_inodes w k k') = absurd (no_inode b g.address (o b) was k)
       by (of_header k at' h' f) = f ∙ was
 
   becomes : (b : ℕ) → MakesOf o o' fates ys gs b → Becomes (among ys) (λ x. list_any (λ (g : Rindex). g.address == x) gs) (is_drafted fates) b (o b) (o' b) (im.at b) (after.at b)
   becomes b (leaves e f) = kept f (bytes_left im fates b e)
+  becomes b (moves a e at f f') = another_part a at f f' (bytes_left im fates b e)
   becomes b (of_inodes w h h') = changed w h h'
   becomes b (of_header g at h f) = elim (cases_Bool (is_drafted fates b)) [
     | inl here ↦ let r = header_row g at b h in of_group g.address (there_any gs g at) here r.0 r.1

@@ -2,6 +2,9 @@ pub mod Views
 pub mod Puts
 pub mod Rows
 pub mod Framed
+pub mod Homes
 pub mod Added
 pub mod Removed
 pub mod Rewritten
+pub mod Resized
+pub mod Saying

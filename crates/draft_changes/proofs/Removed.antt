@@ -1,6 +1,6 @@
 -- A draft that removes a name makes what the call should.
 use Rattle.std.proofs.Common.{◌≡◌, ◌≢◌, ℕ, ◌⊎◌, inl, inr, Bool, true, false, true≢false, List, [], ◌∷◌, None, Some, refl, sym, ap, ◌∙◌, subst}
-use Rattle.std.specs.Prelude.{Contains, flat_map, if◌then◌else◌}
+use Rattle.std.specs.Prelude.{Contains, if◌then◌else◌}
 use Rattle.std.specs.Ordering.{nat_cmp}
 use Rattle.std.specs.FinMap.{FinMap, get}
 use Rattle.std.proofs.lemmas.Bool.{cases_Bool, cases_eq, cond-true, cond-false}
@@ -23,8 +23,8 @@ use Rattle.image_model.specs.Image.{Image}
 use Rattle.image_model.specs.Owners.{Owner, Owners, InGroup, Free, Named, is_dinode, IsWithin, part_in, cell_of, cell_in, holding}
 use Rattle.image_model.specs.Stands.{Layout, flat_of, heads_of}
 use Rattle.image_model.proofs.Held.{none_some, some_same}
-use Rattle.image_model.proofs.Members.{IsIn, contained, is_in, in_flat_map, from_flat_map}
-use Rattle.image_model.proofs.Table.{Lies, lies, in_header, in_data, in_none}
+use Rattle.image_model.proofs.Members.{IsIn, contained, is_in}
+use Rattle.image_model.proofs.Table.{lies}
 use Rattle.image_changes.specs.Changes.{inode_of, IsOf as IsOfInodes, IsChange, inode_lock, is_free}
 use Rattle.image_changes.specs.Does.{IsOf, IsHeld, IsWritten, IsFreed}
 use Rattle.image_changes.specs.Drafted.{is_gone, is_put, is_freed, is_drafted, with_draft, MakesIn, name_removed}
@@ -33,24 +33,14 @@ use Rattle.image_changes.specs.Instances.{IsAt, among, IsNameRemoved}
 use Rattle.image_changes.proofs.Drafting.{own_locks}
 use Rattle.image_changes.proofs.FlatPaths.{follow-append, after_some}
 use Rattle.image_changes.proofs.Frame.{dinode_its, within_its, not_its, inode_cover}
-use Rattle.image_changes.proofs.Laid.{child_rows, follow_dinode, one_group}
+use Rattle.image_changes.proofs.Laid.{child_rows, follow_dinode}
 use Rattle.image_changes.proofs.Nodes.{among_in, in_among}
 use Rattle.image_changes.proofs.States.{map_same}
 use Rattle.draft_changes.specs.Groups.{PutsGroup}
 use Rattle.draft_changes.specs.Removing.{HasSome, states_without, RemovesName, RemovingMakes}
-use Rattle.draft_changes.proofs.Rows.{of_its, its_used, cell_its, its_cell, not_group_free, header_among, same_group}
+use Rattle.draft_changes.proofs.Rows.{of_its, its_used, cell_its, its_cell, not_group_free, header_among}
+use Rattle.draft_changes.proofs.Homes.{number_of, group_of, homes, IsHome, IsOne, from_homes, UsedOrFree, home, in_homes}
 use Rattle.draft_changes.proofs.Framed.{none_drafted, put_drafted, gone_drafted, gone_there, put_not_gone, MakesOf, leaves, of_inodes, of_header, IsFramed, framed_change, header_written, header_row, header_kept, group_written, dinode_written}
-
--- the group in whose data blocks a block lies
-abbrev number_of : {groups : List Rindex} {b : ℕ} → Lies groups b → ℕ
-number_of (in_data g at is) = g.address
-number_of (in_header g at is) = 0
-number_of (in_none none) = 0
-
-abbrev group_of : {groups : List Rindex} {b : ℕ} → Lies groups b → List Rindex
-group_of (in_data g at is) = g ∷ []
-group_of (in_header g at is) = []
-group_of (in_none none) = []
 
 module _ (v : Seen) (call : Call) (fates : FinMap nat_cmp Fate) (im : Image) (o : Owners) (l : Layout) (t : Tree) (path : Path) (p : ℕ) (name : List ℕ) (a : ℕ)
     (here : IsOf v im o l t) (at : IsAt im o l path p) (at_a : IsAt im o l (in_directory path name) a) (is : RemovesName im o l fates p name a)
@@ -65,7 +55,7 @@ module _ (v : Seen) (call : Call) (fates : FinMap nat_cmp Fate) (im : Image) (o 
   ys = p ∷ (a ∷ [])
 
   abbrev gs : List Rindex
-  gs = flat_map (λ b. group_of (lies l.groups b)) is.blocks
+  gs = homes l is.blocks
 
   -- ---- the inode's blocks
 
@@ -126,45 +116,18 @@ module _ (v : Seen) (call : Call) (fates : FinMap nat_cmp Fate) (im : Image) (o 
 
   -- ---- the groups of the blocks
 
-  record IsHome (b : ℕ) (number : ℕ) (groups : List Rindex) : Type 0 where
-    group : Rindex
-    listed : IsListed l.groups group
-    own : IsDataOf group b
-    address : number ≡ group.address
-    there : IsIn group groups
+  used : (b : ℕ) → Contains is.blocks b → UsedOrFree o b
+  used b c = inl (its_used b a (o b) (its b (in_among is.blocks b (is_in b is.blocks c)))).0
 
-  home : (b : ℕ) → among is.blocks b ≡ true → IsHome b (number_of (lies l.groups b)) (group_of (lies l.groups b))
-  home b e = by (lies l.groups b)
-    where
-      no_inode : (g : ℕ) → o b ≡ InGroup g → ⊥
-      no_inode g f = none_some (sym (ap (inode_of b) f) ∙ its b e)
-
-      by : (w : Lies l.groups b) → IsHome b (number_of w) (group_of w)
-      by (in_data g at is) = record { group = g; listed = at; own = is; address = refl; there = inl refl }
-      by (in_header g at is) = absurd (no_inode g.address (here.stands.laid.zoned.headers g at b is))
-      by (in_none none) = let g = here.stands.laid.zoned.placed b (its_used b a (o b) (its b e)).0 in absurd ((none g.0 g.1).1 g.2)
+  home_of : (b : ℕ) → among is.blocks b ≡ true → IsHome l b (number_of (lies l.groups b)) (group_of (lies l.groups b))
+  home_of b e = home im o l here.stands.laid b (used b (has b e))
 
   -- a group of some of the blocks
   in_gs : (g : Rindex) → IsListed l.groups g → HasSome g is.blocks → IsIn g gs
-  in_gs g at some =
-      let b = some.0 in
-      let e = in_among is.blocks b (is_in b is.blocks some.1) in
-      let h = home b e in
-      let same : h.group ≡ g = same_group im l.groups here.stands.laid.fit h.group g h.listed at (one_group im l.groups here.stands.laid.fit h.group g b h.listed at h.own some.2) in
-      subst (λ k. IsIn k gs) same (in_flat_map (λ c. group_of (lies l.groups c)) b h.group is.blocks (among_in is.blocks b e) h.there)
+  in_gs = in_homes im o l here.stands.laid is.blocks used
 
-  record IsOne (g : Rindex) : Type 0 where
-    listed : IsListed l.groups g
-    some : HasSome g is.blocks
-
-  from_gs : (g : Rindex) → IsIn g gs → IsOne g
-  from_gs g h = let f = from_flat_map (λ c. group_of (lies l.groups c)) g is.blocks h in by f.0 (contained f.0 is.blocks f.1) (lies l.groups f.0) f.2
-    where
-      by : (b : ℕ) → Contains is.blocks b → (w : Lies l.groups b) → IsIn g (group_of w) → IsOne g
-      by b c (in_data k at own) (inl e) = subst IsOne (sym e) (record { listed = at; some = (b, c, own) })
-      by b c (in_data k at own) (inr h) = elim h [ ]
-      by b c (in_header k at own) h = elim h [ ]
-      by b c (in_none none) h = elim h [ ]
+  from_gs : (g : Rindex) → IsIn g gs → IsOne l is.blocks g
+  from_gs = from_homes l is.blocks
 
   states_same : (g : Rindex) → states_without o is.blocks g ≡ states_of o' g
   states_same g = map_same (λ b. if among is.blocks b then 0 else state_of (o b)) (λ b. state_of (o' b)) g.data0 g.data_blocks (λ b low high. by b (among is.blocks b))
@@ -217,13 +180,13 @@ module _ (v : Seen) (call : Call) (fates : FinMap nat_cmp Fate) (im : Image) (o 
       freed : (b x : ℕ) → o' b ≡ Free x → (o b ≡ Free x) ⊎ ((g : Rindex) × IsIn g gs × IsDataOf g b × (x ≡ g.address))
       freed b x f = elim (cases_Bool (among is.blocks b)) [
         | inr e ↦ inl (sym (row_other b e) ∙ f)
-        | inl e ↦ let h = home b e in inr (h.group, in_gs h.group h.listed (b, has b e, h.own), h.own, same_number (sym (row_mine b e) ∙ f) ∙ h.address)
+        | inl e ↦ let h = home_of b e in inr (h.group, in_gs h.group h.listed (b, has b e, h.own), h.own, same_number (sym (row_mine b e) ∙ f) ∙ h.address)
       ]
 
       states : (b : ℕ) → (state_of (o' b) ≡ state_of (o b)) ⊎ ((g : Rindex) × IsIn g gs × IsDataOf g b)
       states b = elim (cases_Bool (among is.blocks b)) [
         | inr e ↦ inl (ap state_of (row_other b e))
-        | inl e ↦ let h = home b e in inr (h.group, in_gs h.group h.listed (b, has b e, h.own), h.own)
+        | inl e ↦ let h = home_of b e in inr (h.group, in_gs h.group h.listed (b, has b e, h.own), h.own)
       ]
 
   -- ---- the directory
@@ -344,7 +307,7 @@ module _ (v : Seen) (call : Call) (fates : FinMap nat_cmp Fate) (im : Image) (o 
 
       by : Drafts b → (n : ℕ) × (is_put fates n ≡ true) × (o' n ≡ InGroup g)
       by (freed_block h) =
-          let k = home b h in
+          let k = home_of b h in
           let w = group_written im o o' l fates ys gs framed k.group (in_gs k.group k.listed (b, has b h, k.own)) in
           (w.0, w.1, w.2 ∙ ap InGroup (sym k.address ∙ mine_free h free))
       by (of_parent h same) = absurd (not_parent same free)

@@ -32,7 +32,7 @@ use Rattle.draft_changes.proofs.Rows.{of_its, its_used, cell_its, part_there}
 use Rattle.draft_changes.proofs.Framed.{none_drafted, put_drafted, gone_there, MakesOf, leaves, of_inodes, IsFramed, framed_change}
 
 -- a block of a regular file is its content where its part tells so
-content_same : (im : Image) (o : Owners) (a b : ℕ) (x : Owner) → is_regular (dinode_at im o a) ≡ true → inode_of b x ≡ Some a → is_content_of im o x ≡ is_content_part (part_in a b x)
+pub content_same : (im : Image) (o : Owners) (a b : ℕ) (x : Owner) → is_regular (dinode_at im o a) ≡ true → inode_of b x ≡ Some a → is_content_of im o x ≡ is_content_part (part_in a b x)
 content_same im o a b (Below d above k zero first) plain e = ap (λ z. is_regular (dinode_at im o z)) (some_same e) ∙ plain ∙ sym (ap is_content_part (cond-true _ (Some (Pointed above k 0 first)) None (eq-eqb d a (some_same e))))
 content_same im o a b (Below d above k (suc level) first) plain e = sym (ap is_content_part (cond-true _ (Some (Pointed above k (suc level) first)) None (eq-eqb d a (some_same e))))
 content_same im o a b (Chained d hash place) plain e = sym (ap is_content_part (cond-true _ _ None (eq-eqb d a (some_same e))))

@@ -3,3 +3,4 @@ pub mod Groups
 pub mod Adding
 pub mod Removing
 pub mod Rewriting
+pub mod Resizing

@@ -2,7 +2,7 @@
 // used one, and four free ones.
 use drafts::Draft;
 use glock_names::{CallFault, Group, LockName, Missing, State, Step, View};
-use resource_groups::{count_free, find_free, set_state};
+use resource_groups::{count_free, find_free, free_blocks, set_state, take_blocks};
 use std::alloc::{AllocError, Global};
 use std::process::Abort;
 use std::test::Fail;
@@ -121,6 +121,25 @@ fn a_block_is_found_and_taken(rt: HostRuntime) -> Result<(), Fail> {
         );
     }
     assert_eq!(rt; change.freed.len(), 1);
+    Ok(())
+}
+
+#[test]
+fn several_blocks_are_taken_and_freed(rt: HostRuntime) -> Result<(), Fail> {
+    let a = rt.alloc();
+    let shelf = Shelf {
+        header: header(a, 5, 1, [0b01_00_01_11, 0])?,
+    };
+    let mut draft = Draft::new(a, &shelf);
+    assert_eq!(rt; take_blocks(&mut draft, &[133, 135]), Ok(Step::Is(())));
+    assert_eq!(rt; find_free(&draft, &GROUP, 0), Ok(Step::Is(Some(136))));
+    assert_eq!(rt; count_free(&draft, &GROUP), Ok(Step::Is(3)));
+    assert_eq!(rt; free_blocks(&mut draft, &[132, 134, 135]), Ok(Step::Is(())));
+    assert_eq!(rt; find_free(&draft, &GROUP, 0), Ok(Step::Is(Some(132))));
+    assert_eq!(rt; count_free(&draft, &GROUP), Ok(Step::Is(6)));
+    let change = draft.finish()?;
+    assert_eq!(rt; change.blocks.len(), 1);
+    assert_eq!(rt; change.freed.len(), 3);
     Ok(())
 }
 

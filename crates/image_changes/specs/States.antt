@@ -36,3 +36,11 @@ BlocksAreFreed = (im im' : Image) (o o' : Owners) (g : Rindex) (blocks : List �
     → ((b : ℕ) → IsDataOf g b → Contains blocks b → state_of (o' b) ≡ 0) → ((b : ℕ) → IsDataOf g b → ¬ (Contains blocks b) → state_of (o' b) ≡ state_of (o b))
     → AreStatesPut (group_blocks im.at g) (group_blocks im'.at g) (places_in g.data0 g.data_blocks blocks) 0
     → IsGroup g (group_blocks im.at g) (states_of o g) → IsGroup g (group_blocks im'.at g) (states_of o' g)
+
+-- A group at some of whose data blocks one state is put, one after another, says what the table does in which these have that state and
+-- the group's other data blocks those of before: so where blocks are taken, state 1, or freed, state 0.
+abbrev pub BlocksAreSet : Type 0
+BlocksAreSet = (im im' : Image) (o o' : Owners) (g : Rindex) (blocks : List ℕ) (state : ℕ) → state < 4 → g.data_blocks ≤ 4 * length (bitmap_of (group_blocks im.at g))
+    → ((b : ℕ) → IsDataOf g b → Contains blocks b → state_of (o' b) ≡ state) → ((b : ℕ) → IsDataOf g b → ¬ (Contains blocks b) → state_of (o' b) ≡ state_of (o b))
+    → AreStatesPut (group_blocks im.at g) (group_blocks im'.at g) (places_in g.data0 g.data_blocks blocks) state
+    → IsGroup g (group_blocks im.at g) (states_of o g) → IsGroup g (group_blocks im'.at g) (states_of o' g)

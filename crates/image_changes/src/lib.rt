@@ -25,6 +25,6 @@ pub use paths::{
 };
 pub use pieces::{
     a_directory_gets_another_parent, a_directory_looks_at_what_it_names, a_generation_is_no_state,
-    a_state_is_put, blocks_are_freed, records_go_and_come, states_are_those_of_owners,
-    untouched_groups_stay,
+    a_state_is_put, blocks_are_freed, blocks_are_set, records_go_and_come,
+    states_are_those_of_owners, untouched_groups_stay,
 };

@@ -1,6 +1,6 @@
 //! Laws of the parts of an image: directories by their records, and groups by the states of their blocks.
 ghost use Rattle.image_changes.specs.Directories.{LooksAtNames, OtherParent, RecordsGoAndCome};
-ghost use Rattle.image_changes.specs.States.{BlocksAreFreed, GroupsStay, OtherGeneration, StateIsPut, TableSays};
+ghost use Rattle.image_changes.specs.States.{BlocksAreFreed, BlocksAreSet, GroupsStay, OtherGeneration, StateIsPut, TableSays};
 
 /// A law: a directory stays one where number and kind of the inodes that it names, of itself and of its parent are the same, and
 /// the owners of those that it names.
@@ -31,6 +31,11 @@ pub fn a_state_is_put()
 /// A law: a group some of whose data blocks were freed says the states of a table in which these are free.
 pub fn blocks_are_freed()
     ensures { BlocksAreFreed }
+{}
+
+/// A law: a group at some of whose data blocks one state was put says the states of a table in which these have that state.
+pub fn blocks_are_set()
+    ensures { BlocksAreSet }
 {}
 
 /// A law: a group whose header was written with another number of its last inode says the same states.

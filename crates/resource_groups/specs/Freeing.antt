@@ -36,6 +36,11 @@ pub record KeepsRest {V : Type 0} (seen : V → Seen) (old new : Drafted V) (blo
   pub others : (c : ℕ) → ¬ (Contains blocks c) → ((g : Group) → HasGroup (seen_in seen old) g → HasSome g blocks → ¬ (IsHeaderOf g c)) → get new.fates c ≡ get old.fates c
   pub groups : (g : Group) (c : ℕ) → HasGroup (seen_in seen old) g → ¬ (HasSome g blocks) → IsHeaderOf g c → get new.fates c ≡ get old.fates c
 
+-- the view below stays, and what becomes of each block but these
+pub record KeepsAllBut {V : Type 0} (old new : Drafted V) (blocks : List ℕ) : Type 0 where
+  pub view : new.view ≡ old.view
+  pub others : (c : ℕ) → ¬ (Contains blocks c) → get new.fates c ≡ get old.fates c
+
 -- a block is needed for one of these data blocks: the header of its group, or the block with its bits
 abbrev pub IsNeededFor : Seen → List ℕ → Missing → Type 0
 IsNeededFor v blocks missing = (g : Group) × HasGroup v g × ((b : ℕ) × Contains blocks b × IsDataOf g b × IsOneOfTwo v g b missing)

@@ -4,3 +4,4 @@ pub mod Counting
 pub mod Putting
 pub mod Numbering
 pub mod Freeing
+pub mod Taking
