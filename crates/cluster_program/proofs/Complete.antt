@@ -13,12 +13,12 @@ use Rattle.cluster_program.specs.declared.status.Status.TheVariants as status
 use Rattle.cluster_program.specs.declared.status.Which.{Which}
 use Rattle.cluster_program.specs.World.{Inputs, Outputs}
 use Rattle.cluster_program.specs.Course.{Course, RefusesWords, MakesImage, NoScript, Makes, IsTooLarge, IsTooSmall, LacksMemory, HasFailed, HasMade, plan_for, RunsScript, LacksScript, SourceFailed, Refused, RefusedEarly, NotBuiltYet, NoRoom, Shows, HasShown, ShowsNone, TreeFailed, TreeDamaged, NothingHeld, ShowsImage}
-use Rattle.cluster_program.specs.Mounting.{MountEnds, DiskFails, LiesOutside, IsDamaged, IsDirty, IsHashed, LacksRoom}
+use Rattle.cluster_program.specs.Mounting.{IsMountable, MountEnds, DiskFails, LiesOutside, IsDamaged, IsDirty, IsHashed, LacksRoom}
 use Rattle.cluster_program.specs.Runs as runs
 use Rattle.cluster_program.specs.Runs.{RunEnds, IsDone, NotMounted, CallFailed, CallHashed, CallUnbuilt, CallDamaged}
 use Rattle.cluster_program.specs.declared.status.Part.TheVariants as part
 use Rattle.cluster_program.specs.Report.{Becomes, Stays, WithoutMemory, Fails, Reports}
-use Rattle.cluster_program.specs.Command.{NoneRose, IsMountable, IsRunnable, IsShowable, IsMakeable, IsWhole, IsUpToBuilt, IsComplete}
+use Rattle.cluster_program.specs.Command.{NoneRose, IsRunnable, IsShowable, IsMakeable, IsWhole, IsUpToBuilt, IsComplete}
 use Rattle.mkgfs2_tool.specs.Order.{fits}
 use Rattle.command_words.specs.Commands.{words_read}
 use Rattle.command_words.specs.declared.command.Command.TheVariants as command

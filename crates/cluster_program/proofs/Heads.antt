@@ -11,10 +11,10 @@ use Rattle.image_model.specs.Owners.{Owners, is_dinode, holding}
 use Rattle.image_model.specs.Stands.{Layout, IsJournalAt, IsLaid, flat_of}
 use Rattle.image_model.proofs.Facts.{jindex_is, leads_row, leads_child_of, child_leads}
 use Rattle.image_model.proofs.Held.{none_some, some_same}
-use Rattle.image_model.proofs.Lengths.{head_same}
-use Rattle.image_changes.specs.Changes.{JournalsStay}
-use Rattle.image_mount.specs.Mounted.{Journal, MountedValue, IsMounted}
-use Rattle.cluster_program.specs.Mounting.{is_clean_head, is_clean_in}
+use Rattle.image_model.proofs.Lengths.{head_same, places_same}
+use Rattle.image_changes.specs.Changes.{SystemStays}
+use Rattle.image_mount.specs.Mounted.{Journal, MountedValue, IsMounted, IsJournalOf}
+use Rattle.cluster_program.specs.Mounting.{AreClean, IsLeftClean, is_clean_head, is_clean_in}
 
 -- ---- places of a list
 
@@ -24,7 +24,7 @@ some_at (x ∷ xs) zero j d is low = (x, refl)
 some_at (x ∷ xs) (suc k) zero d is low = absurd (omega (arith, low))
 some_at (x ∷ xs) (suc k) (suc j) d is low = some_at xs k j d is (omega (arith, low))
 
-is_there : (xs : List ℕ) (j : ℕ) → ((c : ℕ) × (slice_get xs j ≡ Some c)) ⊎ (length xs ≤ j)
+is_there : {A : Type 0} (xs : List A) (j : ℕ) → ((c : A) × (slice_get xs j ≡ Some c)) ⊎ (length xs ≤ j)
 is_there [] j = inr (omega arith)
 is_there (x ∷ xs) zero = inl (x, refl)
 is_there (x ∷ xs) (suc j) = elim (is_there xs j) [ inl it ↦ inl it | inr past ↦ inr (omega (arith, past)) ]
@@ -40,38 +40,68 @@ large n (inr (inl is)) = omega (arith, is)
 large n (inr (inr (inl is))) = omega (arith, is)
 large n (inr (inr (inr is))) = omega (arith, is)
 
--- ---- the head of a journal by its own blocks, and by every block
+-- ---- the head and the places of a journal by its own blocks, and by every block
 
 module _ (im : Image) (o : Owners) (l : Layout) (laid : IsLaid im o l) (j d : ℕ) (at : IsJournalAt l j d) where
   dinode : is_dinode (o d) ≡ true
   dinode = ap is_dinode (leads_row im o l laid l.jindex (journal_name j) d (child_leads im o l laid l.jindex (journal_name j) d (laid.system.journals j d at)))
 
+  own_places : (ring_of (holding im o d)).places ≡ (ring_of (every im d)).places
+  own_places = places_same im o (large im.size laid.image.block_size) d dinode (laid.inodes d dinode) (laid.system.rings j d (laid.system.journals j d at))
+
   by_own : head_in (ring_of (holding im o d)) ≡ head_in (ring_of (every im d))
   by_own = head_same im o (large im.size laid.image.block_size) d dinode (laid.inodes d dinode) (laid.system.rings j d (laid.system.journals j d at))
 
--- ---- what was mounted, in an image that stands by the same layout
+-- ---- what was mounted
 
-module _ (im im' : Image) (o o' : Owners) (l : Layout) (m : MountedValue) (mounted : IsMounted im m) (laid : IsLaid im o l) (laid' : IsLaid im' o' l) (stay : JournalsStay im im' o o' l) where
+module _ (im : Image) (o : Owners) (l : Layout) (laid : IsLaid im o l) (m : MountedValue) (mounted : IsMounted im m) where
+  jindex : mounted.layout.jindex ≡ l.jindex
+  jindex = jindex_is im o l laid mounted.layout.jindex mounted.found.groups.list.master.jindex
+
   child : (j d : ℕ) → IsJournalAt mounted.layout j d → (flat_of im o l.jindex).child (journal_name j) ≡ Some d
-  child j d at =
-      let jindex = jindex_is im o l laid mounted.layout.jindex mounted.found.groups.list.master.jindex in
-      leads_child_of im o l laid l.jindex (journal_name j) d (subst (λ a. LeadsTo im a (journal_name j) d) jindex (mounted.found.there j d at))
+  child j d at = leads_child_of im o l laid l.jindex (journal_name j) d (subst (λ a. LeadsTo im a (journal_name j) d) jindex (mounted.found.there j d at))
 
   -- a journal that was mounted is one of the layout
-  of_layout : (j d : ℕ) → IsJournalAt mounted.layout j d → IsJournalAt l j d
+  pub of_layout : (j d : ℕ) → IsJournalAt mounted.layout j d → IsJournalAt l j d
   of_layout j d at = elim (is_there l.journals j) [
     | inl it ↦ subst (IsJournalAt l j) (some_same (sym (laid.system.journals j it.0 it.1) ∙ child j d at)) it.1
     | inr past ↦ let more = some_at mounted.layout.journals (length l.journals) j d at past in absurd (none_some (sym laid.system.last ∙ child (length l.journals) more.0 more.1))
   ]
 
-  head_kept : (j d : ℕ) → IsJournalAt l j d → head_in (ring_of (every im' d)) ≡ head_in (ring_of (every im d))
+  -- a journal of the layout was mounted, in an image of the profile
+  pub of_mounted : (j d : ℕ) → IsJournalAt l j d → (k : ℕ) × (journal : Journal) × (slice_get m.journals k ≡ Some journal) × IsJournalOf im d journal
+  of_mounted j d at =
+      let it = mounted.profile.journals.others (journal_name j) d (subst (λ a. LeadsTo im a (journal_name j) d) (sym jindex) (child_leads im o l laid l.jindex (journal_name j) d (laid.system.journals j d at))) in
+      elim (is_there m.journals it.0) [
+        | inl found ↦ (it.0, found.0, found.1, mounted.journals it.0 d found.0 it.1 found.1)
+        | inr past ↦ let low = below_end mounted.layout.journals it.0 d it.1 in absurd (omega (arith, low, past, mounted.count))
+      ]
+
+-- ---- an image that stands by the same layout, with the same system files
+
+module _ (im im' : Image) (o o' : Owners) (l : Layout) (laid : IsLaid im o l) (laid' : IsLaid im' o' l) (stay : SystemStays im im' o o' l) where
+  pub head_kept : (j d : ℕ) → IsJournalAt l j d → head_in (ring_of (every im' d)) ≡ head_in (ring_of (every im d))
   head_kept j d at = sym (by_own im' o' l laid' j d at) ∙ ap (λ (h : Holding). head_in (ring_of h)) (stay.rings j d at) ∙ by_own im o l laid j d at
 
-  -- where it was clean, it is clean yet
-  pub clean_yet : (j : ℕ) (journal : Journal) → slice_get m.journals j ≡ Some journal → journal.head.clean ≡ true → is_clean_in im' journal ≡ true
-  clean_yet j journal there clean = elim (is_there mounted.layout.journals j) [
+  pub places_kept : (j d : ℕ) → IsJournalAt l j d → (ring_of (every im' d)).places ≡ (ring_of (every im d)).places
+  places_kept j d at = sym (own_places im' o' l laid' j d at) ∙ ap (λ (h : Holding). (ring_of h).places) (stay.rings j d at) ∙ own_places im o l laid j d at
+
+  -- where a journal that was mounted was clean, it is clean yet
+  pub clean_yet : (m : MountedValue) → IsMounted im m → (j : ℕ) (journal : Journal) → slice_get m.journals j ≡ Some journal → journal.head.clean ≡ true → is_clean_in im' journal ≡ true
+  clean_yet m mounted j journal there clean = elim (is_there mounted.layout.journals j) [
     | inl it ↦
         let is = mounted.journals j it.0 journal it.1 there in
-        ap is_clean_head (ap (λ (a : ℕ). head_in (ring_of (every im' a))) is.dinode ∙ head_kept j it.0 (of_layout j it.0 it.1) ∙ is.head) ∙ clean
+        ap is_clean_head (ap (λ (a : ℕ). head_in (ring_of (every im' a))) is.dinode ∙ head_kept j it.0 (of_layout im o l laid m mounted j it.0 it.1) ∙ is.head) ∙ clean
     | inr past ↦ let low = below_end m.journals j journal there in absurd (omega (arith, low, past, mounted.count))
+  ]
+
+  -- and so is each journal that is mounted from the image that was left
+  pub clean_again : (m : MountedValue) → IsMounted im m → IsLeftClean m → AreClean im'
+  clean_again m mounted clean m' mounted' j journal there = elim (is_there mounted'.layout.journals j) [
+    | inl it ↦
+        let is = mounted'.journals j it.0 journal it.1 there in
+        let at = of_layout im' o' l laid' m' mounted' j it.0 it.1 in
+        let was = of_mounted im o l laid m mounted j it.0 at in
+        ap is_clean_head (sym is.head ∙ head_kept j it.0 at ∙ was.3.head) ∙ clean was.0 was.1 was.2
+    | inr past ↦ let low = below_end m'.journals j journal there in absurd (omega (arith, low, past, mounted'.count))
   ]

@@ -2,6 +2,7 @@ pub mod Lines
 pub mod Mounts
 pub mod Damage
 pub mod Heads
+pub mod Still
 pub mod Shows
 pub mod Passing
 pub mod Quiet

@@ -29,13 +29,14 @@ use Rattle.lone_node.specs.declared.ends.RunEnd.{RunEnd}
 use Rattle.lone_node.specs.declared.ends.RunEnd.TheVariants as end
 use Rattle.damage_laws.specs.Telling.{CallsTellExactly, NeedsTell, MountedAreRead, HasRootInside}
 use Rattle.cluster_program.specs.Early.{status_of_end}
-use Rattle.cluster_program.specs.Mounting.{OfImage, IsImageOf, IsMountedFor, MountEnds}
+use Rattle.cluster_program.specs.Mounting.{OfImage, IsImageOf, IsMountable, IsMountedFor, MountEnds}
 use Rattle.cluster_program.specs.Runs.{Runs, RunEnds, IsDone, NotMounted, CallFailed, CallHashed, CallUnbuilt, CallDamaged, NoRoom, UnlessFault, AreCleanAtEnd, HasCourse, as_mounted, first_line}
 use Rattle.cluster_program.specs.World.{Inputs, KeepsDisk}
 use Rattle.cluster_program.specs.declared.status.Status.{Status}
 use Rattle.cluster_program.specs.declared.status.Status.TheVariants as status
 use Rattle.cluster_program.proofs.Damage.{told}
 use Rattle.cluster_program.proofs.Heads.{below_end, clean_yet}
+use Rattle.cluster_program.proofs.Still.{mountable_still}
 use Rattle.cluster_program.specs.Report.{IsSinkFault}
 use Rattle.cluster_program.proofs.Mounts.{image_there, no_mount_fault}
 
@@ -180,7 +181,7 @@ module _ (given left : Inputs) (m : MountedValue) (s : ScriptValue) (time : ℕ)
     left_clean leaves some t is = record {
       value = m;
       mounted = for.mounted is.tells;
-      clean = λ j journal there. clean_yet (image_of given.disk) (image_of left.disk) at.owners now.now.owners at.layout m (for.mounted is.tells) at.stands.laid laid now.journals j journal there (for.clean j journal there);
+      clean = λ j journal there. clean_yet (image_of given.disk) (image_of left.disk) at.owners now.now.owners at.layout at.stands.laid laid now.system m (for.mounted is.tells) j journal there (for.clean j journal there);
     }
       where
         at : StandsFor given.disk n t
@@ -191,6 +192,12 @@ module _ (given left : Inputs) (m : MountedValue) (s : ScriptValue) (time : ℕ)
 
         laid : IsLaid (image_of left.disk) now.now.owners at.layout
         laid = subst (IsLaid (image_of left.disk) now.now.owners) now.layout now.now.stands.laid
+
+    left_still : ((t : Tree) (at : StandsFor given.disk n t) → LeavesStanding given.disk left.disk n t (tree_of (history_of s.clients items) t) at)
+        → IsMountable given.disk → IsMountable left.disk
+    left_still leaves may =
+        let at = from may.tree may.is in
+        mountable_still given.disk left.disk n may.tree (tree_of (history_of s.clients items) may.tree) m for at (leaves may.tree at) may
 
     pub done : HasRun given.disk left.disk given.disk_list left.disk_list n before left.disk_faults s time items (Ok tt) → Runs given left s time items status.Done
     done r = record {
@@ -206,6 +213,7 @@ module _ (given left : Inputs) (m : MountedValue) (s : ScriptValue) (time : ℕ)
       idle = r.idle;
       mounted = λ some tells. record { value = m; mounted = for.mounted tells; clean = for.clean };
       clean = left_clean r.stands;
+      still = left_still r.stands;
       ends = IsDone r.answered (whole_from s.clients s.lines items (StandsFor given.disk n) (IsImageOf given.disk) from r.whole);
     }
 
@@ -223,6 +231,7 @@ module _ (given left : Inputs) (m : MountedValue) (s : ScriptValue) (time : ℕ)
       idle = unless (first_line s) e (λ idle. idle) r.idle;
       mounted = λ some tells. record { value = m; mounted = for.mounted tells; clean = for.clean };
       clean = unless (first_line s) e left_clean r.stands;
+      still = unless (first_line s) e left_still r.stands;
       ends = call_end e image r;
     }
 
@@ -267,6 +276,7 @@ not_begun given left s time items own idle none same ends = record {
   idle = anyway own (subst IsIdle (sym same.state_is) idle);
   mounted = λ some. absurd (some none);
   clean = anyway own (λ some. absurd (some none));
+  still = anyway own (subst (λ d. IsMountable given.disk → IsMountable d) (sym same.state_is) (λ may. may));
   ends = NotMounted own none same ends;
 }
   where

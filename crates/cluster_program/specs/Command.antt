@@ -2,7 +2,6 @@
 use Rattle.std.specs.Prelude.{ℕ, ◌≡◌, ◌≤◌, ◌⊎◌, true, ⊤, List, Some, None}
 use Rattle.profile_limits.specs.Limits.{most_blocks}
 use Rattle.fault_counts.specs.Causes.{Rose, WentUp}
-use Rattle.file_tree.specs.Tree.{Tree}
 use Rattle.script_lang.specs.Grammar.{script_read, Script}
 use Rattle.script_lang.specs.Foreign.{first_foreign}
 use Rattle.trace_text.specs.declared.item.TraceItem.{TraceItem}
@@ -11,12 +10,7 @@ use Rattle.cluster_program.specs.World.{Inputs, Outputs}
 use Rattle.cluster_program.specs.Report.{Reports}
 use Rattle.cluster_program.specs.Course.{Course, AsksToRun, AsksToShow, AsksToMake, plan_for}
 use Rattle.cluster_program.specs.Dirty.{IsDirtyCount}
-use Rattle.cluster_program.specs.Mounting.{AreClean, IsImageOf}
-use Rattle.image_model.specs.Image.{image_of}
-use Rattle.image_model.specs.Claims.{IsJindex}
-use Rattle.image_model.specs.Rules.{IsHashedAt}
-use Rattle.image_mount.specs.Mounted.{IsOfProfile}
-use Rattle.shared_disk.specs.Disk.{DiskState}
+use Rattle.cluster_program.specs.Mounting.{IsMountable}
 use Rattle.command_words.specs.declared.command.MakeWords.{MakeWords}
 use Rattle.mkgfs2_tool.specs.Order.{fits}
 use Rattle.cluster_program.specs.declared.status.Status.{Status}
@@ -51,14 +45,6 @@ pub record NoneRose (given left : Inputs) (sinks sinks_now : Outputs) : Type 0 w
   pub script : Rose given.script_faults left.script_faults → ⊥
   pub trace : Rose sinks.trace_faults sinks_now.trace_faults → ⊥
   pub output : Rose sinks.output_faults sinks_now.output_faults → ⊥
-
--- The image on the disk stands for a tree and is one of the profile, the directory of journals isn't hashed, and each journal was left clean.
-pub record IsMountable (disk : DiskState) : Type 0 where
-  pub tree : Tree
-  pub is : IsImageOf disk tree
-  pub profile : IsOfProfile (image_of disk)
-  pub linear : (a : ℕ) → IsJindex (image_of disk) a → IsHashedAt (image_of disk) a → ⊥
-  pub clean : AreClean (image_of disk)
 
 -- the words are a run, the source tells its text, which is a script without a line that is not built, and the image can be mounted
 pub record IsRunnable (words : List (List ℕ)) (given : Inputs) : Type 0 where

@@ -1,9 +1,10 @@
--- How a command ends that can't mount the image.
+-- Which image can be mounted, and how a command ends that can't mount one.
 use Rattle.std.specs.Prelude.{ℕ, ◌≡◌, ◌<◌, Bool, false, true, IsTrue, List, Option, None, Some, slice_get}
 use Rattle.fault_counts.specs.Causes.{WentUp}
 use Rattle.file_tree.specs.Tree.{Tree}
-use Rattle.image_model.specs.Claims.{every}
+use Rattle.image_model.specs.Claims.{every, IsJindex}
 use Rattle.image_model.specs.Image.{Image, image_of}
+use Rattle.image_model.specs.Rules.{IsHashedAt}
 use Rattle.image_model.specs.Stands.{Stands}
 use Rattle.image_mount.specs.Mounted.{Journal, MountedValue, IsMounted, IsOfProfile}
 use Rattle.image_mount.specs.Refusals.{IsOutside, IsReached, RefusesRightly}
@@ -60,6 +61,14 @@ pub record IsMountedClean (im : Image) : Type 0 where
 pub record IsMountedFor (disk : DiskState) (m : MountedValue) : Type 0 where
   pub mounted : OfImage disk (λ im. IsMounted im m)
   pub clean : IsLeftClean m
+
+-- The image on the disk stands for a tree and is one of the profile, the directory of journals isn't hashed, and each journal was left clean.
+pub record IsMountable (disk : DiskState) : Type 0 where
+  pub tree : Tree
+  pub is : IsImageOf disk tree
+  pub profile : IsOfProfile (image_of disk)
+  pub linear : (a : ℕ) → IsJindex (image_of disk) a → IsHashedAt (image_of disk) a → ⊥
+  pub clean : AreClean (image_of disk)
 
 -- ---- the heads of journals in an image, by the blocks of their dinodes
 

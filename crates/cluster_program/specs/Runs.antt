@@ -17,7 +17,7 @@ use Rattle.lone_view.specs.Seeing.{Lone}
 use Rattle.lone_node.specs.Answering.{IsDamagedOn, IsHashedOn, IsSameDisk, IsUnbuiltOn}
 use Rattle.lone_node.specs.Course.{IsCourse, moment}
 use Rattle.lone_node.specs.Run.{EndsAt, EndsAtCall, HasChangedNothing, IsFailedOn, IsRunOf, IsTakenBehind, IsWholeRun}
-use Rattle.cluster_program.specs.Mounting.{OfImage, IsImageOf, NeverStands, IsMountedClean, IsMountedFor, MountEnds, is_clean_in}
+use Rattle.cluster_program.specs.Mounting.{OfImage, IsImageOf, IsMountable, NeverStands, IsMountedClean, IsMountedFor, MountEnds, is_clean_in}
 use Rattle.cluster_program.specs.World.{Inputs, KeepsDisk}
 use Rattle.cluster_program.specs.declared.status.Status.{Status}
 use Rattle.cluster_program.specs.declared.status.Status.TheVariants as status
@@ -95,4 +95,6 @@ pub record Runs (given left : Inputs) (s : ScriptValue) (time : ℕ) (items : Li
   -- no item stands before the image was mounted and each of its journals was found clean; where it stands for a tree, they are clean yet
   pub mounted : items ≢ [] → OfImage given.disk IsMountedClean
   pub clean : UnlessFault own (items ≢ [] → (tree : Tree) → IsImageOf given.disk tree → AreCleanAtEnd given.disk left.disk)
+  -- an image that could be mounted can be mounted again, unless the disk failed
+  pub still : UnlessFault own (IsMountable given.disk → IsMountable left.disk)
   pub ends : RunEnds given left s time items own

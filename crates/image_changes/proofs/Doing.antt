@@ -13,9 +13,10 @@ use Rattle.image_model.specs.Image.{Image}
 use Rattle.image_model.specs.Owners.{Owners}
 use Rattle.image_model.specs.Stands.{Layout}
 use Rattle.image_model.proofs.Held.{none_some}
-use Rattle.image_changes.specs.Changes.{JournalsStay}
+use Rattle.image_changes.specs.Changes.{SystemStays}
 use Rattle.image_changes.specs.Does.{bytes_for, with_change, frees, has_block, is_empty, IsOf, DoesIn, NothingDoes}
 use Rattle.image_changes.specs.Instances.{StandsBy}
+use Rattle.image_changes.proofs.System.{system_none}
 
 module _ (change : Change) (none : change.blocks.items ≡ []) (none' : change.freed.items ≡ []) where
   same_image : (im : Image) → with_change im change ≡ im
@@ -45,7 +46,7 @@ nothing_does v call reply change none none'' none' still replies = record {
       replies = replies im o l t is;
       owners = o;
       stands = subst (StandsBy (with_change im change) o l) (sym tree) (subst (λ z. StandsBy z o l t) (sym same) is.stands);
-      journals = subst (λ z. JournalsStay im z o o l) (sym same) (record { rings = λ j d at. refl; places = λ b. ((λ h. h), (λ h. h)) });
+      system = subst (λ z. SystemStays im z o o l) (sym same) (system_none im o l);
       before = λ b has. absurd (true≢false (sym has ∙ has_none change none none' b));
       after = λ b has. absurd (true≢false (sym has ∙ has_none change none none' b));
       written = λ i w lock at at'. absurd (none_some (sym (ap (λ l. slice_get l i) none) ∙ at));

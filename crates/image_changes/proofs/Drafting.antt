@@ -23,7 +23,7 @@ use Rattle.image_model.specs.Journals.{journal_name}
 use Rattle.image_model.specs.Owners.{Owner, Owners, Super, InGroup, Free, Nobody, Root, Master, Named, Below, Chained}
 use Rattle.image_model.specs.Stands.{Layout, IsJournalAt, IsLaid}
 use Rattle.image_model.proofs.Held.{some_same}
-use Rattle.image_changes.specs.Changes.{JournalsStay, cover, is_free, place_of}
+use Rattle.image_changes.specs.Changes.{SystemStays, cover, is_free, place_of}
 use Rattle.image_changes.specs.Instances.{StandsBy, IsAt}
 use Rattle.image_changes.specs.Laws.{OwnLocks}
 use Rattle.image_changes.specs.Does.{bytes_for, with_change, has_block, is_empty, IsHeld, IsWritten, IsFreed, GroupsAreWritten, DoesIn}
@@ -56,22 +56,22 @@ own_locks im o l a laid which = ap (λ t. if t then None else Some (record { kin
 
 record Leaves (im im' : Image) (o o' : Owners) (l : Layout) (written : ℕ → Bool) (t : Tree) : Type 0 where
   stands : StandsBy im' o' l t
-  journals : JournalsStay im im' o o' l
+  system : SystemStays im im' o o' l
   others : (b : ℕ) → written b ≡ false → place_of l o' b ≡ place_of l o b
 
 leaves : (im im' : Image) (o o' : Owners) (l : Layout) (written : ℕ → Bool) (t u : Tree) → StandsBy im o l t → IsOneOfFour im im' o o' l written t u → Leaves im im' o o' l written u
 leaves im im' o o' l written t u s (file_changed path a at c) =
     let r = file_changes im im' o o' l written a path t s at c in
-    record { stands = r.0; journals = r.1; others = λ b away. (others_stay im im' o o' l _ written c.change b away).1 }
+    record { stands = r.0; system = r.1; others = λ b away. (others_stay im im' o o' l _ written c.change b away).1 }
 leaves im im' o o' l written t u s (name_added path parent name a v at c) =
     let r = name_is_added im im' o o' l written parent name a v path t s at c in
-    record { stands = r.0; journals = r.1; others = λ b away. (others_stay im im' o o' l _ written c.change b away).1 }
+    record { stands = r.0; system = r.1; others = λ b away. (others_stay im im' o o' l _ written c.change b away).1 }
 leaves im im' o o' l written t u s (name_removed path parent name a at c) =
     let r = name_is_removed im im' o o' l written parent name a path t s at c in
-    record { stands = r.0; journals = r.1; others = λ b away. (others_stay im im' o o' l _ written c.change b away).1 }
+    record { stands = r.0; system = r.1; others = λ b away. (others_stay im im' o o' l _ written c.change b away).1 }
 leaves im im' o o' l written t u s (name_moved path path' from name to name' a v at at' there beside c) =
     let r = name_is_moved im im' o o' l written from name to name' a path path' t v s at at' there beside c in
-    record { stands = r.0; journals = r.1; others = λ b away. (others_stay im im' o o' l _ written c.change b away).1 }
+    record { stands = r.0; system = r.1; others = λ b away. (others_stay im im' o o' l _ written c.change b away).1 }
 
 -- ---- the locks of its blocks
 
@@ -152,7 +152,7 @@ module _ (v : Seen) (call : Call) (reply : Reply) (fates : FinMap nat_cmp Fate)
     replies = ap (λ (a : Answer). a.reply) makes.answers;
     owners = makes.owners;
     stands = subst (λ z. StandsBy z makes.owners l (apply call t).tree) (sym image) (subst (StandsBy (with_draft im fates) makes.owners l) (sym (ap (λ (a : Answer). a.tree) makes.answers)) left.stands);
-    journals = subst (λ z. JournalsStay im z o makes.owners l) (sym image) left.journals;
+    system = subst (λ z. SystemStays im z o makes.owners l) (sym image) left.system;
     before = λ b has. before b (sym (drafted b) ∙ has);
     after = λ b has. after b (sym (drafted b) ∙ has);
     written = λ i w lock at at'. subst (λ z. IsWritten l z o makes.owners w lock) (sym image) (makes.written w lock (d.told i w lock at at'));

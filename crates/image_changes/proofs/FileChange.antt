@@ -10,11 +10,11 @@ use Rattle.image_model.specs.Owners.{Owners, Root, Up, up_of, is_dinode, holding
 use Rattle.image_model.specs.Stands.{Layout, flat_of, IsFound}
 use Rattle.image_model.proofs.Held.{none_some}
 use Rattle.image_model.proofs.Members.{IsIn}
-use Rattle.image_changes.specs.Changes.{KeepsNames, JournalsStay}
+use Rattle.image_changes.specs.Changes.{KeepsNames, SystemStays}
 use Rattle.image_changes.specs.Instances.{StandsBy, IsAt, among, IsFileChanged, FileChanges}
 use Rattle.image_changes.proofs.FlatPaths.{file_rewritten}
 use Rattle.image_changes.proofs.Frame.{row_kept, same_dinode}
-use Rattle.image_changes.proofs.Laid.{root_named, follow_dinode, laid_after, journals_stay, up_row, row_dinode}
+use Rattle.image_changes.proofs.Laid.{root_named, follow_dinode, laid_after, system_stays, up_row, row_dinode}
 use Rattle.image_changes.proofs.Nodes.{among_in, in_among, not_among, file_thing, file_child, no_system, untouched_flat, rows_kept}
 
 module _ (im im' : Image) (o o' : Owners) (l : Layout) (written : ℕ → Bool) (a : ℕ) (path : Path) (t : Tree) (stands : StandsBy im o l t) (at : IsAt im o l path a) (is : IsFileChanged im im' o o' l written a) where
@@ -81,13 +81,13 @@ module _ (im im' : Image) (o o' : Owners) (l : Layout) (written : ℕ → Bool) 
       found x (inl way) = inl (way.0, rewritten.0 l.root way.0 ∙ way.1)
       found x (inr way) = inr (way.0, rewritten.0 l.master way.0 ∙ way.1)
 
-  pub file_stands : StandsBy im' o' l (put_at path (file (content_of (holding im' o' a))) t) × JournalsStay im im' o o' l
+  pub file_stands : StandsBy im' o' l (put_at path (file (content_of (holding im' o' a))) t) × SystemStays im im' o o' l
   file_stands = (
     record {
       laid = laid_after im im' o o' l (among (a ∷ [])) written stands.laid is.change keeps;
       reads = rewritten.1 t stands.reads;
     },
-    journals_stay im im' o o' l (among (a ∷ [])) written stands.laid is.change keeps,
+    system_stays im im' o o' l (among (a ∷ [])) written stands.laid is.change keeps,
   )
 
 pub file_changes : FileChanges

@@ -21,7 +21,7 @@ use Rattle.image_model.specs.Stands.{Layout, IsSuper, IsZoned, flat_of, heads_of
 use Rattle.image_model.proofs.Held.{none_some, some_same}
 use Rattle.image_model.proofs.Reach.{named_child}
 use Rattle.image_model.proofs.Table.{lies, in_header, in_data, in_none}
-use Rattle.image_changes.specs.Changes.{inode_of, IsOf, Becomes, kept, another_part, of_group, changed, IsChange, KeepsNames, JournalsStay}
+use Rattle.image_changes.specs.Changes.{inode_of, IsOf, Becomes, kept, another_part, of_group, changed, IsChange, KeepsNames, SystemStays}
 use Rattle.image_changes.specs.Flats.{IsNamed}
 use Rattle.image_changes.specs.Laws.{StaysLaid}
 use Rattle.image_changes.proofs.FlatPaths.{one_top, follow_kept, after_some}
@@ -417,13 +417,21 @@ module _ (im im' : Image) (o o' : Owners) (l : Layout) (touched written : ℕ �
       by_path away file (inl way) = laid.short way.0 a way.1 file
       by_path away file (inr way) = absurd (apart_after path way.0 a e (master_way way.0 ∙ way.1))
 
-  -- ---- journals
+  -- ---- the system files
 
   journal_untouched : (j d : ℕ) → IsJournalAt l j d → touched d ≡ false
   journal_untouched j d at = names.system (codes "jindex" ∷ journal_name j ∷ []) d (rw (laid.system.jindex, laid.system.journals j d at) refl)
 
-  pub journals_stay : JournalsStay im im' o o' l
-  journals_stay = record {
+  -- what is found from the master directory stands where it stood, and has what it had
+  system_inode : (path : Path) (a : ℕ) → follow (flat_of im o) l.master path ≡ Some a → touched a ≡ false → (o' a ≡ o a) × (holding im' o' a ≡ holding im o a)
+  system_inode path a at away = (row_kept im im' o o' l touched written change a away (inl (follow_dinode im o l laid path l.master a (ap is_dinode laid.master) at)), same_held a away)
+
+  pub system_stays : SystemStays im im' o o' l
+  system_stays = record {
+    size = change.size;
+    count = change.count;
+    superblock = (super_kept (superblock_place im.size) (laid.zoned.low (superblock_place im.size) (omega arith))).1;
+    inodes = λ path a at. system_inode path a at (names.system path a at);
     rings = λ j d at. same_held d (journal_untouched j d at);
     places = λ b. (
       λ place. (
@@ -469,4 +477,4 @@ module _ (im im' : Image) (o o' : Owners) (l : Layout) (touched written : ℕ �
   }
 
 pub stays_laid : StaysLaid
-stays_laid im im' o o' l touched written laid change names = (laid_after im im' o o' l touched written laid change names, journals_stay im im' o o' l touched written laid change names)
+stays_laid im im' o o' l touched written laid change names = (laid_after im im' o o' l touched written laid change names, system_stays im im' o o' l touched written laid change names)

@@ -17,6 +17,7 @@ pub mod Unminded
 pub mod States
 pub mod Walks
 pub mod DirectoryNames
+pub mod System
 pub mod Doing
 pub mod Finishing
 pub mod Drafting

@@ -15,7 +15,7 @@ use Rattle.image_model.specs.Stands.{Layout, flat_of, heads_of, IsRecordOf, HasR
 use Rattle.image_model.proofs.Held.{none_some, some_same}
 use Rattle.image_model.proofs.Members.{IsIn, contained, is_in}
 use Rattle.std.proofs.lemmas.List.Sorted.{IsPermutation-sym, Contains-permutation}
-use Rattle.image_changes.specs.Changes.{KeepsNames, JournalsStay}
+use Rattle.image_changes.specs.Changes.{KeepsNames, SystemStays}
 use Rattle.image_changes.specs.Flats.{IsNamed, LeadsElsewhere, in_directory}
 use Rattle.image_changes.specs.Instances.{StandsBy, IsAt, among, dinode_at, records_at, is_directory_at, IsNew, empty_file, empty_directory, IsNameAdded, NameIsAdded}
 use Rattle.image_changes.proofs.TreePaths.{IsBeside, leads_beside, under, out, split}
@@ -23,7 +23,7 @@ use Rattle.image_changes.proofs.FlatPaths.{follow-append, unreached, name_leads}
 use Rattle.image_changes.proofs.Bare.{bare_lacks, bare_directory}
 use Rattle.image_changes.proofs.Directories.{Lacks, same_has, has_stays, go_and_come, child_lacks, lacks_child, child_stays, child_comes, once_more, one_lacks, names_any_order}
 use Rattle.image_changes.proofs.Frame.{row_kept, same_dinode, head_same}
-use Rattle.image_changes.proofs.Laid.{root_named, follow_dinode, laid_after, journals_stay, up_row, row_up, row_dinode}
+use Rattle.image_changes.proofs.Laid.{root_named, follow_dinode, laid_after, system_stays, up_row, row_up, row_dinode}
 use Rattle.image_changes.proofs.Standing.{parent_dinode}
 use Rattle.image_changes.proofs.Nodes.{among_in, not_among, node_none, file_thing, file_child, dir_thing, dir_child, dots_child, plain_name, bare_reads, no_system, master_stays, untouched_flat, rows_kept}
 
@@ -310,13 +310,13 @@ module _ (im im' : Image) (o o' : Owners) (l : Layout) (written : ℕ → Bool) 
           of_new (empty_file not' size) = omega (arith, subst (λ z. (dinode_at im' o' z).size ≡ 0) (sym e) size)
           of_new (empty_directory so bare) = absurd (true≢false (sym so ∙ ap (is_directory_at im' o') (sym e) ∙ not))
 
-  pub added_stands : StandsBy im' o' l (put_at (in_directory path name) u t) × JournalsStay im im' o o' l
+  pub added_stands : StandsBy im' o' l (put_at (in_directory path name) u t) × SystemStays im im' o o' l
   added_stands = (
     record {
       laid = laid_after im im' o o' l (among ys) written stands.laid is.change keeps;
       reads = leads.2 t ((unreached_at l.root (ap is_dinode stands.laid.root.0)).1 t stands.reads);
     },
-    journals_stay im im' o o' l (among ys) written stands.laid is.change keeps,
+    system_stays im im' o o' l (among ys) written stands.laid is.change keeps,
   )
 
 pub name_is_added : NameIsAdded

@@ -20,7 +20,7 @@ use Rattle.image_model.proofs.Counts.{count_some}
 use Rattle.image_model.proofs.Held.{none_some, some_same}
 use Rattle.image_model.proofs.Members.{IsIn, contained, is_in, in_right}
 use Rattle.image_model.proofs.Trees.{same_or_not}
-use Rattle.image_changes.specs.Changes.{KeepsNames, JournalsStay}
+use Rattle.image_changes.specs.Changes.{KeepsNames, SystemStays}
 use Rattle.image_changes.specs.Flats.{IsNamed, in_directory}
 use Rattle.image_changes.specs.Instances.{StandsBy, IsAt, among, dinode_at, records_at, is_directory_at, IsTarget, absent, replaced, IsRecordMoved, within, between, IsItself, SaysTheSame, as_before, reparented, IsNameMoved, NameIsMoved}
 use Rattle.image_changes.proofs.TreePaths.{IsBeside, beside_path, leads_beside, beside_shorter, under, out, split, beside_above, not_beside_self, not_beside_under}
@@ -28,7 +28,7 @@ use Rattle.image_changes.proofs.FlatPaths.{after_some, after_same, one_path, fol
 use Rattle.image_changes.proofs.Bare.{not_dots}
 use Rattle.image_changes.proofs.Directories.{Lacks, named_itself, same_has, has_stays, go_and_come, child_stays, child_goes, child_comes, once_more, once_less, one_lacks, names_any_order, names_cons}
 use Rattle.image_changes.proofs.Frame.{row_kept, same_dinode, head_same}
-use Rattle.image_changes.proofs.Laid.{root_named, child_rows, follow_dinode, laid_after, journals_stay, up_row, row_up, row_dinode}
+use Rattle.image_changes.proofs.Laid.{root_named, child_rows, follow_dinode, laid_after, system_stays, up_row, row_up, row_dinode}
 use Rattle.image_changes.proofs.Standing.{has_child_directory, childless, parent_dinode, parent_has, not_own_child, rest_differs}
 use Rattle.image_changes.proofs.Targets.{tree_below, below_is_tree, last_step, target_row, target_gone, target_childless, target_lacks, target_is, target_rest}
 use Rattle.image_changes.proofs.Nodes.{among_in, in_among, not_among, file_thing, dir_thing, dir_child, dots_child, plain_name, leading, leading_other, leads_elsewhere, leads_there, no_system, master_stays, untouched_flat, rows_kept, file_child}
@@ -730,13 +730,13 @@ module _ (im im' : Image) (o o' : Owners) (l : Layout) (written : ℕ → Bool) 
           each (as_before only same) = subst (λ n. n ≤ file_limit) (sym (same.size plain_a)) (stands.laid.short (in_directory path name) a to_a (regular (stands.laid.inodes a dinode_a).mode))
           each (reparented old new so exchanged counted old_named new_named true_of) = absurd (true≢false (sym so ∙ plain_a))
 
-  pub moved_stands : StandsBy im' o' l (put_at (in_directory path' name') u (remove_at (in_directory path name) t)) × JournalsStay im im' o o' l
+  pub moved_stands : StandsBy im' o' l (put_at (in_directory path' name') u (remove_at (in_directory path name) t)) × SystemStays im im' o o' l
   moved_stands = (
     record {
       laid = laid_after im im' o o' l (among ys) written stands.laid is.change keeps;
       reads = left.1 _ (leads.2 _ (gone.1 t stands.reads));
     },
-    journals_stay im im' o o' l (among ys) written stands.laid is.change keeps,
+    system_stays im im' o o' l (among ys) written stands.laid is.change keeps,
   )
 
 pub name_is_moved : NameIsMoved

@@ -15,7 +15,7 @@ use Rattle.image_model.specs.Stands.{Layout, flat_of, heads_of, HasRecord, IsDir
 use Rattle.image_model.proofs.Held.{none_some, some_same}
 use Rattle.image_model.proofs.Members.{IsIn, contained, is_in}
 use Rattle.image_model.proofs.Trees.{same_or_not}
-use Rattle.image_changes.specs.Changes.{KeepsNames, JournalsStay}
+use Rattle.image_changes.specs.Changes.{KeepsNames, SystemStays}
 use Rattle.image_changes.specs.Flats.{SameBut, in_directory}
 use Rattle.image_changes.specs.Instances.{StandsBy, IsAt, among, dinode_at, records_at, is_directory_at, IsNameRemoved, NameIsRemoved}
 use Rattle.image_changes.proofs.TreePaths.{IsBeside, leads_beside, under, out, split, beside_above, not_beside_self}
@@ -23,7 +23,7 @@ use Rattle.image_changes.proofs.FlatPaths.{one_path, follow-append, unreached, n
 use Rattle.image_changes.proofs.Bare.{not_dots}
 use Rattle.image_changes.proofs.Directories.{same_has, has_stays, go_and_come, child_stays, child_goes, once_less, one_lacks}
 use Rattle.image_changes.proofs.Frame.{row_kept, same_dinode, head_same}
-use Rattle.image_changes.proofs.Laid.{root_named, child_rows, follow_dinode, laid_after, journals_stay, up_row, row_up, row_dinode}
+use Rattle.image_changes.proofs.Laid.{root_named, child_rows, follow_dinode, laid_after, system_stays, up_row, row_up, row_dinode}
 use Rattle.image_changes.proofs.Standing.{has_child_directory, childless, parent_dinode, parent_has, not_own_child, rest_differs}
 use Rattle.image_changes.proofs.Nodes.{among_in, not_among, dir_thing, dir_child, dots_child, leading, leading_other, leads_elsewhere, leads_there, no_system, master_stays, untouched_flat, rows_kept}
 
@@ -249,13 +249,13 @@ module _ (im im' : Image) (o o' : Owners) (l : Layout) (written : ℕ → Bool) 
         ]
       ]
 
-  pub removed_stands : StandsBy im' o' l (remove_at (in_directory path name) t) × JournalsStay im im' o o' l
+  pub removed_stands : StandsBy im' o' l (remove_at (in_directory path name) t) × SystemStays im im' o o' l
   removed_stands = (
     record {
       laid = laid_after im im' o o' l (among ys) written stands.laid is.change keeps;
       reads = left.1 (remove_at (in_directory path name) t) (gone.1 t stands.reads);
     },
-    journals_stay im im' o o' l (among ys) written stands.laid is.change keeps,
+    system_stays im im' o o' l (among ys) written stands.laid is.change keeps,
   )
 
 pub name_is_removed : NameIsRemoved

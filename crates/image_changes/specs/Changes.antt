@@ -2,6 +2,7 @@
 use Rattle.std.specs.Prelude.{ℕ, ◌≡◌, ◌⊎◌, ◌<◌, ◌≤◌, ◌==◌, Bool, true, false, if◌then◌else◌, List, length, Option, None, Some}
 use Rattle.std.specs.List.{list_any}
 use Rattle.file_tree.specs.Apply.{file_limit}
+use Rattle.gfs2_layout.specs.Device.{superblock_place}
 use Rattle.gfs2_layout.specs.declared.rindex.Rindex.{Rindex}
 use Rattle.gfs2_layout.specs.Inode.{IsInode, dinode_in, is_directory_in, records_of}
 use Rattle.image_model.specs.Flat.{Path, follow}
@@ -99,7 +100,12 @@ place_of l o b = record { lock = cover l b (o b); free = is_free (o b) }
 abbrev pub IsRingPlace : Owners → Layout → ℕ → Type 0
 IsRingPlace o l b = (j d above k first : ℕ) × IsJournalAt l j d × (o b ≡ Below d above k 0 first)
 
--- the journals have what they had, and their rings' places are the same
-pub record JournalsStay (im im' : Image) (o o' : Owners) (l : Layout) : Type 0 where
+-- What mounting reads is as it was: the device has its blocks, the superblock has its bytes, the master directory and each inode found
+-- from it stand where they stood and have what they had, the journals among them, and the places of the journals' rings are the same.
+pub record SystemStays (im im' : Image) (o o' : Owners) (l : Layout) : Type 0 where
+  pub size : im'.size ≡ im.size
+  pub count : im'.count ≡ im.count
+  pub superblock : im'.at (superblock_place im.size) ≡ im.at (superblock_place im.size)
+  pub inodes : (path : Path) (a : ℕ) → follow (flat_of im o) l.master path ≡ Some a → (o' a ≡ o a) × (holding im' o' a ≡ holding im o a)
   pub rings : (j d : ℕ) → IsJournalAt l j d → holding im' o' d ≡ holding im o d
   pub places : (b : ℕ) → (IsRingPlace o' l b → IsRingPlace o l b) × (IsRingPlace o l b → IsRingPlace o' l b)

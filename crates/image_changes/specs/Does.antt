@@ -19,7 +19,7 @@ use Rattle.drafts.specs.declared.change.Written.{Written}
 use Rattle.image_model.specs.Image.{Image}
 use Rattle.image_model.specs.Owners.{Owner, Owners, InGroup, Free, Below, is_dinode}
 use Rattle.image_model.specs.Stands.{Layout}
-use Rattle.image_changes.specs.Changes.{JournalsStay, inode_of, cover, is_free, place_of}
+use Rattle.image_changes.specs.Changes.{SystemStays, inode_of, cover, is_free, place_of}
 use Rattle.image_changes.specs.Instances.{StandsBy, dinode_at}
 
 -- ---- an image with a change
@@ -112,13 +112,13 @@ pub record IsFreed (written freed : ℕ → Bool) (o o' : Owners) (b : ℕ) : Ty
 abbrev pub GroupsAreWritten : (written changed : ℕ → Bool) → Owners → Owners → Type 0
 GroupsAreWritten written changed o o' = (b g : ℕ) → changed b ≡ true → (o b ≡ Free g) ⊎ (o' b ≡ Free g) → (n : ℕ) × (written n ≡ true) × (o' n ≡ InGroup g)
 
--- In one image: the reply is the tree's; the image with the change stands for the tree after, its journals as they were. Each block
+-- In one image: the reply is the tree's; the image with the change stands for the tree after, its system files as they were. Each block
 -- that the change has was and is covered by a lock that is held exclusive, and each other block belongs where it belonged.
 pub record DoesIn (v : Seen) (call : Call) (reply : Reply) (change : Change) (im : Image) (o : Owners) (l : Layout) (t : Tree) : Type 0 where
   pub replies : (apply call t).reply ≡ reply
   pub owners : Owners
   pub stands : StandsBy (with_change im change) owners l (apply call t).tree
-  pub journals : JournalsStay im (with_change im change) o owners l
+  pub system : SystemStays im (with_change im change) o owners l
   pub before : (b : ℕ) → has_block change b ≡ true → IsHeld v l o b
   pub after : (b : ℕ) → has_block change b ≡ true → IsHeld v l owners b
   pub written : (i : ℕ) (w : Written) (lock : LockName) → slice_get change.blocks.items i ≡ Some w → slice_get change.locks.items i ≡ Some lock

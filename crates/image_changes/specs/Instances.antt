@@ -11,7 +11,7 @@ use Rattle.image_model.specs.Flat.{Path, follow, tree_at, ReadsAs}
 use Rattle.image_model.specs.Image.{Image}
 use Rattle.image_model.specs.Owners.{Owners, Free, Named, is_dinode, holding}
 use Rattle.image_model.specs.Stands.{Layout, IsLaid, IsRecordOf, flat_of, heads_of}
-use Rattle.image_changes.specs.Changes.{IsChange, JournalsStay}
+use Rattle.image_changes.specs.Changes.{IsChange, SystemStays}
 use Rattle.image_changes.specs.Directories.{IsBare}
 use Rattle.image_changes.specs.Flats.{in_directory}
 
@@ -48,7 +48,7 @@ pub record IsFileChanged (im im' : Image) (o o' : Owners) (l : Layout) (written 
 
 abbrev pub FileChanges : Type 0
 FileChanges = (im im' : Image) (o o' : Owners) (l : Layout) (written : ℕ → Bool) (a : ℕ) (path : Path) (t : Tree) → StandsBy im o l t → IsAt im o l path a
-    → IsFileChanged im im' o o' l written a → StandsBy im' o' l (put_at path (file (content_of (holding im' o' a))) t) × JournalsStay im im' o o' l
+    → IsFileChanged im im' o o' l written a → StandsBy im' o' l (put_at path (file (content_of (holding im' o' a))) t) × SystemStays im im' o o' l
 
 -- ---- a name is added: that of a file without content or of a directory without a name, whose dinode is a block that was free
 
@@ -73,7 +73,7 @@ pub record IsNameAdded (im im' : Image) (o o' : Owners) (l : Layout) (written : 
 
 abbrev pub NameIsAdded : Type 0
 NameIsAdded = (im im' : Image) (o o' : Owners) (l : Layout) (written : ℕ → Bool) (parent : ℕ) (name : List ℕ) (a : ℕ) (u : Tree) (path : Path) (t : Tree) → StandsBy im o l t
-    → IsAt im o l path parent → IsNameAdded im im' o o' l written parent name a u → StandsBy im' o' l (put_at (in_directory path name) u t) × JournalsStay im im' o o' l
+    → IsAt im o l path parent → IsNameAdded im im' o o' l written parent name a u → StandsBy im' o' l (put_at (in_directory path name) u t) × SystemStays im im' o o' l
 
 -- ---- a name is removed: that of a file or of a directory that has `.` and `..` alone, which is no inode any more
 
@@ -94,7 +94,7 @@ pub record IsNameRemoved (im im' : Image) (o o' : Owners) (l : Layout) (written 
 
 abbrev pub NameIsRemoved : Type 0
 NameIsRemoved = (im im' : Image) (o o' : Owners) (l : Layout) (written : ℕ → Bool) (parent : ℕ) (name : List ℕ) (a : ℕ) (path : Path) (t : Tree) → StandsBy im o l t
-    → IsAt im o l path parent → IsNameRemoved im im' o o' l written parent name a → StandsBy im' o' l (remove_at (in_directory path name) t) × JournalsStay im im' o o' l
+    → IsAt im o l path parent → IsNameRemoved im im' o o' l written parent name a → StandsBy im' o' l (remove_at (in_directory path name) t) × SystemStays im im' o o' l
 
 -- ---- a name is moved: the inode keeps what is below it, and what stood at the target is no more
 
@@ -150,4 +150,4 @@ NameIsMoved = (im im' : Image) (o o' : Owners) (l : Layout) (written : ℕ → B
     → StandsBy im o l t → IsAt im o l path from → IsAt im o l path' to → tree_at t (in_directory path name) ≡ Some u
     → leads_to (in_directory path name) (in_directory path' name') ≡ false
     → IsNameMoved im im' o o' l written from name to name' a
-    → StandsBy im' o' l (put_at (in_directory path' name') u (remove_at (in_directory path name) t)) × JournalsStay im im' o o' l
+    → StandsBy im' o' l (put_at (in_directory path' name') u (remove_at (in_directory path name) t)) × SystemStays im im' o o' l

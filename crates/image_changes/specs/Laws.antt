@@ -4,13 +4,13 @@ use Rattle.image_model.specs.Image.{Image}
 use Rattle.image_model.specs.Flat.{Path}
 use Rattle.image_model.specs.Owners.{Owners, Free, holding}
 use Rattle.image_model.specs.Stands.{Layout, IsLaid}
-use Rattle.image_changes.specs.Changes.{IsChange, KeepsNames, JournalsStay, inode_lock, place_of}
+use Rattle.image_changes.specs.Changes.{IsChange, KeepsNames, SystemStays, inode_lock, place_of}
 use Rattle.image_changes.specs.Instances.{IsAt}
 
--- an image that is laid out right stays so under a change of few blocks that keeps its names, and its journals stay
+-- an image that is laid out right stays so under a change of few blocks that keeps its names, and its superblock and system files stay
 abbrev pub StaysLaid : Type 0
 StaysLaid = (im im' : Image) (o o' : Owners) (l : Layout) (touched written : ℕ → Bool) → IsLaid im o l → IsChange im im' o o' l touched written
-    → KeepsNames im im' o o' l touched → IsLaid im' o' l × JournalsStay im im' o o' l
+    → KeepsNames im im' o o' l touched → IsLaid im' o' l × SystemStays im im' o o' l
 
 -- an inode that isn't touched has what it had
 abbrev pub UntouchedStay : Type 0

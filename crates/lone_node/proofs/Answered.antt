@@ -26,7 +26,7 @@ use Rattle.drafts.specs.declared.change.Written.{Written}
 use Rattle.image_model.specs.Image.{Image, image_of}
 use Rattle.image_model.specs.Owners.{Owners}
 use Rattle.image_model.specs.Stands.{Layout}
-use Rattle.image_changes.specs.Changes.{JournalsStay}
+use Rattle.image_changes.specs.Changes.{SystemStays}
 use Rattle.image_changes.specs.Does.{AreInside, Does, is_empty, IsFormed, IsInside, IsOf, bytes_for, with_change}
 use Rattle.image_changes.specs.Instances.{StandsBy}
 use Rattle.shared_disk.specs.Disk.{DiskState}
@@ -97,7 +97,7 @@ module _ (d d' : DiskState) (n : Lone) (change : Change) (on : IsOn d n) (form :
               (subst (λ im. StandsBy im in_it.owners s.layout (apply call t).tree) (same_image s.tells) in_it.stands);
         };
         layout = refl;
-        journals = subst (λ im. JournalsStay (image_of d) im s.owners in_it.owners s.layout) (same_image s.tells) in_it.journals;
+        system = subst (λ im. SystemStays (image_of d) im s.owners in_it.owners s.layout) (same_image s.tells) in_it.system;
       }
 
   pub answered : OthersLeaveTheTree → (call : Call) (r : Reply) → Does (seen_alone n) call r change → IsAnsweredFrom d d' n call r

@@ -4,7 +4,8 @@ use Rattle.file_tree.specs.Tree.{Tree}
 use Rattle.image_model.specs.Image.{Image, image_of}
 use Rattle.image_model.specs.Owners.{Owners}
 use Rattle.image_model.specs.Stands.{Layout}
-use Rattle.image_changes.specs.Changes.{JournalsStay}
+use Rattle.image_changes.specs.Changes.{SystemStays}
+use Rattle.image_changes.proofs.System.{system_none, system_on}
 use Rattle.shared_disk.specs.Disk.{DiskState}
 use Rattle.lone_view.specs.Seeing.{Lone}
 use Rattle.lone_node.specs.Standing.{IsSameSystem, LeavesStanding, StandsFor}
@@ -21,32 +22,20 @@ same_on same more = record { size = more.size ∙ same.size; root = more.root �
 abbrev pub stands_on : (d : DiskState) (n n' : Lone) (t : Tree) → IsSameSystem n n' → StandsFor d n t → StandsFor d n' t
 stands_on d n n' t same s = record { tells = s.tells; owners = s.owners; layout = s.layout; root = s.root ∙ sym same.root; groups = s.groups ∙ sym same.groups; stands = s.stands }
 
--- ---- journals
-
-pub journals_none : (im : Image) (o : Owners) (l : Layout) → JournalsStay im im o o l
-journals_none im o l = record { rings = λ j d at. refl; places = λ b. (λ is. is, λ is. is) }
-
-pub journals_on : (im im' im'' : Image) (o o' o'' : Owners) (l l' : Layout) → l' ≡ l → JournalsStay im im' o o' l → JournalsStay im' im'' o' o'' l' → JournalsStay im im'' o o'' l
-journals_on im im' im'' o o' o'' l l' same first second =
-    let here = subst (JournalsStay im' im'' o' o'') same second in
-    record {
-      rings = λ j d at. here.rings j d at ∙ first.rings j d at;
-      places = λ b. (λ is. (first.places b).0 ((here.places b).0 is), λ is. (here.places b).1 ((first.places b).1 is));
-    }
-
 -- ---- what the disk stands for
 
 pub leaves_none : (d : DiskState) (n : Lone) (t : Tree) (s : StandsFor d n t) → LeavesStanding d d n t t s
-leaves_none d n t s = record { now = s; layout = refl; journals = journals_none (image_of d) s.owners s.layout }
+leaves_none d n t s = record { now = s; layout = refl; system = system_none (image_of d) s.owners s.layout }
 
 -- by a view of the same system
 pub leaves_as : (d d' : DiskState) (n later : Lone) (t t' : Tree) (same : IsSameSystem n later) (s : StandsFor d n t) → LeavesStanding d d' later t t' (stands_on d n later t same s)
     → LeavesStanding d d' n t t' s
-leaves_as d d' n later t t' same s it = record { now = stands_on d' later n t' (same_back same) it.now; layout = it.layout; journals = it.journals }
+leaves_as d d' n later t t' same s it = record { now = stands_on d' later n t' (same_back same) it.now; layout = it.layout; system = it.system }
 
 pub leaves_on : (d d' d'' : DiskState) (n : Lone) (t t' t'' : Tree) (s : StandsFor d n t) (it : LeavesStanding d d' n t t' s) → LeavesStanding d' d'' n t' t'' it.now → LeavesStanding d d'' n t t'' s
 leaves_on d d' d'' n t t' t'' s it more = record {
   now = more.now;
   layout = more.layout ∙ it.layout;
-  journals = journals_on (image_of d) (image_of d') (image_of d'') s.owners it.now.owners more.now.owners s.layout it.now.layout it.layout it.journals more.journals;
+  system = system_on (image_of d) (image_of d') (image_of d'') s.owners it.now.owners more.now.owners s.layout it.system
+      (subst (SystemStays (image_of d') (image_of d'') it.now.owners more.now.owners) it.layout more.system);
 }

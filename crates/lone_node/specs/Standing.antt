@@ -8,7 +8,7 @@ use Rattle.glock_names.specs.Views.{end_of, group_of_entry}
 use Rattle.image_model.specs.Image.{image_of}
 use Rattle.image_model.specs.Owners.{Owners}
 use Rattle.image_model.specs.Stands.{Layout}
-use Rattle.image_changes.specs.Changes.{JournalsStay}
+use Rattle.image_changes.specs.Changes.{SystemStays}
 use Rattle.image_changes.specs.Instances.{StandsBy}
 use Rattle.shared_disk.specs.Disk.{DiskState}
 use Rattle.lone_view.specs.Seeing.{Lone}
@@ -37,11 +37,11 @@ pub record StandsFor (d : DiskState) (n : Lone) (t : Tree) : Type 0 where
   pub groups : map group_of_entry layout.groups ≡ n.groups
   pub stands : StandsBy (image_of d) owners layout t
 
--- where the disk stood for a tree, it stands now for this one, by the same layout, and its journals are as they were
+-- where the disk stood for a tree, it stands now for this one, by the same layout, and what mounting reads of it is as it was
 pub record LeavesStanding (d d' : DiskState) (n : Lone) (t t' : Tree) (s : StandsFor d n t) : Type 0 where
   pub now : StandsFor d' n t'
   pub layout : now.layout ≡ s.layout
-  pub journals : JournalsStay (image_of d) (image_of d') s.owners now.owners s.layout
+  pub system : SystemStays (image_of d) (image_of d') s.owners now.owners s.layout
 
 -- how many blocks of the disk the view hasn't
 abbrev pub is_none : Option (List ℕ) → Bool

@@ -1,0 +1,98 @@
+-- An image that could be mounted can be mounted after calls too: where it stands for a tree, and what mounting reads of it is as it was.
+use Rattle.std.proofs.Common.{◌≡◌, ℕ, ◌^◌, ◌≤◌, true, List, [], ◌∷◌, Some, refl, sym, ap, ◌∙◌, subst}
+use Rattle.std.specs.Prelude.{codes}
+use Rattle.profile_limits.specs.Limits.{least_journal_blocks, most_blocks, most_journal_blocks}
+use Rattle.file_tree.specs.Tree.{Tree}
+use Rattle.gfs2_layout.specs.Device.{superblock_place}
+use Rattle.gfs2_layout.specs.Inode.{is_hashed_in}
+use Rattle.gfs2_layout.specs.Structures.{superblock_of}
+use Rattle.gfs2_layout.specs.declared.superblock.SuperBlock.{SuperBlock}
+use Rattle.image_model.specs.Claims.{every, HasInode, IsJindex, LeadsTo}
+use Rattle.image_model.specs.Flat.{Path, Node, follow}
+use Rattle.image_model.specs.Image.{Image, image_of, superblock_in}
+use Rattle.image_model.specs.Journals.{journal_name}
+use Rattle.image_model.specs.Owners.{Owners, is_dinode}
+use Rattle.image_model.specs.Profile.{IsInProfile}
+use Rattle.image_model.specs.Rules.{IsHashedAt}
+use Rattle.image_model.specs.Stands.{Layout, IsLaid, flat_of}
+use Rattle.image_model.proofs.Facts.{child_leads, has_jindex, jindex_is, leads_child_of, leads_row}
+use Rattle.image_model.proofs.Reach.{inode_claim}
+use Rattle.image_model.proofs.Rows.{hashed_is}
+use Rattle.image_changes.specs.Changes.{SystemStays}
+use Rattle.image_changes.proofs.Layouts.{one_layout}
+use Rattle.image_changes.proofs.System.{system_flat}
+use Rattle.image_mount.specs.Mounted.{MountedValue}
+use Rattle.shared_disk.specs.Disk.{DiskState}
+use Rattle.lone_view.specs.Seeing.{Lone}
+use Rattle.lone_node.specs.Standing.{LeavesStanding, StandsFor}
+use Rattle.cluster_program.specs.Mounting.{IsMountable, IsMountedFor}
+use Rattle.cluster_program.proofs.Heads.{clean_again, head_kept, places_kept}
+
+module _ (im im' : Image) (o o' : Owners) (l : Layout) (laid : IsLaid im o l) (laid' : IsLaid im' o' l) (stay : SystemStays im im' o o' l) where
+  superblock_same : superblock_in im' ≡ superblock_in im
+  superblock_same = ap superblock_of (ap (λ (n : ℕ). im'.at (superblock_place n)) stay.size ∙ stay.superblock)
+
+  -- a name in a directory below the master directory leads nowhere else than before
+  led_there : (path : Path) (a : ℕ) → follow (flat_of im o) l.master path ≡ Some a → (name : List ℕ) (d : ℕ) → LeadsTo im' a name d → LeadsTo im a name d
+  led_there path a at name d way =
+      child_leads im o l laid a name d (ap (λ (n : Node). n.child name) (sym (system_flat im im' o o' l stay path a at)) ∙ leads_child_of im' o' l laid' a name d way)
+
+  jindex_found : follow (flat_of im o) l.master (codes "jindex" ∷ []) ≡ Some l.jindex
+  jindex_found = rw laid.system.jindex refl
+
+  pub profile_stays : IsInProfile im l → IsInProfile im' l
+  profile_stays was = record {
+    fs_format = ap (λ (s : SuperBlock). s.fs_format) superblock_same ∙ was.fs_format;
+    multihost_format = ap (λ (s : SuperBlock). s.multihost_format) superblock_same ∙ was.multihost_format;
+    bsize = ap (λ (s : SuperBlock). s.bsize) superblock_same ∙ was.bsize ∙ sym stay.size;
+    bsize_shift = ap (λ (s : SuperBlock). 2 ^ s.bsize_shift) superblock_same ∙ was.bsize_shift ∙ sym stay.size;
+    master = λ name d way. was.master name d (led_there [] l.master refl name d way);
+    device = subst (λ n. n ≤ most_blocks) (sym stay.count) was.device;
+    journals = record {
+      some = was.journals.some;
+      few = was.journals.few;
+      there = λ j d at. child_leads im' o' l laid' l.jindex (journal_name j) d (laid'.system.journals j d at);
+      others = λ name d way. was.journals.others name d (led_there (codes "jindex" ∷ []) l.jindex jindex_found name d way);
+    };
+    journal = λ j d at. subst (λ n. (least_journal_blocks ≤ n) × (n ≤ most_journal_blocks)) (sym (places_kept im im' o o' l laid laid' stay j d at)) (was.journal j d at);
+    groups = was.groups;
+    group_blocks = was.group_blocks;
+    sequence = λ j d head at is. was.sequence j d head at (sym (head_kept im im' o o' l laid laid' stay j d at) ∙ is);
+  }
+
+  jindex_dinode : (z : Image) (p : Owners) → IsLaid z p l → is_dinode (p l.jindex) ≡ true
+  jindex_dinode z p is = ap is_dinode (leads_row z p l is l.master (codes "jindex") l.jindex (child_leads z p l is l.master (codes "jindex") l.jindex is.system.jindex))
+
+  jindex_there : HasInode im l.jindex
+  jindex_there =
+      let dinode = jindex_dinode im o laid in
+      let claim = inode_claim im o l laid l.jindex dinode in
+      (o l.jindex, record { by = claim.0; claimed = claim.1; dinode = dinode })
+
+  was_hashed : is_hashed_in (every im' l.jindex) ≡ true → is_hashed_in (every im l.jindex) ≡ true
+  was_hashed hashed =
+      sym (hashed_is im o l laid l.jindex (jindex_dinode im o laid))
+      ∙ ap is_hashed_in (sym (stay.inodes (codes "jindex" ∷ []) l.jindex jindex_found).1)
+      ∙ hashed_is im' o' l laid' l.jindex (jindex_dinode im' o' laid')
+      ∙ hashed
+
+  -- a directory of journals that wasn't hashed isn't
+  pub linear_stays : ((a : ℕ) → IsJindex im a → IsHashedAt im a → ⊥) → (a : ℕ) → IsJindex im' a → IsHashedAt im' a → ⊥
+  linear_stays none a is hashed =
+      none l.jindex (has_jindex im o l laid) (jindex_there, was_hashed (subst (λ (d : ℕ). is_hashed_in (every im' d) ≡ true) (jindex_is im' o' l laid' a is) hashed.1))
+
+-- where a disk stood for a tree and was mounted, and stands now for one by the same layout, it can be mounted if it could
+pub mountable_still : (d d' : DiskState) (n : Lone) (t t' : Tree) (m : MountedValue) → IsMountedFor d m → (at : StandsFor d n t) → LeavesStanding d d' n t t' at → IsMountable d → IsMountable d'
+mountable_still d d' n t t' m for at left may = record {
+  tree = t';
+  is = record { tells = left.now.tells; stands = record { owners = left.now.owners; layout = left.now.layout; laid = left.now.stands.laid; reads = left.now.stands.reads } };
+  profile = record { owners = left.now.owners; layout = at.layout; laid = laid; profile = profile_stays (image_of d) (image_of d') at.owners left.now.owners at.layout at.stands.laid laid left.system profile };
+  linear = linear_stays (image_of d) (image_of d') at.owners left.now.owners at.layout at.stands.laid laid left.system may.linear;
+  clean = clean_again (image_of d) (image_of d') at.owners left.now.owners at.layout at.stands.laid laid left.system m (for.mounted at.tells) for.clean;
+}
+  where
+    laid : IsLaid (image_of d') left.now.owners at.layout
+    laid = subst (IsLaid (image_of d') left.now.owners) left.layout left.now.stands.laid
+
+    profile : IsInProfile (image_of d) at.layout
+    profile = subst (IsInProfile (image_of d)) (one_layout (image_of d) may.profile.owners at.owners may.profile.layout at.layout may.profile.laid at.stands.laid) may.profile.profile
