@@ -105,7 +105,7 @@ module _ (v : Seen) (im : Image) (call : Call) (read : IsReadFrom v im) (whole :
   makings_told : (rule b : ℕ) → making.IsDamage v call rule b → IsTold v im rule b
   makings_told rule b (making.on_path r x broken) = itself r x (paths_tell v im (wanted call) (making.directory_path call) r x read broken)
   makings_told rule b (making.in_directory a r x leads wrong) = itself r x (in_directory_told a r x leads wrong)
-  makings_told rule b (making.in_group r x broken) = itself r x (group_told v im read whole broken.group broken.has r x broken.broken)
+  makings_told rule b (making.in_group r x gets broken) = itself r x (group_told v im read whole broken.group broken.has r x broken.broken)
   makings_told rule b (making.no_data_block a leads out) = root_told v im read (wanted call) (making.directory_path call) a leads out
 
 pub makings_tell : MakingsTell

@@ -1,10 +1,10 @@
--- How a call is answered: by which change, at which time.
+-- How a file call is answered, and what its change makes.
 use Rattle.std.specs.Prelude.{ℕ, ◌≡◌, ⊤, true}
 use Rattle.cluster_history.specs.Changes.{is_ok}
+use Rattle.drafts.specs.declared.change.Change.{Change}
 use Rattle.file_tree.specs.declared.call.Call.{Call}
 use Rattle.file_tree.specs.declared.call.Call.TheVariants as calls
 use Rattle.file_tree.specs.declared.reply.Reply.{Reply}
-use Rattle.drafts.specs.declared.change.Change.{Change}
 use Rattle.glock_names.specs.Views.{Seen}
 use Rattle.image_model.specs.Image.{Image}
 use Rattle.image_model.specs.Owners.{Owners}
@@ -14,20 +14,35 @@ use Rattle.read_calls.specs.Reading as reading
 use Rattle.removing_calls.specs.Removing as removing
 use Rattle.writing_calls.specs.Writing as writing
 
--- as far as the view shows, the reply is right, and the change is that of the call, as this node's at this time
-abbrev pub IsAnswered : {V : Type 0} → (V → Seen) → V → Call → ℕ → ℕ → Reply → Change → Type 0
-IsAnswered seen view (calls.Create path) node time r change = ⊤
-IsAnswered seen view (calls.Mkdir path) node time r change = ⊤
-IsAnswered seen view (calls.Unlink path) node time r change = removing.IsAnswered seen view (calls.Unlink path) time r change
-IsAnswered seen view (calls.Rmdir path) node time r change = removing.IsAnswered seen view (calls.Rmdir path) time r change
-IsAnswered seen view (calls.Write path at new) node time r change = writing.IsAnswered (seen view) (calls.Write path at new) time r change
-IsAnswered seen view calls.Sync node time r change = writing.IsAnswered (seen view) calls.Sync time r change
-IsAnswered seen view call node time r change = reading.IsAnswered (seen view) call r
+-- ---- as far as the view shows
 
--- in an image that the view may be of, of a call that was answered ok: a name that is made is made so, byte by byte; and the directory has the time
+-- a node answers the call so at this time, with this change
+abbrev pub IsAnswered : {V : Type 0} → (V → Seen) → V → Call → ℕ → ℕ → Reply → Change → Type 0
+IsAnswered seen view (calls.Create path) node time reply change = making.IsAnswered (seen view) (calls.Create path) node time reply change
+IsAnswered seen view (calls.Mkdir path) node time reply change = making.IsAnswered (seen view) (calls.Mkdir path) node time reply change
+IsAnswered seen view (calls.Unlink path) node time reply change = removing.IsAnswered seen view (calls.Unlink path) time reply change
+IsAnswered seen view (calls.Rmdir path) node time reply change = removing.IsAnswered seen view (calls.Rmdir path) time reply change
+IsAnswered seen view (calls.Write path at new) node time reply change = writing.IsAnswered (seen view) (calls.Write path at new) time reply change
+IsAnswered seen view calls.Sync node time reply change = writing.IsAnswered (seen view) calls.Sync time reply change
+IsAnswered seen view call node time reply change = reading.IsAnswered (seen view) call reply
+
+-- too few blocks are free for the call, as far as the view shows: `create` and `mkdir` alone take one
+abbrev pub IsFullFor : Seen → Call → ℕ → ℕ → Type 0
+IsFullFor v (calls.Create path) need free = making.IsFullFor v (calls.Create path) need free
+IsFullFor v (calls.Mkdir path) need free = making.IsFullFor v (calls.Mkdir path) need free
+IsFullFor v call need free = ⊥
+
+-- ---- in an image that the view may be of
+
+-- what the change of such a call makes of the image: `create` and `mkdir` the new inode and the name's record, at this time; of `unlink` and
+-- `rmdir` the directory has the time
+abbrev pub IsMadeOf : Image → Owners → Layout → Call → ℕ → ℕ → Change → Type 0
+IsMadeOf im o l (calls.Create path) node time change = making.IsMade im o l (calls.Create path) node time change × making.IsStamped im o l (calls.Create path) time change
+IsMadeOf im o l (calls.Mkdir path) node time change = making.IsMade im o l (calls.Mkdir path) node time change × making.IsStamped im o l (calls.Mkdir path) time change
+IsMadeOf im o l (calls.Unlink path) node time change = removing.IsStamped im o l (calls.Unlink path) time change
+IsMadeOf im o l (calls.Rmdir path) node time change = removing.IsStamped im o l (calls.Rmdir path) time change
+IsMadeOf im o l call node time change = ⊤
+
+-- it does so where the call is answered ok
 abbrev pub IsMadeIn : Image → Owners → Layout → Call → ℕ → ℕ → Reply → Change → Type 0
-IsMadeIn im o l (calls.Create path) node time r change = is_ok r ≡ true → making.IsMade im o l (calls.Create path) node time change × making.IsStamped im o l (calls.Create path) time change
-IsMadeIn im o l (calls.Mkdir path) node time r change = is_ok r ≡ true → making.IsMade im o l (calls.Mkdir path) node time change × making.IsStamped im o l (calls.Mkdir path) time change
-IsMadeIn im o l (calls.Unlink path) node time r change = is_ok r ≡ true → removing.IsStamped im o l (calls.Unlink path) time change
-IsMadeIn im o l (calls.Rmdir path) node time r change = is_ok r ≡ true → removing.IsStamped im o l (calls.Rmdir path) time change
-IsMadeIn im o l call node time r change = ⊤
+IsMadeIn im o l call node time reply change = is_ok reply ≡ true → IsMadeOf im o l call node time change

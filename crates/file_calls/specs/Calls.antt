@@ -4,6 +4,8 @@ use Rattle.file_tree.specs.Tree.{Tree}
 use Rattle.file_tree.specs.declared.call.Call.{Call}
 use Rattle.file_tree.specs.declared.call.Call.TheVariants as calls
 use Rattle.glock_names.specs.Views.{Seen}
+use Rattle.glock_names.specs.declared.LockName.{LockName}
+use Rattle.glock_names.specs.declared.State.{State}
 use Rattle.glock_names.specs.declared.steps.Missing.{Missing}
 use Rattle.call_locks.specs.WantLaws.{path_of}
 use Rattle.call_locks.specs.Wants.{wanted}
@@ -12,7 +14,7 @@ use Rattle.image_model.specs.Owners.{Owners}
 use Rattle.image_model.specs.Stands.{Layout}
 use Rattle.making_calls.specs.Making as making
 use Rattle.path_walks.specs.Holds.{Hold, holds_in}
-use Rattle.path_walks.specs.Walks.{IsUnread}
+use Rattle.path_walks.specs.Walks.{IsLacked, IsUnread}
 use Rattle.path_walks.specs.Walks as path
 use Rattle.read_calls.specs.Reading as reading
 use Rattle.removing_calls.specs.Removing as removing
@@ -51,6 +53,15 @@ IsTooFew v im o l t (calls.Mkdir path) need free = making.IsTooFew v im o l t (c
 IsTooFew v im o l t call need free = ⊥
 
 -- ---- as far as the view shows
+
+-- this lock isn't held so strongly, and comes next: on the path; of those under which a name is made; or of a group that has blocks of the inode
+-- that goes
+abbrev pub IsLackedFor : Seen → Call → ℕ → LockName → State → Type 0
+IsLackedFor v (calls.Create path) node lock state = making.IsLackedFor v (calls.Create path) node lock state
+IsLackedFor v (calls.Mkdir path) node lock state = making.IsLackedFor v (calls.Mkdir path) node lock state
+IsLackedFor v (calls.Unlink path) node lock state = removing.IsLackedFor v (calls.Unlink path) lock state
+IsLackedFor v (calls.Rmdir path) node lock state = removing.IsLackedFor v (calls.Rmdir path) lock state
+IsLackedFor v call node lock state = IsLacked v (wanted call) (path_of call false) lock state
 
 -- a block without which the call isn't answered
 abbrev pub IsNeededFor : Seen → Call → Missing → Type 0

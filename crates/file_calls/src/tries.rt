@@ -1,5 +1,5 @@
 // A try of a file call.
-ghost use Rattle.std.specs.Prelude.{ℕ, ◌≡◌, ◌≢◌, ◌≤◌, ◌<◌, None, false, length};
+ghost use Rattle.std.specs.Prelude.{ℕ, ◌≡◌, ◌≢◌, ◌≤◌, ◌<◌, None, length};
 ghost use Rattle.file_tree.specs.Apply.{apply};
 ghost use Rattle.file_tree.specs.Tree.{Tree};
 ghost use Rattle.file_tree.specs.declared.reply.Reply.TheVariants.{NoSpace, Ok as OkReply};
@@ -10,11 +10,13 @@ ghost use Rattle.image_model.specs.Owners.{Owners};
 ghost use Rattle.image_model.specs.Stands.{Layout};
 ghost use Rattle.image_changes.specs.Does.{IsOf, Does, AreInside};
 ghost use Rattle.path_walks.specs.Answers.{IfDone, IfNeedLock, IfNeedBlock, IfNoSpace, IfHashed, IfNotBuilt};
-ghost use Rattle.path_walks.specs.Holds.{AreHeld, IsAskedFor, IsFirstLack, holds, IsUnder};
-ghost use Rattle.file_calls.specs.Answers.{IsAnswered, IsMadeIn};
-ghost use Rattle.file_calls.specs.Calls.{IsBuilt, IsDamage, IsHashed, IsNeededFor, IsTooFew, IsUnbuilt, call_holds};
+ghost use Rattle.path_walks.specs.Holds.{AreHeld, IsAskedFor, IsFirstLack, IsUnder};
 ghost use Rattle.making_calls.specs.Making.{IsMaking};
+ghost use Rattle.writing_calls.specs.Writing.{IfSync, IsSynced};
+ghost use Rattle.file_calls.specs.Answers.{IsAnswered, IsFullFor, IsMadeIn};
+ghost use Rattle.file_calls.specs.Calls.{IsBuilt, IsDamage, IsHashed, IsLackedFor, IsNeededFor, IsTooFew, IsUnbuilt, call_holds};
 
+use dinode_tree::every_view_shows_an_inode;
 use drafts::{Attempt, Stamp};
 use file_tree::Call;
 use glock_names::{CallFault, View};
@@ -39,12 +41,14 @@ pub fn attempt<V: View>(
     ensures block { (im : Image) (o : Owners) (l : Layout) (t : Tree) → IsOf (V.seen view.now) im o l t → IfNeedBlock result (IsAskedFor (V.seen view.now) im o l (call_holds im o l t call.now stamp.now.node)) }
     ensures on_device { (im : Image) (o : Owners) (l : Layout) (t : Tree) → IsOf (V.seen view.now) im o l t → IfNeedBlock result (λ m. m.block < im.count) }
     ensures space { (im : Image) (o : Owners) (l : Layout) (t : Tree) → IsOf (V.seen view.now) im o l t → IfNoSpace result (IsTooFew (V.seen view.now) im o l t call.now) }
+    ensures full { IfNoSpace result (IsFullFor (V.seen view.now) call.now) }
     ensures fewer { IfNoSpace result (λ need free. free < need) }
     ensures spaceless { IfDone result (λ reply change. reply ≢ NoSpace) }
     ensures roomless { IfNoSpace result (λ need free. IsMaking call.now) }
     ensures answered { IfDone result (IsAnswered V.seen view.now call.now stamp.now.node stamp.now.time) }
-    ensures made { (im : Image) (o : Owners) (l : Layout) (t : Tree) → IsOf (V.seen view.now) im o l t → IfDone result (IsMadeIn im o l call.now stamp.now.node stamp.now.time) }
-    ensures lacked { IfNeedLock result (λ lock state. holds (V.seen view.now) (record { lock = lock; state = state }) ≡ false) }
+    ensures made { (im : Image) (o : Owners) (l : Layout) (t : Tree) → IsOf (V.seen view.now) im o l t → IfDone result (λ reply change. IsMadeIn im o l call.now stamp.now.node stamp.now.time reply change) }
+    ensures synced { IfSync call.now (IsSynced result) }
+    ensures lacked { IfNeedLock result (IsLackedFor (V.seen view.now) call.now stamp.now.node) }
     ensures needed { IfNeedBlock result (IsNeededFor (V.seen view.now) call.now) }
     ensures absent { IfNeedBlock result (λ m. (V.seen view.now).block_at m.block ≡ None) }
     ensures hashed { IfHashed result (IsHashed (V.seen view.now) call.now) }
@@ -54,5 +58,15 @@ pub fn attempt<V: View>(
     ensures damaged { IfDamaged result (IsDamage (V.seen view.now) call.now) }
     ensures kept { IfDamaged result (IsOfView (V.seen view.now)) }
 {
-    Err(CallFault::NoMemory)
+    let _size = view.block_size();
+    every_view_shows_an_inode();
+    match call {
+        Call::Read(_, _, _) | Call::Dread(_, _, _) | Call::Stat(_) | Call::List(_) => {
+            read_calls::attempt(alloc, view, call, stamp)
+        }
+        Call::Create(_) | Call::Mkdir(_) => making_calls::attempt(alloc, view, call, stamp),
+        Call::Unlink(_) | Call::Rmdir(_) => removing_calls::attempt(alloc, view, call, stamp),
+        Call::Write(_, _, _) | Call::Sync => writing_calls::attempt(alloc, view, call, stamp),
+        _ => unreachable!(),
+    }
 }

@@ -1,5 +1,5 @@
 -- The steps of a draft that makes a name, put together.
-use Rattle.std.proofs.Common.{◌≡◌, ◌≢◌, ◌⊎◌, inl, inr, Bool, true, false, ℕ, ◌+◌, ◌<◌, List, None, Some, refl, sym, ap, ap₂, ◌∙◌, subst, subst₂, arith}
+use Rattle.std.proofs.Common.{◌≡◌, ◌≢◌, ◌⊎◌, inl, inr, Bool, true, false, ℕ, ◌+◌, ◌<◌, List, Option, None, Some, refl, sym, ap, ap₂, ◌∙◌, subst, subst₂, arith}
 use Rattle.std.proofs.lemmas.Bool.{cases_eq}
 use Rattle.std.specs.Prelude.{is_some}
 use Rattle.std.specs.Ordering.{nat_cmp}
@@ -9,7 +9,7 @@ use Rattle.file_tree.specs.Tree.{Tree}
 use Rattle.drafts.specs.Fates.{AreWhole, Drafted, block_with, seen_in, seen_with}
 use Rattle.drafts.specs.declared.change.Change.{Change}
 use Rattle.drafts.specs.declared.fate.Fate.{Fate}
-use Rattle.drafts.specs.declared.fate.Fate.TheVariants.{Put}
+use Rattle.drafts.specs.declared.fate.Fate.TheVariants.{Freed, Put}
 use Rattle.gfs2_layout.specs.Groups.{uncounted}
 use Rattle.gfs2_layout.specs.Holding.{Holding, alone}
 use Rattle.gfs2_layout.specs.Inode.{Head, IsInode, head_of}
@@ -41,7 +41,7 @@ use Rattle.draft_changes.specs.Adding.{AddsName, ReadsNew}
 use Rattle.draft_changes.proofs.Views.{groups_are_listed}
 use Rattle.path_walks.proofs.Lying.{data_lies, header_lies}
 use Rattle.path_walks.specs.declared.walk.Place.{Place}
-use Rattle.making_calls.specs.Drafting.{CountsNumber, IsAddition, IsNewOf, IsNumbered, IsPlaceFor, IsPutUnder, of_directory, of_group, of_inode, IsRecordPut, IsSaidAndDone, PutsUnder, kind_for, new_tree}
+use Rattle.making_calls.specs.Drafting.{CountsNumber, IsAddition, IsNewOf, IsNumbered, IsPlaceFor, IsPutUnder, of_directory, of_group, of_inode, IsRecordPut, IsSaidAndDone, PutsUnder, SaysInode, kind_for, new_tree}
 use Rattle.making_calls.specs.declared.blocks.Room.{Room}
 use Rattle.making_calls.proofs.Chain.{AreSteps, adds_name}
 use Rattle.making_calls.proofs.NewInodes.{directory_reads, directory_record, file_reads, file_record}
@@ -55,6 +55,13 @@ view_whole v fates view b lock plain bytes put = view.whole b bytes (ap (λ f. b
 
 empty_whole : (size : ℕ) → AreWhole size empty
 empty_whole size b lock plain bytes put = absurd (none_some (sym (get-empty nat_cmp b) ∙ put))
+
+-- a block as a draft over the view has it, or else the view, or else as it was
+seen_twice : (fate : Option Fate) (below : Option (List ℕ)) (was : List ℕ) → seen_or (block_with fate below) (seen_or below was) ≡ seen_or (block_with fate below) was
+seen_twice fate None was = refl
+seen_twice None (Some bytes) was = refl
+seen_twice (Some Freed) (Some bytes) was = refl
+seen_twice (Some (Put lock plain new)) (Some bytes) was = refl
 
 -- ---- the new inode, in one image
 
@@ -227,6 +234,27 @@ module _ (v : Seen) (is_directory : Bool) (p : Place) (name : List ℕ) (r : Roo
         ap uncounted (header_same at' last r.group (fit_of v r.group shows has).some (now_there ∙ sym last_there))
         ∙ (is.said.says numbered shown4).put.others ∙ ap uncounted (is.numbered.numbered at shown).header
 
+    -- what the number's draft put is put again
+    last_same : (at : ℕ → List ℕ) (b : ℕ) → overlaid (seen_with v is.said.fates) (overlaid (seen_with v is.first) at) b ≡ overlaid (seen_with v is.said.fates) at b
+    last_same at b = elim (cases_eq b r.group.addr) [
+      | inl same ↦
+          let put = ap (get is.said.fates) same ∙ is.said.header_put in
+          ap (λ f. seen_or (block_with f (v.block_at b)) (overlaid (seen_with v is.first) at b)) put ∙ sym (ap (λ f. seen_or (block_with f (v.block_at b)) (at b)) put)
+      | inr other ↦
+          ap (λ f. seen_or (block_with (get is.said.fates b) (v.block_at b)) (seen_or (block_with f (v.block_at b)) (at b))) (of_first b other)
+          ∙ seen_twice (get is.said.fates b) (v.block_at b) (at b)
+    ]
+
+    says : (at : ℕ → List ℕ) → group.IsShown v r.group at → SaysInode at (overlaid (seen_with v is.said.fates) at) r.group r.block is.number
+    says at shown =
+        let numbered = overlaid (seen_with v is.first) at in
+        let shown4 = later_shown v r.group is.number is.first is.numbered shows has p.inode inside is.fourth header_stays is.view at shown in
+        record {
+          between = numbered;
+          numbered = is.numbered.numbered at shown;
+          said = subst (λ last. IsPutIn numbered last r.group r.block 3) (λ i b. last_same at b i) (is.said.says numbered shown4);
+        }
+
     pub addition_is : IsAddition v is_directory p name r time change
     addition_is = record {
       fates = is.said.fates;
@@ -240,6 +268,7 @@ module _ (v : Seen) (is_directory : Bool) (p : Place) (name : List ℕ) (r : Roo
       header = is.said.header;
       header_put = is.said.header_put;
       counted = counted;
+      says = says;
       bytes = is.bytes;
       put = is.said.others r.block (no_header data_block has) (no_part data_block has) ∙ ap (λ (m : FinMap nat_cmp Fate). get m r.block) is.put ∙ put_there is.third r.block _;
       new = is.new;

@@ -1,5 +1,5 @@
 -- A directory that is touched in a draft, and gets a record then.
-use Rattle.std.proofs.Common.{◌≡◌, ◌≢◌, inl, inr, Bool, ℕ, false, List, [], ◌∷◌, drop, Some, sym, ap, ◌∙◌, subst}
+use Rattle.std.proofs.Common.{◌≡◌, ◌≢◌, inl, inr, Bool, ℕ, false, List, [], ◌∷◌, drop, Some, sym, ap, ◌∙◌, subst, subst₂}
 use Rattle.std.proofs.lemmas.Bool.{cases_eq}
 use Rattle.std.specs.List.{list_any}
 use Rattle.std.specs.Cmp.{nat_cmp_total}
@@ -10,6 +10,7 @@ use Rattle.drafts.specs.Fates.{Drafted, block_with, seen_in, seen_with}
 use Rattle.drafts.specs.declared.fate.Fate.{Fate}
 use Rattle.drafts.specs.declared.fate.Fate.TheVariants.{Put}
 use Rattle.gfs2_layout.specs.Area.{slots_of}
+use Rattle.gfs2_layout.specs.Exchanges.{IsCounted}
 use Rattle.gfs2_layout.specs.Holding.{Holding, bytes_at}
 use Rattle.gfs2_layout.specs.Inode.{dinode_in, height_in, linear_area}
 use Rattle.gfs2_layout.specs.Putting.{has_room, put_slot}
@@ -114,10 +115,11 @@ module _ {V : Type 0} (seen : V → Seen) (old mid : Drafted V) (dir time : ℕ)
 
   -- and its block's bytes are those with the record
   gets : (last : Drafted V) (name after : List ℕ) (entry : Entry) → last ≡ record mid { fates = insert mid.fates dir (Put (inode_lock dir) false after) }
+      → ((h : Holding) → IsShown (seen_in seen mid) dir h → HasExchanged h (holding_over (seen_in seen last) h) [] (record_for name entry ∷ []))
       → ((h : Holding) → IsShown (seen_in seen mid) dir h → put_slot (head_for name entry) name (slots_of (linear_area h)) ≡ Some (slots_of (linear_area (holding_over (seen_in seen last) h))))
       → ((h : Holding) → IsShown (seen_in seen mid) dir h → uncounted (dinode_in (holding_over (seen_in seen last) h)) ≡ uncounted (dinode_in h))
       → (prior : List ℕ) → (seen_in seen old).block_at dir ≡ Some prior → GetsRecord prior after name entry time
-  gets last name after entry then slots same prior before =
+  gets last name after entry then exchanged slots same prior before =
       let s = some_is_shown (seen_in seen old) dir in
       let h = s.0 in
       let u = seen_in seen last in
@@ -125,7 +127,11 @@ module _ {V : Type 0} (seen : V → Seen) (old mid : Drafted V) (dir time : ℕ)
       let shown : IsShown (seen_in seen mid) dir x = shown_then h s.1.0 in
       let was : bytes_at h h.own ≡ prior = bytes_of (seen_in seen old) h dir prior s.1.0 before in
       let bytes_are : bytes_at (holding_over u x) x.own ≡ after = bytes_after last after then h s.1.0 in
+      let counted : IsCounted (with_times (dinode_of prior) time) (dinode_of after) [] (record_for name entry ∷ []) =
+      subst₂ (λ d d'. IsCounted d d' [] (record_for name entry ∷ [])) ((touched h s.1.0).dinode ∙ ap (λ d. with_times d time) (dinode_by h prior was)) (dinode_by (holding_over u x) after bytes_are)
+      (exchanged x shown).counted in
       record {
+        counted = record { entries = counted.entries; links = counted.links };
         dinode = ap uncounted (sym (dinode_by (holding_over u x) after bytes_are)) ∙ same x shown ∙ ap uncounted ((touched h s.1.0).dinode ∙ ap (λ d. with_times d time) (dinode_by h prior was));
         slots = ap (λ bytes. put_slot (head_for name entry) name (slots_of (drop dinode_length bytes))) (sym was)
             ∙ ap (λ area. put_slot (head_for name entry) name (slots_of area)) (sym (touched h s.1.0).behind)
@@ -147,5 +153,5 @@ module _ {V : Type 0} (seen : V → Seen) (old mid : Drafted V) (dir time : ℕ)
     exchanged = λ h shown. subst (λ w. HasExchanged h (holding_over w h) [] (record_for name entry ∷ [])) (ap (λ x. seen_with (seen x) last.fates) (ap (λ (d : Drafted V). d.view) then ∙ mid_view))
         (exchanged h (subst (λ w. IsShown w dir h) (sym seen_mid) shown));
     still = still_stamped last after then same;
-    gets = gets last name after entry then slots same;
+    gets = gets last name after entry then exchanged slots same;
   }

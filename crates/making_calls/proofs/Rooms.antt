@@ -1,5 +1,5 @@
 -- The room that was found for a new inode, over a view and in an image that it may be of.
-use Rattle.std.proofs.Common.{◌≡◌, inl, inr, ℕ, zero, suc, ◌-◌, ◌%◌, ◌<◌, ◌≤◌, true, List, [], ◌∷◌, ◌++◌, length, get_or, map, Some, refl, sym, ap, ◌∙◌, subst, arith, false}
+use Rattle.std.proofs.Common.{◌≡◌, inl, inr, ℕ, zero, suc, ◌-◌, ◌%◌, ◌<◌, ◌≤◌, true, List, [], ◌∷◌, ◌++◌, length, get_or, map, Some, refl, sym, ap, ◌∙◌, subst, arith}
 use Rattle.std.proofs.Math.Nat.{mod-lt}
 use Rattle.std.proofs.lemmas.List.{append_assoc, get_or_append_left, length-append}
 use Rattle.std.proofs.lemmas.Option.{slice_get-get_or}
@@ -9,8 +9,6 @@ use Rattle.gfs2_layout.specs.Groups.{count_of}
 use Rattle.gfs2_layout.specs.Headers.{HasHeader}
 use Rattle.gfs2_layout.specs.declared.rindex.Rindex.{Rindex}
 use Rattle.glock_names.specs.Views.{Seen, IsView, HasGroup, group_of_entry}
-use Rattle.glock_names.specs.declared.LockName.{LockName}
-use Rattle.glock_names.specs.declared.State.{State}
 use Rattle.glock_names.specs.declared.State.TheVariants.{Ex}
 use Rattle.glock_names.specs.declared.steps.Missing.{Missing}
 use Rattle.glock_names.specs.declared.views.Group.{Group}
@@ -115,11 +113,6 @@ room_held v node r view some first found =
 -- what stands in the way of the search
 
 module _ (v : Seen) (node : ℕ) (view : IsView v) (some : 1 ≤ length v.groups) (first : 1 ≤ node) where
-  pub lock_way : (lock : LockName) (state : State)
-      → ((at : ℕ → List ℕ) (own : Group) → AreShown v at → group_of_node v.groups node ≡ Some own → IsUnder v (block_holds (said at) v.groups own) (IsTaken v (said at) v.groups own) (locked.NeedLock lock state))
-      → holds v (record { lock = lock; state = state }) ≡ false
-  lock_way lock state found = let at = bytes_shown v view in let own = own_of v node some first in (found at.0 own.0 (λ g has. at.1 g) own.1).lacks
-
   pub block_way : (m : Missing)
       → ((at : ℕ → List ℕ) (own : Group) → AreShown v at → group_of_node v.groups node ≡ Some own → IsUnder v (block_holds (said at) v.groups own) (IsTaken v (said at) v.groups own) (locked.NeedBlock m))
       → IsGroupNeeded v m

@@ -266,10 +266,10 @@ module _ (v : Seen) (c : Call) (is : IsMaking c) (p : Place) (name : List ℕ) (
   }
 
   module _ (leads : LeadsTo v (wanted c) (directory_path c) p.inode) where
-    pub wrong_damage : (g : Group) → HasGroup v g → holds v (hold_of_group g) ≡ true → (rule b : ℕ) → IsWrongIn v p.inode g rule b → IsDamage v c rule b
-    wrong_damage g has held rule b (drafting.in_directory r d broken) =
+    pub wrong_damage : IsToGetName v c true → (g : Group) → HasGroup v g → holds v (hold_of_group g) ≡ true → (rule b : ℕ) → IsWrongIn v p.inode g rule b → IsDamage v c rule b
+    wrong_damage gets g has held rule b (drafting.in_directory r d broken) =
         damage.in_directory p.inode r d leads (λ h shown. path.in_directory r d (lacks h shown).linear (broken h shown))
-    wrong_damage g has held rule b (drafting.in_group r d broken) = damage.in_group r d (record { group = g; has = has; held = held; broken = broken })
+    wrong_damage gets g has held rule b (drafting.in_group r d broken) = damage.in_group r d gets (record { group = g; has = has; held = held; broken = broken })
 
     module _ (r : Room) (room : IsHeldRoom v r) {time : ℕ} (change : Change) (added : IsAddition v (makes_directory c) p name r time change) where
       all_exclusive : (b : ℕ) (lock : LockName) (plain : Bool) (bytes : List ℕ) → get added.fates b ≡ Some (Put lock plain bytes) → v.state_of lock ≡ Ex

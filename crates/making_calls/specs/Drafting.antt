@@ -8,6 +8,7 @@ use Rattle.drafts.specs.declared.change.Change.{Change}
 use Rattle.drafts.specs.declared.fate.Fate.{Fate}
 use Rattle.drafts.specs.declared.fate.Fate.TheVariants.{Put}
 use Rattle.gfs2_layout.specs.Area.{slots_of}
+use Rattle.gfs2_layout.specs.Exchanges.{IsCounted}
 use Rattle.gfs2_layout.specs.Groups.{group_header}
 use Rattle.gfs2_layout.specs.Groups as layout
 use Rattle.gfs2_layout.specs.Holding.{Holding, alone}
@@ -81,10 +82,18 @@ IsNextOf at g number = number ≡ next_number (header_in at g).igeneration
 abbrev pub CountsNumber : (ℕ → List ℕ) → (ℕ → List ℕ) → Group → ℕ → Type 0
 CountsNumber at at' g number = layout.uncounted (header_in at' g) ≡ layout.uncounted (record (header_in at g) { igeneration = number })
 
+-- The group's blocks tell the number as the last one that it gave, and then that the data block is a dinode: the bits say of each other block
+-- what they said, and the header's counts follow.
+pub record SaysInode (at at' : ℕ → List ℕ) (g : Group) (b number : ℕ) : Type 0 where
+  pub between : ℕ → List ℕ
+  pub numbered : IsNumberPut at between g number
+  pub said : IsPutIn between at' g b 3
+
 -- The bytes of a linear directory's block after a name came: the dinode says, apart from its counts, what it said, with this time as that of the
--- last change of its content and of its own; and the name's record is put into the first one that has room for it.
+-- last change of its content and of its own; its counts follow; and the name's record is put into the first one that has room for it.
 pub record GetsRecord (old new : List ℕ) (name : List ℕ) (entry : Entry) (time : ℕ) : Type 0 where
   pub dinode : uncounted (dinode_of new) ≡ uncounted (with_times (dinode_of old) time)
+  pub counted : IsCounted (dinode_of old) (dinode_of new) [] (record_for name entry ∷ [])
   pub slots : put_slot (head_for name entry) name (slots_of (drop dinode_length old)) ≡ Some (slots_of (drop dinode_length new))
 
 -- ---- the steps, over a view
@@ -144,8 +153,8 @@ abbrev pub PutsUnder : FinMap nat_cmp Fate → Place → Room → Type 0
 PutsUnder fates p r = (b : ℕ) (lock : LockName) (plain : Bool) (bytes : List ℕ) → get fates b ≡ Some (Put lock plain bytes) → IsPutUnder p r b lock
 
 -- The change is that of a draft that puts all under these locks and inside the view's groups, frees nothing, and adds the name in each image that
--- the view may be of. The group's header is put, and counts its next number; the new inode is put with that number and with this time, and the
--- directory with the name's record and the time, unless the two were one block.
+-- the view may be of. The group's header is put, and counts its next number; its bits say that the new inode's block is a dinode; the new inode is
+-- put with that number and with this time, and the directory with the name's record and the time, unless the two were one block.
 pub record IsAddition (v : Seen) (is_directory : Bool) (p : Place) (name : List ℕ) (r : Room) (time : ℕ) (change : Change) : Type 0 where
   pub fates : FinMap nat_cmp Fate
   pub finished : IsFinished fates change
@@ -158,6 +167,7 @@ pub record IsAddition (v : Seen) (is_directory : Bool) (p : Place) (name : List 
   pub header : List ℕ
   pub header_put : get fates r.group.addr ≡ Some (Put (group_lock r.group) false header)
   pub counted : (at at' : ℕ → List ℕ) → group.IsShown v r.group at → at' r.group.addr ≡ header → CountsNumber at at' r.group number
+  pub says : (at : ℕ → List ℕ) → group.IsShown v r.group at → SaysInode at (overlaid (seen_with v fates) at) r.group r.block number
   pub bytes : List ℕ
   pub put : get fates r.block ≡ Some (Put (inode_lock r.block) false bytes)
   pub new : (count : ℕ) → r.block < count → IsNewOf is_directory p number r.block time (alone v.size count r.block bytes)

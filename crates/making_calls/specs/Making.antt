@@ -6,16 +6,20 @@ use Rattle.file_tree.specs.Tree.{Tree}
 use Rattle.file_tree.specs.Apply.{apply}
 use Rattle.file_tree.specs.declared.call.Call.{Call}
 use Rattle.file_tree.specs.declared.call.Call.TheVariants.{Create, Mkdir}
+use Rattle.file_tree.specs.declared.reply.Reply.{Reply}
 use Rattle.file_tree.specs.declared.reply.Reply.TheVariants.{Ok}
+use Rattle.file_tree.specs.declared.reply.Reply.TheVariants as reply
 use Rattle.drafts.specs.declared.change.Change.{Change}
 use Rattle.cluster_history.specs.Changes.{is_ok}
 use Rattle.gfs2_layout.specs.Area.{slots_of}
 use Rattle.gfs2_layout.specs.Holding.{Holding, alone}
-use Rattle.gfs2_layout.specs.Inode.{is_hashed_in, linear_area, records_of}
+use Rattle.gfs2_layout.specs.Inode.{is_directory_in, is_hashed_in, linear_area, records_of}
 use Rattle.gfs2_layout.specs.Putting.{has_room, least_length}
 use Rattle.gfs2_layout.specs.Records.{child_named}
 use Rattle.gfs2_layout.specs.Structures.{dinode_of}
 use Rattle.glock_names.specs.Views.{Seen, HasBlock, group_of_entry}
+use Rattle.glock_names.specs.declared.LockName.{LockName}
+use Rattle.glock_names.specs.declared.State.{State}
 use Rattle.glock_names.specs.declared.steps.Entry.{Entry}
 use Rattle.glock_names.specs.declared.steps.Missing.{Missing}
 use Rattle.glock_names.specs.declared.views.Group.{Group}
@@ -23,7 +27,7 @@ use Rattle.call_locks.specs.Wants.{wanted}
 use Rattle.call_locks.specs.WantLaws.{path_of}
 use Rattle.dinode_tree.specs.Shown.{IsShown}
 use Rattle.resource_groups.specs.Putting.{HasDataBlock}
-use Rattle.resource_groups.specs.Shown.{IsDataOf}
+use Rattle.resource_groups.specs.Shown.{IsDataOf, said}
 use Rattle.image_model.specs.Flat.{Path, follow}
 use Rattle.image_model.specs.Image.{Image}
 use Rattle.image_model.specs.Owners.{Owners, holding}
@@ -31,13 +35,14 @@ use Rattle.image_model.specs.Stands.{Layout, flat_of}
 use Rattle.image_changes.specs.Does.{with_change}
 use Rattle.image_changes.specs.Instances.{IsAt, dinode_at}
 use Rattle.path_walks.specs.Answers.{Refuses}
-use Rattle.path_walks.specs.Holds.{Hold, AreHeld, IsAskedFor, IsFirstLack, holds, holds_in, hold_of_group}
+use Rattle.path_walks.specs.Holds.{Hold, AreHeld, IsAskedFor, IsFirstLack, holds_in, hold_of_group}
 use Rattle.path_walks.specs.declared.walk.Place.{Place}
-use Rattle.path_walks.specs.Walks.{LeadsTo, IsLinearDirectory, IsOnTheWay, IsPlaceOf, IsUnread, IsWrong}
+use Rattle.path_walks.specs.Walks.{LeadsTo, Names, IsAbsent, IsLacked, IsLinearDirectory, IsOnTheWay, IsPlaceOf, IsSeenAt, IsUnread, IsWrong}
 use Rattle.path_walks.specs.Walks as path
-use Rattle.making_calls.specs.Blocks.{blocks_needed, states_by, free_for, free_in_all, group_of_node, new_holds}
-use Rattle.making_calls.specs.Drafting.{CountsNumber, GetsRecord, HasTimes, IsNewInode, IsNextOf, kind_for}
-use Rattle.making_calls.specs.Searches.{IsGroupBroken, IsGroupNeeded}
+use Rattle.making_calls.specs.Blocks.{blocks_needed, block_holds, states_by, free_for, free_in_all, group_of_node, new_holds}
+use Rattle.making_calls.specs.Drafting.{CountsNumber, GetsRecord, HasTimes, IsAddition, IsNewInode, IsNextOf, kind_for}
+use Rattle.making_calls.specs.Searches.{AreShown, IsGroupBroken, IsGroupNeeded, IsRoom}
+use Rattle.making_calls.specs.declared.blocks.Room.{Room}
 use Rattle.making_calls.specs.declared.finds.Found.{Found}
 use Rattle.making_calls.specs.declared.finds.Found.TheVariants as found
 
@@ -113,6 +118,50 @@ pub record IsToGetName (v : Seen) (call : Call) (room : Bool) : Type 0 where
   pub lacks : (h : Holding) → IsShown v directory h → LacksName h (name_in call)
   pub room_is : (h : Holding) → IsShown v directory h → has_room_for h (name_in call) ≡ room
 
+-- The call is refused so: its path has no name; a name on the directory's path isn't there, or is asked of a file; or the inode at that path's
+-- end is a file, or a linear directory that has the name already.
+pub data IsRefused (v : Seen) (call : Call) : Reply → Type 0 where
+  of_root : path_of call false ≡ [] → IsRefused v call reply.Exists
+  not_found : IsAbsent v (wanted call) (directory_path call) → IsRefused v call reply.NotFound
+  not_dir : (a : ℕ) → IsOnTheWay v (wanted call) (directory_path call) a (λ h. is_directory_in h ≡ false) → IsRefused v call reply.NotDir
+  in_file : (a : ℕ) → path_of call false ≢ [] → LeadsTo v (wanted call) (directory_path call) a → HasBlock v a → ((h : Holding) → IsShown v a h → is_directory_in h ≡ false)
+      → IsRefused v call reply.NotDir
+  has_name : (a b : ℕ) → path_of call false ≢ [] → LeadsTo v (wanted call) (directory_path call) a → Names v a (name_in call) b → IsRefused v call reply.Exists
+
+-- The name was made in the directory at this place, which is to get it: the change is that of this addition. The new inode's block is the first
+-- that is free in the order in which the node takes them, as far as the view's groups say, and the locks under which it was found are held.
+pub record IsMadeBy (v : Seen) (call : Call) (node time : ℕ) (change : Change) : Type 0 where
+  pub gets : IsToGetName v call true
+  pub place : Place
+  pub at : IsSeenAt v (wanted call) (directory_path call) place
+  pub directory : place.inode ≡ gets.directory
+  pub inside : HasDataBlock v place.inode
+  pub own : Group
+  pub of_node : group_of_node v.groups node ≡ Some own
+  pub room : Room
+  pub first : (at : ℕ → List ℕ) → AreShown v at → IsRoom v (said at) (free_for (said at) v.groups own) room
+  pub held : (at : ℕ → List ℕ) → AreShown v at → AreHeld v (block_holds (said at) v.groups own)
+  pub added : IsAddition v (makes_directory call) place (name_in call) room time change
+
+-- the call is answered so
+pub data IsAnswered (v : Seen) (call : Call) (node time : ℕ) : Reply → Change → Type 0 where
+  refused : (r : Reply) (change : Change) → IsRefused v call r → IsAnswered v call node time r change
+  made : (change : Change) → IsMadeBy v call node time change → IsAnswered v call node time reply.Ok change
+
+-- This lock isn't held so strongly: of the next inode on the directory's path; or, where the directory is to get the name and has room for it,
+-- the first of those under which the node finds a block, as far as the view's groups say.
+pub data IsLackedFor (v : Seen) (call : Call) (node : ℕ) (lock : LockName) (state : State) : Type 0 where
+  on_path : IsLacked v (wanted call) (directory_path call) lock state → IsLackedFor v call node lock state
+  of_block : (own : Group) → IsToGetName v call true → group_of_node v.groups node ≡ Some own
+      → ((at : ℕ → List ℕ) → AreShown v at → IsFirstLack v (block_holds (said at) v.groups own) lock state) → IsLackedFor v call node lock state
+
+-- The directory is to get the name and has room for it, but so few blocks are free, in all groups, as far as the view shows them.
+pub record IsFullFor (v : Seen) (call : Call) (need free : ℕ) : Type 0 where
+  pub gets : IsToGetName v call true
+  pub needs : need ≡ blocks_needed
+  pub free_are : (at : ℕ → List ℕ) → AreShown v at → free ≡ length (free_in_all (said at) v.groups)
+  pub fewer : free < need
+
 -- a hashed directory without which the call isn't answered: one on the way to the path's last name
 pub data IsHashedFor (v : Seen) (call : Call) (b : ℕ) : Type 0 where
   on_path : IsOnTheWay v (wanted call) (directory_path call) b (λ h. is_hashed_in h ≡ true) → IsHashedFor v call b
@@ -128,12 +177,12 @@ pub data IsNeededFor (v : Seen) (call : Call) (m : Missing) : Type 0 where
   on_path : IsUnread v (wanted call) (directory_path call) m → IsNeededFor v call m
   of_group : IsToGetName v call true → IsGroupNeeded v m → IsNeededFor v call m
 
--- the block breaks this rule: on the path, in the directory at its end, or in a group; or (2) that directory is none of the groups' data
--- blocks
+-- the block breaks this rule: on the path, in the directory at its end; where this is to get the name and has room for it, in a group whose lock
+-- is held; or (2) that directory is none of the groups' data blocks
 pub data IsDamage (v : Seen) (call : Call) : ℕ → ℕ → Type 0 where
   on_path : (rule b : ℕ) → path.IsDamage v (wanted call) (directory_path call) rule b → IsDamage v call rule b
   in_directory : (a rule b : ℕ) → LeadsTo v (wanted call) (directory_path call) a → ((h : Holding) → IsShown v a h → IsWrong h rule b) → IsDamage v call rule b
-  in_group : (rule b : ℕ) → IsGroupBroken v rule b → IsDamage v call rule b
+  in_group : (rule b : ℕ) → IsToGetName v call true → IsGroupBroken v rule b → IsDamage v call rule b
   no_data_block : (a : ℕ) → LeadsTo v (wanted call) (directory_path call) a → ¬ (HasDataBlock v a) → IsDamage v call 2 a
 
 -- ---- in an image that the view may be of
@@ -157,15 +206,15 @@ IsFoundBy v im o l t call list (found.NoSpace free) = IsTooFew v im o l t call b
 abbrev pub IsFound : Seen → Image → Owners → Layout → Tree → Call → ℕ → Found → Type 0
 IsFound v im o l t call node f = IsFoundBy v im o l t call (call_holds im o l t call node) f
 
--- on every view, what stands in the way does: the lock isn't held so strongly, the block is needed, the directory is hashed, it isn't built, or
--- too few blocks are free
-abbrev pub IsToldOf : Seen → Call → Found → Type 0
-IsToldOf v call (found.NeedLock lock state) = holds v (record { lock = lock; state = state }) ≡ false
-IsToldOf v call (found.NeedBlock m) = IsNeededFor v call m
-IsToldOf v call (found.Hashed b) = IsHashedFor v call b
-IsToldOf v call found.NotBuilt = IsUnbuilt v call
-IsToldOf v call (found.NoSpace free) = free < blocks_needed
-IsToldOf v call f = ⊤
+-- on every view, the call is answered so, or this stands in its way
+abbrev pub IsToldOf : Seen → Call → ℕ → ℕ → Found → Type 0
+IsToldOf v call node time (found.Refused r) = IsRefused v call r
+IsToldOf v call node time (found.Made change) = IsMadeBy v call node time change
+IsToldOf v call node time (found.NeedLock lock state) = IsLackedFor v call node lock state
+IsToldOf v call node time (found.NeedBlock m) = IsNeededFor v call m
+IsToldOf v call node time (found.Hashed b) = IsHashedFor v call b
+IsToldOf v call node time found.NotBuilt = IsUnbuilt v call
+IsToldOf v call node time (found.NoSpace free) = IsFullFor v call blocks_needed free
 
 -- where `..` of a directory below this one leads
 abbrev pub entry_in : Image → Owners → ℕ → Entry

@@ -16,9 +16,9 @@ ghost use Rattle.image_model.specs.Owners.{Owners};
 ghost use Rattle.image_model.specs.Stands.{Layout};
 ghost use Rattle.image_changes.specs.Does.{IsOf, Does, AreInside};
 ghost use Rattle.path_walks.specs.Answers.{IfDone, IfNeedLock, IfNeedBlock, IfNoSpace, IfHashed, IfNotBuilt, HasSpace};
-ghost use Rattle.path_walks.specs.Holds.{AreHeld, IsAskedFor, IsFirstLack, holds, IsUnder};
+ghost use Rattle.path_walks.specs.Holds.{AreHeld, IsAskedFor, IsFirstLack, IsUnder};
 ghost use Rattle.path_walks.specs.Walks.{IsSeenAt, IsLastOf};
-ghost use Rattle.making_calls.specs.Making.{IfMade, IsDamage, IsFound, IsHashedFor, IsMade, IsMaking, IsNeededFor, IsReachedIn, IsRefusal, IsStamped, IsToldOf, IsTooFew, IsUnbuilt, LacksName, call_holds, directory_path, makes_directory};
+ghost use Rattle.making_calls.specs.Making.{IfMade, IsAnswered, IsDamage, IsFound, IsFullFor, IsHashedFor, IsLackedFor, IsMade, IsMaking, IsNeededFor, IsReachedIn, IsRefusal, IsStamped, IsToldOf, IsTooFew, IsUnbuilt, LacksName, call_holds, directory_path, makes_directory};
 
 use crate::blocks::{Locked, Taken, find_block};
 use crate::drafting::{addition, is_a_view};
@@ -80,7 +80,7 @@ fn make_at<V: View>(
     ensures made { (im : Image) (o : Owners) (l : Layout) (t : Tree) → IsOf (V.seen view.now) im o l t → IfOk result (IfMade (IsMade im o l call.now stamp.now.node stamp.now.time)) }
     ensures stamped { (im : Image) (o : Owners) (l : Layout) (t : Tree) → IsOf (V.seen view.now) im o l t → IfOk result (IfMade (IsStamped im o l call.now stamp.now.time)) }
     ensures refusal { IfOk result IsRefusal }
-    ensures told { IfOk result (IsToldOf (V.seen view.now) call.now) }
+    ensures told { IfOk result (IsToldOf (V.seen view.now) call.now stamp.now.node stamp.now.time) }
     ensures sound { (im : Image) (o : Owners) (l : Layout) (t : Tree) → IsOf (V.seen view.now) im o l t → IfDamaged result (λ rule block. ⊥) }
     ensures damaged { IfDamaged result (IsDamage (V.seen view.now) call.now) }
     ensures kept { IfDamaged result (IsOfView (V.seen view.now)) }
@@ -138,7 +138,7 @@ fn find_at<V: View>(
     ensures made { (im : Image) (o : Owners) (l : Layout) (t : Tree) → IsOf (V.seen view.now) im o l t → IfOk result (IfMade (IsMade im o l call.now stamp.now.node stamp.now.time)) }
     ensures stamped { (im : Image) (o : Owners) (l : Layout) (t : Tree) → IsOf (V.seen view.now) im o l t → IfOk result (IfMade (IsStamped im o l call.now stamp.now.time)) }
     ensures refusal { IfOk result IsRefusal }
-    ensures told { IfOk result (IsToldOf (V.seen view.now) call.now) }
+    ensures told { IfOk result (IsToldOf (V.seen view.now) call.now stamp.now.node stamp.now.time) }
     ensures sound { (im : Image) (o : Owners) (l : Layout) (t : Tree) → IsOf (V.seen view.now) im o l t → IfDamaged result (λ rule block. ⊥) }
     ensures damaged { IfDamaged result (IsDamage (V.seen view.now) call.now) }
     ensures kept { IfDamaged result (IsOfView (V.seen view.now)) }
@@ -168,7 +168,7 @@ fn find<V: View>(alloc: Global, view: &V, call: &Call, stamp: &Stamp) -> Result<
     ensures made { (im : Image) (o : Owners) (l : Layout) (t : Tree) → IsOf (V.seen view.now) im o l t → IfOk result (IfMade (IsMade im o l call.now stamp.now.node stamp.now.time)) }
     ensures stamped { (im : Image) (o : Owners) (l : Layout) (t : Tree) → IsOf (V.seen view.now) im o l t → IfOk result (IfMade (IsStamped im o l call.now stamp.now.time)) }
     ensures refusal { IfOk result IsRefusal }
-    ensures told { IfOk result (IsToldOf (V.seen view.now) call.now) }
+    ensures told { IfOk result (IsToldOf (V.seen view.now) call.now stamp.now.node stamp.now.time) }
     ensures sound { (im : Image) (o : Owners) (l : Layout) (t : Tree) → IsOf (V.seen view.now) im o l t → IfDamaged result (λ rule block. ⊥) }
     ensures damaged { IfDamaged result (IsDamage (V.seen view.now) call.now) }
     ensures kept { IfDamaged result (IsOfView (V.seen view.now)) }
@@ -210,9 +210,11 @@ pub fn attempt<V: View>(
     ensures lock { (im : Image) (o : Owners) (l : Layout) (t : Tree) → IsOf (V.seen view.now) im o l t → IfNeedLock result (IsFirstLack (V.seen view.now) (call_holds im o l t call.now stamp.now.node)) }
     ensures block { (im : Image) (o : Owners) (l : Layout) (t : Tree) → IsOf (V.seen view.now) im o l t → IfNeedBlock result (IsAskedFor (V.seen view.now) im o l (call_holds im o l t call.now stamp.now.node)) }
     ensures space { (im : Image) (o : Owners) (l : Layout) (t : Tree) → IsOf (V.seen view.now) im o l t → IfNoSpace result (IsTooFew (V.seen view.now) im o l t call.now) }
+    ensures full { IfNoSpace result (IsFullFor (V.seen view.now) call.now) }
     ensures fewer { IfNoSpace result (λ need free. free < need) }
     ensures spaceless { IfDone result (λ reply change. HasSpace reply) }
-    ensures lacked { IfNeedLock result (λ lock state. holds (V.seen view.now) (record { lock = lock; state = state }) ≡ false) }
+    ensures answered { IfDone result (IsAnswered (V.seen view.now) call.now stamp.now.node stamp.now.time) }
+    ensures lacked { IfNeedLock result (IsLackedFor (V.seen view.now) call.now stamp.now.node) }
     ensures needed { IfNeedBlock result (IsNeededFor (V.seen view.now) call.now) }
     ensures absent { IfNeedBlock result (λ missing. (V.seen view.now).block_at missing.block ≡ None) }
     ensures hashed { IfHashed result (IsHashedFor (V.seen view.now) call.now) }

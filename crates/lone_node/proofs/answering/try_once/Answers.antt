@@ -12,6 +12,7 @@ use Rattle.glock_names.specs.declared.steps.CallFault.TheVariants as fault
 use Rattle.glock_names.specs.Steps.{TellsOf}
 use Rattle.lone_view.specs.Seeing.{Lone, seen_alone}
 use Rattle.making_calls.specs.Making.{IsMaking}
+use Rattle.file_calls.specs.Answers.{IsFullFor}
 use Rattle.file_calls.specs.Calls.{IsNeededFor, IsTooFew}
 use Rattle.lone_node.specs.Answering.{IsDamagedFor, IsFailedFor, in_a_read, in_a_write, leads_out, source_of}
 use Rattle.lone_node.specs.Course.{done, moment, spaceless}
@@ -47,6 +48,7 @@ returns-in-Ok-NoSpace-clause-step g c =
     (record {
       makes = subst (λ a. IfNoSpace (Ok a) (λ need free. IsMaking c.args.call.now)) c.in-Ok-NoSpace.field-0-is c.in-Ok-NoSpace.ensures.roomless;
       fewer = subst (λ a. IfNoSpace (Ok a) (λ need free. free < need)) c.in-Ok-NoSpace.field-0-is c.in-Ok-NoSpace.ensures.fewer;
+      shown = subst (λ a. IfNoSpace (Ok a) (IsFullFor v c.args.call.now)) c.in-Ok-NoSpace.field-0-is c.in-Ok-NoSpace.ensures.full;
       few = λ im o l t of. subst (λ a. IfNoSpace (Ok a) (IsTooFew v im o l t c.args.call.now)) c.in-Ok-NoSpace.field-0-is (c.in-Ok-NoSpace.ensures.space im o l t of);
     })
     refl

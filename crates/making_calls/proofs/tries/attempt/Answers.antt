@@ -1,11 +1,11 @@
-use Rattle.std.proofs.Common.{◌≡◌, true, true≢false, None, Ok, sym, ◌∙◌, subst}
+use Rattle.std.proofs.Common.{◌≡◌, ◌<◌, true, true≢false, None, Ok, sym, ◌∙◌, subst}
 use Rattle.std.specs.List.{AllByRecursion}
 use Rattle.cluster_history.specs.Changes.{is_ok}
 use Rattle.file_tree.specs.declared.reply.Reply.TheVariants as reply
 use Rattle.image_changes.specs.Does.{Does, IsInside, AreInside}
 use Rattle.image_changes.proofs.Doing.{nothing_does}
-use Rattle.path_walks.specs.Answers.{IfDone, IfNeedBlock, HasSpace}
-use Rattle.making_calls.specs.Making.{IsFound, IsMade, IsRefusal, IsStamped, IsToldOf, IfMade, call_holds}
+use Rattle.path_walks.specs.Answers.{IfDone, IfNeedBlock, IfNoSpace, HasSpace}
+use Rattle.making_calls.specs.Making.{IsFound, IsMade, IsRefusal, IsStamped, IsToldOf, IsAnswered, IsFullFor, IfMade, call_holds}
 use Rattle.making_calls.proofs.Taking.{needed_absent}
 use Rattle.making_calls.proofs.Under.{nothing_under}
 use Rattle.making_calls.proofs.tries.attempt.Goals.{in-Refused, in-Made, in-NeedBlock, in-Hashed, in-NotBuilt, in-NeedLock, in-NoSpace}
@@ -85,7 +85,7 @@ returns-clause-absent g c =
     elim c.match-branch-2.branch [
       | in-Refused w ↦ subst (λ a. IfNeedBlock (Ok a) (λ m. v.block_at m.block ≡ None)) (sym w.result-is) tt
       | in-Made w ↦ subst (λ a. IfNeedBlock (Ok a) (λ m. v.block_at m.block ≡ None)) (sym w.result-is) tt
-      | in-NeedBlock w ↦ subst (λ a. IfNeedBlock (Ok a) (λ m. v.block_at m.block ≡ None)) (sym w.result-is) (needed_absent v c.args.call.now w.in-NeedBlock.missing (subst (IsToldOf v c.args.call.now) w.in-NeedBlock.is c.in_ok-reply.ensures.told))
+      | in-NeedBlock w ↦ subst (λ a. IfNeedBlock (Ok a) (λ m. v.block_at m.block ≡ None)) (sym w.result-is) (needed_absent v c.args.call.now w.in-NeedBlock.missing (subst (IsToldOf v c.args.call.now c.args.stamp.now.node c.args.stamp.now.time) w.in-NeedBlock.is c.in_ok-reply.ensures.told))
       | in-Hashed w ↦ subst (λ a. IfNeedBlock (Ok a) (λ m. v.block_at m.block ≡ None)) (sym w.result-is) tt
       | in-NotBuilt w ↦ subst (λ a. IfNeedBlock (Ok a) (λ m. v.block_at m.block ≡ None)) (sym w.result-is) tt
       | in-NeedLock w ↦ subst (λ a. IfNeedBlock (Ok a) (λ m. v.block_at m.block ≡ None)) (sym w.result-is) tt
@@ -102,4 +102,30 @@ returns-clause-spaceless g c =
       | in-NotBuilt w ↦ subst (λ a. IfDone (Ok a) (λ reply change. HasSpace reply)) (sym w.result-is) tt
       | in-NeedLock w ↦ subst (λ a. IfDone (Ok a) (λ reply change. HasSpace reply)) (sym w.result-is) tt
       | in-NoSpace w ↦ subst (λ a. IfDone (Ok a) (λ reply change. HasSpace reply)) (sym w.result-is) tt
+    ]
+
+pub returns-clause-answered : goal.returns-clause-answered
+returns-clause-answered g c =
+    let v = g.V.View.seen c.args.view.now in
+    elim c.match-branch-2.branch [
+      | in-Refused w ↦ subst (λ a. IfDone (Ok a) (IsAnswered v c.args.call.now c.args.stamp.now.node c.args.stamp.now.time)) (sym w.result-is) (IsAnswered.refused w.in-Refused.reply w.nothing.result (subst (IsToldOf v c.args.call.now c.args.stamp.now.node c.args.stamp.now.time) w.in-Refused.is c.in_ok-reply.ensures.told))
+      | in-Made w ↦ subst (λ a. IfDone (Ok a) (IsAnswered v c.args.call.now c.args.stamp.now.node c.args.stamp.now.time)) (sym w.result-is) (IsAnswered.made w.in-Made.change (subst (IsToldOf v c.args.call.now c.args.stamp.now.node c.args.stamp.now.time) w.in-Made.is c.in_ok-reply.ensures.told))
+      | in-NeedBlock w ↦ subst (λ a. IfDone (Ok a) (IsAnswered v c.args.call.now c.args.stamp.now.node c.args.stamp.now.time)) (sym w.result-is) tt
+      | in-Hashed w ↦ subst (λ a. IfDone (Ok a) (IsAnswered v c.args.call.now c.args.stamp.now.node c.args.stamp.now.time)) (sym w.result-is) tt
+      | in-NotBuilt w ↦ subst (λ a. IfDone (Ok a) (IsAnswered v c.args.call.now c.args.stamp.now.node c.args.stamp.now.time)) (sym w.result-is) tt
+      | in-NeedLock w ↦ subst (λ a. IfDone (Ok a) (IsAnswered v c.args.call.now c.args.stamp.now.node c.args.stamp.now.time)) (sym w.result-is) tt
+      | in-NoSpace w ↦ subst (λ a. IfDone (Ok a) (IsAnswered v c.args.call.now c.args.stamp.now.node c.args.stamp.now.time)) (sym w.result-is) tt
+    ]
+
+pub returns-clause-fewer : goal.returns-clause-fewer
+returns-clause-fewer g c =
+    let v = g.V.View.seen c.args.view.now in
+    elim c.match-branch-2.branch [
+      | in-Refused w ↦ subst (λ a. IfNoSpace (Ok a) (λ need free. free < need)) (sym w.result-is) tt
+      | in-Made w ↦ subst (λ a. IfNoSpace (Ok a) (λ need free. free < need)) (sym w.result-is) tt
+      | in-NeedBlock w ↦ subst (λ a. IfNoSpace (Ok a) (λ need free. free < need)) (sym w.result-is) tt
+      | in-Hashed w ↦ subst (λ a. IfNoSpace (Ok a) (λ need free. free < need)) (sym w.result-is) tt
+      | in-NotBuilt w ↦ subst (λ a. IfNoSpace (Ok a) (λ need free. free < need)) (sym w.result-is) tt
+      | in-NeedLock w ↦ subst (λ a. IfNoSpace (Ok a) (λ need free. free < need)) (sym w.result-is) tt
+      | in-NoSpace w ↦ subst (λ a. IfNoSpace (Ok a) (λ need free. free < need)) (sym w.result-is) (IsFullFor.fewer (subst (IsToldOf v c.args.call.now c.args.stamp.now.node c.args.stamp.now.time) w.in-NoSpace.is c.in_ok-reply.ensures.told))
     ]

@@ -1,4 +1,5 @@
 use Rattle.std.proofs.Common.{◌≡◌, ◌+◌, [], ◌∷◌, ◌++◌, length, false, sym, ap, ◌∙◌, subst, subst₂}
+use Rattle.std.proofs.lemmas.List.{nil_from_length}
 use Rattle.cluster_history.specs.Changes.{is_ok}
 use Rattle.file_tree.specs.Apply.{apply}
 use Rattle.file_tree.specs.Names.{parent_of}
@@ -6,11 +7,11 @@ use Rattle.file_tree.specs.declared.reply.Reply.TheVariants as reply
 use Rattle.glock_names.specs.Steps as steps
 use Rattle.call_locks.specs.Wants.{wanted}
 use Rattle.call_locks.specs.WantLaws.{path_of}
-use Rattle.path_walks.specs.Holds.{AreHeld, holds}
+use Rattle.path_walks.specs.Holds.{AreHeld}
 use Rattle.path_walks.specs.Walks.{AreInOrder, IsTold, IsWalked}
 use Rattle.path_walks.specs.Walks as path
 use Rattle.path_walks.proofs.Lists.{parent_of_next}
-use Rattle.making_calls.specs.Making.{IsDamage, IsHashedFor, IsNeededFor, directory_path, inode_holds, path_holds}
+use Rattle.making_calls.specs.Making.{IsDamage, IsHashedFor, IsLackedFor, IsNeededFor, IsRefused, directory_path, inode_holds, path_holds}
 use Rattle.making_calls.proofs.Holds.{lack_before}
 use Rattle.making_calls.proofs.InImage.{asked_before}
 use Rattle.making_calls.proofs.Trees.{plain_list, refused}
@@ -123,7 +124,7 @@ returns-in-NeedLock-clause-told g c =
     let front : c.in-Some.front.now ≡ directory_path call = sym (ap parent_of whole ∙ parent_of_next c.in-Some.front.now c.in-Some.last.now) in
     let told = subst₂ (λ names wants. IsTold v wants names c.in_ok-place.field-0) front (c.deref.ensures.value ∙ c.in_ok-wants.ensures) c.in_ok-place.ensures.told in
     let at = subst (IsTold v (wanted call) (directory_path call)) c.in-NeedLock.is told in
-    subst (λ h. holds v h ≡ false) (sym at.is) at.lacks
+    IsLackedFor.on_path at
 
 pub returns-clause-told : goal.returns-clause-told
 returns-clause-told g c =
@@ -134,3 +135,25 @@ returns-clause-told g c =
     let told = subst₂ (λ names wants. IsTold v wants names c.in_ok-place.field-0) front (c.deref.ensures.value ∙ c.in_ok-wants.ensures) c.in_ok-place.ensures.told in
     let at = subst (IsTold v (wanted call) (directory_path call)) c.in-NeedBlock.is told in
     IsNeededFor.on_path at
+
+pub returns-in-NotFound-clause-told : goal.returns-in-NotFound-clause-told
+returns-in-NotFound-clause-told g c =
+    let v = g.V.View.seen c.args.view.now in
+    let call = c.args.call.now in
+    let whole : path_of call false ≡ c.in-Some.front.now ++ c.in-Some.last.now ∷ [] = sym (c.names.ensures.names ∙ c.path_of_making.ensures) ∙ c.in-Some.ensures.cases.0 in
+    let front : c.in-Some.front.now ≡ directory_path call = sym (ap parent_of whole ∙ parent_of_next c.in-Some.front.now c.in-Some.last.now) in
+    let told = subst₂ (λ names wants. IsTold v wants names c.in_ok-place.field-0) front (c.deref.ensures.value ∙ c.in_ok-wants.ensures) c.in_ok-place.ensures.told in
+    IsRefused.not_found (subst (IsTold v (wanted call) (directory_path call)) c.in-NotFound.is told)
+
+pub returns-in-NotDir-clause-told : goal.returns-in-NotDir-clause-told
+returns-in-NotDir-clause-told g c =
+    let v = g.V.View.seen c.args.view.now in
+    let call = c.args.call.now in
+    let whole : path_of call false ≡ c.in-Some.front.now ++ c.in-Some.last.now ∷ [] = sym (c.names.ensures.names ∙ c.path_of_making.ensures) ∙ c.in-Some.ensures.cases.0 in
+    let front : c.in-Some.front.now ≡ directory_path call = sym (ap parent_of whole ∙ parent_of_next c.in-Some.front.now c.in-Some.last.now) in
+    let told = subst₂ (λ names wants. IsTold v wants names c.in_ok-place.field-0) front (c.deref.ensures.value ∙ c.in_ok-wants.ensures) c.in_ok-place.ensures.told in
+    let file = subst (IsTold v (wanted call) (directory_path call)) c.in-NotDir.is told in
+    IsRefused.not_dir file.0 file.1
+
+pub returns-in_default-clause-told : goal.returns-in_default-clause-told
+returns-in_default-clause-told g c = IsRefused.of_root (sym (c.names.ensures.names ∙ c.path_of_making.ensures) ∙ nil_from_length c.names.result.now c.in_default.ensures.cases)

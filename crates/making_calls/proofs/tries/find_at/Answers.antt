@@ -3,12 +3,14 @@ use Rattle.std.proofs.lemmas.Bool.{eq-eqb}
 use Rattle.std.specs.Prelude.{option_map}
 use Rattle.cluster_history.specs.Changes.{is_ok}
 use Rattle.file_tree.specs.Apply.{apply}
+use Rattle.file_tree.specs.Names.{last_of}
 use Rattle.file_tree.specs.declared.reply.Reply.TheVariants as reply
 use Rattle.gfs2_layout.specs.Holding.{Holding}
 use Rattle.gfs2_layout.specs.Inode.{records_of}
-use Rattle.gfs2_layout.specs.Records.{record_named}
+use Rattle.gfs2_layout.specs.Records.{child_named, record_named}
 use Rattle.gfs2_layout.specs.Structures.{is_directory}
 use Rattle.glock_names.proofs.StepLaws.{answer_at}
+use Rattle.file_tree.proofs.WalkLaws.{last_front}
 use Rattle.dinode_tree.specs.Shown.{IsShown}
 use Rattle.linear_dirs.specs.Broken as directory
 use Rattle.linear_dirs.specs.Shown.{entry_of}
@@ -18,7 +20,7 @@ use Rattle.path_walks.specs.Walks as path
 use Rattle.path_walks.proofs.Leads.{no_end}
 use Rattle.path_walks.proofs.Images.{is_shown, unbroken_directory}
 use Rattle.path_walks.proofs.Steps.{child_is, differs, fault_all, linear_all, linear_here, no_child}
-use Rattle.making_calls.specs.Making.{IsDamage, directory_path}
+use Rattle.making_calls.specs.Making.{IsDamage, IsRefused, directory_path, name_in}
 use Rattle.making_calls.specs.Making as damage
 use Rattle.making_calls.proofs.Alike.{hashed_so}
 use Rattle.making_calls.proofs.Trees.{file_refuses, plain_list, there_refuses}
@@ -84,3 +86,20 @@ make_at-requires-clause-lacks g c h shown =
       linear = (linear_all v c.args.place.now.inode c.args.place.now.dinode c.requires.seen.dinode (sym c.is_directory.ensures ∙ c.if-not-is_directory.false) (differs _ _ c.if-place-eq1.false)) h shown;
       absent = no_child (records_of h) c.args.name.now (sym c.in-Is-None.field-0-is ∙ f ∙ ap (λ n. option_map entry_of (record_named (records_of h) n)) c.bytes.ensures.bytes);
     }
+
+pub returns-then-not-is_directory-clause-told : goal.returns-then-not-is_directory-clause-told
+returns-then-not-is_directory-clause-told g c =
+    IsRefused.in_file c.args.place.now.inode (λ root. no_end c.requires.last.0 c.args.name.now (sym root ∙ c.requires.last.1)) c.requires.seen.leads c.requires.seen.there
+    (λ h shown. ap is_directory (sym (c.requires.seen.dinode h shown)) ∙ (sym c.is_directory.ensures ∙ c.if-not-is_directory.true))
+
+pub returns-in-Is-Some-clause-told : goal.returns-in-Is-Some-clause-told
+returns-in-Is-Some-clause-told g c =
+    let v = g.V.View.seen c.args.view.now in
+    let name : name_in c.args.call.now ≡ c.args.name.now = ap last_of c.requires.last.1 ∙ last_front c.requires.last.0 c.args.name.now in
+    IsRefused.has_name c.args.place.now.inode c.in-Is-Some.field-0-0.addr (λ root. no_end c.requires.last.0 c.args.name.now (sym root ∙ c.requires.last.1)) c.requires.seen.leads (record {
+      there = c.requires.seen.there;
+      linear = linear_all v c.args.place.now.inode c.args.place.now.dinode c.requires.seen.dinode (sym c.is_directory.ensures ∙ c.if-not-is_directory.false) (differs _ _ c.if-place-eq1.false);
+      child = λ h shown. ap (child_named (records_of h)) name
+          ∙ child_is (records_of h) c.args.name.now c.in-Is-Some.field-0-0
+          (sym c.in-Is-Some.field-0-is ∙ answer_at _ _ _ c.in-Is-Some.is (c.in_ok-look.ensures.found h shown) ∙ ap (λ n. option_map entry_of (record_named (records_of h) n)) c.bytes.ensures.bytes);
+    })

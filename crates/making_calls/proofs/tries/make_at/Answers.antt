@@ -1,23 +1,28 @@
-use Rattle.std.proofs.Common.{true, false, sym, ap, ◌∙◌, subst}
+use Rattle.std.proofs.Common.{◌≡◌, ℕ, List, Some, true, false, refl, sym, ap, ◌∙◌, subst}
 use Rattle.std.specs.Prelude.{not}
 use Rattle.gfs2_layout.specs.Holding.{Holding}
+use Rattle.glock_names.specs.declared.views.Group.{Group}
 use Rattle.glock_names.proofs.StepLaws.{answer_at, needed_at}
+use Rattle.call_locks.specs.Wants.{wanted}
 use Rattle.dinode_tree.specs.Shown.{IsShown}
 use Rattle.resource_groups.specs.Shown.{said}
 use Rattle.linear_dirs.specs.Broken as directory
 use Rattle.image_model.specs.Owners.{holding}
 use Rattle.path_walks.specs.Walks as path
 use Rattle.path_walks.proofs.Images.{is_shown, unbroken_directory}
+use Rattle.path_walks.proofs.Leads.{leads_once}
 use Rattle.path_walks.proofs.Steps.{fault_all, none_so}
-use Rattle.making_calls.specs.Blocks.{block_holds}
+use Rattle.path_walks.proofs.Steps.{inside_so as shown_inside}
+use Rattle.making_calls.specs.Blocks.{block_holds, group_of_node}
 use Rattle.making_calls.specs.Drafting.{IsAddition, IsWrongIn}
-use Rattle.making_calls.specs.Making.{IsDamage, IsNeededFor, directory_path}
+use Rattle.making_calls.specs.Making.{IsDamage, IsLackedFor, IsNeededFor, IsToGetName, directory_path, makes_directory}
 use Rattle.making_calls.specs.Making as damage
-use Rattle.making_calls.specs.Searches.{IsGroupBroken, IsTaken, IsUnder}
+use Rattle.making_calls.specs.Searches.{AreShown, IsGroupBroken, IsTaken, IsUnder}
 use Rattle.making_calls.specs.declared.blocks.Locked.TheVariants as locked
+use Rattle.making_calls.specs.declared.blocks.Taken.TheVariants as taken
 use Rattle.making_calls.proofs.Alike.{linear_in}
-use Rattle.making_calls.proofs.Rooms.{block_way, few_way, group_sound, lock_way, room_held}
-use Rattle.making_calls.proofs.Taking.{addition_does, all_held, block_lacks, directory_sound, group_lacks, inside_so, lock_lacks, made, placed, reply_ok, stamped, to_get, too_few, under, wrong_damage}
+use Rattle.making_calls.proofs.Rooms.{block_way, few_way, group_sound, own_of, room_held}
+use Rattle.making_calls.proofs.Taking.{addition_does, all_held, block_lacks, directory_sound, group_lacks, inside_so, lock_lacks, made, own_name, placed, reply_ok, stamped, to_get, too_few, under, wrong_damage}
 use Rattle.making_calls.proofs.tries.make_at.Goals as goal
 use Rattle.path_walks.proofs.Faults.{told_on, tells_so, only_so}
 
@@ -59,7 +64,7 @@ returns-in_err-room-clause-sound g c im o l t of =
 pub returns-in_err-room-clause-damaged : goal.returns-in_err-room-clause-damaged
 returns-in_err-room-clause-damaged g c =
     let v = g.V.View.seen c.args.view.now in
-    told_on (IsDamage v c.args.call.now) _ _ c.from_residual-in_err-room.ensures.1 (only_so (IsGroupBroken v) (IsDamage v c.args.call.now) (λ rule b broken. damage.in_group rule b broken) c.in_err-room.field-0.0 c.in_err-room.ensures.damaged)
+    told_on (IsDamage v c.args.call.now) _ _ c.from_residual-in_err-room.ensures.1 (only_so (IsGroupBroken v) (IsDamage v c.args.call.now) (λ rule b broken. damage.in_group rule b (to_get v c.args.call.now c.requires.making c.args.place.now c.args.name.now c.requires.last c.requires.named c.requires.lacks true c.requires.seen.leads c.requires.seen.there (λ h shown. sym (c.in_ok-fits.ensures.room h shown) ∙ c.if-not-fits.false)) broken) c.in_err-room.field-0.0 c.in_err-room.ensures.damaged)
 
 pub returns-in-Is-TooFew-clause-found : goal.returns-in-Is-TooFew-clause-found
 returns-in-Is-TooFew-clause-found g c im o l t of =
@@ -105,7 +110,7 @@ returns-in_err-change-clause-damaged g c =
     let v = g.V.View.seen c.args.view.now in
     let room = room_held v c.args.stamp.now.node c.in-Is-Is.room c.is_a_view.ensures c.requires.groups c.requires.node (λ at own shown is. subst (IsUnder v (block_holds (said at) v.groups own) (IsTaken v (said at) v.groups own)) (c.in-Is-Is.is ∙ ap locked.Is c.in-Is-Is.field-0-is) (c.in_ok-room.ensures.found at own shown is)) in
     told_on (IsDamage v c.args.call.now) _ _ c.from_residual-in_err-change.ensures.1
-    (tells_so (IsWrongIn v c.args.place.now.inode c.in-Is-Is.room.group) (IsDamage v c.args.call.now) (wrong_damage v c.args.call.now c.requires.making c.args.place.now c.args.name.now c.requires.last c.requires.named c.requires.lacks c.requires.seen.leads c.in-Is-Is.room.group room.has room.group_held) c.in_err-change.field-0.0
+    (tells_so (IsWrongIn v c.args.place.now.inode c.in-Is-Is.room.group) (IsDamage v c.args.call.now) (wrong_damage v c.args.call.now c.requires.making c.args.place.now c.args.name.now c.requires.last c.requires.named c.requires.lacks c.requires.seen.leads (to_get v c.args.call.now c.requires.making c.args.place.now c.args.name.now c.requires.last c.requires.named c.requires.lacks true c.requires.seen.leads c.requires.seen.there (λ h shown. sym (c.in_ok-fits.ensures.room h shown) ∙ c.if-not-fits.false)) c.in-Is-Is.room.group room.has room.group_held) c.in_err-change.field-0.0
     c.in_err-change.ensures.damaged)
 
 pub returns-in-Is-clause-found : goal.returns-in-Is-clause-found
@@ -166,7 +171,9 @@ returns-in-NeedBlock-2-clause-found g c im o l t of =
 pub returns-in-NeedLock-clause-told : goal.returns-in-NeedLock-clause-told
 returns-in-NeedLock-clause-told g c =
     let v = g.V.View.seen c.args.view.now in
-    lock_way v c.args.stamp.now.node c.is_a_view.ensures c.requires.groups c.requires.node c.in-NeedLock.lock c.in-NeedLock.state (λ at own shown is. subst (IsUnder v (block_holds (said at) v.groups own) (IsTaken v (said at) v.groups own)) (c.in-NeedLock.is) (c.in_ok-room.ensures.found at own shown is))
+    let own = own_of v c.args.stamp.now.node c.requires.groups c.requires.node in
+    IsLackedFor.of_block own.0 (to_get v c.args.call.now c.requires.making c.args.place.now c.args.name.now c.requires.last c.requires.named c.requires.lacks true c.requires.seen.leads c.requires.seen.there (λ h shown. sym (c.in_ok-fits.ensures.room h shown) ∙ c.if-not-fits.false))
+    own.1 (λ at shown. subst (IsUnder v (block_holds (said at) v.groups own.0) (IsTaken v (said at) v.groups own.0)) c.in-NeedLock.is (c.in_ok-room.ensures.found at own.0 shown own.1))
 
 pub returns-in-NeedBlock-clause-told : goal.returns-in-NeedBlock-clause-told
 returns-in-NeedBlock-clause-told g c =
@@ -184,4 +191,36 @@ returns-in-NeedBlock-2-clause-told g c =
 pub returns-in-Is-TooFew-clause-told : goal.returns-in-Is-TooFew-clause-told
 returns-in-Is-TooFew-clause-told g c =
     let v = g.V.View.seen c.args.view.now in
-    few_way v c.args.stamp.now.node c.is_a_view.ensures c.requires.groups c.requires.node c.in-Is-TooFew.free (λ at own shown is. subst (IsUnder v (block_holds (said at) v.groups own) (IsTaken v (said at) v.groups own)) (c.in-Is-TooFew.is ∙ ap locked.Is c.in-Is-TooFew.field-0-is) (c.in_ok-room.ensures.found at own shown is))
+    let own = own_of v c.args.stamp.now.node c.requires.groups c.requires.node in
+    let searched : (at : ℕ → List ℕ) (k : Group) → AreShown v at → group_of_node v.groups c.args.stamp.now.node ≡ Some k → IsUnder v (block_holds (said at) v.groups k) (IsTaken v (said at) v.groups k) (locked.Is (taken.TooFew c.in-Is-TooFew.free)) =
+    λ at k shown is. subst (IsUnder v (block_holds (said at) v.groups k) (IsTaken v (said at) v.groups k)) (c.in-Is-TooFew.is ∙ ap locked.Is c.in-Is-TooFew.field-0-is) (c.in_ok-room.ensures.found at k shown is) in
+    record {
+      gets = (to_get v c.args.call.now c.requires.making c.args.place.now c.args.name.now c.requires.last c.requires.named c.requires.lacks true c.requires.seen.leads c.requires.seen.there (λ h shown. sym (c.in_ok-fits.ensures.room h shown) ∙ c.if-not-fits.false));
+      needs = refl;
+      free_are = λ at shown. (searched at own.0 shown own.1).1.0;
+      fewer = few_way v c.args.stamp.now.node c.is_a_view.ensures c.requires.groups c.requires.node c.in-Is-TooFew.free searched;
+    }
+
+pub returns-in-Is-clause-told : goal.returns-in-Is-clause-told
+returns-in-Is-clause-told g c =
+    let v = g.V.View.seen c.args.view.now in
+    let call = c.args.call.now in
+    let own = own_of v c.args.stamp.now.node c.requires.groups c.requires.node in
+    let searched : (at : ℕ → List ℕ) → AreShown v at → IsUnder v (block_holds (said at) v.groups own.0) (IsTaken v (said at) v.groups own.0) (locked.Is (taken.Is c.in-Is-Is.room)) =
+    λ at shown. subst (IsUnder v (block_holds (said at) v.groups own.0) (IsTaken v (said at) v.groups own.0)) (c.in-Is-Is.is ∙ ap locked.Is c.in-Is-Is.field-0-is) (c.in_ok-room.ensures.found at own.0 shown own.1) in
+    let gets : IsToGetName v call true = to_get v c.args.call.now c.requires.making c.args.place.now c.args.name.now c.requires.last c.requires.named c.requires.lacks true c.requires.seen.leads c.requires.seen.there (λ h shown. sym (c.in_ok-fits.ensures.room h shown) ∙ c.if-not-fits.false) in
+    let some = answer_at _ _ _ c.in-Is.is c.in_ok-change.ensures.added in
+    let added = subst (λ b. IsAddition v b c.args.place.now c.args.name.now c.in-Is-Is.room c.args.stamp.now.time c.in-Is.change) c.is_of_directory.ensures some in
+    record {
+      gets = gets;
+      place = c.args.place.now;
+      at = c.requires.seen;
+      directory = leads_once v (wanted call) (directory_path call) (directory_path call) c.args.place.now.inode gets.directory c.requires.seen.leads gets.leads refl;
+      inside = shown_inside v c.args.place.now.inode c.group_of.result (c.is_none.ensures ∙ ap not c.if-is_none.false) c.group_of.ensures.group c.group_of.ensures.own;
+      own = own.0;
+      of_node = own.1;
+      room = c.in-Is-Is.room;
+      first = λ at shown. (searched at shown).1.0;
+      held = λ at shown. (searched at shown).0;
+      added = subst (λ n. IsAddition v (makes_directory call) c.args.place.now n c.in-Is-Is.room c.args.stamp.now.time c.in-Is.change) (sym (own_name v call c.requires.making c.args.place.now c.args.name.now c.requires.last c.requires.named c.requires.lacks)) added;
+    }

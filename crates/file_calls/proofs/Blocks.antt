@@ -1,0 +1,260 @@
+-- A block that a call asks for.
+use Rattle.std.proofs.Common.{◌≡◌, ℕ, ◌<◌, ◌≤◌, Bool, true, false, List, [], ◌∷◌, length, None, Some, inl, inr, refl, sym, ap, ◌∙◌, subst, arith, true≢false}
+use Rattle.std.proofs.lemmas.Bool.{cases_Bool, cases_lt}
+use Rattle.std.specs.Prelude.{Option, Contains, ◌&&◌, ◌==◌, not}
+use Rattle.std.specs.List.{AllByRecursion, list_any}
+use Rattle.std.proofs.lemmas.List.Elements.{All-contains, All-from_recursion}
+use Rattle.file_tree.specs.declared.call.Call.{Call}
+use Rattle.file_tree.specs.declared.call.Call.TheVariants as call
+use Rattle.gfs2_layout.specs.Holding.{Holding}
+use Rattle.glock_names.specs.Views.{Seen, IsView}
+use Rattle.glock_names.specs.declared.LockName.{LockName}
+use Rattle.glock_names.specs.declared.steps.Missing.{Missing}
+use Rattle.dinode_tree.specs.Shown.{IsShown}
+use Rattle.image_model.specs.Image.{Image}
+use Rattle.image_model.specs.Owners.{Owners, Nobody}
+use Rattle.image_model.specs.Stands.{Layout, IsLaid}
+use Rattle.image_changes.specs.Changes.{cover}
+use Rattle.image_changes.specs.Does.{Does, IsFormed, IsInside, frees, is_empty, is_nothing, AreInside}
+use Rattle.drafts.specs.declared.change.Change.{Change}
+use Rattle.drafts.specs.declared.change.Written.{Written}
+use Rattle.glock_names.specs.declared.State.TheVariants.{Ex}
+use Rattle.writing_calls.specs.Writing as writing
+use Rattle.file_calls.specs.Calls.{IsTooFew, call_holds}
+use Rattle.read_calls.specs.Reading.{IsReading, IsNeededFor, on_path, at_end}
+use Rattle.call_locks.specs.WantLaws.{path_of}
+use Rattle.call_locks.specs.Wants.{wanted}
+use Rattle.cluster_history.specs.Changes.{is_ok, may_change}
+use Rattle.file_tree.specs.Tree.{Tree}
+use Rattle.file_tree.specs.declared.reply.Reply.{Reply}
+use Rattle.file_tree.specs.declared.reply.Reply.TheVariants as reply
+use Rattle.making_calls.specs.Making as making
+use Rattle.path_walks.specs.Holds.{Hold, holds_in, IsUnder}
+use Rattle.removing_calls.specs.Removing.{IsRemoving, holds_for}
+use Rattle.removing_calls.specs.Removing as removing
+use Rattle.writing_calls.proofs.Alone.{none_freed as none_freed_by}
+use Rattle.path_walks.proofs.Lying.{data_lies}
+
+-- a view shows each inode
+abbrev ShowsEach : Seen → Type 0
+ShowsEach v = (a : ℕ) → (h : Holding) × IsShown v a h
+
+-- a block without which a call that reads isn't answered is one that the view hasn't
+pub needed_absent : (v : Seen) (c : Call) (m : Missing) → ShowsEach v → IsNeededFor v c m → v.block_at m.block ≡ None
+needed_absent v c m shows (on_path unread) = unread.absent
+needed_absent v (call.Read p at count) m shows (at_end a leads asked) = let s = shows a in (asked s.0 s.1).1.absent
+needed_absent v (call.Dread p at count) m shows (at_end a leads asked) = let s = shows a in (asked s.0 s.1).1.absent
+needed_absent v (call.List p) m shows (at_end a leads asked) = absurd asked
+needed_absent v (call.Stat p) m shows (at_end a leads asked) = absurd asked
+needed_absent v (call.Create p) m shows (at_end a leads asked) = absurd asked
+needed_absent v (call.Mkdir p) m shows (at_end a leads asked) = absurd asked
+needed_absent v (call.Unlink p) m shows (at_end a leads asked) = absurd asked
+needed_absent v (call.Rmdir p) m shows (at_end a leads asked) = absurd asked
+needed_absent v (call.Write p at new) m shows (at_end a leads asked) = absurd asked
+needed_absent v (call.Truncate p size) m shows (at_end a leads asked) = absurd asked
+needed_absent v (call.Rename p q) m shows (at_end a leads asked) = absurd asked
+needed_absent v call.Sync m shows (at_end a leads asked) = absurd asked
+
+module _ (im : Image) (o : Owners) (l : Layout) (laid : IsLaid im o l) where
+  -- nobody owns a block behind the device
+  none_beyond : (b : ℕ) → im.count ≤ b → o b ≡ Nobody
+  none_beyond b past = laid.zoned.between b (omega (arith, laid.super.inside, past)) (λ g at.
+      let fits = laid.fit.each g at in (
+        λ header. absurd (omega (arith, header.high, fits.first, fits.inside, past)),
+        λ data_block. absurd (omega (arith, data_block.high, fits.inside, past)),
+      ))
+
+  -- a block that a lock covers is on the device
+  pub covered_low : (b : ℕ) (lock : LockName) → cover l b (o b) ≡ Some lock → b < im.count
+  covered_low b lock is = elim (cases_lt b im.count) [
+    | inl low ↦ low
+    | inr past ↦ absurd (no_cover (sym (ap (cover l b) (none_beyond b past)) ∙ is))
+  ]
+    where
+      no_cover : ◌≡◌ {A = Option LockName} None (Some lock) → ⊥
+      no_cover e = cc
+
+-- ---- what is written
+
+first : (a b : Bool) → a && b ≡ true → a ≡ true
+first true b e = refl
+first false b e = e
+
+second : (a b : Bool) → a && b ≡ true → b ≡ true
+second true b e = e
+second false b e = absurd (true≢false (sym e))
+
+empty_is : {X : Type 0} (xs : List X) → is_empty xs ≡ true → xs ≡ []
+empty_is [] is = refl
+empty_is (x ∷ xs) is = absurd (true≢false (sym is))
+
+no_length : {X : Type 0} (xs : List X) → length xs ≡ 0 → xs ≡ []
+no_length [] is = refl
+no_length (x ∷ xs) is = absurd (omega (arith, is))
+
+none_there : {X : Type 0} (xs : List X) (x : X) → xs ≡ [] → Contains xs x → ⊥
+none_there xs x none (k, low, is) = omega (arith, low, ap length none)
+
+module _ (change : Change) (is : is_nothing change ≡ true) where
+  no_blocks : change.blocks.items ≡ []
+  no_blocks = empty_is change.blocks.items (first (is_empty change.blocks.items) (is_empty change.freed.items) is)
+
+  none_freed : (b : ℕ) → frees change b ≡ true → ⊥
+  none_freed b freed = true≢false (sym freed ∙ ap (list_any (λ f. f == b)) (empty_is change.freed.items (second (is_empty change.blocks.items) (is_empty change.freed.items) is)))
+
+  -- a change of nothing has no lock and no block
+  pub nothing_under : (o : Owners) (list : List Hold) → IsFormed change → IsUnder o list change
+  nothing_under o list form = record {
+    written = λ lock has. absurd (none_there change.locks.items lock (no_length change.locks.items (form.locks ∙ ap length no_blocks)) has);
+    freed = λ b a freed was. absurd (none_freed b freed);
+  }
+
+  pub nothing_inside : (v : Seen) → AreInside v change
+  nothing_inside v = subst (AllByRecursion (IsInside v)) (sym no_blocks) tt
+
+-- one that frees nothing touches the locks that are told with it
+pub all_under : (o : Owners) (list : List Hold) (change : Change) → change.freed.items ≡ [] → writing.AreUnder list change → IsUnder o list change
+all_under o list change none all = record {
+  written = λ lock has. All-contains (λ (lock : LockName). Contains list (record { lock = lock; state = Ex })) change.locks.items lock (All-from_recursion (λ (lock : LockName). Contains list (record { lock = lock; state = Ex })) change.locks.items all) has;
+  freed = λ b a freed was. absurd (true≢false (sym freed ∙ ap (list_any (λ f. f == b)) none));
+}
+
+-- a data block lies in its group
+pub data_inside : (v : Seen) (ws : List Written) → IsView v → AllByRecursion (writing.IsInside v) ws → AllByRecursion (IsInside v) ws
+data_inside v [] view all = tt
+data_inside v (w ∷ ws) view all = (record { whole = all.0.whole; inside = data_lies v w.block view all.0.inside }, data_inside v ws view all.1)
+
+-- ---- the lists of locks
+
+module _ (im : Image) (o : Owners) (l : Layout) (t : Tree) (node : ℕ) where
+  pub reading_holds : (c : Call) → IsReading c → call_holds im o l t c node ≡ holds_in im o l (path_of c false) (wanted c)
+  reading_holds (call.Read p at count) is = refl
+  reading_holds (call.Dread p at count) is = refl
+  reading_holds (call.Stat p) is = refl
+  reading_holds (call.List p) is = refl
+  reading_holds (call.Create p) is = absurd is
+  reading_holds (call.Mkdir p) is = absurd is
+  reading_holds (call.Unlink p) is = absurd is
+  reading_holds (call.Rmdir p) is = absurd is
+  reading_holds (call.Write p at new) is = absurd is
+  reading_holds (call.Truncate p size) is = absurd is
+  reading_holds (call.Rename p q) is = absurd is
+  reading_holds call.Sync is = absurd is
+
+  pub writing_holds : (c : Call) → writing.IsWriting c → call_holds im o l t c node ≡ writing.call_holds im o l c
+  writing_holds (call.Write p at new) is = refl
+  writing_holds call.Sync is = refl
+  writing_holds (call.Read p at count) is = absurd is
+  writing_holds (call.Stat p) is = absurd is
+  writing_holds (call.List p) is = absurd is
+  writing_holds (call.Create p) is = absurd is
+  writing_holds (call.Mkdir p) is = absurd is
+  writing_holds (call.Unlink p) is = absurd is
+  writing_holds (call.Rmdir p) is = absurd is
+  writing_holds (call.Dread p at count) is = absurd is
+  writing_holds (call.Truncate p size) is = absurd is
+  writing_holds (call.Rename p q) is = absurd is
+
+  pub removing_holds : (c : Call) → IsRemoving c → call_holds im o l t c node ≡ holds_for im o l t c
+  removing_holds (call.Unlink p) is = refl
+  removing_holds (call.Rmdir p) is = refl
+  removing_holds (call.Read p at count) is = absurd is
+  removing_holds (call.Stat p) is = absurd is
+  removing_holds (call.List p) is = absurd is
+  removing_holds (call.Create p) is = absurd is
+  removing_holds (call.Mkdir p) is = absurd is
+  removing_holds (call.Dread p at count) is = absurd is
+  removing_holds (call.Write p at new) is = absurd is
+  removing_holds (call.Truncate p size) is = absurd is
+  removing_holds (call.Rename p q) is = absurd is
+  removing_holds call.Sync is = absurd is
+
+-- ---- a call that removes a name
+
+pub removing_absent : (v : Seen) (c : Call) (m : Missing) → ShowsEach v → removing.IsNeededFor v c m → v.block_at m.block ≡ None
+removing_absent v c m shows (removing.on_path unread) = unread.absent
+removing_absent v c m shows (removing.of_inode a taken needed) = let s = shows a in (needed s.0 s.1).absent
+removing_absent v c m shows (removing.of_group a blocks taken all held needed) = needed.2.3.block.absent
+
+-- one that wasn't answered Ok changed nothing
+refused_nothing : (v : Seen) (c : Call) (r : Reply) (change : Change) → Does v c r change → is_ok r ≡ false → is_nothing change ≡ true
+refused_nothing v c r change does no_ok = does.tells ∙ ap (λ b. not (b && may_change c)) no_ok
+
+pub removing_under : (v : Seen) (o : Owners) (list : List Hold) (c : Call) (r : Reply) (change : Change) → Does v c r change → (is_ok r ≡ true → IsUnder o list change) → IsUnder o list change
+removing_under v o list c r change does under = elim (cases_Bool (is_ok r)) [
+  | inl ok ↦ under ok
+  | inr refused ↦ nothing_under change (refused_nothing v c r change does refused) o list does.form
+]
+
+pub removing_inside : (v : Seen) (c : Call) (r : Reply) (change : Change) → Does v c r change → (is_ok r ≡ true → AreInside v change) → AreInside v change
+removing_inside v c r change does inside = elim (cases_Bool (is_ok r)) [
+  | inl ok ↦ inside ok
+  | inr refused ↦ nothing_inside change (refused_nothing v c r change does refused) v
+]
+
+-- ---- a call that writes
+
+and_false : (b : Bool) → b && false ≡ false
+and_false true = refl
+and_false false = refl
+
+pub writing_under : (v : Seen) (o : Owners) (list : List Hold) (c : Call) (time : ℕ) (r : Reply) (change : Change) → writing.IsWriting c → Does v c r change
+    → writing.IsAnswered v c time r change → writing.AreUnder list change → IsUnder o list change
+writing_under v o list call.Sync time r change is does answered under = nothing_under change (does.tells ∙ ap not (and_false (is_ok r))) o list does.form
+writing_under v o list (call.Write p at new) time r change is does answered under = by r does answered
+  where
+    by : (r : Reply) → Does v (call.Write p at new) r change → writing.IsAnswered v (call.Write p at new) time r change → IsUnder o list change
+    by reply.Ok does written = all_under o list change (none_freed_by v written.0 at new time change written.3) under
+    by (reply.Bytes bytes) does refused = nothing_under change (refused_nothing v (call.Write p at new) (reply.Bytes bytes) change does refl) o list does.form
+    by (reply.Stat kind size) does refused = nothing_under change (refused_nothing v (call.Write p at new) (reply.Stat kind size) change does refl) o list does.form
+    by (reply.Names names) does refused = nothing_under change (refused_nothing v (call.Write p at new) (reply.Names names) change does refl) o list does.form
+    by reply.NotFound does refused = nothing_under change (refused_nothing v (call.Write p at new) reply.NotFound change does refl) o list does.form
+    by reply.NotDir does refused = nothing_under change (refused_nothing v (call.Write p at new) reply.NotDir change does refl) o list does.form
+    by reply.IsDir does refused = nothing_under change (refused_nothing v (call.Write p at new) reply.IsDir change does refl) o list does.form
+    by reply.Exists does refused = nothing_under change (refused_nothing v (call.Write p at new) reply.Exists change does refl) o list does.form
+    by reply.NotEmpty does refused = nothing_under change (refused_nothing v (call.Write p at new) reply.NotEmpty change does refl) o list does.form
+    by reply.Inside does refused = nothing_under change (refused_nothing v (call.Write p at new) reply.Inside change does refl) o list does.form
+    by reply.TooBig does refused = nothing_under change (refused_nothing v (call.Write p at new) reply.TooBig change does refl) o list does.form
+    by reply.NoSpace does refused = nothing_under change (refused_nothing v (call.Write p at new) reply.NoSpace change does refl) o list does.form
+writing_under v o list (call.Read p at count) time r change is does answered under = absurd is
+writing_under v o list (call.Stat p) time r change is does answered under = absurd is
+writing_under v o list (call.List p) time r change is does answered under = absurd is
+writing_under v o list (call.Create p) time r change is does answered under = absurd is
+writing_under v o list (call.Mkdir p) time r change is does answered under = absurd is
+writing_under v o list (call.Unlink p) time r change is does answered under = absurd is
+writing_under v o list (call.Rmdir p) time r change is does answered under = absurd is
+writing_under v o list (call.Dread p at count) time r change is does answered under = absurd is
+writing_under v o list (call.Truncate p size) time r change is does answered under = absurd is
+writing_under v o list (call.Rename p q) time r change is does answered under = absurd is
+
+-- ---- a call that makes a name
+
+module _ (im : Image) (o : Owners) (l : Layout) (t : Tree) (node : ℕ) where
+  pub making_holds : (c : Call) → making.IsMaking c → call_holds im o l t c node ≡ making.call_holds im o l t c node
+  making_holds (call.Create p) is = refl
+  making_holds (call.Mkdir p) is = refl
+  making_holds (call.Read p at count) is = absurd is
+  making_holds (call.Stat p) is = absurd is
+  making_holds (call.List p) is = absurd is
+  making_holds (call.Unlink p) is = absurd is
+  making_holds (call.Rmdir p) is = absurd is
+  making_holds (call.Dread p at count) is = absurd is
+  making_holds (call.Write p at new) is = absurd is
+  making_holds (call.Truncate p size) is = absurd is
+  making_holds (call.Rename p q) is = absurd is
+  making_holds call.Sync is = absurd is
+
+-- its want of space is the one that is told of every call
+pub making_few : (v : Seen) (im : Image) (o : Owners) (l : Layout) (t : Tree) (c : Call) → making.IsMaking c → (need free : ℕ) → making.IsTooFew v im o l t c need free → IsTooFew v im o l t c need free
+making_few v im o l t (call.Create p) is need free few = few
+making_few v im o l t (call.Mkdir p) is need free few = few
+making_few v im o l t (call.Read p at count) is need free few = absurd is
+making_few v im o l t (call.Stat p) is need free few = absurd is
+making_few v im o l t (call.List p) is need free few = absurd is
+making_few v im o l t (call.Unlink p) is need free few = absurd is
+making_few v im o l t (call.Rmdir p) is need free few = absurd is
+making_few v im o l t (call.Dread p at count) is need free few = absurd is
+making_few v im o l t (call.Write p at new) is need free few = absurd is
+making_few v im o l t (call.Truncate p size) is need free few = absurd is
+making_few v im o l t (call.Rename p q) is need free few = absurd is
+making_few v im o l t call.Sync is need free few = absurd is

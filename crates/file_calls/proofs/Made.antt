@@ -1,0 +1,55 @@
+-- What a call that makes or removes a name is told, and makes of an image that the view may be of.
+use Rattle.std.proofs.Common.{ℕ}
+use Rattle.drafts.specs.declared.change.Change.{Change}
+use Rattle.file_tree.specs.declared.call.Call.{Call}
+use Rattle.file_tree.specs.declared.call.Call.TheVariants as call
+use Rattle.glock_names.specs.Views.{Seen}
+use Rattle.image_model.specs.Image.{Image}
+use Rattle.image_model.specs.Owners.{Owners}
+use Rattle.image_model.specs.Stands.{Layout}
+use Rattle.making_calls.specs.Making as making
+use Rattle.removing_calls.specs.Removing as removing
+use Rattle.file_calls.specs.Answers.{IsFullFor, IsMadeOf}
+
+pub making_full : (v : Seen) (c : Call) → making.IsMaking c → (need free : ℕ) → making.IsFullFor v c need free → IsFullFor v c need free
+making_full v (call.Create p) is need free full = full
+making_full v (call.Mkdir p) is need free full = full
+making_full v (call.Read p at count) is need free full = absurd is
+making_full v (call.Dread p at count) is need free full = absurd is
+making_full v (call.Stat p) is need free full = absurd is
+making_full v (call.List p) is need free full = absurd is
+making_full v (call.Unlink p) is need free full = absurd is
+making_full v (call.Rmdir p) is need free full = absurd is
+making_full v (call.Write p at new) is need free full = absurd is
+making_full v (call.Truncate p size) is need free full = absurd is
+making_full v (call.Rename p q) is need free full = absurd is
+making_full v call.Sync is need free full = absurd is
+
+module _ (im : Image) (o : Owners) (l : Layout) (node time : ℕ) (change : Change) where
+  pub making_made : (c : Call) → making.IsMaking c → making.IsMade im o l c node time change → making.IsStamped im o l c time change → IsMadeOf im o l c node time change
+  making_made (call.Create p) is made stamped = (made, stamped)
+  making_made (call.Mkdir p) is made stamped = (made, stamped)
+  making_made (call.Read p at count) is made stamped = absurd is
+  making_made (call.Dread p at count) is made stamped = absurd is
+  making_made (call.Stat p) is made stamped = absurd is
+  making_made (call.List p) is made stamped = absurd is
+  making_made (call.Unlink p) is made stamped = absurd is
+  making_made (call.Rmdir p) is made stamped = absurd is
+  making_made (call.Write p at new) is made stamped = absurd is
+  making_made (call.Truncate p size) is made stamped = absurd is
+  making_made (call.Rename p q) is made stamped = absurd is
+  making_made call.Sync is made stamped = absurd is
+
+  pub removing_made : (c : Call) → removing.IsRemoving c → removing.IsStamped im o l c time change → IsMadeOf im o l c node time change
+  removing_made (call.Unlink p) is stamped = stamped
+  removing_made (call.Rmdir p) is stamped = stamped
+  removing_made (call.Create p) is stamped = absurd is
+  removing_made (call.Mkdir p) is stamped = absurd is
+  removing_made (call.Read p at count) is stamped = absurd is
+  removing_made (call.Dread p at count) is stamped = absurd is
+  removing_made (call.Stat p) is stamped = absurd is
+  removing_made (call.List p) is stamped = absurd is
+  removing_made (call.Write p at new) is stamped = absurd is
+  removing_made (call.Truncate p size) is stamped = absurd is
+  removing_made (call.Rename p q) is stamped = absurd is
+  removing_made call.Sync is stamped = absurd is

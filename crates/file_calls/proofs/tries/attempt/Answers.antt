@@ -1,0 +1,249 @@
+use Rattle.std.proofs.Common.{rules, ℕ, ◌≡◌, ◌≢◌, true, Result, Ok, Err, sym, ap, ◌∙◌, subst}
+use Rattle.std.specs.Prelude.{not}
+use Rattle.drafts.specs.declared.attempt.Attempt.{Attempt}
+use Rattle.drafts.specs.declared.attempt.Attempt.TheVariants.{Done, NeedLock, NeedBlock, NoSpace, Hashed, NotBuilt}
+use Rattle.glock_names.specs.declared.steps.CallFault.{CallFault}
+use Rattle.glock_names.specs.declared.steps.Missing.{Missing}
+use Rattle.cluster_history.specs.Changes.{is_ok}
+use Rattle.path_walks.specs.Answers.{IfDone, IfNeedBlock, IfNeedLock, IfNoSpace, IfNotBuilt, HasSpace}
+use Rattle.path_walks.specs.Holds.{AreHeld, IsAskedFor, IsFirstLack, IsUnder}
+use Rattle.making_calls.specs.Making.{IsMaking}
+use Rattle.removing_calls.specs.Removing.{IsRemoving}
+use Rattle.writing_calls.specs.Writing.{IsWriting, AreUnder}
+use Rattle.file_tree.specs.declared.reply.Reply.{Reply}
+use Rattle.file_tree.specs.declared.reply.Reply.TheVariants as reply
+use Rattle.drafts.specs.declared.change.Change.{Change}
+use Rattle.image_changes.specs.Does.{Does, AreInside}
+use Rattle.read_calls.specs.Reading.{IsReading}
+use Rattle.read_calls.proofs.Lists.{no_change}
+use Rattle.file_calls.specs.Answers.{IsMadeIn}
+use Rattle.file_calls.specs.Calls.{call_holds}
+use Rattle.file_calls.proofs.Made.{making_full, making_made, removing_made}
+use Rattle.file_calls.proofs.Blocks.{needed_absent, covered_low, data_inside, making_few, making_holds, nothing_under, reading_holds, removing_absent, removing_holds, removing_inside, removing_under, writing_holds, writing_under}
+use Rattle.file_calls.proofs.tries.attempt.Goals as goal
+
+mapped : (r : Result Attempt CallFault) (P Q : Missing → Type 0) → ((m : Missing) → P m → Q m) → IfNeedBlock r P → IfNeedBlock r Q
+mapped (Ok (NeedBlock m)) P Q f is = f m is
+mapped (Ok (Done reply change)) P Q f is = tt
+mapped (Ok (NeedLock lock state)) P Q f is = tt
+mapped (Ok (NoSpace need free)) P Q f is = tt
+mapped (Ok (Hashed b)) P Q f is = tt
+mapped (Ok NotBuilt) P Q f is = tt
+mapped (Err e) P Q f is = tt
+
+-- and of what is done
+done_so : (r : Result Attempt CallFault) (P Q : Reply → Change → Type 0) → ((x : Reply) (change : Change) → P x change → Q x change) → IfDone r P → IfDone r Q
+done_so (Ok (NeedBlock m)) P Q f is = tt
+done_so (Ok (Done reply change)) P Q f is = f reply change is
+done_so (Ok (NeedLock lock state)) P Q f is = tt
+done_so (Ok (NoSpace need free)) P Q f is = tt
+done_so (Ok (Hashed b)) P Q f is = tt
+done_so (Ok NotBuilt) P Q f is = tt
+done_so (Err e) P Q f is = tt
+
+done_two : (r : Result Attempt CallFault) (P Q : Reply → Change → Type 0) → IfDone r P → IfDone r Q → IfDone r (λ x change. P x change × Q x change)
+done_two (Ok (NeedBlock m)) P Q p q = tt
+done_two (Ok (Done reply change)) P Q p q = (p, q)
+done_two (Ok (NeedLock lock state)) P Q p q = tt
+done_two (Ok (NoSpace need free)) P Q p q = tt
+done_two (Ok (Hashed b)) P Q p q = tt
+done_two (Ok NotBuilt) P Q p q = tt
+done_two (Err e) P Q p q = tt
+
+done_three : (r : Result Attempt CallFault) (P Q R : Reply → Change → Type 0) → IfDone r P → IfDone r Q → IfDone r R → IfDone r (λ x change. P x change × Q x change × R x change)
+done_three (Ok (NeedBlock m)) P Q R p q s = tt
+done_three (Ok (Done reply change)) P Q R p q s = (p, q, s)
+done_three (Ok (NeedLock lock state)) P Q R p q s = tt
+done_three (Ok (NoSpace need free)) P Q R p q s = tt
+done_three (Ok (Hashed b)) P Q R p q s = tt
+done_three (Ok NotBuilt) P Q R p q s = tt
+done_three (Err e) P Q R p q s = tt
+
+pub returns-in-Read-clause-on_device : goal.returns-in-Read-clause-on_device
+returns-in-Read-clause-on_device g c im o l t of = mapped c.attempt-in-Read.result _ _ (λ m asked. covered_low im o l of.stands.laid m.block m.lock asked.covered) (c.attempt-in-Read.ensures.block im o l t of)
+
+pub returns-in-Write-clause-on_device : goal.returns-in-Write-clause-on_device
+returns-in-Write-clause-on_device g c im o l t of = mapped c.attempt.result _ _ (λ m asked. covered_low im o l of.stands.laid m.block m.lock asked.covered) (c.attempt.ensures.block im o l t of)
+
+pub returns-in-Read-clause-absent : goal.returns-in-Read-clause-absent
+returns-in-Read-clause-absent g c =
+    let v = g.V.View.seen c.args.view.now in
+    mapped c.attempt-in-Read.result _ _ (λ m needed. needed_absent v c.args.call.now m (λ a. let s = c.every_view_shows_an_inode.ensures v a in (s.0, s.1.0)) needed) c.attempt-in-Read.ensures.needed
+
+pub returns-in-Read-clause-held : goal.returns-in-Read-clause-held
+returns-in-Read-clause-held g c im o l t of =
+    let is : IsReading c.args.call.now = search rules in
+    subst (λ list. IfDone c.attempt-in-Read.result (λ reply change. AreHeld (g.V.View.seen c.args.view.now) list)) (sym (reading_holds im o l t c.args.stamp.now.node c.args.call.now is)) (c.attempt-in-Read.ensures.held im o l t of)
+
+pub returns-in-Read-clause-under : goal.returns-in-Read-clause-under
+returns-in-Read-clause-under g c im o l t of =
+    let is : IsReading c.args.call.now = search rules in
+    done_so c.attempt-in-Read.result (Does (g.V.View.seen c.args.view.now) c.args.call.now) _
+    (λ x change does. nothing_under change (does.tells ∙ ap not (no_change c.args.call.now x is)) o (call_holds im o l t c.args.call.now c.args.stamp.now.node) does.form) c.attempt-in-Read.ensures.done
+
+pub returns-in-Write-clause-held : goal.returns-in-Write-clause-held
+returns-in-Write-clause-held g c im o l t of =
+    let is : IsWriting c.args.call.now = search rules in
+    subst (λ list. IfDone c.attempt.result (λ reply change. AreHeld (g.V.View.seen c.args.view.now) list)) (sym (writing_holds im o l t c.args.stamp.now.node c.args.call.now is)) (c.attempt.ensures.held im o l t of)
+
+pub returns-in-Write-clause-under : goal.returns-in-Write-clause-under
+returns-in-Write-clause-under g c im o l t of =
+    let v = g.V.View.seen c.args.view.now in
+    let is : IsWriting c.args.call.now = search rules in
+    let list = call_holds im o l t c.args.call.now c.args.stamp.now.node in
+    let under = subst (λ list. IfDone c.attempt.result (λ reply change. AreUnder list change)) (sym (writing_holds im o l t c.args.stamp.now.node c.args.call.now is)) (c.attempt.ensures.under im o l t of) in
+    done_so c.attempt.result _ (λ reply change. IsUnder o list change)
+    (λ x change all. writing_under v o list c.args.call.now c.args.stamp.now.time x change is all.0 all.1 all.2)
+    (done_three c.attempt.result _ _ _ c.attempt.ensures.done c.attempt.ensures.answered under)
+
+pub returns-in-Unlink-clause-held : goal.returns-in-Unlink-clause-held
+returns-in-Unlink-clause-held g c im o l t of =
+    let is : IsRemoving c.args.call.now = search rules in
+    subst (λ list. IfDone c.attempt-in-Unlink.result (λ reply change. AreHeld (g.V.View.seen c.args.view.now) list)) (sym (removing_holds im o l t c.args.stamp.now.node c.args.call.now is)) (c.attempt-in-Unlink.ensures.held im o l t of)
+
+pub returns-in-Unlink-clause-lock : goal.returns-in-Unlink-clause-lock
+returns-in-Unlink-clause-lock g c im o l t of =
+    let is : IsRemoving c.args.call.now = search rules in
+    subst (λ list. IfNeedLock c.attempt-in-Unlink.result (IsFirstLack (g.V.View.seen c.args.view.now) list)) (sym (removing_holds im o l t c.args.stamp.now.node c.args.call.now is)) (c.attempt-in-Unlink.ensures.lock im o l t of)
+
+pub returns-in-Unlink-clause-block : goal.returns-in-Unlink-clause-block
+returns-in-Unlink-clause-block g c im o l t of =
+    let is : IsRemoving c.args.call.now = search rules in
+    subst (λ list. IfNeedBlock c.attempt-in-Unlink.result (IsAskedFor (g.V.View.seen c.args.view.now) im o l list)) (sym (removing_holds im o l t c.args.stamp.now.node c.args.call.now is)) (c.attempt-in-Unlink.ensures.block im o l t of)
+
+pub returns-in-Unlink-clause-on_device : goal.returns-in-Unlink-clause-on_device
+returns-in-Unlink-clause-on_device g c im o l t of = mapped c.attempt-in-Unlink.result _ _ (λ m asked. covered_low im o l of.stands.laid m.block m.lock asked.covered) (c.attempt-in-Unlink.ensures.block im o l t of)
+
+pub returns-in-Unlink-clause-absent : goal.returns-in-Unlink-clause-absent
+returns-in-Unlink-clause-absent g c =
+    let v = g.V.View.seen c.args.view.now in
+    mapped c.attempt-in-Unlink.result _ _ (λ m needed. removing_absent v c.args.call.now m (λ a. let s = c.every_view_shows_an_inode.ensures v a in (s.0, s.1.0)) needed) c.attempt-in-Unlink.ensures.needed
+
+pub returns-in-Unlink-clause-under : goal.returns-in-Unlink-clause-under
+returns-in-Unlink-clause-under g c im o l t of =
+    let v = g.V.View.seen c.args.view.now in
+    let is : IsRemoving c.args.call.now = search rules in
+    let list = call_holds im o l t c.args.call.now c.args.stamp.now.node in
+    let under = subst (λ list. IfDone c.attempt-in-Unlink.result (λ reply change. is_ok reply ≡ true → IsUnder o list change)) (sym (removing_holds im o l t c.args.stamp.now.node c.args.call.now is)) (c.attempt-in-Unlink.ensures.under im o l t of) in
+    done_so c.attempt-in-Unlink.result _ (λ reply change. IsUnder o list change)
+    (λ x change all. removing_under v o list c.args.call.now x change all.0 all.1) (done_two c.attempt-in-Unlink.result _ _ c.attempt-in-Unlink.ensures.done under)
+
+pub returns-in-Unlink-clause-inside : goal.returns-in-Unlink-clause-inside
+returns-in-Unlink-clause-inside g c =
+    let v = g.V.View.seen c.args.view.now in
+    done_so c.attempt-in-Unlink.result _ (λ reply change. AreInside v change)
+    (λ x change all. removing_inside v c.args.call.now x change all.0 all.1) (done_two c.attempt-in-Unlink.result _ _ c.attempt-in-Unlink.ensures.done c.attempt-in-Unlink.ensures.inside)
+
+pub returns-in-Write-clause-inside : goal.returns-in-Write-clause-inside
+returns-in-Write-clause-inside g c = done_so c.attempt.result _ _ (λ x change is. data_inside (g.V.View.seen c.args.view.now) change.blocks.items c.block_size-size.ensures.view is) c.attempt.ensures.inside
+
+pub returns-in-Create-clause-held : goal.returns-in-Create-clause-held
+returns-in-Create-clause-held g c im o l t of =
+    let is : IsMaking c.args.call.now = search rules in
+    subst (λ list. IfDone c.attempt-in-Create.result (λ reply change. AreHeld (g.V.View.seen c.args.view.now) list)) (sym (making_holds im o l t c.args.stamp.now.node c.args.call.now is)) (c.attempt-in-Create.ensures.held im o l t of)
+
+pub returns-in-Create-clause-lock : goal.returns-in-Create-clause-lock
+returns-in-Create-clause-lock g c im o l t of =
+    let is : IsMaking c.args.call.now = search rules in
+    subst (λ list. IfNeedLock c.attempt-in-Create.result (IsFirstLack (g.V.View.seen c.args.view.now) list)) (sym (making_holds im o l t c.args.stamp.now.node c.args.call.now is)) (c.attempt-in-Create.ensures.lock im o l t of)
+
+pub returns-in-Create-clause-block : goal.returns-in-Create-clause-block
+returns-in-Create-clause-block g c im o l t of =
+    let is : IsMaking c.args.call.now = search rules in
+    subst (λ list. IfNeedBlock c.attempt-in-Create.result (IsAskedFor (g.V.View.seen c.args.view.now) im o l list)) (sym (making_holds im o l t c.args.stamp.now.node c.args.call.now is)) (c.attempt-in-Create.ensures.block im o l t of)
+
+pub returns-in-Create-clause-on_device : goal.returns-in-Create-clause-on_device
+returns-in-Create-clause-on_device g c im o l t of = mapped c.attempt-in-Create.result _ _ (λ m asked. covered_low im o l of.stands.laid m.block m.lock asked.covered) (c.attempt-in-Create.ensures.block im o l t of)
+
+pub returns-in-Create-clause-under : goal.returns-in-Create-clause-under
+returns-in-Create-clause-under g c im o l t of =
+    let is : IsMaking c.args.call.now = search rules in
+    subst (λ list. IfDone c.attempt-in-Create.result (λ reply change. IsUnder o list change)) (sym (making_holds im o l t c.args.stamp.now.node c.args.call.now is)) (c.attempt-in-Create.ensures.under im o l t of)
+
+few_so : (r : Result Attempt CallFault) (P Q : ℕ → ℕ → Type 0) → ((need free : ℕ) → P need free → Q need free) → IfNoSpace r P → IfNoSpace r Q
+few_so (Ok (NeedBlock m)) P Q f is = tt
+few_so (Ok (Done reply change)) P Q f is = tt
+few_so (Ok (NeedLock lock state)) P Q f is = tt
+few_so (Ok (NoSpace need free)) P Q f is = f need free is
+few_so (Ok (Hashed b)) P Q f is = tt
+few_so (Ok NotBuilt) P Q f is = tt
+few_so (Err e) P Q f is = tt
+
+pub returns-in-Create-clause-space : goal.returns-in-Create-clause-space
+returns-in-Create-clause-space g c im o l t of =
+    let is : IsMaking c.args.call.now = search rules in
+    few_so c.attempt-in-Create.result _ _ (making_few (g.V.View.seen c.args.view.now) im o l t c.args.call.now is) (c.attempt-in-Create.ensures.space im o l t of)
+
+-- what is always built is so whatever is asked of what isn't
+built_so : (r : Result Attempt CallFault) (P : Type 0) → IfNotBuilt r ⊥ → IfNotBuilt r P
+built_so (Ok (NeedBlock m)) P is = tt
+built_so (Ok (Done reply change)) P is = tt
+built_so (Ok (NeedLock lock state)) P is = tt
+built_so (Ok (NoSpace need free)) P is = tt
+built_so (Ok (Hashed b)) P is = tt
+built_so (Ok NotBuilt) P is = absurd is
+built_so (Err e) P is = tt
+
+pub returns-in-Read-clause-unbuilt : goal.returns-in-Read-clause-unbuilt
+returns-in-Read-clause-unbuilt g c = built_so c.attempt-in-Read.result _ c.attempt-in-Read.ensures.built
+
+pub returns-in-Read-clause-taken : goal.returns-in-Read-clause-taken
+returns-in-Read-clause-taken g c im o l t of = built_so c.attempt-in-Read.result _ c.attempt-in-Read.ensures.built
+
+pub returns-in-Unlink-clause-unbuilt : goal.returns-in-Unlink-clause-unbuilt
+returns-in-Unlink-clause-unbuilt g c = built_so c.attempt-in-Unlink.result _ c.attempt-in-Unlink.ensures.built
+
+pub returns-in-Unlink-clause-taken : goal.returns-in-Unlink-clause-taken
+returns-in-Unlink-clause-taken g c im o l t of = built_so c.attempt-in-Unlink.result _ c.attempt-in-Unlink.ensures.built
+
+-- a reply that doesn't tell of too few free blocks is another one
+space_so : (r : Reply) → HasSpace r → r ≢ reply.NoSpace
+space_so r has e = subst HasSpace e has
+
+pub returns-in-Read-clause-spaceless : goal.returns-in-Read-clause-spaceless
+returns-in-Read-clause-spaceless g c = done_so c.attempt-in-Read.result _ _ (λ x change has. space_so x has) c.attempt-in-Read.ensures.spaceless
+
+pub returns-in-Read-clause-fewer : goal.returns-in-Read-clause-fewer
+returns-in-Read-clause-fewer g c = few_so c.attempt-in-Read.result _ _ (λ need free never. absurd never) c.attempt-in-Read.ensures.space
+
+pub returns-in-Create-clause-spaceless : goal.returns-in-Create-clause-spaceless
+returns-in-Create-clause-spaceless g c = done_so c.attempt-in-Create.result _ _ (λ x change has. space_so x has) c.attempt-in-Create.ensures.spaceless
+
+pub returns-in-Unlink-clause-spaceless : goal.returns-in-Unlink-clause-spaceless
+returns-in-Unlink-clause-spaceless g c = done_so c.attempt-in-Unlink.result _ _ (λ x change has. space_so x has) c.attempt-in-Unlink.ensures.spaceless
+
+pub returns-in-Unlink-clause-fewer : goal.returns-in-Unlink-clause-fewer
+returns-in-Unlink-clause-fewer g c = few_so c.attempt-in-Unlink.result _ _ (λ need free never. absurd never) c.attempt-in-Unlink.ensures.space
+
+pub returns-in-Write-clause-spaceless : goal.returns-in-Write-clause-spaceless
+returns-in-Write-clause-spaceless g c = done_so c.attempt.result _ _ (λ x change has. space_so x has) c.attempt.ensures.spaceless
+
+pub returns-in-Write-clause-fewer : goal.returns-in-Write-clause-fewer
+returns-in-Write-clause-fewer g c = few_so c.attempt.result _ _ (λ need free never. absurd never) c.attempt.ensures.space
+
+pub returns-in-Create-clause-made : goal.returns-in-Create-clause-made
+returns-in-Create-clause-made g c im o l t of =
+    let is : IsMaking c.args.call.now = search rules in
+    done_so c.attempt-in-Create.result _ (IsMadeIn im o l c.args.call.now c.args.stamp.now.node c.args.stamp.now.time)
+    (λ x change all so. making_made im o l c.args.stamp.now.node c.args.stamp.now.time change c.args.call.now is (all.0 so) (all.1 so))
+    (done_two c.attempt-in-Create.result _ _ (c.attempt-in-Create.ensures.made im o l t of) (c.attempt-in-Create.ensures.stamped im o l t of))
+
+pub returns-in-Unlink-clause-made : goal.returns-in-Unlink-clause-made
+returns-in-Unlink-clause-made g c im o l t of =
+    let is : IsRemoving c.args.call.now = search rules in
+    done_so c.attempt-in-Unlink.result _ (IsMadeIn im o l c.args.call.now c.args.stamp.now.node c.args.stamp.now.time)
+    (λ x change stamped so. removing_made im o l c.args.stamp.now.node c.args.stamp.now.time change c.args.call.now is (stamped so)) (c.attempt-in-Unlink.ensures.stamped im o l t of)
+
+pub returns-in-Create-clause-full : goal.returns-in-Create-clause-full
+returns-in-Create-clause-full g c =
+    let is : IsMaking c.args.call.now = search rules in
+    few_so c.attempt-in-Create.result _ _ (making_full (g.V.View.seen c.args.view.now) c.args.call.now is) c.attempt-in-Create.ensures.full
+
+pub returns-in-Read-clause-full : goal.returns-in-Read-clause-full
+returns-in-Read-clause-full g c = few_so c.attempt-in-Read.result _ _ (λ need free never. absurd never) c.attempt-in-Read.ensures.space
+
+pub returns-in-Unlink-clause-full : goal.returns-in-Unlink-clause-full
+returns-in-Unlink-clause-full g c = few_so c.attempt-in-Unlink.result _ _ (λ need free never. absurd never) c.attempt-in-Unlink.ensures.space
+
+pub returns-in-Write-clause-full : goal.returns-in-Write-clause-full
+returns-in-Write-clause-full g c = few_so c.attempt.result _ _ (λ need free never. absurd never) c.attempt.ensures.space
