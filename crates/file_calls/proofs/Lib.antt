@@ -1,2 +1,3 @@
 pub mod Blocks
 pub mod Made
+pub mod Lacked

@@ -1,5 +1,5 @@
 // A try of a file call.
-ghost use Rattle.std.specs.Prelude.{ℕ, ◌≡◌, ◌≢◌, ◌≤◌, ◌<◌, None, length};
+ghost use Rattle.std.specs.Prelude.{ℕ, ◌≡◌, ◌≢◌, ◌≤◌, ◌<◌, None, false, length};
 ghost use Rattle.file_tree.specs.Apply.{apply};
 ghost use Rattle.file_tree.specs.Tree.{Tree};
 ghost use Rattle.file_tree.specs.declared.reply.Reply.TheVariants.{NoSpace, Ok as OkReply};
@@ -10,7 +10,7 @@ ghost use Rattle.image_model.specs.Owners.{Owners};
 ghost use Rattle.image_model.specs.Stands.{Layout};
 ghost use Rattle.image_changes.specs.Does.{IsOf, Does, AreInside};
 ghost use Rattle.path_walks.specs.Answers.{IfDone, IfNeedLock, IfNeedBlock, IfNoSpace, IfHashed, IfNotBuilt};
-ghost use Rattle.path_walks.specs.Holds.{AreHeld, IsAskedFor, IsFirstLack, IsUnder};
+ghost use Rattle.path_walks.specs.Holds.{AreHeld, IsAskedFor, IsFirstLack, IsUnder, holds};
 ghost use Rattle.making_calls.specs.Making.{IsMaking};
 ghost use Rattle.writing_calls.specs.Writing.{IfSync, IsSynced};
 ghost use Rattle.file_calls.specs.Answers.{IsAnswered, IsFullFor, IsMadeIn};
@@ -49,6 +49,7 @@ pub fn attempt<V: View>(
     ensures made { (im : Image) (o : Owners) (l : Layout) (t : Tree) → IsOf (V.seen view.now) im o l t → IfDone result (λ reply change. IsMadeIn im o l call.now stamp.now.node stamp.now.time reply change) }
     ensures synced { IfSync call.now (IsSynced result) }
     ensures lacked { IfNeedLock result (IsLackedFor (V.seen view.now) call.now stamp.now.node) }
+    ensures lacks { IfNeedLock result (λ lock state. holds (V.seen view.now) (record { lock = lock; state = state }) ≡ false) }
     ensures needed { IfNeedBlock result (IsNeededFor (V.seen view.now) call.now) }
     ensures absent { IfNeedBlock result (λ m. (V.seen view.now).block_at m.block ≡ None) }
     ensures hashed { IfHashed result (IsHashed (V.seen view.now) call.now) }

@@ -35,7 +35,7 @@ use Rattle.image_model.specs.Stands.{Layout, flat_of}
 use Rattle.image_changes.specs.Does.{with_change}
 use Rattle.image_changes.specs.Instances.{IsAt, dinode_at}
 use Rattle.path_walks.specs.Answers.{Refuses}
-use Rattle.path_walks.specs.Holds.{Hold, AreHeld, IsAskedFor, IsFirstLack, holds_in, hold_of_group}
+use Rattle.path_walks.specs.Holds.{Hold, AreHeld, IsAskedFor, IsFirstLack, holds, holds_in, hold_of_group}
 use Rattle.path_walks.specs.declared.walk.Place.{Place}
 use Rattle.path_walks.specs.Walks.{LeadsTo, Names, IsAbsent, IsLacked, IsLinearDirectory, IsOnTheWay, IsPlaceOf, IsSeenAt, IsUnread, IsWrong}
 use Rattle.path_walks.specs.Walks as path
@@ -152,7 +152,7 @@ pub data IsAnswered (v : Seen) (call : Call) (node time : ℕ) : Reply → Chang
 -- the first of those under which the node finds a block, as far as the view's groups say.
 pub data IsLackedFor (v : Seen) (call : Call) (node : ℕ) (lock : LockName) (state : State) : Type 0 where
   on_path : IsLacked v (wanted call) (directory_path call) lock state → IsLackedFor v call node lock state
-  of_block : (own : Group) → IsToGetName v call true → group_of_node v.groups node ≡ Some own
+  of_block : (own : Group) → IsToGetName v call true → group_of_node v.groups node ≡ Some own → holds v (record { lock = lock; state = state }) ≡ false
       → ((at : ℕ → List ℕ) → AreShown v at → IsFirstLack v (block_holds (said at) v.groups own) lock state) → IsLackedFor v call node lock state
 
 -- The directory is to get the name and has room for it, but so few blocks are free, in all groups, as far as the view shows them.

@@ -17,7 +17,8 @@ use Rattle.image_changes.specs.Does.{Does, AreInside}
 use Rattle.read_calls.specs.Reading.{IsReading}
 use Rattle.read_calls.proofs.Lists.{no_change}
 use Rattle.file_calls.specs.Answers.{IsMadeIn}
-use Rattle.file_calls.specs.Calls.{call_holds}
+use Rattle.file_calls.specs.Calls.{IsLackedFor, call_holds}
+use Rattle.file_calls.proofs.Lacked.{lacked_lacks}
 use Rattle.file_calls.proofs.Made.{making_full, making_made, removing_made}
 use Rattle.file_calls.proofs.Blocks.{needed_absent, covered_low, data_inside, making_few, making_holds, nothing_under, reading_holds, removing_absent, removing_holds, removing_inside, removing_under, writing_holds, writing_under}
 use Rattle.file_calls.proofs.tries.attempt.Goals as goal
@@ -247,3 +248,27 @@ returns-in-Unlink-clause-full g c = few_so c.attempt-in-Unlink.result _ _ (λ ne
 
 pub returns-in-Write-clause-full : goal.returns-in-Write-clause-full
 returns-in-Write-clause-full g c = few_so c.attempt.result _ _ (λ need free never. absurd never) c.attempt.ensures.space
+
+pub returns-in-Read-clause-lacks : goal.returns-in-Read-clause-lacks
+returns-in-Read-clause-lacks g c =
+    let v = g.V.View.seen c.args.view.now in
+    let lacked : IfNeedLock c.attempt-in-Read.result (IsLackedFor v c.args.call.now c.args.stamp.now.node) = search rules in
+    lacked_lacks v c.args.call.now c.args.stamp.now.node c.attempt-in-Read.result lacked
+
+pub returns-in-Create-clause-lacks : goal.returns-in-Create-clause-lacks
+returns-in-Create-clause-lacks g c =
+    let v = g.V.View.seen c.args.view.now in
+    let lacked : IfNeedLock c.attempt-in-Create.result (IsLackedFor v c.args.call.now c.args.stamp.now.node) = search rules in
+    lacked_lacks v c.args.call.now c.args.stamp.now.node c.attempt-in-Create.result lacked
+
+pub returns-in-Unlink-clause-lacks : goal.returns-in-Unlink-clause-lacks
+returns-in-Unlink-clause-lacks g c =
+    let v = g.V.View.seen c.args.view.now in
+    let lacked : IfNeedLock c.attempt-in-Unlink.result (IsLackedFor v c.args.call.now c.args.stamp.now.node) = search rules in
+    lacked_lacks v c.args.call.now c.args.stamp.now.node c.attempt-in-Unlink.result lacked
+
+pub returns-in-Write-clause-lacks : goal.returns-in-Write-clause-lacks
+returns-in-Write-clause-lacks g c =
+    let v = g.V.View.seen c.args.view.now in
+    let lacked : IfNeedLock c.attempt.result (IsLackedFor v c.args.call.now c.args.stamp.now.node) = search rules in
+    lacked_lacks v c.args.call.now c.args.stamp.now.node c.attempt.result lacked

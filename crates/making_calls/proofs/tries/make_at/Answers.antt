@@ -21,6 +21,8 @@ use Rattle.making_calls.specs.Searches.{AreShown, IsGroupBroken, IsTaken, IsUnde
 use Rattle.making_calls.specs.declared.blocks.Locked.TheVariants as locked
 use Rattle.making_calls.specs.declared.blocks.Taken.TheVariants as taken
 use Rattle.making_calls.proofs.Alike.{linear_in}
+use Rattle.path_walks.specs.Holds.{IsFirstLack}
+use Rattle.making_calls.proofs.Numbered.{bytes_shown}
 use Rattle.making_calls.proofs.Rooms.{block_way, few_way, group_sound, own_of, room_held}
 use Rattle.making_calls.proofs.Taking.{addition_does, all_held, block_lacks, directory_sound, group_lacks, inside_so, lock_lacks, made, own_name, placed, reply_ok, stamped, to_get, too_few, under, wrong_damage}
 use Rattle.making_calls.proofs.tries.make_at.Goals as goal
@@ -172,8 +174,11 @@ pub returns-in-NeedLock-clause-told : goal.returns-in-NeedLock-clause-told
 returns-in-NeedLock-clause-told g c =
     let v = g.V.View.seen c.args.view.now in
     let own = own_of v c.args.stamp.now.node c.requires.groups c.requires.node in
+    let seen = bytes_shown v c.is_a_view.ensures in
+    let first : (at : ℕ → List ℕ) → AreShown v at → IsFirstLack v (block_holds (said at) v.groups own.0) c.in-NeedLock.lock c.in-NeedLock.state =
+    λ at shown. subst (IsUnder v (block_holds (said at) v.groups own.0) (IsTaken v (said at) v.groups own.0)) c.in-NeedLock.is (c.in_ok-room.ensures.found at own.0 shown own.1) in
     IsLackedFor.of_block own.0 (to_get v c.args.call.now c.requires.making c.args.place.now c.args.name.now c.requires.last c.requires.named c.requires.lacks true c.requires.seen.leads c.requires.seen.there (λ h shown. sym (c.in_ok-fits.ensures.room h shown) ∙ c.if-not-fits.false))
-    own.1 (λ at shown. subst (IsUnder v (block_holds (said at) v.groups own.0) (IsTaken v (said at) v.groups own.0)) c.in-NeedLock.is (c.in_ok-room.ensures.found at own.0 shown own.1))
+    own.1 (first seen.0 (λ k has. seen.1 k)).lacks first
 
 pub returns-in-NeedBlock-clause-told : goal.returns-in-NeedBlock-clause-told
 returns-in-NeedBlock-clause-told g c =
