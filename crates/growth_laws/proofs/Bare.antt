@@ -60,7 +60,7 @@ stuffed_content_is_put h cell content file is = (stuffed_file h cell content fil
 -- ---- another height
 
 module _ (h : Holding) (cell : ℕ → Option Cell) (height : ℕ) (file : IsFile h) (is : IsBareTo h cell height) where
-  height_is : height_in (with_cells h cell) ≡ height
+  pub height_is : height_in (with_cells h cell) ≡ height
   height_is = ap (λ (d : Dinode). d.height) is.dinode
 
   size_same : (dinode_in (with_cells h cell)).size ≡ (dinode_in h).size
@@ -75,7 +75,7 @@ module _ (h : Holding) (cell : ℕ → Option Cell) (height : ℕ) (file : IsFil
   bare : (x a j l s : ℕ) → part_at (with_cells h cell) x ≢ Some (Pointed a j l s)
   bare x a j l s part = is.bare x a j l s (sym (is.parts x) ∙ part)
 
-  bare_file : IsFile (with_cells h cell)
+  pub bare_file : IsFile (with_cells h cell)
   bare_file = record {
     block_size = file.block_size;
     own = is.parts h.own ∙ file.own;

@@ -16,3 +16,7 @@ pub mod Needing
 pub mod Rising
 pub mod Numbers
 pub mod Lacking
+pub mod Ends
+pub mod Told
+pub mod Heights
+pub mod Staying

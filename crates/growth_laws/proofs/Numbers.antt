@@ -15,7 +15,7 @@ use Rattle.growth_laws.proofs.Bytes.{byte, zero_byte}
 use Rattle.growth_laws.proofs.Pointing.{rewrites_keep_the_rest}
 
 -- a number is that of what stands behind its place
-number_behind : (a : List ℕ) (s i : ℕ) → u64_at (s + i) a ≡ u64_at i (drop s a)
+pub number_behind : (a : List ℕ) (s i : ℕ) → u64_at (s + i) a ≡ u64_at i (drop s a)
 unfolding number_at
 number_behind a s i =
     let turned : s + i ≡ i + s = omega arith in

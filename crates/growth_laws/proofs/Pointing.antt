@@ -19,13 +19,13 @@ use Rattle.growth_laws.proofs.Places.{size_large}
 -- ---- the bytes of one block
 
 module _ (bytes : List ℕ) (start k to : ℕ) (fits : start + 8 * k + 8 ≤ length bytes) where
-  long_put : length (with_pointer start k to bytes) ≡ length bytes
+  pub long_put : length (with_pointer start k to bytes) ≡ length bytes
   long_put = length-with w64 (start + 8 * k) to bytes is_width_64 fits
 
-  read_put : to < 2 ^ 64 → u64_at (start + 8 * k) (with_pointer start k to bytes) ≡ to
+  pub read_put : to < 2 ^ 64 → u64_at (start + 8 * k) (with_pointer start k to bytes) ≡ to
   read_put low = number-with_same w64 (start + 8 * k) to bytes is_width_64 fits low
 
-  other_put : (j : ℕ) → j ≢ k → u64_at (start + 8 * j) (with_pointer start k to bytes) ≡ u64_at (start + 8 * j) bytes
+  pub other_put : (j : ℕ) → j ≢ k → u64_at (start + 8 * j) (with_pointer start k to bytes) ≡ u64_at (start + 8 * j) bytes
   other_put j apart = number-with_other w64 (start + 8 * k) to bytes is_width_64 fits w64 (start + 8 * j) (beside (cases_order j k))
     where
       beside : (j ≡ k) ⊎ (j < k) ⊎ (k < j) → (start + 8 * k + 8 ≤ start + 8 * j) ⊎ (start + 8 * j + 8 ≤ start + 8 * k)

@@ -26,23 +26,23 @@ module _ (h : Holding) (cell : ℕ → Option Cell) (i : ℕ) (new : List ℕ) (
   own_other : h.own ≢ content_block h i
   own_other e = not_itself _ _ _ _ (sym file.own ∙ ap (part_at h) e ∙ placed.2)
 
-  own_bytes : bytes_at (with_cells h cell) h.own ≡ bytes_at h h.own
+  pub own_bytes : bytes_at (with_cells h cell) h.own ≡ bytes_at h h.own
   own_bytes = put.others h.own own_other
 
-  dinode_same : dinode_in (with_cells h cell) ≡ dinode_in h
+  pub dinode_same : dinode_in (with_cells h cell) ≡ dinode_in h
   unfolding dinode_in
   dinode_same = ap dinode_of own_bytes
 
-  height_same : height_in (with_cells h cell) ≡ height_in h
+  pub height_same : height_in (with_cells h cell) ≡ height_in h
   height_same = ap (λ (d : Dinode). d.height) dinode_same
 
-  size_same : (dinode_in (with_cells h cell)).size ≡ (dinode_in h).size
+  pub size_same : (dinode_in (with_cells h cell)).size ≡ (dinode_in h).size
   size_same = ap (λ (d : Dinode). d.size) dinode_same
 
   regular_same : is_regular (dinode_in (with_cells h cell)) ≡ true
   regular_same = ap is_regular dinode_same ∙ file.regular
 
-  count_same : content_count (with_cells h cell) ≡ content_count h
+  pub count_same : content_count (with_cells h cell) ≡ content_count h
   count_same = ap₂ pieces size_same (whole_unit (with_cells h cell) regular_same ∙ sym (whole_unit h file.regular))
 
   indirect_bytes : (x above j l s : ℕ) → part_at h x ≡ Some (Pointed above j (suc l) s) → bytes_at (with_cells h cell) x ≡ bytes_at h x
@@ -75,7 +75,7 @@ module _ (h : Holding) (cell : ℕ → Option Cell) (i : ℕ) (new : List ℕ) (
   high' : height_in (with_cells h cell) ≢ 0
   high' e = put.in_blocks (sym height_same ∙ e)
 
-  block_same : (q : ℕ) → q < content_count h → content_block (with_cells h cell) q ≡ content_block h q
+  pub block_same : (q : ℕ) → q < content_count h → content_block (with_cells h cell) q ≡ content_block h q
   block_same q low = let at = content_place h q file put.in_blocks low in content_block_same h cell file file_after height_same put.parts q at.0 at.1
 
   -- a block of content with another index carries what it carried

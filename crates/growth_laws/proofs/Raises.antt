@@ -19,7 +19,7 @@ use Rattle.growth_laws.proofs.Parts.{same_from, same_pointer, same_level, same_f
 use Rattle.growth_laws.proofs.Places.{size_large, content_is_level_zero}
 
 -- what a moved part was
-unmoved : (own b : ℕ) (o : Option Part) (a j l s : ℕ) → moved own b o ≡ Some (Pointed a j l s) → (a0 : ℕ) × (o ≡ Some (Pointed a0 j l s)) × (a ≡ moved_from own b a0)
+pub unmoved : (own b : ℕ) (o : Option Part) (a j l s : ℕ) → moved own b o ≡ Some (Pointed a j l s) → (a0 : ℕ) × (o ≡ Some (Pointed a0 j l s)) × (a ≡ moved_from own b a0)
 unmoved own b None a j l s e = absurd (cc)
 unmoved own b (Some Itself) a j l s e = absurd (not_itself _ _ _ _ e)
 unmoved own b (Some (Pointed a0 j0 l0 s0)) a j l s e = (a0, (λ i. Some (Pointed a0 (same_pointer e i) (same_level e i) (same_first e i))), sym (same_from e))
@@ -36,7 +36,7 @@ some_moved : (own b : ℕ) (o : Option Part) (p : Part) → moved own b o ≡ So
 some_moved own b None p e = absurd (cc)
 some_moved own b (Some q) p e = (q, refl)
 
-some_same : (own b : ℕ) (o o' : Option Cell) → cell_part o' ≡ moved own b (cell_part o) → is_some o' ≡ is_some o
+pub some_same : (own b : ℕ) (o o' : Option Cell) → cell_part o' ≡ moved own b (cell_part o) → is_some o' ≡ is_some o
 some_same own b None None e = refl
 some_same own b None (Some d) e = absurd (cc)
 some_same own b (Some c) (Some d) e = refl
@@ -60,7 +60,7 @@ module _ (h : Holding) (cell : ℕ → Option Cell) (level b : ℕ) (file : IsFi
   regular_same : is_regular (dinode_in (with_cells h cell)) ≡ true
   regular_same = ap is_regular f.dinode ∙ file.regular
 
-  count_same : content_count (with_cells h cell) ≡ content_count h
+  pub count_same : content_count (with_cells h cell) ≡ content_count h
   count_same = ap₂ pieces size_same (whole_unit (with_cells h cell) regular_same ∙ sym (whole_unit h file.regular))
 
   is_old : (x : ℕ) (p : Part) → part_at h x ≡ Some p → x ≢ b
@@ -91,7 +91,7 @@ module _ (h : Holding) (cell : ℕ → Option Cell) (level b : ℕ) (file : IsFi
   not_own : (x a j l s : ℕ) → part_at h x ≡ Some (Pointed a j l s) → x ≢ h.own
   not_own x a j l s part e = not_itself _ _ _ _ (sym file.own ∙ ap (part_at h) (sym e) ∙ part)
 
-  bytes_stay : (x a j l s : ℕ) → part_at h x ≡ Some (Pointed a j l s) → bytes_at (with_cells h cell) x ≡ bytes_at h x
+  pub bytes_stay : (x a j l s : ℕ) → part_at h x ≡ Some (Pointed a j l s) → bytes_at (with_cells h cell) x ≡ bytes_at h x
   bytes_stay x a j l s part = f.others x (is_old x _ part) (not_own x a j l s part)
 
   -- a part afterwards is the new block's, or one that was moved

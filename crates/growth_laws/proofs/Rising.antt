@@ -18,7 +18,7 @@ use Rattle.growth_laws.proofs.Raises as raised
 use Rattle.growth_laws.proofs.Unstuffing as unstuffed
 
 -- above the height nothing is there
-none_above : (h : Holding) (l j : ℕ) → height_in h ≤ l → is_there h l j ≡ false
+pub none_above : (h : Holding) (l j : ℕ) → height_in h ≤ l → is_there h l j ≡ false
 none_above h l j high = first_false (nat_lt l (height_in h)) (nat_lt j (places_on h l)) (not (block_on h l j == 0)) (le-ltb l (height_in h) high)
   where
     first_false : (a b c : Bool) → a ≡ false → (a && b && c) ≡ false
@@ -26,7 +26,7 @@ none_above h l j high = first_false (nat_lt l (height_in h)) (nat_lt j (places_o
     first_false false b c e = refl
 
 -- above the height, of a file with content, the first place is on the way too
-on_way_above : (h : Holding) (at end l j : ℕ) → height_in h ≤ l → has_content h ≡ true → is_on_way h at end l j ≡ (is_over h.size at end l j || (j == 0))
+pub on_way_above : (h : Holding) (at end l j : ℕ) → height_in h ≤ l → has_content h ≡ true → is_on_way h at end l j ≡ (is_over h.size at end l j || (j == 0))
 on_way_above h at end l j high has =
     let above : nat_lt l (height_in h) ≡ false = le-ltb l (height_in h) high in
     (λ t. is_over h.size at end l j || (not (above t) && j == 0 && has t)) ∙ ap (λ b. is_over h.size at end l j || b) (and_true (j == 0))
@@ -104,7 +104,7 @@ there_true g l j less low some =
     let is : (block_on g l j == 0) ≡ false = ne_eqb _ 0 some in
     (λ t. low' t && near t && not (is t))
 
-there_false : (g : Holding) (l j : ℕ) → (j < places_on g l → block_on g l j ≡ 0) → is_there g l j ≡ false
+pub there_false : (g : Holding) (l j : ℕ) → (j < places_on g l → block_on g l j ≡ 0) → is_there g l j ≡ false
 there_false g l j none = elim (cases_lt j (places_on g l)) [
   | inl low ↦ let is : (block_on g l j == 0) ≡ true = eq-eqb _ 0 (none low) in ap (λ b. nat_lt l (height_in g) && nat_lt j (places_on g l) && not b) is ∙ last_false (nat_lt l (height_in g) && nat_lt j (places_on g l))
   | inr far ↦ and_false (nat_lt l (height_in g)) _ (not (block_on g l j == 0)) (le-ltb j _ far)
@@ -115,7 +115,7 @@ there_false g l j none = elim (cases_lt j (places_on g l)) [
     last_false false = refl
 
 -- the same blocks on a level, by their parts, of files of other heights
-there_same : (h g : Holding) (l j : ℕ) → IsFile h → IsFile g → g.size ≡ h.size → l < height_in h → l < height_in g
+pub there_same : (h g : Holding) (l j : ℕ) → IsFile h → IsFile g → g.size ≡ h.size → l < height_in h → l < height_in g
     → ((c : ℕ) → IsPlaced h c l (j * span h.size l) → IsPlaced g c l (j * span g.size l)) → ((c : ℕ) → IsPlaced g c l (j * span g.size l) → IsPlaced h c l (j * span h.size l))
     → is_there g l j ≡ is_there h l j
 there_same h g l j file file' sizes less less' on back = elim (cases_lt j (places_on h l)) [
@@ -141,7 +141,7 @@ there_same h g l j file file' sizes less less' on back = elim (cases_lt j (place
     ]
 
 -- a pointer of the dinode leads somewhere
-has_some : (g : Holding) (k : ℕ) → height_in g ≢ 0 → k < fan g.size dinode_length → pointer g dinode_length g.own k ≢ 0 → has_content g ≡ true
+pub has_some : (g : Holding) (k : ℕ) → height_in g ≢ 0 → k < fan g.size dinode_length → pointer g dinode_length g.own k ≢ 0 → has_content g ≡ true
 has_some g k high near some =
     let passes : not (pointer g dinode_length g.own k == 0) ≡ true = ap not (ne_eqb _ 0 some) in
     cond-false _ _ _ (ne_eqb (height_in g) 0 high)

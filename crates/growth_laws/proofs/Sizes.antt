@@ -17,7 +17,7 @@ use Rattle.growth_laws.proofs.Parts.{not_itself}
 use Rattle.growth_laws.proofs.Trees.{part_within, tree_same, content_block_same}
 
 module _ (h : Holding) (cell : ℕ → Option Cell) (size : ℕ) (file : IsFile h) (sized : IsSized h cell size) where
-  height_same : height_in (with_cells h cell) ≡ height_in h
+  pub height_same : height_in (with_cells h cell) ≡ height_in h
   height_same = ap (λ (d : Dinode). d.height) sized.dinode
 
   size_is : (dinode_in (with_cells h cell)).size ≡ size

@@ -83,7 +83,7 @@ module _ (h : Holding) (cell : ℕ → Option Cell) (b : ℕ) (file : IsFile h) 
       nothing : (n : ℕ) → 0 * n ≡ 0
       nothing n = omega arith
 
-  content_size : length (content_of h) ≡ (dinode_in h).size
+  pub content_size : length (content_of h) ≡ (dinode_in h).size
   content_size =
       let whole : length (bytes_at h h.own) ≡ h.size = file.whole h.own Itself file.own in
       ap length (content_stuffed h f.stuffed)

@@ -3,3 +3,4 @@ pub mod Steps
 pub mod Blocks
 pub mod Need
 pub mod Laws
+pub mod Growing

@@ -1,3 +1,11 @@
 pub mod Stepping
 pub mod Written
 pub mod Sized
+pub mod Making
+pub mod Leading
+pub mod Putting
+pub mod Rising
+pub mod Moving
+pub mod Owning
+pub mod Ending
+pub mod Keeping

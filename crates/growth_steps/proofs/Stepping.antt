@@ -1,5 +1,5 @@
 -- One step in a draft.
-use Rattle.std.proofs.Common.{◌≡◌, ◌≢◌, ℕ, zero, suc, ◌-◌, ◌*◌, ◌^◌, ◌<◌, ◌≤◌, ◌==◌, false, List, ◌∷◌, [], length, None, Some, Result, Ok, Err, OnOk, refl, sym, ap, ◌∙◌, subst, arith}
+use Rattle.std.proofs.Common.{◌≡◌, ◌≢◌, ℕ, zero, suc, ◌-◌, ◌*◌, ◌^◌, ◌<◌, ◌≤◌, ◌==◌, false, List, ◌∷◌, [], length, None, Some, Result, Ok, Err, OnOk, OnErr, refl, sym, ap, ◌∙◌, subst, arith}
 use Rattle.std.proofs.lemmas.List.{length-replicate, drop-replicate}
 use Rattle.std.specs.Prelude.{replicate}
 use Rattle.std.specs.List.{AllByRecursion}
@@ -25,7 +25,7 @@ use Rattle.growth_steps.specs.New.{new_bytes}
 
 -- ---- a new block
 
-abbrev head : MetaHeader
+abbrev pub head : MetaHeader
 head = record { kind = 5; format = 500; jid = 0 }
 
 first_field : (fs : List Field) → 0 < length fs → Field
@@ -120,3 +120,8 @@ module _ {V : Type 0} (seen : V → Seen) (old now : Drafted V) (inode from star
 pub on_ok : {E : Type 0} (r : Result Unit E) (P Q : Type 0) → (P → Q) → OnOk r P → OnOk r Q
 on_ok (Ok u) P Q to p = to p
 on_ok (Err e) P Q to p = tt
+
+-- whatever is answered
+pub on_either : {E : Type 0} (r : Result Unit E) (P Q R : Type 0) → (P → R) → (Q → R) → OnOk r P → OnErr r Q → R
+on_either (Ok u) P Q R ok err p q = ok p
+on_either (Err e) P Q R ok err p q = err q

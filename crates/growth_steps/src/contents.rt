@@ -19,7 +19,7 @@ use glock_names::View;
 use no_memory::NoMemory;
 
 // Bytes over others from a place on.
-fn overwrite(bytes: &mut [u8], at: usize, new: &[u8])
+pub(crate) fn overwrite(bytes: &mut [u8], at: usize, new: &[u8])
     requires { at + length new.now ≤ length bytes.old }
     ensures { bytes.new ≡ put_at at new.now bytes.old }
 {

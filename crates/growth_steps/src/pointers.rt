@@ -38,7 +38,7 @@ pub(crate) fn lock_of(inode: u64) -> LockName
 
 // A pointer over another one in a block's bytes.
 #[tactic(auto, unfolding(gfs2_layout::specs::Bytes::with_number))]
-fn point(bytes: &mut [u8], start: usize, index: usize, to: u64)
+pub(crate) fn point(bytes: &mut [u8], start: usize, index: usize, to: u64)
     requires { start + 8 * index + 8 ≤ length bytes.old }
     ensures { bytes.new ≡ with_pointer start index to bytes.old }
 {
@@ -62,7 +62,7 @@ fn write_header(block: &mut [u8], level: u16)
 }
 
 // A new block on a level.
-fn new_block(alloc: Global, size: usize, level: u16) -> Result<Vec<u8>, NoMemory>
+pub(crate) fn new_block(alloc: Global, size: usize, level: u16) -> Result<Vec<u8>, NoMemory>
     requires { 24 ≤ size }
     ensures { IfOk result (λ block. block.items ≡ new_bytes size level) }
 {
@@ -105,6 +105,7 @@ pub fn fill_hole<V: View>(
     requires fits { pointer.start + 8 * pointer.index + 8 ≤ (V.seen draft.old.view).size }
     ensures put { (bytes : List ℕ) → (seen_in V.seen draft.old).block_at pointer.from ≡ Some bytes
         → OnOk result (draft.new ≡ record draft.old { fates = insert (insert draft.old.fates pointer.from (Put (inode_lock inode) false (with_pointer pointer.start pointer.index block bytes))) block (Put (inode_lock inode) (level == 0) (new_bytes (V.seen draft.old.view).size level)) }) }
+    ensures view { draft.new.view ≡ draft.old.view }
     ensures filled { (h : Holding) (first : ℕ) → IsFile h → IsShown (seen_in V.seen draft.old) inode h → start_in h pointer.from ≡ pointer.start
         → IsPointed h 0 pointer.from pointer.index level first → first < content_count h → h.cell block ≡ None → block ≢ 0 → block < h.count
         → OnOk result (IsShown (seen_in V.seen draft.new) inode (with_cells h (filled_cells h pointer.from pointer.index level first block (new_bytes h.size level)))) }

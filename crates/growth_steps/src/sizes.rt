@@ -13,6 +13,8 @@ ghost use Rattle.dinode_tree.specs.Reading.{inode_lock};
 ghost use Rattle.dinode_tree.specs.Shown.{IsShown};
 ghost use Rattle.growth_laws.specs.Blocks.{rewritten_cells};
 ghost use Rattle.growth_laws.specs.Files.{IsFile, with_cells};
+ghost use Rattle.growth_laws.specs.Steps.{IsSized};
+ghost use Rattle.growth_steps.specs.Becoming.{Becomes};
 ghost use Rattle.growth_steps.specs.Sizes.{CanHaveSize};
 
 use crate::pointers::lock_of;
@@ -22,7 +24,7 @@ use glock_names::View;
 use no_memory::NoMemory;
 
 // Puts a dinode into its block, which the draft sees.
-fn put_dinode<V: View>(
+pub(crate) fn put_dinode<V: View>(
     draft: &mut Draft<'_, V>,
     inode: u64,
     dinode: &Dinode,
@@ -34,6 +36,7 @@ fn put_dinode<V: View>(
     ensures read { (bytes : List ℕ) → (seen_in V.seen draft.old).block_at inode ≡ Some bytes → OnOk result (dinode_read (dinode_put dinode.now bytes) ≡ Ok dinode.now) }
     ensures behind { (bytes : List ℕ) → (seen_in V.seen draft.old).block_at inode ≡ Some bytes → OnOk result (drop dinode_length (dinode_put dinode.now bytes) ≡ drop dinode_length bytes) }
     ensures whole { (bytes : List ℕ) → (seen_in V.seen draft.old).block_at inode ≡ Some bytes → OnOk result (length (dinode_put dinode.now bytes) ≡ (V.seen draft.old.view).size) }
+    ensures view { draft.new.view ≡ draft.old.view }
     ensures err { OnErr result (draft.new ≡ draft.old) }
 {
     let Some(mut bytes) = draft.copy(inode)? else {
@@ -60,6 +63,11 @@ pub fn set_size<V: View>(
         → OnOk result (IsShown (seen_in V.seen draft.new) inode (with_cells h (rewritten_cells h h.own (dinode_put (record dinode.now { size = size }) bytes)))
         × IsFile (with_cells h (rewritten_cells h h.own (dinode_put (record dinode.now { size = size }) bytes)))
         × (content_of (with_cells h (rewritten_cells h h.own (dinode_put (record dinode.now { size = size }) bytes))) ≡ resized size (content_of h))) }
+    ensures becomes { (h : Holding) (bytes : List ℕ) → IsFile h → IsShown (seen_in V.seen draft.old) inode h → dinode.now ≡ dinode_in h → CanHaveSize h size
+        → (seen_in V.seen draft.old).block_at inode ≡ Some bytes
+        → OnOk result (IsSized h (rewritten_cells h h.own (dinode_put (record dinode.now { size = size }) bytes)) size
+        × Becomes (seen_in V.seen draft.new) draft.old.fates draft.new.fates inode h (with_cells h (rewritten_cells h h.own (dinode_put (record dinode.now { size = size }) bytes)))) }
+    ensures view { draft.new.view ≡ draft.old.view }
     ensures err { OnErr result (draft.new ≡ draft.old) }
 {
     let sized = Dinode { size, ..*dinode };

@@ -1,0 +1,256 @@
+-- A file that gets further, step by step, in a draft.
+use Rattle.std.proofs.Common.{◌≡◌, ◌≢◌, ◌⊎◌, inl, inr, Bool, false, Option, None, Some, ℕ, zero, suc, ◌+◌, ◌-◌, ◌*◌, ◌<◌, ◌≤◌, List, [], ◌∷◌, ◌++◌, length, refl, sym, ap, ap₂, subst, ◌∙◌, arith, length-append}
+use Rattle.std.proofs.lemmas.Bool.{cases_Bool, ltb-true}
+use Rattle.std.proofs.lemmas.List.Elements.{Contains-append_left, Contains-append_right, Contains-append_cases}
+use Rattle.std.specs.Prelude.{◌==◌, ◌&&◌, not, nat_lt, Contains, IsSome, max}
+use Rattle.std.specs.FinMap.{FinMap, get}
+use Rattle.std.specs.Ordering.{nat_cmp}
+use Rattle.drafts.specs.Fates.{block_with, seen_with}
+use Rattle.drafts.specs.declared.fate.Fate.{Fate}
+use Rattle.drafts.specs.declared.fate.Fate.TheVariants.{Put}
+use Rattle.gfs2_layout.specs.Holding.{Cell, Holding, part_at, bytes_at}
+use Rattle.gfs2_layout.specs.Inode.{dinode_in, fan, height_in, span, pieces}
+use Rattle.gfs2_layout.specs.Structures.{dinode_length}
+use Rattle.gfs2_layout.specs.declared.dinode.Dinode.{Dinode}
+use Rattle.glock_names.specs.Views.{Seen, HasBlock}
+use Rattle.dinode_tree.specs.Reading.{inode_lock}
+use Rattle.dinode_tree.proofs.Sound.{is_there}
+use Rattle.growth_laws.specs.Files.{IsFile, IsPlaced, block_on, places_on, with_cells}
+use Rattle.growth_laws.specs.Need.{is_needed, is_there as has_there, needed_below, needed_on}
+use Rattle.growth_laws.proofs.Contents.{same_place}
+use Rattle.growth_laws.proofs.Counting.{count_same}
+use Rattle.growth_laws.proofs.Needing.{and_false, on_way}
+use Rattle.growth_laws.proofs.Places.{part_there, part_of_place}
+use Rattle.growth_drafts.specs.Taken.{IsContentIn, IsDistinct, IsLeft, IsPutFor}
+use Rattle.file_walks.specs.Walks.{place_above}
+use Rattle.file_fills.specs.Filling.{IsFurther, IsRoomFor, IsSeenWay}
+
+-- ---- lists of blocks
+
+none_in : (x : ℕ) → Contains [] x → ⊥
+none_in x (k, low, is) = omega (arith, low)
+
+apart_of : (xs ys : List ℕ) (b : ℕ) → IsDistinct (xs ++ ys) → Contains xs b → Contains ys b → ⊥
+apart_of [] ys b distinct left right = none_in b left
+apart_of (x ∷ xs) ys b distinct left right = elim (Contains-append_cases (x ∷ []) xs b left) [
+  | inl first ↦ distinct.0 (subst (Contains (xs ++ ys)) (only x b first) (Contains-append_right xs ys b right))
+  | inr rest ↦ apart_of xs ys b distinct.1 rest right
+]
+  where
+    only : (x b : ℕ) → Contains (x ∷ []) b → b ≡ x
+    only x b (zero, low, is) = sym is
+    only x b (suc k, low, is) = absurd (omega (arith, low))
+
+distinct_back : (xs ys : List ℕ) → IsDistinct (xs ++ ys) → IsDistinct ys
+distinct_back [] ys distinct = distinct
+distinct_back (x ∷ xs) ys distinct = distinct_back xs ys distinct.1
+
+pub none_some : (o : Option Cell) → o ≡ None → IsSome o → ⊥
+none_some None e some = cc
+none_some (Some c) e some = cc
+
+none_cell : (o : Option Cell) → (IsSome o → ⊥) → o ≡ None
+none_cell None none = refl
+none_cell (Some c) none = absurd (none refl)
+
+-- ---- the same file
+
+pub further_none : (fates : FinMap nat_cmp Fate) (h : Holding) (at end : ℕ) → IsFile h → IsFurther fates fates h h.cell at end []
+further_none fates h at end file = record {
+  file = file;
+  dinode = refl;
+  blocks = record { count = refl; blocks = λ b. (λ some. inl some, λ either. elim either [ inl some ↦ some | inr none ↦ absurd (none_in b none) ]) };
+  parts = λ b some. refl;
+  need = (let same : needed_below h at end (height_in h) ≡ 0 + needed_below h at end (height_in h) = omega arith in same);
+  drafted = record {
+    own = λ b some. inl (record { fate = refl; had = some; bytes = refl; content = (λ x. x, λ x. x) });
+    frees = λ b none. absurd (none_in b none);
+    others = λ b none not_freed. refl;
+  };
+}
+
+-- ---- one step after another
+
+module _ (f0 f1 f2 : FinMap nat_cmp Fate) (h : Holding) (c1 c2 : ℕ → Option Cell) (at end : ℕ) (t1 t2 : List ℕ) (a : IsFurther f0 f1 h c1 at end t1) (b : IsFurther f1 f2 (with_cells h c1) c2 at end t2) where
+  both_parts : (x : ℕ) → IsSome (c1 x) → IsSome (h.cell x) → part_at (with_cells h c2) x ≡ part_at h x
+  both_parts x mid some = b.parts x mid ∙ a.parts x some
+
+  keeps : (x : ℕ) → IsSome (h.cell x) → IsSome (c1 x)
+  keeps x some = (a.blocks.blocks x).1 (inl some)
+
+  height_mid : height_in (with_cells h c1) ≡ height_in h
+  height_mid = ap (λ (d : Dinode). d.height) a.dinode
+
+  content_same : (x : ℕ) → part_at (with_cells h c2) x ≡ part_at (with_cells h c1) x → IsContentIn (with_cells h c1) x → IsContentIn (with_cells h c2) x
+  content_same x same (above, k, first, part) = (above, k, first, same ∙ part)
+
+  content_back : (x : ℕ) → part_at (with_cells h c2) x ≡ part_at (with_cells h c1) x → IsContentIn (with_cells h c2) x → IsContentIn (with_cells h c1) x
+  content_back x same (above, k, first, part) = (above, k, first, sym same ∙ part)
+
+  left_then : (x : ℕ) → IsLeft f1 f2 (with_cells h c1) (with_cells h c2) x → IsLeft f0 f1 h (with_cells h c1) x ⊎ IsPutFor f1 (with_cells h c1) x → IsLeft f0 f2 h (with_cells h c2) x ⊎ IsPutFor f2 (with_cells h c2) x
+  left_then x later (inl early) = inl (record {
+    fate = later.fate ∙ early.fate;
+    had = early.had;
+    bytes = later.bytes ∙ early.bytes;
+    content = (λ is. early.content.0 (later.content.0 is), λ is. later.content.1 (early.content.1 is));
+  })
+  left_then x later (inr early) = inr (record {
+    plain = early.plain;
+    fate = later.fate ∙ early.fate ∙ ap (λ bytes. Some (Put (inode_lock h.own) early.plain bytes)) (sym later.bytes);
+    content = (λ is. later.content.1 (early.content.0 is), λ is. early.content.1 (later.content.0 is));
+  })
+
+  pub further_then : IsFurther f0 f2 h c2 at end (t1 ++ t2)
+  further_then = record {
+    file = b.file;
+    dinode = b.dinode ∙ a.dinode;
+    blocks = record {
+      count = refl;
+      blocks = λ x. (
+        λ some. elim ((b.blocks.blocks x).0 some) [
+          | inl mid ↦ elim ((a.blocks.blocks x).0 mid) [ inl had ↦ inl had | inr taken ↦ inr (Contains-append_left t1 t2 x taken) ]
+          | inr taken ↦ inr (Contains-append_right t1 t2 x taken)
+        ],
+        λ either. elim either [
+          | inl had ↦ (b.blocks.blocks x).1 (inl (keeps x had))
+          | inr taken ↦ elim (Contains-append_cases t1 t2 x taken) [
+            | inl early ↦ (b.blocks.blocks x).1 (inl ((a.blocks.blocks x).1 (inr early)))
+            | inr late ↦ (b.blocks.blocks x).1 (inr late)
+          ]
+        ],
+      );
+    };
+    parts = λ x some. both_parts x (keeps x some) some;
+    need =
+        let later : needed_below (with_cells h c1) at end (height_in h) ≡ length t2 + needed_below (with_cells h c2) at end (height_in h)
+        = subst (λ n. needed_below (with_cells h c1) at end n ≡ length t2 + needed_below (with_cells h c2) at end n) height_mid b.need in
+        omega (arith, a.need, later, length-append t1 t2);
+    drafted = record {
+      own = λ x some. elim (b.drafted.own x some) [
+        | inl later ↦ left_then x later (a.drafted.own x later.had)
+        | inr put ↦ inr put
+      ];
+      frees = λ x none. absurd (none_in x none);
+      others = λ x none not_freed. b.drafted.others x none (none_in x) ∙ a.drafted.others x (λ mid. none ((b.blocks.blocks x).1 (inl mid))) (none_in x);
+    };
+  }
+
+-- ---- what stays true
+
+module _ (old new : FinMap nat_cmp Fate) (h : Holding) (cell : ℕ → Option Cell) (at end : ℕ) (taken : List ℕ) (f : IsFurther old new h cell at end taken) where
+  height_same : height_in (with_cells h cell) ≡ height_in h
+  height_same = ap (λ (d : Dinode). d.height) f.dinode
+
+  places_same : (l j : ℕ) → j < places_on h l → j < places_on (with_cells h cell) l
+  places_same l j low = subst (λ n. j < fan h.size dinode_length * span h.size (n - 1 - l)) (sym height_same) low
+
+  -- a block that stands somewhere goes on to stand there
+  pub kept_place : (l j : ℕ) → IsFile h → l < height_in h → j < places_on h l → block_on h l j ≢ 0 → block_on (with_cells h cell) l j ≡ block_on h l j
+  kept_place l j file less low some =
+      let placed = part_of_place h file l j less low some in
+      (part_there (with_cells h cell) f.file l j (block_on h l j) (omega (arith, less, height_same)) (places_same l j low) some).1
+      (placed.0, placed.1, f.parts (block_on h l j) (is_there (h.cell (block_on h l j)) _ placed.2) ∙ placed.2)
+
+  -- what the draft saw it sees
+  pub has_further : (v : Seen) (b : ℕ) → HasBlock (seen_with v old) b → HasBlock (seen_with v new) b
+  has_further v b (bytes, has) = each (cell b) refl
+    where
+      same : get new b ≡ get old b → HasBlock (seen_with v new) b
+      same e = (bytes, ap (λ fate. block_with fate (v.block_at b)) e ∙ has)
+
+      each : (o : Option Cell) → cell b ≡ o → HasBlock (seen_with v new) b
+      each None e = same (f.drafted.others b (none_some (cell b) e) (none_in b))
+      each (Some c) e = elim (f.drafted.own b (subst IsSome (sym e) refl)) [
+        | inl left ↦ same left.fate
+        | inr put ↦ (bytes_at (with_cells h cell) b, ap (λ fate. block_with fate (v.block_at b)) put.fate)
+      ]
+
+  pub way_further : (v : Seen) (i : ℕ) → IsFile h → ((b : ℕ) → Contains taken b → h.cell b ≡ None) → IsSeenWay (seen_with v old) h i → IsSeenWay (seen_with v new) (with_cells h cell) i
+  way_further v i file free way = record { dinode = has_further v h.own way.dinode; blocks = blocks }
+    where
+      blocks : (l : ℕ) → l < height_in (with_cells h cell) → place_above h.size 0 i l < places_on (with_cells h cell) l → block_on (with_cells h cell) l (place_above h.size 0 i l) ≢ 0
+          → HasBlock (seen_with v new) (block_on (with_cells h cell) l (place_above h.size 0 i l))
+      blocks l less low some = elim ((f.blocks.blocks c).0 there) [
+        | inl had ↦
+            let in_h : IsPlaced h c l (place_above h.size 0 i l * span h.size l) = (placed.0, placed.1, sym (f.parts c had) ∙ placed.2) in
+            let is : block_on h l (place_above h.size 0 i l) ≡ c = (part_there h file l (place_above h.size 0 i l) c less' low' some).1 in_h in
+            has_further v c (subst (HasBlock (seen_with v old)) is (way.blocks l less' low' (λ none. some (sym is ∙ none))))
+        | inr new_one ↦ elim (f.drafted.own c there) [
+          | inl left ↦ absurd (none_some (h.cell c) (free c new_one) left.had)
+          | inr put ↦ (bytes_at (with_cells h cell) c, ap (λ fate. block_with fate (v.block_at c)) put.fate)
+        ]
+      ]
+        where
+          c : ℕ
+          c = block_on (with_cells h cell) l (place_above h.size 0 i l)
+
+          placed : IsPlaced (with_cells h cell) c l (place_above h.size 0 i l * span h.size l)
+          placed = part_of_place (with_cells h cell) f.file l (place_above h.size 0 i l) less low some
+
+          there : IsSome (cell c)
+          there = is_there (cell c) _ placed.2
+
+          less' : l < height_in h
+          less' = omega (arith, less, height_same)
+
+          low' : place_above h.size 0 i l < places_on h l
+          low' = subst (λ n. place_above h.size 0 i l < fan h.size dinode_length * span h.size (n - 1 - l)) height_same low
+
+  pub room_further : (room left : List ℕ) → IsRoomFor h at end room → room ≡ taken ++ left → IsRoomFor (with_cells h cell) at end left
+  room_further room left r front = record {
+    file = f.file;
+    in_blocks = λ none. r.in_blocks (sym height_same ∙ none);
+    within = subst (λ (d : Dinode). end ≤ d.size) (sym f.dinode) r.within;
+    free = record {
+      some = λ none. r.free.some (back 0 none);
+      once = distinct_back taken left distinct;
+      inside = λ b in_left. r.free.inside b (back b in_left);
+      new = λ b in_left. none_cell (cell b) (λ there. elim ((f.blocks.blocks b).0 there) [
+        | inl had ↦ none_some (h.cell b) (r.free.new b (back b in_left)) had
+        | inr in_taken ↦ apart_of taken left b distinct in_taken in_left
+      ]);
+    };
+    enough =
+        let long : length room ≡ length taken + length left = ap length front ∙ length-append taken left in
+        let need : needed_below h at end (height_in h) ≡ length taken + needed_below (with_cells h cell) at end (height_in (with_cells h cell))
+        = subst (λ n. needed_below h at end (height_in h) ≡ length taken + needed_below (with_cells h cell) at end n) (sym height_same) f.need in
+        omega (arith, long, need, r.enough);
+  }
+    where
+      back : (b : ℕ) → Contains left b → Contains room b
+      back b in_left = subst (λ xs. Contains xs b) (sym front) (Contains-append_right taken left b in_left)
+
+      distinct : IsDistinct (taken ++ left)
+      distinct = subst IsDistinct front r.free.once
+
+  pub free_taken : (room left : List ℕ) → IsRoomFor h at end room → room ≡ taken ++ left → (b : ℕ) → Contains taken b → h.cell b ≡ None
+  free_taken room left r front b in_taken = r.free.new b (subst (λ xs. Contains xs b) (sym front) (Contains-append_left taken left b in_taken))
+
+-- ---- files with the same parts need the same
+
+module _ (h : Holding) (cell : ℕ → Option Cell) (at end : ℕ) (file : IsFile h) (file' : IsFile (with_cells h cell)) (dinode : dinode_in (with_cells h cell) ≡ dinode_in h)
+    (parts : (b : ℕ) → part_at (with_cells h cell) b ≡ part_at h b) where
+  high_same : height_in (with_cells h cell) ≡ height_in h
+  high_same = ap (λ (d : Dinode). d.height) dinode
+
+  there_same : (l j : ℕ) → l < height_in h → has_there (with_cells h cell) l j ≡ has_there h l j
+  there_same l j less = elim (cases_Bool (nat_lt j (places_on h l))) [
+    | inl low ↦
+        let near : j < places_on h l = ltb-true j (places_on h l) low in
+        let near' : j < places_on (with_cells h cell) l = subst (λ n. j < fan h.size dinode_length * span h.size (n - 1 - l)) (sym high_same) near in
+        let same : block_on (with_cells h cell) l j ≡ block_on h l j
+        = same_place h (with_cells h cell) l j file file' less (omega (arith, less, high_same)) near near' (λ c placed. (placed.0, placed.1, parts c ∙ placed.2)) (λ c placed. (placed.0, placed.1, sym (parts c) ∙ placed.2)) in
+        (λ i. nat_lt l (high_same i) && nat_lt j (fan h.size dinode_length * span h.size (high_same i - 1 - l)) && not (same i == 0))
+    | inr far ↦
+        let far' : nat_lt j (places_on (with_cells h cell) l) ≡ false = subst (λ n. nat_lt j (fan h.size dinode_length * span h.size (n - 1 - l)) ≡ false) (sym high_same) far in
+        and_false (nat_lt l (height_in (with_cells h cell))) (nat_lt j (places_on (with_cells h cell) l)) (not (block_on (with_cells h cell) l j == 0)) far' ∙ sym (and_false (nat_lt l (height_in h)) (nat_lt j (places_on h l)) (not (block_on h l j == 0)) far)
+  ]
+
+  on_same : (l : ℕ) → l < height_in h → needed_on (with_cells h cell) at end l ≡ needed_on h at end l
+  on_same l less =
+      count_same (is_needed h at end l) (is_needed (with_cells h cell) at end l) 0 (max 1 (pieces end (span h.size l * h.size)))
+      (λ x low high. ap₂ (λ (p : Bool) (q : Bool). p && not q) (on_way (with_cells h cell) at end l x (omega (arith, less, high_same)) ∙ sym (on_way h at end l x less)) (there_same l x less))
+
+  pub need_same : (n : ℕ) → n ≤ height_in h → needed_below (with_cells h cell) at end n ≡ needed_below h at end n
+  need_same zero low = refl
+  need_same (suc n) low = ap₂ ◌+◌ (on_same n (omega (arith, low))) (need_same n (omega (arith, low)))

@@ -1,0 +1,6 @@
+pub mod Over
+pub mod Counted
+pub mod Seeing
+pub mod Further
+pub mod Stepped
+pub mod Pieces

@@ -1,0 +1,8 @@
+use Rattle.std.proofs.Common.{arith}
+use Rattle.file_fills.proofs.Stepped.{filled_one}
+use Rattle.file_fills.proofs.filling.fill_one.Goals as goal
+
+pub returns-clause-filled : goal.returns-clause-filled
+returns-clause-filled g c h at end i left shown r has stopped hole =
+    filled_one g.V.View.seen c.args.draft.now c.fill_hole.new.draft c.args.inode h at end i c.args.stop c.args.block left c.requires.there.0 c.requires.there.1 (omega (arith, c.ranges.block)) shown r has stopped hole
+    c.fill_hole.result (c.fill_hole.ensures.put c.requires.there.0 c.requires.there.1) (c.fill_hole.ensures.filled h)

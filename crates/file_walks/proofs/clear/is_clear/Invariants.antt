@@ -1,0 +1,6 @@
+use Rattle.std.proofs.Common.{◌≡◌, ℕ, ◌+◌, ◌*◌, ◌<◌}
+use Rattle.gfs2_layout.specs.Bytes.{u64_at}
+use Rattle.file_walks.proofs.clear.is_clear.Given as goal
+
+abbrev pub invariant-loop-k : goal.invariant-loop-k
+invariant-loop-k l = (k : ℕ) → k < l.k → u64_at (24 + 8 * k) l.bytes ≡ 0

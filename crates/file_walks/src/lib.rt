@@ -1,0 +1,10 @@
+//! The walk from a file's dinode down to a place of its tree, over a view.
+#![tactic(auto)]
+
+mod clear;
+mod numbers;
+mod walks;
+
+pub use clear::leads_nowhere;
+pub use numbers::span;
+pub use walks::{Stop, count_blocks, find_place};
