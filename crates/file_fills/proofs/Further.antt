@@ -23,7 +23,8 @@ use Rattle.growth_laws.proofs.Needing.{and_false, on_way}
 use Rattle.growth_laws.proofs.Places.{part_there, part_of_place}
 use Rattle.growth_drafts.specs.Taken.{IsContentIn, IsDistinct, IsLeft, IsPutFor}
 use Rattle.file_walks.specs.Walks.{place_above}
-use Rattle.file_fills.specs.Filling.{IsFurther, IsRoomFor, IsSeenWay}
+use Rattle.file_fills.specs.Filling.{IsRoomFor, IsSeenWay}
+use Rattle.file_fills.specs.Progress.{IsFurther}
 
 -- ---- lists of blocks
 

@@ -32,7 +32,8 @@ use Rattle.growth_drafts.specs.Taken.{HasBytes}
 use Rattle.file_walks.specs.Walks.{place_above, IsUnder}
 use Rattle.file_walks.proofs.Above.{place_up}
 use Rattle.file_walks.proofs.Steps.{hole_above}
-use Rattle.file_fills.specs.Filling.{HasBlockAt, HasCome, HasFilled, HasPieces, IsFurther, IsRoomFor, IsSeenWay}
+use Rattle.file_fills.specs.Filling.{HasFilled, IsRoomFor, IsSeenWay}
+use Rattle.file_fills.specs.Progress.{HasBlockAt, HasCome, HasPieces, IsFurther}
 use Rattle.file_fills.proofs.Counted.{count_none}
 use Rattle.file_fills.proofs.Further.{further_none, kept_place}
 use Rattle.file_fills.proofs.Seeing.{over_under, place_at}

@@ -36,7 +36,8 @@ use Rattle.growth_steps.proofs.Stepping.{is_new_block}
 use Rattle.file_walks.specs.Walks.{place_of, first_of, IsPlace, IsStop}
 use Rattle.file_walks.specs.declared.walks.Stop.{Stop}
 use Rattle.file_walks.proofs.Above.{under_above}
-use Rattle.file_fills.specs.Filling.{HasCome, IsFurther, IsRoomFor, IsSeenWay}
+use Rattle.file_fills.specs.Filling.{IsRoomFor, IsSeenWay}
+use Rattle.file_fills.specs.Progress.{HasCome, IsFurther}
 use Rattle.file_fills.proofs.Further.{free_taken, further_then, need_same, none_some, room_further, way_further}
 use Rattle.file_fills.proofs.Over.{over_above}
 

@@ -12,7 +12,8 @@ ghost use Rattle.dinode_tree.specs.Shown.{IsShown};
 ghost use Rattle.growth_laws.specs.Files.{IsFile};
 ghost use Rattle.growth_drafts.specs.Taken.{HasBytes};
 ghost use Rattle.file_walks.specs.Walks.{IsPlace, IsStop};
-ghost use Rattle.file_fills.specs.Filling.{HasBlockAt, HasCome, HasFilled, IsRoomFor, IsSeenWay};
+ghost use Rattle.file_fills.specs.Filling.{HasFilled, IsRoomFor, IsSeenWay};
+ghost use Rattle.file_fills.specs.Progress.{HasBlockAt, HasCome};
 
 use crate::looking::{lacks, look_between};
 use crate::numbers::places_over;

@@ -6,7 +6,7 @@ ghost use Rattle.gfs2_layout.specs.Inode.{fan as fan_of, span as span_of};
 ghost use Rattle.gfs2_layout.specs.Structures.{dinode_length};
 ghost use Rattle.growth_laws.specs.Need.{capacity, is_over, raised_to};
 
-use file_walks::span;
+use file_walks::{number_at, span};
 use gfs2_layout::DINODE_LENGTH;
 
 /// How many bytes of content stand below a place of a level; None from 2^64 on.
@@ -78,17 +78,6 @@ pub(crate) fn places_over(size: usize, level: u16, at: u64, end: u64) -> (u64, u
         Some(reach) => (at / reach, end.div_ceil(reach)),
         None => (0, 1),
     }
-}
-
-/// The number in the eight bytes at a place.
-#[tactic(auto, unfolding(gfs2_layout::specs::Bytes::number_at))]
-fn number_at(bytes: &[u8], at: usize) -> u64
-    requires { at + 8 ≤ length bytes.now }
-    ensures { result ≡ u64_at at bytes.now }
-{
-    let mut part = [0u8; 8];
-    part.copy_from_slice(&bytes[at..at + 8]);
-    u64::from_be_bytes(part)
 }
 
 /// Whether a dinode has a pointer that leads somewhere.

@@ -6,5 +6,5 @@ mod numbers;
 mod walks;
 
 pub use clear::leads_nowhere;
-pub use numbers::span;
+pub use numbers::{number_at, span};
 pub use walks::{Stop, count_blocks, find_place};

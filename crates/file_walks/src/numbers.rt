@@ -6,9 +6,9 @@ ghost use Rattle.gfs2_layout.specs.Inode.{fan as fan_of, span as span_of};
 /// Where the pointers of an indirect block begin.
 pub(crate) const IN_BLOCK: usize = 24;
 
-/// The number in the eight bytes at a place.
+/// The number in the eight bytes at a place, the highest byte first, as pointers stand in blocks.
 #[tactic(auto, unfolding(gfs2_layout::specs::Bytes::number_at))]
-pub(crate) fn number_at(bytes: &[u8], at: usize) -> u64
+pub fn number_at(bytes: &[u8], at: usize) -> u64
     requires { at + 8 ≤ length bytes.now }
     ensures { result ≡ u64_at at bytes.now }
 {

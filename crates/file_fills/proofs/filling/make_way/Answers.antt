@@ -3,7 +3,8 @@ use Rattle.drafts.specs.Fates.{seen_in}
 use Rattle.gfs2_layout.specs.Inode.{content_of}
 use Rattle.dinode_tree.specs.Shown.{IsShown}
 use Rattle.growth_laws.specs.Files.{with_cells}
-use Rattle.file_fills.specs.Filling.{HasCome, IsRoomFor}
+use Rattle.file_fills.specs.Filling.{IsRoomFor}
+use Rattle.file_fills.specs.Progress.{HasCome}
 use Rattle.file_fills.proofs.Further.{further_none}
 use Rattle.file_fills.proofs.Stepped.{come_then, content_at_stop, place_of_bytes, ready_after, room_left}
 use Rattle.file_fills.proofs.filling.make_way.Goals as goal

@@ -4,7 +4,8 @@ use Rattle.gfs2_layout.specs.Holding.{Holding}
 use Rattle.gfs2_layout.specs.Inode.{content_of}
 use Rattle.dinode_tree.specs.Shown.{IsShown}
 use Rattle.growth_drafts.specs.Taken.{HasBytes}
-use Rattle.file_fills.specs.Filling.{HasCome, IsRoomFor, IsSeenWay}
+use Rattle.file_fills.specs.Filling.{IsRoomFor, IsSeenWay}
+use Rattle.file_fills.specs.Progress.{HasCome}
 use Rattle.file_fills.proofs.filling.make_way.Given as goal
 
 abbrev pub invariant-loop-stop : goal.invariant-loop-stop

@@ -8,7 +8,8 @@ use Rattle.glock_names.specs.Views.{HasBlock}
 use Rattle.growth_laws.specs.Files.{with_cells}
 use Rattle.growth_laws.proofs.Places.{size_large}
 use Rattle.growth_drafts.specs.Taken.{HasBytes}
-use Rattle.file_fills.specs.Filling.{HasBlockAt, IsSeenWay}
+use Rattle.file_fills.specs.Filling.{IsSeenWay}
+use Rattle.file_fills.specs.Progress.{HasBlockAt}
 use Rattle.file_fills.proofs.Pieces.{block_then, bytes_at_place, put_one}
 use Rattle.file_fills.proofs.Stepped.{before_end, ready_after}
 use Rattle.file_fills.proofs.filling.write_piece.Goals as goal

@@ -3,7 +3,8 @@ use Rattle.drafts.specs.Fates.{seen_in}
 use Rattle.gfs2_layout.specs.Holding.{Holding}
 use Rattle.dinode_tree.specs.Shown.{IsShown}
 use Rattle.growth_drafts.specs.Taken.{HasBytes}
-use Rattle.file_fills.specs.Filling.{HasPieces, IsRoomFor, IsSeenWay}
+use Rattle.file_fills.specs.Filling.{IsRoomFor, IsSeenWay}
+use Rattle.file_fills.specs.Progress.{HasPieces}
 use Rattle.file_fills.proofs.filling.write_pieces.Given as goal
 
 abbrev pub invariant-loop-written : goal.invariant-loop-written
