@@ -232,7 +232,7 @@ module _ {V : Type 0} (seen : V → Seen) (old now : Drafted V) (inode : ℕ) (d
       → IsSized h (rewritten_cells h h.own own) size × Becomes (seen_in seen now) old.fates now.fates inode h (with_cells h (rewritten_cells h h.own own))
   sized_by size can read whole behind =
       let step = sized_is h (record d { size = size }) own file read (whole ∙ sym shown.size) size can (ap (λ (x : Dinode). record x { size = size }) d_is)
-          (behind ∙ ap (drop dinode_length) (sym (own_seen (seen_in seen old) inode bytes h shown there))) in
+      (behind ∙ ap (drop dinode_length) (sym (own_seen (seen_in seen old) inode bytes h shown there))) in
       (step, becomes (sizes_resize h (rewritten_cells h h.own own) size file step).0)
 
   -- what stands behind the dinode is the file's content

@@ -1,9 +1,7 @@
 -- What a disk stands for, from one state of it to the next.
-use Rattle.std.proofs.Common.{◌≡◌, refl, sym, ◌∙◌, subst}
+use Rattle.std.proofs.Common.{refl, sym, ◌∙◌, subst}
 use Rattle.file_tree.specs.Tree.{Tree}
-use Rattle.image_model.specs.Image.{Image, image_of}
-use Rattle.image_model.specs.Owners.{Owners}
-use Rattle.image_model.specs.Stands.{Layout}
+use Rattle.image_model.specs.Image.{image_of}
 use Rattle.image_changes.specs.Changes.{SystemStays}
 use Rattle.image_changes.proofs.System.{system_none, system_on}
 use Rattle.shared_disk.specs.Disk.{DiskState}

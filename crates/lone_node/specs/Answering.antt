@@ -1,5 +1,5 @@
 -- A call, answered on a disk.
-use Rattle.std.specs.Prelude.{ℕ, ◌≡◌, ◌<◌, ◌≤◌, ◌==◌, ◌↔◌, if◌then◌else◌, length, Option, Some, IfSome, IsSome}
+use Rattle.std.specs.Prelude.{ℕ, ◌≡◌, ◌<◌, ◌≤◌, ◌==◌, ◌↔◌, if◌then◌else◌, Option, Some, IfSome, IsSome}
 use Rattle.file_tree.specs.Tree.{Tree}
 use Rattle.file_tree.specs.Apply.{Answers}
 use Rattle.file_tree.specs.declared.call.Call.{Call}

@@ -1,5 +1,5 @@
 -- The items of one node that takes a script's lines one by one.
-use Rattle.std.specs.Prelude.{ℕ, zero, suc, ◌≡◌, ◌+◌, ⊤, Bool, true, false, List, [], ◌∷◌, ◌++◌, length, map, take, slice_get, Option, None, Some, IfSome}
+use Rattle.std.specs.Prelude.{ℕ, ◌≡◌, false, List, [], ◌∷◌, ◌++◌, length, map, take, slice_get, Option, Some}
 use Rattle.std.specs.List.{AllByRecursion, filter}
 use Rattle.file_tree.specs.Apply.{apply}
 use Rattle.file_tree.specs.Tree.{Tree}
@@ -7,19 +7,18 @@ use Rattle.file_tree.specs.declared.call.Call.{Call}
 use Rattle.file_tree.specs.declared.reply.Reply.{Reply}
 use Rattle.file_tree.specs.declared.reply.Reply.TheVariants as replies
 use Rattle.cluster_history.specs.Changes.{Changes}
-use Rattle.cluster_history.specs.History.{Replied, AllAnswer, after, alive, tree_of}
+use Rattle.cluster_history.specs.History.{Replied, AllAnswer, alive, tree_of}
 use Rattle.run_rules.specs.Follows.{history_of}
-use Rattle.script_lang.specs.Script.{ScriptValue}
 use Rattle.script_lang.specs.declared.script.Client.{Client}
 use Rattle.script_lang.specs.declared.script.Line.{Line}
 use Rattle.script_lang.specs.declared.script.Line.TheVariants as line
 use Rattle.trace_text.specs.declared.item.TraceItem.{TraceItem}
 use Rattle.trace_text.specs.declared.item.TraceItem.TheVariants as trace
-use Rattle.shared_disk.specs.Disk.{DiskState, IsIdle, Operation}
+use Rattle.shared_disk.specs.Disk.{DiskState, IsIdle}
 use Rattle.lone_view.specs.Seeing.{Lone}
 use Rattle.lone_node.specs.Answering.{IsAnsweredFrom, IsFailedAt, IsSameDisk, IsToldFull}
 use Rattle.lone_node.specs.Course.{HasTaken, IsStep, Moment}
-use Rattle.lone_node.specs.Items.{AnsweredCall, full_item, is_call_line, items_from, its_answer, its_line, own_script}
+use Rattle.lone_node.specs.Items.{AnsweredCall, full_item, is_call_line, items_from, its_answer, its_line}
 use Rattle.lone_node.specs.Standing.{LeavesStanding, StandsFor}
 use Rattle.lone_node.specs.declared.answering.Full.{Full}
 

@@ -50,7 +50,7 @@ loop-place-preserved-in_default g c =
       number = number;
       leaves = so.leaves;
       steps = subst (λ (xs : List AnsweredCall). AreSteps c.args.view.now c.args.stamp.now.time (moment (g.D.SharedDisk.state c.args.disk.now) (g.D.SharedDisk.list c.args.disk.now)) xs
-    (moment (g.D.SharedDisk.state c.loop-place.disk) (g.D.SharedDisk.list c.loop-place.disk))) (sym same) so.steps;
+          (moment (g.D.SharedDisk.state c.loop-place.disk) (g.D.SharedDisk.list c.loop-place.disk))) (sym same) so.steps;
       untouched = so.untouched;
       idle = so.idle;
       on = so.on;

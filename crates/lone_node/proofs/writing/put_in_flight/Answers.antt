@@ -3,7 +3,7 @@ use Rattle.shared_disk.specs.Disk.{after_write}
 use Rattle.lone_node.specs.Ends.{IfDiskFailed}
 use Rattle.lone_node.specs.Writing.{IsWriteOf}
 use Rattle.lone_node.proofs.Flying.{flies_more, next_is_free, none_falls}
-use Rattle.lone_node.proofs.Gaining.{gains_none, gains_write}
+use Rattle.lone_node.proofs.Gaining.{gains_write}
 use Rattle.lone_node.proofs.Partly.{one_of, partly_more}
 use Rattle.lone_node.proofs.writing.put_in_flight.Goals as goal
 
