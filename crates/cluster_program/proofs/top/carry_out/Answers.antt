@@ -1,6 +1,6 @@
 use Rattle.std.proofs.Common.{◌≡◌, ℕ, List, refl, subst, map}
 use Rattle.std.specs.Prelude.{string_bytes, Some}
-use Rattle.cluster_program.specs.Course.{RefusesWords, MakesImage, ShowsImage, AsksToMake, AsksToShow, words_refusal}
+use Rattle.cluster_program.specs.Course.{RefusesWords, MakesImage, ShowsImage, AsksToMake, AsksToShow, AsksToRun, words_refusal}
 use Rattle.command_words.specs.declared.command.MakeWords.{MakeWords}
 use Rattle.cluster_program.specs.Tasks.{Asks}
 use Rattle.cluster_program.specs.declared.words.Task.{Task}
@@ -31,3 +31,12 @@ returns-in-Ok-Show-clause-course g c =
     let asks = subst (λ (size : ℕ). AsksToShow size (map string_bytes c.args.words.now)) c.block_size.ensures (shown_as (map string_bytes c.args.words.now) c.block_size.result c.in-Ok-Show.field-0 c.in-Ok-Show.field-0-is c.in-Ok-Show.ensures.task) in
     course_of (map string_bytes c.args.words.now) _ _ c.show.ensures.script c.requires.none refl refl
     (ShowsImage c.show.result.lines.items c.show.result.own asks (record { left = refl; faults = refl }) (record { state_is = c.show.ensures.reads.same; list_is = c.show.ensures.reads.list }) c.show.ensures.shows)
+
+run_as : (words : List (List ℕ)) (size : ℕ) (t : Task) (time : ℕ) → t ≡ task.Run time → Asks size words t → (asks : AsksToRun size words) × (time ≡ asks.run.time)
+run_as words size t time is asks = subst (Asks size words) is asks
+
+pub returns-in-Ok-Run-clause-course : goal.returns-in-Ok-Run-clause-course
+returns-in-Ok-Run-clause-course g c =
+    let words = map string_bytes c.args.words.now in
+    let asks = subst (λ (size : ℕ). (asks : AsksToRun size words) × (c.in-Ok-Run.time ≡ asks.run.time)) c.block_size.ensures (run_as words c.block_size.result c.in-Ok-Run.field-0 c.in-Ok-Run.time c.in-Ok-Run.field-0-is c.in-Ok-Run.ensures.task) in
+    c.read_and_run.ensures.course words asks.0 asks.1
