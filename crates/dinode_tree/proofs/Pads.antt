@@ -150,7 +150,7 @@ module _ (d d' : Dinode) (old behind new rest : List ℕ) (large : dinode_length
 
 -- a dinode that is put over the front of the block, and these bytes behind it
 pub keeps_by : (d : Dinode) (old behind new : List ℕ) → new ≡ dinode_put d (take dinode_length old ++ behind) → dinode_of new ≡ d → drop dinode_length new ≡ behind → KeepsPads old new
-unfolding dinode_over
+unfolding KeepsPads dinode_over
 keeps_by d old behind new is of rest = is ∙ ap₂ (λ x bytes. dinode_put x (take dinode_length old ++ bytes)) (sym of) (sym rest)
 
 -- a dinode that is put into the block
@@ -159,4 +159,5 @@ put_keeps d old new is of behind = keeps_by d old (drop dinode_length old) new (
 
 -- pads that are kept twice are kept
 pub keeps_on : (old mid new : List ℕ) → dinode_length ≤ length old → KeepsPads old mid → KeepsPads mid new → KeepsPads old new
+unfolding KeepsPads
 keeps_on old mid new large first then = then ∙ over_again (dinode_of mid) (dinode_of new) old (drop dinode_length mid) mid (drop dinode_length new) large first

@@ -9,5 +9,5 @@ unfoldable pub dinode_over : Dinode → List ℕ → List ℕ → List ℕ
 dinode_over d old behind = dinode_put d (take dinode_length old ++ behind)
 
 -- the new bytes of a dinode's block have the new dinode over the old one, whatever stands behind it
-abbrev pub KeepsPads : List ℕ → List ℕ → Type 0
+unfoldable pub KeepsPads : List ℕ → List ℕ → Type 0
 KeepsPads old new = new ≡ dinode_over (dinode_of new) old (drop dinode_length new)

@@ -16,6 +16,7 @@ use Rattle.gfs2_layout.specs.declared.dirent.Dirent.{Dirent}
 use Rattle.gfs2_layout.proofs.HeaderLaws.{answer_ok}
 use Rattle.glock_names.specs.Views.{Seen}
 use Rattle.glock_names.specs.declared.steps.Entry.{Entry}
+use Rattle.dinode_tree.specs.Pads.{KeepsPads}
 use Rattle.dinode_tree.specs.Reading.{inode_lock}
 use Rattle.dinode_tree.specs.Shown.{IsShown}
 use Rattle.linear_dirs.specs.declared.removing.Place.{Place}
@@ -42,9 +43,9 @@ module _ {V : Type 0} (seen : V → Seen) (old new : Drafted V) (dir : ℕ) (h :
   pub dinode_kept : uncounted (dinode_in (holding_over (seen_in seen new) h)) ≡ uncounted (dinode_in h)
   dinode_kept = kept (seen_in seen new) h d area now d' is over written
 
-  pub laid : (before : List ℕ) → (seen_in seen old).block_at dir ≡ Some before → IsLaidOver (bytes_at h h.own) (bytes_at (holding_over (seen_in seen new) h) h.own)
-  laid before there = subst₂ IsLaidOver (sym (bytes_of (seen_in seen old) h dir before shown there)) (sym (bytes_new (seen_in seen new) h now over))
-      (record { pads = put.pads before there; filled = put.filled })
+  pub laid : (before : List ℕ) → (seen_in seen old).block_at dir ≡ Some before → KeepsPads before now → IsLaidOver (bytes_at h h.own) (bytes_at (holding_over (seen_in seen new) h) h.own)
+  laid before there pads = subst₂ IsLaidOver (sym (bytes_of (seen_in seen old) h dir before shown there)) (sym (bytes_new (seen_in seen new) h now over))
+      (record { pads = pads; filled = put.filled })
 
   pub has_exchanged : (gone come : List Record) → (IsRecordArea area → IsRecordArea (drop dinode_length now))
       → IsExchanged (records_in area) (records_in (drop dinode_length now)) gone come → IsCounted d d' gone come → HasExchanged h (holding_over (seen_in seen new) h) gone come

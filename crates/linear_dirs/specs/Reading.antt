@@ -1,7 +1,7 @@
 -- What the code holds of a linear directory, as what it stands for.
 use Rattle.std.specs.Prelude.{ℕ, ◌≡◌, ◌+◌, ◌≤◌, true, false, List, [], ◌∷◌, length, map, filter, take, drop, None, Some, Ok}
 use Rattle.std.specs.FinMap.{insert}
-use Rattle.drafts.specs.Fates.{Drafted, seen_in}
+use Rattle.drafts.specs.Fates.{Drafted}
 use Rattle.drafts.specs.declared.fate.Fate.TheVariants.{Put}
 use Rattle.gfs2_layout.specs.Area.{Slot, IsArea, IsRecordAt, first_named, slots_of}
 use Rattle.gfs2_layout.specs.Cutting.{slot_from}
@@ -12,7 +12,6 @@ use Rattle.gfs2_layout.specs.Records.{Record, record_of, record_named, records_i
 use Rattle.gfs2_layout.specs.Structures.{dinode_length, dinode_of, dinode_read, is_in_use}
 use Rattle.gfs2_layout.specs.declared.dinode.Dinode.{Dinode}
 use Rattle.glock_names.specs.Views.{Seen}
-use Rattle.dinode_tree.specs.Pads.{KeepsPads}
 use Rattle.dinode_tree.specs.Reading.{IsRightDinode, inode_lock}
 use Rattle.linear_dirs.specs.Exchanges.{uncounted}
 use Rattle.linear_dirs.specs.declared.removing.Place.{Place}
@@ -34,14 +33,12 @@ IsDinodeIn v dir d = (bytes : List ℕ) → v.block_at dir ≡ Some bytes → d 
 abbrev pub HasAreaIn : Seen → ℕ → Type 0
 HasAreaIn v dir = (area : List ℕ) × IsAreaIn v dir area
 
--- The draft puts the directory's block, and no other: a whole block with this dinode, which keeps the pads of the old one, and an area of records
--- behind it.
+-- the draft puts the directory's block, and no other: a whole block with this dinode, and an area of records behind it
 pub record IsBlockPut {V : Type 0} (seen : V → Seen) (old new : Drafted V) (dir : ℕ) (d : Dinode) (bytes : List ℕ) : Type 0 where
   pub long : length bytes ≡ (seen old.view).size
   pub put : new ≡ record old { fates = insert old.fates dir (Put (inode_lock dir) false bytes) }
   pub read : dinode_read bytes ≡ Ok d
   pub filled : IsArea (drop dinode_length bytes)
-  pub pads : (before : List ℕ) → (seen_in seen old).block_at dir ≡ Some before → KeepsPads before bytes
 
 -- a linear directory's dinode, and the records behind it
 pub record IsDirectoryOf (h : Holding) (d : Dinode) (area : List ℕ) : Type 0 where

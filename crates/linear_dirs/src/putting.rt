@@ -113,8 +113,8 @@ fn put_name<V: View>(
     requires entry { IsEntryOf head.now name.now }
     ensures room { (area : List ℕ) → IsAreaIn (seen_in V.seen draft.old) dir area → IfOk result (λ done. done ≡ list_any (has_room (least_length (length name.now))) (slots_of area)) }
     ensures full { IfOk result (λ done. done ≡ false → draft.new ≡ draft.old) }
-    ensures put { (area : List ℕ) → IsAreaIn (seen_in V.seen draft.old) dir area → IfOk result (λ done. done ≡ true
-        → (bytes : List ℕ) × (IsBlockPut V.seen draft.old draft.new dir dinode.now bytes × (put_slot head.now name.now (slots_of area) ≡ Some (slots_of (drop dinode_length bytes))))) }
+    ensures put { (area : List ℕ) (there : IsAreaIn (seen_in V.seen draft.old) dir area) → IfOk result (λ done. done ≡ true
+        → (bytes : List ℕ) × (IsBlockPut V.seen draft.old draft.new dir dinode.now bytes × (put_slot head.now name.now (slots_of area) ≡ Some (slots_of (drop dinode_length bytes))) × KeepsPads there.bytes bytes)) }
     ensures err { OnErr result (draft.new ≡ draft.old) }
 {
     let Some(mut bytes) = draft.copy(dir)? else {

@@ -91,8 +91,8 @@ fn cut_name<V: View>(
 ) -> Result<(), NoMemory>
     requires seen { HasAreaIn (seen_in V.seen draft.old) dir }
     requires place { (area : List ℕ) → IsAreaIn (seen_in V.seen draft.old) dir area → IsRecordAt area at }
-    ensures cut { (area : List ℕ) → IsAreaIn (seen_in V.seen draft.old) dir area
-        → OnOk result ((bytes : List ℕ) × (IsBlockPut V.seen draft.old draft.new dir dinode.now bytes × (slots_of (drop dinode_length bytes) ≡ slots_without at area))) }
+    ensures cut { (area : List ℕ) (there : IsAreaIn (seen_in V.seen draft.old) dir area)
+        → OnOk result ((bytes : List ℕ) × (IsBlockPut V.seen draft.old draft.new dir dinode.now bytes × (slots_of (drop dinode_length bytes) ≡ slots_without at area) × KeepsPads there.bytes bytes)) }
     ensures err { OnErr result (draft.new ≡ draft.old) }
 {
     let Some(mut bytes) = draft.copy(dir)? else {

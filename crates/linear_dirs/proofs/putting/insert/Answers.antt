@@ -53,7 +53,7 @@ returns-clause-laid g c h shown so =
     let seen = answer_at _ _ _ c.in-Is.is c.in_ok-found.ensures.seen in
     let put = c.in_ok-done.ensures.put area seen so in
     laid g.V.View.seen c.args.draft.now c.put_name.new.draft c.args.dir h c.in-Is.found.dinode area c.in-Some.counted put.0 shown is put.1.0 (same_more c.in-Is.found.dinode c.in-Some.counted c.links_of.result c.in-Some.ensures.some)
-    seen.bytes seen.there
+    seen.bytes seen.there put.1.2
 
 pub returns-in_err-done-clause-linear : goal.returns-in_err-done-clause-linear
 returns-in_err-done-clause-linear g c = same_linear g.V.View.seen c.args.draft.now c.put_name.new.draft c.args.dir c.requires.linear c.in_err-done.ensures.err
@@ -69,3 +69,8 @@ returns-clause-linear g c = elim (cases_Bool c.in_ok-done.done) [
       still_linear g.V.View.seen c.args.draft.now c.put_name.new.draft c.args.dir c.in-Is.found.dinode c.in-Some.counted area put.0 c.requires.linear dinode seen
       (same_more c.in-Is.found.dinode c.in-Some.counted c.links_of.result c.in-Some.ensures.some) put.1.0
 ]
+
+pub returns-clause-one : goal.returns-clause-one
+returns-clause-one g c so =
+    let put = c.in_ok-done.ensures.put c.in-Is.found.area.now (answer_at _ _ _ c.in-Is.is c.in_ok-found.ensures.seen) so in
+    (put.0, put.1.0.put)

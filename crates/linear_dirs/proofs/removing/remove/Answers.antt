@@ -58,7 +58,7 @@ returns-clause-laid g c h shown =
     let is = answer_at _ _ _ c.in-Is.is (c.in_ok-found.ensures.read h shown) in
     let seen = answer_at _ _ _ c.in-Is.is c.in_ok-found.ensures.seen in
     let cut = c.in_ok-cut_name.ensures.cut area seen in
-    laid g.V.View.seen c.args.draft.now c.cut_name.new.draft c.args.dir h c.in-Is.found.dinode area c.in-Some-with_fewer.dinode cut.0 shown is cut.1.0 c.in-Some-with_fewer.ensures.some.others seen.bytes seen.there
+    laid g.V.View.seen c.args.draft.now c.cut_name.new.draft c.args.dir h c.in-Is.found.dinode area c.in-Some-with_fewer.dinode cut.0 shown is cut.1.0 c.in-Some-with_fewer.ensures.some.others seen.bytes seen.there cut.1.2
 
 pub returns-in_err-cut_name-clause-linear : goal.returns-in_err-cut_name-clause-linear
 returns-in_err-cut_name-clause-linear g c = same_linear g.V.View.seen c.args.draft.now c.cut_name.new.draft c.args.dir c.requires.linear c.in_err-cut_name.ensures.err
@@ -70,3 +70,8 @@ returns-clause-linear g c =
     let dinode = answer_at _ _ _ c.in-Is.is c.in_ok-found.ensures.dinode in
     let cut = c.in_ok-cut_name.ensures.cut area seen in
     still_linear g.V.View.seen c.args.draft.now c.cut_name.new.draft c.args.dir c.in-Is.found.dinode c.in-Some-with_fewer.dinode area cut.0 c.requires.linear dinode seen c.in-Some-with_fewer.ensures.some.others cut.1.0
+
+pub returns-clause-one : goal.returns-clause-one
+returns-clause-one g c =
+    let cut = c.in_ok-cut_name.ensures.cut c.in-Is.found.area.now (answer_at _ _ _ c.in-Is.is c.in_ok-found.ensures.seen) in
+    (cut.0, cut.1.0.put)
