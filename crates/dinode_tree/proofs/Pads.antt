@@ -148,13 +148,14 @@ module _ (d d' : Dinode) (old behind new rest : List ℕ) (large : dinode_length
 
 -- ---- pads
 
--- a dinode that is put over the front of the block, and these bytes behind it
-pub keeps_by : (d : Dinode) (old behind new : List ℕ) → new ≡ dinode_put d (take dinode_length old ++ behind) → dinode_of new ≡ d → drop dinode_length new ≡ behind → KeepsPads old new
-unfolding KeepsPads dinode_over
-keeps_by d old behind new is of rest = is ∙ ap₂ (λ x bytes. dinode_put x (take dinode_length old ++ bytes)) (sym of) (sym rest)
+-- a dinode that is put over the old one, and these bytes behind it
+pub keeps_by : (d : Dinode) (old behind new : List ℕ) → new ≡ dinode_over d old behind → dinode_of new ≡ d → drop dinode_length new ≡ behind → KeepsPads old new
+unfolding KeepsPads
+keeps_by d old behind new is of rest = is ∙ ap₂ (λ x bytes. dinode_over x old bytes) (sym of) (sym rest)
 
 -- a dinode that is put into the block
 pub put_keeps : (d : Dinode) (old new : List ℕ) → new ≡ dinode_put d old → dinode_of new ≡ d → drop dinode_length new ≡ drop dinode_length old → KeepsPads old new
+unfolding dinode_over
 put_keeps d old new is of behind = keeps_by d old (drop dinode_length old) new (is ∙ ap (dinode_put d) (sym (take-append-drop dinode_length old))) of behind
 
 -- pads that are kept twice are kept
