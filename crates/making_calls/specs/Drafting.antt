@@ -24,7 +24,7 @@ use Rattle.glock_names.specs.declared.views.Group.{Group}
 use Rattle.dinode_tree.specs.Reading.{inode_lock}
 use Rattle.dinode_tree.specs.Shown.{IsShown}
 use Rattle.linear_dirs.specs.Broken as directory
-use Rattle.linear_dirs.specs.Exchanges.{HasExchanged, uncounted}
+use Rattle.linear_dirs.specs.Exchanges.{HasExchanged, IsLaidOver, uncounted}
 use Rattle.linear_dirs.specs.Shown.{head_for, holding_over, record_for}
 use Rattle.new_inodes.specs.New.{IsNewDirectory, IsNewFile}
 use Rattle.new_inodes.specs.Touched.{IsTouched, with_times}
@@ -90,11 +90,13 @@ pub record SaysInode (at at' : ℕ → List ℕ) (g : Group) (b number : ℕ) : 
   pub said : IsPutIn between at' g b 3
 
 -- The bytes of a linear directory's block after a name came: the dinode says, apart from its counts, what it said, with this time as that of the
--- last change of its content and of its own; its counts follow; and the name's record is put into the first one that has room for it.
+-- last change of its content and of its own; its counts follow; the name's record is put into the first one that has room for it; and no other
+-- byte changes.
 pub record GetsRecord (old new : List ℕ) (name : List ℕ) (entry : Entry) (time : ℕ) : Type 0 where
   pub dinode : uncounted (dinode_of new) ≡ uncounted (with_times (dinode_of old) time)
   pub counted : IsCounted (dinode_of old) (dinode_of new) [] (record_for name entry ∷ [])
   pub slots : put_slot (head_for name entry) name (slots_of (drop dinode_length old)) ≡ Some (slots_of (drop dinode_length new))
+  pub bytes : IsLaidOver old new
 
 -- ---- the steps, over a view
 

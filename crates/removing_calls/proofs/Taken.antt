@@ -1,5 +1,5 @@
 -- A directory that is touched in a new draft, and of which a name is taken then.
-use Rattle.std.proofs.Common.{◌≡◌, ◌≢◌, ℕ, false, List, [], ◌∷◌, drop, None, Some, sym, ap, ◌∙◌, subst}
+use Rattle.std.proofs.Common.{◌≡◌, ◌≢◌, ◌≤◌, ℕ, false, List, [], ◌∷◌, length, drop, None, Some, sym, ap, ◌∙◌, subst, subst₂}
 use Rattle.std.proofs.lemmas.Bool.{and_right}
 use Rattle.std.specs.Prelude.{IsSome}
 use Rattle.std.specs.FinMap.{FinMap, get, empty, insert, get-empty}
@@ -21,12 +21,13 @@ use Rattle.dinode_tree.specs.Reading.{inode_lock}
 use Rattle.dinode_tree.specs.Shown.{IsShown}
 use Rattle.dinode_tree.proofs.Sound.{some_is_shown}
 use Rattle.linear_dirs.specs.Broken.{IsBroken}
-use Rattle.linear_dirs.specs.Exchanges.{HasExchanged, IsCutFrom, uncounted}
+use Rattle.linear_dirs.specs.Exchanges.{HasExchanged, IsCutFrom, IsLaidOver, uncounted}
 use Rattle.linear_dirs.specs.Shown.{IsLinearIn, HasNameIn, holding_over}
 use Rattle.linear_dirs.proofs.Looked.{bytes_of, dinode_there}
 use Rattle.linear_dirs.proofs.Over.{as_seen}
 use Rattle.linear_dirs.proofs.Rewritten.{over_there}
 use Rattle.new_inodes.specs.Touched.{IsTouched, with_times}
+use Rattle.new_inodes.proofs.Laid.{block_large, laid_touched}
 use Rattle.resource_groups.specs.Freeing.{AreFreed, KeepsRest, IsNeededFor, BreaksSome}
 use Rattle.resource_groups.specs.Putting.{HasDataBlock}
 use Rattle.image_changes.specs.Drafted.{IsFinished}
@@ -112,30 +113,57 @@ module _ {V : Type 0} (seen : V → Seen) (old : Drafted V) (new : old.fates ≡
           tells_so (IsBroken (holding_over w h)) (IsBroken h) (broken_before v w dir h time shown stuffed is sizes (some_there h shown) (touched_in h shown)) f
           (tells (holding_over w h) (touched_shown v w dir h time shown stuffed is sizes (some_there h shown) (touched_in h shown)))
 
-      -- it has the time, also where records were counted anew then
-      has_times : HasBlock (seen old.view) dir → IsLinearIn (seen old.view) dir → ((h : Holding) → IsShown (seen old.view) dir h → height_in h ≡ 0) → (last : Drafted V) (after : List ℕ)
-          → (seen_in seen last).block_at dir ≡ Some after → ((h : Holding) → IsShown (seen_in seen mid) dir h → uncounted (dinode_in (holding_over (seen_in seen last) h)) ≡ uncounted (dinode_in h))
-          → HasTimes (dinode_of after) time
-      has_times there linear stuffed last after put_last same =
-          let v = seen old.view in
-          let w = seen_in seen mid in
-          let u = seen_in seen last in
-          let s = some_is_shown v dir in
-          let h = holding_over w s.0 in
-          let is = linear_there v dir there linear s.0 s.1.0 in
-          let sizes : v.size ≡ w.size = ap (λ x. (seen x).size) (sym mid_view) in
-          let shown : IsShown w dir h = touched_shown v w dir s.0 time s.1.0 (stuffed s.0 s.1.0) is sizes (some_there s.0 s.1.0) (touched_in s.0 s.1.0) in
-          let bytes_are : bytes_at (holding_over u h) h.own ≡ after = as_seen u h h.own after (over_there (u.block_at h.own) (h.cell h.own) ∙ shown.dinode) (ap u.block_at shown.own ∙ put_last) in
-          subst (λ d. HasTimes d time) (dinode_by (holding_over u h) after bytes_are)
-          (times_kept (dinode_in s.0) (dinode_in h) (dinode_in (holding_over u h)) time (touched_in s.0 s.1.0).dinode (same h shown))
+      -- of the touched directory with the last bytes
+      module _ (there : HasBlock (seen old.view) dir) (linear : IsLinearIn (seen old.view) dir) (stuffed : (h : Holding) → IsShown (seen old.view) dir h → height_in h ≡ 0) (last : Drafted V) (after : List ℕ)
+          (put_last : (seen_in seen last).block_at dir ≡ Some after) where
+        abbrev v : Seen
+        v = seen old.view
+
+        abbrev w : Seen
+        w = seen_in seen mid
+
+        abbrev u : Seen
+        u = seen_in seen last
+
+        abbrev first : Holding
+        first = (some_is_shown v dir).0
+
+        first_shown : IsShown v dir first
+        first_shown = (some_is_shown v dir).1.0
+
+        abbrev then : Holding
+        then = holding_over w first
+
+        then_shown : IsShown w dir then
+        then_shown = touched_shown v w dir first time first_shown (stuffed first first_shown) (linear_there v dir there linear first first_shown) (ap (λ x. (seen x).size) (sym mid_view)) (some_there first first_shown) (touched_in first first_shown)
+
+        bytes_are : bytes_at (holding_over u then) then.own ≡ after
+        bytes_are = as_seen u then then.own after (over_there (u.block_at then.own) (then.cell then.own) ∙ then_shown.dinode) (ap u.block_at then_shown.own ∙ put_last)
+
+        -- it has the time, also where records were counted anew
+        has_times : ((h : Holding) → IsShown w dir h → uncounted (dinode_in (holding_over u h)) ≡ uncounted (dinode_in h)) → HasTimes (dinode_of after) time
+        has_times same =
+            subst (λ d. HasTimes d time) (dinode_by (holding_over u then) after bytes_are)
+            (times_kept (dinode_in first) (dinode_in then) (dinode_in (holding_over u then)) time (touched_in first first_shown).dinode (same then then_shown))
+
+        -- and no other byte than those of the dinode and of the records changes
+        laid_over : IsView v → ((h : Holding) → IsShown w dir h → IsLaidOver (bytes_at h h.own) (bytes_at (holding_over u h) h.own)) → (prior : List ℕ) → v.block_at dir ≡ Some prior → IsLaidOver prior after
+        laid_over view laid prior before = subst₂ IsLaidOver was bytes_are
+            (laid_touched w first time (bytes_at (holding_over u then) then.own) (touched_in first first_shown) (subst (λ bytes. dinode_length ≤ length bytes) (sym was) (block_large v view dir prior before)) (laid then then_shown))
+          where
+            was : bytes_at first first.own ≡ prior
+            was = bytes_of v first dir prior first_shown before
 
       pub name_taken : HasBlock (seen old.view) dir → IsLinearIn (seen old.view) dir → ((h : Holding) → IsShown (seen old.view) dir h → height_in h ≡ 0) → (last : Drafted V) (name after : List ℕ) → last ≡ record mid { fates = insert mid.fates dir (Put (inode_lock dir) false after) }
           → ((h : Holding) (r : Record) → IsShown (seen_in seen mid) dir h → record_named (records_of h) name ≡ Some r → HasExchanged h (holding_over (seen_in seen last) h) (r ∷ []) [])
           → ((h : Holding) → IsShown (seen_in seen mid) dir h → uncounted (dinode_in (holding_over (seen_in seen last) h)) ≡ uncounted (dinode_in h))
           → ((h : Holding) → IsShown (seen_in seen mid) dir h → IsCutFrom h (holding_over (seen_in seen last) h) name)
+          → ((h : Holding) → IsShown (seen_in seen mid) dir h → IsLaidOver (bytes_at h h.own) (bytes_at (holding_over (seen_in seen last) h) h.own)) → IsView (seen old.view)
           → IsNameTaken (seen old.view) dir name time last.fates
-      name_taken there linear stuffed last name after then removed same cut =
+      name_taken there linear stuffed last name after then removed same cut laid view =
           let seen_last : seen_in seen last ≡ seen_with (seen old.view) last.fates = ap (λ x. seen_with (seen x) last.fates) (ap (λ (d : Drafted V). d.view) then ∙ mid_view) in
+          let put_last : (seen_in seen last).block_at dir ≡ Some after =
+          ap (λ f. block_with f ((seen last.view).block_at dir)) (ap (λ (d : Drafted V). get d.fates dir) then ∙ put_at mid.fates dir (Put (inode_lock dir) false after)) in
           record {
             first = mid.fates;
             touches = touches;
@@ -147,8 +175,8 @@ module _ {V : Type 0} (seen : V → Seen) (old : Drafted V) (new : old.fates ≡
               cut = λ h shown. subst (λ w. IsCutFrom h (holding_over w h) name) seen_last (cut h (subst (λ w. IsShown w dir h) (sym seen_mid) shown));
               dinode = λ h shown. subst (λ w. uncounted (dinode_in (holding_over w h)) ≡ uncounted (dinode_in h)) seen_last (same h (subst (λ w. IsShown w dir h) (sym seen_mid) shown));
             };
-            times = has_times there linear stuffed last after
-                (ap (λ f. block_with f ((seen last.view).block_at dir)) (ap (λ (d : Drafted V). get d.fates dir) then ∙ put_at mid.fates dir (Put (inode_lock dir) false after))) same;
+            times = has_times there linear stuffed last after put_last same;
+            bytes = laid_over there linear stuffed last after put_last view laid;
           }
 
 -- ---- and then blocks are freed

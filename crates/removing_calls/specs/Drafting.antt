@@ -15,7 +15,7 @@ use Rattle.glock_names.specs.Views.{Seen, IsView}
 use Rattle.dinode_tree.specs.Reading.{inode_lock}
 use Rattle.dinode_tree.specs.Shown.{IsShown}
 use Rattle.linear_dirs.specs.Broken.{IsBroken}
-use Rattle.linear_dirs.specs.Exchanges.{HasExchanged, IsCutFrom, uncounted}
+use Rattle.linear_dirs.specs.Exchanges.{HasExchanged, IsCutFrom, IsLaidOver, uncounted}
 use Rattle.linear_dirs.specs.Shown.{holding_over}
 use Rattle.new_inodes.specs.Touched.{IsTouched}
 use Rattle.resource_groups.specs.Freeing.{AreFreed, KeepsRest, BreaksSome}
@@ -41,12 +41,13 @@ pub record TakesName (v : Seen) (before : FinMap nat_cmp Fate) (dir : ℕ) (name
 abbrev pub HasTimes : Dinode → ℕ → Type 0
 HasTimes d time = (d.mtime ≡ time) × (d.ctime ≡ time)
 
--- both, one after the other, and the dinode has the time still
+-- both, one after the other; the dinode has the time still, and no other byte of the directory's block changes
 pub record IsNameTaken (v : Seen) (dir : ℕ) (name : List ℕ) (time : ℕ) (fates : FinMap nat_cmp Fate) : Type 0 where
   pub first : FinMap nat_cmp Fate
   pub touches : TouchesAlone v dir time first
   pub takes : TakesName v first dir name fates
   pub times : HasTimes (dinode_of takes.bytes) time
+  pub bytes : (old : List ℕ) → v.block_at dir ≡ Some old → IsLaidOver old takes.bytes
 
 -- Over that draft blocks are freed, and the change is that of the draft that comes of it.
 pub record IsFreedAndDone {V : Type 0} (seen : V → Seen) (old : Drafted V) (blocks : List ℕ) (change : Change) : Type 0 where
