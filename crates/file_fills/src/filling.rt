@@ -11,7 +11,7 @@ ghost use Rattle.dinode_tree.specs.Reading.{IsNeeded};
 ghost use Rattle.dinode_tree.specs.Shown.{IsShown};
 ghost use Rattle.growth_laws.specs.Files.{IsFile};
 ghost use Rattle.growth_drafts.specs.Taken.{HasBytes};
-ghost use Rattle.file_walks.specs.Walks.{IsPlace, IsStop};
+ghost use Rattle.file_walks.specs.Walks.{IsPlace, IsStop, LeadsOn};
 ghost use Rattle.file_fills.specs.Filling.{HasFilled, IsRoomFor, IsSeenWay};
 ghost use Rattle.file_fills.specs.Progress.{HasBlockAt, HasCome};
 
@@ -47,6 +47,7 @@ pub fn way_to<V: View>(view: &V, inode: u64, index: u64) -> Option<Stop>
     ensures there { IfSome result (λ stop. HasBlock (V.seen view.now) stop.pointer.from) }
     ensures fits { IfSome result (λ stop. stop.pointer.start + 8 * stop.pointer.index + 8 ≤ (V.seen view.now).size) }
     ensures block { IfSome result (λ stop. stop.block ≢ 0 → HasBlock (V.seen view.now) stop.block) }
+    ensures leads { (h : Holding) → IsShown (V.seen view.now) inode h → IfSome result (LeadsOn h 0 index) }
 {
     match find_place(view, inode, 0, index) {
         Ok(Step::Is(Some(stop))) => seen_stop(view, stop),
