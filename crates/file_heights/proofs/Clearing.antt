@@ -1,33 +1,38 @@
 -- A file in blocks whose end is clear.
-use Rattle.std.proofs.Common.{◌≡◌, ◌≢◌, ◌⊎◌, inl, inr, Bool, true, false, Option, None, Some, ℕ, zero, suc, ◌+◌, ◌-◌, ◌*◌, ◌/◌, ◌%◌, ◌<◌, ◌≤◌, List, [], length, refl, sym, ap, ap₂, subst, ◌∙◌, arith}
-use Rattle.std.proofs.lemmas.Bool.{cond-true, eq-eqb}
+use Rattle.std.proofs.Common.{◌≡◌, ◌≢◌, ◌⊎◌, inl, inr, Bool, true, false, Option, ℕ, ◌+◌, ◌-◌, ◌*◌, ◌/◌, ◌%◌, ◌<◌, ◌≤◌, List, [], ◌∷◌, refl, sym, ap, subst, ◌∙◌, arith}
+use Rattle.std.proofs.lemmas.Bool.{cases_eq}
 use Rattle.std.proofs.lemmas.Nat.{div-add-mod'}
-use Rattle.std.proofs.Math.Nat.{div-eq_of_lt-le, div-mul-le_self, lt-mul-div-succ, mod-lt}
+use Rattle.std.proofs.Math.Nat.{div-eq_of_lt-le, div-mul-le_self, lt-mul-div-succ}
 use Rattle.std.specs.Prelude.{is_some, not, ◌==◌, if◌then◌else◌, count_by}
 use Rattle.std.specs.List.{range_with_len}
-use Rattle.std.specs.FinMap.{FinMap}
+use Rattle.std.specs.FinMap.{FinMap, insert}
 use Rattle.std.specs.Ordering.{nat_cmp}
+use Rattle.drafts.specs.Fates.{Drafted, seen_with}
 use Rattle.drafts.specs.declared.fate.Fate.{Fate}
+use Rattle.drafts.specs.declared.fate.Fate.TheVariants.{Put}
 use Rattle.gfs2_layout.specs.Bytes.{u64_at}
 use Rattle.gfs2_layout.specs.Holding.{Cell, Holding}
-use Rattle.gfs2_layout.specs.Inode.{block_count, content_block, content_count, content_of, dinode_in, fan, height_in, pieces}
+use Rattle.gfs2_layout.specs.Inode.{block_count, content_count, content_of, dinode_in, fan, height_in, pieces}
 use Rattle.gfs2_layout.specs.Structures.{dinode_length}
-use Rattle.gfs2_layout.specs.declared.dinode.Dinode.{Dinode}
 use Rattle.glock_names.specs.Views.{Seen}
+use Rattle.glock_names.specs.declared.LockName.{LockName}
+use Rattle.dinode_tree.specs.Below.{IsBelow}
 use Rattle.dinode_tree.specs.Shown.{IsShown}
 use Rattle.growth_laws.specs.Files.{IsFile, with_cells}
 use Rattle.growth_laws.specs.Need.{has_content, needed_below}
 use Rattle.growth_laws.specs.Steps.{IsClearFrom, IsContentPut}
-use Rattle.growth_laws.proofs.Contents.{whole_unit}
+use Rattle.growth_laws.proofs.Contents.{content_place, whole_unit}
 use Rattle.growth_laws.proofs.Counting.{count_same}
 use Rattle.growth_laws.proofs.Ends.{holes_are_clear, whole_files_are_clear}
 use Rattle.growth_laws.proofs.Fills.{some_by_part}
 use Rattle.growth_laws.proofs.Places.{content_is_level_zero, size_large}
 use Rattle.growth_laws.proofs.Puts.{dinode_same, file_after, own_bytes}
 use Rattle.growth_laws.proofs.Staying.{puts_keep_need}
+use Rattle.growth_drafts.specs.Touched.{Follows, as_it_was}
+use Rattle.growth_drafts.proofs.Following.{follows_draft, follows_one}
 use Rattle.growth_drafts.proofs.Rooms.{none_in}
 use Rattle.growth_steps.specs.Becoming.{Becomes}
-use Rattle.file_walks.specs.Walks.{IsStop}
+use Rattle.file_walks.specs.Walks.{IsPlace, IsStop}
 use Rattle.file_walks.specs.declared.walks.Stop.{Stop}
 use Rattle.file_heights.specs.Grown.{HasCleared, IsRisen}
 use Rattle.file_heights.proofs.Joining.{risen_none}
@@ -48,6 +53,14 @@ last_count h last file size =
     let whole : last + 1 + h.size - 1 ≡ last + h.size = omega (arith, some) in
     sym (in_sizes h file ∙ ap (λ n. pieces n h.size) size ∙ ap (λ n. n / h.size) whole
     ∙ div-eq_of_lt-le h.size (let low : (last / h.size + 1) * h.size ≤ last + h.size = omega (arith, from) in low) (let high : last + h.size < (last / h.size + 1 + 1) * h.size = omega (arith, until) in high))
+
+pub last_place : (h : Holding) (last size : ℕ) → IsFile h → height_in h ≢ 0 → (dinode_in h).size ≡ last + 1 → size ≡ h.size
+    → (last / size + 1 ≡ content_count h) × IsPlace h 0 (last / size) × (last / size * h.size + (last % size + 1) ≡ (dinode_in h).size)
+last_place h last size file high is same =
+    let count : last / size + 1 ≡ content_count h = ap (λ n. last / n + 1) same ∙ last_count h last file is in
+    let at = content_place h (last / size) file high (omega (arith, count)) in
+    let whole : last / size * h.size + last % size ≡ last = ap (λ n. last / size * n + last % size) (sym same) ∙ div-add-mod' last size in
+    (count, record { low = at.0; within = at.1 }, omega (arith, whole, is))
 
 -- ---- nothing is put
 
@@ -111,10 +124,32 @@ module _ (old new : FinMap nat_cmp Fate) (after : Seen) (inode : ℕ) (h : Holdi
     along = λ has. has_same ∙ has;
   }
 
-  pub end_is_clear : IsShown after inode h → HasCleared after old new h
-  end_is_clear shown = record {
+  pub end_is_clear : h.own ≡ inode → HasCleared after old new h
+  end_is_clear own = record {
     cell = cell;
-    shown = subst (λ a. IsShown after a (with_cells h cell)) (sym shown.own) becomes.shown;
+    shown = subst (λ a. IsShown after a (with_cells h cell)) (sym own) becomes.shown;
     same = put_is_risen;
     clear = clear;
   }
+
+-- ---- what is touched
+
+same_bytes_or : (xs ys : List ℕ) → (xs ≡ ys) ⊎ (xs ≢ ys)
+same_bytes_or [] [] = inl refl
+same_bytes_or [] (y ∷ ys) = inr (λ e. let both = e in absurd (cc))
+same_bytes_or (x ∷ xs) [] = inr (λ e. let both = e in absurd (cc))
+same_bytes_or (x ∷ xs) (y ∷ ys) = elim (cases_eq x y) [
+  | inl same ↦ elim (same_bytes_or xs ys) [
+    | inl rest ↦ inl (λ t. same t ∷ rest t)
+    | inr apart ↦ inr (λ e. apart (let tails : xs ≡ ys = cc in tails))
+  ]
+  | inr apart ↦ inr (λ e. apart (let heads : x ≡ y = cc in heads))
+]
+
+pub cleared_follows : {V : Type 0} (v : Seen) (inode : ℕ) (room : List ℕ) (old now : Drafted V) (block : ℕ) (bytes new : List ℕ) (lock : LockName) (plain : Bool)
+    → ((h : Holding) → IsShown (seen_with v old.fates) inode h → IsBelow h block)
+    → (bytes ≢ new → now ≡ record old { fates = insert old.fates block (Put lock plain new) }) → (bytes ≡ new → now ≡ old) → Follows v inode room old.fates now.fates
+cleared_follows {V} v inode room old now block bytes new lock plain below put left = elim (same_bytes_or bytes new) [
+  | inl same ↦ subst (Follows v inode room old.fates) (sym (ap (λ (d : Drafted V). d.fates) (left same))) (as_it_was old.fates)
+  | inr apart ↦ follows_draft v inode room old now _ (put apart) (follows_one v inode room old.fates block (Put lock plain new) (inr (inr below)))
+]

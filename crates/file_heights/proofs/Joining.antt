@@ -1,17 +1,17 @@
 -- A file that grows, one step after another.
-use Rattle.std.proofs.Common.{◌≡◌, ◌≢◌, ◌⊎◌, inl, inr, Option, None, Some, ℕ, ◌+◌, ◌≤◌, List, [], ◌++◌, length, refl, sym, ap, subst, ◌∙◌, arith, length-append, append_assoc}
+use Rattle.std.proofs.Common.{◌≡◌, inl, inr, Option, ℕ, ◌+◌, ◌≤◌, List, [], ◌++◌, refl, sym, ap, subst, ◌∙◌, arith, length-append, append_assoc}
 use Rattle.std.proofs.lemmas.List.Elements.{Contains-append_left, Contains-append_right, Contains-append_cases}
-use Rattle.std.specs.Prelude.{Contains, IsSome, true}
+use Rattle.std.specs.Prelude.{IsSome}
 use Rattle.std.specs.FinMap.{FinMap}
 use Rattle.std.specs.Ordering.{nat_cmp}
 use Rattle.drafts.specs.declared.fate.Fate.{Fate}
-use Rattle.gfs2_layout.specs.Holding.{Cell, Holding, part_at}
+use Rattle.gfs2_layout.specs.Holding.{Cell, Holding}
 use Rattle.gfs2_layout.specs.Inode.{block_count, content_of, dinode_in, height_in}
 use Rattle.gfs2_layout.specs.declared.dinode.Dinode.{Dinode}
 use Rattle.glock_names.specs.Views.{Seen}
 use Rattle.dinode_tree.specs.Shown.{IsShown}
 use Rattle.growth_laws.specs.Files.{IsFile, with_cells}
-use Rattle.growth_laws.specs.Need.{has_content, needed_below}
+use Rattle.growth_laws.specs.Need.{needed_below}
 use Rattle.growth_laws.specs.Steps.{IsClearFrom}
 use Rattle.growth_drafts.specs.Taken.{AreFreeFor, HasTaken}
 use Rattle.growth_drafts.proofs.Rooms.{free_left, none_in}
@@ -117,6 +117,18 @@ has_risen_then before after f0 f1 f2 room between left h m n d d' up a b = recor
   from_front = a.from_front ∙ ap (λ xs. a.taken ++ xs) b.from_front ∙ sym (append_assoc a.taken b.taken left);
   dinode = b.dinode;
 }
+
+-- the same file, as a draft shows it that does nothing
+pub has_risen_none : (after : Seen) (fates : FinMap nat_cmp Fate) (inode : ℕ) (room : List ℕ) (h : Holding) (d : Dinode) → IsFile h → IsShown after inode h → d ≡ dinode_in h → HasRisen after fates fates room room h d.height d
+has_risen_none after fates inode room h d file shown d_is =
+    subst (λ n. HasRisen after fates fates room room h n d) (ap (λ (x : Dinode). x.height) (sym d_is)) (record {
+      cell = h.cell;
+      taken = [];
+      shown = subst (λ a. IsShown after a h) (sym shown.own) shown;
+      risen = risen_none fates h file;
+      from_front = refl;
+      dinode = d_is;
+    })
 
 -- what is left of the room
 pub room_left : (after : Seen) (f0 f1 : FinMap nat_cmp Fate) (room left : List ℕ) (h : Holding) (height : ℕ) (d : Dinode) → AreFreeFor h room → (a : HasRisen after f0 f1 room left h height d) → AreFreeFor (with_cells h a.cell) left

@@ -1,11 +1,11 @@
 -- A file whose height rises by a step, or without a block.
-use Rattle.std.proofs.Common.{◌≡◌, ◌≢◌, ◌⊎◌, inl, inr, Bool, true, false, Option, None, Some, ℕ, zero, suc, ◌+◌, ◌-◌, ◌*◌, ◌<◌, ◌≤◌, Result, Ok, Err, OnOk, List, [], ◌∷◌, length, refl, sym, ap, subst, ◌∙◌, arith}
-use Rattle.std.proofs.lemmas.Bool.{cases_eq, cond-true, eq-eqb}
+use Rattle.std.proofs.Common.{◌≡◌, ◌≢◌, ◌⊎◌, inl, inr, true, false, Option, None, ℕ, zero, suc, ◌+◌, ◌-◌, ◌<◌, ◌≤◌, List, [], ◌∷◌, refl, sym, ap, subst, ◌∙◌, arith}
+use Rattle.std.proofs.lemmas.Bool.{cases_eq, cond-true, eq-eqb, ne_eqb}
 use Rattle.std.specs.Prelude.{Contains, IsSome, is_some, ◌↔◌, not, ◌==◌}
 use Rattle.std.specs.FinMap.{FinMap}
 use Rattle.std.specs.Ordering.{nat_cmp}
 use Rattle.drafts.specs.declared.fate.Fate.{Fate}
-use Rattle.gfs2_layout.specs.Holding.{Pointed, Cell, Holding, cell_part, part_at}
+use Rattle.gfs2_layout.specs.Holding.{Cell, Holding, part_at}
 use Rattle.gfs2_layout.specs.Inode.{block_count, content_of, dinode_in, fan, height_in, pointer}
 use Rattle.gfs2_layout.specs.Structures.{dinode_length}
 use Rattle.gfs2_layout.specs.declared.dinode.Dinode.{Dinode}
@@ -13,24 +13,24 @@ use Rattle.glock_names.specs.Views.{Seen}
 use Rattle.dinode_tree.specs.Shown.{IsShown}
 use Rattle.dinode_tree.proofs.Sound.{is_there}
 use Rattle.growth_laws.specs.Files.{IsFile, IsPlaced, with_cells}
-use Rattle.growth_laws.specs.Need.{has_content, needed_below}
+use Rattle.growth_laws.specs.Need.{capacity, has_content, height_for, needed_below, raised_to}
 use Rattle.growth_laws.specs.Steps.{IsBareTo, IsRaised, IsUnstuffed, moved, moved_from}
 use Rattle.growth_laws.proofs.Bare.{bare_files_change_height}
 use Rattle.growth_laws.proofs.Counting.{count_same}
 use Rattle.growth_laws.proofs.Ends.{bare_files_are_clear, moved_content_is_clear, rises_stay_clear}
 use Rattle.growth_laws.proofs.Fills.{some_by_part}
-use Rattle.growth_laws.proofs.Heights.{bare_files_have_no_block}
+use Rattle.growth_laws.proofs.Heights.{bare_files_have_no_block, capacity_reaches, heights_reach}
 use Rattle.growth_laws.proofs.Places.{size_large}
 use Rattle.growth_laws.proofs.Raises.{raises_keep_files, some_same, unmoved}
 use Rattle.growth_laws.proofs.Rising.{has_some, raises_lower_need, unstuffing_lowers_need}
 use Rattle.growth_laws.proofs.Staying.{bare_heights_keep_need}
 use Rattle.growth_laws.proofs.Unstuffing.{unstuffing_keeps_files}
-use Rattle.growth_drafts.specs.Taken.{HasTaken}
+use Rattle.growth_drafts.specs.Taken.{AreFreeFor, HasTaken}
 use Rattle.growth_drafts.proofs.Rooms.{none_in, none_some, only_in}
 use Rattle.growth_steps.specs.Becoming.{Becomes}
-use Rattle.growth_steps.specs.Heights.{CanBeBare, CanRise, HasStuffed, IsNewTo}
+use Rattle.growth_steps.specs.Heights.{CanBeBare, CanRise, IsNewTo}
 use Rattle.file_fills.proofs.Counted.{pointers_go_along}
-use Rattle.file_heights.specs.Grown.{HasRisen, IsGrown, IsRisen}
+use Rattle.file_heights.specs.Grown.{CanGrow, HasRisen, IsRisen}
 
 -- ---- content that goes along
 
@@ -178,3 +178,81 @@ module _ (old new : FinMap nat_cmp Fate) (after : Seen) (inode : ℕ) (h : Holdi
       clear = λ high clear. bare_files_are_clear h cell height (dinode_in h).size file bare high;
       along = λ has. let both : true ≡ false = sym has ∙ none_along in absurd (cc);
     }
+
+-- ---- as the draft shows it
+
+pub moved_has : (after : Seen) (old new : FinMap nat_cmp Fate) (inode b : ℕ) (h : Holding) (cell : ℕ → Option Cell) (d : Dinode) (left : List ℕ) → IsFile h → h.own ≡ inode → d ≡ dinode_in h → d.height ≡ 0 → IsUnstuffed h cell b
+    → Becomes after old new inode h (with_cells h cell) → HasRisen after old new (b ∷ left) left h (d.height + 1) (record d { height = d.height + 1 })
+moved_has after old new inode b h cell d left file own d_is stuffed moved_out becomes =
+    let one : 1 ≡ d.height + 1 = omega (arith, stuffed) in
+    record {
+      cell = cell;
+      taken = b ∷ [];
+      shown = subst (λ a. IsShown after a (with_cells h cell)) (sym own) becomes.shown;
+      risen = subst (λ n. IsRisen old new h cell n (b ∷ [])) one (moved_is_risen old new after inode h cell file becomes b moved_out);
+      from_front = refl;
+      dinode = (λ t. record (d_is t) { height = sym one t }) ∙ sym moved_out.dinode;
+    }
+
+pub raised_has : (after : Seen) (old new : FinMap nat_cmp Fate) (inode level b : ℕ) (h : Holding) (cell : ℕ → Option Cell) (d : Dinode) (left : List ℕ) → IsFile h → h.own ≡ inode → d ≡ dinode_in h → IsRaised h cell level b
+    → Becomes after old new inode h (with_cells h cell) → HasRisen after old new (b ∷ left) left h (d.height + 1) (record d { height = d.height + 1 })
+raised_has after old new inode level b h cell d left file own d_is raised becomes =
+    let high : d.height ≡ suc level = ap (λ (x : Dinode). x.height) d_is ∙ raised.high in
+    let more : suc (suc level) ≡ d.height + 1 = omega (arith, high) in
+    record {
+      cell = cell;
+      taken = b ∷ [];
+      shown = subst (λ a. IsShown after a (with_cells h cell)) (sym own) becomes.shown;
+      risen = subst (λ n. IsRisen old new h cell n (b ∷ [])) more (raised_is_risen old new after inode h cell file becomes level b raised);
+      from_front = refl;
+      dinode = (λ t. record (d_is t) { height = sym more t }) ∙ sym raised.dinode;
+    }
+
+pub bare_has : (after : Seen) (old new : FinMap nat_cmp Fate) (inode height : ℕ) (room : List ℕ) (h : Holding) (cell : ℕ → Option Cell) (d : Dinode) → IsFile h → h.own ≡ inode → d ≡ dinode_in h → has_content h ≡ false → IsBareTo h cell height
+    → Becomes after old new inode h (with_cells h cell) → HasRisen after old new room room h height (record d { height = height })
+bare_has after old new inode height room h cell d file own d_is none bare becomes = record {
+  cell = cell;
+  taken = [];
+  shown = subst (λ a. IsShown after a (with_cells h cell)) (sym own) becomes.shown;
+  risen = bare_is_risen old new after inode h cell file becomes height none bare;
+  from_front = refl;
+  dinode = ap (λ (x : Dinode). record x { height = height }) d_is ∙ sym bare.dinode;
+}
+
+-- the room's first block is new to the file
+pub first_is_new : (h : Holding) (b : ℕ) (left : List ℕ) → AreFreeFor h (b ∷ left) → IsNewTo h b
+first_is_new h b left free =
+    let here : Contains (b ∷ left) b = (0, omega arith, refl) in
+    record { new = free.new b here; some = λ none. free.some (subst (Contains (b ∷ left)) none here); inside = free.inside b here }
+
+-- what lets a file be so high
+pub can_rise : (h : Holding) (level : ℕ) → height_in h ≡ suc level → suc level < 10 → has_content h ≡ true → CanRise h level
+can_rise h level high low has = record { high = high; low = omega (arith, low); leads = led_along h (λ none. omega (arith, none, high)) has }
+
+-- ---- the height that is worked out
+
+pub height_is : (h : Holding) (d : Dinode) (size block height : ℕ) → block ≡ h.size → d ≡ dinode_in h → height ≡ raised_to block d.height size (10 - d.height) → height ≡ height_for h size
+height_is h d size block height block_is d_is is = is ∙ (λ t. raised_to (block_is t) (d_is t).height size (10 - (d_is t).height))
+
+-- a file without content to go along can be so high
+pub can_be_bare : (h : Holding) (size height : ℕ) (room : List ℕ) → CanGrow h size room → height ≡ height_for h size → has_content h ≡ false → CanBeBare h height
+can_be_bare h size height room can is none = record {
+  bare = λ b from k level first. bare_files_have_no_block h b from k level first can.file none;
+  low = omega (arith, is, reach.1);
+  enough = λ level e. capacity_reaches h (dinode_in h).size level can.file
+      (let fits : (dinode_in h).size ≤ capacity h.size height = subst (λ n. (dinode_in h).size ≤ capacity h.size n) (sym is) (omega (arith, can.least, reach.2)) in subst (λ n. (dinode_in h).size ≤ capacity h.size n) e fits);
+  from_stuffed = empty;
+  to_stuffed = λ e. empty (omega (arith, e, is, reach.0));
+}
+  where
+    reach : (height_in h ≤ height_for h size) × (height_for h size ≤ 10) × (size ≤ capacity h.size (height_for h size))
+    reach = heights_reach h size can.file can.short
+
+    empty : height_in h ≡ 0 → (dinode_in h).size ≡ 0
+    empty stuffed = elim (cases_eq (dinode_in h).size 0) [
+      | inl zero_size ↦ zero_size
+      | inr some ↦
+          let has : has_content h ≡ true = cond-true _ _ _ (eq-eqb (height_in h) 0 stuffed) ∙ ap not (ne_eqb (dinode_in h).size 0 some) in
+          let both : true ≡ false = sym has ∙ none in
+          absurd (cc)
+    ]

@@ -1,5 +1,5 @@
 -- A file that grows in a draft: what stays of it, what it gets, and how high it becomes.
-use Rattle.std.specs.Prelude.{ℕ, ◌≡◌, ◌≢◌, ◌⊎◌, ◌↔◌, ◌+◌, ◌≤◌, IsSome, true, List, [], ◌++◌, length, Contains, Option}
+use Rattle.std.specs.Prelude.{ℕ, ◌≡◌, ◌≢◌, ◌↔◌, ◌+◌, ◌≤◌, IsSome, true, List, [], ◌++◌, length, Option}
 use Rattle.std.specs.FinMap.{FinMap}
 use Rattle.std.specs.Ordering.{nat_cmp}
 use Rattle.drafts.specs.declared.fate.Fate.{Fate}
@@ -44,9 +44,10 @@ pub record HasRisen (after : Seen) (old new : FinMap nat_cmp Fate) (room left : 
   pub from_front : room ≡ taken ++ left
   pub dinode : d ≡ dinode_in (with_cells h cell)
 
--- a file that can get so many bytes: where it has content that goes along, the room has a block for each new level
+-- a file that is to have so many bytes, no fewer than it has: where it has content that goes along, the room has a block for each new level
 pub record CanGrow (h : Holding) (size : ℕ) (room : List ℕ) : Type 0 where
   pub file : IsFile h
+  pub least : (dinode_in h).size ≤ size
   pub short : size ≤ file_limit
   pub free : AreFreeFor h room
   pub enough : has_content h ≡ true → height_for h size ≤ height_in h + length room
@@ -59,9 +60,3 @@ pub record HasCleared (after : Seen) (old new : FinMap nat_cmp Fate) (h : Holdin
   pub shown : IsShown after h.own (with_cells h cell)
   pub same : IsRisen old new h cell (height_in h) []
   pub clear : IsClearFrom (with_cells h cell) (dinode_in h).size
-
--- ---- what is touched
-
--- the dinode's block, and the room
-abbrev pub IsOwnOrRoom : ℕ → List ℕ → ℕ → Type 0
-IsOwnOrRoom inode room b = (b ≡ inode) ⊎ Contains room b

@@ -1,13 +1,12 @@
 // The end of a file in blocks.
-ghost use Rattle.std.specs.Prelude.{ℕ, ◌≡◌, ◌≢◌, ◌⊎◌, ◌+◌, true, IfOk, OnOk};
+ghost use Rattle.std.specs.Prelude.{ℕ, List, ◌≡◌, ◌≢◌, ◌⊎◌, ◌+◌, true, IfOk, OnOk};
 ghost use Rattle.drafts.specs.Fates.{seen_in};
 ghost use Rattle.gfs2_layout.specs.Holding.{Holding};
 ghost use Rattle.gfs2_layout.specs.Inode.{content_count, dinode_in, height_in};
 ghost use Rattle.glock_names.specs.Views.{HasBlock};
-ghost use Rattle.dinode_tree.specs.Below.{IsBelow};
 ghost use Rattle.dinode_tree.specs.Shown.{IsShown};
 ghost use Rattle.growth_laws.specs.Files.{IsFile};
-ghost use Rattle.growth_drafts.specs.Touched.{TouchesOnly};
+ghost use Rattle.growth_drafts.specs.Touched.{Follows};
 ghost use Rattle.file_fills.specs.Filling.{IsSeenWay};
 ghost use Rattle.file_heights.specs.Grown.{HasCleared};
 
@@ -31,7 +30,7 @@ pub fn clear_last<V: View>(
         → IfOk result (λ done. (done ≡ true) × HasCleared (seen_in V.seen draft.new) draft.old.fates draft.new.fates h) }
     ensures view { draft.new.view ≡ draft.old.view }
     ensures still { (b : ℕ) → HasBlock (seen_in V.seen draft.old) b → OnOk result (HasBlock (seen_in V.seen draft.new) b) }
-    ensures within { (h : Holding) → IsShown (seen_in V.seen draft.old) inode h → OnOk result (TouchesOnly (IsBelow h) draft.old.fates draft.new.fates) }
+    ensures within { (room : List ℕ) → OnOk result (Follows (V.seen draft.old.view) inode room draft.old.fates draft.new.fates) }
 {
     if dinode.size == 0 {
         return Ok(true);

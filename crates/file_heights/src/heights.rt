@@ -9,9 +9,9 @@ ghost use Rattle.dinode_tree.specs.Shown.{IsShown};
 ghost use Rattle.growth_laws.specs.Files.{IsFile};
 ghost use Rattle.growth_laws.specs.Need.{has_content, height_for as height_for_size, raised_to};
 ghost use Rattle.growth_drafts.specs.Taken.{AreFreeFor};
-ghost use Rattle.growth_drafts.specs.Touched.{TouchesOnly};
+ghost use Rattle.growth_drafts.specs.Touched.{Follows};
 ghost use Rattle.growth_steps.specs.Heights.{IsNewTo};
-ghost use Rattle.file_heights.specs.Grown.{CanGrow, HasRisen, IsOwnOrRoom};
+ghost use Rattle.file_heights.specs.Grown.{CanGrow, HasRisen};
 
 use drafts::Draft;
 use file_fills::{goes_along, height_for};
@@ -31,13 +31,14 @@ fn raise_once<V: View>(
     block: u64,
 ) -> Result<(), NoMemory>
     requires there { HasBlock (seen_in V.seen draft.old) inode }
+    requires room { dinode_length + 8 ≤ (V.seen draft.old.view).size }
     requires low { dinode.now.height < 10 }
     requires stuffed { dinode.now.height ≡ 0 → dinode_length + dinode.now.size ≤ (V.seen draft.old.view).size }
     ensures risen { (h : Holding) (left : List ℕ) → IsFile h → IsShown (seen_in V.seen draft.old) inode h → dinode.now ≡ dinode_in h → has_content h ≡ true → IsNewTo h block
         → OnOk result (HasRisen (seen_in V.seen draft.new) draft.old.fates draft.new.fates (block ∷ left) left h (dinode.now.height + 1) (record dinode.now { height = dinode.now.height + 1 })) }
     ensures view { draft.new.view ≡ draft.old.view }
     ensures still { OnOk result (HasBlock (seen_in V.seen draft.new) inode) }
-    ensures within { (left : List ℕ) → OnOk result (TouchesOnly (IsOwnOrRoom inode (block ∷ left)) draft.old.fates draft.new.fates) }
+    ensures within { (left : List ℕ) → OnOk result (Follows (V.seen draft.old.view) inode (block ∷ left) draft.old.fates draft.new.fates) }
 {
     if dinode.height == 0 {
         return move_content(alloc, draft, inode, dinode, block);
@@ -55,6 +56,7 @@ fn raise_to<V: View>(
     room: &mut VecDeque<u64>,
 ) -> Result<Option<Dinode>, NoMemory>
     requires there { HasBlock (seen_in V.seen draft.old) inode }
+    requires room { dinode_length + 8 ≤ (V.seen draft.old.view).size }
     requires low { height ≤ 10 }
     requires higher { dinode.now.height ≤ height }
     requires stuffed { dinode.now.height ≡ 0 → dinode_length + dinode.now.size ≤ (V.seen draft.old.view).size }
@@ -63,7 +65,7 @@ fn raise_to<V: View>(
         → IfOk result (λ risen. IsSomeAnd risen (HasRisen (seen_in V.seen draft.new) draft.old.fates draft.new.fates room.old.items room.new.items h height)) }
     ensures view { draft.new.view ≡ draft.old.view }
     ensures still { OnOk result (HasBlock (seen_in V.seen draft.new) inode) }
-    ensures within { OnOk result (TouchesOnly (IsOwnOrRoom inode room.old.items) draft.old.fates draft.new.fates) }
+    ensures within { OnOk result (Follows (V.seen draft.old.view) inode room.old.items draft.old.fates draft.new.fates) }
 {
     let mut high = *dinode;
     while high.height < height {
@@ -107,7 +109,7 @@ pub fn grow<V: View>(
         → IfOk result (λ grown. IsSomeAnd grown (HasRisen (seen_in V.seen draft.new) draft.old.fates draft.new.fates room.old.items room.new.items h (height_for_size h size))) }
     ensures view { draft.new.view ≡ draft.old.view }
     ensures still { OnOk result (HasBlock (seen_in V.seen draft.new) inode) }
-    ensures within { OnOk result (TouchesOnly (IsOwnOrRoom inode room.old.items) draft.old.fates draft.new.fates) }
+    ensures within { OnOk result (Follows (V.seen draft.old.view) inode room.old.items draft.old.fates draft.new.fates) }
 {
     let height = height_for(draft.block_size() as usize, dinode.height, size);
     if height == dinode.height {
