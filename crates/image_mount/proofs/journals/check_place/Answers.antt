@@ -1,10 +1,9 @@
-use Rattle.std.proofs.Common.{◌≡◌, ◌≢◌, ◌<◌, Some, true, sym, ◌∙◌, arith}
-use Rattle.std.specs.Prelude.{slice_get}
+use Rattle.std.proofs.Common.{◌≡◌, ◌≢◌, ℕ, ◌<◌, true, arith}
 use Rattle.gfs2_layout.specs.Device.{superblock_place}
-use Rattle.image_mount.specs.Kept.{seen_of}
-use Rattle.image_mount.proofs.Causes.{lacks}
-use Rattle.image_mount.proofs.Marked.{unmarked}
-use Rattle.image_mount.proofs.Marks.{free_block, in_groups, place_beyond, place_outside, place_again, place_kept, outside_groups, above_super, some_ok}
+use Rattle.image_mount.specs.Marked.{of_place, of_leaf, of_kept}
+use Rattle.image_mount.specs.Refusals.{RefusesRightly}
+use Rattle.image_mount.specs.Searching.{IsWanted}
+use Rattle.image_mount.proofs.Marks.{in_groups, place_beyond, place_outside, place_again, place_kept, outside_groups, above_super}
 use Rattle.image_mount.proofs.journals.check_place.Goals as goal
 use Rattle.image_mount.proofs.journals.check_place.Goals.{then-located-count-via-then-located-count, then-located-count-via-else-located-count+then-not-is_data}
 
