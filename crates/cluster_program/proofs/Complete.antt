@@ -94,7 +94,7 @@ module _ (words : List (List ℕ)) (given left : Inputs) (sinks sinks_now : Outp
   of_make make few room own (IsTooSmall needed few' lacks least same) = let both : true ≡ false = sym room ∙ lacks in cc
   of_make make few room own (LacksMemory few' room' same) = inr refl
   of_make make few room own (HasFailed block x y few' room' up within begun same) = absurd (none.disk 0 (rose (given.disk_faults 0) (left.disk_faults 0) x y up))
-  of_make make few room own (HasMade few' room' made same) = inl refl
+  of_make make few room own (HasMade few' room' made may same) = inl refl
 
   -- two commands are not the same words
   not_make_run : (make : MakeWords) (run : RunWords) → words_read given.disk.size words ≡ Ok (command.Make make) → words_read given.disk.size words ≡ Ok (command.Run run) → ⊥

@@ -24,7 +24,7 @@ get_kept x (e ∷ es) (suc i) (suc b) bytes there got = elim (get_kept x es i b 
 ]
 
 pub view_kept : (k : Kept) (x : List ℕ) (i left : ℕ) → IsView (seen_of k) → slice_get k.entries i ≡ Some None → length x ≡ k.size
-    → IsView (seen_of (record { size = k.size; entries = slice_set k.entries i (Some x); places = k.places; left = left }))
+    → IsView (seen_of (record { size = k.size; entries = slice_set k.entries i (Some x); places = k.places; leaves = k.leaves; left = left }))
 view_kept k x i left view there whole = record {
   block_size = view.block_size;
   whole = λ b bytes got. elim (get_kept x k.entries i b bytes there got) [

@@ -23,9 +23,9 @@ ghost use Rattle.linear_dirs.specs.Exchanges.{HasExchanged, IsLaidOver, uncounte
 ghost use Rattle.linear_dirs.specs.Broken.{IsBroken};
 
 use crate::area::{area_of, damaged};
-use crate::listing::is_dots;
 use crc_words::crc32;
 use drafts::Draft;
+use file_tree::is_dots;
 use gfs2_layout::{
     DINODE_LENGTH, Dinode, Dirent, Inum, areas_exchange_records, put_record, put_records_are_found,
 };
