@@ -1,6 +1,6 @@
 -- What is known of the blocks that are kept and of those that are places of journals, as more are read and found.
 use Rattle.std.proofs.Common.{◌≡◌, ◌≢◌, inl, inr, ℕ, zero, suc, ◌+◌, ◌<◌, ◌≤◌, Bool, true, false, List, [], ◌∷◌, ◌++◌, Option, None, Some, refl, sym, ap, subst, ◌∙◌, arith}
-use Rattle.std.specs.Prelude.{Contains, slice_get, slice_set, IsTrue, Result, Ok, Err, OnOk, IfErr, IfOk, is_ok}
+use Rattle.std.specs.Prelude.{Contains, slice_get, slice_set, IsTrue, Result, Ok, Err, OnOk}
 use Rattle.std.specs.List.{All}
 use Rattle.std.proofs.lemmas.Bool.{cases_eq}
 use Rattle.std.proofs.lemmas.Option.{slice_get-get_or, slice_get_within, get_or_from_slice_get}
@@ -21,9 +21,9 @@ use Rattle.image_mount.specs.Found.{HasFormat}
 use Rattle.image_mount.specs.Looks.{IsInGroups}
 use Rattle.image_mount.specs.Refusals.{RefusesRightly}
 use Rattle.image_mount.specs.Rings.{IsPlace, IsSearched, IsNext, IsPlaceAt}
-use Rattle.image_mount.specs.Searching.{IsWanted, LacksBlock, StopsRightly}
+use Rattle.image_mount.specs.Searching.{IsWanted, StopsRightly}
 use Rattle.image_mount.specs.System.{IsSystemOf}
-use Rattle.image_mount.specs.Kept.{Kept, bytes_of, seen_of}
+use Rattle.image_mount.specs.Kept.{Kept, bytes_of}
 use Rattle.image_mount.specs.declared.fault.MountFault.{MountFault}
 use Rattle.image_mount.specs.declared.fault.MountFault.TheVariants as fault
 use Rattle.image_mount.specs.declared.stop.Stop.{Stop}

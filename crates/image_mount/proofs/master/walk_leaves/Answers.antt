@@ -1,11 +1,11 @@
-use Rattle.std.proofs.Common.{◌≡◌, ◌^◌, ◌<◌, ◌≤◌, [], ◌++◌, length, take, drop, sym, ap, arith, ◌∙◌}
+use Rattle.std.proofs.Common.{◌<◌, [], length, sym, ap, arith, ◌∙◌}
 use Rattle.image_model.specs.Claims.{master_of}
 use Rattle.image_model.specs.Image.{Image, image_of}
 use Rattle.shared_disk.specs.Disk.{DiskState}
 use Rattle.image_mount.specs.Searching.{IsWanted}
 use Rattle.image_mount.specs.declared.leaf.LeafLink.{LeafLink}
 use Rattle.image_mount.proofs.LeafWalks.{next_leaf_in, walked_at}
-use Rattle.image_mount.proofs.Looks.{large}
+use Rattle.image_model.proofs.Lengths.{size_large}
 use Rattle.image_mount.proofs.Marked.{grown_none, grown_on}
 use Rattle.image_mount.proofs.Marks.{go_refused, leaf_refused}
 use Rattle.image_mount.proofs.Numbered.{at_some}
@@ -38,7 +38,7 @@ returns-in_err-read_leaf-in-Ok-Some-clause-refused g c tells of known =
 pub leaf-requires-clause-whole : goal.leaf-requires-clause-whole
 leaf-requires-clause-whole g c =
     let inv = c.loop-link.invariant in
-    omega (arith, ap length c.deref.ensures.value, ap length (refilled c.read_leaf.new.into c.loop-link.bytes.items c.loop-link.bytes.len c.loop-link.bytes.ok.0 (c.read_leaf.auto.into ∙ ap length c.deref_mut.ensures.value)), (c.read_leaf.auto.into ∙ ap length c.deref_mut.ensures.value), inv.size, large _ c.block_size-size.ensures.view.block_size, c.block_size-size.ensures.value, c.requires.work.size)
+    omega (arith, ap length c.deref.ensures.value, ap length (refilled c.read_leaf.new.into c.loop-link.bytes.items c.loop-link.bytes.len c.loop-link.bytes.ok.0 (c.read_leaf.auto.into ∙ ap length c.deref_mut.ensures.value)), (c.read_leaf.auto.into ∙ ap length c.deref_mut.ensures.value), inv.size, size_large _ c.block_size-size.ensures.view.block_size, c.block_size-size.ensures.value, c.requires.work.size)
 
 pub returns-in_err-at-in-Ok-Some-clause-refused : goal.returns-in_err-at-in-Ok-Some-clause-refused
 returns-in_err-at-in-Ok-Some-clause-refused g c tells of known =
@@ -53,7 +53,7 @@ returns-in_err-at-in-Ok-Some-clause-refused g c tells of known =
 pub enter-requires-clause-whole : goal.enter-requires-clause-whole
 enter-requires-clause-whole g c =
     let inv = c.loop-link.invariant in
-    omega (arith, ap length c.deref-in-Ok-Some.ensures.value, ap length (refilled c.read_leaf.new.into c.loop-link.bytes.items c.loop-link.bytes.len c.loop-link.bytes.ok.0 (c.read_leaf.auto.into ∙ ap length c.deref_mut.ensures.value)), (c.read_leaf.auto.into ∙ ap length c.deref_mut.ensures.value), inv.size, large _ c.block_size-size.ensures.view.block_size, c.block_size-size.ensures.value, c.requires.work.size)
+    omega (arith, ap length c.deref-in-Ok-Some.ensures.value, ap length (refilled c.read_leaf.new.into c.loop-link.bytes.items c.loop-link.bytes.len c.loop-link.bytes.ok.0 (c.read_leaf.auto.into ∙ ap length c.deref_mut.ensures.value)), (c.read_leaf.auto.into ∙ ap length c.deref_mut.ensures.value), inv.size, size_large _ c.block_size-size.ensures.view.block_size, c.block_size-size.ensures.value, c.requires.work.size)
 
 pub loop-link-preserved-in-Continue-branch-5 : goal.loop-link-preserved-in-Continue-branch-5
 loop-link-preserved-in-Continue-branch-5 g c =
