@@ -1,6 +1,6 @@
 -- What is known of the blocks that are kept and of those that are places of journals, as more are read and found.
 use Rattle.std.proofs.Common.{◌≡◌, ◌≢◌, inl, inr, ℕ, zero, suc, ◌+◌, ◌<◌, ◌≤◌, Bool, true, false, List, [], ◌∷◌, ◌++◌, Option, None, Some, refl, sym, ap, subst, ◌∙◌, arith}
-use Rattle.std.specs.Prelude.{Contains, slice_get, slice_set, IsTrue, Result, Ok, Err, OnOk, IfErr, IfOk, is_ok}
+use Rattle.std.specs.Prelude.{Contains, slice_get, slice_set, IsTrue, Result, Ok, Err, OnOk}
 use Rattle.std.specs.List.{All}
 use Rattle.std.proofs.lemmas.Bool.{cases_eq}
 use Rattle.std.proofs.lemmas.Option.{slice_get-get_or, slice_get_within, get_or_from_slice_get}
@@ -21,9 +21,9 @@ use Rattle.image_mount.specs.Found.{HasFormat}
 use Rattle.image_mount.specs.Looks.{IsInGroups}
 use Rattle.image_mount.specs.Refusals.{RefusesRightly}
 use Rattle.image_mount.specs.Rings.{IsPlace, IsSearched, IsNext, IsPlaceAt}
-use Rattle.image_mount.specs.Searching.{IsWanted, LacksBlock, StopsRightly}
+use Rattle.image_mount.specs.Searching.{IsWanted, StopsRightly}
 use Rattle.image_mount.specs.System.{IsSystemOf}
-use Rattle.image_mount.specs.Kept.{Kept, bytes_of, seen_of}
+use Rattle.image_mount.specs.Kept.{Kept, bytes_of}
 use Rattle.image_mount.specs.declared.fault.MountFault.{MountFault}
 use Rattle.image_mount.specs.declared.fault.MountFault.TheVariants as fault
 use Rattle.image_mount.specs.declared.stop.Stop.{Stop}
@@ -243,19 +243,16 @@ above_super im system b groups looked same inside e =
     let fits = looked.names.groups.fit.each g (there.0, slice_get-get_or system.groups.items there.0 g there.1 ∙ ap Some there.2) in
     absurd (omega (arith, e, fits.above, fits.first, inside.2.low))
 
--- a block that isn't there isn't kept
-pub free_block : {T : Type 0} (k : Kept) (block from : ℕ) (r : Result T Stop) → is_ok r ≡ false → IfErr r (λ s. s ≡ stop.Reads block from) → IfErr r (LacksBlock k) → (seen_of k).block_at block ≡ None
-free_block k block from (Ok x) e is lacks_it = absurd (let no : true ≡ false = e in cc)
-free_block k block from (Err s) e is lacks_it = subst (LacksBlock k) is lacks_it
-
--- what is said of an answer holds of one
-pub some_ok : {T E : Type 0} (r : Result T E) (P : T → Type 0) → is_ok r ≡ true → IfOk r P → (x : T) × P x
-some_ok (Ok x) P e holds = (x, holds)
-some_ok (Err f) P e holds = absurd (let no_answer : false ≡ true = e in cc)
-
 -- why what is wanted isn't read, of a disk that holds what it held before
 pub go_refused : (old now : DiskState) (s : Stop) (k : Kept) (f : MountFault) (done : List ℕ) (d n : ℕ) → now ≡ old
     → ((done : List ℕ) (d n : ℕ) → IsTrue now.tells → StopsRightly (image_of now) s → IsSearched (image_of now) done d n k → RefusesRightly (image_of now) f)
     → IsTrue old.tells → StopsRightly (image_of old) s → IsSearched (image_of old) done d n k → RefusesRightly (image_of old) f
 go_refused old now s k f done d n same more =
     subst (λ (t : DiskState). IsTrue t.tells → StopsRightly (image_of t) s → IsSearched (image_of t) done d n k → RefusesRightly (image_of t) f) same (more done d n)
+
+-- why a leaf isn't read, of a disk that holds what it held before
+pub leaf_refused : (old now : DiskState) (block from : ℕ) (k : Kept) (f : MountFault) → now ≡ old
+    → ((done : List ℕ) (d n : ℕ) → IsTrue now.tells → IsWanted (image_of now) block from → IsSearched (image_of now) done d n k → RefusesRightly (image_of now) f)
+    → IsTrue old.tells → IsWanted (image_of old) block from → IsSearched (image_of old) [] 0 0 k → RefusesRightly (image_of old) f
+leaf_refused old now block from k f same more =
+    subst (λ (t : DiskState). IsTrue t.tells → IsWanted (image_of t) block from → IsSearched (image_of t) [] 0 0 k → RefusesRightly (image_of t) f) same (more [] 0 0)

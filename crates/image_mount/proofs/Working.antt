@@ -53,6 +53,10 @@ working_same s t k new same work entries size = subst (λ u. IsWorking u new) (s
 pub working_new : (s : DiskState) (k : Kept) → IsIdle s → k.size ≡ s.size → length k.entries ≡ s.count → All (λ kept. kept ≡ None) k.entries → IsWorking s k
 working_new s k idle size count none = record { idle = idle; size = size; count = count; same = λ tells b bytes at. absurd (none_kept k.entries b bytes none at) }
 
+-- what was read of a disk that holds what it held before
+pub read_same : (old now : DiskState) (b : ℕ) (x : List ℕ) → now ≡ old → IsTrue old.tells → (IsTrue now.tells → x ≡ now.block_at b) → old.block_at b ≡ x
+read_same old now b x same tells is = sym (subst (λ (s : DiskState). IsTrue s.tells → x ≡ s.block_at b) same is tells)
+
 -- the same, where the disk holds what it held before
 pub read_now : (old now : DiskState) (k : Kept) → now ≡ old → IsTrue old.tells → IsWorking now k → IsRead (image_of old) k
 read_now old now k same tells work = read_of old k tells (subst (λ s. IsWorking s k) same work)

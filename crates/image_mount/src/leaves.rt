@@ -340,6 +340,7 @@ impl LeafWalk {
         bytes: &[u8],
     ) -> Result<LeafAt, MountFault>
         requires linked { IsLinkOf self.now pointers.now link.now }
+        requires within { self.now.index ≤ 2 ^ pointers.now.depth }
         requires count { vec_len self.now.owners.entries ≤ 2 ^ 32 }
         requires whole { 104 ≤ length bytes.now }
         ensures next { IfOk result (ComesNext self.now) }

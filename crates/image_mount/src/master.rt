@@ -123,7 +123,7 @@ fn walk_leaves<D: SharedDisk>(
     ensures reads { ReadsOnly (D.state disk.old) (D.state disk.new) (D.list disk.old) (D.list disk.new) (D.faults disk.old) (D.faults disk.new) }
 {
     let mut walk = LeafWalk::new(alloc, disk.blocks())?;
-    let size = disk.block_size() as usize;
+    let size = table.block_size() as usize;
     let mut bytes = vec![in alloc; 0u8; size]?;
     loop {
         match walk.link(table, inode, pointers) {

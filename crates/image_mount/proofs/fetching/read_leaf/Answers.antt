@@ -1,12 +1,10 @@
-use Rattle.std.proofs.Common.{◌≡◌, ◌<◌, ◌∙◌, sym, ap, subst, length, arith}
+use Rattle.std.proofs.Common.{◌≡◌, sym, subst}
 use Rattle.image_mount.specs.Refusals.{HasRisen}
 use Rattle.image_model.specs.Image.{image_of}
-use Rattle.image_mount.proofs.Marked.{grown_none, grown_same}
+use Rattle.image_mount.proofs.Marked.{grown_same}
 use Rattle.image_mount.proofs.Marks.{searched_leaf}
-use Rattle.image_mount.proofs.Shown.{kept_inside}
 use Rattle.image_mount.proofs.Stops.{handed, refused}
 use Rattle.image_mount.proofs.Working.{working_same}
-use Rattle.shared_disk.proofs.ReadLaws.{reads_none}
 use Rattle.image_mount.proofs.fetching.read_leaf.Goals as goal
 
 pub returns-in_err-check_readable-clause-risen : goal.returns-in_err-check_readable-clause-risen

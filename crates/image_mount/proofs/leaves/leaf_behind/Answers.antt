@@ -1,4 +1,4 @@
-use Rattle.std.proofs.Common.{◌+◌, refl}
+use Rattle.std.proofs.Common.{refl}
 use Rattle.image_mount.proofs.LeafCauses.{behind_is, behind_leaf, depth_differs}
 use Rattle.image_mount.proofs.Stops.{refused}
 use Rattle.image_mount.proofs.leaves.leaf_behind.Goals as goal

@@ -1,5 +1,4 @@
-use Rattle.std.proofs.Common.{ℕ, ◌≡◌, ◌-◌, ◌%◌, ◌*◌, ◌<◌, refl, sym, ap, subst, ◌∙◌, arith}
-use Rattle.gfs2_layout.specs.Bytes.{u64_at}
+use Rattle.std.proofs.Common.{ℕ, ◌-◌, ◌%◌, ◌<◌, refl, sym, ap, subst, ◌∙◌, arith}
 use Rattle.gfs2_layout.specs.Inode.{entry_block, first_hash}
 use Rattle.image_model.specs.Claims.{every}
 use Rattle.image_reader.proofs.Chains.{run_some, start_whole}

@@ -8,8 +8,8 @@ use Rattle.image_mount.specs.Marked.{IsGrown}
 use Rattle.shared_disk.specs.Disk.{ReadsOnly}
 use Rattle.image_mount.proofs.master.walk_leaves.Given as goal
 
-abbrev pub invariant-loop-at : goal.invariant-loop-at
-invariant-loop-at g l = record {
+abbrev pub invariant-loop-link : goal.invariant-loop-link
+invariant-loop-link g l = record {
   work : IsWorking (g.D.SharedDisk.state l.disk) l.table;
   grown : IsGrown l.initial.table l.table;
   count : vec_len l.walk.owners.entries ≡ (g.D.SharedDisk.state l.initial.disk).count;
@@ -20,5 +20,5 @@ invariant-loop-at g l = record {
   reads : ReadsOnly (g.D.SharedDisk.state l.initial.disk) (g.D.SharedDisk.state l.disk) (g.D.SharedDisk.list l.initial.disk) (g.D.SharedDisk.list l.disk) (g.D.SharedDisk.faults l.initial.disk) (g.D.SharedDisk.faults l.disk);
 }
 
-abbrev pub decreases-loop-at : goal.decreases-loop-at
-decreases-loop-at g l = l.table.left + steps_left l.walk (2 ^ l.pointers.depth)
+abbrev pub decreases-loop-link : goal.decreases-loop-link
+decreases-loop-link g l = l.table.left + steps_left l.walk (2 ^ l.pointers.depth)

@@ -1,4 +1,4 @@
-use Rattle.std.proofs.Common.{◌≡◌, ◌+◌, ◌<◌, ◌^◌, refl, arith}
+use Rattle.std.proofs.Common.{◌+◌, ◌<◌, ◌^◌, refl, arith}
 use Rattle.gfs2_layout.specs.Inode.{first_hash}
 use Rattle.image_model.specs.Claims.{every}
 use Rattle.image_mount.specs.Leaves.{IsOpen}
