@@ -151,8 +151,12 @@ module _ {V : Type 0} (seen : V → Seen) (a b c : Drafted V) (xs ys : List ℕ)
 
   both_only : (g : Group) (n : ℕ) → HasGroup (seen_in seen a) g → IsHeaderOf g n → ¬ (SaysStateOfSome (seen a.view).size g (xs ++ ys) n) → get c.fates n ≡ get a.fates n
   both_only g n has own none =
-      second.only g n (has_then g has) own (λ some. none (some.0, Contains-append_right xs ys some.0 some.1, some.2,
-      subst (λ size. SaysStateOf size g some.0 n) (size_same seen a b kept.view) some.3))
+      second.only g n (has_then g has) own (λ some. none (
+        some.0,
+        Contains-append_right xs ys some.0 some.1,
+        some.2,
+        subst (λ size. SaysStateOf size g some.0 n) (size_same seen a b kept.view) some.3,
+      ))
       ∙ first.only g n has own (λ some. none (some.0, Contains-append_left xs ys some.0 some.1, some.2, some.3))
 
   both_headers : (g : Group) (n : ℕ) → HasGroup (seen_in seen a) g → IsHeaderOf g n → IsSameOrPut a c g n

@@ -47,7 +47,7 @@ loop-rest-preserved g c =
       operations = so.operations ++ turn_of c.split_at.result.0.now;
       brought = λ more are.
           let next : AreBrought c.loop-rest.rest.now (turn_of c.split_at.result.0.now ++ more)
-              = subst (λ (r : List Written). AreBrought r (turn_of c.split_at.result.0.now ++ more)) (sym parts) (turn c.split_at.result.0.now c.split_at.result.1.now more (subst₂ IsTurn (sym c.split_at.ensures.front) (sym c.split_at.ensures.back) (next_turn c.loop-rest.rest.now _ (search rules) refl)) are) in
+          = subst (λ (r : List Written). AreBrought r (turn_of c.split_at.result.0.now ++ more)) (sym parts) (turn c.split_at.result.0.now c.split_at.result.1.now more (subst₂ IsTurn (sym c.split_at.ensures.front) (sym c.split_at.ensures.back) (next_turn c.loop-rest.rest.now _ (search rules) refl)) are) in
           subst (AreBrought c.args.blocks.now) (sym (append_assoc so.operations (turn_of c.split_at.result.0.now) more)) (so.brought (turn_of c.split_at.result.0.now ++ more) next);
       gains = gains_join (g.D.SharedDisk.list c.args.disk.now) (g.D.SharedDisk.list c.loop-rest.disk) (g.D.SharedDisk.list c.write_some.new.disk) so.operations _ so.gains c.in-Ok.ensures.gains;
       none = λ is. absurd (has_some so.done c.split_at.result.0.now some is);
