@@ -111,10 +111,11 @@ pub record IsTurnTaken (before after : Moment) (some : List Written) : Type 0 wh
 
 -- As these blocks were brought to it, the disk failed at the write to this one, or (no block) at a barrier: in their first turn, or that was taken and it
 -- failed behind it.
-pub data HasStopped (before after : Moment) : List Written → Option ℕ → Type 0 where
-  in_turn : (some later : List Written) (block : Option ℕ) → IsTurn some later → HasStoppedIn before after some block → HasStopped before after (some ++ later) block
-  behind_turn : (next : Moment) (some later : List Written) (block : Option ℕ) → IsTurn some later → IsTurnTaken before next some → HasStopped next after later block
+pub data HasStopped : Moment → Moment → List Written → Option ℕ → Type 0 where
+  in_turn : (before after : Moment) (some later : List Written) (block : Option ℕ) → IsTurn some later → HasStoppedIn before after some block
       → HasStopped before after (some ++ later) block
+  behind_turn : (before next after : Moment) (some later : List Written) (block : Option ℕ) → IsTurn some later → IsTurnTaken before next some
+      → HasStopped next after later block → HasStopped before after (some ++ later) block
 
 -- ---- one step
 
