@@ -47,12 +47,12 @@ loop-rest-preserved g c =
       operations = so.operations ++ turn_of c.split_at.result.0.now;
       brought = λ more are.
           let next : AreBrought c.loop-rest.rest.now (turn_of c.split_at.result.0.now ++ more)
-          = subst (λ (r : List Written). AreBrought r (turn_of c.split_at.result.0.now ++ more)) (sym parts) (turn c.split_at.result.0.now c.split_at.result.1.now more (subst₂ IsTurn (sym c.split_at.ensures.front) (sym c.split_at.ensures.back) (next_turn c.loop-rest.rest.now _ (search rules) refl)) are) in
+          = subst (λ (r : List Written). AreBrought r (turn_of c.split_at.result.0.now ++ more)) (sym parts) (turn c.split_at.result.0.now c.split_at.result.1.now more (subst₂ IsTurn (sym c.split_at.ensures.front) (sym c.split_at.ensures.back) (next_turn c.loop-rest.rest.now c.min.result (search rules) c.min.ensures)) are) in
           subst (AreBrought c.args.blocks.now) (sym (append_assoc so.operations (turn_of c.split_at.result.0.now) more)) (so.brought (turn_of c.split_at.result.0.now ++ more) next);
       gains = gains_join (g.D.SharedDisk.list c.args.disk.now) (g.D.SharedDisk.list c.loop-rest.disk) (g.D.SharedDisk.list c.write_some.new.disk) so.operations _ so.gains c.in-Ok.ensures.gains;
       none = λ is. absurd (has_some so.done c.split_at.result.0.now some is);
       stopped = λ after block is. so.stopped after block (subst (λ (r : List Written). HasStopped (moment (g.D.SharedDisk.state c.loop-rest.disk) (g.D.SharedDisk.list c.loop-rest.disk)) after r block) (sym parts)
-          (behind_turn (moment (g.D.SharedDisk.state c.loop-rest.disk) (g.D.SharedDisk.list c.loop-rest.disk)) (moment (g.D.SharedDisk.state c.write_some.new.disk) (g.D.SharedDisk.list c.write_some.new.disk)) after c.split_at.result.0.now c.split_at.result.1.now block (subst₂ IsTurn (sym c.split_at.ensures.front) (sym c.split_at.ensures.back) (next_turn c.loop-rest.rest.now _ (search rules) refl))
+          (behind_turn (moment (g.D.SharedDisk.state c.loop-rest.disk) (g.D.SharedDisk.list c.loop-rest.disk)) (moment (g.D.SharedDisk.state c.write_some.new.disk) (g.D.SharedDisk.list c.write_some.new.disk)) after c.split_at.result.0.now c.split_at.result.1.now block (subst₂ IsTurn (sym c.split_at.ensures.front) (sym c.split_at.ensures.back) (next_turn c.loop-rest.rest.now c.min.result (search rules) c.min.ensures))
           (record { written = c.in-Ok.ensures.written; gains = c.in-Ok.ensures.gains }) is));
       later = λ i. let before = so.later i in let more = c.in-Ok.ensures.later i in omega (arith, before, more);
     }
@@ -64,7 +64,7 @@ returns-in-Err-clause-stopped g c =
     let next = moment (g.D.SharedDisk.state c.write_some.new.disk) (g.D.SharedDisk.list c.write_some.new.disk) in
     let parts : c.loop-rest.rest.now ≡ c.split_at.result.0.now ++ c.split_at.result.1.now = sym (take-append-drop _ c.loop-rest.rest.now) ∙ (λ i. sym c.split_at.ensures.front i ++ sym c.split_at.ensures.back i) in
     failed_so c.in-Err.end (HasStoppedIn now next c.split_at.result.0.now) _
-    (λ block is. so.stopped next block (subst (λ (r : List Written). HasStopped now next r block) (sym parts) (in_turn now next c.split_at.result.0.now c.split_at.result.1.now block (subst₂ IsTurn (sym c.split_at.ensures.front) (sym c.split_at.ensures.back) (next_turn c.loop-rest.rest.now _ (search rules) refl)) is)))
+    (λ block is. so.stopped next block (subst (λ (r : List Written). HasStopped now next r block) (sym parts) (in_turn now next c.split_at.result.0.now c.split_at.result.1.now block (subst₂ IsTurn (sym c.split_at.ensures.front) (sym c.split_at.ensures.back) (next_turn c.loop-rest.rest.now c.min.result (search rules) c.min.ensures)) is)))
     c.in-Err.ensures.stopped
 
 pub returns-clause-none : goal.returns-clause-none
