@@ -1,5 +1,5 @@
 use Rattle.std.proofs.Common.{◌≡◌, ◌≤◌, ◌++◌, List, [], length, refl, rules, sym, ap, ◌∙◌, subst, subst₂, arith}
-use Rattle.std.proofs.lemmas.List.{append_assoc, take-append-drop}
+use Rattle.std.proofs.lemmas.List.{append_assoc, append-nil, take-append-drop}
 use Rattle.drafts.specs.declared.change.Written.{Written}
 use Rattle.lone_node.specs.Course.{AreBrought, HasStopped, HasStoppedIn, IsTurn, behind_turn, in_turn, moment, none, turn, turn_of}
 use Rattle.lone_node.specs.Writing.{AreOfDisk, RiseFrom}
@@ -69,3 +69,12 @@ returns-in-Err-clause-stopped g c =
 
 pub returns-clause-none : goal.returns-clause-none
 returns-clause-none g c empty = c.loop-rest.invariant.none (front_none c.loop-rest.invariant.done c.loop-rest.rest.now (sym c.loop-rest.invariant.split ∙ empty))
+
+pub returns-clause-brought : goal.returns-clause-brought
+returns-clause-brought g c =
+    let so = c.loop-rest.invariant in
+    let empty : c.loop-rest.rest.now ≡ [] = search rules in (
+      so.operations,
+      subst (AreBrought c.args.blocks.now) (append-nil so.operations) (so.brought [] (subst (λ (r : List Written). AreBrought r []) (sym empty) none)),
+      so.gains,
+    )
