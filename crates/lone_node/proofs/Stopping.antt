@@ -54,6 +54,10 @@ next_turn rest n some is = record {
 
 -- ---- no block
 
+pub nothing : (ws : List Written) → length ws ≡ 0 → ws ≡ []
+nothing [] is = refl
+nothing (w ∷ ws) is = absurd (omega (arith, is))
+
 pub has_some : (done some : List Written) → 1 ≤ length some → done ++ some ≡ [] → ⊥
 has_some [] [] more is = absurd (omega (arith, more))
 has_some [] (w ∷ ws) more is = cc

@@ -6,7 +6,7 @@ use Rattle.lone_node.specs.Writing.{AreOfDisk, RiseFrom}
 use Rattle.lone_node.proofs.Endings.{failed_so}
 use Rattle.lone_node.proofs.Gaining.{gains_join, gains_none}
 use Rattle.lone_node.proofs.Rising.{front}
-use Rattle.lone_node.proofs.Stopping.{front_none, has_some, next_turn}
+use Rattle.lone_node.proofs.Stopping.{front_none, has_some, next_turn, nothing}
 use Rattle.lone_node.proofs.Flying.{of_front, of_back, written_more}
 use Rattle.lone_node.proofs.writing.write_all.Given.{Over}
 use Rattle.lone_node.proofs.writing.write_all.Goals as goal
@@ -73,7 +73,7 @@ returns-clause-none g c empty = c.loop-rest.invariant.none (front_none c.loop-re
 pub returns-clause-brought : goal.returns-clause-brought
 returns-clause-brought g c =
     let so = c.loop-rest.invariant in
-    let empty : c.loop-rest.rest.now ≡ [] = search rules in (
+    let empty : c.loop-rest.rest.now ≡ [] = nothing c.loop-rest.rest.now (search rules) in (
       so.operations,
       subst (AreBrought c.args.blocks.now) (append-nil so.operations) (so.brought [] (subst (λ (r : List Written). AreBrought r []) (sym empty) none)),
       so.gains,
