@@ -8,3 +8,4 @@ pub mod Ranges
 pub mod Pieces
 pub mod ReadDinodes
 pub mod Sound
+pub mod Pads

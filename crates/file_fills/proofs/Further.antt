@@ -5,14 +5,14 @@ use Rattle.std.proofs.lemmas.List.Elements.{Contains-append_left, Contains-appen
 use Rattle.std.specs.Prelude.{◌==◌, ◌&&◌, not, nat_lt, Contains, IsSome, max}
 use Rattle.std.specs.FinMap.{FinMap, get}
 use Rattle.std.specs.Ordering.{nat_cmp}
-use Rattle.drafts.specs.Fates.{block_with, seen_with}
+use Rattle.drafts.specs.Fates.{seen_with}
 use Rattle.drafts.specs.declared.fate.Fate.{Fate}
 use Rattle.drafts.specs.declared.fate.Fate.TheVariants.{Put}
 use Rattle.gfs2_layout.specs.Holding.{Cell, Holding, part_at, bytes_at}
-use Rattle.gfs2_layout.specs.Inode.{dinode_in, fan, height_in, span, pieces}
+use Rattle.gfs2_layout.specs.Inode.{block_count, dinode_in, fan, height_in, span, pieces}
 use Rattle.gfs2_layout.specs.Structures.{dinode_length}
 use Rattle.gfs2_layout.specs.declared.dinode.Dinode.{Dinode}
-use Rattle.glock_names.specs.Views.{Seen, HasBlock}
+use Rattle.glock_names.specs.Views.{Seen}
 use Rattle.dinode_tree.specs.Reading.{inode_lock}
 use Rattle.dinode_tree.proofs.Sound.{is_there}
 use Rattle.growth_laws.specs.Files.{IsFile, IsPlaced, block_on, places_on, with_cells}
@@ -21,38 +21,11 @@ use Rattle.growth_laws.proofs.Contents.{same_place}
 use Rattle.growth_laws.proofs.Counting.{count_same}
 use Rattle.growth_laws.proofs.Needing.{and_false, on_way}
 use Rattle.growth_laws.proofs.Places.{part_there, part_of_place}
-use Rattle.growth_drafts.specs.Taken.{IsContentIn, IsDistinct, IsLeft, IsPutFor}
-use Rattle.file_walks.specs.Walks.{place_above}
+use Rattle.growth_drafts.specs.Taken.{IsContentIn, IsLeft, IsPutFor}
+use Rattle.growth_drafts.proofs.Rooms.{free_before, free_left, none_in, none_some}
 use Rattle.file_fills.specs.Filling.{IsRoomFor, IsSeenWay}
 use Rattle.file_fills.specs.Progress.{IsFurther}
-
--- ---- lists of blocks
-
-none_in : (x : ℕ) → Contains [] x → ⊥
-none_in x (k, low, is) = omega (arith, low)
-
-apart_of : (xs ys : List ℕ) (b : ℕ) → IsDistinct (xs ++ ys) → Contains xs b → Contains ys b → ⊥
-apart_of [] ys b distinct left right = none_in b left
-apart_of (x ∷ xs) ys b distinct left right = elim (Contains-append_cases (x ∷ []) xs b left) [
-  | inl first ↦ distinct.0 (subst (Contains (xs ++ ys)) (only x b first) (Contains-append_right xs ys b right))
-  | inr rest ↦ apart_of xs ys b distinct.1 rest right
-]
-  where
-    only : (x b : ℕ) → Contains (x ∷ []) b → b ≡ x
-    only x b (zero, low, is) = sym is
-    only x b (suc k, low, is) = absurd (omega (arith, low))
-
-distinct_back : (xs ys : List ℕ) → IsDistinct (xs ++ ys) → IsDistinct ys
-distinct_back [] ys distinct = distinct
-distinct_back (x ∷ xs) ys distinct = distinct_back xs ys distinct.1
-
-pub none_some : (o : Option Cell) → o ≡ None → IsSome o → ⊥
-none_some None e some = cc
-none_some (Some c) e some = cc
-
-none_cell : (o : Option Cell) → (IsSome o → ⊥) → o ≡ None
-none_cell None none = refl
-none_cell (Some c) none = absurd (none refl)
+use Rattle.file_fills.proofs.Ways.{ways_along}
 
 -- ---- the same file
 
@@ -61,6 +34,7 @@ further_none fates h at end file = record {
   file = file;
   dinode = refl;
   blocks = record { count = refl; blocks = λ b. (λ some. inl some, λ either. elim either [ inl some ↦ some | inr none ↦ absurd (none_in b none) ]) };
+  counted = (let same : block_count h ≡ block_count h + 0 = omega arith in same);
   parts = λ b some. refl;
   need = (let same : needed_below h at end (height_in h) ≡ 0 + needed_below h at end (height_in h) = omega arith in same);
   drafted = record {
@@ -121,6 +95,7 @@ module _ (f0 f1 f2 : FinMap nat_cmp Fate) (h : Holding) (c1 c2 : ℕ → Option 
         ],
       );
     };
+    counted = omega (arith, a.counted, b.counted, length-append t1 t2);
     parts = λ x some. both_parts x (keeps x some) some;
     need =
         let later : needed_below (with_cells h c1) at end (height_in h) ≡ length t2 + needed_below (with_cells h c2) at end (height_in h)
@@ -152,80 +127,25 @@ module _ (old new : FinMap nat_cmp Fate) (h : Holding) (cell : ℕ → Option Ce
       (part_there (with_cells h cell) f.file l j (block_on h l j) (omega (arith, less, height_same)) (places_same l j low) some).1
       (placed.0, placed.1, f.parts (block_on h l j) (is_there (h.cell (block_on h l j)) _ placed.2) ∙ placed.2)
 
-  -- what the draft saw it sees
-  pub has_further : (v : Seen) (b : ℕ) → HasBlock (seen_with v old) b → HasBlock (seen_with v new) b
-  has_further v b (bytes, has) = each (cell b) refl
-    where
-      same : get new b ≡ get old b → HasBlock (seen_with v new) b
-      same e = (bytes, ap (λ fate. block_with fate (v.block_at b)) e ∙ has)
-
-      each : (o : Option Cell) → cell b ≡ o → HasBlock (seen_with v new) b
-      each None e = same (f.drafted.others b (none_some (cell b) e) (none_in b))
-      each (Some c) e = elim (f.drafted.own b (subst IsSome (sym e) refl)) [
-        | inl left ↦ same left.fate
-        | inr put ↦ (bytes_at (with_cells h cell) b, ap (λ fate. block_with fate (v.block_at b)) put.fate)
-      ]
-
   pub way_further : (v : Seen) (i : ℕ) → IsFile h → ((b : ℕ) → Contains taken b → h.cell b ≡ None) → IsSeenWay (seen_with v old) h i → IsSeenWay (seen_with v new) (with_cells h cell) i
-  way_further v i file free way = record { dinode = has_further v h.own way.dinode; blocks = blocks }
-    where
-      blocks : (l : ℕ) → l < height_in (with_cells h cell) → place_above h.size 0 i l < places_on (with_cells h cell) l → block_on (with_cells h cell) l (place_above h.size 0 i l) ≢ 0
-          → HasBlock (seen_with v new) (block_on (with_cells h cell) l (place_above h.size 0 i l))
-      blocks l less low some = elim ((f.blocks.blocks c).0 there) [
-        | inl had ↦
-            let in_h : IsPlaced h c l (place_above h.size 0 i l * span h.size l) = (placed.0, placed.1, sym (f.parts c had) ∙ placed.2) in
-            let is : block_on h l (place_above h.size 0 i l) ≡ c = (part_there h file l (place_above h.size 0 i l) c less' low' some).1 in_h in
-            has_further v c (subst (HasBlock (seen_with v old)) is (way.blocks l less' low' (λ none. some (sym is ∙ none))))
-        | inr new_one ↦ elim (f.drafted.own c there) [
-          | inl left ↦ absurd (none_some (h.cell c) (free c new_one) left.had)
-          | inr put ↦ (bytes_at (with_cells h cell) c, ap (λ fate. block_with fate (v.block_at c)) put.fate)
-        ]
-      ]
-        where
-          c : ℕ
-          c = block_on (with_cells h cell) l (place_above h.size 0 i l)
-
-          placed : IsPlaced (with_cells h cell) c l (place_above h.size 0 i l * span h.size l)
-          placed = part_of_place (with_cells h cell) f.file l (place_above h.size 0 i l) less low some
-
-          there : IsSome (cell c)
-          there = is_there (cell c) _ placed.2
-
-          less' : l < height_in h
-          less' = omega (arith, less, height_same)
-
-          low' : place_above h.size 0 i l < places_on h l
-          low' = subst (λ n. place_above h.size 0 i l < fan h.size dinode_length * span h.size (n - 1 - l)) height_same low
+  way_further v i file free way =
+      ways_along old new v h cell taken f.drafted i file f.file f.blocks free (λ b level first some placed. (placed.0, placed.1, sym (f.parts b some) ∙ placed.2)) way
 
   pub room_further : (room left : List ℕ) → IsRoomFor h at end room → room ≡ taken ++ left → IsRoomFor (with_cells h cell) at end left
   room_further room left r front = record {
     file = f.file;
     in_blocks = λ none. r.in_blocks (sym height_same ∙ none);
     within = subst (λ (d : Dinode). end ≤ d.size) (sym f.dinode) r.within;
-    free = record {
-      some = λ none. r.free.some (back 0 none);
-      once = distinct_back taken left distinct;
-      inside = λ b in_left. r.free.inside b (back b in_left);
-      new = λ b in_left. none_cell (cell b) (λ there. elim ((f.blocks.blocks b).0 there) [
-        | inl had ↦ none_some (h.cell b) (r.free.new b (back b in_left)) had
-        | inr in_taken ↦ apart_of taken left b distinct in_taken in_left
-      ]);
-    };
+    free = free_left h cell taken room left r.free front f.blocks;
     enough =
         let long : length room ≡ length taken + length left = ap length front ∙ length-append taken left in
         let need : needed_below h at end (height_in h) ≡ length taken + needed_below (with_cells h cell) at end (height_in (with_cells h cell))
         = subst (λ n. needed_below h at end (height_in h) ≡ length taken + needed_below (with_cells h cell) at end n) (sym height_same) f.need in
         omega (arith, long, need, r.enough);
   }
-    where
-      back : (b : ℕ) → Contains left b → Contains room b
-      back b in_left = subst (λ xs. Contains xs b) (sym front) (Contains-append_right taken left b in_left)
-
-      distinct : IsDistinct (taken ++ left)
-      distinct = subst IsDistinct front r.free.once
 
   pub free_taken : (room left : List ℕ) → IsRoomFor h at end room → room ≡ taken ++ left → (b : ℕ) → Contains taken b → h.cell b ≡ None
-  free_taken room left r front b in_taken = r.free.new b (subst (λ xs. Contains xs b) (sym front) (Contains-append_left taken left b in_taken))
+  free_taken room left r front = free_before h cell taken room left r.free front
 
 -- ---- files with the same parts need the same
 

@@ -215,6 +215,7 @@ pieces_done after f0 f1 room left h at n end bytes r end_is n_is a = record {
   content = a.come.content ∙ ap (λ xs. overwritten at xs (content_of h)) (ap (λ m. take m bytes) n_is ∙ take-length bytes);
   dinode = a.come.further.dinode;
   blocks = a.come.further.blocks;
+  counted = a.come.further.counted;
   as_many =
       let none = nothing_needed_at (with_cells h a.come.cell) at end a.come.further.file (λ none. r.in_blocks (sym same ∙ none)) (subst (λ (d : Dinode). end ≤ d.size) (sym a.come.further.dinode) r.within) each (height_in h) (omega (arith, same)) in
       let all : length a.come.taken ≡ needed_below h at end (height_in h) = omega (arith, a.come.further.need, none) in

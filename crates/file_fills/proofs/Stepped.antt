@@ -11,7 +11,7 @@ use Rattle.drafts.specs.declared.fate.Fate.{Fate}
 use Rattle.drafts.specs.declared.fate.Fate.TheVariants.{Put}
 use Rattle.finite_maps.proofs.Keys.{inserted_at, inserted_apart}
 use Rattle.gfs2_layout.specs.Holding.{Part, Pointed, Cell, Holding, cell_bytes, cell_part, part_at, bytes_at}
-use Rattle.gfs2_layout.specs.Inode.{dinode_in, height_in, content_block, content_count, content_of, pieces, IsPointed, by_dinode, by_block}
+use Rattle.gfs2_layout.specs.Inode.{block_count, dinode_in, height_in, content_block, content_count, content_of, pieces, IsPointed, by_dinode, by_block}
 use Rattle.gfs2_layout.specs.Structures.{dinode_of}
 use Rattle.glock_names.specs.Views.{Seen}
 use Rattle.dinode_tree.specs.Reading.{inode_lock}
@@ -23,13 +23,15 @@ use Rattle.growth_laws.specs.Files.{IsFile, IsPlaced, block_on, with_cells}
 use Rattle.growth_laws.specs.Need.{needed_below}
 use Rattle.growth_laws.specs.Steps.{IsFilled}
 use Rattle.growth_laws.proofs.Contents.{content_place, whole_unit}
-use Rattle.growth_laws.proofs.Fills.{fills_keep_files, fills_keep_content, some_by_part}
+use Rattle.growth_laws.proofs.Counting.{count_same}
+use Rattle.growth_laws.proofs.Fills.{count_after as fills_add_one, fills_keep_files, fills_keep_content, some_by_part}
 use Rattle.growth_laws.proofs.Lacking.{nothing_is_lacking}
 use Rattle.growth_laws.proofs.Needing.{fills_lower_need}
 use Rattle.growth_laws.proofs.Parts.{not_itself, same_level}
 use Rattle.growth_laws.proofs.Places.{content_is_level_zero, size_large}
 use Rattle.growth_laws.proofs.Pointing.{put_pointers_fill, rewritten_bytes, rewrites_keep_the_rest}
 use Rattle.growth_drafts.specs.Taken.{HasBytes, IsContentIn, IsLeft, IsPutFor}
+use Rattle.growth_drafts.proofs.Rooms.{none_some, only_in}
 use Rattle.growth_drafts.proofs.Shown.{from_there}
 use Rattle.growth_steps.specs.New.{new_bytes}
 use Rattle.growth_steps.proofs.Stepping.{is_new_block}
@@ -38,7 +40,7 @@ use Rattle.file_walks.specs.declared.walks.Stop.{Stop}
 use Rattle.file_walks.proofs.Above.{under_above}
 use Rattle.file_fills.specs.Filling.{IsRoomFor, IsSeenWay}
 use Rattle.file_fills.specs.Progress.{HasCome, IsFurther}
-use Rattle.file_fills.proofs.Further.{free_taken, further_then, need_same, none_some, room_further, way_further}
+use Rattle.file_fills.proofs.Further.{free_taken, further_then, need_same, room_further, way_further}
 use Rattle.file_fills.proofs.Over.{over_above}
 
 -- ---- where the bytes are
@@ -174,10 +176,6 @@ module _ (old : FinMap nat_cmp Fate) (h : Holding) (at end i : ℕ) (stop : Stop
     );
   }
 
-  only_one : (x : ℕ) → Contains (block ∷ []) x → x ≡ block
-  only_one x (zero, less, is) = sym is
-  only_one x (suc k, less, is) = absurd (omega (arith, less))
-
   pub fill_further : IsFurther old puts h cells at end (block ∷ [])
   fill_further = record {
     file = fills_keep_files h cells stop.pointer.from stop.pointer.index stop.level (first_of h 0 i stop) block r.file filled;
@@ -191,10 +189,11 @@ module _ (old : FinMap nat_cmp Fate) (h : Holding) (at end i : ℕ) (stop : Stop
         ],
         λ either. elim either [
           | inl had ↦ some_same x (λ e. none_here x e had) ∙ had
-          | inr taken ↦ subst (λ y. IsSome (cells y)) (sym (only_one x taken)) (ap is_some cell_block)
+          | inr taken ↦ subst (λ y. IsSome (cells y)) (sym (only_in block x taken)) (ap is_some cell_block)
         ],
       );
     };
+    counted = fills_add_one h cells stop.pointer.from stop.pointer.index stop.level (first_of h 0 i stop) block filled;
     parts = λ x had. filled.stays.parts x (λ e. none_here x e had);
     need =
         let one = fills_lower_need h cells stop.pointer.from stop.pointer.index stop.level (first_of h 0 i stop) block at end (place_of h 0 i stop) r.file filled refl (over_above h.size at end i stop.level large has) in
@@ -250,6 +249,10 @@ module _ (old : FinMap nat_cmp Fate) (h : Holding) (at end i block : ℕ) (new :
   put_some : (x : ℕ) → is_some (put_cells x) ≡ is_some (h.cell x)
   put_some x = some_by_part (h.cell x) (put_cells x) (kept.0 x)
 
+  same_count : block_count (with_cells h put_cells) ≡ block_count h
+  unfolding block_count
+  same_count = count_same (λ x. is_some (h.cell x)) (λ x. is_some (put_cells x)) 0 h.count (λ x low high. put_some x)
+
   own_other : h.own ≢ block
   own_other e = not_itself _ _ _ _ (sym file.own ∙ ap (part_at h) e ∙ placed.2)
 
@@ -274,6 +277,7 @@ module _ (old : FinMap nat_cmp Fate) (h : Holding) (at end i block : ℕ) (new :
         λ either. elim either [ inl had ↦ put_some x ∙ had | inr none ↦ absurd (omega (arith, none.1)) ],
       );
     };
+    counted = (let none : block_count h ≡ block_count h + 0 = omega arith in same_count ∙ none);
     parts = λ x had. kept.0 x;
     need =
         let same = need_same h put_cells at end file file' put_dinode kept.0 (height_in h) (omega arith) in

@@ -5,7 +5,7 @@ use Rattle.std.specs.Ordering.{nat_cmp}
 use Rattle.drafts.specs.declared.fate.Fate.{Fate}
 use Rattle.file_tree.specs.Apply.{overwritten}
 use Rattle.gfs2_layout.specs.Holding.{Holding}
-use Rattle.gfs2_layout.specs.Inode.{content_of, dinode_in, height_in}
+use Rattle.gfs2_layout.specs.Inode.{block_count, content_of, dinode_in, height_in}
 use Rattle.glock_names.specs.Views.{Seen, HasBlock}
 use Rattle.dinode_tree.specs.Shown.{IsShown}
 use Rattle.growth_laws.specs.Files.{IsFile, block_on, places_on}
@@ -35,6 +35,7 @@ pub record HasFilled (after : Seen) (old new : FinMap nat_cmp Fate) (room left :
   pub content : content_of g ≡ overwritten at bytes (content_of h)
   pub dinode : dinode_in g ≡ dinode_in h
   pub blocks : HasTaken h g taken
+  pub counted : block_count g ≡ block_count h + length taken
   pub as_many : length taken ≡ needed_below h at (at + length bytes) (height_in h)
   pub from_front : room ≡ taken ++ left
   pub drafted : DraftsFile old new h g []

@@ -5,7 +5,7 @@ use Rattle.std.specs.Ordering.{nat_cmp}
 use Rattle.drafts.specs.declared.fate.Fate.{Fate}
 use Rattle.file_tree.specs.Apply.{overwritten}
 use Rattle.gfs2_layout.specs.Holding.{Cell, Holding, part_at}
-use Rattle.gfs2_layout.specs.Inode.{content_block, content_of, dinode_in, height_in}
+use Rattle.gfs2_layout.specs.Inode.{block_count, content_block, content_of, dinode_in, height_in}
 use Rattle.glock_names.specs.Views.{Seen}
 use Rattle.dinode_tree.specs.Shown.{IsShown}
 use Rattle.growth_laws.specs.Files.{IsFile, with_cells}
@@ -17,6 +17,7 @@ pub record IsFurther (old new : FinMap nat_cmp Fate) (h : Holding) (cell : ℕ �
   pub file : IsFile (with_cells h cell)
   pub dinode : dinode_in (with_cells h cell) ≡ dinode_in h
   pub blocks : HasTaken h (with_cells h cell) taken
+  pub counted : block_count (with_cells h cell) ≡ block_count h + length taken
   pub parts : (b : ℕ) → IsSome (h.cell b) → part_at (with_cells h cell) b ≡ part_at h b
   pub need : needed_below h at end (height_in h) ≡ length taken + needed_below (with_cells h cell) at end (height_in h)
   pub drafted : DraftsFile old new h (with_cells h cell) []

@@ -11,7 +11,7 @@ ghost use Rattle.dinode_tree.specs.Reading.{IsNeeded};
 ghost use Rattle.dinode_tree.specs.Shown.{IsShown};
 ghost use Rattle.growth_laws.specs.Files.{IsFile};
 ghost use Rattle.growth_drafts.specs.Taken.{HasBytes};
-ghost use Rattle.file_walks.specs.Walks.{IsPlace, IsStop};
+ghost use Rattle.file_walks.specs.Walks.{IsPlace, IsStop, LeadsOn};
 ghost use Rattle.file_fills.specs.Filling.{HasFilled, IsRoomFor, IsSeenWay};
 ghost use Rattle.file_fills.specs.Progress.{HasBlockAt, HasCome};
 
@@ -39,13 +39,15 @@ fn seen_stop<V: View>(view: &V, stop: Stop) -> Option<Stop>
     Some(stop)
 }
 
-// The pointer of a block of content, or the first on the way to it that leads nowhere. None where the view lacks a block on the way, or the
-// block itself; where something there breaks a rule; and where the file isn't so long.
-fn way_to<V: View>(view: &V, inode: u64, index: u64) -> Option<Stop>
+/// The pointer of the block of content with an index, or the first on the way to it that leads nowhere. None where the view lacks a block on
+/// the way, or the block itself; where something there breaks a rule; and where the file isn't so long. It costs a look at each block on the
+/// way, and no memory.
+pub fn way_to<V: View>(view: &V, inode: u64, index: u64) -> Option<Stop>
     ensures found { (h : Holding) → IsFile h → IsShown (V.seen view.now) inode h → IsPlace h 0 index → IsSeenWay (V.seen view.now) h index → IsSomeAnd result (IsStop h 0 index) }
     ensures there { IfSome result (λ stop. HasBlock (V.seen view.now) stop.pointer.from) }
     ensures fits { IfSome result (λ stop. stop.pointer.start + 8 * stop.pointer.index + 8 ≤ (V.seen view.now).size) }
     ensures block { IfSome result (λ stop. stop.block ≢ 0 → HasBlock (V.seen view.now) stop.block) }
+    ensures leads { (h : Holding) → IsShown (V.seen view.now) inode h → IfSome result (LeadsOn h 0 index) }
 {
     match find_place(view, inode, 0, index) {
         Ok(Step::Is(Some(stop))) => seen_stop(view, stop),
@@ -122,8 +124,10 @@ fn write_piece<V: View>(
     Ok(true)
 }
 
-// Writes bytes into the blocks of content, piece by piece. False where one of the blocks can't be had.
-fn write_pieces<V: View>(
+/// Writes bytes into a file's blocks of content, piece by piece, of which each way is seen that is there; a hole on the way is filled with a
+/// block from the front of `room`. False where one of the blocks can't be had. It costs a walk for each block and for each hole on the way
+/// there, and two copies of each block that is put.
+pub fn write_pieces<V: View>(
     alloc: Global,
     draft: &mut Draft<'_, V>,
     inode: u64,

@@ -6,5 +6,6 @@ mod looking;
 mod needing;
 mod numbers;
 
-pub use filling::fill;
-pub use needing::need_write;
+pub use filling::{fill, way_to, write_pieces};
+pub use needing::{goes_along, need_write};
+pub use numbers::{has_room, height_for};

@@ -35,8 +35,9 @@ pub(crate) struct Write {
     pub end: u64,
 }
 
-// Whether a file has content that goes along when it grows, by the bytes of its dinode's block.
-fn goes_along(bytes: &[u8], dinode: &Dinode) -> bool
+/// Whether a file has content that goes along when it gets higher, by the bytes of its dinode's block: a pointer that leads somewhere, and
+/// at height 0 a size. It costs a look at the dinode's pointers.
+pub fn goes_along(bytes: &[u8], dinode: &Dinode) -> bool
     requires large { 512 ≤ length bytes.now }
     requires small { length bytes.now ≤ 4096 }
     ensures { (h : Holding) → AreBytesOf h h.own bytes.now → dinode.now ≡ dinode_in h → result ≡ has_content h }

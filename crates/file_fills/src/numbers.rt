@@ -37,8 +37,8 @@ fn capacity_of(size: usize, height: u16) -> Option<u64>
     }
 }
 
-/// Whether a file of this height may have so many bytes of content.
-pub(crate) fn has_room(size: usize, height: u16, bytes: u64) -> bool
+/// Whether a file of this height may have so many bytes of content, in blocks of `size` bytes.
+pub fn has_room(size: usize, height: u16, bytes: u64) -> bool
     requires large { 512 ≤ size }
     requires small { size ≤ 4096 }
     ensures { IsTrue result ↔ (bytes ≤ capacity size height) }
@@ -49,12 +49,13 @@ pub(crate) fn has_room(size: usize, height: u16, bytes: u64) -> bool
     }
 }
 
-/// The height of a file of this height that gets so many bytes of content.
-pub(crate) fn height_for(size: usize, height: u16, bytes: u64) -> u16
+/// The height of a file of this height, in blocks of `size` bytes, that gets so many bytes of content: 10 at most, unless it is higher.
+pub fn height_for(size: usize, height: u16, bytes: u64) -> u16
     requires large { 512 ≤ size }
     requires small { size ≤ 4096 }
     ensures value { result ≡ raised_to size height bytes (10 - height) }
     ensures least { height ≤ result }
+    ensures most { height ≤ 10 → result ≤ 10 }
 {
     let mut high = height;
     while high < 10 && !has_room(size, high, bytes) {

@@ -3,6 +3,7 @@ use Rattle.std.specs.Prelude.{ℕ, ◌≡◌, ◌≢◌, ◌⊎◌, ◌+◌, ◌
 use Rattle.gfs2_layout.specs.Holding.{Holding}
 use Rattle.gfs2_layout.specs.Inode.{Leads, header_length, fan, span, pointer, height_in, IsPointed}
 use Rattle.glock_names.specs.Views.{Seen, HasBlock}
+use Rattle.dinode_tree.specs.Below.{IsBelow}
 use Rattle.growth_laws.specs.Blocks.{start_in}
 use Rattle.growth_laws.specs.Files.{places_on, block_on}
 use Rattle.file_walks.specs.declared.walks.Stop.{Stop}
@@ -51,6 +52,10 @@ IsWalk h level j (Some stop) = IsPlace h level j × IsStop h level j stop
 -- where the pointer of a stop leads somewhere, it is one of the inode's, whether that is sound or not
 abbrev pub LeadsOn : Holding → ℕ → ℕ → Stop → Type 0
 LeadsOn h level j stop = stop.block ≢ 0 → Leads h stop.pointer.from stop.pointer.index stop.level (first_of h level j stop) stop.block
+
+-- the block is the inode's own, or one to which its pointers lead, whether it is sound or not
+abbrev pub IsOfInode : Holding → ℕ → Type 0
+IsOfInode h b = (b ≡ h.own) ⊎ IsBelow h b
 
 -- the view has each block on the way to place j of a level that stands above a stop
 abbrev pub AreSeenAbove : Seen → Holding → ℕ → ℕ → Stop → Type 0

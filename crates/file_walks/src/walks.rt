@@ -9,7 +9,7 @@ ghost use Rattle.dinode_tree.specs.Broken.{IsBroken};
 ghost use Rattle.dinode_tree.specs.Reading.{IsNeeded, inode_lock};
 ghost use Rattle.dinode_tree.specs.Shown.{IsAtBlock, IsShown};
 ghost use Rattle.growth_laws.specs.Files.{IsFile, block_on};
-ghost use Rattle.file_walks.specs.Walks.{AreSeenAbove, IsPassed, IsPlace, IsStop, IsUnder, IsWalk, LeadsOn, place_above};
+ghost use Rattle.file_walks.specs.Walks.{AreSeenAbove, IsOfInode, IsPassed, IsPlace, IsStop, IsUnder, IsWalk, LeadsOn, place_above};
 ghost use Rattle.file_walks.specs.Going.{AreBytesOf, IsBegun, IsWayIn, count_in, stop_at, unit_in};
 
 use crate::numbers::{IN_BLOCK, begins_before, fan, number_at, place_over};
@@ -167,6 +167,7 @@ fn next_stop<V: View>(view: &V, way: &Way, stop: &Stop) -> Result<Step<Stop>, Ca
     requires above { way.now.level < stop.now.level }
     requires some { stop.now.block ≢ 0 }
     ensures lower { IfIs result (λ next. next.level + 1 ≡ stop.now.level) }
+    ensures from { IfIs result (λ next. next.pointer.from ≡ stop.now.block) }
     ensures there { IfIs result (λ next. HasBlock (V.seen view.now) next.pointer.from) }
     ensures fits { IfIs result (λ next. next.pointer.start + 8 * next.pointer.index + 8 ≤ (V.seen view.now).size) }
     ensures leads { (h : Holding) → IsShown (V.seen view.now) way.now.inode h → LeadsOn h way.now.level way.now.index stop.now → IfIs result (LeadsOn h way.now.level way.now.index) }
@@ -194,6 +195,7 @@ fn walk_down<V: View>(view: &V, way: &Way, first: Stop) -> Result<Step<Stop>, Ca
     requires fits { first.pointer.start + 8 * first.pointer.index + 8 ≤ (V.seen view.now).size }
     ensures stopped { (h : Holding) → IsFile h → IsShown (V.seen view.now) way.now.inode h → IsPlace h way.now.level way.now.index → IsPassed h way.now.level way.now.index first → LeadsOn h way.now.level way.now.index first → IfIs result (IsStop h way.now.level way.now.index) }
     ensures leads { (h : Holding) → IsShown (V.seen view.now) way.now.inode h → LeadsOn h way.now.level way.now.index first → IfIs result (LeadsOn h way.now.level way.now.index) }
+    ensures from { (h : Holding) → IsShown (V.seen view.now) way.now.inode h → LeadsOn h way.now.level way.now.index first → IsOfInode h first.pointer.from → IfIs result (λ stop. IsOfInode h stop.pointer.from) }
     ensures there { IfIs result (λ stop. HasBlock (V.seen view.now) stop.pointer.from) }
     ensures fits { IfIs result (λ stop. stop.pointer.start + 8 * stop.pointer.index + 8 ≤ (V.seen view.now).size) }
     ensures ended { IfIs result (λ stop. (stop.level ≡ way.now.level) ⊎ (stop.block ≡ 0)) }
@@ -224,6 +226,7 @@ pub fn find_place<V: View>(
 ) -> Result<Step<Option<Stop>>, CallFault>
     ensures found { (h : Holding) → IsFile h → IsShown (V.seen view.now) inode h → IfIs result (IsWalk h level index) }
     ensures leads { (h : Holding) → IsShown (V.seen view.now) inode h → IfIs result (λ found. IfSome found (LeadsOn h level index)) }
+    ensures from { (h : Holding) → IsShown (V.seen view.now) inode h → IfIs result (λ found. IfSome found (λ stop. IsOfInode h stop.pointer.from)) }
     ensures there { IfIs result (λ found. IfSome found (λ stop. HasBlock (V.seen view.now) stop.pointer.from)) }
     ensures fits { IfIs result (λ found. IfSome found (λ stop. stop.pointer.start + 8 * stop.pointer.index + 8 ≤ (V.seen view.now).size)) }
     ensures ended { IfIs result (λ found. IfSome found (λ stop. (stop.level ≡ level) ⊎ (stop.block ≡ 0))) }

@@ -1,7 +1,7 @@
 -- A file in a draft with other bytes in its dinode's block alone.
-use Rattle.std.proofs.Common.{◌≡◌, ◌≢◌, ◌⊎◌, ℕ, ◌+◌, ◌-◌, ◌*◌, ◌<◌, ◌≤◌, min, max, inl, inr, true, false, List, length, take, drop, Some, Ok, Result, Err, OnOk, sym, ap, subst, ◌∙◌, arith}
+use Rattle.std.proofs.Common.{◌≡◌, ◌≢◌, ◌⊎◌, ℕ, ◌+◌, ◌-◌, ◌*◌, ◌<◌, ◌≤◌, min, max, inl, inr, true, false, List, length, ◌++◌, take, drop, Some, Ok, Result, Err, OnOk, refl, sym, ap, subst, ◌∙◌, arith}
 use Rattle.std.proofs.lemmas.Bool.{cases_eq, cases_lt}
-use Rattle.std.proofs.lemmas.List.{length-take, length-drop, get_or-take, get_or-drop, get_or_past}
+use Rattle.std.proofs.lemmas.List.{length-take, length-drop, length-replicate, drop-drop, drop_at, take_at, get_or-take, get_or-drop, get_or_past}
 use Rattle.std.specs.Prelude.{replicate, ◌↔◌}
 use Rattle.std.specs.FinMap.{insert}
 use Rattle.drafts.specs.Fates.{Drafted, seen_in}
@@ -67,44 +67,117 @@ area_is content own area fits behind each =
     long : length (take (length content) (drop dinode_length area)) ≡ length content
     long = omega (arith, fits, length-take (length content) (drop dinode_length area), length-drop dinode_length area)
 
-pub stuffed_block : (d : Dinode) (at size : ℕ) (new old own : List ℕ) → dinode_length + d.size ≤ length old → dinode_length + at + length new ≤ length old → size ≡ max d.size (at + length new)
-    → dinode_read own ≡ Ok (record d { size = size }) → length own ≡ length old
-    → drop dinode_length own ≡ drop dinode_length (put_at (dinode_length + at) new (zeros_from (dinode_length + d.size) old))
-    → IsStuffedBlock (length old) (record d { size = size }) (overwritten at new (stuffed_in d old)) own
-stuffed_block d at size new old own fits room size_is read whole behind = record {
-  whole = whole;
-  read = read;
-  says = omega (arith, size_is, over_long);
-  room = omega (arith, over_long, fits, room);
-  area = area_is (overwritten at new (stuffed_in d old)) own (put_at (dinode_length + at) new (zeros_from (dinode_length + d.size) old)) (omega (arith, over_long, put_long, fits, room)) behind each;
-}
-  where
-    over_long : length (overwritten at new (stuffed_in d old)) ≡ at + length new + (d.size - (at + length new))
-    over_long = omega (arith, over_length at new (stuffed_in d old), stuffed_long d old fits)
+-- zeros between the end and the place, and the bytes over them, are the content with these bytes over it
+module _ (d : Dinode) (at until : ℕ) (new old : List ℕ) (fits : dinode_length + d.size ≤ length old) (room : dinode_length + at + length new ≤ length old) (until_is : until ≡ max (dinode_length + d.size) (dinode_length + at)) where
+  over_long : length (overwritten at new (stuffed_in d old)) ≡ max d.size (at + length new)
+  over_long = omega (arith, over_length at new (stuffed_in d old), stuffed_long d old fits)
 
-    clear_long : length (zeros_from (dinode_length + d.size) old) ≡ length old
-    clear_long = zeros_length (dinode_length + d.size) old fits
+  over_fits : dinode_length + length (overwritten at new (stuffed_in d old)) ≤ length old
+  over_fits = omega (arith, over_long, fits, room)
 
-    inside : dinode_length + at + length new ≤ length (zeros_from (dinode_length + d.size) old)
-    inside = omega (arith, clear_long, room)
+  zeros_long : length (replicate {A = ℕ} (until - (dinode_length + d.size)) 0) ≡ until - (dinode_length + d.size)
+  zeros_long = length-replicate (until - (dinode_length + d.size)) 0
 
-    put_long : length (put_at (dinode_length + at) new (zeros_from (dinode_length + d.size) old)) ≡ length old
-    put_long = length-put (dinode_length + at) new (zeros_from (dinode_length + d.size) old) inside ∙ clear_long
+  zeros_fit : dinode_length + d.size + length (replicate {A = ℕ} (until - (dinode_length + d.size)) 0) ≤ length old
+  zeros_fit = omega (arith, zeros_long, until_is, fits, room)
 
-    clear : (n : ℕ) → byte (zeros_from (dinode_length + d.size) old) (dinode_length + n) ≡ byte (stuffed_in d old) n
-    clear n = elim (zeros_byte (dinode_length + d.size) old (dinode_length + n) fits) [
-      | inl low ↦ elim (stuffed_byte d old n) [ inl is ↦ low.1 ∙ sym is.1 | inr is ↦ absurd (omega (arith, low.0, is.0)) ]
-      | inr past ↦ elim (stuffed_byte d old n) [ inl is ↦ absurd (omega (arith, past.0, is.0)) | inr is ↦ past.1 ∙ sym is.1 ]
-    ]
+  clear_long : length (put_at (dinode_length + d.size) (replicate (until - (dinode_length + d.size)) 0) old) ≡ length old
+  clear_long = length-put (dinode_length + d.size) (replicate (until - (dinode_length + d.size)) 0) old zeros_fit
 
-    each : (n : ℕ) → n < length (overwritten at new (stuffed_in d old)) → byte (put_at (dinode_length + at) new (zeros_from (dinode_length + d.size) old)) (dinode_length + n) ≡ byte (overwritten at new (stuffed_in d old)) n
-    each n low = elim (mid_byte (dinode_length + at) new (zeros_from (dinode_length + d.size) old) (dinode_length + n) inside) [
-      | inl before ↦ before.1 ∙ clear n ∙ sym (over_before at new (stuffed_in d old) n (omega (arith, before.0)))
-      | inr (inl here) ↦
-          let same : dinode_length + n - (dinode_length + at) ≡ n - at = omega arith in
-          here.2 ∙ ap (byte new) same ∙ sym (over_in at new (stuffed_in d old) n (omega (arith, here.0)) (omega (arith, here.1)))
-      | inr (inr after) ↦ after.1 ∙ clear n ∙ sym (over_behind at new (stuffed_in d old) n (omega (arith, after.0)))
-    ]
+  new_fits : dinode_length + at + length new ≤ length (put_at (dinode_length + d.size) (replicate (until - (dinode_length + d.size)) 0) old)
+  new_fits = omega (arith, clear_long, room)
+
+  clear_byte : (n : ℕ) → ((n < dinode_length + d.size) × (byte (put_at (dinode_length + d.size) (replicate (until - (dinode_length + d.size)) 0) old) n ≡ byte old n))
+      ⊎ ((dinode_length + d.size ≤ n) × (n < until) × (byte (put_at (dinode_length + d.size) (replicate (until - (dinode_length + d.size)) 0) old) n ≡ 0))
+      ⊎ ((until ≤ n) × (byte (put_at (dinode_length + d.size) (replicate (until - (dinode_length + d.size)) 0) old) n ≡ byte old n))
+  clear_byte n = elim (mid_byte (dinode_length + d.size) (replicate (until - (dinode_length + d.size)) 0) old n zeros_fit) [
+    | inl before ↦ inl before
+    | inr (inl here) ↦ inr (inl (here.0, omega (arith, here.1, zeros_long, until_is), here.2 ∙ zero_byte (until - (dinode_length + d.size)) (n - (dinode_length + d.size))))
+    | inr (inr after) ↦ inr (inr (omega (arith, after.0, zeros_long, until_is), after.1))
+  ]
+
+  in_content : (n : ℕ) → dinode_length ≤ n → n < dinode_length + max d.size (at + length new)
+      → byte (overwritten at new (stuffed_in d old)) (n - dinode_length) ≡ byte (put_at (dinode_length + at) new (put_at (dinode_length + d.size) (replicate (until - (dinode_length + d.size)) 0) old)) n
+  in_content n low high =
+      let back : dinode_length + (n - dinode_length) ≡ n = omega (arith, low) in
+      elim (mid_byte (dinode_length + at) new (put_at (dinode_length + d.size) (replicate (until - (dinode_length + d.size)) 0) old) n new_fits) [
+        | inl before ↦
+            over_before at new (stuffed_in d old) (n - dinode_length) (omega (arith, before.0, low))
+            ∙ elim (clear_byte n) [
+              | inl was ↦ elim (stuffed_byte d old (n - dinode_length)) [
+                | inl is ↦ is.1 ∙ ap (byte old) back ∙ sym was.1 ∙ sym before.1
+                | inr is ↦ absurd (omega (arith, was.0, is.0, low))
+              ]
+              | inr (inl none) ↦ elim (stuffed_byte d old (n - dinode_length)) [
+                | inl is ↦ absurd (omega (arith, none.0, is.0, low))
+                | inr is ↦ is.1 ∙ sym none.2 ∙ sym before.1
+              ]
+              | inr (inr past) ↦ absurd (omega (arith, past.0, until_is, before.0))
+            ]
+        | inr (inl here) ↦
+            let same : n - dinode_length - at ≡ n - (dinode_length + at) = omega arith in
+            over_in at new (stuffed_in d old) (n - dinode_length) (omega (arith, here.0)) (omega (arith, here.1, low)) ∙ ap (byte new) same ∙ sym here.2
+        | inr (inr after) ↦
+            over_behind at new (stuffed_in d old) (n - dinode_length) (omega (arith, after.0))
+            ∙ elim (clear_byte n) [
+              | inl was ↦ elim (stuffed_byte d old (n - dinode_length)) [
+                | inl is ↦ is.1 ∙ ap (byte old) back ∙ sym was.1 ∙ sym after.1
+                | inr is ↦ absurd (omega (arith, was.0, is.0, low))
+              ]
+              | inr (inl none) ↦ absurd (omega (arith, none.0, high, after.0))
+              | inr (inr past) ↦ absurd (omega (arith, past.0, until_is, high, after.0))
+            ]
+      ]
+
+  outside : (n : ℕ) → (n < dinode_length) ⊎ (dinode_length + max d.size (at + length new) ≤ n)
+      → byte old n ≡ byte (put_at (dinode_length + at) new (put_at (dinode_length + d.size) (replicate (until - (dinode_length + d.size)) 0) old)) n
+  outside n out = elim (mid_byte (dinode_length + at) new (put_at (dinode_length + d.size) (replicate (until - (dinode_length + d.size)) 0) old) n new_fits) [
+    | inl before ↦ clear n out ∙ sym before.1
+    | inr (inl here) ↦ absurd (never here.0 here.1 out)
+    | inr (inr after) ↦ clear n out ∙ sym after.1
+  ]
+    where
+      clear : (n : ℕ) → (n < dinode_length) ⊎ (dinode_length + max d.size (at + length new) ≤ n) → byte old n ≡ byte (put_at (dinode_length + d.size) (replicate (until - (dinode_length + d.size)) 0) old) n
+      clear n out = elim (clear_byte n) [
+        | inl was ↦ sym was.1
+        | inr (inl none) ↦ absurd (elim out [ inl low ↦ omega (arith, low, none.0) | inr high ↦ omega (arith, high, none.1, until_is) ])
+        | inr (inr past) ↦ sym past.1
+      ]
+
+      never : dinode_length + at ≤ n → n < dinode_length + at + length new → (n < dinode_length) ⊎ (dinode_length + max d.size (at + length new) ≤ n) → ⊥
+      never from to (inl low) = omega (arith, from, low)
+      never from to (inr high) = omega (arith, to, high)
+
+  pub put_over : put_at (dinode_length + at) new (put_at (dinode_length + d.size) (replicate (until - (dinode_length + d.size)) 0) old) ≡ put_at dinode_length (overwritten at new (stuffed_in d old)) old
+  put_over = same_bytes _ _ (length-put (dinode_length + at) new (put_at (dinode_length + d.size) (replicate (until - (dinode_length + d.size)) 0) old) new_fits ∙ clear_long ∙ sym (length-put dinode_length (overwritten at new (stuffed_in d old)) old over_fits))
+      (λ n low. elim (mid_byte dinode_length (overwritten at new (stuffed_in d old)) old n over_fits) [
+        | inl before ↦ sym (before.1 ∙ outside n (inl before.0))
+        | inr (inl here) ↦ sym (here.2 ∙ in_content n here.0 (omega (arith, here.1, over_long)))
+        | inr (inr after) ↦ sym (after.1 ∙ outside n (inr (omega (arith, after.0, over_long))))
+      ])
+
+-- content that is put behind a dinode
+module _ (d : Dinode) (at size : ℕ) (new old own : List ℕ) (fits : dinode_length + d.size ≤ length old) (room : dinode_length + at + length new ≤ length old) (size_is : size ≡ max d.size (at + length new))
+    (behind : drop dinode_length own ≡ drop dinode_length (put_at dinode_length (overwritten at new (stuffed_in d old)) old)) where
+  long : length (overwritten at new (stuffed_in d old)) ≡ size
+  long = omega (arith, size_is, over_length at new (stuffed_in d old), stuffed_long d old fits)
+
+  area : drop dinode_length own ≡ overwritten at new (stuffed_in d old) ++ drop (dinode_length + length (overwritten at new (stuffed_in d old))) old
+  area = behind ∙ drop_at (take dinode_length old) _ dinode_length (omega (arith, fits, length-take dinode_length old))
+
+  pub stuffed_block : dinode_read own ≡ Ok (record d { size = size }) → length own ≡ length old → IsStuffedBlock (length old) (record d { size = size }) (overwritten at new (stuffed_in d old)) own
+  stuffed_block read whole = record {
+    whole = whole;
+    read = read;
+    says = sym long;
+    room = omega (arith, long, size_is, fits, room);
+    area = ap (take (length (overwritten at new (stuffed_in d old)))) area ∙ take_at (overwritten at new (stuffed_in d old)) _ _ refl;
+  }
+
+  pub stuffed_behind : drop (dinode_length + size) own ≡ drop (dinode_length + size) old
+  stuffed_behind =
+      sym (drop-drop size dinode_length own) ∙ ap (drop size) area ∙ drop_at (overwritten at new (stuffed_in d old)) _ size long
+      ∙ ap (λ n. drop (dinode_length + n) old) long
 
 pub resized_block : (d : Dinode) (size clear : ℕ) (old own : List ℕ) → dinode_length + d.size ≤ length old → dinode_length + size ≤ length old → clear ≡ min d.size size
     → dinode_read own ≡ Ok (record d { size = size }) → length own ≡ length old → drop dinode_length own ≡ drop dinode_length (zeros_from (dinode_length + clear) old)

@@ -1,9 +1,10 @@
 // Content behind a file's dinode.
-ghost use Rattle.std.specs.Prelude.{ℕ, List, ◌≡◌, ◌+◌, ◌≤◌, false, max, length, Some, OnOk};
+ghost use Rattle.std.specs.Prelude.{ℕ, List, ◌≡◌, ◌+◌, ◌-◌, ◌≤◌, false, max, length, drop, replicate, Some, OnOk};
 ghost use Rattle.std.specs.FinMap.{insert};
 ghost use Rattle.drafts.specs.Fates.{seen_in};
 ghost use Rattle.drafts.specs.declared.fate.Fate.TheVariants.{Put};
 ghost use Rattle.file_tree.specs.Apply.{overwritten, resized};
+ghost use Rattle.gfs2_layout.specs.Bytes.{put_at};
 ghost use Rattle.gfs2_layout.specs.Holding.{Holding};
 ghost use Rattle.gfs2_layout.specs.Inode.{dinode_in, height_in, content_of};
 ghost use Rattle.gfs2_layout.specs.Structures.{dinode_length};
@@ -24,14 +25,25 @@ use gfs2_layout::{DINODE_LENGTH, Dinode};
 use glock_names::View;
 use no_memory::NoMemory;
 
+// Zeros from a place up to another.
+fn clear_between(block: &mut [u8], from: usize, until: usize)
+    requires order { from ≤ until }
+    requires within { until ≤ length block.old }
+    ensures { block.new ≡ put_at from (replicate (until - from) 0) block.old }
+{
+    block[from..until].fill(0);
+}
+
 // Bytes over the content behind a dinode, and the dinode with the size that it has then.
 fn write_stuffed(block: &mut [u8], dinode: &Dinode, at: usize, new: &[u8])
     requires content { dinode_length + dinode.now.size ≤ length block.old }
     requires room { dinode_length + at + length new.now ≤ length block.old }
     ensures bytes { block.new ≡ stuffed_bytes dinode.now at new.now block.old }
     ensures stuffed { IsStuffedBlock (length block.old) (record dinode.now { size = max dinode.now.size (at + length new.now) }) (overwritten at new.now (stuffed_in dinode.now block.old)) block.new }
+    ensures behind { drop (dinode_length + max dinode.now.size (at + length new.now)) block.new ≡ drop (dinode_length + max dinode.now.size (at + length new.now)) block.old }
 {
-    clear_from(block, DINODE_LENGTH + dinode.size as usize);
+    let end = DINODE_LENGTH + dinode.size as usize;
+    clear_between(block, end, end.max(DINODE_LENGTH + at));
     overwrite(block, DINODE_LENGTH + at, new);
     let written = Dinode {
         size: dinode.size.max((at + new.len()) as u64),
@@ -68,6 +80,8 @@ fn put_written<V: View>(
     requires room { dinode_length + at + length new.now ≤ (V.seen draft.old.view).size }
     ensures put { (bytes : List ℕ) → (seen_in V.seen draft.old).block_at inode ≡ Some bytes
         → OnOk result (draft.new ≡ record draft.old { fates = insert draft.old.fates inode (Put (inode_lock inode) false (stuffed_bytes dinode.now at new.now bytes)) }) }
+    ensures behind { (bytes : List ℕ) → (seen_in V.seen draft.old).block_at inode ≡ Some bytes
+        → OnOk result (drop (dinode_length + max dinode.now.size (at + length new.now)) (stuffed_bytes dinode.now at new.now bytes) ≡ drop (dinode_length + max dinode.now.size (at + length new.now)) bytes) }
     ensures view { draft.new.view ≡ draft.old.view }
     ensures stuffed { (bytes : List ℕ) → (seen_in V.seen draft.old).block_at inode ≡ Some bytes
         → OnOk result (IsStuffedBlock (V.seen draft.old.view).size (record dinode.now { size = max dinode.now.size (at + length new.now) }) (overwritten at new.now (stuffed_in dinode.now bytes)) (stuffed_bytes dinode.now at new.now bytes)) }
@@ -103,8 +117,8 @@ fn put_resized<V: View>(
 }
 
 /// Puts bytes over the content that stands behind a file's dinode, from a place on, with zeros between its end and that place; the
-/// dinode, which is passed as it is read, gets the size that it has then. Of each file that the draft showed and that has its content
-/// there, it then shows the file with these bytes over it. It costs two copies of the block.
+/// dinode, which is passed as it is read, gets the size that it has then, and what stands behind the content stays. Of each file that
+/// the draft showed and that has its content there, it then shows the file with these bytes over it. It costs two copies of the block.
 pub fn put_stuffed<V: View>(
     draft: &mut Draft<'_, V>,
     inode: u64,
@@ -117,6 +131,8 @@ pub fn put_stuffed<V: View>(
     requires room { dinode_length + at + length new.now ≤ (V.seen draft.old.view).size }
     ensures put { (bytes : List ℕ) → (seen_in V.seen draft.old).block_at inode ≡ Some bytes
         → OnOk result (draft.new ≡ record draft.old { fates = insert draft.old.fates inode (Put (inode_lock inode) false (stuffed_bytes dinode.now at new.now bytes)) }) }
+    ensures behind { (bytes : List ℕ) → (seen_in V.seen draft.old).block_at inode ≡ Some bytes
+        → OnOk result (drop (dinode_length + max dinode.now.size (at + length new.now)) (stuffed_bytes dinode.now at new.now bytes) ≡ drop (dinode_length + max dinode.now.size (at + length new.now)) bytes) }
     ensures view { draft.new.view ≡ draft.old.view }
     ensures written { (h : Holding) (bytes : List ℕ) → IsFile h → IsShown (seen_in V.seen draft.old) inode h → dinode.now ≡ dinode_in h → height_in h ≡ 0
         → (seen_in V.seen draft.old).block_at inode ≡ Some bytes

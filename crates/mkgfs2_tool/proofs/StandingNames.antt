@@ -51,8 +51,7 @@ is_journal_name j low = record {
       ),
     ),
   );
-  not_dot = λ e. absurd (omega (arith, ap length e));
-  not_dots = λ e. absurd (omega (arith, ap length e));
+  not_dots = refl;
 }
   where
     byte : (b : ℕ) → 1 ≤ b → 48 ≤ b → IsNameByte b
@@ -63,8 +62,7 @@ is_jindex_name = record {
   some = omega arith;
   short = omega arith;
   plain = (byte 106 (omega arith), (byte 105 (omega arith), (byte 110 (omega arith), (byte 100 (omega arith), (byte 101 (omega arith), (byte 120 (omega arith), tt))))));
-  not_dot = λ e. absurd (omega (arith, ap length e));
-  not_dots = λ e. absurd (omega (arith, ap length e));
+  not_dots = refl;
 }
   where
     byte : (b : ℕ) → 48 ≤ b → IsNameByte b
@@ -75,8 +73,7 @@ is_rindex_name = record {
   some = omega arith;
   short = omega arith;
   plain = (byte 114 (omega arith), (byte 105 (omega arith), (byte 110 (omega arith), (byte 100 (omega arith), (byte 101 (omega arith), (byte 120 (omega arith), tt))))));
-  not_dot = λ e. absurd (omega (arith, ap length e));
-  not_dots = λ e. absurd (omega (arith, ap length e));
+  not_dots = refl;
 }
   where
     byte : (b : ℕ) → 48 ≤ b → IsNameByte b

@@ -3,3 +3,4 @@ mod Made
 mod Retimed
 mod Rehashed
 mod Touches
+pub mod Laid

@@ -6,6 +6,7 @@ use Rattle.file_fills.proofs.numbers.height_for.Goals as goal
 pub loop-high-preserved : goal.loop-high-preserved
 loop-high-preserved c = record {
   least = omega arith;
+  most = λ low. omega (arith, c.loop-high-test.true);
   same = c.loop-high.invariant.same
       ∙ raised_more c.args.size c.loop-high.high c.args.bytes c.loop-high-test.true (lacks c.has_room.result c.has_room.ensures c.if-not-has_room.true);
 }

@@ -5,6 +5,7 @@ use Rattle.file_fills.proofs.numbers.height_for.Given as goal
 abbrev pub invariant-loop-high : goal.invariant-loop-high
 invariant-loop-high l = record {
   least : l.height ≤ l.high;
+  most : l.height ≤ 10 → l.high ≤ 10;
   same : raised_to l.size l.height l.bytes (10 - l.height) ≡ raised_to l.size l.high l.bytes (10 - l.high);
 }
 

@@ -1,6 +1,7 @@
-use Rattle.std.proofs.Common.{◌≡◌, inl, inr, arith}
+use Rattle.std.proofs.Common.{◌≡◌, inl, inr, sym, subst, arith}
+use Rattle.gfs2_layout.specs.Inode.{Leads}
 use Rattle.glock_names.proofs.StepLaws.{answer_at, needed_at}
-use Rattle.file_walks.specs.Walks.{IsPassed, LeadsOn}
+use Rattle.file_walks.specs.Walks.{IsPassed, LeadsOn, first_of}
 use Rattle.file_walks.proofs.Steps.{seen_one, stopped}
 use Rattle.file_walks.proofs.walks.walk_down.Goals as goal
 
@@ -10,6 +11,7 @@ loop-stop-init g c = record {
   there = c.requires.there;
   fits = c.requires.fits;
   leads = λ h shown leads. leads;
+  from = λ h shown leads from. from;
   seen = λ h file shown passed leads n low high. absurd (omega (arith, low, high));
   passed = λ h file shown passed leads. passed;
 }
@@ -21,6 +23,15 @@ loop-stop-preserved g c = record {
   fits = answer_at c.in_ok-next.field-0 c.in-Is.next _ c.in-Is.is c.in_ok-next.ensures.fits;
   leads = λ h shown leads.
       answer_at c.in_ok-next.field-0 c.in-Is.next (LeadsOn h c.args.way.now.level c.args.way.now.index) c.in-Is.is (c.in_ok-next.ensures.leads h shown (c.loop-stop.invariant.leads h shown leads));
+  from = λ h shown leads from.
+      let is = answer_at c.in_ok-next.field-0 c.in-Is.next _ c.in-Is.is c.in_ok-next.ensures.from in
+      inr (
+        c.loop-stop.stop.pointer.from,
+        c.loop-stop.stop.pointer.index,
+        c.loop-stop.stop.level,
+        _,
+        subst (Leads h c.loop-stop.stop.pointer.from c.loop-stop.stop.pointer.index c.loop-stop.stop.level (first_of h c.args.way.now.level c.args.way.now.index c.loop-stop.stop)) (sym is) (c.loop-stop.invariant.leads h shown leads c.if-stop-ne0.true),
+      );
   seen = λ h file shown passed leads.
       seen_one (g.V.View.seen c.args.view.now) h c.args.way.now.level c.args.way.now.index c.args.first.level c.loop-stop.stop c.in-Is.next
       (c.loop-stop.invariant.passed h file shown passed leads) (answer_at c.in_ok-next.field-0 c.in-Is.next _ c.in-Is.is c.in_ok-next.ensures.seen)

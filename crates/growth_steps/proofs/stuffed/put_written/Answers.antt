@@ -1,4 +1,4 @@
-use Rattle.std.proofs.Common.{◌≡◌, ◌∙◌, length, false, ap, rules}
+use Rattle.std.proofs.Common.{◌≡◌, ◌+◌, ◌∙◌, length, max, drop, false, ap, sym, rules}
 use Rattle.std.proofs.lemmas.List.{take_at}
 use Rattle.std.specs.FinMap.{insert}
 use Rattle.drafts.specs.declared.fate.Fate.TheVariants.{Put}
@@ -22,3 +22,10 @@ returns-clause-stuffed g c bytes there =
     on_ok c.put.result _ _
     (λ is. block_along _ _ _ (λ xs. overwritten c.args.at c.args.new.now xs) _ _ _ _ whole (ap (stuffed_in c.args.dinode.now) (c.deref_mut.ensures.value ∙ copied)) (c.write_stuffed.ensures.bytes ∙ ap (stuffed_bytes c.args.dinode.now c.args.at c.args.new.now) (c.deref_mut.ensures.value ∙ copied)) c.write_stuffed.ensures.stuffed)
     c.put.ensures.ok
+
+pub returns-clause-behind : goal.returns-clause-behind
+returns-clause-behind g c bytes there =
+    let copied : c.in-Some.bytes.items ≡ bytes = search rules in
+    let was : c.deref_mut.result.now ≡ bytes = c.deref_mut.ensures.value ∙ copied in
+    let n = 232 + max c.args.dinode.now.size (c.args.at + length c.args.new.now) in
+    on_ok c.put.result _ _ (λ is. ap (drop n) (sym (c.write_stuffed.ensures.bytes ∙ ap (stuffed_bytes c.args.dinode.now c.args.at c.args.new.now) was)) ∙ c.write_stuffed.ensures.behind ∙ ap (drop n) was) c.put.ensures.ok

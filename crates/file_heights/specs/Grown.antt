@@ -1,0 +1,62 @@
+-- A file that grows in a draft: what stays of it, what it gets, and how high it becomes.
+use Rattle.std.specs.Prelude.{ℕ, ◌≡◌, ◌≢◌, ◌↔◌, ◌+◌, ◌≤◌, IsSome, true, List, [], ◌++◌, length, Option}
+use Rattle.std.specs.FinMap.{FinMap}
+use Rattle.std.specs.Ordering.{nat_cmp}
+use Rattle.drafts.specs.declared.fate.Fate.{Fate}
+use Rattle.file_tree.specs.Apply.{file_limit}
+use Rattle.gfs2_layout.specs.Holding.{Cell, Holding}
+use Rattle.gfs2_layout.specs.Inode.{block_count, content_of, dinode_in, height_in}
+use Rattle.gfs2_layout.specs.declared.dinode.Dinode.{Dinode}
+use Rattle.glock_names.specs.Views.{Seen}
+use Rattle.dinode_tree.specs.Shown.{IsShown}
+use Rattle.growth_laws.specs.Files.{IsFile, IsPlaced, with_cells}
+use Rattle.growth_laws.specs.Need.{has_content, height_for, needed_below}
+use Rattle.growth_laws.specs.Steps.{IsClearFrom}
+use Rattle.growth_drafts.specs.Taken.{AreFreeFor, DraftsFile, HasTaken}
+
+-- ---- a file afterwards
+
+-- With these cells: the dinode says this and this is the content; it has these blocks more, and each that it had stands where it stood.
+pub record IsGrown (old new : FinMap nat_cmp Fate) (h : Holding) (cell : ℕ → Option Cell) (d : Dinode) (bytes taken : List ℕ) : Type 0 where
+  pub file : IsFile (with_cells h cell)
+  pub dinode : dinode_in (with_cells h cell) ≡ d
+  pub content : content_of (with_cells h cell) ≡ bytes
+  pub blocks : HasTaken h (with_cells h cell) taken
+  pub counted : block_count (with_cells h cell) ≡ block_count h + length taken
+  pub places : (b level first : ℕ) → IsSome (h.cell b) → IsPlaced (with_cells h cell) b level first ↔ IsPlaced h b level first
+  pub drafted : DraftsFile old new h (with_cells h cell) []
+
+-- ---- its height
+
+-- The same file, so high. A write to it needs as many blocks less as were taken; what is clear stays so; and content that goes along goes on to.
+pub record IsRisen (old new : FinMap nat_cmp Fate) (h : Holding) (cell : ℕ → Option Cell) (height : ℕ) (taken : List ℕ) : Type 0 where
+  pub grown : IsGrown old new h cell (record (dinode_in h) { height = height }) (content_of h) taken
+  pub need : (at end to : ℕ) → height ≤ to → needed_below h at end to ≡ length taken + needed_below (with_cells h cell) at end to
+  pub clear : height ≢ 0 → (height_in h ≢ 0 → IsClearFrom h (dinode_in h).size) → IsClearFrom (with_cells h cell) (dinode_in h).size
+  pub along : has_content h ≡ true → has_content (with_cells h cell) ≡ true
+
+-- over a draft that showed a file: afterwards it shows it so high, with blocks from the front of the room, and this is its dinode
+pub record HasRisen (after : Seen) (old new : FinMap nat_cmp Fate) (room left : List ℕ) (h : Holding) (height : ℕ) (d : Dinode) : Type 0 where
+  pub cell : ℕ → Option Cell
+  pub taken : List ℕ
+  pub shown : IsShown after h.own (with_cells h cell)
+  pub risen : IsRisen old new h cell height taken
+  pub from_front : room ≡ taken ++ left
+  pub dinode : d ≡ dinode_in (with_cells h cell)
+
+-- a file that is to have so many bytes, no fewer than it has: where it has content that goes along, the room has a block for each new level
+pub record CanGrow (h : Holding) (size : ℕ) (room : List ℕ) : Type 0 where
+  pub file : IsFile h
+  pub least : (dinode_in h).size ≤ size
+  pub short : size ≤ file_limit
+  pub free : AreFreeFor h room
+  pub enough : has_content h ≡ true → height_for h size ≤ height_in h + length room
+
+-- ---- its end
+
+-- over a draft that showed a file in blocks: afterwards it shows the same one, with nothing but zeros behind its end
+pub record HasCleared (after : Seen) (old new : FinMap nat_cmp Fate) (h : Holding) : Type 0 where
+  pub cell : ℕ → Option Cell
+  pub shown : IsShown after h.own (with_cells h cell)
+  pub same : IsRisen old new h cell (height_in h) []
+  pub clear : IsClearFrom (with_cells h cell) (dinode_in h).size

@@ -1,0 +1,28 @@
+use Rattle.std.proofs.Common.{◌≡◌, sym, subst}
+use Rattle.image_mount.specs.Refusals.{HasRisen}
+use Rattle.image_model.specs.Image.{image_of}
+use Rattle.image_mount.proofs.Marked.{grown_same}
+use Rattle.image_mount.proofs.Marks.{searched_leaf}
+use Rattle.image_mount.proofs.Stops.{handed, refused}
+use Rattle.image_mount.proofs.Working.{working_same}
+use Rattle.image_mount.proofs.fetching.read_leaf.Goals as goal
+
+pub returns-in_err-check_readable-clause-risen : goal.returns-in_err-check_readable-clause-risen
+returns-in_err-check_readable-clause-risen g c =
+    handed _ (λ f. f ≡ c.in_err-check_readable.field-0.0) (HasRisen (g.D.SharedDisk.faults c.args.disk.now) (g.D.SharedDisk.faults c.args.disk.now)) c.from_residual.ensures.1
+    (λ f e. subst (HasRisen (g.D.SharedDisk.faults c.args.disk.now) (g.D.SharedDisk.faults c.args.disk.now)) (sym e) (c.in_err-check_readable.ensures.steady (g.D.SharedDisk.faults c.args.disk.now) (g.D.SharedDisk.faults c.args.disk.now)))
+
+pub returns-in_err-check_readable-clause-refused : goal.returns-in_err-check_readable-clause-refused
+returns-in_err-check_readable-clause-refused g c done d n tells wanted known =
+    refused (image_of (g.D.SharedDisk.state c.args.disk.now)) _ _ c.from_residual.ensures.1
+    (c.in_err-check_readable.ensures.refused (image_of (g.D.SharedDisk.state c.args.disk.now)) done d n c.requires.work.size c.blocks-2.ensures.value wanted known)
+
+pub returns-clause-work : goal.returns-clause-work
+returns-clause-work g c = working_same (g.D.SharedDisk.state c.args.disk.now) _ c.args.table.now _ c.in_ok-read_into.ensures.reads.same c.requires.work c.mark_leaf.ensures.entries c.mark_leaf.ensures.size
+
+pub returns-clause-searched : goal.returns-clause-searched
+returns-clause-searched g c im done d n wanted known =
+    searched_leaf im done d n c.args.table.now _ c.args.block c.args.from c.mark_leaf.ensures.leaves c.mark_leaf.ensures.entries c.mark_leaf.ensures.places wanted known
+
+pub returns-clause-grown : goal.returns-clause-grown
+returns-clause-grown g c = grown_same c.args.table.now _ c.mark_leaf.ensures.entries c.mark_leaf.ensures.places
