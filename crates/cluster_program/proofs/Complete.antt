@@ -82,7 +82,7 @@ module _ (words : List (List ℕ)) (given left : Inputs) (sinks sinks_now : Outp
   of_run : IsMountable given.disk → (s : ScriptValue) (time : ℕ) (items : List TraceItem) (own : Status) → RunEnds given left s time items own → IsUpToBuilt own
   of_run may s time items own (IsDone all whole) = inl (inl refl)
   of_run may s time items own (NotMounted own' none_yet same ends) = inl (of_mount may own ends)
-  of_run may s time items own (CallFailed m block x y for root up within at) = absurd (none.disk 1 (rose (given.disk_faults 1) (left.disk_faults 1) x y up))
+  of_run may s time items own (CallFailed m block x y for up within at) = absurd (none.disk 1 (rose (given.disk_faults 1) (left.disk_faults 1) x y up))
   of_run may s time items own (CallHashed m block for at) = inr (part.Block block, refl)
   of_run may s time items own (CallUnbuilt m place for at taken) = inr (part.Script (runs.first_line s + place), refl)
   of_run may s time items own (CallDamaged m block rule for never at told) = absurd (never may.is.tells may.tree may.is.stands)
@@ -94,7 +94,7 @@ module _ (words : List (List ℕ)) (given left : Inputs) (sinks sinks_now : Outp
   of_make make few room own (IsTooSmall needed few' lacks least same) = let both : true ≡ false = sym room ∙ lacks in cc
   of_make make few room own (LacksMemory few' room' same) = inr refl
   of_make make few room own (HasFailed block x y few' room' up within begun same) = absurd (none.disk 0 (rose (given.disk_faults 0) (left.disk_faults 0) x y up))
-  of_make make few room own (HasMade few' room' made may same) = inl refl
+  of_make make few room own (HasMade few' room' made same) = inl refl
 
   -- two commands are not the same words
   not_make_run : (make : MakeWords) (run : RunWords) → words_read given.disk.size words ≡ Ok (command.Make make) → words_read given.disk.size words ≡ Ok (command.Run run) → ⊥

@@ -63,7 +63,7 @@ module _ (given left : Inputs) (sinks sinks_now : Outputs) where
   run_fault : (s : ScriptValue) (time : ℕ) (items : List TraceItem) (own : Status) → RunEnds given left s time items own → FaultHasCause given left sinks sinks_now own
   run_fault s time items own (IsDone all whole) = tt
   run_fault s time items own (NotMounted own' none same ends) = mount_fault own ends
-  run_fault s time items own (CallFailed m block x y for root up within at) = up
+  run_fault s time items own (CallFailed m block x y for up within at) = up
   run_fault s time items own (CallHashed m block for at) = tt
   run_fault s time items own (CallUnbuilt m place for at taken) = tt
   run_fault s time items own (CallDamaged m block rule for never at told) = tt
@@ -74,7 +74,7 @@ module _ (given left : Inputs) (sinks sinks_now : Outputs) where
   make_fault make own (IsTooSmall needed few lacks least same) = tt
   make_fault make own (LacksMemory few room same) = tt
   make_fault make own (HasFailed block x y few room up within begun same) = up
-  make_fault make own (HasMade few room made may same) = tt
+  make_fault make own (HasMade few room made same) = tt
 
   course_fault : (words : List (List ℕ)) (s : ScriptValue) (items : List TraceItem) (lines : List ℕ) (own : Status) → Course words given left s items lines own → FaultHasCause given left sinks sinks_now own
   course_fault words s items lines own (RefusesWords told refused untouched) = words_fault given.disk.size words own refused

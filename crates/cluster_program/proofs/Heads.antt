@@ -24,7 +24,7 @@ some_at (x ∷ xs) zero j d is low = (x, refl)
 some_at (x ∷ xs) (suc k) zero d is low = absurd (omega (arith, low))
 some_at (x ∷ xs) (suc k) (suc j) d is low = some_at xs k j d is (omega (arith, low))
 
-pub is_there : {A : Type 0} (xs : List A) (j : ℕ) → ((c : A) × (slice_get xs j ≡ Some c)) ⊎ (length xs ≤ j)
+is_there : {A : Type 0} (xs : List A) (j : ℕ) → ((c : A) × (slice_get xs j ≡ Some c)) ⊎ (length xs ≤ j)
 is_there [] j = inr (omega arith)
 is_there (x ∷ xs) zero = inl (x, refl)
 is_there (x ∷ xs) (suc j) = elim (is_there xs j) [ inl it ↦ inl it | inr past ↦ inr (omega (arith, past)) ]

@@ -6,7 +6,7 @@ use Rattle.std.proofs.lemmas.Bool.Decides.{nat_tests}
 use Rattle.shared_disk.specs.Disk.{DiskState, Operation}
 use Rattle.command_words.specs.Limits.{IsMakeWithin}
 use Rattle.command_words.specs.declared.command.MakeWords.{MakeWords}
-use Rattle.mkgfs2_tool.specs.Making.{bad_option, is_between, plan_of, IsFaultOf}
+use Rattle.mkgfs2_tool.specs.Making.{bad_option, is_between, IsFaultOf}
 use Rattle.mkgfs2_tool.specs.Outcomes.{Ending, IsRefused, IsTooSmall, IsTried, LacksMemory, HasFailed, HasMade, IsUntouched}
 use Rattle.mkgfs2_tool.specs.declared.options.MakeOptions.{MakeOptions}
 use Rattle.mkgfs2_tool.specs.declared.options.Opt.{Opt}
@@ -17,7 +17,6 @@ use Rattle.cluster_program.specs.Course.{Makes, options_of}
 use Rattle.cluster_program.specs.World.{inputs, KeepsScript}
 use Rattle.cluster_program.specs.declared.status.Status.{Status}
 use Rattle.cluster_program.specs.declared.status.Status.TheVariants as status
-use Rattle.cluster_program.proofs.Made.{made_mountable}
 
 -- the status that a result is told by; within the limits of the words no number is a bad option
 abbrev pub status_of : Result (Unit {0}) MakeFault → Status
@@ -61,7 +60,7 @@ module _ (w : MakeWords) (s s' : DiskState) (l l' : Option (List Operation)) (f 
   makes r left failed few (IsTried r' fine room (HasFailed (fault.TooSmall needed found) cause begun)) = absurd cause
   makes r left failed few (IsTried r' fine room (HasFailed (fault.BadOption opt) cause begun)) = absurd cause
   makes r left failed few (IsTried r' fine room (HasFailed fault.NoMemory cause begun)) = absurd cause
-  makes r left failed few (IsTried r' fine room (HasMade made)) = course.HasMade few room made (λ tells. made_mountable s' (plan_of s.size s.count (options_of w)) (made.rest.tells ∙ tells) (made.stands tells)) (kept left failed)
+  makes r left failed few (IsTried r' fine room (HasMade made)) = course.HasMade few room made (kept left failed)
 
 -- the same, of a result and options that are known by equations
 pub makes_so : (w : MakeWords) (o : MakeOptions) (s s' : DiskState) (l l' : Option (List Operation)) (f f' : ℕ → ℕ) (r : Result (Unit {0}) MakeFault) (answer : Status) → IsMakeWithin w → o ≡ options_of w

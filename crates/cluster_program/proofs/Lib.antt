@@ -11,7 +11,6 @@ pub mod Scripts
 pub mod Courses
 pub mod ClientLines
 pub mod Faults
-pub mod Made
 pub mod Images
 pub mod Ends
 pub mod Dirty

@@ -113,7 +113,7 @@ pub record HasRun (d d' : DiskState) (list list' : Option (List Operation)) (n :
   pub hashed : IfErr r (λ e. IfHashed e (λ b. EndsAtCall (λ call. IsHashedOn d' n call b) s.clients s.lines items (StandsFor d n)))
   pub unbuilt : IfErr r (λ e. IfNotBuilt e (λ place. EndsAt place (λ call. IsUnbuiltOn d' n call) s.clients s.lines items (StandsFor d n)))
   pub taken : IfErr r (λ e. IfNotBuilt e (λ place. EndsAt place (IsTakenBehind s.clients items (StandsFor d n)) s.clients s.lines items (StandsFor d n)))
-  pub failed : IfErr r (λ e. IfDiskFailed e (λ block. EndsAtCall (λ call. IsFailedOn (moment d list) (moment d' list') n time s.clients items call block) s.clients s.lines items (StandsFor d n)))
+  pub failed : IfErr r (λ e. IfDiskFailed e (λ block. EndsAtCall (λ call. IsFailedOn (moment d list) d' n time s.clients items call block) s.clients s.lines items (StandsFor d n)))
   pub cause : IfErr r (HasCause 1 d.count before now)
 
 -- ---- the ends
@@ -151,7 +151,7 @@ module _ (given left : Inputs) (m : MountedValue) (s : ScriptValue) (time : ℕ)
   module _ (calls : CallsTellExactly) (needs : NeedsTell) (read : MountedAreRead) (inside : HasRootInside (seen_alone n)) where
     call_end : (e : RunEnd) → UnlessFailed e (OfImage left.disk IsImage) → HasRun given.disk left.disk given.disk_list left.disk_list n before left.disk_faults s time items (Err e) → RunEnds given left s time items (status_of_end (first_line s) e)
     call_end (end.DiskFailed block rise) image r =
-        CallFailed m block rise.before rise.after for inside (longer (given.disk_faults 1) (before 1) (left.disk_faults 1) rise.before rise.after (earlier 1) r.cause.0) r.cause.1
+        CallFailed m block rise.before rise.after for (longer (given.disk_faults 1) (before 1) (left.disk_faults 1) rise.before rise.after (earlier 1) r.cause.0) r.cause.1
         (call_from s.clients s.lines items (StandsFor given.disk n) (IsImageOf given.disk) from (λ call holds. holds) r.failed)
     call_end (end.Damaged block rule) image r =
         CallDamaged m block rule for (λ tells tree stands. r.sound tree (from tree (record { tells = tells; stands = stands })))
@@ -170,7 +170,7 @@ module _ (given left : Inputs) (m : MountedValue) (s : ScriptValue) (time : ℕ)
     left_tree leaves t is = image_of_tree left.disk n (tree_of (history_of s.clients items) t) (leaves t (from t is)).now
 
     left_course : IsCourse n time s.clients (moment given.disk given.disk_list) (moment left.disk left.disk_list) items → items ≢ [] → HasCourse given left s time items
-    left_course course some = record { value = m; mounted = for; root = inside; course = course }
+    left_course course some = record { value = m; mounted = for; course = course }
 
     left_same : (HasChangedNothing s.clients items → (left.disk ≡ given.disk) × (left.disk_list ≡ given.disk_list))
         → HasChangedNothing s.clients items → KeepsDisk given left
@@ -295,7 +295,7 @@ never_done first end.NoMemory is = cc
 pub no_run_fault : (given left : Inputs) (s : ScriptValue) (time : ℕ) (items : List TraceItem) (own : Status) → RunEnds given left s time items own → IsSinkFault own → ⊥
 no_run_fault given left s time items own (IsDone all whole) never = never
 no_run_fault given left s time items own (NotMounted own' none same ends) never = no_mount_fault given.disk given.disk_faults left.disk_faults own ends never
-no_run_fault given left s time items own (CallFailed m block x y for root up within at) never = never
+no_run_fault given left s time items own (CallFailed m block x y for up within at) never = never
 no_run_fault given left s time items own (CallHashed m block for at) never = never
 no_run_fault given left s time items own (CallUnbuilt m place for at taken) never = never
 no_run_fault given left s time items own (CallDamaged m block rule for none at told) never = never

@@ -1,5 +1,5 @@
 -- What a command does, from its words and its script to the items of its run and its own end.
-use Rattle.std.specs.Prelude.{ℕ, ◌≡◌, ◌<◌, ◌≤◌, ◌==◌, nat_lt, not, IfSome, IsTrue, ◌++◌, ◌&&◌, Bool, true, false, if◌then◌else◌, List, [], map, Option, Some, None, Result, Ok, Err}
+use Rattle.std.specs.Prelude.{ℕ, ◌≡◌, ◌<◌, ◌≤◌, ◌==◌, nat_lt, not, IfSome, ◌++◌, ◌&&◌, Bool, true, false, if◌then◌else◌, List, [], map, Option, Some, None, Result, Ok, Err}
 use Rattle.profile_limits.specs.Limits.{most_blocks}
 use Rattle.std.specs.Io.KnownBytes.{Consumes, IsAtEnd}
 use Rattle.fault_counts.specs.Causes.{WentUp}
@@ -24,7 +24,7 @@ use Rattle.image_model.specs.Rules.{IsBrokenBlock}
 use Rattle.disk_trees.specs.Reading.{ending}
 use Rattle.image_mount.specs.Mounted.{Journal, MountedValue}
 use Rattle.show_text.specs.Show.{journal_lines, tree_lines}
-use Rattle.cluster_program.specs.Mounting.{OfImage, IsImageOf, IsMountable, NeverStands, MountEnds, IsMountedClean, IsMountedFor}
+use Rattle.cluster_program.specs.Mounting.{OfImage, IsImageOf, NeverStands, MountEnds, IsMountedClean, IsMountedFor}
 use Rattle.cluster_program.specs.Runs.{Runs}
 use Rattle.cluster_program.specs.World.{Inputs, KeepsScript, KeepsDisk}
 use Rattle.cluster_program.specs.declared.status.Status.{Status}
@@ -81,8 +81,7 @@ abbrev pub plan_for : DiskState → MakeWords → Plan
 plan_for disk words = plan_of disk.size disk.count (options_of words)
 
 -- How mkfs ends: the device is larger than any may be; the image doesn't fit it, and so many blocks are needed; there was no
--- memory; the disk failed, at one of its blocks or at a barrier, and a part is made; or the image is made, every block of it, and
--- can be mounted.
+-- memory; the disk failed, at one of its blocks or at a barrier, and a part is made; or the image is made, every block of it.
 pub data Makes (words : MakeWords) (before now : Inputs) : Status → Type 0 where
   IsTooLarge : most_blocks < before.disk.count → now ≡ before → Makes words before now (status.NotProfile field.Device before.disk.count)
   IsTooSmall : (needed : ℕ) → before.disk.count ≤ most_blocks → fits (plan_for before.disk words) ≡ false → IsNeeded (plan_for before.disk words) needed → now ≡ before
@@ -92,8 +91,7 @@ pub data Makes (words : MakeWords) (before now : Inputs) : Status → Type 0 whe
       → IfSome block (λ b. b < before.disk.count) → IsBegun (plan_for before.disk words) before.disk now.disk before.disk_list now.disk_list
       → KeepsScript before now → Makes words before now (status.DeviceFault 0 block x y)
   HasMade : before.disk.count ≤ most_blocks → fits (plan_for before.disk words) ≡ true
-      → IsMade (plan_for before.disk words) before.disk now.disk before.disk_list now.disk_list → (IsTrue before.disk.tells → IsMountable now.disk)
-      → KeepsScript before now → Makes words before now status.Done
+      → IsMade (plan_for before.disk words) before.disk now.disk before.disk_list now.disk_list → KeepsScript before now → Makes words before now status.Done
 
 -- ---- the script
 

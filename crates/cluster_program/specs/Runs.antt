@@ -13,8 +13,7 @@ use Rattle.script_lang.specs.Script.{ScriptValue}
 use Rattle.run_rules.specs.Follows.{history_of}
 use Rattle.run_rules.specs.History.{HoldsHistory, NoneStopped, AllAnswered}
 use Rattle.shared_disk.specs.Disk.{DiskState, IsIdle}
-use Rattle.lone_view.specs.Seeing.{Lone, seen_alone}
-use Rattle.damage_laws.specs.Telling.{HasRootInside}
+use Rattle.lone_view.specs.Seeing.{Lone}
 use Rattle.lone_node.specs.Answering.{IsDamagedOn, IsHashedOn, IsSameDisk, IsUnbuiltOn}
 use Rattle.lone_node.specs.Course.{IsCourse, moment}
 use Rattle.lone_node.specs.Run.{EndsAt, EndsAtCall, HasChangedNothing, IsFailedOn, IsRunOf, IsTakenBehind, IsWholeRun}
@@ -47,9 +46,8 @@ first_line s = 2 + length s.clients + length s.armed
 pub data RunEnds (given left : Inputs) (s : ScriptValue) (time : ℕ) (items : List TraceItem) : Status → Type 0 where
   IsDone : AllAnswered items s → IsWholeRun s.clients s.lines items (IsImageOf given.disk) → RunEnds given left s time items status.Done
   NotMounted : (own : Status) → items ≡ [] → KeepsDisk given left → MountEnds given.disk given.disk_faults left.disk_faults own → RunEnds given left s time items own
-  CallFailed : (m : MountedValue) (block : Option ℕ) (x y : ℕ) → IsMountedFor given.disk m → HasRootInside (seen_alone (as_mounted given.disk m))
-      → WentUp (given.disk_faults 1) (left.disk_faults 1) x y → IfSome block (λ b. b < given.disk.count)
-      → AtCall given s items (λ call. IsFailedOn (moment given.disk given.disk_list) (moment left.disk left.disk_list) (as_mounted given.disk m) time s.clients items call block) → RunEnds given left s time items (status.DeviceFault 1 block x y)
+  CallFailed : (m : MountedValue) (block : Option ℕ) (x y : ℕ) → IsMountedFor given.disk m → WentUp (given.disk_faults 1) (left.disk_faults 1) x y → IfSome block (λ b. b < given.disk.count)
+      → AtCall given s items (λ call. IsFailedOn (moment given.disk given.disk_list) left.disk (as_mounted given.disk m) time s.clients items call block) → RunEnds given left s time items (status.DeviceFault 1 block x y)
   CallHashed : (m : MountedValue) (block : ℕ) → IsMountedFor given.disk m → AtCall given s items (λ call. IsHashedOn left.disk (as_mounted given.disk m) call block)
       → RunEnds given left s time items (status.NotBuilt (part.Block block))
   CallUnbuilt : (m : MountedValue) (place : ℕ) → IsMountedFor given.disk m → AtPlace given s items place (λ call. IsUnbuiltOn left.disk (as_mounted given.disk m) call)
@@ -58,11 +56,10 @@ pub data RunEnds (given left : Inputs) (s : ScriptValue) (time : ℕ) (items : L
       → OfImage left.disk (λ im. IsMounted im m → IsBrokenBlock im rule block) → RunEnds given left s time items (status.Damaged block rule)
   NoRoom : RunEnds given left s time items status.NoMemory
 
--- This was mounted, its root is in one of its groups, and the items are the course of a run from what was given to what is left: each of its calls is a step, at this time.
+-- This was mounted, and the items are the course of a run from what was given to what is left: each of its calls is a step, at this time.
 pub record HasCourse (given left : Inputs) (s : ScriptValue) (time : ℕ) (items : List TraceItem) : Type 0 where
   pub value : MountedValue
   pub mounted : IsMountedFor given.disk value
-  pub root : HasRootInside (seen_alone (as_mounted given.disk value))
   pub course : IsCourse (as_mounted given.disk value) time s.clients (moment given.disk given.disk_list) (moment left.disk left.disk_list) items
 
 -- the journals that were mounted are clean in the image as it was left

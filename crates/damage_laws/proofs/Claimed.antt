@@ -16,6 +16,7 @@ use Rattle.image_model.specs.Image.{Image}
 use Rattle.image_model.specs.Owners.{Root, Named}
 use Rattle.image_model.specs.Rules.{IsOutside}
 use Rattle.image_model.proofs.Reach.{Leading, leading}
+use Rattle.image_changes.proofs.Nodes.{plain_name}
 use Rattle.path_walks.specs.Walks.{Names, IsLinearDirectory, LeadsTo, at_root, by_name, IsNext, the_root, the_child}
 use Rattle.damage_laws.specs.Telling.{IsReadFrom}
 
@@ -38,7 +39,7 @@ module _ (v : Seen) (im : Image) (read : IsReadFrom v im) where
       (subst (λ c. Claims im dir c (Named dir led.entry.name)) led.address
       (in_dinode has.1.by dir has.0 led.entry has.1.claimed has.1.dinode linear.directory linear.linear
       (subst (λ rs. Contains rs led.entry) (cond-false _ _ _ linear.linear) led.there)
-      (ap is_dots led.named ∙ is.not_dots)))
+      (ap is_dots led.named ∙ plain_name name is)))
     where
       linear : IsLinearDirectory (every im dir)
       linear = names.linear (every im dir) (shown dir)

@@ -8,4 +8,3 @@ pub mod Ranges
 pub mod Pieces
 pub mod ReadDinodes
 pub mod Sound
-pub mod Pads

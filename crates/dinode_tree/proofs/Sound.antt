@@ -70,7 +70,7 @@ held_content h level i tree large high low = subst (IsHeld h) (sym (descend_top 
         held_below h tree large level (pointer h dinode_length h.own (i / span h.size level)) (i % span h.size level) h.own (i / span h.size level) (i / span h.size level * span h.size level)
         (tree.top level high (i / span h.size level) near led).part (mod-lt i (span_some h.size level large))
 
-pub size_large : (size : ℕ) → IsBlockSize size → 512 ≤ size
+size_large : (size : ℕ) → IsBlockSize size → 512 ≤ size
 size_large size (inl e) = omega (arith, e)
 size_large size (inr (inl e)) = omega (arith, e)
 size_large size (inr (inr (inl e))) = omega (arith, e)

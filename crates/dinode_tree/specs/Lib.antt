@@ -1,6 +1,5 @@
 pub mod Shown
 pub mod Broken
 pub mod Reading
-pub mod Pads
 pub mod Walking
 pub mod Below

@@ -13,9 +13,7 @@ use Rattle.gfs2_layout.specs.declared.rindex.Rindex.{Rindex}
 use Rattle.glock_names.specs.Views.{Seen, IsView, HasGroup, group_of_entry}
 use Rattle.resource_groups.specs.Shown as group
 use Rattle.resource_groups.specs.Taking.{AreSet}
-use Rattle.resource_groups.specs.Putting.{overlaid}
 use Rattle.resource_groups.proofs.Freed.{long_bitmap}
-use Rattle.resource_groups.proofs.PutIn.{puts_say}
 use Rattle.image_model.specs.Groups.{IsListed, IsHeaderOf, IsGroup, group_blocks, states_of, state_of}
 use Rattle.image_model.specs.Image.{Image}
 use Rattle.image_model.specs.Owners.{Owner, Owners, Super, Free, Below, cell_of, cell_in}
@@ -83,7 +81,7 @@ module _ (v : Seen) (old new : FinMap nat_cmp Fate) (im : Image) (o : Owners) (l
       (λ b own c. ap state_of (cond-true _ w (o b) (in_among blocks b (is_in b blocks c))))
       (λ b own other. ap state_of (cond-false _ w (o b) (not_in b other)))
       (subst (λ at. AreStatesPut (group_blocks im.at k) (group_blocks at k) (places_in k.data0 k.data_blocks blocks) (state_of w))
-      (shows_blocks v new im of.agrees) (puts_say im.at (overlaid (seen_with v new) im.at) (group_of_entry k) blocks (state_of w) (are.puts (group_of_entry k) im.at (has_group k listed) (shown k listed))))
+      (shows_blocks v new im of.agrees) (are.states (group_of_entry k) im.at (has_group k listed) (shown k listed)))
       (of.stands.laid.groups k listed)
     where
       not_in : (b : ℕ) → ¬ (Contains blocks b) → among blocks b ≡ false
@@ -119,4 +117,4 @@ taken_groups_say v old new im o l t taken of view left are = groups_say v old ne
 
 pub freed_groups_say : FreedGroupsSay
 freed_groups_say v old new im o l t freed of view left are =
-    groups_say v old new im o l t freed (Free 0) (omega arith) of view left (record { puts = are.puts; headers = are.headers; only = are.only; counts = are.counts; sees = are.sees })
+    groups_say v old new im o l t freed (Free 0) (omega arith) of view left (record { states = are.states; headers = are.headers; counts = are.counts; sees = are.sees })

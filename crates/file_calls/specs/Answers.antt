@@ -35,7 +35,7 @@ IsFullFor v call need free = ⊥
 -- ---- in an image that the view may be of
 
 -- what the change of such a call makes of the image: `create` and `mkdir` the new inode and the name's record, at this time; of `unlink` and
--- `rmdir` the directory has the time and lacks the name's record
+-- `rmdir` the directory has the time
 abbrev pub IsMadeOf : Image → Owners → Layout → Call → ℕ → ℕ → Change → Type 0
 IsMadeOf im o l (calls.Create path) node time change = making.IsMade im o l (calls.Create path) node time change × making.IsStamped im o l (calls.Create path) time change
 IsMadeOf im o l (calls.Mkdir path) node time change = making.IsMade im o l (calls.Mkdir path) node time change × making.IsStamped im o l (calls.Mkdir path) time change

@@ -1,16 +1,16 @@
 -- Each fault that is read stands at its place.
-use Rattle.std.proofs.Common.{◌≡◌, ◌≢◌, inl, inr, ℕ, zero, suc, ◌+◌, ◌/◌, ◌%◌, ◌<◌, ◌≤◌, true, List, [], ◌∷◌, ◌++◌, length, Option, Some, refl, sym, ap, subst, ◌∙◌, arith, append_assoc, append-nil, length-append}
+use Rattle.std.proofs.Common.{◌≡◌, ◌≢◌, inl, inr, ℕ, zero, suc, ◌+◌, ◌/◌, ◌%◌, ◌<◌, ◌≤◌, List, [], ◌∷◌, ◌++◌, length, Option, Some, refl, sym, ap, subst, ◌∙◌, arith, append_assoc, append-nil, length-append}
 use Rattle.std.specs.Prelude.{codes}
 use Rattle.std.proofs.lemmas.Bool.{cases_lt}
 use Rattle.file_tree.specs.declared.path.PathFault.{PathFault}
 use Rattle.file_tree.specs.declared.path.PathFault.TheVariants.{EmptyName, BadByte, BadEscape, LongName, Dots}
-use Rattle.file_tree.specs.Names.{is_dots, IsName}
+use Rattle.file_tree.specs.Names.{IsName}
 use Rattle.file_tree.specs.PathText.{Reads, Faulty, names_read, byte_text, name_text, names_text, unless, ended_name, after_names, told}
 use Rattle.file_tree.specs.PathFaults.{IsBytes, AreNames, BeginsName, BeginsNoByte, BeginsPath, Breaks, FaultStands, front_text}
 use Rattle.file_tree.proofs.Heads.{Ended, Slash, Letter, Bad, BadPercent, SpellsNoByte, head_of, names_read-slash, names_read-letter, names_read-bad_byte, names_read-bad_escape, if_room-short, if_room-full}
 use Rattle.file_tree.proofs.Letters.{high, low, byte_text-some, byte_text-escaped, spelled_escape, digit-not_slash}
-use Rattle.file_tree.proofs.Readings.{faulty_unless, after_faulty, ended_none, ended_some, ended-dots}
-use Rattle.file_tree.proofs.Spelled.{no_dots, begins_none, begins_more, begins_none_from, names_more, name_text-more, names_text-more, read-first}
+use Rattle.file_tree.proofs.Readings.{IsDots, faulty_unless, after_faulty, ended_none, ended_some, ended-dots}
+use Rattle.file_tree.proofs.Spelled.{begins_none, begins_more, begins_none_from, names_more, name_text-more, names_text-more, read-first}
 
 -- ---- where the reader stands behind some names and the bytes of one more
 
@@ -53,10 +53,10 @@ completed name begun =
       | inl room ↦
           let more = begins_more name 97 begun room (omega arith, omega arith) (omega arith) in
           let some : 1 ≤ length (name ++ 97 ∷ []) = omega (arith, length-append name (97 ∷ [])) in
-          let is : IsName (name ++ 97 ∷ []) = record { some = some; short = more.short; plain = more.plain; not_dots = no_dots (name ++ 97 ∷ []) (other_end name) (other_ends name) } in
+          let is : IsName (name ++ 97 ∷ []) = record { some = some; short = more.short; plain = more.plain; not_dot = other_end name; not_dots = other_ends name } in
           (name ++ 97 ∷ [], byte_text 97, record { is = is; bytes = more.bytes; text = name_text-more name 97 })
       | inr full ↦
-          let is : IsName name = record { some = omega arith; short = begun.short; plain = begun.plain; not_dots = no_dots name (λ same. omega (arith, ap length same)) (λ same. omega (arith, ap length same)) } in
+          let is : IsName name = record { some = omega arith; short = begun.short; plain = begun.plain; not_dot = λ same. omega (arith, ap length same); not_dots = λ same. omega (arith, ap length same) } in
           (name, [], record { is = is; bytes = begun.bytes; text = sym (append-nil (name_text name)) })
     ]
 
@@ -92,7 +92,7 @@ empty_stands text names more are root stands = (
       (λ rest. names_read-slash (start_of names) [] (place_of names []) rest),
 )
 
-dots_stand : (text : List ℕ) (names : List (List ℕ)) (name more : List ℕ) → AreNames names → BeginsName name → is_dots name ≡ true
+dots_stand : (text : List ℕ) (names : List (List ℕ)) (name more : List ℕ) → AreNames names → BeginsName name → IsDots name
     → text ++ codes "/" ≡ front_text names name ++ 47 ∷ more → FaultStands text (Dots (told (start_of names)))
 dots_stand text names name more are begun dots stands =
     let start = start_of names in

@@ -1,19 +1,17 @@
 -- Where a fault stands in a text, reading the text gives it.
 use Rattle.std.proofs.Common.{◌≡◌, ◌≢◌, ◌⊎◌, inl, inr, ℕ, ◌+◌, ◌%◌, ◌<◌, ◌≤◌, true, false, List, [], ◌∷◌, ◌++◌, length, drop, Option, Result, Ok, Err, refl, sym, ap, subst, ◌∙◌, arith, append_assoc, append-nil, length-append}
 use Rattle.std.specs.Prelude.{codes, nat_lt}
-use Rattle.std.specs.Str.{bytes_eq}
-use Rattle.std.proofs.lemmas.Bool.{lt-ltb, or_cases}
-use Rattle.std.proofs.lemmas.Slice.Eq.{bytes_eq-Decides}
+use Rattle.std.proofs.lemmas.Bool.{lt-ltb}
 use Rattle.file_tree.specs.declared.path.PathFault.{PathFault}
 use Rattle.file_tree.specs.declared.path.PathFault.TheVariants.{NoSlash, EmptyName, BadByte, BadEscape, LongName, Dots, LongPath, NoMemory}
-use Rattle.file_tree.specs.Names.{is_dots, IsNameByte, path_length}
+use Rattle.file_tree.specs.Names.{IsNameByte, path_length}
 use Rattle.file_tree.specs.PathText.{Reads, Faulty, names_read, is_escaped, byte_text, name_text, names_text, path_text, path_read, unless, after_names, told, if_short, ParsesPath}
 use Rattle.file_tree.specs.PathFaults.{AreNames, BeginsName, BeginsNoByte, Breaks, FaultStands, front_text, GivesItsFault}
 use Rattle.file_tree.proofs.Faults.{start_of, place_of, place_of-none}
 use Rattle.file_tree.proofs.Heads.{SpellsNoByte, escaped-not_slash, names_read-slash, names_read-letter, names_read-bad_byte, names_read-bad_escape, if_room-full}
 use Rattle.file_tree.proofs.Letters.{high, low, byte_text-some, byte_text-escaped, byte_text-plain, digit-not_slash}
 use Rattle.file_tree.proofs.Parsing.{Elsewhere, Root, Names, opening_of, path_read-names}
-use Rattle.file_tree.proofs.Readings.{ended-dots}
+use Rattle.file_tree.proofs.Readings.{IsDots, ended-dots}
 use Rattle.file_tree.proofs.Spelled.{begins_none, read-first, read-front}
 
 -- ---- a text with a slash behind it, in two parts
@@ -153,17 +151,13 @@ long_name_read text place names name byte long plain below b =
     ] in
     there ∙ ap (λ (p : ℕ). Faulty (LongName p)) (sym b.at)
 
-dots_some : (name : List ℕ) → is_dots name ≡ true → BeginsName name × (1 ≤ length (name_text name))
-dots_some name dots = elim (or_cases (bytes_eq name (codes ".")) (bytes_eq name (codes "..")) dots) [
-  | inl one ↦
-      subst (λ (n : List ℕ). BeginsName n × (1 ≤ length (name_text n))) (sym ((bytes_eq-Decides name (codes ".")).0 one))
-      (record { short = omega arith; plain = ((omega arith, omega arith), tt); bytes = (omega arith, tt) }, omega arith)
-  | inr two ↦
-      subst (λ (n : List ℕ). BeginsName n × (1 ≤ length (name_text n))) (sym ((bytes_eq-Decides name (codes "..")).0 two))
-      (record { short = omega arith; plain = ((omega arith, omega arith), ((omega arith, omega arith), tt)); bytes = (omega arith, (omega arith, tt)) }, omega arith)
-]
+dots_some : (name : List ℕ) → IsDots name → BeginsName name × (1 ≤ length (name_text name))
+dots_some name (inl one) = subst (λ (n : List ℕ). BeginsName n × (1 ≤ length (name_text n))) (sym one) (record { short = omega arith; plain = ((omega arith, omega arith), tt); bytes = (omega arith, tt) }, omega arith)
+dots_some name (inr two) =
+    subst (λ (n : List ℕ). BeginsName n × (1 ≤ length (name_text n))) (sym two)
+    (record { short = omega arith; plain = ((omega arith, omega arith), ((omega arith, omega arith), tt)); bytes = (omega arith, (omega arith, tt)) }, omega arith)
 
-dots_read : (text : List ℕ) (place : ℕ) (names : List (List ℕ)) (name : List ℕ) → is_dots name ≡ true → Breaks text place names [] (name_text name ++ codes "/")
+dots_read : (text : List ℕ) (place : ℕ) (names : List (List ℕ)) (name : List ℕ) → IsDots name → Breaks text place names [] (name_text name ++ codes "/")
     → path_read text ≡ Faulty (Dots place)
 dots_read text place names name dots b =
     let some = dots_some name dots in

@@ -1,12 +1,12 @@
 -- What the parts of a reading tell.
 use Rattle.std.proofs.Common.{◌≡◌, ◌≢◌, ◌⊎◌, inl, inr, ℕ, zero, suc, ◌+◌, ◌<◌, ◌≤◌, Bool, true, false, cond, List, [], ◌∷◌, ◌++◌, length, Option, Some, None, refl, sym, ap, subst, ◌∙◌, arith, append_assoc, length-append}
-use Rattle.std.specs.Prelude.{nat_lt}
+use Rattle.std.specs.Prelude.{codes, nat_lt, ◌||◌}
 use Rattle.std.specs.Str.{bytes_eq}
-use Rattle.std.proofs.lemmas.Bool.{cond-true, true≢false, cases_lt, ltb-true, ltb-false, le-ltb}
+use Rattle.std.proofs.lemmas.Bool.{or_parts, or_cases, cases_lt, ltb-true, ltb-false, le-ltb}
 use Rattle.std.proofs.lemmas.Slice.Eq.{bytes_eq-Decides}
 use Rattle.file_tree.specs.declared.path.PathFault.{PathFault}
 use Rattle.file_tree.specs.declared.path.PathFault.TheVariants.{EmptyName, Dots, LongPath}
-use Rattle.file_tree.specs.Names.{is_dots, IsName, path_length}
+use Rattle.file_tree.specs.Names.{IsName, path_length}
 use Rattle.file_tree.specs.PathText.{PathRead, Reads, Faulty, names_read, name_text, names_text, byte_text, unless, ended_name, after_names, told, if_short}
 use Rattle.file_tree.specs.PathFaults.{AreNames, BeginsName}
 use Rattle.file_tree.proofs.Heads.{Ended, Slash, Letter, Bad, BadPercent, head_of, names_read-slash, names_read-letter, names_read-bad_byte, names_read-bad_escape, if_room-short, if_room-full}
@@ -50,24 +50,32 @@ has_some (b ∷ name) other = omega arith
 pub ended_none : (start at : ℕ) (name : List ℕ) → BeginsName name → ended_name start at name ≡ None → IsName name
 ended_none start at name begun h =
     let t = none_parts _ _ (EmptyName (told at)) (Dots (told start)) h in
+    let dots = or_parts (bytes_eq name (codes ".")) (bytes_eq name (codes "..")) t.1 in
     record {
       some = has_some name (differs name [] t.0);
       short = begun.short;
       plain = begun.plain;
-      not_dots = t.1;
+      not_dot = differs name (codes ".") dots.0;
+      not_dots = differs name (codes "..") dots.1;
     }
 
+abbrev pub IsDots : List ℕ → Type 0
+IsDots name = (name ≡ codes ".") ⊎ (name ≡ codes "..")
+
 pub ended_some : (start at : ℕ) (name : List ℕ) (fault : PathFault) → ended_name start at name ≡ Some fault
-    → ((name ≡ []) × (fault ≡ EmptyName (told at))) ⊎ ((is_dots name ≡ true) × (fault ≡ Dots (told start)))
+    → ((name ≡ []) × (fault ≡ EmptyName (told at))) ⊎ (IsDots name × (fault ≡ Dots (told start)))
 ended_some start at name fault h =
-    elim (some_parts (bytes_eq name []) (is_dots name) (EmptyName (told at)) (Dots (told start)) fault h) [
+    elim (some_parts (bytes_eq name []) (bytes_eq name (codes ".") || bytes_eq name (codes "..")) (EmptyName (told at)) (Dots (told start)) fault h) [
       | inl none ↦ inl ((bytes_eq-Decides name []).0 none.0, none.1)
-      | inr dots ↦ inr dots
+      | inr dots ↦ elim (or_cases (bytes_eq name (codes ".")) (bytes_eq name (codes "..")) dots.0) [
+        | inl one ↦ inr (inl ((bytes_eq-Decides name (codes ".")).0 one), dots.1)
+        | inr two ↦ inr (inr ((bytes_eq-Decides name (codes "..")).0 two), dots.1)
+      ]
     ]
 
-pub ended-dots : (name : List ℕ) → is_dots name ≡ true → (start at : ℕ) → ended_name start at name ≡ Some (Dots (told start))
-ended-dots [] dots start at = absurd (true≢false (sym dots))
-ended-dots (b ∷ name) dots start at = cond-true _ _ _ dots
+pub ended-dots : (name : List ℕ) → IsDots name → (start at : ℕ) → ended_name start at name ≡ Some (Dots (told start))
+ended-dots name (inl one) start at = subst (λ (n : List ℕ). ended_name start at n ≡ Some (Dots (told start))) (sym one) refl
+ended-dots name (inr two) start at = subst (λ (n : List ℕ). ended_name start at n ≡ Some (Dots (told start))) (sym two) refl
 
 -- ---- the limit on a path's length
 

@@ -7,7 +7,7 @@ use Rattle.std.proofs.lemmas.Bool.{false_from_ne_true}
 use Rattle.std.proofs.lemmas.List.Concat.{flat_map-append}
 use Rattle.std.proofs.lemmas.Slice.Eq.{bytes_eq-Decides}
 use Rattle.file_tree.specs.declared.path.PathFault.{PathFault}
-use Rattle.file_tree.specs.Names.{is_dots, IsName, IsNameByte}
+use Rattle.file_tree.specs.Names.{IsName, IsNameByte}
 use Rattle.file_tree.specs.PathText.{Reads, Faulty, names_read, byte_text, name_text, names_text, unless, ended_name, after_names}
 use Rattle.file_tree.specs.PathFaults.{IsBytes, AreNames, BeginsName, front_text, BeginsPath}
 use Rattle.file_tree.proofs.PathLaws.{after_names-after_names, after_names-none, plain_more}
@@ -18,14 +18,10 @@ use Rattle.file_tree.proofs.Heads.{names_read-slash, names_read-letter, if_room-
 pub bytes_eq-other : (xs ys : List ℕ) → xs ≢ ys → bytes_eq xs ys ≡ false
 bytes_eq-other xs ys other = false_from_ne_true (bytes_eq xs ys) (λ same. other ((bytes_eq-Decides xs ys).0 same))
 
--- bytes that are neither of the two are no dots
-pub no_dots : (name : List ℕ) → name ≢ codes "." → name ≢ codes ".." → is_dots name ≡ false
-no_dots name one two = rw (bytes_eq-other name (codes ".") one, bytes_eq-other name (codes "..") two) refl
-
 pub ended_name-name : (start at : ℕ) (name : List ℕ) → IsName name → ended_name start at name ≡ None
 ended_name-name start at name is =
     let some : bytes_eq name [] ≡ false = bytes_eq-other name [] (λ none. let e : length name ≡ 0 = ap length none in omega (arith, e, is.some)) in
-    rw (some, is.not_dots) refl
+    rw (some, bytes_eq-other name (codes ".") is.not_dot, bytes_eq-other name (codes "..") is.not_dots) refl
 
 pub begins_none : BeginsName []
 begins_none = record { short = omega arith; plain = tt; bytes = tt }

@@ -1,5 +1,5 @@
 -- Names and paths, as bytes and lists of names.
-use Rattle.std.specs.Prelude.{ℕ, ◌≡◌, ◌≢◌, ◌+◌, ◌≤◌, ◌&&◌, ◌||◌, Bool, true, false, List, [], ◌∷◌, length, codes}
+use Rattle.std.specs.Prelude.{ℕ, ◌≢◌, ◌+◌, ◌≤◌, ◌&&◌, Bool, true, false, List, [], ◌∷◌, length, codes}
 use Rattle.std.specs.List.{AllByRecursion}
 use Rattle.std.specs.Str.{bytes_eq}
 
@@ -7,16 +7,13 @@ use Rattle.std.specs.Str.{bytes_eq}
 abbrev pub IsNameByte : ℕ → Type 0
 IsNameByte b = (b ≢ 0) × (b ≢ 47)
 
--- `.`, which a directory has for itself, or `..`, which it has for the one above
-abbrev pub is_dots : List ℕ → Bool
-is_dots name = bytes_eq name (codes ".") || bytes_eq name (codes "..")
-
 -- a name has 1 to 255 bytes, none of them zero or a slash, and is neither `.` nor `..`
 pub record IsName (name : List ℕ) : Type 0 where
   pub some : 1 ≤ length name
   pub short : length name ≤ 255
   pub plain : AllByRecursion IsNameByte name
-  pub not_dots : is_dots name ≡ false
+  pub not_dot : name ≢ codes "."
+  pub not_dots : name ≢ codes ".."
 
 -- how many bytes a path has with its slashes
 abbrev pub path_length : List (List ℕ) → ℕ

@@ -1,7 +1,7 @@
 -- Why a text spells no path. Each fault has its place, where no path goes on as the text does.
 use Rattle.std.specs.Prelude.{ℕ, ◌≡◌, ◌≢◌, ◌⊎◌, ◌<◌, ◌≤◌, IsTrue, List, [], ◌∷◌, ◌++◌, length, codes, Result, MatchResult}
 use Rattle.std.specs.List.{AllByRecursion}
-use Rattle.file_tree.specs.Names.{is_dots, IsNameByte, IsName, IsPath, path_length}
+use Rattle.file_tree.specs.Names.{IsNameByte, IsName, IsPath, path_length}
 use Rattle.file_tree.specs.PathText.{is_escaped, byte_text, name_text, names_text, path_text, told}
 use Rattle.file_tree.specs.declared.path.PathFault.{PathFault}
 use Rattle.file_tree.specs.declared.path.PathFault.TheVariants.{NoSlash, EmptyName, BadByte, BadEscape, LongName, Dots, LongPath, NoMemory}
@@ -63,7 +63,7 @@ FaultStands text (LongName place) = (names : List (List ℕ)) × (name : List �
     × (length name ≡ 255) × IsNameByte byte × (byte < 256) × Breaks text place names name (byte_text byte)
 -- the name that begins there is `.` or `..`, and ends
 FaultStands text (Dots place) = (names : List (List ℕ)) × (name : List ℕ)
-    × IsTrue (is_dots name) × Breaks text place names [] (name_text name ++ codes "/")
+    × ((name ≡ codes ".") ⊎ (name ≡ codes "..")) × Breaks text place names [] (name_text name ++ codes "/")
 -- it is spelled as a path is, of names that are too many or too long together
 FaultStands text (LongPath size) = (names : List (List ℕ))
     × AreNames names × (text ≡ path_text names) × (1024 < path_length names) × (size ≡ told (path_length names))

@@ -1,9 +1,9 @@
 -- How a path is written: `/`, or each name after a `/`. Some bytes are written as `%` and two hexadecimal digits.
-use Rattle.std.specs.Prelude.{ℕ, ◌≡◌, ◌⊎◌, ◌+◌, ◌-◌, ◌*◌, ◌^◌, min, ◌==◌, ◌&&◌, ◌||◌, Bool, not, if◌then◌else◌, nat_lt, List, [], ◌∷◌, ◌++◌, length, unwrap_or, Option, Some, None, Result, MatchResult}
+use Rattle.std.specs.Prelude.{ℕ, ◌≡◌, ◌⊎◌, ◌+◌, ◌-◌, ◌*◌, ◌^◌, min, ◌==◌, ◌&&◌, ◌||◌, Bool, not, if◌then◌else◌, nat_lt, List, [], ◌∷◌, ◌++◌, length, codes, unwrap_or, Option, Some, None, Result, MatchResult}
 use Rattle.std.specs.List.{flat_map}
 use Rattle.std.specs.Str.{bytes_eq}
 use Rattle.hex.specs.Hex.{encode_lower, hex_digit_value}
-use Rattle.file_tree.specs.Names.{is_dots, path_length}
+use Rattle.file_tree.specs.Names.{path_length}
 use Rattle.file_tree.specs.declared.path.PathFault.{PathFault}
 use Rattle.file_tree.specs.declared.path.PathFault.TheVariants.{NoSlash, EmptyName, BadByte, BadEscape, LongName, Dots, LongPath, NoMemory}
 
@@ -50,7 +50,7 @@ told place = min place (2 ^ 32 - 1)
 abbrev pub ended_name : ℕ → ℕ → List ℕ → Option PathFault
 ended_name start at name =
     if bytes_eq name [] then Some (EmptyName (told at))
-    else if is_dots name then Some (Dots (told start)) else None
+    else if bytes_eq name (codes ".") || bytes_eq name (codes "..") then Some (Dots (told start)) else None
 
 -- these names before those that are read
 abbrev pub after_names : List (List ℕ) → PathRead → PathRead

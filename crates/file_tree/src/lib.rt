@@ -15,7 +15,7 @@ pub use call::Call;
 pub use call_text::{append_call, append_reply};
 pub use content::Content;
 pub use laws::{directories_stay_well_formed, names_stand_for_trees};
-pub use names::{Name, NameList, Path, is_dots, is_name};
+pub use names::{Name, NameList, Path, is_name};
 pub use no_memory::NoMemory;
 pub use path::PathFault;
 pub use path_text::{append_name, append_path};

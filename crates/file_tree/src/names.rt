@@ -1,18 +1,11 @@
 ghost use Rattle.std.specs.Prelude.{◌≡◌, ◌≤◌, ◌↔◌, length, insert, IfOk, OnOk, OnErr, MatchOption, IsTrue};
-ghost use Rattle.file_tree.specs.Names.{IsName, is_dots as has_dots, path_length};
+ghost use Rattle.file_tree.specs.Names.{IsName, path_length};
 ghost use Rattle.file_tree.specs.Tree.{with_name};
 
 use crate::NoMemory;
 use std::alloc::Global;
 use std::cmp::Ordering;
 use std::marker::Model;
-
-/// Whether these bytes are `.` or `..`, which a directory has for itself and for the one above. Neither is a name.
-pub fn is_dots(bytes: &[u8]) -> bool
-    ensures { result ≡ has_dots bytes.now }
-{
-    bytes == b".".as_slice() || bytes == b"..".as_slice()
-}
 
 /// Whether these bytes are a name: 1 to 255 of them, none of them zero or a slash, and neither `.` nor `..`.
 pub fn is_name(bytes: &[u8]) -> bool
@@ -21,7 +14,7 @@ pub fn is_name(bytes: &[u8]) -> bool
     if bytes.is_empty() || bytes.len() > 255 {
         return false;
     }
-    if is_dots(bytes) {
+    if bytes == b".".as_slice() || bytes == b"..".as_slice() {
         return false;
     }
     for byte in bytes {

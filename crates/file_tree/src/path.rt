@@ -5,7 +5,6 @@ ghost use Rattle.file_tree.specs.Names.{IsNameByte, IsPath, path_length};
 ghost use Rattle.file_tree.specs.PathText.{ParsesPath, ReadsNames, Faulty, names_read, if_room, ended_name, escaped_byte, path_text, told};
 ghost use Rattle.file_tree.specs.PathFaults.{IsBytes, FaultStands, SpellsNoPath, GivesPath, GivesItsFault};
 
-use crate::names::is_dots;
 use crate::path_text::is_escaped_byte;
 use crate::{Name, Path};
 use std::alloc::{AllocError, AllocFailed, Global};
@@ -93,7 +92,7 @@ fn ended(start: usize, at: usize, name: &[u8]) -> Option<PathFault>
 {
     if name == b"".as_slice() {
         Some(PathFault::EmptyName(told_place(at)))
-    } else if is_dots(name) {
+    } else if name == b".".as_slice() || name == b"..".as_slice() {
         Some(PathFault::Dots(told_place(start)))
     } else {
         None

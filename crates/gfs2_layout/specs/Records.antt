@@ -1,10 +1,9 @@
 -- The records of directories, as what they say.
-use Rattle.std.specs.Prelude.{ℕ, ◌≡◌, true, not, List, map, filter, find, Option}
+use Rattle.std.specs.Prelude.{ℕ, ◌≡◌, ◌||◌, Bool, true, not, List, map, filter, find, codes, Option}
 use Rattle.std.specs.List.{AllByRecursion}
 use Rattle.std.specs.Option.{option_map}
 use Rattle.std.specs.Str.{bytes_eq}
 use Rattle.crc_words.specs.Remainder.{crc32_of}
-pub use Rattle.file_tree.specs.Names.{is_dots}
 use Rattle.gfs2_layout.specs.Structures.{is_in_use}
 use Rattle.gfs2_layout.specs.Area.{Slot, name_of, slots_of, IsArea}
 use Rattle.gfs2_layout.specs.declared.dirent.Dirent.{Dirent}
@@ -35,6 +34,9 @@ HasItsHash s = is_in_use s.head ≡ true → s.head.hash ≡ crc32_of (name_of s
 pub record IsRecordArea (area : List ℕ) : Type 0 where
   pub fills : IsArea area
   pub hashes : AllByRecursion HasItsHash (slots_of area)
+
+abbrev pub is_dots : List ℕ → Bool
+is_dots name = bytes_eq name (codes ".") || bytes_eq name (codes "..")
 
 -- the names that a directory has: those of its records but `.` and `..`, in their order
 abbrev pub names_of : List Record → List (List ℕ)

@@ -24,7 +24,7 @@ use Rattle.image_changes.specs.Walks.{FindsIt, ListsNames, DirectoriesListNames}
 use Rattle.image_changes.proofs.Bare.{not_dots, dots_differ}
 use Rattle.image_changes.proofs.Directories.{named_other, names_cons, lacks_child, child_lacks}
 use Rattle.image_changes.proofs.Laid.{follow_dinode}
-use Rattle.image_changes.proofs.Nodes.{dir_thing, dir_child}
+use Rattle.image_changes.proofs.Nodes.{dir_thing, dir_child, plain_name}
 use Rattle.image_changes.proofs.TreePaths.{child_is_named}
 use Rattle.image_changes.proofs.Walks.{walks_find}
 
@@ -137,7 +137,7 @@ no_dots es n are dots = each (look es n) refl
   where
     each : (x : Option Tree) → look es n ≡ x → look es n ≡ None
     each None e = e
-    each (Some u) e = absurd (true≢false (sym dots ∙ (child_is_named es n u are e).not_dots))
+    each (Some u) e = absurd (true≢false (sym dots ∙ plain_name n (child_is_named es n u are e)))
 
 -- a record that is there is the one of its name
 has_once : (heads : ℕ → Head) (rs : List Record) (name : List ℕ) (b : ℕ) → HasRecord heads rs name b → name_count rs name ≤ 1 → name_count rs name ≡ 1

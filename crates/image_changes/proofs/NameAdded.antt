@@ -25,7 +25,7 @@ use Rattle.image_changes.proofs.Directories.{Lacks, same_has, has_stays, go_and_
 use Rattle.image_changes.proofs.Frame.{row_kept, same_dinode, head_same}
 use Rattle.image_changes.proofs.Laid.{root_named, follow_dinode, laid_after, system_stays, up_row, row_up, row_dinode}
 use Rattle.image_changes.proofs.Standing.{parent_dinode}
-use Rattle.image_changes.proofs.Nodes.{among_in, not_among, node_none, file_thing, file_child, dir_thing, dir_child, dots_child, bare_reads, no_system, master_stays, untouched_flat, rows_kept}
+use Rattle.image_changes.proofs.Nodes.{among_in, not_among, node_none, file_thing, file_child, dir_thing, dir_child, dots_child, plain_name, bare_reads, no_system, master_stays, untouched_flat, rows_kept}
 
 no_content : (h : Holding) → (dinode_in h).size ≡ 0 → content_of h ≡ []
 unfolding content_of
@@ -92,7 +92,7 @@ module _ (im im' : Image) (o o' : Owners) (l : Layout) (written : ℕ → Bool) 
   before = stands.laid.directories p dinode is.directory
 
   plain : is_dots name ≡ false
-  plain = is.is_name.not_dots
+  plain = plain_name name is.is_name
 
   rest_lacks : Lacks is.exchanged.rest is.entry.name
   rest_lacks = sym (names_any_order (records_at im o p) is.exchanged.rest is.entry.name is.exchanged.before)

@@ -31,7 +31,7 @@ use Rattle.image_changes.proofs.Frame.{row_kept, same_dinode, head_same}
 use Rattle.image_changes.proofs.Laid.{root_named, child_rows, follow_dinode, laid_after, system_stays, up_row, row_up, row_dinode}
 use Rattle.image_changes.proofs.Standing.{has_child_directory, childless, parent_dinode, parent_has, not_own_child, rest_differs}
 use Rattle.image_changes.proofs.Targets.{tree_below, below_is_tree, last_step, target_row, target_gone, target_childless, target_lacks, target_is, target_rest}
-use Rattle.image_changes.proofs.Nodes.{among_in, in_among, not_among, file_thing, dir_thing, dir_child, dots_child, leading, leading_other, leads_elsewhere, leads_there, no_system, master_stays, untouched_flat, rows_kept, file_child}
+use Rattle.image_changes.proofs.Nodes.{among_in, in_among, not_among, file_thing, dir_thing, dir_child, dots_child, plain_name, leading, leading_other, leads_elsewhere, leads_there, no_system, master_stays, untouched_flat, rows_kept, file_child}
 
 module _ (im im' : Image) (o o' : Owners) (l : Layout) (written : ℕ → Bool) (p : ℕ) (name : List ℕ) (q : ℕ) (name' : List ℕ) (a : ℕ) (path path' : Path) (t u : Tree)
     (stands : StandsBy im o l t) (at : IsAt im o l path p) (at' : IsAt im o l path' q) (sub : tree_at t (in_directory path name) ≡ Some u)
@@ -72,7 +72,7 @@ module _ (im im' : Image) (o o' : Owners) (l : Layout) (written : ℕ → Bool) 
   plain = (child_rows im o l stands.laid p a name child_was).1
 
   plain' : is_dots name' ≡ false
-  plain' = is.is_name.not_dots
+  plain' = plain_name name' is.is_name
 
   directory_p : is_directory_at im o p ≡ true
   directory_p = has_child_directory im o l stands.laid p a name child_was

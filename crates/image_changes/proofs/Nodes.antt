@@ -68,6 +68,16 @@ module _ (im : Image) (o : Owners) (a : ℕ) where
   pub dots_child : is_dinode (o a) ≡ true → is_directory_in (holding im o a) ≡ true → (name : List ℕ) → is_dots name ≡ true → (flat_of im o a).child name ≡ None
   dots_child so is name dots = ap (λ (n : Node). n.child name) (node_there so) ∙ cond-true _ _ _ is ∙ cond-true _ _ _ dots
 
+-- a name is neither `.` nor `..`
+pub plain_name : (name : List ℕ) → IsName name → is_dots name ≡ false
+plain_name name is = elim (cases_Bool (is_dots name)) [
+  | inr non ↦ non
+  | inl dots ↦ elim (or_cases (bytes_eq name (codes ".")) (bytes_eq name (codes "..")) dots) [
+    | inl e ↦ absurd (is.not_dot ((bytes_eq-Decides name (codes ".")).0 e))
+    | inr e ↦ absurd (is.not_dots ((bytes_eq-Decides name (codes "..")).0 e))
+  ]
+]
+
 -- ---- a name of one inode made to lead elsewhere
 
 abbrev pub leading : Flat → ℕ → List ℕ → Option ℕ → Flat

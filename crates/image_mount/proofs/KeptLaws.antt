@@ -1,6 +1,5 @@
 -- What keeping one more block does to those that are kept.
 use Rattle.std.proofs.Common.{◌≡◌, ◌⊎◌, inl, inr, All, ℕ, zero, suc, ◌+◌, List, [], ◌∷◌, length, Option, Some, None, count_by, is_none, slice_get, slice_set, ap, ◌∙◌, arith}
-use Rattle.std.specs.Prelude.{is_some, true, false, IfSome}
 use Rattle.std.proofs.lemmas.Option.{gets}
 use Rattle.std.proofs.lemmas.Grind.{common_steps}
 use Rattle.glock_names.specs.Views.{IsView}
@@ -25,7 +24,7 @@ get_kept x (e ∷ es) (suc i) (suc b) bytes there got = elim (get_kept x es i b 
 ]
 
 pub view_kept : (k : Kept) (x : List ℕ) (i left : ℕ) → IsView (seen_of k) → slice_get k.entries i ≡ Some None → length x ≡ k.size
-    → IsView (seen_of (record { size = k.size; entries = slice_set k.entries i (Some x); places = k.places; leaves = k.leaves; left = left }))
+    → IsView (seen_of (record { size = k.size; entries = slice_set k.entries i (Some x); places = k.places; left = left }))
 view_kept k x i left view there whole = record {
   block_size = view.block_size;
   whole = λ b bytes got. elim (get_kept x k.entries i b bytes there got) [
@@ -38,8 +37,3 @@ view_kept k x i left view there whole = record {
 -- where nothing is kept
 pub none_kept : (entries : List (Option (List ℕ))) (b : ℕ) (bytes : List ℕ) → All (λ kept. kept ≡ None) entries → bytes_of (slice_get entries b) ≡ Some bytes → ⊥
 none_kept entries b bytes none got = grind (arith, common_steps, gets)
-
--- what is said of an answer holds of one
-pub some_there : {T : Type 0} (o : Option T) (P : T → Type 0) → is_some o ≡ true → IfSome o P → (x : T) × P x
-some_there (Some x) P e holds = (x, holds)
-some_there None P e holds = absurd (let no_answer : false ≡ true = e in cc)

@@ -97,9 +97,6 @@ behind_claim im a tail is more =
     let next : tail.head.next ≡ (leaf_in (every im a) tail.block).next = ap (λ (l : Leaf). l.next) is.head in
     subst (λ n. Claims im tail.block n (Chained a tail.hash (tail.place + 1))) (sym next) (next_leaf is.claimed.0 tail.block a tail.hash tail.place is.claimed.1 (λ e. more (next ∙ e)))
 
-pub behind_leaf : (im : Image) (a : ℕ) (tail : LeafAt) → IsLeafIn im a tail → tail.head.next ≢ 0 → HasLeaf im a tail.head.next
-behind_leaf im a tail is more = (tail.block, tail.hash, tail.place + 1, behind_claim im a tail is more)
-
 pub behind_is : (im : Image) (a : ℕ) (tail at : LeafAt) → IsLeafIn im a tail → IsLeafHead im a tail.head.next → tail.head.next ≢ 0 → tail.head.next < im.count → at.head ≡ leaf_of (im.at tail.head.next) → at.block ≡ tail.head.next → at.hash ≡ tail.hash → at.place ≡ tail.place + 1
     → at.pointer ≡ tail.pointer → at.behind ≡ tail.behind → IsLeafIn im a at
 behind_is im a tail at is well more inside read block hash place pointer behind =

@@ -131,13 +131,6 @@ grown_none k = record { stays = λ b kept. kept; unkept = λ none. none }
 pub grown_on : (a b c : Kept) → IsGrown a b → IsGrown b c → IsGrown a c
 grown_on a b c first second = record { stays = λ n kept. second.stays n (first.stays n kept); unkept = λ none. second.unkept (first.unkept none) }
 
--- nothing more is kept or marked
-pub grown_same : (old new : Kept) → new.entries ≡ old.entries → new.places ≡ old.places → IsGrown old new
-grown_same old new entries places = record {
-  stays = λ n kept none. kept (ap (λ es. bytes_of (slice_get es n)) (sym entries) ∙ none);
-  unkept = λ none n mark. ap (λ es. bytes_of (slice_get es n)) entries ∙ none n (ap (λ ps. one_if (slice_get ps n)) (sym places) ∙ mark);
-}
-
 kept_here : (entries : List (Option (List ℕ))) (i : ℕ) (x : List ℕ) → slice_get entries i ≡ Some None → bytes_of (slice_get (slice_set entries i (Some x)) i) ≢ None
 kept_here entries i x free e = let here : bytes_of (slice_get (slice_set entries i (Some x)) i) ≡ Some x = ap bytes_of (got_here entries i (Some x) (slice_get_within entries i None free)) in no_some x (sym e ∙ here)
   where

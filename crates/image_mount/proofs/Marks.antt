@@ -1,6 +1,6 @@
 -- What is known of the blocks that are kept and of those that are places of journals, as more are read and found.
 use Rattle.std.proofs.Common.{◌≡◌, ◌≢◌, inl, inr, ℕ, zero, suc, ◌+◌, ◌<◌, ◌≤◌, Bool, true, false, List, [], ◌∷◌, ◌++◌, Option, None, Some, refl, sym, ap, subst, ◌∙◌, arith}
-use Rattle.std.specs.Prelude.{Contains, slice_get, slice_set, IsTrue, Result, Ok, Err, OnOk}
+use Rattle.std.specs.Prelude.{Contains, slice_get, slice_set, IsTrue, Result, Ok, Err, OnOk, IfErr, IfOk, is_ok}
 use Rattle.std.specs.List.{All}
 use Rattle.std.proofs.lemmas.Bool.{cases_eq}
 use Rattle.std.proofs.lemmas.Option.{slice_get-get_or, slice_get_within, get_or_from_slice_get}
@@ -21,9 +21,9 @@ use Rattle.image_mount.specs.Found.{HasFormat}
 use Rattle.image_mount.specs.Looks.{IsInGroups}
 use Rattle.image_mount.specs.Refusals.{RefusesRightly}
 use Rattle.image_mount.specs.Rings.{IsPlace, IsSearched, IsNext, IsPlaceAt}
-use Rattle.image_mount.specs.Searching.{IsWanted, StopsRightly}
+use Rattle.image_mount.specs.Searching.{IsWanted, LacksBlock, StopsRightly}
 use Rattle.image_mount.specs.System.{IsSystemOf}
-use Rattle.image_mount.specs.Kept.{Kept, bytes_of}
+use Rattle.image_mount.specs.Kept.{Kept, bytes_of, seen_of}
 use Rattle.image_mount.specs.declared.fault.MountFault.{MountFault}
 use Rattle.image_mount.specs.declared.fault.MountFault.TheVariants as fault
 use Rattle.image_mount.specs.declared.stop.Stop.{Stop}
@@ -57,9 +57,8 @@ place_wanted im f block from done d n is inside wanted place = elim wanted [
 -- ---- one more block is kept, or is a place
 
 pub searched_more : (im : Image) (done : List ℕ) (d n : ℕ) (old new : Kept) (b from : ℕ) (x : List ℕ) → slice_get old.entries b ≡ Some None → new.entries ≡ slice_set old.entries b (Some x)
-    → new.places ≡ old.places → new.leaves ≡ old.leaves → IsWanted im b from → IsSearched im done d n old → IsSearched im done d n new
-searched_more im done d n old new b from x free is places leaves wanted known = record {
-  leaves = λ c at. known.leaves c (ap (λ ls. slice_get ls c) (sym leaves) ∙ at);
+    → new.places ≡ old.places → IsWanted im b from → IsSearched im done d n old → IsSearched im done d n new
+searched_more im done d n old new b from x free is places wanted known = record {
   wanted = λ c bytes at. elim (get_kept x old.entries b c bytes free (ap (λ es. bytes_of (slice_get es c)) (sym is) ∙ at)) [
     | inl both ↦ (from, subst (λ z. IsWanted im z from) (sym both.0) wanted)
     | inr before ↦ known.wanted c bytes before
@@ -73,18 +72,6 @@ got_other (y ∷ xs) zero zero x d = absurd (d refl)
 got_other (y ∷ xs) zero (suc j) x d = refl
 got_other (y ∷ xs) (suc i) zero x d = refl
 got_other (y ∷ xs) (suc i) (suc j) x d = got_other xs i j x (λ e. d (ap suc e))
-
--- one more block was read as a leaf
-pub searched_leaf : (im : Image) (done : List ℕ) (d n : ℕ) (old new : Kept) (b from : ℕ) → new.leaves ≡ slice_set old.leaves b true → new.entries ≡ old.entries → new.places ≡ old.places → IsWanted im b from
-    → IsSearched im done d n old → IsSearched im done d n new
-searched_leaf im done d n old new b from is entries places wanted known = record {
-  wanted = λ c bytes at. known.wanted c bytes (ap (λ es. bytes_of (slice_get es c)) (sym entries) ∙ at);
-  marked = λ c at. known.marked c (ap (λ ps. slice_get ps c) (sym places) ∙ at);
-  leaves = λ c at. elim (cases_eq b c) [
-    | inl same ↦ (from, subst (λ z. IsWanted im z from) same wanted)
-    | inr other ↦ known.leaves c (sym (got_other old.leaves b c true other) ∙ ap (λ ls. slice_get ls c) (sym is) ∙ at)
-  ];
-}
 
 -- what is a place stays one, as more are found
 pub place_later : (im : Image) (done : List ℕ) (d n m b : ℕ) → n ≤ m → IsPlace im done d n b → IsPlace im done d m b
@@ -127,14 +114,13 @@ place_none im done d e b place = record {
 }
 
 pub searched_done : (im : Image) (done : List ℕ) (d n : ℕ) (k : Kept) → IsSearched im done d n k → IsSearched im (done ++ d ∷ []) 0 0 k
-searched_done im done d n k known = record { wanted = known.wanted; leaves = known.leaves; marked = λ b at. place_done im done d n b (known.marked b at) }
+searched_done im done d n k known = record { wanted = known.wanted; marked = λ b at. place_done im done d n b (known.marked b at) }
 
 pub searched_next : (im : Image) (done : List ℕ) (d : ℕ) (k : Kept) → IsSearched im done 0 0 k → IsSearched im done d 0 k
-searched_next im done d k known = record { wanted = known.wanted; leaves = known.leaves; marked = λ b at. place_none im done 0 d b (known.marked b at) }
+searched_next im done d k known = record { wanted = known.wanted; marked = λ b at. place_none im done 0 d b (known.marked b at) }
 
-pub searched_new : (im : Image) (k : Kept) → All (λ kept. kept ≡ None) k.entries → All (λ place. place ≡ false) k.places → All (λ leaf. leaf ≡ false) k.leaves → IsSearched im [] 0 0 k
-searched_new im k none unmarked no_leaf = record {
-  leaves = λ b at. absurd (false_at k.leaves no_leaf b at);
+pub searched_new : (im : Image) (k : Kept) → All (λ kept. kept ≡ None) k.entries → All (λ place. place ≡ false) k.places → IsSearched im [] 0 0 k
+searched_new im k none unmarked = record {
   wanted = λ b bytes at. absurd (none_at k.entries none b bytes at);
   marked = λ b at. absurd (false_at k.places unmarked b at);
 }
@@ -149,10 +135,9 @@ searched_new im k none unmarked no_leaf = record {
     false_at (e ∷ es) all zero at = let e0 = all 0 false (omega arith) in cc
     false_at (e ∷ es) all (suc b) at = false_at es (λ k d low. all (suc k) d (omega (arith, low))) b at
 
-pub marked_more : (im : Image) (done : List ℕ) (d n m : ℕ) (old new : Kept) (b : ℕ) → new.places ≡ slice_set old.places b true → new.entries ≡ old.entries → new.leaves ≡ old.leaves → n ≤ m → IsPlace im done d m b
+pub marked_more : (im : Image) (done : List ℕ) (d n m : ℕ) (old new : Kept) (b : ℕ) → new.places ≡ slice_set old.places b true → new.entries ≡ old.entries → n ≤ m → IsPlace im done d m b
     → IsSearched im done d n old → IsSearched im done d m new
-marked_more im done d n m old new b is entries leaves low place known = record {
-  leaves = λ c at. known.leaves c (ap (λ ls. slice_get ls c) (sym leaves) ∙ at);
+marked_more im done d n m old new b is entries low place known = record {
   wanted = λ c bytes at. known.wanted c bytes (ap (λ es. bytes_of (slice_get es c)) (sym entries) ∙ at);
   marked = λ c at. elim (cases_eq b c) [
     | inl same ↦ subst (IsPlace im done d m) same place
@@ -243,16 +228,19 @@ above_super im system b groups looked same inside e =
     let fits = looked.names.groups.fit.each g (there.0, slice_get-get_or system.groups.items there.0 g there.1 ∙ ap Some there.2) in
     absurd (omega (arith, e, fits.above, fits.first, inside.2.low))
 
+-- a block that isn't there isn't kept
+pub free_block : {T : Type 0} (k : Kept) (block from : ℕ) (r : Result T Stop) → is_ok r ≡ false → IfErr r (λ s. s ≡ stop.Reads block from) → IfErr r (LacksBlock k) → (seen_of k).block_at block ≡ None
+free_block k block from (Ok x) e is lacks_it = absurd (let no : true ≡ false = e in cc)
+free_block k block from (Err s) e is lacks_it = subst (LacksBlock k) is lacks_it
+
+-- what is said of an answer holds of one
+pub some_ok : {T E : Type 0} (r : Result T E) (P : T → Type 0) → is_ok r ≡ true → IfOk r P → (x : T) × P x
+some_ok (Ok x) P e holds = (x, holds)
+some_ok (Err f) P e holds = absurd (let no_answer : false ≡ true = e in cc)
+
 -- why what is wanted isn't read, of a disk that holds what it held before
 pub go_refused : (old now : DiskState) (s : Stop) (k : Kept) (f : MountFault) (done : List ℕ) (d n : ℕ) → now ≡ old
     → ((done : List ℕ) (d n : ℕ) → IsTrue now.tells → StopsRightly (image_of now) s → IsSearched (image_of now) done d n k → RefusesRightly (image_of now) f)
     → IsTrue old.tells → StopsRightly (image_of old) s → IsSearched (image_of old) done d n k → RefusesRightly (image_of old) f
 go_refused old now s k f done d n same more =
     subst (λ (t : DiskState). IsTrue t.tells → StopsRightly (image_of t) s → IsSearched (image_of t) done d n k → RefusesRightly (image_of t) f) same (more done d n)
-
--- why a leaf isn't read, of a disk that holds what it held before
-pub leaf_refused : (old now : DiskState) (block from : ℕ) (k : Kept) (f : MountFault) → now ≡ old
-    → ((done : List ℕ) (d n : ℕ) → IsTrue now.tells → IsWanted (image_of now) block from → IsSearched (image_of now) done d n k → RefusesRightly (image_of now) f)
-    → IsTrue old.tells → IsWanted (image_of old) block from → IsSearched (image_of old) [] 0 0 k → RefusesRightly (image_of old) f
-leaf_refused old now block from k f same more =
-    subst (λ (t : DiskState). IsTrue t.tells → IsWanted (image_of t) block from → IsSearched (image_of t) [] 0 0 k → RefusesRightly (image_of t) f) same (more [] 0 0)

@@ -7,7 +7,7 @@ use Rattle.image_model.specs.Claims.{every, Claims, below}
 use Rattle.image_model.specs.Image.{Image}
 use Rattle.image_model.specs.Owners.{Owner, Below, Chained, is_dinode}
 use Rattle.image_mount.specs.Found.{HasFormat}
-use Rattle.image_mount.specs.Searching.{StopsRightly, IsLeading, IsWanted, IsRead, IsSystemFile}
+use Rattle.image_mount.specs.Searching.{StopsRightly, IsLeading, IsRead, IsSystemFile}
 use Rattle.image_mount.specs.Kept.{Kept, seen_of}
 use Rattle.image_mount.specs.declared.stop.Stop.{Stop}
 use Rattle.image_mount.specs.declared.stop.Stop.TheVariants as stop
@@ -48,8 +48,8 @@ leaf_leads im a hash place d b k first e = absurd (apart a hash place d b k firs
     apart a hash place d b k first e = cc
 
 -- a leaf is wanted by its number in its directory
-pub leaf_wanted : (im : Image) (by x a hash place : ℕ) → Claims im by x (Chained a hash place) → HasFormat im → by < im.count → IsWanted im x by
-leaf_wanted im by x a hash place claimed format inside = inr (format, (Chained a hash place, claimed, leaf_leads im a hash place, inside))
+pub leaf_wanted : (im : Image) (by x a hash place : ℕ) (s : Stop) → s ≡ stop.Reads x by → Claims im by x (Chained a hash place) → HasFormat im → by < im.count → StopsRightly im s
+leaf_wanted im by x a hash place s is claimed format inside = subst (StopsRightly im) (sym is) (inr (format, (Chained a hash place, claimed, leaf_leads im a hash place, inside)))
 
 -- a block of content of a system file is wanted by its number in the block that leads to it
 pub content_wanted : (im : Image) (by a from k index block : ℕ) (o : Owner) (s : Stop) → s ≡ stop.Reads block from → Claims im by a o → is_dinode o ≡ true → HasFormat im → IsSystemFile im a

@@ -40,22 +40,9 @@ refilled x items len count same = ap (λ n. take n (x ++ drop (length x) items))
     all (b ∷ bs) [] e = absurd (omega (arith, e))
     all (b ∷ bs) (y ∷ ys) e = ap (λ rest. b ∷ rest) (all bs ys (omega (arith, e)))
 
--- where the same blocks are kept
-pub working_same : (s t : DiskState) (k new : Kept) → t ≡ s → IsWorking s k → new.entries ≡ k.entries → new.size ≡ k.size → IsWorking t new
-working_same s t k new same work entries size = subst (λ u. IsWorking u new) (sym same) (record {
-  idle = work.idle;
-  size = size ∙ work.size;
-  count = ap length entries ∙ work.count;
-  same = λ tells b bytes at. work.same tells b bytes (ap (λ es. bytes_of (slice_get es b)) (sym entries) ∙ at);
-})
-
 -- nothing is kept yet
 pub working_new : (s : DiskState) (k : Kept) → IsIdle s → k.size ≡ s.size → length k.entries ≡ s.count → All (λ kept. kept ≡ None) k.entries → IsWorking s k
 working_new s k idle size count none = record { idle = idle; size = size; count = count; same = λ tells b bytes at. absurd (none_kept k.entries b bytes none at) }
-
--- what was read of a disk that holds what it held before
-pub read_same : (old now : DiskState) (b : ℕ) (x : List ℕ) → now ≡ old → IsTrue old.tells → (IsTrue now.tells → x ≡ now.block_at b) → old.block_at b ≡ x
-read_same old now b x same tells is = sym (subst (λ (s : DiskState). IsTrue s.tells → x ≡ s.block_at b) same is tells)
 
 -- the same, where the disk holds what it held before
 pub read_now : (old now : DiskState) (k : Kept) → now ≡ old → IsTrue old.tells → IsWorking now k → IsRead (image_of old) k

@@ -3,13 +3,12 @@ use Rattle.std.specs.Prelude.{ℕ, Bool, List, [], Option, None, Some, slice_get
 use Rattle.glock_names.specs.Views.{Seen}
 use Rattle.glock_names.specs.declared.State.TheVariants.{Un}
 
--- how many bytes a block has, for each block of the device its bytes where it is kept, whether it is a place of a journal
--- and whether it was read as a leaf, of which nothing is kept, and how many blocks aren't kept
+-- how many bytes a block has, for each block of the device its bytes where it is kept and whether it is a place of a
+-- journal, and how many blocks aren't kept
 pub record Kept : Type 0 where
   pub size : ℕ
   pub entries : List (Option (List ℕ))
   pub places : List Bool
-  pub leaves : List Bool
   pub left : ℕ
 
 abbrev pub bytes_of : Option (Option (List ℕ)) → Option (List ℕ)

@@ -2,7 +2,7 @@
 use Rattle.std.specs.Prelude.{ℕ, ◌≡◌, ◌≢◌, ◌⊎◌, ◌+◌, ◌-◌, ◌*◌, ◌^◌, ◌<◌, ◌≤◌, true, false, List, length, map, flat_map, Contains, Option, None, Some, IfSome, slice_get}
 use Rattle.std.specs.List.Sorted.{IsStrictlyIncreasing}
 use Rattle.crc_words.specs.Remainder.{crc32_of}
-use Rattle.gfs2_layout.specs.Bytes.{u32_at, u64_at}
+use Rattle.gfs2_layout.specs.Bytes.{u32_at}
 use Rattle.gfs2_layout.specs.Device.{superblock_place}
 use Rattle.gfs2_layout.specs.Exchanges.{directory_count}
 use Rattle.gfs2_layout.specs.Headers.{HasHeader}
@@ -23,7 +23,6 @@ use Rattle.image_mount.specs.Listing.{said, AreDistinct}
 use Rattle.image_mount.specs.Looks.{HasHeadedContent, IsInRun, IsSoundArea, IsTableSized, LeadsToLeaf}
 use Rattle.image_mount.specs.declared.inodes.Inode.{Inode}
 use Rattle.image_mount.specs.declared.leaf.LeafAt.{LeafAt}
-use Rattle.image_mount.specs.declared.leaf.LeafLink.{LeafLink}
 use Rattle.image_mount.specs.declared.leaf.LeafWalk.{LeafWalk}
 use Rattle.image_mount.specs.declared.listing.Named.{Named}
 
@@ -153,20 +152,6 @@ pub record IsBehind (tail at : LeafAt) : Type 0 where
 abbrev pub ComesNext : LeafWalk → LeafAt → Type 0
 ComesNext walk at =
     ((tail : LeafAt) × (walk.tail ≡ Some tail) × IsBehind tail at) ⊎ (IsClosed walk.tail × (at.pointer ≡ walk.index) × (at.place ≡ 0))
-
--- the number of a walk's next leaf, behind this one of its chain or the first of the next pointer's
-abbrev pub IsLinkBy : LeafWalk → HashTable → ℕ → Option LeafAt → Type 0
-IsLinkBy walk table number (Some tail) = (walk.tail ≡ Some tail) × (tail.head.next ≢ 0) × (number ≡ tail.head.next)
-IsLinkBy walk table number None = IsClosed walk.tail × (walk.index < 2 ^ table.depth) × (number ≡ u64_at (8 * walk.index) table.bytes.items) × (number ≢ 0)
-
-abbrev pub IsLinkOf : LeafWalk → HashTable → LeafLink → Type 0
-IsLinkOf walk table link = IsLinkBy walk table link.number link.tail
-
--- the pointer leads to a block of the device, which has these bytes
-pub record IsPointed (im : Image) (table : HashTable) (i : ℕ) (bytes : List ℕ) : Type 0 where
-  pub some : u64_at (8 * i) table.bytes.items ≢ 0
-  pub inside : u64_at (8 * i) table.bytes.items < im.count
-  pub is : im.at (u64_at (8 * i) table.bytes.items) ≡ bytes
 
 -- each record that comes before those of this leaf is a system file's, or leads nowhere on
 pub record IsFirstTold (im : Image) (at : LeafAt) : Type 0 where

@@ -14,12 +14,6 @@ one_if None = 0
 abbrev pub marks_of : Kept → ℕ → ℕ
 marks_of k b = one_if (slice_get k.places b)
 
--- the block was read, whether it is kept or not, or is a place of a journal
-pub data IsTaken (k : Kept) (b : ℕ) : Type 0 where
-  of_place : slice_get k.places b ≡ Some true → IsTaken k b
-  of_leaf : slice_get k.leaves b ≡ Some true → IsTaken k b
-  of_kept : (bytes : List ℕ) → (seen_of k).block_at b ≡ Some bytes → IsTaken k b
-
 -- the block was read and is kept
 abbrev pub IsKept : Kept → ℕ → Type 0
 IsKept k b = (seen_of k).block_at b ≢ None

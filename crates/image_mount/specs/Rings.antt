@@ -42,14 +42,9 @@ pub record IsPlace (im : Image) (done : List ℕ) (d n b : ℕ) : Type 0 where
   pub plain : ¬ (IsSystemFile im inode)
   pub of : Contains done inode ⊎ ((inode ≡ d) × (index < n))
 
--- each block that was read as a leaf was wanted
-abbrev pub AreWantedLeaves : Image → Kept → Type 0
-AreWantedLeaves im k = (b : ℕ) → slice_get k.leaves b ≡ Some true → (from : ℕ) × IsWanted im b from
-
--- each block that was read was wanted, whether it is kept or not, and each that is marked is such a place
+-- each block that is kept was wanted, and each that is marked is such a place
 pub record IsSearched (im : Image) (done : List ℕ) (d n : ℕ) (k : Kept) : Type 0 where
   pub wanted : AreWanted im k
-  pub leaves : AreWantedLeaves im k
   pub marked : (b : ℕ) → slice_get k.places b ≡ Some true → IsPlace im done d n b
 
 -- a journal by its record in the directory of journals, whose dinode is in this block; those before it are as large as they may be

@@ -91,39 +91,6 @@ pub(crate) fn fetch<D: SharedDisk>(
     Ok(())
 }
 
-/// Reads a leaf, whose number stands in block `from`, into `into`. It isn't kept; only that it was read is known afterwards. What
-/// is kept already is not read again.
-pub(crate) fn read_leaf<D: SharedDisk>(
-    disk: &mut D,
-    table: &mut KeptBlocks,
-    block: u64,
-    from: u64,
-    into: &mut [u8],
-) -> Result<(), MountFault>
-    requires work { IsWorking (D.state disk.old) table.old }
-    requires size { length into.old ≡ (D.state disk.old).size }
-    ensures work { OnOk result (IsWorking (D.state disk.new) table.new) }
-    ensures inside { OnOk result (block < (D.state disk.old).count) }
-    ensures bytes { OnOk result (IsTrue (D.state disk.old).tells → into.new ≡ (D.state disk.old).block_at block) }
-    ensures searched { OnOk result ((im : Image) (done : List ℕ) (d n : ℕ) → IsWanted im block from → IsSearched im done d n table.old → IsSearched im done d n table.new) }
-    ensures refused { (done : List ℕ) (d n : ℕ) → IsTrue (D.state disk.old).tells → IsWanted (image_of (D.state disk.old)) block from → IsSearched (image_of (D.state disk.old)) done d n table.old
-        → IfErr result (RefusesRightly (image_of (D.state disk.old))) }
-    ensures left { OnOk result (table.new.left ≡ table.old.left) }
-    ensures grown { OnOk result (IsGrown table.old table.new) }
-    ensures risen { IfErr result (HasRisen (D.faults disk.old) (D.faults disk.new)) }
-    ensures within { IfErr result (LiesWithin (D.state disk.old).count) }
-    ensures reads { ReadsOnly (D.state disk.old) (D.state disk.new) (D.list disk.old) (D.list disk.new) (D.faults disk.old) (D.faults disk.new) }
-{
-    if let Ok(bytes) = table.get(block, from) {
-        into.copy_from_slice(bytes);
-        return Ok(());
-    }
-    check_readable(table, disk.blocks(), block, from)?;
-    read_into(disk, block, into)?;
-    table.mark_leaf(block);
-    Ok(())
-}
-
 /// Reads the block for want of which a search stopped; a refusal it answers.
 pub(crate) fn go_on<D: SharedDisk>(
     alloc: Global,

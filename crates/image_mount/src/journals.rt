@@ -147,7 +147,7 @@ fn find_block<D: SharedDisk>(
     }
 }
 
-// That a place of a journal lies in a group's data blocks, and that its block was not read so far and is not another's place.
+// That a place of a journal lies in a group's data blocks, and that its block is neither kept nor another's place.
 fn check_place(table: &KeptBlocks, system: &System, located: &Located) -> Result<(), MountFault>
     ensures inside { OnOk result (located.now.block < length table.now.entries) }
     ensures placed { OnOk result (IsInGroups system.now.groups.items located.now.block) }
@@ -161,7 +161,7 @@ fn check_place(table: &KeptBlocks, system: &System, located: &Located) -> Result
     if located.block >= table.count() || !is_data(&system.groups, located.block) {
         return Err(damaged(located.from, 2));
     }
-    if table.is_taken(located.block) {
+    if table.is_place(located.block) || table.get(located.block, located.from).is_ok() {
         return Err(damaged(located.block, 3));
     }
     Ok(())

@@ -1,4 +1,4 @@
-ghost use Rattle.std.specs.Prelude.{◌≡◌, ◌≢◌, ◌+◌, ◌<◌, ◌≤◌, [], ◌∷◌, ⊤, true, false, length, count_by, is_none, slice_set, slice_get, Some, None, IsTrue, IsFalse, ◌↔◌, IfOk, IfErr, IfSome, IfNone, MatchOption};
+ghost use Rattle.std.specs.Prelude.{◌≡◌, ◌≢◌, ◌+◌, ◌<◌, ◌≤◌, [], ◌∷◌, ⊤, true, false, length, count_by, is_none, slice_set, slice_get, Some, None, IsTrue, ◌↔◌, IfOk, IfErr, IfSome, IfNone, MatchOption};
 ghost use Rattle.std.specs.List.{All};
 ghost use Rattle.gfs2_layout.specs.Device.{IsBlockSize};
 
@@ -9,16 +9,13 @@ use glock_names::{Group, LockName, State, View};
 use std::alloc::Global;
 use std::marker::Model;
 
-/// The blocks of a device that were read and are kept, by their numbers. A leaf is looked at once, and isn't kept: there may be
-/// as many as the device has blocks.
+/// The blocks of a device that were read and are kept, by their numbers.
 #[derive(Drop)]
 pub(crate) struct KeptBlocks {
     size: u32,
     entries: Vec<Option<Content>>,
     // Which blocks are places of journals.
     places: Vec<bool>,
-    // Which blocks were read as leaves, of which nothing is kept.
-    leaves: Vec<bool>,
     // How many blocks are not kept.
     left: usize,
 }
@@ -30,14 +27,14 @@ impl Model for KeptBlocks {
 
     ghost Value = { Kept };
 
-    ghost view = { λ t. record { size = t.size; entries = t.entries.items; places = t.places.items; leaves = t.leaves.items; left = t.left } };
+    ghost view = { λ t. record { size = t.size; entries = t.entries.items; places = t.places.items; left = t.left } };
 
-    ghost invariant = { λ t. IsView (seen_of (record { size = t.size; entries = t.entries.items; places = t.places.items; leaves = t.leaves.items; left = t.left })) × (t.left ≡ count_by is_none t.entries.items) × (length t.places.items ≡ length t.entries.items) × (length t.leaves.items ≡ length t.entries.items) };
+    ghost invariant = { λ t. IsView (seen_of (record { size = t.size; entries = t.entries.items; places = t.places.items; left = t.left })) × (t.left ≡ count_by is_none t.entries.items) × (length t.places.items ≡ length t.entries.items) };
 }
 
 impl KeptBlocks {
     ghost use Rattle.image_mount.specs.Kept.{seen_of};
-    ghost use Rattle.image_mount.specs.Marked.{AreMarked, IsGrown, IsTaken, marks_of};
+    ghost use Rattle.image_mount.specs.Marked.{AreMarked, IsGrown, marks_of};
     ghost use Rattle.image_mount.specs.Searching.{IsSteady, LacksBlock};
     ghost use Rattle.image_mount.specs.declared.fault.MountFault.TheVariants as fault_of;
 
@@ -48,23 +45,19 @@ impl KeptBlocks {
         ensures count { IfOk result (λ table. length table.entries ≡ count) }
         ensures size { IfOk result (λ table. table.size ≡ size) }
         ensures places { IfOk result (λ table. All (λ place. place ≡ false) table.places) }
-        ensures leaves { IfOk result (λ table. All (λ leaf. leaf ≡ false) table.leaves) }
         ensures memory { IfErr result (λ fault. fault ≡ fault_of.NoMemory) }
         ensures steady { IfErr result IsSteady }
     {
         let mut entries = Vec::with_capacity(alloc, count as usize)?;
         let mut places = Vec::with_capacity(alloc, count as usize)?;
-        let mut leaves = Vec::with_capacity(alloc, count as usize)?;
         for _block in 0..count {
             entries.push(None)?;
             places.push(false)?;
-            leaves.push(false)?;
         }
         Ok(KeptBlocks {
             size,
             entries,
             places,
-            leaves,
             left: count as usize,
         })
     }
@@ -76,7 +69,6 @@ impl KeptBlocks {
         ensures kept { self.new.entries ≡ slice_set self.old.entries block (Some bytes.items) }
         ensures size { self.new.size ≡ self.old.size }
         ensures places { self.new.places ≡ self.old.places }
-        ensures leaves { self.new.leaves ≡ self.old.leaves }
         ensures falls { self.new.left + 1 ≡ self.old.left }
     {
         self.entries[block as usize] = Some(Content::new(bytes));
@@ -119,42 +111,10 @@ impl KeptBlocks {
         ensures marked { marks_of self.old block ≡ 0 → AreMarked self.old self.new (block ∷ []) }
         ensures grown { (seen_of self.old).block_at block ≡ None → IsGrown self.old self.new }
         ensures entries { self.new.entries ≡ self.old.entries }
-        ensures leaves { self.new.leaves ≡ self.old.leaves }
         ensures size { self.new.size ≡ self.old.size }
         ensures left { self.new.left ≡ self.old.left }
     {
         self.places[block as usize] = true;
-    }
-
-    // Whether the block was read as a leaf.
-    fn is_leaf(&self, block: u64) -> bool
-        ensures { IsTrue result ↔ slice_get self.now.leaves block ≡ Some true }
-    {
-        self.leaves.get(block as usize) == Some(&true)
-    }
-
-    /// Whether the block was read, whether it is kept or not, or is a place of a journal.
-    pub fn is_taken(&self, block: u64) -> bool
-        ensures taken { IsTrue result → IsTaken self.now block }
-        ensures unmarked { IsFalse result → marks_of self.now block ≡ 0 }
-        ensures free { IsFalse result → (seen_of self.now).block_at block ≡ None }
-    {
-        if self.is_place(block) || self.is_leaf(block) {
-            return true;
-        }
-        self.block(block).is_some()
-    }
-
-    /// The block was read as a leaf.
-    pub fn mark_leaf(&mut self, block: u64)
-        requires { block < length self.old.entries }
-        ensures leaves { self.new.leaves ≡ slice_set self.old.leaves block true }
-        ensures entries { self.new.entries ≡ self.old.entries }
-        ensures places { self.new.places ≡ self.old.places }
-        ensures size { self.new.size ≡ self.old.size }
-        ensures left { self.new.left ≡ self.old.left }
-    {
-        self.leaves[block as usize] = true;
     }
 }
 

@@ -19,15 +19,6 @@ pub(crate) struct LeafAt {
     ghost low: { head.depth ≤ 15 },
 }
 
-/// A leaf that a walk is to read: its number, and the block in which that stands; and the leaf behind which it comes, but for the
-/// first of a chain.
-#[derive(Clone, Copy)]
-pub(crate) struct LeafLink {
-    pub number: u64,
-    pub by: u64,
-    pub tail: Option<LeafAt>,
-}
-
 /// A walk over the leaves of the master directory, which is a hashed one: what claims each block, as far as it came; the
 /// records that it found; the next pointer of the table; and the leaf whose next it hasn't looked for.
 #[derive(Drop)]

@@ -1,27 +1,27 @@
 ghost use Rattle.std.specs.Prelude.{ℕ, ◌≡◌, ◌≢◌, ◌⊎◌, ◌+◌, ◌-◌, ◌*◌, ◌/◌, ◌^◌, ◌<◌, ◌≤◌, ◌++◌, ⊤, true, false, drop, length, map, vec_len, slice_get, is_some, None, Some, IfOk, OnOk, IfErr, IfSome, IfNone};
 ghost use Rattle.std.specs.List.{All};
-ghost use Rattle.gfs2_layout.specs.Bytes.{u64_at};
 ghost use Rattle.gfs2_layout.specs.Inode.{depth_in, entry_block as block_of_entry, is_hashed_in, IsLeaf};
 ghost use Rattle.gfs2_layout.specs.Records.{records_in};
 ghost use Rattle.gfs2_layout.specs.Structures.{leaf_of};
-ghost use Rattle.image_model.specs.Claims.{every, HasLeaf, master_of};
+ghost use Rattle.image_model.specs.Claims.{every, Claims, master_of};
 ghost use Rattle.image_model.specs.Image.{Image};
+ghost use Rattle.image_model.specs.Owners.{Chained};
 ghost use Rattle.image_model.specs.Rules.{HasRecordIn};
 ghost use Rattle.gfs2_layout.specs.Records.{Record};
 ghost use Rattle.image_mount.specs.Found.{HasFormat, is_other, first_other as first_other_in};
-ghost use Rattle.image_mount.specs.Leaves.{HasHashOf, IsMasterIn, IsTableOf, IsLeafHead, IsLeafIn, IsLinkOf, IsPointed, IsFirstTold, IsNextLeaf, IsWalked, ComesNext, HasEnded, steps_left};
+ghost use Rattle.image_mount.specs.Leaves.{HasHashOf, IsMasterIn, IsTableOf, IsLeafHead, IsLeafIn, IsFirstTold, IsNextLeaf, IsWalked, ComesNext, HasEnded, steps_left};
 ghost use Rattle.image_mount.specs.Listing.{said, standing, AreDistinct};
 ghost use Rattle.image_mount.specs.Looks.{IsSoundArea};
 ghost use Rattle.image_mount.specs.Refusals.{RefusesRightly};
-ghost use Rattle.image_mount.specs.Searching.{IsRead, IsSteady, IsWanted, StopsRightly, LacksBlock};
-ghost use Rattle.image_mount.specs.declared.inodes.Inode.{Inode as InodeValue};
+ghost use Rattle.image_mount.specs.Searching.{IsRead, IsSteady, StopsRightly, LacksBlock};
+ghost use Rattle.image_mount.specs.Kept.{seen_of};
 
 use crate::fault::MountFault;
 use crate::field::Field;
 use crate::groups::read_whole;
 use crate::inodes::Inode;
 use crate::kept_blocks::KeptBlocks;
-use crate::leaf::{LeafAt, LeafLink, LeafWalk};
+use crate::leaf::{LeafAt, LeafWalk};
 use crate::listing::{Named, check_names, check_twice, find, first_other, read_area};
 use crate::stop::{Stop, damaged, outside, reads};
 use crc_words::crc32;
@@ -76,41 +76,43 @@ fn entry_block(table: &KeptBlocks, inode: &Inode, pointers: &HashTable, i: u64) 
     }
 }
 
-// The head of the leaf with this number, which has these bytes; it is no deeper than the table.
-fn read_head(bytes: &[u8], number: u64, depth: u16) -> Result<Leaf, MountFault>
-    requires { 104 ≤ length bytes.now }
-    ensures found { (im : Image) → im.at number ≡ bytes.now → IfOk result (λ leaf. leaf ≡ leaf_of (im.at number)) }
+// The head of a leaf whose number stands in block `by`, which is no deeper than the table.
+fn read_head(table: &KeptBlocks, by: u64, number: u64, depth: u16) -> Result<Leaf, Stop>
+    ensures found { (im : Image) → IsRead im table.now → IfOk result (λ leaf. leaf ≡ leaf_of (im.at number)) }
     ensures low { IfOk result (λ leaf. leaf.depth ≤ depth) }
-    ensures well { (im : Image) (a : ℕ) → im.at number ≡ bytes.now → depth ≡ depth_in (every im a) → OnOk result (IsLeafHead im a number) }
-    ensures refused { (im : Image) (a : ℕ) → im.at number ≡ bytes.now → HasFormat im → number < im.count → depth ≡ depth_in (every im a) → HasLeaf im a number → IfErr result (RefusesRightly im) }
-    ensures steady { IfErr result IsSteady }
+    ensures inside { (im : Image) → IsRead im table.now → OnOk result (number < im.count) }
+    ensures kept { OnOk result ((seen_of table.now).block_at number ≢ None) }
+    ensures well { (im : Image) (a : ℕ) → IsRead im table.now → depth ≡ depth_in (every im a) → OnOk result (IsLeafHead im a number) }
+    ensures stops { (im : Image) (a hash place : ℕ) → IsRead im table.now → HasFormat im → by < im.count → depth ≡ depth_in (every im a) → Claims im by number (Chained a hash place) → IfErr result (StopsRightly im) }
+    ensures lacks { IfErr result (LacksBlock table.now) }
 {
+    let bytes = table.get(number, by)?;
     if !has_header(bytes, 6, 600) {
-        return Err(damaged(number, 1));
+        return Err(Stop::Refused(damaged(number, 1)));
     }
     let Ok(leaf) = Leaf::read(bytes) else {
-        return Err(damaged(number, 14));
+        return Err(Stop::Refused(damaged(number, 14)));
     };
     if leaf.depth > depth {
-        return Err(damaged(number, 14));
+        return Err(Stop::Refused(damaged(number, 14)));
     }
     Ok(leaf)
 }
 
-// The leaf behind one of a chain, which has these bytes and is as deep.
-fn leaf_behind(tail: &LeafAt, bytes: &[u8], depth: u16) -> Result<LeafAt, MountFault>
+// The leaf behind one of a chain, which is as deep.
+fn leaf_behind(table: &KeptBlocks, tail: &LeafAt, depth: u16) -> Result<LeafAt, Stop>
     requires depth { depth ≤ 15 }
     requires place { tail.now.place + 1 < 2 ^ 64 }
-    requires whole { 104 ≤ length bytes.now }
     ensures behind { IfOk result (λ at. (at.block ≡ tail.now.head.next) × (at.hash ≡ tail.now.hash) × (at.place ≡ tail.now.place + 1) × (at.pointer ≡ tail.now.pointer) × (at.behind ≡ tail.now.behind) × (at.head.depth ≡ tail.now.head.depth)) }
-    ensures found { (im : Image) (a : ℕ) → im.at tail.now.head.next ≡ bytes.now → tail.now.head.next < im.count → depth ≡ depth_in (every im a) → IsLeafIn im a tail.now → tail.now.head.next ≢ 0 → IfOk result (IsLeafIn im a) }
-    ensures refused { (im : Image) (a : ℕ) → im.at tail.now.head.next ≡ bytes.now → tail.now.head.next < im.count → HasFormat im → depth ≡ depth_in (every im a) → IsLeafIn im a tail.now → tail.now.head.next ≢ 0 → IfErr result (RefusesRightly im) }
-    ensures steady { IfErr result IsSteady }
+    ensures found { (im : Image) (a : ℕ) → IsRead im table.now → depth ≡ depth_in (every im a) → IsLeafIn im a tail.now → tail.now.head.next ≢ 0 → IfOk result (IsLeafIn im a) }
+    ensures kept { IfOk result (λ at. (seen_of table.now).block_at at.block ≢ None) }
+    ensures stops { (im : Image) (a : ℕ) → IsRead im table.now → HasFormat im → depth ≡ depth_in (every im a) → IsLeafIn im a tail.now → tail.now.head.next ≢ 0 → IfErr result (StopsRightly im) }
+    ensures lacks { IfErr result (LacksBlock table.now) }
 {
     let number = tail.head.next;
-    let head = read_head(bytes, number, depth)?;
+    let head = read_head(table, tail.block, number, depth)?;
     if head.depth != tail.head.depth {
-        return Err(damaged(number, 14));
+        return Err(Stop::Refused(damaged(number, 14)));
     }
     Ok(LeafAt {
         block: number,
@@ -131,24 +133,32 @@ fn first_hash_of(bits: u64, depth: u16) -> u64
     bits << (32 - depth)
 }
 
-// The leaf to which pointer i of the table leads, which has these bytes, and its run of pointers: the first of them stands at a
-// multiple of their count.
-fn leaf_of_pointer(pointers: &HashTable, i: u64, bytes: &[u8]) -> Result<LeafAt, MountFault>
-    requires low { i < 2 ^ pointers.now.depth }
-    requires whole { 104 ≤ length bytes.now }
+// The leaf to which pointer i of the table leads, and its run of pointers: the first of them stands at a multiple of their
+// count.
+fn leaf_of_pointer(
+    table: &KeptBlocks,
+    inode: &Inode,
+    pointers: &HashTable,
+    i: u64,
+) -> Result<LeafAt, Stop>
+    requires { i < 2 ^ pointers.now.depth }
     ensures first { IfOk result (λ at. (at.pointer ≡ i) × (at.place ≡ 0)) }
-    ensures block { IfOk result (λ at. at.block ≡ u64_at (8 * i) pointers.now.bytes.items) }
     ensures run { IfOk result (λ at. (i < at.behind) × (at.behind ≤ 2 ^ pointers.now.depth)) }
-    ensures found { (im : Image) (inode : InodeValue) → IsTableOf im inode pointers.now → IsPointed im pointers.now i bytes.now → IfOk result (IsLeafIn im inode.block) }
-    ensures refused { (im : Image) (inode : InodeValue) → IsTableOf im inode pointers.now → IsPointed im pointers.now i bytes.now → IfErr result (RefusesRightly im) }
-    ensures steady { IfErr result IsSteady }
+    ensures found { (im : Image) → IsRead im table.now → IsTableOf im inode.now pointers.now → IfOk result (IsLeafIn im inode.now.block) }
+    ensures kept { IfOk result (λ at. (seen_of table.now).block_at at.block ≢ None) }
+    ensures stops { (im : Image) → IsRead im table.now → IsTableOf im inode.now pointers.now → IfErr result (StopsRightly im) }
+    ensures lacks { IfErr result (LacksBlock table.now) }
 {
+    let by = entry_block(table, inode, pointers, i)?;
     let number = pointers.pointer(i);
-    let head = read_head(bytes, number, pointers.depth)?;
+    if number == 0 {
+        return Err(Stop::Refused(damaged(by, 14)));
+    }
+    let head = read_head(table, by, number, pointers.depth)?;
     let run = pointers.run(head.depth);
     let start = i - i % run;
     if !pointers.leads_to(start, run, number) {
-        return Err(damaged(number, 14));
+        return Err(Stop::Refused(damaged(number, 14)));
     }
     Ok(LeafAt {
         block: number,
@@ -294,68 +304,36 @@ impl LeafWalk {
         })
     }
 
-    /// Which leaf comes next, if the walk isn't at its end.
-    pub fn link(
+    /// The leaf that comes next, if the walk isn't at its end.
+    pub fn next(
         &self,
         table: &KeptBlocks,
         inode: &Inode,
         pointers: &HashTable,
-    ) -> Result<Option<LeafLink>, Stop>
+    ) -> Result<Option<LeafAt>, Stop>
+        requires count { vec_len self.now.owners.entries ≤ 2 ^ 32 }
         requires within { self.now.index ≤ 2 ^ pointers.now.depth }
-        ensures linked { IfOk result (λ next. IfSome next (IsLinkOf self.now pointers.now)) }
+        ensures next { IfOk result (λ next. IfSome next (ComesNext self.now)) }
         ensures ended { IfOk result (λ next. IfNone next (HasEnded self.now (2 ^ pointers.now.depth))) }
-        ensures wanted { (im : Image) → IsRead im table.now → IsTableOf im inode.now pointers.now → IsWalked im inode.now.block self.now → IfOk result (λ next. IfSome next (λ link. IsWanted im link.number link.by)) }
+        ensures run { IfOk result (λ next. IfSome next (λ at. at.behind ≤ 2 ^ pointers.now.depth)) }
+        ensures on { IfOk result (λ next. IfSome next (λ at. (is_some self.now.tail ≡ true × at.behind ≡ self.now.index) ⊎ (self.now.index < at.behind))) }
+        ensures short { IfOk result (λ next. IfSome next (λ at. at.place + self.now.owners.free ≤ vec_len self.now.owners.entries + 1)) }
+        ensures found { (im : Image) → IsRead im table.now → IsTableOf im inode.now pointers.now → IsWalked im inode.now.block self.now → IfOk result (λ next. IfSome next (IsLeafIn im inode.now.block)) }
+        ensures kept { IfOk result (λ next. IfSome next (λ at. (seen_of table.now).block_at at.block ≢ None)) }
         ensures stops { (im : Image) → IsRead im table.now → IsTableOf im inode.now pointers.now → IsWalked im inode.now.block self.now → IfErr result (StopsRightly im) }
         ensures lacks { IfErr result (LacksBlock table.now) }
     {
         if let Some(tail) = &self.tail {
             if tail.head.next != 0 {
-                return Ok(Some(LeafLink {
-                    number: tail.head.next,
-                    by: tail.block,
-                    tail: Some(*tail),
-                }));
+                let at = leaf_behind(table, tail, pointers.depth)?;
+                return Ok(Some(at));
             }
         }
         if self.index == pointers.count() {
             return Ok(None);
         }
-        let by = entry_block(table, inode, pointers, self.index)?;
-        let number = pointers.pointer(self.index);
-        if number == 0 {
-            return Err(Stop::Refused(damaged(by, 14)));
-        }
-        Ok(Some(LeafLink {
-            number,
-            by,
-            tail: None,
-        }))
-    }
-
-    /// The leaf that comes next, which has these bytes.
-    pub fn leaf(
-        &self,
-        pointers: &HashTable,
-        link: &LeafLink,
-        bytes: &[u8],
-    ) -> Result<LeafAt, MountFault>
-        requires linked { IsLinkOf self.now pointers.now link.now }
-        requires within { self.now.index ≤ 2 ^ pointers.now.depth }
-        requires count { vec_len self.now.owners.entries ≤ 2 ^ 32 }
-        requires whole { 104 ≤ length bytes.now }
-        ensures next { IfOk result (ComesNext self.now) }
-        ensures block { IfOk result (λ at. at.block ≡ link.now.number) }
-        ensures run { IfOk result (λ at. at.behind ≤ 2 ^ pointers.now.depth) }
-        ensures on { IfOk result (λ at. (is_some self.now.tail ≡ true × at.behind ≡ self.now.index) ⊎ (self.now.index < at.behind)) }
-        ensures short { IfOk result (λ at. at.place + self.now.owners.free ≤ vec_len self.now.owners.entries + 1) }
-        ensures found { (im : Image) (inode : InodeValue) → IsTableOf im inode pointers.now → IsWalked im inode.block self.now → im.at link.now.number ≡ bytes.now → link.now.number < im.count → IfOk result (IsLeafIn im inode.block) }
-        ensures refused { (im : Image) (inode : InodeValue) → IsTableOf im inode pointers.now → IsWalked im inode.block self.now → im.at link.now.number ≡ bytes.now → link.now.number < im.count → IfErr result (RefusesRightly im) }
-        ensures steady { IfErr result IsSteady }
-    {
-        match &link.tail {
-            Some(tail) => leaf_behind(tail, bytes, pointers.depth),
-            None => leaf_of_pointer(pointers, self.index, bytes),
-        }
+        let at = leaf_of_pointer(table, inode, pointers, self.index)?;
+        Ok(Some(at))
     }
 
     /// Comes to a leaf, which has these bytes: claims it for the directory with its dinode in block `master` and, where that

@@ -21,7 +21,7 @@ use crate::inodes::Inode;
 use crate::kept_blocks::KeptBlocks;
 use crate::stop::{Stop, damaged};
 use crc_words::crc32;
-use file_tree::{is_dots, is_name};
+use file_tree::is_name;
 use gfs2_layout::{DINODE_LENGTH, Record, is_area, next_record};
 use glock_names::{Entry, View};
 use std::alloc::Global;
@@ -39,6 +39,12 @@ pub(crate) struct Named<'a> {
 pub(crate) struct Link {
     pub entry: Entry,
     pub from: u64,
+}
+
+fn is_dots(name: &[u8]) -> bool
+    ensures { result ≡ has_dots name.now }
+{
+    name == b".".as_slice() || name == b"..".as_slice()
 }
 
 impl<'a> Named<'a> {

@@ -14,7 +14,7 @@ ghost use Rattle.profile_limits.specs.Limits.{most_blocks};
 ghost use Rattle.shared_disk.specs.Disk.{ReadsOnly};
 
 use crate::fault::MountFault;
-use crate::fetching::{go_on, read_leaf};
+use crate::fetching::go_on;
 use crate::formats::read_superblock;
 use crate::inodes::Inode;
 use crate::kept_blocks::KeptBlocks;
@@ -102,7 +102,7 @@ fn search_pointers<D: SharedDisk>(
     }
 }
 
-// Goes over the leaves to which this table leads. Each is read into one buffer, looked at and dropped.
+// Goes over the leaves to which this table leads, each of which is read.
 fn walk_leaves<D: SharedDisk>(
     alloc: Global,
     disk: &mut D,
@@ -123,15 +123,12 @@ fn walk_leaves<D: SharedDisk>(
     ensures reads { ReadsOnly (D.state disk.old) (D.state disk.new) (D.list disk.old) (D.list disk.new) (D.faults disk.old) (D.faults disk.new) }
 {
     let mut walk = LeafWalk::new(alloc, disk.blocks())?;
-    let size = table.block_size() as usize;
-    let mut bytes = vec![in alloc; 0u8; size]?;
     loop {
-        match walk.link(table, inode, pointers) {
-            Ok(Some(link)) => {
-                read_leaf(disk, table, link.number, link.by, &mut bytes)?;
-                let at = walk.leaf(pointers, &link, &bytes)?;
-                walk.enter(alloc, inode.block, &bytes, &at)?;
-            }
+        match walk.next(table, inode, pointers) {
+            Ok(Some(at)) => match table.get(at.block, at.block) {
+                Ok(bytes) => walk.enter(alloc, inode.block, bytes, &at)?,
+                Err(_) => unreachable!(),
+            },
             Ok(None) => return Ok(walk),
             Err(stop) => go_on(alloc, disk, table, stop)?,
         }

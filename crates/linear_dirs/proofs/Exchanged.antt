@@ -1,5 +1,5 @@
 -- A linear directory after its block was put in a draft.
-use Rattle.std.proofs.Common.{◌≡◌, ◌≢◌, IsTrue, ℕ, ◌+◌, ◌≤◌, List, [], ◌∷◌, length, take, drop, None, Some, refl, sym, ap, ◌∙◌, subst, subst₂, arith}
+use Rattle.std.proofs.Common.{◌≡◌, ◌≢◌, IsTrue, ℕ, ◌+◌, ◌≤◌, List, [], ◌∷◌, length, take, drop, None, Some, refl, sym, ap, ◌∙◌, subst, arith}
 use Rattle.std.specs.Prelude.{not, ◌&&◌, ◌==◌}
 use Rattle.std.proofs.lemmas.Bool.Decides.{nat_tests}
 use Rattle.drafts.specs.Fates.{Drafted, seen_in}
@@ -8,7 +8,7 @@ use Rattle.gfs2_layout.specs.Cutting.{slot_from, slots_without}
 use Rattle.gfs2_layout.specs.Records.{record_named, Record, IsRecordArea, records_in, record_of, said_by}
 use Rattle.gfs2_layout.specs.Inode.{has_hash_flag, records_of, dinode_in, linear_area}
 use Rattle.gfs2_layout.specs.Exchanges.{IsExchanged, IsCounted, directory_count}
-use Rattle.gfs2_layout.specs.Holding.{Holding, bytes_at}
+use Rattle.gfs2_layout.specs.Holding.{Holding}
 use Rattle.gfs2_layout.specs.Putting.{IsEntryOf, HasOneMore, new_says, says, told, put_slot}
 use Rattle.gfs2_layout.specs.Structures.{dinode_length, dinode_of, header_fault, is_directory}
 use Rattle.gfs2_layout.specs.declared.dinode.Dinode.{Dinode}
@@ -16,17 +16,16 @@ use Rattle.gfs2_layout.specs.declared.dirent.Dirent.{Dirent}
 use Rattle.gfs2_layout.proofs.HeaderLaws.{answer_ok}
 use Rattle.glock_names.specs.Views.{Seen}
 use Rattle.glock_names.specs.declared.steps.Entry.{Entry}
-use Rattle.dinode_tree.specs.Pads.{KeepsPads}
 use Rattle.dinode_tree.specs.Reading.{inode_lock}
 use Rattle.dinode_tree.specs.Shown.{IsShown}
 use Rattle.linear_dirs.specs.declared.removing.Place.{Place}
-use Rattle.linear_dirs.specs.Exchanges.{IsCutFrom, HasExchanged, IsLaidOver, uncounted}
+use Rattle.linear_dirs.specs.Exchanges.{IsCutFrom, HasExchanged, uncounted}
 use Rattle.linear_dirs.specs.Reading.{IsAreaIn, IsDinodeIn, IsPlaceOf, IsBlockPut, IsDirectoryOf, IsFewer}
 use Rattle.linear_dirs.specs.Shown.{IsLinearIn, record_for, head_for, holding_over}
-use Rattle.linear_dirs.proofs.Looked.{bytes_of, records_are}
+use Rattle.linear_dirs.proofs.Looked.{records_are}
 use Rattle.linear_dirs.proofs.Counts.{counts_more, counts_fewer}
 use Rattle.linear_dirs.proofs.Puts.{came, went}
-use Rattle.linear_dirs.proofs.Rewritten.{seen_at, IsRewritten, IsWritten, rewritten, exchanged, kept, area_new, bytes_new}
+use Rattle.linear_dirs.proofs.Rewritten.{seen_at, IsRewritten, IsWritten, rewritten, exchanged, kept, area_new}
 
 -- the directory's block is put with this dinode and these records: what the directory is then
 module _ {V : Type 0} (seen : V → Seen) (old new : Drafted V) (dir : ℕ) (h : Holding) (d : Dinode) (area : List ℕ) (d' : Dinode) (now : List ℕ) (shown : IsShown (seen_in seen old) dir h)
@@ -42,10 +41,6 @@ module _ {V : Type 0} (seen : V → Seen) (old new : Drafted V) (dir : ℕ) (h :
 
   pub dinode_kept : uncounted (dinode_in (holding_over (seen_in seen new) h)) ≡ uncounted (dinode_in h)
   dinode_kept = kept (seen_in seen new) h d area now d' is over written
-
-  pub laid : (before : List ℕ) → (seen_in seen old).block_at dir ≡ Some before → KeepsPads before now → IsLaidOver (bytes_at h h.own) (bytes_at (holding_over (seen_in seen new) h) h.own)
-  laid before there pads = subst₂ IsLaidOver (sym (bytes_of (seen_in seen old) h dir before shown there)) (sym (bytes_new (seen_in seen new) h now over))
-      (record { pads = pads; filled = put.filled })
 
   pub has_exchanged : (gone come : List Record) → (IsRecordArea area → IsRecordArea (drop dinode_length now))
       → IsExchanged (records_in area) (records_in (drop dinode_length now)) gone come → IsCounted d d' gone come → HasExchanged h (holding_over (seen_in seen new) h) gone come

@@ -9,9 +9,7 @@ use Rattle.gfs2_layout.specs.Area.{IsArea}
 use Rattle.gfs2_layout.specs.Holding.{Holding, bytes_at}
 use Rattle.gfs2_layout.specs.Inode.{dinode_in, linear_area, records_of, has_hash_flag}
 use Rattle.gfs2_layout.specs.Records.{Record, record_named, records_in}
-use Rattle.gfs2_layout.specs.Structures.{header_fault, dinode_of, dinode_read, dinode_length, is_directory}
-use Rattle.gfs2_layout.specs.Writing.{dinode_put}
-use Rattle.gfs2_layout.proofs.HeaderLaws.{answer_ok}
+use Rattle.gfs2_layout.specs.Structures.{dinode_of, dinode_length, is_directory}
 use Rattle.gfs2_layout.specs.declared.dinode.Dinode.{Dinode}
 use Rattle.glock_names.specs.declared.steps.Entry.{Entry}
 use Rattle.glock_names.specs.Steps.{IsDamage, TellsOf}
@@ -20,9 +18,7 @@ use Rattle.glock_names.specs.declared.steps.CallFault.{CallFault}
 use Rattle.glock_names.specs.declared.steps.CallFault.TheVariants.{Damaged, NoMemory}
 use Rattle.dinode_tree.specs.Broken as inode
 use Rattle.dinode_tree.specs.Reading.{IsRightDinode}
-use Rattle.dinode_tree.specs.Pads.{KeepsPads, dinode_over}
 use Rattle.dinode_tree.specs.Shown.{IsShown}
-use Rattle.dinode_tree.proofs.Pads.{keeps_by}
 use Rattle.linear_dirs.specs.Broken.{IsBroken, of_inode, not_stuffed, not_filled, no_area}
 use Rattle.linear_dirs.specs.Reading.{IsAreaIn, IsDirectoryOf}
 use Rattle.linear_dirs.specs.Shown.{IsLinearIn, HasNameIn, entry_of}
@@ -36,18 +32,6 @@ pub rest_put : (at : ℕ) (xs ys : List ℕ) → at ≤ length xs → drop at (p
 rest_put at xs ys inside =
     ap (λ (zs : List ℕ). drop at (take at xs ++ (ys ++ zs))) (drop_all (length xs - at) (drop at xs) (omega (arith, length-drop at xs)))
     ∙ ap (λ (zs : List ℕ). drop at (take at xs ++ zs)) (append-nil ys) ∙ drop_at (take at xs) ys at (length-take-le at xs inside)
-
--- a dinode that is written before it
-pub over_mid : (d : Dinode) (old area : List ℕ) → dinode_put d (put_mid dinode_length (length old - dinode_length) old area) ≡ dinode_over d old area
-unfolding dinode_over
-over_mid d old area =
-    ap (λ (zs : List ℕ). dinode_put d (take dinode_length old ++ (area ++ zs))) (drop_all (length old - dinode_length) (drop dinode_length old) (omega (arith, length-drop dinode_length old)))
-    ∙ ap (λ (zs : List ℕ). dinode_put d (take dinode_length old ++ zs)) (append-nil area)
-
-pub pads_kept : (d : Dinode) (old area new : List ℕ) → dinode_length ≤ length old → new ≡ dinode_put d (put_mid dinode_length (length old - dinode_length) old area) → dinode_read new ≡ Ok d
-    → drop dinode_length new ≡ drop dinode_length (put_mid dinode_length (length old - dinode_length) old area) → KeepsPads old new
-pads_kept d old area new large is read behind =
-    keeps_by d old area new (is ∙ over_mid d old area) (answer_ok (header_fault dinode_length 4 400 new) (dinode_of new) d read).1 (behind ∙ rest_put dinode_length old area large)
 
 -- a fault that is handed on
 pub handed : {A : Type 0} (result : Result A CallFault) (fault : CallFault) (P : CallFault → Type 0) → IsErrAnd result (λ f. f ≡ fault) → P fault → IfErr result P

@@ -1,14 +1,12 @@
 -- What a directory is after a record went or came.
-use Rattle.std.specs.Prelude.{ℕ, ◌≡◌, List, take, drop, None, Some}
-use Rattle.gfs2_layout.specs.Area.{IsArea, IsRecordAt, first_named, slots_of}
+use Rattle.std.specs.Prelude.{ℕ, ◌≡◌, List, take, None, Some}
+use Rattle.gfs2_layout.specs.Area.{IsRecordAt, first_named, slots_of}
 use Rattle.gfs2_layout.specs.Cutting.{slot_from, slots_without}
 use Rattle.gfs2_layout.specs.declared.dinode.Dinode.{Dinode}
 use Rattle.gfs2_layout.specs.Exchanges.{IsExchanged, IsCounted}
 use Rattle.gfs2_layout.specs.Holding.{Holding}
 use Rattle.gfs2_layout.specs.Inode.{IsInode, dinode_in, head_of, linear_area, records_of}
 use Rattle.gfs2_layout.specs.Records.{Record}
-use Rattle.gfs2_layout.specs.Structures.{dinode_length}
-use Rattle.dinode_tree.specs.Pads.{KeepsPads}
 
 -- Some of a directory's records went and some came, and its dinode counts them: an inode that was sound is so, and has the number
 -- and kind that it had.
@@ -29,9 +27,3 @@ pub record IsCutFrom (h h' : Holding) (name : List ℕ) : Type 0 where
   pub none_before : first_named name (slots_of (take place (linear_area h))) ≡ None
   pub first : first_named name (slots_of (linear_area h)) ≡ Some (slot_from place (linear_area h))
   pub slots : slots_of (linear_area h') ≡ slots_without place (linear_area h)
-
--- The bytes of a linear directory's block are written over old ones: its dinode keeps the pads of the old one, and records fill the rest. So each
--- byte is fixed by what the dinode and the records say.
-pub record IsLaidOver (old new : List ℕ) : Type 0 where
-  pub pads : KeepsPads old new
-  pub filled : IsArea (drop dinode_length new)

@@ -4,7 +4,7 @@ ghost use Rattle.gfs2_layout.specs.Holding.{Holding};
 ghost use Rattle.gfs2_layout.specs.Inode.{records_of};
 ghost use Rattle.gfs2_layout.specs.Area.{Slot, IsArea, IsShown as IsRecord};
 ghost use Rattle.gfs2_layout.specs.Structures.{is_in_use};
-ghost use Rattle.gfs2_layout.specs.Records.{record_of, records_in, names_of};
+ghost use Rattle.gfs2_layout.specs.Records.{record_of, records_in, is_dots as has_dots, names_of};
 ghost use Rattle.glock_names.specs.Steps.{IfIs, IfNeedBlock, IfDamaged};
 ghost use Rattle.glock_names.specs.Views.{HasBlock, IsOfView};
 ghost use Rattle.dinode_tree.specs.Shown.{IsAtBlock, IsShown};
@@ -14,10 +14,17 @@ ghost use Rattle.linear_dirs.specs.Reading.{told_in};
 ghost use Rattle.linear_dirs.specs.Broken.{IsBroken};
 
 use crate::area::{area_of, damaged};
-use file_tree::{Name, is_dots, is_name};
+use file_tree::{Name, is_name};
 use gfs2_layout::{Record, next_record};
 use glock_names::{CallFault, Step, View};
 use std::alloc::Global;
+
+/// Whether a name is that of the directory itself, or of the one above.
+pub(crate) fn is_dots(name: &[u8]) -> bool
+    ensures { result ≡ has_dots name.now }
+{
+    name == b".".as_slice() || name == b"..".as_slice()
+}
 
 // Adds the name of a record in use, unless it is `.` or `..`.
 fn add_name(

@@ -5,27 +5,26 @@ ghost use Rattle.std.specs.FinMap.{insert as with_fate};
 ghost use Rattle.drafts.specs.declared.fate.Fate.TheVariants.{Put};
 ghost use Rattle.gfs2_layout.specs.Area.{IsArea, slots_of};
 ghost use Rattle.gfs2_layout.specs.Exchanges.{directory_count};
-ghost use Rattle.gfs2_layout.specs.Holding.{Holding, bytes_at};
+ghost use Rattle.gfs2_layout.specs.Holding.{Holding};
 ghost use Rattle.gfs2_layout.specs.Inode.{dinode_in, linear_area};
 ghost use Rattle.gfs2_layout.specs.Putting.{IsEntryOf, has_room, least_length, put_slot};
 ghost use Rattle.gfs2_layout.specs.Records.{Record};
 ghost use Rattle.gfs2_layout.specs.Structures.{dinode_length, dinode_read};
 ghost use Rattle.glock_names.specs.Steps.{IfIs, IfNeedBlock, IfDamaged};
 ghost use Rattle.glock_names.specs.Views.{HasBlock, IsOfView};
-ghost use Rattle.dinode_tree.specs.Pads.{KeepsPads};
 ghost use Rattle.dinode_tree.specs.Reading.{inode_lock};
 ghost use Rattle.dinode_tree.specs.Shown.{IsShown};
 ghost use Rattle.dinode_tree.specs.Walking.{missing_dinode};
 ghost use Rattle.drafts.specs.Fates.{seen_in};
 ghost use Rattle.linear_dirs.specs.Shown.{IsLinearIn, record_for, head_for as head_of_entry, holding_over};
 ghost use Rattle.linear_dirs.specs.Reading.{HasAreaIn, IsAreaIn, IsBlockPut};
-ghost use Rattle.linear_dirs.specs.Exchanges.{HasExchanged, IsLaidOver, uncounted};
+ghost use Rattle.linear_dirs.specs.Exchanges.{HasExchanged, uncounted};
 ghost use Rattle.linear_dirs.specs.Broken.{IsBroken};
 
 use crate::area::{area_of, damaged};
+use crate::listing::is_dots;
 use crc_words::crc32;
 use drafts::Draft;
-use file_tree::is_dots;
 use gfs2_layout::{
     DINODE_LENGTH, Dinode, Dirent, Inum, areas_exchange_records, put_record, put_records_are_found,
 };
@@ -92,7 +91,6 @@ fn put_in_block(bytes: &mut [u8], dinode: &Dinode, head: &Dirent, name: &[u8]) -
     ensures put { result ≡ true → put_slot head.now name.now (slots_of (drop dinode_length bytes.old)) ≡ Some (slots_of (drop dinode_length bytes.new)) }
     ensures area { result ≡ true → IsArea (drop dinode_length bytes.new) }
     ensures dinode { result ≡ true → dinode_read bytes.new ≡ Ok dinode.now }
-    ensures pads { result ≡ true → KeepsPads bytes.old bytes.new }
 {
     if !put_record(&mut bytes[DINODE_LENGTH..], head, name) {
         return false;
@@ -113,8 +111,8 @@ fn put_name<V: View>(
     requires entry { IsEntryOf head.now name.now }
     ensures room { (area : List ℕ) → IsAreaIn (seen_in V.seen draft.old) dir area → IfOk result (λ done. done ≡ list_any (has_room (least_length (length name.now))) (slots_of area)) }
     ensures full { IfOk result (λ done. done ≡ false → draft.new ≡ draft.old) }
-    ensures put { (area : List ℕ) (there : IsAreaIn (seen_in V.seen draft.old) dir area) → IfOk result (λ done. done ≡ true
-        → (bytes : List ℕ) × (IsBlockPut V.seen draft.old draft.new dir dinode.now bytes × (put_slot head.now name.now (slots_of area) ≡ Some (slots_of (drop dinode_length bytes))) × KeepsPads there.bytes bytes)) }
+    ensures put { (area : List ℕ) → IsAreaIn (seen_in V.seen draft.old) dir area → IfOk result (λ done. done ≡ true
+        → (bytes : List ℕ) × (IsBlockPut V.seen draft.old draft.new dir dinode.now bytes × (put_slot head.now name.now (slots_of area) ≡ Some (slots_of (drop dinode_length bytes))))) }
     ensures err { OnErr result (draft.new ≡ draft.old) }
 {
     let Some(mut bytes) = draft.copy(dir)? else {
@@ -150,8 +148,6 @@ pub fn insert<V: View>(
         → put_slot (head_of_entry name.now entry) name.now (slots_of (linear_area h)) ≡ Some (slots_of (linear_area (holding_over (seen_in V.seen draft.new) h)))) }
     ensures dinode { (h : Holding) → IsShown (seen_in V.seen draft.old) dir h → IfIs result (λ done. done ≡ true
         → uncounted (dinode_in (holding_over (seen_in V.seen draft.new) h)) ≡ uncounted (dinode_in h)) }
-    ensures laid { (h : Holding) → IsShown (seen_in V.seen draft.old) dir h → IfIs result (λ done. done ≡ true
-        → IsLaidOver (bytes_at h h.own) (bytes_at (holding_over (seen_in V.seen draft.new) h) h.own)) }
     ensures one { IfIs result (λ done. done ≡ true → (bytes : List ℕ) × (draft.new ≡ record draft.old { fates = with_fate draft.old.fates dir (Put (inode_lock dir) false bytes) })) }
     ensures linear { IsLinearIn (seen_in V.seen draft.new) dir }
     ensures there { IfIs result (λ done. HasBlock (seen_in V.seen draft.old) dir) }

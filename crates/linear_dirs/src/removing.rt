@@ -4,20 +4,19 @@ ghost use Rattle.std.specs.FinMap.{insert as with_fate};
 ghost use Rattle.drafts.specs.declared.fate.Fate.TheVariants.{Put};
 ghost use Rattle.gfs2_layout.specs.Area.{IsArea, IsRecordAt, slots_of};
 ghost use Rattle.gfs2_layout.specs.Cutting.{slots_without};
-ghost use Rattle.gfs2_layout.specs.Holding.{Holding, bytes_at};
+ghost use Rattle.gfs2_layout.specs.Holding.{Holding};
 ghost use Rattle.gfs2_layout.specs.Inode.{dinode_in, records_of};
 ghost use Rattle.gfs2_layout.specs.Records.{Record, record_named, records_in};
 ghost use Rattle.gfs2_layout.specs.Structures.{dinode_length, dinode_read};
 ghost use Rattle.glock_names.specs.Steps.{IfIs, IfNeedBlock, IfDamaged};
 ghost use Rattle.glock_names.specs.Views.{HasBlock, IsOfView};
-ghost use Rattle.dinode_tree.specs.Pads.{KeepsPads};
 ghost use Rattle.dinode_tree.specs.Reading.{inode_lock};
 ghost use Rattle.dinode_tree.specs.Shown.{IsShown};
 ghost use Rattle.dinode_tree.specs.Walking.{missing_dinode};
 ghost use Rattle.drafts.specs.Fates.{seen_in};
 ghost use Rattle.linear_dirs.specs.Shown.{IsLinearIn, HasNameIn, holding_over};
 ghost use Rattle.linear_dirs.specs.Reading.{HasAreaIn, IsAreaIn, IsBlockPut, IsFewer, IsPlaceOf};
-ghost use Rattle.linear_dirs.specs.Exchanges.{HasExchanged, IsCutFrom, IsLaidOver, uncounted};
+ghost use Rattle.linear_dirs.specs.Exchanges.{HasExchanged, IsCutFrom, uncounted};
 ghost use Rattle.linear_dirs.specs.Broken.{IsBroken};
 
 use crate::area::{area_of, damaged};
@@ -76,7 +75,6 @@ fn cut_in_block(bytes: &mut [u8], dinode: &Dinode, at: u32)
     ensures cut { slots_of (drop dinode_length bytes.new) ≡ slots_without at (drop dinode_length bytes.old) }
     ensures area { IsArea (drop dinode_length bytes.new) }
     ensures dinode { dinode_read bytes.new ≡ Ok dinode.now }
-    ensures pads { KeepsPads bytes.old bytes.new }
 {
     cut_record(&mut bytes[DINODE_LENGTH..], at);
     dinode.write(bytes);
@@ -91,8 +89,8 @@ fn cut_name<V: View>(
 ) -> Result<(), NoMemory>
     requires seen { HasAreaIn (seen_in V.seen draft.old) dir }
     requires place { (area : List ℕ) → IsAreaIn (seen_in V.seen draft.old) dir area → IsRecordAt area at }
-    ensures cut { (area : List ℕ) (there : IsAreaIn (seen_in V.seen draft.old) dir area)
-        → OnOk result ((bytes : List ℕ) × (IsBlockPut V.seen draft.old draft.new dir dinode.now bytes × (slots_of (drop dinode_length bytes) ≡ slots_without at area) × KeepsPads there.bytes bytes)) }
+    ensures cut { (area : List ℕ) → IsAreaIn (seen_in V.seen draft.old) dir area
+        → OnOk result ((bytes : List ℕ) × (IsBlockPut V.seen draft.old draft.new dir dinode.now bytes × (slots_of (drop dinode_length bytes) ≡ slots_without at area))) }
     ensures err { OnErr result (draft.new ≡ draft.old) }
 {
     let Some(mut bytes) = draft.copy(dir)? else {
@@ -117,7 +115,6 @@ pub fn remove<V: View>(
         → IfIs result (λ done. HasExchanged h (holding_over (seen_in V.seen draft.new) h) (r ∷ []) []) }
     ensures slots { (h : Holding) → IsShown (seen_in V.seen draft.old) dir h → IfIs result (λ done. IsCutFrom h (holding_over (seen_in V.seen draft.new) h) name.now) }
     ensures dinode { (h : Holding) → IsShown (seen_in V.seen draft.old) dir h → IfIs result (λ done. uncounted (dinode_in (holding_over (seen_in V.seen draft.new) h)) ≡ uncounted (dinode_in h)) }
-    ensures laid { (h : Holding) → IsShown (seen_in V.seen draft.old) dir h → IfIs result (λ done. IsLaidOver (bytes_at h h.own) (bytes_at (holding_over (seen_in V.seen draft.new) h) h.own)) }
     ensures one { IfIs result (λ done. (bytes : List ℕ) × (draft.new ≡ record draft.old { fates = with_fate draft.old.fates dir (Put (inode_lock dir) false bytes) })) }
     ensures linear { IsLinearIn (seen_in V.seen draft.new) dir }
     ensures there { IfIs result (λ done. HasBlock (seen_in V.seen draft.old) dir) }

@@ -4,7 +4,7 @@ use Rattle.file_tree.specs.declared.call.Call.{Call}
 use Rattle.shared_disk.specs.Disk.{DiskState}
 use Rattle.lone_view.specs.Seeing.{Lone, seen_alone}
 use Rattle.lone_node.specs.Answering.{IsDamagedFor, IsDamagedOn, IsFailedAt, IsHashedOn, IsUnbuiltOn}
-use Rattle.lone_node.specs.Course.{IsLaterView, Moment}
+use Rattle.lone_node.specs.Course.{IsLaterView}
 use Rattle.lone_node.specs.Ends.{IfDamaged, IfDiskFailed, IfHashed, IfNotBuilt, UnlessFailed}
 use Rattle.lone_node.specs.declared.ends.RunEnd.{RunEnd}
 use Rattle.lone_node.specs.declared.ends.RunEnd.TheVariants as end
@@ -30,9 +30,8 @@ damaged_before d d' first n call b rule still same is =
       damaged = subst (λ (e : DiskState). IsDamagedFor e (seen_alone is.view) call b rule) (sym still) is.damaged;
     }
 
-pub failed_before : (before after : Moment) (first n : Lone) (time : ℕ) (call : Call) (block : Option ℕ) → IsSameSystem first n → IsFailedAt before after n time call block
-    → IsFailedAt before after first time call block
-failed_before before after first n time call block same is = record { view = is.view; later = record { same = same_on same is.later.same; on = is.later.on }; failed = is.failed }
+pub failed_before : (d d' : DiskState) (first n : Lone) (time : ℕ) (call : Call) (block : Option ℕ) → IsSameSystem first n → IsFailedAt d d' n time call block → IsFailedAt d d' first time call block
+failed_before d d' first n time call block same is = record { view = is.view; later = record { same = same_on same is.later.same; on = is.later.on }; failed = is.failed }
 
 -- ---- a fact of an end follows from another
 
@@ -42,6 +41,13 @@ failed_so (end.Damaged block rule) P Q f is = tt
 failed_so (end.Hashed block) P Q f is = tt
 failed_so (end.NotBuilt line) P Q f is = tt
 failed_so end.NoMemory P Q f is = tt
+
+pub failed_and : (e : RunEnd) (P Q : Option ℕ → Type 0) → IfDiskFailed e P → IfDiskFailed e Q → IfDiskFailed e (λ block. P block × Q block)
+failed_and (end.DiskFailed block rise) P Q p q = (p, q)
+failed_and (end.Damaged block rule) P Q p q = tt
+failed_and (end.Hashed block) P Q p q = tt
+failed_and (end.NotBuilt line) P Q p q = tt
+failed_and end.NoMemory P Q p q = tt
 
 pub damaged_so : (e : RunEnd) (P Q : ℕ → ℕ → Type 0) → ((b rule : ℕ) → P b rule → Q b rule) → IfDamaged e P → IfDamaged e Q
 damaged_so (end.DiskFailed block rise) P Q f is = tt

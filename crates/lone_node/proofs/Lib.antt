@@ -1,6 +1,6 @@
 pub mod Rising
 pub mod Flying
-pub mod Stopping
+pub mod Partly
 pub mod Keeping
 pub mod Leaving
 pub mod Answered

@@ -13,9 +13,10 @@ use Rattle.drafts.specs.declared.change.Change.{Change}
 use Rattle.shared_disk.specs.Disk.{DiskState}
 use Rattle.file_calls.specs.Calls.{IsDamage, IsHashed, IsNeededFor, IsUnbuilt}
 use Rattle.lone_view.specs.Seeing.{Lone, seen_alone}
-use Rattle.lone_node.specs.Course.{HasStopped, IsDoneBy, IsLaterView, Moment}
+use Rattle.lone_node.specs.Course.{IsDoneBy, IsLaterView}
 use Rattle.lone_node.specs.declared.answering.Full.{Full}
 use Rattle.lone_node.specs.Standing.{LeavesStanding, StandsFor}
+use Rattle.lone_node.specs.Writing.{IsWriteOf, MayBeWritten}
 
 -- it is the same disk, which may hold other bytes
 pub record IsSameDisk (d d' : DiskState) : Type 0 where
@@ -65,12 +66,12 @@ pub record IsDamagedOn (d : DiskState) (n : Lone) (call : Call) (b rule : ℕ) :
 
 -- The disk failed at the call: in a read of a block that the call needs, and is as it was; or in a write of one of the blocks by which the
 -- call, answered from what is seen, changes it, or (no block) in a barrier behind such writes.
-pub data IsFailedFor (before after : Moment) (view : Lone) (time : ℕ) (call : Call) : Option ℕ → Type 0 where
-  in_a_read : (m : Missing) → IsNeededFor (seen_alone view) call m → after ≡ before → IsFailedFor before after view time call (Some m.block)
-  in_a_write : (block : Option ℕ) (reply : Reply) (change : Change) → IsDoneBy view time call reply change → HasStopped before after change.blocks.items block
-      → IsFailedFor before after view time call block
+pub data IsFailedFor (d d' : DiskState) (view : Lone) (time : ℕ) (call : Call) : Option ℕ → Type 0 where
+  in_a_read : (m : Missing) → IsNeededFor (seen_alone view) call m → d' ≡ d → IsFailedFor d d' view time call (Some m.block)
+  in_a_write : (block : Option ℕ) (reply : Reply) (change : Change) → IsDoneBy view time call reply change → IsWriteOf change.blocks.items block
+      → MayBeWritten 1 d d' change.blocks.items → IsFailedFor d d' view time call block
 
-pub record IsFailedAt (before after : Moment) (n : Lone) (time : ℕ) (call : Call) (block : Option ℕ) : Type 0 where
+pub record IsFailedAt (d d' : DiskState) (n : Lone) (time : ℕ) (call : Call) (block : Option ℕ) : Type 0 where
   pub view : Lone
-  pub later : IsLaterView before.disk n view
-  pub failed : IsFailedFor before after view time call block
+  pub later : IsLaterView d n view
+  pub failed : IsFailedFor d d' view time call block

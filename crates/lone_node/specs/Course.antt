@@ -1,6 +1,6 @@
 -- The course of a run on the disk, step by step: each call is answered from what was read of the disk as it then is, and puts on it what its
 -- change writes, and nothing else.
-use Rattle.std.specs.Prelude.{ℕ, ◌≡◌, ◌≢◌, ◌+◌, ◌<◌, ◌≤◌, List, [], ◌∷◌, ◌++◌, length, map, slice_get, take, Option, None, Some}
+use Rattle.std.specs.Prelude.{ℕ, ◌≡◌, ◌≢◌, ◌<◌, ◌≤◌, List, [], ◌∷◌, ◌++◌, length, map, Option, None, Some}
 use Rattle.file_tree.specs.Tree.{Tree}
 use Rattle.file_tree.specs.declared.call.Call.{Call}
 use Rattle.file_tree.specs.declared.reply.Reply.{Reply}
@@ -22,7 +22,7 @@ use Rattle.trace_text.specs.declared.item.TraceItem.TheVariants as trace
 use Rattle.lone_view.specs.Seeing.{Lone, seen_alone}
 use Rattle.lone_node.specs.Items.{AnsweredCall, items_from}
 use Rattle.lone_node.specs.Standing.{IsOn, IsSameSystem}
-use Rattle.lone_node.specs.Writing.{AreInFlight, AreWritten, flights_of}
+use Rattle.lone_node.specs.Writing.{AreWritten}
 use Rattle.lone_node.specs.declared.answering.Full.{Full}
 
 -- a disk, and its list of operations as far as it is told
@@ -69,17 +69,11 @@ writes_of blocks = map (λ (w : Written). Write 1 w.block w.bytes) blocks
 abbrev pub turn_of : List Written → List Operation
 turn_of blocks = writes_of blocks ++ Barrier 1 ∷ []
 
--- The next turn of writes: as many as may be in flight at once, or all that are left.
-pub record IsTurn (some later : List Written) : Type 0 where
-  pub not_none : 1 ≤ length some
-  pub few : length some ≤ 512
-  pub whole : later ≢ [] → length some ≡ 512
-
--- the operations by which these blocks are brought to the disk, turn by turn
+-- the operations by which these blocks are brought to the disk: in turns of at most as many as may be in flight
 pub data AreBrought : List Written → List Operation → Type 0 where
   none : AreBrought [] []
-  turn : (some later : List Written) (operations : List Operation) → IsTurn some later → AreBrought later operations
-      → AreBrought (some ++ later) (turn_of some ++ operations)
+  turn : (before some : List Written) (operations : List Operation) → AreBrought before operations → 1 ≤ length some → length some ≤ 512
+      → AreBrought (before ++ some) (operations ++ turn_of some)
 
 -- these blocks were written: the disk holds them over what it held, nothing is in flight, and these are the operations; without a block nothing was done
 pub record BringsTo (before after : Moment) (blocks : List Written) : Type 0 where
@@ -88,36 +82,6 @@ pub record BringsTo (before after : Moment) (blocks : List Written) : Type 0 whe
   pub brought : AreBrought blocks operations
   pub gains : Gains before.list after.list operations
   pub none : blocks ≡ [] → after ≡ before
-
--- ---- where the disk fails
-
--- A turn of these blocks stopped at the write to this one, which may have come in flight yet, with those before it; or (no block) at the barrier
--- behind them all. These are in flight then.
-pub data StopsAt (some : List Written) : Option ℕ → List Written → Type 0 where
-  before_it : (i : ℕ) (w : Written) → slice_get some i ≡ Some w → StopsAt some (Some w.block) (take i some)
-  behind_it : (i : ℕ) (w : Written) → slice_get some i ≡ Some w → StopsAt some (Some w.block) (take (i + 1) some)
-  at_barrier : StopsAt some None some
-
-pub record HasStoppedIn (before after : Moment) (some : List Written) (block : Option ℕ) : Type 0 where
-  pub flying : List Written
-  pub stops : StopsAt some block flying
-  pub disk : AreInFlight 1 before.disk after.disk (flights_of flying)
-  pub gains : Gains before.list after.list (writes_of flying)
-
--- one turn of these blocks: the disk holds them
-pub record IsTurnTaken (before after : Moment) (some : List Written) : Type 0 where
-  pub written : AreWritten before.disk after.disk some
-  pub gains : Gains before.list after.list (turn_of some)
-
--- As these blocks were brought to it, the disk failed at the write to this one, or (no block) at a barrier: in their first turn, or that was taken and it
--- failed behind it.
-pub data HasStopped : Moment → Moment → List Written → Option ℕ → Type 0 where
-  in_turn : (before after : Moment) (some later : List Written) (block : Option ℕ) → IsTurn some later → HasStoppedIn before after some block
-      → HasStopped before after (some ++ later) block
-  behind_turn : (before next after : Moment) (some later : List Written) (block : Option ℕ) → IsTurn some later → IsTurnTaken before next some
-      → HasStopped next after later block → HasStopped before after (some ++ later) block
-
--- ---- one step
 
 -- One call, from one moment of the disk to the next: it is answered from what was read, and what it changes is on the disk; or there is no space for
 -- it, and the disk is as it was.

@@ -71,14 +71,14 @@ HasChangedNothing clients items = AllByRecursion (λ (r : Replied). Changes r �
 
 -- The disk failed at a call, behind these items: before it the disk was at rest, and where it stood for a tree at the start, it stood then
 -- for the tree that they leave; it was as at the start where they change nothing; and they are the course of a run up to there.
-pub record IsFailedOn (first last : Moment) (n : Lone) (time : ℕ) (clients : List Client) (items : List TraceItem) (call : Call) (block : Option ℕ) : Type 0 where
+pub record IsFailedOn (first : Moment) (d' : DiskState) (n : Lone) (time : ℕ) (clients : List Client) (items : List TraceItem) (call : Call) (block : Option ℕ) : Type 0 where
   pub before : Moment
   pub same : IsSameDisk first.disk before.disk
   pub idle : IsIdle before.disk
   pub course : HasTaken n time clients first before items
-  pub kept : HasChangedNothing clients items → before ≡ first
+  pub kept : HasChangedNothing clients items → before.disk ≡ first.disk
   pub stood : (t : Tree) (s : StandsFor first.disk n t) → LeavesStanding first.disk before.disk n t (tree_of (history_of clients items) t) s
-  pub failed : IsFailedAt before last n time call block
+  pub failed : IsFailedAt before.disk d' n time call block
 
 -- ---- one more call
 

@@ -32,6 +32,10 @@ pub record AreInFlight (node : ℕ) (d d' : DiskState) (flights : List Flight) :
   pub own : d'.in_flight node ≡ flights
   pub others : (i : ℕ) → (i ≡ node → ⊥) → d'.in_flight i ≡ d.in_flight i
 
+-- of these blocks only the first may be in flight
+abbrev pub ArePartlyInFlight : ℕ → DiskState → DiskState → List Written → Type 0
+ArePartlyInFlight node d d' blocks = (count : ℕ) × AreInFlight node d d' (flights_of (take count blocks))
+
 -- the disk is at rest again, and holds these blocks over what it held
 pub record AreWritten (d d' : DiskState) (blocks : List Written) : Type 0 where
   pub size : d'.size ≡ d.size
@@ -40,6 +44,22 @@ pub record AreWritten (d d' : DiskState) (blocks : List Written) : Type 0 where
   pub fenced : d'.is_fenced ≡ d.is_fenced
   pub idle : (i : ℕ) → d'.in_flight i ≡ []
   pub blocks_are : IsTrue d.tells → (b : ℕ) → d'.block_at b ≡ unwrap_or (bytes_for blocks b) (d.block_at b)
+
+-- Writes of these blocks by this node may have come to their places, or be in flight: each block is as it was, or as it is written, and each
+-- write in flight is one of these.
+pub record MayBeWritten (node : ℕ) (d d' : DiskState) (blocks : List Written) : Type 0 where
+  pub size : d'.size ≡ d.size
+  pub count : d'.count ≡ d.count
+  pub tells : d'.tells ≡ d.tells
+  pub fenced : d'.is_fenced ≡ d.is_fenced
+  pub blocks_are : IsTrue d.tells → (b : ℕ) → (d'.block_at b ≡ d.block_at b) ⊎ (bytes_for blocks b ≡ Some (d'.block_at b))
+  pub own : AllByRecursion (λ (f : Flight). bytes_for blocks f.block ≡ Some f.bytes) (d'.in_flight node)
+  pub others : (i : ℕ) → (i ≡ node → ⊥) → d'.in_flight i ≡ []
+
+-- a write of one of these blocks; or the barrier behind some of them
+abbrev pub IsWriteOf : List Written → Option ℕ → Type 0
+IsWriteOf blocks (Some b) = (w : Written) × Contains blocks w × (w.block ≡ b)
+IsWriteOf blocks None = (w : Written) × Contains blocks w
 
 -- the map with these blocks
 abbrev pub with_blocks : FinMap nat_cmp (List ℕ) → List Written → FinMap nat_cmp (List ℕ)

@@ -9,10 +9,10 @@ ghost use Rattle.shared_disk.specs.Disk.{Gains, IsIdle, Operation};
 ghost use Rattle.file_calls.specs.Calls.{IsBuilt, IsHashed, IsUnbuilt};
 ghost use Rattle.lone_view.specs.Seeing.{seen_alone};
 ghost use Rattle.lone_node.specs.Answering.{IsAnsweredFrom, IsDamagedFor, IsDamagedOn, IsFailedAt, IsFailedFor, IsHashedOn, IsSameDisk, IsToldFull, IsUnbuiltOn};
-ghost use Rattle.lone_node.specs.Course.{AreBrought, HasStopped, IsStep, moment};
+ghost use Rattle.lone_node.specs.Course.{AreBrought, IsStep, moment};
 ghost use Rattle.lone_node.specs.Ends.{HasCause, IfDamaged, IfDiskFailed, IfHashed, IfNotBuilt, UnlessFailed, end_at};
 ghost use Rattle.lone_node.specs.Standing.{IsOn, IsSameSystem, StandsFor, lacked_count};
-ghost use Rattle.lone_node.specs.Writing.{AreOfDisk, AreWritten, with_blocks};
+ghost use Rattle.lone_node.specs.Writing.{AreOfDisk, AreWritten, IsWriteOf, MayBeWritten, with_blocks};
 
 use crate::RunEnd;
 use crate::fetching::fetch;
@@ -64,7 +64,8 @@ fn carry_out<D: SharedDisk>(
     ensures none { change.now.blocks.items ≡ [] → OnOk result ((D.state disk.new ≡ D.state disk.old) × (D.list disk.new ≡ D.list disk.old)) }
     ensures kept { OnOk result (view.new ≡ record view.old { blocks = with_blocks view.old.blocks change.now.blocks.items }) }
     ensures before { IfErr result (λ end. UnlessFailed end ((D.state disk.new ≡ D.state disk.old) × (D.list disk.new ≡ D.list disk.old))) }
-    ensures stopped { IfErr result (λ end. IfDiskFailed end (HasStopped (moment (D.state disk.old) (D.list disk.old)) (moment (D.state disk.new) (D.list disk.new)) change.now.blocks.items)) }
+    ensures failed { IfErr result (λ end. IfDiskFailed end (IsWriteOf change.now.blocks.items)) }
+    ensures left { IfErr result (λ end. IfDiskFailed end (λ block. MayBeWritten 1 (D.state disk.old) (D.state disk.new) change.now.blocks.items)) }
     ensures hashed { IfErr result (λ end. IfHashed end (λ b. ⊥)) }
     ensures built { IfErr result (λ end. IfNotBuilt end (λ line. ⊥)) }
     ensures sound { IfErr result (λ end. IfDamaged end (λ b rule. ⊥)) }
@@ -108,7 +109,7 @@ fn try_once<D: SharedDisk>(
     ensures hashed { IfErr result (λ end. IfHashed end (IsHashed (seen_alone view.old) call.now)) }
     ensures unbuilt { IfErr result (λ end. IfNotBuilt end (λ place. (place ≡ line) × IsUnbuilt (seen_alone view.old) call.now)) }
     ensures taken { IfErr result (λ end. IfNotBuilt end (λ place. (place ≡ line) × ((t : Tree) → StandsFor (D.state disk.old) view.old t → (apply call.now t).reply ≡ OkReply))) }
-    ensures failed { IfErr result (λ end. IfDiskFailed end (IsFailedFor (moment (D.state disk.old) (D.list disk.old)) (moment (D.state disk.new) (D.list disk.new)) view.old stamp.now.time call.now)) }
+    ensures failed { IfErr result (λ end. IfDiskFailed end (IsFailedFor (D.state disk.old) (D.state disk.new) view.old stamp.now.time call.now)) }
     ensures later { (i : ℕ) → D.faults disk.old i ≤ D.faults disk.new i }
     ensures cause { IfErr result (HasCause 1 (D.state disk.old).count (D.faults disk.old) (D.faults disk.new)) }
 {
@@ -164,7 +165,7 @@ pub(crate) fn answer_call<D: SharedDisk>(
     ensures hashed { IfErr result (λ end. IfHashed end (IsHashedOn (D.state disk.old) view.old call.now)) }
     ensures unbuilt { IfErr result (λ end. IfNotBuilt end (λ place. (place ≡ line) × IsUnbuiltOn (D.state disk.old) view.old call.now)) }
     ensures taken { IfErr result (λ end. IfNotBuilt end (λ place. (place ≡ line) × ((t : Tree) → StandsFor (D.state disk.old) view.old t → (apply call.now t).reply ≡ OkReply))) }
-    ensures failed { IfErr result (λ end. IfDiskFailed end (IsFailedAt (moment (D.state disk.old) (D.list disk.old)) (moment (D.state disk.new) (D.list disk.new)) view.old stamp.now.time call.now)) }
+    ensures failed { IfErr result (λ end. IfDiskFailed end (IsFailedAt (D.state disk.old) (D.state disk.new) view.old stamp.now.time call.now)) }
     ensures later { (i : ℕ) → D.faults disk.old i ≤ D.faults disk.new i }
     ensures cause { IfErr result (HasCause 1 (D.state disk.old).count (D.faults disk.old) (D.faults disk.new)) }
 {

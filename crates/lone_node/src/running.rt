@@ -114,7 +114,7 @@ fn take_call<D: SharedDisk>(
     ensures hashed { IfErr result (λ end. IfHashed end (IsHashedOn (D.state disk.old) view.old call.now)) }
     ensures unbuilt { IfErr result (λ end. IfNotBuilt end (λ place. (place ≡ line) × IsUnbuiltOn (D.state disk.old) view.old call.now)) }
     ensures accepted { IfErr result (λ end. IfNotBuilt end (λ place. (place ≡ line) × ((t : Tree) → StandsFor (D.state disk.old) view.old t → (apply call.now t).reply ≡ OkReply))) }
-    ensures failed { IfErr result (λ end. IfDiskFailed end (IsFailedAt (moment (D.state disk.old) (D.list disk.old)) (moment (D.state disk.new) (D.list disk.new)) view.old stamp.now.time call.now)) }
+    ensures failed { IfErr result (λ end. IfDiskFailed end (IsFailedAt (D.state disk.old) (D.state disk.new) view.old stamp.now.time call.now)) }
     ensures later { (i : ℕ) → D.faults disk.old i ≤ D.faults disk.new i }
     ensures cause { IfErr result (HasCause 1 (D.state disk.old).count (D.faults disk.old) (D.faults disk.new)) }
 {
@@ -160,7 +160,7 @@ fn take_lines<D: SharedDisk>(
     ensures hashed { IfErr result (λ end. IfHashed end (λ b. EndsAtCall (λ call. IsHashedOn (D.state disk.new) view.old call b) clients.now lines.now items.new.items (StandsFor (D.state disk.old) view.old))) }
     ensures unbuilt { IfErr result (λ end. IfNotBuilt end (λ line. EndsAt line (λ call. IsUnbuiltOn (D.state disk.new) view.old call) clients.now lines.now items.new.items (StandsFor (D.state disk.old) view.old))) }
     ensures taken { IfErr result (λ end. IfNotBuilt end (λ line. EndsAt line (IsTakenBehind clients.now items.new.items (StandsFor (D.state disk.old) view.old)) clients.now lines.now items.new.items (StandsFor (D.state disk.old) view.old))) }
-    ensures failed { IfErr result (λ end. IfDiskFailed end (λ block. EndsAtCall (λ call. IsFailedOn (moment (D.state disk.old) (D.list disk.old)) (moment (D.state disk.new) (D.list disk.new)) view.old stamp.now.time clients.now items.new.items call block) clients.now lines.now items.new.items (StandsFor (D.state disk.old) view.old))) }
+    ensures failed { IfErr result (λ end. IfDiskFailed end (λ block. EndsAtCall (λ call. IsFailedOn (moment (D.state disk.old) (D.list disk.old)) (D.state disk.new) view.old stamp.now.time clients.now items.new.items call block) clients.now lines.now items.new.items (StandsFor (D.state disk.old) view.old))) }
     ensures later { (i : ℕ) → D.faults disk.old i ≤ D.faults disk.new i }
     ensures cause { IfErr result (HasCause 1 (D.state disk.old).count (D.faults disk.old) (D.faults disk.new)) }
 {
@@ -209,7 +209,7 @@ fn run_lines<D: SharedDisk>(
     ensures hashed { IfErr result (λ end. IfHashed end (λ b. EndsAtCall (λ call. IsHashedOn (D.state disk.new) view.old call b) clients.now lines.now items.new.items (StandsFor (D.state disk.old) view.old))) }
     ensures unbuilt { IfErr result (λ end. IfNotBuilt end (λ line. EndsAt line (λ call. IsUnbuiltOn (D.state disk.new) view.old call) clients.now lines.now items.new.items (StandsFor (D.state disk.old) view.old))) }
     ensures taken { IfErr result (λ end. IfNotBuilt end (λ line. EndsAt line (IsTakenBehind clients.now items.new.items (StandsFor (D.state disk.old) view.old)) clients.now lines.now items.new.items (StandsFor (D.state disk.old) view.old))) }
-    ensures failed { IfErr result (λ end. IfDiskFailed end (λ block. EndsAtCall (λ call. IsFailedOn (moment (D.state disk.old) (D.list disk.old)) (moment (D.state disk.new) (D.list disk.new)) view.old stamp.now.time clients.now items.new.items call block) clients.now lines.now items.new.items (StandsFor (D.state disk.old) view.old))) }
+    ensures failed { IfErr result (λ end. IfDiskFailed end (λ block. EndsAtCall (λ call. IsFailedOn (moment (D.state disk.old) (D.list disk.old)) (D.state disk.new) view.old stamp.now.time clients.now items.new.items call block) clients.now lines.now items.new.items (StandsFor (D.state disk.old) view.old))) }
     ensures later { (i : ℕ) → D.faults disk.old i ≤ D.faults disk.new i }
     ensures cause { IfErr result (HasCause 1 (D.state disk.old).count (D.faults disk.old) (D.faults disk.new)) }
 {
@@ -264,7 +264,7 @@ pub fn run_script<D: SharedDisk>(
     ensures hashed { IfErr result (λ end. IfHashed end (λ b. EndsAtCall (λ call. IsHashedOn (D.state disk.new) view.old call b) script.now.clients script.now.lines items.new.items (StandsFor (D.state disk.old) view.old))) }
     ensures unbuilt { IfErr result (λ end. IfNotBuilt end (λ line. EndsAt line (λ call. IsUnbuiltOn (D.state disk.new) view.old call) script.now.clients script.now.lines items.new.items (StandsFor (D.state disk.old) view.old))) }
     ensures taken { IfErr result (λ end. IfNotBuilt end (λ line. EndsAt line (IsTakenBehind script.now.clients items.new.items (StandsFor (D.state disk.old) view.old)) script.now.clients script.now.lines items.new.items (StandsFor (D.state disk.old) view.old))) }
-    ensures failed { IfErr result (λ end. IfDiskFailed end (λ block. EndsAtCall (λ call. IsFailedOn (moment (D.state disk.old) (D.list disk.old)) (moment (D.state disk.new) (D.list disk.new)) view.old time script.now.clients items.new.items call block) script.now.clients script.now.lines items.new.items (StandsFor (D.state disk.old) view.old))) }
+    ensures failed { IfErr result (λ end. IfDiskFailed end (λ block. EndsAtCall (λ call. IsFailedOn (moment (D.state disk.old) (D.list disk.old)) (D.state disk.new) view.old time script.now.clients items.new.items call block) script.now.clients script.now.lines items.new.items (StandsFor (D.state disk.old) view.old))) }
     ensures later { (i : ℕ) → D.faults disk.old i ≤ D.faults disk.new i }
     ensures cause { IfErr result (HasCause 1 (D.state disk.old).count (D.faults disk.old) (D.faults disk.new)) }
 {

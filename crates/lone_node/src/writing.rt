@@ -3,9 +3,9 @@ ghost use Rattle.std.specs.Prelude.{ℕ, List, [], ◌≡◌, ◌<◌, ◌≤◌
 ghost use Rattle.std.specs.List.{AllByRecursion};
 ghost use Rattle.shared_disk.specs.Disk.{Gains, IsIdle, Operation};
 ghost use Rattle.drafts.specs.declared.change.Written.{Written};
-ghost use Rattle.lone_node.specs.Course.{AreBrought, HasStopped, HasStoppedIn, moment, turn_of, writes_of};
+ghost use Rattle.lone_node.specs.Course.{AreBrought, turn_of, writes_of};
 ghost use Rattle.lone_node.specs.Ends.{FailsAlone, IfDiskFailed};
-ghost use Rattle.lone_node.specs.Writing.{AreInFlight, AreOfDisk, AreWritten, flights_of, with_blocks};
+ghost use Rattle.lone_node.specs.Writing.{AreInFlight, AreOfDisk, AreWritten, ArePartlyInFlight, IsWriteOf, MayBeWritten, flights_of, with_blocks};
 
 use crate::RunEnd;
 use drafts::Written;
@@ -45,7 +45,8 @@ fn put_in_flight<D: SharedDisk>(disk: &mut D, blocks: &[Written]) -> Result<(), 
     requires of_disk { AreOfDisk (D.state disk.old) blocks.now }
     ensures flies { OnOk result (AreInFlight 1 (D.state disk.old) (D.state disk.new) (flights_of blocks.now)) }
     ensures gains { OnOk result (Gains (D.list disk.old) (D.list disk.new) (writes_of blocks.now)) }
-    ensures stopped { IfErr result (λ end. IfDiskFailed end (HasStoppedIn (moment (D.state disk.old) (D.list disk.old)) (moment (D.state disk.new) (D.list disk.new)) blocks.now)) }
+    ensures left { OnErr result (ArePartlyInFlight 1 (D.state disk.old) (D.state disk.new) blocks.now) }
+    ensures failed { IfErr result (λ end. IfDiskFailed end (IsWriteOf blocks.now)) }
     ensures later { (i : ℕ) → D.faults disk.old i ≤ D.faults disk.new i }
     ensures cause { IfErr result (FailsAlone 1 (D.state disk.old).count (D.faults disk.old) (D.faults disk.new)) }
 {
@@ -67,7 +68,8 @@ fn write_some<D: SharedDisk>(disk: &mut D, blocks: &[Written]) -> Result<(), Run
     requires of_disk { AreOfDisk (D.state disk.old) blocks.now }
     ensures written { OnOk result (AreWritten (D.state disk.old) (D.state disk.new) blocks.now) }
     ensures gains { OnOk result (Gains (D.list disk.old) (D.list disk.new) (turn_of blocks.now)) }
-    ensures stopped { IfErr result (λ end. IfDiskFailed end (HasStoppedIn (moment (D.state disk.old) (D.list disk.old)) (moment (D.state disk.new) (D.list disk.new)) blocks.now)) }
+    ensures left { OnErr result (ArePartlyInFlight 1 (D.state disk.old) (D.state disk.new) blocks.now) }
+    ensures failed { IfErr result (λ end. IfDiskFailed end (IsWriteOf blocks.now)) }
     ensures later { (i : ℕ) → D.faults disk.old i ≤ D.faults disk.new i }
     ensures cause { IfErr result (FailsAlone 1 (D.state disk.old).count (D.faults disk.old) (D.faults disk.new)) }
 {
@@ -79,15 +81,16 @@ fn write_some<D: SharedDisk>(disk: &mut D, blocks: &[Written]) -> Result<(), Run
     }
 }
 
-/// Puts these blocks on the disk, as node 1, and waits for them there: in turns of as many as may be in flight at once, and none
-/// where none is changed. Where the disk fails, the turns before are on the disk, and of the next one the first writes are in flight.
+/// Puts these blocks on the disk, as node 1, and waits for them there: at once, as many as may be in flight at once, and none
+/// where none is changed. Where the disk fails, each of these blocks is as it was or as it is written, and some may be in flight.
 pub(crate) fn write_all<D: SharedDisk>(disk: &mut D, blocks: &[Written]) -> Result<(), RunEnd>
     requires idle { IsIdle (D.state disk.old) }
     requires of_disk { AreOfDisk (D.state disk.old) blocks.now }
     ensures written { OnOk result (AreWritten (D.state disk.old) (D.state disk.new) blocks.now) }
     ensures brought { OnOk result ((ops : List Operation) × AreBrought blocks.now ops × Gains (D.list disk.old) (D.list disk.new) ops) }
     ensures none { blocks.now ≡ [] → OnOk result ((D.state disk.new ≡ D.state disk.old) × (D.list disk.new ≡ D.list disk.old)) }
-    ensures stopped { IfErr result (λ end. IfDiskFailed end (HasStopped (moment (D.state disk.old) (D.list disk.old)) (moment (D.state disk.new) (D.list disk.new)) blocks.now)) }
+    ensures left { OnErr result (MayBeWritten 1 (D.state disk.old) (D.state disk.new) blocks.now) }
+    ensures failed { IfErr result (λ end. IfDiskFailed end (IsWriteOf blocks.now)) }
     ensures later { (i : ℕ) → D.faults disk.old i ≤ D.faults disk.new i }
     ensures cause { IfErr result (FailsAlone 1 (D.state disk.old).count (D.faults disk.old) (D.faults disk.new)) }
 {

@@ -1,5 +1,5 @@
 -- The steps of a draft that makes a name, put together.
-use Rattle.std.proofs.Common.{◌≡◌, ◌≢◌, ◌⊎◌, inl, inr, Bool, true, false, ℕ, ◌+◌, ◌-◌, ◌<◌, List, Option, None, Some, refl, sym, ap, ap₂, ◌∙◌, subst, subst₂, arith}
+use Rattle.std.proofs.Common.{◌≡◌, ◌≢◌, ◌⊎◌, inl, inr, Bool, true, false, ℕ, ◌+◌, ◌<◌, List, Option, None, Some, refl, sym, ap, ap₂, ◌∙◌, subst, subst₂, arith}
 use Rattle.std.proofs.lemmas.Bool.{cases_eq}
 use Rattle.std.specs.Prelude.{is_some}
 use Rattle.std.specs.Ordering.{nat_cmp}
@@ -23,7 +23,7 @@ use Rattle.linear_dirs.specs.Shown.{record_for}
 use Rattle.new_inodes.specs.New.{IsInodePut}
 use Rattle.resource_groups.specs.Numbering.{IsNumberPut}
 use Rattle.resource_groups.specs.Putting.{HasDataBlock, IsPutIn, overlaid, seen_or}
-use Rattle.resource_groups.specs.Shown.{HasBitsIn, IsDataOf, IsHeaderOf, group_lock, said}
+use Rattle.resource_groups.specs.Shown.{IsDataOf, IsHeaderOf, group_lock, said}
 use Rattle.resource_groups.specs.Shown as group
 use Rattle.resource_groups.proofs.Apart.{no_header_data}
 use Rattle.resource_groups.proofs.Fits.{fit_of}
@@ -146,14 +146,14 @@ module _ (v : Seen) (is_directory : Bool) (p : Place) (name : List ℕ) (r : Roo
 
   -- what becomes of a block: nothing, or it is put under one of the three locks
   abbrev IsPutSo : ℕ → Type 0
-  IsPutSo b = (lock : LockName) × (bytes : List ℕ) × (get is.said.fates b ≡ Some (Put lock false bytes)) × IsPutUnder v.size p r b lock
+  IsPutSo b = (lock : LockName) × (bytes : List ℕ) × (get is.said.fates b ≡ Some (Put lock false bytes)) × IsPutUnder p r b lock
 
   module _ (shows : IsView v) (has : HasGroup v r.group) where
     what : (b : ℕ) → (get is.said.fates b ≡ None) ⊎ IsPutSo b
     what b = let fit = fit_of v r.group shows has in elim (cases_eq b r.group.addr) [
-      | inl same ↦ inr (group_lock r.group, is.said.header, ap (get is.said.fates) same ∙ is.said.header_put, of_group (record { low = omega (arith, same); high = omega (arith, same, fit.some) }) (inl same) refl)
+      | inl same ↦ inr (group_lock r.group, is.said.header, ap (get is.said.fates) same ∙ is.said.header_put, of_group (record { low = omega (arith, same); high = omega (arith, same, fit.some) }) refl)
       | inr d ↦ elim (cases_eq b (r.group.addr + is.said.part)) [
-        | inl same ↦ inr (group_lock r.group, is.said.bits, ap (get is.said.fates) same ∙ is.said.bits_put, of_group (record { low = omega (arith, same); high = omega (arith, same, is.said.within) }) (inr (subst (HasBitsIn v.size (r.block - r.group.first)) (omega (arith, same)) is.said.stands)) refl)
+        | inl same ↦ inr (group_lock r.group, is.said.bits, ap (get is.said.fates) same ∙ is.said.bits_put, of_group (record { low = omega (arith, same); high = omega (arith, same, is.said.within) }) refl)
         | inr d' ↦ elim (cases_eq b r.block) [
           | inl same ↦ inr (
             inode_lock r.block,
@@ -174,18 +174,18 @@ module _ (v : Seen) (is_directory : Bool) (p : Place) (name : List ℕ) (r : Roo
       ]
     ]
 
-    locks : PutsUnder v.size is.said.fates p r
+    locks : PutsUnder is.said.fates p r
     locks b lock plain bytes put = elim (what b) [
       | inl none ↦ absurd (none_some (sym none ∙ put))
-      | inr so ↦ subst (IsPutUnder v.size p r b) (lock_put so.0 lock false plain so.1 bytes (sym so.2 ∙ put)) so.3
+      | inr so ↦ subst (IsPutUnder p r b) (lock_put so.0 lock false plain so.1 bytes (sym so.2 ∙ put)) so.3
     ]
 
     none_freed : (b : ℕ) → is_freed is.said.fates b ≡ false
     none_freed b = elim (what b) [ inl none ↦ ap is_gone none | inr so ↦ ap is_gone so.2 ]
 
     -- each block that is put lies in one of the view's groups
-    in_groups : HasDataBlock v p.inode → IsDataOf r.group r.block → (b : ℕ) (lock : LockName) → IsPutUnder v.size p r b lock → LiesInGroup v b
-    in_groups inside data_block b lock (of_group header says same) = header_lies v r.group b shows has header
+    in_groups : HasDataBlock v p.inode → IsDataOf r.group r.block → (b : ℕ) (lock : LockName) → IsPutUnder p r b lock → LiesInGroup v b
+    in_groups inside data_block b lock (of_group header same) = header_lies v r.group b shows has header
     in_groups inside data_block b lock (of_directory here same) = subst (LiesInGroup v) (sym here) (data_lies v p.inode shows inside)
     in_groups inside data_block b lock (of_inode here same) = subst (LiesInGroup v) (sym here) (data_lies v r.block shows (r.group, has, data_block))
 

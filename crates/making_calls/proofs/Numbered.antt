@@ -75,7 +75,6 @@ said_is {V} seen old new g b change shows put two whole finished =
       says = λ at shown. subst (λ (x : V). IsPutIn at (overlaid (seen_with (seen x) new.fates) at) g b 3) t.view (put at shown);
       part = t.part;
       within = t.within;
-      stands = t.stands;
       header = overlaid (seen_in seen new) s.0 g.addr;
       bits = overlaid (seen_in seen new) s.0 (g.addr + t.part);
       header_put = t.header;

@@ -1,5 +1,5 @@
 -- A directory that is touched in a draft, and gets a record then.
-use Rattle.std.proofs.Common.{◌≡◌, ◌≢◌, ◌≤◌, inl, inr, Bool, ℕ, false, List, [], ◌∷◌, length, drop, Some, sym, ap, ◌∙◌, subst, subst₂}
+use Rattle.std.proofs.Common.{◌≡◌, ◌≢◌, inl, inr, Bool, ℕ, false, List, [], ◌∷◌, drop, Some, sym, ap, ◌∙◌, subst, subst₂}
 use Rattle.std.proofs.lemmas.Bool.{cases_eq}
 use Rattle.std.specs.List.{list_any}
 use Rattle.std.specs.Cmp.{nat_cmp_total}
@@ -17,20 +17,19 @@ use Rattle.gfs2_layout.specs.Putting.{has_room, put_slot}
 use Rattle.gfs2_layout.specs.Structures.{dinode_length, dinode_of}
 use Rattle.gfs2_layout.specs.declared.dinode.Dinode.{Dinode}
 use Rattle.glock_names.specs.Steps.{TellsOf}
-use Rattle.glock_names.specs.Views.{Seen, HasBlock, IsView}
+use Rattle.glock_names.specs.Views.{Seen, HasBlock}
 use Rattle.glock_names.specs.declared.steps.CallFault.{CallFault}
 use Rattle.glock_names.specs.declared.steps.Entry.{Entry}
 use Rattle.dinode_tree.specs.Reading.{inode_lock}
 use Rattle.dinode_tree.specs.Shown.{IsShown}
 use Rattle.dinode_tree.proofs.Sound.{some_is_shown}
 use Rattle.linear_dirs.specs.Broken.{IsBroken}
-use Rattle.linear_dirs.specs.Exchanges.{HasExchanged, IsLaidOver, uncounted}
+use Rattle.linear_dirs.specs.Exchanges.{HasExchanged, uncounted}
 use Rattle.linear_dirs.specs.Shown.{IsLinearIn, head_for, holding_over, record_for}
 use Rattle.linear_dirs.proofs.Looked.{bytes_of}
 use Rattle.linear_dirs.proofs.Over.{as_seen}
 use Rattle.linear_dirs.proofs.Rewritten.{over_there}
 use Rattle.new_inodes.specs.Touched.{IsTouched, with_times}
-use Rattle.new_inodes.proofs.Laid.{block_large, laid_touched}
 use Rattle.making_calls.specs.Drafting.{GetsRecord, HasTimes, IsRecordPut}
 use Rattle.making_calls.proofs.Alike.{alike_shown, broken_before, linear_there, touched_alike}
 use Rattle.path_walks.proofs.Faults.{tells_so}
@@ -119,9 +118,8 @@ module _ {V : Type 0} (seen : V → Seen) (old mid : Drafted V) (dir time : ℕ)
       → ((h : Holding) → IsShown (seen_in seen mid) dir h → HasExchanged h (holding_over (seen_in seen last) h) [] (record_for name entry ∷ []))
       → ((h : Holding) → IsShown (seen_in seen mid) dir h → put_slot (head_for name entry) name (slots_of (linear_area h)) ≡ Some (slots_of (linear_area (holding_over (seen_in seen last) h))))
       → ((h : Holding) → IsShown (seen_in seen mid) dir h → uncounted (dinode_in (holding_over (seen_in seen last) h)) ≡ uncounted (dinode_in h))
-      → ((h : Holding) → IsShown (seen_in seen mid) dir h → IsLaidOver (bytes_at h h.own) (bytes_at (holding_over (seen_in seen last) h) h.own)) → IsView (seen_in seen old)
       → (prior : List ℕ) → (seen_in seen old).block_at dir ≡ Some prior → GetsRecord prior after name entry time
-  gets last name after entry then exchanged slots same laid view prior before =
+  gets last name after entry then exchanged slots same prior before =
       let s = some_is_shown (seen_in seen old) dir in
       let h = s.0 in
       let u = seen_in seen last in
@@ -138,17 +136,14 @@ module _ {V : Type 0} (seen : V → Seen) (old mid : Drafted V) (dir time : ℕ)
         slots = ap (λ bytes. put_slot (head_for name entry) name (slots_of (drop dinode_length bytes))) (sym was)
             ∙ ap (λ area. put_slot (head_for name entry) name (slots_of area)) (sym (touched h s.1.0).behind)
             ∙ slots x shown ∙ ap (λ bytes. Some (slots_of (drop dinode_length bytes))) bytes_are;
-        bytes = subst₂ IsLaidOver was bytes_are
-            (laid_touched (seen_in seen mid) h time (bytes_at (holding_over u x) x.own) (touched h s.1.0) (subst (λ bytes. dinode_length ≤ length bytes) (sym was) (block_large (seen_in seen old) view dir prior before)) (laid x shown));
       }
 
   pub recorded : (last : Drafted V) (name after : List ℕ) (entry : Entry) → last ≡ record mid { fates = insert mid.fates dir (Put (inode_lock dir) false after) }
       → ((h : Holding) → IsShown (seen_in seen mid) dir h → HasExchanged h (holding_over (seen_in seen last) h) [] (record_for name entry ∷ []))
       → ((h : Holding) → IsShown (seen_in seen mid) dir h → put_slot (head_for name entry) name (slots_of (linear_area h)) ≡ Some (slots_of (linear_area (holding_over (seen_in seen last) h))))
       → ((h : Holding) → IsShown (seen_in seen mid) dir h → uncounted (dinode_in (holding_over (seen_in seen last) h)) ≡ uncounted (dinode_in h))
-      → ((h : Holding) → IsShown (seen_in seen mid) dir h → IsLaidOver (bytes_at h h.own) (bytes_at (holding_over (seen_in seen last) h) h.own)) → IsView (seen_in seen old)
       → IsRecordPut (seen old.view) old.fates dir time name entry last.fates
-  recorded last name after entry then exchanged slots same laid view = record {
+  recorded last name after entry then exchanged slots same = record {
     between = mid.fates;
     times = bytes;
     times_put = mid_fates;
@@ -158,5 +153,5 @@ module _ {V : Type 0} (seen : V → Seen) (old mid : Drafted V) (dir time : ℕ)
     exchanged = λ h shown. subst (λ w. HasExchanged h (holding_over w h) [] (record_for name entry ∷ [])) (ap (λ x. seen_with (seen x) last.fates) (ap (λ (d : Drafted V). d.view) then ∙ mid_view))
         (exchanged h (subst (λ w. IsShown w dir h) (sym seen_mid) shown));
     still = still_stamped last after then same;
-    gets = gets last name after entry then exchanged slots same laid view;
+    gets = gets last name after entry then exchanged slots same;
   }

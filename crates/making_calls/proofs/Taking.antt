@@ -186,8 +186,8 @@ module _ (v : Seen) (c : Call) (is : IsMaking c) (p : Place) (name : List ℕ) (
             last_one : List Hold
             last_one = hold_for (slice_get (free_for (said im.at) v.groups own.0) 0) Ex
 
-            listed : (b : ℕ) (lock : LockName) → IsPutUnder v.size p r b lock → IsIn (record { lock = lock; state = Ex }) (path_holds im o l c ++ new)
-            listed b lock (of_group header says e) =
+            listed : (b : ℕ) (lock : LockName) → IsPutUnder p r b lock → IsIn (record { lock = lock; state = Ex }) (path_holds im o l c ++ new)
+            listed b lock (of_group header e) =
                 in_right (record { lock = lock; state = Ex }) (path_holds im o l c) new (in_left (record { lock = lock; state = Ex }) groups last_one
                 (subst (λ k. IsIn (record { lock = k; state = Ex }) groups) (sym e) (is_in (hold_of_group r.group) groups room_found.1.1)))
             listed b lock (of_directory at e) =
@@ -274,7 +274,7 @@ module _ (v : Seen) (c : Call) (is : IsMaking c) (p : Place) (name : List ℕ) (
     module _ (r : Room) (room : IsHeldRoom v r) {time : ℕ} (change : Change) (added : IsAddition v (makes_directory c) p name r time change) where
       all_exclusive : (b : ℕ) (lock : LockName) (plain : Bool) (bytes : List ℕ) → get added.fates b ≡ Some (Put lock plain bytes) → v.state_of lock ≡ Ex
       all_exclusive b lock plain bytes put = elim (added.locks b lock plain bytes put) [
-        | of_group header says e ↦ ap v.state_of e ∙ exclusive (v.state_of (group_lock r.group)) room.group_held
+        | of_group header e ↦ ap v.state_of e ∙ exclusive (v.state_of (group_lock r.group)) room.group_held
         | of_directory at e ↦ ap v.state_of e ∙ directory_held v c name p.inode is last leads
         | of_inode at e ↦ ap v.state_of e ∙ exclusive (v.state_of (inode_lock r.block)) room.inode_held
       ]

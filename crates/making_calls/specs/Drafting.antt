@@ -1,5 +1,5 @@
 -- What a draft that makes a name makes: a number is given, the directory gets times and a record, the new inode is put, and its group says so.
-use Rattle.std.specs.Prelude.{ℕ, ◌≡◌, ◌≢◌, ◌+◌, ◌-◌, ◌<◌, Bool, true, false, List, [], ◌∷◌, drop, None, Some}
+use Rattle.std.specs.Prelude.{ℕ, ◌≡◌, ◌≢◌, ◌+◌, ◌<◌, Bool, true, false, List, [], ◌∷◌, drop, None, Some}
 use Rattle.std.specs.Ordering.{nat_cmp}
 use Rattle.std.specs.FinMap.{FinMap, empty, get, insert}
 use Rattle.file_tree.specs.Tree.{Tree, file, dir, none}
@@ -24,13 +24,13 @@ use Rattle.glock_names.specs.declared.views.Group.{Group}
 use Rattle.dinode_tree.specs.Reading.{inode_lock}
 use Rattle.dinode_tree.specs.Shown.{IsShown}
 use Rattle.linear_dirs.specs.Broken as directory
-use Rattle.linear_dirs.specs.Exchanges.{HasExchanged, IsLaidOver, uncounted}
+use Rattle.linear_dirs.specs.Exchanges.{HasExchanged, uncounted}
 use Rattle.linear_dirs.specs.Shown.{head_for, holding_over, record_for}
 use Rattle.new_inodes.specs.New.{IsNewDirectory, IsNewFile}
 use Rattle.new_inodes.specs.Touched.{IsTouched, with_times}
 use Rattle.resource_groups.specs.Numbering.{IsNumberPut, next_number}
-use Rattle.resource_groups.specs.Putting.{IsPutIn, SaysStateOf, overlaid}
-use Rattle.resource_groups.specs.Shown.{HasBitsIn, IsHeaderOf, group_lock, said}
+use Rattle.resource_groups.specs.Putting.{IsPutIn, overlaid}
+use Rattle.resource_groups.specs.Shown.{IsHeaderOf, group_lock, said}
 use Rattle.resource_groups.specs.Shown as group
 use Rattle.image_model.specs.Flat.{Path}
 use Rattle.image_model.specs.Image.{Image}
@@ -90,13 +90,11 @@ pub record SaysInode (at at' : ℕ → List ℕ) (g : Group) (b number : ℕ) : 
   pub said : IsPutIn between at' g b 3
 
 -- The bytes of a linear directory's block after a name came: the dinode says, apart from its counts, what it said, with this time as that of the
--- last change of its content and of its own; its counts follow; the name's record is put into the first one that has room for it; and no other
--- byte changes.
+-- last change of its content and of its own; its counts follow; and the name's record is put into the first one that has room for it.
 pub record GetsRecord (old new : List ℕ) (name : List ℕ) (entry : Entry) (time : ℕ) : Type 0 where
   pub dinode : uncounted (dinode_of new) ≡ uncounted (with_times (dinode_of old) time)
   pub counted : IsCounted (dinode_of old) (dinode_of new) [] (record_for name entry ∷ [])
   pub slots : put_slot (head_for name entry) name (slots_of (drop dinode_length old)) ≡ Some (slots_of (drop dinode_length new))
-  pub bytes : IsLaidOver old new
 
 -- ---- the steps, over a view
 
@@ -126,7 +124,6 @@ pub record IsSaidAndDone (v : Seen) (before : FinMap nat_cmp Fate) (g : Group) (
   pub says : (at : ℕ → List ℕ) → group.IsShown (seen_with v before) g at → IsPutIn at (overlaid (seen_with v fates) at) g b 3
   pub part : ℕ
   pub within : part < g.length
-  pub stands : HasBitsIn v.size (b - g.first) part
   pub header : List ℕ
   pub bits : List ℕ
   pub header_put : get fates g.addr ≡ Some (Put (group_lock g) false header)
@@ -145,15 +142,15 @@ pub record IsPlaceFor (im : Image) (o : Owners) (l : Layout) (path : Path) (name
   pub absent : child_named (records_at im o p.inode) name ≡ None
   pub free : said im.at r.group r.block ≡ 0
 
--- a block that is put is the group's header or the one with the new block's bits, under the group's lock, or the directory's dinode or the new
--- inode's, each under its own
-pub data IsPutUnder (size : ℕ) (p : Place) (r : Room) (b : ℕ) (lock : LockName) : Type 0 where
-  of_group : IsHeaderOf r.group b → SaysStateOf size r.group r.block b → lock ≡ group_lock r.group → IsPutUnder size p r b lock
-  of_directory : b ≡ p.inode → lock ≡ inode_lock p.inode → IsPutUnder size p r b lock
-  of_inode : b ≡ r.block → lock ≡ inode_lock r.block → IsPutUnder size p r b lock
+-- a block that is put is of the group's header and bitmap, under the group's lock, or the directory's dinode or the new inode's, each under
+-- its own
+pub data IsPutUnder (p : Place) (r : Room) (b : ℕ) (lock : LockName) : Type 0 where
+  of_group : IsHeaderOf r.group b → lock ≡ group_lock r.group → IsPutUnder p r b lock
+  of_directory : b ≡ p.inode → lock ≡ inode_lock p.inode → IsPutUnder p r b lock
+  of_inode : b ≡ r.block → lock ≡ inode_lock r.block → IsPutUnder p r b lock
 
-abbrev pub PutsUnder : ℕ → FinMap nat_cmp Fate → Place → Room → Type 0
-PutsUnder size fates p r = (b : ℕ) (lock : LockName) (plain : Bool) (bytes : List ℕ) → get fates b ≡ Some (Put lock plain bytes) → IsPutUnder size p r b lock
+abbrev pub PutsUnder : FinMap nat_cmp Fate → Place → Room → Type 0
+PutsUnder fates p r = (b : ℕ) (lock : LockName) (plain : Bool) (bytes : List ℕ) → get fates b ≡ Some (Put lock plain bytes) → IsPutUnder p r b lock
 
 -- The change is that of a draft that puts all under these locks and inside the view's groups, frees nothing, and adds the name in each image that
 -- the view may be of. The group's header is put, and counts its next number; its bits say that the new inode's block is a dinode; the new inode is
@@ -161,7 +158,7 @@ PutsUnder size fates p r = (b : ℕ) (lock : LockName) (plain : Bool) (bytes : L
 pub record IsAddition (v : Seen) (is_directory : Bool) (p : Place) (name : List ℕ) (r : Room) (time : ℕ) (change : Change) : Type 0 where
   pub fates : FinMap nat_cmp Fate
   pub finished : IsFinished fates change
-  pub locks : PutsUnder v.size fates p r
+  pub locks : PutsUnder fates p r
   pub some : is_put fates r.group.addr ≡ true
   pub none_freed : (b : ℕ) → is_freed fates b ≡ false
   pub inside : AreInside v change

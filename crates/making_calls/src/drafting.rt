@@ -116,7 +116,6 @@ fn put_record<V: View>(
     ensures damaged { (h : Holding) → IsShown (seen_in V.seen draft.old) dir h → IfDamaged result (IsBroken h) }
     ensures kept { IfDamaged result (IsOfView (seen_in V.seen draft.old)) }
 {
-    is_a_view(&*draft);
     let Step::Is(()) = touch(draft, dir, time)? else {
         unreachable!()
     };

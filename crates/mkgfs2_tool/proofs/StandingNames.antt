@@ -51,7 +51,8 @@ is_journal_name j low = record {
       ),
     ),
   );
-  not_dots = refl;
+  not_dot = λ e. absurd (omega (arith, ap length e));
+  not_dots = λ e. absurd (omega (arith, ap length e));
 }
   where
     byte : (b : ℕ) → 1 ≤ b → 48 ≤ b → IsNameByte b
@@ -62,7 +63,8 @@ is_jindex_name = record {
   some = omega arith;
   short = omega arith;
   plain = (byte 106 (omega arith), (byte 105 (omega arith), (byte 110 (omega arith), (byte 100 (omega arith), (byte 101 (omega arith), (byte 120 (omega arith), tt))))));
-  not_dots = refl;
+  not_dot = λ e. absurd (omega (arith, ap length e));
+  not_dots = λ e. absurd (omega (arith, ap length e));
 }
   where
     byte : (b : ℕ) → 48 ≤ b → IsNameByte b
@@ -73,7 +75,8 @@ is_rindex_name = record {
   some = omega arith;
   short = omega arith;
   plain = (byte 114 (omega arith), (byte 105 (omega arith), (byte 110 (omega arith), (byte 100 (omega arith), (byte 101 (omega arith), (byte 120 (omega arith), tt))))));
-  not_dots = refl;
+  not_dot = λ e. absurd (omega (arith, ap length e));
+  not_dots = λ e. absurd (omega (arith, ap length e));
 }
   where
     byte : (b : ℕ) → 48 ≤ b → IsNameByte b

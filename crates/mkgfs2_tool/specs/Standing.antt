@@ -1,12 +1,10 @@
 -- A new image stands for the empty directory, and what a mount finds in it.
-use Rattle.std.specs.Prelude.{ℕ, ◌≡◌, ◌^◌, ◌<◌, false, length, map, Some}
+use Rattle.std.specs.Prelude.{ℕ, ◌≡◌, ◌^◌, ◌<◌, length, map, Some}
 use Rattle.std.specs.List.{range_with_len}
 use Rattle.file_tree.specs.Tree.{dir, none}
 use Rattle.image_model.specs.Claims.{every}
 use Rattle.image_model.specs.Image.{Image}
-use Rattle.gfs2_layout.specs.Inode.{is_hashed_in}
 use Rattle.gfs2_layout.specs.Journal.{ring_of, head_in}
-use Rattle.image_model.specs.Owners.{holding}
 use Rattle.image_model.specs.Profile.{IsInProfile}
 use Rattle.image_model.specs.Stands.{Layout, IsJournalAt, Stands}
 use Rattle.mkgfs2_tool.specs.Groups.{data_address}
@@ -41,13 +39,11 @@ new_layout p = record {
 abbrev pub HasCleanHeads : Image → Layout → Type 0
 HasCleanHeads im l = (j d : ℕ) → IsJournalAt l j d → head_in (ring_of (every im d)) ≡ Some (clean_header j)
 
--- the image stands for the empty directory, is found as it was laid, has clean journals in a linear directory, and is one of
--- those that are mounted
+-- the image stands for the empty directory, is found as it was laid, has clean journals, and is one of those that are mounted
 pub record StandsEmpty (p : Plan) (im : Image) : Type 0 where
   pub stands : Stands im (dir none)
   pub found : stands.layout ≡ new_layout p
   pub heads : HasCleanHeads im (new_layout p)
-  pub linear : is_hashed_in (holding im stands.owners (new_layout p).jindex) ≡ false
   pub profile : IsInProfile im (new_layout p)
 
 -- every image that is made of a fitting plan stands for the empty directory

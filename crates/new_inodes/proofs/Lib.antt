@@ -3,4 +3,3 @@ mod Made
 mod Retimed
 mod Rehashed
 mod Touches
-pub mod Laid

@@ -1,5 +1,5 @@
 -- A new inode: an empty file, or a directory with `.` and `..` alone.
-use Rattle.std.specs.Prelude.{ℕ, ◌≡◌, ◌-◌, ◌<◌, true, false, List, [], ◌∷◌, length, take, replicate, codes}
+use Rattle.std.specs.Prelude.{ℕ, ◌≡◌, ◌-◌, ◌<◌, true, false, List, [], ◌∷◌, length, take, replicate, codes, Some}
 use Rattle.std.specs.FinMap.{insert}
 use Rattle.drafts.specs.Fates.{Drafted}
 use Rattle.drafts.specs.declared.fate.Fate.TheVariants.{Put}

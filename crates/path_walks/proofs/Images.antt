@@ -25,6 +25,7 @@ use Rattle.image_changes.specs.Does.{IsOf, is_content_of}
 use Rattle.image_changes.specs.Instances.{IsAt}
 use Rattle.image_changes.proofs.Drafting.{own_locks}
 use Rattle.image_changes.proofs.Laid.{child_rows, follow_dinode}
+use Rattle.image_changes.proofs.Nodes.{plain_name}
 
 own_part : (a : ℕ) (o : Owner) → is_dinode o ≡ true → part_in a a o ≡ Some Itself
 own_part a Super e = cc
@@ -120,7 +121,7 @@ module _ (v : Seen) (im : Image) (o : Owners) (l : Layout) (t : Tree) (of : IsOf
       → (flat_of im o a).child name ≡ child_named (records_of (holding im o a)) name
   child_is_there path a name at is_name dir =
       ap (λ (n : Node). n.child name) (cond-true _ (node_of (holding im o a)) no_node (is_inode path a at))
-      ∙ cond-true _ _ None dir ∙ cond-false _ None _ is_name.not_dots
+      ∙ cond-true _ _ None dir ∙ cond-false _ None _ (plain_name name is_name)
 
   pub no_child_of_file : (path : Path) (a : ℕ) (name : List ℕ) → IsAt im o l path a → is_directory_in (holding im o a) ≡ false → (flat_of im o a).child name ≡ None
   no_child_of_file path a name at file =

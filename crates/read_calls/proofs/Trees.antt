@@ -9,13 +9,13 @@ use Rattle.file_tree.specs.declared.reply.Kind.TheVariants.{File, Dir}
 use Rattle.file_tree.specs.declared.reply.Reply.{Reply}
 use Rattle.file_tree.specs.declared.reply.Reply.TheVariants as reply
 use Rattle.gfs2_layout.specs.Holding.{Holding}
-use Rattle.gfs2_layout.specs.Inode.{dinode_in, is_directory_in, content_of, records_of}
+use Rattle.gfs2_layout.specs.Inode.{IsInode, dinode_in, is_directory_in, content_of, records_of}
+use Rattle.gfs2_layout.specs.Device.{IsBlockSize}
 use Rattle.gfs2_layout.specs.Records.{names_of}
 use Rattle.glock_names.specs.Views.{Seen}
 use Rattle.call_locks.specs.Wants.{wanted}
 use Rattle.call_locks.specs.WantLaws.{path_of}
-use Rattle.dinode_tree.specs.Reading.{AreWholeBefore, IsInRange}
-use Rattle.dinode_tree.proofs.Sound.{sound_is_whole}
+use Rattle.dinode_tree.specs.Reading.{IsInRange}
 use Rattle.image_model.specs.Flat.{Path, AFile, ADir, Thing, thing_in}
 use Rattle.image_model.specs.Image.{Image}
 use Rattle.image_model.specs.Owners.{Owners, holding}
@@ -74,16 +74,13 @@ module _ (v : Seen) (im : Image) (o : Owners) (l : Layout) (t : Tree) (of : IsOf
   file_size : length (content_of (holding im o a)) ≡ (dinode_in (holding im o a)).size
   file_size = length_content im o (size_large im.size of.stands.laid.image.block_size) a (is_inode v im o l t of path a at) (is_sound v im o l t of path a at)
 
-  whole_before : (from : ℕ) → AreWholeBefore (holding im o a) from
-  whole_before from = sound_is_whole (holding im o a) from of.stands.laid.image.block_size (is_sound v im o l t of path a at)
-
   listed : is_directory_in (holding im o a) ≡ true → ListsNames im o t path a
   listed is = directories_list im o l t path a of.stands at is
 
   range_found : (list : List Hold) → EndsWith list a → AreHeld v list → (from count : ℕ) (r : Read) → IsRangeOf v (holding im o a) from count r
       → IsFoundBy v im o l (read_reply (walk t path) from count) list r
   range_found list ends held from count (read.Reply reply.IsDir) is = (ap (λ w. read_reply w from count) (listed is).walks, held)
-  range_found list ends held from count (read.Reply (reply.Bytes bytes)) is = (ap (λ w. read_reply w from count) (file_there is.0) ∙ ap reply.Bytes (sym (is.2 (whole_before from))), held)
+  range_found list ends held from count (read.Reply (reply.Bytes bytes)) is = (ap (λ w. read_reply w from count) (file_there is.0) ∙ ap reply.Bytes (sym is.1), held)
   range_found list ends held from count (read.NeedBlock m) is = asked v im o l t of path a at list ends held (IsInRange (holding im o a) from count) 0 m is.1
   range_found list ends held from count (read.Hashed b) is = absurd is
   range_found list ends held from count (read.NeedLock lock state) is = absurd is
@@ -172,7 +169,7 @@ wrong_damage v wants path a (by_name front above b' name leads is_name named ins
 
 -- what the inode at the path's end answers is told of the view
 pub told_at : (v : Seen) (c : Call) (a : ℕ) → LeadsTo v (wanted c) (path_of c false) a → (r : Read) → IsAsked v a c r
-    → ((h : Holding) → IsShown v a h → IsAnswerOf v h c r) → IsToldOf v c r
+    → ((h : Holding) → IsShown v a h → IsBlockSize h.size → IsInode h → IsAnswerOf v h c r) → IsToldOf v c r
 told_at v c a leads (read.Reply r) asked answers = IsAnswered.at_end a r leads answers
 told_at v c a leads (read.NeedBlock m) asked answers = IsNeededFor.at_end a leads asked
 told_at v c a leads (read.Hashed b) asked answers = IsHashedFor.at_end a leads asked
@@ -190,6 +187,6 @@ told_at v (call.Rename p q) a leads (read.NeedLock lock state) asked answers = a
 told_at v call.Sync a leads (read.NeedLock lock state) asked answers = absurd asked
 
 pub all_told : (v : Seen) (c : Call) (a : ℕ) {E : Type 0} (r : Result Read E) → LeadsTo v (wanted c) (path_of c false) a → IfOk r (IsAsked v a c)
-    → ((h : Holding) → IsShown v a h → IfOk r (IsAnswerOf v h c)) → IfOk r (IsToldOf v c)
+    → ((h : Holding) → IsShown v a h → IsBlockSize h.size → IsInode h → IfOk r (IsAnswerOf v h c)) → IfOk r (IsToldOf v c)
 all_told v c a (Ok x) leads asked answers = told_at v c a leads x asked answers
 all_told v c a (Err f) leads asked answers = tt

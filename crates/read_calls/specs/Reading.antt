@@ -1,12 +1,12 @@
 -- The calls that read.
-use Rattle.std.specs.Prelude.{ℕ, ◌≡◌, ◌-◌, min, ⊤, true, false, List, [], length}
+use Rattle.std.specs.Prelude.{ℕ, ◌≡◌, ◌-◌, ⊤, true, false, List, []}
 use Rattle.file_tree.specs.declared.call.Call.{Call}
 use Rattle.file_tree.specs.declared.call.Call.TheVariants.{Read, Dread, Stat, List as ListNames}
 use Rattle.file_tree.specs.declared.reply.Kind.TheVariants.{File, Dir}
 use Rattle.file_tree.specs.declared.reply.Reply.{Reply}
 use Rattle.file_tree.specs.declared.reply.Reply.TheVariants as reply
 use Rattle.gfs2_layout.specs.Holding.{Holding}
-use Rattle.gfs2_layout.specs.Inode.{dinode_in, is_directory_in, is_hashed_in, records_of}
+use Rattle.gfs2_layout.specs.Inode.{IsInode, dinode_in, is_directory_in, is_hashed_in, records_of}
 use Rattle.gfs2_layout.specs.Records.{names_of}
 use Rattle.glock_names.specs.Views.{Seen}
 use Rattle.file_tree.specs.Tree.{Tree, all_put}
@@ -20,8 +20,9 @@ use Rattle.path_walks.specs.Answers.{HasSpace}
 use Rattle.path_walks.specs.Holds.{Hold, AreHeld, IsAskedFor, IsFirstLack, holds_in}
 use Rattle.path_walks.specs.Walks.{LeadsTo, IsLacked, IsUnread, IsAbsent, IsOnTheWay}
 use Rattle.dinode_tree.specs.Shown.{IsShown}
+use Rattle.gfs2_layout.specs.Device.{IsBlockSize}
 use Rattle.glock_names.specs.declared.steps.Missing.{Missing}
-use Rattle.dinode_tree.specs.Reading.{AreWholeBefore, content_range, IsInRange, IsNeeded}
+use Rattle.dinode_tree.specs.Reading.{content_range, IsInRange, IsNeeded}
 use Rattle.read_calls.specs.declared.answers.Read.{Read as Found}
 use Rattle.read_calls.specs.declared.answers.Read.TheVariants as found
 
@@ -35,11 +36,10 @@ IsReading _ = ⊥
 
 -- ---- what is answered of an inode
 
--- A range of a file, or a block without which it can't be read. How many bytes it has, none past the end, the file's size tells. Which they are
--- is told where the blocks of content before them are whole: of blocks that the view hasn't an inode that isn't sound may have less.
+-- a range of a file, or a block without which it can't be read
 abbrev pub IsRangeOf : Seen → Holding → ℕ → ℕ → Found → Type 0
 IsRangeOf v h at count (found.Reply reply.IsDir) = is_directory_in h ≡ true
-IsRangeOf v h at count (found.Reply (reply.Bytes bytes)) = (is_directory_in h ≡ false) × (length bytes ≡ min count ((dinode_in h).size - at)) × (AreWholeBefore h at → bytes ≡ content_range h at count)
+IsRangeOf v h at count (found.Reply (reply.Bytes bytes)) = (is_directory_in h ≡ false) × (bytes ≡ content_range h at count)
 IsRangeOf v h at count (found.NeedBlock m) = (is_directory_in h ≡ false) × IsNeeded v h (IsInRange h at count) 0 m
 IsRangeOf v h at count _ = ⊥
 
@@ -96,7 +96,7 @@ pub data IsAnswered (v : Seen) (call : Call) : Reply → Type 0 where
   not_found : IsAbsent v (wanted call) (path_of call false) → IsAnswered v call reply.NotFound
   not_dir : (a : ℕ) → IsOnTheWay v (wanted call) (path_of call false) a (λ h. is_directory_in h ≡ false) → IsAnswered v call reply.NotDir
   at_end : (a : ℕ) (r : Reply) → LeadsTo v (wanted call) (path_of call false) a
-      → ((h : Holding) → IsShown v a h → IsAnswerOf v h call (found.Reply r)) → IsAnswered v call r
+      → ((h : Holding) → IsShown v a h → IsBlockSize h.size → IsInode h → IsAnswerOf v h call (found.Reply r)) → IsAnswered v call r
 
 -- a block without which the call can't be answered: the dinode of the next inode on its path, or one of the range that it reads
 pub data IsNeededFor (v : Seen) (call : Call) (m : Missing) : Type 0 where

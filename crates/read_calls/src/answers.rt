@@ -1,8 +1,9 @@
 // What a call that reads answers of the inode at its path's end.
 ghost use Rattle.std.specs.Prelude.{ℕ, ◌≡◌, [], List, IfOk, OnOk};
 ghost use Rattle.file_tree.specs.Tree.{all_put};
+ghost use Rattle.gfs2_layout.specs.Device.{IsBlockSize};
 ghost use Rattle.gfs2_layout.specs.Holding.{Holding};
-ghost use Rattle.gfs2_layout.specs.Inode.{dinode_in};
+ghost use Rattle.gfs2_layout.specs.Inode.{IsInode, dinode_in};
 ghost use Rattle.glock_names.specs.Steps.{IfDamaged};
 ghost use Rattle.glock_names.specs.Views.{HasBlock, IsOfView};
 ghost use Rattle.dinode_tree.specs.Shown.{IsShown};
@@ -52,7 +53,7 @@ fn read_file<V: View>(
 ) -> Result<Read, CallFault>
     requires there { HasBlock (V.seen view.now) place.now.inode }
     requires dinode { (h : Holding) → IsShown (V.seen view.now) place.now.inode h → place.now.dinode ≡ dinode_in h }
-    ensures read { (h : Holding) → IsShown (V.seen view.now) place.now.inode h → IfOk result (IsRangeOf (V.seen view.now) h at count) }
+    ensures read { (h : Holding) → IsShown (V.seen view.now) place.now.inode h → IsBlockSize h.size → IsInode h → IfOk result (IsRangeOf (V.seen view.now) h at count) }
     ensures asked { IfOk result (IsAskedRange (V.seen view.now) place.now.inode at count) }
     ensures spaceless { IfOk result IsSpaceless }
     ensures damaged { (h : Holding) → IsShown (V.seen view.now) place.now.inode h → IfDamaged result (IsWrong h) }
@@ -111,7 +112,7 @@ pub(crate) fn answer_at<V: View>(
     requires reading { IsReading call.now }
     requires there { HasBlock (V.seen view.now) place.now.inode }
     requires dinode { (h : Holding) → IsShown (V.seen view.now) place.now.inode h → place.now.dinode ≡ dinode_in h }
-    ensures read { (h : Holding) → IsShown (V.seen view.now) place.now.inode h → IfOk result (IsAnswerOf (V.seen view.now) h call.now) }
+    ensures read { (h : Holding) → IsShown (V.seen view.now) place.now.inode h → IsBlockSize h.size → IsInode h → IfOk result (IsAnswerOf (V.seen view.now) h call.now) }
     ensures asked { IfOk result (IsAsked (V.seen view.now) place.now.inode call.now) }
     ensures spaceless { IfOk result IsSpaceless }
     ensures damaged { (h : Holding) → IsShown (V.seen view.now) place.now.inode h → IfDamaged result (IsWrong h) }

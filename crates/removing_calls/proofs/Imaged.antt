@@ -29,9 +29,7 @@ use Rattle.linear_dirs.proofs.Over.{parts_stay, over_over, as_seen}
 use Rattle.new_inodes.specs.Touched.{IsTouched}
 use Rattle.resource_groups.specs.Freeing.{HasSome}
 use Rattle.resource_groups.specs.Shown as group
-use Rattle.resource_groups.specs.Putting.{overlaid}
 use Rattle.resource_groups.proofs.Freed.{long_bitmap}
-use Rattle.resource_groups.proofs.PutIn.{puts_say}
 use Rattle.image_model.specs.Flat.{Path}
 use Rattle.image_model.specs.Groups.{IsListed, IsHeaderOf, IsGroup, group_blocks, states_of, state_of}
 use Rattle.image_model.specs.Image.{Image}
@@ -229,7 +227,7 @@ module _ {V : Type 0} (seen : V → Seen) (view : V) (im : Image) (o : Owners) (
 
   says : (g : Rindex) → IsListed l.groups g → IsGroup g (group_blocks (with_draft im fates).at g) (states_without o blocks g)
   says g listed =
-      let puts = puts_say im.at (overlaid (seen_with v fates) im.at) (group_of_entry g) blocks 0 (is.freed.frees.puts (group_of_entry g) im.at (has_group g listed) (group_shown g listed)) in
+      let puts = is.freed.frees.states (group_of_entry g) im.at (has_group g listed) (group_shown g listed) in
       let put = subst (λ at'. AreStatesPut (group_blocks im.at g) (group_blocks at' g) (places_in g.data0 g.data_blocks blocks) 0)
       (shows_blocks v fates im of.agrees) puts in
       subst (IsGroup g (group_blocks (with_draft im fates).at g)) (sym same_states)

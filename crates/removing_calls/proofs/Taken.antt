@@ -1,18 +1,15 @@
 -- A directory that is touched in a new draft, and of which a name is taken then.
-use Rattle.std.proofs.Common.{◌≡◌, ◌≢◌, ◌≤◌, ℕ, false, List, [], ◌∷◌, length, take, drop, None, Some, sym, ap, ◌∙◌, subst, subst₂}
+use Rattle.std.proofs.Common.{◌≡◌, ◌≢◌, ℕ, false, List, [], ◌∷◌, drop, None, Some, sym, ap, ◌∙◌, subst}
 use Rattle.std.proofs.lemmas.Bool.{and_right}
-use Rattle.std.specs.Prelude.{IsSome, ◌&&◌}
+use Rattle.std.specs.Prelude.{IsSome}
 use Rattle.std.specs.FinMap.{FinMap, get, empty, insert, get-empty}
 use Rattle.std.specs.Ordering.{nat_cmp}
 use Rattle.drafts.specs.Fates.{AreWhole, Drafted, block_with, seen_in, seen_with}
 use Rattle.drafts.specs.declared.change.Change.{Change}
 use Rattle.drafts.specs.declared.fate.Fate.{Fate}
 use Rattle.drafts.specs.declared.fate.Fate.TheVariants.{Put}
-use Rattle.gfs2_layout.specs.Area.{IsRecordAt, first_named, slots_of}
-use Rattle.gfs2_layout.specs.Cutting.{slot_from, slots_without}
-use Rattle.gfs2_layout.specs.Exchanges.{IsCounted}
 use Rattle.gfs2_layout.specs.Holding.{Holding, bytes_at}
-use Rattle.gfs2_layout.specs.Inode.{dinode_in, has_hash_flag, height_in, is_hashed_in, linear_area, records_of}
+use Rattle.gfs2_layout.specs.Inode.{dinode_in, has_hash_flag, height_in, records_of}
 use Rattle.gfs2_layout.specs.Records.{Record, record_named, records_in}
 use Rattle.gfs2_layout.specs.Structures.{dinode_length, dinode_of, is_directory}
 use Rattle.gfs2_layout.specs.declared.dinode.Dinode.{Dinode}
@@ -24,18 +21,17 @@ use Rattle.dinode_tree.specs.Reading.{inode_lock}
 use Rattle.dinode_tree.specs.Shown.{IsShown}
 use Rattle.dinode_tree.proofs.Sound.{some_is_shown}
 use Rattle.linear_dirs.specs.Broken.{IsBroken}
-use Rattle.linear_dirs.specs.Exchanges.{HasExchanged, IsCutFrom, IsLaidOver, uncounted}
+use Rattle.linear_dirs.specs.Exchanges.{HasExchanged, IsCutFrom, uncounted}
 use Rattle.linear_dirs.specs.Shown.{IsLinearIn, HasNameIn, holding_over}
 use Rattle.linear_dirs.proofs.Looked.{bytes_of, dinode_there}
 use Rattle.linear_dirs.proofs.Over.{as_seen}
 use Rattle.linear_dirs.proofs.Rewritten.{over_there}
 use Rattle.new_inodes.specs.Touched.{IsTouched, with_times}
-use Rattle.new_inodes.proofs.Laid.{block_large, laid_touched}
 use Rattle.resource_groups.specs.Freeing.{AreFreed, KeepsRest, IsNeededFor, BreaksSome}
 use Rattle.resource_groups.specs.Putting.{HasDataBlock}
 use Rattle.image_changes.specs.Drafted.{IsFinished}
 use Rattle.path_walks.specs.Walks.{IsLinearDirectory}
-use Rattle.removing_calls.specs.Drafting.{HasTimes, LosesRecord, TouchesAlone, IsNameTaken, IsFreedAndDone, IsRemoval}
+use Rattle.removing_calls.specs.Drafting.{HasTimes, TouchesAlone, IsNameTaken, IsFreedAndDone, IsRemoval}
 use Rattle.removing_calls.proofs.Drafted.{taken_alone, needed_before, seen_before, breaks_before}
 use Rattle.removing_calls.proofs.Lists.{put_apart, put_at}
 use Rattle.removing_calls.proofs.Touching.{touched_shown, broken_before}
@@ -56,10 +52,6 @@ linear_there v dir there linear h shown =
 dinode_by : (h : Holding) (bytes : List ℕ) → bytes_at h h.own ≡ bytes → dinode_in h ≡ dinode_of bytes
 unfolding dinode_in
 dinode_by h bytes e = ap dinode_of e
-
-records_by : (h : Holding) (area : List ℕ) → is_hashed_in h ≡ false → linear_area h ≡ area → records_of h ≡ records_in area
-unfolding records_of
-records_by h area linear is = rw linear (ap records_in is)
 
 -- a dinode that is counted anew keeps its times
 times_kept : (d d' last : Dinode) (time : ℕ) → d' ≡ with_times d time → uncounted last ≡ uncounted d' → HasTimes last time
@@ -120,92 +112,30 @@ module _ {V : Type 0} (seen : V → Seen) (old : Drafted V) (new : old.fates ≡
           tells_so (IsBroken (holding_over w h)) (IsBroken h) (broken_before v w dir h time shown stuffed is sizes (some_there h shown) (touched_in h shown)) f
           (tells (holding_over w h) (touched_shown v w dir h time shown stuffed is sizes (some_there h shown) (touched_in h shown)))
 
-      -- of the touched directory with the last bytes
-      module _ (there : HasBlock (seen old.view) dir) (linear : IsLinearIn (seen old.view) dir) (stuffed : (h : Holding) → IsShown (seen old.view) dir h → height_in h ≡ 0) (last : Drafted V) (after : List ℕ)
-          (put_last : (seen_in seen last).block_at dir ≡ Some after) where
-        abbrev v : Seen
-        v = seen old.view
-
-        abbrev w : Seen
-        w = seen_in seen mid
-
-        abbrev u : Seen
-        u = seen_in seen last
-
-        abbrev first : Holding
-        first = (some_is_shown v dir).0
-
-        first_shown : IsShown v dir first
-        first_shown = (some_is_shown v dir).1.0
-
-        abbrev then : Holding
-        then = holding_over w first
-
-        then_shown : IsShown w dir then
-        then_shown = touched_shown v w dir first time first_shown (stuffed first first_shown) (linear_there v dir there linear first first_shown) (ap (λ x. (seen x).size) (sym mid_view)) (some_there first first_shown) (touched_in first first_shown)
-
-        bytes_are : bytes_at (holding_over u then) then.own ≡ after
-        bytes_are = as_seen u then then.own after (over_there (u.block_at then.own) (then.cell then.own) ∙ then_shown.dinode) (ap u.block_at then_shown.own ∙ put_last)
-
-        -- it has the time, also where records were counted anew
-        has_times : ((h : Holding) → IsShown w dir h → uncounted (dinode_in (holding_over u h)) ≡ uncounted (dinode_in h)) → HasTimes (dinode_of after) time
-        has_times same =
-            subst (λ d. HasTimes d time) (dinode_by (holding_over u then) after bytes_are)
-            (times_kept (dinode_in first) (dinode_in then) (dinode_in (holding_over u then)) time (touched_in first first_shown).dinode (same then then_shown))
-
-        hashed_not : is_hashed_in then ≡ false
-        hashed_not = ap (λ (d : Dinode). is_directory d && has_hash_flag d) (touched_in first first_shown).dinode ∙ (linear_there v dir there linear first first_shown).linear
-
-        -- and its block's bytes are those without the record
-        loses_record : IsView v → (name : List ℕ) → HasNameIn v dir name
-            → ((h : Holding) (r : Record) → IsShown w dir h → record_named (records_of h) name ≡ Some r → HasExchanged h (holding_over u h) (r ∷ []) [])
-            → ((h : Holding) → IsShown w dir h → uncounted (dinode_in (holding_over u h)) ≡ uncounted (dinode_in h))
-            → ((h : Holding) → IsShown w dir h → IsCutFrom h (holding_over u h) name)
-            → ((h : Holding) → IsShown w dir h → IsLaidOver (bytes_at h h.own) (bytes_at (holding_over u h) h.own))
-            → (prior : List ℕ) → v.block_at dir ≡ Some prior → LosesRecord prior after name time
-        loses_record view name named removed same cut laid prior before = record {
-          dinode = ap uncounted (sym dinode_now) ∙ same then then_shown ∙ ap uncounted dinode_was;
-          record_is = (named prior before).0;
-          named = (named prior before).1;
-          counted = record { entries = counted.entries; links = counted.links };
-          place = k.place;
-          at = subst (λ a. IsRecordAt a k.place) area_was k.at;
-          none_before = subst (λ a. first_named name (slots_of (take k.place a)) ≡ None) area_was k.none_before;
-          first = subst (λ a. first_named name (slots_of a) ≡ Some (slot_from k.place a)) area_was k.first;
-          slots = ap (λ bytes. slots_of (drop dinode_length bytes)) (sym bytes_are) ∙ k.slots ∙ ap (slots_without k.place) area_was;
-          bytes = subst₂ IsLaidOver was bytes_are
-              (laid_touched w first time (bytes_at (holding_over u then) then.own) (touched_in first first_shown) (subst (λ bytes. dinode_length ≤ length bytes) (sym was) (block_large v view dir prior before)) (laid then then_shown));
-        }
-          where
-            was : bytes_at first first.own ≡ prior
-            was = bytes_of v first dir prior first_shown before
-
-            area_was : linear_area then ≡ drop dinode_length prior
-            area_was = (touched_in first first_shown).behind ∙ ap (drop dinode_length) was
-
-            dinode_was : dinode_in then ≡ with_times (dinode_of prior) time
-            dinode_was = (touched_in first first_shown).dinode ∙ ap (λ d. with_times d time) (dinode_by first prior was)
-
-            dinode_now : dinode_in (holding_over u then) ≡ dinode_of after
-            dinode_now = dinode_by (holding_over u then) after bytes_are
-
-            counted : IsCounted (with_times (dinode_of prior) time) (dinode_of after) ((named prior before).0 ∷ []) []
-            counted = subst₂ (λ d d'. IsCounted d d' ((named prior before).0 ∷ []) []) dinode_was dinode_now
-                (removed then (named prior before).0 then_shown (ap (λ rs. record_named rs name) (records_by then (drop dinode_length prior) hashed_not area_was) ∙ (named prior before).1)).counted
-
-            k : IsCutFrom then (holding_over u then) name
-            k = cut then then_shown
+      -- it has the time, also where records were counted anew then
+      has_times : HasBlock (seen old.view) dir → IsLinearIn (seen old.view) dir → ((h : Holding) → IsShown (seen old.view) dir h → height_in h ≡ 0) → (last : Drafted V) (after : List ℕ)
+          → (seen_in seen last).block_at dir ≡ Some after → ((h : Holding) → IsShown (seen_in seen mid) dir h → uncounted (dinode_in (holding_over (seen_in seen last) h)) ≡ uncounted (dinode_in h))
+          → HasTimes (dinode_of after) time
+      has_times there linear stuffed last after put_last same =
+          let v = seen old.view in
+          let w = seen_in seen mid in
+          let u = seen_in seen last in
+          let s = some_is_shown v dir in
+          let h = holding_over w s.0 in
+          let is = linear_there v dir there linear s.0 s.1.0 in
+          let sizes : v.size ≡ w.size = ap (λ x. (seen x).size) (sym mid_view) in
+          let shown : IsShown w dir h = touched_shown v w dir s.0 time s.1.0 (stuffed s.0 s.1.0) is sizes (some_there s.0 s.1.0) (touched_in s.0 s.1.0) in
+          let bytes_are : bytes_at (holding_over u h) h.own ≡ after = as_seen u h h.own after (over_there (u.block_at h.own) (h.cell h.own) ∙ shown.dinode) (ap u.block_at shown.own ∙ put_last) in
+          subst (λ d. HasTimes d time) (dinode_by (holding_over u h) after bytes_are)
+          (times_kept (dinode_in s.0) (dinode_in h) (dinode_in (holding_over u h)) time (touched_in s.0 s.1.0).dinode (same h shown))
 
       pub name_taken : HasBlock (seen old.view) dir → IsLinearIn (seen old.view) dir → ((h : Holding) → IsShown (seen old.view) dir h → height_in h ≡ 0) → (last : Drafted V) (name after : List ℕ) → last ≡ record mid { fates = insert mid.fates dir (Put (inode_lock dir) false after) }
           → ((h : Holding) (r : Record) → IsShown (seen_in seen mid) dir h → record_named (records_of h) name ≡ Some r → HasExchanged h (holding_over (seen_in seen last) h) (r ∷ []) [])
           → ((h : Holding) → IsShown (seen_in seen mid) dir h → uncounted (dinode_in (holding_over (seen_in seen last) h)) ≡ uncounted (dinode_in h))
           → ((h : Holding) → IsShown (seen_in seen mid) dir h → IsCutFrom h (holding_over (seen_in seen last) h) name)
-          → ((h : Holding) → IsShown (seen_in seen mid) dir h → IsLaidOver (bytes_at h h.own) (bytes_at (holding_over (seen_in seen last) h) h.own)) → IsView (seen old.view) → HasNameIn (seen old.view) dir name
           → IsNameTaken (seen old.view) dir name time last.fates
-      name_taken there linear stuffed last name after then removed same cut laid view named =
+      name_taken there linear stuffed last name after then removed same cut =
           let seen_last : seen_in seen last ≡ seen_with (seen old.view) last.fates = ap (λ x. seen_with (seen x) last.fates) (ap (λ (d : Drafted V). d.view) then ∙ mid_view) in
-          let put_last : (seen_in seen last).block_at dir ≡ Some after =
-          ap (λ f. block_with f ((seen last.view).block_at dir)) (ap (λ (d : Drafted V). get d.fates dir) then ∙ put_at mid.fates dir (Put (inode_lock dir) false after)) in
           record {
             first = mid.fates;
             touches = touches;
@@ -217,8 +147,8 @@ module _ {V : Type 0} (seen : V → Seen) (old : Drafted V) (new : old.fates ≡
               cut = λ h shown. subst (λ w. IsCutFrom h (holding_over w h) name) seen_last (cut h (subst (λ w. IsShown w dir h) (sym seen_mid) shown));
               dinode = λ h shown. subst (λ w. uncounted (dinode_in (holding_over w h)) ≡ uncounted (dinode_in h)) seen_last (same h (subst (λ w. IsShown w dir h) (sym seen_mid) shown));
             };
-            times = has_times there linear stuffed last after put_last same;
-            loses = loses_record there linear stuffed last after put_last view name named removed same cut laid;
+            times = has_times there linear stuffed last after
+                (ap (λ f. block_with f ((seen last.view).block_at dir)) (ap (λ (d : Drafted V). get d.fates dir) then ∙ put_at mid.fates dir (Put (inode_lock dir) false after))) same;
           }
 
 -- ---- and then blocks are freed

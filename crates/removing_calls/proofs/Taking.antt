@@ -1,5 +1,5 @@
 -- A removal at the place to which the walk came, where the call takes the inode.
-use Rattle.std.proofs.Common.{◌≡◌, ◌↔◌, ℕ, false, List, ap, ◌∙◌, subst, subst₂, sym, None}
+use Rattle.std.proofs.Common.{◌≡◌, ◌↔◌, ℕ, false, List, ap, ◌∙◌, subst, sym, None}
 use Rattle.std.specs.Prelude.{Contains, unwrap_or}
 use Rattle.cluster_history.specs.Changes.{is_ok}
 use Rattle.file_tree.specs.Apply.{remove_at, Answer}
@@ -28,7 +28,7 @@ use Rattle.path_walks.specs.Walks.{IsSeenAt, IsLastOf}
 use Rattle.path_walks.specs.declared.walk.Place.{Place}
 use Rattle.path_walks.proofs.Images.{is_inode, is_shown}
 use Rattle.path_walks.proofs.Lists.{parent_of_next}
-use Rattle.removing_calls.specs.Drafting.{HasTimes, IsRemoval, LosesRecord}
+use Rattle.removing_calls.specs.Drafting.{HasTimes, IsRemoval}
 use Rattle.removing_calls.specs.Groups.{GroupsAreHeld}
 use Rattle.removing_calls.specs.Removing.{IsRemoving, IsAimOf, IsPlaceIn, Goes, IsStamped, holds_for}
 use Rattle.removing_calls.specs.declared.aims.Aim.TheVariants as aim
@@ -74,7 +74,7 @@ module _ {V : Type 0} (seen : V → Seen) (view : V) (c : Call) (removing : IsRe
   does places own = removal_does seen view p.above name blocks change is dir_held groups c last.0 p.inode (changes c removing)
       (inode_held (seen view) c name p.inode removing last there.leads) own (inode_inside (seen view) (wanted c) (path_of c false) p name there last) (in_image places)
 
-  -- the directory above has the time, and lacks the name's record
+  -- the directory above has the time
   pub stamped : ((im : Image) (o : Owners) (l : Layout) (t : Tree) → IsOf (seen view) im o l t → IsPlaceIn im o l c p)
       → (im : Image) (o : Owners) (l : Layout) (t : Tree) → IsOf (seen view) im o l t → IsStamped im o l c time change
   stamped places im o l t of =
@@ -82,15 +82,7 @@ module _ {V : Type 0} (seen : V → Seen) (view : V) (c : Call) (removing : IsRe
       let put = parent_put seen view im o l t of last.0 p.above name p.inode r.at r.at_a r.record_is r.named r.childless r.plain blocks r.goes change is in
       let image = (finish_makes is.freed.fates change is.freed.finished).image im in
       let bytes : (with_change im change).at p.above ≡ is.taken.takes.bytes = ap (λ (i : Image). i.at p.above) image ∙ ap (λ f. unwrap_or (block_with f None) (im.at p.above)) put in
-      let has = (above_names (seen view) (wanted c) (path_of c false) p name there last).there in
-      record {
-        directory = p.above;
-        at = (places im o l t of).above;
-        times = subst (λ b. HasTimes (dinode_of b) time) (sym bytes) is.taken.times;
-        name = name;
-        last = last;
-        loses = subst₂ (λ old new. LosesRecord old new name time) (sym (of.agrees p.above has.0 has.1)) (sym bytes) (is.taken.loses has.0 has.1);
-      }
+      (p.above, (places im o l t of).above, subst (λ b. HasTimes (dinode_of b) time) (sym bytes) is.taken.times)
 
   -- the locks that it touches are of the call's list
   pub under : ((im : Image) (o : Owners) (l : Layout) (t : Tree) → IsOf (seen view) im o l t → IsPlaceIn im o l c p)

@@ -36,7 +36,7 @@ use Rattle.path_walks.specs.Holds.{Hold, AreHeld, EndsWith, IsAskedFor, IsFirstL
 use Rattle.path_walks.specs.Walks.{LeadsTo, IsAbsent, IsLacked, IsLastOf, IsOnTheWay, IsPlaceOf, IsUnread}
 use Rattle.path_walks.specs.Walks as path
 use Rattle.path_walks.specs.declared.walk.Place.{Place}
-use Rattle.removing_calls.specs.Drafting.{HasTimes, IsRemoval, LosesRecord}
+use Rattle.removing_calls.specs.Drafting.{HasTimes, IsRemoval}
 use Rattle.removing_calls.specs.Groups.{GroupsAreHeld, IsFirstGroupLack, group_holds_of}
 use Rattle.removing_calls.specs.declared.aims.Aim.{Aim}
 use Rattle.removing_calls.specs.declared.aims.Aim.TheVariants as aim
@@ -183,15 +183,9 @@ IsFoundBy v im o l answer list (found.Hashed b) = ⊤
 abbrev pub IsFound : Seen → Image → Owners → Layout → Tree → Call → Found → Type 0
 IsFound v im o l t call f = IsFoundBy v im o l (apply call t).reply (holds_for im o l t call) f
 
--- In the image with the change the dinode of the directory above the name has this time, and its block lacks the name's record, and has changed no
--- further.
-pub record IsStamped (im : Image) (o : Owners) (l : Layout) (call : Call) (time : ℕ) (change : Change) : Type 0 where
-  pub directory : ℕ
-  pub at : IsAt im o l (parent_of (path_of call false)) directory
-  pub times : HasTimes (dinode_of ((with_change im change).at directory)) time
-  pub name : List ℕ
-  pub last : IsLastOf (path_of call false) name
-  pub loses : LosesRecord (im.at directory) ((with_change im change).at directory) name time
+-- in the image with the change the dinode of the directory above the name has this time
+abbrev pub IsStamped : Image → Owners → Layout → Call → ℕ → Change → Type 0
+IsStamped im o l call time change = (a : ℕ) × IsAt im o l (parent_of (path_of call false)) a × HasTimes (dinode_of ((with_change im change).at a)) time
 
 -- what a refusal is not: `ok`, or that too few blocks are free
 abbrev pub IsRefusal : Found → Type 0

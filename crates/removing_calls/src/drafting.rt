@@ -44,7 +44,6 @@ fn take_name<V: View>(
     ensures damaged { (h : Holding) → IsShown (V.seen draft.old.view) dir h → IfDamaged result (IsBroken h) }
     ensures kept { IfDamaged result (IsOfView (V.seen draft.old.view)) }
 {
-    is_a_view(&*draft);
     let Step::Is(dinode) = read_dinode(&*draft, dir)? else {
         unreachable!()
     };

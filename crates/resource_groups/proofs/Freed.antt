@@ -11,15 +11,14 @@ use Rattle.drafts.specs.declared.fate.Fate.{Fate}
 use Rattle.drafts.specs.declared.fate.Fate.TheVariants.{Put, Freed}
 use Rattle.glock_names.specs.Views.{Seen, IsView, HasBlock, HasGroup}
 use Rattle.glock_names.specs.declared.views.Group.{Group}
-use Rattle.resource_groups.specs.Shown.{IsHeaderOf}
+use Rattle.resource_groups.specs.Shown.{IsHeaderOf, blocks_of}
 use Rattle.resource_groups.specs.Putting.{HasDataBlock, overlaid, seen_or}
 use Rattle.resource_groups.specs.Freeing.{AreFreed, KeepsRest, KeepsAllBut}
 use Rattle.resource_groups.specs.Taking.{AreSet, KeepsBlocks}
 use Rattle.resource_groups.proofs.Apart.{no_header_data}
 use Rattle.resource_groups.proofs.Fits.{fit_of}
 pub use Rattle.resource_groups.proofs.Sets.{long_bitmap}
-use Rattle.resource_groups.proofs.Sets.{cases_has, one_has, only_has, seen_same, take_has}
-use Rattle.resource_groups.proofs.PutIn.{puts_to}
+use Rattle.resource_groups.proofs.Sets.{cases_has, one_has, only_has, seen_same, blocks_same, take_has}
 
 -- ---- each of them freed
 
@@ -92,10 +91,10 @@ module _ {V : Type 0} (seen : V → Seen) (d e f : Drafted V) (xs : List ℕ) (v
     pub are_freed : AreFreed seen d f xs
     are_freed = record {
       freed = freed;
-      puts = λ g at has shown.
-          puts_to at (overlaid (seen_in seen e) at) (overlaid (seen_in seen f) at) g xs 0 (set.puts g at has shown)
-          (λ c own. ap (λ o. seen_or o (at c)) (seen_same seen e f all.view c (header_fate g c has own)));
-      only = λ g c has own none. header_fate g c has own ∙ set.only g c has own none;
+      states = λ g at has shown.
+          let same : blocks_of (overlaid (seen_in seen f) at) g ≡ blocks_of (overlaid (seen_in seen e) at) g =
+          blocks_same (overlaid (seen_in seen e) at) (overlaid (seen_in seen f) at) g (λ c own. ap (λ o. seen_or o (at c)) (seen_same seen e f all.view c (header_fate g c has own))) in
+          rw same (set.states g at has shown);
       headers = λ g c has own. elim (set.headers g c has own) [
         | inl same ↦ inl (header_fate g c has own ∙ same)
         | inr put ↦ inr (put.0, header_fate g c has own ∙ put.1)

@@ -8,6 +8,5 @@ pub mod Puts
 pub mod Miscounts
 pub mod Setting
 mod Numbers
-pub mod PutIn
 pub mod Sets
 pub mod Freed

@@ -12,7 +12,7 @@ use Rattle.drafts.specs.declared.fate.Fate.TheVariants.{Put}
 use Rattle.gfs2_layout.specs.Groups.{bitmap_of}
 use Rattle.gfs2_layout.specs.Headers.{HasHeader}
 use Rattle.gfs2_layout.specs.States.{AreStatesPut, places_in}
-use Rattle.gfs2_layout.proofs.StatePuts.{puts_header, puts_more, puts_free, puts_dinodes, places_low, has_any, any_has}
+use Rattle.gfs2_layout.proofs.StatePuts.{map_same, puts_on, puts_header, puts_more, puts_free, puts_dinodes, places_with, places_without, places_append, places_low, cases_among, has_any, any_has}
 use Rattle.glock_names.specs.Views.{Seen, IsView, HasBlock, HasGroup}
 use Rattle.glock_names.specs.Steps.{IfIs, TellsOf, IfDamaged}
 use Rattle.glock_names.specs.declared.steps.CallFault.{CallFault}
@@ -22,12 +22,11 @@ use Rattle.glock_names.specs.declared.steps.Step.{Step}
 use Rattle.glock_names.specs.declared.steps.Step.TheVariants.{Is, NeedBlock}
 use Rattle.glock_names.specs.declared.views.Group.{Group}
 use Rattle.resource_groups.specs.Shown.{IsShown, IsHeaderOf, IsDataOf, IsBroken, bits_at, no_header, wrong_free, wrong_dinodes, HasBitsIn, blocks_of, first_place, group_lock, kind_of, format_of}
-use Rattle.resource_groups.specs.Putting.{ArePutIn, IsPutIn, PutsTwo, KeepsOthers, IsOneOfTwo, HasDataBlock, SaysStateOf, overlaid, seen_or}
-use Rattle.resource_groups.specs.Freeing.{HasSome, IsSameOrPut, BreaksSome, SaysStateOfSome}
+use Rattle.resource_groups.specs.Putting.{IsPutIn, PutsTwo, KeepsOthers, IsOneOfTwo, HasDataBlock, overlaid, seen_or}
+use Rattle.resource_groups.specs.Freeing.{HasSome, IsSameOrPut, BreaksSome}
 use Rattle.resource_groups.specs.Taking.{AreSet, KeepsBlocks}
 use Rattle.resource_groups.proofs.Apart.{one_header}
 use Rattle.resource_groups.proofs.Fits.{fit_of, big_of}
-use Rattle.resource_groups.proofs.PutIn.{cases_data, not_data, puts_join, puts_say, puts_to}
 use Rattle.resource_groups.proofs.Parts.{front, back, parted, length_front, length_bits, room_is}
 
 -- ---- lists
@@ -103,13 +102,15 @@ some_shown v g view = record {
     whole b None is = length-replicate v.size 0
     whole b (Some bytes) is = view.whole b bytes is
 
+pub blocks_same : (at at' : ℕ → List ℕ) (g : Group) → ((c : ℕ) → IsHeaderOf g c → at' c ≡ at c) → blocks_of at' g ≡ blocks_of at g
+blocks_same at at' g each = map_same at' at g.addr g.length (λ c low high. each c (record { low = low; high = high }))
+
 -- ---- no state put, and one list after another
 
 pub set_none : {V : Type 0} (seen : V → Seen) (d : Drafted V) (state : ℕ) → AreSet seen d d [] state
 set_none seen d state = record {
-  puts = λ g at has shown c own. as_over (seen_in seen d) g at c shown own;
+  states = λ g at has shown. blocks_same at (overlaid (seen_in seen d) at) g (λ c own. as_over (seen_in seen d) g at c shown own);
   headers = λ g c has own. inl refl;
-  only = λ g c has own none. refl;
   counts = λ g has some. absurd (omega (arith, some.1.1));
   sees = λ c there. there;
 }
@@ -140,24 +141,17 @@ module _ {V : Type 0} (seen : V → Seen) (a b c : Drafted V) (xs ys : List ℕ)
   has_then : (g : Group) → HasGroup (seen_in seen a) g → HasGroup (seen_in seen b) g
   has_then g = groups_same seen a b kept.view g
 
-  both_puts : (g : Group) (at : ℕ → List ℕ) → HasGroup (seen_in seen a) g → IsShown (seen_in seen a) g at → ArePutIn at (overlaid (seen_in seen c) at) g (xs ++ ys) state
-  both_puts g at has shown =
+  both_states : (g : Group) (at : ℕ → List ℕ) → HasGroup (seen_in seen a) g → IsShown (seen_in seen a) g at
+      → AreStatesPut (blocks_of at g) (blocks_of (overlaid (seen_in seen c) at) g) (places_in g.first g.count (xs ++ ys)) state
+  both_states g at has shown =
       let after : ℕ → List ℕ = overlaid (seen_in seen b) at in
-      let fit = fit_of (seen_in seen b) g view (has_then g has) in
-      puts_join at after (overlaid (seen_in seen c) at) g xs ys state (omega (arith, fit.some)) (first.puts g at has shown)
-      (puts_to after (overlaid (seen_in seen c) after) (overlaid (seen_in seen c) at) g ys state
-      (second.puts g after (has_then g has) (shown_over (seen_in seen a) (seen_in seen b) g at view (size_same seen a b kept.view) shown))
-      (λ n own. sym (over_twice seen b c rest.view g at n (second.headers g n (has_then g has) own))))
-
-  both_only : (g : Group) (n : ℕ) → HasGroup (seen_in seen a) g → IsHeaderOf g n → ¬ (SaysStateOfSome (seen a.view).size g (xs ++ ys) n) → get c.fates n ≡ get a.fates n
-  both_only g n has own none =
-      second.only g n (has_then g has) own (λ some. none (
-        some.0,
-        Contains-append_right xs ys some.0 some.1,
-        some.2,
-        subst (λ size. SaysStateOf size g some.0 n) (size_same seen a b kept.view) some.3,
-      ))
-      ∙ first.only g n has own (λ some. none (some.0, Contains-append_left xs ys some.0 some.1, some.2, some.3))
+      let same : blocks_of (overlaid (seen_in seen c) after) g ≡ blocks_of (overlaid (seen_in seen c) at) g =
+      blocks_same (overlaid (seen_in seen c) at) (overlaid (seen_in seen c) after) g (λ n own. over_twice seen b c rest.view g at n (second.headers g n (has_then g has) own)) in
+      let more : AreStatesPut (blocks_of after g) (blocks_of (overlaid (seen_in seen c) after) g) (places_in g.first g.count ys) state =
+      second.states g after (has_then g has) (shown_over (seen_in seen a) (seen_in seen b) g at view (size_same seen a b kept.view) shown) in
+      subst (λ places. AreStatesPut (blocks_of at g) (blocks_of (overlaid (seen_in seen c) at) g) places state) (sym (places_append g.first g.count xs ys))
+      (puts_on (blocks_of at g) (blocks_of after g) (blocks_of (overlaid (seen_in seen c) at) g) (places_in g.first g.count xs) (places_in g.first g.count ys) state (first.states g at has shown)
+      (subst (λ blocks. AreStatesPut (blocks_of after g) blocks (places_in g.first g.count ys) state) same more))
 
   both_headers : (g : Group) (n : ℕ) → HasGroup (seen_in seen a) g → IsHeaderOf g n → IsSameOrPut a c g n
   both_headers g n has own = elim (second.headers g n (has_then g has) own) [
@@ -182,7 +176,7 @@ module _ {V : Type 0} (seen : V → Seen) (a b c : Drafted V) (xs ys : List ℕ)
       ]
 
   pub set_both : AreSet seen a c (xs ++ ys) state
-  set_both = record { puts = both_puts; headers = both_headers; only = both_only; counts = both_counts; sees = λ n there. first.sees n (second.sees n there) }
+  set_both = record { states = both_states; headers = both_headers; counts = both_counts; sees = λ n there. first.sees n (second.sees n there) }
 
 -- ---- one block
 
@@ -192,6 +186,16 @@ pub record IsOneSet {V : Type 0} (seen : V → Seen) (d e : Drafted V) (b state 
   pub put : (g : Group) (at : ℕ → List ℕ) → HasGroup (seen_in seen d) g → IsDataOf g b → IsShown (seen_in seen d) g at → IsPutIn at (overlaid (seen_in seen e) at) g b state
   pub two : (g : Group) (at : ℕ → List ℕ) → HasGroup (seen_in seen d) g → IsDataOf g b → IsShown (seen_in seen d) g at → PutsTwo (seen d.view).size d e (overlaid (seen_in seen e) at) g b
   pub sees : (c : ℕ) → HasBlock (seen_in seen e) c → HasBlock (seen_in seen d) c
+
+cases_data : (g : Group) (b : ℕ) → IsDataOf g b ⊎ ((b < g.first) ⊎ (g.first + g.count ≤ b))
+cases_data g b = elim (cases_among g.first g.count b) [
+  | inl (low, high) ↦ inl (record { low = low; high = high })
+  | inr out ↦ inr out
+]
+
+not_data : (g : Group) (b : ℕ) → (b < g.first) ⊎ (g.first + g.count ≤ b) → ¬ (IsDataOf g b)
+not_data g b (inl before) own = omega (arith, before, own.low)
+not_data g b (inr behind) own = omega (arith, behind, own.high)
 
 -- what stays where a state was put, whatever the answer was
 pub keeps_put : {V : Type 0} (seen : V → Seen) (d e : Drafted V) (b : ℕ) → IsView (seen_in seen d) → HasDataBlock (seen_in seen d) b
@@ -210,24 +214,17 @@ module _ {V : Type 0} (seen : V → Seen) (d e : Drafted V) (b state : ℕ) (res
   none_of : (g : Group) → (b < g.first) ⊎ (g.first + g.count ≤ b) → ¬ (HasSome g (b ∷ []))
   none_of g out some = not_data g b out (subst (IsDataOf g) (only_has b some.0 some.1) some.2)
 
-  one_puts : (g : Group) (at : ℕ → List ℕ) → HasGroup (seen_in seen d) g → IsShown (seen_in seen d) g at → ArePutIn at (overlaid (seen_in seen e) at) g (b ∷ []) state
-  one_puts g at has shown = (
-    overlaid (seen_in seen e) at,
-    record {
-      own = λ own. is.put g at has own shown;
-      other = λ out c header.
-          ap (λ o. seen_or o (at c)) (seen_same seen d e rest.view c (rest.groups g c has (λ some. out (subst (IsDataOf g) (only_has b some.0 some.1) some.2)) header))
-          ∙ as_over (seen_in seen d) g at c shown header;
-    },
-    λ c own. refl,
-  )
-
-  one_only : (g : Group) (c : ℕ) → HasGroup (seen_in seen d) g → IsHeaderOf g c → ¬ (SaysStateOfSome (seen d.view).size g (b ∷ []) c) → get e.fates c ≡ get d.fates c
-  one_only g c has header none = elim (cases_data g b) [
+  one_states : (g : Group) (at : ℕ → List ℕ) → HasGroup (seen_in seen d) g → IsShown (seen_in seen d) g at
+      → AreStatesPut (blocks_of at g) (blocks_of (overlaid (seen_in seen e) at) g) (places_in g.first g.count (b ∷ [])) state
+  one_states g at has shown = elim (cases_data g b) [
     | inl own ↦
-        let two = is.two g (some_bytes (seen_in seen d)) has own (some_shown (seen_in seen d) g is.view) in
-        two.others c (λ first. none (b, one_has b, own, inl first)) (λ here. none (b, one_has b, own, inr (subst (HasBitsIn (seen d.view).size (b - g.first)) (omega (arith, here)) two.stands)))
-    | inr out ↦ rest.groups g c has (none_of g out) header
+        subst (λ places. AreStatesPut (blocks_of at g) (blocks_of (overlaid (seen_in seen e) at) g) places state) (sym (places_with g.first g.count b [] own.low own.high))
+        (blocks_of (overlaid (seen_in seen e) at) g, (is.put g at has own shown).put, refl)
+    | inr out ↦
+        let same : blocks_of (overlaid (seen_in seen e) at) g ≡ blocks_of at g =
+        blocks_same at (overlaid (seen_in seen e) at) g (λ c header.
+        ap (λ o. seen_or o (at c)) (seen_same seen d e rest.view c (rest.groups g c has (none_of g out) header)) ∙ as_over (seen_in seen d) g at c shown header) in
+        subst (λ places. AreStatesPut (blocks_of at g) (blocks_of (overlaid (seen_in seen e) at) g) places state) (sym (places_without g.first g.count b [] out)) same
   ]
 
   one_headers : (g : Group) (c : ℕ) → HasGroup (seen_in seen d) g → IsHeaderOf g c → IsSameOrPut d e g c
@@ -251,7 +248,7 @@ module _ {V : Type 0} (seen : V → Seen) (d e : Drafted V) (b state : ℕ) (res
       (overlaid (seen_in seen e) (some_bytes (seen_in seen d)) g.addr, two.header)
 
   pub set_alone : AreSet seen d e (b ∷ []) state
-  set_alone = record { puts = one_puts; headers = one_headers; only = one_only; counts = one_counts; sees = is.sees }
+  set_alone = record { states = one_states; headers = one_headers; counts = one_counts; sees = is.sees }
 
 -- what follows of an answer, whichever it is
 pub set_if : {V : Type 0} {A : Type 0} (seen : V → Seen) (d e : Drafted V) (b state : ℕ) (result : Result (Step A) CallFault) → IsView (seen_in seen d) → KeepsBlocks seen d e (b ∷ [])
@@ -348,5 +345,5 @@ pub broken_some : {V : Type 0} (seen : V → Seen) (d e : Drafted V) (xs ys : Li
 broken_some seen d e xs ys fault b state four before view same set (g, has, own) contains told =
     tells_some fault (seen_in seen d) g ys has (b, contains, own) (λ at shown.
     let after : ℕ → List ℕ = overlaid (seen_in seen e) at in
-    tells_so fault (IsBroken after g) (IsBroken at g) (broken_before (seen_in seen d) g at after xs state four before has shown (puts_say at after g xs state (set.puts g at has shown)))
+    tells_so fault (IsBroken after g) (IsBroken at g) (broken_before (seen_in seen d) g at after xs state four before has shown (set.states g at has shown))
     (told g after (groups_same seen d e same g has) own (shown_over (seen_in seen d) (seen_in seen e) g at view (size_same seen d e same) shown)))

@@ -3,32 +3,29 @@ use Rattle.std.specs.Prelude.{ℕ, ◌≡◌, ◌⊎◌, false, Contains, List, 
 use Rattle.std.specs.FinMap.{get}
 use Rattle.drafts.specs.Fates.{Drafted, seen_in}
 use Rattle.drafts.specs.declared.fate.Fate.TheVariants.{Put, Freed}
+use Rattle.gfs2_layout.specs.States.{AreStatesPut, places_in}
 use Rattle.glock_names.specs.Views.{Seen, HasBlock, HasGroup}
 use Rattle.glock_names.specs.declared.steps.Missing.{Missing}
 use Rattle.glock_names.specs.declared.views.Group.{Group}
-use Rattle.resource_groups.specs.Shown.{IsShown, IsHeaderOf, IsDataOf, IsBroken, group_lock}
-use Rattle.resource_groups.specs.Putting.{ArePutIn, IsOneOfTwo, SaysStateOf, overlaid}
+use Rattle.resource_groups.specs.Shown.{IsShown, IsHeaderOf, IsDataOf, IsBroken, blocks_of, group_lock}
+use Rattle.resource_groups.specs.Putting.{IsOneOfTwo, overlaid}
 
 -- some of these blocks are data blocks of the group
 abbrev pub HasSome : Group → List ℕ → Type 0
 HasSome g blocks = (b : ℕ) × Contains blocks b × IsDataOf g b
 
--- the block is the group's header, or has the bits of one of these blocks, which are data blocks of it
-abbrev pub SaysStateOfSome : ℕ → Group → List ℕ → ℕ → Type 0
-SaysStateOfSome size g blocks c = (b : ℕ) × Contains blocks b × IsDataOf g b × SaysStateOf size g b c
-
 -- what becomes of the block is as before, or it is put under the group's lock and isn't plain
 abbrev pub IsSameOrPut : {V : Type 0} → Drafted V → Drafted V → Group → ℕ → Type 0
 IsSameOrPut old new g c = (get new.fates c ≡ get old.fates c) ⊎ ((bytes : List ℕ) × (get new.fates c ≡ Some (Put (group_lock g) false bytes)))
 
--- Each of these blocks is freed. In each group's blocks the state of each of them that is the group's is put to free, one after another. What
--- is put of its header and bitmap is under its lock: no block but the header and those with the bits of these blocks, and where it has some of them the header
--- is. No block is seen that wasn't.
+-- Each of these blocks is freed. Each group's blocks say the states of before with that of each of these blocks put to free, one after
+-- another; of its header and bitmap blocks those that were put are under its lock, and where it has some of these blocks its header
+-- was. No block is seen that wasn't.
 pub record AreFreed {V : Type 0} (seen : V → Seen) (old new : Drafted V) (blocks : List ℕ) : Type 0 where
   pub freed : (b : ℕ) → Contains blocks b → get new.fates b ≡ Some Freed
-  pub puts : (g : Group) (at : ℕ → List ℕ) → HasGroup (seen_in seen old) g → IsShown (seen_in seen old) g at → ArePutIn at (overlaid (seen_in seen new) at) g blocks 0
+  pub states : (g : Group) (at : ℕ → List ℕ) → HasGroup (seen_in seen old) g → IsShown (seen_in seen old) g at
+      → AreStatesPut (blocks_of at g) (blocks_of (overlaid (seen_in seen new) at) g) (places_in g.first g.count blocks) 0
   pub headers : (g : Group) (c : ℕ) → HasGroup (seen_in seen old) g → IsHeaderOf g c → IsSameOrPut old new g c
-  pub only : (g : Group) (c : ℕ) → HasGroup (seen_in seen old) g → IsHeaderOf g c → ¬ (SaysStateOfSome (seen old.view).size g blocks c) → get new.fates c ≡ get old.fates c
   pub counts : (g : Group) → HasGroup (seen_in seen old) g → HasSome g blocks → (bytes : List ℕ) × (get new.fates g.addr ≡ Some (Put (group_lock g) false bytes))
   pub sees : (c : ℕ) → HasBlock (seen_in seen new) c → HasBlock (seen_in seen old) c
 

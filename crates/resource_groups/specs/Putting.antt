@@ -1,5 +1,5 @@
 -- The state of a data block put in a draft.
-use Rattle.std.specs.Prelude.{ℕ, zero, suc, ◌≡◌, ◌≢◌, ◌⊎◌, ◌+◌, ◌-◌, ◌<◌, ◌^◌, ◌==◌, Bool, false, List, [], ◌∷◌, ◌++◌, take, drop, Option, None, Some}
+use Rattle.std.specs.Prelude.{ℕ, zero, suc, ◌≡◌, ◌≢◌, ◌⊎◌, ◌+◌, ◌-◌, ◌<◌, ◌^◌, ◌==◌, Bool, false, List, ◌++◌, take, drop, Option, None, Some}
 use Rattle.std.specs.FinMap.{get}
 use Rattle.drafts.specs.Fates.{Drafted}
 use Rattle.drafts.specs.declared.fate.Fate.TheVariants.{Put}
@@ -36,24 +36,6 @@ pub record IsPutIn (at at' : ℕ → List ℕ) (g : Group) (b state : ℕ) : Typ
   pub header : at' g.addr ≡ group_put (group_header (blocks_of at' g)) under
   pub others : (c : ℕ) → IsHeaderOf g c → c ≢ g.addr → take 24 (at' c) ≡ take 24 (at c)
 
--- the group's header and bitmap blocks hold the same
-abbrev pub AreSameIn : (ℕ → List ℕ) → (ℕ → List ℕ) → Group → Type 0
-AreSameIn at at' g = (c : ℕ) → IsHeaderOf g c → at' c ≡ at c
-
--- where the block is one of the group's data blocks its state is put, and else nothing is
-pub record IsPutIfOwn (at at' : ℕ → List ℕ) (g : Group) (b state : ℕ) : Type 0 where
-  pub own : IsDataOf g b → IsPutIn at at' g b state
-  pub other : ¬ (IsDataOf g b) → AreSameIn at at' g
-
--- so for each of these blocks, one after another
-abbrev pub ArePutIn : (ℕ → List ℕ) → (ℕ → List ℕ) → Group → List ℕ → ℕ → Type 0
-ArePutIn at at' g [] state = AreSameIn at at' g
-ArePutIn at at' g (b ∷ blocks) state = (next : ℕ → List ℕ) × IsPutIfOwn at next g b state × ArePutIn next at' g blocks state
-
--- the block is the group's header, or has the bits of data block b
-abbrev pub SaysStateOf : ℕ → Group → ℕ → ℕ → Type 0
-SaysStateOf size g b c = (c ≡ g.addr) ⊎ HasBitsIn size (b - g.first) (c - g.addr)
-
 -- the draft puts the group's header and the block in which the bits of data block b stand, under the group's lock, and no other block
 pub record PutsTwo {V : Type 0} (size : ℕ) (old new : Drafted V) (at' : ℕ → List ℕ) (g : Group) (b : ℕ) : Type 0 where
   pub part : ℕ
@@ -72,7 +54,7 @@ pub record KeepsOthers {V : Type 0} (old new : Drafted V) (g : Group) : Type 0 w
 -- the block that is needed is one of these two
 pub record IsOneOfTwo (v : Seen) (g : Group) (b : ℕ) (missing : Missing) : Type 0 where
   pub block : IsMissing v g missing
-  pub which : SaysStateOf v.size g b missing.block
+  pub which : (missing.block ≡ g.addr) ⊎ HasBitsIn v.size (b - g.first) (missing.block - g.addr)
 
 -- ---- in one block
 

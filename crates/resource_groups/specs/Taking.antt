@@ -3,19 +3,19 @@ use Rattle.std.specs.Prelude.{ℕ, ◌≡◌, false, List, Some}
 use Rattle.std.specs.FinMap.{get}
 use Rattle.drafts.specs.Fates.{Drafted, seen_in}
 use Rattle.drafts.specs.declared.fate.Fate.TheVariants.{Put}
+use Rattle.gfs2_layout.specs.States.{AreStatesPut, places_in}
 use Rattle.glock_names.specs.Views.{Seen, HasBlock, HasGroup}
 use Rattle.glock_names.specs.declared.views.Group.{Group}
-use Rattle.resource_groups.specs.Shown.{IsShown, IsHeaderOf, group_lock}
-use Rattle.resource_groups.specs.Putting.{ArePutIn, overlaid}
-use Rattle.resource_groups.specs.Freeing.{HasSome, IsSameOrPut, SaysStateOfSome}
+use Rattle.resource_groups.specs.Shown.{IsShown, IsHeaderOf, blocks_of, group_lock}
+use Rattle.resource_groups.specs.Putting.{overlaid}
+use Rattle.resource_groups.specs.Freeing.{HasSome, IsSameOrPut}
 
--- In each group's blocks this state is put at each of these blocks that is the group's, one after another. What is put of its header and bitmap
--- is under its lock: no block but the header and those with the bits of these blocks, and where it has some of them the header is. No block is
--- seen that wasn't.
+-- Each group's blocks say the states of before with this one put at each of these blocks, one after another; of its header and bitmap
+-- blocks those that were put are under its lock, and where it has some of these blocks its header was. No block is seen that wasn't.
 pub record AreSet {V : Type 0} (seen : V → Seen) (old new : Drafted V) (blocks : List ℕ) (state : ℕ) : Type 0 where
-  pub puts : (g : Group) (at : ℕ → List ℕ) → HasGroup (seen_in seen old) g → IsShown (seen_in seen old) g at → ArePutIn at (overlaid (seen_in seen new) at) g blocks state
+  pub states : (g : Group) (at : ℕ → List ℕ) → HasGroup (seen_in seen old) g → IsShown (seen_in seen old) g at
+      → AreStatesPut (blocks_of at g) (blocks_of (overlaid (seen_in seen new) at) g) (places_in g.first g.count blocks) state
   pub headers : (g : Group) (c : ℕ) → HasGroup (seen_in seen old) g → IsHeaderOf g c → IsSameOrPut old new g c
-  pub only : (g : Group) (c : ℕ) → HasGroup (seen_in seen old) g → IsHeaderOf g c → ¬ (SaysStateOfSome (seen old.view).size g blocks c) → get new.fates c ≡ get old.fates c
   pub counts : (g : Group) → HasGroup (seen_in seen old) g → HasSome g blocks → (bytes : List ℕ) × (get new.fates g.addr ≡ Some (Put (group_lock g) false bytes))
   pub sees : (c : ℕ) → HasBlock (seen_in seen new) c → HasBlock (seen_in seen old) c
 

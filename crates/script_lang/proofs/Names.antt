@@ -1,10 +1,9 @@
 -- A client's name is a name.
 use Rattle.std.proofs.Common.{◌≡◌, ℕ, ◌≤◌, Bool, true, false, ◌&&◌, List, [], ◌∷◌, length, get_or, refl, ap, arith}
-use Rattle.std.specs.Prelude.{nat_le, not, ◌==◌}
+use Rattle.std.specs.Prelude.{nat_le, not}
 use Rattle.std.specs.List.{AllByRecursion, list_all}
-use Rattle.std.proofs.lemmas.Bool.{ne_eqb}
 use Rattle.std.proofs.lemmas.Bool.Decides.{nat_tests}
-use Rattle.file_tree.specs.Names.{is_dots, IsName, IsNameByte}
+use Rattle.file_tree.specs.Names.{IsName, IsNameByte}
 use Rattle.script_lang.specs.Words.{is_client_name, is_letter_or_digit, is_lower, begins_line}
 
 name_byte : (b : ℕ) → is_letter_or_digit b ≡ true → IsNameByte b
@@ -18,11 +17,6 @@ both false b h = cc
 all_bytes : (w : List ℕ) → list_all is_letter_or_digit w ≡ true → AllByRecursion IsNameByte w
 all_bytes [] h = tt
 all_bytes (b ∷ bs) h = let parts = both (is_letter_or_digit b) (list_all is_letter_or_digit bs) h in (name_byte b parts.0, all_bytes bs parts.1)
-
--- what begins with a letter is neither `.` nor `..`
-no_dots : (w : List ℕ) → 97 ≤ get_or w 0 0 → is_dots w ≡ false
-no_dots [] low = absurd (omega (arith, low))
-no_dots (b ∷ bs) low = let other : (b == 46) ≡ false = ne_eqb b 46 (omega (arith, low)) in rw other refl
 
 module _ (w : List ℕ) where
   abbrev some : Bool
@@ -51,5 +45,6 @@ module _ (w : List ℕ) where
         some = grind (arith, nat_tests);
         short = grind (arith, nat_tests);
         plain = all_bytes w three.1;
-        not_dots = no_dots w low;
+        not_dot = λ dot. absurd (omega (arith, low, ap (λ (v : List ℕ). get_or v 0 0) dot));
+        not_dots = λ dots. absurd (omega (arith, low, ap (λ (v : List ℕ). get_or v 0 0) dots));
       }

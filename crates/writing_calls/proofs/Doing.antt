@@ -189,7 +189,7 @@ module _ (v : Seen) (a at : ℕ) (new : List ℕ) (time : ℕ) (change : Change)
     }
 
     pub content_is : content_of h' ≡ overwritten at new (content_of h)
-    content_is = written.content
+    content_is = written.content sound
 
   pub write_does : (c : Call) → Writes c at new → at + length new ≤ file_limit → LeadsTo v (wanted c) (path_of c false) a
       → ((im : Image) (o : Owners) (l : Layout) (t : Tree) → IsOf v im o l t → IsAt im o l (path_of c false) a × (is_directory_in (holding im o a) ≡ false))

@@ -1,5 +1,5 @@
 -- The change of a write is that of its draft.
-use Rattle.std.proofs.Common.{◌≡◌, ℕ, ◌+◌, false, inl, inr, List, length, Some, Result, Ok, Err, IfOk, sym, ap, ◌∙◌, subst, subst₂}
+use Rattle.std.proofs.Common.{◌≡◌, ℕ, ◌+◌, false, inl, inr, List, length, Some, Result, Ok, Err, IfOk, sym, ap, ◌∙◌, subst}
 use Rattle.std.proofs.lemmas.Bool.{cases_eq}
 use Rattle.std.specs.FinMap.{FinMap, get, get-empty, empty, entries, insert}
 use Rattle.std.specs.Ordering.{nat_cmp}
@@ -9,16 +9,13 @@ use Rattle.drafts.specs.declared.fate.Fate.{Fate}
 use Rattle.drafts.specs.declared.fate.Fate.TheVariants.{Put}
 use Rattle.gfs2_layout.specs.Holding.{Holding}
 use Rattle.gfs2_layout.specs.Inode.{dinode_in}
-use Rattle.gfs2_layout.specs.Structures.{dinode_of}
 use Rattle.gfs2_layout.specs.declared.dinode.Dinode.{Dinode}
 use Rattle.glock_names.specs.Views.{Seen}
 use Rattle.dinode_tree.specs.Reading.{inode_lock}
 use Rattle.dinode_tree.specs.Shown.{IsShown}
-use Rattle.dinode_tree.proofs.Sound.{some_is_shown}
 use Rattle.image_model.proofs.Held.{none_some, some_same}
 use Rattle.image_changes.specs.Drafted.{IsFinished}
 use Rattle.linear_dirs.specs.Shown.{holding_over}
-use Rattle.linear_dirs.proofs.Looked.{dinode_there}
 use Rattle.writing_calls.specs.Contents.{IsBlockWritten, IsWrittenOver, StaysStuffed}
 use Rattle.writing_calls.specs.Drafting.{IsWrite}
 use Rattle.writing_calls.proofs.Written.{put_alone, put_there, written_over}
@@ -48,16 +45,12 @@ write_is {V} seen view old now a at new time d before change fresh there was sta
   puts = record { bytes = put.0; put = fates_are };
   whole = subst (AreWhole (seen view).size) (sym fates_are) (one_whole (seen view).size a put.0 block.whole);
   finished = finished;
-  block = λ bytes there_is. subst₂ (λ (x : Dinode) b. IsBlockWritten (seen view).size x at new time b put.0) (dinode_now bytes there_is) (some_same (sym there ∙ there_is)) block;
   written = λ h shown. subst (λ (m : FinMap nat_cmp Fate). IsWrittenOver h (holding_over (seen_with (seen view) m) h) at new time) (sym fates_are)
       (written_over (seen view) a at new time d before put.0 h shown there (was h shown) stays block);
 }
   where
     fates_are : now.fates ≡ insert empty a (Put (inode_lock a) false put.0)
     fates_are = ap (λ (x : Drafted V). x.fates) put.1 ∙ ap (λ (x : Drafted V). insert x.fates a (Put (inode_lock a) false put.0)) fresh
-
-    dinode_now : (bytes : List ℕ) → (seen view).block_at a ≡ Some bytes → d ≡ dinode_of bytes
-    dinode_now bytes there_is = let s = some_is_shown (seen view) a in was s.0 s.1.0 ∙ dinode_there (seen view) s.0 a bytes s.1.0 there_is
 
     block : IsBlockWritten (seen view).size d at new time before put.0
     block = subst (λ (x : Drafted V). IsBlockWritten (seen x.view).size d at new time before put.0) fresh put.2

@@ -161,7 +161,7 @@ module _ (v w : Seen) (a at : ℕ) (new : List ℕ) (time : ℕ) (d : Dinode) (b
   pub is_written : IsWrittenOver h h' at new time
   is_written = record {
     dinode = dinode_is ∙ ap (λ (x : Dinode). dinode_after x end time) was;
-    content = content_now;
+    content = λ sound. content_now;
     head = ap head_from dinode_is ∙ ap head_from was;
     sound = sound_still;
   }

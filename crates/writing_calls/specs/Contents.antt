@@ -6,7 +6,6 @@ use Rattle.gfs2_layout.specs.Holding.{Holding}
 use Rattle.gfs2_layout.specs.Inode.{IsInode, dinode_in, head_of, content_of}
 use Rattle.gfs2_layout.specs.Structures.{dinode_length, dinode_read, is_directory}
 use Rattle.gfs2_layout.specs.declared.dinode.Dinode.{Dinode}
-use Rattle.dinode_tree.specs.Pads.{dinode_over}
 use Rattle.writing_calls.specs.declared.aims.Aim.{Aim}
 use Rattle.writing_calls.specs.declared.aims.Aim.TheVariants as aim
 
@@ -24,7 +23,7 @@ dinode_after d end time = record d { size = size_after d.size end; mtime = time;
 -- what records say of it, and is sound if it was.
 pub record IsWrittenOver (h h' : Holding) (at : ℕ) (new : List ℕ) (time : ℕ) : Type 0 where
   pub dinode : dinode_in h' ≡ dinode_after (dinode_in h) (at + length new) time
-  pub content : content_of h' ≡ overwritten at new (content_of h)
+  pub content : IsInode h → content_of h' ≡ overwritten at new (content_of h)
   pub head : head_of h' ≡ head_of h
   pub sound : IsInode h → IsInode h'
 
@@ -60,13 +59,12 @@ pub record StaysStuffed (size : ℕ) (d : Dinode) (end : ℕ) : Type 0 where
   pub room : HasRoom size end
   pub fits : HasRoom size d.size
 
--- the bytes of that block before the write and after it: the dinode is written over the old one, and the content behind it
+-- the bytes of that block before the write and after it
 pub record IsBlockWritten (size : ℕ) (d : Dinode) (at : ℕ) (new : List ℕ) (time : ℕ) (before now : List ℕ) : Type 0 where
   pub was : length before ≡ size
   pub whole : length now ≡ size
   pub read : dinode_read now ≡ Ok (dinode_after d (at + length new) time)
   pub area : drop dinode_length now ≡ area_after at new d.size (drop dinode_length before)
-  pub bytes : now ≡ dinode_over (dinode_after d (at + length new) time) before (area_after at new d.size (drop dinode_length before))
 
 -- Why nothing is written into the inode, or that the bytes go into the dinode's block. Of a broken one the content that it has would need
 -- more room than that block has.

@@ -1,7 +1,6 @@
 // Content in the block of its dinode.
 ghost use Rattle.std.specs.Prelude.{◌≡◌, ◌+◌, ◌≤◌, length, drop, Ok};
 ghost use Rattle.gfs2_layout.specs.Structures.{dinode_length, dinode_read};
-ghost use Rattle.dinode_tree.specs.Pads.{dinode_over};
 ghost use Rattle.writing_calls.specs.Contents.{HasRoom, area_after, cleared_between, dinode_after, put_over};
 
 use gfs2_layout::{DINODE_LENGTH, Dinode};
@@ -54,7 +53,6 @@ pub(crate) fn write_block(block: &mut [u8], dinode: &Dinode, at: usize, new: &[u
     ensures area { drop dinode_length block.new ≡ area_after at new.now dinode.now.size (drop dinode_length block.old) }
     ensures read { dinode_read block.new ≡ Ok (dinode_after dinode.now (at + length new.now) time) }
     ensures whole { length block.new ≡ length block.old }
-    ensures bytes { block.new ≡ dinode_over (dinode_after dinode.now (at + length new.now) time) block.old (area_after at new.now dinode.now.size (drop dinode_length block.old)) }
 {
     write_area(&mut block[DINODE_LENGTH..], dinode.size as usize, at, new);
     dinode_with(dinode, (at + new.len()) as u64, time).write(block);

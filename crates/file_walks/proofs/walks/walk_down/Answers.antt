@@ -25,13 +25,8 @@ loop-stop-preserved g c = record {
       answer_at c.in_ok-next.field-0 c.in-Is.next (LeadsOn h c.args.way.now.level c.args.way.now.index) c.in-Is.is (c.in_ok-next.ensures.leads h shown (c.loop-stop.invariant.leads h shown leads));
   from = λ h shown leads from.
       let is = answer_at c.in_ok-next.field-0 c.in-Is.next _ c.in-Is.is c.in_ok-next.ensures.from in
-      inr (
-        c.loop-stop.stop.pointer.from,
-        c.loop-stop.stop.pointer.index,
-        c.loop-stop.stop.level,
-        _,
-        subst (Leads h c.loop-stop.stop.pointer.from c.loop-stop.stop.pointer.index c.loop-stop.stop.level (first_of h c.args.way.now.level c.args.way.now.index c.loop-stop.stop)) (sym is) (c.loop-stop.invariant.leads h shown leads c.if-stop-ne0.true),
-      );
+      inr (c.loop-stop.stop.pointer.from, c.loop-stop.stop.pointer.index, c.loop-stop.stop.level, _,
+      subst (Leads h c.loop-stop.stop.pointer.from c.loop-stop.stop.pointer.index c.loop-stop.stop.level (first_of h c.args.way.now.level c.args.way.now.index c.loop-stop.stop)) (sym is) (c.loop-stop.invariant.leads h shown leads c.if-stop-ne0.true));
   seen = λ h file shown passed leads.
       seen_one (g.V.View.seen c.args.view.now) h c.args.way.now.level c.args.way.now.index c.args.first.level c.loop-stop.stop c.in-Is.next
       (c.loop-stop.invariant.passed h file shown passed leads) (answer_at c.in_ok-next.field-0 c.in-Is.next _ c.in-Is.is c.in_ok-next.ensures.seen)

@@ -31,7 +31,7 @@ returns-in_err-check_readable-clause-refused g c done d n tells wanted known =
 pub returns-clause-searched : goal.returns-clause-searched
 returns-clause-searched g c im done d n wanted known =
     let low : c.args.block < length c.args.table.now.entries = omega (arith, c.in_ok-check_readable.ensures.inside, c.blocks-2.ensures.value, c.requires.work.count) in
-    searched_more im done d n c.args.table.now _ c.args.block c.args.from _ (not_kept c.args.table.now.entries c.args.block low c.requires.new) c.keep.ensures.kept c.keep.ensures.places c.keep.ensures.leaves wanted known
+    searched_more im done d n c.args.table.now _ c.args.block c.args.from _ (not_kept c.args.table.now.entries c.args.block low c.requires.new) c.keep.ensures.kept c.keep.ensures.places wanted known
 
 pub returns-clause-grown : goal.returns-clause-grown
 returns-clause-grown g c =

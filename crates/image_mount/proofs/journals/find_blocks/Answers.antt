@@ -67,7 +67,7 @@ loop-place-preserved g c =
           let at = place_at _ _ inv.reads.same d c.loop-place.place located found.found tells in
           let searched = place_searched _ _ inv.reads.same c.args.system.now.jindex c.args.journal.now c.args.places c.loop-place.place c.loop-place.table c.find_block.new.table done d c.loop-place.place
           (found.searched done d c.loop-place.place c.args.places) tells next.named has c.loop-place-test.true (inv.searched done tells next has known) in
-          marked_more (image_of s) done d c.loop-place.place (c.loop-place.place + 1) c.find_block.new.table c.mark.new.self located.block c.mark.ensures.places c.mark.ensures.entries c.mark.ensures.leaves (omega arith)
+          marked_more (image_of s) done d c.loop-place.place (c.loop-place.place + 1) c.find_block.new.table c.mark.new.self located.block c.mark.ensures.places c.mark.ensures.entries (omega arith)
           (is_place (image_of s) done c.args.system.now c.args.journal.now next c.loop-place.place located at (c.in_ok-check_place.ensures.apart (image_of s) next.looked)) searched;
       reads = reads_on inv.reads found.reads;
     }

@@ -1,125 +1,101 @@
-use Rattle.std.proofs.Common.{◌<◌, [], length, sym, ap, arith, ◌∙◌}
+use Rattle.std.proofs.Common.{◌^◌, ◌≤◌, [], ap, arith, ◌∙◌}
 use Rattle.image_model.specs.Claims.{master_of}
-use Rattle.image_model.specs.Image.{Image, image_of}
+use Rattle.image_model.specs.Image.{image_of}
 use Rattle.shared_disk.specs.Disk.{DiskState}
-use Rattle.image_mount.specs.Searching.{IsWanted}
-use Rattle.image_mount.specs.declared.leaf.LeafLink.{LeafLink}
 use Rattle.image_mount.proofs.LeafWalks.{next_leaf_in, walked_at}
-use Rattle.image_model.proofs.Lengths.{size_large}
+use Rattle.image_mount.specs.Leaves.{ComesNext, IsLeafIn}
+use Rattle.image_mount.specs.declared.leaf.LeafAt.{LeafAt}
 use Rattle.image_mount.proofs.Marked.{grown_none, grown_on}
-use Rattle.image_mount.proofs.Marks.{go_refused, leaf_refused}
+use Rattle.image_mount.proofs.Marks.{go_refused}
 use Rattle.image_mount.proofs.Numbered.{at_some}
+use Rattle.image_mount.proofs.Shown.{kept_inside}
 use Rattle.image_mount.proofs.Stops.{refused}
-use Rattle.image_mount.proofs.Working.{read_now, read_same, refilled}
+use Rattle.image_mount.proofs.Working.{read_now}
 use Rattle.shared_disk.proofs.ReadLaws.{reads_none, reads_on}
 use Rattle.image_mount.proofs.master.walk_leaves.Goals as goal
 
-pub loop-link-init : goal.loop-link-init
-loop-link-init g c = record {
+pub loop-at-init : goal.loop-at-init
+loop-at-init g c = record {
   work = c.requires.work;
   grown = grown_none c.args.table.now;
   count = c.in_ok-walk.ensures.count ∙ c.blocks-2.ensures.value;
-  size = omega (arith, c.in_ok-bytes.bytes.ok.0, c.in_ok-bytes.ensures.len, c.block_size-size.ensures.value, c.requires.work.size);
   within = omega (arith, c.in_ok-walk.ensures.index);
   walked = λ tells of. c.in_ok-walk.ensures.walked (image_of (g.D.SharedDisk.state c.args.disk.now)) (master_of (image_of (g.D.SharedDisk.state c.args.disk.now)));
   searched = λ tells of known. known;
   reads = reads_none;
 }
 
-pub returns-in_err-read_leaf-in-Ok-Some-clause-refused : goal.returns-in_err-read_leaf-in-Ok-Some-clause-refused
-returns-in_err-read_leaf-in-Ok-Some-clause-refused g c tells of known =
-    let im : Image = image_of (g.D.SharedDisk.state c.args.disk.now) in
-    let inv = c.loop-link.invariant in
-    let walk = inv.walked tells of in
-    let wanted = at_some c.in-Ok-Some.field-0 c.in-Ok-Some.link (λ (l : LeafLink). IsWanted im l.number l.by) c.in-Ok-Some.field-0-is (c.in-Ok-Some.ensures.wanted im (read_now _ _ _ inv.reads.same tells inv.work) of (walked_at im c.args.inode.now c.args.pointers.now c.loop-link.walk of walk)) in
-    refused im _ _ c.from_residual-in_err-read_leaf-in-Ok-Some.ensures.1
-    (leaf_refused _ _ c.in-Ok-Some.link.number c.in-Ok-Some.link.by c.loop-link.table c.in_err-read_leaf-in-Ok-Some.field-0.0 inv.reads.same c.in_err-read_leaf-in-Ok-Some.ensures.refused tells wanted (inv.searched tells of known))
+pub next-requires-clause-count : goal.next-requires-clause-count
+next-requires-clause-count g c = omega (arith, c.loop-at.invariant.count, c.requires.few)
 
-pub leaf-requires-clause-whole : goal.leaf-requires-clause-whole
-leaf-requires-clause-whole g c =
-    let inv = c.loop-link.invariant in
-    omega (arith, ap length c.deref.ensures.value, ap length (refilled c.read_leaf.new.into c.loop-link.bytes.items c.loop-link.bytes.len c.loop-link.bytes.ok.0 (c.read_leaf.auto.into ∙ ap length c.deref_mut.ensures.value)), (c.read_leaf.auto.into ∙ ap length c.deref_mut.ensures.value), inv.size, size_large _ c.block_size-size.ensures.view.block_size, c.block_size-size.ensures.value, c.requires.work.size)
+pub next-requires-clause-within : goal.next-requires-clause-within
+next-requires-clause-within g c = c.loop-at.invariant.within
 
-pub returns-in_err-at-in-Ok-Some-clause-refused : goal.returns-in_err-at-in-Ok-Some-clause-refused
-returns-in_err-at-in-Ok-Some-clause-refused g c tells of known =
-    let im : Image = image_of (g.D.SharedDisk.state c.args.disk.now) in
-    let inv = c.loop-link.invariant in
-    let walk = inv.walked tells of in
-    let low : c.in-Ok-Some.link.number < im.count = omega (arith, c.in_ok-read_leaf-in-Ok-Some.ensures.inside, ap (λ (s : DiskState). s.count) inv.reads.same) in
-    let same = read_same (g.D.SharedDisk.state c.args.disk.now) _ c.in-Ok-Some.link.number c.read_leaf.new.into inv.reads.same tells c.in_ok-read_leaf-in-Ok-Some.ensures.bytes in
-    refused im _ _ c.from_residual-in_err-at-in-Ok-Some.ensures.1
-    (c.in_err-at-in-Ok-Some.ensures.refused im c.args.inode.now of (walked_at im c.args.inode.now c.args.pointers.now c.loop-link.walk of walk) (same ∙ sym (refilled c.read_leaf.new.into c.loop-link.bytes.items c.loop-link.bytes.len c.loop-link.bytes.ok.0 (c.read_leaf.auto.into ∙ ap length c.deref_mut.ensures.value)) ∙ sym c.deref.ensures.value) low)
+pub enter-requires-clause-inside : goal.enter-requires-clause-inside
+enter-requires-clause-inside g c =
+    let inv = c.loop-at.invariant in
+    omega (arith, kept_inside c.loop-at.table.entries c.in-Ok-Some.at.block c.in-Ok.bytes.now c.in-Ok.ensures.bytes, inv.count, inv.work.count, ap (λ (s : DiskState). s.count) inv.reads.same)
 
-pub enter-requires-clause-whole : goal.enter-requires-clause-whole
-enter-requires-clause-whole g c =
-    let inv = c.loop-link.invariant in
-    omega (arith, ap length c.deref-in-Ok-Some.ensures.value, ap length (refilled c.read_leaf.new.into c.loop-link.bytes.items c.loop-link.bytes.len c.loop-link.bytes.ok.0 (c.read_leaf.auto.into ∙ ap length c.deref_mut.ensures.value)), (c.read_leaf.auto.into ∙ ap length c.deref_mut.ensures.value), inv.size, size_large _ c.block_size-size.ensures.view.block_size, c.block_size-size.ensures.value, c.requires.work.size)
+pub loop-at-smaller-in-Continue-branch-2 : goal.loop-at-smaller-in-Continue-branch-2
+loop-at-smaller-in-Continue-branch-2 g c = omega (arith, c.in_ok-enter-in-Ok.ensures.falls (2 ^ c.args.pointers.now.depth) (at_some c.in-Ok-Some.field-0 c.in-Ok-Some.at (λ (a : LeafAt). a.behind ≤ 2 ^ c.args.pointers.now.depth) c.in-Ok-Some.field-0-is c.in-Ok-Some.ensures.run))
 
-pub loop-link-preserved-in-Continue-branch-5 : goal.loop-link-preserved-in-Continue-branch-5
-loop-link-preserved-in-Continue-branch-5 g c =
-    let inv = c.loop-link.invariant in
-    let read = c.in_ok-read_leaf-in-Ok-Some.ensures in
-    let at = c.in_ok-at-in-Ok-Some in
-    let entered = c.in_ok-enter-in-Ok-Some.ensures in
+pub loop-at-preserved-in-Continue-branch-2 : goal.loop-at-preserved-in-Continue-branch-2
+loop-at-preserved-in-Continue-branch-2 g c =
+    let inv = c.loop-at.invariant in
+    let entered = c.in_ok-enter-in-Ok.ensures in
     record {
-      work = read.work;
-      grown = grown_on _ _ _ inv.grown read.grown;
+      work = inv.work;
+      grown = inv.grown;
       count = entered.count ∙ inv.count;
-      size = ap length (refilled c.read_leaf.new.into c.loop-link.bytes.items c.loop-link.bytes.len c.loop-link.bytes.ok.0 (c.read_leaf.auto.into ∙ ap length c.deref_mut.ensures.value)) ∙ (c.read_leaf.auto.into ∙ ap length c.deref_mut.ensures.value) ∙ inv.size;
-      within = omega (arith, entered.index, at.ensures.run);
+      within = omega (arith, entered.index, at_some c.in-Ok-Some.field-0 c.in-Ok-Some.at (λ (a : LeafAt). a.behind ≤ 2 ^ c.args.pointers.now.depth) c.in-Ok-Some.field-0-is c.in-Ok-Some.ensures.run);
       walked = λ tells of.
-          let im : Image = image_of (g.D.SharedDisk.state c.args.disk.now) in
+          let read = read_now _ _ _ inv.reads.same tells inv.work in
           let walk = inv.walked tells of in
-          let low : c.in-Ok-Some.link.number < im.count = omega (arith, c.in_ok-read_leaf-in-Ok-Some.ensures.inside, ap (λ (s : DiskState). s.count) inv.reads.same) in
-          let same = read_same (g.D.SharedDisk.state c.args.disk.now) _ c.in-Ok-Some.link.number c.read_leaf.new.into inv.reads.same tells c.in_ok-read_leaf-in-Ok-Some.ensures.bytes in
-          let full = sym (refilled c.read_leaf.new.into c.loop-link.bytes.items c.loop-link.bytes.len c.loop-link.bytes.ok.0 (c.read_leaf.auto.into ∙ ap length c.deref_mut.ensures.value)) in
-          let leaf = at.ensures.found im c.args.inode.now of (walked_at im c.args.inode.now c.args.pointers.now c.loop-link.walk of walk) (same ∙ full ∙ sym c.deref.ensures.value) low in
-          entered.walked im (next_leaf_in im c.args.inode.now c.args.pointers.now c.loop-link.walk at.at of walk leaf at.ensures.next) of.master.block (ap im.at at.ensures.block ∙ same ∙ full ∙ sym c.deref-in-Ok-Some.ensures.value);
-      searched = λ tells of known.
-          let im : Image = image_of (g.D.SharedDisk.state c.args.disk.now) in
-          let walk = inv.walked tells of in
-          read.searched im [] 0 0 (at_some c.in-Ok-Some.field-0 c.in-Ok-Some.link (λ (l : LeafLink). IsWanted im l.number l.by) c.in-Ok-Some.field-0-is (c.in-Ok-Some.ensures.wanted im (read_now _ _ _ inv.reads.same tells inv.work) of (walked_at im c.args.inode.now c.args.pointers.now c.loop-link.walk of walk))) (inv.searched tells of known);
-      reads = reads_on inv.reads read.reads;
+          let leaf = at_some c.in-Ok-Some.field-0 c.in-Ok-Some.at (IsLeafIn (image_of (g.D.SharedDisk.state c.args.disk.now)) c.args.inode.now.block) c.in-Ok-Some.field-0-is (c.in-Ok-Some.ensures.found (image_of (g.D.SharedDisk.state c.args.disk.now)) read of (walked_at (image_of (g.D.SharedDisk.state c.args.disk.now)) c.args.inode.now c.args.pointers.now c.loop-at.walk of walk)) in
+          entered.walked (image_of (g.D.SharedDisk.state c.args.disk.now)) (next_leaf_in (image_of (g.D.SharedDisk.state c.args.disk.now)) c.args.inode.now c.args.pointers.now c.loop-at.walk c.in-Ok-Some.at of walk leaf (at_some c.in-Ok-Some.field-0 c.in-Ok-Some.at (ComesNext c.loop-at.walk) c.in-Ok-Some.field-0-is c.in-Ok-Some.ensures.next)) of.master.block (read.same _ _ c.in-Ok.ensures.bytes);
+      searched = inv.searched;
+      reads = inv.reads;
     }
 
-pub returns-in_err-enter-in-Ok-Some-clause-refused : goal.returns-in_err-enter-in-Ok-Some-clause-refused
-returns-in_err-enter-in-Ok-Some-clause-refused g c tells of known =
-    let im : Image = image_of (g.D.SharedDisk.state c.args.disk.now) in
-    let inv = c.loop-link.invariant in
+pub returns-in_err-enter-in-Ok-clause-refused : goal.returns-in_err-enter-in-Ok-clause-refused
+returns-in_err-enter-in-Ok-clause-refused g c tells of known =
+    let inv = c.loop-at.invariant in
+    let read = read_now _ _ _ inv.reads.same tells inv.work in
     let walk = inv.walked tells of in
-    let at = c.in_ok-at-in-Ok-Some in
-    let low : c.in-Ok-Some.link.number < im.count = omega (arith, c.in_ok-read_leaf-in-Ok-Some.ensures.inside, ap (λ (s : DiskState). s.count) inv.reads.same) in
-    let same = read_same (g.D.SharedDisk.state c.args.disk.now) _ c.in-Ok-Some.link.number c.read_leaf.new.into inv.reads.same tells c.in_ok-read_leaf-in-Ok-Some.ensures.bytes in
-    let full = sym (refilled c.read_leaf.new.into c.loop-link.bytes.items c.loop-link.bytes.len c.loop-link.bytes.ok.0 (c.read_leaf.auto.into ∙ ap length c.deref_mut.ensures.value)) in
-    let leaf = at.ensures.found im c.args.inode.now of (walked_at im c.args.inode.now c.args.pointers.now c.loop-link.walk of walk) (same ∙ full ∙ sym c.deref.ensures.value) low in
-    refused im _ _ c.from_residual-in_err-enter-in-Ok-Some.ensures.1
-    (c.in_err-enter-in-Ok-Some.ensures.refused im (next_leaf_in im c.args.inode.now c.args.pointers.now c.loop-link.walk at.at of walk leaf at.ensures.next) of.master.block
-    (ap im.at at.ensures.block ∙ same ∙ full ∙ sym c.deref-in-Ok-Some.ensures.value))
+    let leaf = at_some c.in-Ok-Some.field-0 c.in-Ok-Some.at (IsLeafIn (image_of (g.D.SharedDisk.state c.args.disk.now)) c.args.inode.now.block) c.in-Ok-Some.field-0-is (c.in-Ok-Some.ensures.found (image_of (g.D.SharedDisk.state c.args.disk.now)) read of (walked_at (image_of (g.D.SharedDisk.state c.args.disk.now)) c.args.inode.now c.args.pointers.now c.loop-at.walk of walk)) in
+    refused (image_of (g.D.SharedDisk.state c.args.disk.now)) _ _ c.from_residual-in_err-enter-in-Ok.ensures.1
+    (c.in_err-enter-in-Ok.ensures.refused (image_of (g.D.SharedDisk.state c.args.disk.now)) (next_leaf_in (image_of (g.D.SharedDisk.state c.args.disk.now)) c.args.inode.now c.args.pointers.now c.loop-at.walk c.in-Ok-Some.at of walk leaf (at_some c.in-Ok-Some.field-0 c.in-Ok-Some.at (ComesNext c.loop-at.walk) c.in-Ok-Some.field-0-is c.in-Ok-Some.ensures.next)) of.master.block (read.same _ _ c.in-Ok.ensures.bytes))
 
-pub loop-link-preserved : goal.loop-link-preserved
-loop-link-preserved g c =
-    let inv = c.loop-link.invariant in
+pub returns-in_err-enter-in-Ok-clause-reads : goal.returns-in_err-enter-in-Ok-clause-reads
+returns-in_err-enter-in-Ok-clause-reads g c = c.loop-at.invariant.reads
+
+pub returns-in-Ok-None-clause-found : goal.returns-in-Ok-None-clause-found
+returns-in-Ok-None-clause-found g c tells of = walked_at (image_of (g.D.SharedDisk.state c.args.disk.now)) c.args.inode.now c.args.pointers.now c.loop-at.walk of (c.loop-at.invariant.walked tells of)
+
+pub loop-at-smaller : goal.loop-at-smaller
+loop-at-smaller g c = omega (arith, c.in_ok-go_on-in-Err.ensures.falls)
+
+pub loop-at-preserved : goal.loop-at-preserved
+loop-at-preserved g c =
+    let inv = c.loop-at.invariant in
     let next = c.in_ok-go_on-in-Err.ensures in
     record {
       work = next.work;
       grown = grown_on _ _ _ inv.grown next.grown;
       count = inv.count;
-      size = inv.size;
       within = inv.within;
       walked = inv.walked;
       searched = λ tells of known.
-          let im : Image = image_of (g.D.SharedDisk.state c.args.disk.now) in
-          next.searched im [] 0 0
-          (c.in-Err.ensures.stops im (read_now _ _ _ inv.reads.same tells inv.work) of (walked_at im c.args.inode.now c.args.pointers.now c.loop-link.walk of (inv.walked tells of)))
+          next.searched (image_of (g.D.SharedDisk.state c.args.disk.now)) [] 0 0
+          (c.in-Err.ensures.stops (image_of (g.D.SharedDisk.state c.args.disk.now)) (read_now _ _ _ inv.reads.same tells inv.work) of (walked_at (image_of (g.D.SharedDisk.state c.args.disk.now)) c.args.inode.now c.args.pointers.now c.loop-at.walk of (inv.walked tells of)))
           (inv.searched tells of known);
       reads = reads_on inv.reads next.reads;
     }
 
 pub returns-in_err-go_on-in-Err-clause-refused : goal.returns-in_err-go_on-in-Err-clause-refused
 returns-in_err-go_on-in-Err-clause-refused g c tells of known =
-    let im : Image = image_of (g.D.SharedDisk.state c.args.disk.now) in
-    let inv = c.loop-link.invariant in
-    refused im _ _ c.from_residual-in_err-go_on-in-Err.ensures.1
+    let inv = c.loop-at.invariant in
+    refused (image_of (g.D.SharedDisk.state c.args.disk.now)) _ _ c.from_residual-in_err-go_on-in-Err.ensures.1
     (go_refused _ _ _ _ _ [] 0 0 inv.reads.same c.in_err-go_on-in-Err.ensures.refused tells
-    (c.in-Err.ensures.stops im (read_now _ _ _ inv.reads.same tells inv.work) of (walked_at im c.args.inode.now c.args.pointers.now c.loop-link.walk of (inv.walked tells of)))
+    (c.in-Err.ensures.stops (image_of (g.D.SharedDisk.state c.args.disk.now)) (read_now _ _ _ inv.reads.same tells inv.work) of (walked_at (image_of (g.D.SharedDisk.state c.args.disk.now)) c.args.inode.now c.args.pointers.now c.loop-at.walk of (inv.walked tells of)))
     (inv.searched tells of known))

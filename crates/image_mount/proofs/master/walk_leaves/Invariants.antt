@@ -1,4 +1,4 @@
-use Rattle.std.proofs.Common.{◌≡◌, ◌≤◌, ◌+◌, ◌^◌, [], IsTrue, length, vec_len}
+use Rattle.std.proofs.Common.{◌≡◌, ◌≤◌, ◌+◌, ◌^◌, [], IsTrue, vec_len}
 use Rattle.image_model.specs.Claims.{master_of}
 use Rattle.image_model.specs.Image.{image_of}
 use Rattle.image_mount.specs.Leaves.{IsTableOf, IsWalked, steps_left}
@@ -8,17 +8,16 @@ use Rattle.image_mount.specs.Marked.{IsGrown}
 use Rattle.shared_disk.specs.Disk.{ReadsOnly}
 use Rattle.image_mount.proofs.master.walk_leaves.Given as goal
 
-abbrev pub invariant-loop-link : goal.invariant-loop-link
-invariant-loop-link g l = record {
+abbrev pub invariant-loop-at : goal.invariant-loop-at
+invariant-loop-at g l = record {
   work : IsWorking (g.D.SharedDisk.state l.disk) l.table;
   grown : IsGrown l.initial.table l.table;
   count : vec_len l.walk.owners.entries ≡ (g.D.SharedDisk.state l.initial.disk).count;
-  size : length l.bytes.items ≡ (g.D.SharedDisk.state l.initial.disk).size;
   within : l.walk.index ≤ 2 ^ l.pointers.depth;
   walked : IsTrue (g.D.SharedDisk.state l.initial.disk).tells → IsTableOf (image_of (g.D.SharedDisk.state l.initial.disk)) l.inode l.pointers → IsWalked (image_of (g.D.SharedDisk.state l.initial.disk)) (master_of (image_of (g.D.SharedDisk.state l.initial.disk))) l.walk;
   searched : IsTrue (g.D.SharedDisk.state l.initial.disk).tells → IsTableOf (image_of (g.D.SharedDisk.state l.initial.disk)) l.inode l.pointers → IsSearched (image_of (g.D.SharedDisk.state l.initial.disk)) [] 0 0 l.initial.table → IsSearched (image_of (g.D.SharedDisk.state l.initial.disk)) [] 0 0 l.table;
   reads : ReadsOnly (g.D.SharedDisk.state l.initial.disk) (g.D.SharedDisk.state l.disk) (g.D.SharedDisk.list l.initial.disk) (g.D.SharedDisk.list l.disk) (g.D.SharedDisk.faults l.initial.disk) (g.D.SharedDisk.faults l.disk);
 }
 
-abbrev pub decreases-loop-link : goal.decreases-loop-link
-decreases-loop-link g l = l.table.left + steps_left l.walk (2 ^ l.pointers.depth)
+abbrev pub decreases-loop-at : goal.decreases-loop-at
+decreases-loop-at g l = l.table.left + steps_left l.walk (2 ^ l.pointers.depth)

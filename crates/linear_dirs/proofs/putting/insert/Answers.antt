@@ -8,7 +8,7 @@ use Rattle.gfs2_layout.specs.declared.dirent.Dirent.{Dirent}
 use Rattle.glock_names.proofs.StepLaws.{answer_at}
 use Rattle.linear_dirs.specs.Shown.{record_for}
 use Rattle.linear_dirs.proofs.Counts.{too_many, same_more}
-use Rattle.linear_dirs.proofs.Exchanged.{still_linear, same_linear, has_inserted, slots_are, dinode_kept, entry_for, laid}
+use Rattle.linear_dirs.proofs.Exchanged.{still_linear, same_linear, has_inserted, slots_are, dinode_kept, entry_for}
 use Rattle.linear_dirs.proofs.putting.insert.Goals as goal
 
 pub returns-in_default-clause-damaged : goal.returns-in_default-clause-damaged
@@ -46,15 +46,6 @@ returns-clause-dinode g c h shown so =
     let put = c.in_ok-done.ensures.put area seen so in
     dinode_kept g.V.View.seen c.args.draft.now c.put_name.new.draft c.args.dir h c.in-Is.found.dinode area c.in-Some.counted put.0 shown is put.1.0 (same_more c.in-Is.found.dinode c.in-Some.counted c.links_of.result c.in-Some.ensures.some)
 
-pub returns-clause-laid : goal.returns-clause-laid
-returns-clause-laid g c h shown so =
-    let area = c.in-Is.found.area.now in
-    let is = answer_at _ _ _ c.in-Is.is (c.in_ok-found.ensures.read h shown) in
-    let seen = answer_at _ _ _ c.in-Is.is c.in_ok-found.ensures.seen in
-    let put = c.in_ok-done.ensures.put area seen so in
-    laid g.V.View.seen c.args.draft.now c.put_name.new.draft c.args.dir h c.in-Is.found.dinode area c.in-Some.counted put.0 shown is put.1.0 (same_more c.in-Is.found.dinode c.in-Some.counted c.links_of.result c.in-Some.ensures.some)
-    seen.bytes seen.there put.1.2
-
 pub returns-in_err-done-clause-linear : goal.returns-in_err-done-clause-linear
 returns-in_err-done-clause-linear g c = same_linear g.V.View.seen c.args.draft.now c.put_name.new.draft c.args.dir c.requires.linear c.in_err-done.ensures.err
 
@@ -69,8 +60,3 @@ returns-clause-linear g c = elim (cases_Bool c.in_ok-done.done) [
       still_linear g.V.View.seen c.args.draft.now c.put_name.new.draft c.args.dir c.in-Is.found.dinode c.in-Some.counted area put.0 c.requires.linear dinode seen
       (same_more c.in-Is.found.dinode c.in-Some.counted c.links_of.result c.in-Some.ensures.some) put.1.0
 ]
-
-pub returns-clause-one : goal.returns-clause-one
-returns-clause-one g c so =
-    let put = c.in_ok-done.ensures.put c.in-Is.found.area.now (answer_at _ _ _ c.in-Is.is c.in_ok-found.ensures.seen) so in
-    (put.0, put.1.0.put)

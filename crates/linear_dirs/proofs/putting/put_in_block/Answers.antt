@@ -3,7 +3,7 @@ use Rattle.std.specs.List.{list_any}
 use Rattle.gfs2_layout.specs.Area.{IsArea, slots_of}
 use Rattle.gfs2_layout.specs.Putting.{has_room, least_length, put_slot}
 use Rattle.gfs2_layout.specs.Structures.{dinode_length}
-use Rattle.linear_dirs.proofs.Looked.{pads_kept, rest_is, rest_put}
+use Rattle.linear_dirs.proofs.Looked.{rest_is, rest_put}
 use Rattle.linear_dirs.proofs.putting.put_in_block.Goals as goal
 
 pub put_record-requires-clause-area : goal.put_record-requires-clause-area
@@ -25,7 +25,3 @@ returns-clause-put c so =
 
 pub returns-clause-area : goal.returns-clause-area
 returns-clause-area c so = subst IsArea (sym (c.write.ensures.behind ∙ rest_put dinode_length c.args.bytes.now c.put_record.new.area c.requires.long)) c.put_record.ensures.area
-
-pub returns-clause-pads : goal.returns-clause-pads
-returns-clause-pads c so =
-    pads_kept c.args.dinode.now c.args.bytes.now c.put_record.new.area _ c.requires.long c.write.ensures.bytes c.write.ensures.read c.write.ensures.behind

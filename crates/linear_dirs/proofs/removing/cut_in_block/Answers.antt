@@ -2,7 +2,7 @@ use Rattle.std.proofs.Common.{List, ℕ, length, ap, sym, ◌∙◌, subst, arit
 use Rattle.gfs2_layout.specs.Area.{IsArea, IsRecordAt, slots_of}
 use Rattle.gfs2_layout.specs.Cutting.{slots_without}
 use Rattle.gfs2_layout.specs.Structures.{dinode_length}
-use Rattle.linear_dirs.proofs.Looked.{pads_kept, rest_is, rest_put}
+use Rattle.linear_dirs.proofs.Looked.{rest_is, rest_put}
 use Rattle.linear_dirs.proofs.removing.cut_in_block.Goals as goal
 
 pub cut_record-requires-clause-area : goal.cut_record-requires-clause-area
@@ -21,7 +21,3 @@ returns-clause-cut c =
 
 pub returns-clause-area : goal.returns-clause-area
 returns-clause-area c = subst IsArea (sym (c.write.ensures.behind ∙ rest_put dinode_length c.args.bytes.now c.cut_record.new.area c.requires.long)) c.cut_record.ensures.area
-
-pub returns-clause-pads : goal.returns-clause-pads
-returns-clause-pads c =
-    pads_kept c.args.dinode.now c.args.bytes.now c.cut_record.new.area _ c.requires.long c.write.ensures.bytes c.write.ensures.read c.write.ensures.behind

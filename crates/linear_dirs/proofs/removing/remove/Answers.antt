@@ -7,7 +7,7 @@ use Rattle.linear_dirs.specs.Exchanges.{HasExchanged}
 use Rattle.drafts.specs.Fates.{seen_in}
 use Rattle.linear_dirs.specs.Shown.{holding_over}
 use Rattle.linear_dirs.proofs.Counts.{too_few}
-use Rattle.linear_dirs.proofs.Exchanged.{still_linear, same_linear, has_removed, cut_from, dinode_kept, laid, one_named}
+use Rattle.linear_dirs.proofs.Exchanged.{still_linear, same_linear, has_removed, cut_from, dinode_kept, one_named}
 use Rattle.linear_dirs.proofs.removing.remove.Goals as goal
 
 pub returns-in_default-with_fewer-clause-damaged : goal.returns-in_default-with_fewer-clause-damaged
@@ -52,14 +52,6 @@ returns-clause-dinode g c h shown =
     let cut = c.in_ok-cut_name.ensures.cut area seen in
     dinode_kept g.V.View.seen c.args.draft.now c.cut_name.new.draft c.args.dir h c.in-Is.found.dinode area c.in-Some-with_fewer.dinode cut.0 shown is cut.1.0 c.in-Some-with_fewer.ensures.some.others
 
-pub returns-clause-laid : goal.returns-clause-laid
-returns-clause-laid g c h shown =
-    let area = c.in-Is.found.area.now in
-    let is = answer_at _ _ _ c.in-Is.is (c.in_ok-found.ensures.read h shown) in
-    let seen = answer_at _ _ _ c.in-Is.is c.in_ok-found.ensures.seen in
-    let cut = c.in_ok-cut_name.ensures.cut area seen in
-    laid g.V.View.seen c.args.draft.now c.cut_name.new.draft c.args.dir h c.in-Is.found.dinode area c.in-Some-with_fewer.dinode cut.0 shown is cut.1.0 c.in-Some-with_fewer.ensures.some.others seen.bytes seen.there cut.1.2
-
 pub returns-in_err-cut_name-clause-linear : goal.returns-in_err-cut_name-clause-linear
 returns-in_err-cut_name-clause-linear g c = same_linear g.V.View.seen c.args.draft.now c.cut_name.new.draft c.args.dir c.requires.linear c.in_err-cut_name.ensures.err
 
@@ -70,8 +62,3 @@ returns-clause-linear g c =
     let dinode = answer_at _ _ _ c.in-Is.is c.in_ok-found.ensures.dinode in
     let cut = c.in_ok-cut_name.ensures.cut area seen in
     still_linear g.V.View.seen c.args.draft.now c.cut_name.new.draft c.args.dir c.in-Is.found.dinode c.in-Some-with_fewer.dinode area cut.0 c.requires.linear dinode seen c.in-Some-with_fewer.ensures.some.others cut.1.0
-
-pub returns-clause-one : goal.returns-clause-one
-returns-clause-one g c =
-    let cut = c.in_ok-cut_name.ensures.cut c.in-Is.found.area.now (answer_at _ _ _ c.in-Is.is c.in_ok-found.ensures.seen) in
-    (cut.0, cut.1.0.put)

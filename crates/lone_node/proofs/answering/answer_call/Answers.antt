@@ -45,13 +45,12 @@ returns-in-Err-clause-taken g c =
 
 pub returns-in-Err-clause-failed : goal.returns-in-Err-clause-failed
 returns-in-Err-clause-failed g c =
-    let first = moment (g.D.SharedDisk.state c.args.disk.now) (g.D.SharedDisk.list c.args.disk.now) in
-    let now = moment (g.D.SharedDisk.state c.loop-found.disk) (g.D.SharedDisk.list c.loop-found.disk) in
-    let after = moment (g.D.SharedDisk.state c.try_once.new.disk) (g.D.SharedDisk.list c.try_once.new.disk) in
+    let d = g.D.SharedDisk.state c.args.disk.now in
+    let after = g.D.SharedDisk.state c.try_once.new.disk in
     let so = c.loop-found.invariant in
     let time = c.args.stamp.now.time in
-    failed_so c.in-Err.end (IsFailedFor now after c.loop-found.view time c.args.call.now) (IsFailedAt first after c.args.view.now time c.args.call.now)
-    (λ block is. record { view = c.loop-found.view; later = record { same = so.system; on = so.on }; failed = subst (λ m. IsFailedFor m after c.loop-found.view time c.args.call.now block) (λ i. moment (so.same i) (so.list i)) is })
+    failed_so c.in-Err.end (IsFailedFor (g.D.SharedDisk.state c.loop-found.disk) after c.loop-found.view time c.args.call.now) (IsFailedAt d after c.args.view.now time c.args.call.now)
+    (λ block is. record { view = c.loop-found.view; later = record { same = so.system; on = so.on }; failed = subst (λ e. IsFailedFor e after c.loop-found.view time c.args.call.now block) so.same is })
     c.in-Err.ensures.failed
 
 pub returns-in-Ok-Some-clause-answered : goal.returns-in-Ok-Some-clause-answered

@@ -18,8 +18,9 @@ use Rattle.lone_node.specs.Answering.{IsDamagedFor, IsFailedFor, in_a_read, in_a
 use Rattle.lone_node.specs.Course.{done, moment, spaceless}
 use Rattle.lone_node.specs.Ends.{IfDamaged, end_at}
 use Rattle.lone_node.specs.Standing.{IsOn, StandsFor, lacked_count}
+use Rattle.lone_node.specs.Writing.{IsWriteOf, MayBeWritten}
 use Rattle.lone_node.proofs.Answered.{answered, answered_full, fetched_on, fewer, is_done, makes_takes, of_disk, of_view, on_again, shown_damage, writes_none}
-use Rattle.lone_node.proofs.Endings.{damaged_so, failed_so}
+use Rattle.lone_node.proofs.Endings.{damaged_so, failed_and, failed_so}
 use Rattle.lone_node.proofs.answering.try_once.Goals as goal
 
 pub carry_out-requires-clause-of_disk : goal.carry_out-requires-clause-of_disk
@@ -141,22 +142,20 @@ returns-in-Err-fetch-clause-failed g c =
     let v = seen_alone c.args.view.now in
     let m = c.in-Ok-NeedBlock.missing in
     let needed = subst (λ a. IfNeedBlock (Ok a) (IsNeededFor v c.args.call.now)) c.in-Ok-NeedBlock.field-0-is c.in-Ok-NeedBlock.ensures.needed in
-    let first = moment d (g.D.SharedDisk.list c.args.disk.now) in
-    let after = moment (g.D.SharedDisk.state c.fetch.new.disk) (g.D.SharedDisk.list c.fetch.new.disk) in
-    failed_so c.in-Err-fetch.end _ (IsFailedFor first after c.args.view.now c.args.stamp.now.time c.args.call.now)
-    (λ block is. subst (IsFailedFor first after c.args.view.now c.args.stamp.now.time c.args.call.now) (sym is)
-    (in_a_read m needed (λ i. moment (c.in-Err-fetch.ensures.reads.same i) (c.in-Err-fetch.ensures.reads.list i))))
+    let after = g.D.SharedDisk.state c.fetch.new.disk in
+    failed_so c.in-Err-fetch.end _ (IsFailedFor d after c.args.view.now c.args.stamp.now.time c.args.call.now)
+    (λ block is. subst (IsFailedFor d after c.args.view.now c.args.stamp.now.time c.args.call.now) (sym is) (in_a_read m needed c.in-Err-fetch.ensures.reads.same))
     c.in-Err-fetch.ensures.failed
 
 pub returns-in-Err-carry_out-clause-failed : goal.returns-in-Err-carry_out-clause-failed
 returns-in-Err-carry_out-clause-failed g c =
-    let first = moment (g.D.SharedDisk.state c.args.disk.now) (g.D.SharedDisk.list c.args.disk.now) in
-    let after = moment (g.D.SharedDisk.state c.carry_out.new.disk) (g.D.SharedDisk.list c.carry_out.new.disk) in
+    let d = g.D.SharedDisk.state c.args.disk.now in
+    let after = g.D.SharedDisk.state c.carry_out.new.disk in
     let change = c.in-Ok-Done.change in
-    failed_so c.in-Err-carry_out.end _ (IsFailedFor first after c.args.view.now c.args.stamp.now.time c.args.call.now)
+    failed_so c.in-Err-carry_out.end _ (IsFailedFor d after c.args.view.now c.args.stamp.now.time c.args.call.now)
     (λ block is. in_a_write block c.in-Ok-Done.reply change (is_done c.args.view.now c.args.stamp.now.node c.args.stamp.now.time c.args.call.now c.in-Ok-Done.field-0 c.in-Ok-Done.reply c.in-Ok-Done.change c.in-Ok-Done.field-0-is c.requires.node
-    c.in-Ok-Done.ensures.done c.in-Ok-Done.ensures.inside c.in-Ok-Done.ensures.under c.in-Ok-Done.ensures.spaceless c.in-Ok-Done.ensures.answered c.in-Ok-Done.ensures.made) is)
-    c.in-Err-carry_out.ensures.stopped
+    c.in-Ok-Done.ensures.done c.in-Ok-Done.ensures.inside c.in-Ok-Done.ensures.under c.in-Ok-Done.ensures.spaceless c.in-Ok-Done.ensures.answered c.in-Ok-Done.ensures.made) is.0 is.1)
+    (failed_and c.in-Err-carry_out.end (IsWriteOf change.blocks.items) (λ block. MayBeWritten 1 d after change.blocks.items) c.in-Err-carry_out.ensures.failed c.in-Err-carry_out.ensures.left)
 
 pub returns-in-Ok-NotBuilt-clause-taken : goal.returns-in-Ok-NotBuilt-clause-taken
 returns-in-Ok-NotBuilt-clause-taken g c =

@@ -125,9 +125,6 @@ module _ (g : Over) (c : goal.In-Err g) where
   abbrev next : DiskState
   next = g.D.SharedDisk.state c.take_call.new.disk
 
-  abbrev after_of : Moment
-  after_of = moment next (g.D.SharedDisk.list c.take_call.new.disk)
-
   -- it left the disk as it was
   abbrev IsStill : Type 0
   IsStill = (next ≡ now) × (g.D.SharedDisk.list c.take_call.new.disk ≡ g.D.SharedDisk.list c.loop-place.disk)
@@ -186,15 +183,15 @@ returns-in-Err-clause-taken g c =
 pub returns-in-Err-clause-failed : goal.returns-in-Err-clause-failed
 returns-in-Err-clause-failed g c =
     let time = c.args.stamp.now.time in
-    failed_so c.in-Err.end (IsFailedAt (before_of g c) (after_of g c) c.loop-place.view time c.in-Call.call) _
-    (λ block is. at_call g c (λ call. IsFailedOn (first_of g c) (after_of g c) c.args.view.now time c.args.clients.now c.take_call.new.items.items call block) (record {
+    failed_so c.in-Err.end (IsFailedAt (now g c) (next g c) c.loop-place.view time c.in-Call.call) _
+    (λ block is. at_call g c (λ call. IsFailedOn (first_of g c) (next g c) c.args.view.now time c.args.clients.now c.take_call.new.items.items call block) (record {
       before = before_of g c;
       same = c.loop-place.invariant.same;
       idle = c.loop-place.invariant.idle;
       course = course_before g c;
-      kept = λ nothing i. moment ((nothing_before g c nothing).0 i) ((nothing_before g c nothing).1 i);
+      kept = λ nothing. (nothing_before g c nothing).0;
       stood = stood g c;
-      failed = failed_before (before_of g c) (after_of g c) c.args.view.now c.loop-place.view time c.in-Call.call block c.loop-place.invariant.system is;
+      failed = failed_before (now g c) (next g c) c.args.view.now c.loop-place.view time c.in-Call.call block c.loop-place.invariant.system is;
     }))
     c.in-Err.ensures.failed
 

@@ -1,12 +1,12 @@
-use Rattle.std.proofs.Common.{◌≡◌, ◌≤◌, ◌++◌, List, [], length, refl, rules, sym, ap, ◌∙◌, subst, subst₂, arith}
-use Rattle.std.proofs.lemmas.List.{append_assoc, append-nil, take-append-drop}
+use Rattle.std.proofs.Common.{◌≡◌, ◌≤◌, ◌++◌, List, [], length, refl, rules, sym, ap, ◌∙◌, subst, arith}
+use Rattle.std.proofs.lemmas.List.{append_assoc, take-append-drop}
 use Rattle.drafts.specs.declared.change.Written.{Written}
-use Rattle.lone_node.specs.Course.{AreBrought, HasStopped, HasStoppedIn, IsTurn, behind_turn, in_turn, moment, none, turn, turn_of}
-use Rattle.lone_node.specs.Writing.{AreOfDisk, RiseFrom}
+use Rattle.lone_node.specs.Course.{none, turn, turn_of}
+use Rattle.lone_node.specs.Writing.{AreOfDisk, IsWriteOf, MayBeWritten, RiseFrom}
 use Rattle.lone_node.proofs.Endings.{failed_so}
 use Rattle.lone_node.proofs.Gaining.{gains_join, gains_none}
+use Rattle.lone_node.proofs.Partly.{front_none, has_some, may_be, of_part}
 use Rattle.lone_node.proofs.Rising.{front}
-use Rattle.lone_node.proofs.Stopping.{front_none, has_some, next_turn, nothing}
 use Rattle.lone_node.proofs.Flying.{of_front, of_back, written_more}
 use Rattle.lone_node.proofs.writing.write_all.Given.{Over}
 use Rattle.lone_node.proofs.writing.write_all.Goals as goal
@@ -25,10 +25,9 @@ loop-rest-init g c = record {
   split = refl;
   written = record { size = refl; count = refl; tells = refl; fenced = refl; idle = c.requires.idle.none_in_flight; blocks_are = λ tells b. refl };
   operations = [];
-  brought = λ more are. are;
+  brought = none;
   gains = gains_none (g.D.SharedDisk.list c.args.disk.now);
   none = λ is. (refl, refl);
-  stopped = λ after block is. is;
   later = λ i. omega arith;
 }
 
@@ -45,36 +44,32 @@ loop-rest-preserved g c =
       written = written_more d (g.D.SharedDisk.state c.loop-rest.disk) (g.D.SharedDisk.state c.write_some.new.disk) so.done c.split_at.result.0.now
           (front 0 (so.done ++ c.split_at.result.0.now) c.split_at.result.1.now (subst (RiseFrom 0) whole c.requires.of_disk.rise)) so.written c.in-Ok.ensures.written;
       operations = so.operations ++ turn_of c.split_at.result.0.now;
-      brought = λ more are.
-          let next : AreBrought c.loop-rest.rest.now (turn_of c.split_at.result.0.now ++ more)
-          = subst (λ (r : List Written). AreBrought r (turn_of c.split_at.result.0.now ++ more)) (sym parts) (turn c.split_at.result.0.now c.split_at.result.1.now more (subst₂ IsTurn (sym c.split_at.ensures.front) (sym c.split_at.ensures.back) (next_turn c.loop-rest.rest.now c.min.result (search rules) c.min.ensures)) are) in
-          subst (AreBrought c.args.blocks.now) (sym (append_assoc so.operations (turn_of c.split_at.result.0.now) more)) (so.brought (turn_of c.split_at.result.0.now ++ more) next);
+      brought = turn so.done c.split_at.result.0.now so.operations so.brought some (search rules);
       gains = gains_join (g.D.SharedDisk.list c.args.disk.now) (g.D.SharedDisk.list c.loop-rest.disk) (g.D.SharedDisk.list c.write_some.new.disk) so.operations _ so.gains c.in-Ok.ensures.gains;
       none = λ is. absurd (has_some so.done c.split_at.result.0.now some is);
-      stopped = λ after block is. so.stopped after block (subst (λ (r : List Written). HasStopped (moment (g.D.SharedDisk.state c.loop-rest.disk) (g.D.SharedDisk.list c.loop-rest.disk)) after r block) (sym parts)
-          (behind_turn (moment (g.D.SharedDisk.state c.loop-rest.disk) (g.D.SharedDisk.list c.loop-rest.disk)) (moment (g.D.SharedDisk.state c.write_some.new.disk) (g.D.SharedDisk.list c.write_some.new.disk)) after c.split_at.result.0.now c.split_at.result.1.now block (subst₂ IsTurn (sym c.split_at.ensures.front) (sym c.split_at.ensures.back) (next_turn c.loop-rest.rest.now c.min.result (search rules) c.min.ensures))
-          (record { written = c.in-Ok.ensures.written; gains = c.in-Ok.ensures.gains }) is));
       later = λ i. let before = so.later i in let more = c.in-Ok.ensures.later i in omega (arith, before, more);
     }
 
-pub returns-in-Err-clause-stopped : goal.returns-in-Err-clause-stopped
-returns-in-Err-clause-stopped g c =
-    let so = c.loop-rest.invariant in
-    let now = moment (g.D.SharedDisk.state c.loop-rest.disk) (g.D.SharedDisk.list c.loop-rest.disk) in
-    let next = moment (g.D.SharedDisk.state c.write_some.new.disk) (g.D.SharedDisk.list c.write_some.new.disk) in
+-- the blocks that are written are a part of all
+whole_is : (g : Over) (c : goal.In-Err g) → c.args.blocks.now ≡ c.loop-rest.invariant.done ++ (c.split_at.result.0.now ++ c.split_at.result.1.now)
+whole_is g c =
     let parts : c.loop-rest.rest.now ≡ c.split_at.result.0.now ++ c.split_at.result.1.now = sym (take-append-drop _ c.loop-rest.rest.now) ∙ (λ i. sym c.split_at.ensures.front i ++ sym c.split_at.ensures.back i) in
-    failed_so c.in-Err.end (HasStoppedIn now next c.split_at.result.0.now) _
-    (λ block is. so.stopped next block (subst (λ (r : List Written). HasStopped now next r block) (sym parts) (in_turn now next c.split_at.result.0.now c.split_at.result.1.now block (subst₂ IsTurn (sym c.split_at.ensures.front) (sym c.split_at.ensures.back) (next_turn c.loop-rest.rest.now c.min.result (search rules) c.min.ensures)) is)))
-    c.in-Err.ensures.stopped
+    c.loop-rest.invariant.split ∙ ap (λ (r : List Written). c.loop-rest.invariant.done ++ r) parts
+
+pub returns-in-Err-clause-left : goal.returns-in-Err-clause-left
+returns-in-Err-clause-left g c =
+    let d = g.D.SharedDisk.state c.args.disk.now in
+    let next = g.D.SharedDisk.state c.write_some.new.disk in
+    let so = c.loop-rest.invariant in
+    subst (MayBeWritten 1 d next) (sym (whole_is g c))
+    (may_be d (g.D.SharedDisk.state c.loop-rest.disk) next so.done c.split_at.result.0.now c.split_at.result.1.now (subst (RiseFrom 0) (whole_is g c) c.requires.of_disk.rise) so.written c.in-Err.ensures.left)
+
+pub returns-in-Err-clause-failed : goal.returns-in-Err-clause-failed
+returns-in-Err-clause-failed g c =
+    let so = c.loop-rest.invariant in
+    failed_so c.in-Err.end (IsWriteOf c.split_at.result.0.now) (IsWriteOf c.args.blocks.now)
+    (λ block is. subst (λ (ws : List Written). IsWriteOf ws block) (sym (whole_is g c)) (of_part so.done c.split_at.result.0.now c.split_at.result.1.now block is))
+    c.in-Err.ensures.failed
 
 pub returns-clause-none : goal.returns-clause-none
 returns-clause-none g c empty = c.loop-rest.invariant.none (front_none c.loop-rest.invariant.done c.loop-rest.rest.now (sym c.loop-rest.invariant.split ∙ empty))
-
-pub returns-clause-brought : goal.returns-clause-brought
-returns-clause-brought g c =
-    let so = c.loop-rest.invariant in
-    let empty : c.loop-rest.rest.now ≡ [] = nothing c.loop-rest.rest.now (search rules) in (
-      so.operations,
-      subst (AreBrought c.args.blocks.now) (append-nil so.operations) (so.brought [] (subst (λ (r : List Written). AreBrought r []) (sym empty) none)),
-      so.gains,
-    )

@@ -1,7 +1,7 @@
-use Rattle.std.proofs.Common.{ℕ, ◌≡◌, ◌≤◌, ◌++◌, List, [], length, Option}
+use Rattle.std.proofs.Common.{ℕ, ◌≡◌, ◌≤◌, ◌++◌, List, [], length}
 use Rattle.drafts.specs.declared.change.Written.{Written}
 use Rattle.shared_disk.specs.Disk.{Gains, Operation}
-use Rattle.lone_node.specs.Course.{AreBrought, HasStopped, Moment, moment}
+use Rattle.lone_node.specs.Course.{AreBrought}
 use Rattle.lone_node.specs.Writing.{AreWritten}
 use Rattle.lone_node.proofs.writing.write_all.Given as goal
 
@@ -11,11 +11,9 @@ invariant-loop-rest g l = record {
   split : l.blocks ≡ done ++ l.rest;
   written : AreWritten (g.D.SharedDisk.state l.initial.disk) (g.D.SharedDisk.state l.disk) done;
   operations : List Operation;
-  brought : (more : List Operation) → AreBrought l.rest more → AreBrought l.blocks (operations ++ more);
+  brought : AreBrought done operations;
   gains : Gains (g.D.SharedDisk.list l.initial.disk) (g.D.SharedDisk.list l.disk) operations;
   none : done ≡ [] → (g.D.SharedDisk.state l.disk ≡ g.D.SharedDisk.state l.initial.disk) × (g.D.SharedDisk.list l.disk ≡ g.D.SharedDisk.list l.initial.disk);
-  stopped : (after : Moment) (block : Option ℕ) → HasStopped (moment (g.D.SharedDisk.state l.disk) (g.D.SharedDisk.list l.disk)) after l.rest block
-      → HasStopped (moment (g.D.SharedDisk.state l.initial.disk) (g.D.SharedDisk.list l.initial.disk)) after l.blocks block;
   later : (i : ℕ) → g.D.SharedDisk.faults l.initial.disk i ≤ g.D.SharedDisk.faults l.disk i;
 }
 

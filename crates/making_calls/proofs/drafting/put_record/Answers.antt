@@ -38,7 +38,7 @@ pub returns-clause-put : goal.returns-clause-put
 returns-clause-put g c done =
     let one = answer_at _ _ _ c.in-Is.is c.in_ok-touch.ensures.one in
     let two = answer_at _ _ _ c.in-Is-2.is c.in_ok-done.ensures.one done in
-    recorded g.V.View.seen c.args.draft.now c.touch.new.draft c.args.dir c.args.time one.0 one.1 (λ x there. answer_at _ _ _ c.in-Is.is (c.in_ok-touch.ensures.touched x there)) c.requires.there c.requires.linear c.requires.stuffed c.insert.new.draft c.args.name.now two.0 c.args.entry two.1 (λ h shown. answer_at _ _ _ c.in-Is-2.is (c.in_ok-done.ensures.put h shown) done) (λ h shown. answer_at _ _ _ c.in-Is-2.is (c.in_ok-done.ensures.slots h shown) done) (λ h shown. answer_at _ _ _ c.in-Is-2.is (c.in_ok-done.ensures.dinode h shown) done) (λ h shown. answer_at _ _ _ c.in-Is-2.is (c.in_ok-done.ensures.laid h shown) done) c.is_a_view.ensures
+    recorded g.V.View.seen c.args.draft.now c.touch.new.draft c.args.dir c.args.time one.0 one.1 (λ x there. answer_at _ _ _ c.in-Is.is (c.in_ok-touch.ensures.touched x there)) c.requires.there c.requires.linear c.requires.stuffed c.insert.new.draft c.args.name.now two.0 c.args.entry two.1 (λ h shown. answer_at _ _ _ c.in-Is-2.is (c.in_ok-done.ensures.put h shown) done) (λ h shown. answer_at _ _ _ c.in-Is-2.is (c.in_ok-done.ensures.slots h shown) done) (λ h shown. answer_at _ _ _ c.in-Is-2.is (c.in_ok-done.ensures.dinode h shown) done)
 
 pub returns-clause-full : goal.returns-clause-full
 returns-clause-full g c h shown =

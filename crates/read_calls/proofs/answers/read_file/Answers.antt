@@ -1,19 +1,19 @@
-use Rattle.std.proofs.Common.{length, sym, ap, ◌∙◌}
+use Rattle.std.proofs.Common.{sym, ◌∙◌}
 use Rattle.glock_names.proofs.StepLaws.{answer_at, needed_at}
+use Rattle.dinode_tree.proofs.Sound.{sound_is_whole}
 use Rattle.path_walks.specs.Walks.{IsWrong, in_inode}
 use Rattle.read_calls.proofs.Answering.{file_so}
 use Rattle.read_calls.proofs.answers.read_file.Goals as goal
 use Rattle.path_walks.proofs.Faults.{told_on, tells_so}
 
 pub returns-in-Is-clause-read : goal.returns-in-Is-clause-read
-returns-in-Is-clause-read g c h shown = (
+returns-in-Is-clause-read g c h shown block sound = (
   file_so h c.args.place.now.dinode (c.requires.dinode h shown) (sym c.is_directory.ensures ∙ c.if-is_directory.false),
-  ap length c.new.ensures ∙ answer_at _ _ _ c.in-Is.is (c.in_ok-bytes.ensures.length h shown),
-  λ whole. c.new.ensures ∙ answer_at _ _ _ c.in-Is.is (c.in_ok-bytes.ensures.found h shown whole),
+  c.new.ensures ∙ answer_at _ _ _ c.in-Is.is (c.in_ok-bytes.ensures.found h shown (sound_is_whole h c.args.at block sound)),
 )
 
 pub returns-in-NeedBlock-clause-read : goal.returns-in-NeedBlock-clause-read
-returns-in-NeedBlock-clause-read g c h shown = (
+returns-in-NeedBlock-clause-read g c h shown block sound = (
   file_so h c.args.place.now.dinode (c.requires.dinode h shown) (sym c.is_directory.ensures ∙ c.if-is_directory.false),
   needed_at _ _ _ c.in-NeedBlock.is (c.in_ok-bytes.ensures.needed h shown),
 )

@@ -3,7 +3,7 @@ use Rattle.call_locks.specs.Wants.{wanted}
 use Rattle.call_locks.specs.WantLaws.{path_of}
 use Rattle.image_model.specs.Owners.{holding}
 use Rattle.path_walks.specs.Walks.{IsTold, IsWalked, IsWrong, AreInOrder}
-use Rattle.path_walks.proofs.Images.{is_shown}
+use Rattle.path_walks.proofs.Images.{is_shown, is_sound}
 use Rattle.read_calls.proofs.Answering.{wrong_all}
 use Rattle.read_calls.proofs.Lists.{taken_in, wants_are, in_order, as_many}
 use Rattle.read_calls.specs.Reading.{not_found, not_dir}
@@ -27,7 +27,8 @@ returns-in-At-clause-found g c im o l t of =
     (c.in_ok-place.ensures.walked im o l t of) in
     let at = subst (IsWalked v im o l t (path_of c.args.call.now false) (wanted c.args.call.now)) c.in-At.is walked in
     ok_so _ _ (answer_found v im o l t of c.args.call.now c.in-At.place.inode at.0.at at.1 at.2) c.answer_at.result
-    (c.answer_at.ensures.read (holding im o c.in-At.place.inode) (is_shown v im o l t of (path_of c.args.call.now false) c.in-At.place.inode at.0.at))
+    (c.answer_at.ensures.read (holding im o c.in-At.place.inode) (is_shown v im o l t of (path_of c.args.call.now false) c.in-At.place.inode at.0.at) of.stands.laid.image.block_size
+    (is_sound v im o l t of (path_of c.args.call.now false) c.in-At.place.inode at.0.at))
 
 pub returns-in-At-clause-sound : goal.returns-in-At-clause-sound
 returns-in-At-clause-sound g c im o l t of =

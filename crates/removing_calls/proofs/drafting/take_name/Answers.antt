@@ -1,7 +1,7 @@
 use Rattle.std.proofs.Common.{sym, ap, ◌∙◌, subst}
 use Rattle.gfs2_layout.specs.declared.dinode.Dinode.{Dinode}
 use Rattle.glock_names.proofs.StepLaws.{answer_at}
-use Rattle.glock_names.specs.Views.{HasBlock, IsOfView, IsView}
+use Rattle.glock_names.specs.Views.{HasBlock, IsOfView}
 use Rattle.dinode_tree.specs.Broken as inode
 use Rattle.dinode_tree.specs.Shown.{IsShown}
 use Rattle.linear_dirs.specs.Broken.{IsBroken, of_inode, not_stuffed}
@@ -67,5 +67,4 @@ returns-clause-taken g c =
     (λ h shown. ap (λ (d : Dinode). d.height)
     (sym (answer_at _ _ _ c.in-Is.is (c.in_ok-dinode.ensures.found h (subst (λ w. IsShown w c.args.dir h) (sym (seen_old g.V.View.seen c.args.draft.now c.requires.new)) shown)))) ∙ c.if-dinode-ne0.false)
     c.remove.new.draft c.args.name.now two.0 two.1 (λ h r shown named. answer_at _ _ _ c.in-Is-3.is (c.in_ok-remove.ensures.removed h r shown named)) (λ h shown. answer_at _ _ _ c.in-Is-3.is (c.in_ok-remove.ensures.dinode h shown))
-    (λ h shown. answer_at _ _ _ c.in-Is-3.is (c.in_ok-remove.ensures.slots h shown)) (λ h shown. answer_at _ _ _ c.in-Is-3.is (c.in_ok-remove.ensures.laid h shown))
-    (subst IsView (seen_old g.V.View.seen c.args.draft.now c.requires.new) c.is_a_view.ensures) c.requires.named
+    (λ h shown. answer_at _ _ _ c.in-Is-3.is (c.in_ok-remove.ensures.slots h shown))

@@ -6,8 +6,6 @@ invariant-loop-block l = record {
   len : length l.entries.items ≡ l._block;
   free : count_by is_none l.entries.items ≡ l._block;
   count : length l.places.items ≡ l._block;
-  leaf_count : length l.leaves.items ≡ l._block;
-  none_leaf : All (λ leaf. leaf ≡ false) l.leaves.items;
   unmarked : All (λ place. place ≡ false) l.places.items;
   none : All (λ kept. kept ≡ None) l.entries.items;
 }
