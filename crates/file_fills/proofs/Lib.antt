@@ -5,3 +5,4 @@ pub mod Ways
 pub mod Further
 pub mod Stepped
 pub mod Pieces
+pub mod Touching

@@ -1,5 +1,5 @@
 // Bytes that are written into a file in blocks.
-ghost use Rattle.std.specs.Prelude.{ℕ, List, ◌≡◌, ◌≢◌, ◌⊎◌, ◌+◌, ◌-◌, ◌*◌, ◌/◌, ◌%◌, ◌<◌, ◌≤◌, true, None, length, take, drop, ◌∷◌, IfOk, OnOk, IfSome, IfNone, IsSomeAnd};
+ghost use Rattle.std.specs.Prelude.{ℕ, List, ◌≡◌, ◌≢◌, ◌⊎◌, ◌+◌, ◌-◌, ◌*◌, ◌/◌, ◌%◌, ◌<◌, ◌≤◌, true, None, length, take, drop, ◌∷◌, IfOk, OnOk, IfSome, IfNone, IsSomeAnd, Contains};
 ghost use Rattle.drafts.specs.Fates.{seen_in};
 ghost use Rattle.file_tree.specs.Apply.{file_limit, overwritten};
 ghost use Rattle.gfs2_layout.specs.Holding.{Holding};
@@ -11,7 +11,8 @@ ghost use Rattle.dinode_tree.specs.Reading.{IsNeeded};
 ghost use Rattle.dinode_tree.specs.Shown.{IsShown};
 ghost use Rattle.growth_laws.specs.Files.{IsFile};
 ghost use Rattle.growth_drafts.specs.Taken.{HasBytes};
-ghost use Rattle.file_walks.specs.Walks.{IsPlace, IsStop, LeadsOn};
+ghost use Rattle.growth_drafts.specs.Touched.{Follows, IsReached};
+ghost use Rattle.file_walks.specs.Walks.{IsOfInode, IsPlace, IsStop, LeadsOn};
 ghost use Rattle.file_fills.specs.Filling.{HasFilled, IsRoomFor, IsSeenWay};
 ghost use Rattle.file_fills.specs.Progress.{HasBlockAt, HasCome};
 
@@ -48,6 +49,7 @@ pub fn way_to<V: View>(view: &V, inode: u64, index: u64) -> Option<Stop>
     ensures fits { IfSome result (λ stop. stop.pointer.start + 8 * stop.pointer.index + 8 ≤ (V.seen view.now).size) }
     ensures block { IfSome result (λ stop. stop.block ≢ 0 → HasBlock (V.seen view.now) stop.block) }
     ensures leads { (h : Holding) → IsShown (V.seen view.now) inode h → IfSome result (LeadsOn h 0 index) }
+    ensures from { (h : Holding) → IsShown (V.seen view.now) inode h → IfSome result (λ stop. IsOfInode h stop.pointer.from) }
 {
     match find_place(view, inode, 0, index) {
         Ok(Step::Is(Some(stop))) => seen_stop(view, stop),
@@ -69,6 +71,8 @@ fn fill_one<V: View>(
     requires fits { stop.pointer.start + 8 * stop.pointer.index + 8 ≤ (V.seen draft.old.view).size }
     ensures filled { (h : Holding) (at end i : ℕ) (left : List ℕ) → IsShown (seen_in V.seen draft.old) inode h → IsRoomFor h at end (block ∷ left) → HasBytes h.size at end i → IsStop h 0 i stop → stop.block ≡ 0
         → OnOk result (HasCome (seen_in V.seen draft.new) draft.old.fates draft.new.fates (block ∷ left) left h at end (content_of h)) }
+    ensures within { (room : List ℕ) → IsReached (seen_in V.seen draft.old) inode room stop.pointer.from → Contains room block
+        → OnOk result (Follows (V.seen draft.old.view) inode room draft.old.fates draft.new.fates) }
     ensures view { draft.new.view ≡ draft.old.view }
 {
     fill_hole(alloc, draft, inode, stop.pointer, stop.level, block)
@@ -86,6 +90,9 @@ fn make_way<V: View>(
     ensures made { (h : Holding) (at end : ℕ) → IsShown (seen_in V.seen draft.old) inode h → IsRoomFor h at end room.old.items → HasBytes h.size at end index → IsSeenWay (seen_in V.seen draft.old) h index
         → IfOk result (λ made. IsSomeAnd made (λ block. HasBlockAt (seen_in V.seen draft.new) draft.old.fates draft.new.fates room.old.items room.new.items h at end index block (content_of h))) }
     ensures there { IfOk result (λ made. IfSome made (λ block. HasBlock (seen_in V.seen draft.new) block)) }
+    ensures within { IfOk result (λ made. Follows (V.seen draft.old.view) inode room.old.items draft.old.fates draft.new.fates) }
+    ensures reached { IfOk result (λ made. IfSome made (IsReached (seen_in V.seen draft.new) inode room.old.items)) }
+    ensures room { (b : ℕ) → Contains room.new.items b → Contains room.old.items b }
     ensures view { draft.new.view ≡ draft.old.view }
 {
     while let Some(stop) = way_to(&*draft, inode, index) {
@@ -114,6 +121,8 @@ fn write_piece<V: View>(
     ensures written { (h : Holding) (from end : ℕ) → IsShown (seen_in V.seen draft.old) inode h → IsRoomFor h from end room.old.items → from ≤ at → at + length piece.now ≤ end
         → IsSeenWay (seen_in V.seen draft.old) h (at / h.size)
         → IfOk result (λ done. (done ≡ true) × ((block : ℕ) × HasBlockAt (seen_in V.seen draft.new) draft.old.fates draft.new.fates room.old.items room.new.items h from end (at / h.size) block (overwritten at piece.now (content_of h)))) }
+    ensures within { IfOk result (λ done. Follows (V.seen draft.old.view) inode room.old.items draft.old.fates draft.new.fates) }
+    ensures room { (b : ℕ) → Contains room.new.items b → Contains room.old.items b }
     ensures view { draft.new.view ≡ draft.old.view }
 {
     let size = u64::from(draft.block_size());
@@ -139,6 +148,8 @@ pub fn write_pieces<V: View>(
     ensures written { (h : Holding) → IsShown (seen_in V.seen draft.old) inode h → IsRoomFor h at (at + length bytes.now) room.old.items
         → ((i : ℕ) → HasBytes h.size at (at + length bytes.now) i → IsSeenWay (seen_in V.seen draft.old) h i)
         → IfOk result (λ done. (done ≡ true) × HasFilled (seen_in V.seen draft.new) draft.old.fates draft.new.fates room.old.items room.new.items h at bytes.now) }
+    ensures within { IfOk result (λ done. Follows (V.seen draft.old.view) inode room.old.items draft.old.fates draft.new.fates) }
+    ensures room { (b : ℕ) → Contains room.new.items b → Contains room.old.items b }
     ensures view { draft.new.view ≡ draft.old.view }
 {
     let size = draft.block_size() as usize;
@@ -171,6 +182,7 @@ pub fn fill<V: View>(
     requires short { at + length bytes.now ≤ file_limit }
     ensures filled { (h : Holding) → IsShown (seen_in V.seen draft.old) inode h → IsRoomFor h at (at + length bytes.now) room.old.items
         → IfIs result (λ done. (done ≡ true) × HasFilled (seen_in V.seen draft.new) draft.old.fates draft.new.fates room.old.items room.new.items h at bytes.now) }
+    ensures within { IfIs result (λ done. Follows (V.seen draft.old.view) inode room.old.items draft.old.fates draft.new.fates) }
     ensures view { draft.new.view ≡ draft.old.view }
     ensures there { IfIs result (λ done. HasBlock (seen_in V.seen draft.old) inode) }
     ensures needed { (h : Holding) → IsShown (seen_in V.seen draft.old) inode h → IfNeedBlock result (IsNeeded (seen_in V.seen draft.old) h (HasBytes h.size at (at + length bytes.now)) 0) }

@@ -7,5 +7,6 @@ mod needing;
 mod numbers;
 
 pub use filling::{fill, way_to, write_pieces};
+pub use looking::look_at;
 pub use needing::{goes_along, need_write};
 pub use numbers::{has_room, height_for};

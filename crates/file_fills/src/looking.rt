@@ -38,8 +38,9 @@ pub(crate) fn lacks<V: View>(view: &V, block: u64) -> bool
     block != 0 && view.block(block).is_none()
 }
 
-/// Looks whether the view has the blocks on the way to the block of content with an index, and that block, where they are there.
-pub(crate) fn look_at<V: View>(
+/// Looks whether the view has the blocks on the way to the block of content with an index, and that block, where they are there; `regular`
+/// says whether the inode is a regular file. It costs a look at each of them, and no memory.
+pub fn look_at<V: View>(
     view: &V,
     inode: u64,
     regular: bool,

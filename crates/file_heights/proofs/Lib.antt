@@ -1,3 +1,4 @@
 pub mod Joining
 pub mod Rising
 pub mod Clearing
+pub mod Sized

@@ -1,12 +1,14 @@
 -- A file whose height rises by a step, or without a block.
-use Rattle.std.proofs.Common.{◌≡◌, ◌≢◌, ◌⊎◌, inl, inr, true, false, Option, None, ℕ, zero, suc, ◌+◌, ◌-◌, ◌<◌, ◌≤◌, List, [], ◌∷◌, refl, sym, ap, subst, ◌∙◌, arith}
-use Rattle.std.proofs.lemmas.Bool.{cases_eq, cond-true, eq-eqb, ne_eqb}
+use Rattle.std.proofs.Common.{◌≡◌, ◌≢◌, ◌⊎◌, inl, inr, true, false, Option, None, ℕ, zero, suc, ◌+◌, ◌-◌, ◌*◌, ◌/◌, max, ◌<◌, ◌≤◌, List, [], ◌∷◌, refl, sym, ap, subst, ◌∙◌, arith}
+use Rattle.std.proofs.lemmas.Bool.{cases_eq, cases_lt, cond-true, eq-eqb, ne_eqb}
+use Rattle.std.proofs.Math.Nat.{lt-mul-div-succ, mul-le-mul_right}
 use Rattle.std.specs.Prelude.{Contains, IsSome, is_some, ◌↔◌, not, ◌==◌}
 use Rattle.std.specs.FinMap.{FinMap}
 use Rattle.std.specs.Ordering.{nat_cmp}
 use Rattle.drafts.specs.declared.fate.Fate.{Fate}
+use Rattle.file_tree.specs.Apply.{file_limit}
 use Rattle.gfs2_layout.specs.Holding.{Cell, Holding, part_at}
-use Rattle.gfs2_layout.specs.Inode.{block_count, content_of, dinode_in, fan, height_in, pointer}
+use Rattle.gfs2_layout.specs.Inode.{block_count, content_count, content_of, dinode_in, fan, height_in, pieces, pointer, span}
 use Rattle.gfs2_layout.specs.Structures.{dinode_length}
 use Rattle.gfs2_layout.specs.declared.dinode.Dinode.{Dinode}
 use Rattle.glock_names.specs.Views.{Seen}
@@ -16,10 +18,11 @@ use Rattle.growth_laws.specs.Files.{IsFile, IsPlaced, with_cells}
 use Rattle.growth_laws.specs.Need.{capacity, has_content, height_for, needed_below, raised_to}
 use Rattle.growth_laws.specs.Steps.{IsBareTo, IsRaised, IsUnstuffed, moved, moved_from}
 use Rattle.growth_laws.proofs.Bare.{bare_files_change_height}
+use Rattle.growth_laws.proofs.Contents.{whole_unit}
 use Rattle.growth_laws.proofs.Counting.{count_same}
 use Rattle.growth_laws.proofs.Ends.{bare_files_are_clear, moved_content_is_clear, rises_stay_clear}
 use Rattle.growth_laws.proofs.Fills.{some_by_part}
-use Rattle.growth_laws.proofs.Heights.{bare_files_have_no_block, capacity_reaches, heights_reach}
+use Rattle.growth_laws.proofs.Heights.{bare_files_have_no_block, capacity_reaches, heights_reach, raised_enough}
 use Rattle.growth_laws.proofs.Places.{size_large}
 use Rattle.growth_laws.proofs.Raises.{raises_keep_files, some_same, unmoved}
 use Rattle.growth_laws.proofs.Rising.{has_some, raises_lower_need, unstuffing_lowers_need}
@@ -234,6 +237,29 @@ can_rise h level high low has = record { high = high; low = omega (arith, low); 
 pub height_is : (h : Holding) (d : Dinode) (size block height : ℕ) → block ≡ h.size → d ≡ dinode_in h → height ≡ raised_to block d.height size (10 - d.height) → height ≡ height_for h size
 height_is h d size block height block_is d_is is = is ∙ (λ t. raised_to (block_is t) (d_is t).height size (10 - (d_is t).height))
 
+-- it reaches the size, also of a file that is larger than one may get
+pub reach_of : (h : Holding) (size : ℕ) → IsFile h → (dinode_in h).size ≤ size → size ≤ max (dinode_in h).size file_limit → (height_in h ≤ height_for h size) × (height_for h size ≤ 10) × (size ≤ capacity h.size (height_for h size))
+reach_of h size file least short = elim (cases_lt file_limit size) [
+  | inr low ↦ heights_reach h size file low
+  | inl large ↦
+      let same : size ≡ (dinode_in h).size = omega (arith, large, least, short) in
+      let room : size ≤ capacity h.size (height_in h) = subst (λ n. n ≤ capacity h.size (height_in h)) (sym same) (room_at (height_in h) refl) in
+      let stays : height_for h size ≡ height_in h = raised_enough h.size (height_in h) size (10 - height_in h) room in
+      (omega (arith, stays), omega (arith, stays, file.fits.low), subst (λ n. size ≤ capacity h.size n) (sym stays) room)
+]
+  where
+    some : 0 < h.size
+    some = omega (arith, size_large h.size file.block_size)
+
+    room_at : (n : ℕ) → height_in h ≡ n → (dinode_in h).size ≤ capacity h.size n
+    room_at zero is = omega (arith, file.fits.stuffed is)
+    room_at (suc level) is =
+        let under = file.fits.under level is in
+        let count : content_count h ≡ ((dinode_in h).size + h.size - 1) / h.size = ap (pieces (dinode_in h).size) (whole_unit h file.regular) in
+        let until : (dinode_in h).size + h.size - 1 < h.size * (((dinode_in h).size + h.size - 1) / h.size + 1) = lt-mul-div-succ ((dinode_in h).size + h.size - 1) some in
+        let more : content_count h * h.size ≤ fan h.size dinode_length * span h.size level * h.size = mul-le-mul_right h.size under in
+        omega (arith, until, some, more, ap (λ n. n * h.size) count)
+
 -- a file without content to go along can be so high
 pub can_be_bare : (h : Holding) (size height : ℕ) (room : List ℕ) → CanGrow h size room → height ≡ height_for h size → has_content h ≡ false → CanBeBare h height
 can_be_bare h size height room can is none = record {
@@ -246,7 +272,7 @@ can_be_bare h size height room can is none = record {
 }
   where
     reach : (height_in h ≤ height_for h size) × (height_for h size ≤ 10) × (size ≤ capacity h.size (height_for h size))
-    reach = heights_reach h size can.file can.short
+    reach = reach_of h size can.file can.least can.short
 
     empty : height_in h ≡ 0 → (dinode_in h).size ≡ 0
     empty stuffed = elim (cases_eq (dinode_in h).size 0) [

@@ -1,5 +1,5 @@
 -- A file that grows in a draft: what stays of it, what it gets, and how high it becomes.
-use Rattle.std.specs.Prelude.{ℕ, ◌≡◌, ◌≢◌, ◌↔◌, ◌+◌, ◌≤◌, IsSome, true, List, [], ◌++◌, length, Option}
+use Rattle.std.specs.Prelude.{ℕ, ◌≡◌, ◌≢◌, ◌↔◌, ◌+◌, ◌≤◌, max, IsSome, true, List, [], ◌++◌, length, Option}
 use Rattle.std.specs.FinMap.{FinMap}
 use Rattle.std.specs.Ordering.{nat_cmp}
 use Rattle.drafts.specs.declared.fate.Fate.{Fate}
@@ -48,7 +48,7 @@ pub record HasRisen (after : Seen) (old new : FinMap nat_cmp Fate) (room left : 
 pub record CanGrow (h : Holding) (size : ℕ) (room : List ℕ) : Type 0 where
   pub file : IsFile h
   pub least : (dinode_in h).size ≤ size
-  pub short : size ≤ file_limit
+  pub short : size ≤ max (dinode_in h).size file_limit
   pub free : AreFreeFor h room
   pub enough : has_content h ≡ true → height_for h size ≤ height_in h + length room
 

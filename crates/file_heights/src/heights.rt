@@ -1,5 +1,5 @@
 // A file that gets as high as its size takes.
-ghost use Rattle.std.specs.Prelude.{ℕ, List, ◌≡◌, ◌≢◌, ◌+◌, ◌-◌, ◌<◌, ◌≤◌, ◌∷◌, true, length, IfOk, OnOk, IsSomeAnd};
+ghost use Rattle.std.specs.Prelude.{ℕ, List, ◌≡◌, ◌≢◌, ◌+◌, ◌-◌, ◌<◌, ◌≤◌, ◌∷◌, true, length, IfOk, OnOk, IsSomeAnd, Contains};
 ghost use Rattle.drafts.specs.Fates.{seen_in};
 ghost use Rattle.gfs2_layout.specs.Holding.{Holding};
 ghost use Rattle.gfs2_layout.specs.Inode.{dinode_in, height_in};
@@ -66,6 +66,7 @@ fn raise_to<V: View>(
     ensures view { draft.new.view ≡ draft.old.view }
     ensures still { OnOk result (HasBlock (seen_in V.seen draft.new) inode) }
     ensures within { OnOk result (Follows (V.seen draft.old.view) inode room.old.items draft.old.fates draft.new.fates) }
+    ensures room { (b : ℕ) → Contains room.new.items b → Contains room.old.items b }
 {
     let mut high = *dinode;
     while high.height < height {
@@ -110,6 +111,7 @@ pub fn grow<V: View>(
     ensures view { draft.new.view ≡ draft.old.view }
     ensures still { OnOk result (HasBlock (seen_in V.seen draft.new) inode) }
     ensures within { OnOk result (Follows (V.seen draft.old.view) inode room.old.items draft.old.fates draft.new.fates) }
+    ensures room { (b : ℕ) → Contains room.new.items b → Contains room.old.items b }
 {
     let height = height_for(draft.block_size() as usize, dinode.height, size);
     if height == dinode.height {

@@ -1,8 +1,10 @@
-//! A file that gets higher, and the end of one in blocks.
+//! A file that gets higher, and the size and the end of one in blocks.
 #![tactic(auto)]
 
 mod ends;
 mod heights;
+mod sizes;
 
 pub use ends::clear_last;
 pub use heights::grow;
+pub use sizes::set_size_and_count;

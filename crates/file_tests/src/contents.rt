@@ -11,7 +11,7 @@ static NO_GROUPS: [Group; 0] = [];
 
 // The blocks that are there.
 #[derive(Drop)]
-struct Shelf {
+pub(crate) struct Shelf {
     blocks: BTreeMap<u64, Vec<u8>>,
 }
 
@@ -54,7 +54,7 @@ impl View for Shelf {
 }
 
 // Bytes at a place of a block.
-type Part = (u64, usize, &'static [u8]);
+pub(crate) type Part = (u64, usize, &'static [u8]);
 
 // A file of five bytes behind its dinode.
 const SHORT: [Part; 7] = [
@@ -159,7 +159,7 @@ fn lay(shelf: &mut Shelf, alloc: Global, part: Part) -> Result<(), AllocError> {
 }
 
 // All the files, with some parts laid over them.
-fn shelf_with(alloc: Global, later: &[Part]) -> Result<Shelf, AllocError> {
+pub(crate) fn shelf_with(alloc: Global, later: &[Part]) -> Result<Shelf, AllocError> {
     let mut shelf = Shelf {
         blocks: BTreeMap::new(alloc),
     };
@@ -228,7 +228,7 @@ const READS: [(u64, u64, u32, &[u8]); 15] = [
 ];
 
 // Whether these bytes were answered.
-fn gives(answer: Result<Step<Vec<u8>>, CallFault>, want: &[u8]) -> bool {
+pub(crate) fn gives(answer: Result<Step<Vec<u8>>, CallFault>, want: &[u8]) -> bool {
     match answer {
         Ok(Step::Is(bytes)) => bytes.as_slice() == want,
         _ => false,

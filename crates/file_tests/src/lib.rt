@@ -6,4 +6,6 @@ mod contents;
 #[cfg(test)]
 mod groups;
 #[cfg(test)]
+mod growing;
+#[cfg(test)]
 mod wanted;

@@ -1,5 +1,5 @@
 // Indirect blocks that lead nowhere.
-ghost use Rattle.std.specs.Prelude.{ℕ, ◌≡◌, ◌↔◌, ◌+◌, ◌*◌, ◌<◌, ◌≤◌, IsTrue, length};
+ghost use Rattle.std.specs.Prelude.{ℕ, ◌≡◌, ◌↔◌, ◌+◌, ◌*◌, ◌<◌, ◌≤◌, IsTrue, None, length};
 ghost use Rattle.gfs2_layout.specs.Bytes.{u64_at};
 ghost use Rattle.gfs2_layout.specs.Holding.{Holding};
 ghost use Rattle.gfs2_layout.specs.Inode.{Leads, fan as fan_of, header_length, span};
@@ -35,6 +35,7 @@ pub fn leads_nowhere<V: View>(view: &V, inode: u64, stop: &Stop) -> Result<Step<
     ensures found { (h : Holding) (first : ℕ) → IsShown (V.seen view.now) inode h → Leads h stop.now.pointer.from stop.now.pointer.index stop.now.level first stop.now.block
         → IfIs result (λ nowhere. IsTrue nowhere ↔ LeadsNowhere h stop.now.block) }
     ensures there { IfIs result (λ nowhere. HasBlock (V.seen view.now) stop.now.block) }
+    ensures absent { IfNeedBlock result (λ missing. (V.seen view.now).block_at stop.now.block ≡ None) }
     ensures needed { (h : Holding) (first : ℕ) → IsShown (V.seen view.now) inode h → Leads h stop.now.pointer.from stop.now.pointer.index stop.now.level first stop.now.block
         → IfNeedBlock result (IsNeeded (V.seen view.now) h (λ i. (first ≤ i) × (i < first + span h.size stop.now.level)) stop.now.level) }
     ensures damaged { (h : Holding) (first : ℕ) → IsShown (V.seen view.now) inode h → Leads h stop.now.pointer.from stop.now.pointer.index stop.now.level first stop.now.block

@@ -6,5 +6,5 @@ mod numbers;
 mod walks;
 
 pub use clear::leads_nowhere;
-pub use numbers::{number_at, span};
+pub use numbers::{begins_before, number_at, place_over, span};
 pub use walks::{Stop, count_blocks, find_place};

@@ -42,8 +42,8 @@ pub fn span(size: usize, level: u16) -> Option<u64>
     Some(span)
 }
 
-/// The place so many levels above place `index` of a level.
-pub(crate) fn place_over(size: usize, up: u16, index: u64) -> u64
+/// The place so many levels above place `index` of a level, in a tree of blocks of so many bytes.
+pub fn place_over(size: usize, up: u16, index: u64) -> u64
     requires { 512 ≤ size }
     ensures { result ≡ index / span_of size up }
 {
@@ -53,8 +53,8 @@ pub(crate) fn place_over(size: usize, up: u16, index: u64) -> u64
     }
 }
 
-/// Whether the content below a place of a level begins before block `count` of the content.
-pub(crate) fn begins_before(size: usize, level: u16, place: u64, count: u64) -> bool
+/// Whether the content below a place of a level begins before block `count` of the content, in a tree of blocks of so many bytes.
+pub fn begins_before(size: usize, level: u16, place: u64, count: u64) -> bool
     requires { 512 ≤ size }
     ensures { IsTrue result ↔ (place * span_of size level < count) }
 {

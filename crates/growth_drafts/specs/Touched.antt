@@ -13,8 +13,8 @@ use Rattle.dinode_tree.specs.Shown.{IsShown}
 abbrev pub IsReached : Seen → ℕ → List ℕ → ℕ → Type 0
 IsReached v inode room b = (b ≡ inode) ⊎ Contains room b ⊎ ((h : Holding) → IsShown v inode h → IsBelow h b)
 
--- From what became of blocks before to what becomes of them now, block by block: each time of a block that the draft, as it was then, tells
--- of the inode, or of one of the room.
+-- From what became of blocks before to what becomes of them now, block by block: each time of a block that the draft, as it was then or
+-- before, tells of the inode, or of one of the room.
 pub data Follows (v : Seen) (inode : ℕ) (room : List ℕ) : FinMap nat_cmp Fate → FinMap nat_cmp Fate → Type 0 where
   as_it_was : (fates : FinMap nat_cmp Fate) → Follows v inode room fates fates
-  one_more : (old new : FinMap nat_cmp Fate) (b : ℕ) (fate : Fate) → Follows v inode room old new → IsReached (seen_with v new) inode room b → Follows v inode room old (insert new b fate)
+  one_more : (old between new : FinMap nat_cmp Fate) (b : ℕ) (fate : Fate) → Follows v inode room old between → Follows v inode room between new → IsReached (seen_with v between) inode room b → Follows v inode room old (insert new b fate)

@@ -127,6 +127,7 @@ pub fn free_block<V: View>(
     requires fits { pointer.start + 8 * pointer.index + 8 ≤ (V.seen draft.old.view).size }
     ensures put { (bytes : List ℕ) → (seen_in V.seen draft.old).block_at pointer.from ≡ Some bytes
         → OnOk result (draft.new ≡ record draft.old { fates = insert (insert draft.old.fates pointer.from (Put (inode_lock inode) false (with_pointer pointer.start pointer.index 0 bytes))) block Freed }) }
+    ensures view { draft.new.view ≡ draft.old.view }
     ensures freed { (h : Holding) (level first : ℕ) → IsFile h → IsShown (seen_in V.seen draft.old) inode h → start_in h pointer.from ≡ pointer.start
         → part_at h block ≡ Some (Pointed pointer.from pointer.index level first) → block < h.count
         → ((below j : ℕ) → level ≡ below + 1 → j < fan h.size header_length → pointer_at h header_length block j ≡ 0)

@@ -1,17 +1,22 @@
-use Rattle.std.proofs.Common.{◌≡◌, [], ◌∷◌, ◌<◌, length, refl, sym, subst, ◌∙◌, arith}
+use Rattle.std.proofs.Common.{◌≡◌, [], ◌∷◌, ◌<◌, length, Contains, refl, sym, subst, ◌∙◌, arith}
 use Rattle.drafts.specs.Fates.{seen_in}
 use Rattle.gfs2_layout.specs.Inode.{content_of}
 use Rattle.dinode_tree.specs.Shown.{IsShown}
 use Rattle.growth_laws.specs.Files.{with_cells}
+use Rattle.growth_drafts.specs.Touched.{Follows, as_it_was}
+use Rattle.growth_drafts.proofs.Following.{follows_then}
 use Rattle.file_fills.specs.Filling.{IsRoomFor}
 use Rattle.file_fills.specs.Progress.{HasCome}
 use Rattle.file_fills.proofs.Further.{further_none}
 use Rattle.file_fills.proofs.Stepped.{come_then, content_at_stop, place_of_bytes, ready_after, room_left}
+use Rattle.file_fills.proofs.Touching.{behind, reached_block, reached_from}
 use Rattle.file_fills.proofs.filling.make_way.Goals as goal
 
 pub loop-stop-init : goal.loop-stop-init
 loop-stop-init g c = record {
   view = refl;
+  left = λ b has. has;
+  within = as_it_was c.args.draft.now.fates;
   come = λ h at end shown r has way. record {
     cell = h.cell;
     taken = [];
@@ -42,6 +47,13 @@ returns-in_default-pop_front-clause-made g c h at end shown r has way =
 pub loop-stop-preserved : goal.loop-stop-preserved
 loop-stop-preserved g c = record {
   view = c.in_ok-fill_one.ensures.view ∙ c.loop-stop.invariant.view;
+  left = λ b has. c.loop-stop.invariant.left b (subst (λ xs. Contains xs b) (sym c.in-Some-pop_front.ensures.items) (behind c.in-Some-pop_front.block c.pop_front.new.self.items b has));
+  within =
+      let items : c.loop-stop.room.items ≡ c.in-Some-pop_front.block ∷ c.pop_front.new.self.items = c.in-Some-pop_front.ensures.items in
+      let first : Contains c.loop-stop.room.items c.in-Some-pop_front.block = subst (λ xs. Contains xs c.in-Some-pop_front.block) (sym items) (0, omega arith, refl) in
+      follows_then (g.V.View.seen c.args.draft.now.view) c.args.inode c.args.room.now.items _ _ _ c.loop-stop.invariant.within
+      (subst (λ v. Follows (g.V.View.seen v) c.args.inode c.args.room.now.items c.loop-stop.draft.fates c.fill_one.new.draft.fates) c.loop-stop.invariant.view
+      (c.in_ok-fill_one.ensures.within c.args.room.now.items (reached_from (seen_in g.V.View.seen c.loop-stop.draft) c.args.inode c.args.room.now.items c.in-Some.stop.pointer.from c.in-Some.ensures.from) (c.loop-stop.invariant.left c.in-Some-pop_front.block first)));
   come = λ h at end shown r has way.
       let come = c.loop-stop.invariant.come h at end shown r has way in
       let ready = ready_after g.V.View.seen c.args.draft.now c.loop-stop.draft c.args.inode c.args.room.now.items c.loop-stop.room.items h at end (content_of h) c.loop-stop.invariant.view shown r come in
@@ -61,3 +73,7 @@ returns-clause-made g c h at end shown r has way =
     let ready = ready_after g.V.View.seen c.args.draft.now c.loop-stop.draft c.args.inode c.args.room.now.items c.loop-stop.room.items h at end (content_of h) c.loop-stop.invariant.view shown r come in
     let place = place_of_bytes (with_cells h come.cell) at end c.args.index ready.0.file ready.0.in_blocks ready.0.within has in
     c.in_default.ensures.found (with_cells h come.cell) ready.0.file ready.1 place (ready.2 c.args.index way)
+
+pub returns-then-stop-ne0-clause-reached : goal.returns-then-stop-ne0-clause-reached
+returns-then-stop-ne0-clause-reached g c =
+    reached_block (seen_in g.V.View.seen c.loop-stop.draft) c.args.inode c.args.room.now.items c.args.index c.in-Some.stop c.if-stop-ne0.true c.in-Some.ensures.leads

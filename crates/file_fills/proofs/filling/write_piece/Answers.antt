@@ -1,13 +1,15 @@
 use Rattle.std.proofs.Common.{◌≡◌, ◌+◌, ◌*◌, ◌/◌, ◌%◌, ◌<◌, length, refl, sym, ap, subst, ◌∙◌, arith, IfSome}
 use Rattle.std.proofs.lemmas.Nat.{div-add-mod'}
 use Rattle.std.specs.Prelude.{IsSomeAnd}
-use Rattle.drafts.specs.Fates.{Drafted, seen_in}
+use Rattle.drafts.specs.Fates.{Drafted, seen_in, seen_with}
 use Rattle.file_tree.specs.Apply.{overwritten}
 use Rattle.gfs2_layout.specs.Inode.{content_of}
 use Rattle.glock_names.specs.Views.{HasBlock}
 use Rattle.growth_laws.specs.Files.{with_cells}
 use Rattle.growth_laws.proofs.Places.{size_large}
 use Rattle.growth_drafts.specs.Taken.{HasBytes}
+use Rattle.growth_drafts.specs.Touched.{IsReached}
+use Rattle.growth_drafts.proofs.Following.{follows_draft, follows_one, follows_then}
 use Rattle.file_fills.specs.Filling.{IsSeenWay}
 use Rattle.file_fills.specs.Progress.{HasBlockAt}
 use Rattle.file_fills.proofs.Pieces.{block_then, bytes_at_place, put_one}
@@ -18,6 +20,15 @@ pub returns-clause-view : goal.returns-clause-view
 returns-clause-view g c =
     let there = subst (λ made. IfSome made (λ block. HasBlock (seen_in g.V.View.seen c.make_way.new.draft) block)) c.in-Some.is c.in_ok-block.ensures.there in
     ap (λ (d : Drafted _). d.view) (c.in_ok-put_content.ensures.put there.0 there.1) ∙ c.in_ok-block.ensures.view
+
+pub returns-clause-within : goal.returns-clause-within
+returns-clause-within g c =
+    let there = subst (λ made. IfSome made (λ block. HasBlock (seen_in g.V.View.seen c.make_way.new.draft) block)) c.in-Some.is c.in_ok-block.ensures.there in
+    let reached = subst (λ made. IfSome made (IsReached (seen_in g.V.View.seen c.make_way.new.draft) c.args.inode c.args.room.now.items)) c.in-Some.is c.in_ok-block.ensures.reached in
+    follows_then (g.V.View.seen c.args.draft.now.view) c.args.inode c.args.room.now.items _ _ _ c.in_ok-block.ensures.within
+    (follows_draft (g.V.View.seen c.args.draft.now.view) c.args.inode c.args.room.now.items c.make_way.new.draft c.put_content.new.draft _ (c.in_ok-put_content.ensures.put there.0 there.1)
+    (follows_one (g.V.View.seen c.args.draft.now.view) c.args.inode c.args.room.now.items c.make_way.new.draft.fates c.in-Some.block _
+    (subst (λ v. IsReached (seen_with (g.V.View.seen v) c.make_way.new.draft.fates) c.args.inode c.args.room.now.items c.in-Some.block) c.in_ok-block.ensures.view reached)))
 
 pub returns-clause-written : goal.returns-clause-written
 returns-clause-written g c h from end shown r low high way =

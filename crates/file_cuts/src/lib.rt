@@ -1,0 +1,9 @@
+//! Files that are cut: the blocks past the new end are freed.
+#![tactic(auto)]
+
+mod cutting;
+mod freeing;
+mod looking;
+mod places;
+
+pub use cutting::cut;

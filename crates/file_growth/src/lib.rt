@@ -1,0 +1,7 @@
+//! Bytes that are written to a file, however high it has to get for them.
+#![tactic(auto)]
+
+mod stretching;
+mod writing;
+
+pub use writing::write_range;

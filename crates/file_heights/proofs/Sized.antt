@@ -1,0 +1,99 @@
+-- A file in blocks with another size and another count of blocks.
+use Rattle.std.proofs.Common.{◌≡◌, ◌↔◌, inl, inr, Option, ℕ, ◌+◌, ◌*◌, List, [], refl, sym, ap, subst, ◌∙◌, arith}
+use Rattle.std.specs.Prelude.{is_some}
+use Rattle.std.specs.FinMap.{FinMap}
+use Rattle.std.specs.Ordering.{nat_cmp}
+use Rattle.drafts.specs.declared.fate.Fate.{Fate}
+use Rattle.file_tree.specs.Apply.{resized}
+use Rattle.gfs2_layout.specs.Holding.{Cell, Holding, part_at, bytes_at}
+use Rattle.gfs2_layout.specs.Inode.{block_count, content_of, dinode_in, height_in}
+use Rattle.gfs2_layout.specs.Structures.{dinode_length}
+use Rattle.gfs2_layout.specs.declared.dinode.Dinode.{Dinode}
+use Rattle.glock_names.specs.Views.{Seen}
+use Rattle.dinode_tree.specs.Shown.{IsShown}
+use Rattle.growth_laws.specs.Files.{IsFile, with_cells}
+use Rattle.growth_laws.specs.Growing.{IsTold}
+use Rattle.growth_laws.specs.Need.{needed_below}
+use Rattle.growth_laws.specs.Steps.{IsSized}
+use Rattle.growth_laws.proofs.Counting.{count_same}
+use Rattle.growth_laws.proofs.Fills.{some_by_part}
+use Rattle.growth_laws.proofs.Numbers.{numbers_behind_are_the_same}
+use Rattle.growth_laws.proofs.Sizes.{sizes_resize}
+use Rattle.growth_laws.proofs.Staying.{need_stays, pointers_tell, sizes_keep_need}
+use Rattle.growth_laws.proofs.Told.{counts_are_told}
+use Rattle.growth_drafts.specs.Taken.{HasTaken}
+use Rattle.growth_drafts.proofs.Rooms.{none_in}
+use Rattle.growth_steps.specs.Becoming.{Becomes}
+use Rattle.file_heights.specs.Grown.{IsGrown}
+use Rattle.file_heights.specs.Sized.{HasSize}
+use Rattle.file_heights.proofs.Joining.{grown_as, grown_then}
+
+module _ (h : Holding) (cell : ℕ → Option Cell) (parts : (x : ℕ) → part_at (with_cells h cell) x ≡ part_at h x) where
+  some_same : (x : ℕ) → is_some (cell x) ≡ is_some (h.cell x)
+  some_same x = some_by_part (h.cell x) (cell x) (parts x)
+
+  pub counts_same : block_count (with_cells h cell) ≡ block_count h
+  unfolding block_count
+  counts_same = count_same (λ x. is_some (h.cell x)) (λ x. is_some (cell x)) 0 h.count (λ x low high. some_same x)
+
+  pub no_more : HasTaken h (with_cells h cell) [] × (block_count (with_cells h cell) ≡ block_count h + 0)
+  no_more = (
+    record { count = refl; blocks = λ x. (λ there. inl (sym (some_same x) ∙ there), λ either. elim either [ inl had ↦ some_same x ∙ had | inr taken ↦ absurd (none_in x taken) ]) },
+    counts_same ∙ (let one : block_count h ≡ block_count h + 0 = omega arith in one),
+  )
+
+module _ (f0 f1 f2 : FinMap nat_cmp Fate) (mid after : Seen) (inode : ℕ) (h : Holding) (c1 c2 : ℕ → Option Cell) (size blocks : ℕ) (file : IsFile h) (sized : IsSized h c1 size) (one : Becomes mid f0 f1 inode h (with_cells h c1))
+    (told : IsTold (with_cells h c1) c2 blocks) (two : Becomes after f1 f2 inode (with_cells h c1) (with_cells h c2)) where
+  after_size : IsFile (with_cells h c1) × (content_of (with_cells h c1) ≡ resized size (content_of h))
+  after_size = sizes_resize h c1 size file sized
+
+  after_count : IsFile (with_cells h c2) × (content_of (with_cells h c2) ≡ content_of (with_cells h c1)) × (block_count (with_cells h c2) ≡ block_count (with_cells h c1))
+  after_count = counts_are_told (with_cells h c1) c2 blocks after_size.0 told
+
+  grown_size : IsGrown f0 f1 h c1 (record (dinode_in h) { size = size }) (resized size (content_of h)) []
+  grown_size =
+      let none = no_more h c1 sized.parts in
+      record {
+        file = after_size.0;
+        dinode = sized.dinode;
+        content = after_size.1;
+        blocks = none.0;
+        counted = none.1;
+        places = λ x l first had. (λ placed. (placed.0, placed.1, sym (sized.parts x) ∙ placed.2), λ placed. (placed.0, placed.1, sized.parts x ∙ placed.2));
+        drafted = one.drafted;
+      }
+
+  grown_count : IsGrown f1 f2 (with_cells h c1) c2 (record (dinode_in (with_cells h c1)) { blocks = blocks }) (content_of (with_cells h c1)) []
+  grown_count =
+      let none = no_more (with_cells h c1) c2 told.parts in
+      record {
+        file = after_count.0;
+        dinode = told.dinode;
+        content = after_count.1;
+        blocks = none.0;
+        counted = none.1;
+        places = λ x l first had. (λ placed. (placed.0, placed.1, sym (told.parts x) ∙ placed.2), λ placed. (placed.0, placed.1, told.parts x ∙ placed.2));
+        drafted = two.drafted;
+      }
+
+  high_one : height_in (with_cells h c1) ≡ height_in h
+  high_one = ap (λ (d : Dinode). d.height) sized.dinode
+
+  high_two : height_in (with_cells h c2) ≡ height_in (with_cells h c1)
+  high_two = ap (λ (d : Dinode). d.height) told.dinode
+
+  need_count : (at end height : ℕ) → needed_below (with_cells h c2) at end height ≡ needed_below (with_cells h c1) at end height
+  need_count at end height =
+      need_stays (with_cells h c1) c2 after_size.0 after_count.0 high_two told.parts
+      (pointers_tell (with_cells h c1) c2 (λ none. sized.in_blocks (sym high_one ∙ none)) high_two
+      (λ j. numbers_behind_are_the_same (bytes_at (with_cells h c2) h.own) (bytes_at (with_cells h c1) h.own) dinode_length dinode_length (8 * j) told.behind)) at end height
+
+  pub has_size : h.own ≡ inode → HasSize after f0 f2 h size blocks
+  has_size own = record {
+    cell = c2;
+    shown = subst (λ a. IsShown after a (with_cells h c2)) (sym own) two.shown;
+    grown =
+        grown_as f0 f2 h c2 _ _ _ _ _ _ (ap (λ (d : Dinode). record d { blocks = blocks }) sized.dinode) after_size.1 refl
+        (grown_then f0 f1 f2 h c1 c2 _ _ _ _ [] [] grown_size grown_count);
+    need = λ at end height. need_count at end height ∙ sizes_keep_need h c1 size at end height file sized;
+  }
