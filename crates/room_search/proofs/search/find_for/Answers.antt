@@ -8,3 +8,6 @@ use Rattle.room_search.specs.declared.search.Locked.TheVariants as locked
 use Rattle.room_search.specs.declared.search.Taken.TheVariants as taken
 use Rattle.room_search.proofs.Room.{block_own, lack_own, taken_all, taken_none, taken_own}
 use Rattle.room_search.proofs.search.find_for.Goals as goal
+
+pub returns-then-need-eq0-clause-found : goal.returns-then-need-eq0-clause-found
+returns-then-need-eq0-clause-found g c = ?
