@@ -1,6 +1,5 @@
 -- What a search for free blocks tells, in an image that the view may be of.
-use Rattle.std.proofs.Common.{◌≡◌, ℕ, zero, suc, ◌+◌, ◌<◌, ◌≤◌, ◌==◌, Bool, List, [], ◌∷◌, ◌++◌, length, get_or, map, replicate, slice_get, Option, None, Some, refl, sym, ap, ap₂, subst, ◌∙◌, arith}
-use Rattle.std.proofs.lemmas.List.{length-replicate}
+use Rattle.std.proofs.Common.{◌≡◌, ℕ, zero, suc, ◌+◌, ◌<◌, ◌≤◌, ◌==◌, Bool, List, [], ◌∷◌, ◌++◌, length, get_or, map, slice_get, Some, refl, sym, ap, ap₂, subst, ◌∙◌, arith}
 use Rattle.std.proofs.lemmas.List.FromFn.{get_or-map-range_with_len}
 use Rattle.std.specs.Prelude.{nat_lt, if◌then◌else◌, filter, slice_index_or, take}
 use Rattle.std.specs.List.{range_with_len}
@@ -8,11 +7,10 @@ use Rattle.file_tree.specs.Tree.{Tree}
 use Rattle.gfs2_layout.specs.Groups.{count_of}
 use Rattle.gfs2_layout.specs.Headers.{HasHeader}
 use Rattle.gfs2_layout.specs.declared.rindex.Rindex.{Rindex}
-use Rattle.glock_names.specs.Views.{Seen, IsView, HasGroup, group_of_entry}
+use Rattle.glock_names.specs.Views.{Seen, HasGroup, group_of_entry}
 use Rattle.glock_names.specs.declared.State.TheVariants.{Ex}
 use Rattle.glock_names.specs.declared.steps.Missing.{Missing}
 use Rattle.glock_names.specs.declared.views.Group.{Group}
-use Rattle.resource_groups.specs.Putting.{overlaid, seen_or}
 use Rattle.resource_groups.specs.Shown.{IsShown, blocks_of, said, group_lock}
 use Rattle.resource_groups.specs.Shown as group
 use Rattle.image_model.specs.Groups.{IsListed, IsHeaderOf, GroupFits}
@@ -33,18 +31,6 @@ use Rattle.room_search.specs.declared.search.Taken.{Taken}
 use Rattle.room_search.specs.declared.search.Taken.TheVariants as taken
 use Rattle.room_search.proofs.Holds.{held_behind}
 use Rattle.room_search.proofs.Room.{all_listed}
-
--- ---- every view shows its groups
-
-pub bytes_shown : (w : Seen) → IsView w → (at : ℕ → List ℕ) × ((g : Group) → IsShown w g at)
-bytes_shown w view = (
-  overlaid w (λ b. replicate w.size 0),
-  λ g. record { whole = λ b own. each b (w.block_at b) refl; same = λ b bytes own there. ap (λ s. seen_or s (replicate w.size 0)) there },
-)
-  where
-    each : (b : ℕ) (s : Option (List ℕ)) → w.block_at b ≡ s → length (seen_or s (replicate w.size 0)) ≡ w.size
-    each b None e = length-replicate w.size 0
-    each b (Some bytes) e = view.whole b bytes e
 
 -- ---- lists of free blocks by two tables
 

@@ -10,7 +10,8 @@ use Rattle.room_search.specs.Blocks.{group_holds}
 use Rattle.room_search.specs.Searches.{IsFoundIn, IsGroupBroken, IsTaken, IsTold, IsUnder}
 use Rattle.room_search.specs.declared.search.Locked.{Locked}
 use Rattle.room_search.specs.declared.search.Taken.{Taken}
-use Rattle.room_search.proofs.InImage.{are_shown, bytes_shown, found_in, group_sound}
+use Rattle.room_search.proofs.InImage.{are_shown, found_in, group_sound}
+use Rattle.room_search.proofs.Shown.{bytes_shown}
 use Rattle.room_search.proofs.Room.{own_of, told_so}
 use Rattle.room_search.proofs.search.find_room.Goals as goal
 
