@@ -1,5 +1,5 @@
 -- What a search for free blocks tells, in an image that the view may be of.
-use Rattle.std.proofs.Common.{◌≡◌, ℕ, zero, suc, ◌+◌, ◌<◌, ◌≤◌, ◌==◌, Bool, List, [], ◌∷◌, ◌++◌, length, get_or, map, slice_get, Some, refl, sym, ap, ap₂, subst, ◌∙◌, arith}
+use Rattle.std.proofs.Common.{◌≡◌, ℕ, zero, suc, ◌+◌, ◌<◌, ◌≤◌, ◌==◌, Bool, List, [], ◌∷◌, ◌++◌, length, map, slice_get, Some, refl, sym, ap, ap₂, subst, ◌∙◌, arith}
 use Rattle.std.proofs.lemmas.List.FromFn.{get_or-map-range_with_len}
 use Rattle.std.specs.Prelude.{nat_lt, if◌then◌else◌, filter, slice_index_or, take}
 use Rattle.std.specs.List.{range_with_len}
@@ -24,12 +24,11 @@ use Rattle.draft_changes.proofs.Rows.{state_said}
 use Rattle.draft_changes.proofs.Views.{groups_are_listed}
 use Rattle.path_walks.specs.Holds.{Hold, AreHeld, IsAskedFor, IsFirstLack, hold_of_group}
 use Rattle.room_search.specs.Blocks.{States, states_by, free_in, free_in_all, free_for, group_holds, group_of_node, blocks_with, holds_with, room_blocks, room_holds}
-use Rattle.room_search.specs.Searches.{AreShown, HasOwnGroup, IsFoundIn, IsFreeUnder, IsGroupBlock, IsGroupBroken, IsTaken, IsUnder}
+use Rattle.room_search.specs.Searches.{AreShown, IsFoundIn, IsFreeUnder, IsGroupBlock, IsGroupBroken, IsTaken, IsUnder}
 use Rattle.room_search.specs.declared.search.Locked.{Locked}
 use Rattle.room_search.specs.declared.search.Locked.TheVariants as locked
 use Rattle.room_search.specs.declared.search.Taken.{Taken}
 use Rattle.room_search.specs.declared.search.Taken.TheVariants as taken
-use Rattle.room_search.proofs.Holds.{held_behind}
 use Rattle.room_search.proofs.Room.{all_listed}
 
 -- ---- lists of free blocks by two tables

@@ -1,10 +1,8 @@
 -- What a node takes of its own group, or of all, under which locks.
-use Rattle.std.proofs.Common.{◌≡◌, Result, Ok, Err, inl, inr, ℕ, ◌+◌, ◌-◌, ◌%◌, ◌<◌, ◌≤◌, ◌==◌, true, List, [], ◌∷◌, ◌++◌, length, get_or, map, take, Some, refl, sym, ap, subst, ◌∙◌, arith}
-use Rattle.std.proofs.Math.Nat.{mod-lt}
+use Rattle.std.proofs.Common.{◌≡◌, Result, Ok, Err, inl, inr, ℕ, ◌<◌, ◌≤◌, ◌==◌, true, List, [], ◌∷◌, length, map, take, refl, sym, ap, subst, ◌∙◌, arith}
 use Rattle.std.proofs.lemmas.Bool.{cond-true, cond-false, lt-ltb, le-ltb, ne_eqb}
 use Rattle.std.proofs.lemmas.List.{append-nil, length-take-le}
-use Rattle.std.proofs.lemmas.List.Elements.{All-append, All-nil}
-use Rattle.std.proofs.lemmas.Option.{slice_get-get_or}
+use Rattle.std.proofs.lemmas.List.Elements.{All-append}
 use Rattle.std.specs.Prelude.{Contains, IfOk, Vec, if◌then◌else◌}
 use Rattle.std.specs.declared.alloc.Global.{Global}
 use Rattle.glock_names.specs.Views.{Seen, IsView, HasGroup}
@@ -16,15 +14,15 @@ use Rattle.glock_names.specs.declared.views.Group.{Group}
 use Rattle.image_model.proofs.Members.{IsIn, contained, from_flat_map, is_in}
 use Rattle.image_model.proofs.Rising.{Rising}
 use Rattle.path_walks.specs.Holds.{Hold, AreHeld, IsFirstLack, holds, hold_of_group}
-use Rattle.room_search.specs.Blocks.{States, free_in, free_in_all, free_for, group_holds, group_of_node, has_too_few}
+use Rattle.room_search.specs.Blocks.{States, free_in, free_in_all, free_for, group_holds, has_too_few}
 use Rattle.room_search.specs.Parts.{IsFrontOf}
-use Rattle.room_search.specs.Searches.{AreHeldBlocks, HasOwnGroup, IsFreeUnder, IsGroupBlock, IsRoom, IsTaken, IsTold, IsUnder}
+use Rattle.room_search.specs.Searches.{IsGroupBlock, IsRoom, IsTaken, IsTold, IsUnder}
 use Rattle.room_search.specs.declared.search.Locked.{Locked}
 use Rattle.room_search.specs.declared.search.Locked.TheVariants as locked
 use Rattle.room_search.specs.declared.search.Taken.{Taken}
 use Rattle.room_search.specs.declared.search.Taken.TheVariants as taken
 use Rattle.room_search.proofs.Free.{all_rise, free_rises, from_free}
-use Rattle.room_search.proofs.Holds.{block_before, block_behind, group_listed, group_needed, held_in, held_behind, lack_before, lack_behind, read_group}
+use Rattle.room_search.proofs.Holds.{block_before, block_behind, group_listed, group_needed, held_in, held_behind, lack_before, lack_behind}
 use Rattle.room_search.proofs.Lists.{from_take, rising_take, unrise}
 
 -- what follows of an answer

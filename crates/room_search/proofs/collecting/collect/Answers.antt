@@ -1,4 +1,4 @@
-use Rattle.std.proofs.Common.{◌≡◌, ℕ, ◌<◌, ◌≤◌, List, [], ◌∷◌, ◌++◌, length, take, None, Some, subst, sym, arith}
+use Rattle.std.proofs.Common.{◌<◌, ◌≤◌, length, subst, sym, arith}
 use Rattle.std.specs.Prelude.{MatchOption}
 use Rattle.glock_names.specs.Views.{end_of}
 use Rattle.glock_names.proofs.StepLaws.{answer_at}

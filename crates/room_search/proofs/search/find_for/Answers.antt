@@ -1,4 +1,4 @@
-use Rattle.std.proofs.Common.{◌≡◌, ℕ, List, [], ◌∷◌, ap, map, sym, subst, ◌∙◌, arith}
+use Rattle.std.proofs.Common.{◌≡◌, List, [], ◌∷◌, ap, map, subst, ◌∙◌, arith}
 use Rattle.glock_names.specs.declared.views.Group.{Group}
 use Rattle.path_walks.specs.Holds.{hold_of_group}
 use Rattle.resource_groups.specs.Shown.{said}

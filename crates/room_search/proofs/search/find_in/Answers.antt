@@ -1,6 +1,4 @@
-use Rattle.std.proofs.Common.{◌≡◌, ℕ, List, length, map, ap, subst, ◌∙◌, arith, ◌≤◌, sym}
-use Rattle.std.specs.Prelude.{Contains}
-use Rattle.glock_names.specs.declared.views.Group.{Group}
+use Rattle.std.proofs.Common.{◌≡◌, ℕ, length, map, subst, ◌≤◌}
 use Rattle.glock_names.proofs.StepLaws.{answer_at, needed_at}
 use Rattle.resource_groups.specs.Shown.{said}
 use Rattle.path_walks.specs.Holds.{hold_of_group}
