@@ -6,10 +6,8 @@ use Rattle.glock_names.specs.declared.views.Group.{Group}
 use Rattle.resource_groups.specs.Freeing.{HasSome}
 use Rattle.resource_groups.proofs.Fits.{lacks}
 use Rattle.path_walks.specs.Holds.{holds, hold_of_group}
-use Rattle.removing_calls.proofs.Fronts.{each_next, each_all, split_there}
-use Rattle.removing_calls.proofs.groups.lacked_group.Goals.{else-has_some-via-then-has_some+else-not-is_at_most, else-has_some-via-else-has_some}
-use Rattle.removing_calls.proofs.groups.lacked_group.Goals as goal
-
+use Rattle.group_locks.proofs.Fronts.{each_next, each_all, split_there}
+use Rattle.group_locks.proofs.groups.lacked_group.Goals as goal
 pub returns-then-not-is_at_most-clause-some : goal.returns-then-not-is_at_most-clause-some
 returns-then-not-is_at_most-clause-some g c =
     let n = c.loop-group.group-index in
