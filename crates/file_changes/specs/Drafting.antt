@@ -58,11 +58,15 @@ pub record IsCutDraft (v : Seen) (a size time : ℕ) (freed : List ℕ) (fates :
   pub is_cut : (h : Holding) → IsShown v a h → CanCut h size → HasCut (seen_with v first) empty first h size freed
   pub timed : GetsTime v first a time fates
 
--- Over that draft these blocks are freed, and the change is that of the draft that comes of it.
+-- Over a draft these blocks are freed.
+pub record FreesIn (v : Seen) (old new : FinMap nat_cmp Fate) (freed : List ℕ) : Type 0 where
+  pub frees : AreFreed (λ (s : Seen). s) (over v old) (over v new) freed
+  pub rest : KeepsRest (λ (s : Seen). s) (over v old) (over v new) freed
+
+-- The change is that of the draft that comes of it.
 pub record IsFreedAndDone (v : Seen) (fates : FinMap nat_cmp Fate) (freed : List ℕ) (change : Change) : Type 0 where
   pub last : FinMap nat_cmp Fate
-  pub frees : AreFreed (λ (s : Seen). s) (over v fates) (over v last) freed
-  pub rest : KeepsRest (λ (s : Seen). s) (over v fates) (over v last) freed
+  pub frees : FreesIn v fates last freed
   pub whole : AreWhole v.size last
   pub finished : IsFinished last change
 

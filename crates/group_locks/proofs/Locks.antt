@@ -1,18 +1,16 @@
 -- The locks of groups in a call's list: what a view holds of them.
-use Rattle.std.proofs.Common.{◌≡◌, ◌↔◌, inl, inr, ℕ, zero, suc, ◌+◌, ◌<◌, Bool, true, List, [], ◌∷◌, ◌++◌, Some, refl, sym, ap, ◌∙◌, subst, arith}
+use Rattle.std.proofs.Common.{◌≡◌, inl, inr, ℕ, zero, suc, ◌+◌, ◌<◌, Bool, true, List, [], ◌∷◌, ◌++◌, Some, refl, sym, ap, ◌∙◌, subst, arith}
 use Rattle.std.proofs.lemmas.List.Elements.{All-append}
 use Rattle.std.proofs.lemmas.List.FromFn.{get_or-map-range_with_len}
 use Rattle.std.proofs.lemmas.List.{append_assoc}
-use Rattle.std.specs.Prelude.{Contains, map, slice_index_or}
+use Rattle.std.specs.Prelude.{map, slice_index_or}
 use Rattle.file_tree.specs.Tree.{Tree}
 use Rattle.gfs2_layout.specs.Groups.{count_of}
 use Rattle.gfs2_layout.specs.Headers.{HasHeader}
 use Rattle.gfs2_layout.specs.declared.rindex.Rindex.{Rindex}
 use Rattle.glock_names.specs.Views.{Seen, HasGroup, group_of_entry}
-use Rattle.glock_names.specs.declared.LockName.{LockName}
 use Rattle.glock_names.specs.declared.State.TheVariants.{Ex}
-use Rattle.glock_names.specs.declared.steps.Missing.{Missing}
-use Rattle.resource_groups.specs.Freeing.{BreaksSome, HasSome, IsNeededFor}
+use Rattle.resource_groups.specs.Freeing.{HasSome}
 use Rattle.resource_groups.specs.Shown.{IsMissing, group_lock}
 use Rattle.resource_groups.specs.Shown as group
 use Rattle.image_model.specs.Image.{Image}
@@ -20,12 +18,12 @@ use Rattle.image_model.specs.Groups.{IsListed, group_blocks}
 use Rattle.image_model.specs.Owners.{Owners}
 use Rattle.image_model.specs.Stands.{Layout}
 use Rattle.image_model.proofs.Counts.{at_in}
-use Rattle.image_model.proofs.Members.{IsIn, contained, in_left, in_right}
+use Rattle.image_model.proofs.Members.{IsIn, contained, in_right}
 use Rattle.image_changes.specs.Changes.{cover, is_free}
 use Rattle.image_changes.specs.Does.{IsOf, is_content_of}
 use Rattle.draft_changes.proofs.Views.{groups_are_listed}
-use Rattle.path_walks.specs.Holds.{Hold, AreHeld, IsAskedFor, IsFirstLack, holds, hold_of_group}
-use Rattle.group_locks.specs.Groups.{GroupsAreHeld, IsFirstGroupLack, has_some, holds_of_groups}
+use Rattle.path_walks.specs.Holds.{AreHeld, IsFirstLack, holds, hold_of_group}
+use Rattle.group_locks.specs.Groups.{has_some, holds_of_groups}
 use Rattle.group_locks.specs.Laws.{AreThose, BlocksOfGroupsAreAskedFor, FirstGroupLacksAreFirst, GroupsBreakNothing, GroupsWithBlocksAreListed, HeldGroupsHoldTheList}
 use Rattle.group_locks.proofs.Listed.{lack_behind, groups_held, first_lack, placed_in, held_upto, any_range, range_any}
 

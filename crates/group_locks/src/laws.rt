@@ -8,17 +8,14 @@ pub fn groups_take_their_locks()
     ensures held { HeldGroupsHoldTheList }
     ensures lack { FirstGroupLacksAreFirst }
     ensures asked { BlocksOfGroupsAreAskedFor }
-{
-}
+{}
 
 /// A law: a group of which some data block passes the test has its lock in the list.
 pub fn groups_have_places()
     ensures { GroupsWithBlocksAreListed }
-{
-}
+{}
 
 /// A law: in an image that stands for a tree no group breaks a rule.
 pub fn standing_groups_are_sound()
     ensures { GroupsBreakNothing }
-{
-}
+{}
