@@ -1,20 +1,14 @@
 -- What a removal finds in an image that the view may be of.
-use Rattle.std.proofs.Common.{◌≡◌, ◌↔◌, inl, inr, ℕ, zero, suc, ◌+◌, ◌<◌, true, false, List, [], ◌∷◌, ◌++◌, Some, refl, sym, ap, ◌∙◌, subst, arith}
+use Rattle.std.proofs.Common.{◌≡◌, ◌↔◌, inl, inr, ℕ, true, false, List, [], ◌++◌, Some, refl, sym, ap, ◌∙◌, subst}
 use Rattle.std.proofs.lemmas.Bool.{cond-true}
-use Rattle.std.proofs.lemmas.List.Elements.{All-append}
-use Rattle.std.proofs.lemmas.List.FromFn.{get_or-map-range_with_len}
-use Rattle.std.proofs.lemmas.List.{append_assoc}
-use Rattle.std.specs.Prelude.{Contains, IsSome, is_some, map, slice_index_or}
+use Rattle.std.specs.Prelude.{Contains, IsSome}
 use Rattle.cluster_history.specs.Changes.{is_ok}
 use Rattle.file_tree.specs.Apply.{apply}
 use Rattle.file_tree.specs.Tree.{Tree}
 use Rattle.file_tree.specs.declared.call.Call.{Call}
-use Rattle.gfs2_layout.specs.Groups.{count_of}
-use Rattle.gfs2_layout.specs.Headers.{HasHeader}
 use Rattle.gfs2_layout.specs.Holding.{Pointed}
 use Rattle.gfs2_layout.specs.Inode.{is_hashed_in}
-use Rattle.gfs2_layout.specs.declared.rindex.Rindex.{Rindex}
-use Rattle.glock_names.specs.Views.{Seen, HasGroup, group_of_entry}
+use Rattle.glock_names.specs.Views.{Seen, group_of_entry}
 use Rattle.glock_names.specs.declared.LockName.{LockName}
 use Rattle.glock_names.specs.declared.State.TheVariants.{Ex}
 use Rattle.glock_names.specs.declared.steps.Missing.{Missing}
@@ -23,25 +17,20 @@ use Rattle.call_locks.specs.WantLaws.{path_of}
 use Rattle.dinode_tree.proofs.Sound.{parts_of_led, led_of_part}
 use Rattle.image_model.specs.Flat.{Path, follow}
 use Rattle.image_model.specs.Image.{Image}
-use Rattle.image_model.specs.Groups.{IsListed, group_blocks}
 use Rattle.image_model.specs.Owners.{Owners, is_dinode, holding}
 use Rattle.image_model.specs.Stands.{Layout, flat_of}
-use Rattle.image_model.proofs.Counts.{at_in}
-use Rattle.image_model.proofs.Members.{IsIn, contained}
-use Rattle.image_changes.specs.Changes.{cover, inode_of, is_free}
-use Rattle.image_changes.specs.Does.{IsOf, is_content_of}
+use Rattle.image_changes.specs.Changes.{inode_of}
+use Rattle.image_changes.specs.Does.{IsOf}
 use Rattle.image_changes.specs.Instances.{IsAt}
 use Rattle.image_changes.proofs.Frame.{dinode_its}
 use Rattle.draft_changes.proofs.Rows.{its_cell, its_used, part_its, part_there}
 use Rattle.draft_changes.proofs.Views.{groups_are_listed, have_these_blocks, none_has_the_first}
-use Rattle.path_walks.specs.Holds.{Hold, AreHeld, IsAskedFor, IsFirstLack, holds, holds_in, hold_of_group}
+use Rattle.path_walks.specs.Holds.{Hold, AreHeld, IsAskedFor, IsFirstLack, holds_in}
 use Rattle.path_walks.proofs.Images.{is_inode, is_shown, unbroken}
 use Rattle.group_locks.specs.Groups.{GroupsAreHeld, IsFirstGroupLack, holds_of_groups, is_block_of}
 use Rattle.group_locks.proofs.Locks.{blocks_of_groups_are_asked_for, first_group_lacks_are_first, groups_break_nothing, held_groups_hold_the_list}
-use Rattle.resource_groups.specs.Freeing.{BreaksSome, HasSome, IsNeededFor}
+use Rattle.resource_groups.specs.Freeing.{BreaksSome, IsNeededFor}
 use Rattle.resource_groups.specs.Putting.{HasDataBlock}
-use Rattle.resource_groups.specs.Shown.{IsMissing, group_lock}
-use Rattle.resource_groups.specs.Shown as group
 use Rattle.removing_calls.specs.Removing.{Goes, IsWrongBelow, in_inode, stray, group_holds_of, holds_for}
 
 -- the list where the tree takes the call: behind the path's locks those of the groups
