@@ -90,7 +90,7 @@ over_none o None e = refl
 over_none None (Some c) e = refl
 over_none (Some bytes) (Some c) e = cc
 
-has_part : (c : Option Cell) → IsSome c → (p : Part) × (cell_part c ≡ Some p)
+pub has_part : (c : Option Cell) → IsSome c → (p : Part) × (cell_part c ≡ Some p)
 has_part None some = absurd (true≢false (sym some))
 has_part (Some c) some = (c.part, refl)
 
