@@ -28,8 +28,10 @@ use Rattle.image_model.specs.Owners.{Owners, holding}
 use Rattle.image_model.specs.Stands.{Layout}
 use Rattle.image_model.proofs.Held.{none_some}
 use Rattle.image_model.proofs.Members.{is_in}
-use Rattle.image_changes.specs.Does.{IsOf}
+use Rattle.image_changes.specs.Does.{IsOf, AreInside}
+use Rattle.image_changes.specs.Drafted.{IsFinished}
 use Rattle.image_changes.specs.Instances.{IsAt}
+use Rattle.image_changes.proofs.Inside.{stay_inside}
 use Rattle.draft_changes.specs.Removing as removing
 use Rattle.draft_changes.specs.Resizing.{FreedGroupsSay, HasSomeOf, LeavesGroups}
 use Rattle.draft_changes.proofs.Views.{groups_are_listed}
@@ -37,7 +39,7 @@ use Rattle.path_walks.proofs.Images.{is_shown}
 use Rattle.group_locks.proofs.Listed.{any_range, range_any}
 use Rattle.file_changes.specs.Drafting.{FreesIn, IsCutDraft}
 use Rattle.file_changes.specs.Making.{CanBeCut, IsCutIn, MakesFile, goes_at, goes_with, stays_below}
-use Rattle.file_changes.proofs.Resized.{IsResized, IsSaidOver, has_part, leaves_groups, makes_file}
+use Rattle.file_changes.proofs.Resized.{IsResized, IsSaidOver, has_part, leaves_groups, lies_inside, makes_file}
 use Rattle.file_changes.proofs.Standing.{own_counted, standing_file, standing_short}
 
 none_contained : (b : ℕ) → Contains {A = ℕ} [] b → ⊥
@@ -180,3 +182,8 @@ module _ (v : Seen) (im : Image) (o : Owners) (l : Layout) (t : Tree) (path : Pa
       cut_makes view says last whole frees =
           subst (λ content. MakesFile im o l last a content time [] freed) has_cut.is_cut.content
           (makes_file v im o l t of inodes a has_cut.g [] freed time cut.first fates resized last (said view says last whole frees))
+
+      -- all that is put then lies in a group
+      pub cut_inside : (view : IsView v) (says : FreedGroupsSay) (last : FinMap nat_cmp Fate) (change : Change) → AreWhole v.size last → FreesIn v fates last freed → IsFinished last change → AreInside v change
+      cut_inside view says last change whole frees finished =
+          stay_inside v last change finished whole (lies_inside v im o l t of inodes a has_cut.g [] freed time cut.first fates resized last (said view says last whole frees) view)

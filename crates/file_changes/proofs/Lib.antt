@@ -1,3 +1,4 @@
-pub mod Resized
+pub mod Fresh
 pub mod Standing
+pub mod Resized
 pub mod Cutting
