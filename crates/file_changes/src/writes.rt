@@ -23,8 +23,7 @@ ghost use Rattle.image_changes.specs.Instances.{IsAt};
 ghost use Rattle.draft_changes.specs.Resizing.{LeavesGroups};
 ghost use Rattle.resource_groups.specs.Freeing.{BreaksSome, IsNeededFor};
 ghost use Rattle.resource_groups.specs.Putting.{HasDataBlock};
-ghost use Rattle.resource_groups.specs.Taking.{AreTaken, KeepsBlocks};
-ghost use Rattle.file_changes.specs.Drafting.{IsNeededAt, IsWriteDraft, IsWrongAt, WritesFile};
+ghost use Rattle.file_changes.specs.Drafting.{IsNeededAt, IsWriteDraft, IsWrongAt, TakesIn, WritesFile};
 ghost use Rattle.file_changes.specs.Making.{IsRoomIn};
 
 use crate::inside::check_inside;
@@ -92,8 +91,8 @@ fn take_room<V: View>(
 ) -> Result<Step<bool>, CallFault>
     requires over { draft.old.view ≡ view.now }
     requires inside { (b : ℕ) → Contains room.now b → HasDataBlock (V.seen view.now) b }
-    ensures taken { IfIs result (λ done. done ≡ true → AreTaken V.seen draft.old draft.new room.now) }
-    ensures rest { IfIs result (λ done. done ≡ true → KeepsBlocks V.seen draft.old draft.new room.now) }
+    ensures taken { IfIs result (λ done. done ≡ true → TakesIn (V.seen view.now) draft.old.fates draft.new.fates room.now) }
+    ensures view { draft.new.view ≡ view.now }
     ensures sound { (im : Image) (o : Owners) (l : Layout) (t : Tree) → IsOf (V.seen view.now) im o l t → LeavesGroups l draft.old.fates → IfIs result (λ done. done ≡ true) }
     ensures needed { IfNeedBlock result (IsNeededFor (V.seen view.now) room.now) }
     ensures damaged { IfDamaged result (BreaksSome (V.seen view.now) room.now) }
@@ -122,7 +121,7 @@ fn draft_write<V: View>(
     requires room { (b : ℕ) → Contains room.now b → HasDataBlock (V.seen view.now) b }
     requires new { draft.old ≡ record { view = view.now; fates = empty } }
     ensures written { IfIs result (λ done. done ≡ true → WritesFile (V.seen view.now) inode at new.now time room.now draft.new.fates) }
-    ensures view { IfIs result (λ done. done ≡ true → draft.new.view ≡ view.now) }
+    ensures view { draft.new.view ≡ view.now }
     ensures done { (im : Image) (o : Owners) (l : Layout) (t : Tree) (path : Path) → IsOf (V.seen view.now) im o l t → IsAt im o l path inode → IsRoomIn im o l inode at (length new.now) room.now
         → IfIs result (λ done. done ≡ true) }
     ensures needed { IfNeedBlock result (IsNeededAt (V.seen view.now) inode (λ h. IsLookedAt h at (at + length new.now)) room.now) }
