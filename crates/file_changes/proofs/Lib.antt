@@ -2,3 +2,5 @@ pub mod Fresh
 pub mod Standing
 pub mod Resized
 pub mod Cutting
+pub mod Lying
+pub mod Writing

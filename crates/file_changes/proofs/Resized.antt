@@ -105,7 +105,7 @@ in_group_no_inode g b a e = none_some e
 group_not_free : (x y : ℕ) → InGroup x ≡ Free y → ⊥
 group_not_free x y e = cc
 
-no_put : (lock : LockName) (plain : Bool) (bytes : List ℕ) → Some Freed ≡ Some (Put lock plain bytes) → ⊥
+pub no_put : (lock : LockName) (plain : Bool) (bytes : List ℕ) → Some Freed ≡ Some (Put lock plain bytes) → ⊥
 no_put lock plain bytes e = cc
 
 same_lock : (x y : LockName) (p q : Bool) (m n : List ℕ) → Some (Put x p m) ≡ Some (Put y q n) → x ≡ y
