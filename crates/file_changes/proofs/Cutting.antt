@@ -42,7 +42,7 @@ use Rattle.file_changes.specs.Making.{CanBeCut, IsCutIn, MakesFile, goes_at, goe
 use Rattle.file_changes.proofs.Resized.{IsResized, IsSaidOver, has_part, leaves_groups, lies_inside, makes_file}
 use Rattle.file_changes.proofs.Standing.{own_counted, standing_file, standing_short}
 
-none_contained : (b : ℕ) → Contains {A = ℕ} [] b → ⊥
+none_contained : (b : ℕ) → Contains {X = ℕ} [] b → ⊥
 none_contained b c = elim (is_in b [] c) [ ]
 
 no_group : (k : Rindex) → removing.HasSome k [] → ⊥
@@ -65,16 +65,16 @@ module _ (h : Holding) (size : ℕ) where
   stays_so level first (Some Itself) e = absurd (true≢false (sym e))
   stays_so level first (Some (InChain hash place)) e = absurd (true≢false (sym e))
   stays_so level first (Some (Pointed from k l f)) e =
-      let one = and_parts _ _ e in
-      let two = and_parts _ _ one.1 in
-      let three = and_parts _ _ two.1 in
-      (from, k, l, f, refl, leb-true l level one.0, leb-true first f two.0, ltb-true f (first + span h.size level) three.0, leb-true (f + span h.size l) (end_of h size) three.1)
+      let three = and_parts _ _ e in
+      let two = and_parts _ _ three.0 in
+      let one = and_parts _ _ two.0 in
+      (from, k, l, f, refl, leb-true l level one.0, leb-true first f one.1, ltb-true f (first + span h.size level) two.1, leb-true (f + span h.size l) (end_of h size) three.1)
 
   so_stays : (level first from k l f : ℕ) (p : Option Part) → p ≡ Some (Pointed from k l f) → l ≤ level → first ≤ f → f < first + span h.size level → f + span h.size l ≤ end_of h size
       → stays_below h.size (end_of h size) level first p ≡ true
   so_stays level first from k l f p is low begins ends stays =
       subst (λ q. stays_below h.size (end_of h size) level first q ≡ true) (sym is)
-      (and_from _ _ (le-leb l level low) (and_from _ _ (le-leb first f begins) (and_from _ _ (lt-ltb f (first + span h.size level) ends) (le-leb (f + span h.size l) (end_of h size) stays))))
+      (and_from _ _ (and_from _ _ (and_from _ _ (le-leb l level low) (le-leb first f begins)) (lt-ltb f (first + span h.size level) ends)) (le-leb (f + span h.size l) (end_of h size) stays))
 
   module _ (inside : (b : ℕ) → IsSome (h.cell b) → b < h.count) where
     past_goes : (level first : ℕ) → IsPastEnd h (end_of h size) level first → not (list_any (λ c. stays_below h.size (end_of h size) level first (part_at h c)) (range_with_len 0 h.count)) ≡ true
