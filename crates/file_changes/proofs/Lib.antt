@@ -1,5 +1,6 @@
-pub mod Resized
+pub mod Fresh
 pub mod Standing
+pub mod Resized
 pub mod Cutting
 pub mod Lying
 pub mod Writing

@@ -1,5 +1,5 @@
 // A file that is cut.
-ghost use Rattle.std.specs.Prelude.{ℕ, ◌≡◌, true, [], Contains, IfSome, IsSome};
+ghost use Rattle.std.specs.Prelude.{ℕ, ◌≡◌, true, false, [], Contains, IfSome, IsSome};
 ghost use Rattle.std.specs.FinMap.{empty};
 ghost use Rattle.file_tree.specs.Tree.{Tree};
 ghost use Rattle.drafts.specs.Fates.{seen_with};
@@ -122,7 +122,7 @@ pub fn free_and_finish<V: View>(
     inode: u64,
     freed: &[u64],
 ) -> Result<Step<Option<Change>>, CallFault>
-    requires over { draft.entry.view ≡ view.now }
+    requires over { draft.view ≡ view.now }
     requires inside { (b : ℕ) → Contains freed.now b → HasDataBlock (V.seen view.now) b }
     ensures done { IfIs result (λ done. IfSome done (IsFreedAndDone (V.seen view.now) draft.entry.fates freed.now)) }
     ensures inside { IfIs result (λ done. IfSome done (AreInside (V.seen view.now))) }

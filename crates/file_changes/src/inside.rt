@@ -1,5 +1,5 @@
 // Whether all blocks that a change has lie where they may, and what is told where one doesn't.
-ghost use Rattle.std.specs.Prelude.{ℕ, List, ◌≡◌, ◌↔◌, true, false, Contains, IfSome, IfNone, IsTrue, Ok, length};
+ghost use Rattle.std.specs.Prelude.{ℕ, List, ◌≡◌, ◌≤◌, ◌<◌, ◌↔◌, true, false, Contains, IfSome, IfNone, IsTrue, Ok, length};
 ghost use Rattle.drafts.specs.declared.change.Written.{Written};
 ghost use Rattle.gfs2_layout.specs.Holding.{Holding};
 ghost use Rattle.glock_names.specs.Steps.{IfIs, IfNeedBlock, IfDamaged};
