@@ -4,3 +4,4 @@ pub mod Resized
 pub mod Cutting
 pub mod Lying
 pub mod Writing
+pub mod Stepping

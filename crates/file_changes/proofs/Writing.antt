@@ -9,6 +9,7 @@ use Rattle.std.specs.FinMap.{FinMap, empty}
 use Rattle.file_tree.specs.Apply.{file_limit, overwritten}
 use Rattle.file_tree.specs.Tree.{Tree}
 use Rattle.drafts.specs.Fates.{AreWhole, seen_with}
+use Rattle.drafts.specs.declared.change.Change.{Change}
 use Rattle.drafts.specs.declared.fate.Fate.{Fate}
 use Rattle.gfs2_layout.specs.Device.{IsBlockSize, superblock_place}
 use Rattle.gfs2_layout.specs.Holding.{Holding}
@@ -20,7 +21,6 @@ use Rattle.growth_drafts.specs.Taken.{AreFreeFor}
 use Rattle.growth_laws.specs.Laws.{FilesAreInodes, InodesAreFiles}
 use Rattle.growth_laws.specs.Need.{needed}
 use Rattle.file_growth.specs.Written.{CanWrite, HasWritten, size_with}
-use Rattle.profile_limits.specs.Limits.{most_blocks}
 use Rattle.resource_groups.specs.Freeing.{HasSome}
 use Rattle.resource_groups.specs.Shown as group
 use Rattle.image_model.specs.Flat.{Path}
@@ -29,7 +29,9 @@ use Rattle.image_model.specs.Image.{Image}
 use Rattle.image_model.specs.Owners.{Owners, holding}
 use Rattle.image_model.specs.Stands.{Layout}
 use Rattle.image_model.proofs.Members.{is_in}
-use Rattle.image_changes.specs.Does.{IsOf}
+use Rattle.image_changes.specs.Does.{AreInside, IsOf}
+use Rattle.image_changes.specs.Drafted.{IsFinished}
+use Rattle.image_changes.proofs.Inside.{stay_inside}
 use Rattle.image_changes.specs.Instances.{IsAt}
 use Rattle.draft_changes.specs.Removing as removing
 use Rattle.draft_changes.specs.Resizing.{FreeBlocksAreNew, LeavesGroups, TakenGroupsSay}
@@ -38,7 +40,7 @@ use Rattle.path_walks.proofs.Images.{is_shown}
 use Rattle.file_changes.specs.Drafting.{TakesIn, WritesFile}
 use Rattle.file_changes.specs.Making.{IsRoomIn, MakesFile}
 use Rattle.file_changes.proofs.Lying.{all_at}
-use Rattle.file_changes.proofs.Resized.{IsResized, IsSaidOver, leaves_groups, makes_file}
+use Rattle.file_changes.proofs.Resized.{IsResized, IsSaidOver, leaves_groups, lies_inside, makes_file}
 use Rattle.file_changes.proofs.Standing.{standing_file, standing_short}
 
 none_contained : (b : ℕ) → Contains {A = ℕ} [] b → ⊥
@@ -67,7 +69,7 @@ module _ (v : Seen) (im : Image) (o : Owners) (l : Layout) (t : Tree) (of : IsOf
       near high (inl within) =
           let g = of.stands.laid.fit.rest (im.count - 1) high within in
           let has = (groups_are_listed v im o l t (group_of_entry g.0) of).1 (g.0, g.1, refl) in
-          let ends : end_of (group_of_entry g.0) ≤ most_blocks = all_at (λ k. end_of k ≤ most_blocks) v.groups (group_of_entry g.0) view.groups.end (is_in (group_of_entry g.0) v.groups has) in
+          let ends : end_of (group_of_entry g.0) ≤ 131072 = all_at (λ k. end_of k ≤ 131072) v.groups (group_of_entry g.0) view.groups.end (is_in (group_of_entry g.0) v.groups has) in
           omega (arith, g.2.high, ends)
 
   module _ (path : Path) (a : ℕ) (at : IsAt im o l path a) (files : InodesAreFiles) (new_blocks : FreeBlocksAreNew) (from len : ℕ) (room : List ℕ) (can : IsRoomIn im o l a from len room) where
@@ -89,13 +91,13 @@ module _ (v : Seen) (im : Image) (o : Owners) (l : Layout) (t : Tree) (of : IsOf
 
 module _ (v : Seen) (im : Image) (o : Owners) (l : Layout) (t : Tree) (of : IsOf v im o l t) (view : IsView v) (path : Path) (a : ℕ) (at : IsAt im o l path a) (files : InodesAreFiles) (inodes : FilesAreInodes)
     (new_blocks : FreeBlocksAreNew) (from : ℕ) (new : List ℕ) (time : ℕ) (room : List ℕ) (can : IsRoomIn im o l a from (length new) room) (last : FinMap nat_cmp Fate) (writes : WritesFile v a from new time room last) where
-  has_written : HasWritten (seen_with v writes.first) empty writes.first room [] (holding im o a) from new
+  pub has_written : HasWritten (seen_with v writes.first) empty writes.first room [] (holding im o a) from new
   has_written = writes.written (holding im o a) (is_shown v im o l t of path a at) (can_write v im o l t of view path a at files new_blocks from (length new) room can)
 
   all_taken : has_written.taken ≡ room
   all_taken = sym (append-nil has_written.taken) ∙ sym has_written.from_front
 
-  resized : IsResized v im o l a has_written.g room [] time writes.first writes.second
+  pub resized : IsResized v im o l a has_written.g room [] time writes.first writes.second
   resized = record {
     is_file = can.file;
     shown = has_written.shown;
@@ -145,3 +147,8 @@ module _ (v : Seen) (im : Image) (o : Owners) (l : Layout) (t : Tree) (of : IsOf
   write_makes says whole =
       subst (λ content. MakesFile im o l last a content time room []) has_written.written.content
       (makes_file v im o l t of inodes a has_written.g room [] time writes.first writes.second resized last (said says whole))
+
+  -- and what is written lies in groups
+  pub write_inside : TakenGroupsSay → AreWhole v.size last → (change : Change) → IsFinished last change → AreInside v change
+  write_inside says whole change finished =
+      stay_inside v last change finished whole (lies_inside v im o l t of inodes a has_written.g room [] time writes.first writes.second resized last (said says whole) view)

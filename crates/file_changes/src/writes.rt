@@ -26,11 +26,14 @@ ghost use Rattle.resource_groups.specs.Putting.{HasDataBlock};
 ghost use Rattle.file_changes.specs.Drafting.{IsNeededAt, IsWriteDraft, IsWrongAt, TakesIn, WritesFile};
 ghost use Rattle.file_changes.specs.Making.{IsRoomIn};
 
-use crate::inside::check_inside;
+use crate::inside::{check_inside, is_a_view};
 use crate::times::put_time;
+use draft_changes::{free_blocks_are_new, groups_say_what_is_taken};
 use drafts::{Change, Draft};
 use file_growth::write_range;
 use glock_names::{CallFault, Step, View};
+use group_locks::standing_groups_are_sound;
+use growth_laws::files_are_inodes;
 use resource_groups::take_blocks;
 use std::alloc::Global;
 use std::collections::VecDeque;
@@ -98,6 +101,7 @@ fn take_room<V: View>(
     ensures damaged { IfDamaged result (BreaksSome (V.seen view.now) room.now) }
     ensures kept { IfDamaged result (IsOfView (V.seen view.now)) }
 {
+    standing_groups_are_sound();
     match take_blocks(draft, room) {
         Ok(Step::Is(())) => Ok(Step::Is(true)),
         Ok(Step::NeedBlock(missing)) => Ok(Step::NeedBlock(missing)),
@@ -121,13 +125,16 @@ fn draft_write<V: View>(
     requires room { (b : ℕ) → Contains room.now b → HasDataBlock (V.seen view.now) b }
     requires new { draft.old ≡ record { view = view.now; fates = empty } }
     ensures written { IfIs result (λ done. done ≡ true → WritesFile (V.seen view.now) inode at new.now time room.now draft.new.fates) }
-    ensures view { draft.new.view ≡ view.now }
+    ensures view { IfIs result (λ done. done ≡ true → draft.new.view ≡ view.now) }
     ensures done { (im : Image) (o : Owners) (l : Layout) (t : Tree) (path : Path) → IsOf (V.seen view.now) im o l t → IsAt im o l path inode → IsRoomIn im o l inode at (length new.now) room.now
         → IfIs result (λ done. done ≡ true) }
     ensures needed { IfNeedBlock result (IsNeededAt (V.seen view.now) inode (λ h. IsLookedAt h at (at + length new.now)) room.now) }
     ensures damaged { IfDamaged result (IsWrongAt (V.seen view.now) inode room.now) }
     ensures kept { IfDamaged result (IsOfView (V.seen view.now)) }
 {
+    is_a_view(view);
+    files_are_inodes();
+    free_blocks_are_new();
     match write_bytes(alloc, draft, inode, at, new, room)? {
         Step::Is(true) => {}
         Step::Is(false) => return Ok(Step::Is(false)),
@@ -162,6 +169,10 @@ pub fn write_file<V: View>(
     ensures damaged { IfDamaged result (IsWrongAt (V.seen view.now) inode room.now) }
     ensures kept { IfDamaged result (IsOfView (V.seen view.now)) }
 {
+    is_a_view(view);
+    files_are_inodes();
+    free_blocks_are_new();
+    groups_say_what_is_taken();
     let mut draft = Draft::new(alloc, view);
     match draft_write(alloc, view, &mut draft, inode, at, new, time, room)? {
         Step::Is(true) => {}
