@@ -81,3 +81,7 @@ frees_in {V} seen view old new blocks over freed rest = by old.view over (subst 
       frees = record { freed = f.freed; puts = f.puts; headers = f.headers; only = f.only; counts = f.counts; sees = f.sees };
       rest = record { view = refl; others = r.others; groups = r.groups };
     })
+
+-- a draft in which nothing is put sees what its view does
+pub seen_old : {V : Type 0} (seen : V → Seen) (d : Drafted V) → d.fates ≡ empty → seen_in seen d ≡ seen d.view
+seen_old seen d new = ap (seen_with (seen d.view)) new ∙ unchanged (seen d.view)

@@ -1,17 +1,12 @@
 -- The steps of a write, one after another, over a view.
 use Rattle.std.proofs.Common.{◌≡◌, ℕ, List, [], ◌++◌, length, refl, sym, ap, ◌∙◌, subst, arith}
-use Rattle.std.proofs.lemmas.List.{append-nil, length-append}
+use Rattle.std.proofs.lemmas.List.{length-append}
 use Rattle.std.specs.FinMap.{FinMap, empty}
 use Rattle.std.specs.Ordering.{nat_cmp}
-use Rattle.std.specs.Prelude.{Contains}
-use Rattle.drafts.specs.Fates.{AreWhole, Drafted, seen_with}
-use Rattle.drafts.specs.declared.change.Change.{Change}
-use Rattle.drafts.specs.declared.change.Written.{Written}
+use Rattle.drafts.specs.Fates.{Drafted, seen_in, seen_with}
 use Rattle.drafts.specs.declared.fate.Fate.{Fate}
 use Rattle.gfs2_layout.specs.Holding.{Holding}
 use Rattle.glock_names.specs.Views.{Seen}
-use Rattle.glock_names.specs.Steps.{TellsOf}
-use Rattle.glock_names.specs.declared.steps.Missing.{Missing}
 use Rattle.dinode_tree.specs.Shown.{IsShown}
 use Rattle.growth_drafts.specs.Touched.{Follows}
 use Rattle.file_growth.specs.Written.{CanWrite, HasWritten}
@@ -47,3 +42,12 @@ writes_file {V} seen view d0 d1 d2 last a at new time room e0 e1 within written 
 -- what is left of a room of which as many blocks are taken as it has
 pub none_left : (room taken left : List ℕ) → room ≡ taken ++ left → length taken ≡ length room → length left ≡ 0
 none_left room taken left front same = omega (arith, ap length front, length-append taken left, same)
+
+-- over a new draft bytes were written, and the whole room was used for them
+pub wrote : {V : Type 0} (seen : V → Seen) (old now : Drafted V) (at : ℕ) (bytes first room left : List ℕ) (h : Holding) → old.fates ≡ empty → now.view ≡ old.view → first ≡ room → left ≡ []
+    → HasWritten (seen_in seen now) old.fates now.fates first left h at bytes → HasWritten (seen_with (seen old.view) now.fates) empty now.fates room [] h at bytes
+wrote {V} seen old now at bytes first room left h new view same used is =
+    subst (λ (x : V). HasWritten (seen_with (seen x) now.fates) empty now.fates room [] h at bytes) view
+    (subst (λ l. HasWritten (seen_in seen now) empty now.fates room l h at bytes) used
+    (subst (λ r. HasWritten (seen_in seen now) empty now.fates r left h at bytes) same
+    (subst (λ f. HasWritten (seen_in seen now) f now.fates first left h at bytes) new is)))

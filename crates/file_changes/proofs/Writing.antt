@@ -43,7 +43,7 @@ use Rattle.file_changes.proofs.Lying.{all_at}
 use Rattle.file_changes.proofs.Resized.{IsResized, IsSaidOver, leaves_groups, lies_inside, makes_file}
 use Rattle.file_changes.proofs.Standing.{standing_file, standing_short}
 
-none_contained : (b : ℕ) → Contains {A = ℕ} [] b → ⊥
+none_contained : (b : ℕ) → Contains [] b → ⊥
 none_contained b c = elim (is_in b [] c) [ ]
 
 no_group : (k : Rindex) → removing.HasSome k [] → ⊥
