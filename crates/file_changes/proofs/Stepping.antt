@@ -26,6 +26,16 @@ takes_in {V} seen view old new blocks over taken rest =
       rest = record { view = refl; others = r.others; groups = r.groups };
     })
 
+-- what is told over the view of a draft is told over the view
+pub wrote_over : {V : Type 0} (seen : V → Seen) (view : V) (d0 d1 : Drafted V) (a at : ℕ) (new room : List ℕ) → d0.view ≡ view
+    → ((h : Holding) → IsShown (seen d0.view) a h → CanWrite h at (length new) room → HasWritten (seen_with (seen d0.view) d1.fates) empty d1.fates room [] h at new)
+    → (h : Holding) → IsShown (seen view) a h → CanWrite h at (length new) room → HasWritten (seen_with (seen view) d1.fates) empty d1.fates room [] h at new
+wrote_over {V} seen view d0 d1 a at new room over written =
+    subst (λ (x : V). (h : Holding) → IsShown (seen x) a h → CanWrite h at (length new) room → HasWritten (seen_with (seen x) d1.fates) empty d1.fates room [] h at new) over written
+
+pub timed_over : {V : Type 0} (seen : V → Seen) (view : V) (d1 d2 : Drafted V) (a time : ℕ) → d1.view ≡ view → GetsTime (seen d1.view) d1.fates a time d2.fates → GetsTime (seen view) d1.fates a time d2.fates
+timed_over {V} seen view d1 d2 a time over timed = subst (λ (x : V). GetsTime (seen x) d1.fates a time d2.fates) over timed
+
 pub writes_file : {V : Type 0} (seen : V → Seen) (view : V) (d0 d1 d2 : Drafted V) (last : FinMap nat_cmp Fate) (a at : ℕ) (new : List ℕ) (time : ℕ) (room : List ℕ) → d0.view ≡ view → d1.view ≡ d0.view
     → Follows (seen d0.view) a room empty d1.fates
     → ((h : Holding) → IsShown (seen d0.view) a h → CanWrite h at (length new) room → HasWritten (seen_with (seen d0.view) d1.fates) empty d1.fates room [] h at new)
@@ -33,9 +43,9 @@ pub writes_file : {V : Type 0} (seen : V → Seen) (view : V) (d0 d1 d2 : Drafte
 writes_file {V} seen view d0 d1 d2 last a at new time room e0 e1 within written timed taken = record {
   first = d1.fates;
   within = subst (λ (x : V). Follows (seen x) a room empty d1.fates) e0 within;
-  written = subst (λ (x : V). (h : Holding) → IsShown (seen x) a h → CanWrite h at (length new) room → HasWritten (seen_with (seen x) d1.fates) empty d1.fates room [] h at new) e0 written;
+  written = wrote_over seen view d0 d1 a at new room e0 written;
   second = d2.fates;
-  timed = subst (λ (x : V). GetsTime (seen x) d1.fates a time d2.fates) (e1 ∙ e0) timed;
+  timed = timed_over seen view d1 d2 a time (e1 ∙ e0) timed;
   taken = taken;
 }
 

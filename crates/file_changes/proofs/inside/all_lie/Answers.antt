@@ -1,4 +1,4 @@
-use Rattle.std.proofs.Common.{false, [], subst}
+use Rattle.std.proofs.Common.{subst}
 use Rattle.drafts.specs.declared.change.Written.{Written}
 use Rattle.image_changes.specs.Does.{LiesInGroup}
 use Rattle.group_locks.proofs.Fronts.{each_next}
@@ -7,6 +7,5 @@ use Rattle.file_changes.proofs.inside.all_lie.Goals as goal
 pub loop-one-preserved : goal.loop-one-preserved
 loop-one-preserved g c =
     let v = g.V.View.seen c.args.view.now in
-    let none : Written = record { block = 0; plain = false; bytes = [] } in
-    each_next c.args.written.now c.loop-one.one-index none (λ w. LiesInGroup v w.block) c.loop-one-test.true c.loop-one.invariant
+    each_next c.args.written.now c.loop-one.one-index c.one-item.result (λ w. LiesInGroup v w.block) c.loop-one-test.true c.loop-one.invariant
     (subst (λ (w : Written). LiesInGroup v w.block) c.one-item.is (c.lies_in_group.ensures.0 c.if-not-lies_in_group.false))

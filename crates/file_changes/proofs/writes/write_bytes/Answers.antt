@@ -34,7 +34,7 @@ returns-in-Is-clause-written g c h shown can all =
       | then-done w ↦
           wrote g.V.View.seen c.args.draft.now c.write_range.new.draft c.args.at c.args.new.now c.from_vec-left.result.items c.args.room.now c.write_range.new.room.items h c.requires.new c.write_range.ensures.view room_is
           (nil_from_length c.write_range.new.room.items (sym c.write_range.new.room.ok.0 ∙ eqb-true _ 0 (sym w.is_empty.ensures ∙ sym w.result-is ∙ all))) has.1
-      | else-done w ↦ absurd (true≢false (sym all ∙ w.result-is))
+      | else-done w ↦ absurd (true≢false (sym all ∙ w.result-is ∙ w.if-done.false))
     ]
 
 pub returns-in-Is-clause-there : goal.returns-in-Is-clause-there
