@@ -88,3 +88,7 @@ frees_in {V} seen view old new blocks over freed rest = by old.view over (subst 
 -- damage that can't be isn't told
 pub told_never : (P : ℕ → ℕ → Type 0) (f : CallFault) (block rule : ℕ) → f ≡ Damaged block rule → TellsOf P f → ((r b : ℕ) → P r b → ⊥) → ⊥
 told_never P f block rule is told never = never rule block (subst (TellsOf P) is told)
+
+-- a draft in which nothing is put sees what its view does
+pub seen_old : {V : Type 0} (seen : V → Seen) (d : Drafted V) → d.fates ≡ empty → seen_in seen d ≡ seen d.view
+seen_old seen d new = ap (seen_with (seen d.view)) new ∙ unchanged (seen d.view)

@@ -17,6 +17,7 @@ use Rattle.gfs2_layout.specs.Inode.{content_of, dinode_in}
 use Rattle.gfs2_layout.specs.declared.dinode.Dinode.{Dinode}
 use Rattle.gfs2_layout.specs.declared.rindex.Rindex.{Rindex}
 use Rattle.glock_names.specs.Views.{Seen, IsView, end_of, group_of_entry}
+use Rattle.dinode_tree.specs.Shown.{IsShown}
 use Rattle.growth_drafts.specs.Taken.{AreFreeFor}
 use Rattle.growth_laws.specs.Laws.{FilesAreInodes, InodesAreFiles}
 use Rattle.growth_laws.specs.Need.{needed}
@@ -37,13 +38,13 @@ use Rattle.draft_changes.specs.Removing as removing
 use Rattle.draft_changes.specs.Resizing.{FreeBlocksAreNew, LeavesGroups, TakenGroupsSay}
 use Rattle.draft_changes.proofs.Views.{groups_are_listed}
 use Rattle.path_walks.proofs.Images.{is_shown}
-use Rattle.file_changes.specs.Drafting.{TakesIn, WritesFile}
+use Rattle.file_changes.specs.Drafting.{GetsTime, TakesIn}
 use Rattle.file_changes.specs.Making.{IsRoomIn, MakesFile}
 use Rattle.file_changes.proofs.Lying.{all_at}
 use Rattle.file_changes.proofs.Resized.{IsResized, IsSaidOver, leaves_groups, lies_inside, makes_file}
 use Rattle.file_changes.proofs.Standing.{standing_file, standing_short}
 
-none_contained : (b : ℕ) → Contains {A = ℕ} [] b → ⊥
+none_contained : (b : ℕ) → Contains [] b → ⊥
 none_contained b c = elim (is_in b [] c) [ ]
 
 no_group : (k : Rindex) → removing.HasSome k [] → ⊥
@@ -90,14 +91,15 @@ module _ (v : Seen) (im : Image) (o : Owners) (l : Layout) (t : Tree) (of : IsOf
     }
 
 module _ (v : Seen) (im : Image) (o : Owners) (l : Layout) (t : Tree) (of : IsOf v im o l t) (view : IsView v) (path : Path) (a : ℕ) (at : IsAt im o l path a) (files : InodesAreFiles) (inodes : FilesAreInodes)
-    (new_blocks : FreeBlocksAreNew) (from : ℕ) (new : List ℕ) (time : ℕ) (room : List ℕ) (can : IsRoomIn im o l a from (length new) room) (last : FinMap nat_cmp Fate) (writes : WritesFile v a from new time room last) where
-  pub has_written : HasWritten (seen_with v writes.first) empty writes.first room [] (holding im o a) from new
-  has_written = writes.written (holding im o a) (is_shown v im o l t of path a at) (can_write v im o l t of view path a at files new_blocks from (length new) room can)
+    (new_blocks : FreeBlocksAreNew) (from : ℕ) (new : List ℕ) (time : ℕ) (room : List ℕ) (can : IsRoomIn im o l a from (length new) room) (first second : FinMap nat_cmp Fate)
+    (written : (h : Holding) → IsShown v a h → CanWrite h from (length new) room → HasWritten (seen_with v first) empty first room [] h from new) (timed : GetsTime v first a time second) where
+  pub has_written : HasWritten (seen_with v first) empty first room [] (holding im o a) from new
+  has_written = written (holding im o a) (is_shown v im o l t of path a at) (can_write v im o l t of view path a at files new_blocks from (length new) room can)
 
   all_taken : has_written.taken ≡ room
   all_taken = sym (append-nil has_written.taken) ∙ sym has_written.from_front
 
-  pub resized : IsResized v im o l a has_written.g room [] time writes.first writes.second
+  pub resized : IsResized v im o l a has_written.g room [] time first second
   resized = record {
     is_file = can.file;
     shown = has_written.shown;
@@ -112,27 +114,27 @@ module _ (v : Seen) (im : Image) (o : Owners) (l : Layout) (t : Tree) (of : IsOf
       has = λ b. (
         (λ some. elim ((has_written.written.blocks.blocks b).0 some) [
           | inl old ↦ (inl old, none_contained b)
-          | inr taken ↦ (inr (subst (λ xs. Contains xs b) all_taken taken), none_contained b)
+          | inr new ↦ (inr (subst (λ xs. Contains xs b) all_taken new), none_contained b)
         ]),
-        (λ has. (has_written.written.blocks.blocks b).1 (elim has.0 [ inl old ↦ inl old | inr taken ↦ inr (subst (λ xs. Contains xs b) (sym all_taken) taken) ])),
+        (λ has. (has_written.written.blocks.blocks b).1 (elim has.0 [ inl old ↦ inl old | inr new ↦ inr (subst (λ xs. Contains xs b) (sym all_taken) new) ])),
       );
     };
     free = can.free;
-    timed = writes.timed;
+    timed = timed;
   }
 
-  pub leaves : LeavesGroups l writes.second
-  leaves = leaves_groups v im o l t of inodes a has_written.g room [] time writes.first writes.second resized
+  pub leaves : LeavesGroups l second
+  leaves = leaves_groups v im o l t of inodes a has_written.g room [] time first second resized
 
-  said : TakenGroupsSay → AreWhole v.size last → IsSaidOver im o l room [] writes.second last
-  said says whole = record {
+  said : (last : FinMap nat_cmp Fate) → TakesIn v second last room → TakenGroupsSay → AreWhole v.size last → IsSaidOver im o l room [] second last
+  said last taken says whole = record {
     whole = subst (λ n. AreWhole n last) (sym of.size) whole;
     frees = λ b gone. absurd (none_contained b gone);
     states = λ k listed any. elim any [
-      | inl some ↦ says v writes.second last im o l t room of view leaves writes.taken.takes k listed some
+      | inl some ↦ says v second last im o l t room of view leaves taken.takes k listed some
       | inr none ↦ absurd (no_group k none)
     ];
-    rest = λ b kept away. writes.taken.rest.others b (λ k has some head.
+    rest = λ b kept away. taken.rest.others b (λ k has some head.
         let f = (groups_are_listed v im o l t k of).0 has in
         away f.0 f.1 (inl (some_so f.0 (subst (λ x. HasSome x room) f.2 some))) (header_so f.0 b (subst (λ x. group.IsHeaderOf x b) f.2 head)));
   }
@@ -143,12 +145,12 @@ module _ (v : Seen) (im : Image) (o : Owners) (l : Layout) (t : Tree) (of : IsOf
       header_so : (k : Rindex) (b : ℕ) → group.IsHeaderOf (group_of_entry k) b → IsHeaderOf k b
       header_so k b head = record { low = head.low; high = head.high }
 
-  pub write_makes : TakenGroupsSay → AreWhole v.size last → MakesFile im o l last a (overwritten from new (content_of (holding im o a))) time room []
-  write_makes says whole =
+  pub write_makes : (last : FinMap nat_cmp Fate) → TakesIn v second last room → TakenGroupsSay → AreWhole v.size last → MakesFile im o l last a (overwritten from new (content_of (holding im o a))) time room []
+  write_makes last taken says whole =
       subst (λ content. MakesFile im o l last a content time room []) has_written.written.content
-      (makes_file v im o l t of inodes a has_written.g room [] time writes.first writes.second resized last (said says whole))
+      (makes_file v im o l t of inodes a has_written.g room [] time first second resized last (said last taken says whole))
 
   -- and what is written lies in groups
-  pub write_inside : TakenGroupsSay → AreWhole v.size last → (change : Change) → IsFinished last change → AreInside v change
-  write_inside says whole change finished =
-      stay_inside v last change finished whole (lies_inside v im o l t of inodes a has_written.g room [] time writes.first writes.second resized last (said says whole) view)
+  pub write_inside : (last : FinMap nat_cmp Fate) → TakesIn v second last room → TakenGroupsSay → AreWhole v.size last → (change : Change) → IsFinished last change → AreInside v change
+  write_inside last taken says whole change finished =
+      stay_inside v last change finished whole (lies_inside v im o l t of inodes a has_written.g room [] time first second resized last (said last taken says whole) view)
