@@ -8,6 +8,9 @@ use Rattle.drafts.specs.declared.fate.Fate.{Fate}
 use Rattle.drafts.specs.declared.fate.Fate.TheVariants.{Put, Freed}
 use Rattle.gfs2_layout.specs.declared.rindex.Rindex.{Rindex}
 use Rattle.glock_names.specs.Views.{Seen, HasBlock, HasGroup, group_of_entry}
+use Rattle.glock_names.specs.Steps.{TellsOf}
+use Rattle.glock_names.specs.declared.steps.CallFault.{CallFault}
+use Rattle.glock_names.specs.declared.steps.CallFault.TheVariants.{Damaged}
 use Rattle.glock_names.specs.declared.steps.Missing.{Missing}
 use Rattle.resource_groups.specs.Freeing.{AreFreed, BreaksSome, IsNeededFor, KeepsRest}
 use Rattle.resource_groups.specs.Shown as group
@@ -81,6 +84,10 @@ frees_in {V} seen view old new blocks over freed rest = by old.view over (subst 
       frees = record { freed = f.freed; puts = f.puts; headers = f.headers; only = f.only; counts = f.counts; sees = f.sees };
       rest = record { view = refl; others = r.others; groups = r.groups };
     })
+
+-- damage that can't be isn't told
+pub told_never : (P : ℕ → ℕ → Type 0) (f : CallFault) (block rule : ℕ) → f ≡ Damaged block rule → TellsOf P f → ((r b : ℕ) → P r b → ⊥) → ⊥
+told_never P f block rule is told never = never rule block (subst (TellsOf P) is told)
 
 -- a draft in which nothing is put sees what its view does
 pub seen_old : {V : Type 0} (seen : V → Seen) (d : Drafted V) → d.fates ≡ empty → seen_in seen d ≡ seen d.view
