@@ -40,7 +40,7 @@ returns-in-Is-false-2-clause-done g c im o l t path of at can =
     let v = g.V.View.seen c.args.view.now in
     let writes = answer_at _ _ _ c.in-Is-true.is c.in_ok-draft_write.ensures.written c.in-Is-true.field-0-test in
     let whole = whole_over g.V.View.seen c.args.view.now c.draft_write.new.draft (answer_at _ _ _ c.in-Is-true.is c.in_ok-draft_write.ensures.view c.in-Is-true.field-0-test)
-        (subst (λ (d : Drafted g.row.V.Denot). AreWhole (g.V.View.seen d.view).size d.fates) c.draft.view_is c.draft.invariant.0) in
+    (subst (λ (d : Drafted g.row.V.Denot). AreWhole (g.V.View.seen d.view).size d.fates) c.draft.view_is c.draft.invariant.0) in
     absurd (not_both c.in_ok-check_inside.field-0 c.in-Is-false-2.field-0
     (c.in_ok-check_inside.ensures.all
     (write_inside v im o l t of c.is_a_view.ensures path c.args.inode at c.files_are_inodes.ensures.files c.files_are_inodes.ensures.inodes c.free_blocks_are_new.ensures c.args.at c.args.new.now c.args.time c.args.room.now can
