@@ -40,6 +40,9 @@ use Rattle.image_changes.specs.Drafted.{is_put, with_draft}
 use Rattle.image_changes.specs.Instances.{among, is_directory_at}
 use Rattle.image_changes.proofs.Nodes.{among_in, in_among}
 use Rattle.draft_changes.specs.Groups.{IsPutUnder, PutsGroup}
+use Rattle.growth_drafts.proofs.Rooms.{none_in}
+use Rattle.resource_groups.specs.Freeing as group
+use Rattle.resource_groups.specs.Shown as shown
 use Rattle.draft_changes.specs.Removing.{HasSome}
 use Rattle.draft_changes.specs.Resizing.{HasExchangedBlocks, HasSomeOf, IsContentOf, IsPutOf, IsPutOrKept, IsSaidFree, LeavesGroups, states_with}
 use Rattle.draft_changes.proofs.Rows.{cell_its, header_among, said_free, same_group}
@@ -126,6 +129,16 @@ some_of_or_none k taken freed = elim (some_or_none k taken) [
     | inr neither ↦ inr (λ e. elim e [ inl some ↦ none some | inr some ↦ neither some ])
   ]
 ]
+
+pub no_group : (k : Rindex) → HasSome k [] → ⊥
+no_group k some = none_in some.0 some.1
+
+-- what the view says of a group is so of the listed one
+pub some_listed : (k : Rindex) (xs : List ℕ) → group.HasSome (group_of_entry k) xs → HasSome k xs
+some_listed k xs some = (some.0, some.1, record { low = some.2.low; high = some.2.high })
+
+pub header_listed : (k : Rindex) (b : ℕ) → shown.IsHeaderOf (group_of_entry k) b → IsHeaderOf k b
+header_listed k b head = record { low = head.low; high = head.high }
 
 -- a block is one of these, or isn't
 pub among_or_not : (xs : List ℕ) (b : ℕ) → Contains xs b ⊎ ¬ (Contains xs b)
