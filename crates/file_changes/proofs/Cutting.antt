@@ -1,39 +1,34 @@
 -- A draft in which a file is cut, over an image that stands for a tree.
-use Rattle.std.proofs.Common.{◌≡◌, ◌⊎◌, ◌↔◌, inl, inr, ℕ, ◌+◌, ◌<◌, ◌≤◌, Bool, true, false, true≢false, List, [], length, take, Option, None, Some, refl, sym, ap, ◌∙◌, subst, arith}
+use Rattle.std.proofs.Common.{◌≡◌, ◌↔◌, inl, inr, ℕ, ◌+◌, ◌<◌, ◌≤◌, true, true≢false, List, [], take, Option, None, Some, refl, sym, ap, ◌∙◌, subst, arith}
 use Rattle.std.proofs.lemmas.Bool.{and_from, and_parts, cases_Bool, cases_lt, le-leb, leb-true, lt-ltb, ltb-true, not-true, not_from_false}
-use Rattle.std.specs.Prelude.{Contains, IsSome, not, ◌&&◌, nat_le, nat_lt}
+use Rattle.std.specs.Prelude.{Contains, IsSome, not}
 use Rattle.std.specs.List.{list_any, range_with_len}
 use Rattle.std.specs.Ordering.{nat_cmp}
 use Rattle.std.specs.FinMap.{FinMap, empty}
-use Rattle.file_tree.specs.Apply.{file_limit}
 use Rattle.file_tree.specs.Tree.{Tree}
 use Rattle.drafts.specs.Fates.{AreWhole, seen_with}
 use Rattle.drafts.specs.declared.change.Change.{Change}
 use Rattle.drafts.specs.declared.fate.Fate.{Fate}
 use Rattle.gfs2_layout.specs.Holding.{Cell, Holding, InChain, Itself, Part, Pointed, cell_part, part_at}
-use Rattle.gfs2_layout.specs.Inode.{content_of, dinode_in, span}
+use Rattle.gfs2_layout.specs.Inode.{content_of, span}
 use Rattle.gfs2_layout.specs.declared.dinode.Dinode.{Dinode}
-use Rattle.gfs2_layout.specs.declared.rindex.Rindex.{Rindex}
-use Rattle.glock_names.specs.Views.{Seen, IsView, HasGroup, group_of_entry}
-use Rattle.glock_names.specs.declared.views.Group.{Group}
+use Rattle.glock_names.specs.Views.{Seen, IsView}
 use Rattle.growth_laws.specs.Files.{IsPlaced}
 use Rattle.growth_laws.specs.Laws.{FilesAreInodes, InodesAreFiles}
 use Rattle.file_cuts.specs.Cut.{CanCut, HasCut, IsPastEnd, end_of}
 use Rattle.resource_groups.specs.Freeing.{HasSome}
 use Rattle.resource_groups.specs.Shown as group
 use Rattle.image_model.specs.Flat.{Path}
-use Rattle.image_model.specs.Groups.{IsListed, IsHeaderOf}
 use Rattle.image_model.specs.Image.{Image}
 use Rattle.image_model.specs.Owners.{Owners, holding}
 use Rattle.image_model.specs.Stands.{Layout}
 use Rattle.image_model.proofs.Held.{none_some}
-use Rattle.image_model.proofs.Members.{is_in}
 use Rattle.image_changes.specs.Does.{IsOf, AreInside}
 use Rattle.image_changes.specs.Drafted.{IsFinished}
 use Rattle.image_changes.specs.Instances.{IsAt}
 use Rattle.image_changes.proofs.Inside.{stay_inside}
 use Rattle.growth_drafts.proofs.Rooms.{none_in}
-use Rattle.draft_changes.specs.Resizing.{FreedGroupsSay, HasSomeOf, LeavesGroups}
+use Rattle.draft_changes.specs.Resizing.{FreedGroupsSay, LeavesGroups}
 use Rattle.draft_changes.proofs.Views.{groups_are_listed}
 use Rattle.path_walks.proofs.Images.{is_shown}
 use Rattle.group_locks.proofs.Listed.{any_range, range_any}

@@ -1,9 +1,9 @@
 -- A file of an image that stands for a tree.
-use Rattle.std.proofs.Common.{◌≡◌, ◌⊎◌, inl, inr, ℕ, ◌<◌, ◌≤◌, true, false, true≢false, List, refl, sym, ap, ◌∙◌, subst, arith}
+use Rattle.std.proofs.Common.{◌≡◌, inl, inr, ℕ, ◌<◌, ◌≤◌, true, false, true≢false, List, refl, sym, ◌∙◌, arith}
 use Rattle.std.specs.Prelude.{IsSome}
 use Rattle.file_tree.specs.Apply.{file_limit}
 use Rattle.file_tree.specs.Tree.{Tree}
-use Rattle.gfs2_layout.specs.Inode.{dinode_in, is_directory_in}
+use Rattle.gfs2_layout.specs.Inode.{dinode_in}
 use Rattle.gfs2_layout.specs.Structures.{is_regular}
 use Rattle.glock_names.specs.Views.{Seen, group_of_entry}
 use Rattle.growth_drafts.specs.Taken.{IsCounted}
