@@ -1,9 +1,9 @@
 -- The steps of a write, one after another, over a view.
-use Rattle.std.proofs.Common.{◌≡◌, ℕ, List, [], ◌++◌, length, refl, sym, ap, ◌∙◌, subst, arith}
+use Rattle.std.proofs.Common.{◌≡◌, ℕ, List, [], ◌++◌, length, refl, ap, ◌∙◌, subst, arith}
 use Rattle.std.proofs.lemmas.List.{length-append}
 use Rattle.std.specs.FinMap.{FinMap, empty}
 use Rattle.std.specs.Ordering.{nat_cmp}
-use Rattle.drafts.specs.Fates.{Drafted, seen_in, seen_with}
+use Rattle.drafts.specs.Fates.{AreWhole, Drafted, seen_in, seen_with}
 use Rattle.drafts.specs.declared.fate.Fate.{Fate}
 use Rattle.gfs2_layout.specs.Holding.{Holding}
 use Rattle.glock_names.specs.Views.{Seen}
@@ -35,6 +35,9 @@ wrote_over {V} seen view d0 d1 a at new room over written =
 
 pub timed_over : {V : Type 0} (seen : V → Seen) (view : V) (d1 d2 : Drafted V) (a time : ℕ) → d1.view ≡ view → GetsTime (seen d1.view) d1.fates a time d2.fates → GetsTime (seen view) d1.fates a time d2.fates
 timed_over {V} seen view d1 d2 a time over timed = subst (λ (x : V). GetsTime (seen x) d1.fates a time d2.fates) over timed
+
+pub whole_over : {V : Type 0} (seen : V → Seen) (view : V) (d : Drafted V) → d.view ≡ view → AreWhole (seen d.view).size d.fates → AreWhole (seen view).size d.fates
+whole_over {V} seen view d over whole = subst (λ (x : V). AreWhole (seen x).size d.fates) over whole
 
 pub writes_file : {V : Type 0} (seen : V → Seen) (view : V) (d0 d1 d2 : Drafted V) (last : FinMap nat_cmp Fate) (a at : ℕ) (new : List ℕ) (time : ℕ) (room : List ℕ) → d0.view ≡ view → d1.view ≡ d0.view
     → Follows (seen d0.view) a room empty d1.fates
