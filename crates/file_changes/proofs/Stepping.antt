@@ -1,11 +1,14 @@
 -- The steps of a write, one after another, over a view.
-use Rattle.std.proofs.Common.{◌≡◌, ℕ, List, [], ◌++◌, length, refl, ap, ◌∙◌, subst, arith}
+use Rattle.std.proofs.Common.{◌≡◌, ℕ, List, [], ◌++◌, length, refl, ap, ◌∙◌, subst, arith, Bool, true, false, Result, Ok}
 use Rattle.std.proofs.lemmas.List.{length-append}
 use Rattle.std.specs.FinMap.{FinMap, empty}
 use Rattle.std.specs.Ordering.{nat_cmp}
 use Rattle.drafts.specs.Fates.{AreWhole, Drafted, seen_in, seen_with}
 use Rattle.drafts.specs.declared.fate.Fate.{Fate}
 use Rattle.gfs2_layout.specs.Holding.{Holding}
+use Rattle.glock_names.specs.declared.steps.CallFault.{CallFault}
+use Rattle.glock_names.specs.declared.steps.Step.{Step}
+use Rattle.glock_names.specs.declared.steps.Step.TheVariants.{Is}
 use Rattle.glock_names.specs.Views.{Seen}
 use Rattle.dinode_tree.specs.Shown.{IsShown}
 use Rattle.growth_drafts.specs.Touched.{Follows}
@@ -64,3 +67,7 @@ wrote {V} seen old now at bytes first room left h new view same used is =
     (subst (λ l. HasWritten (seen_in seen now) empty now.fates room l h at bytes) used
     (subst (λ r. HasWritten (seen_in seen now) empty now.fates r left h at bytes) same
     (subst (λ f. HasWritten (seen_in seen now) f now.fates first left h at bytes) new is)))
+
+-- an answer isn't both of the two
+pub not_both : (r : Step Bool) (b : Bool) → ◌≡◌ {A = Result (Step Bool) CallFault} (Ok r) (Ok (Is true)) → r ≡ Is b → b ≡ false → ⊥
+not_both r b all is never = cc

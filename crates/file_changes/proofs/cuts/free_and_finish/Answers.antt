@@ -52,10 +52,11 @@ returns-in-Is-false-2-clause-sound g c im o l t path size time of at cut can =
     let frees = answer_at _ _ _ c.in-Is-true.is c.in_ok-free_in_draft.ensures.frees c.in-Is-true.field-0-test in
     let whole = whole_over g.V.View.seen c.args.view.now c.free_in_draft.new.draft c.free_in_draft.ensures.view
     (subst (λ (d : Drafted g.row.V.Denot). AreWhole (g.V.View.seen d.view).size d.fates) c.draft.view_is c.draft.invariant.0) in
-    absurd (not_both c.in_ok-check_inside.field-0 c.in-Is-false-2.field-0 c.in-Is-false-2.is c.in-Is-false-2.field-0-test
+    absurd (not_both c.in_ok-check_inside.field-0 c.in-Is-false-2.field-0
     (c.in_ok-check_inside.ensures.all
     (cut_inside v im o l t path of c.args.inode at c.files_are_inodes.ensures.files size can time c.args.freed.now c.args.draft.fates cut c.files_are_inodes.ensures.inodes c.is_a_view.ensures c.groups_say_what_is_taken.ensures.freed
-    c.free_in_draft.new.draft.fates c.in_ok-change.change whole frees (record { blocks = c.in_ok-change.ensures.blocks; locks = c.in_ok-change.ensures.locks; freed = c.in_ok-change.ensures.freed }))))
+    c.free_in_draft.new.draft.fates c.in_ok-change.change whole frees (record { blocks = c.in_ok-change.ensures.blocks; locks = c.in_ok-change.ensures.locks; freed = c.in_ok-change.ensures.freed })))
+    c.in-Is-false-2.is c.in-Is-false-2.field-0-test)
 
-pub returns-clause-needed : goal.returns-clause-needed
-returns-clause-needed g c = of_any (λ h shown. needed_at _ _ _ c.in-NeedBlock-2.is (c.in_ok-check_inside.ensures.needed h shown))
+pub returns-in-NeedBlock-2-clause-needed : goal.returns-in-NeedBlock-2-clause-needed
+returns-in-NeedBlock-2-clause-needed g c = of_any (λ h shown. needed_at _ _ _ c.in-NeedBlock-2.is (c.in_ok-check_inside.ensures.needed h shown))

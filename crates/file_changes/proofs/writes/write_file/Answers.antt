@@ -7,7 +7,7 @@ use Rattle.glock_names.proofs.StepLaws.{answer_at, needed_at}
 use Rattle.path_walks.proofs.Faults.{told_on}
 use Rattle.file_changes.specs.Drafting.{IsWrongAt, of_any}
 use Rattle.file_changes.proofs.Lying.{whole_written}
-use Rattle.file_changes.proofs.Stepping.{whole_over}
+use Rattle.file_changes.proofs.Stepping.{not_both, whole_over}
 use Rattle.file_changes.proofs.Writing.{write_inside}
 use Rattle.file_changes.proofs.writes.write_file.Goals as goal
 
@@ -31,9 +31,6 @@ returns-in-Is-true-2-clause-written g c = record {
       (subst (λ (d : Drafted g.row.V.Denot). AreWhole (g.V.View.seen d.view).size d.fates) c.draft.view_is c.draft.invariant.0);
   finished = record { blocks = c.in_ok-change.ensures.blocks; locks = c.in_ok-change.ensures.locks; freed = c.in_ok-change.ensures.freed };
 }
-
-not_both : (r : Step Bool) (b : Bool) → ◌≡◌ {A = Result (Step Bool) CallFault} (Ok r) (Ok (Is true)) → r ≡ Is b → b ≡ false → ⊥
-not_both r b all is never = cc
 
 pub returns-in-Is-false-2-clause-done : goal.returns-in-Is-false-2-clause-done
 returns-in-Is-false-2-clause-done g c im o l t path of at can =
