@@ -1,8 +1,5 @@
-use Rattle.std.proofs.Common.{◌≡◌, Bool, true, false, Result, Ok, subst}
+use Rattle.std.proofs.Common.{subst}
 use Rattle.drafts.specs.Fates.{AreWhole, Drafted}
-use Rattle.glock_names.specs.declared.steps.CallFault.{CallFault}
-use Rattle.glock_names.specs.declared.steps.Step.{Step}
-use Rattle.glock_names.specs.declared.steps.Step.TheVariants.{Is}
 use Rattle.glock_names.proofs.StepLaws.{answer_at, needed_at}
 use Rattle.path_walks.proofs.Faults.{told_on}
 use Rattle.file_changes.specs.Drafting.{IsWrongAt, of_any}
