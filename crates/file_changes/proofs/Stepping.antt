@@ -1,5 +1,5 @@
 -- The steps of a write, one after another, over a view.
-use Rattle.std.proofs.Common.{◌≡◌, Option, None, Some, Result, Ok, Err, ℕ, List, [], ◌++◌, length, refl, ap, ◌∙◌, subst, arith}
+use Rattle.std.proofs.Common.{◌≡◌, Bool, true, false, Option, None, Some, Result, Ok, Err, ℕ, List, [], ◌++◌, length, refl, ap, ◌∙◌, subst, arith}
 use Rattle.std.proofs.lemmas.List.{length-append}
 use Rattle.std.specs.FinMap.{FinMap, empty}
 use Rattle.std.specs.Ordering.{nat_cmp}
@@ -86,3 +86,7 @@ pub needed_all : {A : Type 0} (r : Result (Step A) CallFault) (v : Seen) (a : �
 needed_all (Ok (Is answer)) v a P needed = tt
 needed_all (Ok (NeedBlock missing)) v a P needed = needed
 needed_all (Err fault) v a P needed = tt
+
+-- an answer isn't both of the two
+pub not_both : (r : Step Bool) (b : Bool) → ◌≡◌ {A = Result (Step Bool) CallFault} (Ok r) (Ok (Is true)) → r ≡ Is b → b ≡ false → ⊥
+not_both r b all is never = cc

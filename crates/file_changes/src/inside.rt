@@ -105,10 +105,10 @@ fn tell_stray<V: View>(alloc: Global, view: &V, inode: u64) -> Result<Step<bool>
     }
 }
 
-/// Whether each block that a change of an inode writes lies in a group of the view. Where one doesn't, a pointer of the inode that leads to a
-/// block which is no data block is told, if there is one. It costs a look at the groups for each written block, and where one lies in none,
-/// what `blocks_below` costs and such a look for each block below.
-pub(crate) fn check_inside<V: View>(
+// Whether each block that a change of an inode writes lies in a group of the view. Where one doesn't, a pointer of the inode that leads to a
+// block which is no data block is told, if there is one. It costs a look at the groups for each written block, and where one lies in none,
+// what `blocks_below` costs and such a look for each block below.
+fn check_inside<V: View>(
     alloc: Global,
     view: &V,
     inode: u64,
@@ -127,8 +127,8 @@ pub(crate) fn check_inside<V: View>(
     tell_stray(alloc, view, inode)
 }
 
-/// Ends a draft of an inode over the view: its change, or None where some block that it writes lies in no group. It costs what `finish` and
-/// `check_inside` cost.
+/// Ends a draft of an inode over the view: its change, or None where some block that it writes lies in no group. It costs what `finish`
+/// costs, and a look at the groups for each written block; where one lies in none, what `blocks_below` costs and such a look for each block below.
 pub(crate) fn finish_inside<V: View>(
     alloc: Global,
     view: &V,
@@ -152,7 +152,8 @@ pub(crate) fn finish_inside<V: View>(
 }
 
 /// Whether each of these blocks, to which an inode leads or led in a draft, is a data block of a group of the view. Where one isn't, a pointer
-/// of the inode to such a block is told, if the view has one. It costs what `check_inside` costs.
+/// of the inode to such a block is told, if the view has one. It costs a look at the groups for
+/// each block, and where one isn't, what `blocks_below` costs and such a look for each block below.
 pub(crate) fn check_data_blocks<V: View>(
     alloc: Global,
     view: &V,

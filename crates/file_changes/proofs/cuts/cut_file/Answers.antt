@@ -57,9 +57,10 @@ returns-in-Is-false-clause-done g c im o l t path of at can =
     let cut = some_at c.in_ok-freed.field-0 c.in-Is-Some.field-0 c.in-Is-Some.freed (λ (xs : Vec ℕ Global). HasCut (seen_in g.V.View.seen c.cut.new.draft) c.args.draft.now.fates c.cut.new.draft.fates h c.args.size xs.items) c.in-Is-Some.is c.in-Is-Some.field-0-is
     (c.in_ok-freed.ensures.cut h (shown_new g.V.View.seen c.args.view.now c.args.draft.now c.requires.new c.args.inode c.args.size h (shown_there v im o l t path of c.args.inode at))
     (can_cut v im o l t path of c.args.inode at c.files_are_inodes.ensures.files c.args.size can)) in
-    absurd (not_both c.in_ok-check_data_blocks.field-0 c.in-Is-false.field-0 c.in-Is-false.is c.in-Is-false.field-0-test
+    absurd (not_both c.in_ok-check_data_blocks.field-0 c.in-Is-false.field-0
     (c.in_ok-check_data_blocks.ensures.all (λ b has. freed_inside v im o l t path of c.args.inode at (seen_in g.V.View.seen c.cut.new.draft) c.args.draft.now.fates c.cut.new.draft.fates c.args.size c.in-Is-Some.freed.items cut b
-    (subst (λ xs. Contains xs b) c.deref.ensures.value has))))
+    (subst (λ xs. Contains xs b) c.deref.ensures.value has)))
+    c.in-Is-false.is c.in-Is-false.field-0-test)
 
 pub returns-in-NeedBlock-2-clause-needed : goal.returns-in-NeedBlock-2-clause-needed
 returns-in-NeedBlock-2-clause-needed g c = IsNeededAt.of_any (λ h shown. needed_at _ _ _ c.in-NeedBlock-2.is (c.in_ok-check_data_blocks.ensures.needed h shown))

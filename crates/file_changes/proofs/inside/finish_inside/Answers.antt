@@ -1,11 +1,8 @@
-use Rattle.std.proofs.Common.{◌≡◌, Bool, true, false, Result, Ok}
-use Rattle.glock_names.specs.declared.steps.CallFault.{CallFault}
-use Rattle.glock_names.specs.declared.steps.Step.{Step}
-use Rattle.glock_names.specs.declared.steps.Step.TheVariants.{Is}
 use Rattle.glock_names.proofs.StepLaws.{needed_at}
 use Rattle.path_walks.proofs.Faults.{told_on}
 use Rattle.file_changes.specs.Drafting.{IsWrongAt}
 use Rattle.file_changes.proofs.Lying.{whole_written}
+use Rattle.file_changes.proofs.Stepping.{not_both}
 use Rattle.file_changes.proofs.inside.finish_inside.Goals as goal
 
 pub check_inside-requires : goal.check_inside-requires
@@ -17,9 +14,6 @@ check_inside-requires g c = record {
 pub returns-in_err-check_inside-clause-damaged : goal.returns-in_err-check_inside-clause-damaged
 returns-in_err-check_inside-clause-damaged g c blocks =
     told_on (IsWrongAt (g.V.View.seen c.args.view.now) c.args.inode blocks) _ _ c.from_residual-in_err-check_inside.ensures.1 (c.in_err-check_inside.ensures.damaged blocks)
-
-not_both : (r : Step Bool) (b : Bool) → ◌≡◌ {A = Result (Step Bool) CallFault} (Ok r) (Ok (Is true)) → r ≡ Is b → b ≡ false → ⊥
-not_both r b all is never = cc
 
 pub returns-in-Is-false-clause-all : goal.returns-in-Is-false-clause-all
 returns-in-Is-false-clause-all g c inside =
