@@ -1,5 +1,5 @@
 -- A file that was cut: its new end, and what it has.
-use Rattle.std.proofs.Common.{◌≡◌, ◌≢◌, inl, inr, false, Option, Some, Result, Ok, Err, IfOk, OnOk, ℕ, zero, suc, ◌+◌, ◌-◌, ◌*◌, ◌/◌, ◌%◌, ◌<◌, ◌≤◌, List, [], ◌++◌, length, take, refl, sym, ap, subst, ◌∙◌, arith, append-nil}
+use Rattle.std.proofs.Common.{◌≡◌, ◌≢◌, inl, inr, false, Option, Some, Result, Ok, Err, IfOk, OnOk, ℕ, zero, suc, ◌+◌, ◌-◌, ◌*◌, ◌/◌, ◌%◌, ◌<◌, ◌≤◌, List, [], ◌++◌, length, take, drop, refl, sym, ap, subst, ◌∙◌, arith, append-nil}
 use Rattle.std.proofs.lemmas.Bool.{cases_Bool}
 use Rattle.std.proofs.lemmas.Nat.{div-add-mod'}
 use Rattle.std.proofs.Math.Nat.{div-eq_of_lt-le, lt-mul-div-succ, mod-lt, mul-le-mul_right}
@@ -9,9 +9,10 @@ use Rattle.std.specs.Ordering.{nat_cmp}
 use Rattle.drafts.specs.Fates.{seen_with}
 use Rattle.drafts.specs.declared.fate.Fate.{Fate}
 use Rattle.file_tree.specs.Apply.{resized}
-use Rattle.gfs2_layout.specs.Holding.{Pointed, Cell, Holding, part_at}
+use Rattle.gfs2_layout.specs.Holding.{Pointed, Cell, Holding, bytes_at, part_at}
 use Rattle.gfs2_layout.specs.Inode.{block_count, content_count, content_of, dinode_in, height_in, pieces, unit}
-use Rattle.gfs2_layout.specs.Structures.{is_directory}
+use Rattle.gfs2_layout.specs.Structures.{dinode_length, is_directory}
+use Rattle.gfs2_layout.specs.Writing.{dinode_put, zeros_from}
 use Rattle.gfs2_layout.specs.declared.dinode.Dinode.{Dinode}
 use Rattle.glock_names.specs.Views.{Seen}
 use Rattle.dinode_tree.specs.Shown.{IsShown}

@@ -3,8 +3,7 @@ use Rattle.std.proofs.Common.{◌≡◌, ◌≢◌, Bool, true, false, Option, S
 use Rattle.std.proofs.lemmas.Bool.{cond-false, cond-true, eq-eqb, ne_eqb}
 use Rattle.std.proofs.lemmas.List.{length-replicate, length-take, length-take-le, take-append-drop, take-append-le}
 use Rattle.std.proofs.Math.Seq.{drop-append_seam}
-use Rattle.std.specs.Int.{to_be_bytes, w64}
-use Rattle.std.specs.Prelude.{IsSome, min, replicate}
+use Rattle.std.specs.Prelude.{IsSome, replicate}
 use Rattle.gfs2_layout.specs.Bytes.{with_number}
 use Rattle.gfs2_layout.specs.Holding.{Cell, Holding, part_at, bytes_at}
 use Rattle.gfs2_layout.specs.Inode.{dinode_in, header_length}
@@ -61,7 +60,7 @@ pads_of d old over new is says front large =
 
 -- pads of bytes that begin as the old ones do
 pub pads_from : (old mid new : List ℕ) → take dinode_length mid ≡ take dinode_length old → KeepsPads mid new → KeepsPads old new
-unfolding KeepsPads, dinode_over
+unfolding KeepsPads dinode_over
 pads_from old mid new front keeps = keeps ∙ ap (λ xs. dinode_put (dinode_of new) (xs ++ drop dinode_length new)) front
 
 -- ---- zeros
@@ -91,12 +90,12 @@ heads_on h m g own own' file still first others = record {
 -- and what stood before the pointers, while blocks were freed
 pub heads_cut : (h m g : Holding) → IsFile h → m.own ≡ h.own → ((b : ℕ) → IsSome (g.cell b) → IsSome (m.cell b)) → ((b level first : ℕ) → IsSome (m.cell b) → IsPlaced h b level first → IsPlaced m b level first) → IsSome (m.cell h.own)
     → ((b : ℕ) → IsSome (m.cell b) → take (start_in h b) (bytes_at m b) ≡ take (start_in h b) (bytes_at h b)) → KeepsHeads m g → KeepsHeads h g
-heads_cut h m g file own were still there fronts then = record {
+heads_cut h m g file own were still there fronts after = record {
   pads = pads_from (bytes_at h h.own) (bytes_at m h.own) (bytes_at g h.own) (subst (λ n. take n (bytes_at m h.own) ≡ take n (bytes_at h h.own)) (start_own h) (fronts h.own there))
-      (subst (λ a. KeepsPads (bytes_at m a) (bytes_at g a)) own then.pads);
+      (subst (λ a. KeepsPads (bytes_at m a) (bytes_at g a)) own after.pads);
   headers = λ b level at placed left.
       let mid = were b left in
-      then.headers b level at (still b (suc level) at mid placed) left
+      after.headers b level at (still b (suc level) at mid placed) left
       ∙ subst (λ n. take n (bytes_at m b) ≡ take n (bytes_at h b)) (start_other h b (not_own h b (suc level) at file placed)) (fronts b mid);
 }
 

@@ -1,9 +1,11 @@
 use Rattle.std.proofs.Common.{◌≡◌, ◌+◌, inl, min, refl, sym, ap, subst, ◌∙◌, arith}
+use Rattle.std.specs.Prelude.{Contains}
 use Rattle.drafts.specs.Fates.{seen_in}
 use Rattle.gfs2_layout.specs.Inode.{height_in}
 use Rattle.gfs2_layout.specs.Structures.{dinode_length}
 use Rattle.gfs2_layout.specs.declared.dinode.Dinode.{Dinode}
 use Rattle.growth_drafts.proofs.Following.{follows_draft, follows_one}
+use Rattle.growth_drafts.proofs.Rooms.{none_in}
 use Rattle.file_cuts.specs.Cut.{HasCut}
 use Rattle.file_cuts.proofs.Heads.{put_zeros_here}
 use Rattle.file_cuts.proofs.Finishing.{stuffed_cut}
@@ -22,3 +24,6 @@ pub returns-then-dinode-eq0-clause-within : goal.returns-then-dinode-eq0-clause-
 returns-then-dinode-eq0-clause-within g c room =
     follows_draft (g.V.View.seen c.args.draft.now.view) c.args.inode room c.args.draft.now c.resize_stuffed.new.draft _ (c.in_ok-resize_stuffed.ensures.put c.requires.there.0 c.requires.there.1)
     (follows_one (g.V.View.seen c.args.draft.now.view) c.args.inode room c.args.draft.now.fates c.args.inode _ (inl refl))
+
+pub returns-then-dinode-eq0-clause-led : goal.returns-then-dinode-eq0-clause-led
+returns-then-dinode-eq0-clause-led g c b is = absurd (none_in b (subst (λ xs. Contains xs b) c.new.ensures.items is))
