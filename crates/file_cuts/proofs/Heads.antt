@@ -1,7 +1,7 @@
 -- What a cut leaves of the blocks that stay, byte by byte.
-use Rattle.std.proofs.Common.{◌≡◌, ◌≢◌, Bool, true, false, Option, Some, ℕ, suc, ◌+◌, ◌-◌, ◌*◌, ◌≤◌, ◌==◌, if◌then◌else◌, List, ◌++◌, length, take, drop, refl, sym, ap, subst, ◌∙◌, arith, length-append}
+use Rattle.std.proofs.Common.{◌≡◌, ◌≢◌, Bool, true, false, Option, Some, ℕ, suc, ◌+◌, ◌-◌, ◌*◌, ◌≤◌, ◌==◌, if◌then◌else◌, List, ◌++◌, length, take, drop, refl, sym, ap, subst, ◌∙◌, arith}
 use Rattle.std.proofs.lemmas.Bool.{cond-false, cond-true, eq-eqb, ne_eqb}
-use Rattle.std.proofs.lemmas.List.{length-replicate, length-take, length-take-le, take-append-drop, take-append-le}
+use Rattle.std.proofs.lemmas.List.{length-take, length-take-le, take-append-drop, take-append-le}
 use Rattle.std.proofs.Math.Seq.{drop-append_seam}
 use Rattle.std.specs.Prelude.{IsSome, replicate}
 use Rattle.gfs2_layout.specs.Bytes.{with_number}
@@ -21,6 +21,7 @@ use Rattle.growth_laws.specs.Files.{IsFile, IsPlaced, with_cells}
 use Rattle.growth_drafts.specs.Taken.{IsContentIn}
 use Rattle.growth_laws.proofs.Parts.{not_itself, same_level}
 use Rattle.growth_laws.proofs.Pointing.{rewrites_keep_the_rest}
+use Rattle.growth_steps.proofs.Leading.{zeros_length}
 use Rattle.file_heights.specs.Keeping.{KeepsHeads}
 use Rattle.file_heights.proofs.Keeping.{behind_put, not_own, own_seen}
 
@@ -64,10 +65,6 @@ unfolding KeepsPads dinode_over
 pads_from old mid new front keeps = keeps ∙ ap (λ xs. dinode_put (dinode_of new) (xs ++ drop dinode_length new)) front
 
 -- ---- zeros
-
-pub zeros_length : (at : ℕ) (bytes : List ℕ) → at ≤ length bytes → length (zeros_from at bytes) ≡ length bytes
-zeros_length at bytes fits =
-    omega (arith, length-append (take at bytes) (replicate (length bytes - at) 0), length-take-le at bytes fits, length-replicate {A = ℕ} (length bytes - at) 0, fits)
 
 -- behind a dinode that is put over zeros
 pub zeros_behind : (d : Dinode) (at : ℕ) (bytes : List ℕ) → dinode_length ≤ at → at ≤ length bytes → drop at (dinode_put d (zeros_from at bytes)) ≡ replicate (length bytes - at) 0
