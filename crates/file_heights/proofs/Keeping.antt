@@ -3,14 +3,14 @@ use Rattle.std.proofs.Common.{◌≡◌, ◌≢◌, ℕ, suc, ◌≤◌, List, l
 use Rattle.std.specs.Prelude.{IsSome}
 use Rattle.gfs2_layout.specs.Holding.{Cell, Holding, part_at, bytes_at}
 use Rattle.gfs2_layout.specs.Inode.{dinode_in, header_length}
-use Rattle.gfs2_layout.specs.Structures.{dinode_length, dinode_of}
+use Rattle.gfs2_layout.specs.Structures.{dinode_length}
 use Rattle.gfs2_layout.specs.Writing.{dinode_fields, dinode_put}
 use Rattle.gfs2_layout.specs.declared.dinode.Dinode.{Dinode}
 use Rattle.gfs2_layout.proofs.FieldsInPlace.{drop-fields}
 use Rattle.glock_names.specs.Views.{Seen}
-use Rattle.dinode_tree.specs.Pads.{KeepsPads, dinode_over}
+use Rattle.dinode_tree.specs.Pads.{KeepsPads}
 use Rattle.dinode_tree.specs.Shown.{IsShown}
-use Rattle.dinode_tree.proofs.Pads.{keeps_by, keeps_on, put_keeps}
+use Rattle.dinode_tree.proofs.Pads.{keeps_on, put_keeps}
 use Rattle.dinode_tree.proofs.Sound.{is_there}
 use Rattle.growth_laws.specs.Blocks.{rewritten_cells}
 use Rattle.growth_laws.specs.Files.{IsFile, IsPlaced, with_cells}

@@ -1,5 +1,5 @@
 -- A file in blocks with another size and another count of blocks.
-use Rattle.std.proofs.Common.{◌≡◌, ◌↔◌, inl, inr, Option, ℕ, ◌+◌, ◌*◌, List, [], drop, refl, sym, ap, subst, ◌∙◌, arith}
+use Rattle.std.proofs.Common.{◌≡◌, inl, inr, Option, ℕ, ◌+◌, ◌*◌, [], drop, refl, sym, ap, subst, ◌∙◌, arith}
 use Rattle.std.specs.Prelude.{is_some}
 use Rattle.std.specs.FinMap.{FinMap}
 use Rattle.std.specs.Ordering.{nat_cmp}
