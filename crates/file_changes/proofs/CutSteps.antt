@@ -1,6 +1,6 @@
 -- The steps of a cut, one after another, over a view.
 use Rattle.std.proofs.Common.{◌≡◌, ℕ, List, [], Option, None, Some, Ok, sym, ap, ◌∙◌, subst}
-use Rattle.std.specs.Prelude.{Contains, IsSomeAnd}
+use Rattle.std.specs.Prelude.{Contains, IfSome, IsSomeAnd}
 use Rattle.std.specs.FinMap.{FinMap, empty}
 use Rattle.std.specs.Ordering.{nat_cmp}
 use Rattle.file_tree.specs.Tree.{Tree}
@@ -16,7 +16,7 @@ use Rattle.glock_names.proofs.StepLaws.{answer_at}
 use Rattle.dinode_tree.specs.Shown.{IsShown}
 use Rattle.growth_drafts.specs.Touched.{Follows}
 use Rattle.growth_laws.specs.Laws.{FilesAreInodes}
-use Rattle.file_cuts.specs.Cut.{CanCut, HasCut}
+use Rattle.file_cuts.specs.Cut.{CanCut, HasCut, WasLedTo}
 use Rattle.resource_groups.specs.Putting.{HasDataBlock}
 use Rattle.image_model.specs.Flat.{Path}
 use Rattle.image_model.specs.Image.{Image}
@@ -31,6 +31,9 @@ use Rattle.file_changes.proofs.Standing.{own_inside}
 
 pub some_at : {X : Type 0} (step : Step (Option X)) (o : Option X) (x : X) (P : X → Type 0) → step ≡ Is o → o ≡ Some x → IfIs (Ok step) (λ done. IsSomeAnd done P) → P x
 some_at step o x P is some holds = answer_at step (Some x) (λ done. IsSomeAnd done P) (is ∙ ap Is some) holds
+
+pub if_some_at : {X : Type 0} (step : Step (Option X)) (o : Option X) (x : X) (P : X → Type 0) → step ≡ Is o → o ≡ Some x → IfIs (Ok step) (λ done. IfSome done P) → P x
+if_some_at step o x P is some holds = answer_at step (Some x) (λ done. IfSome done P) (is ∙ ap Is some) holds
 
 pub none_at : {X : Type 0} (step : Step (Option X)) (o : Option X) (P : X → Type 0) → step ≡ Is o → o ≡ None → IfIs (Ok step) (λ done. IsSomeAnd done P) → ⊥
 none_at step o P is none holds = answer_at step None (λ done. IsSomeAnd done P) (is ∙ ap Is none) holds
@@ -53,11 +56,14 @@ module _ {V : Type 0} (seen : V → Seen) (view : V) (d0 : Drafted V) (new : d0 
 
     pub is_cut_draft : (time : ℕ) (freed : List ℕ) (last : FinMap nat_cmp Fate) → Follows (seen d0.view) a [] d0.fates d1.fates
         → ((h : Holding) → IsShown (seen_in seen d0) a h → CanCut h size → HasCut (seen_in seen d1) d0.fates d1.fates h size freed)
+        → ((b : ℕ) → Contains freed b → WasLedTo (seen d0.view) a d0.fates d1.fates b) → ((b : ℕ) → Contains freed b → HasDataBlock (seen view) b)
         → GetsTime (seen d1.view) d1.fates a time last → IsCutDraft (seen view) a size time freed last
-    is_cut_draft time freed last within cuts timed = record {
+    is_cut_draft time freed last within cuts led inside timed = record {
       first = d1.fates;
       within = subst (λ (d : Drafted V). Follows (seen d.view) a [] d.fates d1.fates) new within;
       is_cut = λ h shown can. cut_over h freed (cuts h (shown_new h shown) can);
+      led = λ b is. subst (λ (d : Drafted V). WasLedTo (seen d.view) a d.fates d1.fates b) new (led b is);
+      inside = inside;
       timed = subst (λ (x : V). GetsTime (seen x) d1.fates a time last) over timed;
     }
 

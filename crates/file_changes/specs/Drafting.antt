@@ -1,5 +1,5 @@
 -- The change of a file's content, step by step: what a draft over a view makes of the file's blocks, of the times in its dinode, and of the groups.
-use Rattle.std.specs.Prelude.{ℕ, ◌≡◌, false, List, [], length}
+use Rattle.std.specs.Prelude.{ℕ, ◌≡◌, false, List, [], length, Contains}
 use Rattle.std.specs.Ordering.{nat_cmp}
 use Rattle.std.specs.FinMap.{FinMap, empty, insert}
 use Rattle.drafts.specs.Fates.{AreWhole, seen_with}
@@ -14,7 +14,7 @@ use Rattle.dinode_tree.specs.Broken.{IsBroken}
 use Rattle.dinode_tree.specs.Reading.{IsNeeded, inode_lock}
 use Rattle.dinode_tree.specs.Shown.{IsShown}
 use Rattle.growth_drafts.specs.Touched.{Follows}
-use Rattle.file_cuts.specs.Cut.{CanCut, HasCut}
+use Rattle.file_cuts.specs.Cut.{CanCut, HasCut, WasLedTo}
 use Rattle.file_growth.specs.Written.{CanWrite, HasWritten}
 use Rattle.linear_dirs.specs.Shown.{holding_over}
 use Rattle.new_inodes.specs.Touched.{IsTouched}
@@ -58,11 +58,14 @@ pub record IsWriteDraft (v : Seen) (a at : ℕ) (new : List ℕ) (time : ℕ) (r
 -- ---- a file is cut
 
 -- In a draft over the view the file is cut to so many bytes: of each file that the view shows, and that can be cut so, it then shows the
--- one that is left, without these blocks. No block changes but the file's. Then its dinode gets the time.
+-- one that is left, without these blocks. Whatever the view shows, no block changes but the file's, and each of these blocks is a data block of a
+-- group, to which the file's pointers led. Then its dinode gets the time.
 pub record IsCutDraft (v : Seen) (a size time : ℕ) (freed : List ℕ) (fates : FinMap nat_cmp Fate) : Type 0 where
   pub first : FinMap nat_cmp Fate
   pub within : Follows v a [] empty first
   pub is_cut : (h : Holding) → IsShown v a h → CanCut h size → HasCut (seen_with v first) empty first h size freed
+  pub led : (b : ℕ) → Contains freed b → WasLedTo v a empty first b
+  pub inside : (b : ℕ) → Contains freed b → HasDataBlock v b
   pub timed : GetsTime v first a time fates
 
 -- Over a draft these blocks are freed.

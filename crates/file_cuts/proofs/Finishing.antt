@@ -1,5 +1,5 @@
 -- A file that was cut: its new end, and what it has.
-use Rattle.std.proofs.Common.{◌≡◌, ◌≢◌, inl, inr, false, Option, Some, Result, Ok, Err, IfOk, OnOk, ℕ, zero, suc, ◌+◌, ◌-◌, ◌*◌, ◌/◌, ◌%◌, ◌<◌, ◌≤◌, List, [], ◌++◌, length, take, refl, sym, ap, subst, ◌∙◌, arith, append-nil}
+use Rattle.std.proofs.Common.{◌≡◌, ◌≢◌, inl, inr, false, Option, Some, Result, Ok, Err, IfOk, OnOk, ℕ, zero, suc, ◌+◌, ◌-◌, ◌*◌, ◌/◌, ◌%◌, ◌<◌, ◌≤◌, List, [], ◌++◌, length, take, drop, refl, sym, ap, subst, ◌∙◌, arith, append-nil}
 use Rattle.std.proofs.lemmas.Bool.{cases_Bool}
 use Rattle.std.proofs.lemmas.Nat.{div-add-mod'}
 use Rattle.std.proofs.Math.Nat.{div-eq_of_lt-le, lt-mul-div-succ, mod-lt, mul-le-mul_right}
@@ -9,9 +9,10 @@ use Rattle.std.specs.Ordering.{nat_cmp}
 use Rattle.drafts.specs.Fates.{seen_with}
 use Rattle.drafts.specs.declared.fate.Fate.{Fate}
 use Rattle.file_tree.specs.Apply.{resized}
-use Rattle.gfs2_layout.specs.Holding.{Pointed, Cell, Holding, part_at}
+use Rattle.gfs2_layout.specs.Holding.{Pointed, Cell, Holding, bytes_at, part_at}
 use Rattle.gfs2_layout.specs.Inode.{block_count, content_count, content_of, dinode_in, height_in, pieces, unit}
-use Rattle.gfs2_layout.specs.Structures.{is_directory}
+use Rattle.gfs2_layout.specs.Structures.{dinode_length, is_directory}
+use Rattle.gfs2_layout.specs.Writing.{dinode_put, zeros_from}
 use Rattle.gfs2_layout.specs.declared.dinode.Dinode.{Dinode}
 use Rattle.glock_names.specs.Views.{Seen}
 use Rattle.dinode_tree.specs.Shown.{IsShown}
@@ -36,10 +37,12 @@ use Rattle.file_heights.specs.Sized.{HasSize, dinode_as}
 use Rattle.file_heights.proofs.Joining.{grown_as, grown_then}
 use Rattle.file_heights.proofs.Sized.{counts_same, no_more}
 use Rattle.file_heights.proofs.Rising.{bare_is_risen, led_along}
+use Rattle.file_heights.proofs.Keeping.{heads_then}
 use Rattle.file_growth.proofs.Writes.{long_content}
 use Rattle.file_cuts.specs.Cut.{CanCut, HasCut, end_of, height_at}
 use Rattle.file_cuts.specs.Progress.{HasCutTo, HasNewEnd}
 use Rattle.file_cuts.proofs.Drafting.{drafts_and_frees, freed_then}
+use Rattle.file_cuts.proofs.Heads.{heads_cut, heads_on, zeros_from_there, zeros_keep_heads}
 use Rattle.file_cuts.proofs.Ending.{content_cut, exactly}
 
 -- ---- numbers
@@ -118,6 +121,8 @@ module _ (f0 f1 : FinMap nat_cmp Fate) (mid : Seen) (inode : ℕ) (h : Holding) 
     grown = grown_as f0 f1 h s.cell _ _ _ _ _ _ (ap (dinode_as (dinode_in h) size blocks) (same_height some_bytes)) refl refl s.grown;
     clear = λ high. subst (IsClearFrom (with_cells h s.cell)) size_k
         (whole_files_are_clear (with_cells h s.cell) s.grown.file (ap (λ n. n * h.size) count_k ∙ whole_pieces size h.size some none ∙ sym size_k));
+    clear_behind = λ low. absurd (high_again low);
+    heads = s.heads;
   }
 
   pub end_cleared : (after : Seen) (f2 : FinMap nat_cmp Fate) → size ≢ 0 → HasCleared after f1 f2 (with_cells h s.cell) → HasNewEnd after f0 f2 h size blocks
@@ -128,6 +133,8 @@ module _ (f0 f1 : FinMap nat_cmp Fate) (mid : Seen) (inode : ℕ) (h : Holding) 
         grown_as f0 f2 h c.cell _ _ _ _ _ _ (s.grown.dinode ∙ ap (dinode_as (dinode_in h) size blocks) (same_height some_bytes)) s.grown.content refl
         (grown_then f0 f1 f2 h s.cell c.cell _ _ _ _ [] [] s.grown c.same.grown);
     clear = λ high. subst (IsClearFrom (with_cells h c.cell)) size_k c.clear;
+    clear_behind = λ low. absurd (high_again (sym (ap (λ (d : Dinode). d.height) c.same.grown.dinode) ∙ low));
+    heads = heads_on h (with_cells h s.cell) (with_cells h c.cell) refl refl s.grown.file (λ b level first placed there. (s.grown.places b (suc level) first (is_there (h.cell b) _ placed.2)).1 placed) s.heads c.others;
   }
 
   -- the last block is seen
@@ -169,8 +176,9 @@ module _ (f0 f1 : FinMap nat_cmp Fate) (mid : Seen) (inode : ℕ) (h : Holding) 
         absurd (no_part none _ _ _ _ _ child.part)
   ]
 
-  pub end_bare : (after : Seen) (f2 : FinMap nat_cmp Fate) (cell : ℕ → Option Cell) → size ≡ 0 → IsBareTo (with_cells h s.cell) cell 0 → Becomes after f1 f2 inode (with_cells h s.cell) (with_cells h cell) → HasNewEnd after f0 f2 h size blocks
-  end_bare after f2 cell none bare becomes =
+  pub end_bare : (after : Seen) (f2 : FinMap nat_cmp Fate) (cell : ℕ → Option Cell) → size ≡ 0 → IsBareTo (with_cells h s.cell) cell 0 → Becomes after f1 f2 inode (with_cells h s.cell) (with_cells h cell)
+      → bytes_at (with_cells h cell) h.own ≡ dinode_put (record (dinode_in (with_cells h s.cell)) { height = 0 }) (zeros_from dinode_length (bytes_at (with_cells h s.cell) h.own)) → HasNewEnd after f0 f2 h size blocks
+  end_bare after f2 cell none bare becomes put =
       let risen = bare_is_risen f1 f2 after inode (with_cells h s.cell) cell s.grown.file becomes 0 (no_content none) bare in
       let flat : 0 ≡ height_at h size = ap (height_at h) (sym none) in
       record {
@@ -180,7 +188,14 @@ module _ (f0 f1 : FinMap nat_cmp Fate) (mid : Seen) (inode : ℕ) (h : Holding) 
             grown_as f0 f2 h cell _ _ _ _ _ _ (ap (λ (d : Dinode). record d { height = 0 }) s.grown.dinode ∙ ap (dinode_as (dinode_in h) size blocks) flat) s.grown.content refl
             (grown_then f0 f1 f2 h s.cell cell _ _ _ _ [] [] s.grown risen.grown);
         clear = λ high. absurd (high (ap (λ (d : Dinode). d.height) bare.dinode));
+        clear_behind = λ low. subst (λ n. drop n (bytes_at (with_cells h cell) h.own) ≡ replicate (h.size - n) 0) (let front : dinode_length ≡ dinode_length + size = omega (arith, none) in front)
+            (zeros_from_there (with_cells h s.cell) cell (record (dinode_in (with_cells h s.cell)) { height = 0 }) dinode_length s.grown.file put bare.dinode (omega arith) fits bare.others);
+        heads = heads_then h (with_cells h s.cell) (with_cells h cell) refl file (λ b level first placed there. (s.grown.places b (suc level) first (is_there (h.cell b) _ placed.2)).1 placed) s.heads
+            (zeros_keep_heads (with_cells h s.cell) cell (record (dinode_in (with_cells h s.cell)) { height = 0 }) dinode_length s.grown.file put bare.dinode (omega arith) fits bare.others);
       }
+    where
+      fits : dinode_length ≤ h.size
+      fits = omega (arith, size_large h.size file.block_size)
 
 -- ---- all of it
 
@@ -232,6 +247,9 @@ module _ (v : Seen) (f0 f1 f2 : FinMap nat_cmp Fate) (h : Holding) (size place b
             λ placed. steps.1 (placed.0, placed.1, a.cut.parts b mid ∙ placed.2),
           );
       clear = n.clear;
+      clear_behind = n.clear_behind;
+      heads = heads_cut h (with_cells h a.cell) (with_cells h n.cell) can.counted.file refl (λ b left. ((no_more_freed.kept b).0 left).0) (λ b level first mid placed. (placed.0, placed.1, a.cut.parts b mid ∙ placed.2))
+          (is_there (a.cell h.own) _ a.cut.file.own) a.cut.heads n.heads;
     };
     drafted = subst (λ xs. DraftsFile f0 f2 h (with_cells h n.cell) xs) (append-nil freed)
         (drafts_and_frees f0 f1 f2 h (with_cells h a.cell) (with_cells h n.cell) freed [] refl a.cut.blocks no_more_freed a.cut.drafted n.grown.drafted);
@@ -240,8 +258,8 @@ module _ (v : Seen) (f0 f1 f2 : FinMap nat_cmp Fate) (h : Holding) (size place b
 -- ---- content behind the dinode
 
 pub stuffed_cut : (after : Seen) (f0 f1 : FinMap nat_cmp Fate) (inode : ℕ) (h : Holding) (cell : ℕ → Option Cell) (size : ℕ) → CanCut h size → h.own ≡ inode → IsStuffedAs h cell (resized size (content_of h)) → Becomes after f0 f1 inode h (with_cells h cell)
-    → HasCut after f0 f1 h size []
-stuffed_cut after f0 f1 inode h cell size can own is becomes = record {
+    → bytes_at (with_cells h cell) h.own ≡ dinode_put (record (dinode_in h) { size = size }) (zeros_from (dinode_length + size) (bytes_at h h.own)) → HasCut after f0 f1 h size []
+stuffed_cut after f0 f1 inode h cell size can own is becomes put = record {
   g = with_cells h cell;
   shown = subst (λ a. IsShown after a (with_cells h cell)) (sym own) becomes.shown;
   is_cut = record {
@@ -259,12 +277,20 @@ stuffed_cut after f0 f1 inode h cell size can own is becomes = record {
     exactly = λ b from k level first part. absurd (let low = can.counted.file.tree.below b from k level first part in omega (arith, low, is.stuffed));
     places = λ b level first there. (λ placed. (placed.0, placed.1, sym (is.parts b) ∙ placed.2), λ placed. (placed.0, placed.1, is.parts b ∙ placed.2));
     clear = λ high. absurd (high (ap (λ (d : Dinode). d.height) is.dinode ∙ is.stuffed));
+    clear_behind = λ low. zeros_from_there h cell (record (dinode_in h) { size = size }) (dinode_length + size) can.counted.file put sized (omega arith) fits is.others;
+    heads = zeros_keep_heads h cell (record (dinode_in h) { size = size }) (dinode_length + size) can.counted.file put sized (omega arith) fits is.others;
   };
   drafted = becomes.drafted;
 }
   where
     file' : IsFile (with_cells h cell) × (content_of (with_cells h cell) ≡ resized size (content_of h))
     file' = stuffed_content_is_put h cell (resized size (content_of h)) can.counted.file is
+
+    sized : dinode_in (with_cells h cell) ≡ record (dinode_in h) { size = size }
+    sized = is.dinode ∙ ap (λ n. record (dinode_in h) { size = n }) (resized_length size (content_of h))
+
+    fits : dinode_length + size ≤ h.size
+    fits = omega (arith, is.room, resized_length size (content_of h))
 
     cut_content : resized size (content_of h) ≡ take size (content_of h)
     cut_content =

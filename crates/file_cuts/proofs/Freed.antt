@@ -1,5 +1,5 @@
 -- A block of a file that a draft frees.
-use Rattle.std.proofs.Common.{◌≡◌, ◌≢◌, inl, inr, true, false, Option, None, Some, ℕ, suc, ◌<◌, List, [], ◌∷◌, refl, sym, ap, subst, ◌∙◌, arith}
+use Rattle.std.proofs.Common.{◌≡◌, ◌≢◌, inl, inr, true, false, Option, None, Some, ℕ, suc, ◌<◌, List, [], ◌∷◌, take, refl, sym, ap, subst, ◌∙◌, arith}
 use Rattle.std.proofs.lemmas.Bool.{cases_eq, cond-true, cond-false, eq-eqb, ne_eqb}
 use Rattle.std.specs.Cmp.{nat_cmp_total}
 use Rattle.std.specs.Prelude.{Contains, IsSome, is_some}
@@ -21,6 +21,8 @@ use Rattle.growth_laws.proofs.Pointing.{cleared_pointers_free, rewritten_bytes}
 use Rattle.growth_drafts.specs.Taken.{DraftsFile, HasFreed, IsContentIn, IsPutFor}
 use Rattle.growth_drafts.proofs.Rooms.{none_some, only_in}
 use Rattle.growth_drafts.proofs.Shown.{from_there}
+use Rattle.growth_laws.proofs.Places.{size_large}
+use Rattle.file_cuts.proofs.Heads.{pointer_behind, start_low}
 
 module _ (old : FinMap nat_cmp Fate) (g : Holding) (from k level first b start : ℕ) (bytes : List ℕ) (file : IsFile g) (part : part_at g b ≡ Some (Pointed from k level first)) (inside : b < g.count)
     (nowhere : (below j : ℕ) → level ≡ suc below → j < fan g.size header_length → pointer g header_length b j ≡ 0) (start_is : start_in g from ≡ start) (seen : bytes_at g from ≡ bytes) where
@@ -118,3 +120,12 @@ module _ (old : FinMap nat_cmp Fate) (g : Holding) (from k level first b start :
         fate_else x (λ e. not (subst (Contains (b ∷ [])) (sym e) (0, omega arith, refl)))
         (λ e. none (subst (λ y. IsSome (cells y)) (sym e) (some_same from apart ∙ is_there (g.cell from) from_part.0 from_part.1)));
   }
+
+  -- what stands before the pointers of a block stays
+  pub free_fronts : (x : ℕ) → IsSome (cells x) → take (start_in g x) (bytes_at (with_cells g cells) x) ≡ take (start_in g x) (bytes_at g x)
+  free_fronts x there = elim (cases_eq x from) [
+    | inl e ↦ subst (λ y. take (start_in g y) (bytes_at (with_cells g cells) y) ≡ take (start_in g y) (bytes_at g y)) (sym e)
+        (ap (take (start_in g from)) (ap cell_bytes cell_from ∙ rewritten_bytes (with_pointer (start_in g from) k 0) (g.cell from) from_part.0 from_part.1)
+        ∙ pointer_behind (start_in g from) k 0 (bytes_at g from) (omega (arith, start_low g from, file.whole from from_part.0 from_part.1, size_large g.size file.block_size)))
+    | inr other ↦ ap (take (start_in g x)) (ap cell_bytes (cell_else x (here x there) other))
+  ]

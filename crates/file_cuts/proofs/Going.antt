@@ -7,11 +7,11 @@ use Rattle.std.specs.Prelude.{Contains, IsSome}
 use Rattle.std.specs.FinMap.{FinMap}
 use Rattle.std.specs.Ordering.{nat_cmp}
 use Rattle.drafts.specs.declared.fate.Fate.{Fate}
-use Rattle.gfs2_layout.specs.Holding.{Cell, Holding}
+use Rattle.gfs2_layout.specs.Holding.{Cell, Holding, bytes_at}
 use Rattle.gfs2_layout.specs.Inode.{block_count, content_count, content_of, span}
 use Rattle.dinode_tree.proofs.Sound.{is_there}
 use Rattle.dinode_tree.proofs.Spans.{span_some}
-use Rattle.growth_laws.specs.Blocks.{freed_cells}
+use Rattle.growth_laws.specs.Blocks.{freed_cells, start_in}
 use Rattle.growth_laws.specs.Files.{IsFile, IsPlaced, block_on, with_cells}
 use Rattle.growth_laws.specs.Steps.{IsFreed}
 use Rattle.growth_laws.proofs.Frees.{frees_keep_files, frees_keep_the_front, frees_take_one, indirect_frees_keep_content}
@@ -54,6 +54,7 @@ cut_none fates h end file = record {
   counted = (let same : block_count h ≡ block_count h + 0 = omega arith in same);
   once = tt;
   parts = λ b there. refl;
+  heads = λ b there. refl;
   front = λ n low. refl;
   only = λ b freed. absurd (none_in b freed);
   stays = λ b l f placed before past. elim before [
@@ -81,6 +82,7 @@ module _ (old new : FinMap nat_cmp Fate) (h : Holding) (cell : ℕ → Option Ce
     counted = cut.counted;
     once = cut.once;
     parts = cut.parts;
+    heads = cut.heads;
     front = cut.front;
     only = cut.only;
     stays = λ b l f placed before past. elim before [
@@ -104,6 +106,7 @@ module _ (old new : FinMap nat_cmp Fate) (h : Holding) (cell : ℕ → Option Ce
     counted = cut.counted;
     once = cut.once;
     parts = cut.parts;
+    heads = cut.heads;
     front = cut.front;
     only = cut.only;
     stays = λ b l f placed before past. elim before [
@@ -132,6 +135,7 @@ module _ (old new : FinMap nat_cmp Fate) (h : Holding) (cell : ℕ → Option Ce
 
   module _ (next : FinMap nat_cmp Fate) (from k first b : ℕ) (f : IsFreed (with_cells h cell) (freed_cells (with_cells h cell) from k b) from k level first b) (first_is : first ≡ place * span h.size level)
       (has : HasFreed (with_cells h cell) (with_cells h (freed_cells (with_cells h cell) from k b)) (b ∷ [])) (drafted : DraftsFile new next (with_cells h cell) (with_cells h (freed_cells (with_cells h cell) from k b)) (b ∷ []))
+      (fronts : (x : ℕ) → IsSome (freed_cells (with_cells h cell) from k b x) → take (start_in h x) (bytes_at (with_cells h (freed_cells (with_cells h cell) from k b)) x) ≡ take (start_in h x) (bytes_at (with_cells h cell) x))
       (reaches : end < first + span h.size level) (nowhere : (low : ℕ) → level ≡ suc low → LeadsNowhere (with_cells h cell) b) where
     abbrev cells : ℕ → Option Cell
     cells = freed_cells (with_cells h cell) from k b
@@ -182,6 +186,7 @@ module _ (old new : FinMap nat_cmp Fate) (h : Holding) (cell : ℕ → Option Ce
       counted = omega (arith, cut.counted, frees_take_one (with_cells h cell) cells from k level first b f, length-append freed (b ∷ []));
       once = distinct_push freed b cut.once not_yet;
       parts = λ x there. f.stays.parts x (other x there) ∙ cut.parts x ((has.kept x).0 there).0;
+      heads = λ x there. fronts x there ∙ cut.heads x ((has.kept x).0 there).0;
       front = front_after;
       only = λ x is. elim (Contains-append_cases freed (b ∷ []) x is) [
         | inl before ↦ cut.only x before

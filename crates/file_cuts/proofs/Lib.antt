@@ -1,4 +1,6 @@
 pub mod Drafting
+pub mod Heads
+pub mod Leading
 pub mod Freed
 pub mod Past
 pub mod Going

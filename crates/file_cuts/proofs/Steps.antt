@@ -22,7 +22,7 @@ use Rattle.file_walks.specs.Walks.{IsStop, LeadsNowhere, LeadsOn, first_of, plac
 use Rattle.file_walks.specs.declared.walks.Stop.{Stop}
 use Rattle.file_walks.proofs.Above.{above_self}
 use Rattle.file_cuts.specs.Progress.{CanFree, HasCutTo}
-use Rattle.file_cuts.proofs.Freed.{free_drafted, free_has, freed as block_freed}
+use Rattle.file_cuts.proofs.Freed.{free_drafted, free_fronts, free_has, freed as block_freed}
 use Rattle.file_cuts.proofs.Going.{cut_freed}
 use Rattle.file_cuts.proofs.Ways.{seen_on}
 
@@ -85,7 +85,8 @@ module _ {V : Type 0} (seen : V → Seen) (f0 : FinMap nat_cmp Fate) (old now : 
     one_freed =
         let step = block_freed old.fates (with_cells h a.cell) stop.pointer.from stop.pointer.index level (place * span h.size level) stop.block stop.pointer.start bytes a.cut.file part_here inside led start_here bytes_are in
         let gone = free_has old.fates (with_cells h a.cell) stop.pointer.from stop.pointer.index level (place * span h.size level) stop.block stop.pointer.start bytes a.cut.file part_here inside led start_here bytes_are in
-        let next = cut_freed f0 old.fates h a.cell end level place freed can.file a.cut now.fates stop.pointer.from stop.pointer.index (place * span h.size level) stop.block step refl gone drafted reaches nowhere in
+        let fronts = free_fronts old.fates (with_cells h a.cell) stop.pointer.from stop.pointer.index level (place * span h.size level) stop.block stop.pointer.start bytes a.cut.file part_here inside led start_here bytes_are in
+        let next = cut_freed f0 old.fates h a.cell end level place freed can.file a.cut now.fates stop.pointer.from stop.pointer.index (place * span h.size level) stop.block step refl gone drafted fronts reaches nowhere in
         record {
           cell = after;
           shown = subst (λ (v : V). IsShown (seen_with (seen v) now.fates) h.own (with_cells h after)) (ap (λ (d : Drafted V). d.view) put) (subst (λ x. IsShown (seen_in seen now) x (with_cells h after)) (sym can.own) shown);

@@ -1,15 +1,20 @@
 -- What a cut makes of a file.
-use Rattle.std.specs.Prelude.{ℕ, zero, suc, ◌≡◌, ◌≢◌, ◌↔◌, ◌+◌, ◌-◌, ◌<◌, ◌≤◌, IsSome, List, length, take, Contains, Some}
+use Rattle.std.specs.Prelude.{ℕ, zero, suc, ◌≡◌, ◌≢◌, ◌↔◌, ◌+◌, ◌-◌, ◌<◌, ◌≤◌, IsSome, List, [], length, take, drop, replicate, Contains, Some}
 use Rattle.std.specs.FinMap.{FinMap}
 use Rattle.std.specs.Ordering.{nat_cmp}
+use Rattle.drafts.specs.Fates.{seen_with}
 use Rattle.drafts.specs.declared.fate.Fate.{Fate}
-use Rattle.gfs2_layout.specs.Holding.{Pointed, Holding, part_at}
+use Rattle.gfs2_layout.specs.Holding.{Pointed, Holding, part_at, bytes_at}
 use Rattle.gfs2_layout.specs.Inode.{content_of, dinode_in, head_of, height_in, pieces, span}
+use Rattle.gfs2_layout.specs.Structures.{dinode_length}
 use Rattle.glock_names.specs.Views.{Seen}
+use Rattle.dinode_tree.specs.Below.{IsBelow}
 use Rattle.dinode_tree.specs.Shown.{IsShown}
 use Rattle.growth_laws.specs.Files.{IsPlaced}
 use Rattle.growth_laws.specs.Steps.{IsClearFrom}
 use Rattle.growth_drafts.specs.Taken.{DraftsFile, HasFreed, IsCounted, IsDistinct}
+use Rattle.growth_drafts.specs.Touched.{Follows}
+use Rattle.file_heights.specs.Keeping.{KeepsHeads}
 use Rattle.file_heights.specs.Sized.{dinode_as}
 
 -- how many blocks of content stand before the end of so many bytes
@@ -32,8 +37,13 @@ abbrev pub height_at : Holding → ℕ → ℕ
 height_at h zero = 0
 height_at h (suc size) = height_in h
 
+-- a file whose content stands in the dinode's block has nothing but zeros there behind so many bytes of it
+abbrev pub IsClearBehind : Holding → ℕ → Type 0
+IsClearBehind g size = drop (dinode_length + size) (bytes_at g g.own) ≡ replicate (g.size - (dinode_length + size)) 0
+
 -- The content was cut. Exactly the blocks that stand past the end, and those that lead past it alone, were freed, each once; every other one
--- stands where it stood. In a file in blocks nothing but zeros stands behind the end of the last one.
+-- stands where it stood, and keeps what is neither content nor a pointer nor a field of the dinode. Nothing but zeros stands behind the end: in a
+-- file in blocks up to that of the last one, and else up to that of the dinode's.
 pub record IsCut (h g : Holding) (size : ℕ) (freed : List ℕ) : Type 0 where
   pub sound : IsCounted g
   pub content : content_of g ≡ take size (content_of h)
@@ -45,6 +55,8 @@ pub record IsCut (h g : Holding) (size : ℕ) (freed : List ℕ) : Type 0 where
   pub exactly : (b from k level first : ℕ) → part_at h b ≡ Some (Pointed from k level first) → Contains freed b ↔ IsPastEnd h (end_of h size) level first
   pub places : (b level first : ℕ) → IsSome (g.cell b) → IsPlaced g b level first ↔ IsPlaced h b level first
   pub clear : height_in g ≢ 0 → IsClearFrom g size
+  pub clear_behind : height_in g ≡ 0 → IsClearBehind g size
+  pub heads : KeepsHeads h g
 
 -- over a draft that showed the file: afterwards it shows it cut
 pub record HasCut (after : Seen) (old new : FinMap nat_cmp Fate) (h : Holding) (size : ℕ) (freed : List ℕ) : Type 0 where
@@ -52,3 +64,10 @@ pub record HasCut (after : Seen) (old new : FinMap nat_cmp Fate) (h : Holding) (
   pub shown : IsShown after h.own g
   pub is_cut : IsCut h g size freed
   pub drafted : DraftsFile old new h g freed
+
+-- at some time on the way from one draft to the other, pointers of the inode led to the block
+pub record WasLedTo (v : Seen) (inode : ℕ) (old new : FinMap nat_cmp Fate) (b : ℕ) : Type 0 where
+  pub between : FinMap nat_cmp Fate
+  pub until : Follows v inode [] old between
+  pub led : (h : Holding) → IsShown (seen_with v between) inode h → IsBelow h b
+  pub from : Follows v inode [] between new

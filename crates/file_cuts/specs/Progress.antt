@@ -5,17 +5,19 @@ use Rattle.std.specs.Ordering.{nat_cmp}
 use Rattle.drafts.specs.Fates.{seen_with}
 use Rattle.drafts.specs.declared.fate.Fate.{Fate}
 use Rattle.file_tree.specs.Apply.{resized}
-use Rattle.gfs2_layout.specs.Holding.{Cell, Holding, part_at}
+use Rattle.gfs2_layout.specs.Holding.{Cell, Holding, part_at, bytes_at}
 use Rattle.gfs2_layout.specs.Inode.{block_count, content_count, content_of, dinode_in, height_in, span}
 use Rattle.glock_names.specs.Views.{HasBlock, Seen}
 use Rattle.dinode_tree.specs.Shown.{IsShown}
+use Rattle.growth_laws.specs.Blocks.{start_in}
 use Rattle.growth_laws.specs.Files.{IsFile, IsPlaced, block_on, places_on, with_cells}
 use Rattle.growth_laws.specs.Steps.{IsClearFrom}
 use Rattle.growth_drafts.specs.Taken.{DraftsFile, HasFreed, IsDistinct}
 use Rattle.file_walks.specs.Walks.{place_above}
 use Rattle.file_heights.specs.Grown.{IsGrown}
+use Rattle.file_heights.specs.Keeping.{KeepsHeads}
 use Rattle.file_heights.specs.Sized.{dinode_as}
-use Rattle.file_cuts.specs.Cut.{IsPastEnd, height_at}
+use Rattle.file_cuts.specs.Cut.{IsClearBehind, IsPastEnd, height_at}
 
 -- a place that was gone over: of a lower level, or before this place of its own
 abbrev pub IsBefore : Holding → ℕ → ℕ → ℕ → ℕ → Type 0
@@ -29,6 +31,7 @@ pub record IsCutTo (old new : FinMap nat_cmp Fate) (h : Holding) (cell : ℕ →
   pub counted : block_count h ≡ block_count (with_cells h cell) + length freed
   pub once : IsDistinct freed
   pub parts : (b : ℕ) → IsSome (cell b) → part_at (with_cells h cell) b ≡ part_at h b
+  pub heads : (b : ℕ) → IsSome (cell b) → take (start_in h b) (bytes_at (with_cells h cell) b) ≡ take (start_in h b) (bytes_at h b)
   pub front : (n : ℕ) → n ≤ end * h.size → take n (content_of (with_cells h cell)) ≡ take n (content_of h)
   pub only : (b : ℕ) → Contains freed b → (l f : ℕ) × IsPlaced h b l f × IsPastEnd h end l f
   pub stays : (b l f : ℕ) → IsPlaced (with_cells h cell) b l f → IsBefore h level place l f → IsPastEnd h end l f → ⊥
@@ -60,3 +63,5 @@ pub record HasNewEnd (after : Seen) (old new : FinMap nat_cmp Fate) (h : Holding
   pub shown : IsShown after h.own (with_cells h cell)
   pub grown : IsGrown old new h cell (dinode_as (dinode_in h) size blocks (height_at h size)) (resized size (content_of h)) []
   pub clear : height_in (with_cells h cell) ≢ 0 → IsClearFrom (with_cells h cell) size
+  pub clear_behind : height_in (with_cells h cell) ≡ 0 → IsClearBehind (with_cells h cell) size
+  pub heads : KeepsHeads h (with_cells h cell)

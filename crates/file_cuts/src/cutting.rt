@@ -1,5 +1,5 @@
 // A file that is cut.
-ghost use Rattle.std.specs.Prelude.{ℕ, List, ◌≡◌, ◌≢◌, ◌⊎◌, ◌+◌, ◌<◌, ◌≤◌, true, false, None, IfOk, IsSomeAnd};
+ghost use Rattle.std.specs.Prelude.{ℕ, List, Contains, ◌≡◌, ◌≢◌, ◌⊎◌, ◌+◌, ◌<◌, ◌≤◌, true, false, None, IfOk, IfSome, IsSomeAnd};
 ghost use Rattle.drafts.specs.Fates.{seen_in};
 ghost use Rattle.gfs2_layout.specs.Holding.{Holding};
 ghost use Rattle.gfs2_layout.specs.Inode.{content_count, dinode_in, height_in};
@@ -14,7 +14,7 @@ ghost use Rattle.growth_drafts.specs.Taken.{IsCutAt};
 ghost use Rattle.growth_drafts.specs.Touched.{Follows};
 ghost use Rattle.file_fills.specs.Filling.{IsSeenWay};
 ghost use Rattle.growth_steps.specs.Sizes.{CanHaveSize};
-ghost use Rattle.file_cuts.specs.Cut.{CanCut, HasCut, end_of};
+ghost use Rattle.file_cuts.specs.Cut.{CanCut, HasCut, WasLedTo, end_of};
 ghost use Rattle.file_cuts.specs.Progress.{HasNewEnd, IsSeenOver};
 
 use crate::freeing::free_past;
@@ -109,6 +109,7 @@ fn cut_blocks<V: View>(
         → IfOk result (λ done. IsSomeAnd done (λ freed. HasCut (seen_in V.seen draft.new) draft.old.fates draft.new.fates h size freed.items)) }
     ensures view { draft.new.view ≡ draft.old.view }
     ensures within { (room : List ℕ) → IfOk result (λ done. Follows (V.seen draft.old.view) inode room draft.old.fates draft.new.fates) }
+    ensures led { IfOk result (λ done. IfSome done (λ freed. (b : ℕ) → Contains freed.items b → WasLedTo (V.seen draft.old.view) inode draft.old.fates draft.new.fates b)) }
 {
     let block_size = u64::from(draft.block_size());
     let count = count_blocks(block_size as usize, dinode);
@@ -143,6 +144,7 @@ fn cut_seen<V: View>(
         → IfOk result (λ done. IsSomeAnd done (λ freed. HasCut (seen_in V.seen draft.new) draft.old.fates draft.new.fates h size freed.items)) }
     ensures view { draft.new.view ≡ draft.old.view }
     ensures within { (room : List ℕ) → IfOk result (λ done. Follows (V.seen draft.old.view) inode room draft.old.fates draft.new.fates) }
+    ensures led { IfOk result (λ done. IfSome done (λ freed. (b : ℕ) → Contains freed.items b → WasLedTo (V.seen draft.old.view) inode draft.old.fates draft.new.fates b)) }
 {
     if dinode.height == 0 {
         resize_stuffed(draft, inode, dinode, size as usize)?;
@@ -165,6 +167,7 @@ pub fn cut<V: View>(
     ensures cut { (h : Holding) → IsShown (seen_in V.seen draft.old) inode h → CanCut h size
         → IfIs result (λ done. IsSomeAnd done (λ freed. HasCut (seen_in V.seen draft.new) draft.old.fates draft.new.fates h size freed.items)) }
     ensures within { (room : List ℕ) → IfIs result (λ done. Follows (V.seen draft.old.view) inode room draft.old.fates draft.new.fates) }
+    ensures led { IfIs result (λ done. IfSome done (λ freed. (b : ℕ) → Contains freed.items b → WasLedTo (V.seen draft.old.view) inode draft.old.fates draft.new.fates b)) }
     ensures view { draft.new.view ≡ draft.old.view }
     ensures there { IfIs result (λ done. HasBlock (seen_in V.seen draft.old) inode) }
     ensures needed { (h : Holding) → IsShown (seen_in V.seen draft.old) inode h → IfNeedBlock result (IsNeeded (seen_in V.seen draft.old) h (IsCutAt h size) 0) }

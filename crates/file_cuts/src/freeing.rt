@@ -1,5 +1,5 @@
 // The blocks past an end, freed level by level from content up.
-ghost use Rattle.std.specs.Prelude.{ℕ, List, ◌≡◌, ◌⊎◌, ◌↔◌, ◌+◌, ◌-◌, ◌*◌, ◌/◌, ◌^◌, ◌<◌, ◌≤◌, ◌≢◌, true, Some, IfOk, OnOk, IfSome, IsSomeAnd};
+ghost use Rattle.std.specs.Prelude.{ℕ, List, [], ◌∷◌, ◌++◌, Contains, ◌≡◌, ◌⊎◌, ◌↔◌, ◌+◌, ◌-◌, ◌*◌, ◌/◌, ◌^◌, ◌<◌, ◌≤◌, ◌≢◌, true, Some, IfOk, OnOk, IfSome, IsSomeAnd};
 ghost use Rattle.std.specs.FinMap.{FinMap};
 ghost use Rattle.std.specs.Ordering.{nat_cmp};
 ghost use Rattle.drafts.specs.Fates.{seen_in};
@@ -11,6 +11,7 @@ ghost use Rattle.dinode_tree.specs.Shown.{IsShown};
 ghost use Rattle.growth_laws.specs.Files.{IsFile, with_cells};
 ghost use Rattle.growth_drafts.specs.Touched.{Follows, IsReached};
 ghost use Rattle.file_walks.specs.Walks.{IsOfInode, IsPlace, IsStop, IsUnder, LeadsNowhere, LeadsOn};
+ghost use Rattle.file_cuts.specs.Cut.{WasLedTo};
 ghost use Rattle.file_cuts.specs.Progress.{CanFree, HasCutTo, IsSeenOver};
 
 use crate::places::behind_hole;
@@ -68,6 +69,7 @@ fn free_one<V: View>(
         → OnOk result (HasCutTo (V.seen draft.new.view) old draft.new.fates h end level (place + 1) freed.new.items) }
     ensures view { draft.new.view ≡ draft.old.view }
     ensures within { (room : List ℕ) → IsReached (seen_in V.seen draft.old) inode room stop.pointer.from → IsReached (seen_in V.seen draft.old) inode room stop.block → OnOk result (Follows (V.seen draft.old.view) inode room draft.old.fates draft.new.fates) }
+    ensures freed { OnOk result (freed.new.items ≡ freed.old.items ++ stop.block ∷ []) }
 {
     free_block(draft, inode, stop.pointer, stop.block)?;
     freed.push(stop.block)?;
@@ -90,6 +92,7 @@ fn free_at<V: View>(
     ensures later { IfOk result (λ next. IfSome next (λ n. place < n)) }
     ensures view { draft.new.view ≡ draft.old.view }
     ensures within { (room : List ℕ) → IfOk result (λ next. Follows (V.seen draft.old.view) inode room draft.old.fates draft.new.fates) }
+    ensures led { (b : ℕ) → IfOk result (λ next. Contains freed.new.items b → Contains freed.old.items b ⊎ WasLedTo (V.seen draft.old.view) inode draft.old.fates draft.new.fates b) }
 {
     let size = draft.block_size() as usize;
     let Some(stop) = stop_at(&*draft, inode, level, place) else {
@@ -122,6 +125,7 @@ fn free_on<V: View>(
         → IfOk result (λ done. (done ≡ true) × HasCutTo (V.seen draft.new.view) old draft.new.fates h end (level + 1) (end / span_of h.size (level + 1)) freed.new.items) }
     ensures view { draft.new.view ≡ draft.old.view }
     ensures within { (room : List ℕ) → IfOk result (λ done. Follows (V.seen draft.old.view) inode room draft.old.fates draft.new.fates) }
+    ensures led { (b : ℕ) → IfOk result (λ done. Contains freed.new.items b → Contains freed.old.items b ⊎ WasLedTo (V.seen draft.old.view) inode draft.old.fates draft.new.fates b) }
 {
     let size = draft.block_size() as usize;
     let mut place = place_over(size, level, end);
@@ -149,6 +153,7 @@ pub(crate) fn free_past<V: View>(
         → IfOk result (λ done. IsSomeAnd done (λ freed. HasCutTo (V.seen draft.new.view) draft.old.fates draft.new.fates h end height (end / span_of h.size height) freed.items)) }
     ensures view { draft.new.view ≡ draft.old.view }
     ensures within { (room : List ℕ) → IfOk result (λ done. Follows (V.seen draft.old.view) inode room draft.old.fates draft.new.fates) }
+    ensures led { IfOk result (λ done. IfSome done (λ freed. (b : ℕ) → Contains freed.items b → WasLedTo (V.seen draft.old.view) inode draft.old.fates draft.new.fates b)) }
 {
     let mut freed = Vec::new(alloc);
     for level in 0..height {

@@ -12,7 +12,7 @@ use Rattle.drafts.specs.declared.fate.Fate.{Fate}
 use Rattle.drafts.specs.declared.fate.Fate.TheVariants.{Put}
 use Rattle.gfs2_layout.specs.Bytes.{u64_at}
 use Rattle.gfs2_layout.specs.Holding.{Cell, Holding}
-use Rattle.gfs2_layout.specs.Inode.{block_count, content_count, content_of, dinode_in, fan, height_in, pieces}
+use Rattle.gfs2_layout.specs.Inode.{block_count, content_block, content_count, content_of, dinode_in, fan, height_in, pieces}
 use Rattle.gfs2_layout.specs.Structures.{dinode_length}
 use Rattle.glock_names.specs.Views.{Seen}
 use Rattle.glock_names.specs.declared.LockName.{LockName}
@@ -21,13 +21,14 @@ use Rattle.dinode_tree.specs.Shown.{IsShown}
 use Rattle.growth_laws.specs.Files.{IsFile, with_cells}
 use Rattle.growth_laws.specs.Need.{has_content, needed_below}
 use Rattle.growth_laws.specs.Steps.{IsClearFrom, IsContentPut}
-use Rattle.growth_laws.proofs.Contents.{content_place, whole_unit}
+use Rattle.growth_laws.proofs.Contents.{content_part, content_place, whole_unit}
 use Rattle.growth_laws.proofs.Counting.{count_same}
 use Rattle.growth_laws.proofs.Ends.{holes_are_clear, whole_files_are_clear}
 use Rattle.growth_laws.proofs.Fills.{some_by_part}
 use Rattle.growth_laws.proofs.Places.{content_is_level_zero, size_large}
 use Rattle.growth_laws.proofs.Puts.{dinode_same, file_after, own_bytes}
 use Rattle.growth_laws.proofs.Staying.{puts_keep_need}
+use Rattle.growth_drafts.specs.Taken.{IsContentIn}
 use Rattle.growth_drafts.specs.Touched.{Follows, as_it_was}
 use Rattle.growth_drafts.proofs.Following.{follows_draft, follows_one}
 use Rattle.growth_drafts.proofs.Rooms.{none_in}
@@ -71,6 +72,7 @@ module _ (after : Seen) (fates : FinMap nat_cmp Fate) (inode : ℕ) (h : Holding
     shown = subst (λ a. IsShown after a h) (sym shown.own) shown;
     same = risen_none fates h file;
     clear = clear;
+    others = λ b other. refl;
   }
 
   pub empty_is_clear : (dinode_in h).size ≡ 0 → HasCleared after fates fates h
@@ -106,6 +108,11 @@ module _ (old new : FinMap nat_cmp Fate) (after : Seen) (inode : ℕ) (h : Holdi
       if (dinode_same h cell i bytes file put t).height == 0 then not ((dinode_same h cell i bytes file put t).size == 0)
       else not (count_by (λ k. not (u64_at (dinode_length + 8 * k) (own_bytes h cell i bytes file put t) == 0)) (range_with_len 0 (fan h.size dinode_length)) == 0)
 
+  content_here : IsContentIn h (content_block h i)
+  content_here =
+      let at = content_part h file put.in_blocks i put.within put.there in
+      (at.0, at.1, i, at.2)
+
   put_is_risen : IsRisen old new h cell (height_in h) []
   put_is_risen = record {
     grown = record {
@@ -130,6 +137,7 @@ module _ (old new : FinMap nat_cmp Fate) (after : Seen) (inode : ℕ) (h : Holdi
     shown = subst (λ a. IsShown after a (with_cells h cell)) (sym own) becomes.shown;
     same = put_is_risen;
     clear = clear;
+    others = λ b other. put.others b (λ e. other (subst (IsContentIn h) (sym e) content_here));
   }
 
 -- ---- what is touched

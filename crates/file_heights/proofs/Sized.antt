@@ -1,5 +1,5 @@
 -- A file in blocks with another size and another count of blocks.
-use Rattle.std.proofs.Common.{◌≡◌, ◌↔◌, inl, inr, Option, ℕ, ◌+◌, ◌*◌, List, [], refl, sym, ap, subst, ◌∙◌, arith}
+use Rattle.std.proofs.Common.{◌≡◌, inl, inr, Option, ℕ, ◌+◌, ◌*◌, [], drop, refl, sym, ap, subst, ◌∙◌, arith}
 use Rattle.std.specs.Prelude.{is_some}
 use Rattle.std.specs.FinMap.{FinMap}
 use Rattle.std.specs.Ordering.{nat_cmp}
@@ -8,6 +8,7 @@ use Rattle.file_tree.specs.Apply.{resized}
 use Rattle.gfs2_layout.specs.Holding.{Cell, Holding, part_at, bytes_at}
 use Rattle.gfs2_layout.specs.Inode.{block_count, content_of, dinode_in, height_in}
 use Rattle.gfs2_layout.specs.Structures.{dinode_length}
+use Rattle.gfs2_layout.specs.Writing.{dinode_put}
 use Rattle.gfs2_layout.specs.declared.dinode.Dinode.{Dinode}
 use Rattle.glock_names.specs.Views.{Seen}
 use Rattle.dinode_tree.specs.Shown.{IsShown}
@@ -27,6 +28,7 @@ use Rattle.growth_steps.specs.Becoming.{Becomes}
 use Rattle.file_heights.specs.Grown.{IsGrown}
 use Rattle.file_heights.specs.Sized.{HasSize}
 use Rattle.file_heights.proofs.Joining.{grown_as, grown_then}
+use Rattle.file_heights.proofs.Keeping.{behind_put, heads_then, own_large, put_keeps_heads}
 
 module _ (h : Holding) (cell : ℕ → Option Cell) (parts : (x : ℕ) → part_at (with_cells h cell) x ≡ part_at h x) where
   some_same : (x : ℕ) → is_some (cell x) ≡ is_some (h.cell x)
@@ -43,7 +45,9 @@ module _ (h : Holding) (cell : ℕ → Option Cell) (parts : (x : ℕ) → part_
   )
 
 module _ (f0 f1 f2 : FinMap nat_cmp Fate) (mid after : Seen) (inode : ℕ) (h : Holding) (c1 c2 : ℕ → Option Cell) (size blocks : ℕ) (file : IsFile h) (sized : IsSized h c1 size) (one : Becomes mid f0 f1 inode h (with_cells h c1))
-    (told : IsTold (with_cells h c1) c2 blocks) (two : Becomes after f1 f2 inode (with_cells h c1) (with_cells h c2)) where
+    (told : IsTold (with_cells h c1) c2 blocks) (two : Becomes after f1 f2 inode (with_cells h c1) (with_cells h c2))
+    (put_size : bytes_at (with_cells h c1) h.own ≡ dinode_put (record (dinode_in h) { size = size }) (bytes_at h h.own))
+    (put_count : bytes_at (with_cells h c2) h.own ≡ dinode_put (record (dinode_in (with_cells h c1)) { blocks = blocks }) (bytes_at (with_cells h c1) h.own)) where
   after_size : IsFile (with_cells h c1) × (content_of (with_cells h c1) ≡ resized size (content_of h))
   after_size = sizes_resize h c1 size file sized
 
@@ -76,6 +80,9 @@ module _ (f0 f1 f2 : FinMap nat_cmp Fate) (mid after : Seen) (inode : ℕ) (h : 
         drafted = two.drafted;
       }
 
+  behind_size : drop dinode_length (bytes_at (with_cells h c1) h.own) ≡ drop dinode_length (bytes_at h h.own)
+  behind_size = ap (drop dinode_length) put_size ∙ behind_put (record (dinode_in h) { size = size }) (bytes_at h h.own) (own_large h file)
+
   high_one : height_in (with_cells h c1) ≡ height_in h
   high_one = ap (λ (d : Dinode). d.height) sized.dinode
 
@@ -96,4 +103,7 @@ module _ (f0 f1 f2 : FinMap nat_cmp Fate) (mid after : Seen) (inode : ℕ) (h : 
         grown_as f0 f2 h c2 _ _ _ _ _ _ (ap (λ (d : Dinode). record d { blocks = blocks }) sized.dinode) after_size.1 refl
         (grown_then f0 f1 f2 h c1 c2 _ _ _ _ [] [] grown_size grown_count);
     need = λ at end height. need_count at end height ∙ sizes_keep_need h c1 size at end height file sized;
+    heads = heads_then h (with_cells h c1) (with_cells h c2) refl file (λ b level first placed there. (placed.0, placed.1, sized.parts b ∙ placed.2))
+        (put_keeps_heads h c1 (record (dinode_in h) { size = size }) file put_size sized.dinode behind_size sized.others)
+        (put_keeps_heads (with_cells h c1) c2 (record (dinode_in (with_cells h c1)) { blocks = blocks }) after_size.0 put_count told.dinode told.behind told.others);
   }

@@ -4,7 +4,7 @@ use Rattle.std.specs.FinMap.{FinMap}
 use Rattle.std.specs.Ordering.{nat_cmp}
 use Rattle.drafts.specs.declared.fate.Fate.{Fate}
 use Rattle.file_tree.specs.Apply.{file_limit}
-use Rattle.gfs2_layout.specs.Holding.{Cell, Holding}
+use Rattle.gfs2_layout.specs.Holding.{Cell, Holding, bytes_at}
 use Rattle.gfs2_layout.specs.Inode.{block_count, content_of, dinode_in, height_in}
 use Rattle.gfs2_layout.specs.declared.dinode.Dinode.{Dinode}
 use Rattle.glock_names.specs.Views.{Seen}
@@ -12,7 +12,7 @@ use Rattle.dinode_tree.specs.Shown.{IsShown}
 use Rattle.growth_laws.specs.Files.{IsFile, IsPlaced, with_cells}
 use Rattle.growth_laws.specs.Need.{has_content, height_for, needed_below}
 use Rattle.growth_laws.specs.Steps.{IsClearFrom}
-use Rattle.growth_drafts.specs.Taken.{AreFreeFor, DraftsFile, HasTaken}
+use Rattle.growth_drafts.specs.Taken.{AreFreeFor, DraftsFile, HasTaken, IsContentIn}
 
 -- ---- a file afterwards
 
@@ -54,9 +54,11 @@ pub record CanGrow (h : Holding) (size : ℕ) (room : List ℕ) : Type 0 where
 
 -- ---- its end
 
--- over a draft that showed a file in blocks: afterwards it shows the same one, with nothing but zeros behind its end
+-- Over a draft that showed a file in blocks: afterwards it shows the same one, with nothing but zeros behind its end; no block but one of content
+-- has other bytes.
 pub record HasCleared (after : Seen) (old new : FinMap nat_cmp Fate) (h : Holding) : Type 0 where
   pub cell : ℕ → Option Cell
   pub shown : IsShown after h.own (with_cells h cell)
   pub same : IsRisen old new h cell (height_in h) []
   pub clear : IsClearFrom (with_cells h cell) (dinode_in h).size
+  pub others : (b : ℕ) → (IsContentIn h b → ⊥) → bytes_at (with_cells h cell) b ≡ bytes_at h b

@@ -1,2 +1,3 @@
+pub mod Keeping
 pub mod Grown
 pub mod Sized

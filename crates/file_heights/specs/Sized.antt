@@ -12,14 +12,17 @@ use Rattle.dinode_tree.specs.Shown.{IsShown}
 use Rattle.growth_laws.specs.Files.{with_cells}
 use Rattle.growth_laws.specs.Need.{needed_below}
 use Rattle.file_heights.specs.Grown.{IsGrown}
+use Rattle.file_heights.specs.Keeping.{KeepsHeads}
 
 -- what the dinode says: of all that it said, only the size, the count of blocks and the height are others
 abbrev pub dinode_as : Dinode → ℕ → ℕ → ℕ → Dinode
 dinode_as d size blocks height = record d { size = size; blocks = blocks; height = height }
 
--- over a draft that showed a file: afterwards it shows the file with this size and this count of blocks; a write needs what it needed
+-- Over a draft that showed a file: afterwards it shows the file with this size and this count of blocks, and else the same; a write needs what it
+-- needed.
 pub record HasSize (after : Seen) (old new : FinMap nat_cmp Fate) (h : Holding) (size blocks : ℕ) : Type 0 where
   pub cell : ℕ → Option Cell
   pub shown : IsShown after h.own (with_cells h cell)
   pub grown : IsGrown old new h cell (dinode_as (dinode_in h) size blocks (height_in h)) (resized size (content_of h)) []
   pub need : (at end height : ℕ) → needed_below (with_cells h cell) at end height ≡ needed_below h at end height
+  pub heads : KeepsHeads h (with_cells h cell)

@@ -1,4 +1,4 @@
-use Rattle.std.proofs.Common.{ℕ, [], Vec, Global, true≢false, sym, ◌∙◌, subst}
+use Rattle.std.proofs.Common.{◌≡◌, ℕ, [], Vec, Global, true, true≢false, sym, ◌∙◌, subst}
 use Rattle.std.specs.Prelude.{Contains}
 use Rattle.drafts.specs.Fates.{seen_in}
 use Rattle.gfs2_layout.specs.Holding.{Holding}
@@ -10,11 +10,12 @@ use Rattle.dinode_tree.specs.Reading.{IsNeeded}
 use Rattle.dinode_tree.specs.Shown.{IsShown}
 use Rattle.growth_drafts.specs.Taken.{IsCutAt}
 use Rattle.growth_drafts.specs.Touched.{Follows}
-use Rattle.file_cuts.specs.Cut.{HasCut}
+use Rattle.file_cuts.specs.Cut.{HasCut, WasLedTo}
+use Rattle.resource_groups.specs.Putting.{HasDataBlock}
 use Rattle.image_model.specs.Owners.{holding}
 use Rattle.path_walks.proofs.Faults.{told_on, tells_so, tells_all}
 use Rattle.file_changes.specs.Drafting.{IsNeededAt, IsWrongAt, in_inode}
-use Rattle.file_changes.proofs.CutSteps.{shown_new, there_still, is_cut_draft, shown_there, freed_inside, some_at, none_at, left_inode}
+use Rattle.file_changes.proofs.CutSteps.{shown_new, there_still, is_cut_draft, shown_there, freed_inside, some_at, if_some_at, none_at, left_inode}
 use Rattle.file_changes.proofs.Cutting.{can_cut}
 use Rattle.file_changes.proofs.Fresh.{seen_new}
 use Rattle.file_changes.proofs.Stepping.{not_both}
@@ -85,4 +86,6 @@ returns-clause-cut g c =
     is_cut_draft g.V.View.seen c.args.view.now c.args.draft.now c.requires.new c.args.inode c.args.size c.cut.new.draft c.cut.ensures.view c.args.time c.in-Is-Some.freed.items c.put_time.new.draft.fates
     (answer_at c.in_ok-freed.field-0 c.in-Is-Some.field-0 (λ done. Follows (g.V.View.seen c.args.draft.now.view) c.args.inode [] c.args.draft.now.fates c.cut.new.draft.fates) c.in-Is-Some.is (c.in_ok-freed.ensures.within []))
     (λ h shown can. some_at c.in_ok-freed.field-0 c.in-Is-Some.field-0 c.in-Is-Some.freed (λ (xs : Vec ℕ Global). HasCut (seen_in g.V.View.seen c.cut.new.draft) c.args.draft.now.fates c.cut.new.draft.fates h c.args.size xs.items) c.in-Is-Some.is c.in-Is-Some.field-0-is (c.in_ok-freed.ensures.cut h shown can))
+    (if_some_at c.in_ok-freed.field-0 c.in-Is-Some.field-0 c.in-Is-Some.freed (λ (xs : Vec ℕ Global). (b : ℕ) → Contains xs.items b → WasLedTo (g.V.View.seen c.args.draft.now.view) c.args.inode c.args.draft.now.fates c.cut.new.draft.fates b) c.in-Is-Some.is c.in-Is-Some.field-0-is c.in_ok-freed.ensures.led)
+    (λ b is. answer_at c.in_ok-check_data_blocks.field-0 c.in-Is-true.field-0 (λ inside. inside ≡ true → (x : ℕ) → Contains c.deref.result.now x → HasDataBlock (g.V.View.seen c.args.view.now) x) c.in-Is-true.is c.in_ok-check_data_blocks.ensures.inside c.in-Is-true.field-0-test b (subst (λ xs. Contains xs b) (sym c.deref.ensures.value) is))
     (c.in_ok-put_time.ensures.timed c.if-not-branch.false)

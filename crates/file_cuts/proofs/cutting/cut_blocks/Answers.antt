@@ -1,5 +1,5 @@
-use Rattle.std.proofs.Common.{◌≡◌, ◌⊎◌, ◌-◌, ◌/◌, ◌<◌, ◌≤◌, ℕ, inl, true, false, length, refl, sym, ap, subst, ◌∙◌, arith, rules}
-use Rattle.std.specs.Prelude.{IsSomeAnd}
+use Rattle.std.proofs.Common.{◌≡◌, ◌⊎◌, ◌-◌, ◌/◌, ◌<◌, ◌≤◌, ℕ, inl, true, false, [], length, refl, sym, ap, subst, ◌∙◌, arith, rules}
+use Rattle.std.specs.Prelude.{Contains, IsSomeAnd}
 use Rattle.std.specs.declared.vec.Vec.{Vec}
 use Rattle.drafts.specs.Fates.{seen_in, seen_with}
 use Rattle.gfs2_layout.specs.Inode.{content_count, height_in, pieces, span}
@@ -11,11 +11,12 @@ use Rattle.growth_drafts.specs.Touched.{Follows}
 use Rattle.growth_drafts.proofs.Following.{follows_then}
 use Rattle.file_fills.specs.Filling.{IsSeenWay}
 use Rattle.file_fills.proofs.Seeing.{count_is}
-use Rattle.file_cuts.specs.Cut.{end_of}
+use Rattle.file_cuts.specs.Cut.{WasLedTo, end_of}
 use Rattle.file_cuts.specs.Progress.{CanFree, HasCutTo, IsSeenOver}
 use Rattle.file_cuts.proofs.Ending.{can_have}
 use Rattle.file_cuts.proofs.Finishing.{cut_is_done}
 use Rattle.file_cuts.proofs.Going.{as_before}
+use Rattle.file_cuts.proofs.Leading.{led_all, led_then}
 use Rattle.file_cuts.proofs.Ways.{none_of, way_on}
 use Rattle.file_cuts.proofs.cutting.cut_blocks.Goals as goal
 
@@ -101,3 +102,9 @@ pub returns-clause-within : goal.returns-clause-within
 returns-clause-within g c room =
     follows_then (g.V.View.seen c.args.draft.now.view) c.args.inode room _ _ _ (c.in_ok-freed.ensures.within room)
     (subst (λ v. Follows (g.V.View.seen v) c.args.inode room c.free_past.new.draft.fates c.set_end.new.draft.fates) c.in_ok-freed.ensures.view (c.in_ok-set_end.ensures.within room))
+
+pub returns-clause-led : goal.returns-clause-led
+returns-clause-led g c b is =
+    led_then (g.V.View.seen c.args.draft.now.view) c.args.inode c.args.draft.now.fates c.free_past.new.draft.fates c.set_end.new.draft.fates b
+    (led_all _ c.in-Some.freed (λ (xs : Vec ℕ _). (x : ℕ) → Contains xs.items x → WasLedTo (g.V.View.seen c.args.draft.now.view) c.args.inode c.args.draft.now.fates c.free_past.new.draft.fates x) c.in-Some.is c.in_ok-freed.ensures.led b is)
+    (subst (λ v. Follows (g.V.View.seen v) c.args.inode [] c.free_past.new.draft.fates c.set_end.new.draft.fates) c.in_ok-freed.ensures.view (c.in_ok-set_end.ensures.within []))

@@ -1,10 +1,11 @@
-use Rattle.std.proofs.Common.{◌≡◌, ◌-◌, ◌/◌, ◌≤◌, inl, inr, true, false, Some, sym, ap, subst, ◌∙◌, arith, rules}
+use Rattle.std.proofs.Common.{◌≡◌, ◌-◌, ◌/◌, ◌≤◌, inl, inr, true, false, Some, [], sym, ap, subst, ◌∙◌, arith, rules}
 use Rattle.std.proofs.lemmas.Bool.{cases_eq}
 use Rattle.drafts.specs.Fates.{seen_in}
 use Rattle.gfs2_layout.specs.Inode.{span}
 use Rattle.growth_laws.specs.Files.{with_cells}
 use Rattle.growth_drafts.specs.Touched.{as_it_was}
 use Rattle.file_fills.proofs.Touching.{reached_from}
+use Rattle.file_cuts.proofs.Leading.{led_one}
 use Rattle.file_cuts.proofs.Place.{has_block, index_so, on_hole, on_kept, place_so, same_level, shown_so}
 use Rattle.file_cuts.proofs.Steps.{reached_at}
 use Rattle.file_cuts.proofs.freeing.free_at.Goals as goal
@@ -88,3 +89,22 @@ pub returns-clause-within : goal.returns-clause-within
 returns-clause-within g c room =
     c.in_ok-free_one.ensures.within room (reached_from (seen_in g.V.View.seen c.args.draft.now) c.args.inode room c.in-Some.stop.pointer.from c.in-Some.ensures.from)
     (reached_at (seen_in g.V.View.seen c.args.draft.now) c.args.inode room c.args.level c.args.place c.in-Some.stop c.if-stop-eq0.false c.in-Some.ensures.leads)
+
+pub returns-clause-led : goal.returns-clause-led
+returns-clause-led g c b =
+    led_one (g.V.View.seen c.args.draft.now.view) c.args.inode c.args.draft.now.fates c.free_one.new.draft.fates c.in-Some.stop.block b c.args.freed.now.items c.free_one.new.freed.items c.in_ok-free_one.ensures.freed
+    (λ h shown. (c.in-Some.stop.pointer.from, c.in-Some.stop.pointer.index, c.in-Some.stop.level, _, c.in-Some.ensures.leads h shown c.if-stop-eq0.false))
+    (c.in_ok-free_one.ensures.within [] (reached_from (seen_in g.V.View.seen c.args.draft.now) c.args.inode [] c.in-Some.stop.pointer.from c.in-Some.ensures.from)
+    (reached_at (seen_in g.V.View.seen c.args.draft.now) c.args.inode [] c.args.level c.args.place c.in-Some.stop c.if-stop-eq0.false c.in-Some.ensures.leads))
+
+pub returns-in_default-clause-led : goal.returns-in_default-clause-led
+returns-in_default-clause-led g c b is = inl is
+
+pub returns-then-stop-eq0-clause-led : goal.returns-then-stop-eq0-clause-led
+returns-then-stop-eq0-clause-led g c b is = inl is
+
+pub returns-in_default-is_idle-clause-led : goal.returns-in_default-is_idle-clause-led
+returns-in_default-is_idle-clause-led g c b is = inl is
+
+pub returns-then-not-idle-clause-led : goal.returns-then-not-idle-clause-led
+returns-then-not-idle-clause-led g c b is = inl is

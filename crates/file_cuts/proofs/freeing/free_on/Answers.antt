@@ -1,6 +1,6 @@
-use Rattle.std.proofs.Common.{◌≡◌, ◌+◌, ◌*◌, ◌/◌, ◌<◌, ◌≤◌, suc, inl, inr, IfSome, refl, sym, ap, subst, ◌∙◌, arith}
+use Rattle.std.proofs.Common.{◌≡◌, ◌⊎◌, ◌+◌, ◌*◌, ◌/◌, ◌<◌, ◌≤◌, suc, inl, inr, IfSome, [], refl, sym, ap, subst, ◌∙◌, arith}
 use Rattle.std.proofs.lemmas.Bool.{cases_lt}
-use Rattle.std.specs.Prelude.{IsSomeAnd}
+use Rattle.std.specs.Prelude.{Contains, IsSomeAnd}
 use Rattle.gfs2_layout.specs.Device.{IsBlockSize}
 use Rattle.gfs2_layout.specs.Inode.{content_count, span}
 use Rattle.dinode_tree.proofs.Dinodes.{lacks}
@@ -8,8 +8,10 @@ use Rattle.dinode_tree.proofs.Spans.{span_some}
 use Rattle.growth_drafts.specs.Touched.{Follows, as_it_was}
 use Rattle.growth_drafts.proofs.Following.{follows_then}
 use Rattle.growth_laws.proofs.Places.{size_large}
+use Rattle.file_cuts.specs.Cut.{WasLedTo}
 use Rattle.file_cuts.specs.Progress.{HasCutTo}
 use Rattle.file_cuts.proofs.Going.{cut_up}
+use Rattle.file_cuts.proofs.Leading.{led_on}
 use Rattle.file_cuts.proofs.Past.{at_most}
 use Rattle.file_cuts.proofs.Place.{reach_from}
 use Rattle.file_cuts.proofs.freeing.free_on.Goals as goal
@@ -19,6 +21,7 @@ places-init g c = record {
   view = refl;
   least = omega (arith, c.place_over-place.ensures);
   within = λ room. as_it_was c.args.draft.now.fates;
+  led = λ b is. inl is;
   gone = λ h old can count low a.
       let size : c.block_size-size.result ≡ h.size = c.block_size-size.ensures.value ∙ sym a.shown.size in
       subst (λ n. HasCutTo (g.V.View.seen c.args.draft.now.view) old c.args.draft.now.fates h c.args.end c.args.level n c.args.freed.now.items) (sym (c.place_over-place.ensures ∙ ap (λ m. c.args.end / span m c.args.level) size)) a;
@@ -45,6 +48,9 @@ places-preserved g c =
       least = omega (arith, later, c.places.invariant.least);
       within = λ room. follows_then (g.V.View.seen c.args.draft.now.view) c.args.inode room _ _ _ (c.places.invariant.within room)
           (subst (λ v. Follows (g.V.View.seen v) c.args.inode room c.places.draft.fates c.free_at.new.draft.fates) c.places.invariant.view (c.in_ok-next.ensures.within room));
+      led = λ b. led_on (g.V.View.seen c.args.draft.now.view) c.args.inode c.args.draft.now.fates c.places.draft.fates c.free_at.new.draft.fates b c.args.freed.now.items c.places.freed.items c.free_at.new.freed.items (c.places.invariant.led b)
+          (subst (λ v. Contains c.free_at.new.freed.items b → Contains c.places.freed.items b ⊎ WasLedTo (g.V.View.seen v) c.args.inode c.places.draft.fates c.free_at.new.draft.fates b) c.places.invariant.view (c.in_ok-next.ensures.led b))
+          (c.places.invariant.within []) (subst (λ v. Follows (g.V.View.seen v) c.args.inode [] c.places.draft.fates c.free_at.new.draft.fates) c.places.invariant.view (c.in_ok-next.ensures.within []));
       gone = λ h old can count low a.
           let size : c.block_size-size.result ≡ h.size = c.block_size-size.ensures.value ∙ sym a.shown.size in
           let so = c.places.invariant.gone h old can count low a in
@@ -85,3 +91,9 @@ returns-clause-gone g c h old can count low a =
         ways = so.ways;
       }),
     )
+
+pub returns-in-None-clause-led : goal.returns-in-None-clause-led
+returns-in-None-clause-led g c b =
+    led_on (g.V.View.seen c.args.draft.now.view) c.args.inode c.args.draft.now.fates c.places.draft.fates c.free_at.new.draft.fates b c.args.freed.now.items c.places.freed.items c.free_at.new.freed.items (c.places.invariant.led b)
+    (subst (λ v. Contains c.free_at.new.freed.items b → Contains c.places.freed.items b ⊎ WasLedTo (g.V.View.seen v) c.args.inode c.places.draft.fates c.free_at.new.draft.fates b) c.places.invariant.view (c.in_ok-next.ensures.led b))
+    (c.places.invariant.within []) (subst (λ v. Follows (g.V.View.seen v) c.args.inode [] c.places.draft.fates c.free_at.new.draft.fates) c.places.invariant.view (c.in_ok-next.ensures.within []))

@@ -25,3 +25,6 @@ pub returns-clause-within : goal.returns-clause-within
 returns-clause-within g c room from block =
     follows_draft (g.V.View.seen c.args.draft.now.view) c.args.inode room c.args.draft.now c.free_block.new.draft _ (c.in_ok-free_block.ensures.put c.requires.there.0 c.requires.there.1)
     (follows_two (g.V.View.seen c.args.draft.now.view) c.args.inode room c.args.draft.now.fates c.args.stop.pointer.from c.args.stop.block _ _ from block)
+
+pub returns-clause-freed : goal.returns-clause-freed
+returns-clause-freed g c = c.in_ok-push.ensures.items
