@@ -6,3 +6,4 @@ pub mod Further
 pub mod Stepped
 pub mod Pieces
 pub mod Touching
+pub mod Turns

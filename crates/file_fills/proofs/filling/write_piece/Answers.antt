@@ -51,7 +51,7 @@ returns-clause-written g c h from end shown r low high way =
     let one = put_one g.V.View.seen c.make_way.new.draft c.put_content.new.draft c.args.inode (with_cells h come.cell) from end (c.args.at / c.from-size.result) c.in-Some.block (c.args.at % c.from-size.result) c.args.piece.now there.0 c.make_way.new.room.items there.1
     ready.1 ready.0 has made.is made.there (c.in_ok-put_content.ensures.put there.0 there.1) written in
     let both = block_then (seen_in g.V.View.seen c.make_way.new.draft) (seen_in g.V.View.seen c.put_content.new.draft) c.args.draft.now.fates c.make_way.new.draft.fates c.put_content.new.draft.fates c.args.room.now.items c.make_way.new.room.items c.make_way.new.room.items
-    h from end (c.args.at / c.from-size.result) c.in-Some.block (content_of h) _ come one in (
+    h from end (c.args.at / c.from-size.result) c.in-Some.block (content_of h) _ (record { come = come; above = made.above }) one in (
       refl,
       (
         c.in-Some.block,
