@@ -121,7 +121,8 @@ module _ (old new : FinMap nat_cmp Fate) (after : Seen) (inode : ℕ) (h : Holdi
         let zero_more : needed_below (with_cells h cell) at end to ≡ 0 + needed_below (with_cells h cell) at end to = omega arith in
         sym (puts_keep_need h cell i bytes at end to file put) ∙ zero_more;
     clear = λ high none. clear;
-    along = λ has. has_same ∙ has;
+    along = has_same;
+    levels = record { each = λ level is low. absurd (omega (arith, is.1, low)); only = λ x level first none. absurd (none_in x none); turn = tt };
   }
 
   pub end_is_clear : h.own ≡ inode → HasCleared after old new h

@@ -1,5 +1,5 @@
 -- A file whose height rises by a step, or without a block.
-use Rattle.std.proofs.Common.{◌≡◌, ◌≢◌, ◌⊎◌, inl, inr, true, false, Option, None, ℕ, zero, suc, ◌+◌, ◌-◌, ◌*◌, ◌/◌, max, ◌<◌, ◌≤◌, List, [], ◌∷◌, refl, sym, ap, subst, ◌∙◌, arith}
+use Rattle.std.proofs.Common.{◌≡◌, ◌≢◌, ◌⊎◌, inl, inr, true, false, Option, None, Some, ℕ, zero, suc, ◌+◌, ◌-◌, ◌*◌, ◌/◌, max, ◌<◌, ◌≤◌, List, [], ◌∷◌, refl, sym, ap, subst, ◌∙◌, arith}
 use Rattle.std.proofs.lemmas.Bool.{cases_eq, cases_lt, cond-true, eq-eqb, ne_eqb}
 use Rattle.std.proofs.Math.Nat.{lt-mul-div-succ, mul-le-mul_right}
 use Rattle.std.specs.Prelude.{Contains, IsSome, is_some, ◌↔◌, not, ◌==◌}
@@ -7,7 +7,7 @@ use Rattle.std.specs.FinMap.{FinMap}
 use Rattle.std.specs.Ordering.{nat_cmp}
 use Rattle.drafts.specs.declared.fate.Fate.{Fate}
 use Rattle.file_tree.specs.Apply.{file_limit}
-use Rattle.gfs2_layout.specs.Holding.{Cell, Holding, part_at}
+use Rattle.gfs2_layout.specs.Holding.{Pointed, Cell, Holding, part_at}
 use Rattle.gfs2_layout.specs.Inode.{block_count, content_count, content_of, dinode_in, fan, height_in, pieces, pointer, span}
 use Rattle.gfs2_layout.specs.Structures.{dinode_length}
 use Rattle.gfs2_layout.specs.declared.dinode.Dinode.{Dinode}
@@ -23,6 +23,7 @@ use Rattle.growth_laws.proofs.Counting.{count_same}
 use Rattle.growth_laws.proofs.Ends.{bare_files_are_clear, moved_content_is_clear, rises_stay_clear}
 use Rattle.growth_laws.proofs.Fills.{some_by_part}
 use Rattle.growth_laws.proofs.Heights.{bare_files_have_no_block, capacity_reaches, heights_reach, raised_enough}
+use Rattle.growth_laws.proofs.Parts.{same_first, same_level}
 use Rattle.growth_laws.proofs.Places.{size_large}
 use Rattle.growth_laws.proofs.Raises.{raises_keep_files, some_same, unmoved}
 use Rattle.growth_laws.proofs.Rising.{has_some, raises_lower_need, unstuffing_lowers_need}
@@ -33,7 +34,8 @@ use Rattle.growth_drafts.proofs.Rooms.{none_in, none_some, only_in}
 use Rattle.growth_steps.specs.Becoming.{Becomes}
 use Rattle.growth_steps.specs.Heights.{CanBeBare, CanRise, IsNewTo}
 use Rattle.file_fills.proofs.Counted.{pointers_go_along}
-use Rattle.file_heights.specs.Grown.{CanGrow, HasRisen, IsRisen}
+use Rattle.file_fills.proofs.Turns.{stand_one}
+use Rattle.file_heights.specs.Grown.{AreLevels, CanGrow, HasRisen, IsLower, IsRisen}
 
 -- ---- content that goes along
 
@@ -103,6 +105,20 @@ module _ (old new : FinMap nat_cmp Fate) (after : Seen) (inode : ℕ) (h : Holdi
       λ placed. (moved_from h.own b placed.0, placed.1, raised.parts x (apart x had) ∙ ap (moved h.own b) placed.2),
     )
 
+    has_already : has_content h ≡ true
+    has_already = has_some h raised.leads.0 (λ none. omega (arith, none, raised.high)) raised.leads.1 raised.leads.2
+
+    top_level : AreLevels h (with_cells h cell) (suc (suc level)) (b ∷ [])
+    top_level = record {
+      each = λ l is low.
+          let same : suc level ≡ l = omega (arith, is.1, low, raised.high) in
+          (b, (0, omega arith, refl), (h.own, 0, raised.part ∙ ap (λ n. Some (Pointed h.own 0 n 0)) same));
+      only = λ x l first taken placed.
+          let part = sym raised.part ∙ ap (part_at (with_cells h cell)) (sym (only_in b x taken)) ∙ placed.2 in
+          ((has_already, omega (arith, same_level part, raised.high), sym (same_first part)), omega (arith, same_level part));
+      turn = stand_one IsLower (with_cells h cell) b;
+    }
+
     pub raised_is_risen : IsRisen old new h cell (suc (suc level)) (b ∷ [])
     raised_is_risen = record {
       grown = record {
@@ -118,7 +134,8 @@ module _ (old new : FinMap nat_cmp Fate) (after : Seen) (inode : ℕ) (h : Holdi
           let one = raises_lower_need h cell level b at end to file raised (omega (arith, low)) in
           omega (arith, one);
       clear = λ high clear. rises_stay_clear h cell level b (dinode_in h).size file raised (clear (λ none. omega (arith, none, raised.high)));
-      along = λ has. has_some (with_cells h cell) 0 (λ none. omega (arith, none, higher)) (omega (arith, raised.leads.1)) (λ none. raised.some (sym raised.first ∙ none));
+      along = has_some (with_cells h cell) 0 (λ none. omega (arith, none, higher)) (omega (arith, raised.leads.1)) (λ none. raised.some (sym raised.first ∙ none)) ∙ sym has_already;
+      levels = top_level;
     }
 
   module _ (b : ℕ) (moved_out : IsUnstuffed h cell b) where
@@ -130,6 +147,20 @@ module _ (old new : FinMap nat_cmp Fate) (after : Seen) (inode : ℕ) (h : Holdi
 
     one_high : height_in (with_cells h cell) ≡ 1
     one_high = ap (λ (d : Dinode). d.height) moved_out.dinode
+
+    has_behind : has_content h ≡ true
+    has_behind = cond-true _ _ _ (eq-eqb (height_in h) 0 moved_out.stuffed) ∙ ap not (ne_eqb (dinode_in h).size 0 moved_out.content)
+
+    first_level : AreLevels h (with_cells h cell) 1 (b ∷ [])
+    first_level = record {
+      each = λ l is low.
+          let same : 0 ≡ l = omega (arith, low) in
+          (b, (0, omega arith, refl), (h.own, 0, moved_out.part ∙ ap (λ n. Some (Pointed h.own 0 n 0)) same));
+      only = λ x l first taken placed.
+          let part = sym moved_out.part ∙ ap (part_at (with_cells h cell)) (sym (only_in b x taken)) ∙ placed.2 in
+          ((has_behind, omega (arith, moved_out.stuffed), sym (same_first part)), omega (arith, same_level part));
+      turn = stand_one IsLower (with_cells h cell) b;
+    }
 
     pub moved_is_risen : IsRisen old new h cell 1 (b ∷ [])
     moved_is_risen = record {
@@ -149,7 +180,8 @@ module _ (old new : FinMap nat_cmp Fate) (after : Seen) (inode : ℕ) (h : Holdi
           let one = unstuffing_lowers_need h cell b at end to file moved_out (omega (arith, low)) in
           omega (arith, one);
       clear = λ high clear. moved_content_is_clear h cell b file moved_out;
-      along = λ has. has_some (with_cells h cell) 0 (λ none. omega (arith, none, one_high)) (omega (arith, size_large h.size file.block_size)) (λ none. moved_out.some (sym moved_out.first ∙ none));
+      along = has_some (with_cells h cell) 0 (λ none. omega (arith, none, one_high)) (omega (arith, size_large h.size file.block_size)) (λ none. moved_out.some (sym moved_out.first ∙ none)) ∙ sym has_behind;
+      levels = first_level;
     }
 
   module _ (height : ℕ) (none_along : has_content h ≡ false) (bare : IsBareTo h cell height) where
@@ -162,6 +194,17 @@ module _ (old new : FinMap nat_cmp Fate) (after : Seen) (inode : ℕ) (h : Holdi
     same_count : block_count (with_cells h cell) ≡ block_count h
     unfolding block_count
     same_count = count_same (λ x. is_some (h.cell x)) (λ x. is_some (cell x)) 0 h.count (λ x low high. all_same x)
+
+    high_now : height_in (with_cells h cell) ≡ height
+    high_now = ap (λ (d : Dinode). d.height) bare.dinode
+
+    none_still : has_content (with_cells h cell) ≡ false
+    none_still = elim (cases_eq height 0) [
+      | inl none ↦
+          cond-true _ _ _ (eq-eqb (height_in (with_cells h cell)) 0 (high_now ∙ none))
+          ∙ ap not (eq-eqb (dinode_in (with_cells h cell)).size 0 (ap (λ (d : Dinode). d.size) bare.dinode ∙ bare.to_stuffed none))
+      | inr high ↦ sym (pointers_go_along (with_cells h cell) false (λ none. high (sym high_now ∙ none)) (λ no. absurd (cc), λ found. absurd (found.2 (bare.none found.0 found.1))))
+    ]
 
     pub bare_is_risen : IsRisen old new h cell height []
     bare_is_risen = record {
@@ -179,7 +222,12 @@ module _ (old new : FinMap nat_cmp Fate) (after : Seen) (inode : ℕ) (h : Holdi
           let zero_more : needed_below (with_cells h cell) at end to ≡ 0 + needed_below (with_cells h cell) at end to = omega arith in
           sym kept_need ∙ zero_more;
       clear = λ high clear. bare_files_are_clear h cell height (dinode_in h).size file bare high;
-      along = λ has. let both : true ≡ false = sym has ∙ none_along in absurd (cc);
+      along = none_still ∙ sym none_along;
+      levels = record {
+        each = λ level is low. (let both : true ≡ false = sym is.0 ∙ none_along in absurd (cc));
+        only = λ x level first none. absurd (none_in x none);
+        turn = tt;
+      };
     }
 
 -- ---- as the draft shows it
