@@ -39,6 +39,7 @@ further_none fates h at end file = record {
   counted = (let same : block_count h ≡ block_count h + 0 = omega arith in same);
   parts = λ b some. refl;
   filled = record { over = λ b level j none. absurd (none_in b none); holes = λ b c level first none. absurd (none_in b none); turn = tt };
+  clear = λ from far clear. clear;
   need = (let same : needed_below h at end (height_in h) ≡ 0 + needed_below h at end (height_in h) = omega arith in same);
   drafted = record {
     own = λ b some. inl (record { fate = refl; had = some; bytes = refl; content = (λ x. x, λ x. x) });
@@ -137,6 +138,7 @@ module _ (f0 f1 f2 : FinMap nat_cmp Fate) (h : Holding) (c1 c2 : ℕ → Option 
           (stand_as IsMetBefore IsMetBefore (with_cells h c1) (with_cells h c2) t1 placed_back (λ x y level first level' first' has has' placed placed' less. less) a.filled.turn) b.filled.turn
           (λ x y level first level' first' early late placed placed'. across x y level first level' first' early late (placed_back x level first early placed) placed');
     };
+    clear = λ from far clear. b.clear from far (a.clear from far clear);
     need =
         let later : needed_below (with_cells h c1) at end (height_in h) ≡ length t2 + needed_below (with_cells h c2) at end (height_in h)
         = subst (λ n. needed_below (with_cells h c1) at end n ≡ length t2 + needed_below (with_cells h c2) at end n) height_mid b.need in

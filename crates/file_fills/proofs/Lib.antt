@@ -7,3 +7,4 @@ pub mod Stepped
 pub mod Pieces
 pub mod Touching
 pub mod Turns
+pub mod Tails

@@ -40,6 +40,7 @@ use Rattle.file_fills.specs.Turns.{AreFilled}
 use Rattle.file_fills.proofs.Counted.{count_none}
 use Rattle.file_fills.proofs.Further.{further_none, kept_place, placed_back}
 use Rattle.file_fills.proofs.Seeing.{over_under, place_at}
+use Rattle.file_fills.proofs.Tails.{put_leaves}
 use Rattle.file_fills.proofs.Stepped.{above_then, across_at, before_end, come_then, put_further, ready_after}
 
 -- the block of content with a place has bytes of the write
@@ -64,12 +65,12 @@ content_kept old new h cell at end i taken file high low some further =
     ∙ sym (content_is_level_zero h i)
 
 pub put_one : {V : Type 0} (seen : V → Seen) (mid now : Drafted V) (inode : ℕ) (g : Holding) (from end index block off : ℕ) (piece bytes left : List ℕ) → (seen_in seen mid).block_at block ≡ Some bytes → IsShown (seen_in seen mid) inode g
-    → IsRoomFor g from end left → HasBytes g.size from end index → content_block g index ≡ block → block ≢ 0
+    → IsRoomFor g from end left → HasBytes g.size from end index → index * g.size + off + length piece ≤ end → off ≤ g.size → content_block g index ≡ block → block ≢ 0
     → now ≡ record mid { fates = insert mid.fates block (Put (inode_lock inode) true (put_at off piece bytes)) }
     → IsShown (seen_in seen now) inode (with_cells g (rewritten_cells g block (put_at off piece (bytes_at g block)))) × IsFile (with_cells g (rewritten_cells g block (put_at off piece (bytes_at g block))))
     × (content_of (with_cells g (rewritten_cells g block (put_at off piece (bytes_at g block)))) ≡ overwritten (index * g.size + off) piece (content_of g))
     → HasBlockAt (seen_in seen now) mid.fates now.fates left left g from end index block (overwritten (index * g.size + off) piece (content_of g))
-put_one {V} seen mid now inode g from end index block off piece bytes left there shown r has is some put written = record {
+put_one {V} seen mid now inode g from end index block off piece bytes left there shown r has short fits is some put written = record {
   come = record {
     cell = rewritten_cells g block (put_at off piece (bytes_at g block));
     taken = [];
@@ -97,7 +98,8 @@ put_one {V} seen mid now inode g from end index block off piece bytes left there
 
     further : IsFurther mid.fates now.fates g (rewritten_cells g block (put_at off piece (bytes_at g block))) from end []
     further = subst (λ fates. IsFurther mid.fates fates g (rewritten_cells g block (put_at off piece (bytes_at g block))) from end []) fates_are
-        (put_further mid.fates g from end index block (put_at off piece (bytes_at g block)) r.file written.1 placed)
+        (put_further mid.fates g from end index block (put_at off piece (bytes_at g block)) r.file written.1 placed
+        (λ n far. put_leaves off n piece (bytes_at g block) (omega (arith, fits, r.file.whole block _ placed.2)) (omega (arith, far, short))))
 
 pub block_then : (before after : Seen) (f0 f1 f2 : FinMap nat_cmp Fate) (room mid left : List ℕ) (h : Holding) (at end i block : ℕ) (bytes bytes' : List ℕ) (a : HasGone before f0 f1 room mid h at end i bytes)
     → HasBlockAt after f1 f2 mid left (with_cells h a.come.cell) at end i block bytes' → HasBlockAt after f0 f2 room left h at end i block bytes'
@@ -232,6 +234,7 @@ pieces_done after f0 f1 room left h at n end bytes r end_is n_is a = record {
   dinode = a.come.further.dinode;
   blocks = a.come.further.blocks;
   places = λ b level first had. (λ placed. (placed.0, placed.1, sym (a.come.further.parts b had) ∙ placed.2), λ placed. (placed.0, placed.1, a.come.further.parts b had ∙ placed.2));
+  clear = λ from far. a.come.further.clear from (omega (arith, far, end_is));
   filled = subst (λ m. AreFilled h (with_cells h a.come.cell) at m a.come.taken) end_is a.come.further.filled;
   counted = a.come.further.counted;
   as_many =

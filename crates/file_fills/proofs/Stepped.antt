@@ -1,5 +1,5 @@
 -- One step of a file that gets further in a draft: a hole is filled, or bytes are put.
-use Rattle.std.proofs.Common.{◌≡◌, ◌≢◌, ◌⊎◌, inl, inr, Bool, true, false, Option, None, Some, ℕ, zero, suc, ◌+◌, ◌*◌, ◌/◌, ◌^◌, ◌<◌, ◌≤◌, Result, Ok, Err, OnOk, List, [], ◌∷◌, ◌++◌, length, refl, sym, ap, subst, ◌∙◌, arith, append_assoc}
+use Rattle.std.proofs.Common.{◌≡◌, ◌≢◌, ◌⊎◌, inl, inr, Bool, true, false, Option, None, Some, ℕ, zero, suc, ◌+◌, ◌-◌, ◌*◌, ◌/◌, ◌^◌, ◌<◌, ◌≤◌, Result, Ok, Err, OnOk, List, [], ◌∷◌, ◌++◌, length, drop, refl, sym, ap, subst, ◌∙◌, arith, append_assoc}
 use Rattle.std.proofs.lemmas.Bool.{cases_eq, cond-true, cond-false, eq-eqb, ne_eqb}
 use Rattle.std.proofs.lemmas.List.Elements.{Contains-append_cases}
 use Rattle.std.proofs.Math.Nat.{mul-div_cancel}
@@ -14,6 +14,7 @@ use Rattle.finite_maps.proofs.Keys.{inserted_at, inserted_apart}
 use Rattle.gfs2_layout.specs.Holding.{Part, Pointed, Cell, Holding, cell_bytes, cell_part, part_at, bytes_at}
 use Rattle.gfs2_layout.specs.Inode.{block_count, dinode_in, height_in, content_block, content_count, content_of, pieces, span, IsPointed, by_dinode, by_block}
 use Rattle.gfs2_layout.specs.Structures.{dinode_of}
+use Rattle.gfs2_layout.specs.declared.dinode.Dinode.{Dinode}
 use Rattle.glock_names.specs.Views.{Seen}
 use Rattle.dinode_tree.specs.Reading.{inode_lock}
 use Rattle.dinode_tree.specs.Shown.{IsShown}
@@ -23,7 +24,7 @@ use Rattle.dinode_tree.proofs.Spans.{span_some}
 use Rattle.growth_laws.specs.Blocks.{start_in, with_pointer, rewritten, rewritten_cells, filled_cells}
 use Rattle.growth_laws.specs.Files.{IsFile, IsPlaced, block_on, with_cells}
 use Rattle.growth_laws.specs.Need.{is_over, needed_below}
-use Rattle.growth_laws.specs.Steps.{IsFilled}
+use Rattle.growth_laws.specs.Steps.{IsClearFrom, IsFilled}
 use Rattle.growth_laws.proofs.Contents.{content_place, whole_unit}
 use Rattle.growth_laws.proofs.Counting.{count_same}
 use Rattle.growth_laws.proofs.Fills.{count_after as fills_add_one, fills_keep_files, fills_keep_content, some_by_part}
@@ -45,6 +46,7 @@ use Rattle.file_fills.specs.Progress.{HasCome, HasGone, IsFurther}
 use Rattle.file_fills.proofs.Further.{free_taken, further_then, met_across, need_same, placed_back, room_further, way_further}
 use Rattle.file_fills.specs.Turns.{IsMetBefore}
 use Rattle.file_fills.proofs.Over.{over_above}
+use Rattle.file_fills.proofs.Tails.{clear_along}
 use Rattle.file_fills.proofs.Turns.{stand_one}
 
 -- ---- where the bytes are
@@ -206,6 +208,19 @@ module _ (old : FinMap nat_cmp Fate) (h : Holding) (at end i : ℕ) (stop : Stop
       let there : IsPlaced h c stop.level (first_of h 0 i stop) = subst (IsPlaced h c stop.level) (sym is.1) (subst (λ l. IsPlaced h c l first) (sym is.0) had) in
       c_some (sym ((part_there h r.file stop.level (place_of h 0 i stop) c stopped.passed.place.low stopped.passed.place.within c_some).1 there) ∙ stopped.passed.leads ∙ hole)
 
+  fill_clear : (upto : ℕ) → IsClearFrom h upto → IsClearFrom (with_cells h cells) upto
+  fill_clear upto clear =
+      clear_along h cells upto upto r.file (fills_keep_files h cells stop.pointer.from stop.pointer.index stop.level (first_of h 0 i stop) block r.file filled)
+      (λ none. r.in_blocks (sym (ap (λ (d : Dinode). d.height) filled.dinode) ∙ none)) (omega arith) clear
+      (λ c j placed. elim (cases_eq c block) [
+        | inl e ↦
+            let is = stands c 0 j (subst (Contains (block ∷ [])) (sym e) (0, omega arith, refl)) placed in
+            inr (ap (bytes_at (with_cells h cells)) e ∙ filled.zeros is.0)
+        | inr other ↦
+            let part = sym (filled.stays.parts c other) ∙ placed.2 in
+            inl ((placed.0, placed.1, part), ap (drop (upto - j * h.size)) (filled.stays.contents c placed.0 placed.1 j other part))
+      ])
+
   pub fill_further : IsFurther old puts h cells at end (block ∷ [])
   fill_further = record {
     file = fills_keep_files h cells stop.pointer.from stop.pointer.index stop.level (first_of h 0 i stop) block r.file filled;
@@ -226,6 +241,7 @@ module _ (old : FinMap nat_cmp Fate) (h : Holding) (at end i : ℕ) (stop : Stop
     counted = fills_add_one h cells stop.pointer.from stop.pointer.index stop.level (first_of h 0 i stop) block filled;
     parts = λ x had. filled.stays.parts x (λ e. none_here x e had);
     filled = record { over = fill_over; holes = fill_hole_was; turn = stand_one IsMetBefore (with_cells h cells) block };
+    clear = λ upto far clear. fill_clear upto clear;
     need =
         let one = fills_lower_need h cells stop.pointer.from stop.pointer.index stop.level (first_of h 0 i stop) block at end (place_of h 0 i stop) r.file filled refl (over_above h.size at end i stop.level large has) in
         let turned : needed_below (with_cells h cells) at end (height_in h) + 1 ≡ length (block ∷ []) + needed_below (with_cells h cells) at end (height_in h) = omega arith in
@@ -270,7 +286,8 @@ room_left h at end i stop room r has stopped hole = elim (cases_eq (needed_below
 
 -- ---- bytes are put
 
-module _ (old : FinMap nat_cmp Fate) (h : Holding) (at end i block : ℕ) (new : List ℕ) (file : IsFile h) (file' : IsFile (with_cells h (rewritten_cells h block new))) (placed : IsPlaced h block 0 i) where
+module _ (old : FinMap nat_cmp Fate) (h : Holding) (at end i block : ℕ) (new : List ℕ) (file : IsFile h) (file' : IsFile (with_cells h (rewritten_cells h block new))) (placed : IsPlaced h block 0 i)
+    (leaves : (n : ℕ) → end ≤ i * h.size + n → drop n new ≡ drop n (bytes_at h block)) where
   abbrev put_cells : ℕ → Option Cell
   put_cells = rewritten_cells h block new
 
@@ -297,6 +314,18 @@ module _ (old : FinMap nat_cmp Fate) (h : Holding) (at end i block : ℕ) (new :
   put_else : (x : ℕ) → x ≢ block → get put_fates x ≡ get old x
   put_else x other = inserted_apart nat_cmp_total nat_cmp-IsAntisymmetric old block (Put (inode_lock h.own) true new) x other
 
+  put_clear : (upto : ℕ) → end ≤ upto → IsClearFrom h upto → IsClearFrom (with_cells h put_cells) upto
+  put_clear upto far clear =
+      clear_along h put_cells upto upto file file' (λ none. omega (arith, none, file.tree.below block placed.0 placed.1 0 i placed.2, ap (λ (d : Dinode). d.height) put_dinode)) (omega arith) clear
+      (λ c j at_c. elim (cases_eq c block) [
+        | inl e ↦
+            let part = sym (kept.0 c) ∙ at_c.2 in
+            let same : j ≡ i = same_first (sym part ∙ ap (part_at h) e ∙ placed.2) in
+            let rest = leaves (upto - j * h.size) (omega (arith, far, ap (λ n. n * h.size) same)) in
+            inl ((at_c.0, at_c.1, part), ap (λ x. drop (upto - j * h.size) (bytes_at (with_cells h put_cells) x)) e ∙ ap (drop (upto - j * h.size)) kept.1 ∙ rest ∙ ap (λ x. drop (upto - j * h.size) (bytes_at h x)) (sym e))
+        | inr other ↦ inl ((at_c.0, at_c.1, sym (kept.0 c) ∙ at_c.2), ap (drop (upto - j * h.size)) (kept.2 c other))
+      ])
+
   pub put_further : IsFurther old put_fates h put_cells at end []
   put_further = record {
     file = file';
@@ -311,6 +340,7 @@ module _ (old : FinMap nat_cmp Fate) (h : Holding) (at end i block : ℕ) (new :
     counted = (let none : block_count h ≡ block_count h + 0 = omega arith in same_count ∙ none);
     parts = λ x had. kept.0 x;
     filled = record { over = λ x level j none. absurd (none_in x none); holes = λ x c level first none. absurd (none_in x none); turn = tt };
+    clear = put_clear;
     need =
         let same = need_same h put_cells at end file file' put_dinode kept.0 (height_in h) (omega arith) in
         let none : needed_below (with_cells h put_cells) at end (height_in h) ≡ 0 + needed_below (with_cells h put_cells) at end (height_in h) = omega arith in

@@ -10,6 +10,7 @@ use Rattle.glock_names.specs.Views.{Seen}
 use Rattle.dinode_tree.specs.Shown.{IsShown}
 use Rattle.growth_laws.specs.Files.{IsFile, IsPlaced, with_cells}
 use Rattle.growth_laws.specs.Need.{needed_below}
+use Rattle.growth_laws.specs.Steps.{IsClearFrom}
 use Rattle.growth_drafts.specs.Taken.{DraftsFile, HasBytes, HasTaken}
 use Rattle.file_fills.specs.Turns.{AreFilled}
 
@@ -21,6 +22,7 @@ pub record IsFurther (old new : FinMap nat_cmp Fate) (h : Holding) (cell : ℕ �
   pub counted : block_count (with_cells h cell) ≡ block_count h + length taken
   pub parts : (b : ℕ) → IsSome (h.cell b) → part_at (with_cells h cell) b ≡ part_at h b
   pub filled : AreFilled h (with_cells h cell) at end taken
+  pub clear : (from : ℕ) → end ≤ from → IsClearFrom h from → IsClearFrom (with_cells h cell) from
   pub need : needed_below h at end (height_in h) ≡ length taken + needed_below (with_cells h cell) at end (height_in h)
   pub drafted : DraftsFile old new h (with_cells h cell) []
 

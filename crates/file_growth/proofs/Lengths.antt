@@ -167,6 +167,8 @@ module _ (h : Holding) (at end need : ℕ) (room : List ℕ) (can : CanStretch h
         turn = stand_as IsLower IsLower (with_cells h r.cell) (with_cells h s.cell) r.taken (λ b level first taken placed. (s.grown.places b level first (took b taken)).0 placed)
             (λ b c level first level' first' has has' placed placed' less. less) r.risen.levels.turn;
       };
+      clear = λ either. s.clear (let up : (dinode_in h).size ≤ size_with h end = omega arith in subst (λ n. n ≤ size_with h end) (sym size_same) up)
+          (subst (IsClearFrom (with_cells h r.cell)) (size_e ∙ sym size_same) (r.risen.clear (λ none. can.in_blocks (sym same_for ∙ none)) (clear_e either)));
       from_front = r.from_front;
       less =
           let first = e.same.need at end (height_for h (size_with h end)) reach.0 in
@@ -179,6 +181,17 @@ module _ (h : Holding) (at end need : ℕ) (room : List ℕ) (can : CanStretch h
 
         took : (b : ℕ) → Contains r.taken b → IsSome (r.cell b)
         took b taken = (r.risen.grown.blocks.blocks b).1 (inr taken)
+
+        size_e : (dinode_in (with_cells h e.cell)).size ≡ (dinode_in h).size
+        size_e = ap (λ (x : Dinode). x.size) same_dinode
+
+        clear_e : (height_in h ≢ 0 → (dinode_in h).size < end ⊎ IsClearFrom h (dinode_in h).size) → height_in (with_cells h e.cell) ≢ 0 → IsClearFrom (with_cells h e.cell) (dinode_in (with_cells h e.cell)).size
+        clear_e either high' =
+            let high_h : height_in h ≢ 0 = λ none. high' (high_e ∙ none) in
+            subst (IsClearFrom (with_cells h e.cell)) (sym size_e) (elim (either high_h) [
+              | inl less ↦ e.clear high_h less
+              | inr was ↦ e.same.clear high_h (λ in_blocks. was)
+            ])
 
         told : blocks ≡ ((dinode_in h).blocks + need) % 2 ^ 64
         told = blocks_are ∙ ap (λ (x : Dinode). (x.blocks + need) % 2 ^ 64) (r.dinode ∙ high_dinode)

@@ -191,6 +191,7 @@ module _ (h : Holding) (at need : ℕ) (bytes room left : List ℕ) (can : CanWr
           | inr late ↦ hole_needed b level j late placed
         ];
         turn = in_turn;
+        clear = λ high' either. f.clear (size_with h (at + length bytes)) (let far : at + length bytes ≤ size_with h (at + length bytes) = omega arith in far) (s.clear either);
         behind = λ none. absurd (high (ap (λ (d : Dinode). d.height) (sym says) ∙ none));
       };
       as_many = all_taken;
@@ -244,6 +245,7 @@ module _ (h : Holding) (cell : ℕ → Option Cell) (at : ℕ) (bytes : List ℕ
       places = λ b level first had. (λ placed. (placed.0, placed.1, sym (is.parts b) ∙ placed.2), λ placed. (placed.0, placed.1, is.parts b ∙ placed.2));
       needed = λ b level j none. absurd (none_in b none);
       turn = tt;
+      clear = λ high'. absurd (high' (ap (λ (d : Dinode). d.height) is.dinode ∙ is.stuffed));
       behind = λ stuffed. behind;
     };
     as_many = sym nothing;

@@ -1,5 +1,5 @@
 -- A file that is long and high enough for a write, and counts the blocks that it is to have.
-use Rattle.std.specs.Prelude.{ℕ, ◌≡◌, ◌≢◌, ◌+◌, ◌%◌, ◌^◌, ◌<◌, ◌≤◌, List, [], ◌++◌, length, Option}
+use Rattle.std.specs.Prelude.{ℕ, ◌≡◌, ◌≢◌, ◌⊎◌, ◌+◌, ◌%◌, ◌^◌, ◌<◌, ◌≤◌, List, [], ◌++◌, length, Option}
 use Rattle.std.specs.FinMap.{FinMap}
 use Rattle.std.specs.Ordering.{nat_cmp}
 use Rattle.drafts.specs.declared.fate.Fate.{Fate}
@@ -31,6 +31,7 @@ pub record HasStretched (after : Seen) (old new : FinMap nat_cmp Fate) (room lef
   pub shown : IsShown after h.own (with_cells h cell)
   pub grown : IsGrown old new h cell (dinode_as (dinode_in h) (size_with h end) (((dinode_in h).blocks + need) % 2 ^ 64) (height_for h (size_with h end))) (resized (size_with h end) (content_of h)) taken
   pub levels : AreLevels h (with_cells h cell) (height_for h (size_with h end)) taken
+  pub clear : (height_in h ≢ 0 → (dinode_in h).size < end ⊎ IsClearFrom h (dinode_in h).size) → IsClearFrom (with_cells h cell) (size_with h end)
   pub from_front : room ≡ taken ++ left
   pub less : needed_below h at end (height_for h (size_with h end)) ≡ length taken + needed_below (with_cells h cell) at end (height_for h (size_with h end))
 

@@ -1,5 +1,5 @@
 -- A file in blocks with another size and another count of blocks.
-use Rattle.std.proofs.Common.{◌≡◌, ◌↔◌, inl, inr, Option, ℕ, ◌+◌, ◌*◌, List, [], refl, sym, ap, subst, ◌∙◌, arith}
+use Rattle.std.proofs.Common.{◌≡◌, ◌≢◌, ◌↔◌, inl, inr, Option, ℕ, ◌+◌, ◌-◌, ◌*◌, ◌≤◌, List, [], drop, refl, sym, ap, subst, ◌∙◌, arith}
 use Rattle.std.specs.Prelude.{is_some}
 use Rattle.std.specs.FinMap.{FinMap}
 use Rattle.std.specs.Ordering.{nat_cmp}
@@ -14,9 +14,10 @@ use Rattle.dinode_tree.specs.Shown.{IsShown}
 use Rattle.growth_laws.specs.Files.{IsFile, with_cells}
 use Rattle.growth_laws.specs.Growing.{IsTold}
 use Rattle.growth_laws.specs.Need.{needed_below}
-use Rattle.growth_laws.specs.Steps.{IsSized}
+use Rattle.growth_laws.specs.Steps.{IsClearFrom, IsSized}
 use Rattle.growth_laws.proofs.Counting.{count_same}
 use Rattle.growth_laws.proofs.Fills.{some_by_part}
+use Rattle.growth_laws.proofs.Parts.{not_itself}
 use Rattle.growth_laws.proofs.Numbers.{numbers_behind_are_the_same}
 use Rattle.growth_laws.proofs.Sizes.{sizes_resize}
 use Rattle.growth_laws.proofs.Staying.{need_stays, pointers_tell, sizes_keep_need}
@@ -24,6 +25,7 @@ use Rattle.growth_laws.proofs.Told.{counts_are_told}
 use Rattle.growth_drafts.specs.Taken.{HasTaken}
 use Rattle.growth_drafts.proofs.Rooms.{none_in}
 use Rattle.growth_steps.specs.Becoming.{Becomes}
+use Rattle.file_fills.proofs.Tails.{clear_along}
 use Rattle.file_heights.specs.Grown.{IsGrown}
 use Rattle.file_heights.specs.Sized.{HasSize}
 use Rattle.file_heights.proofs.Joining.{grown_as, grown_then}
@@ -88,6 +90,14 @@ module _ (f0 f1 f2 : FinMap nat_cmp Fate) (mid after : Seen) (inode : ℕ) (h : 
       (pointers_tell (with_cells h c1) c2 (λ none. sized.in_blocks (sym high_one ∙ none)) high_two
       (λ j. numbers_behind_are_the_same (bytes_at (with_cells h c2) h.own) (bytes_at (with_cells h c1) h.own) dinode_length dinode_length (8 * j) told.behind)) at end height
 
+  clear_size : (dinode_in h).size ≤ size → IsClearFrom h (dinode_in h).size → IsClearFrom (with_cells h c2) size
+  clear_size up clear =
+      clear_along h c2 (dinode_in h).size size file after_count.0 (λ none. sized.in_blocks (sym high_one ∙ sym high_two ∙ none)) up clear
+      (λ c i placed.
+          let part = sym (sized.parts c) ∙ sym (told.parts c) ∙ placed.2 in
+          let other : c ≢ h.own = λ e. not_itself _ _ _ _ (sym file.own ∙ ap (part_at h) (sym e) ∙ part) in
+          inl ((placed.0, placed.1, part), ap (drop (size - i * h.size)) (told.others c other ∙ sized.others c other)))
+
   pub has_size : h.own ≡ inode → HasSize after f0 f2 h size blocks
   has_size own = record {
     cell = c2;
@@ -96,4 +106,5 @@ module _ (f0 f1 f2 : FinMap nat_cmp Fate) (mid after : Seen) (inode : ℕ) (h : 
         grown_as f0 f2 h c2 _ _ _ _ _ _ (ap (λ (d : Dinode). record d { blocks = blocks }) sized.dinode) after_size.1 refl
         (grown_then f0 f1 f2 h c1 c2 _ _ _ _ [] [] grown_size grown_count);
     need = λ at end height. need_count at end height ∙ sizes_keep_need h c1 size at end height file sized;
+    clear = clear_size;
   }
