@@ -119,9 +119,9 @@ module _ (f0 f1 f2 : FinMap nat_cmp Fate) (h : Holding) (c1 c2 : ℕ → Option 
     turn = stand_then IsLower (with_cells h c2) t1 t2
         (stand_as IsLower IsLower (with_cells h c1) (with_cells h c2) t1 (λ x level first early placed. (b.grown.places x level first (took x early)).0 placed) (λ x y level first level' first' has has' placed placed' less. less) a.levels.turn) b.levels.turn
         (λ x y level first level' first' early late placed placed'.
-            let low = a.levels.only x level first early ((b.grown.places x level first (took x early)).0 placed) in
-            let high = b.levels.only y level' first' late placed' in
-            omega (arith, low.1, high.0.1, high_mid));
+        let low = a.levels.only x level first early ((b.grown.places x level first (took x early)).0 placed) in
+        let high = b.levels.only y level' first' late placed' in
+        omega (arith, low.1, high.0.1, high_mid));
   }
 
   pub risen_then : IsRisen f0 f2 h c2 n (t1 ++ t2)

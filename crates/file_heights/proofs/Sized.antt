@@ -94,9 +94,9 @@ module _ (f0 f1 f2 : FinMap nat_cmp Fate) (mid after : Seen) (inode : ℕ) (h : 
   clear_size up clear =
       clear_along h c2 (dinode_in h).size size file after_count.0 (λ none. sized.in_blocks (sym high_one ∙ sym high_two ∙ none)) up clear
       (λ c i placed.
-          let part = sym (sized.parts c) ∙ sym (told.parts c) ∙ placed.2 in
-          let other : c ≢ h.own = λ e. not_itself _ _ _ _ (sym file.own ∙ ap (part_at h) (sym e) ∙ part) in
-          inl ((placed.0, placed.1, part), ap (drop (size - i * h.size)) (told.others c other ∙ sized.others c other)))
+      let part = sym (sized.parts c) ∙ sym (told.parts c) ∙ placed.2 in
+      let other : c ≢ h.own = λ e. not_itself _ _ _ _ (sym file.own ∙ ap (part_at h) (sym e) ∙ part) in
+      inl ((placed.0, placed.1, part), ap (drop (size - i * h.size)) (told.others c other ∙ sized.others c other)))
 
   pub has_size : h.own ≡ inode → HasSize after f0 f2 h size blocks
   has_size own = record {
