@@ -8,3 +8,4 @@ pub mod Pieces
 pub mod Touching
 pub mod Turns
 pub mod Tails
+pub mod Headers

@@ -1,10 +1,10 @@
 -- One step of a file that gets further in a draft: a hole is filled, or bytes are put.
-use Rattle.std.proofs.Common.{◌≡◌, ◌≢◌, ◌⊎◌, inl, inr, Bool, true, false, Option, None, Some, ℕ, zero, suc, ◌+◌, ◌-◌, ◌*◌, ◌/◌, ◌^◌, ◌<◌, ◌≤◌, Result, Ok, Err, OnOk, List, [], ◌∷◌, ◌++◌, length, drop, refl, sym, ap, subst, ◌∙◌, arith, append_assoc}
+use Rattle.std.proofs.Common.{◌≡◌, ◌≢◌, ◌⊎◌, inl, inr, Bool, true, false, Option, None, Some, ℕ, zero, suc, ◌+◌, ◌-◌, ◌*◌, ◌/◌, ◌^◌, ◌<◌, ◌≤◌, Result, Ok, Err, OnOk, List, [], ◌∷◌, ◌++◌, length, take, drop, refl, sym, ap, subst, ◌∙◌, arith, append_assoc}
 use Rattle.std.proofs.lemmas.Bool.{cases_eq, cond-true, cond-false, eq-eqb, ne_eqb}
 use Rattle.std.proofs.lemmas.List.Elements.{Contains-append_cases}
 use Rattle.std.proofs.Math.Nat.{mul-div_cancel}
 use Rattle.std.specs.Cmp.{nat_cmp_total}
-use Rattle.std.specs.Prelude.{◌==◌, ◌&&◌, not, Contains, IsSome, is_some}
+use Rattle.std.specs.Prelude.{◌==◌, if◌then◌else◌, ◌&&◌, not, Contains, IsSome, is_some}
 use Rattle.std.specs.FinMap.{FinMap, get, insert, nat_cmp-IsAntisymmetric}
 use Rattle.std.specs.Ordering.{nat_cmp}
 use Rattle.drafts.specs.Fates.{Drafted, seen_in, seen_with}
@@ -12,8 +12,8 @@ use Rattle.drafts.specs.declared.fate.Fate.{Fate}
 use Rattle.drafts.specs.declared.fate.Fate.TheVariants.{Put}
 use Rattle.finite_maps.proofs.Keys.{inserted_at, inserted_apart}
 use Rattle.gfs2_layout.specs.Holding.{Part, Pointed, Cell, Holding, cell_bytes, cell_part, part_at, bytes_at}
-use Rattle.gfs2_layout.specs.Inode.{block_count, dinode_in, height_in, content_block, content_count, content_of, pieces, span, IsPointed, by_dinode, by_block}
-use Rattle.gfs2_layout.specs.Structures.{dinode_of}
+use Rattle.gfs2_layout.specs.Inode.{block_count, dinode_in, header_length, height_in, content_block, content_count, content_of, pieces, span, IsPointed, by_dinode, by_block}
+use Rattle.gfs2_layout.specs.Structures.{dinode_length, dinode_of}
 use Rattle.gfs2_layout.specs.declared.dinode.Dinode.{Dinode}
 use Rattle.glock_names.specs.Views.{Seen}
 use Rattle.dinode_tree.specs.Reading.{inode_lock}
@@ -44,7 +44,9 @@ use Rattle.file_walks.proofs.Above.{under_above}
 use Rattle.file_fills.specs.Filling.{IsRoomFor, IsSeenWay}
 use Rattle.file_fills.specs.Progress.{HasCome, HasGone, IsFurther}
 use Rattle.file_fills.proofs.Further.{free_taken, further_then, met_across, need_same, placed_back, room_further, way_further}
+use Rattle.file_fills.specs.Headers.{KeepsHeaders}
 use Rattle.file_fills.specs.Turns.{IsMetBefore}
+use Rattle.file_fills.proofs.Headers.{before_pointer}
 use Rattle.file_fills.proofs.Over.{over_above}
 use Rattle.file_fills.proofs.Tails.{clear_along}
 use Rattle.file_fills.proofs.Turns.{stand_one}
@@ -221,6 +223,33 @@ module _ (old : FinMap nat_cmp Fate) (h : Holding) (at end i : ℕ) (stop : Stop
             inl ((placed.0, placed.1, part), ap (drop (upto - j * h.size)) (filled.stays.contents c placed.0 placed.1 j other part))
       ])
 
+  -- a block that the file had keeps what stands before its pointers
+  keeps_before : (n x : ℕ) → n ≤ 512 → x ≢ block → n ≤ start_in h x → take n (bytes_at (with_cells h cells) x) ≡ take n (bytes_at h x)
+  keeps_before n x short other low = elim (cases_eq x stop.pointer.from) [
+    | inl e ↦
+        let start : n ≤ stop.pointer.start = subst (λ m. n ≤ m) stopped.passed.start (subst (λ y. n ≤ start_in h y) e low) in
+        ap (λ y. take n (bytes_at (with_cells h cells) y)) e ∙ ap (take n) bytes_from
+        ∙ before_pointer n stop.pointer.start stop.pointer.index block bytes start (omega (arith, short, large, ap length seen, r.file.whole stop.pointer.from from_part.0 from_part.1)) ∙ ap (take n) (sym seen) ∙ ap (λ y. take n (bytes_at h y)) (sym e)
+    | inr other' ↦ ap (take n) (ap cell_bytes (cell_else x other other'))
+  ]
+
+  fill_headers : KeepsHeaders h (with_cells h cells) (block ∷ [])
+  fill_headers = record {
+    old = λ x level first had placed. keeps_before header_length x (omega arith) (λ e. none_some (h.cell x) (ap h.cell e ∙ r.free.new block here) had) (least (x == h.own));
+    new = λ x level first taken placed.
+        let is = stands x (suc level) first taken placed in
+        ap (λ y. take header_length (bytes_at (with_cells h cells) y)) (only_in block x taken) ∙ ap (take header_length) (ap cell_bytes cell_block) ∙ ap (λ l. take header_length (new_bytes h.size l)) is.0;
+  }
+    where
+      least : (b : Bool) → header_length ≤ (if b then dinode_length else header_length)
+      least true = omega arith
+      least false = omega arith
+
+  fill_own : take dinode_length (bytes_at (with_cells h cells) h.own) ≡ take dinode_length (bytes_at h h.own)
+  fill_own =
+      keeps_before dinode_length h.own (omega arith) (λ e. none_some (h.cell h.own) (ap h.cell e ∙ r.free.new block here) (is_there (h.cell h.own) _ r.file.own))
+      (let same : dinode_length ≡ start_in h h.own = sym (cond-true _ _ _ (eq-eqb h.own h.own refl)) in omega (arith, same))
+
   pub fill_further : IsFurther old puts h cells at end (block ∷ [])
   fill_further = record {
     file = fills_keep_files h cells stop.pointer.from stop.pointer.index stop.level (first_of h 0 i stop) block r.file filled;
@@ -241,6 +270,8 @@ module _ (old : FinMap nat_cmp Fate) (h : Holding) (at end i : ℕ) (stop : Stop
     counted = fills_add_one h cells stop.pointer.from stop.pointer.index stop.level (first_of h 0 i stop) block filled;
     parts = λ x had. filled.stays.parts x (λ e. none_here x e had);
     filled = record { over = fill_over; holes = fill_hole_was; turn = stand_one IsMetBefore (with_cells h cells) block };
+    own = fill_own;
+    headers = fill_headers;
     clear = λ upto far clear. fill_clear upto clear;
     need =
         let one = fills_lower_need h cells stop.pointer.from stop.pointer.index stop.level (first_of h 0 i stop) block at end (place_of h 0 i stop) r.file filled refl (over_above h.size at end i stop.level large has) in
@@ -326,6 +357,11 @@ module _ (old : FinMap nat_cmp Fate) (h : Holding) (at end i block : ℕ) (new :
         | inr other ↦ inl ((at_c.0, at_c.1, sym (kept.0 c) ∙ at_c.2), ap (drop (upto - j * h.size)) (kept.2 c other))
       ])
 
+  not_indirect : (x level first : ℕ) → x ≡ block → IsPlaced (with_cells h put_cells) x (suc level) first → ⊥
+  not_indirect x level first e at_x =
+      let same : suc level ≡ 0 = same_level (sym at_x.2 ∙ kept.0 x ∙ ap (part_at h) e ∙ placed.2) in
+      omega (arith, same)
+
   pub put_further : IsFurther old put_fates h put_cells at end []
   put_further = record {
     file = file';
@@ -340,6 +376,11 @@ module _ (old : FinMap nat_cmp Fate) (h : Holding) (at end i block : ℕ) (new :
     counted = (let none : block_count h ≡ block_count h + 0 = omega arith in same_count ∙ none);
     parts = λ x had. kept.0 x;
     filled = record { over = λ x level j none. absurd (none_in x none); holes = λ x c level first none. absurd (none_in x none); turn = tt };
+    own = ap (take dinode_length) (kept.2 h.own own_other);
+    headers = record {
+      old = λ x level first had at_x. ap (take header_length) (kept.2 x (λ e. not_indirect x level first e at_x));
+      new = λ x level first none. absurd (none_in x none);
+    };
     clear = put_clear;
     need =
         let same = need_same h put_cells at end file file' put_dinode kept.0 (height_in h) (omega arith) in

@@ -4,14 +4,16 @@ use Rattle.std.specs.FinMap.{FinMap}
 use Rattle.std.specs.Ordering.{nat_cmp}
 use Rattle.drafts.specs.declared.fate.Fate.{Fate}
 use Rattle.file_tree.specs.Apply.{overwritten}
-use Rattle.gfs2_layout.specs.Holding.{Cell, Holding, part_at}
+use Rattle.gfs2_layout.specs.Holding.{Cell, Holding, bytes_at, part_at}
 use Rattle.gfs2_layout.specs.Inode.{block_count, content_block, content_of, dinode_in, height_in, span}
+use Rattle.gfs2_layout.specs.Structures.{dinode_length}
 use Rattle.glock_names.specs.Views.{Seen}
 use Rattle.dinode_tree.specs.Shown.{IsShown}
 use Rattle.growth_laws.specs.Files.{IsFile, IsPlaced, with_cells}
 use Rattle.growth_laws.specs.Need.{needed_below}
 use Rattle.growth_laws.specs.Steps.{IsClearFrom}
 use Rattle.growth_drafts.specs.Taken.{DraftsFile, HasBytes, HasTaken}
+use Rattle.file_fills.specs.Headers.{KeepsHeaders}
 use Rattle.file_fills.specs.Turns.{AreFilled}
 
 -- A file afterwards, with these cells: its dinode says the same, it has these blocks more, which are those that the write needs less now, and each block that it had stands where it stood.
@@ -22,6 +24,8 @@ pub record IsFurther (old new : FinMap nat_cmp Fate) (h : Holding) (cell : ℕ �
   pub counted : block_count (with_cells h cell) ≡ block_count h + length taken
   pub parts : (b : ℕ) → IsSome (h.cell b) → part_at (with_cells h cell) b ≡ part_at h b
   pub filled : AreFilled h (with_cells h cell) at end taken
+  pub own : take dinode_length (bytes_at (with_cells h cell) h.own) ≡ take dinode_length (bytes_at h h.own)
+  pub headers : KeepsHeaders h (with_cells h cell) taken
   pub clear : (from : ℕ) → end ≤ from → IsClearFrom h from → IsClearFrom (with_cells h cell) from
   pub need : needed_below h at end (height_in h) ≡ length taken + needed_below (with_cells h cell) at end (height_in h)
   pub drafted : DraftsFile old new h (with_cells h cell) []

@@ -10,8 +10,8 @@ use Rattle.std.specs.Ordering.{nat_cmp}
 use Rattle.drafts.specs.Fates.{seen_with}
 use Rattle.drafts.specs.declared.fate.Fate.{Fate}
 use Rattle.file_tree.specs.Apply.{file_limit, overwritten, resized}
-use Rattle.gfs2_layout.specs.Holding.{Cell, Holding, Itself, bytes_at}
-use Rattle.gfs2_layout.specs.Inode.{block_count, content_of, dinode_in, height_in, span}
+use Rattle.gfs2_layout.specs.Holding.{Cell, Holding, Itself, bytes_at, part_at}
+use Rattle.gfs2_layout.specs.Inode.{block_count, content_of, dinode_in, header_length, height_in, span}
 use Rattle.gfs2_layout.specs.Structures.{dinode_length, is_directory}
 use Rattle.gfs2_layout.specs.declared.dinode.Dinode.{Dinode}
 use Rattle.glock_names.specs.Views.{Seen}
@@ -27,6 +27,7 @@ use Rattle.growth_laws.proofs.Bytes.{over_length, writes_grow_first}
 use Rattle.growth_laws.proofs.Contents.{content_length}
 use Rattle.growth_laws.proofs.Counting.{one_if, step_of}
 use Rattle.growth_laws.proofs.Heights.{raised_enough}
+use Rattle.growth_laws.proofs.Parts.{not_itself}
 use Rattle.growth_laws.proofs.Places.{cancelled, part_of_place, size_large}
 use Rattle.growth_laws.proofs.Pointing.{rewrites_keep_the_rest}
 use Rattle.growth_laws.proofs.Rising.{none_above, there_false}
@@ -35,6 +36,7 @@ use Rattle.growth_steps.specs.Becoming.{Becomes}
 use Rattle.growth_steps.proofs.Putting.{drafts_on}
 use Rattle.file_fills.specs.Filling.{HasFilled, IsRoomFor, IsSeenWay}
 use Rattle.file_fills.specs.Turns.{IsMetBefore, StandIn}
+use Rattle.file_fills.proofs.Headers.{headers_then}
 use Rattle.file_fills.proofs.Turns.{stand_as, stand_then}
 use Rattle.file_fills.proofs.Ways.{ways_along}
 use Rattle.file_heights.specs.Grown.{IsLower, IsNewLevel}
@@ -191,6 +193,7 @@ module _ (h : Holding) (at need : ℕ) (bytes room left : List ℕ) (can : CanWr
           | inr late ↦ hole_needed b level j late placed
         ];
         turn = in_turn;
+        headers = headers_then h (with_cells h s.cell) f.g s.taken f.taken refl mid_some (λ x early. (s.grown.blocks.blocks x).1 (inr early)) (λ x level first mid'. (f.places x level first mid').0) s.grown.headers f.headers;
         clear = λ high' either. f.clear (size_with h (at + length bytes)) (let far : at + length bytes ≤ size_with h (at + length bytes) = omega arith in far) (s.clear either);
         behind = λ none. absurd (high (ap (λ (d : Dinode). d.height) (sym says) ∙ none));
       };
@@ -245,6 +248,10 @@ module _ (h : Holding) (cell : ℕ → Option Cell) (at : ℕ) (bytes : List ℕ
       places = λ b level first had. (λ placed. (placed.0, placed.1, sym (is.parts b) ∙ placed.2), λ placed. (placed.0, placed.1, is.parts b ∙ placed.2));
       needed = λ b level j none. absurd (none_in b none);
       turn = tt;
+      headers = record {
+        old = λ x level first had placed. ap (take header_length) (is.others x (λ e. not_itself _ _ _ _ (sym file'.0.own ∙ ap (part_at (with_cells h cell)) (sym e) ∙ placed.2)));
+        new = λ x level first none. absurd (none_in x none);
+      };
       clear = λ high'. absurd (high' (ap (λ (d : Dinode). d.height) is.dinode ∙ is.stuffed));
       behind = λ stuffed. behind;
     };

@@ -13,6 +13,7 @@ use Rattle.dinode_tree.specs.Shown.{IsShown}
 use Rattle.growth_laws.specs.Files.{IsPlaced}
 use Rattle.growth_laws.specs.Need.{height_for, is_needed, needed}
 use Rattle.growth_laws.specs.Steps.{IsClearFrom}
+use Rattle.file_fills.specs.Headers.{KeepsHeaders}
 use Rattle.file_fills.specs.Turns.{IsMetBefore, StandIn}
 use Rattle.file_heights.specs.Grown.{IsNewLevel}
 use Rattle.file_heights.specs.Sized.{dinode_as}
@@ -37,7 +38,7 @@ IsTakenBefore h level first level' first' =
     ⊎ ((IsNewLevel h level' first' → ⊥) × IsMetBefore level first level' first')
 
 -- Bytes were written over the content from a place on, with zeros between its end and the place. These blocks were taken, each for a place at which
--- the write needed one, in the order of these places; every other block stands where it stood. In a file in blocks
+-- the write needed one, in the order of these places; every other block stands where it stood, an indirect one with the header that it had. In a file in blocks
 -- nothing but zeros stands behind the end of the last block of content where the end moved on or the content came from the dinode's block, and
 -- also where nothing else stood there before, as where that block is a new one. Content that stands in the dinode's block has the bytes behind it
 -- that it had.
@@ -50,6 +51,7 @@ pub record IsWritten (h g : Holding) (at : ℕ) (new taken : List ℕ) : Type 0 
   pub places : (b level first : ℕ) → IsSome (h.cell b) → IsPlaced g b level first ↔ IsPlaced h b level first
   pub needed : (b level j : ℕ) → Contains taken b → IsPlaced g b level (j * span h.size level) → is_needed h at (at + length new) level j ≡ true
   pub turn : StandIn (IsTakenBefore h) g taken
+  pub headers : KeepsHeaders h g taken
   pub clear : height_in g ≢ 0 → (height_in h ≢ 0 → (dinode_in h).size < at + length new ⊎ IsClearFrom h (dinode_in h).size) → IsClearFrom g (size_with h (at + length new))
   pub behind : height_in g ≡ 0 → drop (dinode_length + size_with h (at + length new)) (bytes_at g h.own) ≡ drop (dinode_length + size_with h (at + length new)) (bytes_at h h.own)
 

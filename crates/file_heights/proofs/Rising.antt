@@ -1,14 +1,16 @@
 -- A file whose height rises by a step, or without a block.
-use Rattle.std.proofs.Common.{◌≡◌, ◌≢◌, ◌⊎◌, inl, inr, true, false, Option, None, Some, ℕ, zero, suc, ◌+◌, ◌-◌, ◌*◌, ◌/◌, max, ◌<◌, ◌≤◌, List, [], ◌∷◌, refl, sym, ap, subst, ◌∙◌, arith}
+use Rattle.std.proofs.Common.{◌≡◌, ◌≢◌, ◌⊎◌, inl, inr, true, false, Option, None, Some, ℕ, zero, suc, ◌+◌, ◌-◌, ◌*◌, ◌/◌, max, ◌<◌, ◌≤◌, List, [], ◌∷◌, length, take, drop, refl, sym, ap, subst, ◌∙◌, arith}
 use Rattle.std.proofs.lemmas.Bool.{cases_eq, cases_lt, cond-true, eq-eqb, ne_eqb}
+use Rattle.std.proofs.lemmas.List.{length-take, take-append-le, take-take}
 use Rattle.std.proofs.Math.Nat.{lt-mul-div-succ, mul-le-mul_right}
 use Rattle.std.specs.Prelude.{Contains, IsSome, is_some, ◌↔◌, not, ◌==◌}
 use Rattle.std.specs.FinMap.{FinMap}
 use Rattle.std.specs.Ordering.{nat_cmp}
 use Rattle.drafts.specs.declared.fate.Fate.{Fate}
 use Rattle.file_tree.specs.Apply.{file_limit}
-use Rattle.gfs2_layout.specs.Holding.{Pointed, Cell, Holding, part_at}
-use Rattle.gfs2_layout.specs.Inode.{block_count, content_count, content_of, dinode_in, fan, height_in, pieces, pointer, span}
+use Rattle.gfs2_layout.specs.Bytes.{put_at}
+use Rattle.gfs2_layout.specs.Holding.{Pointed, Cell, Holding, cell_bytes, bytes_at, part_at}
+use Rattle.gfs2_layout.specs.Inode.{block_count, content_count, content_of, dinode_in, fan, header_length, height_in, pieces, pointer, span}
 use Rattle.gfs2_layout.specs.Structures.{dinode_length}
 use Rattle.gfs2_layout.specs.declared.dinode.Dinode.{Dinode}
 use Rattle.glock_names.specs.Views.{Seen}
@@ -23,7 +25,7 @@ use Rattle.growth_laws.proofs.Counting.{count_same}
 use Rattle.growth_laws.proofs.Ends.{bare_files_are_clear, moved_content_is_clear, rises_stay_clear}
 use Rattle.growth_laws.proofs.Fills.{some_by_part}
 use Rattle.growth_laws.proofs.Heights.{bare_files_have_no_block, capacity_reaches, heights_reach, raised_enough}
-use Rattle.growth_laws.proofs.Parts.{same_first, same_level}
+use Rattle.growth_laws.proofs.Parts.{not_itself, same_first, same_level}
 use Rattle.growth_laws.proofs.Places.{size_large}
 use Rattle.growth_laws.proofs.Raises.{raises_keep_files, some_same, unmoved}
 use Rattle.growth_laws.proofs.Rising.{has_some, raises_lower_need, unstuffing_lowers_need}
@@ -32,7 +34,9 @@ use Rattle.growth_laws.proofs.Unstuffing.{unstuffing_keeps_files}
 use Rattle.growth_drafts.specs.Taken.{AreFreeFor, HasTaken}
 use Rattle.growth_drafts.proofs.Rooms.{none_in, none_some, only_in}
 use Rattle.growth_steps.specs.Becoming.{Becomes}
-use Rattle.growth_steps.specs.Heights.{CanBeBare, CanRise, IsNewTo}
+use Rattle.growth_steps.specs.Heights.{CanBeBare, CanRise, IsNewTo, raised_bytes, raised_cells}
+use Rattle.growth_steps.specs.New.{new_bytes}
+use Rattle.growth_steps.proofs.Stepping.{new_length}
 use Rattle.file_fills.proofs.Counted.{pointers_go_along}
 use Rattle.file_fills.proofs.Turns.{stand_one}
 use Rattle.file_heights.specs.Grown.{AreLevels, CanGrow, HasRisen, IsLower, IsRisen}
@@ -89,7 +93,7 @@ one_more h cell b new here rest = record {
 -- ---- steps
 
 module _ (old new : FinMap nat_cmp Fate) (after : Seen) (inode : ℕ) (h : Holding) (cell : ℕ → Option Cell) (file : IsFile h) (becomes : Becomes after old new inode h (with_cells h cell)) where
-  module _ (level b : ℕ) (raised : IsRaised h cell level b) where
+  module _ (level b : ℕ) (raised : IsRaised h cell level b) (head : take header_length (bytes_at (with_cells h cell) b) ≡ take header_length (new_bytes h.size 1)) where
     keeps : IsFile (with_cells h cell) × (content_of (with_cells h cell) ≡ content_of h) × (block_count (with_cells h cell) ≡ block_count h + 1)
     keeps = raises_keep_files h cell level b file raised
 
@@ -128,6 +132,11 @@ module _ (old new : FinMap nat_cmp Fate) (after : Seen) (inode : ℕ) (h : Holdi
         blocks = one_more h cell b raised.new (is_there (cell b) _ raised.part) (λ x other. some_same h.own b (h.cell x) (cell x) (raised.parts x other));
         counted = keeps.2;
         places = raised_places;
+        headers = record {
+          old = λ x l first had placed. ap (take header_length) (raised.others x (apart x had) (λ e.
+              not_itself _ _ _ _ (sym keeps.0.own ∙ ap (part_at (with_cells h cell)) (sym e) ∙ placed.2)));
+          new = λ x l first taken placed. ap (λ y. take header_length (bytes_at (with_cells h cell) y)) (only_in b x taken) ∙ head;
+        };
         drafted = becomes.drafted;
       };
       need = λ at end to low.
@@ -174,6 +183,13 @@ module _ (old new : FinMap nat_cmp Fate) (after : Seen) (inode : ℕ) (h : Holdi
           λ placed. (placed.0, placed.1, sym (moved_out.parts x (other x had)) ∙ placed.2),
           λ placed. (placed.0, placed.1, moved_out.parts x (other x had) ∙ placed.2),
         );
+        headers = record {
+          old = λ x l first had placed. ap (take header_length) (moved_out.others x (other x had) (λ e.
+              not_itself _ _ _ _ (sym kept.0.own ∙ ap (part_at (with_cells h cell)) (sym e) ∙ placed.2)));
+          new = λ x l first taken placed.
+              let content : 0 ≡ suc l = same_level (sym moved_out.part ∙ ap (part_at (with_cells h cell)) (sym (only_in b x taken)) ∙ placed.2) in
+              absurd (omega (arith, content));
+        };
         drafted = becomes.drafted;
       };
       need = λ at end to low.
@@ -215,6 +231,10 @@ module _ (old new : FinMap nat_cmp Fate) (after : Seen) (inode : ℕ) (h : Holdi
         blocks = record { count = refl; blocks = λ x. (λ there. inl (sym (all_same x) ∙ there), λ either. elim either [ inl had ↦ all_same x ∙ had | inr taken ↦ absurd (none_in x taken) ]) };
         counted = (let one : block_count h ≡ block_count h + 0 = omega arith in same_count ∙ one);
         places = λ x l first had. (λ placed. (placed.0, placed.1, sym (bare.parts x) ∙ placed.2), λ placed. (placed.0, placed.1, bare.parts x ∙ placed.2));
+        headers = record {
+          old = λ x l first had placed. ap (take header_length) (bare.others x (λ e. not_itself _ _ _ _ (sym same.0.own ∙ ap (part_at (with_cells h cell)) (sym e) ∙ placed.2)));
+          new = λ x l first none. absurd (none_in x none);
+        };
         drafted = becomes.drafted;
       };
       need = λ at end to low.
@@ -246,15 +266,15 @@ moved_has after old new inode b h cell d left file own d_is stuffed moved_out be
     }
 
 pub raised_has : (after : Seen) (old new : FinMap nat_cmp Fate) (inode level b : ℕ) (h : Holding) (cell : ℕ → Option Cell) (d : Dinode) (left : List ℕ) → IsFile h → h.own ≡ inode → d ≡ dinode_in h → IsRaised h cell level b
-    → Becomes after old new inode h (with_cells h cell) → HasRisen after old new (b ∷ left) left h (d.height + 1) (record d { height = d.height + 1 })
-raised_has after old new inode level b h cell d left file own d_is raised becomes =
+    → take header_length (bytes_at (with_cells h cell) b) ≡ take header_length (new_bytes h.size 1) → Becomes after old new inode h (with_cells h cell) → HasRisen after old new (b ∷ left) left h (d.height + 1) (record d { height = d.height + 1 })
+raised_has after old new inode level b h cell d left file own d_is raised head becomes =
     let high : d.height ≡ suc level = ap (λ (x : Dinode). x.height) d_is ∙ raised.high in
     let more : suc (suc level) ≡ d.height + 1 = omega (arith, high) in
     record {
       cell = cell;
       taken = b ∷ [];
       shown = subst (λ a. IsShown after a (with_cells h cell)) (sym own) becomes.shown;
-      risen = subst (λ n. IsRisen old new h cell n (b ∷ [])) more (raised_is_risen old new after inode h cell file becomes level b raised);
+      risen = subst (λ n. IsRisen old new h cell n (b ∷ [])) more (raised_is_risen old new after inode h cell file becomes level b raised head);
       from_front = refl;
       dinode = (λ t. record (d_is t) { height = sym more t }) ∙ sym raised.dinode;
     }
@@ -330,3 +350,15 @@ can_be_bare h size height room can is none = record {
           let both : true ≡ false = sym has ∙ none in
           absurd (cc)
     ]
+
+-- ---- the header of a level that is new
+
+before_put : (n : ℕ) (part bytes : List ℕ) → n ≤ length bytes → take n (put_at n part bytes) ≡ take n bytes
+before_put n part bytes low = take-append-le n (take n bytes) _ (omega (arith, low, length-take n bytes)) ∙ take-take n n bytes (omega arith)
+
+-- the header stands before the pointers that move there
+pub raised_head : (h : Holding) (level b : ℕ) (own bytes : List ℕ) → length bytes ≡ h.size → 512 ≤ h.size
+    → take header_length (bytes_at (with_cells h (raised_cells h level b own (raised_bytes bytes))) b) ≡ take header_length (new_bytes h.size 1)
+raised_head h level b own bytes whole large =
+    let here : bytes_at (with_cells h (raised_cells h level b own (raised_bytes bytes))) b ≡ raised_bytes bytes = ap cell_bytes (cond-true _ _ _ (eq-eqb b b refl)) in
+    ap (take header_length) here ∙ before_put header_length (drop dinode_length bytes) (new_bytes (length bytes) 1) (omega (arith, new_length (length bytes) 1 (omega (arith, whole, large)), whole, large)) ∙ ap (λ n. take header_length (new_bytes n 1)) whole

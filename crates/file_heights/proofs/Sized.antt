@@ -1,12 +1,12 @@
 -- A file in blocks with another size and another count of blocks.
-use Rattle.std.proofs.Common.{◌≡◌, ◌≢◌, ◌↔◌, inl, inr, Option, ℕ, ◌+◌, ◌-◌, ◌*◌, ◌≤◌, List, [], drop, refl, sym, ap, subst, ◌∙◌, arith}
+use Rattle.std.proofs.Common.{◌≡◌, ◌≢◌, ◌↔◌, inl, inr, Option, ℕ, ◌+◌, ◌-◌, ◌*◌, ◌≤◌, List, [], take, drop, refl, sym, ap, subst, ◌∙◌, arith}
 use Rattle.std.specs.Prelude.{is_some}
 use Rattle.std.specs.FinMap.{FinMap}
 use Rattle.std.specs.Ordering.{nat_cmp}
 use Rattle.drafts.specs.declared.fate.Fate.{Fate}
 use Rattle.file_tree.specs.Apply.{resized}
 use Rattle.gfs2_layout.specs.Holding.{Cell, Holding, part_at, bytes_at}
-use Rattle.gfs2_layout.specs.Inode.{block_count, content_of, dinode_in, height_in}
+use Rattle.gfs2_layout.specs.Inode.{block_count, content_of, dinode_in, header_length, height_in}
 use Rattle.gfs2_layout.specs.Structures.{dinode_length}
 use Rattle.gfs2_layout.specs.declared.dinode.Dinode.{Dinode}
 use Rattle.glock_names.specs.Views.{Seen}
@@ -62,6 +62,10 @@ module _ (f0 f1 f2 : FinMap nat_cmp Fate) (mid after : Seen) (inode : ℕ) (h : 
         blocks = none.0;
         counted = none.1;
         places = λ x l first had. (λ placed. (placed.0, placed.1, sym (sized.parts x) ∙ placed.2), λ placed. (placed.0, placed.1, sized.parts x ∙ placed.2));
+        headers = record {
+          old = λ x l first had placed. ap (take header_length) (sized.others x (λ e. not_itself _ _ _ _ (sym file.own ∙ ap (part_at h) (sym e) ∙ sym (sized.parts x) ∙ placed.2)));
+          new = λ x l first none. absurd (none_in x none);
+        };
         drafted = one.drafted;
       }
 
@@ -75,6 +79,10 @@ module _ (f0 f1 f2 : FinMap nat_cmp Fate) (mid after : Seen) (inode : ℕ) (h : 
         blocks = none.0;
         counted = none.1;
         places = λ x l first had. (λ placed. (placed.0, placed.1, sym (told.parts x) ∙ placed.2), λ placed. (placed.0, placed.1, told.parts x ∙ placed.2));
+        headers = record {
+          old = λ x l first had placed. ap (take header_length) (told.others x (λ e. not_itself _ _ _ _ (sym after_size.0.own ∙ ap (part_at (with_cells h c1)) (sym e) ∙ sym (told.parts x) ∙ placed.2)));
+          new = λ x l first none. absurd (none_in x none);
+        };
         drafted = two.drafted;
       }
 

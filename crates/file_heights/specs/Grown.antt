@@ -13,11 +13,12 @@ use Rattle.growth_laws.specs.Files.{IsFile, IsPlaced, with_cells}
 use Rattle.growth_laws.specs.Need.{has_content, height_for, needed_below}
 use Rattle.growth_laws.specs.Steps.{IsClearFrom}
 use Rattle.growth_drafts.specs.Taken.{AreFreeFor, DraftsFile, HasTaken}
+use Rattle.file_fills.specs.Headers.{KeepsHeaders}
 use Rattle.file_fills.specs.Turns.{StandIn}
 
 -- ---- a file afterwards
 
--- With these cells: the dinode says this and this is the content; it has these blocks more, and each that it had stands where it stood.
+-- With these cells: the dinode says this and this is the content; it has these blocks more, and each that it had stands where it stood, an indirect one with the header that it had.
 pub record IsGrown (old new : FinMap nat_cmp Fate) (h : Holding) (cell : ℕ → Option Cell) (d : Dinode) (bytes taken : List ℕ) : Type 0 where
   pub file : IsFile (with_cells h cell)
   pub dinode : dinode_in (with_cells h cell) ≡ d
@@ -25,6 +26,7 @@ pub record IsGrown (old new : FinMap nat_cmp Fate) (h : Holding) (cell : ℕ →
   pub blocks : HasTaken h (with_cells h cell) taken
   pub counted : block_count (with_cells h cell) ≡ block_count h + length taken
   pub places : (b level first : ℕ) → IsSome (h.cell b) → IsPlaced (with_cells h cell) b level first ↔ IsPlaced h b level first
+  pub headers : KeepsHeaders h (with_cells h cell) taken
   pub drafted : DraftsFile old new h (with_cells h cell) []
 
 -- ---- its height
