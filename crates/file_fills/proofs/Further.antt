@@ -20,11 +20,14 @@ use Rattle.growth_laws.specs.Need.{is_needed, is_there as has_there, needed_belo
 use Rattle.growth_laws.proofs.Contents.{same_place}
 use Rattle.growth_laws.proofs.Counting.{count_same}
 use Rattle.growth_laws.proofs.Needing.{and_false, on_way}
-use Rattle.growth_laws.proofs.Places.{part_there, part_of_place}
+use Rattle.growth_laws.proofs.Places.{part_there, part_of_place, place_of_part}
 use Rattle.growth_drafts.specs.Taken.{IsContentIn, IsLeft, IsPutFor}
 use Rattle.growth_drafts.proofs.Rooms.{free_before, free_left, none_in, none_some}
 use Rattle.file_fills.specs.Filling.{IsRoomFor, IsSeenWay}
 use Rattle.file_fills.specs.Progress.{IsFurther}
+use Rattle.file_fills.specs.Turns.{IsMetBefore}
+use Rattle.file_fills.proofs.Headers.{headers_then}
+use Rattle.file_fills.proofs.Turns.{met_before, stand_as, stand_then}
 use Rattle.file_fills.proofs.Ways.{ways_along}
 
 -- ---- the same file
@@ -36,6 +39,10 @@ further_none fates h at end file = record {
   blocks = record { count = refl; blocks = λ b. (λ some. inl some, λ either. elim either [ inl some ↦ some | inr none ↦ absurd (none_in b none) ]) };
   counted = (let same : block_count h ≡ block_count h + 0 = omega arith in same);
   parts = λ b some. refl;
+  filled = record { over = λ b level j none. absurd (none_in b none); holes = λ b c level first none. absurd (none_in b none); turn = tt };
+  own = refl;
+  headers = record { old = λ b level first had placed. refl; new = λ b level first none. absurd (none_in b none) };
+  clear = λ from far clear. clear;
   need = (let same : needed_below h at end (height_in h) ≡ 0 + needed_below h at end (height_in h) = omega arith in same);
   drafted = record {
     own = λ b some. inl (record { fate = refl; had = some; bytes = refl; content = (λ x. x, λ x. x) });
@@ -75,8 +82,32 @@ module _ (f0 f1 f2 : FinMap nat_cmp Fate) (h : Holding) (c1 c2 : ℕ → Option 
     content = (λ is. later.content.1 (early.content.0 is), λ is. early.content.1 (later.content.0 is));
   })
 
-  pub further_then : IsFurther f0 f2 h c2 at end (t1 ++ t2)
-  further_then = record {
+  -- a block that was taken first stands where it stood then
+  took : (x : ℕ) → Contains t1 x → IsSome (c1 x)
+  took x early = (a.blocks.blocks x).1 (inr early)
+
+  pub placed_back : (x level first : ℕ) → Contains t1 x → IsPlaced (with_cells h c2) x level first → IsPlaced (with_cells h c1) x level first
+  placed_back x level first early placed = (placed.0, placed.1, sym (b.parts x (took x early)) ∙ placed.2)
+
+  placed_on : (x level first : ℕ) → IsPlaced h x level first → IsPlaced (with_cells h c1) x level first
+  placed_on x level first placed = (placed.0, placed.1, a.parts x (is_there (h.cell x) _ placed.2) ∙ placed.2)
+
+  -- where none was taken first for what is behind an index, and all others were taken on the way there, the first ones are met before the others
+  pub met_across : (i : ℕ) → ((x level first : ℕ) → Contains t1 x → IsPlaced (with_cells h c1) x level first → first ≤ i)
+      → ((x level first : ℕ) → Contains t2 x → IsPlaced (with_cells h c2) x level first → (first ≤ i) × (i < first + span h.size level))
+      → (x y level first level' first' : ℕ) → Contains t1 x → Contains t2 y → IsPlaced (with_cells h c1) x level first → IsPlaced (with_cells h c2) y level' first' → IsMetBefore level first level' first'
+  met_across i upto above x y level first level' first' early late placed placed' =
+      let place = place_of_part (with_cells h c2) b.file y level' first' placed' in
+      let way = above y level' first' late placed' in
+      let same : height_in (with_cells h c2) ≡ height_in (with_cells h c1) = ap (λ (d : Dinode). d.height) b.dinode in
+      let low : level' < height_in (with_cells h c2) = b.file.tree.below y placed'.0 placed'.1 level' first' placed'.2 in
+      subst (IsMetBefore level first level') (sym place.1)
+      (met_before (with_cells h c1) a.file x level first level' place.0 i placed (upto x level first early placed) (omega (arith, low, same)) (subst (λ n. place.0 < fan h.size dinode_length * span h.size (n - 1 - level')) same place.2)
+      (omega (arith, way.0, place.1)) (omega (arith, way.1, place.1)) (λ c had. b.filled.holes y c level' first' late placed' (subst (IsPlaced (with_cells h c1) c level') (sym place.1) had)))
+
+  pub further_then : ((x y level first level' first' : ℕ) → Contains t1 x → Contains t2 y → IsPlaced (with_cells h c1) x level first → IsPlaced (with_cells h c2) y level' first' → IsMetBefore level first level' first')
+      → IsFurther f0 f2 h c2 at end (t1 ++ t2)
+  further_then across = record {
     file = b.file;
     dinode = b.dinode ∙ a.dinode;
     blocks = record {
@@ -97,6 +128,22 @@ module _ (f0 f1 f2 : FinMap nat_cmp Fate) (h : Holding) (c1 c2 : ℕ → Option 
     };
     counted = omega (arith, a.counted, b.counted, length-append t1 t2);
     parts = λ x some. both_parts x (keeps x some) some;
+    filled = record {
+      over = λ x level j taken placed. elim (Contains-append_cases t1 t2 x taken) [
+        | inl early ↦ a.filled.over x level j early (placed_back x level _ early placed)
+        | inr late ↦ b.filled.over x level j late placed
+      ];
+      holes = λ x y level first taken placed had. elim (Contains-append_cases t1 t2 x taken) [
+        | inl early ↦ a.filled.holes x y level first early (placed_back x level first early placed) had
+        | inr late ↦ b.filled.holes x y level first late placed (placed_on y level first had)
+      ];
+      turn = stand_then IsMetBefore (with_cells h c2) t1 t2
+          (stand_as IsMetBefore IsMetBefore (with_cells h c1) (with_cells h c2) t1 placed_back (λ x y level first level' first' has has' placed placed' less. less) a.filled.turn) b.filled.turn
+          (λ x y level first level' first' early late placed placed'. across x y level first level' first' early late (placed_back x level first early placed) placed');
+    };
+    own = b.own ∙ a.own;
+    headers = headers_then h (with_cells h c1) (with_cells h c2) t1 t2 refl keeps took (λ x level first mid placed. (placed.0, placed.1, sym (b.parts x mid) ∙ placed.2)) a.headers b.headers;
+    clear = λ from far clear. b.clear from far (a.clear from far clear);
     need =
         let later : needed_below (with_cells h c1) at end (height_in h) ≡ length t2 + needed_below (with_cells h c2) at end (height_in h)
         = subst (λ n. needed_below (with_cells h c1) at end n ≡ length t2 + needed_below (with_cells h c2) at end n) height_mid b.need in

@@ -6,3 +6,6 @@ pub mod Further
 pub mod Stepped
 pub mod Pieces
 pub mod Touching
+pub mod Turns
+pub mod Tails
+pub mod Headers

@@ -2,7 +2,8 @@
 use Rattle.std.proofs.Common.{◌≡◌, ◌≢◌, ◌⊎◌, inl, inr, Bool, true, false, ℕ, zero, suc, ◌+◌, ◌-◌, ◌*◌, ◌/◌, ◌%◌, ◌<◌, ◌≤◌, max, min, List, [], ◌++◌, length, take, drop, replicate, Option, Some, refl, sym, ap, ap₂, subst, ◌∙◌, arith, length-take, length-drop}
 use Rattle.std.proofs.lemmas.Bool.{cases_lt, cases_Bool, lt-ltb, ne_eqb}
 use Rattle.std.proofs.lemmas.List.{append-nil, take-append-drop}
-use Rattle.std.proofs.lemmas.Nat.{div-add-mod'}
+use Rattle.std.proofs.lemmas.List.Elements.{Contains-append_cases}
+use Rattle.std.proofs.lemmas.Nat.{div-add-mod', le-div}
 use Rattle.std.proofs.Math.Nat.{div-mul-le_self, lt-mul-div-succ, mod-lt, mul-le-mul_right}
 use Rattle.std.proofs.Math.Seq.{take-add, take-length}
 use Rattle.std.specs.Prelude.{◌&&◌, not}
@@ -29,15 +30,18 @@ use Rattle.growth_laws.proofs.Contents.{content_length, content_part, content_pl
 use Rattle.growth_laws.proofs.Needing.{on_way}
 use Rattle.growth_laws.proofs.Places.{content_is_level_zero, size_large}
 use Rattle.growth_drafts.specs.Taken.{HasBytes}
+use Rattle.growth_drafts.proofs.Rooms.{none_in}
 use Rattle.file_walks.specs.Walks.{place_above, IsUnder}
 use Rattle.file_walks.proofs.Above.{place_up}
 use Rattle.file_walks.proofs.Steps.{hole_above}
 use Rattle.file_fills.specs.Filling.{HasFilled, IsRoomFor, IsSeenWay}
-use Rattle.file_fills.specs.Progress.{HasBlockAt, HasCome, HasPieces, IsFurther}
+use Rattle.file_fills.specs.Progress.{HasBlockAt, HasCome, HasGone, HasPieces, IsFurther}
+use Rattle.file_fills.specs.Turns.{AreFilled}
 use Rattle.file_fills.proofs.Counted.{count_none}
-use Rattle.file_fills.proofs.Further.{further_none, kept_place}
+use Rattle.file_fills.proofs.Further.{further_none, kept_place, placed_back}
 use Rattle.file_fills.proofs.Seeing.{over_under, place_at}
-use Rattle.file_fills.proofs.Stepped.{before_end, come_then, put_further, ready_after}
+use Rattle.file_fills.proofs.Tails.{put_leaves}
+use Rattle.file_fills.proofs.Stepped.{above_then, across_at, before_end, come_then, put_further, ready_after}
 
 -- the block of content with a place has bytes of the write
 pub bytes_at_place : (size from end at len : ℕ) → 0 < size → from ≤ at → 0 < len → at + len ≤ end → HasBytes size from end (at / size)
@@ -61,12 +65,12 @@ content_kept old new h cell at end i taken file high low some further =
     ∙ sym (content_is_level_zero h i)
 
 pub put_one : {V : Type 0} (seen : V → Seen) (mid now : Drafted V) (inode : ℕ) (g : Holding) (from end index block off : ℕ) (piece bytes left : List ℕ) → (seen_in seen mid).block_at block ≡ Some bytes → IsShown (seen_in seen mid) inode g
-    → IsRoomFor g from end left → HasBytes g.size from end index → content_block g index ≡ block → block ≢ 0
+    → IsRoomFor g from end left → HasBytes g.size from end index → index * g.size + off + length piece ≤ end → off ≤ g.size → content_block g index ≡ block → block ≢ 0
     → now ≡ record mid { fates = insert mid.fates block (Put (inode_lock inode) true (put_at off piece bytes)) }
     → IsShown (seen_in seen now) inode (with_cells g (rewritten_cells g block (put_at off piece (bytes_at g block)))) × IsFile (with_cells g (rewritten_cells g block (put_at off piece (bytes_at g block))))
     × (content_of (with_cells g (rewritten_cells g block (put_at off piece (bytes_at g block)))) ≡ overwritten (index * g.size + off) piece (content_of g))
     → HasBlockAt (seen_in seen now) mid.fates now.fates left left g from end index block (overwritten (index * g.size + off) piece (content_of g))
-put_one {V} seen mid now inode g from end index block off piece bytes left there shown r has is some put written = record {
+put_one {V} seen mid now inode g from end index block off piece bytes left there shown r has short fits is some put written = record {
   come = record {
     cell = rewritten_cells g block (put_at off piece (bytes_at g block));
     taken = [];
@@ -75,6 +79,7 @@ put_one {V} seen mid now inode g from end index block off piece bytes left there
     from_front = refl;
     content = written.2;
   };
+  above = λ x level first none. absurd (none_in x none);
   there = some;
   is = content_kept mid.fates now.fates g (rewritten_cells g block (put_at off piece (bytes_at g block))) from end index [] r.file r.in_blocks low (λ none. some (sym is ∙ none)) further ∙ is;
 }
@@ -93,13 +98,16 @@ put_one {V} seen mid now inode g from end index block off piece bytes left there
 
     further : IsFurther mid.fates now.fates g (rewritten_cells g block (put_at off piece (bytes_at g block))) from end []
     further = subst (λ fates. IsFurther mid.fates fates g (rewritten_cells g block (put_at off piece (bytes_at g block))) from end []) fates_are
-        (put_further mid.fates g from end index block (put_at off piece (bytes_at g block)) r.file written.1 placed)
+        (put_further mid.fates g from end index block (put_at off piece (bytes_at g block)) r.file written.1 placed
+        (λ n far. put_leaves off n piece (bytes_at g block) (omega (arith, fits, r.file.whole block _ placed.2)) (omega (arith, far, short))))
 
-pub block_then : (before after : Seen) (f0 f1 f2 : FinMap nat_cmp Fate) (room mid left : List ℕ) (h : Holding) (at end i block : ℕ) (bytes bytes' : List ℕ) (a : HasCome before f0 f1 room mid h at end bytes)
-    → HasBlockAt after f1 f2 mid left (with_cells h a.cell) at end i block bytes' → HasBlockAt after f0 f2 room left h at end i block bytes'
+pub block_then : (before after : Seen) (f0 f1 f2 : FinMap nat_cmp Fate) (room mid left : List ℕ) (h : Holding) (at end i block : ℕ) (bytes bytes' : List ℕ) (a : HasGone before f0 f1 room mid h at end i bytes)
+    → HasBlockAt after f1 f2 mid left (with_cells h a.come.cell) at end i block bytes' → HasBlockAt after f0 f2 room left h at end i block bytes'
 unfolding come_then
 block_then before after f0 f1 f2 room mid left h at end i block bytes bytes' a b = record {
-  come = come_then before after f0 f1 f2 room mid left h at end bytes bytes' a b.come;
+  come = come_then before after f0 f1 f2 room mid left h at end bytes bytes' a.come b.come
+      (across_at before after f0 f1 f2 room mid left h at end i bytes bytes' a.come b.come (λ x level first early placed. (a.above x level first early placed).0) b.above);
+  above = above_then before after f0 f1 f2 room mid left h at end i bytes bytes' a b.come b.above;
   there = b.there;
   is = b.is;
 }
@@ -147,17 +155,27 @@ pieces_more {V} seen old mid now room between left h at n next bytes piece block
     from_front = both.from_front;
     content = both.content ∙ (λ i. overwritten (long i) (piece_is i) (a.come.content i)) ∙ writes_join at (take n bytes) (take (next - n) (drop n bytes)) (content_of h) ∙ ap (λ xs. overwritten at xs (content_of h)) (take_more bytes n next low);
   };
+  upto = λ x level first taken placed. elim (Contains-append_cases a.come.taken b.come.taken x taken) [
+    | inl early ↦
+        let before = a.upto x level first early (placed_back old.fates mid.fates now.fates h a.come.cell b.come.cell at end a.come.taken b.come.taken a.come.further b.come.further x level first early placed) in
+        omega (arith, before, low)
+    | inr late ↦
+        let whole : first * h.size ≤ (at + n) / h.size * h.size = mul-le-mul_right h.size (b.above x level first late placed).0 in
+        omega (arith, whole, div-mul-le_self (at + n) h.size, low)
+  ];
   there = λ i has. elim (piece_index h.size at n next i some short has) [
     | inl here ↦ λ none. b.there (sym b.is ∙ ap (content_block (with_cells h b.come.cell)) (sym here) ∙ none)
     | inr early ↦ λ none. a.there i early (sym (content_kept mid.fates now.fates (with_cells h a.come.cell) b.come.cell at end i b.come.taken a.come.further.file high_mid (below i has) (a.there i early) b.come.further) ∙ none)
   ];
 }
   where
-    both : HasCome (seen_in seen now) old.fates now.fates room left h at end (overwritten (at + n) piece (content_of (with_cells h a.come.cell)))
-    both = come_then (seen_in seen mid) (seen_in seen now) old.fates mid.fates now.fates room between left h at end (overwritten at (take n bytes) (content_of h)) (overwritten (at + n) piece (content_of (with_cells h a.come.cell))) a.come b.come
-
     some : 0 < h.size
     some = omega (arith, size_large h.size r.file.block_size)
+
+    both : HasCome (seen_in seen now) old.fates now.fates room left h at end (overwritten (at + n) piece (content_of (with_cells h a.come.cell)))
+    both = come_then (seen_in seen mid) (seen_in seen now) old.fates mid.fates now.fates room between left h at end (overwritten at (take n bytes) (content_of h)) (overwritten (at + n) piece (content_of (with_cells h a.come.cell))) a.come b.come
+        (across_at (seen_in seen mid) (seen_in seen now) old.fates mid.fates now.fates room between left h at end ((at + n) / h.size) (overwritten at (take n bytes) (content_of h)) (overwritten (at + n) piece (content_of (with_cells h a.come.cell))) a.come b.come
+        (λ x level first early placed. le-div first (at + n) h.size some (a.upto x level first early placed)) b.above)
 
     long : at + n ≡ at + length (take n bytes)
     long = omega (arith, length-take n bytes, low, high)
@@ -215,6 +233,11 @@ pieces_done after f0 f1 room left h at n end bytes r end_is n_is a = record {
   content = a.come.content ∙ ap (λ xs. overwritten at xs (content_of h)) (ap (λ m. take m bytes) n_is ∙ take-length bytes);
   dinode = a.come.further.dinode;
   blocks = a.come.further.blocks;
+  places = λ b level first had. (λ placed. (placed.0, placed.1, sym (a.come.further.parts b had) ∙ placed.2), λ placed. (placed.0, placed.1, a.come.further.parts b had ∙ placed.2));
+  own = a.come.further.own;
+  headers = a.come.further.headers;
+  clear = λ from far. a.come.further.clear from (omega (arith, far, end_is));
+  filled = subst (λ m. AreFilled h (with_cells h a.come.cell) at m a.come.taken) end_is a.come.further.filled;
   counted = a.come.further.counted;
   as_many =
       let none = nothing_needed_at (with_cells h a.come.cell) at end a.come.further.file (λ none. r.in_blocks (sym same ∙ none)) (subst (λ (d : Dinode). end ≤ d.size) (sym a.come.further.dinode) r.within) each (height_in h) (omega (arith, same)) in
@@ -242,6 +265,7 @@ pieces_none seen old inode room h at end bytes shown r low = record {
     from_front = refl;
     content = sym (nothing_over at (content_of h) (omega (arith, low, r.within, content_length h r.file r.in_blocks)));
   };
+  upto = λ x level first none. absurd (none_in x none);
   there = λ i has. absurd (omega (arith, has.some));
 }
   where

@@ -1,9 +1,10 @@
 -- One step of a file that gets further in a draft: a hole is filled, or bytes are put.
-use Rattle.std.proofs.Common.{◌≡◌, ◌≢◌, ◌⊎◌, inl, inr, Bool, true, false, Option, None, Some, ℕ, zero, suc, ◌+◌, ◌*◌, ◌/◌, ◌^◌, ◌<◌, ◌≤◌, Result, Ok, Err, OnOk, List, [], ◌∷◌, ◌++◌, length, refl, sym, ap, subst, ◌∙◌, arith, append_assoc}
+use Rattle.std.proofs.Common.{◌≡◌, ◌≢◌, ◌⊎◌, inl, inr, Bool, true, false, Option, None, Some, ℕ, zero, suc, ◌+◌, ◌-◌, ◌*◌, ◌/◌, ◌^◌, ◌<◌, ◌≤◌, Result, Ok, Err, OnOk, List, [], ◌∷◌, ◌++◌, length, take, drop, refl, sym, ap, subst, ◌∙◌, arith, append_assoc}
 use Rattle.std.proofs.lemmas.Bool.{cases_eq, cond-true, cond-false, eq-eqb, ne_eqb}
+use Rattle.std.proofs.lemmas.List.Elements.{Contains-append_cases}
 use Rattle.std.proofs.Math.Nat.{mul-div_cancel}
 use Rattle.std.specs.Cmp.{nat_cmp_total}
-use Rattle.std.specs.Prelude.{◌==◌, ◌&&◌, not, Contains, IsSome, is_some}
+use Rattle.std.specs.Prelude.{◌==◌, if◌then◌else◌, ◌&&◌, not, Contains, IsSome, is_some}
 use Rattle.std.specs.FinMap.{FinMap, get, insert, nat_cmp-IsAntisymmetric}
 use Rattle.std.specs.Ordering.{nat_cmp}
 use Rattle.drafts.specs.Fates.{Drafted, seen_in, seen_with}
@@ -11,27 +12,29 @@ use Rattle.drafts.specs.declared.fate.Fate.{Fate}
 use Rattle.drafts.specs.declared.fate.Fate.TheVariants.{Put}
 use Rattle.finite_maps.proofs.Keys.{inserted_at, inserted_apart}
 use Rattle.gfs2_layout.specs.Holding.{Part, Pointed, Cell, Holding, cell_bytes, cell_part, part_at, bytes_at}
-use Rattle.gfs2_layout.specs.Inode.{block_count, dinode_in, height_in, content_block, content_count, content_of, pieces, IsPointed, by_dinode, by_block}
-use Rattle.gfs2_layout.specs.Structures.{dinode_of}
+use Rattle.gfs2_layout.specs.Inode.{block_count, dinode_in, header_length, height_in, content_block, content_count, content_of, pieces, span, IsPointed, by_dinode, by_block}
+use Rattle.gfs2_layout.specs.Structures.{dinode_length, dinode_of}
+use Rattle.gfs2_layout.specs.declared.dinode.Dinode.{Dinode}
 use Rattle.glock_names.specs.Views.{Seen}
 use Rattle.dinode_tree.specs.Reading.{inode_lock}
 use Rattle.dinode_tree.specs.Shown.{IsShown}
 use Rattle.dinode_tree.proofs.Ranges.{piece_within}
 use Rattle.dinode_tree.proofs.Sound.{is_there}
+use Rattle.dinode_tree.proofs.Spans.{span_some}
 use Rattle.growth_laws.specs.Blocks.{start_in, with_pointer, rewritten, rewritten_cells, filled_cells}
 use Rattle.growth_laws.specs.Files.{IsFile, IsPlaced, block_on, with_cells}
-use Rattle.growth_laws.specs.Need.{needed_below}
-use Rattle.growth_laws.specs.Steps.{IsFilled}
+use Rattle.growth_laws.specs.Need.{is_over, needed_below}
+use Rattle.growth_laws.specs.Steps.{IsClearFrom, IsFilled}
 use Rattle.growth_laws.proofs.Contents.{content_place, whole_unit}
 use Rattle.growth_laws.proofs.Counting.{count_same}
 use Rattle.growth_laws.proofs.Fills.{count_after as fills_add_one, fills_keep_files, fills_keep_content, some_by_part}
 use Rattle.growth_laws.proofs.Lacking.{nothing_is_lacking}
 use Rattle.growth_laws.proofs.Needing.{fills_lower_need}
-use Rattle.growth_laws.proofs.Parts.{not_itself, same_level}
-use Rattle.growth_laws.proofs.Places.{content_is_level_zero, size_large}
+use Rattle.growth_laws.proofs.Parts.{not_itself, same_first, same_level, some_part}
+use Rattle.growth_laws.proofs.Places.{cancelled, content_is_level_zero, part_there, size_large}
 use Rattle.growth_laws.proofs.Pointing.{put_pointers_fill, rewritten_bytes, rewrites_keep_the_rest}
 use Rattle.growth_drafts.specs.Taken.{HasBytes, IsContentIn, IsLeft, IsPutFor}
-use Rattle.growth_drafts.proofs.Rooms.{none_some, only_in}
+use Rattle.growth_drafts.proofs.Rooms.{none_in, none_some, only_in}
 use Rattle.growth_drafts.proofs.Shown.{from_there}
 use Rattle.growth_steps.specs.New.{new_bytes}
 use Rattle.growth_steps.proofs.Stepping.{is_new_block}
@@ -39,9 +42,14 @@ use Rattle.file_walks.specs.Walks.{place_of, first_of, IsPlace, IsStop}
 use Rattle.file_walks.specs.declared.walks.Stop.{Stop}
 use Rattle.file_walks.proofs.Above.{under_above}
 use Rattle.file_fills.specs.Filling.{IsRoomFor, IsSeenWay}
-use Rattle.file_fills.specs.Progress.{HasCome, IsFurther}
-use Rattle.file_fills.proofs.Further.{free_taken, further_then, need_same, room_further, way_further}
+use Rattle.file_fills.specs.Progress.{HasCome, HasGone, IsFurther}
+use Rattle.file_fills.proofs.Further.{free_taken, further_then, met_across, need_same, placed_back, room_further, way_further}
+use Rattle.file_fills.specs.Headers.{KeepsHeaders}
+use Rattle.file_fills.specs.Turns.{IsMetBefore}
+use Rattle.file_fills.proofs.Headers.{before_pointer}
 use Rattle.file_fills.proofs.Over.{over_above}
+use Rattle.file_fills.proofs.Tails.{clear_along}
+use Rattle.file_fills.proofs.Turns.{stand_one}
 
 -- ---- where the bytes are
 
@@ -176,6 +184,72 @@ module _ (old : FinMap nat_cmp Fate) (h : Holding) (at end i : ℕ) (stop : Stop
     );
   }
 
+  -- it stands at the hole and nowhere else
+  stands : (x level first : ℕ) → Contains (block ∷ []) x → IsPlaced (with_cells h cells) x level first → (stop.level ≡ level) × (first_of h 0 i stop ≡ first)
+  stands x level first taken placed =
+      let part = sym filled.part ∙ ap (part_at (with_cells h cells)) (sym (only_in block x taken)) ∙ placed.2 in
+      (same_level part, same_first part)
+
+  pub fill_above : (x level first : ℕ) → Contains (block ∷ []) x → IsPlaced (with_cells h cells) x level first → (first ≤ i) × (i < first + span h.size level)
+  fill_above x level first taken placed =
+      let is = stands x level first taken placed in
+      let under = under_above h.size 0 i stop.level i large (omega arith) (omega arith) (omega arith) in
+      let last : span h.size stop.level ≡ span h.size level = ap (span h.size) is.0 in
+      (omega (arith, under.0, is.1), omega (arith, under.1, is.1, last))
+
+  fill_over : (x level j : ℕ) → Contains (block ∷ []) x → IsPlaced (with_cells h cells) x level (j * span h.size level) → is_over h.size at end level j ≡ true
+  fill_over x level j taken placed =
+      let is = stands x level (j * span h.size level) taken placed in
+      let j_is : place_of h 0 i stop ≡ j = cancelled (place_of h 0 i stop) j (span h.size stop.level) (span_some h.size stop.level large) (is.1 ∙ ap (λ l. j * span h.size l) (sym is.0)) in
+      (λ t. is_over h.size at end (sym is.0 t) (sym j_is t)) ∙ over_above h.size at end i stop.level large has
+
+  fill_hole_was : (x c level first : ℕ) → Contains (block ∷ []) x → IsPlaced (with_cells h cells) x level first → IsPlaced h c level first → ⊥
+  fill_hole_was x c level first taken placed had =
+      let is = stands x level first taken placed in
+      let c_some : c ≢ 0 = some_part h c _ r.file.nobody had.2 in
+      let there : IsPlaced h c stop.level (first_of h 0 i stop) = subst (IsPlaced h c stop.level) (sym is.1) (subst (λ l. IsPlaced h c l first) (sym is.0) had) in
+      c_some (sym ((part_there h r.file stop.level (place_of h 0 i stop) c stopped.passed.place.low stopped.passed.place.within c_some).1 there) ∙ stopped.passed.leads ∙ hole)
+
+  fill_clear : (upto : ℕ) → IsClearFrom h upto → IsClearFrom (with_cells h cells) upto
+  fill_clear upto clear =
+      clear_along h cells upto upto r.file (fills_keep_files h cells stop.pointer.from stop.pointer.index stop.level (first_of h 0 i stop) block r.file filled)
+      (λ none. r.in_blocks (sym (ap (λ (d : Dinode). d.height) filled.dinode) ∙ none)) (omega arith) clear
+      (λ c j placed. elim (cases_eq c block) [
+        | inl e ↦
+            let is = stands c 0 j (subst (Contains (block ∷ [])) (sym e) (0, omega arith, refl)) placed in
+            inr (ap (bytes_at (with_cells h cells)) e ∙ filled.zeros is.0)
+        | inr other ↦
+            let part = sym (filled.stays.parts c other) ∙ placed.2 in
+            inl ((placed.0, placed.1, part), ap (drop (upto - j * h.size)) (filled.stays.contents c placed.0 placed.1 j other part))
+      ])
+
+  -- a block that the file had keeps what stands before its pointers
+  keeps_before : (n x : ℕ) → n ≤ 512 → x ≢ block → n ≤ start_in h x → take n (bytes_at (with_cells h cells) x) ≡ take n (bytes_at h x)
+  keeps_before n x short other low = elim (cases_eq x stop.pointer.from) [
+    | inl e ↦
+        let start : n ≤ stop.pointer.start = subst (λ m. n ≤ m) stopped.passed.start (subst (λ y. n ≤ start_in h y) e low) in
+        ap (λ y. take n (bytes_at (with_cells h cells) y)) e ∙ ap (take n) bytes_from
+        ∙ before_pointer n stop.pointer.start stop.pointer.index block bytes start (omega (arith, short, large, ap length seen, r.file.whole stop.pointer.from from_part.0 from_part.1)) ∙ ap (take n) (sym seen) ∙ ap (λ y. take n (bytes_at h y)) (sym e)
+    | inr other' ↦ ap (take n) (ap cell_bytes (cell_else x other other'))
+  ]
+
+  fill_headers : KeepsHeaders h (with_cells h cells) (block ∷ [])
+  fill_headers = record {
+    old = λ x level first had placed. keeps_before header_length x (omega arith) (λ e. none_some (h.cell x) (ap h.cell e ∙ r.free.new block here) had) (least (x == h.own));
+    new = λ x level first taken placed.
+        let is = stands x (suc level) first taken placed in
+        ap (λ y. take header_length (bytes_at (with_cells h cells) y)) (only_in block x taken) ∙ ap (take header_length) (ap cell_bytes cell_block) ∙ ap (λ l. take header_length (new_bytes h.size l)) is.0;
+  }
+    where
+      least : (b : Bool) → header_length ≤ (if b then dinode_length else header_length)
+      least true = omega arith
+      least false = omega arith
+
+  fill_own : take dinode_length (bytes_at (with_cells h cells) h.own) ≡ take dinode_length (bytes_at h h.own)
+  fill_own =
+      keeps_before dinode_length h.own (omega arith) (λ e. none_some (h.cell h.own) (ap h.cell e ∙ r.free.new block here) (is_there (h.cell h.own) _ r.file.own))
+      (let same : dinode_length ≡ start_in h h.own = sym (cond-true _ _ _ (eq-eqb h.own h.own refl)) in omega (arith, same))
+
   pub fill_further : IsFurther old puts h cells at end (block ∷ [])
   fill_further = record {
     file = fills_keep_files h cells stop.pointer.from stop.pointer.index stop.level (first_of h 0 i stop) block r.file filled;
@@ -195,6 +269,10 @@ module _ (old : FinMap nat_cmp Fate) (h : Holding) (at end i : ℕ) (stop : Stop
     };
     counted = fills_add_one h cells stop.pointer.from stop.pointer.index stop.level (first_of h 0 i stop) block filled;
     parts = λ x had. filled.stays.parts x (λ e. none_here x e had);
+    filled = record { over = fill_over; holes = fill_hole_was; turn = stand_one IsMetBefore (with_cells h cells) block };
+    own = fill_own;
+    headers = fill_headers;
+    clear = λ upto far clear. fill_clear upto clear;
     need =
         let one = fills_lower_need h cells stop.pointer.from stop.pointer.index stop.level (first_of h 0 i stop) block at end (place_of h 0 i stop) r.file filled refl (over_above h.size at end i stop.level large has) in
         let turned : needed_below (with_cells h cells) at end (height_in h) + 1 ≡ length (block ∷ []) + needed_below (with_cells h cells) at end (height_in h) = omega arith in
@@ -239,7 +317,8 @@ room_left h at end i stop room r has stopped hole = elim (cases_eq (needed_below
 
 -- ---- bytes are put
 
-module _ (old : FinMap nat_cmp Fate) (h : Holding) (at end i block : ℕ) (new : List ℕ) (file : IsFile h) (file' : IsFile (with_cells h (rewritten_cells h block new))) (placed : IsPlaced h block 0 i) where
+module _ (old : FinMap nat_cmp Fate) (h : Holding) (at end i block : ℕ) (new : List ℕ) (file : IsFile h) (file' : IsFile (with_cells h (rewritten_cells h block new))) (placed : IsPlaced h block 0 i)
+    (leaves : (n : ℕ) → end ≤ i * h.size + n → drop n new ≡ drop n (bytes_at h block)) where
   abbrev put_cells : ℕ → Option Cell
   put_cells = rewritten_cells h block new
 
@@ -266,6 +345,23 @@ module _ (old : FinMap nat_cmp Fate) (h : Holding) (at end i block : ℕ) (new :
   put_else : (x : ℕ) → x ≢ block → get put_fates x ≡ get old x
   put_else x other = inserted_apart nat_cmp_total nat_cmp-IsAntisymmetric old block (Put (inode_lock h.own) true new) x other
 
+  put_clear : (upto : ℕ) → end ≤ upto → IsClearFrom h upto → IsClearFrom (with_cells h put_cells) upto
+  put_clear upto far clear =
+      clear_along h put_cells upto upto file file' (λ none. omega (arith, none, file.tree.below block placed.0 placed.1 0 i placed.2, ap (λ (d : Dinode). d.height) put_dinode)) (omega arith) clear
+      (λ c j at_c. elim (cases_eq c block) [
+        | inl e ↦
+            let part = sym (kept.0 c) ∙ at_c.2 in
+            let same : j ≡ i = same_first (sym part ∙ ap (part_at h) e ∙ placed.2) in
+            let rest = leaves (upto - j * h.size) (omega (arith, far, ap (λ n. n * h.size) same)) in
+            inl ((at_c.0, at_c.1, part), ap (λ x. drop (upto - j * h.size) (bytes_at (with_cells h put_cells) x)) e ∙ ap (drop (upto - j * h.size)) kept.1 ∙ rest ∙ ap (λ x. drop (upto - j * h.size) (bytes_at h x)) (sym e))
+        | inr other ↦ inl ((at_c.0, at_c.1, sym (kept.0 c) ∙ at_c.2), ap (drop (upto - j * h.size)) (kept.2 c other))
+      ])
+
+  not_indirect : (x level first : ℕ) → x ≡ block → IsPlaced (with_cells h put_cells) x (suc level) first → ⊥
+  not_indirect x level first e at_x =
+      let same : suc level ≡ 0 = same_level (sym at_x.2 ∙ kept.0 x ∙ ap (part_at h) e ∙ placed.2) in
+      omega (arith, same)
+
   pub put_further : IsFurther old put_fates h put_cells at end []
   put_further = record {
     file = file';
@@ -279,6 +375,13 @@ module _ (old : FinMap nat_cmp Fate) (h : Holding) (at end i block : ℕ) (new :
     };
     counted = (let none : block_count h ≡ block_count h + 0 = omega arith in same_count ∙ none);
     parts = λ x had. kept.0 x;
+    filled = record { over = λ x level j none. absurd (none_in x none); holes = λ x c level first none. absurd (none_in x none); turn = tt };
+    own = ap (take dinode_length) (kept.2 h.own own_other);
+    headers = record {
+      old = λ x level first had at_x. ap (take header_length) (kept.2 x (λ e. not_indirect x level first e at_x));
+      new = λ x level first none. absurd (none_in x none);
+    };
+    clear = put_clear;
     need =
         let same = need_same h put_cells at end file file' put_dinode kept.0 (height_in h) (omega arith) in
         let none : needed_below (with_cells h put_cells) at end (height_in h) ≡ 0 + needed_below (with_cells h put_cells) at end (height_in h) = omega arith in
@@ -305,14 +408,41 @@ module _ (old : FinMap nat_cmp Fate) (h : Holding) (at end i block : ℕ) (new :
 -- ---- one step after another
 
 unfoldable pub come_then : (before after : Seen) (f0 f1 f2 : FinMap nat_cmp Fate) (room mid left : List ℕ) (h : Holding) (at end : ℕ) (bytes bytes' : List ℕ) (a : HasCome before f0 f1 room mid h at end bytes)
-    → HasCome after f1 f2 mid left (with_cells h a.cell) at end bytes' → HasCome after f0 f2 room left h at end bytes'
-come_then before after f0 f1 f2 room mid left h at end bytes bytes' a b = record {
+    → (b : HasCome after f1 f2 mid left (with_cells h a.cell) at end bytes')
+    → ((x y level first level' first' : ℕ) → Contains a.taken x → Contains b.taken y → IsPlaced (with_cells h a.cell) x level first → IsPlaced (with_cells h b.cell) y level' first' → IsMetBefore level first level' first')
+    → HasCome after f0 f2 room left h at end bytes'
+come_then before after f0 f1 f2 room mid left h at end bytes bytes' a b across = record {
   cell = b.cell;
   taken = a.taken ++ b.taken;
   shown = b.shown;
-  further = further_then f0 f1 f2 h a.cell b.cell at end a.taken b.taken a.further b.further;
+  further = further_then f0 f1 f2 h a.cell b.cell at end a.taken b.taken a.further b.further across;
   from_front = a.from_front ∙ ap (λ xs. a.taken ++ xs) b.from_front ∙ sym (append_assoc a.taken b.taken left);
   content = b.content;
+}
+
+-- both on the way to the same place of content
+pub across_at : (before after : Seen) (f0 f1 f2 : FinMap nat_cmp Fate) (room mid left : List ℕ) (h : Holding) (at end i : ℕ) (bytes bytes' : List ℕ) (a : HasCome before f0 f1 room mid h at end bytes)
+    → (b : HasCome after f1 f2 mid left (with_cells h a.cell) at end bytes')
+    → ((x level first : ℕ) → Contains a.taken x → IsPlaced (with_cells h a.cell) x level first → first ≤ i)
+    → ((x level first : ℕ) → Contains b.taken x → IsPlaced (with_cells h b.cell) x level first → (first ≤ i) × (i < first + span h.size level))
+    → (x y level first level' first' : ℕ) → Contains a.taken x → Contains b.taken y → IsPlaced (with_cells h a.cell) x level first → IsPlaced (with_cells h b.cell) y level' first' → IsMetBefore level first level' first'
+across_at before after f0 f1 f2 room mid left h at end i bytes bytes' a b upto above = met_across f0 f1 f2 h a.cell b.cell at end a.taken b.taken a.further b.further i upto above
+
+pub above_then : (before after : Seen) (f0 f1 f2 : FinMap nat_cmp Fate) (room mid left : List ℕ) (h : Holding) (at end i : ℕ) (bytes bytes' : List ℕ) (a : HasGone before f0 f1 room mid h at end i bytes)
+    → (b : HasCome after f1 f2 mid left (with_cells h a.come.cell) at end bytes') → ((x level first : ℕ) → Contains b.taken x → IsPlaced (with_cells h b.cell) x level first → (first ≤ i) × (i < first + span h.size level))
+    → (x level first : ℕ) → Contains (a.come.taken ++ b.taken) x → IsPlaced (with_cells h b.cell) x level first → (first ≤ i) × (i < first + span h.size level)
+above_then before after f0 f1 f2 room mid left h at end i bytes bytes' a b above x level first taken placed = elim (Contains-append_cases a.come.taken b.taken x taken) [
+  | inl early ↦ a.above x level first early (placed_back f0 f1 f2 h a.come.cell b.cell at end a.come.taken b.taken a.come.further b.further x level first early placed)
+  | inr late ↦ above x level first late placed
+]
+
+pub gone_then : (before after : Seen) (f0 f1 f2 : FinMap nat_cmp Fate) (room mid left : List ℕ) (h : Holding) (at end i : ℕ) (bytes bytes' : List ℕ) (a : HasGone before f0 f1 room mid h at end i bytes)
+    → HasGone after f1 f2 mid left (with_cells h a.come.cell) at end i bytes' → HasGone after f0 f2 room left h at end i bytes'
+unfolding come_then
+gone_then before after f0 f1 f2 room mid left h at end i bytes bytes' a b = record {
+  come = come_then before after f0 f1 f2 room mid left h at end bytes bytes' a.come b.come
+      (across_at before after f0 f1 f2 room mid left h at end i bytes bytes' a.come b.come (λ x level first early placed. (a.above x level first early placed).0) b.above);
+  above = above_then before after f0 f1 f2 room mid left h at end i bytes bytes' a b.come b.above;
 }
 
 -- ---- as the draft tells it
@@ -322,17 +452,11 @@ pub filled_one : {V E : Type 0} (seen : V → Seen) (old now : Drafted V) (inode
     → OnOk result (now ≡ record old { fates = insert (insert old.fates stop.pointer.from (Put (inode_lock inode) false (with_pointer stop.pointer.start stop.pointer.index block bytes))) block (Put (inode_lock inode) (stop.level == 0) (new_bytes (seen old.view).size stop.level)) })
     → ((first : ℕ) → IsFile h → IsShown (seen_in seen old) inode h → start_in h stop.pointer.from ≡ stop.pointer.start → IsPointed h 0 stop.pointer.from stop.pointer.index stop.level first → first < content_count h → h.cell block ≡ None → block ≢ 0 → block < h.count
     → OnOk result (IsShown (seen_in seen now) inode (with_cells h (filled_cells h stop.pointer.from stop.pointer.index stop.level first block (new_bytes h.size stop.level)))))
-    → OnOk result (HasCome (seen_in seen now) old.fates now.fates (block ∷ left) left h at end (content_of h))
+    → OnOk result (HasGone (seen_in seen now) old.fates now.fates (block ∷ left) left h at end i (content_of h))
 filled_one seen old now inode h at end i stop block left bytes there low shown r has stopped hole (Err e) put show = tt
 filled_one {V} seen old now inode h at end i stop block left bytes there low shown r has stopped hole (Ok u) put show = record {
-  cell = cells old.fates h at end i stop block left bytes low r has stopped hole bytes_are;
-  taken = block ∷ [];
-  shown = subst (λ a. IsShown (seen_in seen now) a (with_cells h (cells old.fates h at end i stop block left bytes low r has stopped hole bytes_are))) (sym shown.own)
-      (show (first_of h 0 i stop) r.file shown stopped.passed.start (pointed old.fates h at end i stop block left bytes low r has stopped hole bytes_are) (within old.fates h at end i stop block left bytes low r has stopped hole bytes_are) (r.free.new block here_it) (some old.fates h at end i stop block left bytes low r has stopped hole bytes_are) (r.free.inside block here_it));
-  further = subst (λ fates. IsFurther old.fates fates h (cells old.fates h at end i stop block left bytes low r has stopped hole bytes_are) at end (block ∷ [])) fates_are
-      (fill_further old.fates h at end i stop block left bytes low r has stopped hole bytes_are);
-  from_front = refl;
-  content = content_further old.fates h at end i stop block left bytes low r has stopped hole bytes_are;
+  come = come;
+  above = fill_above old.fates h at end i stop block left bytes low r has stopped hole bytes_are;
 }
   where
     bytes_are : bytes_at h stop.pointer.from ≡ bytes
@@ -345,6 +469,18 @@ filled_one {V} seen old now inode h at end i stop block left bytes there low sho
     fates_are =
         (λ t. insert (insert old.fates stop.pointer.from (Put (inode_lock (shown.own t)) false (with_pointer stop.pointer.start stop.pointer.index block bytes))) block (Put (inode_lock (shown.own t)) (stop.level == 0) (new_bytes (shown.size t) stop.level)))
         ∙ sym (ap (λ (d : Drafted V). d.fates) put)
+
+    come : HasCome (seen_in seen now) old.fates now.fates (block ∷ left) left h at end (content_of h)
+    come = record {
+      cell = cells old.fates h at end i stop block left bytes low r has stopped hole bytes_are;
+      taken = block ∷ [];
+      shown = subst (λ a. IsShown (seen_in seen now) a (with_cells h (cells old.fates h at end i stop block left bytes low r has stopped hole bytes_are))) (sym shown.own)
+          (show (first_of h 0 i stop) r.file shown stopped.passed.start (pointed old.fates h at end i stop block left bytes low r has stopped hole bytes_are) (within old.fates h at end i stop block left bytes low r has stopped hole bytes_are) (r.free.new block here_it) (some old.fates h at end i stop block left bytes low r has stopped hole bytes_are) (r.free.inside block here_it));
+      further = subst (λ fates. IsFurther old.fates fates h (cells old.fates h at end i stop block left bytes low r has stopped hole bytes_are) at end (block ∷ [])) fates_are
+          (fill_further old.fates h at end i stop block left bytes low r has stopped hole bytes_are);
+      from_front = refl;
+      content = content_further old.fates h at end i stop block left bytes low r has stopped hole bytes_are;
+    }
 
 -- what holds of the file so far
 

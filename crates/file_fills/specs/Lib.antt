@@ -1,3 +1,5 @@
 pub mod Filling
 pub mod Counting
 pub mod Progress
+pub mod Turns
+pub mod Headers

@@ -14,7 +14,7 @@ ghost use Rattle.growth_drafts.specs.Taken.{HasBytes};
 ghost use Rattle.growth_drafts.specs.Touched.{Follows, IsReached};
 ghost use Rattle.file_walks.specs.Walks.{IsOfInode, IsPlace, IsStop, LeadsOn};
 ghost use Rattle.file_fills.specs.Filling.{HasFilled, IsRoomFor, IsSeenWay};
-ghost use Rattle.file_fills.specs.Progress.{HasBlockAt, HasCome};
+ghost use Rattle.file_fills.specs.Progress.{HasBlockAt, HasGone};
 
 use crate::looking::{lacks, look_between};
 use crate::numbers::places_over;
@@ -70,7 +70,7 @@ fn fill_one<V: View>(
     requires there { HasBlock (seen_in V.seen draft.old) stop.pointer.from }
     requires fits { stop.pointer.start + 8 * stop.pointer.index + 8 ≤ (V.seen draft.old.view).size }
     ensures filled { (h : Holding) (at end i : ℕ) (left : List ℕ) → IsShown (seen_in V.seen draft.old) inode h → IsRoomFor h at end (block ∷ left) → HasBytes h.size at end i → IsStop h 0 i stop → stop.block ≡ 0
-        → OnOk result (HasCome (seen_in V.seen draft.new) draft.old.fates draft.new.fates (block ∷ left) left h at end (content_of h)) }
+        → OnOk result (HasGone (seen_in V.seen draft.new) draft.old.fates draft.new.fates (block ∷ left) left h at end i (content_of h)) }
     ensures within { (room : List ℕ) → IsReached (seen_in V.seen draft.old) inode room stop.pointer.from → Contains room block
         → OnOk result (Follows (V.seen draft.old.view) inode room draft.old.fates draft.new.fates) }
     ensures view { draft.new.view ≡ draft.old.view }

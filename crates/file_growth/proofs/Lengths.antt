@@ -3,7 +3,7 @@ use Rattle.std.proofs.Common.{◌≡◌, ◌≢◌, ◌⊎◌, inl, inr, Bool, t
 use Rattle.std.proofs.lemmas.Bool.{cases_lt}
 use Rattle.std.proofs.lemmas.Nat.{le-div}
 use Rattle.std.proofs.Math.Nat.{div-mul-le_self}
-use Rattle.std.specs.Prelude.{◌&&◌, ◌||◌, not, is_some}
+use Rattle.std.specs.Prelude.{◌&&◌, ◌||◌, not, is_some, Contains, IsSome}
 use Rattle.std.specs.FinMap.{FinMap}
 use Rattle.std.specs.Ordering.{nat_cmp}
 use Rattle.drafts.specs.Fates.{Drafted, seen_in}
@@ -34,7 +34,8 @@ use Rattle.growth_drafts.specs.Taken.{HasTaken}
 use Rattle.growth_drafts.proofs.Rooms.{free_left, none_in}
 use Rattle.growth_steps.specs.Becoming.{Becomes}
 use Rattle.growth_steps.specs.Sizes.{CanHaveSize}
-use Rattle.file_heights.specs.Grown.{CanGrow, HasCleared, HasRisen, IsGrown}
+use Rattle.file_fills.proofs.Turns.{stand_as}
+use Rattle.file_heights.specs.Grown.{CanGrow, HasCleared, HasRisen, IsGrown, IsLower}
 use Rattle.file_heights.proofs.Joining.{grown_as, grown_then, risen_none}
 use Rattle.file_heights.proofs.Rising.{reach_of}
 use Rattle.file_heights.specs.Sized.{HasSize, dinode_as}
@@ -64,10 +65,13 @@ or_true : (b : Bool) → (b || true) ≡ true
 or_true true = refl
 or_true false = refl
 
+pub new_level_is_needed : (h : Holding) (at end level : ℕ) → height_in h ≤ level → has_content h ≡ true → is_needed h at end level 0 ≡ true
+new_level_is_needed h at end level high has = ap₂ (λ (a : Bool) (b : Bool). a && not b) (on_way_above h at end level 0 high has ∙ or_true (is_over h.size at end level 0)) (none_above h level 0 high)
+
 one_on_new : (h : Holding) (at end level : ℕ) → height_in h ≤ level → has_content h ≡ true → needed_on h at end level ≢ 0
 one_on_new h at end level high has =
     count_some (is_needed h at end level) 0 0 (max 1 (pieces end (span h.size level * h.size))) (omega arith) (omega arith)
-    (ap₂ (λ (a : Bool) (b : Bool). a && not b) (on_way_above h at end level 0 high has ∙ or_true (is_over h.size at end level 0)) (none_above h level 0 high))
+    (new_level_is_needed h at end level high has)
 
 pub levels_needed : (h : Holding) (at end n : ℕ) → has_content h ≡ true → n ≤ height_in h + needed_below h at end n
 levels_needed h at end zero has = omega arith
@@ -153,6 +157,18 @@ module _ (h : Holding) (at end need : ℕ) (room : List ℕ) (can : CanStretch h
           (ap (resized (size_with h end)) (r.risen.grown.content ∙ e.same.grown.content))
           (append-nil r.taken)
           (grown_then f0 f2 f3 h r.cell s.cell _ _ _ _ r.taken [] (grown_then f0 f1 f2 h e.cell r.cell _ _ _ _ [] r.taken e.same.grown r.risen.grown) s.grown);
+      levels = record {
+        each = λ level is low.
+            let found = r.risen.levels.each level (e.same.along ∙ is.0, omega (arith, is.1, high_e), refl) (omega (arith, low, same_for)) in
+            (found.0, found.1, (s.grown.places found.0 level 0 (took found.0 found.1)).1 found.2);
+        only = λ b level first taken placed.
+            let is = r.risen.levels.only b level first taken ((s.grown.places b level first (took b taken)).0 placed) in
+            ((sym e.same.along ∙ is.0.0, omega (arith, is.0.1, high_e), is.0.2), omega (arith, is.1, same_for));
+        turn = stand_as IsLower IsLower (with_cells h r.cell) (with_cells h s.cell) r.taken (λ b level first taken placed. (s.grown.places b level first (took b taken)).0 placed)
+            (λ b c level first level' first' has has' placed placed' less. less) r.risen.levels.turn;
+      };
+      clear = λ either. s.clear (let up : (dinode_in h).size ≤ size_with h end = omega arith in subst (λ n. n ≤ size_with h end) (sym size_same) up)
+          (subst (IsClearFrom (with_cells h r.cell)) (size_e ∙ sym size_same) (r.risen.clear (λ none. can.in_blocks (sym same_for ∙ none)) (clear_e either)));
       from_front = r.from_front;
       less =
           let first = e.same.need at end (height_for h (size_with h end)) reach.0 in
@@ -160,6 +176,23 @@ module _ (h : Holding) (at end need : ℕ) (room : List ℕ) (can : CanStretch h
           omega (arith, first, second, s.need at end (height_for h (size_with h end)));
     }
       where
+        high_e : height_in (with_cells h e.cell) ≡ height_in h
+        high_e = ap (λ (x : Dinode). x.height) same_dinode
+
+        took : (b : ℕ) → Contains r.taken b → IsSome (r.cell b)
+        took b taken = (r.risen.grown.blocks.blocks b).1 (inr taken)
+
+        size_e : (dinode_in (with_cells h e.cell)).size ≡ (dinode_in h).size
+        size_e = ap (λ (x : Dinode). x.size) same_dinode
+
+        clear_e : (height_in h ≢ 0 → (dinode_in h).size < end ⊎ IsClearFrom h (dinode_in h).size) → height_in (with_cells h e.cell) ≢ 0 → IsClearFrom (with_cells h e.cell) (dinode_in (with_cells h e.cell)).size
+        clear_e either high' =
+            let high_h : height_in h ≢ 0 = λ none. high' (high_e ∙ none) in
+            subst (IsClearFrom (with_cells h e.cell)) (sym size_e) (elim (either high_h) [
+              | inl less ↦ e.clear high_h less
+              | inr was ↦ e.same.clear high_h (λ in_blocks. was)
+            ])
+
         told : blocks ≡ ((dinode_in h).blocks + need) % 2 ^ 64
         told = blocks_are ∙ ap (λ (x : Dinode). (x.blocks + need) % 2 ^ 64) (r.dinode ∙ high_dinode)
 

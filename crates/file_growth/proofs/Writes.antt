@@ -1,40 +1,51 @@
 -- A file that was written to.
-use Rattle.std.proofs.Common.{◌≡◌, ◌≢◌, ◌⊎◌, inl, inr, true, false, Option, ℕ, zero, suc, ◌+◌, ◌-◌, ◌%◌, ◌^◌, ◌<◌, ◌≤◌, max, List, [], ◌++◌, length, take, drop, refl, sym, ap, subst, ◌∙◌, arith, append_assoc, length-append, append-nil}
+use Rattle.std.proofs.Common.{◌≡◌, ◌≢◌, ◌⊎◌, inl, inr, true, false, Option, ℕ, zero, suc, ◌+◌, ◌-◌, ◌*◌, ◌%◌, ◌^◌, ◌<◌, ◌≤◌, max, List, [], ◌++◌, length, take, drop, refl, sym, ap, ap₂, subst, ◌∙◌, arith, append_assoc, length-append, append-nil}
 use Rattle.std.proofs.lemmas.Bool.{cases_eq, cases_lt}
+use Rattle.std.proofs.lemmas.List.Elements.{Contains-append_cases}
 use Rattle.std.proofs.lemmas.List.{length-take, length-drop, take_all}
-use Rattle.std.specs.Prelude.{Bool, replicate, count_by}
+use Rattle.std.specs.Prelude.{Bool, ◌==◌, ◌&&◌, ◌||◌, not, nat_lt, replicate, count_by, Contains, IsSome}
 use Rattle.std.specs.List.{range_with_len}
 use Rattle.std.specs.FinMap.{FinMap}
 use Rattle.std.specs.Ordering.{nat_cmp}
 use Rattle.drafts.specs.Fates.{seen_with}
 use Rattle.drafts.specs.declared.fate.Fate.{Fate}
 use Rattle.file_tree.specs.Apply.{file_limit, overwritten, resized}
-use Rattle.gfs2_layout.specs.Holding.{Cell, Holding, Itself, bytes_at}
-use Rattle.gfs2_layout.specs.Inode.{block_count, content_of, dinode_in, height_in}
+use Rattle.gfs2_layout.specs.Holding.{Cell, Holding, Itself, bytes_at, part_at}
+use Rattle.gfs2_layout.specs.Inode.{block_count, content_of, dinode_in, header_length, height_in, span}
 use Rattle.gfs2_layout.specs.Structures.{dinode_length, is_directory}
 use Rattle.gfs2_layout.specs.declared.dinode.Dinode.{Dinode}
 use Rattle.glock_names.specs.Views.{Seen}
 use Rattle.dinode_tree.specs.Shown.{IsShown}
+use Rattle.dinode_tree.proofs.Sound.{is_there as in_file}
+use Rattle.dinode_tree.proofs.Spans.{span_some}
 use Rattle.growth_laws.specs.Blocks.{rewritten_cells}
-use Rattle.growth_laws.specs.Files.{IsFile, with_cells}
-use Rattle.growth_laws.specs.Need.{capacity, height_for, needed, needed_below}
+use Rattle.growth_laws.specs.Files.{IsFile, IsPlaced, block_on, with_cells}
+use Rattle.growth_laws.specs.Need.{capacity, has_content, height_for, is_needed, is_there, needed, needed_below}
 use Rattle.growth_laws.specs.Steps.{IsStuffedAs}
 use Rattle.growth_laws.proofs.Bare.{content_stuffed, stuffed_content_is_put}
 use Rattle.growth_laws.proofs.Bytes.{over_length, writes_grow_first}
 use Rattle.growth_laws.proofs.Contents.{content_length}
 use Rattle.growth_laws.proofs.Counting.{one_if, step_of}
 use Rattle.growth_laws.proofs.Heights.{raised_enough}
+use Rattle.growth_laws.proofs.Parts.{not_itself}
+use Rattle.growth_laws.proofs.Places.{cancelled, part_of_place, size_large}
 use Rattle.growth_laws.proofs.Pointing.{rewrites_keep_the_rest}
-use Rattle.growth_drafts.proofs.Rooms.{free_before, free_left}
+use Rattle.growth_laws.proofs.Rising.{none_above, there_false}
+use Rattle.growth_drafts.proofs.Rooms.{free_before, free_left, none_in}
 use Rattle.growth_steps.specs.Becoming.{Becomes}
 use Rattle.growth_steps.proofs.Putting.{drafts_on}
 use Rattle.file_fills.specs.Filling.{HasFilled, IsRoomFor, IsSeenWay}
+use Rattle.file_fills.specs.Turns.{IsMetBefore, StandIn}
+use Rattle.file_fills.proofs.Headers.{headers_then}
+use Rattle.file_fills.proofs.Turns.{stand_as, stand_then}
 use Rattle.file_fills.proofs.Ways.{ways_along}
+use Rattle.file_heights.specs.Grown.{IsLower, IsNewLevel}
 use Rattle.file_heights.specs.Sized.{dinode_as}
 use Rattle.file_heights.proofs.Joining.{taken_then}
 use Rattle.file_heights.proofs.Rising.{reach_of}
 use Rattle.file_growth.specs.Stretched.{CanStretch, HasStretched}
-use Rattle.file_growth.specs.Written.{CanWrite, HasWritten, size_with}
+use Rattle.file_growth.specs.Written.{CanWrite, HasWritten, IsTakenBefore, size_with}
+use Rattle.file_growth.proofs.Lengths.{new_level_is_needed}
 use Rattle.file_heights.proofs.Sized.{counts_same, no_more}
 
 -- ---- numbers
@@ -120,6 +131,48 @@ module _ (h : Holding) (at need : ℕ) (bytes room left : List ℕ) (can : CanWr
         f.dinode ∙ s.grown.dinode
         ∙ ap (λ n. dinode_as (dinode_in h) (size_with h (at + length bytes)) n (height_for h (size_with h (at + length bytes)))) (told ∙ ap (λ n. (dinode_in h).blocks + n) (needs ∙ sym all_taken))
 
+    -- ---- which block stands where
+
+    mid_some : (b : ℕ) → IsSome (h.cell b) → IsSome (s.cell b)
+    mid_some b had = (s.grown.blocks.blocks b).1 (inl had)
+
+    back : (b level first : ℕ) → Contains s.taken b → IsPlaced f.g b level first → IsPlaced (with_cells h s.cell) b level first
+    back b level first early = (f.places b level first ((s.grown.blocks.blocks b).1 (inr early))).0
+
+    level_needed : (b level j : ℕ) → Contains s.taken b → IsPlaced f.g b level (j * span h.size level) → is_needed h at (at + length bytes) level j ≡ true
+    level_needed b level j early placed =
+        let is = s.levels.only b level (j * span h.size level) early (back b level (j * span h.size level) early placed) in
+        let zero_wide : 0 ≡ 0 * span h.size level = omega arith in
+        let first : j ≡ 0 = cancelled j 0 (span h.size level) (span_some h.size level (size_large h.size can.counted.file.block_size)) (is.0.2 ∙ zero_wide) in
+        ap (is_needed h at (at + length bytes) level) first ∙ new_level_is_needed h at (at + length bytes) level is.0.1 is.0.0
+
+    hole_needed : (b level j : ℕ) → Contains f.taken b → IsPlaced f.g b level (j * span h.size level) → is_needed h at (at + length bytes) level j ≡ true
+    hole_needed b level j late placed = ap₂ (λ (p : Bool) (q : Bool). (p || (not (nat_lt level (height_in h)) && j == 0 && has_content h)) && not q) (f.filled.over b level j late placed) (none_there (cases_lt level (height_in h)))
+      where
+        none_there : (level < height_in h) ⊎ (height_in h ≤ level) → is_there h level j ≡ false
+        none_there (inr high) = none_above h level j high
+        none_there (inl low) = there_false h level j (λ near. elim (cases_eq (block_on h level j) 0) [
+          | inl none ↦ none
+          | inr some ↦
+              let had = part_of_place h can.counted.file level j low near some in
+              absurd (f.filled.holes b (block_on h level j) level (j * span h.size level) late placed ((s.grown.places (block_on h level j) level (j * span h.size level) (in_file (h.cell (block_on h level j)) _ had.2)).1 had))
+        ])
+
+    not_new : (c level first : ℕ) → Contains f.taken c → IsPlaced f.g c level first → IsNewLevel h level first → ⊥
+    not_new c level first late placed new =
+        let below : level < height_in f.g = f.file.tree.below c placed.0 placed.1 level first placed.2 in
+        let same : height_in f.g ≡ height_for h (size_with h (at + length bytes)) = ap (λ (d : Dinode). d.height) f.dinode ∙ high_is in
+        let found = s.levels.each level (new.0, new.1, refl) (omega (arith, below, same)) in
+        f.filled.holes c found.0 level first late placed (subst (IsPlaced (with_cells h s.cell) found.0 level) (sym new.2) found.2)
+
+    in_turn : StandIn (IsTakenBefore h) f.g (s.taken ++ f.taken)
+    in_turn =
+        stand_then (IsTakenBefore h) f.g s.taken f.taken
+        (stand_as IsLower (IsTakenBefore h) (with_cells h s.cell) f.g s.taken back (λ b c level first level' first' has has' placed placed' less. inl ((s.levels.only b level first has placed).0, λ new. less)) s.levels.turn)
+        (stand_as IsMetBefore (IsTakenBefore h) f.g f.g f.taken (λ b level first has placed. placed)
+        (λ b c level first level' first' has has' placed placed' met. inr (not_new c level' first' has' placed', met)) f.filled.turn)
+        (λ b c level first level' first' early late placed placed'. inl ((s.levels.only b level first early (back b level first early placed)).0, λ new. absurd (not_new c level' first' late placed' new)))
+
     pub written_in_blocks : HasWritten after f0 f2 room rest h at bytes
     written_in_blocks = record {
       g = f.g;
@@ -131,6 +184,17 @@ module _ (h : Holding) (at need : ℕ) (bytes room left : List ℕ) (can : CanWr
         dinode = says;
         head = ap (λ (d : Dinode). record { number = d.num.number; is_dir = is_directory d }) says;
         blocks = taken_then h (with_cells h s.cell) f.g s.taken f.taken s.grown.blocks f.blocks;
+        places = λ b level first had. (
+          λ placed. (s.grown.places b level first had).0 ((f.places b level first (mid_some b had)).0 placed),
+          λ placed. (f.places b level first (mid_some b had)).1 ((s.grown.places b level first had).1 placed),
+        );
+        needed = λ b level j taken placed. elim (Contains-append_cases s.taken f.taken b taken) [
+          | inl early ↦ level_needed b level j early placed
+          | inr late ↦ hole_needed b level j late placed
+        ];
+        turn = in_turn;
+        headers = headers_then h (with_cells h s.cell) f.g s.taken f.taken refl mid_some (λ x early. (s.grown.blocks.blocks x).1 (inr early)) (λ x level first mid'. (f.places x level first mid').0) s.grown.headers f.headers;
+        clear = λ high' either. f.clear (size_with h (at + length bytes)) (let far : at + length bytes ≤ size_with h (at + length bytes) = omega arith in far) (s.clear either);
         behind = λ none. absurd (high (ap (λ (d : Dinode). d.height) (sym says) ∙ none));
       };
       as_many = all_taken;
@@ -181,6 +245,14 @@ module _ (h : Holding) (cell : ℕ → Option Cell) (at : ℕ) (bytes : List ℕ
       dinode = says_behind;
       head = ap (λ (d : Dinode). record { number = d.num.number; is_dir = is_directory d }) says_behind;
       blocks = (no_more h cell is.parts).0;
+      places = λ b level first had. (λ placed. (placed.0, placed.1, sym (is.parts b) ∙ placed.2), λ placed. (placed.0, placed.1, is.parts b ∙ placed.2));
+      needed = λ b level j none. absurd (none_in b none);
+      turn = tt;
+      headers = record {
+        old = λ x level first had placed. ap (take header_length) (is.others x (λ e. not_itself _ _ _ _ (sym file'.0.own ∙ ap (part_at (with_cells h cell)) (sym e) ∙ placed.2)));
+        new = λ x level first none. absurd (none_in x none);
+      };
+      clear = λ high'. absurd (high' (ap (λ (d : Dinode). d.height) is.dinode ∙ is.stuffed));
       behind = λ stuffed. behind;
     };
     as_many = sym nothing;

@@ -1,5 +1,5 @@
 -- A file that is long and high enough for a write, and counts the blocks that it is to have.
-use Rattle.std.specs.Prelude.{ℕ, ◌≡◌, ◌≢◌, ◌+◌, ◌%◌, ◌^◌, ◌<◌, ◌≤◌, List, [], ◌++◌, length, Option}
+use Rattle.std.specs.Prelude.{ℕ, ◌≡◌, ◌≢◌, ◌⊎◌, ◌+◌, ◌%◌, ◌^◌, ◌<◌, ◌≤◌, List, [], ◌++◌, length, Option}
 use Rattle.std.specs.FinMap.{FinMap}
 use Rattle.std.specs.Ordering.{nat_cmp}
 use Rattle.drafts.specs.declared.fate.Fate.{Fate}
@@ -13,7 +13,7 @@ use Rattle.growth_laws.specs.Need.{height_for, needed_below}
 use Rattle.growth_laws.specs.Steps.{IsClearFrom}
 use Rattle.growth_drafts.specs.Taken.{AreFreeFor}
 use Rattle.file_heights.specs.Sized.{dinode_as}
-use Rattle.file_heights.specs.Grown.{IsGrown, IsRisen}
+use Rattle.file_heights.specs.Grown.{AreLevels, IsGrown, IsRisen}
 use Rattle.file_growth.specs.Written.{size_with}
 
 -- a file that is to have its content in blocks, up to this end, with room for those that a write up to it needs
@@ -24,12 +24,14 @@ pub record CanStretch (h : Holding) (at end : ℕ) (room : List ℕ) : Type 0 wh
   pub free : AreFreeFor h room
   pub enough : needed_below h at end (height_for h (size_with h end)) ≤ length room
 
--- over a draft that showed it: afterwards it shows it so long and so high, with blocks from the front of the room, and it needs so many less
+-- over a draft that showed it: afterwards it shows it so long and so high, with blocks from the front of the room for the new levels, and it needs so many less
 pub record HasStretched (after : Seen) (old new : FinMap nat_cmp Fate) (room left : List ℕ) (h : Holding) (at end need : ℕ) : Type 0 where
   pub cell : ℕ → Option Cell
   pub taken : List ℕ
   pub shown : IsShown after h.own (with_cells h cell)
   pub grown : IsGrown old new h cell (dinode_as (dinode_in h) (size_with h end) (((dinode_in h).blocks + need) % 2 ^ 64) (height_for h (size_with h end))) (resized (size_with h end) (content_of h)) taken
+  pub levels : AreLevels h (with_cells h cell) (height_for h (size_with h end)) taken
+  pub clear : (height_in h ≢ 0 → (dinode_in h).size < end ⊎ IsClearFrom h (dinode_in h).size) → IsClearFrom (with_cells h cell) (size_with h end)
   pub from_front : room ≡ taken ++ left
   pub less : needed_below h at end (height_for h (size_with h end)) ≡ length taken + needed_below (with_cells h cell) at end (height_for h (size_with h end))
 

@@ -1,5 +1,5 @@
 -- A file in blocks whose end is clear.
-use Rattle.std.proofs.Common.{◌≡◌, ◌≢◌, ◌⊎◌, inl, inr, Bool, true, false, Option, ℕ, ◌+◌, ◌-◌, ◌*◌, ◌/◌, ◌%◌, ◌<◌, ◌≤◌, List, [], ◌∷◌, refl, sym, ap, subst, ◌∙◌, arith}
+use Rattle.std.proofs.Common.{◌≡◌, ◌≢◌, ◌⊎◌, inl, inr, Bool, true, false, Option, ℕ, suc, ◌+◌, ◌-◌, ◌*◌, ◌/◌, ◌%◌, ◌<◌, ◌≤◌, List, [], ◌∷◌, take, refl, sym, ap, subst, ◌∙◌, arith}
 use Rattle.std.proofs.lemmas.Bool.{cases_eq}
 use Rattle.std.proofs.lemmas.Nat.{div-add-mod'}
 use Rattle.std.proofs.Math.Nat.{div-eq_of_lt-le, div-mul-le_self, lt-mul-div-succ}
@@ -11,20 +11,21 @@ use Rattle.drafts.specs.Fates.{Drafted, seen_with}
 use Rattle.drafts.specs.declared.fate.Fate.{Fate}
 use Rattle.drafts.specs.declared.fate.Fate.TheVariants.{Put}
 use Rattle.gfs2_layout.specs.Bytes.{u64_at}
-use Rattle.gfs2_layout.specs.Holding.{Cell, Holding}
-use Rattle.gfs2_layout.specs.Inode.{block_count, content_block, content_count, content_of, dinode_in, fan, height_in, pieces}
+use Rattle.gfs2_layout.specs.Holding.{Cell, Holding, part_at}
+use Rattle.gfs2_layout.specs.Inode.{block_count, content_block, content_count, content_of, dinode_in, fan, height_in, pieces, header_length}
 use Rattle.gfs2_layout.specs.Structures.{dinode_length}
 use Rattle.glock_names.specs.Views.{Seen}
 use Rattle.glock_names.specs.declared.LockName.{LockName}
 use Rattle.dinode_tree.specs.Below.{IsBelow}
 use Rattle.dinode_tree.specs.Shown.{IsShown}
-use Rattle.growth_laws.specs.Files.{IsFile, with_cells}
+use Rattle.growth_laws.specs.Files.{IsFile, IsPlaced, with_cells}
 use Rattle.growth_laws.specs.Need.{has_content, needed_below}
 use Rattle.growth_laws.specs.Steps.{IsClearFrom, IsContentPut}
 use Rattle.growth_laws.proofs.Contents.{content_part, content_place, whole_unit}
 use Rattle.growth_laws.proofs.Counting.{count_same}
 use Rattle.growth_laws.proofs.Ends.{holes_are_clear, whole_files_are_clear}
 use Rattle.growth_laws.proofs.Fills.{some_by_part}
+use Rattle.growth_laws.proofs.Parts.{same_level}
 use Rattle.growth_laws.proofs.Places.{content_is_level_zero, size_large}
 use Rattle.growth_laws.proofs.Puts.{dinode_same, file_after, own_bytes}
 use Rattle.growth_laws.proofs.Staying.{puts_keep_need}
@@ -122,13 +123,21 @@ module _ (old new : FinMap nat_cmp Fate) (after : Seen) (inode : ℕ) (h : Holdi
       blocks = record { count = refl; blocks = λ x. (λ there. inl (sym (all_same x) ∙ there), λ either. elim either [ inl had ↦ all_same x ∙ had | inr taken ↦ absurd (none_in x taken) ]) };
       counted = (let one : block_count h ≡ block_count h + 0 = omega arith in same_count ∙ one);
       places = λ x l first had. (λ placed. (placed.0, placed.1, sym (put.parts x) ∙ placed.2), λ placed. (placed.0, placed.1, put.parts x ∙ placed.2));
+      headers = record {
+        old = λ x l first had placed. ap (take header_length) (put.others x (λ e.
+            let at : IsPlaced h (content_block h i) 0 i = content_part h file put.in_blocks i put.within put.there in
+            let same : suc l ≡ 0 = same_level (sym placed.2 ∙ put.parts x ∙ ap (part_at h) e ∙ at.2) in
+            omega (arith, same)));
+        new = λ x l first none. absurd (none_in x none);
+      };
       drafted = becomes.drafted;
     };
     need = λ at end to low.
         let zero_more : needed_below (with_cells h cell) at end to ≡ 0 + needed_below (with_cells h cell) at end to = omega arith in
         sym (puts_keep_need h cell i bytes at end to file put) ∙ zero_more;
     clear = λ high none. clear;
-    along = λ has. has_same ∙ has;
+    along = has_same;
+    levels = record { each = λ level is low. absurd (omega (arith, is.1, low)); only = λ x level first none. absurd (none_in x none); turn = tt };
   }
 
   pub end_is_clear : h.own ≡ inode → HasCleared after old new h

@@ -1,14 +1,16 @@
 -- A file whose height rises by a step, or without a block.
-use Rattle.std.proofs.Common.{◌≡◌, ◌≢◌, ◌⊎◌, inl, inr, true, false, Option, None, ℕ, zero, suc, ◌+◌, ◌-◌, ◌*◌, ◌/◌, max, ◌<◌, ◌≤◌, List, [], ◌∷◌, refl, sym, ap, subst, ◌∙◌, arith}
+use Rattle.std.proofs.Common.{◌≡◌, ◌≢◌, ◌⊎◌, inl, inr, true, false, Option, None, Some, ℕ, zero, suc, ◌+◌, ◌-◌, ◌*◌, ◌/◌, max, ◌<◌, ◌≤◌, List, [], ◌∷◌, length, take, drop, refl, sym, ap, subst, ◌∙◌, arith}
 use Rattle.std.proofs.lemmas.Bool.{cases_eq, cases_lt, cond-true, eq-eqb, ne_eqb}
+use Rattle.std.proofs.lemmas.List.{length-take, take-append-le, take-take}
 use Rattle.std.proofs.Math.Nat.{lt-mul-div-succ, mul-le-mul_right}
 use Rattle.std.specs.Prelude.{Contains, IsSome, is_some, ◌↔◌, not, ◌==◌}
 use Rattle.std.specs.FinMap.{FinMap}
 use Rattle.std.specs.Ordering.{nat_cmp}
 use Rattle.drafts.specs.declared.fate.Fate.{Fate}
 use Rattle.file_tree.specs.Apply.{file_limit}
-use Rattle.gfs2_layout.specs.Holding.{Cell, Holding, part_at}
-use Rattle.gfs2_layout.specs.Inode.{block_count, content_count, content_of, dinode_in, fan, height_in, pieces, pointer, span}
+use Rattle.gfs2_layout.specs.Bytes.{put_at}
+use Rattle.gfs2_layout.specs.Holding.{Pointed, Cell, Holding, cell_bytes, bytes_at, part_at}
+use Rattle.gfs2_layout.specs.Inode.{block_count, content_count, content_of, dinode_in, fan, header_length, height_in, pieces, pointer, span}
 use Rattle.gfs2_layout.specs.Structures.{dinode_length}
 use Rattle.gfs2_layout.specs.declared.dinode.Dinode.{Dinode}
 use Rattle.glock_names.specs.Views.{Seen}
@@ -23,6 +25,7 @@ use Rattle.growth_laws.proofs.Counting.{count_same}
 use Rattle.growth_laws.proofs.Ends.{bare_files_are_clear, moved_content_is_clear, rises_stay_clear}
 use Rattle.growth_laws.proofs.Fills.{some_by_part}
 use Rattle.growth_laws.proofs.Heights.{bare_files_have_no_block, capacity_reaches, heights_reach, raised_enough}
+use Rattle.growth_laws.proofs.Parts.{not_itself, same_first, same_level}
 use Rattle.growth_laws.proofs.Places.{size_large}
 use Rattle.growth_laws.proofs.Raises.{raises_keep_files, some_same, unmoved}
 use Rattle.growth_laws.proofs.Rising.{has_some, raises_lower_need, unstuffing_lowers_need}
@@ -31,9 +34,12 @@ use Rattle.growth_laws.proofs.Unstuffing.{unstuffing_keeps_files}
 use Rattle.growth_drafts.specs.Taken.{AreFreeFor, HasTaken}
 use Rattle.growth_drafts.proofs.Rooms.{none_in, none_some, only_in}
 use Rattle.growth_steps.specs.Becoming.{Becomes}
-use Rattle.growth_steps.specs.Heights.{CanBeBare, CanRise, IsNewTo}
+use Rattle.growth_steps.specs.Heights.{CanBeBare, CanRise, IsNewTo, raised_bytes, raised_cells}
+use Rattle.growth_steps.specs.New.{new_bytes}
+use Rattle.growth_steps.proofs.Stepping.{new_length}
 use Rattle.file_fills.proofs.Counted.{pointers_go_along}
-use Rattle.file_heights.specs.Grown.{CanGrow, HasRisen, IsRisen}
+use Rattle.file_fills.proofs.Turns.{stand_one}
+use Rattle.file_heights.specs.Grown.{AreLevels, CanGrow, HasRisen, IsLower, IsRisen}
 
 -- ---- content that goes along
 
@@ -87,7 +93,7 @@ one_more h cell b new here rest = record {
 -- ---- steps
 
 module _ (old new : FinMap nat_cmp Fate) (after : Seen) (inode : ℕ) (h : Holding) (cell : ℕ → Option Cell) (file : IsFile h) (becomes : Becomes after old new inode h (with_cells h cell)) where
-  module _ (level b : ℕ) (raised : IsRaised h cell level b) where
+  module _ (level b : ℕ) (raised : IsRaised h cell level b) (head : take header_length (bytes_at (with_cells h cell) b) ≡ take header_length (new_bytes h.size 1)) where
     keeps : IsFile (with_cells h cell) × (content_of (with_cells h cell) ≡ content_of h) × (block_count (with_cells h cell) ≡ block_count h + 1)
     keeps = raises_keep_files h cell level b file raised
 
@@ -103,6 +109,20 @@ module _ (old new : FinMap nat_cmp Fate) (after : Seen) (inode : ℕ) (h : Holdi
       λ placed. (moved_from h.own b placed.0, placed.1, raised.parts x (apart x had) ∙ ap (moved h.own b) placed.2),
     )
 
+    has_already : has_content h ≡ true
+    has_already = has_some h raised.leads.0 (λ none. omega (arith, none, raised.high)) raised.leads.1 raised.leads.2
+
+    top_level : AreLevels h (with_cells h cell) (suc (suc level)) (b ∷ [])
+    top_level = record {
+      each = λ l is low.
+          let same : suc level ≡ l = omega (arith, is.1, low, raised.high) in
+          (b, (0, omega arith, refl), (h.own, 0, raised.part ∙ ap (λ n. Some (Pointed h.own 0 n 0)) same));
+      only = λ x l first taken placed.
+          let part = sym raised.part ∙ ap (part_at (with_cells h cell)) (sym (only_in b x taken)) ∙ placed.2 in
+          ((has_already, omega (arith, same_level part, raised.high), sym (same_first part)), omega (arith, same_level part));
+      turn = stand_one IsLower (with_cells h cell) b;
+    }
+
     pub raised_is_risen : IsRisen old new h cell (suc (suc level)) (b ∷ [])
     raised_is_risen = record {
       grown = record {
@@ -112,13 +132,19 @@ module _ (old new : FinMap nat_cmp Fate) (after : Seen) (inode : ℕ) (h : Holdi
         blocks = one_more h cell b raised.new (is_there (cell b) _ raised.part) (λ x other. some_same h.own b (h.cell x) (cell x) (raised.parts x other));
         counted = keeps.2;
         places = raised_places;
+        headers = record {
+          old = λ x l first had placed. ap (take header_length) (raised.others x (apart x had) (λ e.
+              not_itself _ _ _ _ (sym keeps.0.own ∙ ap (part_at (with_cells h cell)) (sym e) ∙ placed.2)));
+          new = λ x l first taken placed. ap (λ y. take header_length (bytes_at (with_cells h cell) y)) (only_in b x taken) ∙ head;
+        };
         drafted = becomes.drafted;
       };
       need = λ at end to low.
           let one = raises_lower_need h cell level b at end to file raised (omega (arith, low)) in
           omega (arith, one);
       clear = λ high clear. rises_stay_clear h cell level b (dinode_in h).size file raised (clear (λ none. omega (arith, none, raised.high)));
-      along = λ has. has_some (with_cells h cell) 0 (λ none. omega (arith, none, higher)) (omega (arith, raised.leads.1)) (λ none. raised.some (sym raised.first ∙ none));
+      along = has_some (with_cells h cell) 0 (λ none. omega (arith, none, higher)) (omega (arith, raised.leads.1)) (λ none. raised.some (sym raised.first ∙ none)) ∙ sym has_already;
+      levels = top_level;
     }
 
   module _ (b : ℕ) (moved_out : IsUnstuffed h cell b) where
@@ -130,6 +156,20 @@ module _ (old new : FinMap nat_cmp Fate) (after : Seen) (inode : ℕ) (h : Holdi
 
     one_high : height_in (with_cells h cell) ≡ 1
     one_high = ap (λ (d : Dinode). d.height) moved_out.dinode
+
+    has_behind : has_content h ≡ true
+    has_behind = cond-true _ _ _ (eq-eqb (height_in h) 0 moved_out.stuffed) ∙ ap not (ne_eqb (dinode_in h).size 0 moved_out.content)
+
+    first_level : AreLevels h (with_cells h cell) 1 (b ∷ [])
+    first_level = record {
+      each = λ l is low.
+          let same : 0 ≡ l = omega (arith, low) in
+          (b, (0, omega arith, refl), (h.own, 0, moved_out.part ∙ ap (λ n. Some (Pointed h.own 0 n 0)) same));
+      only = λ x l first taken placed.
+          let part = sym moved_out.part ∙ ap (part_at (with_cells h cell)) (sym (only_in b x taken)) ∙ placed.2 in
+          ((has_behind, omega (arith, moved_out.stuffed), sym (same_first part)), omega (arith, same_level part));
+      turn = stand_one IsLower (with_cells h cell) b;
+    }
 
     pub moved_is_risen : IsRisen old new h cell 1 (b ∷ [])
     moved_is_risen = record {
@@ -143,13 +183,21 @@ module _ (old new : FinMap nat_cmp Fate) (after : Seen) (inode : ℕ) (h : Holdi
           λ placed. (placed.0, placed.1, sym (moved_out.parts x (other x had)) ∙ placed.2),
           λ placed. (placed.0, placed.1, moved_out.parts x (other x had) ∙ placed.2),
         );
+        headers = record {
+          old = λ x l first had placed. ap (take header_length) (moved_out.others x (other x had) (λ e.
+              not_itself _ _ _ _ (sym kept.0.own ∙ ap (part_at (with_cells h cell)) (sym e) ∙ placed.2)));
+          new = λ x l first taken placed.
+              let content : 0 ≡ suc l = same_level (sym moved_out.part ∙ ap (part_at (with_cells h cell)) (sym (only_in b x taken)) ∙ placed.2) in
+              absurd (omega (arith, content));
+        };
         drafted = becomes.drafted;
       };
       need = λ at end to low.
           let one = unstuffing_lowers_need h cell b at end to file moved_out (omega (arith, low)) in
           omega (arith, one);
       clear = λ high clear. moved_content_is_clear h cell b file moved_out;
-      along = λ has. has_some (with_cells h cell) 0 (λ none. omega (arith, none, one_high)) (omega (arith, size_large h.size file.block_size)) (λ none. moved_out.some (sym moved_out.first ∙ none));
+      along = has_some (with_cells h cell) 0 (λ none. omega (arith, none, one_high)) (omega (arith, size_large h.size file.block_size)) (λ none. moved_out.some (sym moved_out.first ∙ none)) ∙ sym has_behind;
+      levels = first_level;
     }
 
   module _ (height : ℕ) (none_along : has_content h ≡ false) (bare : IsBareTo h cell height) where
@@ -163,6 +211,17 @@ module _ (old new : FinMap nat_cmp Fate) (after : Seen) (inode : ℕ) (h : Holdi
     unfolding block_count
     same_count = count_same (λ x. is_some (h.cell x)) (λ x. is_some (cell x)) 0 h.count (λ x low high. all_same x)
 
+    high_now : height_in (with_cells h cell) ≡ height
+    high_now = ap (λ (d : Dinode). d.height) bare.dinode
+
+    none_still : has_content (with_cells h cell) ≡ false
+    none_still = elim (cases_eq height 0) [
+      | inl none ↦
+          cond-true _ _ _ (eq-eqb (height_in (with_cells h cell)) 0 (high_now ∙ none))
+          ∙ ap not (eq-eqb (dinode_in (with_cells h cell)).size 0 (ap (λ (d : Dinode). d.size) bare.dinode ∙ bare.to_stuffed none))
+      | inr high ↦ sym (pointers_go_along (with_cells h cell) false (λ none. high (sym high_now ∙ none)) (λ no. absurd (cc), λ found. absurd (found.2 (bare.none found.0 found.1))))
+    ]
+
     pub bare_is_risen : IsRisen old new h cell height []
     bare_is_risen = record {
       grown = record {
@@ -172,6 +231,10 @@ module _ (old new : FinMap nat_cmp Fate) (after : Seen) (inode : ℕ) (h : Holdi
         blocks = record { count = refl; blocks = λ x. (λ there. inl (sym (all_same x) ∙ there), λ either. elim either [ inl had ↦ all_same x ∙ had | inr taken ↦ absurd (none_in x taken) ]) };
         counted = (let one : block_count h ≡ block_count h + 0 = omega arith in same_count ∙ one);
         places = λ x l first had. (λ placed. (placed.0, placed.1, sym (bare.parts x) ∙ placed.2), λ placed. (placed.0, placed.1, bare.parts x ∙ placed.2));
+        headers = record {
+          old = λ x l first had placed. ap (take header_length) (bare.others x (λ e. not_itself _ _ _ _ (sym same.0.own ∙ ap (part_at (with_cells h cell)) (sym e) ∙ placed.2)));
+          new = λ x l first none. absurd (none_in x none);
+        };
         drafted = becomes.drafted;
       };
       need = λ at end to low.
@@ -179,7 +242,12 @@ module _ (old new : FinMap nat_cmp Fate) (after : Seen) (inode : ℕ) (h : Holdi
           let zero_more : needed_below (with_cells h cell) at end to ≡ 0 + needed_below (with_cells h cell) at end to = omega arith in
           sym kept_need ∙ zero_more;
       clear = λ high clear. bare_files_are_clear h cell height (dinode_in h).size file bare high;
-      along = λ has. let both : true ≡ false = sym has ∙ none_along in absurd (cc);
+      along = none_still ∙ sym none_along;
+      levels = record {
+        each = λ level is low. (let both : true ≡ false = sym is.0 ∙ none_along in absurd (cc));
+        only = λ x level first none. absurd (none_in x none);
+        turn = tt;
+      };
     }
 
 -- ---- as the draft shows it
@@ -198,15 +266,15 @@ moved_has after old new inode b h cell d left file own d_is stuffed moved_out be
     }
 
 pub raised_has : (after : Seen) (old new : FinMap nat_cmp Fate) (inode level b : ℕ) (h : Holding) (cell : ℕ → Option Cell) (d : Dinode) (left : List ℕ) → IsFile h → h.own ≡ inode → d ≡ dinode_in h → IsRaised h cell level b
-    → Becomes after old new inode h (with_cells h cell) → HasRisen after old new (b ∷ left) left h (d.height + 1) (record d { height = d.height + 1 })
-raised_has after old new inode level b h cell d left file own d_is raised becomes =
+    → take header_length (bytes_at (with_cells h cell) b) ≡ take header_length (new_bytes h.size 1) → Becomes after old new inode h (with_cells h cell) → HasRisen after old new (b ∷ left) left h (d.height + 1) (record d { height = d.height + 1 })
+raised_has after old new inode level b h cell d left file own d_is raised head becomes =
     let high : d.height ≡ suc level = ap (λ (x : Dinode). x.height) d_is ∙ raised.high in
     let more : suc (suc level) ≡ d.height + 1 = omega (arith, high) in
     record {
       cell = cell;
       taken = b ∷ [];
       shown = subst (λ a. IsShown after a (with_cells h cell)) (sym own) becomes.shown;
-      risen = subst (λ n. IsRisen old new h cell n (b ∷ [])) more (raised_is_risen old new after inode h cell file becomes level b raised);
+      risen = subst (λ n. IsRisen old new h cell n (b ∷ [])) more (raised_is_risen old new after inode h cell file becomes level b raised head);
       from_front = refl;
       dinode = (λ t. record (d_is t) { height = sym more t }) ∙ sym raised.dinode;
     }
@@ -282,3 +350,15 @@ can_be_bare h size height room can is none = record {
           let both : true ≡ false = sym has ∙ none in
           absurd (cc)
     ]
+
+-- ---- the header of a level that is new
+
+before_put : (n : ℕ) (part bytes : List ℕ) → n ≤ length bytes → take n (put_at n part bytes) ≡ take n bytes
+before_put n part bytes low = take-append-le n (take n bytes) _ (omega (arith, low, length-take n bytes)) ∙ take-take n n bytes (omega arith)
+
+-- the header stands before the pointers that move there
+pub raised_head : (h : Holding) (level b : ℕ) (own bytes : List ℕ) → length bytes ≡ h.size → 512 ≤ h.size
+    → take header_length (bytes_at (with_cells h (raised_cells h level b own (raised_bytes bytes))) b) ≡ take header_length (new_bytes h.size 1)
+raised_head h level b own bytes whole large =
+    let here : bytes_at (with_cells h (raised_cells h level b own (raised_bytes bytes))) b ≡ raised_bytes bytes = ap cell_bytes (cond-true _ _ _ (eq-eqb b b refl)) in
+    ap (take header_length) here ∙ before_put header_length (drop dinode_length bytes) (new_bytes (length bytes) 1) (omega (arith, new_length (length bytes) 1 (omega (arith, whole, large)), whole, large)) ∙ ap (λ n. take header_length (new_bytes n 1)) whole

@@ -1,12 +1,12 @@
 -- A file in blocks with another size and another count of blocks.
-use Rattle.std.proofs.Common.{◌≡◌, inl, inr, Option, ℕ, ◌+◌, ◌*◌, [], drop, refl, sym, ap, subst, ◌∙◌, arith}
+use Rattle.std.proofs.Common.{◌≡◌, inl, inr, Option, ℕ, ◌+◌, ◌*◌, [], drop, refl, sym, ap, subst, ◌∙◌, arith, ◌≢◌, ◌↔◌, ◌-◌, ◌≤◌, List, take}
 use Rattle.std.specs.Prelude.{is_some}
 use Rattle.std.specs.FinMap.{FinMap}
 use Rattle.std.specs.Ordering.{nat_cmp}
 use Rattle.drafts.specs.declared.fate.Fate.{Fate}
 use Rattle.file_tree.specs.Apply.{resized}
 use Rattle.gfs2_layout.specs.Holding.{Cell, Holding, part_at, bytes_at}
-use Rattle.gfs2_layout.specs.Inode.{block_count, content_of, dinode_in, height_in}
+use Rattle.gfs2_layout.specs.Inode.{block_count, content_of, dinode_in, header_length, height_in}
 use Rattle.gfs2_layout.specs.Structures.{dinode_length}
 use Rattle.gfs2_layout.specs.Writing.{dinode_put}
 use Rattle.gfs2_layout.specs.declared.dinode.Dinode.{Dinode}
@@ -15,9 +15,10 @@ use Rattle.dinode_tree.specs.Shown.{IsShown}
 use Rattle.growth_laws.specs.Files.{IsFile, with_cells}
 use Rattle.growth_laws.specs.Growing.{IsTold}
 use Rattle.growth_laws.specs.Need.{needed_below}
-use Rattle.growth_laws.specs.Steps.{IsSized}
+use Rattle.growth_laws.specs.Steps.{IsClearFrom, IsSized}
 use Rattle.growth_laws.proofs.Counting.{count_same}
 use Rattle.growth_laws.proofs.Fills.{some_by_part}
+use Rattle.growth_laws.proofs.Parts.{not_itself}
 use Rattle.growth_laws.proofs.Numbers.{numbers_behind_are_the_same}
 use Rattle.growth_laws.proofs.Sizes.{sizes_resize}
 use Rattle.growth_laws.proofs.Staying.{need_stays, pointers_tell, sizes_keep_need}
@@ -25,6 +26,7 @@ use Rattle.growth_laws.proofs.Told.{counts_are_told}
 use Rattle.growth_drafts.specs.Taken.{HasTaken}
 use Rattle.growth_drafts.proofs.Rooms.{none_in}
 use Rattle.growth_steps.specs.Becoming.{Becomes}
+use Rattle.file_fills.proofs.Tails.{clear_along}
 use Rattle.file_heights.specs.Grown.{IsGrown}
 use Rattle.file_heights.specs.Sized.{HasSize}
 use Rattle.file_heights.proofs.Joining.{grown_as, grown_then}
@@ -64,6 +66,10 @@ module _ (f0 f1 f2 : FinMap nat_cmp Fate) (mid after : Seen) (inode : ℕ) (h : 
         blocks = none.0;
         counted = none.1;
         places = λ x l first had. (λ placed. (placed.0, placed.1, sym (sized.parts x) ∙ placed.2), λ placed. (placed.0, placed.1, sized.parts x ∙ placed.2));
+        headers = record {
+          old = λ x l first had placed. ap (take header_length) (sized.others x (λ e. not_itself _ _ _ _ (sym file.own ∙ ap (part_at h) (sym e) ∙ sym (sized.parts x) ∙ placed.2)));
+          new = λ x l first none. absurd (none_in x none);
+        };
         drafted = one.drafted;
       }
 
@@ -77,6 +83,10 @@ module _ (f0 f1 f2 : FinMap nat_cmp Fate) (mid after : Seen) (inode : ℕ) (h : 
         blocks = none.0;
         counted = none.1;
         places = λ x l first had. (λ placed. (placed.0, placed.1, sym (told.parts x) ∙ placed.2), λ placed. (placed.0, placed.1, told.parts x ∙ placed.2));
+        headers = record {
+          old = λ x l first had placed. ap (take header_length) (told.others x (λ e. not_itself _ _ _ _ (sym after_size.0.own ∙ ap (part_at (with_cells h c1)) (sym e) ∙ sym (told.parts x) ∙ placed.2)));
+          new = λ x l first none. absurd (none_in x none);
+        };
         drafted = two.drafted;
       }
 
@@ -95,6 +105,14 @@ module _ (f0 f1 f2 : FinMap nat_cmp Fate) (mid after : Seen) (inode : ℕ) (h : 
       (pointers_tell (with_cells h c1) c2 (λ none. sized.in_blocks (sym high_one ∙ none)) high_two
       (λ j. numbers_behind_are_the_same (bytes_at (with_cells h c2) h.own) (bytes_at (with_cells h c1) h.own) dinode_length dinode_length (8 * j) told.behind)) at end height
 
+  clear_size : (dinode_in h).size ≤ size → IsClearFrom h (dinode_in h).size → IsClearFrom (with_cells h c2) size
+  clear_size up clear =
+      clear_along h c2 (dinode_in h).size size file after_count.0 (λ none. sized.in_blocks (sym high_one ∙ sym high_two ∙ none)) up clear
+      (λ c i placed.
+      let part = sym (sized.parts c) ∙ sym (told.parts c) ∙ placed.2 in
+      let other : c ≢ h.own = λ e. not_itself _ _ _ _ (sym file.own ∙ ap (part_at h) (sym e) ∙ part) in
+      inl ((placed.0, placed.1, part), ap (drop (size - i * h.size)) (told.others c other ∙ sized.others c other)))
+
   pub has_size : h.own ≡ inode → HasSize after f0 f2 h size blocks
   has_size own = record {
     cell = c2;
@@ -106,4 +124,5 @@ module _ (f0 f1 f2 : FinMap nat_cmp Fate) (mid after : Seen) (inode : ℕ) (h : 
     heads = heads_then h (with_cells h c1) (with_cells h c2) refl file (λ b level first placed there. (placed.0, placed.1, sized.parts b ∙ placed.2))
         (put_keeps_heads h c1 (record (dinode_in h) { size = size }) file put_size sized.dinode behind_size sized.others)
         (put_keeps_heads (with_cells h c1) c2 (record (dinode_in (with_cells h c1)) { blocks = blocks }) after_size.0 put_count told.dinode told.behind told.others);
+    clear = clear_size;
   }

@@ -1,5 +1,5 @@
 -- A file that grows in a draft: what stays of it, what it gets, and how high it becomes.
-use Rattle.std.specs.Prelude.{ℕ, ◌≡◌, ◌≢◌, ◌↔◌, ◌+◌, ◌≤◌, max, IsSome, true, List, [], ◌++◌, length, Option}
+use Rattle.std.specs.Prelude.{ℕ, ◌≡◌, ◌≢◌, ◌↔◌, ◌+◌, ◌<◌, ◌≤◌, max, Contains, IsSome, true, List, [], ◌++◌, length, Option}
 use Rattle.std.specs.FinMap.{FinMap}
 use Rattle.std.specs.Ordering.{nat_cmp}
 use Rattle.drafts.specs.declared.fate.Fate.{Fate}
@@ -13,10 +13,12 @@ use Rattle.growth_laws.specs.Files.{IsFile, IsPlaced, with_cells}
 use Rattle.growth_laws.specs.Need.{has_content, height_for, needed_below}
 use Rattle.growth_laws.specs.Steps.{IsClearFrom}
 use Rattle.growth_drafts.specs.Taken.{AreFreeFor, DraftsFile, HasTaken, IsContentIn}
+use Rattle.file_fills.specs.Headers.{KeepsHeaders}
+use Rattle.file_fills.specs.Turns.{StandIn}
 
 -- ---- a file afterwards
 
--- With these cells: the dinode says this and this is the content; it has these blocks more, and each that it had stands where it stood.
+-- With these cells: the dinode says this and this is the content; it has these blocks more, and each that it had stands where it stood, an indirect one with the header that it had.
 pub record IsGrown (old new : FinMap nat_cmp Fate) (h : Holding) (cell : ℕ → Option Cell) (d : Dinode) (bytes taken : List ℕ) : Type 0 where
   pub file : IsFile (with_cells h cell)
   pub dinode : dinode_in (with_cells h cell) ≡ d
@@ -24,16 +26,32 @@ pub record IsGrown (old new : FinMap nat_cmp Fate) (h : Holding) (cell : ℕ →
   pub blocks : HasTaken h (with_cells h cell) taken
   pub counted : block_count (with_cells h cell) ≡ block_count h + length taken
   pub places : (b level first : ℕ) → IsSome (h.cell b) → IsPlaced (with_cells h cell) b level first ↔ IsPlaced h b level first
+  pub headers : KeepsHeaders h (with_cells h cell) taken
   pub drafted : DraftsFile old new h (with_cells h cell) []
 
 -- ---- its height
 
--- The same file, so high. A write to it needs as many blocks less as were taken; what is clear stays so; and content that goes along goes on to.
+-- a new level of a file with content, above all that it has, and there the first place
+abbrev pub IsNewLevel : Holding → ℕ → ℕ → Type 0
+IsNewLevel h level first = (has_content h ≡ true) × (height_in h ≤ level) × (first ≡ 0)
+
+abbrev pub IsLower : ℕ → ℕ → ℕ → ℕ → Type 0
+IsLower level first level' first' = level < level'
+
+-- Each new level of a file with content, up to a height, has one of the blocks at its first place, the lowest the first of them; and there are no others.
+pub record AreLevels (h g : Holding) (height : ℕ) (taken : List ℕ) : Type 0 where
+  pub each : (level : ℕ) → IsNewLevel h level 0 → level < height → (b : ℕ) × Contains taken b × IsPlaced g b level 0
+  pub only : (b level first : ℕ) → Contains taken b → IsPlaced g b level first → IsNewLevel h level first × (level < height)
+  pub turn : StandIn IsLower g taken
+
+-- The same file, so high, with a block for each new level. A write to it needs as many blocks less as were taken; what is clear stays so; and it has
+-- content that goes along as before.
 pub record IsRisen (old new : FinMap nat_cmp Fate) (h : Holding) (cell : ℕ → Option Cell) (height : ℕ) (taken : List ℕ) : Type 0 where
   pub grown : IsGrown old new h cell (record (dinode_in h) { height = height }) (content_of h) taken
   pub need : (at end to : ℕ) → height ≤ to → needed_below h at end to ≡ length taken + needed_below (with_cells h cell) at end to
   pub clear : height ≢ 0 → (height_in h ≢ 0 → IsClearFrom h (dinode_in h).size) → IsClearFrom (with_cells h cell) (dinode_in h).size
-  pub along : has_content h ≡ true → has_content (with_cells h cell) ≡ true
+  pub along : has_content (with_cells h cell) ≡ has_content h
+  pub levels : AreLevels h (with_cells h cell) height taken
 
 -- over a draft that showed a file: afterwards it shows it so high, with blocks from the front of the room, and this is its dinode
 pub record HasRisen (after : Seen) (old new : FinMap nat_cmp Fate) (room left : List ℕ) (h : Holding) (height : ℕ) (d : Dinode) : Type 0 where

@@ -1,5 +1,5 @@
 -- The size of a file in blocks, and how many blocks its dinode tells of.
-use Rattle.std.specs.Prelude.{ℕ, ◌≡◌, [], Option}
+use Rattle.std.specs.Prelude.{ℕ, ◌≡◌, ◌≤◌, [], Option}
 use Rattle.std.specs.FinMap.{FinMap}
 use Rattle.std.specs.Ordering.{nat_cmp}
 use Rattle.drafts.specs.declared.fate.Fate.{Fate}
@@ -11,6 +11,7 @@ use Rattle.glock_names.specs.Views.{Seen}
 use Rattle.dinode_tree.specs.Shown.{IsShown}
 use Rattle.growth_laws.specs.Files.{with_cells}
 use Rattle.growth_laws.specs.Need.{needed_below}
+use Rattle.growth_laws.specs.Steps.{IsClearFrom}
 use Rattle.file_heights.specs.Grown.{IsGrown}
 use Rattle.file_heights.specs.Keeping.{KeepsHeads}
 
@@ -19,10 +20,11 @@ abbrev pub dinode_as : Dinode → ℕ → ℕ → ℕ → Dinode
 dinode_as d size blocks height = record d { size = size; blocks = blocks; height = height }
 
 -- Over a draft that showed a file: afterwards it shows the file with this size and this count of blocks, and else the same; a write needs what it
--- needed.
+-- needed, and what is clear behind the end stays so behind a later one.
 pub record HasSize (after : Seen) (old new : FinMap nat_cmp Fate) (h : Holding) (size blocks : ℕ) : Type 0 where
   pub cell : ℕ → Option Cell
   pub shown : IsShown after h.own (with_cells h cell)
   pub grown : IsGrown old new h cell (dinode_as (dinode_in h) size blocks (height_in h)) (resized size (content_of h)) []
   pub need : (at end height : ℕ) → needed_below (with_cells h cell) at end height ≡ needed_below h at end height
   pub heads : KeepsHeads h (with_cells h cell)
+  pub clear : (dinode_in h).size ≤ size → IsClearFrom h (dinode_in h).size → IsClearFrom (with_cells h cell) size

@@ -1,5 +1,6 @@
 use Rattle.std.proofs.Common.{◌≡◌, ◌+◌, ◌*◌, ◌/◌, ◌%◌, ◌<◌, length, refl, sym, ap, subst, ◌∙◌, arith, IfSome}
 use Rattle.std.proofs.lemmas.Nat.{div-add-mod'}
+use Rattle.std.proofs.Math.Nat.{mod-lt}
 use Rattle.std.specs.Prelude.{IsSomeAnd}
 use Rattle.drafts.specs.Fates.{Drafted, seen_in, seen_with}
 use Rattle.file_tree.specs.Apply.{overwritten}
@@ -49,9 +50,9 @@ returns-clause-written g c h from end shown r low high way =
     let written = c.in_ok-put_content.ensures.written (with_cells h come.cell) (c.args.at / c.from-size.result) ready.0.file ready.1 ready.0.in_blocks (before_end (with_cells h come.cell) from end (c.args.at / c.from-size.result) ready.0.file ready.0.within has)
     made.is made.there (omega (arith, place, inside, high)) in
     let one = put_one g.V.View.seen c.make_way.new.draft c.put_content.new.draft c.args.inode (with_cells h come.cell) from end (c.args.at / c.from-size.result) c.in-Some.block (c.args.at % c.from-size.result) c.args.piece.now there.0 c.make_way.new.room.items there.1
-    ready.1 ready.0 has made.is made.there (c.in_ok-put_content.ensures.put there.0 there.1) written in
+    ready.1 ready.0 has (omega (arith, place, high)) (omega (arith, mod-lt c.args.at (let wide : 0 < c.from-size.result = omega (arith, some, size) in wide), size)) made.is made.there (c.in_ok-put_content.ensures.put there.0 there.1) written in
     let both = block_then (seen_in g.V.View.seen c.make_way.new.draft) (seen_in g.V.View.seen c.put_content.new.draft) c.args.draft.now.fates c.make_way.new.draft.fates c.put_content.new.draft.fates c.args.room.now.items c.make_way.new.room.items c.make_way.new.room.items
-    h from end (c.args.at / c.from-size.result) c.in-Some.block (content_of h) _ come one in (
+    h from end (c.args.at / c.from-size.result) c.in-Some.block (content_of h) _ (record { come = come; above = made.above }) one in (
       refl,
       (
         c.in-Some.block,

@@ -48,9 +48,9 @@ loop-high-preserved g c =
           let mid : Holding = with_cells h come.cell in
           let free_mid : AreFreeFor (with_cells h come.cell) (c.in-Some.block ∷ c.pop_front.new.self.items) = subst (AreFreeFor (with_cells h come.cell)) items (room_left _ _ _ _ _ h _ _ free come) in
           let shown_mid = subst (λ a. IsShown (seen_in g.V.View.seen c.loop-high.draft) a (with_cells h come.cell)) shown.own come.shown in
-          let one = c.in_ok-raise_once.ensures.risen (with_cells h come.cell) c.pop_front.new.self.items come.risen.grown.file shown_mid come.dinode (come.risen.along has) (first_is_new (with_cells h come.cell) c.in-Some.block c.pop_front.new.self.items free_mid) in
+          let one = c.in_ok-raise_once.ensures.risen (with_cells h come.cell) c.pop_front.new.self.items come.risen.grown.file shown_mid come.dinode (come.risen.along ∙ has) (first_is_new (with_cells h come.cell) c.in-Some.block c.pop_front.new.self.items free_mid) in
           has_risen_then (seen_in g.V.View.seen c.loop-high.draft) (seen_in g.V.View.seen c.raise_once.new.draft) c.args.draft.now.fates c.loop-high.draft.fates c.raise_once.new.draft.fates c.args.room.now.items c.loop-high.room.items c.pop_front.new.self.items h
-          c.loop-high.high.height (c.loop-high.high.height + 1) c.loop-high.high _ (let up : c.loop-high.high.height ≤ c.loop-high.high.height + 1 = omega arith in up) come
+          c.loop-high.high.height (c.loop-high.high.height + 1) c.loop-high.high _ (omega (arith, c.loop-high.invariant.least, ap (λ (d : Dinode). d.height) d_is)) (let up : c.loop-high.high.height ≤ c.loop-high.high.height + 1 = omega arith in up) come
           (subst (λ xs. HasRisen (seen_in g.V.View.seen c.raise_once.new.draft) c.loop-high.draft.fates c.raise_once.new.draft.fates xs c.pop_front.new.self.items (with_cells h come.cell) (c.loop-high.high.height + 1) (record c.loop-high.high { height = c.loop-high.high.height + 1 })) (sym items) one);
     }
 

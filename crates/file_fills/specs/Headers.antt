@@ -1,0 +1,11 @@
+-- What stands before the pointers of a file's blocks.
+use Rattle.std.specs.Prelude.{ℕ, suc, ◌≡◌, IsSome, List, take, Contains}
+use Rattle.gfs2_layout.specs.Holding.{Holding, bytes_at}
+use Rattle.gfs2_layout.specs.Inode.{header_length}
+use Rattle.growth_laws.specs.Files.{IsPlaced}
+use Rattle.growth_steps.specs.New.{new_bytes}
+
+-- Each indirect block that was there keeps its header, pads too; that of a block that was taken is a new one's.
+pub record KeepsHeaders (h g : Holding) (taken : List ℕ) : Type 0 where
+  pub old : (b level first : ℕ) → IsSome (h.cell b) → IsPlaced g b (suc level) first → take header_length (bytes_at g b) ≡ take header_length (bytes_at h b)
+  pub new : (b level first : ℕ) → Contains taken b → IsPlaced g b (suc level) first → take header_length (bytes_at g b) ≡ take header_length (new_bytes h.size 1)
