@@ -1,0 +1,3 @@
+pub mod Resized
+pub mod Standing
+pub mod Cutting

@@ -33,18 +33,22 @@ pub record GetsTime (v : Seen) (before : FinMap nat_cmp Fate) (a time : ℕ) (fa
 
 -- ---- bytes are written
 
--- The change is that of a draft over the view. First bytes are written to the file from a place on, and the blocks of the room are taken for
--- it: of each file that the view shows, and to which that can be done, it then shows one so written. No block changes but the file's and the
--- room's. Then its dinode gets the time, and the groups of the room's blocks say that these are in use.
-pub record IsWriteDraft (v : Seen) (a at : ℕ) (new : List ℕ) (time : ℕ) (room : List ℕ) (change : Change) : Type 0 where
+-- In a draft over the view bytes are written to the file from a place on, and the blocks of the room are taken for it, all of them: of each
+-- file that the view shows, and to which that can be done, it then shows one so written. No block changes but the file's and the room's. Then
+-- its dinode gets the time, and the groups of the room's blocks say that these are in use.
+pub record WritesFile (v : Seen) (a at : ℕ) (new : List ℕ) (time : ℕ) (room : List ℕ) (fates : FinMap nat_cmp Fate) : Type 0 where
   pub first : FinMap nat_cmp Fate
   pub within : Follows v a room empty first
-  pub written : (h : Holding) → IsShown v a h → CanWrite h at (length new) room → (left : List ℕ) × HasWritten (seen_with v first) empty first room left h at new
+  pub written : (h : Holding) → IsShown v a h → CanWrite h at (length new) room → HasWritten (seen_with v first) empty first room [] h at new
   pub second : FinMap nat_cmp Fate
   pub timed : GetsTime v first a time second
+  pub taken : AreTaken (λ (s : Seen). s) (over v second) (over v fates) room
+  pub rest : KeepsBlocks (λ (s : Seen). s) (over v second) (over v fates) room
+
+-- The change is that of such a draft.
+pub record IsWriteDraft (v : Seen) (a at : ℕ) (new : List ℕ) (time : ℕ) (room : List ℕ) (change : Change) : Type 0 where
   pub last : FinMap nat_cmp Fate
-  pub taken : AreTaken (λ (s : Seen). s) (over v second) (over v last) room
-  pub rest : KeepsBlocks (λ (s : Seen). s) (over v second) (over v last) room
+  pub writes : WritesFile v a at new time room last
   pub whole : AreWhole v.size last
   pub finished : IsFinished last change
 
@@ -58,11 +62,15 @@ pub record IsCutDraft (v : Seen) (a size time : ℕ) (freed : List ℕ) (fates :
   pub is_cut : (h : Holding) → IsShown v a h → CanCut h size → HasCut (seen_with v first) empty first h size freed
   pub timed : GetsTime v first a time fates
 
--- Over that draft these blocks are freed, and the change is that of the draft that comes of it.
+-- Over a draft these blocks are freed.
+pub record FreesIn (v : Seen) (old new : FinMap nat_cmp Fate) (freed : List ℕ) : Type 0 where
+  pub frees : AreFreed (λ (s : Seen). s) (over v old) (over v new) freed
+  pub rest : KeepsRest (λ (s : Seen). s) (over v old) (over v new) freed
+
+-- The change is that of the draft that comes of it.
 pub record IsFreedAndDone (v : Seen) (fates : FinMap nat_cmp Fate) (freed : List ℕ) (change : Change) : Type 0 where
   pub last : FinMap nat_cmp Fate
-  pub frees : AreFreed (λ (s : Seen). s) (over v fates) (over v last) freed
-  pub rest : KeepsRest (λ (s : Seen). s) (over v fates) (over v last) freed
+  pub frees : FreesIn v fates last freed
   pub whole : AreWhole v.size last
   pub finished : IsFinished last change
 

@@ -1,6 +1,9 @@
 // What such changes make of images: laws.
 ghost use Rattle.file_changes.specs.Making.{CutsFreeExactly, CutsMakeFiles, WritesMakeFiles};
 
+use draft_changes::groups_say_what_is_taken;
+use growth_laws::files_are_inodes;
+
 /// A law: a change that writes bytes makes of the file what it should, in each image that the view may be of and that stands for a tree,
 /// where the room is free there and as many blocks as needed.
 pub fn writes_make_files()
@@ -12,10 +15,13 @@ pub fn writes_make_files()
 pub fn cuts_free_exactly()
     ensures { CutsFreeExactly }
 {
+    files_are_inodes();
 }
 
 /// A law: a change that cuts a file makes of it what it should, in each image that the view may be of and that stands for a tree.
 pub fn cuts_make_files()
     ensures { CutsMakeFiles }
 {
+    files_are_inodes();
+    groups_say_what_is_taken();
 }

@@ -2,7 +2,9 @@
 #![tactic(auto)]
 
 mod cuts;
+mod inside;
 mod laws;
+mod times;
 mod writes;
 
 pub use cuts::{cut_file, free_and_finish};

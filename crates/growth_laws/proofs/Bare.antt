@@ -32,6 +32,7 @@ module _ (h : Holding) (cell : ℕ → Option Cell) (content : List ℕ) (file :
   stuffed_file = record {
     block_size = file.block_size;
     own = is.parts h.own ∙ file.own;
+    only = λ x part. file.only x (sym (is.parts x) ∙ part);
     nobody = is.parts 0 ∙ file.nobody;
     whole = λ x p part. elim (cases_eq x h.own) [
       | inl own ↦ ap (λ y. length (bytes_at (with_cells h cell) y)) own ∙ is.own_whole
@@ -79,6 +80,7 @@ module _ (h : Holding) (cell : ℕ → Option Cell) (height : ℕ) (file : IsFil
   bare_file = record {
     block_size = file.block_size;
     own = is.parts h.own ∙ file.own;
+    only = λ x part. file.only x (sym (is.parts x) ∙ part);
     nobody = is.parts 0 ∙ file.nobody;
     whole = λ x p part. elim (cases_eq x h.own) [
       | inl own ↦ ap (λ y. length (bytes_at (with_cells h cell) y)) own ∙ is.own_whole

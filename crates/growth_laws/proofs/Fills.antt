@@ -171,6 +171,7 @@ module _ (h : Holding) (cell : ℕ → Option Cell) (from k level first b : ℕ)
   file_after = record {
     block_size = file.block_size;
     own = part_stays h.own Itself file.own;
+    only = λ x part. elim (new_or_old x _ part) [ inl new ↦ absurd (not_itself _ _ _ _ new.1) | inr old ↦ file.only x old.1 ];
     nobody = f.stays.parts 0 (λ e. f.some (sym e)) ∙ file.nobody;
     whole = λ x p part. elim (new_or_old x p part) [
       | inl new ↦ ap (λ y. length (bytes_at (with_cells h cell) y)) new.0 ∙ f.whole

@@ -128,6 +128,7 @@ module _ (h : Holding) (cell : ℕ → Option Cell) (from k level first b : ℕ)
   file_after = record {
     block_size = file.block_size;
     own = own_after;
+    only = λ x part. file.only x (was x _ part).1;
     nobody = f.stays.parts 0 (λ e. some_part h b _ file.nobody f.part (sym e)) ∙ file.nobody;
     whole = λ x p part. f.stays.lengths x (was x p part).0 ∙ file.whole x p (was x p part).1;
     header = f.stays.headers h.own 4 400 own_other file.header;

@@ -52,6 +52,7 @@ module _ (h : Holding) (cell : ℕ → Option Cell) (i : ℕ) (new : List ℕ) (
   file_after = record {
     block_size = file.block_size;
     own = put.parts h.own ∙ file.own;
+    only = λ x part. file.only x (sym (put.parts x) ∙ part);
     nobody = put.parts 0 ∙ file.nobody;
     whole = λ x p part. elim (cases_eq x (content_block h i)) [
       | inl is ↦ ap (λ y. length (bytes_at (with_cells h cell) y)) is ∙ ap length put.bytes ∙ put.whole

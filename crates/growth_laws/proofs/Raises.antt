@@ -31,6 +31,12 @@ unmoved_chain own b (Some Itself) hash place e = e
 unmoved_chain own b (Some (Pointed a0 j0 l0 s0)) hash place e = cc
 unmoved_chain own b (Some (InChain hash' place')) hash place e = e
 
+unmoved_itself : (own b : ℕ) (o : Option Part) → moved own b o ≡ Some Itself → o ≡ Some Itself
+unmoved_itself own b None e = cc
+unmoved_itself own b (Some Itself) e = e
+unmoved_itself own b (Some (Pointed a0 j0 l0 s0)) e = cc
+unmoved_itself own b (Some (InChain hash place)) e = cc
+
 -- a part is moved, whatever it is
 some_moved : (own b : ℕ) (o : Option Part) (p : Part) → moved own b o ≡ Some p → (q : Part) × (o ≡ Some q)
 some_moved own b None p e = absurd (cc)
@@ -183,6 +189,10 @@ module _ (h : Holding) (cell : ℕ → Option Cell) (level b : ℕ) (file : IsFi
   file_after = record {
     block_size = file.block_size;
     own = own_after;
+    only = λ x part. elim (cases_eq x b) [
+      | inl is ↦ absurd (not_itself _ _ _ _ (sym part ∙ ap (part_at (with_cells h cell)) is ∙ f.part))
+      | inr apart ↦ file.only x (unmoved_itself h.own b (part_at h x) (sym (f.parts x apart) ∙ part))
+    ];
     nobody = f.parts 0 (λ e. f.some (sym e)) ∙ ap (moved h.own b) file.nobody;
     whole = λ x p part. elim (cases_eq x b) [
       | inl is ↦ ap (λ y. length (bytes_at (with_cells h cell) y)) is ∙ f.whole

@@ -36,6 +36,7 @@ module _ (h : Holding) (cell : ℕ → Option Cell) (size : ℕ) (file : IsFile 
   file_after = record {
     block_size = file.block_size;
     own = sized.parts h.own ∙ file.own;
+    only = λ x part. file.only x (sym (sized.parts x) ∙ part);
     nobody = sized.parts 0 ∙ file.nobody;
     whole = λ x p part. elim (cases_eq x h.own) [
       | inl is ↦ ap (λ y. length (bytes_at (with_cells h cell) y)) is ∙ sized.own_whole

@@ -39,6 +39,7 @@ module _ (h : Holding) (cell : ℕ → Option Cell) (blocks : ℕ) (file : IsFil
   file_after = record {
     block_size = file.block_size;
     own = told.parts h.own ∙ file.own;
+    only = λ x part. file.only x (sym (told.parts x) ∙ part);
     nobody = told.parts 0 ∙ file.nobody;
     whole = λ x p part. elim (cases_eq x h.own) [
       | inl is ↦ ap (λ y. length (bytes_at (with_cells h cell) y)) is ∙ told.own_whole

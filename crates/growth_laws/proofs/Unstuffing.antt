@@ -18,7 +18,7 @@ use Rattle.growth_laws.proofs.Bytes.{byte, same_bytes, left_byte}
 use Rattle.growth_laws.proofs.Counting.{count_more}
 use Rattle.growth_laws.proofs.Contents.{no_directory, whole_unit, content_place, content_length, content_byte, carried_block}
 use Rattle.growth_laws.proofs.Fills.{some_by_part}
-use Rattle.growth_laws.proofs.Parts.{same_from, same_pointer, same_level, same_first, pointed_at}
+use Rattle.growth_laws.proofs.Parts.{same_from, same_pointer, same_level, same_first, not_itself, pointed_at}
 use Rattle.growth_laws.proofs.Places.{size_large, part_there, content_is_level_zero}
 
 module _ (h : Holding) (cell : ℕ → Option Cell) (b : ℕ) (file : IsFile h) (f : IsUnstuffed h cell b) where
@@ -98,6 +98,10 @@ module _ (h : Holding) (cell : ℕ → Option Cell) (b : ℕ) (file : IsFile h) 
   file_after = record {
     block_size = file.block_size;
     own = f.parts h.own own_old ∙ file.own;
+    only = λ x part. elim (cases_eq x b) [
+      | inl is ↦ absurd (not_itself _ _ _ _ (sym part ∙ ap (part_at (with_cells h cell)) is ∙ f.part))
+      | inr apart ↦ file.only x (sym (f.parts x apart) ∙ part)
+    ];
     nobody = f.parts 0 (λ e. f.some (sym e)) ∙ file.nobody;
     whole = λ x p part. elim (cases_eq x b) [
       | inl is ↦ ap (λ y. length (bytes_at (with_cells h cell) y)) is ∙ bytes_whole

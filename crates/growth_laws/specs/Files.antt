@@ -10,6 +10,7 @@ use Rattle.gfs2_layout.specs.Structures.{dinode_length, is_regular}
 pub record IsFile (h : Holding) : Type 0 where
   pub block_size : IsBlockSize h.size
   pub own : part_at h h.own ≡ Some Itself
+  pub only : (b : ℕ) → part_at h b ≡ Some Itself → b ≡ h.own
   pub nobody : part_at h 0 ≡ None  -- pointer 0 leads nowhere
   pub whole : (b : ℕ) (p : Part) → part_at h b ≡ Some p → length (bytes_at h b) ≡ h.size
   pub header : HasHeader 4 400 (bytes_at h h.own)

@@ -17,7 +17,7 @@ use Rattle.growth_laws.specs.Steps.{IsFilled, IsFreed, IsRaised, IsUnstuffed, Is
 
 -- an inode that is a regular file keeps the rules of one
 abbrev pub InodesAreFiles : Type 0
-InodesAreFiles = (h : Holding) → IsBlockSize h.size → part_at h h.own ≡ Some Itself → part_at h 0 ≡ None → is_regular (dinode_in h) ≡ true → IsInode h → IsFile h
+InodesAreFiles = (h : Holding) → IsBlockSize h.size → part_at h h.own ≡ Some Itself → ((b : ℕ) → part_at h b ≡ Some Itself → b ≡ h.own) → part_at h 0 ≡ None → is_regular (dinode_in h) ≡ true → IsInode h → IsFile h
 
 -- a file whose dinode says how many blocks it has is an inode that is sound in itself
 abbrev pub FilesAreInodes : Type 0

@@ -37,7 +37,7 @@ use Rattle.image_changes.proofs.Nodes.{among_in, in_among}
 use Rattle.draft_changes.proofs.Removed.{removing_makes}
 use Rattle.path_walks.specs.Holds.{holds, hold_of_group}
 use Rattle.removing_calls.specs.Drafting.{IsRemoval}
-use Rattle.removing_calls.specs.Groups.{GroupsAreHeld}
+use Rattle.group_locks.specs.Groups.{GroupsAreHeld}
 use Rattle.removing_calls.specs.Removing.{Goes}
 use Rattle.removing_calls.proofs.Imaged.{removes}
 use Rattle.removing_calls.proofs.Lists.{put_at, put_apart}

@@ -9,7 +9,7 @@ use Rattle.dinode_tree.specs.declared.below.PointedBlock.{PointedBlock}
 use Rattle.resource_groups.specs.Putting.{HasDataBlock}
 use Rattle.image_model.proofs.Members.{IsIn, contained, is_in, in_right}
 use Rattle.removing_calls.specs.Removing.{Goes}
-use Rattle.removing_calls.proofs.Fronts.{only_one}
+use Rattle.group_locks.proofs.Fronts.{only_one}
 
 -- the numbers of the blocks
 abbrev pub numbers : List PointedBlock → List ℕ

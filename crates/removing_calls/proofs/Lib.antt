@@ -9,7 +9,6 @@ pub mod Touching
 pub mod Drafted
 pub mod Wanted
 pub mod Taking
-pub mod Fronts
 pub mod Going
 pub mod Taken
 pub mod Placed

@@ -38,7 +38,7 @@ use Rattle.path_walks.proofs.Leads.{no_end}
 use Rattle.path_walks.proofs.Lists.{parent_of_next}
 use Rattle.removing_calls.specs.Drafting as drafting
 use Rattle.removing_calls.specs.Drafting.{IsWrongIn}
-use Rattle.removing_calls.specs.Groups.{GroupsAreHeld, IsFirstGroupLack, group_holds}
+use Rattle.group_locks.specs.Groups.{GroupsAreHeld, IsFirstGroupLack, holds_of_groups, is_block_of}
 use Rattle.removing_calls.specs.Removing.{IsRemoving, IsAimOf, IsReachedIn, IsDamage, IsWrongBelow, Goes, holds_for}
 use Rattle.removing_calls.specs.Removing as damage
 use Rattle.removing_calls.specs.declared.aims.Aim.TheVariants as aim
@@ -123,7 +123,7 @@ module _ (v : Seen) (c : Call) (p : Place) (name : List ℕ) (last : IsLastOf (p
       pub taken_ok : (apply c t).reply ≡ Ok
       taken_ok = ap (λ (x : Answer). x.reply) takes.applies
 
-      list_is : holds_for im o l t c ≡ holds_in im o l (path_of c false) (wanted c) ++ group_holds (holding im o p.inode) l.groups
+      list_is : holds_for im o l t c ≡ holds_in im o l (path_of c false) (wanted c) ++ holds_of_groups (is_block_of (holding im o p.inode)) l.groups
       list_is = taken_list im o l t c p.inode (ap is_ok taken_ok) reached.place.at
 
       pub list_held : GroupsAreHeld v blocks → AreHeld v (holds_for im o l t c)

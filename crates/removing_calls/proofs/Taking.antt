@@ -29,7 +29,7 @@ use Rattle.path_walks.specs.declared.walk.Place.{Place}
 use Rattle.path_walks.proofs.Images.{is_inode, is_shown}
 use Rattle.path_walks.proofs.Lists.{parent_of_next}
 use Rattle.removing_calls.specs.Drafting.{HasTimes, IsRemoval, LosesRecord}
-use Rattle.removing_calls.specs.Groups.{GroupsAreHeld}
+use Rattle.group_locks.specs.Groups.{GroupsAreHeld}
 use Rattle.removing_calls.specs.Removing.{IsRemoving, IsAimOf, IsPlaceIn, Goes, IsStamped, holds_for}
 use Rattle.removing_calls.specs.declared.aims.Aim.TheVariants as aim
 use Rattle.removing_calls.proofs.Above.{above_names, inode_inside, record_of_child}

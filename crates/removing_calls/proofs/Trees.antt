@@ -14,7 +14,7 @@ use Rattle.gfs2_layout.specs.Inode.{dinode_in, is_directory_in, is_hashed_in, co
 use Rattle.glock_names.specs.Views.{Seen}
 use Rattle.call_locks.specs.Wants.{wanted}
 use Rattle.call_locks.specs.WantLaws.{path_of}
-use Rattle.removing_calls.specs.Groups.{group_holds_of}
+use Rattle.removing_calls.specs.Removing.{group_holds_of}
 use Rattle.image_model.specs.Flat.{follow, Path, AFile, ADir, Thing, thing_in}
 use Rattle.image_model.specs.Image.{Image}
 use Rattle.image_model.specs.Owners.{Owners, holding}

@@ -37,11 +37,12 @@ use Rattle.image_changes.proofs.Nodes.{among_in, in_among}
 use Rattle.draft_changes.proofs.Views.{groups_are_listed}
 use Rattle.path_walks.specs.Holds.{Hold, hold_of, hold_for, holds_on, holds_in, IsUnder, hold_of_group}
 use Rattle.removing_calls.specs.Drafting.{IsRemoval}
-use Rattle.removing_calls.specs.Groups.{has_some, group_holds}
+use Rattle.group_locks.specs.Groups.{has_some, holds_of_groups, is_block_of}
+use Rattle.group_locks.proofs.Listed.{placed_in}
+use Rattle.group_locks.proofs.Locks.{so_has}
 use Rattle.removing_calls.specs.Removing.{IsRemoving, Goes}
 use Rattle.removing_calls.proofs.Doing.{header_among, second_lock, second_place, second_stays}
-use Rattle.removing_calls.proofs.Found.{goes_its, has_so, so_has}
-use Rattle.removing_calls.proofs.Listed.{placed_in}
+use Rattle.removing_calls.proofs.Found.{goes_its, own_blocks}
 use Rattle.removing_calls.proofs.Wanted.{wants_are}
 use Rattle.path_walks.specs.Walks.{IsLastOf}
 use Rattle.path_walks.proofs.Lying.{data_lies, header_lies}
@@ -97,7 +98,7 @@ module _ {V : Type 0} (seen : V → Seen) (view : V) (im : Image) (o : Owners) (
     (is : IsRemoval seen view p name time blocks change) where
   -- each is the directory's, or that of a group that has some of the inode's blocks
   abbrev IsOne : LockName → Type 0
-  IsOne lock = (lock ≡ record { kind = 2; number = p }) ⊎ ((g : Rindex) × IsIn g l.groups × (has_some (holding im o a) g ≡ true) × (lock ≡ record { kind = 3; number = g.address }))
+  IsOne lock = (lock ≡ record { kind = 2; number = p }) ⊎ ((g : Rindex) × IsIn g l.groups × (has_some (is_block_of (holding im o a)) g ≡ true) × (lock ≡ record { kind = 3; number = g.address }))
 
   which : (b : ℕ) (lock : LockName) (content : Bool) (bytes : List ℕ) → get is.freed.fates b ≡ Some (Put lock content bytes) → IsOne lock
   which b lock content bytes e = elim (cases_Bool (among blocks b)) [
@@ -117,10 +118,10 @@ module _ {V : Type 0} (seen : V → Seen) (view : V) (im : Image) (o : Owners) (
       of_group g has head (inl same) = inl (second_lock seen view p name blocks change is b lock content bytes (sym same ∙ e))
       of_group g has head (inr put) =
           let f = (groups_are_listed (seen view) im o l t g of).0 has in
-          elim (cases_Bool (has_some (holding im o a) f.0)) [
+          elim (cases_Bool (has_some (is_block_of (holding im o a)) f.0)) [
             | inl some ↦ inr (f.0, at_in f.0 l.groups f.1.0 f.1.1, some, put_lock lock (group_lock g) content false bytes put.0 (sym e ∙ put.1) ∙ ap group_lock f.2)
             | inr lacks ↦ inl (second_lock seen view p name blocks change is b lock content bytes (sym (is.freed.rest.groups g b has
-                (λ some. true≢false (sym (so_has (seen view) im o l t of a so plain blocks goes f.0 (subst (λ k. HasSome k blocks) f.2 some)) ∙ lacks)) head) ∙ e))
+                (λ some. true≢false (sym (so_has (is_block_of (holding im o a)) blocks (own_blocks (seen view) im o l t of a so plain blocks goes) f.0 (subst (λ k. HasSome k blocks) f.2 some)) ∙ lacks)) head) ∙ e))
           ]
 
   -- what is freed is the inode's
@@ -138,7 +139,7 @@ module _ {V : Type 0} (seen : V → Seen) (view : V) (im : Image) (o : Owners) (
       of_group (inl same) = true≢false (sym gone ∙ ap is_gone same ∙ second_stays seen view p name blocks change is b)
       of_group (inr put) = true≢false (sym gone ∙ ap is_gone put.1)
 
-  pub is_under : (list : List Hold) → IsIn (hold_of p Ex) list → IsIn (hold_of a Ex) list → IsUnder o (list ++ group_holds (holding im o a) l.groups) change
+  pub is_under : (list : List Hold) → IsIn (hold_of p Ex) list → IsIn (hold_of a Ex) list → IsUnder o (list ++ holds_of_groups (is_block_of (holding im o a)) l.groups) change
   is_under list dir own = record {
     written = λ lock has.
         let i = place_of_lock lock change.locks.items (is_in lock change.locks.items has) in
@@ -150,7 +151,7 @@ module _ {V : Type 0} (seen : V → Seen) (view : V) (im : Image) (o : Owners) (
   }
     where
       more : List Hold
-      more = group_holds (holding im o a) l.groups
+      more = holds_of_groups (is_block_of (holding im o a)) l.groups
 
       d : IsOfDraft is.freed.fates change
       d = finish_makes is.freed.fates change is.freed.finished
@@ -158,7 +159,7 @@ module _ {V : Type 0} (seen : V → Seen) (view : V) (im : Image) (o : Owners) (
       listed : (lock : LockName) → IsOne lock → IsIn (record { lock = lock; state = Ex }) (list ++ more)
       listed lock (inl e) = in_left (record { lock = lock; state = Ex }) list more (subst (λ k. IsIn (record { lock = k; state = Ex }) list) (sym e) dir)
       listed lock (inr g) =
-          let place = placed_in (seen view) (holding im o a) blocks (has_so (seen view) im o l t of a so plain blocks goes) (so_has (seen view) im o l t of a so plain blocks goes) l.groups g.0 g.1 g.2 in
+          let place = placed_in (is_block_of (holding im o a)) l.groups g.0 g.1 g.2 in
           let x = hold_of_group (group_of_entry g.0) in
           let there : IsIn x more = subst (IsIn x) (sym place.split) (in_right x place.front (x ∷ place.back) (inl refl)) in
           subst (λ k. IsIn (record { lock = k; state = Ex }) (list ++ more)) (sym g.3) (in_right x list more there)

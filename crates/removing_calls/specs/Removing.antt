@@ -1,5 +1,5 @@
 -- The calls that remove a name: `unlink` of a file, and `rmdir` of a directory without names.
-use Rattle.std.specs.Prelude.{ℕ, ◌≡◌, ◌≢◌, ◌⊎◌, ◌↔◌, ⊤, Contains, true, false, if◌then◌else◌, List, [], ◌++◌}
+use Rattle.std.specs.Prelude.{ℕ, ◌≡◌, ◌≢◌, ◌⊎◌, ◌↔◌, ⊤, Contains, true, false, if◌then◌else◌, List, [], ◌++◌, Option, None, Some}
 use Rattle.cluster_history.specs.Changes.{is_ok}
 use Rattle.file_tree.specs.Apply.{apply}
 use Rattle.file_tree.specs.Names.{parent_of}
@@ -27,7 +27,7 @@ use Rattle.resource_groups.specs.Putting.{HasDataBlock}
 use Rattle.drafts.specs.declared.change.Change.{Change}
 use Rattle.image_model.specs.Flat.{follow}
 use Rattle.image_model.specs.Image.{Image}
-use Rattle.image_model.specs.Owners.{Owners}
+use Rattle.image_model.specs.Owners.{Owners, holding}
 use Rattle.image_model.specs.Stands.{Layout, flat_of}
 use Rattle.image_changes.specs.Does.{with_change}
 use Rattle.image_changes.specs.Instances.{IsAt}
@@ -36,8 +36,8 @@ use Rattle.path_walks.specs.Holds.{Hold, AreHeld, EndsWith, IsAskedFor, IsFirstL
 use Rattle.path_walks.specs.Walks.{LeadsTo, IsAbsent, IsLacked, IsLastOf, IsOnTheWay, IsPlaceOf, IsUnread}
 use Rattle.path_walks.specs.Walks as path
 use Rattle.path_walks.specs.declared.walk.Place.{Place}
+use Rattle.group_locks.specs.Groups.{GroupsAreHeld, IsFirstGroupLack, holds_of_groups, is_block_of}
 use Rattle.removing_calls.specs.Drafting.{HasTimes, IsRemoval, LosesRecord}
-use Rattle.removing_calls.specs.Groups.{GroupsAreHeld, IsFirstGroupLack, group_holds_of}
 use Rattle.removing_calls.specs.declared.aims.Aim.{Aim}
 use Rattle.removing_calls.specs.declared.aims.Aim.TheVariants as aim
 use Rattle.removing_calls.specs.declared.finds.Found.{Found}
@@ -81,6 +81,11 @@ pub data IsWrongBelow (v : Seen) (a : ℕ) : ℕ → ℕ → Type 0 where
   stray : (from b : ℕ) → ((h : Holding) → IsShown v a h → IsLedFrom h from b) → ¬ (HasDataBlock v b) → IsWrongBelow v a 2 from
 
 -- ---- the locks of the call
+
+-- those of the groups that have blocks of the inode in this block, where there is one
+abbrev pub group_holds_of : Image → Owners → Layout → Option ℕ → List Hold
+group_holds_of im o l None = []
+group_holds_of im o l (Some a) = holds_of_groups (is_block_of (holding im o a)) l.groups
 
 -- those on its path, and where the tree takes the call those of the groups of the inode's blocks
 abbrev pub holds_for : Image → Owners → Layout → Tree → Call → List Hold

@@ -5,7 +5,6 @@ mod aims;
 mod blocks;
 mod drafting;
 mod finds;
-mod groups;
 mod tries;
 
 pub use tries::attempt;

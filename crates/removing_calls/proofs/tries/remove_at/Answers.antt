@@ -4,7 +4,7 @@ use Rattle.resource_groups.specs.Freeing as freeing
 use Rattle.glock_names.proofs.StepLaws.{answer_at, needed_at}
 use Rattle.path_walks.proofs.Steps.{inside_so, none_so}
 use Rattle.removing_calls.specs.Drafting.{IsWrongIn, IsRemoval}
-use Rattle.removing_calls.specs.Groups.{GroupsAreHeld, IsFirstGroupLack}
+use Rattle.group_locks.specs.Groups.{GroupsAreHeld, IsFirstGroupLack}
 use Rattle.removing_calls.specs.Removing.{IsDamage, IsLackedFor, IsNeededFor, IsWrongBelow, above}
 use Rattle.removing_calls.proofs.Placed.{above_there, above_linear, above_named, above_inside, below_damage, below_root, inode_inside, nothing_below, inode_needed, own_among, removal_damage, taken_ok, list_held, group_lacks, group_needed, nothing_wrong}
 use Rattle.removing_calls.proofs.Under.{writes_inside}

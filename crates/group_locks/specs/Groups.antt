@@ -1,5 +1,5 @@
--- The locks of the resource groups that have an inode's blocks.
-use Rattle.std.specs.Prelude.{ℕ, ◌≡◌, Bool, true, false, is_some, List, [], ◌∷◌, ◌++◌, map, filter, Contains, Option, None, Some}
+-- The locks of the resource groups that have given blocks.
+use Rattle.std.specs.Prelude.{ℕ, ◌≡◌, Bool, true, false, is_some, List, ◌∷◌, ◌++◌, map, filter, Contains}
 use Rattle.std.specs.List.{list_any, range_with_len}
 use Rattle.gfs2_layout.specs.Holding.{Holding}
 use Rattle.gfs2_layout.specs.declared.rindex.Rindex.{Rindex}
@@ -8,25 +8,21 @@ use Rattle.glock_names.specs.declared.LockName.{LockName}
 use Rattle.glock_names.specs.declared.views.Group.{Group}
 use Rattle.resource_groups.specs.Shown.{group_lock}
 use Rattle.resource_groups.specs.Freeing.{HasSome}
-use Rattle.image_model.specs.Image.{Image}
-use Rattle.image_model.specs.Owners.{Owners, holding}
-use Rattle.image_model.specs.Stands.{Layout}
 use Rattle.path_walks.specs.Holds.{Hold, holds, hold_of_group}
 
 -- ---- in an image
 
--- some data block of the group is one of the inode's
-abbrev pub has_some : Holding → Rindex → Bool
-has_some h g = list_any (λ b. is_some (h.cell b)) (range_with_len g.data0 g.data_blocks)
+-- some data block of the group passes the test
+abbrev pub has_some : (ℕ → Bool) → Rindex → Bool
+has_some test g = list_any test (range_with_len g.data0 g.data_blocks)
 
--- of the groups those that have some, as they are listed: one behind another, by rising number
-abbrev pub group_holds : Holding → List Rindex → List Hold
-group_holds h groups = map (λ g. hold_of_group (group_of_entry g)) (filter (has_some h) groups)
+-- of the groups the locks of those of which some data block passes the test, as they are listed: one behind another, by rising number
+abbrev pub holds_of_groups : (ℕ → Bool) → List Rindex → List Hold
+holds_of_groups test groups = map (λ g. hold_of_group (group_of_entry g)) (filter (has_some test) groups)
 
--- those of the inode in this block, where there is one
-abbrev pub group_holds_of : Image → Owners → Layout → Option ℕ → List Hold
-group_holds_of im o l None = []
-group_holds_of im o l (Some a) = group_holds (holding im o a) l.groups
+-- the block is one of the inode's
+abbrev pub is_block_of : Holding → ℕ → Bool
+is_block_of h b = is_some (h.cell b)
 
 -- ---- in a view
 

@@ -6,12 +6,12 @@ use Rattle.glock_names.specs.declared.views.Group.{Group}
 use Rattle.resource_groups.specs.Freeing.{HasSome}
 use Rattle.resource_groups.proofs.Fits.{lacks}
 use Rattle.path_walks.specs.Holds.{holds, hold_of_group}
-use Rattle.removing_calls.proofs.Fronts.{each_next, each_all, split_there}
-use Rattle.removing_calls.proofs.groups.lacked_group.Goals.{else-has_some-via-then-has_some+else-not-is_at_most, else-has_some-via-else-has_some}
-use Rattle.removing_calls.proofs.groups.lacked_group.Goals as goal
+use Rattle.group_locks.proofs.Fronts.{each_next, each_all, split_there}
+use Rattle.group_locks.proofs.groups.lacked_group.Goals.{else-not-is_at_most-via-then-not-is_at_most+else-has_some, else-not-is_at_most-via-else-not-is_at_most}
+use Rattle.group_locks.proofs.groups.lacked_group.Goals as goal
 
-pub returns-then-not-is_at_most-clause-some : goal.returns-then-not-is_at_most-clause-some
-returns-then-not-is_at_most-clause-some g c =
+pub returns-then-has_some-clause-some : goal.returns-then-has_some-clause-some
+returns-then-has_some-clause-some g c =
     let n = c.loop-group.group-index in
     let items = c.groups-group-items.result.now in
     let none : Group = record { addr = 0; length = 0; first = 0; count = 0 } in
@@ -31,9 +31,9 @@ loop-group-preserved g c =
     let v = g.V.View.seen c.args.view.now in
     let none : Group = record { addr = 0; length = 0; first = 0; count = 0 } in
     each_next c.groups-group-items.result.now c.loop-group.group-index none (λ k. HasSome k c.args.blocks.now → holds v (hold_of_group k) ≡ true) c.loop-group-test.true c.loop-group.invariant
-    (λ some. elim c.else-has_some.branch [
-      | else-has_some-via-then-has_some+else-not-is_at_most w ↦ sym (w.is_at_most.ensures ∙ ap (leq Ex) w.state.ensures) ∙ w.if-not-is_at_most.false
-      | else-has_some-via-else-has_some w ↦ absurd (lacks c.has_some.result c.has_some.ensures w.if-has_some.false some)
+    (λ some. elim c.else-not-is_at_most.branch [
+      | else-not-is_at_most-via-then-not-is_at_most+else-has_some w ↦ absurd (lacks w.has_some.result w.has_some.ensures w.if-has_some.false some)
+      | else-not-is_at_most-via-else-not-is_at_most w ↦ sym (c.is_at_most.ensures ∙ ap (leq Ex) c.state.ensures) ∙ w.if-not-is_at_most.false
     ])
 
 pub returns-clause-none : goal.returns-clause-none

@@ -1,8 +1,8 @@
 use Rattle.std.proofs.Common.{sym, true≢false, arith}
 use Rattle.resource_groups.specs.Shown.{IsDataOf}
-use Rattle.removing_calls.proofs.Fronts.{each_next, each_all}
-use Rattle.removing_calls.proofs.groups.has_some.Goals.{else-group-block-via-then-group-block+else-block-group, else-group-block-via-else-group-block}
-use Rattle.removing_calls.proofs.groups.has_some.Goals as goal
+use Rattle.group_locks.proofs.Fronts.{each_next, each_all}
+use Rattle.group_locks.proofs.groups.has_some.Goals.{else-group-block-via-then-group-block+else-block-group, else-group-block-via-else-group-block}
+use Rattle.group_locks.proofs.groups.has_some.Goals as goal
 
 pub loop-block-preserved : goal.loop-block-preserved
 loop-block-preserved c = each_next c.args.blocks.now c.loop-block.block-index 0 (λ b. ¬ (IsDataOf c.args.group.now b)) c.loop-block-test.true c.loop-block.invariant

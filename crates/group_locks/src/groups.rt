@@ -1,7 +1,7 @@
-// The groups of the blocks that go with an inode, and their locks.
+// The locks of the groups that have given blocks.
 ghost use Rattle.std.specs.Prelude.{◌↔◌, IsTrue, IfSome, IfNone};
 ghost use Rattle.resource_groups.specs.Freeing.{HasSome};
-ghost use Rattle.removing_calls.specs.Groups.{GroupsAreHeld, IsFirstGroupLack};
+ghost use Rattle.group_locks.specs.Groups.{GroupsAreHeld, IsFirstGroupLack};
 
 use glock_names::{Group, LockName, State, View, is_at_most};
 
@@ -18,8 +18,8 @@ fn has_some(group: &Group, blocks: &[u64]) -> bool
 }
 
 /// Of the groups that have some of these blocks, by rising number, the lock of the first that isn't held exclusive; None where all
-/// are. It goes over the blocks for each group.
-pub(crate) fn lacked_group<V: View>(view: &V, blocks: &[u64]) -> Option<LockName>
+/// are. It goes over the blocks for each group whose lock isn't held.
+pub fn lacked_group<V: View>(view: &V, blocks: &[u64]) -> Option<LockName>
     ensures some { IfSome result (IsFirstGroupLack (V.seen view.now) blocks.now) }
     ensures none { IfNone result (GroupsAreHeld (V.seen view.now) blocks.now) }
 {
@@ -28,7 +28,7 @@ pub(crate) fn lacked_group<V: View>(view: &V, blocks: &[u64]) -> Option<LockName
             kind: 3,
             number: group.addr,
         };
-        if has_some(group, blocks) && !is_at_most(State::Ex, view.state(lock)) {
+        if !is_at_most(State::Ex, view.state(lock)) && has_some(group, blocks) {
             return Some(lock);
         }
     }
