@@ -1,0 +1,181 @@
+-- What a search for free blocks tells, in an image that the view may be of.
+use Rattle.std.proofs.Common.{◌≡◌, ℕ, zero, suc, ◌+◌, ◌<◌, ◌≤◌, ◌==◌, Bool, List, [], ◌∷◌, ◌++◌, length, get_or, map, replicate, slice_get, Option, None, Some, refl, sym, ap, ap₂, subst, ◌∙◌, arith}
+use Rattle.std.proofs.lemmas.List.{length-replicate}
+use Rattle.std.proofs.lemmas.List.FromFn.{get_or-map-range_with_len}
+use Rattle.std.specs.Prelude.{nat_lt, if◌then◌else◌, filter, slice_index_or, take}
+use Rattle.std.specs.List.{range_with_len}
+use Rattle.file_tree.specs.Tree.{Tree}
+use Rattle.gfs2_layout.specs.Groups.{count_of}
+use Rattle.gfs2_layout.specs.Headers.{HasHeader}
+use Rattle.gfs2_layout.specs.declared.rindex.Rindex.{Rindex}
+use Rattle.glock_names.specs.Views.{Seen, IsView, HasGroup, group_of_entry}
+use Rattle.glock_names.specs.declared.State.TheVariants.{Ex}
+use Rattle.glock_names.specs.declared.steps.Missing.{Missing}
+use Rattle.glock_names.specs.declared.views.Group.{Group}
+use Rattle.resource_groups.specs.Putting.{overlaid, seen_or}
+use Rattle.resource_groups.specs.Shown.{IsShown, blocks_of, said, group_lock}
+use Rattle.resource_groups.specs.Shown as group
+use Rattle.image_model.specs.Groups.{IsListed, IsHeaderOf, GroupFits}
+use Rattle.image_model.specs.Image.{Image}
+use Rattle.image_model.specs.Owners.{Owners, InGroup}
+use Rattle.image_model.specs.Stands.{Layout}
+use Rattle.image_changes.specs.Changes.{cover, is_free}
+use Rattle.image_changes.specs.Does.{IsOf, is_content_of}
+use Rattle.draft_changes.specs.Resizing.{IsSaidFree}
+use Rattle.draft_changes.proofs.Rows.{state_said}
+use Rattle.draft_changes.proofs.Views.{groups_are_listed}
+use Rattle.path_walks.specs.Holds.{Hold, AreHeld, IsAskedFor, IsFirstLack, hold_of_group}
+use Rattle.room_search.specs.Blocks.{States, states_by, free_in, free_in_all, free_for, group_holds, group_of_node, blocks_with, holds_with, room_blocks, room_holds}
+use Rattle.room_search.specs.Searches.{AreShown, HasOwnGroup, IsFoundIn, IsFreeUnder, IsGroupBlock, IsGroupBroken, IsTaken, IsUnder}
+use Rattle.room_search.specs.declared.search.Locked.{Locked}
+use Rattle.room_search.specs.declared.search.Locked.TheVariants as locked
+use Rattle.room_search.specs.declared.search.Taken.{Taken}
+use Rattle.room_search.specs.declared.search.Taken.TheVariants as taken
+use Rattle.room_search.proofs.Holds.{held_behind}
+use Rattle.room_search.proofs.Room.{all_listed}
+
+-- ---- every view shows its groups
+
+pub bytes_shown : (w : Seen) → IsView w → (at : ℕ → List ℕ) × ((g : Group) → IsShown w g at)
+bytes_shown w view = (
+  overlaid w (λ b. replicate w.size 0),
+  λ g. record { whole = λ b own. each b (w.block_at b) refl; same = λ b bytes own there. ap (λ s. seen_or s (replicate w.size 0)) there },
+)
+  where
+    each : (b : ℕ) (s : Option (List ℕ)) → w.block_at b ≡ s → length (seen_or s (replicate w.size 0)) ≡ w.size
+    each b None e = length-replicate w.size 0
+    each b (Some bytes) e = view.whole b bytes e
+
+-- ---- lists of free blocks by two tables
+
+filter_same : (p q : ℕ → Bool) (n a : ℕ) → ((b : ℕ) → a ≤ b → b < a + n → p b ≡ q b) → filter p (range_with_len a n) ≡ filter q (range_with_len a n)
+filter_same p q zero a same = refl
+filter_same p q (suc n) a same =
+    ap₂ (λ t xs. if t then a ∷ xs else xs) (same a (omega arith) (omega arith)) (filter_same p q n (a + 1) (λ b low high. same b (omega (arith, low)) (omega (arith, high))))
+
+all_same : (s s' : States) (gs : List Rindex) → ((i : ℕ) (g : Rindex) → slice_get gs i ≡ Some g → free_in s (group_of_entry g) ≡ free_in s' (group_of_entry g))
+    → free_in_all s (map group_of_entry gs) ≡ free_in_all s' (map group_of_entry gs)
+all_same s s' [] each = refl
+all_same s s' (g ∷ gs) each = ap₂ (λ xs ys. xs ++ ys) (each 0 g refl) (all_same s s' gs (λ i h there. each (suc i) h there))
+
+-- block k of a group
+block_in : (at : ℕ → List ℕ) (g : Group) (k : ℕ) → k < g.length → slice_index_or (blocks_of at g) k [] ≡ at (g.addr + k)
+block_in at g k low = get_or-map-range_with_len at g.addr g.length k (g.addr + k) [] low refl
+
+module _ (v : Seen) (im : Image) (o : Owners) (l : Layout) (t : Tree) (of : IsOf v im o l t) where
+  pub shown_listed : (g : Rindex) → IsListed l.groups g → IsShown v (group_of_entry g) im.at
+  shown_listed g listed =
+      let fits : GroupFits im g = of.stands.laid.fit.each g listed in
+      record {
+        whole = λ b h. of.stands.laid.image.whole b (omega (arith, h.high, fits.first, fits.inside)) ∙ of.size;
+        same = λ b bytes h e. of.agrees b bytes e;
+      }
+
+  -- the image's groups are shown
+  pub are_shown : AreShown v im.at
+  are_shown k has =
+      let g = (groups_are_listed v im o l t k of).0 has in
+      subst (λ x. IsShown v x im.at) (sym g.2) (shown_listed g.0 g.1)
+
+  free_said : (g : Rindex) → IsListed l.groups g → free_in (said im.at) (group_of_entry g) ≡ free_in (states_by o) (group_of_entry g)
+  free_said g listed = filter_same (λ b. said im.at (group_of_entry g) b == 0) (λ b. states_by o (group_of_entry g) b == 0) g.data_blocks g.data0
+      (λ b low high. ap (λ n. n == 0) (state_said im o l of.stands.laid g listed b (record { low = low; high = high })))
+
+  pub all_said : free_in_all (said im.at) (map group_of_entry l.groups) ≡ free_in_all (states_by o) (map group_of_entry l.groups)
+  all_said = all_same (said im.at) (states_by o) l.groups (λ i g there. free_said g (i, there))
+
+  own_said : (own : Group) → HasGroup v own → free_in (said im.at) own ≡ free_in (states_by o) own
+  own_said own has =
+      let g = (groups_are_listed v im o l t own of).0 has in
+      subst (λ k. free_in (said im.at) k ≡ free_in (states_by o) k) (sym g.2) (free_said g.0 g.1)
+
+  -- the locks are those by the owners
+  pub holds_said : (own : Group) (need : ℕ) → HasGroup v own → group_holds (said im.at) v.groups own need ≡ group_holds (states_by o) (map group_of_entry l.groups) own need
+  holds_said own need has =
+      ap (λ groups. group_holds (said im.at) groups own need) (sym of.groups)
+      ∙ ap (λ xs. if need == 0 then [] else hold_of_group own ∷ (if nat_lt (length xs) need then map hold_of_group (map group_of_entry l.groups) else [])) (own_said own has)
+
+  -- and so are the blocks
+  pub blocks_said : (own : Group) (need : ℕ) → HasGroup v own → free_for (said im.at) v.groups own need ≡ free_for (states_by o) (map group_of_entry l.groups) own need
+  blocks_said own need has =
+      ap (λ groups. free_for (said im.at) groups own need) (sym of.groups) ∙ ap₂ (λ xs ys. take need (if nat_lt (length xs) need then ys else xs)) (own_said own has) all_said
+
+  own_is : (node : ℕ) (own : Group) → group_of_node v.groups node ≡ Some own → group_of_node (map group_of_entry l.groups) node ≡ Some own
+  own_is node own is = ap (λ gs. group_of_node gs node) of.groups ∙ is
+
+  pub room_holds_are : (node : ℕ) (own : Group) (need : ℕ) → group_of_node v.groups node ≡ Some own → HasGroup v own → group_holds (said im.at) v.groups own need ≡ room_holds o l node need
+  room_holds_are node own need is has = holds_said own need has ∙ sym (ap (λ x. holds_with (states_by o) (map group_of_entry l.groups) x need) (own_is node own is))
+
+  pub room_blocks_are : (node : ℕ) (own : Group) (need : ℕ) → group_of_node v.groups node ≡ Some own → HasGroup v own → free_for (said im.at) v.groups own need ≡ room_blocks o l node need
+  room_blocks_are node own need is has = blocks_said own need has ∙ sym (ap (λ x. blocks_with (states_by o) (map group_of_entry l.groups) x need) (own_is node own is))
+
+  -- a block of a group that is asked for
+  pub group_asked : (list : List Hold) (m : Missing) → IsGroupBlock v list m → IsAskedFor v im o l list m
+  group_asked list m is = record {
+    absent = is.missing.absent;
+    covered = ap (cover l m.block) row ∙ ap (λ (k : Group). Some (group_lock k)) (sym g.2) ∙ ap Some (sym is.missing.lock);
+    used = ap is_free row;
+    plain = is.missing.plain ∙ sym (ap (is_content_of im o) row);
+    state = Ex;
+    front = is.front;
+    back = is.back;
+    split = is.split;
+    held = is.held;
+  }
+    where
+      g : (g : Rindex) × IsListed l.groups g × (is.group ≡ group_of_entry g)
+      g = (groups_are_listed v im o l t is.group of).0 is.has
+
+      header : IsHeaderOf g.0 m.block
+      header = let at = ap (λ (k : Group). k.addr) g.2 in let long = ap (λ (k : Group). k.length) g.2 in record { low = omega (arith, is.missing.own.low, at); high = omega (arith, is.missing.own.high, at, long) }
+
+      row : o m.block ≡ InGroup g.0.address
+      row = of.stands.laid.zoned.headers g.0 g.1 m.block header
+
+  -- a block that is found is free by its group's bits
+  pub said_free : (list : List Hold) (b : ℕ) → IsFreeUnder v (said im.at) list b → IsSaidFree im l b
+  said_free list b is =
+      let g = (groups_are_listed v im o l t is.group of).0 is.has in
+      let first = ap (λ (k : Group). k.first) g.2 in
+      let count = ap (λ (k : Group). k.count) g.2 in
+      record {
+        group = g.0;
+        listed = g.1;
+        data_block = record { low = omega (arith, is.data_block.low, first); high = omega (arith, is.data_block.high, first, count) };
+        free = subst (λ k. said im.at k b ≡ 0) g.2 is.free;
+      }
+
+  -- all groups are held where too few blocks are free
+  pub found_in : (node : ℕ) (own : Group) (need : ℕ) (r : Locked Taken) → group_of_node v.groups node ≡ Some own → HasGroup v own
+      → IsUnder v (group_holds (said im.at) v.groups own need) (IsTaken v (said im.at) v.groups own need) r → IsFoundIn v im o l node need r
+  found_in node own need (locked.Is (taken.Is blocks)) is has found = (
+    subst (AreHeld v) (room_holds_are node own need is has) found.0,
+    record {
+      are = found.1.are ∙ room_blocks_are node own need is has;
+      many = found.1.many;
+      rise = found.1.rise;
+      free = λ b there. said_free (group_holds (said im.at) v.groups own need) b (found.1.each b there);
+    },
+  )
+  found_in node own need (locked.Is (taken.TooFew free)) is has found = (
+    subst (AreHeld v) (room_holds_are node own need is has) found.0,
+    record {
+      groups = subst (λ gs. AreHeld v (map hold_of_group gs)) (sym of.groups) (all_listed v (said im.at) own need found.1.fewer_own found.0);
+      free_are = found.1.free_are ∙ ap (λ gs. length (free_in_all (said im.at) gs)) (sym of.groups) ∙ ap length all_said;
+      fewer = found.1.fewer;
+    },
+  )
+  found_in node own need (locked.NeedLock lock state) is has found = subst (λ list. IsFirstLack v list lock state) (room_holds_are node own need is has) found
+  found_in node own need (locked.NeedBlock m) is has found = group_asked (room_holds o l node need) m (subst (λ list. IsGroupBlock v list m) (room_holds_are node own need is has) found)
+
+  -- a group breaks no rule
+  unbroken_group : (g : Rindex) → IsListed l.groups g → (rule b : ℕ) → group.IsBroken im.at (group_of_entry g) rule b → ⊥
+  unbroken_group g listed rule b (group.no_header zero low lacks) = lacks (subst (HasHeader 2 200) (block_in im.at (group_of_entry g) 0 low) (of.stands.laid.groups g listed).header)
+  unbroken_group g listed rule b (group.no_header (suc k) low lacks) = lacks (subst (HasHeader 3 300) (block_in im.at (group_of_entry g) (suc k) low) ((of.stands.laid.groups g listed).more (suc k) (omega arith) low))
+  unbroken_group g listed rule b (group.wrong_free other) = other ((of.stands.laid.groups g listed).free ∙ ap (count_of 0) (sym (of.stands.laid.groups g listed).bits))
+  unbroken_group g listed rule b (group.wrong_dinodes other) = other ((of.stands.laid.groups g listed).dinodes ∙ ap (count_of 3) (sym (of.stands.laid.groups g listed).bits))
+
+  pub group_sound : (rule b : ℕ) → IsGroupBroken v rule b → ⊥
+  group_sound rule b is =
+      let f = (groups_are_listed v im o l t is.group of).0 is.has in
+      unbroken_group f.0 f.1 rule b (subst (λ k. group.IsBroken im.at k rule b) f.2 (is.broken im.at (subst (λ k. group.IsShown v k im.at) (sym f.2) (shown_listed f.0 f.1))))

@@ -1,0 +1,7 @@
+pub mod Lists
+pub mod Free
+pub mod Collected
+pub mod Holds
+pub mod Counted
+pub mod Room
+pub mod InImage
