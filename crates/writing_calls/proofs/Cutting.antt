@@ -42,9 +42,9 @@ use Rattle.image_changes.proofs.Drafting.{drafts_do}
 use Rattle.draft_changes.specs.Resizing.{HasSomeOf}
 use Rattle.draft_changes.proofs.Views.{groups_are_listed}
 use Rattle.file_changes.specs.Drafting.{IsCutDraft, IsFreedAndDone, IsNeededAt, of_any, of_group, of_inode}
-use Rattle.file_changes.specs.Making.{CanBeCut, MakesFile, goes_at}
-use Rattle.file_changes.proofs.Standing.{standing_files_are_counted}
-use Rattle.file_changes.proofs.Laws.{cuts_free_exactly, cuts_make_files}
+use Rattle.file_changes.specs.Making.{CanBeCut, CutsFreeExactly, CutsMakeFiles, MakesFile, goes_at}
+use Rattle.growth_laws.specs.Laws.{InodesAreFiles}
+use Rattle.file_changes.proofs.Standing.{standing_file}
 use Rattle.group_locks.specs.Groups.{GroupsAreHeld, IsFirstGroupLack, holds_of_groups}
 use Rattle.group_locks.specs.Laws.{AreThose}
 use Rattle.group_locks.proofs.Locks.{blocks_of_groups_are_asked_for, first_group_lacks_are_first, groups_with_blocks_are_listed, held_groups_hold_the_list}
@@ -63,7 +63,7 @@ use Rattle.writing_calls.proofs.Written.{put_at}
 cut_content : (size : ℕ) (bytes : List ℕ) → size ≤ length bytes → resized size bytes ≡ take size bytes
 cut_content size bytes within = ap (λ n. take size bytes ++ replicate n 0) (omega (arith, within)) ∙ append-nil (take size bytes)
 
-module _ (v : Seen) (c : Call) (p : Place) (is : IsEdit c) (seen : IsSeenAt v (wanted c) (path_of c false) p) (plain : is_directory p.dinode ≡ false) (short : end_of c ≤ file_limit)
+module _ (exactly : CutsFreeExactly) (make : CutsMakeFiles) (files : InodesAreFiles) (v : Seen) (c : Call) (p : Place) (is : IsEdit c) (seen : IsSeenAt v (wanted c) (path_of c false) p) (plain : is_directory p.dinode ≡ false) (short : end_of c ≤ file_limit)
     (size : ℕ) (cuts : Cuts c p.dinode.size size) (node : ℕ) (time : ℕ) (freed : List ℕ) (fates : FinMap nat_cmp Fate) (draft : IsCutDraft v p.inode size time freed fates) (view : IsView v) where
   module _ (im : Image) (o : Owners) (l : Layout) (t : Tree) (of : IsOf v im o l t) (walked : IsWalked v im o l t (path_of c false) (wanted c) (At p)) where
     abbrev path_list : List Hold
@@ -82,13 +82,13 @@ module _ (v : Seen) (c : Call) (p : Place) (is : IsEdit c) (seen : IsSeenAt v (w
     file = images.is_file v c p is seen plain short im o l t of walked
 
     counted : IsCounted (holding im o p.inode)
-    counted = standing_files_are_counted v im o l t of (path_of c false) p.inode walked.0.at file
+    counted = standing_file v im o l t of (path_of c false) p.inode walked.0.at file files
 
     pub can_be : CanBeCut im o p.inode size
     can_be = record { file = file; larger = subst (λ n. size ≤ n) (sym size_is) cuts.shorter }
 
     those : AreThose test freed
-    those = (cuts_free_exactly v p.inode size time freed fates im o l t (path_of c false) view of walked.0.at draft can_be).exactly
+    those = (exactly v p.inode size time freed fates im o l t (path_of c false) view of walked.0.at draft can_be).exactly
 
     pub list_is : call_holds im o l t c node ≡ path_list ++ holds_of_groups test l.groups
     list_is = images.list_is v c p is seen plain short im o l t of walked node ∙ ap (λ xs. path_list ++ xs) (cut_list im o l c node p.inode p.dinode.size size size_is cuts)
@@ -114,7 +114,7 @@ module _ (v : Seen) (c : Call) (p : Place) (is : IsEdit c) (seen : IsSeenAt v (w
       module _ (change : Change) (w : IsFreedAndDone v fates freed change) where
         pub made : MakesFile im o l w.last p.inode (content_after c content) time [] freed
         made = subst (λ bytes. MakesFile im o l w.last p.inode bytes time [] freed) (sym same_content)
-            (cuts_make_files v p.inode size time freed fates change im o l t (path_of c false) view of walked.0.at draft can_be w)
+            (make v p.inode size time freed fates change im o l t (path_of c false) view of walked.0.at draft can_be w)
 
         pub cut_under : IsUnder o (call_holds im o l t c node) change
         cut_under = images.made_under v c p is seen plain short im o l t of walked w.last time [] freed made node change w.finished
@@ -137,7 +137,7 @@ module _ (v : Seen) (c : Call) (p : Place) (is : IsEdit c) (seen : IsSeenAt v (w
   module _ (inside : (b : ℕ) → Contains freed b → HasDataBlock v b) (held : GroupsAreHeld v freed) (change : Change) (w : IsFreedAndDone v fates freed change) where
     -- some block is put: the dinode's, or the header of a group that has a block which goes
     some_put : (n : ℕ) × (is_put w.last n ≡ true)
-    some_put = by freed inside w.frees.counts (λ none away. w.rest.others p.inode none away)
+    some_put = by freed inside w.frees.frees.counts (λ none away. w.frees.rest.others p.inode none away)
       where
         own_put : get fates p.inode ≡ Some (Put (inode_lock p.inode) false draft.timed.bytes)
         own_put = ap (λ (m : FinMap nat_cmp Fate). get m p.inode) draft.timed.put ∙ put_at draft.first p.inode (Put (inode_lock p.inode) false draft.timed.bytes)

@@ -27,6 +27,7 @@ use Rattle.call_locks.specs.Wants.{wanted}
 use Rattle.call_locks.specs.WantLaws.{path_of}
 use Rattle.dinode_tree.specs.Below.{AnyIndex}
 use Rattle.dinode_tree.specs.Reading.{inode_lock}
+use Rattle.growth_laws.specs.Laws.{InodesAreFiles}
 use Rattle.growth_laws.specs.Need.{needed}
 use Rattle.growth_laws.proofs.Contents.{content_length}
 use Rattle.growth_drafts.specs.Taken.{IsCounted, IsDistinct, IsLookedAt}
@@ -50,9 +51,8 @@ use Rattle.resource_groups.specs.Shown as group
 use Rattle.resource_groups.specs.Shown.{group_lock}
 use Rattle.file_changes.specs.Drafting.{IsNeededAt, IsWriteDraft, of_any, of_group, of_inode}
 use Rattle.file_changes.specs.Making as making
-use Rattle.file_changes.specs.Making.{MakesFile}
-use Rattle.file_changes.proofs.Standing.{standing_files_are_counted}
-use Rattle.file_changes.proofs.Laws.{writes_make_files}
+use Rattle.file_changes.specs.Making.{MakesFile, WritesMakeFiles}
+use Rattle.file_changes.proofs.Standing.{standing_file}
 use Rattle.path_walks.specs.Holds.{Hold, AreHeld, IsAskedFor, IsFirstLack, IsUnder, holds, hold_of_group, holds_in}
 use Rattle.path_walks.specs.Walks.{IsSeenAt, IsWalked}
 use Rattle.path_walks.specs.declared.walk.Place.{Place}
@@ -79,7 +79,7 @@ grown_content end bytes longer =
     ap (λ xs. resized end bytes ++ [] ++ xs) (drop_all (end + 0) bytes (omega (arith, longer)))
     ∙ append-nil (resized end bytes ++ []) ∙ append-nil (resized end bytes)
 
-module _ (v : Seen) (c : Call) (p : Place) (is : IsEdit c) (seen : IsSeenAt v (wanted c) (path_of c false) p) (plain : is_directory p.dinode ≡ false) (short : end_of c ≤ file_limit)
+module _ (make : WritesMakeFiles) (files : InodesAreFiles) (v : Seen) (c : Call) (p : Place) (is : IsEdit c) (seen : IsSeenAt v (wanted c) (path_of c false) p) (plain : is_directory p.dinode ≡ false) (short : end_of c ≤ file_limit)
     (at : ℕ) (new : List ℕ) (puts : Puts c p.dinode.size at new) (low : at + length new ≤ file_limit) (need : ℕ) (needs : IsNeedOf v p.inode at new need) (node : ℕ) where
   -- ---- in an image that the view may be of
 
@@ -94,7 +94,7 @@ module _ (v : Seen) (c : Call) (p : Place) (is : IsEdit c) (seen : IsSeenAt v (w
     size_is = images.size_is v c p is seen plain short im o l t of walked
 
     counted : IsCounted (holding im o p.inode)
-    counted = standing_files_are_counted v im o l t of (path_of c false) p.inode walked.0.at (images.is_file v c p is seen plain short im o l t of walked)
+    counted = standing_file v im o l t of (path_of c false) p.inode walked.0.at (images.is_file v c p is seen plain short im o l t of walked) files
 
     need_so : need ≡ needed (holding im o p.inode) at (length new)
     need_so = needs (holding im o p.inode) (is_shown v im o l t of (path_of c false) p.inode walked.0.at) counted.file
@@ -164,7 +164,7 @@ module _ (v : Seen) (c : Call) (p : Place) (is : IsEdit c) (seen : IsSeenAt v (w
       module _ (view : IsView v) (time : ℕ) (change : Change) (w : IsWriteDraft v p.inode at new time room change) where
         pub made : MakesFile im o l w.last p.inode (content_after c content) time room []
         made = subst (λ bytes. MakesFile im o l w.last p.inode bytes time room []) (sym same_content)
-            (writes_make_files v p.inode at new time room change im o l t (path_of c false) view of walked.0.at w is_room)
+            (make v p.inode at new time room change im o l t (path_of c false) view of walked.0.at w is_room)
 
         pub written_under : IsUnder o (call_holds im o l t c node) change
         written_under = images.made_under v c p is seen plain short im o l t of walked w.last time room [] made node change w.finished
@@ -176,13 +176,13 @@ module _ (v : Seen) (c : Call) (p : Place) (is : IsEdit c) (seen : IsSeenAt v (w
   module _ (room : List ℕ) (told : AreHeldBlocks v need room) (time : ℕ) (change : Change) (w : IsWriteDraft v p.inode at new time room change) where
     -- some block is put: the dinode's, or the header of a group that has a block which is taken
     some_put : (n : ℕ) × (is_put w.last n ≡ true)
-    some_put = by room told.each (λ b. w.taken.counts b) (λ away. w.rest.others p.inode away)
+    some_put = by room told.each (λ b. w.writes.taken.takes.counts b) (λ away. w.writes.taken.rest.others p.inode away)
       where
-        second_put : get w.second p.inode ≡ Some (Put (inode_lock p.inode) false w.timed.bytes)
-        second_put = ap (λ (m : FinMap nat_cmp Fate). get m p.inode) w.timed.put ∙ put_at w.first p.inode (Put (inode_lock p.inode) false w.timed.bytes)
+        second_put : get w.writes.second p.inode ≡ Some (Put (inode_lock p.inode) false w.writes.timed.bytes)
+        second_put = ap (λ (m : FinMap nat_cmp Fate). get m p.inode) w.writes.timed.put ∙ put_at w.writes.first p.inode (Put (inode_lock p.inode) false w.writes.timed.bytes)
 
         by : (blocks : List ℕ) → ((b : ℕ) → Contains blocks b → IsHeldBlock v b) → ((g : Group) → HasGroup v g → freeing.HasSome g blocks → (bytes : List ℕ) × (get w.last g.addr ≡ Some (Put (group_lock g) false bytes)))
-            → (((g : Group) → HasGroup v g → freeing.HasSome g blocks → ¬ (group.IsHeaderOf g p.inode)) → get w.last p.inode ≡ get w.second p.inode) → (n : ℕ) × (is_put w.last n ≡ true)
+            → (((g : Group) → HasGroup v g → freeing.HasSome g blocks → ¬ (group.IsHeaderOf g p.inode)) → get w.last p.inode ≡ get w.writes.second p.inode) → (n : ℕ) × (is_put w.last n ≡ true)
         by [] each counts others =
             (p.inode, ap (λ f. is_some (block_with f None)) (others (λ g has some head. elim (is_in some.0 [] some.1) [ ]) ∙ second_put))
         by (b ∷ rest) each counts others =

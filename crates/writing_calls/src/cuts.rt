@@ -63,7 +63,7 @@ pub(crate) fn cut_at<V: View>(
             state: State::Ex,
         });
     }
-    match free_and_finish(alloc, draft, place.inode, &freed)? {
+    match free_and_finish(alloc, view, draft, place.inode, &freed)? {
         Step::Is(Some(change)) => Ok(Found::Written(change)),
         Step::Is(None) => Ok(Found::NotBuilt),
         Step::NeedBlock(missing) => Ok(Found::NeedBlock(missing)),
