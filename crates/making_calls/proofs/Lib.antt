@@ -1,4 +1,3 @@
-pub mod FreeLists
 pub mod Holds
 pub mod Chain
 pub mod NewInodes

@@ -1,6 +1,5 @@
 -- A number that a group gave, and a state that it says, in a draft.
-use Rattle.std.proofs.Common.{◌≡◌, ℕ, ◌+◌, false, List, length, replicate, Option, None, Some, Result, Ok, Err, refl, sym, ap, ◌∙◌, subst}
-use Rattle.std.proofs.lemmas.List.{length-replicate}
+use Rattle.std.proofs.Common.{◌≡◌, ℕ, ◌+◌, false, List, Result, Ok, Err, refl, sym, ap, ◌∙◌, subst}
 use Rattle.std.specs.Ordering.{nat_cmp}
 use Rattle.std.specs.FinMap.{FinMap, empty, insert, get-empty}
 use Rattle.drafts.specs.Fates.{AreWhole, Drafted, block_with, seen_in, seen_with}
@@ -14,24 +13,14 @@ use Rattle.glock_names.specs.declared.steps.Step.{Step}
 use Rattle.glock_names.specs.declared.steps.Step.TheVariants.{Is, NeedBlock}
 use Rattle.glock_names.specs.declared.views.Group.{Group}
 use Rattle.resource_groups.specs.Numbering.{IsNumberPut}
-use Rattle.resource_groups.specs.Putting.{IsPutIn, PutsTwo, overlaid, seen_or}
+use Rattle.resource_groups.specs.Putting.{IsPutIn, PutsTwo, overlaid}
 use Rattle.resource_groups.specs.Shown.{IsShown, group_lock}
 use Rattle.image_changes.specs.Drafted.{IsFinished}
+use Rattle.room_search.proofs.Shown.{bytes_shown}
 use Rattle.making_calls.specs.Drafting.{IsNextOf, IsNumbered, IsSaidAndDone}
 
 pub unchanged : (v : Seen) → seen_with v empty ≡ v
 unchanged v = λ i. record v { block_at = λ b. ap (λ f. block_with f (v.block_at b)) (get-empty nat_cmp b) i }
-
--- every view shows its groups
-pub bytes_shown : (w : Seen) → IsView w → (at : ℕ → List ℕ) × ((g : Group) → IsShown w g at)
-bytes_shown w view = (
-  overlaid w (λ b. replicate w.size 0),
-  λ g. record { whole = λ b own. each b (w.block_at b) refl; same = λ b bytes own there. ap (λ s. seen_or s (replicate w.size 0)) there },
-)
-  where
-    each : (b : ℕ) (s : Option (List ℕ)) → w.block_at b ≡ s → length (seen_or s (replicate w.size 0)) ≡ w.size
-    each b None e = length-replicate w.size 0
-    each b (Some bytes) e = view.whole b bytes e
 
 pub group_shown : (w : Seen) (g : Group) → IsView w → (at : ℕ → List ℕ) × IsShown w g at
 group_shown w g view = let s = bytes_shown w view in (s.0, s.1 g)

@@ -25,15 +25,16 @@ use Rattle.image_changes.proofs.Frame.{dinode_its}
 use Rattle.draft_changes.proofs.Rows.{its_used}
 use Rattle.draft_changes.proofs.Views.{groups_are_listed}
 use Rattle.path_walks.specs.Holds.{Hold, AreHeld, holds, hold_of, hold_for, hold_of_group}
-use Rattle.making_calls.specs.Blocks.{blocks_needed, block_holds, group_holds, group_of_node, holds_from, new_holds, states_by}
-use Rattle.making_calls.specs.Searches.{AreShown, IsGroupBlock, IsGroupBroken, IsGroupNeeded, IsTaken, IsUnder}
-use Rattle.making_calls.specs.declared.blocks.Locked.TheVariants as locked
+use Rattle.room_search.specs.Blocks.{group_holds, group_of_node, states_by}
+use Rattle.room_search.specs.Searches.{AreShown, IsGroupNeeded, IsUnder}
+use Rattle.room_search.specs.declared.search.Locked.TheVariants as locked
+use Rattle.room_search.proofs.Holds.{group_needed, held_before, held_behind, held_in, read_group}
+use Rattle.room_search.proofs.Shown.{bytes_shown}
+use Rattle.making_calls.specs.Blocks.{blocks_needed, block_holds, holds_from, new_holds}
+use Rattle.making_calls.specs.Searches.{IsTaken}
 use Rattle.making_calls.specs.declared.blocks.Room.{Room}
-use Rattle.making_calls.specs.declared.blocks.Taken.TheVariants as taken
-use Rattle.making_calls.proofs.Holds.{read_group}
-use Rattle.making_calls.proofs.InImage.{holds_said, shown_listed}
-use Rattle.making_calls.proofs.Numbered.{bytes_shown}
-use Rattle.making_calls.proofs.Over.{block_in}
+use Rattle.making_calls.specs.declared.blocks.NewRoom.TheVariants as taken
+use Rattle.making_calls.proofs.InImage.{block_holds_said}
 
 -- ---- a view shows all of its groups, and a node has one of its own
 
@@ -42,50 +43,7 @@ own_of v node some first =
     let i : ℕ = (node - 1) % length v.groups in
     let low : i < length v.groups = mod-lt (node - 1) (omega (arith, some)) in
     let nobody : Group = record { addr = 0; length = 0; first = 0; count = 0 } in
-    (get_or v.groups i nobody, slice_get-get_or v.groups i nobody low, read_group v v.groups i nobody refl low)
-
--- ---- held locks
-
-held_in : (v : Seen) (xs : List Hold) (h : Hold) → AreHeld v xs → Contains xs h → holds v h ≡ true
-held_in v xs h held there = subst (λ x. holds v x ≡ true) there.2 (held there.0 h there.1)
-
-pub held_before : (v : Seen) (xs ys : List Hold) → AreHeld v (xs ++ ys) → AreHeld v xs
-held_before v xs ys held k d low = subst (λ x. holds v x ≡ true) (get_or_append_left xs ys d k low) (held k d (omega (arith, length-append xs ys, low)))
-
-held_behind : (v : Seen) (xs ys : List Hold) → AreHeld v (xs ++ ys) → AreHeld v ys
-held_behind v [] ys held = held
-held_behind v (x ∷ xs) ys held = held_behind v xs ys (λ k d low. held (suc k) d (omega (arith, low)))
-
--- a list up to one of its elements
-split_there : (xs : List Hold) (h : Hold) → IsIn h xs → (front : List Hold) × ((back : List Hold) × (xs ≡ front ++ h ∷ back))
-split_there [] h at = elim at [ ]
-split_there (x ∷ xs) h (inl e) = ([], (xs, ap (λ y. y ∷ xs) (sym e)))
-split_there (x ∷ xs) h (inr later) = let s = split_there xs h later in (x ∷ s.0, (s.1.0, ap (λ ys. x ∷ ys) s.1.1))
-
--- a block of a group whose lock is of the list, all of which is held
-pub block_under : (v : Seen) (list : List Hold) (g : Group) (m : Missing) → AreHeld v list → Contains list (hold_of_group g) → HasGroup v g → IsMissing v g m → IsGroupBlock v list m
-block_under v list g m held there has missing =
-    let s = split_there list (hold_of_group g) (is_in (hold_of_group g) list there) in
-    let same : hold_of_group g ≡ record { lock = m.lock; state = Ex } = ap (λ l. record { lock = l; state = Ex }) (sym missing.lock) in
-    record {
-      group = g;
-      has = has;
-      missing = missing;
-      front = s.0;
-      back = s.1.0;
-      split = s.1.1 ∙ ap (λ x. s.0 ++ x ∷ s.1.0) same;
-      held = subst (λ x. AreHeld v (s.0 ++ x ∷ [])) same (held_before v (s.0 ++ hold_of_group g ∷ []) s.1.0 (subst (AreHeld v) (s.1.1 ∙ sym (append_assoc s.0 (hold_of_group g ∷ []) s.1.0)) held));
-    }
-
--- a block of a group that is asked for under locks is needed
-group_needed : (v : Seen) (list : List Hold) (m : Missing) → IsGroupBlock v list m → IsGroupNeeded v m
-group_needed v list m is = record {
-  group = is.group;
-  has = is.has;
-  held = subst (λ l. holds v (record { lock = l; state = Ex }) ≡ true) is.missing.lock
-      (held_behind v is.front (record { lock = m.lock; state = Ex } ∷ []) is.held 0 (record { lock = m.lock; state = Ex }) (omega arith));
-  missing = is.missing;
-}
+    (get_or v.groups i nobody, slice_get-get_or v.groups i nobody low, read_group v.groups i nobody low)
 
 -- ---- the room
 
@@ -106,8 +64,8 @@ room_held v node r view some first found =
     record {
       has = f.1.0.has;
       data_block = f.1.0.data_block;
-      group_held = held_in v (group_holds (said at.0) v.groups own.0) (hold_of_group r.group) (held_before v (group_holds (said at.0) v.groups own.0) _ f.0) f.1.1;
-      inode_held = subst (AreHeld v) (ap (λ x. hold_for x Ex) f.1.0.first) (held_behind v (group_holds (said at.0) v.groups own.0) _ f.0) 0 (hold_of r.block Ex) (omega arith);
+      group_held = held_in v (group_holds (said at.0) v.groups own.0 blocks_needed) (hold_of_group r.group) (held_before v (group_holds (said at.0) v.groups own.0 blocks_needed) _ f.0) f.1.1;
+      inode_held = subst (AreHeld v) (ap (λ x. hold_for x Ex) f.1.0.first) (held_behind v (group_holds (said at.0) v.groups own.0 blocks_needed) _ f.0) 0 (hold_of r.block Ex) (omega arith);
     }
 
 -- what stands in the way of the search
@@ -124,7 +82,7 @@ module _ (v : Seen) (node : ℕ) (view : IsView v) (some : 1 ≤ length v.groups
   pub few_way : (free : ℕ)
       → ((at : ℕ → List ℕ) (own : Group) → AreShown v at → group_of_node v.groups node ≡ Some own → IsUnder v (block_holds (said at) v.groups own) (IsTaken v (said at) v.groups own) (locked.Is (taken.TooFew free)))
       → free < blocks_needed
-  few_way free found = let at = bytes_shown v view in let own = own_of v node some first in (found at.0 own.0 (λ g has. at.1 g) own.1).1.1
+  few_way free found = let at = bytes_shown v view in let own = own_of v node some first in (found at.0 own.0 (λ g has. at.1 g) own.1).1.fewer
 
 -- ---- in an image
 
@@ -132,22 +90,10 @@ module _ (v : Seen) (im : Image) (o : Owners) (l : Layout) (t : Tree) (of : IsOf
   -- the new inode's locks by what the bits say
   pub new_are : (node : ℕ) (own : Group) → group_of_node v.groups node ≡ Some own → HasGroup v own → new_holds o l node ≡ block_holds (said im.at) v.groups own
   new_are node own is has =
-      ap (holds_from (states_by o) (map group_of_entry l.groups)) (ap (λ gs. group_of_node gs node) of.groups ∙ is) ∙ sym (holds_said v im o l t of own has)
+      ap (holds_from (states_by o) (map group_of_entry l.groups)) (ap (λ gs. group_of_node gs node) of.groups ∙ is) ∙ sym (block_holds_said v im o l t of own has)
 
   -- an inode's dinode is a data block of a group
   pub dinode_inside : (a : ℕ) → is_dinode (o a) ≡ true → HasDataBlock v a
   dinode_inside a so =
       let placed = of.stands.laid.zoned.placed a (its_used a a (o a) (dinode_its a (o a) so)).0 in
       (group_of_entry placed.0, (groups_are_listed v im o l t (group_of_entry placed.0) of).1 (placed.0, placed.1, refl), record { low = placed.2.low; high = placed.2.high })
-
-  -- a group breaks no rule
-  unbroken_group : (g : Rindex) → IsListed l.groups g → (rule b : ℕ) → group.IsBroken im.at (group_of_entry g) rule b → ⊥
-  unbroken_group g listed rule b (group.no_header zero low lacks) = lacks (subst (HasHeader 2 200) (block_in im.at (group_of_entry g) 0 low) (of.stands.laid.groups g listed).header)
-  unbroken_group g listed rule b (group.no_header (suc k) low lacks) = lacks (subst (HasHeader 3 300) (block_in im.at (group_of_entry g) (suc k) low) ((of.stands.laid.groups g listed).more (suc k) (omega arith) low))
-  unbroken_group g listed rule b (group.wrong_free other) = other ((of.stands.laid.groups g listed).free ∙ ap (count_of 0) (sym (of.stands.laid.groups g listed).bits))
-  unbroken_group g listed rule b (group.wrong_dinodes other) = other ((of.stands.laid.groups g listed).dinodes ∙ ap (count_of 3) (sym (of.stands.laid.groups g listed).bits))
-
-  pub group_sound : (rule b : ℕ) → IsGroupBroken v rule b → ⊥
-  group_sound rule b is =
-      let f = (groups_are_listed v im o l t is.group of).0 is.has in
-      unbroken_group f.0 f.1 rule b (subst (λ k. group.IsBroken im.at k rule b) f.2 (is.broken im.at (subst (λ k. group.IsShown v k im.at) (sym f.2) (shown_listed v im o l t of f.0 f.1))))

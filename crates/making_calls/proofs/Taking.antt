@@ -49,21 +49,25 @@ use Rattle.path_walks.proofs.Images.{is_inode, is_shown, unbroken_directory}
 use Rattle.path_walks.proofs.Leads.{no_end}
 use Rattle.path_walks.proofs.Lists.{parent_of_next}
 use Rattle.file_tree.proofs.WalkLaws.{last_front}
-use Rattle.making_calls.specs.Blocks.{blocks_needed, block_holds, free_for, free_in, free_in_all, group_holds, group_of_node, new_holds}
+use Rattle.room_search.specs.Blocks.{free_for, free_in_all, group_holds, group_of_node}
+use Rattle.room_search.specs.Searches.{AreShown, IsGroupBlock, IsUnder}
+use Rattle.room_search.specs.declared.search.Locked.{Locked}
+use Rattle.room_search.specs.declared.search.Locked.TheVariants as locked
+use Rattle.room_search.proofs.Holds.{block_under, held_before, lack_behind}
+use Rattle.room_search.proofs.InImage.{all_said, are_shown, blocks_said, group_asked, group_sound}
+use Rattle.room_search.proofs.Room.{all_listed}
+use Rattle.making_calls.specs.Blocks.{blocks_needed, block_holds, new_holds}
 use Rattle.making_calls.specs.Drafting.{GetsRecord, IsAddition, IsPutUnder, IsWrongIn, kind_for, of_directory, of_group, of_inode, new_tree}
 use Rattle.making_calls.specs.Drafting as drafting
 use Rattle.making_calls.specs.Making.{IsMaking, IsReachedIn, IsFound, IsFoundBy, IsNeededFor, IsToGetName, IsTooFew, IsDamage, LacksName, call_holds, directory_has_room, directory_path, has_room_for, makes_directory, name_in, path_holds, room_at}
 use Rattle.making_calls.specs.Making as damage
-use Rattle.making_calls.specs.Searches.{AreShown, IsGroupBlock, IsTaken, IsUnder}
-use Rattle.making_calls.specs.declared.blocks.Locked.{Locked}
-use Rattle.making_calls.specs.declared.blocks.Locked.TheVariants as locked
+use Rattle.making_calls.specs.Searches.{IsTaken}
 use Rattle.making_calls.specs.declared.blocks.Room.{Room}
-use Rattle.making_calls.specs.declared.blocks.Taken.{Taken}
-use Rattle.making_calls.specs.declared.blocks.Taken.TheVariants as taken
+use Rattle.making_calls.specs.declared.blocks.NewRoom.{NewRoom}
+use Rattle.making_calls.specs.declared.blocks.NewRoom.TheVariants as taken
 use Rattle.making_calls.proofs.Chain.{apart}
-use Rattle.making_calls.proofs.Holds.{empty_list, lack_behind, rest_all}
-use Rattle.making_calls.proofs.InImage.{all_said, are_shown, first_said, asked_behind, group_asked}
-use Rattle.making_calls.proofs.Rooms.{IsHeldRoom, block_under, dinode_inside, group_sound, held_before, new_are, own_of}
+use Rattle.making_calls.proofs.InImage.{asked_behind}
+use Rattle.making_calls.proofs.Rooms.{IsHeldRoom, dinode_inside, new_are, own_of}
 use Rattle.making_calls.proofs.Trees.{changes, takes, taken_list}
 use Rattle.making_calls.proofs.Under.{change_at, directory_listed, each_lock}
 use Rattle.making_calls.proofs.Wanted.{directory_held}
@@ -128,10 +132,10 @@ module _ (v : Seen) (c : Call) (is : IsMaking c) (p : Place) (name : List ℕ) (
       whole : call_holds im o l t c node ≡ path_holds im o l c ++ new
       whole = list_is ∙ ap (λ xs. path_holds im o l c ++ xs) new_same
 
-      abbrev IsSearched : Locked Taken → Type 0
+      abbrev IsSearched : Locked NewRoom → Type 0
       IsSearched r = (at : ℕ → List ℕ) (own : Group) → AreShown v at → group_of_node v.groups node ≡ Some own → IsUnder v (block_holds (said at) v.groups own) (IsTaken v (said at) v.groups own) r
 
-      found_here : (r : Locked Taken) → IsSearched r → IsUnder v new (IsTaken v (said im.at) v.groups own.0) r
+      found_here : (r : Locked NewRoom) → IsSearched r → IsUnder v new (IsTaken v (said im.at) v.groups own.0) r
       found_here r searched = searched im.at own.0 (are_shown v im o l t of) own.1
 
       pub lock_lacks : (lock : LockName) (state : State) → IsSearched (locked.NeedLock lock state) → IsFirstLack v (call_holds im o l t c node) lock state
@@ -146,16 +150,15 @@ module _ (v : Seen) (c : Call) (is : IsMaking c) (p : Place) (name : List ℕ) (
       pub too_few : (free : ℕ) → IsSearched (locked.Is (taken.TooFew free)) → IsTooFew v im o l t c blocks_needed free
       too_few free searched =
           let f = found_here (locked.Is (taken.TooFew free)) searched in
-          let none : slice_get (free_in (said im.at) own.0) 0 ≡ None = ap (λ xs. slice_get xs 0) (empty_list v (said im.at) v.groups own.0 (free_in (said im.at) own.0) f.1.2) in
           record {
             taken = reply_ok;
             room = roomy;
             on_path = reached.held;
             groups = subst (λ gs. AreHeld v (map hold_of_group gs)) (sym of.groups)
-                (subst (AreHeld v) (rest_all v (said im.at) v.groups own.0 none) (later_held v (hold_of_group own.0) _ (held_before v (group_holds (said im.at) v.groups own.0) _ f.0)));
+                (all_listed v (said im.at) own.0 blocks_needed f.1.fewer_own (held_before v (group_holds (said im.at) v.groups own.0 blocks_needed) _ f.0));
             needs = refl;
-            free_are = f.1.0 ∙ ap (λ gs. length (free_in_all (said im.at) gs)) (sym of.groups) ∙ ap length (all_said v im o l t of);
-            fewer = f.1.1;
+            free_are = f.1.free_are ∙ ap (λ gs. length (free_in_all (said im.at) gs)) (sym of.groups) ∙ ap length (all_said v im o l t of);
+            fewer = f.1.fewer;
           }
 
       module _ (r : Room) (searched : IsSearched (locked.Is (taken.Is r))) where
@@ -167,7 +170,7 @@ module _ (v : Seen) (c : Call) (is : IsMaking c) (p : Place) (name : List ℕ) (
 
         pub group_lacks : (m : Missing) → IsMissing v r.group m → IsAskedFor v im o l (call_holds im o l t c node) m
         group_lacks m missing =
-            asked_so m (block_under v new r.group m room_found.0 (Contains-append_left (group_holds (said im.at) v.groups own.0) _ (hold_of_group r.group) room_found.1.1) room_found.1.0.has missing)
+            asked_so m (block_under v new r.group m room_found.0 (Contains-append_left (group_holds (said im.at) v.groups own.0 blocks_needed) _ (hold_of_group r.group) room_found.1.1) room_found.1.0.has missing)
 
         pub placed : drafting.IsPlaceFor im o l (directory_path c) name p r
         placed = record { at = reached.place.at; directory = here.linear.directory; dinode = reached.place.dinode; absent = here.absent; free = room_found.1.0.free }
@@ -181,10 +184,10 @@ module _ (v : Seen) (c : Call) (is : IsMaking c) (p : Place) (name : List ℕ) (
         })
           where
             groups : List Hold
-            groups = group_holds (said im.at) v.groups own.0
+            groups = group_holds (said im.at) v.groups own.0 blocks_needed
 
             last_one : List Hold
-            last_one = hold_for (slice_get (free_for (said im.at) v.groups own.0) 0) Ex
+            last_one = hold_for (slice_get (free_for (said im.at) v.groups own.0 blocks_needed) 0) Ex
 
             listed : (b : ℕ) (lock : LockName) → IsPutUnder v.size p r b lock → IsIn (record { lock = lock; state = Ex }) (path_holds im o l c ++ new)
             listed b lock (of_group header says e) =
@@ -221,7 +224,7 @@ module _ (v : Seen) (c : Call) (is : IsMaking c) (p : Place) (name : List ℕ) (
           own = own.0;
           of_node = ap (λ gs. group_of_node gs node) of.groups ∙ own.1;
           block = r.block;
-          first = ap (λ xs. slice_get xs 0) (sym (first_said v im o l t of own.0 own.2)) ∙ room_found.1.0.first;
+          first = ap (λ xs. slice_get xs 0) (sym (blocks_said v im o l t of own.0 blocks_needed own.2)) ∙ room_found.1.0.first;
           group = r.group;
           listed = subst (λ gs. Contains gs r.group) (sym of.groups) room_found.1.0.has;
           data_block = room_found.1.0.data_block;

@@ -39,9 +39,11 @@ use Rattle.path_walks.specs.Holds.{Hold, AreHeld, IsAskedFor, IsFirstLack, holds
 use Rattle.path_walks.specs.declared.walk.Place.{Place}
 use Rattle.path_walks.specs.Walks.{LeadsTo, Names, IsAbsent, IsLacked, IsLinearDirectory, IsOnTheWay, IsPlaceOf, IsSeenAt, IsUnread, IsWrong}
 use Rattle.path_walks.specs.Walks as path
-use Rattle.making_calls.specs.Blocks.{blocks_needed, block_holds, states_by, free_for, free_in_all, group_of_node, new_holds}
+use Rattle.room_search.specs.Blocks.{states_by, free_for, free_in_all, group_of_node}
+use Rattle.room_search.specs.Searches.{AreShown, IsGroupBroken, IsGroupNeeded}
+use Rattle.making_calls.specs.Blocks.{blocks_needed, block_holds, new_holds}
 use Rattle.making_calls.specs.Drafting.{CountsNumber, GetsRecord, HasTimes, IsAddition, IsNewInode, IsNextOf, kind_for}
-use Rattle.making_calls.specs.Searches.{AreShown, IsGroupBroken, IsGroupNeeded, IsRoom}
+use Rattle.making_calls.specs.Searches.{IsRoom}
 use Rattle.making_calls.specs.declared.blocks.Room.{Room}
 use Rattle.making_calls.specs.declared.finds.Found.{Found}
 use Rattle.making_calls.specs.declared.finds.Found.TheVariants as found
@@ -139,7 +141,7 @@ pub record IsMadeBy (v : Seen) (call : Call) (node time : ℕ) (change : Change)
   pub own : Group
   pub of_node : group_of_node v.groups node ≡ Some own
   pub room : Room
-  pub first : (at : ℕ → List ℕ) → AreShown v at → IsRoom v (said at) (free_for (said at) v.groups own) room
+  pub first : (at : ℕ → List ℕ) → AreShown v at → IsRoom v (said at) (free_for (said at) v.groups own blocks_needed) room
   pub held : (at : ℕ → List ℕ) → AreShown v at → AreHeld v (block_holds (said at) v.groups own)
   pub added : IsAddition v (makes_directory call) place (name_in call) room time change
 
@@ -228,7 +230,7 @@ pub record IsMade (im : Image) (o : Owners) (l : Layout) (call : Call) (node tim
   pub own : Group
   pub of_node : group_of_node (map group_of_entry l.groups) node ≡ Some own
   pub block : ℕ
-  pub first : slice_get (free_for (states_by o) (map group_of_entry l.groups) own) 0 ≡ Some block
+  pub first : slice_get (free_for (states_by o) (map group_of_entry l.groups) own blocks_needed) 0 ≡ Some block
   pub group : Group
   pub listed : Contains (map group_of_entry l.groups) group
   pub data_block : IsDataOf group block

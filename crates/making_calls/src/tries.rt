@@ -20,7 +20,7 @@ ghost use Rattle.path_walks.specs.Holds.{AreHeld, IsAskedFor, IsFirstLack, IsUnd
 ghost use Rattle.path_walks.specs.Walks.{IsSeenAt, IsLastOf};
 ghost use Rattle.making_calls.specs.Making.{IfMade, IsAnswered, IsDamage, IsFound, IsFullFor, IsHashedFor, IsLackedFor, IsMade, IsMaking, IsNeededFor, IsReachedIn, IsRefusal, IsStamped, IsToldOf, IsTooFew, IsUnbuilt, LacksName, call_holds, directory_path, makes_directory};
 
-use crate::blocks::{Locked, Taken, find_block};
+use crate::blocks::{NewRoom, find_block};
 use crate::drafting::{addition, is_a_view};
 use crate::finds::Found;
 use crate::records::look_for_room;
@@ -31,6 +31,7 @@ use glock_names::{CallFault, Step, View};
 use linear_dirs::look;
 use path_walks::{Place, Walk, nothing, walk_along};
 use resource_groups::group_of;
+use room_search::Locked;
 use std::alloc::Global;
 
 // The path of a call that makes a name.
@@ -96,9 +97,9 @@ fn make_at<V: View>(
     if !fits {
         return Ok(Found::NotBuilt);
     }
-    let room = match find_block(view, stamp.node)? {
-        Locked::Is(Taken::Is(room)) => room,
-        Locked::Is(Taken::TooFew(free)) => return Ok(Found::NoSpace(free)),
+    let room = match find_block(alloc, view, stamp.node)? {
+        Locked::Is(NewRoom::Is(room)) => room,
+        Locked::Is(NewRoom::TooFew(free)) => return Ok(Found::NoSpace(free)),
         Locked::NeedLock { lock, state } => return Ok(Found::NeedLock { lock, state }),
         Locked::NeedBlock(missing) => return Ok(Found::NeedBlock(missing)),
     };

@@ -1,5 +1,5 @@
 -- Free blocks of a group that are put behind others, one after another.
-use Rattle.std.proofs.Common.{◌≡◌, ℕ, ◌+◌, ◌<◌, ◌≤◌, List, [], ◌∷◌, ◌++◌, length, min, take, refl, sym, ap, subst, ◌∙◌, arith}
+use Rattle.std.proofs.Common.{◌≡◌, ℕ, ◌<◌, ◌≤◌, List, [], ◌∷◌, ◌++◌, length, take, sym, ap, ◌∙◌, arith}
 use Rattle.std.proofs.lemmas.List.{append_assoc, append-nil, length-take, length_push, take_all, take-append-le}
 use Rattle.glock_names.specs.Views.{Seen, IsView, HasGroup, end_of}
 use Rattle.glock_names.specs.declared.views.Group.{Group}

@@ -5,3 +5,4 @@ pub mod Holds
 pub mod Counted
 pub mod Room
 pub mod InImage
+pub mod Shown

@@ -1,47 +1,40 @@
 -- What a node takes of its own group, or of all, under which locks.
-use Rattle.std.proofs.Common.{◌≡◌, inl, inr, ℕ, ◌+◌, ◌-◌, ◌%◌, ◌<◌, ◌≤◌, ◌==◌, true, List, [], ◌∷◌, ◌++◌, length, get_or, map, take, Some, refl, sym, ap, subst, ◌∙◌, arith}
-use Rattle.std.proofs.Math.Nat.{mod-lt}
+use Rattle.std.proofs.Common.{◌≡◌, Result, Ok, Err, inl, inr, ℕ, ◌<◌, ◌≤◌, ◌==◌, true, List, [], ◌∷◌, length, map, take, refl, sym, ap, subst, ◌∙◌, arith}
 use Rattle.std.proofs.lemmas.Bool.{cond-true, cond-false, lt-ltb, le-ltb, ne_eqb}
 use Rattle.std.proofs.lemmas.List.{append-nil, length-take-le}
-use Rattle.std.proofs.lemmas.List.Elements.{All-append, All-nil}
-use Rattle.std.proofs.lemmas.Option.{slice_get-get_or}
-use Rattle.std.specs.Prelude.{Contains, Vec, if◌then◌else◌}
+use Rattle.std.proofs.lemmas.List.Elements.{All-append}
+use Rattle.std.specs.Prelude.{Contains, IfOk, Vec, if◌then◌else◌}
 use Rattle.std.specs.declared.alloc.Global.{Global}
 use Rattle.glock_names.specs.Views.{Seen, IsView, HasGroup}
 use Rattle.glock_names.specs.declared.LockName.{LockName}
 use Rattle.glock_names.specs.declared.State.{State}
+use Rattle.glock_names.specs.declared.steps.CallFault.{CallFault}
 use Rattle.glock_names.specs.declared.steps.Missing.{Missing}
 use Rattle.glock_names.specs.declared.views.Group.{Group}
 use Rattle.image_model.proofs.Members.{IsIn, contained, from_flat_map, is_in}
 use Rattle.image_model.proofs.Rising.{Rising}
 use Rattle.path_walks.specs.Holds.{Hold, AreHeld, IsFirstLack, holds, hold_of_group}
-use Rattle.room_search.specs.Blocks.{States, free_in, free_in_all, free_for, group_holds, group_of_node, has_too_few}
+use Rattle.room_search.specs.Blocks.{States, free_in, free_in_all, free_for, group_holds, has_too_few}
 use Rattle.room_search.specs.Parts.{IsFrontOf}
-use Rattle.room_search.specs.Searches.{AreHeldBlocks, HasOwnGroup, IsFreeUnder, IsGroupBlock, IsRoom, IsTaken, IsTold, IsUnder}
+use Rattle.room_search.specs.Searches.{IsGroupBlock, IsRoom, IsTaken, IsTold, IsUnder}
 use Rattle.room_search.specs.declared.search.Locked.{Locked}
 use Rattle.room_search.specs.declared.search.Locked.TheVariants as locked
 use Rattle.room_search.specs.declared.search.Taken.{Taken}
 use Rattle.room_search.specs.declared.search.Taken.TheVariants as taken
 use Rattle.room_search.proofs.Free.{all_rise, free_rises, from_free}
-use Rattle.room_search.proofs.Holds.{block_before, block_behind, group_listed, group_needed, held_in, held_behind, lack_before, lack_behind, read_group}
+use Rattle.room_search.proofs.Holds.{block_before, block_behind, group_listed, group_needed, held_in, held_behind, lack_before, lack_behind}
 use Rattle.room_search.proofs.Lists.{from_take, rising_take, unrise}
 
--- a node has a group of its own
-pub own_of : (v : Seen) (node : ℕ) → 1 ≤ length v.groups → 1 ≤ node → HasOwnGroup v node
-own_of v node some first =
-    let i : ℕ = (node - 1) % length v.groups in
-    let low : i < length v.groups = mod-lt (node - 1) (omega (arith, some)) in
-    let nobody : Group = record { addr = 0; length = 0; first = 0; count = 0 } in
-    (get_or v.groups i nobody, slice_get-get_or v.groups i nobody low, read_group v.groups i nobody low)
+-- what follows of an answer
+pub ok_so : {A : Type 0} (P Q : A → Type 0) (r : Result A CallFault) → ((a : A) → P a → Q a) → IfOk r P → IfOk r Q
+ok_so P Q (Ok a) from is = from a is
+ok_so P Q (Err f) from is = tt
 
 -- ---- the locks
 
 module _ (says : States) (groups : List Group) (own : Group) (need : ℕ) where
   abbrev pub further : List Hold
   further = if has_too_few says own need then map hold_of_group groups else []
-
-  pub holds_none : need ≡ 0 → group_holds says groups own need ≡ []
-  holds_none none = ap (λ n. if n == 0 then [] else hold_of_group own ∷ (if has_too_few says own n then map hold_of_group groups else [])) none
 
   pub holds_some : (need ≡ 0 → ⊥) → group_holds says groups own need ≡ hold_of_group own ∷ further
   holds_some some = cond-false (need == 0) [] (hold_of_group own ∷ further) (ne_eqb need 0 some)
@@ -152,19 +145,6 @@ module _ (v : Seen) (says : States) (own : Group) (need : ℕ) (some : need ≡ 
 pub all_listed : (v : Seen) (says : States) (own : Group) (need : ℕ) → length (free_in says own) < need → AreHeld v (group_holds says v.groups own need) → AreHeld v (map hold_of_group v.groups)
 all_listed v says own need few held =
     held_behind v (hold_of_group own ∷ []) (map hold_of_group v.groups) (subst (AreHeld v) (all_holds v says own need (λ none. absurd (omega (arith, few, none))) few) held)
-
--- no block is needed
-pub taken_none : (v : Seen) (says : States) (own : Group) (need : ℕ) (blocks : Vec ℕ Global) → need ≡ 0 → blocks.items ≡ []
-    → IsUnder v (group_holds says v.groups own need) (IsTaken v says v.groups own need) (locked.Is (taken.Is blocks))
-taken_none v says own need blocks none empty = (
-  subst (AreHeld v) (sym (holds_none says v.groups own need none)) (All-nil (λ h. holds v h ≡ true)),
-  record {
-    are = empty ∙ sym (ap (λ n. take n (free_in says own)) none) ∙ sym (for_own says v.groups own need (omega (arith, none)));
-    many = ap length empty ∙ sym none;
-    rise = subst (λ xs. (k : ℕ) → k + 1 < length xs → get_or xs k 0 < get_or xs (k + 1) 0) (sym empty) (λ k low. absurd (omega (arith, low)));
-    each = λ b there. elim (is_in b [] (subst (λ xs. Contains xs b) empty there)) [ ];
-  },
-)
 
 -- ---- whatever the view hasn't of its groups
 

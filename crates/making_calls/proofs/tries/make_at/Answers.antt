@@ -13,17 +13,20 @@ use Rattle.path_walks.proofs.Images.{is_shown, unbroken_directory}
 use Rattle.path_walks.proofs.Leads.{leads_once}
 use Rattle.path_walks.proofs.Steps.{fault_all, none_so}
 use Rattle.path_walks.proofs.Steps.{inside_so as shown_inside}
-use Rattle.making_calls.specs.Blocks.{block_holds, group_of_node}
+use Rattle.room_search.specs.Blocks.{group_of_node}
+use Rattle.room_search.specs.Searches.{AreShown, IsGroupBroken, IsUnder}
+use Rattle.room_search.specs.declared.search.Locked.TheVariants as locked
+use Rattle.room_search.proofs.InImage.{group_sound}
+use Rattle.room_search.proofs.Shown.{bytes_shown}
+use Rattle.making_calls.specs.Blocks.{block_holds}
 use Rattle.making_calls.specs.Drafting.{IsAddition, IsWrongIn}
 use Rattle.making_calls.specs.Making.{IsDamage, IsLackedFor, IsNeededFor, IsToGetName, directory_path, makes_directory}
 use Rattle.making_calls.specs.Making as damage
-use Rattle.making_calls.specs.Searches.{AreShown, IsGroupBroken, IsTaken, IsUnder}
-use Rattle.making_calls.specs.declared.blocks.Locked.TheVariants as locked
-use Rattle.making_calls.specs.declared.blocks.Taken.TheVariants as taken
+use Rattle.making_calls.specs.Searches.{IsTaken}
+use Rattle.making_calls.specs.declared.blocks.NewRoom.TheVariants as taken
 use Rattle.making_calls.proofs.Alike.{linear_in}
 use Rattle.path_walks.specs.Holds.{IsFirstLack}
-use Rattle.making_calls.proofs.Numbered.{bytes_shown}
-use Rattle.making_calls.proofs.Rooms.{block_way, few_way, group_sound, own_of, room_held}
+use Rattle.making_calls.proofs.Rooms.{block_way, few_way, own_of, room_held}
 use Rattle.making_calls.proofs.Taking.{addition_does, all_held, block_lacks, directory_sound, group_lacks, inside_so, lock_lacks, made, own_name, placed, reply_ok, stamped, to_get, too_few, under, wrong_damage}
 use Rattle.making_calls.proofs.tries.make_at.Goals as goal
 use Rattle.path_walks.proofs.Faults.{told_on, tells_so, only_so}
@@ -61,12 +64,12 @@ returns-in_err-fits-clause-damaged g c =
 pub returns-in_err-room-clause-sound : goal.returns-in_err-room-clause-sound
 returns-in_err-room-clause-sound g c im o l t of =
     let v = g.V.View.seen c.args.view.now in
-    told_on (λ rule b. ⊥) _ _ c.from_residual-in_err-room.ensures.1 (only_so (IsGroupBroken v) (λ rule b. ⊥) (group_sound v im o l t of) c.in_err-room.field-0.0 c.in_err-room.ensures.damaged)
+    told_on (λ rule b. ⊥) _ _ c.from_residual-in_err-room.ensures.1 (tells_so (IsGroupBroken v) (λ rule b. ⊥) (group_sound v im o l t of) c.in_err-room.field-0.0 c.in_err-room.ensures.damaged)
 
 pub returns-in_err-room-clause-damaged : goal.returns-in_err-room-clause-damaged
 returns-in_err-room-clause-damaged g c =
     let v = g.V.View.seen c.args.view.now in
-    told_on (IsDamage v c.args.call.now) _ _ c.from_residual-in_err-room.ensures.1 (only_so (IsGroupBroken v) (IsDamage v c.args.call.now) (λ rule b broken. damage.in_group rule b (to_get v c.args.call.now c.requires.making c.args.place.now c.args.name.now c.requires.last c.requires.named c.requires.lacks true c.requires.seen.leads c.requires.seen.there (λ h shown. sym (c.in_ok-fits.ensures.room h shown) ∙ c.if-not-fits.false)) broken) c.in_err-room.field-0.0 c.in_err-room.ensures.damaged)
+    told_on (IsDamage v c.args.call.now) _ _ c.from_residual-in_err-room.ensures.1 (tells_so (IsGroupBroken v) (IsDamage v c.args.call.now) (λ rule b broken. damage.in_group rule b (to_get v c.args.call.now c.requires.making c.args.place.now c.args.name.now c.requires.last c.requires.named c.requires.lacks true c.requires.seen.leads c.requires.seen.there (λ h shown. sym (c.in_ok-fits.ensures.room h shown) ∙ c.if-not-fits.false)) broken) c.in_err-room.field-0.0 c.in_err-room.ensures.damaged)
 
 pub returns-in-Is-TooFew-clause-found : goal.returns-in-Is-TooFew-clause-found
 returns-in-Is-TooFew-clause-found g c im o l t of =
@@ -202,7 +205,7 @@ returns-in-Is-TooFew-clause-told g c =
     record {
       gets = (to_get v c.args.call.now c.requires.making c.args.place.now c.args.name.now c.requires.last c.requires.named c.requires.lacks true c.requires.seen.leads c.requires.seen.there (λ h shown. sym (c.in_ok-fits.ensures.room h shown) ∙ c.if-not-fits.false));
       needs = refl;
-      free_are = λ at shown. (searched at own.0 shown own.1).1.0;
+      free_are = λ at shown. (searched at own.0 shown own.1).1.free_are;
       fewer = few_way v c.args.stamp.now.node c.is_a_view.ensures c.requires.groups c.requires.node c.in-Is-TooFew.free searched;
     }
 

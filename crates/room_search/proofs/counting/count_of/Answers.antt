@@ -18,11 +18,11 @@ returns-in-Is-clause-found g c = λ at shown.
     let v = g.V.View.seen c.args.view.now in
     let group = c.args.group.now in
     let held : holds v (hold_of_group group) ≡ true = search rules in
-    let count = answer_at _ _ _ c.in-Is.is (c.in_ok.ensures.bits at (shown group c.requires)) in
+    let count = answer_at _ _ _ c.in-Is.is (c.in_ok-count.ensures.bits at (shown group c.requires)) in
     (held_one v (hold_of_group group) held, count ∙ free_count at group)
 
 pub returns-in-NeedBlock-clause-found : goal.returns-in-NeedBlock-clause-found
 returns-in-NeedBlock-clause-found g c = λ at shown.
     let v = g.V.View.seen c.args.view.now in
     let held : holds v (hold_of_group c.args.group.now) ≡ true = search rules in
-    block_one v c.args.group.now c.in-NeedBlock.missing c.requires (subst (λ r. IfNeedBlock (Ok r) (IsMissing v c.args.group.now)) c.in-NeedBlock.is c.in_ok.ensures.needed) held
+    block_one v c.args.group.now c.in-NeedBlock.missing c.requires (subst (λ r. IfNeedBlock (Ok r) (IsMissing v c.args.group.now)) c.in-NeedBlock.is c.in_ok-count.ensures.needed) held
