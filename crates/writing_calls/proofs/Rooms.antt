@@ -61,7 +61,8 @@ use Rattle.path_walks.proofs.Images.{is_shown}
 use Rattle.path_walks.proofs.Wants.{exclusive}
 use Rattle.room_search.specs.Blocks.{room_holds}
 use Rattle.room_search.specs.Searches.{AreHeldBlocks, IsHeldBlock, IsRoomIn, IsShortIn}
-use Rattle.room_search.proofs.Asking.{asked_behind, group_asked}
+use Rattle.room_search.proofs.Asking.{asked_behind}
+use Rattle.room_search.proofs.InImage.{group_asked}
 use Rattle.room_search.proofs.Holds.{block_under, lack_behind}
 use Rattle.writing_calls.specs.Writing.{IsEdit, IsNeedOf, IsTooFew, Puts, by_growth, by_write, call_holds, content_after, end_of, group_holds_of}
 use Rattle.writing_calls.proofs.Doing.{changes, inode_held}
