@@ -28,8 +28,10 @@ use Rattle.image_model.specs.Owners.{Owners, holding}
 use Rattle.image_model.specs.Stands.{Layout}
 use Rattle.image_model.proofs.Held.{none_some}
 use Rattle.image_model.proofs.Members.{is_in}
-use Rattle.image_changes.specs.Does.{IsOf}
+use Rattle.image_changes.specs.Does.{IsOf, AreInside}
+use Rattle.image_changes.specs.Drafted.{IsFinished}
 use Rattle.image_changes.specs.Instances.{IsAt}
+use Rattle.image_changes.proofs.Inside.{stay_inside}
 use Rattle.draft_changes.specs.Removing as removing
 use Rattle.draft_changes.specs.Resizing.{FreedGroupsSay, HasSomeOf, LeavesGroups}
 use Rattle.draft_changes.proofs.Views.{groups_are_listed}
@@ -37,10 +39,10 @@ use Rattle.path_walks.proofs.Images.{is_shown}
 use Rattle.group_locks.proofs.Listed.{any_range, range_any}
 use Rattle.file_changes.specs.Drafting.{FreesIn, IsCutDraft}
 use Rattle.file_changes.specs.Making.{CanBeCut, IsCutIn, MakesFile, goes_at, goes_with, stays_below}
-use Rattle.file_changes.proofs.Resized.{IsResized, IsSaidOver, has_part, leaves_groups, makes_file}
+use Rattle.file_changes.proofs.Resized.{IsResized, IsSaidOver, has_part, leaves_groups, lies_inside, makes_file}
 use Rattle.file_changes.proofs.Standing.{own_counted, standing_file, standing_short}
 
-none_contained : (b : ℕ) → Contains {A = ℕ} [] b → ⊥
+none_contained : (b : ℕ) → Contains {X = ℕ} [] b → ⊥
 none_contained b c = elim (is_in b [] c) [ ]
 
 no_group : (k : Rindex) → removing.HasSome k [] → ⊥
@@ -63,16 +65,16 @@ module _ (h : Holding) (size : ℕ) where
   stays_so level first (Some Itself) e = absurd (true≢false (sym e))
   stays_so level first (Some (InChain hash place)) e = absurd (true≢false (sym e))
   stays_so level first (Some (Pointed from k l f)) e =
-      let one = and_parts _ _ e in
-      let two = and_parts _ _ one.1 in
-      let three = and_parts _ _ two.1 in
-      (from, k, l, f, refl, leb-true l level one.0, leb-true first f two.0, ltb-true f (first + span h.size level) three.0, leb-true (f + span h.size l) (end_of h size) three.1)
+      let three = and_parts _ _ e in
+      let two = and_parts _ _ three.0 in
+      let one = and_parts _ _ two.0 in
+      (from, k, l, f, refl, leb-true l level one.0, leb-true first f one.1, ltb-true f (first + span h.size level) two.1, leb-true (f + span h.size l) (end_of h size) three.1)
 
   so_stays : (level first from k l f : ℕ) (p : Option Part) → p ≡ Some (Pointed from k l f) → l ≤ level → first ≤ f → f < first + span h.size level → f + span h.size l ≤ end_of h size
       → stays_below h.size (end_of h size) level first p ≡ true
   so_stays level first from k l f p is low begins ends stays =
       subst (λ q. stays_below h.size (end_of h size) level first q ≡ true) (sym is)
-      (and_from _ _ (le-leb l level low) (and_from _ _ (le-leb first f begins) (and_from _ _ (lt-ltb f (first + span h.size level) ends) (le-leb (f + span h.size l) (end_of h size) stays))))
+      (and_from _ _ (and_from _ _ (and_from _ _ (le-leb l level low) (le-leb first f begins)) (lt-ltb f (first + span h.size level) ends)) (le-leb (f + span h.size l) (end_of h size) stays))
 
   module _ (inside : (b : ℕ) → IsSome (h.cell b) → b < h.count) where
     past_goes : (level first : ℕ) → IsPastEnd h (end_of h size) level first → not (list_any (λ c. stays_below h.size (end_of h size) level first (part_at h c)) (range_with_len 0 h.count)) ≡ true
@@ -180,3 +182,8 @@ module _ (v : Seen) (im : Image) (o : Owners) (l : Layout) (t : Tree) (path : Pa
       cut_makes view says last whole frees =
           subst (λ content. MakesFile im o l last a content time [] freed) has_cut.is_cut.content
           (makes_file v im o l t of inodes a has_cut.g [] freed time cut.first fates resized last (said view says last whole frees))
+
+      -- all that is put then lies in a group
+      pub cut_inside : (view : IsView v) (says : FreedGroupsSay) (last : FinMap nat_cmp Fate) (change : Change) → AreWhole v.size last → FreesIn v fates last freed → IsFinished last change → AreInside v change
+      cut_inside view says last change whole frees finished =
+          stay_inside v last change finished whole (lies_inside v im o l t of inodes a has_cut.g [] freed time cut.first fates resized last (said view says last whole frees) view)

@@ -17,7 +17,7 @@ use Rattle.gfs2_layout.specs.Holding.{Cell, Holding, Itself, Part, Pointed, byte
 use Rattle.gfs2_layout.specs.Inode.{IsInode, content_of, dinode_in, head_of}
 use Rattle.gfs2_layout.specs.declared.dinode.Dinode.{Dinode}
 use Rattle.gfs2_layout.specs.declared.rindex.Rindex.{Rindex}
-use Rattle.glock_names.specs.Views.{Seen}
+use Rattle.glock_names.specs.Views.{Seen, IsView, HasGroup, group_of_entry}
 use Rattle.glock_names.specs.declared.LockName.{LockName}
 use Rattle.dinode_tree.specs.Reading.{inode_lock}
 use Rattle.dinode_tree.specs.Shown.{IsShown}
@@ -35,7 +35,7 @@ use Rattle.image_model.proofs.Counts.{at_in}
 use Rattle.image_model.proofs.Held.{block_same, none_some, some_same}
 use Rattle.image_model.proofs.Members.{IsIn, contained, is_in}
 use Rattle.image_changes.specs.Changes.{inode_of}
-use Rattle.image_changes.specs.Does.{IsOf}
+use Rattle.image_changes.specs.Does.{IsOf, LiesInGroup}
 use Rattle.image_changes.specs.Drafted.{is_put, with_draft}
 use Rattle.image_changes.specs.Instances.{among, is_directory_at}
 use Rattle.image_changes.proofs.Nodes.{among_in, in_among}
@@ -43,10 +43,12 @@ use Rattle.draft_changes.specs.Groups.{IsPutUnder, PutsGroup}
 use Rattle.draft_changes.specs.Removing.{HasSome}
 use Rattle.draft_changes.specs.Resizing.{HasExchangedBlocks, HasSomeOf, IsContentOf, IsPutOf, IsPutOrKept, IsSaidFree, LeavesGroups, states_with}
 use Rattle.draft_changes.proofs.Rows.{cell_its, header_among, said_free, same_group}
-use Rattle.draft_changes.proofs.Views.{is_listed}
+use Rattle.draft_changes.proofs.Views.{groups_are_listed, is_listed}
 use Rattle.group_locks.proofs.Listed.{any_range, range_any}
+use Rattle.path_walks.proofs.Lying.{data_lies, header_lies}
 use Rattle.file_changes.specs.Drafting.{GetsTime}
 use Rattle.file_changes.specs.Making.{HasTimes, MakesFile}
+use Rattle.file_changes.proofs.Standing.{own_inside}
 
 -- ---- what becomes of a block
 
@@ -103,7 +105,7 @@ in_group_no_inode g b a e = none_some e
 group_not_free : (x y : ℕ) → InGroup x ≡ Free y → ⊥
 group_not_free x y e = cc
 
-no_put : (lock : LockName) (plain : Bool) (bytes : List ℕ) → Some Freed ≡ Some (Put lock plain bytes) → ⊥
+pub no_put : (lock : LockName) (plain : Bool) (bytes : List ℕ) → Some Freed ≡ Some (Put lock plain bytes) → ⊥
 no_put lock plain bytes e = cc
 
 same_lock : (x y : LockName) (p q : Bool) (m n : List ℕ) → Some (Put x p m) ≡ Some (Put y q n) → x ≡ y
@@ -239,44 +241,63 @@ module _ (v : Seen) (im : Image) (o : Owners) (l : Layout) (t : Tree) (of : IsOf
     own_itself : part_at g g.own ≡ Some Itself
     own_itself = is.sound.file.own
 
-    -- the lock of each block that is put
-    under : (b : ℕ) (lock : LockName) (plain : Bool) (bytes : List ℕ) → get last b ≡ Some (Put lock plain bytes)
-        → (lock ≡ inode_lock a) ⊎ ((k : Rindex) × IsListed l.groups k × HasSomeOf k taken freed × (lock ≡ record { kind = 3; number = k.address }))
-    under b lock plain bytes e = elim (among_or_not freed b) [
+    -- what is put is the file's, or the header or the bitmap of a group that has some of the blocks
+    put_where : (b : ℕ) (lock : LockName) (plain : Bool) (bytes : List ℕ) → get last b ≡ Some (Put lock plain bytes)
+        → (IsSome (g.cell b) × (get last b ≡ get second b)) ⊎ ((k : Rindex) × IsListed l.groups k × HasSomeOf k taken freed × IsHeaderOf k b)
+    put_where b lock plain bytes e = elim (among_or_not freed b) [
       | inl gone ↦ absurd (no_put lock plain bytes (sym (said.frees b gone) ∙ e))
       | inr kept ↦ elim (header_among l.groups b) [
         | inl h ↦ of_header kept h.0 (is_listed h.0 l.groups h.1) h.2
-        | inr none ↦ of_second kept (said.rest b kept (λ k listed any head. none k (at_in k l.groups listed.0 listed.1) head))
+        | inr none ↦ inl (of_second kept (said.rest b kept (λ k listed any head. none k (at_in k l.groups listed.0 listed.1) head)))
       ]
     ]
       where
-        abbrev Is : Type 0
-        Is = (lock ≡ inode_lock a) ⊎ ((k : Rindex) × IsListed l.groups k × HasSomeOf k taken freed × (lock ≡ record { kind = 3; number = k.address }))
-
-        of_second : ¬ (Contains freed b) → get last b ≡ get second b → Is
+        of_second : ¬ (Contains freed b) → get last b ≡ get second b → IsSome (g.cell b) × (get last b ≡ get second b)
         of_second kept same = elim (cases_Bool (is_some (g.cell b))) [
           | inr none ↦ absurd (none_some (sym (second_none b (λ some. true≢false (sym some ∙ none)) kept) ∙ sym same ∙ e))
-          | inl some ↦ elim (put_or_left b some) [
-            | inl put ↦ inl (same_lock lock (inode_lock after.own) plain put.plain bytes put.bytes (sym e ∙ same ∙ put.fate) ∙ ap inode_lock is.shown.own)
-            | inr left ↦ absurd (none_some (sym left.1 ∙ sym same ∙ e))
-          ]
+          | inl some ↦ (some, same)
         ]
+
+        same_number : (x y : ℕ) → InGroup x ≡ InGroup y → x ≡ y
+        same_number x y e = cc
 
         one_group_at : (k j : Rindex) → IsListed l.groups k → IsListed l.groups j → IsHeaderOf k b → IsHeaderOf j b → k ≡ j
         one_group_at k j listed other head at =
             same_group im l.groups of.stands.laid.fit k j listed other (same_number k.address j.address (sym (of.stands.laid.zoned.headers k listed b head) ∙ of.stands.laid.zoned.headers j other b at))
-          where
-            same_number : (x y : ℕ) → InGroup x ≡ InGroup y → x ≡ y
-            same_number x y e = cc
 
-        of_header : ¬ (Contains freed b) → (k : Rindex) → IsListed l.groups k → IsHeaderOf k b → Is
+        of_header : ¬ (Contains freed b) → (k : Rindex) → IsListed l.groups k → IsHeaderOf k b
+            → (IsSome (g.cell b) × (get last b ≡ get second b)) ⊎ ((k : Rindex) × IsListed l.groups k × HasSomeOf k taken freed × IsHeaderOf k b)
         of_header kept k listed head = elim (some_of_or_none k taken freed) [
-          | inl any ↦ elim ((said.states k listed any).blocks b head) [
-            | inl none ↦ absurd (none_some (sym none ∙ e))
-            | inr put ↦ inr (k, listed, any, same_lock lock (record { kind = 3; number = k.address }) plain false bytes put.0 (sym e ∙ put.1))
-          ]
-          | inr none ↦ of_second kept (said.rest b kept (λ j other any at. none (subst (λ x. HasSomeOf x taken freed) (sym (one_group_at k j listed other head at)) any)))
+          | inl any ↦ inr (k, listed, any, head)
+          | inr none ↦ inl (of_second kept (said.rest b kept (λ j other any at. none (subst (λ x. HasSomeOf x taken freed) (sym (one_group_at k j listed other head at)) any))))
         ]
+
+    -- its lock
+    under : (b : ℕ) (lock : LockName) (plain : Bool) (bytes : List ℕ) → get last b ≡ Some (Put lock plain bytes)
+        → (lock ≡ inode_lock a) ⊎ ((k : Rindex) × IsListed l.groups k × HasSomeOf k taken freed × (lock ≡ record { kind = 3; number = k.address }))
+    under b lock plain bytes e = elim (put_where b lock plain bytes e) [
+      | inl own ↦ elim (put_or_left b own.0) [
+        | inl put ↦ inl (same_lock lock (inode_lock after.own) plain put.plain bytes put.bytes (sym e ∙ own.1 ∙ put.fate) ∙ ap inode_lock is.shown.own)
+        | inr left ↦ absurd (none_some (sym left.1 ∙ sym own.1 ∙ e))
+      ]
+      | inr head ↦ elim ((said.states head.0 head.1 head.2).blocks b head.3) [
+        | inl none ↦ absurd (none_some (sym none ∙ e))
+        | inr put ↦ inr (head.0, head.1, head.2, same_lock lock (record { kind = 3; number = head.0.address }) plain false bytes put.0 (sym e ∙ put.1))
+      ]
+    ]
+
+    -- and it lies in a group of the view
+    pub lies_inside : IsView v → (b : ℕ) (lock : LockName) (plain : Bool) (bytes : List ℕ) → get last b ≡ Some (Put lock plain bytes) → LiesInGroup v b
+    lies_inside view b lock plain bytes e = elim (put_where b lock plain bytes e) [
+      | inl own ↦ data_lies v b view (elim ((is.blocks.has b).0 own.0).0 [
+        | inl old ↦ own_inside v im o l t of a b old
+        | inr new ↦ let f = is.free b new in (group_of_entry f.group, has_group f.group f.listed, record { low = f.data_block.low; high = f.data_block.high })
+      ])
+      | inr head ↦ header_lies v (group_of_entry head.0) b view (has_group head.0 head.1) (record { low = head.3.low; high = head.3.high })
+    ]
+      where
+        has_group : (k : Rindex) → IsListed l.groups k → HasGroup v (group_of_entry k)
+        has_group k listed = (groups_are_listed v im o l t (group_of_entry k) of).1 (k, listed, refl)
 
     pub makes_file : MakesFile im o l last a (content_of g) time taken freed
     makes_file = record {

@@ -33,6 +33,11 @@ pub record GetsTime (v : Seen) (before : FinMap nat_cmp Fate) (a time : ℕ) (fa
 
 -- ---- bytes are written
 
+-- Over a draft these blocks are taken.
+pub record TakesIn (v : Seen) (old new : FinMap nat_cmp Fate) (room : List ℕ) : Type 0 where
+  pub takes : AreTaken (λ (s : Seen). s) (over v old) (over v new) room
+  pub rest : KeepsBlocks (λ (s : Seen). s) (over v old) (over v new) room
+
 -- In a draft over the view bytes are written to the file from a place on, and the blocks of the room are taken for it, all of them: of each
 -- file that the view shows, and to which that can be done, it then shows one so written. No block changes but the file's and the room's. Then
 -- its dinode gets the time, and the groups of the room's blocks say that these are in use.
@@ -42,8 +47,7 @@ pub record WritesFile (v : Seen) (a at : ℕ) (new : List ℕ) (time : ℕ) (roo
   pub written : (h : Holding) → IsShown v a h → CanWrite h at (length new) room → HasWritten (seen_with v first) empty first room [] h at new
   pub second : FinMap nat_cmp Fate
   pub timed : GetsTime v first a time second
-  pub taken : AreTaken (λ (s : Seen). s) (over v second) (over v fates) room
-  pub rest : KeepsBlocks (λ (s : Seen). s) (over v second) (over v fates) room
+  pub taken : TakesIn v second fates room
 
 -- The change is that of such a draft.
 pub record IsWriteDraft (v : Seen) (a at : ℕ) (new : List ℕ) (time : ℕ) (room : List ℕ) (change : Change) : Type 0 where

@@ -35,12 +35,12 @@ HasTimes d time = (d.mtime ≡ time) × (d.ctime ≡ time)
 
 -- The draft makes of the file in block a one with this content and this time, which takes some blocks and gives some back. What it puts is under
 -- the file's lock, or under that of a group that has some of these.
-pub record MakesFile (im : Image) (o : Owners) (l : Layout) (fates : FinMap nat_cmp Fate) (a : ℕ) (content : List ℕ) (time : ℕ) (taken freed : List ℕ) : Type 0 where
+pub record MakesFile (im : Image) (o : Owners) (l : Layout) (fates : FinMap nat_cmp Fate) (a : ℕ) (bytes : List ℕ) (time : ℕ) (taken freed : List ℕ) : Type 0 where
   pub g : Holding
   pub resizes : ResizesFile im o l fates a g taken freed
-  pub content : content_of g ≡ content
+  pub content : content_of g ≡ bytes
   pub times : HasTimes (dinode_in g) time
-  pub under : (b : ℕ) (lock : LockName) (plain : Bool) (bytes : List ℕ) → get fates b ≡ Some (Put lock plain bytes)
+  pub under : (b : ℕ) (lock : LockName) (plain : Bool) (put : List ℕ) → get fates b ≡ Some (Put lock plain put)
       → (lock ≡ inode_lock a) ⊎ ((k : Rindex) × IsListed l.groups k × HasSomeOf k taken freed × (lock ≡ record { kind = 3; number = k.address }))
   pub put : is_put fates a ≡ true
 

@@ -1,5 +1,5 @@
 // A file that is cut.
-ghost use Rattle.std.specs.Prelude.{ℕ, ◌≡◌, true, [], Contains, IfSome, IsSome};
+ghost use Rattle.std.specs.Prelude.{ℕ, ◌≡◌, true, false, [], Contains, IfSome, IsSome};
 ghost use Rattle.std.specs.FinMap.{empty};
 ghost use Rattle.file_tree.specs.Tree.{Tree};
 ghost use Rattle.drafts.specs.Fates.{seen_with};
@@ -21,9 +21,11 @@ ghost use Rattle.file_changes.specs.Making.{CanBeCut};
 
 use crate::inside::{check_data_blocks, check_inside};
 use crate::times::put_time;
+use draft_changes::groups_say_what_is_taken;
 use drafts::{Change, Draft};
 use file_cuts::cut;
 use glock_names::{CallFault, Step, View};
+use group_locks::standing_groups_are_sound;
 use growth_laws::files_are_inodes;
 use resource_groups::free_blocks;
 use std::alloc::Global;
@@ -105,6 +107,7 @@ fn free_in_draft<V: View>(
     ensures damaged { IfDamaged result (BreaksSome (V.seen view.now) freed.now) }
     ensures kept { IfDamaged result (IsOfView (V.seen view.now)) }
 {
+    standing_groups_are_sound();
     match free_blocks(draft, freed) {
         Ok(Step::Is(())) => Ok(Step::Is(true)),
         Ok(Step::NeedBlock(missing)) => Ok(Step::NeedBlock(missing)),
@@ -122,7 +125,7 @@ pub fn free_and_finish<V: View>(
     inode: u64,
     freed: &[u64],
 ) -> Result<Step<Option<Change>>, CallFault>
-    requires over { draft.entry.view ≡ view.now }
+    requires over { draft.view ≡ view.now }
     requires inside { (b : ℕ) → Contains freed.now b → HasDataBlock (V.seen view.now) b }
     ensures done { IfIs result (λ done. IfSome done (IsFreedAndDone (V.seen view.now) draft.entry.fates freed.now)) }
     ensures inside { IfIs result (λ done. IfSome done (AreInside (V.seen view.now))) }
@@ -134,6 +137,7 @@ pub fn free_and_finish<V: View>(
 {
     is_a_view(view);
     files_are_inodes();
+    groups_say_what_is_taken();
     match free_in_draft(alloc, view, &mut draft, freed)? {
         Step::Is(true) => {}
         Step::Is(false) => return Ok(Step::Is(None)),

@@ -1,9 +1,9 @@
 // Whether all blocks that a change has lie where they may, and what is told where one doesn't.
-ghost use Rattle.std.specs.Prelude.{ℕ, List, ◌≡◌, ◌↔◌, true, false, Contains, IfSome, IfNone, IsTrue, Ok, length};
+ghost use Rattle.std.specs.Prelude.{ℕ, List, ◌≡◌, ◌≤◌, ◌<◌, ◌↔◌, true, false, Contains, IfSome, IfNone, IsTrue, Ok, length};
 ghost use Rattle.drafts.specs.declared.change.Written.{Written};
 ghost use Rattle.gfs2_layout.specs.Holding.{Holding};
 ghost use Rattle.glock_names.specs.Steps.{IfIs, IfNeedBlock, IfDamaged};
-ghost use Rattle.glock_names.specs.Views.{IsOfView, end_of};
+ghost use Rattle.glock_names.specs.Views.{IsOfView, IsView, end_of};
 ghost use Rattle.glock_names.specs.declared.steps.Step.TheVariants.{Is};
 ghost use Rattle.dinode_tree.specs.Below.{AnyIndex};
 ghost use Rattle.dinode_tree.specs.Reading.{IsNeeded};
@@ -18,6 +18,13 @@ use drafts::{Change, Written};
 use glock_names::{CallFault, Group, Step, View};
 use resource_groups::group_of;
 use std::alloc::Global;
+
+/// A law: what a node has of the file system is a view of it.
+pub(crate) fn is_a_view<V: View>(view: &V)
+    ensures { IsView (V.seen view.now) }
+{
+    let _size = view.block_size();
+}
 
 // Whether the block is one of the group: of its header, its bitmap or its data blocks.
 fn reaches(group: &Group, block: u64) -> bool

@@ -1,7 +1,7 @@
 // What such changes make of images: laws.
 ghost use Rattle.file_changes.specs.Making.{CutsFreeExactly, CutsMakeFiles, WritesMakeFiles};
 
-use draft_changes::groups_say_what_is_taken;
+use draft_changes::{free_blocks_are_new, groups_say_what_is_taken};
 use growth_laws::files_are_inodes;
 
 /// A law: a change that writes bytes makes of the file what it should, in each image that the view may be of and that stands for a tree,
@@ -9,6 +9,9 @@ use growth_laws::files_are_inodes;
 pub fn writes_make_files()
     ensures { WritesMakeFiles }
 {
+    files_are_inodes();
+    free_blocks_are_new();
+    groups_say_what_is_taken();
 }
 
 /// A law: a draft in which a file is cut frees exactly the blocks past its end.

@@ -23,15 +23,17 @@ ghost use Rattle.image_changes.specs.Instances.{IsAt};
 ghost use Rattle.draft_changes.specs.Resizing.{LeavesGroups};
 ghost use Rattle.resource_groups.specs.Freeing.{BreaksSome, IsNeededFor};
 ghost use Rattle.resource_groups.specs.Putting.{HasDataBlock};
-ghost use Rattle.resource_groups.specs.Taking.{AreTaken, KeepsBlocks};
-ghost use Rattle.file_changes.specs.Drafting.{IsNeededAt, IsWriteDraft, IsWrongAt, WritesFile};
+ghost use Rattle.file_changes.specs.Drafting.{IsNeededAt, IsWriteDraft, IsWrongAt, TakesIn, WritesFile};
 ghost use Rattle.file_changes.specs.Making.{IsRoomIn};
 
-use crate::inside::check_inside;
+use crate::inside::{check_inside, is_a_view};
 use crate::times::put_time;
+use draft_changes::{free_blocks_are_new, groups_say_what_is_taken};
 use drafts::{Change, Draft};
 use file_growth::write_range;
 use glock_names::{CallFault, Step, View};
+use group_locks::standing_groups_are_sound;
+use growth_laws::files_are_inodes;
 use resource_groups::take_blocks;
 use std::alloc::Global;
 use std::collections::VecDeque;
@@ -92,13 +94,14 @@ fn take_room<V: View>(
 ) -> Result<Step<bool>, CallFault>
     requires over { draft.old.view ≡ view.now }
     requires inside { (b : ℕ) → Contains room.now b → HasDataBlock (V.seen view.now) b }
-    ensures taken { IfIs result (λ done. done ≡ true → AreTaken V.seen draft.old draft.new room.now) }
-    ensures rest { IfIs result (λ done. done ≡ true → KeepsBlocks V.seen draft.old draft.new room.now) }
+    ensures taken { IfIs result (λ done. done ≡ true → TakesIn (V.seen view.now) draft.old.fates draft.new.fates room.now) }
+    ensures view { draft.new.view ≡ view.now }
     ensures sound { (im : Image) (o : Owners) (l : Layout) (t : Tree) → IsOf (V.seen view.now) im o l t → LeavesGroups l draft.old.fates → IfIs result (λ done. done ≡ true) }
     ensures needed { IfNeedBlock result (IsNeededFor (V.seen view.now) room.now) }
     ensures damaged { IfDamaged result (BreaksSome (V.seen view.now) room.now) }
     ensures kept { IfDamaged result (IsOfView (V.seen view.now)) }
 {
+    standing_groups_are_sound();
     match take_blocks(draft, room) {
         Ok(Step::Is(())) => Ok(Step::Is(true)),
         Ok(Step::NeedBlock(missing)) => Ok(Step::NeedBlock(missing)),
@@ -129,6 +132,9 @@ fn draft_write<V: View>(
     ensures damaged { IfDamaged result (IsWrongAt (V.seen view.now) inode room.now) }
     ensures kept { IfDamaged result (IsOfView (V.seen view.now)) }
 {
+    is_a_view(view);
+    files_are_inodes();
+    free_blocks_are_new();
     match write_bytes(alloc, draft, inode, at, new, room)? {
         Step::Is(true) => {}
         Step::Is(false) => return Ok(Step::Is(false)),
@@ -163,6 +169,10 @@ pub fn write_file<V: View>(
     ensures damaged { IfDamaged result (IsWrongAt (V.seen view.now) inode room.now) }
     ensures kept { IfDamaged result (IsOfView (V.seen view.now)) }
 {
+    is_a_view(view);
+    files_are_inodes();
+    free_blocks_are_new();
+    groups_say_what_is_taken();
     let mut draft = Draft::new(alloc, view);
     match draft_write(alloc, view, &mut draft, inode, at, new, time, room)? {
         Step::Is(true) => {}
