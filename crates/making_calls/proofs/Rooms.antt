@@ -1,30 +1,22 @@
 -- The room that was found for a new inode, over a view and in an image that it may be of.
-use Rattle.std.proofs.Common.{◌≡◌, inl, inr, ℕ, zero, suc, ◌-◌, ◌%◌, ◌<◌, ◌≤◌, true, List, [], ◌∷◌, ◌++◌, length, get_or, map, Some, refl, sym, ap, ◌∙◌, subst, arith}
+use Rattle.std.proofs.Common.{◌≡◌, ℕ, ◌-◌, ◌%◌, ◌<◌, ◌≤◌, true, List, length, get_or, map, Some, refl, sym, ap, ◌∙◌, subst, arith}
 use Rattle.std.proofs.Math.Nat.{mod-lt}
-use Rattle.std.proofs.lemmas.List.{append_assoc, get_or_append_left, length-append}
 use Rattle.std.proofs.lemmas.Option.{slice_get-get_or}
-use Rattle.std.specs.Prelude.{Contains}
 use Rattle.file_tree.specs.Tree.{Tree}
-use Rattle.gfs2_layout.specs.Groups.{count_of}
-use Rattle.gfs2_layout.specs.Headers.{HasHeader}
-use Rattle.gfs2_layout.specs.declared.rindex.Rindex.{Rindex}
 use Rattle.glock_names.specs.Views.{Seen, IsView, HasGroup, group_of_entry}
 use Rattle.glock_names.specs.declared.State.TheVariants.{Ex}
 use Rattle.glock_names.specs.declared.steps.Missing.{Missing}
 use Rattle.glock_names.specs.declared.views.Group.{Group}
 use Rattle.resource_groups.specs.Putting.{HasDataBlock}
-use Rattle.resource_groups.specs.Shown.{IsMissing, IsDataOf, said, group_lock}
-use Rattle.resource_groups.specs.Shown as group
-use Rattle.image_model.specs.Groups.{IsListed}
+use Rattle.resource_groups.specs.Shown.{IsDataOf, said}
 use Rattle.image_model.specs.Image.{Image}
 use Rattle.image_model.specs.Owners.{Owners, is_dinode}
 use Rattle.image_model.specs.Stands.{Layout}
-use Rattle.image_model.proofs.Members.{IsIn, is_in}
 use Rattle.image_changes.specs.Does.{IsOf}
 use Rattle.image_changes.proofs.Frame.{dinode_its}
 use Rattle.draft_changes.proofs.Rows.{its_used}
 use Rattle.draft_changes.proofs.Views.{groups_are_listed}
-use Rattle.path_walks.specs.Holds.{Hold, AreHeld, holds, hold_of, hold_for, hold_of_group}
+use Rattle.path_walks.specs.Holds.{AreHeld, holds, hold_of, hold_for, hold_of_group}
 use Rattle.room_search.specs.Blocks.{group_holds, group_of_node, states_by}
 use Rattle.room_search.specs.Searches.{AreShown, IsGroupNeeded, IsUnder}
 use Rattle.room_search.specs.declared.search.Locked.TheVariants as locked

@@ -89,6 +89,7 @@ fn find_for<V: View>(
         → IfOk result (IsUnder (V.seen view.now) (group_holds (said at) (V.seen view.now).groups own.now need) (IsTaken (V.seen view.now) (said at) (V.seen view.now).groups own.now need)) }
     ensures damaged { IfDamaged result (IsGroupBroken (V.seen view.now)) }
     ensures kept { IfDamaged result (IsOfView (V.seen view.now)) }
+    ensures unasked { need ≡ 0 → IfDamaged result (λ rule block. ⊥) }
     ensures view { IsView (V.seen view.now) }
 {
     let _size = view.block_size();
@@ -122,6 +123,7 @@ pub fn find_room<V: View>(
     ensures own { HasOwnGroup (V.seen view.now) node }
     ensures damaged { IfDamaged result (IsGroupBroken (V.seen view.now)) }
     ensures kept { IfDamaged result (IsOfView (V.seen view.now)) }
+    ensures unasked { need ≡ 0 → IfDamaged result (λ rule block. ⊥) }
     ensures sound { (im : Image) (o : Owners) (l : Layout) (t : Tree) → IsOf (V.seen view.now) im o l t → IfDamaged result (λ rule block. ⊥) }
 {
     let own = own_group(view, node);
