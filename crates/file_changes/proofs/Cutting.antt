@@ -1,52 +1,41 @@
 -- A draft in which a file is cut, over an image that stands for a tree.
-use Rattle.std.proofs.Common.{◌≡◌, ◌⊎◌, ◌↔◌, inl, inr, ℕ, ◌+◌, ◌<◌, ◌≤◌, Bool, true, false, true≢false, List, [], length, take, Option, None, Some, refl, sym, ap, ◌∙◌, subst, arith}
+use Rattle.std.proofs.Common.{◌≡◌, ◌↔◌, inl, inr, ℕ, ◌+◌, ◌<◌, ◌≤◌, true, true≢false, List, [], take, Option, None, Some, refl, sym, ap, ◌∙◌, subst, arith}
 use Rattle.std.proofs.lemmas.Bool.{and_from, and_parts, cases_Bool, cases_lt, le-leb, leb-true, lt-ltb, ltb-true, not-true, not_from_false}
-use Rattle.std.specs.Prelude.{Contains, IsSome, not, ◌&&◌, nat_le, nat_lt}
+use Rattle.std.specs.Prelude.{Contains, IsSome, not}
 use Rattle.std.specs.List.{list_any, range_with_len}
 use Rattle.std.specs.Ordering.{nat_cmp}
 use Rattle.std.specs.FinMap.{FinMap, empty}
-use Rattle.file_tree.specs.Apply.{file_limit}
 use Rattle.file_tree.specs.Tree.{Tree}
 use Rattle.drafts.specs.Fates.{AreWhole, seen_with}
 use Rattle.drafts.specs.declared.change.Change.{Change}
 use Rattle.drafts.specs.declared.fate.Fate.{Fate}
 use Rattle.gfs2_layout.specs.Holding.{Cell, Holding, InChain, Itself, Part, Pointed, cell_part, part_at}
-use Rattle.gfs2_layout.specs.Inode.{content_of, dinode_in, span}
+use Rattle.gfs2_layout.specs.Inode.{content_of, span}
 use Rattle.gfs2_layout.specs.declared.dinode.Dinode.{Dinode}
-use Rattle.gfs2_layout.specs.declared.rindex.Rindex.{Rindex}
-use Rattle.glock_names.specs.Views.{Seen, IsView, HasGroup, group_of_entry}
-use Rattle.glock_names.specs.declared.views.Group.{Group}
+use Rattle.glock_names.specs.Views.{Seen, IsView}
 use Rattle.growth_laws.specs.Files.{IsPlaced}
 use Rattle.growth_laws.specs.Laws.{FilesAreInodes, InodesAreFiles}
 use Rattle.file_cuts.specs.Cut.{CanCut, HasCut, IsPastEnd, end_of}
 use Rattle.resource_groups.specs.Freeing.{HasSome}
 use Rattle.resource_groups.specs.Shown as group
 use Rattle.image_model.specs.Flat.{Path}
-use Rattle.image_model.specs.Groups.{IsListed, IsHeaderOf}
 use Rattle.image_model.specs.Image.{Image}
 use Rattle.image_model.specs.Owners.{Owners, holding}
 use Rattle.image_model.specs.Stands.{Layout}
 use Rattle.image_model.proofs.Held.{none_some}
-use Rattle.image_model.proofs.Members.{is_in}
 use Rattle.image_changes.specs.Does.{IsOf, AreInside}
 use Rattle.image_changes.specs.Drafted.{IsFinished}
 use Rattle.image_changes.specs.Instances.{IsAt}
 use Rattle.image_changes.proofs.Inside.{stay_inside}
-use Rattle.draft_changes.specs.Removing as removing
-use Rattle.draft_changes.specs.Resizing.{FreedGroupsSay, HasSomeOf, LeavesGroups}
+use Rattle.growth_drafts.proofs.Rooms.{none_in}
+use Rattle.draft_changes.specs.Resizing.{FreedGroupsSay, LeavesGroups}
 use Rattle.draft_changes.proofs.Views.{groups_are_listed}
 use Rattle.path_walks.proofs.Images.{is_shown}
 use Rattle.group_locks.proofs.Listed.{any_range, range_any}
 use Rattle.file_changes.specs.Drafting.{FreesIn, IsCutDraft}
 use Rattle.file_changes.specs.Making.{CanBeCut, IsCutIn, MakesFile, goes_at, goes_with, stays_below}
-use Rattle.file_changes.proofs.Resized.{IsResized, IsSaidOver, has_part, leaves_groups, lies_inside, makes_file}
+use Rattle.file_changes.proofs.Resized.{IsResized, IsSaidOver, has_part, header_listed, leaves_groups, lies_inside, makes_file, no_group, some_listed}
 use Rattle.file_changes.proofs.Standing.{own_counted, standing_file, standing_short}
-
-none_contained : (b : ℕ) → Contains {X = ℕ} [] b → ⊥
-none_contained b c = elim (is_in b [] c) [ ]
-
-no_group : (k : Rindex) → removing.HasSome k [] → ⊥
-no_group k some = none_contained some.0 some.1
 
 -- a block that stands somewhere is one of the file
 placed_there : (h : Holding) (b l f : ℕ) → IsPlaced h b l f → IsSome (h.cell b)
@@ -147,10 +136,10 @@ module _ (v : Seen) (im : Image) (o : Owners) (l : Layout) (t : Tree) (path : Pa
         were = has_cut.is_cut.blocks.were;
         has = λ b. (
           (λ some. let kept = (has_cut.is_cut.blocks.kept b).0 some in (inl kept.0, kept.1)),
-          (λ has. (has_cut.is_cut.blocks.kept b).1 (elim has.0 [ inl old ↦ old | inr new ↦ absurd (none_contained b new) ], has.1)),
+          (λ has. (has_cut.is_cut.blocks.kept b).1 (elim has.0 [ inl old ↦ old | inr new ↦ absurd (none_in b new) ], has.1)),
         );
       };
-      free = λ b new. absurd (none_contained b new);
+      free = λ b new. absurd (none_in b new);
       timed = cut.timed;
     }
 
@@ -168,14 +157,8 @@ module _ (v : Seen) (im : Image) (o : Owners) (l : Layout) (t : Tree) (path : Pa
         ];
         rest = λ b kept away. frees.rest.others b kept (λ k has some head.
             let f = (groups_are_listed v im o l t k of).0 has in
-            away f.0 f.1 (inr (some_so f.0 (subst (λ x. HasSome x freed) f.2 some))) (header_so f.0 b (subst (λ x. group.IsHeaderOf x b) f.2 head)));
+            away f.0 f.1 (inr (some_listed f.0 freed (subst (λ x. HasSome x freed) f.2 some))) (header_listed f.0 b (subst (λ x. group.IsHeaderOf x b) f.2 head)));
       }
-        where
-          some_so : (k : Rindex) → HasSome (group_of_entry k) freed → removing.HasSome k freed
-          some_so k some = (some.0, some.1, record { low = some.2.low; high = some.2.high })
-
-          header_so : (k : Rindex) (b : ℕ) → group.IsHeaderOf (group_of_entry k) b → IsHeaderOf k b
-          header_so k b head = record { low = head.low; high = head.high }
 
       pub cut_makes : (view : IsView v) (says : FreedGroupsSay) (last : FinMap nat_cmp Fate) → AreWhole v.size last → FreesIn v fates last freed
           → MakesFile im o l last a (take size (content_of (holding im o a))) time [] freed

@@ -1,5 +1,5 @@
 -- What a draft over a view sees: nothing more, while nothing is put; and groups as the view does, while none of them is put.
-use Rattle.std.proofs.Common.{◌≡◌, ◌⊎◌, ℕ, List, Option, None, Some, refl, sym, ap, ◌∙◌, subst, arith}
+use Rattle.std.proofs.Common.{◌≡◌, ℕ, List, Option, None, Some, refl, sym, ap, ◌∙◌, subst}
 use Rattle.std.specs.Ordering.{nat_cmp}
 use Rattle.std.specs.FinMap.{FinMap, get, empty, get-empty}
 use Rattle.file_tree.specs.Tree.{Tree}
@@ -7,14 +7,14 @@ use Rattle.drafts.specs.Fates.{Drafted, block_with, seen_in, seen_with}
 use Rattle.drafts.specs.declared.fate.Fate.{Fate}
 use Rattle.drafts.specs.declared.fate.Fate.TheVariants.{Put, Freed}
 use Rattle.gfs2_layout.specs.declared.rindex.Rindex.{Rindex}
-use Rattle.glock_names.specs.Views.{Seen, HasBlock, HasGroup, group_of_entry}
+use Rattle.glock_names.specs.Views.{Seen, HasBlock, group_of_entry}
 use Rattle.glock_names.specs.Steps.{TellsOf}
 use Rattle.glock_names.specs.declared.steps.CallFault.{CallFault}
 use Rattle.glock_names.specs.declared.steps.CallFault.TheVariants.{Damaged}
 use Rattle.glock_names.specs.declared.steps.Missing.{Missing}
 use Rattle.resource_groups.specs.Freeing.{AreFreed, BreaksSome, IsNeededFor, KeepsRest}
 use Rattle.resource_groups.specs.Shown as group
-use Rattle.image_model.specs.Groups.{IsListed, IsHeaderOf}
+use Rattle.image_model.specs.Groups.{IsHeaderOf}
 use Rattle.image_model.specs.Image.{Image}
 use Rattle.image_model.specs.Owners.{Owners}
 use Rattle.image_model.specs.Stands.{Layout}

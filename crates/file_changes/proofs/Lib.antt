@@ -5,3 +5,4 @@ pub mod Cutting
 pub mod Lying
 pub mod Writing
 pub mod Stepping
+pub mod CutSteps

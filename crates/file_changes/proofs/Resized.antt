@@ -1,6 +1,6 @@
 -- A file that a draft makes of another one, which has taken and given back blocks, and then got a time: what it is in an image, over which
 -- groups say so. The same for bytes that are written and for a file that is cut.
-use Rattle.std.proofs.Common.{◌≡◌, ◌≢◌, ◌⊎◌, ◌↔◌, inl, inr, ℕ, ◌≤◌, Bool, true, false, true≢false, List, [], ◌∷◌, Option, None, Some, refl, sym, ap, ◌∙◌, subst}
+use Rattle.std.proofs.Common.{◌≡◌, ◌≢◌, ◌⊎◌, inl, inr, ℕ, ◌≤◌, Bool, true, false, true≢false, List, [], Option, None, Some, refl, sym, ap, ◌∙◌, subst}
 use Rattle.std.proofs.lemmas.Bool.{cases_Bool, cases_eq}
 use Rattle.std.specs.Cmp.{nat_cmp_total}
 use Rattle.std.specs.Prelude.{Contains, IsSome, is_some, option_map, unwrap_or}
@@ -14,7 +14,7 @@ use Rattle.drafts.specs.Fates.{AreWhole, block_with, seen_with}
 use Rattle.drafts.specs.declared.fate.Fate.{Fate}
 use Rattle.drafts.specs.declared.fate.Fate.TheVariants.{Put, Freed}
 use Rattle.gfs2_layout.specs.Holding.{Cell, Holding, Itself, Part, Pointed, bytes_at, cell_bytes, cell_part, part_at}
-use Rattle.gfs2_layout.specs.Inode.{IsInode, content_of, dinode_in, head_of}
+use Rattle.gfs2_layout.specs.Inode.{content_of, dinode_in, head_of}
 use Rattle.gfs2_layout.specs.declared.dinode.Dinode.{Dinode}
 use Rattle.gfs2_layout.specs.declared.rindex.Rindex.{Rindex}
 use Rattle.glock_names.specs.Views.{Seen, IsView, HasGroup, group_of_entry}
@@ -24,7 +24,7 @@ use Rattle.dinode_tree.specs.Shown.{IsShown}
 use Rattle.linear_dirs.specs.Shown.{bytes_over, holding_over}
 use Rattle.linear_dirs.proofs.Over.{parts_stay}
 use Rattle.linear_dirs.proofs.Rewritten.{over_there, over_put}
-use Rattle.growth_drafts.specs.Taken.{DraftsFile, IsContentIn, IsCounted, IsLeft, IsPutFor}
+use Rattle.growth_drafts.specs.Taken.{DraftsFile, IsCounted}
 use Rattle.growth_laws.specs.Laws.{FilesAreInodes}
 use Rattle.new_inodes.specs.Touched.{IsTouched}
 use Rattle.image_model.specs.Groups.{IsListed, IsHeaderOf}
@@ -32,22 +32,25 @@ use Rattle.image_model.specs.Image.{Image}
 use Rattle.image_model.specs.Owners.{InGroup, Free, Owners, holding}
 use Rattle.image_model.specs.Stands.{Layout}
 use Rattle.image_model.proofs.Counts.{at_in}
-use Rattle.image_model.proofs.Held.{block_same, none_some, some_same}
-use Rattle.image_model.proofs.Members.{IsIn, contained, is_in}
+use Rattle.image_model.proofs.Held.{block_same, none_some}
+use Rattle.image_model.proofs.Members.{contained, is_in}
 use Rattle.image_changes.specs.Changes.{inode_of}
 use Rattle.image_changes.specs.Does.{IsOf, LiesInGroup}
 use Rattle.image_changes.specs.Drafted.{is_put, with_draft}
 use Rattle.image_changes.specs.Instances.{among, is_directory_at}
 use Rattle.image_changes.proofs.Nodes.{among_in, in_among}
-use Rattle.draft_changes.specs.Groups.{IsPutUnder, PutsGroup}
+use Rattle.draft_changes.specs.Groups.{PutsGroup}
+use Rattle.growth_drafts.proofs.Rooms.{none_in}
+use Rattle.resource_groups.specs.Freeing as group
+use Rattle.resource_groups.specs.Shown as shown
 use Rattle.draft_changes.specs.Removing.{HasSome}
-use Rattle.draft_changes.specs.Resizing.{HasExchangedBlocks, HasSomeOf, IsContentOf, IsPutOf, IsPutOrKept, IsSaidFree, LeavesGroups, states_with}
+use Rattle.draft_changes.specs.Resizing.{HasExchangedBlocks, HasSomeOf, IsPutOf, IsPutOrKept, IsSaidFree, LeavesGroups, states_with}
 use Rattle.draft_changes.proofs.Rows.{cell_its, header_among, said_free, same_group}
 use Rattle.draft_changes.proofs.Views.{groups_are_listed, is_listed}
 use Rattle.group_locks.proofs.Listed.{any_range, range_any}
 use Rattle.path_walks.proofs.Lying.{data_lies, header_lies}
 use Rattle.file_changes.specs.Drafting.{GetsTime}
-use Rattle.file_changes.specs.Making.{HasTimes, MakesFile}
+use Rattle.file_changes.specs.Making.{MakesFile}
 use Rattle.file_changes.proofs.Standing.{own_inside}
 
 -- ---- what becomes of a block
@@ -126,6 +129,16 @@ some_of_or_none k taken freed = elim (some_or_none k taken) [
     | inr neither ↦ inr (λ e. elim e [ inl some ↦ none some | inr some ↦ neither some ])
   ]
 ]
+
+pub no_group : (k : Rindex) → HasSome k [] → ⊥
+no_group k some = none_in some.0 some.1
+
+-- what the view says of a group is so of the listed one
+pub some_listed : (k : Rindex) (xs : List ℕ) → group.HasSome (group_of_entry k) xs → HasSome k xs
+some_listed k xs some = (some.0, some.1, record { low = some.2.low; high = some.2.high })
+
+pub header_listed : (k : Rindex) (b : ℕ) → shown.IsHeaderOf (group_of_entry k) b → IsHeaderOf k b
+header_listed k b head = record { low = head.low; high = head.high }
 
 -- a block is one of these, or isn't
 pub among_or_not : (xs : List ℕ) (b : ℕ) → Contains xs b ⊎ ¬ (Contains xs b)

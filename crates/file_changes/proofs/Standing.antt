@@ -1,9 +1,9 @@
 -- A file of an image that stands for a tree.
-use Rattle.std.proofs.Common.{◌≡◌, ◌⊎◌, inl, inr, ℕ, ◌<◌, ◌≤◌, true, false, true≢false, refl, sym, ap, ◌∙◌, subst, arith}
+use Rattle.std.proofs.Common.{◌≡◌, inl, inr, ℕ, ◌<◌, ◌≤◌, true, false, true≢false, List, refl, sym, ◌∙◌, arith}
 use Rattle.std.specs.Prelude.{IsSome}
 use Rattle.file_tree.specs.Apply.{file_limit}
 use Rattle.file_tree.specs.Tree.{Tree}
-use Rattle.gfs2_layout.specs.Inode.{dinode_in, is_directory_in}
+use Rattle.gfs2_layout.specs.Inode.{dinode_in}
 use Rattle.gfs2_layout.specs.Structures.{is_regular}
 use Rattle.glock_names.specs.Views.{Seen, group_of_entry}
 use Rattle.growth_drafts.specs.Taken.{IsCounted}
@@ -18,7 +18,10 @@ use Rattle.image_changes.specs.Does.{IsOf}
 use Rattle.image_changes.specs.Instances.{IsAt, is_directory_at}
 use Rattle.draft_changes.proofs.Rows.{cell_its, its_used}
 use Rattle.draft_changes.proofs.Views.{groups_are_listed, none_has_the_first}
-use Rattle.path_walks.proofs.Images.{is_inode, is_sound}
+use Rattle.dinode_tree.proofs.Sound.{sound_breaks_nothing}
+use Rattle.group_locks.specs.Laws.{GroupsBreakNothing}
+use Rattle.path_walks.proofs.Images.{is_inode, is_shown, is_sound}
+use Rattle.file_changes.specs.Drafting.{IsWrongAt, in_inode, stray, in_group}
 
 module _ (v : Seen) (im : Image) (o : Owners) (l : Layout) (t : Tree) (of : IsOf v im o l t) where
   -- each block of an inode is a data block of a group, and so one of the image's
@@ -47,3 +50,13 @@ module _ (v : Seen) (im : Image) (o : Owners) (l : Layout) (t : Tree) (of : IsOf
 
     pub standing_short : (dinode_in (holding im o a)).size ≤ file_limit
     standing_short = of.stands.laid.short path a at regular
+
+  -- nothing is told as damaged of an inode at a path
+  pub none_wrong : GroupsBreakNothing → (path : Path) (a : ℕ) → IsAt im o l path a → (blocks : List ℕ) (rule b : ℕ) → IsWrongAt v a blocks rule b → ⊥
+  none_wrong sound path a at blocks rule b (in_inode r c broken) =
+      sound_breaks_nothing (holding im o a) r c (is_sound v im o l t of path a at) (broken (holding im o a) (is_shown v im o l t of path a at))
+  none_wrong sound path a at blocks rule b (stray from c led away) =
+      let shown = is_shown v im o l t of path a at in
+      let leads = led (holding im o a) shown in
+      away (own_inside a c (shown.led_to from leads.0 leads.1 leads.2 c leads.3))
+  none_wrong sound path a at blocks rule b (in_group r c breaks) = sound v im o l t blocks r c of breaks

@@ -1,11 +1,14 @@
 -- The steps of a write, one after another, over a view.
-use Rattle.std.proofs.Common.{◌≡◌, ℕ, List, [], ◌++◌, length, refl, sym, ap, ◌∙◌, subst, arith}
+use Rattle.std.proofs.Common.{◌≡◌, ℕ, List, [], ◌++◌, length, refl, ap, ◌∙◌, subst, arith, Bool, true, false, Result, Ok}
 use Rattle.std.proofs.lemmas.List.{length-append}
 use Rattle.std.specs.FinMap.{FinMap, empty}
 use Rattle.std.specs.Ordering.{nat_cmp}
-use Rattle.drafts.specs.Fates.{Drafted, seen_in, seen_with}
+use Rattle.drafts.specs.Fates.{AreWhole, Drafted, seen_in, seen_with}
 use Rattle.drafts.specs.declared.fate.Fate.{Fate}
 use Rattle.gfs2_layout.specs.Holding.{Holding}
+use Rattle.glock_names.specs.declared.steps.CallFault.{CallFault}
+use Rattle.glock_names.specs.declared.steps.Step.{Step}
+use Rattle.glock_names.specs.declared.steps.Step.TheVariants.{Is}
 use Rattle.glock_names.specs.Views.{Seen}
 use Rattle.dinode_tree.specs.Shown.{IsShown}
 use Rattle.growth_drafts.specs.Touched.{Follows}
@@ -36,6 +39,9 @@ wrote_over {V} seen view d0 d1 a at new room over written =
 pub timed_over : {V : Type 0} (seen : V → Seen) (view : V) (d1 d2 : Drafted V) (a time : ℕ) → d1.view ≡ view → GetsTime (seen d1.view) d1.fates a time d2.fates → GetsTime (seen view) d1.fates a time d2.fates
 timed_over {V} seen view d1 d2 a time over timed = subst (λ (x : V). GetsTime (seen x) d1.fates a time d2.fates) over timed
 
+pub whole_over : {V : Type 0} (seen : V → Seen) (view : V) (d : Drafted V) → d.view ≡ view → AreWhole (seen d.view).size d.fates → AreWhole (seen view).size d.fates
+whole_over {V} seen view d over whole = subst (λ (x : V). AreWhole (seen x).size d.fates) over whole
+
 pub writes_file : {V : Type 0} (seen : V → Seen) (view : V) (d0 d1 d2 : Drafted V) (last : FinMap nat_cmp Fate) (a at : ℕ) (new : List ℕ) (time : ℕ) (room : List ℕ) → d0.view ≡ view → d1.view ≡ d0.view
     → Follows (seen d0.view) a room empty d1.fates
     → ((h : Holding) → IsShown (seen d0.view) a h → CanWrite h at (length new) room → HasWritten (seen_with (seen d0.view) d1.fates) empty d1.fates room [] h at new)
@@ -61,3 +67,7 @@ wrote {V} seen old now at bytes first room left h new view same used is =
     (subst (λ l. HasWritten (seen_in seen now) empty now.fates room l h at bytes) used
     (subst (λ r. HasWritten (seen_in seen now) empty now.fates r left h at bytes) same
     (subst (λ f. HasWritten (seen_in seen now) f now.fates first left h at bytes) new is)))
+
+-- an answer isn't both of the two
+pub not_both : (r : Step Bool) (b : Bool) → ◌≡◌ {A = Result (Step Bool) CallFault} (Ok r) (Ok (Is true)) → r ≡ Is b → b ≡ false → ⊥
+not_both r b all is never = cc

@@ -1,9 +1,9 @@
 -- A draft in which bytes are written to a file, over an image that stands for a tree.
-use Rattle.std.proofs.Common.{◌≡◌, ◌⊎◌, inl, inr, ℕ, ◌+◌, ◌-◌, ◌^◌, ◌<◌, ◌≤◌, List, [], ◌∷◌, ◌++◌, length, refl, sym, ap, ◌∙◌, subst, arith}
+use Rattle.std.proofs.Common.{◌≡◌, ◌⊎◌, inl, inr, ℕ, ◌-◌, ◌^◌, ◌<◌, ◌≤◌, List, [], length, refl, sym, ap, ◌∙◌, subst, arith}
 use Rattle.std.proofs.Math.Nat.{max-le}
 use Rattle.std.proofs.lemmas.Bool.{cases_lt}
 use Rattle.std.proofs.lemmas.List.{append-nil}
-use Rattle.std.specs.Prelude.{Contains, IsSome, max}
+use Rattle.std.specs.Prelude.{Contains}
 use Rattle.std.specs.Ordering.{nat_cmp}
 use Rattle.std.specs.FinMap.{FinMap, empty}
 use Rattle.file_tree.specs.Apply.{file_limit, overwritten}
@@ -13,19 +13,16 @@ use Rattle.drafts.specs.declared.change.Change.{Change}
 use Rattle.drafts.specs.declared.fate.Fate.{Fate}
 use Rattle.gfs2_layout.specs.Device.{IsBlockSize, superblock_place}
 use Rattle.gfs2_layout.specs.Holding.{Holding}
-use Rattle.gfs2_layout.specs.Inode.{content_of, dinode_in}
+use Rattle.gfs2_layout.specs.Inode.{content_of}
 use Rattle.gfs2_layout.specs.declared.dinode.Dinode.{Dinode}
-use Rattle.gfs2_layout.specs.declared.rindex.Rindex.{Rindex}
 use Rattle.glock_names.specs.Views.{Seen, IsView, end_of, group_of_entry}
 use Rattle.dinode_tree.specs.Shown.{IsShown}
 use Rattle.growth_drafts.specs.Taken.{AreFreeFor}
 use Rattle.growth_laws.specs.Laws.{FilesAreInodes, InodesAreFiles}
-use Rattle.growth_laws.specs.Need.{needed}
-use Rattle.file_growth.specs.Written.{CanWrite, HasWritten, size_with}
+use Rattle.file_growth.specs.Written.{CanWrite, HasWritten}
 use Rattle.resource_groups.specs.Freeing.{HasSome}
 use Rattle.resource_groups.specs.Shown as group
 use Rattle.image_model.specs.Flat.{Path}
-use Rattle.image_model.specs.Groups.{IsHeaderOf}
 use Rattle.image_model.specs.Image.{Image}
 use Rattle.image_model.specs.Owners.{Owners, holding}
 use Rattle.image_model.specs.Stands.{Layout}
@@ -34,21 +31,15 @@ use Rattle.image_changes.specs.Does.{AreInside, IsOf}
 use Rattle.image_changes.specs.Drafted.{IsFinished}
 use Rattle.image_changes.proofs.Inside.{stay_inside}
 use Rattle.image_changes.specs.Instances.{IsAt}
-use Rattle.draft_changes.specs.Removing as removing
+use Rattle.growth_drafts.proofs.Rooms.{none_in}
 use Rattle.draft_changes.specs.Resizing.{FreeBlocksAreNew, LeavesGroups, TakenGroupsSay}
 use Rattle.draft_changes.proofs.Views.{groups_are_listed}
 use Rattle.path_walks.proofs.Images.{is_shown}
 use Rattle.file_changes.specs.Drafting.{GetsTime, TakesIn}
 use Rattle.file_changes.specs.Making.{IsRoomIn, MakesFile}
 use Rattle.file_changes.proofs.Lying.{all_at}
-use Rattle.file_changes.proofs.Resized.{IsResized, IsSaidOver, leaves_groups, lies_inside, makes_file}
+use Rattle.file_changes.proofs.Resized.{IsResized, IsSaidOver, header_listed, leaves_groups, lies_inside, makes_file, no_group, some_listed}
 use Rattle.file_changes.proofs.Standing.{standing_file, standing_short}
-
-none_contained : (b : ℕ) → Contains [] b → ⊥
-none_contained b c = elim (is_in b [] c) [ ]
-
-no_group : (k : Rindex) → removing.HasSome k [] → ⊥
-no_group k some = none_contained some.0 some.1
 
 -- the superblock stands near the front
 place_low : (size : ℕ) → IsBlockSize size → superblock_place size ≤ 128
@@ -110,11 +101,11 @@ module _ (v : Seen) (im : Image) (o : Owners) (l : Layout) (t : Tree) (of : IsOf
     short = subst (λ n. n ≤ file_limit) (sym (ap (λ (d : Dinode). d.size) has_written.written.dinode)) (max-le (standing_short v im o l t of path a at can.file) can.short);
     drafted = has_written.drafted;
     blocks = record {
-      were = λ b gone. absurd (none_contained b gone);
+      were = λ b gone. absurd (none_in b gone);
       has = λ b. (
         (λ some. elim ((has_written.written.blocks.blocks b).0 some) [
-          | inl old ↦ (inl old, none_contained b)
-          | inr new ↦ (inr (subst (λ xs. Contains xs b) all_taken new), none_contained b)
+          | inl old ↦ (inl old, none_in b)
+          | inr new ↦ (inr (subst (λ xs. Contains xs b) all_taken new), none_in b)
         ]),
         (λ has. (has_written.written.blocks.blocks b).1 (elim has.0 [ inl old ↦ inl old | inr new ↦ inr (subst (λ xs. Contains xs b) (sym all_taken) new) ])),
       );
@@ -129,21 +120,15 @@ module _ (v : Seen) (im : Image) (o : Owners) (l : Layout) (t : Tree) (of : IsOf
   said : (last : FinMap nat_cmp Fate) → TakesIn v second last room → TakenGroupsSay → AreWhole v.size last → IsSaidOver im o l room [] second last
   said last taken says whole = record {
     whole = subst (λ n. AreWhole n last) (sym of.size) whole;
-    frees = λ b gone. absurd (none_contained b gone);
+    frees = λ b gone. absurd (none_in b gone);
     states = λ k listed any. elim any [
       | inl some ↦ says v second last im o l t room of view leaves taken.takes k listed some
       | inr none ↦ absurd (no_group k none)
     ];
     rest = λ b kept away. taken.rest.others b (λ k has some head.
         let f = (groups_are_listed v im o l t k of).0 has in
-        away f.0 f.1 (inl (some_so f.0 (subst (λ x. HasSome x room) f.2 some))) (header_so f.0 b (subst (λ x. group.IsHeaderOf x b) f.2 head)));
+        away f.0 f.1 (inl (some_listed f.0 room (subst (λ x. HasSome x room) f.2 some))) (header_listed f.0 b (subst (λ x. group.IsHeaderOf x b) f.2 head)));
   }
-    where
-      some_so : (k : Rindex) → HasSome (group_of_entry k) room → removing.HasSome k room
-      some_so k some = (some.0, some.1, record { low = some.2.low; high = some.2.high })
-
-      header_so : (k : Rindex) (b : ℕ) → group.IsHeaderOf (group_of_entry k) b → IsHeaderOf k b
-      header_so k b head = record { low = head.low; high = head.high }
 
   pub write_makes : (last : FinMap nat_cmp Fate) → TakesIn v second last room → TakenGroupsSay → AreWhole v.size last → MakesFile im o l last a (overwritten from new (content_of (holding im o a))) time room []
   write_makes last taken says whole =

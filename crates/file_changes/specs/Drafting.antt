@@ -1,5 +1,5 @@
 -- The change of a file's content, step by step: what a draft over a view makes of the file's blocks, of the times in its dinode, and of the groups.
-use Rattle.std.specs.Prelude.{ℕ, ◌≡◌, ◌⊎◌, false, List, [], length, Contains}
+use Rattle.std.specs.Prelude.{ℕ, ◌≡◌, false, List, [], length}
 use Rattle.std.specs.Ordering.{nat_cmp}
 use Rattle.std.specs.FinMap.{FinMap, empty, insert}
 use Rattle.drafts.specs.Fates.{AreWhole, seen_with}
@@ -13,7 +13,6 @@ use Rattle.dinode_tree.specs.Below.{AnyIndex, IsLedFrom}
 use Rattle.dinode_tree.specs.Broken.{IsBroken}
 use Rattle.dinode_tree.specs.Reading.{IsNeeded, inode_lock}
 use Rattle.dinode_tree.specs.Shown.{IsShown}
-use Rattle.growth_drafts.specs.Taken.{IsCutAt, IsLookedAt}
 use Rattle.growth_drafts.specs.Touched.{Follows}
 use Rattle.file_cuts.specs.Cut.{CanCut, HasCut}
 use Rattle.file_growth.specs.Written.{CanWrite, HasWritten}

@@ -1,5 +1,5 @@
 -- What such a change makes of an image that the view may be of and that stands for a tree.
-use Rattle.std.specs.Prelude.{ℕ, ◌≡◌, ◌⊎◌, ◌↔◌, ◌+◌, ◌<◌, ◌≤◌, ◌&&◌, not, Bool, true, false, nat_lt, nat_le, if◌then◌else◌, List, [], length, take, Contains, Option, None, Some}
+use Rattle.std.specs.Prelude.{ℕ, ◌≡◌, ◌⊎◌, ◌↔◌, ◌+◌, ◌≤◌, ◌&&◌, not, Bool, true, false, nat_lt, nat_le, List, [], length, take, Contains, Option, Some}
 use Rattle.std.specs.List.{list_any, range_with_len}
 use Rattle.std.specs.Ordering.{nat_cmp}
 use Rattle.std.specs.FinMap.{FinMap, get}
@@ -27,7 +27,7 @@ use Rattle.image_changes.specs.Does.{IsOf}
 use Rattle.image_changes.specs.Drafted.{is_put}
 use Rattle.image_changes.specs.Instances.{IsAt, is_directory_at}
 use Rattle.draft_changes.specs.Resizing.{HasSomeOf, IsSaidFree, ResizesFile}
-use Rattle.file_changes.specs.Drafting.{IsCutDraft, IsFreedAndDone, IsWriteDraft}
+use Rattle.file_changes.specs.Drafting.{IsCutDraft, IsFreedAndDone, IsWriteDraft, IsWrongAt}
 
 -- the time of the last change of its content and of its own is this
 abbrev pub HasTimes : Dinode → ℕ → Type 0
@@ -91,3 +91,9 @@ abbrev pub CutsMakeFiles : Type 0
 CutsMakeFiles = (v : Seen) (a size time : ℕ) (freed : List ℕ) (fates : FinMap nat_cmp Fate) (change : Change) (im : Image) (o : Owners) (l : Layout) (t : Tree) (path : Path)
     → IsView v → IsOf v im o l t → IsAt im o l path a → IsCutDraft v a size time freed fates → CanBeCut im o a size → (is : IsFreedAndDone v fates freed change)
     → MakesFile im o l is.last a (take size (content_of (holding im o a))) time [] freed
+
+-- ---- what is told as damaged
+
+-- no rule is broken by a file of an image that the view may be of and that stands for a tree, nor by its groups
+abbrev pub NothingIsWrong : Type 0
+NothingIsWrong = (v : Seen) (a : ℕ) (blocks : List ℕ) (rule b : ℕ) (im : Image) (o : Owners) (l : Layout) (t : Tree) (path : Path) → IsOf v im o l t → IsAt im o l path a → ¬ (IsWrongAt v a blocks rule b)

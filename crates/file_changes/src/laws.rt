@@ -1,7 +1,8 @@
 // What such changes make of images: laws.
-ghost use Rattle.file_changes.specs.Making.{CutsFreeExactly, CutsMakeFiles, WritesMakeFiles};
+ghost use Rattle.file_changes.specs.Making.{CutsFreeExactly, CutsMakeFiles, NothingIsWrong, WritesMakeFiles};
 
 use draft_changes::{free_blocks_are_new, groups_say_what_is_taken};
+use group_locks::standing_groups_are_sound;
 use growth_laws::files_are_inodes;
 
 /// A law: a change that writes bytes makes of the file what it should, in each image that the view may be of and that stands for a tree,
@@ -27,4 +28,11 @@ pub fn cuts_make_files()
 {
     files_are_inodes();
     groups_say_what_is_taken();
+}
+
+/// A law: what such changes tell as damaged isn't so of a file of an image that stands for a tree.
+pub fn nothing_is_wrong()
+    ensures { NothingIsWrong }
+{
+    standing_groups_are_sound();
 }

@@ -8,5 +8,5 @@ mod times;
 mod writes;
 
 pub use cuts::{cut_file, free_and_finish};
-pub use laws::{cuts_free_exactly, cuts_make_files, writes_make_files};
+pub use laws::{cuts_free_exactly, cuts_make_files, nothing_is_wrong, writes_make_files};
 pub use writes::write_file;

@@ -67,11 +67,7 @@ fn write_bytes<V: View>(
 }
 
 // Tells what is damaged or missing in the view's groups of these blocks; the answer, where nothing is, is false.
-fn tell_groups<V: View>(
-    alloc: Global,
-    view: &V,
-    room: &[u64],
-) -> Result<Step<bool>, CallFault>
+fn tell_groups<V: View>(alloc: Global, view: &V, room: &[u64]) -> Result<Step<bool>, CallFault>
     requires inside { (b : ℕ) → Contains room.now b → HasDataBlock (V.seen view.now) b }
     ensures not { IfIs result (λ done. done ≡ false) }
     ensures needed { IfNeedBlock result (IsNeededFor (V.seen view.now) room.now) }

@@ -1,4 +1,4 @@
-use Rattle.std.proofs.Common.{◌≡◌, ◌+◌, true, true≢false, [], length, refl, sym, ap, ◌∙◌, subst}
+use Rattle.std.proofs.Common.{◌≡◌, ◌+◌, true≢false, length, sym, ap, ◌∙◌, subst}
 use Rattle.std.proofs.lemmas.Bool.{eq-eqb, eqb-true}
 use Rattle.std.proofs.lemmas.List.{nil_from_length}
 use Rattle.glock_names.specs.Steps.{TellsOf}
@@ -29,7 +29,7 @@ pub returns-in-Is-clause-written : goal.returns-in-Is-clause-written
 returns-in-Is-clause-written g c h shown can all =
     let room_is : c.from_vec-left.result.items ≡ c.args.room.now = c.from_vec-left.ensures.items ∙ c.in_ok-from_slice.ensures.items in
     let has = answer_at _ _ _ c.in-Is.is (c.in_ok-done.ensures.written h (subst (λ w. IsShown w c.args.inode h) (sym (seen_old g.V.View.seen c.args.draft.now c.requires.new)) shown)
-        (subst (λ room. CanWrite h c.args.at (length c.args.new.now) room) (sym room_is) can)) in
+    (subst (λ room. CanWrite h c.args.at (length c.args.new.now) room) (sym room_is) can)) in
     elim c.if-done.branch [
       | then-done w ↦
           wrote g.V.View.seen c.args.draft.now c.write_range.new.draft c.args.at c.args.new.now c.from_vec-left.result.items c.args.room.now c.write_range.new.room.items h c.requires.new c.write_range.ensures.view room_is
@@ -45,7 +45,7 @@ pub returns-in-Is-clause-done : goal.returns-in-Is-clause-done
 returns-in-Is-clause-done g c h shown can many =
     let room_is : c.from_vec-left.result.items ≡ c.args.room.now = c.from_vec-left.ensures.items ∙ c.in_ok-from_slice.ensures.items in
     let has = answer_at _ _ _ c.in-Is.is (c.in_ok-done.ensures.written h (subst (λ w. IsShown w c.args.inode h) (sym (seen_old g.V.View.seen c.args.draft.now c.requires.new)) shown)
-        (subst (λ room. CanWrite h c.args.at (length c.args.new.now) room) (sym room_is) can)) in
+    (subst (λ room. CanWrite h c.args.at (length c.args.new.now) room) (sym room_is) can)) in
     elim c.if-done.branch [
       | then-done w ↦
           w.result-is ∙ w.is_empty.ensures ∙ eq-eqb _ 0 (c.write_range.new.room.ok.0
