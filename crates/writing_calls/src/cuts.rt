@@ -52,7 +52,7 @@ pub(crate) fn cut_at<V: View>(
     ensures kept { IfDamaged result (IsOfView (V.seen view.now)) }
 {
     let mut draft = Draft::new(alloc, view);
-    let freed = match cut_file(alloc, &mut draft, place.inode, size, stamp.time)? {
+    let freed = match cut_file(alloc, view, &mut draft, place.inode, size, stamp.time)? {
         Step::Is(Some(freed)) => freed,
         Step::Is(None) => return Ok(Found::NotBuilt),
         Step::NeedBlock(missing) => return Ok(Found::NeedBlock(missing)),
